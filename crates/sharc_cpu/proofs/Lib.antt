@@ -9,5 +9,6 @@ pub mod Planned
 pub mod Rare
 pub mod RowTurns
 pub mod Settling
+pub mod TwoTurns
 pub mod OnPath
 pub mod Turned

@@ -60,6 +60,29 @@ pub(crate) fn granule(shape: Shape, at: At, parts: &Parts, cell: Cell) -> u32
     shape.granule_at(place(at, parts, cell) / 2)
 }
 
+/// The granule and the word of a cell.
+#[derive(Clone, Copy)]
+pub(crate) struct Spot {
+    pub granule: u32,
+    pub word: u32,
+}
+
+/// Both, from one look at the registers of the cell.
+#[inline(always)]
+pub(crate) fn spot_of(shape: Shape, at: At, parts: &Parts, cell: Cell) -> Spot
+    requires { IsShape shape }
+    ensures granule { result.granule ≡ granule_at shape (granule_of (place (machine_of at parts.now) cell)) }
+    ensures word { result.word ≡ word shape (machine_of at parts.now) cell }
+    ensures inside { result.granule < granules shape }
+    ensures within { result.word < words_of shape }
+{
+    let place = place(at, parts, cell);
+    Spot {
+        granule: shape.granule_at(place / 2),
+        word: shape.cell_word(place),
+    }
+}
+
 /// Whether the cell is one of NULL.
 #[inline(always)]
 pub(crate) fn is_of_null(at: At, parts: &Parts, cell: Cell) -> bool
@@ -97,6 +120,34 @@ pub(crate) fn give_up_base(at: At, parts: &mut Parts, cell: Cell)
     }
 }
 
+/// To this integer register, the value of the cell with this word.
+#[inline(always)]
+pub(crate) fn load_word<P: Port>(
+    at: &mut At,
+    parts: &mut Parts,
+    port: &mut P,
+    register: u32,
+    word: u32,
+) -> u64
+    requires place { at.old.pc + 1 < 2 ^ 64 }
+    requires word { word < P.count port.old }
+    ensures turn { Makes (P.serves port.old) P.leads (Asks (step_of word ops.Load) (λ found. goes (accessed (set_int (machine_of at.old parts.old) register (int_of found))))) parts.old.number (machine_of at.new parts.new) result (P.place port.old) (P.place port.new) }
+    ensures port { KeepsPort P.count P.name P.serves port.old port.new }
+    ensures room { vec_capacity parts.new.prints ≡ vec_capacity parts.old.prints }
+{
+    let found = ask(
+        port,
+        WordStep {
+            word,
+            op: WordOp::Load,
+        },
+    );
+    parts.set_int(*at, register, int_of(found));
+    parts.set_pending(0);
+    go_on(at);
+    found
+}
+
 /// To this integer register, the value of the cell.
 #[inline(always)]
 pub(crate) fn load<P: Port>(
@@ -115,14 +166,32 @@ pub(crate) fn load<P: Port>(
     ensures room { vec_capacity parts.new.prints ≡ vec_capacity parts.old.prints }
 {
     let word = word(shape, *at, parts, cell);
+    load_word(at, parts, port, register, word)
+}
+
+/// To the cell with this word, the value of this integer register.
+#[inline(always)]
+pub(crate) fn store_word<P: Port>(
+    at: &mut At,
+    parts: &mut Parts,
+    port: &mut P,
+    register: u32,
+    word: u32,
+) -> u64
+    requires place { at.old.pc + 1 < 2 ^ 64 }
+    requires word { word < P.count port.old }
+    ensures turn { Makes (P.serves port.old) P.leads (Asks (step_of word (ops.Swap (word_of (int (machine_of at.old parts.old) register)))) (λ found. goes (accessed (machine_of at.old parts.old)))) parts.old.number (machine_of at.new parts.new) result (P.place port.old) (P.place port.new) }
+    ensures port { KeepsPort P.count P.name P.serves port.old port.new }
+    ensures room { vec_capacity parts.new.prints ≡ vec_capacity parts.old.prints }
+{
+    let value = word_of(parts.int(*at, register));
     let found = ask(
         port,
         WordStep {
             word,
-            op: WordOp::Load,
+            op: WordOp::Swap(value),
         },
     );
-    parts.set_int(*at, register, int_of(found));
     parts.set_pending(0);
     go_on(at);
     found
@@ -146,17 +215,7 @@ pub(crate) fn store<P: Port>(
     ensures room { vec_capacity parts.new.prints ≡ vec_capacity parts.old.prints }
 {
     let word = word(shape, *at, parts, cell);
-    let value = word_of(parts.int(*at, register));
-    let found = ask(
-        port,
-        WordStep {
-            word,
-            op: WordOp::Swap(value),
-        },
-    );
-    parts.set_pending(0);
-    go_on(at);
-    found
+    store_word(at, parts, port, register, word)
 }
 
 /// The reference in this cell is loaded, and not counted.

@@ -18,6 +18,8 @@ mod objects;
 #[cfg(test)]
 mod registers;
 #[cfg(test)]
+mod rows;
+#[cfg(test)]
 mod script;
 #[cfg(test)]
 mod threads;
