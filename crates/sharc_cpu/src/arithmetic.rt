@@ -213,3 +213,16 @@ pub(crate) fn computed(width: Width, operator: Operator, left: i64, right: i64) 
         Operator::AtLeast => Ok(truth(left >= right)),
     }
 }
+
+/// The same, not in line: most operations are parts of rows, and the loop over turns is the smaller for it.
+#[inline(never)]
+pub(crate) fn computed_apart(
+    width: Width,
+    operator: Operator,
+    left: i64,
+    right: i64,
+) -> Result<i64, Trap>
+    ensures { result ≡ computed width operator left right }
+{
+    computed(width, operator, left, right)
+}
