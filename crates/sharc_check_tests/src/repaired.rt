@@ -3,7 +3,7 @@
 use crate::tables::{FILE, text_or_end};
 use crate::told::{Answer, Refusal, Telling, Untold, judged, moded, said, types};
 use sharc_mode::moded::Moded;
-use sharc_suggest::apply;
+use sharc_rewrite::apply;
 use std::alloc::{AllocError, Global};
 use std::process::Abort;
 use std::test::Fail;

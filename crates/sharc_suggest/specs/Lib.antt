@@ -1,4 +1,3 @@
-pub mod Applied
 pub mod Casts
 pub mod Firsts
 pub mod Laws

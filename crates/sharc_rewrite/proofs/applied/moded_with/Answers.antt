@@ -5,8 +5,8 @@ use Rattle.sharc_ctype.specs.Entities.{entity_at}
 use Rattle.sharc_ctype.specs.Resolved.{Resolution}
 use Rattle.sharc_mode.specs.declared.position.Reason.{Reason}
 use Rattle.sharc_mode.specs.Moded.{Assignment}
-use Rattle.sharc_suggest.specs.Applied.{targets, inserted, moved, first_of, first_new, resolution_with, assignment_with}
-use Rattle.sharc_suggest.proofs.applied.moded_with.Goals as goal
+use Rattle.sharc_rewrite.specs.Applied.{targets, inserted, moved, first_of, first_new, resolution_with, assignment_with}
+use Rattle.sharc_rewrite.proofs.applied.moded_with.Goals as goal
 
 pub returns : goal.returns
 returns c =

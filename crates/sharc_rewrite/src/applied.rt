@@ -4,15 +4,15 @@ ghost use Rattle.std.specs.Prelude.{◌≡◌, ◌+◌, ◌<◌, ◌≤◌, ◌^
 ghost use Rattle.sharc_tree.specs.View.{view_program};
 ghost use Rattle.sharc_ctype.specs.Entities.{entity_at};
 ghost use Rattle.sharc_ctype.specs.Items.{named_in};
-ghost use Rattle.sharc_suggest.specs.Applied.{names_struct, base_site, recast_of, targets, inserted, moved, resolution_with, first_of, assignment_with};
+ghost use Rattle.sharc_rewrite.specs.Applied.{names_struct, base_site, recast_of, targets, inserted, moved, resolution_with, first_of, assignment_with};
 
 use crate::modes::{below, modes_with, reasons_with};
+use crate::written::Recast;
 use sharc_ctype::entity::Numbered;
 use sharc_ctype::typed::{Typed, type_program};
 use sharc_mode::error::Cast;
 use sharc_mode::moded::Moded;
 use sharc_mode::position::Reason;
-use sharc_rewrite::Recast;
 use sharc_tree::ctype::{Base, Mode};
 use sharc_tree::listed::Listed;
 use sharc_tree::token::{Site, Token};

@@ -1,7 +1,7 @@
 // The modes of a program with a cast written in it.
 
 ghost use Rattle.std.specs.Prelude.{◌≡◌, ◌≤◌, ◌++◌, drop, length, map, replicate, IfOk, OnOk};
-ghost use Rattle.sharc_suggest.specs.Applied.{written_or, targets, inserted, moved};
+ghost use Rattle.sharc_rewrite.specs.Applied.{written_or, targets, inserted, moved};
 
 use sharc_mode::position::Reason;
 use sharc_tree::ctype::Mode;

@@ -7,8 +7,6 @@ use Rattle.sharc_tree.specs.declared.ctype.Mode.{Mode}
 use Rattle.sharc_tree.specs.declared.ctype.Mode.TheVariants.{Private}
 use Rattle.sharc_tree.specs.declared.token.Site.{Site}
 use Rattle.sharc_tree.specs.Tree.{Program}
-use Rattle.sharc_rewrite.specs.declared.written.Recast.{Recast}
-use Rattle.sharc_rewrite.specs.Recast.{program_with_cast}
 use Rattle.sharc_ctype.specs.declared.entity.Numbered.{Numbered}
 use Rattle.sharc_ctype.specs.Entities.{entities_in, numbered, entity_at}
 use Rattle.sharc_ctype.specs.Items.{named_in}
@@ -17,6 +15,8 @@ use Rattle.sharc_mode.specs.declared.error.Cast.{Cast}
 use Rattle.sharc_mode.specs.declared.position.Reason.{Reason}
 use Rattle.sharc_mode.specs.declared.position.Reason.TheVariants.{Touched, Spawned, From}
 use Rattle.sharc_mode.specs.Moded.{Assignment}
+use Rattle.sharc_rewrite.specs.declared.written.Recast.{Recast}
+use Rattle.sharc_rewrite.specs.Recast.{program_with_cast}
 
 -- ---- the program: the cast is around the expression of its tokens, wherever that is passed, assigned or returned, or initialises a local
 
