@@ -7,9 +7,10 @@ use Rattle.sharc_flat.specs.Correct.{MayStart}
 use Rattle.sharc_compile_laws.specs.Paths.{PathsTell, ThreadsTellInRuns}
 use Rattle.sharc_compile_laws.specs.Started.{HasThread}
 use Rattle.sharc_compile_laws.specs.Threads.{RunsTell}
-use Rattle.sharc_compile_laws.specs.Typed.{IsTypedProgram}
 use Rattle.sharc_sound.specs.Compiled.{IsCompiled}
 use Rattle.sharc_sound.specs.Front.{IsFront}
+use Rattle.sharc_build.specs.declared.building.Built.{Built}
+use Rattle.sharc_build.specs.Built.{IsBuilt}
 
 -- Where the results of a path of a thread are consistent, the thread reports what the program asks for, stops where that
 -- stops, or wants what is refused, at its site, and keeps the pace; so does each thread of a checked run, in any
@@ -21,10 +22,10 @@ pub record IsFaithful (m : Assignment) (code : Code) : Type 0 where
   pub runs : RunsTell m code
   pub started : (f : ℕ) → HasThread m f → MayStart m f
 
--- the program that a source is is typed, and well-moded if its modes are accepted
-abbrev pub FrontsAreTyped : Type 0
-FrontsAreTyped = (source : List ℕ) (m : Assignment) → IsFront source m → MeetsRules m → IsTypedProgram m
-
--- so is the code that a source is compiled to, if its modes are accepted
+-- So is the code that a source is compiled to, if its modes are accepted,
 abbrev pub CompiledIsFaithful : Type 0
 CompiledIsFaithful = (source : List ℕ) (m : Assignment) (code : Code) → IsFront source m → MeetsRules m → IsCompiled m code → IsFaithful m code
+
+-- as what `build` answers is.
+abbrev pub BuiltIsFaithful : Type 0
+BuiltIsFaithful = (source : List ℕ) (built : Built) → IsBuilt source built → IsFaithful built.checked built.code

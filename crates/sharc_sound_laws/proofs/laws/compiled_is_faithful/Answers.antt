@@ -1,4 +1,4 @@
-use Rattle.sharc_build.proofs.laws.compiled_is_faithful.Goals as goal
+use Rattle.sharc_sound_laws.proofs.laws.compiled_is_faithful.Goals as goal
 
 pub returns : goal.returns
 returns c = λ source m code front meets is.

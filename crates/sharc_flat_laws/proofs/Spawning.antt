@@ -48,15 +48,11 @@ use Rattle.sharc_flat.specs.declared.slot.Slot.{Slot}
 use Rattle.sharc_code.specs.declared.code.GlobalCells.{GlobalCells}
 use Rattle.std.specs.List.{AllByRecursion}
 use Rattle.sharc_tree.specs.Measures.{expressions, in_arguments, in_option, in_right, in_simple, in_local, in_first, in_head, in_statement, in_statements, in_function as expressions_in}
+use Rattle.sharc_flat_laws.specs.Tables.{SpawnMeets}
 
 -- ---- what operations spawn
-abbrev pub Asks : (ℕ → Type 0) → Op → Type 0
-Asks Q (op.Spawn i f from spot) = Q f
-Asks Q _ = Unit {0}
-
-abbrev pub AllAsk : (ℕ → Type 0) → List Op → Type 0
-AllAsk Q [] = Unit {0}
-AllAsk Q (o ∷ os) = Asks Q o × AllAsk Q os
+abbrev pub AllMeet : (ℕ → Type 0) → List Op → Type 0
+AllMeet Q = AllByRecursion (SpawnMeets Q)
 
 -- ---- what expressions spawn
 abbrev pub SpawnsOne : (ℕ → Type 0) → Resolution → Expression → Type 0
@@ -95,7 +91,7 @@ after_same P c (for s hd y) h = h
 
 module _ (Q : ℕ → Type 0) where
   abbrev S : List Op → Type 0
-  S = AllAsk Q
+  S = AllMeet Q
 
   joins : (xs ys : List Op) → S xs → S ys → S (xs ++ ys)
   joins [] ys a b = b
@@ -257,11 +253,11 @@ module _ (Q : ℕ → Type 0) where
     casts i r s a xs h = joins xs _ h (joins (take_code c i r (span_of a).first (lvalue_in c a) (mode_of c a) uses.Cast (target_of c a)) _
         (takes i r (span_of a).first (lvalue_in c a) (mode_of c a) uses.Cast (target_of c a)) (tt, (tt, tt)))
 
-    bounded : (bounds : ℕ → ℕ → Op) (i n : ℕ) (guard : Option ℕ) → ((i n : ℕ) → Asks Q (bounds i n)) → S (bounds_code bounds i n guard)
+    bounded : (bounds : ℕ → ℕ → Op) (i n : ℕ) (guard : Option ℕ) → ((i n : ℕ) → SpawnMeets Q (bounds i n)) → S (bounds_code bounds i n guard)
     bounded bounds i n None h = (h i n, tt)
     bounded bounds i n (Some mutex) h = (tt, (h i n, (h (i + 1) mutex, tt)))
 
-    indexes_by : (b : Bool) (r : ℕ) (xs ys zs ws : List Op) (number : ℕ → List Op) (o : Op) → Asks Q o → S xs → S ys → ((d : ℕ) → S (number d)) → S zs → S ws
+    indexes_by : (b : Bool) (r : ℕ) (xs ys zs ws : List Op) (number : ℕ → List Op) (o : Op) → SpawnMeets Q o → S xs → S ys → ((d : ℕ) → S (number d)) → S zs → S ws
         → S (cond b (xs ++ (number r ++ zs)) (ys ++ (o ∷ (number (r + 1) ++ ws))))
     indexes_by true r xs ys zs ws number o k x y n z w = joins xs _ x (joins (number r) zs (n r) z)
     indexes_by false r xs ys zs ws number o k x y n z w = joins ys _ y (k, joins (number (r + 1)) ws (n (r + 1)) w)
