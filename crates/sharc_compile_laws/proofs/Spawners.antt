@@ -14,7 +14,7 @@ use Rattle.sharc_flat_form.specs.declared.op.Op.TheVariants as op
 use Rattle.sharc_flat_form.specs.declared.op.Spot.{Spot}
 use Rattle.sharc_flat_form.specs.Made.{flat_of}
 use Rattle.sharc_flat_laws.specs.Tables.{SpawnMeets, IsSpawned, MadeSpawns}
-use Rattle.sharc_guard.specs.Guard.{check_under, head, own, body, tail, expand, expanded, guarded, place}
+use Rattle.sharc_guard.specs.Guard.{check_under, head, own, body, tail, expand, expanded, place}
 use Rattle.sharc_guard.specs.Known.{dropped}
 use Rattle.sharc_gen.specs.Generated.{instr_of}
 use Rattle.sharc_compile_laws.specs.Started.{SpawnedAreThreads}

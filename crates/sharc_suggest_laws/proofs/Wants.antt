@@ -24,7 +24,7 @@ use Rattle.sharc_mode.specs.Rows.{Reading, at_call, Targets, is_constant_named, 
 use Rattle.sharc_mode.specs.Sharings.{Lock, Sharing, private, readonly, locked, racy, dynamic, sharing_of, is_field, variable_named, object_named, text_at}
 use Rattle.sharc_rewrite.specs.Applied.{recast_of, targets, inserted, assignment_with}
 use Rattle.sharc_suggest.specs.Repairs.{is_free, is_call_at, keeps_named, keeps, keeps_all}
-use Rattle.sharc_suggest_laws.specs.Givings.{beyond}
+use Rattle.sharc_suggest.specs.Givings.{beyond}
 use Rattle.sharc_suggest_laws.specs.Names.{is_dull, KeepsName}
 use Rattle.sharc_suggest_laws.proofs.Arguments.{nth, args_met, one_nth}
 use Rattle.sharc_suggest_laws.proofs.CallNames.{named_left, named_right}
