@@ -25,7 +25,7 @@ use Rattle.sharc_flat.specs.Tables.{globals_of}
 use Rattle.sharc_guard.specs.Guard.{entered_at, place}
 use Rattle.sharc_guard.specs.Known.{dropped}
 use Rattle.sharc_compile.specs.Made.{IsCodeOf}
-use Rattle.sharc_compile_laws.specs.Fits.{MadeTablesFit}
+use Rattle.sharc_flat_laws.specs.Tables.{MadeTablesFit}
 use Rattle.sharc_invariant.specs.Typed.{AreGlobals}
 use Rattle.sharc_static_laws.specs.Alone.{SomeAreAlone}
 use Rattle.sharc_static_laws.specs.Laws.{IsAccepted}

@@ -6,13 +6,12 @@ ghost use Rattle.sharc_accepted_laws.specs.Expressions.{ExpressionsAreTypable};
 ghost use Rattle.sharc_accepted_laws.specs.Programs.{CodeIsSet, ProgramsAreTypable};
 
 use sharc_access_laws::laws::{bases_stand, firsts_fit, lvalues_are_typed, paths_lead};
-use sharc_compile_laws::made_tables_fit;
 use sharc_ctype_laws::laws::{
     all_fair, are_plain, each_names_itself, each_names_own, has_main, meets_constraints,
     meets_globals, meets_statements, one_function_of_name, one_type, spawns_name_functions,
     spawns_threads, within_limits,
 };
-use sharc_flat_laws::laws::typed_suits;
+use sharc_flat_laws::laws::{made_tables_fit, typed_suits};
 use sharc_statement_laws::laws::code_typed_law;
 use sharc_static_laws::laws::{
     arguments_fit, functions_stand, given_laws, held_laws, known_calls, result_laws, scope_laws,

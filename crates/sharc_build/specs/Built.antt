@@ -11,16 +11,15 @@ use Rattle.sharc_sound.specs.Front.{IsFront, IsSourceFault}
 use Rattle.sharc_build.specs.declared.building.Built.{Built}
 use Rattle.sharc_build.specs.declared.building.BuildFault.{BuildFault}
 use Rattle.sharc_build.specs.declared.building.BuildFault.TheVariants.{Source, Modes, Memory}
-use Rattle.sharc_build.specs.Faithful.{IsFaithful}
 
 -- It is this program, with its least modes, which meet the rules M1 to M11; and this is its code, whose numbers are in the
--- ranges that the machine asks for, and which is faithful to the program.
+-- ranges that the machine asks for. So the code is faithful to the program (`built_is_faithful` of sharc_sound_laws), and
+-- what every interleaving of it keeps is said by the laws of sharc_built_laws.
 pub record IsBuilt (source : List ℕ) (built : Built) : Type 0 where
   pub front : IsFront source built.checked
   pub accepted : MeetsRules built.checked
   pub compiled : IsCompiled built.checked built.code
   pub numbers : NumbersFit built.code
-  pub faithful : IsFaithful built.checked built.code
 
 -- it is this program, which breaks the rules, in all these cases
 pub record IsIllModed (source : List ℕ) (m : Assignment) (errors : List ModeError) (named : List Bool) : Type 0 where

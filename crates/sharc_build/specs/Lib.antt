@@ -1,2 +1,2 @@
 pub mod Built
-pub mod Faithful
+pub mod Laws

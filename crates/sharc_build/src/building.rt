@@ -3,18 +3,17 @@
 ghost use Rattle.std.specs.Prelude.{◌≤◌, List, ℕ, length, IfOk};
 ghost use Rattle.sharc_reach.specs.Reaching.{AreReached};
 ghost use Rattle.sharc_code.specs.Ranges.{NumbersFit};
-ghost use Rattle.sharc_compile_laws.specs.Typed.{IsTypedProgram};
+ghost use Rattle.sharc_flat_laws.specs.Typed.{IsTypedProgram};
 ghost use Rattle.sharc_sound.specs.Compiled.{IsCompiled};
 ghost use Rattle.sharc_sound.specs.Front.{IsFront};
 ghost use Rattle.sharc_build.specs.Built.{Builds};
 
-use crate::laws::{compiled_is_faithful, fronts_are_typed};
+use crate::laws::fronts_are_typed;
 use sharc_check::named::NamedVariables;
 use sharc_check::{CheckFault, Checked, check};
 use sharc_code::Code;
 use sharc_compile::code_of;
-use sharc_compile_laws::made_tables_fit;
-use sharc_flat_laws::laws::typed_is_framed;
+use sharc_flat_laws::laws::{made_tables_fit, typed_is_framed};
 use sharc_flatten::flatten;
 use sharc_mode::error::ModeErrors;
 use sharc_mode::moded::Moded;
@@ -66,7 +65,6 @@ fn coded(alloc: Global, checked: Checked) -> Result<Built, BuildFault>
     ensures { (source : List ℕ) → IsFront source checked → Builds source result }
 {
     fronts_are_typed();
-    compiled_is_faithful();
     match compile(alloc, checked.moded()) {
         Ok(code) => Ok(Built { checked, code }),
         Err(_) => Err(BuildFault::Memory),

@@ -1,8 +1,7 @@
-//! The laws of the code that is built.
+//! The laws of the program that a source is.
 
-ghost use Rattle.sharc_build.specs.Faithful.{CompiledIsFaithful, FrontsAreTyped};
+ghost use Rattle.sharc_build.specs.Laws.{FrontsAreTyped};
 
-use sharc_compile_laws::{threads_may_start, typed_paths_tell, typed_threads_tell};
 use sharc_grammar::laws::{programs_are_low, programs_are_placed};
 use sharc_mode_laws::laws::rules_are_met;
 
@@ -13,14 +12,4 @@ pub fn fronts_are_typed()
     programs_are_placed();
     programs_are_low();
     rules_are_met();
-}
-
-/// The code that a source is compiled to, if its modes are accepted, is faithful to the program that the source is.
-pub fn compiled_is_faithful()
-    ensures { CompiledIsFaithful }
-{
-    fronts_are_typed();
-    typed_paths_tell();
-    typed_threads_tell();
-    threads_may_start();
 }

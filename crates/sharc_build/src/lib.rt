@@ -1,11 +1,11 @@
 //! From the bytes of a source to the checked code of the program that it is, as one call.
 //!
-//! The layer above uses `build`, `Built` and `BuildFault`; `Builds` of specs/Built.antt says what is answered. specs/Faithful.antt says what
-//! the code is to the program; `compiled_is_faithful` has it for code that was made in another way, and `fronts_are_typed` says what the program is.
+//! The layer above uses `build`, `Built` and `BuildFault`; `Builds` of specs/Built.antt says what is answered, and `fronts_are_typed` what the
+//! program is. What the code is to the program is a law of sharc_sound_laws, `built_is_faithful`.
 #![tactic(auto)]
 
 mod building;
 mod laws;
 
 pub use building::{BuildFault, Built, build};
-pub use laws::{compiled_is_faithful, fronts_are_typed};
+pub use laws::fronts_are_typed;

@@ -3,17 +3,19 @@
 use crate::tables::{FILE, text_or_end};
 use crate::told::{Answer, Refusal, Telling, Untold, judged, moded, said, types};
 use sharc_mode::moded::Moded;
-use sharc_suggest::apply;
+use sharc_rewrite::apply;
 use std::alloc::{AllocError, Global};
 use std::process::Abort;
 use std::test::Fail;
 
 /// A program with the first cast that is suggested for its errors.
 fn first_applied(alloc: Global, refused: &Refusal) -> Result<Moded, AllocError> {
-    match refused.casts.as_slice() {
-        [first, ..] => apply(alloc, &refused.program, first),
-        [] => Err(AllocError),
+    for cast in refused.casts.as_slice() {
+        if let Some(cast) = cast {
+            return apply(alloc, &refused.program, cast);
+        }
     }
+    Err(AllocError)
 }
 
 /// The same, if a cast is suggested.

@@ -11,7 +11,7 @@ use sharc_ctype::typed::{TypeFault, Typed, type_program};
 use sharc_infer::infer;
 use sharc_lex::{LexFault, lex};
 use sharc_live::nulled_uses;
-use sharc_mode::error::{Casts, ModeErrors};
+use sharc_mode::error::{Cast, ModeErrors};
 use sharc_mode::moded::Moded;
 use sharc_parse::{ParseFault, parse};
 use sharc_reach::{Reached, reach};
@@ -97,12 +97,12 @@ pub(crate) fn moded(alloc: Global, source: &[u8]) -> Result<Moded, Untold> {
     inferred(alloc, typed(alloc, source)?)
 }
 
-/// A program whose modes are refused, with its errors and the casts that are suggested for them.
+/// A program whose modes are refused, with its errors and beside each the cast that is suggested for it.
 #[derive(Drop)]
 pub(crate) struct Refusal {
     pub(crate) program: Moded,
     pub(crate) errors: ModeErrors,
-    pub(crate) casts: Casts,
+    pub(crate) casts: Vec<Option<Cast>>,
 }
 
 /// What the checker says of a program.
@@ -183,7 +183,12 @@ pub(crate) fn judged(alloc: Global, program: Moded) -> Result<Vec<u8>, AllocErro
             text
         }
         Answer::Refused(refused) => {
-            let text = check_text(alloc, &refused.program, &refused.errors, &refused.casts);
+            let text = check_text(
+                alloc,
+                &refused.program,
+                &refused.errors,
+                refused.casts.as_slice(),
+            );
             drop(refused);
             text
         }

@@ -1,5 +1,5 @@
 -- The functions of code by their numbers.
-use Rattle.std.proofs.Common.{◌≡◌, ℕ, pos, ◌<◌, length, List, refl, sym, ap, ◌∙◌, subst, arith}
+use Rattle.std.proofs.Common.{◌≡◌, pos, ◌<◌, length, List, sym, ap, ◌∙◌, subst}
 use Rattle.std.proofs.lemmas.List.{length-map}
 use Rattle.sharc_code.specs.declared.code.Function.{Function as Row}
 use Rattle.sharc_flat_form.specs.Made.{flat_of}

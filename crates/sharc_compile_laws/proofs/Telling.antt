@@ -32,7 +32,6 @@ use Rattle.sharc_compile.specs.Made.{IsCodeOf}
 use Rattle.sharc_compile.specs.Runs.{RunsFollowSource}
 use Rattle.sharc_compile.specs.Source.{FollowsSource}
 use Rattle.sharc_compile_laws.specs.Threads.{TellsIn, ThreadsTell}
-use Rattle.sharc_compile_laws.proofs.Fitting.{named_count}
 
 -- ---- lists
 reverse_cons : {A : Type 0} (x : A) (xs : List A) → reverse (x ∷ xs) ≡ reverse xs ++ x ∷ []
@@ -143,6 +142,14 @@ entered_site : (pl : ℕ → ℕ) (rows : List Row) (n : ℕ) → n < length row
 entered_site pl [] n lt = absurd (omega arith)
 entered_site pl (x ∷ rows) zero lt = refl
 entered_site pl (x ∷ rows) (suc n) lt = entered_site pl rows n (omega arith)
+
+named_count : (bytes : List ℕ) (told : List Row) (names : List (List ℕ)) (made : List Row) → AreNamed bytes told names made → length made ≡ length told
+named_count bytes [] [] [] h = refl
+named_count bytes (x ∷ xs) (n ∷ ns) (y ∷ ys) h = ap suc (named_count bytes xs ns ys h.1)
+named_count bytes [] [] (y ∷ ys) h = absurd h
+named_count bytes [] (n ∷ ns) ys h = absurd h
+named_count bytes (x ∷ xs) [] ys h = absurd h
+named_count bytes (x ∷ xs) (n ∷ ns) [] h = absurd h
 
 named_site : (bytes : List ℕ) (told : List Row) (names : List (List ℕ)) (made : List Row) (n : ℕ) → AreNamed bytes told names made → (slice_index_or made n no_function).site ≡ (slice_index_or told n no_function).site
 named_site bytes [] [] [] n h = refl

@@ -1,4 +1,3 @@
-pub mod Fits
 pub mod Names
 pub mod Paths
 pub mod Started

@@ -1,5 +1,5 @@
 -- The functions of the code of a program are its functions: each has the place of its name, and the first one is `main`.
-use Rattle.std.specs.Prelude.{◌≡◌, ◌<◌, ℕ, length}
+use Rattle.std.specs.Prelude.{◌<◌, ℕ, length}
 use Rattle.sharc_ctype.specs.Resolved.{function_at}
 use Rattle.sharc_mode.specs.Moded.{Assignment}
 use Rattle.sharc_meaning.specs.Runs.{IsNamedAt}

@@ -26,7 +26,7 @@ use Rattle.sharc_gen.specs.Lowered.{lowered_in}
 use Rattle.sharc_gen.specs.OfRuns.{elements_before, founds_of, told_in}
 use Rattle.sharc_compile.specs.Made.{IsCodeOf}
 use Rattle.sharc_compile.specs.Source.{IsOverAs}
-use Rattle.sharc_compile_laws.specs.Typed.{IsTypedProgram}
+use Rattle.sharc_flat_laws.specs.Typed.{IsTypedProgram}
 
 -- The thread has reported exactly these events after its Started. With some fuel the program asks for just them, by their
 -- answers, and is over as the code is: ended, or stopped at the same site by the same X, or, where the code was refused by

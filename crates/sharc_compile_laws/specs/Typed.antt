@@ -1,11 +1,6 @@
 -- The code of a typed, well-moded program with its least assignment: nothing else is asked of the program.
 use Rattle.std.specs.Prelude.{ℕ, ◌⊎◌, List, length}
-use Rattle.sharc_tree.specs.Low.{IsLow}
-use Rattle.sharc_tree.specs.Placed.{IsPlaced}
-use Rattle.sharc_ctype.specs.Resolved.{IsResolved}
-use Rattle.sharc_mode.specs.Flows.{IsLeastAssignment}
 use Rattle.sharc_mode.specs.Moded.{Assignment}
-use Rattle.sharc_mode.specs.WellModed.{WellModed}
 use Rattle.sharc_code.specs.declared.code.Code.{Code}
 use Rattle.sharc_code.specs.declared.shape.Shape.{Shape}
 use Rattle.sharc_code.specs.Paced.{paced_in}
@@ -14,6 +9,7 @@ use Rattle.sharc_flat_form.specs.declared.flat.Flat.{Flat as FlatCode}
 use Rattle.sharc_flat_form.specs.Made.{flat_of}
 use Rattle.sharc_flat.specs.Flattens.{Flattens}
 use Rattle.sharc_flat.specs.Laws.{FitsMade}
+use Rattle.sharc_flat_laws.specs.Typed.{IsTypedProgram}
 use Rattle.sharc_gen.specs.Consistent.{Elements, said_in, IsConsistent}
 use Rattle.sharc_gen.specs.Correct.{IsBeginning}
 use Rattle.sharc_gen.specs.Generated.{program_of}
@@ -21,13 +17,6 @@ use Rattle.sharc_gen.specs.Lowered.{lowered_in}
 use Rattle.sharc_compile.specs.Held.{HoldsWhatIsCounted}
 use Rattle.sharc_compile.specs.Made.{IsCodeOf}
 use Rattle.sharc_compile_laws.specs.Threads.{RunsTell}
-
-pub record IsTypedProgram (m : Assignment) : Type 0 where
-  pub resolved : IsResolved m.typed
-  pub placed : IsPlaced m.typed.program
-  pub low : IsLow m.typed.program
-  pub least : IsLeastAssignment m
-  pub well_moded : WellModed m
 
 -- the threads of its runs report what it asks for
 abbrev pub TypedThreadsTell : Type 0

@@ -1,6 +1,5 @@
 //! The laws, each the contract of a function that calls at most the laws that it joins.
 
-ghost use Rattle.sharc_compile_laws.specs.Fits.{MadeTablesFit};
 ghost use Rattle.sharc_compile_laws.specs.Names.{CodeHasMain, FunctionsAreNamed};
 ghost use Rattle.sharc_compile_laws.specs.Paths.{OfTyped, PathsTell, ThreadsTellInRuns};
 ghost use Rattle.sharc_compile_laws.specs.Started.{SpawnedAreThreads, ThreadsMayStart};
@@ -8,22 +7,9 @@ ghost use Rattle.sharc_compile_laws.specs.Threads.{ThreadsTell};
 ghost use Rattle.sharc_compile_laws.specs.Typed.{TypedCodeCounts, TypedThreadsTell};
 
 use sharc_compile::{held_law, program_law, run_law};
-use sharc_ctype_laws::laws::{
-    has_main, meets_globals, one_function_of_name, spawns_name_functions, spawns_threads,
-    within_limits,
-};
-use sharc_flat_laws::laws::{typed_asks_the_same, typed_is_framed, typed_suits};
+use sharc_ctype_laws::laws::{has_main, one_function_of_name, spawns_threads};
+use sharc_flat_laws::laws::{made_spawns, typed_asks_the_same, typed_is_framed, typed_suits};
 use sharc_guard_laws::laws::{made_locks_stand, typed_is_level};
-
-/// The tables of what flattening makes of a typed program are in their ranges: its functions are few, `main` and what it spawns are among
-/// them, its globals lie one after the other within their granules, and what they hold at first are words.
-pub fn made_tables_fit()
-    ensures { MadeTablesFit }
-{
-    within_limits();
-    meets_globals();
-    spawns_threads();
-}
 
 /// What a thread reports in a checked run of the code of a program, in any interleaving, is what the program asks for by the answers of these
 /// events, after the Started of a function at its name; where the results of the paths of all threads are consistent.
@@ -83,5 +69,5 @@ pub fn functions_are_named()
 pub fn spawned_are_threads()
     ensures { SpawnedAreThreads }
 {
-    spawns_name_functions();
+    made_spawns();
 }

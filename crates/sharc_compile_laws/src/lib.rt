@@ -1,16 +1,14 @@
 //! Laws of the code of typed programs.
 //!
-//! `made_tables_fit` says that the tables of flat code that was made of a typed program are in the ranges that `code_of` of sharc_compile
-//! asks for (specs/Fits.antt), so that the numbers of its code are in theirs. `threads_tell` says that what the threads of a checked run of
-//! the code of a program report is what the program asks for (specs/Threads.antt). `typed_threads_tell` and `typed_code_counts` say it of
-//! typed, well-moded programs, and whose references their registers have (specs/Typed.antt); `typed_paths_tell` says it of each path by
-//! itself, with how it is over and its pace (specs/Paths.antt), if its function may be started; `threads_may_start`: those of threads may
-//! (specs/Started.antt).
+//! `threads_tell` says that what the threads of a checked run of the code of a program report is what the program asks for
+//! (specs/Threads.antt). `typed_threads_tell` and `typed_code_counts` say it of typed, well-moded programs, and whose references their
+//! registers have (specs/Typed.antt); `typed_paths_tell` says it of each path by itself, with how it is over and its pace
+//! (specs/Paths.antt), if its function may be started; `threads_may_start`: those of threads may (specs/Started.antt).
 #![tactic(auto)]
 
 mod laws;
 
 pub use laws::{
-    functions_are_named, made_tables_fit, spawned_are_threads, threads_may_start, threads_tell,
-    typed_code_counts, typed_paths_tell, typed_threads_tell,
+    functions_are_named, spawned_are_threads, threads_may_start, threads_tell, typed_code_counts,
+    typed_paths_tell, typed_threads_tell,
 };

@@ -1,10 +1,12 @@
 // The laws, each the contract of a function that does nothing.
 
 ghost use Rattle.sharc_flat_laws.specs.Stands.{FitAreUnguarded, LocksAreFound, TypedAsksTheSame, TypedIsFramed, TypedSuits};
+ghost use Rattle.sharc_flat_laws.specs.Tables.{MadeSpawns, MadeTablesFit};
 
 use sharc_ctype_laws::laws::{
     all_fair, are_plain, each_names_found, each_names_itself, each_path_found, each_type_found,
-    meets_constraints, meets_statements, one_type,
+    meets_constraints, meets_globals, meets_statements, one_type, spawns_name_functions,
+    spawns_threads, within_limits,
 };
 use sharc_flat::laws::{made_asks_the_same, made_is_framed};
 
@@ -47,6 +49,24 @@ pub fn typed_is_framed()
 {
     typed_suits();
     made_is_framed();
+}
+
+/// What flattening makes of a typed program spawns what some function of the program spawns.
+pub fn made_spawns()
+    ensures { MadeSpawns }
+{
+    spawns_name_functions();
+}
+
+/// Its tables are in their ranges: its functions are few, `main` and what it spawns are among them, its globals lie one after the other within
+/// their granules, and what they hold at first are words.
+pub fn made_tables_fit()
+    ensures { MadeTablesFit }
+{
+    within_limits();
+    meets_globals();
+    spawns_threads();
+    made_spawns();
 }
 
 /// No global of a program with fit lock paths is locked behind a sibling pointer.

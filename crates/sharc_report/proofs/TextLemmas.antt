@@ -1,8 +1,12 @@
 -- Texts that were added piece by piece.
-use Rattle.std.proofs.Common.{◌≡◌, ℕ, ◌+◌, ◌<◌, List, ◌∷◌, ◌++◌, length, drop, get_or, ap, sym, subst, ◌∙◌, append_assoc, cond, Result, Ok, Err, OnOk}
+use Rattle.std.proofs.Common.{◌≡◌, ℕ, ◌+◌, ◌<◌, List, ◌∷◌, ◌++◌, length, drop, get_or, ap, sym, subst, ◌∙◌, append_assoc, cond, Option, Result, Ok, Err, OnOk}
 use Rattle.std.specs.Result.{is_ok}
 use Rattle.std.proofs.lemmas.List.{drop_more}
 use Rattle.std.specs.List.{flat_map}
+use Rattle.sharc_ctype.specs.Resolved.{Resolution}
+use Rattle.sharc_mode.specs.declared.error.Cast.{Cast}
+use Rattle.sharc_mode.specs.declared.error.ModeError.{ModeError}
+use Rattle.sharc_report.specs.Verdicts.{beside, check_text, refusal}
 
 pub three : {T E : Type 0} (answer : Result T E) (old m1 m2 new a b c : List ℕ) → m1 ≡ old ++ a → m2 ≡ m1 ++ b → OnOk answer (new ≡ m2 ++ c) → OnOk answer (new ≡ old ++ (a ++ (b ++ c)))
 three answer old m1 m2 new a b c p q last =
@@ -28,3 +32,12 @@ one_more f items list i x old new all are below is added before =
     let at : drop i items ≡ x ∷ drop (i + 1) items = drop_more items i x below ∙ ap (λ y. y ∷ drop (i + 1) items) (sym is) in
     let here : drop i list ≡ x ∷ drop (i + 1) list = subst (λ l. drop i l ≡ x ∷ drop (i + 1) l) are at in
     ap (λ l. l ++ flat_map f (drop (i + 1) list)) added ∙ append_assoc old (f x) (flat_map f (drop (i + 1) list)) ∙ ap (λ l. old ++ flat_map f l) (sym here) ∙ before
+
+-- what is written of one error more, and of the cast beside it
+pub one_beside : (r : Resolution) (items list : List ModeError) (i : ℕ) (e : ModeError) (left : List (Option Cast)) (old new : List ℕ) (behind : List (Option Cast)) (all : List ℕ) → items ≡ list → i < length items → e ≡ get_or items i e
+    → new ≡ old ++ refusal r e (beside left) → behind ≡ drop 1 left → old ++ check_text r (drop i list) left ≡ all → new ++ check_text r (drop (i + 1) list) behind ≡ all
+one_beside r items list i e left old new behind all are below is added rest before =
+    let at : drop i items ≡ e ∷ drop (i + 1) items = drop_more items i e below ∙ ap (λ y. y ∷ drop (i + 1) items) (sym is) in
+    let here : drop i list ≡ e ∷ drop (i + 1) list = subst (λ l. drop i l ≡ e ∷ drop (i + 1) l) are at in
+    ap (λ l. new ++ check_text r (drop (i + 1) list) l) rest ∙ ap (λ l. l ++ check_text r (drop (i + 1) list) (drop 1 left)) added
+    ∙ append_assoc old (refusal r e (beside left)) (check_text r (drop (i + 1) list) (drop 1 left)) ∙ ap (λ l. old ++ check_text r l left) (sym here) ∙ before

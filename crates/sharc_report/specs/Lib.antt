@@ -1,5 +1,4 @@
 pub mod Explanations
-pub mod FirstCasts
 pub mod Places
 pub mod Refusals
 pub mod Verdicts

@@ -1,6 +1,6 @@
 -- What `check` writes: the errors of modes, each with the cast that would repair it, or the warnings and `accepted`.
-use Rattle.std.specs.Prelude.{ℕ, ◌==◌, Bool, List, [], ◌++◌, codes, decimal, slice_set, Option, Some, None, if◌then◌else◌}
-use Rattle.std.specs.List.{find, flat_map}
+use Rattle.std.specs.Prelude.{ℕ, List, [], ◌∷◌, ◌++◌, codes, decimal, drop, slice_set, Option, Some, None}
+use Rattle.std.specs.List.{flat_map}
 use Rattle.sharc_tree.specs.declared.ctype.CType.{CType}
 use Rattle.sharc_tree.specs.Texts.{type_text}
 use Rattle.sharc_ctype.specs.Resolved.{Resolution}
@@ -9,7 +9,7 @@ use Rattle.sharc_mode.specs.declared.error.ModeError.{ModeError}
 use Rattle.sharc_mode.specs.declared.error.Warning.{Warning}
 use Rattle.sharc_mode.specs.declared.error.ErrorCode.{ErrorCode}
 use Rattle.sharc_mode.specs.declared.error.ErrorCode.TheVariants.{ModeMismatch, ReadonlyWrite, PrivateTarget, LockPathNotConstant, ModeNotAllowed, PrivateField, PrivateReachesThread, CastChangesInnerMode, ReadonlySource, NamedByLockPath, NeedsConstantBase}
-use Rattle.sharc_mode.specs.Errors.{number_of, is_mismatch}
+use Rattle.sharc_mode.specs.Errors.{number_of}
 use Rattle.sharc_report.specs.Places.{site_text, tokens_between}
 
 -- a type without the mode of its top
@@ -44,25 +44,23 @@ error_message e = message_of e.code e
 abbrev pub error_line : Resolution → ModeError → List ℕ
 error_line r e = site_text r e.site ++ codes ": M" ++ decimal (number_of e.code) ++ codes " " ++ error_message e ++ codes "\n"
 
--- A cast belongs to the M1 at its place. At one token there is at most one M1, since no two expressions that are given to something begin there.
-
-abbrev pub stands_at : ℕ → Cast → Bool
-stands_at token c = c.site.token == token
-
-abbrev pub cast_for : List Cast → ModeError → Option Cast
-cast_for casts e = if is_mismatch e.code then find (stands_at e.site.token) casts else None
-
 -- F:N: suggest SCAST(TYPE, LV)
 abbrev pub suggestion : Resolution → Option Cast → List ℕ
 suggestion r None = []
 suggestion r (Some c) = site_text r c.site ++ codes ": suggest SCAST(" ++ target_text c.to ++ codes ", " ++ tokens_between r c.from c.until ++ codes ")\n"
 
-abbrev pub refusal : Resolution → List Cast → ModeError → List ℕ
-refusal r casts e = error_line r e ++ suggestion r (cast_for casts e)
+abbrev pub refusal : Resolution → ModeError → Option Cast → List ℕ
+refusal r e c = error_line r e ++ suggestion r c
 
--- the errors in their order, each followed by its suggestion
-abbrev pub check_text : Resolution → List ModeError → List Cast → List ℕ
-check_text r errors casts = flat_map (refusal r casts) errors
+-- what there is beside the first of the errors that are left
+abbrev pub beside : List (Option Cast) → Option Cast
+beside [] = None
+beside (c ∷ left) = c
+
+-- the errors in their order, each followed by the suggestion beside it
+abbrev pub check_text : Resolution → List ModeError → List (Option Cast) → List ℕ
+check_text r [] casts = []
+check_text r (e ∷ errors) casts = refusal r e (beside casts) ++ check_text r errors (drop 1 casts)
 
 abbrev pub since : Resolution → Warning → List ℕ
 since r w = codes " may be NULL since " ++ site_text r w.nulled ++ codes "\n"

@@ -5,7 +5,6 @@
 #![tactic(auto)]
 
 mod accepted;
-mod casts;
 mod explained;
 mod owners;
 mod put;

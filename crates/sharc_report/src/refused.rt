@@ -1,15 +1,13 @@
 // The text of errors of modes.
 
-ghost use Rattle.std.specs.Prelude.{◌≡◌, ◌++◌, codes, Some, IfOk, OnOk};
-ghost use Rattle.std.specs.Option.{option_copied};
+ghost use Rattle.std.specs.Prelude.{◌≡◌, ◌++◌, codes, drop, Some, IfOk};
 ghost use Rattle.sharc_tree.specs.Texts.{type_text, Appends};
 ghost use Rattle.sharc_report.specs.Places.{tokens_between};
-ghost use Rattle.sharc_report.specs.Verdicts.{without_top, target_text, expected_found, error_message, error_line, suggestion, refusal, check_text};
+ghost use Rattle.sharc_report.specs.Verdicts.{without_top, target_text, expected_found, error_message, error_line, suggestion, beside, refusal, check_text};
 
-use crate::casts::{cast_for, first_casts};
 use crate::put::{put_number, put_place, put_three, put_tokens, put_two};
 use sharc_ctype::typed::Typed;
-use sharc_mode::error::{Cast, Casts, ErrorCode, ModeError, ModeErrors};
+use sharc_mode::error::{Cast, ErrorCode, ModeError, ModeErrors};
 use sharc_mode::moded::Moded;
 use sharc_tree::ctype::CType;
 use sharc_tree::listed::Listed;
@@ -142,9 +140,9 @@ fn put_suggestion(
     alloc: Global,
     text: &mut Vec<u8>,
     typed: &Typed,
-    c: Option<&Cast>,
+    c: &Option<Cast>,
 ) -> Result<(), AllocError>
-    ensures { Appends result (suggestion typed.now (option_copied c.entry)) text.old.items text.new.items }
+    ensures { Appends result (suggestion typed.now c.now) text.old.items text.new.items }
 {
     match c {
         None => Ok(()),
@@ -152,34 +150,58 @@ fn put_suggestion(
     }
 }
 
+/// The suggestion that is the first of these.
+fn put_first(
+    alloc: Global,
+    text: &mut Vec<u8>,
+    typed: &Typed,
+    casts: &[Option<Cast>],
+) -> Result<(), AllocError>
+    ensures { Appends result (suggestion typed.now (beside casts.now)) text.old.items text.new.items }
+{
+    match casts {
+        [] => Ok(()),
+        [first, ..] => put_suggestion(alloc, text, typed, first),
+    }
+}
+
+/// An error, and the suggestion that is the first of these.
 fn put_refusal(
     alloc: Global,
     text: &mut Vec<u8>,
     typed: &Typed,
     e: &ModeError,
-    c: Option<&Cast>,
+    casts: &[Option<Cast>],
 ) -> Result<(), AllocError>
-    ensures { Appends result (error_line typed.now e.now ++ suggestion typed.now (option_copied c.entry)) text.old.items text.new.items }
+    ensures { Appends result (refusal typed.now e.now (beside casts.now)) text.old.items text.new.items }
 {
     put_error(alloc, text, typed, e)?;
-    put_suggestion(alloc, text, typed, c)
+    put_first(alloc, text, typed, casts)
 }
 
-/// The errors of a program's modes, a line each, `file:line: code message`, and after an M1 the cast that would repair it, where one is passed:
-/// that at its place.
+fn behind_first(casts: &[Option<Cast>]) -> &[Option<Cast>]
+    ensures { result.now ≡ drop 1 casts.now }
+{
+    match casts {
+        [] => casts,
+        [_, behind @ ..] => behind,
+    }
+}
+
+/// The errors of a program's modes, a line each, `file:line: code message`, and after each the cast beside it, if there is one.
 pub fn check_text(
     alloc: Global,
     program: &Moded,
     errors: &ModeErrors,
-    casts: &Casts,
+    casts: &[Option<Cast>],
 ) -> Result<Vec<u8>, AllocError>
     ensures { IfOk result (λ text. text.items ≡ check_text program.now.typed errors.now casts.now) }
 {
-    let first = first_casts(alloc, casts)?;
     let mut text = Vec::new(alloc);
+    let mut left = casts;
     for error in errors.as_slice() {
-        let cast = cast_for(casts, &first, error);
-        put_refusal(alloc, &mut text, program.typed(), error, cast)?;
+        put_refusal(alloc, &mut text, program.typed(), error, left)?;
+        left = behind_first(left);
     }
     Ok(text)
 }

@@ -12,7 +12,6 @@ use Rattle.sharc_history_laws.specs.History.{history_of}
 use Rattle.sharc_run.specs.declared.run.Ran.{Ran}
 use Rattle.sharc_run.specs.Run.{IsEnd}
 use Rattle.sharc_build.specs.Built.{IsBuilt}
-use Rattle.sharc_build.specs.Faithful.{CompiledIsFaithful}
 use Rattle.sharc_sound.specs.Compiled.{IsCompiled}
 use Rattle.sharc_sound.specs.Front.{IsFront}
 use Rattle.sharc_built_laws.specs.Sound.{BuiltIsSound}
@@ -33,11 +32,11 @@ turns_of : (seed : Option ℕ) (n : RunNumbers) (code : Code) (s : Shape) (ran :
 turns_of (Some seed) n code s ran run = record { turns = run.turns; checked = run.checked; ends = run.ends }
 turns_of None n code s ran run = record { turns = run.turns; checked = run.checked; ends = run.ends }
 
-module _ (sound : BuiltIsSound) (faithful : CompiledIsFaithful) where
+module _ (sound : BuiltIsSound) where
   keeps : (source : List ℕ) (m : Assignment) → IsFront source m → MeetsRules m → (code : Code) → IsCompiled m code → NumbersFit code → (s : Shape) → Fits code s → (turns : List Turn) → CheckedRun code s turns
       → KeepsTo m (history_of code s turns)
   keeps source m front meets code compiled numbers s fits turns checked =
-      let built : IsBuilt source record { checked = m; code = code } = record { front = front; accepted = meets; compiled = compiled; numbers = numbers; faithful = faithful source m code front meets compiled } in
+      let built : IsBuilt source record { checked = m; code = code } = record { front = front; accepted = meets; compiled = compiled; numbers = numbers } in
       sound source record { checked = m; code = code } built s fits turns checked
 
   runs_keep : RunsAreOnly → RunsKeep

@@ -2,7 +2,6 @@
 
 ghost use Rattle.sharc_run_laws.specs.Kept.{KeptLaws};
 
-use sharc_build::compiled_is_faithful;
 use sharc_built_laws::laws::built_is_sound;
 use sharc_top_laws::laws::{records_are_told, verdicts_are_told};
 
@@ -12,7 +11,6 @@ pub fn kept_laws()
     ensures { KeptLaws }
 {
     built_is_sound();
-    compiled_is_faithful();
     verdicts_are_told();
     records_are_told();
 }

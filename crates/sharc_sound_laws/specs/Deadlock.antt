@@ -14,7 +14,7 @@ use Rattle.sharc_flat.specs.Laws.{FitsMade}
 use Rattle.sharc_flat.specs.Flattens.{Flattens}
 use Rattle.sharc_meaning.specs.Runs.{SourceRun}
 use Rattle.sharc_compile.specs.Made.{IsCodeOf}
-use Rattle.sharc_compile_laws.specs.Typed.{IsTypedProgram}
+use Rattle.sharc_flat_laws.specs.Typed.{IsTypedProgram}
 use Rattle.sharc_invariant.specs.Types.{Targets}
 use Rattle.sharc_invariant.specs.Labels.{Labels}
 use Rattle.sharc_invariant.specs.Typed.{IsWellTyped}

@@ -1,6 +1,7 @@
 pub mod Begins
 pub mod Built
 pub mod Deadlock
+pub mod Faithful
 pub mod Next
 pub mod Obeying
 pub mod Reports

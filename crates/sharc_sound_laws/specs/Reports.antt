@@ -21,7 +21,7 @@ use Rattle.sharc_meaning.specs.Obeys.{History}
 use Rattle.sharc_meaning.specs.State.{wants, event_of}
 use Rattle.sharc_compile.specs.Made.{IsCodeOf}
 use Rattle.sharc_compile.specs.Refused.{IsRefused, IsReport, site_of}
-use Rattle.sharc_compile_laws.specs.Typed.{IsTypedProgram}
+use Rattle.sharc_flat_laws.specs.Typed.{IsTypedProgram}
 use Rattle.sharc_invariant.specs.Types.{Targets}
 use Rattle.sharc_invariant.specs.Labels.{Labels}
 use Rattle.sharc_invariant.specs.Typed.{IsWellTyped}

@@ -20,7 +20,7 @@ use Rattle.sharc_meaning.specs.Runs.{Follows, answers_of}
 use Rattle.sharc_meaning.specs.State.{ended}
 use Rattle.sharc_compile.specs.Made.{IsCodeOf}
 use Rattle.sharc_compile.specs.Refused.{WantsRefused}
-use Rattle.sharc_compile_laws.specs.Typed.{IsTypedProgram}
+use Rattle.sharc_flat_laws.specs.Typed.{IsTypedProgram}
 use Rattle.sharc_invariant.specs.Types.{Targets}
 use Rattle.sharc_invariant.specs.Labels.{Labels}
 use Rattle.sharc_invariant.specs.Typed.{IsWellTyped}

@@ -3,6 +3,7 @@
 ghost use Rattle.sharc_sound_laws.specs.Begins.{MadeCodeBegins};
 ghost use Rattle.sharc_sound_laws.specs.Built.{BuiltIsSoundIfTyped};
 ghost use Rattle.sharc_sound_laws.specs.Deadlock.{BuiltStuckIsDeadlockIfTyped, StuckIsDeadlockIfTyped};
+ghost use Rattle.sharc_sound_laws.specs.Faithful.{BuiltIsFaithful, CompiledIsFaithful};
 ghost use Rattle.sharc_sound_laws.specs.Next.{OneIsNext};
 ghost use Rattle.sharc_sound_laws.specs.Obeying.{BuiltObeyingIsUnreportedIfTyped, ObeyingIsUnreportedIfTyped};
 ghost use Rattle.sharc_sound_laws.specs.Reports.{BuiltReportsShowIfTyped, ReportsShowIfTyped};
@@ -12,7 +13,8 @@ ghost use Rattle.sharc_sound_laws.specs.Standing.{ThreadsStandIfTyped};
 use sharc_build::fronts_are_typed;
 use sharc_code::{range_laws, run_laws};
 use sharc_compile_laws::{
-    functions_are_named, spawned_are_threads, threads_may_start, typed_threads_tell,
+    functions_are_named, spawned_are_threads, threads_may_start, typed_paths_tell,
+    typed_threads_tell,
 };
 use sharc_ctype_laws::laws::{each_names_itself, meets_globals};
 use sharc_follow_laws::{followed_law as code_is_followed, waits_law};
@@ -23,6 +25,23 @@ use sharc_history_laws::{
 use sharc_meaning::laws::{ask_laws, run_laws as source_run_laws};
 use sharc_source_laws::laws::numbers_have_no_sign;
 use sharc_wants_laws::thread_wants;
+
+/// The code that a source is compiled to, if its modes are accepted, is faithful to the program that the source is.
+pub fn compiled_is_faithful()
+    ensures { CompiledIsFaithful }
+{
+    fronts_are_typed();
+    typed_paths_tell();
+    typed_threads_tell();
+    threads_may_start();
+}
+
+/// So is the code that is built of a source.
+pub fn built_is_faithful()
+    ensures { BuiltIsFaithful }
+{
+    compiled_is_faithful();
+}
 
 /// The globals of the code of a typed program hold at first what their definitions say, if the numbers at which they begin have no sign of their own.
 pub fn made_code_begins()

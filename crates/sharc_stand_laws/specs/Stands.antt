@@ -26,7 +26,7 @@ use Rattle.sharc_gen.specs.Lowered.{lowered_in}
 use Rattle.sharc_gen.specs.OfRuns.{elements_before, founds_of, told_in}
 use Rattle.sharc_compile.specs.Made.{IsCodeOf}
 use Rattle.sharc_compile_laws.specs.Paths.{TellsProgram}
-use Rattle.sharc_compile_laws.specs.Typed.{IsTypedProgram}
+use Rattle.sharc_flat_laws.specs.Typed.{IsTypedProgram}
 use Rattle.sharc_invariant.specs.Types.{Targets}
 use Rattle.sharc_invariant.specs.Labels.{Labels}
 use Rattle.sharc_invariant.specs.Typed.{IsWellTyped}

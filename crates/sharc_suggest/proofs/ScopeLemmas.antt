@@ -4,7 +4,7 @@ use Rattle.std.proofs.lemmas.Grind.{common_steps}
 use Rattle.sharc_tree.specs.declared.tree.declaration.Declaration.{Declaration}
 use Rattle.sharc_tree.specs.Tree.{First, nothing, declares, does, Statement, empty, block, declare, simple, jump, return, if_then, if_then_else, while, for, Statements, no_statements, statement}
 use Rattle.sharc_names.specs.Names.{Entry}
-use Rattle.sharc_suggest.specs.Casts.{behind_first, after, after_all}
+use Rattle.sharc_suggest.specs.Givings.{behind_first, after, after_all}
 use Rattle.sharc_suggest.specs.Repairs.{entry_of}
 
 record Grows (new old : List Entry) : Type 0 where

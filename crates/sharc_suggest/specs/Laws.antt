@@ -1,10 +1,9 @@
 -- What suggestions are to those who argue with them.
-use Rattle.std.specs.Prelude.{◌≡◌, List, Option}
-use Rattle.std.specs.List.{flat_map}
+use Rattle.std.specs.Prelude.{◌≡◌, List, map, Option}
 use Rattle.sharc_mode.specs.declared.error.Cast.{Cast}
 use Rattle.sharc_mode.specs.declared.error.ModeError.{ModeError}
 use Rattle.sharc_mode.specs.Moded.{Assignment}
-use Rattle.sharc_suggest.specs.Casts.{IsSuggested, AreSuggested, of_option}
+use Rattle.sharc_suggest.specs.Casts.{IsSuggested, AreSuggested}
 
 -- an error has one answer
 abbrev pub OneAnswer : Type 0
@@ -12,8 +11,8 @@ OneAnswer = (m : Assignment) (e : ModeError) (a b : Option Cast) → IsSuggested
 
 -- and what is suggested for a list is what is suggested for each
 abbrev pub EachAnswered : Type 0
-EachAnswered = (m : Assignment) (errors : List ModeError) (answer : List Cast) (each : ModeError → Option Cast) → ((e : ModeError) → IsSuggested m e (each e)) → AreSuggested m errors answer
-    → answer ≡ flat_map (λ e. of_option (each e)) errors
+EachAnswered = (m : Assignment) (errors : List ModeError) (answer : List (Option Cast)) (each : ModeError → Option Cast) → ((e : ModeError) → IsSuggested m e (each e)) → AreSuggested m errors answer
+    → answer ≡ map each errors
 
 pub record SuggestLaws : Type 0 where
   pub one : OneAnswer

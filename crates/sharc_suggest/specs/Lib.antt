@@ -1,5 +1,5 @@
-pub mod Applied
 pub mod Casts
 pub mod Firsts
+pub mod Givings
 pub mod Laws
 pub mod Repairs

@@ -1,19 +1,17 @@
 // What is suggested for errors.
 
-ghost use Rattle.std.specs.Prelude.{◌≡◌, ◌++◌, IfOk, OnOk};
-ghost use Rattle.std.specs.List.{flat_map};
+ghost use Rattle.std.specs.Prelude.{◌≡◌, map, IfOk};
 ghost use Rattle.std.specs.Option.{option_copied};
 ghost use Rattle.sharc_check.specs.Named.{TellNamed};
-ghost use Rattle.sharc_suggest.specs.Casts.{AreCasts, cast_at, cast_for, AreSuggested, of_option};
+ghost use Rattle.sharc_suggest.specs.Casts.{AreCasts, cast_at, cast_for, AreSuggested};
 ghost use Rattle.sharc_suggest.specs.Firsts.{HasFirst, row_for};
 
 use crate::repair::Known;
 use crate::statement::items;
 use indexmap::IndexMap;
 use sharc_check::named::NamedVariables;
-use sharc_mode::error::{Cast, Casts, ModeError, ModeErrors};
+use sharc_mode::error::{Cast, ModeError, ModeErrors};
 use sharc_mode::moded::Moded;
-use sharc_tree::listed::Listed;
 use std::alloc::{AllocError, Global};
 
 /// The casts that are suggested in a program, in source order.
@@ -45,17 +43,22 @@ fn by_token<'a>(alloc: Global, casts: &'a [Cast]) -> Result<IndexMap<u32, &'a Ca
     Ok(first)
 }
 
-/// The same cast once more.
-fn copy_cast(alloc: Global, cast: &Cast) -> Result<Cast, AllocError>
-    ensures { IfOk result (λ c. c ≡ cast.now) }
+/// The same once more.
+fn copied(alloc: Global, cast: Option<&Cast>) -> Result<Option<Cast>, AllocError>
+    ensures { IfOk result (λ c. c ≡ option_copied cast.entry) }
 {
-    let to = cast.to.copy(alloc)?;
-    Ok(Cast {
-        site: cast.site,
-        to,
-        from: cast.from,
-        until: cast.until,
-    })
+    match cast {
+        None => Ok(None),
+        Some(cast) => {
+            let to = cast.to.copy(alloc)?;
+            Ok(Some(Cast {
+                site: cast.site,
+                to,
+                from: cast.from,
+                until: cast.until,
+            }))
+        }
+    }
 }
 
 /// The cast for an error, if one is suggested.
@@ -71,49 +74,33 @@ fn found<'a>(first: &IndexMap<u32, &'a Cast>, error: &ModeError) -> Option<&'a C
     }
 }
 
-/// Adds the cast for an error, if one is suggested.
-fn add(
-    alloc: Global,
-    first: &IndexMap<u32, &Cast>,
-    error: &ModeError,
-    answer: &mut Vec<Cast>,
-) -> Result<(), AllocError>
-    ensures { OnOk result (answer.new.items ≡ answer.old.items ++ of_option (row_for first.now.entries error.now)) }
-{
-    if let Some(cast) = found(first, error) {
-        answer.push(copy_cast(alloc, cast)?)?;
-    }
-    Ok(())
-}
-
-/// The casts for a list of errors, in their order.
+/// The cast for each of a list of errors, if one is suggested.
 fn all_found(
     alloc: Global,
     first: &IndexMap<u32, &Cast>,
     errors: &[ModeError],
-) -> Result<Vec<Cast>, AllocError>
-    ensures { IfOk result (λ answer. answer.items ≡ flat_map (λ e. of_option (row_for first.now.entries e)) errors.now) }
+) -> Result<Vec<Option<Cast>>, AllocError>
+    ensures { IfOk result (λ answer. answer.items ≡ map (row_for first.now.entries) errors.now) }
 {
-    let mut answer = Vec::new(alloc);
+    let mut answer = Vec::with_capacity(alloc, errors.len())?;
     for error in errors {
-        add(alloc, first, error, &mut answer)?;
+        answer.push(copied(alloc, found(first, error))?)?;
     }
     Ok(answer)
 }
 
-/// The casts that are suggested for errors of a program, at most one for each and in their order. It takes one pass over the program. `named` is what
-/// `check` answers beside the errors.
+/// Beside each of the errors of a program the cast that would repair it, if one is suggested. It takes one pass over the program. `named` is what `check`
+/// answers beside the errors.
 pub fn suggest_all(
     alloc: Global,
     program: &Moded,
     named: &NamedVariables,
     errors: &ModeErrors,
-) -> Result<Casts, AllocError>
+) -> Result<Vec<Option<Cast>>, AllocError>
     requires { TellNamed program.now named.now }
-    ensures { IfOk result (λ answer. AreSuggested program.now errors.now answer) }
+    ensures { IfOk result (λ answer. AreSuggested program.now errors.now answer.items) }
 {
     let casts = casts(alloc, program, named)?;
     let first = by_token(alloc, casts.as_slice())?;
-    let answer = all_found(alloc, &first, errors.as_slice())?;
-    Ok(Listed::of(answer))
+    all_found(alloc, &first, errors.as_slice())
 }

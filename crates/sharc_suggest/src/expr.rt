@@ -1,8 +1,12 @@
 // The casts that are suggested in expressions.
 
-ghost use Rattle.std.specs.Prelude.{◌≡◌, ◌++◌, OnOk};
+ghost use Rattle.std.specs.Prelude.{◌≡◌, ◌++◌, zero, OnOk};
+ghost use Rattle.std.specs.Option.{option_map};
 ghost use Rattle.sharc_tree.specs.View.{view_expr, view_arguments};
-ghost use Rattle.sharc_suggest.specs.Casts.{casts_of, casts_of_all};
+ghost use Rattle.sharc_mode.specs.Rows.{modes_of};
+ghost use Rattle.sharc_mode.specs.View.{view_rows, EndsWithin};
+ghost use Rattle.sharc_suggest.specs.Casts.{suggested_in};
+ghost use Rattle.sharc_suggest.specs.Givings.{Receiver, wanted, givings, all_givings, value_givings};
 ghost use Rattle.sharc_suggest.specs.Repairs.{told};
 
 use crate::repair::{Known, repair};
@@ -10,12 +14,14 @@ use sharc_check::passing::{Passed, Passing, without_first};
 use sharc_check::rules::expected;
 use sharc_ctype::typed::parameters_named;
 use sharc_mode::error::Cast;
+use sharc_mode::row::Targets;
 use sharc_names::names::Names;
-use sharc_tree::tree::{Declaration, Expr};
+use sharc_tree::tree::Expr;
 use std::alloc::{AllocError, Global};
 
 /// Adds the casts that are suggested in an expression.
 #[cycle(expr)]
+#[tactic(auto, using(crate::proofs::CallLemmas::suggested_both))]
 pub(crate) fn expression(
     alloc: Global,
     known: Known<'_>,
@@ -23,26 +29,24 @@ pub(crate) fn expression(
     expr: &Expr,
     casts: &mut Vec<Cast>,
 ) -> Result<(), AllocError>
-    ensures { OnOk result (casts.new.items ≡ casts.old.items ++ casts_of known.entry.moded.now (told known.entry.named.now) scope.now (view_expr expr.now)) }
+    ensures { OnOk result (casts.new.items ≡ casts.old.items ++ suggested_in known.entry.moded.now (told known.entry.named.now) (givings scope.now (view_expr expr.now))) }
 {
-    let typed = known.moded.typed();
     match expr {
         Expr::Identifier(_, _) => Ok(()),
         Expr::Constant(_, _) => Ok(()),
         Expr::Parentheses(_, inner) => expression(alloc, known, scope, inner, casts),
         Expr::Call(_, name, list) => {
-            let parameters = parameters_named(typed, typed.named(name.site.token));
-            arguments(alloc, known, scope, parameters, list.as_slice(), casts)
+            arguments(alloc, known, scope, name.site.token, list.as_slice(), casts)
         }
-        Expr::Spawn(_, name, value) => {
+        Expr::Spawn(_, name, argument) => {
+            let typed = known.moded.typed();
             let parameters = parameters_named(typed, typed.named(name.site.token));
             let passing = Passing {
                 parameters,
-                passed: Passed::One(value),
+                passed: Passed::One(argument),
             };
-            expression(alloc, known, scope, value, casts)?;
             let want = expected(known.moded, passing, parameters);
-            repair(alloc, known, scope, want, value, casts)
+            value(alloc, known, scope, want, argument, casts)
         }
         Expr::OnValue(_, _, value) => expression(alloc, known, scope, value, casts),
         Expr::OnPlace(_, _, inner) => expression(alloc, known, scope, inner, casts),
@@ -60,27 +64,45 @@ pub(crate) fn expression(
     }
 }
 
-/// Adds those that are suggested in the arguments of a call.
+/// Adds those that are suggested in a value that is given to what expects these modes, and of it.
+#[cycle(expr)]
+pub(crate) fn value(
+    alloc: Global,
+    known: Known<'_>,
+    scope: &Names<'_>,
+    want: Option<Targets<'_>>,
+    expr: &Expr,
+    casts: &mut Vec<Cast>,
+) -> Result<(), AllocError>
+    requires { EndsWithin known.moded.now.typed want }
+    ensures { (r : Receiver) → wanted known.entry.moded.now r ≡ option_map (modes_of known.entry.moded.now) (view_rows want.entry) → OnOk result (casts.new.items ≡ casts.old.items ++ suggested_in known.entry.moded.now (told known.entry.named.now) (value_givings scope.now r (view_expr expr.now))) }
+{
+    expression(alloc, known, scope, expr, casts)?;
+    repair(alloc, known, scope, want, expr, casts)
+}
+
+/// Adds those that are suggested in the arguments of a call of the function that this token names.
 #[cycle(expr)]
 fn arguments(
     alloc: Global,
     known: Known<'_>,
     scope: &Names<'_>,
-    parameters: &[Declaration],
+    function: u32,
     list: &[Expr],
     casts: &mut Vec<Cast>,
 ) -> Result<(), AllocError>
-    ensures { OnOk result (casts.new.items ≡ casts.old.items ++ casts_of_all known.entry.moded.now (told known.entry.named.now) scope.now parameters.now (view_arguments list.now) parameters.now (view_arguments list.now)) }
+    ensures { OnOk result (casts.new.items ≡ casts.old.items ++ suggested_in known.entry.moded.now (told known.entry.named.now) (all_givings scope.now function (view_arguments list.now) zero (view_arguments list.now))) }
 {
+    let typed = known.moded.typed();
+    let parameters = parameters_named(typed, typed.named(function));
     let passing = Passing {
         parameters,
         passed: Passed::All(list),
     };
     let mut left = parameters;
     for expr in list {
-        expression(alloc, known, scope, expr, casts)?;
         let want = expected(known.moded, passing, left);
-        repair(alloc, known, scope, want, expr, casts)?;
+        value(alloc, known, scope, want, expr, casts)?;
         left = without_first(left);
     }
     Ok(())

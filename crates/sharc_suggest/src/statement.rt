@@ -5,11 +5,12 @@ ghost use Rattle.std.specs.Option.{option_map};
 ghost use Rattle.sharc_tree.specs.View.{view_expr, view_option, view_right, view_simple, view_local, view_first, view_head, view_stmt, view_statements, view_item, view_items};
 ghost use Rattle.sharc_mode.specs.Rows.{modes_of};
 ghost use Rattle.sharc_mode.specs.View.{view_rows, EndsWithin};
-ghost use Rattle.sharc_suggest.specs.Casts.{casts_of, option_casts, right_casts, simple_casts, local_casts, return_casts, first_casts, behind_first, head_casts, after, after_all, casts_in, casts_in_all, with_parameters, item_casts, items_casts};
+ghost use Rattle.sharc_suggest.specs.Casts.{suggested_in};
+ghost use Rattle.sharc_suggest.specs.Givings.{Receiver, of_declared, wanted, behind_first, after, after_all, with_parameters, givings, option_givings, value_givings, right_givings, simple_givings, local_givings, first_givings, head_givings, givings_in, givings_in_all, item_givings, items_givings};
 ghost use Rattle.sharc_suggest.specs.Repairs.{entry_of, told};
 
-use crate::expr::expression;
-use crate::repair::{Known, repair};
+use crate::expr::{expression, value};
+use crate::repair::Known;
 use sharc_mode::error::Cast;
 use sharc_mode::row::{Reading, Targets, declared_row, row_of};
 use sharc_names::meaning::{Bound, Meaning};
@@ -35,7 +36,7 @@ fn optional(
     expr: &Option<Expr>,
     casts: &mut Vec<Cast>,
 ) -> Result<(), AllocError>
-    ensures { OnOk result (casts.new.items ≡ casts.old.items ++ option_casts (casts_of known.entry.moded.now (told known.entry.named.now) scope.now) (view_option view_expr expr.now)) }
+    ensures { OnOk result (casts.new.items ≡ casts.old.items ++ suggested_in known.entry.moded.now (told known.entry.named.now) (option_givings (givings scope.now) (view_option view_expr expr.now))) }
 {
     match expr {
         None => Ok(()),
@@ -53,13 +54,10 @@ fn right(
     casts: &mut Vec<Cast>,
 ) -> Result<(), AllocError>
     requires { EndsWithin known.moded.now.typed want }
-    ensures { OnOk result (casts.new.items ≡ casts.old.items ++ right_casts known.entry.moded.now (told known.entry.named.now) scope.now (option_map (modes_of known.entry.moded.now) (view_rows want.entry)) (view_right right.now)) }
+    ensures { (r : Receiver) → wanted known.entry.moded.now r ≡ option_map (modes_of known.entry.moded.now) (view_rows want.entry) → OnOk result (casts.new.items ≡ casts.old.items ++ suggested_in known.entry.moded.now (told known.entry.named.now) (right_givings scope.now r (view_right right.now))) }
 {
     match right {
-        Right::Value(expr) => {
-            expression(alloc, known, scope, expr, casts)?;
-            repair(alloc, known, scope, want, expr, casts)
-        }
+        Right::Value(expr) => value(alloc, known, scope, want, expr, casts),
         Right::Malloc(_, count, _) => optional(alloc, known, scope, count, casts),
     }
 }
@@ -71,7 +69,7 @@ fn simple(
     simple: &Simple,
     casts: &mut Vec<Cast>,
 ) -> Result<(), AllocError>
-    ensures { OnOk result (casts.new.items ≡ casts.old.items ++ simple_casts known.entry.moded.now (told known.entry.named.now) scope.now (view_simple simple.now)) }
+    ensures { OnOk result (casts.new.items ≡ casts.old.items ++ suggested_in known.entry.moded.now (told known.entry.named.now) (simple_givings scope.now (view_simple simple.now))) }
 {
     match simple {
         Simple::Assign(_, place, value) => {
@@ -92,7 +90,7 @@ fn initial(
     casts: &mut Vec<Cast>,
 ) -> Result<(), AllocError>
     requires { EndsWithin known.moded.now.typed want }
-    ensures { OnOk result (casts.new.items ≡ casts.old.items ++ option_casts (right_casts known.entry.moded.now (told known.entry.named.now) scope.now (option_map (modes_of known.entry.moded.now) (view_rows want.entry))) (view_option view_right value.now)) }
+    ensures { (r : Receiver) → wanted known.entry.moded.now r ≡ option_map (modes_of known.entry.moded.now) (view_rows want.entry) → OnOk result (casts.new.items ≡ casts.old.items ++ suggested_in known.entry.moded.now (told known.entry.named.now) (option_givings (right_givings scope.now r) (view_option view_right value.now))) }
 {
     match value {
         None => Ok(()),
@@ -109,7 +107,7 @@ fn local<'a>(
     casts: &mut Vec<Cast>,
 ) -> Result<(), AllocError>
     ensures scope { OnOk result (scope.new ≡ entry_of (view_local local.now).declaration ∷ scope.old) }
-    ensures casts { OnOk result (casts.new.items ≡ casts.old.items ++ local_casts known.entry.moded.now (told known.entry.named.now) scope.old (view_local local.now)) }
+    ensures casts { OnOk result (casts.new.items ≡ casts.old.items ++ suggested_in known.entry.moded.now (told known.entry.named.now) (local_givings scope.old (view_local local.now))) }
 {
     let token = local.declaration.name.site.token;
     let want = declared_row(known.moded.typed(), Reading::Written, token);
@@ -126,7 +124,7 @@ fn first<'a>(
     casts: &mut Vec<Cast>,
 ) -> Result<(), AllocError>
     ensures scope { OnOk result (scope.new ≡ behind_first scope.old (view_first first.now)) }
-    ensures casts { OnOk result (casts.new.items ≡ casts.old.items ++ first_casts known.entry.moded.now (told known.entry.named.now) scope.old (view_first first.now)) }
+    ensures casts { OnOk result (casts.new.items ≡ casts.old.items ++ suggested_in known.entry.moded.now (told known.entry.named.now) (first_givings scope.old (view_first first.now))) }
 {
     match first {
         ForFirst::Nothing => Ok(()),
@@ -142,7 +140,7 @@ fn step(
     step: &Option<Simple>,
     casts: &mut Vec<Cast>,
 ) -> Result<(), AllocError>
-    ensures { OnOk result (casts.new.items ≡ casts.old.items ++ option_casts (simple_casts known.entry.moded.now (told known.entry.named.now) scope.now) (view_option view_simple step.now)) }
+    ensures { OnOk result (casts.new.items ≡ casts.old.items ++ suggested_in known.entry.moded.now (told known.entry.named.now) (option_givings (simple_givings scope.now) (view_option view_simple step.now))) }
 {
     match step {
         None => Ok(()),
@@ -151,6 +149,7 @@ fn step(
 }
 
 /// The head of a `for`; what it declares is in scope afterwards.
+#[tactic(auto, using(crate::proofs::CallLemmas::suggested_both))]
 fn head<'a>(
     alloc: Global,
     known: Known<'_>,
@@ -159,7 +158,7 @@ fn head<'a>(
     casts: &mut Vec<Cast>,
 ) -> Result<(), AllocError>
     ensures scope { OnOk result (scope.new ≡ behind_first scope.old (view_head head.now).first) }
-    ensures casts { OnOk result (casts.new.items ≡ casts.old.items ++ head_casts known.entry.moded.now (told known.entry.named.now) scope.old (view_head head.now)) }
+    ensures casts { OnOk result (casts.new.items ≡ casts.old.items ++ suggested_in known.entry.moded.now (told known.entry.named.now) (head_givings scope.old (view_head head.now))) }
 {
     first(alloc, known, scope, &head.first, casts)?;
     optional(alloc, known, scope, &head.test, casts)?;
@@ -172,24 +171,23 @@ fn returned(
     known: Known<'_>,
     scope: &Names<'_>,
     function: u32,
-    value: &Option<Box<Expr>>,
+    returned: &Option<Box<Expr>>,
     casts: &mut Vec<Cast>,
 ) -> Result<(), AllocError>
-    ensures { OnOk result (casts.new.items ≡ casts.old.items ++ option_casts (return_casts known.entry.moded.now (told known.entry.named.now) scope.now function) (view_option (λ b. view_expr b.value) value.now)) }
+    ensures { OnOk result (casts.new.items ≡ casts.old.items ++ suggested_in known.entry.moded.now (told known.entry.named.now) (option_givings (value_givings scope.now (of_declared function)) (view_option (λ b. view_expr b.value) returned.now))) }
 {
-    match value {
+    match returned {
         None => Ok(()),
         Some(expr) => {
-            expression(alloc, known, scope, expr, casts)?;
             let want = declared_row(known.moded.typed(), Reading::Written, function);
-            repair(alloc, known, scope, Some(want), expr, casts)
+            value(alloc, known, scope, Some(want), expr, casts)
         }
     }
 }
 
 /// A statement of that function; what it declares is in scope afterwards.
 #[cycle(statement)]
-#[tactic(auto, using(crate::proofs::ScopeLemmas::longer_first, crate::proofs::ScopeLemmas::left_first, crate::proofs::ScopeLemmas::longer_all, crate::proofs::ScopeLemmas::left_all))]
+#[tactic(auto, using(crate::proofs::ScopeLemmas::longer_first, crate::proofs::ScopeLemmas::left_first, crate::proofs::ScopeLemmas::longer_all, crate::proofs::ScopeLemmas::left_all, crate::proofs::CallLemmas::suggested_both))]
 fn statement<'a>(
     alloc: Global,
     known: Known<'_>,
@@ -199,7 +197,7 @@ fn statement<'a>(
     casts: &mut Vec<Cast>,
 ) -> Result<(), AllocError>
     ensures scope { OnOk result (scope.new ≡ after scope.old (view_stmt stmt.now)) }
-    ensures casts { OnOk result (casts.new.items ≡ casts.old.items ++ casts_in known.entry.moded.now (told known.entry.named.now) scope.old function (view_stmt stmt.now)) }
+    ensures casts { OnOk result (casts.new.items ≡ casts.old.items ++ suggested_in known.entry.moded.now (told known.entry.named.now) (givings_in scope.old function (view_stmt stmt.now))) }
 {
     match stmt {
         Stmt::Empty(_) => Ok(()),
@@ -252,7 +250,7 @@ fn nested<'a>(
     casts: &mut Vec<Cast>,
 ) -> Result<(), AllocError>
     ensures scope { OnOk result (scope.new ≡ scope.old) }
-    ensures casts { OnOk result (casts.new.items ≡ casts.old.items ++ casts_in known.entry.moded.now (told known.entry.named.now) scope.old function (view_stmt stmt.now)) }
+    ensures casts { OnOk result (casts.new.items ≡ casts.old.items ++ suggested_in known.entry.moded.now (told known.entry.named.now) (givings_in scope.old function (view_stmt stmt.now))) }
 {
     let mark = scope.len();
     statement(alloc, known, scope, function, stmt, casts)?;
@@ -261,6 +259,7 @@ fn nested<'a>(
 
 /// Statements that follow one another.
 #[cycle(statement)]
+#[tactic(auto, using(crate::proofs::CallLemmas::suggested_both))]
 fn statements<'a>(
     alloc: Global,
     known: Known<'_>,
@@ -270,7 +269,7 @@ fn statements<'a>(
     casts: &mut Vec<Cast>,
 ) -> Result<(), AllocError>
     ensures scope { OnOk result (scope.new ≡ after_all scope.old (view_statements all.now)) }
-    ensures casts { OnOk result (casts.new.items ≡ casts.old.items ++ casts_in_all known.entry.moded.now (told known.entry.named.now) scope.old function (view_statements all.now)) }
+    ensures casts { OnOk result (casts.new.items ≡ casts.old.items ++ suggested_in known.entry.moded.now (told known.entry.named.now) (givings_in_all scope.old function (view_statements all.now))) }
 {
     for stmt in all {
         statement(alloc, known, scope, function, stmt, casts)?;
@@ -294,7 +293,7 @@ fn item(
     item: &Item,
     casts: &mut Vec<Cast>,
 ) -> Result<(), AllocError>
-    ensures { OnOk result (casts.new.items ≡ casts.old.items ++ item_casts known.entry.moded.now (told known.entry.named.now) (view_item item.now)) }
+    ensures { OnOk result (casts.new.items ≡ casts.old.items ++ suggested_in known.entry.moded.now (told known.entry.named.now) (item_givings (view_item item.now))) }
 {
     match item {
         Item::Struct(_) => Ok(()),
@@ -310,13 +309,14 @@ fn item(
 }
 
 /// Adds the casts that are suggested in items.
+#[tactic(auto, using(crate::proofs::CallLemmas::suggested_both))]
 pub(crate) fn items(
     alloc: Global,
     known: Known<'_>,
     items: &[Item],
     casts: &mut Vec<Cast>,
 ) -> Result<(), AllocError>
-    ensures { OnOk result (casts.new.items ≡ casts.old.items ++ items_casts known.entry.moded.now (told known.entry.named.now) (view_items items.now)) }
+    ensures { OnOk result (casts.new.items ≡ casts.old.items ++ suggested_in known.entry.moded.now (told known.entry.named.now) (items_givings (view_items items.now))) }
 {
     for one in items {
         item(alloc, known, one, casts)?;

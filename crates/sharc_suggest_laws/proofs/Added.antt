@@ -11,7 +11,7 @@ use Rattle.sharc_ctype.specs.Entities.{entities_in}
 use Rattle.sharc_mode.specs.declared.error.Cast.{Cast}
 use Rattle.sharc_mode.specs.declared.error.ModeError.{ModeError}
 use Rattle.sharc_mode.specs.Moded.{Assignment}
-use Rattle.sharc_suggest.specs.Applied.{recast_of, program_with}
+use Rattle.sharc_rewrite.specs.Applied.{recast_of, program_with}
 use Rattle.sharc_suggest.specs.Casts.{IsSuggested}
 use Rattle.sharc_suggest_laws.specs.Once.{IsAddedOnce, SuggestedIsAddedOnce}
 use Rattle.sharc_suggest_laws.proofs.Few.{Test, AtMostOnce, begins_once}

@@ -14,9 +14,8 @@ use Rattle.sharc_mode.specs.Moded.{Assignment}
 use Rattle.sharc_mode.specs.Notes.{agree_notes, call_notes, cast_notes, field_notes, source_notes, type_notes, write_notes}
 use Rattle.sharc_mode.specs.Rows.{written, base_use, cast_row, modes_at, modes_of, named_row}
 use Rattle.sharc_mode.specs.WellModed.{spawned_notes, touched_notes, notes_about}
-use Rattle.sharc_suggest.specs.Casts.{behind_first, after, with_parameters}
+use Rattle.sharc_suggest.specs.Givings.{behind_first, after, with_parameters, Receiver, of_declared, of_left, of_parameter, Giving, beyond, wanted, one_giving, givings, all_givings, option_givings, value_givings, right_givings, simple_givings, local_givings, first_givings, head_givings, givings_in, givings_in_all, item_givings, items_givings}
 use Rattle.sharc_suggest.specs.Repairs.{entry_of}
-use Rattle.sharc_suggest_laws.specs.Givings.{Receiver, of_declared, of_left, of_parameter, Giving, beyond, wanted, one_giving, givings, all_givings, option_givings, value_givings, right_givings, simple_givings, local_givings, first_givings, head_givings, givings_in, givings_in_all, item_givings, items_givings}
 use Rattle.sharc_suggest_laws.proofs.Quiet.{ones, ones_append, both_quiet, write_quiet, source_quiet, place_quiet, cast_quiet, call_quiet, field_quiet, types_quiet, spawned_quiet, touched_quiet}
 
 -- how many mismatches at a token are reported of a giving, and of these givings

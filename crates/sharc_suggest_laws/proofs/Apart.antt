@@ -6,7 +6,7 @@ use Rattle.sharc_tree.specs.declared.tree.declaration.Declaration.{Declaration}
 use Rattle.sharc_tree.specs.Placed.{Follow, declaration_spans, PlacedDeclarations, PlacedItem}
 use Rattle.sharc_tree.specs.Spans.{span_of}
 use Rattle.sharc_tree.specs.Tree.{Function, function}
-use Rattle.sharc_suggest_laws.specs.Givings.{Giving}
+use Rattle.sharc_suggest.specs.Givings.{Giving}
 use Rattle.sharc_suggest_laws.specs.Values.{count_of, met_by, met_in_statements, begins_at}
 use Rattle.sharc_suggest_laws.proofs.Counted.{counted}
 use Rattle.sharc_suggest_laws.proofs.Few.{Test, AtMostOnce, few_statements}

@@ -15,9 +15,8 @@ use Rattle.sharc_ctype.specs.Entities.{declared, casts, first_entities, head_ent
 use Rattle.sharc_ctype.specs.Resolved.{globals_in, functions_in, declarations_of, declarations_in}
 use Rattle.sharc_ctype.specs.Statements.{first_locals, locals_in, locals_in_all}
 use Rattle.sharc_ctype_laws.specs.WrittenTypes.{types_in, types_in_arguments, types_in_option, types_in_right, types_in_simple, types_in_first, types_in_head, types_in_statement, types_in_statements, types_in_declarations, types_in_item, types_in_items}
-use Rattle.sharc_suggest.specs.Casts.{behind_first, after, with_parameters}
+use Rattle.sharc_suggest.specs.Givings.{behind_first, after, with_parameters, Receiver, of_declared, of_left, of_parameter, Giving, one_giving, givings, all_givings, option_givings, value_givings, right_givings, simple_givings, local_givings, first_givings, head_givings, givings_in, givings_in_all, item_givings, items_givings}
 use Rattle.sharc_suggest.specs.Repairs.{entry_of}
-use Rattle.sharc_suggest_laws.specs.Givings.{Receiver, of_declared, of_left, of_parameter, Giving, one_giving, givings, all_givings, option_givings, value_givings, right_givings, simple_givings, local_givings, first_givings, head_givings, givings_in, givings_in_all, item_givings, items_givings}
 use Rattle.sharc_suggest_laws.proofs.Grown.{casts_append}
 use Rattle.sharc_suggest_laws.proofs.Listed.{front, back, joint}
 

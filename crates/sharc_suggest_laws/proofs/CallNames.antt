@@ -17,9 +17,8 @@ use Rattle.sharc_mode.specs.Notes.{agree_notes, call_notes, names_at_call, first
 use Rattle.sharc_mode.specs.Rows.{written, base_use, cast_row, declared_row, modes_at, modes_of, named_row}
 use Rattle.sharc_mode.specs.Sharings.{Sharing}
 use Rattle.sharc_check.specs.Named.{said_of_paths}
-use Rattle.sharc_suggest.specs.Casts.{behind_first, after, with_parameters}
+use Rattle.sharc_suggest.specs.Givings.{behind_first, after, with_parameters, Receiver, of_declared, of_left, of_parameter, Giving, beyond, wanted, one_giving, givings, all_givings, option_givings, value_givings, right_givings, simple_givings, local_givings, first_givings, head_givings, givings_in, givings_in_all, item_givings, items_givings}
 use Rattle.sharc_suggest.specs.Repairs.{entry_of}
-use Rattle.sharc_suggest_laws.specs.Givings.{Receiver, of_declared, of_left, of_parameter, Giving, beyond, wanted, one_giving, givings, all_givings, option_givings, value_givings, right_givings, simple_givings, local_givings, first_givings, head_givings, givings_in, givings_in_all, item_givings, items_givings}
 use Rattle.sharc_suggest_laws.proofs.Listed.{joint}
 
 -- what these say is said among those

@@ -13,7 +13,7 @@ use Rattle.sharc_mode.specs.Moded.{Assignment}
 use Rattle.sharc_mode.specs.Notes.{agree, base_of}
 use Rattle.sharc_mode.specs.Rows.{Targets, written, read, entity_row, cast_row, modes_of}
 use Rattle.sharc_mode.specs.Sharings.{Sharing, private, readonly, locked, racy, dynamic, lock_of, path_with, sharing_of, mode_of, same, same_named, same_text, same_first, same_second, same_all, text_at}
-use Rattle.sharc_suggest.specs.Applied.{written_or, targets, inserted, first_of, first_new, resolution_with, assignment_with}
+use Rattle.sharc_rewrite.specs.Applied.{written_or, targets, inserted, first_of, first_new, resolution_with, assignment_with}
 use Rattle.sharc_suggest.specs.Repairs.{cast_to}
 use Rattle.sharc_suggest_laws.specs.Expected.{IsCastAt, HasExpected, Agrees, CastHasExpected}
 use Rattle.sharc_suggest_laws.proofs.Inserted.{stretch_added}

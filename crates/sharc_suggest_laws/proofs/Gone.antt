@@ -18,10 +18,11 @@ use Rattle.sharc_mode.specs.Moded.{Assignment, IsWhole}
 use Rattle.sharc_mode.specs.Notes.{agree_notes}
 use Rattle.sharc_mode.specs.Sharings.{Sharing}
 use Rattle.sharc_mode.specs.WellModed.{notes_about}
-use Rattle.sharc_suggest.specs.Applied.{recast_of, assignment_with}
+use Rattle.sharc_rewrite.specs.Applied.{recast_of, assignment_with}
 use Rattle.sharc_suggest.specs.Repairs.{cast_to}
 use Rattle.sharc_suggest_laws.specs.Expected.{IsCastAt}
-use Rattle.sharc_suggest_laws.specs.Givings.{Giving, giving_with, receiver_with, items_givings, wanted}
+use Rattle.sharc_suggest.specs.Givings.{Giving, items_givings, wanted}
+use Rattle.sharc_suggest_laws.specs.Givings.{giving_with, receiver_with}
 use Rattle.sharc_suggest_laws.specs.Gone.{IsGone, IsExpectedAgain, GoneWhereExpected}
 use Rattle.sharc_suggest_laws.specs.Mismatches.{is_mismatch_at}
 use Rattle.sharc_suggest_laws.specs.Values.{count_of, met_by, met_in_items, begins_at}

@@ -24,9 +24,9 @@ use Rattle.sharc_ctype.specs.Items.{in_body, item_notes, items_notes, function_n
 use Rattle.sharc_ctype.specs.Resolved.{Resolution, kind_at, functions_in}
 use Rattle.sharc_ctype.specs.Statements.{Around, opened, looping, with_names, test_notes, right_notes, simple_notes, first_notes, behind_first, tests_notes, step_notes, in_head, head_notes, after, notes_in, notes_in_all, locals_in_all}
 use Rattle.sharc_ctype_laws.specs.Places.{Placing, at, places_in_first, places_in, places_in_all, places_of, places_of_all}
-use Rattle.sharc_suggest.specs.Casts as casts
+use Rattle.sharc_suggest.specs.Givings as scopes
 use Rattle.sharc_suggest.specs.Repairs.{entry_of}
-use Rattle.sharc_suggest_laws.specs.Givings.{Receiver, of_declared, of_left, of_parameter, Giving, one_giving, givings, all_givings, option_givings, value_givings, right_givings, simple_givings, local_givings, first_givings, head_givings, givings_in, givings_in_all, item_givings, items_givings}
+use Rattle.sharc_suggest.specs.Givings.{Receiver, of_declared, of_left, of_parameter, Giving, one_giving, givings, all_givings, option_givings, value_givings, right_givings, simple_givings, local_givings, first_givings, head_givings, givings_in, givings_in_all, item_givings, items_givings}
 use Rattle.sharc_suggest_laws.specs.Values.{met_in_statements, begins_at}
 use Rattle.sharc_suggest_laws.proofs.Apart.{body_bounds, all_begin, parts_of}
 use Rattle.sharc_suggest_laws.proofs.Counted.{counted, in_statements as statements_counted}
@@ -225,7 +225,7 @@ mutual
       let outer : Around = opened around σ.names in
       let inner : Scope = in_head outer σ h in
       let body : Around = looping (opened outer (behind_first outer σ.names h.first)) in
-      let below : List Entry = casts.behind_first scope h.first in
+      let below : List Entry = scopes.behind_first scope h.first in
       let begins = places_in_first outer σ h.first in
       let later = in_option expressions h.test ++ in_option in_simple h.step in
       let head_typed = front (λ (p : Placing). IsTypedIn r p.scope p.expression) (begins ++ at inner later) (places_in body inner a) typed in
@@ -248,10 +248,10 @@ mutual
   in_statements r now f around σ scope no_statements placed typed strong = tt
   in_statements r now f around σ scope (statement a rest) placed typed strong =
       let inner : Scope = with_names σ (after around σ.names a) in
-      joint (IsReceived r now f) (givings_in scope f a) (givings_in_all (casts.after scope a) f rest)
+      joint (IsReceived r now f) (givings_in scope f a) (givings_in_all (scopes.after scope a) f rest)
       (in_statement r now f around σ scope a placed.0 (front (λ (p : Placing). IsTypedIn r p.scope p.expression) (places_in around σ a) (places_in_all around inner rest) typed)
       (front (IsStrong r now) (notes_in around σ a) (notes_in_all around inner rest) strong))
-      (in_statements r now f around inner (casts.after scope a) rest placed.1 (back (λ (p : Placing). IsTypedIn r p.scope p.expression) (places_in around σ a) (places_in_all around inner rest) typed)
+      (in_statements r now f around inner (scopes.after scope a) rest placed.1 (back (λ (p : Placing). IsTypedIn r p.scope p.expression) (places_in around σ a) (places_in_all around inner rest) typed)
       (back (IsStrong r now) (notes_in around σ a) (notes_in_all around inner rest) strong))
 
 -- ---- so in each function, where all that is given begins after the name of the function
@@ -277,7 +277,7 @@ behind_all r now f low (g ∷ rest) below begins h = (behind_by r now f low g.re
 in_function : (r now : Resolution) (file : Scope) (f : Function) → PlacedItem r.program.tokens.list (function f) → AreTyped r (places_of file f) → AreStrong r now (function_notes file f) → AllByRecursion (IsBehind r now) (item_givings (function f))
 in_function r now file f placed typed strong =
     let around : Around = record { result = declared_kind f.result; in_loop = false; block = length file.names } in
-    let scope : List Entry = casts.with_parameters [] f.parameters in
+    let scope : List Entry = scopes.with_parameters [] f.parameters in
     let token : ℕ = f.name.site.token in
     let gs : List Giving = givings_in_all scope token f.statements in
     let heads : List Note = type_notes file [] role.Result f.result ++ parameters_notes (length file.names) 0 file f.parameters in

@@ -40,7 +40,6 @@ pub mod Spines
 pub mod Stands
 pub mod Stay
 pub mod Strong
-pub mod Suggested
 pub mod Types
 pub mod Wants
 pub mod Words

@@ -17,7 +17,7 @@ use Rattle.sharc_mode.specs.Sharings.{Sharing, same_all, text_at}
 use Rattle.sharc_mode.specs.WellModed.{notes_about}
 use Rattle.sharc_suggest_laws.specs.Mismatches.{is_mismatch_at, OneMismatch}
 use Rattle.sharc_suggest_laws.specs.Values.{count_of, met_by, met_in_items, begins_at}
-use Rattle.sharc_suggest_laws.specs.Givings.{Giving, items_givings, wanted}
+use Rattle.sharc_suggest.specs.Givings.{Giving, items_givings, wanted}
 use Rattle.sharc_suggest_laws.proofs.Agreed.{told_of, told_in, in_program}
 use Rattle.sharc_suggest_laws.proofs.Counted.{counted, in_items as items_counted}
 use Rattle.sharc_suggest_laws.proofs.Few.{values_begin_apart}

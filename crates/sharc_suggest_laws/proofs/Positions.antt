@@ -15,7 +15,7 @@ use Rattle.sharc_mode.specs.declared.error.Cast.{Cast}
 use Rattle.sharc_mode.specs.declared.position.Reason.{Reason}
 use Rattle.sharc_mode.specs.Moded.{Assignment}
 use Rattle.sharc_mode.specs.Sharings.{sharing_of}
-use Rattle.sharc_suggest.specs.Applied.{recast_of, program_with, resolution_with, targets, inserted, moved, first_of, first_new}
+use Rattle.sharc_rewrite.specs.Applied.{recast_of, program_with, resolution_with, targets, inserted, moved, first_of, first_new}
 use Rattle.sharc_suggest_laws.specs.Kept.{renumbered, PositionsStay}
 use Rattle.sharc_suggest_laws.proofs.Grown.{IsCastOf, Grown, grown_items}
 use Rattle.sharc_suggest_laws.proofs.Inserted.{among, renumbered_kept}

@@ -33,7 +33,7 @@ use Rattle.sharc_ctype.specs.Resolved.{Resolution, named_at, globals_in, functio
 use Rattle.sharc_mode.specs.Notes.{base_of}
 use Rattle.sharc_mode.specs.Sharings.{is_field}
 use Rattle.sharc_ctype_laws.specs.WrittenTypes.{NamesStruct, IsNamedBase, IsNamedType}
-use Rattle.sharc_suggest.specs.Applied.{names_struct, base_site}
+use Rattle.sharc_rewrite.specs.Applied.{names_struct, base_site}
 use Rattle.sharc_suggest_laws.specs.Names.{is_dull}
 use Rattle.sharc_suggest_laws.proofs.Bases.{Have, HaveCasts, HoldInAll, in_all, AreDeclared, first_casts}
 use Rattle.sharc_suggest_laws.proofs.Mild.{NamesBase}

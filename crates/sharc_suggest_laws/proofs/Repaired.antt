@@ -27,10 +27,11 @@ use Rattle.sharc_mode.specs.Rows.{at_call, row_at}
 use Rattle.sharc_mode.specs.Sharings.{is_readonly}
 use Rattle.sharc_check.specs.Named.{said_of_paths}
 use Rattle.sharc_ctype_laws.specs.Laws.{EachNameOnce, OnlyNames, NamesInTypes, SameKinds}
-use Rattle.sharc_suggest.specs.Applied.{recast_of, assignment_with}
+use Rattle.sharc_rewrite.specs.Applied.{recast_of, assignment_with}
 use Rattle.sharc_suggest.specs.Casts.{IsSuggested}
 use Rattle.sharc_suggest.specs.Repairs.{differ_first, may_be_cast, is_free, keeps_all}
-use Rattle.sharc_suggest_laws.specs.Givings.{Receiver, of_declared, of_left, of_parameter, Giving, items_givings, beyond, wanted, wanted_of, receiver_with}
+use Rattle.sharc_suggest.specs.Givings.{Receiver, of_declared, of_left, of_parameter, Giving, items_givings, beyond, wanted, wanted_of}
+use Rattle.sharc_suggest_laws.specs.Givings.{receiver_with}
 use Rattle.sharc_suggest_laws.specs.Repaired.{Repairs}
 use Rattle.sharc_suggest_laws.specs.Values.{count_of, met_by, met_in_items, begins_at}
 use Rattle.sharc_suggest_laws.proofs.Added.{suggested_is_added_once, at_tokens}

@@ -24,9 +24,9 @@ use Rattle.sharc_ctype.specs.Heads.{Heading, within, head_notes, heads_notes, be
 use Rattle.sharc_ctype.specs.Items.{field_notes, fields_notes, parameters_notes, with_parameters, beyond, function_notes, item_notes, items_notes, has_main, main_missing, file_scope, program_notes, notes_about}
 use Rattle.sharc_ctype.specs.Resolved.{Resolution}
 use Rattle.sharc_ctype.specs.Statements.{with_names, declared, declared_notes, locals_in_all}
-use Rattle.sharc_suggest.specs.Casts as casts
+use Rattle.sharc_suggest.specs.Givings as scopes
 use Rattle.sharc_suggest.specs.Repairs.{entry_of}
-use Rattle.sharc_suggest_laws.specs.Givings.{item_givings, items_givings}
+use Rattle.sharc_suggest.specs.Givings.{item_givings, items_givings}
 use Rattle.sharc_suggest_laws.proofs.Listed.{front, back, joint}
 use Rattle.sharc_suggest_laws.proofs.Noted.{Clean, left, right, Noted, done, both, same, AreFaults, IsTame, quiet, unless_faults, where_faults, faults_tame, append_tame, type_tame}
 use Rattle.sharc_suggest_laws.proofs.Restated.{in_statements, declared_tame}
@@ -132,7 +132,7 @@ heads_same c h (i ∷ rest) =
 -- ---- functions and items
 
 parameters_scoped : (file : List Entry) (s : Scope) (scope : List Entry) → Scoped file s.names scope → (block before : ℕ) (ds : List Declaration) → Clean (parameters_notes block before s ds)
-    → Scoped file (with_parameters block s.names ds) (casts.with_parameters scope ds)
+    → Scoped file (with_parameters block s.names ds) (scopes.with_parameters scope ds)
 parameters_scoped file s scope scoped block before [] clean = scoped
 parameters_scoped file s scope scoped block before (d ∷ rest) clean =
     parameters_scoped file (with_names s (declared block d s.names)) (entry_of d ∷ scope) (scoped_with file s.names scope d block scoped (right _ _ (left _ _ (left _ _ clean)))) block (before + 1) rest (right _ _ clean)
@@ -142,12 +142,12 @@ in_function : (w : Setting) (f : Function) → AreMild w (item_givings (function
 in_function w f mild clean =
     let names : List Entry = with_parameters (length w.file.names) w.file.names f.parameters in
     let heads : List Note = type_notes w.file [] role.Result f.result ++ parameters_notes (length w.file.names) 0 w.file f.parameters in
-    let scoped : Scoped w.file.names names (casts.with_parameters [] f.parameters) =
+    let scoped : Scoped w.file.names names (scopes.with_parameters [] f.parameters) =
     parameters_scoped w.file.names w.file [] (scoped_file w.file.names) (length w.file.names) 0 f.parameters (right _ _ (left _ _ (left _ _ clean))) in
     both w.resolution _ _ _ _
     (both w.resolution heads heads _ _
     (same w.resolution heads (append_tame (type_notes w.file [] role.Result f.result) _ (type_tame w.file [] role.Result f.result) (parameters_tame (length w.file.names) 0 w.file f.parameters)))
-    (in_statements w names (casts.with_parameters [] f.parameters) scoped (record { result = declared_kind f.result; in_loop = false; block = length w.file.names }) f.name.site.token f.statements mild (right _ _ (left _ _ clean))))
+    (in_statements w names (scopes.with_parameters [] f.parameters) scoped (record { result = declared_kind f.result; in_loop = false; block = length w.file.names }) f.name.site.token f.statements mild (right _ _ (left _ _ clean))))
     (quiet w.resolution _ _ (beyond_faults 200 (locals_in_all f.statements)) (beyond_faults 200 (locals_in_all (statements_with_cast w.recast f.statements))))
 
 in_item : (w : Setting) (i : Item) → AreMild w (item_givings i) → Clean (item_notes w.file (item_with_cast w.recast i)) → Noted w.resolution (item_notes w.file i) (item_notes w.file (item_with_cast w.recast i))

@@ -17,9 +17,9 @@ use Rattle.sharc_rewrite.specs.Recast.{around, with_cast, right_with_cast, simpl
 use Rattle.sharc_ctype.specs.declared.expr.Standing.TheVariants.{AsValue, AsLvalue}
 use Rattle.sharc_ctype.specs.Expressions.{type_of, notes_of, place_kind}
 use Rattle.sharc_ctype.specs.Statements.{Around, opened, looping, with_names, is_here, declared, declared_notes, test_notes, count_notes, right_notes, simple_notes, is_aggregate, initial_notes, local_notes, returned_as, return_notes, first_notes, behind_first, tests_notes, step_notes, head_notes, after, notes_in, notes_in_all}
-use Rattle.sharc_suggest.specs.Casts as casts
+use Rattle.sharc_suggest.specs.Givings as scopes
 use Rattle.sharc_suggest.specs.Repairs.{entry_of}
-use Rattle.sharc_suggest_laws.specs.Givings.{Receiver, of_declared, of_left, givings, option_givings, value_givings, right_givings, simple_givings, local_givings, first_givings, head_givings, givings_in, givings_in_all}
+use Rattle.sharc_suggest.specs.Givings.{Receiver, of_declared, of_left, givings, option_givings, value_givings, right_givings, simple_givings, local_givings, first_givings, head_givings, givings_in, givings_in_all}
 use Rattle.sharc_suggest_laws.proofs.Listed.{front, back}
 use Rattle.sharc_suggest_laws.proofs.Noted.{Clean, left, right, Noted, done, both, same, IsTame, quiet, unless_faults, where_faults, unmet_faults, unagreed_faults, place_faults, append_tame, faults_tame, type_tame}
 use Rattle.sharc_suggest_laws.proofs.Retyped.{Setting, IsMild, AreMild, inside, value_in, with_faults}
@@ -117,7 +117,7 @@ first_names c surroundings names (declares l) = refl
 first_names c surroundings names (does x) = refl
 
 pub first_scoped : (w : Setting) (names scope : List Entry) → Scoped w.file.names names scope → (surroundings : Around) (f : First) → Clean (first_notes surroundings (with_names w.file names) (first_with_cast w.recast f))
-    → Scoped w.file.names (behind_first surroundings names f) (casts.behind_first scope f)
+    → Scoped w.file.names (behind_first surroundings names f) (scopes.behind_first scope f)
 first_scoped w names scope scoped surroundings nothing clean = scoped
 first_scoped w names scope scoped surroundings (declares l) clean = scoped_with w.file.names names scope l.declaration surroundings.block scoped (right _ _ (left _ _ clean))
 first_scoped w names scope scoped surroundings (does x) clean = scoped
@@ -126,7 +126,7 @@ in_for_head : (w : Setting) (names scope : List Entry) → Scoped w.file.names n
     → Noted w.resolution (head_notes surroundings (with_names w.file names) h) (head_notes surroundings (with_names w.file names) (head_with_cast w.recast h))
 in_for_head w names scope scoped surroundings h mild clean =
     let inner : List Entry = behind_first surroundings names h.first in
-    let below : List Entry = casts.behind_first scope h.first in
+    let below : List Entry = scopes.behind_first scope h.first in
     let same_names : behind_first surroundings names (first_with_cast w.recast h.first) ≡ inner = first_names w.recast surroundings names h.first in
     let fronts = front (IsMild w) (first_givings scope h.first ++ option_givings (givings below) h.test) (option_givings (simple_givings below) h.step) mild in
     let first_clean : Clean (first_notes surroundings (with_names w.file names) (first_with_cast w.recast h.first)) = left _ _ (left _ _ clean) in
@@ -167,7 +167,7 @@ after_names c surroundings names (tree.while s e a) = refl
 after_names c surroundings names (tree.for s h a) = refl
 
 pub after_scoped : (w : Setting) (names scope : List Entry) → Scoped w.file.names names scope → (surroundings : Around) (s : Statement) → Clean (notes_in surroundings (with_names w.file names) (statement_with_cast w.recast s))
-    → Scoped w.file.names (after surroundings names s) (casts.after scope s)
+    → Scoped w.file.names (after surroundings names s) (scopes.after scope s)
 after_scoped w names scope scoped surroundings (tree.empty s) clean = scoped
 after_scoped w names scope scoped surroundings (tree.block s all) clean = scoped
 after_scoped w names scope scoped surroundings (tree.declare s l) clean = scoped_with w.file.names names scope l.declaration surroundings.block scoped (right _ _ (left _ _ clean))
@@ -203,7 +203,7 @@ mutual
   in_statement w names scope scoped surroundings f (tree.for s h a) mild clean =
       let outer : Around = opened surroundings names in
       let inner : List Entry = behind_first outer names h.first in
-      let below : List Entry = casts.behind_first scope h.first in
+      let below : List Entry = scopes.behind_first scope h.first in
       let same_names : behind_first outer names (first_with_cast w.recast h.first) ≡ inner = first_names w.recast outer names h.first in
       let head_clean : Clean (head_notes outer (with_names w.file names) (head_with_cast w.recast h)) = left _ _ clean in
       both w.resolution _ _ _ _ (in_for_head w names scope scoped outer h (front (IsMild w) (head_givings scope h) (givings_in below f a) mild) head_clean)
@@ -217,7 +217,7 @@ mutual
   in_statements w names scope scoped surroundings f no_statements mild clean = done
   in_statements w names scope scoped surroundings f (statement a rest) mild clean =
       let inner : List Entry = after surroundings names a in
-      let below : List Entry = casts.after scope a in
+      let below : List Entry = scopes.after scope a in
       let same_names : after surroundings names (statement_with_cast w.recast a) ≡ inner = after_names w.recast surroundings names a in
       let first_clean : Clean (notes_in surroundings (with_names w.file names) (statement_with_cast w.recast a)) = left _ _ clean in
       both w.resolution _ _ _ _ (in_statement w names scope scoped surroundings f a (front (IsMild w) (givings_in scope f a) (givings_in_all below f rest) mild) first_clean)

@@ -29,7 +29,7 @@ use Rattle.sharc_ctype.specs.declared.expr.Standing.TheVariants.{AsValue, AsLval
 use Rattle.sharc_ctype.specs.Expressions.{element_of, access_need, operand_need, unary_kind, class_of, operands_need, binary_kind, names_function, is_place, place_kind, place_notes, value_call_kind, place_call_kind, cast_kind, cast_notes, count, callee_notes, wanted, call_result, call_kind, spawn_notes, may_spawn, spawn_wanted, spawn_kind, can_spawn, type_of, are_fine, notes_at, notes_of_all}
 use Rattle.sharc_ctype.specs.Resolved.{Resolution}
 use Rattle.sharc_ctype.specs.Statements.{with_names}
-use Rattle.sharc_suggest_laws.specs.Givings.{Receiver, of_parameter, Giving, one_giving, givings, all_givings, value_givings}
+use Rattle.sharc_suggest.specs.Givings.{Receiver, of_parameter, Giving, one_giving, givings, all_givings, value_givings}
 use Rattle.sharc_suggest_laws.proofs.Grown.{span_same}
 use Rattle.sharc_suggest_laws.proofs.Listed.{front, back}
 use Rattle.sharc_suggest_laws.proofs.Noted.{Clean, left, right, no_fault, well, Noted, done, kept, old_fault, new_fault, both, same, AreFaults, more_faults, IsTame, quiet, unless_faults, unmet_faults, unagreed_faults, place_faults, place_call_faults, cast_faults, count_faults, main_faults, binary_faults, append_tame, faults_tame, name_tame, field_tame, type_tame}

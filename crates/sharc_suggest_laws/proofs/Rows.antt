@@ -11,7 +11,7 @@ use Rattle.sharc_ctype.specs.Entities.{positions_of}
 use Rattle.sharc_mode.specs.Moded.{Assignment}
 use Rattle.sharc_mode.specs.Rows.{Targets, written, read, targets_from, entity_row, modes_of}
 use Rattle.sharc_mode.specs.Sharings.{Sharing, private, readonly, locked, racy, dynamic, sharing_of}
-use Rattle.sharc_suggest.specs.Applied.{inserted}
+use Rattle.sharc_rewrite.specs.Applied.{inserted}
 use Rattle.sharc_suggest_laws.proofs.Found.{IsMoved, AreMoved}
 use Rattle.sharc_suggest_laws.proofs.Inserted.{stretch_before, stretch_behind}
 

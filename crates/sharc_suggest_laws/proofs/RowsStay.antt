@@ -31,7 +31,7 @@ use Rattle.sharc_mode.specs.declared.error.Cast.{Cast}
 use Rattle.sharc_mode.specs.Moded.{Assignment}
 use Rattle.sharc_mode.specs.Rows.{Reading, written, Targets, is_constant_named, constant_use, base_use, no_row, deeper, targets_from, entity_row, declared_row, global_row, named_row, result_row, called_row, behind, constant_row, reading_through, unary_row}
 use Rattle.sharc_mode.specs.Sharings.{is_field}
-use Rattle.sharc_suggest.specs.Applied.{recast_of, targets, resolution_with}
+use Rattle.sharc_rewrite.specs.Applied.{recast_of, targets, resolution_with}
 use Rattle.sharc_suggest.specs.Repairs.{is_call_at}
 use Rattle.sharc_suggest_laws.specs.Names.{is_dull, KeepsName}
 use Rattle.sharc_suggest_laws.specs.Values.{met_in_items, begins_at}

@@ -6,10 +6,9 @@ use Rattle.sharc_mode.specs.Errors.{is_mismatch}
 use Rattle.sharc_mode.specs.Moded.{Assignment}
 use Rattle.sharc_mode.specs.Rows.{modes_at}
 use Rattle.sharc_mode.specs.Sharings.{Sharing}
-use Rattle.sharc_suggest.specs.Casts.{items_casts, cast_at, IsSuggested}
+use Rattle.sharc_suggest.specs.Casts.{suggested_for, suggested_in, cast_at, IsSuggested}
 use Rattle.sharc_suggest.specs.Repairs.{repair_with, is_repairable, cast_to}
-use Rattle.sharc_suggest_laws.specs.Givings.{Giving, items_givings, wanted}
-use Rattle.sharc_suggest_laws.proofs.Suggested.{suggested_for, suggested_in, in_items}
+use Rattle.sharc_suggest.specs.Givings.{Giving, items_givings, wanted}
 
 -- it is one of these
 abbrev pub IsAmong : Cast → List Cast → Type 0
@@ -108,6 +107,5 @@ pub record HasSite (m : Assignment) (e : ModeError) (c : Cast) (says : IsSuggest
 pub has_site : (m : Assignment) (e : ModeError) (c : Cast) (says : IsSuggested m e (Some c)) → HasSite m e c says
 has_site m e c says =
     let first : IsFirstAt c says.casts e.site.token = for_by c says.casts (is_mismatch e.code) e.site.token (sym says.says) in
-    let there : IsAmong c (items_casts m says.are.named m.typed.program.items) = subst (IsAmong c) says.are.are first.among in
-    let among : IsAmong c (suggested_in m says.are.named (items_givings m.typed.program.items)) = subst (IsAmong c) (in_items m says.are.named m.typed.program.items) there in
+    let among : IsAmong c (suggested_in m says.are.named (items_givings m.typed.program.items)) = subst (IsAmong c) says.are.are first.among in
     record { for = for_among m says.are.named c (items_givings m.typed.program.items) among; there = first.there }

@@ -28,7 +28,7 @@ use Rattle.sharc_ctype.specs.Resolved.{named_at, named_kind, kind_at}
 use Rattle.sharc_mode.specs.declared.error.Cast.{Cast}
 use Rattle.sharc_mode.specs.Moded.{Assignment}
 use Rattle.sharc_mode.specs.Rows.{written, named_row, behind, reading_through, base_use, row_at}
-use Rattle.sharc_suggest.specs.Applied.{recast_of}
+use Rattle.sharc_rewrite.specs.Applied.{recast_of}
 use Rattle.sharc_suggest_laws.specs.Names.{is_dull}
 use Rattle.sharc_suggest_laws.proofs.Lefts.{IsTypedIn, is_function, typed_itself}
 use Rattle.sharc_suggest_laws.proofs.Listed.{front, back}

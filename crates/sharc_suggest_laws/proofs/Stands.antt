@@ -9,7 +9,7 @@ use Rattle.sharc_ctype.specs.declared.entity.Numbered.{Numbered}
 use Rattle.sharc_ctype.specs.Entities.{cast_entity, entities_in, entity_at, is_told_by, numbered_from, positions_in}
 use Rattle.sharc_mode.specs.declared.error.Cast.{Cast}
 use Rattle.sharc_mode.specs.Moded.{Assignment, IsWhole}
-use Rattle.sharc_suggest.specs.Applied.{recast_of, program_with, resolution_with, first_of, first_new}
+use Rattle.sharc_rewrite.specs.Applied.{recast_of, program_with, resolution_with, first_of, first_new}
 use Rattle.sharc_suggest_laws.specs.Expected.{SuggestedStands}
 use Rattle.sharc_suggest_laws.specs.Once.{IsAddedOnce}
 use Rattle.sharc_suggest_laws.proofs.Added.{suggested_is_added_once}

@@ -20,9 +20,9 @@ use Rattle.sharc_mode.specs.declared.error.Cast.{Cast}
 use Rattle.sharc_mode.specs.Moded.{Assignment}
 use Rattle.sharc_ctype_laws.specs.Laws.{EachNameOnce, OnlyNames, NamesInTypes}
 use Rattle.sharc_ctype_laws.specs.WrittenTypes.{IsNamedType}
-use Rattle.sharc_suggest.specs.Applied.{recast_of, base_site, program_with}
+use Rattle.sharc_rewrite.specs.Applied.{recast_of, base_site, program_with}
 use Rattle.sharc_suggest.specs.Repairs.{differ_first, may_be_cast, keeps_all}
-use Rattle.sharc_suggest_laws.specs.Givings.{Giving, items_givings}
+use Rattle.sharc_suggest.specs.Givings.{Giving, items_givings}
 use Rattle.sharc_suggest_laws.specs.Names.{NamesStay}
 use Rattle.sharc_suggest_laws.specs.Values.{count_of, met_by, met_in_items}
 use Rattle.sharc_suggest_laws.proofs.Added.{at_tokens}

@@ -9,7 +9,7 @@ use Rattle.sharc_ctype.specs.declared.entity.Numbered.{Numbered}
 use Rattle.sharc_ctype.specs.Entities.{entity_at, is_told_by, numbered_from, positions_of}
 use Rattle.sharc_mode.specs.declared.error.Cast.{Cast}
 use Rattle.sharc_mode.specs.Moded.{Assignment}
-use Rattle.sharc_suggest.specs.Applied.{resolution_with, written_or, targets, inserted, assignment_with}
+use Rattle.sharc_rewrite.specs.Applied.{resolution_with, written_or, targets, inserted, assignment_with}
 use Rattle.sharc_suggest_laws.specs.Kept.{TypesStay}
 use Rattle.sharc_suggest_laws.proofs.Added.{suggested_is_added_once}
 use Rattle.sharc_suggest_laws.proofs.Found.{AreMoved, all_moved}

@@ -22,9 +22,9 @@ use Rattle.sharc_mode.specs.Moded.{Assignment}
 use Rattle.sharc_mode.specs.Notes.{is_named, names_of, names_in, names_in_all, names_read, parameter_names, taken_variable}
 use Rattle.sharc_mode.specs.Rows.{Reading, at_call, Targets, is_constant_named, constant_use, argument_use, lock_through, with_base, lock_for, read_lock, read, reading_through, declared_row, modes_of}
 use Rattle.sharc_mode.specs.Sharings.{Lock, Sharing, private, readonly, locked, racy, dynamic, sharing_of, is_field, variable_named, object_named, text_at}
-use Rattle.sharc_suggest.specs.Applied.{recast_of, targets, inserted, assignment_with}
+use Rattle.sharc_rewrite.specs.Applied.{recast_of, targets, inserted, assignment_with}
 use Rattle.sharc_suggest.specs.Repairs.{is_free, is_call_at, keeps_named, keeps, keeps_all}
-use Rattle.sharc_suggest_laws.specs.Givings.{beyond}
+use Rattle.sharc_suggest.specs.Givings.{beyond}
 use Rattle.sharc_suggest_laws.specs.Names.{is_dull, KeepsName}
 use Rattle.sharc_suggest_laws.proofs.Arguments.{nth, args_met, one_nth}
 use Rattle.sharc_suggest_laws.proofs.CallNames.{named_left, named_right}

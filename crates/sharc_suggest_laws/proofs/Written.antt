@@ -7,9 +7,9 @@ use Rattle.sharc_tree.specs.Tree as tree
 use Rattle.sharc_names.specs.Names.{Entry}
 use Rattle.sharc_rewrite.specs.declared.written.Recast.{Recast}
 use Rattle.sharc_rewrite.specs.Recast.{type_at, is_there, around, with_cast, all_with_cast, right_with_cast, simple_with_cast, local_with_cast, first_with_cast, head_with_cast, statement_with_cast, statements_with_cast, item_with_cast}
-use Rattle.sharc_suggest.specs.Casts.{behind_first, after, with_parameters}
+use Rattle.sharc_suggest.specs.Givings.{behind_first, after, with_parameters, Receiver, of_declared, of_left, of_parameter, Giving, one_giving, givings, all_givings, option_givings, value_givings, right_givings, simple_givings, local_givings, first_givings, head_givings, givings_in, givings_in_all, item_givings, items_givings}
 use Rattle.sharc_suggest.specs.Repairs.{entry_of}
-use Rattle.sharc_suggest_laws.specs.Givings.{Receiver, of_declared, of_left, of_parameter, Giving, receiver_with, giving_with, one_giving, givings, all_givings, option_givings, value_givings, right_givings, simple_givings, local_givings, first_givings, head_givings, givings_in, givings_in_all, item_givings, items_givings}
+use Rattle.sharc_suggest_laws.specs.Givings.{receiver_with, giving_with}
 
 abbrev pub givings_with : Recast → List Giving → List Giving
 givings_with c gs = map (giving_with c) gs

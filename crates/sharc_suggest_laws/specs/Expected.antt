@@ -12,7 +12,7 @@ use Rattle.sharc_mode.specs.Moded.{Assignment, IsWhole}
 use Rattle.sharc_mode.specs.Notes.{agree_notes}
 use Rattle.sharc_mode.specs.Rows.{modes_at}
 use Rattle.sharc_mode.specs.Sharings.{Sharing}
-use Rattle.sharc_suggest.specs.Applied.{resolution_with, assignment_with}
+use Rattle.sharc_rewrite.specs.Applied.{resolution_with, assignment_with}
 use Rattle.sharc_suggest.specs.Casts.{IsSuggested}
 use Rattle.sharc_suggest.specs.Repairs.{cast_to}
 

@@ -7,10 +7,11 @@ use Rattle.sharc_mode.specs.declared.error.ModeError.{ModeError}
 use Rattle.sharc_mode.specs.Moded.{Assignment, IsWhole}
 use Rattle.sharc_mode.specs.Sharings.{Sharing}
 use Rattle.sharc_mode.specs.WellModed.{AreModeErrors}
-use Rattle.sharc_suggest.specs.Applied.{recast_of, assignment_with}
+use Rattle.sharc_rewrite.specs.Applied.{recast_of, assignment_with}
 use Rattle.sharc_suggest.specs.Casts.{IsSuggested}
 use Rattle.sharc_suggest.specs.Repairs.{cast_to}
-use Rattle.sharc_suggest_laws.specs.Givings.{Giving, items_givings, wanted, receiver_with}
+use Rattle.sharc_suggest.specs.Givings.{Giving, items_givings, wanted}
+use Rattle.sharc_suggest_laws.specs.Givings.{receiver_with}
 use Rattle.sharc_suggest_laws.specs.Mismatches.{is_mismatch_at}
 
 -- no M1 is at this place

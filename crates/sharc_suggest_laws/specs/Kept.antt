@@ -12,7 +12,7 @@ use Rattle.sharc_mode.specs.declared.error.ModeError.{ModeError}
 use Rattle.sharc_mode.specs.Moded.{Assignment, IsWhole, mode_at, reason_at}
 use Rattle.sharc_mode.specs.Rows.{written, entity_row, modes_of}
 use Rattle.sharc_mode.specs.Sharings.{Sharing, sharing_of}
-use Rattle.sharc_suggest.specs.Applied.{targets, moved, first_new, assignment_with}
+use Rattle.sharc_rewrite.specs.Applied.{targets, moved, first_new, assignment_with}
 use Rattle.sharc_suggest.specs.Casts.{IsSuggested}
 
 -- ---- the structs, the globals, and the fields, parameters and locals are the same; the functions have their bodies with the cast

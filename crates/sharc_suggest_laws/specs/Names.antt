@@ -10,7 +10,7 @@ use Rattle.sharc_mode.specs.declared.error.Cast.{Cast}
 use Rattle.sharc_mode.specs.declared.error.ModeError.{ModeError}
 use Rattle.sharc_mode.specs.Moded.{Assignment}
 use Rattle.sharc_mode.specs.Sharings.{is_field}
-use Rattle.sharc_suggest.specs.Applied.{program_with, resolution_with}
+use Rattle.sharc_rewrite.specs.Applied.{program_with, resolution_with}
 use Rattle.sharc_suggest.specs.Casts.{IsSuggested}
 
 -- no variable, no global and no function

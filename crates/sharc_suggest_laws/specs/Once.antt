@@ -10,7 +10,7 @@ use Rattle.sharc_ctype.specs.Entities.{cast_entity, entities_in}
 use Rattle.sharc_mode.specs.declared.error.Cast.{Cast}
 use Rattle.sharc_mode.specs.declared.error.ModeError.{ModeError}
 use Rattle.sharc_mode.specs.Moded.{Assignment}
-use Rattle.sharc_suggest.specs.Applied.{recast_of, program_with}
+use Rattle.sharc_rewrite.specs.Applied.{recast_of, program_with}
 use Rattle.sharc_suggest.specs.Casts.{IsSuggested}
 
 -- what has a type now is what had one, in its order, and among it the cast at its tokens; all that is listed before it begins before it

@@ -7,7 +7,7 @@ use Rattle.sharc_ctype.specs.Resolved.{IsResolved}
 use Rattle.sharc_mode.specs.declared.error.Cast.{Cast}
 use Rattle.sharc_mode.specs.declared.error.ModeError.{ModeError}
 use Rattle.sharc_mode.specs.Moded.{Assignment, IsWhole}
-use Rattle.sharc_suggest.specs.Applied.{program_with, assignment_with}
+use Rattle.sharc_rewrite.specs.Applied.{program_with, assignment_with}
 use Rattle.sharc_suggest.specs.Casts.{IsSuggested}
 use Rattle.sharc_suggest_laws.specs.Gone.{IsGone}
 

@@ -1,9 +1,9 @@
-// What `apply` of sharc_suggest answers of a cast that is suggested.
+// What `apply` of sharc_rewrite answers of a cast that is suggested.
 
 ghost use Rattle.std.specs.Prelude.{◌≡◌, Some};
 ghost use Rattle.sharc_tree.specs.Low.{IsLow};
 ghost use Rattle.sharc_tree.specs.Placed.{IsPlaced};
-ghost use Rattle.sharc_suggest.specs.Applied.{assignment_with};
+ghost use Rattle.sharc_rewrite.specs.Applied.{assignment_with};
 ghost use Rattle.sharc_suggest.specs.Casts.{IsSuggested};
 ghost use Rattle.sharc_suggest_laws.specs.Gone.{IsGone};
 

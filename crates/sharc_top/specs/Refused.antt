@@ -1,5 +1,5 @@
 -- What is written for a program whose modes are refused.
-use Rattle.std.specs.Prelude.{◌≡◌, ℕ, List, Result, Ok, Err}
+use Rattle.std.specs.Prelude.{◌≡◌, ℕ, List, Option, Result, Ok, Err}
 use Rattle.sharc_mode.specs.declared.error.Cast.{Cast}
 use Rattle.sharc_mode.specs.declared.error.ModeError.{ModeError}
 use Rattle.sharc_mode.specs.Moded.{Assignment}
@@ -21,7 +21,7 @@ pub record IsModeRefusal (m : Assignment) (text : List ℕ) : Type 0 where
   pub breaks_rules : ¬ (MeetsRules m)
   pub errors : List ModeError
   pub all : AreAll m errors
-  pub casts : List Cast
+  pub casts : List (Option Cast)
   pub suggested : AreSuggested m errors casts
   pub written : text ≡ check_text m.typed errors casts
 

@@ -49,7 +49,7 @@ pub(crate) fn mode_refusal(
     ensures { IfOk result (λ reply. (reply.status ≡ ModesRefused) × IsModeRefusal program.now reply.text.items) }
 {
     let casts = suggest_all(alloc, program, named, errors)?;
-    let text = check_text(alloc, program, errors, &casts)?;
+    let text = check_text(alloc, program, errors, casts.as_slice())?;
     Ok(Reply {
         status: Status::ModesRefused,
         text,

@@ -16,7 +16,7 @@ use Rattle.sharc_top.specs.Refused.{IsModeRefusal}
 use Rattle.sharc_top.specs.Verdict.{Checks, accepted, refused, Explains, explained, Does}
 use Rattle.sharc_top_laws.specs.Laws.{WarningsAreOne, RunsNothing}
 
-one_answer : (laws : SuggestLaws) (m : Assignment) (errors : List ModeError) (x y : List Cast) → AreSuggested m errors x → AreSuggested m errors y → x ≡ y
+one_answer : (laws : SuggestLaws) (m : Assignment) (errors : List ModeError) (x y : List (Option Cast)) → AreSuggested m errors x → AreSuggested m errors y → x ≡ y
 one_answer laws m errors x y a b = a.says ∙ sym (laws.each m errors y (λ e. cast_for a.casts e) (λ e. record { casts = a.casts; are = a.are; says = refl }) b)
 
 module _ (warnings : WarningsAreOne) (checks : CheckLaws) (suggests : SuggestLaws) (m : Assignment) where
@@ -27,7 +27,7 @@ module _ (warnings : WarningsAreOne) (checks : CheckLaws) (suggests : SuggestLaw
       let casts = one_answer suggests m b.errors a.casts b.casts moved b.suggested in
       a.written
       ∙ ap (λ (l : List ModeError). check_text m.typed l a.casts) errors
-      ∙ ap (λ (l : List Cast). check_text m.typed b.errors l) casts
+      ∙ ap (λ (l : List (Option Cast)). check_text m.typed b.errors l) casts
       ∙ sym b.written
 
   one_check : (s z : Status) (text other : List ℕ) → Checks m s text → Checks m z other → (s ≡ z) × (text ≡ other)

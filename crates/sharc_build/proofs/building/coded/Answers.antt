@@ -1,5 +1,5 @@
 use Rattle.std.proofs.Common.{subst, sym}
-use Rattle.sharc_compile_laws.specs.Typed.{IsTypedProgram}
+use Rattle.sharc_flat_laws.specs.Typed.{IsTypedProgram}
 use Rattle.sharc_sound.specs.Compiled.{IsCompiled}
 use Rattle.sharc_build.proofs.building.coded.Goals as goal
 
@@ -13,5 +13,4 @@ returns-in-Ok c = λ source front.
       accepted = meets;
       compiled = is;
       numbers = c.in-Ok.ensures.numbers (subst IsTypedProgram (sym c.moded.ensures.moded) p);
-      faithful = c.compiled_is_faithful.ensures source c.args.checked c.in-Ok.code front meets is;
     }

@@ -5,7 +5,7 @@ use Rattle.sharc_flat_form.specs.Framed.{IsFramed}
 use Rattle.sharc_flat_form.specs.Made.{flat_of}
 use Rattle.sharc_guard.specs.Tables.{FlatTablesFit}
 use Rattle.sharc_compile.specs.Made.{IsCodeOf}
-use Rattle.sharc_compile_laws.specs.Typed.{IsTypedProgram}
+use Rattle.sharc_flat_laws.specs.Typed.{IsTypedProgram}
 use Rattle.sharc_sound.specs.Compiled.{IsCompiled}
 use Rattle.sharc_build.proofs.building.compile.Goals as goal
 

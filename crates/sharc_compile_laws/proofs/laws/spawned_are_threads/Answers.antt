@@ -2,4 +2,4 @@ use Rattle.sharc_compile_laws.proofs.Spawners.{spawners}
 use Rattle.sharc_compile_laws.proofs.laws.spawned_are_threads.Goals as goal
 
 pub returns : goal.returns
-returns c = spawners c.spawns_name_functions.ensures
+returns c = spawners c.made_spawns.ensures

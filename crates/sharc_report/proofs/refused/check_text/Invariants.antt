@@ -1,7 +1,6 @@
 use Rattle.std.proofs.Common.{◌≡◌, ◌++◌, drop}
-use Rattle.std.specs.List.{flat_map}
-use Rattle.sharc_report.specs.Verdicts.{refusal}
+use Rattle.sharc_report.specs.Verdicts.{check_text}
 use Rattle.sharc_report.proofs.refused.check_text.Given as goal
 
 abbrev pub invariant-loop-error : goal.invariant-loop-error
-invariant-loop-error l = l.text.items ++ flat_map (refusal l.program.typed l.casts) (drop l.error-index l.errors) ≡ flat_map (refusal l.program.typed l.casts) l.errors
+invariant-loop-error l = l.text.items ++ check_text l.program.typed (drop l.error-index l.errors) l.left ≡ check_text l.program.typed l.errors l.casts

@@ -1,8 +1,9 @@
 use Rattle.std.proofs.Common.{◌≡◌, ◌++◌, drop}
 use Rattle.sharc_tree.specs.View.{view_items}
-use Rattle.sharc_suggest.specs.Casts.{items_casts}
+use Rattle.sharc_suggest.specs.Casts.{suggested_in}
+use Rattle.sharc_suggest.specs.Givings.{items_givings}
 use Rattle.sharc_suggest.specs.Repairs.{told}
 use Rattle.sharc_suggest.proofs.statement.items.Given as goal
 
 abbrev pub invariant-loop-one : goal.invariant-loop-one
-invariant-loop-one l = l.casts.items ++ items_casts l.known.moded.now (told l.known.named.now) (view_items (drop l.one-index l.items)) ≡ l.fn.casts.items ++ items_casts l.known.moded.now (told l.known.named.now) (view_items l.items)
+invariant-loop-one l = l.casts.items ++ suggested_in l.known.moded.now (told l.known.named.now) (items_givings (view_items (drop l.one-index l.items))) ≡ l.fn.casts.items ++ suggested_in l.known.moded.now (told l.known.named.now) (items_givings (view_items l.items))

@@ -2,7 +2,7 @@ use Rattle.std.proofs.Common.{◌≡◌, ap, sym, subst}
 use Rattle.sharc_ctype.specs.Items.{IsTyped}
 use Rattle.sharc_ctype.specs.Resolved.{Resolution, IsResolved}
 use Rattle.sharc_mode.specs.Moded.{Assignment}
-use Rattle.sharc_suggest.specs.Applied.{resolution_with, program_with}
+use Rattle.sharc_rewrite.specs.Applied.{resolution_with, program_with}
 use Rattle.sharc_suggest_laws.specs.Gone.{IsGone}
 use Rattle.sharc_suggest_laws.proofs.applied.is_repaired.Goals as goal
 

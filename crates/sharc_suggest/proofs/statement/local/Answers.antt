@@ -1,0 +1,16 @@
+use Rattle.std.proofs.Common.{◌≡◌, ◌++◌, Some, ap, sym, ◌∙◌, subst, OnOk}
+use Rattle.sharc_tree.specs.View.{view_local}
+use Rattle.sharc_mode.specs.Rows.{written, declared_row, modes_of}
+use Rattle.sharc_suggest.specs.Casts.{suggested_in}
+use Rattle.sharc_suggest.specs.Givings.{of_declared, option_givings, right_givings}
+use Rattle.sharc_suggest.specs.Repairs.{told}
+use Rattle.sharc_suggest.proofs.statement.local.Goals as goal
+
+pub returns-clause-casts : goal.returns-clause-casts
+returns-clause-casts c =
+    let m = c.args.known.moded.now in
+    let l = view_local c.args.local.now in
+    let token = l.declaration.name.site.token in
+    let row = c.declared_row-want.ensures.row ∙ ap (λ r. declared_row r written token) c.typed.ensures in
+    subst (λ s. OnOk c.initial.result (c.initial.new.casts.items ≡ c.args.casts.now.items ++ suggested_in m (told c.args.known.named.now) (option_givings (right_givings s (of_declared token)) l.initial)))
+    c.in_ok-declare.ensures (c.initial.ensures (of_declared token) (ap (λ w. Some (modes_of m w)) (sym row)))
