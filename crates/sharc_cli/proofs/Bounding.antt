@@ -1,5 +1,5 @@
 -- The numbers of a command are within their bounds.
-use Rattle.std.proofs.Common.{◌≡◌, ℕ, ◌≤◌, Bool, true, false, List, [], ◌∷◌, find, Option, Some, None, refl, sym, subst, arith}
+use Rattle.std.proofs.Common.{◌≡◌, ℕ, ◌≤◌, Bool, true, false, List, [], ◌∷◌, find, Option, Some, None, refl, subst, arith}
 use Rattle.std.specs.Prelude.{◌&&◌, nat_le, codes, option_map, option_and_then, IfSome, if◌then◌else◌}
 use Rattle.std.specs.Str.{bytes_eq}
 use Rattle.std.specs.Str.Parse.{digits_value}
@@ -7,7 +7,7 @@ use Rattle.std.proofs.lemmas.Bool.Decides.{nat_tests}
 use Rattle.sharc_cli.specs.declared.command.Command.{Command}
 use Rattle.sharc_cli.specs.declared.command.Command.TheVariants as command
 use Rattle.sharc_cli.specs.Bounds.{IsWithin, AreWithin}
-use Rattle.sharc_cli.specs.Commands.{Word, Form, Values, forms, is_number, number_in, number_or, workers_of, granules_of, seed_of, run_of, load_of, record_of, command_of, command_behind, commands, entries_of, values_of}
+use Rattle.sharc_cli.specs.Commands.{Word, Values, forms, is_number, number_in, number_or, workers_of, granules_of, seed_of, run_of, load_of, record_of, command_of, command_behind, commands, entries_of, values_of}
 
 le_true : (m n : ℕ) → nat_le m n ≡ true → m ≤ n
 le_true m n e = grind (arith, nat_tests)

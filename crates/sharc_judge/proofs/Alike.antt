@@ -1,5 +1,5 @@
 -- Objects, cells and modes that are found to be the same are equal.
-use Rattle.std.proofs.Common.{◌≡◌, ◌↔◌, true, subst, Option, Some, None, refl, ap, ◌∙◌}
+use Rattle.std.proofs.Common.{◌≡◌, true, subst, Option, Some, None, refl, ap, ◌∙◌}
 use Rattle.std.proofs.lemmas.Bool.{eqb-true, eq-eqb, and_parts, and_from}
 use Rattle.sharc_tree.specs.declared.event.CellAt.{CellAt}
 use Rattle.sharc_tree.specs.declared.event.CellMode.{CellMode}

@@ -1,5 +1,5 @@
 -- Runs whose places have the same ends have one text and one outcome.
-use Rattle.std.proofs.Common.{◌≡◌, ℕ, ◌<◌, suc, Bool, not, ◌&&◌, ◌||◌, List, [], ◌∷◌, length, map, filter, get_or, None, refl, sym, ap, ◌∙◌, subst, arith, if◌then◌else◌}
+use Rattle.std.proofs.Common.{◌≡◌, ℕ, suc, Bool, not, ◌&&◌, ◌||◌, List, [], ◌∷◌, length, map, filter, None, refl, sym, ap, ◌∙◌, subst, arith, if◌then◌else◌}
 use Rattle.std.specs.List.{range_with_len, All, list_any}
 use Rattle.sharc_word.specs.declared.step.TheConstants.{THREADS}
 use Rattle.sharc_code.specs.declared.code.Code.{Code}
@@ -17,10 +17,9 @@ use Rattle.sharc_code.specs.Whole.{place_after}
 use Rattle.sharc_cpu.specs.Thread.{ThreadView, is_stop}
 use Rattle.sharc_threads.specs.Ends.{Standing, IsAt, AreStarted}
 use Rattle.sharc_schedule.specs.Laws.{SameEnds}
-use Rattle.sharc_run_text.specs.Laws.{Shown, shown, TextIsOne}
+use Rattle.sharc_run_text.specs.Laws.{shown, TextIsOne}
 use Rattle.sharc_run_text.specs.Others.{number_of}
 use Rattle.sharc_run_text.specs.RunText.{is_gone, IsRunText}
-use Rattle.sharc_run.specs.declared.outcome.Outcome.{Outcome}
 use Rattle.sharc_run.specs.declared.outcome.Outcome.TheVariants.{Done, Reported, Stopped, Stuck, Limit}
 use Rattle.sharc_run.specs.declared.run.Ran.{Ran}
 use Rattle.sharc_run.specs.Laws.{is_on, goes_on, outcome_told, OutcomeIsTold}

@@ -1,5 +1,5 @@
 -- How a run ended, from where its threads are.
-use Rattle.std.proofs.Common.{◌≡◌, ℕ, ◌≤◌, Bool, true, false, not, List, [], ◌∷◌, refl, sym, ap, ◌∙◌, subst, arith}
+use Rattle.std.proofs.Common.{◌≡◌, ℕ, Bool, true, false, not, List, [], ◌∷◌, refl, sym, ap, ◌∙◌, subst, arith}
 use Rattle.std.specs.Prelude.{Result, Ok, Err, IfOk, nat_lt, ◌&&◌, if◌then◌else◌}
 use Rattle.std.specs.List.{Any, list_any}
 use Rattle.sharc_word.specs.declared.step.TheConstants.{THREADS}

@@ -2,7 +2,7 @@
 use Rattle.std.proofs.Common.{◌≡◌, ℕ, suc, ◌<◌, ◌==◌, Bool, true, false, length, arith, refl, if◌then◌else◌}
 use prog.Atomic.{either}
 use Rattle.sharc_word.specs.declared.step.WordOp.{WordOp}
-use Rattle.sharc_word.specs.declared.step.WordOp.TheVariants.{Load, Swap, Add, Sub, Or, And, Cas}
+use Rattle.sharc_word.specs.declared.step.WordOp.TheVariants.{Load, Swap, Add, Sub, And, Cas}
 use Rattle.sharc_word.specs.Words.{word_after}
 use Rattle.sharc_bus.proofs.Steps.{step_allowed}
 use Rattle.sharc_bus.proofs.step.make_step.Goals as goal

@@ -1,4 +1,4 @@
-use Rattle.std.proofs.Common.{◌≡◌, ℕ, List, sym, ap, ◌∙◌, subst}
+use Rattle.std.proofs.Common.{ℕ, List, sym, ap, ◌∙◌, subst}
 use Rattle.sharc_code.specs.Whole.{place_after}
 use Rattle.sharc_recorded.specs.File.{FileView, IsFile, ArePlaces, written}
 use Rattle.sharc_seq.specs.Run.{AreChosen}
