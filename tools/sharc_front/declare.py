@@ -88,11 +88,20 @@ class Declarations:
 
     def type(self, node):
         """The type that a declarator or a type name gives."""
-        read = getattr(self, "t_" + type(node).__name__, None)
-        return read(node) if read else self.refuse(node, f"type ({type(node).__name__})")
-
-    def t_Typename(self, node):
-        return self.type(node.type)
+        match node:
+            case A.Typename():
+                return self.type(node.type)
+            case A.TypeDecl():
+                return self.qualified(node, self.type(node.type))
+            case A.PtrDecl():
+                return self.qualified(node, pointer(self.type(node.type)))
+            case A.Union():
+                known = node.decls is None and node.name in self.unions
+                self.unions.add(node.name)
+                self.refuse(node, None if known else "union")
+            case _:
+                read = getattr(self, "t_" + type(node).__name__, None)
+                return read(node) if read else self.refuse(node, f"type ({type(node).__name__})")
 
     def t_FuncDecl(self, node):
         params, result = node.args.params if node.args else None, self.type(node.type)
@@ -113,12 +122,6 @@ class Declarations:
         if kind.kind in ("void", "func") or kind.kind == "array" and kind.length is None or (length or 1) < 1:
             self.refuse(node, "array of no elements" if length is not None else "array of this type")
         return array(kind, length)
-
-    def t_TypeDecl(self, node):
-        return self.qualified(node, self.type(node.type))
-
-    def t_PtrDecl(self, node):
-        return self.qualified(node, pointer(self.type(node.type)))
 
     def qualified(self, node, kind):
         mode, words = self.source.qualified(node.quals)
@@ -146,11 +149,6 @@ class Declarations:
                 return Type("int", "bool" if word == "_Bool" else unsigned + word)
         self.refuse_if(words not in ([], ["unsigned"]), "type " + " ".join(node.names), node)
         return UINT if unsigned else INT
-
-    def t_Union(self, node):
-        known = node.decls is None and node.name in self.unions
-        self.unions.add(node.name)
-        self.refuse(node, None if known else "union")
 
     def t_Enum(self, node):
         """gcc gives an enumerated type without a negative number the type unsigned int."""

@@ -196,21 +196,21 @@ class Library(Statements):
         else:
             self.effect(arg)
 
-    def l_sharc_lock_atomics(self, _=None):
+    def l_sharc_lock_atomics(self, _=None, what="lock"):
         """Atomic operations are all made under one mutex."""
         if self.atomics is None:
             self.atomics = Symbol("atomics", "global", MUTEX, self.here, self.classes)
             self.atomics.out = self.fresh("atomics")
             self.globals.append(self.atomics)
-        self.emit("lock", self.variable_place(self.atomics))
+        self.emit(what, self.variable_place(self.atomics))
 
     def l_sharc_unlock_atomics(self, _=None):
-        self.emit("unlock", self.variable_place(self.atomics))
+        self.l_sharc_lock_atomics(what="unlock")
 
     def l_pthread_create(self, args):
-        self.blocked(self.create, *args)
+        self.blocked(self.created, *args)
 
-    def create(self, target, attributes, start, arg):
+    def created(self, target, attributes, start, arg):
         self.evaluate(attributes)
         start, value = self.in_order(start, arg)
         self.refuse_if(start.type.kind != "ptr" or start.type.to.kind != "func", "thread function of this form")

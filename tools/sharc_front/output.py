@@ -9,7 +9,7 @@ from .source import HEADERS
 from .tree import every_tree
 from .write import Writer
 
-CONSTANT = re.compile(r"-?\d+L?|NULL")
+CONSTANT = re.compile(r"-?[1-9]\d*L?")
 
 
 class Front(Writer):
@@ -60,6 +60,7 @@ class Front(Writer):
 
     def declare_global(self, symbol):
         kind = symbol.type
+        self.constants(symbol)
         if kind.base().kind == "int" and kind.base().const and not kind.base().mode and not kind.mode:
             kind = self.racy(kind)
         if (symbol, ()) in self.groups:
@@ -84,12 +85,8 @@ class Front(Writer):
         elif kind.kind == "array":
             self.global_array(symbol, path, kind, content, context)
         else:
-            self.count_cells(1)
-            self.line(f"{self.type_text(kind, content, context, False)} {name(path)}{self.initial(symbol, path)};")
-
-    def count_cells(self, more):
-        self.cells += more
-        self.refuse_if(self.cells > 60000, "globals of over 60000 cells")
+            constant = f" = {symbol.constants[path]}" if symbol and path in symbol.constants else ""
+            self.line(f"{self.type_text(kind, content, context, False)} {name(path)}{constant};")
 
     def global_array(self, symbol, path, kind, content, context):
         base, length = kind.base(), kind.cells()
@@ -100,7 +97,8 @@ class Front(Writer):
                 if leaf.kind == "array":
                     self.global_array(symbol, path + inner, array(leaf, length), field.content, None)
         base = base.with_(mode=base.mode or kind.mode)
-        self.count_cells(length * (8 if base.kind == "struct" else 1))
+        self.cells += length * (8 if base.kind == "struct" else 1)
+        self.refuse_if(self.cells > 60000, "globals of over 60000 cells")
         self.line(f"{self.type_text(base, content, context, False)} {self.piece_name(symbol, path)}[{length}];")
 
     def condition_cells(self, name, companion, lock, context):
@@ -109,32 +107,26 @@ class Front(Writer):
             path = context[1](lock) if isinstance(lock, str) else self.piece_name(lock, ())
             self.line(f"struct cond dynamic * locked({path}) {name}; mutex racy * locked({path}) {companion};")
 
-    def constant_text(self, symbol, path, steps):
-        """The constant that a part of a global is initialised with, if it can be written with the declaration."""
-        in_array = any(isinstance(step, int) for step in path) or any(
-            (symbol, path[:at]) in self.groups for at in range(len(path) + 1))
-        if len(steps) == 1 and steps[0].kind == "assign":
-            text = self.text(steps[0].parts[1])
-            if CONSTANT.fullmatch(text) and (not in_array or text.strip("L") in ("0", "NULL")):
-                return text
-        return None
-
-    def initial(self, symbol, path):
-        for where, steps in symbol.initial if symbol else []:
-            text = self.constant_text(symbol, where, steps) if where == path else None
-            if text and text.strip("L") not in ("0", "NULL"):
-                return f" = {text}"
-        return ""
+    def constants(self, symbol):
+        """The constants that parts of a global are declared with; main assigns the rest of its initialiser."""
+        symbol.constants, symbol.rest = {}, []
+        for path, steps in symbol.initial:
+            in_array = any(isinstance(step, int) for step in path) or any(
+                (symbol, path[:at]) in self.groups for at in range(len(path) + 1))
+            text = self.text(steps[0].parts[1]) if len(steps) == 1 and steps[0].kind == "assign" else ""
+            if CONSTANT.fullmatch(text) and not in_array:
+                symbol.constants[path] = text
+            elif text not in ("0", "0L", "NULL"):
+                symbol.rest.append(steps)
 
     def initialisers(self):
         """What main assigns before everything else."""
         self.function, self.depth = self.functions["main"], 1
         for symbol in self.globals:
-            for path, steps in symbol.initial:
-                if self.constant_text(symbol, path, steps) is None:
-                    self.write(steps)
-                    self.here = symbol.place
-                    self.note(f"the initialiser of {symbol.name} is executed by main")
+            for steps in symbol.rest:
+                self.write(steps)
+                self.here = symbol.place
+                self.note(f"the initialiser of {symbol.name} is executed by main")
         for at, word in enumerate(self.arguments_given if len(self.function.params) > 1 else []):
             data = tuple((byte ^ 128) - 128 for byte in word.encode()) + (0,)
             self.line(f"{self.words.out}[{at}] = {self.text(self.string(data))};")

@@ -26,7 +26,7 @@ class Tree:
         self.calls = op in ("call", "take") or any(part.calls for part in inner)
         self.memory = op in ("element", "at") or op == "member" and parts[0].memory  # whether others may change it
         self.reads = op == "load" and parts[0].memory or any(part.reads for part in inner)
-        self.number = self.unit = self.source = self.base = self.given = None
+        self.number = self.unit = self.source = self.given = None
         self.wide = False
         self.__dict__.update(more)
 

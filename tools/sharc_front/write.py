@@ -14,8 +14,6 @@ PLAIN = {"break": "break;", "continue": "continue;", "lock": "lock(&{});", "unlo
 
 
 class Writer(Places):
-    # ---- lines
-
     def line(self, text, place=None):
         self.refuse_if(self.depth > 55, "statements inside one another, over 55")
         self.lines.append((place or self.here, self.depth, text))
@@ -65,8 +63,6 @@ class Writer(Places):
         self.inside(self.write, steps)
         self.visible = kept
 
-    # ---- variables
-
     def declare_cell(self, symbol, value=""):
         if symbol is not None and symbol not in self.merged.values():
             self.line(f"{self.type_text(symbol.type, symbol.content)} {self.piece_name(symbol, ())}{value};")
@@ -102,8 +98,6 @@ class Writer(Places):
                 self.make_object(name, leaf.base(), number(leaf.cells()), node)
             else:
                 self.line(f"{self.type_text(leaf, self.path_content(symbol, path))} {name};")
-
-    # ---- objects
 
     def make_object(self, target, kind, length, node):
         """target = an object of `length` elements."""
@@ -176,8 +170,6 @@ class Writer(Places):
         if length.op == "named":
             self.line("}")
 
-    # ---- statements
-
     def w_assign(self, place, value):
         self.line(f"{self.lvalue(place)} = {self.text(value)};")
 
@@ -235,8 +227,6 @@ class Writer(Places):
         self.line(f"  int {zero} = 0; {zero} = 1 / {zero};", (f"{file}: {what}", line))
         self.line("}")
 
-    # ---- mutexes and condition variables
-
     def w_signal(self, place, call="signal"):
         if self.monitors.lock_of(place) is not None:
             c, m = self.lvalue(place), self.companion(place)
@@ -258,8 +248,6 @@ class Writer(Places):
         self.line(f"if ({c} == NULL) {{ {c} = malloc(sizeof(struct cond)); {m} = malloc(sizeof(mutex)); }} "
                   f"{{ struct cond dynamic * {own} = {c}; mutex racy * {guard} = {m}; lock(&*{guard}); "
                   f"unlock(&{lock}); wait({own}, {guard}); unlock(&*{guard}); lock(&{lock}); }}")
-
-    # ---- threads
 
     def w_spawn(self, place, start, value):
         self.line("{")
@@ -315,8 +303,6 @@ class Writer(Places):
         for symbol in self.giving:
             started = f"{symbol.table}[{number_of}]"
             self.line(f"if ({started} != NULL) {{ {target} = {started}->result; {started}->result = {none}; }}")
-
-    # ---- functions
 
     def function_name(self, symbol):
         self.refuse_if(symbol.definition is None, f"function {symbol.name}, which is not defined here", symbol.place)
