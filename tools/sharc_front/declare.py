@@ -257,10 +257,7 @@ class Declarations:
 
     def path_content(self, symbol, path):
         """The class of the pointers in a part of a variable."""
-        last = max((at for at, step in enumerate(path) if isinstance(step, str)), default=None)
-        if last is None:
-            return symbol.content
-        return self.structs[self.part(symbol.type, path[:last]).base().name].fields[path[last]].content
+        return self.inner_place(self.variable_place(symbol), path).node
 
     def declare(self, name, kind, type, node):
         """A new variable in the innermost scope."""

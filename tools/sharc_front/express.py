@@ -16,8 +16,6 @@ SPOKEN = {"Compound": "statement expression", "Goto": "goto", "Label": "label", 
 
 
 class Expressions(Initialisers):
-    # ---- steps
-
     def emit(self, kind, *parts):
         self.steps += self.step(kind, *parts)
 
@@ -71,8 +69,6 @@ class Expressions(Initialisers):
             self.steps += steps
             values.append(value)
         return values
-
-    # ---- places and what they hold
 
     def variable_place(self, symbol):
         memory = symbol.kind == "global" or symbol.type.atomic or symbol.name in self.addressed and not symbol.own
@@ -136,8 +132,6 @@ class Expressions(Initialisers):
     def address(self, place):
         op = "array" if place.type.kind == "array" else "address"
         return Tree(op, place, type=pointer(place.type), node=self.address_class(place))
-
-    # ---- the walk
 
     def visit(self, node):
         """A place where the expression is an lvalue, else a value."""
@@ -221,8 +215,6 @@ class Expressions(Initialisers):
             self.refuse_if(value.type.kind != "int", f"operator on {value.type.shown()}")
         return values
 
-    # ---- primary expressions
-
     def x_Constant(self, node):
         if node.type == "string":
             return self.string(tuple(self.string_bytes(node)))
@@ -287,8 +279,6 @@ class Expressions(Initialisers):
         symbol = self.declare("literal", "local", kind, node)
         self.declare_local(symbol, self.scalars(kind, node.init))
         return self.variable_place(symbol)
-
-    # ---- operators
 
     def x_UnaryOp(self, node):
         op, inner = node.op, node.expr
@@ -458,8 +448,6 @@ class Expressions(Initialisers):
         made = self.truth(value) if kind.name == "bool" else convert(value, kind.name)
         return made.with_(unit=value.unit)
 
-    # ---- assignment
-
     def x_Assignment(self, node, wanted=True):
         if node.op != "=":
             return self.changed(node.lvalue, node.op[:-1], node.rvalue, wanted)
@@ -498,8 +486,6 @@ class Expressions(Initialisers):
             new = self.spilled(new) if wanted and not after and place.memory else new
             self.emit("assign", place, new)
         return kept or (new if place.memory else self.loaded(place))
-
-    # ---- calls
 
     def x_FuncCall(self, node):
         args = node.args.exprs if node.args else []
@@ -550,8 +536,6 @@ class Expressions(Initialisers):
             self.refuse_if(leaf.kind not in ("int", "ptr"), "struct by value, with an array or mutex in it")
             yield self.loaded(self.inner_place(place, path))
 
-    # ---- what goes into places
-
     def store(self, place, node):
         """place = node, of whatever type."""
         call = self.allocation(node)
@@ -601,8 +585,6 @@ class Expressions(Initialisers):
         body, _ = self.captured(act, self.loaded(at))
         body += self.step("assign", at, plus(self.loaded(at), number(1)))
         self.emit("while", compare("<", self.loaded(at), length, usual(at.type.name, length.type.name)), body)
-
-    # ---- malloc
 
     @staticmethod
     def allocation(node):

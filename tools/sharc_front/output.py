@@ -65,15 +65,20 @@ class Front(Writer):
             kind = self.racy(kind)
         if (symbol, ()) in self.groups:
             return
-        if kind.kind != "struct":
+        if kind.kind == "struct":
+            self.members(kind, lambda path: self.piece_name(symbol, path), symbol)
+        else:
             self.cell(kind, symbol.content, None, lambda path: self.piece_name(symbol, path), (), symbol, symbol)
-            return
+
+    def members(self, kind, name, symbol=None):
+        """A cell for each member of a struct: variables for a global, else fields; `name` gives their names."""
         for path, leaf, struct, field in self.leaves(kind):
             self.here, outer = field.place, path[:-1]
-            if not any((symbol, path[:at]) in self.groups for at in range(len(path) + 1)):
-                context = (struct, lambda head, outer=outer: self.piece_name(symbol, outer + (head,)))
-                self.cell(leaf, field.content, context, lambda path: self.piece_name(symbol, path), path, symbol,
-                          (struct, path[-1]))
+            context = (struct, lambda head, outer=outer: name(outer + (head,)))
+            if leaf.kind == "array" and symbol is None:
+                self.array_field(name(path), field, context)
+            elif not any((symbol, path[:at]) in self.groups for at in range(len(path) + 1)):
+                self.cell(leaf, field.content, context, name, path, symbol, (struct, path[-1]))
 
     def racy(self, kind):
         return kind.with_(to=self.racy(kind.to)) if kind.kind == "array" else kind.with_(mode="racy")
@@ -157,14 +162,7 @@ class Front(Writer):
         self.here = self.structs[name].place
         self.line(f"struct {self.struct_names[name]} {{")
         self.depth, count = 1, len(self.lines)
-        for path, leaf, struct, field in self.leaves(Type("struct", name)):
-            self.here, outer = field.place, path[:-1]
-            context = (struct, lambda head, outer=outer: self.leaf(name, outer + (head,)))
-            if leaf.kind == "array":
-                self.array_field(self.leaf(name, path), field, context)
-            else:
-                self.cell(leaf, field.content, context, lambda path: self.leaf(name, path), path, None,
-                          (struct, path[-1]))
+        self.members(Type("struct", name), lambda path: self.leaf(name, path))
         self.depth = 0
         if len(self.lines) == count:
             self.line("char unused;")
