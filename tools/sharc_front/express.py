@@ -250,6 +250,7 @@ class Expressions(Initialisers):
         return self.variable_place(found)
 
     def function_value(self, symbol):
+        symbol = self.instance(symbol, [])[0] if symbol.header else symbol
         node = self.classes.new(self.here)
         node.functions[symbol] = self.here
         symbol.pointed = True

@@ -2,7 +2,7 @@
 
 from pycparser import c_ast as A
 
-from .ctype import BAD, CHAR, array, pointer
+from .ctype import CHAR, array, pointer
 from .declare import Symbol, place_of
 from .library import Library
 from .source import HEADERS, Refusal
@@ -36,8 +36,7 @@ class Lowering(Library):
         self.strings = self.hidden_global("strings", array(CHAR, 1))
         self.words = self.hidden_global("arguments", array(pointer(CHAR), len(arguments) + 1))
         self.words.content.unite(self.strings.address)
-        for item in source.tree.ext:
-            self.guarded(item, self.outside, item)
+        self.statements(source.tree.ext)
         self.lowered = [symbol for symbol in self.functions.values() if symbol.definition and not symbol.header]
         for symbol in self.lowered:  # the copies of functions of the headers are added on the way
             self.guarded(symbol.definition, self.lower_function, symbol)
@@ -62,32 +61,18 @@ class Lowering(Library):
         return symbol
 
     def guarded(self, item, act, *arguments):
-        """Refusals are collected: one for each declaration or statement."""
+        """Refusals are collected."""
         self.here = place_of(item, self.here)
         try:
             act(*arguments)
         except Refusal as refusal:
             self.report(*refusal.all[0])
-            if isinstance(getattr(item, "name", None), str):
-                self.scopes[0][item.name] = BAD
 
-    def outside(self, item):
-        """A declaration outside functions."""
-        if isinstance(item, A.Typedef):
-            self.s_Typedef(item)
-        elif isinstance(item, A.FuncDef):
-            symbol = self.prototype(item.decl)
-            self.refuse_if(item.param_decls or symbol.type.name == "...",
-                           "function definition in the old style" if item.param_decls else "variable arguments", item)
-            symbol.definition = item
-        elif isinstance(item, A.Pragma):
-            self.refuse(item, "#pragma")
-        elif isinstance(item, A.Decl) and isinstance(item.type, A.FuncDecl):
-            self.prototype(item)
-        elif isinstance(item, A.Decl) and item.name is None:
-            self.type(item.type)
-        elif isinstance(item, A.Decl):
-            self.variable(item, "global")
+    def s_FuncDef(self, item):
+        symbol = self.prototype(item.decl)
+        self.refuse_if(item.param_decls or symbol.type.name == "...",
+                       "function definition in the old style" if item.param_decls else "variable arguments", item)
+        symbol.definition, symbol.header = item, self.in_headers(place_of(item.decl))
 
     def results(self):
         """The functions of threads, and those that give a result that a join takes: their results are in one class."""

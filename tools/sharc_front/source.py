@@ -24,14 +24,12 @@ SPELT = {"__extension__": "", "restrict": "", "__restrict": "", "__restrict__": 
          "__volatile": "volatile", "__volatile__": "volatile", "__func__": '""', "__FUNCTION__": '""'}
 HARMLESS = set("unused noreturn format const pure noinline always_inline cold hot malloc nonnull warn_unused_result "
                "used deprecated returns_nonnull flatten leaf nothrow fallthrough may_alias noclone alloc_size".split())
-REFUSED = {"typeof": "typeof", "__typeof__": "typeof", "__typeof": "typeof", "__thread": "variable of each thread",
-           "_Thread_local": "variable of each thread", "_Generic": "_Generic", "asm": "inline assembler",
-           "__asm__": "inline assembler", "__asm": "inline assembler", "_Complex": "complex number",
-           "__complex__": "complex number", "__int128": "__int128", "__auto_type": "__auto_type",
-           "_Alignas": "_Alignas", "__label__": "local label", "_Float128": "floating point",
-           "__float128": "floating point",
-           "__builtin_va_arg": "variable arguments", "__builtin_offsetof": "offsetof", "_Alignof": "_Alignof",
-           "__alignof__": "_Alignof"}
+REFUSED = {word: what for what, words in {
+    "typeof": "typeof __typeof__ __typeof", "variable of each thread": "__thread _Thread_local", "_Generic": "_Generic",
+    "inline assembler": "asm __asm__ __asm", "complex number": "_Complex __complex__", "local label": "__label__",
+    "floating point": "_Float128 __float128", "variable arguments": "__builtin_va_arg", "_Alignas": "_Alignas",
+    "offsetof": "__builtin_offsetof", "_Alignof": "_Alignof __alignof__", "__int128": "__int128",
+    "__auto_type": "__auto_type"}.items() for word in words.split()}
 
 
 class Refusal(Exception):

@@ -51,7 +51,7 @@ class Statements(Expressions):
         elif isinstance(node.type, A.FuncDecl):
             self.prototype(node)
         else:
-            symbol = self.variable(node, "local")
+            symbol = self.variable(node, "local" if self.function else "global")
             if symbol.kind != "global":
                 self.declare_local(symbol, symbol.initial)
 
@@ -196,7 +196,6 @@ class Statements(Expressions):
         symbol = self.functions.get(decl.name)
         if symbol is None:
             symbol = self.functions[decl.name] = self.new_function(decl)
-            symbol.header = self.in_headers(symbol.place)
         if symbol.definition is None:
             self.parameters(symbol, decl.type)
         self.scopes[0][decl.name] = symbol
