@@ -5,11 +5,11 @@ import re
 from pycparser import c_ast as A
 
 from .arithmetic import binary, convert, number
-from .ctype import CHAR, INT, LONG, MUTEX, VOID, Type, pointer
+from .ctype import INT, LONG, MUTEX, VOID, pointer
 from .declare import Symbol
 from .initial import byte_constant
 from .statements import Statements
-from .tree import PLACES, Tree
+from .tree import Tree
 
 CONVERSION = re.compile(r"%([-+ 0#]*)(\d*|\*)(?:\.(\d*|\*))?(hh|h|ll|l|z|j|t|q)?([a-zA-Z%])")
 SYNCHRONISED = {"pthread_mutex_lock": "lock", "pthread_mutex_unlock": "unlock", "pthread_cond_wait": "wait",

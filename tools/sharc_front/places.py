@@ -7,7 +7,7 @@ from .arithmetic import number, plus, times
 from .classes import HEAP
 from .ctype import CELL
 from .lower import Lowering
-from .tree import PLACES, Tree
+from .tree import PLACES
 
 LEVELS = {"||": 1, "&&": 2, "|": 3, "^": 4, "&": 5, "==": 6, "!=": 6, "<": 7, ">": 7, "<=": 7, ">=": 7, "<<": 8,
           ">>": 8, "+": 9, "-": 9, "*": 10, "/": 10, "%": 10}
