@@ -10,9 +10,9 @@ import os
 import subprocess
 import sys
 
+from .source import HERE, Refusal, Source  # first: it says where pycparser is missing
 from .names import Names
 from .output import Front, text_of
-from .source import HERE, Refusal, Source
 
 COMMANDS = ("check", "explain", "run", "record", "--locks")
 USAGE = "usage: sharc-c [check | explain | run | record | --locks] [-I DIR] [-D NAME] FILE.c [OPTIONS OF run] " \
