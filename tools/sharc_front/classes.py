@@ -7,17 +7,18 @@ integers that a `void *` carries.
 
 from .source import Refusal
 
+HEAP = ("heap", "boxes")
+
 
 class Node:
     """A class, or a part of one that was united with another: `find` gives the whole."""
 
     def __init__(self, place=None):
-        self.parent, self.place = self, place
-        self.globals, self.functions, self.types = {}, {}, {}  # {(symbol, path of fields): place}, ..
-        # places where that was seen; indexed: another element than the one that is pointed to is used
-        self.heap = self.integer = self.order = self.indexed = None
+        self.parent, self.place, self.mixed = self, place, False
+        self.globals, self.functions, self.types = {}, {}, {}  # {(symbol, path of members): place}, ..
+        # {heap, integer, order, or indexed (another element than the one that is pointed to is used): place}
+        self.seen = {}
         self.parts = {}  # target: the class of what is pointed to; element: of pointers to other elements; members ..
-        self.mixed = False  # whether it points to globals that cannot be elements of one array
 
     def find(self):
         node = self
@@ -26,7 +27,7 @@ class Node:
         return node
 
     def part(self, *key):
-        """target; element; member, struct, field; argument, number; result."""
+        """target; element; member, struct, member; argument, number; result."""
         root = self.find()
         return root.parts.setdefault(key, Node(root.place)).find()
 
@@ -35,11 +36,19 @@ class Node:
         found = self.find().parts.get(key)
         return found and found.find()
 
+    def mark(self, what, place):
+        self.find().seen.setdefault(what, place)
+
+    def has(self, what):
+        return what in self.find().seen
+
     def point_to(self, kind):
         """The C type of what is pointed to, as far as it is known; rows of arrays count by their elements."""
         kind = kind.base()
         if kind.kind not in ("void", "func"):
             self.find().types.setdefault(kind.key(), kind)
+        if kind.kind == "ptr":
+            self.part("target").point_to(kind.to)
 
     def unite(self, other):
         one, other = self.find(), other.find()
@@ -48,39 +57,36 @@ class Node:
         other.parent = one
         for name in ("globals", "functions", "types"):
             getattr(one, name).update(getattr(other, name))
-        for name in ("heap", "integer", "order", "indexed"):
-            setattr(one, name, getattr(one, name) or getattr(other, name))
+        one.seen = {**other.seen, **one.seen}
         for key, node in list(other.parts.items()):
-            if key in one.parts:
-                one.parts[key].unite(node)
-            else:
-                one.parts[key] = node
+            one.find().parts.setdefault(key, node).unite(node)
 
     def representation(self, place):
         """heap, boxes (an array of pointers to its elements), global, function, integer or none; or a refusal."""
         root = self.find()
         if len(root.globals) > 1:
-            raise Refusal(place, f"pointer to different globals ({', '.join(sorted(map(named, root.globals)))})")
-        words = {"heap": root.heap and "to an object of the heap or a local",
+            raise Refusal((place, f"pointer to different globals ({', '.join(sorted(map(named, root.globals)))})"))
+        words = {"heap": root.has("heap") and "to an object of the heap or a local",
                  "global": root.globals and "to global " + "".join(map(named, root.globals)),
-                 "function": root.functions and "to a function", "integer": root.integer and "that is a number"}
+                 "function": root.functions and "to a function", "integer": root.has("integer") and "that is a number"}
         kinds = [kind for kind in words if words[kind]]
         if len(kinds) > 1:
-            raise Refusal(place, "pointer " + " and ".join(words[kind] for kind in kinds))
+            raise Refusal((place, "pointer " + " and ".join(words[kind] for kind in kinds)))
         if kinds != ["heap"] and (kinds or not root.types):
             return kinds[0] if kinds else "none"
         element = root.known("element")
         if element is root:
-            raise Refusal(place, "pointer arithmetic on an object of the heap or a local")
+            raise Refusal((place, "pointer arithmetic on an object of the heap or a local"))
         return "boxes" if element else "heap"
 
     def pointee_type(self, place):
         """The one type that pointers of this class point to."""
         types = list(self.find().types.values())
         if len(types) > 1:
-            raise Refusal(place, "pointer to several types (" + ", ".join(sorted(kind.shown() for kind in types)) + ")")
+            names = ", ".join(sorted(kind.shown() for kind in types))
+            raise Refusal((place, f"pointer to several types ({names})"))
         if not types:
-            raise Refusal(place, "void * whose type is not known")
+            raise Refusal((place, "void * whose type is not known"))
         return types[0]
 
 
@@ -124,30 +130,40 @@ class Classes:
         element = root.known("element")
         if element is None or element is root:
             return False
-        if root.globals and not root.heap or element.indexed or element.known("element"):
+        if root.globals and not root.has("heap") or element.has("indexed") or element.known("element"):
             root.unite(element)
             return True
-        changed = bool(root.heap and not element.heap)
-        element.heap = element.heap or root.heap
+        changed = root.has("heap") and not element.has("heap")
+        if changed:
+            element.mark("heap", root.seen["heap"])
         return changed
 
     def settled_members(self, root):
         root, changed = root.find(), False
-        for key, node in list(root.parts.items()):
-            if key[0] != "member":
-                continue
+        for key, node in [item for item in root.parts.items() if item[0][0] == "member"]:
             node = node.find()
             for (symbol, path), place in list(root.globals.items()):
                 inner = (symbol, path + key[2:])
                 if self.part_type(symbol, path).name == key[1] and inner not in node.globals:
                     node.globals[inner] = place
                     changed = True
-            if root.heap and not root.globals:
+            if root.has("heap") and not root.globals:
                 made = self.structs[key[1]].fields[key[2]].made
-                changed |= not node.heap or made.find() is not node
-                node.heap = node.heap or root.heap
+                changed |= not node.has("heap") or made.find() is not node
+                node.mark("heap", root.seen["heap"])
                 made.unite(node)
+        if root.has("heap") and not root.globals:
+            for made in [made for kind in root.types.values() for made in self.arrays_in(kind)]:
+                changed |= not made.has("heap")
+                made.mark("heap", root.seen["heap"])
         return changed
+
+    def arrays_in(self, kind):
+        """The classes of the arrays in an object of this type."""
+        for field in self.structs[kind.name].fields.values() if kind.kind == "struct" else ():
+            if field.type.kind == "array":
+                yield field.made
+            yield from self.arrays_in(field.type)
 
     def part_type(self, symbol, path):
         """The type of a part of a variable, or of the elements of that part."""
@@ -156,17 +172,14 @@ class Classes:
             kind = self.structs[kind.name].fields[step].type.base()
         return kind
 
-    @staticmethod
-    def depth_and_names(root):
-        return max(len(path) for _, path in root.globals), sorted(map(named, root.globals))
-
     def merge(self, group):
         """Globals that one pointer may point to become elements of one array, which `group` makes."""
         while True:
             several = [root for root in self.everything() if len(root.globals) > 1 and not root.mixed]
             if not several:
                 return
-            root = min(several, key=self.depth_and_names)
+            root = min(several, key=lambda root: (max(len(path) for _, path in root.globals),
+                                                  sorted(map(named, root.globals))))
             keys = list(root.globals)
             made = group(keys)
             root.mixed = made is None

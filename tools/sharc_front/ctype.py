@@ -8,11 +8,13 @@ UNSIGNED = {"bool", "uchar", "ushort", "uint", "ulong"}
 CELL = {"bool": "int", "char": "char", "uchar": "int", "short": "int", "ushort": "int", "int": "int", "uint": "long",
         "long": "long", "ulong": "long"}
 INT_RANGE, LONG_RANGE = (-(1 << 31), (1 << 31) - 1), (-(1 << 63), (1 << 63) - 1)
+# sizes in glibc
+SIZES = {"mutex": 40, "cond": 48, "sem_t": 32, "pthread_barrier_t": 32, "pthread_rwlock_t": 56, "ptr": 8, "void": 1}
 
 
 @dataclass(frozen=True)
 class Type:
-    kind: str  # int, void, ptr, array, struct, func, mutex, cond, attr, or bad where the type was refused
+    kind: str  # int, void, ptr, array, struct, func, mutex, cond, or bad where the type was refused
     name: str = ""  # of an int: a key of BITS; of a struct: its name; of a function with variable arguments: ...
     to: "Type" = None  # what a pointer points to, the element of an array, the result of a function
     length: int = None  # of an array; None where it is not known
@@ -48,7 +50,7 @@ class Type:
 
 
 INT, UINT, LONG, ULONG, CHAR = (Type("int", name) for name in ("int", "uint", "long", "ulong", "char"))
-VOID, MUTEX, COND, ATTR, BAD = (Type(kind) for kind in ("void", "mutex", "cond", "attr", "bad"))
+VOID, MUTEX, COND, BAD = (Type(kind) for kind in ("void", "mutex", "cond", "bad"))
 
 
 def pointer(to):

@@ -9,8 +9,7 @@ STOPPED = re.compile(r"(thread \d+: )X3 zero divisor at (.*?): (exit\([^)]*\)|ab
 # how lines name an lvalue, where, and what follows
 TOLD = re.compile(r"\b(?P<what>read of|write of|cast of|free of|waits for mutex) (?P<lvalue>.*?) at (?P<file>\S+):"
                   r"(?P<line>\d+)(?: without lock (?P<lock>.*))?")
-CHECKED = re.compile(r"(?P<head>(?P<file>\S+):(?P<line>\d+): (?:M\d+ (?:write to|null of) readonly|warning)) "
-                     r"(?P<lvalue>.*?)(?P<tail>| may be NULL since .*)$")
+CHECKED = re.compile(r"((\S+):(\d+): (?:M\d+ (?:write to|null of) readonly|warning)) (.*?)(| may be NULL since .*)$")
 
 
 def packed(text):
@@ -49,18 +48,17 @@ class Names:
         return f"{text} without lock {shown + self.of_words(lock[len(prefix):]) if beside else self.of_words(lock)}"
 
     def line(self, line):
-        """One line of the program's output."""
+        """What is shown of one line of the program's output."""
         stopped, checked = STOPPED.match(line), CHECKED.match(line)
         if stopped:
             said = {"assert": "an assertion failed"}.get(stopped[3], stopped[3])
-            return f"{stopped[1]}{said} at {stopped[2]}:{stopped[4]}"
+            return f"{stopped[1]}{said} at {stopped[2]}:{stopped[4]}\n"
         if checked:
-            known = self.of_lvalue(checked["lvalue"], checked["file"], checked["line"])
-            return f"{checked['head']} {known}{checked['tail']}"
+            return f"{checked[1]} {self.of_lvalue(checked[4], checked[2], checked[3])}{checked[5]}\n"
         if TOLD.search(line):
-            return TOLD.sub(self.told, line)
+            return TOLD.sub(self.told, line) + "\n"
         told = re.match(r"(.*?): (?:local|global|parameter|result|cast of) ?(\w*)", line)
         if self.hidden and line.startswith("  "):
-            return None
+            return ""
         self.hidden = bool(told) and (told[2] in self.own or told[1].startswith("what C does that the language"))
-        return None if self.hidden else self.of_words(line)
+        return "" if self.hidden else self.of_words(line) + "\n"

@@ -1,60 +1,43 @@
-"""Places and pointers: what C calls lvalues, as the variables, fields and elements of the language."""
+"""The second stage: names, places, expressions and types of small C as text, now that it is known how the pointers of
+each class are represented."""
 
 import re
 
-from .ctype import CELL, pointer
-from .declare import Declarations
-from .source import Refusal
-from .values import PRIMARY, UNARY, Value, cell, number, scaled, shifted, summed
+from .arithmetic import number, plus, times
+from .classes import HEAP
+from .ctype import CELL
+from .lower import Lowering
+from .tree import PLACES
 
+LEVELS = {"||": 1, "&&": 2, "|": 3, "^": 4, "&": 5, "==": 6, "!=": 6, "<": 7, ">": 7, "<=": 7, ">=": 7, "<<": 8,
+          ">>": 8, "+": 9, "-": 9, "*": 10, "/": 10, "%": 10}
+UNARY, PRIMARY = 11, 12
 RESERVED = set("private readonly locked racy dynamic SCAST mutex spawn join lock unlock print cond wait signal main "
                "broadcast malloc free sizeof NULL int char long void struct if else while for break continue return "
                "auto case const default do double enum extern float goto inline register restrict short signed static "
                "switch typedef union unsigned volatile _Bool _Complex _Imaginary _Alignas _Alignof _Atomic _Generic "
                "_Noreturn _Static_assert _Thread_local".split())
-HEAP = ("heap", "boxes")
-UNADDRESSED = "address of this form (a member or element of an object of the heap)"
-NUMBER = "dereference of a number"
 MOVED = "pointer arithmetic on an object of the heap or a local"
 
 
-class Place:
-    """kind: cell (an integer, pointer or mutex), pieces (a struct of which each part is a variable), fields (a struct
-    in an object or array), cells (an array).
+class Spot:
+    """Where a place is in the text.
 
-    text is the lvalue of a cell, the prefix of fields, or the array of cells, whose first element is at `start`.
-    `flat` is the global, with its path, that `number`, the number of an element from 0, counts in. `pointer` is the
-    value of a pointer to the place, if it can have one. `form` and `parent` say how it is written: var, member, index,
-    or at, where the parent is a value.
+    `index` None: a variable, of which `path` are the members. Else an element, and of that the members `inner`: of the
+    array in the variable (symbol, path), or, with a `pointer`, of an object; `boxes` if that holds pointers.
     """
 
-    def __init__(self, kind, text, type, **parts):
-        self.kind, self.text, self.type = kind, text, type
-        self.content = self.pointer = self.symbol = self.flat = self.number = self.top = self.member = None
-        self.path, self.boxes, self.start, self.reads = (), False, number(0), True
-        self.form, self.parent, self.zero, self.source, self.access, self.row = "var", None, True, None, None, False
-        self.__dict__.update(parts)
-
-    def formed(self, form, parent, zero=True):
-        self.form, self.parent, self.zero = form, parent, zero
-        self.access = parent.access if form == "index" else self.access
-        return self
+    def __init__(self, symbol=None, index=None, pointer=None, boxes=False):
+        self.symbol, self.index, self.pointer, self.boxes = symbol, index, pointer, boxes
+        self.path, self.inner, self.top = (), (), None
 
 
-class Places(Declarations):
-    def how(self, node, place):
-        """How the pointers of a class are represented: known when all classes are."""
-        return "heap" if self.learning else node.representation(place)
-
-    def late(self, place, what):
-        """A refusal that depends on how pointers are represented."""
-        if not self.learning:
-            raise Refusal(place, what)
-
-    # ---- names of parts
+class Places(Lowering):
+    def how(self, node):
+        return node.representation(self.here)
 
     def piece_name(self, symbol, path):
-        """The variable for a part of a struct."""
+        """The variable for a part of a variable."""
         key = (symbol, path)
         if key not in self.pieces:
             base = "_".join((symbol.out,) + path)
@@ -68,7 +51,7 @@ class Places(Declarations):
 
     def leaf(self, struct, path):
         """The field for a part of a struct in an object: structs in structs are laid open."""
-        table, name = self.leaves.setdefault(struct, {}), "_".join(path)
+        table, name = self.leaf_names.setdefault(struct, {}), "_".join(path)
         if path not in table:
             made = name + "_" * (name in RESERVED)
             while made in table.values():
@@ -83,274 +66,211 @@ class Places(Declarations):
             self.struct_names[struct] = self.fresh(struct + "_") if struct in RESERVED else struct
         return self.struct_names[struct]
 
-    # ---- places
+    def spot(self, place):
+        if place.op == "variable":
+            return self.variable_spot(place.parts[0])
+        if place.op == "at":
+            return self.pointed(*place.parts, place.type)
+        spot, step = self.spot(place.parts[0]), place.parts[1]
+        if place.op == "member":
+            return self.entered(spot, *place.member())
+        spot.index = plus(spot.index, times(step, place.type.cells()))
+        return spot
 
-    def variable_place(self, symbol, path=(), kind=None):
-        """The place of a variable, or of a part of one of which each part is a variable."""
-        kind = kind or symbol.type
+    def variable_spot(self, symbol):
+        is_array = symbol.type.kind == "array"
         if symbol.kind == "global":
-            return self.global_place(symbol, path, kind)
-        name, content = self.piece_name(symbol, path), self.path_content(symbol, path)
-        if kind.kind == "array":
-            boxes = self.how(self.part_class(symbol, path), symbol.place) == "boxes"
-            return Place("cells", name, kind, content=content, boxes=boxes, symbol=symbol)
-        if symbol.boxed:
-            made = self.pointed(Value(name), kind, content)
-            made.symbol = symbol
-            return made
-        if kind.kind == "struct":
-            return Place("pieces", name, kind, symbol=symbol, path=path)
-        return Place("cell", name, kind, content=content, reads=False, symbol=symbol)
+            self.refuse_if(symbol not in self.globals and not symbol.own,
+                           f"variable {symbol.name}, which is not defined here")
+            return self.in_group(Spot(symbol, number(0) if is_array else None))
+        if is_array or symbol.boxed:
+            boxes = is_array and self.how(symbol.address) == "boxes"
+            return Spot(symbol, number(0), self.piece_name(symbol, ()), boxes)
+        return Spot(symbol)
+
+    def in_group(self, spot):
+        """The same, where a global has become a part of an array of several."""
+        if (spot.symbol, spot.path) in self.groups:
+            spot.symbol, at = self.groups[(spot.symbol, spot.path)]
+            spot.path, spot.index = (), number(at)
+        return spot
+
+    def entered(self, spot, struct, name):
+        """Where a member of the struct at a spot is."""
+        field = self.structs[struct].fields[name]
+        is_array = field.type.kind == "array"
+        if spot.index is None:
+            spot.path += (name,)
+            if spot.symbol.kind == "global":
+                spot.index = number(0) if is_array else None
+                return self.in_group(spot)
+            if is_array:
+                boxes = self.how(self.part_class(spot.symbol, spot.path)) == "boxes"
+                return Spot(spot.symbol, number(0), self.piece_name(spot.symbol, spot.path), boxes)
+            return spot
+        spot.top, spot.inner = spot.top or struct, spot.inner + (name,)
+        if is_array and spot.pointer is None:  # those of all elements are one after the other
+            spot.path, spot.inner, spot.top = spot.path + spot.inner, (), None
+            spot.index = times(spot.index, field.type.cells())
+        elif is_array:
+            return Spot(None, number(0), self.spot_text(spot)[0], self.how(field.made) == "boxes")
+        return spot
 
     def part_class(self, symbol, path):
         """The class of pointers to a part of a local."""
-        kind, node = symbol.type, symbol.address
-        for step in path:
-            node = node.part("member", kind.name, step)
-            content, kind = self.structs[kind.name].fields[step].content, self.part(kind, (step,))
-            self.holds(kind, content, node)
-            node.find().heap = node.find().heap or symbol.place
-        return node
+        return self.address_class(self.inner_place(self.variable_place(symbol), path)).find()
 
-    def global_place(self, symbol, path, kind):
-        if (symbol, path) in self.groups:
-            group, at = self.groups[(symbol, path)]
-            whole = self.global_place(group, (), group.type)
-            if kind.kind != "array":
-                whole = self.element_at(whole, number(at), kind)
-            whole.type, whole.start, whole.symbol = kind, number(at), symbol
-            return whole
-        content, one = self.path_content(symbol, path), number(1)
-        if kind.kind == "struct":
-            return Place("pieces", "", kind, symbol=symbol, path=path, pointer=one)
-        name = self.piece_name(symbol, path)
-        if kind.kind == "array":
-            return Place("cells", name, kind, content=content, flat=(symbol, path), symbol=symbol)
-        return Place("cell", name, kind, content=content, pointer=one, symbol=symbol, path=path)
+    def pointed(self, pointer, index, kind):
+        """Where the element `index` of what a pointer points to is."""
+        how = self.how(pointer.node)
+        if how in HEAP:
+            pointer.node.pointee_type(self.here)
+            return Spot(None, times(index, kind.cells()), self.text(pointer, PRIMARY), how == "boxes")
+        self.refuse_if(how != "global",
+                       "use of a pointer that is always NULL" if how == "none" else "dereference of a number")
+        symbol, path = next(iter(pointer.node.find().globals))
+        self.reads_strings |= symbol is self.strings
+        spot, inner, moves = self.variable_spot(symbol), symbol.type, pointer.node.has("order")
+        array_at = 0 if inner.kind == "array" else None
+        for at, step in enumerate(path):
+            struct = inner.base().name
+            spot, inner = self.entered(spot, struct, step), self.structs[struct].fields[step].type
+            array_at = at + 1 if inner.kind == "array" else array_at
+        self.refuse_if(inner.base().key() != kind.base().key(),
+                       f"pointer to {inner.base().shown()} used for {kind.shown()}")
+        self.refuse_if(array_at is None and (not index.null() or moves and pointer.op != "address"),
+                       "arithmetic on a pointer to a single object")
+        self.refuse_if(array_at is not None and moves and array_at < len(path), "arithmetic on a pointer to a member")
+        if array_at is not None:
+            spot.index = plus(plus(self.counted_from_one(pointer), number(1), "-"), times(index, kind.cells()))
+        return spot
 
-    def member(self, base, name):
-        """A member of a struct."""
-        struct, field = base.type.name, self.structs[base.type.name].fields[name]
-        if field.type.kind == "bad":
-            self.refuse(field.place, None)
-        made = self.member_place(base, field, name).formed("member", base)
-        made.member = (struct, name)
+    def counted_from_one(self, pointer):
+        """A pointer to an element of a global as the number that it is."""
+        if pointer.op == "moved":
+            base, op, index = pointer.parts
+            return plus(self.counted_from_one(base), times(index, base.type.to.cells()), op)
+        if pointer.op in ("array", "address"):
+            spot = self.spot(pointer.parts[0])
+            return number(1) if spot.index is None else plus(spot.index, number(1))
+        return pointer
+
+    def spot_text(self, spot):
+        """The lvalue at a spot, and how tight its text binds."""
+        if spot.index is None:
+            return self.piece_name(spot.symbol, spot.path), PRIMARY
+        name, alone = spot.pointer or self.piece_name(spot.symbol, spot.path), spot.pointer and spot.index.null()
+        if spot.boxes:
+            name, alone = f"{name}[{self.text(spot.index)}]", True
+        if spot.inner:
+            joint = "->" if alone else f"[{self.text(spot.index)}]."
+            return name + joint + self.leaf(spot.top, spot.inner), PRIMARY
+        return ("*" + name, UNARY) if alone else (f"{name}[{self.text(spot.index)}]", PRIMARY)
+
+    def place_text(self, place):
+        """The lvalue for a cell, whose name in C is kept."""
+        made = self.spot_text(self.spot(place))
+        if place.source is not None:
+            self.user.lvalue(self.here, made[0], place.source)
         return made
 
-    def member_place(self, base, field, name):
-        kind, path = field.type, base.path + (name,)
-        if base.kind == "pieces":
-            return self.variable_place(base.symbol, path, kind)
-        to_it = base.pointer if base.flat else None
-        if kind.kind == "struct":
-            return Place("fields", base.text, kind, top=base.top, path=path, flat=base.flat, number=base.number,
-                         pointer=to_it)
-        if kind.kind == "array" and base.flat:
-            symbol, outer = base.flat[0], base.flat[1] + path
-            return Place("cells", self.piece_name(symbol, outer), kind, content=field.content, flat=(symbol, outer),
-                         start=scaled(base.number, kind.cells()))
-        text = base.text + self.leaf(base.top, path)
-        if kind.kind == "array":
-            boxes = self.how(field.made, field.place) == "boxes"
-            return Place("cells", text, kind, content=field.content, boxes=boxes)
-        return Place("cell", text, kind, content=field.content, pointer=to_it, top=base.top,
-                     path=path, symbol=base.text)
+    def lvalue(self, place):
+        return self.place_text(place)[0]
 
     def companion(self, place):
         """The mutex beside the condition of a condition variable."""
-        path = place.path + ("m",)
-        return place.symbol + self.leaf(place.top, path) if place.top else self.piece_name(place.symbol, path)
+        spot = self.spot(place)
+        spot.path, spot.inner = (spot.path, spot.inner + ("m",)) if spot.inner else (spot.path + ("m",), ())
+        return self.spot_text(spot)[0]
 
-    def element(self, base, index):
-        """Element `index` of a place that is an array."""
-        kind = base.type.to
-        at = summed(base.start, scaled(index, kind.cells()))
-        if kind.kind == "array":
-            made = Place("cells", base.text, kind, content=base.content, boxes=base.boxes, flat=base.flat, start=at)
-        else:
-            made = self.element_at(base, at, kind)
-        made.offset = at
-        return made.formed("index", base, index.null())
+    def text(self, tree, level=0):
+        """An expression that binds at least as tight as `level`."""
+        made, own = self.place_text(tree) if tree.op in PLACES else self.printed(tree)
+        return made if own >= level else f"({made})"
 
-    def element_at(self, base, at, kind):
-        text = f"{base.text}[{at.text}]"
-        if base.boxes:
-            return self.pointed(Value(text, reads=True), kind, base.content)
-        flat = {"flat": base.flat, "number": at, "pointer": shifted(at, 1)} if base.flat else {}
-        if kind.kind == "struct":
-            return Place("fields", text + ".", kind, top=kind.name, **flat)
-        return Place("cell", text, kind, content=base.content, **flat)
+    def printed(self, tree):
+        """The text of a value, and how tight it binds."""
+        op, parts = tree.op, tree.parts
+        if tree.number is not None:
+            return self.number_text(tree)
+        if op in LEVELS:
+            ordered = parts[0].type.kind == "ptr" and op not in ("==", "!=", "||", "&&")
+            self.refuse_if(ordered and self.how(parts[0].node) != "global",
+                           "order of pointers to objects of the heap or locals")
+            level = LEVELS[op]
+            return f"{self.text(parts[0], level)} {op} {self.text(parts[1], level + 1)}", level
+        if op in ("!", "~"):
+            return op + self.text(parts[0], UNARY), UNARY
+        if op == "load":
+            return self.place_text(parts[0])
+        if op == "helper":
+            return f"{self.helper(parts[0])}({', '.join(map(self.text, parts[1:]))})", PRIMARY
+        if op == "call":
+            return self.call_text(tree), PRIMARY
+        if op == "take":
+            return f"SCAST({self.type_text(parts[1], tree.node)}, {self.lvalue(parts[0])})", PRIMARY
+        if op in ("function", "named"):
+            return str(self.numbers[parts[0]] if op == "function" else parts[0]), PRIMARY
+        if op == "string":
+            return str(self.text_pool.setdefault(parts[0], sum(map(len, self.text_pool))) + 1), PRIMARY
+        if op == "difference":
+            self.refuse_if(self.how(parts[0].node) != "global",
+                           "difference of pointers to an object of the heap or a local")
+            text, cells = f"{self.text(parts[0], 9)} - {self.text(parts[1], 10)}", parts[0].type.to.cells()
+            return (text, 9) if cells == 1 else (f"({text}) / {cells}", 10)
+        if op == "bits":
+            self.refuse_if(self.how((parts[0] if tree.type.kind != "ptr" else tree).node) not in ("integer", "none"),
+                           "address as a number")
+            return self.printed(parts[0])
+        return self.pointer_text(tree)
 
-    def pointed(self, pointer_value, kind, content):
-        """The object of the heap that a pointer points to."""
-        if kind.kind == "struct":
-            return Place("fields", pointer_value.at_level(PRIMARY) + "->", kind, top=kind.name, pointer=pointer_value)
-        return Place("cell", "*" + pointer_value.at_level(UNARY), kind, content=content, pointer=pointer_value)
+    def number_text(self, tree):
+        value = tree.number
+        if tree.type.kind == "ptr":
+            return ("NULL" if self.how(tree.node) in HEAP else "0"), PRIMARY
+        if value == -(1 << 63):
+            return f"(-{(1 << 63) - 1}L - 1)", PRIMARY
+        return f"{value}{'L' * tree.wide}", PRIMARY if value >= 0 else UNARY
 
-    def deref(self, value, index=None, once=False):
-        """Element `index` of what a pointer points to; `once`: the text of the place may be written twice."""
-        index = index or number(0)
-        if value.object is not None and (index.null() or value.single):
-            return value.object
-        if value.object is not None and not value.text:
-            self.refuse(self.here, "element of a single object")
-        if value.array is not None:
-            return self.element(value.array, index)
-        if value.type.kind != "ptr" or value.type.to.kind == "void":
-            self.refuse(self.here, NUMBER if value.type.kind != "ptr" else "dereference of void *")
-        self.points(value.node, value.type)
-        if not index.null():
-            value.node.find().indexed = self.here
-        return self.at(value, index, value.type.to, once).formed("at", value, index.null())
-
-    def at(self, value, index, kind, once):
-        node = value.node
-        how = self.how(node, self.here)
-        if how not in ("global", *HEAP):
-            self.refuse(self.here, "use of a pointer that is always NULL" if how == "none" else NUMBER)
-        if value.calls or once and value.reads and how == "global":
-            value = self.spilled(value)
+    def pointer_text(self, tree):
+        """The address of an object, an array as a pointer, or a pointer to another element."""
+        place, how = tree.parts[0], self.how(tree.node)
         if how == "global":
-            return self.element_of_global(value, index, kind)
-        if not self.learning:
-            node.pointee_type(self.here)
-        content = node.part("target") if kind.base().kind == "ptr" else None
-        whole = Place("cells", value.at_level(PRIMARY), kind, content=content, boxes=how == "boxes")
-        if kind.kind == "array":
-            whole.start = scaled(index, kind.cells())
-            return whole
-        if how == "boxes" or not index.null():
-            return self.element_at(whole, index, kind)
-        return self.pointed(value, kind, content)
+            return self.printed(self.counted_from_one(tree))
+        if tree.op == "moved":
+            return self.moved_text(tree, *tree.parts)
+        spot = self.spot(place)
+        if spot.inner or not spot.boxes and not spot.index.null():
+            self.refuse(self.here, "row of an array as a pointer" if tree.op == "array" else
+                        "address of this form (a member or element of an object of the heap)")
+        boxed = spot.boxes and tree.op == "address"
+        return (f"{spot.pointer}[{self.text(spot.index)}]" if boxed else spot.pointer), PRIMARY
 
-    def element_of_global(self, value, index, kind):
-        """What a number points to: an element of the last array on the path of its global, or a part of that."""
-        symbol, path = next(iter(value.node.find().globals))
-        self.reads_strings |= symbol is self.strings
-        kinds = [self.classes.part_type(symbol, path[:at]) for at in range(len(path) + 1)]
-        arrays = [symbol.type] + [self.structs[kinds[at].name].fields[step].type for at, step in enumerate(path)]
-        last = max((at for at, inner in enumerate(arrays) if inner.kind == "array"), default=None)
-        moves = value.node.find().order
-        if last is None:
-            if not index.null() or moves and not value.const:
-                self.refuse(self.here, "arithmetic on a pointer to a single object")
-            made = self.global_place(symbol, path, arrays[-1])
-        else:
-            if path[last:] and moves:
-                self.refuse(self.here, "arithmetic on a pointer to a member")
-            made = self.global_place(symbol, path[:last], arrays[last].base())
-            made = Place("cells", self.piece_name(symbol, path[:last]), kind, flat=(symbol, path[:last]),
-                         content=self.path_content(symbol, path[:last]))
-            made.start = summed(shifted(value, -1), scaled(index, kind.cells()))
-            if kind.kind == "array":
-                return made
-            made = self.element_at(made, made.start, arrays[last].base())
-            for step in path[last:]:
-                made = self.member(made, step)
-        if made.type.key() != kind.key():
-            self.refuse(self.here, f"pointer to {made.type.shown()} used for {kind.shown()}")
-        return made
-
-    # ---- pointers
-
-    def address_class(self, place):
-        """The class of the pointers to a place, or to the elements of one that is an array."""
-        if place.form == "var":
-            return place.symbol.address
-        if place.form == "member":
-            made = self.address_class(place.parent).part("member", *place.member)
-            self.holds(place.type, self.structs[place.member[0]].fields[place.member[1]].content, made)
-            return made
-        inner = place.parent.node if place.form == "at" else self.address_class(place.parent)
-        return inner if place.zero else inner.part("element")
-
-    def address(self, place):
-        """A pointer to a place that is no element of an array."""
-        node = self.address_class(place)
-        if place.type.kind == "array":
-            return self.decayed(place).typed(pointer(place.type), node)
-        whole = place
-        while whole.form == "member":
-            whole = whole.parent
-        if whole.form == "var" and whole.symbol and whole.symbol.kind != "global":
-            whole.symbol.boxed = True
-        if place.pointer is None and not self.learning:
-            if place.member:
-                self.wanted_alone.add(place.member)
-            self.refuse(self.here, UNADDRESSED)
-        return (place.pointer or number(1)).typed(pointer(place.type), node, object=place)
-
-    def decayed(self, place):
-        """An array as a pointer to its first element."""
-        made = shifted(place.start, 1) if place.flat else Value(place.text, reads=place.reads)
-        row = not place.flat and place.start.text != "0"
-        return made.typed(pointer(place.type.to), self.address_class(place), array=place, row=row)
-
-    def loaded(self, place):
-        """What a place holds."""
-        kind = place.type
-        if kind.kind == "array":
-            return self.decayed(place)
-        if kind.kind == "struct":
-            return Value("", struct=place, type=kind)
-        if kind.kind not in ("int", "ptr"):
-            self.refuse(self.here, f"{kind.shown()} as a value")
-        value = self.read(place)
-        return self.spilled(value) if kind.atomic and kind.kind == "int" and not self.inlined else value
-
-    def read(self, place):
-        kind, level = place.type, UNARY if place.text[0] == "*" else PRIMARY
-        if kind.kind == "int":
-            made = cell(place.text, kind.name, level)
-        else:
-            how = self.how(place.content, self.here)
-            made = cell(place.text, "long" if how == "integer" else "int", level)
-            made = Value(place.text, level) if how in HEAP else made
-        made.reads = place.reads
-        return made.typed(kind, place.content, place=place)
-
-    def pointer_text(self, value, node):
-        """A pointer as a cell of class `node` holds it."""
-        if value.null():
-            return "NULL" if self.how(node, self.here) in HEAP else "0"
-        if getattr(value, "row", False):
-            self.late(self.here, "row of an array as a pointer")
-        self.how(node, self.here)
-        return value.text
-
-    # ---- texts of types
-
-    def mode_text(self, mode, context):
-        if mode is None or not mode.startswith("locked("):
-            return " " + mode if mode else ""
-        return f" locked({self.lock_path(mode[7:-1], context)})"
+    def moved_text(self, tree, base, op, index):
+        if index.null() and tree.node.find() is base.node.find():
+            return self.printed(base)
+        self.refuse_if(self.how(base.node) != "boxes", MOVED)
+        spot = self.spot(base.parts[0]) if base.op == "array" else Spot(None, number(0), self.text(base, PRIMARY))
+        return f"{spot.pointer}[{self.text(plus(spot.index, index, op))}]", PRIMARY
 
     def lock_path(self, path, context):
         """A lock path of a mark. `context`: the struct around it, and what gives the names of its fields."""
         head, *steps = re.split(r"->|\.", path)
         if context and not steps and head in self.structs[context[0]].fields:
             return context[1](head)
-        symbol, steps = self.visible.get(head) or self.scopes[0].get(head), tuple(steps)
-        if symbol is None or not hasattr(symbol, "address"):
-            self.refuse(self.here, f"lock {path}, which is not known")
-        kind, node = symbol.type, symbol.content
-        if symbol.kind != "global" and kind.kind == "ptr" and self.how(node, self.here) == "global":
-            symbol, outer = next(iter(node.find().globals))
-            steps = outer + steps
-        if symbol.kind == "global":
-            outer = [steps[:at] for at in range(len(steps) + 1)]
-            arrays = [self.part(symbol.type, path).kind == "array" for path in outer[:-1] or [()]]
-            if any(arrays) or any((symbol, path) in self.groups for path in outer):
-                self.refuse(self.here, f"lock {path}, which is an element of an array")
-            return self.piece_name(symbol, steps)
-        to = kind.to if kind.kind == "ptr" else kind
-        return self.piece_name(symbol, ()) + (f"->{self.leaf(to.name, steps)}" if to.kind == "struct" else "")
+        symbol = self.visible.get(head) or self.scopes[0].get(head)
+        self.refuse_if(not hasattr(symbol, "address"), f"lock {path}, which is not known")
+        place = self.variable_place(symbol)
+        place = self.deref(self.loaded(place)) if symbol.type.kind == "ptr" else place
+        spot = self.spot(self.inner_place(place, steps))
+        self.refuse_if(spot.index is not None and not spot.pointer, f"lock {path}, which is an element of an array")
+        return self.spot_text(spot)[0]
 
     def type_text(self, kind, node=None, context=None, local=True):
         """The type of a cell or pointer with its modes; node: the class of what it holds."""
-        if self.learning:
-            return "int"
-        mode = self.mode_text(kind.mode, context)
+        mode = " " + kind.mode if kind.mode else ""
+        if mode.startswith(" locked("):
+            mode = f" locked({self.lock_path(kind.mode[7:-1], context)})"
         if kind.kind == "int":
             return CELL[kind.name] + (mode or " racy" * (kind.atomic and not local))
         if kind.kind in ("mutex", "void"):
@@ -358,15 +278,13 @@ class Places(Declarations):
         if kind.kind == "struct":
             self.complete(kind, self.here)
             return "struct " + self.struct_name(kind.name) + mode
-        if kind.kind != "ptr":
-            self.refuse(self.here, f"type {kind.shown()}")
-        how = self.how(node, self.here)
+        self.refuse_if(kind.kind != "ptr", f"type {kind.shown()}")
+        how = self.how(node)
         if how not in HEAP:
             return ("long" if how == "integer" else "int") + mode
         known = node.pointee_type(self.here)
         to = (kind.to if kind.to.kind != "void" else known.with_(mode=kind.to.mode)).base()
-        if to.kind in ("cond", "attr"):
-            self.refuse(self.here, f"pointer to {to.kind}")
+        self.refuse_if(to.kind == "cond", "pointer to cond")
         inner = self.type_text(to, node.part("target") if to.kind == "ptr" else None, context, False)
         return inner + " *" * (2 if how == "boxes" else 1) + mode
 

@@ -24,32 +24,26 @@ SPELT = {"__extension__": "", "restrict": "", "__restrict": "", "__restrict__": 
          "__volatile": "volatile", "__volatile__": "volatile", "__func__": '""', "__FUNCTION__": '""'}
 HARMLESS = set("unused noreturn format const pure noinline always_inline cold hot malloc nonnull warn_unused_result "
                "used deprecated returns_nonnull flatten leaf nothrow fallthrough may_alias noclone alloc_size".split())
-REFUSED = {"typeof": "typeof", "__typeof__": "typeof", "__typeof": "typeof", "__thread": "variable of each thread",
-           "_Thread_local": "variable of each thread", "_Generic": "_Generic", "asm": "inline assembler",
-           "__asm__": "inline assembler", "__asm": "inline assembler", "_Complex": "complex number",
-           "__complex__": "complex number", "__int128": "__int128", "__auto_type": "__auto_type",
-           "_Alignas": "_Alignas", "__label__": "local label", "_Float128": "floating point",
-           "__float128": "floating point",
-           "__builtin_va_arg": "variable arguments", "__builtin_offsetof": "offsetof", "_Alignof": "_Alignof",
-           "__alignof__": "_Alignof"}
+REFUSED = {word: what for what, words in {
+    "typeof": "typeof __typeof__ __typeof", "variable of each thread": "__thread _Thread_local", "_Generic": "_Generic",
+    "inline assembler": "asm __asm__ __asm", "complex number": "_Complex __complex__", "local label": "__label__",
+    "floating point": "_Float128 __float128", "variable arguments": "__builtin_va_arg", "_Alignas": "_Alignas",
+    "offsetof": "__builtin_offsetof", "_Alignof": "_Alignof __alignof__", "__int128": "__int128",
+    "__auto_type": "__auto_type"}.items() for word in words.split()}
 
 
 class Refusal(Exception):
-    """A place, as (file, line), and what is refused there; what is None where that was said already."""
+    """Places, as (file, line), each with what is refused there; that is None where it was said already."""
 
-    def __init__(self, place, what):
-        super().__init__(what)
-        self.place, self.what = place, what
-
-
-class Several(Exception):
-    def __init__(self, refusals):
-        super().__init__()
-        self.refusals = refusals
+    def __init__(self, *all):
+        super().__init__(*all)
+        self.all = all
 
 
 def preprocessed(path, options):
     command = ["gcc", "-E", "-nostdinc", "-undef", "-DSHARC_FRONT", "-I", HEADERS, "-I", INCLUDE, *options, path]
+    if not os.path.isfile(path):
+        raise Refusal(((path, 1), "file that cannot be read"))
     done = subprocess.run(command, capture_output=True, check=False)
     if done.returncode == 0:
         return done.stdout.decode("utf-8", "replace")
@@ -57,8 +51,8 @@ def preprocessed(path, options):
     found = re.search(r"^(.*?):(\d+):\d+: (?:fatal )?error: (.*)", errors, re.MULTILINE)
     if found:
         missing = re.match(r"(\S+): No such file or directory", found[3])
-        raise Refusal((found[1], int(found[2])), f"header {missing[1]}" if missing else found[3])
-    raise Refusal((path, 1), f"gcc -E: {errors.strip().splitlines()[-1:]}")
+        raise Refusal(((found[1], int(found[2])), f"header {missing[1]}" if missing else found[3]))
+    raise Refusal(((path, 1), f"gcc -E: {errors.strip().splitlines()[-1:]}"))
 
 
 class Source:
@@ -68,13 +62,13 @@ class Source:
         self.modes, self.words, self.refused, self.file, self.line = [], set(), [], path, 1
         text = TOKEN.sub(self.token, preprocessed(path, options))
         if self.refused:
-            raise Several(self.refused)
+            raise Refusal(*self.refused)
         try:
             self.tree = c_parser.CParser().parse(text, path)
         except c_parser.ParseError as error:
             raise self.unread(str(error), text) from None
         except (RecursionError, AssertionError, AttributeError, ValueError, IndexError, KeyError, TypeError):
-            raise Refusal((path, 1), "syntax that pycparser does not read") from None
+            raise Refusal(((path, 1), "syntax that pycparser does not read")) from None
 
     def token(self, found):
         """A token made ready for pycparser: marks become qualifiers, and GNU words go."""
@@ -100,7 +94,7 @@ class Source:
         return token
 
     def refuse(self, what):
-        self.refused.append(Refusal((self.file, self.line), what))
+        self.refused.append(((self.file, self.line), what))
 
     def word(self, word):
         if word in REFUSED:
@@ -116,10 +110,9 @@ class Source:
 
     def unread(self, message, text):
         found = re.match(r"(.*?):(\d+)(?::\d+)?: (.*)", message)
-        if found:
-            near = re.sub(r"^before: ", "near ", found[3])
-            return Refusal((found[1], int(found[2])), f"syntax that pycparser does not read ({near})")
-        return Refusal((self.file, text.count("\n")), "syntax that pycparser does not read (to the end)")
+        place = (found[1], int(found[2])) if found else (self.file, text.count("\n"))
+        near = re.sub("^before: ", "near ", found[3]) if found else "to the end"
+        return Refusal((place, f"syntax that pycparser does not read ({near})"))
 
     def qualified(self, qualifiers):
         """The mark among qualifiers, if any, and the qualifiers of C that are left."""

@@ -1,32 +1,24 @@
-"""Statements and functions."""
-
-import re
+"""Statements and functions, lowered to lists of steps (C11 6.8, 6.9.1)."""
 
 from pycparser import c_ast as A
 
-from .ctype import BAD, Type, promoted
+from .arithmetic import compare, convert, number
+from .ctype import BAD, INT, LONG, pointer, promoted
 from .declare import Symbol, place_of
-from .locks import Held
-from .objects import Objects
+from .express import Expressions
 from .source import Refusal
-from .values import PRIMARY, number
+from .tree import Tree
 
-REFUSED = {"Pragma": "#pragma", "Case": "case inside another statement", "Default": "case inside another statement"}
 JUMPS = ("exit", "abort", "_exit", "_Exit", "pthread_exit")
 
 
-class Statements(Objects):
+class Statements(Expressions):
     def statement(self, node):
-        depth = self.depth
-        if not self.inlined:
-            self.here = place_of(node, self.here)
+        self.here = self.here if self.pinned else place_of(node, self.here)
         try:
             getattr(self, "s_" + type(node).__name__, self.s_expression)(node)
         except Refusal as refusal:
-            if self.inlined:
-                raise
-            self.report(refusal)
-            self.depth = depth
+            self.report(*refusal.all[0])
             if isinstance(node, (A.Decl, A.Typedef)) and node.name:
                 self.scopes[-1][node.name] = BAD
 
@@ -35,33 +27,23 @@ class Statements(Objects):
             self.statement(node)
 
     def body(self, node):
-        """A statement as the inside of a block."""
-        kept = dict(self.visible)
-        parts = node.block_items if isinstance(node, A.Compound) else [node]
-        self.scoped(lambda: self.inside(lambda: self.statements(parts)))
-        self.visible = kept
+        """The steps of a statement with a scope of its own."""
+        nodes = node.block_items if isinstance(node, A.Compound) else [node]
+        return self.scoped(lambda: self.captured(self.statements, nodes)[0])
 
-    def branch(self, node):
-        """A body that may not be run: after it those locks are held that are held either way."""
-        before = self.held.copy()
-        self.body(node)
-        self.held = before if self.ends([node]) else before.both(self.held)
-
-    def ends(self, parts):
-        """Whether control never leaves these statements at their end."""
-        last = parts[-1] if parts else None
-        if isinstance(last, A.Compound):
-            return self.ends(last.block_items)
-        call = isinstance(last, A.FuncCall) and isinstance(last.name, A.ID) and last.name.name in JUMPS
-        return call or isinstance(last, (A.Break, A.Return, A.Continue))
+    def blocked(self, act, *arguments):
+        """Steps in a block of their own if they declare variables, whose references end with it."""
+        steps, _ = self.captured(act, *arguments)
+        if any(step.kind in ("declare", "give") for step in steps):
+            self.emit("block", steps)
+        else:
+            self.steps += steps
 
     def s_expression(self, node):
-        self.in_block(self.captured(lambda: self.effect(node))[0])
+        self.blocked(self.effect, node)
 
     def s_Compound(self, node):
-        self.emit("{")
-        self.body(node)
-        self.close()
+        self.emit("block", self.body(node))
 
     def s_Decl(self, node):
         if node.name is None:
@@ -69,276 +51,225 @@ class Statements(Objects):
         elif isinstance(node.type, A.FuncDecl):
             self.prototype(node)
         else:
-            symbol = self.variable(node, "local")
-            symbol.loop = len(self.loops)
-            if symbol in self.merged.values():
-                self.visible[symbol.name] = symbol
-            elif symbol.kind != "global":
-                self.declare_local(symbol)
+            symbol = self.variable(node, "local" if self.function else "global")
+            if symbol.kind != "global":
+                self.declare_local(symbol, symbol.initial)
+
+    def declare_local(self, symbol, values):
+        """Declares a local and gives it the values of its initialiser."""
+        symbol.loop = len(self.loops)
+        if symbol.type.kind == "cond":
+            return
+        self.emit("declare", symbol)
+        base = self.variable_place(symbol)
+        for path, item in values:
+            self.blocked(self.store, self.inner_place(base, path), item)
 
     def s_DeclList(self, node):
         self.statements(node.decls)
 
-    def s_Typedef(self, node):
-        self.typedef(node)
-
     def s_EmptyStatement(self, node):
-        pass
+        """Nothing."""
 
     s_StaticAssert = s_EmptyStatement
 
-    def s_refused(self, node):
-        word = type(node).__name__
-        self.refuse(node, REFUSED.get(word, word.lower()))
-
-    s_Goto = s_Label = s_Pragma = s_Case = s_Default = s_refused
-
     def s_If(self, node):
-        lines, test = self.captured(lambda: self.condition(node.cond))
-        if lines:
-            self.emit("{")
-        self.lines += lines
-        self.emit(f"if ({test.text}) {{")
-        self.branch(node.iftrue)
-        if node.iffalse is not None:
-            self.close("} else {")
-            self.branch(node.iffalse)
-        self.close("} }" if lines else "}")
-
-    # ---- loops. self.loops has for each loop or switch around the lines before `continue`, or what says it to a switch
+        self.blocked(lambda: self.emit("if", self.condition(node.cond), self.body(node.iftrue),
+                                       self.body(node.iffalse) if node.iffalse else []))
 
     def s_While(self, node):
-        self.loop(node.cond, None, node.stmt)
+        self.loop(node.cond, [], node.stmt)
 
     def s_DoWhile(self, node):
-        self.long_loop("", node.stmt, [], self.leaving(*self.captured(lambda: self.condition(node.cond))))
+        leaving, _ = self.captured(self.blocked, lambda: self.emit("if", self.condition(node.cond), [],
+                                                                   self.step("break")))
+        self.loop(None, leaving, node.stmt)
 
     def s_For(self, node):
-        self.scoped(lambda: self.for_loop(node))
+        self.emit("block", self.scoped(lambda: self.captured(self.for_loop, node)[0]))
 
     def for_loop(self, node):
-        kept = dict(self.visible)
-        lines, _ = self.captured(lambda: self.statements([node.init] if node.init is not None else []))
-        if len(lines) == 1 and re.match(r"(?!if|while|for|\{)[^{};]*;$", lines[0][2]):
-            self.loop(node.cond, node.next, node.stmt, lines[0][2][:-1])
-        else:
-            self.emit("{")
-            self.lines += lines
-            self.inside(lambda: self.loop(node.cond, node.next, node.stmt))
-            self.close()
-        self.visible = kept
+        self.statements([node.init] if node.init is not None else [])
+        step = self.captured(self.blocked, self.effect, node.next)[0] if node.next is not None else []
+        self.loop(node.cond, step, node.stmt)
 
-    def loop(self, cond, step, body, first=""):
-        place = self.here
-        before, test = self.captured(lambda: self.condition(cond) if cond is not None else number(1))
-        steps, _ = self.captured(lambda: self.effect(step) if step is not None else None)
-        simple = len(steps) <= 1 and all(re.match(r"\w+(\[[^;]*\])? = [^{};]*;$", text) for _, _, text in steps)
-        if before or not simple:
-            self.long_loop(first, body, [] if cond is None else self.leaving(before, test), steps)
-            return
-        last, until = steps[0][2][:-1] if steps else "", test.text if cond is not None else ""
-        head = f"for ({first}; {until}; {last})" if first or last else f"while ({test.text})"
-        self.emit(head + " {", place)
-        self.loop_body(body, [])
-        self.close()
-
-    def leaving(self, before, test):
-        """The lines that leave a loop where its condition is false."""
-        leave = f"if (!{test.at_level(PRIMARY)}) {{ break; }}"
-        return [(self.here, self.depth, "{"), *before, (self.here, self.depth, leave + " }")] if before else \
-            [(self.here, self.depth, leave)]
-
-    def long_loop(self, first, body, before, after):
-        """A loop whose condition or step takes statements: what is at its end is written before each continue too."""
-        self.emit(f"for ({first}; ; ) {{" if first else "while (1) {")
-        self.lines += before
-        after = [(self.here, self.depth, "{"), *after, (self.here, self.depth, "}")] if len(after) > 1 else after
-        self.emit("  {")
-        self.loop_body(body, after)
-        self.close()
-        self.lines += after
-        self.close()
-
-    def loop_body(self, body, after):
-        self.loops.append(after)
-        self.branch(body)
+    def loop(self, cond, step, body):
+        """`step` is at the end of the body, and before each continue: self.loops has it for each loop around, and the
+        flag `again` for each switch."""
+        before, test = self.captured(self.condition, cond) if cond is not None else ([], None)
+        if before:
+            before, test = self.step("block", before + self.step("if", test, [], self.step("break"))), None
+        self.loops.append(step)
+        inner = self.body(body)
         self.loops.pop()
+        self.emit("while", test, before + inner + step)
 
     def s_Break(self, _):
-        self.emit("break;")
+        self.emit("break")
 
     def s_Continue(self, _):
         inner = self.loops[-1]
-        if isinstance(inner, str):
-            self.emit(f"{inner} = -1;")
-            self.emit("break;")
+        if isinstance(inner, Symbol):
+            inner.uses += 1
+            self.emit("assign", self.variable_place(inner), number(1))
+            self.emit("break")
         else:
-            self.lines += inner
-            self.emit("continue;")
-
-    # ---- switch: the cases in order, from the number of the one that is chosen on, in a loop that takes the breaks
+            self.steps += inner
+            self.emit("continue")
 
     def s_Switch(self, node):
-        self.scoped(lambda: self.switch(node))
+        self.emit("block", self.scoped(lambda: self.captured(self.switch, node)[0]))
 
     def switch(self, node):
+        """The cases in order, from the number of the one that is chosen on, in a loop that takes the breaks."""
         value = self.integers(self.value(node.cond))[0]
-        kind, groups = Type("int", promoted(value.type.name)), self.groups_of(node)
-        self.emit("{")
-        self.depth += 1
-        chosen = self.stable(self.arithmetic.convert(value, kind.name))
-        at = self.new_name("case_")
-        default = next((number_of for number_of, (labels, _, _) in enumerate(groups) if None in labels), len(groups))
-        self.emit(f"int {at} = {default};")
-        for number_of, (labels, _, _) in enumerate(groups):
-            numbers = [self.arithmetic.convert(number(label), kind.name).text for label in labels if label is not None]
-            if numbers:
-                test = " || ".join(f"{chosen.at_level(7)} == {text}" for text in numbers)
-                self.emit(f"if ({test}) {at} = {number_of};")
-        self.loops.append(at)
-        self.emit("while (1) {")
-        begun = len(self.lines)
-        self.cases(groups, at)
-        self.loops.pop()
-        self.emit("break; }")
-        if any(text == f"{at} = -1;" for _, _, text in self.lines[begun:]):
-            self.emit(f"if ({at} == -1) {{")
-            self.inside(lambda: self.s_Continue(node))
-            self.emit("}")
-        self.depth -= 1
-        self.close()
-
-    def cases(self, groups, at):
-        for number_of, (_, parts, place) in enumerate(groups):
+        kind, groups = promoted(value.type.name), self.groups_of(node)
+        value, default = self.stable(convert(value, kind)), len(groups)
+        at, again = (self.temporary(INT).parts[0] for _ in range(2))
+        chosen = self.variable_place(at)
+        for number_of, (labels, _) in enumerate(groups):
+            default = number_of if None in labels else default
+        self.emit("assign", chosen, number(default))
+        for number_of, (labels, _) in enumerate(groups):
+            for label in labels:
+                if label is not None:
+                    self.emit("if", compare("==", value, number(label, kind), kind),
+                              self.step("assign", chosen, number(number_of)), [])
+        self.loops.append(again)
+        steps = []
+        for number_of, (_, parts) in enumerate(groups):
             if any(isinstance(part, (A.Decl, A.DeclList)) for part in parts) and number_of + 1 < len(groups):
-                self.refuse(place, "declaration in a case that is not the last, outside a block")
-            before = self.held.copy()
-            self.emit(f"if ({at} <= {number_of}) {{", place)
-            self.inside(lambda parts=parts: self.statements(parts))
-            self.close()
-            self.held = before
+                self.refuse(parts[0], "declaration in a case that is not the last, outside a block")
+            self.here = place_of(parts[0], self.here) if parts and not self.pinned else self.here
+            steps += self.step("if", compare("<=", self.loaded(chosen), number(number_of), "int"),
+                               self.captured(self.statements, parts)[0], [])
+        self.loops.pop()
+        self.emit("while", None, steps + self.step("break"))
+        if again.uses:
+            self.emit("if", self.loaded(self.variable_place(again)), self.captured(self.s_Continue, node)[0], [])
 
     def groups_of(self, node):
-        """The cases as (labels, statements, place); `case 1: case 2:` are inside one another in the tree."""
+        """The cases as (labels, statements); `case 1: case 2:` are inside one another in the tree."""
         groups, labels = [], []
         for item in (node.stmt.block_items or []) if isinstance(node.stmt, A.Compound) else [node.stmt]:
             while isinstance(item, (A.Case, A.Default)):
                 inner, case = item.stmts or [], isinstance(item, A.Case)
                 labels.append(self.constant(item.expr, "case that is not constant") if case else None)
                 if len(inner) != 1 or not isinstance(inner[0], (A.Case, A.Default)):
-                    groups += [(labels, inner, place_of(item, self.here))] if inner else []
+                    groups += [(labels, inner)] if inner else []
                     labels = [] if inner else labels
                     break
                 item = inner[0]
             else:
                 self.refuse(item, "statement before the first case of a switch")
-        return groups + ([(labels, [], self.here)] if labels else [])
-
-    # ---- return and stops
-
-    def stop(self, what):
-        """Stops the thread, by a division by 0 in a file whose name says what it stands for."""
-        zero, (file, line) = self.new_name("zero"), self.here
-        self.emit("{")
-        self.emit(f"  int {zero} = 0; {zero} = 1 / {zero};", (f"{file}: {what}", line))
-        self.emit("}")
+        return groups + ([(labels, [])] if labels else [])
 
     def s_Return(self, node):
-        self.in_block(self.captured(lambda: self.returned(node))[0])
+        self.blocked(self.returned, node)
 
     def returned(self, node):
         symbol, kind = self.function, self.function.type.to
-        if symbol in self.thread_functions:
-            self.thread_result(node.expr)
-            self.emit("return;")
-        elif node.expr is None or kind.kind == "void":
+        if node.expr is None or kind.kind == "void":
             if node.expr is not None:
                 self.effect(node.expr)
-            self.emit("return;" if kind.kind == "void" else "return 0;")
+            self.emit("return", None if kind.kind == "void" else number(0).typed(kind, symbol.content))
         elif kind.kind == "struct":  # in an object that the caller frees
-            made = self.struct_object(kind)
-            self.store(made, node.expr)
-            self.emit(f"return {made.text[:-2]};")
+            result = self.declare("result", "local", kind, node)
+            result.boxed, result.own = True, True
+            self.emit("declare", result)
+            self.store(self.variable_place(result), node.expr)
+            self.emit("return", self.address(self.variable_place(result)))
         else:
             value = self.value(node.expr)
             symbol.gives |= kind.kind == "ptr" and not value.null()
-            self.emit(f"return {self.fitting(value, kind, symbol.content).text};")
+            self.emit("return", self.fitting(value, kind, symbol.content))
 
-    # ---- functions
+    def s_Typedef(self, item):
+        inner = getattr(item.type, "type", None)
+        if isinstance(inner, A.Struct) and inner.name is None:
+            self.typedef_names.setdefault(id(inner), item.name)
+        self.scopes[-1][item.name] = BAD
+        self.scopes[-1][item.name] = self.type(item.type)
 
-    def walk_function(self, symbol):
-        """Reads a function's body: to learn, or to write it."""
-        self.function, self.loops, self.locals, self.own_names, self.visible = symbol, [], 0, set(), {}
-        self.held, self.here = Held(), symbol.place
-        self.merged = {} if symbol.name == "main" else self.merging(symbol)
-        self.scoped(lambda: self.function_parts(symbol))
-        self.emit("}")
-        if self.locals > 190:
-            self.refuse(symbol.place, f"function {symbol.name} with over 190 variables")
+    def prototype(self, decl):
+        """The symbol of a function, with its parameters."""
+        symbol = self.functions.get(decl.name)
+        if symbol is None:
+            symbol = self.functions[decl.name] = self.new_function(decl)
+        if symbol.definition is None:
+            self.parameters(symbol, decl.type)
+        self.scopes[0][decl.name] = symbol
+        return symbol
 
-    def function_parts(self, symbol):
-        for param in symbol.params:
-            self.scopes[-1][param.name] = param
-        (self.main_heading if symbol.name == "main" else self.heading)(symbol)
-        self.inside(lambda: self.statements(symbol.definition.body.block_items))
+    def new_function(self, decl):
+        symbol = Symbol(decl.name, "function", self.type(decl.type), place_of(decl, self.here), self.classes)
+        if symbol.type.to.kind == "ptr":
+            symbol.content.point_to(symbol.type.to.to)
+        return symbol
 
-    def merging(self, symbol):
-        """Parameters that are only used in a first declaration `T *x = p`: x takes the place of p, so that what they
-        point to has one reference and not two."""
-        found = {}
-        for item in symbol.definition.body.block_items or []:
-            init = getattr(item, "init", None)
-            while isinstance(init, A.Cast):
-                init = init.expr
-            if not isinstance(item, A.Decl) or self.learning:
-                break
-            param = next((p for p in symbol.params if isinstance(init, A.ID) and p.name == init.name), None)
-            local = self.kept.get(((), id(item)))
-            if param and isinstance(local, Symbol) and len(param.uses) == 1:
-                if "ptr" == param.type.kind == local.type.kind and not param.boxed | local.boxed:
-                    found[param] = local
-        return found
+    def parameters(self, symbol, decl):
+        known, symbol.params = symbol.params, []
+        for node in decl.args.params if decl.args else []:
+            kind = self.adjusted(self.type(node.type)) if not isinstance(node, (A.EllipsisParam, A.ID)) else None
+            if kind is None or kind.kind == "void":
+                continue
+            param = self.declare(getattr(node, "name", None) or "unnamed", "param", kind, node)
+            if len(symbol.params) < len(known):
+                param.content.unite(known[len(symbol.params)].content)
+            symbol.params.append(param)
+        symbol.type = symbol.type.with_(params=tuple(param.type for param in symbol.params))
 
-    def heading(self, symbol):
-        texts, boxed = [], []
-        for param in symbol.params:
-            param = self.merged.get(param, param)
-            self.local_name(param)
-            place, self.locals = self.variable_place(param), self.locals + 1
-            for part in self.parts(place, param.type) if param.type.kind == "struct" else [place]:
-                name = self.fresh(param.name) if param.boxed else part.text
-                texts.append(f"{self.type_text(part.type, part.content)} {name}")
-                boxed += [(part, name)] if param.boxed else []
-        if len(texts) > 16:
-            self.refuse(symbol.place, f"function {symbol.name} with over 16 parameters")
-        name, kind = self.function_name(symbol), "void"
-        if symbol in self.giving:
-            self.emit(f"void {name}(struct {symbol.record} * {symbol.given}) {{")
-            none = "NULL" if self.how(symbol.params[0].content, self.here) in ("heap", "boxes") else "0"
-            self.emit(f"  {texts[0]} = {symbol.given}->arg; {symbol.given}->arg = {none};")
-        else:
-            if symbol not in self.thread_functions:
-                kind = self.result_type(symbol.type.to, symbol.content)
-            self.emit(f"{kind} {name}({', '.join(texts) or 'void'}) {{")
-        for param in symbol.params:
-            if param.boxed:
-                self.inside(lambda param=param: self.declare_parts(param, (), param.type))
-        for part, name in boxed:
-            self.emit(f"  {part.text} = {name};")
+    def instance(self, symbol, values):
+        """A copy of a function of the headers for one call, and its arguments: each call has classes of its own, and
+        `a + i` goes as a and i."""
+        for param, value in zip(symbol.params, values):
+            self.refuse_if(param.name == "none" and not value.null(), f"argument of {symbol.name} that is not NULL")
+        kind = values[0].type if values else INT
+        names = {"__sharc_value": kind.to.bare().with_(atomic=False) if kind.kind == "ptr" else INT}
+        self.scopes.append(names)
+        made = self.new_function(symbol.definition.decl)
+        self.parameters(made, symbol.definition.decl.type)
+        self.scopes.pop()
+        if kind.kind == "ptr" and kind.to.atomic:
+            made.params[0].type = pointer(names["__sharc_value"].with_(mode="racy"))
+        for at, (param, value) in enumerate(zip(list(made.params), values)):
+            if value.op == "moved" and value.parts[1] == "+":
+                values[at], index = value.parts[0], self.declare(param.name, "param", LONG, symbol.definition)
+                made.params.append(index)
+                values.append(value.parts[2])
+                both = (self.loaded(self.variable_place(part)) for part in (param, index))
+                names[param.name] = self.added(*both, "+")
+        made.type = made.type.with_(params=tuple(param.type for param in made.params))
+        for param in made.params:
+            param.own = True
+        made.definition, made.place, made.pinned, made.names = symbol.definition, self.here, self.here, names
+        made.out = self.fresh(symbol.name)
+        self.lowered.append(made)
+        return made, values
 
-    def result_type(self, kind, content):
-        return f"struct {self.struct_name(kind.name)} *" if kind.kind == "struct" else self.type_text(kind, content)
+    def parameter(self, symbol, at, param):
+        """A parameter whose address is taken becomes a local, and those of main are locals with known values."""
+        place = self.variable_place(param)
+        if symbol.name == "main":
+            self.emit("declare", param)
+            text = "1" if at else str(len(self.arguments_given))
+            self.emit("assign", place, Tree("named", text, type=param.type, node=param.content))
+        elif place.memory:
+            self.scopes[-1][param.name] = local = self.declare(param.name, "local", param.type, symbol.definition)
+            self.emit("declare", local)
+            self.put(self.variable_place(local), self.loaded(place))
 
-    def main_heading(self, symbol):
-        self.emit("int main(void) {")
-        self.depth += 1
-        for param, text in zip(symbol.params, (str(len(self.arguments_given)), "1")):
-            self.local_name(param)
-            self.declare_parts(param, (), param.type)
-            self.emit(f"{self.variable_place(param).text} = {text};")
-        if len(symbol.params) > 1:
-            for at, word in enumerate(self.arguments_given):
-                data = [byte - 256 if byte > 127 else byte for byte in word.encode()] + [0]
-                self.emit(f"{self.words.out}[{at}] = {self.literal(data).text};")
-        self.emit("%initialisers%")
-        self.depth -= 1
+    def lower_function(self, symbol):
+        """Reads a function's body."""
+        self.function, self.loops, self.pinned = symbol, [], symbol.pinned is not None
+        self.here = symbol.pinned or symbol.place
+        self.steps = symbol.steps
+        self.scopes.append({param.name: param for param in symbol.params})
+        self.tags.append({})
+        for at, param in enumerate(symbol.params):
+            self.parameter(symbol, at, param)
+        self.scopes[-1].update(symbol.names)
+        self.statements(symbol.definition.body.block_items)
+        self.scopes.pop()
+        self.tags.pop()
+        self.function, self.pinned = None, False

@@ -4,11 +4,11 @@
 #include <sched.h>
 #include <time.h>
 #include <sharc_front.h>
-/* the names of these four are what the front looks at */
+/* the names of these three are what the front looks at */
 typedef unsigned long pthread_mutex_t;
 typedef unsigned long pthread_cond_t;
 typedef unsigned long pthread_spinlock_t;
-typedef unsigned long pthread_attr_t;
+typedef int pthread_attr_t;
 typedef int pthread_t;
 typedef int pthread_key_t;
 typedef int pthread_mutexattr_t;
@@ -29,24 +29,24 @@ typedef struct { pthread_mutex_t guard; int __LOCKED done; } pthread_once_t;
 #define PTHREAD_SCOPE_SYSTEM 0
 #define PTHREAD_PROCESS_PRIVATE 0
 #define PTHREAD_CANCELED ((void *) -1)
-static inline int pthread_mutex_init(pthread_mutex_t *m, void *none) { return 0; }
-static inline int pthread_mutex_destroy(pthread_mutex_t *m) { return 0; }
-static inline int pthread_cond_init(pthread_cond_t *c, void *none) { return 0; }
-static inline int pthread_cond_destroy(pthread_cond_t *c) { return 0; }
-static inline int pthread_spin_init(pthread_spinlock_t *m, int shared) { return 0; }
-static inline int pthread_spin_destroy(pthread_spinlock_t *m) { return 0; }
-static inline int pthread_spin_lock(pthread_spinlock_t *m) { return pthread_mutex_lock(m); }
-static inline int pthread_spin_unlock(pthread_spinlock_t *m) { return pthread_mutex_unlock(m); }
-static inline int pthread_attr_init(pthread_attr_t *a) { return 0; }
-static inline int pthread_attr_destroy(pthread_attr_t *a) { return 0; }
-static inline int pthread_attr_setdetachstate(pthread_attr_t *a, int state) { return 0; }
-static inline int pthread_attr_setstacksize(pthread_attr_t *a, size_t size) { return 0; }
-static inline int pthread_attr_setscope(pthread_attr_t *a, int scope) { return 0; }
+#define pthread_mutex_init(m, attributes) __sharc_null(m, attributes)
+#define pthread_mutex_destroy(m) __sharc_null(m, 0)
+#define pthread_cond_init(c, attributes) __sharc_null(c, attributes)
+#define pthread_cond_destroy(c) __sharc_null(c, 0)
+#define pthread_spin_init(m, shared) __sharc_null(m, ((void) (shared), 0))
+#define pthread_spin_destroy(m) __sharc_null(m, 0)
+#define pthread_spin_lock(m) pthread_mutex_lock(m)
+#define pthread_spin_unlock(m) pthread_mutex_unlock(m)
+#define pthread_attr_init(a) __sharc_null(a, 0)
+#define pthread_attr_destroy(a) __sharc_null(a, 0)
+#define pthread_attr_setdetachstate(a, state) __sharc_null(a, ((void) (state), 0))
+#define pthread_attr_setstacksize(a, size) __sharc_null(a, ((void) (size), 0))
+#define pthread_attr_setscope(a, scope) __sharc_null(a, ((void) (scope), 0))
 static inline int pthread_detach(pthread_t thread) { return 0; }
 static inline int pthread_setconcurrency(int level) { return 0; }
-static inline int pthread_rwlock_init(pthread_rwlock_t *l, void *none) { return 0; }
-static inline int pthread_rwlock_destroy(pthread_rwlock_t *l) { return 0; }
-static inline int pthread_barrier_destroy(pthread_barrier_t *b) { return 0; }
+#define pthread_rwlock_init(l, attributes) __sharc_null(l, attributes)
+#define pthread_rwlock_destroy(l) __sharc_null(l, 0)
+#define pthread_barrier_destroy(b) __sharc_null(b, 0)
 static inline int pthread_rwlock_rdlock(pthread_rwlock_t *l)
 {
     pthread_mutex_lock(&l->guard);

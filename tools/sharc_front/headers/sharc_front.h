@@ -1,8 +1,8 @@
 /* What the other headers are made of.
  *
- * The front lowers C functions of these headers that are called. An inline function is copied to each call: its
- * parameters stand for the arguments, which are evaluated once, and it returns at its end. There __sharc_value is the
- * type that the first parameter points to, and an argument for a parameter with the name `none` has to be NULL.
+ * The front lowers C functions of these headers that are called: each call has a copy of its own, in which
+ * __sharc_value is the type that the first argument points to. An argument for a parameter with the name `none` has to
+ * be NULL, and so has the second one of __sharc_null.
  */
 #ifndef SHARC_FRONT_H
 #define SHARC_FRONT_H
