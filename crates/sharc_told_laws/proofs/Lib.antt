@@ -3,3 +3,4 @@ pub mod Logged
 pub mod Ordered
 pub mod Owned
 pub mod Sorts
+pub mod Stopping

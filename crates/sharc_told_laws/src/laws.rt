@@ -2,6 +2,7 @@
 
 ghost use Rattle.sharc_told_laws.specs.Own.{TurnsTellOwn};
 ghost use Rattle.sharc_told_laws.specs.Prints.{PrintsAreTold, TextsBeginWithPrints};
+ghost use Rattle.sharc_told_laws.specs.Stopped.{StopsAreStopped};
 
 use sharc_code::{run_laws, standing_laws};
 
@@ -10,6 +11,13 @@ pub fn turns_tell_own()
     ensures { TurnsTellOwn }
 {
     standing_laws();
+}
+
+/// A thread of a checked run that has a stop is stopped.
+pub fn stops_law()
+    ensures { StopsAreStopped }
+{
+    run_laws();
 }
 
 /// The prints of the threads of a checked run, in the order of their places, have the values of the Print events of its
