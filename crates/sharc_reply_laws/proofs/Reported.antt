@@ -1,0 +1,54 @@
+-- The reports of a checked run, each with its cause and with what the source wants.
+use Rattle.std.proofs.Common.{◌≡◌, ℕ, false, List, [], ◌∷◌, ◌++◌, Some, sym, subst}
+use Rattle.sharc_shadow.specs.declared.shadow_word.Kind.{Kind}
+use Rattle.sharc_mode.specs.Moded.{Assignment}
+use Rattle.sharc_meaning.specs.Events.{Access}
+use Rattle.sharc_code.specs.declared.code.Code.{Code}
+use Rattle.sharc_code.specs.declared.shape.Shape.{Shape}
+use Rattle.sharc_code.specs.declared.state.State.TheVariants.{Stopped}
+use Rattle.sharc_code.specs.declared.state.Stop.{Stop}
+use Rattle.sharc_code.specs.declared.state.Stop.TheVariants.{Conflict, NoLock, NotSole, Trap}
+use Rattle.sharc_code.specs.Runs.{Turn}
+use Rattle.sharc_code.specs.Whole.{CheckedRun, place_after}
+use Rattle.sharc_cpu.specs.Thread.{ThreadView}
+use Rattle.sharc_threads.specs.Ends.{AreStarted}
+use Rattle.sharc_compile.specs.Refused.{IsReport}
+use Rattle.sharc_invariant.specs.Labels.{Labels}
+use Rattle.sharc_history_laws.specs.Conflicts.{IsCheck}
+use Rattle.sharc_history_laws.specs.Followed.{ShowsLock, access_checked}
+use Rattle.sharc_history_laws.specs.History.{history_of}
+use Rattle.sharc_history_laws.specs.Seen.{RunsBegin}
+use Rattle.sharc_target_laws.specs.Targets.{targets_of}
+use Rattle.sharc_sole_laws.specs.Cause.{ShowsCause as ShowsReference}
+use Rattle.sharc_sound_laws.specs.Reports.{IsReportOf}
+use Rattle.sharc_stand_laws.specs.Stands.{Stands}
+use Rattle.sharc_reply_laws.specs.Reports.{ReportTells, WantsAccess, WantsUnder}
+
+module _ (begins : RunsBegin) (m : Assignment) (code : Code) (s : Shape) (ls : Labels) (run : List Turn) (checked : CheckedRun code s run) (stands : Stands m (targets_of m) code s ls run)
+    (wanted : (before : List Turn) → CheckedRun code s before → (check : Turn) (kind : Kind) (granule site : ℕ) → IsCheck code s before check check.thread kind granule site false
+    → (a : Access) → access_checked code ((place_after code s before).threads check.thread) ≡ Some a → WantsAccess m code (history_of code s before) check.thread site a)
+    (under : (t site word : ℕ) → ((place_after code s run).threads t).at.state ≡ Stopped → ((place_after code s run).threads t).own.stop ≡ Some (NoLock site word)
+    → (shows : ShowsLock code (history_of code s run) t ((place_after code s run).threads t) site) → WantsUnder m code s run t site word shows)
+    (reports : (t : ℕ) (stop : Stop) → ((place_after code s run).threads t).at.state ≡ Stopped → ((place_after code s run).threads t).own.stop ≡ Some stop → IsReport stop → IsReportOf m (targets_of m) code s ls run t stop)
+    (casts : (t site count : ℕ) → ((place_after code s run).threads t).own.stop ≡ Some (NotSole site count) → ShowsReference m code s ls run t site count)
+    (threads : List ThreadView) (are : AreStarted code s (place_after code s run) threads) (t : ℕ) where
+  pub reported : (stop : Stop) → ((place_after code s run).threads t).at.state ≡ Stopped → ((place_after code s run).threads t).own.stop ≡ Some stop → ReportTells m code s ls run threads t stop
+  reported (Conflict c) stopped is =
+      let st = stands.conflicts t c is in
+      let names = st.text threads are in
+      let shown = names.cause in
+      let cause = shown.cause in
+      let was : CheckedRun code s (shown.report ∷ shown.before) = begins code s shown.later (shown.report ∷ shown.before) (subst (CheckedRun code s) shown.parts checked) in
+      let w = wanted shown.before (begins code s (shown.report ∷ []) shown.before was) shown.report c.kind c.granule c.site cause.is_report cause.refused.access cause.refused.is in
+      record {
+        names = names;
+        all = st.causes;
+        refused = subst (λ u. WantsAccess m code (history_of code s shown.before) u c.site cause.refused.access) shown.thread w;
+        wants_it = (reports t (Conflict c) stopped is tt).wants_it;
+      }
+  reported (NoLock site word) stopped is =
+      let shows = (stands.locks t site word is).shows in
+      let w = under t site word stopped is shows in
+      record { shows = shows; wants_it = w.wants_it; same = w.same }
+  reported (NotSole site count) stopped is = record { shows = casts t site count is; wants_it = (reports t (NotSole site count) stopped is tt).wants_it }
+  reported (Trap trap site) stopped is = tt

@@ -1,0 +1,103 @@
+-- What a thread tells, by the function that the source run gives it.
+use Rattle.std.proofs.Common.{◌≡◌, ℕ, ℤ, ◌⊎◌, inl, inr, ⊎_elim, true, cond, List, [], ◌∷◌, ◌++◌, reverse, Option, Some, None, refl, sym, ap, ◌∙◌, subst, arith}
+use Rattle.std.specs.Prelude.{◌==◌}
+use Rattle.std.proofs.lemmas.Bool.Decides.{nat_tests}
+use Rattle.std.proofs.lemmas.List.Elements.{filter-append}
+use Rattle.sharc_tree.specs.declared.event.Act.TheVariants.{Started}
+use Rattle.sharc_tree.specs.declared.event.SourceEvent.{SourceEvent}
+use Rattle.sharc_tree.specs.declared.token.Site.{Site}
+use Rattle.sharc_tree.specs.Tree.{Function}
+use Rattle.sharc_names.specs.declared.fault.Named.TheVariants as named
+use Rattle.sharc_ctype.specs.Resolved.{Resolution, function_at, named_at}
+use Rattle.sharc_ctype_laws.specs.Declared.{NameThemselves}
+use Rattle.sharc_mode.specs.Moded.{Assignment}
+use Rattle.sharc_meaning.specs.Events.{Stands, events_of, is_of}
+use Rattle.sharc_meaning.specs.Obeys.{History}
+use Rattle.sharc_meaning.specs.References.{Begun}
+use Rattle.sharc_meaning.specs.Runs.{IsNamedAt}
+use Rattle.sharc_code.specs.declared.code.Code.{Code}
+use Rattle.sharc_code.specs.Machine.{Machine}
+use Rattle.sharc_flat.specs.Correct.{MayStart}
+use Rattle.sharc_gen.specs.Correct.{IsBeginning}
+use Rattle.sharc_compile_laws.specs.Paths.{IsAskedFor, TellsProgram}
+use Rattle.sharc_reply_laws.specs.Threads.{HasBegun, HasNotBegun}
+
+-- two functions with one name are one
+same_function : (r : Resolution) → NameThemselves r → (n k : ℕ) (site : Site) → IsNamedAt (function_at r n) site → IsNamedAt (function_at r k) site → n ≡ k
+same_function r names n k site a b = by (function_at r n) (function_at r k) refl refl a b
+  where
+    number_eq : (a b : ℕ) → named.Function a ≡ named.Function b → a ≡ b
+    number_eq a b e = cc
+
+    by : (f g : Option Function) → function_at r n ≡ f → function_at r k ≡ g → IsNamedAt f site → IsNamedAt g site → n ≡ k
+    by None g p q a b = absurd a
+    by (Some f) None p q a b = absurd b
+    by (Some f) (Some g) p q a b =
+        let tokens = ap (λ (s : Site). named_at r s.token) (sym a ∙ b) in
+        number_eq n k (sym (names.functions n f p) ∙ tokens ∙ names.functions k g q)
+
+same_is : (n : ℕ) → (n == n) ≡ true
+same_is n = grind (arith, nat_tests)
+
+-- the events of a thread, where its first one stands
+from_first : (t : ℕ) (R before after : History) (e : SourceEvent) → Stands R before e after → e.thread ≡ t → events_of t before ≡ [] → events_of t R ≡ e ∷ events_of t after
+from_first t R before after e stands own none =
+    ap (events_of t) stands ∙ filter-append (is_of t) before (e ∷ after) ∙ ap (λ es. es ++ events_of t (e ∷ after)) none
+    ∙ ap (λ b. cond b (e ∷ events_of t after) (events_of t after)) (ap (λ n. n == t) own ∙ same_is t)
+
+some : (e : SourceEvent) (es : List SourceEvent) → [] ≡ e ∷ es → ⊥
+some e es q = cc
+
+head_eq : (a b : SourceEvent) (xs ys : List SourceEvent) → a ∷ xs ≡ b ∷ ys → a ≡ b
+head_eq a b xs ys q = cc
+
+tail_eq : (a b : SourceEvent) (xs ys : List SourceEvent) → a ∷ xs ≡ b ∷ ys → xs ≡ ys
+tail_eq a b xs ys q = cc
+
+started_eq : (v w : ℤ) → Started v ≡ Started w → v ≡ w
+started_eq v w q = cc
+
+module _ (m : Assignment) (code : Code) (names : NameThemselves m.typed) (R : History) (thread : ℕ) (at : Machine) (said : List SourceEvent) (lowered : List ℕ) (turns : ℕ)
+    (own_events : events_of thread R ≡ said) (have : (events_of thread R ≡ []) ⊎ ((b : Begun m R thread) × MayStart m b.own.function)) where
+  has_begun : TellsProgram m code thread at said lowered turns → (b : Begun m R thread) → MayStart m b.own.function → HasBegun m code R thread at turns
+  has_begun k b may =
+      let own = b.own in
+      let both : own.begins ∷ events_of thread own.after ≡ k.begins ∷ k.told = sym (from_first thread R own.before own.after own.begins own.stands own.own own.first) ∙ (own_events ∙ k.starts) in
+      let begins : own.begins ≡ k.begins = head_eq own.begins k.begins (events_of thread own.after) k.told both in
+      let told : events_of thread own.after ≡ k.told = tail_eq own.begins k.begins (events_of thread own.after) k.told both in
+      let function : own.function ≡ k.function =
+      same_function m.typed names own.function k.function own.begins.site own.site (subst (λ (d : SourceEvent). IsNamedAt (function_at m.typed k.function) d.site) (sym begins) k.site)
+      in
+      let argument : own.argument ≡ k.argument = started_eq own.argument k.argument (sym own.act ∙ ap (λ (d : SourceEvent). d.act) begins ∙ k.act) in
+      let asked : IsAskedFor m code thread k.function k.argument k.told at lowered turns = k.asked (subst (MayStart m) function may) in
+      let by_function = subst (λ f. IsAskedFor m code thread f k.argument k.told at lowered turns) (sym function) asked in
+      let by_argument = subst (λ v. IsAskedFor m code thread own.function v k.told at lowered turns) (sym argument) by_function in
+      let is = subst (λ es. IsAskedFor m code thread own.function own.argument es at lowered turns) (sym told) by_argument in
+      record {
+        fuel = is.fuel;
+        own = record {
+          function = own.function;
+          argument = own.argument;
+          before = own.before;
+          begins = own.begins;
+          after = own.after;
+          stands = own.stands;
+          own = own.own;
+          first = own.first;
+          act = own.act;
+          answer = own.answer;
+          site = own.site;
+          by_right = own.by_right;
+          asked = is.events;
+        };
+        over = is.over;
+        pace = is.pace;
+      }
+
+  pub tells : IsBeginning at said turns ⊎ TellsProgram m code thread at said lowered turns → HasNotBegun R thread at turns ⊎ HasBegun m code R thread at turns
+  tells (inl b) = inl (record { nothing = own_events ∙ b.nothing; first = b.pc_is; pace = b.pace })
+  tells (inr k) = inr (by have)
+    where
+      by : (events_of thread R ≡ []) ⊎ ((b : Begun m R thread) × MayStart m b.own.function) → HasBegun m code R thread at turns
+      by (inl none) = absurd (some k.begins k.told (sym none ∙ (own_events ∙ k.starts)))
+      by (inr h) = has_begun k h.0 h.1

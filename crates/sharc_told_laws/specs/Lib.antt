@@ -1,0 +1,3 @@
+pub mod Own
+pub mod Prints
+pub mod Stopped
