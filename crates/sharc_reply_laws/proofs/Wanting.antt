@@ -1,5 +1,5 @@
 -- What the source wants where a thread makes a check.
-use Rattle.std.proofs.Common.{◌≡◌, ℕ, ◌+◌, pos, ◌⊎◌, inl, inr, ⊎_elim, Bool, true, false, List, Option, Some, None, refl, sym, ap, ◌∙◌, subst}
+use Rattle.std.proofs.Common.{◌≡◌, ℕ, ◌+◌, pos, ◌⊎◌, inl, inr, Bool, true, false, List, Some, None, sym, ap, ◌∙◌, subst}
 use Rattle.std.specs.Prelude.{slice_index_or}
 use Rattle.sharc_tree.specs.declared.event.Act.{Act}
 use Rattle.sharc_tree.specs.declared.event.CellAt.{CellAt}
@@ -33,7 +33,7 @@ use Rattle.sharc_history_laws.specs.Followed.{Accesses, IsFollowed, ShowsLock, a
 use Rattle.sharc_history_laws.specs.History.{history_of}
 use Rattle.sharc_history_laws.specs.Reports.{IsLockCheck}
 use Rattle.sharc_wants_laws.specs.Wants.{IsNotThere, StopsOrWantsUnder, WantsAct, WantsBy, access_tested}
-use Rattle.sharc_sound_laws.specs.Standing.{IsPlaced, StandsAt}
+use Rattle.sharc_sound_laws.specs.Standing.{IsPlaced}
 use Rattle.sharc_reply_laws.specs.Reports.{WantsAccess, WantsUnder}
 
 -- ---- the first instruction

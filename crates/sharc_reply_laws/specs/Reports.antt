@@ -1,5 +1,5 @@
 -- What the reports of a checked run show: the cause of each, and that it is about what the source wants next.
-use Rattle.std.specs.Prelude.{◌≡◌, ℕ, pos, Bool, false, List, [], ◌∷◌, ◌++◌, Some}
+use Rattle.std.specs.Prelude.{◌≡◌, ℕ, pos, Bool, List, Some}
 use Rattle.sharc_tree.specs.declared.event.Act.{Act}
 use Rattle.sharc_shadow.specs.declared.shadow_word.Kind.{Kind}
 use Rattle.sharc_mode.specs.Moded.{Assignment}
