@@ -47,7 +47,7 @@ class Writer(Places):
                 self.declare_cell(declared)
                 symbol = step.parts[0] if step.kind == "declare" else None
                 if symbol and symbol.type.kind in ("int", "ptr") and not symbol.boxed:
-                    waiting = symbol
+                    waiting, self.locals = symbol, self.locals + 1
                     self.name_local(symbol)
                 elif step.kind in PLAIN:
                     self.line(PLAIN[step.kind].format(*map(self.text, step.parts)))
@@ -69,7 +69,6 @@ class Writer(Places):
 
     def name_local(self, symbol):
         """A name that neither a global nor another local has."""
-        self.locals += 1
         if (symbol, ()) not in self.pieces:
             taken = symbol.own or symbol.name in self.own_names or symbol.name in self.scopes[0]
             symbol.out = self.fresh(symbol.name) if taken else symbol.name
@@ -244,7 +243,7 @@ class Writer(Places):
             self.line(f"unlock(&{lock}); for (int {at} = 0; {at} < 200; {at} = {at} + 1) ; lock(&{lock});")
             return
         c, m, own, guard = self.lvalue(place), self.companion(place), self.fresh("changed"), self.own_name("guard")
-        self.user.words[own] = spelled(place)
+        self.user.words[own], self.locals = spelled(place), self.locals + 1
         self.line(f"if ({c} == NULL) {{ {c} = malloc(sizeof(struct cond)); {m} = malloc(sizeof(mutex)); }} "
                   f"{{ struct cond dynamic * {own} = {c}; mutex racy * {guard} = {m}; lock(&*{guard}); "
                   f"unlock(&{lock}); wait({own}, {guard}); unlock(&*{guard}); lock(&{lock}); }}")
@@ -351,7 +350,7 @@ class Writer(Places):
             self.heading(symbol)
         self.inside(self.write, symbol.steps)
         self.line("}")
-        self.refuse_if(self.locals > 190, f"function {symbol.name} with over 190 variables", symbol.place)
+        self.refuse_if(self.locals > 200, f"function {symbol.name} with over 200 variables", symbol.place)
 
     def heading(self, symbol):
         texts, name, kind = [], self.function_name(symbol), "void"
@@ -359,6 +358,7 @@ class Writer(Places):
             self.name_local(param)
             texts += [f"{self.type_text(leaf, self.path_content(param, path))} {self.piece_name(param, path)}"
                       for path, leaf in self.variables_of(param)]
+        self.locals += len(texts)
         self.refuse_if(len(texts) > 16, f"function {symbol.name} with over 16 parameters", symbol.place)
         if symbol in self.giving:
             self.given = self.fresh("start")
