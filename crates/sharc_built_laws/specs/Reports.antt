@@ -16,7 +16,7 @@ use Rattle.sharc_build.specs.declared.building.Built.{Built}
 use Rattle.sharc_build.specs.Built.{IsBuilt}
 use Rattle.sharc_sound_laws.specs.Obeying.{NoAccessReport}
 use Rattle.sharc_sound_laws.specs.Reports.{IsReportOf}
-use Rattle.sharc_sole_laws.specs.Cause.{ShowsCause}
+use Rattle.sharc_sole_laws.specs.Cause.{ShowsReference}
 
 -- where every source run obeys there is none of A1 to A3
 abbrev pub BuiltObeyingIsUnreported : Type 0
@@ -33,4 +33,4 @@ BuiltReportsShow = (source : List ℕ) (built : Built) → IsBuilt source built 
 abbrev pub BuiltCastsShow : Type 0
 BuiltCastsShow = (source : List ℕ) (built : Built) → IsBuilt source built → (s : Shape) → Fits built.code s → (run : List Turn) → CheckedRun built.code s run → (t site count : ℕ)
     → ((place_after built.code s run).threads t).own.stop ≡ Some (NotSole site count)
-    → (ls : Labels) × IsWellTyped (targets_of built.checked) built.code ls × ShowsCause built.checked built.code s ls run t site count
+    → (ls : Labels) × IsWellTyped (targets_of built.checked) built.code ls × ShowsReference built.checked built.code s ls run t site count

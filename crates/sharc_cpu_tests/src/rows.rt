@@ -7,8 +7,8 @@ ghost use Rattle.sharc_cpu.specs.Thread.{IsThread};
 
 use crate::code::{code, shape};
 use sharc_code::Instr::{
-    ChkNull, ChkRead, ChkWidth, ChkWrite, ComputeInt, Constant, GlobalBounds, Jump, JumpIfZero,
-    Load, Lower, Move, New, Raise, Store,
+    ChkHeld, ChkLock, ChkNotHeld, ChkNull, ChkRead, ChkRoom, ChkWidth, ChkWrite, ComputeInt,
+    Constant, GlobalBounds, Jump, JumpIfZero, Load, Lock, Lower, Move, New, Raise, Store, Unlock,
 };
 use sharc_code::Operator::{Add, Less, Multiply, Remainder, Subtract};
 use sharc_code::{Cell, Code, Instr, Shape, Width, opening};
@@ -141,7 +141,7 @@ fn walk(
 }
 
 /// A loop with a row of each kind: x, y and two variables are registers 0 to 3, and 4 and 5 what rows compute in.
-const LOOP: [Instr; 68] = [
+const LOOP: [Instr; 70] = [
     Constant(0, 3),
     Constant(1, 2),
     New(0, 1, 1, 7),
@@ -212,17 +212,66 @@ const LOOP: [Instr; 68] = [
     ChkWidth(Width::Int, 4, 7),
     Move(0, 4),
     Jump(3),
-    // An int and a jump, at place 63, and a reference that is NULL.
+    // An int and a jump, at place 63, and a field of NULL.
     ChkWidth(Width::Int, 0, 7),
     Move(1, 0),
     Jump(66),
     Raise(2, 3),
     ChkNull(2, 7),
+    Load(4, Cell::Object(2, 0), 7),
+    Lower(2),
+];
+
+/// The places of the loop at which no row begins.
+const ALONE: [usize; 24] = [
+    0, 1, 2, 4, 5, 6, 9, 10, 22, 23, 30, 35, 39, 41, 43, 45, 46, 48, 50, 52, 54, 56, 67, 69,
+];
+
+/// The word of a mutex, and the cell that it guards.
+const MUTEX: Cell = Cell::Global(0, 4);
+
+const GUARDED: Cell = Cell::Global(0, 5);
+
+/// A cell that is changed under its mutex, and read once more behind that.
+const LOCKED: [Instr; 15] = [
+    ChkNotHeld(MUTEX, 7),
+    ChkRoom(7),
+    Lock(MUTEX, 7),
+    ChkLock(MUTEX, 8),
+    Load(4, GUARDED, 7),
+    Constant(5, 1),
+    ComputeInt(Add, 4, 4, 5, 7),
+    ChkWidth(Width::Int, 4, 7),
+    ChkLock(MUTEX, 8),
+    Store(4, GUARDED, 7),
+    ChkHeld(MUTEX, 7),
+    Unlock(0, MUTEX, 7),
+    Constant(0, 0),
+    ChkLock(MUTEX, 9),
+    Load(4, GUARDED, 7),
 ];
 
 #[test]
 fn rows_are_their_turns(rt: HostRuntime) -> Result<(), Fail> {
     let last = walk(&rt, rt.alloc(), &LOOP, None)?;
+    assert_eq!(rt; last, Pause::Stopped);
+    Ok(())
+}
+
+#[test]
+fn rows_are_found(rt: HostRuntime) -> Result<(), Fail> {
+    let alloc = rt.alloc();
+    let code = code(alloc, LOOP.to_vec(alloc)?, 0)?;
+    let plan = Plan::of(alloc, &code)?;
+    for pc in 0..LOOP.len() {
+        assert_eq!(rt; plan.is_alone(pc), ALONE.contains(&pc), "place {pc}");
+    }
+    Ok(())
+}
+
+#[test]
+fn a_lock_is_checked(rt: HostRuntime) -> Result<(), Fail> {
+    let last = walk(&rt, rt.alloc(), &LOCKED, None)?;
     assert_eq!(rt; last, Pause::Stopped);
     Ok(())
 }

@@ -79,3 +79,5 @@ pub mod Spawned
 pub mod Seen
 pub mod Past
 pub mod Unread
+pub mod Kept
+pub mod KeptCells

@@ -66,21 +66,21 @@ back (suc k) elements nz lt =
     ap (λ b. not b && (((suc k + 2 ^ 32 * elements) % 2 ^ 32) == suc k)) some ∙ ap (λ n. n == suc k) e ∙ q
 
 -- a pointer cell holds a reference
-holds_reference : (a : Content) (T : Elements) (v : ℕ) → is_pointer a ≡ true → value_held a T v ≡ reference v (T v)
+pub holds_reference : (a : Content) (T : Elements) (v : ℕ) → is_pointer a ≡ true → value_held a T v ≡ reference v (T v)
 holds_reference (Pointer f) T v e = refl
 holds_reference _ T v e = absurd (cc)
 
-pointer_value : (a : Content) → is_pointer a ≡ true → is_value a ≡ true
+pub pointer_value : (a : Content) → is_pointer a ≡ true → is_value a ≡ true
 pointer_value (Pointer f) e = refl
 pointer_value _ e = absurd (cc)
 
 eq_refl : (n : ℕ) → (n == n) ≡ true
 eq_refl n = grind (arith, nat_tests)
 
-ne_zero : (n : ℕ) → (n ≡ 0 → ⊥) → (n == 0) ≡ false
+pub ne_zero : (n : ℕ) → (n ≡ 0 → ⊥) → (n == 0) ≡ false
 ne_zero n ne = grind (arith, nat_tests)
 
-clears : (stage : Stage) → is_emptying stage ≡ true → is_clearing stage ≡ true
+pub clears : (stage : Stage) → is_emptying stage ≡ true → is_clearing stage ≡ true
 clears (Empties i all) e = refl
 clears (Lowers i all found) e = refl
 clears (FreeLooks done all) e = refl
@@ -89,10 +89,10 @@ clears (Uncounts all) e = refl
 clears _ e = absurd (cc)
 
 -- ---- words and numbers of cells
-length_is : (s : Shape) (o : ℕ) → o < granules s → length_word s o ≡ Words.length_at s o
+pub length_is : (s : Shape) (o : ℕ) → o < granules s → length_word s o ≡ Words.length_at s o
 length_is s o lt = let e : nat_lt o (granules s) ≡ true = grind (arith, nat_tests) in let q : granule_at s o ≡ o = rw e refl in omega arith
 
-cell_word_is : (s : Shape) (o c : ℕ) → o + 1 + c / 2 < granules s → cell_word s (cell_of o c) ≡ Words.cell_at s o c
+pub cell_word_is : (s : Shape) (o c : ℕ) → o + 1 + c / 2 < granules s → cell_word s (cell_of o c) ≡ Words.cell_at s o c
 cell_word_is s o c lt =
     let w = first_cell s + cell_of o c in
     let below : w < words_of s = omega arith in
@@ -101,15 +101,15 @@ cell_word_is s o c lt =
     q ∙ (let z : w ≡ Words.cell_at s o c = omega arith in z)
 
 -- the cell of the source in the world
-number_is : (code : Code) (a : Object) (cell p i : ℕ) → IsCellIn code a cell p i → number_of a ≡ p
+pub number_is : (code : Code) (a : Object) (cell p i : ℕ) → IsCellIn code a cell p i → number_of a ≡ p
 number_is code (objects.Made n) cell p i h = h.0
 number_is code (objects.Global g) cell p i h = sym h.0
 
-place_is : (code : Code) (a : Object) (cell p i : ℕ) → IsCellIn code a cell p i → place_of code a cell ≡ i
+pub place_is : (code : Code) (a : Object) (cell p i : ℕ) → IsCellIn code a cell p i → place_of code a cell ≡ i
 place_is code (objects.Made n) cell p i h = h.2
 place_is code (objects.Global g) cell p i h = let e = h.2 in omega arith
 
-names : (code : Code) (c : CellAt) (a : Object) (p i : ℕ) → c.object ≡ a → IsCellIn code a c.cell p i → Names code c p (2 * (p + 1) + i)
+pub names : (code : Code) (c : CellAt) (a : Object) (p i : ℕ) → c.object ≡ a → IsCellIn code a c.cell p i → Names code c p (2 * (p + 1) + i)
 names code c (objects.Made n) p i is h =
     subst (λ b. NamesIn code b c.cell p (2 * (p + 1) + i)) (sym is) (h.0, h.1, in_made n c.cell p i h.0 h.2)
   where
@@ -131,7 +131,7 @@ pub record Seen (r : Resolution) (x : Targets) (code : Code) (s : Shape) (ls : L
 
 module _ (state_law : StateStands) (cell_laws : CellsAreThere) (pointers : PointersAreThere) (rights : AccessesAreAllowed) (laws : RunLaws) (begins_law : CodeBegins) (keeps : Keeps) (x : Targets) (code : Code) (s : Shape) (ls : Labels) (wt : IsWellTyped x code ls) (fits : Fits code s) (few : IsSmall code s)
     (r : Resolution) (first : BeginsWith r code) where
-  seen : (run : List Turn) → IsRun bounds (one_thread code s) (opening_of bounds (one_thread code s) (opening_words code s)) run → Seen r x code s ls run
+  pub seen : (run : List Turn) → IsRun bounds (one_thread code s) (opening_of bounds (one_thread code s) (opening_words code s)) run → Seen r x code s ls run
   seen [] run =
       let never = none_live begins_law x code s ls wt fits in
       record {

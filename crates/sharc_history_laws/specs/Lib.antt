@@ -13,3 +13,4 @@ pub mod Waiters
 pub mod Stuck
 pub mod Threads
 pub mod Seen
+pub mod Kept

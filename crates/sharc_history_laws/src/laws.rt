@@ -5,6 +5,7 @@ ghost use Rattle.sharc_history_laws.specs.Causes.{AccessReportsBreakRules, Names
 ghost use Rattle.sharc_history_laws.specs.Conflicts.{AccessReportsShow, NamedAreChecked, NotesAreOfChecks};
 ghost use Rattle.sharc_history_laws.specs.Followed.{AccessesFollow, LockReportsBreakRules, LockReportsShowAccess};
 ghost use Rattle.sharc_history_laws.specs.History.{HistoriesObey};
+ghost use Rattle.sharc_history_laws.specs.Kept.{CellsAreKept, LockedAreLogged, SpawnedAreGiven};
 ghost use Rattle.sharc_history_laws.specs.Made.{PointersAreMade};
 ghost use Rattle.sharc_history_laws.specs.Paths.{PathsAreConsistent};
 ghost use Rattle.sharc_history_laws.specs.Reports.{CastReportsShow, LockReportsShow};
@@ -205,6 +206,24 @@ pub fn seen_law()
     ensures begins { RunsBegin }
     ensures logs { LogsAreLocked }
     ensures arguments { ArgumentsAreGiven }
+{
+    run_laws();
+    standing_laws();
+    states_law();
+    begins();
+    keeps();
+    state_stands();
+    cells_are_there();
+}
+
+/// The other way round: where a mutex of an object is locked by the events of such a run, the held log of a thread
+/// refers to the object; where a thread has had no event, and a Spawn has given it a reference, the argument that it is
+/// to read refers to the object; and where a pointer cell of a live object refers to an object by the events, its word
+/// does, but while a Free empties the cell's object.
+pub fn kept_law()
+    ensures logs { LockedAreLogged }
+    ensures arguments { SpawnedAreGiven }
+    ensures cells { CellsAreKept }
 {
     run_laws();
     standing_laws();

@@ -121,3 +121,27 @@ module _ (code : Code) (s : Shape) (limit : ℕ) where
       events_are = events_after serves;
       few = omega (arith, events_few code s old.machine q.goes.founds, q.goes.turns_are, q.few);
     }
+
+-- what a thread did under a lower limit that lets it come forward too, it did under this one
+pub widened : (code : Code) (s : Shape) (most limit : ℕ) (old new : ThreadView) (port after : SeatView) → most ≤ limit → (old.made < limit → old.made < most)
+    → HasRun code s most record { seat = Some old; port = port } record { seat = Some new; port = after }
+    → HasRun code s limit record { seat = Some old; port = port } record { seat = Some new; port = after }
+widened code s most limit old new port after less more h = record {
+  events = h.events;
+  made = record {
+    thread = h.made.thread;
+    founds = h.made.founds;
+    path = h.made.path;
+    machine = h.made.machine;
+    events_are = h.made.events_are;
+    number = h.made.number;
+    made = h.made.made;
+    within = omega (arith, less, h.made.within);
+    some = λ on low. h.made.some on (more low);
+  };
+  id_is = h.id_is;
+  count_is = h.count_is;
+  number = h.number;
+  events_are = h.events_are;
+  few = h.few;
+}

@@ -3,12 +3,13 @@
 ghost use Rattle.std.specs.Prelude.{◌≡◌, ◌≤◌, true, length, Some};
 ghost use Rattle.sharc_word.specs.declared.step.TheConstants.{THREADS as threads};
 ghost use Rattle.sharc_code.specs.Layout.{Fits, words_of};
+ghost use Rattle.sharc_cpu.specs.Rows.{IsPlan};
 ghost use Rattle.sharc_record.specs.Round.{MayQuantum, HasRun, MayRun};
 
 use sharc_code::{Code, Shape};
-use sharc_cpu::{Thread, run_quantum};
+use sharc_cpu::{Plan, Thread, run_trying};
 use sharc_journal::{JournalPort, JournalSeat, QUANTUM, SharedJournal, journal_laws};
-use sharc_rounds::{Gate, GatedPort};
+use sharc_rounds::{Gate, GatedPort, most_events};
 use sharc_threads::is_on;
 use sharc_word::place_laws;
 use std::sync::Wait;
@@ -26,12 +27,14 @@ fn run_thread<R: Wait, G: Gate>(
     mut thread: Thread,
     port: JournalSeat,
     code: &Code,
+    plan: &Plan,
     shape: &Shape,
     shared: &SharedJournal,
     gate: &G,
     worker: u32,
     limit: u64,
 ) -> Hand
+    requires plan { IsPlan code.now plan.now }
     requires fits { Fits code.now shape.now }
     requires words { length shared.now.opened.words ≡ words_of shape.now }
     requires shared { port.id ≡ shared.now.id }
@@ -47,13 +50,23 @@ fn run_thread<R: Wait, G: Gate>(
             port,
         };
     }
+    let most = most_events(thread.made(), limit);
     let mut port = GatedPort {
         port: JournalPort::of(rt, shared, port),
         gate,
         worker,
         thread: thread.number(),
     };
-    run_quantum(code, shape, &mut thread, &mut port, QUANTUM, limit);
+    run_trying(
+        code,
+        Some(plan),
+        shape,
+        &mut thread,
+        &mut port,
+        QUANTUM,
+        most,
+        0,
+    );
     let GatedPort { port, .. } = port;
     Hand {
         seat: Some(thread),
@@ -67,12 +80,14 @@ impl Hand {
         self,
         rt: &R,
         code: &Code,
+        plan: &Plan,
         shape: &Shape,
         shared: &SharedJournal,
         gate: &G,
         worker: u32,
         limit: u64,
     ) -> Hand
+        requires plan { IsPlan code.now plan.now }
         requires fits { Fits code.now shape.now }
         requires words { length shared.now.opened.words ≡ words_of shape.now }
         requires may { MayRun code.now shape.now limit shared.now self }
@@ -81,7 +96,9 @@ impl Hand {
         let Hand { seat, port } = self;
         match seat {
             None => Hand { seat: None, port },
-            Some(thread) => run_thread(rt, thread, port, code, shape, shared, gate, worker, limit),
+            Some(thread) => run_thread(
+                rt, thread, port, code, plan, shape, shared, gate, worker, limit,
+            ),
         }
     }
 }

@@ -3,14 +3,15 @@
 ghost use Rattle.std.specs.Prelude.{◌≡◌, ◌<◌, ℕ, None, length, IfOk, OnOk, slice_index_or};
 ghost use Rattle.sharc_word.specs.declared.step.TheConstants.{THREADS as threads};
 ghost use Rattle.sharc_code.specs.Layout.{Fits, words_of};
+ghost use Rattle.sharc_cpu.specs.Rows.{IsPlan};
 ghost use Rattle.sharc_rounds.specs.Round.{MayBegin};
 ghost use Rattle.sharc_record.specs.Round.{HasRoom, HasRoomAt, RecordedRound};
 
 use crate::worker::{deal, gather, run_all};
 use sharc_code::{Code, Shape};
-use sharc_cpu::Thread;
+use sharc_cpu::{Plan, Thread};
 use sharc_journal::{Journal, QUANTUM, SharedJournal};
-use sharc_rounds::Gate;
+use sharc_rounds::{Gate, workers_needed};
 use sharc_threads::{ThreadTable, is_on};
 use sharc_word::{MemPort, THREADS, WordEvent};
 use std::alloc::{AllocError, Global};
@@ -64,11 +65,13 @@ impl Rounds {
         rt: &R,
         alloc: Global,
         code: &Code,
+        plan: &Plan,
         shape: &Shape,
         workers: u32,
         limit: u64,
         gate: &G,
     ) -> Result<Rounds, AllocError>
+        requires plan { IsPlan code.now plan.now }
         requires fits { Fits code.now shape.now }
         requires workers { 0 < workers }
         requires words { length self.port ≡ words_of shape.now }
@@ -88,8 +91,9 @@ impl Rounds {
         };
         journal.make_room()?;
         let (shared, ports) = SharedJournal::open(alloc, journal, THREADS)?;
-        let mut workers = deal(alloc, workers.min(THREADS), seats, ports)?;
-        run_all(rt, code, shape, &shared, gate, limit, &mut workers);
+        let count = workers_needed(seats.as_slice(), workers);
+        let mut workers = deal(alloc, count, seats, ports)?;
+        run_all(rt, code, plan, shape, &shared, gate, limit, &mut workers);
         let (seats, ports) = gather(alloc, workers)?;
         let Journal {
             words: port,

@@ -3,12 +3,13 @@
 ghost use Rattle.std.specs.Prelude.{◌≡◌, ◌≤◌, ◌<◌, ℕ, None, true, false, IfOk, slice_index_or};
 ghost use Rattle.sharc_code.specs.Layout.{Fits};
 ghost use Rattle.sharc_threads.specs.Seats.{left, may_turn_at};
+ghost use Rattle.sharc_cpu.specs.Rows.{IsPlan};
 ghost use Rattle.sharc_record.specs.Round.{AreRounds};
 ghost use Rattle.sharc_record.specs.Run.{IsRecorded};
 
 use crate::round::Rounds;
 use sharc_code::{Code, Shape, fits_law, opening, run_laws};
-use sharc_cpu::Thread;
+use sharc_cpu::{Plan, Thread};
 use sharc_recorded::Places;
 use sharc_rounds::{Gate, round_laws};
 use sharc_schedule::make_places;
@@ -51,11 +52,13 @@ impl Rounds {
         rt: &R,
         alloc: Global,
         code: &Code,
+        plan: &Plan,
         shape: &Shape,
         workers: u32,
         limit: u64,
         gate: &G,
     ) -> Result<Rounds, AllocError>
+        requires plan { IsPlan code.now plan.now }
         requires fits { Fits code.now shape.now }
         requires workers { 0 < workers }
         requires limit { limit ≤ 100000000 }
@@ -70,7 +73,7 @@ impl Rounds {
             mut threads,
             port,
             events,
-        } = self.make(rt, alloc, code, shape, workers, limit, gate)?;
+        } = self.make(rt, alloc, code, plan, shape, workers, limit, gate)?;
         let words = port.words();
         threads.begin(alloc, code, shape, words)?;
         Ok(Rounds {
@@ -135,11 +138,12 @@ pub fn record_run<R: Threads + Wait + Sync, G: Gate + Sync>(
 {
     fits_law(code, shape);
     table_laws();
+    let plan = Plan::of(alloc, code)?;
     let mut rounds = Rounds::new(alloc, code, shape, limit)?;
     'rounds: loop {
         if !rounds.threads.any_may_turn(rounds.port.words(), limit) {
             return rounds.finish(alloc, code, shape, limit);
         }
-        rounds = rounds.next(rt, alloc, code, shape, workers, limit, gate)?;
+        rounds = rounds.next(rt, alloc, code, &plan, shape, workers, limit, gate)?;
     }
 }

@@ -3,6 +3,7 @@
 ghost use Rattle.std.specs.Prelude.{◌≡◌, ◌<◌, ◌≤◌, ◌%◌, ◌^◌, ℕ, length, Option, Some, None, IfOk, slice_index_or};
 ghost use Rattle.sharc_word.specs.declared.step.TheConstants.{THREADS as threads};
 ghost use Rattle.sharc_code.specs.Layout.{Fits, words_of};
+ghost use Rattle.sharc_cpu.specs.Rows.{IsPlan};
 ghost use Rattle.sharc_journal.specs.Shared.{SeatView};
 ghost use Rattle.sharc_record.specs.declared.hand.Hand.{Hand};
 ghost use Rattle.sharc_record.specs.declared.worker.Worker.{Worker};
@@ -11,7 +12,7 @@ ghost use Rattle.sharc_record.specs.Round.{MayRunAt, HasRunAt, MayAllRun, HaveAl
 
 use crate::hand::Hand;
 use sharc_code::{Code, Shape};
-use sharc_cpu::Thread;
+use sharc_cpu::{Plan, Thread};
 use sharc_journal::{JournalSeat, SharedJournal};
 use sharc_rounds::Gate;
 use sharc_word::THREADS;
@@ -31,12 +32,14 @@ fn run_at<R: Wait, G: Gate>(
     rt: &R,
     hand: Option<Hand>,
     code: &Code,
+    plan: &Plan,
     shape: &Shape,
     shared: &SharedJournal,
     gate: &G,
     number: u32,
     limit: u64,
 ) -> Option<Hand>
+    requires plan { IsPlan code.now plan.now }
     requires fits { Fits code.now shape.now }
     requires words { length shared.now.opened.words ≡ words_of shape.now }
     requires may { MayRunAt code.now shape.now limit shared.now hand }
@@ -44,7 +47,7 @@ fn run_at<R: Wait, G: Gate>(
 {
     match hand {
         None => None,
-        Some(hand) => Some(hand.run(rt, code, shape, shared, gate, number, limit)),
+        Some(hand) => Some(hand.run(rt, code, plan, shape, shared, gate, number, limit)),
     }
 }
 
@@ -65,12 +68,14 @@ impl Worker {
         &mut self,
         rt: &R,
         code: &Code,
+        plan: &Plan,
         shape: &Shape,
         shared: &SharedJournal,
         gate: &G,
         number: u32,
         limit: u64,
     )
+        requires plan { IsPlan code.now plan.now }
         requires fits { Fits code.now shape.now }
         requires words { length shared.now.opened.words ≡ words_of shape.now }
         requires may { MayAllRun code.now shape.now limit shared.now self.old }
@@ -78,7 +83,7 @@ impl Worker {
     {
         for n in 0..self.hands.len() {
             let hand = self.hands[n].take();
-            self.hands[n] = run_at(rt, hand, code, shape, shared, gate, number, limit);
+            self.hands[n] = run_at(rt, hand, code, plan, shape, shared, gate, number, limit);
         }
     }
 }
@@ -125,12 +130,14 @@ pub(crate) fn deal(
 pub(crate) fn run_all<R: Threads + Wait + Sync, G: Gate + Sync>(
     rt: &R,
     code: &Code,
+    plan: &Plan,
     shape: &Shape,
     shared: &SharedJournal,
     gate: &G,
     limit: u64,
     workers: &mut Vec<Worker>,
 )
+    requires plan { IsPlan code.now plan.now }
     requires fits { Fits code.now shape.now }
     requires words { length shared.now.opened.words ≡ words_of shape.now }
     requires some { 0 < length workers.old.items }
@@ -145,12 +152,13 @@ pub(crate) fn run_all<R: Threads + Wait + Sync, G: Gate + Sync>(
         workers.as_mut_slice(),
         count,
         &|w: usize, worker: &mut Worker|
+            requires plan { IsPlan code.now plan.now }
             requires fits { Fits code.now shape.now }
             requires words { length shared.now.opened.words ≡ words_of shape.now }
             requires number { w < 2 ^ 32 }
             requires may { MayAllRun code.now shape.now limit shared.now worker.old }
             ensures { HaveAllRun code.entry.now shape.entry.now limit worker.old worker.new }
-        { worker.run(rt, code, shape, shared, gate, w as u32, limit) },
+        { worker.run(rt, code, plan, shape, shared, gate, w as u32, limit) },
     );
 }
 

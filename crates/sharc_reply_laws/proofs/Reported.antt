@@ -19,7 +19,7 @@ use Rattle.sharc_history_laws.specs.Followed.{ShowsLock, access_checked}
 use Rattle.sharc_history_laws.specs.History.{history_of}
 use Rattle.sharc_history_laws.specs.Seen.{RunsBegin}
 use Rattle.sharc_target_laws.specs.Targets.{targets_of}
-use Rattle.sharc_sole_laws.specs.Cause.{ShowsCause as ShowsReference}
+use Rattle.sharc_sole_laws.specs.Cause.{ShowsReference}
 use Rattle.sharc_sound_laws.specs.Reports.{IsReportOf}
 use Rattle.sharc_stand_laws.specs.Stands.{Stands}
 use Rattle.sharc_reply_laws.specs.Reports.{ReportTells, WantsAccess, WantsUnder}

@@ -29,7 +29,7 @@ use Rattle.sharc_history_laws.specs.Conflicts.{IsCheck}
 use Rattle.sharc_history_laws.specs.Followed.{ShowsLock, access_checked}
 use Rattle.sharc_history_laws.specs.History.{history_of}
 use Rattle.sharc_cause_laws.specs.Laws.{NamesCause}
-use Rattle.sharc_sole_laws.specs.Cause.{ShowsCause as ShowsReference}
+use Rattle.sharc_sole_laws.specs.Cause.{ShowsReference}
 use Rattle.sharc_sound_laws.specs.Reports.{WantsReported}
 use Rattle.sharc_sound_laws.specs.Standing.{StandsAt}
 

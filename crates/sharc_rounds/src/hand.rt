@@ -7,6 +7,7 @@ ghost use Rattle.sharc_cpu.specs.Rows.{IsPlan};
 ghost use Rattle.sharc_rounds.specs.Round.{MayQuantum, HasRun, MayRun};
 
 use crate::gate::{Gate, GatedPort};
+use crate::share::most_events;
 use sharc_bus::{Bus, BusPort, BusSeat, name_laws};
 use sharc_code::{Code, Shape};
 use sharc_cpu::{Plan, Thread, run_trying};
@@ -51,6 +52,7 @@ fn run_thread<G: Gate>(
             port,
         };
     }
+    let most = most_events(thread.made(), limit);
     let mut port = GatedPort {
         port: BusPort::of(bus, port),
         gate,
@@ -64,7 +66,7 @@ fn run_thread<G: Gate>(
         &mut thread,
         &mut port,
         QUANTUM,
-        limit,
+        most,
         tries,
     );
     let GatedPort { port, .. } = port;

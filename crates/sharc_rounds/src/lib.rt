@@ -11,6 +11,7 @@ mod hand;
 mod laws;
 mod round;
 mod run;
+mod share;
 mod words;
 mod worker;
 
@@ -19,3 +20,5 @@ pub use hand::QUANTUM;
 pub use laws::round_laws;
 pub use run::{RoundsRun, run_rounds};
 pub use sharc_threads::End;
+pub use share::most_events;
+pub use worker::workers_needed;

@@ -10,11 +10,10 @@ use crate::busy::Busy;
 use crate::gate::Gate;
 use crate::hand::QUANTUM;
 use crate::words::Words;
-use crate::worker::{deal, gather, run_all};
+use crate::worker::{deal, gather, run_all, workers_needed};
 use sharc_code::{Code, Shape};
 use sharc_cpu::{Plan, Thread};
 use sharc_threads::{ThreadTable, is_on};
-use sharc_word::THREADS;
 use std::alloc::{AllocError, Global};
 use std::thread::Threads;
 
@@ -85,7 +84,8 @@ impl Rounds {
         let ThreadTable { mut seats } = threads;
         reserve(&mut seats)?;
         let (ports, round) = bus.begin(alloc, rest)?;
-        let mut workers = deal(alloc, workers.min(THREADS), seats, ports)?;
+        let count = workers_needed(seats.as_slice(), workers);
+        let mut workers = deal(alloc, count, seats, ports)?;
         run_all(rt, code, plan, shape, &bus, gate, limit, &mut workers, busy);
         let (seats, ports) = gather(alloc, workers)?;
         let rest = bus.end(round, ports);

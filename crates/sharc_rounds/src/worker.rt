@@ -26,6 +26,21 @@ pub(crate) struct Worker {
     pub(crate) hands: Vec<Option<Hand>>,
 }
 
+/// How many of these workers have a thread that was started, up to the last that has one: for the numbers of the threads that are there
+/// `n % workers` is the same. The others would have nothing to do.
+pub fn workers_needed(seats: &[Option<Thread>], workers: u32) -> u32
+    requires { 0 < workers }
+    ensures { 0 < result }
+{
+    let mut count = 1;
+    for n in 0..THREADS {
+        if let Some(Some(_)) = seats.get(n as usize) {
+            count = n + 1;
+        }
+    }
+    workers.min(count)
+}
+
 // One quantum of the thread at a place, if there is one.
 fn run_at<G: Gate>(
     hand: Option<Hand>,

@@ -66,24 +66,6 @@ pub add_first : (xs : List (ℕ × ℕ)) (p : ℕ) → length xs ≡ 0 → xs ++
 add_first [] p none = refl
 add_first (x ∷ xs) p none = absurd (omega (arith, none))
 
--- ---- where a number is
-pub place_here : (t : ℕ) (xs : List ℕ) (d : ℕ) → place_in t xs < length xs → get_or xs (place_in t xs) d ≡ t
-place_here t [] d low = absurd (omega (arith, low))
-place_here t (x ∷ xs) d low = by (ℕ_discrete t x) (place_here t xs d) where
-  by : Dec (t ≡ x) → (place_in t xs < length xs → get_or xs (place_in t xs) d ≡ t) → get_or (x ∷ xs) (place_in t (x ∷ xs)) d ≡ t
-  by (yes e) r = ap (λ n. get_or (x ∷ xs) n d) (if_yes (nat_eq t x) 0 (suc (place_in t xs)) (eq-eqb t x e)) ∙ sym e
-  by (no e) r =
-      let is : place_in t (x ∷ xs) ≡ suc (place_in t xs) = if_no (nat_eq t x) 0 (suc (place_in t xs)) (ne_eqb t x e) in
-      ap (λ n. get_or (x ∷ xs) n d) is ∙ r (let h : suc (place_in t xs) < suc (length xs) = subst (λ n. n < suc (length xs)) is low in omega (arith, h))
-
-pub place_first : (t : ℕ) (xs : List ℕ) (i d : ℕ) → i < length xs → get_or xs i d ≡ t → place_in t xs ≤ i
-place_first t [] i d low is = absurd (omega (arith, low))
-place_first t (x ∷ xs) i d low is = by (ℕ_discrete t x) i low is (λ k. place_first t xs k d) where
-  by : Dec (t ≡ x) → (i : ℕ) → i < suc (length xs) → get_or (x ∷ xs) i d ≡ t → ((k : ℕ) → k < length xs → get_or xs k d ≡ t → place_in t xs ≤ k) → place_in t (x ∷ xs) ≤ i
-  by (yes e) i low is r = let h = if_yes (nat_eq t x) 0 (suc (place_in t xs)) (eq-eqb t x e) in omega (arith, h)
-  by (no e) zero low is r = absurd (e (sym is))
-  by (no e) (suc i) low is r = let h = if_no (nat_eq t x) 0 (suc (place_in t xs)) (ne_eqb t x e) in let k = r i (omega (arith, low)) is in omega (arith, h, k)
-
 -- an element that is there is the same whatever is given where there is none
 pub same_at : {A : Type 0} (xs : List A) (n : ℕ) (a b : A) → n < length xs → get_or xs n a ≡ get_or xs n b
 same_at [] n a b low = absurd (omega (arith, low))

@@ -16,3 +16,4 @@ pub mod Following
 pub mod Turning
 pub mod Making
 pub mod Stepping
+pub mod Placing

@@ -148,7 +148,7 @@ module _ (laws : RunLaws) (threads : ThreadLaws) (code : Code) (s : Shape) (limi
   quiet_words words None off = refl
   quiet_words words (Some event) off = absurd (let e : true ≡ false = off in cc)
 
-  others_same : (t u : ℕ) → t ≢ u → (quiet before : List Turn) → Quiet quiet → Owns u quiet → is_enabled code s limit (place_after code s (quiet ++ before)) t ≡ is_enabled code s limit (place_after code s before) t
+  pub others_same : (t u : ℕ) → t ≢ u → (quiet before : List Turn) → Quiet quiet → Owns u quiet → is_enabled code s limit (place_after code s (quiet ++ before)) t ≡ is_enabled code s limit (place_after code s before) t
   others_same t u apart [] before q own = refl
   others_same t u apart (one ∷ quiet) before q own =
       let g : Standing = place_after code s (quiet ++ before) in

@@ -28,20 +28,6 @@ use Rattle.sharc_schedule.proofs.Trying.{NoTries, put_own, put_other}
 use Rattle.sharc_schedule.proofs.Plain.{both, filter_less, lt_true, true_or_false}
 
 -- ---- who is enabled
-pub few_enabled : (code : Code) (s : Shape) (limit : ℕ) (g : Standing) → s.threads ≡ THREADS → length (enabled code s limit g) < 256
-few_enabled code s limit g shape =
-    let less = filter_less (is_enabled code s limit g) (range_with_len 0 s.threads) in
-    let all = length-range_with_len 0 s.threads in
-    omega (arith, less, all, shape)
-
-pub inside : (code : Code) (s : Shape) (limit : ℕ) (g : Standing) (t : ℕ) → t < s.threads → is_enabled code s limit g t ≡ true → place_in t (enabled code s limit g) < length (enabled code s limit g)
-inside code s limit g t low on =
-    place_within t (enabled code s limit g) (among_filter (is_enabled code s limit g) t (range_with_len 0 s.threads) (among_range t 0 s.threads (omega arith) (omega (arith, low))) on)
-
--- a thread that is enabled was started, so it has a number that threads have
-pub low_of : (code : Code) (s : Shape) (limit t : ℕ) (turns : List Turn) (walk : Walk) → StandsAt code s turns walk → is_enabled code s limit (place_after code s turns) t ≡ true → t < THREADS
-low_of code s limit t turns walk stands on = stands.seats.few t (both ((place_after code s turns).started t) _ on).0
-
 -- it does not matter by which run it is determined who is enabled
 pub enabled_too : (laws : TableLaws) (code : Code) (s : Shape) (limit : ℕ) (one other : List Turn) (walk : Walk) (t : ℕ) → StandsAt code s one walk → StandsAt code s other walk
     → is_enabled code s limit (place_after code s one) t ≡ true → is_enabled code s limit (place_after code s other) t ≡ true
@@ -121,7 +107,3 @@ walked_more code s limit t turns told old new w one off = record { more = one.on
 pub reached_step : (code : Code) (s : Shape) (limit t : ℕ) (turns : List Turn) (told : Bool) (old new : Going) → (w : Walked code s limit t turns old) → OneMore code s limit t (w.more ++ turns) told new → told ≡ true
     → Reached code s limit t turns new
 reached_step code s limit t turns told old new w one on = record { more = one.one ∷ w.more; own = (one.own, w.own); goes = one.goes; ends = inl (w.quiet, sym one.told_is ∙ on) }
-
-pub reached_end : (code : Code) (s : Shape) (limit t : ℕ) (turns : List Turn) (going : Going) → (w : Walked code s limit t turns going) → is_enabled code s limit (place_after code s (w.more ++ turns)) t ≡ false
-    → Reached code s limit t turns going
-reached_end code s limit t turns going w off = record { more = w.more; own = w.own; goes = w.goes; ends = inr (w.quiet, off) }

@@ -1,22 +1,9 @@
 //! Places, and equal neighbours counted together.
 
 ghost use Rattle.std.specs.Prelude.{◌≡◌, ◌<◌, ◌++◌, ◌∷◌, [], ℕ, List, length, OnOk, slice_index_or};
-ghost use Rattle.sharc_schedule.specs.Schedule.{place_in, counted_together};
+ghost use Rattle.sharc_schedule.specs.Schedule.{counted_together};
 
 use std::alloc::AllocError;
-
-/// Where this number is in a list that has it.
-pub(crate) fn place_in(among: &Vec<u8>, t: u8) -> u32
-    requires inside { place_in t among.now.items < length among.now.items }
-    requires few { length among.now.items < 256 }
-    ensures { result ≡ place_in t among.now.items }
-{
-    let mut i = 0;
-    while among[i] != t {
-        i += 1;
-    }
-    i as u32
-}
 
 /// Writes one more place.
 ///

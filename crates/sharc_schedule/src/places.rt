@@ -1,15 +1,20 @@
 //! The schedule of a run, made from its word events.
 
-ghost use Rattle.std.specs.Prelude.{◌≡◌, ◌<◌, ◌≤◌, ℕ, List, IfOk, OnOk};
+ghost use Rattle.std.specs.Prelude.{◌≡◌, ◌<◌, ◌≤◌, ℕ, true, List, IfOk, OnOk, if◌then◌else◌};
 ghost use Rattle.sharc_word.specs.declared.step.TheConstants.{THREADS as threads};
 ghost use Rattle.sharc_code.specs.Layout.{Fits};
 ghost use Rattle.sharc_code.specs.Runs.{Turn};
-ghost use Rattle.sharc_seq.specs.Walk.{MayGoOn, events_left};
+ghost use Rattle.sharc_code.specs.declared.code.Code.{Code};
+ghost use Rattle.sharc_code.specs.declared.shape.Shape.{Shape};
+ghost use Rattle.sharc_code.specs.Whole.{place_after};
+ghost use Rattle.sharc_threads.specs.Ends.{is_enabled};
+ghost use Rattle.sharc_seq.specs.Run.{enabled};
+ghost use Rattle.sharc_seq.specs.Walk.{IsWalk, MayGoOn, StandsAt, events_left};
 ghost use Rattle.sharc_schedule.specs.Going.{GoesAt, IsGoing, OneMore, Reached};
 ghost use Rattle.sharc_schedule.specs.Journal.{IsJournalOf};
-ghost use Rattle.sharc_schedule.specs.Schedule.{schedule_of};
+ghost use Rattle.sharc_schedule.specs.Schedule.{place_in, schedule_of};
 
-use crate::counting::{count, place_in};
+use crate::counting::count;
 use sharc_code::{Code, Shape, fits_law, run_laws, thread_laws};
 use sharc_recorded::Places;
 use sharc_seq::Walk;
@@ -22,11 +27,32 @@ use std::alloc::{AllocError, Global};
 pub(crate) struct Going {
     pub(crate) walk: Walk,
     pub(crate) places: Vec<(u32, u32)>,
-    pub(crate) among: Vec<u8>,
+}
+
+// 1 for a thread that is enabled, else 0.
+fn one_if(enabled: bool) -> u32
+    ensures { result ≡ (if enabled then 1 else 0) }
+{
+    if enabled { 1 } else { 0 }
+}
+
+// The place of a thread that is enabled, among all that are: so many with lower numbers are enabled.
+fn place_of(walk: &Walk, limit: u64, t: u8) -> u32
+    requires low { t < threads }
+    requires walk { (code : Code) × (s : Shape) × IsWalk code s walk.now }
+    ensures { (code : Code) (s : Shape) (turns : List Turn) → s.threads ≡ threads → StandsAt code s turns walk.now → is_enabled code s limit (place_after code s turns) t ≡ true → result ≡ place_in t (enabled code s limit (place_after code s turns)) }
+{
+    let mut place = 0;
+    for n in 0..t {
+        let enabled = walk.may_turn(n, limit);
+        let one = one_if(enabled);
+        place += one;
+    }
+    place
 }
 
 impl Going {
-    // Makes one turn of the thread, which is enabled, writes its place, and answers whether it made a word operation.
+    // Makes one turn of the thread, which is enabled and has this place, writes the place, and answers whether it made a word operation.
     fn turn(
         &mut self,
         alloc: Global,
@@ -34,11 +60,13 @@ impl Going {
         shape: &Shape,
         limit: u64,
         t: u8,
+        place: u32,
     ) -> Result<bool, AllocError>
         requires fits { Fits code.now shape.now }
         requires limit { limit ≤ 100000000 }
         requires going { IsGoing code.now shape.now limit self.old }
         requires may { MayGoOn code.now shape.now limit t self.old.walk }
+        requires place { (turns : List Turn) → StandsAt code.now shape.now turns self.old.walk → place ≡ place_in t (enabled code.now shape.now limit (place_after code.now shape.now turns)) }
         ensures went { IfOk result (λ told. (turns : List Turn) → GoesAt code.now shape.now limit turns self.old → OneMore code.now shape.now limit t turns told self.new) }
         ensures less { IfOk result (λ told. events_left limit self.new.walk < events_left limit self.old.walk) }
     {
@@ -46,14 +74,13 @@ impl Going {
         run_laws();
         thread_laws();
         table_laws();
-        self.walk.list_enabled(limit, &mut self.among)?;
-        let place = place_in(&self.among, t);
         count(&mut self.places, place)?;
         let told = self.walk.turn(alloc, code, shape, t, limit)?;
         Ok(told)
     }
 
-    // Makes turns of the thread until one has made a word operation, or until the thread is not enabled.
+    // Makes turns of the thread until one has made a word operation, or until the thread is not enabled. Its place stays the same up to
+    // there, since only a word operation changes who else is enabled.
     fn reach(
         &mut self,
         alloc: Global,
@@ -69,13 +96,21 @@ impl Going {
         ensures { OnOk result ((turns : List Turn) → GoesAt code.now shape.now limit turns self.old → Reached code.now shape.now limit t turns self.new) }
     {
         fits_law(code, shape);
+        run_laws();
+        thread_laws();
+        table_laws();
+        let may = self.walk.may_turn(t, limit);
+        if !may {
+            return Ok(());
+        }
+        let place = place_of(&self.walk, limit, t);
         'turns: loop {
-            let may = self.walk.may_turn(t, limit);
-            if !may {
+            let told = self.turn(alloc, code, shape, limit, t, place)?;
+            if told {
                 return Ok(());
             }
-            let told = self.turn(alloc, code, shape, limit, t)?;
-            if told {
+            let still = self.walk.may_turn(t, limit);
+            if !still {
                 return Ok(());
             }
         }
@@ -104,7 +139,6 @@ pub fn make_places(
     let mut going = Going {
         walk: Walk::new(alloc, code, shape)?,
         places: Vec::new(alloc),
-        among: Vec::with_capacity(alloc, THREADS as usize)?,
     };
     for i in 0..journal.len() {
         let t = journal[i].thread as u8;

@@ -55,7 +55,7 @@ use Rattle.sharc_flat_form.specs.declared.flat.Flat.{Flat as FlatCode}
 use Rattle.sharc_flat.specs.Flattens.{Flattens}
 use Rattle.sharc_compile.specs.Made.{IsCodeOf}
 use Rattle.sharc_history_laws.specs.Stores.{BeginsWith}
-use Rattle.sharc_sole_laws.specs.Cause.{NothingIsInFlight, ShowsCause}
+use Rattle.sharc_sole_laws.specs.Cause.{NothingIsInFlight, ShowsReference}
 use Rattle.sharc_sole_laws.specs.Sole.{AreQuiet, HaveBegun, IsSeen, RegistersAreSeen}
 
 no_thread : (c : CellAt) (t i : ℕ) → in_mutex c ≡ in_thread t i → ⊥
@@ -70,7 +70,7 @@ no_cell c t i h = cc
 yes : true ≡ false → ⊥
 yes e = cc
 
-no_free : (register site r layout at : ℕ) → TestSole register site ≡ Free r layout at → ⊥
+pub no_free : (register site r layout at : ℕ) → TestSole register site ≡ Free r layout at → ⊥
 no_free register site r layout at h = cc
 
 -- who has something in hand is emptying an object
@@ -92,7 +92,7 @@ not_freed : (r layout at : ℕ) (stage : Stage) (base i : ℕ) → is_clearing s
 not_freed r layout at (Links elements) base i e = absurd (false≢true e)
 not_freed r layout at _ base i e = refl
 
-register_there : (code : Code) (at : Machine) (r layout site i : ℕ) → instr_at code at.at.pc ≡ Free r layout site → is_clearing at.own.stage ≡ true → register_of code at i ≡ slice_index at.refs i
+pub register_there : (code : Code) (at : Machine) (r layout site i : ℕ) → instr_at code at.at.pc ≡ Free r layout site → is_clearing at.own.stage ≡ true → register_of code at i ≡ slice_index at.refs i
 register_there code at r layout site i is clearing =
     ap (λ j. if is_freed j at.own.stage at.at.refs i then 0 else slice_index at.refs i) is ∙ ap (λ b. if b then 0 else slice_index at.refs i) (not_freed r layout site at.own.stage at.at.refs i clearing)
 
@@ -215,7 +215,7 @@ module _ (paths : PathsAreConsistent) (reports : CastReportsShow) (begins : Runs
       other (InHand u here) = absurd (no_hand u here)
       other (InCell p i here) = cell p i here (cells m code s ls (has_tables m flat flattens code is_code) wt fits small initial f.earlier was_checked p i n no_null here)
 
-  pub cause_shown : ((place_after code s run).threads t).own.stop ≡ Some (NotSole site count) → ShowsCause m code s ls run t site count
+  pub cause_shown : ((place_after code s run).threads t).own.stop ≡ Some (NotSole site count) → ShowsReference m code s ls run t site count
   cause_shown stop =
       let f = reports (targets_of m) code s ls wt fits small run checked t site count stop in
       record { finds = f; cause = λ rests. other f rests f.counts.other }

@@ -1,6 +1,7 @@
 -- What an argument that is not read refers to, a Spawn has given.
 use Rattle.std.proofs.Common.{◌≡◌, ◌≢◌, ℕ, zero, suc, pos, ◌+◌, ◌^◌, ◌<◌, Bool, true, false, ◌&&◌, ◌||◌, length, List, [], ◌∷◌, map, if◌then◌else◌, refl, sym, ap, ◌∙◌, arith}
 use Rattle.std.specs.Prelude.{slice_index_or, slice_get}
+use Rattle.std.proofs.lemmas.Bool.{false≢true}
 use Rattle.std.proofs.lemmas.Bool.Decides.{nat_tests}
 use Rattle.sharc_tree.specs.declared.event.Act.TheVariants.{Spawn}
 use Rattle.sharc_tree.specs.declared.event.SourceEvent.{SourceEvent}
@@ -58,17 +59,31 @@ row_reference m globals pc [] n e = absurd (let z : parameters.None ≡ paramete
 row_reference m globals pc (f ∷ rest) zero e = takes_first f.parameters e
 row_reference m globals pc (f ∷ rest) (suc n) e = row_reference m globals (pc + length (function_code m globals pc f)) rest n e
 
-takes_pointer : (m : Assignment) (flat : FlatCode) → Flattens m flat → (code : Code) → IsCodeOf flat code → (f : ℕ) → (function_of code f).parameter ≡ parameters.Reference → has_pointer (function_at m.typed f) ≡ true
-takes_pointer m flat made code is f e =
+row_parameter : (m : Assignment) (flat : FlatCode) → Flattens m flat → (code : Code) → IsCodeOf flat code → (f : ℕ)
+    → (function_of code f).parameter ≡ (slice_index_or (rows_of m (globals_of m.typed) 0 (functions_in m.typed.program.items)) f no_function).parameter
+row_parameter m flat made code is f =
     let fs = functions_in m.typed.program.items in
     let gs = globals_of m.typed in
     let pl = place (dropped (flat_of flat)) flat.lines.items in
-    let same : (function_of code f).parameter ≡ (slice_index_or (rows_of m gs 0 fs) f no_function).parameter =
     ap (λ v. (slice_index_or v.items f no_function).parameter) is.generated.functions
     ∙ ap (λ (rows : List Row). (slice_index_or rows f no_function).parameter) is.made.functions ∙ entered_parameter pl flat.functions.items f
     ∙ named_parameter flat.texts.items (rows_of m gs 0 fs) (names_of fs) flat.functions.items f made.lays.functions
-    in
-    row_reference m gs 0 fs f (sym same ∙ e)
+
+takes_pointer : (m : Assignment) (flat : FlatCode) → Flattens m flat → (code : Code) → IsCodeOf flat code → (f : ℕ) → (function_of code f).parameter ≡ parameters.Reference → has_pointer (function_at m.typed f) ≡ true
+takes_pointer m flat made code is f e = row_reference m (globals_of m.typed) 0 (functions_in m.typed.program.items) f (sym (row_parameter m flat made code is f) ∙ e)
+
+-- the other way round
+first_taken : (ds : List Declaration) → takes_reference ds ≡ true → parameter_of ds ≡ parameters.Reference
+first_taken [] e = absurd (false≢true e)
+first_taken (d ∷ rest) e = ap (λ b. if b || false then parameters.Reference else parameters.Int) e
+
+row_pointer : (m : Assignment) (globals : List GlobalCells) (pc : ℕ) (fs : List Function) (n : ℕ) → has_pointer (slice_get fs n) ≡ true → (slice_index_or (rows_of m globals pc fs) n no_function).parameter ≡ parameters.Reference
+row_pointer m globals pc [] n e = absurd (false≢true e)
+row_pointer m globals pc (f ∷ rest) zero e = first_taken f.parameters e
+row_pointer m globals pc (f ∷ rest) (suc n) e = row_pointer m globals (pc + length (function_code m globals pc f)) rest n e
+
+pub pointer_taken : (m : Assignment) (flat : FlatCode) → Flattens m flat → (code : Code) → IsCodeOf flat code → (f : ℕ) → has_pointer (function_at m.typed f) ≡ true → (function_of code f).parameter ≡ parameters.Reference
+pointer_taken m flat made code is f e = row_parameter m flat made code is f ∙ row_pointer m (globals_of m.typed) 0 (functions_in m.typed.program.items) f e
 
 -- ---- the Spawn
 number_back : (n e : ℕ) → n ≢ 0 → n < 2 ^ 32 → refers n (reference n e) ≡ true

@@ -41,19 +41,19 @@ use Rattle.sharc_sole_laws.proofs.Testing.{test_is, no_free, tested}
 use Rattle.sharc_sole_laws.proofs.Quiet.{IsQuiet, line_quiet, same_given, given_in, given_same, given_path, are_own, beyond}
 
 -- ---- what flat code does without an answer
-record Way (flat : Flat) (m final : At) : Type 0 where
-  turns : ℕ
-  mid : At
-  quietly : Quietly flat turns m mid
-  refs : final.refs ≡ mid.refs
-  events : mid.events ≡ m.events
-  same_events : final.events ≡ mid.events
-  more : List GivenUp
-  more_given : mid.given ≡ m.given ++ more
-  extra : List GivenUp
-  given : final.given ≡ mid.given ++ extra
+pub record Way (flat : Flat) (m final : At) : Type 0 where
+  pub turns : ℕ
+  pub mid : At
+  pub quietly : Quietly flat turns m mid
+  pub refs : final.refs ≡ mid.refs
+  pub events : mid.events ≡ m.events
+  pub same_events : final.events ≡ mid.events
+  pub more : List GivenUp
+  pub more_given : mid.given ≡ m.given ++ more
+  pub extra : List GivenUp
+  pub given : final.given ≡ mid.given ++ extra
 
-way : (flat : Flat) (k : ℕ) (m : At) → Way flat m (exec flat k [] m).at
+pub way : (flat : Flat) (k : ℕ) (m : At) → Way flat m (exec flat k [] m).at
 way flat zero m = record { turns = 0; mid = m; quietly = refl; refs = refl; events = refl; same_events = refl; more = []; more_given = same_given m; extra = []; given = same_given m }
 way flat (suc k) m = by_turn (turn flat m) refl (line_quiet flat (slice_get flat.lines m.pc) m) (way flat k)
   where
@@ -76,12 +76,12 @@ way flat (suc k) m = by_turn (turn flat m) refl (line_quiet flat (slice_get flat
     by_turn (halts o) e q rec = record { turns = 0; mid = m; quietly = refl; refs = refl; events = refl; same_events = refl; more = []; more_given = same_given m; extra = []; given = same_given m }
 
 -- ---- events
-answers_by : (t : ℕ) (es : List SourceEvent) → answers_of (map (by t) es) ≡ answers_of es
+pub answers_by : (t : ℕ) (es : List SourceEvent) → answers_of (map (by t) es) ≡ answers_of es
 answers_by t [] = refl
 answers_by t (e ∷ es) = ap (λ xs. e.answer ∷ xs) (answers_by t es)
 
 -- ---- numbers
-number_is : (n e : ℕ) → IsNumber n → number_of (reference n e) ≡ n
+pub number_is : (n e : ℕ) → IsNumber n → number_of (reference n e) ≡ n
 number_is zero e h = refl
 number_is (suc n) e h = let lt : suc n < 2 ^ 32 = h in omega arith
 
@@ -103,7 +103,7 @@ released_more (Replaced c ∷ gs) extra n h = released_more gs extra n h
 released_more (Emptied g ∷ gs) extra n h = released_more gs extra n h
 
 -- ---- instructions
-mapped_at : (f : Instr → Instr) (xs : List Instr) (n : ℕ) → f Exit ≡ Exit → slice_index_or (map f xs) n Exit ≡ f (slice_index_or xs n Exit)
+pub mapped_at : (f : Instr → Instr) (xs : List Instr) (n : ℕ) → f Exit ≡ Exit → slice_index_or (map f xs) n Exit ≡ f (slice_index_or xs n Exit)
 mapped_at f [] n e = sym e
 mapped_at f (x ∷ xs) zero e = refl
 mapped_at f (x ∷ xs) (suc n) e = mapped_at f xs n e

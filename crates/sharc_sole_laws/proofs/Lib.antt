@@ -13,3 +13,9 @@ pub mod Silent
 pub mod Tables
 pub mod Telling
 pub mod Testing
+pub mod Copying
+pub mod Keeping
+pub mod Registering
+pub mod Alone
+pub mod Only
+pub mod Nowhere

@@ -40,21 +40,21 @@ number_refers n (pos (suc k)) is some = eq-eqb (number_of (pos (suc k))) n is
 number_refers n (negsuc k) is some = eq-eqb (number_of (negsuc k)) n is
 
 -- ---- the first event of a thread
-first_event : (thread : ℕ) (R before : List SourceEvent) (e : SourceEvent) (after : List SourceEvent) → R ≡ before ++ e ∷ after → events_of thread before ≡ [] → e.thread ≡ thread → events_of thread R ≡ e ∷ events_of thread after
+pub first_event : (thread : ℕ) (R before : List SourceEvent) (e : SourceEvent) (after : List SourceEvent) → R ≡ before ++ e ∷ after → events_of thread before ≡ [] → e.thread ≡ thread → events_of thread R ≡ e ∷ events_of thread after
 first_event thread R before e after is none own =
     ap (events_of thread) is ∙ filter-append (is_of thread) before (e ∷ after) ∙ ap (λ es. es ++ events_of thread (e ∷ after)) none
     ∙ ap (λ b. cond b (e ∷ events_of thread after) (events_of thread after)) (eq-eqb e.thread thread own)
 
-same_head : (a b : SourceEvent) (xs ys : List SourceEvent) → a ∷ xs ≡ b ∷ ys → a ≡ b
+pub same_head : (a b : SourceEvent) (xs ys : List SourceEvent) → a ∷ xs ≡ b ∷ ys → a ≡ b
 same_head a b xs ys h = cc
 
-same_tail : (a b : SourceEvent) (xs ys : List SourceEvent) → a ∷ xs ≡ b ∷ ys → xs ≡ ys
+pub same_tail : (a b : SourceEvent) (xs ys : List SourceEvent) → a ∷ xs ≡ b ∷ ys → xs ≡ ys
 same_tail a b xs ys h = cc
 
-no_first : (a : SourceEvent) (xs : List SourceEvent) → a ∷ xs ≡ [] → ⊥
+pub no_first : (a : SourceEvent) (xs : List SourceEvent) → a ∷ xs ≡ [] → ⊥
 no_first a xs h = cc
 
-same_argument : (v w : ℤ) → Started v ≡ Started w → v ≡ w
+pub same_argument : (v w : ℤ) → Started v ≡ Started w → v ≡ w
 same_argument v w h = cc
 
 no_end : (e : SourceEvent) → wants e ≡ spent → ⊥

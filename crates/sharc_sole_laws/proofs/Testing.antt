@@ -41,7 +41,7 @@ pub no_free : (r layout at register site : ℕ) → Free r layout at ≡ TestSol
 no_free r layout at register site h = cc
 
 -- ---- flat code wants what comes after it
-record Wants (v : ℤ) (t : Turn) : Type 0 where
+pub record Wants (v : ℤ) (t : Turn) : Type 0 where
   from : At
   place : Site
   act : Act
@@ -50,7 +50,7 @@ record Wants (v : ℤ) (t : Turn) : Type 0 where
   is : t ≡ asks from place act held go
   away : IsGivenAway v act
 
-wants_it : (p : Program) (v : ℤ) (n : ℕ) (b : Thread) (t : Turn) → Tells p (Form.Checks (IsSole v) n b) t → Wants v t
+pub wants_it : (p : Program) (v : ℤ) (n : ℕ) (b : Thread) (t : Turn) → Tells p (Form.Checks (IsSole v) n b) t → Wants v t
 wants_it p v n b (goes m) h = absurd h
 wants_it p v n b (asks m site act held go) h = record { from = m; place = site; act = act; held = held; go = go; is = refl; away = h.1 }
 wants_it p v n b (halts o) h = absurd h
@@ -62,7 +62,7 @@ no_goes : (m from : At) (site : Site) (act : Act) (held : ℤ) (go : ℤ → At 
 no_goes m from site act held go h = cc
 
 -- so nothing is done before
-stays : (flat : Flat) (v : ℤ) (m mid : At) (turns : ℕ) → Wants v (turn flat m) → Quietly flat turns m mid → m ≡ mid
+pub stays : (flat : Flat) (v : ℤ) (m mid : At) (turns : ℕ) → Wants v (turn flat m) → Quietly flat turns m mid → m ≡ mid
 stays flat v m mid zero w q = q
 stays flat v m mid (suc n) w q = absurd (no_goes q.0 w.from w.place w.act w.held w.go (sym q.1 ∙ w.is))
 

@@ -35,7 +35,7 @@ pub record NothingIsInFlight (m : Assignment) (code : Code) (s : Shape) (ls : La
   pub freed : NoneIsInFreed m s (place_after code s run) (objects_after code s ls (first_place code s) (first_world (targets_of m)).obj run) (history_of code s run) t n
 
 -- The count of the report was found at a test of a register; and where none is in flight there, the references of the history have one besides that which was tested.
-pub record ShowsCause (m : Assignment) (code : Code) (s : Shape) (ls : Labels) (run : List Turn) (t site count : ℕ) : Type 0 where
+pub record ShowsReference (m : Assignment) (code : Code) (s : Shape) (ls : Labels) (run : List Turn) (t site count : ℕ) : Type 0 where
   pub finds : FindsOthers (targets_of m) code s ls run t site count
   pub cause : let n = ref ((place_after code s finds.earlier).threads t) finds.register in NothingIsInFlight m code s ls finds.earlier t n → IsSeen m (history_of code s finds.earlier) t n
 
@@ -43,4 +43,4 @@ pub record ShowsCause (m : Assignment) (code : Code) (s : Shape) (ls : Labels) (
 abbrev pub CastReportsShowCause : Assignment → Code → Type 0
 CastReportsShowCause m code = (s : Shape) (ls : Labels) → IsWellTyped (targets_of m) code ls → Fits code s → IsSmall code s → BeginsWith m.typed code
     → (run : List Turn) → CheckedRun code s run → (t site count : ℕ) → ((place_after code s run).threads t).own.stop ≡ Some (NotSole site count)
-    → ShowsCause m code s ls run t site count
+    → ShowsReference m code s ls run t site count

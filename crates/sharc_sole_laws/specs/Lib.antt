@@ -9,3 +9,6 @@ pub mod InFlight
 pub mod Seeing
 pub mod Silent
 pub mod Sole
+pub mod Registered
+pub mod Alone
+pub mod Only

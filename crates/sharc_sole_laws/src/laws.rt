@@ -1,16 +1,20 @@
 //! The laws, each the contract of a function that calls at most the laws that it joins.
 
 ghost use Rattle.sharc_compile_laws.specs.Paths.{OfTyped};
+ghost use Rattle.sharc_sole_laws.specs.Alone.{PassedAreAlone};
 ghost use Rattle.sharc_sole_laws.specs.Cause.{CastReportsShowCause};
 ghost use Rattle.sharc_sole_laws.specs.Beginning.{ThreadsHaveBegun};
 ghost use Rattle.sharc_sole_laws.specs.Elsewhere.{ArgumentsSee, LogsSee};
 ghost use Rattle.sharc_sole_laws.specs.Hands.{FreesEmpty, HandsFly};
 ghost use Rattle.sharc_sole_laws.specs.Cells.{CellsSee};
 ghost use Rattle.sharc_sole_laws.specs.Holding.{PathsHold, ThreadsHold};
+ghost use Rattle.sharc_sole_laws.specs.Only.{ArgumentsHoldNone, CellsHoldNone, MutexesHoldNone, ThreadsHoldNone};
+ghost use Rattle.sharc_sole_laws.specs.Registered.{HeldAreRegistered};
 ghost use Rattle.sharc_sole_laws.specs.Seeing.{CastersHold, TestersFree, ThreadsSee};
 ghost use Rattle.sharc_sole_laws.specs.Silent.{SilentHaveNothing};
 ghost use Rattle.sharc_sole_laws.specs.Sole.{RegistersAreSeen};
 
+use sharc_code::run_laws;
 use sharc_compile_laws::{
     functions_are_named, spawned_are_threads, threads_may_start, typed_threads_tell,
 };
@@ -21,9 +25,10 @@ use sharc_gen::{paths_law, run_paths_law};
 use sharc_guard::{counted_law, framed_law};
 use sharc_guard_laws::laws::{made_locks_stand, typed_is_level};
 use sharc_history_laws::{
-    cells_seen_law, paths_law as history_paths_law, pointers_made_law, reports_law, seen_law,
-    starts_law,
+    causes_law, cells_seen_law, kept_law, paths_law as history_paths_law, pointers_made_law,
+    reports_law, seen_law, starts_law,
 };
+use sharc_invariant::laws::{runs_report, runs_stand, runs_stay};
 use sharc_meaning::laws::ask_laws;
 use sharc_meaning_laws::laws::{held_are_held_on, taken_are_being_taken};
 use sharc_target_laws::laws::global_pointers_are;
@@ -60,6 +65,26 @@ pub fn threads_see()
     each_names_itself();
     ask_laws();
     held_are_held_on();
+}
+
+/// The other way round: what the program holds, with any fuel from some fuel on, a register of the thread refers to, or
+/// the thread has loaded it and raises it next. Where the thread looks whether a reference is the only one, each is in
+/// the register of its own place.
+pub fn held_registered()
+    ensures { OfTyped HeldAreRegistered }
+{
+    path_holds();
+    typed_asks_the_same();
+    typed_is_framed();
+    typed_is_level();
+    made_locks_stand();
+    functions_are_named();
+    each_names_itself();
+    paths_law();
+    run_paths_law();
+    framed_law();
+    counted_law();
+    paths_are_runs();
 }
 
 /// And where a thread looks whether a reference is the only one, and two of its registers refer to the object, it holds two references to it.
@@ -170,4 +195,59 @@ pub fn reports_show_cause()
     cells_see();
     arguments_see();
     logs_see();
+}
+
+/// Where a thread of typed code looks whether a reference is the only one to its object, and the count that it finds is
+/// 1, no other register, cell, argument, log or hand of any thread refers to the object.
+pub fn passed_are_alone()
+    ensures { PassedAreAlone }
+{
+    run_laws();
+    runs_stay();
+    runs_stand();
+    runs_report();
+}
+
+/// By the history no other thread holds a reference to the object there, and the thread that tests holds none but the
+/// one that it tests.
+pub fn threads_hold_none()
+    ensures { OfTyped ThreadsHoldNone }
+{
+    run_laws();
+    runs_stand();
+    history_paths_law();
+    causes_law();
+    seen_law();
+    each_names_itself();
+    threads_have_begun();
+    held_registered();
+    passed_are_alone();
+}
+
+/// Nor is an argument one that is not read yet.
+pub fn arguments_hold_none()
+    ensures { OfTyped ArgumentsHoldNone }
+{
+    seen_law();
+    kept_law();
+    passed_are_alone();
+}
+
+/// No mutex of the object is held there.
+pub fn mutexes_hold_none()
+    ensures { MutexesHoldNone }
+{
+    seen_law();
+    kept_law();
+    passed_are_alone();
+}
+
+/// And where a cell that is a pointer of a live object, by the table of targets, refers to it, a thread is in the
+/// middle of a Free of the cell's object, which is another one.
+pub fn cells_hold_none()
+    ensures { CellsHoldNone }
+{
+    seen_law();
+    kept_law();
+    passed_are_alone();
 }

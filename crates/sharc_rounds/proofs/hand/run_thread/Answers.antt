@@ -1,7 +1,7 @@
-use Rattle.std.proofs.Common.{◌≡◌, ℕ, Some, sym, ap, ◌∙◌, subst}
+use Rattle.std.proofs.Common.{◌≡◌, ℕ, Some, sym, ap, ◌∙◌, subst, arith}
 use Rattle.sharc_bus.specs.Bus.{SeatView, PortView, NamesTell}
 use Rattle.sharc_rounds.specs.Round.{HasRun}
-use Rattle.sharc_rounds.proofs.Running.{idle, ran}
+use Rattle.sharc_rounds.proofs.Running.{idle, ran, widened}
 use Rattle.sharc_rounds.proofs.hand.run_thread.Goals as goal
 
 pub returns-then-not-is_on : goal.returns-then-not-is_on
@@ -20,8 +20,9 @@ returns g c =
     let name : (after.bus ≡ was.bus) × (after.number ≡ was.number) = tells after was c.run_trying.ensures.port.same in
     let serves : c.args.thread.machine.own.number ≡ was.number = sym c.requires.may.number_is ∙ ap (λ (p : SeatView). p.number) (sym same) in
     let run : HasRun code s c.args.limit record { seat = Some c.args.thread; port = was } record { seat = Some c.run_trying.new.thread; port = after } =
-    ran code s c.args.limit c.place_laws.ensures (λ (t : ℕ). t ≡ was.number) c.args.thread c.run_trying.new.thread was after c.run_trying.result c.run_trying.ensures.quantum
-    c.run_trying.ensures.thread c.run_trying.ensures.number serves name.0 name.1 in
+    widened code s c.most_events-most.result c.args.limit c.args.thread c.run_trying.new.thread was after c.most_events-most.ensures.within (λ low. let e = c.made.ensures in let more = c.most_events-most.ensures.more (omega (arith, low, e)) in omega (arith, more, e))
+    (ran code s c.most_events-most.result c.place_laws.ensures (λ (t : ℕ). t ≡ was.number) c.args.thread c.run_trying.new.thread was after c.run_trying.result c.run_trying.ensures.quantum
+    c.run_trying.ensures.thread c.run_trying.ensures.number serves name.0 name.1) in
     let there : HasRun code s c.args.limit record { seat = Some c.args.thread; port = port } record { seat = Some c.run_trying.new.thread; port = after } =
     subst (λ (p : SeatView). HasRun code s c.args.limit record { seat = Some c.args.thread; port = p } record { seat = Some c.run_trying.new.thread; port = after }) same run in
     subst (λ (p : SeatView). HasRun code s c.args.limit record { seat = Some c.args.thread; port = port } record { seat = Some c.run_trying.new.thread; port = p }) (sym c.into_seat.ensures) there

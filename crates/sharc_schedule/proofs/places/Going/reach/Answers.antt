@@ -1,27 +1,41 @@
-use Rattle.std.proofs.Common.{◌++◌, ◌∷◌, inr, sym, ◌∙◌}
+use Rattle.std.proofs.Common.{◌≡◌, ℕ, true, List, [], ◌++◌, ◌∷◌, inr, sym, ap, ◌∙◌}
+use Rattle.sharc_code.specs.Runs.{Turn}
+use Rattle.sharc_code.specs.Whole.{place_after}
+use Rattle.sharc_threads.specs.Ends.{is_enabled}
+use Rattle.sharc_schedule.specs.Schedule.{place_in}
+use Rattle.sharc_schedule.proofs.Placing.{enabled_kept, enabled_there}
 use Rattle.sharc_schedule.proofs.Turning.{walked_none, walked_more, reached_step}
 use Rattle.sharc_schedule.proofs.places.Going.reach.Goals as goal
 
-pub turns-init : goal.turns-init
-turns-init c = record { going = c.requires.going; walked = λ turns h. walked_none c.args.code.now c.args.shape.now c.args.limit c.args.t turns c.args.self.now h }
-
 pub may_turn-may-requires-clause-walk : goal.may_turn-may-requires-clause-walk
-may_turn-may-requires-clause-walk c = (c.args.code.now, c.args.shape.now, (c.turns.invariant.going.0, c.turns.invariant.going.1.stands))
+may_turn-may-requires-clause-walk c = (c.args.code.now, c.args.shape.now, (c.requires.going.0, c.requires.going.1.stands))
 
 pub returns-then-not-may : goal.returns-then-not-may
-returns-then-not-may c = λ turns h.
-    let w = c.turns.invariant.walked turns h in
-    record {
-      more = w.more;
-      own = w.own;
-      goes = record { stands = w.goes.stands; counts = w.goes.counts; few = w.goes.few; places_are = w.goes.places_are };
-      ends = inr (w.quiet, sym (c.may_turn-may.ensures c.args.code.now c.args.shape.now (w.more ++ turns) w.goes.stands) ∙ c.if-not-may.true);
-    }
+returns-then-not-may c = λ turns h. record {
+  more = [];
+  own = tt;
+  goes = record { stands = h.stands; counts = h.counts; few = h.few; places_are = h.places_are };
+  ends = inr (tt, sym (c.may_turn-may.ensures c.args.code.now c.args.shape.now turns h.stands) ∙ c.if-not-may.true);
+}
+
+pub place_of-place-requires-clause-walk : goal.place_of-place-requires-clause-walk
+place_of-place-requires-clause-walk c = (c.args.code.now, c.args.shape.now, (c.requires.going.0, c.requires.going.1.stands))
+
+pub turns-init : goal.turns-init
+turns-init c = record {
+  going = c.requires.going;
+  walked = λ turns h. walked_none c.args.code.now c.args.shape.now c.args.limit c.args.t turns c.args.self.now h;
+  on = λ turns h. sym (c.may_turn-may.ensures c.args.code.now c.args.shape.now turns h) ∙ c.if-not-may.false;
+  place = λ turns h. c.place_of-place.ensures c.args.code.now c.args.shape.now turns c.requires.fits.threads h (sym (c.may_turn-may.ensures c.args.code.now c.args.shape.now turns h) ∙ c.if-not-may.false);
+}
 
 pub turn-requires-clause-may : goal.turn-requires-clause-may
 turn-requires-clause-may c =
     let at = c.turns.invariant.going in
-    (at.0, at.1.stands, sym (c.may_turn-may.ensures c.args.code.now c.args.shape.now at.0 at.1.stands) ∙ c.if-not-may.false)
+    (at.0, at.1.stands, c.turns.invariant.on at.0 at.1.stands)
+
+pub turn-requires-clause-place : goal.turn-requires-clause-place
+turn-requires-clause-place c = λ turns h. c.turns.invariant.place turns h
 
 pub returns-then-told : goal.returns-then-told
 returns-then-told c = λ turns h.
@@ -29,8 +43,28 @@ returns-then-told c = λ turns h.
     reached_step c.args.code.now c.args.shape.now c.args.limit c.args.t turns c.in_ok-told.told c.turns.self c.turn.new.self w
     (c.in_ok-told.ensures.went (w.more ++ turns) record { stands = w.goes.stands; counts = w.goes.counts; few = w.goes.few; places_are = w.goes.places_are }) c.if-told.true
 
+pub may_turn-still-requires-clause-walk : goal.may_turn-still-requires-clause-walk
+may_turn-still-requires-clause-walk c =
+    let at = c.turns.invariant.going in
+    let one = c.in_ok-told.ensures.went at.0 record { stands = at.1.stands; counts = at.1.counts; few = at.1.few; places_are = at.1.places_are } in
+    (c.args.code.now, c.args.shape.now, (one.one ∷ at.0, one.goes.stands))
+
+pub returns-then-not-still : goal.returns-then-not-still
+returns-then-not-still c = λ turns h.
+    let w = c.turns.invariant.walked turns h in
+    let more = walked_more c.args.code.now c.args.shape.now c.args.limit c.args.t turns c.in_ok-told.told c.turns.self c.turn.new.self w
+    (c.in_ok-told.ensures.went (w.more ++ turns) record { stands = w.goes.stands; counts = w.goes.counts; few = w.goes.few; places_are = w.goes.places_are }) c.if-told.false in
+    record {
+      more = more.more;
+      own = more.own;
+      goes = record { stands = more.goes.stands; counts = more.goes.counts; few = more.goes.few; places_are = more.goes.places_are };
+      ends = inr (more.quiet, sym (c.may_turn-still.ensures c.args.code.now c.args.shape.now (more.more ++ turns) more.goes.stands) ∙ c.if-not-still.true);
+    }
+
 pub turns-preserved : goal.turns-preserved
 turns-preserved c =
+    let code = c.args.code.now in
+    let s = c.args.shape.now in
     let at = c.turns.invariant.going in
     let one = c.in_ok-told.ensures.went at.0 record { stands = at.1.stands; counts = at.1.counts; few = at.1.few; places_are = at.1.places_are } in
     record {
@@ -39,4 +73,15 @@ turns-preserved c =
           let w = c.turns.invariant.walked turns h in
           walked_more c.args.code.now c.args.shape.now c.args.limit c.args.t turns c.in_ok-told.told c.turns.self c.turn.new.self w
           (c.in_ok-told.ensures.went (w.more ++ turns) record { stands = w.goes.stands; counts = w.goes.counts; few = w.goes.few; places_are = w.goes.places_are }) c.if-told.false;
+      on = λ turns h. sym (c.may_turn-still.ensures code s turns h) ∙ c.if-not-still.false;
+      place = λ turns h.
+          let first : List Turn = c.requires.going.0 in
+          let w = c.turns.invariant.walked first c.requires.going.1 in
+          let more = walked_more code s c.args.limit c.args.t first c.in_ok-told.told c.turns.self c.turn.new.self w
+          (c.in_ok-told.ensures.went (w.more ++ first) record { stands = w.goes.stands; counts = w.goes.counts; few = w.goes.few; places_are = w.goes.places_are }) c.if-told.false in
+          let was : is_enabled code s c.args.limit (place_after code s first) c.args.t ≡ true = sym (c.may_turn-may.ensures code s first c.requires.going.1.stands) ∙ c.if-not-may.false in
+          let still : is_enabled code s c.args.limit (place_after code s (more.more ++ first)) c.args.t ≡ true = sym (c.may_turn-still.ensures code s (more.more ++ first) more.goes.stands) ∙ c.if-not-still.false in
+          let kept = enabled_kept c.run_laws.ensures c.thread_laws.ensures code s c.args.limit c.args.t more.more first more.quiet more.own was still in
+          let same = enabled_there c.table_laws.ensures code s c.args.limit turns (more.more ++ first) c.turn.new.self.walk h more.goes.stands in
+          c.place_of-place.ensures code s first c.requires.fits.threads c.requires.going.1.stands was ∙ ap (λ (xs : List ℕ). place_in c.args.t xs) (sym (same ∙ kept));
     }

@@ -1,13 +1,19 @@
-use Rattle.std.proofs.Common.{List}
+use Rattle.std.proofs.Common.{◌≡◌, true, List}
 use Rattle.sharc_code.specs.Runs.{Turn}
-use Rattle.sharc_seq.specs.Walk.{events_left}
+use Rattle.sharc_code.specs.Whole.{place_after}
+use Rattle.sharc_threads.specs.Ends.{is_enabled}
+use Rattle.sharc_seq.specs.Run.{enabled}
+use Rattle.sharc_seq.specs.Walk.{StandsAt, events_left}
 use Rattle.sharc_schedule.specs.Going.{GoesAt, IsGoing, Walked}
+use Rattle.sharc_schedule.specs.Schedule.{place_in}
 use Rattle.sharc_schedule.proofs.places.Going.reach.Given as goal
 
 abbrev pub invariant-turns : goal.invariant-turns
 invariant-turns l = record {
   going : IsGoing l.code l.shape l.limit l.self;
   walked : (turns : List Turn) → GoesAt l.code l.shape l.limit turns l.fn.self → Walked l.code l.shape l.limit l.t turns l.self;
+  on : (turns : List Turn) → StandsAt l.code l.shape turns l.self.walk → is_enabled l.code l.shape l.limit (place_after l.code l.shape turns) l.t ≡ true;
+  place : (turns : List Turn) → StandsAt l.code l.shape turns l.self.walk → l.place ≡ place_in l.t (enabled l.code l.shape l.limit (place_after l.code l.shape turns));
 }
 
 abbrev pub decreases-turns : goal.decreases-turns

@@ -1,30 +1,9 @@
-use Rattle.std.proofs.Common.{◌≡◌, ℕ, true, ◌<◌, List, length, get_or, sym, ap, ◌∙◌, subst, arith}
+use Rattle.std.proofs.Common.{◌≡◌, ℕ, true, ◌<◌, List, length, get_or, sym, subst}
 use Rattle.sharc_code.specs.Whole.{place_after}
 use Rattle.sharc_threads.specs.Ends.{is_enabled}
-use Rattle.sharc_schedule.specs.Schedule.{place_in}
 use Rattle.sharc_schedule.specs.declared.places.Going.{Going}
-use Rattle.sharc_schedule.proofs.Turning.{few_enabled, inside, low_of, enabled_too, room, one_more}
+use Rattle.sharc_schedule.proofs.Turning.{enabled_too, room, one_more}
 use Rattle.sharc_schedule.proofs.places.Going.turn.Goals as goal
-
-pub list_enabled-requires : goal.list_enabled-requires
-list_enabled-requires c = (c.args.code.now, c.args.shape.now, (c.requires.going.0, c.requires.going.1.stands))
-
-pub place_in-place-requires-clause-inside : goal.place_in-place-requires-clause-inside
-place_in-place-requires-clause-inside c =
-    let code = c.args.code.now in
-    let s = c.args.shape.now in
-    let m = c.requires.may in
-    let g = place_after code s m.0 in
-    let low = low_of code s c.args.limit c.args.t m.0 c.args.self.now.walk m.1 m.2 in
-    subst (λ (xs : List ℕ). place_in c.args.t xs < length xs) (sym (c.in_ok-list_enabled.ensures code s m.0 c.requires.fits.threads m.1))
-    (inside code s c.args.limit g c.args.t (omega (arith, low, c.requires.fits.threads)) m.2)
-
-pub place_in-place-requires-clause-few : goal.place_in-place-requires-clause-few
-place_in-place-requires-clause-few c =
-    let code = c.args.code.now in
-    let s = c.args.shape.now in
-    let m = c.requires.may in
-    subst (λ (xs : List ℕ). length xs < 256) (sym (c.in_ok-list_enabled.ensures code s m.0 c.requires.fits.threads m.1)) (few_enabled code s c.args.limit (place_after code s m.0) c.requires.fits.threads)
 
 pub count-requires : goal.count-requires
 count-requires c =
@@ -44,10 +23,10 @@ returns-clause-went c = λ turns h.
     let t : ℕ = c.args.t in
     let m = c.requires.may in
     let old : Going = c.args.self.now in
-    let new : Going = record { walk = c.turn.new.self; places = c.count.new.places; among = c.list_enabled.new.among } in
+    let new : Going = record { walk = c.turn.new.self; places = c.count.new.places } in
     let on : is_enabled code s c.args.limit (place_after code s turns) t ≡ true = enabled_too c.table_laws.ensures code s c.args.limit m.0 turns old.walk t m.1 h.stands m.2 in
-    one_more c.run_laws.ensures c.thread_laws.ensures code s c.args.limit t turns old new h c.in_ok-told.told c.place_in-place.result on (c.in_ok-told.ensures.went turns h.stands)
-    (c.place_in-place.ensures ∙ ap (place_in t) (c.in_ok-list_enabled.ensures code s turns c.requires.fits.threads h.stands))
+    one_more c.run_laws.ensures c.thread_laws.ensures code s c.args.limit t turns old new h c.in_ok-told.told c.args.place on (c.in_ok-told.ensures.went turns h.stands)
+    (c.requires.place turns h.stands)
     c.in_ok-count.ensures
 
 pub returns-clause-less : goal.returns-clause-less

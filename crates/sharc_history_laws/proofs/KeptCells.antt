@@ -1,0 +1,148 @@
+-- A pointer cell that refers to an object by the events does so by the words, but where a Free empties its object.
+use Rattle.std.proofs.Common.{◌≡◌, ◌≢◌, ℕ, zero, suc, ◌+◌, ◌*◌, ◌/◌, ◌^◌, ◌<◌, ◌⊎◌, inl, inr, true, cond, ◌&&◌, List, refl, sym, ap, ◌∙◌, subst, ⊎_elim, arith, ltb-true}
+use Rattle.std.specs.Prelude.{slice_index, nat_lt}
+use Rattle.std.proofs.lemmas.Bool.{and_parts}
+use Rattle.sharc_tree.specs.declared.event.CellAt.{CellAt}
+use Rattle.sharc_ctype.specs.Resolved.{Resolution}
+use Rattle.sharc_code.specs.declared.code.Code.{Code}
+use Rattle.sharc_code.specs.declared.shape.Shape.{Shape}
+use Rattle.sharc_code.specs.Laws.{RunLaws}
+use Rattle.sharc_code.specs.Layout.{Fits, cell_word, cell_of, length_word}
+use Rattle.sharc_code.specs.Machine.{Machine}
+use Rattle.sharc_code.specs.Opening.{opening_words}
+use Rattle.sharc_code.specs.Runs.{Turn, Global, IsRun, opening_of}
+use Rattle.sharc_code.specs.Says.{reference}
+use Rattle.sharc_code.specs.Whole.{one_thread, bounds, place_after}
+use Rattle.sharc_gen.specs.OfRuns.{table_of}
+use Rattle.sharc_meaning.specs.References.{refers}
+use Rattle.sharc_meaning.specs.Store.{value_after}
+use Rattle.sharc_invariant.specs.Types.{Targets, field_in, is_pointer, cells_of}
+use Rattle.sharc_invariant.specs.Labels.{Labels}
+use Rattle.sharc_invariant.specs.Typed.{IsWellTyped}
+use Rattle.sharc_invariant.specs.World.{Cell as CellOf, ObjectState, World}
+use Rattle.sharc_invariant.specs.Words as Words
+use Rattle.sharc_invariant.specs.State.{State, IsSmall}
+use Rattle.sharc_invariant.specs.Opened.{first_world, first_place}
+use Rattle.sharc_invariant.specs.Objects.{objects_after}
+use Rattle.sharc_invariant.specs.MachineInvariant.{cells_now, is_pointer_now, cell_refers}
+use Rattle.sharc_invariant.specs.Laws.{Keeps, Begins as CodeBegins, CellsAreThere, PointersAreThere, AccessesAreAllowed, StateStands}
+use Rattle.sharc_history_laws.specs.History.{history_of}
+use Rattle.sharc_history_laws.specs.SeenCells.{IsBeingFreed, IsCellIn}
+use Rattle.sharc_history_laws.specs.Stores.{BeginsWith}
+use Rattle.sharc_history_laws.proofs.Contents.{newest_value, value_is, value_held, IsCellOf, content_of, word_of_cell}
+use Rattle.sharc_history_laws.proofs.Emptying.{IsEmptied}
+use Rattle.sharc_history_laws.proofs.Finds.{low_slot}
+use Rattle.sharc_history_laws.proofs.Kept.{referred}
+use Rattle.sharc_history_laws.proofs.Locked.{Names}
+use Rattle.sharc_history_laws.proofs.OneMode.{place_of}
+use Rattle.sharc_history_laws.proofs.Rules.{newest}
+use Rattle.sharc_history_laws.proofs.SeenCells.{Seen, seen, cell_word_is, clears, holds_reference, length_is, names, ne_zero, number_is, place_is, pointer_value}
+use Rattle.sharc_history_laws.proofs.Shared.{number_of, some_closing}
+use Rattle.sharc_history_laws.proofs.Unemptied.{on_hold}
+use Rattle.sharc_history_laws.proofs.Unwritten.{emptying}
+
+module _ (state_law : StateStands) (cell_laws : CellsAreThere) (x : Targets) (code : Code) (s : Shape) (ls : Labels) (wt : IsWellTyped x code ls) (fits : Fits code s) (r : Resolution)
+    (run : List Turn) (k : Seen r x code s ls run) (p i : ℕ) (is : is_pointer_now x s (place_after code s run) k.consists.world.obj p i ≡ true) where
+  abbrev g : Global Machine
+  g = place_after code s run
+
+  abbrev world : World
+  world = k.consists.world
+
+  abbrev st : State x code s ls (place_after code s run) k.consists.world
+  st = k.consists.state
+
+  parts : ((k.consists.world.obj p).live ≡ true) × ((nat_lt i (cells_now x s (place_after code s run) k.consists.world.obj p) && is_pointer (field_in x (k.consists.world.obj p).ty i).holds) ≡ true)
+  parts = and_parts (k.consists.world.obj p).live (nat_lt i (cells_now x s (place_after code s run) k.consists.world.obj p) && is_pointer (field_in x (k.consists.world.obj p).ty i).holds) is
+
+  inside_parts : (nat_lt i (cells_now x s (place_after code s run) k.consists.world.obj p) ≡ true) × (is_pointer (field_in x (k.consists.world.obj p).ty i).holds ≡ true)
+  inside_parts = and_parts (nat_lt i (cells_now x s (place_after code s run) k.consists.world.obj p)) (is_pointer (field_in x (k.consists.world.obj p).ty i).holds) parts.1
+
+  cells_are : (p : ℕ) → (k.consists.world.obj p).live ≡ true → cells_now x s (place_after code s run) k.consists.world.obj p ≡ k.consists.state.cells p
+  cells_are zero live = sym st.globals_cells
+  cells_are (suc q) live =
+      let o = suc q in
+      let some : o ≢ 0 = λ e. cc in
+      let long : st.elements o ≡ slice_index g.words (length_word s o) = st.sim.lengths o some live ∙ ap (λ i. slice_index g.words i) (sym (length_is s o (st.apart.headers o live))) in
+      ap (λ b. cond b (2 * s.globals) (slice_index g.words (length_word s o) * cells_of x (world.obj o).ty.target)) (ne_zero o some)
+      ∙ ap (λ n. n * cells_of x (world.obj o).ty.target) (sym long) ∙ sym (st.whole o some live).1
+
+  inside : i < k.consists.state.cells p
+  inside = subst (λ n. i < n) (cells_are p parts.0) (ltb-true i (cells_now x s g world.obj p) inside_parts.0)
+
+  abbrev word : ℕ
+  word = slice_index (place_after code s run).words (Words.cell_at s p i)
+
+  word_is : cell_refers x s (place_after code s run) k.consists.world.obj p i ≡ word
+  word_is =
+      let lt = inside in
+      ap (λ b. cond b (slice_index g.words (cell_word s (cell_of p i))) 0) is ∙ ap (λ w. slice_index g.words w) (cell_word_is s p i (st.apart.within p (i / 2) parts.0 (omega arith)))
+
+  low : word < 2 ^ 32
+  low = subst (λ n. n < 2 ^ 32) (st.sim.pointers p i parts.0 inside inside_parts.1) (low_slot cell_laws x code s ls wt fits g world st (CellOf p i))
+
+  module _ (c : CellAt) (at : IsCellIn code c.object c.cell p i) where
+    number : number_of c.object ≡ p
+    number = number_is code c.object c.cell p i at
+
+    place : place_of code c.object c.cell ≡ i
+    place = place_is code c.object c.cell p i at
+
+    content : content_of x code k.consists.world c ≡ (field_in x (k.consists.world.obj p).ty i).holds
+    content = ap (λ n. (field_in x (world.obj n).ty (place_of code c.object c.cell)).holds) number ∙ ap (λ j. (field_in x (world.obj p).ty j).holds) place
+
+    is_pointer_cell : is_pointer (content_of x code k.consists.world c) ≡ true
+    is_pointer_cell = ap is_pointer content ∙ inside_parts.1
+
+    cell : IsCellOf code k.consists.world k.consists.state.cells c
+    cell = record {
+      live = ap (λ n. (world.obj n).live) number ∙ parts.0;
+      inside = subst (λ n. place_of code c.object c.cell < st.cells n) (sym number) (subst (λ j. j < st.cells p) (sym place) inside);
+      named = subst (λ n. Names code c n (2 * (n + 1) + place_of code c.object c.cell)) (sym number) (subst (λ j. Names code c p (2 * (p + 1) + j)) (sym place) (names code c c.object p i refl at));
+    }
+
+    same_word : slice_index (place_after code s run).words (word_of_cell code s c) ≡ word
+    same_word = ap (λ n. slice_index g.words (Words.cell_at s n (place_of code c.object c.cell))) number ∙ ap (λ j. slice_index g.words (Words.cell_at s p j)) place
+
+    by_value : (o : ℕ) → newest_value r (newest code s run) c ≡ value_held (content_of x code k.consists.world c) (table_of code s run) (slice_index (place_after code s run).words (word_of_cell code s c))
+        → refers o (value_after r (history_of code s run) c) ≡ true → cell_refers x s (place_after code s run) k.consists.world.obj p i ≡ o
+    by_value o e there =
+        let v = slice_index g.words (word_of_cell code s c) in
+        let T = table_of code s run in
+        let q : value_after r (history_of code s run) c ≡ reference word (T word) =
+        value_is r (newest code s run) c ∙ e ∙ holds_reference (content_of x code world c) T v is_pointer_cell ∙ ap (λ v. reference v (T v)) same_word in
+        word_is ∙ referred o word (T word) low (subst (λ v. refers o v ≡ true) q there)
+
+    freed : IsEmptied code (place_after code s run) (number_of c.object) → IsBeingFreed code (place_after code s run) p
+    freed z =
+        let u = z.0 in
+        let y = z.1.1 in
+        let closing = emptying x code s ls wt fits g world st u (z.1.0, y.on) (on_hold (g.threads u).own.stage y.emptying) (number_of c.object) y.register y.layout y.site y.is_free y.object in
+        record {
+          some = subst (λ n. n ≢ 0) number (some_closing state_law x code s ls wt fits g world st (number_of c.object) closing);
+          thread = u;
+          started = z.1.0;
+          on = y.on;
+          register = y.register;
+          layout = y.layout;
+          site = y.site;
+          is_free = y.is_free;
+          object = y.object ∙ number;
+          clearing = clears (g.threads u).own.stage y.emptying;
+        }
+
+    pub cell_kept : (o : ℕ) → refers o (value_after r (history_of code s run) c) ≡ true → (cell_refers x s (place_after code s run) k.consists.world.obj p i ≡ o) ⊎ IsBeingFreed code (place_after code s run) p
+    cell_kept o there = ⊎_elim
+        (λ (e : newest_value r (newest code s run) c ≡ value_held (content_of x code world c) (table_of code s run) (slice_index g.words (word_of_cell code s c))). inl (by_value o e there))
+        (λ (z : IsEmptied code g (number_of c.object)). inr (freed z))
+        (k.contents c cell (pointer_value (content_of x code world c) is_pointer_cell))
+
+-- by the objects of the turns
+pub cells_kept : (state_law : StateStands) (cell_laws : CellsAreThere) (pointers : PointersAreThere) (rights : AccessesAreAllowed) (laws : RunLaws) (begins_law : CodeBegins) (keeps : Keeps) (x : Targets) (code : Code) (s : Shape) (ls : Labels) (wt : IsWellTyped x code ls) (fits : Fits code s) (few : IsSmall code s)
+    (r : Resolution) (first : BeginsWith r code) (run : List Turn) → IsRun bounds (one_thread code s) (opening_of bounds (one_thread code s) (opening_words code s)) run → (p i o : ℕ) (c : CellAt) → IsCellIn code c.object c.cell p i
+    → is_pointer_now x s (place_after code s run) (objects_after code s ls (first_place code s) (first_world x).obj run) p i ≡ true → refers o (value_after r (history_of code s run) c) ≡ true
+    → (cell_refers x s (place_after code s run) (objects_after code s ls (first_place code s) (first_world x).obj run) p i ≡ o) ⊎ IsBeingFreed code (place_after code s run) p
+cells_kept state_law cell_laws pointers rights laws begins_law keeps x code s ls wt fits few r first run is_run p i o c at is there =
+    let k = seen state_law cell_laws pointers rights laws begins_law keeps x code s ls wt fits few r first run is_run in
+    subst (λ (obj : ℕ → ObjectState). (cell_refers x s (place_after code s run) obj p i ≡ o) ⊎ IsBeingFreed code (place_after code s run) p) k.same
+    (cell_kept state_law cell_laws x code s ls wt fits r run k p i (subst (λ (obj : ℕ → ObjectState). is_pointer_now x s (place_after code s run) obj p i ≡ true) (sym k.same) is) c at o there)

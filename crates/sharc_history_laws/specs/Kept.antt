@@ -1,0 +1,50 @@
+-- The references that the source events of a checked run of typed code tell of, the words tell of too: those of held
+-- mutexes, of arguments that are not read yet, and of the pointer cells of live objects.
+use Rattle.std.specs.Prelude.{ℕ, ℤ, pos, ◌≡◌, ◌⊎◌, true, List, [], Any}
+use Rattle.sharc_tree.specs.declared.event.Act.TheVariants.{Spawn}
+use Rattle.sharc_tree.specs.declared.event.CellAt.{CellAt}
+use Rattle.sharc_tree.specs.declared.event.Object.TheVariants.{Made}
+use Rattle.sharc_code.specs.declared.code.Code.{Code}
+use Rattle.sharc_code.specs.declared.code.Parameter.TheVariants.{Reference}
+use Rattle.sharc_code.specs.declared.shape.Shape.{Shape}
+use Rattle.sharc_code.specs.Layout.{Fits}
+use Rattle.sharc_code.specs.Machine.{function_of}
+use Rattle.sharc_code.specs.Runs.{Turn}
+use Rattle.sharc_code.specs.Whole.{CheckedRun, place_after}
+use Rattle.sharc_ctype.specs.Resolved.{Resolution}
+use Rattle.sharc_meaning.specs.Events.{events_of}
+use Rattle.sharc_meaning.specs.References.{refers}
+use Rattle.sharc_meaning.specs.Store.{is_locked, value_after}
+use Rattle.sharc_invariant.specs.Types.{Targets}
+use Rattle.sharc_invariant.specs.Labels.{Labels}
+use Rattle.sharc_invariant.specs.Typed.{IsWellTyped}
+use Rattle.sharc_invariant.specs.Words.{argument_of}
+use Rattle.sharc_invariant.specs.State.{IsSmall}
+use Rattle.sharc_invariant.specs.Opened.{first_world, first_place}
+use Rattle.sharc_invariant.specs.Objects.{objects_after}
+use Rattle.sharc_invariant.specs.MachineInvariant.{cell_refers, is_pointer_now, log_refers}
+use Rattle.sharc_history_laws.specs.History.{history_of}
+use Rattle.sharc_history_laws.specs.SeenCells.{IsBeingFreed, IsCellIn}
+use Rattle.sharc_history_laws.specs.Stores.{BeginsWith}
+
+-- where a mutex of an object is locked by the events, the held log of a thread refers to the object
+abbrev pub LockedAreLogged : Type 0
+LockedAreLogged = (x : Targets) (code : Code) (s : Shape) (ls : Labels) → IsWellTyped x code ls → Fits code s → IsSmall code s → (r : Resolution) → BeginsWith r code
+    → (run : List Turn) → CheckedRun code s run → (c : CellAt) (o : ℕ) → c.object ≡ Made o → is_locked (history_of code s run) c ≡ true
+    → (u : ℕ) × (word : ℕ) × (log_refers (place_after code s run) u word ≡ o)
+
+-- where a thread has had no event, and a Spawn has answered its number that gave it a reference, its argument refers to
+-- the object
+abbrev pub SpawnedAreGiven : Type 0
+SpawnedAreGiven = (x : Targets) (code : Code) (s : Shape) (ls : Labels) → IsWellTyped x code ls → Fits code s → IsSmall code s → (r : Resolution) → BeginsWith r code
+    → (run : List Turn) → CheckedRun code s run → (u f o : ℕ) (v : ℤ) → events_of u (history_of code s run) ≡ []
+    → Any (λ e. (e.act ≡ Spawn f v) × (e.answer ≡ pos u)) (history_of code s run) → (function_of code f).parameter ≡ Reference → refers o v ≡ true
+    → argument_of code (place_after code s run) u ≡ o
+
+-- where by the events a pointer cell of a live object refers to an object, it does so by the words, but while a Free
+-- empties the cell's object
+abbrev pub CellsAreKept : Type 0
+CellsAreKept = (x : Targets) (code : Code) (s : Shape) (ls : Labels) → IsWellTyped x code ls → Fits code s → IsSmall code s → (r : Resolution) → BeginsWith r code
+    → (run : List Turn) → CheckedRun code s run → (p i o : ℕ) (c : CellAt) → IsCellIn code c.object c.cell p i
+    → let g = place_after code s run in let obj = objects_after code s ls (first_place code s) (first_world x).obj run in is_pointer_now x s g obj p i ≡ true
+    → refers o (value_after r (history_of code s run) c) ≡ true → (cell_refers x s g obj p i ≡ o) ⊎ IsBeingFreed code g p

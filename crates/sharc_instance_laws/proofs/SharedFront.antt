@@ -1,0 +1,95 @@
+-- The sharing source is that program, with its least modes.
+use Rattle.std.proofs.Common.{◌≡◌, ℕ, zero, suc, ◌<◌, true, false, [], ◌∷◌, refl, arith}
+use Rattle.sharc_graph.specs.declared.graph.Finding.TheVariants.{Apart}
+use Rattle.sharc_constraints.specs.declared.place.Place.TheVariants as place
+use Rattle.sharc_lex.specs.Grammar.{reading}
+use Rattle.sharc_lex.specs.Words.{keywords}
+use Rattle.sharc_grammar.specs.Grammar.{IsProgram}
+use Rattle.sharc_grammar.specs.Limits.{LowProgram}
+use Rattle.sharc_grammar.specs.Places.{Reads}
+use Rattle.sharc_ctype.specs.Resolved.{IsResolved}
+use Rattle.sharc_constraints.specs.Flow.{IsInferred, IsUnwritten, flow_of, place_at}
+use Rattle.sharc_graph.specs.Findings.{finding_at}
+use Rattle.sharc_mode.specs.Flows.{IsLeastAssignment, IsPlaceFor, IsReasonFor, links_of, mode_found}
+use Rattle.sharc_mode.specs.Moded.{reason_at}
+use Rattle.sharc_mode.specs.Settled.{settled_at}
+use Rattle.sharc_tree.specs.declared.ctype.Mode.TheVariants.{Private}
+use Rattle.std.specs.Prelude.{Ok, slice_index_or}
+use Rattle.sharc_ctype.specs.Reaches.{Spawns}
+use Rattle.sharc_mode.specs.WellModed.{TellsTouched, WellModed}
+use Rattle.sharc_sound.specs.Front.{IsFront}
+use Rattle.sharc_instance_laws.specs.Sources.{sharing_source}
+use Rattle.sharc_instance_laws.proofs.Sharing.{phrases, program, resolution, sharing, modes, tokens}
+
+read : reading sharing_source ≡ Ok tokens
+unfolding reading keywords
+read = refl
+
+is_program : IsProgram phrases
+is_program = search arith
+
+within : LowProgram phrases
+within = search arith
+
+reads : Reads tokens program
+reads = record { phrases = phrases; is_program = is_program; within = within; spelled = refl; placed = refl; keeps_tokens = refl; keeps_files = refl }
+
+resolved : IsResolved resolution
+resolved = record { typed = refl; named = refl }
+
+-- each position has its mode written, or is that of a mutex
+places_are : (position : ℕ) → IsPlaceFor resolution position (settled_at resolution position) (place_at (place.Private ∷ place.Private ∷ []) position)
+places_are zero = refl
+places_are (suc zero) = refl
+places_are (suc (suc n)) = refl
+
+clash : false ≡ true → ⊥
+clash e = cc
+
+none_unwritten : (position : ℕ) → IsUnwritten (flow_of (place.Private ∷ place.Private ∷ []) (links_of resolution)) position
+    → IsInferred (flow_of (place.Private ∷ place.Private ∷ []) (links_of resolution)) position (finding_at (Apart ∷ Apart ∷ []) position)
+none_unwritten zero e = absurd (clash e)
+none_unwritten (suc zero) e = absurd (clash e)
+none_unwritten (suc (suc n)) e = absurd (clash e)
+
+beyond : {P : Type 0} (n : ℕ) → suc (suc n) < 2 → P
+beyond n less = absurd (omega (arith, less))
+
+modes_are : (position : ℕ) → position < 2 → slice_index_or modes position Private ≡ mode_found (settled_at resolution position) (finding_at (Apart ∷ Apart ∷ []) position)
+modes_are zero less = refl
+modes_are (suc zero) less = refl
+modes_are (suc (suc n)) less = beyond n less
+
+reasons_are : (position : ℕ) → position < 2 → IsReasonFor resolution position (settled_at resolution position) (finding_at (Apart ∷ Apart ∷ []) position) (reason_at sharing position)
+reasons_are zero less = refl
+reasons_are (suc zero) less = refl
+reasons_are (suc (suc n)) less = beyond n less
+
+least : IsLeastAssignment sharing
+least = record {
+  places = place.Private ∷ place.Private ∷ [];
+  are_places = record {
+    size = refl;
+    each = places_are;
+  };
+  findings = Apart ∷ Apart ∷ [];
+  are_inferred = record { size = refl; each = none_unwritten };
+  modes = refl;
+  mode = modes_are;
+  reasons = refl;
+  reason = reasons_are;
+}
+
+-- ---- no thread is spawned, so none touches a global
+none_spawned : (spawner f : ℕ) → Spawns resolution spawner f → ⊥
+none_spawned zero f w = absurd (omega (arith, w.1.1))
+none_spawned (suc n) f w = w
+
+tells : TellsTouched resolution (λ g. false)
+tells g = (λ e. absurd (clash e), λ t. absurd (none_spawned t.reached.spawner t.reached.first t.reached.spawned))
+
+pub well_moded : WellModed sharing
+well_moded = record { touched = λ g. false; tells = tells; are = refl }
+
+pub front : IsFront sharing_source sharing
+front = record { typed = record { tokens = tokens; read = read; reads = reads; resolved = resolved }; least = least }
