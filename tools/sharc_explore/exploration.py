@@ -6,16 +6,18 @@ import subprocess
 import sys
 from multiprocessing.pool import ThreadPool
 
-from .findings import MEANING, findings
+from . import orders, overlap, references
+from .findings import MEANING, findings, parse
 from .lanes import Lanes
-from .orders import both_orders
-from .program import Program, in_turns, read_source, sharc_path
+from .program import Program, path_of, read_source
+from .reached import unreached
 from .schedules import Ways
 from .shrink import Shrinker, shortest
 from .source import Source
-from .twin import Twin
+from .steer import Deadlock, Overlap, Steering
 
-TRACED = 40                         # runs of the traced twin
+WALKS = 40                          # whose events are looked at, besides those of the recorded run
+TRIES, TRACES = 6, 2000             # how often a prediction is tried, and how many traces are made for all
 
 
 class Exploration:
@@ -25,26 +27,13 @@ class Exploration:
         self.path, self.jobs = options.program, options.jobs
         self.program = Program(read_source(self.path), options.granules, options.events)
         self.status, self.checked = self.program.check()
-        self.statuses, self.found, self.unreached, self.traced = collections.Counter(), {}, [], 0
+        self.statuses, self.found, self.tried = collections.Counter(), {}, collections.Counter()
+        self.unreached, self.traced, self.budget = [], 0, TRACES
         if self.status == 0:
             self.source = Source(self.program.source.decode("latin-1"))
             self.ways = Ways(self.program, self.source)
-            self._measure()
-
-    def _measure(self):
-        """How many threads there are, as the traced twin tells; a program at a limit of the language may have none."""
-        twin, program = self.twin()
-        self.has_twin = program.check() == (0, self.checked)
-        run = program.replay(in_turns(8)) if self.has_twin else None
-        spawned = [event.value[1] for event in twin.events(run.text) if event.kind == "spawned"] if run else []
-        self.program.measure(max(spawned or [0 if run else len(twin.spawns)]) + 1)
-
-    def twin(self, paused=()):
-        """The traced twin, and how it is run."""
-        twin = Twin(self.source, paused)
-        program = self.program.twin(twin.text().encode("latin-1"))
-        program.turns = 3 * self.program.turns
-        return twin, program
+            self.recorded = self.program.record()
+            self.program.measure(self.program.trace(self.recorded).threads, self.recorded)
 
     def explore(self, first, count, progress):
         """Makes the runs of these numbers, and tells the progress."""
@@ -54,31 +43,60 @@ class Exploration:
                 if status not in (*MEANING, "cut"):
                     raise subprocess.CalledProcessError(run.status, f"{self.program.sharc} replay")
                 self.statuses[status] += 1
-                self._note(run, findings(run) if status in MEANING else [])
+                for one in findings(run) if status in MEANING else []:
+                    self.found.setdefault(one.key, one).note(run, self.ways.rank(run.number), one)
                 progress(self.total(), count, len(self.findings()))
-            if self.has_twin:
-                self._trace(pool, first)
+            self._predict(pool, first)
+        for one in self.found.values():
+            if one.kind == "deadlock" or one.title.startswith("A4"):
+                trace = self.trace_of(one)
+                one.details = [*orders.holders(trace, parse(one.text)[1]), *references.left(trace, one.text)]
 
-    def _note(self, run, shown):
-        for one in shown:
-            self.found.setdefault(one.key, one).note(run, self.ways.rank(run.number), one)
+    def _predict(self, pool, first):
+        """What the events of some runs tell: lines that none reaches, and deadlocks and races of other runs. It is
+        tried to steer a run into each that was not met."""
+        walks, limit, predicted, had = Ways(self.program, self.source, "walk"), self.program.few_events(), {}, set()
+        schedules = [self.recorded, *(walks.prepared(number)[1] for number in range(first, first + WALKS))]
+        for schedule, trace in zip(schedules, pool.imap(lambda lines: self.program.trace(lines, limit), schedules)):
+            had |= {event.place for event in trace.all}
+            for places, cycles in orders.cycles_of(trace).items():
+                one = predicted.setdefault(places, orders.predicted(trace, cycles[0], schedule))
+                one.count += 1
+                policies = [policy for cycle in cycles for policy in Deadlock.policies(cycle)]
+                self._steer(schedule, policies, places, first)
+            for race in overlap.races(trace):
+                self._steer(schedule, [Overlap(race)], race.places, first)
+        self.unreached, self.traced = unreached(self.source, had), len(schedules)
+        self.found = {key: one for key, one in self.found.items() if one.kind != "order"}
+        self.found.update({one.key: one for places, one in predicted.items() if not self._is_met(places)})
 
-    def _trace(self, pool, first):
-        """What runs of the traced twin tell: lines that none reaches, orders of mutexes that are not met as a deadlock,
-        and of each deadlock which locks its threads hold, and since where."""
-        twin, program = self.twin()
-        deadlocks, reached = [one for one in self.found.values() if one.kind == "deadlock"], set()
-        for run in pool.imap_unordered(Ways(program, self.source, "walk").run, range(first, first + TRACED)):
-            events = twin.events(run.text)
-            reached |= {event.statement.place for event in events if event.statement}
-            orders = {one.key: one for one in both_orders(events)
-                      if not any(set(one.places) <= set(deadlock.places) for deadlock in deadlocks)}
-            self._note(run._replace(status=0), orders.values())
-        places = {one.place for one in self.source.statements if one.kind != "end"}
-        self.unreached, self.traced = sorted(places - reached), TRACED
-        for deadlock in deadlocks:
-            lanes = None if deadlock.steps[-1].startswith("in a traced run") else self.shown(deadlock)
-            deadlock.steps += lanes.holders() if lanes else []
+    def _is_met(self, places):
+        return any(one.kind in ("deadlock", "race") and places == set(one.places) for one in self.found.values())
+
+    def _steer(self, schedule, policies, places, first):
+        """Steers runs by these policies until one shows a fault of these places, and notes what they show."""
+        steering = Steering(self.program)
+        for policy in policies:
+            if self._is_met(places) or self.tried[places] == TRIES or self.budget <= 0:
+                return
+            self.tried[places] += 1
+            self.budget += len(steering.traces)
+            steered = steering.steered(schedule, policy)
+            self.budget -= len(steering.traces)
+            run = self.program.replay(steered) if steered else None
+            for one in findings(run) if run else []:
+                if one.kind not in ("output", "limit") and one.key not in self.found:
+                    self.found[one.key] = one.steered(run, steered, first)
+
+    def run_of(self, finding):
+        """A program, with pauses or as it is, and a schedule by which it shows a finding, or predicts it."""
+        if finding.schedule is not None:
+            return self.program, finding.schedule
+        return self.ways.prepared(finding.number)[:2]
+
+    def trace_of(self, finding):
+        program, schedule = self.run_of(finding)
+        return program.trace(schedule)
 
     def findings(self):
         """The worst first, and of these the ones that most runs show."""
@@ -93,41 +111,47 @@ class Exploration:
     def total(self):
         return sum(self.statuses.values())
 
+    def worst(self):
+        """The worst status of a run that was made."""
+        shown = {*self.statuses, *(one.status for one in self.found.values())}
+        return next((status for status in MEANING if status in shown), 0)
+
     def seen(self, finding):
         """How many runs show a finding, and a command that shows it again if one does."""
         if finding.kind == "order":
-            return f"in {finding.count} of {self.traced} traced runs"
-        again = f"{shlex.quote(sharc_path())} replay < {shlex.quote(finding.file or '')}"
+            return f"by {finding.count} of {self.traced} traced runs; no schedule that was made reaches it"
+        how = f"in {finding.count} of {self.total()} runs"
+        if not finding.count:
+            how = "predicted, and reached by a schedule made for it"
+        again = f"{shlex.quote(path_of('sharc'))} replay < {shlex.quote(finding.file or '')}"
         if not finding.file:
             limits = f" --granules {self.program.granules}" * (self.program.granules != 4096)
             limits += f" --events {self.program.events}" * (self.program.events != 100000)
             tool = os.path.join(os.path.dirname(sys.argv[0]), "sharc-explore")
-            again = f"{tool} --from {finding.number} -n 1{limits} {shlex.quote(self.path)}"
-        return f"in {finding.count} of {self.total()} runs; again: {again}"
+            again = f"{tool} --from {finding.first} -n 1{limits} {shlex.quote(self.path)}"
+        return f"{how}; again: {again}"
+
+    def shorten(self, finding):
+        """Finds a short schedule of the program itself that shows a finding, if tries find one."""
+        if finding.count:
+            finding.schedule = shortest(self.ways, finding)
+        else:
+            finding.schedule = Shrinker(self.program, finding.key).shrunk(finding.schedule)
+        if finding.schedule is not None:
+            finding.text = self.program.replay(finding.schedule).text
 
     def save(self, finding, name):
         """Writes a file for replay with the shortest schedule that tries find; if none, with that of a run."""
-        finding.schedule, finding.file = shortest(self.ways, finding), name
-        program, schedule, _ = self.ways.prepared(finding.number)
-        if finding.schedule is not None:
-            program, schedule = self.program, finding.schedule
-            finding.text = program.replay(schedule).text
+        self.shorten(finding)
+        finding.file = name
+        program, schedule = self.run_of(finding)
         with open(name, "wb") as file:
             file.write(program.file_of(schedule, finding.text))
 
     def shown(self, finding):
-        """A short run of the traced twin that shows a finding, as lanes, or None."""
-        if not self.has_twin:
-            return None
-        if finding.kind == "order":
-            return Lanes(self.twin()[0].events(finding.text), finding.text)
-        paused = self.ways.prepared(finding.number)[2]
-        for pauses, way in ((paused, "walk"), ((), "walk"), ((), "few")):
-            twin, program = self.twin(pauses)
-            ways = Ways(program, self.source, way)
-            for number in range(60):
-                schedule = ways.prepared(number)[1]
-                if any(one.key == finding.key for one in findings(program.replay(schedule))):
-                    text = program.replay(Shrinker(program, finding.key).shrunk(schedule)).text
-                    return Lanes(twin.events(text), text)
-        return None
+        """A run that shows a finding, as lanes: one with few switches if tries find one."""
+        if finding.kind != "order":
+            self.shorten(finding)
+        else:
+            finding.text = self.program.replay(finding.schedule).text
+        return Lanes(self.trace_of(finding), finding.text)

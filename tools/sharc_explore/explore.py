@@ -58,9 +58,9 @@ def report(exploration, seconds):
             yield f"  {exploration.statuses[status]:6}  {meaning}" + f" (status {status})" * (status != "cut")
     for number, finding in enumerate(exploration.findings(), 1):
         yield f"\n{number}. {finding.title}"
-        yield from (f"     {step}" for step in finding.steps)
+        yield from (f"     {step}" for step in finding.steps + finding.details)
         yield f"   {exploration.seen(finding)}"
-        if finding.schedule is not None and len(finding.schedule) <= 8:
+        if finding.file and finding.schedule is not None and len(finding.schedule) <= 8:
             steps = ", then ".join(f"{turns} turns of place {place}" for place, turns in finding.schedule)
             yield f"   {steps or 'always the first thread that can go on'}"
     outputs = exploration.outputs()
@@ -71,13 +71,11 @@ def report(exploration, seconds):
         yield from (f"  {finding.title[:70] or 'nothing'}: {exploration.seen(finding)}" for finding in outputs[:5])
     if exploration.unreached:
         yield f"\nNot reached in {exploration.traced} traced runs: " + ", ".join(map(str, exploration.unreached))
-    elif not exploration.has_twin:
-        yield "\nWhich lines were reached is not known: the program with prints is at a limit of the language."
 
 
 def as_json(exploration):
     def one(finding):
-        names = ("kind", "title", "steps", "status", "count", "number", "schedule", "file", "text")
+        names = ("kind", "title", "steps", "details", "status", "count", "number", "schedule", "file", "text")
         return {name: getattr(finding, name) for name in names} | {
             "places": [place._asdict() for place in finding.places], "seen": exploration.seen(finding)}
     return {"program": exploration.path, "check": exploration.checked, "runs": dict(exploration.statuses),
@@ -106,7 +104,7 @@ def main(name, about, words):
     if options.save:
         os.makedirs(options.save, exist_ok=True)
         for number, finding in enumerate(exploration.findings(), 1):
-            if finding.kind != "order":
+            if finding.kind != "order":                     # (of which there is no run)
                 exploration.save(finding, os.path.join(options.save, f"{number}.run"))
     if options.sarif:
         write(options.sarif, sarif.Report(exploration).document())
@@ -115,7 +113,7 @@ def main(name, about, words):
     if options.json != "-":
         lines = [line for line in exploration.checked.splitlines() if line != "accepted"]
         print("\n".join(lines + list(report(exploration, seconds) if exploration.status == 0 else ())))
-    return exploration.status or next((status for status in MEANING if exploration.statuses[status]), 0)
+    return exploration.status or exploration.worst()
 
 
 def called(name, about):

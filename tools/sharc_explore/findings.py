@@ -3,7 +3,6 @@ import re
 from collections import namedtuple
 
 MEANING = {3: "a report", 4: "a stop", 5: "a deadlock", 6: "the limit of events", 0: "ended"}   # the worst first
-BASE = 1 << 62                     # numbers from here on are printed by traced twins, and by no sensible program
 AT = r" at (?P<file>.+):(?P<line>\d+)"
 FORMS = [re.compile(form) for form in (
     r"(?P<code>A[12]) (?P<access>.+)" + AT + r" conflicts with (?P<access2>.+) at (?P<file2>.+):(?P<line2>\d+)"
@@ -50,7 +49,9 @@ class Finding:
         self.kind, self.title, self.places, self.steps = kind, title, places, list(steps)
         self.key = (kind, title if key is None else key)
         self.status, self.number, self.rank, self.text, self.numbers, self.count = 0, None, None, "", [], 0
-        self.schedule, self.file = None, None               # when it was shrunk, and saved
+        self.details = []                                   # what the events of the run tell
+        self.first = None                                   # the number from which on it is found again
+        self.schedule, self.file = None, None               # when it was shrunk or steered into, and saved
 
     def note(self, run, rank, shown):
         """One more run, and the finding as this run shows it."""
@@ -58,23 +59,30 @@ class Finding:
         self.count += 1
         if self.rank is None or rank < self.rank:
             self.number, self.status, self.text = run.number, run.status, run.text
-            self.rank, self.steps = rank, shown.steps
+            self.rank, self.steps, self.first, self.schedule = rank, shown.steps, run.number, None
+
+    def steered(self, run, schedule, first):
+        """The finding, shown by a run that a schedule was made for."""
+        self.status, self.text, self.schedule, self.first = run.status, run.text, schedule, first
+        return self
 
 
 def cycle_of(threads):
-    """The lines of a cycle of threads that wait for one another, if there is one."""
+    """The lines of a cycle of threads that wait for one another, if there is one, from its smallest on."""
     lines = {left.thread: left for left in threads}
     for start in sorted(lines):
         seen, at = [], start
         while at in lines and at not in seen:
             seen, at = seen + [at], lines[at].other
-        if at in seen:
-            return [lines[number] for number in seen[seen.index(at):]]
+        if at in seen and all(lines[number].code == "waits" for number in seen[seen.index(at):]):
+            cycle = [lines[number] for number in seen[seen.index(at):]]
+            turned = [cycle[at:] + cycle[:at] for at in range(len(cycle))]
+            return min(turned, key=lambda lefts: [(left.place, left.wanted) for left in lefts])
     return []
 
 
 def deadlock(threads):
-    """A stuck run: as its cycle, which begins at its smallest step; else as those that wait for no other thread."""
+    """A stuck run: as its cycle; else as those that wait for no other thread."""
     cycle = cycle_of(threads)
     if not cycle:
         waits = sorted({(left.other is not None, left.place, left.wanted) for left in threads})
@@ -83,7 +91,6 @@ def deadlock(threads):
         title = "threads wait, and none is left to wake them"
         return Finding("deadlock", title, [place for _, place, _ in first], steps, tuple(first))
     waits, steps = [(left.place, left.wanted) for left in cycle], []
-    waits = min(waits[at:] + waits[:at] for at in range(len(waits)))
     for at, (place, what) in enumerate(waits):
         name, holder = chr(65 + at), chr(65 + (at + 1) % len(waits))
         what = f"{what}, which {holder} holds" if what.startswith("mutex") else f"the end of {holder}"
@@ -104,10 +111,10 @@ def findings(run):
             found.append(Finding("race", title, [place, place2]))
         elif re.match("X|A[34]", left.code):
             found.append(Finding("stop" if left.code[0] == "X" else "report", title, [left.place]))
-    if run.status == 5:
+    if run.status == 5 or cycle_of(threads):
         found.append(deadlock(threads))
     if run.status == 6:
         found.append(Finding("limit", "a thread made all steps that --events allows: a loop without end?", []))
     if run.status == 0:
-        found.append(Finding("output", " ".join(str(value) for value in prints if value < BASE), []))
+        found.append(Finding("output", " ".join(map(str, prints)), []))
     return list({one.key: one for one in reversed(found)}.values())[::-1]

@@ -1,129 +1,123 @@
-"""One run as lanes, a column for each thread: who ran when, what it held, waited for, printed, and where it ended."""
+"""One run as lanes, a column for each thread: who did what when, what it held and waited for, and where it ended."""
+import bisect
 import itertools
-from collections import namedtuple
+from collections import defaultdict, namedtuple
 from html import escape
 
+from .events import LEFT
 from .findings import parse
-from .schedules import BLOCKING
-from .source import lock_of
 
-ROWS = 420                            # of a longer run the beginning is left out
-Row = namedtuple("Row", "lane statement kind notes times")
-Held = namedtuple("Held", "lock place start end")
+ROWS, NOTES = 420, 6                  # of a longer run the beginning is left out, and of a row what else it did
+NAMES = {"start": "begins", "return": "reaches its end"}
+NOTED = {"read": "{0} is {1}", "write": "{0} = {1}", "print": "prints {0}", "spawn": "starts thread {3}",
+         "malloc": "makes {0}", "cast": "takes {1}", "free": "frees {1}", "signal": "wakes {2}"}
+# What a thread did at one line before another one did something; name: it begins, or ends. Of the last lines of a trace
+# there is a row each.
+Row = namedtuple("Row", "thread place name events")
+Held = namedtuple("Held", "event start end")          # the event that took a mutex, and the rows from it to its unlock
+
+
+def note(event):
+    """What a person is told of an event beside its line, or nothing."""
+    if event.word == "lock" and event.cell.startswith("o"):
+        return f"of {event.cell.split('.')[0]}"
+    if event.word == "signal" and event.words[-1] != "nobody":
+        return f"wakes thread {event.words[-1]}"
+    return NOTED.get(event.word, "").format(*event.words) if event.mode != "path" else ""
 
 
 class Lanes:
-    """The rows of a run, its threads, and what is known of each at each row. A row is a statement begun, with what it
-    printed and which thread it made as notes."""
+    """The rows of a run, its threads, and what is known of each at each row."""
 
-    def __init__(self, events, text):
-        self.rows, self.own = [], {}                    # and the rows of each lane
-        self.passed = {}                                # of a lock, join or wait how many rows there were behind it
-        for event, same in itertools.groupby(events):
-            self._add(event, len(list(same)))
-        lines = {line.thread: line for line in parse(text)[1]}
-        self.names = self._numbers(events, lines)
-        self.lanes = sorted(self.own, key=lambda lane: self.names.get(lane, (99, False)))
-        self.held = {lane: list(self._held(lane)) for lane in self.lanes}
-        self.lines = {lane: lines[self.names[lane][0]] for lane in self.lanes if self.names[lane][0] in lines}
+    def __init__(self, trace, text):
+        events = [one for one in trace.events if one.word != "gone"]
+        rows = itertools.groupby(events, key=lambda one: (one.thread, one.place, NAMES.get(one.word)))
+        self.rows = [Row(*key, list(same)) for key, same in rows]
+        self.rows += [Row(one.thread, one.place, None, [one]) for one in trace.lasts]
+        self.own, self.functions = defaultdict(list), trace.functions
+        for at, row in enumerate(self.rows):
+            self.own[row.thread].append(at)
+        self.held = {lane: list(self._held(lane)) for lane in self.own}
+        self.lines = {line.thread: line for line in parse(text)[1]}
 
-    def _add(self, event, times):
-        own = self.own.setdefault(event.lane, [])
-        if event.kind == "passed":
-            self.passed[next(at for at in own[::-1] if self.rows[at].statement == event.statement)] = len(self.rows)
-        elif event.kind in ("printed", "spawned"):
-            printed = event.kind == "printed"
-            note = f"prints {event.value}" if printed else f"starts thread {event.value[1]}"
-            at = next(at for at in own[::-1] if ("print" if printed else "spawn") in self.rows[at].statement.text)
-            self.rows[at] = self.rows[at]._replace(notes=self.rows[at].notes + (note,))
-        else:
-            own.append(len(self.rows))
-            self.rows.append(Row(event.lane, event.statement, event.kind, (), times))
-
-    def _numbers(self, events, lines):
-        """The thread of each lane, and whether that is certain: of threads that one spawn made it may not be."""
-        spawned, names = [event.value for event in events if event.kind == "spawned"], {0: (0, True)}
-        for lane, spawn in ((event.lane, event.value) for event in events if event.kind == "start"):
-            made = [number for which, number in spawned if which == spawn]
-            free = [number for number in made if number not in {taken for taken, _ in names.values()}]
-            last = self.rows[self.own[lane][-1]].statement.place
-            fits = [number for number in free if number in lines and lines[number].place == last]
-            names[lane] = (fits or free or [lane])[0], len(made) == 1 or len(fits) == 1
-        return names
+    @property
+    def lanes(self):
+        return sorted(self.own)
 
     def title(self, lane):
-        number, certain = self.names[lane]
-        return f"thread {number}{'' if certain else '?'}: {self.rows[self.own[lane][0]].statement.function}"
+        return f"thread {lane}: {self.functions.get(lane, 'not begun')}"
 
     def _held(self, lane):
-        """From the row at which a lock was passed to its unlock; a wait gives its mutex back until it is passed."""
-        stack = []
+        """What the thread holds, from the row that took it to the row of its unlock."""
+        taken = {}
         for at in self.own[lane]:
-            kind, lock = self.rows[at].kind, lock_of(self.rows[at].statement)
-            if kind in ("unlock", "wait"):               # by a name that is not held: it may be any of them
-                gone = [one for one in stack if one.lock == lock][-1:] or stack
-                stack = [one for one in stack if one not in gone]
-                yield from (one._replace(end=at) for one in gone)
-            if kind in ("lock", "wait") and at in self.passed:
-                start, end = max(at, self.passed[at] - 1), len(self.rows)
-                stack.append(Held(lock, self.rows[at].statement.place, start, end))
-        yield from stack
+            for event in self.rows[at].events:
+                if event.word == "lock":
+                    taken[event.what] = Held(event, at, len(self.rows))
+                elif event.word == "unlock" and event.what in taken:
+                    yield taken.pop(event.what)._replace(end=at)
+        yield from taken.values()
 
-    def waits(self, lane):
-        """Rows at which the thread stays at a lock, join or wait while others go on: from, and to."""
-        for at in self.own[lane]:
-            until = self.passed.get(at, len(self.rows))
-            if self.rows[at].kind in BLOCKING and until > at + 1:
-                yield at, until
+    def _is_kept(self, event, at):
+        """Whether a thread that wants an event as its next has to wait at a row."""
+        word, wanted = event.word, event.words[-1:]
+        if word == "next":
+            word = event.words[0]
+        if word == "lock":
+            others = (one for lane, held in self.held.items() if lane != event.thread for one in held)
+            return any(one.event.what == event.what and one.start < at <= one.end for one in others)
+        return word == "woken" or word == "join" and at <= self.own.get(int(wanted[0]), [0])[-1]
 
     def state(self, lane, at):
         """What a thread is doing at a row, in the words of the style sheet."""
-        first, last, line = self.own[lane][0], self.own[lane][-1], self.lines.get(lane)
-        if at < first or at > last and (line is None or line.code != "waits"):
+        own = self.own[lane]
+        left = self.rows[own[-1]].events[0].word
+        if at < own[0] or at > own[-1] and left not in LEFT:
             return ""
-        waits = any(start < at < end for start, end in self.waits(lane))
+        coming = own[min(bisect.bisect_left(own, at), len(own) - 1)]
+        waits = at < coming and self._is_kept(self.rows[coming].events[0], at) or at > coming and left == "next"
         holds = any(one.start <= at <= one.end for one in self.held[lane])
-        return ("waits" if waits else "lives") + " holds" * holds + " runs" * (self.rows[at].lane == lane)
-
-    def holds(self, lane):
-        """What a thread held when the run ended, and since where."""
-        return ", ".join(f"{one.lock} since {one.place}" for one in self.held[lane] if one.end == len(self.rows))
-
-    def holders(self):
-        held = ((self.title(lane), self.holds(lane)) for lane in self.lanes)
-        return [f"in a traced run {title} holds {locks}" for title, locks in held if locks]
+        return ("waits" if waits else "lives") + " holds" * holds + " runs" * (at == coming)
 
     def end(self, lane):
-        """How the run ended for a thread."""
+        """How the run ended for a thread, and what it then held."""
         ended = self.lines[lane].text if lane in self.lines else "returned"
-        return ended + f"; holds {self.holds(lane)}" * bool(self.holds(lane))
+        held = [f"{one.event.words[0]} since {one.event.place}" for one in self.held[lane] if one.end == len(self.rows)]
+        return ended + f"; holds {', '.join(held)}" * bool(held)
 
     def others(self):
         """For each conflict the row of the other access, and the thread that reported."""
-        numbers = {number: lane for lane, (number, _) in self.names.items()}
         for lane, line in self.lines.items():
-            own = [at for at in self.own.get(numbers.get(line.other), [])
-                   if self.rows[at].statement.place in line.places[1:]]
+            own = [at for at in self.own.get(line.other, []) if self.rows[at].place in line.places[1:]
+                   and any(one.word in ("read", "write") for one in self.rows[at].events)]
             if own:
-                yield own[-1], self.title(lane)
+                yield own[-1], f"conflicts with {self.title(lane)}"
+
+    def notes(self, at):
+        """What is told beside the line of a row."""
+        told = list(dict.fromkeys(filter(None, map(note, self.rows[at].events))))
+        return told[:NOTES] + [f"and {len(told) - NOTES} more"] * (len(told) > NOTES)
+
+    def faults(self, at):
+        """What is wrong at the last row of a thread that waits or was stopped."""
+        line = self.lines.get(self.rows[at].thread)
+        if line and self.rows[at].events[0].word in LEFT:
+            yield "waits for ever" if line.code == "waits" else f"{line.code} here"
 
 
-def drawn(lanes):
-    """All steps, time downward."""
-    others, waits = dict(lanes.others()), {at for lane in lanes.lanes for at, _ in lanes.waits(lane)}
-    gone = max(0, len(lanes.rows) - ROWS)
+def drawn(lanes, code):
+    """All rows, time downward. code: the text of each line of the program."""
+    others, gone = dict(lanes.others()), max(0, len(lanes.rows) - ROWS)
     yield '<table class="lanes"><thead><tr>' + "".join(f"<th>{escape(lanes.title(lane))}" for lane in lanes.lanes)
-    yield f'<tbody><tr><td colspan="{len(lanes.lanes)}">{gone} steps are left out' if gone else "<tbody>"
+    yield f'<tbody><tr><td colspan="{len(lanes.lanes)}">{gone} rows are left out' if gone else "<tbody>"
     for at, row in list(enumerate(lanes.rows))[gone:]:
-        place, name = row.statement.place, {"start": "begins", "end": "reaches its end"}.get(row.kind)
-        bad, line = [f"conflicts with {others[at]}"] if at in others else [], lanes.lines.get(row.lane)
-        if line and at == lanes.own[row.lane][-1]:
-            bad.append("waits for ever" if line.code == "waits" else f"{line.code} here")
-        notes = row.notes + (f"{row.times} times",) * (row.times > 1) + ("stays",) * (at in waits and not bad)
-        words = name or f"<code>{escape(row.statement.text)}</code>"
-        step = [f'<a href="#{escape(str(place))}">{place.line}</a>', words,
-                *(f'<span class="note">{note}</span>' for note in notes), *(f"<b>{escape(note)}</b>" for note in bad)]
-        cells = (f'<td class="{lanes.state(lane, at)}">' + " ".join(step) * (lane == row.lane) for lane in lanes.lanes)
-        yield f'<tr{" class=switch" * (at > gone and lanes.rows[at - 1].lane != row.lane)}>' + "".join(cells)
+        words = row.name or f"<code>{escape(code.get(row.place, ''))}</code>"
+        bad = [*filter(None, [others.get(at)]), *lanes.faults(at)]
+        step = [f'<a href="#{escape(str(row.place))}">{row.place.line}</a>', words,
+                f'<span class="note">{escape("; ".join(lanes.notes(at)))}</span>',
+                *(f"<b>{escape(fault)}</b>" for fault in bad)]
+        texts = {row.thread: " ".join(step)}
+        cells = (f'<td class="{lanes.state(lane, at)}">' + texts.get(lane, "") for lane in lanes.lanes)
+        yield f'<tr{" class=switch" * (at > gone and lanes.rows[at - 1].thread != row.thread)}>' + "".join(cells)
     ends = (f'<td class="{"bad" if lane in lanes.lines else "well"}">{escape(lanes.end(lane))}' for lane in lanes.lanes)
     yield "<tfoot><tr>" + "".join(ends) + "</table>"

@@ -67,7 +67,7 @@ class Report:
 
     def finding(self, finding):
         code, others = re.match(r"[AX]\d+", finding.title), list(enumerate(finding.places))[1:]
-        text = ". ".join([finding.title, *finding.steps, f"Seen {self.exploration.seen(finding)}"])
+        text = ". ".join([finding.title, *finding.steps, *finding.details, f"Seen {self.exploration.seen(finding)}"])
         text += "".join(f" [{place}]({number})" for number, place in others)
         other = {"race": "the other access", "order": "the other order"}.get(finding.kind, "waits here too")
         return {"ruleId": code[0] if code else finding.kind, "level": "warning" if finding.kind == "order" else "error",

@@ -13,10 +13,9 @@ MARKED = re.compile(r"/\*.*?(?:\*/|\Z)|//[^\n]*|\b(?:private|readonly|locked|rac
 DECLARED = re.compile(r"^(.+:\d+): ((?:global|parameter|local|result) \w+|cast of .+?): (.+)\n((?:  .*\n)*)", re.M)
 FROM = re.compile(r"from (.+:\d+) (.+) depth (\d+)$")
 Declared = namedtuple("Declared", "at name type reasons")           # reasons: by depth
-LEGEND = """Each picture is one run with few switches: time goes down, a column for each thread. A thick bar: it holds a
-lock. A dashed bar: it stays at a lock, join or wait, since it has to or is not chosen. The runs are of the program with
-a print before each statement: more steps, but nothing else that threads may do. A number with ? is a guess among
-threads of one spawn. The keys n and p go from finding to finding."""
+LEGEND = """Each picture is one run with few switches: time goes down, a column for each thread, and beside a line what
+was read and written there. What uses locals alone is not shown. A thick bar: the thread holds a lock. A dashed bar: it
+has to wait for a lock, a thread or a signal. The keys n and p go from finding to finding."""
 
 
 def coloured(text):
@@ -57,6 +56,7 @@ class Page:
         self.table = explained(exploration.program.call("explain")[1])
         self.faults = sarif.faults(exploration.checked)
         self.found, self.outputs = exploration.findings(), exploration.outputs()
+        self.code = {place: line.strip() for place, _, line in lines_of(self.text)}
 
     def linked(self, text):
         """A text with links for its places, which are told as `line N` where the program has one file."""
@@ -112,10 +112,9 @@ class Page:
 
     def card(self, finding):
         """What stands below the title of a finding or an output."""
-        steps = "".join(f"<li>{self.linked(step)}" for step in finding.steps)
+        steps = "".join(f"<li>{self.linked(step)}" for step in finding.steps + finding.details)
         yield f"</summary><ul>{steps}</ul><p>{escape(self.exploration.seen(finding))}</p>"
-        lanes = self.exploration.shown(finding)
-        yield from drawn(lanes) if lanes else ["<p>No run of the program with prints shows it."]
+        yield from drawn(self.exploration.shown(finding), self.code)
         yield "</details>"
 
     def runs(self):

@@ -1,4 +1,4 @@
-"""A source as its twins need it: functions and statements, and where in the text they begin and end."""
+"""A source: its functions and statements, and where in the text they begin and end."""
 import re
 from collections import namedtuple
 
@@ -30,12 +30,6 @@ def lines_of(text):
 def tokens_of(text):
     return [Token(match[0], start + match.start(), start + match.end(), place)
             for place, start, line in lines_of(text) for match in TOKEN.finditer(line)]
-
-
-def lock_of(statement):
-    """The mutex that a statement locks, unlocks or waits with, as written."""
-    match = re.search(r"lock\s*\(\s*&\s*(.*)\)|wait\s*\(.*,\s*(.*)\)", statement.text)
-    return (match[1] or f"*{match[2]}") if match else statement.text
 
 
 class Source:

@@ -1,5 +1,5 @@
 -- Verdicts.
-use Rattle.std.proofs.Common.{◌≡◌, ◌⊎◌, inl, inr, ℕ, zero, suc, ◌-◌, ◌<◌, ◌≤◌, ◌==◌, cond, List, [], ◌∷◌, ◌++◌, length, length-drop, take, drop, Option, Some, None, refl, ap, sym, subst, ◌∙◌, arith, append_assoc}
+use Rattle.std.proofs.Common.{◌≡◌, ◌⊎◌, inl, inr, ℕ, zero, suc, ◌-◌, ◌<◌, ◌≤◌, ◌==◌, cond, true, false, List, [], ◌∷◌, ◌++◌, length, length-drop, take, drop, Option, Some, None, refl, ap, sym, subst, ◌∙◌, arith, append_assoc}
 use Rattle.std.specs.Prelude.{slice_get, slice_index_or}
 use Rattle.std.proofs.lemmas.Bool.{cases_order}
 use Rattle.sharc_tree.specs.declared.event.SourceEvent.{SourceEvent}
@@ -21,13 +21,16 @@ use Rattle.sharc_audit.specs.declared.threads.Next.{Next}
 use Rattle.sharc_audit.specs.declared.threads.Next.TheVariants.{Wants, Spent, Nothing}
 use Rattle.sharc_audit.specs.Asked.{IsSpent}
 use Rattle.sharc_audit.specs.Audited.{Accepted, IsFirstRefused, IsAsked, IsNotLegal, IsAgainst, FailsBy, Refused, Audits}
-use Rattle.sharc_audit.specs.Breaking.{IsLowestAt, IsFault}
+use Rattle.sharc_audit.specs.Breaking.{IsFault}
+use Rattle.sharc_past.specs.Kept.{IsLowestAt}
 use Rattle.sharc_audit.specs.Judging.{next_asked}
 use Rattle.sharc_audit.specs.Lines.{IsLine, AreLines, told}
 use Rattle.sharc_audit.specs.Mains.{OneMain}
 use Rattle.sharc_audit.proofs.Answering.{told_asked, asked_is, computed_asked, spent_is, is_spent_at}
 use Rattle.sharc_audit.proofs.Breaking.{obeys_more, lowest_broken_last, broken_is}
 use Rattle.sharc_judge.specs.Laws.{RuleLaws}
+use Rattle.sharc_judge.specs.declared.pair.Until.TheVariants.{Return}
+use Rattle.sharc_audit.specs.Known.{AreKnown}
 
 -- ---- rules
 
@@ -356,3 +359,19 @@ module _ (ask : AskLaws) (store : StoreLaws) (runs : RunLaws) (rules : RuleLaws)
   one_verdict lines (verdict.Fails n why) (verdict.Fuel k) a b = let h = two_refused lines n k a.0 b.0 (Some why) None a.1 b.1 in let z = h.1 in absurd (cc)
   one_verdict lines (verdict.Fuel n) (verdict.Fails k why) a b = let h = two_refused lines n k a.0 b.0 None (Some why) a.1 b.1 in let z = h.1 in absurd (cc)
   one_verdict lines (verdict.Fuel n) (verdict.Fuel k) a b = let h = two_refused lines n k a.0 b.0 None None a.1 b.1 in ap verdict.Fuel h.0
+
+-- ---- no line
+
+none_stands : (before : List SourceEvent) (e : SourceEvent) (after : List SourceEvent) → [] ≡ before ++ e ∷ after → ⊥
+none_stands [] e after h = cc
+none_stands (d ∷ before) e after h = cc
+
+pub nothing_stands : RuleLaws → (m : Assignment) (fuel : ℕ) → Standing m fuel [] []
+nothing_stands laws m fuel = record {
+  lines_are = tt;
+  run = record { legal = λ before e after stands. absurd (none_stands before e after stands); threads = λ thread. inl refl };
+  obeys = (laws.each [] until_return).0 (λ rule. (laws.unbroken rule Return []).0 (λ before e after a stands is. absurd (none_stands before e after stands)));
+}
+
+pub nothing_known : (m : Assignment) (fuel : ℕ) (lines : List EventLine) → AreKnown m fuel [] lines []
+nothing_known m fuel lines = record { each = tt; all = λ t h. absurd (let z : false ≡ true = h in cc) }

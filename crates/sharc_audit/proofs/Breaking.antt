@@ -8,7 +8,7 @@ use Rattle.sharc_judge.specs.declared.rule.Rule.{Rule}
 use Rattle.sharc_judge.specs.Deciding.{breaks, of_access, breaks_with, breaks_by}
 use Rattle.sharc_judge.specs.Judged.{Holds, IsLowestBroken}
 use Rattle.sharc_judge.specs.Laws.{Unbroken, RuleLaws}
-use Rattle.sharc_audit.specs.Breaking.{IsLowestAt}
+use Rattle.sharc_past.specs.Kept.{AreUnbroken, IsLowestAt}
 
 -- what is in a list with one more at its end is that one, or is in the list
 pub record InFront (R before : List SourceEvent) (e : SourceEvent) : Type 0 where
@@ -58,6 +58,9 @@ module _ (laws : RuleLaws) (R : List SourceEvent) (e : SourceEvent) where
 
   pub broken_is : (rule : Rule) → IsLowestAt R e (Some rule) → Obeys (R ++ e ∷ []) until_return → ⊥
   broken_is rule h o = broken_last rule h.0 ((laws.each (R ++ e ∷ []) until_return).1 o rule)
+
+pub unbroken_so : RuleLaws → (R : List SourceEvent) → Obeys R until_return → AreUnbroken R
+unbroken_so laws R o = λ rule. (laws.unbroken rule Return R).1 ((laws.each R until_return).1 o rule)
 
 pub lowest_fails : RuleLaws → (R : List SourceEvent) (rule : Rule) → IsLowestBroken R until_return rule → Obeys R until_return → ⊥
 lowest_fails laws R rule h o = h.broken ((laws.each R until_return).1 o rule)

@@ -145,7 +145,7 @@ module _ (m : Assignment) (fuel : ℕ) (R : List SourceEvent) (rest : List Event
   each_set (x ∷ runs) zero run k h = (h, k.1)
   each_set (x ∷ runs) (suc i) run k h = (k.0, each_set runs i run k.1 h)
 
-any_set : (t : ℕ) (runs : List ThreadRun) (i : ℕ) (run : ThreadRun) → i < length runs → (slice_index_or runs i run).thread ≡ run.thread → list_any (λ (x : ThreadRun). x.thread == t) (slice_set runs i run) ≡ list_any (λ (x : ThreadRun). x.thread == t) runs
+pub any_set : (t : ℕ) (runs : List ThreadRun) (i : ℕ) (run : ThreadRun) → i < length runs → (slice_index_or runs i run).thread ≡ run.thread → list_any (λ (x : ThreadRun). x.thread == t) (slice_set runs i run) ≡ list_any (λ (x : ThreadRun). x.thread == t) runs
 any_set t [] i run h same = refl
 any_set t (x ∷ runs) zero run h same = ap (λ z. (z == t) || list_any (λ (y : ThreadRun). y.thread == t) runs) (sym same)
 any_set t (x ∷ runs) (suc i) run h same = ap (λ z. (x.thread == t) || z) (any_set t runs i run (omega (arith, h)) same)

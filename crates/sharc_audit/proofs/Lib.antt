@@ -4,13 +4,15 @@ pub mod Entries
 pub mod Answering
 pub mod Breaking
 pub mod Auditing
-pub mod Opening
 pub mod Mains
 pub mod Walking
 pub mod Knowing
 pub mod Numerals
 pub mod Parts
+pub mod Placing
 pub mod Blanks
 pub mod Filing
 pub mod Alone
 pub mod OneFile
+pub mod Fuels
+pub mod Running

@@ -8,6 +8,7 @@ pub mod Judging
 pub mod Known
 pub mod Lines
 pub mod Mains
-pub mod Open
+pub mod Reported
+pub mod Running
 pub mod Texts
 pub mod Walks

@@ -3,17 +3,19 @@
 ghost use Rattle.std.specs.Prelude.{◌≡◌, ◌<◌, ◌^◌, IfOk, length, MatchOption};
 ghost use Rattle.sharc_audit.specs.Audited.{Audits};
 ghost use Rattle.sharc_audit.specs.Breaking.{IsPassed, IsFault};
+ghost use Rattle.sharc_past.specs.Kept.{AreUnbroken};
 
 use crate::line::EventLines;
 use crate::matching::is_line;
-use crate::past::Past;
+use crate::reported::told_to_each;
+use crate::runs::Runs;
 use crate::threads::{Next, accept, main_of, next_asked};
 use sharc_check::Checked;
 use sharc_judge::laws::rule_laws;
-use sharc_judge::legal::may_come;
 use sharc_judge::rule::Rule;
 use sharc_meaning::laws::{ask_laws, run_laws, store_laws};
 use sharc_mode::moded::Moded;
+use sharc_past::Past;
 use sharc_tree::event::SourceEvent;
 use std::alloc::{AllocError, Global};
 
@@ -39,11 +41,12 @@ pub enum Verdict {
     Fuel(u32),
 }
 
-/// Why the event, which is asked for, is not accepted after these.
+/// Why the event, which is asked for, is not accepted after these, none of which breaks a rule.
 fn fault_of(program: &Moded, past: &Past, e: &SourceEvent) -> Option<EventFault>
+    requires { AreUnbroken past.now }
     ensures { MatchOption result (IsPassed program.now past.now e.now) (λ fault. IsFault program.now past.now e.now fault) }
 {
-    if !may_come(program.typed(), past.as_slice(), e) {
+    if !past.may_come(program.typed(), e) {
         return Some(EventFault::NotLegal);
     }
     match past.broken_by(e) {
@@ -70,12 +73,13 @@ pub fn audit(
     let main = main_of(m.typed())?;
     let all = lines.as_slice();
     let mut past = Past::new(alloc);
-    let mut runs = Vec::new(alloc);
+    let reported = told_to_each(alloc, all)?;
+    let mut runs = Runs::new(alloc);
     for i in 0..all.len() {
         let n = i as u32 + 1;
         let line = &all[i];
         let rest = &all[i + 1..];
-        let next = next_asked(alloc, m, main, fuel, past.as_slice(), line, rest, &mut runs)?;
+        let next = next_asked(alloc, m, main, fuel, &past, line, rest, &mut runs)?;
         match next {
             Next::Spent => return Ok(Verdict::Fuel(n)),
             Next::Nothing => return Ok(Verdict::Fails(n, EventFault::NotAsked)),
@@ -86,8 +90,10 @@ pub fn audit(
                 if let Some(fault) = fault_of(m, &past, &e) {
                     return Ok(Verdict::Fails(n, fault));
                 }
-                accept(alloc, m, main, fuel, past.as_slice(), line, rest, &mut runs)?;
-                past.push(e)?;
+                accept(
+                    alloc, m, main, fuel, &past, line, rest, &reported, &mut runs,
+                )?;
+                past = past.with(alloc, e)?;
             }
         }
     }

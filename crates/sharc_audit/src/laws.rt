@@ -2,6 +2,7 @@
 
 ghost use Rattle.sharc_audit.specs.Audited.{OneVerdict};
 ghost use Rattle.sharc_audit.specs.FileLaws.{FileLaws};
+ghost use Rattle.sharc_audit.specs.Running.{RunsNeverFail};
 
 use sharc_ctype_laws::laws::one_function_of_name;
 use sharc_judge::laws::rule_laws;
@@ -10,6 +11,17 @@ use sharc_meaning::laws::{ask_laws, run_laws, store_laws};
 /// A list of event lines has one verdict at most.
 pub fn audit_laws()
     ensures { OneVerdict }
+{
+    ask_laws();
+    store_laws();
+    run_laws();
+    rule_laws();
+    one_function_of_name();
+}
+
+/// The lines of a source run that obeys never fail: with each fuel they obey, or the fuel of a thread is spent.
+pub fn runs_never_fail()
+    ensures { RunsNeverFail }
 {
     ask_laws();
     store_laws();

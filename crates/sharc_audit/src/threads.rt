@@ -7,7 +7,9 @@ ghost use Rattle.sharc_meaning.specs.Meaning.{asks};
 ghost use Rattle.sharc_meaning.specs.Store.{spawns};
 ghost use Rattle.sharc_ctype.specs.Resolved.{Resolution, function_at};
 ghost use Rattle.sharc_audit.specs.Judging.{main_of, entry, has_begun, start_of, start_at, next_asked, next_in, own_answers, event_at};
-ghost use Rattle.sharc_audit.specs.Known.{IsKnown, AreKnown, IsPlaceOf};
+ghost use Rattle.sharc_audit.specs.Known.{AreKnown, ArePlaces};
+ghost use Rattle.sharc_audit.specs.Reported.{AreTold, told_in};
+ghost use Rattle.sharc_past.specs.Kept.{IsSpawnedOnce};
 ghost use Rattle.sharc_audit.specs.Walks.{IsWalk};
 ghost use Rattle.sharc_audit.specs.Mains.{OneMain};
 ghost use Rattle.sharc_audit.specs.Lines.{told, told_to, IsLine};
@@ -15,13 +17,14 @@ ghost use Rattle.sharc_audit.specs.declared.threads.Next.TheVariants.{Wants};
 ghost use Rattle.sharc_tree.specs.declared.event.SourceEvent.{SourceEvent};
 
 use crate::line::EventLine;
-use crate::matching::told;
+use crate::reported::{Reported, told_behind_first};
 use crate::run::{ThreadRun, first_fuel, walk_to, walked};
+use crate::runs::Runs;
 use sharc_ctype::typed::Typed;
 use sharc_ctype_laws::laws::one_function_of_name;
-use sharc_judge::access::spawns;
 use sharc_meaning::laws::ask_laws;
 use sharc_mode::moded::Moded;
+use sharc_past::Past;
 use sharc_tree::event::{Act, SourceEvent};
 use std::alloc::{AllocError, Global};
 
@@ -56,21 +59,10 @@ pub(crate) fn main_of(typed: &Typed) -> Result<Option<u32>, AllocError>
     Err(AllocError)
 }
 
-/// The event by which the thread was spawned.
-fn spawn_of(thread: u32, before: &[SourceEvent]) -> Option<SourceEvent>
-    ensures { result ≡ find (spawns thread) before.now }
-{
-    for e in before {
-        if spawns(thread as u64, e) {
-            return Some(*e);
-        }
-    }
-    None
-}
-
 /// The function and the argument of a thread.
-fn entry(main: Option<u32>, before: &[SourceEvent], thread: u32) -> Option<(u32, i64)>
-    ensures { (r : Resolution) → main ≡ main_of r → result ≡ entry r before.now thread }
+fn entry(main: Option<u32>, past: &Past, thread: u32) -> Option<(u32, i64)>
+    requires { IsSpawnedOnce past.now }
+    ensures { (r : Resolution) → main ≡ main_of r → result ≡ entry r past.now thread }
 {
     if thread == 0 {
         return match main {
@@ -78,7 +70,7 @@ fn entry(main: Option<u32>, before: &[SourceEvent], thread: u32) -> Option<(u32,
             Some(f) => Some((f, 0)),
         };
     }
-    match spawn_of(thread, before) {
+    match past.spawn_of(thread) {
         None => None,
         Some(e) => match e.act {
             Act::Spawn(f, v) => Some((f, v)),
@@ -102,40 +94,15 @@ fn start_at(typed: &Typed, thread: u32, function: u32, argument: i64) -> Next
 }
 
 /// The first event of a thread.
-fn start_of(typed: &Typed, main: Option<u32>, before: &[SourceEvent], thread: u32) -> Next
-    requires { main ≡ main_of typed.now }
-    ensures { result ≡ start_of typed.now thread (entry typed.now before.now thread) }
+fn start_of(typed: &Typed, main: Option<u32>, past: &Past, thread: u32) -> Next
+    requires main { main ≡ main_of typed.now }
+    requires once { IsSpawnedOnce past.now }
+    ensures { result ≡ start_of typed.now thread (entry typed.now past.now thread) }
 {
-    match entry(main, before, thread) {
+    match entry(main, past, thread) {
         None => Next::Nothing,
         Some(with) => start_at(typed, thread, with.0, with.1),
     }
-}
-
-/// How many events the thread has.
-fn event_count(thread: u32, events: &[SourceEvent]) -> usize
-    ensures { result ≡ length (events_of thread events.now) }
-{
-    let mut count = 0;
-    for e in events {
-        if e.thread == thread {
-            count += 1;
-        }
-    }
-    count
-}
-
-/// What the lines report to the thread.
-fn told_to(alloc: Global, thread: u32, lines: &[EventLine]) -> Result<Vec<i64>, AllocError>
-    ensures { IfOk result (λ all. all.items ≡ told_to thread lines.now) }
-{
-    let mut all = Vec::new(alloc);
-    for line in lines {
-        if line.thread == thread {
-            all.push(told(line))?;
-        }
-    }
-    Ok(all)
 }
 
 fn event_at(run: &ThreadRun, place: usize) -> Next
@@ -172,64 +139,55 @@ fn next_of(
     Ok(event_at(run, place))
 }
 
-/// The place of the run of the thread, where it has begun.
-fn place_of(thread: u32, runs: &[ThreadRun]) -> Option<usize>
-    ensures { MatchOption result (list_any (λ run. run.thread == thread) runs.now ≡ false) (IsPlaceOf thread runs.now) }
-{
-    for i in 0..runs.len() {
-        if runs[i].thread == thread {
-            return Some(i);
-        }
-    }
-    None
-}
-
 /// What the thread of the line asks for after these events.
 pub(crate) fn next_asked(
     alloc: Global,
     program: &Moded,
     main: Option<u32>,
     fuel: u64,
-    before: &[SourceEvent],
+    past: &Past,
     line: &EventLine,
     rest: &[EventLine],
-    runs: &mut Vec<ThreadRun>,
+    runs: &mut Runs,
 ) -> Result<Next, AllocError>
     requires main { main ≡ main_of program.now.typed }
-    requires known { AreKnown program.now fuel before.now (line.now ∷ rest.now) runs.old.items }
-    ensures next { IfOk result (λ next. next ≡ next_asked program.now fuel before.now line.now) }
-    ensures known { OnOk result (AreKnown program.now fuel before.now (line.now ∷ rest.now) runs.new.items) }
+    requires known { AreKnown program.now fuel past.now (line.now ∷ rest.now) runs.old.runs.items }
+    requires places { ArePlaces runs.old.places runs.old.runs.items }
+    requires once { IsSpawnedOnce past.now }
+    ensures next { IfOk result (λ next. next ≡ next_asked program.now fuel past.now line.now) }
+    ensures known { OnOk result (AreKnown program.now fuel past.now (line.now ∷ rest.now) runs.new.runs.items) }
+    ensures places { OnOk result (ArePlaces runs.new.places runs.new.runs.items) }
 {
     ask_laws();
-    match place_of(line.thread, runs.as_slice()) {
-        None => Ok(start_of(program.typed(), main, before, line.thread)),
+    match runs.place_of(line.thread) {
+        None => Ok(start_of(program.typed(), main, past, line.thread)),
         Some(i) => {
-            let count = event_count(line.thread, before);
+            let count = past.count(line.thread);
             if count == 0 {
                 return Ok(Next::Nothing);
             }
-            next_of(alloc, program, count - 1, fuel, &mut runs[i])
+            next_of(alloc, program, count - 1, fuel, &mut runs.runs[i])
         }
     }
 }
 
-/// The run of a thread that starts, with all that the lines report to it.
+/// The run of a thread that starts, with all that the lines report to it behind its first.
 fn begin(
     alloc: Global,
     program: &Moded,
     fuel: u64,
     thread: u32,
     with: (u32, i64),
-    rest: &[EventLine],
+    all: &Reported,
 ) -> Result<ThreadRun, AllocError>
     ensures thread { IfOk result (λ run. run.thread ≡ thread) }
     ensures function { IfOk result (λ run. run.function ≡ with.0) }
     ensures argument { IfOk result (λ run. run.argument ≡ with.1) }
-    ensures answers { IfOk result (λ run. run.answers.items ≡ told_to thread rest.now) }
-    ensures walk { IfOk result (λ run. IsWalk program.now with.0 with.1 (told_to thread rest.now) run.walk) }
+    ensures answers { IfOk result (λ run. run.answers.items ≡ drop 1 (told_in all.now thread)) }
+    ensures walk { IfOk result (λ run. IsWalk program.now with.0 with.1 (drop 1 (told_in all.now thread)) run.walk) }
     ensures within { IfOk result (λ run. run.walk.fuel ≤ fuel) }
 {
-    let answers = told_to(alloc, thread, rest)?;
+    let answers = told_behind_first(alloc, all, thread)?;
     let walk = walked(
         alloc,
         program,
@@ -253,22 +211,27 @@ pub(crate) fn accept(
     program: &Moded,
     main: Option<u32>,
     fuel: u64,
-    before: &[SourceEvent],
+    past: &Past,
     line: &EventLine,
     rest: &[EventLine],
-    runs: &mut Vec<ThreadRun>,
+    all: &Reported,
+    runs: &mut Runs,
 ) -> Result<(), AllocError>
     requires main { main ≡ main_of program.now.typed }
-    requires known { AreKnown program.now fuel before.now (line.now ∷ rest.now) runs.old.items }
-    ensures { OnOk result ((e : SourceEvent) → next_asked program.now fuel before.now line.now ≡ Wants e → line.now.thread ≡ e.thread → told line.now ≡ e.answer → AreKnown program.now fuel (before.now ++ e ∷ []) rest.now runs.new.items) }
+    requires known { AreKnown program.now fuel past.now (line.now ∷ rest.now) runs.old.runs.items }
+    requires places { ArePlaces runs.old.places runs.old.runs.items }
+    requires told { AreTold all.now past.now (line.now ∷ rest.now) }
+    requires once { IsSpawnedOnce past.now }
+    ensures known { OnOk result ((e : SourceEvent) → next_asked program.now fuel past.now line.now ≡ Wants e → line.now.thread ≡ e.thread → told line.now ≡ e.answer → AreKnown program.now fuel (past.now ++ e ∷ []) rest.now runs.new.runs.items) }
+    ensures places { OnOk result (ArePlaces runs.new.places runs.new.runs.items) }
 {
-    match place_of(line.thread, runs.as_slice()) {
+    match runs.place_of(line.thread) {
         Some(_) => Ok(()),
-        None => match entry(main, before, line.thread) {
+        None => match entry(main, past, line.thread) {
             None => Ok(()),
             Some(with) => {
-                let run = begin(alloc, program, fuel, line.thread, with, rest)?;
-                runs.push(run)?;
+                let run = begin(alloc, program, fuel, line.thread, with, all)?;
+                runs.add(run)?;
                 Ok(())
             }
         },

@@ -1,6 +1,6 @@
 -- A run that has one turn more has one event more, if the turn is one.
-use Rattle.std.proofs.Common.{◌≡◌, ℕ, zero, suc, ◌+◌, ◌*◌, ◌%◌, ◌^◌, List, [], ◌∷◌, ◌++◌, map, Option, Some, None, refl, ap, sym, ◌∙◌, arith}
-use Rattle.std.specs.Prelude.{ℤ, reverse}
+use Rattle.std.proofs.Common.{◌≡◌, ℕ, zero, suc, ◌%◌, ◌^◌, List, [], ◌∷◌, ◌++◌, map, Option, Some, None, refl, ap, sym, ◌∙◌}
+use Rattle.std.specs.Prelude.{reverse, IfSome}
 use Rattle.std.specs.Option.{option_map}
 use Rattle.std.proofs.lemmas.List.{reverse-append}
 use Rattle.std.proofs.Math.Nat.{add-mul-mod_self_left}
@@ -13,10 +13,11 @@ use Rattle.sharc_code.specs.Machine.{instr_at}
 use Rattle.sharc_code.specs.Runs.{Said, Turn, result_of, told_by, with_told}
 use Rattle.sharc_code.specs.Says.{says, speaks_of, reference, number_of, elements_in, elements_after}
 use Rattle.sharc_code.specs.Whole.{one_thread, Erase, place_after}
+use Rattle.sharc_said.specs.declared.cells.Origin.{Origin}
 use Rattle.sharc_said.specs.declared.event.Event.{Event}
 use Rattle.sharc_said.specs.declared.next.Coming.{Coming}
 use Rattle.sharc_said.specs.Told.{Told, shown, bare, told, told_of_event, bare_of, comes, spoken}
-use Rattle.sharc_history.specs.History.{elements_behind, told_events}
+use Rattle.sharc_history.specs.History.{elements_behind, told_events, with_origin}
 use Rattle.sharc_history.specs.Going.{AwaitsAt, with_event, elements_by}
 
 -- ---- the turn
@@ -98,3 +99,16 @@ elements_more code sources (Some e) (Some x) number held same h =
 pub numbered_by : (number elements : ℕ) → number_of (reference number elements) ≡ number % 2 ^ 32
 numbered_by zero elements = refl
 numbered_by (suc number) elements = add-mul-mod_self_left (suc number) (2 ^ 32) elements
+
+-- ---- where in the source they are
+pub origins_more : (code : Code) (origins : List Origin) (events : List Event) (e : Option Event) (x : Option SourceEvent) (at here : Origin) → option_map (told code) e ≡ bare_of x
+    → IfSome e (λ e. e.origin ≡ at) → at ≡ here → map (λ (e : Event). e.origin) events ≡ reverse origins
+    → map (λ (e : Event). e.origin) (with_event e events) ≡ reverse (with_origin x here origins)
+origins_more code origins events None None at here same own is h = h
+origins_more code origins events None (Some x) at here same own is h = absurd (cc)
+origins_more code origins events (Some e) None at here same own is h = absurd (cc)
+origins_more code origins events (Some e) (Some x) at here same own is h =
+    map_both (λ (e : Event). e.origin) events (e ∷ [])
+    ∙ ap (λ l. l ++ e.origin ∷ []) h
+    ∙ ap (λ k. reverse origins ++ k ∷ []) (own ∙ is)
+    ∙ sym (reverse-append (here ∷ []) origins)

@@ -1,5 +1,5 @@
 -- What a run by a schedule keeps between two turns.
-use Rattle.std.specs.Prelude.{ℕ, ◌≡◌, false, List, [], ◌∷◌, ◌++◌, map, reverse, length, Option, Some, None}
+use Rattle.std.specs.Prelude.{ℕ, ◌≡◌, false, List, [], ◌∷◌, ◌++◌, map, reverse, length, Option, Some, None, IfSome}
 use Rattle.std.specs.Option.{option_map}
 use Rattle.sharc_code.specs.declared.code.Code.{Code}
 use Rattle.sharc_code.specs.declared.shape.Shape.{Shape}
@@ -13,15 +13,17 @@ use Rattle.sharc_seq.specs.Walk.{StandsAt}
 use Rattle.sharc_threads.specs.Ends.{is_enabled}
 use Rattle.sharc_said.specs.declared.next.Coming.{Coming}
 use Rattle.sharc_said.specs.declared.event.Event.{Event}
+use Rattle.sharc_said.specs.Origins.{origin_at}
 use Rattle.sharc_said.specs.Told.{shown, told, told_of_event, comes, spoken, IsComing}
 use Rattle.sharc_history.specs.declared.going.Going.{Going}
-use Rattle.sharc_history.specs.History.{elements_of, elements_behind, told_events}
+use Rattle.sharc_history.specs.History.{elements_of, elements_behind, told_events, origins_of}
 
 -- this run is there, with its events and the elements of its objects
 pub record GoesAt (code : Code) (s : Shape) (turns : List Turn) (going : Going) : Type 0 where
   pub stands : StandsAt code s turns going.walk
   pub count : length going.schedule.items ≡ length turns
   pub events : map (told code) going.events.items ≡ map told_of_event (reverse (told_events code s turns))
+  pub origins : map (λ (e : Event). e.origin) going.events.items ≡ reverse (origins_of code s turns)
   pub elements : (number : ℕ) → elements_of going.made number ≡ elements_in (told_events code s turns) number
 
 abbrev pub IsGoing : Code → Shape → Going → Type 0
@@ -31,6 +33,7 @@ IsGoing code s going = (turns : List Turn) × GoesAt code s turns going
 pub record AwaitsAt (code : Code) (s : Shape) (turns : List Turn) (t : ℕ) (coming : Coming) : Type 0 where
   pub number : ((place_after code s turns).threads t).own.number ≡ t
   pub is : IsComing code (instr_at code ((place_after code s turns).threads t).at.pc) ((place_after code s turns).threads t) coming
+  pub origin : coming.origin ≡ origin_at code ((place_after code s turns).threads t)
 
 -- an event more, and what it makes of the elements of objects
 abbrev pub with_event : Option Event → List Event → List Event
@@ -47,6 +50,7 @@ pub record Tells (t : ℕ) (coming : Coming) (found : ℕ) (old new : Going) : T
   pub schedule : new.schedule ≡ old.schedule
   pub event : Option Event
   pub is : (code : Code) → option_map (told code) event ≡ comes code t coming found (elements_of old.made (spoken coming.next found))
+  pub origin : IfSome event (λ e. e.origin ≡ coming.origin)
   pub events : new.events.items ≡ with_event event old.events.items
   pub elements : (number : ℕ) → elements_of new.made number ≡ elements_by event number (elements_of old.made number)
 

@@ -1,18 +1,22 @@
 -- The source events of a run by a schedule.
-use Rattle.std.specs.Prelude.{ℕ, ◌≡◌, ◌==◌, false, List, map, reverse, nat_eq, if◌then◌else◌}
+use Rattle.std.specs.Prelude.{ℕ, ◌≡◌, ◌==◌, false, List, [], ◌∷◌, map, reverse, nat_eq, Option, Some, None, if◌then◌else◌}
 use Rattle.std.specs.HashMap.{get, HashMap}
 use Rattle.std.specs.Option.{unwrap_or}
 use Rattle.sharc_tree.specs.declared.event.SourceEvent.{SourceEvent}
 use Rattle.sharc_code.specs.declared.code.Code.{Code}
 use Rattle.sharc_code.specs.declared.shape.Shape.{Shape}
-use Rattle.sharc_code.specs.Runs.{Turn}
+use Rattle.sharc_code.specs.Runs.{Turn, told_by}
 use Rattle.sharc_code.specs.Says.{number_of}
-use Rattle.sharc_code.specs.Whole.{CheckedRun, Erase, place_after}
+use Rattle.sharc_code.specs.Whole.{CheckedRun, Erase, one_thread, place_after}
 use Rattle.sharc_schedule.specs.Schedule.{Stored}
 use Rattle.sharc_seq.specs.Run.{AreChosen}
 use Rattle.sharc_threads.specs.Ends.{is_enabled}
+use Rattle.sharc_said.specs.declared.cells.Origin.{Origin}
+use Rattle.sharc_said.specs.declared.event.Event.{Event}
+use Rattle.sharc_said.specs.Origins.{origin_at}
 use Rattle.sharc_said.specs.Told.{Bare, New, told, told_of_event}
 use Rattle.sharc_history.specs.declared.history.History.{History}
+use Rattle.sharc_history.specs.Lasts.{AreLasts}
 
 -- ---- the elements of objects
 abbrev pub elements_of : {S : Type 0} → HashMap ℕ ℕ S → ℕ → ℕ
@@ -28,11 +32,27 @@ elements_behind _ number earlier = earlier
 abbrev pub told_events : Code → Shape → List Turn → List SourceEvent
 told_events code s turns = map (λ said. said.told) (Erase code s turns)
 
--- a checked run whose turns these places choose, and which ends where no thread may make a turn; these are its events,
--- in their order
+-- where in the source they are
+abbrev pub with_origin : Option SourceEvent → Origin → List Origin → List Origin
+with_origin None origin earlier = earlier
+with_origin (Some e) origin earlier = origin ∷ earlier
+
+abbrev pub origins_of : Code → Shape → List Turn → List Origin
+origins_of code s [] = []
+origins_of code s (one ∷ turns) =
+    with_origin (told_by (one_thread code s) (Erase code s turns) (place_after code s turns) one) (origin_at code ((place_after code s turns).threads one.thread)) (origins_of code s turns)
+
+-- ---- what is computed of a run
+-- its events in their order, where in the source each of them is, and the threads that wait or were stopped at its end
+pub record IsAccountOf (code : Code) (s : Shape) (turns : List Turn) (h : History) : Type 0 where
+  pub events : map (told code) h.events.items ≡ map told_of_event (reverse (told_events code s turns))
+  pub origins : map (λ (e : Event). e.origin) h.events.items ≡ reverse (origins_of code s turns)
+  pub lasts : AreLasts code s (place_after code s turns) h.lasts.items
+
+-- of a checked run whose turns these places choose, and which ends where no thread may make a turn
 pub record IsHistory (code : Code) (s : Shape) (places : List (ℕ × ℕ)) (limit : ℕ) (h : History) : Type 0 where
   pub turns : List Turn
   pub checked : CheckedRun code s turns
   pub chosen : AreChosen (Stored places) code s limit turns
   pub over : (t : ℕ) → is_enabled code s limit (place_after code s turns) t ≡ false
-  pub events : map (told code) h.events.items ≡ map told_of_event (reverse (told_events code s turns))
+  pub account : IsAccountOf code s turns h

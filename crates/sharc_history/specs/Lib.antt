@@ -1,2 +1,4 @@
 pub mod History
 pub mod Going
+pub mod Lasts
+pub mod Laws

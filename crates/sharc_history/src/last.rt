@@ -1,12 +1,15 @@
 //! Where the threads are at the end of a run.
 
-ghost use Rattle.std.specs.Prelude.{◌<◌};
+ghost use Rattle.std.specs.Prelude.{◌≡◌, ◌<◌, ◌+◌, List, Some, false, IfOk, OnOk, MatchOption};
 ghost use Rattle.sharc_word.specs.declared.step.TheConstants.{THREADS as threads};
 ghost use Rattle.sharc_code.specs.declared.code.Code.{Code};
 ghost use Rattle.sharc_code.specs.declared.shape.Shape.{Shape};
-ghost use Rattle.sharc_seq.specs.Walk.{IsWalk};
+ghost use Rattle.sharc_code.specs.Runs.{Turn};
+ghost use Rattle.sharc_code.specs.Whole.{place_after};
+ghost use Rattle.sharc_seq.specs.Walk.{IsThreadThere, IsWalk, StandsAt};
+ghost use Rattle.sharc_history.specs.Lasts.{is_held, is_last, IsHaltAt, AreLasts, AreLastsUpTo};
 
-use sharc_code::{Code, State, Stop};
+use sharc_code::{Code, State, Stop, run_laws};
 use sharc_cpu::Thread;
 use sharc_said::{Coming, Where, next_of, refused_at};
 use sharc_seq::Walk;
@@ -33,36 +36,77 @@ pub struct Last {
 // gone.
 const NO_LIMIT: u64 = 100_000_001;
 
+// Whether the thread of this number, which is this one, is neither gone nor stopped, and waits.
+fn is_held(walk: &Walk, thread: &Thread, number: u8) -> bool
+    requires number { number < threads }
+    requires walk { (code : Code) × (s : Shape) × IsWalk code s walk.now }
+    ensures { (code : Code) (s : Shape) (turns : List Turn) → StandsAt code s turns walk.now → IsThreadThere code s turns number (Some thread.now) → result ≡ is_held code s (place_after code s turns) number }
+{
+    run_laws();
+    match thread.state() {
+        State::Runs | State::Tries => !walk.may_turn(number, NO_LIMIT),
+        State::Stopped | State::Ended => false,
+    }
+}
+
 // Why this thread, which has this number, makes no turn, if it waits or was stopped.
 fn halt_of(code: &Code, walk: &Walk, thread: &Thread, number: u8) -> Option<Halt>
     requires number { number < threads }
-    requires walk { (code : Code) × (s : Shape) × IsWalk code s walk.now }
+    requires walk { (s : Shape) × IsWalk code.now s walk.now }
+    ensures { (s : Shape) (turns : List Turn) → StandsAt code.now s turns walk.now → IsThreadThere code.now s turns number (Some thread.now) → MatchOption result (is_last code.now s (place_after code.now s turns) number ≡ false) (IsHaltAt code.now s (place_after code.now s turns) number) }
 {
     match thread.stop() {
         Some(stop) => Some(Halt::Stopped(stop, refused_at(code, thread))),
-        None => match thread.state() {
-            State::Runs | State::Tries if !walk.may_turn(number, NO_LIMIT) => {
+        None => {
+            if is_held(walk, thread, number) {
                 Some(Halt::Waits(next_of(code, thread)))
+            } else {
+                None
             }
-            _ => None,
-        },
+        }
+    }
+}
+
+// The same of the thread of this number, if it was started.
+fn halt_at(code: &Code, walk: &Walk, number: u8) -> Option<Halt>
+    requires number { number < threads }
+    requires walk { (s : Shape) × IsWalk code.now s walk.now }
+    ensures { (s : Shape) (turns : List Turn) → StandsAt code.now s turns walk.now → MatchOption result (is_last code.now s (place_after code.now s turns) number ≡ false) (IsHaltAt code.now s (place_after code.now s turns) number) }
+{
+    match walk.thread(number) {
+        Some(thread) => halt_of(code, walk, thread, number),
+        None => None,
+    }
+}
+
+// Lists the thread of this number, if it waits or was stopped, behind those with lower numbers.
+fn list(lasts: &mut Vec<Last>, code: &Code, walk: &Walk, number: u8) -> Result<(), AllocError>
+    requires number { number < threads }
+    requires walk { (s : Shape) × IsWalk code.now s walk.now }
+    ensures { OnOk result ((s : Shape) (turns : List Turn) → StandsAt code.now s turns walk.now → AreLastsUpTo code.now s (place_after code.now s turns) number lasts.old.items → AreLastsUpTo code.now s (place_after code.now s turns) (number + 1) lasts.new.items) }
+{
+    match halt_at(code, walk, number) {
+        Some(halt) => {
+            lasts.push(Last {
+                thread: u32::from(number),
+                halt,
+            })?;
+            Ok(())
+        }
+        None => Ok(()),
     }
 }
 
 /// The threads that wait or were stopped, in rising order of their numbers.
+///
+/// An `Err` says that memory was not found.
 pub(crate) fn lasts(alloc: Global, code: &Code, walk: &Walk) -> Result<Vec<Last>, AllocError>
-    requires { (code : Code) × (s : Shape) × IsWalk code s walk.now }
+    requires { (s : Shape) × IsWalk code.now s walk.now }
+    ensures { IfOk result (λ lasts. (s : Shape) (turns : List Turn) → StandsAt code.now s turns walk.now → AreLasts code.now s (place_after code.now s turns) lasts.items) }
 {
     let mut lasts = Vec::new(alloc);
     for number in 0..THREADS {
-        if let Some(thread) = walk.thread(number as u8) {
-            if let Some(halt) = halt_of(code, walk, thread, number as u8) {
-                lasts.push(Last {
-                    thread: number,
-                    halt,
-                })?;
-            }
-        }
+        list(&mut lasts, code, walk, number as u8)?;
     }
     Ok(lasts)
 }

@@ -1,6 +1,6 @@
 //! The event of a turn, by what its step found.
 
-ghost use Rattle.std.specs.Prelude.{◌≡◌, ◌<◌};
+ghost use Rattle.std.specs.Prelude.{◌≡◌, ◌<◌, IfSome};
 ghost use Rattle.std.specs.Option.{option_map};
 ghost use Rattle.sharc_code.specs.declared.code.Code.{Code};
 ghost use Rattle.sharc_code.specs.Says.{started_with};
@@ -196,7 +196,8 @@ impl Coming {
 /// this many elements.
 pub fn event_of(coming: Coming, thread: u32, found: u64, elements: u64) -> Option<Event>
     requires { thread < THREADS }
-    ensures { (code : Code) → option_map (told code) result ≡ comes code thread coming found elements }
+    ensures told { (code : Code) → option_map (told code) result ≡ comes code thread coming found elements }
+    ensures origin { IfSome result (λ e. e.origin ≡ coming.origin) }
 {
     match deed_of(coming.next, thread, found, elements) {
         Some(deed) => Some(Event {

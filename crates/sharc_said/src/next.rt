@@ -5,6 +5,7 @@ ghost use Rattle.sharc_code.specs.declared.code.Code.{Code};
 ghost use Rattle.sharc_code.specs.Machine.{instr_at, function_of};
 ghost use Rattle.sharc_code.specs.Says.{argument_of, of_argument, place_at};
 ghost use Rattle.sharc_said.specs.Told.{value_of, number_of, site_of, IsComing};
+ghost use Rattle.sharc_said.specs.Origins.{loads_at, enters_at, starts_at, origin_by, origin_at};
 
 use crate::cells::{Origin, Where, cell_at};
 use sharc_code::{Cell, Code, Function, Instr, Parameter, Register, Stage, Text};
@@ -114,7 +115,8 @@ fn in_function(function: u64, next: Next) -> Coming
 
 // Where a reference is loaded at this site, before this instruction: the lock of another site may be behind it.
 fn loads(site: u32, behind: Instr) -> Origin
-    ensures { (code : Code) → site_of code result ≡ (place_at code site).site }
+    ensures site { (code : Code) → site_of code result ≡ (place_at code site).site }
+    ensures origin { result ≡ loads_at site behind }
 {
     match behind {
         Instr::ChkLockLoaded(of) => Origin::Lock(site, of),
@@ -124,7 +126,8 @@ fn loads(site: u32, behind: Instr) -> Origin
 
 // Where a thread becomes a waiter at this site, two instructions before this one: it says of which condition.
 fn enters(site: u32, behind: Instr) -> Origin
-    ensures { (code : Code) → site_of code result ≡ (place_at code site).site }
+    ensures site { (code : Code) → site_of code result ≡ (place_at code site).site }
+    ensures origin { result ≡ enters_at site behind }
 {
     match behind {
         Instr::CondWait(_, of) => Origin::Wait(site, of),
@@ -134,7 +137,8 @@ fn enters(site: u32, behind: Instr) -> Origin
 
 // Where the instruction is to free the object in this register.
 fn freed(thread: &Thread, r: u32, layout: u32, site: u32) -> Coming
-    ensures { (code : Code) → IsComing code (Instr.Free r layout site) thread.now.machine result }
+    ensures coming { (code : Code) → IsComing code (Instr.Free r layout site) thread.now.machine result }
+    ensures origin { result.origin ≡ Origin.Site site }
 {
     match thread.stage() {
         Stage::Uncounts(_) => at_site(site, Next::Frees(thread.reference(r))),
@@ -144,7 +148,8 @@ fn freed(thread: &Thread, r: u32, layout: u32, site: u32) -> Coming
 
 // Where it is to make an object.
 fn made(thread: &Thread, to: u32, count: u32, cells: u32, site: u32) -> Coming
-    ensures { (code : Code) → IsComing code (Instr.New to count cells site) thread.now.machine result }
+    ensures coming { (code : Code) → IsComing code (Instr.New to count cells site) thread.now.machine result }
+    ensures origin { result.origin ≡ Origin.Site site }
 {
     match thread.stage() {
         Stage::Makes(state) => at_site(site, Next::Makes(state)),
@@ -164,7 +169,8 @@ fn handed(thread: &Thread, from: Register) -> Argument
 
 // Where it is to start a thread of this function.
 fn spawned(thread: &Thread, to: u32, function: u32, from: Register, site: u32) -> Coming
-    ensures { (code : Code) → IsComing code (Instr.Spawn to function from site) thread.now.machine result }
+    ensures coming { (code : Code) → IsComing code (Instr.Spawn to function from site) thread.now.machine result }
+    ensures origin { result.origin ≡ Origin.Site site }
 {
     let argument = handed(thread, from);
     match thread.stage() {
@@ -175,7 +181,8 @@ fn spawned(thread: &Thread, to: u32, function: u32, from: Register, site: u32) -
 
 // Where it is the beginning of a thread.
 fn started(code: &Code, thread: &Thread, site: u32) -> Coming
-    ensures { IsComing code.now (Instr.Start site) thread.now.machine result }
+    ensures coming { IsComing code.now (Instr.Start site) thread.now.machine result }
+    ensures origin { result.origin ≡ starts_at thread.now.machine.own.stage }
 {
     match thread.stage() {
         Stage::Enters(function) => {
@@ -188,7 +195,8 @@ fn started(code: &Code, thread: &Thread, site: u32) -> Coming
 
 // Where it is the end of one.
 fn ended(thread: &Thread) -> Coming
-    ensures { (code : Code) → IsComing code Instr.Exit thread.now.machine result }
+    ensures coming { (code : Code) → IsComing code Instr.Exit thread.now.machine result }
+    ensures origin { result.origin ≡ Origin.Function thread.now.machine.own.function }
 {
     let next = match thread.stage() {
         Stage::Withdraws(_) | Stage::WithdrawsFrom(_, _) => Next::Nothing,
@@ -200,7 +208,8 @@ fn ended(thread: &Thread) -> Coming
 
 // Where it is to take a waiter away.
 fn signalled(code: &Code, thread: &Thread, cell: Cell, site: u32) -> Coming
-    ensures { IsComing code.now (Instr.CondSignal cell site) thread.now.machine result }
+    ensures coming { IsComing code.now (Instr.CondSignal cell site) thread.now.machine result }
+    ensures origin { result.origin ≡ Origin.Site site }
 {
     let at = cell_at(code, thread, cell);
     match thread.stage() {
@@ -209,33 +218,46 @@ fn signalled(code: &Code, thread: &Thread, cell: Cell, site: u32) -> Coming
     }
 }
 
-/// What the thread's next turn is.
-pub fn next_of(code: &Code, thread: &Thread) -> Coming
-    ensures { IsComing code.now (instr_at code.now thread.now.machine.at.pc) thread.now.machine result }
+// Where it is to load a reference from this cell.
+fn loaded(code: &Code, thread: &Thread, cell: Cell, site: u32) -> Coming
+    ensures coming { IsComing code.now (Instr.LoadRef cell site) thread.now.machine result }
+    ensures origin { result.origin ≡ origin_by code.now thread.now.machine (Instr.LoadRef cell site) }
 {
-    let pc = thread.pc();
-    match instr_at(code, pc) {
-        Instr::LoadRef(cell, site) => Coming {
-            origin: loads(site, instr_at(code, pc.wrapping_add(1))),
-            next: Next::ReadsReference(cell_at(code, thread, cell)),
-        },
-        Instr::CondEnter(cell, site) => Coming {
-            origin: enters(site, instr_at(code, pc.wrapping_add(2))),
-            next: Next::Enters(cell_at(code, thread, cell)),
-        },
-        instr => next_by(code, instr, thread),
+    let behind = instr_at(code, thread.pc().wrapping_add(1));
+    Coming {
+        origin: loads(site, behind),
+        next: Next::ReadsReference(cell_at(code, thread, cell)),
     }
 }
 
-// The same of a thread that is at this instruction, without what is behind it.
+// Where it is to make the thread a waiter.
+fn entered(code: &Code, thread: &Thread, cell: Cell, site: u32) -> Coming
+    ensures coming { IsComing code.now (Instr.CondEnter cell site) thread.now.machine result }
+    ensures origin { result.origin ≡ origin_by code.now thread.now.machine (Instr.CondEnter cell site) }
+{
+    let behind = instr_at(code, thread.pc().wrapping_add(2));
+    Coming {
+        origin: enters(site, behind),
+        next: Next::Enters(cell_at(code, thread, cell)),
+    }
+}
+
+/// What the thread's next turn is.
+pub fn next_of(code: &Code, thread: &Thread) -> Coming
+    ensures coming { IsComing code.now (instr_at code.now thread.now.machine.at.pc) thread.now.machine result }
+    ensures origin { result.origin ≡ origin_at code.now thread.now.machine }
+{
+    next_by(code, instr_at(code, thread.pc()), thread)
+}
+
+// The same of a thread that is at this instruction.
 fn next_by(code: &Code, instr: Instr, thread: &Thread) -> Coming
-    ensures { IsComing code.now instr thread.now.machine result }
+    ensures coming { IsComing code.now instr thread.now.machine result }
+    ensures origin { result.origin ≡ origin_by code.now thread.now.machine instr }
 {
     match instr {
         Instr::Load(_, cell, site) => at_site(site, Next::Reads(cell_at(code, thread, cell))),
-        Instr::LoadRef(cell, site) => {
-            at_site(site, Next::ReadsReference(cell_at(code, thread, cell)))
-        }
+        Instr::LoadRef(cell, site) => loaded(code, thread, cell, site),
         Instr::Store(r, cell, site) => {
             at_site(
                 site,
@@ -261,7 +283,7 @@ fn next_by(code: &Code, instr: Instr, thread: &Thread) -> Coming
         Instr::Print(r, site) => at_site(site, Next::Prints(thread.int(r))),
         Instr::Start(site) => started(code, thread, site),
         Instr::Exit => ended(thread),
-        Instr::CondEnter(cell, site) => at_site(site, Next::Enters(cell_at(code, thread, cell))),
+        Instr::CondEnter(cell, site) => entered(code, thread, cell, site),
         Instr::CondWait(cell, site) => at_site(site, Next::Wakes(cell_at(code, thread, cell))),
         Instr::CondSignal(cell, site) => signalled(code, thread, cell, site),
         Instr::CondBroadcast(cell, site) => at_site(

@@ -1,22 +1,47 @@
-use Rattle.std.proofs.Common.{◌≡◌, ◌+◌, ◌-◌, suc, [], ◌∷◌, ◌++◌, length, drop, ap, sym, subst, ◌∙◌, add-one, take}
+use Rattle.std.proofs.Common.{◌+◌, ◌-◌, suc, [], ◌∷◌, ◌++◌, length, drop, sym, subst, ◌∙◌, add-one, take}
 use Rattle.std.proofs.lemmas.Bool.{iff_false}
 use Rattle.sharc_audit.specs.Audited.{Audits}
 use Rattle.sharc_audit.specs.declared.audit.EventFault.TheVariants as fault
 use Rattle.sharc_audit.specs.declared.audit.Verdict.TheVariants as verdict
-use Rattle.sharc_audit.specs.Judging.{next_asked}
 use Rattle.sharc_audit.specs.Lines.{IsLine}
-use Rattle.sharc_audit.specs.Known.{AreKnown}
+use Rattle.sharc_audit.specs.Known.{AreKnown, ArePlaces}
 use Rattle.sharc_audit.specs.Breaking.{IsFault, IsPassed}
 use Rattle.sharc_audit.specs.Mains.{OneMain}
-use Rattle.sharc_audit.proofs.Auditing.{Standing, at_place, says_spent, says_nothing, says_other, says_fault, stands_on, told_so, lines_behind}
+use Rattle.sharc_audit.proofs.Auditing.{Standing, at_place, says_spent, says_nothing, says_other, says_fault, stands_on, nothing_stands, nothing_known, told_so, lines_behind}
+use Rattle.sharc_audit.specs.Reported.{AreTold}
+use Rattle.sharc_audit.proofs.Breaking.{unbroken_so}
+use Rattle.sharc_audit.proofs.Placing.{once_if_legal, parts_at, told_on}
 use Rattle.sharc_audit.proofs.audit.audit.Goals as goal
+
+pub fault_of-requires : goal.fault_of-requires
+fault_of-requires c = unbroken_so c.rule_laws.ensures c.loop-i.past c.loop-i.invariant.standing.obeys
+
+pub next_asked-requires-clause-once : goal.next_asked-requires-clause-once
+next_asked-requires-clause-once c = once_if_legal c.moded-m.result.now.typed c.loop-i.past c.loop-i.invariant.standing.run.legal
+
+pub accept-requires-clause-once : goal.accept-requires-clause-once
+accept-requires-clause-once c = once_if_legal c.moded-m.result.now.typed c.loop-i.past c.loop-i.invariant.standing.run.legal
+
+pub accept-requires-clause-told : goal.accept-requires-clause-told
+accept-requires-clause-told c =
+    let all = c.as_slice-all.result.now in
+    let l = c.index-all-i.result in
+    subst (λ z. AreTold c.in_ok-reported.reported c.loop-i.past (l ∷ z)) (sym (lines_behind (c.loop-i.i + 1) all)) (subst (AreTold c.in_ok-reported.reported c.loop-i.past) (parts_at all c.loop-i.i l c.loop-i-test.true c.index-all-i.is) c.loop-i.invariant.told)
+
+pub loop-i-init : goal.loop-i-init
+loop-i-init c = record {
+  standing = subst (Standing c.moded-m.result.now c.args.fuel []) (sym c.new-past.ensures) (nothing_stands c.rule_laws.ensures c.moded-m.result.now c.args.fuel);
+  known = subst (λ z. AreKnown c.moded-m.result.now c.args.fuel z c.as_slice-all.result.now c.new-runs.result.runs.items) (sym c.new-past.ensures) (subst (AreKnown c.moded-m.result.now c.args.fuel [] c.as_slice-all.result.now) (sym c.new-runs.ensures.none) (nothing_known c.moded-m.result.now c.args.fuel c.as_slice-all.result.now));
+  places = subst (ArePlaces c.new-runs.result.places) (sym c.new-runs.ensures.none) c.new-runs.ensures.places;
+  told = λ t none. c.in_ok-reported.ensures t;
+}
 
 pub returns-in-Spent : goal.returns-in-Spent
 returns-in-Spent c =
     let m = c.moded-m.result.now in
     let all = c.as_slice-all.result.now in
     let l = c.index-all-i.result in
-    let found = c.in_ok-next.ensures.next ∙ ap (λ z. next_asked m c.args.fuel z l) c.as_slice.ensures in
+    let found = c.in_ok-next.ensures.next in
     let at = at_place all c.loop-i.i l _ c.loop-i-test.true c.index-all-i.is in
     let one = subst OneMain c.typed.ensures c.in_ok-main.ensures.one in
     subst (λ z. Audits z c.args.fuel c.args.lines.now (verdict.Fuel (c.loop-i.i + 1))) c.moded-m.ensures.moded (subst (λ z. Audits m c.args.fuel z (verdict.Fuel (c.loop-i.i + 1))) c.as_slice-all.ensures
@@ -27,7 +52,7 @@ returns-in-Nothing c =
     let m = c.moded-m.result.now in
     let all = c.as_slice-all.result.now in
     let l = c.index-all-i.result in
-    let found = c.in_ok-next.ensures.next ∙ ap (λ z. next_asked m c.args.fuel z l) c.as_slice.ensures in
+    let found = c.in_ok-next.ensures.next in
     let at = at_place all c.loop-i.i l _ c.loop-i-test.true c.index-all-i.is in
     let one = subst OneMain c.typed.ensures c.in_ok-main.ensures.one in
     subst (λ z. Audits z c.args.fuel c.args.lines.now (verdict.Fails (c.loop-i.i + 1) fault.NotAsked)) c.moded-m.ensures.moded (subst (λ z. Audits m c.args.fuel z (verdict.Fails (c.loop-i.i + 1) fault.NotAsked)) c.as_slice-all.ensures
@@ -38,7 +63,7 @@ returns-then-not-is_line c =
     let m = c.moded-m.result.now in
     let all = c.as_slice-all.result.now in
     let l = c.index-all-i.result in
-    let found = c.in_ok-next.ensures.next ∙ ap (λ z. next_asked m c.args.fuel z l) c.as_slice.ensures in
+    let found = c.in_ok-next.ensures.next in
     let at = at_place all c.loop-i.i l _ c.loop-i-test.true c.index-all-i.is in
     let one = subst OneMain c.typed.ensures c.in_ok-main.ensures.one in
     let other = iff_false c.is_line.ensures c.if-not-is_line.true in
@@ -50,7 +75,7 @@ returns-in-Some c =
     let m = c.moded-m.result.now in
     let all = c.as_slice-all.result.now in
     let l = c.index-all-i.result in
-    let found = c.in_ok-next.ensures.next ∙ ap (λ z. next_asked m c.args.fuel z l) c.as_slice.ensures in
+    let found = c.in_ok-next.ensures.next in
     let at = at_place all c.loop-i.i l _ c.loop-i-test.true c.index-all-i.is in
     let one = subst OneMain c.typed.ensures c.in_ok-main.ensures.one in
     let e = c.in-Wants.e in
@@ -65,20 +90,23 @@ loop-i-preserved c =
     let m = c.moded-m.result.now in
     let all = c.as_slice-all.result.now in
     let l = c.index-all-i.result in
-    let found = c.in_ok-next.ensures.next ∙ ap (λ z. next_asked m c.args.fuel z l) c.as_slice.ensures in
+    let found = c.in_ok-next.ensures.next in
     let at = at_place all c.loop-i.i l _ c.loop-i-test.true c.index-all-i.is in
     let one = subst OneMain c.typed.ensures c.in_ok-main.ensures.one in
     let e = c.in-Wants.e in
     let next = sym found ∙ c.in-Wants.is in
     let line : IsLine m.typed l e = subst (λ z. IsLine z l e) c.typed-in-Wants.ensures (c.is_line.ensures.0 c.if-not-is_line.false) in
     let passed : IsPassed m c.loop-i.past e = c.in_default.ensures in
-    let pushed : c.push.new.self ≡ c.loop-i.past ++ e ∷ [] = c.in_ok-push-in-Wants.ensures.ok in
+    let pushed = c.in_ok-past-in-Wants.ensures in
     let told_is = told_so c.ask_laws.ensures c.store_laws.ensures c.run_laws.ensures c.rule_laws.ensures m one c.args.fuel all c.loop-i.i l at c.loop-i.past c.loop-i.invariant.standing e next line in
-    let on : AreKnown m c.args.fuel (c.as_slice-in-Wants.result.now ++ e ∷ []) (take (length all - (c.loop-i.i + 1)) (drop (c.loop-i.i + 1) all)) c.accept.new.runs.items
-    = c.in_ok-accept-in-Wants.ensures e (ap (λ z. next_asked m c.args.fuel z l) c.as_slice-in-Wants.ensures ∙ next) line.thread told_is in
+    let behind = take (length all - (c.loop-i.i + 1)) (drop (c.loop-i.i + 1) all) in
+    let on : AreKnown m c.args.fuel (c.loop-i.past ++ e ∷ []) behind c.accept.new.runs.runs.items = c.in_ok-accept-in-Wants.ensures.known e next line.thread told_is in
+    let now_told = subst (AreTold c.in_ok-reported.reported c.loop-i.past) (parts_at all c.loop-i.i l c.loop-i-test.true c.index-all-i.is) c.loop-i.invariant.told in
     record {
-      standing = subst (λ n. Standing m c.args.fuel (take n all) c.push.new.self) (sym (add-one c.loop-i.i)) (subst (Standing m c.args.fuel (take (suc c.loop-i.i) all)) (sym pushed)
+      standing = subst (λ n. Standing m c.args.fuel (take n all) c.in_ok-past-in-Wants.past) (sym (add-one c.loop-i.i)) (subst (Standing m c.args.fuel (take (suc c.loop-i.i) all)) (sym pushed)
           (stands_on c.ask_laws.ensures c.store_laws.ensures c.run_laws.ensures c.rule_laws.ensures m one c.args.fuel all c.loop-i.i l at c.loop-i.past c.loop-i.invariant.standing e next line passed.legal passed.unbroken));
-      known = subst (λ z. AreKnown m c.args.fuel z (drop (c.loop-i.i + 1) all) c.accept.new.runs.items) (sym (pushed ∙ ap (λ z. z ++ e ∷ []) (sym c.as_slice-in-Wants.ensures)))
-          (subst (λ z. AreKnown m c.args.fuel (c.as_slice-in-Wants.result.now ++ e ∷ []) z c.accept.new.runs.items) (lines_behind (c.loop-i.i + 1) all) on);
+      known = subst (λ z. AreKnown m c.args.fuel z (drop (c.loop-i.i + 1) all) c.accept.new.runs.runs.items) (sym pushed)
+          (subst (λ z. AreKnown m c.args.fuel (c.loop-i.past ++ e ∷ []) z c.accept.new.runs.runs.items) (lines_behind (c.loop-i.i + 1) all) on);
+      places = c.in_ok-accept-in-Wants.ensures.places;
+      told = subst (λ z. AreTold c.in_ok-reported.reported z (drop (c.loop-i.i + 1) all)) (sym pushed) (told_on c.in_ok-reported.reported c.loop-i.past l (drop (c.loop-i.i + 1) all) now_told e line.thread);
     }

@@ -4,7 +4,7 @@ use Rattle.sharc_history.proofs.history.history_by_schedule.Goals as goal
 pub lasts-requires : goal.lasts-requires
 lasts-requires c =
     let over : IsOver c.args.code.now c.args.shape.now c.args.places.now c.args.limit c.go_on.new.self = c.in_ok-go_on.ensures.over c.if-not-branch.true in
-    (c.args.code.now, c.args.shape.now, (over.traced.turns, over.traced.goes.stands))
+    (c.args.shape.now, (over.traced.turns, over.traced.goes.stands))
 
 pub returns-then-not-branch : goal.returns-then-not-branch
 returns-then-not-branch c =
@@ -17,5 +17,9 @@ returns-then-not-branch c =
       checked = (c.run_laws.ensures.checked code s traced.turns).1 traced.goes.stands.run;
       chosen = traced.chosen;
       over = over.over;
-      events = traced.goes.events;
+      account = record {
+        events = traced.goes.events;
+        origins = traced.goes.origins;
+        lasts = c.in_ok-lasts.ensures s traced.turns traced.goes.stands;
+      };
     }

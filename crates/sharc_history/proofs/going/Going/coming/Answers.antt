@@ -1,8 +1,9 @@
-use Rattle.std.proofs.Common.{◌≡◌, ℕ, Option, Some, ap, sym, subst, ◌∙◌}
+use Rattle.std.proofs.Common.{◌≡◌, ℕ, Some, ap, sym, subst, ◌∙◌}
 use Rattle.std.specs.Option.{option_copied}
 use Rattle.sharc_code.specs.Machine.{Machine, instr_at}
 use Rattle.sharc_cpu.specs.Thread.{ThreadView}
 use Rattle.sharc_seq.specs.Walk.{IsThreadThere}
+use Rattle.sharc_said.specs.Origins.{origin_at}
 use Rattle.sharc_said.specs.Told.{IsComing}
 use Rattle.sharc_history.proofs.going.Going.coming.Goals as goal
 
@@ -18,5 +19,6 @@ returns c = λ turns goes.
     subst (λ o. IsThreadThere code c.args.shape.now turns t (option_copied o)) c.in-Some.is (c.thread.ensures code c.args.shape.now turns goes.stands) in
     record {
       number = ap (λ (m : Machine). m.own.number) (sym there.1.machine) ∙ there.1.number;
-      is = subst (λ (m : Machine). IsComing code (instr_at code m.at.pc) m c.next_of.result) there.1.machine c.next_of.ensures;
+      is = subst (λ (m : Machine). IsComing code (instr_at code m.at.pc) m c.next_of.result) there.1.machine c.next_of.ensures.coming;
+      origin = subst (λ (m : Machine). c.next_of.result.origin ≡ origin_at code m) there.1.machine c.next_of.ensures.origin;
     }

@@ -1,15 +1,15 @@
-use Rattle.std.proofs.Common.{◌≡◌, ℕ, suc, ◌+◌, List, ◌∷◌, [], length, length-append, map, ap, sym, subst, ◌∙◌, arith}
+use Rattle.std.proofs.Common.{ℕ, List, ◌∷◌, [], length, length-append, map, ap, sym, subst, ◌∙◌, arith}
 use Rattle.std.specs.Prelude.{reverse}
 use Rattle.sharc_code.specs.Runs.{told_by}
 use Rattle.sharc_code.specs.Says.{elements_in}
 use Rattle.sharc_code.specs.Whole.{one_thread, Erase, place_after}
-use Rattle.sharc_said.specs.Told.{spoken, told, told_of_event, bare_of}
+use Rattle.sharc_said.specs.Told.{spoken, told, told_of_event}
 use Rattle.sharc_said.specs.declared.event.Event.{Event}
 use Rattle.sharc_seq.specs.declared.walk.Walk.{Walk}
 use Rattle.sharc_seq.specs.Walk.{StandsAt}
-use Rattle.sharc_history.specs.Going.{elements_by}
-use Rattle.sharc_history.specs.History.{told_events}
-use Rattle.sharc_history.proofs.Telling.{what_comes, told_grown, events_more, elements_more}
+use Rattle.sharc_said.specs.Origins.{origin_at}
+use Rattle.sharc_history.specs.History.{told_events, origins_of}
+use Rattle.sharc_history.proofs.Telling.{what_comes, told_grown, events_more, elements_more, origins_more}
 use Rattle.sharc_history.proofs.going.Going.turn.Goals as goal
 
 pub returns-clause-went : goal.returns-clause-went
@@ -19,7 +19,8 @@ returns-clause-went c = λ turns goes.
     let went = c.in_ok-turn.ensures.went turns goes.stands in
     let tells = c.in_ok-tell.ensures in
     let said = told_by (one_thread code s) (Erase code s turns) (place_after code s turns) went.one in
-    let same = tells.is code ∙ what_comes code s turns c.args.number c.coming-coming.result c.found-found.result _ went.one (c.coming-coming.ensures turns goes) went.own (c.found-found.ensures ∙ went.found_is) (goes.elements (spoken c.coming-coming.result.next c.found-found.result)) in
+    let awaits = c.coming-coming.ensures turns goes in
+    let same = tells.is code ∙ what_comes code s turns c.args.number c.coming-coming.result c.found-found.result _ went.one awaits went.own (c.found-found.ensures ∙ went.found_is) (goes.elements (spoken c.coming-coming.result.next c.found-found.result)) in
     let grown = told_grown went.one.thread said (Erase code s turns) in
     record {
       one = went.one;
@@ -29,6 +30,7 @@ returns-clause-went c = λ turns goes.
         count = ap (λ v. length v.items) tells.schedule
             ∙ (let e = ap (λ (xs : List ℕ). length xs) c.in_ok-push.ensures.items in let f = goes.count in omega (arith, e, f, length-append c.args.self.now.schedule.items (c.args.number ∷ [])));
         events = ap (map (told code)) tells.events ∙ events_more code (told_events code s turns) c.args.self.now.events.items tells.event said same goes.events ∙ ap (λ l. map told_of_event (reverse l)) (sym grown);
+        origins = ap (map (λ (e : Event). e.origin)) tells.events ∙ origins_more code (origins_of code s turns) c.args.self.now.events.items tells.event said c.coming-coming.result.origin (origin_at code ((place_after code s turns).threads went.one.thread)) same tells.origin (awaits.origin ∙ ap (λ t. origin_at code ((place_after code s turns).threads t)) (sym went.own)) goes.origins;
         elements = λ number. tells.elements number ∙ elements_more code (told_events code s turns) tells.event said number _ same (goes.elements number) ∙ ap (λ l. elements_in l number) (sym grown);
       };
     }

@@ -1,0 +1,11 @@
+mod About
+mod Counting
+mod Holding
+mod Latest
+mod Lists
+mod Moding
+mod Noting
+mod Pairs
+mod Reading
+mod Sharing
+mod Storing

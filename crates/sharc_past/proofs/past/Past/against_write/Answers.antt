@@ -1,0 +1,15 @@
+use Rattle.std.proofs.Common.{ap, sym, ◌∙◌}
+use Rattle.sharc_past.specs.declared.keys.GranuleKey.{GranuleKey}
+use Rattle.sharc_past.specs.declared.topics.Topic.TheVariants as topic
+use Rattle.sharc_past.specs.Latest.{latest_about}
+use Rattle.sharc_past.specs.Reads.{against_noted}
+use Rattle.sharc_past.proofs.past.Past.against_write.Goals as goal
+
+pub returns-in-None : goal.returns-in-None
+returns-in-None c =
+    ap (against_noted c.args.thread c.args.a c.args.self.now) (sym c.in-None.is ∙ c.latest.ensures ∙ ap (λ (k : GranuleKey). latest_about (topic.SharedWrite k) c.args.self.now) c.granule_key.ensures)
+
+pub returns-in-Some : goal.returns-in-Some
+returns-in-Some c =
+    c.is_against.ensures
+    ∙ ap (against_noted c.args.thread c.args.a c.args.self.now) (sym c.in-Some.is ∙ c.latest.ensures ∙ ap (λ (k : GranuleKey). latest_about (topic.SharedWrite k) c.args.self.now) c.granule_key.ensures)

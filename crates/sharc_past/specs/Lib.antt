@@ -1,0 +1,4 @@
+pub mod Kept
+pub mod Latest
+pub mod Reads
+pub mod Topics

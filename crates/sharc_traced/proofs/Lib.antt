@@ -1,0 +1,5 @@
+pub mod Filing
+pub mod Naming
+pub mod Joining
+pub mod Replying
+pub mod Calling

@@ -1,0 +1,69 @@
+-- How an event is named, and the lines of all.
+use Rattle.std.proofs.Common.{◌≡◌, ℕ, ◌+◌, ◌<◌, false, Some, List, [], ◌∷◌, ◌++◌, length, get_or, take, drop, refl, sym, ap, subst, ◌∙◌, arith, append_assoc}
+use Rattle.std.specs.Prelude.{reverse, if◌then◌else◌}
+use Rattle.std.proofs.lemmas.List.{reverse-append, take_more, drop_more}
+use Rattle.sharc_code.specs.declared.code.Code.{Code}
+use Rattle.std.specs.HashMap.{get}
+use Rattle.sharc_said.specs.declared.cells.Origin.{Origin}
+use Rattle.sharc_said.specs.declared.cells.Where.{Where}
+use Rattle.sharc_said.specs.declared.cells.Where.TheVariants as places
+use Rattle.sharc_said.specs.declared.event.Event.{Event}
+use Rattle.sharc_traced.specs.declared.names.Names.{Names}
+use Rattle.sharc_traced.specs.Names.{same_pair, found, AreNames, IsNoted}
+use Rattle.sharc_traced.specs.Places.{is_same, names, last_named, or_named, event_line, event_lines}
+
+-- ---- one event more
+pub noted : (old new : Names) (earlier : List Event) (e : Event) (at : Where) → ((cell : Where) → names e.deed cell ≡ is_same at cell) → IsNoted at e.origin old new → AreNames old earlier
+    → AreNames new (e ∷ earlier)
+noted old new earlier e at same is are = λ cell.
+    is cell
+    ∙ ap (λ o. if is_same at cell then Some e.origin else o) (are cell)
+    ∙ ap (λ b. if b then Some e.origin else last_named earlier cell) (sym (same cell))
+
+pub unnoted : (table : Names) (earlier : List Event) (e : Event) → ((cell : Where) → names e.deed cell ≡ false) → AreNames table earlier → AreNames table (e ∷ earlier)
+unnoted table earlier e none are = λ cell. are cell ∙ ap (λ b. if b then Some e.origin else last_named earlier cell) (sym (none cell))
+
+-- ---- an lvalue, or the name
+pub has_lvalue : (lvalue name : List ℕ) → 0 < length lvalue → lvalue ≡ or_named lvalue name
+has_lvalue [] name h = absurd (omega (arith, h))
+has_lvalue (byte ∷ lvalue) name h = refl
+
+pub has_none : (lvalue name : List ℕ) → length lvalue ≡ 0 → name ≡ or_named lvalue name
+has_none [] name h = refl
+has_none (byte ∷ lvalue) name h = absurd (omega (arith, h))
+
+-- ---- one line more
+pub one_more : (events : List Event) (i : ℕ) (d : Event) → i < length events → reverse (take (i + 1) events) ≡ get_or events i d ∷ reverse (take i events)
+one_more events i d low = ap reverse (take_more events i d low) ∙ reverse-append (take i events) (get_or events i d ∷ [])
+
+pub line_more : (code : Code) (events : List Event) (i : ℕ) (d : Event) (text more all : List ℕ) → i < length events → more ≡ text ++ event_line code (reverse (take i events)) (get_or events i d)
+    → text ++ event_lines code (reverse (take i events)) (drop i events) ≡ all → more ++ event_lines code (reverse (take (i + 1) events)) (drop (i + 1) events) ≡ all
+line_more code events i d text more all low line h =
+    let e : Event = get_or events i d in
+    let earlier : List Event = reverse (take i events) in
+    let later : List Event = drop (i + 1) events in
+    ap (λ t. t ++ event_lines code (reverse (take (i + 1) events)) later) line
+    ∙ ap (λ es. (text ++ event_line code earlier e) ++ event_lines code es later) (one_more events i d low)
+    ∙ append_assoc text (event_line code earlier e) (event_lines code (e ∷ earlier) later)
+    ∙ sym (ap (λ es. text ++ event_lines code earlier es) (drop_more events i d low))
+    ∙ h
+
+pub names_more : (table : Names) (events : List Event) (i : ℕ) (d : Event) → i < length events → AreNames table (get_or events i d ∷ reverse (take i events)) → AreNames table (reverse (take (i + 1) events))
+names_more table events i d low are = subst (AreNames table) (sym (one_more events i d low)) are
+
+-- ---- the table
+pub noted_global : (old new : Names) (at : Where) (number cell : ℕ) (origin : Origin) → at ≡ places.Global number cell
+    → ((q : ℕ × ℕ) → get same_pair new.globals q ≡ (if same_pair (number, cell) q then Some origin else get same_pair old.globals q)) → new.made ≡ old.made → IsNoted at origin old new
+noted_global old new at number cell origin is updates same = λ q. subst (λ (w : Where). found new q ≡ (if is_same w q then Some origin else found old q)) (sym is) (by q)
+  where
+    by : (q : Where) → found new q ≡ (if is_same (places.Global number cell) q then Some origin else found old q)
+    by (places.Global n i) = updates (n, i)
+    by (places.Made n i) = ap (λ m. get same_pair m (n, i)) same
+
+pub noted_made : (old new : Names) (at : Where) (number cell : ℕ) (origin : Origin) → at ≡ places.Made number cell
+    → ((q : ℕ × ℕ) → get same_pair new.made q ≡ (if same_pair (number, cell) q then Some origin else get same_pair old.made q)) → new.globals ≡ old.globals → IsNoted at origin old new
+noted_made old new at number cell origin is updates same = λ q. subst (λ (w : Where). found new q ≡ (if is_same w q then Some origin else found old q)) (sym is) (by q)
+  where
+    by : (q : Where) → found new q ≡ (if is_same (places.Made number cell) q then Some origin else found old q)
+    by (places.Global n i) = ap (λ m. get same_pair m (n, i)) same
+    by (places.Made n i) = updates (n, i)
