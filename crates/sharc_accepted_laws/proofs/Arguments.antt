@@ -22,16 +22,18 @@ use Rattle.sharc_flat.specs.Scope.{Context, slot_of, int_count, ref_count}
 use Rattle.sharc_flat.specs.Suits.{IsScalar, Passes, Suits, ArgumentsSuit}
 use Rattle.sharc_invariant.specs.Types.{StaticType}
 use Rattle.sharc_invariant.specs.Labels.{Within, Label}
-use Rattle.sharc_labels_laws.specs.Stretches.{Setting}
-use Rattle.sharc_labels_laws.specs.Typable.{ArgumentAt, ArgumentsAt, refs_behind, Goes}
-use Rattle.sharc_access_laws.specs.Typed.{IsOf}
-use Rattle.sharc_static_laws.specs.Calls.{argument_type, AreStanding, ArgumentsFit}
-use Rattle.sharc_static_laws.specs.Laws.{IsAccepted}
-use Rattle.sharc_static_laws.specs.Standing.{ExpressionStands, ExpressionsStand}
-use Rattle.sharc_typable_laws.specs.Calling.{type_for}
-use Rattle.sharc_typable_laws.specs.Typing.{integers, width_named, typing}
+use Rattle.sharc_typed_laws.specs.Stretches.{Setting}
+use Rattle.sharc_typed_laws.specs.Typable.{ArgumentAt, ArgumentsAt, refs_behind, Goes}
+use Rattle.sharc_accepted_laws.specs.Typed.{IsOf}
+use Rattle.sharc_accepted_laws.specs.Calls.{argument_type, AreStanding, ArgumentsFit}
+use Rattle.sharc_accepted_laws.specs.StaticLaws.{IsAccepted}
+use Rattle.sharc_accepted_laws.specs.Standing.{ExpressionStands, ExpressionsStand}
+use Rattle.sharc_accepted_laws.specs.Calling.{type_for}
+use Rattle.sharc_accepted_laws.specs.Typing.{integers, width_named, typing}
 use Rattle.sharc_accepted_laws.proofs.Forms.{pointer_no_integer, to_integer}
-use Rattle.sharc_accepted_laws.proofs.Members.{head_there, tail_there, of_each, front, back, each}
+use Rattle.sharc_accepted_laws.proofs.TargetLists.{of_each, tail_there, head_there}
+use Rattle.sharc_accepted_laws.proofs.AccessLists.{each}
+use Rattle.sharc_accepted_laws.proofs.Found.{front, back}
 
 -- ---- parts of an expression
 module _ (c : Context) (n : ℕ) (g : Function) where

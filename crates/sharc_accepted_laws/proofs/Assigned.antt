@@ -31,42 +31,32 @@ use Rattle.sharc_flat.specs.Places.{Target, variable, in_global, in_global_at, i
 use Rattle.sharc_flat.specs.Scope.{Context, slot_kind, register_of, number_in}
 use Rattle.sharc_flat.specs.Suits.{PlaceSuits, LeftSuits, RightSuits, SimpleSuits, CountSuits, IfThere, is_cell}
 use Rattle.sharc_invariant.specs.Types.{Targets, StaticType, cells_of}
-use Rattle.sharc_invariant.specs.Labels.{Empty, Refers}
-use Rattle.sharc_typed.specs.Lines.{PointersMadeAt}
-use Rattle.sharc_labels_laws.specs.Stretches.{Setting}
-use Rattle.sharc_labels_laws.specs.Typable.{GoesTo, type_by, IsTypeIn, IsTypable, VariableTyped}
-use Rattle.sharc_labels_laws.specs.Stated.{IsMade, CountTypable, ValueGoes, RightTypable, VariableAssigned, CellAssigned, Assigned, Dropped, SimpleTypable}
-use Rattle.sharc_static_laws.specs.Held.{HeldLaws, held_at}
-use Rattle.sharc_static_laws.specs.Laws.{GivenLaws}
-use Rattle.sharc_static_laws.specs.Scopes.{ScopeLaws, AllStand}
-use Rattle.sharc_static_laws.specs.Standing.{ExpressionStands, ExpressionsStand}
-use Rattle.sharc_static_laws.specs.Static.{static_of, entry_by, entry_of}
-use Rattle.sharc_target_laws.specs.Laws.{IsRowOf, NumbersFound, ExpressionsFound}
-use Rattle.sharc_target_laws.specs.Pointees.{pointee, PointeesFit}
-use Rattle.sharc_target_laws.specs.Pointers.{PointeesPoint}
-use Rattle.sharc_target_laws.specs.Shapes.{row_shape}
-use Rattle.sharc_target_laws.specs.Targets.{targets_of}
-use Rattle.sharc_typable_laws.specs.Laws.{IsAt, ValueLaws}
-use Rattle.sharc_typable_laws.specs.Typing.{typing}
+use Rattle.sharc_invariant.specs.Labels.{Refers}
+use Rattle.sharc_typed_laws.specs.Lines.{PointersMadeAt}
+use Rattle.sharc_typed_laws.specs.Stretches.{Setting}
+use Rattle.sharc_typed_laws.specs.Typable.{GoesTo, type_by, IsTypeIn, IsTypable, VariableTyped}
+use Rattle.sharc_typed_laws.specs.Stated.{IsMade, CountTypable, ValueGoes, RightTypable, VariableAssigned, CellAssigned, Assigned, Dropped, SimpleTypable}
+use Rattle.sharc_accepted_laws.specs.Held.{HeldLaws, held_at}
+use Rattle.sharc_accepted_laws.specs.StaticLaws.{GivenLaws}
+use Rattle.sharc_accepted_laws.specs.Scopes.{ScopeLaws, AllStand}
+use Rattle.sharc_accepted_laws.specs.Standing.{ExpressionStands, ExpressionsStand}
+use Rattle.sharc_accepted_laws.specs.Static.{static_of, entry_by, entry_of}
+use Rattle.sharc_accepted_laws.specs.TargetLaws.{IsRowOf, NumbersFound, ExpressionsFound}
+use Rattle.sharc_accepted_laws.specs.Pointees.{pointee, PointeesFit}
+use Rattle.sharc_accepted_laws.specs.Pointers.{PointeesPoint}
+use Rattle.sharc_accepted_laws.specs.Shapes.{row_shape}
+use Rattle.sharc_accepted_laws.specs.Targets.{targets_of}
+use Rattle.sharc_accepted_laws.specs.TypableLaws.{IsAt, ValueLaws}
+use Rattle.sharc_accepted_laws.specs.Typing.{typing}
 use Rattle.sharc_accepted_laws.specs.Statements.{IsPlaceIn, IsThere, AreExpressionsTypable}
-use Rattle.sharc_accepted_laws.proofs.Members.{front, back, each, place_there, any_passes, flat_there, filter_there}
+use Rattle.sharc_accepted_laws.proofs.Mallocs.{one_made}
+use Rattle.sharc_accepted_laws.proofs.Members.{filter_there, first_of, flat_there}
 use Rattle.sharc_accepted_laws.proofs.Sorts.{integer_is, reference_no_integer, integer_want, held_pointer, held_integer, no_function_held, made_pointer, made_element, element_some}
 use Rattle.sharc_accepted_laws.proofs.Wholes.{Facts, IsName, variable_named}
-
--- an expression is the first of those that it has
-pub first_of : (P : Expression → Type 0) (e : Expression) → AllByRecursion P (expressions e) → P e
-first_of P (tree.identifier s i) h = h.0
-first_of P (tree.constant s c) h = h.0
-first_of P (tree.parentheses s a) h = h.0
-first_of P (tree.call s f all) h = h.0
-first_of P (tree.spawn s f a) h = h.0
-first_of P (tree.on_value s w a) h = h.0
-first_of P (tree.on_place s w a) h = h.0
-first_of P (tree.cast s t a) h = h.0
-first_of P (tree.index s a i) h = h.0
-first_of P (tree.field s a w n) h = h.0
-first_of P (tree.unary s o a) h = h.0
-first_of P (tree.binary s o at a b) h = h.0
+use Rattle.sharc_accepted_laws.proofs.TargetLists.{place_there}
+use Rattle.sharc_accepted_laws.proofs.AccessLists.{each}
+use Rattle.sharc_accepted_laws.proofs.Found.{front, back}
+use Rattle.sharc_accepted_laws.proofs.AccessFirsts.{no_entry}
 
 -- a call is no lvalue
 call_is : (e : Expression) → is_call e ≡ true → is_lvalue e ≡ false
@@ -82,9 +72,6 @@ call_is (tree.index s a i) h = absurd (false≢true h)
 call_is (tree.field s a w n) h = absurd (false≢true h)
 call_is (tree.unary s o a) h = absurd (false≢true h)
 call_is (tree.binary s o at a b) h = absurd (false≢true h)
-
-pub no_entry : (s : StaticType) → Empty ≡ Refers s → ⊥
-no_entry s h = cc
 
 -- ---- in parentheses
 module _ (c : Context) where
@@ -158,7 +145,7 @@ module _ (laws : Laws) (z : Setting) (alone : ℕ → Bool) (n : ℕ) (g : Funct
         cells = ap (element_cells c.program.typed) (sym (made_element kind w same)) ∙ sym fits.cells ∙ ap (λ x. cells_of x (pointee c.program kind row)) (sym targets_are);
         few = element_some c.program.typed here.set.accepted.low (declared_kind w);
         pointers = subst (λ (x : Targets). PointersMadeAt x token (pointee c.program kind row)) (sym targets_are)
-            (λ i h. any_passes (λ v. is_pointer_in c.program.typed v i) (types_made c.program.typed token) w there (laws.points c.program kind row is (made_pointer kind w same) w (made_element kind w same) i h));
+            (λ i. laws.points c.program kind row is (made_pointer kind w same) w (made_element kind w same) i ∙ sym (one_made c.program.typed here.set.accepted.placed token w there (λ v. is_pointer_in c.program.typed v i)));
       }
 
   -- ---- what an expression refers to

@@ -20,16 +20,16 @@ use Rattle.sharc_flat.specs.Places.{width_of}
 use Rattle.sharc_flat.specs.Scope.{Context, slot_of}
 use Rattle.sharc_flat.specs.Suits.{InitialSuits}
 use Rattle.sharc_invariant.specs.Types.{StaticType}
-use Rattle.sharc_labels_laws.specs.Stretches.{Setting}
-use Rattle.sharc_labels_laws.specs.Typable.{type_by, IsTypeIn}
-use Rattle.sharc_labels_laws.specs.Stated.{IsMade}
-use Rattle.sharc_labels_laws.specs.Declared.{Keeps, Begins, InitialTypable}
-use Rattle.sharc_statement_laws.specs.Statements.{DeclaredTypable}
-use Rattle.sharc_static_laws.specs.Held.{held_named}
-use Rattle.sharc_static_laws.specs.Standing.{ExpressionStands, LocalStands}
-use Rattle.sharc_static_laws.specs.Static.{static_of, variable_type, entry_named}
-use Rattle.sharc_target_laws.specs.Laws.{VariablesFound}
-use Rattle.sharc_typable_laws.specs.Typing.{typing, width_named}
+use Rattle.sharc_typed_laws.specs.Stretches.{Setting}
+use Rattle.sharc_typed_laws.specs.Typable.{type_by, IsTypeIn}
+use Rattle.sharc_typed_laws.specs.Stated.{IsMade}
+use Rattle.sharc_typed_laws.specs.Declared.{Keeps, Begins, InitialTypable}
+use Rattle.sharc_typed_laws.specs.Statements.{DeclaredTypable}
+use Rattle.sharc_accepted_laws.specs.Held.{held_named}
+use Rattle.sharc_accepted_laws.specs.Standing.{ExpressionStands, LocalStands}
+use Rattle.sharc_accepted_laws.specs.Static.{static_of, variable_type, entry_named}
+use Rattle.sharc_accepted_laws.specs.TargetLaws.{VariablesFound}
+use Rattle.sharc_accepted_laws.specs.Typing.{typing, width_named}
 use Rattle.sharc_accepted_laws.specs.Statements.{IsPlaceIn, AreExpressionsTypable}
 use Rattle.sharc_accepted_laws.proofs.Assigned.{Laws, function_there, made_there, made_is, right_is, Gives}
 use Rattle.sharc_accepted_laws.proofs.Fresh.{LocalFresh}

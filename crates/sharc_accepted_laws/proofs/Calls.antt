@@ -24,20 +24,20 @@ use Rattle.sharc_flat.specs.Suits.{ArgumentsSuit}
 use Rattle.sharc_invariant.specs.Types.{StaticType}
 use Rattle.sharc_invariant.specs.Labels.{Empty, Refers, Anything, Within, Label, Signature, LessNumber, Narrower}
 use Rattle.sharc_invariant.specs.Typed.{Passes}
-use Rattle.sharc_labels_laws.specs.Places.{IsPlain}
-use Rattle.sharc_labels_laws.specs.Stretches.{Setting}
-use Rattle.sharc_labels_laws.specs.Typable.{type_by, ArgumentsAt, AreFree, refs_behind, IsTypeIn, ResultTyped, CallTyped}
-use Rattle.sharc_access_laws.specs.Typed.{IsOf}
-use Rattle.sharc_static_laws.specs.Calls.{AreStanding}
-use Rattle.sharc_static_laws.specs.Laws.{IsAccepted}
-use Rattle.sharc_static_laws.specs.Static.{result_type, variable_entry}
-use Rattle.sharc_typable_laws.specs.Calling.{wants_of}
-use Rattle.sharc_typable_laws.specs.Typing.{typing}
+use Rattle.sharc_typed_laws.specs.Places.{IsPlain}
+use Rattle.sharc_typed_laws.specs.Stretches.{Setting}
+use Rattle.sharc_typed_laws.specs.Typable.{type_by, ArgumentsAt, AreFree, refs_behind, IsTypeIn, ResultTyped, CallTyped}
+use Rattle.sharc_accepted_laws.specs.Typed.{IsOf}
+use Rattle.sharc_accepted_laws.specs.Calls.{AreStanding}
+use Rattle.sharc_accepted_laws.specs.StaticLaws.{IsAccepted}
+use Rattle.sharc_accepted_laws.specs.Static.{result_type, variable_entry}
+use Rattle.sharc_accepted_laws.specs.Calling.{wants_of}
+use Rattle.sharc_accepted_laws.specs.Typing.{typing}
 use Rattle.sharc_accepted_laws.specs.Setting.{function_signature, signature_by, setting_of, IsSet}
 use Rattle.sharc_accepted_laws.proofs.Arguments.{AllGo, all_go, refs_counted, integer_passed, parameters_declared}
 use Rattle.sharc_accepted_laws.proofs.Facts.{Laws, expression_of, is_at, has_type}
 use Rattle.sharc_accepted_laws.proofs.Forms.{reference_pointer, call_typed, function_parameters}
-use Rattle.sharc_accepted_laws.proofs.Members.{none_there, head_there, tail_there, place_there}
+use Rattle.sharc_accepted_laws.proofs.TargetLists.{place_there, tail_there, head_there, none_there}
 
 pub narrower_same : (w : Width) → Narrower w w
 narrower_same widths.Char = tt

@@ -12,24 +12,26 @@ use Rattle.sharc_mode_laws.specs.Constructs.{IsExpression}
 use Rattle.sharc_flat.specs.Flattened.{kind_of}
 use Rattle.sharc_flat.specs.Scope.{Context}
 use Rattle.sharc_invariant.specs.Labels.{Refers}
-use Rattle.sharc_labels_laws.specs.Stretches.{Setting}
-use Rattle.sharc_labels_laws.specs.Typable.{type_by, IsPointer}
-use Rattle.sharc_access_laws.specs.Accesses.{IsCodeOf}
-use Rattle.sharc_access_laws.specs.Firsts.{type_of_mutex, type_of_condition, KnowsCondition, HasFirstCells, FirstsFit}
-use Rattle.sharc_access_laws.specs.Joined.{IsTypingOf}
-use Rattle.sharc_access_laws.specs.Paths.{PathsLead}
-use Rattle.sharc_access_laws.specs.Typed.{IsOf, LvaluesAreTyped}
-use Rattle.sharc_static_laws.specs.Alone.{AreAlone}
-use Rattle.sharc_static_laws.specs.Conditions.{KnownCalls}
-use Rattle.sharc_static_laws.specs.Scopes.{ScopeLaws}
-use Rattle.sharc_static_laws.specs.Standing.{ExpressionStands}
-use Rattle.sharc_static_laws.specs.Static.{entry_of}
-use Rattle.sharc_typable_laws.specs.Laws.{ValueLaws}
-use Rattle.sharc_typable_laws.specs.Typing.{typing}
+use Rattle.sharc_typed_laws.specs.Stretches.{Setting}
+use Rattle.sharc_typed_laws.specs.Typable.{type_by, IsPointer}
+use Rattle.sharc_accepted_laws.specs.Accesses.{IsCodeOf}
+use Rattle.sharc_accepted_laws.specs.AccessFirsts.{type_of_mutex, type_of_condition, KnowsCondition, HasFirstCells, FirstsFit}
+use Rattle.sharc_accepted_laws.specs.Joined.{IsTypingOf}
+use Rattle.sharc_accepted_laws.specs.Paths.{PathsLead}
+use Rattle.sharc_accepted_laws.specs.Typed.{IsOf, LvaluesAreTyped}
+use Rattle.sharc_accepted_laws.specs.Alone.{AreAlone}
+use Rattle.sharc_accepted_laws.specs.Conditions.{KnownCalls}
+use Rattle.sharc_accepted_laws.specs.Scopes.{ScopeLaws}
+use Rattle.sharc_accepted_laws.specs.Standing.{ExpressionStands}
+use Rattle.sharc_accepted_laws.specs.Static.{entry_of}
+use Rattle.sharc_accepted_laws.specs.TypableLaws.{ValueLaws}
+use Rattle.sharc_accepted_laws.specs.Typing.{typing}
 use Rattle.sharc_accepted_laws.specs.Cells.{CellsAreTyped}
 use Rattle.sharc_accepted_laws.specs.Expressions.{ConditionsTyped, CellsTyped}
 use Rattle.sharc_accepted_laws.specs.Setting.{signature_by, setting_of, IsSet}
-use Rattle.sharc_accepted_laws.proofs.Members.{each, place_there, first_of}
+use Rattle.sharc_accepted_laws.proofs.Members.{first_of}
+use Rattle.sharc_accepted_laws.proofs.TargetLists.{place_there}
+use Rattle.sharc_accepted_laws.proofs.AccessLists.{each}
 
 -- a signature tells what the test of functions tells
 same_alone : (m : Assignment) (globals : List GlobalCells) (alone : Bool) (o : Option Function) → (signature_by m globals alone o).alone ≡ alone

@@ -27,11 +27,11 @@ use Rattle.sharc_flat.specs.Scope.{Context}
 use Rattle.sharc_flat.specs.Suits.{Either, ReferencesSuit}
 use Rattle.sharc_invariant.specs.Types.{StaticType, Content, MutexWord, Waiters, SomeNames}
 use Rattle.sharc_invariant.specs.Labels.{Empty}
-use Rattle.sharc_labels_laws.specs.Stretches.{Setting}
-use Rattle.sharc_labels_laws.specs.Typable.{type_by, GoesTo, FirstCell, IsTypeIn, IsVoid, Goes, AreTwo, IsOne, AreTypable, ConditionTyped, CallTypable}
-use Rattle.sharc_access_laws.specs.Typed.{IsOf}
-use Rattle.sharc_static_laws.specs.Static.{entry_by, entry_of}
-use Rattle.sharc_typable_laws.specs.Typing.{typing}
+use Rattle.sharc_typed_laws.specs.Stretches.{Setting}
+use Rattle.sharc_typed_laws.specs.Typable.{type_by, GoesTo, FirstCell, IsTypeIn, IsVoid, Goes, AreTwo, IsOne, AreTypable, ConditionTyped, CallTypable}
+use Rattle.sharc_accepted_laws.specs.Typed.{IsOf}
+use Rattle.sharc_accepted_laws.specs.Static.{entry_by, entry_of}
+use Rattle.sharc_accepted_laws.specs.Typing.{typing}
 use Rattle.sharc_accepted_laws.specs.Expressions.{HasFirst, ConditionsTyped}
 use Rattle.sharc_accepted_laws.specs.Setting.{setting_of, IsSet}
 use Rattle.sharc_accepted_laws.proofs.Arguments.{Parts, part_of, first_part, second_part, AllSuit, AllGo}

@@ -24,34 +24,36 @@ use Rattle.sharc_flat.specs.Scope.{Context}
 use Rattle.sharc_flat.specs.Suits.{IsScalar, is_cell, TakeSuits}
 use Rattle.sharc_invariant.specs.Types.{StaticType, cells_of}
 use Rattle.sharc_invariant.specs.Labels.{Empty, Refers}
-use Rattle.sharc_labels_laws.specs.Stretches.{Setting}
-use Rattle.sharc_labels_laws.specs.Premises.{ReferenceTyped}
-use Rattle.sharc_labels_laws.specs.Typable.{type_by, ground_of, IsPointer, CellTyped, ValueTyped, Takes}
-use Rattle.sharc_access_laws.specs.Joined.{BaseStands}
-use Rattle.sharc_access_laws.specs.Typed.{IsOf, BasesStand}
-use Rattle.sharc_static_laws.specs.Calls.{ArgumentsFit}
-use Rattle.sharc_static_laws.specs.Laws.{IsAccepted}
-use Rattle.sharc_static_laws.specs.Results.{ResultLaws}
-use Rattle.sharc_static_laws.specs.Scopes.{ScopeLaws}
-use Rattle.sharc_static_laws.specs.Standing.{ExpressionStands, FunctionsStand}
-use Rattle.sharc_static_laws.specs.Starting.{SpawnedBegin}
-use Rattle.sharc_static_laws.specs.Static.{static_of, entry_by, entry_of}
-use Rattle.sharc_target_laws.specs.Beside.{LocksStandBeside}
-use Rattle.sharc_target_laws.specs.Laws.{ExpressionsFound, GlobalsAre}
-use Rattle.sharc_target_laws.specs.Lvalues.{LvaluesFit, ArraysFit}
-use Rattle.sharc_target_laws.specs.Pointees.{pointee, PointeesFit}
-use Rattle.sharc_target_laws.specs.Targets.{targets_of}
-use Rattle.sharc_typable_laws.specs.Calling.{CallingLaws}
-use Rattle.sharc_typable_laws.specs.Laws.{IsAt, ValueLaws}
-use Rattle.sharc_typable_laws.specs.Taking.{TakingLaws}
-use Rattle.sharc_typable_laws.specs.Threads.{ThreadsPass}
-use Rattle.sharc_typable_laws.specs.Typing.{typing}
+use Rattle.sharc_typed_laws.specs.Stretches.{Setting}
+use Rattle.sharc_typed_laws.specs.Premises.{ReferenceTyped}
+use Rattle.sharc_typed_laws.specs.Typable.{type_by, ground_of, IsPointer, CellTyped, ValueTyped, Takes}
+use Rattle.sharc_accepted_laws.specs.Joined.{BaseStands}
+use Rattle.sharc_accepted_laws.specs.Typed.{IsOf, BasesStand}
+use Rattle.sharc_accepted_laws.specs.Calls.{ArgumentsFit}
+use Rattle.sharc_accepted_laws.specs.StaticLaws.{IsAccepted}
+use Rattle.sharc_accepted_laws.specs.Results.{ResultLaws}
+use Rattle.sharc_accepted_laws.specs.Scopes.{ScopeLaws}
+use Rattle.sharc_accepted_laws.specs.Standing.{ExpressionStands, FunctionsStand}
+use Rattle.sharc_accepted_laws.specs.Starting.{SpawnedBegin}
+use Rattle.sharc_accepted_laws.specs.Static.{static_of, entry_by, entry_of}
+use Rattle.sharc_accepted_laws.specs.Beside.{LocksStandBeside}
+use Rattle.sharc_accepted_laws.specs.TargetLaws.{ExpressionsFound, GlobalsAre}
+use Rattle.sharc_accepted_laws.specs.Lvalues.{LvaluesFit, ArraysFit}
+use Rattle.sharc_accepted_laws.specs.Pointees.{pointee, PointeesFit}
+use Rattle.sharc_accepted_laws.specs.Targets.{targets_of}
+use Rattle.sharc_accepted_laws.specs.Calling.{CallingLaws}
+use Rattle.sharc_accepted_laws.specs.TypableLaws.{IsAt, ValueLaws}
+use Rattle.sharc_accepted_laws.specs.Taking.{TakingLaws}
+use Rattle.sharc_accepted_laws.specs.Threads.{ThreadsPass}
+use Rattle.sharc_accepted_laws.specs.Typing.{typing}
 use Rattle.sharc_accepted_laws.specs.Expressions.{CellsTyped}
 use Rattle.sharc_accepted_laws.specs.Setting.{setting_of, IsSet}
 use Rattle.sharc_accepted_laws.proofs.Forms.{lvalue_some, reference_pointer}
-use Rattle.sharc_accepted_laws.proofs.Members.{each, place_there, first_of}
+use Rattle.sharc_accepted_laws.proofs.Members.{first_of}
 use Rattle.sharc_accepted_laws.proofs.Wholes as wholes
 use Rattle.sharc_accepted_laws.proofs.Wholes.{facts_of, variable_named}
+use Rattle.sharc_accepted_laws.proofs.TargetLists.{place_there}
+use Rattle.sharc_accepted_laws.proofs.AccessLists.{each}
 
 -- ---- the laws of the crates below
 pub record Laws : Type 0 where

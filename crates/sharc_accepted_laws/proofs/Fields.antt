@@ -16,19 +16,21 @@ use Rattle.sharc_flat.specs.Flattened.{kind_of, guard_of}
 use Rattle.sharc_flat.specs.Places.{Target, variable, in_global, in_global_at, in_object, in_object_at, target, beside_named, beside_field}
 use Rattle.sharc_flat.specs.Scope.{Context}
 use Rattle.sharc_invariant.specs.Types.{Field, FieldMode, no_field, row_of, cells_of, field_at}
-use Rattle.sharc_labels_laws.specs.Stretches.{Setting}
-use Rattle.sharc_labels_laws.specs.Typable.{type_by, AreFields}
-use Rattle.sharc_access_laws.specs.Accesses.{list_or, modes_of_pointer, cells_in_each}
-use Rattle.sharc_access_laws.specs.Joined.{LockLeads, to_global, to_variable, PathLeads}
-use Rattle.sharc_static_laws.specs.Laws.{IsAccepted}
-use Rattle.sharc_static_laws.specs.Static.{entry_by, entry_of}
-use Rattle.sharc_target_laws.specs.Beside.{BesideFits, AreLockedBeside, LocksStandBeside}
-use Rattle.sharc_target_laws.specs.Laws.{ExpressionsFound, GlobalsAre}
-use Rattle.sharc_target_laws.specs.Lvalues.{pointer_of, IsOfObject, IsOfGlobal, ModeFits, is_private, is_readonly, is_racy, is_dynamic, locked_by_type, locked_by_global, locked_by_sibling, locked_behind, FieldFits, IsBehindPointer, IsInFile, NamesCell, no_cell, of_object, of_global, LvaluesFit}
-use Rattle.sharc_target_laws.specs.Shapes.{expression_shape, shapes, number}
-use Rattle.sharc_target_laws.specs.Targets.{global_element, targets_of}
-use Rattle.sharc_typable_laws.specs.Typing.{typing}
-use Rattle.sharc_accepted_laws.proofs.Members.{of_each, none_some, same_some, place_there}
+use Rattle.sharc_typed_laws.specs.Stretches.{Setting}
+use Rattle.sharc_typed_laws.specs.Typable.{type_by, AreFields}
+use Rattle.sharc_accepted_laws.specs.Accesses.{list_or, modes_of_pointer, cells_in_each}
+use Rattle.sharc_accepted_laws.specs.Joined.{LockLeads, to_global, to_variable, PathLeads}
+use Rattle.sharc_accepted_laws.specs.StaticLaws.{IsAccepted}
+use Rattle.sharc_accepted_laws.specs.Static.{entry_by, entry_of}
+use Rattle.sharc_accepted_laws.specs.Beside.{BesideFits, AreLockedBeside, LocksStandBeside}
+use Rattle.sharc_accepted_laws.specs.TargetLaws.{ExpressionsFound, GlobalsAre}
+use Rattle.sharc_accepted_laws.specs.Lvalues.{pointer_of, IsOfObject, IsOfGlobal, ModeFits, is_private, is_readonly, is_racy, is_dynamic, locked_by_type, locked_by_global, locked_by_sibling, locked_behind, FieldFits, IsBehindPointer, IsInFile, NamesCell, no_cell, of_object, of_global, LvaluesFit}
+use Rattle.sharc_accepted_laws.specs.Shapes.{expression_shape, shapes, number}
+use Rattle.sharc_accepted_laws.specs.Targets.{global_element, targets_of}
+use Rattle.sharc_accepted_laws.specs.Typing.{typing}
+use Rattle.sharc_accepted_laws.proofs.TargetLists.{place_there, of_each, same_some}
+use Rattle.sharc_accepted_laws.proofs.AccessLeading.{no_modes}
+use Rattle.sharc_accepted_laws.proofs.TypableRegisters.{none_some}
 
 -- ---- of what an lvalue names
 module _ (z : Setting) (n : ℕ) (c : Context) where
@@ -92,9 +94,6 @@ global_object_at g n k h = cc
 global_no_object : (g n k : ℕ) → IsOfObject (in_global_at g n) k → ⊥
 global_no_object g n k (inl s) = global_object g n k s
 global_no_object g n k (inr s) = global_object_at g n k s
-
-no_modes : (l : Lock) (below : List Sharing) → [] ≡ locked l ∷ below → ⊥
-no_modes l below h = cc
 
 -- ---- fields
 module _ (fit : LvaluesFit) (found : ExpressionsFound) (beside : LocksStandBeside) (globals_are : GlobalsAre) (meets : MeetsGlobals) (z : Setting) (n : ℕ) (c : Context) (a : IsAccepted c.program) where

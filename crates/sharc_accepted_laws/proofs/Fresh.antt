@@ -12,7 +12,8 @@ use Rattle.sharc_ctype.specs.Resolved.{functions_in}
 use Rattle.sharc_flat.specs.declared.slot.Slot.{Slot}
 use Rattle.sharc_flat.specs.Flattened.{with_variable, behind_first, behind_statement, parameters_scope}
 use Rattle.sharc_flat.specs.Scope.{Context, slot_of, slot_kind}
-use Rattle.sharc_accepted_laws.proofs.Members.{both, each}
+use Rattle.sharc_accepted_laws.proofs.AccessLists.{each}
+use Rattle.sharc_accepted_laws.proofs.TargetLists.{both}
 
 -- ---- in each statement
 abbrev pub LocalFresh : Context → Local → Type 0

@@ -24,28 +24,31 @@ use Rattle.sharc_flat.specs.Places.{width_of}
 use Rattle.sharc_flat.specs.Scope.{Context, ref_count}
 use Rattle.sharc_flat_laws.specs.Stands.{TypedSuits}
 use Rattle.sharc_invariant.specs.Labels.{Empty, Refers, Anything, Within, Signature}
-use Rattle.sharc_labels_laws.specs.Stretches.{Setting}
-use Rattle.sharc_labels_laws.specs.Places.{IsNamed}
-use Rattle.sharc_labels_laws.specs.Typable.{type_by}
-use Rattle.sharc_labels_laws.specs.Begun.{label_of}
-use Rattle.sharc_labels_laws.specs.Returned.{GivesBackBy}
-use Rattle.sharc_statement_laws.specs.Functions.{FunctionTypable}
-use Rattle.sharc_static_laws.specs.Held.{held_at}
-use Rattle.sharc_static_laws.specs.Results.{ResultLaws}
-use Rattle.sharc_static_laws.specs.Scopes.{AllStand, DeclaredStands}
-use Rattle.sharc_static_laws.specs.Standing.{FunctionStands, FunctionsStand}
-use Rattle.sharc_static_laws.specs.Static.{pointers, variable_entry, entry_named, result_type}
-use Rattle.sharc_target_laws.specs.Laws.{VariablesFound}
-use Rattle.sharc_typable_laws.specs.Typing.{typing}
+use Rattle.sharc_typed_laws.specs.Stretches.{Setting}
+use Rattle.sharc_typed_laws.specs.Places.{IsNamed}
+use Rattle.sharc_typed_laws.specs.Typable.{type_by}
+use Rattle.sharc_typed_laws.specs.Begun.{label_of}
+use Rattle.sharc_typed_laws.specs.Returned.{GivesBackBy}
+use Rattle.sharc_typed_laws.specs.Functions.{FunctionTypable}
+use Rattle.sharc_accepted_laws.specs.Held.{held_at}
+use Rattle.sharc_accepted_laws.specs.Results.{ResultLaws}
+use Rattle.sharc_accepted_laws.specs.Scopes.{AllStand, DeclaredStands}
+use Rattle.sharc_accepted_laws.specs.Standing.{FunctionStands, FunctionsStand}
+use Rattle.sharc_accepted_laws.specs.Static.{pointers, variable_entry, entry_named, result_type}
+use Rattle.sharc_accepted_laws.specs.TargetLaws.{VariablesFound}
+use Rattle.sharc_accepted_laws.specs.Typing.{typing}
 use Rattle.sharc_accepted_laws.specs.Setting.{function_signature, setting_of, IsSet}
 use Rattle.sharc_accepted_laws.specs.Statements.{IsPlaceIn, AreExpressionsTypable}
 use Rattle.sharc_accepted_laws.proofs.Assigned.{Laws}
 use Rattle.sharc_accepted_laws.proofs.Fresh.{StatementsFresh, fresh_functions}
 use Rattle.sharc_accepted_laws.proofs.Locals.{in_each}
-use Rattle.sharc_accepted_laws.proofs.Members.{back, of_each, to_each, own_elements, place_there, same_some, none_some}
-use Rattle.sharc_accepted_laws.proofs.Slots.{pointer_count}
+use Rattle.sharc_accepted_laws.proofs.Members.{own_elements}
 use Rattle.sharc_accepted_laws.proofs.Stated.{Does, Own, AllGiven, statements_are, signature_is, result_is}
 use Rattle.sharc_accepted_laws.proofs.Wholes.{Facts, facts_of}
+use Rattle.sharc_accepted_laws.proofs.StaticRegisters.{pointer_count}
+use Rattle.sharc_accepted_laws.proofs.TargetLists.{place_there, of_each, to_each, same_some}
+use Rattle.sharc_accepted_laws.proofs.Found.{back}
+use Rattle.sharc_accepted_laws.proofs.TypableRegisters.{none_some}
 
 -- ---- the variables of a scope
 -- the slot of a pointer, with those before it and those behind it

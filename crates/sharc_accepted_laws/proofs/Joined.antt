@@ -4,8 +4,8 @@ use Rattle.sharc_code.specs.declared.code.Code.{Code}
 use Rattle.sharc_mode.specs.Moded.{Assignment}
 use Rattle.sharc_flat_form.specs.Made.{flat_of}
 use Rattle.sharc_flat.specs.Tables.{globals_of}
-use Rattle.sharc_statement_laws.specs.Programs.{CodeIsWellTyped}
-use Rattle.sharc_typable_laws.specs.Typing.{typing}
+use Rattle.sharc_typed_laws.specs.Programs.{CodeIsWellTyped}
+use Rattle.sharc_accepted_laws.specs.Typing.{typing}
 use Rattle.sharc_accepted_laws.specs.Accepted.{GlobalsAreNamed, AcceptedIsTyped}
 use Rattle.sharc_accepted_laws.specs.Cells.{CellsAreTyped}
 use Rattle.sharc_accepted_laws.specs.Expressions.{CellsTyped}

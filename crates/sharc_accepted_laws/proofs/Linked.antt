@@ -15,17 +15,18 @@ use Rattle.sharc_mode_laws.specs.Constructs.{IsAssigned}
 use Rattle.sharc_flat.specs.Flattened.{kind_of, is_ref, target_of, guard_of}
 use Rattle.sharc_flat.specs.Scope.{Context}
 use Rattle.sharc_flat.specs.Suits.{PlaceSuits, is_cell}
-use Rattle.sharc_labels_laws.specs.Stretches.{Setting}
-use Rattle.sharc_labels_laws.specs.Stated.{CellAssigned}
-use Rattle.sharc_labels_laws.specs.Typable.{type_by, IsTypable, IsPlaceTypable}
-use Rattle.sharc_access_laws.specs.Typed.{IsOf, BasesStand, CellTyped}
-use Rattle.sharc_static_laws.specs.Static.{entry_by, entry_of}
-use Rattle.sharc_typable_laws.specs.Typing.{typing}
+use Rattle.sharc_typed_laws.specs.Stretches.{Setting}
+use Rattle.sharc_typed_laws.specs.Stated.{CellAssigned}
+use Rattle.sharc_typed_laws.specs.Typable.{type_by, IsTypable, IsPlaceTypable}
+use Rattle.sharc_accepted_laws.specs.Typed.{IsOf, BasesStand, CellTyped}
+use Rattle.sharc_accepted_laws.specs.Static.{entry_by, entry_of}
+use Rattle.sharc_accepted_laws.specs.Typing.{typing}
 use Rattle.sharc_accepted_laws.specs.Expressions.{CellsTyped, ExpressionsTypable, ExpressionsAreTypable}
 use Rattle.sharc_accepted_laws.specs.Statements.{IsPlaceIn, IsThere, AreExpressionsTypable}
-use Rattle.sharc_accepted_laws.proofs.Assigned.{Laws, at_there, no_entry}
+use Rattle.sharc_accepted_laws.proofs.Assigned.{Laws, at_there}
 use Rattle.sharc_accepted_laws.proofs.Sorts.{held_pointer, held_integer}
 use Rattle.sharc_accepted_laws.proofs.Wholes.{some_star}
+use Rattle.sharc_accepted_laws.proofs.AccessFirsts.{no_entry}
 
 -- ---- what is held by a variable or a cell
 base_plain : (b : Base) → is_integral b ≡ true → (is_struct_behind 0 (object b 0) ≡ false) × (is_mutex_kind (object b 0) ≡ false)

@@ -7,7 +7,8 @@ use Rattle.sharc_tree.specs.Tree as tree
 use Rattle.sharc_ctype.specs.Statements.{first_locals}
 use Rattle.sharc_ctype.specs.Statements as declared
 use Rattle.sharc_mode_laws.specs.Constructs.{locals_in_first, locals_in, locals_in_all}
-use Rattle.sharc_accepted_laws.proofs.Members.{both, front, back}
+use Rattle.sharc_accepted_laws.proofs.TargetLists.{both}
+use Rattle.sharc_accepted_laws.proofs.Found.{front, back}
 
 module _ (P : Declaration → Type 0) where
   abbrev pub OfLocal : Local → Type 0

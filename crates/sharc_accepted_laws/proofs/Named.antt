@@ -11,7 +11,8 @@ use Rattle.sharc_ctype.specs.Resolved.{Resolution, globals_in, functions_in, kin
 use Rattle.sharc_ctype_laws.specs.Constraints.{HasType, Callee, of_program, of_conditions, a_variable, a_global, a_function}
 use Rattle.sharc_ctype_laws.specs.Laws.{MeetsConstraints}
 use Rattle.sharc_accepted_laws.specs.Accepted.{GlobalsAreNamed}
-use Rattle.sharc_accepted_laws.proofs.Members.{of_each, got_low}
+use Rattle.sharc_accepted_laws.proofs.TargetLists.{of_each}
+use Rattle.sharc_accepted_laws.proofs.StaticRegisters.{got_low}
 
 no_callee : (r : Resolution) (i : Identifier) (ps : List Kind) (result : Kind) → Callee r i ps result → (g : ℕ) → named_at r i.site.token ≡ named.Global g → ⊥
 no_callee r i _ _ (of_program {n = n} f is at spelled other) g names = let h : named.Function n ≡ named.Global g = sym is ∙ names in cc

@@ -2,8 +2,9 @@
 use Rattle.std.proofs.Common.{◌≡◌, ℕ, zero, suc, ◌+◌, ◌<◌, Bool, true, false, cond, List, [], ◌∷◌, ◌++◌, length, slice_get, refl, ap, sym, ◌∙◌, arith, Some}
 use Rattle.sharc_flat.specs.declared.slot.Slot.{Slot}
 use Rattle.sharc_flat.specs.Scope.{int_count, ref_count}
-use Rattle.sharc_static_laws.specs.Static.{pointers}
-use Rattle.sharc_typable_laws.specs.Typing.{integers}
+use Rattle.sharc_accepted_laws.specs.Static.{pointers}
+use Rattle.sharc_accepted_laws.specs.Typing.{integers}
+use Rattle.sharc_accepted_laws.proofs.StaticRegisters.{pointer_count}
 
 front_got : {A : Type 0} (a b : List A) (k : ℕ) → k < length a → slice_get (a ++ b) k ≡ slice_get a k
 front_got [] b k h = absurd (omega (arith, h))
@@ -13,15 +14,6 @@ front_got (x ∷ a) b (suc k) h = front_got a b k (omega (arith, h))
 last_got : {A : Type 0} (a : List A) (x : A) → slice_get (a ++ x ∷ []) (length a) ≡ Some x
 last_got [] x = refl
 last_got (y ∷ a) x = last_got a x
-
--- ---- pointers
-pub pointer_count : (scope : List Slot) → length (pointers scope) ≡ ref_count scope
-pointer_count [] = refl
-pointer_count (z ∷ rest) = by z.is_pointer (pointer_count rest)
-  where
-    by : (b : Bool) → length (pointers rest) ≡ ref_count rest → length (cond b (z.token ∷ pointers rest) (pointers rest)) ≡ cond b (ref_count rest + 1) (ref_count rest)
-    by true e = omega (arith, e)
-    by false e = e
 
 pointers_more : (scope more : List Slot) → pointers (scope ++ more) ≡ pointers scope ++ pointers more
 pointers_more [] more = refl

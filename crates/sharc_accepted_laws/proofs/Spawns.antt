@@ -28,19 +28,20 @@ use Rattle.sharc_flat.specs.Suits.{IsScalar, Passes, Suits, ArgumentsSuit}
 use Rattle.sharc_invariant.specs.Labels.{Refers, Anything, Within, Signature, LessNumber, EntryMentions}
 use Rattle.sharc_invariant.specs.Typed.{IsShared}
 use Rattle.sharc_invariant.specs.Typed as typed
-use Rattle.sharc_labels_laws.specs.Stretches.{Setting}
-use Rattle.sharc_labels_laws.specs.Typable.{Handed, SpawnTyped}
-use Rattle.sharc_access_laws.specs.Typed.{IsOf}
-use Rattle.sharc_static_laws.specs.Calls.{argument_type}
-use Rattle.sharc_static_laws.specs.Laws.{IsAccepted}
-use Rattle.sharc_static_laws.specs.Starting.{BeginsAlone}
-use Rattle.sharc_typable_laws.specs.Typing.{width_named, integers, typing}
+use Rattle.sharc_typed_laws.specs.Stretches.{Setting}
+use Rattle.sharc_typed_laws.specs.Typable.{Handed, SpawnTyped}
+use Rattle.sharc_accepted_laws.specs.Typed.{IsOf}
+use Rattle.sharc_accepted_laws.specs.Calls.{argument_type}
+use Rattle.sharc_accepted_laws.specs.StaticLaws.{IsAccepted}
+use Rattle.sharc_accepted_laws.specs.Starting.{BeginsAlone}
+use Rattle.sharc_accepted_laws.specs.Typing.{width_named, integers, typing}
 use Rattle.sharc_accepted_laws.specs.Setting.{function_signature, signature_by, is_numbered, is_spawned, is_main, is_start, setting_of, IsSet}
 use Rattle.sharc_accepted_laws.proofs.Arguments.{parameters_declared, passes_scalar}
 use Rattle.sharc_accepted_laws.proofs.Calls.{of_all_there, alone_is, narrower_same}
 use Rattle.sharc_accepted_laws.proofs.Facts.{Laws, expression_of, has_type}
 use Rattle.sharc_accepted_laws.proofs.Forms.{or_left, pointer_no_integer, pointer_reference, integer_no_reference, to_integer, passes_of, spawn_typed, function_parameters}
-use Rattle.sharc_accepted_laws.proofs.Members.{of_each, place_there, head_there, any_passes}
+use Rattle.sharc_accepted_laws.proofs.Members.{any_passes}
+use Rattle.sharc_accepted_laws.proofs.TargetLists.{place_there, of_each, head_there}
 
 module _ (laws : Laws) (c : Context) (code : Code) (alone : ℕ → Bool) (lines : ℕ) (set : IsSet c.program c.globals code alone) (n : ℕ) (g : Function) where
   abbrev m : Assignment

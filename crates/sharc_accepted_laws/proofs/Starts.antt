@@ -24,30 +24,28 @@ use Rattle.sharc_flat.specs.Scope.{int_count, ref_count}
 use Rattle.sharc_flat.specs.Tables.{globals_of}
 use Rattle.sharc_invariant.specs.Labels.{Anything, Within, EntryMentions}
 use Rattle.sharc_invariant.specs.Typed.{IsPlain}
-use Rattle.sharc_access_laws.specs.Typed.{BasesStand}
-use Rattle.sharc_labels_laws.specs.Stretches.{Setting}
-use Rattle.sharc_statement_laws.specs.Functions.{IsLowTyping}
-use Rattle.sharc_statement_laws.specs.Programs.{StartTypable, MainTypable}
-use Rattle.sharc_static_laws.specs.Held.{held_named}
-use Rattle.sharc_static_laws.specs.Results.{ResultLaws}
-use Rattle.sharc_static_laws.specs.Standing.{FunctionsStand}
-use Rattle.sharc_static_laws.specs.Starting.{SpawnedBegin}
-use Rattle.sharc_static_laws.specs.Static.{pointers, variable_entry}
-use Rattle.sharc_target_laws.specs.Laws.{VariablesFound}
+use Rattle.sharc_accepted_laws.specs.Typed.{BasesStand}
+use Rattle.sharc_typed_laws.specs.Stretches.{Setting}
+use Rattle.sharc_typed_laws.specs.Functions.{IsLowTyping}
+use Rattle.sharc_typed_laws.specs.Programs.{StartTypable, MainTypable}
+use Rattle.sharc_accepted_laws.specs.Held.{held_named}
+use Rattle.sharc_accepted_laws.specs.Results.{ResultLaws}
+use Rattle.sharc_accepted_laws.specs.Standing.{FunctionsStand}
+use Rattle.sharc_accepted_laws.specs.Starting.{SpawnedBegin}
+use Rattle.sharc_accepted_laws.specs.Static.{pointers, variable_entry}
+use Rattle.sharc_accepted_laws.specs.TargetLaws.{VariablesFound}
 use Rattle.sharc_flat_laws.specs.Stands.{TypedSuits}
-use Rattle.sharc_typable_laws.specs.Typing.{typing}
+use Rattle.sharc_accepted_laws.specs.Typing.{typing}
 use Rattle.sharc_accepted_laws.specs.Setting.{signature_by, is_numbered, is_spawned, is_main, is_start, setting_of, IsSet}
 use Rattle.sharc_accepted_laws.specs.Expressions.{ExpressionsAreTypable}
 use Rattle.sharc_accepted_laws.specs.Programs.{ProgramsAreTypable}
 use Rattle.sharc_accepted_laws.proofs.Assigned.{Laws}
 use Rattle.sharc_accepted_laws.proofs.Functions.{TypeLaws, function_typable}
 use Rattle.sharc_accepted_laws.proofs.Linked.{linked}
-use Rattle.sharc_accepted_laws.proofs.Members.{got_low, place_there, place_of_element, passes_there}
-use Rattle.sharc_accepted_laws.proofs.Slots.{pointer_count}
-
-or_right : (a b : Bool) → b ≡ true → (a || b) ≡ true
-or_right true b h = refl
-or_right false b h = h
+use Rattle.sharc_accepted_laws.proofs.StaticRegisters.{pointer_count, got_low}
+use Rattle.sharc_accepted_laws.proofs.TargetLists.{place_there, place_of_element}
+use Rattle.sharc_accepted_laws.proofs.StaticLists.{passes_there}
+use Rattle.sharc_accepted_laws.proofs.Values.{or_right}
 
 -- what is held is in the register of a variable
 low_typing : IsLowTyping typing

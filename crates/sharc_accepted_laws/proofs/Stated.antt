@@ -4,7 +4,7 @@ use Rattle.std.specs.List.{AllByRecursion}
 use Rattle.sharc_tree.specs.declared.token.Span.{Span}
 use Rattle.sharc_tree.specs.Low.{LowSimple, LowFirst, LowStatement, LowStatements}
 use Rattle.sharc_tree.specs.Measures.{expressions, in_option, in_simple, in_local, in_first, in_head, in_statement, in_statements, in_function}
-use Rattle.sharc_tree.specs.Tree.{Expression, Right, value, Simple, assign, does_call, Local, First, nothing, declares, does, Head, Statement, Statements, no_statements, statement, Function}
+use Rattle.sharc_tree.specs.Tree.{Expression, Right, value, Simple, assign, does_call, Local, First, nothing, declares, does, Statement, Statements, no_statements, statement, Function}
 use Rattle.sharc_tree.specs.Tree as tree
 use Rattle.sharc_names.specs.declared.fault.Named.TheVariants as named
 use Rattle.sharc_names.specs.Kinds.{Kind, is_integer, declared_kind}
@@ -18,23 +18,23 @@ use Rattle.sharc_flat.specs.Flattened.{kind_of, parameters_scope, in_function as
 use Rattle.sharc_flat.specs.Scope.{Context}
 use Rattle.sharc_flat.specs.Suits.{Suits, Goes, SimpleSuits, InitialSuits, FirstSuits, TestSuits, IfThere, StatementSuits, StatementsSuit, in_first as suits_first, in_statement as suits_statement}
 use Rattle.sharc_invariant.specs.Labels.{Empty, Refers, Signature}
-use Rattle.sharc_labels_laws.specs.Stretches.{Setting}
-use Rattle.sharc_labels_laws.specs.Stated.{SimpleTypable}
-use Rattle.sharc_labels_laws.specs.Returned.{ReturnedBy, ReturnTypable}
-use Rattle.sharc_statement_laws.specs.Statements.{TestTypable, StepTypable, DeclaredTypable, FirstTypable, StatementTypable, StatementsTypable}
-use Rattle.sharc_static_laws.specs.Results.{ResultLaws}
-use Rattle.sharc_static_laws.specs.Standing.{ExpressionsStand, LocalStands, FirstStands, StatementStands, StatementsStand}
-use Rattle.sharc_static_laws.specs.Static.{result_type}
-use Rattle.sharc_target_laws.specs.Laws.{VariablesFound}
-use Rattle.sharc_typable_laws.specs.Typing.{typing}
+use Rattle.sharc_typed_laws.specs.Stretches.{Setting}
+use Rattle.sharc_typed_laws.specs.Stated.{SimpleTypable}
+use Rattle.sharc_typed_laws.specs.Returned.{ReturnedBy, ReturnTypable}
+use Rattle.sharc_typed_laws.specs.Statements.{TestTypable, StepTypable, DeclaredTypable, FirstTypable, StatementTypable, StatementsTypable}
+use Rattle.sharc_accepted_laws.specs.Results.{ResultLaws}
+use Rattle.sharc_accepted_laws.specs.Standing.{ExpressionsStand, LocalStands, FirstStands, StatementStands, StatementsStand}
+use Rattle.sharc_accepted_laws.specs.Static.{result_type}
+use Rattle.sharc_accepted_laws.specs.TargetLaws.{VariablesFound}
+use Rattle.sharc_accepted_laws.specs.Typing.{typing}
 use Rattle.sharc_accepted_laws.specs.Setting.{function_signature, signature_by}
 use Rattle.sharc_accepted_laws.specs.Statements.{IsPlaceIn, IsThere, AreExpressionsTypable}
 use Rattle.sharc_accepted_laws.proofs.Assigned.{Laws, function_there, at_there, SimpleGiven, simple_is}
 use Rattle.sharc_accepted_laws.proofs.Begun.{IsBegun, here_with, local_is}
 use Rattle.sharc_accepted_laws.proofs.Fresh.{LocalFresh, FirstFresh, StatementFresh, StatementsFresh}
-use Rattle.sharc_accepted_laws.proofs.Members.{front, back}
 use Rattle.sharc_accepted_laws.proofs.Sorts.{integer_is, integer_want, declared_pointer}
 use Rattle.sharc_accepted_laws.proofs.Wholes.{Facts}
+use Rattle.sharc_accepted_laws.proofs.Found.{front, back}
 
 -- ---- contexts
 same_first : (c : Context) (x : First) → suits_first c x ≡ behind_first c x

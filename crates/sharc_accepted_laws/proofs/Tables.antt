@@ -27,14 +27,15 @@ use Rattle.sharc_guard.specs.Known.{dropped}
 use Rattle.sharc_compile.specs.Made.{IsCodeOf}
 use Rattle.sharc_flat_laws.specs.Tables.{MadeTablesFit}
 use Rattle.sharc_invariant.specs.Typed.{AreGlobals}
-use Rattle.sharc_static_laws.specs.Alone.{SomeAreAlone}
-use Rattle.sharc_static_laws.specs.Laws.{IsAccepted}
-use Rattle.sharc_target_laws.specs.Granules.{GranulesAreFew}
-use Rattle.sharc_target_laws.specs.Laws.{IsCounted, CountedForm, HasTables, TargetsAre, GlobalsHold}
-use Rattle.sharc_target_laws.specs.Targets.{targets_of}
+use Rattle.sharc_accepted_laws.specs.Alone.{SomeAreAlone}
+use Rattle.sharc_accepted_laws.specs.StaticLaws.{IsAccepted}
+use Rattle.sharc_accepted_laws.specs.Granules.{GranulesAreFew}
+use Rattle.sharc_accepted_laws.specs.TargetLaws.{IsCounted, CountedForm, HasTables, TargetsAre, GlobalsHold}
+use Rattle.sharc_accepted_laws.specs.Targets.{targets_of}
 use Rattle.sharc_accepted_laws.specs.Programs.{AreUnsigned, CodeIsSet}
 use Rattle.sharc_accepted_laws.specs.Setting.{HasRow}
-use Rattle.sharc_accepted_laws.proofs.Members.{to_each, same_some, none_some, place_of_element}
+use Rattle.sharc_accepted_laws.proofs.TargetLists.{place_of_element, to_each, same_some}
+use Rattle.sharc_accepted_laws.proofs.TypableRegisters.{none_some}
 
 -- ---- rows
 record RowAt (made : List Row) (n : ℕ) (g : Function) : Type 0 where

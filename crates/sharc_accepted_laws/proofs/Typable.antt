@@ -34,16 +34,16 @@ use Rattle.sharc_flat.specs.Scope.{Context}
 use Rattle.sharc_flat.specs.Suits.{IsScalar, Either, is_cell, NameSuits, CallSuits, IndexSuits, TakeSuits, OperandsSuit, Suits, ArgumentsSuit, ReferencesSuit, PlaceSuits}
 use Rattle.sharc_flat.specs.Suits as suits
 use Rattle.sharc_invariant.specs.Types.{StaticType, cells_of}
-use Rattle.sharc_labels_laws.specs.Stretches.{Setting}
-use Rattle.sharc_labels_laws.specs.Typable.{type_by, IsPointer, CellTyped, ValueTyped, NameTyped, UnaryTyped, HasType, ElementTyped, IndexTypable, Takes, CallTyped, CallTypable, IsTypable, IsPlaceTypable, AreTypable}
-use Rattle.sharc_access_laws.specs.Accesses.{cells_in_each}
-use Rattle.sharc_access_laws.specs.Typed.{IsOf}
-use Rattle.sharc_static_laws.specs.Standing.{ExpressionStands}
-use Rattle.sharc_static_laws.specs.Static.{entry_of}
-use Rattle.sharc_target_laws.specs.Lvalues.{pointer_of}
-use Rattle.sharc_typable_laws.specs.Calling.{wants_of}
-use Rattle.sharc_typable_laws.specs.Laws.{OperandSuits}
-use Rattle.sharc_typable_laws.specs.Typing.{typing}
+use Rattle.sharc_typed_laws.specs.Stretches.{Setting}
+use Rattle.sharc_typed_laws.specs.Typable.{type_by, IsPointer, CellTyped, ValueTyped, NameTyped, UnaryTyped, HasType, ElementTyped, IndexTypable, Takes, CallTyped, CallTypable, IsTypable, IsPlaceTypable, AreTypable}
+use Rattle.sharc_accepted_laws.specs.Accesses.{cells_in_each}
+use Rattle.sharc_accepted_laws.specs.Typed.{IsOf}
+use Rattle.sharc_accepted_laws.specs.Standing.{ExpressionStands}
+use Rattle.sharc_accepted_laws.specs.Static.{entry_of}
+use Rattle.sharc_accepted_laws.specs.Lvalues.{pointer_of}
+use Rattle.sharc_accepted_laws.specs.Calling.{wants_of}
+use Rattle.sharc_accepted_laws.specs.TypableLaws.{OperandSuits}
+use Rattle.sharc_accepted_laws.specs.Typing.{typing}
 use Rattle.sharc_accepted_laws.specs.Expressions.{CellsTyped, ExpressionsAreTypable}
 use Rattle.sharc_accepted_laws.specs.Setting.{setting_of, IsSet}
 use Rattle.sharc_accepted_laws.proofs.Arguments.{IsValued, AllSuit, AllGo, Parts, part_of, first_part, second_part, suit_all}

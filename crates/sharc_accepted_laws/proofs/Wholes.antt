@@ -24,9 +24,10 @@ use Rattle.sharc_ctype_laws.specs.Declared.{IsItself, NamesOwn}
 use Rattle.sharc_ctype_laws.specs.Laws.{EachNamesItself, EachNamesOwn, ArePlain, IsPlain, MeetsConstraints}
 use Rattle.sharc_flat.specs.Places.{Target, variable, in_global_at, in_object_at, target, named_target, own_field}
 use Rattle.sharc_flat.specs.Suits.{is_cell}
-use Rattle.sharc_static_laws.specs.Laws.{IsAccepted}
+use Rattle.sharc_accepted_laws.specs.StaticLaws.{IsAccepted}
 use Rattle.sharc_mode.specs.Moded.{Assignment}
-use Rattle.sharc_accepted_laws.proofs.Members.{of_each, head_or_tail, place_there, same_some}
+use Rattle.sharc_accepted_laws.proofs.TargetLists.{place_there, of_each, head_or_tail, same_some}
+use Rattle.sharc_accepted_laws.proofs.Typed.{and_false}
 
 -- ---- variables are no structs
 named_plain : (r : Resolution) (own : List Declaration) → AllByRecursion (IsItself r named.Variable) own → AllByRecursion (λ d. is_aggregate (declared_kind d.written) ≡ false) own
@@ -81,10 +82,6 @@ some_star n = by (n + 1 == 0) refl
     by : (z : Bool) → (n + 1 == 0) ≡ z → z ≡ false
     by true h = let e = eqb-true (n + 1) 0 h in absurd (omega (arith, e))
     by false h = refl
-
-and_false : (b : Bool) → (b && false) ≡ false
-and_false true = refl
-and_false false = refl
 
 pointer_plain : (k : Kind) → IsPointer k → is_aggregate k ≡ false
 pointer_plain k (b, n, is) = ap is_aggregate is ∙ ap (λ z. (z && is_struct_base b) || (same_base b Mutex && z)) (some_star n) ∙ and_false (same_base b Mutex)

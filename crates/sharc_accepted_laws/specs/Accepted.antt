@@ -8,9 +8,9 @@ use Rattle.sharc_flat.specs.Laws.{FitsMade}
 use Rattle.sharc_compile.specs.Made.{IsCodeOf}
 use Rattle.sharc_invariant.specs.Labels.{Labels}
 use Rattle.sharc_invariant.specs.Typed.{IsWellTyped}
-use Rattle.sharc_statement_laws.specs.Programs.{AreGlobalsNamed}
-use Rattle.sharc_static_laws.specs.Laws.{IsAccepted}
-use Rattle.sharc_target_laws.specs.Targets.{targets_of}
+use Rattle.sharc_typed_laws.specs.Programs.{AreGlobalsNamed}
+use Rattle.sharc_accepted_laws.specs.StaticLaws.{IsAccepted}
+use Rattle.sharc_accepted_laws.specs.Targets.{targets_of}
 use Rattle.sharc_accepted_laws.specs.Programs.{AreUnsigned}
 use Rattle.sharc_accepted_laws.specs.Setting.{ConstantsHold}
 

@@ -13,12 +13,12 @@ use Rattle.sharc_flat.specs.Flattened.{kind_of, target_of, guard_of}
 use Rattle.sharc_flat.specs.Scope.{Context}
 use Rattle.sharc_flat.specs.Suits.{IsScalar, is_cell, Suits, PlaceSuits}
 use Rattle.sharc_invariant.specs.Types.{StaticType, Content, MutexWord, Waiters}
-use Rattle.sharc_labels_laws.specs.Stretches.{Setting}
-use Rattle.sharc_labels_laws.specs.Typable.{type_by, FirstCell, IsTypable, IsPlaceTypable}
-use Rattle.sharc_access_laws.specs.Joined.{PathLeads, BaseStands}
-use Rattle.sharc_access_laws.specs.Typed.{IsOf, LvalueTyped}
-use Rattle.sharc_static_laws.specs.Static.{entry_of}
-use Rattle.sharc_typable_laws.specs.Typing.{typing}
+use Rattle.sharc_typed_laws.specs.Stretches.{Setting}
+use Rattle.sharc_typed_laws.specs.Typable.{type_by, FirstCell, IsTypable, IsPlaceTypable}
+use Rattle.sharc_accepted_laws.specs.Joined.{PathLeads, BaseStands}
+use Rattle.sharc_accepted_laws.specs.Typed.{IsOf, LvalueTyped}
+use Rattle.sharc_accepted_laws.specs.Static.{entry_of}
+use Rattle.sharc_accepted_laws.specs.Typing.{typing}
 use Rattle.sharc_accepted_laws.specs.Setting.{setting_of, IsSet}
 
 -- ---- what is asked of cells

@@ -1,4 +1,4 @@
--- Programs that are accepted: they are typable where their expressions are, and their code has what sharc_statement_laws asks of it.
+-- Programs that are accepted: they are typable where their expressions are, and their code has what sharc_typed_laws asks of it.
 use Rattle.std.specs.Prelude.{ℕ, ◌≡◌, Bool, pos, length, Some}
 use Rattle.sharc_tree.specs.declared.token.Number.{Number}
 use Rattle.sharc_tree.specs.declared.token.Span.{Span}
@@ -15,9 +15,9 @@ use Rattle.sharc_flat_form.specs.Made.{flat_of}
 use Rattle.sharc_flat.specs.Flattens.{Flattens}
 use Rattle.sharc_flat.specs.Tables.{globals_of}
 use Rattle.sharc_compile.specs.Made.{IsCodeOf}
-use Rattle.sharc_statement_laws.specs.Programs.{IsSettingOf, TypableProgram}
-use Rattle.sharc_static_laws.specs.Laws.{IsAccepted}
-use Rattle.sharc_typable_laws.specs.Typing.{typing}
+use Rattle.sharc_typed_laws.specs.Programs.{IsSettingOf, TypableProgram}
+use Rattle.sharc_accepted_laws.specs.StaticLaws.{IsAccepted}
+use Rattle.sharc_accepted_laws.specs.Typing.{typing}
 use Rattle.sharc_accepted_laws.specs.Setting.{ConstantsHold, IsSet, setting_of}
 use Rattle.sharc_accepted_laws.specs.Statements.{IsPlaceIn}
 use Rattle.sharc_accepted_laws.specs.Expressions.{CellsTyped}

@@ -25,13 +25,13 @@ use Rattle.sharc_flat.specs.Places.{width_of}
 use Rattle.sharc_flat.specs.Scope.{Context, int_count}
 use Rattle.sharc_flat.specs.Tables.{globals_of}
 use Rattle.sharc_invariant.specs.Labels.{Empty, Refers, Anything, Within, Signature}
-use Rattle.sharc_labels_laws.specs.Stretches.{Setting}
-use Rattle.sharc_static_laws.specs.Alone.{AreAlone}
-use Rattle.sharc_static_laws.specs.Laws.{IsAccepted}
-use Rattle.sharc_static_laws.specs.Static.{variable_entry, result_type}
-use Rattle.sharc_target_laws.specs.Laws.{HasTables}
-use Rattle.sharc_target_laws.specs.Targets.{targets_of}
-use Rattle.sharc_typable_laws.specs.Typing.{typing}
+use Rattle.sharc_typed_laws.specs.Stretches.{Setting}
+use Rattle.sharc_accepted_laws.specs.Alone.{AreAlone}
+use Rattle.sharc_accepted_laws.specs.StaticLaws.{IsAccepted}
+use Rattle.sharc_accepted_laws.specs.Static.{variable_entry, result_type}
+use Rattle.sharc_accepted_laws.specs.TargetLaws.{HasTables}
+use Rattle.sharc_accepted_laws.specs.Targets.{targets_of}
+use Rattle.sharc_accepted_laws.specs.Typing.{typing}
 
 -- ---- signatures
 -- Of a function with these parameters in scope: it takes what its parameters hold, and gives a reference of its result's type, or an integer that its result's type holds.

@@ -10,13 +10,13 @@ use Rattle.sharc_mode_laws.specs.Constructs.{IsAssigned}
 use Rattle.sharc_flat.specs.Flattened.{kind_of, is_ref, target_of, guard_of}
 use Rattle.sharc_flat.specs.Scope.{Context}
 use Rattle.sharc_flat.specs.Suits.{Suits, PlaceSuits, IsScalar, is_cell}
-use Rattle.sharc_labels_laws.specs.Stated.{CellAssigned}
-use Rattle.sharc_labels_laws.specs.Stretches.{Setting}
-use Rattle.sharc_labels_laws.specs.Typable.{type_by, IsTypable, IsPlaceTypable}
-use Rattle.sharc_static_laws.specs.Scopes.{IsClosedScope}
-use Rattle.sharc_static_laws.specs.Standing.{ExpressionsStand}
-use Rattle.sharc_static_laws.specs.Static.{entry_of}
-use Rattle.sharc_typable_laws.specs.Typing.{typing}
+use Rattle.sharc_typed_laws.specs.Stated.{CellAssigned}
+use Rattle.sharc_typed_laws.specs.Stretches.{Setting}
+use Rattle.sharc_typed_laws.specs.Typable.{type_by, IsTypable, IsPlaceTypable}
+use Rattle.sharc_accepted_laws.specs.Scopes.{IsClosedScope}
+use Rattle.sharc_accepted_laws.specs.Standing.{ExpressionsStand}
+use Rattle.sharc_accepted_laws.specs.Static.{entry_of}
+use Rattle.sharc_accepted_laws.specs.Typing.{typing}
 use Rattle.sharc_accepted_laws.specs.Setting.{setting_of, IsSet}
 
 -- ---- where parts of a function stand

@@ -14,7 +14,7 @@ use Rattle.sharc_build.specs.declared.building.BuildFault.TheVariants.{Source, M
 
 -- It is this program, with its least modes, which meet the rules M1 to M11; and this is its code, whose numbers are in the
 -- ranges that the machine asks for. So the code is faithful to the program (`built_is_faithful` of sharc_sound_laws), and
--- what every interleaving of it keeps is said by the laws of sharc_built_laws.
+-- what every interleaving of it keeps is said by the laws of sharc_sound_laws.
 pub record IsBuilt (source : List ℕ) (built : Built) : Type 0 where
   pub front : IsFront source built.checked
   pub accepted : MeetsRules built.checked

@@ -1,5 +1,5 @@
 -- A pointer cell that refers to an object by the events does so by the words, but where a Free empties its object.
-use Rattle.std.proofs.Common.{◌≡◌, ◌≢◌, ℕ, zero, suc, ◌+◌, ◌*◌, ◌/◌, ◌^◌, ◌<◌, ◌⊎◌, inl, inr, true, cond, ◌&&◌, List, refl, sym, ap, ◌∙◌, subst, ⊎_elim, arith, ltb-true}
+use Rattle.std.proofs.Common.{◌≡◌, ◌≢◌, ℕ, ◌+◌, ◌*◌, ◌/◌, ◌^◌, ◌<◌, ◌⊎◌, inl, inr, true, cond, ◌&&◌, List, refl, sym, ap, ◌∙◌, subst, ⊎_elim, arith, ltb-true}
 use Rattle.std.specs.Prelude.{slice_index, nat_lt}
 use Rattle.std.proofs.lemmas.Bool.{and_parts}
 use Rattle.sharc_tree.specs.declared.event.CellAt.{CellAt}
@@ -7,7 +7,7 @@ use Rattle.sharc_ctype.specs.Resolved.{Resolution}
 use Rattle.sharc_code.specs.declared.code.Code.{Code}
 use Rattle.sharc_code.specs.declared.shape.Shape.{Shape}
 use Rattle.sharc_code.specs.Laws.{RunLaws}
-use Rattle.sharc_code.specs.Layout.{Fits, cell_word, cell_of, length_word}
+use Rattle.sharc_code.specs.Layout.{Fits, cell_word, cell_of}
 use Rattle.sharc_code.specs.Machine.{Machine}
 use Rattle.sharc_code.specs.Opening.{opening_words}
 use Rattle.sharc_code.specs.Runs.{Turn, Global, IsRun, opening_of}
@@ -16,7 +16,7 @@ use Rattle.sharc_code.specs.Whole.{one_thread, bounds, place_after}
 use Rattle.sharc_gen.specs.OfRuns.{table_of}
 use Rattle.sharc_meaning.specs.References.{refers}
 use Rattle.sharc_meaning.specs.Store.{value_after}
-use Rattle.sharc_invariant.specs.Types.{Targets, field_in, is_pointer, cells_of}
+use Rattle.sharc_invariant.specs.Types.{Targets, field_in, is_pointer}
 use Rattle.sharc_invariant.specs.Labels.{Labels}
 use Rattle.sharc_invariant.specs.Typed.{IsWellTyped}
 use Rattle.sharc_invariant.specs.World.{Cell as CellOf, ObjectState, World}
@@ -36,7 +36,7 @@ use Rattle.sharc_history_laws.proofs.Kept.{referred}
 use Rattle.sharc_history_laws.proofs.Locked.{Names}
 use Rattle.sharc_history_laws.proofs.OneMode.{place_of}
 use Rattle.sharc_history_laws.proofs.Rules.{newest}
-use Rattle.sharc_history_laws.proofs.SeenCells.{Seen, seen, cell_word_is, clears, holds_reference, length_is, names, ne_zero, number_is, place_is, pointer_value}
+use Rattle.sharc_history_laws.proofs.SeenCells.{Seen, seen, cell_word_is, cells_are, clears, holds_reference, names, number_is, place_is, pointer_value}
 use Rattle.sharc_history_laws.proofs.Shared.{number_of, some_closing}
 use Rattle.sharc_history_laws.proofs.Unemptied.{on_hold}
 use Rattle.sharc_history_laws.proofs.Unwritten.{emptying}
@@ -58,17 +58,8 @@ module _ (state_law : StateStands) (cell_laws : CellsAreThere) (x : Targets) (co
   inside_parts : (nat_lt i (cells_now x s (place_after code s run) k.consists.world.obj p) ≡ true) × (is_pointer (field_in x (k.consists.world.obj p).ty i).holds ≡ true)
   inside_parts = and_parts (nat_lt i (cells_now x s (place_after code s run) k.consists.world.obj p)) (is_pointer (field_in x (k.consists.world.obj p).ty i).holds) parts.1
 
-  cells_are : (p : ℕ) → (k.consists.world.obj p).live ≡ true → cells_now x s (place_after code s run) k.consists.world.obj p ≡ k.consists.state.cells p
-  cells_are zero live = sym st.globals_cells
-  cells_are (suc q) live =
-      let o = suc q in
-      let some : o ≢ 0 = λ e. cc in
-      let long : st.elements o ≡ slice_index g.words (length_word s o) = st.sim.lengths o some live ∙ ap (λ i. slice_index g.words i) (sym (length_is s o (st.apart.headers o live))) in
-      ap (λ b. cond b (2 * s.globals) (slice_index g.words (length_word s o) * cells_of x (world.obj o).ty.target)) (ne_zero o some)
-      ∙ ap (λ n. n * cells_of x (world.obj o).ty.target) (sym long) ∙ sym (st.whole o some live).1
-
   inside : i < k.consists.state.cells p
-  inside = subst (λ n. i < n) (cells_are p parts.0) (ltb-true i (cells_now x s g world.obj p) inside_parts.0)
+  inside = subst (λ n. i < n) (cells_are x code s ls g world st p parts.0) (ltb-true i (cells_now x s g world.obj p) inside_parts.0)
 
   abbrev word : ℕ
   word = slice_index (place_after code s run).words (Words.cell_at s p i)

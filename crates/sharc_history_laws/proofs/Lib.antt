@@ -1,4 +1,5 @@
 pub mod Acts
+pub mod Behind
 pub mod Born
 pub mod Arriving
 pub mod Awaited
@@ -81,3 +82,4 @@ pub mod Past
 pub mod Unread
 pub mod Kept
 pub mod KeptCells
+pub mod KeptPointers

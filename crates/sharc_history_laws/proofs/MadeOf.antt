@@ -1,4 +1,4 @@
--- The pointer cells of a made object are among those that its last New made pointers.
+-- The pointer cells of a made object are those that its last New made pointers.
 use Rattle.std.proofs.Common.{◌≡◌, ℕ, ◌%◌, ◌<◌, ◌≢◌, true, false, cond, length, List, [], ◌∷◌, Option, Some, None, refl, sym, ap, ◌∙◌, subst, ⊎_elim, arith}
 use Rattle.std.specs.Prelude.{find, slice_index_or}
 use Rattle.std.proofs.lemmas.Bool.{cases_eq}
@@ -40,17 +40,18 @@ use Rattle.sharc_history_laws.proofs.Lists.{Newest, latest_is, is_live_in}
 use Rattle.sharc_history_laws.proofs.Living.{LivesTold, lives_told}
 use Rattle.sharc_history_laws.proofs.Rules.{pushed, newest, newest_now, about_now, number_yes, number_not, same_behind, freed_gone, decide}
 use Rattle.sharc_history_laws.proofs.Tables.{header_at, header_in, header_of, was_live}
+use Rattle.sharc_history_laws.proofs.Valued.{header_some}
 use Rattle.sharc_history_laws.proofs.Values.{field_is, fine as give_fine, old_target, new_target as cast_target}
 
 yes : true ≡ false → ⊥
 yes e = cc
 
 -- ---- the last New of an object
--- it is this event, and where a cell of an object of this target is a pointer, it is one of what is made there
+-- it is this event, and a cell of an object of this target is a pointer where it is one of what is made there
 pub record MadeAt (x : Targets) (L : Newest) (p target : ℕ) : Type 0 where
   pub event : SourceEvent
   pub last : find (makes (objects.Made p)) L ≡ Some event
-  pub cells : (i : ℕ) → is_pointer (field_of_cell x target i).holds ≡ true → x.is_made_pointer event.site.token i ≡ true
+  pub cells : (i : ℕ) → is_pointer (field_of_cell x target i).holds ≡ x.is_made_pointer event.site.token i
 
 abbrev pub AreMade : Targets → Newest → (ℕ → ObjectState) → Type 0
 AreMade x L obj = (p : ℕ) → p ≢ 0 → (obj p).live ≡ true → MadeAt x L p (obj p).ty.target
@@ -61,12 +62,12 @@ token_said (Some e) = e.site.token
 
 module _ (x : Targets) (L : Newest) (p : ℕ) where
   -- a turn that makes the object
-  made_begins : (target token : ℕ) (ev : Option SourceEvent) → made_said ev ≡ Some p → token_said ev ≡ token → ((i : ℕ) → is_pointer (field_of_cell x target i).holds ≡ true → x.is_made_pointer token i ≡ true) → MadeAt x (pushed ev L) p target
+  made_begins : (target token : ℕ) (ev : Option SourceEvent) → made_said ev ≡ Some p → token_said ev ≡ token → ((i : ℕ) → is_pointer (field_of_cell x target i).holds ≡ x.is_made_pointer token i) → MadeAt x (pushed ev L) p target
   made_begins target token None made same cells = absurd (cc)
   made_begins target token (Some e) made same cells = record {
     event = e;
     last = ap (λ b. cond b (Some e) (find (makes (objects.Made p)) L)) (ap (is_number p) made ∙ number_yes p);
-    cells = λ i is. subst (λ n. x.is_made_pointer n i ≡ true) (sym same) (cells i is);
+    cells = λ i. cells i ∙ ap (λ n. x.is_made_pointer n i) (sym same);
   }
 
   -- one that does not
@@ -78,28 +79,36 @@ module _ (x : Targets) (L : Newest) (p : ℕ) where
     cells = k.cells;
   }
 
-  -- another target, of whose cells no more are pointers
-  made_as : (old new : ℕ) → ((i : ℕ) → is_pointer (field_of_cell x new i).holds ≡ true → is_pointer (field_of_cell x old i).holds ≡ true) → MadeAt x L p old → MadeAt x L p new
-  made_as old new fewer k = record { event = k.event; last = k.last; cells = λ i is. k.cells i (fewer i is) }
+  -- another target, of which the same cells are pointers
+  made_as : (old new : ℕ) → ((i : ℕ) → is_pointer (field_of_cell x new i).holds ≡ is_pointer (field_of_cell x old i).holds) → MadeAt x L p old → MadeAt x L p new
+  made_as old new same k = record { event = k.event; last = k.last; cells = λ i. same i ∙ k.cells i }
+
+-- no New makes object 0, that of the globals
+abbrev pub NoneIsGlobals : Newest → Type 0
+NoneIsGlobals L = find (makes (objects.Made 0)) L ≡ None
 
 -- ---- casts
-same_kind : (l : Label) (r : ℕ) (s t : StaticType) (a b : Content) → IsSameContent l r s t a b → is_pointer b ≡ true → is_pointer a ≡ true
-same_kind l r s t (Pointer f) b same is = refl
-same_kind l r s t (Integer w) b same is = ap is_pointer same ∙ is
-same_kind l r s t MutexWord b same is = ap is_pointer same ∙ is
-same_kind l r s t Waiters b same is = ap is_pointer same ∙ is
+same_kind : (l : Label) (r : ℕ) (s t : StaticType) (a b : Content) → IsSameContent l r s t a b → is_pointer b ≡ is_pointer a
+same_kind l r s t (Pointer f) (Pointer g) same = refl
+same_kind l r s t (Pointer f) (Integer w) same = ap is_pointer (sym same)
+same_kind l r s t (Pointer f) MutexWord same = ap is_pointer (sym same)
+same_kind l r s t (Pointer f) Waiters same = ap is_pointer (sym same)
+same_kind l r s t (Integer w) b same = ap is_pointer (sym same)
+same_kind l r s t MutexWord b same = ap is_pointer (sym same)
+same_kind l r s t Waiters b same = ap is_pointer (sym same)
 
 none_there : (fs : List Field) (k : ℕ) → length fs ≡ 0 → is_pointer (slice_index_or fs k no_field).holds ≡ false
 none_there [] k e = refl
 none_there (f ∷ fs) k e = absurd (omega arith)
 
 module _ (x : Targets) (l : Label) (r : ℕ) (s t : StaticType) (k : Recasts x l r s t) where
-  cast_pointer : (i : ℕ) → is_pointer (field_of_cell x t.target i).holds ≡ true → is_pointer (field_of_cell x s.target i).holds ≡ true
-  cast_pointer i is = ⊎_elim
-      (λ (z : cells_of x t.target ≡ 0). absurd (yes (sym is ∙ none_there (row_of x t.target).fields (i % cells_of x t.target) z)))
+  cast_pointer : (i : ℕ) → is_pointer (field_of_cell x t.target i).holds ≡ is_pointer (field_of_cell x s.target i).holds
+  cast_pointer i = ⊎_elim
+      (λ (z : cells_of x t.target ≡ 0).
+      none_there (row_of x t.target).fields (i % cells_of x t.target) z ∙ sym (none_there (row_of x s.target).fields (i % cells_of x s.target) (k.cells ∙ z)))
       (λ (nz : cells_of x t.target ≡ 0 → ⊥).
       let within : i % cells_of x s.target < cells_of x s.target = rest i (cells_of x s.target) (λ z. nz (sym k.cells ∙ z)) in
-      same_kind l r s t _ _ (k.same (i % cells_of x s.target) within) (ap (λ n. is_pointer (field_at x t.target (i % n)).holds) k.cells ∙ is))
+      ap (λ n. is_pointer (field_at x t.target (i % n)).holds) (sym k.cells) ∙ same_kind l r s t _ _ (k.same (i % cells_of x s.target) within))
       (cases_eq (cells_of x t.target) 0)
     where
       rest : (a b : ℕ) → b ≢ 0 → a % b < b
@@ -198,6 +207,15 @@ module _ (cell_laws : CellsAreThere) (pointers : PointersAreThere) (rights : Acc
     now_made : Made
     now_made = ⊎_elim begun stayed (decide (header_of i m.own.stage) p)
 
+  none_pushed : (L : Newest) → NoneIsGlobals L → (o : Option SourceEvent) → ev ≡ o → NoneIsGlobals (pushed o L)
+  none_pushed L old None is = old
+  none_pushed L old (Some e) is =
+      let other : makes (objects.Made 0) e ≡ false = number_not 0 (made_said (Some e)) (λ q. header_some cell_laws pointers rights laws keeps x code s ls wt fits few one earlier h may 0 (sym tells.makes ∙ ap made_said is ∙ q) refl) in
+      ap (λ b. cond b (Some e) (find (makes (objects.Made 0)) L)) other ∙ old
+
+  pub none_then : (L : Newest) → NoneIsGlobals L → NoneIsGlobals (pushed ev L)
+  none_then L old = none_pushed L old ev refl
+
   pub made_then : (L : Newest) → AreMade x L h.world.obj → AreMade x (pushed ev L) then_.world.obj
   made_then L old p nz live' = now_made L old p nz live'
 
@@ -206,14 +224,16 @@ pub record MadeInRun (x : Targets) (code : Code) (s : Shape) (ls : Labels) (run 
   pub consists : Consists x code s ls run
   pub lives : LivesTold (newest code s run) consists.world.obj
   pub made : AreMade x (newest code s run) consists.world.obj
+  pub none : NoneIsGlobals (newest code s run)
   pub same : consists.world.obj ≡ objects_after code s ls (first_place code s) (first_world x).obj run
 
 module _ (cell_laws : CellsAreThere) (pointers : PointersAreThere) (rights : AccessesAreAllowed) (laws : RunLaws) (begins_law : CodeBegins) (keeps : Keeps) (x : Targets) (code : Code) (s : Shape) (ls : Labels) (wt : IsWellTyped x code ls) (fits : Fits code s) (few : IsSmall code s) where
-  made_in : (run : List Turn) → IsRun bounds (one_thread code s) (opening_of bounds (one_thread code s) (opening_words code s)) run → MadeInRun x code s ls run
+  pub made_in : (run : List Turn) → IsRun bounds (one_thread code s) (opening_of bounds (one_thread code s) (opening_words code s)) run → MadeInRun x code s ls run
   made_in [] run = record {
     consists = at_first begins_law x code s ls wt fits;
     lives = λ n live. absurd (yes (sym live));
     made = λ p nz live. absurd (none_live begins_law x code s ls wt fits p nz live);
+    none = refl;
     same = refl;
   }
   made_in (one ∷ earlier) run =
@@ -232,14 +252,30 @@ module _ (cell_laws : CellsAreThere) (pointers : PointersAreThere) (rights : Acc
             (about_now cell_laws pointers rights laws keeps x code s ls wt fits few one earlier h may));
         made = subst (λ (L : Newest). AreMade x L then'.world.obj) (sym now)
             (made_then cell_laws pointers rights laws keeps x code s ls wt fits few one earlier h may L old.made);
+        none = subst NoneIsGlobals (sym now) (none_then cell_laws pointers rights laws keeps x code s ls wt fits few one earlier h may L old.none);
         same = then_objects ∙ ap (objects_now code s ls (place_after code s earlier) one) old.same;
       }
 
+  -- no object that is made is that of the globals
+  pub some_made : (run : List Turn) → IsRun bounds (one_thread code s) (opening_of bounds (one_thread code s) (opening_words code s)) run → (p : ℕ) (e : SourceEvent) → latest (makes (objects.Made p)) (history_of code s run) ≡ Some e → p ≢ 0
+  some_made run is_run p e last z =
+      let none : find (makes (objects.Made 0)) (newest code s run) ≡ None = (made_in run is_run).none in
+      let made : find (makes (objects.Made 0)) (newest code s run) ≡ Some e = sym (latest_is (makes (objects.Made 0)) (newest code s run)) ∙ ap (λ n. latest (makes (objects.Made n)) (history_of code s run)) (sym z) ∙ last in
+      let f : None ≡ Some e = sym none ∙ made in
+      absurd (cc)
+
+  -- an object that is live by the events is so by the turns
+  pub lives_in : (run : List Turn) → IsRun bounds (one_thread code s) (opening_of bounds (one_thread code s) (opening_words code s)) run → (p : ℕ) → is_live (history_of code s run) (objects.Made p) ≡ true
+      → (objects_after code s ls (first_place code s) (first_world x).obj run p).live ≡ true
+  lives_in run is_run p live =
+      let k = made_in run is_run in
+      ap (λ (f : ℕ → ObjectState). (f p).live) (sym k.same) ∙ k.lives p (sym (is_live_in (newest code s run) p) ∙ live)
+
   -- by the objects of the turns
   pub pointers_made : (run : List Turn) → IsRun bounds (one_thread code s) (opening_of bounds (one_thread code s) (opening_words code s)) run → (p i : ℕ) → p ≢ 0 → is_live (history_of code s run) (objects.Made p) ≡ true
-      → is_pointer (field_in x (objects_after code s ls (first_place code s) (first_world x).obj run p).ty i).holds ≡ true
-      → (e : SourceEvent) × (latest (makes (objects.Made p)) (history_of code s run) ≡ Some e) × (x.is_made_pointer e.site.token i ≡ true)
-  pointers_made run is_run p i nz live is =
+      → (e : SourceEvent) × (latest (makes (objects.Made p)) (history_of code s run) ≡ Some e)
+      × (is_pointer (field_in x (objects_after code s ls (first_place code s) (first_world x).obj run p).ty i).holds ≡ x.is_made_pointer e.site.token i)
+  pointers_made run is_run p i nz live =
       let k = made_in run is_run in
       let st = k.consists.state in
       let world = k.consists.world in
@@ -247,5 +283,6 @@ module _ (cell_laws : CellsAreThere) (pointers : PointersAreThere) (rights : Acc
       let there : (world.obj p).live ≡ true = k.lives p (sym (is_live_in L p) ∙ live) in
       let made = k.made p nz there in
       let field = field_is x code s ls (place_after code s run) world st p i nz there in
-      let pointer : is_pointer (field_in x (world.obj p).ty i).holds ≡ true = ap (λ (f : ℕ → ObjectState). is_pointer (field_in x (f p).ty i).holds) k.same ∙ is in
-      (made.event, latest_is (makes (objects.Made p)) L ∙ made.last, made.cells i (ap (λ (f : Field). is_pointer f.holds) (sym field) ∙ pointer))
+      let same : is_pointer (field_in x (objects_after code s ls (first_place code s) (first_world x).obj run p).ty i).holds ≡ is_pointer (field_in x (world.obj p).ty i).holds =
+      ap (λ (f : ℕ → ObjectState). is_pointer (field_in x (f p).ty i).holds) (sym k.same) in
+      (made.event, latest_is (makes (objects.Made p)) L ∙ made.last, same ∙ ap (λ (f : Field). is_pointer f.holds) field ∙ made.cells i)

@@ -37,6 +37,7 @@ use Rattle.sharc_invariant.specs.Laws.{Keeps, Begins as CodeBegins, CellsAreTher
 use Rattle.sharc_history_laws.specs.History.{history_of}
 use Rattle.sharc_history_laws.specs.Stores.{BeginsWith}
 use Rattle.sharc_history_laws.specs.SeenCells.{is_clearing, IsCellIn, IsLiveBy, IsBeingFreed, RefersBy, CellIsSeen}
+use Rattle.sharc_history_laws.proofs.Behind.{AreFirst, first_then}
 use Rattle.sharc_history_laws.proofs.Consists.{Consists, consists_then, objects_then, at_first, none_live}
 use Rattle.sharc_history_laws.proofs.Contents.{newest_value, value_is, value_held, IsCellOf, content_of, word_of_cell, Contents}
 use Rattle.sharc_history_laws.proofs.Emptying.{IsEmptied, is_emptying}
@@ -100,6 +101,17 @@ cell_word_is s o c lt =
     let q : cell_word s (cell_of o c) ≡ w = rw e refl in
     q ∙ (let z : w ≡ Words.cell_at s o c = omega arith in z)
 
+-- so many cells an object has by its words
+module _ (x : Targets) (code : Code) (s : Shape) (ls : Labels) (g : Global Machine) (world : World) (st : State x code s ls g world) where
+  pub cells_are : (p : ℕ) → (world.obj p).live ≡ true → cells_now x s g world.obj p ≡ st.cells p
+  cells_are zero live = sym st.globals_cells
+  cells_are (suc q) live =
+      let o = suc q in
+      let some : o ≢ 0 = λ e. cc in
+      let long : st.elements o ≡ slice_index g.words (length_word s o) = st.sim.lengths o some live ∙ ap (λ i. slice_index g.words i) (sym (length_is s o (st.apart.headers o live))) in
+      ap (λ b. cond b (2 * s.globals) (slice_index g.words (length_word s o) * cells_of x (world.obj o).ty.target)) (ne_zero o some)
+      ∙ ap (λ n. n * cells_of x (world.obj o).ty.target) (sym long) ∙ sym (st.whole o some live).1
+
 -- the cell of the source in the world
 pub number_is : (code : Code) (a : Object) (cell p i : ℕ) → IsCellIn code a cell p i → number_of a ≡ p
 number_is code (objects.Made n) cell p i h = h.0
@@ -127,6 +139,7 @@ pub record Seen (r : Resolution) (x : Targets) (code : Code) (s : Shape) (ls : L
   pub consists : Consists x code s ls run
   pub objects : ObjectsTold (newest code s run) consists.world.obj
   pub contents : Contents r x code s (newest code s run) (table_of code s run) (place_after code s run) consists.world consists.state.cells
+  pub behind : AreFirst r code (newest code s run) consists.world consists.state.cells
   pub same : consists.world.obj ≡ objects_after code s ls (first_place code s) (first_world x).obj run
 
 module _ (state_law : StateStands) (cell_laws : CellsAreThere) (pointers : PointersAreThere) (rights : AccessesAreAllowed) (laws : RunLaws) (begins_law : CodeBegins) (keeps : Keeps) (x : Targets) (code : Code) (s : Shape) (ls : Labels) (wt : IsWellTyped x code ls) (fits : Fits code s) (few : IsSmall code s)
@@ -138,6 +151,7 @@ module _ (state_law : StateStands) (cell_laws : CellsAreThere) (pointers : Point
         consists = at_first begins_law x code s ls wt fits;
         objects = record { live = λ n nz live. absurd (never n nz live); owner = λ n nz live. absurd (never n nz live) };
         contents = contents_first begins_law x code s ls wt fits r first;
+        behind = λ c _. refl;
         same = refl;
       }
   seen (one ∷ earlier) run =
@@ -157,6 +171,7 @@ module _ (state_law : StateStands) (cell_laws : CellsAreThere) (pointers : Point
             (about_now cell_laws pointers rights laws keeps x code s ls wt fits few one earlier h may));
         contents = subst (λ (L : Newest). Contents r x code s L (table_of code s (one ∷ earlier)) (place_after code s (one ∷ earlier)) then'.world then'.state.cells) (sym now)
             (contents_then cell_laws pointers rights laws keeps x code s ls wt fits few one earlier h may r L old.contents);
+        behind = subst (λ (L : Newest). AreFirst r code L then'.world then'.state.cells) (sym now) (first_then cell_laws pointers rights laws keeps x code s ls wt fits few one earlier h may r L old.behind);
         same = then_objects ∙ ap (objects_now code s ls (place_after code s earlier) one) old.same;
       }
 
@@ -189,17 +204,8 @@ module _ (state_law : StateStands) (cell_laws : CellsAreThere) (pointers : Point
     pub pointer : is_pointer (field_in x (k.consists.world.obj p).ty i).holds ≡ true
     pointer = inside_parts.1
 
-    cells_are : (p : ℕ) → (k.consists.world.obj p).live ≡ true → cells_now x s (place_after code s run) k.consists.world.obj p ≡ k.consists.state.cells p
-    cells_are zero live = sym st.globals_cells
-    cells_are (suc q) live =
-        let o = suc q in
-        let some : o ≢ 0 = λ e. cc in
-        let long : st.elements o ≡ slice_index g.words (length_word s o) = st.sim.lengths o some live ∙ ap (λ i. slice_index g.words i) (sym (length_is s o (st.apart.headers o live))) in
-        ap (λ b. cond b (2 * s.globals) (slice_index g.words (length_word s o) * cells_of x (world.obj o).ty.target)) (ne_zero o some)
-        ∙ ap (λ n. n * cells_of x (world.obj o).ty.target) (sym long) ∙ sym (st.whole o some live).1
-
     inside : i < k.consists.state.cells p
-    inside = subst (λ n. i < n) (cells_are p live) (ltb-true i (cells_now x s g world.obj p) inside_parts.0)
+    inside = subst (λ n. i < n) (cells_are x code s ls g world st p live) (ltb-true i (cells_now x s g world.obj p) inside_parts.0)
 
     word_is : slice_index (place_after code s run).words (Words.cell_at s p i) ≡ o
     word_is =

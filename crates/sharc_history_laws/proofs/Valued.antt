@@ -62,7 +62,7 @@ yes : true ≡ false → ⊥
 yes e = cc
 
 -- a New leaves 0
-made_zero : (e : SourceEvent) (a : Act) (n : ℕ) → made_by e a ≡ Some n → value_left a ≡ pos 0
+pub made_zero : (e : SourceEvent) (a : Act) (n : ℕ) → made_by e a ≡ Some n → value_left a ≡ pos 0
 made_zero e (acts.New cells elements mode) n q = refl
 made_zero e _ n q = absurd (cc)
 
@@ -122,7 +122,7 @@ module _ (cell_laws : CellsAreThere) (pointers : PointersAreThere) (rights : Acc
   fine : (j : Instr) → i ≡ j → Fine x code ls ((place_after code s earlier).threads one.thread).at.pc (ls.at ((place_after code s earlier).threads one.thread).at.pc) j
   fine j e = subst (Fine x code ls m.at.pc (ls.at m.at.pc)) e (wt.fine m.at.pc)
 
-  hold : (j : Instr) → i ≡ j → single j ≡ true → OnHold ((place_after code s earlier).threads one.thread).own.stage
+  pub hold : (j : Instr) → i ≡ j → single j ≡ true → OnHold ((place_after code s earlier).threads one.thread).own.stage
   hold j e is = rests_hold code s h.state.elements h.world h.state.heap g.words t m j m.own.stage is (subst (λ j. StageStands code s h.state.elements h.world h.state.heap g.words t m j m.own.stage) e ((h.state.threads t).runs on.0 on.1).stage)
 
   -- ---- the cell that the turn writes
@@ -159,7 +159,7 @@ module _ (cell_laws : CellsAreThere) (pointers : PointersAreThere) (rights : Acc
       (λ made. live_not_built x code s ls wt fits g h.world h.state n t nz live (headed laws keeps cell_laws pointers x code s ls wt fits few one earlier h may n nz made))
 
   -- no object of the globals is made
-  header_some : (n : ℕ) → header_of i ((place_after code s earlier).threads one.thread).own.stage ≡ Some n → n ≢ 0
+  pub header_some : (n : ℕ) → header_of i ((place_after code s earlier).threads one.thread).own.stage ≡ Some n → n ≢ 0
   header_some n made z =
       let built = header_built x code s ls wt fits g h.world h.state t on n made in
       let nz : h.state.heap.size n ≢ 0 = λ q. let e = h.state.heap_stands.kept.blocks.known n q in let f : Rattle.sharc_invariant.specs.Blocks.Built t ≡ Rattle.sharc_invariant.specs.Blocks.Unused = sym built ∙ e in cc in

@@ -129,11 +129,12 @@ module _ (laws : RunLaws) (keeps : Keeps) (cells : CellsAreThere) (pointers : Po
     pub inside : j < h.state.cells o
     pub content : SameContent (field_in x (h.world.obj o).ty j).holds (field_in x (then_.world.obj o).ty j).holds
 
-  module _ (o j : ℕ) (live' : (then_.world.obj o).live ≡ true) (inside : j < then_.state.cells o) (old : header_of i ((place_after code s earlier).threads one.thread).own.stage ≡ Some o → ⊥) where
+  -- it is there after the turn, which does not make it
+  module _ (o : ℕ) (live' : (then_.world.obj o).live ≡ true) (old : header_of i ((place_after code s earlier).threads one.thread).own.stage ≡ Some o → ⊥) where
     unfreed : freed_at i ((place_after code s earlier).threads one.thread) ≡ Some o → ⊥
     unfreed e = yes (sym live' ∙ ap (λ (y : ObjectState). y.live) (at_object o) ∙ freed_gone ls t m m' h.world.obj o i e)
 
-    was : (h.world.obj o).live ≡ true
+    pub was : (h.world.obj o).live ≡ true
     was = ⊎_elim (λ (z : (h.world.obj o).live ≡ true). z) (λ z. absurd (old z))
         (was_live ls t m m' h.world.obj o i (λ r site e. given laws keeps cells pointers x code s ls wt fits few one earlier h may r site e) (ap (λ (y : ObjectState). y.live) (sym (at_object o)) ∙ live'))
 
@@ -156,13 +157,6 @@ module _ (laws : RunLaws) (keeps : Keeps) (cells : CellsAreThere) (pointers : Po
           (λ (nz : o ≡ 0 → ⊥). same_cells nz (ap (λ (y : ObjectState). cells_of x y.ty.target) same))
           (cases_eq o 0)
 
-      unchanged : Kept o j
-      unchanged = record {
-        live = was;
-        inside = subst (λ n. j < n) all_cells inside;
-        content = same_as (field_in x (h.world.obj o).ty j).holds (field_in x (then_.world.obj o).ty j).holds (ap (λ (y : ObjectState). (field_in x y.ty j).holds) (sym same));
-      }
-
     -- a Give of it
     module _ (r site : ℕ) (is : i ≡ instrs.Give r site) (object : ref ((place_after code s earlier).threads one.thread) r ≡ o) where
       abbrev gave : Fine x code ls ((place_after code s earlier).threads one.thread).at.pc (ls.at ((place_after code s earlier).threads one.thread).at.pc) (instrs.Give r site)
@@ -174,37 +168,62 @@ module _ (laws : RunLaws) (keeps : Keeps) (cells : CellsAreThere) (pointers : Po
       all : then_.state.cells o ≡ h.state.cells o
       all = same_cells (nz o r site is object) same_count
 
-      some_cells : (n count k : ℕ) → k < n → n ≡ count * cells_of x gave.2.0.target → cells_of x gave.2.0.target ≢ 0
-      some_cells n count k lt e z = let q : count * cells_of x gave.2.0.target ≡ 0 = ap (λ c. count * c) z ∙ times_zero count in omega arith
+    -- it has as many cells as before
+    pub cells_stay : then_.state.cells o ≡ h.state.cells o
+    cells_stay = ⊎_elim
+        (λ (gave : given_at i m ≡ Some o). by i refl gave)
+        (λ (not : given_at i m ≡ Some o → ⊥). all_cells not)
+        (decide (given_at i m) o)
+      where
+        by : (k : Instr) → i ≡ k → given_at k ((place_after code s earlier).threads one.thread) ≡ Some o → then_.state.cells o ≡ h.state.cells o
+        by (instrs.Give r site) is q = all r site is (let same : ref m r ≡ o = cc in same)
+        by _ is q = absurd (cc)
+
+  module _ (o j : ℕ) (live' : (then_.world.obj o).live ≡ true) (inside : j < then_.state.cells o) (old : header_of i ((place_after code s earlier).threads one.thread).own.stage ≡ Some o → ⊥) where
+    old_inside : j < h.state.cells o
+    old_inside = subst (λ n. j < n) (cells_stay o live' old) inside
+
+    -- no Give of it
+    unchanged : (given_at i ((place_after code s earlier).threads one.thread) ≡ Some o → ⊥) → Kept o j
+    unchanged not = record {
+      live = was o live' old;
+      inside = old_inside;
+      content = same_as (field_in x (h.world.obj o).ty j).holds (field_in x (then_.world.obj o).ty j).holds (ap (λ (y : ObjectState). (field_in x y.ty j).holds) (sym (same o live' old not)));
+    }
+
+    -- a Give of it
+    module _ (r site : ℕ) (is : i ≡ instrs.Give r site) (object : ref ((place_after code s earlier).threads one.thread) r ≡ o) where
+      abbrev give : Fine x code ls ((place_after code s earlier).threads one.thread).at.pc (ls.at ((place_after code s earlier).threads one.thread).at.pc) (instrs.Give r site)
+      give = fine o r site is object
+
+      some_cells : (n count k : ℕ) → k < n → n ≡ count * cells_of x give.2.0.target → cells_of x give.2.0.target ≢ 0
+      some_cells n count k lt e z = let q : count * cells_of x give.2.0.target ≡ 0 = ap (λ c. count * c) z ∙ times_zero count in omega arith
         where
           times_zero : (n : ℕ) → n * 0 ≡ 0
           times_zero n = omega arith
 
-      old_inside : j < h.state.cells o
-      old_inside = subst (λ n. j < n) all inside
-
-      within : j % cells_of x gave.2.0.target < cells_of x gave.2.0.target
-      within = rest j (cells_of x gave.2.0.target) (some_cells (h.state.cells o) (h.state.elements o) j old_inside ((h.state.whole o (nz o r site is object) was).1 ∙ ap (λ c. h.state.elements o * cells_of x c) (old_target o r site is object)))
+      within : j % cells_of x give.2.0.target < cells_of x give.2.0.target
+      within = rest j (cells_of x give.2.0.target) (some_cells (h.state.cells o) (h.state.elements o) j old_inside ((h.state.whole o (nz o r site is object) (was o live' old)).1 ∙ ap (λ c. h.state.elements o * cells_of x c) (old_target o r site is object)))
         where
           rest : (a b : ℕ) → b ≢ 0 → a % b < b
           rest a b ne = grind arith
 
-      old_field : (field_in x (h.world.obj o).ty j).holds ≡ (field_at x gave.2.0.target (j % cells_of x gave.2.0.target)).holds
-      old_field = ap (λ (f : Field). f.holds) (field_is x code s ls g h.world h.state o j (nz o r site is object) was) ∙ ap (λ k. (field_of_cell x k j).holds) (old_target o r site is object)
+      old_field : (field_in x (h.world.obj o).ty j).holds ≡ (field_at x give.2.0.target (j % cells_of x give.2.0.target)).holds
+      old_field = ap (λ (f : Field). f.holds) (field_is x code s ls g h.world h.state o j (nz o r site is object) (was o live' old)) ∙ ap (λ k. (field_of_cell x k j).holds) (old_target o r site is object)
 
-      new_field : (field_in x (then_.world.obj o).ty j).holds ≡ (field_at x gave.2.1.target (j % cells_of x gave.2.0.target)).holds
+      new_field : (field_in x (then_.world.obj o).ty j).holds ≡ (field_at x give.2.1.target (j % cells_of x give.2.0.target)).holds
       new_field =
           ap (λ (f : Field). f.holds) (field_is x code s ls (place_after code s (one ∷ earlier)) then_.world then_.state o j (nz o r site is object) live')
           ∙ ap (λ k. (field_of_cell x k j).holds) (new_target o r site is object)
-          ∙ ap (λ c. (field_at x gave.2.1.target (j % c)).holds) (sym gave.2.3.cells)
+          ∙ ap (λ c. (field_at x give.2.1.target (j % c)).holds) (sym give.2.3.cells)
 
       recasted : Kept o j
       recasted = record {
-        live = was;
+        live = was o live' old;
         inside = old_inside;
         content = subst (λ (b : Content). SameContent (field_in x (h.world.obj o).ty j).holds b) (sym new_field)
-            (subst (λ (a : Content). SameContent a (field_at x gave.2.1.target (j % cells_of x gave.2.0.target)).holds) (sym old_field)
-            (recast (ls.at m.at.pc) r gave.2.0 gave.2.1 _ _ (gave.2.3.same (j % cells_of x gave.2.0.target) within)));
+            (subst (λ (a : Content). SameContent a (field_at x give.2.1.target (j % cells_of x give.2.0.target)).holds) (sym old_field)
+            (recast (ls.at m.at.pc) r give.2.0 give.2.1 _ _ (give.2.3.same (j % cells_of x give.2.0.target) within)));
       }
 
     pub kept : Kept o j

@@ -5,7 +5,7 @@ ghost use Rattle.sharc_history_laws.specs.Causes.{AccessReportsBreakRules, Names
 ghost use Rattle.sharc_history_laws.specs.Conflicts.{AccessReportsShow, NamedAreChecked, NotesAreOfChecks};
 ghost use Rattle.sharc_history_laws.specs.Followed.{AccessesFollow, LockReportsBreakRules, LockReportsShowAccess};
 ghost use Rattle.sharc_history_laws.specs.History.{HistoriesObey};
-ghost use Rattle.sharc_history_laws.specs.Kept.{CellsAreKept, LockedAreLogged, SpawnedAreGiven};
+ghost use Rattle.sharc_history_laws.specs.Kept.{CellsAreKept, GlobalPointersAreKept, HistoriesGrow, LockedAreLogged, MadePointersAreKept, OthersAreInitial, SpawnedAreGiven};
 ghost use Rattle.sharc_history_laws.specs.Made.{PointersAreMade};
 ghost use Rattle.sharc_history_laws.specs.Paths.{PathsAreConsistent};
 ghost use Rattle.sharc_history_laws.specs.Reports.{CastReportsShow, LockReportsShow};
@@ -231,5 +231,30 @@ pub fn kept_law()
     begins();
     keeps();
     state_stands();
+    cells_are_there();
+}
+
+/// Where by the events a cell of a live object refers to an object, and it is one of the pointers of what is made at the
+/// token of the object's last New, it is a pointer by the table, of an object that has it; so is a cell that a global has
+/// and that is a pointer by the table; and one that a global does not have keeps the value that it begins with.
+pub fn pointers_kept_law()
+    ensures made { MadePointersAreKept }
+    ensures globals { GlobalPointersAreKept }
+    ensures others { OthersAreInitial }
+{
+    run_laws();
+    begins();
+    keeps();
+    state_stands();
+    cells_are_there();
+}
+
+/// A turn of a checked run has no event or one, and an object that it makes was not there before.
+pub fn grows_law()
+    ensures { HistoriesGrow }
+{
+    run_laws();
+    begins();
+    keeps();
     cells_are_there();
 }

@@ -7,7 +7,7 @@
 mod laws;
 
 pub use laws::{
-    awaits_law, causes_law, cells_seen_law, followed_law, history_law, kept_law, paths_law,
-    pointers_made_law, reports_law, seen_law, starts_law, stores_law, stuck_law, threads_law,
-    waiters_law,
+    awaits_law, causes_law, cells_seen_law, followed_law, grows_law, history_law, kept_law,
+    paths_law, pointers_kept_law, pointers_made_law, reports_law, seen_law, starts_law, stores_law,
+    stuck_law, threads_law, waiters_law,
 };

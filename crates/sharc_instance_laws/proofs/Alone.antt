@@ -24,7 +24,7 @@ use Rattle.sharc_mode.specs.Moded.{Assignment}
 use Rattle.sharc_meaning.specs.References.{Begun}
 use Rattle.sharc_invariant.specs.Labels.{Labels}
 use Rattle.sharc_history_laws.specs.History.{history_of}
-use Rattle.sharc_sole_laws.specs.Cause.{NothingIsInFlight}
+use Rattle.sharc_wants_laws.specs.Cause.{NothingIsInFlight}
 use mathlib.Core.List.{reverse_aux}
 
 -- ---- the thread of an event is that of the machine that says it

@@ -11,9 +11,9 @@ use Rattle.sharc_code.specs.Runs.{Turn}
 use Rattle.sharc_code.specs.Whole.{CheckedRun, Stuck, place_after}
 use Rattle.sharc_meaning.specs.Obeys.{AlwaysObeys}
 use Rattle.sharc_invariant.specs.Labels.{Labels}
-use Rattle.sharc_target_laws.specs.Targets.{targets_of}
+use Rattle.sharc_accepted_laws.specs.Targets.{targets_of}
 use Rattle.sharc_history_laws.specs.Reports.{FindsOthers}
-use Rattle.sharc_sole_laws.specs.Cause.{NothingIsInFlight}
+use Rattle.sharc_wants_laws.specs.Cause.{NothingIsInFlight}
 use Rattle.sharc_build.specs.declared.building.Built.{Built}
 use Rattle.sharc_build.specs.Built.{IsBuilt}
 use Rattle.sharc_instance_laws.specs.Sources.{locking_source, sharing_source}

@@ -316,11 +316,11 @@ gone41 (suc zero) ne = refl
 gone41 (suc (suc zero)) ne = refl
 gone41 (suc (suc (suc n))) ne = s41.few (suc (suc (suc n))) (omega arith)
 
-no_pointer : (field : ℕ) → is_pointer (field_at the_targets 1 field).holds ≡ true → ⊥
-no_pointer zero h = let z : false ≡ true = h in cc
-no_pointer (suc zero) h = let z : false ≡ true = h in cc
-no_pointer (suc (suc zero)) h = let z : false ≡ true = h in cc
-no_pointer (suc (suc (suc n))) h = let z : false ≡ true = h in cc
+no_pointer : (field : ℕ) → is_pointer (field_at the_targets 1 field).holds ≡ false
+no_pointer zero = refl
+no_pointer (suc zero) = refl
+no_pointer (suc (suc zero)) = refl
+no_pointer (suc (suc (suc n))) = refl
 
 abbrev f_mutex : Field
 f_mutex = record { mode = Racy; holds = MutexWord }
@@ -448,7 +448,7 @@ module _ (code : Code) (is : IsSample code) where
   p27 = m 27 m27 (Constant 0 (pos 1)) refl (refl, (let b = ints_m in omega arith), less_refl m28) s27
 
   p28 : Right 28 m28 (New 2 0 3 0)
-  p28 = m 28 m28 (New 2 0 3 0) refl (refl, vacant m28 2 (sym refs_m) (omega arith) refl, (the_private, (λ e. omega arith), omega arith, refl, omega arith, (λ i h. absurd (no_pointer (i % cells_of the_targets 1) h)), (λ h. h), less_refl m29)) s28
+  p28 = m 28 m28 (New 2 0 3 0) refl (refl, vacant m28 2 (sym refs_m) (omega arith) refl, (the_private, (λ e. omega arith), omega arith, refl, omega arith, (λ i. no_pointer (i % cells_of the_targets 1)), (λ h. h), less_refl m29)) s28
 
   p29 : Right 29 m29 (MoveReference 0 2)
   p29 = m 29 m29 (MoveReference 0 2) refl (refl, inr (vacant m29 0 (sym refs_m) (omega arith) refl, (let b = refs_m in omega arith), (λ e. omega arith), free_by m29 2 k29, (λ h. h), less_refl m30)) s29

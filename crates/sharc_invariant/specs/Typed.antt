@@ -350,9 +350,9 @@ pub record IsLayout (x : Targets) (code : Code) (layout target : ℕ) : Type 0 w
   pub all : (field : ℕ) → is_pointer (field_at x target field).holds ≡ true → (i : ℕ) × ((layout_at code layout).from ≤ i) × (i < (layout_at code layout).until) × (slice_index code.pointers.items i ≡ field)
   pub only : (i : ℕ) → (layout_at code layout).from ≤ i → i < (layout_at code layout).until → is_pointer (field_at x target (slice_index code.pointers.items i)).holds ≡ true
 
--- each pointer cell of an object of the target is one of an object that is made at the token of this site
+-- a cell of an object of the target is a pointer where it is one of an object that is made at the token of this site
 abbrev pub MakesPointers : Targets → Code → ℕ → ℕ → Type 0
-MakesPointers x code site target = (i : ℕ) → is_pointer (field_of_cell x target i).holds ≡ true → x.is_made_pointer (place_at code site).site.token i ≡ true
+MakesPointers x code site target = (i : ℕ) → is_pointer (field_of_cell x target i).holds ≡ x.is_made_pointer (place_at code site).site.token i
 
 -- a type's lock within a type's cells
 abbrev pub IsSameFieldLock : Label → ℕ → StaticType → StaticType → FieldLock → FieldLock → Type 0

@@ -1,5 +1,6 @@
 -- What holds of every run: what the parts of the meaning keep, by one induction on the syntax, in which a `free` is one part.
 use Rattle.std.specs.Prelude.{◌≡◌, refl, ℕ, zero, suc, ℤ, pos, negsuc, Bool, true, false, cond, not, List, [], ◌∷◌, ◌++◌, length, drop, slice_index_or, unsigned_abs, Option, Some, None, Result, Ok, Err, nat_lt, codes}
+use Rattle.std.specs.List.{AllByRecursion}
 use Rattle.std.specs.Str.{bytes_eq}
 use Rattle.sharc_tree.specs.declared.event.Act.{Act}
 use Rattle.sharc_tree.specs.declared.event.Object.{Object}
@@ -41,7 +42,7 @@ use Rattle.sharc_meaning.specs.Arithmetic.{bits_of, fits, is_zero, truth, operat
 use Rattle.sharc_meaning.specs.Events.{held_mutexes, holds_mutex}
 use Rattle.sharc_meaning.specs.Reference.{NULL, is_null, number_of, elements_of, constant_value}
 use Rattle.sharc_meaning.specs.declared.given.GivenUp.{GivenUp}
-use Rattle.sharc_meaning.specs.declared.given.GivenUp.TheVariants.{Released, Replaced}
+use Rattle.sharc_meaning.specs.declared.given.GivenUp.TheVariants.{Emptied, Released, Replaced}
 use Rattle.sharc_meaning.specs.References.{taken_to_free}
 use Rattle.sharc_meaning.specs.State.{Frame, Use, writes, nulls, go, new_variable, with_value, with_temporary, without_temporaries, Run, Step, ◌>>=◌, give, stop, unless_stop, entered, answered, performs, gives_up, drops, holds, holds_reference, moves, moves_on, is_reference, temporarily, value_of, looks_at, traces, sets, reads_variable, writes_variable, begins_with, in_block}
 use Rattle.sharc_meaning.specs.Places.{Place, variable, cell, no_place, place_named, pointee, based, element, element_of_array, index_place, pointee_place, field_place, unary_place, guarding, access_mode, fetched, stored, taken_from, cast_to}
@@ -50,7 +51,13 @@ use Rattle.sharc_meaning.specs.Expressions.{Calls, resulting, tested, operand, f
 use Rattle.sharc_meaning.specs.Statements.{Flow, next, broken, continued, returned, on_next, loop, left_by, elements_made, is_positive, right_value, done_simple, initialised, declared, done_first, done_step, done_test, return_with, exec, exec_all}
 use Rattle.sharc_meaning.specs.Meaning.{parameters_begin, left_at, in_frame, run_function, call_value, calls, goes_away, run_thread}
 
--- A property of runs that the parts of the meaning keep, where a `free` is one part: no other event takes something to free it.
+-- given up by something else than the cells of an object that is freed
+abbrev pub NotEmptied : GivenUp → Type 0
+NotEmptied (Emptied n) = ⊥
+NotEmptied _ = Unit {0}
+
+-- A property of runs that the parts of the meaning keep, where a `free` is one part: no other event takes something to free it, and nothing else gives up the
+-- cells of an object.
 pub record Closed (Q : (A : Type 0) → Run A → Type 0) : Type 1 where
   pub give : (A : Type 0) (x : A) → Q A (give x)
   pub stop : (A : Type 0) (trap : Trap) (site : Site) → Q A (stop trap site)
@@ -60,7 +67,7 @@ pub record Closed (Q : (A : Type 0) → Run A → Type 0) : Type 1 where
   pub values : Q (ℕ → ℤ) (looks_at value_of)
   pub trace : (u : Use) (token : ℕ) (site : Site) → Q (Unit {0}) (traces u token site)
   pub frame : (f : Frame → Frame) → Q (Unit {0}) (λ s. go tt (record s { frame = f s.frame }))
-  pub given : (more : List GivenUp) → Q (Unit {0}) (gives_up more)
+  pub given : (more : List GivenUp) → AllByRecursion NotEmptied more → Q (Unit {0}) (gives_up more)
   pub binds : (A B : Type 0) (m : Run A) (f : A → Run B) → Q A m → ((x : A) → Q B (f x)) → Q B (m >>= f)
   pub scope : (A : Type 0) (m : Run A) → Q A m → Q A (temporarily m)
   pub block : (A : Type 0) (m : Run A) → Q A m → Q A (in_block m)
@@ -97,7 +104,7 @@ module _ (Q : (A : Type 0) → Run A → Type 0) (q : Closed Q) where
   moved_kept n = q.frame (without_temporaries n)
 
   drops_kept : (kind : Kind) (v : ℤ) → Keeps (drops kind v)
-  drops_kept kind v = either (is_reference kind) _ _ _ (q.given _) (q.give _ tt)
+  drops_kept kind v = either (is_reference kind) _ _ _ (q.given _ (tt, tt)) (q.give _ tt)
 
   holds_kept : (kind : Kind) (v : ℤ) → Keeps (holds kind v)
   holds_kept kind v = either (is_reference kind) _ _ _ (held_kept v) (q.give _ tt)
@@ -165,7 +172,7 @@ module _ (Q : (A : Type 0) → Run A → Type 0) (q : Closed Q) where
   stored_kept : (r : Resolution) (site : Site) (kind : Kind) (mode : Sharing) (p : Place) (v : ℤ) → Keeps (stored r site kind mode p v)
   stored_kept r site kind mode (variable x) v = q.binds _ _ _ _ (looks x) (λ old. q.binds _ _ _ _ (writes_kept site x v) (λ _. drops_kept kind old))
   stored_kept r site kind mode (cell o first c) v = q.binds _ _ _ _ (holds_kept kind v) (λ _. q.binds _ _ _ _ (mode_kept r site mode o first) (λ under.
-      q.binds _ _ _ _ (performs_kept site (acts.Write (cell_of o c) under v) refl) (λ _. q.binds _ _ _ _ (moves_kept kind) (λ _. either (is_pointer kind) _ _ _ (q.given (Replaced (cell_of o c) ∷ [])) (q.give _ tt)))))
+      q.binds _ _ _ _ (performs_kept site (acts.Write (cell_of o c) under v) refl) (λ _. q.binds _ _ _ _ (moves_kept kind) (λ _. either (is_pointer kind) _ _ _ (q.given (Replaced (cell_of o c) ∷ []) (tt, tt)) (q.give _ tt)))))
 
   taken_kept : (r : Resolution) (token site : Site) (mode : Sharing) (p : Place) → Keeps (taken_from r token site mode Cast p)
   taken_kept r token site mode (variable x) = q.binds _ _ _ _ (looks x) (λ v. q.binds _ _ _ _ (either (is_null v) _ _ _ (q.give _ v) (q.event site (acts.Take (taken.Local x) Cast) refl)) (λ _.
@@ -182,7 +189,7 @@ module _ (Q : (A : Type 0) → Run A → Type 0) (q : Closed Q) where
   moves_base_kept (variable x) = q.give _ tt
 
   gives_up_base_kept : (p : Place) → Keeps (gives_up_base p)
-  gives_up_base_kept (cell (Made n) first c) = q.given (Released n ∷ [])
+  gives_up_base_kept (cell (Made n) first c) = q.given (Released n ∷ []) (tt, tt)
   gives_up_base_kept (cell (Global g) first c) = q.give _ tt
   gives_up_base_kept (variable x) = q.give _ tt
 

@@ -1,7 +1,8 @@
 -- Runs that free what they take: from events of which none waits to be freed they come to such events, or want the event that frees what was taken last.
 use Rattle.std.proofs.Common.{◌≡◌, ◌⊎◌, inl, inr, ℕ, zero, suc, Bool, true, false, not, ◌&&◌, cond, List, [], ◌∷◌, ◌++◌, refl, sym, ap, ◌∙◌, subst, append_assoc, length}
 use Rattle.std.proofs.lemmas.Bool.{both_ways}
-use Rattle.std.specs.Prelude.{ℤ, pos}
+use Rattle.std.specs.List.{AllByRecursion}
+use Rattle.std.specs.Prelude.{ℤ, pos, drop}
 use Rattle.sharc_tree.specs.declared.event.Act.{Act}
 use Rattle.sharc_tree.specs.declared.event.Act.TheVariants as acts
 use Rattle.sharc_tree.specs.declared.event.CellAt.{CellAt}
@@ -24,13 +25,13 @@ use Rattle.sharc_meaning.specs.Reference.{is_null, number_of}
 use Rattle.sharc_meaning.specs.References.{taken_to_free}
 use Rattle.sharc_meaning.specs.declared.given.GivenUp.{GivenUp}
 use Rattle.sharc_meaning.specs.declared.given.GivenUp.TheVariants.{Emptied}
-use Rattle.sharc_meaning.specs.State.{Frame, State, Outcome, wants, Out, go, over, Run, Step, then_on, ◌>>◌, give, done, enters_with, happens, answered, answer_of, value_of, event_of, ends_temporaries, ends_variables, without_temporaries}
+use Rattle.sharc_meaning.specs.State.{Frame, State, Outcome, wants, Out, go, over, Run, Step, then_on, ◌>>◌, give, done, enters_with, happens, answered, answer_of, value_of, event_of, ends_temporaries, ends_variables, without_temporaries, all_released, pointers_among}
 use Rattle.sharc_meaning.specs.Places.{Place, variable, cell, access_mode, nulled, taken_from, freed}
 use Rattle.sharc_meaning.specs.Expressions.{place_called}
 use Rattle.sharc_meaning.specs.Statements.{Flow, next, broken, continued, returned, on_turn, turns}
 use Rattle.sharc_meaning.specs.Meaning.{back_in, with_frame}
 use Rattle.sharc_meaning_laws.specs.Freeing.{takes_something}
-use Rattle.sharc_meaning_laws.proofs.Closed.{Closed}
+use Rattle.sharc_meaning_laws.proofs.Closed.{NotEmptied, Closed}
 
 -- ---- lists of events
 
@@ -94,7 +95,24 @@ settled_last (x ∷ []) (b ∷ c ∷ before) e h is = absurd (cc)
 settled_last (x ∷ y ∷ rest) [] e h is = absurd (cc)
 settled_last (x ∷ y ∷ rest) (b ∷ before) e h is = let tails : y ∷ rest ≡ before ++ e ∷ [] = cc in settled_last (y ∷ rest) before e h.1 tails
 
+-- ---- what is given up
+plain_append : (a b : List GivenUp) → AllByRecursion NotEmptied a → AllByRecursion NotEmptied b → AllByRecursion NotEmptied (a ++ b)
+plain_append [] b ha hb = hb
+plain_append (g ∷ a) b ha hb = (ha.0, plain_append a b ha.1 hb)
+
+released_plain : (vs : List ℤ) → AllByRecursion NotEmptied (all_released vs)
+released_plain [] = tt
+released_plain (v ∷ vs) = (tt, released_plain vs)
+
+pub no_emptied : (before : List GivenUp) (n : ℕ) → AllByRecursion NotEmptied (before ++ Emptied n ∷ []) → ⊥
+no_emptied [] n h = h.0
+no_emptied (g ∷ before) n h = no_emptied before n h.1
+
 -- ---- runs
+
+-- nothing waits to be freed, and no cells of an object were given up since the last event
+abbrev pub Still : State → Type 0
+Still s = Settled s.events × AllByRecursion NotEmptied s.given_up
 
 -- its last event takes this, and it is not freed yet
 pub record Pending (v : ℤ) (s : State) : Type 0 where
@@ -105,7 +123,7 @@ pub record Pending (v : ℤ) (s : State) : Type 0 where
   pub takes : takes_something event ≡ true
   pub answer : event.answer ≡ v
 
--- it wants the event that frees what its last event takes, and has given up what the cells of that hold
+-- it wants the event that frees what its last event takes, holds that, and has given up what the cells of it hold
 pub record Freeing (o : Outcome) (s : State) : Type 0 where
   pub reference : ℤ
   pub pending : Pending reference s
@@ -114,33 +132,34 @@ pub record Freeing (o : Outcome) (s : State) : Type 0 where
   pub act : event.act ≡ acts.Freed reference
   pub before : List GivenUp
   pub given_is : s.given_up ≡ before ++ Emptied (number_of reference) ∷ []
+  pub held : (others : List ℤ) × (s.frame.temporaries ≡ others ++ reference ∷ [])
 
 abbrev pub Ends : Outcome → State → Type 0
-Ends o s = Settled s.events ⊎ Freeing o s
+Ends o s = Still s ⊎ Freeing o s
 
 abbrev pub Calm : {A : Type 0} → Out A → Type 0
-Calm (go x s) = Settled s.events
+Calm (go x s) = Still s
 Calm (over o s) = Ends o s
 
 abbrev pub Quiet : (A : Type 0) → Run A → Type 0
-Quiet A m = (s : State) → Settled s.events → Calm (m s)
+Quiet A m = (s : State) → Still s → Calm (m s)
 
-calm_entered : {A : Type 0} (k : ℕ) (m : Run A) (s : State) → Quiet A m → Settled s.events → Calm (then_on (enters_with k s) (λ _. m))
+calm_entered : {A : Type 0} (k : ℕ) (m : Run A) (s : State) → Quiet A m → Still s → Calm (then_on (enters_with k s) (λ _. m))
 calm_entered zero m s q h = inl h
 calm_entered (suc k) m s q h = q (record s { fuel = k }) h
 
 other_take : (e : SourceEvent) → taken_to_free e.act ≡ false → takes_something e ≡ false
 other_take e h = ap (λ b. b && not (is_null e.answer)) h
 
-calm_event : (xs : List ℤ) (site : Site) (act : Act) (s : State) → taken_to_free act ≡ false → Settled s.events → Calm (happens xs site act s)
+calm_event : (xs : List ℤ) (site : Site) (act : Act) (s : State) → taken_to_free act ≡ false → Still s → Calm (happens xs site act s)
 calm_event [] site act s other h = inl h
-calm_event (x ∷ xs) site act s other h = let e = event_of site act (answer_of (value_of s) act x) in settled_next s.events e h (other_take e other)
+calm_event (x ∷ xs) site act s other h = let e = event_of site act (answer_of (value_of s) act x) in (settled_next s.events e h.0 (other_take e other), tt)
 
 calm_then : {A B : Type 0} (o : Out A) (g : A → Run B) → Calm o → ((x : A) → Quiet B (g x)) → Calm (then_on o g)
 calm_then (go x s) g h k = k x s h
 calm_then (over o s) g h k = h
 
-calm_turn : (f : Flow) (m : Run Flow) (s : State) → Settled s.events → Calm (m s) → Calm (on_turn f m s)
+calm_turn : (f : Flow) (m : Run Flow) (s : State) → Still s → Calm (m s) → Calm (on_turn f m s)
 calm_turn next m s h q = q
 calm_turn continued m s h q = q
 calm_turn broken m s h q = h
@@ -156,11 +175,11 @@ calm_turns (suc k) test step body qt qs qb s h = calm_then (test s) _ (qt s h) (
     (calm_then (body t) _ (qb t ht) (λ f u hu. calm_turn f _ u hu (calm_then (step u) _ (qs u hu) (λ _ w hw. calm_turns k test step body qt qs qb w hw)))) ht)
 
 calm_temporaries : {A : Type 0} (n : ℕ) (o : Out A) → Calm o → Calm (ends_temporaries n o)
-calm_temporaries n (go x s) h = h
+calm_temporaries n (go x s) h = (h.0, plain_append s.given_up (all_released (drop n s.frame.temporaries)) h.1 (released_plain (drop n s.frame.temporaries)))
 calm_temporaries n (over o s) h = h
 
 calm_variables : {A : Type 0} (n : ℕ) (o : Out A) → Calm o → Calm (ends_variables n o)
-calm_variables n (go x s) h = h
+calm_variables n (go x s) h = (h.0, plain_append s.given_up (all_released (pointers_among (drop n s.frame.variables))) h.1 (released_plain (pointers_among (drop n s.frame.variables))))
 calm_variables n (over o s) h = h
 
 calm_back : {A : Type 0} (caller : Frame) (others : List Frame) (o : Out A) → Calm o → Calm (back_in caller others o)
@@ -170,54 +189,58 @@ calm_back caller others (over o s) h = h
 -- ---- a `free`
 
 -- NULL was taken, or something that is not freed yet
+record TookNull (v : ℤ) (s : State) : Type 0 where
+  null : is_null v ≡ true
+  still : Still s
+
 abbrev Taken : Out ℤ → Type 0
-Taken (go v s) = ((is_null v ≡ true) × Settled s.events) ⊎ Pending v s
+Taken (go v s) = TookNull v s ⊎ Pending v s
 Taken (over o s) = Ends o s
 
-taken_then : {A : Type 0} (o : Out A) (g : A → Run ℤ) → Calm o → ((x : A) (s : State) → Settled s.events → Taken (g x s)) → Taken (then_on o g)
+taken_then : {A : Type 0} (o : Out A) (g : A → Run ℤ) → Calm o → ((x : A) (s : State) → Still s → Taken (g x s)) → Taken (then_on o g)
 taken_then (go x s) g h k = k x s h
 taken_then (over o s) g h k = h
 
 taken_temporaries : (n : ℕ) (o : Out ℤ) → Taken o → Taken (ends_temporaries n o)
-taken_temporaries n (go v s) (inl h) = inl h
+taken_temporaries n (go v s) (inl h) = inl (record { null = h.null; still = calm_temporaries n (go v s) h.still })
 taken_temporaries n (go v s) (inr p) = inr (record { before = p.before; event = p.event; stands = p.stands; settled = p.settled; takes = p.takes; answer = p.answer })
 taken_temporaries n (over o s) h = h
 
 -- of a variable that is not NULL
-taken_held : (xs : List ℤ) (token site : Site) (x : ℕ) (s : State) → is_null (value_of s x) ≡ false → Settled s.events
+taken_held : (xs : List ℤ) (token site : Site) (x : ℕ) (s : State) → is_null (value_of s x) ≡ false → Still s
     → Taken (then_on (happens xs site (acts.Take (taken.Local x) ToFree) s) (λ _. nulled token x >> give (value_of s x)))
 taken_held [] token site x s some h = inl h
 taken_held (y ∷ ys) token site x s some h = inr (record {
   before = s.events;
   event = event_of site (acts.Take (taken.Local x) ToFree) (value_of s x);
   stands = refl;
-  settled = h;
+  settled = h.0;
   takes = ap not some;
   answer = refl;
 })
 
-taken_local : (token site : Site) (x : ℕ) (s : State) → (b : Bool) → is_null (value_of s x) ≡ b → Settled s.events
+taken_local : (token site : Site) (x : ℕ) (s : State) → (b : Bool) → is_null (value_of s x) ≡ b → Still s
     → Taken (then_on (cond b (give (value_of s x)) (answered site (acts.Take (taken.Local x) ToFree)) s) (λ _. nulled token x >> give (value_of s x)))
-taken_local token site x s true is h = inl (is, h)
+taken_local token site x s true is h = inl (record { null = is; still = h })
 taken_local token site x s false is h = taken_held s.answers token site x s is h
 
-taken_answer : (xs : List ℤ) (site : Site) (c : CellAt) (mode : CellMode) (s : State) → Settled s.events → Taken (happens xs site (acts.Take (taken.Cell c mode) ToFree) s)
+taken_answer : (xs : List ℤ) (site : Site) (c : CellAt) (mode : CellMode) (s : State) → Still s → Taken (happens xs site (acts.Take (taken.Cell c mode) ToFree) s)
 taken_answer [] site c mode s h = inl h
 taken_answer (x ∷ xs) site c mode s h = by (is_null x) refl
   where
     by : (b : Bool) → is_null x ≡ b → Taken (happens (x ∷ xs) site (acts.Take (taken.Cell c mode) ToFree) s)
-    by true is = inl (is, settled_next s.events (event_of site (acts.Take (taken.Cell c mode) ToFree) x) h (ap not is))
+    by true is = inl (record { null = is; still = (settled_next s.events (event_of site (acts.Take (taken.Cell c mode) ToFree) x) h.0 (ap not is), tt) })
     by false is = inr (record {
       before = s.events;
       event = event_of site (acts.Take (taken.Cell c mode) ToFree) x;
       stands = refl;
-      settled = h;
+      settled = h.0;
       takes = ap not is;
       answer = refl;
     })
 
 taken_there : (r : Resolution) (token site : Site) (mode : Sharing) (p : Place) → ((o : Object) (first : ℕ) → Quiet CellMode (access_mode r site mode o first))
-    → (s : State) → Settled s.events → Taken (taken_from r token site mode ToFree p s)
+    → (s : State) → Still s → Taken (taken_from r token site mode ToFree p s)
 taken_there r token site mode (variable x) q s h = taken_local token site x s (is_null (value_of s x)) refl h
 taken_there r token site mode (cell o first c) q s h = taken_then (access_mode r site mode o first s) _ (q o first s h) (λ under t ht. taken_answer t.answers site (cell_of o c) under t ht)
 
@@ -230,8 +253,8 @@ pending_some v s p = by (is_null v) refl (taken_to_free p.event.act) (subst (λ 
     by true is false h = absurd (cc)
 
 -- what is taken is freed
-freed_next : (xs : List ℤ) (site : Site) (v : ℤ) (s : State) (before : List GivenUp) → s.given_up ≡ before ++ Emptied (number_of v) ∷ [] → Pending v s → Calm (happens xs site (acts.Freed v) s)
-freed_next [] site v s before given p = inr (record {
+freed_next : (xs : List ℤ) (site : Site) (v : ℤ) (s : State) (before : List GivenUp) → s.given_up ≡ before ++ Emptied (number_of v) ∷ [] → (others : List ℤ) × (s.frame.temporaries ≡ others ++ v ∷ []) → Pending v s → Calm (happens xs site (acts.Freed v) s)
+freed_next [] site v s before given held p = inr (record {
   reference = v;
   pending = p;
   event = event_of site (acts.Freed v) (pos 0);
@@ -239,15 +262,16 @@ freed_next [] site v s before given p = inr (record {
   act = refl;
   before = before;
   given_is = given;
+  held = held;
 })
-freed_next (x ∷ xs) site v s before given p =
+freed_next (x ∷ xs) site v s before given held p =
     let e = event_of site (acts.Freed v) (pos 0) in
-    subst Settled (sym (ap (λ l. l ++ e ∷ []) p.stands ∙ append_assoc p.before (p.event ∷ []) (e ∷ []))) (settled_freed p.before p.event e p.settled (λ _. ap acts.Freed (sym p.answer)) refl)
+    (subst Settled (sym (ap (λ l. l ++ e ∷ []) p.stands ∙ append_assoc p.before (p.event ∷ []) (e ∷ []))) (settled_freed p.before p.event e p.settled (λ _. ap acts.Freed (sym p.answer)) refl), tt)
 
 calm_freed : (o : Out ℤ) (site : Site) → Taken o → Calm (then_on o (λ v. cond (is_null v) done (freed site v)))
-calm_freed (go v s) site (inl h) = rw h.0 h.1
+calm_freed (go v s) site (inl h) = rw h.null h.still
 calm_freed (go v s) site (inr p) = rw (pending_some v s p) (calm_then _ _ (calm_then _ _
-    (freed_next s.answers site v _ s.given_up refl (record { before = p.before; event = p.event; stands = p.stands; settled = p.settled; takes = p.takes; answer = p.answer }))
+    (freed_next s.answers site v _ s.given_up refl (s.frame.temporaries, refl) (record { before = p.before; event = p.event; stands = p.stands; settled = p.settled; takes = p.takes; answer = p.answer }))
     (λ _ t ht. ht)) (λ _ t ht. ht))
 calm_freed (over o s) site h = h
 
@@ -266,7 +290,7 @@ calm = record {
   values = λ s h. h;
   trace = λ u token site s h. h;
   frame = λ f s h. h;
-  given = λ more s h. h;
+  given = λ more plain s h. (h.0, plain_append s.given_up more h.1 plain);
   binds = λ A B m g qm qg s h. calm_then (m s) g (qm s h) qg;
   scope = λ A m q s h. calm_temporaries (length s.frame.temporaries) (m s) (q s h);
   block = λ A m q s h. calm_variables (length s.frame.variables) (m s) (q s h);

@@ -3,7 +3,7 @@ use Rattle.std.proofs.Common.{◌≡◌, ◌⊎◌, inl, inr, ℕ, Bool, true, f
 use Rattle.std.specs.Prelude.{ℤ, ◌==◌, find, filter}
 use Rattle.std.specs.List.{list_any}
 use Rattle.std.proofs.lemmas.Bool.{both_ways, and_parts, or_parts, or_left, or_right, or_cases, eqb-true, eq-eqb}
-use Rattle.std.proofs.lemmas.List.{reverse-append, reverse-reverse}
+use Rattle.std.proofs.lemmas.List.{map-append, reverse-append, reverse-reverse}
 use Rattle.std.proofs.lemmas.List.Elements.{filter-append}
 use Rattle.std.proofs.lemmas.List.Folds.{list_any-append}
 use Rattle.sharc_tree.specs.declared.event.Act.TheVariants.{Started, Freed}
@@ -14,9 +14,10 @@ use Rattle.sharc_meaning.specs.Events.{Stands, is_of, events_of, makes, frees, f
 use Rattle.sharc_meaning.specs.Reference.{is_null, number_of}
 use Rattle.sharc_meaning.specs.References.{refers, taken_to_free, takes_to_free, Begun, asked_with}
 use Rattle.sharc_meaning.specs.Runs.{by, answers_of}
+use Rattle.sharc_meaning.specs.Runs as Runs
 use Rattle.sharc_meaning.specs.Store.{meets, is_live}
-use Rattle.sharc_meaning_laws.specs.Freeing.{takes_something, EmptiesAtNext, FreesFollowIn, IsBeingTaken, TakenAreBeingTaken}
-use Rattle.sharc_meaning_laws.proofs.Freeing.{frees_follow}
+use Rattle.sharc_meaning_laws.specs.Freeing.{takes_something, EmptiesAtNext, FreesFollowIn, IsBeingTaken, TakenAreBeingTaken, LastTakersFree, EmptiersTookLast}
+use Rattle.sharc_meaning_laws.proofs.Freeing.{frees_follow, emptied_were_taken}
 
 -- ---- lists
 
@@ -130,6 +131,9 @@ some_event [] ys e h = absurd (cc)
 some_event (x ∷ xs) ys e h = absurd (cc)
 
 -- ---- histories
+own_begun : (m : Assignment) (R : List SourceEvent) (thread : ℕ) (b : Begun m R thread) → events_of thread R ≡ b.own.begins ∷ events_of thread b.own.after
+own_begun m R thread b = ap (events_of thread) b.own.stands ∙ own_events thread b.own.before b.own.begins b.own.after b.own.own ∙ ap (λ l. l ++ b.own.begins ∷ events_of thread b.own.after) b.own.first
+
 module _ (m : Assignment) (R : List SourceEvent) (n : ℕ) (live : is_live R (Made n) ≡ true) (e : SourceEvent) (taken : takes_to_free (Made n) e ≡ true) (at : Latest (made_or_taken n) (reverse R) e) where
   abbrev kind : taken_to_free e.act ≡ true
   kind = (and_parts (taken_to_free e.act) (refers n e.answer) taken).0
@@ -159,7 +163,7 @@ module _ (m : Assignment) (R : List SourceEvent) (n : ℕ) (live : is_live R (Ma
 
   module _ (b : Begun m R e.thread) where
     begun : events_of e.thread R ≡ b.own.begins ∷ events_of e.thread b.own.after
-    begun = ap (events_of e.thread) b.own.stands ∙ own_events e.thread b.own.before b.own.begins b.own.after b.own.own ∙ ap (λ l. l ++ b.own.begins ∷ events_of e.thread b.own.after) b.own.first
+    begun = own_begun m R e.thread b
 
     abbrev asked : List SourceEvent
     asked = (asked_with b b.fuel).events
@@ -212,3 +216,44 @@ taken_are_being_taken m R n live taken = by_event (find (made_or_taken n) (rever
     by_event : (o : Option SourceEvent) → find (made_or_taken n) (reverse R) ≡ o → meets (takes_to_free (Made n)) o ≡ true → IsBeingTaken m R n
     by_event None is h = absurd (cc)
     by_event (Some e) is h = being_taken m R n live e h (found (made_or_taken n) (reverse R) e is)
+
+-- ---- a thread whose last event takes something to free it
+refers_to : (n : ℕ) (v : ℤ) → refers n v ≡ true → (is_null v ≡ false) × (number_of v ≡ n)
+refers_to n v h = let p = and_parts (not (is_null v)) (number_of v == n) h in (no_null (is_null v) p.0, eqb-true (number_of v) n p.1)
+  where
+    no_null : (b : Bool) → not b ≡ true → b ≡ false
+    no_null true h = absurd (cc)
+    no_null false h = refl
+
+pub last_takers_free : LastTakersFree
+last_takers_free m R thread n t b = by asked_there.after refl
+  where
+    behind : (rest : List SourceEvent) × (events_of thread b.own.after ≡ rest ++ t.event ∷ [])
+    behind = behind_first t.before [] (events_of thread b.own.after) t.event b.own.begins _ t.kind b.own.act (sym t.last ∙ own_begun m R thread b)
+
+    asked_there : Own thread (asked_with b b.fuel).events t.event []
+    asked_there = own_there thread (asked_with b b.fuel).events behind.0 t.event [] (b.own.asked ∙ behind.1)
+
+    answer : asked_there.event.answer ≡ t.event.answer
+    answer = ap (λ (d : SourceEvent). d.answer) asked_there.is
+
+    takes : takes_something asked_there.event ≡ true
+    takes = subst (λ (z : SourceEvent). takes_something z ≡ true) (sym asked_there.is) (ap (λ b. b && not (is_null t.event.answer)) t.kind ∙ ap not (refers_to n t.event.answer t.refers_there).0)
+
+    by : (after : List SourceEvent) → asked_there.after ≡ after → EmptiesAtNext (asked_with b b.fuel) n
+    by [] none =
+        subst (EmptiesAtNext (asked_with b b.fuel)) (ap number_of answer ∙ (refers_to n t.event.answer t.refers_there).1)
+        ((frees_follow m b.own.function b.own.argument (answers_of (events_of thread b.own.after)) b.fuel).last asked_there.before asked_there.event (asked_there.stands ∙ ap (λ l. asked_there.before ++ asked_there.event ∷ l) none) takes)
+    by (d ∷ rest) more = let e : map (Runs.by thread) (d ∷ rest) ≡ [] = ap (map (Runs.by thread)) (sym more) ∙ asked_there.rest in absurd (cc)
+
+pub emptiers_took_last : EmptiersTookLast
+emptiers_took_last m R thread b fuel past before n given =
+    let w = emptied_were_taken m b.own.function b.own.argument (answers_of (events_of thread b.own.after)) fuel before n given in
+    let parts = and_parts (taken_to_free w.event.act) (not (is_null w.event.answer)) w.takes in
+    record {
+      before = b.own.begins ∷ map (Runs.by thread) w.before;
+      event = Runs.by thread w.event;
+      last = own_begun m R thread b ∙ ap (λ l. b.own.begins ∷ l) (sym past ∙ ap (map (Runs.by thread)) w.stands ∙ map-append (Runs.by thread) w.before (w.event ∷ []));
+      kind = parts.0;
+      refers_there = ap (λ b. b && (number_of w.event.answer == n)) parts.1 ∙ eq-eqb (number_of w.event.answer) n w.number;
+    }

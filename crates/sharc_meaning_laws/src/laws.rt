@@ -1,6 +1,6 @@
 // The laws, each the contract of a function that does nothing.
 
-ghost use Rattle.sharc_meaning_laws.specs.Freeing.{FreesFollow, TakenAreBeingTaken};
+ghost use Rattle.sharc_meaning_laws.specs.Freeing.{EmptiedWereTaken, EmptiersTookLast, FreesFollow, LastTakersFree, TakenAreBeingTaken};
 ghost use Rattle.sharc_meaning_laws.specs.Held.{HeldAreHeldOn};
 
 use sharc_ctype_laws::laws::{
@@ -27,4 +27,12 @@ pub fn frees_follow()
 /// A live object that a `free` has taken is being taken: where the thread that took it follows the program, it has no later event, and wants to free the object.
 pub fn taken_are_being_taken()
     ensures { TakenAreBeingTaken }
+{}
+
+/// A thread whose last event takes an object to free it wants to free the object, and holds it. And a thread that has
+/// given up the cells of an object since its last event has taken the object by that event, to free it.
+pub fn last_takers()
+    ensures emptied { EmptiedWereTaken }
+    ensures free { LastTakersFree }
+    ensures took { EmptiersTookLast }
 {}

@@ -3,8 +3,10 @@ use Rattle.std.proofs.Common.{◌≡◌, ℕ, false, List, [], ◌∷◌, Some, 
 use Rattle.sharc_shadow.specs.declared.shadow_word.Kind.{Kind}
 use Rattle.sharc_mode.specs.Moded.{Assignment}
 use Rattle.sharc_meaning.specs.Events.{Access}
+use Rattle.sharc_meaning.specs.Reference.{number_of}
 use Rattle.sharc_code.specs.declared.code.Code.{Code}
 use Rattle.sharc_code.specs.declared.shape.Shape.{Shape}
+use Rattle.sharc_code.specs.declared.state.ConflictAt.{ConflictAt}
 use Rattle.sharc_code.specs.declared.state.State.TheVariants.{Stopped}
 use Rattle.sharc_code.specs.declared.state.Stop.{Stop}
 use Rattle.sharc_code.specs.declared.state.Stop.TheVariants.{Conflict, NoLock, NotSole, Trap}
@@ -14,41 +16,50 @@ use Rattle.sharc_cpu.specs.Thread.{ThreadView}
 use Rattle.sharc_threads.specs.Ends.{AreStarted}
 use Rattle.sharc_compile.specs.Refused.{IsReport}
 use Rattle.sharc_invariant.specs.Labels.{Labels}
+use Rattle.sharc_history_laws.specs.Causes.{ShowsCause}
 use Rattle.sharc_history_laws.specs.Conflicts.{IsCheck}
 use Rattle.sharc_history_laws.specs.Followed.{ShowsLock, access_checked}
 use Rattle.sharc_history_laws.specs.History.{history_of}
+use Rattle.sharc_history_laws.specs.Reports.{FindsOthers}
 use Rattle.sharc_history_laws.specs.Seen.{RunsBegin}
-use Rattle.sharc_target_laws.specs.Targets.{targets_of}
-use Rattle.sharc_sole_laws.specs.Cause.{ShowsReference}
-use Rattle.sharc_sound_laws.specs.Reports.{IsReportOf}
-use Rattle.sharc_stand_laws.specs.Stands.{Stands}
-use Rattle.sharc_reply_laws.specs.Reports.{ReportTells, WantsAccess, WantsUnder}
+use Rattle.sharc_accepted_laws.specs.Targets.{targets_of}
+use Rattle.sharc_wants_laws.specs.Cause.{ShowsReference}
+use Rattle.sharc_sound_laws.specs.Reports.{IsReportOf, WantsReported}
+use Rattle.sharc_sound_laws.specs.StandStands.{Stands}
+use Rattle.sharc_reply_laws.specs.Reports.{ReportTells, WantsAccess, WantsRefusedAccess, WantsUnder, access_refused, object_tested}
 
 module _ (begins : RunsBegin) (m : Assignment) (code : Code) (s : Shape) (ls : Labels) (run : List Turn) (checked : CheckedRun code s run) (stands : Stands m (targets_of m) code s ls run)
     (wanted : (before : List Turn) → CheckedRun code s before → (check : Turn) (kind : Kind) (granule site : ℕ) → IsCheck code s before check check.thread kind granule site false
     → (a : Access) → access_checked code ((place_after code s before).threads check.thread) ≡ Some a → WantsAccess m code (history_of code s before) check.thread site a)
+    (refused : (t : ℕ) (c : ConflictAt) → ((place_after code s run).threads t).at.state ≡ Stopped → ((place_after code s run).threads t).own.stop ≡ Some (Conflict c)
+    → (j : ℕ) (kind : Kind) (site : ℕ) → (shown : ShowsCause code s run t c j kind site) → WantsRefusedAccess m code s run t c (access_refused shown))
     (under : (t site word : ℕ) → ((place_after code s run).threads t).at.state ≡ Stopped → ((place_after code s run).threads t).own.stop ≡ Some (NoLock site word)
     → (shows : ShowsLock code (history_of code s run) t ((place_after code s run).threads t) site) → WantsUnder m code s run t site word shows)
     (reports : (t : ℕ) (stop : Stop) → ((place_after code s run).threads t).at.state ≡ Stopped → ((place_after code s run).threads t).own.stop ≡ Some stop → IsReport stop → IsReportOf m (targets_of m) code s ls run t stop)
     (casts : (t site count : ℕ) → ((place_after code s run).threads t).own.stop ≡ Some (NotSole site count) → ShowsReference m code s ls run t site count)
+    (given : (t site count : ℕ) → (wants_it : WantsReported m code (history_of code s run) t (NotSole site count)) → (finds : FindsOthers (targets_of m) code s ls run t site count)
+    → number_of wants_it.refused.0 ≡ object_tested finds)
     (threads : List ThreadView) (are : AreStarted code s (place_after code s run) threads) (t : ℕ) where
-  pub reported : (stop : Stop) → ((place_after code s run).threads t).at.state ≡ Stopped → ((place_after code s run).threads t).own.stop ≡ Some stop → ReportTells m code s ls run threads t stop
-  reported (Conflict c) stopped is =
+  pub reported : (stop : Stop) → ((place_after code s run).threads t).at.state ≡ Stopped → ((place_after code s run).threads t).own.stop ≡ Some stop → IsReport stop → ReportTells m code s ls run threads t stop
+  reported (Conflict c) stopped is report =
       let st = stands.conflicts t c is in
       let names = st.text threads are in
       let shown = names.cause in
       let cause = shown.cause in
       let was : CheckedRun code s (shown.report ∷ shown.before) = begins code s shown.later (shown.report ∷ shown.before) (subst (CheckedRun code s) shown.parts checked) in
       let w = wanted shown.before (begins code s (shown.report ∷ []) shown.before was) shown.report c.kind c.granule c.site cause.is_report cause.refused.access cause.refused.is in
+      let ended = refused t c stopped is names.other.thread names.other.kind names.other.site shown in
       record {
-        names = names;
-        all = st.causes;
-        refused = subst (λ u. WantsAccess m code (history_of code s shown.before) u c.site cause.refused.access) shown.thread w;
-        wants_it = (reports t (Conflict c) stopped is tt).wants_it;
+        cause = record { names = names; all = st.causes };
+        wants_it = ended.wants_it;
+        is_that = record { at_check = subst (λ u. WantsAccess m code (history_of code s shown.before) u c.site cause.refused.access) shown.thread w; at_end = ended.same };
       }
-  reported (NoLock site word) stopped is =
+  reported (NoLock site word) stopped is report =
       let shows = (stands.locks t site word is).shows in
       let w = under t site word stopped is shows in
-      record { shows = shows; wants_it = w.wants_it; same = w.same }
-  reported (NotSole site count) stopped is = record { shows = casts t site count is; wants_it = (reports t (NotSole site count) stopped is tt).wants_it }
-  reported (Trap trap site) stopped is = tt
+      record { cause = shows; wants_it = w.wants_it; is_that = w.same }
+  reported (NotSole site count) stopped is report =
+      let shows = casts t site count is in
+      let w = (reports t (NotSole site count) stopped is tt).wants_it in
+      record { cause = shows; wants_it = w; is_that = given t site count w shows.finds }
+  reported (Trap trap site) stopped is report = absurd report

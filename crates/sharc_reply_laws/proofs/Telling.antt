@@ -23,7 +23,7 @@ use Rattle.sharc_compile_laws.specs.Paths.{IsAskedFor, TellsProgram}
 use Rattle.sharc_reply_laws.specs.Threads.{HasBegun, HasNotBegun}
 
 -- two functions with one name are one
-same_function : (r : Resolution) → NameThemselves r → (n k : ℕ) (site : Site) → IsNamedAt (function_at r n) site → IsNamedAt (function_at r k) site → n ≡ k
+pub same_function : (r : Resolution) → NameThemselves r → (n k : ℕ) (site : Site) → IsNamedAt (function_at r n) site → IsNamedAt (function_at r k) site → n ≡ k
 same_function r names n k site a b = by (function_at r n) (function_at r k) refl refl a b
   where
     number_eq : (a b : ℕ) → named.Function a ≡ named.Function b → a ≡ b
@@ -40,18 +40,18 @@ same_is : (n : ℕ) → (n == n) ≡ true
 same_is n = grind (arith, nat_tests)
 
 -- the events of a thread, where its first one stands
-from_first : (t : ℕ) (R before after : History) (e : SourceEvent) → Stands R before e after → e.thread ≡ t → events_of t before ≡ [] → events_of t R ≡ e ∷ events_of t after
+pub from_first : (t : ℕ) (R before after : History) (e : SourceEvent) → Stands R before e after → e.thread ≡ t → events_of t before ≡ [] → events_of t R ≡ e ∷ events_of t after
 from_first t R before after e stands own none =
     ap (events_of t) stands ∙ filter-append (is_of t) before (e ∷ after) ∙ ap (λ es. es ++ events_of t (e ∷ after)) none
     ∙ ap (λ b. cond b (e ∷ events_of t after) (events_of t after)) (ap (λ n. n == t) own ∙ same_is t)
 
-some : (e : SourceEvent) (es : List SourceEvent) → [] ≡ e ∷ es → ⊥
+pub some : (e : SourceEvent) (es : List SourceEvent) → [] ≡ e ∷ es → ⊥
 some e es q = cc
 
-head_eq : (a b : SourceEvent) (xs ys : List SourceEvent) → a ∷ xs ≡ b ∷ ys → a ≡ b
+pub head_eq : (a b : SourceEvent) (xs ys : List SourceEvent) → a ∷ xs ≡ b ∷ ys → a ≡ b
 head_eq a b xs ys q = cc
 
-tail_eq : (a b : SourceEvent) (xs ys : List SourceEvent) → a ∷ xs ≡ b ∷ ys → xs ≡ ys
+pub tail_eq : (a b : SourceEvent) (xs ys : List SourceEvent) → a ∷ xs ≡ b ∷ ys → xs ≡ ys
 tail_eq a b xs ys q = cc
 
 started_eq : (v w : ℤ) → Started v ≡ Started w → v ≡ w

@@ -100,7 +100,7 @@ module _ (code : Code) (m : Machine) where
   event_eq : (d e : SourceEvent) → wants d ≡ wants e → d ≡ e
   event_eq d e h = cc
 
-  act_eq : (x y : Site) (a b : Act) → wants (event_of x a (pos 0)) ≡ wants (event_of y b (pos 0)) → a ≡ b
+  pub act_eq : (x y : Site) (a b : Act) → wants (event_of x a (pos 0)) ≡ wants (event_of y b (pos 0)) → a ≡ b
   act_eq x y a b e = ap (λ (d : SourceEvent). d.act) (event_eq (event_of x a (pos 0)) (event_of y b (pos 0)) e)
 
   not_both : (trap : Trap) (x y : Site) (a : Act) → wants (event_of x a (pos 0)) ≡ stopped trap y → ⊥

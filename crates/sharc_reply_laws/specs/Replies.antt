@@ -15,9 +15,10 @@ use Rattle.sharc_threads.specs.Ends.{AreStarted, is_enabled}
 use Rattle.sharc_run.specs.declared.outcome.Outcome.{Outcome}
 use Rattle.sharc_run.specs.Outcome.{HasOutcome}
 use Rattle.sharc_run_text.specs.RunText.{IsRunText, thread_line}
+use Rattle.sharc_compile.specs.Refused.{IsReport}
 use Rattle.sharc_invariant.specs.Labels.{Labels}
 use Rattle.sharc_invariant.specs.Typed.{IsWellTyped}
-use Rattle.sharc_target_laws.specs.Targets.{targets_of}
+use Rattle.sharc_accepted_laws.specs.Targets.{targets_of}
 use Rattle.sharc_history_laws.specs.History.{history_of}
 use Rattle.sharc_sound.specs.Front.{IsFront}
 use Rattle.sharc_build.specs.Built.{IsBuilt}
@@ -39,7 +40,7 @@ pub record LineTells (m : Assignment) (code : Code) (s : Shape) (ls : Labels) (r
   pub is : t.machine.own.number ≡ number
   pub stopped : ((place_after code s run).threads number).at.state ≡ Stopped
   pub stop_is : ((place_after code s run).threads number).own.stop ≡ Some stop
-  pub report : ReportTells m code s ls run threads number stop
+  pub report : IsReport stop → ReportTells m code s ls run threads number stop
   pub source : ThreadTells m code s run number
 
 -- The reply to an order, of a source that is this program: its status, and what is to be written.

@@ -3,6 +3,7 @@ use Rattle.std.specs.Prelude.{◌≡◌, ℕ, Bool, List, ◌∷◌, ◌++◌, S
 use Rattle.sharc_shadow.specs.declared.shadow_word.Kind.{Kind}
 use Rattle.sharc_mode.specs.Moded.{Assignment}
 use Rattle.sharc_meaning.specs.Obeys.{AlwaysObeys, Obeys, until_return}
+use Rattle.sharc_meaning.specs.References.{Holder, References, in_thread}
 use Rattle.sharc_meaning.specs.Runs.{SourceRun}
 use Rattle.sharc_code.specs.declared.code.Code.{Code}
 use Rattle.sharc_code.specs.declared.shape.Shape.{Shape}
@@ -15,13 +16,15 @@ use Rattle.sharc_cpu.specs.Thread.{ThreadView}
 use Rattle.sharc_threads.specs.Ends.{AreStarted}
 use Rattle.sharc_run_text.specs.RunText.{AreInOrder}
 use Rattle.sharc_told_laws.specs.Prints.{ArePrintsOf}
+use Rattle.sharc_compile.specs.Refused.{IsReport}
 use Rattle.sharc_invariant.specs.Labels.{Labels}
 use Rattle.sharc_invariant.specs.Typed.{IsWellTyped}
 use Rattle.sharc_history_laws.specs.Conflicts.{IsCheck}
 use Rattle.sharc_history_laws.specs.Followed.{IsOfAccess}
 use Rattle.sharc_history_laws.specs.History.{history_of}
-use Rattle.sharc_target_laws.specs.Targets.{targets_of}
-use Rattle.sharc_stand_laws.specs.Stands.{PlaceStands}
+use Rattle.sharc_accepted_laws.specs.Targets.{targets_of}
+use Rattle.sharc_wants_laws.specs.Alone.{Passes, tested_object}
+use Rattle.sharc_sound_laws.specs.StandStands.{PlaceStands}
 use Rattle.sharc_build.specs.declared.building.Built.{Built}
 use Rattle.sharc_build.specs.Built.{IsBuilt}
 use Rattle.sharc_sound_laws.specs.Deadlock.{IsDeadlock}
@@ -40,11 +43,14 @@ pub record RunTells (m : Assignment) (code : Code) (s : Shape) (ls : Labels) (ru
   pub threads : (thread : ℕ) → ThreadTells m code s run thread
   -- a thread that has a stop was stopped; and each report A1 to A4 shows its cause, and is about what the source wants next
   pub reports : (threads : List ThreadView) → AreStarted code s (place_after code s run) threads → (t : ℕ) (stop : Stop)
-      → ((place_after code s run).threads t).own.stop ≡ Some stop → ReportTells m code s ls run threads t stop
+      → ((place_after code s run).threads t).own.stop ≡ Some stop → IsReport stop → ReportTells m code s ls run threads t stop
   -- where every run of the source obeys there is none of A1 to A3
   pub unreported : AlwaysObeys m → NoAccessReport code s run
   -- where it is stuck the source is in a deadlock
   pub deadlock : Stuck code s run → IsDeadlock m code s run
+  -- where a cast or a `free` passed its test, by the events up to there the reference that it took is the only one to its object
+  pub sole : (later : List Turn) (test : Turn) (earlier : List Turn) → run ≡ later ++ test ∷ earlier → (register : ℕ) → Passes code s test earlier register
+      → (holder : Holder) → References m (history_of code s earlier) (tested_object code s test earlier register) holder → holder ≡ in_thread test.thread 0
   -- at its end and at each place before, the counts, the bits of the shadow words and the windows are as the machine's invariant says
   pub places : (later earlier : List Turn) → run ≡ later ++ earlier → PlaceStands (targets_of m) code s ls earlier
   -- each check is one of the access that follows it, where it passed

@@ -2,27 +2,36 @@
 
 ghost use Rattle.sharc_reply_laws.specs.Few.{ChosenAreFew};
 ghost use Rattle.sharc_reply_laws.specs.Replies.{CutRepliesTell, RepliesTell, WholeRepliesTell};
-ghost use Rattle.sharc_reply_laws.specs.Reports.{TypedAccessesAreWanted, TypedLocksAreWanted};
+ghost use Rattle.sharc_reply_laws.specs.Reports.{
+  TypedAccessesAreWanted,
+  TypedGivenAreTested,
+  TypedLocksAreWanted,
+  TypedRefusedAreWanted,
+};
 ghost use Rattle.sharc_reply_laws.specs.Runs.{BuiltRunsTell};
 ghost use Rattle.sharc_reply_laws.specs.Threads.{TypedThreadsTell};
 
 use sharc_build::fronts_are_typed;
-use sharc_built_laws::laws::built_is_typed;
 use sharc_code::{range_laws, run_laws};
 use sharc_compile_laws::typed_paths_tell;
 use sharc_ctype_laws::laws::each_names_itself;
-use sharc_follow_laws::followed_law;
 use sharc_history_laws::{paths_law, seen_law};
 use sharc_seq::enabled_laws;
-use sharc_sole_laws::laws::{reports_show_cause, threads_have_begun};
+use sharc_sound_laws::built::built_is_typed;
+use sharc_sound_laws::stand::typed_runs_stand;
 use sharc_sound_laws::{
     built_is_sound_if_typed, built_obeying_is_unreported_if_typed, built_reports_show_if_typed,
     built_stuck_is_deadlock_if_typed, made_code_begins, threads_stand_if_typed,
 };
 use sharc_source_laws::laws::numbers_have_no_sign;
-use sharc_stand_laws::laws::typed_runs_stand;
-use sharc_told_laws::laws::{prints_law, stops_law, texts_begin_with_prints, turns_tell_own};
-use sharc_top_laws::laws::{records_are_told, sources_are_one, verdicts_are_told};
+use sharc_told_laws::laws::{
+    prints_law, refused_stay, stops_law, texts_begin_with_prints, turns_tell_own,
+};
+use sharc_top_laws::replies::{records_are_told, sources_are_one, verdicts_are_told};
+use sharc_wants_laws::followed_law;
+use sharc_wants_laws::sole::{
+    reports_show_cause, tested_are_only, testers_give, threads_have_begun,
+};
 
 /// Where each turn is made by a thread that is chosen among those that may make one, none makes more events than the
 /// limit.
@@ -53,11 +62,31 @@ pub fn accesses_are_wanted()
     threads_stand_if_typed();
 }
 
+/// So is the access of a check that was refused, by the events of the whole run.
+pub fn refused_are_wanted()
+    ensures { TypedRefusedAreWanted }
+{
+    followed_law();
+    refused_stay();
+    threads_stand_if_typed();
+}
+
 /// Where a lock check was refused the source wants an access under the mutex that the check looks for.
 pub fn locks_are_wanted()
     ensures { TypedLocksAreWanted }
 {
     threads_stand_if_typed();
+}
+
+/// Where a test of a sole reference was refused, what the source wants to give or to free is the object that was tested.
+pub fn given_are_tested()
+    ensures { TypedGivenAreTested }
+{
+    each_names_itself();
+    paths_law();
+    testers_give();
+    refused_stay();
+    threads_have_begun();
 }
 
 /// Each checked run of the code that is built of a source, by threads in any order and with every shape that fits the
@@ -75,13 +104,16 @@ pub fn built_runs_tell()
     built_reports_show_if_typed();
     built_stuck_is_deadlock_if_typed();
     reports_show_cause();
+    tested_are_only();
     seen_law();
     typed_runs_stand();
     prints_law();
     stops_law();
     threads_tell();
     accesses_are_wanted();
+    refused_are_wanted();
     locks_are_wanted();
+    given_are_tested();
 }
 
 /// Where the modes of the source are accepted, each reply to `run`, `load`, `record` and `replay` tells all that

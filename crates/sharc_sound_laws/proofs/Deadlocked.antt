@@ -2,7 +2,6 @@
 use Rattle.std.proofs.Common.{◌≡◌, ◌≢◌, ℕ, zero, suc, pos, ◌<◌, ◌⊎◌, inl, inr, ⊎_elim, Bool, true, false, ◌||◌, ◌&&◌, cond, List, [], ◌∷◌, ◌++◌, length, Some, None, refl, sym, ap, ◌∙◌, subst, arith}
 use Rattle.std.specs.Prelude.{◌==◌, slice_index_or}
 use Rattle.std.specs.List.{list_any}
-use Rattle.std.proofs.lemmas.Bool.Decides.{nat_tests}
 use Rattle.sharc_tree.specs.declared.event.Act.{Act}
 use Rattle.sharc_tree.specs.declared.event.Act.TheVariants as acts
 use Rattle.sharc_tree.specs.declared.event.SourceEvent.{SourceEvent}
@@ -31,15 +30,10 @@ use Rattle.sharc_history_laws.specs.Stuck.{act_awaited}
 use Rattle.sharc_history_laws.specs.Threads.{ThreadsAreTold}
 use Rattle.sharc_wants_laws.specs.Wants.{IsNotThere, WantsBy}
 use Rattle.sharc_sound_laws.specs.Standing.{IsPlaced}
-use Rattle.sharc_sound_laws.proofs.Standing.{IsNextBy, behind_own, from_first, next_by}
-
-yes : true ≡ false → ⊥
-yes e = cc
+use Rattle.sharc_sound_laws.proofs.Standing.{IsNextBy, behind_own, from_first, next_by, same_is}
+use Rattle.sharc_sound_laws.proofs.Picked.{yes}
 
 -- ---- tests over lists
-and_left : (a b : Bool) → (a && b) ≡ true → a ≡ true
-and_left true b e = refl
-and_left false b e = absurd (yes (sym e))
 
 and_right : (a b : Bool) → (a && b) ≡ true → b ≡ true
 and_right true b e = e
@@ -71,9 +65,6 @@ any_last test (x ∷ xs) e q = ⊎_elim
     (λ (now : test x ≡ true). inl (ap (λ b. b || list_any test xs) now))
     (λ (rest : list_any test (xs ++ e ∷ []) ≡ true). ⊎_elim (λ (k : list_any test xs ≡ true). inl (or_right (test x) (list_any test xs) k)) (λ (k : test e ≡ true). inr k) (any_last test xs e rest))
     (or_cases (test x) (list_any test (xs ++ e ∷ [])) q)
-
-same_is : (n : ℕ) → (n == n) ≡ true
-same_is n = grind (arith, nat_tests)
 
 -- a thread that is gone has an event
 gone_tells : (t : ℕ) (R : History) → went R (pos t) ≡ true → events_of t R ≡ [] → ⊥

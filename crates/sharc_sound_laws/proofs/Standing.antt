@@ -25,7 +25,7 @@ use Rattle.sharc_sound_laws.proofs.Named.{same_function}
 use Rattle.sharc_sound_laws.proofs.Next.{wanted, comes_as}
 
 -- ---- events of a thread
-same_is : (n : ℕ) → (n == n) ≡ true
+pub same_is : (n : ℕ) → (n == n) ≡ true
 same_is n = grind (arith, nat_tests)
 
 other_is : (n k : ℕ) → n ≢ k → (n == k) ≡ false

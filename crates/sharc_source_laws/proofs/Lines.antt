@@ -1,5 +1,5 @@
--- A source that holds a line of a schedule has two `%` in a row among its tokens, and so is no program.
-use Rattle.std.proofs.Common.{◌≡◌, ℕ, ◌+◌, ◌==◌, Bool, true, false, List, [], ◌∷◌, ◌++◌, drop, Option, Some, None, Result, Ok, Err, ok_or, is_ok, refl, sym, ap, ◌∙◌, subst, if◌then◌else◌}
+-- A source that holds a line of a schedule, or the first of events, has two `%` in a row among its tokens, and so is no program.
+use Rattle.std.proofs.Common.{◌≡◌, ℕ, ◌+◌, ◌==◌, Bool, true, false, List, [], ◌∷◌, ◌++◌, drop, Option, Some, None, Result, Ok, Err, ok_or, is_ok, codes, refl, sym, ap, ◌∙◌, subst, if◌then◌else◌}
 use Rattle.sharc_tree.specs.declared.token.FaultAt.{FaultAt}
 use Rattle.sharc_lex.specs.declared.fault.Fault.{Fault}
 use Rattle.sharc_tree.specs.declared.token.Token.{Token}
@@ -13,7 +13,7 @@ use Rattle.sharc_lex.specs.Markers.{is_marker_line}
 use Rattle.sharc_grammar.specs.Grammar.{mark}
 use Rattle.sharc_grammar.specs.Places.{word_of, words_of}
 use Rattle.sharc_recorded.specs.File.{schedule_word}
-use Rattle.sharc_source_laws.specs.Laws.{ProgramsHoldNoSchedule}
+use Rattle.sharc_source_laws.specs.Laws.{ProgramsHoldNoEvents, ProgramsHoldNoSchedule}
 use Rattle.sharc_source_laws.proofs.Percents.{Apart, program_apart, apart_before, not_twice}
 
 -- ---- tokens
@@ -89,6 +89,10 @@ line_refuses : (read : Read) (offset : ℕ) (tail : List ℕ) → Refuses (line_
 line_refuses read offset tail =
     text_refuses read (percent read.next offset (37 ∷ 37 ∷ 115 ∷ tail)) (percent read.next (offset + 1) (37 ∷ 115 ∷ tail)) refl refl (tokens_of read.next 0 (offset + 1 + 1) (115 ∷ tail))
 
+events_refuse : (read : Read) (offset : ℕ) (tail : List ℕ) → Refuses (line_read read offset (37 ∷ 37 ∷ 101 ∷ tail))
+events_refuse read offset tail =
+    text_refuses read (percent read.next offset (37 ∷ 37 ∷ 101 ∷ tail)) (percent read.next (offset + 1) (37 ∷ 101 ∷ tail)) refl refl (tokens_of read.next 0 (offset + 1 + 1) (101 ∷ tail))
+
 placed_refuses : (read : Read) (r : Result Read LineFault) → Refuses r → Refuses (with_place read r)
 placed_refuses read (Ok more) h = h
 placed_refuses read (Err e) h = tt
@@ -105,11 +109,14 @@ later_refuses : (r : Result Read (FaultAt Fault)) (f : Read → Result Read (Fau
 later_refuses (Ok more) f k = k more
 later_refuses (Err e) f k = tt
 
-lines_refuse : (front : List (List ℕ)) (tail : List ℕ) (lines : List (List ℕ)) (read : Read) (offset : ℕ) → Refuses (lines_read read offset (front ++ (37 ∷ 37 ∷ 115 ∷ tail) ∷ lines))
-lines_refuse [] tail lines read offset =
-    let line : List ℕ = 37 ∷ 37 ∷ 115 ∷ tail in
-    then_refuses (with_place read (line_read read offset line)) _ (placed_refuses read (line_read read offset line) (line_refuses read offset tail)) (λ more. lines_keep lines more _)
-lines_refuse (line ∷ front) tail lines read offset = later_refuses (with_place read (line_read read offset line)) _ (λ more. lines_refuse front tail lines more _)
+-- so does a source with such a line
+abbrev IsRefused : List ℕ → Type 0
+IsRefused line = (read : Read) (offset : ℕ) → Refuses (line_read read offset line)
+
+lines_refuse : (front : List (List ℕ)) (bad : List ℕ) (lines : List (List ℕ)) → IsRefused bad → (read : Read) (offset : ℕ) → Refuses (lines_read read offset (front ++ bad ∷ lines))
+lines_refuse [] bad lines refused read offset =
+    then_refuses (with_place read (line_read read offset bad)) _ (placed_refuses read (line_read read offset bad) (refused read offset)) (λ more. lines_keep lines more _)
+lines_refuse (line ∷ front) bad lines refused read offset = later_refuses (with_place read (line_read read offset line)) _ (λ more. lines_refuse front bad lines refused more _)
 
 -- ---- the lines of such a source
 -- after a newline come the lines of the rest, and before them one at least
@@ -126,28 +133,30 @@ behind_newline : (before rest : List ℕ) → Behind (lines_of (before ++ 10 ∷
 behind_newline [] rest = record { first = []; others = []; is = refl }
 behind_newline (b ∷ before) rest = behind_step b (b == 10) (lines_of (before ++ 10 ∷ rest)) (lines_of rest) (behind_newline before rest)
 
-record Begun (lines : List (List ℕ)) : Type 0 where
+record Begun (letter : ℕ) (lines : List (List ℕ)) : Type 0 where
   tail : List ℕ
   others : List (List ℕ)
-  is : lines ≡ (37 ∷ 37 ∷ 115 ∷ tail) ∷ others
+  is : lines ≡ (37 ∷ 37 ∷ letter ∷ tail) ∷ others
 
-begun : (lines : List (List ℕ)) → Begun (in_front 37 (in_front 37 (in_front 115 lines)))
-begun [] = record { tail = []; others = []; is = refl }
-begun (line ∷ lines) = record { tail = line; others = lines; is = refl }
+begun : (letter : ℕ) (lines : List (List ℕ)) → Begun letter (in_front 37 (in_front 37 (in_front letter lines)))
+begun letter [] = record { tail = []; others = []; is = refl }
+begun letter (line ∷ lines) = record { tail = line; others = lines; is = refl }
 
--- the bytes of the word, after its first three
-abbrev later : List ℕ → List ℕ
-later after = drop 3 (schedule_word ++ after)
+abbrev events_word : List ℕ
+events_word = codes "%%events "
 
-begun_schedule : (after : List ℕ) → Begun (lines_of (schedule_word ++ after))
-begun_schedule after = begun (lines_of (later after))
+-- the bytes of the words, after the first three
+begun_schedule : (after : List ℕ) → Begun 115 (lines_of (schedule_word ++ after))
+begun_schedule after = begun 115 (lines_of (drop 3 (schedule_word ++ after)))
 
-source_refuses : (before after : List ℕ) (read : Read) (offset : ℕ) → Refuses (lines_read read offset (lines_of (before ++ 10 ∷ (schedule_word ++ after))))
-source_refuses before after read offset =
-    let lines = behind_newline before (schedule_word ++ after) in
-    let word = begun_schedule after in
-    subst (λ l. Refuses (lines_read read offset l)) (sym (lines.is ∙ ap (λ l. lines.first ∷ (lines.others ++ l)) word.is))
-    (lines_refuse (lines.first ∷ lines.others) word.tail word.others read offset)
+begun_events : (after : List ℕ) → Begun 101 (lines_of (events_word ++ after))
+begun_events after = begun 101 (lines_of (drop 3 (events_word ++ after)))
+
+source_refuses : (letter : ℕ) → ((tail : List ℕ) → IsRefused (37 ∷ 37 ∷ letter ∷ tail)) → (before rest : List ℕ) → Begun letter (lines_of rest) → Refuses (lines_read opening 0 (lines_of (before ++ 10 ∷ rest)))
+source_refuses letter refused before rest word =
+    let lines = behind_newline before rest in
+    subst (λ l. Refuses (lines_read opening 0 l)) (sym (lines.is ∙ ap (λ l. lines.first ∷ (lines.others ++ l)) word.is))
+    (lines_refuse (lines.first ∷ lines.others) (37 ∷ 37 ∷ letter ∷ word.tail) word.others (refused word.tail) opening 0)
 
 abbrev list_of : Result Tokens (FaultAt Fault) → List Token
 list_of (Ok tokens) = tokens.list
@@ -163,5 +172,10 @@ not_read source tokens refuses read h = no_tokens (lines_read opening 0 (lines_o
 
 pub no_schedule : ProgramsHoldNoSchedule
 no_schedule source tokens p read reads = λ before after is.
-    not_read source tokens (subst (λ s. Refuses (lines_read opening 0 (lines_of s))) (sym is) (source_refuses before after opening 0)) read
+    not_read source tokens (subst (λ s. Refuses (lines_read opening 0 (lines_of s))) (sym is) (source_refuses 115 (λ tail more offset. line_refuses more offset tail) before (schedule_word ++ after) (begun_schedule after))) read
+    (subst Apart reads.spelled (program_apart reads.phrases))
+
+pub no_events : ProgramsHoldNoEvents
+no_events source tokens p read reads = λ before after is.
+    not_read source tokens (subst (λ s. Refuses (lines_read opening 0 (lines_of s))) (sym is) (source_refuses 101 (λ tail more offset. events_refuse more offset tail) before (events_word ++ after) (begun_events after))) read
     (subst Apart reads.spelled (program_apart reads.phrases))

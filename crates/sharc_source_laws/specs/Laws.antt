@@ -1,5 +1,5 @@
 -- Laws of sources that are programs, for the crates above.
-use Rattle.std.specs.Prelude.{ℕ, ◌≡◌, List, Ok, Some, Bool, pos, slice_get}
+use Rattle.std.specs.Prelude.{ℕ, ◌≡◌, ◌≢◌, List, ◌∷◌, ◌++◌, codes, Ok, Some, Bool, pos, slice_get}
 use Rattle.sharc_tree.specs.declared.token.Number.{Number}
 use Rattle.sharc_tree.specs.declared.token.Span.{Span}
 use Rattle.sharc_tree.specs.declared.token.Tokens.{Tokens}
@@ -15,6 +15,14 @@ use Rattle.sharc_recorded.specs.File.{HoldsNoSchedule}
 -- no newline of a program is followed by the word that begins the schedule in a recorded file
 abbrev pub ProgramsHoldNoSchedule : Type 0
 ProgramsHoldNoSchedule = (source : List ℕ) (tokens : Tokens) (p : Program) → reading source ≡ Ok tokens → Reads tokens p → HoldsNoSchedule source
+
+-- no newline of the source is followed by the word that begins the events in an event file
+abbrev pub HoldsNoEvents : List ℕ → Type 0
+HoldsNoEvents source = (before after : List ℕ) → source ≢ before ++ 10 ∷ (codes "%%events " ++ after)
+
+-- nor is any of a program
+abbrev pub ProgramsHoldNoEvents : Type 0
+ProgramsHoldNoEvents = (source : List ℕ) (tokens : Tokens) (p : Program) → reading source ≡ Ok tokens → Reads tokens p → HoldsNoEvents source
 
 -- a number in a token has no sign of its own, so none at which a global of a program begins has one
 abbrev pub NumbersHaveNoSign : Type 0

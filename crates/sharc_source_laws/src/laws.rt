@@ -1,11 +1,16 @@
 //! The laws: each is the contract of a function that does nothing.
 
 ghost use Rattle.sharc_source_laws.specs.Constants.{ConstantsAreHeld, EachConstantIsHeld};
-ghost use Rattle.sharc_source_laws.specs.Laws.{NumbersHaveNoSign, ProgramsHoldNoSchedule};
+ghost use Rattle.sharc_source_laws.specs.Laws.{NumbersHaveNoSign, ProgramsHoldNoEvents, ProgramsHoldNoSchedule};
 
 /// No newline of a program is followed by `%%schedule `: so a recorded file of a program ends it where the schedule begins.
 pub fn programs_hold_no_schedule()
     ensures { ProgramsHoldNoSchedule }
+{}
+
+/// Nor is any followed by `%%events `: so an event file of a program ends it where the events begin.
+pub fn programs_hold_no_events()
+    ensures { ProgramsHoldNoEvents }
 {}
 
 /// No number at which a global of a program begins has a sign of its own: its minus, if there is one, is a token before it.

@@ -4,3 +4,4 @@ pub mod Ordered
 pub mod Owned
 pub mod Sorts
 pub mod Stopping
+pub mod Testing

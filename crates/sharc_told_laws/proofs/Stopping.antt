@@ -275,10 +275,10 @@ eq_refl n = grind (arith, nat_tests)
 ne_eq : (m n : ℕ) → (m ≡ n → ⊥) → nat_eq m n ≡ false
 ne_eq m n ne = grind (arith, nat_tests)
 
-put_same : {A : Type 0} (f : ℕ → A) (i : ℕ) (v : A) → put f i v i ≡ v
+pub put_same : {A : Type 0} (f : ℕ → A) (i : ℕ) (v : A) → put f i v i ≡ v
 put_same f i v = rw (eq_refl i) refl
 
-put_other : {A : Type 0} (f : ℕ → A) (i j : ℕ) (v : A) → (j ≡ i → ⊥) → put f i v j ≡ f j
+pub put_other : {A : Type 0} (f : ℕ → A) (i j : ℕ) (v : A) → (j ≡ i → ⊥) → put f i v j ≡ f j
 put_other f i j v ne = rw (ne_eq j i ne) refl
 
 not_going : (state : State) → may_go state ≡ true → state ≡ Stopped → ⊥

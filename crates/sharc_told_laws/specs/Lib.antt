@@ -1,3 +1,4 @@
 pub mod Own
 pub mod Prints
 pub mod Stopped
+pub mod Tested

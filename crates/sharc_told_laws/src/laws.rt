@@ -3,6 +3,7 @@
 ghost use Rattle.sharc_told_laws.specs.Own.{TurnsTellOwn};
 ghost use Rattle.sharc_told_laws.specs.Prints.{PrintsAreTold, TextsBeginWithPrints};
 ghost use Rattle.sharc_told_laws.specs.Stopped.{StopsAreStopped};
+ghost use Rattle.sharc_told_laws.specs.Tested.{ChecksStay, TestsStay};
 
 use sharc_code::{run_laws, standing_laws};
 
@@ -16,6 +17,15 @@ pub fn turns_tell_own()
 /// A thread of a checked run that has a stop is stopped.
 pub fn stops_law()
     ensures { StopsAreStopped }
+{
+    run_laws();
+}
+
+/// A thread that is stopped by the check of an access, or whose test of a sole reference did not find the count 1, stands
+/// there: nothing else of it changes to the end of the run.
+pub fn refused_stay()
+    ensures checks { ChecksStay }
+    ensures tests { TestsStay }
 {
     run_laws();
 }

@@ -10,7 +10,7 @@ use sharc_build::{BuildFault, Built, build};
 use std::alloc::{AllocError, Global};
 
 /// The program that a source within the limit is, with its code; or what is written where the source has a fault or its modes are refused.
-pub(crate) fn built(alloc: Global, source: &[u8]) -> Result<Result<Built, Reply>, AllocError>
+pub fn built(alloc: Global, source: &[u8]) -> Result<Result<Built, Reply>, AllocError>
     requires { length source.now ≤ SOURCE_LIMIT }
     ensures { IfOk result (IsBuiltOrRefused source.now) }
 {

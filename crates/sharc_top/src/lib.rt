@@ -1,10 +1,11 @@
 //! The command line and the top call.
 //!
-//! The program calls [`sharc_top`]; `Replies` of specs/Reply.antt says what it writes and with which status it ends.
+//! The program calls [`sharc_top`]; `Replies` of specs/Reply.antt says what it writes and with which status it ends. A program beside it
+//! may use `built::built`, with the replies and statuses of a source that is refused.
 #![tactic(auto)]
 
 mod audited;
-mod built;
+pub mod built;
 mod ending;
 mod input;
 mod loaded;
@@ -12,9 +13,9 @@ mod ran;
 mod recorded;
 mod refused;
 mod replayed;
-mod reply;
+pub mod reply;
 mod returning;
-mod status;
+pub mod status;
 mod task;
 mod text;
 mod top;

@@ -17,6 +17,7 @@ use sharc_code::Code;
 use sharc_rounds::Gate;
 use sharc_run::{Outcome, Ran, run_by_seed, run_by_workers, shape_of};
 use std::alloc::{AllocError, Global};
+use std::mem::forget;
 use std::thread::Threads;
 
 /// The numbers of a run.
@@ -102,7 +103,11 @@ pub(crate) fn run_source<R: Threads + Sync, G: Gate + Sync>(
     ensures { IfOk result (λ reply. Answers (task.Run numbers) source.now reply.status reply.text.items) }
 {
     match built(alloc, source)? {
-        Ok(built) => run_reply(rt, gate, alloc, &built.code, numbers),
+        Ok(built) => {
+            let reply = run_reply(rt, gate, alloc, &built.code, numbers);
+            forget(built);
+            reply
+        }
         Err(refusal) => Ok(refusal),
     }
 }

@@ -20,6 +20,7 @@ use sharc_replay::record_by_workers;
 use sharc_rounds::Gate;
 use sharc_run::shape_of;
 use std::alloc::{AllocError, Global};
+use std::mem::forget;
 use std::sync::Wait;
 use std::thread::Threads;
 
@@ -76,7 +77,11 @@ fn source_recorded<R: Threads + Wait + Sync, G: Gate + Sync>(
     ensures { IfOk result (λ reply. GivesSource source.now (Records source.now numbers.granules numbers.events) reply.status reply.text.items) }
 {
     match built(alloc, source)? {
-        Ok(built) => file_of_run(rt, gate, alloc, &built.code, source, numbers),
+        Ok(built) => {
+            let reply = file_of_run(rt, gate, alloc, &built.code, source, numbers);
+            forget(built);
+            reply
+        }
         Err(refusal) => Ok(refusal),
     }
 }

@@ -22,6 +22,7 @@ use sharc_recorded::{FileFault, RecordFile, file_laws, read_file};
 use sharc_replay::run_by_schedule;
 use sharc_run::shape_of;
 use std::alloc::{AllocError, Global};
+use std::mem::forget;
 
 /// The largest recorded file, in bytes.
 const FILE_LIMIT: usize = 1_073_741_824;
@@ -46,7 +47,11 @@ fn source_replayed(alloc: Global, file: &RecordFile) -> Result<Reply, AllocError
     ensures { IfOk result (λ reply. GivesSource file.now.source.items (Replays (view_of file.now)) reply.status reply.text.items) }
 {
     match built(alloc, &file.source)? {
-        Ok(built) => run_of_file(alloc, &built.code, file),
+        Ok(built) => {
+            let reply = run_of_file(alloc, &built.code, file);
+            forget(built);
+            reply
+        }
         Err(refusal) => Ok(refusal),
     }
 }

@@ -25,6 +25,9 @@ use std::thread::Threads;
 /// read. 9: reading failed. 10: writing failed or stalled, and a front part of the reply was written, but not all of it. 11: memory was wanting. 12: an event is the first that is not
 /// asked for, not legal, or against a rule of the modes. 13: the fuel of its thread is spent before it.
 ///
+/// What a reply to `run`, `load`, `record` or `replay` tells of its source, where the modes are accepted, is one record:
+/// `ReplyTells` of sharc_reply_laws. What each checked run of the code of a source tells of it is `RunTells` there.
+///
 /// `record` alone waits, and may not return: everything else is done by `without_waiting`.
 pub fn sharc_top<R: Threads + Wait + Sync, G: Gate + Sync, S: Source, O: Sink>(
     rt: &R,

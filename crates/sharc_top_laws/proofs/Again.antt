@@ -7,8 +7,8 @@ use Rattle.sharc_cli.specs.declared.command.Command.TheVariants.{Replay}
 use Rattle.sharc_recorded.specs.File.{FileView, IsFile, written}
 use Rattle.sharc_run.specs.declared.run.Ran.{Ran}
 use Rattle.sharc_sound.specs.Front.{IsFront}
-use Rattle.sharc_alike_laws.specs.Alike.{AreAlike}
-use Rattle.sharc_alike_laws.specs.Laws.{RunsAreAlike, CompiledAreAlike}
+use Rattle.sharc_sound_laws.specs.Alike.{AreAlike}
+use Rattle.sharc_sound_laws.specs.AlikeLaws.{RunsAreAlike, CompiledAreAlike}
 use Rattle.sharc_top.specs.declared.status.Status.{Status}
 use Rattle.sharc_top.specs.Limits.{source_limit, recording_limit}
 use Rattle.sharc_top.specs.Recording.{Replays}

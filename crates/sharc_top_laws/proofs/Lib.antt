@@ -3,6 +3,7 @@ pub mod Asked
 pub mod Auditing
 pub mod FaultLemmas
 pub mod Judged
+pub mod Keeping
 pub mod Recorded
 pub mod Replying
 pub mod Sources

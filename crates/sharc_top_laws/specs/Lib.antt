@@ -1,3 +1,4 @@
 pub mod AuditLaws
+pub mod Kept
 pub mod Laws
 pub mod RecordLaws

@@ -1,1 +1,17 @@
+pub mod Alone
+pub mod Beginning
+pub mod Cause
+pub mod Cells
+pub mod Elsewhere
+pub mod Emptying
+pub mod Hands
+pub mod Holding
+pub mod InFlight
+pub mod Laws
+pub mod Only
+pub mod Registered
+pub mod Seeing
+pub mod Silent
+pub mod Sole
+pub mod Waits
 pub mod Wants

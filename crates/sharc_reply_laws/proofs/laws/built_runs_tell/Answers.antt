@@ -1,6 +1,7 @@
-use Rattle.std.proofs.Common.{ℕ, ◌<◌, ◌^◌, false, arith}
+use Rattle.std.proofs.Common.{ℕ, ◌<◌, ◌^◌, ◌∷◌, false, subst, arith}
+use Rattle.sharc_code.specs.Whole.{CheckedRun}
 use Rattle.sharc_invariant.specs.State.{IsSmall}
-use Rattle.sharc_target_laws.specs.Targets.{targets_of}
+use Rattle.sharc_accepted_laws.specs.Targets.{targets_of}
 use Rattle.sharc_reply_laws.proofs.Reported.{reported}
 use Rattle.sharc_reply_laws.proofs.laws.built_runs_tell.Goals as goal
 
@@ -32,14 +33,19 @@ returns c = λ source built is.
             obeys = sound.obeys;
             prints = λ threads are prints order. c.prints_law.ensures code s fits run checked threads are prints order;
             threads = λ thread. c.threads_tell.ensures m typed made.flat made.flattens made.fits code made.coded x s ls wt fits few run checked thread;
-            reports = λ threads are t stop at. reported c.seen_law.ensures.begins m code s ls run checked stands
+            reports = λ threads are t stop at report. reported c.seen_law.ensures.begins m code s ls run checked stands
                 (λ before was check kind granule site made' a access. c.accesses_are_wanted.ensures m typed made.flat made.flattens made.fits code made.coded x s ls wt fits few before was check kind granule site false made' a access)
+                (λ t report stopped at j kind site shown. c.refused_are_wanted.ensures m typed made.flat made.flattens made.fits code made.coded x s ls wt fits few run checked t report stopped at j kind site shown)
                 (λ t site word stopped at shows. c.locks_are_wanted.ensures m typed made.flat made.flattens made.fits code made.coded x s ls wt fits few run checked t site word stopped at shows)
                 (λ t stop stopped at report. c.built_reports_show_if_typed.ensures source built is x ls wt s fits run checked t stop stopped at report)
                 (λ t site count at. c.reports_show_cause.ensures m typed made.flat made.flattens made.fits code made.coded s ls wt fits few initial run checked t site count at)
-                threads are t stop (c.stops_law.ensures code s run checked t stop at) at;
+                (λ t site count wants_it finds. c.given_are_tested.ensures m typed made.flat made.flattens made.fits code made.coded x s ls wt fits few run checked t site count wants_it finds)
+                threads are t stop (c.stops_law.ensures code s run checked t stop at) at report;
             unreported = λ always. c.built_obeying_is_unreported_if_typed.ensures source built is x ls wt always s fits run checked;
             deadlock = λ stuck. c.built_stuck_is_deadlock_if_typed.ensures source built is x ls wt s fits run checked stuck;
+            sole = λ later test earlier is register passes holder there.
+                c.tested_are_only.ensures m typed made.flat made.flattens made.fits code made.coded s ls wt fits few initial test earlier
+                (c.seen_law.ensures.begins code s later (test ∷ earlier) (subst (CheckedRun code s) is checked)) register passes holder there;
             places = stands.places;
             checks = stands.checks;
           };

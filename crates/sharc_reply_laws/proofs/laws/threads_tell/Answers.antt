@@ -3,7 +3,7 @@ use Rattle.sharc_code.specs.Runs.{said_by}
 use Rattle.sharc_code.specs.Whole.{Erase, place_after}
 use Rattle.sharc_gen.specs.OfRuns.{told_in}
 use Rattle.sharc_history_laws.specs.History.{history_of}
-use Rattle.sharc_sole_laws.specs.Holding.{lowered_of}
+use Rattle.sharc_wants_laws.specs.Holding.{lowered_of}
 use Rattle.sharc_reply_laws.specs.Threads.{counted_turns}
 use Rattle.sharc_reply_laws.proofs.Telling.{tells}
 use Rattle.sharc_reply_laws.proofs.laws.threads_tell.Goals as goal

@@ -1,0 +1,72 @@
+-- What pointers to mutexes and to condition variables refer to, by the rows of their types.
+use Rattle.std.proofs.Common.{◌≡◌, ◌<◌, [], ◌∷◌, refl, ap, sym, ◌∙◌, subst, arith, option_map, Option, Some, None, Contains, codes}
+use Rattle.sharc_tree.specs.declared.ctype.Base.{Base}
+use Rattle.sharc_tree.specs.declared.ctype.Base.TheVariants as base
+use Rattle.sharc_tree.specs.Tree.{Expression}
+use Rattle.sharc_names.specs.Kinds.{object}
+use Rattle.sharc_ctype.specs.Resolved.{kind_at}
+use Rattle.sharc_mode.specs.Notes.{base_of}
+use Rattle.sharc_mode.specs.Rows.{Targets, row_at, modes_of}
+use Rattle.sharc_mode_laws.specs.Constructs.{IsExpression}
+use Rattle.sharc_flat.specs.Scope.{Context}
+use Rattle.sharc_invariant.specs.Types.{StaticType, Content, cells_of, field_at}
+use Rattle.sharc_invariant.specs.Types.Content.{MutexWord, Waiters}
+use Rattle.sharc_invariant.specs.Labels.{Empty, Refers}
+use Rattle.sharc_typed_laws.specs.Stretches.{Setting}
+use Rattle.sharc_typed_laws.specs.Typable.{FirstCell}
+use Rattle.sharc_accepted_laws.specs.StaticLaws.{IsAccepted}
+use Rattle.sharc_accepted_laws.specs.Static.{static_of, entry_by, entry_of}
+use Rattle.sharc_accepted_laws.specs.TargetFirsts.{FirstFits, FirstLaws}
+use Rattle.sharc_accepted_laws.specs.TargetLaws.{ExpressionsFound}
+use Rattle.sharc_accepted_laws.specs.Shapes.{Form, dynamic_form, Shape, form_of, shape_of, row_shape, stars_in, known_condition, known_mutex, shapes, number}
+use Rattle.sharc_accepted_laws.specs.Targets.{targets_of}
+use Rattle.sharc_accepted_laws.specs.AccessFirsts.{type_of_mutex, type_of_condition, FirstsFit}
+use Rattle.sharc_accepted_laws.proofs.Paths.{one_sharing}
+
+pub no_entry : (s : StaticType) → Empty ≡ Refers s → ⊥
+no_entry s h = cc
+
+same_entry : (s t : StaticType) → Refers s ≡ Refers t → s ≡ t
+same_entry s t h = cc
+
+module _ (expressions_found : ExpressionsFound) (firsts : FirstLaws) (z : Setting) (c : Context) (targets : z.targets ≡ targets_of c.program) (a : IsAccepted c.program) where
+  first_cell : (s : StaticType) (shape : Shape) (content : Content) → s.target ≡ number c.program shape → FirstFits c.program shape content → FirstCell z s content
+  first_cell s shape content is fits = record {
+    some = subst (λ x. 0 < cells_of x s.target) (sym targets) (subst (λ k. 0 < cells_of (targets_of c.program) k) (sym is) fits.some);
+    holds = ap (λ x. (field_at x s.target 0).holds) targets ∙ ap (λ k. (field_at (targets_of c.program) k 0).holds) is ∙ fits.holds;
+  }
+
+  -- a pointer with one star
+  record IsOneTarget (b : Base) (s : StaticType) : Type 0 where
+    form : Form
+    has : Contains (shapes c.program) (record { base = b; forms = form ∷ [] })
+    is : s.target ≡ number c.program (record { base = b; forms = form ∷ [] })
+
+  one_target : (b : Base) (e : Expression) → IsExpression c.program e → kind_at c.program.typed e ≡ object b 1 → (s : StaticType) → entry_of c e ≡ Refers s → IsOneTarget b s
+  one_target b e there kind s = by (row_at c.program.typed e) refl
+    where
+      by : (o : Option Targets) → row_at c.program.typed e ≡ o → entry_by c (kind_at c.program.typed e) (option_map (modes_of c.program) o) ≡ Refers s → IsOneTarget b s
+      by None none h = absurd (no_entry s h)
+      by (Some row) is h =
+          let found = expressions_found c.program a.resolved a.placed a.low a.least.modes e there row is in
+          let count : row.count ≡ 1 = found.count ∙ ap stars_in kind in
+          let one = one_sharing c.program row count found.ends in
+          let shape : row_shape c.program (base_of (kind_at c.program.typed e)) row ≡ record { base = b; forms = form_of one.0 ∷ [] } = ap (λ k. row_shape c.program (base_of k) row) kind ∙ ap (shape_of b) one.1 in
+          let same : static_of c (kind_at c.program.typed e) (modes_of c.program row) ≡ s = same_entry (static_of c (kind_at c.program.typed e) (modes_of c.program row)) s h in
+          record {
+            form = form_of one.0;
+            has = subst (Contains (shapes c.program)) shape (found.there (omega (arith, count)));
+            is = ap (λ (t : StaticType). t.target) (sym same) ∙ ap (number c.program) shape;
+          }
+
+pub firsts_fit : ExpressionsFound → FirstLaws → FirstsFit
+firsts_fit expressions_found firsts z c targets a = record {
+  mutex = λ e there kind s entry.
+      let one = one_target expressions_found firsts z c targets a base.Mutex e there kind s entry in
+      first_cell expressions_found firsts z c targets a s (record { base = base.Mutex; forms = one.form ∷ [] }) MutexWord one.is (firsts.mutexes c.program one.form one.has);
+  condition = λ knows e there kind s entry.
+      let one = one_target expressions_found firsts z c targets a (base.Struct (codes "cond")) e there kind s entry in
+      first_cell expressions_found firsts z c targets a s (record { base = base.Struct (codes "cond"); forms = one.form ∷ [] }) Waiters one.is (firsts.waiters c.program one.form knows one.has);
+  no_mutex = first_cell expressions_found firsts z c targets a (type_of_mutex c.program) known_mutex MutexWord refl (firsts.mutexes c.program dynamic_form (firsts.mutex c.program));
+  no_condition = λ knows. first_cell expressions_found firsts z c targets a (type_of_condition c.program) known_condition Waiters refl (firsts.waiters c.program dynamic_form knows (firsts.condition c.program));
+}

@@ -1,0 +1,109 @@
+-- Shapes that are the same are equal.
+use Rattle.std.proofs.Common.{◌≡◌, true, List, [], ◌∷◌, refl, ap, ◌∙◌}
+use Rattle.std.proofs.lemmas.Bool.{false≢true, and_parts, and_from}
+use Rattle.std.proofs.lemmas.Slice.Eq.{bytes_eq-Decides}
+use Rattle.sharc_tree.specs.declared.ctype.Base.{Base}
+use Rattle.sharc_tree.specs.declared.ctype.Base.TheVariants as base
+use Rattle.sharc_names.specs.Kinds.{same_base}
+use Rattle.sharc_accepted_laws.specs.Shapes.{Form, private_form, readonly_form, locked_form, racy_form, dynamic_form, Shape, same_form, same_forms, same_shape}
+
+base_itself : (b : Base) → same_base b b ≡ true
+base_itself base.Int = refl
+base_itself base.Char = refl
+base_itself base.Long = refl
+base_itself base.Mutex = refl
+base_itself base.Void = refl
+base_itself (base.Struct name) = (bytes_eq-Decides name name).1 refl
+
+pub base_is : (a b : Base) → same_base a b ≡ true → a ≡ b
+base_is base.Int base.Int h = refl
+base_is base.Int base.Char h = absurd (false≢true h)
+base_is base.Int base.Long h = absurd (false≢true h)
+base_is base.Int base.Mutex h = absurd (false≢true h)
+base_is base.Int base.Void h = absurd (false≢true h)
+base_is base.Int (base.Struct y) h = absurd (false≢true h)
+base_is base.Char base.Int h = absurd (false≢true h)
+base_is base.Char base.Char h = refl
+base_is base.Char base.Long h = absurd (false≢true h)
+base_is base.Char base.Mutex h = absurd (false≢true h)
+base_is base.Char base.Void h = absurd (false≢true h)
+base_is base.Char (base.Struct y) h = absurd (false≢true h)
+base_is base.Long base.Int h = absurd (false≢true h)
+base_is base.Long base.Char h = absurd (false≢true h)
+base_is base.Long base.Long h = refl
+base_is base.Long base.Mutex h = absurd (false≢true h)
+base_is base.Long base.Void h = absurd (false≢true h)
+base_is base.Long (base.Struct y) h = absurd (false≢true h)
+base_is base.Mutex base.Int h = absurd (false≢true h)
+base_is base.Mutex base.Char h = absurd (false≢true h)
+base_is base.Mutex base.Long h = absurd (false≢true h)
+base_is base.Mutex base.Mutex h = refl
+base_is base.Mutex base.Void h = absurd (false≢true h)
+base_is base.Mutex (base.Struct y) h = absurd (false≢true h)
+base_is base.Void base.Int h = absurd (false≢true h)
+base_is base.Void base.Char h = absurd (false≢true h)
+base_is base.Void base.Long h = absurd (false≢true h)
+base_is base.Void base.Mutex h = absurd (false≢true h)
+base_is base.Void base.Void h = refl
+base_is base.Void (base.Struct y) h = absurd (false≢true h)
+base_is (base.Struct x) base.Int h = absurd (false≢true h)
+base_is (base.Struct x) base.Char h = absurd (false≢true h)
+base_is (base.Struct x) base.Long h = absurd (false≢true h)
+base_is (base.Struct x) base.Mutex h = absurd (false≢true h)
+base_is (base.Struct x) base.Void h = absurd (false≢true h)
+base_is (base.Struct x) (base.Struct y) h = ap (λ z. base.Struct z) ((bytes_eq-Decides x y).0 h)
+
+form_itself : (f : Form) → same_form f f ≡ true
+form_itself private_form = refl
+form_itself readonly_form = refl
+form_itself locked_form = refl
+form_itself racy_form = refl
+form_itself dynamic_form = refl
+
+form_is : (a b : Form) → same_form a b ≡ true → a ≡ b
+form_is private_form private_form h = refl
+form_is private_form readonly_form h = absurd (false≢true h)
+form_is private_form locked_form h = absurd (false≢true h)
+form_is private_form racy_form h = absurd (false≢true h)
+form_is private_form dynamic_form h = absurd (false≢true h)
+form_is readonly_form private_form h = absurd (false≢true h)
+form_is readonly_form readonly_form h = refl
+form_is readonly_form locked_form h = absurd (false≢true h)
+form_is readonly_form racy_form h = absurd (false≢true h)
+form_is readonly_form dynamic_form h = absurd (false≢true h)
+form_is locked_form private_form h = absurd (false≢true h)
+form_is locked_form readonly_form h = absurd (false≢true h)
+form_is locked_form locked_form h = refl
+form_is locked_form racy_form h = absurd (false≢true h)
+form_is locked_form dynamic_form h = absurd (false≢true h)
+form_is racy_form private_form h = absurd (false≢true h)
+form_is racy_form readonly_form h = absurd (false≢true h)
+form_is racy_form locked_form h = absurd (false≢true h)
+form_is racy_form racy_form h = refl
+form_is racy_form dynamic_form h = absurd (false≢true h)
+form_is dynamic_form private_form h = absurd (false≢true h)
+form_is dynamic_form readonly_form h = absurd (false≢true h)
+form_is dynamic_form locked_form h = absurd (false≢true h)
+form_is dynamic_form racy_form h = absurd (false≢true h)
+form_is dynamic_form dynamic_form h = refl
+
+forms_themselves : (fs : List Form) → same_forms fs fs ≡ true
+forms_themselves [] = refl
+forms_themselves (f ∷ rest) = and_from (same_form f f) (same_forms rest rest) (form_itself f) (forms_themselves rest)
+
+two : (a b : Form) (xs bs : List Form) → a ≡ b → xs ≡ bs → a ∷ xs ≡ b ∷ bs
+two a b xs bs e f = cc
+
+forms_are : (xs bs : List Form) → same_forms xs bs ≡ true → xs ≡ bs
+forms_are [] [] h = refl
+forms_are [] (b ∷ bs) h = absurd (false≢true h)
+forms_are (a ∷ xs) [] h = absurd (false≢true h)
+forms_are (a ∷ xs) (b ∷ bs) h = let p = and_parts (same_form a b) (same_forms xs bs) h in two a b xs bs (form_is a b p.0) (forms_are xs bs p.1)
+
+pub shape_itself : (s : Shape) → same_shape s s ≡ true
+shape_itself s = and_from (same_base s.base s.base) (same_forms s.forms s.forms) (base_itself s.base) (forms_themselves s.forms)
+
+pub shape_is : (s t : Shape) → same_shape s t ≡ true → s ≡ t
+shape_is s t h =
+    let p = and_parts (same_base s.base t.base) (same_forms s.forms t.forms) h in
+    ap (λ b. record { base = b; forms = s.forms }) (base_is s.base t.base p.0) ∙ ap (λ fs. record { base = t.base; forms = fs }) (forms_are s.forms t.forms p.1)

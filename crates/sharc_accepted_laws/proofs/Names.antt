@@ -1,0 +1,83 @@
+-- The lock paths of the types of expressions and declarations are ones that the program names.
+use Rattle.std.proofs.Common.{◌≡◌, inl, inr, ℕ, true, List, [], ◌∷◌, refl, ap, subst, Option, Some, None, Contains}
+use Rattle.std.specs.List.{AllByRecursion}
+use Rattle.sharc_tree.specs.declared.ctype.Mode.TheVariants.{Locked}
+use Rattle.sharc_tree.specs.declared.ctype.Path.{Path}
+use Rattle.sharc_tree.specs.declared.token.Span.{Span}
+use Rattle.sharc_tree.specs.declared.tree.declaration.Identifier.{Identifier}
+use Rattle.sharc_tree.specs.declared.tree.expression.Access.{Access}
+use Rattle.sharc_tree.specs.Forms.{without_parentheses}
+use Rattle.sharc_tree.specs.Tree.{Expression, Function}
+use Rattle.sharc_tree.specs.Tree as tree
+use Rattle.sharc_names.specs.declared.fault.Named.{Named}
+use Rattle.sharc_names.specs.declared.fault.Named.TheVariants as named
+use Rattle.sharc_ctype.specs.declared.entity.Numbered.{Numbered}
+use Rattle.sharc_ctype.specs.Resolved.{named_at}
+use Rattle.sharc_mode.specs.Moded.{Assignment}
+use Rattle.sharc_mode.specs.Rows.{written, base_use, modes_of, declared_row}
+use Rattle.sharc_mode.specs.Sharings.{Lock, Sharing, private, readonly, locked, racy, dynamic, lock_of, object_named, object_of, text_at}
+use Rattle.sharc_mode_laws.specs.Constructs.{IsEntity, IsTaken}
+use Rattle.sharc_mode_laws.specs.Laws.{RulesAreMet}
+use Rattle.sharc_mode_laws.specs.Paths.{IsNamedByPath, is_written, is_made, IsSiblingUse}
+use Rattle.sharc_flat.specs.Scope.{Context, slot_kind}
+use Rattle.sharc_flat.specs.Suits.{PathNamed}
+use Rattle.sharc_invariant.specs.Types.{Names, SomeNames}
+use Rattle.sharc_accepted_laws.specs.Static.{register, lock_named, locks_at}
+use Rattle.sharc_accepted_laws.specs.Scopes.{AllStand}
+use Rattle.sharc_accepted_laws.specs.StaticLaws.{IsAccepted}
+use Rattle.sharc_accepted_laws.specs.Taken.{IsNamed, AllNamed, ExpressionsAreNamed, DeclaredAreNamed, TakenLaws}
+use Rattle.sharc_accepted_laws.proofs.StaticRegisters.{one_variable}
+use Rattle.sharc_accepted_laws.proofs.Origins.{is_use, Of, found_named, expression_of}
+use Rattle.sharc_accepted_laws.proofs.AccessLists.{each}
+
+-- ---- what they name
+module _ (m : Assignment) where
+  -- a path of the program names it
+  abbrev NamedBy : Lock → Type 0
+  NamedBy l = (x : ℕ) → object_of m.typed l ≡ Some x → IsNamedByPath m x
+
+  writes : (n : Numbered) → IsEntity m n → (path : Path) → Contains n.entity.written.ctype.levels (Some (Locked path)) → NamedBy (lock_of path)
+  writes n is path has x o = is_written is has o
+
+  makes : (a : Expression) (w : Access) (at : ℕ) (used : IsSiblingUse m a w) → base_use m.typed w a ≡ Some at → NamedBy (record { first = at; second = Some (text_at m.typed used.lock.first) })
+  makes a w at used is x o = is_made used (is_use m.typed w a at x is o)
+
+  turned : (modes : List Sharing) → AllByRecursion (Of m NamedBy writes makes) modes → AllNamed m modes
+  turned modes h = each (Of m NamedBy writes makes) (IsNamed m) (λ s k l x e o. k l e x o) modes h
+
+pub expressions_named : ExpressionsAreNamed
+expressions_named m a e modes all is = turned m modes (expression_of m (NamedBy m) (writes m) (makes m) a.least e modes all is)
+
+pub declared_named : DeclaredAreNamed
+declared_named m a token = turned m (modes_of m (declared_row m.typed written token)) (found_named m (NamedBy m) (writes m) (makes m) a.least token token)
+
+-- ---- what is taken
+module _ (rules : RulesAreMet) (c : Context) (a : IsAccepted c.program) (taken : Expression) (s : Span) (i : Identifier) (x : ℕ) (does : IsTaken c.program taken) (is : without_parentheses taken ≡ tree.identifier s i)
+    (names : named_at c.program.typed i.site.token ≡ named.Variable x) (stands : slot_kind c.scope x ≡ Some true) where
+  not_named : IsNamedByPath c.program x → ⊥
+  not_named h = ((rules c.program).0 a.well).m10 taken s i x does is (ap (object_named c.program.typed) names) h
+
+  one_free : (n : Named) (second : Option (List ℕ)) → ((y : ℕ) → object_named c.program.typed n ≡ Some y → IsNamedByPath c.program y) → PathNamed c.scope n second → Names (register c x) (lock_named c n second) → ⊥
+  one_free (named.Variable y) (Some p) h there same = not_named (subst (IsNamedByPath c.program) (one_variable c y x there stands same) (h y refl))
+  one_free (named.Variable y) None h there same = same
+  one_free (named.Struct n) p h there same = same
+  one_free (named.Global n) p h there same = same
+  one_free (named.Function n) p h there same = same
+  one_free (named.Field n) p h there same = same
+  one_free named.Known p h there same = same
+
+  all_free : (modes : List Sharing) → AllNamed c.program modes → AllStand c.program c.scope modes → SomeNames (register c x) (locks_at c modes) → ⊥
+  all_free [] h t k = k
+  all_free (private ∷ rest) h t k = all_free rest h.1 t.1 k
+  all_free (readonly ∷ rest) h t k = all_free rest h.1 t.1 k
+  all_free (locked l ∷ rest) h t (inl k) = one_free (named_at c.program.typed l.first) l.second (λ y o. h.0 l y refl o) t.0 k
+  all_free (locked l ∷ rest) h t (inr k) = all_free rest h.1 t.1 k
+  all_free (racy ∷ rest) h t k = all_free rest h.1 t.1 k
+  all_free (dynamic ∷ rest) h t k = all_free rest h.1 t.1 k
+
+pub taken_laws : RulesAreMet → TakenLaws
+taken_laws rules = record {
+  expressions = expressions_named;
+  declared = declared_named;
+  free = λ c a taken s i x does is names stands kind modes h t k. all_free rules c a taken s i x does is names stands modes h t k;
+}

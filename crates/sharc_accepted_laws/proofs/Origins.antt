@@ -1,0 +1,318 @@
+-- Where the lock paths of the types of expressions and declarations come from: what is written, and uses of fields through constant variables.
+use Rattle.std.proofs.Common.{◌≡◌, ⊎_elim, ℕ, ◌+◌, ◌-◌, ◌==◌, Bool, true, false, cond, List, [], ◌∷◌, map, refl, ap, sym, ◌∙◌, subst, option_map, Option, Some, None, Contains}
+use Rattle.std.proofs.lemmas.Bool.{false≢true}
+use Rattle.std.specs.List.{AllByRecursion}
+use Rattle.sharc_tree.specs.declared.ctype.Mode.{Mode}
+use Rattle.sharc_tree.specs.declared.ctype.Mode.TheVariants.{Private, Readonly, Locked, Racy, Dynamic}
+use Rattle.sharc_tree.specs.declared.ctype.Path.{Path}
+use Rattle.sharc_tree.specs.declared.token.Span.{Span}
+use Rattle.sharc_tree.specs.declared.tree.declaration.Identifier.{Identifier}
+use Rattle.sharc_tree.specs.declared.tree.expression.Access.{Access}
+use Rattle.sharc_tree.specs.declared.tree.expression.Access.TheVariants.{Dot, Arrow}
+use Rattle.sharc_tree.specs.declared.tree.expression.Constant.TheVariants as constants
+use Rattle.sharc_tree.specs.declared.tree.expression.UnaryOperator.TheVariants.{Negate, Not, Complement, Dereference}
+use Rattle.sharc_tree.specs.declared.tree.item.GlobalDefinition.{GlobalDefinition}
+use Rattle.sharc_tree.specs.Measures.{expressions}
+use Rattle.sharc_tree.specs.Tree.{Expression, Function}
+use Rattle.sharc_tree.specs.Tree as tree
+use Rattle.sharc_names.specs.declared.fault.Named.{Named}
+use Rattle.sharc_names.specs.declared.fault.Named.TheVariants as named
+use Rattle.sharc_names.specs.declared.types.Role.{Role}
+use Rattle.sharc_names.specs.declared.types.Role.TheVariants as role
+use Rattle.sharc_names.specs.Kinds.{is_array}
+use Rattle.sharc_ctype.specs.declared.entity.Numbered.{Numbered}
+use Rattle.sharc_ctype.specs.Entities.{entities_in, numbered, is_told_by, entity_at}
+use Rattle.sharc_ctype.specs.Constants.{is_constant}
+use Rattle.sharc_ctype.specs.Resolved.{Resolution, named_at, global_at, function_at, kind_at}
+use Rattle.sharc_mode.specs.Flows.{IsLeastAssignment}
+use Rattle.sharc_mode.specs.Moded.{Assignment}
+use Rattle.sharc_mode.specs.Rows.{Reading, written, through, Targets, is_constant_named, base_use, read, deeper, targets_from, entity_row, global_row, named_row, result_row, called_row, behind, reading_through, row_at, modes_of, modes_at}
+use Rattle.sharc_mode.specs.Sharings.{Lock, Sharing, private, readonly, locked, racy, dynamic, lock_of, sharing_of, text_at, is_sibling_lock, object_named}
+use Rattle.sharc_mode_laws.specs.Constructs.{IsExpression, IsEntity}
+use Rattle.sharc_mode_laws.specs.Paths.{IsThroughConstant, through as through_constant, IsSiblingUse}
+use Rattle.sharc_accepted_laws.proofs.Written.{raw, deeper_raw, row_good, found_there}
+use Rattle.sharc_accepted_laws.proofs.TargetLists.{to_each, tail_there, head_or_tail, head_there, none_there, same_some}
+use Rattle.sharc_accepted_laws.proofs.Found.{front}
+use Rattle.sharc_accepted_laws.proofs.TypableRegisters.{none_some}
+
+-- ---- modes that are written
+-- a path of a mode is written in this type
+abbrev WrittenIn : Numbered → Mode → Type 0
+WrittenIn n mode = (path : Path) → mode ≡ Locked path → Contains n.entity.written.ctype.levels (Some (Locked path))
+
+no_path : (n : Numbered) (mode : Mode) → ((path : Path) → mode ≡ Locked path → ⊥) → WrittenIn n mode
+no_path n mode none path is = absurd (none path is)
+
+pub private_path : (path : Path) → Private ≡ Locked path → ⊥
+private_path path h = cc
+
+pub racy_path : (path : Path) → Racy ≡ Locked path → ⊥
+racy_path path h = cc
+
+pub dynamic_path : (path : Path) → Dynamic ≡ Locked path → ⊥
+dynamic_path path h = cc
+
+abbrev LevelWritten : Numbered → Option Mode → Type 0
+LevelWritten n None = Unit {0}
+LevelWritten n (Some mode) = WrittenIn n mode
+
+level_written : (n : Numbered) (level : Option Mode) → Contains n.entity.written.ctype.levels level → LevelWritten n level
+level_written n None has = tt
+level_written n (Some mode) has = λ path is. subst (λ z. Contains n.entity.written.ctype.levels (Some z)) is has
+
+row_written : (m : Assignment) → IsLeastAssignment m → (how : Reading) (n : Numbered) → IsEntity m n → AllByRecursion (WrittenIn n) (raw m (entity_row how (Some n)))
+row_written m least how n is =
+    row_good (WrittenIn n) (no_path n Private private_path) (no_path n Racy racy_path) (no_path n Dynamic dynamic_path) m least how n is
+    (to_each (LevelWritten n) n.entity.written.ctype.levels (level_written n))
+
+-- ---- rows and lists
+deeper_reading : (row : Targets) → (deeper row).reading ≡ row.reading
+deeper_reading row = by (row.count == 0)
+  where
+    by : (b : Bool) → (cond b row (record { first = row.first + 1; count = row.count - 1; reading = row.reading })).reading ≡ row.reading
+    by true = refl
+    by false = refl
+
+pub reading_kept : (where_ : Role) (row : Targets) → (targets_from where_ row).reading ≡ row.reading
+reading_kept role.Field row = refl
+reading_kept role.Global row = deeper_reading row
+reading_kept role.Local row = refl
+reading_kept role.Parameter row = refl
+reading_kept role.Result row = refl
+reading_kept role.Cast row = refl
+reading_kept role.Made row = refl
+
+pub same_raw : (m : Assignment) (one other : Reading) (where_ : Role) (first count : ℕ)
+    → raw m (targets_from where_ (record { first = first; count = count; reading = one })) ≡ raw m (targets_from where_ (record { first = first; count = count; reading = other }))
+same_raw m one other role.Field first count = refl
+same_raw m one other role.Local first count = refl
+same_raw m one other role.Parameter first count = refl
+same_raw m one other role.Result first count = refl
+same_raw m one other role.Cast first count = refl
+same_raw m one other role.Made first count = refl
+same_raw m one other role.Global first count = by (count == 0)
+  where
+    by : (b : Bool) → raw m (cond b (record { first = first; count = count; reading = one }) (record { first = first + 1; count = count - 1; reading = one }))
+        ≡ raw m (cond b (record { first = first; count = count; reading = other }) (record { first = first + 1; count = count - 1; reading = other }))
+    by true = refl
+    by false = refl
+
+pub mapped_there : {A B : Type 0} (f : A → B) (list : List A) (x : A) → Contains list x → Contains (map f list) (f x)
+mapped_there f [] x has = absurd (none_there x has)
+mapped_there f (y ∷ rest) x has =
+    ⊎_elim (λ is. subst (λ z. Contains (f y ∷ map f rest) (f z)) is (head_there (f y) (map f rest))) (λ more. tail_there (f y) (f x) (map f rest) (mapped_there f rest x more)) (head_or_tail y x rest has)
+
+pub both_hold : {A : Type 0} (P Q : A → Type 0) (list : List A) → AllByRecursion P list → AllByRecursion Q list → AllByRecursion (λ x. P x × Q x) list
+both_hold P Q [] h k = tt
+both_hold P Q (x ∷ rest) h k = ((h.0, k.0), both_hold P Q rest h.1 k.1)
+
+deeper_modes : (m : Assignment) (P : Sharing → Type 0) (how : Reading) (list other : List Mode) → ((Q : Mode → Type 0) → AllByRecursion Q list → AllByRecursion Q other) → AllByRecursion P (map (λ mode. read m.typed how (sharing_of mode)) list) → AllByRecursion P (map (λ mode. read m.typed how (sharing_of mode)) other)
+deeper_modes m P how list other less h = to other (less (λ mode. P (read m.typed how (sharing_of mode))) (from list h))
+  where
+    from : (xs : List Mode) → AllByRecursion P (map (λ mode. read m.typed how (sharing_of mode)) xs) → AllByRecursion (λ mode. P (read m.typed how (sharing_of mode))) xs
+    from [] k = tt
+    from (x ∷ xs) k = (k.0, from xs k.1)
+
+    to : (xs : List Mode) → AllByRecursion (λ mode. P (read m.typed how (sharing_of mode))) xs → AllByRecursion P (map (λ mode. read m.typed how (sharing_of mode)) xs)
+    to [] k = tt
+    to (x ∷ xs) k = (k.0, to xs k.1)
+
+-- what holds of the modes of a row holds of those of what it points to in turn
+pub deeper_hold : (m : Assignment) (P : Sharing → Type 0) (row : Targets) → AllByRecursion P (modes_of m row) → AllByRecursion P (modes_of m (deeper row))
+deeper_hold m P row h =
+    subst (λ z. AllByRecursion P (map (λ mode. read m.typed z (sharing_of mode)) (raw m (deeper row)))) (sym (deeper_reading row))
+    (deeper_modes m P row.reading (raw m row) (raw m (deeper row)) (λ Q k. deeper_raw m Q row k) h)
+
+-- ---- readings
+pub no_private : (l : Lock) → private ≡ locked l → ⊥
+no_private l h = cc
+
+pub no_readonly : (l : Lock) → readonly ≡ locked l → ⊥
+no_readonly l h = cc
+
+pub no_racy : (l : Lock) → racy ≡ locked l → ⊥
+no_racy l h = cc
+
+pub no_dynamic : (l : Lock) → dynamic ≡ locked l → ⊥
+no_dynamic l h = cc
+
+pub same_lock : (l k : Lock) → locked l ≡ locked k → l ≡ k
+same_lock l k h = cc
+
+-- the variable of a use `x->f` is constant
+use_of : (r : Resolution) (s : Span) (i : Identifier) (at x : ℕ) → (b : Bool) → is_constant_named r (named_at r i.site.token) ≡ b → cond b (Some i.site.token) None ≡ Some at → object_named r (named_at r at) ≡ Some x
+    → IsThroughConstant r Arrow (tree.identifier s i) x
+use_of r s i at x false is h o = absurd (none_some at h)
+use_of r s i at x true is h o = by (named_at r i.site.token) refl is (ap (λ z. object_named r (named_at r z)) (same_some i.site.token at h) ∙ o)
+  where
+    by : (n : Named) → named_at r i.site.token ≡ n → is_constant_named r n ≡ true → object_named r n ≡ Some x → IsThroughConstant r Arrow (tree.identifier s i) x
+    by (named.Variable y) names constant k = let e = same_some y x k in through_constant (names ∙ ap named.Variable e) (ap (is_constant r) (sym e) ∙ constant)
+    by (named.Struct n) names constant k = absurd (false≢true constant)
+    by (named.Global n) names constant k = absurd (false≢true constant)
+    by (named.Function n) names constant k = absurd (false≢true constant)
+    by (named.Field n) names constant k = absurd (false≢true constant)
+    by named.Known names constant k = absurd (false≢true constant)
+
+pub is_use : (r : Resolution) (w : Access) (a : Expression) (at x : ℕ) → base_use r w a ≡ Some at → object_named r (named_at r at) ≡ Some x → IsThroughConstant r w a x
+is_use r Dot a at x h o = absurd (none_some at h)
+is_use r Arrow (tree.identifier s i) at x h o = use_of r s i at x (is_constant_named r (named_at r i.site.token)) refl h o
+is_use r Arrow _ at x h o = absurd (none_some at h)
+
+-- What holds of the paths that are written in types, and of those that the uses of fields make, holds of those of the types of expressions and declarations.
+module _ (m : Assignment) (Q : Lock → Type 0) (writes : (n : Numbered) → IsEntity m n → (path : Path) → Contains n.entity.written.ctype.levels (Some (Locked path)) → Q (lock_of path))
+    (makes : (a : Expression) (w : Access) (at : ℕ) (used : IsSiblingUse m a w) → base_use m.typed w a ≡ Some at → Q record { first = at; second = Some (text_at m.typed used.lock.first) }) where
+  abbrev pub Of : Sharing → Type 0
+  Of s = (l : Lock) → s ≡ locked l → Q l
+
+  abbrev pub AllOf : List Sharing → Type 0
+  AllOf modes = AllByRecursion Of modes
+
+  abbrev r : Resolution
+  r = m.typed
+
+  one_written : (n : Numbered) → IsEntity m n → (mode : Mode) → WrittenIn n mode → Of (read r written (sharing_of mode))
+  one_written n is Private w l e = absurd (no_private l e)
+  one_written n is Readonly w l e = absurd (no_readonly l e)
+  one_written n is Racy w l e = absurd (no_racy l e)
+  one_written n is Dynamic w l e = absurd (no_dynamic l e)
+  one_written n is (Locked path) w l e = subst Q (same_lock (lock_of path) l e) (writes n is path (w path refl))
+
+  mapped : (f : Mode → Sharing) (P : Mode → Type 0) → ((mode : Mode) → P mode → Of (f mode)) → (list : List Mode) → AllByRecursion P list → AllOf (map f list)
+  mapped f P each [] h = tt
+  mapped f P each (x ∷ rest) h = (each x h.0, mapped f P each rest h.1)
+
+  abbrev shown : Reading → Mode → Sharing
+  shown how mode = read r how (sharing_of mode)
+
+  -- by the modes as they are written
+  by_raw : (P : Mode → Type 0) (how : Reading) → ((mode : Mode) → P mode → Of (shown how mode)) → (row : Targets) → row.reading ≡ how → AllByRecursion P (raw m row) → AllOf (modes_of m row)
+  by_raw P how each row is h = subst (λ z. AllOf (map (shown z) (raw m row))) (sym is) (mapped (shown how) P each (raw m row) h)
+
+  entity_named : IsLeastAssignment m → (o : Option Numbered) → ((n : Numbered) → o ≡ Some n → IsEntity m n) → AllOf (modes_of m (entity_row written o))
+  entity_named least None is = tt
+  entity_named least (Some n) is = by_raw (WrittenIn n) written (one_written n (is n refl)) (entity_row written (Some n)) (reading_kept n.entity.role _) (row_written m least written n (is n refl))
+
+  entity_is : (first last : ℕ) (n : Numbered) → entity_at r first last ≡ Some n → IsEntity m n
+  entity_is first last n is = found_there (is_told_by first last) (numbered (entities_in r.program.items)) n is
+
+  pub found_named : IsLeastAssignment m → (first last : ℕ) → AllOf (modes_of m (entity_row written (entity_at r first last)))
+  found_named least first last = entity_named least (entity_at r first last) (entity_is first last)
+
+  -- ---- through a constant variable
+  -- a sibling's name is read through it
+  abbrev Uses : ℕ → Targets → Type 0
+  Uses at row = (k : Lock) → Contains (modes_of m row) (locked k) → is_sibling_lock r k ≡ true → Q record { first = at; second = Some (text_at r k.first) }
+
+  one_through : (at : ℕ) (n : Numbered) → IsEntity m n → Uses at (entity_row written (Some n)) → (mode : Mode) → WrittenIn n mode × Contains (raw m (entity_row written (Some n))) mode → Of (shown (through at) mode)
+  one_through at n is used Private w l e = absurd (no_private l e)
+  one_through at n is used Readonly w l e = absurd (no_readonly l e)
+  one_through at n is used Racy w l e = absurd (no_racy l e)
+  one_through at n is used Dynamic w l e = absurd (no_dynamic l e)
+  one_through at n is used (Locked path) w l e = by (is_sibling_lock r (lock_of path)) refl e
+    where
+      there : Contains (modes_of m (entity_row written (Some n))) (locked (lock_of path))
+      there =
+          subst (λ z. Contains (map (shown z) (raw m (entity_row written (Some n)))) (locked (lock_of path))) (sym (reading_kept n.entity.role _))
+          (mapped_there (shown written) (raw m (entity_row written (Some n))) (Locked path) w.1)
+
+      by : (b : Bool) → is_sibling_lock r (lock_of path) ≡ b → locked (cond b (record { first = at; second = Some (text_at r (lock_of path).first) }) (lock_of path)) ≡ locked l → Q l
+      by true sibling same = subst Q (same_lock _ l same) (used (lock_of path) there sibling)
+      by false sibling same = subst Q (same_lock (lock_of path) l same) (writes n is path (w.0 path refl))
+
+  entity_through : IsLeastAssignment m → (at : ℕ) (o : Option Numbered) → ((n : Numbered) → o ≡ Some n → IsEntity m n) → Uses at (entity_row written o) → AllOf (modes_of m (entity_row (through at) o))
+  entity_through least at None is used = tt
+  entity_through least at (Some n) is used =
+      let row = entity_row written (Some n) in
+      let other = entity_row (through at) (Some n) in
+      let same : raw m row ≡ raw m other = same_raw m written (through at) n.entity.role n.first _ in
+      by_raw (λ mode. WrittenIn n mode × Contains (raw m row) mode) (through at) (one_through at n (is n refl) used) other (reading_kept n.entity.role _)
+      (subst (AllByRecursion (λ mode. WrittenIn n mode × Contains (raw m row) mode)) same
+      (both_hold (WrittenIn n) (Contains (raw m row)) (raw m row) (row_written m least written n (is n refl)) (to_each (Contains (raw m row)) (raw m row) (λ mode has. has))))
+
+  found_through : IsLeastAssignment m → (at first last : ℕ) → Uses at (entity_row written (entity_at r first last)) → AllOf (modes_of m (entity_row (through at) (entity_at r first last)))
+  found_through least at first last = entity_through least at (entity_at r first last) (entity_is first last)
+
+  -- ---- expressions
+  abbrev RowNamed : Option Targets → Type 0
+  RowNamed None = Unit {0}
+  RowNamed (Some row) = AllOf (modes_of m row)
+
+  module _ (least : IsLeastAssignment m) where
+    global_named : (o : Option GlobalDefinition) → AllOf (modes_of m (global_row r written o))
+    global_named None = tt
+    global_named (Some g) = found_named least g.declaration.name.site.token g.declaration.name.site.token
+
+    name_named : (n : Named) → AllOf (modes_of m (named_row r written n))
+    name_named (named.Struct n) = tt
+    name_named (named.Global n) = global_named (global_at r n)
+    name_named (named.Function n) = tt
+    name_named (named.Variable t) = found_named least t t
+    name_named (named.Field t) = found_named least t t
+    name_named named.Known = tt
+
+    result_named : (o : Option Function) → AllOf (modes_of m (result_row r o))
+    result_named None = tt
+    result_named (Some f) = found_named least f.name.site.token f.name.site.token
+
+    called_named : (n : Named) → AllOf (modes_of m (called_row r n))
+    called_named (named.Struct n) = tt
+    called_named (named.Global n) = tt
+    called_named (named.Function n) = result_named (function_at r n)
+    called_named (named.Variable t) = tt
+    called_named (named.Field t) = tt
+    called_named named.Known = tt
+
+    global_through : (at : ℕ) (o : Option GlobalDefinition) → Uses at (global_row r written o) → AllOf (modes_of m (global_row r (through at) o))
+    global_through at None used = tt
+    global_through at (Some g) used = found_through least at g.declaration.name.site.token g.declaration.name.site.token used
+
+    name_through : (at : ℕ) (n : Named) → Uses at (named_row r written n) → AllOf (modes_of m (named_row r (through at) n))
+    name_through at (named.Struct n) used = tt
+    name_through at (named.Global n) used = global_through at (global_at r n) used
+    name_through at (named.Function n) used = tt
+    name_through at (named.Variable t) used = found_through least at t t used
+    name_through at (named.Field t) used = found_through least at t t used
+    name_through at named.Known used = tt
+
+    field_named : (s : Span) (a : Expression) (w : Access) (name : Identifier) → IsExpression m (tree.field s a w name) → (o : Option ℕ) → base_use r w a ≡ o
+        → AllOf (modes_of m (named_row r (reading_through o) (named_at r name.site.token)))
+    field_named s a w name stands None is = name_named (named_at r name.site.token)
+    field_named s a w name stands (Some at) is =
+        name_through at (named_at r name.site.token)
+        (λ k has sibling. makes a w at (record { span = s; name = name; stands = stands; lock = k; target = has; sibling = sibling }) is)
+
+    deep : (o : Option Targets) → RowNamed o → RowNamed (behind o)
+    deep None h = tt
+    deep (Some row) h = deeper_hold m Of row h
+
+    choose : (b : Bool) (s t : Option Targets) → RowNamed s → RowNamed t → RowNamed (cond b s t)
+    choose true s t h k = h
+    choose false s t h k = k
+
+    pub row_named : (e : Expression) → AllByRecursion (IsExpression m) (expressions e) → RowNamed (row_at r e)
+    row_named (tree.identifier s i) h = name_named (named_at r i.site.token)
+    row_named (tree.constant s (constants.Number n)) h = tt
+    row_named (tree.constant s (constants.Character b)) h = tt
+    row_named (tree.constant s constants.Null) h = tt
+    row_named (tree.parentheses s a) h = row_named a h.1
+    row_named (tree.call s f all) h = called_named (named_at r f.site.token)
+    row_named (tree.spawn s f a) h = tt
+    row_named (tree.on_value s w a) h = tt
+    row_named (tree.on_place s w a) h = tt
+    row_named (tree.cast s t a) h = found_named least s.first.token s.last.token
+    row_named (tree.index s a i) h =
+        let a_named = row_named a (front (IsExpression m) (expressions a) (expressions i) h.1) in
+        choose (is_array (kind_at r a)) (row_at r a) (behind (row_at r a)) a_named (deep (row_at r a) a_named)
+    row_named (tree.field s a w name) h = field_named s a w name h.0 (base_use r w a) refl
+    row_named (tree.unary s Negate a) h = tt
+    row_named (tree.unary s Not a) h = tt
+    row_named (tree.unary s Complement a) h = tt
+    row_named (tree.unary s Dereference a) h = deep (row_at r a) (row_named a h.1)
+    row_named (tree.binary s o at a b) h = tt
+
+    pub expression_of : (e : Expression) (modes : List Sharing) → AllByRecursion (IsExpression m) (expressions e) → modes_at m e ≡ Some modes → AllOf modes
+    expression_of e modes all is = by (row_at r e) (row_named e all) is
+      where
+        by : (o : Option Targets) → RowNamed o → option_map (modes_of m) o ≡ Some modes → AllOf modes
+        by None h k = absurd (none_some modes k)
+        by (Some row) h k = subst AllOf (same_some (modes_of m row) modes k) h

@@ -1,0 +1,250 @@
+-- What the cells of lvalues stand on, by the laws of typed programs and of modes.
+use Rattle.std.proofs.Common.{◌≡◌, ℕ, ◌+◌, ◌-◌, ◌<◌, ◌==◌, ◌&&◌, ◌||◌, Bool, true, false, cond, List, [], ◌∷◌, length, map, slice_index_or, refl, ap, sym, ◌∙◌, subst, arith, Option, Some, None, Contains, bytes_eq}
+use Rattle.std.proofs.lemmas.Bool.{false≢true, ne_eqb, ltb-true}
+use Rattle.std.specs.List.{AllByRecursion}
+use Rattle.std.specs.Prelude.{slice_get, nat_lt}
+use Rattle.sharc_tree.specs.declared.ctype.Base.{Base}
+use Rattle.sharc_tree.specs.declared.ctype.Base.TheVariants as base
+use Rattle.sharc_tree.specs.declared.ctype.Mode.{Mode}
+use Rattle.sharc_tree.specs.declared.ctype.Mode.TheVariants as mode
+use Rattle.sharc_tree.specs.declared.ctype.Path.{Path}
+use Rattle.sharc_tree.specs.declared.tree.declaration.Declaration.{Declaration}
+use Rattle.sharc_tree.specs.declared.tree.declaration.WrittenType.{WrittenType}
+use Rattle.sharc_tree.specs.declared.tree.item.GlobalDefinition.{GlobalDefinition}
+use Rattle.sharc_tree.specs.declared.tree.item.StructDefinition.{StructDefinition}
+use Rattle.sharc_tree.specs.Low.{IsLow}
+use Rattle.sharc_tree.specs.Placed.{IsPlaced}
+use Rattle.sharc_tree.specs.Measures.{in_function}
+use Rattle.sharc_names.specs.declared.fault.Named.TheVariants as named
+use Rattle.sharc_names.specs.declared.types.Role.{Role}
+use Rattle.sharc_names.specs.declared.types.Role.TheVariants as role
+use Rattle.sharc_names.specs.Kinds.{Kind, object, array, is_array, element_kind, is_struct_base, is_struct_behind, mutex}
+use Rattle.sharc_names.specs.Kinds as kinds
+use Rattle.sharc_names.specs.Names.{field_of}
+use Rattle.sharc_names.specs.Types.{is_allowed, allowed_there}
+use Rattle.sharc_ctype.specs.declared.entity.Entity.{Entity}
+use Rattle.sharc_ctype.specs.declared.entity.Numbered.{Numbered}
+use Rattle.sharc_ctype.specs.Entities.{declared, entities_in, entity_at, positions_of, written_modes, first_depth}
+use Rattle.sharc_ctype.specs.Resolved.{Resolution, IsResolved, named_at, kind_at, global_at, structs_in, globals_in, functions_in, named_kind}
+use Rattle.sharc_ctype_laws.specs.Constraints.{HasType}
+use Rattle.sharc_ctype_laws.specs.Declared.{IsItself}
+use Rattle.sharc_ctype_laws.specs.Found.{EachTypeFound}
+use Rattle.sharc_ctype_laws.specs.Laws.{EachNameOnce, OnlyNames, EachNamesItself, MeetsConstraints, OneType}
+use Rattle.sharc_graph.specs.declared.graph.Finding.TheVariants.{Apart, Source, Behind}
+use Rattle.sharc_mode.specs.Cells.{top_of, first_mode, global_cell}
+use Rattle.sharc_mode.specs.Flows.{IsLeastAssignment, mode_found}
+use Rattle.sharc_mode.specs.WellModed.{WellModed}
+use Rattle.sharc_mode.specs.Moded.{Assignment}
+use Rattle.sharc_mode.specs.Rows.{Reading, written, targets_from, entity_row, modes_of}
+use Rattle.sharc_mode.specs.Settled.{otherwise_of}
+use Rattle.sharc_mode.specs.Sharings.{Lock, locked, lock_of, sharing_of}
+use Rattle.sharc_mode.specs.WellFormed.{place_of}
+use Rattle.sharc_mode.specs.declared.place.Place.TheVariants as place
+use Rattle.sharc_mode_laws.specs.Constructs.{IsExpression, IsWritten}
+use Rattle.sharc_mode_laws.specs.Laws.{RulesAreMet}
+use Rattle.sharc_mode_laws.specs.Paths.{IsAllowed, global_mutex, sibling_mutex, sibling_pointer, through_constant}
+use Rattle.sharc_accepted_laws.specs.Lvalues.{LvaluesFit, IsArrayOf, ArraysFit}
+use Rattle.sharc_accepted_laws.specs.Shapes.{form_of}
+use Rattle.sharc_accepted_laws.proofs.Expressing.{expressions_found}
+use Rattle.sharc_accepted_laws.proofs.TargetForms.{same_forms}
+use Rattle.sharc_accepted_laws.proofs.Found.{IsThere, field_found, global_found, global_low}
+use Rattle.sharc_accepted_laws.proofs.Laying.{named_there, members_are}
+use Rattle.sharc_accepted_laws.proofs.TargetLists.{head_there, tail_there, of_each, place_there, same_some}
+use Rattle.sharc_accepted_laws.proofs.Lvalues.{AreReady, names_cell, array_base}
+use Rattle.sharc_accepted_laws.proofs.TargetMembers.{top_written}
+use Rattle.sharc_accepted_laws.proofs.Moding.{PathNames, field_or_global}
+use Rattle.sharc_accepted_laws.proofs.Rows.{IsKnown}
+use Rattle.sharc_accepted_laws.proofs.Settling.{positioned, settled_by, SettledBy, a_mutex, is_written, is_meant, settled_from, get_dropped, dropped_length}
+use Rattle.sharc_accepted_laws.proofs.TargetSiblings.{field_allowed}
+use Rattle.sharc_accepted_laws.proofs.Whole.{known}
+use Rattle.sharc_accepted_laws.proofs.Globals.{index_get}
+use Rattle.sharc_accepted_laws.proofs.Typed.{and_false}
+use Rattle.sharc_accepted_laws.proofs.Sorts.{or_false}
+use Rattle.sharc_accepted_laws.proofs.Origins.{same_lock}
+use Rattle.sharc_accepted_laws.proofs.TypableRegisters.{none_some}
+
+member_there : (fields : List Declaration) (name : List ℕ) (d : Declaration) → field_of fields name ≡ Some d → Contains fields d
+member_there [] name d is = absurd (none_some d is)
+member_there (x ∷ rest) name d is = by (bytes_eq x.name.text name) is (member_there rest name d)
+  where
+    by : (b : Bool) → cond b (Some x) (field_of rest name) ≡ Some d → (field_of rest name ≡ Some d → Contains rest d) → Contains (x ∷ rest) d
+    by true is more = subst (λ z. Contains (x ∷ rest) z) (same_some x d is) (head_there x rest)
+    by false is more = tail_there x d rest (more is)
+
+plain_by : (b : Base) (n : ℕ) → (is_struct_base b ≡ true → nat_lt 0 n ≡ true) → is_struct_behind 0 (object b n) ≡ false
+plain_by base.Int n some = and_false (n == 0)
+plain_by base.Char n some = and_false (n == 0)
+plain_by base.Long n some = and_false (n == 0)
+plain_by base.Mutex n some = and_false (n == 0)
+plain_by base.Void n some = and_false (n == 0)
+plain_by (base.Struct name) n some = let low = ltb-true 0 n (some refl) in ap (λ z. z && true) (ne_eqb n 0 (λ none. omega (arith, low, none)))
+
+struct_allowed : (w : WrittenType) → allowed_there role.Field w ≡ true → (b : Base) → w.ctype.base ≡ b → is_struct_base b ≡ true → nat_lt 0 (length w.ctype.levels - 1) ≡ true
+struct_allowed w is base.Int e struct = absurd (false≢true struct)
+struct_allowed w is base.Char e struct = absurd (false≢true struct)
+struct_allowed w is base.Long e struct = absurd (false≢true struct)
+struct_allowed w is base.Mutex e struct = absurd (false≢true struct)
+struct_allowed w is base.Void e struct = absurd (false≢true struct)
+struct_allowed w is (base.Struct name) e struct = sym (or_false (nat_lt 0 (length w.ctype.levels - 1))) ∙ subst (λ b. is_allowed role.Field b (length w.ctype.levels - 1) ≡ true) e is
+
+-- ---- rows
+row_forms : (m : Assignment) (first count : ℕ) (how : Reading) (what : Role)
+    → map form_of (modes_of m (targets_from what (record { first = first; count = count; reading = how }))) ≡ map form_of (modes_of m (targets_from what (record { first = first; count = count; reading = written })))
+row_forms m first count how role.Global = by (count == 0)
+  where
+    by : (b : Bool) → map form_of (modes_of m (cond b (record { first = first; count = count; reading = how }) (record { first = first + 1; count = count - 1; reading = how })))
+        ≡ map form_of (modes_of m (cond b (record { first = first; count = count; reading = written }) (record { first = first + 1; count = count - 1; reading = written })))
+    by true = same_forms m first count how written
+    by false = same_forms m (first + 1) (count - 1) how written
+row_forms m first count how role.Field = same_forms m first count how written
+row_forms m first count how role.Result = same_forms m first count how written
+row_forms m first count how role.Parameter = same_forms m first count how written
+row_forms m first count how role.Local = same_forms m first count how written
+row_forms m first count how role.Cast = same_forms m first count how written
+row_forms m first count how role.Made = same_forms m first count how written
+
+entity_forms : (m : Assignment) (how : Reading) (o : Option Numbered) → map form_of (modes_of m (entity_row how o)) ≡ map form_of (modes_of m (entity_row written o))
+entity_forms m how None = refl
+entity_forms m how (Some n) = row_forms m n.first (positions_of n.entity) how n.entity.role
+
+-- a mode that is locked is written
+record IsLockedMode (x : Mode) (l : Lock) : Type 0 where
+  path : Path
+  is : x ≡ mode.Locked path
+  lock : lock_of path ≡ l
+
+locked_mode_is : (x : Mode) (l : Lock) → sharing_of x ≡ locked l → IsLockedMode x l
+locked_mode_is mode.Private l h = cc
+locked_mode_is mode.Readonly l h = cc
+locked_mode_is (mode.Locked path) l h = record { path = path; is = refl; lock = same_lock _ _ h }
+locked_mode_is mode.Racy l h = cc
+locked_mode_is mode.Dynamic l h = cc
+
+private_locked : (path : Path) → mode.Private ≡ mode.Locked path → ⊥
+private_locked path h = cc
+
+racy_locked : (path : Path) → mode.Locked path ≡ mode.Racy → ⊥
+racy_locked path h = cc
+
+found_locked : (level : Option Mode) (finding : _) (path : Path) → mode_found level finding ≡ mode.Locked path → level ≡ Some (mode.Locked path)
+found_locked (Some x) finding path h = ap Some h
+found_locked None Apart path h = cc
+found_locked None Source path h = cc
+found_locked None (Behind rank reason) path h = cc
+
+field_no_local : (what : Role) → what ≡ role.Field → place_of what ≡ place.Local → ⊥
+field_no_local what is local = by (sym (ap place_of is) ∙ local)
+  where
+    by : place.Field ≡ place.Local → ⊥
+    by h = cc
+
+-- in a global a path names a global mutex
+global_names : (r : Resolution) (e : Entity) (depth : ℕ) (path : Path) → place_of e.role ≡ place.Global → IsAllowed r e depth path → (k : ℕ) × (named_at r (lock_of path).first ≡ named.Global k) × (named_kind r (named.Global k) ≡ mutex)
+global_names r e depth _ is (global_mutex {text} {token} {g} names kind) = (g, names, kind)
+global_names r e depth _ is (sibling_mutex {text} {token} {f} stands names kind) = absurd (apart (sym is ∙ stands))
+  where
+    apart : place.Global ≡ place.Field → ⊥
+    apart h = cc
+global_names r e depth _ is (sibling_pointer {text} {token} {f} stands top names lock targets) = absurd (apart (sym is ∙ stands))
+  where
+    apart : place.Global ≡ place.Field → ⊥
+    apart h = cc
+global_names r e depth _ is (through_constant {text} {m} {token} {x} stands names constant behind) = absurd (apart (sym is ∙ stands))
+  where
+    apart : place.Global ≡ place.Local → ⊥
+    apart h = cc
+
+module _ (m : Assignment) (k : IsKnown m) (low : IsLow m.typed.program) where
+  pub global_lock : (g : ℕ) (d : GlobalDefinition) → global_at m.typed g ≡ Some d → (l : Lock) → global_cell m (Some d) ≡ locked l → (j : ℕ) × (named_at m.typed l.first ≡ named.Global j) × (named_kind m.typed (named.Global j) ≡ mutex)
+  global_lock g d at l is = (named_global.0, subst (λ z. named_at m.typed z.first ≡ named.Global named_global.0) w.lock named_global.1, named_global.2)
+    where
+      has : Contains (globals_in m.typed.program.items) d
+      has = place_there (globals_in m.typed.program.items) g d at
+
+      there : IsThere m (declared role.Global d.declaration)
+      there = global_found m k.found d has
+
+      n : Numbered
+      n = there.numbered
+
+      w : IsLockedMode (slice_index_or m.modes there.numbered.first mode.Private) l
+      w = locked_mode_is (slice_index_or m.modes there.numbered.first mode.Private) l (sym (ap (first_mode m) there.found) ∙ is)
+
+      no_depth : first_depth there.numbered.entity.role ≡ 0
+      no_depth = ap first_depth there.role
+
+      position : 0 < positions_of there.numbered.entity
+      position =
+          let size = dropped_length (first_depth there.numbered.entity.role) there.numbered.entity.written.ctype.levels in
+          let depth = no_depth in
+          let many : 0 < length there.numbered.entity.written.ctype.levels = subst (λ (x : WrittenType). 0 < length x.ctype.levels) (sym there.written) (global_low m.typed.program.items low d has) in
+          omega (arith, size, depth, many)
+
+      mode_there : slice_get m.modes (there.numbered.first + 0) ≡ Some (mode.Locked w.path)
+      mode_there = let e : there.numbered.first + 0 ≡ there.numbered.first = omega arith in ap (slice_get m.modes) e ∙ index_get m.modes there.numbered.first (mode.Locked w.path) w.is (private_locked w.path)
+
+      by : SettledBy there.numbered.entity.written.ctype.base (otherwise_of there.numbered.entity.role there.numbered.entity.written.ctype.levels) (written_modes there.numbered.entity) 0 (mode.Locked w.path)
+          → IsWritten there.numbered.entity (first_depth there.numbered.entity.role + 0) (mode.Locked w.path)
+      by (a_mutex same last) = absurd (racy_locked w.path same)
+      by (is_written h) = get_dropped (first_depth there.numbered.entity.role) there.numbered.entity.written.ctype.levels 0 (Some (mode.Locked w.path)) h
+      by (is_meant h) = absurd (none_some (mode.Locked w.path) (sym (ap (λ z. otherwise_of z there.numbered.entity.written.ctype.levels) there.role) ∙ h))
+
+      written_there : IsWritten there.numbered.entity (first_depth there.numbered.entity.role + 0) (mode.Locked w.path)
+      written_there =
+          let s = settled_by m k.least there.numbered (positioned (entities_in m.typed.program.items) 0 there.numbered there.is_entity) 0 (mode.Locked w.path) position mode_there in
+          by (settled_from there.numbered.entity.written.ctype.base (otherwise_of there.numbered.entity.role there.numbered.entity.written.ctype.levels) (written_modes there.numbered.entity) 0 (mode.Locked w.path) position (found_locked _ s.finding w.path s.found))
+
+      named_global : (j : ℕ) × (named_at m.typed (lock_of w.path).first ≡ named.Global j) × (named_kind m.typed (named.Global j) ≡ mutex)
+      named_global =
+          global_names m.typed there.numbered.entity (first_depth there.numbered.entity.role + 0) w.path (ap place_of there.role)
+          (k.rules.m4.forms there.numbered (first_depth there.numbered.entity.role + 0) w.path there.is_entity written_there)
+
+  field_path : (s : StructDefinition) (d : Declaration) → Contains (structs_in m.typed.program.items) s → Contains s.fields d → (path : Path) → top_of d.written.ctype.levels ≡ Some (mode.Locked path) → PathNames m.typed (lock_of path)
+  field_path s d is_struct is_member path top =
+      let there = field_found m k.found s d is_struct is_member in
+      field_or_global m.typed there.numbered.entity 0 path (field_no_local there.numbered.entity.role there.role)
+      (k.rules.m4.forms there.numbered 0 path there.is_entity (subst (λ (w : WrittenType). slice_get w.ctype.levels 0 ≡ Some (Some (mode.Locked path))) (sym there.written) (top_written d.written.ctype.levels (mode.Locked path) top)))
+
+ready_of : EachNameOnce → OnlyNames → EachTypeFound → EachNamesItself → MeetsConstraints → OneType → RulesAreMet → (m : Assignment) → IsResolved m.typed → IsPlaced m.typed.program → IsLow m.typed.program → IsLeastAssignment m → WellModed m → AreReady m
+ready_of once only found itself meets one met m resolved placed low least well = ready
+  where
+    k : IsKnown m
+    k = known once only found itself met m resolved placed low least well
+
+    types : (e : _) → IsExpression m e → HasType m.typed e (kind_at m.typed e)
+    types e at =
+        of_each (λ x. HasType m.typed x (kind_at m.typed x)) (in_function at.owner) e
+        (of_each (λ f. AllByRecursion (λ x. HasType m.typed x (kind_at m.typed x)) (in_function f)) (functions_in m.typed.program.items) at.owner (meets m.typed resolved placed low) at.stands) at.inside
+
+    ready : AreReady m
+    ready = record {
+      types = types;
+      one = one m.typed resolved placed low;
+      rows = λ e at row is. expressions_found found meets one m resolved placed low least.modes e at row is;
+      members = members_are m placed;
+      struct_found = named_there (structs_in m.typed.program.items);
+      member_found = member_there;
+      field_itself = λ s d is_struct is_member. (of_each (IsItself m.typed named.Field) s.fields d (of_each (λ (z : StructDefinition). AllByRecursion (IsItself m.typed named.Field) z.fields) (structs_in m.typed.program.items) s k.fields is_struct) is_member).1;
+      field_path = field_path m k low;
+      field_plain = λ s d is_struct is_member. plain_by d.written.ctype.base (length d.written.ctype.levels - 1) (λ struct. struct_allowed d.written (field_allowed once only m.typed resolved placed low s d is_struct is_member) d.written.ctype.base refl struct);
+      field_forms = λ how token. entity_forms m how (entity_at m.typed token token);
+      global_path = global_lock m k low;
+    }
+
+pub lvalues_fit : EachNameOnce → OnlyNames → EachTypeFound → EachNamesItself → MeetsConstraints → OneType → RulesAreMet → LvaluesFit
+lvalues_fit once only found itself meets one met m resolved placed low least well e at plain single =
+    let ready = ready_of once only found itself meets one met m resolved placed low least well in
+    names_cell m ready e (kind_at m.typed e) (ready.types e at) at plain single
+
+pub arrays_fit : EachNameOnce → OnlyNames → EachTypeFound → EachNamesItself → MeetsConstraints → OneType → RulesAreMet → ArraysFit
+arrays_fit once only found itself meets one met m resolved placed low least well a at is_one =
+    let ready = ready_of once only found itself meets one met m resolved placed low least well in
+    by ready (kind_at m.typed a) refl is_one (ready.types a at)
+  where
+    by : AreReady m → (k : Kind) → kind_at m.typed a ≡ k → is_array k ≡ true → HasType m.typed a (kind_at m.typed a) → IsArrayOf m a
+    by ready (array b n) same is typed =
+        let w = array_base m ready a (kind_at m.typed a) typed b n same in
+        record { number = w.number; global = w.global; defined = w.at; place = w.place; element = ap element_kind same ∙ sym w.declared_is }
+    by ready (object b n) same is typed = absurd (false≢true is)
+    by ready kinds.null same is typed = absurd (false≢true is)
+    by ready kinds.function same is typed = absurd (false≢true is)

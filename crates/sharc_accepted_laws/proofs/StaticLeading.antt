@@ -1,0 +1,422 @@
+-- The lock paths of the types of expressions lead to mutexes: those that are written by M4, and those that the uses of fields make by M11 and the fields' types.
+use Rattle.std.proofs.Common.{◌≡◌, ◌⊎◌, inl, inr, ⊎_elim, ℕ, suc, ◌+◌, ◌<◌, Bool, true, false, cond, ◌&&◌, List, [], ◌∷◌, ◌++◌, length, map, drop, slice_get, refl, ap, sym, ◌∙◌, subst, arith, option_map, Option, Some, None, is_none, Contains}
+use Rattle.std.proofs.lemmas.Bool.{false≢true}
+use Rattle.std.specs.List.{AllByRecursion}
+use Rattle.sharc_tree.specs.declared.ctype.Base.{Base}
+use Rattle.sharc_tree.specs.declared.ctype.Base.TheVariants as base
+use Rattle.sharc_tree.specs.declared.ctype.Mode.{Mode}
+use Rattle.sharc_tree.specs.declared.ctype.Mode.TheVariants.{Private, Readonly, Locked, Racy, Dynamic}
+use Rattle.sharc_tree.specs.declared.ctype.Path.{Path}
+use Rattle.sharc_tree.specs.declared.ctype.Path.TheVariants.{One, Through as PathThrough}
+use Rattle.sharc_tree.specs.declared.token.Span.{Span}
+use Rattle.sharc_tree.specs.declared.tree.declaration.Declaration.{Declaration}
+use Rattle.sharc_tree.specs.declared.tree.declaration.Identifier.{Identifier}
+use Rattle.sharc_tree.specs.declared.tree.declaration.WrittenType.{WrittenType}
+use Rattle.sharc_tree.specs.declared.tree.expression.Access.{Access}
+use Rattle.sharc_tree.specs.declared.tree.expression.Access.TheVariants.{Dot, Arrow}
+use Rattle.sharc_tree.specs.declared.tree.expression.Constant.TheVariants as constants
+use Rattle.sharc_tree.specs.declared.tree.expression.UnaryOperator.TheVariants.{Negate, Not, Complement, Dereference}
+use Rattle.sharc_tree.specs.declared.tree.item.GlobalDefinition.{GlobalDefinition}
+use Rattle.sharc_tree.specs.declared.tree.item.StructDefinition.{StructDefinition}
+use Rattle.sharc_tree.specs.Measures.{expressions, in_function}
+use Rattle.sharc_tree.specs.Tree.{Expression, Function}
+use Rattle.sharc_tree.specs.Tree as tree
+use Rattle.sharc_names.specs.declared.fault.Named.{Named}
+use Rattle.sharc_names.specs.declared.fault.Named.TheVariants as named
+use Rattle.sharc_names.specs.declared.types.Role.TheVariants as role
+use Rattle.sharc_names.specs.Kinds.{Kind, object, mutex, is_array, declared_kind}
+use Rattle.sharc_names.specs.Names.{field_of}
+use Rattle.sharc_ctype.specs.declared.entity.Entity.{Entity}
+use Rattle.sharc_ctype.specs.declared.entity.Numbered.{Numbered}
+use Rattle.sharc_ctype.specs.Entities.{declared, cast_entity, result_of, entity_at}
+use Rattle.sharc_ctype.specs.Items.{notes_about}
+use Rattle.sharc_ctype.specs.Resolved.{Resolution, named_at, declaration_at, variable_kind, named_kind, global_at, function_at, globals_in, functions_in, structs_in, kind_at}
+use Rattle.sharc_ctype.specs.Statements.{locals_in_all}
+use Rattle.sharc_ctype_laws.specs.Constraints.{HasType, Callee, IsMemberOf, struct_named, of_program, of_conditions, a_variable, a_global, a_function, a_field, a_field_behind}
+use Rattle.sharc_ctype_laws.specs.Declared.{IsItself, NamesOwn, NamesOwnVariables}
+use Rattle.sharc_ctype_laws.specs.Found.{IsFound, EachTypeFound}
+use Rattle.sharc_ctype_laws.specs.Laws.{EachNameOnce, OnlyNames, EachNamesItself, EachNamesOwn, EachPathFound, MeetsConstraints, OneType}
+use Rattle.sharc_ctype_laws.specs.WrittenTypes.{IsNamedPath, IsNamedLevel, IsNamedType}
+use Rattle.sharc_mode.specs.declared.place.Place.TheVariants as place
+use Rattle.sharc_mode.specs.Moded.{Assignment}
+use Rattle.sharc_mode.specs.Rows.{Reading, written, through, Targets, constant_use, base_use, lock_through, read, entity_row, declared_row, global_row, named_row, result_row, called_row, behind, reading_through, row_at, modes_of, modes_at}
+use Rattle.sharc_mode.specs.Settled.{field_target, settled_modes}
+use Rattle.sharc_mode.specs.Sharings.{Lock, Sharing, locked, lock_of, sharing_of, text_at, is_field, is_sibling_lock}
+use Rattle.sharc_mode.specs.WellFormed.{leaves_open, place_of}
+use Rattle.sharc_mode_laws.specs.Constructs.{IsExpression, IsEntity}
+use Rattle.sharc_mode_laws.specs.Laws.{RulesAreMet}
+use Rattle.sharc_mode_laws.specs.Paths.{IsMutexBehind, IsAllowed, global_mutex, sibling_mutex, sibling_pointer, through_constant}
+use Rattle.sharc_mode_laws.specs.Rules.{MeetsRules}
+use Rattle.sharc_accepted_laws.specs.StaticLaws.{IsAccepted}
+use Rattle.sharc_accepted_laws.specs.Leading.{LeadsToMutex, by_global, by_variable, LeadsIfLocked, AllLead, ExpressionsLead}
+use Rattle.sharc_accepted_laws.proofs.Noted.{AllSay, all_say}
+use Rattle.sharc_accepted_laws.proofs.Origins.{private_path, racy_path, dynamic_path, reading_kept, deeper_hold, no_private, no_readonly, no_racy, no_dynamic, same_lock}
+use Rattle.sharc_accepted_laws.proofs.Passed.{use_named, first_kind}
+use Rattle.sharc_accepted_laws.proofs.Places.{InFile, FileKnown, FieldInFile, file_known, struct_fields, field_found, at_number, IfSome}
+use Rattle.sharc_accepted_laws.proofs.Points.{NamesField, field_not_local, ModeOf, LevelOf, allowed_row, shown_modes, entity_is, through_used}
+use Rattle.sharc_accepted_laws.proofs.StaticSiblings.{found_there, struct_there, points_to, is_beside}
+use Rattle.sharc_accepted_laws.proofs.Written.{raw, row_settled, open_good}
+use Rattle.sharc_accepted_laws.specs.Fields.{FieldsPlaced}
+use Rattle.sharc_accepted_laws.specs.Own.{IsOwn, IsCastFound, HasOwn, OwnAreFound}
+use Rattle.sharc_accepted_laws.proofs.TargetLists.{place_there, of_each, to_each, tail_there, head_or_tail, head_there, none_there, same_some}
+use Rattle.sharc_accepted_laws.proofs.AccessLists.{each}
+use Rattle.sharc_accepted_laws.proofs.Found.{front}
+use Rattle.sharc_accepted_laws.proofs.TypableRegisters.{none_some}
+
+-- ---- levels
+placed_each : {A : Type 0} (P : A → Type 0) (list : List A) → ((k : ℕ) (x : A) → slice_get list k ≡ Some x → P x) → AllByRecursion P list
+placed_each P [] f = tt
+placed_each P (x ∷ rest) f = (f 0 x refl, placed_each P rest (λ k y is. f (suc k) y is))
+
+after_top : (levels : List (Option Mode)) (k : ℕ) (x : Option Mode) → slice_get (drop 1 levels) k ≡ Some x → slice_get levels (suc k) ≡ Some x
+after_top [] k x is = absurd (none_some x is)
+after_top (top ∷ rest) k x is = is
+
+target_written : (levels : List (Option Mode)) (path : Path) → field_target levels ≡ Locked path → slice_get levels 0 ≡ Some (Some (Locked path))
+target_written [] path is = absurd (dynamic_path path is)
+target_written (None ∷ below) path is = absurd (dynamic_path path is)
+target_written (Some mode ∷ below) path is = ap (λ z. Some (Some z)) is
+
+-- no target without a mode of its own but a mutex leaves nothing to be meant
+all_written : (b : Base) (levels : List (Option Mode)) → ((k : ℕ) → slice_get levels k ≡ Some None → (b ≡ base.Mutex) × (k + 1 ≡ length levels)) → leaves_open b levels ≡ true → ⊥
+all_written b [] h free = false≢true free
+all_written b (Some mode ∷ below) h free = all_written b below (λ k is. let w = h (suc k) is in let count = w.1 in (w.0, omega (arith, count))) free
+all_written b (None ∷ []) h free = false≢true (subst (λ z. leaves_open z (None ∷ []) ≡ true) (h 0 refl).0 free)
+all_written b (None ∷ y ∷ below) h free = let count = (h 0 refl).1 in omega (arith, count)
+
+below_top : (b : Base) (levels : List (Option Mode)) → ((depth : ℕ) → 0 < depth → slice_get levels depth ≡ Some None → (b ≡ base.Mutex) × (depth + 1 ≡ length levels))
+    → (k : ℕ) → slice_get (drop 1 levels) k ≡ Some None → (b ≡ base.Mutex) × (k + 1 ≡ length (drop 1 levels))
+below_top b [] h k is = absurd (none_some None is)
+below_top b (top ∷ rest) h k is = let w = h (suc k) (omega arith) is in let count = w.1 in (w.0, omega (arith, count))
+
+-- ---- paths of the types of fields
+-- a global mutex, or a sibling that is one
+data FieldLeads (r : Resolution) (d : Declaration) : Path → Type 0 where
+  names_global : {text : List ℕ} {token g : ℕ} → named_at r token ≡ named.Global g → named_kind r (named.Global g) ≡ mutex → FieldLeads r d (One text token)
+  names_sibling : {text : List ℕ} {token t : ℕ} → named_at r token ≡ named.Field t → named_kind r (named.Field t) ≡ mutex → Contains d.written.ctype.levels (Some (Locked (One text token))) → FieldLeads r d (One text token)
+
+-- a pointer to a mutex is named on the top alone, and where no target takes its mode from there
+one_field : (r : Resolution) (d : Declaration) (depth : ℕ) (path : Path) → IsAllowed r (declared role.Field d) depth path → Contains d.written.ctype.levels (Some (Locked path))
+    → (depth ≡ 0 → leaves_open d.written.ctype.base (drop 1 d.written.ctype.levels) ≡ true) → FieldLeads r d path
+one_field r d depth _ (global_mutex names kind) has free = names_global names kind
+one_field r d depth _ (sibling_mutex at names kind) has free = names_sibling names kind has
+one_field r d depth _ (sibling_pointer at top names pointer alone) has free = absurd (all_written d.written.ctype.base (drop 1 d.written.ctype.levels) (below_top d.written.ctype.base d.written.ctype.levels alone) (free top))
+one_field r d depth _ (through_constant at names constant behind) has free = absurd (field_not_local at)
+
+in_either : (r : Resolution) (d : Declaration) (path : Path) → FieldLeads r d path → LeadsToMutex r (lock_of path) ⊎ NamesField r (lock_of path)
+in_either r d _ (names_global {g = g} names kind) = inl (by_global g names kind)
+in_either r d _ (names_sibling {t = t} names kind has) = inr (refl, (t, names))
+
+-- ---- names
+same_struct : (n k : ℕ) → named.Struct n ≡ named.Struct k → n ≡ k
+same_struct n k h = cc
+
+no_field_variable : (t u : ℕ) → named.Variable t ≡ named.Field u → ⊥
+no_field_variable t u h = cc
+
+no_field_global : (t u : ℕ) → named.Global t ≡ named.Field u → ⊥
+no_field_global t u h = cc
+
+no_field_function : (t u : ℕ) → named.Function t ≡ named.Field u → ⊥
+no_field_function t u h = cc
+
+no_field_known : (u : ℕ) → named.Known ≡ named.Field u → ⊥
+no_field_known u h = cc
+
+no_callee : (r : Resolution) (i : Identifier) (parameters : List Kind) (result : Kind) (t : ℕ) → Callee r i parameters result → named_at r i.site.token ≡ named.Field t → ⊥
+no_callee r i _ _ t (of_program f names at text main) is = no_field_function _ t (sym names ∙ is)
+no_callee r i _ _ t (of_conditions c names text) is = no_field_known t (sym names ∙ is)
+
+-- an expression is no field's name
+no_field_name : (r : Resolution) (s : Span) (i : Identifier) (k : Kind) (t : ℕ) → HasType r (tree.identifier s i) k → named_at r i.site.token ≡ named.Field t → ⊥
+no_field_name r s i _ t (a_variable names at text) is = no_field_variable _ t (sym names ∙ is)
+no_field_name r s i _ t (a_global names at text) is = no_field_global _ t (sym names ∙ is)
+no_field_name r s i _ t (a_function {parameters = ps} {result = k} callee) is = no_callee r i ps k t callee is
+
+token_there : (list : List Declaration) (t : ℕ) → Contains (map (λ d. d.name.site.token) list) t → (d : Declaration) × Contains list d × (d.name.site.token ≡ t)
+token_there [] t has = absurd (none_there t has)
+token_there (x ∷ rest) t has =
+    ⊎_elim (λ is. (x, head_there x rest, is)) (λ later. let w = token_there rest t later in (w.0, tail_there x w.0 rest w.1, w.2)) (head_or_tail x.name.site.token t (map (λ d. d.name.site.token) rest) has)
+
+module _ (rules : RulesAreMet) (fields_placed : FieldsPlaced) (own_found : OwnAreFound) (found : EachTypeFound) (paths : EachPathFound) (constraints : MeetsConstraints) (one_type : OneType) (once : EachNameOnce) (only : OnlyNames)
+    (itself : EachNamesItself) (names_own : EachNamesOwn) (m : Assignment) (a : IsAccepted m) where
+  abbrev r : Resolution
+  r = m.typed
+
+  meets : MeetsRules m
+  meets = (rules m).0 a.well
+
+  say : AllSay r (notes_about r.program)
+  say = all_say once only r a.resolved a.placed a.low
+
+  file : FileKnown r r.program.items
+  file = file_known r r.program.items (found r a.resolved a.placed a.low) (paths r a.resolved a.placed a.low).types
+
+  -- ---- written paths of what is no field
+  through_leads : (token x : ℕ) (text name : List ℕ) → named_at r token ≡ named.Variable x → (w : IsMutexBehind r x name) → IsNamedPath r (PathThrough text token name) → LeadsToMutex r (lock_of (PathThrough text token name))
+  through_leads token x text name names w is =
+      let kind : variable_kind (declaration_at r x) ≡ object (base.Struct is.0) 1 = first_kind r token text (object (base.Struct is.0) 1) is.2 x names in
+      let own_kind : declared_kind w.variable.written ≡ object (base.Struct is.0) 1 = sym (ap variable_kind w.declared) ∙ kind in
+      let member : IsMemberOf r is.0 name is.1 = is.3 in
+      let to = points_to r fields_placed a.placed say x w.variable is.0 member.0 w.declared own_kind member.1 in
+      let number : to.number ≡ w.number = same_struct to.number w.number (sym to.names ∙ w.names) in
+      let struct : member.0 ≡ w.struct = same_some member.0 w.struct (sym to.is ∙ ap (slice_get (structs_in r.program.items)) number ∙ w.defined) in
+      by_variable x name is.0 names refl w own_kind (member.1 ∙ ap Some struct)
+
+  path_leads : (e : Entity) (depth : ℕ) (path : Path) → (place_of e.role ≡ place.Field → ⊥) → IsNamedPath r path → IsAllowed r e depth path → LeadsToMutex r (lock_of path)
+  path_leads e depth _ other is (global_mutex {g = g} names kind) = by_global g names kind
+  path_leads e depth _ other is (sibling_mutex at names kind) = absurd (other at)
+  path_leads e depth _ other is (sibling_pointer at top names pointer alone) = absurd (other at)
+  path_leads e depth _ other is (through_constant {text = text} {m = name} {token = token} {x = x} at names constant behind) = through_leads token x text name names behind is
+
+  entity_leads : (n : Numbered) → IsEntity m n → (place_of n.entity.role ≡ place.Field → ⊥) → IsNamedType r n.entity.written → AllLead m (modes_of m (entity_row written (Some n)))
+  entity_leads n is other named_type =
+      subst (λ z. AllLead m (map (λ mode. read r z (sharing_of mode)) (raw m (entity_row written (Some n))))) (sym (reading_kept n.entity.role _))
+      (shown_modes rules m a (LeadsToMutex r) (raw m (entity_row written (Some n)))
+      (allowed_row rules m a (λ path. LeadsToMutex r (lock_of path)) written n is
+      (λ depth path allowed has. path_leads n.entity depth path other (of_each (IsNamedLevel r) n.entity.written.ctype.levels (Some (Locked path)) named_type.levels has) allowed)))
+
+  found_leads : (e : Entity) → IsFound r e → (place_of e.role ≡ place.Field → ⊥) → AllLead m (modes_of m (entity_row written (entity_at r e.token e.last)))
+  found_leads e f other =
+      subst (λ o. AllLead m (modes_of m (entity_row written o))) (sym f.found)
+      (entity_leads f.numbered (entity_is rules m a e f) (λ at. other (sym (ap (λ (x : Entity). place_of x.role) f.itself) ∙ at)) (subst (λ (x : Entity). IsNamedType r x.written) (sym f.itself) f.named))
+
+  local_no_field : place.Local ≡ place.Field → ⊥
+  local_no_field h = cc
+
+  global_no_field : place.Global ≡ place.Field → ⊥
+  global_no_field h = cc
+
+  result_no_field : place.Result ≡ place.Field → ⊥
+  result_no_field h = cc
+
+  -- ---- parameters, locals and casts of a function
+  has_own : (f : Function) → Contains (functions_in r.program.items) f → HasOwn r f
+  has_own f has = of_each (HasOwn r) (functions_in r.program.items) f (own_found r a.resolved a.placed a.low) has
+
+  variable_leads : (s : Span) (i : Identifier) (t : ℕ) → IsExpression m (tree.identifier s i) → named_at r i.site.token ≡ named.Variable t → AllLead m (modes_of m (declared_row r written t))
+  variable_leads s i t there names = subst (λ z. AllLead m (modes_of m (declared_row r written z))) at.2 (found_leads (declared w.what at.0) w.found (λ h. local_no_field (sym w.is_local ∙ h)))
+    where
+      f : Function
+      f = there.owner
+
+      named_own : NamesOwn r (f.parameters ++ locals_in_all f.statements) (tree.identifier s i)
+      named_own =
+          of_each (NamesOwn r (f.parameters ++ locals_in_all f.statements)) (in_function f) (tree.identifier s i)
+          (of_each (NamesOwnVariables r) (functions_in r.program.items) f (names_own r a.resolved a.placed a.low) there.stands) there.inside
+
+      at : (d : Declaration) × Contains (f.parameters ++ locals_in_all f.statements) d × (d.name.site.token ≡ t)
+      at = token_there (f.parameters ++ locals_in_all f.statements) t (named_own t names)
+
+      w : IsOwn r at.0
+      w = of_each (IsOwn r) (f.parameters ++ locals_in_all f.statements) at.0 (has_own f there.stands).variables at.1
+
+  cast_leads : (s : Span) (t : WrittenType) (e : Expression) → IsExpression m (tree.cast s t e) → AllLead m (modes_of m (entity_row written (entity_at r s.first.token s.last.token)))
+  cast_leads s t e there =
+      found_leads (cast_entity s t) (of_each (IsCastFound r) (in_function there.owner) (tree.cast s t e) (has_own there.owner there.stands).cast_types there.inside) local_no_field
+
+  -- ---- globals and results
+  global_leads : (o : Option GlobalDefinition) → IfSome (λ g. InFile r (declared role.Global g.declaration)) o → AllLead m (modes_of m (global_row r written o))
+  global_leads None h = tt
+  global_leads (Some g) h = found_leads (declared role.Global g.declaration) h.0 global_no_field
+
+  result_leads : (o : Option Function) → IfSome (λ f. InFile r (result_of f)) o → AllLead m (modes_of m (result_row r o))
+  result_leads None h = tt
+  result_leads (Some f) h = found_leads (result_of f) h.0 result_no_field
+
+  called_leads : (n : Named) → AllLead m (modes_of m (called_row r n))
+  called_leads (named.Struct n) = tt
+  called_leads (named.Global n) = tt
+  called_leads (named.Function n) = result_leads (function_at r n) (at_number (λ f. InFile r (result_of f)) (functions_in r.program.items) n file.results)
+  called_leads (named.Variable t) = tt
+  called_leads (named.Field t) = tt
+  called_leads named.Known = tt
+
+  -- ---- fields
+  module _ (d : Declaration) (f : IsFound r (declared role.Field d)) where
+    allowed : (depth : ℕ) (path : Path) → slice_get d.written.ctype.levels depth ≡ Some (Some (Locked path)) → IsAllowed r (declared role.Field d) depth path
+    allowed depth path is =
+        subst (λ (x : Entity). IsAllowed r x depth path) f.itself
+        (meets.m4.forms f.numbered depth path (entity_is rules m a (declared role.Field d) f) (subst (λ (x : Entity). slice_get x.written.ctype.levels depth ≡ Some (Some (Locked path))) (sym f.itself) is))
+
+    each_below : (k : ℕ) (x : Option Mode) → slice_get (drop 1 d.written.ctype.levels) k ≡ Some x → LevelOf (FieldLeads r d) x
+    each_below k None is = tt
+    each_below k (Some mode) is = λ path e.
+        let w : slice_get d.written.ctype.levels (suc k) ≡ Some (Some (Locked path)) = after_top d.written.ctype.levels k (Some (Locked path)) (is ∙ ap (λ z. Some (Some z)) e) in
+        one_field r d (suc k) path (allowed (suc k) path w) (place_there d.written.ctype.levels (suc k) (Some (Locked path)) w) (λ none. absurd (omega (arith, none)))
+
+    top_good : leaves_open d.written.ctype.base (drop 1 d.written.ctype.levels) ≡ true → LevelOf (FieldLeads r d) (Some (field_target d.written.ctype.levels))
+    top_good free = λ path e.
+        let w : slice_get d.written.ctype.levels 0 ≡ Some (Some (Locked path)) = target_written d.written.ctype.levels path e in
+        one_field r d 0 path (allowed 0 path w) (place_there d.written.ctype.levels 0 (Some (Locked path)) w) (λ none. free)
+
+    levels_good : AllByRecursion (LevelOf (FieldLeads r d)) (settled_modes f.numbered.entity)
+    levels_good =
+        subst (λ (x : Entity). AllByRecursion (LevelOf (FieldLeads r d)) (settled_modes x)) (sym f.itself)
+        (open_good (ModeOf (FieldLeads r d)) (λ path e. absurd (private_path path e)) (λ path e. absurd (racy_path path e)) (λ path e. absurd (dynamic_path path e)) d.written.ctype.base (Some (field_target d.written.ctype.levels)) (drop 1 d.written.ctype.levels)
+        (placed_each (LevelOf (FieldLeads r d)) (drop 1 d.written.ctype.levels) each_below) top_good)
+
+    field_raw : (how : Reading) → AllByRecursion (ModeOf (FieldLeads r d)) (raw m (entity_row how (Some f.numbered)))
+    field_raw how =
+        row_settled (ModeOf (FieldLeads r d)) (λ path e. absurd (private_path path e)) (λ path e. absurd (racy_path path e)) (λ path e. absurd (dynamic_path path e)) m a.least how f.numbered (entity_is rules m a (declared role.Field d) f) levels_good
+
+    -- used without a constant variable, by M11
+    field_written : (s : Span) (e : Expression) (w : Access) (name : Identifier) → IsExpression m (tree.field s e w name) → base_use r w e ≡ None → named_at r name.site.token ≡ named.Field d.name.site.token → AllLead m (modes_of m (declared_row r written d.name.site.token))
+    field_written s e w name there none names = to_each (LeadsIfLocked r) modes one
+      where
+        modes : List Sharing
+        modes = modes_of m (declared_row r written d.name.site.token)
+
+        forms : AllByRecursion (λ z. (l : Lock) → z ≡ locked l → LeadsToMutex r l ⊎ NamesField r l) modes
+        forms =
+            let n = f.numbered in
+            subst (λ o. AllByRecursion (λ z. (l : Lock) → z ≡ locked l → LeadsToMutex r l ⊎ NamesField r l) (modes_of m (entity_row written o))) (sym f.found)
+            (subst (λ z. AllByRecursion (λ z. (l : Lock) → z ≡ locked l → LeadsToMutex r l ⊎ NamesField r l) (map (λ mode. read r z (sharing_of mode)) (raw m (entity_row written (Some n))))) (sym (reading_kept n.entity.role _))
+            (shown_modes rules m a (λ l. LeadsToMutex r l ⊎ NamesField r l) (raw m (entity_row written (Some n)))
+            (each (ModeOf (FieldLeads r d)) (ModeOf (λ path. LeadsToMutex r (lock_of path) ⊎ NamesField r (lock_of path))) (λ mode k path z. in_either r d path (k path z)) (raw m (entity_row written (Some n))) (field_raw written))))
+
+        no_sibling : (l : Lock) → Contains modes (locked l) → NamesField r l → ⊥
+        no_sibling l has k =
+            let sibling : is_sibling_lock r l ≡ true = ap (λ z. is_field (named_at r l.first) && is_none z) k.0 ∙ ap (λ z. is_field z && true) k.1.1 in
+            let target : Contains (modes_of m (named_row r written (named_at r name.site.token))) (locked l) = subst (λ z. Contains (modes_of m (named_row r written z)) (locked l)) (sym names) has in
+            let use_found = meets.m11 e w (record { span = s; name = name; stands = there; lock = l; target = target; sibling = sibling }) in
+            through_used rules m a w e use_found.0 use_found.1 none
+
+        one : (z : Sharing) → Contains modes z → LeadsIfLocked r z
+        one z has l is = by (of_each (λ z. (l : Lock) → z ≡ locked l → LeadsToMutex r l ⊎ NamesField r l) modes z forms has l is)
+          where
+            by : LeadsToMutex r l ⊎ NamesField r l → LeadsToMutex r l
+            by (inl g) = g
+            by (inr k) = absurd (no_sibling l (subst (Contains modes) is has) k)
+
+    -- through the constant variable x, which points to the field's struct
+    module _ (at x : ℕ) (names : named_at r at ≡ named.Variable x) (struct : List ℕ) (s : StructDefinition) (kind : variable_kind (declaration_at r x) ≡ object (base.Struct struct) 1) (is : struct_named (structs_in r.program.items) struct ≡ Some s)
+        (member : Contains s.fields d) where
+      no_kind : variable_kind None ≡ object (base.Struct struct) 1 → ⊥
+      no_kind h = cc
+
+      is_itself : (e : Declaration) → Contains s.fields e → IsItself r named.Field e
+      is_itself e has =
+          of_each (IsItself r named.Field) s.fields e
+          (of_each (λ (z : StructDefinition). AllByRecursion (IsItself r named.Field) z.fields) (structs_in r.program.items) s (itself r a.resolved a.placed a.low).fields (struct_there (structs_in r.program.items) struct s is)) has
+
+      sibling_leads : (text : List ℕ) (token t : ℕ) → Contains d.written.ctype.levels (Some (Locked (One text token))) → named_at r token ≡ named.Field t → named_kind r (named.Field t) ≡ mutex → LeadsToMutex r (record { first = at; second = Some (text_at r token) })
+      sibling_leads text token t level names_t kind_t = by (declaration_at r x) refl kind
+        where
+          by : (o : Option Declaration) → declaration_at r x ≡ o → variable_kind o ≡ object (base.Struct struct) 1 → LeadsToMutex r (record { first = at; second = Some (text_at r token) })
+          by None declared_x k = absurd (no_kind k)
+          by (Some v) declared_x k =
+              let b = is_beside r fields_placed a.placed say s d text token t (struct_there (structs_in r.program.items) struct s is) member level names_t in
+              let to = points_to r fields_placed a.placed say x v struct s declared_x k is in
+              let own = is_itself b.found (found_there s.fields text b.found b.has) in
+              let kind_b : declared_kind b.found.written ≡ mutex = sym (ap variable_kind own.1) ∙ ap (λ z. variable_kind (declaration_at r z)) (sym b.is) ∙ kind_t in
+              let behind_x : IsMutexBehind r x (text_at r token) = record {
+                variable = v;
+                declared = declared_x;
+                number = to.number;
+                names = to.names;
+                struct = s;
+                defined = to.is;
+                member = b.found;
+                has = ap (field_of s.fields) b.text_is ∙ b.has;
+                mutex = kind_b;
+              } in
+              by_variable x (text_at r token) struct names refl behind_x k is
+
+      through_one : (path : Path) → FieldLeads r d path → LeadsToMutex r (lock_through r at (lock_of path))
+      through_one _ (names_global {text = text} {token = token} {g = g} names_g kind_g) =
+          subst (λ b. LeadsToMutex r (cond b (record { first = at; second = Some (text_at r token) }) (lock_of (One text token)))) (sym (ap (λ z. is_field z && true) names_g)) (by_global g names_g kind_g)
+      through_one _ (names_sibling {text = text} {token = token} {t = t} names_t kind_t has) =
+          subst (λ b. LeadsToMutex r (cond b (record { first = at; second = Some (text_at r token) }) (lock_of (One text token)))) (sym (ap (λ z. is_field z && true) names_t)) (sibling_leads text token t has names_t kind_t)
+
+      shown_through : (list : List Mode) → AllByRecursion (ModeOf (FieldLeads r d)) list → AllLead m (map (λ mode. read r (through at) (sharing_of mode)) list)
+      shown_through [] h = tt
+      shown_through (z ∷ rest) h = (one z h.0, shown_through rest h.1)
+        where
+          one : (mode : Mode) → ModeOf (FieldLeads r d) mode → (l : Lock) → read r (through at) (sharing_of mode) ≡ locked l → LeadsToMutex r l
+          one Private k l e = absurd (no_private l e)
+          one Readonly k l e = absurd (no_readonly l e)
+          one Racy k l e = absurd (no_racy l e)
+          one Dynamic k l e = absurd (no_dynamic l e)
+          one (Locked path) k l e = subst (LeadsToMutex r) (same_lock (lock_through r at (lock_of path)) l e) (through_one path (k path refl))
+
+      field_through : AllLead m (modes_of m (declared_row r (through at) d.name.site.token))
+      field_through =
+          let n = f.numbered in
+          subst (λ o. AllLead m (modes_of m (entity_row (through at) o))) (sym f.found)
+          (subst (λ z. AllLead m (map (λ mode. read r z (sharing_of mode)) (raw m (entity_row (through at) (Some n))))) (sym (reading_kept n.entity.role _))
+          (shown_through (raw m (entity_row (through at) (Some n))) (field_raw (through at))))
+
+  typed_at : (e : Expression) → IsExpression m e → HasType r e (kind_at r e)
+  typed_at e x =
+      of_each (λ e. HasType r e (kind_at r e)) (in_function x.owner) e
+      (of_each (λ f. AllByRecursion (λ e. HasType r e (kind_at r e)) (in_function f)) (functions_in r.program.items) x.owner (constraints r a.resolved a.placed a.low) x.stands) x.inside
+
+  a_member : (x name : List ℕ) (d : Declaration) → IsMemberOf r x name d → FieldInFile r d
+  a_member x name d h = field_found (FieldInFile r) h.0.fields name d (struct_fields (FieldInFile r) (structs_in r.program.items) x h.0 file.fields h.1) h.2
+
+  field_leads : (s : Span) (e : Expression) (w : Access) (n : Identifier) (k : Kind) → HasType r (tree.field s e w n) k → IsExpression m (tree.field s e w n) → AllLead m (modes_of m (named_row r (reading_through (base_use r w e)) (named_at r n.site.token)))
+  field_leads s e _ n _ (a_field {x = struct} {d = d} t h is) there =
+      subst (λ z. AllLead m (modes_of m (named_row r written z))) (sym is) (field_written d (a_member struct n.text d h).0 s e Dot n there refl is)
+  field_leads s e _ n _ (a_field_behind {x = struct} {d = d} t h is) there = by (constant_use r e) refl
+    where
+      by : (o : Option ℕ) → constant_use r e ≡ o → AllLead m (modes_of m (named_row r (reading_through o) (named_at r n.site.token)))
+      by None none = subst (λ z. AllLead m (modes_of m (named_row r written z))) (sym is) (field_written d (a_member struct n.text d h).0 s e Arrow n there none is)
+      by (Some at) some =
+          let u = use_named r e at some in
+          let kind : variable_kind (declaration_at r u.variable) ≡ object (base.Struct struct) 1 = sym u.kind ∙ one_type r a.resolved a.placed a.low e (object (base.Struct struct) 1) t in
+          subst (λ z. AllLead m (modes_of m (named_row r (through at) z))) (sym is)
+          (field_through d (a_member struct n.text d h).0 at u.variable u.names struct h.0 kind h.1 (found_there h.0.fields n.text d h.2))
+
+  -- ---- expressions
+  abbrev RowLeads : Option Targets → Type 0
+  RowLeads None = Unit {0}
+  RowLeads (Some row) = AllLead m (modes_of m row)
+
+  name_leads : (s : Span) (i : Identifier) → IsExpression m (tree.identifier s i) → (n : Named) → named_at r i.site.token ≡ n → AllLead m (modes_of m (named_row r written n))
+  name_leads s i there (named.Struct n) is = tt
+  name_leads s i there (named.Global n) is = global_leads (global_at r n) (at_number (λ g. InFile r (declared role.Global g.declaration)) (globals_in r.program.items) n file.globals)
+  name_leads s i there (named.Function n) is = tt
+  name_leads s i there (named.Variable t) is = variable_leads s i t there is
+  name_leads s i there (named.Field t) is = absurd (no_field_name r s i _ t (typed_at (tree.identifier s i) there) is)
+  name_leads s i there named.Known is = tt
+
+  deep : (o : Option Targets) → RowLeads o → RowLeads (behind o)
+  deep None h = tt
+  deep (Some row) h = deeper_hold m (LeadsIfLocked r) row h
+
+  choose : (b : Bool) (s t : Option Targets) → RowLeads s → RowLeads t → RowLeads (cond b s t)
+  choose true s t h k = h
+  choose false s t h k = k
+
+  row_leads : (e : Expression) → AllByRecursion (IsExpression m) (expressions e) → RowLeads (row_at r e)
+  row_leads (tree.identifier s i) h = name_leads s i h.0 (named_at r i.site.token) refl
+  row_leads (tree.constant s (constants.Number n)) h = tt
+  row_leads (tree.constant s (constants.Character b)) h = tt
+  row_leads (tree.constant s constants.Null) h = tt
+  row_leads (tree.parentheses s e) h = row_leads e h.1
+  row_leads (tree.call s f all) h = called_leads (named_at r f.site.token)
+  row_leads (tree.spawn s f e) h = tt
+  row_leads (tree.on_value s w e) h = tt
+  row_leads (tree.on_place s w e) h = tt
+  row_leads (tree.cast s t e) h = cast_leads s t e h.0
+  row_leads (tree.index s e i) h =
+      let of_base = row_leads e (front (IsExpression m) (expressions e) (expressions i) h.1) in
+      choose (is_array (kind_at r e)) (row_at r e) (behind (row_at r e)) of_base (deep (row_at r e) of_base)
+  row_leads (tree.field s e w n) h = field_leads s e w n _ (typed_at (tree.field s e w n) h.0) h.0
+  row_leads (tree.unary s Negate e) h = tt
+  row_leads (tree.unary s Not e) h = tt
+  row_leads (tree.unary s Complement e) h = tt
+  row_leads (tree.unary s Dereference e) h = deep (row_at r e) (row_leads e h.1)
+  row_leads (tree.binary s o at e b) h = tt
+
+  pub expression_leads : (e : Expression) (modes : List Sharing) → AllByRecursion (IsExpression m) (expressions e) → modes_at m e ≡ Some modes → AllLead m modes
+  expression_leads e modes all is = by (row_at r e) (row_leads e all) is
+    where
+      by : (o : Option Targets) → RowLeads o → option_map (modes_of m) o ≡ Some modes → AllLead m modes
+      by None h k = absurd (none_some modes k)
+      by (Some row) h k = subst (AllLead m) (same_some (modes_of m row) modes k) h
+
+pub expressions_lead : RulesAreMet → FieldsPlaced → OwnAreFound → EachTypeFound → EachPathFound → MeetsConstraints → OneType → EachNameOnce → OnlyNames → EachNamesItself → EachNamesOwn → ExpressionsLead
+expressions_lead rules fields_placed own_found found paths constraints one_type once only itself names_own m a e modes all is =
+    expression_leads rules fields_placed own_found found paths constraints one_type once only itself names_own m a e modes all is

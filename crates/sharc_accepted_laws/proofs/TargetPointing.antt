@@ -1,0 +1,359 @@
+-- A pointer cell of the globals, or of what a pointer refers to, is one of the source.
+use Rattle.std.proofs.Common.{◌≡◌, ℕ, zero, suc, ◌+◌, ◌-◌, ◌*◌, ◌<◌, ◌≤◌, ◌⊎◌, inl, inr, Bool, true, false, ◌||◌, cond, List, [], ◌∷◌, ◌++◌, length, replicate, slice_index_or, Option, Some, None, refl, ap, sym, ◌∙◌, subst, ⊎_elim, arith, bytes_eq}
+use Rattle.std.specs.Prelude.{slice_get, map, ◌%◌, ◌/◌}
+use Rattle.std.proofs.Math.Nat.{suc-mul, mul_comm, div-add-mod}
+use Rattle.std.proofs.lemmas.Bool.{cases_lt, lt-ltb}
+use Rattle.std.proofs.lemmas.Nat.{mod-mul-add}
+use Rattle.sharc_tree.specs.declared.ctype.Base.{Base}
+use Rattle.sharc_tree.specs.declared.ctype.Base.TheVariants as base
+use Rattle.sharc_tree.specs.declared.tree.declaration.Declaration.{Declaration}
+use Rattle.sharc_tree.specs.declared.tree.declaration.WrittenType.{WrittenType}
+use Rattle.sharc_tree.specs.declared.tree.item.GlobalDefinition.{GlobalDefinition}
+use Rattle.sharc_tree.specs.declared.tree.item.StructDefinition.{StructDefinition}
+use Rattle.sharc_names.specs.Kinds.{Kind, object, element_kind, declared_kind}
+use Rattle.sharc_names.specs.Kinds as Kinds
+use Rattle.sharc_code.specs.Ranges.{IsInGlobal, first_place}
+use Rattle.sharc_code.specs.Says.{no_global}
+use Rattle.sharc_ctype.specs.Globals.{elements_of}
+use Rattle.sharc_ctype.specs.Layouts.{pointer_cells}
+use Rattle.sharc_ctype.specs.Resolved.{structs_in, globals_in}
+use Rattle.sharc_meaning.specs.References.{fields_called, is_pointer_in, is_pointer_of_global}
+use Rattle.sharc_meaning.specs.References as References
+use Rattle.sharc_mode.specs.Moded.{Assignment}
+use Rattle.sharc_mode.specs.Notes.{base_of}
+use Rattle.sharc_mode.specs.Rows.{written, declared_row, modes_of}
+use Rattle.sharc_flat.specs.Tables.{cells_in, granules_in, globals_from, globals_of}
+use Rattle.sharc_invariant.specs.Types.{FieldMode, Field, Pointer, no_field, field_of_cell, global_field, row_of, is_pointer}
+use Rattle.sharc_accepted_laws.specs.Pointees.{pointee}
+use Rattle.sharc_accepted_laws.specs.Pointers.{IsPointerInTable, PointersAreOfGlobals, GlobalsPoint, PointeesPoint}
+use Rattle.sharc_accepted_laws.specs.Shapes.{Form, form_of, stars_in, number}
+use Rattle.sharc_accepted_laws.specs.Targets.{base_content, pointer_content, declared_content, single, members, struct_fields, base_fields, top_mode, global_element, repeated, global_fields, all_global_fields, own_mode, lock_count, type_locks, shape_fields, targets_of}
+use Rattle.sharc_accepted_laws.proofs.TargetCells.{member_count}
+use Rattle.sharc_accepted_laws.proofs.Good.{at_left, at_right}
+use Rattle.sharc_accepted_laws.proofs.Laying.{globals_are, global_count, element_count}
+use Rattle.sharc_accepted_laws.proofs.TargetLists.{map_length}
+use Rattle.sharc_accepted_laws.proofs.Pointees.{IsPointerKind, pointer_kind, many_modes, pointees_fit}
+use Rattle.sharc_accepted_laws.proofs.AccessCells.{below_product}
+
+abbrev Points : List Field → ℕ → Type 0
+Points list i = is_pointer (slice_index_or list i no_field).holds ≡ true
+
+abbrev Part : List Field → List Field → ℕ → Type 0
+Part a b i = ((i < length a) × Points a i) ⊎ ((k : ℕ) × (i ≡ length a + k) × Points b k)
+
+parts : (a b : List Field) (i : ℕ) → Points (a ++ b) i → Part a b i
+parts a b i h = ⊎_elim
+    (λ (low : i < length a). inl (low, subst (λ (f : Field). is_pointer f.holds ≡ true) (at_left a b i low) h))
+    (λ (high : length a ≤ i).
+    let e : i ≡ length a + (i - length a) = omega (arith, high) in
+    inr (i - length a, e, subst (λ (f : Field). is_pointer f.holds ≡ true) (at_right a b i (i - length a) e) h))
+    (cases_lt i (length a))
+
+-- ---- elements
+no_base : (b : Base) → is_pointer (base_content b) ≡ true → ⊥
+no_base base.Mutex h = let z : false ≡ true = h in cc
+no_base (base.Struct name) h = let z : false ≡ true = h in cc
+no_base _ h = let z : false ≡ true = h in cc
+
+no_single : (q : FieldMode) (b : Base) (k : ℕ) → Points (single q b ∷ []) k → ⊥
+no_single q base.Mutex zero h = let z : false ≡ true = h in cc
+no_single q (base.Struct name) zero h = let z : false ≡ true = h in cc
+no_single q _ zero h = let z : false ≡ true = h in cc
+no_single q b (suc k) h = let z : false ≡ true = h in cc
+
+declared_pointer : (m : Assignment) (n : ℕ) (d : Declaration) → is_pointer (declared_content m n d) ≡ true → Kinds.is_pointer (declared_kind d.written) ≡ true
+declared_pointer m n d h = by (Kinds.is_pointer (declared_kind d.written)) h
+  where
+    by : (b : Bool) → is_pointer (cond b (pointer_content m n d.written.ctype.base (modes_of m (declared_row m.typed written d.name.site.token))) (base_content d.written.ctype.base)) ≡ true → b ≡ true
+    by true h = refl
+    by false h = absurd (no_base d.written.ctype.base h)
+
+members_point : (m : Assignment) (q : FieldMode) (n : ℕ) (fields : List Declaration) (k : ℕ) → Points (members m q n fields) k → slice_index_or (pointer_cells fields) k false ≡ true
+members_point m q n [] k h = absurd (let z : false ≡ true = h in cc)
+members_point m q n (d ∷ rest) zero h = declared_pointer m n d h
+members_point m q n (d ∷ rest) (suc k) h = members_point m q (n + 1) rest k h
+
+-- cell k of element e is cell k
+in_element : (c e l k : ℕ) → k < l → c ≡ e * l + k → c % l ≡ k
+in_element c e l k low is = ap (λ n. n % l) is ∙ mod-mul-add e l k low
+
+struct_points : (m : Assignment) (q : FieldMode) (list : List StructDefinition) (name : List ℕ) (c e k : ℕ) → k < length (struct_fields m q list name) → c ≡ e * length (struct_fields m q list name) + k → Points (struct_fields m q list name) k
+    → slice_index_or (pointer_cells (fields_called list name)) (c % length (fields_called list name)) false ≡ true
+struct_points m q [] name c e k low is h = absurd (no_single q (base.Struct name) k h)
+struct_points m q (s ∷ rest) name c e k low is h = by (bytes_eq s.name.text name) low is h (struct_points m q rest name c e k)
+  where
+    by : (b : Bool) → k < length (cond b (members m q 0 s.fields) (struct_fields m q rest name)) → c ≡ e * length (cond b (members m q 0 s.fields) (struct_fields m q rest name)) + k → Points (cond b (members m q 0 s.fields) (struct_fields m q rest name)) k
+        → (k < length (struct_fields m q rest name) → c ≡ e * length (struct_fields m q rest name) + k → Points (struct_fields m q rest name) k → slice_index_or (pointer_cells (fields_called rest name)) (c % length (fields_called rest name)) false ≡ true)
+        → slice_index_or (pointer_cells (cond b s.fields (fields_called rest name))) (c % length (cond b s.fields (fields_called rest name))) false ≡ true
+    by true low is h more =
+        let many = member_count m q 0 s.fields in
+        let place : c % length s.fields ≡ k = in_element c e (length s.fields) k (subst (λ l. k < l) many low) (is ∙ ap (λ l. e * l + k) many) in
+        ap (λ j. slice_index_or (pointer_cells s.fields) j false) place ∙ members_point m q 0 s.fields k h
+    by false low is h more = more low is h
+
+base_points : (m : Assignment) (q : FieldMode) (b : Base) (c e k : ℕ) → k < length (base_fields m q b) → c ≡ e * length (base_fields m q b) + k → Points (base_fields m q b) k
+    → slice_index_or (pointer_cells (References.base_fields m.typed b)) (c % length (References.base_fields m.typed b)) false ≡ true
+base_points m q (base.Struct name) c e k low is h = struct_points m q (structs_in m.typed.program.items) name c e k low is h
+base_points m q base.Int c e k low is h = absurd (no_single q base.Int k h)
+base_points m q base.Char c e k low is h = absurd (no_single q base.Char k h)
+base_points m q base.Long c e k low is h = absurd (no_single q base.Long k h)
+base_points m q base.Mutex c e k low is h = absurd (no_single q base.Mutex k h)
+base_points m q base.Void c e k low is h = absurd (no_single q base.Void k h)
+
+element_points : (m : Assignment) (g : GlobalDefinition) (c e k : ℕ) → k < length (global_element m g) → c ≡ e * length (global_element m g) + k → Points (global_element m g) k → is_pointer_in m.typed g.declaration.written c ≡ true
+element_points m g c e k low is h = by (Kinds.is_pointer (declared_kind g.declaration.written)) low is h
+  where
+    by : (b : Bool) → k < length (cond b (record { mode = top_mode m g; holds = declared_content m 0 g.declaration } ∷ []) (base_fields m (top_mode m g) g.declaration.written.ctype.base))
+        → c ≡ e * length (cond b (record { mode = top_mode m g; holds = declared_content m 0 g.declaration } ∷ []) (base_fields m (top_mode m g) g.declaration.written.ctype.base)) + k
+        → Points (cond b (record { mode = top_mode m g; holds = declared_content m 0 g.declaration } ∷ []) (base_fields m (top_mode m g) g.declaration.written.ctype.base)) k
+        → (b || slice_index_or (pointer_cells (References.base_fields m.typed g.declaration.written.ctype.base)) (c % length (References.base_fields m.typed g.declaration.written.ctype.base)) false) ≡ true
+    by true low is h = refl
+    by false low is h = base_points m (top_mode m g) g.declaration.written.ctype.base c e k low is h
+
+-- ---- and the other way
+members_back : (m : Assignment) (q : FieldMode) (n : ℕ) (fields : List Declaration) (k : ℕ) → slice_index_or (pointer_cells fields) k false ≡ true → Points (members m q n fields) k
+members_back m q n [] k h = absurd (let z : false ≡ true = h in cc)
+members_back m q n (d ∷ rest) zero h =
+    ap (λ b. is_pointer (cond b (pointer_content m n d.written.ctype.base (modes_of m (declared_row m.typed written d.name.site.token))) (base_content d.written.ctype.base))) h
+members_back m q n (d ∷ rest) (suc k) h = members_back m q (n + 1) rest k h
+
+none_back : (i : ℕ) → slice_index_or (pointer_cells []) i false ≡ true → ⊥
+none_back i h = let z : false ≡ true = h in cc
+
+struct_back : (m : Assignment) (q : FieldMode) (list : List StructDefinition) (name : List ℕ) (c : ℕ) → slice_index_or (pointer_cells (fields_called list name)) (c % length (fields_called list name)) false ≡ true
+    → Points (struct_fields m q list name) (c % length (struct_fields m q list name))
+struct_back m q [] name c h = absurd (none_back (c % length (fields_called [] name)) h)
+struct_back m q (s ∷ rest) name c h = by (bytes_eq s.name.text name) h (struct_back m q rest name c)
+  where
+    by : (b : Bool) → slice_index_or (pointer_cells (cond b s.fields (fields_called rest name))) (c % length (cond b s.fields (fields_called rest name))) false ≡ true
+        → (slice_index_or (pointer_cells (fields_called rest name)) (c % length (fields_called rest name)) false ≡ true → Points (struct_fields m q rest name) (c % length (struct_fields m q rest name)))
+        → Points (cond b (members m q 0 s.fields) (struct_fields m q rest name)) (c % length (cond b (members m q 0 s.fields) (struct_fields m q rest name)))
+    by true h more = subst (λ n. Points (members m q 0 s.fields) (c % n)) (sym (member_count m q 0 s.fields)) (members_back m q 0 s.fields (c % length s.fields) h)
+    by false h more = more h
+
+base_back : (m : Assignment) (q : FieldMode) (b : Base) (c : ℕ) → slice_index_or (pointer_cells (References.base_fields m.typed b)) (c % length (References.base_fields m.typed b)) false ≡ true
+    → Points (base_fields m q b) (c % length (base_fields m q b))
+base_back m q (base.Struct name) c h = struct_back m q (structs_in m.typed.program.items) name c h
+base_back m q base.Int c h = absurd (none_back (c % 0) h)
+base_back m q base.Char c h = absurd (none_back (c % 0) h)
+base_back m q base.Long c h = absurd (none_back (c % 0) h)
+base_back m q base.Mutex c h = absurd (none_back (c % 0) h)
+base_back m q base.Void c h = absurd (none_back (c % 0) h)
+
+alone : (c : ℕ) → c % 1 ≡ 0
+alone c = let low = rest c 1 (λ e. omega (arith, e)) in omega (arith, low)
+  where
+    rest : (a b : ℕ) → (b ≡ 0 → ⊥) → a % b < b
+    rest a b ne = grind arith
+
+one_points : (f : Field) (c : ℕ) → is_pointer f.holds ≡ true → Points (f ∷ []) (c % length (f ∷ []))
+one_points f c h = subst (Points (f ∷ [])) (sym (alone c)) h
+
+element_back : (m : Assignment) (g : GlobalDefinition) (c : ℕ) → is_pointer_in m.typed g.declaration.written c ≡ true → Points (global_element m g) (c % length (global_element m g))
+element_back m g c h = by (Kinds.is_pointer (declared_kind g.declaration.written)) refl h
+  where
+    by : (b : Bool) → Kinds.is_pointer (declared_kind g.declaration.written) ≡ b
+        → (b || slice_index_or (pointer_cells (References.base_fields m.typed g.declaration.written.ctype.base)) (c % length (References.base_fields m.typed g.declaration.written.ctype.base)) false) ≡ true
+        → Points (cond b (record { mode = top_mode m g; holds = declared_content m 0 g.declaration } ∷ []) (base_fields m (top_mode m g) g.declaration.written.ctype.base))
+        (c % length (cond b (record { mode = top_mode m g; holds = declared_content m 0 g.declaration } ∷ []) (base_fields m (top_mode m g) g.declaration.written.ctype.base)))
+    by true is h = one_points (record { mode = top_mode m g; holds = declared_content m 0 g.declaration }) c
+        (ap (λ b. is_pointer (cond b (pointer_content m 0 g.declaration.written.ctype.base (modes_of m (declared_row m.typed written g.declaration.name.site.token))) (base_content g.declaration.written.ctype.base))) is)
+    by false is h = base_back m (top_mode m g) g.declaration.written.ctype.base c h
+
+-- ---- globals
+record InElement (n : ℕ) (fields : List Field) (i : ℕ) : Type 0 where
+  pub element : ℕ
+  pub cell : ℕ
+  pub low : element < n
+  pub inside : cell < length fields
+  pub at : i ≡ element * length fields + cell
+  pub points : Points fields cell
+
+repeated_points : (n : ℕ) (fields : List Field) (i : ℕ) → Points (repeated n fields) i → InElement n fields i
+repeated_points zero fields i h = absurd (let z : false ≡ true = h in cc)
+repeated_points (suc n) fields i h = ⊎_elim
+    (λ (k : (i < length fields) × Points fields i). record { element = 0; cell = i; low = omega arith; inside = k.0; at = omega arith; points = k.1 })
+    (λ (k : (j : ℕ) × (i ≡ length fields + j) × Points (repeated n fields) j).
+    let r = repeated_points n fields k.0 k.2 in
+    let low = r.low in
+    let product = suc-mul r.element (length fields) in
+    let e = k.1 in
+    let at = r.at in
+    record { element = suc r.element; cell = r.cell; low = omega (arith, low); inside = r.inside; at = omega (arith, product, e, at); points = r.points })
+    (parts fields (repeated n fields) i h)
+
+no_padding : (n i : ℕ) → Points (replicate n no_field) i → ⊥
+no_padding zero i h = let z : false ≡ true = h in cc
+no_padding (suc n) zero h = let z : false ≡ true = h in cc
+no_padding (suc n) (suc i) h = no_padding n i h
+
+record InGlobals (m : Assignment) (from : ℕ) (list : List GlobalDefinition) (i : ℕ) : Type 0 where
+  pub number : ℕ
+  pub definition : GlobalDefinition
+  pub is : slice_get list number ≡ Some definition
+  pub known : number < length (globals_from m.typed from list)
+  pub cell : ℕ
+  pub at : i + 2 * from ≡ 2 * (slice_index_or (globals_from m.typed from list) number no_global).granule + cell
+  pub cells : (slice_index_or (globals_from m.typed from list) number no_global).cells ≡ cells_in m.typed definition
+  pub element : InElement (elements_of definition.form) (global_element m definition) cell
+
+all_points : (m : Assignment) (from : ℕ) (list : List GlobalDefinition) (i : ℕ) → Points (all_global_fields m list) i → InGlobals m from list i
+all_points m from [] i h = absurd (let z : false ≡ true = h in cc)
+all_points m from (x ∷ rest) i h = ⊎_elim
+    (λ (k : (i < length (global_fields m x)) × Points (global_fields m x) i). ⊎_elim
+    (λ (y : (i < length (repeated (elements_of x.form) (global_element m x))) × Points (repeated (elements_of x.form) (global_element m x)) i).
+    record { number = 0; definition = x; is = refl; known = omega arith; cell = i; at = omega arith; cells = refl; element = repeated_points (elements_of x.form) (global_element m x) i y.1 })
+    (λ (y : (j : ℕ) × (i ≡ length (repeated (elements_of x.form) (global_element m x)) + j) × Points (replicate (2 * granules_in m.typed x - cells_in m.typed x) no_field) j).
+    absurd (no_padding (2 * granules_in m.typed x - cells_in m.typed x) y.0 y.2))
+    (parts (repeated (elements_of x.form) (global_element m x)) (replicate (2 * granules_in m.typed x - cells_in m.typed x) no_field) i k.1))
+    (λ (k : (j : ℕ) × (i ≡ length (global_fields m x) + j) × Points (all_global_fields m rest) j).
+    let r = all_points m (from + granules_in m.typed x) rest k.0 k.2 in
+    let here = global_count m x in
+    let e = k.1 in
+    let known = r.known in
+    let at = r.at in
+    record { number = suc r.number; definition = r.definition; is = r.is; known = omega (arith, known); cell = r.cell; at = omega (arith, here, e, at); cells = r.cells; element = r.element })
+    (parts (global_fields m x) (all_global_fields m rest) i h)
+
+pub pointers_are_of_globals : PointersAreOfGlobals
+pointers_are_of_globals m j h =
+    let r = all_points m 1 (globals_in m.typed.program.items) j h in
+    let g = r.definition in
+    let el = r.element in
+    let there = globals_are m r.number g r.is el.element el.cell el.low el.inside in
+    let below = below_product el.element (elements_of g.form) (length (global_element m g)) el.cell el.low el.inside in
+    let at = r.at in
+    let place = el.at in
+    let cells : (slice_index_or (globals_of m.typed) r.number no_global).cells ≡ elements_of g.form * length (global_element m g) = r.cells ∙ ap (λ n. elements_of g.form * n) (sym there.cells) in
+    record {
+      global = r.number;
+      definition = g;
+      is = r.is;
+      cell = r.cell;
+      inside = record { known = r.known; low = omega (arith, at); high = omega (arith, at, place, below, cells) };
+      at = omega (arith, at);
+      pointer = ap (λ o. is_pointer_of_global m.typed o r.cell) r.is ∙ element_points m g r.cell el.element el.cell el.inside el.at el.points;
+    }
+
+-- ---- a pointer is a cell
+points_inside : (list : List Field) (k : ℕ) → Points list k → k < length list
+points_inside [] k h = absurd (let z : false ≡ true = h in cc)
+points_inside (f ∷ list) zero h = omega arith
+points_inside (f ∷ list) (suc k) h = let more = points_inside list k h in omega (arith, more)
+
+-- ---- and the other way
+cells_at : (m : Assignment) (from : ℕ) (list : List GlobalDefinition) (k : ℕ) (g : GlobalDefinition) → slice_get list k ≡ Some g
+    → (k < length (globals_from m.typed from list)) × ((slice_index_or (globals_from m.typed from list) k no_global).cells ≡ cells_in m.typed g)
+cells_at m from [] k g is = absurd (cc)
+cells_at m from (x ∷ rest) zero g is = let same : x ≡ g = cc in (omega arith, ap (cells_in m.typed) same)
+cells_at m from (x ∷ rest) (suc k) g is = let more = cells_at m (from + granules_in m.typed x) rest k g is in let low = more.0 in (omega (arith, low), more.1)
+
+times_low : (a b l : ℕ) → a ≤ b → a * l ≤ b * l
+times_low zero b l h = omega arith
+times_low (suc a) zero l h = absurd (omega (arith, h))
+times_low (suc a) (suc b) l h = let more = times_low a b l (omega (arith, h)) in let left = suc-mul a l in let right = suc-mul b l in omega (arith, more, left, right)
+
+-- the element of a cell
+element_low : (c n l : ℕ) → c < n * l → c / l < n
+element_low c n l h = ⊎_elim
+    (λ (low : c / l < n). low)
+    (λ (high : n ≤ c / l). let most = times_low n (c / l) l high in let whole = div-add-mod c l in let turned = mul_comm l (c / l) in absurd (omega (arith, h, most, whole, turned)))
+    (cases_lt (c / l) n)
+
+in_place : (first c cells : ℕ) → first + c < first + cells → c < cells
+in_place first c cells h = omega (arith, h)
+
+module _ (m : Assignment) (k : ℕ) (g : GlobalDefinition) (is : slice_get (globals_in m.typed.program.items) k ≡ Some g) where
+  abbrev first : ℕ
+  first = first_place (globals_of m.typed) k
+
+  abbrev size : ℕ
+  size = length (global_element m g)
+
+  known : k < length (globals_of m.typed)
+  known = (cells_at m 1 (globals_in m.typed.program.items) k g is).0
+
+  cells : (slice_index_or (globals_of m.typed) k no_global).cells ≡ elements_of g.form * length (global_element m g)
+  cells = (cells_at m 1 (globals_in m.typed.program.items) k g is).1 ∙ ap (λ n. elements_of g.form * n) (sym (element_count m g))
+
+  -- field n of element e
+  field_points : (e n : ℕ) → e < elements_of g.form → Points (global_element m g) n → is_pointer (global_field (targets_of m) (first_place (globals_of m.typed) k + (e * length (global_element m g) + n) - 2)).holds ≡ true
+  field_points e n low h = ap (λ (f : Field). is_pointer f.holds) (globals_are m k g is e n low (points_inside (global_element m g) n h)).at ∙ h
+
+  field_there : (e n : ℕ) → e < elements_of g.form → Points (global_element m g) n → IsInGlobal (globals_of m.typed) k (first_place (globals_of m.typed) k + (e * length (global_element m g) + n))
+  field_there e n low h =
+      let below = below_product e (elements_of g.form) size n low (points_inside (global_element m g) n h) in
+      let all = cells in
+      record { known = known; low = omega arith; high = omega (arith, below, all) }
+
+  points_back : (cell : ℕ) → is_pointer_in m.typed g.declaration.written cell ≡ true → IsPointerInTable m k cell
+  points_back cell h =
+      let there = element_back m g cell h in
+      let whole = div-add-mod cell size in
+      let turned = mul_comm size (cell / size) in
+      let at : cell / size * size + cell % size ≡ cell = omega (arith, whole, turned) in
+      let begin : 0 * size + cell % size ≡ cell % size = omega arith in
+      record {
+        definition = g;
+        is = is;
+        known = known;
+        inside = λ i.
+            let low : cell / size < elements_of g.form = element_low cell (elements_of g.form) size (subst (λ n. cell < n) cells (in_place first cell (slice_index_or (globals_of m.typed) k no_global).cells i.high)) in
+            subst (λ c. is_pointer (global_field (targets_of m) (first + c - 2)).holds ≡ true) at (field_points (cell / size) (cell % size) low there);
+        near = cell % size;
+        there = λ some. subst (λ c. IsInGlobal (globals_of m.typed) k (first + c)) begin (field_there 0 (cell % size) some there);
+        pointer = λ some. subst (λ c. is_pointer (global_field (targets_of m) (first + c - 2)).holds ≡ true) begin (field_points 0 (cell % size) some there);
+      }
+
+pub globals_point : GlobalsPoint
+globals_point m k cell h = by (slice_get (globals_in m.typed.program.items) k) refl h
+  where
+    by : (o : Option GlobalDefinition) → slice_get (globals_in m.typed.program.items) k ≡ o → is_pointer_of_global m.typed o cell ≡ true → IsPointerInTable m k cell
+    by None is h = absurd (let z : false ≡ true = h in cc)
+    by (Some g) is h = points_back m k g is cell h
+
+-- ---- what a pointer refers to
+-- cell i of elements of these fields, of which so many are one element's
+shape_points : (m : Assignment) (w : WrittenType) (b : Base) (stars : ℕ) (forms : List Form) → object b stars ≡ declared_kind w → length forms ≡ suc stars → (i : ℕ) → Points (shape_fields m b forms) (i % length (shape_fields m b forms)) → is_pointer_in m.typed w i ≡ true
+shape_points m w b stars [] same many i h = absurd (omega (arith, many))
+shape_points m w b zero (f ∷ []) same many i h =
+    let fields = base_fields m (own_mode f) b in
+    let whole = div-add-mod i (length fields) in
+    let turned : length fields * (i / length fields) ≡ i / length fields * length fields = mul_comm (length fields) (i / length fields) in
+    let p = base_points m (own_mode f) b i (i / length fields) (i % length fields) (points_inside fields (i % length fields) h) (omega (arith, whole, turned)) h in
+    subst (λ (k : Kind). (Kinds.is_pointer k || slice_index_or (pointer_cells (References.base_fields m.typed (base_of k))) (i % length (References.base_fields m.typed (base_of k))) false) ≡ true) same p
+shape_points m w b (suc stars) (f ∷ []) same many i h = absurd (omega (arith, many))
+shape_points m w b zero (f ∷ g ∷ below) same many i h = absurd (omega (arith, many))
+shape_points m w b (suc stars) (f ∷ g ∷ below) same many i h =
+    let pointer : Kinds.is_pointer (object b (suc stars)) ≡ true = lt-ltb 0 (suc stars) (omega arith) in
+    ap (λ (p : Bool). p || slice_index_or (pointer_cells (References.base_fields m.typed w.ctype.base)) (i % length (References.base_fields m.typed w.ctype.base)) false) (sym (ap Kinds.is_pointer same) ∙ pointer)
+
+-- and the other way
+shape_back : (m : Assignment) (w : WrittenType) (b : Base) (stars : ℕ) (forms : List Form) → object b stars ≡ declared_kind w → length forms ≡ suc stars → (i : ℕ) → is_pointer_in m.typed w i ≡ true → Points (shape_fields m b forms) (i % length (shape_fields m b forms))
+shape_back m w b stars [] same many i h = absurd (omega (arith, many))
+shape_back m w b zero (f ∷ []) same many i h =
+    base_back m (own_mode f) b i (subst (λ (k : Kind). (Kinds.is_pointer k || slice_index_or (pointer_cells (References.base_fields m.typed (base_of k))) (i % length (References.base_fields m.typed (base_of k))) false) ≡ true) (sym same) h)
+shape_back m w b (suc stars) (f ∷ []) same many i h = absurd (omega (arith, many))
+shape_back m w b zero (f ∷ g ∷ below) same many i h = absurd (omega (arith, many))
+shape_back m w b (suc stars) (f ∷ g ∷ below) same many i h =
+    one_points (record { mode = own_mode f; holds = Pointer (record { target = number m (record { base = b; forms = g ∷ below }); locks = type_locks (lock_count f) (g ∷ below) }) }) i refl
+
+both_ways : (a b : Bool) → (a ≡ true → b ≡ true) → (b ≡ true → a ≡ true) → a ≡ b
+both_ways true b there back = sym (there refl)
+both_ways false true there back = back refl
+both_ways false false there back = refl
+
+pub pointees_point : PointeesPoint
+pointees_point m k row is pointer w same i = by (pointer_kind k pointer)
+  where
+    by : IsPointerKind k → is_pointer (field_of_cell (targets_of m) (pointee m k row) i).holds ≡ is_pointer_in m.typed w i
+    by p =
+        let fits = pointees_fit m k row is pointer in
+        let forms = map form_of (modes_of m row) in
+        let less : suc p.below - 1 ≡ p.below = omega arith in
+        let kind : object p.base p.below ≡ declared_kind w = sym (ap element_kind p.is ∙ ap (object p.base) less) ∙ same in
+        let many : length forms ≡ suc p.below = map_length form_of (modes_of m row) ∙ many_modes m k row is ∙ ap stars_in p.is in
+        let fields : (row_of (targets_of m) (pointee m k row)).fields ≡ shape_fields m p.base forms = fits.fields ∙ ap (λ z. shape_fields m (base_of z) forms) p.is in
+        both_ways (is_pointer (field_of_cell (targets_of m) (pointee m k row) i).holds) (is_pointer_in m.typed w i)
+        (λ h. shape_points m w p.base p.below forms kind many i (subst (λ list. Points list (i % length list)) fields h))
+        (λ h. subst (λ list. Points list (i % length list)) (sym fields) (shape_back m w p.base p.below forms kind many i h))

@@ -1,0 +1,166 @@
+-- A lock path in the type of a field that names a field names one of the same struct.
+use Rattle.std.proofs.Common.{◌≡◌, ⊎_elim, ℕ, Bool, true, false, cond, List, [], ◌∷◌, ◌++◌, length, refl, sym, ◌∙◌, subst, Option, Some, None, Contains, bytes_eq}
+use Rattle.sharc_tree.specs.declared.ctype.Mode.{Mode}
+use Rattle.sharc_tree.specs.declared.ctype.Mode.TheVariants.{Locked}
+use Rattle.sharc_tree.specs.declared.ctype.Path.{Path}
+use Rattle.sharc_tree.specs.declared.ctype.Path.TheVariants.{One, Through}
+use Rattle.sharc_tree.specs.declared.tree.declaration.Declaration.{Declaration}
+use Rattle.sharc_tree.specs.declared.tree.declaration.WrittenType.{WrittenType}
+use Rattle.sharc_tree.specs.declared.tree.item.StructDefinition.{StructDefinition}
+use Rattle.sharc_tree.specs.Low.{IsLow}
+use Rattle.sharc_tree.specs.Placed.{IsPlaced}
+use Rattle.sharc_tree.specs.Tree.{Item, structure, global, function}
+use Rattle.sharc_names.specs.declared.fault.FaultCode.{FaultCode}
+use Rattle.sharc_names.specs.declared.fault.FaultCode.TheVariants.{UnknownName, TypeNotAllowed}
+use Rattle.sharc_names.specs.declared.fault.Named.{Named}
+use Rattle.sharc_names.specs.declared.fault.Named.TheVariants as named
+use Rattle.sharc_names.specs.declared.scope.Scope.{Scope}
+use Rattle.sharc_names.specs.declared.types.Role.TheVariants as role
+use Rattle.sharc_names.specs.Names.{Entry, Meaning, look_up, field_of, named_of}
+use Rattle.sharc_names.specs.Names as meaning
+use Rattle.sharc_names.specs.Notes.{Note, fault, refers, yields, fault_unless, faults, referred}
+use Rattle.sharc_names.specs.Types.{first_notes, main_notes, name_notes, path_notes, mode_notes, modes_notes, base_notes, allowed_there, type_notes}
+use Rattle.sharc_ctype.specs.Globals.{sizes_notes}
+use Rattle.sharc_ctype.specs.Heads.{heads_notes, no_heads}
+use Rattle.sharc_ctype.specs.Items.{field_notes, fields_notes, item_notes, items_notes, main_missing, file_scope, notes_about}
+use Rattle.sharc_ctype.specs.Resolved.{Resolution, IsResolved, named_at, structs_in}
+use Rattle.sharc_mode.specs.Sharings.{lock_of}
+use Rattle.sharc_ctype_laws.specs.Laws.{Tells, IsToldOnce, EachNameOnce, OnlyNames}
+use Rattle.sharc_accepted_laws.proofs.TargetLists.{none_there, head_there, tail_there, head_or_tail, left_there, right_there, either_there, same_some}
+use Rattle.sharc_accepted_laws.proofs.TypableRegisters.{none_some}
+
+-- ---- what a note of the program says is so
+referred_there : (notes : List Note) (note : Note) (token : ℕ) (what : Named) → Contains notes note → Tells note token what → Contains (referred notes) token
+referred_there [] note token what has tells = absurd (none_there note has)
+referred_there (x ∷ rest) note token what has tells = ⊎_elim (λ is. here x (subst (λ z. Tells z token what) (sym is) tells)) (λ later. there x (referred_there rest note token what later tells)) (head_or_tail x note rest has)
+  where
+    here : (y : Note) → Tells y token what → Contains (referred (y ∷ rest)) token
+    here (fault place code) t = absurd t
+    here (refers n named) t = subst (λ z. Contains (n ∷ referred rest) z) t.0 (head_there n (referred rest))
+    here (yields n named) t = subst (λ z. Contains (n ∷ referred rest) z) t.0 (head_there n (referred rest))
+
+    there : (y : Note) → Contains (referred rest) token → Contains (referred (y ∷ rest)) token
+    there (fault place code) has = has
+    there (refers n named) has = tail_there n token (referred rest) has
+    there (yields n named) has = tail_there n token (referred rest) has
+
+one_thing : (note : Note) (token : ℕ) (a b : Named) → Tells note token a → Tells note token b → a ≡ b
+one_thing (fault place code) token a b s t = absurd s
+one_thing (refers n named) token a b s t = sym s.1 ∙ t.1
+one_thing (yields n named) token a b s t = sym s.1 ∙ t.1
+
+no_faults : (notes : List Note) (place : ℕ) (code : FaultCode) → Contains notes (fault place code) → faults notes ≡ [] → ⊥
+no_faults [] place code has none = none_there _ has
+no_faults (x ∷ rest) place code has none = ⊎_elim (λ is. here x is none) (λ later. there x none (no_faults rest place code later)) (head_or_tail x _ rest has)
+  where
+    here : (y : Note) → y ≡ fault place code → faults (y ∷ rest) ≡ [] → ⊥
+    here (fault p c) is none = cc
+    here (refers n named) is none = cc
+    here (yields n named) is none = cc
+
+    there : (y : Note) → faults (y ∷ rest) ≡ [] → (faults rest ≡ [] → ⊥) → ⊥
+    there (fault p c) none more = cc
+    there (refers n named) none more = more none
+    there (yields n named) none more = more none
+
+-- the field of this token is one of these
+pub record IsSibling (fields : List Declaration) (f : ℕ) : Type 0 where
+  pub sibling : Declaration
+  pub has : Contains fields sibling
+  pub is : sibling.name.site.token ≡ f
+
+module _ (once : EachNameOnce) (only : OnlyNames) (r : Resolution) (resolved : IsResolved r) (placed : IsPlaced r.program) (low : IsLow r.program) where
+  told : (note : Note) (token : ℕ) (what : Named) → Contains (notes_about r.program) note → Tells note token what → named_at r token ≡ what
+  told note token what has tells = w.named ∙ ⊎_elim (λ l. absurd (w.not_before (referred_there w.before note token what l tells))) (λ later. ⊎_elim (λ is. one_thing note token w.what what (subst (λ z. Tells z token w.what) is w.tells) tells) (λ l. absurd (w.not_after (referred_there w.after note token what l tells))) (head_or_tail w.note note w.after later)) (either_there w.before (w.note ∷ w.after) note (subst (λ l. Contains l note) w.notes has))
+    where
+      w : IsToldOnce r token
+      w = once r resolved placed low token (only r resolved placed low token (referred_there (notes_about r.program) note token what has tells))
+
+  -- ---- the notes of a field's type are notes of the program
+  abbrev file : Scope
+  file = file_scope r.program.items
+
+  in_modes : (siblings : List Declaration) (levels : List (Option Mode)) (path : Path) (note : Note) → Contains levels (Some (Locked path)) → Contains (path_notes file siblings path) note → Contains (modes_notes file siblings levels) note
+  in_modes siblings [] path note has at = absurd (none_there _ has)
+  in_modes siblings (level ∷ below) path note has at =
+      ⊎_elim (λ is. left_there (mode_notes file siblings level) (modes_notes file siblings below) note (subst (λ z. Contains (mode_notes file siblings z) note) (sym is) at))
+      (λ later. right_there (mode_notes file siblings level) (modes_notes file siblings below) note (in_modes siblings below path note later at)) (head_or_tail level _ below has)
+
+  in_type : (siblings : List Declaration) (w : WrittenType) (path : Path) (note : Note) → Contains w.ctype.levels (Some (Locked path)) → Contains (path_notes file siblings path) note → Contains (type_notes file siblings role.Field w) note
+  in_type siblings w path note has at =
+      right_there (base_notes file.structs w.base.token w.ctype.base ++ fault_unless (allowed_there role.Field w) w.span.first.token TypeNotAllowed) (modes_notes file siblings w.ctype.levels) note
+      (in_modes siblings w.ctype.levels path note has at)
+
+  in_fields : (all earlier rest : List Declaration) (d : Declaration) (note : Note) → Contains rest d → Contains (type_notes file all role.Field d.written) note → Contains (fields_notes file all earlier rest) note
+  in_fields all earlier [] d note has at = absurd (none_there _ has)
+  in_fields all earlier (x ∷ rest) d note has at =
+      ⊎_elim (λ is. left_there (field_notes file all earlier x) (fields_notes file all (earlier ++ x ∷ []) rest) note (left_there (type_notes file all role.Field x.written) _ note (subst (λ (z : Declaration). Contains (type_notes file all role.Field z.written) note) (sym is) at)))
+      (λ later. right_there (field_notes file all earlier x) (fields_notes file all (earlier ++ x ∷ []) rest) note (in_fields all (earlier ++ x ∷ []) rest d note later at)) (head_or_tail x d rest has)
+
+  in_items : (items : List Item) (s : StructDefinition) (note : Note) → Contains (structs_in items) s → Contains (fields_notes file s.fields [] s.fields) note → Contains (items_notes file items) note
+  in_items [] s note has at = absurd (none_there _ has)
+  in_items (structure x ∷ rest) s note has at =
+      ⊎_elim (λ is. left_there (fields_notes file x.fields [] x.fields) (items_notes file rest) note (subst (λ (z : StructDefinition). Contains (fields_notes file z.fields [] z.fields) note) (sym is) at))
+      (λ later. right_there (fields_notes file x.fields [] x.fields) (items_notes file rest) note (in_items rest s note later at)) (head_or_tail x s (structs_in rest) has)
+  in_items (global g ∷ rest) s note has at = right_there (item_notes file (global g)) (items_notes file rest) note (in_items rest s note has at)
+  in_items (function f ∷ rest) s note has at = right_there (item_notes file (function f)) (items_notes file rest) note (in_items rest s note has at)
+
+  in_program : (note : Note) → Contains (items_notes file r.program.items) note → Contains (notes_about r.program) note
+  in_program note at =
+      left_there _ (main_missing (length r.program.tokens.list) file.names) note
+      (left_there _ (sizes_notes file.structs 0 r.program.items) note (right_there (heads_notes no_heads r.program.items) (items_notes file r.program.items) note at))
+
+  -- ---- the first name of a path
+  found_there : (fields : List Declaration) (name : List ℕ) (d : Declaration) → field_of fields name ≡ Some d → Contains fields d
+  found_there [] name d is = absurd (none_some d is)
+  found_there (x ∷ rest) name d is = by (bytes_eq x.name.text name) is (found_there rest name d)
+    where
+      by : (b : Bool) → cond b (Some x) (field_of rest name) ≡ Some d → (field_of rest name ≡ Some d → Contains rest d) → Contains (x ∷ rest) d
+      by true is more = subst (λ z. Contains (x ∷ rest) z) (same_some x d is) (head_there x rest)
+      by false is more = tail_there x d rest (more is)
+
+  same_field : (t u : ℕ) → named.Field t ≡ named.Field u → t ≡ u
+  same_field t u h = cc
+
+  not_field : (m : Meaning) (f : ℕ) → named_of m ≡ named.Field f → ⊥
+  not_field (meaning.variable d) f h = cc
+  not_field (meaning.global n g) f h = cc
+  not_field (meaning.function n s) f h = cc
+  not_field (meaning.condition c) f h = cc
+
+  by_name : (token : ℕ) (o : Option Entry) (f : ℕ) → ((note : Note) → Contains (name_notes token o) note → Contains (notes_about r.program) note) → named_at r token ≡ named.Field f → ⊥
+  by_name token None f inside is = no_faults (notes_about r.program) token UnknownName (inside _ (head_there _ [])) resolved.typed
+  by_name token (Some e) f inside is = not_field e.meaning f (sym (told (refers token (named_of e.meaning)) token (named_of e.meaning) (inside _ (head_there _ (main_notes token e.meaning))) (refl, refl)) ∙ is)
+
+  by_first : (fields : List Declaration) (token : ℕ) (name : List ℕ) (o : Option Declaration) (e : Option Entry) → field_of fields name ≡ o → (f : ℕ)
+      → ((note : Note) → Contains (first_notes token o e) note → Contains (notes_about r.program) note) → named_at r token ≡ named.Field f → IsSibling fields f
+  by_first fields token name None e found f inside is = absurd (by_name token e f inside is)
+  by_first fields token name (Some d) e found f inside is =
+      let n = told (refers token (named.Field d.name.site.token)) token (named.Field d.name.site.token) (inside _ (head_there _ [])) (refl, refl) in
+      record { sibling = d; has = found_there fields name d found; is = same_field _ _ (sym n ∙ is) }
+
+  by_path : (fields : List Declaration) (path : Path) (f : ℕ) → ((note : Note) → Contains (path_notes file fields path) note → Contains (notes_about r.program) note) → named_at r (lock_of path).first ≡ named.Field f → IsSibling fields f
+  by_path fields (One m token) f inside is = by_first fields token m (field_of fields m) (look_up file.names m) refl f inside is
+  by_path fields (Through x token m) f inside is =
+      by_first fields token x (field_of fields x) (look_up file.names x) refl f
+      (λ note at. inside note (left_there (first_notes token (field_of fields x) (look_up file.names x)) _ note at)) is
+
+  pub sibling_named : (s : StructDefinition) (d : Declaration) (path : Path) (f : ℕ) → Contains (structs_in r.program.items) s → Contains s.fields d → Contains d.written.ctype.levels (Some (Locked path))
+      → named_at r (lock_of path).first ≡ named.Field f → IsSibling s.fields f
+  sibling_named s d path f is_struct is_member is_level is =
+      by_path s.fields path f (λ note at. in_program note (in_items r.program.items s note is_struct (in_fields s.fields [] s.fields d note is_member (in_type s.fields d.written path note is_level at)))) is
+
+  -- ---- a field may stand in a struct
+  pub field_allowed : (s : StructDefinition) (d : Declaration) → Contains (structs_in r.program.items) s → Contains s.fields d → allowed_there role.Field d.written ≡ true
+  field_allowed s d is_struct is_member = by (allowed_there role.Field d.written) refl
+    where
+      noted : allowed_there role.Field d.written ≡ false → Contains (type_notes file s.fields role.Field d.written) (fault d.written.span.first.token TypeNotAllowed)
+      noted is =
+          left_there (base_notes file.structs d.written.base.token d.written.ctype.base ++ fault_unless (allowed_there role.Field d.written) d.written.span.first.token TypeNotAllowed) (modes_notes file s.fields d.written.ctype.levels) (fault d.written.span.first.token TypeNotAllowed)
+          (right_there (base_notes file.structs d.written.base.token d.written.ctype.base) (fault_unless (allowed_there role.Field d.written) d.written.span.first.token TypeNotAllowed) (fault d.written.span.first.token TypeNotAllowed)
+          (subst (λ b. Contains (fault_unless b d.written.span.first.token TypeNotAllowed) (fault d.written.span.first.token TypeNotAllowed)) (sym is) (head_there (fault d.written.span.first.token TypeNotAllowed) [])))
+
+      by : (b : Bool) → allowed_there role.Field d.written ≡ b → allowed_there role.Field d.written ≡ true
+      by true is = is
+      by false is =
+          absurd (no_faults (notes_about r.program) d.written.span.first.token TypeNotAllowed (in_program _ (in_items r.program.items s _ is_struct (in_fields s.fields [] s.fields d _ is_member (noted is)))) resolved.typed)

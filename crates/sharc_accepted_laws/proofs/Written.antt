@@ -1,0 +1,207 @@
+-- What holds of the modes that are written in a type, and of those that are never written, holds of the modes of all its positions.
+use Rattle.std.proofs.Common.{◌≡◌, ⊎_elim, ℕ, zero, suc, ◌+◌, ◌-◌, ◌<◌, ◌≤◌, ◌==◌, Bool, true, false, cond, not, ◌||◌, List, [], ◌∷◌, ◌++◌, length, take, drop, refl, ap, sym, ◌∙◌, subst, arith, Option, Some, None, Contains}
+use Rattle.std.proofs.lemmas.Bool.{eqb-false}
+use Rattle.std.specs.Prelude.{slice_index_or}
+use Rattle.std.specs.List.{AllByRecursion, find}
+use Rattle.std.specs.Option.{option_or}
+use Rattle.sharc_tree.specs.declared.ctype.Base.{Base}
+use Rattle.sharc_tree.specs.declared.ctype.Mode.{Mode}
+use Rattle.sharc_tree.specs.declared.ctype.Mode.TheVariants.{Private, Racy, Dynamic}
+use Rattle.sharc_names.specs.declared.types.Role.{Role}
+use Rattle.sharc_names.specs.declared.types.Role.TheVariants as role
+use Rattle.sharc_ctype.specs.declared.entity.Entity.{Entity}
+use Rattle.sharc_ctype.specs.declared.entity.Numbered.{Numbered}
+use Rattle.sharc_ctype.specs.Entities.{entities_in, numbered_from, positions_of, positions_in, written_modes, first_depth}
+use Rattle.sharc_graph.specs.declared.graph.Finding.{Finding}
+use Rattle.sharc_graph.specs.declared.graph.Finding.TheVariants.{Apart, Source, Behind}
+use Rattle.sharc_graph.specs.Findings.{finding_at}
+use Rattle.sharc_mode.specs.Flows.{IsLeastAssignment, mode_found}
+use Rattle.sharc_mode.specs.Moded.{Assignment}
+use Rattle.sharc_mode.specs.Rows.{Reading, Targets, deeper, targets_from, entity_row}
+use Rattle.sharc_mode.specs.Settled.{is_mutex, settled, field_target, otherwise_of, settled_modes, settled_in, settled_at}
+use Rattle.sharc_mode.specs.WellFormed.{leaves_open}
+use Rattle.sharc_mode_laws.specs.Constructs.{IsEntity}
+use Rattle.sharc_accepted_laws.proofs.StaticLists.{or_right}
+use Rattle.sharc_accepted_laws.proofs.Settling.{settled_length}
+use Rattle.sharc_accepted_laws.proofs.TargetLists.{head_or_tail, none_there}
+use Rattle.sharc_accepted_laws.proofs.TypableRegisters.{none_some}
+
+in_left : (a b : List (Option Mode)) (k : ℕ) → k < length a → slice_index_or (a ++ b) k (Some Private) ≡ slice_index_or a k (Some Private)
+in_left [] b k low = absurd (omega (arith, low))
+in_left (x ∷ a) b zero low = refl
+in_left (x ∷ a) b (suc k) low = in_left a b k (omega (arith, low))
+
+in_right : (a b : List (Option Mode)) (j k : ℕ) → j ≡ length a + k → slice_index_or (a ++ b) j (Some Private) ≡ slice_index_or b k (Some Private)
+in_right [] b j k e = let z : j ≡ k = omega (arith, e) in ap (λ i. slice_index_or b i (Some Private)) z
+in_right (x ∷ a) b zero k e = absurd (omega (arith, e))
+in_right (x ∷ a) b (suc j) k e = in_right a b j k (omega (arith, e))
+
+pub record Position (list : List Entity) (s : ℕ) (n : Numbered) : Type 0 where
+  pub skip : ℕ
+  pub first : n.first ≡ s + skip
+  pub inside : skip + positions_of n.entity ≤ positions_in list
+  pub levels : (k : ℕ) → k < positions_of n.entity → slice_index_or (settled_in list) (skip + k) (Some Private) ≡ slice_index_or (settled_modes n.entity) k (Some Private)
+
+pub position_there : (list : List Entity) (s : ℕ) (n : Numbered) → Contains (numbered_from s list) n → Position list s n
+position_there [] s n has = absurd (none_there n has)
+position_there (e ∷ rest) s n has = ⊎_elim (λ is. subst (Position (e ∷ rest) s) is here) (λ more. later (position_there rest (s + positions_of e) n more)) (head_or_tail _ n _ has)
+  where
+    size : length (settled_modes e) ≡ positions_of e
+    size = settled_length e.written.ctype.base (otherwise_of e.role e.written.ctype.levels) (written_modes e)
+
+    here : Position (e ∷ rest) s (record { entity = e; first = s })
+    here = record {
+      skip = 0;
+      first = omega arith;
+      inside = omega arith;
+      levels = λ k low. let z : 0 + k ≡ k = omega arith in ap (λ i. slice_index_or (settled_modes e ++ settled_in rest) i (Some Private)) z ∙ in_left (settled_modes e) (settled_in rest) k (omega (arith, low, size));
+    }
+
+    later : Position rest (s + positions_of e) n → Position (e ∷ rest) s n
+    later w = let first = w.first in let inside = w.inside in record {
+      skip = positions_of e + w.skip;
+      first = omega (arith, first);
+      inside = omega (arith, inside);
+      levels = λ k low. in_right (settled_modes e) (settled_in rest) (positions_of e + w.skip + k) (w.skip + k) (omega (arith, size)) ∙ w.levels k low;
+    }
+
+-- ---- rows of modes
+abbrev pub raw : Assignment → Targets → List Mode
+raw m row = take row.count (drop row.first m.modes)
+
+module _ {A : Type 0} (P : A → Type 0) where
+  first_dropped : (c : ℕ) (xs : List A) → AllByRecursion P (take (suc c) xs) → AllByRecursion P (take c (drop 1 xs))
+  first_dropped zero [] h = tt
+  first_dropped (suc c) [] h = tt
+  first_dropped zero (x ∷ xs) h = tt
+  first_dropped (suc c) (x ∷ xs) h = h.1
+
+  deeper_dropped : (f c : ℕ) (xs : List A) → AllByRecursion P (take (suc c) (drop f xs)) → AllByRecursion P (take c (drop (suc f) xs))
+  deeper_dropped zero c xs h = first_dropped c xs h
+  deeper_dropped (suc f) zero [] h = tt
+  deeper_dropped (suc f) (suc c) [] h = tt
+  deeper_dropped (suc f) c (x ∷ xs) h = deeper_dropped f c xs h
+
+  taken : (c f : ℕ) (xs : List A) (d : A) → ((k : ℕ) → k < c → f + k < length xs → P (slice_index_or xs (f + k) d)) → AllByRecursion P (take c (drop f xs))
+  taken zero f xs d h = tt
+  taken (suc c) zero [] d h = tt
+  taken (suc c) zero (x ∷ xs) d h =
+      (h 0 (omega arith) (omega arith), taken c zero xs d (λ k low inside. let e : 0 + suc k ≡ suc (0 + k) = omega arith in subst (λ i. P (slice_index_or (x ∷ xs) i d)) e (h (suc k) (omega (arith, low)) (omega (arith, inside)))))
+  taken (suc c) (suc f) [] d h = tt
+  taken (suc c) (suc f) (x ∷ xs) d h =
+      taken (suc c) f xs d (λ k low inside. let e : suc f + k ≡ suc (f + k) = omega arith in subst (λ i. P (slice_index_or (x ∷ xs) i d)) e (h k low (omega (arith, inside))))
+
+pub deeper_raw : (m : Assignment) (P : Mode → Type 0) (row : Targets) → AllByRecursion P (raw m row) → AllByRecursion P (raw m (deeper row))
+deeper_raw m P row h = by (row.count == 0) refl
+  where
+    by : (b : Bool) → (row.count == 0) ≡ b → AllByRecursion P (raw m (cond b row (record { first = row.first + 1; count = row.count - 1; reading = row.reading })))
+    by true is = h
+    by false is =
+        let apart = eqb-false row.count 0 is in
+        let less : row.count ≡ suc (row.count - 1) = omega (arith, apart) in
+        let more : row.first + 1 ≡ suc row.first = omega arith in
+        subst (λ f. AllByRecursion P (take (row.count - 1) (drop f m.modes))) (sym more) (deeper_dropped P row.first (row.count - 1) m.modes (subst (λ n. AllByRecursion P (take n (drop row.first m.modes))) less h))
+
+-- ---- what is written
+module _ (Good : Mode → Type 0) (private_good : Good Private) (racy_good : Good Racy) (dynamic_good : Good Dynamic) where
+  abbrev pub LevelGood : Option Mode → Type 0
+  LevelGood None = Unit {0}
+  LevelGood (Some mode) = Good mode
+
+  settled_one : (b : Bool) (level otherwise : Option Mode) → LevelGood level → LevelGood otherwise → LevelGood (cond b (Some Racy) (option_or level otherwise))
+  settled_one true level otherwise h o = racy_good
+  settled_one false None otherwise h o = o
+  settled_one false (Some m) otherwise h o = h
+
+  settled_all : (b : Base) (otherwise : Option Mode) (levels : List (Option Mode)) → LevelGood otherwise → AllByRecursion LevelGood levels → AllByRecursion LevelGood (settled b otherwise levels)
+  settled_all b otherwise [] o h = tt
+  settled_all b otherwise (level ∷ below) o h = (settled_one (is_mutex b below) level otherwise h.0 o, settled_all b otherwise below o h.1)
+
+  target_good : (levels : List (Option Mode)) → AllByRecursion LevelGood levels → Good (field_target levels)
+  target_good [] h = dynamic_good
+  target_good (None ∷ below) h = dynamic_good
+  target_good (Some m ∷ below) h = h.0
+
+  otherwise_good : (where_ : Role) (levels : List (Option Mode)) → AllByRecursion LevelGood levels → LevelGood (otherwise_of where_ levels)
+  otherwise_good role.Field levels h = target_good levels h
+  otherwise_good role.Global levels h = tt
+  otherwise_good role.Local levels h = tt
+  otherwise_good role.Parameter levels h = tt
+  otherwise_good role.Result levels h = tt
+  otherwise_good role.Cast levels h = tt
+  otherwise_good role.Made levels h = tt
+
+  dropped : (n : ℕ) (levels : List (Option Mode)) → AllByRecursion LevelGood levels → AllByRecursion LevelGood (drop n levels)
+  dropped zero levels h = h
+  dropped (suc n) [] h = tt
+  dropped (suc n) (x ∷ rest) h = dropped n rest h.1
+
+  entity_good : (e : Entity) → AllByRecursion LevelGood e.written.ctype.levels → AllByRecursion LevelGood (settled_modes e)
+  entity_good e h = settled_all e.written.ctype.base (otherwise_of e.role e.written.ctype.levels) (written_modes e) (otherwise_good e.role e.written.ctype.levels h) (dropped (first_depth e.role) e.written.ctype.levels h)
+
+  one_good : (list : List (Option Mode)) (k : ℕ) → AllByRecursion LevelGood list → LevelGood (slice_index_or list k (Some Private))
+  one_good [] k h = private_good
+  one_good (x ∷ rest) zero h = h.0
+  one_good (x ∷ rest) (suc k) h = one_good rest k h.1
+
+  found_good : (level : Option Mode) (finding : Finding) → LevelGood level → Good (mode_found level finding)
+  found_good (Some mode) finding h = h
+  found_good None Apart h = private_good
+  found_good None Source h = dynamic_good
+  found_good None (Behind rank reason) h = dynamic_good
+
+  positions_good : (m : Assignment) → IsLeastAssignment m → (n : Numbered) → Position (entities_in m.typed.program.items) 0 n → AllByRecursion LevelGood (settled_modes n.entity)
+      → (k : ℕ) → k < positions_of n.entity → n.first + k < length m.modes → Good (slice_index_or m.modes (n.first + k) Private)
+  positions_good m least n w good k low inside =
+      let first = w.first in
+      let z : n.first + k ≡ w.skip + k = omega (arith, first) in
+      let size = least.modes in
+      subst Good (sym (least.mode (n.first + k) (omega (arith, inside, size))))
+      (found_good (settled_at m.typed (n.first + k)) (finding_at least.findings (n.first + k))
+      (subst LevelGood (sym (ap (λ p. slice_index_or (settled_in (entities_in m.typed.program.items)) p (Some Private)) z ∙ w.levels k low))
+      (one_good (settled_modes n.entity) k good)))
+
+  -- of the row of what has a type, by what is settled of its positions
+  pub row_settled : (m : Assignment) → IsLeastAssignment m → (how : Reading) (n : Numbered) → IsEntity m n → AllByRecursion LevelGood (settled_modes n.entity) → AllByRecursion Good (raw m (entity_row how (Some n)))
+  row_settled m least how n is good = by n.entity.role
+    where
+      whole : Targets
+      whole = record { first = n.first; count = positions_of n.entity; reading = how }
+
+      all : AllByRecursion Good (raw m whole)
+      all = taken Good (positions_of n.entity) n.first m.modes Private (positions_good m least n (position_there (entities_in m.typed.program.items) 0 n is) good)
+
+      by : (where_ : Role) → AllByRecursion Good (raw m (targets_from where_ whole))
+      by role.Field = all
+      by role.Global = deeper_raw m Good whole all
+      by role.Local = all
+      by role.Parameter = all
+      by role.Result = all
+      by role.Cast = all
+      by role.Made = all
+
+  -- by what is written
+  pub row_good : (m : Assignment) → IsLeastAssignment m → (how : Reading) (n : Numbered) → IsEntity m n → AllByRecursion LevelGood n.entity.written.ctype.levels → AllByRecursion Good (raw m (entity_row how (Some n)))
+  row_good m least how n is good = row_settled m least how n is (entity_good n.entity good)
+
+  -- What is meant where nothing is written is to be good where some target has no mode of its own.
+  pub open_good : (b : Base) (otherwise : Option Mode) (levels : List (Option Mode)) → AllByRecursion LevelGood levels → (leaves_open b levels ≡ true → LevelGood otherwise) → AllByRecursion LevelGood (settled b otherwise levels)
+  open_good b otherwise [] h o = tt
+  open_good b otherwise (Some mode ∷ below) h o = (by (is_mutex b below), open_good b otherwise below h.1 o)
+    where
+      by : (z : Bool) → LevelGood (cond z (Some Racy) (option_or (Some mode) otherwise))
+      by true = racy_good
+      by false = h.0
+  open_good b otherwise (None ∷ below) h o = (by (is_mutex b below) o, open_good b otherwise below h.1 (λ free. o (or_right (not (is_mutex b below)) (leaves_open b below) free)))
+    where
+      by : (z : Bool) → ((not z || leaves_open b below) ≡ true → LevelGood otherwise) → LevelGood (cond z (Some Racy) (option_or None otherwise))
+      by true k = racy_good
+      by false k = k refl
+
+pub found_there : {A : Type 0} (test : A → Bool) (list : List A) (x : A) → find test list ≡ Some x → Contains list x
+found_there test [] x h = absurd (none_some x h)
+found_there test (y ∷ rest) x h = by (test y) h (found_there test rest x)
+  where
+    by : (b : Bool) → cond b (Some y) (find test rest) ≡ Some x → (find test rest ≡ Some x → Contains rest x) → Contains (y ∷ rest) x
+    by true k later = let e : y ≡ x = cc in (zero, omega arith, e)
+    by false k later = let has = later k in let low = has.1 in (suc has.0, omega (arith, low), has.2)

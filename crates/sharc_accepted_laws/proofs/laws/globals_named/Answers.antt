@@ -1,5 +1,0 @@
-use Rattle.sharc_accepted_laws.proofs.Named as names
-use Rattle.sharc_accepted_laws.proofs.laws.globals_named.Goals as goal
-
-pub returns : goal.returns
-returns c = names.globals_named c.meets_constraints.ensures

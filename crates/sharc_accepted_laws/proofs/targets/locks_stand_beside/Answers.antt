@@ -1,0 +1,5 @@
+use Rattle.sharc_accepted_laws.proofs.Beside as law
+use Rattle.sharc_accepted_laws.proofs.targets.locks_stand_beside.Goals as goal
+
+pub returns : goal.returns
+returns c = law.locks_stand_beside c.each_name_once.ensures c.only_names.ensures c.each_type_found.ensures c.each_names_itself.ensures c.rules_are_met.ensures

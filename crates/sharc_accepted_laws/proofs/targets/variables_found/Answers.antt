@@ -1,0 +1,5 @@
+use Rattle.sharc_accepted_laws.proofs.Expressing as law
+use Rattle.sharc_accepted_laws.proofs.targets.variables_found.Goals as goal
+
+pub returns : goal.returns
+returns c = law.variables_found c.each_type_found.ensures

@@ -1,5 +1,0 @@
-use Rattle.sharc_access_laws.proofs.Standing as law
-use Rattle.sharc_access_laws.proofs.laws.accesses_fit.Goals as goal
-
-pub returns : goal.returns
-returns c = law.accesses_fit c.globals_are.ensures c.meets_globals.ensures c.expressions_found.ensures c.locks_stand_beside.ensures c.lvalues_fit.ensures

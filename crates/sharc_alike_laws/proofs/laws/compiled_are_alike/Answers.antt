@@ -1,5 +1,0 @@
-use Rattle.sharc_alike_laws.proofs.Compiled as compiled
-use Rattle.sharc_alike_laws.proofs.laws.compiled_are_alike.Goals as goal
-
-pub returns : goal.returns
-returns c = compiled.compiled_are_alike c.one_function_of_name.ensures

@@ -1,3 +1,0 @@
-mod Entered
-mod Entering
-mod Followed

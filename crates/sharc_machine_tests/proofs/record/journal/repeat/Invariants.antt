@@ -1,0 +1,8 @@
+use Rattle.std.proofs.Common.{◌≡◌}
+use Rattle.sharc_machine_tests.proofs.record.journal.repeat.Given as goal
+
+abbrev pub invariant-loop : goal.invariant-loop
+invariant-loop g l = record {
+  count : g.P.Port.count l.port ≡ g.P.Port.count l.initial.port;
+  name : g.P.Port.name l.port ≡ g.P.Port.name l.initial.port;
+}

@@ -1,0 +1,6 @@
+//! Code written by hand, and what workers make of it in rounds: tests alone.
+
+mod bench;
+mod gates;
+mod rounds;
+mod starts;

@@ -1,0 +1,5 @@
+//! Texts of runs of code written by hand: tests alone.
+
+mod bench;
+mod reports;
+mod unstopped;

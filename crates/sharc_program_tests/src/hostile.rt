@@ -1,0 +1,11 @@
+//! Hostile use of the top call: tests alone, over sources and sinks in memory.
+
+mod cut;
+mod deep;
+mod limits;
+mod long;
+mod outcome;
+mod refused;
+mod streams;
+mod texts;
+mod values;

@@ -1,0 +1,15 @@
+//! What the program writes: tests alone, a folder for each crate that they are of.
+//!
+//! No crate depends on this one, and it has no code of its own.
+#![tactic(auto)]
+
+#[cfg(test)]
+mod audit;
+#[cfg(test)]
+mod cli;
+#[cfg(test)]
+mod hostile;
+#[cfg(test)]
+mod top;
+#[cfg(test)]
+mod trace;

@@ -1,0 +1,10 @@
+use Rattle.std.proofs.Common.{◌∙◌}
+use Rattle.sharc_reply_laws.proofs.Given.{given_is, is_test, same_object}
+use Rattle.sharc_reply_laws.proofs.laws.given_are_tested.Goals as goal
+
+pub returns : goal.returns
+returns c = λ m typed flat flattens fits code is x s ls wt shape few run checked t site count wants_it finds.
+    given_is m (c.each_names_itself.ensures m.typed typed.resolved typed.placed typed.low) code s run t site count wants_it (c.testers_give.ensures m typed flat flattens fits code is) checked
+    (c.paths_law.ensures x code s ls wt shape few run checked) (c.threads_have_begun.ensures m typed flat flattens fits code is x s ls wt shape few run checked t)
+    finds.register (is_test c.refused_stay.ensures.tests x code s ls run checked t site count finds)
+    ∙ same_object c.refused_stay.ensures.tests x code s ls run checked t site count finds

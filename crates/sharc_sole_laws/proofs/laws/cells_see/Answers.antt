@@ -1,5 +1,0 @@
-use Rattle.sharc_sole_laws.proofs.Cells as law
-use Rattle.sharc_sole_laws.proofs.laws.cells_see.Goals as goal
-
-pub returns : goal.returns
-returns c = law.cells_see c.cells_seen_law.ensures c.pointers_made_law.ensures c.global_pointers_are.ensures

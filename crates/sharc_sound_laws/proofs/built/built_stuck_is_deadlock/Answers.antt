@@ -1,0 +1,6 @@
+use Rattle.sharc_sound_laws.proofs.built.built_stuck_is_deadlock.Goals as goal
+
+pub returns : goal.returns
+returns c = λ source built is s fits run checked stuck.
+    let w = c.built_is_typed.ensures source built is in
+    c.built_stuck_is_deadlock_if_typed.ensures source built is _ _ w.1 s fits run checked stuck

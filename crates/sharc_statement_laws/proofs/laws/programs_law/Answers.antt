@@ -1,5 +1,0 @@
-use Rattle.sharc_statement_laws.proofs.Program.{programs_typed}
-use Rattle.sharc_statement_laws.proofs.laws.programs_law.Goals as goal
-
-pub returns : goal.returns
-returns c = programs_typed c.lines_law.ensures c.tells_law.ensures c.knows_law.ensures c.functions_law.ensures

@@ -1,5 +1,0 @@
-use Rattle.sharc_static_laws.proofs.Callees as callees
-use Rattle.sharc_static_laws.proofs.laws.known_calls.Goals as goal
-
-pub returns : goal.returns
-returns c = callees.known_calls c.each_name_once.ensures c.only_names.ensures

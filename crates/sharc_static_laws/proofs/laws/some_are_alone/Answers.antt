@@ -1,5 +1,0 @@
-use Rattle.sharc_static_laws.proofs.Alone as alone
-use Rattle.sharc_static_laws.proofs.laws.some_are_alone.Goals as goal
-
-pub returns : goal.returns
-returns c = alone.some_are_alone c.reached_are_told.ensures c.link_laws.ensures c.rules_are_met.ensures c.each_type_found.ensures c.each_path_found.ensures c.each_names_itself.ensures c.meets_constraints.ensures

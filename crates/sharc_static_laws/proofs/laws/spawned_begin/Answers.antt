@@ -1,5 +1,0 @@
-use Rattle.sharc_static_laws.proofs.Starts as starts
-use Rattle.sharc_static_laws.proofs.laws.spawned_begin.Goals as goal
-
-pub returns : goal.returns
-returns c = starts.spawned_begin c.row_laws.ensures c.numbers_found.ensures c.variables_found.ensures c.spawns_threads.ensures c.rules_are_met.ensures c.all_fair.ensures c.each_names_itself.ensures

@@ -1,5 +1,0 @@
-use Rattle.sharc_static_laws.proofs.Names as names
-use Rattle.sharc_static_laws.proofs.laws.taken_laws.Goals as goal
-
-pub returns : goal.returns
-returns c = names.taken_laws c.rules_are_met.ensures

@@ -1,5 +1,0 @@
-use Rattle.sharc_target_laws.proofs.Expressing as law
-use Rattle.sharc_target_laws.proofs.laws.expressions_found.Goals as goal
-
-pub returns : goal.returns
-returns c = law.expressions_found c.each_type_found.ensures c.meets_constraints.ensures c.one_type.ensures

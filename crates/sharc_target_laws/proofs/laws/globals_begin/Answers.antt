@@ -1,5 +1,0 @@
-use Rattle.sharc_target_laws.proofs.Beginning as law
-use Rattle.sharc_target_laws.proofs.laws.globals_begin.Goals as goal
-
-pub returns : goal.returns
-returns c = law.globals_begin c.meets_globals.ensures

@@ -1,5 +1,0 @@
-use Rattle.sharc_target_laws.proofs.Granules as law
-use Rattle.sharc_target_laws.proofs.laws.granules_are_few.Goals as goal
-
-pub returns : goal.returns
-returns c = law.granules_are_few c.cells_are_few.ensures

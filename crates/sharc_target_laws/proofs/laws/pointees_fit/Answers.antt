@@ -1,5 +1,0 @@
-use Rattle.sharc_target_laws.proofs.Pointees as law
-use Rattle.sharc_target_laws.proofs.laws.pointees_fit.Goals as goal
-
-pub returns : goal.returns
-returns c = law.pointees_fit

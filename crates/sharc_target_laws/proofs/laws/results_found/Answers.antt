@@ -1,5 +1,0 @@
-use Rattle.sharc_target_laws.proofs.Expressing as law
-use Rattle.sharc_target_laws.proofs.laws.results_found.Goals as goal
-
-pub returns : goal.returns
-returns c = law.results_found c.each_type_found.ensures

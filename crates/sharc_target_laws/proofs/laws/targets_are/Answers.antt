@@ -1,5 +1,0 @@
-use Rattle.sharc_target_laws.proofs.Whole as law
-use Rattle.sharc_target_laws.proofs.laws.targets_are.Goals as goal
-
-pub returns : goal.returns
-returns c = law.targets_are c.each_name_once.ensures c.only_names.ensures c.each_type_found.ensures c.each_names_itself.ensures c.rules_are_met.ensures

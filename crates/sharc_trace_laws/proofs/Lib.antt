@@ -1,0 +1,6 @@
+pub mod Pieces
+pub mod Grammar
+pub mod Files
+pub mod Events
+pub mod Faultless
+pub mod Recorded

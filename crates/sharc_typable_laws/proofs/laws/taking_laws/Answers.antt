@@ -1,5 +1,0 @@
-use Rattle.sharc_typable_laws.proofs.Taking as taking
-use Rattle.sharc_typable_laws.proofs.laws.taking_laws.Goals as goal
-
-pub returns : goal.returns
-returns c = taking.taking_laws c.meets_constraints.ensures c.one_type.ensures c.held_laws.ensures c.scope_laws.ensures c.expressions_found.ensures c.pointees_fit.ensures c.layouts_are.ensures c.casts_recast.ensures

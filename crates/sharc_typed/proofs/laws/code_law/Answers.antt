@@ -1,6 +1,0 @@
-use Rattle.sharc_flat_form.specs.Made.{flat_of}
-use Rattle.sharc_typed.specs.Passes.{with_checks}
-use Rattle.sharc_typed.proofs.laws.code_law.Goals as goal
-
-pub returns : goal.returns
-returns c = λ x flat code fl is t. c.typed_law.ensures x flat code (with_checks (flat_of flat) fl) is (c.anyhow_law.ensures x code fl (flat_of flat) t)

@@ -1,0 +1,162 @@
+-- The functions of a program one after the other: what is said before each of their lines, and where they begin.
+use Rattle.std.proofs.Common.{◌≡◌, ℕ, zero, suc, ◌+◌, ◌-◌, ◌<◌, ◌≤◌, Bool, true, false, cond, List, [], ◌∷◌, ◌++◌, length, Some, refl, sym, ap, ◌∙◌, subst, arith, length-append}
+use Rattle.std.specs.Prelude.{slice_get, slice_index_or, nat_lt}
+use Rattle.std.proofs.lemmas.Bool.Decides.{nat_tests}
+use Rattle.std.proofs.lemmas.Option.{same_Some, none-some}
+use Rattle.sharc_tree.specs.Tree.{Function}
+use Rattle.sharc_code.specs.declared.code.GlobalCells.{GlobalCells}
+use Rattle.sharc_code.specs.Machine.{no_function}
+use Rattle.sharc_mode.specs.Moded.{Assignment}
+use Rattle.sharc_flat_form.specs.declared.op.Op.{Op}
+use Rattle.sharc_flat.specs.Flattened.{in_function, function_code, functions_code, rows_of}
+use Rattle.sharc_typed_laws.specs.Stretches.{Mark, Setting, Fits, IsLine, Agrees, AreLines, first}
+use Rattle.sharc_typed_laws.specs.Premises.{Typing}
+use Rattle.sharc_typed_laws.specs.Declared.{before}
+use Rattle.sharc_typed_laws.specs.Begun.{label_of}
+use Rattle.sharc_typed_laws.specs.Functions.{FunctionLines}
+
+-- ---- lists
+get_left : {A : Type 0} (xs ys : List A) (j : ℕ) → j < length xs → slice_get (xs ++ ys) j ≡ slice_get xs j
+get_left [] ys j lt = absurd (omega (arith, lt))
+get_left (x ∷ xs) ys zero lt = refl
+get_left (x ∷ xs) ys (suc j) lt = get_left xs ys j (omega (arith, lt))
+
+get_right : {A : Type 0} (xs ys : List A) (j : ℕ) → slice_get (xs ++ ys) (length xs + j) ≡ slice_get ys j
+get_right [] ys j = let e : 0 + j ≡ j = omega arith in ap (slice_get ys) e
+get_right (x ∷ xs) ys j = let e : length (x ∷ xs) + j ≡ suc (length xs + j) = omega arith in ap (slice_get (x ∷ (xs ++ ys))) e ∙ get_right xs ys j
+
+index_of : {A : Type 0} (xs : List A) (j : ℕ) (x d : A) → slice_get xs j ≡ Some x → slice_index_or xs j d ≡ x
+index_of [] j x d e = absurd (none-some x e)
+index_of (y ∷ xs) zero x d e = same_Some y x e
+index_of (y ∷ xs) (suc j) x d e = index_of xs j x d e
+
+-- ---- tables that agree
+agrees_left : (table : ℕ → Mark) (pc : ℕ) (xs ys : List Mark) → Agrees table pc (xs ++ ys) → Agrees table pc xs
+agrees_left table pc [] ys h = tt
+agrees_left table pc (x ∷ xs) ys h = (h.0, agrees_left table (pc + 1) xs ys h.1)
+
+agrees_right : (table : ℕ → Mark) (pc : ℕ) (xs ys : List Mark) → Agrees table pc (xs ++ ys) → Agrees table (pc + length xs) ys
+agrees_right table pc [] ys h = let e : pc ≡ pc + 0 = omega arith in subst (λ q. Agrees table q ys) e h
+agrees_right table pc (x ∷ xs) ys h = let e : pc + 1 + length xs ≡ pc + length (x ∷ xs) = omega arith in subst (λ q. Agrees table q ys) e (agrees_right table (pc + 1) xs ys h.1)
+
+agrees_by : (table : ℕ → Mark) (pc : ℕ) (xs : List Mark) → ((j : ℕ) (s : Mark) → slice_get xs j ≡ Some s → table (pc + j) ≡ s) → Agrees table pc xs
+agrees_by table pc [] h = tt
+agrees_by table pc (x ∷ xs) h =
+    let e : pc ≡ pc + 0 = omega arith in
+    (ap table e ∙ h 0 x refl, agrees_by table (pc + 1) xs (λ j s at. let q : pc + 1 + j ≡ pc + suc j = omega arith in ap table q ∙ h (suc j) s at))
+
+-- the table of a list of marks
+abbrev pub table_of : List Mark → Mark → ℕ → Mark
+table_of marks outside n = slice_index_or marks n outside
+
+pub agrees_self : (marks : List Mark) (outside : Mark) → Agrees (table_of marks outside) 0 marks
+agrees_self marks outside = agrees_by (table_of marks outside) 0 marks (λ j s at. let e : 0 + j ≡ j = omega arith in ap (table_of marks outside) e ∙ index_of marks j s outside at)
+
+pub past_marks : (marks : List Mark) (outside : Mark) (n : ℕ) → length marks ≤ n → table_of marks outside n ≡ outside
+past_marks [] outside n le = refl
+past_marks (s ∷ marks) outside zero le = absurd (omega (arith, le))
+past_marks (s ∷ marks) outside (suc n) le = past_marks marks outside n (omega (arith, le))
+
+lines_at : (z : Setting) (f : ℕ) (table : ℕ → Mark) (pc : ℕ) (os : List Op) → AreLines z f table pc os → (j : ℕ) (o : Op) → slice_get os j ≡ Some o → IsLine z f table (pc + j) (table (pc + j)) o
+lines_at z f table pc [] h j o at = absurd (none-some o at)
+lines_at z f table pc (x ∷ os) h zero o at = let e : pc ≡ pc + 0 = omega arith in subst (λ q. IsLine z f table q (table q) o) e (subst (IsLine z f table pc (table pc)) (same_Some x o at) h.0)
+lines_at z f table pc (x ∷ os) h (suc j) o at = let e : pc + 1 + j ≡ pc + suc j = omega arith in subst (λ q. IsLine z f table q (table q) o) e (lines_at z f table (pc + 1) os h.1 j o at)
+
+-- ---- the functions from this place on
+module _ (z : Setting) (y : Typing) (m : Assignment) (globals : List GlobalCells) where
+  abbrev pub code : ℕ → Function → List Op
+  code = function_code m globals
+
+  -- what is said where a function begins
+  abbrev pub begins_with : ℕ → Function → Mark
+  begins_with k f = before (in_function m globals f) (label_of y (in_function m globals f) k)
+
+  abbrev pub AllFunctions : ℕ → ℕ → List Function → Type 0
+  AllFunctions k pc [] = Unit {0}
+  AllFunctions k pc (f ∷ fs) = FunctionLines z k pc (begins_with k f) (code pc f) × AllFunctions (k + 1) (pc + length (code pc f)) fs
+
+  abbrev pub all_marks : (k pc : ℕ) (fs : List Function) → AllFunctions k pc fs → List Mark
+  all_marks k pc [] h = []
+  all_marks k pc (f ∷ fs) h = h.0.marks ++ all_marks (k + 1) (pc + length (code pc f)) fs h.1
+
+  pub marks_many : (k pc : ℕ) (fs : List Function) (h : AllFunctions k pc fs) → length (all_marks k pc fs h) ≡ length (functions_code m globals pc fs)
+  marks_many k pc [] h = refl
+  marks_many k pc (f ∷ fs) h =
+      let rest = marks_many (k + 1) (pc + length (code pc f)) fs h.1 in
+      let own = h.0.many in
+      let left = length-append h.0.marks (all_marks (k + 1) (pc + length (code pc f)) fs h.1) in
+      let right = length-append (code pc f) (functions_code m globals (pc + length (code pc f)) fs) in
+      omega (arith, rest, own, left, right)
+
+  -- the function of a line
+  abbrev pub owner_from : ℕ → ℕ → List Function → ℕ → ℕ
+  owner_from k pc [] n = k
+  owner_from k pc (f ∷ fs) n = cond (nat_lt n (pc + length (code pc f))) k (owner_from (k + 1) (pc + length (code pc f)) fs n)
+
+  pub lines_are : (table : ℕ → Mark) (k pc : ℕ) (fs : List Function) (h : AllFunctions k pc fs) → pc + length (functions_code m globals pc fs) ≤ z.lines → Agrees table pc (all_marks k pc fs h)
+      → (j : ℕ) (o : Op) → slice_get (functions_code m globals pc fs) j ≡ Some o → IsLine z (owner_from k pc fs (pc + j)) table (pc + j) (table (pc + j)) o
+  lines_are table k pc [] h le agrees j o at = absurd (none-some o at)
+  lines_are table k pc (f ∷ fs) h le agrees j o at = by (nat_lt j (length C)) refl (λ le agrees j at. lines_are table (k + 1) (pc + length C) fs h.1 le agrees j o at)
+    where
+      C : List Op
+      C = function_code m globals pc f
+
+      R : List Op
+      R = functions_code m globals (pc + length C) fs
+
+      rest_marks : List Mark
+      rest_marks = all_marks (k + 1) (pc + length C) fs h.1
+
+      whole : length (C ++ R) ≡ length C + length R
+      whole = length-append C R
+
+      Rest : Type 0
+      Rest = pc + length C + length R ≤ z.lines → Agrees table (pc + length C) rest_marks → (j : ℕ) → slice_get R j ≡ Some o → IsLine z (owner_from (k + 1) (pc + length C) fs (pc + length C + j)) table (pc + length C + j) (table (pc + length C + j)) o
+
+      by : (b : Bool) → nat_lt j (length C) ≡ b → Rest → IsLine z (cond (nat_lt (pc + j) (pc + length C)) k (owner_from (k + 1) (pc + length C) fs (pc + j))) table (pc + j) (table (pc + j)) o
+      by true e rest =
+          let lt : j < length C = grind (arith, nat_tests, e) in
+          let inside : nat_lt (pc + j) (pc + length C) ≡ true = grind (arith, nat_tests, lt) in
+          subst (λ b. IsLine z (cond b k (owner_from (k + 1) (pc + length C) fs (pc + j))) table (pc + j) (table (pc + j)) o) (sym inside)
+          (lines_at z k table pc C (h.0.runs table (omega (arith, le, whole)) (agrees_left table pc h.0.marks rest_marks agrees)) j o (sym (get_left C R j lt) ∙ at))
+      by false e rest =
+          let ge : length C ≤ j = grind (arith, nat_tests, e) in
+          let past : nat_lt (pc + j) (pc + length C) ≡ false = grind (arith, nat_tests, ge) in
+          let split : length C + (j - length C) ≡ j = omega (arith, ge) in
+          let place : pc + length C + (j - length C) ≡ pc + j = omega (arith, ge) in
+          let own : length h.0.marks ≡ length C = h.0.many in
+          let agrees2 : Agrees table (pc + length C) rest_marks = subst (λ n. Agrees table (pc + n) rest_marks) own (agrees_right table pc h.0.marks rest_marks agrees) in
+          subst (λ b. IsLine z (cond b k (owner_from (k + 1) (pc + length C) fs (pc + j))) table (pc + j) (table (pc + j)) o) (sym past)
+          (subst (λ q. IsLine z (owner_from (k + 1) (pc + length C) fs q) table q (table q) o) place
+          (rest (omega (arith, le, whole)) agrees2 (j - length C) (sym (get_right C R (j - length C)) ∙ ap (slice_get (C ++ R)) split ∙ at)))
+
+  -- ---- where functions begin
+  pub record BeginsAt (table : ℕ → Mark) (k pc : ℕ) (fs : List Function) (d : ℕ) (f : Function) : Type 0 where
+    pub entry : (slice_index_or (rows_of m globals pc fs) d no_function).entry ≤ pc + length (functions_code m globals pc fs)
+    pub fits : Fits z.targets (begins_with (k + d) f) (table (slice_index_or (rows_of m globals pc fs) d no_function).entry)
+
+  first_there : (table : ℕ → Mark) (pc : ℕ) (marks : List Mark) (s : Mark) → 0 < length marks → Agrees table pc marks → Fits z.targets s (first marks s) → Fits z.targets s (table pc)
+  first_there table pc [] s some agrees fits = absurd (omega (arith, some))
+  first_there table pc (x ∷ marks) s some agrees fits = subst (Fits z.targets s) (sym agrees.0) fits
+
+  pub begins_at : (table : ℕ → Mark) (k pc : ℕ) (fs : List Function) (h : AllFunctions k pc fs) → Agrees table pc (all_marks k pc fs h) → (d : ℕ) (f : Function) → slice_get fs d ≡ Some f → BeginsAt table k pc fs d f
+  begins_at table k pc [] h agrees d f at = absurd (none-some f at)
+  begins_at table k pc (g ∷ fs) h agrees zero f at =
+      let e : k ≡ k + zero = omega arith in
+      let some : 0 < length (code pc g) = omega arith in
+      let own : length h.0.marks ≡ length (code pc g) = h.0.many in
+      record {
+        entry = omega arith;
+        fits = subst (λ n. Fits z.targets (begins_with n f) (table pc)) e (subst (λ f. Fits z.targets (begins_with k f) (table pc)) (same_Some g f at)
+            (first_there table pc h.0.marks (begins_with k g) (omega (arith, some, own)) (agrees_left table pc h.0.marks (all_marks (k + 1) (pc + length (code pc g)) fs h.1) agrees) h.0.begins));
+      }
+  begins_at table k pc (g ∷ fs) h agrees (suc d) f at =
+      let C = code pc g in
+      let rest_marks = all_marks (k + 1) (pc + length C) fs h.1 in
+      let own : length h.0.marks ≡ length C = h.0.many in
+      let agrees2 : Agrees table (pc + length C) rest_marks = subst (λ n. Agrees table (pc + n) rest_marks) own (agrees_right table pc h.0.marks rest_marks agrees) in
+      let w = begins_at table (k + 1) (pc + length C) fs h.1 agrees2 d f at in
+      let inside = w.entry in
+      let whole = length-append C (functions_code m globals (pc + length C) fs) in
+      let e : k + 1 + d ≡ k + suc d = omega arith in
+      record { entry = omega (arith, inside, whole); fits = subst (λ n. Fits z.targets (begins_with n f) (table (slice_index_or (rows_of m globals (pc + length C) fs) d no_function).entry)) e w.fits }

@@ -1,0 +1,119 @@
+-- Code after which nothing is asked: it ends with a line that is typed whatever is said after it.
+use Rattle.std.proofs.Common.{◌≡◌, ℕ, ◌+◌, true, false, List, [], ◌∷◌, ◌++◌, length, Some, refl, sym, subst, arith, length-append}
+use Rattle.sharc_code.specs.declared.instr.Width.{Width}
+use Rattle.sharc_code.specs.declared.instr.Width.TheVariants.{Char, Int, Long}
+use Rattle.sharc_flat_form.specs.declared.op.Op.{Op}
+use Rattle.sharc_invariant.specs.Types.{Lock, Targets}
+use Rattle.sharc_invariant.specs.Types.Lock.{Global, Through, Self}
+use Rattle.sharc_invariant.specs.Labels.{Entry, Empty, Refers, Unknown, Number, Anything, Exactly, Within, Indexes, OfElement, OfGlobal, Gate, Closed, Checked, Holds, Loaded, HoldsLoaded, Sole, Label, Itself, IsCopy, SameLock, AllSame, LessEntry, Narrower, LessNumber, LessGate, Less, IsScoped}
+use Rattle.sharc_invariant.specs.Typed.{ints_in, refs_in}
+use Rattle.sharc_typed_laws.specs.Stretches.{Mark, Setting, Fits, IsLine, Agrees, AreLines, first, AreWithin, Way, LeadsFrom}
+use Rattle.sharc_typed_laws.specs.Functions.{FunctionLines}
+
+-- ---- a label says no more than itself
+same_lock : (l : Label) (r : ℕ) (a : Lock) → SameLock l r a a
+same_lock l r (Global j) = refl
+same_lock l r (Through q j) = (refl, Itself refl)
+same_lock l r (Self j) = refl
+
+same_locks : (l : Label) (r : ℕ) (xs : List Lock) → AllSame (SameLock l r) xs xs
+same_locks l r [] = tt
+same_locks l r (x ∷ xs) = (same_lock l r x, same_locks l r xs)
+
+less_entry : (l : Label) (r : ℕ) (e : Entry) → LessEntry l r e e
+less_entry l r Empty = refl
+less_entry l r Unknown = refl
+less_entry l r (Refers s) = record { target = refl; locks = same_locks l r s.locks }
+
+narrower : (w : Width) → Narrower w w
+narrower Char = tt
+narrower Int = tt
+narrower Long = tt
+
+less_number : (n : Number) → LessNumber n n
+less_number Anything = tt
+less_number (Exactly z) = refl
+less_number (Within w) = narrower w
+less_number (Indexes n) = refl
+less_number (OfElement b f e) = refl
+less_number (OfGlobal f c n e) = refl
+
+less_gate : (g : Gate) → LessGate g g
+less_gate Closed = tt
+less_gate (Checked w c) = refl
+less_gate (Holds c) = refl
+less_gate (Loaded c) = refl
+less_gate (HoldsLoaded c) = refl
+less_gate (Sole r true) = refl
+less_gate (Sole r false) = refl
+
+less_same : (l : Label) → Less l l
+less_same l = record {
+  function = refl;
+  env = λ r. less_entry l r (l.env r);
+  same = λ r. IsCopy refl;
+  known = λ r e. e;
+  ints = λ r. less_number (l.ints r);
+  gate = less_gate l.gate;
+  passed = λ p h. h;
+  room = λ e. e;
+}
+
+fits_same : (x : Targets) (s : Mark) → Fits x s s
+fits_same x s = record { less = less_same s.label; tells = λ k h. h }
+
+-- ---- lists of lines
+pub within_left : (ints refs : ℕ) (xs ys : List Op) → AreWithin ints refs (xs ++ ys) → AreWithin ints refs xs
+within_left ints refs [] ys h = tt
+within_left ints refs (x ∷ xs) ys h = (h.0, within_left ints refs xs ys h.1)
+
+pub agrees_left : (table : ℕ → Mark) (pc : ℕ) (a b : List Mark) → Agrees table pc (a ++ b) → Agrees table pc a
+agrees_left table pc [] b h = tt
+agrees_left table pc (s ∷ rest) b h = (h.0, agrees_left table (pc + 1) rest b h.1)
+
+agrees_last : (table : ℕ → Mark) (pc n : ℕ) (a : List Mark) (m : Mark) → length a ≡ n → Agrees table pc (a ++ m ∷ []) → table (pc + n) ≡ m
+agrees_last table pc n [] m e h = let z : pc ≡ pc + n = omega (arith, e) in subst (λ q. table q ≡ m) z h.0
+agrees_last table pc n (s ∷ rest) m e h = let z : pc + 1 + length rest ≡ pc + n = omega (arith, e) in subst (λ q. table q ≡ m) z (agrees_last table (pc + 1) (length rest) rest m refl h.1)
+
+module _ (z : Setting) (f : ℕ) where
+  abbrev fi : ℕ
+  fi = ints_in z.code (Some f)
+
+  abbrev fr : ℕ
+  fr = refs_in z.code (Some f)
+
+  lines_then : (table : ℕ → Mark) (pc : ℕ) (os : List Op) (o : Op) → AreLines z f table pc os → IsLine z f table (pc + length os) (table (pc + length os)) o → AreLines z f table pc (os ++ o ∷ [])
+  lines_then table pc [] o a b = let e : pc + 0 ≡ pc = omega arith in (subst (λ q. IsLine z f table q (table q) o) e b, tt)
+  lines_then table pc (x ∷ xs) o a b = let e : pc + length (x ∷ xs) ≡ pc + 1 + length xs = omega arith in (a.0, lines_then table (pc + 1) xs o a.1 (subst (λ q. IsLine z f table q (table q) o) e b))
+
+  -- a line that is typed in every table
+  abbrev pub Anyhow : Mark → Op → Type 0
+  Anyhow m o = IsScoped fi fr m.label → (table : ℕ → Mark) (pc : ℕ) → IsLine z f table pc m o
+
+  -- it leads to anything that is scoped
+  pub last_line : (ways : List Way) (pc : ℕ) (m e : Mark) (o : Op) → Anyhow m o → IsScoped fi fr e.label → LeadsFrom z f ways pc m (o ∷ []) e
+  last_line ways pc m e o line h = λ w s. record {
+    stretch = record { marks = m ∷ []; many = refl; begins = fits_same z.targets m; runs = λ table d own a end. (subst (λ x. IsLine z f table pc x o) (sym a.0) (line s table pc), tt) };
+    scoped = h;
+  }
+
+  -- at the end of a function it leads nowhere
+  pub closes : (pc : ℕ) (s m : Mark) (os : List Op) (o : Op) → AreWithin fi fr (os ++ o ∷ []) → IsScoped fi fr s.label → LeadsFrom z f [] pc s os m → Anyhow m o → FunctionLines z f pc s (os ++ o ∷ [])
+  closes pc s m os o w h p line =
+      let a = p (within_left fi fr os (o ∷ []) w) h in
+      let q = a.stretch in
+      let long = q.many in
+      record {
+        marks = q.marks ++ m ∷ [];
+        many = omega (arith, long, length-append q.marks (m ∷ []), length-append os (o ∷ []));
+        begins = by q.marks q.begins;
+        runs = λ table own agrees.
+            let is : table (pc + length os) ≡ m = agrees_last table pc (length os) q.marks m long agrees in
+            lines_then table pc os o
+            (q.runs table tt (omega (arith, own, length-append os (o ∷ []))) (agrees_left table pc q.marks (m ∷ []) agrees) (subst (Fits z.targets m) (sym is) (fits_same z.targets m)))
+            (subst (λ x. IsLine z f table (pc + length os) x o) (sym is) (line a.scoped table (pc + length os)));
+      }
+    where
+      by : (list : List Mark) → Fits z.targets s (first list m) → Fits z.targets s (first (list ++ m ∷ []) s)
+      by [] b = b
+      by (x ∷ rest) b = b

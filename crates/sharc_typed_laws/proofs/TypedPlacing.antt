@@ -1,0 +1,333 @@
+-- Labels of lines are those of the places where their pieces begin, and each piece is typed where it stands.
+use Rattle.std.proofs.Common.{◌≡◌, ℕ, zero, suc, ◌+◌, ◌≤◌, Bool, true, false, List, [], ◌∷◌, ◌++◌, length, map, Some, refl, sym, ap, ◌∙◌, subst, inl, inr, ⊎_elim, arith}
+use Rattle.std.specs.List.{AllByRecursion}
+use Rattle.std.specs.Prelude.{slice_get, slice_index_or}
+use Rattle.std.proofs.lemmas.List.{map-append, get_or-append-add}
+use Rattle.sharc_code.specs.declared.code.Code.{Code}
+use Rattle.sharc_code.specs.declared.code.PlaceMode.{PlaceMode}
+use Rattle.sharc_code.specs.declared.code.PlaceMode.TheVariants as modes
+use Rattle.sharc_code.specs.declared.instr.Cell.{Cell}
+use Rattle.sharc_code.specs.declared.instr.Cell.TheVariants as cells
+use Rattle.sharc_code.specs.declared.instr.Instr.{Instr}
+use Rattle.sharc_code.specs.declared.instr.Instr.TheVariants.{Jump, JumpIfZero, JumpIfNull, Call, Return, Load, Store, LoadRef, Exchange, TakeCell, Exit}
+use Rattle.sharc_code.specs.Says.{place_at}
+use Rattle.sharc_flat_form.specs.declared.op.Op.{Op}
+use Rattle.sharc_flat_form.specs.declared.op.Op.TheVariants as op
+use Rattle.sharc_flat_form.specs.declared.op.Spot.{Spot}
+use Rattle.sharc_gen.specs.Generated.{instr_of}
+use Rattle.sharc_guard.specs.Guard.{check_under, expand, expanded, width, offset, place, source_of}
+use Rattle.sharc_invariant.specs.Types.{Targets, StaticType, Field, FieldMode, Content}
+use Rattle.sharc_invariant.specs.Types.FieldMode.{Private, Readonly, Racy, Dynamic, Under, Behind}
+use Rattle.sharc_invariant.specs.Labels.{Label, Labels, Less, IsScoped, IsFree, empty, knows}
+use Rattle.sharc_invariant.specs.Typed.{Fine, Calls, Accesses, MayAccess, ints_in, refs_in}
+use Rattle.sharc_typed_laws.specs.Steps.{all_at, Steps, Chain, first_or}
+use Rattle.sharc_typed_laws.specs.Inside.{FlatLabels, outside, inside, before_check, known_behind, gate_behind, passed_behind, labels_from}
+use Rattle.sharc_typed_laws.specs.Lines.{TypedLine, To}
+use Rattle.sharc_invariant.proofs.Scoped.{less_refl}
+use Rattle.sharc_typed_laws.proofs.Pieces.{pieces}
+use Rattle.sharc_typed_laws.proofs.Preorder.{less_through}
+use Rattle.sharc_typed_laws.proofs.Weaker.{steps}
+use Rattle.sharc_typed_laws.proofs.Scoping.{scoped}
+
+-- ---- one statement at its place
+module _ (x : Targets) (code : Code) (ls : Labels) (at : ℕ → Label) (k : Label) where
+  may_there : (l : Label) (write : Bool) (c : Cell) (holds : Content) (fm : FieldMode) → MayAccess x code (all_at ls k) l write c holds fm → MayAccess x code (record ls { at = at }) l write c holds fm
+  may_there l write (cells.Global g p) holds Private h = h
+  may_there l write (cells.GlobalAt g i) holds Private h = h
+  may_there l write (cells.Object r i) holds Private h = h
+  may_there l write (cells.ObjectAt r i) holds Private h = h
+  may_there l write c holds Readonly h = h
+  may_there l write c holds Racy h = h
+  may_there l write c holds Dynamic h = h
+  may_there l write c holds (Under lock) h = h
+  may_there l write c holds (Behind field pointer) h = h
+
+  access_there : (l : Label) (write : Bool) (c : Cell) (site : ℕ) (f : Field) → Accesses x code (all_at ls k) l write c site f → Accesses x code (record ls { at = at }) l write c site f
+  access_there l write c site f h = record { cell = h.cell; may = may_there l write c f.holds f.mode h.may; apart = h.apart; mode = h.mode }
+
+  calls_there : (l : Label) (to ints refs f : ℕ) → Calls code (all_at ls k) l to ints refs f → Calls code (record ls { at = at }) l to ints refs f
+  calls_there l to ints refs f h = record { is = h.is; entry = h.entry; caller = h.caller; from = h.from; from_int = h.from_int; passes = h.passes; numbers = h.numbers; stays = h.stays }
+
+at_place : (x : Targets) (code : Code) (ls : Labels) (at : ℕ → Label) (pc : ℕ) (l : Label) (i : Instr) → Steps x code ls l (at (pc + 1)) i → Fine x code (record ls { at = at }) pc l i
+at_place x code ls at pc l (Jump to) h = absurd h
+at_place x code ls at pc l (JumpIfZero r to) h = absurd h
+at_place x code ls at pc l (JumpIfNull r to) h = absurd h
+at_place x code ls at pc l (Call to ints refs site) h = (h.0, (h.1.0, calls_there x code ls at (at (pc + 1)) l to ints refs h.1.0 h.1.1, h.1.2))
+at_place x code ls at pc l (Return site) h = (h.0, (h.1.0, h.1.1, record { result = h.1.2.result; result_int = h.1.2.result_int; empty = h.1.2.empty }))
+at_place x code ls at pc l (Load r c site) h = (h.0, (h.1.0, h.1.1, access_there x code ls at (at (pc + 1)) l false c site h.1.0 h.1.2, h.1.3, h.1.4))
+at_place x code ls at pc l (Store r c site) h = (h.0, h.1, access_there x code ls at (at (pc + 1)) l true c site h.0 h.2, h.3, h.4, h.5)
+at_place x code ls at pc l (LoadRef c site) h = (h.0, h.1, access_there x code ls at (at (pc + 1)) l false c site h.0 h.2, h.3, h.4)
+at_place x code ls at pc l (Exchange r c site) h = (h.0, (h.1.0, h.1.1, access_there x code ls at (at (pc + 1)) l true c site h.1.0 h.1.2, h.1.3, h.1.4, h.1.5, h.1.6, h.1.7))
+at_place x code ls at pc l (TakeCell r c site) h = (h.0, (h.1.0, h.1.1, access_there x code ls at (at (pc + 1)) l true c site h.1.0 h.1.2, h.1.3, h.1.4, h.1.5))
+at_place x code ls at pc l i h = h
+
+-- ---- how many labels a piece has
+check_length : (l : Label) (dropped : Bool) (dynamic : Instr) (spot : Spot) (n : ℕ) (mode : PlaceMode) (labels : List Label) (own tail : List Instr) → length labels ≡ length (own ++ tail)
+    → length (before_check dropped l mode ++ labels) ≡ length ((check_under dropped dynamic spot n mode ++ own) ++ tail)
+check_length l true dynamic spot n modes.Private labels own tail e = e
+check_length l true dynamic spot n modes.Readonly labels own tail e = e
+check_length l true dynamic spot n modes.Racy labels own tail e = e
+check_length l true dynamic spot n modes.Dynamic labels own tail e = e
+check_length l true dynamic spot n (modes.LockedGlobal g p) labels own tail e = ap suc e
+check_length l true dynamic spot n (modes.LockedSibling f m) labels own tail e = ap suc e
+check_length l true dynamic spot n (modes.LockedThrough r p) labels own tail e = ap suc e
+check_length l true dynamic spot n modes.LockedLoaded labels own tail e = ap suc e
+check_length l false dynamic spot n modes.Private labels own tail e = e
+check_length l false dynamic spot n modes.Readonly labels own tail e = e
+check_length l false dynamic spot n modes.Racy labels own tail e = e
+check_length l false dynamic spot n modes.Dynamic labels own tail e = ap suc e
+check_length l false dynamic spot n (modes.LockedGlobal g p) labels own tail e = ap suc e
+check_length l false dynamic spot n (modes.LockedSibling f m) labels own tail e = ap suc e
+check_length l false dynamic spot n (modes.LockedThrough r p) labels own tail e = ap suc e
+check_length l false dynamic spot n modes.LockedLoaded labels own tail e = ap suc e
+
+inside_length : (x : Targets) (dropped : Bool) (type : StaticType) (n : ℕ) (o : Op) (l : Label) → length (inside x dropped type o l) ≡ width dropped n o
+inside_length x dropped type n (op.Load i c spot) l = check_length l dropped _ spot n spot.mode _ _ _ refl
+inside_length x dropped type n (op.Store i c spot) l = check_length l dropped _ spot n spot.mode _ _ _ refl
+inside_length x dropped type n (op.LoadRef r c spot) l = check_length l false _ spot n spot.mode _ _ _ refl
+inside_length x dropped type n (op.StoreRef r c spot) l = check_length l false _ spot n spot.mode _ _ _ refl
+inside_length x dropped type n (op.TakeCell r c spot) l = check_length l false _ spot n spot.mode _ _ _ refl
+inside_length x dropped type n o l = refl
+
+-- ---- with which label a piece begins
+abbrev Begins : List Label → Label → Type 0
+Begins labels l = (rest : List Label) → slice_index_or (labels ++ rest) 0 outside ≡ l
+
+begins_checked : (x : Targets) (l : Label) (dropped write : Bool) (c : Cell) (spot : Spot) (mode : PlaceMode) (labels : List Label)
+    → Begins (before_check dropped l mode ++ (record l { known = known_behind l spot mode; gate = gate_behind dropped l write c spot mode; passed = passed_behind x dropped l write c mode } ∷ labels)) l
+begins_checked x l true write c spot modes.Private labels rest = refl
+begins_checked x l true write c spot modes.Readonly labels rest = refl
+begins_checked x l true write c spot modes.Racy labels rest = refl
+begins_checked x l true write c spot modes.Dynamic labels rest = refl
+begins_checked x l true write c spot (modes.LockedGlobal g p) labels rest = refl
+begins_checked x l true write c spot (modes.LockedSibling f m) labels rest = refl
+begins_checked x l true write c spot (modes.LockedThrough r p) labels rest = refl
+begins_checked x l true write c spot modes.LockedLoaded labels rest = refl
+begins_checked x l false write c spot modes.Private labels rest = refl
+begins_checked x l false write c spot modes.Readonly labels rest = refl
+begins_checked x l false write c spot modes.Racy labels rest = refl
+begins_checked x l false write c spot modes.Dynamic labels rest = refl
+begins_checked x l false write c spot (modes.LockedGlobal g p) labels rest = refl
+begins_checked x l false write c spot (modes.LockedSibling f m) labels rest = refl
+begins_checked x l false write c spot (modes.LockedThrough r p) labels rest = refl
+begins_checked x l false write c spot modes.LockedLoaded labels rest = refl
+
+same_less : (l k : Label) → k ≡ l → Less l k
+same_less l k e = subst (Less l) (sym e) (less_refl l)
+
+inside_begins : (x : Targets) (code : Code) (ls : Labels) (lines : ℕ) (dropped : Bool) (type : StaticType) (n : ℕ) (l k : Label) (o : Op) (rest : List Label)
+    → TypedLine x code ls lines dropped type n l k o → Less k (slice_index_or rest 0 outside) → Less l (slice_index_or (inside x dropped type o l ++ rest) 0 outside)
+inside_begins x code ls lines dropped type n l k op.Enter rest h e = less_through l k (slice_index_or rest 0 outside) h e
+inside_begins x code ls lines dropped type n l k op.BlockEnd rest h e = less_through l k (slice_index_or rest 0 outside) h e
+inside_begins x code ls lines dropped type n l k (op.Load i c spot) rest h e = same_less l _ (begins_checked x l dropped false c spot spot.mode [] rest)
+inside_begins x code ls lines dropped type n l k (op.Store i c spot) rest h e = same_less l _ (begins_checked x l dropped true c spot spot.mode [] rest)
+inside_begins x code ls lines dropped type n l k (op.LoadRef r c spot) rest h e = same_less l _ (begins_checked x l false false c spot spot.mode _ rest)
+inside_begins x code ls lines dropped type n l k (op.StoreRef r c spot) rest h e = same_less l _ (begins_checked x l false true c spot spot.mode _ rest)
+inside_begins x code ls lines dropped type n l k (op.TakeCell r c spot) rest h e = same_less l _ (begins_checked x l false true c spot spot.mode [] rest)
+inside_begins x code ls lines dropped type n l k o rest h e = less_refl l
+
+-- ---- of one function throughout
+check_function : (l : Label) (dropped : Bool) (mode : PlaceMode) (labels : List Label) → AllByRecursion (λ (m : Label). m.function ≡ l.function) labels
+    → AllByRecursion (λ (m : Label). m.function ≡ l.function) (before_check dropped l mode ++ labels)
+check_function l true modes.Private labels k = k
+check_function l true modes.Readonly labels k = k
+check_function l true modes.Racy labels k = k
+check_function l true modes.Dynamic labels k = k
+check_function l true (modes.LockedGlobal g p) labels k = (refl, k)
+check_function l true (modes.LockedSibling f m) labels k = (refl, k)
+check_function l true (modes.LockedThrough r p) labels k = (refl, k)
+check_function l true modes.LockedLoaded labels k = (refl, k)
+check_function l false modes.Private labels k = k
+check_function l false modes.Readonly labels k = k
+check_function l false modes.Racy labels k = k
+check_function l false modes.Dynamic labels k = (refl, k)
+check_function l false (modes.LockedGlobal g p) labels k = (refl, k)
+check_function l false (modes.LockedSibling f m) labels k = (refl, k)
+check_function l false (modes.LockedThrough r p) labels k = (refl, k)
+check_function l false modes.LockedLoaded labels k = (refl, k)
+
+inside_function : (x : Targets) (dropped : Bool) (type : StaticType) (o : Op) (l : Label) → AllByRecursion (λ (m : Label). m.function ≡ l.function) (inside x dropped type o l)
+inside_function x dropped type op.Enter l = tt
+inside_function x dropped type op.BlockEnd l = tt
+inside_function x dropped type (op.Settle to from) l = (refl, (refl, tt))
+inside_function x dropped type (op.Load i c spot) l = check_function l dropped spot.mode _ (refl, tt)
+inside_function x dropped type (op.Store i c spot) l = check_function l dropped spot.mode _ (refl, tt)
+inside_function x dropped type (op.LoadRef r c spot) l = check_function l false spot.mode _ (refl, (refl, tt))
+inside_function x dropped type (op.StoreRef r c spot) l = check_function l false spot.mode _ (refl, (refl, tt))
+inside_function x dropped type (op.TakeCell r c spot) l = check_function l false spot.mode _ (refl, tt)
+inside_function x dropped type (op.Give r cells spot) l = (refl, (refl, (refl, tt)))
+inside_function x dropped type (op.Free r layout spot) l = (refl, (refl, tt))
+inside_function x dropped type o l = (refl, tt)
+
+-- what holds of labels by their function and what is said of them
+abbrev pub IsPlaced : Code → Label → Type 0
+IsPlaced code l = IsScoped (ints_in code l.function) (refs_in code l.function) l × ((f : ℕ) × (l.function ≡ Some f))
+
+all_placed : (code : Code) (l : Label) (f : ℕ) → l.function ≡ Some f → (labels : List Label) → AllByRecursion (IsScoped (ints_in code l.function) (refs_in code l.function)) labels
+    → AllByRecursion (λ (m : Label). m.function ≡ l.function) labels → AllByRecursion (IsPlaced code) labels
+all_placed code l f is [] s e = tt
+all_placed code l f is (m ∷ labels) s e =
+    ((subst (λ g. IsScoped (ints_in code g) (refs_in code g) m) (sym e.0) s.0, (f, e.0 ∙ is)), all_placed code l f is labels s.1 e.1)
+
+pub all_append : (P : Label → Type 0) (xs ys : List Label) → AllByRecursion P xs → AllByRecursion P ys → AllByRecursion P (xs ++ ys)
+all_append P [] ys h k = k
+all_append P (x ∷ xs) ys h k = (h.0, all_append P xs ys h.1 k)
+
+-- ---- the statements of a list, at their places
+module _ (x : Targets) (code : Code) (ls : Labels) (at : ℕ → Label) where
+  abbrev pub here : Labels
+  here = record ls { at = at }
+
+  abbrev pub FineList : ℕ → List Label → List Instr → Type 0
+  FineList pc [] [] = Unit {0}
+  FineList pc (l ∷ labels) (i ∷ is) = Fine x code here pc l i × FineList (pc + 1) labels is
+  FineList pc _ _ = ⊥
+
+  abbrev pub There : ℕ → List Label → Type 0
+  There pc labels = (j : ℕ) → at (pc + j) ≡ slice_index_or labels j outside
+
+  next_there : (pc : ℕ) (l : Label) (labels : List Label) → There pc (l ∷ labels) → There (pc + 1) labels
+  next_there pc l labels h j = let e : pc + suc j ≡ pc + 1 + j = omega arith in sym (ap at e) ∙ h (suc j)
+
+  behind_there : (pc : ℕ) (labels rest : List Label) → There pc (labels ++ rest) → There (pc + length labels) rest
+  behind_there pc [] rest h j = let e : pc + j ≡ pc + 0 + j = omega arith in sym (ap at e) ∙ h j
+  behind_there pc (l ∷ labels) rest h j =
+      let e : pc + 1 + length labels + j ≡ pc + length (l ∷ labels) + j = omega arith in
+      sym (ap at e) ∙ behind_there (pc + 1) labels rest (next_there pc l (labels ++ rest) h) j
+
+  first_there : (labels rest : List Label) (k : Label) → Less k (slice_index_or rest 0 outside) → Less (first_or k labels) (slice_index_or (labels ++ rest) 0 outside)
+  first_there [] rest k e = e
+  first_there (l ∷ labels) rest k e = less_refl l
+
+  chain_fine : (pc : ℕ) (labels : List Label) (is : List Instr) (rest : List Label) (k : Label) → Chain x code ls labels is k → There pc (labels ++ rest) → Less k (slice_index_or rest 0 outside) → FineList pc labels is
+  chain_fine pc [] [] rest k c h e = tt
+  chain_fine pc (l ∷ labels) (i ∷ is) rest k c h e =
+      let t = next_there pc l (labels ++ rest) h in
+      let z : pc + 1 + 0 ≡ pc + 1 = omega arith in
+      let next : Less (first_or k labels) (at (pc + 1)) = subst (Less (first_or k labels)) (sym (sym (ap at z) ∙ t 0)) (first_there labels rest k e) in
+      (at_place x code ls at pc l i (steps x code ls (first_or k labels) (at (pc + 1)) next l i c.0), chain_fine (pc + 1) labels is rest k c.1 t e)
+  chain_fine pc [] (i ∷ is) rest k c h e = absurd c
+  chain_fine pc (l ∷ labels) [] rest k c h e = absurd c
+
+  fine_append : (pc : ℕ) (xs ys : List Label) (is js : List Instr) → FineList pc xs is → FineList (pc + length xs) ys js → FineList pc (xs ++ ys) (is ++ js)
+  fine_append pc [] ys [] js h k = let e : pc + 0 ≡ pc = omega arith in subst (λ n. FineList n ys js) e k
+  fine_append pc (l ∷ xs) ys (i ∷ is) js h k =
+      let e : pc + length (l ∷ xs) ≡ pc + 1 + length xs = omega arith in
+      (h.0, fine_append (pc + 1) xs ys is js h.1 (subst (λ n. FineList n ys js) e k))
+  fine_append pc [] ys (i ∷ is) js h k = absurd h
+  fine_append pc (l ∷ xs) ys [] js h k = absurd h
+
+  pub fine_at : (pc : ℕ) (labels : List Label) (is : List Instr) → FineList pc labels is → (j : ℕ) → Fine x code here (pc + j) (slice_index_or labels j outside) (slice_index_or is j Exit)
+  fine_at pc [] [] h j = (refl, refl, refl)
+  fine_at pc (l ∷ labels) (i ∷ is) h zero = let e : pc ≡ pc + zero = omega arith in subst (λ n. Fine x code here n l i) e h.0
+  fine_at pc (l ∷ labels) (i ∷ is) h (suc j) =
+      let e : pc + 1 + j ≡ pc + suc j = omega arith in
+      subst (λ n. Fine x code here n (slice_index_or labels j outside) (slice_index_or is j Exit)) e (fine_at (pc + 1) labels is h.1 j)
+  fine_at pc [] (i ∷ is) h j = absurd h
+  fine_at pc (l ∷ labels) [] h j = absurd h
+
+-- ---- lines
+pub record LineStands (x : Targets) (code : Code) (dropped : ℕ → Bool) (fl : FlatLabels) (lines n : ℕ) (o : Op) : Type 0 where
+  pub typed : TypedLine x code fl.lines lines (dropped n) (fl.replaced n) n (fl.lines.at n) (fl.lines.at (n + 1)) o
+  pub site : place_at code n ≡ source_of o
+  pub placed : IsPlaced code (fl.lines.at n)
+
+module _ (x : Targets) (code : Code) (dropped : ℕ → Bool) (fl : FlatLabels) (lines : ℕ) where
+  abbrev Stands : ℕ → Op → Type 0
+  Stands = LineStands x code dropped fl lines
+
+  abbrev pub AllStand : ℕ → List Op → Type 0
+  AllStand k [] = fl.lines.at k ≡ outside
+  AllStand k (o ∷ os) = Stands k o × AllStand (k + 1) os
+
+  pub all_stand : (k : ℕ) (os : List Op) → ((j : ℕ) (o : Op) → slice_get os j ≡ Some o → Stands (k + j) o) → fl.lines.at (k + length os) ≡ outside → AllStand k os
+  all_stand k [] each end = let e : k + 0 ≡ k = omega arith in sym (ap fl.lines.at e) ∙ end
+  all_stand k (o ∷ os) each end =
+      let e : k + 0 ≡ k = omega arith in
+      let f : k + length (o ∷ os) ≡ k + 1 + length os = omega arith in (
+        subst (λ n. Stands n o) e (each 0 o refl),
+        all_stand (k + 1) os (λ j p is. let g : k + suc j ≡ k + 1 + j = omega arith in subst (λ n. Stands n p) g (each (suc j) p is)) (sym (ap fl.lines.at f) ∙ end),
+      )
+
+  abbrev from : ℕ → List Op → List Label
+  from = labels_from x dropped fl
+
+  head_label : (k : ℕ) (os : List Op) → AllStand k os → Less (fl.lines.at k) (slice_index_or (from k os) 0 outside)
+  head_label k [] a = same_less (fl.lines.at k) outside (sym a)
+  head_label k (o ∷ os) a = inside_begins x code fl.lines lines (dropped k) (fl.replaced k) k (fl.lines.at k) (fl.lines.at (k + 1)) o (from (k + 1) os) a.0.typed (head_label (k + 1) os a.1)
+
+  -- the label of the place of a line says no more than that of the line
+  label_there : (k : ℕ) (os : List Op) (t : ℕ) → AllStand k os → t ≤ length os → Less (fl.lines.at (k + t)) (slice_index_or (from k os) (offset dropped k os t) outside)
+  label_there k [] zero a le = let e : k + 0 ≡ k = omega arith in same_less (fl.lines.at (k + 0)) outside (sym (ap fl.lines.at e ∙ a))
+  label_there k [] (suc t) a le = absurd (omega arith)
+  label_there k (o ∷ os) zero a le = let e : k ≡ k + 0 = omega arith in subst (λ n. Less (fl.lines.at n) (slice_index_or (from k (o ∷ os)) 0 outside)) e (head_label k (o ∷ os) a)
+  label_there k (o ∷ os) (suc t) a le =
+      let e : k + 1 + t ≡ k + suc t = omega arith in
+      let few : t ≤ length os = omega arith in
+      let piece = inside x (dropped k) (fl.replaced k) o (fl.lines.at k) in
+      let same : slice_index_or (from k (o ∷ os)) (width (dropped k) k o + offset dropped (k + 1) os t) outside ≡ slice_index_or (from (k + 1) os) (offset dropped (k + 1) os t) outside =
+      ap (λ w. slice_index_or (piece ++ from (k + 1) os) (w + offset dropped (k + 1) os t) outside) (sym (inside_length x (dropped k) (fl.replaced k) k o (fl.lines.at k)))
+      ∙ get_or-append-add piece (from (k + 1) os) (offset dropped (k + 1) os t) outside in
+      subst (Less (fl.lines.at (k + suc t))) (sym same) (subst (λ n. Less (fl.lines.at n) (slice_index_or (from (k + 1) os) (offset dropped (k + 1) os t) outside)) e (label_there (k + 1) os t a.1 few))
+
+  pub all_places : (k : ℕ) (os : List Op) → AllStand k os → AllByRecursion (IsPlaced code) (from k os)
+  all_places k [] a = tt
+  all_places k (o ∷ os) a =
+      let l = fl.lines.at k in
+      let s = scoped x code fl.lines lines (dropped k) (fl.replaced k) k l (fl.lines.at (k + 1)) o a.0.placed.0 a.0.typed in
+      all_append (IsPlaced code) (inside x (dropped k) (fl.replaced k) o l) (from (k + 1) os)
+      (all_placed code l a.0.placed.1.0 a.0.placed.1.1 (inside x (dropped k) (fl.replaced k) o l) s (inside_function x (dropped k) (fl.replaced k) o l)) (all_places (k + 1) os a.1)
+
+  module _ (all : List Op) (stands : AllStand 0 all) (is : length all ≡ lines) where
+    abbrev pub at : ℕ → Label
+    at pc = slice_index_or (outside ∷ outside ∷ from 0 all) pc outside
+
+    abbrev pl : ℕ → ℕ
+    pl = place dropped all
+
+    -- a jump leads where it is to lead
+    leads_to : (t : ℕ) → t ≤ lines → Less (fl.lines.at t) (at (pl t))
+    leads_to t le =
+        let e : 2 + offset dropped 0 all t ≡ suc (suc (offset dropped 0 all t)) = omega arith in
+        let f : 0 + t ≡ t = omega arith in
+        let few : t ≤ length all = subst (λ n. t ≤ n) (sym is) le in
+        subst (Less (fl.lines.at t)) (sym (ap at e)) (subst (λ n. Less (fl.lines.at n) (slice_index_or (from 0 all) (offset dropped 0 all t) outside)) f (label_there 0 all t stands few))
+
+    pub goes_to : (t : ℕ) (l : Label) → To fl.lines lines t l → Less l (at (pl t))
+    goes_to t l h = less_through l (fl.lines.at t) (at (pl t)) h.1 (leads_to t h.0)
+
+    abbrev Fines : ℕ → List Label → List Instr → Type 0
+    Fines = FineList x code fl.lines at
+
+    -- the piece of a line, where the labels behind it are these
+    piece_fine : (pc k : ℕ) (o : Op) (rest : List Label) → Stands k o → There x code fl.lines at pc (inside x (dropped k) (fl.replaced k) o (fl.lines.at k) ++ rest) → Less (fl.lines.at (k + 1)) (slice_index_or rest 0 outside)
+        → Fines pc (inside x (dropped k) (fl.replaced k) o (fl.lines.at k)) (map (instr_of code.functions.items) (expand pl (dropped k) k o))
+    piece_fine pc k (op.Skip over) rest s there next = ((s.typed.0, goes_to (k + 1 + over) (fl.lines.at k) s.typed.1), tt)
+    piece_fine pc k (op.SkipIfZero i over) rest s there next =
+        let e : Less (fl.lines.at (k + 1)) (at (pc + 1)) = subst (Less (fl.lines.at (k + 1))) (sym (there 1)) next in
+        ((s.typed.0, goes_to (k + 1 + over) (fl.lines.at k) s.typed.1, less_through (fl.lines.at k) (fl.lines.at (k + 1)) (at (pc + 1)) s.typed.2 e), tt)
+    piece_fine pc k (op.SkipIfNull r over) rest s there next =
+        let e : Less (fl.lines.at (k + 1)) (at (pc + 1)) = subst (Less (fl.lines.at (k + 1))) (sym (there 1)) next in
+        let l = fl.lines.at k in (
+          (
+            s.typed.0,
+            ⊎_elim (λ (h : To fl.lines lines (k + 1 + over) l). inl (goes_to (k + 1 + over) l h))
+                (λ (h : IsFree l r × To fl.lines lines (k + 1 + over) (empty l r)). inr (h.0, goes_to (k + 1 + over) (empty l r) h.1)) s.typed.1,
+            less_through (knows l r) (fl.lines.at (k + 1)) (at (pc + 1)) s.typed.2 e,
+          ),
+          tt,
+        )
+    piece_fine pc k (op.Jump to) rest s there next = ((s.typed.0, goes_to to (fl.lines.at k) s.typed.1), tt)
+    piece_fine pc k o rest s there next =
+        chain_fine x code fl.lines at pc (inside x (dropped k) (fl.replaced k) o (fl.lines.at k)) (map (instr_of code.functions.items) (expand pl (dropped k) k o)) rest (fl.lines.at (k + 1))
+        (pieces x code fl.lines lines (dropped k) (fl.replaced k) k (fl.lines.at k) (fl.lines.at (k + 1)) o pl tt s.site s.typed) there next
+
+    pub lines_fine : (pc k : ℕ) (os : List Op) → AllStand k os → There x code fl.lines at pc (from k os) → Fines pc (from k os) (map (instr_of code.functions.items) (expanded pl dropped k os))
+    lines_fine pc k [] a there = tt
+    lines_fine pc k (o ∷ os) a there =
+        let piece = inside x (dropped k) (fl.replaced k) o (fl.lines.at k) in
+        let rest = from (k + 1) os in
+        let h = piece_fine pc k o rest a.0 there (head_label (k + 1) os a.1) in
+        let t = lines_fine (pc + length piece) (k + 1) os a.1 (behind_there x code fl.lines at pc piece rest there) in
+        subst (Fines pc (piece ++ rest)) (sym (map-append (instr_of code.functions.items) (expand pl (dropped k) k o) (expanded pl dropped (k + 1) os)))
+        (fine_append x code fl.lines at pc piece rest (map (instr_of code.functions.items) (expand pl (dropped k) k o)) (map (instr_of code.functions.items) (expanded pl dropped (k + 1) os)) h t)

@@ -1,0 +1,71 @@
+-- A thread of a checked run begins with the function that its name says, which is main or one that some function spawns.
+use Rattle.std.proofs.Common.{◌≡◌, ℕ, ◌<◌, ◌⊎◌, inl, inr, List, Option, refl, sym, ◌∙◌, subst, ⊎_elim}
+use Rattle.std.specs.Prelude.{IsTrue, codes, length}
+use Rattle.std.specs.Str.{bytes_eq}
+use Rattle.sharc_tree.specs.Tree.{Function}
+use Rattle.sharc_ctype.specs.Reaches.{Spawns}
+use Rattle.sharc_ctype.specs.Resolved.{function_at}
+use Rattle.sharc_ctype_laws.specs.Declared.{NameThemselves}
+use Rattle.sharc_mode.specs.Moded.{Assignment}
+use Rattle.sharc_meaning.specs.Obeys.{History}
+use Rattle.sharc_meaning.specs.References.{Begun}
+use Rattle.sharc_meaning.specs.Runs.{IsFirst, IsNamedAt, IsSpawned, is_named_main}
+use Rattle.sharc_code.specs.declared.code.Code.{Code}
+use Rattle.sharc_code.specs.Machine.{function_of}
+use Rattle.sharc_flat.specs.Correct.{MayStart}
+use Rattle.sharc_flat.specs.Flattens.{IsMainOf}
+use Rattle.sharc_compile_laws.specs.Started.{HasThread}
+use Rattle.sharc_compile_laws.specs.Threads.{TellsIn}
+use Rattle.sharc_history_laws.specs.Starts.{IsOfMain, IsSpawnedByCode, IsStartedBy}
+use Rattle.sharc_wants_laws.proofs.Seeing.{same_function}
+
+main_is : (m : Assignment) (n : ℕ) → IsMainOf m n → IsTrue (is_named_main (function_at m.typed n))
+main_is m n is = subst (λ (o : Option Function). IsTrue (is_named_main o)) (sym is.1) (subst (λ (text : List ℕ). IsTrue (bytes_eq text (codes "main"))) (sym is.2) refl)
+
+module _ (m : Assignment) (code : Code) (names : NameThemselves m.typed) (main : IsMainOf m code.main)
+    (named_code : (f : ℕ) → f < length code.functions.items → IsNamedAt (function_at m.typed f) (function_of code f).site)
+    (spawned : (f : ℕ) → IsSpawnedByCode code f → (n : ℕ) × Spawns m.typed n f) (may_start : (f : ℕ) → HasThread m f → MayStart m f)
+    (R : History) (thread : ℕ) (tells : TellsIn m R thread) (started : IsStartedBy code tells.before tells.begins tells.argument) where
+  -- the function of the code is that of the source
+  same : started.function ≡ tells.function
+  same = same_function m.typed names started.function tells.function (function_of code started.function).site (named_code started.function started.known) (subst (IsNamedAt (function_at m.typed tells.function)) started.site tells.site)
+
+  may : MayStart m tells.function
+  may = subst (MayStart m) same (may_start started.function (⊎_elim
+      (λ (e : started.function ≡ code.main). inl (subst (IsMainOf m) (sym e) main))
+      (λ (k : IsSpawnedByCode code started.function). inr (spawned started.function k))
+      started.begins))
+
+  right : IsFirst m.typed thread tells.function tells.argument ⊎ IsSpawned tells.before thread tells.function tells.argument
+  right = ⊎_elim
+      (λ (k : IsOfMain code tells.begins.thread started.function tells.argument). inl (record {
+        first = sym tells.own ∙ k.first;
+        main = main_is m tells.function (subst (IsMainOf m) (sym k.main ∙ same) main);
+        nothing = k.nothing;
+      }))
+      (λ (k : IsSpawned tells.before tells.begins.thread started.function tells.argument).
+      inr (subst (λ f. IsSpawned tells.before thread f tells.argument) same (subst (λ t. IsSpawned tells.before t started.function tells.argument) tells.own k)))
+      started.right
+
+  pub has_begun : (b : Begun m R thread) × MayStart m b.own.function
+  has_begun = let asked = tells.asked may in (
+    record {
+      fuel = asked.0;
+      own = record {
+        function = tells.function;
+        argument = tells.argument;
+        before = tells.before;
+        begins = tells.begins;
+        after = tells.after;
+        stands = tells.stands;
+        own = tells.own;
+        first = tells.first;
+        act = tells.act;
+        answer = tells.answer;
+        site = tells.site;
+        by_right = right;
+        asked = asked.1;
+      };
+    },
+    may,
+  )

@@ -1,0 +1,165 @@
+-- So it is in the code that is made of flat code.
+use Rattle.std.proofs.Common.{◌≡◌, ℕ, zero, suc, ◌+◌, Bool, true, false, List, [], ◌∷◌, ◌++◌, map, refl, sym, ap, ◌∙◌, subst, arith}
+use Rattle.std.specs.Prelude.{slice_index_or}
+use Rattle.std.proofs.lemmas.List.{map-append}
+use Rattle.sharc_ctype.specs.Resolved.{functions_in}
+use Rattle.sharc_code.specs.declared.code.Function.{Function}
+use Rattle.sharc_code.specs.declared.code.PlaceMode.{PlaceMode}
+use Rattle.sharc_code.specs.declared.code.PlaceMode.TheVariants.{Private, Readonly, Racy, Dynamic, LockedGlobal, LockedSibling, LockedThrough, LockedLoaded}
+use Rattle.sharc_code.specs.declared.instr.Cell.{Cell}
+use Rattle.sharc_code.specs.declared.instr.Operator.{Operator}
+use Rattle.sharc_code.specs.declared.instr.Width.{Width}
+use Rattle.sharc_code.specs.declared.instr.Width.TheVariants.{Char, Int, Long}
+use Rattle.sharc_code.specs.declared.instr.Instr.{Instr}
+use Rattle.sharc_code.specs.declared.instr.Instr.TheVariants as instrs
+use Rattle.sharc_flat_form.specs.declared.op.Op.{Op}
+use Rattle.sharc_flat_form.specs.declared.op.Op.TheVariants as op
+use Rattle.sharc_flat_form.specs.declared.op.Spot.{Spot}
+use Rattle.sharc_flat_form.specs.Made.{flat_of}
+use Rattle.sharc_flat.specs.Flattened.{flattened}
+use Rattle.sharc_flat.specs.Tables.{globals_of}
+use Rattle.sharc_gen.specs.Generated.{instr_of, generated}
+use Rattle.sharc_guard.specs.Guard.{check_under, compute, negate, expand, expanded, place}
+use Rattle.sharc_guard.specs.Known.{dropped}
+use Rattle.sharc_wants_laws.specs.Waits.{CodeWaits}
+use Rattle.sharc_wants_laws.proofs.Entering.{IsEntered, AllWait, all_functions, all_laid}
+
+-- a mutex is unlocked, and then the thread waits at the cell
+record IsNext (c : Cell) (is : List Instr) : Type 0 where
+  register : ℕ
+  mutex : Cell
+  unlock_site : ℕ
+  wait_site : ℕ
+  rest : List Instr
+  is_so : is ≡ instrs.Unlock register mutex unlock_site ∷ instrs.CondWait c wait_site ∷ rest
+
+abbrev IsEnteredBy : Instr → List Instr → Type 0
+IsEnteredBy (instrs.CondEnter c site) is = IsNext c is
+IsEnteredBy _ is = Unit {0}
+
+abbrev AllNext : List Instr → Type 0
+AllNext [] = Unit {0}
+AllNext (i ∷ is) = IsEnteredBy i is × AllNext is
+
+record IsNextAt (is : List Instr) (j : ℕ) (c : Cell) : Type 0 where
+  register : ℕ
+  mutex : Cell
+  unlock_site : ℕ
+  wait_site : ℕ
+  unlocks : slice_index_or is (j + 1) instrs.Exit ≡ instrs.Unlock register mutex unlock_site
+  waits : slice_index_or is (j + 1 + 1) instrs.Exit ≡ instrs.CondWait c wait_site
+
+next_at : (is : List Instr) → AllNext is → (j site : ℕ) (c : Cell) → slice_index_or is j instrs.Exit ≡ instrs.CondEnter c site → IsNextAt is j c
+next_at [] h j site c e = absurd (let z : instrs.Exit ≡ instrs.CondEnter c site = e in cc)
+next_at (i ∷ is) h zero site c e =
+    let n : IsNext c is = subst (λ i. IsEnteredBy i is) e h.0 in
+    record {
+      register = n.register;
+      mutex = n.mutex;
+      unlock_site = n.unlock_site;
+      wait_site = n.wait_site;
+      unlocks = ap (λ is. slice_index_or is 0 instrs.Exit) n.is_so;
+      waits = ap (λ is. slice_index_or is 1 instrs.Exit) n.is_so;
+    }
+next_at (i ∷ is) h (suc j) site c e =
+    let n = next_at is h.1 j site c e in
+    let a : suc (j + 1) ≡ suc j + 1 = omega arith in
+    let b : suc (j + 1 + 1) ≡ suc j + 1 + 1 = omega arith in
+    record {
+      register = n.register;
+      mutex = n.mutex;
+      unlock_site = n.unlock_site;
+      wait_site = n.wait_site;
+      unlocks = sym (ap (λ k. slice_index_or (i ∷ is) k instrs.Exit) a) ∙ n.unlocks;
+      waits = sym (ap (λ k. slice_index_or (i ∷ is) k instrs.Exit) b) ∙ n.waits;
+    }
+
+module _ (fs : List Function) where
+  abbrev f : Instr → Instr
+  f = instr_of fs
+
+  -- an access after its check, if it has one
+  under : (drop : Bool) (dynamic : Instr) (spot : Spot) (n : ℕ) (mode : PlaceMode) (it tail rest : List Instr) → ((is : List Instr) → IsEnteredBy (f dynamic) is) → AllNext (map f (it ++ tail) ++ rest)
+      → AllNext (map f ((check_under drop dynamic spot n mode ++ it) ++ tail) ++ rest)
+  under true dynamic spot n Private it tail rest d h = h
+  under true dynamic spot n Readonly it tail rest d h = h
+  under true dynamic spot n Racy it tail rest d h = h
+  under true dynamic spot n Dynamic it tail rest d h = h
+  under true dynamic spot n (LockedGlobal g p) it tail rest d h = (tt, h)
+  under true dynamic spot n (LockedSibling q m) it tail rest d h = (tt, h)
+  under true dynamic spot n (LockedThrough r p) it tail rest d h = (tt, h)
+  under true dynamic spot n LockedLoaded it tail rest d h = (tt, h)
+  under false dynamic spot n Private it tail rest d h = h
+  under false dynamic spot n Readonly it tail rest d h = h
+  under false dynamic spot n Racy it tail rest d h = h
+  under false dynamic spot n Dynamic it tail rest d h = (d _, h)
+  under false dynamic spot n (LockedGlobal g p) it tail rest d h = (tt, h)
+  under false dynamic spot n (LockedSibling q m) it tail rest d h = (tt, h)
+  under false dynamic spot n (LockedThrough r p) it tail rest d h = (tt, h)
+  under false dynamic spot n LockedLoaded it tail rest d h = (tt, h)
+
+  computed : (w : Width) (operator : Operator) (i a b n : ℕ) (rest : List Instr) → AllNext rest → AllNext (f (compute w operator i a b n) ∷ rest)
+  computed Char operator i a b n rest h = (tt, h)
+  computed Int operator i a b n rest h = (tt, h)
+  computed Long operator i a b n rest h = (tt, h)
+
+  negated : (w : Width) (i a n : ℕ) (rest : List Instr) → AllNext rest → AllNext (f (negate w i a n) ∷ rest)
+  negated Char i a n rest h = (tt, h)
+  negated Int i a n rest h = (tt, h)
+  negated Long i a n rest h = (tt, h)
+
+  abbrev Waited : Op → List Instr → Type 0
+  Waited (op.CondEnter c spot) is = IsNext c is
+  Waited _ is = Unit {0}
+
+  -- what an operation becomes
+  piece : (drop : Bool) (pl : ℕ → ℕ) (n : ℕ) (o : Op) (rest : List Instr) → Waited o rest → AllNext rest → AllNext (map f (expand pl drop n o) ++ rest)
+  piece drop pl n (op.Load i c spot) rest w h = under drop (instrs.ChkRead c n) spot n spot.mode (instrs.Load i c n ∷ []) [] rest (λ is. tt) (tt, h)
+  piece drop pl n (op.Store i c spot) rest w h = under drop (instrs.ChkWrite c n) spot n spot.mode (instrs.Store i c n ∷ []) [] rest (λ is. tt) (tt, h)
+  piece drop pl n (op.LoadRef r c spot) rest w h = under false (instrs.ChkRead c n) spot n spot.mode (instrs.LoadRef c n ∷ []) (instrs.RaiseLoaded r ∷ []) rest (λ is. tt) (tt, (tt, h))
+  piece drop pl n (op.StoreRef r c spot) rest w h = under false (instrs.ChkWrite c n) spot n spot.mode (instrs.Exchange r c n ∷ []) (instrs.Lower r ∷ []) rest (λ is. tt) (tt, (tt, h))
+  piece drop pl n (op.TakeCell r c spot) rest w h = under false (instrs.ChkWrite c n) spot n spot.mode (instrs.TakeCell r c n ∷ []) [] rest (λ is. tt) (tt, h)
+  piece drop pl n (op.Give r cells spot) rest w h = (tt, (tt, (tt, h)))
+  piece drop pl n (op.Free r layout spot) rest w h = (tt, (tt, h))
+  piece drop pl n (op.Settle to from) rest w h = (tt, (tt, h))
+  piece drop pl n (op.Compute width operator i a b spot) rest w h = computed width operator i a b n rest h
+  piece drop pl n (op.Negate width i a spot) rest w h = negated width i a n rest h
+  piece drop pl n (op.CondEnter c spot) rest w h = (w, h)
+  piece drop pl n op.Enter rest w h = h
+  piece drop pl n op.BlockEnd rest w h = h
+  piece drop pl n o rest w h = (tt, h)
+
+  module _ (drop : ℕ → Bool) (pl : ℕ → ℕ) where
+    abbrev lines_from : ℕ → List Op → List Instr
+    lines_from k os = map f (expanded pl drop k os)
+
+    waited : (k : ℕ) (o : Op) (os : List Op) → IsEntered o os → Waited o (map f (expanded pl drop k os))
+    waited k (op.CondEnter c spot) os h = subst (λ os. IsNext c (lines_from k os)) (sym h.is) (record {
+      register = h.register;
+      mutex = h.mutex;
+      unlock_site = k;
+      wait_site = k + 1;
+      rest = lines_from (k + 1 + 1) h.rest;
+      is_so = refl;
+    })
+    waited k _ os h = tt
+
+    lines : (k : ℕ) (os : List Op) → AllWait os → AllNext (map f (expanded pl drop k os))
+    lines k [] h = tt
+    lines k (o ∷ os) h =
+        subst AllNext (sym (map-append f (expand pl (drop k) k o) (expanded pl drop (k + 1) os)))
+        (piece (drop k) pl k o (map f (expanded pl drop (k + 1) os)) (waited (k + 1) o os h.0) (lines (k + 1) os h.1))
+
+pub code_waits : CodeWaits
+code_waits m flat flattens code is pc site c e =
+    let d = dropped (flat_of flat) in
+    let all = flat.lines.items in
+    let pl = place d all in
+    let fs = code.functions.items in
+    let functions_are : code.functions.items ≡ is.g.functions.items = λ i. (is.generated.functions i).items in
+    let instrs_are : code.instrs.items ≡ instrs.Start 0 ∷ instrs.Exit ∷ map (instr_of fs) (expanded pl d 0 all) =
+    is.generated.instrs ∙ ap (λ fs. generated fs is.g.statements.items) (sym functions_are) ∙ ap (generated fs) is.made.statements in
+    let waits : AllWait all = all_laid m.typed flat.texts.items (flattened m (globals_of m.typed)).lines all flattens.lays.lines (all_functions m (globals_of m.typed) (functions_in m.typed.program.items) 0).all in
+    let whole : AllNext (instrs.Start 0 ∷ instrs.Exit ∷ map (instr_of fs) (expanded pl d 0 all)) = (tt, (tt, lines fs d pl 0 all waits)) in
+    let n = next_at code.instrs.items (subst AllNext (sym instrs_are) whole) pc site c e in
+    record { register = n.register; mutex = n.mutex; unlock_site = n.unlock_site; wait_site = n.wait_site; unlocks = n.unlocks; waits = n.waits }

@@ -1,0 +1,191 @@
+-- Where the threads of a run are, among the events of all threads.
+use Rattle.std.proofs.Common.{◌≡◌, ℕ, inl, inr, ⊎_elim, ◌⊎◌, Bool, true, false, cond, List, [], ◌∷◌, ◌++◌, map, reverse, refl, sym, ap, ◌∙◌, subst, arith}
+use Rattle.std.specs.Prelude.{◌==◌, nat_eq, filter}
+use Rattle.std.proofs.lemmas.Bool.Decides.{nat_tests}
+use Rattle.std.proofs.lemmas.List.{append-nil, reverse-append, reverse-reverse}
+use Rattle.std.proofs.lemmas.List.Elements.{filter-append}
+use Rattle.sharc_tree.specs.declared.event.SourceEvent.{SourceEvent}
+use Rattle.sharc_mode.specs.Moded.{Assignment}
+use Rattle.sharc_meaning.specs.Events.{events_of, is_of}
+use Rattle.sharc_meaning.specs.Runs.{by}
+use Rattle.sharc_code.specs.declared.code.Code.{Code}
+use Rattle.sharc_code.specs.Machine.{Machine}
+use Rattle.sharc_code.specs.Paced.{paced_in}
+use Rattle.sharc_code.specs.Path.{begun, machine_after}
+use Rattle.sharc_code.specs.declared.shape.Shape.{Shape}
+use Rattle.sharc_code.specs.Runs.{Said, Turn, said_by, turns_of}
+use Rattle.sharc_code.specs.Whole.{CheckedRun, Erase, place_after}
+use Rattle.sharc_flat.specs.Correct.{MayStart}
+use Rattle.sharc_gen.specs.Consistent.{said_in, IsConsistent}
+use Rattle.sharc_gen.specs.Correct.{IsBeginning}
+use Rattle.sharc_gen.specs.OfRuns.{told_in, elements_before, founds_of, RunsHavePaths}
+use Rattle.sharc_wants_laws.specs.Holding.{IsHolding, IsHoldingThere, IsHoldingIn, PathsHold, lowered_of}
+
+-- ---- lists
+reverse_cons : {A : Type 0} (x : A) (xs : List A) → reverse (x ∷ xs) ≡ reverse xs ++ x ∷ []
+reverse_cons x xs = reverse-append (x ∷ []) xs
+
+filter_reverse : (f : SourceEvent → Bool) (xs : List SourceEvent) → filter f (reverse xs) ≡ reverse (filter f xs)
+filter_reverse f [] = refl
+filter_reverse f (x ∷ xs) =
+    ap (filter f) (reverse_cons x xs) ∙ filter-append f (reverse xs) (x ∷ []) ∙ ap (λ ys. ys ++ filter f (x ∷ [])) (filter_reverse f xs) ∙ by_test (f x)
+  where
+    by_test : (b : Bool) → reverse (filter f xs) ++ cond b (x ∷ []) [] ≡ reverse (cond b (x ∷ filter f xs) (filter f xs))
+    by_test true = sym (reverse_cons x (filter f xs))
+    by_test false = append-nil (reverse (filter f xs))
+
+same_test : (a b : ℕ) → (a == b) ≡ nat_eq b a
+same_test a b = by_tests (a == b) (nat_eq b a) refl refl
+  where
+    equal : (a == b) ≡ true → a ≡ b
+    equal e = grind (arith, nat_tests)
+
+    other : (a == b) ≡ false → a ≡ b → ⊥
+    other e q = grind (arith, nat_tests)
+
+    equal_too : nat_eq b a ≡ true → b ≡ a
+    equal_too e = grind (arith, nat_tests)
+
+    other_too : nat_eq b a ≡ false → b ≡ a → ⊥
+    other_too e q = grind (arith, nat_tests)
+
+    by_tests : (x y : Bool) → (a == b) ≡ x → nat_eq b a ≡ y → x ≡ y
+    by_tests true true p q = refl
+    by_tests false false p q = refl
+    by_tests true false p q = absurd (other_too q (sym (equal p)))
+    by_tests false true p q = absurd (other p (sym (equal_too q)))
+
+-- ---- whose events they are
+abbrev AreOf : ℕ → List SourceEvent → Type 0
+AreOf t [] = Unit {0}
+AreOf t (e ∷ es) = (e.thread ≡ t) × AreOf t es
+
+of_append : (t : ℕ) (xs ys : List SourceEvent) → AreOf t xs → AreOf t ys → AreOf t (xs ++ ys)
+of_append t [] ys a b = b
+of_append t (x ∷ xs) ys a b = (a.0, of_append t xs ys a.1 b)
+
+of_reverse : (t : ℕ) (xs : List SourceEvent) → AreOf t xs → AreOf t (reverse xs)
+of_reverse t [] h = tt
+of_reverse t (x ∷ xs) h = subst (AreOf t) (sym (reverse_cons x xs)) (of_append t (reverse xs) (x ∷ []) (of_reverse t xs h.1) (h.0, tt))
+
+of_map : (t : ℕ) (es : List SourceEvent) → AreOf t (map (by t) es)
+of_map t [] = tt
+of_map t (e ∷ es) = (refl, of_map t es)
+
+-- each is said by its own thread
+abbrev AreSaidByOwn : List (Said SourceEvent) → Type 0
+AreSaidByOwn [] = Unit {0}
+AreSaidByOwn (s ∷ says) = (s.told.thread ≡ s.thread) × AreSaidByOwn says
+
+all_own : (says : List (Said SourceEvent)) → ((t : ℕ) → AreOf t (told_in (said_by t says))) → AreSaidByOwn says
+all_own [] h = tt
+all_own (s ∷ says) h = (head, all_own says (λ t. drops t (nat_eq t s.thread) (h t)))
+  where
+    self : nat_eq s.thread s.thread ≡ true
+    self = grind (arith, nat_tests)
+
+    head : s.told.thread ≡ s.thread
+    head = (subst (AreOf s.thread) (ap (λ b. told_in (cond b (s ∷ said_by s.thread says) (said_by s.thread says))) self) (h s.thread)).0
+
+    drops : (t : ℕ) (b : Bool) → AreOf t (told_in (cond b (s ∷ said_by t says) (said_by t says))) → AreOf t (told_in (said_by t says))
+    drops t true k = k.1
+    drops t false k = k
+
+filtered : (t : ℕ) (says : List (Said SourceEvent)) → AreSaidByOwn says → filter (is_of t) (told_in says) ≡ told_in (said_by t says)
+filtered t [] h = refl
+filtered t (s ∷ says) h =
+    ap (λ b. cond b (s.told ∷ filter (is_of t) (told_in says)) (filter (is_of t) (told_in says))) (ap (λ n. n == t) h.0 ∙ same_test s.thread t)
+    ∙ ap (λ es. cond (nat_eq t s.thread) (s.told ∷ es) es) (filtered t says h.1) ∙ by_test (nat_eq t s.thread)
+  where
+    by_test : (b : Bool) → cond b (s.told ∷ told_in (said_by t says)) (told_in (said_by t says)) ≡ told_in (cond b (s ∷ said_by t says) (said_by t says))
+    by_test true = refl
+    by_test false = refl
+
+-- ---- where its first event stands
+record IsSplit (t : ℕ) (R : List SourceEvent) (e : SourceEvent) (es : List SourceEvent) : Type 0 where
+  before : List SourceEvent
+  after : List SourceEvent
+  is : R ≡ before ++ e ∷ after
+  none : events_of t before ≡ []
+  rest : events_of t after ≡ es
+
+split : (t : ℕ) (R : List SourceEvent) (e : SourceEvent) (es : List SourceEvent) → events_of t R ≡ e ∷ es → IsSplit t R e es
+split t [] e es q = absurd (cc)
+split t (x ∷ R) e es q = by_test (is_of t x) refl q (split t R e es)
+  where
+    by_test : (b : Bool) → is_of t x ≡ b → cond b (x ∷ events_of t R) (events_of t R) ≡ e ∷ es → (events_of t R ≡ e ∷ es → IsSplit t R e es) → IsSplit t (x ∷ R) e es
+    by_test true w q rec = record { before = []; after = R; is = let h : x ≡ e = cc in ap (λ x. x ∷ R) h; none = refl; rest = cc }
+    by_test false w q rec =
+        let h = rec q in
+        record {
+          before = x ∷ h.before;
+          after = h.after;
+          is = ap (λ R. x ∷ R) h.is;
+          none = ap (λ b. cond b (x ∷ events_of t h.before) (events_of t h.before)) w ∙ h.none;
+          rest = h.rest;
+        }
+
+-- ---- all together
+module _ (paths : RunsHavePaths) (m : Assignment) (code : Code) (holds : PathsHold m code) (s : Shape) (run : List Turn) (checked : CheckedRun code s run)
+    (consistent : (t : ℕ) → IsConsistent code s (begun code s t) (elements_before code s t run) (founds_of (turns_of t run))) where
+  abbrev R : List SourceEvent
+  R = reverse (told_in (Erase code s run))
+
+  abbrev at_end : ℕ → Machine
+  at_end t = machine_after code s (begun code s t) (founds_of (turns_of t run))
+
+  abbrev said : ℕ → List SourceEvent
+  said t = said_in code s (begun code s t) (elements_before code s t run) (founds_of (turns_of t run))
+
+  abbrev IsOne : ℕ → Type 0
+  IsOne t = IsBeginning (at_end t) (said t) (paced_in code s (begun code s t) (founds_of (turns_of t run))) ⊎ IsHoldingThere m code t (at_end t) (said t) (lowered_of code s run t)
+
+  one : (t : ℕ) → IsOne t
+  one t = holds s t (elements_before code s t run) (founds_of (turns_of t run)) (paths code s t run checked).path (consistent t)
+
+  said_own : (t : ℕ) → AreOf t (said t)
+  said_own t = ⊎_elim
+      (λ (b : IsBeginning (at_end t) (said t) (paced_in code s (begun code s t) (founds_of (turns_of t run)))). subst (AreOf t) (sym b.nothing) tt)
+      (λ (h : IsHoldingThere m code t (at_end t) (said t) (lowered_of code s run t)). subst (AreOf t) (sym h.starts) (h.own, of_map t h.after))
+      (one t)
+
+  owned : (t : ℕ) → AreOf t (told_in (said_by t (Erase code s run)))
+  owned t = subst (AreOf t) (sym (paths code s t run checked).said) (of_reverse t (said t) (said_own t))
+
+  pub events_are : (t : ℕ) → events_of t R ≡ said t
+  events_are t =
+      filter_reverse (is_of t) (told_in (Erase code s run)) ∙ ap reverse (filtered t (Erase code s run) (all_own (Erase code s run) owned) ∙ (paths code s t run checked).said) ∙ reverse-reverse (said t)
+
+  pub place_is : (t : ℕ) → (place_after code s run).threads t ≡ at_end t
+  place_is t = (paths code s t run checked).machine
+
+  there_in : (t : ℕ) → IsHoldingThere m code t (at_end t) (said t) (lowered_of code s run t) → IsHoldingIn m code R t ((place_after code s run).threads t) (lowered_of code s run t)
+  there_in t h =
+      let sp = split t R h.begins (map (by t) h.after) (events_are t ∙ h.starts) in
+      let stands : MayStart m h.function → IsHolding m code h.function h.argument t (events_of t sp.after) ((place_after code s run).threads t) (lowered_of code s run t) = λ may.
+      subst (λ (x : Machine). IsHolding m code h.function h.argument t (events_of t sp.after) x (lowered_of code s run t)) (sym (place_is t))
+      (subst (λ (es : List SourceEvent). IsHolding m code h.function h.argument t es (at_end t) (lowered_of code s run t)) (sym sp.rest) (h.holds may))
+      in
+      record {
+        tells = record {
+          function = h.function;
+          argument = h.argument;
+          before = sp.before;
+          begins = h.begins;
+          after = sp.after;
+          stands = sp.is;
+          own = h.own;
+          first = sp.none;
+          act = h.act;
+          answer = h.answer;
+          site = h.site;
+          asked = λ may. let k = stands may in (k.fuel, k.events);
+        };
+        holds = stands;
+      }
+
+  pub placed : (t : ℕ) → (events_of t R ≡ []) ⊎ IsHoldingIn m code R t ((place_after code s run).threads t) (lowered_of code s run t)
+  placed t = ⊎_elim
+      (λ (b : IsBeginning (at_end t) (said t) (paced_in code s (begun code s t) (founds_of (turns_of t run)))). inl (events_are t ∙ b.nothing))
+      (λ (h : IsHoldingThere m code t (at_end t) (said t) (lowered_of code s run t)). inr (there_in t h))
+      (one t)

@@ -1,0 +1,17 @@
+-- The tables of code that is made of a program are those of the program.
+use Rattle.std.proofs.Common.{ap, ◌∙◌}
+use Rattle.sharc_mode.specs.Moded.{Assignment}
+use Rattle.sharc_code.specs.declared.code.Code.{Code}
+use Rattle.sharc_flat_form.specs.declared.flat.Flat.{Flat as FlatCode}
+use Rattle.sharc_flat.specs.Flattens.{Flattens}
+use Rattle.sharc_compile.specs.Made.{IsCodeOf}
+use Rattle.sharc_accepted_laws.specs.TargetLaws.{HasTables}
+
+pub has_tables : (m : Assignment) (flat : FlatCode) → Flattens m flat → (code : Code) → IsCodeOf flat code → HasTables m code
+has_tables m flat made code is = record {
+  globals = ap (λ v. v.items) (is.generated.globals ∙ is.made.globals) ∙ made.lays.globals;
+  granules = is.generated.granules ∙ is.made.granules ∙ made.granules;
+  initial = ap (λ v. v.items) (is.generated.initial ∙ is.made.initial) ∙ made.initial;
+  layouts = ap (λ v. v.items) (is.generated.layouts ∙ is.made.layouts) ∙ made.layouts;
+  pointers = ap (λ v. v.items) (is.generated.pointers ∙ is.made.pointers) ∙ made.pointers;
+}

@@ -1,0 +1,11 @@
+use Rattle.std.specs.Prelude.{reverse}
+use Rattle.sharc_code.specs.Whole.{Erase, place_after}
+use Rattle.sharc_gen.specs.OfRuns.{told_in}
+use Rattle.sharc_wants_laws.specs.Holding.{lowered_of}
+use Rattle.sharc_wants_laws.proofs.Seeing.{frees}
+use Rattle.sharc_wants_laws.proofs.sole.frees_empty.Goals as goal
+
+pub returns : goal.returns
+returns c = λ m p flat flattens fits code is s run checked consistent thread b may empties.
+    frees m (c.each_names_itself.ensures m.typed p.resolved p.placed p.low) code (reverse (told_in (Erase code s run))) thread ((place_after code s run).threads thread) (lowered_of code s run thread) b may
+    (c.thread_holds.ensures m p flat flattens fits code is s run checked consistent thread) empties

@@ -1,0 +1,45 @@
+use Rattle.std.proofs.Common.{◌≡◌, ℕ, length, inl, inr, ⊎_elim, subst, sym}
+use Rattle.std.specs.Prelude.{Bool}
+use Rattle.std.proofs.lemmas.List.{length-map}
+use Rattle.sharc_code.specs.Paced.{paced_in}
+use Rattle.sharc_code.specs.Path.{begun, machine_after}
+use Rattle.sharc_flat_form.specs.declared.flat.Flat.{Flat as FlatCode}
+use Rattle.sharc_flat_form.specs.Made.{flat_of}
+use Rattle.sharc_gen.specs.Consistent.{said_in}
+use Rattle.sharc_gen.specs.Correct.{IsBeginning, HasCome}
+use Rattle.sharc_gen.specs.Generated.{program_of}
+use Rattle.sharc_gen.specs.Lowered.{lowered_in}
+use Rattle.sharc_guard.specs.Guard.{entered_at, guarded, place}
+use Rattle.sharc_guard.specs.Known.{dropped}
+use Rattle.sharc_guard.specs.Made.{IsMade}
+use Rattle.sharc_guarded_form.specs.declared.guarded.Guarded.{Guarded}
+use Rattle.sharc_guarded_form.specs.Form.{IsGuarded}
+use Rattle.sharc_wants_laws.proofs.Wanting.{there}
+use Rattle.sharc_wants_laws.proofs.wants.path_wants.Goals as goal
+
+-- guarded code that was made, as a program
+same : (d : ℕ → Bool) (flat : FlatCode) (g : Guarded) → IsMade d flat g → program_of g ≡ guarded d (flat_of flat)
+same d flat g made = λ i. record { statements = made.statements i; functions = made.functions i; globals = (made.globals i).items; sites = made.sites i }
+
+pub returns : goal.returns
+returns c = λ m p flat flattens fits code is s thread elements founds path consistent.
+    let asks = c.typed_asks_the_same.ensures m p.resolved p.placed p.low p.least p.well_moded flat flattens in
+    let framed = c.typed_is_framed.ensures m p.resolved p.placed p.low p.least p.well_moded flat flattens fits in
+    let level = c.typed_is_level.ensures m p.resolved p.placed p.low p.least p.well_moded flat flattens in
+    let locks = c.made_locks_stand.ensures m flat flattens in
+    let d = dropped (flat_of flat) in
+    let q = guarded d (flat_of flat) in
+    let made = same d flat is.g is.made in
+    let good : IsGuarded (program_of is.g) = subst IsGuarded (sym made) (c.framed_law.ensures (flat_of flat) d framed.1) in
+    let first = begun code s thread in
+    let at = machine_after code s first founds in
+    let said = said_in code s first elements founds in
+    let lowered = lowered_in code s first elements founds in
+    let paced = paced_in code s first founds in
+    ⊎_elim
+    (λ (h : IsBeginning at said paced). inl h)
+    (λ (h : HasCome code s (program_of is.g) (elements (length founds)) thread at said lowered paced).
+    inr (there c.paths_are_runs.ensures c.log_law.ensures m (flat_of flat) asks d q (c.counted_law.ensures d (flat_of flat) level locks) (length-map (flat_of flat).functions (entered_at (place d (flat_of flat).lines)))
+    is.g code made is.generated (c.functions_are_named.ensures.named m flat flattens code is) s (elements (length founds)) thread at said lowered paced
+    (subst (λ p. HasCome code s p (elements (length founds)) thread at said lowered paced) made h)))
+    (c.paths_law.ensures is.g code is.generated good s thread elements founds path consistent)
