@@ -88,9 +88,11 @@ impl Rounds {
         self,
         alloc: Global,
         code: &Code,
+        plan: &Plan,
         shape: &Shape,
         limit: u64,
     ) -> Result<Recorded, AllocError>
+        requires plan { IsPlan code.now plan.now }
         requires fits { Fits code.now shape.now }
         requires limit { limit ≤ 100000000 }
         requires rounds { AreRounds code.now shape.now limit self }
@@ -105,7 +107,7 @@ impl Rounds {
             port,
             events,
         } = self;
-        let places = make_places(alloc, code, shape, events.as_slice(), limit)?;
+        let places = make_places(alloc, code, plan, shape, events.as_slice(), limit)?;
         let end = threads.end(port.words());
         Ok(Recorded {
             journal: events,
@@ -142,7 +144,7 @@ pub fn record_run<R: Threads + Wait + Sync, G: Gate + Sync>(
     let mut rounds = Rounds::new(alloc, code, shape, limit)?;
     'rounds: loop {
         if !rounds.threads.any_may_turn(rounds.port.words(), limit) {
-            return rounds.finish(alloc, code, shape, limit);
+            return rounds.finish(alloc, code, &plan, shape, limit);
         }
         rounds = rounds.next(rt, alloc, code, &plan, shape, workers, limit, gate)?;
     }

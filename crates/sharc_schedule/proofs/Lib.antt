@@ -17,3 +17,4 @@ pub mod Turning
 pub mod Making
 pub mod Stepping
 pub mod Placing
+pub mod Hurrying

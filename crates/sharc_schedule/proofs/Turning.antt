@@ -1,5 +1,5 @@
 -- One more turn of the run that makes a schedule.
-use Rattle.std.proofs.Common.{◌≡◌, ℕ, zero, suc, ◌<◌, ◌≤◌, Bool, true, false, List, [], ◌∷◌, ◌++◌, length, get_or, sym, ap, ◌∙◌, subst, arith, inl, inr}
+use Rattle.std.proofs.Common.{◌≡◌, ℕ, zero, suc, ◌<◌, ◌≤◌, Bool, true, false, List, [], ◌∷◌, ◌++◌, length, replicate, get_or, sym, ap, ◌∙◌, subst, arith, inl, inr}
 use Rattle.std.specs.Prelude.{nat_lt}
 use Rattle.std.specs.List.{range_with_len}
 use Rattle.std.proofs.lemmas.List.FromFn.{length-range_with_len}
@@ -49,7 +49,7 @@ module _ (laws : RunLaws) (threads : ThreadLaws) (code : Code) (s : Shape) (limi
       (no_tries earlier h.0, true_or_false (is_try state) (λ on. no_count state on h.1))
 
   pub room : s.threads ≡ THREADS → limit ≤ 100000000 → (turns : List Turn) → Run laws threads code s limit turns → AllCount code s turns → Few laws threads code s limit turns
-      → (i : ℕ) (d : ℕ × ℕ) → i < length (counted_together (places_of code s limit turns)) → (get_or (counted_together (places_of code s limit turns)) i d).1 < 4294967295
+      → (i : ℕ) (d : ℕ × ℕ) → i < length (counted_together (places_of code s limit turns)) → (get_or (counted_together (places_of code s limit turns)) i d).1 ≤ 3100000000
   room shape small turns run counts few i d low =
       let tried = no_tries turns counts in
       let all = made_all laws threads code s limit shape turns run tried in
@@ -79,7 +79,7 @@ module _ (laws : RunLaws) (threads : ThreadLaws) (code : Code) (s : Shape) (limi
   module _ (t : ℕ) (turns : List Turn) (old new : Going) (h : GoesAt code s limit turns old) where
     pub one_more : (told : Bool) (place : ℕ) → is_enabled code s limit (place_after code s turns) t ≡ true → WentOn code s t turns told new.walk
         → place ≡ place_in t (enabled code s limit (place_after code s turns))
-        → ((before : List ℕ) → old.places.items ≡ counted_together before → new.places.items ≡ counted_together (before ++ place ∷ []))
+        → ((before : List ℕ) → old.places.items ≡ counted_together before → new.places.items ≡ counted_together (before ++ replicate 1 place))
         → OneMore code s limit t turns told new
     one_more told place on went is places =
         let here : is_enabled code s limit (place_after code s turns) went.one.thread ≡ true = ap (is_enabled code s limit (place_after code s turns)) went.own ∙ on in

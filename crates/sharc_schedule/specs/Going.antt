@@ -8,7 +8,7 @@ use Rattle.sharc_code.specs.Path.{counted}
 use Rattle.sharc_code.specs.Runs.{Turn, Owns, state_now}
 use Rattle.sharc_code.specs.Whole.{one_thread, place_after}
 use Rattle.sharc_threads.specs.Ends.{is_enabled}
-use Rattle.sharc_seq.specs.Walk.{has_event, StandsAt}
+use Rattle.sharc_seq.specs.Walk.{has_event, StandsAt, AreQuietTurns}
 use Rattle.sharc_schedule.specs.Schedule.{places_of, counted_together}
 use Rattle.sharc_schedule.specs.declared.places.Going.{Going}
 
@@ -43,6 +43,12 @@ Quiet (one ∷ earlier) = Quiet earlier × (has_event one.event ≡ false)
 abbrev pub Loud : List Turn → Type 0
 Loud [] = ⊥
 Loud (one ∷ earlier) = Quiet earlier × (has_event one.event ≡ true)
+
+-- more turns of this thread without a word operation, which was enabled before each
+pub record Hurried (code : Code) (s : Shape) (limit t : ℕ) (turns : List Turn) (going : Going) : Type 0 where
+  pub more : List Turn
+  pub quiet : AreQuietTurns code s limit t turns more
+  pub goes : GoesAt code s limit (more ++ turns) going
 
 -- more turns of this thread, all without a word operation
 pub record Walked (code : Code) (s : Shape) (limit t : ℕ) (turns : List Turn) (going : Going) : Type 0 where

@@ -7,17 +7,20 @@ ghost use Rattle.sharc_code.specs.Runs.{Turn};
 ghost use Rattle.sharc_code.specs.declared.code.Code.{Code};
 ghost use Rattle.sharc_code.specs.declared.shape.Shape.{Shape};
 ghost use Rattle.sharc_code.specs.Whole.{place_after};
+ghost use Rattle.sharc_cpu.specs.Rows.{IsPlan};
 ghost use Rattle.sharc_threads.specs.Ends.{is_enabled};
+ghost use Rattle.sharc_seq.specs.Quiet.{IsQuiet};
 ghost use Rattle.sharc_seq.specs.Run.{enabled};
 ghost use Rattle.sharc_seq.specs.Walk.{IsWalk, MayGoOn, StandsAt, events_left};
-ghost use Rattle.sharc_schedule.specs.Going.{GoesAt, IsGoing, OneMore, Reached};
+ghost use Rattle.sharc_schedule.specs.Going.{GoesAt, Hurried, IsGoing, OneMore, Reached};
 ghost use Rattle.sharc_schedule.specs.Journal.{IsJournalOf};
 ghost use Rattle.sharc_schedule.specs.Schedule.{place_in, schedule_of};
 
 use crate::counting::count;
 use sharc_code::{Code, Shape, fits_law, run_laws, thread_laws};
+use sharc_cpu::Plan;
 use sharc_recorded::Places;
-use sharc_seq::Walk;
+use sharc_seq::{Quiet, Walk};
 use sharc_threads::table_laws;
 use sharc_word::{THREADS, WordEvent};
 use std::alloc::{AllocError, Global};
@@ -74,9 +77,41 @@ impl Going {
         run_laws();
         thread_laws();
         table_laws();
-        count(&mut self.places, place)?;
+        count(&mut self.places, place, 1)?;
         let told = self.walk.turn(alloc, code, shape, t, limit)?;
         Ok(told)
+    }
+
+    // Makes the turns of the thread, which is enabled and has this place, that are known to have no word operation, and writes their places.
+    fn hurry(
+        &mut self,
+        code: &Code,
+        plan: &Plan,
+        quiet: &Quiet,
+        shape: &Shape,
+        limit: u64,
+        t: u8,
+        place: u32,
+    ) -> Result<(), AllocError>
+        requires plan { IsPlan code.now plan.now }
+        requires quiet { IsQuiet code.now quiet.now }
+        requires fits { Fits code.now shape.now }
+        requires limit { limit ≤ 100000000 }
+        requires going { IsGoing code.now shape.now limit self.old }
+        requires may { MayGoOn code.now shape.now limit t self.old.walk }
+        requires place { (turns : List Turn) → StandsAt code.now shape.now turns self.old.walk → place ≡ place_in t (enabled code.now shape.now limit (place_after code.now shape.now turns)) }
+        ensures went { OnOk result ((turns : List Turn) → GoesAt code.now shape.now limit turns self.old → Hurried code.now shape.now limit t turns self.new) }
+        ensures left { OnOk result (events_left limit self.new.walk ≤ events_left limit self.old.walk) }
+    {
+        fits_law(code, shape);
+        run_laws();
+        thread_laws();
+        table_laws();
+        let made = self.walk.quiet_turns(code, plan, quiet, shape, t, limit)?;
+        if made > 0 {
+            count(&mut self.places, place, made as u32)?;
+        }
+        Ok(())
     }
 
     // Makes turns of the thread until one has made a word operation, or until the thread is not enabled. Its place stays the same up to
@@ -85,10 +120,14 @@ impl Going {
         &mut self,
         alloc: Global,
         code: &Code,
+        plan: &Plan,
+        quiet: &Quiet,
         shape: &Shape,
         limit: u64,
         t: u8,
     ) -> Result<(), AllocError>
+        requires plan { IsPlan code.now plan.now }
+        requires quiet { IsQuiet code.now quiet.now }
         requires fits { Fits code.now shape.now }
         requires limit { limit ≤ 100000000 }
         requires going { IsGoing code.now shape.now limit self.old }
@@ -105,6 +144,11 @@ impl Going {
         }
         let place = place_of(&self.walk, limit, t);
         'turns: loop {
+            self.hurry(code, plan, quiet, shape, limit, t, place)?;
+            let on = self.walk.may_turn(t, limit);
+            if !on {
+                return Ok(());
+            }
             let told = self.turn(alloc, code, shape, limit, t, place)?;
             if told {
                 return Ok(());
@@ -124,10 +168,12 @@ impl Going {
 pub fn make_places(
     alloc: Global,
     code: &Code,
+    plan: &Plan,
     shape: &Shape,
     journal: &[WordEvent],
     limit: u64,
 ) -> Result<Places, AllocError>
+    requires plan { IsPlan code.now plan.now }
     requires fits { Fits code.now shape.now }
     requires limit { limit ≤ 100000000 }
     requires run { (turns : List Turn) × IsJournalOf code.now shape.now limit journal.now turns }
@@ -136,16 +182,17 @@ pub fn make_places(
     fits_law(code, shape);
     run_laws();
     thread_laws();
+    let quiet = Quiet::of(alloc, code)?;
     let mut going = Going {
         walk: Walk::new(alloc, code, shape)?,
         places: Vec::new(alloc),
     };
     for i in 0..journal.len() {
         let t = journal[i].thread as u8;
-        going.reach(alloc, code, shape, limit, t)?;
+        going.reach(alloc, code, plan, &quiet, shape, limit, t)?;
     }
     for t in 0..THREADS {
-        going.reach(alloc, code, shape, limit, t as u8)?;
+        going.reach(alloc, code, plan, &quiet, shape, limit, t as u8)?;
     }
     let Going { places, .. } = going;
     Ok(Places::new(places))

@@ -34,10 +34,10 @@ eq_refl n = grind (arith, nat_tests)
 ne_eq : (m n : ℕ) → (m ≡ n → ⊥) → nat_eq m n ≡ false
 ne_eq m n ne = grind (arith, nat_tests)
 
-put_same : {A : Type 0} (f : ℕ → A) (i : ℕ) (v : A) → put f i v i ≡ v
+pub put_same : {A : Type 0} (f : ℕ → A) (i : ℕ) (v : A) → put f i v i ≡ v
 put_same f i v = rw (eq_refl i) refl
 
-put_other : {A : Type 0} (f : ℕ → A) (i j : ℕ) (v : A) → (j ≡ i → ⊥) → put f i v j ≡ f j
+pub put_other : {A : Type 0} (f : ℕ → A) (i j : ℕ) (v : A) → (j ≡ i → ⊥) → put f i v j ≡ f j
 put_other f i j v ne = rw (ne_eq j i ne) refl
 
 -- ---- one turn
@@ -211,11 +211,11 @@ sits laws code s limit g words seats t x of on e =
       may = ap (may_turn_at words limit) e ∙ laws.enabled code s limit g words seats of t ∙ on;
     }
 
-or_known : (a b : Bool) → (a ≡ true → b ≡ true) → (a || b) ≡ b
+pub or_known : (a b : Bool) → (a ≡ true → b ≡ true) → (a || b) ≡ b
 or_known true b h = sym (h refl)
 or_known false b h = refl
 
-same_some : (seats : List (Option ThreadView)) (t : ℕ) (old new : ThreadView) → t < length seats → get_or seats t None ≡ Some old → (k : ℕ) → is_some (get_or (set seats t (Some new)) k None) ≡ is_some (get_or seats k None)
+pub same_some : (seats : List (Option ThreadView)) (t : ℕ) (old new : ThreadView) → t < length seats → get_or seats t None ≡ Some old → (k : ℕ) → is_some (get_or (set seats t (Some new)) k None) ≡ is_some (get_or seats k None)
 same_some seats t old new low is k =
     ⊎_elim
     (λ (e : k ≡ t). subst (λ j. is_some (get_or (set seats t (Some new)) j None) ≡ is_some (get_or seats j None)) (sym e)

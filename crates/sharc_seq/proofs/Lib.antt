@@ -2,3 +2,5 @@ pub mod Choosing
 pub mod Grown
 pub mod Made
 pub mod Telling
+pub mod Quiets
+pub mod Quieting

@@ -1,5 +1,5 @@
 -- Runs of which the caller picks each turn: where such a run is, and what one more turn makes of it.
-use Rattle.std.specs.Prelude.{ℕ, ◌≡◌, ◌<◌, ◌+◌, Bool, true, false, List, ◌∷◌, length, filter, is_some, Option, Some, None, slice_index_or}
+use Rattle.std.specs.Prelude.{ℕ, ◌≡◌, ◌<◌, ◌≤◌, ◌+◌, Bool, true, false, List, [], ◌∷◌, ◌++◌, length, filter, is_some, Option, Some, None, slice_index_or}
 use Rattle.std.specs.List.{range_with_len}
 use Rattle.sharc_word.specs.Place.{LeadsInWords, place_of_words}
 use Rattle.sharc_word.specs.declared.step.WordEvent.{WordEvent}
@@ -8,7 +8,7 @@ use Rattle.sharc_word.specs.declared.step.TheConstants.{THREADS}
 use Rattle.sharc_code.specs.declared.code.Code.{Code}
 use Rattle.sharc_code.specs.declared.shape.Shape.{Shape}
 use Rattle.sharc_code.specs.Layout.{words_of}
-use Rattle.sharc_code.specs.Path.{turn, after, asked_by, counted, TurnLeads}
+use Rattle.sharc_code.specs.Path.{turn, after, asked_by, counted, TurnLeads, machine_after, IsPath as IsCodePath}
 use Rattle.sharc_code.specs.Opening.{opening_words}
 use Rattle.sharc_code.specs.ThreadLaws.{found_now}
 use Rattle.sharc_code.specs.Runs.{Turn, IsRun, opening_of, result_of, state_now}
@@ -18,6 +18,7 @@ use Rattle.sharc_cpu.specs.Thread.{ThreadView, IsThread}
 use Rattle.sharc_threads.specs.Ends.{is_enabled}
 use Rattle.sharc_threads.specs.Seats.{AreSeats, HasBegun, IsSeat, left}
 use Rattle.sharc_seq.specs.declared.walk.Walk.{Walk}
+use Rattle.sharc_seq.specs.Quiet.{MakesQuietly}
 
 -- ---- a turn that made one event
 pub record MadeTurn (code : Code) (s : Shape) (words now : List ℕ) (old new : ThreadView) : Type 0 where
@@ -101,6 +102,44 @@ pub record WentOn (code : Code) (s : Shape) (t : ℕ) (turns : List Turn) (told 
   pub told_is : told ≡ has_event one.event
   pub found_is : walk.port.found ≡ result_of one.event
   pub stands : StandsAt code s (one ∷ turns) walk
+
+-- ---- turns without a word operation
+-- a thread made so many, and the words are as they were
+pub record MadeQuietly (code : Code) (s : Shape) (limit : ℕ) (words now : List ℕ) (old new : ThreadView) (made : ℕ) : Type 0 where
+  pub thread : IsThread code s new
+  pub quiet : MakesQuietly code s old.machine made
+  pub founds : List ℕ
+  pub path : IsCodePath code s old.machine founds
+  pub many : length founds ≡ made
+  pub machine : new.machine ≡ machine_after code s old.machine founds
+  pub number : new.machine.own.number ≡ old.machine.own.number
+  pub words_are : now ≡ words
+  pub made_is : new.made ≡ old.made + made
+  pub within : new.made ≤ limit
+
+-- so it is at a place of the table
+abbrev pub MadeQuietlyAt : Code → Shape → ℕ → List ℕ → List ℕ → Option ThreadView → Option ThreadView → ℕ → Type 0
+MadeQuietlyAt code s limit words now (Some old) (Some new) made = MadeQuietly code s limit words now old new made
+MadeQuietlyAt code s limit words now (Some old) None made = ⊥
+MadeQuietlyAt code s limit words now None new made = ⊥
+
+-- a turn of this thread, which is enabled, that has no word operation and is no failed try
+pub record IsQuietTurn (code : Code) (s : Shape) (limit t : ℕ) (turns : List Turn) (one : Turn) : Type 0 where
+  pub own : one.thread ≡ t
+  pub on : is_enabled code s limit (place_after code s turns) t ≡ true
+  pub none : has_event one.event ≡ false
+  pub counts : counted (state_now (one_thread code s) (place_after code s turns) one).at.state ≡ 1
+
+abbrev pub AreQuietTurns : Code → Shape → ℕ → ℕ → List Turn → List Turn → Type 0
+AreQuietTurns code s limit t turns [] = Unit {0}
+AreQuietTurns code s limit t turns (one ∷ more) = AreQuietTurns code s limit t turns more × IsQuietTurn code s limit t (more ++ turns) one
+
+-- the run has so many such turns more
+pub record WentQuietly (code : Code) (s : Shape) (limit t : ℕ) (turns : List Turn) (made : ℕ) (walk : Walk) : Type 0 where
+  pub more : List Turn
+  pub many : length more ≡ made
+  pub quiet : AreQuietTurns code s limit t turns more
+  pub stands : StandsAt code s (more ++ turns) walk
 
 -- the events that are left to all threads
 abbrev pub events_left : ℕ → Walk → ℕ

@@ -1,6 +1,6 @@
 //! A run whose turns the caller picks.
 
-ghost use Rattle.std.specs.Prelude.{◌≡◌, ◌<◌, ◌≤◌, ℕ, [], None, true, List, length, filter, is_some, IfOk, OnOk, slice_index, slice_index_or};
+ghost use Rattle.std.specs.Prelude.{◌≡◌, ◌<◌, ◌≤◌, ◌+◌, ℕ, [], None, true, List, length, filter, is_some, IfOk, OnOk, slice_index, slice_index_or};
 ghost use Rattle.std.specs.Option.{option_copied};
 ghost use Rattle.std.specs.List.{range_with_len};
 ghost use Rattle.sharc_word.specs.declared.step.TheConstants.{THREADS as threads};
@@ -9,15 +9,18 @@ ghost use Rattle.sharc_code.specs.declared.shape.Shape.{Shape};
 ghost use Rattle.sharc_code.specs.Layout.{Fits};
 ghost use Rattle.sharc_code.specs.Runs.{Turn};
 ghost use Rattle.sharc_code.specs.Whole.{place_after};
+ghost use Rattle.sharc_cpu.specs.Rows.{IsPlan};
 ghost use Rattle.sharc_threads.specs.Ends.{is_enabled};
 ghost use Rattle.sharc_threads.specs.Seats.{has_number, may_turn_at};
 ghost use Rattle.sharc_seq.specs.Run.{enabled};
-ghost use Rattle.sharc_seq.specs.Walk.{Began, HaveBegun, StandsAt, IsWalk, IsThreadThere, MayGoOn, WentOn, events_left};
+ghost use Rattle.sharc_seq.specs.Quiet.{IsQuiet};
+ghost use Rattle.sharc_seq.specs.Walk.{Began, HaveBegun, StandsAt, IsWalk, IsThreadThere, MayGoOn, WentOn, WentQuietly, events_left};
 
+use crate::quiet::Quiet;
 use crate::told::ToldPort;
-use crate::turn::turn_at;
-use sharc_code::{Code, Shape, fits_law, opening, standing_laws};
-use sharc_cpu::Thread;
+use crate::turn::{quiet_turns_at, turn_at};
+use sharc_code::{Code, Shape, fits_law, opening, standing_laws, thread_laws};
+use sharc_cpu::{Plan, Thread};
 use sharc_threads::{ThreadTable, may_turn_at, table_laws};
 use sharc_word::{MemPort, THREADS};
 use std::alloc::{AllocError, Global};
@@ -210,5 +213,41 @@ impl Walk {
             &mut self.started,
         )?;
         Ok(self.port.told)
+    }
+
+    /// Makes the turns of the thread of this number, which is enabled, that are known to have no word operation, and answers how many.
+    ///
+    /// An `Err` says that memory was not found.
+    pub fn quiet_turns(
+        &mut self,
+        code: &Code,
+        plan: &Plan,
+        quiet: &Quiet,
+        shape: &Shape,
+        number: u8,
+        limit: u64,
+    ) -> Result<u64, AllocError>
+        requires plan { IsPlan code.now plan.now }
+        requires quiet { IsQuiet code.now quiet.now }
+        requires fits { Fits code.now shape.now }
+        requires limit { limit ≤ 100000000 }
+        requires may { MayGoOn code.now shape.now limit number self.old }
+        ensures went { IfOk result (λ made. (turns : List Turn) → StandsAt code.now shape.now turns self.old → WentQuietly code.now shape.now limit number turns made self.new) }
+        ensures few { IfOk result (λ made. made ≤ limit) }
+        ensures left { IfOk result (λ made. events_left limit self.new + made ≤ events_left limit self.old) }
+    {
+        fits_law(code, shape);
+        standing_laws();
+        table_laws();
+        thread_laws();
+        quiet_turns_at(
+            &mut self.threads.seats[number as usize],
+            code,
+            plan,
+            quiet,
+            shape,
+            &mut self.port,
+            limit,
+        )
     }
 }

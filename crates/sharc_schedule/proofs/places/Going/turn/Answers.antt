@@ -1,4 +1,4 @@
-use Rattle.std.proofs.Common.{◌≡◌, ℕ, true, ◌<◌, List, length, get_or, sym, subst}
+use Rattle.std.proofs.Common.{◌≡◌, ℕ, true, ◌<◌, ◌≤◌, List, length, get_or, sym, subst, arith}
 use Rattle.sharc_code.specs.Whole.{place_after}
 use Rattle.sharc_threads.specs.Ends.{is_enabled}
 use Rattle.sharc_schedule.specs.declared.places.Going.{Going}
@@ -12,8 +12,11 @@ count-requires c =
     let turns = c.requires.going.0 in
     let h = c.requires.going.1 in
     record {
-      room = subst (λ (xs : List (ℕ × ℕ)). (i : ℕ) (d : ℕ × ℕ) → i < length xs → (get_or xs i d).1 < 4294967295) (sym h.places_are)
-          (room c.run_laws.ensures c.thread_laws.ensures code s c.args.limit c.requires.fits.threads c.requires.limit turns h.stands.run h.counts h.few);
+      some = omega arith;
+      room = λ i d low.
+          let few = room c.run_laws.ensures c.thread_laws.ensures code s c.args.limit c.requires.fits.threads c.requires.limit turns h.stands.run h.counts h.few i d (subst (λ (xs : List (ℕ × ℕ)). i < length xs) h.places_are low) in
+          let small : (get_or c.args.self.now.places.items i d).1 ≤ 3100000000 = subst (λ (xs : List (ℕ × ℕ)). (get_or xs i d).1 ≤ 3100000000) (sym h.places_are) few in
+          omega (arith, small);
     }
 
 pub returns-clause-went : goal.returns-clause-went

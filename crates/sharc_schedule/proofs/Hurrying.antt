@@ -1,0 +1,95 @@
+-- Several turns of the run that makes a schedule at once, none of which has a word operation.
+use Rattle.std.proofs.Common.{◌≡◌, ℕ, suc, ◌≤◌, true, false, List, [], ◌∷◌, ◌++◌, length, replicate, refl, sym, ap, ◌∙◌, subst, append_assoc}
+use Rattle.std.proofs.lemmas.List.{append-nil}
+use Rattle.sharc_code.specs.declared.code.Code.{Code}
+use Rattle.sharc_code.specs.declared.shape.Shape.{Shape}
+use Rattle.sharc_code.specs.Laws.{RunLaws}
+use Rattle.sharc_code.specs.Runs.{Turn, Owns}
+use Rattle.sharc_code.specs.ThreadLaws.{ThreadLaws}
+use Rattle.sharc_code.specs.Whole.{place_after}
+use Rattle.sharc_threads.specs.Ends.{is_enabled}
+use Rattle.sharc_threads.specs.Laws.{TableLaws}
+use Rattle.sharc_seq.specs.Run.{enabled}
+use Rattle.sharc_seq.specs.Walk.{StandsAt, AreQuietTurns, WentQuietly}
+use Rattle.sharc_schedule.specs.declared.places.Going.{Going}
+use Rattle.sharc_schedule.specs.Schedule.{place_in, places_of, counted_together}
+use Rattle.sharc_schedule.specs.Going.{AllCount, GoesAt, Hurried, Quiet, Walked}
+use Rattle.sharc_schedule.proofs.Lasts.{one_after}
+use Rattle.sharc_schedule.proofs.Placing.{enabled_kept, enabled_there}
+use Rattle.sharc_schedule.proofs.Replaying.{Few}
+use Rattle.sharc_schedule.proofs.Turning.{few_after}
+
+owns_both : (t : ℕ) (more before : List Turn) → Owns t more → Owns t before → Owns t (more ++ before)
+owns_both t [] before h low = low
+owns_both t (one ∷ more) before h low = (h.0, owns_both t more before h.1 low)
+
+quiet_both : (more before : List Turn) → Quiet more → Quiet before → Quiet (more ++ before)
+quiet_both [] before h low = low
+quiet_both (one ∷ more) before h low = (quiet_both more before h.0 low, h.1)
+
+module _ (laws : RunLaws) (threads : ThreadLaws) (code : Code) (s : Shape) (limit t : ℕ) where
+  pub owned : (turns more : List Turn) → AreQuietTurns code s limit t turns more → Owns t more
+  owned turns [] h = tt
+  owned turns (one ∷ more) h = (h.1.own, owned turns more h.0)
+
+  pub all_quiet : (turns more : List Turn) → AreQuietTurns code s limit t turns more → Quiet more
+  all_quiet turns [] h = tt
+  all_quiet turns (one ∷ more) h = (all_quiet turns more h.0, h.1.none)
+
+  all_count : (turns more : List Turn) → AllCount code s turns → AreQuietTurns code s limit t turns more → AllCount code s (more ++ turns)
+  all_count turns [] before h = before
+  all_count turns (one ∷ more) before h = (all_count turns more before h.0, h.1.counts)
+
+  few_still : (turns more : List Turn) → Few laws threads code s limit turns → AreQuietTurns code s limit t turns more → Few laws threads code s limit (more ++ turns)
+  few_still turns [] few h = few
+  few_still turns (one ∷ more) few h =
+      few_after laws threads code s limit one (more ++ turns) (few_still turns more few h.0) (ap (is_enabled code s limit (place_after code s (more ++ turns))) h.1.own ∙ h.1.on) h.1.counts
+
+  -- each has the place that the thread had at first
+  places_more : (turns more : List Turn) (place : ℕ) → is_enabled code s limit (place_after code s turns) t ≡ true → place ≡ place_in t (enabled code s limit (place_after code s turns))
+      → AreQuietTurns code s limit t turns more → places_of code s limit (more ++ turns) ≡ places_of code s limit turns ++ replicate (length more) place
+  places_more turns [] place was is h = sym (append-nil (places_of code s limit turns))
+  places_more turns (one ∷ more) place was is h =
+      let before : List ℕ = places_of code s limit turns in
+      let same : enabled code s limit (place_after code s (more ++ turns)) ≡ enabled code s limit (place_after code s turns) = enabled_kept laws threads code s limit t more turns (all_quiet turns more h.0) (owned turns more h.0) was h.1.on in
+      let here : place_in one.thread (enabled code s limit (place_after code s (more ++ turns))) ≡ place =
+      ap (λ u. place_in u (enabled code s limit (place_after code s (more ++ turns)))) h.1.own ∙ (ap (place_in t) same ∙ sym is) in
+      ap (λ p. places_of code s limit (more ++ turns) ++ p ∷ []) here
+      ∙ (ap (λ ps. ps ++ place ∷ []) (places_more turns more place was is h.0)
+      ∙ (append_assoc before (replicate (length more) place) (place ∷ []) ∙ ap (λ ps. before ++ ps) (one_after (length more) place)))
+
+  pub hurried : (turns : List Turn) (old new : Going) (made place : ℕ) → GoesAt code s limit turns old → (went : WentQuietly code s limit t turns made new.walk)
+      → is_enabled code s limit (place_after code s turns) t ≡ true → place ≡ place_in t (enabled code s limit (place_after code s turns))
+      → ((before : List ℕ) → old.places.items ≡ counted_together before → new.places.items ≡ counted_together (before ++ replicate made place))
+      → Hurried code s limit t turns new
+  hurried turns old new made place h went was is places = record {
+    more = went.more;
+    quiet = went.quiet;
+    goes = record {
+      stands = went.stands;
+      counts = all_count turns went.more h.counts went.quiet;
+      few = few_still turns went.more h.few went.quiet;
+      places_are =
+          places (places_of code s limit turns) h.places_are
+          ∙ (ap (λ n. counted_together (places_of code s limit turns ++ replicate n place)) (sym went.many)
+          ∙ ap counted_together (sym (places_more turns went.more place was is went.quiet)));
+    };
+  }
+
+  -- turns that go on so
+  pub walked_hurried : (turns : List Turn) (old new : Going) → (w : Walked code s limit t turns old) → Hurried code s limit t (w.more ++ turns) new → Walked code s limit t turns new
+  walked_hurried turns old new w h = record {
+    more = h.more ++ w.more;
+    own = owns_both t h.more w.more (owned (w.more ++ turns) h.more h.quiet) w.own;
+    goes = subst (λ (ts : List Turn). GoesAt code s limit ts new) (sym (append_assoc h.more w.more turns)) h.goes;
+    quiet = quiet_both h.more w.more (all_quiet (w.more ++ turns) h.more h.quiet) w.quiet;
+  }
+
+  -- the place stays the same
+  pub place_kept : (tables : TableLaws) (first : List Turn) (place : ℕ) → is_enabled code s limit (place_after code s first) t ≡ true → place ≡ place_in t (enabled code s limit (place_after code s first))
+      → (going : Going) (w : Walked code s limit t first going) → is_enabled code s limit (place_after code s (w.more ++ first)) t ≡ true
+      → (turns : List Turn) → StandsAt code s turns going.walk → place ≡ place_in t (enabled code s limit (place_after code s turns))
+  place_kept tables first place was is going w still turns h =
+      let kept = enabled_kept laws threads code s limit t w.more first w.quiet w.own was still in
+      let same = enabled_there tables code s limit turns (w.more ++ first) going.walk h w.goes.stands in
+      is ∙ ap (λ (xs : List ℕ). place_in t xs) (sym (same ∙ kept))

@@ -1,0 +1,85 @@
+use Rattle.std.proofs.Common.{◌≡◌, ℕ, ◌<◌, List, Option, None, length, get_or, set, refl, sym, ◌∙◌, subst, arith}
+use Rattle.std.proofs.lemmas.Result.{IfOk-weaker}
+use Rattle.std.specs.Vec.{with_item}
+use Rattle.sharc_code.specs.Whole.{place_after}
+use Rattle.sharc_cpu.specs.Thread.{ThreadView}
+use Rattle.sharc_seq.specs.declared.walk.Walk.{Walk}
+use Rattle.sharc_seq.proofs.Choosing.{any_default}
+use Rattle.sharc_seq.proofs.Grown.{sits, enabled_too}
+use Rattle.sharc_seq.proofs.Quieting.{hurried}
+use Rattle.sharc_seq.proofs.walk.Walk.quiet_turns.Goals as goal
+
+pub quiet_turns_at-requires-clause-thread : goal.quiet_turns_at-requires-clause-thread
+quiet_turns_at-requires-clause-thread c =
+    let code = c.args.code.now in
+    let s = c.args.shape.now in
+    let walk : Walk = c.args.self.now in
+    let m = c.requires.may in
+    let number : ℕ = c.args.number in
+    let seats : List (Option ThreadView) = walk.threads.seats.items in
+    let x : Option ThreadView = c.index_mut.result.now in
+    let low = (sits c.table_laws.ensures code s c.args.limit (place_after code s m.0) walk.port.port seats number (get_or seats number None) record { words_are = m.1.words; are = m.1.seats } m.2 refl).low in
+    let is : x ≡ get_or seats number None = c.index_mut.ensures.value ∙ any_default seats number x None low in
+    (sits c.table_laws.ensures code s c.args.limit (place_after code s m.0) walk.port.port seats number x record { words_are = m.1.words; are = m.1.seats } m.2 is).thread
+
+pub quiet_turns_at-requires-clause-enabled : goal.quiet_turns_at-requires-clause-enabled
+quiet_turns_at-requires-clause-enabled c =
+    let code = c.args.code.now in
+    let s = c.args.shape.now in
+    let walk : Walk = c.args.self.now in
+    let m = c.requires.may in
+    let number : ℕ = c.args.number in
+    let seats : List (Option ThreadView) = walk.threads.seats.items in
+    let x : Option ThreadView = c.index_mut.result.now in
+    let low = (sits c.table_laws.ensures code s c.args.limit (place_after code s m.0) walk.port.port seats number (get_or seats number None) record { words_are = m.1.words; are = m.1.seats } m.2 refl).low in
+    let is : x ≡ get_or seats number None = c.index_mut.ensures.value ∙ any_default seats number x None low in
+    (sits c.table_laws.ensures code s c.args.limit (place_after code s m.0) walk.port.port seats number x record { words_are = m.1.words; are = m.1.seats } m.2 is).may
+
+pub returns-clause-went : goal.returns-clause-went
+returns-clause-went c =
+    let code = c.args.code.now in
+    let s = c.args.shape.now in
+    let walk : Walk = c.args.self.now in
+    let m = c.requires.may in
+    let number : ℕ = c.args.number in
+    let seats : List (Option ThreadView) = walk.threads.seats.items in
+    let x : Option ThreadView = c.index_mut.result.now in
+    let low = (sits c.table_laws.ensures code s c.args.limit (place_after code s m.0) walk.port.port seats number (get_or seats number None) record { words_are = m.1.words; are = m.1.seats } m.2 refl).low in
+    let is : x ≡ get_or seats number None = c.index_mut.ensures.value ∙ any_default seats number x None low in
+    let y : Option ThreadView = c.quiet_turns_at.new.seat in
+    let new : Walk = record { threads = record { seats = with_item walk.threads.seats number y }; started = walk.started; port = c.quiet_turns_at.new.port } in
+    IfOk-weaker c.quiet_turns_at.result _ _ (λ made h. λ turns stands.
+    (hurried c.standing_laws.ensures c.thread_laws.ensures code s c.args.limit c.requires.limit turns walk new number stands
+    (enabled_too c.table_laws.ensures code s c.args.limit m.0 turns walk number m.1 stands m.2) refl x y made (sym is) h refl).went) c.quiet_turns_at.ensures
+
+pub returns-clause-few : goal.returns-clause-few
+returns-clause-few c =
+    let code = c.args.code.now in
+    let s = c.args.shape.now in
+    let walk : Walk = c.args.self.now in
+    let m = c.requires.may in
+    let number : ℕ = c.args.number in
+    let seats : List (Option ThreadView) = walk.threads.seats.items in
+    let x : Option ThreadView = c.index_mut.result.now in
+    let low = (sits c.table_laws.ensures code s c.args.limit (place_after code s m.0) walk.port.port seats number (get_or seats number None) record { words_are = m.1.words; are = m.1.seats } m.2 refl).low in
+    let is : x ≡ get_or seats number None = c.index_mut.ensures.value ∙ any_default seats number x None low in
+    let y : Option ThreadView = c.quiet_turns_at.new.seat in
+    let new : Walk = record { threads = record { seats = with_item walk.threads.seats number y }; started = walk.started; port = c.quiet_turns_at.new.port } in
+    IfOk-weaker c.quiet_turns_at.result _ _ (λ made h.
+    (hurried c.standing_laws.ensures c.thread_laws.ensures code s c.args.limit c.requires.limit m.0 walk new number m.1 m.2 refl x y made (sym is) h refl).few_are) c.quiet_turns_at.ensures
+
+pub returns-clause-left : goal.returns-clause-left
+returns-clause-left c =
+    let code = c.args.code.now in
+    let s = c.args.shape.now in
+    let walk : Walk = c.args.self.now in
+    let m = c.requires.may in
+    let number : ℕ = c.args.number in
+    let seats : List (Option ThreadView) = walk.threads.seats.items in
+    let x : Option ThreadView = c.index_mut.result.now in
+    let low = (sits c.table_laws.ensures code s c.args.limit (place_after code s m.0) walk.port.port seats number (get_or seats number None) record { words_are = m.1.words; are = m.1.seats } m.2 refl).low in
+    let is : x ≡ get_or seats number None = c.index_mut.ensures.value ∙ any_default seats number x None low in
+    let y : Option ThreadView = c.quiet_turns_at.new.seat in
+    let new : Walk = record { threads = record { seats = with_item walk.threads.seats number y }; started = walk.started; port = c.quiet_turns_at.new.port } in
+    IfOk-weaker c.quiet_turns_at.result _ _ (λ made h.
+    (hurried c.standing_laws.ensures c.thread_laws.ensures code s c.args.limit c.requires.limit m.0 walk new number m.1 m.2 refl x y made (sym is) h refl).left_is) c.quiet_turns_at.ensures
