@@ -1,25 +1,16 @@
 -- The cells of an lvalue's element are there.
-use Rattle.std.proofs.Common.{◌≡◌, ℕ, zero, suc, ◌+◌, ◌-◌, ◌*◌, ◌<◌, ◌≤◌, List, [], ◌∷◌, length, slice_index_or, refl, ap, sym, ◌∙◌, subst, arith, Some}
-use Rattle.std.proofs.Math.Nat.{suc-mul}
+use Rattle.std.proofs.{Common.{◌≡◌, ℕ, zero, suc, ◌+◌, ◌-◌, ◌*◌, ◌<◌, ◌≤◌, List, [], ◌∷◌, length, slice_index_or, refl, ap, sym, ◌∙◌, subst, arith, Some}, Math.Nat.suc-mul}
 use Rattle.std.specs.Prelude.{slice_get}
 use Rattle.sharc_tree.specs.declared.tree.item.GlobalDefinition.{GlobalDefinition}
-use Rattle.sharc_code.specs.declared.code.Code.{Code}
-use Rattle.sharc_code.specs.declared.instr.Cell.{Cell}
+use Rattle.sharc_code.specs.{declared.code.Code.Code, declared.instr.Cell.Cell, Says.no_global}
 use Rattle.sharc_code.specs.declared.instr.Cell.TheVariants as cells
-use Rattle.sharc_code.specs.Says.{no_global}
-use Rattle.sharc_ctype.specs.Globals.{elements_of}
-use Rattle.sharc_ctype.specs.Resolved.{Resolution, global_at, globals_in}
+use Rattle.sharc_ctype.specs.{Globals.elements_of, Resolved.{Resolution, global_at, globals_in}}
 use Rattle.sharc_mode.specs.Moded.{Assignment}
 use Rattle.sharc_flat_form.specs.Machine.{first_cell}
 use Rattle.sharc_flat.specs.Tables.{cells_in, granules_in, globals_from, globals_of}
-use Rattle.sharc_invariant.specs.Types.{StaticType, Field, no_field, field_at, global_field, cells_of}
-use Rattle.sharc_invariant.specs.Labels.{Element, OfGlobal, Label, Itself}
-use Rattle.sharc_invariant.specs.Typed.{IsInGlobal, HasCell, IsSibling, HasBefore}
-use Rattle.sharc_accepted_laws.specs.TargetLaws.{HasTables, GlobalsAre}
-use Rattle.sharc_accepted_laws.specs.Targets.{global_element, targets_of}
-use Rattle.sharc_accepted_laws.specs.Accesses.{HasBaseIn, IsCellNumber}
-use Rattle.sharc_accepted_laws.proofs.TargetLists.{same_some}
-use Rattle.sharc_accepted_laws.proofs.TypableRegisters.{none_some}
+use Rattle.sharc_invariant.specs.{Types.{StaticType, Field, no_field, field_at, global_field, cells_of}, Labels.{Element, OfGlobal, Label, Itself}, Typed.{IsInGlobal, HasCell, IsSibling, HasBefore}}
+use Rattle.sharc_accepted_laws.specs.{TargetLaws.{HasTables, GlobalsAre}, Targets.{global_element, targets_of}, Accesses.{HasBaseIn, IsCellNumber}}
+use Rattle.sharc_lemmas.proofs.Options.{same_some, none_some}
 
 -- ---- the globals of code
 record IsEntry (r : Resolution) (at : ℕ) (list : List GlobalDefinition) (g : ℕ) (d : GlobalDefinition) : Type 0 where

@@ -1,26 +1,15 @@
 -- What pointers to mutexes and to condition variables refer to, by the rows of their types.
 use Rattle.std.proofs.Common.{◌≡◌, ◌<◌, [], ◌∷◌, refl, ap, sym, ◌∙◌, subst, arith, option_map, Option, Some, None, Contains, codes}
-use Rattle.sharc_tree.specs.declared.ctype.Base.{Base}
+use Rattle.sharc_tree.specs.{declared.ctype.Base.Base, Tree.Expression}
 use Rattle.sharc_tree.specs.declared.ctype.Base.TheVariants as base
-use Rattle.sharc_tree.specs.Tree.{Expression}
 use Rattle.sharc_names.specs.Kinds.{object}
 use Rattle.sharc_ctype.specs.Resolved.{kind_at}
-use Rattle.sharc_mode.specs.Notes.{base_of}
-use Rattle.sharc_mode.specs.Rows.{Targets, row_at, modes_of}
+use Rattle.sharc_mode.specs.{Notes.base_of, Rows.{Targets, row_at, modes_of}}
 use Rattle.sharc_mode_laws.specs.Constructs.{IsExpression}
 use Rattle.sharc_flat.specs.Scope.{Context}
-use Rattle.sharc_invariant.specs.Types.{StaticType, Content, cells_of, field_at}
-use Rattle.sharc_invariant.specs.Types.Content.{MutexWord, Waiters}
-use Rattle.sharc_invariant.specs.Labels.{Empty, Refers}
-use Rattle.sharc_typed_laws.specs.Stretches.{Setting}
-use Rattle.sharc_typed_laws.specs.Typable.{FirstCell}
-use Rattle.sharc_accepted_laws.specs.StaticLaws.{IsAccepted}
-use Rattle.sharc_accepted_laws.specs.Static.{static_of, entry_by, entry_of}
-use Rattle.sharc_accepted_laws.specs.TargetFirsts.{FirstFits, FirstLaws}
-use Rattle.sharc_accepted_laws.specs.TargetLaws.{ExpressionsFound}
-use Rattle.sharc_accepted_laws.specs.Shapes.{Form, dynamic_form, Shape, form_of, shape_of, row_shape, stars_in, known_condition, known_mutex, shapes, number}
-use Rattle.sharc_accepted_laws.specs.Targets.{targets_of}
-use Rattle.sharc_accepted_laws.specs.AccessFirsts.{type_of_mutex, type_of_condition, FirstsFit}
+use Rattle.sharc_invariant.specs.{Types.{StaticType, Content, cells_of, field_at}, Types.Content.{MutexWord, Waiters}, Labels.{Empty, Refers}}
+use Rattle.sharc_typed_laws.specs.{Stretches.Setting, Typable.FirstCell}
+use Rattle.sharc_accepted_laws.specs.{StaticLaws.IsAccepted, Static.{static_of, entry_by, entry_of}, TargetFirsts.{FirstFits, FirstLaws}, TargetLaws.ExpressionsFound, Shapes.{Form, dynamic_form, Shape, form_of, shape_of, row_shape, stars_in, known_condition, known_mutex, shapes, number}, Targets.targets_of, AccessFirsts.{type_of_mutex, type_of_condition, FirstsFit}}
 use Rattle.sharc_accepted_laws.proofs.Paths.{one_sharing}
 
 pub no_entry : (s : StaticType) → Empty ≡ Refers s → ⊥

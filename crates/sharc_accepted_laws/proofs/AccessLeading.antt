@@ -1,28 +1,15 @@
 -- The lock path of the type of an element leads to a mutex: it is that of the type of the pointer through which the lvalue leads.
 use Rattle.std.proofs.Common.{◌≡◌, Bool, true, false, cond, List, [], ◌∷◌, refl, subst, Option, Some, None}
 use Rattle.std.specs.List.{AllByRecursion}
-use Rattle.sharc_tree.specs.declared.tree.expression.Access.TheVariants.{Dot, Arrow}
-use Rattle.sharc_tree.specs.declared.tree.expression.UnaryOperator.TheVariants.{Negate, Not, Complement, Dereference}
-use Rattle.sharc_tree.specs.Measures.{expressions}
-use Rattle.sharc_tree.specs.Tree.{Expression, identifier, constant, parentheses, call, spawn, on_value, on_place, cast, index, field, unary, binary}
+use Rattle.sharc_tree.specs.{declared.tree.expression.Access.TheVariants.{Dot, Arrow}, declared.tree.expression.UnaryOperator.TheVariants.{Negate, Not, Complement, Dereference}, Measures.expressions, Tree.{Expression, identifier, constant, parentheses, call, spawn, on_value, on_place, cast, index, field, unary, binary}}
 use Rattle.sharc_names.specs.Kinds.{is_array}
 use Rattle.sharc_ctype.specs.Resolved.{Resolution, named_at, kind_at}
-use Rattle.sharc_mode.specs.Rows.{modes_at}
-use Rattle.sharc_mode.specs.Sharings.{Lock, Sharing, locked}
+use Rattle.sharc_mode.specs.{Rows.modes_at, Sharings.{Lock, Sharing, locked}}
 use Rattle.sharc_mode_laws.specs.Constructs.{IsExpression}
-use Rattle.sharc_flat.specs.Scope.{Context}
-use Rattle.sharc_flat.specs.Suits.{PathNamed, IfThere}
-use Rattle.sharc_accepted_laws.specs.StaticLaws.{IsAccepted}
-use Rattle.sharc_accepted_laws.specs.Leading.{LeadsToMutex, by_global, by_variable, AllLead, ExpressionsLead}
-use Rattle.sharc_accepted_laws.specs.Scopes.{AllStand}
-use Rattle.sharc_accepted_laws.specs.Standing.{ExpressionStands}
-use Rattle.sharc_accepted_laws.specs.Lvalues.{pointer_of}
-use Rattle.sharc_accepted_laws.specs.Accesses.{list_or, modes_of_pointer}
-use Rattle.sharc_accepted_laws.specs.Joined.{LockLeads, to_global, to_variable}
-use Rattle.sharc_accepted_laws.specs.Paths.{MutexesBehind, PathsLead}
-use Rattle.sharc_accepted_laws.proofs.AccessLists.{front, self}
-use Rattle.sharc_accepted_laws.proofs.TargetLists.{same_some}
-use Rattle.sharc_accepted_laws.proofs.TypableRegisters.{none_some}
+use Rattle.sharc_flat.specs.{Scope.Context, Suits.{PathNamed, IfThere}}
+use Rattle.sharc_accepted_laws.specs.{StaticLaws.IsAccepted, Leading.{LeadsToMutex, by_global, by_variable, AllLead, ExpressionsLead}, Scopes.AllStand, Standing.ExpressionStands, Lvalues.pointer_of, Accesses.{list_or, modes_of_pointer}, Joined.{LockLeads, to_global, to_variable}, Paths.{MutexesBehind, PathsLead}}
+use Rattle.sharc_accepted_laws.proofs.AccessLists.{self}
+use Rattle.sharc_lemmas.proofs.{Options.{same_some, none_some}, Lists.front}
 
 pub no_modes : (l : Lock) (below : List Sharing) → [] ≡ locked l ∷ below → ⊥
 no_modes l below h = cc

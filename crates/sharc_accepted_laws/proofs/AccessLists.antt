@@ -1,10 +1,8 @@
 -- Lists of which each member has a property, and what is found in them.
 use Rattle.std.proofs.Common.{◌≡◌, ℕ, zero, suc, List, [], ◌∷◌, ◌++◌, slice_get, subst, arith, Some, Contains}
 use Rattle.std.specs.List.{AllByRecursion}
-use Rattle.sharc_tree.specs.Measures.{expressions}
-use Rattle.sharc_tree.specs.Tree.{Expression, identifier, constant, parentheses, call, spawn, on_value, on_place, cast, index, field, unary, binary}
-use Rattle.sharc_accepted_laws.proofs.TargetLists.{same_some}
-use Rattle.sharc_accepted_laws.proofs.TypableRegisters.{none_some}
+use Rattle.sharc_tree.specs.{Measures.expressions, Tree.{Expression, identifier, constant, parentheses, call, spawn, on_value, on_place, cast, index, field, unary, binary}}
+use Rattle.sharc_lemmas.proofs.Options.{same_some, none_some}
 
 pub there_at : {A : Type 0} (list : List A) (k : ℕ) (x : A) → slice_get list k ≡ Some x → Contains list x
 there_at [] k x is = absurd (none_some x is)
@@ -15,14 +13,6 @@ pub each_at : {A : Type 0} (P : A → Type 0) (list : List A) (k : ℕ) (x : A) 
 each_at P [] k x all is = absurd (none_some x is)
 each_at P (y ∷ rest) zero x all is = subst P (same_some y x is) all.0
 each_at P (y ∷ rest) (suc k) x all is = each_at P rest k x all.1 is
-
-pub each : {A : Type 0} (P Q : A → Type 0) → ((x : A) → P x → Q x) → (list : List A) → AllByRecursion P list → AllByRecursion Q list
-each P Q f [] h = tt
-each P Q f (x ∷ rest) h = (f x h.0, each P Q f rest h.1)
-
-pub front : {A : Type 0} (P : A → Type 0) (a b : List A) → AllByRecursion P (a ++ b) → AllByRecursion P a
-front P [] b all = tt
-front P (x ∷ a) b all = (all.0, front P a b all.1)
 
 -- an expression is the first of those that it has
 pub self : (P : Expression → Type 0) (e : Expression) → AllByRecursion P (expressions e) → P e

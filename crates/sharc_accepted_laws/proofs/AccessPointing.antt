@@ -1,40 +1,19 @@
 -- The reference in the cell of an lvalue has the type that the source gives it.
-use Rattle.std.proofs.Common.{◌≡◌, inl, inr, ⊎_elim, ℕ, zero, suc, ◌==◌, Bool, true, false, cond, List, [], ◌∷◌, map, refl, ap, sym, ◌∙◌, subst, arith, eqb-true, option_map, Option, Some, None}
-use Rattle.std.proofs.lemmas.Bool.{false≢true, ltb-true}
-use Rattle.sharc_tree.specs.declared.ctype.Base.{Base}
+use Rattle.std.proofs.{Common.{◌≡◌, inl, inr, ⊎_elim, ℕ, zero, suc, ◌==◌, Bool, true, false, cond, List, [], ◌∷◌, map, refl, ap, sym, ◌∙◌, subst, arith, eqb-true, option_map, Option, Some, None}, lemmas.Bool.{false≢true, ltb-true}}
+use Rattle.sharc_tree.specs.{declared.ctype.Base.Base, declared.tree.expression.Access.TheVariants.{Dot, Arrow}, declared.tree.expression.UnaryOperator.TheVariants.{Negate, Not, Complement, Dereference}, Tree.{Expression, identifier, constant, parentheses, call, spawn, on_value, on_place, cast, index, field, unary, binary}}
 use Rattle.sharc_tree.specs.declared.ctype.Base.TheVariants as base
-use Rattle.sharc_tree.specs.declared.tree.expression.Access.TheVariants.{Dot, Arrow}
-use Rattle.sharc_tree.specs.declared.tree.expression.UnaryOperator.TheVariants.{Negate, Not, Complement, Dereference}
-use Rattle.sharc_tree.specs.Tree.{Expression, identifier, constant, parentheses, call, spawn, on_value, on_place, cast, index, field, unary, binary}
 use Rattle.sharc_names.specs.declared.fault.Named.TheVariants as named
 use Rattle.sharc_names.specs.Kinds.{Kind, object, array, is_array, is_pointer}
 use Rattle.sharc_names.specs.Kinds as kinds
 use Rattle.sharc_code.specs.declared.code.Code.{Code}
 use Rattle.sharc_ctype.specs.Resolved.{named_at, kind_at}
-use Rattle.sharc_mode.specs.Cells.{is_mutex_kind, cell_at}
-use Rattle.sharc_mode.specs.Moded.{Assignment}
-use Rattle.sharc_mode.specs.Notes.{base_of}
-use Rattle.sharc_mode.specs.Rows.{Targets, row_at, modes_of, modes_at, constant_use, is_constant_named}
-use Rattle.sharc_mode.specs.Sharings.{Sharing}
-use Rattle.sharc_flat.specs.Scope.{Context}
-use Rattle.sharc_flat.specs.Suits.{Either, is_cell}
-use Rattle.sharc_flat.specs.Places.{Target, variable, in_global, in_global_at, in_object, in_object_at, has_base, target, cell_of, field_of, guard_field, spot_of}
-use Rattle.sharc_invariant.specs.Types.{Content, Field}
-use Rattle.sharc_invariant.specs.Labels.{Refers, Gate, Label, SameReference, Itself, IsCopy, HasCopy, Copies, Chained, gated}
-use Rattle.sharc_invariant.specs.Typed.{AreFieldLocks, PointsTo}
+use Rattle.sharc_mode.specs.{Cells.{is_mutex_kind, cell_at}, Moded.Assignment, Notes.base_of, Rows.{Targets, row_at, modes_of, modes_at, constant_use, is_constant_named}, Sharings.Sharing}
+use Rattle.sharc_flat.specs.{Scope.Context, Suits.{Either, is_cell}, Places.{Target, variable, in_global, in_global_at, in_object, in_object_at, has_base, target, cell_of, field_of, guard_field, spot_of}}
+use Rattle.sharc_invariant.specs.{Types.{Content, Field}, Labels.{Refers, Gate, Label, SameReference, Itself, IsCopy, HasCopy, Copies, Chained, gated}, Typed.{AreFieldLocks, PointsTo}}
 use Rattle.sharc_typed_laws.specs.Premises.{Typing, IsCopyNamed, IsCopyOf, IsPointerCopy, Ground, HasBaseAt, ReachesReference}
-use Rattle.sharc_accepted_laws.specs.Pointing.{element_locks, pointee_locks, content_locks, BaseIs, IsBased, PlacesPoint}
-use Rattle.sharc_accepted_laws.specs.Held.{held_named}
-use Rattle.sharc_accepted_laws.specs.Scopes.{ScopeLaws}
-use Rattle.sharc_accepted_laws.specs.Static.{register, locks_at, static_of}
-use Rattle.sharc_accepted_laws.specs.Lvalues.{IsOfObject, IsOfGlobal, NamesCell, no_cell, of_object, of_global, LvaluesFit, pointer_of, below_locks, locks_below, cell_locks, PointerFits, ContentFits}
-use Rattle.sharc_accepted_laws.specs.Shapes.{Form, form_of, shape_of, expression_shape, number}
-use Rattle.sharc_accepted_laws.specs.Accesses.{modes_of_pointer, kind_of_pointer, list_or, modes_behind, base_type, IsCellLvalue, CellsStand, AccessesFit, GuardsFit}
-use Rattle.sharc_accepted_laws.specs.Joined.{BaseStands, setting, IsTypingOf, IsGroundOf, ReferencesFit}
-use Rattle.sharc_accepted_laws.proofs.Joining.{IsLike, through}
-use Rattle.sharc_accepted_laws.proofs.Standing.{no_pointer, lvalue_cells}
-use Rattle.sharc_accepted_laws.proofs.TargetLists.{same_some}
-use Rattle.sharc_accepted_laws.proofs.TypableRegisters.{none_some}
+use Rattle.sharc_accepted_laws.specs.{Pointing.{element_locks, pointee_locks, content_locks, BaseIs, IsBased, PlacesPoint}, Held.held_named, Scopes.ScopeLaws, Static.{register, locks_at, static_of}, Lvalues.{IsOfObject, IsOfGlobal, NamesCell, no_cell, of_object, of_global, LvaluesFit, pointer_of, below_locks, locks_below, cell_locks, PointerFits, ContentFits}, Shapes.{Form, form_of, shape_of, expression_shape, number}, Accesses.{modes_of_pointer, kind_of_pointer, list_or, modes_behind, base_type, IsCellLvalue, CellsStand, AccessesFit, GuardsFit}, Joined.{BaseStands, setting, IsTypingOf, IsGroundOf, ReferencesFit}}
+use Rattle.sharc_accepted_laws.proofs.{Joining.{IsLike, through}, Standing.{no_pointer, lvalue_cells}}
+use Rattle.sharc_lemmas.proofs.Options.{same_some, none_some}
 
 -- ---- locks in the table
 below_same : (fs : List Form) → below_locks fs ≡ element_locks fs

@@ -1,7 +1,5 @@
 -- Shapes that are the same are equal.
-use Rattle.std.proofs.Common.{◌≡◌, true, List, [], ◌∷◌, refl, ap, ◌∙◌}
-use Rattle.std.proofs.lemmas.Bool.{false≢true, and_parts, and_from}
-use Rattle.std.proofs.lemmas.Slice.Eq.{bytes_eq-Decides}
+use Rattle.std.proofs.{Common.{◌≡◌, true, List, [], ◌∷◌, refl, ap, ◌∙◌}, lemmas.Bool.{false≢true, and_parts, and_from}, lemmas.Slice.Eq.bytes_eq-Decides}
 use Rattle.sharc_tree.specs.declared.ctype.Base.{Base}
 use Rattle.sharc_tree.specs.declared.ctype.Base.TheVariants as base
 use Rattle.sharc_names.specs.Kinds.{same_base}

@@ -1,58 +1,20 @@
 -- What no thread reaches, and that private globals are named there alone.
-use Rattle.std.proofs.Common.{◌≡◌, ◌⊎◌, inl, inr, ⊎_elim, ℕ, zero, suc, ◌+◌, ◌<◌, ◌≤◌, Bool, true, false, cond, ◌&&◌, List, [], ◌∷◌, ◌++◌, length, slice_get, refl, ap, sym, ◌∙◌, subst, arith, Option, Some, None, IsSomeAnd, Contains}
-use Rattle.std.proofs.lemmas.Bool.{false≢true, and_parts}
-use Rattle.std.specs.Prelude.{slice_index_or}
-use Rattle.std.specs.List.{AllByRecursion}
-use Rattle.std.specs.Option.{option_or}
-use Rattle.sharc_tree.specs.declared.ctype.Base.{Base}
-use Rattle.sharc_tree.specs.declared.ctype.Mode.{Mode}
-use Rattle.sharc_tree.specs.declared.ctype.Mode.TheVariants.{Private, Readonly, Locked, Racy, Dynamic}
-use Rattle.sharc_tree.specs.declared.token.Span.{Span}
-use Rattle.sharc_tree.specs.declared.tree.declaration.Declaration.{Declaration}
-use Rattle.sharc_tree.specs.declared.tree.declaration.Identifier.{Identifier}
-use Rattle.sharc_tree.specs.declared.tree.declaration.WrittenType.{WrittenType}
-use Rattle.sharc_tree.specs.declared.tree.expression.Access.TheVariants.{Dot, Arrow}
-use Rattle.sharc_tree.specs.declared.tree.expression.UnaryOperator.TheVariants.{Negate, Not, Complement, Dereference}
-use Rattle.sharc_tree.specs.declared.tree.item.GlobalDefinition.{GlobalDefinition}
-use Rattle.sharc_tree.specs.Low.{LowItems}
-use Rattle.sharc_tree.specs.Measures.{expressions, in_function}
-use Rattle.sharc_tree.specs.Tree.{Expression, Function, Item, structure, global, function}
+use Rattle.std.proofs.{Common.{◌≡◌, ◌⊎◌, inl, inr, ⊎_elim, ℕ, zero, suc, ◌+◌, ◌<◌, ◌≤◌, Bool, true, false, cond, ◌&&◌, List, [], ◌∷◌, ◌++◌, length, slice_get, refl, ap, sym, ◌∙◌, subst, arith, Option, Some, None, IsSomeAnd, Contains}, lemmas.Bool.{false≢true, and_parts}}
+use Rattle.std.specs.{Prelude.slice_index_or, List.AllByRecursion, Option.option_or}
+use Rattle.sharc_tree.specs.{declared.ctype.Base.Base, declared.ctype.Mode.Mode, declared.ctype.Mode.TheVariants.{Private, Readonly, Locked, Racy, Dynamic}, declared.token.Span.Span, declared.tree.declaration.Declaration.Declaration, declared.tree.declaration.Identifier.Identifier, declared.tree.declaration.WrittenType.WrittenType, declared.tree.expression.Access.TheVariants.{Dot, Arrow}, declared.tree.expression.UnaryOperator.TheVariants.{Negate, Not, Complement, Dereference}, declared.tree.item.GlobalDefinition.GlobalDefinition, Low.LowItems, Measures.{expressions, in_function}, Tree.{Expression, Function, Item, structure, global, function}}
 use Rattle.sharc_tree.specs.Tree as tree
-use Rattle.sharc_names.specs.declared.fault.Named.{Named}
+use Rattle.sharc_names.specs.{declared.fault.Named.Named, Kinds.{Kind, is_array, declared_kind}}
 use Rattle.sharc_names.specs.declared.fault.Named.TheVariants as named
 use Rattle.sharc_names.specs.declared.types.Role.TheVariants as role
-use Rattle.sharc_names.specs.Kinds.{Kind, is_array, declared_kind}
-use Rattle.sharc_ctype.specs.declared.entity.Entity.{Entity}
-use Rattle.sharc_ctype.specs.declared.entity.Numbered.{Numbered}
-use Rattle.sharc_ctype.specs.Entities.{declared, entities_in, numbered, is_told_by, positions_of}
-use Rattle.sharc_ctype.specs.Reaches.{Names, Spawns, Runs, Leads, IsReached, tokens_of}
-use Rattle.sharc_ctype.specs.Resolved.{Resolution, named_at, global_at, function_at, declaration_at, globals_in, functions_in, structs_in, kind_at}
-use Rattle.sharc_ctype_laws.specs.Constraints.{HasType, Callee, of_program, of_conditions, a_variable, a_global, a_function, a_field}
-use Rattle.sharc_ctype_laws.specs.Declared.{IsItself}
-use Rattle.sharc_ctype_laws.specs.Found.{IsFound, EachTypeFound}
-use Rattle.sharc_ctype_laws.specs.Laws.{EachNamesItself, EachPathFound, MeetsConstraints}
-use Rattle.sharc_graph.specs.declared.graph.Finding.{Finding}
-use Rattle.sharc_graph.specs.Findings.{finding_at}
-use Rattle.sharc_mode.specs.Cells.{is_mutex_kind, is_behind_pointer, written_cell, top_of, field_cell, declared_cell, field_named, first_mode, global_cell, named_cell, pointed, cell_at}
-use Rattle.sharc_mode.specs.Flows.{IsFirst, Touches, IsRoot, mode_found}
-use Rattle.sharc_mode.specs.Laws.{LinkLaws}
-use Rattle.sharc_mode.specs.Moded.{Assignment, position_count}
-use Rattle.sharc_mode.specs.Rows.{row_at}
-use Rattle.sharc_mode.specs.Settled.{is_mutex, settled, settled_modes, settled_in, settled_at}
-use Rattle.sharc_mode.specs.Sharings.{Sharing, private, readonly, locked, racy, dynamic, lock_of, sharing_of, is_private, is_dynamic}
-use Rattle.sharc_mode_laws.specs.Laws.{RulesAreMet, ReachedAreTold}
-use Rattle.sharc_mode_laws.specs.Rules.{MeetsRules}
+use Rattle.sharc_ctype.specs.{declared.entity.Entity.Entity, declared.entity.Numbered.Numbered, Entities.{declared, entities_in, numbered, is_told_by, positions_of}, Reaches.{Names, Spawns, Runs, Leads, IsReached, tokens_of}, Resolved.{Resolution, named_at, global_at, function_at, declaration_at, globals_in, functions_in, structs_in, kind_at}}
+use Rattle.sharc_ctype_laws.specs.{Constraints.{HasType, Callee, of_program, of_conditions, a_variable, a_global, a_function, a_field}, Declared.IsItself, Found.{IsFound, EachTypeFound}, Laws.{EachNamesItself, EachPathFound, MeetsConstraints}}
+use Rattle.sharc_graph.specs.{declared.graph.Finding.Finding, Findings.finding_at}
+use Rattle.sharc_mode.specs.{Cells.{is_mutex_kind, is_behind_pointer, written_cell, top_of, field_cell, declared_cell, field_named, first_mode, global_cell, named_cell, pointed, cell_at}, Flows.{IsFirst, Touches, IsRoot, mode_found}, Laws.LinkLaws, Moded.{Assignment, position_count}, Rows.row_at, Settled.{is_mutex, settled, settled_modes, settled_in, settled_at}, Sharings.{Sharing, private, readonly, locked, racy, dynamic, lock_of, sharing_of, is_private, is_dynamic}}
+use Rattle.sharc_mode_laws.specs.{Laws.{RulesAreMet, ReachedAreTold}, Rules.MeetsRules}
 use Rattle.sharc_flat.specs.Places.{in_global, in_global_at, in_object_at, global_of, own_field, named_target, target}
-use Rattle.sharc_accepted_laws.specs.Alone.{IsInside, AreAlone, SomeAreAlone}
-use Rattle.sharc_accepted_laws.specs.StaticLaws.{IsAccepted}
-use Rattle.sharc_accepted_laws.proofs.Arrays.{IsNameOf, array_name}
-use Rattle.sharc_accepted_laws.proofs.Places.{InFile, FileKnown, FieldInFile, file_known, struct_fields, field_found, at_number, IfSome}
-use Rattle.sharc_accepted_laws.proofs.Tokens.{Named as IsAmong, names_among}
-use Rattle.sharc_accepted_laws.proofs.Written.{Position, position_there, found_there}
-use Rattle.sharc_accepted_laws.proofs.TargetLists.{place_there, of_each, head_or_tail, none_there}
-use Rattle.sharc_accepted_laws.proofs.AccessLists.{each}
-use Rattle.sharc_accepted_laws.proofs.Found.{front}
-use Rattle.sharc_accepted_laws.proofs.TypableRegisters.{none_some}
+use Rattle.sharc_accepted_laws.specs.{Alone.{IsInside, AreAlone, SomeAreAlone}, StaticLaws.IsAccepted}
+use Rattle.sharc_accepted_laws.proofs.{Arrays.{IsNameOf, array_name}, Places.{InFile, FileKnown, FieldInFile, file_known, struct_fields, field_found, at_number, IfSome}, Tokens.{Named as IsAmong, names_among}, Written.{Position, position_there, found_there}, TargetLists.place_there}
+use Rattle.sharc_lemmas.proofs.{Options.none_some, Lists.{front, each, head_or_tail, of_each}, Equal.none_there}
 
 -- ---- what is reached
 module _ (r : Resolution) where

@@ -1,39 +1,19 @@
 -- Arguments: what they are, where they go, and the registers that they take.
-use Rattle.std.proofs.Common.{◌≡◌, ℕ, zero, suc, ◌+◌, ◌<◌, Bool, true, false, cond, List, [], ◌∷◌, ◌++◌, map, drop, slice_get, refl, ap, sym, ◌∙◌, subst, arith, Some, Contains}
-use Rattle.std.proofs.lemmas.Bool.{false≢true}
+use Rattle.std.proofs.{Common.{◌≡◌, ℕ, zero, suc, ◌+◌, ◌<◌, Bool, true, false, cond, List, [], ◌∷◌, ◌++◌, map, drop, slice_get, refl, ap, sym, ◌∙◌, subst, arith, Some, Contains}, lemmas.Bool.false≢true}
 use Rattle.std.specs.List.{AllByRecursion}
-use Rattle.sharc_tree.specs.declared.tree.declaration.Declaration.{Declaration}
-use Rattle.sharc_tree.specs.Forms.{is_lvalue}
-use Rattle.sharc_tree.specs.Measures.{expressions, in_function}
-use Rattle.sharc_tree.specs.Tree.{Expression, Arguments, no_arguments, argument, value, Function}
+use Rattle.sharc_tree.specs.{declared.tree.declaration.Declaration.Declaration, Forms.is_lvalue, Measures.{expressions, in_function}, Tree.{Expression, Arguments, no_arguments, argument, value, Function}}
 use Rattle.sharc_names.specs.declared.fault.Named.TheVariants as named
 use Rattle.sharc_names.specs.Kinds.{Kind, is_pointer, declared_kind, declared_kinds}
-use Rattle.sharc_ctype.specs.Resolved.{Resolution, functions_in, function_at, declaration_at, variable_kind, kind_at}
-use Rattle.sharc_ctype.specs.Statements.{locals_in_all}
-use Rattle.sharc_ctype.specs.Transfers.{Transfer, variable, passed}
-use Rattle.sharc_ctype_laws.specs.Constraints.{HasType, HaveTypes, one_more, Assignable}
-use Rattle.sharc_ctype_laws.specs.Declared.{IsItself}
-use Rattle.sharc_ctype_laws.specs.Laws.{EachNamesItself}
+use Rattle.sharc_ctype.specs.{Resolved.{Resolution, functions_in, function_at, declaration_at, variable_kind, kind_at}, Statements.locals_in_all, Transfers.{Transfer, variable, passed}}
+use Rattle.sharc_ctype_laws.specs.{Constraints.{HasType, HaveTypes, one_more, Assignable}, Declared.IsItself, Laws.EachNamesItself}
 use Rattle.sharc_mode.specs.Moded.{Assignment}
 use Rattle.sharc_mode_laws.specs.Constructs.{IsFunction, IsCall}
-use Rattle.sharc_flat.specs.Flattened.{kind_of, is_ref, behind_int, behind_ref}
-use Rattle.sharc_flat.specs.Places.{width_of}
-use Rattle.sharc_flat.specs.Scope.{Context, slot_of, int_count, ref_count}
-use Rattle.sharc_flat.specs.Suits.{IsScalar, Passes, Suits, ArgumentsSuit}
-use Rattle.sharc_invariant.specs.Types.{StaticType}
-use Rattle.sharc_invariant.specs.Labels.{Within, Label}
-use Rattle.sharc_typed_laws.specs.Stretches.{Setting}
-use Rattle.sharc_typed_laws.specs.Typable.{ArgumentAt, ArgumentsAt, refs_behind, Goes}
-use Rattle.sharc_accepted_laws.specs.Typed.{IsOf}
-use Rattle.sharc_accepted_laws.specs.Calls.{argument_type, AreStanding, ArgumentsFit}
-use Rattle.sharc_accepted_laws.specs.StaticLaws.{IsAccepted}
-use Rattle.sharc_accepted_laws.specs.Standing.{ExpressionStands, ExpressionsStand}
-use Rattle.sharc_accepted_laws.specs.Calling.{type_for}
-use Rattle.sharc_accepted_laws.specs.Typing.{integers, width_named, typing}
+use Rattle.sharc_flat.specs.{Flattened.{kind_of, is_ref, behind_int, behind_ref}, Places.width_of, Scope.{Context, slot_of, int_count, ref_count}, Suits.{IsScalar, Passes, Suits, ArgumentsSuit}}
+use Rattle.sharc_invariant.specs.{Types.StaticType, Labels.{Within, Label}}
+use Rattle.sharc_typed_laws.specs.{Stretches.Setting, Typable.{ArgumentAt, ArgumentsAt, refs_behind, Goes}}
+use Rattle.sharc_accepted_laws.specs.{Typed.IsOf, Calls.{argument_type, AreStanding, ArgumentsFit}, StaticLaws.IsAccepted, Standing.{ExpressionStands, ExpressionsStand}, Calling.type_for, Typing.{integers, width_named, typing}}
 use Rattle.sharc_accepted_laws.proofs.Forms.{pointer_no_integer, to_integer}
-use Rattle.sharc_accepted_laws.proofs.TargetLists.{of_each, tail_there, head_there}
-use Rattle.sharc_accepted_laws.proofs.AccessLists.{each}
-use Rattle.sharc_accepted_laws.proofs.Found.{front, back}
+use Rattle.sharc_lemmas.proofs.Lists.{front, back, each, head_there, of_each, tail_there}
 
 -- ---- parts of an expression
 module _ (c : Context) (n : ℕ) (g : Function) where

@@ -1,62 +1,21 @@
 -- Assignments, and calls whose value is dropped.
-use Rattle.std.proofs.Common.{◌≡◌, ℕ, ◌<◌, Bool, true, false, cond, List, length, refl, ap, sym, ◌∙◌, subst, option_map, Option, Some, None, Contains}
-use Rattle.std.proofs.lemmas.Bool.{false≢true}
+use Rattle.std.proofs.{Common.{◌≡◌, ℕ, ◌<◌, Bool, true, false, cond, List, length, refl, ap, sym, ◌∙◌, subst, option_map, Option, Some, None, Contains}, lemmas.Bool.false≢true}
 use Rattle.std.specs.List.{AllByRecursion, flat_map}
-use Rattle.sharc_tree.specs.declared.token.Span.{Span}
-use Rattle.sharc_tree.specs.declared.tree.declaration.WrittenType.{WrittenType}
-use Rattle.sharc_tree.specs.Forms.{is_lvalue, without_parentheses}
-use Rattle.sharc_tree.specs.Low.{is_call, LowSimple}
-use Rattle.sharc_tree.specs.Measures.{expressions, in_option, in_right, in_simple, in_function}
-use Rattle.sharc_tree.specs.Tree.{Expression, Right, value, malloc, Simple, assign, does_call, Function}
+use Rattle.sharc_tree.specs.{declared.token.Span.Span, declared.tree.declaration.WrittenType.WrittenType, Forms.{is_lvalue, without_parentheses}, Low.{is_call, LowSimple}, Measures.{expressions, in_option, in_right, in_simple, in_function}, Tree.{Expression, Right, value, malloc, Simple, assign, does_call, Function}}
 use Rattle.sharc_tree.specs.Tree as tree
 use Rattle.sharc_names.specs.Kinds.{Kind, is_integer, is_pointer, same_kind, declared_kind}
-use Rattle.sharc_code.specs.declared.instr.Register.{Register}
-use Rattle.sharc_code.specs.declared.instr.Register.TheVariants.{Int, Reference}
-use Rattle.sharc_code.proofs.Places.{eq_refl}
-use Rattle.sharc_ctype.specs.Resolved.{Resolution, functions_in}
-use Rattle.sharc_ctype.specs.Statements.{made}
-use Rattle.sharc_ctype.specs.Transfers.{Receiver, lvalue as to_lvalue, Transfer, Agrees, function_transfers}
+use Rattle.sharc_code.specs.{declared.instr.Register.Register, declared.instr.Register.TheVariants.{Int, Reference}}
+use Rattle.sharc_ctype.specs.{Resolved.{Resolution, functions_in}, Statements.made, Transfers.{Receiver, lvalue as to_lvalue, Transfer, Agrees, function_transfers}}
 use Rattle.sharc_ctype_laws.specs.Rules.{IsHeld, MeetsSimple}
-use Rattle.sharc_meaning.specs.Cells.{element_cells}
-use Rattle.sharc_meaning.specs.References.{is_pointer_in, made_at, types_made}
-use Rattle.sharc_meaning.specs.State.{is_reference}
-use Rattle.sharc_mode.specs.Cells.{cell_at, pointed}
-use Rattle.sharc_mode.specs.Moded.{Assignment}
-use Rattle.sharc_mode.specs.Notes.{base_of}
-use Rattle.sharc_mode.specs.Rows.{Targets as ModeTargets, row_at, modes_of, modes_at}
-use Rattle.sharc_mode.specs.Sharings.{Sharing}
+use Rattle.sharc_meaning.specs.{Cells.element_cells, References.{is_pointer_in, made_at, types_made}, State.is_reference}
+use Rattle.sharc_mode.specs.{Cells.{cell_at, pointed}, Moded.Assignment, Notes.base_of, Rows.{Targets as ModeTargets, row_at, modes_of, modes_at}, Sharings.Sharing}
 use Rattle.sharc_mode_laws.specs.Constructs.{IsExpression, IsAssigned}
-use Rattle.sharc_flat.specs.Flattened.{kind_of, is_ref, target_of}
-use Rattle.sharc_flat.specs.Places.{Target, variable, in_global, in_global_at, in_object, in_object_at, width_of}
-use Rattle.sharc_flat.specs.Scope.{Context, slot_kind, register_of, number_in}
-use Rattle.sharc_flat.specs.Suits.{PlaceSuits, LeftSuits, RightSuits, SimpleSuits, CountSuits, IfThere, is_cell}
-use Rattle.sharc_invariant.specs.Types.{Targets, StaticType, cells_of}
-use Rattle.sharc_invariant.specs.Labels.{Refers}
-use Rattle.sharc_typed_laws.specs.Lines.{PointersMadeAt}
-use Rattle.sharc_typed_laws.specs.Stretches.{Setting}
-use Rattle.sharc_typed_laws.specs.Typable.{GoesTo, type_by, IsTypeIn, IsTypable, VariableTyped}
-use Rattle.sharc_typed_laws.specs.Stated.{IsMade, CountTypable, ValueGoes, RightTypable, VariableAssigned, CellAssigned, Assigned, Dropped, SimpleTypable}
-use Rattle.sharc_accepted_laws.specs.Held.{HeldLaws, held_at}
-use Rattle.sharc_accepted_laws.specs.StaticLaws.{GivenLaws}
-use Rattle.sharc_accepted_laws.specs.Scopes.{ScopeLaws, AllStand}
-use Rattle.sharc_accepted_laws.specs.Standing.{ExpressionStands, ExpressionsStand}
-use Rattle.sharc_accepted_laws.specs.Static.{static_of, entry_by, entry_of}
-use Rattle.sharc_accepted_laws.specs.TargetLaws.{IsRowOf, NumbersFound, ExpressionsFound}
-use Rattle.sharc_accepted_laws.specs.Pointees.{pointee, PointeesFit}
-use Rattle.sharc_accepted_laws.specs.Pointers.{PointeesPoint}
-use Rattle.sharc_accepted_laws.specs.Shapes.{row_shape}
-use Rattle.sharc_accepted_laws.specs.Targets.{targets_of}
-use Rattle.sharc_accepted_laws.specs.TypableLaws.{IsAt, ValueLaws}
-use Rattle.sharc_accepted_laws.specs.Typing.{typing}
-use Rattle.sharc_accepted_laws.specs.Statements.{IsPlaceIn, IsThere, AreExpressionsTypable}
-use Rattle.sharc_accepted_laws.proofs.Mallocs.{one_made}
-use Rattle.sharc_accepted_laws.proofs.Members.{filter_there, first_of, flat_there}
-use Rattle.sharc_accepted_laws.proofs.Sorts.{integer_is, reference_no_integer, integer_want, held_pointer, held_integer, no_function_held, made_pointer, made_element, element_some}
-use Rattle.sharc_accepted_laws.proofs.Wholes.{Facts, IsName, variable_named}
-use Rattle.sharc_accepted_laws.proofs.TargetLists.{place_there}
-use Rattle.sharc_accepted_laws.proofs.AccessLists.{each}
-use Rattle.sharc_accepted_laws.proofs.Found.{front, back}
-use Rattle.sharc_accepted_laws.proofs.AccessFirsts.{no_entry}
+use Rattle.sharc_flat.specs.{Flattened.{kind_of, is_ref, target_of}, Places.{Target, variable, in_global, in_global_at, in_object, in_object_at, width_of}, Scope.{Context, slot_kind, register_of, number_in}, Suits.{PlaceSuits, LeftSuits, RightSuits, SimpleSuits, CountSuits, IfThere, is_cell}}
+use Rattle.sharc_invariant.specs.{Types.{Targets, StaticType, cells_of}, Labels.Refers}
+use Rattle.sharc_typed_laws.specs.{Lines.PointersMadeAt, Stretches.Setting, Typable.{GoesTo, type_by, IsTypeIn, IsTypable, VariableTyped}, Stated.{IsMade, CountTypable, ValueGoes, RightTypable, VariableAssigned, CellAssigned, Assigned, Dropped, SimpleTypable}}
+use Rattle.sharc_accepted_laws.specs.{Held.{HeldLaws, held_at}, StaticLaws.GivenLaws, Scopes.{ScopeLaws, AllStand}, Standing.{ExpressionStands, ExpressionsStand}, Static.{static_of, entry_by, entry_of}, TargetLaws.{IsRowOf, NumbersFound, ExpressionsFound}, Pointees.{pointee, PointeesFit}, Pointers.PointeesPoint, Shapes.row_shape, Targets.targets_of, TypableLaws.{IsAt, ValueLaws}, Typing.typing, Statements.{IsPlaceIn, IsThere, AreExpressionsTypable}}
+use Rattle.sharc_accepted_laws.proofs.{Mallocs.one_made, Members.{filter_there, first_of, flat_there}, Sorts.{integer_is, reference_no_integer, integer_want, held_pointer, held_integer, no_function_held, made_pointer, made_element, element_some}, Wholes.{Facts, IsName, variable_named}, TargetLists.place_there, AccessFirsts.no_entry}
+use Rattle.sharc_lemmas.proofs.{Lists.{front, back, each}, Numbers.eq_refl}
 
 -- a call is no lvalue
 call_is : (e : Expression) → is_call e ≡ true → is_lvalue e ≡ false

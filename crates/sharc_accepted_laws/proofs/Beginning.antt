@@ -1,36 +1,20 @@
 -- What the cells of globals hold at first is a value of their content.
-use Rattle.std.proofs.Common.{◌≡◌, inl, inr, ℕ, zero, suc, ℤ, pos, negsuc, ◌-◌, ◌*◌, ◌^◌, ◌<◌, ◌≤◌, Bool, true, false, cond, List, [], ◌∷◌, ◌++◌, length, take, replicate, slice_index_or, refl, ap, sym, ◌∙◌, subst, arith, Some, to_z-of_z}
-use Rattle.std.proofs.lemmas.Bool.{lt-ltb, false≢true}
-use Rattle.std.specs.Int.{w64}
-use Rattle.std.specs.List.{AllByRecursion}
-use Rattle.std.specs.Prelude.{FitsSigned, neg_ℤ, slice_index}
-use Rattle.sharc_tree.specs.declared.ctype.Base.{Base}
+use Rattle.std.proofs.{Common.{◌≡◌, inl, inr, ℕ, zero, suc, ℤ, pos, negsuc, ◌-◌, ◌*◌, ◌^◌, ◌<◌, ◌≤◌, Bool, true, false, cond, List, [], ◌∷◌, ◌++◌, length, take, replicate, slice_index_or, refl, ap, sym, ◌∙◌, subst, arith, Some, to_z-of_z}, lemmas.Bool.{lt-ltb, false≢true}}
+use Rattle.std.specs.{Int.w64, List.AllByRecursion, Prelude.{FitsSigned, neg_ℤ, slice_index}}
+use Rattle.sharc_tree.specs.{declared.ctype.Base.Base, declared.tree.expression.Constant.Constant, declared.tree.expression.Constant.TheVariants.{Number, Character, Null}, declared.tree.item.GlobalDefinition.GlobalDefinition, declared.tree.item.GlobalForm.GlobalForm}
 use Rattle.sharc_tree.specs.declared.ctype.Base.TheVariants as base
-use Rattle.sharc_tree.specs.declared.tree.expression.Constant.{Constant}
-use Rattle.sharc_tree.specs.declared.tree.expression.Constant.TheVariants.{Number, Character, Null}
-use Rattle.sharc_tree.specs.declared.tree.item.GlobalDefinition.{GlobalDefinition}
-use Rattle.sharc_tree.specs.declared.tree.item.GlobalForm.{GlobalForm}
 use Rattle.sharc_tree.specs.declared.tree.item.GlobalForm.TheVariants as form
 use Rattle.sharc_names.specs.Kinds.{object, is_pointer, is_integral, declared_kind}
-use Rattle.sharc_code.specs.declared.instr.Width.TheVariants.{Char, Int, Long}
-use Rattle.sharc_code.specs.Arithmetic.{word_of, holds}
-use Rattle.sharc_ctype.specs.Globals.{elements_of}
-use Rattle.sharc_ctype.specs.Resolved.{Resolution, globals_in}
-use Rattle.sharc_ctype_laws.specs.Constraints.{IsInteger}
-use Rattle.sharc_ctype_laws.specs.Initials.{IsHeldBy, MeetsInitial, MeetsGlobal, number_of}
-use Rattle.sharc_ctype_laws.specs.Laws.{MeetsGlobals}
-use Rattle.sharc_meaning.specs.Reference.{constant_value}
-use Rattle.sharc_meaning.specs.Store.{form_value}
+use Rattle.sharc_code.specs.{declared.instr.Width.TheVariants.{Char, Int, Long}, Arithmetic.{word_of, holds}}
+use Rattle.sharc_ctype.specs.{Globals.elements_of, Resolved.{Resolution, globals_in}}
+use Rattle.sharc_ctype_laws.specs.{Constraints.IsInteger, Initials.{IsHeldBy, MeetsInitial, MeetsGlobal, number_of}, Laws.MeetsGlobals}
+use Rattle.sharc_meaning.specs.{Reference.constant_value, Store.form_value}
 use Rattle.sharc_mode.specs.Moded.{Assignment}
-use Rattle.sharc_flat.specs.Places.{base_as_width}
-use Rattle.sharc_flat.specs.Tables.{cells_in, granules_in, first_words, all_first_words}
-use Rattle.sharc_invariant.specs.Types.{FieldMode, Content, Integer, MutexWord, Waiters, Pointer, Field, no_field}
-use Rattle.sharc_invariant.specs.Typed.{Initial}
-use Rattle.sharc_accepted_laws.specs.TargetLaws.{IsCounted, CountedForm, GlobalsBegin}
-use Rattle.sharc_accepted_laws.specs.Targets.{declared_content, base_fields, top_mode, global_element, repeated, global_fields, all_global_fields}
+use Rattle.sharc_flat.specs.{Places.base_as_width, Tables.{cells_in, granules_in, first_words, all_first_words}}
+use Rattle.sharc_invariant.specs.{Types.{FieldMode, Content, Integer, MutexWord, Waiters, Pointer, Field, no_field}, Typed.Initial}
+use Rattle.sharc_accepted_laws.specs.{TargetLaws.{IsCounted, CountedForm, GlobalsBegin}, Targets.{declared_content, base_fields, top_mode, global_element, repeated, global_fields, all_global_fields}}
 use Rattle.sharc_accepted_laws.proofs.Laying.{global_count}
-use Rattle.sharc_accepted_laws.proofs.TargetLists.{same_some}
-use Rattle.sharc_accepted_laws.proofs.TypableRegisters.{none_some}
+use Rattle.sharc_lemmas.proofs.Options.{same_some, none_some}
 
 abbrev Starts : List Field → List ℕ → Type 0
 Starts fields words = (j : ℕ) → Initial (slice_index_or fields j no_field).holds (slice_index words j)

@@ -1,40 +1,19 @@
 -- Variables of blocks.
 use Rattle.std.proofs.Common.{◌≡◌, ℕ, Bool, true, false, [], ◌∷◌, refl, ap, sym, ◌∙◌, subst, Option, Some, None, IfSome, Contains}
 use Rattle.std.specs.List.{AllByRecursion}
-use Rattle.sharc_tree.specs.declared.tree.declaration.Declaration.{Declaration}
-use Rattle.sharc_tree.specs.Measures.{in_option, in_right, in_local, in_function}
-use Rattle.sharc_tree.specs.Tree.{Right, Local, Function}
+use Rattle.sharc_tree.specs.{declared.tree.declaration.Declaration.Declaration, Measures.{in_option, in_right, in_local, in_function}, Tree.{Right, Local, Function}}
 use Rattle.sharc_names.specs.declared.fault.Named.TheVariants as named
 use Rattle.sharc_names.specs.Kinds.{Kind, is_pointer, declared_kind}
-use Rattle.sharc_ctype.specs.Resolved.{declaration_at, variable_kind}
-use Rattle.sharc_ctype.specs.Transfers.{variable, Agrees, function_transfers}
+use Rattle.sharc_ctype.specs.{Resolved.{declaration_at, variable_kind}, Transfers.{variable, Agrees, function_transfers}}
 use Rattle.sharc_ctype_laws.specs.Declared.{IsItself}
-use Rattle.sharc_meaning.specs.Cells.{element_cells}
-use Rattle.sharc_meaning.specs.State.{is_reference}
-use Rattle.sharc_mode.specs.Cells.{pointed}
-use Rattle.sharc_mode.specs.Moded.{Assignment}
-use Rattle.sharc_mode.specs.Rows.{written, declared_row, modes_of}
+use Rattle.sharc_meaning.specs.{Cells.element_cells, State.is_reference}
+use Rattle.sharc_mode.specs.{Cells.pointed, Moded.Assignment, Rows.{written, declared_row, modes_of}}
 use Rattle.sharc_mode_laws.specs.Constructs.{locals_in_all}
-use Rattle.sharc_flat.specs.Flattened.{with_variable}
-use Rattle.sharc_flat.specs.Places.{width_of}
-use Rattle.sharc_flat.specs.Scope.{Context, slot_of}
-use Rattle.sharc_flat.specs.Suits.{InitialSuits}
+use Rattle.sharc_flat.specs.{Flattened.with_variable, Places.width_of, Scope.{Context, slot_of}, Suits.InitialSuits}
 use Rattle.sharc_invariant.specs.Types.{StaticType}
-use Rattle.sharc_typed_laws.specs.Stretches.{Setting}
-use Rattle.sharc_typed_laws.specs.Typable.{type_by, IsTypeIn}
-use Rattle.sharc_typed_laws.specs.Stated.{IsMade}
-use Rattle.sharc_typed_laws.specs.Declared.{Keeps, Begins, InitialTypable}
-use Rattle.sharc_typed_laws.specs.Statements.{DeclaredTypable}
-use Rattle.sharc_accepted_laws.specs.Held.{held_named}
-use Rattle.sharc_accepted_laws.specs.Standing.{ExpressionStands, LocalStands}
-use Rattle.sharc_accepted_laws.specs.Static.{static_of, variable_type, entry_named}
-use Rattle.sharc_accepted_laws.specs.TargetLaws.{VariablesFound}
-use Rattle.sharc_accepted_laws.specs.Typing.{typing, width_named}
-use Rattle.sharc_accepted_laws.specs.Statements.{IsPlaceIn, AreExpressionsTypable}
-use Rattle.sharc_accepted_laws.proofs.Assigned.{Laws, function_there, made_there, made_is, right_is, Gives}
-use Rattle.sharc_accepted_laws.proofs.Fresh.{LocalFresh}
-use Rattle.sharc_accepted_laws.proofs.Slots.{pointer_kept, pointer_last, ref_more, integer_kept, integer_last, int_more}
-use Rattle.sharc_accepted_laws.proofs.Sorts.{declared_pointer}
+use Rattle.sharc_typed_laws.specs.{Stretches.Setting, Typable.{type_by, IsTypeIn}, Stated.IsMade, Declared.{Keeps, Begins, InitialTypable}, Statements.DeclaredTypable}
+use Rattle.sharc_accepted_laws.specs.{Held.held_named, Standing.{ExpressionStands, LocalStands}, Static.{static_of, variable_type, entry_named}, TargetLaws.VariablesFound, Typing.{typing, width_named}, Statements.{IsPlaceIn, AreExpressionsTypable}}
+use Rattle.sharc_accepted_laws.proofs.{Assigned.{Laws, function_there, made_there, made_is, right_is, Gives}, Fresh.LocalFresh, Slots.{pointer_kept, pointer_last, ref_more, integer_kept, integer_last, int_more}, Sorts.declared_pointer}
 
 -- what a variable begins with agrees with it, and is among what the function gives
 abbrev pub IsBegun : Assignment → Function → Declaration → Right → Type 0

@@ -1,58 +1,22 @@
 -- What a field is locked by in its element: a mutex, or a readonly pointer to one.
-use Rattle.std.proofs.Common.{◌≡◌, ⊎_elim, ℕ, zero, suc, ◌+◌, ◌<◌, Bool, true, false, ◌&&◌, cond, List, [], ◌∷◌, length, map, slice_index_or, refl, ap, sym, ◌∙◌, subst, arith, Option, Some, None, Contains, bytes_eq}
-use Rattle.std.proofs.lemmas.Bool.{cases_lt}
-use Rattle.std.specs.Prelude.{slice_get, is_none}
-use Rattle.sharc_tree.specs.declared.ctype.Base.{Base}
+use Rattle.std.proofs.{Common.{◌≡◌, ⊎_elim, ℕ, zero, suc, ◌+◌, ◌<◌, Bool, true, false, ◌&&◌, cond, List, [], ◌∷◌, length, map, slice_index_or, refl, ap, sym, ◌∙◌, subst, arith, Option, Some, None, Contains, bytes_eq}, lemmas.Bool.cases_lt}
+use Rattle.std.specs.{Prelude.{slice_get, is_none}, List.AllByRecursion}
+use Rattle.sharc_tree.specs.{declared.ctype.Base.Base, declared.ctype.Mode.Mode, declared.ctype.Path.Path, declared.ctype.Path.TheVariants.One, declared.tree.declaration.Declaration.Declaration, declared.tree.declaration.WrittenType.WrittenType, declared.tree.item.GlobalDefinition.GlobalDefinition, declared.tree.item.StructDefinition.StructDefinition, Low.IsLow}
 use Rattle.sharc_tree.specs.declared.ctype.Base.TheVariants as base
-use Rattle.sharc_tree.specs.declared.ctype.Mode.{Mode}
 use Rattle.sharc_tree.specs.declared.ctype.Mode.TheVariants as mode
-use Rattle.sharc_tree.specs.declared.ctype.Path.{Path}
-use Rattle.sharc_tree.specs.declared.ctype.Path.TheVariants.{One}
-use Rattle.sharc_tree.specs.declared.tree.declaration.Declaration.{Declaration}
-use Rattle.sharc_tree.specs.declared.tree.declaration.WrittenType.{WrittenType}
-use Rattle.sharc_tree.specs.declared.tree.item.GlobalDefinition.{GlobalDefinition}
-use Rattle.sharc_tree.specs.declared.tree.item.StructDefinition.{StructDefinition}
-use Rattle.sharc_tree.specs.Low.{IsLow}
 use Rattle.sharc_names.specs.declared.fault.Named.TheVariants as named
 use Rattle.sharc_names.specs.declared.types.Role.TheVariants as role
 use Rattle.sharc_names.specs.Kinds.{object, is_pointer, declared_kind, mutex}
-use Rattle.sharc_ctype.specs.declared.entity.Entity.{Entity}
-use Rattle.sharc_ctype.specs.Entities.{entity_at}
-use Rattle.sharc_ctype.specs.Resolved.{Resolution, named_at, named_kind, variable_kind, declaration_at, structs_in, globals_in}
-use Rattle.sharc_ctype_laws.specs.Declared.{IsItself}
-use Rattle.sharc_ctype_laws.specs.Found.{EachTypeFound}
-use Rattle.sharc_ctype_laws.specs.Laws.{EachNameOnce, OnlyNames, EachNamesItself}
-use Rattle.sharc_mode_laws.specs.Laws.{RulesAreMet}
-use Rattle.std.specs.List.{AllByRecursion}
+use Rattle.sharc_ctype.specs.{declared.entity.Entity.Entity, Entities.entity_at, Resolved.{Resolution, named_at, named_kind, variable_kind, declaration_at, structs_in, globals_in}}
+use Rattle.sharc_ctype_laws.specs.{Declared.IsItself, Found.EachTypeFound, Laws.{EachNameOnce, OnlyNames, EachNamesItself}}
+use Rattle.sharc_mode_laws.specs.{Laws.RulesAreMet, Paths.{IsAllowed, global_mutex, sibling_mutex, sibling_pointer, through_constant}}
 use Rattle.sharc_meaning.specs.Cells.{field_place, field_place_named}
-use Rattle.sharc_mode.specs.Cells.{is_mutex_kind, is_behind_pointer, top_of, first_mode}
-use Rattle.sharc_mode.specs.Moded.{Assignment}
-use Rattle.sharc_mode.specs.Rows.{written, declared_row, modes_of}
-use Rattle.sharc_mode.specs.Notes.{base_of}
-use Rattle.sharc_mode.specs.WellFormed.{place_of}
+use Rattle.sharc_mode.specs.{Cells.{is_mutex_kind, is_behind_pointer, top_of, first_mode}, Moded.Assignment, Rows.{written, declared_row, modes_of}, Notes.base_of, WellFormed.place_of, Sharings.{Lock, Sharing, private, readonly, locked, racy, dynamic, lock_of, is_field}}
 use Rattle.sharc_mode.specs.declared.place.Place.TheVariants as place
-use Rattle.sharc_mode.specs.Sharings.{Lock, Sharing, private, readonly, locked, racy, dynamic, lock_of, is_field}
-use Rattle.sharc_mode_laws.specs.Paths.{IsAllowed, global_mutex, sibling_mutex, sibling_pointer, through_constant}
-use Rattle.sharc_invariant.specs.Types.{OfType, OfGlobals, OfElement, FieldMode, Under, MutexWord, Pointer, Field, Target, no_field, row_of}
-use Rattle.sharc_invariant.specs.Types.{FieldMode as field}
-use Rattle.sharc_invariant.specs.Typed.{PointsToMutex}
-use Rattle.sharc_accepted_laws.specs.Beside.{BesideFits, AreLockedBeside, LocksStandBeside}
-use Rattle.sharc_accepted_laws.specs.Shapes.{Form, private_form, readonly_form, locked_form, racy_form, dynamic_form, form_of, stars_in, number}
-use Rattle.sharc_accepted_laws.specs.TargetLaws.{IsRowOf}
-use Rattle.sharc_accepted_laws.specs.Pointees.{pointee, PointeeFits}
-use Rattle.sharc_accepted_laws.specs.Targets.{lock_named, field_lock, field_locks, own_mode, global_mode, is_private_mode, locked_mode, written_mode, field_mode, base_content, pointer_content, declared_content, single, member, members, struct_fields, base_fields, lock_count, type_locks, shape_fields, top_mode, global_element, targets_of}
-use Rattle.sharc_accepted_laws.proofs.TargetCells.{member_count}
-use Rattle.sharc_accepted_laws.proofs.Expressing.{variable_row}
-use Rattle.sharc_accepted_laws.proofs.Freeing.{past_end}
-use Rattle.sharc_accepted_laws.proofs.Moding.{not_field, not_pointer}
-use Rattle.sharc_accepted_laws.proofs.Pointees.{pointees_fit, many_modes}
-use Rattle.sharc_accepted_laws.proofs.Ready.{global_lock}
-use Rattle.sharc_accepted_laws.proofs.Whole.{known as known_of}
-use Rattle.sharc_accepted_laws.proofs.Found.{field_found}
-use Rattle.sharc_accepted_laws.proofs.TargetLists.{head_there, tail_there, of_each, place_there, place_of_element, same_some}
-use Rattle.sharc_accepted_laws.proofs.TargetMembers.{members_at, some_there, below_there, top_written, field_readonly}
-use Rattle.sharc_accepted_laws.proofs.Numbers.{numbers_found}
-use Rattle.sharc_accepted_laws.proofs.Rows.{IsKnown, top_there}
+use Rattle.sharc_invariant.specs.{Types.{OfType, OfGlobals, OfElement, FieldMode, Under, MutexWord, Pointer, Field, Target, no_field, row_of, FieldMode as field}, Typed.PointsToMutex}
+use Rattle.sharc_accepted_laws.specs.{Beside.{BesideFits, AreLockedBeside, LocksStandBeside}, Shapes.{Form, private_form, readonly_form, locked_form, racy_form, dynamic_form, form_of, stars_in, number}, TargetLaws.IsRowOf, Pointees.{pointee, PointeeFits}, Targets.{lock_named, field_lock, field_locks, own_mode, global_mode, is_private_mode, locked_mode, written_mode, field_mode, base_content, pointer_content, declared_content, single, member, members, struct_fields, base_fields, lock_count, type_locks, shape_fields, top_mode, global_element, targets_of}}
+use Rattle.sharc_accepted_laws.proofs.{TargetCells.member_count, Expressing.variable_row, Freeing.past_end, Moding.{not_field, not_pointer}, Pointees.{pointees_fit, many_modes}, Ready.global_lock, Whole.{known as known_of}, Found.field_found, TargetLists.place_there, TargetMembers.{members_at, below_there, top_written, field_readonly}, Numbers.numbers_found, Rows.{IsKnown, top_there}}
+use Rattle.sharc_lemmas.proofs.{Options.same_some, Lists.{head_there, place_of_element, some_there, of_each, tail_there}}
 
 -- ---- modes that name what is beside
 -- an element's own mode names nothing beside it

@@ -1,38 +1,16 @@
 -- What is called that the program does not define: nothing, where it defines `struct cond`.
 use Rattle.std.proofs.Common.{◌≡◌, ℕ, ◌||◌, Bool, true, false, cond, List, [], ◌∷◌, ◌++◌, refl, ap, sym, ◌∙◌, subst, bytes_eq, length, Option, Some, None, is_some, codes}
 use Rattle.std.specs.List.{AllByRecursion}
-use Rattle.sharc_tree.specs.declared.tree.declaration.Declaration.{Declaration}
-use Rattle.sharc_tree.specs.declared.tree.item.StructDefinition.{StructDefinition}
-use Rattle.sharc_tree.specs.Measures.{expressions, in_arguments, in_option, in_right, in_simple, in_local, in_first, in_head as inside_head, in_statement, in_statements, in_function}
-use Rattle.sharc_tree.specs.Tree.{Expression, Arguments, no_arguments, argument, Right, value, malloc, Simple, assign, does_call, Local, First, nothing, declares, does, Head, Statement, Statements, no_statements, statement, Function}
+use Rattle.sharc_tree.specs.{declared.tree.declaration.Declaration.Declaration, declared.tree.item.StructDefinition.StructDefinition, Measures.{expressions, in_arguments, in_option, in_right, in_simple, in_local, in_first, in_head as inside_head, in_statement, in_statements, in_function}, Tree.{Expression, Arguments, no_arguments, argument, Right, value, malloc, Simple, assign, does_call, Local, First, nothing, declares, does, Head, Statement, Statements, no_statements, statement, Function}}
 use Rattle.sharc_tree.specs.Tree as tree
-use Rattle.sharc_names.specs.declared.fault.FaultCode.TheVariants.{BadForm}
+use Rattle.sharc_names.specs.{declared.fault.FaultCode.TheVariants.BadForm, declared.need.Need.TheVariants.Value, declared.scope.Scope.Scope, Kinds.{Kind, void, same_kind, declared_kind}, Names.{Entry, Meaning, look_up, named_of}, Needs.{met, unmet, unagreed}, Notes.{Note, fault_where}, Types.type_notes}
 use Rattle.sharc_names.specs.declared.fault.Named.TheVariants as named
-use Rattle.sharc_names.specs.declared.need.Need.TheVariants.{Value}
-use Rattle.sharc_names.specs.declared.scope.Scope.{Scope}
 use Rattle.sharc_names.specs.declared.types.Role.TheVariants as role
-use Rattle.sharc_names.specs.Kinds.{Kind, void, same_kind, declared_kind}
-use Rattle.sharc_names.specs.Names.{Entry, Meaning, look_up, named_of}
-use Rattle.sharc_names.specs.Needs.{met, unmet, unagreed}
-use Rattle.sharc_names.specs.Notes.{Note, fault_where}
-use Rattle.sharc_names.specs.Types.{type_notes}
-use Rattle.sharc_ctype.specs.declared.expr.Standing.{Standing}
-use Rattle.sharc_ctype.specs.declared.expr.Standing.TheVariants.{AsValue, AsLvalue}
-use Rattle.sharc_ctype.specs.Condition.{defines_condition, with_conditions}
-use Rattle.sharc_ctype.specs.Expressions.{type_of, callee_notes, place_notes, notes_at, notes_of_all}
-use Rattle.sharc_ctype.specs.Heads.{behind_all, no_heads}
-use Rattle.sharc_ctype.specs.Items.{parameters_notes, with_parameters, beyond, in_body, function_notes, file_scope}
-use Rattle.sharc_ctype.specs.Resolved.{Resolution, named_at, structs_in, functions_in}
-use Rattle.sharc_ctype.specs.Statements.{Around, opened, looping, with_names, is_here, declared, behind_first, in_head, after, count_notes, right_notes, simple_notes, initial_notes, test_notes, tests_notes, step_notes, local_notes, first_notes, head_notes, returned_as, return_notes, notes_in, notes_in_all, locals_in_all}
-use Rattle.sharc_ctype_laws.specs.Constraints.{struct_named}
-use Rattle.sharc_ctype_laws.specs.Laws.{EachNameOnce, OnlyNames}
+use Rattle.sharc_ctype.specs.{declared.expr.Standing.Standing, declared.expr.Standing.TheVariants.{AsValue, AsLvalue}, Condition.{defines_condition, with_conditions}, Expressions.{type_of, callee_notes, place_notes, notes_at, notes_of_all}, Heads.{behind_all, no_heads}, Items.{parameters_notes, with_parameters, beyond, in_body, function_notes, file_scope}, Resolved.{Resolution, named_at, structs_in, functions_in}, Statements.{Around, opened, looping, with_names, is_here, declared, behind_first, in_head, after, count_notes, right_notes, simple_notes, initial_notes, test_notes, tests_notes, step_notes, local_notes, first_notes, head_notes, returned_as, return_notes, notes_in, notes_in_all, locals_in_all}}
+use Rattle.sharc_ctype_laws.specs.{Constraints.struct_named, Laws.{EachNameOnce, OnlyNames}}
 use Rattle.sharc_accepted_laws.specs.Conditions.{KnownCalls}
-use Rattle.sharc_accepted_laws.proofs.FileNames.{in_heads}
-use Rattle.sharc_accepted_laws.proofs.Noted.{Says, AllSay, all_say, items_say, functions_say}
-use Rattle.sharc_accepted_laws.proofs.Structs.{first}
-use Rattle.sharc_accepted_laws.proofs.TargetLists.{of_each, both, same_some}
-use Rattle.sharc_accepted_laws.proofs.Found.{front, back}
-use Rattle.sharc_accepted_laws.proofs.TypableRegisters.{none_some}
+use Rattle.sharc_accepted_laws.proofs.{FileNames.in_heads, Noted.{Says, AllSay, all_say, items_say, functions_say}, Structs.first}
+use Rattle.sharc_lemmas.proofs.{Options.{same_some, none_some}, Lists.{front, back, both, of_each}}
 
 abbrev IsDefined : Meaning → Type 0
 IsDefined z = named_of z ≡ named.Known → ⊥

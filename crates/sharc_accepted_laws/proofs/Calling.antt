@@ -1,50 +1,26 @@
 -- Arguments go to parameters.
-use Rattle.std.proofs.Common.{◌≡◌, ℕ, zero, suc, ◌+◌, ◌<◌, ◌==◌, eqb-true, Bool, true, false, cond, List, [], ◌∷◌, ◌++◌, map, slice_get, refl, ap, sym, ◌∙◌, subst, arith, Some, None, Contains}
-use Rattle.std.proofs.lemmas.Bool.{false≢true}
+use Rattle.std.proofs.{Common.{◌≡◌, ℕ, zero, suc, ◌+◌, ◌<◌, ◌==◌, eqb-true, Bool, true, false, cond, List, [], ◌∷◌, ◌++◌, map, slice_get, refl, ap, sym, ◌∙◌, subst, arith, Some, None, Contains}, lemmas.Bool.false≢true}
 use Rattle.std.specs.List.{AllByRecursion}
-use Rattle.sharc_tree.specs.declared.tree.declaration.Declaration.{Declaration}
-use Rattle.sharc_tree.specs.Tree.{Expression, Arguments, no_arguments, argument, value, Function}
+use Rattle.sharc_tree.specs.{declared.tree.declaration.Declaration.Declaration, Tree.{Expression, Arguments, no_arguments, argument, value, Function}}
 use Rattle.sharc_tree.specs.Tree as tree
 use Rattle.sharc_names.specs.declared.fault.Named.TheVariants as named
 use Rattle.sharc_names.specs.Kinds.{is_pointer, declared_kind, declared_kinds}
 use Rattle.sharc_code.specs.declared.instr.Register.TheVariants.{Int, Reference}
-use Rattle.sharc_ctype.specs.Resolved.{Resolution, named_at, functions_in, declaration_at, variable_kind}
-use Rattle.sharc_ctype.specs.Statements.{locals_in_all}
-use Rattle.sharc_ctype.specs.Transfers.{variable, passed}
-use Rattle.sharc_ctype_laws.specs.Declared.{IsItself}
-use Rattle.sharc_ctype_laws.specs.Laws.{EachNamesItself}
-use Rattle.sharc_mode.specs.Rows.{is_constant_named, constant_use, argument_use}
-use Rattle.sharc_flat.specs.declared.slot.Slot.{Slot}
-use Rattle.sharc_flat.specs.Flattened.{is_ref, parameters_scope, behind_int, behind_ref}
-use Rattle.sharc_accepted_laws.specs.StaticLaws.{IsAccepted}
-use Rattle.sharc_flat.specs.Scope.{slot_kind, Context, slot_of, ref_count, register_from, register_of, number_in}
+use Rattle.sharc_ctype.specs.{Resolved.{Resolution, named_at, functions_in, declaration_at, variable_kind}, Statements.locals_in_all, Transfers.{variable, passed}}
+use Rattle.sharc_ctype_laws.specs.{Declared.IsItself, Laws.EachNamesItself}
+use Rattle.sharc_mode.specs.{Rows.{is_constant_named, constant_use, argument_use}, Cells.cell_at}
+use Rattle.sharc_flat.specs.{declared.slot.Slot.Slot, Flattened.{is_ref, parameters_scope, behind_int, behind_ref}, Scope.{slot_kind, Context, slot_of, ref_count, register_from, register_of, number_in}, Suits.{kind_in, NameSuits, Suits, ArgumentsSuit}}
+use Rattle.sharc_accepted_laws.specs.{StaticLaws.IsAccepted, Calls.{AreStanding, at_entry, argument_type, AreCopies, ArgumentsFit}, Held.{held_named, held_at}, Scopes.ScopeLaws, Static.{variable_type, pointers, entry_named}, Calling.{type_for, wants_of, CallsPass, ArgumentsStand, CallingLaws}, Typing.typing}
 use Rattle.sharc_mode_laws.specs.Constructs.{IsFunction}
-use Rattle.sharc_mode.specs.Cells.{cell_at}
-use Rattle.sharc_flat.specs.Suits.{kind_in, NameSuits, Suits, ArgumentsSuit}
-use Rattle.sharc_invariant.specs.Types.{StaticType}
-use Rattle.sharc_invariant.specs.Labels.{Refers, Label, HasCopy}
-use Rattle.sharc_invariant.specs.Typed.{Passes}
-use Rattle.sharc_typed_laws.specs.Stretches.{Setting}
-use Rattle.sharc_typed_laws.specs.Premises.{IsCopyIn, IsCopyNamed, IsCopyOf}
-use Rattle.sharc_typed_laws.specs.Typable.{ArgumentAt, ArgumentsAt}
-use Rattle.sharc_accepted_laws.specs.Calls.{AreStanding, at_entry, argument_type, AreCopies, ArgumentsFit}
-use Rattle.sharc_accepted_laws.specs.Held.{held_named, held_at}
-use Rattle.sharc_accepted_laws.specs.Scopes.{ScopeLaws}
-use Rattle.sharc_accepted_laws.specs.Static.{variable_type, pointers, entry_named}
-use Rattle.sharc_accepted_laws.specs.Calling.{type_for, wants_of, CallsPass, ArgumentsStand, CallingLaws}
-use Rattle.sharc_accepted_laws.specs.Typing.{typing}
-use Rattle.sharc_accepted_laws.proofs.TypableRegisters.{reference_found, none_some}
-use Rattle.sharc_accepted_laws.proofs.AccessLists.{each}
-use Rattle.sharc_accepted_laws.proofs.TargetLists.{tail_there, head_there, none_there, same_some}
+use Rattle.sharc_invariant.specs.{Types.StaticType, Labels.{Refers, Label, HasCopy}, Typed.Passes}
+use Rattle.sharc_typed_laws.specs.{Stretches.Setting, Premises.{IsCopyIn, IsCopyNamed, IsCopyOf}, Typable.{ArgumentAt, ArgumentsAt}}
+use Rattle.sharc_accepted_laws.proofs.TypableRegisters.{reference_found}
+use Rattle.sharc_lemmas.proofs.{Options.{same_some, none_some}, Lists.{front, each, head_there, tail_there}, Equal.none_there}
 
 pub of_each : {A : Type 0} (P : A → Type 0) (list : List A) (x : A) → AllByRecursion P list → Contains list x → P x
 of_each P [] x all has = absurd (none_there x has)
 of_each P (y ∷ rest) x all (zero, low, is) = subst P is all.0
 of_each P (y ∷ rest) x all (suc k, low, is) = of_each P rest x all.1 (k, omega (arith, low), is)
-
-front : {A : Type 0} (P : A → Type 0) (a b : List A) → AllByRecursion P (a ++ b) → AllByRecursion P a
-front P [] b h = tt
-front P (x ∷ rest) b h = (h.0, front P rest b h.1)
 
 pointer_low : (list : List Slot) (p : ℕ) → p < ref_count list → (x : ℕ) × (slice_get (pointers list) p ≡ Some x)
 pointer_low [] p low = absurd (omega (arith, low))

@@ -1,43 +1,21 @@
 -- Calls of the program's functions.
 use Rattle.std.proofs.Common.{◌≡◌, ℕ, zero, suc, ◌+◌, ◌≤◌, nat_lt, ltb-true, ltb-false, Bool, true, false, cond, List, [], ◌∷◌, ◌++◌, refl, ap, sym, ◌∙◌, subst, arith, Option, Some, None, IsSomeAnd, Contains}
-use Rattle.sharc_tree.specs.declared.token.Span.{Span}
-use Rattle.sharc_tree.specs.declared.tree.declaration.Identifier.{Identifier}
-use Rattle.sharc_tree.specs.Measures.{in_function}
-use Rattle.sharc_tree.specs.Tree.{Expression, Arguments, call, Function}
+use Rattle.sharc_tree.specs.{declared.token.Span.Span, declared.tree.declaration.Identifier.Identifier, Measures.in_function, Tree.{Expression, Arguments, call, Function}}
 use Rattle.sharc_names.specs.declared.fault.Named.TheVariants as named
 use Rattle.sharc_names.specs.Kinds.{is_integer, is_null, declared_kind, declared_kinds}
-use Rattle.sharc_code.specs.declared.code.Code.{Code}
-use Rattle.sharc_code.specs.declared.code.GlobalCells.{GlobalCells}
-use Rattle.sharc_code.specs.declared.instr.Width.{Width}
+use Rattle.sharc_code.specs.{declared.code.Code.Code, declared.code.GlobalCells.GlobalCells, declared.instr.Width.Width}
 use Rattle.sharc_code.specs.declared.instr.Width.TheVariants as widths
-use Rattle.sharc_ctype.specs.Reaches.{of_all, Names, runs, Runs}
-use Rattle.sharc_ctype.specs.Resolved.{Resolution, named_at, functions_in, function_at}
-use Rattle.sharc_ctype.specs.Transfers.{parameters_of, parameters_named}
+use Rattle.sharc_ctype.specs.{Reaches.{of_all, Names, runs, Runs}, Resolved.{Resolution, named_at, functions_in, function_at}, Transfers.{parameters_of, parameters_named}}
 use Rattle.sharc_ctype_laws.specs.Constraints.{HaveTypes}
 use Rattle.sharc_meaning.specs.State.{is_reference}
 use Rattle.sharc_mode.specs.Moded.{Assignment}
 use Rattle.sharc_mode_laws.specs.Constructs.{IsFunction, IsCall, called}
-use Rattle.sharc_flat.specs.Flattened.{kind_of, is_ref, parameters_scope, in_function as context_in}
-use Rattle.sharc_flat.specs.Places.{width_of}
-use Rattle.sharc_flat.specs.Scope.{Context, int_count, ref_count}
-use Rattle.sharc_flat.specs.Suits.{ArgumentsSuit}
-use Rattle.sharc_invariant.specs.Types.{StaticType}
-use Rattle.sharc_invariant.specs.Labels.{Empty, Refers, Anything, Within, Label, Signature, LessNumber, Narrower}
-use Rattle.sharc_invariant.specs.Typed.{Passes}
-use Rattle.sharc_typed_laws.specs.Places.{IsPlain}
-use Rattle.sharc_typed_laws.specs.Stretches.{Setting}
-use Rattle.sharc_typed_laws.specs.Typable.{type_by, ArgumentsAt, AreFree, refs_behind, IsTypeIn, ResultTyped, CallTyped}
-use Rattle.sharc_accepted_laws.specs.Typed.{IsOf}
-use Rattle.sharc_accepted_laws.specs.Calls.{AreStanding}
-use Rattle.sharc_accepted_laws.specs.StaticLaws.{IsAccepted}
-use Rattle.sharc_accepted_laws.specs.Static.{result_type, variable_entry}
-use Rattle.sharc_accepted_laws.specs.Calling.{wants_of}
-use Rattle.sharc_accepted_laws.specs.Typing.{typing}
-use Rattle.sharc_accepted_laws.specs.Setting.{function_signature, signature_by, setting_of, IsSet}
-use Rattle.sharc_accepted_laws.proofs.Arguments.{AllGo, all_go, refs_counted, integer_passed, parameters_declared}
-use Rattle.sharc_accepted_laws.proofs.Facts.{Laws, expression_of, is_at, has_type}
-use Rattle.sharc_accepted_laws.proofs.Forms.{reference_pointer, call_typed, function_parameters}
-use Rattle.sharc_accepted_laws.proofs.TargetLists.{place_there, tail_there, head_there, none_there}
+use Rattle.sharc_flat.specs.{Flattened.{kind_of, is_ref, parameters_scope, in_function as context_in}, Places.width_of, Scope.{Context, int_count, ref_count}, Suits.ArgumentsSuit}
+use Rattle.sharc_invariant.specs.{Types.StaticType, Labels.{Empty, Refers, Anything, Within, Label, Signature, LessNumber, Narrower}, Typed.Passes}
+use Rattle.sharc_typed_laws.specs.{Places.IsPlain, Stretches.Setting, Typable.{type_by, ArgumentsAt, AreFree, refs_behind, IsTypeIn, ResultTyped, CallTyped}}
+use Rattle.sharc_accepted_laws.specs.{Typed.IsOf, Calls.AreStanding, StaticLaws.IsAccepted, Static.{result_type, variable_entry}, Calling.wants_of, Typing.typing, Setting.{function_signature, signature_by, setting_of, IsSet}}
+use Rattle.sharc_accepted_laws.proofs.{Arguments.{AllGo, all_go, refs_counted, integer_passed, parameters_declared}, Facts.{Laws, expression_of, is_at, has_type}, Forms.{reference_pointer, call_typed, function_parameters}, TargetLists.place_there}
+use Rattle.sharc_lemmas.proofs.{Lists.{head_there, tail_there}, Equal.none_there}
 
 pub narrower_same : (w : Width) → Narrower w w
 narrower_same widths.Char = tt

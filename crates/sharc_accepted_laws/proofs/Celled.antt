@@ -1,37 +1,18 @@
 -- The cells of an accepted program, by the laws of accesses.
 use Rattle.std.proofs.Common.{◌≡◌, ℕ, Bool, true, List, refl, ap, sym, ◌∙◌, arith, lt-ltb, Option, Some, None, Contains}
 use Rattle.std.specs.List.{AllByRecursion}
-use Rattle.sharc_tree.specs.Measures.{expressions, in_function}
-use Rattle.sharc_tree.specs.Tree.{Expression, call, Function}
+use Rattle.sharc_tree.specs.{Measures.{expressions, in_function}, Tree.{Expression, call, Function}}
 use Rattle.sharc_names.specs.Kinds.{is_pointer, mutex_pointer}
-use Rattle.sharc_code.specs.declared.code.Code.{Code}
-use Rattle.sharc_code.specs.declared.code.GlobalCells.{GlobalCells}
+use Rattle.sharc_code.specs.{declared.code.Code.Code, declared.code.GlobalCells.GlobalCells}
 use Rattle.sharc_ctype.specs.Resolved.{functions_in, function_at}
 use Rattle.sharc_mode.specs.Moded.{Assignment}
 use Rattle.sharc_mode_laws.specs.Constructs.{IsExpression}
-use Rattle.sharc_flat.specs.Flattened.{kind_of}
-use Rattle.sharc_flat.specs.Scope.{Context}
+use Rattle.sharc_flat.specs.{Flattened.kind_of, Scope.Context}
 use Rattle.sharc_invariant.specs.Labels.{Refers}
-use Rattle.sharc_typed_laws.specs.Stretches.{Setting}
-use Rattle.sharc_typed_laws.specs.Typable.{type_by, IsPointer}
-use Rattle.sharc_accepted_laws.specs.Accesses.{IsCodeOf}
-use Rattle.sharc_accepted_laws.specs.AccessFirsts.{type_of_mutex, type_of_condition, KnowsCondition, HasFirstCells, FirstsFit}
-use Rattle.sharc_accepted_laws.specs.Joined.{IsTypingOf}
-use Rattle.sharc_accepted_laws.specs.Paths.{PathsLead}
-use Rattle.sharc_accepted_laws.specs.Typed.{IsOf, LvaluesAreTyped}
-use Rattle.sharc_accepted_laws.specs.Alone.{AreAlone}
-use Rattle.sharc_accepted_laws.specs.Conditions.{KnownCalls}
-use Rattle.sharc_accepted_laws.specs.Scopes.{ScopeLaws}
-use Rattle.sharc_accepted_laws.specs.Standing.{ExpressionStands}
-use Rattle.sharc_accepted_laws.specs.Static.{entry_of}
-use Rattle.sharc_accepted_laws.specs.TypableLaws.{ValueLaws}
-use Rattle.sharc_accepted_laws.specs.Typing.{typing}
-use Rattle.sharc_accepted_laws.specs.Cells.{CellsAreTyped}
-use Rattle.sharc_accepted_laws.specs.Expressions.{ConditionsTyped, CellsTyped}
-use Rattle.sharc_accepted_laws.specs.Setting.{signature_by, setting_of, IsSet}
-use Rattle.sharc_accepted_laws.proofs.Members.{first_of}
-use Rattle.sharc_accepted_laws.proofs.TargetLists.{place_there}
-use Rattle.sharc_accepted_laws.proofs.AccessLists.{each}
+use Rattle.sharc_typed_laws.specs.{Stretches.Setting, Typable.{type_by, IsPointer}}
+use Rattle.sharc_accepted_laws.specs.{Accesses.IsCodeOf, AccessFirsts.{type_of_mutex, type_of_condition, KnowsCondition, HasFirstCells, FirstsFit}, Joined.IsTypingOf, Paths.PathsLead, Typed.{IsOf, LvaluesAreTyped}, Alone.AreAlone, Conditions.KnownCalls, Scopes.ScopeLaws, Standing.ExpressionStands, Static.entry_of, TypableLaws.ValueLaws, Typing.typing, Cells.CellsAreTyped, Expressions.{ConditionsTyped, CellsTyped}, Setting.{signature_by, setting_of, IsSet}}
+use Rattle.sharc_accepted_laws.proofs.{Members.first_of, TargetLists.place_there}
+use Rattle.sharc_lemmas.proofs.Lists.{each}
 
 -- a signature tells what the test of functions tells
 same_alone : (m : Assignment) (globals : List GlobalCells) (alone : Bool) (o : Option Function) → (signature_by m globals alone o).alone ≡ alone

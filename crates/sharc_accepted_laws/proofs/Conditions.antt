@@ -1,42 +1,21 @@
 -- Calls of `wait`, `signal` and `broadcast`.
-use Rattle.std.proofs.Common.{◌≡◌, inl, inr, ℕ, zero, suc, Bool, true, false, List, [], ◌∷◌, ◌++◌, refl, ap, sym, ◌∙◌, subst, option_map, Some, None, bytes_eq, codes, if◌then◌else◌}
-use Rattle.std.proofs.lemmas.Bool.{false≢true}
-use Rattle.sharc_tree.specs.declared.token.NumberType.{NumberType}
+use Rattle.std.proofs.{Common.{◌≡◌, inl, inr, ℕ, zero, suc, Bool, true, false, List, [], ◌∷◌, ◌++◌, refl, ap, sym, ◌∙◌, subst, option_map, Some, None, bytes_eq, codes, if◌then◌else◌}, lemmas.Bool.false≢true}
+use Rattle.sharc_tree.specs.{declared.token.NumberType.NumberType, declared.token.Span.Span, declared.tree.declaration.Identifier.Identifier, declared.tree.item.GlobalForm.GlobalForm, Measures.{expressions, in_arguments}, Tree.{Expression, call, Arguments, no_arguments, argument, Function}, declared.ctype.Base.Base}
 use Rattle.sharc_tree.specs.declared.token.NumberType.TheVariants as number_types
-use Rattle.sharc_tree.specs.declared.token.Span.{Span}
-use Rattle.sharc_tree.specs.declared.tree.declaration.Identifier.{Identifier}
 use Rattle.sharc_tree.specs.declared.tree.expression.Constant.TheVariants as constants
-use Rattle.sharc_tree.specs.declared.tree.item.GlobalForm.{GlobalForm}
 use Rattle.sharc_tree.specs.declared.tree.item.GlobalForm.TheVariants as forms
-use Rattle.sharc_tree.specs.Measures.{expressions, in_arguments}
-use Rattle.sharc_tree.specs.Tree.{Expression, call, Arguments, no_arguments, argument, Function}
 use Rattle.sharc_names.specs.declared.fault.Named.TheVariants as named
-use Rattle.sharc_names.specs.declared.meaning.ConditionCall.TheVariants.{Wait, Signal, Broadcast}
-use Rattle.sharc_names.specs.Kinds.{Kind, object, null, is_pointer, is_null, condition_pointer, mutex_pointer}
-use Rattle.sharc_names.specs.Names.{global_kind}
-use Rattle.sharc_tree.specs.declared.ctype.Base.{Base}
+use Rattle.sharc_names.specs.{declared.meaning.ConditionCall.TheVariants.{Wait, Signal, Broadcast}, Kinds.{Kind, object, null, is_pointer, is_null, condition_pointer, mutex_pointer}, Names.global_kind}
 use Rattle.sharc_code.specs.declared.code.Code.{Code}
-use Rattle.sharc_ctype.specs.Expressions.{number_kind}
-use Rattle.sharc_ctype.specs.Resolved.{Resolution, named_at, function_at, kind_at}
+use Rattle.sharc_ctype.specs.{Expressions.number_kind, Resolved.{Resolution, named_at, function_at, kind_at}}
 use Rattle.sharc_ctype_laws.specs.Constraints.{HasType, HaveTypes, none_left, one_more, Callee, of_program, of_conditions, Assignable, integer, pointer, null_pointer, Common, both_shorter, left_long, right_long, a_variable, a_global, a_function, a_constant, in_parentheses, element_of_pointer, element_of_array, a_call, a_field, a_field_behind, negated, complemented, denied, pointed_to, arithmetic, shifted, related, equated, joined, spawned, printed_or_joined, locked, unlocked, freed, a_cast}
 use Rattle.sharc_meaning.specs.State.{is_reference}
-use Rattle.sharc_mode.specs.Moded.{Assignment}
-use Rattle.sharc_mode.specs.Rows.{modes_of, row_at}
-use Rattle.sharc_flat.specs.Flattened.{kind_of, is_ref}
-use Rattle.sharc_flat.specs.Scope.{Context}
-use Rattle.sharc_flat.specs.Suits.{Either, ReferencesSuit}
-use Rattle.sharc_invariant.specs.Types.{StaticType, Content, MutexWord, Waiters, SomeNames}
-use Rattle.sharc_invariant.specs.Labels.{Empty}
-use Rattle.sharc_typed_laws.specs.Stretches.{Setting}
-use Rattle.sharc_typed_laws.specs.Typable.{type_by, GoesTo, FirstCell, IsTypeIn, IsVoid, Goes, AreTwo, IsOne, AreTypable, ConditionTyped, CallTypable}
-use Rattle.sharc_accepted_laws.specs.Typed.{IsOf}
-use Rattle.sharc_accepted_laws.specs.Static.{entry_by, entry_of}
-use Rattle.sharc_accepted_laws.specs.Typing.{typing}
-use Rattle.sharc_accepted_laws.specs.Expressions.{HasFirst, ConditionsTyped}
-use Rattle.sharc_accepted_laws.specs.Setting.{setting_of, IsSet}
-use Rattle.sharc_accepted_laws.proofs.Arguments.{Parts, part_of, first_part, second_part, AllSuit, AllGo}
-use Rattle.sharc_accepted_laws.proofs.Facts.{Laws, has_type, pointer_of}
-use Rattle.sharc_accepted_laws.proofs.Forms.{call_typed, reference_scalar}
+use Rattle.sharc_mode.specs.{Moded.Assignment, Rows.{modes_of, row_at}}
+use Rattle.sharc_flat.specs.{Flattened.{kind_of, is_ref}, Scope.Context, Suits.{Either, ReferencesSuit}}
+use Rattle.sharc_invariant.specs.{Types.{StaticType, Content, MutexWord, Waiters, SomeNames}, Labels.Empty}
+use Rattle.sharc_typed_laws.specs.{Stretches.Setting, Typable.{type_by, GoesTo, FirstCell, IsTypeIn, IsVoid, Goes, AreTwo, IsOne, AreTypable, ConditionTyped, CallTypable}}
+use Rattle.sharc_accepted_laws.specs.{Typed.IsOf, Static.{entry_by, entry_of}, Typing.typing, Expressions.{HasFirst, ConditionsTyped}, Setting.{setting_of, IsSet}}
+use Rattle.sharc_accepted_laws.proofs.{Arguments.{Parts, part_of, first_part, second_part, AllSuit, AllGo}, Facts.{Laws, has_type, pointer_of}, Forms.{call_typed, reference_scalar}}
 
 -- ---- NULL
 object_no_null : (b : Base) (n : ℕ) → object b n ≡ null → ⊥

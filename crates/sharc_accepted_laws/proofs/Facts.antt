@@ -1,59 +1,21 @@
 -- What is known of each expression of a function of an accepted program.
-use Rattle.std.proofs.Common.{◌≡◌, ℕ, Bool, true, false, List, refl, ap, sym, ◌∙◌, subst, option_map, Option, Some, None, Contains}
-use Rattle.std.proofs.lemmas.Bool.{false≢true}
-use Rattle.sharc_tree.specs.declared.token.Site.{Site}
-use Rattle.sharc_tree.specs.Forms.{is_lvalue}
-use Rattle.sharc_tree.specs.Measures.{expressions, in_function}
-use Rattle.sharc_tree.specs.Spans.{span_of}
-use Rattle.sharc_tree.specs.Tree.{Expression, Function}
+use Rattle.std.proofs.{Common.{◌≡◌, ℕ, Bool, true, false, List, refl, ap, sym, ◌∙◌, subst, option_map, Option, Some, None, Contains}, lemmas.Bool.false≢true}
+use Rattle.sharc_tree.specs.{declared.token.Site.Site, Forms.is_lvalue, Measures.{expressions, in_function}, Spans.span_of, Tree.{Expression, Function}}
 use Rattle.sharc_names.specs.Kinds.{is_pointer, element_kind}
-use Rattle.sharc_code.specs.declared.code.Code.{Code}
-use Rattle.sharc_code.specs.declared.code.Use.{Use}
+use Rattle.sharc_code.specs.{declared.code.Code.Code, declared.code.Use.Use}
 use Rattle.sharc_code.specs.declared.code.Use.TheVariants as uses
 use Rattle.sharc_ctype.specs.Resolved.{Resolution, functions_in}
-use Rattle.sharc_ctype_laws.specs.Constraints.{HasType as IsOfType}
-use Rattle.sharc_ctype_laws.specs.Laws.{MeetsConstraints, MeetsGlobals, OneType, EachNamesItself, EachNamesOwn, ArePlain, SpawnsNameFunctions, SpawnsThreads}
+use Rattle.sharc_ctype_laws.specs.{Constraints.{HasType as IsOfType}, Laws.{MeetsConstraints, MeetsGlobals, OneType, EachNamesItself, EachNamesOwn, ArePlain, SpawnsNameFunctions, SpawnsThreads}}
 use Rattle.sharc_meaning.specs.Cells.{element_cells}
-use Rattle.sharc_mode.specs.Moded.{Assignment}
-use Rattle.sharc_mode.specs.Rows.{Targets, modes_of, row_at, modes_at}
-use Rattle.sharc_mode.specs.Sharings.{Sharing}
+use Rattle.sharc_mode.specs.{Moded.Assignment, Rows.{Targets, modes_of, row_at, modes_at}, Sharings.Sharing}
 use Rattle.sharc_mode_laws.specs.Constructs.{IsFunction, IsExpression, IsTaken}
-use Rattle.sharc_flat.specs.Flattened.{kind_of, is_ref, target_of, mode_of, lvalue_in, guard_of}
-use Rattle.sharc_flat.specs.Places.{Target, variable, in_global, in_global_at, in_object, in_object_at}
-use Rattle.sharc_flat.specs.Scope.{Context}
-use Rattle.sharc_flat.specs.Suits.{IsScalar, is_cell, TakeSuits}
-use Rattle.sharc_invariant.specs.Types.{StaticType, cells_of}
-use Rattle.sharc_invariant.specs.Labels.{Empty, Refers}
-use Rattle.sharc_typed_laws.specs.Stretches.{Setting}
-use Rattle.sharc_typed_laws.specs.Premises.{ReferenceTyped}
-use Rattle.sharc_typed_laws.specs.Typable.{type_by, ground_of, IsPointer, CellTyped, ValueTyped, Takes}
-use Rattle.sharc_accepted_laws.specs.Joined.{BaseStands}
-use Rattle.sharc_accepted_laws.specs.Typed.{IsOf, BasesStand}
-use Rattle.sharc_accepted_laws.specs.Calls.{ArgumentsFit}
-use Rattle.sharc_accepted_laws.specs.StaticLaws.{IsAccepted}
-use Rattle.sharc_accepted_laws.specs.Results.{ResultLaws}
-use Rattle.sharc_accepted_laws.specs.Scopes.{ScopeLaws}
-use Rattle.sharc_accepted_laws.specs.Standing.{ExpressionStands, FunctionsStand}
-use Rattle.sharc_accepted_laws.specs.Starting.{SpawnedBegin}
-use Rattle.sharc_accepted_laws.specs.Static.{static_of, entry_by, entry_of}
-use Rattle.sharc_accepted_laws.specs.Beside.{LocksStandBeside}
-use Rattle.sharc_accepted_laws.specs.TargetLaws.{ExpressionsFound, GlobalsAre}
-use Rattle.sharc_accepted_laws.specs.Lvalues.{LvaluesFit, ArraysFit}
-use Rattle.sharc_accepted_laws.specs.Pointees.{pointee, PointeesFit}
-use Rattle.sharc_accepted_laws.specs.Targets.{targets_of}
-use Rattle.sharc_accepted_laws.specs.Calling.{CallingLaws}
-use Rattle.sharc_accepted_laws.specs.TypableLaws.{IsAt, ValueLaws}
-use Rattle.sharc_accepted_laws.specs.Taking.{TakingLaws}
-use Rattle.sharc_accepted_laws.specs.Threads.{ThreadsPass}
-use Rattle.sharc_accepted_laws.specs.Typing.{typing}
-use Rattle.sharc_accepted_laws.specs.Expressions.{CellsTyped}
-use Rattle.sharc_accepted_laws.specs.Setting.{setting_of, IsSet}
-use Rattle.sharc_accepted_laws.proofs.Forms.{lvalue_some, reference_pointer}
-use Rattle.sharc_accepted_laws.proofs.Members.{first_of}
+use Rattle.sharc_flat.specs.{Flattened.{kind_of, is_ref, target_of, mode_of, lvalue_in, guard_of}, Places.{Target, variable, in_global, in_global_at, in_object, in_object_at}, Scope.Context, Suits.{IsScalar, is_cell, TakeSuits}}
+use Rattle.sharc_invariant.specs.{Types.{StaticType, cells_of}, Labels.{Empty, Refers}}
+use Rattle.sharc_typed_laws.specs.{Stretches.Setting, Premises.ReferenceTyped, Typable.{type_by, ground_of, IsPointer, CellTyped, ValueTyped, Takes}}
+use Rattle.sharc_accepted_laws.specs.{Joined.BaseStands, Typed.{IsOf, BasesStand}, Calls.ArgumentsFit, StaticLaws.IsAccepted, Results.ResultLaws, Scopes.ScopeLaws, Standing.{ExpressionStands, FunctionsStand}, Starting.SpawnedBegin, Static.{static_of, entry_by, entry_of}, Beside.LocksStandBeside, TargetLaws.{ExpressionsFound, GlobalsAre}, Lvalues.{LvaluesFit, ArraysFit}, Pointees.{pointee, PointeesFit}, Targets.targets_of, Calling.CallingLaws, TypableLaws.{IsAt, ValueLaws}, Taking.TakingLaws, Threads.ThreadsPass, Typing.typing, Expressions.CellsTyped, Setting.{setting_of, IsSet}}
+use Rattle.sharc_accepted_laws.proofs.{Forms.{lvalue_some, reference_pointer}, Members.first_of, Wholes.{facts_of, variable_named}, TargetLists.place_there}
 use Rattle.sharc_accepted_laws.proofs.Wholes as wholes
-use Rattle.sharc_accepted_laws.proofs.Wholes.{facts_of, variable_named}
-use Rattle.sharc_accepted_laws.proofs.TargetLists.{place_there}
-use Rattle.sharc_accepted_laws.proofs.AccessLists.{each}
+use Rattle.sharc_lemmas.proofs.Lists.{each}
 
 -- ---- the laws of the crates below
 pub record Laws : Type 0 where

@@ -2,35 +2,17 @@
 use Rattle.std.proofs.Common.{◌≡◌, inl, inr, ℕ, ◌<◌, false, List, [], ◌∷◌, length, slice_index_or, refl, ap, sym, ◌∙◌, subst, arith, option_map, Option, Some, None, Contains}
 use Rattle.sharc_tree.specs.Tree.{Expression}
 use Rattle.sharc_names.specs.Kinds.{is_array, is_struct_behind}
-use Rattle.sharc_ctype.specs.Globals.{elements_of}
-use Rattle.sharc_ctype.specs.Resolved.{Resolution, named_at, globals_in, global_at, kind_at}
-use Rattle.sharc_ctype_laws.specs.Initials.{MeetsGlobal}
-use Rattle.sharc_ctype_laws.specs.Laws.{MeetsGlobals}
+use Rattle.sharc_ctype.specs.{Globals.elements_of, Resolved.{Resolution, named_at, globals_in, global_at, kind_at}}
+use Rattle.sharc_ctype_laws.specs.{Initials.MeetsGlobal, Laws.MeetsGlobals}
 use Rattle.sharc_meaning.specs.Cells.{field_place}
-use Rattle.sharc_mode.specs.Cells.{is_mutex_kind, cell_at}
-use Rattle.sharc_mode.specs.Moded.{Assignment}
-use Rattle.sharc_mode.specs.Rows.{modes_of, modes_at}
-use Rattle.sharc_mode.specs.Sharings.{Lock, Sharing, locked}
+use Rattle.sharc_mode.specs.{Cells.{is_mutex_kind, cell_at}, Moded.Assignment, Rows.{modes_of, modes_at}, Sharings.{Lock, Sharing, locked}}
 use Rattle.sharc_mode_laws.specs.Constructs.{IsExpression}
-use Rattle.sharc_flat.specs.Flattened.{kind_of, guard_of}
-use Rattle.sharc_flat.specs.Places.{Target, variable, in_global, in_global_at, in_object, in_object_at, target, beside_named, beside_field}
-use Rattle.sharc_flat.specs.Scope.{Context}
+use Rattle.sharc_flat.specs.{Flattened.{kind_of, guard_of}, Places.{Target, variable, in_global, in_global_at, in_object, in_object_at, target, beside_named, beside_field}, Scope.Context}
 use Rattle.sharc_invariant.specs.Types.{Field, FieldMode, no_field, row_of, cells_of, field_at}
-use Rattle.sharc_typed_laws.specs.Stretches.{Setting}
-use Rattle.sharc_typed_laws.specs.Typable.{type_by, AreFields}
-use Rattle.sharc_accepted_laws.specs.Accesses.{list_or, modes_of_pointer, cells_in_each}
-use Rattle.sharc_accepted_laws.specs.Joined.{LockLeads, to_global, to_variable, PathLeads}
-use Rattle.sharc_accepted_laws.specs.StaticLaws.{IsAccepted}
-use Rattle.sharc_accepted_laws.specs.Static.{entry_by, entry_of}
-use Rattle.sharc_accepted_laws.specs.Beside.{BesideFits, AreLockedBeside, LocksStandBeside}
-use Rattle.sharc_accepted_laws.specs.TargetLaws.{ExpressionsFound, GlobalsAre}
-use Rattle.sharc_accepted_laws.specs.Lvalues.{pointer_of, IsOfObject, IsOfGlobal, ModeFits, is_private, is_readonly, is_racy, is_dynamic, locked_by_type, locked_by_global, locked_by_sibling, locked_behind, FieldFits, IsBehindPointer, IsInFile, NamesCell, no_cell, of_object, of_global, LvaluesFit}
-use Rattle.sharc_accepted_laws.specs.Shapes.{expression_shape, shapes, number}
-use Rattle.sharc_accepted_laws.specs.Targets.{global_element, targets_of}
-use Rattle.sharc_accepted_laws.specs.Typing.{typing}
-use Rattle.sharc_accepted_laws.proofs.TargetLists.{place_there, of_each, same_some}
-use Rattle.sharc_accepted_laws.proofs.AccessLeading.{no_modes}
-use Rattle.sharc_accepted_laws.proofs.TypableRegisters.{none_some}
+use Rattle.sharc_typed_laws.specs.{Stretches.Setting, Typable.{type_by, AreFields}}
+use Rattle.sharc_accepted_laws.specs.{Accesses.{list_or, modes_of_pointer, cells_in_each}, Joined.{LockLeads, to_global, to_variable, PathLeads}, StaticLaws.IsAccepted, Static.{entry_by, entry_of}, Beside.{BesideFits, AreLockedBeside, LocksStandBeside}, TargetLaws.{ExpressionsFound, GlobalsAre}, Lvalues.{pointer_of, IsOfObject, IsOfGlobal, ModeFits, is_private, is_readonly, is_racy, is_dynamic, locked_by_type, locked_by_global, locked_by_sibling, locked_behind, FieldFits, IsBehindPointer, IsInFile, NamesCell, no_cell, of_object, of_global, LvaluesFit}, Shapes.{expression_shape, shapes, number}, Targets.{global_element, targets_of}, Typing.typing}
+use Rattle.sharc_accepted_laws.proofs.{TargetLists.place_there, AccessLeading.no_modes}
+use Rattle.sharc_lemmas.proofs.{Options.{same_some, none_some}, Lists.of_each}
 
 -- ---- of what an lvalue names
 module _ (z : Setting) (n : ℕ) (c : Context) where

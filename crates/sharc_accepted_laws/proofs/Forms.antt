@@ -1,21 +1,10 @@
 -- What the types of C11 say of the parts of an expression.
-use Rattle.std.proofs.Common.{◌≡◌, ℕ, zero, suc, ◌+◌, ◌==◌, ◌||◌, ◌&&◌, Bool, true, false, List, [], ◌∷◌, refl, ap, sym, ◌∙◌, arith, lt-ltb, eqb-true, Some}
-use Rattle.std.proofs.lemmas.Bool.{false≢true, and_parts}
-use Rattle.sharc_tree.specs.declared.ctype.Base.{Base}
+use Rattle.std.proofs.{Common.{◌≡◌, ℕ, zero, suc, ◌+◌, ◌==◌, ◌||◌, ◌&&◌, Bool, true, false, List, [], ◌∷◌, refl, ap, sym, ◌∙◌, arith, lt-ltb, eqb-true, Some}, lemmas.Bool.{false≢true, and_parts, or_left}}
+use Rattle.sharc_tree.specs.{declared.ctype.Base.Base, declared.token.Span.Span, declared.tree.declaration.Identifier.Identifier, declared.tree.declaration.WrittenType.WrittenType, declared.tree.expression.Access.TheVariants.Arrow, declared.tree.expression.PlaceCall.TheVariants.{Lock, Unlock, Free}, declared.tree.expression.UnaryOperator.TheVariants.Dereference, declared.tree.item.GlobalForm.GlobalForm, Forms.is_lvalue, Tree.{Expression, call, spawn, on_place, cast, index, field, unary, Arguments, no_arguments, argument, Function}}
 use Rattle.sharc_tree.specs.declared.ctype.Base.TheVariants as base
-use Rattle.sharc_tree.specs.declared.token.Span.{Span}
-use Rattle.sharc_tree.specs.declared.tree.declaration.Identifier.{Identifier}
-use Rattle.sharc_tree.specs.declared.tree.declaration.WrittenType.{WrittenType}
-use Rattle.sharc_tree.specs.declared.tree.expression.Access.TheVariants.{Arrow}
-use Rattle.sharc_tree.specs.declared.tree.expression.PlaceCall.TheVariants.{Lock, Unlock, Free}
-use Rattle.sharc_tree.specs.declared.tree.expression.UnaryOperator.TheVariants.{Dereference}
-use Rattle.sharc_tree.specs.declared.tree.item.GlobalForm.{GlobalForm}
 use Rattle.sharc_tree.specs.declared.tree.item.GlobalForm.TheVariants as forms
-use Rattle.sharc_tree.specs.Forms.{is_lvalue}
-use Rattle.sharc_tree.specs.Tree.{Expression, call, spawn, on_place, cast, index, field, unary, Arguments, no_arguments, argument, Function}
 use Rattle.sharc_names.specs.declared.fault.Named.TheVariants as named
-use Rattle.sharc_names.specs.Kinds.{Kind, object, array, null, function, void, mutex, is_integral, is_integer, is_pointer, is_null, is_array, declared_kind, declared_kinds}
-use Rattle.sharc_names.specs.Names.{global_kind}
+use Rattle.sharc_names.specs.{Kinds.{Kind, object, array, null, function, void, mutex, is_integral, is_integer, is_pointer, is_null, is_array, declared_kind, declared_kinds}, Names.global_kind}
 use Rattle.sharc_ctype.specs.Resolved.{Resolution, named_at, function_at, kind_at}
 use Rattle.sharc_ctype_laws.specs.Constraints.{HasType, HaveTypes, Callee, of_program, of_conditions, IsInteger, IsPointer, Assignable, integer, pointer, null_pointer, a_variable, a_global, a_function, a_constant, in_parentheses, element_of_pointer, element_of_array, a_call, a_field, a_field_behind, negated, complemented, denied, pointed_to, arithmetic, shifted, related, equated, joined, spawned, printed_or_joined, locked, unlocked, freed, a_cast}
 use Rattle.sharc_meaning.specs.State.{is_reference}
@@ -25,10 +14,6 @@ use Rattle.sharc_flat.specs.Suits.{IsScalar, Passes}
 pub left_or : (a b : Bool) → b ≡ false → (a || b) ≡ true → a ≡ true
 left_or true b h t = refl
 left_or false b h t = absurd (false≢true (sym h ∙ t))
-
-pub or_left : (a b : Bool) → a ≡ true → (a || b) ≡ true
-or_left true b h = refl
-or_left false b h = absurd (false≢true h)
 
 some_star : (n : ℕ) → is_pointer (object base.Int (n + 1)) ≡ true
 some_star n = lt-ltb 0 (n + 1) (omega arith)

@@ -1,31 +1,16 @@
 -- The fields and the globals of a program are entities of it, found by their tokens.
 use Rattle.std.proofs.Common.{◌≡◌, ⊎_elim, ◌<◌, Bool, true, false, cond, List, [], ◌∷◌, ◌++◌, length, map, ap, subst, Some, Contains}
 use Rattle.std.specs.List.{AllByRecursion, find}
-use Rattle.sharc_tree.specs.declared.tree.declaration.Declaration.{Declaration}
-use Rattle.sharc_tree.specs.declared.tree.item.GlobalDefinition.{GlobalDefinition}
-use Rattle.sharc_tree.specs.declared.tree.item.StructDefinition.{StructDefinition}
-use Rattle.sharc_tree.specs.Low.{LowItems}
-use Rattle.sharc_tree.specs.Tree.{Item, structure, global, function}
+use Rattle.sharc_tree.specs.{declared.tree.declaration.Declaration.Declaration, declared.tree.item.GlobalDefinition.GlobalDefinition, declared.tree.item.StructDefinition.StructDefinition, Low.LowItems, Tree.{Item, structure, global, function}}
 use Rattle.sharc_names.specs.declared.types.Role.TheVariants as role
-use Rattle.sharc_ctype.specs.declared.entity.Entity.{Entity}
-use Rattle.sharc_ctype.specs.declared.entity.Numbered.{Numbered}
-use Rattle.sharc_ctype.specs.Entities.{declared, function_entities, entities_in, numbered, entity_at, is_told_by}
-use Rattle.sharc_ctype.specs.Resolved.{Resolution, structs_in, globals_in}
+use Rattle.sharc_ctype.specs.{declared.entity.Entity.Entity, declared.entity.Numbered.Numbered, Entities.{declared, function_entities, entities_in, numbered, entity_at, is_told_by}, Resolved.{Resolution, structs_in, globals_in}}
 use Rattle.sharc_ctype_laws.specs.Found.{IsFound}
 use Rattle.sharc_mode.specs.Moded.{Assignment}
 use Rattle.sharc_mode_laws.specs.Constructs.{IsEntity}
-use Rattle.sharc_accepted_laws.proofs.TargetLists.{none_there, head_there, tail_there, head_or_tail, of_each, each_mapped, same_some}
-use Rattle.sharc_accepted_laws.proofs.TypableRegisters.{none_some}
+use Rattle.sharc_accepted_laws.proofs.TargetLists.{each_mapped}
+use Rattle.sharc_lemmas.proofs.{Options.{same_some, none_some}, Lists.{front, back, head_there, head_or_tail, of_each, tail_there}, Equal.none_there}
 
 -- ---- in lists
-pub front : {A : Type 0} (P : A → Type 0) (a b : List A) → AllByRecursion P (a ++ b) → AllByRecursion P a
-front P [] b h = tt
-front P (x ∷ rest) b h = (h.0, front P rest b h.1)
-
-pub back : {A : Type 0} (P : A → Type 0) (a b : List A) → AllByRecursion P (a ++ b) → AllByRecursion P b
-back P [] b h = h
-back P (x ∷ rest) b h = back P rest b h.1
-
 find_there : (test : Numbered → Bool) (list : List Numbered) (n : Numbered) → find test list ≡ Some n → Contains list n
 find_there test [] n is = absurd (none_some n is)
 find_there test (x ∷ rest) n is = by (test x) is (find_there test rest n)

@@ -1,33 +1,18 @@
 -- The layouts of elements are those of the rows: what Free clears.
-use Rattle.std.proofs.Common.{◌≡◌, ⊎_elim, ℕ, zero, suc, ◌+◌, ◌-◌, ◌*◌, ◌^◌, ◌<◌, ◌≤◌, Bool, true, false, cond, List, [], ◌∷◌, ◌++◌, length, slice_index_or, refl, ap, sym, ◌∙◌, subst, arith, Some, bytes_eq}
-use Rattle.std.proofs.lemmas.Bool.{false≢true, cases_lt}
-use Rattle.std.specs.List.{AllByRecursion}
-use Rattle.std.specs.Prelude.{slice_get, slice_index}
-use Rattle.sharc_tree.specs.declared.ctype.Base.{Base}
+use Rattle.std.proofs.{Common.{◌≡◌, ⊎_elim, ℕ, zero, suc, ◌+◌, ◌-◌, ◌*◌, ◌^◌, ◌<◌, ◌≤◌, Bool, true, false, cond, List, [], ◌∷◌, ◌++◌, length, slice_index_or, refl, ap, sym, ◌∙◌, subst, arith, Some, bytes_eq}, lemmas.Bool.{false≢true, cases_lt}}
+use Rattle.std.specs.{List.AllByRecursion, Prelude.{slice_get, slice_index}}
+use Rattle.sharc_tree.specs.{declared.ctype.Base.Base, declared.tree.declaration.Declaration.Declaration, declared.tree.item.StructDefinition.StructDefinition}
 use Rattle.sharc_tree.specs.declared.ctype.Base.TheVariants as base
-use Rattle.sharc_tree.specs.declared.tree.declaration.Declaration.{Declaration}
-use Rattle.sharc_tree.specs.declared.tree.item.StructDefinition.{StructDefinition}
 use Rattle.sharc_names.specs.Kinds.{object, is_pointer as is_pointer_kind, declared_kind}
-use Rattle.sharc_code.specs.declared.code.Code.{Code}
-use Rattle.sharc_code.specs.declared.code.Layout.{Layout}
-use Rattle.sharc_code.specs.Machine.{no_layout, layout_at}
+use Rattle.sharc_code.specs.{declared.code.Code.Code, declared.code.Layout.Layout, Machine.{no_layout, layout_at}}
 use Rattle.sharc_ctype.specs.Resolved.{structs_in}
 use Rattle.sharc_ctype_laws.specs.Laws.{WithinLimits}
-use Rattle.sharc_mode.specs.Moded.{Assignment}
-use Rattle.sharc_mode.specs.Rows.{written, declared_row, modes_of}
-use Rattle.sharc_flat.specs.Flattened.{struct_layout, base_layout, layout_of}
-use Rattle.sharc_flat.specs.Tables.{pointers_among, layouts_from, layouts_of, all_pointers, pointers_of}
-use Rattle.sharc_invariant.specs.Types.{FieldMode, Field, Target, no_field, is_pointer, row_of}
-use Rattle.sharc_invariant.specs.Typed.{IsLayout}
-use Rattle.sharc_accepted_laws.specs.TargetLaws.{LayoutsAre}
-use Rattle.sharc_accepted_laws.specs.Shapes.{Form, kind_of, number}
-use Rattle.sharc_accepted_laws.specs.Targets.{own_mode, base_content, pointer_content, declared_content, single, members, struct_fields, base_fields, shape_fields, targets_of}
-use Rattle.sharc_accepted_laws.proofs.TargetCells.{member_count, has_forms}
-use Rattle.sharc_accepted_laws.proofs.Good.{not_pointer}
-use Rattle.sharc_accepted_laws.proofs.TargetLists.{same_some}
-use Rattle.sharc_accepted_laws.proofs.TargetMembers.{members_at, some_there}
-use Rattle.sharc_accepted_laws.proofs.Numbers.{numbers_found}
-use Rattle.sharc_accepted_laws.proofs.TypableRegisters.{none_some}
+use Rattle.sharc_mode.specs.{Moded.Assignment, Rows.{written, declared_row, modes_of}}
+use Rattle.sharc_flat.specs.{Flattened.{struct_layout, base_layout, layout_of}, Tables.{pointers_among, layouts_from, layouts_of, all_pointers, pointers_of}}
+use Rattle.sharc_invariant.specs.{Types.{FieldMode, Field, Target, no_field, is_pointer, row_of}, Typed.IsLayout}
+use Rattle.sharc_accepted_laws.specs.{TargetLaws.LayoutsAre, Shapes.{Form, kind_of, number}, Targets.{own_mode, base_content, pointer_content, declared_content, single, members, struct_fields, base_fields, shape_fields, targets_of}}
+use Rattle.sharc_accepted_laws.proofs.{TargetCells.{member_count, has_forms}, Good.not_pointer, TargetMembers.members_at, Numbers.numbers_found}
+use Rattle.sharc_lemmas.proofs.{Options.{same_some, none_some}, Lists.some_there}
 
 -- a layout says which of these fields are pointers
 record IsLaid (laid : Layout) (pointers : List ℕ) (fields : List Field) : Type 0 where

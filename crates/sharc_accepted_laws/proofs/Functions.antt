@@ -1,54 +1,24 @@
 -- Functions: what their first registers hold, what they give, and their statements.
 use Rattle.std.proofs.Common.{◌≡◌, ℕ, zero, suc, ◌<◌, Bool, true, false, cond, List, [], ◌∷◌, ◌++◌, length, nat_lt, slice_get, refl, ap, sym, ◌∙◌, subst, arith, ltb-true, ltb-false, Option, Some, None}
 use Rattle.std.specs.List.{AllByRecursion}
-use Rattle.sharc_tree.specs.Low.{LowItems, LowStatements}
-use Rattle.sharc_tree.specs.Measures.{in_function}
-use Rattle.sharc_tree.specs.Tree.{Function, Item, structure, global, function}
+use Rattle.sharc_tree.specs.{Low.{LowItems, LowStatements}, Measures.in_function, Tree.{Function, Item, structure, global, function}}
 use Rattle.sharc_names.specs.declared.fault.Named.TheVariants as named
 use Rattle.sharc_names.specs.Kinds.{declared_kind}
 use Rattle.sharc_code.specs.declared.code.GlobalCells.{GlobalCells}
-use Rattle.sharc_ctype.specs.Resolved.{Resolution, functions_in, function_at, declaration_at, variable_kind}
+use Rattle.sharc_ctype.specs.{Resolved.{Resolution, functions_in, function_at, declaration_at, variable_kind}, Transfers.{IsFair, function_transfers}}
 use Rattle.sharc_ctype.specs.Statements as ctype
-use Rattle.sharc_ctype.specs.Transfers.{IsFair, function_transfers}
-use Rattle.sharc_ctype_laws.specs.Declared.{IsItself}
-use Rattle.sharc_ctype_laws.specs.Laws.{AllFair, ArePlain, EachNamesItself, EachNamesOwn, MeetsConstraints, MeetsStatements}
-use Rattle.sharc_ctype_laws.specs.Rules.{MeetsRules}
+use Rattle.sharc_ctype_laws.specs.{Declared.IsItself, Laws.{AllFair, ArePlain, EachNamesItself, EachNamesOwn, MeetsConstraints, MeetsStatements}, Rules.MeetsRules}
 use Rattle.sharc_meaning.specs.State.{is_reference}
-use Rattle.sharc_mode.specs.Moded.{Assignment}
-use Rattle.sharc_mode.specs.Rows.{written, declared_row, modes_of}
+use Rattle.sharc_mode.specs.{Moded.Assignment, Rows.{written, declared_row, modes_of}}
 use Rattle.sharc_mode_laws.specs.Constructs.{IsFunction, locals_in_all}
-use Rattle.sharc_flat.specs.declared.slot.Slot.{Slot}
-use Rattle.sharc_flat.specs.Flattened.{parameters_scope}
+use Rattle.sharc_flat.specs.{declared.slot.Slot.Slot, Flattened.parameters_scope, Places.width_of, Scope.{Context, ref_count}}
 use Rattle.sharc_flat.specs.Flattened as flat
-use Rattle.sharc_flat.specs.Places.{width_of}
-use Rattle.sharc_flat.specs.Scope.{Context, ref_count}
 use Rattle.sharc_flat_laws.specs.Stands.{TypedSuits}
 use Rattle.sharc_invariant.specs.Labels.{Empty, Refers, Anything, Within, Signature}
-use Rattle.sharc_typed_laws.specs.Stretches.{Setting}
-use Rattle.sharc_typed_laws.specs.Places.{IsNamed}
-use Rattle.sharc_typed_laws.specs.Typable.{type_by}
-use Rattle.sharc_typed_laws.specs.Begun.{label_of}
-use Rattle.sharc_typed_laws.specs.Returned.{GivesBackBy}
-use Rattle.sharc_typed_laws.specs.Functions.{FunctionTypable}
-use Rattle.sharc_accepted_laws.specs.Held.{held_at}
-use Rattle.sharc_accepted_laws.specs.Results.{ResultLaws}
-use Rattle.sharc_accepted_laws.specs.Scopes.{AllStand, DeclaredStands}
-use Rattle.sharc_accepted_laws.specs.Standing.{FunctionStands, FunctionsStand}
-use Rattle.sharc_accepted_laws.specs.Static.{pointers, variable_entry, entry_named, result_type}
-use Rattle.sharc_accepted_laws.specs.TargetLaws.{VariablesFound}
-use Rattle.sharc_accepted_laws.specs.Typing.{typing}
-use Rattle.sharc_accepted_laws.specs.Setting.{function_signature, setting_of, IsSet}
-use Rattle.sharc_accepted_laws.specs.Statements.{IsPlaceIn, AreExpressionsTypable}
-use Rattle.sharc_accepted_laws.proofs.Assigned.{Laws}
-use Rattle.sharc_accepted_laws.proofs.Fresh.{StatementsFresh, fresh_functions}
-use Rattle.sharc_accepted_laws.proofs.Locals.{in_each}
-use Rattle.sharc_accepted_laws.proofs.Members.{own_elements}
-use Rattle.sharc_accepted_laws.proofs.Stated.{Does, Own, AllGiven, statements_are, signature_is, result_is}
-use Rattle.sharc_accepted_laws.proofs.Wholes.{Facts, facts_of}
-use Rattle.sharc_accepted_laws.proofs.StaticRegisters.{pointer_count}
-use Rattle.sharc_accepted_laws.proofs.TargetLists.{place_there, of_each, to_each, same_some}
-use Rattle.sharc_accepted_laws.proofs.Found.{back}
-use Rattle.sharc_accepted_laws.proofs.TypableRegisters.{none_some}
+use Rattle.sharc_typed_laws.specs.{Stretches.Setting, Places.IsNamed, Typable.type_by, Begun.label_of, Returned.GivesBackBy, Functions.FunctionTypable}
+use Rattle.sharc_accepted_laws.specs.{Held.held_at, Results.ResultLaws, Scopes.{AllStand, DeclaredStands}, Standing.{FunctionStands, FunctionsStand}, Static.{pointers, variable_entry, entry_named, result_type}, TargetLaws.VariablesFound, Typing.typing, Setting.{function_signature, setting_of, IsSet}, Statements.{IsPlaceIn, AreExpressionsTypable}}
+use Rattle.sharc_accepted_laws.proofs.{Assigned.Laws, Fresh.{StatementsFresh, fresh_functions}, Locals.in_each, Members.own_elements, Stated.{Does, Own, AllGiven, statements_are, signature_is, result_is}, Wholes.{Facts, facts_of}, StaticRegisters.pointer_count, TargetLists.place_there}
+use Rattle.sharc_lemmas.proofs.{Options.{same_some, none_some}, Lists.{back, of_each, to_each}}
 
 -- ---- the variables of a scope
 -- the slot of a pointer, with those before it and those behind it

@@ -1,49 +1,21 @@
 -- What is assigned, begun with and returned has the type of what it is given to.
-use Rattle.std.proofs.Common.{◌≡◌, inl, inr, ℕ, ◌==◌, Bool, true, false, cond, List, ◌++◌, refl, ap, sym, ◌∙◌, subst, option_map, arith, eqb-true, Option, Some, None, Contains}
-use Rattle.std.proofs.lemmas.Bool.{false≢true, and_parts, ltb-true}
-use Rattle.std.proofs.lemmas.Slice.Eq.{bytes_eq-Decides}
+use Rattle.std.proofs.{Common.{◌≡◌, inl, inr, ℕ, ◌==◌, Bool, true, false, cond, List, ◌++◌, refl, ap, sym, ◌∙◌, subst, option_map, arith, eqb-true, Option, Some, None, Contains}, lemmas.Bool.{false≢true, and_parts, ltb-true}, lemmas.Slice.Eq.bytes_eq-Decides}
 use Rattle.std.specs.List.{AllByRecursion}
-use Rattle.sharc_tree.specs.declared.ctype.Base.{Base}
+use Rattle.sharc_tree.specs.{declared.ctype.Base.Base, declared.token.NumberType.NumberType, declared.tree.declaration.Declaration.Declaration, declared.tree.expression.Constant.TheVariants.{Number, Character, Null}, declared.tree.expression.UnaryOperator.TheVariants.{Negate, Not, Complement, Dereference}, declared.tree.item.GlobalForm.GlobalForm, declared.tree.item.GlobalForm.TheVariants.{Plain, Array, Initial}, declared.tree.item.GlobalDefinition.GlobalDefinition, Tree.{Expression, value, Local, Function}}
 use Rattle.sharc_tree.specs.declared.ctype.Base.TheVariants as base
-use Rattle.sharc_tree.specs.declared.token.NumberType.{NumberType}
 use Rattle.sharc_tree.specs.declared.token.NumberType.TheVariants as width
-use Rattle.sharc_tree.specs.declared.tree.declaration.Declaration.{Declaration}
-use Rattle.sharc_tree.specs.declared.tree.expression.Constant.TheVariants.{Number, Character, Null}
-use Rattle.sharc_tree.specs.declared.tree.expression.UnaryOperator.TheVariants.{Negate, Not, Complement, Dereference}
-use Rattle.sharc_tree.specs.declared.tree.item.GlobalForm.{GlobalForm}
-use Rattle.sharc_tree.specs.declared.tree.item.GlobalForm.TheVariants.{Plain, Array, Initial}
-use Rattle.sharc_tree.specs.declared.tree.item.GlobalDefinition.{GlobalDefinition}
-use Rattle.sharc_tree.specs.Tree.{Expression, value, Local, Function}
 use Rattle.sharc_tree.specs.Tree as tree
-use Rattle.sharc_names.specs.declared.fault.Named.{Named}
+use Rattle.sharc_names.specs.{declared.fault.Named.Named, Kinds.{Kind, object, array, null, function, same_base, same_kind, is_integer, is_integral, is_pointer, is_null, is_long, is_array, long, int, agrees, element_kind, declared_kind}, Names.global_kind}
 use Rattle.sharc_names.specs.declared.fault.Named.TheVariants as named
-use Rattle.sharc_names.specs.Kinds.{Kind, object, array, null, function, same_base, same_kind, is_integer, is_integral, is_pointer, is_null, is_long, is_array, long, int, agrees, element_kind, declared_kind}
-use Rattle.sharc_names.specs.Names.{global_kind}
-use Rattle.sharc_ctype.specs.declared.expr.OperatorClass.{OperatorClass}
-use Rattle.sharc_ctype.specs.declared.expr.OperatorClass.TheVariants.{Logical, Equality, Relation, Shift, Arithmetic}
-use Rattle.sharc_ctype.specs.Expressions.{number_kind, class_of, binary_result}
-use Rattle.sharc_ctype.specs.Resolved.{Resolution, named_at, global_at, function_at, declaration_at, functions_in, variable_kind, global_kind_of, result_kind_of, named_kind, called_kind, kind_at}
-use Rattle.sharc_ctype.specs.Transfers.{Transfer, lvalue, variable, result, function_transfers, IsFair}
-use Rattle.sharc_mode.specs.Moded.{Assignment}
-use Rattle.sharc_mode.specs.Notes.{base_of}
-use Rattle.sharc_mode.specs.Rows.{written, declared_row, behind, row_at, modes_of, modes_at}
-use Rattle.sharc_mode.specs.Sharings.{Sharing, same_all}
-use Rattle.sharc_mode_laws.specs.Constructs.{IsFunction, IsGiven, assigned, initial, returned, locals_in_all}
-use Rattle.sharc_mode_laws.specs.Laws.{RulesAreMet}
-use Rattle.sharc_mode_laws.specs.Rules.{MeetsRules}
-use Rattle.sharc_ctype_laws.specs.Declared.{IsItself}
-use Rattle.sharc_ctype_laws.specs.Laws.{EachNamesItself, AllFair}
-use Rattle.sharc_ctype.specs.Statements.{locals_in_all as declared_in_all}
+use Rattle.sharc_ctype.specs.{declared.expr.OperatorClass.OperatorClass, declared.expr.OperatorClass.TheVariants.{Logical, Equality, Relation, Shift, Arithmetic}, Expressions.{number_kind, class_of, binary_result}, Resolved.{Resolution, named_at, global_at, function_at, declaration_at, functions_in, variable_kind, global_kind_of, result_kind_of, named_kind, called_kind, kind_at}, Transfers.{Transfer, lvalue, variable, result, function_transfers, IsFair}, Statements.{locals_in_all as declared_in_all}}
+use Rattle.sharc_mode.specs.{Moded.Assignment, Notes.base_of, Rows.{written, declared_row, behind, row_at, modes_of, modes_at}, Sharings.{Sharing, same_all}}
+use Rattle.sharc_mode_laws.specs.{Constructs.{IsFunction, IsGiven, assigned, initial, returned, locals_in_all}, Laws.RulesAreMet, Rules.MeetsRules}
+use Rattle.sharc_ctype_laws.specs.{Declared.IsItself, Laws.{EachNamesItself, AllFair}}
 use Rattle.sharc_flat.specs.Scope.{Context}
-use Rattle.sharc_accepted_laws.specs.Static.{static_of, entry_by, entry_of, GoesTo}
-use Rattle.sharc_accepted_laws.specs.StaticLaws.{IsAccepted, AssignedGoes, BegunGoes, ReturnedGoes, GivenLaws}
+use Rattle.sharc_accepted_laws.specs.{Static.{static_of, entry_by, entry_of, GoesTo}, StaticLaws.{IsAccepted, AssignedGoes, BegunGoes, ReturnedGoes, GivenLaws}}
 use Rattle.sharc_invariant.specs.Labels.{Refers}
-use Rattle.sharc_accepted_laws.proofs.Same.{type_of_same}
-use Rattle.sharc_accepted_laws.proofs.Transferred.{Begins, locals_begin}
-use Rattle.sharc_accepted_laws.proofs.StaticLocals.{OfLocal, in_each}
-use Rattle.sharc_accepted_laws.proofs.TargetLists.{of_each}
-use Rattle.sharc_accepted_laws.proofs.Found.{front, back}
-use Rattle.sharc_accepted_laws.proofs.TypableRegisters.{none_some}
+use Rattle.sharc_accepted_laws.proofs.{Same.type_of_same, Transferred.{Begins, locals_begin}, StaticLocals.{OfLocal, in_each}}
+use Rattle.sharc_lemmas.proofs.{Options.none_some, Lists.{front, back, of_each}}
 
 -- ---- kinds
 same_bases : (a b : Base) → same_base a b ≡ true → a ≡ b

@@ -1,35 +1,17 @@
 -- The cells of the globals of a well-moded program are good.
 use Rattle.std.proofs.Common.{◌≡◌, inl, inr, ℕ, zero, suc, ◌+◌, ◌-◌, ◌*◌, ◌<◌, Bool, true, false, cond, List, [], ◌∷◌, length, map, replicate, slice_index_or, refl, ap, sym, ◌∙◌, subst, arith, Some, Contains}
 use Rattle.std.specs.Prelude.{slice_get}
-use Rattle.sharc_tree.specs.declared.ctype.Mode.{Mode}
+use Rattle.sharc_tree.specs.{declared.ctype.Mode.Mode, declared.tree.declaration.WrittenType.WrittenType, declared.tree.item.GlobalDefinition.GlobalDefinition, Low.IsLow}
 use Rattle.sharc_tree.specs.declared.ctype.Mode.TheVariants as mode
-use Rattle.sharc_tree.specs.declared.tree.declaration.WrittenType.{WrittenType}
-use Rattle.sharc_tree.specs.declared.tree.item.GlobalDefinition.{GlobalDefinition}
-use Rattle.sharc_tree.specs.Low.{IsLow}
 use Rattle.sharc_names.specs.declared.types.Role.TheVariants as role
 use Rattle.sharc_names.specs.Kinds.{is_pointer, is_struct_base, declared_kind}
-use Rattle.sharc_ctype.specs.Entities.{declared, positions_of, first_depth, entity_at}
-use Rattle.sharc_ctype.specs.Globals.{elements_of}
-use Rattle.sharc_ctype.specs.Resolved.{globals_in}
-use Rattle.sharc_mode.specs.Cells.{first_mode}
-use Rattle.sharc_mode.specs.Moded.{Assignment, mode_at}
-use Rattle.sharc_mode.specs.Pairs.{IsBelow}
-use Rattle.sharc_mode.specs.Rows.{written, entity_row, declared_row, modes_of}
-use Rattle.sharc_mode.specs.Sharings.{racy, sharing_of}
-use Rattle.sharc_invariant.specs.Types.{Field, no_field, AreTargets}
-use Rattle.sharc_invariant.specs.Types.{FieldMode as field}
+use Rattle.sharc_ctype.specs.{Entities.{declared, positions_of, first_depth, entity_at}, Globals.elements_of, Resolved.globals_in}
+use Rattle.sharc_mode.specs.{Cells.first_mode, Moded.{Assignment, mode_at}, Pairs.IsBelow, Rows.{written, entity_row, declared_row, modes_of}, Sharings.{racy, sharing_of}}
+use Rattle.sharc_invariant.specs.Types.{Field, no_field, AreTargets, FieldMode as field}
 use Rattle.sharc_flat.specs.Tables.{cells_in, granules_in}
-use Rattle.sharc_accepted_laws.specs.Shapes.{private_form, form_of, shape_of, shapes}
-use Rattle.sharc_accepted_laws.specs.Targets.{starts_private, global_mode, field_locks, base_content, pointer_content, declared_content, base_fields, top_mode, global_element, repeated, global_fields, all_global_fields, targets_of}
-use Rattle.sharc_accepted_laws.proofs.Fits.{struct_base, entity_there, never_racy, form_private}
-use Rattle.sharc_accepted_laws.proofs.TargetForms.{level_of, skipped}
-use Rattle.sharc_accepted_laws.proofs.Found.{IsThere, global_found, global_low}
-use Rattle.sharc_accepted_laws.proofs.Good.{IsOwn, AreGood, global_own, global_racy, none_are, both_good, padding_good, one_good, pointer_good}
-use Rattle.sharc_accepted_laws.proofs.TargetLists.{head_there, tail_there}
-use Rattle.sharc_accepted_laws.proofs.TargetMembers.{levels_many, some_there}
-use Rattle.sharc_accepted_laws.proofs.Rows.{IsKnown, starts_at, targets_many, ends_within, base_good, rows_good}
-use Rattle.sharc_accepted_laws.proofs.Settling.{dropped_length}
-use Rattle.sharc_accepted_laws.proofs.Table.{IsGood, IsGoodTable, are_targets}
+use Rattle.sharc_accepted_laws.specs.{Shapes.{private_form, form_of, shape_of, shapes}, Targets.{starts_private, global_mode, field_locks, base_content, pointer_content, declared_content, base_fields, top_mode, global_element, repeated, global_fields, all_global_fields, targets_of}}
+use Rattle.sharc_accepted_laws.proofs.{Fits.{struct_base, entity_there, never_racy, form_private}, TargetForms.{level_of, skipped}, Found.{IsThere, global_found, global_low}, Good.{IsOwn, AreGood, global_own, global_racy, none_are, both_good, padding_good, one_good, pointer_good}, TargetMembers.levels_many, Rows.{IsKnown, starts_at, targets_many, ends_within, base_good, rows_good}, Settling.dropped_length, Table.{IsGood, IsGoodTable, are_targets}}
+use Rattle.sharc_lemmas.proofs.Lists.{head_there, some_there, tail_there}
 
 sharing_racy : (x : Mode) → sharing_of x ≡ racy → x ≡ mode.Racy
 sharing_racy mode.Private h = cc

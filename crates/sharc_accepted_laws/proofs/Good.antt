@@ -1,19 +1,14 @@
 -- Good fields of the table: of one cell, and of a pointer to a shape of the program.
-use Rattle.std.proofs.Common.{◌≡◌, ℕ, zero, suc, ◌+◌, ◌-◌, ◌<◌, Bool, true, false, List, [], ◌∷◌, ◌++◌, length, replicate, slice_index_or, refl, ap, sym, ◌∙◌, subst, arith, ⊎_elim, Contains}
-use Rattle.std.proofs.lemmas.Bool.{false≢true, cases_lt}
+use Rattle.std.proofs.{Common.{◌≡◌, ℕ, zero, suc, ◌+◌, ◌-◌, ◌<◌, Bool, true, false, List, [], ◌∷◌, ◌++◌, length, replicate, slice_index_or, refl, ap, sym, ◌∙◌, subst, arith, ⊎_elim, Contains}, lemmas.Bool.{false≢true, cases_lt}}
 use Rattle.std.specs.List.{AllByRecursion}
 use Rattle.sharc_tree.specs.declared.ctype.Base.{Base}
 use Rattle.sharc_tree.specs.declared.ctype.Base.TheVariants as base
-use Rattle.sharc_mode.specs.Moded.{Assignment}
-use Rattle.sharc_mode.specs.Sharings.{Sharing, private, readonly, locked, racy, dynamic}
+use Rattle.sharc_mode.specs.{Moded.Assignment, Sharings.{Sharing, private, readonly, locked, racy, dynamic}}
 use Rattle.sharc_ctype.specs.Resolved.{Resolution}
-use Rattle.sharc_invariant.specs.Types.{FieldLock, FieldMode, Under, FieldType, Content, MutexWord, Waiters, Pointer, Field, Target, Targets, row_of, no_field, is_mutex, is_pointer}
-use Rattle.sharc_invariant.specs.Types.{FieldMode as field}
-use Rattle.sharc_accepted_laws.specs.Shapes.{Form, private_form, readonly_form, locked_form, racy_form, dynamic_form, Shape, shapes, number}
-use Rattle.sharc_accepted_laws.specs.Targets.{own_mode, global_mode, is_private_mode, is_private_form, starts_private, base_content, single, targets_of}
-use Rattle.sharc_accepted_laws.proofs.TargetLists.{both}
-use Rattle.sharc_accepted_laws.proofs.Numbers.{numbers_found}
-use Rattle.sharc_accepted_laws.proofs.Table.{IsGood, IsBeside, AreBeside, none_good, racy_behind}
+use Rattle.sharc_invariant.specs.Types.{FieldLock, FieldMode, Under, FieldType, Content, MutexWord, Waiters, Pointer, Field, Target, Targets, row_of, no_field, is_mutex, is_pointer, FieldMode as field}
+use Rattle.sharc_accepted_laws.specs.{Shapes.{Form, private_form, readonly_form, locked_form, racy_form, dynamic_form, Shape, shapes, number}, Targets.{own_mode, global_mode, is_private_mode, is_private_form, starts_private, base_content, single, targets_of}}
+use Rattle.sharc_accepted_laws.proofs.{Numbers.numbers_found, Table.{IsGood, IsBeside, AreBeside, none_good, racy_behind}}
+use Rattle.sharc_lemmas.proofs.Lists.{both}
 
 -- ---- modes of elements
 -- the mode of an element in data that is private or not

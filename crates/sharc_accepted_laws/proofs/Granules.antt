@@ -1,14 +1,10 @@
 -- A global takes no more granules than it has cells.
 use Rattle.std.proofs.Common.{◌≡◌, ℕ, ◌+◌, ◌*◌, ◌/◌, ◌==◌, ◌≤◌, Bool, true, false, cond, List, [], ◌∷◌, length, Some, refl, ap, arith, bytes_eq}
-use Rattle.sharc_tree.specs.declared.ctype.Base.{Base}
+use Rattle.sharc_tree.specs.{declared.ctype.Base.Base, declared.tree.item.GlobalDefinition.GlobalDefinition, declared.tree.item.StructDefinition.StructDefinition}
 use Rattle.sharc_tree.specs.declared.ctype.Base.TheVariants as base
-use Rattle.sharc_tree.specs.declared.tree.item.GlobalDefinition.{GlobalDefinition}
-use Rattle.sharc_tree.specs.declared.tree.item.StructDefinition.{StructDefinition}
 use Rattle.sharc_names.specs.Kinds.{stars_of}
-use Rattle.sharc_ctype.specs.Globals.{elements_of}
-use Rattle.sharc_ctype.specs.Resolved.{Resolution, structs_in, globals_in}
-use Rattle.sharc_ctype_laws.specs.Constraints.{struct_named}
-use Rattle.sharc_ctype_laws.specs.Sizes.{struct_size, base_size, global_size, all_sizes, CellsAreFew}
+use Rattle.sharc_ctype.specs.{Globals.elements_of, Resolved.{Resolution, structs_in, globals_in}}
+use Rattle.sharc_ctype_laws.specs.{Constraints.struct_named, Sizes.{struct_size, base_size, global_size, all_sizes, CellsAreFew}}
 use Rattle.sharc_meaning.specs.Cells.{struct_cells, base_cells}
 use Rattle.sharc_flat.specs.Tables.{cells_in, all_granules}
 use Rattle.sharc_accepted_laws.specs.Granules.{GranulesAreFew}

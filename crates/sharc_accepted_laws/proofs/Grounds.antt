@@ -1,33 +1,19 @@
 -- What lvalues name, as sharc_typed_laws reads it off them.
-use Rattle.std.proofs.Common.{◌≡◌, ℕ, Bool, true, false, cond, List, refl, ap, sym, ◌∙◌, Option, Some, None}
-use Rattle.std.proofs.lemmas.Bool.{false≢true}
+use Rattle.std.proofs.{Common.{◌≡◌, ℕ, Bool, true, false, cond, List, refl, ap, sym, ◌∙◌, Option, Some, None}, lemmas.Bool.false≢true}
 use Rattle.std.specs.List.{AllByRecursion}
-use Rattle.sharc_tree.specs.declared.tree.expression.Access.TheVariants.{Dot, Arrow}
-use Rattle.sharc_tree.specs.declared.tree.expression.UnaryOperator.TheVariants.{Negate, Not, Complement, Dereference}
-use Rattle.sharc_tree.specs.Measures.{expressions}
-use Rattle.sharc_tree.specs.Tree.{Expression, identifier, constant, parentheses, call, spawn, on_value, on_place, cast, index, field, unary, binary}
-use Rattle.sharc_names.specs.declared.fault.Named.{Named}
+use Rattle.sharc_tree.specs.{declared.tree.expression.Access.TheVariants.{Dot, Arrow}, declared.tree.expression.UnaryOperator.TheVariants.{Negate, Not, Complement, Dereference}, Measures.expressions, Tree.{Expression, identifier, constant, parentheses, call, spawn, on_value, on_place, cast, index, field, unary, binary}}
+use Rattle.sharc_names.specs.{declared.fault.Named.Named, Kinds.is_array}
 use Rattle.sharc_names.specs.declared.fault.Named.TheVariants as named
-use Rattle.sharc_names.specs.Kinds.{is_array}
 use Rattle.sharc_ctype.specs.Resolved.{Resolution, named_at, global_at, kind_at}
 use Rattle.sharc_meaning.specs.Cells.{element_cells, global_elements, field_place_named}
-use Rattle.sharc_mode.specs.Rows.{modes_at}
-use Rattle.sharc_mode.specs.Sharings.{Sharing}
+use Rattle.sharc_mode.specs.{Rows.modes_at, Sharings.Sharing}
 use Rattle.sharc_mode_laws.specs.Constructs.{IsExpression}
-use Rattle.sharc_flat.specs.Scope.{Context}
-use Rattle.sharc_flat.specs.Places.{variable, in_global_at, in_object, in_object_at, global_of, has_base, named_target, own_field, target}
+use Rattle.sharc_flat.specs.{Scope.Context, Places.{variable, in_global_at, in_object, in_object_at, global_of, has_base, named_target, own_field, target}}
 use Rattle.sharc_invariant.specs.Types.{StaticType}
-use Rattle.sharc_typed_laws.specs.Stretches.{Setting}
-use Rattle.sharc_typed_laws.specs.Places.{no_type}
-use Rattle.sharc_typed_laws.specs.Premises.{Typing, Ground}
-use Rattle.sharc_typed_laws.specs.Typable.{type_by, ground_of}
-use Rattle.sharc_accepted_laws.specs.Static.{static_of, entry_by, entry_of}
-use Rattle.sharc_accepted_laws.specs.Lvalues.{LvaluesFit, pointer_of, IsArrayOf, ArraysFit}
-use Rattle.sharc_accepted_laws.specs.Accesses.{list_or, modes_of_pointer, kind_of_pointer, cells_in_each}
-use Rattle.sharc_accepted_laws.specs.Joined.{GroundsFit}
-use Rattle.sharc_accepted_laws.proofs.AccessPointing.{has_pointer_modes}
-use Rattle.sharc_accepted_laws.proofs.Standing.{lvalue_cells}
-use Rattle.sharc_accepted_laws.proofs.AccessLists.{front, self}
+use Rattle.sharc_typed_laws.specs.{Stretches.Setting, Places.no_type, Premises.{Typing, Ground}, Typable.{type_by, ground_of}}
+use Rattle.sharc_accepted_laws.specs.{Static.{static_of, entry_by, entry_of}, Lvalues.{LvaluesFit, pointer_of, IsArrayOf, ArraysFit}, Accesses.{list_or, modes_of_pointer, kind_of_pointer, cells_in_each}, Joined.GroundsFit}
+use Rattle.sharc_accepted_laws.proofs.{AccessPointing.has_pointer_modes, Standing.lvalue_cells, AccessLists.self}
+use Rattle.sharc_lemmas.proofs.Lists.{front}
 
 name_base : (n : Named) (k : ℕ) → has_base (named_target n k) ≡ false
 name_base (named.Variable x) k = refl

@@ -1,45 +1,18 @@
 -- Lock paths lead through variables that are held: constant ones, by M4, of which nothing takes the reference, by M10.
-use Rattle.std.proofs.Common.{◌≡◌, inl, inr, ℕ, ◌<◌, ◌==◌, Bool, true, false, cond, ◌&&◌, ◌||◌, not, List, [], ◌∷◌, refl, ap, sym, ◌∙◌, subst, option_to_list, eqb-true, Option, Some, None, is_some, Contains}
-use Rattle.std.proofs.lemmas.Bool.{false≢true, and_from, eq-eqb}
+use Rattle.std.proofs.{Common.{◌≡◌, inl, inr, ℕ, ◌<◌, ◌==◌, Bool, true, false, cond, ◌&&◌, ◌||◌, not, List, [], ◌∷◌, refl, ap, sym, ◌∙◌, subst, option_to_list, eqb-true, Option, Some, None, is_some, Contains}, lemmas.Bool.{false≢true, and_from, and_left as constant_not}}
 use Rattle.std.specs.List.{AllByRecursion, list_any}
-use Rattle.sharc_tree.specs.declared.ctype.Mode.TheVariants.{Locked}
-use Rattle.sharc_tree.specs.declared.ctype.Path.{Path}
-use Rattle.sharc_tree.specs.declared.token.Span.{Span}
-use Rattle.sharc_tree.specs.declared.tree.declaration.Identifier.{Identifier}
-use Rattle.sharc_tree.specs.declared.tree.expression.Access.{Access}
-use Rattle.sharc_tree.specs.declared.tree.expression.PlaceCall.TheVariants.{Lock as LockCall, Unlock, Free}
-use Rattle.sharc_tree.specs.Forms.{without_parentheses}
-use Rattle.sharc_tree.specs.Measures.{expressions, in_function}
-use Rattle.sharc_tree.specs.Tree.{Expression, Right, Function}
+use Rattle.sharc_tree.specs.{declared.ctype.Mode.TheVariants.Locked, declared.ctype.Path.Path, declared.token.Span.Span, declared.tree.declaration.Identifier.Identifier, declared.tree.expression.Access.Access, declared.tree.expression.PlaceCall.TheVariants.{Lock as LockCall, Unlock, Free}, Forms.without_parentheses, Measures.{expressions, in_function}, Tree.{Expression, Right, Function}}
 use Rattle.sharc_tree.specs.Tree as tree
 use Rattle.sharc_names.specs.declared.fault.Named.{Named}
 use Rattle.sharc_names.specs.declared.fault.Named.TheVariants as named
-use Rattle.sharc_ctype.specs.declared.entity.Entity.{Entity}
-use Rattle.sharc_ctype.specs.declared.entity.Numbered.{Numbered}
-use Rattle.sharc_ctype.specs.Constants.{is_among, is_assigned_by, is_assigned_in, is_assigned, is_constant}
-use Rattle.sharc_ctype.specs.Resolved.{Resolution, named_at, functions_in}
-use Rattle.sharc_ctype.specs.Transfers.{lvalue, function_transfers}
-use Rattle.sharc_ctype.specs.Variables.{variable as variables, variable_of}
-use Rattle.sharc_mode.specs.Moded.{Assignment}
-use Rattle.sharc_mode.specs.Notes.{taken_variable}
-use Rattle.sharc_mode.specs.Rows.{written, base_use, path_variable, declared_row, modes_of, modes_at}
-use Rattle.sharc_mode.specs.Sharings.{Lock, Sharing, private, readonly, locked, racy, dynamic, lock_of, variable_named, object_named, object_of, text_at}
-use Rattle.sharc_mode_laws.specs.Constructs.{IsExpression, IsEntity, IsTaken, cast_away, freed, IsAssigned}
-use Rattle.sharc_mode_laws.specs.Laws.{RulesAreMet}
-use Rattle.sharc_mode_laws.specs.Paths.{IsAllowed, global_mutex, sibling_mutex, sibling_pointer, through_constant, IsThroughConstant, through, IsSiblingUse, IsNamedByPath, is_written, is_made}
-use Rattle.sharc_flat.specs.Scope.{Context, slot_kind, ref_count}
-use Rattle.sharc_flat.specs.Suits.{PathNamed}
+use Rattle.sharc_ctype.specs.{declared.entity.Entity.Entity, declared.entity.Numbered.Numbered, Constants.{is_among, is_assigned_by, is_assigned_in, is_assigned, is_constant}, Resolved.{Resolution, named_at, functions_in}, Transfers.{lvalue, function_transfers}, Variables.{variable as variables, variable_of}}
+use Rattle.sharc_mode.specs.{Moded.Assignment, Notes.taken_variable, Rows.{written, base_use, path_variable, declared_row, modes_of, modes_at}, Sharings.{Lock, Sharing, private, readonly, locked, racy, dynamic, lock_of, variable_named, object_named, object_of, text_at}}
+use Rattle.sharc_mode_laws.specs.{Constructs.{IsExpression, IsEntity, IsTaken, cast_away, freed, IsAssigned}, Laws.RulesAreMet, Paths.{IsAllowed, global_mutex, sibling_mutex, sibling_pointer, through_constant, IsThroughConstant, through, IsSiblingUse, IsNamedByPath, is_written, is_made}}
+use Rattle.sharc_flat.specs.{Scope.{Context, slot_kind, ref_count}, Suits.PathNamed}
 use Rattle.sharc_invariant.specs.Types.{Names, SomeNames}
-use Rattle.sharc_accepted_laws.specs.StaticLaws.{IsAccepted}
-use Rattle.sharc_accepted_laws.specs.Held.{taken_by, is_taken, is_held, held_named, held_at, IsHeldPath, AllHeld, AssignedIsNotHeld, TakenIsNotHeld, HeldLaws}
-use Rattle.sharc_accepted_laws.specs.Scopes.{AllStand}
-use Rattle.sharc_accepted_laws.specs.Static.{register, lock_named, locks_at}
-use Rattle.sharc_accepted_laws.proofs.StaticLists.{passes_there, passes_by}
-use Rattle.sharc_accepted_laws.proofs.Origins.{is_use, Of, found_named, expression_of}
-use Rattle.sharc_accepted_laws.proofs.StaticRegisters.{register_at, register_low}
-use Rattle.sharc_accepted_laws.proofs.TargetLists.{place_of_element, same_some}
-use Rattle.sharc_accepted_laws.proofs.AccessLists.{each}
-use Rattle.sharc_accepted_laws.proofs.TypableRegisters.{none_some}
+use Rattle.sharc_accepted_laws.specs.{StaticLaws.IsAccepted, Held.{taken_by, is_taken, is_held, held_named, held_at, IsHeldPath, AllHeld, AssignedIsNotHeld, TakenIsNotHeld, HeldLaws}, Scopes.AllStand, Static.{register, lock_named, locks_at}}
+use Rattle.sharc_accepted_laws.proofs.{StaticLists.{passes_there, passes_by}, Origins.{is_use, Of, found_named, expression_of}, StaticRegisters.{register_at, register_low}}
+use Rattle.sharc_lemmas.proofs.{Numbers.{same_is as same_itself}, Options.{same_some, none_some}, Lists.{each, place_of_element}}
 
 -- ---- the variable of a path
 variable_is : (n : Named) (x : ℕ) → variable_named n ≡ Some x → n ≡ named.Variable x
@@ -178,12 +151,6 @@ module _ (c : Context) (p : ℕ) where
 not_both : (a b : Bool) → b ≡ true → (a && not b) ≡ false
 not_both true b h = ap not h
 not_both false b h = refl
-
-constant_not : (a b : Bool) → a ≡ false → (a && b) ≡ false
-constant_not a b h = ap (λ z. z && b) h
-
-same_itself : (x : ℕ) → (x == x) ≡ true
-same_itself x = eq-eqb x x refl
 
 among_itself : (x : ℕ) (rest : List ℕ) → is_among x (x ∷ rest) ≡ true
 among_itself x rest = ap (λ b. b || is_among x rest) (same_itself x)

@@ -5,12 +5,7 @@ use Rattle.sharc_mode.specs.Moded.{Assignment}
 use Rattle.sharc_flat_form.specs.Made.{flat_of}
 use Rattle.sharc_flat.specs.Tables.{globals_of}
 use Rattle.sharc_typed_laws.specs.Programs.{CodeIsWellTyped}
-use Rattle.sharc_accepted_laws.specs.Typing.{typing}
-use Rattle.sharc_accepted_laws.specs.Accepted.{GlobalsAreNamed, AcceptedIsTyped}
-use Rattle.sharc_accepted_laws.specs.Cells.{CellsAreTyped}
-use Rattle.sharc_accepted_laws.specs.Expressions.{CellsTyped}
-use Rattle.sharc_accepted_laws.specs.Programs.{AllCellsTyped, ProgramsAreTypable, CodeIsSet}
-use Rattle.sharc_accepted_laws.specs.Setting.{setting_of}
+use Rattle.sharc_accepted_laws.specs.{Typing.typing, Accepted.{GlobalsAreNamed, AcceptedIsTyped}, Cells.CellsAreTyped, Expressions.CellsTyped, Programs.{AllCellsTyped, ProgramsAreTypable, CodeIsSet}, Setting.setting_of}
 
 -- wherever variables stand in a function
 everywhere : CellsAreTyped → (m : Assignment) (code : Code) (alone : ℕ → Bool) (lines : ℕ) → AllCellsTyped m code alone lines

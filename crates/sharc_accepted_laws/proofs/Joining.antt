@@ -1,37 +1,18 @@
 -- The accesses of an accepted program, by the laws of lvalues' cells.
-use Rattle.std.proofs.Common.{◌≡◌, ◌⊎◌, inl, inr, ℕ, zero, suc, ◌+◌, ◌<◌, ◌≤◌, ◌==◌, ◌&&◌, Bool, true, false, List, refl, ap, sym, ◌∙◌, subst, arith, eqb-true, Option, Some, None}
-use Rattle.std.proofs.lemmas.Bool.{false≢true}
-use Rattle.sharc_tree.specs.declared.ctype.Base.{Base}
+use Rattle.std.proofs.{Common.{◌≡◌, ◌⊎◌, inl, inr, ℕ, zero, suc, ◌+◌, ◌<◌, ◌≤◌, ◌==◌, ◌&&◌, Bool, true, false, List, refl, ap, sym, ◌∙◌, subst, arith, eqb-true, Option, Some, None}, lemmas.Bool.false≢true}
+use Rattle.sharc_tree.specs.{declared.ctype.Base.Base, declared.token.Site.Site, Tree.Expression}
 use Rattle.sharc_tree.specs.declared.ctype.Base.TheVariants as base
-use Rattle.sharc_tree.specs.declared.token.Site.{Site}
-use Rattle.sharc_tree.specs.Tree.{Expression}
 use Rattle.sharc_names.specs.Kinds.{Kind, object, array, mutex, is_integer, is_pointer}
 use Rattle.sharc_names.specs.Kinds as kinds
-use Rattle.sharc_code.specs.declared.code.Code.{Code}
-use Rattle.sharc_code.specs.declared.code.Use.{Use}
-use Rattle.sharc_code.specs.declared.instr.Cell.{Cell}
+use Rattle.sharc_code.specs.{declared.code.Code.Code, declared.code.Use.Use, declared.instr.Cell.Cell}
 use Rattle.sharc_ctype.specs.Resolved.{global_at, kind_at}
 use Rattle.sharc_meaning.specs.Cells.{global_elements}
-use Rattle.sharc_mode.specs.Cells.{is_mutex_kind, cell_at}
-use Rattle.sharc_mode.specs.Moded.{Assignment}
-use Rattle.sharc_mode.specs.Sharings.{Lock, Sharing}
+use Rattle.sharc_mode.specs.{Cells.{is_mutex_kind, cell_at}, Moded.Assignment, Sharings.{Lock, Sharing}}
 use Rattle.sharc_flat_form.specs.Machine.{first_cell}
-use Rattle.sharc_flat.specs.declared.slot.Lvalue.{Lvalue}
-use Rattle.sharc_flat.specs.Scope.{Context, ref_count}
-use Rattle.sharc_flat.specs.Places.{Target, variable, in_global, in_global_at, in_object, in_object_at, has_base, target, cell_of, guard_cell, field_of, beside_field, guard_field, spot_of, width_of}
-use Rattle.sharc_invariant.specs.Types.{StaticType, Content, Integer}
-use Rattle.sharc_invariant.specs.Labels.{Refers, Element, OfElement, OfGlobal, Loaded, Gate, Label, Labels, Signature, gated}
-use Rattle.sharc_invariant.specs.Typed.{IsRef, IsOwn, IsAlone, refs_in}
-use Rattle.sharc_typed_laws.specs.Stretches.{labels_by}
-use Rattle.sharc_typed_laws.specs.Places.{mark}
-use Rattle.sharc_typed_laws.specs.Premises.{Typing, HoldsVariables, Ground, HasNumbers, number_in_global, HasIndex, HasBaseAt, IsPlaced, ReachesInteger, HasMutex, ThroughGuard}
-use Rattle.sharc_accepted_laws.specs.Alone.{IsInside}
-use Rattle.sharc_accepted_laws.specs.Scopes.{ScopeLaws}
-use Rattle.sharc_accepted_laws.specs.Static.{register, variable_type}
-use Rattle.sharc_accepted_laws.specs.Lvalues.{ContentFits}
-use Rattle.sharc_accepted_laws.specs.Targets.{base_content}
-use Rattle.sharc_accepted_laws.specs.Accesses.{HasBaseIn, HasIndexOf, IsCellNumber, IsPlaceNumber, HaveTarget, modes_behind, base_type, cells_in_each, LockStands, of_global, of_variable, IsFairAccess, IsGated, IsCellLvalue, IsCodeOf, AccessFits, CellsStand, AccessesFit, GuardsFit}
-use Rattle.sharc_accepted_laws.specs.Joined.{LockLeads, to_global, to_variable, IsFairUse, setting, IsTypingOf, IsGroundOf, IntegersFit, MutexesFit}
+use Rattle.sharc_flat.specs.{declared.slot.Lvalue.Lvalue, Scope.{Context, ref_count}, Places.{Target, variable, in_global, in_global_at, in_object, in_object_at, has_base, target, cell_of, guard_cell, field_of, beside_field, guard_field, spot_of, width_of}}
+use Rattle.sharc_invariant.specs.{Types.{StaticType, Content, Integer}, Labels.{Refers, Element, OfElement, OfGlobal, Loaded, Gate, Label, Labels, Signature, gated}, Typed.{IsRef, IsOwn, IsAlone, refs_in}}
+use Rattle.sharc_typed_laws.specs.{Stretches.labels_by, Places.mark, Premises.{Typing, HoldsVariables, Ground, HasNumbers, number_in_global, HasIndex, HasBaseAt, IsPlaced, ReachesInteger, HasMutex, ThroughGuard}}
+use Rattle.sharc_accepted_laws.specs.{Alone.IsInside, Scopes.ScopeLaws, Static.{register, variable_type}, Lvalues.ContentFits, Targets.base_content, Accesses.{HasBaseIn, HasIndexOf, IsCellNumber, IsPlaceNumber, HaveTarget, modes_behind, base_type, cells_in_each, LockStands, of_global, of_variable, IsFairAccess, IsGated, IsCellLvalue, IsCodeOf, AccessFits, CellsStand, AccessesFit, GuardsFit}, Joined.{LockLeads, to_global, to_variable, IsFairUse, setting, IsTypingOf, IsGroundOf, IntegersFit, MutexesFit}}
 
 -- ---- contents
 integer_by : (b : Base) → kinds.is_integral b ≡ true → base_content b ≡ Integer (width_of (object b 0))

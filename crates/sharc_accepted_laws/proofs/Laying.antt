@@ -1,28 +1,19 @@
 -- Where the cells of structs and of globals stand in the table.
-use Rattle.std.proofs.Common.{◌≡◌, ℕ, zero, suc, ◌+◌, ◌-◌, ◌*◌, ◌/◌, ◌<◌, ◌≤◌, Bool, true, false, cond, List, [], ◌∷◌, ◌++◌, length, replicate, slice_index_or, refl, ap, sym, ◌∙◌, subst, arith, Some, Contains, bytes_eq}
-use Rattle.std.proofs.lemmas.Bool.{lt-ltb, ne_eqb}
-use Rattle.std.proofs.Math.Nat.{suc-mul}
+use Rattle.std.proofs.{Common.{◌≡◌, ℕ, zero, suc, ◌+◌, ◌-◌, ◌*◌, ◌/◌, ◌<◌, ◌≤◌, Bool, true, false, cond, List, [], ◌∷◌, ◌++◌, length, replicate, slice_index_or, refl, ap, sym, ◌∙◌, subst, arith, Some, Contains, bytes_eq}, lemmas.Bool.{lt-ltb, ne_eqb}, Math.Nat.suc-mul}
 use Rattle.std.specs.Prelude.{slice_get}
-use Rattle.sharc_tree.specs.declared.tree.item.GlobalDefinition.{GlobalDefinition}
-use Rattle.sharc_tree.specs.declared.tree.item.StructDefinition.{StructDefinition}
+use Rattle.sharc_tree.specs.{declared.tree.item.GlobalDefinition.GlobalDefinition, declared.tree.item.StructDefinition.StructDefinition}
 use Rattle.sharc_names.specs.Kinds.{object, is_pointer, declared_kind}
 use Rattle.sharc_code.specs.Says.{no_global}
-use Rattle.sharc_ctype.specs.Globals.{elements_of}
-use Rattle.sharc_ctype.specs.Resolved.{Resolution, structs_in, globals_in}
+use Rattle.sharc_ctype.specs.{Globals.elements_of, Resolved.{Resolution, structs_in, globals_in}}
 use Rattle.sharc_ctype_laws.specs.Constraints.{struct_named}
 use Rattle.sharc_meaning.specs.Cells.{element_cells, base_cells, field_place}
 use Rattle.sharc_mode.specs.Moded.{Assignment}
 use Rattle.sharc_flat_form.specs.Machine.{first_cell}
 use Rattle.sharc_flat.specs.Tables.{cells_in, granules_in, globals_from, globals_of, all_granules}
 use Rattle.sharc_invariant.specs.Types.{FieldMode, Field, no_field}
-use Rattle.sharc_accepted_laws.specs.TargetLaws.{MembersAre, GlobalsAre, GlobalsEnd}
-use Rattle.sharc_accepted_laws.specs.Targets.{member, members, struct_fields, base_fields, declared_content, top_mode, global_element, repeated, global_fields, all_global_fields}
-use Rattle.sharc_accepted_laws.proofs.TargetCells.{member_count, base_count}
-use Rattle.sharc_accepted_laws.proofs.Good.{at_left, at_right, size}
-use Rattle.sharc_accepted_laws.proofs.TargetLists.{head_there, tail_there, same_some, place_of_element}
-use Rattle.sharc_accepted_laws.proofs.TargetMembers.{members_at, below_there}
-use Rattle.sharc_accepted_laws.proofs.Owners.{place_is}
-use Rattle.sharc_accepted_laws.proofs.TypableRegisters.{none_some}
+use Rattle.sharc_accepted_laws.specs.{TargetLaws.{MembersAre, GlobalsAre, GlobalsEnd}, Targets.{member, members, struct_fields, base_fields, declared_content, top_mode, global_element, repeated, global_fields, all_global_fields}}
+use Rattle.sharc_accepted_laws.proofs.{TargetCells.{member_count, base_count}, Good.{at_left, at_right, size}, TargetMembers.{members_at, below_there}, Owners.place_is}
+use Rattle.sharc_lemmas.proofs.{Options.{same_some, none_some}, Lists.{head_there, place_of_element, tail_there}}
 
 -- ---- structs
 -- the fields of a struct are those of the first one of its name

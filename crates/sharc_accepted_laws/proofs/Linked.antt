@@ -1,32 +1,16 @@
 -- What statements ask of expressions, from what holds of cells.
-use Rattle.std.proofs.Common.{◌≡◌, inl, inr, ℕ, ◌+◌, Bool, true, false, List, refl, ap, sym, ◌∙◌, subst, ◌&&◌, Option, Some, None}
-use Rattle.std.proofs.lemmas.Bool.{false≢true}
-use Rattle.sharc_tree.specs.declared.ctype.Base.{Base}
-use Rattle.sharc_tree.specs.declared.ctype.Base.TheVariants.{Int, Char, Long, Mutex, Void, Struct}
-use Rattle.sharc_tree.specs.Spans.{span_of}
-use Rattle.sharc_tree.specs.Tree.{Expression, Right, Function}
+use Rattle.std.proofs.{Common.{◌≡◌, inl, inr, ℕ, ◌+◌, Bool, true, false, List, refl, ap, sym, ◌∙◌, subst, ◌&&◌, Option, Some, None}, lemmas.Bool.false≢true}
+use Rattle.sharc_tree.specs.{declared.ctype.Base.Base, declared.ctype.Base.TheVariants.{Int, Char, Long, Mutex, Void, Struct}, Spans.span_of, Tree.{Expression, Right, Function}}
 use Rattle.sharc_names.specs.Kinds.{Kind, object, is_integral, is_pointer, is_array, is_struct_base, is_struct_behind}
 use Rattle.sharc_code.specs.declared.code.Use.TheVariants as uses
 use Rattle.sharc_ctype_laws.specs.Rules.{IsHeld}
-use Rattle.sharc_mode.specs.Cells.{is_mutex_kind}
-use Rattle.sharc_mode.specs.Rows.{modes_at}
-use Rattle.sharc_mode.specs.Sharings.{Sharing}
+use Rattle.sharc_mode.specs.{Cells.is_mutex_kind, Rows.modes_at, Sharings.Sharing}
 use Rattle.sharc_mode_laws.specs.Constructs.{IsAssigned}
-use Rattle.sharc_flat.specs.Flattened.{kind_of, is_ref, target_of, guard_of}
-use Rattle.sharc_flat.specs.Scope.{Context}
-use Rattle.sharc_flat.specs.Suits.{PlaceSuits, is_cell}
-use Rattle.sharc_typed_laws.specs.Stretches.{Setting}
-use Rattle.sharc_typed_laws.specs.Stated.{CellAssigned}
-use Rattle.sharc_typed_laws.specs.Typable.{type_by, IsTypable, IsPlaceTypable}
-use Rattle.sharc_accepted_laws.specs.Typed.{IsOf, BasesStand, CellTyped}
-use Rattle.sharc_accepted_laws.specs.Static.{entry_by, entry_of}
-use Rattle.sharc_accepted_laws.specs.Typing.{typing}
-use Rattle.sharc_accepted_laws.specs.Expressions.{CellsTyped, ExpressionsTypable, ExpressionsAreTypable}
-use Rattle.sharc_accepted_laws.specs.Statements.{IsPlaceIn, IsThere, AreExpressionsTypable}
-use Rattle.sharc_accepted_laws.proofs.Assigned.{Laws, at_there}
-use Rattle.sharc_accepted_laws.proofs.Sorts.{held_pointer, held_integer}
-use Rattle.sharc_accepted_laws.proofs.Wholes.{some_star}
-use Rattle.sharc_accepted_laws.proofs.AccessFirsts.{no_entry}
+use Rattle.sharc_flat.specs.{Flattened.{kind_of, is_ref, target_of, guard_of}, Scope.Context, Suits.{PlaceSuits, is_cell}}
+use Rattle.sharc_typed_laws.specs.{Stretches.Setting, Stated.CellAssigned, Typable.{type_by, IsTypable, IsPlaceTypable}}
+use Rattle.sharc_accepted_laws.specs.{Typed.{IsOf, BasesStand, CellTyped}, Static.{entry_by, entry_of}, Typing.typing, Expressions.{CellsTyped, ExpressionsTypable, ExpressionsAreTypable}, Statements.{IsPlaceIn, IsThere, AreExpressionsTypable}}
+use Rattle.sharc_accepted_laws.proofs.{Assigned.{Laws, at_there}, Sorts.{held_pointer, held_integer}, AccessFirsts.no_entry}
+use Rattle.sharc_lemmas.proofs.Numbers.{some_star}
 
 -- ---- what is held by a variable or a cell
 base_plain : (b : Base) → is_integral b ≡ true → (is_struct_behind 0 (object b 0) ≡ false) × (is_mutex_kind (object b 0) ≡ false)

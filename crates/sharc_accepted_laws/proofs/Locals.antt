@@ -1,14 +1,12 @@
 -- What holds of the declarations of a function's locals holds of the locals.
 use Rattle.std.proofs.Common.{List}
 use Rattle.std.specs.List.{AllByRecursion}
-use Rattle.sharc_tree.specs.declared.tree.declaration.Declaration.{Declaration}
-use Rattle.sharc_tree.specs.Tree.{Local, First, nothing, declares, does, Statement, Statements, no_statements, statement}
+use Rattle.sharc_tree.specs.{declared.tree.declaration.Declaration.Declaration, Tree.{Local, First, nothing, declares, does, Statement, Statements, no_statements, statement}}
 use Rattle.sharc_tree.specs.Tree as tree
 use Rattle.sharc_ctype.specs.Statements.{first_locals}
 use Rattle.sharc_ctype.specs.Statements as declared
 use Rattle.sharc_mode_laws.specs.Constructs.{locals_in_first, locals_in, locals_in_all}
-use Rattle.sharc_accepted_laws.proofs.TargetLists.{both}
-use Rattle.sharc_accepted_laws.proofs.Found.{front, back}
+use Rattle.sharc_lemmas.proofs.Lists.{front, back, both}
 
 module _ (P : Declaration → Type 0) where
   abbrev pub OfLocal : Local → Type 0

@@ -1,52 +1,27 @@
 -- Each lvalue that is no struct names a variable, or a cell that the table has with its content and its mode.
-use Rattle.std.proofs.Common.{◌≡◌, inl, inr, ℕ, zero, suc, ◌+◌, ◌-◌, ◌<◌, ◌≤◌, true, false, cond, ◌&&◌, eq-eqb, List, [], ◌∷◌, ◌++◌, length, map, take, drop, slice_index_or, refl, ap, sym, ◌∙◌, subst, arith, Option, Some, None, Contains}
-use Rattle.std.proofs.lemmas.Bool.{true≢false, lt-ltb, ne_eqb}
+use Rattle.std.proofs.{Common.{◌≡◌, inl, inr, ℕ, zero, suc, ◌+◌, ◌-◌, ◌<◌, ◌≤◌, true, false, cond, ◌&&◌, eq-eqb, List, [], ◌∷◌, ◌++◌, length, map, take, drop, slice_index_or, refl, ap, sym, ◌∙◌, subst, arith, Option, Some, None, Contains}, lemmas.Bool.{true≢false, lt-ltb, ne_eqb}}
 use Rattle.std.specs.Prelude.{option_map}
-use Rattle.sharc_tree.specs.declared.ctype.Base.{Base}
+use Rattle.sharc_tree.specs.{declared.ctype.Base.Base, declared.ctype.Mode.Mode, declared.ctype.Path.Path, declared.tree.declaration.Declaration.Declaration, declared.tree.declaration.Identifier.Identifier, declared.tree.expression.Access.TheVariants.{Dot, Arrow}, declared.tree.expression.Constant.TheVariants.{Number, Character, Null}, declared.tree.expression.UnaryOperator.TheVariants.Dereference, declared.tree.item.GlobalDefinition.GlobalDefinition, declared.tree.item.GlobalForm.GlobalForm, declared.tree.item.StructDefinition.StructDefinition, Measures.{expressions, in_arguments}, Tree.Expression}
 use Rattle.sharc_tree.specs.declared.ctype.Base.TheVariants as base
-use Rattle.sharc_tree.specs.declared.ctype.Mode.{Mode}
 use Rattle.sharc_tree.specs.declared.ctype.Mode.TheVariants as mode
-use Rattle.sharc_tree.specs.declared.ctype.Path.{Path}
-use Rattle.sharc_tree.specs.declared.tree.declaration.Declaration.{Declaration}
 use Rattle.sharc_tree.specs.declared.token.NumberType.TheVariants as number_type
-use Rattle.sharc_tree.specs.declared.tree.declaration.Identifier.{Identifier}
-use Rattle.sharc_tree.specs.declared.tree.expression.Access.TheVariants.{Dot, Arrow}
-use Rattle.sharc_tree.specs.declared.tree.expression.Constant.TheVariants.{Number, Character, Null}
-use Rattle.sharc_tree.specs.declared.tree.expression.UnaryOperator.TheVariants.{Dereference}
-use Rattle.sharc_tree.specs.declared.tree.item.GlobalDefinition.{GlobalDefinition}
-use Rattle.sharc_tree.specs.declared.tree.item.GlobalForm.{GlobalForm}
 use Rattle.sharc_tree.specs.declared.tree.item.GlobalForm.TheVariants as form
-use Rattle.sharc_tree.specs.declared.tree.item.StructDefinition.{StructDefinition}
-use Rattle.sharc_tree.specs.Measures.{expressions, in_arguments}
-use Rattle.sharc_tree.specs.Tree.{Expression}
 use Rattle.sharc_tree.specs.Tree as tree
 use Rattle.sharc_names.specs.declared.fault.Named.TheVariants as named
-use Rattle.sharc_names.specs.Kinds.{Kind, object, array, is_array, is_null, is_pointer, is_struct_base, is_struct_behind, declared_kind}
+use Rattle.sharc_names.specs.{Kinds.{Kind, object, array, is_array, is_null, is_pointer, is_struct_base, is_struct_behind, declared_kind}, Names.{global_kind, field_of}}
 use Rattle.sharc_names.specs.Kinds as kinds
-use Rattle.sharc_names.specs.Names.{global_kind, field_of}
-use Rattle.sharc_ctype.specs.Expressions.{constant_kind, number_kind}
-use Rattle.sharc_ctype.specs.Resolved.{Resolution, named_at, named_kind, declaration_at, global_at, kind_at, structs_in}
+use Rattle.sharc_ctype.specs.{Expressions.{constant_kind, number_kind}, Resolved.{Resolution, named_at, named_kind, declaration_at, global_at, kind_at, structs_in}}
 use Rattle.sharc_ctype_laws.specs.Constraints.{HasType, Common, both_shorter, left_long, right_long, struct_named, IsMemberOf, Callee, of_program, of_conditions}
 use Rattle.sharc_ctype_laws.specs.Constraints as typing
-use Rattle.sharc_mode.specs.Cells.{is_mutex_kind, top_of, field_cell, first_of, pointed, named_cell, global_cell, declared_cell, field_named, cell_at}
-use Rattle.sharc_mode.specs.Moded.{Assignment}
-use Rattle.sharc_mode.specs.Notes.{base_of}
-use Rattle.sharc_mode.specs.Rows.{Reading, written, Targets, constant_row, deeper, declared_row, global_row, named_row, reading_through, base_use, behind, row_at, read, modes_of, modes_at}
-use Rattle.sharc_mode.specs.Sharings.{Lock, Sharing, locked, lock_of, sharing_of}
+use Rattle.sharc_mode.specs.{Cells.{is_mutex_kind, top_of, field_cell, first_of, pointed, named_cell, global_cell, declared_cell, field_named, cell_at}, Moded.Assignment, Notes.base_of, Rows.{Reading, written, Targets, constant_row, deeper, declared_row, global_row, named_row, reading_through, base_use, behind, row_at, read, modes_of, modes_at}, Sharings.{Lock, Sharing, locked, lock_of, sharing_of}}
 use Rattle.sharc_mode.specs.Sharings as sharings
 use Rattle.sharc_mode_laws.specs.Constructs.{IsExpression}
 use Rattle.sharc_meaning.specs.Cells.{field_place, field_place_named}
 use Rattle.sharc_flat.specs.Places.{Target, variable, in_object, in_object_at, in_global, in_global_at, named_target, own_field, target, global_of}
 use Rattle.sharc_invariant.specs.Types.{FieldMode, FieldLock, Field, Content, Pointer, Target as TableTarget, no_field, row_of}
-use Rattle.sharc_accepted_laws.specs.TargetLaws.{IsRowOf, IsMemberAt}
-use Rattle.sharc_accepted_laws.specs.Lvalues.{pointer_of, below_locks, locks_below, named_locks, cell_locks, IsOfObject, IsOfGlobal, LocksFit, are_written, of_type, ContentFits, ModeFits, FieldFits, IsBehindPointer, IsInFile, NamesCell, no_cell, of_object, of_global}
-use Rattle.sharc_accepted_laws.specs.Shapes.{Shape, form_of, shape_of, row_shape, expression_shape, shapes, number}
-use Rattle.sharc_accepted_laws.specs.Targets.{own_mode, lock_count, type_locks, field_locks, is_private_mode, base_content, pointer_content, declared_content, single, member, base_fields, shape_fields, top_mode, global_element, targets_of}
-use Rattle.sharc_accepted_laws.proofs.TargetForms.{row_length}
-use Rattle.sharc_accepted_laws.proofs.TargetLists.{head_there, tail_there, left_there, map_length}
-use Rattle.sharc_accepted_laws.proofs.Moding.{PathNames, own_fits, global_fits, private_both, global_both, field_fits}
-use Rattle.sharc_accepted_laws.proofs.Numbers.{numbers_found}
-use Rattle.sharc_accepted_laws.proofs.TargetWalk.{function_closed}
+use Rattle.sharc_accepted_laws.specs.{TargetLaws.{IsRowOf, IsMemberAt}, Lvalues.{pointer_of, below_locks, locks_below, named_locks, cell_locks, IsOfObject, IsOfGlobal, LocksFit, are_written, of_type, ContentFits, ModeFits, FieldFits, IsBehindPointer, IsInFile, NamesCell, no_cell, of_object, of_global}, Shapes.{Shape, form_of, shape_of, row_shape, expression_shape, shapes, number}, Targets.{own_mode, lock_count, type_locks, field_locks, is_private_mode, base_content, pointer_content, declared_content, single, member, base_fields, shape_fields, top_mode, global_element, targets_of}}
+use Rattle.sharc_accepted_laws.proofs.{TargetForms.row_length, TargetLists.left_there, Moding.{PathNames, own_fits, global_fits, private_both, global_both, field_fits}, Numbers.numbers_found, TargetWalk.function_closed}
+use Rattle.sharc_lemmas.proofs.Lists.{map_length, head_there, tail_there}
 
 -- ---- parts of expressions
 self_there : (a : Expression) → Contains (expressions a) a

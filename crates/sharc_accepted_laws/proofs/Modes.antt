@@ -1,45 +1,25 @@
 -- A cell that is there may be accessed in the mode that the source gives it.
 use Rattle.std.proofs.Common.{◌≡◌, ℕ, ◌+◌, ◌-◌, ◌<◌, Bool, true, false, cond, List, [], ◌∷◌, length, slice_index_or, refl, ap, sym, ◌∙◌, subst, arith, Option, Some, None}
-use Rattle.sharc_tree.specs.declared.ctype.Base.{Base}
+use Rattle.sharc_tree.specs.{declared.ctype.Base.Base, declared.tree.item.GlobalDefinition.GlobalDefinition, declared.tree.item.GlobalForm.GlobalForm}
 use Rattle.sharc_tree.specs.declared.ctype.Base.TheVariants as base
-use Rattle.sharc_tree.specs.declared.tree.item.GlobalDefinition.{GlobalDefinition}
-use Rattle.sharc_tree.specs.declared.tree.item.GlobalForm.{GlobalForm}
 use Rattle.sharc_tree.specs.declared.tree.item.GlobalForm.TheVariants as form
-use Rattle.sharc_names.specs.declared.fault.Named.{Named}
+use Rattle.sharc_names.specs.{declared.fault.Named.Named, Kinds.{object, array, mutex, is_pointer, declared_kind}, Names.global_kind}
 use Rattle.sharc_names.specs.declared.fault.Named.TheVariants as named
-use Rattle.sharc_names.specs.Kinds.{Kind, object, array, mutex, is_pointer, declared_kind}
 use Rattle.sharc_names.specs.Kinds as kinds
-use Rattle.sharc_names.specs.Names.{global_kind}
-use Rattle.sharc_code.specs.declared.code.Code.{Code}
-use Rattle.sharc_code.specs.declared.code.PlaceMode.{PlaceMode}
+use Rattle.sharc_code.specs.{declared.code.Code.Code, declared.code.PlaceMode.PlaceMode, declared.instr.Cell.Cell}
 use Rattle.sharc_code.specs.declared.code.PlaceMode.TheVariants as modes
-use Rattle.sharc_code.specs.declared.instr.Cell.{Cell}
 use Rattle.sharc_code.specs.declared.instr.Cell.TheVariants as cells
-use Rattle.sharc_ctype.specs.Globals.{elements_of}
-use Rattle.sharc_ctype.specs.Resolved.{Resolution, named_at, named_kind, global_kind_of, global_at}
+use Rattle.sharc_ctype.specs.{Globals.elements_of, Resolved.{Resolution, named_at, named_kind, global_kind_of, global_at}}
 use Rattle.sharc_meaning.specs.Cells.{field_place, field_place_behind}
-use Rattle.sharc_mode.specs.Cells.{is_behind_pointer}
-use Rattle.sharc_mode.specs.Moded.{Assignment}
-use Rattle.sharc_mode.specs.Sharings.{Lock, Sharing, locked}
-use Rattle.sharc_flat_form.specs.declared.op.Spot.{Spot}
-use Rattle.sharc_flat_form.specs.Machine.{first_cell}
-use Rattle.sharc_flat.specs.Scope.{Context}
-use Rattle.sharc_flat.specs.Places.{mode_beside, mode_named, place_mode, beside_named, beside_field, guard_named, guard_field}
-use Rattle.sharc_flat.specs.Tables.{globals_of}
-use Rattle.sharc_invariant.specs.Types.{StaticType, Lock as TypeLock, FieldLock, OfType, OfGlobals, OfElement, FieldMode, Under, Content, MutexWord, Field, no_field}
+use Rattle.sharc_mode.specs.{Cells.is_behind_pointer, Moded.Assignment, Sharings.{Lock, Sharing, locked}}
+use Rattle.sharc_flat_form.specs.{declared.op.Spot.Spot, Machine.first_cell}
+use Rattle.sharc_flat.specs.{Scope.Context, Places.{mode_beside, mode_named, place_mode, beside_named, beside_field, guard_named, guard_field}, Tables.globals_of}
+use Rattle.sharc_invariant.specs.{Types.{StaticType, Lock as TypeLock, OfType, OfGlobals, OfElement, FieldMode, Under, Content, MutexWord, Field, no_field, FieldMode as own}, Labels.{Refers, Closed, Loaded, Label, Labels, Itself}, Typed.{IsInGlobal, HasField, IsMode, IsLockMode, IsLockCell, IsTypeMode, IsTypeLock, PointsToMutex, no_lock}}
 use Rattle.sharc_invariant.specs.Types as types
-use Rattle.sharc_invariant.specs.Types.{FieldMode as own}
-use Rattle.sharc_invariant.specs.Labels.{Refers, Closed, Loaded, Label, Labels, Itself}
-use Rattle.sharc_invariant.specs.Typed.{IsInGlobal, HasField, IsMode, IsLockMode, IsLockCell, IsTypeMode, IsTypeLock, PointsToMutex, no_lock}
-use Rattle.sharc_typed_laws.specs.Inside.{lock_of}
-use Rattle.sharc_typed_laws.specs.Lines.{IsLockedBy, MayPass}
-use Rattle.sharc_accepted_laws.specs.Static.{register, lock_named, lock_at, locks_at}
-use Rattle.sharc_accepted_laws.specs.Beside.{BesideFits}
-use Rattle.sharc_accepted_laws.specs.TargetLaws.{HasTables, GlobalsAre}
-use Rattle.sharc_accepted_laws.specs.Lvalues.{ModeFits, is_private, is_readonly, is_racy, is_dynamic, locked_by_type, locked_by_global, locked_by_sibling, locked_behind}
-use Rattle.sharc_accepted_laws.specs.Targets.{single, base_fields, declared_content, top_mode, global_element, targets_of}
-use Rattle.sharc_accepted_laws.specs.Accesses.{Reaches, Guards, IsGated, LockStands, of_global, of_variable, IsFairAccess}
+use Rattle.sharc_typed_laws.specs.{Inside.lock_of, Lines.{IsLockedBy, MayPass}}
+use Rattle.sharc_accepted_laws.specs.{Static.{register, lock_named, lock_at, locks_at}, Beside.BesideFits, TargetLaws.{HasTables, GlobalsAre}, Lvalues.{ModeFits, is_private, is_readonly, is_racy, is_dynamic, locked_by_type, locked_by_global, locked_by_sibling, locked_behind}, Targets.{single, base_fields, declared_content, top_mode, global_element, targets_of}, Accesses.{Reaches, Guards, IsGated, LockStands, of_global, of_variable, IsFairAccess}}
 use Rattle.sharc_accepted_laws.proofs.AccessCells.{IsCellOf, ArePairOf, first_low, global_cell_at}
+use Rattle.sharc_lemmas.proofs.Options.{no_guard, some_is}
 
 no_array : (b c : Base) (n k : ℕ) → array b n ≡ object c k → ⊥
 no_array b c n k h = cc
@@ -90,12 +70,6 @@ beside_is r l f names = ap (beside_named r l) names
 
 guard_is : (r : Resolution) (l : Lock) (f : ℕ) (z : Bool) → named_at r l.first ≡ named.Field f → is_behind_pointer r l ≡ z → guard_field r (locked l) ≡ cond z (Some (field_place r f)) None
 guard_is r l f z names behind = ap (guard_named r l) names ∙ ap (λ b. cond b (Some (field_place r f)) None) behind
-
-no_guard : (k : ℕ) → None ≡ Some k → ⊥
-no_guard k h = cc
-
-some_is : (x k : ℕ) → Some x ≡ Some k → x ≡ k
-some_is x k h = cc
 
 -- the pointer that is loaded first
 module _ (c : Context) (code : Code) (q : Label) where

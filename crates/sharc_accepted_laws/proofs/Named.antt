@@ -1,18 +1,14 @@
 -- What the functions of a program name as a global is one of it.
 use Rattle.std.proofs.Common.{◌≡◌, ℕ, ◌<◌, List, length, sym, ◌∙◌, subst}
 use Rattle.std.specs.List.{AllByRecursion}
-use Rattle.sharc_tree.specs.declared.token.Span.{Span}
-use Rattle.sharc_tree.specs.declared.tree.declaration.Identifier.{Identifier}
-use Rattle.sharc_tree.specs.Measures.{in_function}
-use Rattle.sharc_tree.specs.Tree.{identifier}
+use Rattle.sharc_tree.specs.{declared.token.Span.Span, declared.tree.declaration.Identifier.Identifier, Measures.in_function, Tree.identifier}
 use Rattle.sharc_names.specs.declared.fault.Named.TheVariants as named
 use Rattle.sharc_names.specs.Kinds.{Kind}
 use Rattle.sharc_ctype.specs.Resolved.{Resolution, globals_in, functions_in, kind_at, named_at}
-use Rattle.sharc_ctype_laws.specs.Constraints.{HasType, Callee, of_program, of_conditions, a_variable, a_global, a_function}
-use Rattle.sharc_ctype_laws.specs.Laws.{MeetsConstraints}
+use Rattle.sharc_ctype_laws.specs.{Constraints.{HasType, Callee, of_program, of_conditions, a_variable, a_global, a_function}, Laws.MeetsConstraints}
 use Rattle.sharc_accepted_laws.specs.Accepted.{GlobalsAreNamed}
-use Rattle.sharc_accepted_laws.proofs.TargetLists.{of_each}
 use Rattle.sharc_accepted_laws.proofs.StaticRegisters.{got_low}
+use Rattle.sharc_lemmas.proofs.Lists.{of_each}
 
 no_callee : (r : Resolution) (i : Identifier) (ps : List Kind) (result : Kind) → Callee r i ps result → (g : ℕ) → named_at r i.site.token ≡ named.Global g → ⊥
 no_callee r i _ _ (of_program {n = n} f is at spelled other) g names = let h : named.Function n ≡ named.Global g = sym is ∙ names in cc

@@ -1,34 +1,18 @@
 -- The lock paths of the types of expressions and declarations are ones that the program names.
 use Rattle.std.proofs.Common.{◌≡◌, inl, inr, ℕ, true, List, [], ◌∷◌, refl, ap, subst, Option, Some, None, Contains}
 use Rattle.std.specs.List.{AllByRecursion}
-use Rattle.sharc_tree.specs.declared.ctype.Mode.TheVariants.{Locked}
-use Rattle.sharc_tree.specs.declared.ctype.Path.{Path}
-use Rattle.sharc_tree.specs.declared.token.Span.{Span}
-use Rattle.sharc_tree.specs.declared.tree.declaration.Identifier.{Identifier}
-use Rattle.sharc_tree.specs.declared.tree.expression.Access.{Access}
-use Rattle.sharc_tree.specs.Forms.{without_parentheses}
-use Rattle.sharc_tree.specs.Tree.{Expression, Function}
+use Rattle.sharc_tree.specs.{declared.ctype.Mode.TheVariants.Locked, declared.ctype.Path.Path, declared.token.Span.Span, declared.tree.declaration.Identifier.Identifier, declared.tree.expression.Access.Access, Forms.without_parentheses, Tree.{Expression, Function}}
 use Rattle.sharc_tree.specs.Tree as tree
 use Rattle.sharc_names.specs.declared.fault.Named.{Named}
 use Rattle.sharc_names.specs.declared.fault.Named.TheVariants as named
-use Rattle.sharc_ctype.specs.declared.entity.Numbered.{Numbered}
-use Rattle.sharc_ctype.specs.Resolved.{named_at}
-use Rattle.sharc_mode.specs.Moded.{Assignment}
-use Rattle.sharc_mode.specs.Rows.{written, base_use, modes_of, declared_row}
-use Rattle.sharc_mode.specs.Sharings.{Lock, Sharing, private, readonly, locked, racy, dynamic, lock_of, object_named, object_of, text_at}
-use Rattle.sharc_mode_laws.specs.Constructs.{IsEntity, IsTaken}
-use Rattle.sharc_mode_laws.specs.Laws.{RulesAreMet}
-use Rattle.sharc_mode_laws.specs.Paths.{IsNamedByPath, is_written, is_made, IsSiblingUse}
-use Rattle.sharc_flat.specs.Scope.{Context, slot_kind}
-use Rattle.sharc_flat.specs.Suits.{PathNamed}
+use Rattle.sharc_ctype.specs.{declared.entity.Numbered.Numbered, Resolved.named_at}
+use Rattle.sharc_mode.specs.{Moded.Assignment, Rows.{written, base_use, modes_of, declared_row}, Sharings.{Lock, Sharing, private, readonly, locked, racy, dynamic, lock_of, object_named, object_of, text_at}}
+use Rattle.sharc_mode_laws.specs.{Constructs.{IsEntity, IsTaken}, Laws.RulesAreMet, Paths.{IsNamedByPath, is_written, is_made, IsSiblingUse}}
+use Rattle.sharc_flat.specs.{Scope.{Context, slot_kind}, Suits.PathNamed}
 use Rattle.sharc_invariant.specs.Types.{Names, SomeNames}
-use Rattle.sharc_accepted_laws.specs.Static.{register, lock_named, locks_at}
-use Rattle.sharc_accepted_laws.specs.Scopes.{AllStand}
-use Rattle.sharc_accepted_laws.specs.StaticLaws.{IsAccepted}
-use Rattle.sharc_accepted_laws.specs.Taken.{IsNamed, AllNamed, ExpressionsAreNamed, DeclaredAreNamed, TakenLaws}
-use Rattle.sharc_accepted_laws.proofs.StaticRegisters.{one_variable}
-use Rattle.sharc_accepted_laws.proofs.Origins.{is_use, Of, found_named, expression_of}
-use Rattle.sharc_accepted_laws.proofs.AccessLists.{each}
+use Rattle.sharc_accepted_laws.specs.{Static.{register, lock_named, locks_at}, Scopes.AllStand, StaticLaws.IsAccepted, Taken.{IsNamed, AllNamed, ExpressionsAreNamed, DeclaredAreNamed, TakenLaws}}
+use Rattle.sharc_accepted_laws.proofs.{StaticRegisters.one_variable, Origins.{is_use, Of, found_named, expression_of}}
+use Rattle.sharc_lemmas.proofs.Lists.{each}
 
 -- ---- what they name
 module _ (m : Assignment) where

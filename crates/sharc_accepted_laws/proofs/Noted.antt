@@ -2,40 +2,17 @@
 use Rattle.std.proofs.Common.{◌≡◌, ◌⊎◌, inl, inr, ⊎_elim, ℕ, ◌+◌, ◌==◌, Bool, true, false, cond, List, [], ◌∷◌, ◌++◌, length, refl, ap, sym, ◌∙◌, subst, Option, Some, None, Contains}
 use Rattle.std.specs.List.{AllByRecursion}
 use Rattle.sharc_tree.specs.declared.ctype.Base.TheVariants as base
-use Rattle.sharc_tree.specs.declared.ctype.Mode.{Mode}
-use Rattle.sharc_tree.specs.declared.ctype.Mode.TheVariants.{Private, Readonly, Locked, Racy, Dynamic}
-use Rattle.sharc_tree.specs.declared.ctype.Path.{Path}
-use Rattle.sharc_tree.specs.declared.ctype.Path.TheVariants.{One, Through}
-use Rattle.sharc_tree.specs.declared.tree.declaration.Declaration.{Declaration}
-use Rattle.sharc_tree.specs.declared.tree.declaration.WrittenType.{WrittenType}
-use Rattle.sharc_tree.specs.Low.{IsLow}
-use Rattle.sharc_tree.specs.Placed.{IsPlaced}
-use Rattle.sharc_tree.specs.Tree.{Local, First, nothing, declares, does, Statement, Statements, no_statements, statement, Function, Item, structure, global, function}
+use Rattle.sharc_tree.specs.{declared.ctype.Mode.Mode, declared.ctype.Mode.TheVariants.{Private, Readonly, Locked, Racy, Dynamic}, declared.ctype.Path.Path, declared.ctype.Path.TheVariants.{One, Through}, declared.tree.declaration.Declaration.Declaration, declared.tree.declaration.WrittenType.WrittenType, Low.IsLow, Placed.IsPlaced, Tree.{Local, First, nothing, declares, does, Statement, Statements, no_statements, statement, Function, Item, structure, global, function}}
 use Rattle.sharc_tree.specs.Tree as tree
-use Rattle.sharc_names.specs.declared.fault.FaultCode.{FaultCode}
-use Rattle.sharc_names.specs.declared.fault.Named.{Named}
+use Rattle.sharc_names.specs.{declared.fault.FaultCode.FaultCode, declared.fault.Named.Named, declared.scope.Scope.Scope, declared.types.Role.Role, Kinds.{object, declared_kind}, Names.{Entry, Meaning, StructTable, StructMeaning, look_up, named_of, struct_of, named_struct}, Notes.{Note, fault, refers, yields, faults, referred}, Types.{name_notes, path_notes, mode_notes, modes_notes, struct_note, base_notes, type_notes}}
 use Rattle.sharc_names.specs.declared.fault.Named.TheVariants as named
-use Rattle.sharc_names.specs.declared.scope.Scope.{Scope}
-use Rattle.sharc_names.specs.declared.types.Role.{Role}
 use Rattle.sharc_names.specs.declared.types.Role.TheVariants as role
-use Rattle.sharc_names.specs.Kinds.{object, declared_kind}
-use Rattle.sharc_names.specs.Names.{Entry, Meaning, StructTable, StructMeaning, look_up, named_of, struct_of, named_struct}
 use Rattle.sharc_names.specs.Names as meaning
-use Rattle.sharc_names.specs.Notes.{Note, fault, refers, yields, faults, referred}
-use Rattle.sharc_names.specs.Types.{name_notes, path_notes, mode_notes, modes_notes, struct_note, base_notes, type_notes}
-use Rattle.sharc_ctype.specs.Globals.{sizes_notes}
-use Rattle.sharc_ctype.specs.Heads.{heads_notes, no_heads}
-use Rattle.sharc_ctype.specs.Items.{field_notes, fields_notes, parameters_notes, function_notes, item_notes, items_notes, main_missing, file_scope, in_body, notes_about}
-use Rattle.sharc_ctype.specs.Resolved.{Resolution, IsResolved, named_at, declaration_at, declared_at, declarations_in, variable_kind, functions_in}
-use Rattle.sharc_ctype.specs.Statements.{Around, opened, looping, with_names, declared, behind_first, in_head, after, test_notes, local_notes, first_notes as first_statement_notes, head_notes, notes_in, notes_in_all, first_locals, locals_in, locals_in_all}
-use Rattle.sharc_ctype_laws.specs.Laws.{Tells, IsToldOnce, EachNameOnce, OnlyNames}
-use Rattle.sharc_ctype_laws.specs.Paths.{meaning_token, IsVariableIn, IsAmong, PathStands, LevelStands, TypeStands}
+use Rattle.sharc_ctype.specs.{Globals.sizes_notes, Heads.{heads_notes, no_heads}, Items.{field_notes, fields_notes, parameters_notes, function_notes, item_notes, items_notes, main_missing, file_scope, in_body, notes_about}, Resolved.{Resolution, IsResolved, named_at, declaration_at, declared_at, declarations_in, variable_kind, functions_in}, Statements.{Around, opened, looping, with_names, declared, behind_first, in_head, after, test_notes, local_notes, first_notes as first_statement_notes, head_notes, notes_in, notes_in_all, first_locals, locals_in, locals_in_all}}
+use Rattle.sharc_ctype_laws.specs.{Laws.{Tells, IsToldOnce, EachNameOnce, OnlyNames}, Paths.{meaning_token, IsVariableIn, IsAmong, PathStands, LevelStands, TypeStands}}
 use Rattle.sharc_mode.specs.WellFormed.{fields_named, fields_behind}
-use Rattle.sharc_accepted_laws.proofs.Scoping.{HasOneStruct, ParametersStand, AreParametersClosed}
-use Rattle.sharc_accepted_laws.proofs.Places.{entry_there}
-use Rattle.sharc_accepted_laws.proofs.TargetLists.{of_each, to_each, both, tail_there, head_or_tail, head_there, none_there, same_some}
-use Rattle.sharc_accepted_laws.proofs.Found.{front, back}
-use Rattle.sharc_accepted_laws.proofs.TypableRegisters.{none_some}
+use Rattle.sharc_accepted_laws.proofs.{Scoping.{HasOneStruct, ParametersStand, AreParametersClosed}, Places.entry_there}
+use Rattle.sharc_lemmas.proofs.{Options.{same_some, none_some}, Lists.{front, back, both, head_there, head_or_tail, of_each, to_each, tail_there}, Equal.none_there}
 
 -- ---- notes
 abbrev pub Says : Resolution → Note → Type 0

@@ -1,17 +1,13 @@
 -- The numbers of shapes, and the rows that have them.
-use Rattle.std.proofs.Common.{◌≡◌, ⊎_elim, ℕ, zero, suc, ◌+◌, ◌<◌, Bool, true, false, cond, List, [], ◌∷◌, length, map, slice_index_or, refl, ap, sym, ◌∙◌, subst, arith, Contains}
-use Rattle.std.proofs.lemmas.Bool.{true≢false}
+use Rattle.std.proofs.{Common.{◌≡◌, ⊎_elim, ℕ, zero, suc, ◌+◌, ◌<◌, Bool, true, false, cond, List, [], ◌∷◌, length, map, slice_index_or, refl, ap, sym, ◌∙◌, subst, arith, Contains}, lemmas.Bool.true≢false}
 use Rattle.sharc_tree.specs.declared.ctype.Base.{Base}
 use Rattle.sharc_tree.specs.declared.ctype.Base.TheVariants as base
-use Rattle.sharc_ctype.specs.declared.entity.Numbered.{Numbered}
-use Rattle.sharc_ctype.specs.Entities.{entities_in, numbered}
+use Rattle.sharc_ctype.specs.{declared.entity.Numbered.Numbered, Entities.{entities_in, numbered}}
 use Rattle.sharc_mode.specs.Moded.{Assignment}
 use Rattle.sharc_invariant.specs.Types.{no_target, row_of}
-use Rattle.sharc_accepted_laws.specs.Shapes.{Form, dynamic_form, Shape, known_condition, known_mutex, shapes_down, entity_shapes, shapes_of, shapes, same_shape, number_from, number}
-use Rattle.sharc_accepted_laws.specs.Targets.{shape_row, targets_of}
-use Rattle.sharc_accepted_laws.specs.TargetLaws.{NumbersFound, ShapesClosed}
-use Rattle.sharc_accepted_laws.proofs.Alike.{shape_itself, shape_is}
-use Rattle.sharc_accepted_laws.proofs.TargetLists.{none_there, head_there, tail_there, head_or_tail, left_there, right_there, either_there, map_at, map_length}
+use Rattle.sharc_accepted_laws.specs.{Shapes.{Form, dynamic_form, Shape, known_condition, known_mutex, shapes_down, entity_shapes, shapes_of, shapes, same_shape, number_from, number}, Targets.{shape_row, targets_of}, TargetLaws.{NumbersFound, ShapesClosed}}
+use Rattle.sharc_accepted_laws.proofs.{Alike.{shape_itself, shape_is}, TargetLists.{left_there, right_there, either_there, map_at}}
+use Rattle.sharc_lemmas.proofs.{Lists.{map_length, head_there, head_or_tail, tail_there}, Equal.none_there}
 
 -- ---- the first that is the same
 record IsAt (n : ℕ) (list : List Shape) (s : Shape) : Type 0 where

@@ -1,39 +1,17 @@
 -- Where the lock paths of the types of expressions and declarations come from: what is written, and uses of fields through constant variables.
-use Rattle.std.proofs.Common.{◌≡◌, ⊎_elim, ℕ, ◌+◌, ◌-◌, ◌==◌, Bool, true, false, cond, List, [], ◌∷◌, map, refl, ap, sym, ◌∙◌, subst, option_map, Option, Some, None, Contains}
-use Rattle.std.proofs.lemmas.Bool.{false≢true}
+use Rattle.std.proofs.{Common.{◌≡◌, ⊎_elim, ℕ, ◌+◌, ◌-◌, ◌==◌, Bool, true, false, cond, List, [], ◌∷◌, map, refl, ap, sym, ◌∙◌, subst, option_map, Option, Some, None, Contains}, lemmas.Bool.false≢true}
 use Rattle.std.specs.List.{AllByRecursion}
-use Rattle.sharc_tree.specs.declared.ctype.Mode.{Mode}
-use Rattle.sharc_tree.specs.declared.ctype.Mode.TheVariants.{Private, Readonly, Locked, Racy, Dynamic}
-use Rattle.sharc_tree.specs.declared.ctype.Path.{Path}
-use Rattle.sharc_tree.specs.declared.token.Span.{Span}
-use Rattle.sharc_tree.specs.declared.tree.declaration.Identifier.{Identifier}
-use Rattle.sharc_tree.specs.declared.tree.expression.Access.{Access}
-use Rattle.sharc_tree.specs.declared.tree.expression.Access.TheVariants.{Dot, Arrow}
+use Rattle.sharc_tree.specs.{declared.ctype.Mode.Mode, declared.ctype.Mode.TheVariants.{Private, Readonly, Locked, Racy, Dynamic}, declared.ctype.Path.Path, declared.token.Span.Span, declared.tree.declaration.Identifier.Identifier, declared.tree.expression.Access.Access, declared.tree.expression.Access.TheVariants.{Dot, Arrow}, declared.tree.expression.UnaryOperator.TheVariants.{Negate, Not, Complement, Dereference}, declared.tree.item.GlobalDefinition.GlobalDefinition, Measures.expressions, Tree.{Expression, Function}}
 use Rattle.sharc_tree.specs.declared.tree.expression.Constant.TheVariants as constants
-use Rattle.sharc_tree.specs.declared.tree.expression.UnaryOperator.TheVariants.{Negate, Not, Complement, Dereference}
-use Rattle.sharc_tree.specs.declared.tree.item.GlobalDefinition.{GlobalDefinition}
-use Rattle.sharc_tree.specs.Measures.{expressions}
-use Rattle.sharc_tree.specs.Tree.{Expression, Function}
 use Rattle.sharc_tree.specs.Tree as tree
-use Rattle.sharc_names.specs.declared.fault.Named.{Named}
+use Rattle.sharc_names.specs.{declared.fault.Named.Named, declared.types.Role.Role, Kinds.is_array}
 use Rattle.sharc_names.specs.declared.fault.Named.TheVariants as named
-use Rattle.sharc_names.specs.declared.types.Role.{Role}
 use Rattle.sharc_names.specs.declared.types.Role.TheVariants as role
-use Rattle.sharc_names.specs.Kinds.{is_array}
-use Rattle.sharc_ctype.specs.declared.entity.Numbered.{Numbered}
-use Rattle.sharc_ctype.specs.Entities.{entities_in, numbered, is_told_by, entity_at}
-use Rattle.sharc_ctype.specs.Constants.{is_constant}
-use Rattle.sharc_ctype.specs.Resolved.{Resolution, named_at, global_at, function_at, kind_at}
-use Rattle.sharc_mode.specs.Flows.{IsLeastAssignment}
-use Rattle.sharc_mode.specs.Moded.{Assignment}
-use Rattle.sharc_mode.specs.Rows.{Reading, written, through, Targets, is_constant_named, base_use, read, deeper, targets_from, entity_row, global_row, named_row, result_row, called_row, behind, reading_through, row_at, modes_of, modes_at}
-use Rattle.sharc_mode.specs.Sharings.{Lock, Sharing, private, readonly, locked, racy, dynamic, lock_of, sharing_of, text_at, is_sibling_lock, object_named}
-use Rattle.sharc_mode_laws.specs.Constructs.{IsExpression, IsEntity}
-use Rattle.sharc_mode_laws.specs.Paths.{IsThroughConstant, through as through_constant, IsSiblingUse}
+use Rattle.sharc_ctype.specs.{declared.entity.Numbered.Numbered, Entities.{entities_in, numbered, is_told_by, entity_at}, Constants.is_constant, Resolved.{Resolution, named_at, global_at, function_at, kind_at}}
+use Rattle.sharc_mode.specs.{Flows.IsLeastAssignment, Moded.Assignment, Rows.{Reading, written, through, Targets, is_constant_named, base_use, read, deeper, targets_from, entity_row, global_row, named_row, result_row, called_row, behind, reading_through, row_at, modes_of, modes_at}, Sharings.{Lock, Sharing, private, readonly, locked, racy, dynamic, lock_of, sharing_of, text_at, is_sibling_lock, object_named}}
+use Rattle.sharc_mode_laws.specs.{Constructs.{IsExpression, IsEntity}, Paths.{IsThroughConstant, through as through_constant, IsSiblingUse}}
 use Rattle.sharc_accepted_laws.proofs.Written.{raw, deeper_raw, row_good, found_there}
-use Rattle.sharc_accepted_laws.proofs.TargetLists.{to_each, tail_there, head_or_tail, head_there, none_there, same_some}
-use Rattle.sharc_accepted_laws.proofs.Found.{front}
-use Rattle.sharc_accepted_laws.proofs.TypableRegisters.{none_some}
+use Rattle.sharc_lemmas.proofs.{Options.{same_some, none_some}, Lists.{front, head_there, head_or_tail, to_each, tail_there}, Equal.none_there}
 
 -- ---- modes that are written
 -- a path of a mode is written in this type

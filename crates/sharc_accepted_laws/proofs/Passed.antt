@@ -1,61 +1,21 @@
 -- What is passed at a call has the type that the parameter has there: each path `x->m` of the parameter's type leads, by the argument for `x`, to the same mutex.
-use Rattle.std.proofs.Common.{◌≡◌, ⊎_elim, ℕ, ◌+◌, ◌==◌, Bool, true, false, cond, List, [], ◌∷◌, map, position, refl, ap, sym, ◌∙◌, subst, bytes_eq, Option, Some, None, is_some, eqb-true, lt-ltb, arith, Contains}
-use Rattle.std.specs.Prelude.{unwrap_or}
-use Rattle.std.proofs.lemmas.Bool.{false≢true}
-use Rattle.std.specs.List.{AllByRecursion}
+use Rattle.std.proofs.{Common.{◌≡◌, ⊎_elim, ℕ, ◌+◌, ◌==◌, Bool, true, false, cond, List, [], ◌∷◌, map, position, refl, ap, sym, ◌∙◌, subst, bytes_eq, Option, Some, None, is_some, eqb-true, lt-ltb, arith, Contains}, lemmas.Bool.false≢true}
+use Rattle.std.specs.{Prelude.unwrap_or, List.AllByRecursion}
 use Rattle.sharc_tree.specs.declared.ctype.Base.TheVariants as base
-use Rattle.sharc_tree.specs.declared.ctype.Mode.{Mode}
-use Rattle.sharc_tree.specs.declared.ctype.Mode.TheVariants.{Private, Readonly, Locked, Racy, Dynamic}
-use Rattle.sharc_tree.specs.declared.ctype.Path.{Path}
-use Rattle.sharc_tree.specs.declared.ctype.Path.TheVariants.{One, Through}
-use Rattle.sharc_tree.specs.declared.tree.declaration.Declaration.{Declaration}
-use Rattle.sharc_tree.specs.Tree.{Expression, Arguments, no_arguments, argument, value, Function}
+use Rattle.sharc_tree.specs.{declared.ctype.Mode.Mode, declared.ctype.Mode.TheVariants.{Private, Readonly, Locked, Racy, Dynamic}, declared.ctype.Path.Path, declared.ctype.Path.TheVariants.{One, Through}, declared.tree.declaration.Declaration.Declaration, Tree.{Expression, Arguments, no_arguments, argument, value, Function}, Measures.in_function, Low.IsLow, Placed.IsPlaced}
 use Rattle.sharc_tree.specs.Tree as tree
-use Rattle.sharc_tree.specs.Measures.{in_function}
-use Rattle.sharc_names.specs.declared.fault.Named.{Named}
+use Rattle.sharc_names.specs.{declared.fault.Named.Named, Kinds.{Kind, object, is_pointer, declared_kind}}
 use Rattle.sharc_names.specs.declared.fault.Named.TheVariants as named
-use Rattle.sharc_names.specs.Kinds.{Kind, object, is_pointer, declared_kind}
-use Rattle.sharc_ctype.specs.declared.entity.Entity.{Entity}
-use Rattle.sharc_ctype.specs.declared.entity.Numbered.{Numbered}
-use Rattle.sharc_ctype.specs.Entities.{entities_in, numbered, numbered_from, positions_of, is_told_by, entity_at}
-use Rattle.sharc_tree.specs.Low.{IsLow}
-use Rattle.sharc_tree.specs.Placed.{IsPlaced}
-use Rattle.sharc_ctype.specs.Resolved.{Resolution, IsResolved, named_at, function_at, functions_in, declaration_at, variable_kind, named_kind, kind_at}
-use Rattle.sharc_ctype.specs.Transfers.{Transfer, variable, passed, parameters_of, parameters_named, function_transfers, IsFair}
-use Rattle.sharc_ctype_laws.specs.Found.{IsFound, EachTypeFound}
-use Rattle.sharc_ctype_laws.specs.Laws.{EachNamesItself, AllFair}
-use Rattle.sharc_ctype_laws.specs.WrittenTypes.{FirstNames, a_field, a_variable, a_global, a_function, a_known_call, IsNamedLevel}
+use Rattle.sharc_ctype.specs.{declared.entity.Entity.Entity, declared.entity.Numbered.Numbered, Entities.{entities_in, numbered, numbered_from, positions_of, is_told_by, entity_at}, Resolved.{Resolution, IsResolved, named_at, function_at, functions_in, declaration_at, variable_kind, named_kind, kind_at}, Transfers.{Transfer, variable, passed, parameters_of, parameters_named, function_transfers, IsFair}, Constants.is_constant}
+use Rattle.sharc_ctype_laws.specs.{Found.{IsFound, EachTypeFound}, Laws.{EachNamesItself, AllFair}, WrittenTypes.{FirstNames, a_field, a_variable, a_global, a_function, a_known_call, IsNamedLevel}}
 use Rattle.sharc_meaning.specs.Cells.{field_place_behind}
-use Rattle.sharc_mode.specs.Moded.{Assignment}
-use Rattle.sharc_mode.specs.Notes.{base_of}
-use Rattle.sharc_mode.specs.Rows.{Reading, written, at_call, Targets, is_constant_named, constant_use, argument_use, with_base, path_variable, lock_for, read, entity_row, declared_row, modes_of, modes_at}
-use Rattle.sharc_mode.specs.Sharings.{Lock, Sharing, private, readonly, locked, racy, dynamic, lock_of, sharing_of, variable_named, variable_of, same_all}
-use Rattle.sharc_mode_laws.specs.Constructs.{IsEntity, IsExpression, IsCall, called, spawned, an_argument}
-use Rattle.sharc_mode_laws.specs.Laws.{RulesAreMet}
-use Rattle.sharc_mode_laws.specs.Paths.{at_target, is_substituted}
-use Rattle.sharc_ctype.specs.Constants.{is_constant}
-use Rattle.sharc_flat.specs.Scope.{Context, slot_kind}
-use Rattle.sharc_flat.specs.Suits.{PathNamed, PathStands}
-use Rattle.sharc_invariant.specs.Types.{Lock as TypeLock}
-use Rattle.sharc_invariant.specs.Types.Lock.{Global, Through as InRegister}
-use Rattle.sharc_invariant.specs.Labels.{Refers, Label, AllSame}
-use Rattle.sharc_invariant.specs.Typed.{PassesLock, Passes}
-use Rattle.sharc_accepted_laws.specs.Shapes.{form_of, shape_of, number}
-use Rattle.sharc_accepted_laws.specs.Static.{register, lock_named, lock_at, locks_at, static_of, variable_type, entry_by, entry_of}
-use Rattle.sharc_accepted_laws.specs.StaticLaws.{IsAccepted}
-use Rattle.sharc_accepted_laws.specs.Calls.{at_entry, AreCopies, ArgumentsPass, argument_type, AreStanding, ArgumentFits, ArgumentsFit}
-use Rattle.sharc_accepted_laws.specs.Held.{is_held, IsHeldPath, AllHeld}
-use Rattle.sharc_accepted_laws.specs.Scopes.{AllStand}
-use Rattle.sharc_accepted_laws.proofs.Holds.{path_named, held_by, object as object_there, all_named}
-use Rattle.sharc_accepted_laws.proofs.Scoping.{HasOneStruct}
-use Rattle.sharc_accepted_laws.proofs.Same.{forms_of_same, locks_of_same}
-use Rattle.sharc_accepted_laws.proofs.Transferred.{own_passed, Passes as FairlyPasses, calls_pass}
-use Rattle.sharc_accepted_laws.proofs.Given.{Fair, is_nothing, is_like, fair, null_modes, meets, no_variable, parameter_declared, same_kinds, goes}
-use Rattle.sharc_accepted_laws.proofs.Written.{raw, row_good, found_there}
-use Rattle.sharc_accepted_laws.proofs.Origins.{reading_kept, same_raw, mapped_there, both_hold, dynamic_path, private_path, racy_path}
-use Rattle.sharc_accepted_laws.proofs.TargetLists.{place_there, of_each, to_each, tail_there, head_or_tail, head_there, none_there, same_some}
-use Rattle.sharc_accepted_laws.proofs.AccessLists.{each}
-use Rattle.sharc_accepted_laws.proofs.TypableRegisters.{none_some}
+use Rattle.sharc_mode.specs.{Moded.Assignment, Notes.base_of, Rows.{Reading, written, at_call, Targets, is_constant_named, constant_use, argument_use, with_base, path_variable, lock_for, read, entity_row, declared_row, modes_of, modes_at}, Sharings.{Lock, Sharing, private, readonly, locked, racy, dynamic, lock_of, sharing_of, variable_named, variable_of, same_all}}
+use Rattle.sharc_mode_laws.specs.{Constructs.{IsEntity, IsExpression, IsCall, called, spawned, an_argument}, Laws.RulesAreMet, Paths.{at_target, is_substituted}}
+use Rattle.sharc_flat.specs.{Scope.{Context, slot_kind}, Suits.{PathNamed, PathStands}}
+use Rattle.sharc_invariant.specs.{Types.{Lock as TypeLock}, Types.Lock.{Global, Through as InRegister}, Labels.{Refers, Label, AllSame}, Typed.{PassesLock, Passes}}
+use Rattle.sharc_accepted_laws.specs.{Shapes.{form_of, shape_of, number}, Static.{register, lock_named, lock_at, locks_at, static_of, variable_type, entry_by, entry_of}, StaticLaws.IsAccepted, Calls.{at_entry, AreCopies, ArgumentsPass, argument_type, AreStanding, ArgumentFits, ArgumentsFit}, Held.{is_held, IsHeldPath, AllHeld}, Scopes.AllStand}
+use Rattle.sharc_accepted_laws.proofs.{Holds.{path_named, held_by, object as object_there, all_named}, Scoping.HasOneStruct, Same.{forms_of_same, locks_of_same}, Transferred.{own_passed, Passes as FairlyPasses, calls_pass}, Given.{Fair, is_nothing, is_like, fair, null_modes, meets, no_variable, parameter_declared, same_kinds, goes}, Written.{raw, row_good, found_there}, Origins.{reading_kept, same_raw, mapped_there, both_hold, dynamic_path, private_path, racy_path}, TargetLists.place_there}
+use Rattle.sharc_lemmas.proofs.{Options.{same_some, none_some}, Lists.{each, head_there, head_or_tail, of_each, to_each, tail_there}, Equal.none_there}
 
 -- ---- arguments
 -- what is given to a parameter

@@ -2,33 +2,18 @@
 use Rattle.std.proofs.Common.{◌≡◌, ℕ, zero, suc, ◌+◌, ◌<◌, ◌≤◌, Bool, true, false, cond, not, List, [], ◌∷◌, length, map, take, drop, slice_index_or, slice_get, unwrap_or, refl, ap, sym, ◌∙◌, subst, arith, lt-ltb, nat_lt, bytes_eq, Some, None, Contains}
 use Rattle.std.specs.List.{position, position_or_len}
 use Rattle.sharc_tree.specs.declared.ctype.Base.TheVariants as base
-use Rattle.sharc_tree.specs.declared.ctype.Mode.{Mode}
-use Rattle.sharc_tree.specs.declared.tree.declaration.Declaration.{Declaration}
-use Rattle.sharc_tree.specs.declared.tree.item.StructDefinition.{StructDefinition}
-use Rattle.sharc_names.specs.Kinds.{object, mutex, is_pointer, declared_kind}
-use Rattle.sharc_names.specs.Names.{field_of}
+use Rattle.sharc_tree.specs.{declared.ctype.Mode.Mode, declared.tree.declaration.Declaration.Declaration, declared.tree.item.StructDefinition.StructDefinition}
+use Rattle.sharc_names.specs.{Kinds.{object, mutex, is_pointer, declared_kind}, Names.field_of}
 use Rattle.sharc_ctype.specs.Resolved.{Resolution, variable_kind, structs_in}
 use Rattle.sharc_ctype_laws.specs.Constraints.{struct_named}
 use Rattle.sharc_meaning.specs.Cells.{field_place, field_place_behind}
-use Rattle.sharc_mode.specs.Moded.{Assignment}
-use Rattle.sharc_mode.specs.Notes.{base_of}
-use Rattle.sharc_mode.specs.Rows.{Targets, written, read, declared_row, modes_of}
-use Rattle.sharc_mode.specs.Sharings.{Sharing, sharing_of}
-use Rattle.sharc_mode.specs.WellFormed.{fields_of, fields_named, fields_behind}
+use Rattle.sharc_mode.specs.{Moded.Assignment, Notes.base_of, Rows.{Targets, written, read, declared_row, modes_of}, Sharings.{Sharing, sharing_of}, WellFormed.{fields_of, fields_named, fields_behind}}
 use Rattle.sharc_mode_laws.specs.Paths.{IsMutexBehind}
 use Rattle.sharc_flat.specs.Scope.{Context}
 use Rattle.sharc_invariant.specs.Types.{MutexWord, Field, no_field, row_of, field_at}
-use Rattle.sharc_accepted_laws.specs.StaticLaws.{IsAccepted}
-use Rattle.sharc_accepted_laws.specs.Static.{static_of, variable_type}
-use Rattle.sharc_accepted_laws.specs.Fields.{FieldsPlaced}
-use Rattle.sharc_accepted_laws.specs.TargetLaws.{VariablesFound, MembersAre, IsRowOf, IsMemberAt}
-use Rattle.sharc_accepted_laws.specs.Pointees.{PointeesFit, pointee}
-use Rattle.sharc_accepted_laws.specs.Shapes.{form_of, stars_in}
-use Rattle.sharc_accepted_laws.specs.Targets.{own_mode, base_content, pointer_content, declared_content, base_fields, shape_fields, targets_of}
-use Rattle.sharc_accepted_laws.specs.Paths.{IsMutexThere, MutexesBehind}
+use Rattle.sharc_accepted_laws.specs.{StaticLaws.IsAccepted, Static.{static_of, variable_type}, Fields.FieldsPlaced, TargetLaws.{VariablesFound, MembersAre, IsRowOf, IsMemberAt}, Pointees.{PointeesFit, pointee}, Shapes.{form_of, stars_in}, Targets.{own_mode, base_content, pointer_content, declared_content, base_fields, shape_fields, targets_of}, Paths.{IsMutexThere, MutexesBehind}}
 use Rattle.sharc_accepted_laws.proofs.AccessLists.{there_at}
-use Rattle.sharc_accepted_laws.proofs.TargetLists.{same_some}
-use Rattle.sharc_accepted_laws.proofs.TypableRegisters.{none_some}
+use Rattle.sharc_lemmas.proofs.Options.{same_some, none_some}
 
 -- ---- a field by its name
 abbrev place_of : List ℕ → List Declaration → ℕ

@@ -1,55 +1,22 @@
 -- What the lock paths of types lead through stands where the types are used: rows and expressions.
-use Rattle.std.proofs.Common.{◌≡◌, ◌⊎◌, inl, inr, ℕ, zero, suc, Bool, true, false, cond, List, [], ◌∷◌, map, refl, ap, sym, ◌∙◌, subst, arith, lt-ltb, slice_get, option_map, bytes_eq, Option, Some, None}
-use Rattle.std.proofs.lemmas.Bool.{false≢true}
+use Rattle.std.proofs.{Common.{◌≡◌, ◌⊎◌, inl, inr, ℕ, zero, suc, Bool, true, false, cond, List, [], ◌∷◌, map, refl, ap, sym, ◌∙◌, subst, arith, lt-ltb, slice_get, option_map, bytes_eq, Option, Some, None}, lemmas.Bool.false≢true}
 use Rattle.std.specs.List.{AllByRecursion}
 use Rattle.sharc_tree.specs.declared.ctype.Base.TheVariants as base
-use Rattle.sharc_tree.specs.declared.ctype.Mode.{Mode}
-use Rattle.sharc_tree.specs.declared.ctype.Mode.TheVariants.{Private, Readonly, Locked, Racy, Dynamic}
-use Rattle.sharc_tree.specs.declared.ctype.Path.{Path}
-use Rattle.sharc_tree.specs.declared.ctype.Path.TheVariants.{One, Through}
-use Rattle.sharc_tree.specs.declared.token.Span.{Span}
-use Rattle.sharc_tree.specs.declared.tree.declaration.Declaration.{Declaration}
-use Rattle.sharc_tree.specs.declared.tree.declaration.Identifier.{Identifier}
-use Rattle.sharc_tree.specs.declared.tree.expression.Access.{Access}
+use Rattle.sharc_tree.specs.{declared.ctype.Mode.Mode, declared.ctype.Mode.TheVariants.{Private, Readonly, Locked, Racy, Dynamic}, declared.ctype.Path.Path, declared.ctype.Path.TheVariants.{One, Through}, declared.token.Span.Span, declared.tree.declaration.Declaration.Declaration, declared.tree.declaration.Identifier.Identifier, declared.tree.expression.Access.Access, declared.tree.expression.UnaryOperator.TheVariants.{Negate, Not, Complement, Dereference}, declared.tree.item.GlobalDefinition.GlobalDefinition, declared.tree.item.StructDefinition.StructDefinition, Measures.{expressions, in_arguments}, Tree.{Expression, Arguments, no_arguments, argument, Function, Item, structure, global, function}}
 use Rattle.sharc_tree.specs.declared.tree.expression.Constant.TheVariants as constants
-use Rattle.sharc_tree.specs.declared.tree.expression.UnaryOperator.TheVariants.{Negate, Not, Complement, Dereference}
-use Rattle.sharc_tree.specs.declared.tree.item.GlobalDefinition.{GlobalDefinition}
-use Rattle.sharc_tree.specs.declared.tree.item.StructDefinition.{StructDefinition}
-use Rattle.sharc_tree.specs.Measures.{expressions, in_arguments}
-use Rattle.sharc_tree.specs.Tree.{Expression, Arguments, no_arguments, argument, Function, Item, structure, global, function}
 use Rattle.sharc_tree.specs.Tree as tree
-use Rattle.sharc_names.specs.declared.fault.Named.{Named}
+use Rattle.sharc_names.specs.{declared.fault.Named.Named, declared.scope.Scope.Scope, Kinds.{Kind, object, is_array, is_pointer}, Names.{Entry, Meaning, field_of, look_up, named_of}}
 use Rattle.sharc_names.specs.declared.fault.Named.TheVariants as named
-use Rattle.sharc_names.specs.declared.scope.Scope.{Scope}
 use Rattle.sharc_names.specs.declared.types.Role.TheVariants as role
-use Rattle.sharc_names.specs.Kinds.{Kind, object, is_array, is_pointer}
-use Rattle.sharc_names.specs.Names.{Entry, Meaning, field_of, look_up, named_of}
 use Rattle.sharc_names.specs.Names as meaning
-use Rattle.sharc_ctype.specs.declared.entity.Entity.{Entity}
-use Rattle.sharc_ctype.specs.declared.entity.Numbered.{Numbered}
-use Rattle.sharc_ctype.specs.Entities.{declared, cast_entity, casts, result_of, function_entities, entities_in, numbered, is_told_by, entity_at}
-use Rattle.sharc_ctype.specs.Resolved.{Resolution, named_at, declaration_at, global_at, function_at, globals_in, functions_in, structs_in, kind_at, variable_kind}
-use Rattle.sharc_ctype_laws.specs.Constraints.{HasType, IsMemberOf, struct_named, a_variable, a_global, a_function, a_field, a_field_behind}
-use Rattle.sharc_ctype_laws.specs.Found.{IsFound}
-use Rattle.sharc_ctype_laws.specs.Laws.{NamesFound}
-use Rattle.sharc_ctype_laws.specs.Paths.{meaning_token, IsVariableIn, IsAmong, LevelStands, TypeStands, CastStands, file_types}
-use Rattle.sharc_ctype_laws.specs.Places.{Placing, at}
-use Rattle.sharc_ctype_laws.specs.WrittenTypes.{IsNamedLevel, IsNamedType}
-use Rattle.sharc_mode.specs.Flows.{IsLeastAssignment}
-use Rattle.sharc_mode.specs.Moded.{Assignment}
-use Rattle.sharc_mode.specs.Rows.{Reading, written, through, Targets, is_constant_named, constant_use, base_use, read, entity_row, global_row, named_row, result_row, called_row, behind, reading_through, row_at, modes_of}
-use Rattle.sharc_mode.specs.Sharings.{locked, lock_of, sharing_of, text_at, is_sibling_lock}
+use Rattle.sharc_ctype.specs.{declared.entity.Entity.Entity, declared.entity.Numbered.Numbered, Entities.{declared, cast_entity, casts, result_of, function_entities, entities_in, numbered, is_told_by, entity_at}, Resolved.{Resolution, named_at, declaration_at, global_at, function_at, globals_in, functions_in, structs_in, kind_at, variable_kind}}
+use Rattle.sharc_ctype_laws.specs.{Constraints.{HasType, IsMemberOf, struct_named, a_variable, a_global, a_function, a_field, a_field_behind}, Found.IsFound, Laws.NamesFound, Paths.{meaning_token, IsVariableIn, IsAmong, LevelStands, TypeStands, CastStands, file_types}, Places.{Placing, at}, WrittenTypes.{IsNamedLevel, IsNamedType}}
+use Rattle.sharc_mode.specs.{Flows.IsLeastAssignment, Moded.Assignment, Rows.{Reading, written, through, Targets, is_constant_named, constant_use, base_use, read, entity_row, global_row, named_row, result_row, called_row, behind, reading_through, row_at, modes_of}, Sharings.{locked, lock_of, sharing_of, text_at, is_sibling_lock}}
 use Rattle.sharc_mode_laws.specs.Constructs.{IsEntity}
-use Rattle.sharc_flat.specs.Scope.{Context, slot_kind}
-use Rattle.sharc_flat.specs.Suits.{PathNamed, PathStands, IfThere}
-use Rattle.sharc_accepted_laws.specs.Scopes.{AllStand, DeclaredStands}
-use Rattle.sharc_accepted_laws.specs.Standing.{ExpressionStands, ExpressionsStand}
-use Rattle.sharc_accepted_laws.proofs.Origins.{reading_kept, deeper_hold}
-use Rattle.sharc_accepted_laws.proofs.Passed.{first_kind}
-use Rattle.sharc_accepted_laws.proofs.Written.{raw, row_good, found_there}
-use Rattle.sharc_accepted_laws.proofs.TargetLists.{both, same_some}
-use Rattle.sharc_accepted_laws.proofs.Found.{front, back}
-use Rattle.sharc_accepted_laws.proofs.TypableRegisters.{none_some}
+use Rattle.sharc_flat.specs.{Scope.{Context, slot_kind}, Suits.{PathNamed, PathStands, IfThere}}
+use Rattle.sharc_accepted_laws.specs.{Scopes.{AllStand, DeclaredStands}, Standing.{ExpressionStands, ExpressionsStand}}
+use Rattle.sharc_accepted_laws.proofs.{Origins.{reading_kept, deeper_hold}, Passed.first_kind, Written.{raw, row_good, found_there}}
+use Rattle.sharc_lemmas.proofs.{Options.{same_some, none_some}, Lists.{front, back, both}}
 
 abbrev pub right_kind : Resolution → ℕ → Bool
 right_kind r x = is_pointer (variable_kind (declaration_at r x))

@@ -1,33 +1,20 @@
 -- What pointers refer to has the cells, the layout and the fields of the source, and a cast leaves its contents.
-use Rattle.std.proofs.Common.{◌≡◌, ℕ, zero, suc, ◌+◌, ◌-◌, ◌<◌, Bool, true, false, cond, List, [], ◌∷◌, length, map, drop, slice_index_or, refl, ap, sym, ◌∙◌, subst, arith, bytes_eq}
-use Rattle.std.proofs.lemmas.Bool.{false≢true, and_parts}
+use Rattle.std.proofs.{Common.{◌≡◌, ℕ, zero, suc, ◌+◌, ◌-◌, ◌<◌, Bool, true, false, cond, List, [], ◌∷◌, length, map, drop, slice_index_or, refl, ap, sym, ◌∙◌, subst, arith, bytes_eq}, lemmas.Bool.{false≢true, and_parts}}
 use Rattle.std.specs.List.{AllByRecursion}
-use Rattle.sharc_tree.specs.declared.ctype.Base.{Base}
+use Rattle.sharc_tree.specs.{declared.ctype.Base.Base, declared.tree.declaration.Declaration.Declaration, declared.tree.item.StructDefinition.StructDefinition}
 use Rattle.sharc_tree.specs.declared.ctype.Base.TheVariants as base
-use Rattle.sharc_tree.specs.declared.tree.declaration.Declaration.{Declaration}
-use Rattle.sharc_tree.specs.declared.tree.item.StructDefinition.{StructDefinition}
-use Rattle.sharc_names.specs.declared.fault.Named.{Named}
+use Rattle.sharc_names.specs.{declared.fault.Named.Named, Kinds.{Kind, object, array, null, is_pointer, element_kind, declared_kind}}
 use Rattle.sharc_names.specs.declared.fault.Named.TheVariants as named
-use Rattle.sharc_names.specs.Kinds.{Kind, object, array, null, is_pointer, element_kind, declared_kind}
 use Rattle.sharc_names.specs.Kinds as kinds
 use Rattle.sharc_ctype.specs.Resolved.{Resolution, named_at, structs_in}
-use Rattle.sharc_mode.specs.Cells.{first_of}
-use Rattle.sharc_mode.specs.Moded.{Assignment}
-use Rattle.sharc_mode.specs.Notes.{base_of}
-use Rattle.sharc_mode.specs.Rows.{Targets, written, declared_row, modes_of}
-use Rattle.sharc_mode.specs.Sharings.{Lock, Sharing, private, readonly, locked, racy, dynamic, same, same_all}
+use Rattle.sharc_mode.specs.{Cells.first_of, Moded.Assignment, Notes.base_of, Rows.{Targets, written, declared_row, modes_of}, Sharings.{Sharing, private, readonly, locked, racy, dynamic, same, same_all}}
 use Rattle.sharc_mode.specs.Sharings as sharings
 use Rattle.sharc_meaning.specs.Cells.{element_cells}
 use Rattle.sharc_flat.specs.Flattened.{layout_of}
 use Rattle.sharc_invariant.specs.Types.{FieldMode, Content, Pointer, Field, Target, no_field, field_at}
-use Rattle.sharc_accepted_laws.specs.TargetLaws.{IsRowOf}
-use Rattle.sharc_accepted_laws.specs.Pointees.{pointee, PointeeFits, PointeesFit, IsPlainLock, HasPlainLocks, IsRecast, is_same, of_types, RecastFits, RecastsFit, SameForms}
-use Rattle.sharc_accepted_laws.specs.Shapes.{Form, form_of, shape_of, row_shape, kind_of, number, stars_in}
-use Rattle.sharc_accepted_laws.specs.Targets.{lock_named, field_locks, lock_count, type_locks, own_mode, is_private_form, starts_private, base_content, pointer_content, declared_content, single, members, struct_fields, base_fields, shape_fields, targets_of}
-use Rattle.sharc_accepted_laws.proofs.TargetCells.{cells_are}
-use Rattle.sharc_accepted_laws.proofs.TargetForms.{row_length}
-use Rattle.sharc_accepted_laws.proofs.TargetLists.{map_length}
-use Rattle.sharc_accepted_laws.proofs.Numbers.{numbers_found}
+use Rattle.sharc_accepted_laws.specs.{TargetLaws.IsRowOf, Pointees.{pointee, PointeeFits, PointeesFit, IsPlainLock, HasPlainLocks, IsRecast, is_same, of_types, RecastFits, RecastsFit, SameForms}, Shapes.{Form, form_of, shape_of, row_shape, kind_of, number, stars_in}, Targets.{lock_named, field_locks, lock_count, type_locks, own_mode, is_private_form, starts_private, base_content, pointer_content, declared_content, single, members, struct_fields, base_fields, shape_fields, targets_of}}
+use Rattle.sharc_accepted_laws.proofs.{TargetCells.cells_are, TargetForms.row_length, Numbers.numbers_found}
+use Rattle.sharc_lemmas.proofs.Lists.{map_length, no_cons}
 
 -- ---- kinds and forms
 -- a pointer has a base and a star
@@ -166,9 +153,6 @@ alike_at a b (f ∷ fs) [] h k = absurd h
 record AreRecast (a b : List Sharing) (fs gs : List Field) : Type 0 where
   many : length fs ≡ length gs
   contents : (k : ℕ) → IsRecast a b (slice_index_or fs k no_field).holds (slice_index_or gs k no_field).holds
-
-no_cons : {A : Type 0} (x : A) (xs : List A) → [] ≡ x ∷ xs → ⊥
-no_cons x xs h = cc
 
 pointer_cells : (m : Assignment) (b : Base) (p q x y : Sharing) (below others : List Sharing) → map form_of (x ∷ below) ≡ map form_of (y ∷ others)
     → AreRecast (p ∷ x ∷ below) (q ∷ y ∷ others) (shape_fields m b (map form_of (p ∷ x ∷ below))) (shape_fields m b (map form_of (q ∷ y ∷ others)))

@@ -1,77 +1,26 @@
 -- The locks of what cells refer to: in the table, and by the source.
 use Rattle.std.proofs.Common.{◌≡◌, ◌⊎◌, inl, inr, ℕ, zero, suc, ◌+◌, ◌-◌, ◌<◌, ◌≤◌, ◌==◌, Bool, true, false, cond, ◌&&◌, List, [], ◌∷◌, ◌++◌, length, map, refl, ap, sym, ◌∙◌, subst, arith, append_assoc, length-append, option_map, Option, Some, None, is_none, Contains}
-use Rattle.std.specs.Prelude.{slice_index_or}
-use Rattle.std.proofs.lemmas.Bool.{false≢true}
-use Rattle.std.specs.List.{AllByRecursion}
+use Rattle.std.specs.{Prelude.slice_index_or, List.AllByRecursion}
 use Rattle.sharc_tree.specs.declared.ctype.Base.TheVariants as base
-use Rattle.sharc_tree.specs.declared.ctype.Mode.{Mode}
-use Rattle.sharc_tree.specs.declared.ctype.Mode.TheVariants.{Private, Readonly, Locked, Racy, Dynamic}
-use Rattle.sharc_tree.specs.declared.ctype.Path.{Path}
-use Rattle.sharc_tree.specs.declared.ctype.Path.TheVariants.{One, Through as PathThrough}
-use Rattle.sharc_tree.specs.declared.token.Span.{Span}
-use Rattle.sharc_tree.specs.declared.tree.declaration.Declaration.{Declaration}
-use Rattle.sharc_tree.specs.declared.tree.declaration.Identifier.{Identifier}
-use Rattle.sharc_tree.specs.declared.tree.expression.Access.{Access}
-use Rattle.sharc_tree.specs.declared.tree.expression.Access.TheVariants.{Dot, Arrow}
-use Rattle.sharc_tree.specs.declared.tree.expression.UnaryOperator.TheVariants.{Negate, Not, Complement, Dereference}
-use Rattle.sharc_tree.specs.declared.tree.item.GlobalDefinition.{GlobalDefinition}
-use Rattle.sharc_tree.specs.Measures.{expressions, in_function}
-use Rattle.sharc_tree.specs.Tree.{Expression, Function}
+use Rattle.sharc_tree.specs.{declared.ctype.Mode.Mode, declared.ctype.Mode.TheVariants.{Private, Readonly, Locked, Racy, Dynamic}, declared.ctype.Path.Path, declared.ctype.Path.TheVariants.{One, Through as PathThrough}, declared.token.Span.Span, declared.tree.declaration.Declaration.Declaration, declared.tree.declaration.Identifier.Identifier, declared.tree.expression.Access.Access, declared.tree.expression.Access.TheVariants.{Dot, Arrow}, declared.tree.expression.UnaryOperator.TheVariants.{Negate, Not, Complement, Dereference}, declared.tree.item.GlobalDefinition.GlobalDefinition, Measures.{expressions, in_function}, Tree.{Expression, Function}}
 use Rattle.sharc_tree.specs.Tree as tree
-use Rattle.sharc_names.specs.declared.fault.Named.{Named}
+use Rattle.sharc_names.specs.{declared.fault.Named.Named, Kinds.{Kind, object, is_array}}
 use Rattle.sharc_names.specs.declared.fault.Named.TheVariants as named
 use Rattle.sharc_names.specs.declared.types.Role.TheVariants as role
-use Rattle.sharc_names.specs.Kinds.{Kind, object, is_array}
-use Rattle.sharc_ctype.specs.declared.entity.Entity.{Entity}
-use Rattle.sharc_ctype.specs.declared.entity.Numbered.{Numbered}
-use Rattle.sharc_ctype.specs.Entities.{declared, entities_in, numbered, is_told_by}
-use Rattle.sharc_ctype.specs.Resolved.{Resolution, named_at, declaration_at, variable_kind, global_at, globals_in, functions_in, structs_in, kind_at}
-use Rattle.sharc_ctype_laws.specs.Constraints.{HasType, IsMemberOf, a_field, a_field_behind}
-use Rattle.sharc_ctype_laws.specs.Found.{IsFound, EachTypeFound}
-use Rattle.sharc_ctype_laws.specs.Laws.{EachNameOnce, OnlyNames, EachPathFound, MeetsConstraints, OneType}
+use Rattle.sharc_ctype.specs.{declared.entity.Entity.Entity, declared.entity.Numbered.Numbered, Entities.{declared, entities_in, numbered, is_told_by}, Resolved.{Resolution, named_at, declaration_at, variable_kind, global_at, globals_in, functions_in, structs_in, kind_at}}
+use Rattle.sharc_ctype_laws.specs.{Constraints.{HasType, IsMemberOf, a_field, a_field_behind}, Found.{IsFound, EachTypeFound}, Laws.{EachNameOnce, OnlyNames, EachPathFound, MeetsConstraints, OneType}}
 use Rattle.sharc_flat_form.specs.Machine.{first_cell}
 use Rattle.sharc_meaning.specs.Cells.{field_place, field_place_named, field_place_behind}
 use Rattle.sharc_mode.specs.declared.place.Place.TheVariants as place
-use Rattle.sharc_mode.specs.Cells.{pointed}
-use Rattle.sharc_mode.specs.Moded.{Assignment}
-use Rattle.sharc_mode.specs.RowLaws.{RowLaws}
-use Rattle.sharc_mode.specs.Rows.{Reading, written, through, Targets, is_constant_named, constant_use, base_use, lock_through, path_variable, read, deeper, entity_row, declared_row, global_row, named_row, behind, reading_through, row_at, modes_of, modes_at}
-use Rattle.sharc_mode.specs.Sharings.{Lock, Sharing, private, readonly, locked, racy, dynamic, lock_of, sharing_of, text_at, variable_named, is_field, is_sibling_lock}
-use Rattle.sharc_mode.specs.WellFormed.{place_of}
-use Rattle.sharc_mode_laws.specs.Constructs.{IsExpression, IsEntity}
-use Rattle.sharc_mode_laws.specs.Laws.{RulesAreMet}
-use Rattle.sharc_mode_laws.specs.Paths.{IsAllowed, global_mutex, sibling_mutex, sibling_pointer, through_constant, IsThroughConstant, through as is_through}
-use Rattle.sharc_mode_laws.specs.Rules.{MeetsRules}
+use Rattle.sharc_mode.specs.{Cells.pointed, Moded.Assignment, RowLaws.RowLaws, Rows.{Reading, written, through, Targets, is_constant_named, constant_use, base_use, lock_through, path_variable, read, deeper, entity_row, declared_row, global_row, named_row, behind, reading_through, row_at, modes_of, modes_at}, Sharings.{Lock, Sharing, private, readonly, locked, racy, dynamic, lock_of, sharing_of, text_at, variable_named, is_field, is_sibling_lock}, WellFormed.place_of}
+use Rattle.sharc_mode_laws.specs.{Constructs.{IsExpression, IsEntity}, Laws.RulesAreMet, Paths.{IsAllowed, global_mutex, sibling_mutex, sibling_pointer, through_constant, IsThroughConstant, through as is_through}, Rules.MeetsRules}
 use Rattle.sharc_code.specs.declared.instr.Cell.{Cell}
 use Rattle.sharc_code.specs.declared.instr.Cell.TheVariants as cells
-use Rattle.sharc_flat.specs.Places.{Target, in_global, in_global_at, in_object_at, global_of, own_field, named_target, target, cell_of}
-use Rattle.sharc_flat.specs.Scope.{Context}
-use Rattle.sharc_flat.specs.Suits.{Either, is_cell}
-use Rattle.sharc_flat.specs.Tables.{globals_of}
-use Rattle.sharc_invariant.specs.Types.{Lock as TypeLock, FieldLock, OfType, OfGlobals, OfElement, StaticType}
-use Rattle.sharc_invariant.specs.Types.Lock.{Global, Through, Self}
-use Rattle.sharc_invariant.specs.Labels.{Refers, Label, SameReference, Itself, SameLock, AllSame}
-use Rattle.sharc_invariant.specs.Typed.{no_lock, IsFieldLock, IsGlobalLock, IsAnyLock, IsAnyGlobalLock, AreFieldLocks}
-use Rattle.sharc_accepted_laws.specs.StaticLaws.{IsAccepted}
-use Rattle.sharc_accepted_laws.specs.Held.{is_held, IsHeldPath, AllHeld}
-use Rattle.sharc_accepted_laws.specs.Pointing.{element_locks, pointee_locks, declared_locks, content_locks, BaseIs, IsBased, PlacesPoint}
-use Rattle.sharc_accepted_laws.specs.Static.{register, lock_named, lock_at, locks_at, static_of}
-use Rattle.sharc_accepted_laws.proofs.Arrays.{IsNameOf, array_name}
-use Rattle.sharc_accepted_laws.proofs.Holds.{expressions_held}
-use Rattle.sharc_accepted_laws.proofs.Origins.{private_path, racy_path, dynamic_path, reading_kept, same_raw, no_private, no_readonly, no_racy, no_dynamic, same_lock}
-use Rattle.sharc_accepted_laws.proofs.Passed.{use_named}
-use Rattle.sharc_accepted_laws.proofs.Places.{InFile, FileKnown, FieldInFile, file_known, struct_fields, field_found, at_number, IfSome}
-use Rattle.sharc_accepted_laws.proofs.Noted.{all_say}
-use Rattle.sharc_accepted_laws.proofs.StaticSiblings.{SiblingsAre, siblings_are}
-use Rattle.sharc_accepted_laws.proofs.Written.{raw, row_good, found_there}
-use Rattle.sharc_accepted_laws.specs.Fields.{FieldsPlaced}
-use Rattle.sharc_accepted_laws.specs.TargetLaws.{ExpressionsFound}
-use Rattle.sharc_accepted_laws.specs.Shapes.{Form, private_form, readonly_form, locked_form, racy_form, dynamic_form, form_of}
-use Rattle.sharc_accepted_laws.specs.Targets.{lock_named as table_lock, field_lock, field_locks, type_locks, lock_count}
-use Rattle.sharc_accepted_laws.proofs.TargetLists.{place_of_element, of_each, to_each, same_some}
-use Rattle.sharc_accepted_laws.proofs.AccessLists.{each}
-use Rattle.sharc_accepted_laws.proofs.Found.{front}
-use Rattle.sharc_accepted_laws.proofs.TypableRegisters.{none_some}
+use Rattle.sharc_flat.specs.{Places.{Target, in_global, in_global_at, in_object_at, global_of, own_field, named_target, target, cell_of}, Scope.Context, Suits.{Either, is_cell}, Tables.globals_of}
+use Rattle.sharc_invariant.specs.{Types.{Lock as TypeLock, FieldLock, OfType, OfGlobals, OfElement, StaticType}, Types.Lock.{Global, Through, Self}, Labels.{Refers, Label, SameReference, Itself, SameLock, AllSame}, Typed.{no_lock, IsFieldLock, IsGlobalLock, IsAnyLock, IsAnyGlobalLock, AreFieldLocks}}
+use Rattle.sharc_accepted_laws.specs.{StaticLaws.IsAccepted, Held.{is_held, IsHeldPath, AllHeld}, Pointing.{element_locks, pointee_locks, declared_locks, content_locks, BaseIs, IsBased, PlacesPoint}, Static.{register, lock_named, lock_at, locks_at, static_of}, Fields.FieldsPlaced, TargetLaws.ExpressionsFound, Shapes.{Form, private_form, readonly_form, locked_form, racy_form, dynamic_form, form_of}, Targets.{lock_named as table_lock, field_lock, field_locks, type_locks, lock_count}}
+use Rattle.sharc_accepted_laws.proofs.{Arrays.{IsNameOf, array_name}, Holds.expressions_held, Origins.{private_path, racy_path, dynamic_path, reading_kept, same_raw, no_private, no_readonly, no_racy, no_dynamic, same_lock}, Passed.use_named, Places.{InFile, FileKnown, FieldInFile, file_known, struct_fields, field_found, at_number, IfSome}, Noted.all_say, StaticSiblings.{SiblingsAre, siblings_are}, Written.{raw, row_good, found_there}}
+use Rattle.sharc_lemmas.proofs.{Options.{same_some, none_some}, Lists.{front, each, place_of_element, of_each, to_each}, Bools.no_cell}
 
 -- ---- lists of locks
 -- the one behind so many
@@ -382,9 +331,6 @@ module _ (rules : RulesAreMet) (c : Context) (a : IsAccepted c.program) (globals
         (through_locks (raw m3 row) (field_row rules m3 a written d f.0) other_held))))
 
 -- ---- lvalues
-no_cell : false ≡ true → ⊥
-no_cell h = false≢true h
-
 module _ (rows : RowLaws) (expressions_found : ExpressionsFound) (one_type : OneType) (rules : RulesAreMet) (found : EachTypeFound) (paths : EachPathFound) (constraints : MeetsConstraints) (c : Context) (a : IsAccepted c.program)
     (globals : c.globals ≡ globals_of c.program.typed) (siblings : SiblingsAre c.program.typed) (l : Label) (i reg : ℕ) where
   abbrev m4 : Assignment

@@ -1,67 +1,22 @@
 -- What the cells of lvalues stand on, by the laws of typed programs and of modes.
-use Rattle.std.proofs.Common.{◌≡◌, ℕ, ◌+◌, ◌-◌, ◌<◌, ◌==◌, ◌&&◌, ◌||◌, Bool, true, false, cond, List, [], ◌∷◌, length, map, slice_index_or, refl, ap, sym, ◌∙◌, subst, arith, Option, Some, None, Contains, bytes_eq}
-use Rattle.std.proofs.lemmas.Bool.{false≢true, ne_eqb, ltb-true}
-use Rattle.std.specs.List.{AllByRecursion}
-use Rattle.std.specs.Prelude.{slice_get, nat_lt}
-use Rattle.sharc_tree.specs.declared.ctype.Base.{Base}
+use Rattle.std.proofs.{Common.{◌≡◌, ℕ, ◌+◌, ◌-◌, ◌<◌, ◌==◌, ◌&&◌, ◌||◌, Bool, true, false, cond, List, [], ◌∷◌, length, map, slice_index_or, refl, ap, sym, ◌∙◌, subst, arith, Option, Some, None, Contains, bytes_eq}, lemmas.Bool.{false≢true, ne_eqb, ltb-true}}
+use Rattle.std.specs.{List.AllByRecursion, Prelude.{slice_get, nat_lt}}
+use Rattle.sharc_tree.specs.{declared.ctype.Base.Base, declared.ctype.Mode.Mode, declared.ctype.Path.Path, declared.tree.declaration.Declaration.Declaration, declared.tree.declaration.WrittenType.WrittenType, declared.tree.item.GlobalDefinition.GlobalDefinition, declared.tree.item.StructDefinition.StructDefinition, Low.IsLow, Placed.IsPlaced, Measures.in_function}
 use Rattle.sharc_tree.specs.declared.ctype.Base.TheVariants as base
-use Rattle.sharc_tree.specs.declared.ctype.Mode.{Mode}
 use Rattle.sharc_tree.specs.declared.ctype.Mode.TheVariants as mode
-use Rattle.sharc_tree.specs.declared.ctype.Path.{Path}
-use Rattle.sharc_tree.specs.declared.tree.declaration.Declaration.{Declaration}
-use Rattle.sharc_tree.specs.declared.tree.declaration.WrittenType.{WrittenType}
-use Rattle.sharc_tree.specs.declared.tree.item.GlobalDefinition.{GlobalDefinition}
-use Rattle.sharc_tree.specs.declared.tree.item.StructDefinition.{StructDefinition}
-use Rattle.sharc_tree.specs.Low.{IsLow}
-use Rattle.sharc_tree.specs.Placed.{IsPlaced}
-use Rattle.sharc_tree.specs.Measures.{in_function}
 use Rattle.sharc_names.specs.declared.fault.Named.TheVariants as named
-use Rattle.sharc_names.specs.declared.types.Role.{Role}
+use Rattle.sharc_names.specs.{declared.types.Role.Role, Kinds.{Kind, object, array, is_array, element_kind, is_struct_base, is_struct_behind, mutex}, Names.field_of, Types.{is_allowed, allowed_there}}
 use Rattle.sharc_names.specs.declared.types.Role.TheVariants as role
-use Rattle.sharc_names.specs.Kinds.{Kind, object, array, is_array, element_kind, is_struct_base, is_struct_behind, mutex}
 use Rattle.sharc_names.specs.Kinds as kinds
-use Rattle.sharc_names.specs.Names.{field_of}
-use Rattle.sharc_names.specs.Types.{is_allowed, allowed_there}
-use Rattle.sharc_ctype.specs.declared.entity.Entity.{Entity}
-use Rattle.sharc_ctype.specs.declared.entity.Numbered.{Numbered}
-use Rattle.sharc_ctype.specs.Entities.{declared, entities_in, entity_at, positions_of, written_modes, first_depth}
-use Rattle.sharc_ctype.specs.Resolved.{Resolution, IsResolved, named_at, kind_at, global_at, structs_in, globals_in, functions_in, named_kind}
-use Rattle.sharc_ctype_laws.specs.Constraints.{HasType}
-use Rattle.sharc_ctype_laws.specs.Declared.{IsItself}
-use Rattle.sharc_ctype_laws.specs.Found.{EachTypeFound}
-use Rattle.sharc_ctype_laws.specs.Laws.{EachNameOnce, OnlyNames, EachNamesItself, MeetsConstraints, OneType}
+use Rattle.sharc_ctype.specs.{declared.entity.Entity.Entity, declared.entity.Numbered.Numbered, Entities.{declared, entities_in, entity_at, positions_of, written_modes, first_depth}, Resolved.{Resolution, IsResolved, named_at, kind_at, global_at, structs_in, globals_in, functions_in, named_kind}}
+use Rattle.sharc_ctype_laws.specs.{Constraints.HasType, Declared.IsItself, Found.EachTypeFound, Laws.{EachNameOnce, OnlyNames, EachNamesItself, MeetsConstraints, OneType}}
 use Rattle.sharc_graph.specs.declared.graph.Finding.TheVariants.{Apart, Source, Behind}
-use Rattle.sharc_mode.specs.Cells.{top_of, first_mode, global_cell}
-use Rattle.sharc_mode.specs.Flows.{IsLeastAssignment, mode_found}
-use Rattle.sharc_mode.specs.WellModed.{WellModed}
-use Rattle.sharc_mode.specs.Moded.{Assignment}
-use Rattle.sharc_mode.specs.Rows.{Reading, written, targets_from, entity_row, modes_of}
-use Rattle.sharc_mode.specs.Settled.{otherwise_of}
-use Rattle.sharc_mode.specs.Sharings.{Lock, locked, lock_of, sharing_of}
-use Rattle.sharc_mode.specs.WellFormed.{place_of}
+use Rattle.sharc_mode.specs.{Cells.{top_of, first_mode, global_cell}, Flows.{IsLeastAssignment, mode_found}, WellModed.WellModed, Moded.Assignment, Rows.{Reading, written, targets_from, entity_row, modes_of}, Settled.otherwise_of, Sharings.{Lock, locked, lock_of, sharing_of}, WellFormed.place_of}
 use Rattle.sharc_mode.specs.declared.place.Place.TheVariants as place
-use Rattle.sharc_mode_laws.specs.Constructs.{IsExpression, IsWritten}
-use Rattle.sharc_mode_laws.specs.Laws.{RulesAreMet}
-use Rattle.sharc_mode_laws.specs.Paths.{IsAllowed, global_mutex, sibling_mutex, sibling_pointer, through_constant}
-use Rattle.sharc_accepted_laws.specs.Lvalues.{LvaluesFit, IsArrayOf, ArraysFit}
-use Rattle.sharc_accepted_laws.specs.Shapes.{form_of}
-use Rattle.sharc_accepted_laws.proofs.Expressing.{expressions_found}
-use Rattle.sharc_accepted_laws.proofs.TargetForms.{same_forms}
-use Rattle.sharc_accepted_laws.proofs.Found.{IsThere, field_found, global_found, global_low}
-use Rattle.sharc_accepted_laws.proofs.Laying.{named_there, members_are}
-use Rattle.sharc_accepted_laws.proofs.TargetLists.{head_there, tail_there, of_each, place_there, same_some}
-use Rattle.sharc_accepted_laws.proofs.Lvalues.{AreReady, names_cell, array_base}
-use Rattle.sharc_accepted_laws.proofs.TargetMembers.{top_written}
-use Rattle.sharc_accepted_laws.proofs.Moding.{PathNames, field_or_global}
-use Rattle.sharc_accepted_laws.proofs.Rows.{IsKnown}
-use Rattle.sharc_accepted_laws.proofs.Settling.{positioned, settled_by, SettledBy, a_mutex, is_written, is_meant, settled_from, get_dropped, dropped_length}
-use Rattle.sharc_accepted_laws.proofs.TargetSiblings.{field_allowed}
-use Rattle.sharc_accepted_laws.proofs.Whole.{known}
-use Rattle.sharc_accepted_laws.proofs.Globals.{index_get}
-use Rattle.sharc_accepted_laws.proofs.Typed.{and_false}
-use Rattle.sharc_accepted_laws.proofs.Sorts.{or_false}
-use Rattle.sharc_accepted_laws.proofs.Origins.{same_lock}
-use Rattle.sharc_accepted_laws.proofs.TypableRegisters.{none_some}
+use Rattle.sharc_mode_laws.specs.{Constructs.{IsExpression, IsWritten}, Laws.RulesAreMet, Paths.{IsAllowed, global_mutex, sibling_mutex, sibling_pointer, through_constant}}
+use Rattle.sharc_accepted_laws.specs.{Lvalues.{LvaluesFit, IsArrayOf, ArraysFit}, Shapes.form_of}
+use Rattle.sharc_accepted_laws.proofs.{Expressing.expressions_found, TargetForms.same_forms, Found.{IsThere, field_found, global_found, global_low}, Laying.{named_there, members_are}, TargetLists.place_there, Lvalues.{AreReady, names_cell, array_base}, TargetMembers.top_written, Moding.{PathNames, field_or_global}, Rows.IsKnown, Settling.{positioned, settled_by, SettledBy, a_mutex, is_written, is_meant, settled_from, get_dropped, dropped_length}, TargetSiblings.field_allowed, Whole.known, Globals.index_get, Origins.same_lock}
+use Rattle.sharc_lemmas.proofs.{Bools.{or_false, and_false}, Options.{same_some, none_some}, Lists.{head_there, of_each, tail_there}}
 
 member_there : (fields : List Declaration) (name : List ℕ) (d : Declaration) → field_of fields name ≡ Some d → Contains fields d
 member_there [] name d is = absurd (none_some d is)

@@ -1,45 +1,20 @@
 -- What the cells of an object are and refer to does not change by a cast.
 use Rattle.std.proofs.Common.{◌≡◌, ℕ, zero, suc, ◌+◌, Bool, true, false, cond, List, [], ◌∷◌, ◌++◌, length, map, drop, refl, ap, sym, ◌∙◌, subst, arith, append_assoc, length-append, option_map, bytes_eq, Option, Some, None, Contains}
-use Rattle.std.specs.Prelude.{slice_index_or}
-use Rattle.std.specs.List.{AllByRecursion}
-use Rattle.sharc_tree.specs.declared.ctype.Base.{Base}
+use Rattle.std.specs.{Prelude.slice_index_or, List.AllByRecursion}
+use Rattle.sharc_tree.specs.{declared.ctype.Base.Base, declared.token.Span.Span, declared.tree.declaration.Declaration.Declaration, declared.tree.declaration.WrittenType.WrittenType, declared.tree.item.StructDefinition.StructDefinition, Measures.in_function, Tree.Expression}
 use Rattle.sharc_tree.specs.declared.ctype.Base.TheVariants as base
-use Rattle.sharc_tree.specs.declared.token.Span.{Span}
-use Rattle.sharc_tree.specs.declared.tree.declaration.Declaration.{Declaration}
-use Rattle.sharc_tree.specs.declared.tree.declaration.WrittenType.{WrittenType}
-use Rattle.sharc_tree.specs.declared.tree.item.StructDefinition.{StructDefinition}
-use Rattle.sharc_tree.specs.Measures.{in_function}
-use Rattle.sharc_tree.specs.Tree.{Expression}
 use Rattle.sharc_tree.specs.Tree as tree
-use Rattle.sharc_names.specs.declared.fault.Named.{Named}
+use Rattle.sharc_names.specs.{declared.fault.Named.Named, Kinds.{Kind, object, is_pointer, declared_kind}}
 use Rattle.sharc_names.specs.declared.fault.Named.TheVariants as named
-use Rattle.sharc_names.specs.Kinds.{Kind, object, is_pointer, declared_kind}
 use Rattle.sharc_ctype.specs.Resolved.{Resolution, structs_in, functions_in, named_at, kind_at}
-use Rattle.sharc_ctype_laws.specs.Constraints.{HasType, a_cast}
-use Rattle.sharc_ctype_laws.specs.Laws.{MeetsConstraints, OneType}
-use Rattle.sharc_mode.specs.Cells.{pointed}
-use Rattle.sharc_mode.specs.Moded.{Assignment}
-use Rattle.sharc_mode.specs.Notes.{base_of}
-use Rattle.sharc_mode.specs.RowLaws.{RowLaws}
-use Rattle.sharc_mode.specs.Rows.{Targets, written, deeper, cast_row, declared_row, row_at, modes_of, modes_at}
-use Rattle.sharc_mode.specs.Sharings.{Sharing, private, readonly, locked, racy, dynamic, same_all}
-use Rattle.sharc_mode_laws.specs.Constructs.{IsExpression}
-use Rattle.sharc_mode_laws.specs.Laws.{RulesAreMet}
+use Rattle.sharc_ctype_laws.specs.{Constraints.{HasType, a_cast}, Laws.{MeetsConstraints, OneType}}
+use Rattle.sharc_mode.specs.{Cells.pointed, Moded.Assignment, Notes.base_of, RowLaws.RowLaws, Rows.{Targets, written, deeper, cast_row, declared_row, row_at, modes_of, modes_at}, Sharings.{Sharing, private, readonly, locked, racy, dynamic, same_all}}
+use Rattle.sharc_mode_laws.specs.{Constructs.IsExpression, Laws.RulesAreMet}
 use Rattle.sharc_flat.specs.Scope.{Context}
-use Rattle.sharc_invariant.specs.Types.{Lock as TypeLock, FieldLock, OfType, OfGlobals, OfElement, FieldMode, Content, StaticType, no_field, field_at}
-use Rattle.sharc_invariant.specs.Types.Lock.{Global, Through, Self}
-use Rattle.sharc_invariant.specs.Labels.{Label, Itself, SameLock, AllSame}
-use Rattle.sharc_invariant.specs.Typed.{no_lock, IsSameFieldLock, IsSameContent, Recasts}
-use Rattle.sharc_accepted_laws.specs.Casting.{CastsRecast}
-use Rattle.sharc_accepted_laws.specs.StaticLaws.{IsAccepted}
-use Rattle.sharc_accepted_laws.specs.Static.{lock_at, locks_at, static_of}
-use Rattle.sharc_accepted_laws.proofs.Points.{nth}
-use Rattle.sharc_accepted_laws.proofs.Same.{forms_of_same, locks_of_same}
-use Rattle.sharc_accepted_laws.specs.TargetLaws.{NumbersFound, ExpressionsFound}
-use Rattle.sharc_accepted_laws.specs.Shapes.{Shape, stars_in, form_of, shape_of, row_shape, shapes, number}
-use Rattle.sharc_accepted_laws.specs.Targets.{field_lock, field_locks, lock_named as table_lock, type_locks, lock_count, own_mode, base_content, pointer_content, declared_content, single, members, struct_fields, base_fields, shape_fields, shape_row, targets_of}
-use Rattle.sharc_accepted_laws.proofs.TargetLists.{of_each, same_some}
-use Rattle.sharc_accepted_laws.proofs.TypableRegisters.{none_some}
+use Rattle.sharc_invariant.specs.{Types.{Lock as TypeLock, FieldLock, OfType, OfGlobals, OfElement, FieldMode, Content, StaticType, no_field, field_at}, Types.Lock.{Global, Through, Self}, Labels.{Label, Itself, SameLock, AllSame}, Typed.{no_lock, IsSameFieldLock, IsSameContent, Recasts}}
+use Rattle.sharc_accepted_laws.specs.{Casting.CastsRecast, StaticLaws.IsAccepted, Static.{lock_at, locks_at, static_of}, TargetLaws.{NumbersFound, ExpressionsFound}, Shapes.{Shape, stars_in, form_of, shape_of, row_shape, shapes, number}, Targets.{field_lock, field_locks, lock_named as table_lock, type_locks, lock_count, own_mode, base_content, pointer_content, declared_content, single, members, struct_fields, base_fields, shape_fields, shape_row, targets_of}}
+use Rattle.sharc_accepted_laws.proofs.{Points.nth, Same.{forms_of_same, locks_of_same}}
+use Rattle.sharc_lemmas.proofs.{Options.{same_some, none_some}, Lists.of_each}
 
 -- ---- locks
 same_itself : (l : Label) (r : ℕ) (x : TypeLock) → SameLock l r x x

@@ -1,23 +1,16 @@
 -- Results.
 use Rattle.std.proofs.Common.{◌≡◌, ℕ, List, [], ap, sym, ◌∙◌, subst, arith}
 use Rattle.sharc_names.specs.Kinds.{declared_kind}
-use Rattle.sharc_ctype.specs.Entities.{result_of}
-use Rattle.sharc_ctype.specs.Resolved.{functions_in, called_kind, result_kind_of}
-use Rattle.sharc_ctype_laws.specs.Found.{EachTypeFound}
-use Rattle.sharc_ctype_laws.specs.Laws.{EachPathFound}
+use Rattle.sharc_ctype.specs.{Entities.result_of, Resolved.{functions_in, called_kind, result_kind_of}}
+use Rattle.sharc_ctype_laws.specs.{Found.EachTypeFound, Laws.EachPathFound}
 use Rattle.sharc_mode.specs.Rows.{written, declared_row, result_row, called_row, modes_of}
-use Rattle.sharc_flat.specs.declared.slot.Slot.{Slot}
-use Rattle.sharc_invariant.specs.Types.{Mentions}
-use Rattle.sharc_invariant.specs.Labels.{Refers}
-use Rattle.sharc_flat.specs.Scope.{Context}
+use Rattle.sharc_flat.specs.{declared.slot.Slot.Slot, Scope.Context}
+use Rattle.sharc_invariant.specs.{Types.Mentions, Labels.Refers}
 use Rattle.sharc_mode_laws.specs.Constructs.{IsFunction}
-use Rattle.sharc_accepted_laws.specs.StaticLaws.{IsAccepted}
+use Rattle.sharc_accepted_laws.specs.{StaticLaws.IsAccepted, Results.{where_stand, ResultsStay, CallsGive, ResultLaws}, Scopes.{ScopeLaws, AllStand}, Static.{static_of, result_type}}
 use Rattle.sharc_tree.specs.Tree.{Function}
-use Rattle.sharc_accepted_laws.specs.Results.{where_stand, ResultsStay, CallsGive, ResultLaws}
-use Rattle.sharc_accepted_laws.specs.Scopes.{ScopeLaws, AllStand}
-use Rattle.sharc_accepted_laws.specs.Static.{static_of, result_type}
 use Rattle.sharc_accepted_laws.proofs.Places.{InFile, file_known, file_stands, reads_written}
-use Rattle.sharc_accepted_laws.proofs.TargetLists.{of_each}
+use Rattle.sharc_lemmas.proofs.Lists.{of_each}
 
 module _ (scopes : ScopeLaws) (found : EachTypeFound) (paths : EachPathFound) (c : Context) (a : IsAccepted c.program) (f : Function) (is : IsFunction c.program f) where
   stands : AllStand c.program [] (modes_of c.program (declared_row c.program.typed written f.name.site.token))

@@ -1,49 +1,21 @@
 -- The rows of a well-moded program are good.
-use Rattle.std.proofs.Common.{◌≡◌, ℕ, ◌+◌, ◌<◌, ◌≤◌, Bool, true, false, cond, List, [], ◌∷◌, length, map, refl, ap, sym, ◌∙◌, subst, arith, Option, Some, Contains, bytes_eq}
-use Rattle.std.proofs.lemmas.Bool.{false≢true, and_parts}
-use Rattle.std.specs.List.{AllByRecursion}
-use Rattle.std.specs.Prelude.{slice_get}
-use Rattle.sharc_tree.specs.declared.ctype.Base.{Base}
+use Rattle.std.proofs.{Common.{◌≡◌, ℕ, ◌+◌, ◌<◌, ◌≤◌, Bool, true, false, cond, List, [], ◌∷◌, length, map, refl, ap, sym, ◌∙◌, subst, arith, Option, Some, Contains, bytes_eq}, lemmas.Bool.{false≢true, and_parts}}
+use Rattle.std.specs.{List.AllByRecursion, Prelude.slice_get}
+use Rattle.sharc_tree.specs.{declared.ctype.Base.Base, declared.ctype.Mode.Mode, declared.ctype.Path.Path, declared.ctype.Path.TheVariants.{One, Through}, declared.tree.declaration.Declaration.Declaration, declared.tree.declaration.WrittenType.WrittenType, declared.tree.item.StructDefinition.StructDefinition}
 use Rattle.sharc_tree.specs.declared.ctype.Base.TheVariants as base
-use Rattle.sharc_tree.specs.declared.ctype.Mode.{Mode}
 use Rattle.sharc_tree.specs.declared.ctype.Mode.TheVariants as mode
-use Rattle.sharc_tree.specs.declared.ctype.Path.{Path}
-use Rattle.sharc_tree.specs.declared.ctype.Path.TheVariants.{One, Through}
-use Rattle.sharc_tree.specs.declared.tree.declaration.Declaration.{Declaration}
-use Rattle.sharc_tree.specs.declared.tree.declaration.WrittenType.{WrittenType}
-use Rattle.sharc_tree.specs.declared.tree.item.StructDefinition.{StructDefinition}
 use Rattle.sharc_names.specs.declared.fault.Named.TheVariants as named
 use Rattle.sharc_names.specs.declared.types.Role.TheVariants as role
 use Rattle.sharc_names.specs.Kinds.{is_pointer, is_struct_base, declared_kind}
-use Rattle.sharc_ctype.specs.declared.entity.Numbered.{Numbered}
-use Rattle.sharc_ctype.specs.Entities.{declared, entities_in, positions_of, first_depth}
-use Rattle.sharc_ctype.specs.Resolved.{Resolution, named_at, named_kind, declaration_at, structs_in}
-use Rattle.sharc_ctype_laws.specs.Declared.{IsItself}
-use Rattle.sharc_ctype_laws.specs.Found.{IsFound}
+use Rattle.sharc_ctype.specs.{declared.entity.Numbered.Numbered, Entities.{declared, entities_in, positions_of, first_depth}, Resolved.{Resolution, named_at, named_kind, declaration_at, structs_in}}
+use Rattle.sharc_ctype_laws.specs.{Declared.IsItself, Found.IsFound}
 use Rattle.sharc_meaning.specs.Cells.{field_place, field_place_named}
-use Rattle.sharc_mode.specs.Cells.{is_mutex_kind, is_behind_pointer, top_of}
-use Rattle.sharc_mode.specs.Flows.{IsLeastAssignment}
-use Rattle.sharc_mode.specs.Moded.{Assignment}
-use Rattle.sharc_mode.specs.Rows.{written, entity_row, declared_row, modes_of}
-use Rattle.sharc_mode.specs.Sharings.{is_field, is_sibling_lock, lock_of}
-use Rattle.sharc_mode_laws.specs.Constructs.{IsEntity, IsWritten}
-use Rattle.sharc_mode_laws.specs.Paths.{IsLockPointer, IsAllowed, global_mutex, sibling_mutex, sibling_pointer, through_constant}
-use Rattle.sharc_mode_laws.specs.Rules.{MeetsRules}
-use Rattle.sharc_invariant.specs.Types.{FieldMode, Pointer}
-use Rattle.sharc_invariant.specs.Types.{FieldMode as field}
-use Rattle.sharc_accepted_laws.specs.Shapes.{Form, private_form, Shape, form_of, shape_of, shapes, number}
-use Rattle.sharc_accepted_laws.specs.Targets.{is_private_form, starts_private, own_mode, lock_count, type_locks, members, struct_fields, base_fields, shape_fields, shape_row, targets_of}
-use Rattle.sharc_accepted_laws.proofs.Fits.{AreFit, IsFitShape, shapes_fit, entity_there, field_shared, private_form_is}
-use Rattle.sharc_accepted_laws.proofs.TargetForms.{entity_length, skipped}
-use Rattle.sharc_accepted_laws.proofs.Found.{IsThere, field_found}
-use Rattle.sharc_accepted_laws.proofs.Good.{IsOwn, AreGood, own_of, own_racy, single_are, none_are, one_good, pointer_good}
-use Rattle.sharc_accepted_laws.proofs.TargetLists.{head_there, tail_there, of_each, to_each, mapped_each, same_some, place_of_element}
-use Rattle.sharc_accepted_laws.proofs.TargetMembers.{IsPartner, IsMember, levels_many, top_written, members_good}
-use Rattle.sharc_accepted_laws.proofs.Numbers.{shapes_closed}
-use Rattle.sharc_accepted_laws.proofs.Settling.{positioned, dropped_length}
-use Rattle.sharc_accepted_laws.proofs.TargetSiblings.{IsSibling}
-use Rattle.sharc_accepted_laws.proofs.Table.{IsGoodRow, no_row_good}
-use Rattle.sharc_accepted_laws.proofs.TypableRegisters.{none_some}
+use Rattle.sharc_mode.specs.{Cells.{is_mutex_kind, is_behind_pointer, top_of}, Flows.IsLeastAssignment, Moded.Assignment, Rows.{written, entity_row, declared_row, modes_of}, Sharings.{is_field, is_sibling_lock, lock_of}}
+use Rattle.sharc_mode_laws.specs.{Constructs.{IsEntity, IsWritten}, Paths.{IsLockPointer, IsAllowed, global_mutex, sibling_mutex, sibling_pointer, through_constant}, Rules.MeetsRules}
+use Rattle.sharc_invariant.specs.Types.{FieldMode, Pointer, FieldMode as field}
+use Rattle.sharc_accepted_laws.specs.{Shapes.{Form, private_form, Shape, form_of, shape_of, shapes, number}, Targets.{is_private_form, starts_private, own_mode, lock_count, type_locks, members, struct_fields, base_fields, shape_fields, shape_row, targets_of}}
+use Rattle.sharc_accepted_laws.proofs.{Fits.{AreFit, IsFitShape, shapes_fit, entity_there, field_shared, private_form_is}, TargetForms.{entity_length, skipped}, Found.{IsThere, field_found}, Good.{IsOwn, AreGood, own_of, own_racy, single_are, none_are, one_good, pointer_good}, TargetMembers.{IsPartner, IsMember, levels_many, top_written, members_good}, Numbers.shapes_closed, Settling.{positioned, dropped_length}, TargetSiblings.IsSibling, Table.{IsGoodRow, no_row_good}}
+use Rattle.sharc_lemmas.proofs.{Options.{same_some, none_some}, Lists.{head_there, place_of_element, of_each, to_each, tail_there, mapped_each}}
 
 -- what the laws of typed programs and of modes give
 pub record IsKnown (m : Assignment) : Type 0 where

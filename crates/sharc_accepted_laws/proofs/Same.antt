@@ -1,16 +1,11 @@
 -- Modes that are the same, target by target, make one static type.
-use Rattle.std.proofs.Common.{◌≡◌, ℕ, true, List, [], ◌∷◌, map, refl, ap, ◌∙◌, Option, Some, None, eqb-true}
-use Rattle.std.proofs.lemmas.Bool.{false≢true, and_parts}
-use Rattle.std.proofs.lemmas.Slice.Eq.{bytes_eq-Decides}
-use Rattle.sharc_names.specs.declared.fault.Named.{Named}
+use Rattle.std.proofs.{Common.{◌≡◌, ℕ, true, List, [], ◌∷◌, map, refl, ap, ◌∙◌, Option, Some, None, eqb-true}, lemmas.Bool.{false≢true, and_parts}, lemmas.Slice.Eq.bytes_eq-Decides}
+use Rattle.sharc_names.specs.{declared.fault.Named.Named, Kinds.Kind}
 use Rattle.sharc_names.specs.declared.fault.Named.TheVariants as named
-use Rattle.sharc_names.specs.Kinds.{Kind}
 use Rattle.sharc_ctype.specs.Resolved.{named_at}
-use Rattle.sharc_mode.specs.Notes.{base_of}
-use Rattle.sharc_mode.specs.Sharings.{Lock, Sharing, private, readonly, locked, racy, dynamic, same_named, same_second, same_first, same_lock, same, same_all}
+use Rattle.sharc_mode.specs.{Notes.base_of, Sharings.{Lock, Sharing, private, readonly, locked, racy, dynamic, same_named, same_second, same_first, same_lock, same, same_all}}
 use Rattle.sharc_flat.specs.Scope.{Context}
-use Rattle.sharc_accepted_laws.specs.Shapes.{form_of, shape_of, number}
-use Rattle.sharc_accepted_laws.specs.Static.{lock_named, lock_at, locks_at, static_of}
+use Rattle.sharc_accepted_laws.specs.{Shapes.{form_of, shape_of, number}, Static.{lock_named, lock_at, locks_at, static_of}}
 
 -- ---- paths
 same_what : (a b : Named) → same_named a b ≡ true → a ≡ b

@@ -1,13 +1,9 @@
 -- What is wanted of names and scopes.
 use Rattle.std.specs.Prelude.{◌≡◌, ℕ, List, [], ◌∷◌, length, Contains}
 use Rattle.sharc_tree.specs.declared.ctype.Base.TheVariants as base
-use Rattle.sharc_tree.specs.declared.tree.declaration.Declaration.{Declaration}
-use Rattle.sharc_tree.specs.Tree.{Function}
-use Rattle.sharc_names.specs.Kinds.{object}
-use Rattle.sharc_names.specs.Names.{Entry}
-use Rattle.sharc_ctype.specs.Items.{file_scope}
-use Rattle.sharc_ctype.specs.Resolved.{Resolution, functions_in, declaration_at, variable_kind}
-use Rattle.sharc_ctype.specs.Statements.{declared}
+use Rattle.sharc_tree.specs.{declared.tree.declaration.Declaration.Declaration, Tree.Function}
+use Rattle.sharc_names.specs.{Kinds.object, Names.Entry}
+use Rattle.sharc_ctype.specs.{Items.file_scope, Resolved.{Resolution, functions_in, declaration_at, variable_kind}, Statements.declared}
 use Rattle.sharc_ctype_laws.specs.Paths.{TypeStands}
 use Rattle.sharc_mode.specs.WellFormed.{fields_behind}
 

@@ -1,15 +1,9 @@
 -- The registers of the variables that stand, where one more stands.
-use Rattle.std.proofs.Common.{◌≡◌, ℕ, zero, suc, ◌+◌, ◌<◌, Bool, true, false, cond, List, [], ◌∷◌, ◌++◌, length, slice_get, refl, ap, sym, ◌∙◌, arith, Some}
-use Rattle.sharc_flat.specs.declared.slot.Slot.{Slot}
-use Rattle.sharc_flat.specs.Scope.{int_count, ref_count}
-use Rattle.sharc_accepted_laws.specs.Static.{pointers}
-use Rattle.sharc_accepted_laws.specs.Typing.{integers}
+use Rattle.std.proofs.Common.{◌≡◌, ℕ, ◌+◌, ◌<◌, Bool, true, false, cond, List, [], ◌∷◌, ◌++◌, length, slice_get, refl, ap, sym, ◌∙◌, arith, Some}
+use Rattle.sharc_flat.specs.{declared.slot.Slot.Slot, Scope.{int_count, ref_count}}
+use Rattle.sharc_accepted_laws.specs.{Static.pointers, Typing.integers}
 use Rattle.sharc_accepted_laws.proofs.StaticRegisters.{pointer_count}
-
-front_got : {A : Type 0} (a b : List A) (k : ℕ) → k < length a → slice_get (a ++ b) k ≡ slice_get a k
-front_got [] b k h = absurd (omega (arith, h))
-front_got (x ∷ a) b zero h = refl
-front_got (x ∷ a) b (suc k) h = front_got a b k (omega (arith, h))
+use Rattle.sharc_lemmas.proofs.Lists.{front_got}
 
 last_got : {A : Type 0} (a : List A) (x : A) → slice_get (a ++ x ∷ []) (length a) ≡ Some x
 last_got [] x = refl

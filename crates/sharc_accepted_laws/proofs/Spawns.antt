@@ -1,47 +1,24 @@
 -- New threads.
-use Rattle.std.proofs.Common.{◌≡◌, ℕ, nat_lt, eq-eqb, Bool, true, false, cond, [], ◌∷◌, map, slice_get, refl, ap, sym, ◌∙◌, subst, Some, IsSomeAnd, Contains}
+use Rattle.std.proofs.{Common.{◌≡◌, ℕ, nat_lt, eq-eqb, Bool, true, false, cond, [], ◌∷◌, map, slice_get, refl, ap, sym, ◌∙◌, subst, Some, IsSomeAnd, Contains}, lemmas.Bool.or_left}
 use Rattle.std.specs.List.{AllByRecursion, list_any}
-use Rattle.sharc_tree.specs.declared.token.Span.{Span}
-use Rattle.sharc_tree.specs.declared.tree.declaration.Declaration.{Declaration}
-use Rattle.sharc_tree.specs.declared.tree.declaration.Identifier.{Identifier}
-use Rattle.sharc_tree.specs.Measures.{in_function}
-use Rattle.sharc_tree.specs.Tree.{Expression, Arguments, no_arguments, argument, spawn, value, Function}
+use Rattle.sharc_tree.specs.{declared.token.Span.Span, declared.tree.declaration.Declaration.Declaration, declared.tree.declaration.Identifier.Identifier, Measures.in_function, Tree.{Expression, Arguments, no_arguments, argument, spawn, value, Function}}
 use Rattle.sharc_names.specs.declared.fault.Named.TheVariants as named
 use Rattle.sharc_names.specs.Kinds.{Kind, void, is_pointer, declared_kind, declared_kinds}
-use Rattle.sharc_code.specs.declared.code.Code.{Code}
+use Rattle.sharc_code.specs.{declared.code.Code.Code, Machine.function_of}
 use Rattle.sharc_code.specs.declared.code.Parameter.TheVariants as parameters
-use Rattle.sharc_code.specs.Machine.{function_of}
-use Rattle.sharc_ctype.specs.Reaches.{of_all, Names, spawns, Spawns}
-use Rattle.sharc_ctype.specs.Resolved.{Resolution, named_at, functions_in, function_at, declaration_at, variable_kind}
-use Rattle.sharc_ctype.specs.Transfers.{variable, parameters_of, parameters_named, passed}
-use Rattle.sharc_ctype_laws.specs.Callable.{IsThread}
-use Rattle.sharc_ctype_laws.specs.Constraints.{HaveTypes, one_more, Assignable}
-use Rattle.sharc_ctype_laws.specs.Laws.{SpawnsByName}
+use Rattle.sharc_ctype.specs.{Reaches.{of_all, Names, spawns, Spawns}, Resolved.{Resolution, named_at, functions_in, function_at, declaration_at, variable_kind}, Transfers.{variable, parameters_of, parameters_named, passed}}
+use Rattle.sharc_ctype_laws.specs.{Callable.IsThread, Constraints.{HaveTypes, one_more, Assignable}, Laws.SpawnsByName}
 use Rattle.sharc_meaning.specs.Expressions.{number_named}
 use Rattle.sharc_mode.specs.Moded.{Assignment}
 use Rattle.sharc_mode_laws.specs.Constructs.{IsFunction, IsCall}
 use Rattle.sharc_mode_laws.specs.Constructs as constructs
-use Rattle.sharc_flat.specs.Flattened.{kind_of, is_ref, parameters_scope, in_function as context_in, parameter_of}
-use Rattle.sharc_flat.specs.Places.{width_of}
-use Rattle.sharc_flat.specs.Scope.{Context, slot_of, int_count}
-use Rattle.sharc_flat.specs.Suits.{IsScalar, Passes, Suits, ArgumentsSuit}
-use Rattle.sharc_invariant.specs.Labels.{Refers, Anything, Within, Signature, LessNumber, EntryMentions}
-use Rattle.sharc_invariant.specs.Typed.{IsShared}
+use Rattle.sharc_flat.specs.{Flattened.{kind_of, is_ref, parameters_scope, in_function as context_in, parameter_of}, Places.width_of, Scope.{Context, slot_of, int_count}, Suits.{IsScalar, Passes, Suits, ArgumentsSuit}}
+use Rattle.sharc_invariant.specs.{Labels.{Refers, Anything, Within, Signature, LessNumber, EntryMentions}, Typed.IsShared}
 use Rattle.sharc_invariant.specs.Typed as typed
-use Rattle.sharc_typed_laws.specs.Stretches.{Setting}
-use Rattle.sharc_typed_laws.specs.Typable.{Handed, SpawnTyped}
-use Rattle.sharc_accepted_laws.specs.Typed.{IsOf}
-use Rattle.sharc_accepted_laws.specs.Calls.{argument_type}
-use Rattle.sharc_accepted_laws.specs.StaticLaws.{IsAccepted}
-use Rattle.sharc_accepted_laws.specs.Starting.{BeginsAlone}
-use Rattle.sharc_accepted_laws.specs.Typing.{width_named, integers, typing}
-use Rattle.sharc_accepted_laws.specs.Setting.{function_signature, signature_by, is_numbered, is_spawned, is_main, is_start, setting_of, IsSet}
-use Rattle.sharc_accepted_laws.proofs.Arguments.{parameters_declared, passes_scalar}
-use Rattle.sharc_accepted_laws.proofs.Calls.{of_all_there, alone_is, narrower_same}
-use Rattle.sharc_accepted_laws.proofs.Facts.{Laws, expression_of, has_type}
-use Rattle.sharc_accepted_laws.proofs.Forms.{or_left, pointer_no_integer, pointer_reference, integer_no_reference, to_integer, passes_of, spawn_typed, function_parameters}
-use Rattle.sharc_accepted_laws.proofs.Members.{any_passes}
-use Rattle.sharc_accepted_laws.proofs.TargetLists.{place_there, of_each, head_there}
+use Rattle.sharc_typed_laws.specs.{Stretches.Setting, Typable.{Handed, SpawnTyped}}
+use Rattle.sharc_accepted_laws.specs.{Typed.IsOf, Calls.argument_type, StaticLaws.IsAccepted, Starting.BeginsAlone, Typing.{width_named, integers, typing}, Setting.{function_signature, signature_by, is_numbered, is_spawned, is_main, is_start, setting_of, IsSet}}
+use Rattle.sharc_accepted_laws.proofs.{Arguments.{parameters_declared, passes_scalar}, Calls.{of_all_there, alone_is, narrower_same}, Facts.{Laws, expression_of, has_type}, Forms.{pointer_no_integer, pointer_reference, integer_no_reference, to_integer, passes_of, spawn_typed, function_parameters}, Members.any_passes, TargetLists.place_there}
+use Rattle.sharc_lemmas.proofs.Lists.{head_there, of_each}
 
 module _ (laws : Laws) (c : Context) (code : Code) (alone : ℕ → Bool) (lines : ℕ) (set : IsSet c.program c.globals code alone) (n : ℕ) (g : Function) where
   abbrev m : Assignment

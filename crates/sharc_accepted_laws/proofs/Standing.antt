@@ -1,38 +1,18 @@
 -- The cell of an lvalue is there, with what stands beside it in its element.
 use Rattle.std.proofs.Common.{◌≡◌, inl, inr, ⊎_elim, ℕ, ◌+◌, ◌<◌, Bool, true, false, List, [], ◌∷◌, length, slice_index_or, refl, ap, sym, ◌∙◌, subst, arith, cond, option_map, Option, Some, None}
-use Rattle.sharc_tree.specs.declared.token.Span.{Span}
-use Rattle.sharc_tree.specs.declared.tree.expression.Access.TheVariants.{Dot, Arrow}
-use Rattle.sharc_tree.specs.declared.tree.expression.UnaryOperator.TheVariants.{Negate, Not, Complement, Dereference}
-use Rattle.sharc_tree.specs.Tree.{Expression, identifier, constant, parentheses, call, spawn, on_value, on_place, cast, index, field, unary, binary}
+use Rattle.sharc_tree.specs.{declared.token.Span.Span, declared.tree.expression.Access.TheVariants.{Dot, Arrow}, declared.tree.expression.UnaryOperator.TheVariants.{Negate, Not, Complement, Dereference}, Tree.{Expression, identifier, constant, parentheses, call, spawn, on_value, on_place, cast, index, field, unary, binary}}
 use Rattle.sharc_names.specs.Kinds.{is_array}
-use Rattle.sharc_code.specs.declared.code.Code.{Code}
-use Rattle.sharc_code.specs.declared.instr.Cell.{Cell}
+use Rattle.sharc_code.specs.{declared.code.Code.Code, declared.instr.Cell.Cell}
 use Rattle.sharc_code.specs.declared.instr.Cell.TheVariants as cells
-use Rattle.sharc_ctype.specs.Globals.{elements_of}
-use Rattle.sharc_ctype.specs.Resolved.{Resolution, named_at, global_at, globals_in, kind_at}
-use Rattle.sharc_ctype_laws.specs.Initials.{MeetsGlobal}
-use Rattle.sharc_ctype_laws.specs.Laws.{MeetsGlobals}
+use Rattle.sharc_ctype.specs.{Globals.elements_of, Resolved.{Resolution, named_at, global_at, globals_in, kind_at}}
+use Rattle.sharc_ctype_laws.specs.{Initials.MeetsGlobal, Laws.MeetsGlobals}
 use Rattle.sharc_meaning.specs.Cells.{global_elements, field_place_named}
-use Rattle.sharc_mode.specs.Cells.{cell_at}
-use Rattle.sharc_mode.specs.Moded.{Assignment}
-use Rattle.sharc_mode.specs.Rows.{modes_of}
-use Rattle.sharc_mode.specs.Sharings.{Sharing, locked}
+use Rattle.sharc_mode.specs.{Cells.cell_at, Moded.Assignment, Rows.modes_of, Sharings.{Sharing, locked}}
 use Rattle.sharc_flat_form.specs.Machine.{first_cell}
-use Rattle.sharc_flat.specs.Scope.{Context}
-use Rattle.sharc_flat.specs.Places.{Target, variable, global_of, in_global, in_global_at, in_object, in_object_at, target, cell_of, guard_cell, field_of, own_field, beside_field, lock_beside, lock_cell}
-use Rattle.sharc_flat.specs.Tables.{globals_of}
-use Rattle.sharc_invariant.specs.Types.{StaticType, Field, no_field, row_of}
-use Rattle.sharc_invariant.specs.Labels.{Refers, Element, OfGlobal, Label}
-use Rattle.sharc_accepted_laws.specs.Static.{static_of}
-use Rattle.sharc_accepted_laws.specs.Beside.{BesideFits, AreLockedBeside, LocksStandBeside}
-use Rattle.sharc_accepted_laws.specs.TargetLaws.{GlobalsAre, ExpressionsFound}
-use Rattle.sharc_accepted_laws.specs.Lvalues.{FieldFits, IsBehindPointer, IsInFile, IsOfObject, IsOfGlobal, NamesCell, no_cell, of_object, of_global, LvaluesFit, pointer_of}
-use Rattle.sharc_accepted_laws.specs.Shapes.{expression_shape, number}
-use Rattle.sharc_accepted_laws.specs.Targets.{global_element, targets_of}
-use Rattle.sharc_accepted_laws.specs.Accesses.{HasBaseIn, HasIndexOf, IsCellNumber, IsPlaceNumber, HaveTarget, list_or, modes_of_pointer, modes_behind, kind_of_pointer, base_type, cells_in_each, IsCellLvalue, IsCodeOf, CellsStand, AccessesFit, GuardsFit}
-use Rattle.sharc_accepted_laws.proofs.AccessCells.{IsCellOf, ArePairOf, object_cell, element_cell, object_pair, element_pair, global_cell_at, global_pair, place_cell, place_pair}
-use Rattle.sharc_accepted_laws.proofs.Modes.{reaches, around, guard_there, HasAround, IsOnBase}
-use Rattle.sharc_accepted_laws.proofs.AccessLists.{there_at, each_at}
+use Rattle.sharc_flat.specs.{Scope.Context, Places.{Target, variable, global_of, in_global, in_global_at, in_object, in_object_at, target, cell_of, guard_cell, field_of, own_field, beside_field, lock_beside, lock_cell}, Tables.globals_of}
+use Rattle.sharc_invariant.specs.{Types.{StaticType, Field, no_field, row_of}, Labels.{Refers, Element, OfGlobal, Label}}
+use Rattle.sharc_accepted_laws.specs.{Static.static_of, Beside.{BesideFits, AreLockedBeside, LocksStandBeside}, TargetLaws.{GlobalsAre, ExpressionsFound}, Lvalues.{FieldFits, IsBehindPointer, IsInFile, IsOfObject, IsOfGlobal, NamesCell, no_cell, of_object, of_global, LvaluesFit, pointer_of}, Shapes.{expression_shape, number}, Targets.{global_element, targets_of}, Accesses.{HasBaseIn, HasIndexOf, IsCellNumber, IsPlaceNumber, HaveTarget, list_or, modes_of_pointer, modes_behind, kind_of_pointer, base_type, cells_in_each, IsCellLvalue, IsCodeOf, CellsStand, AccessesFit, GuardsFit}}
+use Rattle.sharc_accepted_laws.proofs.{AccessCells.{IsCellOf, ArePairOf, object_cell, element_cell, object_pair, element_pair, global_cell_at, global_pair, place_cell, place_pair}, Modes.{reaches, around, guard_there, HasAround, IsOnBase}, AccessLists.{there_at, each_at}}
 
 index_here : (i : ℕ) (beside : Option ℕ) (Is : ℕ → ℕ → Type 0) (n : ℕ) → HasIndexOf i beside Is n → Is i n
 index_here i None Is n has = has

@@ -1,51 +1,22 @@
 -- Functions with which a thread begins, main among them; and a whole program.
-use Rattle.std.proofs.Common.{◌≡◌, ⊎_elim, ℕ, ◌<◌, ◌≤◌, Bool, true, false, cond, List, [], ◌∷◌, length, nat_lt, slice_get, refl, ap, sym, ◌∙◌, subst, arith, eqb-true, Option, Some, None, codes, ◌||◌}
-use Rattle.std.specs.Prelude.{IsSomeAnd}
-use Rattle.std.specs.List.{list_any}
-use Rattle.std.proofs.lemmas.Bool.{false≢true, or_cases}
-use Rattle.std.proofs.lemmas.Slice.Eq.{bytes_eq-Decides}
-use Rattle.sharc_tree.specs.declared.tree.declaration.Declaration.{Declaration}
-use Rattle.sharc_tree.specs.Measures.{in_function}
-use Rattle.sharc_tree.specs.Tree.{Function}
-use Rattle.sharc_names.specs.declared.fault.Named.{Named}
+use Rattle.std.proofs.{Common.{◌≡◌, ⊎_elim, ℕ, ◌<◌, ◌≤◌, Bool, true, false, cond, List, [], ◌∷◌, length, nat_lt, slice_get, refl, ap, sym, ◌∙◌, subst, arith, eqb-true, Option, Some, None, codes, ◌||◌}, lemmas.Bool.{false≢true, or_cases, or_right}, lemmas.Slice.Eq.bytes_eq-Decides}
+use Rattle.std.specs.{Prelude.IsSomeAnd, List.list_any}
+use Rattle.sharc_tree.specs.{declared.tree.declaration.Declaration.Declaration, Measures.in_function, Tree.Function}
+use Rattle.sharc_names.specs.{declared.fault.Named.Named, Kinds.{int, declared_kind}}
 use Rattle.sharc_names.specs.declared.fault.Named.TheVariants as named
-use Rattle.sharc_names.specs.Kinds.{int, declared_kind}
-use Rattle.sharc_code.specs.declared.code.GlobalCells.{GlobalCells}
-use Rattle.sharc_code.specs.declared.code.Code.{Code}
-use Rattle.sharc_ctype.specs.Reaches.{spawns, of_all, Names, Spawns}
-use Rattle.sharc_ctype.specs.Resolved.{Resolution, functions_in, function_at, named_at}
+use Rattle.sharc_code.specs.{declared.code.GlobalCells.GlobalCells, declared.code.Code.Code}
+use Rattle.sharc_ctype.specs.{Reaches.{spawns, of_all, Names, Spawns}, Resolved.{Resolution, functions_in, function_at, named_at}}
 use Rattle.sharc_ctype_laws.specs.Laws.{SpawnsThreads, HasMain, OneFunctionOfName, WithinLimits}
 use Rattle.sharc_meaning.specs.State.{is_reference}
 use Rattle.sharc_mode.specs.Moded.{Assignment}
-use Rattle.sharc_flat.specs.Flattens.{IsMainOf}
-use Rattle.sharc_flat.specs.Flattened.{parameters_scope}
+use Rattle.sharc_flat.specs.{Flattens.IsMainOf, Flattened.parameters_scope, Scope.{int_count, ref_count}, Tables.globals_of}
 use Rattle.sharc_flat.specs.Flattened as flat
-use Rattle.sharc_flat.specs.Scope.{int_count, ref_count}
-use Rattle.sharc_flat.specs.Tables.{globals_of}
-use Rattle.sharc_invariant.specs.Labels.{Anything, Within, EntryMentions}
-use Rattle.sharc_invariant.specs.Typed.{IsPlain}
-use Rattle.sharc_accepted_laws.specs.Typed.{BasesStand}
-use Rattle.sharc_typed_laws.specs.Stretches.{Setting}
-use Rattle.sharc_typed_laws.specs.Functions.{IsLowTyping}
-use Rattle.sharc_typed_laws.specs.Programs.{StartTypable, MainTypable}
-use Rattle.sharc_accepted_laws.specs.Held.{held_named}
-use Rattle.sharc_accepted_laws.specs.Results.{ResultLaws}
-use Rattle.sharc_accepted_laws.specs.Standing.{FunctionsStand}
-use Rattle.sharc_accepted_laws.specs.Starting.{SpawnedBegin}
-use Rattle.sharc_accepted_laws.specs.Static.{pointers, variable_entry}
-use Rattle.sharc_accepted_laws.specs.TargetLaws.{VariablesFound}
+use Rattle.sharc_invariant.specs.{Labels.{Anything, Within, EntryMentions}, Typed.IsPlain}
+use Rattle.sharc_accepted_laws.specs.{Typed.BasesStand, Held.held_named, Results.ResultLaws, Standing.FunctionsStand, Starting.SpawnedBegin, Static.{pointers, variable_entry}, TargetLaws.VariablesFound, Typing.typing, Setting.{signature_by, is_numbered, is_spawned, is_main, is_start, setting_of, IsSet}, Expressions.ExpressionsAreTypable, Programs.ProgramsAreTypable}
+use Rattle.sharc_typed_laws.specs.{Stretches.Setting, Functions.IsLowTyping, Programs.{StartTypable, MainTypable}}
 use Rattle.sharc_flat_laws.specs.Stands.{TypedSuits}
-use Rattle.sharc_accepted_laws.specs.Typing.{typing}
-use Rattle.sharc_accepted_laws.specs.Setting.{signature_by, is_numbered, is_spawned, is_main, is_start, setting_of, IsSet}
-use Rattle.sharc_accepted_laws.specs.Expressions.{ExpressionsAreTypable}
-use Rattle.sharc_accepted_laws.specs.Programs.{ProgramsAreTypable}
-use Rattle.sharc_accepted_laws.proofs.Assigned.{Laws}
-use Rattle.sharc_accepted_laws.proofs.Functions.{TypeLaws, function_typable}
-use Rattle.sharc_accepted_laws.proofs.Linked.{linked}
-use Rattle.sharc_accepted_laws.proofs.StaticRegisters.{pointer_count, got_low}
-use Rattle.sharc_accepted_laws.proofs.TargetLists.{place_there, place_of_element}
-use Rattle.sharc_accepted_laws.proofs.StaticLists.{passes_there}
-use Rattle.sharc_accepted_laws.proofs.Values.{or_right}
+use Rattle.sharc_accepted_laws.proofs.{Assigned.Laws, Functions.{TypeLaws, function_typable}, Linked.linked, StaticRegisters.{pointer_count, got_low}, TargetLists.place_there, StaticLists.passes_there}
+use Rattle.sharc_lemmas.proofs.Lists.{place_of_element}
 
 -- what is held is in the register of a variable
 low_typing : IsLowTyping typing

@@ -1,40 +1,21 @@
 -- Statements.
 use Rattle.std.proofs.Common.{◌≡◌, ℕ, Bool, true, false, cond, List, ◌++◌, refl, ap, sym, ◌∙◌, subst, Option, Some, None, IfSome, Contains}
 use Rattle.std.specs.List.{AllByRecursion}
-use Rattle.sharc_tree.specs.declared.token.Span.{Span}
-use Rattle.sharc_tree.specs.Low.{LowSimple, LowFirst, LowStatement, LowStatements}
-use Rattle.sharc_tree.specs.Measures.{expressions, in_option, in_simple, in_local, in_first, in_head, in_statement, in_statements, in_function}
-use Rattle.sharc_tree.specs.Tree.{Expression, Right, value, Simple, assign, does_call, Local, First, nothing, declares, does, Statement, Statements, no_statements, statement, Function}
+use Rattle.sharc_tree.specs.{declared.token.Span.Span, Low.{LowSimple, LowFirst, LowStatement, LowStatements}, Measures.{expressions, in_option, in_simple, in_local, in_first, in_head, in_statement, in_statements, in_function}, Tree.{Expression, Right, value, Simple, assign, does_call, Local, First, nothing, declares, does, Statement, Statements, no_statements, statement, Function}}
 use Rattle.sharc_tree.specs.Tree as tree
 use Rattle.sharc_names.specs.declared.fault.Named.TheVariants as named
 use Rattle.sharc_names.specs.Kinds.{Kind, is_integer, declared_kind}
 use Rattle.sharc_ctype.specs.Transfers.{Transfer, variable, result, Agrees, IsFair, gives, transfers, in_option as option_transfers, right_transfers, simple_transfers, local_transfers, first_transfers, statement_transfers, statements_transfers, function_transfers}
-use Rattle.sharc_ctype_laws.specs.Declared.{IsItself}
-use Rattle.sharc_ctype_laws.specs.Rules.{MeetsSimple, MeetsFirst, Meets, AllMeet}
+use Rattle.sharc_ctype_laws.specs.{Declared.IsItself, Rules.{MeetsSimple, MeetsFirst, Meets, AllMeet}}
 use Rattle.sharc_meaning.specs.State.{is_reference}
 use Rattle.sharc_mode.specs.Moded.{Assignment}
 use Rattle.sharc_mode_laws.specs.Constructs.{IsAssigned, locals_in_first, locals_in, locals_in_all}
-use Rattle.sharc_flat.specs.Flattened.{kind_of, parameters_scope, in_function as at_entry, behind_first, behind_statement}
-use Rattle.sharc_flat.specs.Scope.{Context}
-use Rattle.sharc_flat.specs.Suits.{Suits, Goes, SimpleSuits, InitialSuits, FirstSuits, TestSuits, IfThere, StatementSuits, StatementsSuit, in_first as suits_first, in_statement as suits_statement}
+use Rattle.sharc_flat.specs.{Flattened.{kind_of, parameters_scope, in_function as at_entry, behind_first, behind_statement}, Scope.Context, Suits.{Suits, Goes, SimpleSuits, InitialSuits, FirstSuits, TestSuits, IfThere, StatementSuits, StatementsSuit, in_first as suits_first, in_statement as suits_statement}}
 use Rattle.sharc_invariant.specs.Labels.{Empty, Refers, Signature}
-use Rattle.sharc_typed_laws.specs.Stretches.{Setting}
-use Rattle.sharc_typed_laws.specs.Stated.{SimpleTypable}
-use Rattle.sharc_typed_laws.specs.Returned.{ReturnedBy, ReturnTypable}
-use Rattle.sharc_typed_laws.specs.Statements.{TestTypable, StepTypable, DeclaredTypable, FirstTypable, StatementTypable, StatementsTypable}
-use Rattle.sharc_accepted_laws.specs.Results.{ResultLaws}
-use Rattle.sharc_accepted_laws.specs.Standing.{ExpressionsStand, LocalStands, FirstStands, StatementStands, StatementsStand}
-use Rattle.sharc_accepted_laws.specs.Static.{result_type}
-use Rattle.sharc_accepted_laws.specs.TargetLaws.{VariablesFound}
-use Rattle.sharc_accepted_laws.specs.Typing.{typing}
-use Rattle.sharc_accepted_laws.specs.Setting.{function_signature, signature_by}
-use Rattle.sharc_accepted_laws.specs.Statements.{IsPlaceIn, IsThere, AreExpressionsTypable}
-use Rattle.sharc_accepted_laws.proofs.Assigned.{Laws, function_there, at_there, SimpleGiven, simple_is}
-use Rattle.sharc_accepted_laws.proofs.Begun.{IsBegun, here_with, local_is}
-use Rattle.sharc_accepted_laws.proofs.Fresh.{LocalFresh, FirstFresh, StatementFresh, StatementsFresh}
-use Rattle.sharc_accepted_laws.proofs.Sorts.{integer_is, integer_want, declared_pointer}
-use Rattle.sharc_accepted_laws.proofs.Wholes.{Facts}
-use Rattle.sharc_accepted_laws.proofs.Found.{front, back}
+use Rattle.sharc_typed_laws.specs.{Stretches.Setting, Stated.SimpleTypable, Returned.{ReturnedBy, ReturnTypable}, Statements.{TestTypable, StepTypable, DeclaredTypable, FirstTypable, StatementTypable, StatementsTypable}}
+use Rattle.sharc_accepted_laws.specs.{Results.ResultLaws, Standing.{ExpressionsStand, LocalStands, FirstStands, StatementStands, StatementsStand}, Static.result_type, TargetLaws.VariablesFound, Typing.typing, Setting.{function_signature, signature_by}, Statements.{IsPlaceIn, IsThere, AreExpressionsTypable}}
+use Rattle.sharc_accepted_laws.proofs.{Assigned.{Laws, function_there, at_there, SimpleGiven, simple_is}, Begun.{IsBegun, here_with, local_is}, Fresh.{LocalFresh, FirstFresh, StatementFresh, StatementsFresh}, Sorts.{integer_is, integer_want, declared_pointer}, Wholes.Facts}
+use Rattle.sharc_lemmas.proofs.Lists.{front, back}
 
 -- ---- contexts
 same_first : (c : Context) (x : First) → suits_first c x ≡ behind_first c x

@@ -1,67 +1,21 @@
 -- The lock paths of the types of expressions lead to mutexes: those that are written by M4, and those that the uses of fields make by M11 and the fields' types.
-use Rattle.std.proofs.Common.{◌≡◌, ◌⊎◌, inl, inr, ⊎_elim, ℕ, suc, ◌+◌, ◌<◌, Bool, true, false, cond, ◌&&◌, List, [], ◌∷◌, ◌++◌, length, map, drop, slice_get, refl, ap, sym, ◌∙◌, subst, arith, option_map, Option, Some, None, is_none, Contains}
-use Rattle.std.proofs.lemmas.Bool.{false≢true}
+use Rattle.std.proofs.{Common.{◌≡◌, ◌⊎◌, inl, inr, ⊎_elim, ℕ, suc, ◌+◌, ◌<◌, Bool, true, false, cond, ◌&&◌, List, [], ◌∷◌, ◌++◌, length, map, drop, slice_get, refl, ap, sym, ◌∙◌, subst, arith, option_map, Option, Some, None, is_none, Contains}, lemmas.Bool.false≢true}
 use Rattle.std.specs.List.{AllByRecursion}
-use Rattle.sharc_tree.specs.declared.ctype.Base.{Base}
+use Rattle.sharc_tree.specs.{declared.ctype.Base.Base, declared.ctype.Mode.Mode, declared.ctype.Mode.TheVariants.{Private, Readonly, Locked, Racy, Dynamic}, declared.ctype.Path.Path, declared.ctype.Path.TheVariants.{One, Through as PathThrough}, declared.token.Span.Span, declared.tree.declaration.Declaration.Declaration, declared.tree.declaration.Identifier.Identifier, declared.tree.declaration.WrittenType.WrittenType, declared.tree.expression.Access.Access, declared.tree.expression.Access.TheVariants.{Dot, Arrow}, declared.tree.expression.UnaryOperator.TheVariants.{Negate, Not, Complement, Dereference}, declared.tree.item.GlobalDefinition.GlobalDefinition, declared.tree.item.StructDefinition.StructDefinition, Measures.{expressions, in_function}, Tree.{Expression, Function}}
 use Rattle.sharc_tree.specs.declared.ctype.Base.TheVariants as base
-use Rattle.sharc_tree.specs.declared.ctype.Mode.{Mode}
-use Rattle.sharc_tree.specs.declared.ctype.Mode.TheVariants.{Private, Readonly, Locked, Racy, Dynamic}
-use Rattle.sharc_tree.specs.declared.ctype.Path.{Path}
-use Rattle.sharc_tree.specs.declared.ctype.Path.TheVariants.{One, Through as PathThrough}
-use Rattle.sharc_tree.specs.declared.token.Span.{Span}
-use Rattle.sharc_tree.specs.declared.tree.declaration.Declaration.{Declaration}
-use Rattle.sharc_tree.specs.declared.tree.declaration.Identifier.{Identifier}
-use Rattle.sharc_tree.specs.declared.tree.declaration.WrittenType.{WrittenType}
-use Rattle.sharc_tree.specs.declared.tree.expression.Access.{Access}
-use Rattle.sharc_tree.specs.declared.tree.expression.Access.TheVariants.{Dot, Arrow}
 use Rattle.sharc_tree.specs.declared.tree.expression.Constant.TheVariants as constants
-use Rattle.sharc_tree.specs.declared.tree.expression.UnaryOperator.TheVariants.{Negate, Not, Complement, Dereference}
-use Rattle.sharc_tree.specs.declared.tree.item.GlobalDefinition.{GlobalDefinition}
-use Rattle.sharc_tree.specs.declared.tree.item.StructDefinition.{StructDefinition}
-use Rattle.sharc_tree.specs.Measures.{expressions, in_function}
-use Rattle.sharc_tree.specs.Tree.{Expression, Function}
 use Rattle.sharc_tree.specs.Tree as tree
-use Rattle.sharc_names.specs.declared.fault.Named.{Named}
+use Rattle.sharc_names.specs.{declared.fault.Named.Named, Kinds.{Kind, object, mutex, is_array, declared_kind}, Names.field_of}
 use Rattle.sharc_names.specs.declared.fault.Named.TheVariants as named
 use Rattle.sharc_names.specs.declared.types.Role.TheVariants as role
-use Rattle.sharc_names.specs.Kinds.{Kind, object, mutex, is_array, declared_kind}
-use Rattle.sharc_names.specs.Names.{field_of}
-use Rattle.sharc_ctype.specs.declared.entity.Entity.{Entity}
-use Rattle.sharc_ctype.specs.declared.entity.Numbered.{Numbered}
-use Rattle.sharc_ctype.specs.Entities.{declared, cast_entity, result_of, entity_at}
-use Rattle.sharc_ctype.specs.Items.{notes_about}
-use Rattle.sharc_ctype.specs.Resolved.{Resolution, named_at, declaration_at, variable_kind, named_kind, global_at, function_at, globals_in, functions_in, structs_in, kind_at}
-use Rattle.sharc_ctype.specs.Statements.{locals_in_all}
-use Rattle.sharc_ctype_laws.specs.Constraints.{HasType, Callee, IsMemberOf, struct_named, of_program, of_conditions, a_variable, a_global, a_function, a_field, a_field_behind}
-use Rattle.sharc_ctype_laws.specs.Declared.{IsItself, NamesOwn, NamesOwnVariables}
-use Rattle.sharc_ctype_laws.specs.Found.{IsFound, EachTypeFound}
-use Rattle.sharc_ctype_laws.specs.Laws.{EachNameOnce, OnlyNames, EachNamesItself, EachNamesOwn, EachPathFound, MeetsConstraints, OneType}
-use Rattle.sharc_ctype_laws.specs.WrittenTypes.{IsNamedPath, IsNamedLevel, IsNamedType}
+use Rattle.sharc_ctype.specs.{declared.entity.Entity.Entity, declared.entity.Numbered.Numbered, Entities.{declared, cast_entity, result_of, entity_at}, Items.notes_about, Resolved.{Resolution, named_at, declaration_at, variable_kind, named_kind, global_at, function_at, globals_in, functions_in, structs_in, kind_at}, Statements.locals_in_all}
+use Rattle.sharc_ctype_laws.specs.{Constraints.{HasType, Callee, IsMemberOf, struct_named, of_program, of_conditions, a_variable, a_global, a_function, a_field, a_field_behind}, Declared.{IsItself, NamesOwn, NamesOwnVariables}, Found.{IsFound, EachTypeFound}, Laws.{EachNameOnce, OnlyNames, EachNamesItself, EachNamesOwn, EachPathFound, MeetsConstraints, OneType}, WrittenTypes.{IsNamedPath, IsNamedLevel, IsNamedType}}
 use Rattle.sharc_mode.specs.declared.place.Place.TheVariants as place
-use Rattle.sharc_mode.specs.Moded.{Assignment}
-use Rattle.sharc_mode.specs.Rows.{Reading, written, through, Targets, constant_use, base_use, lock_through, read, entity_row, declared_row, global_row, named_row, result_row, called_row, behind, reading_through, row_at, modes_of, modes_at}
-use Rattle.sharc_mode.specs.Settled.{field_target, settled_modes}
-use Rattle.sharc_mode.specs.Sharings.{Lock, Sharing, locked, lock_of, sharing_of, text_at, is_field, is_sibling_lock}
-use Rattle.sharc_mode.specs.WellFormed.{leaves_open, place_of}
-use Rattle.sharc_mode_laws.specs.Constructs.{IsExpression, IsEntity}
-use Rattle.sharc_mode_laws.specs.Laws.{RulesAreMet}
-use Rattle.sharc_mode_laws.specs.Paths.{IsMutexBehind, IsAllowed, global_mutex, sibling_mutex, sibling_pointer, through_constant}
-use Rattle.sharc_mode_laws.specs.Rules.{MeetsRules}
-use Rattle.sharc_accepted_laws.specs.StaticLaws.{IsAccepted}
-use Rattle.sharc_accepted_laws.specs.Leading.{LeadsToMutex, by_global, by_variable, LeadsIfLocked, AllLead, ExpressionsLead}
-use Rattle.sharc_accepted_laws.proofs.Noted.{AllSay, all_say}
-use Rattle.sharc_accepted_laws.proofs.Origins.{private_path, racy_path, dynamic_path, reading_kept, deeper_hold, no_private, no_readonly, no_racy, no_dynamic, same_lock}
-use Rattle.sharc_accepted_laws.proofs.Passed.{use_named, first_kind}
-use Rattle.sharc_accepted_laws.proofs.Places.{InFile, FileKnown, FieldInFile, file_known, struct_fields, field_found, at_number, IfSome}
-use Rattle.sharc_accepted_laws.proofs.Points.{NamesField, field_not_local, ModeOf, LevelOf, allowed_row, shown_modes, entity_is, through_used}
-use Rattle.sharc_accepted_laws.proofs.StaticSiblings.{found_there, struct_there, points_to, is_beside}
-use Rattle.sharc_accepted_laws.proofs.Written.{raw, row_settled, open_good}
-use Rattle.sharc_accepted_laws.specs.Fields.{FieldsPlaced}
-use Rattle.sharc_accepted_laws.specs.Own.{IsOwn, IsCastFound, HasOwn, OwnAreFound}
-use Rattle.sharc_accepted_laws.proofs.TargetLists.{place_there, of_each, to_each, tail_there, head_or_tail, head_there, none_there, same_some}
-use Rattle.sharc_accepted_laws.proofs.AccessLists.{each}
-use Rattle.sharc_accepted_laws.proofs.Found.{front}
-use Rattle.sharc_accepted_laws.proofs.TypableRegisters.{none_some}
+use Rattle.sharc_mode.specs.{Moded.Assignment, Rows.{Reading, written, through, Targets, constant_use, base_use, lock_through, read, entity_row, declared_row, global_row, named_row, result_row, called_row, behind, reading_through, row_at, modes_of, modes_at}, Settled.{field_target, settled_modes}, Sharings.{Lock, Sharing, locked, lock_of, sharing_of, text_at, is_field, is_sibling_lock}, WellFormed.{leaves_open, place_of}}
+use Rattle.sharc_mode_laws.specs.{Constructs.{IsExpression, IsEntity}, Laws.RulesAreMet, Paths.{IsMutexBehind, IsAllowed, global_mutex, sibling_mutex, sibling_pointer, through_constant}, Rules.MeetsRules}
+use Rattle.sharc_accepted_laws.specs.{StaticLaws.IsAccepted, Leading.{LeadsToMutex, by_global, by_variable, LeadsIfLocked, AllLead, ExpressionsLead}, Fields.FieldsPlaced, Own.{IsOwn, IsCastFound, HasOwn, OwnAreFound}}
+use Rattle.sharc_accepted_laws.proofs.{Noted.{AllSay, all_say}, Origins.{private_path, racy_path, dynamic_path, reading_kept, deeper_hold, no_private, no_readonly, no_racy, no_dynamic, same_lock}, Passed.{use_named, first_kind}, Places.{InFile, FileKnown, FieldInFile, file_known, struct_fields, field_found, at_number, IfSome}, Points.{NamesField, field_not_local, ModeOf, LevelOf, allowed_row, shown_modes, entity_is, through_used}, StaticSiblings.{found_there, struct_there, points_to, is_beside}, Written.{raw, row_settled, open_good}, TargetLists.place_there}
+use Rattle.sharc_lemmas.proofs.{Options.{same_some, none_some}, Lists.{front, each, head_there, head_or_tail, of_each, to_each, tail_there}, Equal.none_there}
 
 -- ---- levels
 placed_each : {A : Type 0} (P : A → Type 0) (list : List A) → ((k : ℕ) (x : A) → slice_get list k ≡ Some x → P x) → AllByRecursion P list

@@ -1,8 +1,7 @@
 -- What holds of each element of a list, and what is an element.
-use Rattle.std.proofs.Common.{◌≡◌, ◌⊎◌, ⊎_elim, ◌<◌, Bool, true, false, ◌||◌, List, [], ◌∷◌, ◌++◌, refl, ap, ◌∙◌, Contains}
-use Rattle.std.proofs.lemmas.Bool.{false≢true, or_cases}
+use Rattle.std.proofs.{Common.{◌≡◌, ◌⊎◌, ⊎_elim, ◌<◌, Bool, true, false, ◌||◌, List, [], ◌∷◌, ◌++◌, ap, ◌∙◌, Contains}, lemmas.Bool.{false≢true, or_cases, or_right, or_left}}
 use Rattle.std.specs.List.{list_any}
-use Rattle.sharc_accepted_laws.proofs.TargetLists.{tail_there, head_or_tail, head_there, none_there}
+use Rattle.sharc_lemmas.proofs.{Lists.{head_there, head_or_tail, tail_there}, Equal.none_there}
 
 -- elements
 
@@ -14,14 +13,6 @@ next_passes p y rest found = (found.0, tail_there y found.0 rest found.1, found.
 pub passes_there : {A : Type 0} (p : A → Bool) (list : List A) → list_any p list ≡ true → (x : A) × Contains list x × (p x ≡ true)
 passes_there p [] h = absurd (false≢true h)
 passes_there p (y ∷ rest) h = ⊎_elim (λ is. (y, head_there y rest, is)) (λ later. next_passes p y rest (passes_there p rest later)) (or_cases (p y) (list_any p rest) h)
-
-pub or_left : (a b : Bool) → a ≡ true → (a || b) ≡ true
-or_left true b is = refl
-or_left false b is = absurd (false≢true is)
-
-pub or_right : (a b : Bool) → b ≡ true → (a || b) ≡ true
-or_right true b is = refl
-or_right false b is = is
 
 pub passes_by : {A : Type 0} (p : A → Bool) (list : List A) (x : A) → Contains list x → p x ≡ true → list_any p list ≡ true
 passes_by p [] x has is = absurd (none_there x has)

@@ -1,28 +1,15 @@
 -- The registers of variables: each pointer has its own, and keeps it where more variables stand.
-use Rattle.std.proofs.Common.{◌≡◌, ◌⊎◌, inl, inr, ℕ, zero, suc, ◌+◌, ◌<◌, ◌≤◌, ◌==◌, Bool, true, false, cond, List, [], ◌∷◌, ◌++◌, length, slice_get, refl, ap, sym, ◌∙◌, subst, arith, eqb-true, append_assoc, Option, Some, None}
-use Rattle.std.proofs.lemmas.Bool.{false≢true}
-use Rattle.sharc_code.specs.declared.instr.Register.{Register}
-use Rattle.sharc_code.specs.declared.instr.Register.TheVariants.{Int, Reference}
-use Rattle.sharc_names.specs.declared.fault.Named.{Named}
+use Rattle.std.proofs.{Common.{◌≡◌, ◌⊎◌, inl, inr, ℕ, zero, suc, ◌+◌, ◌<◌, ◌≤◌, ◌==◌, Bool, true, false, cond, List, [], ◌∷◌, ◌++◌, length, slice_get, refl, ap, sym, ◌∙◌, subst, arith, eqb-true, append_assoc, Option, Some, None}, lemmas.Bool.false≢true, lemmas.Option.{slice_get_past as got_none}}
+use Rattle.sharc_code.specs.{declared.instr.Register.Register, declared.instr.Register.TheVariants.{Int, Reference}}
+use Rattle.sharc_names.specs.{declared.fault.Named.Named, Kinds.Kind}
 use Rattle.sharc_names.specs.declared.fault.Named.TheVariants as named
-use Rattle.sharc_names.specs.Kinds.{Kind}
 use Rattle.sharc_ctype.specs.Resolved.{named_at, declaration_at, variable_kind}
 use Rattle.sharc_meaning.specs.Cells.{field_place_behind}
-use Rattle.sharc_mode.specs.Moded.{Assignment}
-use Rattle.sharc_mode.specs.Notes.{base_of}
-use Rattle.sharc_mode.specs.Rows.{written, declared_row, modes_of}
-use Rattle.sharc_mode.specs.Sharings.{Lock, Sharing, private, readonly, locked, racy, dynamic}
-use Rattle.sharc_flat.specs.declared.slot.Slot.{Slot}
-use Rattle.sharc_flat.specs.Scope.{Context, slot_kind, ref_count, register_from, register_of, number_in}
-use Rattle.sharc_flat.specs.Suits.{PathNamed, PathStands}
-use Rattle.sharc_accepted_laws.specs.Shapes.{shape_of, number}
-use Rattle.sharc_invariant.specs.Types.{Names, SomeNames, Mentions}
-use Rattle.sharc_invariant.specs.Types.Lock.{Through}
-use Rattle.sharc_invariant.specs.Labels.{Refers, EntryMentions}
-use Rattle.sharc_accepted_laws.specs.Static.{register, lock_named, lock_at, locks_at, static_of, variable_type, pointers, entry_named}
-use Rattle.sharc_accepted_laws.specs.Scopes.{AllStand, DeclaredStands, IsClosedScope, with_more, HasRegister, HasOneVariable, OthersAreEmpty, NamesVariables, NamesLower, EntriesStay, NoneIsClosed, OneMoreIsClosed, FewerAreClosed, ScopeLaws}
-use Rattle.sharc_accepted_laws.proofs.TargetLists.{same_some}
-use Rattle.sharc_accepted_laws.proofs.TypableRegisters.{none_some}
+use Rattle.sharc_mode.specs.{Moded.Assignment, Notes.base_of, Rows.{written, declared_row, modes_of}, Sharings.{Lock, Sharing, private, readonly, locked, racy, dynamic}}
+use Rattle.sharc_flat.specs.{declared.slot.Slot.Slot, Scope.{Context, slot_kind, ref_count, register_from, register_of, number_in}, Suits.{PathNamed, PathStands}}
+use Rattle.sharc_accepted_laws.specs.{Shapes.{shape_of, number}, Static.{register, lock_named, lock_at, locks_at, static_of, variable_type, pointers, entry_named}, Scopes.{AllStand, DeclaredStands, IsClosedScope, with_more, HasRegister, HasOneVariable, OthersAreEmpty, NamesVariables, NamesLower, EntriesStay, NoneIsClosed, OneMoreIsClosed, FewerAreClosed, ScopeLaws}}
+use Rattle.sharc_invariant.specs.{Types.{Names, SomeNames, Mentions}, Types.Lock.Through, Labels.{Refers, EntryMentions}}
+use Rattle.sharc_lemmas.proofs.Options.{same_some, none_some}
 
 -- ---- where a pointer is
 record Found (i r : ℕ) (scope : List Slot) (x : ℕ) : Type 0 where
@@ -93,11 +80,6 @@ pub got_low : {A : Type 0} (list : List A) (k : ℕ) (x : A) → slice_get list 
 got_low [] k x h = absurd (none_some x h)
 got_low (y ∷ rest) zero x h = omega arith
 got_low (y ∷ rest) (suc k) x h = let low = got_low rest k x h in omega (arith, low)
-
-got_none : {A : Type 0} (list : List A) (k : ℕ) → length list ≤ k → slice_get list k ≡ None
-got_none [] k h = refl
-got_none (y ∷ rest) zero h = absurd (omega (arith, h))
-got_none (y ∷ rest) (suc k) h = got_none rest k (omega (arith, h))
 
 pub register_at : (c : Context) (x : ℕ) → slot_kind c.scope x ≡ Some true → slice_get (pointers c.scope) (register c x) ≡ Some x
 register_at c x h = let f = at_register c.scope x h in ap (slice_get (pointers c.scope)) f.is ∙ f.token

@@ -1,38 +1,19 @@
 -- The name of a sibling in the type of a field names the field of that name of its struct, which stands there at the place that it has in the struct.
-use Rattle.std.proofs.Common.{◌≡◌, ⊎_elim, ℕ, zero, suc, ◌+◌, ◌<◌, not, Bool, true, false, cond, List, [], ◌∷◌, ◌++◌, length, get_or, slice_get, refl, ap, sym, ◌∙◌, subst, arith, bytes_eq, Option, Some, None, Contains}
-use Rattle.std.proofs.lemmas.Bool.{lt-ltb}
-use Rattle.std.specs.Prelude.{nat_lt, unwrap_or}
-use Rattle.std.specs.List.{AllByRecursion, position, position_or_len}
+use Rattle.std.proofs.{Common.{◌≡◌, ⊎_elim, ℕ, zero, suc, ◌+◌, ◌<◌, not, Bool, true, false, cond, List, [], ◌∷◌, ◌++◌, length, get_or, slice_get, refl, ap, sym, ◌∙◌, subst, arith, bytes_eq, Option, Some, None, Contains}, lemmas.Bool.lt-ltb}
+use Rattle.std.specs.{Prelude.{nat_lt, unwrap_or}, List.{AllByRecursion, position, position_or_len}}
 use Rattle.sharc_tree.specs.declared.ctype.Base.TheVariants as base
-use Rattle.sharc_tree.specs.declared.ctype.Mode.{Mode}
-use Rattle.sharc_tree.specs.declared.ctype.Mode.TheVariants.{Locked}
-use Rattle.sharc_tree.specs.declared.ctype.Path.TheVariants.{One}
-use Rattle.sharc_tree.specs.declared.token.Token.{Token}
-use Rattle.sharc_tree.specs.declared.tree.declaration.Declaration.{Declaration}
-use Rattle.sharc_tree.specs.declared.tree.item.StructDefinition.{StructDefinition}
-use Rattle.sharc_tree.specs.Marks.{Mark, a_name, level_marks, levels_marks, base_marks, IsMark, AreMarks}
-use Rattle.sharc_tree.specs.Placed.{IsPlaced, PlacedType, PlacedDeclarations, PlacedItems}
-use Rattle.sharc_tree.specs.Tree.{Item, structure, global, function}
+use Rattle.sharc_tree.specs.{declared.ctype.Mode.Mode, declared.ctype.Mode.TheVariants.Locked, declared.ctype.Path.TheVariants.One, declared.token.Token.Token, declared.tree.declaration.Declaration.Declaration, declared.tree.item.StructDefinition.StructDefinition, Marks.{Mark, a_name, level_marks, levels_marks, base_marks, IsMark, AreMarks}, Placed.{IsPlaced, PlacedType, PlacedDeclarations, PlacedItems}, Tree.{Item, structure, global, function}}
 use Rattle.sharc_names.specs.declared.fault.Named.TheVariants as named
-use Rattle.sharc_names.specs.declared.scope.Scope.{Scope}
+use Rattle.sharc_names.specs.{declared.scope.Scope.Scope, Kinds.{object, declared_kind}, Names.{Entry, Meaning, defined, look_up, named_of, field_of, named_struct}, Notes.Note, Types.{first_notes, name_notes, mode_notes, modes_notes, type_notes}}
 use Rattle.sharc_names.specs.declared.types.Role.TheVariants as role
-use Rattle.sharc_names.specs.Kinds.{object, declared_kind}
-use Rattle.sharc_names.specs.Names.{Entry, Meaning, defined, look_up, named_of, field_of, named_struct}
 use Rattle.sharc_names.specs.Names as meaning
-use Rattle.sharc_names.specs.Notes.{Note}
-use Rattle.sharc_names.specs.Types.{first_notes, name_notes, mode_notes, modes_notes, type_notes}
-use Rattle.sharc_ctype.specs.Items.{field_notes, fields_notes, item_notes, items_notes, file_scope, notes_about}
-use Rattle.sharc_ctype.specs.Resolved.{Resolution, named_at, declaration_at, declarations_in, variable_kind, structs_in}
+use Rattle.sharc_ctype.specs.{Items.{field_notes, fields_notes, item_notes, items_notes, file_scope, notes_about}, Resolved.{Resolution, named_at, declaration_at, declarations_in, variable_kind, structs_in}}
 use Rattle.sharc_ctype_laws.specs.Constraints.{IsMemberOf, struct_named}
 use Rattle.sharc_meaning.specs.Cells.{field_place, field_place_behind}
-use Rattle.sharc_mode.specs.Sharings.{text_of, text_at}
-use Rattle.sharc_mode.specs.WellFormed.{fields_of, fields_named, fields_behind}
+use Rattle.sharc_mode.specs.{Sharings.{text_of, text_at}, WellFormed.{fields_of, fields_named, fields_behind}}
 use Rattle.sharc_accepted_laws.specs.Fields.{FieldsPlaced}
-use Rattle.sharc_accepted_laws.proofs.Noted.{Says, AllSay, items_say, BaseSays, declarations_base, declared_has, named_by, base_of_kind}
-use Rattle.sharc_accepted_laws.proofs.Structs.{in_file}
-use Rattle.sharc_accepted_laws.proofs.TargetLists.{of_each, tail_there, head_or_tail, head_there, none_there, same_some}
-use Rattle.sharc_accepted_laws.proofs.Found.{front, back}
-use Rattle.sharc_accepted_laws.proofs.TypableRegisters.{none_some}
+use Rattle.sharc_accepted_laws.proofs.{Noted.{Says, AllSay, items_say, BaseSays, declarations_base, declared_has, named_by, base_of_kind}, Structs.in_file}
+use Rattle.sharc_lemmas.proofs.{Options.{same_some, none_some}, Lists.{front, back, head_there, head_or_tail, of_each, tail_there}, Equal.none_there}
 
 abbrev pub SiblingsAre : Resolution → Type 0
 SiblingsAre r = (x : ℕ) (struct name : List ℕ) (d : Declaration) (text : List ℕ) (token t : ℕ) → variable_kind (declaration_at r x) ≡ object (base.Struct struct) 1 → IsMemberOf r struct name d

@@ -1,39 +1,19 @@
 -- Functions with which a thread begins.
-use Rattle.std.proofs.Common.{◌≡◌, ◌≢◌, ℕ, zero, suc, ◌<◌, ◌||◌, Bool, true, false, cond, List, [], ◌∷◌, length, refl, ap, sym, ◌∙◌, subst, arith, slice_get, Option, Some, Contains}
-use Rattle.std.proofs.lemmas.Bool.{false≢true, ltb-true, ne_eqb}
-use Rattle.sharc_tree.specs.declared.ctype.Base.{Base}
-use Rattle.sharc_tree.specs.declared.tree.declaration.Declaration.{Declaration}
-use Rattle.sharc_tree.specs.Tree.{Function}
+use Rattle.std.proofs.{Common.{◌≡◌, ◌≢◌, ℕ, zero, suc, ◌<◌, ◌||◌, Bool, true, false, cond, List, [], ◌∷◌, length, refl, ap, sym, ◌∙◌, subst, arith, slice_get, Option, Some, Contains}, lemmas.Bool.{false≢true, ltb-true, ne_eqb}}
+use Rattle.sharc_tree.specs.{declared.ctype.Base.Base, declared.tree.declaration.Declaration.Declaration, Tree.Function}
 use Rattle.sharc_names.specs.Kinds.{Kind, object, void, is_pointer, is_null, declared_kind}
 use Rattle.sharc_code.specs.declared.code.GlobalCells.{GlobalCells}
 use Rattle.sharc_code.specs.declared.code.Parameter.TheVariants as parameters
-use Rattle.sharc_ctype.specs.Reaches.{Spawns}
-use Rattle.sharc_ctype.specs.Resolved.{function_at, functions_in, declaration_at, variable_kind}
-use Rattle.sharc_ctype_laws.specs.Callable.{IsThread}
-use Rattle.sharc_ctype_laws.specs.Laws.{AllFair, EachNamesItself, SpawnsThreads}
+use Rattle.sharc_ctype.specs.{Reaches.Spawns, Resolved.{function_at, functions_in, declaration_at, variable_kind}}
+use Rattle.sharc_ctype_laws.specs.{Callable.IsThread, Laws.{AllFair, EachNamesItself, SpawnsThreads}}
 use Rattle.sharc_meaning.specs.State.{is_reference}
-use Rattle.sharc_mode.specs.Cells.{pointed}
-use Rattle.sharc_mode.specs.Moded.{Assignment}
-use Rattle.sharc_mode.specs.Notes.{base_of}
-use Rattle.sharc_mode.specs.RowLaws.{RowLaws}
-use Rattle.sharc_mode.specs.Rows.{written, deeper, declared_row, modes_of}
-use Rattle.sharc_mode.specs.Sharings.{Sharing, private, readonly, locked, racy, dynamic}
+use Rattle.sharc_mode.specs.{Cells.pointed, Moded.Assignment, Notes.base_of, RowLaws.RowLaws, Rows.{written, deeper, declared_row, modes_of}, Sharings.{Sharing, private, readonly, locked, racy, dynamic}}
 use Rattle.sharc_mode_laws.specs.Laws.{RulesAreMet}
-use Rattle.sharc_flat.specs.Flattened.{parameters_scope, parameter_of, in_function}
-use Rattle.sharc_flat.specs.Scope.{Context}
-use Rattle.sharc_invariant.specs.Labels.{Empty, Refers, EntryMentions}
-use Rattle.sharc_invariant.specs.Types.{Targets, row_of, globals_target, is_private}
-use Rattle.sharc_invariant.specs.Typed.{IsShared}
-use Rattle.sharc_accepted_laws.specs.StaticLaws.{IsAccepted}
-use Rattle.sharc_accepted_laws.specs.Scopes.{IsClosedScope}
-use Rattle.sharc_accepted_laws.specs.Starting.{BeginsAlone, SpawnedBegin}
-use Rattle.sharc_accepted_laws.specs.Static.{variable_type, pointers, entry_named, variable_entry}
-use Rattle.sharc_accepted_laws.proofs.Given.{parameter_declared}
-use Rattle.sharc_accepted_laws.proofs.StaticRegisters.{names_lower}
-use Rattle.sharc_accepted_laws.specs.TargetLaws.{NumbersFound, VariablesFound}
-use Rattle.sharc_accepted_laws.specs.Shapes.{Shape, shape_of, stars_in, number}
-use Rattle.sharc_accepted_laws.specs.Targets.{starts_private, targets_of}
-use Rattle.sharc_accepted_laws.proofs.TargetLists.{place_there, head_there, same_some}
+use Rattle.sharc_flat.specs.{Flattened.{parameters_scope, parameter_of, in_function}, Scope.Context}
+use Rattle.sharc_invariant.specs.{Labels.{Empty, Refers, EntryMentions}, Types.{Targets, row_of, globals_target, is_private}, Typed.IsShared}
+use Rattle.sharc_accepted_laws.specs.{StaticLaws.IsAccepted, Scopes.IsClosedScope, Starting.{BeginsAlone, SpawnedBegin}, Static.{variable_type, pointers, entry_named, variable_entry}, TargetLaws.{NumbersFound, VariablesFound}, Shapes.{Shape, shape_of, stars_in, number}, Targets.{starts_private, targets_of}}
+use Rattle.sharc_accepted_laws.proofs.{Given.parameter_declared, StaticRegisters.names_lower, TargetLists.place_there}
+use Rattle.sharc_lemmas.proofs.{Options.same_some, Lists.head_there}
 
 -- a row whose target is not private
 not_globals : (x : Targets) (target : ℕ) → target < length x.rows → (row_of x target).is_private ≡ false → is_private x (record { target = target; locks = [] }) ≡ false

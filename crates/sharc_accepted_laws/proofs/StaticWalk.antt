@@ -1,43 +1,20 @@
 -- The lock paths of types lead through pointers that stand: over all statements of a function, with the variables that stand at each.
-use Rattle.std.proofs.Common.{◌≡◌, ◌⊎◌, inl, inr, ℕ, ◌==◌, Bool, true, false, cond, List, [], ◌∷◌, ◌++◌, length, map, refl, ap, sym, ◌∙◌, subst, arith, eqb-true, append-nil, append_assoc, Option, Some, None, Contains}
-use Rattle.std.proofs.lemmas.Bool.Decides.{nat_tests}
+use Rattle.std.proofs.Common.{◌≡◌, ◌⊎◌, inl, inr, ℕ, ◌==◌, Bool, true, false, cond, List, [], ◌∷◌, ◌++◌, length, map, refl, ap, sym, ◌∙◌, subst, eqb-true, append-nil, append_assoc, Option, Some, None, Contains}
 use Rattle.std.specs.List.{AllByRecursion}
-use Rattle.sharc_tree.specs.declared.tree.declaration.Declaration.{Declaration}
-use Rattle.sharc_tree.specs.Measures.{expressions, in_option, in_right, in_simple, in_local, in_first, in_statement, in_statements, in_function}
-use Rattle.sharc_tree.specs.Tree.{Expression, Right, value, malloc, Simple, assign, does_call, Local, First, nothing, declares, does, Statement, Statements, no_statements, statement, Function, Item, structure, global, function}
+use Rattle.sharc_tree.specs.{declared.tree.declaration.Declaration.Declaration, Measures.{expressions, in_option, in_right, in_simple, in_local, in_first, in_statement, in_statements, in_function}, Tree.{Expression, Right, value, malloc, Simple, assign, does_call, Local, First, nothing, declares, does, Statement, Statements, no_statements, statement, Function, Item, structure, global, function}}
 use Rattle.sharc_tree.specs.Tree as tree
 use Rattle.sharc_code.specs.declared.code.GlobalCells.{GlobalCells}
 use Rattle.sharc_names.specs.declared.fault.Named.TheVariants as named
-use Rattle.sharc_names.specs.declared.scope.Scope.{Scope}
+use Rattle.sharc_names.specs.{declared.scope.Scope.Scope, Kinds.is_pointer, Names.Entry}
 use Rattle.sharc_names.specs.declared.types.Role.TheVariants as role
-use Rattle.sharc_names.specs.Kinds.{is_pointer}
-use Rattle.sharc_names.specs.Names.{Entry}
 use Rattle.sharc_names.specs.Names as meaning
-use Rattle.sharc_ctype.specs.Entities.{declared as entity_declared, casts, local_entities, first_entities, head_entities, statement_entities, statements_entities, result_of, function_entities, entities_in}
-use Rattle.sharc_ctype.specs.Items.{with_parameters, in_body, file_scope}
-use Rattle.sharc_ctype.specs.Resolved.{Resolution, functions_in, declaration_at, variable_kind}
-use Rattle.sharc_ctype.specs.Statements.{Around, opened, looping, with_names, is_here, declared, behind_first, in_head, after, first_locals, locals_in, locals_in_all}
-use Rattle.sharc_ctype_laws.specs.Declared.{IsItself}
-use Rattle.sharc_ctype_laws.specs.Found.{IsFound, EachTypeFound}
-use Rattle.sharc_ctype_laws.specs.Laws.{EachNameOnce, OnlyNames, EachNamesItself, EachNamesFound, EachPathFound, MeetsConstraints, NamesFound}
-use Rattle.sharc_ctype_laws.specs.Paths.{meaning_token, IsVariableIn, TypeStands, PathsAt, FirstStands as FirstRead, LocalsStand, AllLocalsStand, around_in, BodyStands}
-use Rattle.sharc_ctype_laws.specs.Places.{Placing, at, places_in_local, places_in_first, places_in, places_in_all, places_of, places_of_all}
-use Rattle.sharc_mode.specs.Flows.{IsLeastAssignment}
-use Rattle.sharc_mode.specs.Moded.{Assignment}
-use Rattle.sharc_mode.specs.Rows.{written}
-use Rattle.sharc_flat.specs.declared.slot.Slot.{Slot}
-use Rattle.sharc_flat.specs.Flattened.{with_variable, behind_first as flat_behind_first, behind_statement, parameters_scope}
-use Rattle.sharc_flat.specs.Scope.{Context, slot_of, slot_kind}
-use Rattle.sharc_accepted_laws.specs.Scopes.{DeclaredStands, IsClosedScope}
-use Rattle.sharc_accepted_laws.specs.Standing.{ExpressionStands, ExpressionsStand, LocalStands, FirstStands, StatementStands, StatementsStand, FunctionStands, FunctionsStand}
-use Rattle.sharc_accepted_laws.proofs.Noted.{all_say, parameters_closed}
-use Rattle.sharc_accepted_laws.proofs.Scoping.{ParametersStand}
-use Rattle.sharc_accepted_laws.proofs.FileNames.{in_file}
-use Rattle.sharc_accepted_laws.proofs.Places.{right_kind, Here, FileKnown, file_known, found_stands, reads_written, Seen, all_stand, casts_found, PlaceKnown, IsTyped, seen_by}
-use Rattle.sharc_accepted_laws.proofs.StaticRegisters.{kind_more, all_still, none_closed, more_closed}
-use Rattle.sharc_accepted_laws.proofs.TargetLists.{of_each, both, tail_there, head_there, same_some}
-use Rattle.sharc_accepted_laws.proofs.Found.{front, back}
-use Rattle.sharc_accepted_laws.proofs.TypableRegisters.{none_some}
+use Rattle.sharc_ctype.specs.{Entities.{declared as entity_declared, casts, local_entities, first_entities, head_entities, statement_entities, statements_entities, result_of, function_entities, entities_in}, Items.{with_parameters, in_body, file_scope}, Resolved.{Resolution, functions_in, declaration_at, variable_kind}, Statements.{Around, opened, looping, with_names, is_here, declared, behind_first, in_head, after, first_locals, locals_in, locals_in_all}}
+use Rattle.sharc_ctype_laws.specs.{Declared.IsItself, Found.{IsFound, EachTypeFound}, Laws.{EachNameOnce, OnlyNames, EachNamesItself, EachNamesFound, EachPathFound, MeetsConstraints, NamesFound}, Paths.{meaning_token, IsVariableIn, TypeStands, PathsAt, FirstStands as FirstRead, LocalsStand, AllLocalsStand, around_in, BodyStands}, Places.{Placing, at, places_in_local, places_in_first, places_in, places_in_all, places_of, places_of_all}}
+use Rattle.sharc_mode.specs.{Flows.IsLeastAssignment, Moded.Assignment, Rows.written}
+use Rattle.sharc_flat.specs.{declared.slot.Slot.Slot, Flattened.{with_variable, behind_first as flat_behind_first, behind_statement, parameters_scope}, Scope.{Context, slot_of, slot_kind}}
+use Rattle.sharc_accepted_laws.specs.{Scopes.{DeclaredStands, IsClosedScope}, Standing.{ExpressionStands, ExpressionsStand, LocalStands, FirstStands, StatementStands, StatementsStand, FunctionStands, FunctionsStand}}
+use Rattle.sharc_accepted_laws.proofs.{Noted.{all_say, parameters_closed}, Scoping.ParametersStand, FileNames.in_file, Places.{right_kind, Here, FileKnown, file_known, found_stands, reads_written, Seen, all_stand, casts_found, PlaceKnown, IsTyped, seen_by}, StaticRegisters.{kind_more, all_still, none_closed, more_closed}}
+use Rattle.sharc_lemmas.proofs.{Numbers.{same_is as eqb_same}, Options.{same_some, none_some}, Lists.{front, back, both, head_there, together, of_each, tail_there}}
 
 -- ---- the scope grows
 abbrev SlotIsRight : Resolution → Slot → Type 0
@@ -47,9 +24,6 @@ SlotIsRight r s = s.is_pointer ≡ right_kind r s.token
 record Both (c : Context) (names : List Entry) : Type 0 where
   here : Here c names
   slots : AllByRecursion (SlotIsRight c.program.typed) c.scope
-
-eqb_same : (n : ℕ) → (n == n) ≡ true
-eqb_same n = grind (arith, nat_tests)
 
 last_by : (r : Resolution) (y s : Slot) (rest : List Slot) → SlotIsRight r y → slot_kind (rest ++ s ∷ []) s.token ≡ Some (right_kind r s.token) → (z : Bool) → (y.token == s.token) ≡ z
     → cond z (Some y.is_pointer) (slot_kind (rest ++ s ∷ []) s.token) ≡ Some (right_kind r s.token)
@@ -394,10 +368,6 @@ functions_found r [] f = tt
 functions_found r (structure x ∷ rest) f = functions_found r rest (back (IsFound r) (map (entity_declared role.Field) x.fields) (entities_in rest) f)
 functions_found r (global x ∷ rest) f = functions_found r rest f.1
 functions_found r (function x ∷ rest) f = (front (IsFound r) (function_entities x) (entities_in rest) f, functions_found r rest (back (IsFound r) (function_entities x) (entities_in rest) f))
-
-together : {A : Type 0} (P Q R : A → Type 0) → ((x : A) → P x → Q x → R x) → (list : List A) → AllByRecursion P list → AllByRecursion Q list → AllByRecursion R list
-together P Q R f [] h k = tt
-together P Q R f (x ∷ rest) h k = (f x h.0 k.0, together P Q R f rest h.1 k.1)
 
 -- a name of the file is no variable
 abbrev NoVariable : meaning.Meaning → Type 0

@@ -1,41 +1,19 @@
 -- The tables of code that is made of a program.
-use Rattle.std.proofs.Common.{◌≡◌, ℕ, zero, suc, pos, ◌+◌, ◌^◌, ◌<◌, ◌≤◌, Bool, List, [], ◌∷◌, length, map, slice_get, slice_index, slice_index_or, refl, ap, sym, ◌∙◌, subst, arith, Some}
+use Rattle.std.proofs.{Common.{◌≡◌, ℕ, zero, suc, pos, ◌+◌, ◌^◌, ◌<◌, ◌≤◌, Bool, List, [], ◌∷◌, length, map, slice_get, slice_index, slice_index_or, refl, ap, sym, ◌∙◌, subst, arith, Some}, lemmas.List.length-map}
 use Rattle.std.specs.Prelude.{unsigned_abs}
-use Rattle.std.proofs.lemmas.List.{length-map}
-use Rattle.sharc_tree.specs.declared.token.Number.{Number}
-use Rattle.sharc_tree.specs.declared.token.Span.{Span}
+use Rattle.sharc_tree.specs.{declared.token.Number.Number, declared.token.Span.Span, declared.tree.item.GlobalDefinition.GlobalDefinition, declared.tree.item.GlobalForm.GlobalForm, declared.tree.item.GlobalForm.TheVariants.{Plain, Array, Initial}, Tree.Function}
 use Rattle.sharc_tree.specs.declared.tree.expression.Constant.TheVariants as constants
-use Rattle.sharc_tree.specs.declared.tree.item.GlobalDefinition.{GlobalDefinition}
-use Rattle.sharc_tree.specs.declared.tree.item.GlobalForm.{GlobalForm}
-use Rattle.sharc_tree.specs.declared.tree.item.GlobalForm.TheVariants.{Plain, Array, Initial}
-use Rattle.sharc_tree.specs.Tree.{Function}
-use Rattle.sharc_code.specs.declared.code.Code.{Code}
-use Rattle.sharc_code.specs.declared.code.Function.{Function as Row}
-use Rattle.sharc_code.specs.declared.code.GlobalCells.{GlobalCells}
-use Rattle.sharc_code.specs.Machine.{no_function}
-use Rattle.sharc_code.specs.Ranges.{GlobalsFit}
+use Rattle.sharc_code.specs.{declared.code.Code.Code, declared.code.Function.{Function as Row}, declared.code.GlobalCells.GlobalCells, Machine.no_function, Ranges.GlobalsFit}
 use Rattle.sharc_ctype.specs.Resolved.{globals_in, functions_in, function_at}
 use Rattle.sharc_mode.specs.Moded.{Assignment}
-use Rattle.sharc_flat_form.specs.declared.flat.Flat.{Flat as FlatCode}
-use Rattle.sharc_flat_form.specs.Made.{flat_of}
-use Rattle.sharc_flat.specs.Flattened.{parameter_of, function_code, rows_of}
-use Rattle.sharc_flat.specs.Flattens.{Flattens, names_of}
-use Rattle.sharc_flat.specs.Laid.{AreNamed}
-use Rattle.sharc_flat.specs.Tables.{globals_of}
-use Rattle.sharc_guard.specs.Guard.{entered_at, place}
-use Rattle.sharc_guard.specs.Known.{dropped}
+use Rattle.sharc_flat_form.specs.{declared.flat.Flat.{Flat as FlatCode}, Made.flat_of}
+use Rattle.sharc_flat.specs.{Flattened.{parameter_of, function_code, rows_of}, Flattens.{Flattens, names_of}, Laid.AreNamed, Tables.globals_of}
+use Rattle.sharc_guard.specs.{Guard.{entered_at, place}, Known.dropped}
 use Rattle.sharc_compile.specs.Made.{IsCodeOf}
 use Rattle.sharc_flat_laws.specs.Tables.{MadeTablesFit}
 use Rattle.sharc_invariant.specs.Typed.{AreGlobals}
-use Rattle.sharc_accepted_laws.specs.Alone.{SomeAreAlone}
-use Rattle.sharc_accepted_laws.specs.StaticLaws.{IsAccepted}
-use Rattle.sharc_accepted_laws.specs.Granules.{GranulesAreFew}
-use Rattle.sharc_accepted_laws.specs.TargetLaws.{IsCounted, CountedForm, HasTables, TargetsAre, GlobalsHold}
-use Rattle.sharc_accepted_laws.specs.Targets.{targets_of}
-use Rattle.sharc_accepted_laws.specs.Programs.{AreUnsigned, CodeIsSet}
-use Rattle.sharc_accepted_laws.specs.Setting.{HasRow}
-use Rattle.sharc_accepted_laws.proofs.TargetLists.{place_of_element, to_each, same_some}
-use Rattle.sharc_accepted_laws.proofs.TypableRegisters.{none_some}
+use Rattle.sharc_accepted_laws.specs.{Alone.SomeAreAlone, StaticLaws.IsAccepted, Granules.GranulesAreFew, TargetLaws.{IsCounted, CountedForm, HasTables, TargetsAre, GlobalsHold}, Targets.targets_of, Programs.{AreUnsigned, CodeIsSet}, Setting.HasRow}
+use Rattle.sharc_lemmas.proofs.{Options.{same_some, none_some}, Lists.{place_of_element, to_each}}
 
 -- ---- rows
 record RowAt (made : List Row) (n : ℕ) (g : Function) : Type 0 where

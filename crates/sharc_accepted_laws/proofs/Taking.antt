@@ -1,48 +1,20 @@
 -- Casts, and what is freed.
-use Rattle.std.proofs.Common.{◌≡◌, ℕ, ◌+◌, ◌<◌, true, false, refl, ap, sym, ◌∙◌, subst, arith, option_map, lt-ltb, Some, None}
-use Rattle.sharc_tree.specs.declared.token.Span.{Span}
-use Rattle.sharc_tree.specs.declared.tree.declaration.Identifier.{Identifier}
-use Rattle.sharc_tree.specs.declared.tree.declaration.WrittenType.{WrittenType}
-use Rattle.sharc_tree.specs.Forms.{without_parentheses}
-use Rattle.sharc_tree.specs.Tree.{Expression}
+use Rattle.std.proofs.{Common.{◌≡◌, ℕ, ◌+◌, ◌<◌, true, false, refl, ap, sym, ◌∙◌, subst, arith, option_map, lt-ltb, Some, None}, lemmas.Bool.or_left}
+use Rattle.sharc_tree.specs.{declared.token.Span.Span, declared.tree.declaration.Identifier.Identifier, declared.tree.declaration.WrittenType.WrittenType, Forms.without_parentheses, Tree.Expression}
 use Rattle.sharc_tree.specs.Tree as tree
 use Rattle.sharc_names.specs.declared.fault.Named.TheVariants as named
 use Rattle.sharc_names.specs.Kinds.{Kind, is_pointer, is_null, declared_kind, element_kind}
 use Rattle.sharc_code.specs.declared.code.Use.TheVariants as uses
 use Rattle.sharc_ctype.specs.Resolved.{named_at, named_kind, structs_in}
-use Rattle.sharc_ctype_laws.specs.Constraints.{a_cast}
-use Rattle.sharc_ctype_laws.specs.Constraints.{HasType as IsOfType}
-use Rattle.sharc_ctype_laws.specs.Laws.{MeetsConstraints, OneType}
+use Rattle.sharc_ctype_laws.specs.{Constraints.{a_cast, HasType as IsOfType}, Laws.{MeetsConstraints, OneType}}
 use Rattle.sharc_meaning.specs.Cells.{element_cells}
-use Rattle.sharc_mode.specs.Notes.{base_of}
-use Rattle.sharc_mode.specs.Rows.{Targets, written, cast_row, named_row, modes_of, modes_at}
+use Rattle.sharc_mode.specs.{Notes.base_of, Rows.{Targets, written, cast_row, named_row, modes_of, modes_at}}
 use Rattle.sharc_mode_laws.specs.Constructs.{IsExpression}
-use Rattle.sharc_flat.specs.Flattened.{kind_of, target_of}
-use Rattle.sharc_flat.specs.Places.{variable, named_target}
-use Rattle.sharc_flat.specs.Scope.{Context, ref_count, number_in}
-use Rattle.sharc_flat.specs.Flattened.{layout_of}
-use Rattle.sharc_invariant.specs.Types.{StaticType, cells_of}
-use Rattle.sharc_invariant.specs.Labels.{Refers}
-use Rattle.sharc_invariant.specs.Typed.{Recasts, IsLayout}
-use Rattle.sharc_typed_laws.specs.Stretches.{Setting}
-use Rattle.sharc_typed_laws.specs.Typable.{type_by, VariableTakes, Takes, CastTyped, FreeTyped}
-use Rattle.sharc_accepted_laws.specs.Casting.{CastsRecast}
-use Rattle.sharc_accepted_laws.specs.Held.{HeldLaws, held_at}
-use Rattle.sharc_accepted_laws.specs.StaticLaws.{IsAccepted}
-use Rattle.sharc_accepted_laws.specs.Scopes.{ScopeLaws}
-use Rattle.sharc_accepted_laws.specs.Standing.{ExpressionStands}
-use Rattle.sharc_accepted_laws.specs.Static.{register, static_of, variable_type, variable_entry, entry_by, entry_of}
-use Rattle.sharc_accepted_laws.specs.TargetLaws.{ExpressionsFound, LayoutsAre, HasTables}
-use Rattle.sharc_accepted_laws.specs.Pointees.{pointee, PointeeFits, PointeesFit}
-use Rattle.sharc_accepted_laws.specs.Shapes.{row_shape}
-use Rattle.sharc_accepted_laws.specs.Targets.{targets_of}
-use Rattle.sharc_accepted_laws.specs.TypableLaws.{IsAt}
-use Rattle.sharc_accepted_laws.specs.Taking.{VariablesAreTaken, TakingLaws}
-use Rattle.sharc_accepted_laws.specs.Typing.{typing}
-use Rattle.sharc_accepted_laws.proofs.TypableRegisters.{reference_found}
-use Rattle.sharc_accepted_laws.proofs.Values.{has_row, pointer_no_null, typed_at, type_in, pointer_is}
-use Rattle.sharc_accepted_laws.proofs.Members.{first_of}
-use Rattle.sharc_accepted_laws.proofs.Forms.{or_left}
+use Rattle.sharc_flat.specs.{Flattened.{kind_of, target_of, layout_of}, Places.{variable, named_target}, Scope.{Context, ref_count, number_in}}
+use Rattle.sharc_invariant.specs.{Types.{StaticType, cells_of}, Labels.Refers, Typed.{Recasts, IsLayout}}
+use Rattle.sharc_typed_laws.specs.{Stretches.Setting, Typable.{type_by, VariableTakes, Takes, CastTyped, FreeTyped}}
+use Rattle.sharc_accepted_laws.specs.{Casting.CastsRecast, Held.{HeldLaws, held_at}, StaticLaws.IsAccepted, Scopes.ScopeLaws, Standing.ExpressionStands, Static.{register, static_of, variable_type, variable_entry, entry_by, entry_of}, TargetLaws.{ExpressionsFound, LayoutsAre, HasTables}, Pointees.{pointee, PointeeFits, PointeesFit}, Shapes.row_shape, Targets.targets_of, TypableLaws.IsAt, Taking.{VariablesAreTaken, TakingLaws}, Typing.typing}
+use Rattle.sharc_accepted_laws.proofs.{TypableRegisters.reference_found, Values.{has_row, pointer_no_null, typed_at, type_in, pointer_is}, Members.first_of}
 
 -- ---- variables
 module _ (c : Context) where

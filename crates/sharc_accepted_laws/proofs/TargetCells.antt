@@ -1,23 +1,16 @@
 -- An element has as many cells as its type has in the source.
-use Rattle.std.proofs.Common.{◌≡◌, ℕ, suc, ◌+◌, ◌-◌, ◌<◌, ◌==◌, Bool, true, false, cond, List, [], ◌∷◌, length, refl, ap, ◌∙◌, sym, arith, bytes_eq, Contains}
-use Rattle.std.proofs.lemmas.Bool.{ne_eqb}
+use Rattle.std.proofs.{Common.{◌≡◌, ℕ, suc, ◌+◌, ◌-◌, ◌<◌, ◌==◌, Bool, true, false, cond, List, [], ◌∷◌, length, refl, ap, ◌∙◌, sym, arith, bytes_eq, Contains}, lemmas.Bool.ne_eqb}
 use Rattle.std.specs.List.{AllByRecursion}
-use Rattle.sharc_tree.specs.declared.ctype.Base.{Base}
+use Rattle.sharc_tree.specs.{declared.ctype.Base.Base, declared.tree.declaration.Declaration.Declaration, declared.tree.item.StructDefinition.StructDefinition}
 use Rattle.sharc_tree.specs.declared.ctype.Base.TheVariants as base
-use Rattle.sharc_tree.specs.declared.tree.declaration.Declaration.{Declaration}
-use Rattle.sharc_tree.specs.declared.tree.item.StructDefinition.{StructDefinition}
 use Rattle.sharc_names.specs.Kinds.{object}
-use Rattle.sharc_ctype.specs.declared.entity.Numbered.{Numbered}
-use Rattle.sharc_ctype.specs.Entities.{entities_in, numbered}
-use Rattle.sharc_ctype.specs.Resolved.{structs_in}
+use Rattle.sharc_ctype.specs.{declared.entity.Numbered.Numbered, Entities.{entities_in, numbered}, Resolved.structs_in}
 use Rattle.sharc_mode.specs.Moded.{Assignment}
 use Rattle.sharc_meaning.specs.Cells.{struct_cells, base_cells, element_cells}
 use Rattle.sharc_invariant.specs.Types.{FieldMode, Target}
-use Rattle.sharc_accepted_laws.specs.TargetLaws.{CellsAre}
-use Rattle.sharc_accepted_laws.specs.Shapes.{Form, Shape, shapes_down, entity_shapes, shapes_of, shapes}
-use Rattle.sharc_accepted_laws.specs.Targets.{members, struct_fields, base_fields, shape_fields}
-use Rattle.sharc_accepted_laws.proofs.TargetLists.{both, of_each}
+use Rattle.sharc_accepted_laws.specs.{TargetLaws.CellsAre, Shapes.{Form, Shape, shapes_down, entity_shapes, shapes_of, shapes}, Targets.{members, struct_fields, base_fields, shape_fields}}
 use Rattle.sharc_accepted_laws.proofs.Numbers.{numbers_found}
+use Rattle.sharc_lemmas.proofs.Lists.{both, of_each}
 
 pub member_count : (m : Assignment) (q : FieldMode) (n : ℕ) (list : List Declaration) → length (members m q n list) ≡ length list
 member_count m q n [] = refl

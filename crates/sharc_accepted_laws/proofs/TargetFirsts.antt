@@ -2,17 +2,13 @@
 use Rattle.std.proofs.Common.{◌≡◌, ℕ, ◌<◌, Bool, true, false, cond, List, [], ◌∷◌, length, slice_index_or, refl, ap, sym, ◌∙◌, subst, arith, bytes_eq, Some, None, Contains, codes}
 use Rattle.sharc_tree.specs.declared.ctype.Base.TheVariants as base
 use Rattle.sharc_tree.specs.declared.tree.item.StructDefinition.{StructDefinition}
-use Rattle.sharc_ctype.specs.declared.entity.Numbered.{Numbered}
-use Rattle.sharc_ctype.specs.Entities.{entities_in, numbered}
-use Rattle.sharc_ctype.specs.Resolved.{structs_in}
+use Rattle.sharc_ctype.specs.{declared.entity.Numbered.Numbered, Entities.{entities_in, numbered}, Resolved.structs_in}
 use Rattle.sharc_ctype_laws.specs.Constraints.{struct_named}
 use Rattle.sharc_mode.specs.Moded.{Assignment}
 use Rattle.sharc_invariant.specs.Types.{FieldMode, Target, Field, no_field}
-use Rattle.sharc_accepted_laws.specs.TargetFirsts.{FirstLaws, MutexesFirst, WaitersFirst}
-use Rattle.sharc_accepted_laws.specs.Shapes.{known_condition, known_mutex, entity_shapes, shapes_of}
-use Rattle.sharc_accepted_laws.specs.Targets.{own_mode, single, members, struct_fields}
-use Rattle.sharc_accepted_laws.proofs.TargetLists.{head_there, tail_there, right_there}
-use Rattle.sharc_accepted_laws.proofs.Numbers.{numbers_found}
+use Rattle.sharc_accepted_laws.specs.{TargetFirsts.{FirstLaws, MutexesFirst, WaitersFirst}, Shapes.{known_condition, known_mutex, entity_shapes, shapes_of}, Targets.{own_mode, single, members, struct_fields}}
+use Rattle.sharc_accepted_laws.proofs.{TargetLists.right_there, Numbers.numbers_found}
+use Rattle.sharc_lemmas.proofs.Lists.{head_there, tail_there}
 
 pub some_none : {A : Type 0} (x : A) → Some x ≡ None → ⊥
 some_none x h = cc

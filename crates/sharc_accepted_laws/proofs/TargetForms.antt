@@ -1,18 +1,13 @@
 -- The forms of the modes of rows: those of the positions, whatever the reading.
-use Rattle.std.proofs.Common.{◌≡◌, ℕ, zero, suc, ◌+◌, ◌-◌, ◌<◌, ◌≤◌, ◌==◌, eqb-true, Bool, true, false, cond, List, [], ◌∷◌, length, map, take, drop, refl, ap, sym, ◌∙◌, arith, Some, None}
-use Rattle.std.proofs.lemmas.Bool.{eqb-false}
+use Rattle.std.proofs.{Common.{◌≡◌, ℕ, zero, suc, ◌+◌, ◌-◌, ◌<◌, ◌≤◌, ◌==◌, eqb-true, Bool, true, false, cond, List, [], ◌∷◌, length, map, take, drop, refl, ap, sym, ◌∙◌, arith, Some, None}, lemmas.Bool.eqb-false}
 use Rattle.std.specs.Prelude.{slice_get}
 use Rattle.sharc_tree.specs.declared.ctype.Mode.{Mode}
 use Rattle.sharc_names.specs.declared.types.Role.{Role}
 use Rattle.sharc_names.specs.declared.types.Role.TheVariants as role
-use Rattle.sharc_ctype.specs.declared.entity.Numbered.{Numbered}
-use Rattle.sharc_ctype.specs.Entities.{positions_of}
-use Rattle.sharc_ctype.specs.Resolved.{Resolution}
-use Rattle.sharc_mode.specs.Moded.{Assignment}
-use Rattle.sharc_mode.specs.Rows.{Reading, written, Targets, targets_from, entity_row, read, modes_of}
-use Rattle.sharc_mode.specs.Sharings.{Sharing, private, readonly, locked, racy, dynamic, sharing_of}
+use Rattle.sharc_ctype.specs.{declared.entity.Numbered.Numbered, Entities.positions_of, Resolved.Resolution}
+use Rattle.sharc_mode.specs.{Moded.Assignment, Rows.{Reading, written, Targets, targets_from, entity_row, read, modes_of}, Sharings.{Sharing, private, readonly, locked, racy, dynamic, sharing_of}}
 use Rattle.sharc_accepted_laws.specs.Shapes.{Form, form_of}
-use Rattle.sharc_accepted_laws.proofs.TargetLists.{same_some}
+use Rattle.sharc_lemmas.proofs.Options.{same_some}
 
 abbrev pub mode_form : Mode → Form
 mode_form mode = form_of (sharing_of mode)

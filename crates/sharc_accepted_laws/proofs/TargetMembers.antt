@@ -1,33 +1,19 @@
 -- The fields of structs are good in each element.
-use Rattle.std.proofs.Common.{◌≡◌, ℕ, zero, suc, ◌+◌, ◌-◌, ◌<◌, eqb-true, Bool, true, false, cond, List, [], ◌∷◌, length, map, slice_index_or, refl, ap, sym, ◌∙◌, subst, arith, Option, Some, None, Contains}
-use Rattle.std.proofs.lemmas.Bool.{false≢true, le-ltb, ltb-true, ltb-false, eq-eqb}
-use Rattle.std.specs.List.{AllByRecursion}
-use Rattle.std.specs.Prelude.{slice_get}
-use Rattle.sharc_tree.specs.declared.ctype.Base.{Base}
+use Rattle.std.proofs.{Common.{◌≡◌, ℕ, zero, suc, ◌+◌, ◌-◌, ◌<◌, eqb-true, Bool, true, false, cond, List, [], ◌∷◌, length, map, slice_index_or, refl, ap, sym, ◌∙◌, subst, arith, Option, Some, None, Contains}, lemmas.Bool.{false≢true, le-ltb, ltb-true, ltb-false, eq-eqb}}
+use Rattle.std.specs.{List.AllByRecursion, Prelude.slice_get}
+use Rattle.sharc_tree.specs.{declared.ctype.Base.Base, declared.ctype.Mode.Mode, declared.ctype.Path.Path, declared.tree.declaration.Declaration.Declaration, declared.tree.declaration.WrittenType.WrittenType}
 use Rattle.sharc_tree.specs.declared.ctype.Base.TheVariants as base
-use Rattle.sharc_tree.specs.declared.ctype.Mode.{Mode}
 use Rattle.sharc_tree.specs.declared.ctype.Mode.TheVariants as mode
-use Rattle.sharc_tree.specs.declared.ctype.Path.{Path}
-use Rattle.sharc_tree.specs.declared.tree.declaration.Declaration.{Declaration}
-use Rattle.sharc_tree.specs.declared.tree.declaration.WrittenType.{WrittenType}
 use Rattle.sharc_names.specs.Kinds.{Kind, object, array, null, is_pointer, declared_kind}
 use Rattle.sharc_names.specs.Kinds as kinds
 use Rattle.sharc_ctype.specs.Resolved.{Resolution, named_at}
 use Rattle.sharc_meaning.specs.Cells.{field_place_named}
-use Rattle.sharc_mode.specs.Cells.{is_mutex_kind, is_behind_pointer, top_of}
-use Rattle.sharc_mode.specs.Moded.{Assignment}
-use Rattle.sharc_mode.specs.Rows.{written, declared_row, modes_of}
-use Rattle.sharc_mode.specs.Sharings.{Lock, lock_of}
-use Rattle.sharc_invariant.specs.Types.{FieldMode, Under, Field, no_field}
+use Rattle.sharc_mode.specs.{Cells.{is_mutex_kind, is_behind_pointer, top_of}, Moded.Assignment, Rows.{written, declared_row, modes_of}, Sharings.{Lock, lock_of}}
+use Rattle.sharc_invariant.specs.Types.{FieldMode, Under, Field, no_field, FieldMode as field}
 use Rattle.sharc_invariant.specs.Types as types
-use Rattle.sharc_invariant.specs.Types.{FieldMode as field}
-use Rattle.sharc_accepted_laws.specs.Shapes.{form_of, shape_of, shapes}
-use Rattle.sharc_accepted_laws.specs.Targets.{is_private_mode, starts_private, locked_mode, written_mode, field_mode, base_content, pointer_content, member, members, targets_of, field_lock}
-use Rattle.sharc_accepted_laws.proofs.TargetCells.{member_count}
-use Rattle.sharc_accepted_laws.proofs.Good.{IsOwn, AreGood, private_mode_is, racy_private, private_racy, not_pointer, mutex_base, plain_good, pointer_good, readonly_behind, dynamic_behind, private_behind, readonly_private, dynamic_private, readonly_racy, dynamic_racy}
-use Rattle.sharc_accepted_laws.proofs.TargetLists.{head_there, tail_there, same_some, place_there}
-use Rattle.sharc_accepted_laws.proofs.Table.{IsGood, IsBeside, AreBeside, racy_behind}
-use Rattle.sharc_accepted_laws.proofs.TypableRegisters.{none_some}
+use Rattle.sharc_accepted_laws.specs.{Shapes.{form_of, shape_of, shapes}, Targets.{is_private_mode, starts_private, locked_mode, written_mode, field_mode, base_content, pointer_content, member, members, targets_of, field_lock}}
+use Rattle.sharc_accepted_laws.proofs.{TargetCells.member_count, Good.{IsOwn, AreGood, private_mode_is, racy_private, private_racy, not_pointer, mutex_base, plain_good, pointer_good, readonly_behind, dynamic_behind, private_behind, readonly_private, dynamic_private, readonly_racy, dynamic_racy}, TargetLists.place_there, Table.{IsGood, IsBeside, AreBeside, racy_behind}}
+use Rattle.sharc_lemmas.proofs.{Options.{same_some, none_some}, Lists.{head_there, some_there, tail_there}}
 
 -- ---- kinds
 pub mutex_pointer : (k : Kind) → is_mutex_kind k ≡ true → is_pointer k ≡ false
@@ -200,11 +186,6 @@ pub members_at : (m : Assignment) (q : FieldMode) (n : ℕ) (list : List Declara
 members_at m q n [] k d is = absurd (none_some d is)
 members_at m q n (x ∷ rest) zero d is = let e : n ≡ n + zero = omega arith in ap (λ (z : Declaration). member m q n z) (same_some x d is) ∙ ap (λ i. member m q i d) e
 members_at m q n (x ∷ rest) (suc k) d is = let e : n + 1 + k ≡ n + suc k = omega arith in members_at m q (n + 1) rest k d is ∙ ap (λ i. member m q i d) e
-
-pub some_there : {A : Type 0} (list : List A) (k : ℕ) → k < length list → (x : A) × (slice_get list k ≡ Some x)
-some_there [] k low = absurd (omega (arith, low))
-some_there (x ∷ rest) zero low = (x, refl)
-some_there (x ∷ rest) (suc k) low = some_there rest k (omega (arith, low))
 
 pub below_there : {A : Type 0} (list : List A) (k : ℕ) (x : A) → slice_get list k ≡ Some x → k < length list
 below_there [] k x is = absurd (none_some x is)

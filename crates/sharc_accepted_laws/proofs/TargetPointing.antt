@@ -1,39 +1,20 @@
 -- A pointer cell of the globals, or of what a pointer refers to, is one of the source.
-use Rattle.std.proofs.Common.{◌≡◌, ℕ, zero, suc, ◌+◌, ◌-◌, ◌*◌, ◌<◌, ◌≤◌, ◌⊎◌, inl, inr, Bool, true, false, ◌||◌, cond, List, [], ◌∷◌, ◌++◌, length, replicate, slice_index_or, Option, Some, None, refl, ap, sym, ◌∙◌, subst, ⊎_elim, arith, bytes_eq}
+use Rattle.std.proofs.{Common.{◌≡◌, ℕ, zero, suc, ◌+◌, ◌-◌, ◌*◌, ◌<◌, ◌≤◌, ◌⊎◌, inl, inr, Bool, true, false, ◌||◌, cond, List, [], ◌∷◌, ◌++◌, length, replicate, slice_index_or, Option, Some, None, refl, ap, sym, ◌∙◌, subst, ⊎_elim, arith, bytes_eq}, Math.Nat.{suc-mul, mul_comm, div-add-mod}, lemmas.Bool.{cases_lt, lt-ltb}, lemmas.Nat.mod-mul-add}
 use Rattle.std.specs.Prelude.{slice_get, map, ◌%◌, ◌/◌}
-use Rattle.std.proofs.Math.Nat.{suc-mul, mul_comm, div-add-mod}
-use Rattle.std.proofs.lemmas.Bool.{cases_lt, lt-ltb}
-use Rattle.std.proofs.lemmas.Nat.{mod-mul-add}
-use Rattle.sharc_tree.specs.declared.ctype.Base.{Base}
+use Rattle.sharc_tree.specs.{declared.ctype.Base.Base, declared.tree.declaration.Declaration.Declaration, declared.tree.declaration.WrittenType.WrittenType, declared.tree.item.GlobalDefinition.GlobalDefinition, declared.tree.item.StructDefinition.StructDefinition}
 use Rattle.sharc_tree.specs.declared.ctype.Base.TheVariants as base
-use Rattle.sharc_tree.specs.declared.tree.declaration.Declaration.{Declaration}
-use Rattle.sharc_tree.specs.declared.tree.declaration.WrittenType.{WrittenType}
-use Rattle.sharc_tree.specs.declared.tree.item.GlobalDefinition.{GlobalDefinition}
-use Rattle.sharc_tree.specs.declared.tree.item.StructDefinition.{StructDefinition}
 use Rattle.sharc_names.specs.Kinds.{Kind, object, element_kind, declared_kind}
 use Rattle.sharc_names.specs.Kinds as Kinds
-use Rattle.sharc_code.specs.Ranges.{IsInGlobal, first_place}
-use Rattle.sharc_code.specs.Says.{no_global}
-use Rattle.sharc_ctype.specs.Globals.{elements_of}
-use Rattle.sharc_ctype.specs.Layouts.{pointer_cells}
-use Rattle.sharc_ctype.specs.Resolved.{structs_in, globals_in}
+use Rattle.sharc_code.specs.{Ranges.{IsInGlobal, first_place}, Says.no_global}
+use Rattle.sharc_ctype.specs.{Globals.elements_of, Layouts.pointer_cells, Resolved.{structs_in, globals_in}}
 use Rattle.sharc_meaning.specs.References.{fields_called, is_pointer_in, is_pointer_of_global}
 use Rattle.sharc_meaning.specs.References as References
-use Rattle.sharc_mode.specs.Moded.{Assignment}
-use Rattle.sharc_mode.specs.Notes.{base_of}
-use Rattle.sharc_mode.specs.Rows.{written, declared_row, modes_of}
+use Rattle.sharc_mode.specs.{Moded.Assignment, Notes.base_of, Rows.{written, declared_row, modes_of}}
 use Rattle.sharc_flat.specs.Tables.{cells_in, granules_in, globals_from, globals_of}
 use Rattle.sharc_invariant.specs.Types.{FieldMode, Field, Pointer, no_field, field_of_cell, global_field, row_of, is_pointer}
-use Rattle.sharc_accepted_laws.specs.Pointees.{pointee}
-use Rattle.sharc_accepted_laws.specs.Pointers.{IsPointerInTable, PointersAreOfGlobals, GlobalsPoint, PointeesPoint}
-use Rattle.sharc_accepted_laws.specs.Shapes.{Form, form_of, stars_in, number}
-use Rattle.sharc_accepted_laws.specs.Targets.{base_content, pointer_content, declared_content, single, members, struct_fields, base_fields, top_mode, global_element, repeated, global_fields, all_global_fields, own_mode, lock_count, type_locks, shape_fields, targets_of}
-use Rattle.sharc_accepted_laws.proofs.TargetCells.{member_count}
-use Rattle.sharc_accepted_laws.proofs.Good.{at_left, at_right}
-use Rattle.sharc_accepted_laws.proofs.Laying.{globals_are, global_count, element_count}
-use Rattle.sharc_accepted_laws.proofs.TargetLists.{map_length}
-use Rattle.sharc_accepted_laws.proofs.Pointees.{IsPointerKind, pointer_kind, many_modes, pointees_fit}
-use Rattle.sharc_accepted_laws.proofs.AccessCells.{below_product}
+use Rattle.sharc_accepted_laws.specs.{Pointees.pointee, Pointers.{IsPointerInTable, PointersAreOfGlobals, GlobalsPoint, PointeesPoint}, Shapes.{Form, form_of, stars_in, number}, Targets.{base_content, pointer_content, declared_content, single, members, struct_fields, base_fields, top_mode, global_element, repeated, global_fields, all_global_fields, own_mode, lock_count, type_locks, shape_fields, targets_of}}
+use Rattle.sharc_accepted_laws.proofs.{TargetCells.member_count, Good.{at_left, at_right}, Laying.{globals_are, global_count, element_count}, Pointees.{IsPointerKind, pointer_kind, many_modes, pointees_fit}, AccessCells.below_product}
+use Rattle.sharc_lemmas.proofs.{Bools.{same_test as both_ways}, Lists.map_length, Numbers.times_low}
 
 abbrev Points : List Field → ℕ → Type 0
 Points list i = is_pointer (slice_index_or list i no_field).holds ≡ true
@@ -248,11 +229,6 @@ cells_at m from [] k g is = absurd (cc)
 cells_at m from (x ∷ rest) zero g is = let same : x ≡ g = cc in (omega arith, ap (cells_in m.typed) same)
 cells_at m from (x ∷ rest) (suc k) g is = let more = cells_at m (from + granules_in m.typed x) rest k g is in let low = more.0 in (omega (arith, low), more.1)
 
-times_low : (a b l : ℕ) → a ≤ b → a * l ≤ b * l
-times_low zero b l h = omega arith
-times_low (suc a) zero l h = absurd (omega (arith, h))
-times_low (suc a) (suc b) l h = let more = times_low a b l (omega (arith, h)) in let left = suc-mul a l in let right = suc-mul b l in omega (arith, more, left, right)
-
 -- the element of a cell
 element_low : (c n l : ℕ) → c < n * l → c / l < n
 element_low c n l h = ⊎_elim
@@ -337,11 +313,6 @@ shape_back m w b (suc stars) (f ∷ []) same many i h = absurd (omega (arith, ma
 shape_back m w b zero (f ∷ g ∷ below) same many i h = absurd (omega (arith, many))
 shape_back m w b (suc stars) (f ∷ g ∷ below) same many i h =
     one_points (record { mode = own_mode f; holds = Pointer (record { target = number m (record { base = b; forms = g ∷ below }); locks = type_locks (lock_count f) (g ∷ below) }) }) i refl
-
-both_ways : (a b : Bool) → (a ≡ true → b ≡ true) → (b ≡ true → a ≡ true) → a ≡ b
-both_ways true b there back = sym (there refl)
-both_ways false true there back = back refl
-both_ways false false there back = refl
 
 pub pointees_point : PointeesPoint
 pointees_point m k row is pointer w same i = by (pointer_kind k pointer)

@@ -1,33 +1,15 @@
 -- A lock path in the type of a field that names a field names one of the same struct.
 use Rattle.std.proofs.Common.{◌≡◌, ⊎_elim, ℕ, Bool, true, false, cond, List, [], ◌∷◌, ◌++◌, length, refl, sym, ◌∙◌, subst, Option, Some, None, Contains, bytes_eq}
-use Rattle.sharc_tree.specs.declared.ctype.Mode.{Mode}
-use Rattle.sharc_tree.specs.declared.ctype.Mode.TheVariants.{Locked}
-use Rattle.sharc_tree.specs.declared.ctype.Path.{Path}
-use Rattle.sharc_tree.specs.declared.ctype.Path.TheVariants.{One, Through}
-use Rattle.sharc_tree.specs.declared.tree.declaration.Declaration.{Declaration}
-use Rattle.sharc_tree.specs.declared.tree.declaration.WrittenType.{WrittenType}
-use Rattle.sharc_tree.specs.declared.tree.item.StructDefinition.{StructDefinition}
-use Rattle.sharc_tree.specs.Low.{IsLow}
-use Rattle.sharc_tree.specs.Placed.{IsPlaced}
-use Rattle.sharc_tree.specs.Tree.{Item, structure, global, function}
-use Rattle.sharc_names.specs.declared.fault.FaultCode.{FaultCode}
-use Rattle.sharc_names.specs.declared.fault.FaultCode.TheVariants.{UnknownName, TypeNotAllowed}
-use Rattle.sharc_names.specs.declared.fault.Named.{Named}
+use Rattle.sharc_tree.specs.{declared.ctype.Mode.Mode, declared.ctype.Mode.TheVariants.Locked, declared.ctype.Path.Path, declared.ctype.Path.TheVariants.{One, Through}, declared.tree.declaration.Declaration.Declaration, declared.tree.declaration.WrittenType.WrittenType, declared.tree.item.StructDefinition.StructDefinition, Low.IsLow, Placed.IsPlaced, Tree.{Item, structure, global, function}}
+use Rattle.sharc_names.specs.{declared.fault.FaultCode.FaultCode, declared.fault.FaultCode.TheVariants.{UnknownName, TypeNotAllowed}, declared.fault.Named.Named, declared.scope.Scope.Scope, Names.{Entry, Meaning, look_up, field_of, named_of}, Notes.{Note, fault, refers, yields, fault_unless, faults, referred}, Types.{first_notes, main_notes, name_notes, path_notes, mode_notes, modes_notes, base_notes, allowed_there, type_notes}}
 use Rattle.sharc_names.specs.declared.fault.Named.TheVariants as named
-use Rattle.sharc_names.specs.declared.scope.Scope.{Scope}
 use Rattle.sharc_names.specs.declared.types.Role.TheVariants as role
-use Rattle.sharc_names.specs.Names.{Entry, Meaning, look_up, field_of, named_of}
 use Rattle.sharc_names.specs.Names as meaning
-use Rattle.sharc_names.specs.Notes.{Note, fault, refers, yields, fault_unless, faults, referred}
-use Rattle.sharc_names.specs.Types.{first_notes, main_notes, name_notes, path_notes, mode_notes, modes_notes, base_notes, allowed_there, type_notes}
-use Rattle.sharc_ctype.specs.Globals.{sizes_notes}
-use Rattle.sharc_ctype.specs.Heads.{heads_notes, no_heads}
-use Rattle.sharc_ctype.specs.Items.{field_notes, fields_notes, item_notes, items_notes, main_missing, file_scope, notes_about}
-use Rattle.sharc_ctype.specs.Resolved.{Resolution, IsResolved, named_at, structs_in}
+use Rattle.sharc_ctype.specs.{Globals.sizes_notes, Heads.{heads_notes, no_heads}, Items.{field_notes, fields_notes, item_notes, items_notes, main_missing, file_scope, notes_about}, Resolved.{Resolution, IsResolved, named_at, structs_in}}
 use Rattle.sharc_mode.specs.Sharings.{lock_of}
 use Rattle.sharc_ctype_laws.specs.Laws.{Tells, IsToldOnce, EachNameOnce, OnlyNames}
-use Rattle.sharc_accepted_laws.proofs.TargetLists.{none_there, head_there, tail_there, head_or_tail, left_there, right_there, either_there, same_some}
-use Rattle.sharc_accepted_laws.proofs.TypableRegisters.{none_some}
+use Rattle.sharc_accepted_laws.proofs.TargetLists.{left_there, right_there, either_there}
+use Rattle.sharc_lemmas.proofs.{Options.{same_some, none_some}, Lists.{head_there, head_or_tail, tail_there}, Equal.none_there}
 
 -- ---- what a note of the program says is so
 referred_there : (notes : List Note) (note : Note) (token : ℕ) (what : Named) → Contains notes note → Tells note token what → Contains (referred notes) token

@@ -1,22 +1,15 @@
 -- What a function declares and casts to is found by its tokens.
 use Rattle.std.proofs.Common.{◌≡◌, ⊎_elim, ℕ, ◌==◌, eqb-true, Bool, true, false, cond, List, [], ◌∷◌, ◌++◌, map, refl, sym, subst, Option, Some, None, Contains}
 use Rattle.std.specs.List.{AllByRecursion}
-use Rattle.sharc_tree.specs.declared.tree.declaration.Declaration.{Declaration}
-use Rattle.sharc_tree.specs.Measures.{expressions, in_arguments, in_option, in_right, in_simple, in_local, in_first, in_head, in_statement, in_statements, in_function}
-use Rattle.sharc_tree.specs.Tree.{Expression, Arguments, no_arguments, argument, Right, value, malloc, Simple, assign, does_call, Local, First, nothing, declares, does, Head, Statement, Statements, no_statements, statement, Function, Item, structure, global, function}
+use Rattle.sharc_tree.specs.{declared.tree.declaration.Declaration.Declaration, Measures.{expressions, in_arguments, in_option, in_right, in_simple, in_local, in_first, in_head, in_statement, in_statements, in_function}, Tree.{Expression, Arguments, no_arguments, argument, Right, value, malloc, Simple, assign, does_call, Local, First, nothing, declares, does, Head, Statement, Statements, no_statements, statement, Function, Item, structure, global, function}}
 use Rattle.sharc_tree.specs.Tree as tree
 use Rattle.sharc_names.specs.declared.types.Role.{Role}
 use Rattle.sharc_names.specs.declared.types.Role.TheVariants as role
-use Rattle.sharc_ctype.specs.declared.entity.Entity.{Entity}
-use Rattle.sharc_ctype.specs.Entities.{declared, casts, first_entities, head_entities, statement_entities, statements_entities, result_of, function_entities, entities_in}
-use Rattle.sharc_ctype.specs.Resolved.{Resolution, functions_in, declarations_of, declarations_in, declared_at, declaration_at}
-use Rattle.sharc_ctype.specs.Statements.{first_locals, locals_in, locals_in_all}
+use Rattle.sharc_ctype.specs.{declared.entity.Entity.Entity, Entities.{declared, casts, first_entities, head_entities, statement_entities, statements_entities, result_of, function_entities, entities_in}, Resolved.{Resolution, functions_in, declarations_of, declarations_in, declared_at, declaration_at}, Statements.{first_locals, locals_in, locals_in_all}}
 use Rattle.sharc_ctype_laws.specs.Found.{IsFound, EachTypeFound}
 use Rattle.sharc_accepted_laws.specs.Own.{IsOwn, IsCastFound, HasOwn, OwnAreFound}
-use Rattle.sharc_accepted_laws.proofs.TargetForms.{skipped}
-use Rattle.sharc_accepted_laws.proofs.Found.{front, back}
-use Rattle.sharc_accepted_laws.proofs.TargetLists.{none_there, head_there, tail_there, head_or_tail, left_there, right_there, either_there, of_each, to_each, each_mapped, both, same_some}
-use Rattle.sharc_accepted_laws.proofs.TypableRegisters.{none_some}
+use Rattle.sharc_accepted_laws.proofs.{TargetForms.skipped, TargetLists.{left_there, right_there, either_there, each_mapped}}
+use Rattle.sharc_lemmas.proofs.{Options.{same_some, none_some}, Lists.{front, back, both, head_there, head_or_tail, of_each, to_each, tail_there}, Equal.none_there}
 
 module _ (r : Resolution) where
   abbrev Found : List Entity → Type 0

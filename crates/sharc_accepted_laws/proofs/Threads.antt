@@ -1,24 +1,14 @@
 -- What a new thread is handed.
 use Rattle.std.proofs.Common.{◌≡◌, inl, inr, ℕ, zero, ◌==◌, Bool, true, false, cond, List, [], ◌∷◌, slice_get, refl, ap, sym, ◌∙◌, subst, arith, Option, Some, None, Contains}
-use Rattle.sharc_tree.specs.declared.tree.declaration.Declaration.{Declaration}
-use Rattle.sharc_tree.specs.Tree.{Expression, argument, no_arguments, value}
+use Rattle.sharc_tree.specs.{declared.tree.declaration.Declaration.Declaration, Tree.{Expression, argument, no_arguments, value}}
 use Rattle.sharc_names.specs.declared.fault.Named.{Named}
 use Rattle.sharc_names.specs.declared.fault.Named.TheVariants as named
-use Rattle.sharc_ctype.specs.Resolved.{Resolution, named_at}
-use Rattle.sharc_ctype.specs.Transfers.{variable, passed}
-use Rattle.sharc_mode.specs.Rows.{constant_use, argument_use, written, declared_row, modes_of}
-use Rattle.sharc_mode.specs.Sharings.{Sharing, private, readonly, locked, racy, dynamic}
-use Rattle.sharc_flat.specs.Flattened.{parameters_scope, in_function}
-use Rattle.sharc_flat.specs.Scope.{Context}
-use Rattle.sharc_invariant.specs.Types.{Lock as TypeLock, Names, SomeNames}
-use Rattle.sharc_invariant.specs.Types.Lock.{Global, Through, Self}
-use Rattle.sharc_invariant.specs.Labels.{Refers, Label, EntryMentions, HasCopy, AllSame}
-use Rattle.sharc_invariant.specs.Typed.{PassesLock, Passes}
-use Rattle.sharc_accepted_laws.specs.Calls.{argument_type, AreCopies, ArgumentsFit}
-use Rattle.sharc_accepted_laws.specs.Starting.{SpawnedBegin}
-use Rattle.sharc_accepted_laws.specs.Static.{register, lock_named, locks_at, variable_type, pointers, entry_named}
-use Rattle.sharc_accepted_laws.specs.Threads.{ThreadsPass}
-use Rattle.sharc_accepted_laws.proofs.TypableRegisters.{none_some}
+use Rattle.sharc_ctype.specs.{Resolved.{Resolution, named_at}, Transfers.{variable, passed}}
+use Rattle.sharc_mode.specs.{Rows.{constant_use, argument_use, written, declared_row, modes_of}, Sharings.{Sharing, private, readonly, locked, racy, dynamic}}
+use Rattle.sharc_flat.specs.{Flattened.{parameters_scope, in_function}, Scope.Context}
+use Rattle.sharc_invariant.specs.{Types.{Lock as TypeLock, Names, SomeNames}, Types.Lock.{Global, Through, Self}, Labels.{Refers, Label, EntryMentions, HasCopy, AllSame}, Typed.{PassesLock, Passes}}
+use Rattle.sharc_accepted_laws.specs.{Calls.{argument_type, AreCopies, ArgumentsFit}, Starting.SpawnedBegin, Static.{register, lock_named, locks_at, variable_type, pointers, entry_named}, Threads.ThreadsPass}
+use Rattle.sharc_lemmas.proofs.Options.{none_some}
 
 -- ---- locks that name nothing of a frame
 module _ (one other : Label) (k a r q : ℕ) where

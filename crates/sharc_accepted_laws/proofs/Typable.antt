@@ -1,60 +1,23 @@
 -- Each expression and each lvalue of a function of an accepted program is typable, by their forms.
-use Rattle.std.proofs.Common.{◌≡◌, ℕ, zero, suc, ◌+◌, ◌==◌, ◌&&◌, eqb-true, arith, drop, Bool, true, false, cond, List, ◌++◌, refl, ap, sym, ◌∙◌, subst, Option, Some, None, bytes_eq, codes, if◌then◌else◌}
-use Rattle.std.proofs.lemmas.Bool.{false≢true}
+use Rattle.std.proofs.{Common.{◌≡◌, ℕ, zero, suc, ◌+◌, ◌==◌, ◌&&◌, eqb-true, arith, drop, Bool, true, false, cond, List, ◌++◌, refl, ap, sym, ◌∙◌, subst, Option, Some, None, bytes_eq, codes, if◌then◌else◌}, lemmas.Bool.false≢true}
 use Rattle.sharc_tree.specs.declared.ctype.Base.TheVariants as base
-use Rattle.sharc_tree.specs.declared.token.Site.{Site}
-use Rattle.sharc_tree.specs.declared.token.Span.{Span}
-use Rattle.sharc_tree.specs.declared.tree.declaration.Identifier.{Identifier}
-use Rattle.sharc_tree.specs.declared.tree.expression.Access.TheVariants.{Dot, Arrow}
-use Rattle.sharc_tree.specs.declared.tree.expression.BinaryOperator.{BinaryOperator}
-use Rattle.sharc_tree.specs.declared.tree.expression.BinaryOperator.TheVariants.{LogicalOr, LogicalAnd, BitOr, BitXor, BitAnd, Equal, NotEqual, Less, Greater, LessOrEqual, GreaterOrEqual, ShiftLeft, ShiftRight, Add, Subtract, Multiply, Divide, Remainder}
-use Rattle.sharc_tree.specs.declared.tree.expression.PlaceCall.TheVariants.{Lock, Unlock, Free}
-use Rattle.sharc_tree.specs.declared.tree.expression.UnaryOperator.{UnaryOperator}
-use Rattle.sharc_tree.specs.declared.tree.expression.UnaryOperator.TheVariants.{Negate, Not, Complement, Dereference}
-use Rattle.sharc_tree.specs.Forms.{is_lvalue}
-use Rattle.sharc_tree.specs.Measures.{expressions, in_arguments}
-use Rattle.sharc_tree.specs.Tree.{Expression, identifier, constant, parentheses, call, spawn, on_value, on_place, cast, index, field, unary, binary, Arguments, no_arguments, argument, Function}
-use Rattle.sharc_names.specs.declared.fault.Named.{Named}
+use Rattle.sharc_tree.specs.{declared.token.Site.Site, declared.token.Span.Span, declared.tree.declaration.Identifier.Identifier, declared.tree.expression.Access.TheVariants.{Dot, Arrow}, declared.tree.expression.BinaryOperator.BinaryOperator, declared.tree.expression.BinaryOperator.TheVariants.{LogicalOr, LogicalAnd, BitOr, BitXor, BitAnd, Equal, NotEqual, Less, Greater, LessOrEqual, GreaterOrEqual, ShiftLeft, ShiftRight, Add, Subtract, Multiply, Divide, Remainder}, declared.tree.expression.PlaceCall.TheVariants.{Lock, Unlock, Free}, declared.tree.expression.UnaryOperator.UnaryOperator, declared.tree.expression.UnaryOperator.TheVariants.{Negate, Not, Complement, Dereference}, Forms.is_lvalue, Measures.{expressions, in_arguments}, Tree.{Expression, identifier, constant, parentheses, call, spawn, on_value, on_place, cast, index, field, unary, binary, Arguments, no_arguments, argument, Function}}
+use Rattle.sharc_names.specs.{declared.fault.Named.Named, Kinds.{Kind, object, array, null, function, mutex, is_integer, is_pointer, is_array, is_struct_behind, declared_kinds, element_kind}}
 use Rattle.sharc_names.specs.declared.fault.Named.TheVariants as named
-use Rattle.sharc_names.specs.Kinds.{Kind, object, array, null, function, mutex, is_integer, is_pointer, is_array, is_struct_behind, declared_kinds, element_kind}
-use Rattle.sharc_code.specs.declared.code.Code.{Code}
-use Rattle.sharc_code.specs.declared.code.Use.{Use}
+use Rattle.sharc_code.specs.{declared.code.Code.Code, declared.code.Use.Use}
 use Rattle.sharc_code.specs.declared.code.Use.TheVariants as uses
-use Rattle.sharc_ctype.specs.Resolved.{Resolution, named_at, function_at, global_at, kind_at}
-use Rattle.sharc_ctype.specs.Transfers.{parameters_of}
+use Rattle.sharc_ctype.specs.{Resolved.{Resolution, named_at, function_at, global_at, kind_at}, Transfers.parameters_of}
 use Rattle.sharc_ctype_laws.specs.Constraints.{HasType as IsOfType}
-use Rattle.sharc_meaning.specs.Cells.{element_cells, field_place_named}
-use Rattle.sharc_meaning.specs.State.{is_reference}
-use Rattle.sharc_mode.specs.Cells.{is_mutex_kind, cell_at}
-use Rattle.sharc_mode.specs.Moded.{Assignment}
+use Rattle.sharc_meaning.specs.{Cells.{element_cells, field_place_named}, State.is_reference}
+use Rattle.sharc_mode.specs.{Cells.{is_mutex_kind, cell_at}, Moded.Assignment}
 use Rattle.sharc_mode_laws.specs.Constructs.{IsTaken, cast_away, freed}
-use Rattle.sharc_flat.specs.Flattened.{kind_of, is_ref, target_of, mode_of, guard_of, what_names}
-use Rattle.sharc_flat.specs.Places.{in_global, in_global_at, in_object_at, global_of, named_target, target, own_field}
-use Rattle.sharc_flat.specs.Scope.{Context}
-use Rattle.sharc_flat.specs.Suits.{IsScalar, Either, is_cell, NameSuits, CallSuits, IndexSuits, TakeSuits, OperandsSuit, Suits, ArgumentsSuit, ReferencesSuit, PlaceSuits}
+use Rattle.sharc_flat.specs.{Flattened.{kind_of, is_ref, target_of, mode_of, guard_of, what_names}, Places.{in_global, in_global_at, in_object_at, global_of, named_target, target, own_field}, Scope.Context, Suits.{IsScalar, Either, is_cell, NameSuits, CallSuits, IndexSuits, TakeSuits, OperandsSuit, Suits, ArgumentsSuit, ReferencesSuit, PlaceSuits}}
 use Rattle.sharc_flat.specs.Suits as suits
 use Rattle.sharc_invariant.specs.Types.{StaticType, cells_of}
-use Rattle.sharc_typed_laws.specs.Stretches.{Setting}
-use Rattle.sharc_typed_laws.specs.Typable.{type_by, IsPointer, CellTyped, ValueTyped, NameTyped, UnaryTyped, HasType, ElementTyped, IndexTypable, Takes, CallTyped, CallTypable, IsTypable, IsPlaceTypable, AreTypable}
-use Rattle.sharc_accepted_laws.specs.Accesses.{cells_in_each}
-use Rattle.sharc_accepted_laws.specs.Typed.{IsOf}
-use Rattle.sharc_accepted_laws.specs.Standing.{ExpressionStands}
-use Rattle.sharc_accepted_laws.specs.Static.{entry_of}
-use Rattle.sharc_accepted_laws.specs.Lvalues.{pointer_of}
-use Rattle.sharc_accepted_laws.specs.Calling.{wants_of}
-use Rattle.sharc_accepted_laws.specs.TypableLaws.{OperandSuits}
-use Rattle.sharc_accepted_laws.specs.Typing.{typing}
-use Rattle.sharc_accepted_laws.specs.Expressions.{CellsTyped, ExpressionsAreTypable}
-use Rattle.sharc_accepted_laws.specs.Setting.{setting_of, IsSet}
-use Rattle.sharc_accepted_laws.proofs.Arguments.{IsValued, AllSuit, AllGo, Parts, part_of, first_part, second_part, suit_all}
-use Rattle.sharc_accepted_laws.proofs.Calls.{call_goes, call_is_typed}
-use Rattle.sharc_accepted_laws.proofs.Conditions.{known_call}
+use Rattle.sharc_typed_laws.specs.{Stretches.Setting, Typable.{type_by, IsPointer, CellTyped, ValueTyped, NameTyped, UnaryTyped, HasType, ElementTyped, IndexTypable, Takes, CallTyped, CallTypable, IsTypable, IsPlaceTypable, AreTypable}}
+use Rattle.sharc_accepted_laws.specs.{Accesses.cells_in_each, Typed.IsOf, Standing.ExpressionStands, Static.entry_of, Lvalues.pointer_of, Calling.wants_of, TypableLaws.OperandSuits, Typing.typing, Expressions.{CellsTyped, ExpressionsAreTypable}, Setting.{setting_of, IsSet}}
+use Rattle.sharc_accepted_laws.proofs.{Arguments.{IsValued, AllSuit, AllGo, Parts, part_of, first_part, second_part, suit_all}, Calls.{call_goes, call_is_typed}, Conditions.known_call, Facts.Laws, Fields.{Inside, TopFits, IsGuard, no_guard, own_guard, top_fits}, Forms.{integer_no_reference, integer_scalar, pointer_reference, reference_scalar, index_pointer, arrow_pointer, star_pointer, cast_operand, free_operand, lock_operand, unlock_operand}, Members.first_of, Spawns.{handed_scalar, spawn_is_typed}}
 use Rattle.sharc_accepted_laws.proofs.Facts as facts
-use Rattle.sharc_accepted_laws.proofs.Facts.{Laws}
-use Rattle.sharc_accepted_laws.proofs.Fields.{Inside, TopFits, IsGuard, no_guard, own_guard, top_fits}
-use Rattle.sharc_accepted_laws.proofs.Forms.{integer_no_reference, integer_scalar, pointer_reference, reference_scalar, index_pointer, arrow_pointer, star_pointer, cast_operand, free_operand, lock_operand, unlock_operand}
-use Rattle.sharc_accepted_laws.proofs.Members.{first_of}
-use Rattle.sharc_accepted_laws.proofs.Spawns.{handed_scalar, spawn_is_typed}
 
 -- ---- operands
 same_sort_scalars : (j k : Kind) → suits.SameSort j k → IsScalar j × IsScalar k

@@ -1,48 +1,24 @@
 -- The cells of lvalues are typed, by the laws of their accesses.
-use Rattle.std.proofs.Common.{◌≡◌, ℕ, ◌<◌, ◌==◌, ◌&&◌, Bool, true, false, cond, refl, ap, sym, ◌∙◌, subst, arith, Option, Some, None, Contains}
-use Rattle.std.proofs.lemmas.Bool.{false≢true, ltb-true, ne_eqb}
+use Rattle.std.proofs.{Common.{◌≡◌, ℕ, ◌<◌, ◌==◌, ◌&&◌, Bool, true, false, cond, refl, ap, sym, ◌∙◌, subst, arith, Option, Some, None, Contains}, lemmas.Bool.{false≢true, ltb-true, ne_eqb}}
 use Rattle.std.specs.List.{AllByRecursion}
-use Rattle.sharc_tree.specs.declared.ctype.Base.{Base}
+use Rattle.sharc_tree.specs.{declared.ctype.Base.Base, Measures.{expressions, in_function}, declared.token.Span.Span, declared.tree.declaration.Identifier.Identifier, declared.tree.expression.Access.TheVariants.{Dot, Arrow}, declared.tree.expression.UnaryOperator.TheVariants.{Negate, Not, Complement, Dereference}, Tree.{Expression, identifier, constant, parentheses, call, spawn, on_value, on_place, cast, index, field, unary, binary, Function}}
 use Rattle.sharc_tree.specs.declared.ctype.Base.TheVariants as base
-use Rattle.sharc_tree.specs.Measures.{expressions, in_function}
-use Rattle.sharc_tree.specs.declared.token.Span.{Span}
-use Rattle.sharc_tree.specs.declared.tree.declaration.Identifier.{Identifier}
-use Rattle.sharc_tree.specs.declared.tree.expression.Access.TheVariants.{Dot, Arrow}
-use Rattle.sharc_tree.specs.declared.tree.expression.UnaryOperator.TheVariants.{Negate, Not, Complement, Dereference}
-use Rattle.sharc_tree.specs.Tree.{Expression, identifier, constant, parentheses, call, spawn, on_value, on_place, cast, index, field, unary, binary, Function}
 use Rattle.sharc_names.specs.declared.fault.Named.TheVariants as named
 use Rattle.sharc_names.specs.Kinds.{Kind, object, array, mutex, is_integer, is_pointer, is_array, is_struct_behind}
 use Rattle.sharc_names.specs.Kinds as kinds
 use Rattle.sharc_code.specs.declared.code.Code.{Code}
 use Rattle.sharc_ctype.specs.Resolved.{Resolution, named_at, functions_in}
 use Rattle.sharc_meaning.specs.State.{is_reference}
-use Rattle.sharc_mode.specs.Cells.{cell_at}
-use Rattle.sharc_mode.specs.Rows.{is_constant_named, constant_use}
+use Rattle.sharc_mode.specs.{Cells.cell_at, Rows.{is_constant_named, constant_use}}
 use Rattle.sharc_mode_laws.specs.Constructs.{IsExpression}
-use Rattle.sharc_flat.specs.Flattened.{kind_of, target_of, lvalue_in}
-use Rattle.sharc_flat.specs.Places.{in_global, global_of, target}
-use Rattle.sharc_flat.specs.Scope.{Context, slot_kind}
-use Rattle.sharc_flat.specs.Suits.{is_cell, NameSuits, Either, Suits, PlaceSuits}
+use Rattle.sharc_flat.specs.{Flattened.{kind_of, target_of, lvalue_in}, Places.{in_global, global_of, target}, Scope.{Context, slot_kind}, Suits.{is_cell, NameSuits, Either, Suits, PlaceSuits}}
 use Rattle.sharc_invariant.specs.Labels.{Signature}
-use Rattle.sharc_typed_laws.specs.Premises.{Typing}
-use Rattle.sharc_typed_laws.specs.Stretches.{Setting}
-use Rattle.sharc_typed_laws.specs.Typable.{ground_of}
-use Rattle.sharc_accepted_laws.specs.Static.{entry_of}
-use Rattle.sharc_accepted_laws.specs.Lvalues.{pointer_of}
-use Rattle.sharc_accepted_laws.specs.Accesses.{IsCellLvalue, IsCodeOf}
-use Rattle.sharc_accepted_laws.specs.Joined.{BaseStands, IsFairUse, setting, IsTypingOf, IsGroundOf, IntegersFit, ReferencesFit, MutexesFit, GroundsFit}
-use Rattle.sharc_accepted_laws.specs.Paths.{PathsLead}
-use Rattle.sharc_accepted_laws.specs.Typed.{IsOf, CellTyped, LvalueTyped, BasesStand, LvaluesAreTyped}
-use Rattle.sharc_accepted_laws.specs.Uses.{AreFair, UsesAreFair}
-use Rattle.sharc_accepted_laws.proofs.AccessLists.{there_at, each, self}
-use Rattle.sharc_accepted_laws.proofs.TargetLists.{same_some}
-use Rattle.sharc_accepted_laws.proofs.TypableRegisters.{none_some}
+use Rattle.sharc_typed_laws.specs.{Premises.Typing, Stretches.Setting, Typable.ground_of}
+use Rattle.sharc_accepted_laws.specs.{Static.entry_of, Lvalues.pointer_of, Accesses.{IsCellLvalue, IsCodeOf}, Joined.{BaseStands, IsFairUse, setting, IsTypingOf, IsGroundOf, IntegersFit, ReferencesFit, MutexesFit, GroundsFit}, Paths.PathsLead, Typed.{IsOf, CellTyped, LvalueTyped, BasesStand, LvaluesAreTyped}, Uses.{AreFair, UsesAreFair}}
+use Rattle.sharc_accepted_laws.proofs.AccessLists.{there_at, self}
+use Rattle.sharc_lemmas.proofs.{Options.{same_some, none_some}, Bools.and_false, Lists.each}
 
 -- ---- what is an integer, a pointer or a mutex is no struct and no array
-pub and_false : (b : Bool) → (b && false) ≡ false
-and_false true = refl
-and_false false = refl
-
 pub record IsPlainKind (k : Kind) : Type 0 where
   pub no_struct : is_struct_behind 0 k ≡ false
   pub no_array : is_array k ≡ false

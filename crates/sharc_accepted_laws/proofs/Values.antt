@@ -1,62 +1,26 @@
 -- Values, pointers, variables, constants and operators.
-use Rattle.std.proofs.Common.{◌≡◌, inl, inr, ℕ, zero, suc, ◌+◌, ◌<◌, ◌==◌, eqb-true, ◌||◌, Bool, true, false, cond, List, [], ◌∷◌, refl, ap, sym, ◌∙◌, subst, arith, option_map, Option, Some, None}
-use Rattle.std.proofs.lemmas.Bool.{false≢true, and_parts}
+use Rattle.std.proofs.{Common.{◌≡◌, inl, inr, ℕ, zero, suc, ◌+◌, ◌<◌, ◌==◌, eqb-true, ◌||◌, Bool, true, false, cond, List, [], ◌∷◌, refl, ap, sym, ◌∙◌, subst, arith, option_map, Option, Some, None}, lemmas.Bool.{false≢true, and_parts, or_right, or_left}}
 use Rattle.std.specs.List.{AllByRecursion}
-use Rattle.sharc_tree.specs.declared.ctype.Base.{Base}
+use Rattle.sharc_tree.specs.{declared.ctype.Base.Base, declared.token.Site.Site, declared.token.Span.Span, declared.tree.declaration.Identifier.Identifier, declared.tree.expression.BinaryOperator.BinaryOperator, declared.tree.expression.BinaryOperator.TheVariants.{LogicalOr, LogicalAnd, BitOr, BitXor, BitAnd, Equal, NotEqual, Less, Greater, LessOrEqual, GreaterOrEqual, ShiftLeft, ShiftRight, Add, Subtract, Multiply, Divide, Remainder}, declared.tree.expression.Constant.Constant, declared.tree.expression.UnaryOperator.UnaryOperator, declared.tree.expression.UnaryOperator.TheVariants.{Negate, Not, Complement, Dereference}, declared.token.NumberType.NumberType, Measures.{expressions, in_function}, Tree.Expression}
 use Rattle.sharc_tree.specs.declared.ctype.Base.TheVariants as base
-use Rattle.sharc_tree.specs.declared.token.Site.{Site}
-use Rattle.sharc_tree.specs.declared.token.Span.{Span}
-use Rattle.sharc_tree.specs.declared.tree.declaration.Identifier.{Identifier}
-use Rattle.sharc_tree.specs.declared.tree.expression.BinaryOperator.{BinaryOperator}
-use Rattle.sharc_tree.specs.declared.tree.expression.BinaryOperator.TheVariants.{LogicalOr, LogicalAnd, BitOr, BitXor, BitAnd, Equal, NotEqual, Less, Greater, LessOrEqual, GreaterOrEqual, ShiftLeft, ShiftRight, Add, Subtract, Multiply, Divide, Remainder}
-use Rattle.sharc_tree.specs.declared.tree.expression.Constant.{Constant}
 use Rattle.sharc_tree.specs.declared.tree.expression.Constant.TheVariants as constants
-use Rattle.sharc_tree.specs.declared.tree.expression.UnaryOperator.{UnaryOperator}
-use Rattle.sharc_tree.specs.declared.tree.expression.UnaryOperator.TheVariants.{Negate, Not, Complement, Dereference}
-use Rattle.sharc_tree.specs.declared.token.NumberType.{NumberType}
 use Rattle.sharc_tree.specs.declared.token.NumberType.TheVariants as number_types
-use Rattle.sharc_tree.specs.Measures.{expressions, in_function}
-use Rattle.sharc_tree.specs.Tree.{Expression}
 use Rattle.sharc_tree.specs.Tree as tree
 use Rattle.sharc_names.specs.declared.fault.Named.TheVariants as named
 use Rattle.sharc_names.specs.Kinds.{Kind, object, array, null, function, is_integral, is_integer, is_pointer, is_null, is_long, int, long, promoted}
-use Rattle.sharc_code.specs.declared.instr.Register.TheVariants.{Int}
-use Rattle.sharc_code.specs.declared.instr.Width.{Width}
+use Rattle.sharc_code.specs.{declared.instr.Register.TheVariants.Int, declared.instr.Width.Width, Arithmetic.holds}
 use Rattle.sharc_code.specs.declared.instr.Width.TheVariants as widths
-use Rattle.sharc_ctype.specs.declared.expr.OperatorClass.TheVariants.{Shift, Arithmetic}
-use Rattle.sharc_code.specs.Arithmetic.{holds}
-use Rattle.sharc_meaning.specs.Reference.{constant_value}
-use Rattle.sharc_invariant.specs.Typed.{is_shift, is_comparison}
-use Rattle.sharc_ctype.specs.Expressions.{number_kind, constant_kind, class_of, binary_result}
-use Rattle.sharc_ctype.specs.Resolved.{Resolution, named_at, named_kind, declaration_at, variable_kind, functions_in, kind_at}
-use Rattle.sharc_ctype_laws.specs.Constraints.{a_constant, in_parentheses, element_of_pointer, element_of_array, pointed_to}
-use Rattle.sharc_ctype_laws.specs.Constraints.{HasType as IsOfType}
-use Rattle.sharc_ctype_laws.specs.Laws.{MeetsConstraints}
-use Rattle.sharc_meaning.specs.State.{is_reference}
-use Rattle.sharc_mode.specs.Moded.{Assignment}
-use Rattle.sharc_mode.specs.Rows.{Targets, written, deeper, behind, declared_row, named_row, row_at, modes_of, modes_at}
-use Rattle.sharc_mode.specs.Sharings.{Sharing}
+use Rattle.sharc_ctype.specs.{declared.expr.OperatorClass.TheVariants.{Shift, Arithmetic}, Expressions.{number_kind, constant_kind, class_of, binary_result}, Resolved.{Resolution, named_at, named_kind, declaration_at, variable_kind, functions_in, kind_at}}
+use Rattle.sharc_meaning.specs.{Reference.constant_value, State.is_reference}
+use Rattle.sharc_invariant.specs.{Typed.{is_shift, is_comparison}, Types.StaticType, Labels.{Refers, Narrower}}
+use Rattle.sharc_ctype_laws.specs.{Constraints.{a_constant, in_parentheses, element_of_pointer, element_of_array, pointed_to, HasType as IsOfType}, Laws.MeetsConstraints}
+use Rattle.sharc_mode.specs.{Moded.Assignment, Rows.{Targets, written, deeper, behind, declared_row, named_row, row_at, modes_of, modes_at}, Sharings.Sharing}
 use Rattle.sharc_mode_laws.specs.Constructs.{IsExpression}
-use Rattle.sharc_flat.specs.Flattened.{kind_of, is_ref, operator_of}
-use Rattle.sharc_flat.specs.Places.{base_as_width, width_of}
-use Rattle.sharc_flat.specs.Scope.{Context, slot_kind, ref_count, register_of, number_in}
-use Rattle.sharc_flat.specs.Suits.{IsScalar, Either, SameSort, OperandsSuit, IfThere}
+use Rattle.sharc_flat.specs.{Flattened.{kind_of, is_ref, operator_of}, Places.{base_as_width, width_of}, Scope.{Context, slot_kind, ref_count, register_of, number_in}, Suits.{IsScalar, Either, SameSort, OperandsSuit, IfThere}}
 use Rattle.sharc_flat_form.specs.Framed.{IsWide}
-use Rattle.sharc_invariant.specs.Types.{StaticType}
-use Rattle.sharc_invariant.specs.Labels.{Refers, Narrower}
-use Rattle.sharc_typed_laws.specs.Places.{no_type}
-use Rattle.sharc_typed_laws.specs.Stretches.{Setting}
-use Rattle.sharc_typed_laws.specs.Typable.{type_by, GoesTo, IsTypeIn, IsNumber, IsPointer, VariableTyped, ConstantTyped, UnaryTyped, IntegersTyped, ComparedTyped, BinaryTyped}
-use Rattle.sharc_accepted_laws.specs.Held.{HeldLaws}
-use Rattle.sharc_accepted_laws.specs.StaticLaws.{IsAccepted}
-use Rattle.sharc_accepted_laws.specs.Scopes.{ScopeLaws, AllStand}
-use Rattle.sharc_accepted_laws.specs.Static.{register, static_of, variable_type, variable_entry, entry_by, entry_of}
-use Rattle.sharc_accepted_laws.specs.TypableLaws.{IsAt, OperandSuits, ValueLaws}
-use Rattle.sharc_accepted_laws.specs.Typing.{width_named, typing}
-use Rattle.sharc_accepted_laws.proofs.TypableRegisters.{reference_found, integer_found}
-use Rattle.sharc_accepted_laws.proofs.Members.{first_of}
-use Rattle.sharc_accepted_laws.proofs.Calling.{of_each}
-use Rattle.sharc_accepted_laws.proofs.Forms.{or_left}
+use Rattle.sharc_typed_laws.specs.{Places.no_type, Stretches.Setting, Typable.{type_by, GoesTo, IsTypeIn, IsNumber, IsPointer, VariableTyped, ConstantTyped, UnaryTyped, IntegersTyped, ComparedTyped, BinaryTyped}}
+use Rattle.sharc_accepted_laws.specs.{Held.HeldLaws, StaticLaws.IsAccepted, Scopes.{ScopeLaws, AllStand}, Static.{register, static_of, variable_type, variable_entry, entry_by, entry_of}, TypableLaws.{IsAt, OperandSuits, ValueLaws}, Typing.{width_named, typing}}
+use Rattle.sharc_accepted_laws.proofs.{TypableRegisters.{reference_found, integer_found}, Members.first_of, Calling.of_each}
 
 -- an integer is no reference
 integer_is : (k : Kind) → is_integer k ≡ true → is_reference k ≡ false
@@ -96,10 +60,6 @@ kind_widens (object b (suc n)) z h k = absurd (let e = eqb-true (suc n) 0 (and_p
 kind_widens (array b n) z h k = absurd (false≢true h)
 kind_widens null z h k = absurd (false≢true h)
 kind_widens function z h k = absurd (false≢true h)
-
-pub or_right : (a b : Bool) → b ≡ true → (a || b) ≡ true
-or_right true b h = refl
-or_right false b h = h
 
 -- a pointer is no NULL
 pub pointer_no_null : (k : Kind) → is_pointer k ≡ true → k ≡ null → ⊥

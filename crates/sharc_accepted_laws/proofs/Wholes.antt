@@ -1,33 +1,19 @@
 -- An lvalue that names a variable is the name of one: what has fields is a cell.
-use Rattle.std.proofs.Common.{◌≡◌, ⊎_elim, ℕ, Bool, true, false, List, [], ◌∷◌, ◌++◌, map, refl, ap, sym, ◌∙◌, subst, Option, Some, None, if◌then◌else◌, Contains, ◌&&◌, ◌||◌, ◌==◌, ◌+◌, arith, eqb-true}
-use Rattle.std.proofs.lemmas.Bool.{false≢true}
+use Rattle.std.proofs.{Common.{◌≡◌, ⊎_elim, ℕ, Bool, true, false, List, [], ◌∷◌, ◌++◌, map, refl, ap, sym, ◌∙◌, subst, Option, Some, None, if◌then◌else◌, Contains, ◌&&◌, ◌||◌, ◌==◌, ◌+◌}, lemmas.Bool.false≢true}
 use Rattle.std.specs.List.{AllByRecursion}
-use Rattle.sharc_tree.specs.declared.ctype.Base.TheVariants.{Mutex}
-use Rattle.sharc_tree.specs.declared.token.NumberType.{NumberType}
+use Rattle.sharc_tree.specs.{declared.ctype.Base.TheVariants.Mutex, declared.token.NumberType.NumberType, declared.token.Span.Span, declared.tree.declaration.Declaration.Declaration, declared.tree.declaration.Identifier.Identifier, declared.tree.expression.Constant.Constant, Forms.{is_lvalue, without_parentheses}, Measures.{expressions, in_function}, Tree.{Expression, identifier, Function}}
 use Rattle.sharc_tree.specs.declared.token.NumberType.TheVariants as width
-use Rattle.sharc_tree.specs.declared.token.Span.{Span}
-use Rattle.sharc_tree.specs.declared.tree.declaration.Declaration.{Declaration}
-use Rattle.sharc_tree.specs.declared.tree.declaration.Identifier.{Identifier}
-use Rattle.sharc_tree.specs.declared.tree.expression.Constant.{Constant}
 use Rattle.sharc_tree.specs.declared.tree.expression.Constant.TheVariants as constants
-use Rattle.sharc_tree.specs.Forms.{is_lvalue, without_parentheses}
-use Rattle.sharc_tree.specs.Measures.{expressions, in_function}
-use Rattle.sharc_tree.specs.Tree.{Expression, identifier, Function}
 use Rattle.sharc_names.specs.declared.fault.Named.TheVariants as named
 use Rattle.sharc_names.specs.Kinds.{Kind, is_array, is_struct_base, same_base, declared_kind}
 use Rattle.sharc_names.specs.Kinds as kinds
-use Rattle.sharc_ctype.specs.Expressions.{constant_kind, number_kind}
-use Rattle.sharc_ctype.specs.Resolved.{Resolution, functions_in, function_at, declaration_at, kind_at, named_at}
-use Rattle.sharc_ctype.specs.Statements.{is_aggregate, locals_in_all}
-use Rattle.sharc_ctype_laws.specs.Constraints.{HasType, Callee, of_program, of_conditions, Common, both_shorter, left_long, right_long, IsPointer, a_variable, a_global, a_function, a_constant, in_parentheses, element_of_pointer, element_of_array, a_call, a_field, a_field_behind, negated, complemented, denied, pointed_to, arithmetic, shifted, related, equated, joined, spawned, printed_or_joined, locked, unlocked, freed, a_cast}
-use Rattle.sharc_ctype_laws.specs.Declared.{IsItself, NamesOwn}
-use Rattle.sharc_ctype_laws.specs.Laws.{EachNamesItself, EachNamesOwn, ArePlain, IsPlain, MeetsConstraints}
-use Rattle.sharc_flat.specs.Places.{Target, variable, in_global_at, in_object_at, target, named_target, own_field}
-use Rattle.sharc_flat.specs.Suits.{is_cell}
+use Rattle.sharc_ctype.specs.{Expressions.{constant_kind, number_kind}, Resolved.{Resolution, functions_in, function_at, declaration_at, kind_at, named_at}, Statements.{is_aggregate, locals_in_all}}
+use Rattle.sharc_ctype_laws.specs.{Constraints.{HasType, Callee, of_program, of_conditions, Common, both_shorter, left_long, right_long, IsPointer, a_variable, a_global, a_function, a_constant, in_parentheses, element_of_pointer, element_of_array, a_call, a_field, a_field_behind, negated, complemented, denied, pointed_to, arithmetic, shifted, related, equated, joined, spawned, printed_or_joined, locked, unlocked, freed, a_cast}, Declared.{IsItself, NamesOwn}, Laws.{EachNamesItself, EachNamesOwn, ArePlain, IsPlain, MeetsConstraints}}
+use Rattle.sharc_flat.specs.{Places.{Target, variable, in_global_at, in_object_at, target, named_target, own_field}, Suits.is_cell}
 use Rattle.sharc_accepted_laws.specs.StaticLaws.{IsAccepted}
 use Rattle.sharc_mode.specs.Moded.{Assignment}
-use Rattle.sharc_accepted_laws.proofs.TargetLists.{place_there, of_each, head_or_tail, same_some}
-use Rattle.sharc_accepted_laws.proofs.Typed.{and_false}
+use Rattle.sharc_accepted_laws.proofs.TargetLists.{place_there}
+use Rattle.sharc_lemmas.proofs.{Options.same_some, Bools.{and_false, no}, Numbers.some_star, Lists.{head_or_tail, of_each}}
 
 -- ---- variables are no structs
 named_plain : (r : Resolution) (own : List Declaration) → AllByRecursion (IsItself r named.Variable) own → AllByRecursion (λ d. is_aggregate (declared_kind d.written) ≡ false) own
@@ -76,22 +62,12 @@ common_plain _ _ _ (both_shorter a b) = refl
 common_plain _ _ _ left_long = refl
 common_plain _ _ _ right_long = refl
 
-pub some_star : (n : ℕ) → (n + 1 == 0) ≡ false
-some_star n = by (n + 1 == 0) refl
-  where
-    by : (z : Bool) → (n + 1 == 0) ≡ z → z ≡ false
-    by true h = let e = eqb-true (n + 1) 0 h in absurd (omega (arith, e))
-    by false h = refl
-
 pointer_plain : (k : Kind) → IsPointer k → is_aggregate k ≡ false
 pointer_plain k (b, n, is) = ap is_aggregate is ∙ ap (λ z. (z && is_struct_base b) || (same_base b Mutex && z)) (some_star n) ∙ and_false (same_base b Mutex)
 
 either_cell : (b : Bool) (g n k : ℕ) → is_cell (if b then in_global_at g n else in_object_at k) ≡ true
 either_cell true g n k = refl
 either_cell false g n k = refl
-
-no : (A : Type 0) (b : Bool) → b ≡ false → b ≡ true → A
-no A b f t = absurd (false≢true (sym f ∙ t))
 
 no_variable : (t : Target) → is_cell t ≡ true → (x : ℕ) → t ≡ variable x → ⊥
 no_variable t h x is = false≢true (sym (ap is_cell is) ∙ h)

@@ -1,17 +1,12 @@
 -- The code of a program that is accepted is typed.
 use Rattle.sharc_code.specs.declared.code.Code.{Code}
 use Rattle.sharc_mode.specs.Moded.{Assignment}
-use Rattle.sharc_flat_form.specs.declared.flat.Flat.{Flat as FlatCode}
-use Rattle.sharc_flat_form.specs.Made.{flat_of}
-use Rattle.sharc_flat.specs.Flattens.{Flattens}
-use Rattle.sharc_flat.specs.Laws.{FitsMade}
+use Rattle.sharc_flat_form.specs.{declared.flat.Flat.{Flat as FlatCode}, Made.flat_of}
+use Rattle.sharc_flat.specs.{Flattens.Flattens, Laws.FitsMade}
 use Rattle.sharc_compile.specs.Made.{IsCodeOf}
-use Rattle.sharc_invariant.specs.Labels.{Labels}
-use Rattle.sharc_invariant.specs.Typed.{IsWellTyped}
+use Rattle.sharc_invariant.specs.{Labels.Labels, Typed.IsWellTyped}
 use Rattle.sharc_typed_laws.specs.Programs.{AreGlobalsNamed}
-use Rattle.sharc_accepted_laws.specs.StaticLaws.{IsAccepted}
-use Rattle.sharc_accepted_laws.specs.Targets.{targets_of}
-use Rattle.sharc_accepted_laws.specs.Programs.{AreUnsigned}
+use Rattle.sharc_accepted_laws.specs.{StaticLaws.IsAccepted, Targets.targets_of, Programs.AreUnsigned}
 use Rattle.sharc_accepted_laws.specs.Setting.{ConstantsHold}
 
 -- ---- names

@@ -7,15 +7,10 @@ use Rattle.sharc_ctype_laws.specs.Constraints.{struct_named}
 use Rattle.sharc_mode.specs.Moded.{Assignment}
 use Rattle.sharc_mode_laws.specs.Constructs.{IsExpression}
 use Rattle.sharc_flat.specs.Scope.{Context}
-use Rattle.sharc_invariant.specs.Types.{StaticType}
-use Rattle.sharc_invariant.specs.Types.Content.{MutexWord, Waiters}
-use Rattle.sharc_invariant.specs.Labels.{Refers}
-use Rattle.sharc_typed_laws.specs.Stretches.{Setting}
-use Rattle.sharc_typed_laws.specs.Typable.{FirstCell}
-use Rattle.sharc_accepted_laws.specs.StaticLaws.{IsAccepted}
-use Rattle.sharc_accepted_laws.specs.Static.{entry_of}
-use Rattle.sharc_accepted_laws.specs.Shapes.{known_condition, known_mutex, number}
-use Rattle.sharc_accepted_laws.specs.Targets.{targets_of}
+use Rattle.sharc_invariant.specs.{Types.StaticType, Types.Content.{MutexWord, Waiters}, Labels.Refers}
+use Rattle.sharc_typed_laws.specs.{Stretches.Setting, Typable.FirstCell}
+use Rattle.sharc_accepted_laws.specs.{StaticLaws.IsAccepted, Static.entry_of}
+use Rattle.sharc_accepted_laws.specs.{Shapes.{known_condition, known_mutex, number}, Targets.targets_of}
 
 -- the types that NULL may have there
 abbrev pub type_of_mutex : Assignment → StaticType

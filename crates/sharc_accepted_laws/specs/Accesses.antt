@@ -1,33 +1,24 @@
 -- Accesses of the source, as typed code asks for them: where the registers of an lvalue have its base and its index, its cell may be accessed in its mode.
 use Rattle.std.specs.Prelude.{◌≡◌, ℕ, ◌+◌, ◌<◌, Bool, true, false, List, [], ◌∷◌, Option, Some, None}
-use Rattle.sharc_tree.specs.declared.tree.item.GlobalDefinition.{GlobalDefinition}
-use Rattle.sharc_tree.specs.Tree.{Expression}
+use Rattle.sharc_tree.specs.{declared.tree.item.GlobalDefinition.GlobalDefinition, Tree.Expression}
 use Rattle.sharc_names.specs.declared.fault.Named.TheVariants as named
 use Rattle.sharc_names.specs.Kinds.{Kind, null, mutex, declared_kind, is_array, is_struct_behind}
-use Rattle.sharc_code.specs.declared.code.Code.{Code}
-use Rattle.sharc_code.specs.declared.instr.Cell.{Cell}
+use Rattle.sharc_code.specs.{declared.code.Code.Code, declared.instr.Cell.Cell}
 use Rattle.sharc_ctype.specs.Resolved.{Resolution, named_at, named_kind, global_at, kind_at}
 use Rattle.sharc_meaning.specs.Cells.{element_cells, global_elements, field_place_behind}
-use Rattle.sharc_mode.specs.Cells.{is_mutex_kind, cell_at}
-use Rattle.sharc_mode.specs.Moded.{Assignment}
-use Rattle.sharc_mode.specs.Rows.{modes_at}
+use Rattle.sharc_mode.specs.{Cells.{is_mutex_kind, cell_at}, Moded.Assignment, Rows.modes_at}
 use Rattle.sharc_mode.specs.Sharings.{Lock, Sharing, private, readonly, locked}
 use Rattle.sharc_mode_laws.specs.Constructs.{IsExpression}
-use Rattle.sharc_flat_form.specs.declared.op.Spot.{Spot}
-use Rattle.sharc_flat_form.specs.Machine.{first_cell}
+use Rattle.sharc_flat_form.specs.{declared.op.Spot.Spot, Machine.first_cell}
 use Rattle.sharc_flat.specs.Scope.{Context}
 use Rattle.sharc_flat.specs.Places.{Target, variable, in_global, in_global_at, in_object, in_object_at, target, cell_of, guard_cell, field_of, beside_field, guard_field, place_mode, lock_cell}
 use Rattle.sharc_flat.specs.Tables.{globals_of}
 use Rattle.sharc_invariant.specs.Types.{StaticType, Field, MutexWord, cells_of, field_at}
 use Rattle.sharc_invariant.specs.Labels.{Refers, Element, OfElement, OfGlobal, Closed, Loaded, Label, Labels}
 use Rattle.sharc_invariant.specs.Typed.{IsRef, HasCell, HasBefore, IsMode, IsOwn, PointsToMutex}
-use Rattle.sharc_typed_laws.specs.Inside.{lock_of}
-use Rattle.sharc_typed_laws.specs.Lines.{MayPass}
-use Rattle.sharc_accepted_laws.specs.StaticLaws.{IsAccepted}
-use Rattle.sharc_accepted_laws.specs.Static.{register, static_of}
-use Rattle.sharc_accepted_laws.specs.TargetLaws.{HasTables}
-use Rattle.sharc_accepted_laws.specs.Lvalues.{FieldFits, pointer_of}
-use Rattle.sharc_accepted_laws.specs.Targets.{targets_of}
+use Rattle.sharc_typed_laws.specs.{Inside.lock_of, Lines.MayPass}
+use Rattle.sharc_accepted_laws.specs.{StaticLaws.IsAccepted, Static.{register, static_of}, TargetLaws.HasTables}
+use Rattle.sharc_accepted_laws.specs.{Lvalues.{FieldFits, pointer_of}, Targets.targets_of}
 
 -- ---- what an access asks for
 -- the cell exists and has this field, the site tells its mode, and it may be accessed once it is checked

@@ -1,13 +1,8 @@
 -- The functions that thread 0 alone runs: no thread reaches them, and they alone name globals whose cells are private.
-use Rattle.std.specs.Prelude.{◌≡◌, ℕ, Bool, true, false, Some, None, Contains}
-use Rattle.std.specs.List.{AllByRecursion}
-use Rattle.sharc_tree.specs.Measures.{expressions, in_function}
-use Rattle.sharc_tree.specs.Tree.{Expression, Function}
-use Rattle.sharc_ctype.specs.Reaches.{Spawns, Runs}
-use Rattle.sharc_ctype.specs.Resolved.{function_at}
-use Rattle.sharc_mode.specs.Cells.{cell_at}
-use Rattle.sharc_mode.specs.Moded.{Assignment}
-use Rattle.sharc_mode.specs.Sharings.{private}
+use Rattle.std.specs.{Prelude.{◌≡◌, ℕ, Bool, true, false, Some, None, Contains}, List.AllByRecursion}
+use Rattle.sharc_tree.specs.{Measures.{expressions, in_function}, Tree.{Expression, Function}}
+use Rattle.sharc_ctype.specs.{Reaches.{Spawns, Runs}, Resolved.function_at}
+use Rattle.sharc_mode.specs.{Cells.cell_at, Moded.Assignment, Sharings.private}
 use Rattle.sharc_flat.specs.Places.{Target, variable, in_global, in_global_at, in_object, in_object_at, target}
 use Rattle.sharc_accepted_laws.specs.StaticLaws.{IsAccepted}
 

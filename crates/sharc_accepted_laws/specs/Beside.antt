@@ -1,17 +1,11 @@
 -- What stands beside a field that is locked by one of the same element.
 use Rattle.std.specs.Prelude.{◌≡◌, ℕ, ◌<◌, List, length, slice_index_or, Contains}
-use Rattle.sharc_tree.specs.declared.tree.item.GlobalDefinition.{GlobalDefinition}
-use Rattle.sharc_tree.specs.Low.{IsLow}
-use Rattle.sharc_tree.specs.Placed.{IsPlaced}
+use Rattle.sharc_tree.specs.{declared.tree.item.GlobalDefinition.GlobalDefinition, Low.IsLow, Placed.IsPlaced}
 use Rattle.sharc_ctype.specs.Resolved.{IsResolved, globals_in}
-use Rattle.sharc_mode.specs.Flows.{IsLeastAssignment}
-use Rattle.sharc_mode.specs.Moded.{Assignment}
-use Rattle.sharc_mode.specs.WellModed.{WellModed}
-use Rattle.sharc_invariant.specs.Types.{OfElement, FieldMode, Under, MutexWord, Field, no_field, row_of, field_at}
-use Rattle.sharc_invariant.specs.Types.{FieldMode as own}
+use Rattle.sharc_mode.specs.{Flows.IsLeastAssignment, Moded.Assignment, WellModed.WellModed}
+use Rattle.sharc_invariant.specs.Types.{OfElement, FieldMode, Under, MutexWord, Field, no_field, row_of, field_at, FieldMode as own}
 use Rattle.sharc_invariant.specs.Typed.{PointsToMutex}
-use Rattle.sharc_accepted_laws.specs.Shapes.{Shape, shapes, number}
-use Rattle.sharc_accepted_laws.specs.Targets.{global_element, targets_of}
+use Rattle.sharc_accepted_laws.specs.{Shapes.{Shape, shapes, number}, Targets.{global_element, targets_of}}
 
 -- in an element with these fields: the mutex that a mode names there, or the readonly pointer to one
 abbrev pub BesideFits : Assignment → List Field → FieldMode → Type 0

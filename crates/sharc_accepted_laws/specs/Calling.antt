@@ -1,22 +1,13 @@
 -- What is passed at a call: the arguments, in registers one behind the other, go to the parameters of the callee's frame.
 use Rattle.std.specs.Prelude.{ℕ, ◌+◌, ◌<◌, List, slice_get, Option, Some, None}
-use Rattle.sharc_tree.specs.declared.tree.declaration.Declaration.{Declaration}
-use Rattle.sharc_tree.specs.Tree.{Arguments, Function}
+use Rattle.sharc_tree.specs.{declared.tree.declaration.Declaration.Declaration, Tree.{Arguments, Function}}
 use Rattle.sharc_names.specs.Kinds.{declared_kinds}
 use Rattle.sharc_mode_laws.specs.Constructs.{IsFunction, IsCall}
-use Rattle.sharc_flat.specs.Flattened.{parameters_scope}
-use Rattle.sharc_flat.specs.Scope.{Context, ref_count}
-use Rattle.sharc_flat.specs.Suits.{ArgumentsSuit}
-use Rattle.sharc_invariant.specs.Types.{StaticType}
-use Rattle.sharc_invariant.specs.Labels.{Label}
-use Rattle.sharc_invariant.specs.Typed.{Passes}
-use Rattle.sharc_accepted_laws.specs.Calls.{at_entry, argument_type, AreStanding}
-use Rattle.sharc_accepted_laws.specs.StaticLaws.{IsAccepted}
-use Rattle.sharc_accepted_laws.specs.Static.{variable_entry}
-use Rattle.sharc_typed_laws.specs.Places.{no_type}
-use Rattle.sharc_typed_laws.specs.Stretches.{Setting}
-use Rattle.sharc_typed_laws.specs.Typable.{ArgumentsAt}
-use Rattle.sharc_accepted_laws.specs.Typing.{typing}
+use Rattle.sharc_flat.specs.{Flattened.parameters_scope, Scope.{Context, ref_count}, Suits.ArgumentsSuit}
+use Rattle.sharc_invariant.specs.{Types.StaticType, Labels.Label, Typed.Passes}
+use Rattle.sharc_accepted_laws.specs.{Calls.{at_entry, argument_type, AreStanding}, StaticLaws.IsAccepted}
+use Rattle.sharc_accepted_laws.specs.{Static.variable_entry, Typing.typing}
+use Rattle.sharc_typed_laws.specs.{Places.no_type, Stretches.Setting, Typable.ArgumentsAt}
 
 -- the types of the arguments, by their places
 abbrev pub type_for : Context → List Declaration → Arguments → Option Declaration → StaticType

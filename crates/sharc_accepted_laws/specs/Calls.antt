@@ -1,20 +1,14 @@
 -- What is passed at a call has the type that the parameter has there.
 use Rattle.std.specs.Prelude.{◌≡◌, ℕ, ◌+◌, ◌<◌, true, List, Some, Contains}
-use Rattle.sharc_tree.specs.declared.tree.declaration.Declaration.{Declaration}
-use Rattle.sharc_tree.specs.Tree.{Expression, Arguments, value}
+use Rattle.sharc_tree.specs.{declared.tree.declaration.Declaration.Declaration, Tree.{Expression, Arguments, value}}
 use Rattle.sharc_names.specs.declared.fault.Named.TheVariants as named
 use Rattle.sharc_names.specs.Kinds.{is_pointer, declared_kind}
-use Rattle.sharc_ctype.specs.Resolved.{named_at, declaration_at, variable_kind}
-use Rattle.sharc_ctype.specs.Transfers.{variable, passed}
+use Rattle.sharc_ctype.specs.{Resolved.{named_at, declaration_at, variable_kind}, Transfers.{variable, passed}}
 use Rattle.sharc_mode.specs.Rows.{at_call, declared_row, modes_of, argument_use}
 use Rattle.sharc_mode_laws.specs.Constructs.{IsCall}
-use Rattle.sharc_flat.specs.Flattened.{parameters_scope}
-use Rattle.sharc_flat.specs.Scope.{Context, slot_kind, ref_count}
-use Rattle.sharc_invariant.specs.Types.{StaticType, Mentions}
-use Rattle.sharc_invariant.specs.Labels.{Refers, Label, SameReference}
-use Rattle.sharc_invariant.specs.Typed.{Passes}
-use Rattle.sharc_accepted_laws.specs.StaticLaws.{IsAccepted}
-use Rattle.sharc_accepted_laws.specs.Held.{is_held, held_at}
+use Rattle.sharc_flat.specs.{Flattened.parameters_scope, Scope.{Context, slot_kind, ref_count}}
+use Rattle.sharc_invariant.specs.{Types.{StaticType, Mentions}, Labels.{Refers, Label, SameReference}, Typed.Passes}
+use Rattle.sharc_accepted_laws.specs.{StaticLaws.IsAccepted, Held.{is_held, held_at}}
 use Rattle.sharc_accepted_laws.specs.Static.{register, static_of, variable_type, entry_of, GoesTo}
 
 -- where a function with these parameters begins

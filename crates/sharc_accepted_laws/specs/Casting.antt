@@ -1,19 +1,14 @@
 -- Casts: what the cells of an object are and refer to is the same before a cast and after it.
 use Rattle.std.specs.Prelude.{◌≡◌, ℕ, Some, List}
-use Rattle.sharc_tree.specs.declared.token.Span.{Span}
-use Rattle.sharc_tree.specs.declared.tree.declaration.WrittenType.{WrittenType}
+use Rattle.sharc_tree.specs.{declared.token.Span.Span, declared.tree.declaration.WrittenType.WrittenType}
 use Rattle.sharc_tree.specs.Tree.{Expression, cast}
 use Rattle.sharc_names.specs.Kinds.{declared_kind}
 use Rattle.sharc_ctype.specs.Resolved.{kind_at}
-use Rattle.sharc_mode.specs.Rows.{cast_row, modes_of, modes_at}
-use Rattle.sharc_mode.specs.Sharings.{Sharing}
+use Rattle.sharc_mode.specs.{Rows.{cast_row, modes_of, modes_at}, Sharings.Sharing}
 use Rattle.sharc_mode_laws.specs.Constructs.{IsExpression}
 use Rattle.sharc_flat.specs.Scope.{Context}
-use Rattle.sharc_invariant.specs.Labels.{Label}
-use Rattle.sharc_invariant.specs.Typed.{Recasts}
-use Rattle.sharc_accepted_laws.specs.StaticLaws.{IsAccepted}
-use Rattle.sharc_accepted_laws.specs.Static.{static_of}
-use Rattle.sharc_accepted_laws.specs.Targets.{targets_of}
+use Rattle.sharc_invariant.specs.{Labels.Label, Typed.Recasts}
+use Rattle.sharc_accepted_laws.specs.{StaticLaws.IsAccepted, Static.static_of, Targets.targets_of}
 
 -- a cast to a type from one that has, from its second target on, the same modes
 abbrev pub CastsRecast : Type 0

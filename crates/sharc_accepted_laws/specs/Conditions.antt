@@ -1,7 +1,6 @@
 -- Calls of condition variables: where one stands, `struct cond` is the known one.
 use Rattle.std.specs.Prelude.{◌≡◌, None, codes}
-use Rattle.sharc_tree.specs.declared.token.Span.{Span}
-use Rattle.sharc_tree.specs.declared.tree.declaration.Identifier.{Identifier}
+use Rattle.sharc_tree.specs.{declared.token.Span.Span, declared.tree.declaration.Identifier.Identifier}
 use Rattle.sharc_tree.specs.Tree.{call, Arguments}
 use Rattle.sharc_names.specs.declared.fault.Named.TheVariants as named
 use Rattle.sharc_ctype.specs.Resolved.{named_at, structs_in}

@@ -1,25 +1,18 @@
 -- The expressions of a function of an accepted program are typable, as far as what is asked of its cells holds.
 use Rattle.std.specs.Prelude.{ℕ, ◌≡◌, Bool, true, false, [], None}
-use Rattle.sharc_tree.specs.declared.token.Span.{Span}
-use Rattle.sharc_tree.specs.declared.tree.declaration.Identifier.{Identifier}
-use Rattle.sharc_tree.specs.Forms.{is_lvalue}
+use Rattle.sharc_tree.specs.{declared.token.Span.Span, declared.tree.declaration.Identifier.Identifier, Forms.is_lvalue}
 use Rattle.sharc_tree.specs.Tree.{Expression, call, Arguments, Function}
 use Rattle.sharc_names.specs.declared.fault.Named.TheVariants as named
 use Rattle.sharc_names.specs.Kinds.{is_array, is_struct_behind, condition_pointer, mutex_pointer}
 use Rattle.sharc_code.specs.declared.code.Code.{Code}
 use Rattle.sharc_ctype.specs.Resolved.{named_at}
 use Rattle.sharc_mode.specs.Cells.{is_mutex_kind}
-use Rattle.sharc_flat.specs.Flattened.{kind_of, target_of, guard_of}
-use Rattle.sharc_flat.specs.Scope.{Context}
+use Rattle.sharc_flat.specs.{Flattened.{kind_of, target_of, guard_of}, Scope.Context}
 use Rattle.sharc_flat.specs.Suits.{IsScalar, is_cell, Suits, PlaceSuits}
 use Rattle.sharc_invariant.specs.Types.{StaticType, Content, MutexWord, Waiters}
-use Rattle.sharc_typed_laws.specs.Stretches.{Setting}
-use Rattle.sharc_typed_laws.specs.Typable.{type_by, FirstCell, IsTypable, IsPlaceTypable}
-use Rattle.sharc_accepted_laws.specs.Joined.{PathLeads, BaseStands}
-use Rattle.sharc_accepted_laws.specs.Typed.{IsOf, LvalueTyped}
-use Rattle.sharc_accepted_laws.specs.Static.{entry_of}
-use Rattle.sharc_accepted_laws.specs.Typing.{typing}
-use Rattle.sharc_accepted_laws.specs.Setting.{setting_of, IsSet}
+use Rattle.sharc_typed_laws.specs.{Stretches.Setting, Typable.{type_by, FirstCell, IsTypable, IsPlaceTypable}}
+use Rattle.sharc_accepted_laws.specs.{Joined.{PathLeads, BaseStands}, Typed.{IsOf, LvalueTyped}, Static.entry_of}
+use Rattle.sharc_accepted_laws.specs.{Typing.typing, Setting.{setting_of, IsSet}}
 
 -- ---- what is asked of cells
 -- a type that names no register, of something that begins with this

@@ -1,8 +1,7 @@
 -- The places of fields in the elements of their structs.
 use Rattle.std.specs.Prelude.{◌≡◌, ℕ, slice_get, Some, Contains}
 use Rattle.sharc_tree.specs.declared.tree.declaration.Declaration.{Declaration}
-use Rattle.sharc_tree.specs.declared.tree.item.StructDefinition.{StructDefinition}
-use Rattle.sharc_tree.specs.Placed.{IsPlaced}
+use Rattle.sharc_tree.specs.{declared.tree.item.StructDefinition.StructDefinition, Placed.IsPlaced}
 use Rattle.sharc_ctype.specs.Resolved.{Resolution, structs_in}
 use Rattle.sharc_meaning.specs.Cells.{field_place}
 

@@ -1,7 +1,6 @@
 -- How many granules the globals of a program take.
 use Rattle.std.specs.Prelude.{◌≤◌}
-use Rattle.sharc_tree.specs.Low.{IsLow}
-use Rattle.sharc_tree.specs.Placed.{IsPlaced}
+use Rattle.sharc_tree.specs.{Low.IsLow, Placed.IsPlaced}
 use Rattle.sharc_ctype.specs.Resolved.{Resolution, IsResolved, globals_in}
 use Rattle.sharc_flat.specs.Tables.{all_granules}
 

@@ -1,26 +1,19 @@
 -- Variables that keep their references: constant ones, of which no SCAST and no `free` takes the reference. Lock paths lead through no other.
 use Rattle.std.specs.Prelude.{◌≡◌, ℕ, ◌<◌, Bool, true, false, ◌&&◌, not, List, [], slice_get, option_to_list, Option, Some, None}
 use Rattle.std.specs.List.{AllByRecursion, list_any}
-use Rattle.sharc_tree.specs.declared.token.Span.{Span}
-use Rattle.sharc_tree.specs.declared.tree.declaration.Identifier.{Identifier}
-use Rattle.sharc_tree.specs.declared.tree.expression.PlaceCall.TheVariants.{Free}
-use Rattle.sharc_tree.specs.Forms.{without_parentheses}
-use Rattle.sharc_tree.specs.Measures.{expressions, in_function}
-use Rattle.sharc_tree.specs.Tree.{Expression, identifier, cast, on_place, Right}
+use Rattle.sharc_tree.specs.{declared.token.Span.Span, declared.tree.declaration.Identifier.Identifier}
+use Rattle.sharc_tree.specs.{declared.tree.expression.PlaceCall.TheVariants.Free, Forms.without_parentheses}
+use Rattle.sharc_tree.specs.{Measures.{expressions, in_function}, Tree.{Expression, identifier, cast, on_place, Right}}
 use Rattle.sharc_names.specs.declared.fault.Named.TheVariants as named
 use Rattle.sharc_names.specs.Kinds.{Kind}
-use Rattle.sharc_ctype.specs.Constants.{is_among, is_constant}
-use Rattle.sharc_ctype.specs.Resolved.{Resolution, named_at, functions_in}
-use Rattle.sharc_mode.specs.Moded.{Assignment}
-use Rattle.sharc_mode.specs.Notes.{taken_variable}
+use Rattle.sharc_ctype.specs.{Constants.{is_among, is_constant}, Resolved.{Resolution, named_at, functions_in}}
+use Rattle.sharc_mode.specs.{Moded.Assignment, Notes.taken_variable}
 use Rattle.sharc_mode.specs.Rows.{written, path_variable, declared_row, modes_of, modes_at}
 use Rattle.sharc_mode.specs.Sharings.{Lock, Sharing, locked}
 use Rattle.sharc_mode_laws.specs.Constructs.{IsExpression, IsTaken, IsAssigned}
 use Rattle.sharc_flat.specs.Scope.{Context, slot_kind, ref_count}
 use Rattle.sharc_invariant.specs.Types.{Mentions}
-use Rattle.sharc_accepted_laws.specs.StaticLaws.{IsAccepted}
-use Rattle.sharc_accepted_laws.specs.Scopes.{AllStand}
-use Rattle.sharc_accepted_laws.specs.Static.{register, static_of, pointers}
+use Rattle.sharc_accepted_laws.specs.{StaticLaws.IsAccepted, Scopes.AllStand, Static.{register, static_of, pointers}}
 
 -- the variable or the global whose reference an expression itself takes
 abbrev pub taken_by : Resolution → Expression → List ℕ

@@ -1,31 +1,22 @@
 -- The accesses of an accepted program, in the form in which sharc_typed_laws asks for them of each expression.
-use Rattle.std.specs.Prelude.{◌≡◌, ℕ, ◌<◌, Bool, true, false, List, ◌∷◌, Some, None}
-use Rattle.std.specs.List.{AllByRecursion}
-use Rattle.sharc_tree.specs.declared.token.Site.{Site}
-use Rattle.sharc_tree.specs.Measures.{expressions}
-use Rattle.sharc_tree.specs.Tree.{Expression}
+use Rattle.std.specs.{Prelude.{◌≡◌, ℕ, ◌<◌, Bool, true, false, List, ◌∷◌, Some, None}, List.AllByRecursion}
+use Rattle.sharc_tree.specs.{declared.token.Site.Site, Measures.expressions, Tree.Expression}
 use Rattle.sharc_names.specs.declared.fault.Named.TheVariants as named
 use Rattle.sharc_names.specs.Kinds.{mutex, is_integer, is_pointer}
-use Rattle.sharc_code.specs.declared.code.Code.{Code}
-use Rattle.sharc_code.specs.declared.code.Use.{Use}
+use Rattle.sharc_code.specs.{declared.code.Code.Code, declared.code.Use.Use}
 use Rattle.sharc_ctype.specs.Resolved.{named_at, named_kind, global_at, kind_at}
 use Rattle.sharc_meaning.specs.Cells.{global_elements, field_place_behind}
-use Rattle.sharc_mode.specs.Cells.{cell_at}
-use Rattle.sharc_mode.specs.Rows.{constant_use, modes_at}
+use Rattle.sharc_mode.specs.{Cells.cell_at, Rows.{constant_use, modes_at}}
 use Rattle.sharc_mode.specs.Sharings.{Lock, Sharing, private, readonly, locked}
 use Rattle.sharc_mode_laws.specs.Constructs.{IsExpression}
-use Rattle.sharc_flat.specs.declared.slot.Lvalue.{Lvalue}
-use Rattle.sharc_flat.specs.Scope.{Context, slot_kind}
+use Rattle.sharc_flat.specs.{declared.slot.Lvalue.Lvalue, Scope.{Context, slot_kind}}
 use Rattle.sharc_flat.specs.Places.{in_global_at, has_base, target, beside_field, width_of}
-use Rattle.sharc_invariant.specs.Types.{MutexWord, cells_of, field_at}
-use Rattle.sharc_invariant.specs.Labels.{Signature}
+use Rattle.sharc_invariant.specs.{Types.{MutexWord, cells_of, field_at}, Labels.Signature}
 use Rattle.sharc_typed_laws.specs.Stretches.{Setting}
 use Rattle.sharc_typed_laws.specs.Premises.{Typing, Ground, IntegerTyped, ReferenceTyped, MutexTyped}
 use Rattle.sharc_typed_laws.specs.Typable.{ground_of}
-use Rattle.sharc_accepted_laws.specs.Alone.{IsInside}
-use Rattle.sharc_accepted_laws.specs.Held.{held_at}
-use Rattle.sharc_accepted_laws.specs.Static.{register, variable_type, static_of, entry_of}
-use Rattle.sharc_accepted_laws.specs.Lvalues.{pointer_of}
+use Rattle.sharc_accepted_laws.specs.{Alone.IsInside, Held.held_at}
+use Rattle.sharc_accepted_laws.specs.{Static.{register, variable_type, static_of, entry_of}, Lvalues.pointer_of}
 use Rattle.sharc_accepted_laws.specs.Targets.{targets_of}
 use Rattle.sharc_accepted_laws.specs.Accesses.{modes_behind, base_type, cells_in_each, IsCellLvalue, IsCodeOf}
 

@@ -1,18 +1,13 @@
 -- The lock paths of the types of expressions lead to mutexes.
-use Rattle.std.specs.Prelude.{◌≡◌, ℕ, List, Some}
-use Rattle.std.specs.List.{AllByRecursion}
+use Rattle.std.specs.{Prelude.{◌≡◌, ℕ, List, Some}, List.AllByRecursion}
 use Rattle.sharc_tree.specs.declared.ctype.Base.TheVariants as base
-use Rattle.sharc_tree.specs.Measures.{expressions}
-use Rattle.sharc_tree.specs.Tree.{Expression}
+use Rattle.sharc_tree.specs.{Measures.expressions, Tree.Expression}
 use Rattle.sharc_names.specs.declared.fault.Named.TheVariants as named
 use Rattle.sharc_names.specs.Kinds.{object, mutex, declared_kind}
 use Rattle.sharc_ctype.specs.Resolved.{Resolution, named_at, named_kind, structs_in}
 use Rattle.sharc_ctype_laws.specs.Constraints.{struct_named}
-use Rattle.sharc_mode.specs.Moded.{Assignment}
-use Rattle.sharc_mode.specs.Rows.{modes_at}
-use Rattle.sharc_mode.specs.Sharings.{Lock, Sharing, locked}
-use Rattle.sharc_mode_laws.specs.Constructs.{IsExpression}
-use Rattle.sharc_mode_laws.specs.Paths.{IsMutexBehind}
+use Rattle.sharc_mode.specs.{Moded.Assignment, Rows.modes_at, Sharings.{Lock, Sharing, locked}}
+use Rattle.sharc_mode_laws.specs.{Constructs.IsExpression, Paths.IsMutexBehind}
 use Rattle.sharc_accepted_laws.specs.StaticLaws.{IsAccepted}
 
 -- `m`, a global mutex, or `x->m`, a mutex of the struct of this name to which the variable `x` points

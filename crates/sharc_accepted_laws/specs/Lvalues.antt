@@ -2,27 +2,22 @@
 use Rattle.std.specs.Prelude.{◌≡◌, ◌⊎◌, ℕ, zero, suc, ◌-◌, ◌<◌, true, false, List, [], ◌∷◌, length, map, Option, Some, None, slice_index_or, if◌then◌else◌}
 use Rattle.sharc_tree.specs.declared.tree.item.GlobalDefinition.{GlobalDefinition}
 use Rattle.sharc_tree.specs.declared.tree.expression.Access.TheVariants.{Dot, Arrow}
-use Rattle.sharc_tree.specs.declared.tree.expression.UnaryOperator.TheVariants.{Dereference}
-use Rattle.sharc_tree.specs.Low.{IsLow}
-use Rattle.sharc_tree.specs.Placed.{IsPlaced}
+use Rattle.sharc_tree.specs.{declared.tree.expression.UnaryOperator.TheVariants.Dereference, Low.IsLow, Placed.IsPlaced}
 use Rattle.sharc_tree.specs.Tree.{Expression, identifier, parentheses, index, field, unary}
 use Rattle.sharc_names.specs.declared.fault.Named.{Named}
-use Rattle.sharc_names.specs.declared.fault.Named.TheVariants as named
 use Rattle.sharc_names.specs.Kinds.{Kind, object, mutex, is_array, is_struct_behind, element_kind, declared_kind}
+use Rattle.sharc_names.specs.declared.fault.Named.TheVariants as named
 use Rattle.sharc_ctype.specs.Resolved.{Resolution, IsResolved, named_at, named_kind, global_at, kind_at}
-use Rattle.sharc_mode.specs.Cells.{is_mutex_kind, is_behind_pointer, cell_at}
-use Rattle.sharc_mode.specs.Flows.{IsLeastAssignment}
+use Rattle.sharc_mode.specs.{Cells.{is_mutex_kind, is_behind_pointer, cell_at}, Flows.IsLeastAssignment}
 use Rattle.sharc_mode.specs.Moded.{Assignment}
 use Rattle.sharc_mode.specs.Rows.{Reading, Targets, written, declared_row, named_row, row_at, modes_of, modes_at}
-use Rattle.sharc_mode.specs.Sharings.{Lock, Sharing, private, readonly, locked, racy, dynamic}
-use Rattle.sharc_mode.specs.WellModed.{WellModed}
+use Rattle.sharc_mode.specs.{Sharings.{Lock, Sharing, private, readonly, locked, racy, dynamic}, WellModed.WellModed}
 use Rattle.sharc_mode_laws.specs.Constructs.{IsExpression}
 use Rattle.sharc_meaning.specs.Cells.{field_place, field_place_named}
 use Rattle.sharc_flat_form.specs.Machine.{first_cell}
 use Rattle.sharc_flat.specs.Places.{Target, in_object, in_object_at, in_global, in_global_at, target}
 use Rattle.sharc_flat.specs.Tables.{globals_of}
-use Rattle.sharc_invariant.specs.Types.{FieldLock, OfType, OfGlobals, OfElement, FieldMode, Under, Content, Pointer, Field, no_field, cells_of, field_at}
-use Rattle.sharc_invariant.specs.Types.{FieldMode as own}
+use Rattle.sharc_invariant.specs.Types.{FieldLock, OfType, OfGlobals, OfElement, FieldMode, Under, Content, Pointer, Field, no_field, cells_of, field_at, FieldMode as own}
 use Rattle.sharc_accepted_laws.specs.Shapes.{Form, form_of, expression_shape, number}
 use Rattle.sharc_accepted_laws.specs.Targets.{lock_count, type_locks, field_locks, base_content, global_element, targets_of}
 

@@ -1,14 +1,9 @@
 -- What a function declares and casts to is found by its tokens, with the role that it has.
-use Rattle.std.specs.Prelude.{◌≡◌, ◌++◌}
-use Rattle.std.specs.List.{AllByRecursion}
-use Rattle.sharc_tree.specs.declared.tree.declaration.Declaration.{Declaration}
-use Rattle.sharc_tree.specs.Low.{IsLow}
-use Rattle.sharc_tree.specs.Measures.{in_function}
-use Rattle.sharc_tree.specs.Placed.{IsPlaced}
-use Rattle.sharc_tree.specs.Tree.{Expression, cast, Function}
+use Rattle.std.specs.{Prelude.{◌≡◌, ◌++◌}, List.AllByRecursion}
+use Rattle.sharc_tree.specs.{declared.tree.declaration.Declaration.Declaration, Low.IsLow, Measures.in_function}
+use Rattle.sharc_tree.specs.{Placed.IsPlaced, Tree.{Expression, cast, Function}}
 use Rattle.sharc_names.specs.declared.types.Role.{Role}
-use Rattle.sharc_ctype.specs.Entities.{declared, cast_entity}
-use Rattle.sharc_ctype.specs.Resolved.{Resolution, IsResolved, functions_in}
+use Rattle.sharc_ctype.specs.{Entities.{declared, cast_entity}, Resolved.{Resolution, IsResolved, functions_in}}
 use Rattle.sharc_ctype.specs.Statements.{locals_in_all}
 use Rattle.sharc_ctype_laws.specs.Found.{IsFound}
 use Rattle.sharc_mode.specs.declared.place.Place.TheVariants as place

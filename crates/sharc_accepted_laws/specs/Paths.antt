@@ -1,22 +1,16 @@
 -- The mutexes to which lock paths lead.
-use Rattle.std.specs.Prelude.{◌≡◌, ℕ, ◌<◌, List, Some}
-use Rattle.std.specs.List.{AllByRecursion}
+use Rattle.std.specs.{Prelude.{◌≡◌, ℕ, ◌<◌, List, Some}, List.AllByRecursion}
 use Rattle.sharc_tree.specs.declared.ctype.Base.TheVariants as base
-use Rattle.sharc_tree.specs.Measures.{expressions}
-use Rattle.sharc_tree.specs.Tree.{Expression}
+use Rattle.sharc_tree.specs.{Measures.expressions, Tree.Expression}
 use Rattle.sharc_names.specs.Kinds.{object, declared_kind}
 use Rattle.sharc_ctype.specs.Resolved.{structs_in}
 use Rattle.sharc_ctype_laws.specs.Constraints.{struct_named}
 use Rattle.sharc_meaning.specs.Cells.{field_place_behind}
-use Rattle.sharc_mode_laws.specs.Constructs.{IsExpression}
-use Rattle.sharc_mode_laws.specs.Paths.{IsMutexBehind}
+use Rattle.sharc_mode_laws.specs.{Constructs.IsExpression, Paths.IsMutexBehind}
 use Rattle.sharc_flat.specs.Scope.{Context}
 use Rattle.sharc_invariant.specs.Types.{MutexWord, cells_of, field_at}
-use Rattle.sharc_accepted_laws.specs.StaticLaws.{IsAccepted}
-use Rattle.sharc_accepted_laws.specs.Standing.{ExpressionsStand}
-use Rattle.sharc_accepted_laws.specs.Static.{variable_type}
-use Rattle.sharc_accepted_laws.specs.Targets.{targets_of}
-use Rattle.sharc_accepted_laws.specs.Joined.{PathLeads}
+use Rattle.sharc_accepted_laws.specs.{StaticLaws.IsAccepted, Standing.ExpressionsStand, Static.variable_type}
+use Rattle.sharc_accepted_laws.specs.{Targets.targets_of, Joined.PathLeads}
 
 -- in the table, behind the variable's type
 pub record IsMutexThere (c : Context) (x : ℕ) (name : List ℕ) : Type 0 where

@@ -1,18 +1,13 @@
 -- What pointers refer to, as the table has it, and what a cast to another mode leaves of it.
-use Rattle.std.specs.Prelude.{◌≡◌, ℕ, true, List, ◌∷◌, drop, map, Some, Contains}
-use Rattle.std.specs.List.{AllByRecursion}
+use Rattle.std.specs.{Prelude.{◌≡◌, ℕ, true, List, ◌∷◌, drop, map, Some, Contains}, List.AllByRecursion}
 use Rattle.sharc_names.specs.Kinds.{Kind, is_pointer, element_kind}
 use Rattle.sharc_ctype.specs.Resolved.{Resolution, structs_in}
-use Rattle.sharc_mode.specs.Cells.{pointed}
-use Rattle.sharc_mode.specs.Moded.{Assignment}
-use Rattle.sharc_mode.specs.Notes.{base_of}
-use Rattle.sharc_mode.specs.Rows.{Targets, modes_of}
+use Rattle.sharc_mode.specs.{Cells.pointed, Moded.Assignment, Notes.base_of, Rows.{Targets, modes_of}}
 use Rattle.sharc_mode.specs.Sharings.{Sharing, is_private, same_all}
 use Rattle.sharc_meaning.specs.Cells.{element_cells}
 use Rattle.sharc_flat.specs.Flattened.{layout_of}
 use Rattle.sharc_invariant.specs.Types.{FieldLock, OfType, OfGlobals, OfElement, Content, Pointer, cells_of, field_at, row_of}
-use Rattle.sharc_accepted_laws.specs.TargetLaws.{IsRowOf}
-use Rattle.sharc_accepted_laws.specs.Shapes.{form_of, row_shape, kind_of, shapes, number}
+use Rattle.sharc_accepted_laws.specs.{TargetLaws.IsRowOf, Shapes.{form_of, row_shape, kind_of, shapes, number}}
 use Rattle.sharc_accepted_laws.specs.Targets.{lock_count, type_locks, shape_fields, targets_of}
 
 -- the number of what a pointer of this type and row refers to

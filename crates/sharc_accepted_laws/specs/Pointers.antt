@@ -5,16 +5,12 @@ use Rattle.sharc_tree.specs.declared.tree.item.GlobalDefinition.{GlobalDefinitio
 use Rattle.sharc_names.specs.Kinds.{Kind, declared_kind, element_kind}
 use Rattle.sharc_names.specs.Kinds as kinds
 use Rattle.sharc_code.specs.Ranges.{IsInGlobal, first_place}
-use Rattle.sharc_ctype.specs.Globals.{elements_of}
-use Rattle.sharc_ctype.specs.Resolved.{global_at}
+use Rattle.sharc_ctype.specs.{Globals.elements_of, Resolved.global_at}
 use Rattle.sharc_flat.specs.Tables.{globals_of}
 use Rattle.sharc_invariant.specs.Types.{is_pointer, global_field, field_of_cell}
 use Rattle.sharc_meaning.specs.References.{is_pointer_in, is_pointer_of_global}
-use Rattle.sharc_mode.specs.Moded.{Assignment}
-use Rattle.sharc_mode.specs.Rows.{Targets}
-use Rattle.sharc_accepted_laws.specs.TargetLaws.{IsRowOf}
-use Rattle.sharc_accepted_laws.specs.Pointees.{pointee}
-use Rattle.sharc_accepted_laws.specs.Targets.{targets_of}
+use Rattle.sharc_mode.specs.{Moded.Assignment, Rows.Targets}
+use Rattle.sharc_accepted_laws.specs.{TargetLaws.IsRowOf, Pointees.pointee, Targets.targets_of}
 
 -- cell j of the globals, counted from the first of granule 1, is this cell of this global, which is a pointer in the source
 pub record IsPointerOfGlobal (m : Assignment) (j : ℕ) : Type 0 where

@@ -2,30 +2,19 @@
 use Rattle.std.specs.Prelude.{◌≡◌, ℕ, true, List, [], ◌∷◌, map, Option, Some, None, if◌then◌else◌}
 use Rattle.std.specs.List.{AllByRecursion}
 use Rattle.sharc_tree.specs.declared.tree.expression.Access.TheVariants.{Dot, Arrow}
-use Rattle.sharc_tree.specs.declared.tree.expression.UnaryOperator.TheVariants.{Dereference}
-use Rattle.sharc_tree.specs.Measures.{expressions}
+use Rattle.sharc_tree.specs.{declared.tree.expression.UnaryOperator.TheVariants.Dereference, Measures.expressions}
 use Rattle.sharc_tree.specs.Tree.{Expression, identifier, parentheses, index, field, unary}
-use Rattle.sharc_names.specs.declared.fault.Named.{Named}
+use Rattle.sharc_names.specs.{declared.fault.Named.Named, Kinds.is_array}
 use Rattle.sharc_names.specs.declared.fault.Named.TheVariants as named
-use Rattle.sharc_names.specs.Kinds.{is_array}
 use Rattle.sharc_ctype.specs.Resolved.{named_at, kind_at}
 use Rattle.sharc_meaning.specs.Cells.{field_place_named}
-use Rattle.sharc_mode.specs.Moded.{Assignment}
-use Rattle.sharc_mode.specs.Rows.{written, constant_use, named_row, modes_of, modes_at}
+use Rattle.sharc_mode.specs.{Moded.Assignment, Rows.{written, constant_use, named_row, modes_of, modes_at}}
 use Rattle.sharc_mode.specs.Sharings.{Sharing}
 use Rattle.sharc_mode_laws.specs.Constructs.{IsExpression}
-use Rattle.sharc_flat.specs.Places.{target, cell_of}
-use Rattle.sharc_flat.specs.Scope.{Context}
-use Rattle.sharc_flat.specs.Suits.{Either, is_cell}
-use Rattle.sharc_flat.specs.Tables.{globals_of}
-use Rattle.sharc_invariant.specs.Types.{FieldLock}
-use Rattle.sharc_invariant.specs.Labels.{Refers, Label, SameReference}
-use Rattle.sharc_invariant.specs.Typed.{AreFieldLocks}
-use Rattle.sharc_accepted_laws.specs.Held.{is_held}
-use Rattle.sharc_accepted_laws.specs.StaticLaws.{IsAccepted}
-use Rattle.sharc_accepted_laws.specs.Static.{register, locks_at, static_of}
-use Rattle.sharc_accepted_laws.specs.Shapes.{Form, form_of}
-use Rattle.sharc_accepted_laws.specs.Targets.{field_locks, type_locks, lock_count}
+use Rattle.sharc_flat.specs.{Places.{target, cell_of}, Scope.Context, Suits.{Either, is_cell}, Tables.globals_of}
+use Rattle.sharc_invariant.specs.{Types.FieldLock, Labels.{Refers, Label, SameReference}, Typed.AreFieldLocks}
+use Rattle.sharc_accepted_laws.specs.{Held.is_held, StaticLaws.IsAccepted, Static.{register, locks_at, static_of}}
+use Rattle.sharc_accepted_laws.specs.{Shapes.{Form, form_of}, Targets.{field_locks, type_locks, lock_count}}
 
 -- ---- the locks in the table
 -- of what an element refers to, of which these are the forms from its own on

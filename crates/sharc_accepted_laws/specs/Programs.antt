@@ -1,26 +1,18 @@
 -- Programs that are accepted: they are typable where their expressions are, and their code has what sharc_typed_laws asks of it.
 use Rattle.std.specs.Prelude.{ℕ, ◌≡◌, Bool, pos, length, Some}
-use Rattle.sharc_tree.specs.declared.token.Number.{Number}
-use Rattle.sharc_tree.specs.declared.token.Span.{Span}
-use Rattle.sharc_tree.specs.declared.tree.expression.Constant.TheVariants as constants
+use Rattle.sharc_tree.specs.{declared.token.Number.Number, declared.token.Span.Span}
 use Rattle.sharc_tree.specs.declared.tree.item.GlobalDefinition.{GlobalDefinition}
-use Rattle.sharc_tree.specs.declared.tree.item.GlobalForm.TheVariants.{Initial}
-use Rattle.sharc_tree.specs.Tree.{Function}
+use Rattle.sharc_tree.specs.{declared.tree.item.GlobalForm.TheVariants.Initial, Tree.Function}
+use Rattle.sharc_tree.specs.declared.tree.expression.Constant.TheVariants as constants
 use Rattle.sharc_code.specs.declared.code.Code.{Code}
 use Rattle.sharc_ctype.specs.Resolved.{Resolution, global_at}
-use Rattle.sharc_flat.specs.Scope.{Context}
+use Rattle.sharc_flat.specs.{Scope.Context, Flattens.Flattens, Tables.globals_of}
 use Rattle.sharc_mode.specs.Moded.{Assignment}
-use Rattle.sharc_flat_form.specs.declared.flat.Flat.{Flat as FlatCode}
-use Rattle.sharc_flat_form.specs.Made.{flat_of}
-use Rattle.sharc_flat.specs.Flattens.{Flattens}
-use Rattle.sharc_flat.specs.Tables.{globals_of}
+use Rattle.sharc_flat_form.specs.{declared.flat.Flat.{Flat as FlatCode}, Made.flat_of}
 use Rattle.sharc_compile.specs.Made.{IsCodeOf}
 use Rattle.sharc_typed_laws.specs.Programs.{IsSettingOf, TypableProgram}
-use Rattle.sharc_accepted_laws.specs.StaticLaws.{IsAccepted}
-use Rattle.sharc_accepted_laws.specs.Typing.{typing}
-use Rattle.sharc_accepted_laws.specs.Setting.{ConstantsHold, IsSet, setting_of}
-use Rattle.sharc_accepted_laws.specs.Statements.{IsPlaceIn}
-use Rattle.sharc_accepted_laws.specs.Expressions.{CellsTyped}
+use Rattle.sharc_accepted_laws.specs.{StaticLaws.IsAccepted, Typing.typing, Setting.{ConstantsHold, IsSet, setting_of}}
+use Rattle.sharc_accepted_laws.specs.{Statements.IsPlaceIn, Expressions.CellsTyped}
 
 -- ---- functions
 -- in this setting the cells of each function are accessed as their types say, wherever its variables stand

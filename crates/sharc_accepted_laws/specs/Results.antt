@@ -1,17 +1,13 @@
 -- The types of results: their lock paths name global mutexes, so they are the same in each frame.
 use Rattle.std.specs.Prelude.{◌≡◌, ℕ, List, Some}
-use Rattle.sharc_tree.specs.declared.token.Span.{Span}
-use Rattle.sharc_tree.specs.declared.tree.declaration.Identifier.{Identifier}
+use Rattle.sharc_tree.specs.{declared.token.Span.Span, declared.tree.declaration.Identifier.Identifier}
 use Rattle.sharc_tree.specs.Tree.{Arguments, Function, call}
 use Rattle.sharc_names.specs.declared.fault.Named.TheVariants as named
 use Rattle.sharc_ctype.specs.Resolved.{named_at, function_at}
 use Rattle.sharc_mode_laws.specs.Constructs.{IsFunction}
-use Rattle.sharc_flat.specs.declared.slot.Slot.{Slot}
-use Rattle.sharc_flat.specs.Scope.{Context}
-use Rattle.sharc_invariant.specs.Types.{Mentions}
-use Rattle.sharc_invariant.specs.Labels.{Refers}
-use Rattle.sharc_accepted_laws.specs.StaticLaws.{IsAccepted}
-use Rattle.sharc_accepted_laws.specs.Static.{result_type, entry_of}
+use Rattle.sharc_flat.specs.{declared.slot.Slot.Slot, Scope.Context}
+use Rattle.sharc_invariant.specs.{Types.Mentions, Labels.Refers}
+use Rattle.sharc_accepted_laws.specs.{StaticLaws.IsAccepted, Static.{result_type, entry_of}}
 
 -- with these variables
 abbrev pub where_stand : Context → List Slot → Context

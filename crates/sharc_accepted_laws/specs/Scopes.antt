@@ -1,15 +1,9 @@
 -- The variables that stand: where their registers are, and that the type of each names those alone that stand before it.
-use Rattle.std.specs.Prelude.{◌≡◌, ℕ, ◌<◌, ◌≤◌, true, List, [], ◌∷◌, ◌++◌, Some, slice_get}
-use Rattle.std.specs.List.{AllByRecursion}
+use Rattle.std.specs.{Prelude.{◌≡◌, ℕ, ◌<◌, ◌≤◌, true, List, [], ◌∷◌, ◌++◌, Some, slice_get}, List.AllByRecursion}
 use Rattle.sharc_names.specs.Kinds.{Kind}
-use Rattle.sharc_mode.specs.Moded.{Assignment}
-use Rattle.sharc_mode.specs.Rows.{written, declared_row, modes_of}
-use Rattle.sharc_mode.specs.Sharings.{Sharing}
-use Rattle.sharc_flat.specs.declared.slot.Slot.{Slot}
-use Rattle.sharc_flat.specs.Scope.{Context, slot_kind, ref_count}
-use Rattle.sharc_flat.specs.Suits.{PathStands}
-use Rattle.sharc_invariant.specs.Types.{Mentions}
-use Rattle.sharc_invariant.specs.Labels.{Empty, Refers, EntryMentions}
+use Rattle.sharc_mode.specs.{Moded.Assignment, Rows.{written, declared_row, modes_of}, Sharings.Sharing}
+use Rattle.sharc_flat.specs.{declared.slot.Slot.Slot, Scope.{Context, slot_kind, ref_count}, Suits.PathStands}
+use Rattle.sharc_invariant.specs.{Types.Mentions, Labels.{Empty, Refers, EntryMentions}}
 use Rattle.sharc_accepted_laws.specs.Static.{register, static_of, variable_type, pointers, variable_entry}
 
 -- the variables of the lock paths of these modes are among these

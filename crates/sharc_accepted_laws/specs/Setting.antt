@@ -1,37 +1,23 @@
 -- The code of an accepted program, as its types have it: the targets of its references, the signatures of its functions, and with which of them a thread begins.
 use Rattle.std.specs.Prelude.{ℕ, ◌≡◌, ◌<◌, ◌==◌, Bool, true, false, ◌||◌, nat_lt, List, length, Option, Some, None, codes, if◌then◌else◌}
-use Rattle.std.specs.List.{list_any}
-use Rattle.std.specs.Str.{bytes_eq}
-use Rattle.sharc_tree.specs.Measures.{in_function as expressions_of}
-use Rattle.sharc_tree.specs.Tree.{constant, Function}
-use Rattle.sharc_tree.specs.declared.token.Span.{Span}
-use Rattle.sharc_tree.specs.declared.tree.expression.Constant.{Constant}
-use Rattle.sharc_names.specs.declared.fault.Named.{Named}
+use Rattle.std.specs.{List.list_any, Str.bytes_eq}
+use Rattle.sharc_tree.specs.{Measures.{in_function as expressions_of}, Tree.{constant, Function}}
+use Rattle.sharc_tree.specs.{declared.token.Span.Span, declared.tree.expression.Constant.Constant}
+use Rattle.sharc_names.specs.{declared.fault.Named.Named, Kinds.declared_kind}
 use Rattle.sharc_names.specs.declared.fault.Named.TheVariants as named
-use Rattle.sharc_names.specs.Kinds.{declared_kind}
-use Rattle.sharc_code.specs.Arithmetic.{holds}
-use Rattle.sharc_code.specs.declared.code.Code.{Code}
-use Rattle.sharc_code.specs.declared.code.GlobalCells.{GlobalCells}
+use Rattle.sharc_code.specs.{Arithmetic.holds, declared.code.Code.Code, declared.code.GlobalCells.GlobalCells}
 use Rattle.sharc_code.specs.Machine.{function_of}
-use Rattle.sharc_ctype.specs.Expressions.{constant_kind}
-use Rattle.sharc_ctype.specs.Reaches.{spawns, of_all}
+use Rattle.sharc_ctype.specs.{Expressions.constant_kind, Reaches.{spawns, of_all}}
 use Rattle.sharc_ctype.specs.Resolved.{Resolution, named_at, functions_in, function_at}
 use Rattle.sharc_mode.specs.Moded.{Assignment}
 use Rattle.sharc_mode_laws.specs.Constructs.{IsExpression}
-use Rattle.sharc_meaning.specs.Reference.{constant_value}
-use Rattle.sharc_meaning.specs.State.{is_reference}
-use Rattle.sharc_flat.specs.Flattened.{in_function, parameter_of}
-use Rattle.sharc_flat.specs.Places.{width_of}
-use Rattle.sharc_flat.specs.Scope.{Context, int_count}
+use Rattle.sharc_meaning.specs.{Reference.constant_value, State.is_reference}
+use Rattle.sharc_flat.specs.{Flattened.{in_function, parameter_of}, Places.width_of, Scope.{Context, int_count}}
 use Rattle.sharc_flat.specs.Tables.{globals_of}
 use Rattle.sharc_invariant.specs.Labels.{Empty, Refers, Anything, Within, Signature}
 use Rattle.sharc_typed_laws.specs.Stretches.{Setting}
-use Rattle.sharc_accepted_laws.specs.Alone.{AreAlone}
-use Rattle.sharc_accepted_laws.specs.StaticLaws.{IsAccepted}
-use Rattle.sharc_accepted_laws.specs.Static.{variable_entry, result_type}
-use Rattle.sharc_accepted_laws.specs.TargetLaws.{HasTables}
-use Rattle.sharc_accepted_laws.specs.Targets.{targets_of}
-use Rattle.sharc_accepted_laws.specs.Typing.{typing}
+use Rattle.sharc_accepted_laws.specs.{Alone.AreAlone, StaticLaws.IsAccepted, Static.{variable_entry, result_type}}
+use Rattle.sharc_accepted_laws.specs.{TargetLaws.HasTables, Targets.targets_of, Typing.typing}
 
 -- ---- signatures
 -- Of a function with these parameters in scope: it takes what its parameters hold, and gives a reference of its result's type, or an integer that its result's type holds.

@@ -1,16 +1,11 @@
 -- Shapes: what an element is and what its pointers lead to in turn, with the kinds of the modes and without the locks that they name. The table of targets
 -- has a row for each shape.
 use Rattle.std.specs.Prelude.{ℕ, ◌+◌, ◌-◌, Bool, true, false, ◌&&◌, List, [], ◌∷◌, ◌++◌, length, map, Some, if◌then◌else◌, codes}
-use Rattle.sharc_tree.specs.declared.ctype.Base.{Base}
+use Rattle.sharc_tree.specs.{declared.ctype.Base.Base, Tree.Expression}
 use Rattle.sharc_tree.specs.declared.ctype.Base.TheVariants as base
-use Rattle.sharc_tree.specs.Tree.{Expression}
 use Rattle.sharc_names.specs.Kinds.{Kind, object, array, null, function, same_base}
-use Rattle.sharc_ctype.specs.declared.entity.Numbered.{Numbered}
-use Rattle.sharc_ctype.specs.Entities.{entities_in, numbered}
-use Rattle.sharc_ctype.specs.Resolved.{kind_at}
-use Rattle.sharc_mode.specs.Moded.{Assignment}
-use Rattle.sharc_mode.specs.Notes.{base_of}
-use Rattle.sharc_mode.specs.Rows.{Targets, written, entity_row, modes_of}
+use Rattle.sharc_ctype.specs.{declared.entity.Numbered.Numbered, Entities.{entities_in, numbered}, Resolved.kind_at}
+use Rattle.sharc_mode.specs.{Moded.Assignment, Notes.base_of, Rows.{Targets, written, entity_row, modes_of}}
 use Rattle.sharc_mode.specs.Sharings.{Sharing, private, readonly, locked, racy, dynamic}
 
 -- a mode without its lock path

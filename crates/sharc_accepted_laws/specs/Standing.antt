@@ -1,18 +1,14 @@
 -- The lock paths of types lead through pointers that stand: of the type of each expression and each local of a function, in the variables that stand there as flat
 -- code has them.
-use Rattle.std.specs.Prelude.{List}
-use Rattle.std.specs.List.{AllByRecursion}
+use Rattle.std.specs.{Prelude.List, List.AllByRecursion}
 use Rattle.sharc_tree.specs.Measures.{expressions, in_option, in_simple, in_local}
 use Rattle.sharc_tree.specs.Tree.{Expression, Local, First, nothing, declares, does, Statement, empty, block, declare, simple, jump, return, if_then, if_then_else, while, for, Statements, no_statements, statement, Function}
 use Rattle.sharc_code.specs.declared.code.GlobalCells.{GlobalCells}
-use Rattle.sharc_mode.specs.Moded.{Assignment}
-use Rattle.sharc_mode.specs.Rows.{modes_at}
+use Rattle.sharc_mode.specs.{Moded.Assignment, Rows.modes_at}
 use Rattle.sharc_mode_laws.specs.Constructs.{IsFunction}
 use Rattle.sharc_flat.specs.Flattened.{with_variable, behind_first, behind_statement, parameters_scope, in_function}
-use Rattle.sharc_flat.specs.Scope.{Context}
-use Rattle.sharc_flat.specs.Suits.{IfThere}
-use Rattle.sharc_accepted_laws.specs.StaticLaws.{IsAccepted}
-use Rattle.sharc_accepted_laws.specs.Scopes.{AllStand, DeclaredStands, IsClosedScope}
+use Rattle.sharc_flat.specs.{Scope.Context, Suits.IfThere}
+use Rattle.sharc_accepted_laws.specs.{StaticLaws.IsAccepted, Scopes.{AllStand, DeclaredStands, IsClosedScope}}
 
 -- those of the type of an expression
 abbrev pub ExpressionStands : Context → Expression → Type 0

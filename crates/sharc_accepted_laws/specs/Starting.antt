@@ -4,16 +4,12 @@ use Rattle.sharc_tree.specs.Tree.{Function}
 use Rattle.sharc_names.specs.Kinds.{declared_kind}
 use Rattle.sharc_code.specs.declared.code.GlobalCells.{GlobalCells}
 use Rattle.sharc_code.specs.declared.code.Parameter.TheVariants as parameters
-use Rattle.sharc_ctype.specs.Reaches.{Spawns}
-use Rattle.sharc_ctype.specs.Resolved.{function_at}
+use Rattle.sharc_ctype.specs.{Reaches.Spawns, Resolved.function_at}
 use Rattle.sharc_meaning.specs.State.{is_reference}
 use Rattle.sharc_mode.specs.Moded.{Assignment}
 use Rattle.sharc_flat.specs.Flattened.{parameters_scope, parameter_of, in_function}
-use Rattle.sharc_invariant.specs.Labels.{Empty, EntryMentions}
-use Rattle.sharc_invariant.specs.Typed.{IsShared}
-use Rattle.sharc_accepted_laws.specs.StaticLaws.{IsAccepted}
-use Rattle.sharc_accepted_laws.specs.Scopes.{IsClosedScope}
-use Rattle.sharc_accepted_laws.specs.Static.{variable_entry}
+use Rattle.sharc_invariant.specs.{Labels.{Empty, EntryMentions}, Typed.IsShared}
+use Rattle.sharc_accepted_laws.specs.{StaticLaws.IsAccepted, Scopes.IsClosedScope, Static.variable_entry}
 use Rattle.sharc_accepted_laws.specs.Targets.{targets_of}
 
 -- what the registers of such a function hold at its entry

@@ -1,22 +1,13 @@
 -- Where the parts of a function of an accepted program stand, and what its statements ask of its expressions.
-use Rattle.std.specs.Prelude.{ℕ, ◌≡◌, Bool, true, Some, None, Contains}
-use Rattle.std.specs.List.{AllByRecursion}
-use Rattle.sharc_tree.specs.Forms.{is_lvalue}
-use Rattle.sharc_tree.specs.Measures.{expressions, in_function}
-use Rattle.sharc_tree.specs.Tree.{Expression, Right, Function}
+use Rattle.std.specs.{Prelude.{ℕ, ◌≡◌, Bool, true, Some, None, Contains}, List.AllByRecursion}
+use Rattle.sharc_tree.specs.{Forms.is_lvalue, Measures.{expressions, in_function}, Tree.{Expression, Right, Function}}
 use Rattle.sharc_ctype.specs.Resolved.{function_at}
 use Rattle.sharc_ctype_laws.specs.Rules.{IsHeld}
 use Rattle.sharc_mode_laws.specs.Constructs.{IsAssigned}
-use Rattle.sharc_flat.specs.Flattened.{kind_of, is_ref, target_of, guard_of}
-use Rattle.sharc_flat.specs.Scope.{Context}
+use Rattle.sharc_flat.specs.{Flattened.{kind_of, is_ref, target_of, guard_of}, Scope.Context}
 use Rattle.sharc_flat.specs.Suits.{Suits, PlaceSuits, IsScalar, is_cell}
-use Rattle.sharc_typed_laws.specs.Stated.{CellAssigned}
-use Rattle.sharc_typed_laws.specs.Stretches.{Setting}
-use Rattle.sharc_typed_laws.specs.Typable.{type_by, IsTypable, IsPlaceTypable}
-use Rattle.sharc_accepted_laws.specs.Scopes.{IsClosedScope}
-use Rattle.sharc_accepted_laws.specs.Standing.{ExpressionsStand}
-use Rattle.sharc_accepted_laws.specs.Static.{entry_of}
-use Rattle.sharc_accepted_laws.specs.Typing.{typing}
+use Rattle.sharc_typed_laws.specs.{Stated.CellAssigned, Stretches.Setting, Typable.{type_by, IsTypable, IsPlaceTypable}}
+use Rattle.sharc_accepted_laws.specs.{Scopes.IsClosedScope, Standing.ExpressionsStand, Static.entry_of, Typing.typing}
 use Rattle.sharc_accepted_laws.specs.Setting.{setting_of, IsSet}
 
 -- ---- where parts of a function stand

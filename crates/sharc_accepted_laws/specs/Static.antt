@@ -1,20 +1,16 @@
 -- The types of references at a place of the source, as the flat code there has them: which target, and by which registers and cells its lock paths lead to mutexes.
 use Rattle.std.specs.Prelude.{◌≡◌, ◌⊎◌, ℕ, ◌-◌, List, [], ◌∷◌, slice_get, Option, Some, None, if◌then◌else◌}
-use Rattle.sharc_names.specs.declared.fault.Named.{Named}
+use Rattle.sharc_names.specs.{declared.fault.Named.Named, Kinds.{Kind, declared_kind}}
 use Rattle.sharc_names.specs.declared.fault.Named.TheVariants as named
-use Rattle.sharc_names.specs.Kinds.{Kind, declared_kind}
 use Rattle.sharc_tree.specs.Tree.{Expression, Function}
 use Rattle.sharc_ctype.specs.Resolved.{named_at, declaration_at, variable_kind, kind_at}
 use Rattle.sharc_meaning.specs.Cells.{field_place_behind}
-use Rattle.sharc_mode.specs.Notes.{base_of}
-use Rattle.sharc_mode.specs.Rows.{written, declared_row, modes_of, modes_at}
+use Rattle.sharc_mode.specs.{Notes.base_of, Rows.{written, declared_row, modes_of, modes_at}}
 use Rattle.sharc_mode.specs.Sharings.{Lock, Sharing, private, readonly, locked, racy, dynamic}
 use Rattle.sharc_flat_form.specs.Machine.{first_cell}
-use Rattle.sharc_flat.specs.declared.slot.Slot.{Slot}
-use Rattle.sharc_flat.specs.Scope.{Context, register_of, number_in}
+use Rattle.sharc_flat.specs.{declared.slot.Slot.Slot, Scope.{Context, register_of, number_in}}
 use Rattle.sharc_accepted_laws.specs.Shapes.{shape_of, number}
-use Rattle.sharc_invariant.specs.Types.{Lock as TypeLock, StaticType}
-use Rattle.sharc_invariant.specs.Types.Lock.{Global, Through}
+use Rattle.sharc_invariant.specs.{Types.{Lock as TypeLock, StaticType}, Types.Lock.{Global, Through}}
 use Rattle.sharc_invariant.specs.Labels.{Entry, Empty, Refers}
 
 -- ---- locks

@@ -1,15 +1,9 @@
 -- What holds of the types of references in a program that is typed and in which no mode is wrong.
 use Rattle.std.specs.Prelude.{◌≡◌, true, List, Some, Contains}
-use Rattle.sharc_tree.specs.Low.{IsLow}
-use Rattle.sharc_tree.specs.Placed.{IsPlaced}
-use Rattle.sharc_tree.specs.Tree.{Expression, value, Local, Function}
+use Rattle.sharc_tree.specs.{Low.IsLow, Placed.IsPlaced, Tree.{Expression, value, Local, Function}}
 use Rattle.sharc_names.specs.Kinds.{is_pointer, declared_kind}
-use Rattle.sharc_ctype.specs.Resolved.{IsResolved, kind_at}
-use Rattle.sharc_ctype.specs.Transfers.{result, function_transfers}
-use Rattle.sharc_mode.specs.Flows.{IsLeastAssignment}
-use Rattle.sharc_mode.specs.Moded.{Assignment}
-use Rattle.sharc_mode.specs.Rows.{modes_at}
-use Rattle.sharc_mode.specs.Sharings.{Sharing}
+use Rattle.sharc_ctype.specs.{Resolved.{IsResolved, kind_at}, Transfers.{result, function_transfers}}
+use Rattle.sharc_mode.specs.{Flows.IsLeastAssignment, Moded.Assignment, Rows.modes_at, Sharings.Sharing}
 use Rattle.sharc_mode.specs.WellModed.{WellModed}
 use Rattle.sharc_mode_laws.specs.Constructs.{IsFunction, IsAssigned, locals_in_all}
 use Rattle.sharc_flat.specs.Scope.{Context}

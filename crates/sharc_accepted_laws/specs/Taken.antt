@@ -1,24 +1,16 @@
 -- What lock paths name is not taken away: so nothing names the register of a variable whose reference SCAST or `free` takes.
-use Rattle.std.specs.Prelude.{◌≡◌, ℕ, true, List, Some}
-use Rattle.std.specs.List.{AllByRecursion}
-use Rattle.sharc_tree.specs.declared.token.Span.{Span}
-use Rattle.sharc_tree.specs.declared.tree.declaration.Identifier.{Identifier}
-use Rattle.sharc_tree.specs.Forms.{without_parentheses}
-use Rattle.sharc_tree.specs.Measures.{expressions}
-use Rattle.sharc_tree.specs.Tree.{Expression, identifier}
+use Rattle.std.specs.{Prelude.{◌≡◌, ℕ, true, List, Some}, List.AllByRecursion}
+use Rattle.sharc_tree.specs.{declared.token.Span.Span, declared.tree.declaration.Identifier.Identifier}
+use Rattle.sharc_tree.specs.{Forms.without_parentheses, Measures.expressions, Tree.{Expression, identifier}}
 use Rattle.sharc_names.specs.declared.fault.Named.TheVariants as named
 use Rattle.sharc_names.specs.Kinds.{Kind}
 use Rattle.sharc_ctype.specs.Resolved.{named_at}
-use Rattle.sharc_mode.specs.Moded.{Assignment}
-use Rattle.sharc_mode.specs.Rows.{written, declared_row, modes_of, modes_at}
+use Rattle.sharc_mode.specs.{Moded.Assignment, Rows.{written, declared_row, modes_of, modes_at}}
 use Rattle.sharc_mode.specs.Sharings.{Lock, Sharing, locked, object_of}
-use Rattle.sharc_mode_laws.specs.Constructs.{IsExpression, IsTaken}
-use Rattle.sharc_mode_laws.specs.Paths.{IsNamedByPath}
+use Rattle.sharc_mode_laws.specs.{Constructs.{IsExpression, IsTaken}, Paths.IsNamedByPath}
 use Rattle.sharc_flat.specs.Scope.{Context, slot_kind}
 use Rattle.sharc_invariant.specs.Types.{Mentions}
-use Rattle.sharc_accepted_laws.specs.Static.{register, static_of}
-use Rattle.sharc_accepted_laws.specs.Scopes.{AllStand}
-use Rattle.sharc_accepted_laws.specs.StaticLaws.{IsAccepted}
+use Rattle.sharc_accepted_laws.specs.{Static.{register, static_of}, Scopes.AllStand, StaticLaws.IsAccepted}
 
 -- what the lock path of a mode names, a variable or a global, is one that some lock path of the program names
 abbrev pub IsNamed : Assignment → Sharing → Type 0

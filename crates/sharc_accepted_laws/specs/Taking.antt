@@ -1,9 +1,7 @@
 -- What SCAST and `free` take, and what a cast gives.
 use Rattle.std.specs.Prelude.{◌≡◌, ℕ, true, Some, None}
-use Rattle.sharc_tree.specs.declared.token.Span.{Span}
-use Rattle.sharc_tree.specs.declared.tree.declaration.Identifier.{Identifier}
-use Rattle.sharc_tree.specs.declared.tree.declaration.WrittenType.{WrittenType}
-use Rattle.sharc_tree.specs.Forms.{without_parentheses}
+use Rattle.sharc_tree.specs.{declared.token.Span.Span, declared.tree.declaration.Identifier.Identifier}
+use Rattle.sharc_tree.specs.{declared.tree.declaration.WrittenType.WrittenType, Forms.without_parentheses}
 use Rattle.sharc_tree.specs.Tree.{Expression, identifier, cast}
 use Rattle.sharc_names.specs.declared.fault.Named.TheVariants as named
 use Rattle.sharc_names.specs.Kinds.{is_pointer}
@@ -11,17 +9,10 @@ use Rattle.sharc_code.specs.declared.code.Use.{Use}
 use Rattle.sharc_code.specs.declared.code.Use.TheVariants as uses
 use Rattle.sharc_ctype.specs.Resolved.{named_at}
 use Rattle.sharc_mode_laws.specs.Constructs.{IsTaken}
-use Rattle.sharc_flat.specs.Flattened.{kind_of, target_of}
-use Rattle.sharc_flat.specs.Scope.{Context, slot_kind}
-use Rattle.sharc_accepted_laws.specs.StaticLaws.{IsAccepted}
-use Rattle.sharc_accepted_laws.specs.Standing.{ExpressionStands}
-use Rattle.sharc_accepted_laws.specs.Static.{entry_of}
-use Rattle.sharc_accepted_laws.specs.TargetLaws.{HasTables}
-use Rattle.sharc_accepted_laws.specs.Targets.{targets_of}
-use Rattle.sharc_typed_laws.specs.Stretches.{Setting}
-use Rattle.sharc_typed_laws.specs.Typable.{type_by, Takes, CastTyped, FreeTyped}
-use Rattle.sharc_accepted_laws.specs.TypableLaws.{IsAt}
-use Rattle.sharc_accepted_laws.specs.Typing.{typing}
+use Rattle.sharc_flat.specs.{Flattened.{kind_of, target_of}, Scope.{Context, slot_kind}}
+use Rattle.sharc_accepted_laws.specs.{StaticLaws.IsAccepted, Standing.ExpressionStands, Static.entry_of}
+use Rattle.sharc_accepted_laws.specs.{TargetLaws.HasTables, Targets.targets_of, TypableLaws.IsAt, Typing.typing}
+use Rattle.sharc_typed_laws.specs.{Stretches.Setting, Typable.{type_by, Takes, CastTyped, FreeTyped}}
 
 -- a variable that is taken is no constant, and has the type of the expression
 abbrev pub VariablesAreTaken : Type 0

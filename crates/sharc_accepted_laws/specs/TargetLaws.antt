@@ -1,30 +1,22 @@
 -- What the table of targets is to those who type code by it.
 use Rattle.std.specs.Prelude.{◌≡◌, ℕ, pos, ◌+◌, ◌-◌, ◌*◌, ◌^◌, ◌<◌, ◌≤◌, List, ◌∷◌, length, Some, slice_index, slice_index_or, slice_get, unsigned_abs, Contains}
 use Rattle.std.specs.List.{AllByRecursion}
-use Rattle.sharc_tree.specs.declared.ctype.Base.{Base}
-use Rattle.sharc_tree.specs.declared.ctype.Base.TheVariants as base
-use Rattle.sharc_tree.specs.declared.tree.declaration.Declaration.{Declaration}
+use Rattle.sharc_tree.specs.{declared.ctype.Base.Base, declared.tree.declaration.Declaration.Declaration}
 use Rattle.sharc_tree.specs.declared.tree.expression.Constant.{Constant}
-use Rattle.sharc_tree.specs.declared.tree.expression.Constant.TheVariants as constants
 use Rattle.sharc_tree.specs.declared.tree.item.GlobalDefinition.{GlobalDefinition}
 use Rattle.sharc_tree.specs.declared.tree.item.GlobalForm.{GlobalForm}
-use Rattle.sharc_tree.specs.declared.tree.item.GlobalForm.TheVariants as forms
-use Rattle.sharc_tree.specs.declared.tree.item.StructDefinition.{StructDefinition}
-use Rattle.sharc_tree.specs.Low.{IsLow}
-use Rattle.sharc_tree.specs.Placed.{IsPlaced}
+use Rattle.sharc_tree.specs.{declared.tree.item.StructDefinition.StructDefinition, Low.IsLow, Placed.IsPlaced}
 use Rattle.sharc_tree.specs.Tree.{Expression, Function}
+use Rattle.sharc_tree.specs.declared.ctype.Base.TheVariants as base
+use Rattle.sharc_tree.specs.declared.tree.expression.Constant.TheVariants as constants
+use Rattle.sharc_tree.specs.declared.tree.item.GlobalForm.TheVariants as forms
 use Rattle.sharc_names.specs.Kinds.{Kind, declared_kind}
-use Rattle.sharc_code.specs.declared.code.Code.{Code}
-use Rattle.sharc_code.specs.Ranges.{GlobalsFit}
-use Rattle.sharc_ctype.specs.Globals.{elements_of}
-use Rattle.sharc_ctype.specs.Items.{IsTyped}
+use Rattle.sharc_code.specs.{declared.code.Code.Code, Ranges.GlobalsFit}
+use Rattle.sharc_ctype.specs.{Globals.elements_of, Items.IsTyped}
 use Rattle.sharc_ctype.specs.Resolved.{IsResolved, declaration_at, kind_at, structs_in, globals_in, functions_in}
 use Rattle.sharc_ctype_laws.specs.Constraints.{struct_named}
-use Rattle.sharc_mode.specs.Flows.{IsLeastAssignment}
-use Rattle.sharc_mode.specs.Moded.{Assignment, position_count}
-use Rattle.sharc_mode.specs.Notes.{base_of}
-use Rattle.sharc_mode.specs.Rows.{Reading, written, Targets, declared_row, row_at}
-use Rattle.sharc_mode.specs.WellModed.{WellModed}
+use Rattle.sharc_mode.specs.{Flows.IsLeastAssignment, Moded.{Assignment, position_count}, Notes.base_of}
+use Rattle.sharc_mode.specs.{Rows.{Reading, written, Targets, declared_row, row_at}, WellModed.WellModed}
 use Rattle.sharc_mode_laws.specs.Constructs.{IsExpression}
 use Rattle.sharc_meaning.specs.Cells.{element_cells, field_place}
 use Rattle.sharc_flat_form.specs.Machine.{first_cell}

@@ -1,32 +1,24 @@
 -- The table of targets of a program: a row for each shape, and the cells of its globals.
 use Rattle.std.specs.Prelude.{ℕ, zero, suc, ◌+◌, ◌-◌, ◌*◌, Bool, true, false, List, [], ◌∷◌, ◌++◌, map, replicate, Option, None, Some, if◌then◌else◌}
-use Rattle.std.specs.List.{list_any}
-use Rattle.std.specs.Str.{bytes_eq}
-use Rattle.sharc_tree.specs.declared.ctype.Base.{Base}
-use Rattle.sharc_tree.specs.declared.ctype.Base.TheVariants as base
-use Rattle.sharc_tree.specs.declared.ctype.Mode.{Mode}
-use Rattle.sharc_tree.specs.declared.ctype.Mode.TheVariants as mode
+use Rattle.std.specs.{List.list_any, Str.bytes_eq}
+use Rattle.sharc_tree.specs.{declared.ctype.Base.Base, declared.ctype.Mode.Mode}
 use Rattle.sharc_tree.specs.declared.tree.declaration.Declaration.{Declaration}
 use Rattle.sharc_tree.specs.declared.tree.declaration.WrittenType.{WrittenType}
 use Rattle.sharc_tree.specs.declared.tree.item.GlobalDefinition.{GlobalDefinition}
 use Rattle.sharc_tree.specs.declared.tree.item.StructDefinition.{StructDefinition}
-use Rattle.sharc_names.specs.declared.fault.Named.{Named}
+use Rattle.sharc_tree.specs.declared.ctype.Base.TheVariants as base
+use Rattle.sharc_tree.specs.declared.ctype.Mode.TheVariants as mode
+use Rattle.sharc_names.specs.{declared.fault.Named.Named, Kinds.{is_pointer, declared_kind}}
 use Rattle.sharc_names.specs.declared.fault.Named.TheVariants as named
-use Rattle.sharc_names.specs.Kinds.{is_pointer, declared_kind}
-use Rattle.sharc_ctype.specs.Globals.{elements_of}
-use Rattle.sharc_ctype.specs.Entities.{entity_at}
+use Rattle.sharc_ctype.specs.{Globals.elements_of, Entities.entity_at}
 use Rattle.sharc_ctype.specs.Resolved.{Resolution, named_at, structs_in, globals_in}
-use Rattle.sharc_mode.specs.Cells.{is_mutex_kind, is_behind_pointer, top_of, first_mode}
-use Rattle.sharc_mode.specs.Moded.{Assignment}
+use Rattle.sharc_mode.specs.{Cells.{is_mutex_kind, is_behind_pointer, top_of, first_mode}, Moded.Assignment}
 use Rattle.sharc_mode.specs.Rows.{written, declared_row, modes_of}
 use Rattle.sharc_mode.specs.Sharings.{Lock, Sharing, private, readonly, locked, racy, dynamic, lock_of}
-use Rattle.sharc_meaning.specs.Cells.{field_place, field_place_named}
-use Rattle.sharc_meaning.specs.References.{is_pointer_in, types_made}
+use Rattle.sharc_meaning.specs.{Cells.{field_place, field_place_named}, References.{is_pointer_in, types_made}}
 use Rattle.sharc_flat_form.specs.Machine.{first_cell}
-use Rattle.sharc_flat.specs.Places.{base_as_width}
-use Rattle.sharc_flat.specs.Tables.{cells_in, granules_in, globals_of}
-use Rattle.sharc_invariant.specs.Types.{FieldLock, OfType, OfGlobals, OfElement, FieldMode, Under, Content, Integer, MutexWord, Waiters, Pointer, Field, Target, Targets, no_field, no_target}
-use Rattle.sharc_invariant.specs.Types.{FieldMode as own}
+use Rattle.sharc_flat.specs.{Places.base_as_width, Tables.{cells_in, granules_in, globals_of}}
+use Rattle.sharc_invariant.specs.Types.{FieldLock, OfType, OfGlobals, OfElement, FieldMode, Under, Content, Integer, MutexWord, Waiters, Pointer, Field, Target, Targets, no_field, no_target, FieldMode as own}
 use Rattle.sharc_accepted_laws.specs.Shapes.{Form, private_form, readonly_form, locked_form, racy_form, dynamic_form, Shape, shape_of, shapes, number}
 
 -- ---- locks and modes

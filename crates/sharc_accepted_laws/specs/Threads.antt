@@ -3,16 +3,11 @@ use Rattle.std.specs.Prelude.{◌≡◌, ℕ, [], ◌∷◌, Some, true}
 use Rattle.sharc_tree.specs.declared.tree.declaration.Declaration.{Declaration}
 use Rattle.sharc_tree.specs.Tree.{Expression, Function, argument, no_arguments}
 use Rattle.sharc_names.specs.Kinds.{is_pointer, declared_kind}
-use Rattle.sharc_ctype.specs.Reaches.{Spawns}
-use Rattle.sharc_ctype.specs.Resolved.{function_at}
+use Rattle.sharc_ctype.specs.{Reaches.Spawns, Resolved.function_at}
 use Rattle.sharc_mode_laws.specs.Constructs.{IsCall}
-use Rattle.sharc_flat.specs.Flattened.{parameters_scope, in_function}
-use Rattle.sharc_flat.specs.Scope.{Context}
-use Rattle.sharc_invariant.specs.Labels.{Refers, Label}
-use Rattle.sharc_invariant.specs.Typed.{Passes}
-use Rattle.sharc_accepted_laws.specs.Calls.{argument_type}
-use Rattle.sharc_accepted_laws.specs.StaticLaws.{IsAccepted}
-use Rattle.sharc_accepted_laws.specs.Scopes.{IsClosedScope}
+use Rattle.sharc_flat.specs.{Flattened.{parameters_scope, in_function}, Scope.Context}
+use Rattle.sharc_invariant.specs.{Labels.{Refers, Label}, Typed.Passes}
+use Rattle.sharc_accepted_laws.specs.{Calls.argument_type, StaticLaws.IsAccepted, Scopes.IsClosedScope}
 use Rattle.sharc_accepted_laws.specs.Static.{variable_entry}
 
 -- with the argument of a spawn

@@ -1,32 +1,23 @@
 -- Expressions of accepted programs are typable, as far as they access no cell: what their values are, and those of variables, constants and operators.
-use Rattle.std.specs.Prelude.{◌≡◌, ℕ, true, false, Some}
-use Rattle.std.specs.List.{AllByRecursion}
-use Rattle.sharc_tree.specs.declared.token.Site.{Site}
-use Rattle.sharc_tree.specs.declared.token.Span.{Span}
+use Rattle.std.specs.{Prelude.{◌≡◌, ℕ, true, false, Some}, List.AllByRecursion}
+use Rattle.sharc_tree.specs.{declared.token.Site.Site, declared.token.Span.Span}
 use Rattle.sharc_tree.specs.declared.tree.declaration.Identifier.{Identifier}
 use Rattle.sharc_tree.specs.declared.tree.expression.BinaryOperator.{BinaryOperator}
 use Rattle.sharc_tree.specs.declared.tree.expression.Constant.{Constant}
 use Rattle.sharc_tree.specs.declared.tree.expression.UnaryOperator.{UnaryOperator}
 use Rattle.sharc_tree.specs.declared.tree.expression.UnaryOperator.TheVariants.{Negate, Not, Complement, Dereference}
-use Rattle.sharc_tree.specs.Measures.{expressions}
-use Rattle.sharc_tree.specs.Tree.{Expression, identifier, constant, unary, binary}
+use Rattle.sharc_tree.specs.{Measures.expressions, Tree.{Expression, identifier, constant, unary, binary}}
 use Rattle.sharc_names.specs.declared.fault.Named.TheVariants as named
 use Rattle.sharc_names.specs.Kinds.{Kind, is_integer, is_pointer}
 use Rattle.sharc_code.specs.Arithmetic.{holds}
-use Rattle.sharc_ctype.specs.Expressions.{constant_kind}
-use Rattle.sharc_ctype.specs.Resolved.{named_at}
-use Rattle.sharc_meaning.specs.Reference.{constant_value}
-use Rattle.sharc_meaning.specs.State.{is_reference}
+use Rattle.sharc_ctype.specs.{Expressions.constant_kind, Resolved.named_at}
+use Rattle.sharc_meaning.specs.{Reference.constant_value, State.is_reference}
 use Rattle.sharc_mode_laws.specs.Constructs.{IsExpression}
-use Rattle.sharc_flat.specs.Flattened.{kind_of, is_ref}
-use Rattle.sharc_flat.specs.Places.{width_of}
-use Rattle.sharc_flat.specs.Scope.{Context, slot_kind, register_of}
+use Rattle.sharc_flat.specs.{Flattened.{kind_of, is_ref}, Places.width_of, Scope.{Context, slot_kind, register_of}}
 use Rattle.sharc_flat.specs.Suits.{IsScalar, OperandsSuit}
-use Rattle.sharc_accepted_laws.specs.StaticLaws.{IsAccepted}
-use Rattle.sharc_accepted_laws.specs.Standing.{ExpressionStands}
+use Rattle.sharc_accepted_laws.specs.{StaticLaws.IsAccepted, Standing.ExpressionStands, Typing.typing}
 use Rattle.sharc_typed_laws.specs.Stretches.{Setting}
 use Rattle.sharc_typed_laws.specs.Typable.{IsPointer, VariableTyped, ConstantTyped, UnaryTyped, BinaryTyped, HasType}
-use Rattle.sharc_accepted_laws.specs.Typing.{typing}
 
 -- an expression of a function, where the variables of its lock paths stand
 pub record IsAt (c : Context) (e : Expression) : Type 0 where

@@ -1,29 +1,19 @@
 -- The lvalues of an accepted program are typed: their cells are read in their modes, and written where they are assigned or their references are taken.
-use Rattle.std.specs.Prelude.{◌≡◌, ℕ, Bool, true, false, List, Some, None, Contains}
-use Rattle.std.specs.List.{AllByRecursion}
-use Rattle.sharc_tree.specs.declared.token.Site.{Site}
-use Rattle.sharc_tree.specs.Measures.{expressions, in_function}
+use Rattle.std.specs.{Prelude.{◌≡◌, ℕ, Bool, true, false, List, Some, None, Contains}, List.AllByRecursion}
+use Rattle.sharc_tree.specs.{declared.token.Site.Site, Measures.{expressions, in_function}}
 use Rattle.sharc_tree.specs.Tree.{Expression, Right, Function}
 use Rattle.sharc_names.specs.Kinds.{mutex, is_integer, is_pointer}
-use Rattle.sharc_code.specs.declared.code.Code.{Code}
-use Rattle.sharc_code.specs.declared.code.Use.{Use}
+use Rattle.sharc_code.specs.{declared.code.Code.Code, declared.code.Use.Use}
 use Rattle.sharc_ctype.specs.Resolved.{function_at}
-use Rattle.sharc_mode.specs.Rows.{modes_at}
-use Rattle.sharc_mode.specs.Sharings.{Sharing}
+use Rattle.sharc_mode.specs.{Rows.modes_at, Sharings.Sharing}
 use Rattle.sharc_mode_laws.specs.Constructs.{IsTaken, IsAssigned}
-use Rattle.sharc_flat.specs.Flattened.{kind_of, target_of, mode_of, lvalue_in, guard_of}
-use Rattle.sharc_flat.specs.Places.{width_of}
-use Rattle.sharc_flat.specs.Scope.{Context}
-use Rattle.sharc_flat.specs.Suits.{is_cell, Suits, PlaceSuits}
+use Rattle.sharc_flat.specs.{Flattened.{kind_of, target_of, mode_of, lvalue_in, guard_of}, Places.width_of}
+use Rattle.sharc_flat.specs.{Scope.Context, Suits.{is_cell, Suits, PlaceSuits}}
 use Rattle.sharc_invariant.specs.Labels.{Signature}
-use Rattle.sharc_typed_laws.specs.Stretches.{Setting}
-use Rattle.sharc_typed_laws.specs.Premises.{Typing, IntegerTyped, ReferenceTyped, MutexTyped}
+use Rattle.sharc_typed_laws.specs.{Stretches.Setting, Premises.{Typing, IntegerTyped, ReferenceTyped, MutexTyped}}
 use Rattle.sharc_typed_laws.specs.Typable.{ground_of}
-use Rattle.sharc_accepted_laws.specs.Alone.{AreAlone}
-use Rattle.sharc_accepted_laws.specs.Standing.{ExpressionsStand}
-use Rattle.sharc_accepted_laws.specs.Static.{static_of, entry_of}
-use Rattle.sharc_accepted_laws.specs.Accesses.{IsCodeOf}
-use Rattle.sharc_accepted_laws.specs.Joined.{BaseStands, setting, IsTypingOf}
+use Rattle.sharc_accepted_laws.specs.{Alone.AreAlone, Standing.ExpressionsStand, Static.{static_of, entry_of}}
+use Rattle.sharc_accepted_laws.specs.{Accesses.IsCodeOf, Joined.{BaseStands, setting, IsTypingOf}}
 
 -- an expression of function n, where the variables of the lock paths of its types stand
 pub record IsOf (c : Context) (n : ℕ) (f : Function) (e : Expression) : Type 0 where

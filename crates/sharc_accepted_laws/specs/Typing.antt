@@ -1,15 +1,10 @@
 -- The types of expressions and variables of a program, as sharc_typed_laws asks for them.
 use Rattle.std.specs.Prelude.{ℕ, List, [], ◌∷◌, slice_get, Option, Some, None, if◌then◌else◌}
-use Rattle.sharc_code.specs.declared.instr.Width.{Width}
-use Rattle.sharc_code.specs.declared.instr.Width.TheVariants.{Long}
+use Rattle.sharc_code.specs.{declared.instr.Width.Width, declared.instr.Width.TheVariants.Long}
 use Rattle.sharc_ctype.specs.Resolved.{declaration_at, variable_kind}
-use Rattle.sharc_flat.specs.declared.slot.Slot.{Slot}
-use Rattle.sharc_flat.specs.Places.{width_of}
-use Rattle.sharc_flat.specs.Scope.{Context}
-use Rattle.sharc_typed_laws.specs.Premises.{Typing}
-use Rattle.sharc_typed_laws.specs.Typable.{type_by}
-use Rattle.sharc_accepted_laws.specs.Held.{held_at}
-use Rattle.sharc_accepted_laws.specs.Static.{entry_of, variable_entry}
+use Rattle.sharc_flat.specs.{declared.slot.Slot.Slot, Places.width_of, Scope.Context}
+use Rattle.sharc_typed_laws.specs.{Premises.Typing, Typable.type_by}
+use Rattle.sharc_accepted_laws.specs.{Held.held_at, Static.{entry_of, variable_entry}}
 
 -- the integers that stand: the first has register 0, and so on
 abbrev pub integers : List Slot → List ℕ

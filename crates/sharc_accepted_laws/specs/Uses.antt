@@ -1,14 +1,10 @@
 -- What the modes of an accepted program ask of its functions.
-use Rattle.std.specs.Prelude.{◌≡◌, ℕ, Bool, true, false, Some, Contains}
-use Rattle.std.specs.List.{AllByRecursion}
-use Rattle.sharc_tree.specs.Measures.{expressions, in_function}
-use Rattle.sharc_tree.specs.Tree.{Expression, Right, Function}
+use Rattle.std.specs.{Prelude.{◌≡◌, ℕ, Bool, true, false, Some, Contains}, List.AllByRecursion}
+use Rattle.sharc_tree.specs.{Measures.{expressions, in_function}, Tree.{Expression, Right, Function}}
 use Rattle.sharc_ctype.specs.Resolved.{function_at}
 use Rattle.sharc_mode_laws.specs.Constructs.{IsTaken, IsAssigned}
 use Rattle.sharc_flat.specs.Scope.{Context}
-use Rattle.sharc_accepted_laws.specs.Alone.{AreAlone}
-use Rattle.sharc_accepted_laws.specs.StaticLaws.{IsAccepted}
-use Rattle.sharc_accepted_laws.specs.Joined.{PathLeads, IsFairUse}
+use Rattle.sharc_accepted_laws.specs.{Alone.AreAlone, StaticLaws.IsAccepted, Joined.{PathLeads, IsFairUse}}
 
 -- where it is told which functions thread 0 alone runs, lvalues of a function are read, assigned and taken from in their modes
 pub record AreFair (c : Context) (is_alone : Bool) (e : Expression) : Type 0 where

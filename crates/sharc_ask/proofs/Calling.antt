@@ -1,44 +1,22 @@
 -- Calls: arguments that are left, a frame that is entered, and the way back.
-use Rattle.std.proofs.Common.{◌≡◌, ◌<◌, ◌+◌, arith, ℕ, zero, suc, ◌-◌, List, [], ◌∷◌, ◌++◌, length, Some, None, Result, Ok, Err, refl, sym, ap, ◌∙◌, subst, append-nil}
-use Rattle.std.proofs.lemmas.List.{append_assoc}
-use Rattle.std.specs.Prelude.{ℤ, pos, drop}
-use Rattle.std.specs.Borrow.{Bor}
-use Rattle.sharc_tree.specs.declared.token.Site.{Site}
-use Rattle.sharc_tree.specs.declared.tree.declaration.Declaration.{Declaration}
-use Rattle.sharc_tree.specs.declared.tree.expression.Expr.{Expr}
+use Rattle.std.proofs.{Common.{◌≡◌, ◌<◌, ◌+◌, arith, ℕ, zero, suc, ◌-◌, List, [], ◌∷◌, ◌++◌, length, Some, None, Result, Ok, Err, refl, sym, ap, ◌∙◌, subst, append-nil}, lemmas.List.append_assoc}
+use Rattle.std.specs.{Prelude.{ℤ, pos, drop}, Borrow.Bor}
+use Rattle.sharc_tree.specs.{declared.token.Site.Site, declared.tree.declaration.Declaration.Declaration, declared.tree.expression.Expr.Expr, Tree.{Function, Expression, Arguments, no_arguments, argument}, View.{view_expr, view_arguments, view_function}}
 use Rattle.sharc_tree.specs.declared.trap.Trap.TheVariants as traps
-use Rattle.sharc_tree.specs.Tree.{Function, Expression, Arguments, no_arguments, argument}
-use Rattle.sharc_tree.specs.View.{view_expr, view_arguments, view_function}
 use Rattle.sharc_names.specs.Kinds.{Kind, declared_kind, declared_kinds}
 use Rattle.sharc_ctype.specs.Resolved.{function_at}
 use Rattle.sharc_mode.specs.Moded.{Assignment}
-use Rattle.sharc_meaning.specs.declared.variable.Variable.{Variable}
-use Rattle.sharc_meaning.specs.Expressions.{Calls, called, passed, eval, eval_all}
-use Rattle.sharc_meaning.specs.Meaning.{with_frame, back_in, calls, call_value, run_function, parameters_begin, pointers_passed, left_at}
-use Rattle.sharc_meaning.specs.State.{Frame, State, Out, go, over, Run, Step, then_on, ◌>>=◌, ◌>>◌, give, enters, without_temporaries, ends_variables, ends_temporaries}
-use Rattle.sharc_meaning.specs.Statements.{Flow, exec_all}
-use Rattle.sharc_ask_steps.specs.declared.state.End.{End}
+use Rattle.sharc_meaning.specs.{declared.variable.Variable.Variable, Expressions.{Calls, called, passed, eval, eval_all}, Meaning.{with_frame, back_in, calls, call_value, run_function, parameters_begin, pointers_passed, left_at}, State.{Frame, State, Out, go, over, Run, Step, then_on, ◌>>=◌, ◌>>◌, give, enters, without_temporaries, ends_variables, ends_temporaries}, Statements.{Flow, exec_all}}
+use Rattle.sharc_ask_steps.specs.{declared.state.End.End, View.{Known, known, Over, Does, held_below}}
 use Rattle.sharc_ask_steps.specs.declared.state.End.TheVariants as ends
-use Rattle.sharc_ask_steps.specs.View.{Known, known, Over, Does, held_below}
 use Rattle.sharc_ask.specs.declared.plan.After.TheVariants as afters
-use Rattle.sharc_ask.specs.declared.plan.Call.{Call}
-use Rattle.sharc_ask.specs.declared.plan.Plan.{Plan}
+use Rattle.sharc_ask.specs.{declared.plan.Call.Call, declared.plan.Plan.Plan, declared.stack.At.At, declared.stack.Caller.Caller, declared.stack.Left.Left, declared.stack.Passing.Passing, View.{WasKept, variables_ended}, Values.{Value, number, flow, number_in, flow_in, gives, as_left}, Plans.{ends_above, rest_means, plan_means, Plans, PlanEnds}, Stack.{Behind, all_behind, IsCaller, AreBehind, awaits, comes_back, Reached, Moves}}
 use Rattle.sharc_ask.specs.declared.plan.Plan.TheVariants as plans
 use Rattle.sharc_ask.specs.declared.plan.Rest.TheVariants as rests
 use Rattle.sharc_ask.specs.declared.plan.Task.TheVariants as tasks
 use Rattle.sharc_ask.specs.declared.plan.WithValue.TheVariants as with_values
-use Rattle.sharc_ask.specs.declared.stack.At.{At}
-use Rattle.sharc_ask.specs.declared.stack.Caller.{Caller}
 use Rattle.sharc_ask.specs.declared.stack.Later.TheVariants as laters
-use Rattle.sharc_ask.specs.declared.stack.Left.{Left}
-use Rattle.sharc_ask.specs.declared.stack.Passing.{Passing}
-use Rattle.sharc_ask.specs.View.{WasKept, variables_ended}
-use Rattle.sharc_ask.specs.Values.{Value, number, flow, number_in, flow_in, gives, as_left}
-use Rattle.sharc_ask.specs.Plans.{ends_above, rest_means, plan_means, Plans, PlanEnds}
-use Rattle.sharc_ask.specs.Stack.{Behind, all_behind, IsCaller, AreBehind, awaits, comes_back, Reached, Moves}
-use Rattle.sharc_ask.proofs.Framing.{frame_begins, call_is}
-use Rattle.sharc_ask.proofs.Stacking.{bound_twice, reached_from, plan_reached}
-use Rattle.sharc_ask.proofs.Stating.{argument_begins}
+use Rattle.sharc_ask.proofs.{Framing.{frame_begins, call_is}, Stacking.{bound_twice, reached_from, plan_reached}, Stating.argument_begins}
 
 -- ---- a frame that is entered
 

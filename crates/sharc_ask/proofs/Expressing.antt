@@ -1,42 +1,14 @@
 -- What expressions are begun with, and what goes on with the value of that.
-use Rattle.std.proofs.Common.{◌≡◌, ℕ, Bool, true, false, List, [], ◌∷◌, length, Option, Some, refl, sym, ap, ◌∙◌, subst}
+use Rattle.std.proofs.Common.{◌≡◌, ℕ, Bool, List, [], ◌∷◌, length, Option, Some, refl, sym, ap, ◌∙◌, subst}
 use Rattle.std.specs.Prelude.{ℤ, pos, if◌then◌else◌}
 use Rattle.sharc_tree.specs.declared.event.Act.TheVariants as acts
-use Rattle.sharc_tree.specs.declared.event.TakeKind.TheVariants.{Cast, Free as ToFree}
-use Rattle.sharc_tree.specs.declared.token.Site.{Site}
-use Rattle.sharc_tree.specs.declared.token.Span.{Span}
-use Rattle.sharc_tree.specs.declared.tree.expression.Access.TheVariants.{Dot, Arrow}
-use Rattle.sharc_tree.specs.declared.tree.expression.BinaryOperator.{BinaryOperator}
-use Rattle.sharc_tree.specs.declared.tree.expression.BinaryOperator.TheVariants.{LogicalOr, LogicalAnd}
-use Rattle.sharc_tree.specs.declared.tree.expression.PlaceCall.TheVariants.{Lock, Unlock, Free}
-use Rattle.sharc_tree.specs.declared.tree.expression.UnaryOperator.TheVariants.{Negate, Not, Complement}
-use Rattle.sharc_tree.specs.declared.tree.expression.ValueCall.{ValueCall}
-use Rattle.sharc_tree.specs.Spans.{span_of}
-use Rattle.sharc_tree.specs.declared.tree.declaration.Identifier.{Identifier}
-use Rattle.sharc_tree.specs.declared.tree.declaration.WrittenType.{WrittenType}
-use Rattle.sharc_tree.specs.declared.tree.expression.PlaceCall.{PlaceCall}
-use Rattle.sharc_tree.specs.declared.tree.expression.UnaryOperator.{UnaryOperator}
-use Rattle.sharc_tree.specs.Tree.{Expression, identifier, call, spawn, on_place, cast, unary, binary, Arguments}
-use Rattle.sharc_ctype.specs.Expressions.{class_of, binary_result}
-use Rattle.sharc_names.specs.declared.fault.Named.{Named}
-use Rattle.sharc_names.specs.Kinds.{Kind, declared_kinds, is_array}
-use Rattle.sharc_ctype.specs.Resolved.{Resolution, named_at, kind_at}
-use Rattle.sharc_ctype.specs.Transfers.{parameters_named}
-use Rattle.sharc_mode.specs.Cells.{cell_at, pointed}
-use Rattle.sharc_mode.specs.Moded.{Assignment}
-use Rattle.sharc_mode.specs.Rows.{cast_row}
-use Rattle.sharc_meaning.specs.Arithmetic.{bits_of}
-use Rattle.sharc_meaning.specs.Cells.{field_place_named}
-use Rattle.sharc_meaning.specs.Expressions.{Calls, passed, number_named, named_value, spawned, value_called, place_called, cast_value, place_value, unary_value, binary_value, eval, place_of}
-use Rattle.sharc_meaning.specs.Places.{Place, field_in, index_place, pointee_place, field_place, taken_from, cast_to, freed}
-use Rattle.sharc_meaning.specs.Reference.{is_null}
-use Rattle.sharc_meaning.specs.State.{State, Outcome, Out, go, over, Run, then_on, ◌>>=◌, ◌>>◌, give, done, answered, moves, ends_temporaries}
-use Rattle.sharc_meaning.specs.Waiting.{lock_call, unlock_call}
-use Rattle.sharc_ask.specs.View.{joined, binary_by, logic_of, place_fetched, calling}
-use Rattle.sharc_ask.specs.Values.{Value, number, place, number_in, place_in, gives}
-use Rattle.sharc_ask.specs.Plans.{ends_above, inside, zero_behind, spawned_with, free_unless_null, and_with, or_with, left_with, behind_pointer, element_in}
-use Rattle.sharc_ask.proofs.Outs.{begun}
-use Rattle.sharc_ask.proofs.Steps.{binary_is}
+use Rattle.sharc_tree.specs.{declared.event.TakeKind.TheVariants.{Cast, Free as ToFree}, declared.token.Site.Site, declared.token.Span.Span, declared.tree.expression.Access.TheVariants.Arrow, declared.tree.expression.BinaryOperator.BinaryOperator, declared.tree.expression.BinaryOperator.TheVariants.{LogicalOr, LogicalAnd}, declared.tree.expression.PlaceCall.TheVariants.{Lock, Unlock, Free}, declared.tree.expression.UnaryOperator.TheVariants.Negate, Spans.span_of, declared.tree.declaration.Identifier.Identifier, declared.tree.declaration.WrittenType.WrittenType, declared.tree.expression.PlaceCall.PlaceCall, declared.tree.expression.UnaryOperator.UnaryOperator, Tree.{Expression, identifier, call, spawn, on_place, cast, unary, binary, Arguments}}
+use Rattle.sharc_ctype.specs.{Expressions.{class_of, binary_result}, Resolved.{Resolution, named_at, kind_at}, Transfers.parameters_named}
+use Rattle.sharc_names.specs.{declared.fault.Named.Named, Kinds.{Kind, declared_kinds}}
+use Rattle.sharc_mode.specs.{Cells.{cell_at, pointed}, Moded.Assignment, Rows.cast_row}
+use Rattle.sharc_meaning.specs.{Arithmetic.bits_of, Cells.field_place_named, Expressions.{Calls, passed, number_named, named_value, spawned, place_called, cast_value, place_value, unary_value, binary_value, eval, place_of}, Places.{Place, field_in, pointee_place, field_place, taken_from, cast_to, freed}, Reference.is_null, State.{State, Outcome, Out, go, over, Run, then_on, ◌>>=◌, ◌>>◌, give, done, answered, moves, ends_temporaries}, Waiting.{lock_call, unlock_call}}
+use Rattle.sharc_ask.specs.{View.{joined, binary_by, logic_of, place_fetched, calling}, Values.{Value, number, place, number_in, place_in, gives}, Plans.{ends_above, inside, zero_behind, spawned_with, free_unless_null, and_with, or_with, left_with}}
+use Rattle.sharc_ask.proofs.{Outs.begun, Steps.binary_is}
 
 -- ---- a value that is made of that of one expression
 
@@ -69,9 +41,6 @@ spawn_begins r site f a of_a mark s same =
     ∙ begun number (λ v. gives number (ends_above (length s.frame.temporaries) (spawned_with r site f a (number_in v)))) (of_a s) (λ out. gives number (spawned r site f a (λ z. out)) s)
     (λ o t. ap (behind (length s.frame.temporaries)) (passed_ends r kinds a o t s))
     (λ x t. ap (behind (length s.frame.temporaries)) (passed_goes r kinds a x t s)))
-
-pub called_begins : (site : Site) (w : ValueCall) (of_a : Run ℤ) (s : State) → gives number (value_called site w of_a) s ≡ then_on (gives number of_a s) (λ v. gives number (value_called site w (give (number_in v))))
-called_begins site w of_a s = begun number (λ v. gives number (value_called site w (give (number_in v)))) (of_a s) (λ out. gives number (value_called site w (λ z. out)) s) (λ o t. refl) (λ x t. refl)
 
 -- ---- a place
 
@@ -118,12 +87,6 @@ cast_begins m span a of_p mark s same =
 pub negate_begins : (m : Assignment) (span : Span) (a : Expression) (of_a : Run ℤ) (s : State) → gives number (unary_value m span Negate a of_a) s ≡ then_on (gives number of_a s) (λ v. gives number (unary_value m span Negate a (give (number_in v))))
 negate_begins m span a of_a s = begun number (λ v. gives number (unary_value m span Negate a (give (number_in v)))) (of_a s) (λ out. gives number (unary_value m span Negate a (λ z. out)) s) (λ o t. refl) (λ x t. refl)
 
-pub not_begins : (m : Assignment) (span : Span) (a : Expression) (of_a : Run ℤ) (s : State) → gives number (unary_value m span Not a of_a) s ≡ then_on (gives number of_a s) (λ v. gives number (unary_value m span Not a (give (number_in v))))
-not_begins m span a of_a s = begun number (λ v. gives number (unary_value m span Not a (give (number_in v)))) (of_a s) (λ out. gives number (unary_value m span Not a (λ z. out)) s) (λ o t. refl) (λ x t. refl)
-
-pub complement_begins : (m : Assignment) (span : Span) (a : Expression) (of_a : Run ℤ) (s : State) → gives number (unary_value m span Complement a of_a) s ≡ then_on (gives number of_a s) (λ v. gives number (unary_value m span Complement a (give (number_in v))))
-complement_begins m span a of_a s = begun number (λ v. gives number (unary_value m span Complement a (give (number_in v)))) (of_a s) (λ out. gives number (unary_value m span Complement a (λ z. out)) s) (λ o t. refl) (λ x t. refl)
-
 pub and_begins : (r : Resolution) (at : Site) (a b : Expression) (of_a of_b : Run ℤ) (s : State) → gives number (binary_value r at LogicalAnd a b of_a of_b) s ≡ then_on (gives number of_a s) (λ v. gives number (and_with r a b of_b (number_in v)))
 and_begins r at a b of_a of_b s = begun number (λ v. gives number (and_with r a b of_b (number_in v))) (of_a s) (λ out. gives number (binary_value r at LogicalAnd a b (λ z. out) of_b) s) (λ o t. refl) (λ x t. refl)
 
@@ -137,24 +100,6 @@ joined_begins r bits at o a b of_a of_b mark s same =
     (begun number (λ v. gives number (ends_above (length s.frame.temporaries) (left_with r bits at o a b of_b (number_in v)))) (of_a s) (λ out. gives number (joined r bits at o a b (λ z. out) of_b) s) (λ o t. refl) (λ x t. refl))
 
 -- ---- places
-
-pub array_begins : (r : Resolution) (site : Site) (a : Expression) (of_p : Run Place) (of_a of_i : Run ℤ) (s : State) → is_array (kind_at r a) ≡ true
-    → gives place (index_place r site a of_p of_a of_i) s ≡ then_on (gives place of_p s) (λ v. gives place (of_i >>= (λ n. element_in r site a (place_in v) n)))
-array_begins r site a of_p of_a of_i s array =
-    subst (λ b. gives place (if b then (of_p >>= (λ base. of_i >>= (λ n. element_in r site a base n))) else (of_a >>= (λ p. behind_pointer r site a p of_i))) s ≡ then_on (gives place of_p s) (λ v. gives place (of_i >>= (λ n. element_in r site a (place_in v) n)))) (sym array)
-    (begun place (λ v. gives place (of_i >>= (λ n. element_in r site a (place_in v) n))) (of_p s) (λ out. then_on (then_on out (λ base. of_i >>= (λ n. element_in r site a base n))) (λ p. give (place p))) (λ o t. refl) (λ x t. refl))
-
-pub pointer_begins : (r : Resolution) (site : Site) (a : Expression) (of_p : Run Place) (of_a of_i : Run ℤ) (s : State) → is_array (kind_at r a) ≡ false
-    → gives place (index_place r site a of_p of_a of_i) s ≡ then_on (gives number of_a s) (λ v. gives place (behind_pointer r site a (number_in v) of_i))
-pointer_begins r site a of_p of_a of_i s array =
-    subst (λ b. gives place (if b then (of_p >>= (λ base. of_i >>= (λ n. element_in r site a base n))) else (of_a >>= (λ p. behind_pointer r site a p of_i))) s ≡ then_on (gives number of_a s) (λ v. gives place (behind_pointer r site a (number_in v) of_i))) (sym array)
-    (begun number (λ v. gives place (behind_pointer r site a (number_in v) of_i)) (of_a s) (λ out. then_on (then_on out (λ p. behind_pointer r site a p of_i)) (λ p. give (place p))) (λ o t. refl) (λ x t. refl))
-
-pub pointee_begins : (r : Resolution) (site : Site) (a : Expression) (of_a : Run ℤ) (s : State) → gives place (pointee_place r site a of_a) s ≡ then_on (gives number of_a s) (λ v. gives place (pointee_place r site a (give (number_in v))))
-pointee_begins r site a of_a s = begun number (λ v. gives place (pointee_place r site a (give (number_in v)))) (of_a s) (λ out. gives place (pointee_place r site a (λ z. out)) s) (λ o t. refl) (λ x t. refl)
-
-pub dot_begins : (r : Resolution) (site : Site) (a : Expression) (n : Named) (of_p : Run Place) (of_a : Run ℤ) (s : State) → gives place (field_place r site a Dot n of_p of_a) s ≡ then_on (gives place of_p s) (λ v. gives place (give (field_in (field_place_named r n) (place_in v))))
-dot_begins r site a n of_p of_a s = begun place (λ v. gives place (give (field_in (field_place_named r n) (place_in v)))) (of_p s) (λ out. gives place (field_place r site a Dot n (λ z. out) of_a) s) (λ o t. refl) (λ x t. refl)
 
 pub arrow_begins : (r : Resolution) (site : Site) (a : Expression) (n : Named) (of_p : Run Place) (of_a : Run ℤ) (s : State) → gives place (field_place r site a Arrow n of_p of_a) s ≡ then_on (gives place (pointee_place r site a of_a) s) (λ v. gives place (give (field_in (field_place_named r n) (place_in v))))
 arrow_begins r site a n of_p of_a s =

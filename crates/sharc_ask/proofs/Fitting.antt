@@ -1,27 +1,15 @@
 -- What is done with a value that has to fit.
 use Rattle.std.proofs.Common.{◌≡◌, Bool, Result, Ok, Err, ap, sym, ◌∙◌, subst}
 use Rattle.std.specs.Prelude.{ℕ, ℤ, unsigned_abs}
-use Rattle.sharc_tree.specs.declared.event.Act.{Act}
+use Rattle.sharc_tree.specs.{declared.event.Act.Act, declared.event.CellMode.CellMode, declared.tree.declaration.WrittenType.WrittenType, Spans.span_of, Tree.Expression, declared.token.Site.Site}
 use Rattle.sharc_tree.specs.declared.event.Act.TheVariants as acts
-use Rattle.sharc_tree.specs.declared.event.CellMode.{CellMode}
-use Rattle.sharc_tree.specs.declared.tree.declaration.WrittenType.{WrittenType}
 use Rattle.sharc_mode.specs.Sharings.{Sharing}
-use Rattle.sharc_meaning.specs.Cells.{element_cells, instance_mode}
-use Rattle.sharc_tree.specs.Spans.{span_of}
-use Rattle.sharc_tree.specs.Tree.{Expression}
-use Rattle.sharc_tree.specs.declared.token.Site.{Site}
+use Rattle.sharc_meaning.specs.{Cells.{element_cells, instance_mode}, Arithmetic.fits, Expressions.{fitting, operand}, State.{Run, Step, then_on, ◌>>=◌, ◌>>◌, give, unless_stop, holds, answered, looks_at, value_of, value_in}, Statements.{returned, is_positive}}
 use Rattle.sharc_tree.specs.declared.trap.Trap.TheVariants as traps
 use Rattle.sharc_names.specs.Kinds.{Kind, declared_kind}
 use Rattle.sharc_ctype.specs.Resolved.{Resolution, kind_at}
-use Rattle.sharc_meaning.specs.Arithmetic.{fits}
-use Rattle.sharc_meaning.specs.Expressions.{fitting, operand}
-use Rattle.sharc_meaning.specs.State.{Run, Step, then_on, ◌>>=◌, ◌>>◌, give, unless_stop, holds, answered, looks_at, value_of, value_in}
-use Rattle.sharc_meaning.specs.Statements.{returned, is_positive}
-use Rattle.sharc_ask_steps.specs.declared.state.End.{End}
-use Rattle.sharc_ask_steps.specs.View.{Known, Ends, Does, DoesAs}
-use Rattle.sharc_ask.specs.declared.values.Flow.{Flow as RustFlow}
-use Rattle.sharc_ask.specs.View.{view_flow, made}
-use Rattle.sharc_ask.specs.Plans.{returned_with}
+use Rattle.sharc_ask_steps.specs.{declared.state.End.End, View.{Known, Ends, Does, DoesAs}}
+use Rattle.sharc_ask.specs.{declared.values.Flow.{Flow as RustFlow}, View.{view_flow, made}, Plans.returned_with}
 use Rattle.sharc_ask.proofs.Steps.{over_then, over_then_as}
 
 abbrev test_of : Site → Bool → Step

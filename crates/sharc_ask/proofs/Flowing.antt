@@ -1,20 +1,13 @@
 -- What statements are begun with, and what goes on behind that.
-use Rattle.std.proofs.Common.{◌≡◌, ℕ, zero, suc, ◌-◌, ◌≤◌, List, [], ◌∷◌, length, take, Err, refl, sym, ap, ◌∙◌, subst, arith}
+use Rattle.std.proofs.{Common.{◌≡◌, ℕ, zero, suc, ◌-◌, ◌≤◌, List, [], ◌∷◌, length, take, Err, refl, sym, ap, ◌∙◌, subst, arith}, lemmas.List.take_all}
 use Rattle.std.specs.Prelude.{Bool, true, slice_index_or, drop}
-use Rattle.std.proofs.lemmas.List.{take_all}
-use Rattle.sharc_tree.specs.declared.tree.statement.Stmt.{Stmt}
-use Rattle.sharc_tree.specs.View.{view_stmt, view_statements}
+use Rattle.sharc_tree.specs.{declared.tree.statement.Stmt.Stmt, View.{view_stmt, view_statements}}
 use Rattle.sharc_names.specs.Kinds.{Kind}
 use Rattle.sharc_mode.specs.Moded.{Assignment}
-use Rattle.sharc_meaning.specs.Expressions.{Calls}
-use Rattle.sharc_meaning.specs.State.{State, Run, Step, then_on, ◌>>=◌, ◌>>◌, give, ends_variables, in_block}
-use Rattle.sharc_meaning.specs.Statements.{Flow, exec, exec_all}
+use Rattle.sharc_meaning.specs.{Expressions.Calls, State.{State, Run, Step, then_on, ◌>>=◌, ◌>>◌, give, ends_variables, in_block}, Statements.{Flow, exec, exec_all}}
 use Rattle.sharc_ask_steps.specs.declared.state.End.TheVariants as ends
 use Rattle.sharc_ask_steps.specs.View.{Known}
-use Rattle.sharc_ask.specs.declared.plan.Loop.{Loop}
-use Rattle.sharc_ask.specs.View.{loop_test, loop_body}
-use Rattle.sharc_ask.specs.Values.{test, flow, test_in, flow_in, gives, as_nothing}
-use Rattle.sharc_ask.specs.Plans.{ends_block, turns_of, others_done, tested_done, left_body, Plans}
+use Rattle.sharc_ask.specs.{declared.plan.Loop.Loop, View.{loop_test, loop_body}, Values.{test, flow, test_in, flow_in, gives, as_nothing}, Plans.{ends_block, turns_of, others_done, tested_done, left_body, Plans}}
 use Rattle.sharc_ask.proofs.Outs.{begun}
 
 pub flow_then : (run : Run Flow) (f : Flow → Run Flow) (s : State) → gives flow (run >>= f) s ≡ then_on (gives flow run s) (λ v. gives flow (f (flow_in v)))

@@ -1,18 +1,12 @@
 -- Calls: a frame of their own, and as many frames as are allowed.
-use Rattle.std.proofs.Common.{◌≡◌, ℕ, zero, suc, ◌-◌, List, [], ◌∷◌, ◌++◌, Some, None, Ok, Err, refl, sym, ap, ◌∙◌, subst, arith, length, take, append-nil}
+use Rattle.std.proofs.{Common.{◌≡◌, ℕ, zero, suc, ◌-◌, List, [], ◌∷◌, ◌++◌, Some, None, Ok, Err, refl, sym, ap, ◌∙◌, subst, arith, length, take, append-nil}, lemmas.List.reverse-append, lemmas.Grind.flat_map-append}
 use Rattle.std.specs.Prelude.{ℤ, pos, reverse, flat_map}
-use Rattle.std.proofs.lemmas.List.{reverse-append}
-use Rattle.std.proofs.lemmas.Grind.{flat_map-append}
-use Rattle.sharc_tree.specs.declared.token.Site.{Site}
-use Rattle.sharc_tree.specs.Tree.{Function}
+use Rattle.sharc_tree.specs.{declared.token.Site.Site, Tree.Function}
 use Rattle.sharc_ctype.specs.Resolved.{function_at}
 use Rattle.sharc_mode.specs.Moded.{Assignment}
-use Rattle.sharc_meaning.specs.declared.variable.Variable.{Variable}
-use Rattle.sharc_meaning.specs.Meaning.{with_frame, back_in, in_frame, run_function, call_value, calls}
-use Rattle.sharc_meaning.specs.State.{Frame, State, Run, then_on, give, without_temporaries, held_by_frame, pointers_among}
-use Rattle.sharc_ask_steps.specs.declared.state.End.{End}
+use Rattle.sharc_meaning.specs.{declared.variable.Variable.Variable, Meaning.{with_frame, back_in, in_frame, run_function, call_value, calls}, State.{Frame, State, Run, then_on, give, without_temporaries, held_by_frame, pointers_among}}
+use Rattle.sharc_ask_steps.specs.{declared.state.End.End, View.{Known, known, held_below, Does}}
 use Rattle.sharc_ask_steps.specs.declared.state.End.TheVariants as ends
-use Rattle.sharc_ask_steps.specs.View.{Known, known, held_below, Does}
 use Rattle.sharc_ask.specs.View.{WasKept}
 use Rattle.sharc_ask.proofs.Steps.{ends_same}
 

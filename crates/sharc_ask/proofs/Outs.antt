@@ -2,15 +2,10 @@
 use Rattle.std.proofs.Common.{◌≡◌, ℕ, zero, suc, Bool, Result, Ok, Err, refl, sym, ap, ◌∙◌, subst}
 use Rattle.std.specs.Prelude.{ℤ, if◌then◌else◌}
 use Rattle.sharc_mode.specs.Moded.{Assignment}
-use Rattle.sharc_meaning.specs.Expressions.{Calls}
-use Rattle.sharc_meaning.specs.State.{State, Outcome, Out, go, over, Run, then_on, ◌>>=◌, give, enters_with, enters, ends_temporaries, ends_variables}
-use Rattle.sharc_ask_steps.specs.declared.state.End.{End}
+use Rattle.sharc_meaning.specs.{Expressions.Calls, State.{State, Outcome, Out, go, over, Run, then_on, ◌>>=◌, give, enters_with, enters, ends_temporaries}}
+use Rattle.sharc_ask_steps.specs.{declared.state.End.End, View.{Known, known, Over, Ends, Does}}
 use Rattle.sharc_ask_steps.specs.declared.state.End.TheVariants as ends
-use Rattle.sharc_ask_steps.specs.View.{Known, known, Over, Ends, EndsAs, Does, DoesAs}
-use Rattle.sharc_ask.specs.declared.plan.Plan.{Plan}
-use Rattle.sharc_ask.specs.Values.{Value, number, gives}
-use Rattle.sharc_ask.specs.View.{temporaries_ended, variables_ended}
-use Rattle.sharc_ask.specs.Plans.{plan_means, PlanEnds, Plans, LeadsFrom, inside, ends_above, ends_block}
+use Rattle.sharc_ask.specs.{declared.plan.Plan.Plan, Values.{Value, number, gives}, View.temporaries_ended, Plans.{plan_means, PlanEnds, Plans, LeadsFrom, inside, ends_above}}
 
 -- what a run makes of the value of another, which it begins with
 pub begun : {A : Type 0} (w : A → Value) (F : Value → Run Value) (out : Out A) (G : Out A → Out Value) → ((o : Outcome) (t : State) → G (over o t) ≡ over o t) → ((x : A) (t : State) → G (go x t) ≡ F (w x) t) → G out ≡ then_on (then_on out (λ x. give (w x))) F
@@ -39,16 +34,6 @@ plan_over {A} on_call m ends.Memory k a b same h = tt
 plan_over {A} on_call m (ends.Wants x) k a b same h = over_same (ends.Wants x) k a A b same h
 plan_over {A} on_call m (ends.Stopped trap site) k a b same h = over_same (ends.Stopped trap site) k a A b same h
 plan_over {A} on_call m ends.Spent k a b same h = over_same ends.Spent k a A b same h
-
-pub plan_over_as : {A C : Type 0} (v : C → A) (on_call : Calls) (m : Assignment) (e : End) (k : Known) (a : Out Value) (b : Out A) → ((o : Outcome) (t : State) → b ≡ over o t → a ≡ over o t) → EndsAs v (Err e) k b → PlanEnds on_call m (Err e) k a
-plan_over_as {A} v on_call m ends.Memory k a b same h = tt
-plan_over_as {A} v on_call m (ends.Wants x) k a b same h = over_same (ends.Wants x) k a A b same h
-plan_over_as {A} v on_call m (ends.Stopped trap site) k a b same h = over_same (ends.Stopped trap site) k a A b same h
-plan_over_as {A} v on_call m ends.Spent k a b same h = over_same ends.Spent k a A b same h
-
--- a step that comes first, and a plan after it
-pub step_plans : {A : Type 0} (on_call : Calls) (m : Assignment) (k k1 k2 : Known) (x : A) (r : Result Plan End) (first : Run A) (f : A → Run Value) → Does k (Ok x) k1 first → Plans on_call m k1 r k2 (f x) → Plans on_call m k r k2 (first >>= f)
-step_plans on_call m k k1 k2 x r first f h later = λ s is. let w = h s is in subst (λ o. PlanEnds on_call m r k2 (then_on o f)) (sym w.is) (later w.state w.looks)
 
 pub step_over : {A : Type 0} (on_call : Calls) (m : Assignment) (k k1 : Known) (e : End) (first : Run A) (f : A → Run Value) → Does {A = A} k (Err e) k1 first → Plans on_call m k (Err e) k1 (first >>= f)
 step_over {A} on_call m k k1 e first f h = λ s is. plan_over {A = A} on_call m e k1 (then_on (first s) f) (first s) (λ o t is_over. ap (λ z. then_on z f) is_over) (h s is)
@@ -84,9 +69,6 @@ truth_plans on_call m k k1 b p on_true on_false run same h = λ s is.
 
 pub above_goes : {A : Type 0} (k k1 k2 : Known) (x : A) (run : Run A) (n : ℕ) → k2 ≡ temporaries_ended n k1 → Does k (Ok x) k1 run → Does k (Ok x) k2 (ends_above n run)
 above_goes k k1 k2 x run n same h = λ s is. let w = h s is in record { state = _; is = ap (ends_temporaries n) w.is; looks = ap (temporaries_ended n) w.looks ∙ sym same }
-
-pub behind_goes : {A B : Type 0} (v : A → B) (k k1 k2 : Known) (x : A) (run : Run B) (n : ℕ) → k2 ≡ variables_ended n k1 → DoesAs v k (Ok x) k1 run → DoesAs v k (Ok x) k2 (ends_block n run)
-behind_goes v k k1 k2 x run n same h = λ s is. let w = h s is in record { state = _; is = ap (ends_variables n) w.is; looks = ap (variables_ended n) w.looks ∙ sym same }
 
 -- a number, and what is made of it
 pub number_then : (on_call : Calls) (m : Assignment) (k k1 k2 : Known) (x : ℤ) (r : Result Plan End) (first : Run ℤ) (f : ℤ → Run ℤ) → Does k (Ok x) k1 first → Plans on_call m k1 r k2 (gives number (f x)) → Plans on_call m k r k2 (gives number (first >>= f))

@@ -1,17 +1,11 @@
 -- What goes on with a value, where it is more than one step.
 use Rattle.std.proofs.Common.{◌≡◌, ℕ, Bool, true, false, refl}
 use Rattle.std.specs.Prelude.{ℤ, pos, if◌then◌else◌}
-use Rattle.sharc_tree.specs.declared.token.Site.{Site}
-use Rattle.sharc_tree.specs.declared.tree.expression.BinaryOperator.{BinaryOperator}
-use Rattle.sharc_tree.specs.Tree.{Expression}
+use Rattle.sharc_tree.specs.{declared.token.Site.Site, declared.tree.expression.BinaryOperator.BinaryOperator, Tree.Expression}
 use Rattle.sharc_ctype.specs.Resolved.{Resolution, kind_at}
 use Rattle.sharc_mode.specs.Moded.{Assignment}
-use Rattle.sharc_meaning.specs.Arithmetic.{truth}
-use Rattle.sharc_meaning.specs.Expressions.{tested}
-use Rattle.sharc_meaning.specs.Places.{Place, based}
-use Rattle.sharc_meaning.specs.State.{State, Run, then_on, ◌>>=◌, give, holds, ends_temporaries}
-use Rattle.sharc_ask.specs.Values.{number, place, number_in, gives, as_nothing}
-use Rattle.sharc_ask.specs.Plans.{ends_above, step_then, test_then, truth_with, and_with, or_with, joined_with, left_with, element_behind, behind_pointer, element_in, assigned_to}
+use Rattle.sharc_meaning.specs.{Arithmetic.truth, Expressions.tested, Places.{Place, based}, State.{State, Run, then_on, ◌>>=◌, give, holds, ends_temporaries}}
+use Rattle.sharc_ask.specs.{Values.{number, place, number_in, gives, as_nothing}, Plans.{ends_above, step_then, test_then, truth_with, and_with, or_with, joined_with, left_with, element_behind, behind_pointer, element_in, assigned_to}}
 use Rattle.sharc_ask.proofs.Outs.{begun, both_begun}
 
 truth_of_right : (r : Resolution) (b : Expression) (of_b : Run ℤ) (t : State) → then_on (then_on (tested r b of_b t) (λ right. give (truth right))) (λ x. give (number x)) ≡ then_on (gives number of_b t) (λ v. gives number (truth_with r b (number_in v)))

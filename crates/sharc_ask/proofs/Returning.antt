@@ -4,13 +4,9 @@ use Rattle.std.specs.Prelude.{ℤ}
 use Rattle.sharc_tree.specs.declared.token.Site.{Site}
 use Rattle.sharc_mode.specs.Moded.{Assignment}
 use Rattle.sharc_meaning.specs.State.{State, Outcome, Out, go, over, Run, then_on, give}
-use Rattle.sharc_ask_steps.specs.declared.state.End.{End}
-use Rattle.sharc_ask_steps.specs.View.{Known, Does}
-use Rattle.sharc_ask.specs.declared.stack.Left.{Left}
-use Rattle.sharc_ask.specs.Values.{Value, view_value, gives, as_left}
-use Rattle.sharc_ask.specs.Stack.{Moves}
-use Rattle.sharc_ask.proofs.Stacking.{whole_over}
-use Rattle.sharc_ask.proofs.Steps.{ends_same, plainly_over}
+use Rattle.sharc_ask_steps.specs.{declared.state.End.End, View.{Known, Does}}
+use Rattle.sharc_ask.specs.{declared.stack.Left.Left, Values.{Value, view_value, gives, as_left}, Stack.Moves}
+use Rattle.sharc_ask.proofs.{Stacking.whole_over, Steps.{ends_same, plainly_over}}
 
 came_over : (out : Out (Site × ℤ)) (o : Outcome) (t : State) → then_on out (λ x. give (as_left x)) ≡ over o t → out ≡ over o t
 came_over (go x s) o t h = absurd (cc)

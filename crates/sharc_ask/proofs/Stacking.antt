@@ -1,28 +1,15 @@
 -- What the walk does with its stack, a step after the other.
-use Rattle.std.proofs.Common.{◌≡◌, ℕ, List, [], ◌∷◌, ◌++◌, Result, Ok, Err, refl, sym, ap, ◌∙◌, subst}
+use Rattle.std.proofs.{Common.{◌≡◌, ℕ, List, [], ◌∷◌, ◌++◌, Result, Ok, Err, refl, sym, ap, ◌∙◌, subst}, lemmas.List.reverse-append}
 use Rattle.std.specs.Prelude.{reverse}
-use Rattle.std.proofs.lemmas.List.{reverse-append}
 use Rattle.sharc_mode.specs.Moded.{Assignment}
-use Rattle.sharc_meaning.specs.Expressions.{Calls}
-use Rattle.sharc_meaning.specs.Meaning.{calls}
-use Rattle.sharc_meaning.specs.State.{State, Outcome, Out, go, over, Run, then_on, ◌>>=◌, give}
-use Rattle.sharc_ask_steps.specs.declared.state.End.{End}
+use Rattle.sharc_meaning.specs.{Expressions.Calls, Meaning.calls, State.{State, Outcome, Out, go, over, Run, then_on, ◌>>=◌, give}}
+use Rattle.sharc_ask_steps.specs.{declared.state.End.End, View.{Known, known, Over, Ends, EndsAs, DoesAs}}
 use Rattle.sharc_ask_steps.specs.declared.state.End.TheVariants as ends
-use Rattle.sharc_ask_steps.specs.View.{Known, known, Over, Went, Ends, EndsAs, DoesAs}
-use Rattle.sharc_ask.specs.declared.plan.Plan.{Plan}
+use Rattle.sharc_ask.specs.{declared.plan.Plan.Plan, declared.plan.Rest.Rest, declared.plan.Task.Task, declared.plan.Value.{Value as RustValue}, declared.stack.At.At, declared.stack.Left.Left, Values.{Value, view_value}, Plans.{task_means, rest_means, plan_means, PlanEnds, Plans}, Stack.{Behind, all_behind, AreBehind, at_means, Reached, Moves, StepEnds, Steps, GoesOnWith, Comes, with_rest}}
 use Rattle.sharc_ask.specs.declared.plan.Plan.TheVariants as plans
-use Rattle.sharc_ask.specs.declared.plan.Rest.{Rest}
 use Rattle.sharc_ask.specs.declared.plan.Rest.TheVariants as rests
-use Rattle.sharc_ask.specs.declared.plan.Task.{Task}
-use Rattle.sharc_ask.specs.declared.plan.Value.{Value as RustValue}
-use Rattle.sharc_ask.specs.declared.stack.At.{At}
 use Rattle.sharc_ask.specs.declared.stack.Later.TheVariants as laters
-use Rattle.sharc_ask.specs.declared.stack.Left.{Left}
-use Rattle.sharc_ask.specs.declared.walk.Stepped.{Stepped}
 use Rattle.sharc_ask.specs.declared.walk.Stepped.TheVariants as stepped
-use Rattle.sharc_ask.specs.Values.{Value, view_value}
-use Rattle.sharc_ask.specs.Plans.{task_means, rest_means, plan_means, PlanEnds, Plans}
-use Rattle.sharc_ask.specs.Stack.{Behind, all_behind, AreBehind, IsBehind, at_means, Reaches, Reached, Moves, StepEnds, Steps, GoesOnWith, Comes, with_rest}
 use Rattle.sharc_ask.proofs.Stating.{out_given}
 
 pub bound_twice : {A B C : Type 0} (out : Out A) (f : A → Run B) (g : B → Run C) → then_on (then_on out f) g ≡ then_on out (λ x. f x >>= g)
@@ -116,15 +103,6 @@ pub popped_moves : (m : Assignment) (at : At) (l : Left) (v : RustValue) (k k1 :
 popped_moves m at l v k k1 stack0 stack stack1 r done top h =
     subst (λ z. Moves m k z r k1 stack1 (at_means m at)) (sym top)
     (subst (λ z. Moves m k (l ∷ stack) r k1 stack1 (plan_means (calls m at.frames) m z)) (sym done) (λ s behind is stands. popped m l v k k1 stack stack1 r s behind h is stands))
-
-nothing_left : (m : Assignment) (v : RustValue) (k : Known) (s : State) (behind : List Behind) → known s ≡ k → AreBehind m [] behind → Went (view_value v) k (all_behind behind (view_value v) s)
-nothing_left m v k s [] is stands = record { state = s; is = refl; looks = is }
-nothing_left m v k s (f ∷ rest) is stands = absurd stands
-
-pub whole_steps : (m : Assignment) (at : At) (v : RustValue) (k : Known) (stack stack1 : List Left) → at.plan ≡ plans.Done v → stack ≡ [] → Steps m k stack (Ok (stepped.Whole v)) k stack1 (at_means m at)
-whole_steps m at v k stack stack1 done empty =
-    subst (λ z. Steps m k z (Ok (stepped.Whole v)) k stack1 (at_means m at)) (sym empty)
-    (subst (λ z. Steps m k [] (Ok (stepped.Whole v)) k stack1 (plan_means (calls m at.frames) m z)) (sym done) (λ s behind is stands. nothing_left m v k s behind is stands))
 
 -- ---- steps
 

@@ -1,31 +1,15 @@
 -- What parts of statements are begun with, and what goes on with the value of that.
 use Rattle.std.proofs.Common.{◌≡◌, ℕ, List, length, Some, refl, ap, ◌∙◌, subst}
 use Rattle.std.specs.Prelude.{ℤ}
-use Rattle.sharc_tree.specs.declared.token.Site.{Site}
-use Rattle.sharc_tree.specs.declared.token.Span.{Span}
-use Rattle.sharc_tree.specs.declared.tree.declaration.Declaration.{Declaration}
-use Rattle.sharc_tree.specs.declared.tree.declaration.WrittenType.{WrittenType}
-use Rattle.sharc_tree.specs.Spans.{span_of}
-use Rattle.sharc_tree.specs.Tree.{Expression, Right, malloc, assign, does_call}
+use Rattle.sharc_tree.specs.{declared.token.Site.Site, declared.token.Span.Span, declared.tree.declaration.Declaration.Declaration, declared.tree.declaration.WrittenType.WrittenType, Spans.span_of, Tree.{Expression, Right, malloc, assign, does_call}}
 use Rattle.sharc_names.specs.Kinds.{Kind, declared_kind}
 use Rattle.sharc_ctype.specs.Resolved.{Resolution, kind_at}
-use Rattle.sharc_mode.specs.Cells.{pointed}
-use Rattle.sharc_mode.specs.Moded.{Assignment}
-use Rattle.sharc_mode.specs.Rows.{written, row_at, declared_row}
-use Rattle.sharc_mode.specs.Sharings.{Sharing, private}
-use Rattle.sharc_meaning.specs.Expressions.{Calls, tested, fitting, passed, eval, place_of}
-use Rattle.sharc_meaning.specs.Places.{variable, stored}
-use Rattle.sharc_meaning.specs.State.{State, Out, go, over, Run, Step, then_on, ◌>>=◌, ◌>>◌, give, drops}
-use Rattle.sharc_meaning.specs.Statements.{right_value, done_simple, initialised, return_with, returned}
-use Rattle.sharc_ask.specs.declared.plan.Plan.{Plan}
+use Rattle.sharc_mode.specs.{Cells.pointed, Moded.Assignment, Rows.{written, row_at, declared_row}, Sharings.{Sharing, private}}
+use Rattle.sharc_meaning.specs.{Expressions.{Calls, fitting, passed, eval, place_of}, Places.{variable, stored}, State.{State, Out, go, over, Run, Step, then_on, ◌>>=◌, ◌>>◌, give, drops}, Statements.{right_value, done_simple, initialised, return_with, returned}}
+use Rattle.sharc_ask.specs.{declared.plan.Plan.Plan, declared.plan.Task.Task, View.made, Values.{Value, number, place, flow, number_in, place_in, gives, as_nothing}, Plans.{ends_above, step_then, assigned_to, returned_with, task_means, plan_means, Leads, inside}}
 use Rattle.sharc_ask.specs.declared.plan.Plan.TheVariants as plans
 use Rattle.sharc_ask.specs.declared.plan.Rest.TheVariants as rests
-use Rattle.sharc_ask.specs.declared.plan.Task.{Task}
-use Rattle.sharc_ask.specs.View.{made}
-use Rattle.sharc_ask.specs.Values.{Value, number, test, place, flow, number_in, place_in, gives, as_nothing}
-use Rattle.sharc_ask.specs.Plans.{ends_above, step_then, assigned_to, returned_with, task_means, plan_means, Leads, inside}
-use Rattle.sharc_ask.proofs.Expressing.{passed_goes, passed_ends, passed_first}
-use Rattle.sharc_ask.proofs.Outs.{begun, both_begun}
+use Rattle.sharc_ask.proofs.{Expressing.{passed_goes, passed_ends, passed_first}, Outs.{begun, both_begun}}
 
 pub out_given : (out : Out Value) → out ≡ then_on out (λ v. give v)
 out_given (go v t) = refl
@@ -38,9 +22,6 @@ same_begins on_call m t = λ s. out_given (task_means on_call m t s)
 -- a step, and what a plan is for
 pub step_begins : {A : Type 0} (on_call : Calls) (m : Assignment) (step : Step) (w : A → Value) (run : Run A) (p : Plan) → Leads on_call m (gives w run) p → (s : State) → gives w (step >> run) s ≡ step_then step (plan_means on_call m p) s
 step_begins on_call m step w run p lead s = both_begun (step s) (λ out. then_on (then_on out (λ u. run)) (λ x. give (w x))) (λ out. then_on out (λ u. plan_means on_call m p)) (λ o t. refl) (λ u t. lead t)
-
-pub test_begins : (r : Resolution) (e : Expression) (of_e : Run ℤ) (s : State) → gives test (tested r e of_e) s ≡ then_on (gives number of_e s) (λ v. gives test (tested r e (give (number_in v))))
-test_begins r e of_e s = begun number (λ v. gives test (tested r e (give (number_in v)))) (of_e s) (λ out. gives test (tested r e (λ z. out)) s) (λ o t. refl) (λ x t. refl)
 
 pub argument_begins : (r : Resolution) (kinds : List Kind) (e : Expression) (of_e : Run ℤ) (s : State) → gives number (passed r kinds e of_e) s ≡ then_on (gives number of_e s) (λ v. gives number (passed r kinds e (give (number_in v))))
 argument_begins r kinds e of_e s =

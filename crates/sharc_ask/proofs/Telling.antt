@@ -1,25 +1,12 @@
 -- How far a thread came, as the code reports it.
-use Rattle.std.proofs.Common.{◌≡◌, ℕ, zero, suc, Bool, true, false, Result, List, ◌++◌, length, refl, sym, ap, ◌∙◌, subst, arith}
-use Rattle.std.proofs.lemmas.Bool.{lt-ltb, ne_eqb}
+use Rattle.std.proofs.{Common.{◌≡◌, ℕ, zero, suc, Bool, true, false, Result, List, ◌++◌, length, refl, sym, ap, ◌∙◌, subst, arith}, lemmas.Bool.{lt-ltb, ne_eqb}}
 use Rattle.std.specs.Prelude.{ℤ, ◌==◌, nat_lt, not}
-use Rattle.sharc_meaning.specs.Events.{held_mutexes}
-use Rattle.sharc_meaning.specs.Meaning.{goes_away}
-use Rattle.sharc_meaning.specs.State.{then_on, ◌>>◌, unless_stop}
-use Rattle.sharc_ask_steps.specs.View.{Ends, Does}
-use Rattle.sharc_tree.specs.declared.event.SourceEvent.{SourceEvent}
-use Rattle.sharc_tree.specs.declared.token.Site.{Site}
-use Rattle.sharc_tree.specs.declared.trap.Trap.{Trap}
+use Rattle.sharc_meaning.specs.{Events.held_mutexes, Meaning.{goes_away, asked_by}, State.{then_on, ◌>>◌, unless_stop, Out, held_references, pointers_among}}
+use Rattle.sharc_ask_steps.specs.{View.{Ends, Does, Known, Over}, declared.state.End.End}
+use Rattle.sharc_tree.specs.{declared.event.SourceEvent.SourceEvent, declared.token.Site.Site, declared.trap.Trap.Trap, Traps.trap_number}
 use Rattle.sharc_tree.specs.declared.trap.Trap.TheVariants as traps
-use Rattle.sharc_tree.specs.Traps.{trap_number}
-use Rattle.sharc_ask.specs.declared.asked.Asked.{Asked as RustAsked}
-use Rattle.sharc_ask.specs.declared.asked.Outcome.TheVariants.{Wants, Ended, StoppedX, Fuel}
-use Rattle.sharc_ask_steps.specs.declared.state.End.{End}
+use Rattle.sharc_ask.specs.{declared.asked.Asked.{Asked as RustAsked}, declared.asked.Outcome.TheVariants.{Wants, StoppedX}, Held.all_held, View.{leaves, told, Tells}}
 use Rattle.sharc_ask_steps.specs.declared.state.End.TheVariants as ends
-use Rattle.sharc_meaning.specs.Meaning.{asked_by}
-use Rattle.sharc_meaning.specs.State.{Out, held_references, pointers_among}
-use Rattle.sharc_ask_steps.specs.View.{Known, Went, Over}
-use Rattle.sharc_ask.specs.Held.{all_held}
-use Rattle.sharc_ask.specs.View.{leaves, told, Tells}
 
 abbrev pub held_of : Known → List ℤ
 held_of k = k.below ++ (pointers_among k.variables ++ k.temporaries)
@@ -32,12 +19,6 @@ tells_wants x k out a w ev oc gu = tells_over (ends.Wants x) k out a w ev (oc �
 
 pub tells_stopped : (trap : Trap) (site : Site) (k : Known) (out : Out (Unit {0})) (a : RustAsked) → Over (ends.Stopped trap site) k out → a.events ≡ k.events → a.outcome ≡ StoppedX (trap_number trap) site → a.given_up ≡ k.given_up → Tells a (asked_by out)
 tells_stopped trap site k out a w ev oc gu = tells_over (ends.Stopped trap site) k out a w ev (oc ∙ ap (λ o. told o (held_references w.state)) (sym w.ends_so)) gu
-
-pub tells_spent : (k : Known) (out : Out (Unit {0})) (a : RustAsked) → Over ends.Spent k out → a.events ≡ k.events → a.outcome ≡ Fuel → a.given_up ≡ k.given_up → Tells a (asked_by out)
-tells_spent k out a w ev oc gu = tells_over ends.Spent k out a w ev (oc ∙ ap (λ o. told o (held_references w.state)) (sym w.ends_so)) gu
-
-pub tells_ended : (k : Known) (out : Out (Unit {0})) (a : RustAsked) → Went tt k out → a.events ≡ k.events → a.outcome ≡ Ended → a.given_up ≡ k.given_up → Tells a (asked_by out)
-tells_ended k out a w ev oc gu = (ev ∙ sym (ap (λ (z : Known). z.events) w.looks) ∙ ap (λ z. (asked_by z).events) (sym w.is), oc ∙ ap (λ z. told (asked_by z).outcome (asked_by z).held) (sym w.is), gu ∙ sym (ap (λ (z : Known). z.given_up) w.looks) ∙ ap (λ z. (asked_by z).given_up) (sym w.is))
 
 -- what a thread holds where its run is over
 pub held_over : (e : End) (k : Known) (out : Out (Unit {0})) → Over e k out → all_held k ≡ (asked_by out).held

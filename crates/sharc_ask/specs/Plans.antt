@@ -2,53 +2,37 @@
 use Rattle.std.specs.Prelude.{◌≡◌, ℕ, suc, ℤ, pos, not, ◌+◌, ◌*◌, ◌<◌, ◌≤◌, Bool, true, false, List, Option, Some, Result, Ok, Err, if◌then◌else◌}
 use Rattle.sharc_tree.specs.declared.event.Act.TheVariants as acts
 use Rattle.sharc_tree.specs.declared.event.Object.TheVariants.{Made}
-use Rattle.sharc_tree.specs.declared.event.TakeKind.TheVariants.{Cast, Free as ToFree}
-use Rattle.sharc_tree.specs.declared.token.Site.{Site}
-use Rattle.sharc_tree.specs.declared.tree.expression.BinaryOperator.{BinaryOperator}
-use Rattle.sharc_tree.specs.Spans.{span_of}
-use Rattle.sharc_tree.specs.declared.tree.statement.Stmt.{Stmt}
-use Rattle.sharc_tree.specs.Tree.{Expression, Statement}
+use Rattle.sharc_tree.specs.{declared.event.TakeKind.TheVariants.{Cast, Free as ToFree}, declared.token.Site.Site}
+use Rattle.sharc_tree.specs.{declared.tree.expression.BinaryOperator.BinaryOperator, Spans.span_of}
+use Rattle.sharc_tree.specs.{declared.tree.statement.Stmt.Stmt, Tree.{Expression, Statement}}
 use Rattle.sharc_tree.specs.View.{view_expr, view_arguments, view_option, view_right, view_simple, view_local, view_first, view_stmt, view_statements}
 use Rattle.sharc_names.specs.declared.fault.Named.{Named}
-use Rattle.sharc_names.specs.Kinds.{Kind, declared_kind, declared_kinds, element_kind, promoted}
-use Rattle.sharc_names.specs.View.{view_kind}
-use Rattle.sharc_ctype.specs.Resolved.{Resolution, kind_at}
-use Rattle.sharc_ctype.specs.Transfers.{parameters_named}
-use Rattle.sharc_mode.specs.Cells.{cell_at, pointed}
-use Rattle.sharc_mode.specs.Moded.{Assignment}
-use Rattle.sharc_mode.specs.Rows.{row_at, cast_row}
-use Rattle.sharc_mode.specs.Sharings.{private}
+use Rattle.sharc_names.specs.{Kinds.{Kind, declared_kind, declared_kinds, element_kind, promoted}, View.view_kind}
+use Rattle.sharc_ctype.specs.{Resolved.{Resolution, kind_at}, Transfers.parameters_named}
+use Rattle.sharc_mode.specs.{Cells.{cell_at, pointed}, Moded.Assignment, Rows.{row_at, cast_row}, Sharings.private}
 use Rattle.sharc_mode.specs.View.{view_sharing}
 use Rattle.sharc_meaning.specs.Arithmetic.{bits_of, truth, operated, negated, complement}
-use Rattle.sharc_meaning.specs.Cells.{element_cells}
+use Rattle.sharc_meaning.specs.Cells.{element_cells, field_place_named}
 use Rattle.sharc_meaning.specs.Expressions.{Calls, resulting, tested, operand, fitting, passed, number_named, value_called, eval, place_of}
 use Rattle.sharc_meaning.specs.Places.{Place, variable, field_in, based, element, element_of_array, index_place, pointee_place, field_place, stored, taken_from, cast_to, freed}
-use Rattle.sharc_meaning.specs.Cells.{field_place_named}
 use Rattle.sharc_meaning.specs.Reference.{is_null, number_of, elements_of}
 use Rattle.sharc_meaning.specs.State.{State, Out, Run, Step, ◌>>=◌, ◌>>◌, give, done, answered, drops, moves, ends_temporaries, ends_variables}
 use Rattle.sharc_meaning.specs.Statements.{Flow, next, returned, on_next, on_turn, turns, loop, exec, exec_all, right_value, done_simple, declared, done_first, done_test, return_with}
 use Rattle.sharc_meaning.specs.Waiting.{lock_call, unlock_call}
-use Rattle.sharc_ask_steps.specs.declared.state.End.{End}
+use Rattle.sharc_ask_steps.specs.{declared.state.End.End, View.{Known, known, view_place, Over}, Width.value_bits}
 use Rattle.sharc_ask_steps.specs.declared.state.End.TheVariants as ends
-use Rattle.sharc_ask_steps.specs.View.{Known, known, view_place, Over}
-use Rattle.sharc_ask_steps.specs.Width.{value_bits}
-use Rattle.sharc_ask.specs.declared.plan.After.{After}
-use Rattle.sharc_ask.specs.declared.plan.After.TheVariants as afters
-use Rattle.sharc_ask.specs.declared.plan.Loop.{Loop}
-use Rattle.sharc_ask.specs.declared.plan.Plan.{Plan}
-use Rattle.sharc_ask.specs.declared.plan.Plan.TheVariants as plans
-use Rattle.sharc_ask.specs.declared.plan.Rest.{Rest}
-use Rattle.sharc_ask.specs.declared.plan.Rest.TheVariants as rests
-use Rattle.sharc_ask.specs.declared.plan.Task.{Task}
-use Rattle.sharc_ask.specs.declared.plan.Task.TheVariants as tasks
-use Rattle.sharc_ask.specs.declared.plan.WithNumber.{WithNumber}
-use Rattle.sharc_ask.specs.declared.plan.WithNumber.TheVariants as numbers
-use Rattle.sharc_ask.specs.declared.plan.WithValue.{WithValue}
-use Rattle.sharc_ask.specs.declared.plan.WithValue.TheVariants as with_values
-use Rattle.sharc_ask.specs.declared.plan.WithPlace.{WithPlace}
-use Rattle.sharc_ask.specs.declared.plan.WithPlace.TheVariants as with_places
+use Rattle.sharc_ask.specs.{declared.plan.After.After, declared.plan.Loop.Loop, declared.plan.Plan.Plan}
+use Rattle.sharc_ask.specs.{declared.plan.Rest.Rest, declared.plan.Task.Task, declared.plan.WithNumber.WithNumber}
+use Rattle.sharc_ask.specs.{declared.plan.WithValue.WithValue, declared.plan.WithPlace.WithPlace}
 use Rattle.sharc_ask.specs.Values.{Value, number, test, place, flow, number_in, test_in, place_in, flow_in, view_value, gives, as_nothing}
 use Rattle.sharc_ask.specs.View.{view_test, view_otherwise, loop_test, loop_step, loop_body, other_done, number_left, place_fetched, calling, made}
+use Rattle.sharc_ask.specs.declared.plan.After.TheVariants as afters
+use Rattle.sharc_ask.specs.declared.plan.Plan.TheVariants as plans
+use Rattle.sharc_ask.specs.declared.plan.Rest.TheVariants as rests
+use Rattle.sharc_ask.specs.declared.plan.Task.TheVariants as tasks
+use Rattle.sharc_ask.specs.declared.plan.WithNumber.TheVariants as numbers
+use Rattle.sharc_ask.specs.declared.plan.WithValue.TheVariants as with_values
+use Rattle.sharc_ask.specs.declared.plan.WithPlace.TheVariants as with_places
 
 -- ---- parts of runs
 

@@ -1,30 +1,20 @@
 -- The stack of the walk: what it means, and what the walk's functions do with it.
-use Rattle.std.specs.Prelude.{◌≡◌, ℕ, ℤ, ◌+◌, ◌<◌, List, [], ◌∷◌, ◌++◌, reverse, Result, Ok, Err, Vec}
-use Rattle.std.specs.Global.{Global}
-use Rattle.sharc_tree.specs.Tree.{Function, Arguments}
-use Rattle.sharc_tree.specs.View.{view_arguments, view_function}
+use Rattle.std.specs.{Prelude.{◌≡◌, ℕ, ℤ, ◌+◌, ◌<◌, List, [], ◌∷◌, ◌++◌, reverse, Result, Ok, Err, Vec}, Global.Global}
+use Rattle.sharc_tree.specs.{Tree.{Function, Arguments}, View.{view_arguments, view_function}}
 use Rattle.sharc_names.specs.Kinds.{Kind, declared_kinds}
 use Rattle.sharc_mode.specs.Moded.{Assignment}
-use Rattle.sharc_meaning.specs.Expressions.{Calls, called, eval_all}
-use Rattle.sharc_meaning.specs.Meaning.{back_in, calls, left_at}
-use Rattle.sharc_meaning.specs.State.{Frame, State, Out, Run, then_on, ◌>>=◌, give, ends_variables}
-use Rattle.sharc_meaning.specs.Statements.{Flow}
-use Rattle.sharc_ask_steps.specs.declared.state.End.{End}
+use Rattle.sharc_meaning.specs.{Expressions.{Calls, called, eval_all}, Meaning.{back_in, calls, left_at}}
+use Rattle.sharc_meaning.specs.{State.{Frame, State, Out, Run, then_on, ◌>>=◌, give, ends_variables}, Statements.Flow}
+use Rattle.sharc_ask_steps.specs.{declared.state.End.End, View.{Known, known, held_below, Over, Went, EndsAs}}
 use Rattle.sharc_ask_steps.specs.declared.state.End.TheVariants as ends
-use Rattle.sharc_ask_steps.specs.View.{Known, known, held_below, Over, Went, EndsAs}
-use Rattle.sharc_ask.specs.declared.plan.Call.{Call}
-use Rattle.sharc_ask.specs.declared.plan.Rest.{Rest}
-use Rattle.sharc_ask.specs.declared.plan.Rest.TheVariants as rests
-use Rattle.sharc_ask.specs.declared.plan.Value.{Value as RustValue}
-use Rattle.sharc_ask.specs.declared.stack.At.{At}
-use Rattle.sharc_ask.specs.declared.stack.Caller.{Caller}
-use Rattle.sharc_ask.specs.declared.stack.Later.{Later}
-use Rattle.sharc_ask.specs.declared.stack.Later.TheVariants as laters
-use Rattle.sharc_ask.specs.declared.stack.Left.{Left}
-use Rattle.sharc_ask.specs.declared.walk.Stepped.{Stepped}
-use Rattle.sharc_ask.specs.declared.walk.Stepped.TheVariants as stepped
+use Rattle.sharc_ask.specs.{declared.plan.Call.Call, declared.plan.Rest.Rest, declared.plan.Value.{Value as RustValue}}
+use Rattle.sharc_ask.specs.{declared.stack.At.At, declared.stack.Caller.Caller, declared.stack.Later.Later}
+use Rattle.sharc_ask.specs.{declared.stack.Left.Left, declared.walk.Stepped.Stepped}
 use Rattle.sharc_ask.specs.Values.{Value, number, number_in, flow_in, view_value, gives, as_left}
 use Rattle.sharc_ask.specs.Plans.{ends_above, rest_means, plan_means, weight, size}
+use Rattle.sharc_ask.specs.declared.plan.Rest.TheVariants as rests
+use Rattle.sharc_ask.specs.declared.stack.Later.TheVariants as laters
+use Rattle.sharc_ask.specs.declared.walk.Stepped.TheVariants as stepped
 
 -- what is left to do, the next thing first
 abbrev pub stack_of : Vec Left Global → List Left

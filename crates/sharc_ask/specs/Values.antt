@@ -1,13 +1,10 @@
 -- What a task of the walk comes to.
 use Rattle.std.specs.Prelude.{ℤ, pos, Bool, false}
 use Rattle.sharc_tree.specs.declared.token.Site.{Site}
-use Rattle.sharc_meaning.specs.Places.{Place, no_place}
-use Rattle.sharc_meaning.specs.State.{Run, ◌>>=◌, give}
-use Rattle.sharc_meaning.specs.Statements.{Flow, next, returned}
+use Rattle.sharc_meaning.specs.{Places.{Place, no_place}, State.{Run, ◌>>=◌, give}, Statements.{Flow, next, returned}}
 use Rattle.sharc_ask_steps.specs.View.{view_place}
-use Rattle.sharc_ask.specs.declared.plan.Value.{Value as RustValue}
+use Rattle.sharc_ask.specs.{declared.plan.Value.{Value as RustValue}, View.view_flow}
 use Rattle.sharc_ask.specs.declared.plan.Value.TheVariants as values
-use Rattle.sharc_ask.specs.View.{view_flow}
 
 -- what a task comes to
 pub data Value : Type 0 where

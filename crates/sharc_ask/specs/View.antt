@@ -1,42 +1,29 @@
 -- How far a thread came, as the code reports it, and parts of runs, as the code's functions have them.
 use Rattle.std.specs.Prelude.{◌≡◌, ℕ, ℤ, pos, Bool, true, false, Option, Some, None, take, drop, ◌-◌, unsigned_abs, length, List, [], ◌++◌, if◌then◌else◌}
-use Rattle.std.specs.Borrow.{Bor}
-use Rattle.std.specs.Option.{option_map}
+use Rattle.std.specs.{Borrow.Bor, Option.option_map}
 use Rattle.sharc_tree.specs.declared.event.Act.TheVariants as acts
-use Rattle.sharc_tree.specs.declared.token.Site.{Site}
-use Rattle.sharc_tree.specs.declared.tree.declaration.WrittenType.{WrittenType}
+use Rattle.sharc_tree.specs.{declared.token.Site.Site, declared.tree.declaration.WrittenType.WrittenType}
 use Rattle.sharc_tree.specs.declared.tree.expression.BinaryOperator.{BinaryOperator}
 use Rattle.sharc_tree.specs.declared.tree.expression.BinaryOperator.TheVariants.{LogicalAnd, LogicalOr}
-use Rattle.sharc_tree.specs.declared.tree.expression.Expr.{Expr}
-use Rattle.sharc_tree.specs.declared.tree.statement.Simple.{Simple as RustSimple}
-use Rattle.sharc_tree.specs.Spans.{span_of}
-use Rattle.sharc_tree.specs.Tree.{Expression, Arguments, Simple, Statement, while, for}
-use Rattle.sharc_tree.specs.declared.tree.statement.Stmt.{Stmt}
-use Rattle.sharc_tree.specs.declared.trap.Trap.TheVariants as traps
-use Rattle.sharc_tree.specs.Traps.{trap_number}
+use Rattle.sharc_tree.specs.{declared.tree.expression.Expr.Expr, declared.tree.statement.Simple.{Simple as RustSimple}}
+use Rattle.sharc_tree.specs.{Spans.span_of, Tree.{Expression, Arguments, Simple, Statement, while, for}}
+use Rattle.sharc_tree.specs.{declared.tree.statement.Stmt.Stmt, Traps.trap_number}
 use Rattle.sharc_tree.specs.View.{view_expr, view_simple, view_stmt}
-use Rattle.sharc_names.specs.View.{view_kind}
-use Rattle.sharc_ask.specs.declared.plan.Loop.{Loop}
-use Rattle.sharc_names.specs.declared.fault.Named.{Named}
-use Rattle.sharc_names.specs.Kinds.{Kind, declared_kind, declared_kinds}
-use Rattle.sharc_ctype.specs.Resolved.{Resolution}
-use Rattle.sharc_ctype.specs.Transfers.{parameters_named}
-use Rattle.sharc_mode.specs.Cells.{cell_at}
-use Rattle.sharc_mode.specs.Moded.{Assignment}
-use Rattle.sharc_mode.specs.Sharings.{Sharing}
-use Rattle.sharc_meaning.specs.declared.variable.Variable.{Variable}
-use Rattle.sharc_meaning.specs.Arithmetic.{operated}
-use Rattle.sharc_meaning.specs.Cells.{element_cells, instance_mode}
-use Rattle.sharc_meaning.specs.Expressions.{Calls, called, resulting, tested, operand, binary_value, eval, eval_all}
-use Rattle.sharc_meaning.specs.Meaning.{Asked, parameters_begin, left_at}
-use Rattle.sharc_meaning.specs.Places.{Place, fetched}
-use Rattle.sharc_meaning.specs.State.{Outcome, wants, ended, stopped, spent, Run, Step, ◌>>=◌, ◌>>◌, give, unless_stop, answered, performs, looks_at, temporarily, in_block, entered, value_of, all_released, pointers_among}
-use Rattle.sharc_meaning.specs.Statements.{Flow, next, broken, continued, returned, is_positive, loop, done_first, done_step, done_test, exec, exec_all}
-use Rattle.sharc_ask_steps.specs.View.{Known}
-use Rattle.sharc_ask.specs.declared.asked.Asked.{Asked as RustAsked}
+use Rattle.sharc_tree.specs.declared.trap.Trap.TheVariants as traps
+use Rattle.sharc_names.specs.{View.view_kind, declared.fault.Named.Named, Kinds.{Kind, declared_kind, declared_kinds}}
+use Rattle.sharc_ask.specs.{declared.plan.Loop.Loop, declared.asked.Asked.{Asked as RustAsked}}
 use Rattle.sharc_ask.specs.declared.asked.Outcome.{Outcome as RustOutcome}
 use Rattle.sharc_ask.specs.declared.asked.Outcome.TheVariants.{Wants, Ended, StoppedX, Fuel}
 use Rattle.sharc_ask.specs.declared.values.Flow.{Flow as RustFlow}
+use Rattle.sharc_ctype.specs.{Resolved.Resolution, Transfers.parameters_named}
+use Rattle.sharc_mode.specs.{Cells.cell_at, Moded.Assignment, Sharings.Sharing}
+use Rattle.sharc_meaning.specs.{declared.variable.Variable.Variable, Arithmetic.operated}
+use Rattle.sharc_meaning.specs.Cells.{element_cells, instance_mode}
+use Rattle.sharc_meaning.specs.Expressions.{Calls, called, resulting, tested, operand, binary_value, eval, eval_all}
+use Rattle.sharc_meaning.specs.{Meaning.{Asked, parameters_begin, left_at}, Places.{Place, fetched}}
+use Rattle.sharc_meaning.specs.State.{Outcome, wants, ended, stopped, spent, Run, Step, ◌>>=◌, ◌>>◌, give, unless_stop, answered, performs, looks_at, temporarily, in_block, entered, value_of, all_released, pointers_among}
+use Rattle.sharc_meaning.specs.Statements.{Flow, next, broken, continued, returned, is_positive, loop, done_first, done_step, done_test, exec, exec_all}
+use Rattle.sharc_ask_steps.specs.View.{Known}
 use Rattle.sharc_ask.specs.declared.values.Flow.TheVariants as flows
 
 -- how far a thread came, with what it holds where it wants an event

@@ -1,23 +1,11 @@
 -- Products with powers of two, in two halves.
-use Rattle.std.proofs.Common.{◌≡◌, ℕ, ℤ, pos, negsuc, zero, suc, ◌+◌, ◌*◌, ◌^◌, ◌<◌, ◌≤◌, ◌*ℤ◌, neg_ℤ, false, nat_lt, Result, Ok, Err, sym, ap, ◌∙◌, subst, arith, FitsSigned, w64, inl, inr, to_z, of_z}
+use Rattle.std.proofs.{Common.{◌≡◌, ℕ, ℤ, pos, negsuc, zero, suc, ◌+◌, ◌*◌, ◌^◌, ◌<◌, ◌≤◌, ◌*ℤ◌, neg_ℤ, false, nat_lt, Result, Ok, Err, sym, ap, ◌∙◌, subst, arith, FitsSigned, w64, to_z, of_z}, Math.IntN.{pos-*ℤ-pos, negsuc-*ℤ-pos}, Math.Nat.mul_assoc, lemmas.Bool.Decides.nat_tests, Math.Pow.pow-lt, lemmas.Nat.{pow-add, pow_pos}, lemmas.Int.to_z-of_z}
 use Rattle.std.specs.Prelude.{if◌then◌else◌}
-use Rattle.std.proofs.Math.IntN.{zero-*ℤ, pos-*ℤ-pos, negsuc-*ℤ-pos}
-use Rattle.std.proofs.Math.Nat.{mul_assoc, mul-le-mul_left}
-use Rattle.std.proofs.lemmas.Bool.{cases_lt}
-use Rattle.std.proofs.lemmas.Bool.Decides.{nat_tests}
-use Rattle.std.proofs.Math.Pow.{pow-lt}
-use Rattle.std.proofs.lemmas.Nat.{pow-add, pow_pos}
-use Rattle.std.proofs.lemmas.Int.{to_z-of_z}
 use Rattle.sharc_tree.specs.declared.trap.Trap.{Trap}
 use Rattle.sharc_tree.specs.declared.trap.Trap.TheVariants as traps
-use Rattle.sharc_ask_steps.specs.declared.arithmetic.Width.{Width}
-use Rattle.sharc_ask_steps.specs.declared.arithmetic.Width.TheVariants.{Char, Int, Long}
+use Rattle.sharc_ask_steps.specs.{declared.arithmetic.Width.Width, declared.arithmetic.Width.TheVariants.{Char, Int, Long}, Width.value_bits}
 use Rattle.sharc_meaning.specs.Arithmetic.{in_range}
-use Rattle.sharc_ask_steps.specs.Width.{value_bits}
-
-neg_times : (k n : ℕ) → neg_ℤ (pos k) *ℤ pos n ≡ neg_ℤ (pos (k * n))
-neg_times zero n = zero-*ℤ (pos n) ∙ ap (λ (j : ℕ). neg_ℤ (pos j)) (let e : 0 ≡ zero * n = omega arith in e)
-neg_times (suc k) n = negsuc-*ℤ-pos k n
+use Rattle.sharc_lemmas.proofs.Numbers.{not_below2 as not_below, grown, neg_times}
 
 pub times : (a : ℤ) (m n : ℕ) → (a *ℤ pos m) *ℤ pos n ≡ a *ℤ pos (m * n)
 times (pos a) m n = ap (λ z. z *ℤ pos n) (pos-*ℤ-pos a m) ∙ pos-*ℤ-pos (a * m) n ∙ ap pos (mul_assoc a m n) ∙ sym (pos-*ℤ-pos a (m * n))
@@ -34,12 +22,6 @@ too_few width zero h = absurd (omega arith)
 too_few Char (suc k) h = let e : nat_lt k 128 ≡ false = search (nat_tests, arith) in ap (λ b. if b then Ok (negsuc k) else Err traps.OutOfRange) (sym e)
 too_few Int (suc k) h = let e : nat_lt k 2147483648 ≡ false = search (nat_tests, arith) in ap (λ b. if b then Ok (negsuc k) else Err traps.OutOfRange) (sym e)
 too_few Long (suc k) h = let e : nat_lt k 9223372036854775808 ≡ false = search (nat_tests, arith) in ap (λ b. if b then Ok (negsuc k) else Err traps.OutOfRange) (sym e)
-
-not_below : (a b : ℕ) → (a < b → ⊥) → b ≤ a
-not_below a b out = elim (cases_lt a b) [ inl lt ↦ absurd (out lt) | inr le ↦ le ]
-
-grown : (a n : ℕ) → 0 < n → a ≤ a * n
-grown a n some = omega (arith, mul-le-mul_left a some)
 
 pub outgrown : (width : Width) (z : ℤ) (n : ℕ) → 0 < n → (FitsSigned w64 z → ⊥) → Err traps.OutOfRange ≡ in_range (value_bits width) (z *ℤ pos n)
 outgrown width (pos a) n some out =

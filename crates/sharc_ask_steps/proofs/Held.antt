@@ -1,11 +1,7 @@
 -- Which mutexes are held after one more event.
 use Rattle.std.proofs.Common.{◌≡◌, Bool, true, false, cond, not, ◌||◌, List, [], ◌∷◌, ◌++◌, refl, ap, ◌∙◌}
-use Rattle.std.specs.Prelude.{Option, Some, None, filter}
-use Rattle.std.specs.List.{list_any}
-use Rattle.sharc_tree.specs.declared.event.Act.{Act}
-use Rattle.sharc_tree.specs.declared.event.Act.TheVariants.{Read, Write, New, Take, Give, Freed, Lock, Unlock, Spawn, Started, Join, Print, Return, Gone, Enter, Woken, Signal, Broadcast}
-use Rattle.sharc_tree.specs.declared.event.CellAt.{CellAt}
-use Rattle.sharc_tree.specs.declared.event.SourceEvent.{SourceEvent}
+use Rattle.std.specs.{Prelude.{Option, Some, None, filter}, List.list_any}
+use Rattle.sharc_tree.specs.{declared.event.Act.Act, declared.event.Act.TheVariants.{Read, Write, New, Take, Give, Freed, Lock, Unlock, Spawn, Started, Join, Print, Return, Gone, Enter, Woken, Signal, Broadcast}, declared.event.CellAt.CellAt, declared.event.SourceEvent.SourceEvent}
 use Rattle.sharc_meaning.specs.Events.{same_cell, is_cell, locked_by, unlocked_by, unlocks, unless_unlocked, held_mutexes}
 use Rattle.sharc_ask_steps.specs.View.{held_after}
 

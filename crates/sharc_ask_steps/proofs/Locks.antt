@@ -1,16 +1,10 @@
 -- Locks, put together.
 use Rattle.std.proofs.Common.{◌≡◌, ℕ, length, nat_lt, Result, Ok, Err, sym, ap, ◌∙◌, subst}
 use Rattle.sharc_tree.specs.declared.event.Act.TheVariants as acts
-use Rattle.sharc_tree.specs.declared.event.CellAt.{CellAt}
-use Rattle.sharc_tree.specs.declared.token.Site.{Site}
+use Rattle.sharc_tree.specs.{declared.event.CellAt.CellAt, declared.token.Site.Site}
 use Rattle.sharc_tree.specs.declared.trap.Trap.TheVariants as traps
-use Rattle.sharc_meaning.specs.Events.{held_mutexes}
-use Rattle.sharc_meaning.specs.Places.{Place}
-use Rattle.sharc_meaning.specs.State.{Step, ◌>>◌, performs, unless_stop}
-use Rattle.sharc_meaning.specs.Waiting.{cell_at_place, moves_base, lock_call}
-use Rattle.sharc_ask_steps.specs.declared.state.End.{End}
-use Rattle.sharc_ask_steps.specs.View.{Known, Does}
-use Rattle.sharc_ask_steps.specs.Waking.{stops_where_held}
+use Rattle.sharc_meaning.specs.{Events.held_mutexes, Places.Place, State.{Step, ◌>>◌, performs, unless_stop}, Waiting.{cell_at_place, moves_base, lock_call}}
+use Rattle.sharc_ask_steps.specs.{declared.state.End.End, View.{Known, Does}, Waking.stops_where_held}
 use Rattle.sharc_ask_steps.proofs.Steps.{does_then, over_then}
 
 abbrev locks : Site → Place → Step

@@ -1,10 +1,7 @@
 -- An event with the next answer of the list, as the code has it.
-use Rattle.std.proofs.Common.{◌≡◌, ◌<◌, List, [], ◌∷◌, ◌++◌, refl, sym, ap, ◌∙◌, subst, arith, length, slice_index_or, drop, take, ◌-◌}
-use Rattle.std.proofs.lemmas.List.{take_all}
+use Rattle.std.proofs.{Common.{◌≡◌, ◌<◌, List, [], ◌∷◌, ◌++◌, refl, sym, ap, ◌∙◌, subst, arith, length, slice_index_or, drop, take, ◌-◌}, lemmas.List.take_all}
 use Rattle.std.specs.Prelude.{ℤ, pos}
-use Rattle.sharc_tree.specs.declared.event.Act.{Act}
-use Rattle.sharc_tree.specs.declared.event.CellAt.{CellAt}
-use Rattle.sharc_tree.specs.declared.token.Site.{Site}
+use Rattle.sharc_tree.specs.{declared.event.Act.Act, declared.event.CellAt.CellAt, declared.token.Site.Site}
 use Rattle.sharc_meaning.specs.State.{State, answered, happens, answer_of, event_of, value_in}
 use Rattle.sharc_ask_steps.specs.View.{Known, known, Went, held_after}
 use Rattle.sharc_ask_steps.proofs.Held.{held_behind}

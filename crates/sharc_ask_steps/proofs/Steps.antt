@@ -1,9 +1,8 @@
 -- How the code's steps are put together.
 use Rattle.std.proofs.Common.{◌≡◌, Result, Ok, Err, sym, ap, subst}
 use Rattle.sharc_meaning.specs.State.{State, Outcome, Out, over, Run, then_on, ◌>>=◌}
-use Rattle.sharc_ask_steps.specs.declared.state.End.{End}
+use Rattle.sharc_ask_steps.specs.{declared.state.End.End, View.{Known, Over, Ends, Does}}
 use Rattle.sharc_ask_steps.specs.declared.state.End.TheVariants as ends
-use Rattle.sharc_ask_steps.specs.View.{Known, Over, Ends, Does}
 
 -- one step, and the next with its value
 pub does_then : {A B : Type 0} (k k1 k2 : Known) (x : A) (r : Result B End) (m : Run A) (f : A → Run B) → Does k (Ok x) k1 m → Does k1 r k2 (f x) → Does k r k2 (m >>= f)

@@ -1,8 +1,7 @@
 -- A variable's place among those of its frame.
 use Rattle.std.proofs.Common.{◌≡◌, ℕ, suc, ◌+◌, ◌<◌, Bool, true, false, cond, List, [], ◌∷◌, refl, sym, ap, subst, ◌∙◌, arith, length, slice_index_or, slice_set}
 use Rattle.std.specs.Prelude.{ℤ, ◌==◌}
-use Rattle.sharc_meaning.specs.declared.variable.Variable.{Variable}
-use Rattle.sharc_meaning.specs.State.{with_value}
+use Rattle.sharc_meaning.specs.{declared.variable.Variable.Variable, State.with_value}
 use Rattle.sharc_ask_steps.specs.View.{place_of}
 
 abbrev pub valued : ℤ → Variable → Variable

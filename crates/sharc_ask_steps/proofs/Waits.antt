@@ -1,16 +1,9 @@
 -- Waits, put together.
 use Rattle.std.proofs.Common.{◌≡◌, ℤ, Bool, true, not, List, ℕ, codes, bytes_eq, slice_index_or, if◌then◌else◌, Result, Ok, Err, sym, ap, ◌∙◌, subst}
-use Rattle.sharc_tree.specs.declared.event.CellAt.{CellAt}
-use Rattle.sharc_tree.specs.declared.token.Site.{Site}
+use Rattle.sharc_tree.specs.{declared.event.CellAt.CellAt, declared.token.Site.Site}
 use Rattle.sharc_tree.specs.declared.trap.Trap.TheVariants as traps
-use Rattle.sharc_meaning.specs.Events.{holds_mutex}
-use Rattle.sharc_meaning.specs.Places.{pointee}
-use Rattle.sharc_meaning.specs.Reference.{NULL, is_null}
-use Rattle.sharc_meaning.specs.State.{Step, ◌>>=◌, ◌>>◌, unless_stop, looks_at}
-use Rattle.sharc_meaning.specs.Waiting.{cell_at_place, wait_call, signal_call, broadcast_call, condition_call}
-use Rattle.sharc_ask_steps.specs.declared.state.End.{End}
-use Rattle.sharc_ask_steps.specs.View.{Known, Does}
-use Rattle.sharc_ask_steps.specs.Waking.{stops_unless_held, waits}
+use Rattle.sharc_meaning.specs.{Events.holds_mutex, Places.pointee, Reference.{NULL, is_null}, State.{Step, ◌>>=◌, ◌>>◌, unless_stop, looks_at}, Waiting.{cell_at_place, wait_call, signal_call, broadcast_call, condition_call}}
+use Rattle.sharc_ask_steps.specs.{declared.state.End.End, View.{Known, Does}, Waking.{stops_unless_held, waits}}
 use Rattle.sharc_ask_steps.proofs.Steps.{does_then, over_then}
 
 abbrev first_cell : ℤ → CellAt

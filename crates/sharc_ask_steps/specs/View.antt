@@ -1,26 +1,18 @@
 -- What the code's values stand for, and what it is that the code does a run.
 use Rattle.std.specs.Prelude.{◌≡◌, ℕ, ℤ, not, List, [], ◌∷◌, ◌++◌, ◌+◌, ◌==◌, filter, reverse, flat_map, Result, Ok, Err, if◌then◌else◌}
-use Rattle.sharc_tree.specs.declared.event.Act.{Act}
-use Rattle.sharc_tree.specs.declared.event.Act.TheVariants.{Write, Lock, Unlock}
-use Rattle.sharc_tree.specs.declared.event.CellAt.{CellAt}
-use Rattle.sharc_tree.specs.declared.event.CellMode.{CellMode}
-use Rattle.sharc_tree.specs.declared.event.SourceEvent.{SourceEvent}
-use Rattle.sharc_tree.specs.declared.token.Site.{Site}
+use Rattle.sharc_tree.specs.{declared.event.Act.Act, declared.event.Act.TheVariants.{Write, Lock, Unlock}}
+use Rattle.sharc_tree.specs.{declared.event.CellAt.CellAt, declared.event.CellMode.CellMode}
+use Rattle.sharc_tree.specs.{declared.event.SourceEvent.SourceEvent, declared.token.Site.Site}
 use Rattle.sharc_names.specs.Kinds.{Kind, is_pointer}
-use Rattle.sharc_meaning.specs.declared.given.GivenUp.{GivenUp}
-use Rattle.sharc_meaning.specs.declared.given.GivenUp.TheVariants.{Replaced}
-use Rattle.sharc_meaning.specs.declared.variable.Variable.{Variable}
-use Rattle.sharc_meaning.specs.Cells.{Guard, mutex, behind, nothing}
-use Rattle.sharc_meaning.specs.Events.{same_cell, held_mutexes}
-use Rattle.sharc_meaning.specs.Places.{Place, variable, cell}
+use Rattle.sharc_meaning.specs.{declared.given.GivenUp.GivenUp, declared.given.GivenUp.TheVariants.Replaced}
+use Rattle.sharc_meaning.specs.{declared.variable.Variable.Variable, Cells.{Guard, mutex, behind, nothing}}
+use Rattle.sharc_meaning.specs.{Events.{same_cell, held_mutexes}, Places.{Place, variable, cell}}
 use Rattle.sharc_meaning.specs.State.{Frame, State, Outcome, wants, stopped, spent, Out, go, over, Run, Step, ◌>>◌, performs, moves, gives_up, done, held_by_frame}
-use Rattle.sharc_ask_steps.specs.declared.cells.Guard.{Guard as RustGuard}
+use Rattle.sharc_ask_steps.specs.{declared.cells.Guard.{Guard as RustGuard}, declared.places.Place.{Place as RustPlace}}
+use Rattle.sharc_ask_steps.specs.{declared.state.End.End, declared.state.State.{State as RustState}}
 use Rattle.sharc_ask_steps.specs.declared.cells.Guard.TheVariants as guards
-use Rattle.sharc_ask_steps.specs.declared.places.Place.{Place as RustPlace}
 use Rattle.sharc_ask_steps.specs.declared.places.Place.TheVariants as places
-use Rattle.sharc_ask_steps.specs.declared.state.End.{End}
 use Rattle.sharc_ask_steps.specs.declared.state.End.TheVariants as ends
-use Rattle.sharc_ask_steps.specs.declared.state.State.{State as RustState}
 
 -- what the code knows of a thread on its way: all but the numbers of calls and the trace
 pub record Known : Type 0 where

@@ -1,11 +1,9 @@
 -- Parts of the runs of mutexes and condition variables, as the code's functions have them.
 use Rattle.std.specs.Prelude.{ℤ, not}
 use Rattle.sharc_tree.specs.declared.event.Act.TheVariants as acts
-use Rattle.sharc_tree.specs.declared.event.CellAt.{CellAt}
-use Rattle.sharc_tree.specs.declared.token.Site.{Site}
+use Rattle.sharc_tree.specs.{declared.event.CellAt.CellAt, declared.token.Site.Site}
 use Rattle.sharc_tree.specs.declared.trap.Trap.TheVariants as traps
-use Rattle.sharc_meaning.specs.Events.{holds_mutex}
-use Rattle.sharc_meaning.specs.Places.{pointee}
+use Rattle.sharc_meaning.specs.{Events.holds_mutex, Places.pointee}
 use Rattle.sharc_meaning.specs.State.{Step, ◌>>=◌, ◌>>◌, performs, holds_reference, moves_on, unless_stop, looks_at}
 use Rattle.sharc_meaning.specs.Waiting.{cell_at_place}
 

@@ -1,20 +1,11 @@
 -- A text is one event line at most.
-use Rattle.std.proofs.Common.{◌≡◌, inl, inr, ℕ, suc, ◌<◌, ◌≤◌, ◌^◌, Bool, cond, false, List, [], ◌∷◌, ◌++◌, length, drop, refl, ap, sym, subst, ◌∙◌, arith}
-use Rattle.std.specs.Prelude.{ℤ, pos, negsuc, nat_eq, decimal, codes}
-use Rattle.std.specs.List.{list_any}
-use Rattle.std.specs.Str.{bytes_eq}
-use Rattle.std.proofs.lemmas.Bool.{or_from, or_parts, ltb-true}
-use Rattle.sharc_tree.specs.declared.event.CellAt.{CellAt}
-use Rattle.sharc_tree.specs.declared.event.Object.{Object}
-use Rattle.sharc_tree.specs.declared.event.Object.TheVariants.{Global, Made}
+use Rattle.std.proofs.{Common.{◌≡◌, inl, inr, ℕ, suc, ◌<◌, ◌≤◌, ◌^◌, Bool, cond, false, List, [], ◌∷◌, ◌++◌, length, drop, refl, ap, sym, subst, ◌∙◌, arith}, lemmas.Bool.{or_from, or_parts, ltb-true}}
+use Rattle.std.specs.{Prelude.{ℤ, pos, negsuc, nat_eq, decimal, codes}, List.list_any, Str.bytes_eq}
+use Rattle.sharc_tree.specs.{declared.event.CellAt.CellAt, declared.event.Object.Object, declared.event.Object.TheVariants.{Global, Made}}
 use Rattle.sharc_meaning.specs.Reference.{reference}
-use Rattle.sharc_audit.specs.declared.line.EventLine.{EventLine}
-use Rattle.sharc_audit.specs.declared.line.LineAct.{LineAct}
+use Rattle.sharc_audit.specs.{declared.line.EventLine.EventLine, declared.line.LineAct.LineAct, Grammar.{Text, read_on, IsNumber, thread_most, IsObject, IsPair, IsSigned, Behind, Both, HasCell, HasValue, HasReference, IsThread, IsFunctionName, IsAct, IsEventLine, AreEventLines}}
 use Rattle.sharc_audit.specs.declared.line.LineAct.TheVariants as line
-use Rattle.sharc_audit.specs.Grammar.{Text, read_on, IsNumber, thread_most, IsObject, IsPair, IsSigned, Behind, Both, HasCell, HasValue, HasReference, IsThread, IsFunctionName, IsAct, IsEventLine, AreEventLines}
-use Rattle.sharc_audit.proofs.Numerals.{value_back, decimal_free_above, one_cut, no_cut}
-use Rattle.sharc_audit.proofs.Parts.{held_small, digits_no_minus, object_free}
-use Rattle.sharc_audit.proofs.Blanks.{cell_blank, value_blank, name_blank, number_blank}
+use Rattle.sharc_audit.proofs.{Numerals.{value_back, decimal_free_above, one_cut, no_cut}, Parts.{held_small, digits_no_minus, object_free}, Blanks.{cell_blank, value_blank, name_blank, number_blank}}
 
 -- ---- numbers, cells and values
 

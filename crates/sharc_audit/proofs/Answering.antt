@@ -1,28 +1,14 @@
 -- What is computed of a line is what its thread asks for.
 use Rattle.std.proofs.Common.{◌≡◌, ◌⊎◌, inl, inr, ℕ, true, false, List, [], ◌∷◌, ◌++◌, length, map, Option, Some, None, refl, ap, sym, subst, ◌∙◌, append-nil}
 use Rattle.std.specs.Prelude.{ℤ, pos, if◌then◌else◌}
-use Rattle.sharc_tree.specs.declared.event.Act.{Act}
+use Rattle.sharc_tree.specs.{declared.event.Act.Act, declared.event.Taken.TheVariants.{Cell, Local}, declared.event.SourceEvent.SourceEvent, Tree.Function}
 use Rattle.sharc_tree.specs.declared.event.Act.TheVariants as acts
-use Rattle.sharc_tree.specs.declared.event.Taken.TheVariants.{Cell, Local}
-use Rattle.sharc_tree.specs.declared.event.SourceEvent.{SourceEvent}
-use Rattle.sharc_tree.specs.Tree.{Function}
 use Rattle.sharc_ctype.specs.Resolved.{Resolution, function_at}
 use Rattle.sharc_mode.specs.Moded.{Assignment}
-use Rattle.sharc_meaning.specs.Events.{events_of}
-use Rattle.sharc_meaning.specs.Laws.{AskLaws, IsAnswer, Starts, IsNext, AskedFor}
-use Rattle.sharc_meaning.specs.Meaning.{Asked, asks}
-use Rattle.sharc_meaning.specs.Runs.{by, answers_of, IsNamedAt, Follows, SourceRunWith}
-use Rattle.sharc_meaning.specs.Store.{LegalStore}
-use Rattle.sharc_audit.specs.declared.line.EventLine.{EventLine}
-use Rattle.sharc_audit.specs.declared.line.LineAct.{LineAct}
-use Rattle.sharc_audit.specs.declared.threads.Next.TheVariants.{Wants, Spent, Nothing}
-use Rattle.sharc_audit.specs.Asked.{IsSpent}
-use Rattle.sharc_audit.specs.Judging.{entry, has_begun, start_at, start_of, is_spent, next_in, next_of, own_answers, next_told, next_asked}
-use Rattle.sharc_audit.specs.Lines.{spawned_by, written, IsLine, told_by, told}
-use Rattle.sharc_audit.specs.Mains.{OneMain}
-use Rattle.sharc_audit.proofs.Lists.{map_both, map_length}
-use Rattle.sharc_audit.proofs.Telling.{NextBy, comes, lacks, nothing, next_by, at_mapped}
-use Rattle.sharc_audit.proofs.Entries.{entry_by_right, right_by_entry, events_begun, own_told, follows_begun, follows_entry}
+use Rattle.sharc_meaning.specs.{Events.events_of, Laws.{AskLaws, IsAnswer, Starts, IsNext, AskedFor}, Meaning.{Asked, asks}, Runs.{by, answers_of, IsNamedAt, Follows, SourceRunWith}, Store.LegalStore}
+use Rattle.sharc_audit.specs.{declared.line.EventLine.EventLine, declared.line.LineAct.LineAct, declared.threads.Next.TheVariants.{Wants, Spent, Nothing}, Asked.IsSpent, Judging.{entry, has_begun, start_at, start_of, is_spent, next_in, next_of, own_answers, next_told, next_asked}, Lines.{spawned_by, written, IsLine, told_by, told}, Mains.OneMain}
+use Rattle.sharc_audit.proofs.{Telling.{NextBy, comes, lacks, nothing, next_by, at_mapped}, Entries.{entry_by_right, right_by_entry, events_begun, own_told, follows_begun, follows_entry}}
+use Rattle.sharc_lemmas.proofs.Lists.{map_length, map_both}
 
 -- ---- what a line reports is what its event answers
 

@@ -1,36 +1,16 @@
 -- Verdicts.
-use Rattle.std.proofs.Common.{◌≡◌, ◌⊎◌, inl, inr, ℕ, zero, suc, ◌-◌, ◌<◌, ◌≤◌, ◌==◌, cond, true, false, List, [], ◌∷◌, ◌++◌, length, length-drop, take, drop, Option, Some, None, refl, ap, sym, subst, ◌∙◌, arith, append_assoc}
+use Rattle.std.proofs.{Common.{◌≡◌, ◌⊎◌, inl, inr, ℕ, zero, suc, ◌-◌, ◌<◌, ◌≤◌, ◌==◌, cond, true, false, List, [], ◌∷◌, ◌++◌, length, length-drop, take, drop, Option, Some, None, refl, ap, sym, subst, ◌∙◌, arith, append_assoc}, lemmas.Bool.cases_order}
 use Rattle.std.specs.Prelude.{slice_get, slice_index_or}
-use Rattle.std.proofs.lemmas.Bool.{cases_order}
 use Rattle.sharc_tree.specs.declared.event.SourceEvent.{SourceEvent}
 use Rattle.sharc_ctype.specs.Resolved.{Resolution}
 use Rattle.sharc_mode.specs.Moded.{Assignment}
-use Rattle.sharc_meaning.specs.Laws.{AskLaws, StoreLaws, RunLaws, AskedFor}
-use Rattle.sharc_meaning.specs.Obeys.{Obeys, until_return}
-use Rattle.sharc_meaning.specs.Runs.{SourceRunWith}
-use Rattle.sharc_meaning.specs.Store.{MayCome, LegalStore}
-use Rattle.sharc_judge.specs.declared.rule.Rule.{Rule}
-use Rattle.sharc_judge.specs.declared.rule.Rule.TheVariants.{Live, OneMode, Owner, NotWritten, UnderItsLock, ReadSharedOrOneThread}
-use Rattle.sharc_judge.specs.Judged.{Holds, number}
-use Rattle.sharc_audit.specs.declared.audit.EventFault.{EventFault}
+use Rattle.sharc_meaning.specs.{Laws.{AskLaws, StoreLaws, RunLaws, AskedFor}, Obeys.{Obeys, until_return}, Runs.SourceRunWith, Store.{MayCome, LegalStore}}
+use Rattle.sharc_judge.specs.{declared.rule.Rule.Rule, declared.rule.Rule.TheVariants.{Live, OneMode, Owner, NotWritten, UnderItsLock, ReadSharedOrOneThread}, Judged.{Holds, number}, Laws.RuleLaws, declared.pair.Until.TheVariants.Return}
+use Rattle.sharc_audit.specs.{declared.audit.EventFault.EventFault, declared.audit.Verdict.Verdict, declared.line.EventLine.EventLine, declared.threads.Next.Next, declared.threads.Next.TheVariants.{Wants, Spent, Nothing}, Asked.IsSpent, Audited.{Accepted, IsFirstRefused, IsAsked, IsNotLegal, IsAgainst, FailsBy, Refused, Audits}, Breaking.IsFault, Judging.next_asked, Lines.{IsLine, AreLines, told}, Mains.OneMain, Known.AreKnown}
 use Rattle.sharc_audit.specs.declared.audit.EventFault.TheVariants as fault
-use Rattle.sharc_audit.specs.declared.audit.Verdict.{Verdict}
 use Rattle.sharc_audit.specs.declared.audit.Verdict.TheVariants as verdict
-use Rattle.sharc_audit.specs.declared.line.EventLine.{EventLine}
-use Rattle.sharc_audit.specs.declared.threads.Next.{Next}
-use Rattle.sharc_audit.specs.declared.threads.Next.TheVariants.{Wants, Spent, Nothing}
-use Rattle.sharc_audit.specs.Asked.{IsSpent}
-use Rattle.sharc_audit.specs.Audited.{Accepted, IsFirstRefused, IsAsked, IsNotLegal, IsAgainst, FailsBy, Refused, Audits}
-use Rattle.sharc_audit.specs.Breaking.{IsFault}
 use Rattle.sharc_past.specs.Kept.{IsLowestAt}
-use Rattle.sharc_audit.specs.Judging.{next_asked}
-use Rattle.sharc_audit.specs.Lines.{IsLine, AreLines, told}
-use Rattle.sharc_audit.specs.Mains.{OneMain}
-use Rattle.sharc_audit.proofs.Answering.{told_asked, asked_is, computed_asked, spent_is, is_spent_at}
-use Rattle.sharc_audit.proofs.Breaking.{obeys_more, lowest_broken_last, broken_is}
-use Rattle.sharc_judge.specs.Laws.{RuleLaws}
-use Rattle.sharc_judge.specs.declared.pair.Until.TheVariants.{Return}
-use Rattle.sharc_audit.specs.Known.{AreKnown}
+use Rattle.sharc_audit.proofs.{Answering.{told_asked, asked_is, computed_asked, spent_is, is_spent_at}, Breaking.{obeys_more, lowest_broken_last, broken_is}}
 
 -- ---- rules
 

@@ -1,19 +1,10 @@
 -- Lines of events, by their parts.
-use Rattle.std.proofs.Common.{◌≡◌, inl, inr, ℕ, ◌<◌, ◌^◌, true, false, [], ◌∷◌, ◌++◌, ◌||◌, suc, refl, ap, sym, subst, ◌∙◌, arith}
-use Rattle.std.specs.Prelude.{Option, Some, None, MatchOption, ℤ, pos, negsuc, nat_eq, decimal, codes, Bool}
-use Rattle.std.specs.List.{list_any, list_all}
-use Rattle.std.specs.Str.{bytes_eq}
-use Rattle.std.proofs.lemmas.Slice.Eq.{bytes_eq-Decides}
-use Rattle.std.proofs.lemmas.Bool.{or_from, or_parts, and_parts, eqb-true, ltb-true, false≢true}
-use Rattle.sharc_tree.specs.declared.event.CellAt.{CellAt}
-use Rattle.sharc_tree.specs.declared.event.Object.{Object}
-use Rattle.sharc_tree.specs.declared.event.Object.TheVariants.{Global, Made}
-use Rattle.sharc_audit.specs.declared.line.EventLine.{EventLine}
-use Rattle.sharc_audit.specs.declared.line.LineAct.{LineAct}
+use Rattle.std.proofs.{Common.{◌≡◌, inl, inr, ℕ, ◌<◌, ◌^◌, true, false, [], ◌∷◌, ◌++◌, ◌||◌, suc, refl, ap, sym, subst, ◌∙◌, arith}, lemmas.Slice.Eq.bytes_eq-Decides, lemmas.Bool.{or_from, or_parts, and_parts, eqb-true, ltb-true, false≢true}}
+use Rattle.std.specs.{Prelude.{Option, Some, None, MatchOption, ℤ, pos, negsuc, nat_eq, decimal, codes, Bool}, List.{list_any, list_all}, Str.bytes_eq}
+use Rattle.sharc_tree.specs.{declared.event.CellAt.CellAt, declared.event.Object.Object, declared.event.Object.TheVariants.{Global, Made}}
+use Rattle.sharc_audit.specs.{declared.line.EventLine.EventLine, declared.line.LineAct.LineAct, Grammar.{Text, IsCut, IsNumber, thread_most, IsObject, IsPair, IsSigned, is_letter, is_digit, Behind, Both, HasCell, HasValue, HasReference, IsThread, IsFunctionName, IsPlain, IsAct, IsEventLine}}
 use Rattle.sharc_audit.specs.declared.line.LineAct.TheVariants as line
-use Rattle.sharc_audit.specs.Grammar.{Text, IsCut, IsNumber, thread_most, IsObject, IsPair, IsSigned, is_letter, is_digit, Behind, Both, HasCell, HasValue, HasReference, IsThread, IsFunctionName, IsPlain, IsAct, IsEventLine}
-use Rattle.sharc_audit.proofs.Numerals.{decimal_free, parts_of, no_cut}
-use Rattle.sharc_audit.proofs.Parts.{held_small}
+use Rattle.sharc_audit.proofs.{Numerals.{decimal_free, parts_of, no_cut}, Parts.held_small}
 
 free_append : (x : ℕ) (a b : Text) → list_any (nat_eq x) a ≡ false → list_any (nat_eq x) b ≡ false → list_any (nat_eq x) (a ++ b) ≡ false
 free_append x [] b p q = q
@@ -68,9 +59,6 @@ both_cut P Q text free h = no_cut 32 h.first h.second (sym (ap (list_any (nat_eq
 
 pub behind_parts : (w : Text) (P : Text → Type 0) (text a b : Text) → list_any (nat_eq 32) w ≡ false → IsCut 32 text a b → Behind w P text → (a ≡ w) × P b
 behind_parts w P text a b free cut h = let p = parts_of 32 text a b w h.rest cut h.is free in (p.0, subst P (sym p.1) h.holds)
-
-pub behind_cut : (w : Text) (P : Text → Type 0) (text : Text) → list_any (nat_eq 32) text ≡ false → Behind w P text → ⊥
-behind_cut w P text free h = no_cut 32 w h.rest (sym (ap (list_any (nat_eq 32)) h.is) ∙ free)
 
 pub behind_of : (w : Text) (P : Text → Type 0) (text a b : Text) → IsCut 32 text a b → a ≡ w → P b → Behind w P text
 behind_of w P text a b cut e p = record { rest = b; is = cut.is ∙ ap (λ z. z ++ 32 ∷ b) e; holds = p }
@@ -224,22 +212,6 @@ none_started kind text e none (line.Print v) h = differ (codes "started") (codes
 none_started kind text e none line.Return h = h
 none_started kind text e none line.Gone h = h
 
-pub none_join : (kind text : Text) → kind ≡ codes "join" → ((n : ℕ) → IsNumber 0 thread_most text n → ⊥) → (a : LineAct) → IsPlain kind a text → ⊥
-none_join kind text e none (line.Read c v) h = differ (codes "join") (codes "read") refl (sym e ∙ h.0)
-none_join kind text e none (line.Write c v) h = differ (codes "join") (codes "write") refl (sym e ∙ h.0)
-none_join kind text e none (line.New r) h = differ (codes "join") (codes "new") refl (sym e ∙ h.0)
-none_join kind text e none (line.Take r) h = differ (codes "join") (codes "take") refl (sym e ∙ h.0)
-none_join kind text e none (line.Give r) h = differ (codes "join") (codes "give") refl (sym e ∙ h.0)
-none_join kind text e none (line.Freed r) h = differ (codes "join") (codes "freed") refl (sym e ∙ h.0)
-none_join kind text e none (line.Lock c) h = differ (codes "join") (codes "lock") refl (sym e ∙ h.0)
-none_join kind text e none (line.Unlock c) h = differ (codes "join") (codes "unlock") refl (sym e ∙ h.0)
-none_join kind text e none (line.Spawn name v n) h = h
-none_join kind text e none (line.Started v) h = differ (codes "join") (codes "started") refl (sym e ∙ h.0)
-none_join kind text e none (line.Join n) h = let t = h.1 in none t.number t.is
-none_join kind text e none (line.Print v) h = differ (codes "join") (codes "print") refl (sym e ∙ h.0)
-none_join kind text e none line.Return h = h
-none_join kind text e none line.Gone h = h
-
 pub none_print : (kind text : Text) → kind ≡ codes "print" → ((v : ℤ) → HasValue v text → ⊥) → (a : LineAct) → IsPlain kind a text → ⊥
 none_print kind text e none (line.Read c v) h = differ (codes "print") (codes "read") refl (sym e ∙ h.0)
 none_print kind text e none (line.Write c v) h = differ (codes "print") (codes "write") refl (sym e ∙ h.0)
@@ -255,22 +227,6 @@ none_print kind text e none (line.Join n) h = differ (codes "print") (codes "joi
 none_print kind text e none (line.Print v) h = none v h.1
 none_print kind text e none line.Return h = h
 none_print kind text e none line.Gone h = h
-
-pub none_other : (kind text : Text) → (kind ≡ codes "read" → ⊥) → (kind ≡ codes "write" → ⊥) → (kind ≡ codes "new" → ⊥) → (kind ≡ codes "take" → ⊥) → (kind ≡ codes "give" → ⊥) → (kind ≡ codes "freed" → ⊥) → (kind ≡ codes "lock" → ⊥) → (kind ≡ codes "unlock" → ⊥) → (kind ≡ codes "started" → ⊥) → (kind ≡ codes "join" → ⊥) → (kind ≡ codes "print" → ⊥) → (a : LineAct) → IsPlain kind a text → ⊥
-none_other kind text no_read no_write no_new no_take no_give no_freed no_lock no_unlock no_started no_join no_print (line.Read c v) h = no_read h.0
-none_other kind text no_read no_write no_new no_take no_give no_freed no_lock no_unlock no_started no_join no_print (line.Write c v) h = no_write h.0
-none_other kind text no_read no_write no_new no_take no_give no_freed no_lock no_unlock no_started no_join no_print (line.New r) h = no_new h.0
-none_other kind text no_read no_write no_new no_take no_give no_freed no_lock no_unlock no_started no_join no_print (line.Take r) h = no_take h.0
-none_other kind text no_read no_write no_new no_take no_give no_freed no_lock no_unlock no_started no_join no_print (line.Give r) h = no_give h.0
-none_other kind text no_read no_write no_new no_take no_give no_freed no_lock no_unlock no_started no_join no_print (line.Freed r) h = no_freed h.0
-none_other kind text no_read no_write no_new no_take no_give no_freed no_lock no_unlock no_started no_join no_print (line.Lock c) h = no_lock h.0
-none_other kind text no_read no_write no_new no_take no_give no_freed no_lock no_unlock no_started no_join no_print (line.Unlock c) h = no_unlock h.0
-none_other kind text no_read no_write no_new no_take no_give no_freed no_lock no_unlock no_started no_join no_print (line.Spawn name v n) h = h
-none_other kind text no_read no_write no_new no_take no_give no_freed no_lock no_unlock no_started no_join no_print (line.Started v) h = no_started h.0
-none_other kind text no_read no_write no_new no_take no_give no_freed no_lock no_unlock no_started no_join no_print (line.Join n) h = no_join h.0
-none_other kind text no_read no_write no_new no_take no_give no_freed no_lock no_unlock no_started no_join no_print (line.Print v) h = no_print h.0
-none_other kind text no_read no_write no_new no_take no_give no_freed no_lock no_unlock no_started no_join no_print line.Return h = h
-none_other kind text no_read no_write no_new no_take no_give no_freed no_lock no_unlock no_started no_join no_print line.Gone h = h
 
 -- ---- acts
 
@@ -292,22 +248,6 @@ act_of text kind rest cut line.Gone h = absurd h
 
 pub spawn_of : (text kind rest name : Text) (v n : ℤ) → IsCut 32 text kind rest → kind ≡ codes "spawn" → Both (IsFunctionName name) (Both (HasValue v) (IsThread n)) rest → IsAct (line.Spawn name v n) text
 spawn_of text kind rest name v n cut e h = behind_of (codes "spawn") (Both (IsFunctionName name) (Both (HasValue v) (IsThread n))) text kind rest cut e h
-
-pub no_act_cut : (text : Text) → (text ≡ codes "return" → ⊥) → (text ≡ codes "gone" → ⊥) → list_any (nat_eq 32) text ≡ false → (a : LineAct) → IsAct a text → ⊥
-no_act_cut text no_return no_gone free (line.Read c v) h = behind_cut (codes "read") (Both (HasCell c) (HasValue v)) text free h
-no_act_cut text no_return no_gone free (line.Write c v) h = behind_cut (codes "write") (Both (HasCell c) (HasValue v)) text free h
-no_act_cut text no_return no_gone free (line.New r) h = behind_cut (codes "new") (HasReference r) text free h
-no_act_cut text no_return no_gone free (line.Take r) h = behind_cut (codes "take") (HasReference r) text free h
-no_act_cut text no_return no_gone free (line.Give r) h = behind_cut (codes "give") (HasReference r) text free h
-no_act_cut text no_return no_gone free (line.Freed r) h = behind_cut (codes "freed") (HasReference r) text free h
-no_act_cut text no_return no_gone free (line.Lock c) h = behind_cut (codes "lock") (HasCell c) text free h
-no_act_cut text no_return no_gone free (line.Unlock c) h = behind_cut (codes "unlock") (HasCell c) text free h
-no_act_cut text no_return no_gone free (line.Spawn name v n) h = behind_cut (codes "spawn") (Both (IsFunctionName name) (Both (HasValue v) (IsThread n))) text free h
-no_act_cut text no_return no_gone free (line.Started v) h = behind_cut (codes "started") (HasValue v) text free h
-no_act_cut text no_return no_gone free (line.Join n) h = behind_cut (codes "join") (IsThread n) text free h
-no_act_cut text no_return no_gone free (line.Print v) h = behind_cut (codes "print") (HasValue v) text free h
-no_act_cut text no_return no_gone free line.Return h = no_return h
-no_act_cut text no_return no_gone free line.Gone h = no_gone h
 
 pub no_act_spawn : (text kind rest : Text) → (text ≡ codes "return" → ⊥) → (text ≡ codes "gone" → ⊥) → IsCut 32 text kind rest → kind ≡ codes "spawn" → ((name : Text) (v n : ℤ) → Both (IsFunctionName name) (Both (HasValue v) (IsThread n)) rest → ⊥) → (a : LineAct) → IsAct a text → ⊥
 no_act_spawn text kind rest no_return no_gone cut e none (line.Read c v) h = differ (codes "spawn") (codes "read") refl (sym e ∙ (behind_parts (codes "read") (Both (HasCell c) (HasValue v)) text kind rest refl cut h).0)
@@ -350,12 +290,6 @@ none_act text None e h = h
 none_act text (Some a) e h = absurd (let z : Some a ≡ None = e in cc)
 
 -- ---- lines
-
-pub line_of : (text n rest : Text) (l : EventLine) → IsCut 32 text n rest → IsNumber 0 thread_most n l.thread → IsAct l.act rest → IsEventLine text l
-line_of text n rest l cut number act = record { rest = rest; is = cut.is ∙ ap (λ z. z ++ 32 ∷ rest) number.is; small = number.below; act = act }
-
-pub no_line_cut : (text : Text) → list_any (nat_eq 32) text ≡ false → (l : EventLine) → IsEventLine text l → ⊥
-no_line_cut text free l h = no_cut 32 (decimal l.thread) h.rest (sym (ap (list_any (nat_eq 32)) h.is) ∙ free)
 
 pub line_parts : (text n rest : Text) → IsCut 32 text n rest → (l : EventLine) → IsEventLine text l → IsNumber 0 thread_most n l.thread × IsAct l.act rest
 line_parts text n rest cut l h =

@@ -1,13 +1,8 @@
 -- Rules, one event more.
 use Rattle.std.proofs.Common.{◌≡◌, ◌⊎◌, inl, inr, true, false, List, [], ◌∷◌, ◌++◌, Option, Some, None, refl, ap, sym, ◌∙◌}
 use Rattle.sharc_tree.specs.declared.event.SourceEvent.{SourceEvent}
-use Rattle.sharc_meaning.specs.Events.{Access, access_by, Stands}
-use Rattle.sharc_meaning.specs.Obeys.{Obeys, until_return}
-use Rattle.sharc_judge.specs.declared.pair.Until.TheVariants.{Return}
-use Rattle.sharc_judge.specs.declared.rule.Rule.{Rule}
-use Rattle.sharc_judge.specs.Deciding.{breaks, of_access, breaks_with, breaks_by}
-use Rattle.sharc_judge.specs.Judged.{Holds, IsLowestBroken}
-use Rattle.sharc_judge.specs.Laws.{Unbroken, RuleLaws}
+use Rattle.sharc_meaning.specs.{Events.{Access, access_by, Stands}, Obeys.{Obeys, until_return}}
+use Rattle.sharc_judge.specs.{declared.pair.Until.TheVariants.Return, declared.rule.Rule.Rule, Deciding.{breaks, of_access, breaks_with, breaks_by}, Judged.{Holds, IsLowestBroken}, Laws.{Unbroken, RuleLaws}}
 use Rattle.sharc_past.specs.Kept.{AreUnbroken, IsLowestAt}
 
 -- what is in a list with one more at its end is that one, or is in the list
@@ -61,6 +56,3 @@ module _ (laws : RuleLaws) (R : List SourceEvent) (e : SourceEvent) where
 
 pub unbroken_so : RuleLaws → (R : List SourceEvent) → Obeys R until_return → AreUnbroken R
 unbroken_so laws R o = λ rule. (laws.unbroken rule Return R).1 ((laws.each R until_return).1 o rule)
-
-pub lowest_fails : RuleLaws → (R : List SourceEvent) (rule : Rule) → IsLowestBroken R until_return rule → Obeys R until_return → ⊥
-lowest_fails laws R rule h o = h.broken ((laws.each R until_return).1 o rule)

@@ -1,31 +1,16 @@
 -- The function and the argument of a thread, after the events of a legal store.
-use Rattle.std.proofs.Common.{◌≡◌, ◌⊎◌, inl, inr, ℕ, zero, suc, ◌+◌, Bool, true, false, cond, List, [], ◌∷◌, ◌++◌, length, length-append, Option, Some, None, refl, ap, sym, subst, ◌∙◌, arith, append_assoc}
-use Rattle.std.specs.Prelude.{ℤ, pos, ◌≢◌, ◌==◌, ◌||◌, ◌&&◌, slice_get, find, drop, slice_index_or, negsuc, Any, codes, IsTrue, if◌then◌else◌}
-use Rattle.std.specs.List.{list_any}
-use Rattle.std.specs.Str.{bytes_eq}
-use Rattle.std.proofs.lemmas.Bool.{eq-eqb, eqb-true, ne_eqb, and_parts}
-use Rattle.sharc_tree.specs.declared.event.Act.{Act}
+use Rattle.std.proofs.{Common.{◌≡◌, ◌⊎◌, inl, inr, ℕ, zero, suc, ◌+◌, Bool, true, false, cond, List, [], ◌∷◌, ◌++◌, length, length-append, Option, Some, None, refl, ap, sym, subst, ◌∙◌, arith, append_assoc}, lemmas.Bool.{eq-eqb, eqb-true, ne_eqb, and_parts}}
+use Rattle.std.specs.{Prelude.{ℤ, pos, ◌≢◌, ◌==◌, ◌||◌, ◌&&◌, slice_get, find, drop, slice_index_or, negsuc, Any, codes, IsTrue, if◌then◌else◌}, Str.bytes_eq}
+use Rattle.sharc_tree.specs.{declared.event.Act.Act, declared.event.SourceEvent.SourceEvent, Tree.Function}
 use Rattle.sharc_tree.specs.declared.event.Act.TheVariants as acts
-use Rattle.sharc_tree.specs.declared.event.SourceEvent.{SourceEvent}
-use Rattle.sharc_tree.specs.Tree.{Function}
 use Rattle.sharc_ctype.specs.Resolved.{Resolution, function_at, functions_in}
 use Rattle.sharc_mode.specs.Moded.{Assignment}
-use Rattle.sharc_meaning.specs.Events.{events_of, is_of}
-use Rattle.sharc_meaning.specs.Runs.{answers_of, is_named_main, IsFirst, IsSpawned, Follows}
-use Rattle.sharc_meaning.specs.Store.{spawns, is_natural, was_spawned, is_spawn, IsNewThread, MayCome, LegalStore}
-use Rattle.sharc_audit.specs.Judging.{main_from, main_of, with_zero, spawned_with, spawned_by_event, entry, has_begun, own_answers}
-use Rattle.sharc_audit.specs.Mains.{OneMain}
+use Rattle.sharc_meaning.specs.{Events.{events_of, is_of}, Runs.{answers_of, is_named_main, IsFirst, IsSpawned, Follows}, Store.{spawns, is_natural, was_spawned, is_spawn, IsNewThread, MayCome, LegalStore}}
+use Rattle.sharc_audit.specs.{Judging.{main_from, main_of, with_zero, spawned_with, spawned_by_event, entry, has_begun, own_answers}, Mains.OneMain}
 use Rattle.sharc_audit.proofs.Lists.{events_append}
+use Rattle.sharc_lemmas.proofs.Lists.{find_none}
 
 -- ---- finding
-
-pub find_none : {A : Type 0} (p : A → Bool) (xs ys : List A) → list_any p xs ≡ false → find p (xs ++ ys) ≡ find p ys
-find_none p [] ys h = refl
-find_none p (x ∷ xs) ys h = by_case (find_none p xs ys) (p x) refl
-  where
-    by_case : (list_any p xs ≡ false → find p (xs ++ ys) ≡ find p ys) → (b : Bool) → p x ≡ b → (if p x then Some x else find p (xs ++ ys)) ≡ find p ys
-    by_case more true i = absurd (let z : true ≡ false = sym (ap (λ z. z || list_any p xs) i) ∙ h in cc)
-    by_case more false i = ap (λ z. if z then Some x else find p (xs ++ ys)) i ∙ more (sym (ap (λ z. z || list_any p xs) i) ∙ h)
 
 pub find_more : {A : Type 0} (p : A → Bool) (x : A) (xs ys : List A) → find p xs ≡ Some x → find p (xs ++ ys) ≡ Some x
 find_more p x [] ys h = absurd (cc)
@@ -123,9 +108,6 @@ module _ (r : Resolution) (R : List SourceEvent) (legal : LegalStore r R) (threa
   spawn_found p = ap (find (spawns thread)) p.stands ∙ find_none (spawns thread) p.before (p.element ∷ p.after) (new_thread p) ∙ ap (λ z. if z then Some p.element else find (spawns thread) p.after) (spawns_it thread f v p.element p.is)
 
 -- ---- main
-
-named_at_first : (f : Function) → is_named_main (Some f) ≡ bytes_eq f.name.text (codes "main")
-named_at_first f = refl
 
 pub record MainAt (n : ℕ) (functions : List Function) : Type 0 where
   pub place : ℕ

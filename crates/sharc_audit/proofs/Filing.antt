@@ -1,15 +1,10 @@
 -- Event files, read line by line.
-use Rattle.std.proofs.Common.{◌≡◌, inl, inr, ℕ, suc, ◌+◌, ◌-◌, ◌<◌, ◌≤◌, Bool, cond, true, false, List, [], ◌∷◌, ◌++◌, length, length-append, take, drop, All, refl, ap, sym, subst, ◌∙◌, arith, append_assoc}
-use Rattle.std.specs.Prelude.{Option, Some, None, MatchOption, nat_eq, codes}
-use Rattle.std.specs.List.{list_any, slice_split, join_with_byte, onto_first}
-use Rattle.std.proofs.lemmas.Bool.{or_parts, false≢true}
-use Rattle.std.proofs.lemmas.List.Elements.{All-push, All-head, All-tail}
+use Rattle.std.proofs.{Common.{◌≡◌, inl, inr, ℕ, suc, ◌+◌, ◌-◌, ◌<◌, ◌≤◌, Bool, cond, true, false, List, [], ◌∷◌, ◌++◌, length, length-append, take, drop, All, refl, ap, sym, subst, ◌∙◌, arith, append_assoc}, lemmas.Bool.{or_parts, false≢true}, lemmas.List.Elements.{All-push, All-head, All-tail}}
+use Rattle.std.specs.{Prelude.{Option, Some, None, MatchOption, nat_eq, codes}, List.{list_any, slice_split, join_with_byte, onto_first}}
 use Rattle.sharc_audit.proofs.Numerals.{is_decimal}
-use Rattle.sharc_audit.specs.declared.line.EventLine.{EventLine}
-use Rattle.sharc_audit.specs.declared.file.FileFault.{FileFault}
+use Rattle.sharc_audit.specs.{declared.line.EventLine.EventLine, declared.file.FileFault.FileFault, Grammar.{Text, IsCut, IsNumber, mark, without_empty_end, text_lines, AreEventLines, IsEventLine, IsEventFile, Continues, IsFirstBad, HasMany}, Files.{IsFirstLine, IsNoHeader, IsHead, IsBadEvent, IsEventsFault, IsFault}}
 use Rattle.sharc_audit.specs.declared.file.FileFault.TheVariants as fault
-use Rattle.sharc_audit.specs.Grammar.{Text, IsCut, IsNumber, mark, without_empty_end, text_lines, AreEventLines, IsEventLine, IsEventFile, Continues, IsFirstBad, HasMany}
-use Rattle.sharc_audit.specs.Files.{IsFirstLine, IsNoHeader, IsHead, IsBadEvent, AreAtLeast, IsEventsFault, IsFault}
+use Rattle.sharc_lemmas.proofs.Lists.{length_push}
 
 -- ---- a line
 
@@ -95,10 +90,6 @@ length_more : {X : Type 0} (a : List X) (x : X) (b : List X) → length a < leng
 length_more [] x b = omega arith
 length_more (y ∷ a) x b = let h = length_more a x b in omega (arith, h)
 
-length_push : {X : Type 0} (a : List X) (x : X) → length (a ++ x ∷ []) ≡ suc (length a)
-length_push [] x = refl
-length_push (y ∷ a) x = ap suc (length_push a x)
-
 pub append_none : {X : Type 0} (a : List X) → a ++ [] ≡ a
 append_none [] = refl
 append_none (x ∷ a) = ap (λ z. x ∷ z) (append_none a)
@@ -140,9 +131,6 @@ pub record Heading (bytes rest : Text) (n : ℕ) : Type 0 where
   pub counted : n ≡ suc (length passed)
   pub text : 0 < length rest → bytes ≡ ended passed ++ rest
   pub plain : All IsNoHeader (behind_first passed)
-
-pub heading_start : (bytes : Text) → Heading bytes bytes 1
-heading_start bytes = record { passed = []; parts = refl; counted = refl; text = λ h. refl; plain = λ k d h. absurd (omega (arith, h)) }
 
 plain_push : (passed : List Text) (line : Text) → All IsNoHeader (behind_first passed) → (0 < length passed → IsNoHeader line) → All IsNoHeader (behind_first (passed ++ line ∷ []))
 plain_push [] line p q = λ k d h. absurd (omega (arith, h))
@@ -256,9 +244,6 @@ pub record Listing (texts : List Text) (rest : Text) (first n : ℕ) (events : L
   pub counted : n ≡ first + length passed
   pub are : AreEventLines passed events
 
-pub listing_start : (bytes : Text) (first : ℕ) → Listing (text_lines bytes) bytes first first []
-listing_start bytes first = record { passed = []; parts = refl; counted = omega arith; are = tt }
-
 are_push : (passed : List Text) (events : List EventLine) (line : Text) (l : EventLine) → AreEventLines passed events → IsEventLine line l → AreEventLines (passed ++ line ∷ []) (events ++ l ∷ [])
 are_push [] [] line l a h = (h, tt)
 are_push [] (k ∷ events) line l a h = absurd a
@@ -284,9 +269,6 @@ listing_bad texts rest first n events line behind h f bad = record {
   are = h.are;
   bad = bad;
 }
-
-pub listing_end : (texts : List Text) (rest : Text) (first n : ℕ) (events : List EventLine) → Listing texts rest first n events → length rest ≡ 0 → AreEventLines texts events
-listing_end texts rest first n events h e = subst (λ z. AreEventLines z events) (sym (h.parts ∙ ap (λ z. h.passed ++ z) (no_lines rest e) ∙ append_none h.passed)) h.are
 
 -- ---- the file
 
@@ -368,14 +350,8 @@ pub record Passed (texts : List Text) (rest : Text) (first n : ℕ) : Type 0 whe
   pub events : List EventLine
   pub listing : Listing texts rest first n events
 
-pub passed_start : (bytes : Text) (first : ℕ) → Passed (text_lines bytes) bytes first first
-passed_start bytes first = record { events = []; listing = listing_start bytes first }
-
 pub passed_next : (texts : List Text) (rest : Text) (first n : ℕ) (line behind : Text) (l : EventLine) → Passed texts rest first n → IsFirstLine rest line behind → IsEventLine line l → Passed texts behind first (n + 1)
 passed_next texts rest first n line behind l h f is = record { events = h.events ++ l ∷ []; listing = listing_next texts rest first n h.events line behind l h.listing f is }
 
 pub passed_bad : (texts : List Text) (rest : Text) (first n : ℕ) (line behind : Text) → Passed texts rest first n → IsFirstLine rest line behind → ((l : EventLine) → IsEventLine line l → ⊥) → IsBadEvent texts first n
 passed_bad texts rest first n line behind h f bad = listing_bad texts rest first n h.events line behind h.listing f bad
-
-pub passed_end : (texts : List Text) (rest : Text) (first n : ℕ) → Passed texts rest first n → length rest ≡ 0 → AreAtLeast 0 texts
-passed_end texts rest first n h e = record { events = h.events; are = listing_end texts rest first n h.events h.listing e; many = omega arith }

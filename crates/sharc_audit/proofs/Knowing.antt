@@ -1,24 +1,12 @@
 -- What is known of threads, one event more.
-use Rattle.std.proofs.Common.{◌≡◌, ◌⊎◌, inl, inr, ℕ, zero, suc, ◌-◌, ◌<◌, ◌≤◌, Bool, true, false, ◌||◌, cond, List, [], ◌∷◌, ◌++◌, length, map, drop, slice_index_or, Some, Ok, Err, refl, ap, sym, subst, ◌∙◌, arith, append_assoc}
-use Rattle.std.specs.Prelude.{ℤ, ◌==◌, Result, OnOk, slice_set, if◌then◌else◌}
-use Rattle.std.specs.List.{list_any}
-use Rattle.std.proofs.lemmas.Bool.{eq-eqb, eqb-true, or_cases, or_left, or_right}
-use Rattle.std.proofs.lemmas.List.Folds.{list_any-append}
+use Rattle.std.proofs.{Common.{◌≡◌, ◌⊎◌, inl, inr, ℕ, zero, suc, ◌-◌, ◌<◌, ◌≤◌, Bool, true, false, ◌||◌, cond, List, [], ◌∷◌, ◌++◌, length, map, drop, slice_index_or, Some, Ok, Err, refl, ap, sym, subst, ◌∙◌, arith, append_assoc}, lemmas.Bool.{eq-eqb, eqb-true, or_cases, or_left, or_right}, lemmas.List.Folds.list_any-append}
+use Rattle.std.specs.{Prelude.{ℤ, ◌==◌, Result, OnOk, slice_set, if◌then◌else◌}, List.list_any}
 use Rattle.sharc_tree.specs.declared.event.SourceEvent.{SourceEvent}
 use Rattle.sharc_mode.specs.Moded.{Assignment}
-use Rattle.sharc_meaning.specs.Events.{events_of, is_of}
-use Rattle.sharc_meaning.specs.Laws.{AskLaws}
-use Rattle.sharc_meaning.specs.Meaning.{asks}
-use Rattle.sharc_meaning.specs.Runs.{answers_of}
-use Rattle.sharc_audit.specs.declared.line.EventLine.{EventLine}
-use Rattle.sharc_audit.specs.declared.run.ThreadRun.{ThreadRun}
-use Rattle.sharc_audit.specs.Judging.{entry, has_begun, start_of, next_in, next_of, own_answers, next_asked}
-use Rattle.sharc_audit.specs.Known.{IsKnown, EachKnown, AreKnown, IsPlaceOf}
-use Rattle.sharc_audit.specs.Lines.{told, lines_of, told_to}
-use Rattle.sharc_audit.specs.Walks.{IsWalk}
-use Rattle.sharc_audit.proofs.Lists.{map_both, map_length, one_own, one_other}
-use Rattle.sharc_audit.proofs.Entries.{entry_more, begun_events, events_begun}
-use Rattle.sharc_audit.proofs.Telling.{ask_once}
+use Rattle.sharc_meaning.specs.{Events.{events_of, is_of}, Laws.AskLaws, Meaning.asks, Runs.answers_of}
+use Rattle.sharc_audit.specs.{declared.line.EventLine.EventLine, declared.run.ThreadRun.ThreadRun, Judging.{entry, has_begun, start_of, next_in, next_of, own_answers, next_asked}, Known.{IsKnown, EachKnown, AreKnown, IsPlaceOf}, Lines.{told, lines_of, told_to}, Walks.IsWalk}
+use Rattle.sharc_audit.proofs.{Lists.{one_own, one_other}, Entries.{entry_more, begun_events, events_begun}, Telling.ask_once}
+use Rattle.sharc_lemmas.proofs.Lists.{map_length, map_both}
 
 -- ---- lists
 
@@ -29,13 +17,6 @@ first_stays t R e h = by_list (events_of t R) refl
     by_list : (l : List SourceEvent) → events_of t R ≡ l → drop 1 (l ++ e ∷ []) ≡ drop 1 l ++ e ∷ []
     by_list [] i = let z : true ≡ false = sym h ∙ events_begun R t i in absurd (cc)
     by_list (x ∷ l) i = refl
-
-not_is : (t u : ℕ) → (t == u) ≡ false → (u == t) ≡ false
-not_is t u h = by_case (u == t) refl
-  where
-    by_case : (b : Bool) → (u == t) ≡ b → (u == t) ≡ false
-    by_case false i = i
-    by_case true i = let z : true ≡ false = sym (eq-eqb t u (sym (eqb-true u t i))) ∙ h in absurd (cc)
 
 module _ (m : Assignment) (fuel : ℕ) (R : List SourceEvent) (l : EventLine) (rest : List EventLine) (e : SourceEvent) (thread : l.thread ≡ e.thread) (answer : told l ≡ e.answer) where
   -- what a thread is given in all stays

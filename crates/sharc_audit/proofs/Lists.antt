@@ -1,26 +1,15 @@
 -- Lists of events in parts.
-use Rattle.std.proofs.Common.{◌≡◌, ℕ, suc, ◌+◌, ◌<◌, Bool, true, false, cond, List, [], ◌∷◌, ◌++◌, map, refl, ap, sym, ◌∙◌, length, take, slice_index_or, append-nil, add-one, take-suc}
+use Rattle.std.proofs.Common.{◌≡◌, ℕ, ◌+◌, ◌<◌, true, false, cond, List, [], ◌∷◌, ◌++◌, refl, ap, sym, ◌∙◌, length, take, slice_index_or, append-nil, add-one, take-suc}
 use Rattle.sharc_tree.specs.declared.event.SourceEvent.{SourceEvent}
 use Rattle.sharc_meaning.specs.Events.{events_of, is_of}
+use Rattle.sharc_lemmas.proofs.Lists.{pick}
 
 pub take_next : {A : Type 0} (l : List A) (i : ℕ) (a : A) → i < length l → a ≡ slice_index_or l i a → take (i + 1) l ≡ take i l ++ a ∷ []
 take_next l i a h is = rw (add-one) (take-suc l i a h ∙ ap (λ z. take i l ++ z ∷ []) (sym is))
 
-pick : {A : Type 0} (c : Bool) (x : A) (l l1 l2 : List A) → l ≡ l1 ++ l2 → cond c (x ∷ l) l ≡ cond c (x ∷ l1) l1 ++ l2
-pick true x l l1 l2 e = ap (λ z. x ∷ z) e
-pick false x l l1 l2 e = e
-
 pub events_append : (t : ℕ) (a b : List SourceEvent) → events_of t (a ++ b) ≡ events_of t a ++ events_of t b
 events_append t [] b = refl
 events_append t (x ∷ a) b = pick (is_of t x) x (events_of t (a ++ b)) (events_of t a) (events_of t b) (events_append t a b)
-
-pub map_both : {A B : Type 0} (f : A → B) (a b : List A) → map f (a ++ b) ≡ map f a ++ map f b
-map_both f [] b = refl
-map_both f (x ∷ a) b = ap (λ z. f x ∷ z) (map_both f a b)
-
-pub map_length : {A B : Type 0} (f : A → B) (a : List A) → length (map f a) ≡ length a
-map_length f [] = refl
-map_length f (x ∷ a) = ap suc (map_length f a)
 
 -- the events of a thread, with one more at the end of the list
 module _ (e : SourceEvent) (u : ℕ) where

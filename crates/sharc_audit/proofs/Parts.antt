@@ -1,12 +1,7 @@
 -- Cells, references and values, by their parts.
-use Rattle.std.proofs.Common.{◌≡◌, inl, inr, ℕ, zero, suc, ◌<◌, ◌≤◌, ◌^◌, true, false, [], ◌∷◌, ◌-◌, length, take, drop, slice_index_or, Option, Some, None, refl, ap, sym, subst, ◌∙◌, arith}
-use Rattle.std.specs.Prelude.{ℤ, pos, negsuc, neg_ℤ, nat_eq, decimal, codes, MatchOption}
-use Rattle.std.specs.Str.{all_ascii_digits}
-use Rattle.std.specs.List.{list_any}
-use Rattle.std.proofs.lemmas.Bool.{or_from, ltb-true, lt-ltb}
-use Rattle.sharc_tree.specs.declared.event.CellAt.{CellAt}
-use Rattle.sharc_tree.specs.declared.event.Object.{Object}
-use Rattle.sharc_tree.specs.declared.event.Object.TheVariants.{Global, Made}
+use Rattle.std.proofs.{Common.{◌≡◌, inl, inr, ℕ, suc, ◌<◌, ◌≤◌, ◌^◌, true, false, [], ◌∷◌, ◌-◌, length, take, drop, slice_index_or, Option, Some, None, refl, ap, sym, subst, ◌∙◌, arith}, lemmas.Bool.{or_from, ltb-true}}
+use Rattle.std.specs.{Prelude.{ℤ, pos, negsuc, nat_eq, decimal, codes, MatchOption}, Str.all_ascii_digits, List.list_any}
+use Rattle.sharc_tree.specs.{declared.event.CellAt.CellAt, declared.event.Object.Object, declared.event.Object.TheVariants.{Global, Made}}
 use Rattle.sharc_meaning.specs.Arithmetic.{is_held_by}
 use Rattle.sharc_audit.specs.Grammar.{Text, IsCut, IsNumber, thread_most, IsObject, IsCell, IsPair, IsReference, IsSigned, IsValue}
 use Rattle.sharc_audit.proofs.Numerals.{decimal_free, decimal_free_above, parts_of, all_digits, some_digit}
@@ -61,17 +56,6 @@ minus_none rest text none e (negsuc n) h =
     let tails : rest ≡ decimal (suc n) = cc in
     none (suc n) (record { is = tails; above = omega arith; below = (let s = ltb-true n (2 ^ 63) h.1 in omega (arith, s)) })
 
-pub minus_is : (rest text : Text) (n : ℕ) (v : ℤ) → IsNumber 1 9223372036854775808 rest n → text ≡ 45 ∷ rest → v ≡ neg_ℤ (pos n) → IsSigned text v
-minus_is rest text zero v h e i = absurd (let a = h.above in omega (arith, a))
-minus_is rest text (suc n) v h e i = subst (IsSigned text) (sym i) (e ∙ ap (λ z. 45 ∷ z) h.is, lt-ltb n (2 ^ 63) (let b = h.below in omega (arith, b)))
-
-pub plain_none : (text : Text) → ((n : ℕ) → IsNumber 0 9223372036854775807 text n → ⊥) → ((rest : Text) → text ≡ 45 ∷ rest → ⊥) → (v : ℤ) → IsSigned text v → ⊥
-plain_none text none no_minus (pos n) h = none n (record { is = h.0; above = omega arith; below = held_small n h.1 })
-plain_none text none no_minus (negsuc n) h = no_minus (decimal (suc n)) h.0
-
-pub plain_is : (text : Text) (n : ℕ) → IsNumber 0 9223372036854775807 text n → IsSigned text (pos n)
-plain_is text n h = (h.is, lt-ltb n (2 ^ 63) (let b = h.below in omega (arith, b)))
-
 -- a text by its first byte
 pub first_is : (text : Text) (d : ℕ) → 0 < length text → slice_index_or text 0 0 ≡ d → text ≡ d ∷ take (length text - 1) (drop 1 text)
 first_is [] d h e = absurd (omega (arith, h))
@@ -80,9 +64,6 @@ first_is (x ∷ text) d h e = ap (λ z. z ∷ text) e ∙ ap (λ z. d ∷ z) (sy
     whole : (k : Text) → take (length k) k ≡ k
     whole [] = refl
     whole (y ∷ k) = ap (λ z. y ∷ z) (whole k)
-
-pub not_minus : (text : Text) → (slice_index_or text 0 0 ≡ 45 → ⊥) → (rest : Text) → text ≡ 45 ∷ rest → ⊥
-not_minus text h rest e = h (ap (λ z. slice_index_or z 0 0) e)
 
 -- no signed decimal is empty
 pub empty_signed : (text : Text) → length text ≡ 0 → (v : ℤ) → IsSigned text v → ⊥

@@ -1,26 +1,13 @@
 -- Where the runs of threads are, and what lines report to threads that have not begun.
-use Rattle.std.proofs.Common.{◌≡◌, ℕ, zero, suc, ◌+◌, ◌<◌, Bool, true, false, ◌||◌, cond, List, [], ◌∷◌, ◌++◌, length, map, drop, take, slice_index_or, Option, Some, None, Ok, Err, refl, ap, sym, subst, ◌∙◌, arith, add-one, drop-cons}
-use Rattle.std.specs.Prelude.{ℤ, pos, ◌==◌, nat_eq, slice_set, MatchOption, Result, OnOk, if◌then◌else◌}
-use Rattle.std.specs.HashMap.{get, HashMap}
-use Rattle.std.specs.List.{list_any}
-use Rattle.std.specs.declared.vec.Vec.{Vec}
-use Rattle.std.proofs.lemmas.Bool.{eq-eqb, eqb-true, and_parts, or_parts, or_from}
-use Rattle.std.proofs.lemmas.List.Folds.{list_any-append}
-use Rattle.sharc_tree.specs.declared.event.SourceEvent.{SourceEvent}
+use Rattle.std.proofs.{Common.{◌≡◌, ℕ, zero, suc, ◌+◌, ◌<◌, Bool, true, false, ◌||◌, cond, List, [], ◌∷◌, ◌++◌, length, map, drop, slice_index_or, Option, Some, None, Ok, Err, refl, ap, sym, subst, ◌∙◌, arith, add-one, drop-cons}, lemmas.Bool.{eq-eqb, eqb-true, and_parts, or_parts}, lemmas.List.Folds.list_any-append}
+use Rattle.std.specs.{Prelude.{ℤ, pos, ◌==◌, nat_eq, slice_set, MatchOption, Result, OnOk, if◌then◌else◌}, HashMap.{get, HashMap}, declared.vec.Vec.Vec}
+use Rattle.sharc_tree.specs.{declared.event.SourceEvent.SourceEvent, declared.event.Act.Act}
 use Rattle.sharc_ctype.specs.Resolved.{Resolution}
-use Rattle.sharc_meaning.specs.Events.{is_of}
-use Rattle.sharc_meaning.specs.Store.{was_spawned, is_natural, is_spawn, MayCome, LegalStore}
-use Rattle.sharc_tree.specs.declared.event.Act.{Act}
+use Rattle.sharc_meaning.specs.{Events.is_of, Store.{was_spawned, is_natural, is_spawn, MayCome, LegalStore}}
 use Rattle.sharc_tree.specs.declared.event.Act.TheVariants as acts
-use Rattle.sharc_audit.specs.declared.line.EventLine.{EventLine}
-use Rattle.sharc_audit.specs.declared.run.ThreadRun.{ThreadRun}
-use Rattle.sharc_audit.specs.Judging.{has_begun}
-use Rattle.sharc_audit.specs.Known.{IsPlaceOf, ArePlaces}
-use Rattle.sharc_audit.specs.Lines.{told, lines_of, told_to}
-use Rattle.sharc_audit.specs.Reported.{told_in, AreTold}
+use Rattle.sharc_audit.specs.{declared.line.EventLine.EventLine, declared.run.ThreadRun.ThreadRun, Judging.has_begun, Known.ArePlaces, Lines.{told, lines_of, told_to}, Reported.{told_in, AreTold}}
 use Rattle.sharc_past.specs.Kept.{IsSpawnedOnce}
 use Rattle.sharc_audit.proofs.Knowing.{any_set}
-use Rattle.sharc_audit.proofs.Lists.{take_next}
 
 pub on_ok_always : {A E : Type 0} (r : Result A E) {P : Type 0} → P → OnOk r P
 on_ok_always (Ok a) h = h
@@ -52,36 +39,9 @@ module _ {S : Type 0} (places : HashMap ℕ ℕ S) (runs : List ThreadRun) (h : 
       (λ j at. record { inside = subst (λ n. j < n) (sym (length_set runs i new)) at.inside; own = λ d. thread_set runs i j new d inside same ∙ at.own d })
       (get nat_eq places thread) (h thread)
 
-index_front : (runs : List ThreadRun) (x : ThreadRun) (i : ℕ) (d : ThreadRun) → i < length runs → slice_index_or (runs ++ x ∷ []) i d ≡ slice_index_or runs i d
-index_front [] x i d h = absurd (omega (arith, h))
-index_front (y ∷ runs) x zero d h = refl
-index_front (y ∷ runs) x (suc i) d h = index_front runs x i d (omega (arith, h))
-
-index_last : (runs : List ThreadRun) (x d : ThreadRun) → slice_index_or (runs ++ x ∷ []) (length runs) d ≡ x
-index_last [] x d = refl
-index_last (y ∷ runs) x d = index_last runs x d
-
 longer : (runs : List ThreadRun) (x : ThreadRun) → length (runs ++ x ∷ []) ≡ suc (length runs)
 longer [] x = refl
 longer (y ∷ runs) x = ap suc (longer runs x)
-
--- one run more
-pub places_more : {S : Type 0} (old new : HashMap ℕ ℕ S) (runs : List ThreadRun) (run : ThreadRun) → ArePlaces old runs
-    → ((t : ℕ) → get nat_eq new t ≡ cond (nat_eq run.thread t) (Some (length runs)) (get nat_eq old t)) → ArePlaces new (runs ++ run ∷ [])
-places_more old new runs run h updates thread = subst (λ o. MatchOption o (list_any own (runs ++ run ∷ []) ≡ false) (IsPlaceOf thread (runs ++ run ∷ []))) (sym (updates thread)) (by_case (nat_eq run.thread thread) refl)
-  where
-    own : ThreadRun → Bool
-    own x = x.thread == thread
-
-    long : length (runs ++ run ∷ []) ≡ suc (length runs)
-    long = longer runs run
-
-    by_case : (b : Bool) → (run.thread == thread) ≡ b → MatchOption (cond b (Some (length runs)) (get nat_eq old thread)) (list_any own (runs ++ run ∷ []) ≡ false) (IsPlaceOf thread (runs ++ run ∷ []))
-    by_case true i = record { inside = omega (arith, long); own = λ d. ap (λ (z : ThreadRun). z.thread) (index_last runs run d) ∙ eqb-true run.thread thread i }
-    by_case false i =
-        map_match (λ none. list_any-append own runs (run ∷ []) ∙ or_from (list_any own runs) (own run || false) none (or_from (own run) false i refl))
-        (λ j at. record { inside = (let k = at.inside in omega (arith, k, long)); own = λ d. ap (λ (z : ThreadRun). z.thread) (index_front runs run j d at.inside) ∙ at.own d })
-        (get nat_eq old thread) (h thread)
 
 -- ---- what lines report
 
@@ -110,10 +70,6 @@ lines_more t (x ∷ a) l = by_first (x.thread == t) (l.thread == t) (lines_more 
     by_first true true h = ap (λ z. told x ∷ z) h
     by_first true false h = ap (λ z. told x ∷ z) h
     by_first false c h = h
-
--- one line more
-pub told_next : (t : ℕ) (lines : List EventLine) (i : ℕ) (l : EventLine) → i < length lines → l ≡ slice_index_or lines i l → told_to t (take (i + 1) lines) ≡ (if l.thread == t then told_to t (take i lines) ++ told l ∷ [] else told_to t (take i lines))
-told_next t lines i l inside is = ap (told_to t) (take_next lines i l inside is) ∙ lines_more t (take i lines) l
 
 -- ---- spawns
 

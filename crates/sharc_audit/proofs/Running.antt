@@ -1,29 +1,14 @@
 -- The lines of a source run that obeys never fail.
-use Rattle.std.proofs.Common.{◌≡◌, ◌⊎◌, inl, inr, ℕ, suc, ◌+◌, ◌<◌, Bool, true, false, List, [], ◌∷◌, ◌++◌, length, take, Option, Some, None, refl, ap, sym, subst, ◌∙◌, arith}
+use Rattle.std.proofs.{Common.{◌≡◌, ◌⊎◌, inl, inr, ℕ, suc, ◌+◌, ◌<◌, Bool, true, false, List, [], ◌∷◌, ◌++◌, length, take, Option, Some, None, refl, ap, sym, subst, ◌∙◌, arith}, lemmas.Bool.cases_order}
 use Rattle.std.specs.Prelude.{ℤ, slice_get, if◌then◌else◌}
-use Rattle.std.proofs.lemmas.Bool.{cases_order}
 use Rattle.sharc_tree.specs.declared.event.SourceEvent.{SourceEvent}
 use Rattle.sharc_mode.specs.Moded.{Assignment}
-use Rattle.sharc_meaning.specs.Laws.{AskLaws, StoreLaws, RunLaws, AskedFor}
-use Rattle.sharc_meaning.specs.Meaning.{asks}
-use Rattle.sharc_meaning.specs.Obeys.{Obeys, until_return}
-use Rattle.sharc_meaning.specs.Runs.{SourceRun, SourceRunWith}
-use Rattle.sharc_meaning.specs.State.{Outcome, wants, ended, stopped, spent}
+use Rattle.sharc_meaning.specs.{Laws.{AskLaws, StoreLaws, RunLaws, AskedFor}, Meaning.asks, Obeys.{Obeys, until_return}, Runs.{SourceRun, SourceRunWith}, State.{Outcome, wants, ended, stopped, spent}}
 use Rattle.sharc_judge.specs.Laws.{RuleLaws}
-use Rattle.sharc_audit.specs.declared.audit.EventFault.{EventFault}
+use Rattle.sharc_audit.specs.{declared.audit.EventFault.EventFault, declared.line.EventLine.EventLine, declared.threads.Next.TheVariants.{Wants, Spent}, Asked.IsSpent, Audited.{Accepted, Audits, FailsBy, IsAsked, IsFirstRefused}, Judging.{entry, event_at, has_begun, is_spent, next_in, next_of, next_told, own_answers, start_of, without_event}, Lines.{AreLines, IsLine, told}, Mains.OneMain}
 use Rattle.sharc_audit.specs.declared.audit.EventFault.TheVariants as fault
-use Rattle.sharc_audit.specs.declared.line.EventLine.{EventLine}
 use Rattle.sharc_audit.specs.declared.audit.Verdict.TheVariants as verdict
-use Rattle.sharc_audit.specs.declared.threads.Next.TheVariants.{Wants, Spent}
-use Rattle.sharc_audit.specs.Asked.{IsSpent}
-use Rattle.sharc_audit.specs.Audited.{Accepted, Audits, FailsBy, IsAsked, IsFirstRefused}
-use Rattle.sharc_audit.specs.Judging.{entry, event_at, has_begun, is_spent, next_in, next_of, next_told, own_answers, start_of, without_event}
-use Rattle.sharc_audit.specs.Lines.{AreLines, IsLine, told}
-use Rattle.sharc_audit.specs.Mains.{OneMain}
-use Rattle.sharc_audit.proofs.Answering.{asked_is, computed_asked, is_spent_at, spent_is}
-use Rattle.sharc_audit.proofs.Auditing.{FrontLines, LastLine, front_lines, last_line, lines_more, same_events, take_one}
-use Rattle.sharc_audit.proofs.Fuels.{more_run, one_fuel}
-use Rattle.sharc_audit.proofs.Telling.{at_front, past_end}
+use Rattle.sharc_audit.proofs.{Answering.{asked_is, computed_asked, is_spent_at, spent_is}, Auditing.{FrontLines, LastLine, front_lines, last_line, lines_more, same_events, take_one}, Fuels.{more_run, one_fuel}, Telling.{at_front, past_end}}
 
 -- ---- one thread: more fuel changes what it asks for next only where its fuel was spent
 module _ (ask : AskLaws) (m : Assignment) (fuel more t place f : ℕ) (v : ℤ) (answers : List ℤ) where

@@ -1,14 +1,9 @@
 -- Walks that are long enough.
-use Rattle.std.proofs.Common.{◌≡◌, ℕ, ◌+◌, ◌-◌, ◌<◌, ◌≤◌, Bool, true, false, not, ◌&&◌, List, length, refl, ap, sym, subst, ◌∙◌, arith}
+use Rattle.std.proofs.{Common.{◌≡◌, ℕ, ◌+◌, ◌-◌, ◌<◌, ◌≤◌, Bool, true, false, not, ◌&&◌, List, length, refl, ap, sym, subst, ◌∙◌, arith}, lemmas.Bool.{ltb-true, ltb-false}}
 use Rattle.std.specs.Prelude.{ℤ, ◌≢◌, nat_lt, slice_get}
-use Rattle.std.proofs.lemmas.Bool.{ltb-true, ltb-false}
 use Rattle.sharc_mode.specs.Moded.{Assignment}
-use Rattle.sharc_meaning.specs.Laws.{AskLaws}
-use Rattle.sharc_meaning.specs.Meaning.{asks}
-use Rattle.sharc_meaning.specs.State.{spent}
-use Rattle.sharc_audit.specs.declared.run.Walk.{Walk}
-use Rattle.sharc_audit.specs.Judging.{is_spent, event_at, next_in}
-use Rattle.sharc_audit.specs.Walks.{IsWalk, needs_more}
+use Rattle.sharc_meaning.specs.{Laws.AskLaws, Meaning.asks, State.spent}
+use Rattle.sharc_audit.specs.{declared.run.Walk.Walk, Judging.{is_spent, event_at, next_in}, Walks.{IsWalk, needs_more}}
 use Rattle.sharc_audit.proofs.Telling.{at_front}
 
 module _ (laws : AskLaws) (m : Assignment) (f : ℕ) (v : ℤ) (answers : List ℤ) (fuel t place : ℕ) (w : Walk) (walk : IsWalk m f v answers w) (within : w.fuel ≤ fuel) where

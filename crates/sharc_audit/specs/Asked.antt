@@ -2,10 +2,7 @@
 use Rattle.std.specs.Prelude.{◌≡◌, ℕ, List}
 use Rattle.sharc_tree.specs.declared.event.SourceEvent.{SourceEvent}
 use Rattle.sharc_mode.specs.Moded.{Assignment}
-use Rattle.sharc_meaning.specs.Events.{events_of}
-use Rattle.sharc_meaning.specs.Meaning.{asks}
-use Rattle.sharc_meaning.specs.Runs.{answers_of, Follows}
-use Rattle.sharc_meaning.specs.State.{spent}
+use Rattle.sharc_meaning.specs.{Events.events_of, Meaning.asks, Runs.{answers_of, Follows}, State.spent}
 
 -- the thread was started, and its fuel is spent before its next event
 pub record IsSpent (m : Assignment) (fuel : ℕ) (R : List SourceEvent) (thread : ℕ) : Type 0 where

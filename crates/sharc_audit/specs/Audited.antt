@@ -3,19 +3,12 @@ use Rattle.std.specs.Prelude.{◌≡◌, ℕ, suc, List, [], ◌∷◌, ◌++◌
 use Rattle.sharc_tree.specs.declared.event.SourceEvent.{SourceEvent}
 use Rattle.sharc_ctype.specs.Resolved.{IsResolved}
 use Rattle.sharc_mode.specs.Moded.{Assignment}
-use Rattle.sharc_meaning.specs.Laws.{AskedFor}
-use Rattle.sharc_meaning.specs.Obeys.{Obeys, until_return}
-use Rattle.sharc_meaning.specs.Runs.{SourceRunWith}
-use Rattle.sharc_meaning.specs.Store.{MayCome}
-use Rattle.sharc_judge.specs.declared.rule.Rule.{Rule}
-use Rattle.sharc_judge.specs.Judged.{IsLowestBroken}
-use Rattle.sharc_audit.specs.declared.audit.EventFault.{EventFault}
+use Rattle.sharc_meaning.specs.{Laws.AskedFor, Obeys.{Obeys, until_return}, Runs.SourceRunWith, Store.MayCome}
+use Rattle.sharc_judge.specs.{declared.rule.Rule.Rule, Judged.IsLowestBroken}
+use Rattle.sharc_audit.specs.{declared.audit.EventFault.EventFault, declared.audit.Verdict.Verdict}
+use Rattle.sharc_audit.specs.{declared.line.EventLine.EventLine, Asked.IsSpent, Lines.{IsLine, AreLines}}
 use Rattle.sharc_audit.specs.declared.audit.EventFault.TheVariants as fault
-use Rattle.sharc_audit.specs.declared.audit.Verdict.{Verdict}
 use Rattle.sharc_audit.specs.declared.audit.Verdict.TheVariants as verdict
-use Rattle.sharc_audit.specs.declared.line.EventLine.{EventLine}
-use Rattle.sharc_audit.specs.Asked.{IsSpent}
-use Rattle.sharc_audit.specs.Lines.{IsLine, AreLines}
 
 -- these lines are a source run at this fuel that obeys
 pub record Accepted (m : Assignment) (fuel : ℕ) (lines : List EventLine) : Type 0 where

@@ -1,7 +1,6 @@
 -- A text is one event file at most, and then has no fault; and the first line that continues no file is one.
 use Rattle.std.specs.Prelude.{◌≡◌, ℕ, List}
-use Rattle.sharc_audit.specs.declared.line.EventLine.{EventLine}
-use Rattle.sharc_audit.specs.Grammar.{Text, IsEventFile, IsFirstBad}
+use Rattle.sharc_audit.specs.{declared.line.EventLine.EventLine, Grammar.{Text, IsEventFile, IsFirstBad}}
 
 abbrev pub FilesAreOne : Type 0
 FilesAreOne =

@@ -1,10 +1,9 @@
 -- What the reader of event files finds, step by step, and its faults.
 use Rattle.std.specs.Prelude.{◌≡◌, ℕ, suc, ◌+◌, ◌<◌, ◌≤◌, List, ◌∷◌, ◌++◌, length, false, nat_eq, All}
 use Rattle.std.specs.List.{join_with_byte, starts_with}
-use Rattle.sharc_audit.specs.declared.line.EventLine.{EventLine}
-use Rattle.sharc_audit.specs.declared.file.FileFault.{FileFault}
-use Rattle.sharc_audit.specs.declared.file.FileFault.TheVariants as fault
+use Rattle.sharc_audit.specs.{declared.line.EventLine.EventLine, declared.file.FileFault.FileFault}
 use Rattle.sharc_audit.specs.Grammar.{Text, IsNumber, mark, text_lines, AreEventLines, IsEventLine, IsFirstBad, HasMany}
+use Rattle.sharc_audit.specs.declared.file.FileFault.TheVariants as fault
 
 -- a line, and what follows it
 pub record IsFirstLine (text line behind : Text) : Type 0 where

@@ -1,11 +1,8 @@
 -- A table of what the lines report to each thread.
-use Rattle.std.specs.Prelude.{◌≡◌, ℕ, ℤ, false, nat_eq, List, [], Option, Some, None}
-use Rattle.std.specs.HashMap.{get, HashMap}
+use Rattle.std.specs.{Prelude.{◌≡◌, ℕ, ℤ, false, nat_eq, List, [], Option, Some, None}, HashMap.{get, HashMap}}
 use Rattle.std.specs.declared.vec.Vec.{Vec}
 use Rattle.sharc_tree.specs.declared.event.SourceEvent.{SourceEvent}
-use Rattle.sharc_audit.specs.declared.line.EventLine.{EventLine}
-use Rattle.sharc_audit.specs.Judging.{has_begun}
-use Rattle.sharc_audit.specs.Lines.{told_to}
+use Rattle.sharc_audit.specs.{declared.line.EventLine.EventLine, Judging.has_begun, Lines.told_to}
 
 abbrev pub items_found : {A : Type 0} → Option (Vec ℤ A) → List ℤ
 items_found None = []

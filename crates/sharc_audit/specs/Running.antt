@@ -3,13 +3,10 @@ use Rattle.std.specs.Prelude.{ℕ, List}
 use Rattle.sharc_tree.specs.declared.event.SourceEvent.{SourceEvent}
 use Rattle.sharc_ctype.specs.Resolved.{IsResolved}
 use Rattle.sharc_mode.specs.Moded.{Assignment}
-use Rattle.sharc_meaning.specs.Obeys.{Obeys, until_return}
-use Rattle.sharc_meaning.specs.Runs.{SourceRun}
-use Rattle.sharc_audit.specs.declared.audit.EventFault.{EventFault}
-use Rattle.sharc_audit.specs.declared.audit.Verdict.TheVariants as verdict
-use Rattle.sharc_audit.specs.declared.line.EventLine.{EventLine}
-use Rattle.sharc_audit.specs.Audited.{Audits}
+use Rattle.sharc_meaning.specs.{Obeys.{Obeys, until_return}, Runs.SourceRun}
+use Rattle.sharc_audit.specs.{declared.audit.EventFault.EventFault, declared.line.EventLine.EventLine, Audited.Audits}
 use Rattle.sharc_audit.specs.Lines.{AreLines}
+use Rattle.sharc_audit.specs.declared.audit.Verdict.TheVariants as verdict
 
 -- the lines of a source run that obeys never fail: with each fuel they obey, or the fuel of a thread is spent
 abbrev pub RunsNeverFail : Type 0

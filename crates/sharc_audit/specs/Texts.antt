@@ -1,11 +1,10 @@
 -- The line that is written of a verdict, and of a text that is no event file that can be audited.
 use Rattle.std.specs.Prelude.{ℕ, List, ◌++◌, codes, decimal, Option, Some, None}
 use Rattle.sharc_judge.specs.Judged.{number}
-use Rattle.sharc_audit.specs.declared.audit.EventFault.{EventFault}
-use Rattle.sharc_audit.specs.declared.audit.EventFault.TheVariants as fault
-use Rattle.sharc_audit.specs.declared.audit.Verdict.{Verdict}
-use Rattle.sharc_audit.specs.declared.audit.Verdict.TheVariants as verdict
+use Rattle.sharc_audit.specs.{declared.audit.EventFault.EventFault, declared.audit.Verdict.Verdict}
 use Rattle.sharc_audit.specs.declared.file.FileFault.{FileFault}
+use Rattle.sharc_audit.specs.declared.audit.EventFault.TheVariants as fault
+use Rattle.sharc_audit.specs.declared.audit.Verdict.TheVariants as verdict
 use Rattle.sharc_audit.specs.declared.file.FileFault.TheVariants as file
 
 -- why an event is not accepted

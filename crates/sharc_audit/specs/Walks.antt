@@ -2,8 +2,7 @@
 use Rattle.std.specs.Prelude.{◌≡◌, ℕ, ℤ, Bool, not, ◌&&◌, nat_lt, List, length}
 use Rattle.sharc_mode.specs.Moded.{Assignment}
 use Rattle.sharc_meaning.specs.Meaning.{asks}
-use Rattle.sharc_audit.specs.declared.run.Walk.{Walk}
-use Rattle.sharc_audit.specs.Judging.{is_spent}
+use Rattle.sharc_audit.specs.{declared.run.Walk.Walk, Judging.is_spent}
 
 pub record IsWalk (m : Assignment) (function : ℕ) (argument : ℤ) (answers : List ℤ) (walk : Walk) : Type 0 where
   pub events : walk.events ≡ (asks m function argument answers walk.fuel).events

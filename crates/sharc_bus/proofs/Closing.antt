@@ -1,20 +1,12 @@
 -- What a seat knows that has the parts of all ports: a rest, a round, and the one legal history of a round that ends.
-use Rattle.std.proofs.Common.{◌≡◌, ◌≢◌, ℕ, zero, suc, ◌+◌, ◌<◌, ◌≤◌, ◌⊎◌, ⊎_elim, inl, inr, List, [], ◌∷◌, ◌++◌, length, get_or, refl, sym, ap, ◌∙◌, subst, arith, All, slice_index_or, length-append}
-use Rattle.std.proofs.lemmas.Bool.{cases_lt}
-use Rattle.std.proofs.lemmas.List.{get_or_append_left, get_or_push, get_or-map, get_or_past, length-map}
+use Rattle.std.proofs.{Common.{◌≡◌, ◌≢◌, ℕ, zero, suc, ◌+◌, ◌<◌, ◌≤◌, ◌⊎◌, ⊎_elim, inl, inr, List, [], ◌∷◌, ◌++◌, length, get_or, refl, sym, ap, ◌∙◌, subst, arith, All, slice_index_or, length-append}, lemmas.Bool.cases_lt, lemmas.List.{get_or_append_left, get_or_push, get_or-map, get_or_past, length-map}}
 use mathlib.Core.Logic.{dite}
 use mathlib.Core.Option.{some, some-injective, some-ne-none}
 use native.Mathlib.Decide.{ℕ_discrete}
 use lib.ListN.{get_elem?}
-use Rattle.sharc_word.specs.declared.step.WordEvent.{WordEvent}
-use Rattle.sharc_word.specs.Words.{words_after}
-use Rattle.sharc_word.specs.History.{LegalHistory, events_of}
-use Rattle.sharc_bus.specs.declared.rule.Part.{Part}
-use Rattle.sharc_bus.specs.Rule.{IsAmong, unbegun, words_known, Settled}
-use Rattle.sharc_bus.specs.Bus.{BusView, SeatView, RestView, IsOf, AreSeatsOf, OneHistory, lists_of}
-use Rattle.sharc_bus.specs.Table.{HasPart, HasAll, ports_of_all, ports_of_last}
-use Rattle.sharc_bus.proofs.Members.{among_left, among_right}
-use Rattle.sharc_bus.proofs.Settling.{HasNumber, length-unbegun}
+use Rattle.sharc_word.specs.{declared.step.WordEvent.WordEvent, Words.words_after, History.{LegalHistory, events_of}}
+use Rattle.sharc_bus.specs.{declared.rule.Part.Part, Rule.{IsAmong, unbegun, words_known, Settled}, Bus.{BusView, SeatView, RestView, IsOf, AreSeatsOf, OneHistory, lists_of}, Table.{HasPart, HasAll, ports_of_all, ports_of_last}}
+use Rattle.sharc_bus.proofs.{Members.{among_left, among_right}, Settling.{HasNumber, length-unbegun}}
 
 module _ {X : Type 0} (P : X → Type 0) where
   pub all_left : (xs : List X) (x : X) → All P (xs ++ x ∷ []) → All P xs
@@ -62,10 +54,6 @@ pub record RoundOf (parts : List Part) (words : List ℕ) (ports : ℕ) : Type 0
   pub words_are : words_known parts ≡ words
   pub ports_are : ports_of_last parts ≡ ports
   pub is : parts ≡ unbegun (words_known parts) (ports_of_last parts) 1
-
-pub round_of : (parts : List Part) (words : List ℕ) (ports : ℕ) → parts ≡ unbegun words ports 1 → RoundOf parts words ports
-round_of parts words ports e =
-    subst (λ (ps : List Part). RoundOf ps words ports) (sym e) (let here : RoundOf (unbegun words ports 1) words ports = record { words_are = refl; ports_are = refl; is = refl } in here)
 
 module _ (bus : BusView) (round : RestView) (of : IsOf bus round) (seats : List SeatView) (are : AreSeatsOf bus seats)
     (first more parts : List Part) (words_are : round.words ≡ words_known first) (ports_are : round.ports ≡ ports_of_last first)

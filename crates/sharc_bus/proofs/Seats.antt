@@ -1,15 +1,13 @@
 -- The rule holds where a bus is opened, and is kept where a seat is cut in two and where two become one.
-use Rattle.std.proofs.Common.{◌≡◌, ◌≢◌, ℕ, zero, suc, ◌+◌, ◌<◌, ◌≤◌, ◌==◌, Bool, true, false, ◌⊎◌, ⊎_elim, inl, inr, List, [], ◌∷◌, ◌++◌, length, slice_set, take, drop, refl, sym, ap, ◌∙◌, subst, arith, if◌then◌else◌, eq-eqb, ne_eqb, length-set}
+use Rattle.std.proofs.Common.{◌≡◌, ◌≢◌, ℕ, zero, suc, ◌+◌, ◌<◌, ◌≤◌, ◌==◌, ◌⊎◌, ⊎_elim, inl, inr, List, [], ◌∷◌, ◌++◌, length, slice_set, take, drop, refl, sym, ap, ◌∙◌, subst, arith, if◌then◌else◌, eq-eqb, ne_eqb, length-set}
 use mathlib.Core.Option.{some, some-injective, some-ne-none}
 use lib.ListN.{get_elem?}
 use Rattle.atomic_table.specs.Table.{State, Splits, Joins, opening}
 use Rattle.atomic_table.proofs.Lists.{at_set, set_else}
-use Rattle.sharc_word.specs.declared.step.WordEvent.{WordEvent}
-use Rattle.sharc_word.specs.History.{events_of}
-use Rattle.sharc_word.specs.Laws.{HistoryLaws}
-use Rattle.sharc_bus.specs.declared.rule.Part.{Part}
-use Rattle.sharc_bus.specs.Rule.{IsAmong, BusRule, unbegun}
+use Rattle.sharc_word.specs.{declared.step.WordEvent.WordEvent, History.events_of, Laws.HistoryLaws}
+use Rattle.sharc_bus.specs.{declared.rule.Part.Part, Rule.{IsAmong, BusRule, unbegun}}
 use Rattle.sharc_bus.proofs.Members.{among_one, among_append}
+use Rattle.sharc_lemmas.proofs.Bools.{if_false, if_true}
 
 abbrev St : Type 0
 St = State (Unit {0}) (List Part)
@@ -51,19 +49,6 @@ at_snoc [] last v zero e = inr (refl, some-injective last v e)
 at_snoc [] last v (suc i) e = absurd (some-ne-none v (sym e))
 at_snoc (x ∷ xs) last v zero e = inl e
 at_snoc (x ∷ xs) last v (suc i) e = ⊎_elim (λ l. inl l) (λ r. inr (ap suc r.0, r.1)) (at_snoc xs last v i e)
-
-at_within : (l : List (List Part)) (v : List Part) (i : ℕ) → get_elem? l i ≡ some v → i < length l
-at_within [] v i e = absurd (some-ne-none v (sym e))
-at_within (x ∷ xs) v zero e = omega arith
-at_within (x ∷ xs) v (suc i) e = omega (arith, at_within xs v i e)
-
-if_true : {A : Type 0} (b : Bool) (m n : A) → b ≡ true → (if b then m else n) ≡ m
-if_true true m n e = refl
-if_true false m n e = absurd cc
-
-if_false : {A : Type 0} (b : Bool) (m n : A) → b ≡ false → (if b then m else n) ≡ n
-if_false true m n e = absurd cc
-if_false false m n e = refl
 
 -- a seat keeps its first part, and a new seat has the others, of ports that have other numbers
 module _ (opening : List ℕ) (ports id : ℕ) (p : Part) (ps : List Part) (others : (q : Part) → IsAmong q ps → q.number ≢ p.number) (s : St) (kept : BusRule opening ports s) (at : get_elem? s.views id ≡ some (p ∷ ps)) where

@@ -1,9 +1,7 @@
 -- What a caller reads: buses, rests, seats and ports as contracts see them, and what a bus promises.
 use Rattle.std.specs.Prelude.{ℕ, ◌≡◌, ◌<◌, List, [], ◌∷◌, length, map, All, slice_index_or}
 use Rattle.atomic_table.specs.Seated.{TableId}
-use Rattle.sharc_word.specs.declared.step.WordEvent.{WordEvent}
-use Rattle.sharc_word.specs.Words.{words_after}
-use Rattle.sharc_word.specs.History.{LegalHistory, events_of}
+use Rattle.sharc_word.specs.{declared.step.WordEvent.WordEvent, Words.words_after, History.{LegalHistory, events_of}}
 
 -- what distinguishes a bus from others, its opening words, and the number of its ports
 pub record BusView : Type 0 where

@@ -1,11 +1,8 @@
 -- What the proof alone needs: the table of a bus, and the parts of a history that its seats have.
 use Rattle.std.specs.Prelude.{ℕ, suc, ◌≡◌, ◌<◌, List, [], ◌∷◌, length, map}
-use Rattle.atomic_table.specs.Table.{Me}
-use Rattle.atomic_table.specs.Seated.{TableId}
+use Rattle.atomic_table.specs.{Table.Me, Seated.TableId}
 use Rattle.sharc_word.specs.declared.step.WordEvent.{WordEvent}
-use Rattle.sharc_bus.specs.declared.rule.Part.{Part}
-use Rattle.sharc_bus.specs.Rule.{IsAmong, unbegun, words_known}
-use Rattle.sharc_bus.specs.Bus.{SeatView, RestView}
+use Rattle.sharc_bus.specs.{declared.rule.Part.Part, Rule.{IsAmong, unbegun, words_known}, Bus.{SeatView, RestView}}
 
 -- a table with these words for this many ports, and with no slot
 pub record IsBusTable (id : TableId) (opening : List ℕ) (ports : ℕ) : Type 0 where

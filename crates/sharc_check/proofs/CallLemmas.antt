@@ -1,17 +1,8 @@
 -- What is said of a call.
 use Rattle.std.proofs.Common.{◌≡◌, List, ◌++◌, ap, sym, ◌∙◌, append_assoc}
-use Rattle.sharc_tree.specs.declared.token.Span.{Span}
-use Rattle.sharc_tree.specs.declared.tree.declaration.Declaration.{Declaration}
-use Rattle.sharc_tree.specs.declared.tree.declaration.Identifier.{Identifier}
-use Rattle.sharc_tree.specs.declared.tree.expression.Expr.{Expr}
-use Rattle.sharc_tree.specs.Tree.{Expression, call}
-use Rattle.sharc_tree.specs.View.{view_arguments}
-use Rattle.sharc_ctype.specs.Resolved.{named_at}
-use Rattle.sharc_ctype.specs.Transfers.{parameters_named}
-use Rattle.sharc_mode.specs.declared.finding.Finding.{Finding}
-use Rattle.sharc_mode.specs.Expressions.{notes_of, notes_of_all}
-use Rattle.sharc_mode.specs.Moded.{Assignment}
-use Rattle.sharc_mode.specs.Notes.{call_notes}
+use Rattle.sharc_tree.specs.{declared.token.Span.Span, declared.tree.declaration.Declaration.Declaration, declared.tree.declaration.Identifier.Identifier, declared.tree.expression.Expr.Expr, Tree.{Expression, call}, View.view_arguments}
+use Rattle.sharc_ctype.specs.{Resolved.named_at, Transfers.parameters_named}
+use Rattle.sharc_mode.specs.{declared.finding.Finding.Finding, Expressions.{notes_of, notes_of_all}, Moded.Assignment, Notes.call_notes}
 
 pub call_said : (m : Assignment) (e : Expression) (s : Span) (f : Identifier) (list slice : List Expr) (ps : List Declaration) (n0 n1 : List Finding)
     → e ≡ call s f (view_arguments list) → slice ≡ list → ps ≡ parameters_named m.typed (named_at m.typed f.site.token)

@@ -1,43 +1,11 @@
 -- The levels of a type, from the top down; and the positions of an entity that is listed.
-use Rattle.std.proofs.Common.{◌≡◌, ℕ, zero, suc, ◌+◌, ◌<◌, ◌≤◌, Bool, true, false, ◌&&◌, ◌||◌, not, List, [], ◌∷◌, ◌++◌, length, take, drop, map, Option, Some, None, get_or, refl, ap, sym, ◌∙◌, subst, add-one, drop-cons, append_assoc, arith}
-use Rattle.std.proofs.lemmas.List.{get_or-drop, get_or-take, length-map, length-drop, length-take, length-take-le, drop_all}
-use Rattle.std.proofs.Math.ListN.{get_or-map}
-use Rattle.std.specs.Option.{option_or}
+use Rattle.std.proofs.{Common.{◌≡◌, ℕ, zero, suc, ◌+◌, ◌<◌, ◌≤◌, Bool, true, false, ◌&&◌, ◌||◌, not, List, [], ◌∷◌, ◌++◌, length, take, drop, map, Option, Some, get_or, refl, ap, sym, ◌∙◌, subst, add-one, drop-cons, append_assoc, arith}, lemmas.List.{get_or-drop, get_or-take, length-map, length-drop, length-take-le}, Math.ListN.get_or-map}
 use Rattle.std.specs.Prelude.{slice_index_or}
-use Rattle.sharc_tree.specs.declared.ctype.Mode.{Mode}
-use Rattle.sharc_tree.specs.declared.ctype.Mode.TheVariants.{Private}
-use Rattle.sharc_names.specs.declared.types.Role.{Role}
+use Rattle.sharc_tree.specs.{declared.ctype.Mode.Mode, declared.ctype.Mode.TheVariants.Private}
 use Rattle.sharc_names.specs.declared.types.Role.TheVariants as role
-use Rattle.sharc_ctype.specs.declared.entity.Entity.{Entity}
-use Rattle.sharc_ctype.specs.declared.entity.Numbered.{Numbered}
-use Rattle.sharc_ctype.specs.Entities.{entities_in, numbered, numbered_from, positions_of, positions_in}
-use Rattle.sharc_mode.specs.Cells.{top_of}
-use Rattle.sharc_ctype.specs.Resolved.{Resolution}
-use Rattle.sharc_mode.specs.Moded.{Assignment, position_count}
-use Rattle.sharc_mode.specs.Notes.{top_levels, position_levels}
-use Rattle.sharc_mode.specs.WellFormed.{is_private_mode, holds_private}
-use Rattle.sharc_check.specs.Levels.{is_shared, is_shared_top, holds_below}
-
-plain_top : (top : Option Mode) (rest : List (Option Mode)) → holds_private (top ∷ rest) ≡ holds_below (is_shared top) rest
-plain_top None rest = refl
-plain_top (Some m) rest = refl
-
-private_top : (top : Option Mode) (rest : List (Option Mode)) → holds_private (option_or top (Some Private) ∷ rest) ≡ holds_below (is_shared top) rest
-private_top None rest = refl
-private_top (Some m) rest = refl
-
-pub top_said : (r : Role) (levels rest : List (Option Mode)) → holds_below (is_shared_top r levels) rest ≡ holds_private (top_levels r levels ++ rest)
-top_said role.Global levels rest = refl
-top_said role.Field levels rest = sym (plain_top (top_of levels) rest)
-top_said role.Local levels rest = sym (private_top (top_of levels) rest)
-top_said role.Parameter levels rest = sym (private_top (top_of levels) rest)
-top_said role.Result levels rest = sym (plain_top (top_of levels) rest)
-top_said role.Cast levels rest = sym (plain_top (top_of levels) rest)
-top_said role.Made levels rest = sym (plain_top (top_of levels) rest)
-
-none_below : (above : Bool) → holds_below above [] ≡ false
-none_below true = refl
-none_below false = refl
+use Rattle.sharc_ctype.specs.{declared.entity.Entity.Entity, declared.entity.Numbered.Numbered, Entities.{entities_in, numbered, numbered_from, positions_of, positions_in}, Resolved.Resolution}
+use Rattle.sharc_mode.specs.{Moded.{Assignment, position_count}, Notes.position_levels, WellFormed.is_private_mode}
+use Rattle.sharc_check.specs.Levels.{holds_below}
 
 -- the level at a position
 level_at : (modes : List Mode) (first count i : ℕ) → i < count → first + count ≤ length modes
@@ -77,14 +45,6 @@ found_level m n i above private below ends private_is shared is =
     ∙ ap (λ b. (b && is_private_mode mode) || holds_below (not (is_private_mode mode)) rest) shared
     ∙ ap (λ b. b || holds_below (not (is_private_mode mode)) rest) (sym private_is ∙ is)
 
-pub no_level : (above : Bool) (m : Assignment) (n : Numbered) (i : ℕ) → positions_of n.entity ≤ i → holds_below above (drop i (position_levels m n)) ≡ false
-no_level above m n i past =
-    let some : Mode → Option Mode = λ mode. Some mode in
-    let list = take (positions_of n.entity) (drop n.first m.modes) in
-    let size = length-take (positions_of n.entity) (drop n.first m.modes) in
-    let same = length-map list some in
-    ap (holds_below above) (drop_all i (map some list) (omega (arith, size, same, past))) ∙ none_below above
-
 -- ---- the entities of a program
 
 ends : (k : ℕ) (list : List Entity) (i : ℕ) (n : Numbered) → i < length (numbered_from k list) → n ≡ get_or (numbered_from k list) i n → n.first + positions_of n.entity ≤ k + positions_in list
@@ -103,14 +63,6 @@ entity_ends r i n below is = let h : n.first + positions_of n.entity ≤ 0 + pos
 
 pub entity_ends_in : (r : Resolution) (list : List Numbered) (i : ℕ) (n : Numbered) → list ≡ numbered (entities_in r.program.items) → i < length list → n ≡ get_or list i n → n.first + positions_of n.entity ≤ position_count r
 entity_ends_in r list i n is below at = entity_ends r i n (subst (λ (l : List Numbered). i < length l) is below) (subst (λ (l : List Numbered). n ≡ get_or l i n) is at)
-
-pub first_fails : (a b : Bool) → a ≡ false → (a && b) ≡ false
-first_fails true b h = ap (λ x. x && b) h
-first_fails false b h = refl
-
-pub second_fails : (a b : Bool) → b ≡ false → (a && b) ≡ false
-second_fails true b h = h
-second_fails false b h = refl
 
 -- ---- five lists one after another
 

@@ -1,30 +1,12 @@
 -- What is said of threads names nothing, so all that is said names what is said of types, expressions and statements.
 use Rattle.std.proofs.Common.{◌≡◌, ℕ, ◌+◌, ◌==◌, Bool, true, false, ◌&&◌, ◌||◌, cond, List, [], ◌∷◌, ◌++◌, refl, ap, sym, ◌∙◌}
-use Rattle.std.specs.Prelude.{slice_index_or}
-use Rattle.std.specs.List.{flat_map}
-use Rattle.sharc_tree.specs.declared.token.Span.{Span}
-use Rattle.sharc_tree.specs.declared.tree.declaration.Declaration.{Declaration}
-use Rattle.sharc_tree.specs.declared.tree.item.GlobalDefinition.{GlobalDefinition}
-use Rattle.sharc_tree.specs.Tree.{Function}
-use Rattle.sharc_ctype.specs.Entities.{entities_in, numbered}
-use Rattle.sharc_ctype.specs.Resolved.{functions_in, globals_in}
-use Rattle.sharc_mode.specs.declared.error.ErrorCode.{ErrorCode}
-use Rattle.sharc_mode.specs.declared.error.ErrorCode.TheVariants.{PrivateReachesThread}
-use Rattle.sharc_mode.specs.declared.finding.Finding.{Finding}
-use Rattle.sharc_mode.specs.declared.finding.Finding.TheVariants.{Wrong, Names, Takes}
-use Rattle.sharc_mode.specs.Cells.{top_of}
-use Rattle.sharc_mode.specs.Expressions.{items_notes}
-use Rattle.sharc_mode.specs.Moded.{Assignment}
-use Rattle.sharc_mode.specs.Notes.{error_where, is_named, is_private_level, type_notes}
-use Rattle.sharc_mode.specs.Rows.{written, declared_row, modes_of}
-use Rattle.sharc_mode.specs.WellModed.{has_private_target, is_spawned, parameter_notes, spawned_notes, touched_notes, notes_about}
-use Rattle.sharc_check.specs.Named.{TellNamed, said_of_paths}
-use Rattle.sharc_check.specs.Settles.{marks}
+use Rattle.std.specs.{Prelude.slice_index_or, List.flat_map}
+use Rattle.sharc_tree.specs.{declared.token.Span.Span, declared.tree.declaration.Declaration.Declaration, declared.tree.item.GlobalDefinition.GlobalDefinition, Tree.Function}
+use Rattle.sharc_ctype.specs.{Entities.{entities_in, numbered}, Resolved.{functions_in, globals_in}}
+use Rattle.sharc_mode.specs.{declared.error.ErrorCode.ErrorCode, declared.error.ErrorCode.TheVariants.PrivateReachesThread, declared.finding.Finding.Finding, declared.finding.Finding.TheVariants.{Wrong, Names, Takes}, Cells.top_of, Expressions.items_notes, Moded.Assignment, Notes.{error_where, is_named, is_private_level, type_notes}, Rows.{written, declared_row, modes_of}, WellModed.{has_private_target, is_spawned, parameter_notes, spawned_notes, touched_notes, notes_about}}
+use Rattle.sharc_check.specs.{Named.{TellNamed, said_of_paths}, Settles.marks}
 use Rattle.sharc_check.proofs.SettleLemmas.{marks_are}
-
-or_assoc : (a b c : Bool) → ((a || b) || c) ≡ (a || (b || c))
-or_assoc true b c = refl
-or_assoc false b c = refl
+use Rattle.sharc_lemmas.proofs.Bools.{or_false as or_none, or_assoc}
 
 named_in_both : (x : ℕ) (a b : List Finding) → is_named x (a ++ b) ≡ (is_named x a || is_named x b)
 named_in_both x [] b = refl
@@ -66,10 +48,6 @@ none_of_touched touched x n (g ∷ rest) =
     none_in_both x (error_where (touched n && is_private_level (top_of g.declaration.written.ctype.levels)) PrivateReachesThread g.declaration.written.span g.declaration.name.text) (touched_notes touched (n + 1) rest)
     (none_where x (touched n && is_private_level (top_of g.declaration.written.ctype.levels)) PrivateReachesThread g.declaration.written.span g.declaration.name.text)
     (none_of_touched touched x (n + 1) rest)
-
-or_none : (b : Bool) → (b || false) ≡ b
-or_none true = refl
-or_none false = refl
 
 ends : (x : ℕ) (l rest : List Finding) → NamesNone x rest → is_named x (l ++ rest) ≡ is_named x l
 ends x l rest none = named_in_both x l rest ∙ ap (λ t. is_named x l || t) none ∙ or_none (is_named x l)

@@ -1,12 +1,6 @@
 -- Two lists in order, in which those that tie are ordered alike, are one.
-use Rattle.std.proofs.Common.{◌≡◌, suc, ◌+◌, Bool, true, false, not, ◌&&◌, cond, List, [], ◌∷◌, get_or, refl, ap, sym, ◌∙◌, subst, arith}
-use Rattle.std.specs.Cmp.{IsTotalOrder}
-use Rattle.std.specs.List.{filter, AllByRecursion}
-use Rattle.std.specs.List.Sorted.{IsSortedBy, ties}
-use Rattle.std.specs.Ordering.{is_lt, is_gt, ordering_reverse}
-use Rattle.std.specs.declared.cmp.Ordering.{Ordering}
-use Rattle.std.specs.declared.cmp.Ordering.TheVariants.{Less, Equal, Greater}
-use Rattle.std.proofs.lemmas.Cmp.{upto, tied_itself}
+use Rattle.std.proofs.{Common.{◌≡◌, suc, ◌+◌, Bool, true, false, not, ◌&&◌, cond, List, [], ◌∷◌, get_or, refl, ap, sym, ◌∙◌, subst, arith}, lemmas.Cmp.{upto, tied_itself}}
+use Rattle.std.specs.{Cmp.IsTotalOrder, List.{filter, AllByRecursion}, List.Sorted.{IsSortedBy, ties}, Ordering.{is_lt, is_gt, ordering_reverse}, declared.cmp.Ordering.Ordering, declared.cmp.Ordering.TheVariants.{Less, Equal, Greater}}
 
 abbrev head_or : {X : Type 0} → X → List X → X
 head_or d [] = d

@@ -1,9 +1,7 @@
 -- Cases have one order.
-use Rattle.std.proofs.Common.{◌≡◌, List}
+use Rattle.std.proofs.{Common.{◌≡◌, List}, lemmas.Cmp.{on_total, then_total, nat_cmp_total}}
 use Rattle.std.specs.Cmp.{IsTotalOrder}
-use Rattle.std.proofs.lemmas.Cmp.{on_total, then_total, nat_cmp_total}
-use Rattle.sharc_mode.specs.declared.error.ModeError.{ModeError}
-use Rattle.sharc_mode.specs.Errors.{number_of}
+use Rattle.sharc_mode.specs.{declared.error.ModeError.ModeError, Errors.number_of}
 use Rattle.sharc_check.specs.Orders.{IsInOrder, place_and_code, by_place}
 use Rattle.sharc_check.proofs.OnceLemmas.{one_order}
 

@@ -1,19 +1,9 @@
 -- Going over a row from its first target down.
 use Rattle.std.proofs.Common.{◌≡◌, ℕ, ◌+◌, ◌<◌, ◌≤◌, Bool, false, ◌||◌, cond, List, [], ◌∷◌, ◌++◌, length, drop, Option, Some, None, refl, ap, sym, ◌∙◌, subst, append_assoc}
-use Rattle.std.specs.List.{flat_map, list_any}
-use Rattle.std.specs.Option.{option_map, option_or}
-use Rattle.sharc_tree.specs.declared.ctype.Base.{Base}
-use Rattle.sharc_tree.specs.declared.token.Span.{Span}
-use Rattle.sharc_tree.specs.declared.tree.declaration.Declaration.{Declaration}
-use Rattle.sharc_tree.specs.Tree.{Arguments}
+use Rattle.std.specs.{List.{flat_map, list_any}, Option.{option_map, option_or}}
+use Rattle.sharc_tree.specs.{declared.ctype.Base.Base, declared.token.Span.Span, declared.tree.declaration.Declaration.Declaration, Tree.Arguments}
 use Rattle.sharc_ctype.specs.Resolved.{Resolution}
-use Rattle.sharc_mode.specs.declared.error.ErrorCode.TheVariants.{CastChangesInnerMode}
-use Rattle.sharc_mode.specs.Cells.{pointed}
-use Rattle.sharc_mode.specs.Moded.{Assignment}
-use Rattle.sharc_mode.specs.Notes.{cast_notes, mismatch, shown, unmet, unmet_in}
-use Rattle.sharc_mode.specs.RowLaws.{RowLaws}
-use Rattle.sharc_mode.specs.Rows.{Targets, deeper, modes_of}
-use Rattle.sharc_mode.specs.Sharings.{Lock, Sharing, same_all}
+use Rattle.sharc_mode.specs.{declared.error.ErrorCode.TheVariants.CastChangesInnerMode, Cells.pointed, Moded.Assignment, Notes.{cast_notes, mismatch, shown, unmet, unmet_in}, RowLaws.RowLaws, Rows.{Targets, deeper, modes_of}, Sharings.{Lock, Sharing, same_all}}
 
 pub step_row : (laws : RowLaws) (m : Assignment) (row next : Targets) (s : Sharing) → 0 < row.count → row.first + row.count ≤ length m.modes → s ≡ pointed m (Some row) → next ≡ deeper row → modes_of m row ≡ s ∷ modes_of m next
 step_row laws m row next s some ends s_is next_is =

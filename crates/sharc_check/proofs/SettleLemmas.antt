@@ -1,35 +1,10 @@
 -- What is settled when all is said.
-use Rattle.std.proofs.Common.{◌≡◌, ℕ, ◌+◌, ◌<◌, ◌≤◌, ◌==◌, max, Bool, true, false, ◌||◌, List, [], ◌∷◌, ◌++◌, length, fold, replicate, get_or, refl, ap, sym, ◌∙◌, subst, set, append_assoc, arith, reverse}
-use Rattle.std.proofs.lemmas.List.{append-nil, reverse-append, get_or-set_other, get_or-replicate, length-set, length-replicate}
-use Rattle.std.proofs.lemmas.Grind.{common_steps, get_or-set_at, flat_map-append}
-use Rattle.std.proofs.lemmas.Bool.Decides.{nat_tests}
-use Rattle.std.specs.Prelude.{slice_index_or}
-use Rattle.std.specs.List.{flat_map}
-use Rattle.sharc_tree.specs.declared.token.Span.{Span}
+use Rattle.std.proofs.{Common.{◌≡◌, ℕ, ◌+◌, ◌<◌, ◌≤◌, ◌==◌, max, Bool, true, false, ◌||◌, List, [], ◌∷◌, ◌++◌, length, fold, replicate, get_or, refl, ap, sym, ◌∙◌, subst, set, arith, reverse}, lemmas.List.{get_or-set_other, get_or-replicate, length-set, length-replicate}, lemmas.Grind.{common_steps, get_or-set_at}, lemmas.Bool.Decides.nat_tests}
+use Rattle.std.specs.{Prelude.slice_index_or, List.flat_map}
 use Rattle.sharc_ctype.specs.Resolved.{Resolution}
-use Rattle.sharc_mode.specs.declared.error.ModeError.{ModeError}
-use Rattle.sharc_mode.specs.declared.finding.Finding.{Finding}
-use Rattle.sharc_mode.specs.declared.finding.Finding.TheVariants.{Wrong, Names, Takes}
-use Rattle.sharc_mode.specs.Notes.{is_named, errors_by, errors_of}
+use Rattle.sharc_mode.specs.{declared.error.ModeError.ModeError, declared.finding.Finding.Finding, declared.finding.Finding.TheVariants.{Wrong, Names, Takes}, Notes.{is_named, errors_by, errors_of}}
 use Rattle.sharc_check.specs.Settles.{past, past_all, marked, marks, taken_errors, settled}
-
-taken_reversed : (r : Resolution) (b : Bool) (s : Span) (x : ℕ) → reverse (taken_errors r b s x) ≡ taken_errors r b s x
-taken_reversed r true s x = refl
-taken_reversed r false s x = refl
-
--- one of at most one is its own reverse
-pub settled_reversed : (r : Resolution) (flags : List Bool) (note : Finding) → reverse (settled r flags note) ≡ settled r flags note
-settled_reversed r flags (Wrong e) = refl
-settled_reversed r flags (Names x) = refl
-settled_reversed r flags (Takes s x) = taken_reversed r (slice_index_or flags x false) s x
-
-or_false : (b : Bool) → b ≡ (b || false)
-or_false true = refl
-or_false false = refl
-
-or_assoc : (a b c : Bool) → ((a || b) || c) ≡ (a || (b || c))
-or_assoc true b c = refl
-or_assoc false b c = refl
+use Rattle.sharc_lemmas.proofs.Bools.{or_assoc, or_false2 as or_false}
 
 one_flag : (flags : List Bool) (y x : ℕ) → y < length flags → get_or (set flags y true) x false ≡ (get_or flags x false || (x == y))
 one_flag flags y x below = grind (arith, nat_tests, get_or-set_at, get_or-set_other, common_steps)
@@ -74,14 +49,3 @@ pub all_settled : (r : Resolution) (notes list seen : List Finding) (flags : Lis
     → reverse back ≡ flat_map (settled r flags) list → errors ≡ reverse back → errors ≡ errors_of r notes
 all_settled r notes list seen flags back errors seen_is list_is flags_is back_is errors_is =
     errors_is ∙ back_is ∙ ap (λ f. flat_map (settled r f) list) (flags_is ∙ ap marks seen_is) ∙ ap (λ l. flat_map (settled r (marks notes)) l) list_is ∙ settled_are r notes notes
-
--- one note from the back
-pub one_settled : (r : Resolution) (flags : List Bool) (rest old : List Finding) (note : Finding) (before after : List ModeError) → old ≡ rest ++ note ∷ [] → after ≡ before ++ settled r flags note
-    → flat_map (settled r flags) rest ++ reverse after ≡ flat_map (settled r flags) old ++ reverse before
-one_settled r flags rest old note before after old_is after_is =
-    ap (λ l. flat_map (settled r flags) rest ++ reverse l) after_is
-    ∙ ap (λ l. flat_map (settled r flags) rest ++ l) (reverse-append before (settled r flags note) ∙ ap (λ l. l ++ reverse before) (settled_reversed r flags note))
-    ∙ sym (append_assoc (flat_map (settled r flags) rest) (settled r flags note) (reverse before))
-    ∙ ap (λ l. (flat_map (settled r flags) rest ++ l) ++ reverse before) (sym (append-nil (settled r flags note)))
-    ∙ ap (λ l. l ++ reverse before) (sym (flat_map-append (settled r flags) rest (note ∷ [])))
-    ∙ ap (λ l. flat_map (settled r flags) l ++ reverse before) (sym old_is)

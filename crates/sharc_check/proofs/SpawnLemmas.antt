@@ -1,14 +1,10 @@
 -- What is answered of which functions are spawned is what the rules ask.
-use Rattle.std.proofs.Common.{◌≡◌, ℕ, ◌<◌, Bool, true, false, length, refl, sym, arith}
+use Rattle.std.proofs.Common.{◌≡◌, ℕ, ◌<◌, length, arith}
 use Rattle.sharc_ctype.specs.Resolved.{Resolution, functions_in}
 use Rattle.sharc_reach.specs.Reaching.{Reaching, AreReached, is_chosen}
 use Rattle.sharc_mode.specs.WellModed.{is_spawned}
 use Rattle.sharc_mode_laws.specs.Laws.{SpawnedAreTold}
-
-same_test : (a b : Bool) → (a ≡ true → b ≡ true) → (b ≡ true → a ≡ true) → a ≡ b
-same_test true b to from = sym (to refl)
-same_test false true to from = from refl
-same_test false false to from = refl
+use Rattle.sharc_lemmas.proofs.Bools.{same_test}
 
 pub is_told : (laws : SpawnedAreTold) (r : Resolution) (a : Reaching) → AreReached r a → (n : ℕ) → n < length (functions_in r.program.items) → is_chosen a.spawned n ≡ is_spawned r n
 is_told laws r a reached n below =

@@ -1,12 +1,8 @@
 -- Functions and globals, one by one.
 use Rattle.std.proofs.Common.{◌≡◌, ℕ, zero, suc, ◌+◌, ◌<◌, ◌≤◌, Bool, List, [], ◌∷◌, ◌++◌, length, drop, Some, refl, ap, sym, ◌∙◌, add-one, append_assoc, cond, arith}
-use Rattle.std.proofs.lemmas.List.{append-nil, drop_all}
 use Rattle.std.specs.List.{slice_get, flat_map}
-use Rattle.sharc_tree.specs.declared.tree.item.GlobalDefinition.{GlobalDefinition}
-use Rattle.sharc_tree.specs.Tree.{Function}
-use Rattle.sharc_mode.specs.declared.finding.Finding.{Finding}
-use Rattle.sharc_mode.specs.Moded.{Assignment}
-use Rattle.sharc_mode.specs.WellModed.{is_spawned, parameter_notes, spawned_notes, touched_notes}
+use Rattle.sharc_tree.specs.{declared.tree.item.GlobalDefinition.GlobalDefinition, Tree.Function}
+use Rattle.sharc_mode.specs.{declared.finding.Finding.Finding, Moded.Assignment, WellModed.{is_spawned, parameter_notes, spawned_notes, touched_notes}}
 use Rattle.sharc_check.specs.Threads.{function_notes, global_notes}
 
 at_place : {X : Type 0} (xs : List X) (n : ℕ) → n < length xs → (x : X) × (slice_get xs n ≡ Some x) × (drop n xs ≡ x ∷ drop (suc n) xs)
@@ -39,9 +35,3 @@ touched_one touched gs n is before after whole below is_it after_is were =
     ∙ ap (λ k. before ++ (said (touched n) ++ touched_notes touched (n + 1) (drop k gs))) (add-one n)
     ∙ ap (λ l. before ++ touched_notes touched n l) (sym at.2)
     ∙ were
-
-pub spawned_end : (m : Assignment) (fs : List Function) (n : ℕ) (before whole : List Finding) → length fs ≤ n → before ++ spawned_notes m n (drop n fs) ≡ whole → before ≡ whole
-spawned_end m fs n before whole past were = sym (append-nil before) ∙ ap (λ l. before ++ spawned_notes m n l) (sym (drop_all n fs past)) ∙ were
-
-pub touched_end : (touched : ℕ → Bool) (gs : List GlobalDefinition) (n : ℕ) (before whole : List Finding) → length gs ≤ n → before ++ touched_notes touched n (drop n gs) ≡ whole → before ≡ whole
-touched_end touched gs n before whole past were = sym (append-nil before) ∙ ap (λ l. before ++ touched_notes touched n l) (sym (drop_all n gs past)) ∙ were

@@ -1,32 +1,14 @@
 -- Which globals are touched can be determined for every number, from what is answered of those that there are.
-use Rattle.std.proofs.Common.{◌≡◌, ◌⊎◌, inl, inr, ℕ, zero, suc, ◌+◌, ◌<◌, ◌≤◌, ◌==◌, Bool, true, false, ◌||◌, ◌&&◌, List, [], ◌∷◌, ◌++◌, length, get_or, Option, Some, None, is_some, refl, ap, sym, ◌∙◌, subst, arith}
-use Rattle.std.specs.Prelude.{IsSomeAnd, IfSome, unwrap_or}
-use Rattle.std.specs.List.{slice_get, list_any, flat_map}
-use Rattle.std.proofs.lemmas.Option.{slice_get_within}
-use Rattle.std.proofs.lemmas.Bool.{false≢true}
-use Rattle.std.proofs.lemmas.Bool.Decides.{nat_tests}
-use Rattle.sharc_tree.specs.declared.tree.item.GlobalDefinition.{GlobalDefinition}
-use Rattle.sharc_tree.specs.Tree.{Function}
+use Rattle.std.proofs.{Common.{◌≡◌, ◌⊎◌, inl, inr, ℕ, zero, suc, ◌+◌, ◌<◌, ◌≤◌, ◌==◌, Bool, true, false, ◌||◌, ◌&&◌, List, [], ◌∷◌, ◌++◌, length, get_or, Option, Some, None, is_some, refl, ap, sym, ◌∙◌, subst, arith}, lemmas.Option.slice_get_within}
+use Rattle.std.specs.{Prelude.{IfSome, unwrap_or}, List.{slice_get, list_any, flat_map}}
+use Rattle.sharc_tree.specs.{declared.tree.item.GlobalDefinition.GlobalDefinition, Tree.Function}
 use Rattle.sharc_names.specs.declared.fault.Named.{Named}
 use Rattle.sharc_names.specs.declared.fault.Named.TheVariants as named
-use Rattle.sharc_ctype.specs.Reaches.{Names, tokens_of, IsTouched}
-use Rattle.sharc_ctype.specs.Resolved.{Resolution, named_at, functions_in, globals_in, function_at}
+use Rattle.sharc_ctype.specs.{Reaches.{Names, tokens_of, IsTouched}, Resolved.{Resolution, named_at, functions_in, globals_in, function_at}, Entities.{entities_in, numbered}}
 use Rattle.sharc_reach.specs.Reaching.{Reaching, AreReached, IsFirstOf, is_chosen, first_of}
-use Rattle.sharc_mode.specs.declared.error.ErrorCode.TheVariants.{PrivateReachesThread}
-use Rattle.sharc_mode.specs.Cells.{top_of}
-use Rattle.sharc_ctype.specs.Entities.{entities_in, numbered}
-use Rattle.sharc_mode.specs.Expressions.{items_notes}
-use Rattle.sharc_mode.specs.Moded.{Assignment}
-use Rattle.sharc_mode.specs.Notes.{error_where, is_private_level, type_notes, errors_of}
-use Rattle.sharc_mode.specs.WellModed.{AreModeErrors, spawned_notes, touched_notes, notes_about}
+use Rattle.sharc_mode.specs.{declared.error.ErrorCode.TheVariants.PrivateReachesThread, Cells.top_of, Expressions.items_notes, Moded.Assignment, Notes.{error_where, is_private_level, type_notes, errors_of}, WellModed.{AreModeErrors, spawned_notes, touched_notes, notes_about}}
 use Rattle.sharc_check.specs.Threads.{touched_by}
-
-false_true : {A : Type 0} → false ≡ true → A
-false_true e = absurd (false≢true e)
-
-either : (a b : Bool) → (a || b) ≡ true → (a ≡ true) ⊎ (b ≡ true)
-either true b h = inl refl
-either false b h = inr h
+use Rattle.sharc_lemmas.proofs.{Numbers.{same_is as equal_number, same_number}, Bools.{or_split as either, both as both_true, false_true}, Options.{some_there as some_and, and_some}}
 
 not_true : (b : Bool) → (b ≡ true → ⊥) → false ≡ b
 not_true true never = absurd (never refl)
@@ -45,12 +27,6 @@ is_global g (named.Function n) = false
 is_global g (named.Variable x) = false
 is_global g (named.Field f) = false
 is_global g named.Known = false
-
-same_number : (a b : ℕ) → (a == b) ≡ true → a ≡ b
-same_number a b h = grind (arith, nat_tests)
-
-equal_number : (a : ℕ) → (a == a) ≡ true
-equal_number a = grind (arith, nat_tests)
 
 global_told : (g : ℕ) (what : Named) → is_global g what ≡ true → what ≡ named.Global g
 global_told g (named.Global n) h = ap named.Global (same_number n g h)
@@ -105,10 +81,6 @@ record IsNamedFrom (r : Resolution) (a : Reaching) (g n : ℕ) (fs : List Functi
   chosen : is_chosen a.functions number ≡ true
   names : any_names r g (tokens_of f) ≡ true
 
-both_true : (a b : Bool) → (a && b) ≡ true → (a ≡ true) × (b ≡ true)
-both_true true b h = (refl, h)
-both_true false b h = false_true h
-
 named_from : (r : Resolution) (a : Reaching) (g n : ℕ) (fs : List Function) → any_from r a g n fs ≡ true → IsNamedFrom r a g n fs
 named_from r a g n [] h = false_true h
 named_from r a g n (f ∷ rest) h =
@@ -133,13 +105,6 @@ from_named r a g n (x ∷ rest) (suc k) number f counted at chosen names =
 
 abbrev decided : Resolution → Reaching → ℕ → Bool
 decided r a g = any_from r a g 0 (functions_in r.program.items)
-
-some_and : {A : Type 0} (P : A → Type 0) (o : Option A) → IsSomeAnd o P → (x : A) × (o ≡ Some x) × P x
-some_and P None h = absurd h
-some_and P (Some x) h = (x, refl, h)
-
-and_some : {A : Type 0} (P : A → Type 0) (o : Option A) (x : A) → o ≡ Some x → P x → IsSomeAnd o P
-and_some {A} P o x is p = let Q : Option A → Type 0 = λ o. IsSomeAnd o P in subst Q (sym is) p
 
 module _ (r : Resolution) (a : Reaching) (reached : AreReached r a) where
   told : (g : ℕ) → decided r a g ≡ true → IsTouched r g

@@ -1,15 +1,10 @@
 -- What the checker answers.
-use Rattle.std.specs.Prelude.{◌≡◌, List, []}
-use Rattle.std.specs.declared.result.Result.{Result}
+use Rattle.std.specs.{Prelude.{◌≡◌, List, []}, declared.result.Result.Result}
 use Rattle.std.specs.declared.result.Result.TheVariants.{Ok, Err}
-use Rattle.sharc_mode.specs.declared.error.ModeError.{ModeError}
-use Rattle.sharc_mode.specs.Moded.{Assignment}
-use Rattle.sharc_mode.specs.WellModed.{AreModeErrors}
+use Rattle.sharc_mode.specs.{declared.error.ModeError.ModeError, Moded.Assignment, WellModed.AreModeErrors}
 use Rattle.sharc_mode_laws.specs.Rules.{MeetsRules}
 use Rattle.sharc_check.specs.declared.answer.CheckFault.{CheckFault}
-use Rattle.sharc_check.specs.declared.answer.CheckFault.TheVariants.{Modes, Memory}
-use Rattle.sharc_check.specs.Named.{TellNamed}
-use Rattle.sharc_check.specs.Orders.{IsInOrder}
+use Rattle.sharc_check.specs.{declared.answer.CheckFault.TheVariants.{Modes, Memory}, Named.TellNamed, Orders.IsInOrder}
 
 -- all the cases that arise, each once, in order
 pub record AreAll (m : Assignment) (errors : List ModeError) : Type 0 where

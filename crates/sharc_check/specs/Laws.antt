@@ -1,9 +1,7 @@
 -- What the answers of the checker are to those who argue with them.
 use Rattle.std.specs.Prelude.{◌≡◌, List}
-use Rattle.sharc_mode.specs.declared.error.ModeError.{ModeError}
-use Rattle.sharc_mode.specs.Moded.{Assignment}
-use Rattle.sharc_check.specs.Checks.{AreAll}
-use Rattle.sharc_check.specs.Orders.{IsInOrder}
+use Rattle.sharc_mode.specs.{declared.error.ModeError.ModeError, Moded.Assignment}
+use Rattle.sharc_check.specs.{Checks.AreAll, Orders.IsInOrder}
 
 -- cases have one order
 abbrev pub OneOrder : Type 0

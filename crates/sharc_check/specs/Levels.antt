@@ -3,8 +3,7 @@ use Rattle.std.specs.Prelude.{Bool, false, ◌&&◌, ◌||◌, not, List, Option
 use Rattle.sharc_tree.specs.declared.ctype.Mode.{Mode}
 use Rattle.sharc_names.specs.declared.types.Role.{Role}
 use Rattle.sharc_names.specs.declared.types.Role.TheVariants as role
-use Rattle.sharc_mode.specs.Cells.{top_of}
-use Rattle.sharc_mode.specs.WellFormed.{is_private_mode, begins_private, holds_private}
+use Rattle.sharc_mode.specs.{Cells.top_of, WellFormed.{is_private_mode, begins_private, holds_private}}
 
 abbrev pub is_shared : Option Mode → Bool
 is_shared None = false

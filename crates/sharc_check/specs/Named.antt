@@ -1,10 +1,7 @@
 -- Which variables and globals lock paths name.
-use Rattle.std.specs.Prelude.{◌≡◌, ℕ, Bool, false, List, ◌++◌, slice_index_or}
-use Rattle.std.specs.List.{flat_map}
+use Rattle.std.specs.{Prelude.{◌≡◌, ℕ, Bool, false, List, ◌++◌, slice_index_or}, List.flat_map}
 use Rattle.sharc_ctype.specs.Entities.{entities_in, numbered}
-use Rattle.sharc_mode.specs.declared.finding.Finding.{Finding}
-use Rattle.sharc_mode.specs.Expressions.{items_notes}
-use Rattle.sharc_mode.specs.Moded.{Assignment}
+use Rattle.sharc_mode.specs.{declared.finding.Finding.Finding, Expressions.items_notes, Moded.Assignment}
 use Rattle.sharc_mode.specs.Notes.{type_notes, is_named}
 
 -- what is said of types, expressions and statements: all paths are named in it, those that are written, those that a call substitutes and those that

@@ -1,10 +1,7 @@
 -- The order of the cases.
-use Rattle.std.specs.Prelude.{ℕ, List}
-use Rattle.std.specs.Ordering.{nat_cmp, ordering_then}
-use Rattle.std.specs.declared.cmp.Ordering.{Ordering}
+use Rattle.std.specs.{Prelude.{ℕ, List}, Ordering.{nat_cmp, ordering_then}, declared.cmp.Ordering.Ordering}
 use Rattle.std.specs.List.Sorted.{IsPermutation, IsSortedByKey, IsStableByKey}
-use Rattle.sharc_mode.specs.declared.error.ModeError.{ModeError}
-use Rattle.sharc_mode.specs.Errors.{number_of}
+use Rattle.sharc_mode.specs.{declared.error.ModeError.ModeError, Errors.number_of}
 
 -- its place, and its code
 abbrev pub place_and_code : ModeError → ℕ × ℕ

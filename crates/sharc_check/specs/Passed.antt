@@ -1,12 +1,8 @@
 -- What is passed at a call or a spawn, as the code has it.
 use Rattle.std.specs.Prelude.{Option, Some, None}
-use Rattle.sharc_tree.specs.Tree.{Arguments, argument, no_arguments}
-use Rattle.sharc_tree.specs.View.{view_expr, view_arguments}
-use Rattle.sharc_mode.specs.declared.sharing.Lock.{Lock as RustLock}
-use Rattle.sharc_mode.specs.Sharings.{Lock}
-use Rattle.sharc_mode.specs.View.{view_lock}
-use Rattle.sharc_check.specs.declared.passing.Passed.{Passed}
-use Rattle.sharc_check.specs.declared.passing.Passed.TheVariants.{All, One}
+use Rattle.sharc_tree.specs.{Tree.{Arguments, argument, no_arguments}, View.{view_expr, view_arguments}}
+use Rattle.sharc_mode.specs.{declared.sharing.Lock.{Lock as RustLock}, Sharings.Lock, View.view_lock}
+use Rattle.sharc_check.specs.{declared.passing.Passed.Passed, declared.passing.Passed.TheVariants.{All, One}}
 
 abbrev pub view_passed : Passed → Arguments
 view_passed (All list) = view_arguments list.now

@@ -3,11 +3,9 @@ use Rattle.std.specs.Prelude.{ℕ, ◌+◌, Bool, true, false, List, [], ◌∷�
 use Rattle.std.specs.List.{flat_map}
 use Rattle.sharc_tree.specs.declared.token.Span.{Span}
 use Rattle.sharc_ctype.specs.Resolved.{Resolution}
-use Rattle.sharc_mode.specs.declared.error.ErrorCode.TheVariants.{NamedByLockPath}
-use Rattle.sharc_mode.specs.declared.error.ModeError.{ModeError}
+use Rattle.sharc_mode.specs.{declared.error.ErrorCode.TheVariants.NamedByLockPath, declared.error.ModeError.ModeError}
 use Rattle.sharc_mode.specs.declared.finding.Finding.{Finding}
-use Rattle.sharc_mode.specs.declared.finding.Finding.TheVariants.{Wrong, Names, Takes}
-use Rattle.sharc_mode.specs.Notes.{error_where, error_of}
+use Rattle.sharc_mode.specs.{declared.finding.Finding.TheVariants.{Wrong, Names, Takes}, Notes.{error_where, error_of}}
 use Rattle.sharc_mode.specs.Sharings.{text_at}
 
 -- the number after the highest variable that is named

@@ -1,15 +1,10 @@
 -- What threads get, function by function and global by global.
-use Rattle.std.specs.Prelude.{ℕ, Bool, ◌&&◌, List, [], Option, Some, None, is_some, if◌then◌else◌}
-use Rattle.std.specs.List.{flat_map}
-use Rattle.sharc_tree.specs.declared.tree.item.GlobalDefinition.{GlobalDefinition}
-use Rattle.sharc_tree.specs.Tree.{Function}
+use Rattle.std.specs.{Prelude.{ℕ, Bool, ◌&&◌, List, [], Option, Some, None, is_some, if◌then◌else◌}, List.flat_map}
+use Rattle.sharc_tree.specs.{declared.tree.item.GlobalDefinition.GlobalDefinition, Tree.Function}
 use Rattle.sharc_reach.specs.Reaching.{Reaching, first_of}
 use Rattle.sharc_mode.specs.declared.error.ErrorCode.TheVariants.{PrivateReachesThread}
-use Rattle.sharc_mode.specs.declared.finding.Finding.{Finding}
-use Rattle.sharc_mode.specs.Cells.{top_of}
-use Rattle.sharc_mode.specs.Moded.{Assignment}
-use Rattle.sharc_mode.specs.Notes.{error_where, is_private_level}
-use Rattle.sharc_mode.specs.WellModed.{parameter_notes}
+use Rattle.sharc_mode.specs.{declared.finding.Finding.Finding, Cells.top_of, Moded.Assignment}
+use Rattle.sharc_mode.specs.{Notes.{error_where, is_private_level}, WellModed.parameter_notes}
 
 abbrev pub function_notes : Assignment → Bool → Option Function → List Finding
 function_notes m spawned None = []

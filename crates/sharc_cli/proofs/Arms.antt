@@ -1,24 +1,11 @@
 -- What is read from the matches.
-use Rattle.std.proofs.Common.{◌≡◌, ◌∙◌, inl, inr, true, List, [], ◌∷◌, ap, ap₂, sym, refl, Bor, Option, Some, None, option_map, codes}
+use Rattle.std.proofs.{Common.{◌≡◌, ◌∙◌, inl, inr, true, List, [], ◌∷◌, ap, ap₂, sym, refl, Bor, Option, Some, None, option_map, codes}, lemmas.Option.{none-some, same_Some}}
 use Rattle.std.specs.List.{list_all}
-use Rattle.std.proofs.lemmas.Option.{none-some, same_Some}
-use Rattle.clap.specs.Matches.{first_value, subcommand_name_of}
-use Rattle.clap.specs.Simple.{HasMatchesOf, app_of, is_simple, subcommand_of, subcommand_rows_of}
-use Rattle.clap.specs.Faults.{fault_of, is_simple_and_free}
-use Rattle.clap.specs.Kinds.{HasKind, Kinds}
-use Rattle.clap.specs.Values.{kind_of}
-use Rattle.clap.specs.declared.error.Error.{Error}
+use Rattle.clap.specs.{Matches.{first_value, subcommand_name_of}, Simple.{HasMatchesOf, app_of, is_simple, subcommand_of, subcommand_rows_of}, Faults.{fault_of, is_simple_and_free}, Kinds.{HasKind, Kinds}, Values.kind_of, declared.error.Error.Error, declared.builder.command.Command.Command, Walk.{Row, Text, rows_of}, declared.parser.matches.ArgMatches.ArgMatches, declared.parser.matches.ArgMatches.TheViews.out-ArgMatches, declared.parser.matches.Found.Found}
 use Rattle.clap.specs.declared.error.kind.ErrorKind.TheVariants as kind
-use Rattle.clap.specs.declared.builder.command.Command.{Command}
-use Rattle.clap.specs.Walk.{Row, Text, rows_of}
-use Rattle.clap.specs.declared.parser.matches.ArgMatches.{ArgMatches}
-use Rattle.clap.specs.declared.parser.matches.ArgMatches.TheViews.{out-ArgMatches}
-use Rattle.clap.specs.declared.parser.matches.Found.{Found}
 use Rattle.clap.proofs.WalkLemmas.{first_value-rows}
-use Rattle.sharc_cli.specs.Commands.{commands, command_of, load_of, record_of, run_of}
-use Rattle.sharc_cli.specs.Line.{command_in, is_plain, line, seen, values_in}
-use Rattle.sharc_cli.proofs.Walks.{line_is_free, line_is_simple}
-use Rattle.sharc_cli.proofs.Lines.{accepted, cons_is_not, refused}
+use Rattle.sharc_cli.specs.{Commands.{commands, command_of, load_of, record_of, run_of}, Line.{command_in, is_plain, line, seen, values_in}}
+use Rattle.sharc_cli.proofs.{Walks.{line_is_free, line_is_simple}, Lines.{accepted, cons_is_not, refused}}
 
 module _ (m : Found) (name : Text) where
   abbrev Reads : Option (Bor Text) → Text → Type 0

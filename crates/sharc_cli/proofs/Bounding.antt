@@ -1,24 +1,9 @@
 -- The numbers of a command are within their bounds.
 use Rattle.std.proofs.Common.{◌≡◌, ℕ, ◌≤◌, Bool, true, false, List, [], ◌∷◌, find, Option, Some, None, refl, subst, arith}
-use Rattle.std.specs.Prelude.{◌&&◌, nat_le, codes, option_map, option_and_then, IfSome, if◌then◌else◌}
-use Rattle.std.specs.Str.{bytes_eq}
-use Rattle.std.specs.Str.Parse.{digits_value}
-use Rattle.std.proofs.lemmas.Bool.Decides.{nat_tests}
-use Rattle.sharc_cli.specs.declared.command.Command.{Command}
+use Rattle.std.specs.{Prelude.{◌&&◌, nat_le, codes, option_map, option_and_then, IfSome, if◌then◌else◌}, Str.bytes_eq, Str.Parse.digits_value}
+use Rattle.sharc_cli.specs.{declared.command.Command.Command, Bounds.{IsWithin, AreWithin}, Commands.{Word, Values, forms, is_number, number_in, number_or, workers_of, granules_of, seed_of, run_of, load_of, record_of, command_of, command_behind, commands, entries_of, values_of}}
 use Rattle.sharc_cli.specs.declared.command.Command.TheVariants as command
-use Rattle.sharc_cli.specs.Bounds.{IsWithin, AreWithin}
-use Rattle.sharc_cli.specs.Commands.{Word, Values, forms, is_number, number_in, number_or, workers_of, granules_of, seed_of, run_of, load_of, record_of, command_of, command_behind, commands, entries_of, values_of}
-
-le_true : (m n : ℕ) → nat_le m n ≡ true → m ≤ n
-le_true m n e = grind (arith, nat_tests)
-
-and_first : (a b : Bool) → (a && b) ≡ true → a ≡ true
-and_first true b e = refl
-and_first false b e = e
-
-and_second : (a b : Bool) → (a && b) ≡ true → b ≡ true
-and_second true b e = e
-and_second false b e = cc
+use Rattle.sharc_lemmas.proofs.{Bools.{and_left as and_first, and_right as and_second}, Numbers.le_true}
 
 -- ---- numbers
 within_when : (low high n : ℕ) (b : Bool) → (b ≡ true → IsWithin low high n) → IfSome (if b then Some n else None) (IsWithin low high)

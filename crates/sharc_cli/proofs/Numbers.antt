@@ -1,13 +1,8 @@
 -- Tests of all elements, and of numbers.
-use Rattle.std.proofs.Common.{◌≡◌, ◌∙◌, ap, sym, refl, ℕ, zero, suc, ◌+◌, ◌<◌, ◌≤◌, ◌^◌, Bool, true, false, ◌&&◌, List, [], ◌∷◌, map, drop, get_or, length, Result, Err, None, nat_le, true≢false, lt_of_le_of_lt, OkIff, arith}
-use Rattle.std.specs.List.{list_all}
-use Rattle.std.specs.Char.{is_ascii_digit}
-use Rattle.std.specs.Str.{all_ascii_digits}
-use Rattle.std.specs.Str.Parse.{ParsesUnsigned, digits_value}
-use Rattle.std.proofs.lemmas.Bool.{leb-true}
+use Rattle.std.proofs.{Common.{◌≡◌, ◌∙◌, ap, sym, refl, ℕ, zero, suc, ◌+◌, ◌<◌, ◌≤◌, ◌^◌, Bool, true, false, ◌&&◌, List, [], ◌∷◌, map, drop, get_or, length, Result, Err, None, nat_le, lt_of_le_of_lt, OkIff, arith}, lemmas.Bool.leb-true, lemmas.List.get_or_default, lemmas.Str.Parse.{IsNumeralModel, numerals_by_value, parse_digits, tells_all_ascii_digits}}
+use Rattle.std.specs.{List.list_all, Char.is_ascii_digit, Str.all_ascii_digits, Str.Parse.{ParsesUnsigned, digits_value}}
 use Rattle.sharc_cli.specs.Commands.{is_number, number_in}
-use Rattle.std.proofs.lemmas.List.{get_or_default}
-use Rattle.std.proofs.lemmas.Str.Parse.{IsNumeralModel, numerals_by_value, parse_digits, tells_all_ascii_digits}
+use Rattle.sharc_lemmas.proofs.Bools.{both}
 
 module _ {X Y : Type 0} (p : Y → Bool) (h : X → Y) where
   all_from : (xs : List X) (i : ℕ) (d : X) → i < length xs → list_all p (map h (drop i xs)) ≡ (p (h (get_or xs i d)) && list_all p (map h (drop (i + 1) xs)))
@@ -53,10 +48,6 @@ own = numerals_by_value _ tells_all_ascii_digits
 pub parses : {E : Type 0} (bs : List ℕ) (r : Result ℕ E) → ParsesUnsigned 64 10 bs r → all_ascii_digits bs ≡ true
     → OkIff r ((0 < length bs) × (digits_value 10 bs < 2 ^ 64)) (digits_value 10 bs)
 parses bs r h digits = parse_digits own 64 bs r h digits
-
-both : (a b : Bool) → (a && b) ≡ true → (a ≡ true) × (b ≡ true)
-both true b e = (refl, e)
-both false b e = absurd (true≢false (sym e))
 
 -- a text at which `parse` fails writes no number within the bounds
 pub no_number : (low high : ℕ) (bs : List ℕ) {E : Type 0} (r : Result ℕ E) (e : E) → high < 2 ^ 64 → ParsesUnsigned 64 10 bs r → r ≡ Err e → None ≡ number_in low high bs

@@ -1,16 +1,10 @@
 -- clap reads what follows a command as the definition does.
-use Rattle.std.proofs.Common.{◌≡◌, ◌∙◌, ◌⊎◌, inl, inr, ap, ap₂, sym, refl, ℕ, ◌<◌, Bool, true, false, ◌&&◌, ◌||◌, ◌==◌, nat_lt, List, [], ◌∷◌, ◌++◌, map, Option, Some, None, length, arith}
-use Rattle.std.specs.Prelude.{if◌then◌else◌, fold, option_map}
-use Rattle.std.specs.List.{list_all}
-use Rattle.std.specs.Str.{bytes_eq}
-use Rattle.std.proofs.lemmas.Bool.{lt-ltb, false≢true, true≢false}
-use Rattle.std.proofs.lemmas.List.Folds.{list_any-append}
-use Rattle.clap.specs.Lexer.{long_of}
-use Rattle.clap.specs.Walk.{Row, Text, settled_rows, used}
-use Rattle.clap.specs.Faults.{settle_fault, walk_fault}
-use Rattle.sharc_cli.specs.Commands.{name_and_value, next_by, Entry, Form, Reading, Word, ended, has, has_hyphen, is_option, next, number, option_of, with_entry, with_option}
-use Rattle.sharc_cli.specs.Line.{is_plain}
-use Rattle.sharc_cli.proofs.Walks.{and_false, IsApart, IsBare, at_idle, at_option, by_id, dashes, entry_row, gate, gate_none, has_entry_row, held, no_index, not_number, number_id, option_rule, repeated, rows_by, rules_of, second_index, step_filled, step_number, step_option, step_stray, step_unfilled, step_unknown, step_value, use_repeats, used_adds}
+use Rattle.std.proofs.{Common.{◌≡◌, ◌∙◌, ◌⊎◌, inl, inr, ap, ap₂, sym, refl, ℕ, ◌<◌, Bool, true, false, ◌&&◌, ◌||◌, ◌==◌, nat_lt, List, [], ◌∷◌, ◌++◌, map, Option, Some, None, length, arith}, lemmas.Bool.{lt-ltb, false≢true, true≢false}, lemmas.List.Folds.list_any-append}
+use Rattle.std.specs.{Prelude.{if◌then◌else◌, fold, option_map}, List.list_all, Str.bytes_eq}
+use Rattle.clap.specs.{Lexer.long_of, Walk.{Row, Text, settled_rows, used}, Faults.{settle_fault, walk_fault}}
+use Rattle.sharc_cli.specs.{Commands.{name_and_value, next_by, Entry, Form, Reading, Word, ended, has, has_hyphen, is_option, next, number, option_of, with_entry, with_option}, Line.is_plain}
+use Rattle.sharc_cli.proofs.Walks.{IsApart, IsBare, at_idle, at_option, by_id, dashes, entry_row, gate, gate_none, has_entry_row, held, no_index, not_number, number_id, option_rule, repeated, rows_by, rules_of, second_index, step_filled, step_number, step_option, step_stray, step_unfilled, step_unknown, step_value, use_repeats, used_adds}
+use Rattle.sharc_lemmas.proofs.Bools.{or_false, and_false, both as both_true}
 
 -- ---- what a plain word looks like
 
@@ -27,10 +21,6 @@ pub record IsWord (w : Text) : Type 0 where
 pub data Look (w : Text) : Type 0 where
   as_flag : (o : Text × Option Text) → IsFlag w o → Look w
   as_word : IsWord w → Look w
-
-pub both_true : (a b : Bool) → (a && b) ≡ true → (a ≡ true) × (b ≡ true)
-both_true true b e = (refl, e)
-both_true false b e = absurd (false≢true e)
 
 no_hyphen : (x : ℕ) (rest : Text) → (x == 45) ≡ false → Look (x ∷ rest)
 no_hyphen x rest e =
@@ -157,10 +147,6 @@ module _ (f : Form) (name value : Text) (rs : List Row) (position : ℕ)
   ]
 
 -- ---- clap and the definition
-
-or_false : (b : Bool) → (b || false) ≡ b
-or_false true = refl
-or_false false = refl
 
 position_stays : (f : Form) (entries : List Entry) (name value : Word) (position : ℕ) → bytes_eq name number ≡ false
     → AtPosition f entries position → AtPosition f (entries ++ (name, value) ∷ []) position

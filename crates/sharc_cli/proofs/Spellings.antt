@@ -1,14 +1,8 @@
 -- The fold over the words and the list of written arguments say the same.
-use Rattle.std.proofs.Common.{◌≡◌, ◌∙◌, ap, sym, refl, subst, ℕ, suc, ◌+◌, Bool, true, false, not, cond, ◌||◌, ◌==◌, List, [], ◌∷◌, ◌++◌, map, take, drop, Option, Some, None, arith, one-add, codes}
-use Rattle.std.specs.Prelude.{fold, find, option_map, option_and_then}
-use Rattle.std.specs.List.{list_any, list_all, position_or_len, before_first, after_first}
-use Rattle.std.specs.Str.{bytes_eq}
-use Rattle.std.proofs.lemmas.Bool.{eqb-true, false≢true, and_parts}
-use Rattle.std.proofs.lemmas.List.{append-nil, append_assoc}
-use Rattle.std.proofs.lemmas.Slice.Eq.{bytes_eq-Decides}
-use Rattle.sharc_cli.specs.Commands.{Word, Form, Entry, forms, number, has, has_hyphen, behind, is_equals, name_and_value, option_of, is_option, with_entry, with_option, next, ended, entries_of, command_of, values_of, command_behind, commands}
-use Rattle.sharc_cli.specs.Written.{Argument, alone, apart, joined, words_of, all_words, entry_of, Takes, TakesAll, Once, form_of, IsCommand}
-use Rattle.sharc_cli.specs.declared.command.Command.{Command}
+use Rattle.std.proofs.{Common.{◌≡◌, ◌∙◌, ap, sym, refl, subst, ℕ, suc, ◌+◌, Bool, true, false, not, cond, ◌||◌, ◌==◌, List, [], ◌∷◌, ◌++◌, map, take, drop, Option, Some, None, arith, one-add, codes}, lemmas.Bool.{eqb-true, false≢true, and_parts}, lemmas.List.{append-nil, append_assoc}, lemmas.Slice.Eq.bytes_eq-Decides}
+use Rattle.std.specs.{Prelude.{fold, find, option_map, option_and_then}, List.{list_any, list_all, position_or_len, before_first, after_first}, Str.bytes_eq}
+use Rattle.sharc_cli.specs.{Commands.{Word, Form, Entry, forms, number, has, has_hyphen, behind, is_equals, name_and_value, option_of, is_option, with_entry, with_option, next, ended, entries_of, command_of, values_of, command_behind, commands}, Written.{Argument, alone, apart, joined, words_of, all_words, entry_of, Takes, TakesAll, Once, form_of, IsCommand}, declared.command.Command.Command}
+use Rattle.sharc_lemmas.proofs.{Bools.{not_true as opposite}, Options.{bind_some as some_of}}
 
 -- ---- where a text is cut at its first `=`
 
@@ -196,10 +190,6 @@ spelling f (w ∷ words) =
     let both = spelling f words in
     (λ before out e. by_hyphen f w words both.0 both.1 before out (has_hyphen w) refl e, λ name before out e. by_value f w words both.0 both.1 before out name (has_hyphen w) refl e)
 
-some_of : {A B : Type 0} (o : Option A) (g : A → Option B) (b : B) → option_and_then g o ≡ Some b → (a : A) × (o ≡ Some a) × (g a ≡ Some b)
-some_of None g b e = cc
-some_of (Some a) g b e = (a, refl, e)
-
 pub written_commands : (words : List Word) (c : Command) → commands words ≡ Some c → IsCommand words c
 written_commands [] c e = cc
 written_commands (w ∷ words) c e =
@@ -230,10 +220,6 @@ found_here p y x false others first rest found = rest found
 found_passes : {A : Type 0} (p q : A → Bool) (all : List A) (x : A) → list_all p all ≡ true → find q all ≡ Some x → p x ≡ true
 found_passes p q [] x passes e = cc
 found_passes p q (y ∷ ys) x passes e = let both = and_parts (p y) (list_all p ys) passes in found_here p y x (q y) (find q ys) both.0 (found_passes p q ys x both.1) e
-
-opposite : (b : Bool) → not b ≡ true → b ≡ false
-opposite true e = sym e
-opposite false e = refl
 
 plain_here : (n name : Word) (t others : Bool) → bytes_eq n name ≡ t → not (list_any is_equals n) ≡ true → (others ≡ true → list_any is_equals name ≡ false) → (t || others) ≡ true → list_any is_equals name ≡ false
 plain_here n name true others same plain rest e = ap (list_any is_equals) (sym ((bytes_eq-Decides n name).0 same)) ∙ opposite (list_any is_equals n) plain

@@ -1,22 +1,11 @@
 -- What clap makes of the words after a command.
-use Rattle.std.proofs.Common.{◌≡◌, ◌∙◌, ap, ap₂, sym, subst, refl, ℕ, Bool, true, false, ◌&&◌, ◌||◌, List, [], ◌∷◌, ◌++◌, map, Option, Some, None}
-use Rattle.std.specs.Prelude.{if◌then◌else◌, fold, codes}
-use Rattle.std.specs.List.{list_any}
-use Rattle.std.specs.Str.{bytes_eq}
-use Rattle.std.proofs.lemmas.Slice.Eq.{bytes_eq-Decides}
-use Rattle.std.proofs.lemmas.Bool.{false≢true, true≢false}
-use Rattle.std.proofs.lemmas.List.{append-nil}
-use Rattle.clap.specs.Lexer.{long_of, short_of}
-use Rattle.clap.specs.Walk.{is_pending, more_values, reading_by, Held, Row, Rule, Text, Walk, arg_by_id, arg_by_index, arg_by_long, at_row, has_row, idle, option, settled, settled_rows, used, walked}
-use Rattle.clap.specs.Simple.{Shape, built, filled, is_simple, new_rule, new_shape, with_index}
-use Rattle.clap.specs.Faults.{is_simple_and_free, settle_fault, turn_fault, use_fault, walk_fault}
-use Rattle.clap.specs.Kinds.{Kinds, or_else}
-use Rattle.clap.specs.declared.error.kind.ErrorKind.{ErrorKind}
+use Rattle.std.proofs.{Common.{◌≡◌, ◌∙◌, ap, ap₂, sym, subst, refl, ℕ, Bool, true, false, ◌&&◌, ◌||◌, List, [], ◌∷◌, ◌++◌, map, Option, Some, None}, lemmas.Slice.Eq.bytes_eq-Decides, lemmas.Bool.{false≢true, true≢false}, lemmas.List.append-nil}
+use Rattle.std.specs.{Prelude.{if◌then◌else◌, fold, codes}, List.list_any, Str.bytes_eq}
+use Rattle.clap.specs.{Lexer.{long_of, short_of}, Walk.{is_pending, more_values, reading_by, Held, Row, Rule, Text, Walk, arg_by_id, arg_by_index, arg_by_long, at_row, has_row, idle, option, settled, settled_rows, used, walked}, Simple.{Shape, built, filled, is_simple, new_rule, new_shape, with_index}, Faults.{is_simple_and_free, settle_fault, turn_fault, use_fault, walk_fault}, Kinds.{Kinds, or_else}, declared.parser.matches.ValueSource.TheVariants.CommandLine}
 use Rattle.clap.specs.declared.error.kind.ErrorKind.TheVariants as kind
-use Rattle.clap.specs.declared.parser.matches.ValueSource.TheVariants.{CommandLine}
 use Rattle.clap.proofs.OnLiterals.{clap_on_literals}
-use Rattle.sharc_cli.specs.Commands.{Entry, Form, forms, has, is_option, number}
-use Rattle.sharc_cli.specs.Line.{line, option_argument}
+use Rattle.sharc_cli.specs.{Commands.{Entry, Form, has, is_option, number}, Line.{line, option_argument}}
+use Rattle.sharc_lemmas.proofs.Bools.{and_false}
 
 pub line_is_simple : is_simple line ≡ true
 unfolding clap_on_literals
@@ -50,9 +39,6 @@ leaf f = record (new_shape f.name) {
   disable_help_subcommand = true;
   disable_version_flag = true;
 }
-
-pub built_subs : (built line).subs ≡ map leaf forms
-built_subs = refl
 
 -- ---- which argument a name finds
 
@@ -202,10 +188,6 @@ turned f w after word ws fault is to =
     gate_or (turn_fault (leaf f) [] w word) (walk_fault (leaf f) [] (walked (rules_of f) [] w word) ws) _
     ∙ ap₂ (λ (k : Kinds) (v : Walk). gate k (rows_by f v ws)) is to
 
-pub and_false : (b : Bool) → (b && false) ≡ false
-and_false true = refl
-and_false false = refl
-
 abbrev pub dashes : Text
 dashes = codes "--"
 
@@ -270,9 +252,6 @@ step_filled f w name rows position ws bare apart known =
     turned f (at_option rows name position) (at_idle rows (Some (name, w ∷ [])) position) w ws []
     (rw (bare.long, bare.short, bare.dashed) refl)
     (rw (bare.long, bare.short, bare.dashed, by_id f name apart known, (bytes_eq-Decides name name).1 refl) refl)
-
-gate_first : (k : ErrorKind) (a : Kinds) (b : Kinds) (x : Option (List Row)) → a ≡ k ∷ [] → gate (or_else a b) x ≡ None
-gate_first k a b x e = rw e refl
 
 pub step_unfilled : (f : Form) (w name other : Text) (value : Option Text) (rows : List Row) (position : ℕ) (ws : List Text)
     → long_of w ≡ Some (other, value) → bytes_eq w dashes ≡ false → IsApart f → is_option f name ≡ true

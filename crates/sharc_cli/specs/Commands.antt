@@ -1,7 +1,6 @@
 -- Which lists of words are a command.
 use Rattle.std.specs.Prelude.{ℕ, Bool, true, false, ◌&&◌, ◌==◌, nat_le, if◌then◌else◌, List, [], ◌∷◌, ◌++◌, length, fold, find, codes, Option, Some, None, option_map, option_and_then}
-use Rattle.std.specs.List.{list_any, before_first, after_first}
-use Rattle.std.specs.Str.{bytes_eq, all_ascii_digits}
+use Rattle.std.specs.{List.{list_any, before_first, after_first}, Str.{bytes_eq, all_ascii_digits}}
 use Rattle.std.specs.Str.Parse.{digits_value}
 use Rattle.sharc_cli.specs.declared.command.Command.{Command}
 use Rattle.sharc_cli.specs.declared.command.Command.TheVariants as command

@@ -5,8 +5,7 @@ use Rattle.clap.specs.declared.builder.command.Command.{Command as ClapCommand}
 use Rattle.clap.specs.declared.builder.command.Command.TheViews.{out-Command as fields_of}
 use Rattle.clap.specs.Simple.{app_of, App, Shape, new_app, new_rule, new_shape, with_subcommand}
 use Rattle.clap.specs.Walk.{Row, Rule, Text, first_of}
-use Rattle.sharc_cli.specs.Commands.{Form, Values, command_of, forms, number}
-use Rattle.sharc_cli.specs.declared.command.Command.{Command}
+use Rattle.sharc_cli.specs.{Commands.{Form, Values, command_of, forms, number}, declared.command.Command.Command}
 
 -- the argument of `--name`
 abbrev pub option_argument : Text → Rule

@@ -1,6 +1,5 @@
 -- The commands once more, by how they are written: a command's name, and after it its arguments in any order, each once.
-use Rattle.std.specs.Prelude.{◌≡◌, true, false, List, [], ◌∷◌, ◌++◌, map, find, codes, Option, Some}
-use Rattle.std.specs.Str.{bytes_eq}
+use Rattle.std.specs.{Prelude.{◌≡◌, true, false, List, [], ◌∷◌, ◌++◌, map, find, codes, Option, Some}, Str.bytes_eq}
 use Rattle.sharc_cli.specs.Commands.{Word, Form, Entry, forms, number, has, has_hyphen, is_option, command_of, values_of}
 use Rattle.sharc_cli.specs.declared.command.Command.{Command}
 

@@ -1,24 +1,9 @@
 -- A run in which no thread makes an event leaves the words as they are, and each thread that made a turn waits.
-use Rattle.std.proofs.Common.{◌≡◌, ℕ, ◌≤◌, true, false, List, [], ◌∷◌, Option, Some, None, cond, refl, sym, ap, ◌∙◌, subst, arith, ◌⊎◌, inl, inr, ⊎_elim, eqb-true}
+use Rattle.std.proofs.{Common.{◌≡◌, ℕ, ◌≤◌, true, false, List, [], ◌∷◌, Option, Some, None, cond, refl, sym, ap, ◌∙◌, subst, arith, ◌⊎◌, inl, inr, ⊎_elim, eqb-true}, lemmas.Bool.cases_eq}
 use Rattle.std.specs.Prelude.{nat_eq, slice_index}
-use Rattle.std.proofs.lemmas.Bool.{cases_eq}
-use Rattle.sharc_word.specs.declared.step.WordStep.{WordStep}
-use Rattle.sharc_word.specs.declared.step.WordEvent.{WordEvent}
-use Rattle.sharc_code.specs.declared.code.Code.{Code}
-use Rattle.sharc_code.specs.declared.shape.Shape.{Shape}
-use Rattle.sharc_code.specs.declared.state.State.{State}
-use Rattle.sharc_code.specs.declared.state.State.TheVariants.{Runs, Tries, Stopped, Ended}
-use Rattle.sharc_code.specs.Machine.{Machine, Turn as Act, Local, Asks}
-use Rattle.sharc_code.specs.Path.{turn, after, asked_by, counted}
-use Rattle.sharc_code.specs.Runs.{Turn, IsRun, MayTurn, at, put, words_now, state_now, made_now, result_of, step_of, Answered, turns_of}
-use Rattle.sharc_code.specs.Waits.{waits_now}
-use Rattle.sharc_code.specs.Whole.{one_thread, bounds}
-use Rattle.sharc_code.specs.ThreadLaws.{found_now, behind}
-use Rattle.sharc_code.proofs.Places.{put_same, put_other}
-use Rattle.sharc_code.specs.Runs.{Global}
-use Rattle.sharc_code.specs.StandingLaws.{IsIdle}
-use Rattle.sharc_code.proofs.Failing.{failed_stays}
-use Rattle.sharc_code.proofs.Trying.{waits_where}
+use Rattle.sharc_word.specs.{declared.step.WordStep.WordStep, declared.step.WordEvent.WordEvent}
+use Rattle.sharc_code.specs.{declared.code.Code.Code, declared.shape.Shape.Shape, declared.state.State.State, declared.state.State.TheVariants.{Runs, Tries, Stopped, Ended}, Machine.{Machine, Turn as Act, Local, Asks}, Path.{turn, after, asked_by, counted}, Runs.{Turn, IsRun, MayTurn, at, put, words_now, state_now, made_now, result_of, step_of, Answered, turns_of, Global}, Waits.waits_now, Whole.{one_thread, bounds}, ThreadLaws.{found_now, behind}, StandingLaws.IsIdle}
+use Rattle.sharc_code.proofs.{Places.{put_same, put_other}, Failing.failed_stays, Trying.waits_where}
 
 uncounted : (state : State) → counted state ≡ 0 → state ≡ Tries
 uncounted Runs e = absurd (omega (arith, e))

@@ -1,17 +1,10 @@
 -- The paths of some threads, whose word events are the parts of one history, are the parts of one list of turns with that history.
-use Rattle.std.proofs.Common.{◌≡◌, ℕ, zero, suc, ◌+◌, ◌<◌, ◌≤◌, true, false, cond, List, [], ◌∷◌, ◌++◌, Option, Some, None, refl, sym, ap, ◌∙◌, subst, ⊎_elim, arith, eq-eqb, ne_eqb}
+use Rattle.std.proofs.{Common.{◌≡◌, ℕ, zero, suc, ◌+◌, ◌<◌, ◌≤◌, true, false, cond, List, [], ◌∷◌, ◌++◌, Option, Some, None, refl, sym, ap, ◌∙◌, subst, ⊎_elim, arith, eq-eqb, ne_eqb}, lemmas.Bool.{cases_eq, cases_lt, or_right}, lemmas.List.{append-nil, append_assoc}, lemmas.List.Elements.filter-append}
 use Rattle.std.specs.Prelude.{nat_eq}
-use Rattle.std.proofs.lemmas.Bool.{cases_eq, cases_lt, or_right}
-use Rattle.std.proofs.lemmas.List.{append-nil, append_assoc}
-use Rattle.std.proofs.lemmas.List.Elements.{filter-append}
-use Rattle.sharc_word.specs.declared.step.WordEvent.{WordEvent}
-use Rattle.sharc_word.specs.Words.{words_after}
-use Rattle.sharc_word.specs.History.{LegalHistory, events_of}
-use Rattle.sharc_word.specs.Laws.{HistoryLaws}
-use Rattle.sharc_code.specs.Runs.{put}
-use Rattle.sharc_code.specs.Runs.{OneThread, made_in, Bounds, Turn, event_list, word_events, turns_of, IsPath, is_started, was_started, CheckedFrom, Global, Owns, Parts, Round, state_after, at}
-use Rattle.sharc_code.proofs.ByTurns.{words_are, threads_are}
-use Rattle.sharc_code.proofs.Places.{eq_refl, ne_eq, put_same, put_other, put_all}
+use Rattle.sharc_word.specs.{declared.step.WordEvent.WordEvent, Words.words_after, History.{LegalHistory, events_of}, Laws.HistoryLaws}
+use Rattle.sharc_code.specs.Runs.{put, OneThread, made_in, Bounds, Turn, event_list, word_events, turns_of, IsPath, is_started, was_started, CheckedFrom, Global, Owns, Parts, Round, state_after, at}
+use Rattle.sharc_code.proofs.{ByTurns.{words_are, threads_are}, Places.{put_same, put_other, put_all}}
+use Rattle.sharc_lemmas.proofs.Numbers.{ne_eq, eq_refl}
 
 -- ---- lists
 same_end : {A : Type 0} (xs ys : List A) (x y : A) → xs ++ x ∷ [] ≡ ys ++ y ∷ [] → (xs ≡ ys) × (x ≡ y)

@@ -1,12 +1,6 @@
 -- The found words of a path are turns, with the same events.
 use Rattle.std.proofs.Common.{◌≡◌, ℕ, ◌+◌, List, [], ◌∷◌, ◌++◌, true, refl, sym, ap, ◌∙◌, subst}
-use Rattle.sharc_code.specs.declared.code.Code.{Code}
-use Rattle.sharc_code.specs.declared.shape.Shape.{Shape}
-use Rattle.sharc_code.specs.Machine.{Machine, Turn as Act, Local, Asks}
-use Rattle.sharc_code.specs.Path.{turn, after, asked_by, events_of_turn, machine_after, events_of_path, may_go, counted, IsPath as IsCodePath, made_in as made_in_path}
-use Rattle.sharc_code.specs.Runs.{turn_with, result_of, step_of, event_list, IsOf, word_events, IsPath, IsNext, Owns, state_after, made_in}
-use Rattle.sharc_code.specs.Whole.{one_thread, event_in, turns_by}
-use Rattle.sharc_code.specs.Laws.{IsPathOf}
+use Rattle.sharc_code.specs.{declared.code.Code.Code, declared.shape.Shape.Shape, Machine.{Machine, Turn as Act, Local, Asks}, Path.{turn, after, asked_by, events_of_turn, machine_after, events_of_path, may_go, counted, IsPath as IsCodePath, made_in as made_in_path}, Runs.{turn_with, result_of, step_of, event_list, IsOf, word_events, IsPath, IsNext, Owns, state_after, made_in}, Whole.{one_thread, event_in, turns_by}, Laws.IsPathOf}
 
 -- ---- one turn
 after_found : (t : ℕ) (a : Act) (found : ℕ) → after a (result_of (event_in t a found)) ≡ after a found

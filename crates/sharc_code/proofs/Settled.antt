@@ -1,20 +1,9 @@
 -- A turn does not look at whether the turn before was a failed try.
 use Rattle.std.proofs.Common.{◌≡◌, ℕ, refl}
-use Rattle.sharc_code.specs.declared.code.Code.{Code}
-use Rattle.sharc_code.specs.declared.instr.Instr.{Instr}
-use Rattle.sharc_code.specs.declared.instr.Instr.TheVariants.{Constant, Move, MoveReference, Null, ComputeInt, ComputeLong, NegateInt, NegateLong, Complement, Not, SameReference, ChkWidth, Jump, JumpIfZero, JumpIfNull, Call, Return, ChkNull, ChkHeld, ChkNotHeld, ChkPositive, ChkRoom, ChkLock, ChkLockLoaded, Bounds, GlobalBounds, ChkRead, ChkWrite, Load, Store, LoadRef, Exchange, Raise, RaiseLoaded, Lower, New, TakeCell, TakeLocal, TestSole, Clear, Give, Free, Lock, Unlock, Spawn, Join, Print, Start, Exit, CondEnter, CondWait, CondSignal, CondBroadcast}
-use Rattle.sharc_code.specs.declared.instr.Cell.TheVariants.{Global, GlobalAt, Object, ObjectAt}
+use Rattle.sharc_code.specs.{declared.code.Code.Code, declared.instr.Instr.Instr, declared.instr.Instr.TheVariants.{Constant, Move, MoveReference, Null, ComputeInt, ComputeLong, NegateInt, NegateLong, Complement, Not, SameReference, ChkWidth, Jump, JumpIfZero, JumpIfNull, Call, Return, ChkNull, ChkHeld, ChkNotHeld, ChkPositive, ChkRoom, ChkLock, ChkLockLoaded, Bounds, GlobalBounds, ChkRead, ChkWrite, Load, Store, LoadRef, Exchange, Raise, RaiseLoaded, Lower, New, TakeCell, TakeLocal, TestSole, Clear, Give, Free, Lock, Unlock, Spawn, Join, Print, Start, Exit, CondEnter, CondWait, CondSignal, CondBroadcast}, declared.instr.Cell.TheVariants.{Global, GlobalAt, Object, ObjectAt}, declared.shape.Shape.Shape, declared.code.Parameter.Parameter, declared.state.Stage.Stage, declared.state.Stage.TheVariants.{Rests, Enters}, Layout.argument_word, Machine.{Machine, Asks, step_of, act, instr_at, called, with_parameter, function_of, start}, Path.turn, ThreadLaws.settled}
 use Rattle.sharc_code.specs.declared.instr.Register.TheVariants as registers
-use Rattle.sharc_code.specs.declared.shape.Shape.{Shape}
-use Rattle.sharc_code.specs.declared.code.Parameter.{Parameter}
 use Rattle.sharc_code.specs.declared.code.Parameter.TheVariants as parameters
-use Rattle.sharc_code.specs.declared.state.Stage.{Stage}
-use Rattle.sharc_code.specs.declared.state.Stage.TheVariants.{Rests, Enters}
 use Rattle.sharc_word.specs.declared.step.WordOp.TheVariants as ops
-use Rattle.sharc_code.specs.Layout.{argument_word}
-use Rattle.sharc_code.specs.Machine.{Machine, Asks, step_of, act, instr_at, called, with_parameter, function_of, start}
-use Rattle.sharc_code.specs.Path.{turn}
-use Rattle.sharc_code.specs.ThreadLaws.{settled}
 
 same_entered : (code : Code) (m : Machine) (function site argument : ℕ) (parameter : Parameter)
     → called (with_parameter (record (settled m) { own = record m.own { stage = Rests; function = function } }) parameter argument) (function_of code function).entry 0 0 site

@@ -1,27 +1,9 @@
 -- Where a run is: the numbers of its threads, their stages, and who was started.
-use Rattle.std.proofs.Common.{◌≡◌, ℕ, zero, suc, ◌<◌, Bool, true, false, ◌||◌, ◌&&◌, List, [], ◌∷◌, ◌++◌, Option, Some, None, refl, sym, ap, ◌∙◌, subst, arith, ⊎_elim}
+use Rattle.std.proofs.{Common.{◌≡◌, ℕ, zero, suc, ◌<◌, Bool, true, false, ◌||◌, ◌&&◌, List, [], ◌∷◌, ◌++◌, Option, Some, None, refl, sym, ap, ◌∙◌, subst, arith, ⊎_elim}, lemmas.Bool.{cases_eq, or_left}, lemmas.Bool.Decides.nat_tests, lemmas.List.get_or-set_other}
 use Rattle.std.specs.Prelude.{nat_eq, nat_lt, slice_index, slice_set}
-use Rattle.std.proofs.lemmas.Bool.{cases_eq}
-use Rattle.std.proofs.lemmas.Bool.Decides.{nat_tests}
-use Rattle.std.proofs.lemmas.List.{get_or-set_other}
-use Rattle.sharc_word.specs.declared.step.TheConstants.{THREADS}
-use Rattle.sharc_word.specs.declared.step.WordStep.{WordStep}
-use Rattle.sharc_word.specs.declared.step.WordEvent.{WordEvent}
-use Rattle.sharc_word.specs.Words.{word_after, words_after_step}
-use Rattle.sharc_code.specs.declared.code.Code.{Code}
-use Rattle.sharc_code.specs.declared.shape.Shape.{Shape}
-use Rattle.sharc_code.specs.Layout.{state_word}
-use Rattle.sharc_code.specs.Machine.{Machine, Turn as Act, Local, Asks}
-use Rattle.sharc_code.specs.Path.{turn, asked_by}
-use Rattle.sharc_code.specs.Runs.{Turn, IsRun, MayTurn, at, after_turn, put, words_now, state_now, result_of, step_of, is_started, opening_of}
-use Rattle.sharc_code.specs.Opening.{opening_words}
-use Rattle.sharc_code.specs.Whole.{one_thread, bounds, place_after}
-use Rattle.sharc_code.specs.Stages.{IsStageOf, begins_of}
-use Rattle.sharc_code.proofs.Places.{put_same, put_other}
-use Rattle.sharc_word.specs.declared.step.WordOp.{WordOp}
-use Rattle.sharc_code.specs.Runs.{Global}
-use Rattle.sharc_code.proofs.Keeps.{keeps_turn}
-use Rattle.sharc_code.proofs.Touching.{OnState, Leaves_it, Starts_it, Ends_it, Leaves_for_good, Touches, touches}
+use Rattle.sharc_word.specs.{declared.step.TheConstants.THREADS, declared.step.WordStep.WordStep, declared.step.WordEvent.WordEvent, Words.{word_after, words_after_step}, declared.step.WordOp.WordOp}
+use Rattle.sharc_code.specs.{declared.code.Code.Code, declared.shape.Shape.Shape, Layout.state_word, Machine.{Machine, Turn as Act, Local, Asks}, Path.{turn, asked_by}, Runs.{Turn, IsRun, MayTurn, at, after_turn, put, words_now, state_now, result_of, step_of, is_started, opening_of, Global}, Opening.opening_words, Whole.{one_thread, bounds, place_after}, Stages.{IsStageOf, begins_of}}
+use Rattle.sharc_code.proofs.{Places.{put_same, put_other}, Keeps.keeps_turn, Touching.{OnState, Leaves_it, Starts_it, Ends_it, Leaves_for_good, Touches, touches}}
 
 abbrev Standing : Type 0
 Standing = Global Machine
@@ -31,14 +13,6 @@ pub record IsSound (s : Shape) (g : Standing) : Type 0 where
   pub numbers : (t : ℕ) → (g.threads t).own.number ≡ t
   pub shapes : (t : ℕ) → IsStageOf s (g.threads t).own.stage
   pub started : (t : ℕ) → is_started bounds g.words t ≡ true → g.started t ≡ true
-
-or_left : (a b : Bool) → a ≡ true → (a || b) ≡ true
-or_left true b e = refl
-or_left false b e = cc
-
-or_right : (a b : Bool) → b ≡ true → (a || b) ≡ true
-or_right true b e = refl
-or_right false b e = e
 
 module _ (code : Code) (s : Shape) where
   at_thread : (P : ℕ → Machine → Type 0) (f : ℕ → Machine) (k : ℕ) (m : Machine) → ((t : ℕ) → P t (f t)) → P k m → (t : ℕ) → P t (put f k m t)

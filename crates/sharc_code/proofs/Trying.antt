@@ -5,16 +5,8 @@ use Rattle.sharc_tree.specs.declared.trap.Trap.TheVariants as traps
 use Rattle.sharc_word.specs.declared.step.WordOp.TheVariants as ops
 use Rattle.sharc_word.specs.declared.step.TheConstants.{THREADS}
 use Rattle.sharc_cond.specs.Waiters.{waits_in}
-use Rattle.sharc_code.specs.declared.code.Code.{Code}
-use Rattle.sharc_code.specs.declared.instr.Instr.{Instr}
-use Rattle.sharc_code.specs.declared.shape.Shape.{Shape}
-use Rattle.sharc_code.specs.declared.state.State.TheVariants.{Tries}
+use Rattle.sharc_code.specs.{declared.code.Code.Code, declared.instr.Instr.Instr, declared.shape.Shape.Shape, declared.state.State.TheVariants.Tries, Layout.state_word, Machine.{Machine, Local, Asks, step_of, act, int, word, fails, goes, trapped, joined, join, instr_at}, Path.{after, may_go}, Waits.{asks_for, joins, held_up, waits_now}, ThreadLaws.{found_now, behind}}
 use Rattle.sharc_code.specs.declared.state.Wait.TheVariants as waits
-use Rattle.sharc_code.specs.Layout.{state_word}
-use Rattle.sharc_code.specs.Machine.{Machine, Local, Asks, step_of, act, int, word, fails, goes, trapped, joined, join, instr_at}
-use Rattle.sharc_code.specs.Path.{after, may_go}
-use Rattle.sharc_code.specs.Waits.{asks_for, joins, held_up, waits_now}
-use Rattle.sharc_code.specs.ThreadLaws.{found_now, behind}
 use Rattle.sharc_code.proofs.Moving.{Moves, is_try, Sorted, Other, Locks, Joins, Conds, sorted}
 
 untried : (m x : Machine) → is_try x.at.state ≡ false → x.at.state ≡ Tries → ⊥

@@ -3,8 +3,7 @@ use Rattle.std.specs.Prelude.{ℕ, ℤ, pos, negsuc, zero, suc, ◌+◌, ◌^◌
 use Rattle.std.specs.Int.{w64, cast_unsigned, cast_signed, int_bit_and, int_bit_or, int_bit_xor, int_bit_not, int_shr}
 use Rattle.sharc_tree.specs.declared.trap.Trap.{Trap}
 use Rattle.sharc_tree.specs.declared.trap.Trap.TheVariants as traps
-use Rattle.sharc_code.specs.declared.instr.Width.{Width}
-use Rattle.sharc_code.specs.declared.instr.Width.TheVariants.{Char, Int, Long}
+use Rattle.sharc_code.specs.{declared.instr.Width.Width, declared.instr.Width.TheVariants.{Char, Int, Long}}
 use Rattle.sharc_code.specs.declared.instr.Operator.{Operator}
 use Rattle.sharc_code.specs.declared.instr.Operator.TheVariants.{Add, Subtract, Multiply, Divide, Remainder, ShiftLeft, ShiftRight, And, Or, Xor, Equal, NotEqual, Less, Greater, AtMost, AtLeast}
 

@@ -1,15 +1,11 @@
 -- Laws of checked runs, for the crates above.
 use Rattle.std.specs.Prelude.{ℕ, ◌+◌, ◌≡◌, ◌≢◌, ◌≤◌, ◌↔◌, false, List, ◌++◌}
-use Rattle.sharc_word.specs.Words.{words_after}
-use Rattle.sharc_word.specs.declared.step.WordEvent.{WordEvent}
+use Rattle.sharc_word.specs.{Words.words_after, declared.step.WordEvent.WordEvent}
 use Rattle.sharc_tree.specs.declared.event.SourceEvent.{SourceEvent}
-use Rattle.sharc_code.specs.declared.code.Code.{Code}
-use Rattle.sharc_code.specs.declared.shape.Shape.{Shape}
-use Rattle.sharc_code.specs.Machine.{Machine}
+use Rattle.sharc_code.specs.{declared.code.Code.Code, declared.shape.Shape.Shape, Machine.Machine}
 use Rattle.sharc_code.specs.Path.{may_go, counted, machine_after, events_of_path, IsPath as IsCodePath, made_in as made_in_path}
 use Rattle.sharc_code.specs.Runs.{IsPath, Owns, Parts, Round, OneThread, Bounds, Turn, Global, CheckedFrom, IsRun, MayTurn, opening_of, at, after_turn, state_now, state_after, made_in, turns_of, word_events, was_started, erase, said_by, path_says, pairs_of, scheduled, threads_of}
-use Rattle.sharc_code.specs.Opening.{opening_words}
-use Rattle.sharc_code.specs.Whole.{turns_by, one_thread, bounds, CheckedRun}
+use Rattle.sharc_code.specs.{Opening.opening_words, Whole.{turns_by, one_thread, bounds, CheckedRun}}
 
 -- a checked run is a run by turns of the whole machine, and the other way round
 abbrev pub CheckedRunsAreRuns : Type 0

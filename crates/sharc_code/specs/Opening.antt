@@ -1,8 +1,7 @@
 -- What the words hold at first.
 use Rattle.std.specs.Prelude.{ℕ, ◌+◌, ◌-◌, ◌*◌, ◌==◌, ◌&&◌, nat_lt, nat_le, List, map, slice_index, if◌then◌else◌}
 use Rattle.std.specs.List.{range_with_len}
-use Rattle.sharc_code.specs.declared.code.Code.{Code}
-use Rattle.sharc_code.specs.declared.shape.Shape.{Shape}
+use Rattle.sharc_code.specs.{declared.code.Code.Code, declared.shape.Shape.Shape}
 use Rattle.sharc_code.specs.Layout.{first_cell, words_of, top_word, next_thread_word, state_word, function_word}
 
 -- the first cell of the globals, and the first of the heap

@@ -1,16 +1,11 @@
 -- The ranges of the numbers of a code that its generator keeps, and what follows of them.
 use Rattle.std.specs.Prelude.{ℕ, ◌≡◌, ◌<◌, ◌≤◌, ◌+◌, ◌*◌, ◌^◌, List, length, slice_index, slice_index_or}
 use Rattle.sharc_word.specs.declared.step.TheConstants.{THREADS}
-use Rattle.sharc_code.specs.declared.code.Code.{Code}
-use Rattle.sharc_code.specs.declared.code.Function.{Function}
+use Rattle.sharc_code.specs.{declared.code.Code.Code, declared.code.Function.Function}
 use Rattle.sharc_code.specs.declared.code.GlobalCells.{GlobalCells}
-use Rattle.sharc_code.specs.declared.instr.Instr.TheVariants.{GlobalBounds, Spawn}
-use Rattle.sharc_code.specs.declared.instr.Register.{Register}
-use Rattle.sharc_code.specs.declared.shape.Shape.{Shape}
-use Rattle.sharc_code.specs.declared.state.TheConstants.{FRAMES}
-use Rattle.sharc_code.specs.Layout.{Fits, granules, words_of}
-use Rattle.sharc_code.specs.Machine.{instr_at}
-use Rattle.sharc_code.specs.Path.{most_ints, most_refs}
+use Rattle.sharc_code.specs.{declared.instr.Instr.TheVariants.{GlobalBounds, Spawn}, declared.instr.Register.Register}
+use Rattle.sharc_code.specs.{declared.shape.Shape.Shape, declared.state.TheConstants.FRAMES}
+use Rattle.sharc_code.specs.{Layout.{Fits, granules, words_of}, Machine.instr_at, Path.{most_ints, most_refs}}
 use Rattle.sharc_code.specs.Says.{no_global}
 
 -- ---- functions

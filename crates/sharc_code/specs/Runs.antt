@@ -1,10 +1,8 @@
 -- Runs of several threads: lists of turns, the newest first, and the machine that makes one turn at a time. S is the state of one
 -- thread, and E what a turn reports of the source.
 use Rattle.std.specs.Prelude.{ℕ, ◌+◌, ◌≡◌, ◌≢◌, ◌≤◌, Bool, true, ◌&&◌, ◌||◌, nat_eq, nat_lt, List, [], ◌∷◌, ◌++◌, slice_index, Option, Some, None, if◌then◌else◌}
-use Rattle.sharc_word.specs.declared.step.WordStep.{WordStep}
-use Rattle.sharc_word.specs.declared.step.WordEvent.{WordEvent}
-use Rattle.sharc_word.specs.Words.{words_after_step, words_after}
-use Rattle.sharc_word.specs.Place.{event_of}
+use Rattle.sharc_word.specs.{declared.step.WordStep.WordStep, declared.step.WordEvent.WordEvent}
+use Rattle.sharc_word.specs.{Words.{words_after_step, words_after}, Place.event_of}
 use Rattle.sharc_word.specs.History.{MayFollow, LegalHistory, events_of}
 use Rattle.sharc_code.specs.Layout.{state_word}
 

@@ -1,12 +1,10 @@
 -- How far an instruction of several turns has come, and which words its next step may ask for.
 use Rattle.std.specs.Prelude.{ℕ, ◌≡◌, ◌<◌, Bool, true, false, Option, Some, None}
 use Rattle.sharc_word.specs.declared.step.TheConstants.{THREADS}
-use Rattle.sharc_code.specs.declared.instr.Instr.{Instr}
-use Rattle.sharc_code.specs.declared.instr.Instr.TheVariants as instrs
-use Rattle.sharc_code.specs.declared.shape.Shape.{Shape}
-use Rattle.sharc_code.specs.declared.state.Stage.{Stage}
+use Rattle.sharc_code.specs.{declared.instr.Instr.Instr, declared.shape.Shape.Shape, declared.state.Stage.Stage}
 use Rattle.sharc_code.specs.declared.state.Stage.TheVariants.{Makes, Names, Hands, Begins}
 use Rattle.sharc_code.specs.Layout.{granules, first_cell}
+use Rattle.sharc_code.specs.declared.instr.Instr.TheVariants as instrs
 
 -- a New has the first cell and the end of this shape, and a Spawn a number that is allowed
 abbrev pub IsStageWith : Shape → (ℕ → Type 0) → Stage → Type 0

@@ -1,12 +1,8 @@
 -- Laws of the places that a run of a code reaches: whose threads were started, and what turns without events leave.
 use Rattle.std.specs.Prelude.{ℕ, ◌≡◌, ◌≢◌, ◌≤◌, ◌||◌, true, List, [], ◌∷◌, ◌++◌, Some}
-use Rattle.sharc_code.specs.declared.code.Code.{Code}
-use Rattle.sharc_code.specs.declared.shape.Shape.{Shape}
-use Rattle.sharc_code.specs.Machine.{Machine}
+use Rattle.sharc_code.specs.{declared.code.Code.Code, declared.shape.Shape.Shape, Machine.Machine}
 use Rattle.sharc_code.specs.Runs.{Turn, Global, IsRun, MayTurn, at, is_started, turns_of}
-use Rattle.sharc_code.specs.Stages.{IsStageOf, begins_of}
-use Rattle.sharc_code.specs.Waits.{waits_now}
-use Rattle.sharc_code.specs.Whole.{one_thread, bounds, place_after}
+use Rattle.sharc_code.specs.{Stages.{IsStageOf, begins_of}, Waits.waits_now, Whole.{one_thread, bounds, place_after}}
 
 -- each thread has its number
 abbrev pub NumbersAreOwn : Type 0

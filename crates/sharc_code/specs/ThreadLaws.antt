@@ -1,16 +1,10 @@
 -- Laws of one turn of a thread, whatever its instruction is.
 use Rattle.std.specs.Prelude.{ℕ, ◌≡◌, ◌↔◌, ◌≤◌, ◌+◌, true, List, Option, length, slice_index}
 use Rattle.sharc_word.specs.declared.step.WordEvent.{WordEvent}
-use Rattle.sharc_code.specs.declared.code.Code.{Code}
-use Rattle.sharc_code.specs.declared.shape.Shape.{Shape}
-use Rattle.sharc_code.specs.declared.state.Stage.{Stage}
-use Rattle.sharc_code.specs.declared.state.State.{State}
-use Rattle.sharc_code.specs.declared.state.State.TheVariants.{Runs, Tries, Stopped, Ended}
-use Rattle.sharc_code.specs.Machine.{Machine, Own, Turn, Local, Asks, fails}
-use Rattle.sharc_code.specs.Path.{turn, after, asked_by, may_go}
-use Rattle.sharc_code.specs.Runs.{result_of, step_of, words_now, Answered}
-use Rattle.sharc_code.specs.Stages.{IsStageOf}
-use Rattle.sharc_code.specs.Waits.{waits_now}
+use Rattle.sharc_code.specs.{declared.code.Code.Code, declared.shape.Shape.Shape, declared.state.Stage.Stage}
+use Rattle.sharc_code.specs.{declared.state.State.State, declared.state.State.TheVariants.{Runs, Tries, Stopped, Ended}}
+use Rattle.sharc_code.specs.{Machine.{Machine, Own, Turn, Local, Asks, fails}, Path.{turn, after, asked_by, may_go}}
+use Rattle.sharc_code.specs.{Runs.{result_of, step_of, words_now, Answered}, Stages.IsStageOf, Waits.waits_now}
 
 -- what the word of its step holds, where the turn asks for one
 abbrev pub found_now : List ℕ → Turn → ℕ

@@ -2,15 +2,10 @@
 use Rattle.std.specs.Prelude.{ℕ, ℤ, pos, negsuc, ◌==◌, ◌||◌, Bool, false, not, List, Option, Some, None, nat_lt, slice_index, if◌then◌else◌}
 use Rattle.sharc_word.specs.declared.step.TheConstants.{THREADS}
 use Rattle.sharc_cond.specs.Waiters.{waits_in}
-use Rattle.sharc_code.specs.declared.code.Code.{Code}
-use Rattle.sharc_code.specs.declared.shape.Shape.{Shape}
-use Rattle.sharc_code.specs.declared.instr.Instr.{Instr}
-use Rattle.sharc_code.specs.declared.instr.Instr.TheVariants.{Lock, Join, CondWait}
-use Rattle.sharc_code.specs.declared.state.Wait.{Wait}
+use Rattle.sharc_code.specs.{declared.code.Code.Code, declared.shape.Shape.Shape, declared.instr.Instr.Instr}
+use Rattle.sharc_code.specs.{declared.instr.Instr.TheVariants.{Lock, Join, CondWait}, declared.state.Wait.Wait}
+use Rattle.sharc_code.specs.{Layout.state_word, Machine.{Machine, int, word, instr_at}, Path.may_go}
 use Rattle.sharc_code.specs.declared.state.Wait.TheVariants as waits
-use Rattle.sharc_code.specs.Layout.{state_word}
-use Rattle.sharc_code.specs.Machine.{Machine, int, word, instr_at}
-use Rattle.sharc_code.specs.Path.{may_go}
 
 abbrev pub joins : ℤ → ℕ → Option Wait
 joins (pos n) site = if nat_lt n THREADS then Some (waits.Join n site) else None

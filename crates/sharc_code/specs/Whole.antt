@@ -1,18 +1,12 @@
 -- The checked runs of a code: what its threads do, what a run reports of the source, and where it is stuck.
 use Rattle.std.specs.Prelude.{ℕ, ◌≡◌, true, List, [], ◌∷◌, map, Option, Some, None}
-use Rattle.sharc_word.specs.declared.step.TheConstants.{THREADS}
-use Rattle.sharc_word.specs.declared.step.WordEvent.{WordEvent}
-use Rattle.sharc_word.specs.Place.{event_of}
+use Rattle.sharc_word.specs.{declared.step.TheConstants.THREADS, declared.step.WordEvent.WordEvent, Place.event_of}
 use Rattle.sharc_tree.specs.declared.event.SourceEvent.{SourceEvent}
-use Rattle.sharc_code.specs.declared.code.Code.{Code}
-use Rattle.sharc_code.specs.declared.shape.Shape.{Shape}
-use Rattle.sharc_code.specs.Machine.{Machine, instr_at}
-use Rattle.sharc_code.specs.Opening.{opening_words}
-use Rattle.sharc_code.specs.Machine as Step
-use Rattle.sharc_code.specs.Path.{begun, machine_after, turn, after, asked_by, may_go, counted}
-use Rattle.sharc_code.specs.Says.{says, speaks_of, elements_in}
-use Rattle.sharc_code.specs.Waits.{waits_now}
+use Rattle.sharc_code.specs.{declared.code.Code.Code, declared.shape.Shape.Shape, Machine.{Machine, instr_at}}
+use Rattle.sharc_code.specs.{Opening.opening_words, Path.{begun, machine_after, turn, after, asked_by, may_go, counted}}
+use Rattle.sharc_code.specs.{Says.{says, speaks_of, elements_in}, Waits.waits_now}
 use Rattle.sharc_code.specs.Runs.{Said, OneThread, Bounds, Turn, turn_with, Global, CheckedRunOf, at, opening_of, erase}
+use Rattle.sharc_code.specs.Machine as Step
 
 -- ---- runs
 abbrev pub one_thread : Code → Shape → OneThread Machine SourceEvent

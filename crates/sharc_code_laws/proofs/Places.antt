@@ -1,15 +1,7 @@
 -- Functions changed at one place, and sums of them.
-use Rattle.std.proofs.Common.{◌≡◌, ℕ, zero, suc, ◌+◌, ◌*◌, ◌<◌, ◌≤◌, true, false, refl, ap, ◌∙◌, ⊎_elim, arith}
-use Rattle.std.specs.Prelude.{nat_eq}
-use Rattle.std.proofs.lemmas.Bool.Decides.{nat_tests}
-use Rattle.std.proofs.lemmas.Bool.{cases_eq}
+use Rattle.std.proofs.{Common.{◌≡◌, ℕ, zero, suc, ◌+◌, ◌*◌, ◌<◌, ◌≤◌, refl, ap, ◌∙◌, ⊎_elim, arith}, lemmas.Bool.cases_eq}
 use Rattle.sharc_code.specs.Runs.{put}
-
-eq_refl : (n : ℕ) → nat_eq n n ≡ true
-eq_refl n = grind (arith, nat_tests)
-
-ne_eq : (m n : ℕ) → (m ≡ n → ⊥) → nat_eq m n ≡ false
-ne_eq m n ne = grind (arith, nat_tests)
+use Rattle.sharc_lemmas.proofs.Numbers.{ne_eq, eq_refl}
 
 pub put_same : {A : Type 0} (f : ℕ → A) (i : ℕ) (v : A) → put f i v i ≡ v
 put_same f i v = rw (eq_refl i) refl

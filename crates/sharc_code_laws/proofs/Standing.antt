@@ -1,44 +1,14 @@
 -- What the state words say wherever a run is.
-use Rattle.std.proofs.Common.{◌≡◌, ℕ, zero, suc, ◌+◌, ◌%◌, ◌^◌, ◌<◌, ◌≤◌, ◌⊎◌, Bool, true, false, ◌||◌, ◌&&◌, List, [], ◌∷◌, length, Option, Some, None, refl, sym, ap, ◌∙◌, subst, ⊎_elim, inl, inr, arith}
-use Rattle.std.specs.Prelude.{nat_eq, nat_lt, nat_le, ◌==◌, slice_index, slice_set}
-use Rattle.std.proofs.lemmas.Bool.{cases_eq}
-use Rattle.std.proofs.lemmas.Bool.Decides.{nat_tests}
-use Rattle.std.proofs.lemmas.List.{get_or-set_other}
-use Rattle.std.proofs.lemmas.List.FromFn.{get_or-map-range_with_len}
-use Rattle.sharc_word.specs.declared.step.TheConstants.{THREADS}
+use Rattle.std.proofs.{Common.{◌≡◌, ℕ, ◌+◌, ◌%◌, ◌^◌, ◌<◌, ◌≤◌, ◌⊎◌, Bool, true, false, ◌||◌, ◌&&◌, List, [], ◌∷◌, Option, Some, None, refl, sym, ap, ◌∙◌, subst, ⊎_elim, inl, inr, arith}, lemmas.Bool.{cases_eq, or_right, or_left}, lemmas.Bool.Decides.nat_tests, lemmas.List.get_or-set_other, lemmas.List.FromFn.get_or-map-range_with_len}
+use Rattle.std.specs.Prelude.{nat_eq, nat_lt, nat_le, ◌==◌, slice_index}
+use Rattle.sharc_word.specs.{declared.step.TheConstants.THREADS, declared.step.WordStep.WordStep, declared.step.WordEvent.WordEvent, Words.{word_after, words_after_step}}
 use Rattle.sharc_word.specs.declared.step.WordOp.TheVariants as ops
-use Rattle.sharc_word.specs.declared.step.WordStep.{WordStep}
-use Rattle.sharc_word.specs.declared.step.WordEvent.{WordEvent}
-use Rattle.sharc_word.specs.Words.{word_after, words_after_step}
-use Rattle.sharc_code.specs.declared.code.Code.{Code}
-use Rattle.sharc_code.specs.declared.shape.Shape.{Shape}
-use Rattle.sharc_code.specs.declared.state.State.{State}
-use Rattle.sharc_code.specs.declared.state.State.TheVariants.{Runs, Tries, Stopped, Ended}
-use Rattle.sharc_code.specs.Layout.{state_word, next_thread_word, words_of}
-use Rattle.sharc_code.specs.Machine.{Machine, Turn as Act, step_of as step_at}
-use Rattle.sharc_code.specs.Opening.{opening_words, opens_with, opening_cell, first_global}
-use Rattle.sharc_code.specs.Path.{turn, after, asked_by, may_go, counted}
-use Rattle.sharc_code.specs.Runs.{Turn, Global, IsRun, put, words_now, result_of, step_of, is_started, opening_of, Answered}
-use Rattle.sharc_code.specs.Laws.{RunLaws}
-use Rattle.sharc_code.specs.StandingLaws.{StandingLaws}
-use Rattle.sharc_code.specs.Stages.{drawn_of}
-use Rattle.sharc_code.specs.Whole.{one_thread, bounds, place_after}
+use Rattle.sharc_code.specs.{declared.code.Code.Code, declared.shape.Shape.Shape, declared.state.State.State, declared.state.State.TheVariants.{Runs, Tries, Stopped, Ended}, Layout.{state_word, next_thread_word, words_of}, Machine.{Machine, Turn as Act, step_of as step_at}, Opening.{opening_words, opens_with, opening_cell, first_global}, Path.{turn, after, asked_by, may_go, counted}, Runs.{Turn, Global, IsRun, put, words_now, result_of, step_of, is_started, opening_of, Answered}, Laws.RunLaws, StandingLaws.StandingLaws, Stages.drawn_of, Whole.{one_thread, bounds, place_after}}
 use Rattle.sharc_code_laws.specs.Told.{state_of}
-use Rattle.sharc_code_laws.proofs.Places.{put_same, put_other, sum_to, sum_few, sum_grows, sum_more}
-use Rattle.sharc_code_laws.proofs.Sorts.{is_ended, LeavesThem, Elsewhere, Plain, Drew, Spawned, Sort, Ordinary, Draws, Starts, Returns, Ends, sorted}
-use Rattle.sharc_code_laws.proofs.Tells.{Tells, StateChange, Same, Begins, Own, Changes, tells_still}
+use Rattle.sharc_code_laws.proofs.{Places.{put_same, put_other, sum_to, sum_few, sum_grows, sum_more}, Sorts.{is_ended, LeavesThem, Elsewhere, Plain, Drew, Spawned, Sort, Ordinary, Draws, Starts, Returns, Ends, sorted}, Tells.{Tells, StateChange, Same, Begins, Own, Changes, tells_still}}
+use Rattle.sharc_lemmas.proofs.{Bools.{or_split, not_ended}, Lists.{set_here, set_same}}
 
 -- ---- words
-set_same : (words : List ℕ) (n v : ℕ) → v ≡ slice_index words n → slice_index (slice_set words n v) n ≡ slice_index words n
-set_same [] n v e = refl
-set_same (w ∷ ws) zero v e = e
-set_same (w ∷ ws) (suc n) v e = set_same ws n v e
-
-set_here : (words : List ℕ) (n v : ℕ) → n < length words → slice_index (slice_set words n v) n ≡ v
-set_here [] n v lt = absurd (omega arith)
-set_here (w ∷ ws) zero v lt = refl
-set_here (w ∷ ws) (suc n) v lt = set_here ws n v (omega arith)
-
 step_keeps : (words : List ℕ) (step : WordStep) (w : ℕ) → (step.word ≡ w → (v : ℕ) → word_after step.op v ≡ v) → slice_index (words_after_step words step) w ≡ slice_index words w
 step_keeps words step w keeps =
     ⊎_elim
@@ -72,18 +42,6 @@ module _ (words : List ℕ) where
   found_is (Some e) step q a = let same : e.step ≡ step = cc in a.result_is ∙ ap (λ (y : WordStep). slice_index words y.word) same
 
 -- ---- tests
-or_split : (a b : Bool) → (a || b) ≡ true → (a ≡ true) ⊎ (b ≡ true)
-or_split true b e = inl refl
-or_split false b e = inr e
-
-or_left : (a b : Bool) → a ≡ true → (a || b) ≡ true
-or_left true b e = refl
-or_left false b e = cc
-
-or_right : (a b : Bool) → b ≡ true → (a || b) ≡ true
-or_right true b e = refl
-or_right false b e = e
-
 low_and_one : (words : List ℕ) (t : ℕ) → is_started bounds words t ≡ true → (t < THREADS) × (slice_index words (state_word t) ≡ 1)
 low_and_one words t e = by (nat_lt t THREADS) refl (nat_eq (slice_index words (state_word t)) 1) refl e
   where
@@ -103,9 +61,6 @@ going Runs e = refl
 going Tries e = refl
 going Stopped e = absurd cc
 going Ended e = absurd cc
-
-not_ended : (b : Bool) → b ≡ true → b ≡ false → ⊥
-not_ended b e f = let g : true ≡ false = sym e ∙ f in cc
 
 -- ---- one turn
 abbrev next_of : Global Machine → ℕ

@@ -1,7 +1,7 @@
 -- What a turn keeps of the state words: stated of their values, of the numbers that are drawn, and of who was started and who has ended.
-use Rattle.std.proofs.Common.{◌≡◌, ℕ, ◌<◌, ◌≤◌, ◌⊎◌, Bool, true, false, Option, Some, None, refl, sym, ap, ◌∙◌, ⊎_elim, arith}
-use Rattle.std.proofs.lemmas.Bool.{cases_eq}
+use Rattle.std.proofs.{Common.{◌≡◌, ℕ, ◌<◌, ◌≤◌, ◌⊎◌, Bool, true, false, Option, Some, None, sym, ap, ◌∙◌, ⊎_elim, arith}, lemmas.Bool.{cases_eq, false_from_ne_true as not_true}}
 use Rattle.sharc_word.specs.declared.step.TheConstants.{THREADS}
+use Rattle.sharc_lemmas.proofs.Bools.{not_ended as both}
 
 pub record Tells (next : ℕ) (state : ℕ → ℕ) (drawn : ℕ → Option ℕ) (ended started : ℕ → Bool) : Type 0 where
   pub low : (t : ℕ) → started t ≡ true → t < THREADS
@@ -35,13 +35,6 @@ pub record Changes (k next next' : ℕ) (state state' : ℕ → ℕ) (drawn draw
   pub started_new : (t : ℕ) → t < THREADS → state' t ≡ 1 → started' t ≡ true
   pub ends_own : ended' k ≡ true → state' k ≡ 3
   pub end_own : state' k ≡ 3 → ended' k ≡ true
-
-not_true : (b : Bool) → (b ≡ true → ⊥) → b ≡ false
-not_true true h = absurd (h refl)
-not_true false h = refl
-
-both : (b : Bool) → b ≡ true → b ≡ false → ⊥
-both b e f = let g : true ≡ false = sym e ∙ f in cc
 
 some_none : (x : Option ℕ) (n : ℕ) → x ≡ Some n → x ≡ None → ⊥
 some_none x n e f = let g : Some n ≡ None = sym e ∙ f in cc

@@ -1,14 +1,9 @@
 -- What the state words say at each place of a checked run: who was started, and who has ended.
 use Rattle.std.specs.Prelude.{ℕ, ◌≡◌, ◌≢◌, ◌<◌, ◌≤◌, ◌↔◌, false, List, Some, slice_index}
 use Rattle.sharc_word.specs.declared.step.TheConstants.{THREADS}
-use Rattle.sharc_code.specs.declared.code.Code.{Code}
-use Rattle.sharc_code.specs.declared.shape.Shape.{Shape}
-use Rattle.sharc_code.specs.declared.state.State.TheVariants.{Ended}
-use Rattle.sharc_code.specs.Layout.{state_word}
-use Rattle.sharc_code.specs.Machine.{Machine}
-use Rattle.sharc_code.specs.Runs.{Turn, Global}
-use Rattle.sharc_code.specs.Stages.{drawn_of}
-use Rattle.sharc_code.specs.Whole.{CheckedRun, place_after}
+use Rattle.sharc_code.specs.{declared.code.Code.Code, declared.shape.Shape.Shape}
+use Rattle.sharc_code.specs.{declared.state.State.TheVariants.Ended, Layout.state_word, Machine.Machine}
+use Rattle.sharc_code.specs.{Runs.{Turn, Global}, Stages.drawn_of, Whole.{CheckedRun, place_after}}
 
 -- the state word of a thread
 abbrev pub state_of : Global Machine → ℕ → ℕ

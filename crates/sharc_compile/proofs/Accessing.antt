@@ -1,15 +1,7 @@
 -- From the checks of guarded code to those of its code.
 use Rattle.std.proofs.Common.{◌≡◌, ℕ, zero, suc, ◌+◌, ◌-◌, ◌<◌, inl, inr, Bool, true, false, List, [], ◌∷◌, length, map, refl, sym, ap, ◌∙◌, subst, arith, Some, slice_get}
 use Rattle.std.specs.Prelude.{slice_index_or, if◌then◌else◌}
-use Rattle.sharc_code.specs.declared.code.Code.{Code}
-use Rattle.sharc_code.specs.declared.code.Function.{Function}
-use Rattle.sharc_code.specs.declared.code.PlaceMode.{PlaceMode}
-use Rattle.sharc_code.specs.declared.code.PlaceMode.TheVariants.{Private, Readonly, Racy, Dynamic, LockedGlobal, LockedSibling, LockedThrough, LockedLoaded}
-use Rattle.sharc_code.specs.declared.code.SourcePlace.{SourcePlace}
-use Rattle.sharc_code.specs.declared.instr.Instr.{Instr}
-use Rattle.sharc_code.specs.declared.instr.Instr.TheVariants.{Jump, JumpIfZero, JumpIfNull, Call, ChkRead, ChkWrite}
-use Rattle.sharc_code.specs.Machine.{no_function}
-use Rattle.sharc_code.specs.Says.{place_at, no_place}
+use Rattle.sharc_code.specs.{declared.code.Code.Code, declared.code.Function.Function, declared.code.PlaceMode.PlaceMode, declared.code.PlaceMode.TheVariants.{Private, Readonly, Racy, Dynamic, LockedGlobal, LockedSibling, LockedThrough, LockedLoaded}, declared.code.SourcePlace.SourcePlace, declared.instr.Instr.Instr, declared.instr.Instr.TheVariants.{Jump, JumpIfZero, JumpIfNull, Call, ChkRead, ChkWrite}, Machine.no_function, Says.{place_at, no_place}}
 use Rattle.sharc_guarded_form.specs.declared.guarded.Guarded.{Guarded}
 use Rattle.sharc_gen.specs.Generated.{IsGenerated, program_of, instr_of}
 use Rattle.sharc_guard.specs.Checked as Guarded

@@ -1,46 +1,19 @@
 -- From the registers of code to what the program holds.
-use Rattle.std.proofs.Common.{◌≡◌, ◌≢◌, ℕ, zero, suc, ℤ, pos, ◌+◌, ◌^◌, ◌<◌, ◌⊎◌, inl, inr, ⊎_elim, Bool, List, [], ◌∷◌, ◌++◌, length, map, refl, sym, ap, ◌∙◌, Some, subst, arith, get_or, slice_get, append_assoc, append-nil}
+use Rattle.std.proofs.{Common.{◌≡◌, ◌≢◌, ℕ, zero, suc, ℤ, pos, ◌+◌, ◌^◌, ◌<◌, ◌⊎◌, inl, inr, ⊎_elim, Bool, List, [], ◌∷◌, ◌++◌, length, map, refl, sym, ap, ◌∙◌, Some, subst, arith, get_or, slice_get, append_assoc, append-nil}, lemmas.List.length-map}
 use Rattle.std.specs.Prelude.{IsSomeAnd, slice_index, slice_index_or}
-use Rattle.std.proofs.lemmas.List.{length-map}
-use Rattle.sharc_tree.specs.declared.event.Act.{Act}
-use Rattle.sharc_tree.specs.declared.event.CellAt.{CellAt}
-use Rattle.sharc_tree.specs.declared.event.SourceEvent.{SourceEvent}
+use Rattle.sharc_tree.specs.{declared.event.Act.Act, declared.event.CellAt.CellAt, declared.event.SourceEvent.SourceEvent}
 use Rattle.sharc_mode.specs.Moded.{Assignment}
-use Rattle.sharc_meaning.specs.declared.given.GivenUp.{GivenUp}
-use Rattle.sharc_meaning.specs.declared.given.GivenUp.TheVariants.{Emptied, Released, Replaced}
-use Rattle.sharc_meaning.specs.Events.{held_mutexes}
+use Rattle.sharc_meaning.specs.{declared.given.GivenUp.GivenUp, declared.given.GivenUp.TheVariants.{Emptied, Released, Replaced}, Events.held_mutexes, State.{wants, event_of}, Reference.number_of}
 use Rattle.sharc_meaning.specs.Meaning as Meaning
-use Rattle.sharc_meaning.specs.State.{wants, event_of}
-use Rattle.sharc_meaning.specs.Reference.{number_of}
-use Rattle.sharc_code.specs.declared.code.Code.{Code}
-use Rattle.sharc_code.specs.declared.instr.Instr.{Instr}
-use Rattle.sharc_code.specs.declared.instr.Instr.TheVariants.{Exit}
-use Rattle.sharc_code.specs.declared.shape.Shape.{Shape}
-use Rattle.sharc_code.specs.declared.state.Stop.TheVariants.{Conflict, NoLock, NotSole, Trap}
-use Rattle.sharc_code.specs.declared.state.Stop.{Stop}
-use Rattle.sharc_code.specs.declared.state.State.TheVariants.{Runs, Stopped}
-use Rattle.sharc_code.specs.Machine.{Machine, instr_at}
-use Rattle.sharc_code.specs.Says.{place_at, reference}
-use Rattle.sharc_flat_form.specs.Machine.{Flat, At, Came, Turn, goes, asks, halts, turn, on_turn, exec, start}
-use Rattle.sharc_flat_form.specs.Path.{at_after, asked, PathsAreRuns}
+use Rattle.sharc_code.specs.{declared.code.Code.Code, declared.instr.Instr.Instr, declared.instr.Instr.TheVariants.Exit, declared.shape.Shape.Shape, declared.state.Stop.TheVariants.{Conflict, NoLock, NotSole, Trap}, declared.state.Stop.Stop, declared.state.State.TheVariants.{Runs, Stopped}, Machine.{Machine, instr_at}, Says.{place_at, reference}}
+use Rattle.sharc_flat_form.specs.{Machine.{Flat, At, Came, Turn, goes, asks, halts, turn, on_turn, exec, start}, Path.{at_after, asked, PathsAreRuns}}
 use Rattle.sharc_flat.specs.Correct.{AsksTheSame, MayStart}
-use Rattle.sharc_guarded_form.specs.declared.guarded.Guarded.{Guarded}
+use Rattle.sharc_guarded_form.specs.{declared.guarded.Guarded.Guarded, Machine.{Program, Thread, Check, Accesses, Locks, IsSole, is_held, statement_at}, Path.{started, thread_after}}
 use Rattle.sharc_guarded_form.specs.Machine as Form
-use Rattle.sharc_guarded_form.specs.Machine.{Program, Thread, Check, Accesses, Locks, IsSole, is_held, statement_at}
-use Rattle.sharc_guarded_form.specs.Path.{started, thread_after}
-use Rattle.sharc_gen.specs.Consistent.{Elements, IsNumber}
-use Rattle.sharc_gen.specs.Correct.{by, begins, HasCome}
-use Rattle.sharc_gen.specs.Generated.{IsGenerated, instr_of, program_of}
-use Rattle.sharc_gen.specs.Related.{IsReference, IsAt, IsLinking, IsOver, StopsAt, ChecksNext}
-use Rattle.sharc_guard.specs.Correct.{Resolved}
-use Rattle.sharc_guard.specs.Counted.{AreLowered, GuardedCounts, IsReleased, IsOf, IsReplaced, LocksStand, OnWay, Quietly, Tells}
-use Rattle.sharc_guard.specs.Guard.{entered_at, guarded, place}
-use Rattle.sharc_guard.specs.Level.{IsLevel}
-use Rattle.sharc_guard.specs.Logged.{LogsAreHeld}
-use Rattle.sharc_compile.specs.Held.{IsAccountedFor, HoldsBy, HoldsWhatIsCounted}
-use Rattle.sharc_compile.specs.Refused.{IsRefused, IsReport, site_of}
-use Rattle.sharc_compile.proofs.Joined.{sites_are}
-use Rattle.sharc_compile.proofs.Sourced.{IsQuiet, line_quiet, same_given, beyond}
+use Rattle.sharc_gen.specs.{Consistent.{Elements, IsNumber}, Correct.{by, begins, HasCome}, Generated.{IsGenerated, instr_of, program_of}, Related.{IsReference, IsAt, IsLinking, IsOver, StopsAt, ChecksNext}}
+use Rattle.sharc_guard.specs.{Correct.Resolved, Counted.{AreLowered, GuardedCounts, IsReleased, IsOf, IsReplaced, LocksStand, OnWay, Quietly, Tells}, Guard.{entered_at, guarded, place}, Level.IsLevel, Logged.LogsAreHeld}
+use Rattle.sharc_compile.specs.{Held.{IsAccountedFor, HoldsBy, HoldsWhatIsCounted}, Refused.{IsRefused, IsReport, site_of}}
+use Rattle.sharc_compile.proofs.{Joined.sites_are, Sourced.{IsQuiet, line_quiet, same_given, beyond}}
 
 -- ---- what flat code does without an answer
 record Way (flat : Flat) (m final : At) : Type 0 where

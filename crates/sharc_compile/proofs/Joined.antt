@@ -1,38 +1,17 @@
 -- From code over guarded code to flat code.
-use Rattle.std.proofs.Common.{◌≡◌, ℕ, ℤ, ◌<◌, ◌≤◌, inl, inr, Bool, List, ◌∷◌, ◌++◌, length, map, refl, sym, ap, ◌∙◌, subst, arith, Some, None, Option}
+use Rattle.std.proofs.{Common.{◌≡◌, ℕ, ℤ, ◌<◌, ◌≤◌, inl, inr, Bool, List, ◌∷◌, ◌++◌, length, map, refl, sym, ap, ◌∙◌, subst, arith, Some, None, Option}, lemmas.List.length-map}
 use Rattle.std.specs.Prelude.{slice_index_or}
-use Rattle.std.proofs.lemmas.List.{length-map}
-use Rattle.sharc_tree.specs.declared.event.Act.{Act}
-use Rattle.sharc_tree.specs.declared.event.SourceEvent.{SourceEvent}
-use Rattle.sharc_tree.specs.declared.trap.Trap.{Trap}
-use Rattle.sharc_code.specs.declared.code.Code.{Code}
-use Rattle.sharc_code.specs.declared.shape.Shape.{Shape}
-use Rattle.sharc_code.specs.declared.instr.Instr.{Instr}
-use Rattle.sharc_code.specs.declared.instr.Instr.TheVariants.{Join, Spawn, New}
-use Rattle.sharc_code.specs.declared.state.State.{State}
-use Rattle.sharc_code.specs.declared.state.State.TheVariants.{Runs, Tries, Stopped, Ended}
-use Rattle.sharc_granule.specs.declared.stage.Stage.{Stage as NewStage}
-use Rattle.sharc_granule.specs.declared.stage.Stage.TheVariants.{Cell}
-use Rattle.sharc_code.specs.declared.state.Stage.{Stage}
-use Rattle.sharc_code.specs.declared.state.Stage.TheVariants.{Makes}
-use Rattle.sharc_code.specs.declared.state.Stop.{Stop}
-use Rattle.sharc_code.specs.declared.state.Stop.TheVariants.{Conflict, NoLock, NotSole, Trap as Trapped}
-use Rattle.sharc_code.specs.Machine.{Machine}
-use Rattle.sharc_code.specs.Says.{place_at, no_place}
+use Rattle.sharc_tree.specs.{declared.event.Act.Act, declared.event.SourceEvent.SourceEvent, declared.trap.Trap.Trap}
+use Rattle.sharc_code.specs.{declared.code.Code.Code, declared.shape.Shape.Shape, declared.instr.Instr.Instr, declared.instr.Instr.TheVariants.{Join, Spawn, New}, declared.state.State.State, declared.state.State.TheVariants.{Runs, Tries, Stopped, Ended}, declared.state.Stage.Stage, declared.state.Stage.TheVariants.Makes, declared.state.Stop.Stop, declared.state.Stop.TheVariants.{Conflict, NoLock, NotSole, Trap as Trapped}, Machine.Machine, Says.{place_at, no_place}}
+use Rattle.sharc_granule.specs.{declared.stage.Stage.{Stage as NewStage}, declared.stage.Stage.TheVariants.Cell}
 use Rattle.sharc_meaning.specs.State.{stopped}
 use Rattle.sharc_flat_form.specs.Machine as Flat
-use Rattle.sharc_guarded_form.specs.declared.guarded.Guarded.{Guarded}
+use Rattle.sharc_guarded_form.specs.{declared.guarded.Guarded.Guarded, Machine.{Program, Thread, source_at, statement_at, turn, step}, Path.{started, thread_after}}
 use Rattle.sharc_guarded_form.specs.Machine as Form
-use Rattle.sharc_guarded_form.specs.Machine.{Program, Thread, source_at, statement_at, turn, step}
-use Rattle.sharc_guarded_form.specs.Path.{started, thread_after}
-use Rattle.sharc_gen.specs.Consistent.{Elements}
-use Rattle.sharc_gen.specs.Correct.{by, begins, stop_turn, HasCome}
-use Rattle.sharc_gen.specs.Generated.{IsGenerated, program_of}
-use Rattle.sharc_gen.specs.Related.{Stands, IsOver, StopsAt, Refuses, spent_at, spent_in_new}
-use Rattle.sharc_guard.specs.Correct.{GuardedKeepsPaths, Resolved, Wants}
+use Rattle.sharc_gen.specs.{Consistent.Elements, Correct.{by, begins, stop_turn, HasCome}, Generated.{IsGenerated, program_of}, Related.{Stands, IsOver, StopsAt, Refuses, spent_at, spent_in_new}}
+use Rattle.sharc_guard.specs.{Correct.{GuardedKeepsPaths, Resolved, Wants}, Guard.{guarded, entered_at, place}}
 use Rattle.sharc_flat_form.specs.Path as Flow
 use Rattle.sharc_flat_form.specs.Framed.{IsFlat}
-use Rattle.sharc_guard.specs.Guard.{guarded, entered_at, place}
 use Rattle.sharc_compile.specs.Coded.{WantsAt, IsRefusal, StopsFor, IsOverFor, FollowsFlat}
 
 few_in_new : (st : NewStage) → spent_in_new st ≤ 3

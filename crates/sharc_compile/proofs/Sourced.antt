@@ -1,53 +1,23 @@
 -- From flat code to the source.
-use Rattle.std.proofs.Common.{◌≡◌, ℕ, zero, suc, ℤ, pos, negsuc, ◌+◌, ◌-◌, ◌*◌, ◌<◌, ◌≤◌, ◌⊎◌, inl, inr, Bool, true, false, not, List, [], ◌∷◌, ◌++◌, length, map, refl, sym, ap, ◌∙◌, subst, arith, Some, None, Option, Ok, Err, Result, nat_lt, cond, slice_get, append_assoc, append-nil}
-use Rattle.std.proofs.lemmas.Bool.{cases_lt}
-use Rattle.sharc_tree.specs.declared.event.Act.{Act}
+use Rattle.std.proofs.{Common.{◌≡◌, ℕ, zero, suc, ℤ, pos, negsuc, ◌+◌, ◌-◌, ◌*◌, ◌<◌, ◌≤◌, ◌⊎◌, inl, inr, Bool, true, false, not, List, [], ◌∷◌, ◌++◌, length, map, refl, sym, ap, ◌∙◌, subst, arith, Some, None, Option, Ok, Err, Result, nat_lt, cond, slice_get, append_assoc, append-nil}, lemmas.Bool.cases_lt, lemmas.List.map-append}
+use Rattle.sharc_tree.specs.{declared.event.Act.Act, declared.event.CellAt.CellAt, declared.event.CellMode.CellMode, declared.event.SourceEvent.SourceEvent, declared.token.Site.Site, declared.trap.Trap.Trap}
 use Rattle.sharc_tree.specs.declared.event.Act.TheVariants as acts
-use Rattle.sharc_tree.specs.declared.event.CellAt.{CellAt}
-use Rattle.sharc_tree.specs.declared.event.CellMode.{CellMode}
-use Rattle.sharc_tree.specs.declared.event.SourceEvent.{SourceEvent}
 use Rattle.sharc_tree.specs.declared.event.Taken.TheVariants as taken
-use Rattle.sharc_tree.specs.declared.token.Site.{Site}
-use Rattle.sharc_tree.specs.declared.trap.Trap.{Trap}
 use Rattle.sharc_tree.specs.declared.trap.Trap.TheVariants as traps
 use Rattle.sharc_mode.specs.Moded.{Assignment}
-use Rattle.sharc_meaning.specs.declared.given.GivenUp.{GivenUp}
-use Rattle.sharc_meaning.specs.declared.given.GivenUp.TheVariants.{Emptied, Released, Replaced}
+use Rattle.sharc_meaning.specs.{declared.given.GivenUp.GivenUp, declared.given.GivenUp.TheVariants.{Emptied, Released, Replaced}, Arithmetic.is_zero, Events.{held_mutexes, holds_mutex}, Reference.{is_null, elements_of, number_of}, State.{Outcome, answer_of, ended, event_of, stopped, spent}, Statements.is_positive, Runs.answers_of}
 use Rattle.sharc_meaning.specs.Meaning as Meaning
-use Rattle.sharc_meaning.specs.Arithmetic.{is_zero}
-use Rattle.sharc_meaning.specs.Events.{held_mutexes, holds_mutex}
-use Rattle.sharc_meaning.specs.Reference.{is_null, elements_of, number_of}
-use Rattle.sharc_meaning.specs.State.{Outcome, answer_of, ended, event_of, stopped, spent}
-use Rattle.sharc_meaning.specs.Statements.{is_positive}
-use Rattle.sharc_code.specs.Arithmetic.{computed, negated, holds}
-use Rattle.sharc_code.specs.declared.code.Code.{Code}
-use Rattle.sharc_code.specs.declared.code.GlobalCells.{GlobalCells}
-use Rattle.sharc_code.specs.declared.instr.Cell.{Cell}
-use Rattle.sharc_code.specs.declared.state.State.{State}
-use Rattle.sharc_code.specs.declared.state.State.TheVariants.{Runs, Tries, Stopped, Ended}
-use Rattle.sharc_code.specs.declared.state.Stop.{Stop}
-use Rattle.sharc_code.specs.declared.state.Stop.TheVariants.{Conflict, NoLock, NotSole, Trap as Trapped}
-use Rattle.sharc_code.specs.Machine.{Machine}
-use Rattle.sharc_code.specs.Says.{place_at}
-use Rattle.sharc_flat_form.specs.declared.op.Op.{Op}
+use Rattle.sharc_code.specs.{Arithmetic.{computed, negated, holds}, declared.code.Code.Code, declared.code.GlobalCells.GlobalCells, declared.instr.Cell.Cell, declared.state.State.State, declared.state.State.TheVariants.{Runs, Tries, Stopped, Ended}, declared.state.Stop.Stop, declared.state.Stop.TheVariants.{Conflict, NoLock, NotSole, Trap as Trapped}, Machine.Machine, Says.place_at, declared.code.Parameter.Parameter, declared.instr.Register.Register}
+use Rattle.sharc_flat_form.specs.{declared.op.Op.Op, declared.op.Spot.Spot, Machine.{Flat, At, Caller, Came, Turn, goes, asks, halts, int, ref, goes_on, next, over_lines, stops, asserts, with_result, set_int, set_ref, gives_up, kind_of, cell_at, mode_of, accessed, accesses, lock_is_null, indexed, takes_local, returned, called, op_turn, end_turn, line_turn, turn, on_turn, exec, start, begun, first_at, function_of, handed, with_event, without_base}, Path.{after, at_after, may_go, asked, asked_by, IsPath, PathsAreRuns}}
 use Rattle.sharc_flat_form.specs.declared.op.Op.TheVariants as op
-use Rattle.sharc_flat_form.specs.declared.op.Spot.{Spot}
-use Rattle.sharc_flat_form.specs.Machine.{Flat, At, Caller, Came, Turn, goes, asks, halts, int, ref, goes_on, next, over_lines, stops, asserts, with_result, set_int, set_ref, gives_up, kind_of, cell_at, mode_of, accessed, accesses, lock_is_null, indexed, takes_local, returned, called, op_turn, end_turn, line_turn, turn, on_turn, exec, start, begun, first_at, function_of, handed, with_event, without_base}
-use Rattle.sharc_flat_form.specs.Path.{after, at_after, may_go, asked, asked_by, IsPath, PathsAreRuns}
-use Rattle.sharc_meaning.specs.Runs.{answers_of}
-use Rattle.sharc_code.specs.declared.code.Parameter.{Parameter}
 use Rattle.sharc_code.specs.declared.code.Parameter.TheVariants as parameters
 use Rattle.sharc_code.specs.declared.instr.Cell.TheVariants as cells
-use Rattle.sharc_code.specs.declared.instr.Register.{Register}
 use Rattle.sharc_code.specs.declared.instr.Register.TheVariants as registers
-use Rattle.std.proofs.lemmas.List.{map-append}
 use Rattle.sharc_flat.specs.Correct.{AsksTheSame, MayStart}
 use Rattle.sharc_guarded_form.specs.declared.guarded.Guarded.{Guarded}
-use Rattle.sharc_gen.specs.Correct.{by, begins}
+use Rattle.sharc_gen.specs.{Correct.{by, begins}, Generated.program_of}
 use Rattle.sharc_guard.specs.Correct.{Resolved}
-use Rattle.sharc_gen.specs.Generated.{program_of}
-use Rattle.sharc_compile.specs.Coded.{WantsAt, StopsFor, IsOverFor, FollowsFlat}
-use Rattle.sharc_compile.specs.Source.{WantsEventAt, IsStopOf, IsOverAs, IsToldBy, FollowsSource}
+use Rattle.sharc_compile.specs.{Coded.{WantsAt, StopsFor, IsOverFor, FollowsFlat}, Source.{WantsEventAt, IsStopOf, IsOverAs, IsToldBy, FollowsSource}}
 
 -- ---- events, and what is given up
 -- no event is reported, and nothing is taken back of what was given up

@@ -1,16 +1,12 @@
 -- Each access of a dynamic or locked cell in code of flat code is no jump target; it comes directly after its check, but where that repeats one and is dropped.
 use Rattle.std.specs.Prelude.{ℕ, ◌+◌, ◌≡◌, ◌<◌, ◌⊎◌, Bool, true, length, slice_get, slice_index_or, Some}
-use Rattle.sharc_code.specs.declared.code.Code.{Code}
-use Rattle.sharc_code.specs.declared.code.PlaceMode.{PlaceMode}
+use Rattle.sharc_code.specs.{declared.code.Code.Code, declared.code.PlaceMode.PlaceMode}
 use Rattle.sharc_code.specs.declared.code.PlaceMode.TheVariants.{Private, Readonly, Racy, Dynamic, LockedGlobal, LockedSibling, LockedThrough, LockedLoaded}
 use Rattle.sharc_code.specs.declared.instr.Instr.{Instr}
-use Rattle.sharc_code.specs.declared.instr.Instr.TheVariants.{Jump, JumpIfZero, JumpIfNull, Call}
-use Rattle.sharc_code.specs.Machine.{no_function}
+use Rattle.sharc_code.specs.{declared.instr.Instr.TheVariants.{Jump, JumpIfZero, JumpIfNull, Call}, Machine.no_function}
 use Rattle.sharc_code.specs.Says.{place_at}
-use Rattle.sharc_flat_form.specs.declared.flat.Flat.{Flat as FlatCode}
-use Rattle.sharc_guard.specs.Checked.{Access, access_of, IsCheckOf}
-use Rattle.sharc_flat_form.specs.Made.{flat_of}
-use Rattle.sharc_guard.specs.Known.{dropped}
+use Rattle.sharc_flat_form.specs.{declared.flat.Flat.{Flat as FlatCode}, Made.flat_of}
+use Rattle.sharc_guard.specs.{Checked.{Access, access_of, IsCheckOf}, Known.dropped}
 use Rattle.sharc_compile.specs.Made.{IsCodeOf}
 
 -- the instruction leads to this place, other than as the next one

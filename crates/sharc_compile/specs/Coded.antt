@@ -1,32 +1,20 @@
 -- The paths of the code of flat code are those of flat code.
 use Rattle.std.specs.Prelude.{ℕ, ℤ, ◌+◌, ◌*◌, ◌≡◌, ◌≤◌, ◌<◌, ◌⊎◌, Bool, List, ◌∷◌, ◌++◌, length, map, Option, IsSomeAnd}
-use Rattle.sharc_tree.specs.declared.event.Act.{Act}
-use Rattle.sharc_tree.specs.declared.event.SourceEvent.{SourceEvent}
-use Rattle.sharc_tree.specs.declared.token.Site.{Site}
+use Rattle.sharc_tree.specs.{declared.event.Act.Act, declared.event.SourceEvent.SourceEvent, declared.token.Site.Site}
 use Rattle.sharc_tree.specs.declared.trap.Trap.{Trap}
 use Rattle.sharc_tree.specs.declared.trap.Trap.TheVariants as traps
-use Rattle.sharc_code.specs.declared.code.Code.{Code}
-use Rattle.sharc_code.specs.declared.shape.Shape.{Shape}
-use Rattle.sharc_code.specs.declared.state.State.{State}
-use Rattle.sharc_code.specs.declared.state.State.TheVariants.{Runs, Tries, Stopped, Ended}
-use Rattle.sharc_code.specs.declared.state.Stop.{Stop}
+use Rattle.sharc_code.specs.{declared.code.Code.Code, declared.shape.Shape.Shape, declared.state.State.State}
+use Rattle.sharc_code.specs.{declared.state.State.TheVariants.{Runs, Tries, Stopped, Ended}, declared.state.Stop.Stop}
 use Rattle.sharc_code.specs.declared.state.Stop.TheVariants.{Conflict, NoLock, NotSole, Trap as Trapped}
-use Rattle.sharc_code.specs.Machine.{Machine}
-use Rattle.sharc_code.specs.Path.{begun, machine_after, CodePath}
-use Rattle.sharc_code.specs.Paced.{paced_in}
-use Rattle.sharc_code.specs.Says.{place_at}
+use Rattle.sharc_code.specs.{Machine.Machine, Path.{begun, machine_after, CodePath}, Paced.paced_in, Says.place_at}
 use Rattle.sharc_meaning.specs.State.{stopped, ended}
 use Rattle.sharc_flat_form.specs.Machine as Flat
 use Rattle.sharc_guarded_form.specs.declared.guarded.Guarded.{Guarded}
-use Rattle.sharc_gen.specs.Consistent.{Elements, said_in, IsConsistent}
-use Rattle.sharc_gen.specs.Correct.{by, begins, IsBeginning}
-use Rattle.sharc_gen.specs.Generated.{IsGenerated, program_of}
-use Rattle.sharc_gen.specs.Lowered.{lowered_in}
+use Rattle.sharc_gen.specs.{Consistent.{Elements, said_in, IsConsistent}, Correct.{by, begins, IsBeginning}}
+use Rattle.sharc_gen.specs.{Generated.{IsGenerated, program_of}, Lowered.lowered_in}
 use Rattle.sharc_flat_form.specs.Path as Flow
-use Rattle.sharc_flat_form.specs.Framed.{IsFlat}
-use Rattle.sharc_flat_form.specs.Framed.{IsFramed}
-use Rattle.sharc_guard.specs.Correct.{Resolved}
-use Rattle.sharc_guard.specs.Guard.{guarded}
+use Rattle.sharc_flat_form.specs.Framed.{IsFlat, IsFramed}
+use Rattle.sharc_guard.specs.{Correct.Resolved, Guard.guarded}
 
 -- flat code wants an event at this site
 pub record WantsAt (flat : Flat.Flat) (m : Flat.At) (site : Site) : Type 0 where

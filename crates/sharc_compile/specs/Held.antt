@@ -1,33 +1,19 @@
 -- The references that a thread of the code counts in its registers, the program holds, or gives up before it asks for anything more.
 use Rattle.std.specs.Prelude.{ℕ, ℤ, pos, ◌≡◌, ◌+◌, ◌<◌, ◌⊎◌, List, [], ◌∷◌, ◌++◌, length, map, get_or, slice_index}
-use Rattle.sharc_tree.specs.declared.event.CellAt.{CellAt}
-use Rattle.sharc_tree.specs.declared.event.SourceEvent.{SourceEvent}
+use Rattle.sharc_tree.specs.{declared.event.CellAt.CellAt, declared.event.SourceEvent.SourceEvent}
 use Rattle.sharc_mode.specs.Moded.{Assignment}
-use Rattle.sharc_meaning.specs.declared.given.GivenUp.{GivenUp}
-use Rattle.sharc_meaning.specs.declared.given.GivenUp.TheVariants.{Replaced}
-use Rattle.sharc_meaning.specs.Meaning.{Asked, asks}
-use Rattle.sharc_meaning.specs.Reference.{number_of}
-use Rattle.sharc_code.specs.declared.code.Code.{Code}
-use Rattle.sharc_code.specs.declared.instr.Instr.TheVariants.{Lower}
-use Rattle.sharc_code.specs.declared.shape.Shape.{Shape}
-use Rattle.sharc_code.specs.declared.state.Stage.TheVariants.{Links}
-use Rattle.sharc_code.specs.Machine.{Machine, instr_at}
-use Rattle.sharc_code.specs.Path.{begun, machine_after, CodePath}
-use Rattle.sharc_code.specs.Paced.{paced_in}
-use Rattle.sharc_flat_form.specs.declared.flat.Flat.{Flat as FlatCode}
-use Rattle.sharc_flat_form.specs.Framed.{IsFramed}
-use Rattle.sharc_flat_form.specs.Made.{flat_of}
+use Rattle.sharc_meaning.specs.{declared.given.GivenUp.GivenUp, declared.given.GivenUp.TheVariants.Replaced}
+use Rattle.sharc_meaning.specs.{Meaning.{Asked, asks}, Reference.number_of}
+use Rattle.sharc_code.specs.{declared.code.Code.Code, declared.instr.Instr.TheVariants.Lower}
+use Rattle.sharc_code.specs.{declared.shape.Shape.Shape, declared.state.Stage.TheVariants.Links}
+use Rattle.sharc_code.specs.{Machine.{Machine, instr_at}, Path.{begun, machine_after, CodePath}, Paced.paced_in}
+use Rattle.sharc_flat_form.specs.{declared.flat.Flat.{Flat as FlatCode}, Framed.IsFramed, Made.flat_of}
 use Rattle.sharc_flat.specs.Correct.{AsksTheSame, MayStart}
-use Rattle.sharc_gen.specs.Consistent.{Elements, said_in, IsConsistent}
-use Rattle.sharc_gen.specs.Correct.{by, begins, IsBeginning}
-use Rattle.sharc_gen.specs.Generated.{program_of}
-use Rattle.sharc_gen.specs.Lowered.{lowered_in}
-use Rattle.sharc_guard.specs.Correct.{Resolved}
-use Rattle.sharc_guard.specs.Counted.{IsReleased, LocksStand}
-use Rattle.sharc_guard.specs.Level.{IsLevel}
+use Rattle.sharc_gen.specs.{Consistent.{Elements, said_in, IsConsistent}, Correct.{by, begins, IsBeginning}}
+use Rattle.sharc_gen.specs.{Generated.program_of, Lowered.lowered_in}
+use Rattle.sharc_guard.specs.{Correct.Resolved, Counted.{IsReleased, LocksStand}, Level.IsLevel}
 use Rattle.sharc_guarded_form.specs.Machine.{Program}
-use Rattle.sharc_compile.specs.Made.{IsCodeOf}
-use Rattle.sharc_compile.specs.Refused.{WantsRefused}
+use Rattle.sharc_compile.specs.{Made.IsCodeOf, Refused.WantsRefused}
 
 -- the program holds a reference to the object of this number
 abbrev pub IsAmong : List ℤ → ℕ → Type 0

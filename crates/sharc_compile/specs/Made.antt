@@ -1,19 +1,12 @@
 -- The code that the program makes of flat code.
 use Rattle.std.specs.Prelude.{ℕ, ◌⊎◌, List}
-use Rattle.sharc_code.specs.declared.code.Code.{Code}
-use Rattle.sharc_code.specs.declared.shape.Shape.{Shape}
-use Rattle.sharc_code.specs.Path.{begun, machine_after, CodePath}
+use Rattle.sharc_code.specs.{declared.code.Code.Code, declared.shape.Shape.Shape, Path.{begun, machine_after, CodePath}}
 use Rattle.sharc_code.specs.Paced.{paced_in}
-use Rattle.sharc_flat_form.specs.declared.flat.Flat.{Flat as FlatCode}
+use Rattle.sharc_flat_form.specs.{declared.flat.Flat.{Flat as FlatCode}, Framed.{IsFlat, IsFramed}, Made.flat_of}
 use Rattle.sharc_guarded_form.specs.declared.guarded.Guarded.{Guarded}
-use Rattle.sharc_gen.specs.Consistent.{Elements, said_in, IsConsistent}
-use Rattle.sharc_gen.specs.Correct.{IsBeginning}
-use Rattle.sharc_gen.specs.Generated.{IsGenerated}
+use Rattle.sharc_gen.specs.{Consistent.{Elements, said_in, IsConsistent}, Correct.IsBeginning, Generated.IsGenerated}
 use Rattle.sharc_gen.specs.Lowered.{lowered_in}
-use Rattle.sharc_flat_form.specs.Framed.{IsFlat, IsFramed}
-use Rattle.sharc_flat_form.specs.Made.{flat_of}
-use Rattle.sharc_guard.specs.Known.{dropped}
-use Rattle.sharc_guard.specs.Made.{IsMade}
+use Rattle.sharc_guard.specs.{Known.dropped, Made.IsMade}
 use Rattle.sharc_compile.specs.Coded.{FollowsFlat}
 
 -- generated of the guarded code of flat code, without the checks that repeat one

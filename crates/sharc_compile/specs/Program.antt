@@ -1,21 +1,13 @@
 -- The paths of the code of a program that flattening knows are those of the program.
 use Rattle.std.specs.Prelude.{ℕ, ◌⊎◌, List, length}
 use Rattle.sharc_mode.specs.Moded.{Assignment}
-use Rattle.sharc_code.specs.declared.code.Code.{Code}
-use Rattle.sharc_code.specs.declared.shape.Shape.{Shape}
-use Rattle.sharc_code.specs.Path.{begun, machine_after, CodePath}
+use Rattle.sharc_code.specs.{declared.code.Code.Code, declared.shape.Shape.Shape, Path.{begun, machine_after, CodePath}}
 use Rattle.sharc_code.specs.Paced.{paced_in}
-use Rattle.sharc_flat_form.specs.declared.flat.Flat.{Flat as FlatCode}
-use Rattle.sharc_flat_form.specs.Made.{flat_of}
-use Rattle.sharc_flat.specs.Correct.{ProgramSuits}
-use Rattle.sharc_flat.specs.Flattens.{Flattens}
-use Rattle.sharc_flat.specs.Laws.{FitsMade}
-use Rattle.sharc_gen.specs.Consistent.{Elements, said_in, IsConsistent}
-use Rattle.sharc_gen.specs.Correct.{IsBeginning}
-use Rattle.sharc_gen.specs.Generated.{program_of}
+use Rattle.sharc_flat_form.specs.{declared.flat.Flat.{Flat as FlatCode}, Made.flat_of}
+use Rattle.sharc_flat.specs.{Correct.ProgramSuits, Flattens.Flattens, Laws.FitsMade}
+use Rattle.sharc_gen.specs.{Consistent.{Elements, said_in, IsConsistent}, Correct.IsBeginning, Generated.program_of}
 use Rattle.sharc_gen.specs.Lowered.{lowered_in}
-use Rattle.sharc_compile.specs.Made.{IsCodeOf}
-use Rattle.sharc_compile.specs.Source.{FollowsSource}
+use Rattle.sharc_compile.specs.{Made.IsCodeOf, Source.FollowsSource}
 
 -- of what flattening makes, whose frames have numbers of 32 bits
 abbrev pub ProgramCodeFollows : Type 0

@@ -1,24 +1,13 @@
 -- What a thread has reported in a checked run of the code of a program, the program reports.
 use Rattle.std.specs.Prelude.{ℕ, ◌⊎◌, List, length, reverse}
 use Rattle.sharc_mode.specs.Moded.{Assignment}
-use Rattle.sharc_code.specs.declared.code.Code.{Code}
-use Rattle.sharc_code.specs.declared.shape.Shape.{Shape}
-use Rattle.sharc_code.specs.Paced.{paced_in}
-use Rattle.sharc_code.specs.Path.{begun}
-use Rattle.sharc_code.specs.Runs.{Turn, turns_of, said_by}
-use Rattle.sharc_code.specs.Whole.{CheckedRun, Erase, place_after}
-use Rattle.sharc_flat_form.specs.declared.flat.Flat.{Flat as FlatCode}
-use Rattle.sharc_flat_form.specs.Made.{flat_of}
-use Rattle.sharc_flat.specs.Correct.{ProgramSuits}
-use Rattle.sharc_flat.specs.Flattens.{Flattens}
-use Rattle.sharc_flat.specs.Laws.{FitsMade}
-use Rattle.sharc_gen.specs.Consistent.{IsConsistent}
-use Rattle.sharc_gen.specs.Correct.{IsBeginning}
-use Rattle.sharc_gen.specs.Generated.{program_of}
-use Rattle.sharc_gen.specs.Lowered.{lowered_in}
+use Rattle.sharc_code.specs.{declared.code.Code.Code, declared.shape.Shape.Shape, Paced.paced_in, Path.begun}
+use Rattle.sharc_code.specs.{Runs.{Turn, turns_of, said_by}, Whole.{CheckedRun, Erase, place_after}}
+use Rattle.sharc_flat_form.specs.{declared.flat.Flat.{Flat as FlatCode}, Made.flat_of}
+use Rattle.sharc_flat.specs.{Correct.ProgramSuits, Flattens.Flattens, Laws.FitsMade}
+use Rattle.sharc_gen.specs.{Consistent.IsConsistent, Correct.IsBeginning, Generated.program_of, Lowered.lowered_in}
 use Rattle.sharc_gen.specs.OfRuns.{elements_before, founds_of, told_in}
-use Rattle.sharc_compile.specs.Made.{IsCodeOf}
-use Rattle.sharc_compile.specs.Source.{FollowsSource}
+use Rattle.sharc_compile.specs.{Made.IsCodeOf, Source.FollowsSource}
 
 -- where the results of its path are consistent with the elements of the run
 abbrev pub RunsFollowSource : Type 0

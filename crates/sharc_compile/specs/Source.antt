@@ -1,34 +1,19 @@
 -- The paths of the code of a program are those of the program: what a thread of its code has reported is what the source asks for by the same answers.
 use Rattle.std.specs.Prelude.{ℕ, ℤ, pos, ◌+◌, ◌*◌, ◌≡◌, ◌<◌, ◌⊎◌, List, ◌∷◌, ◌++◌, length, map, Option, IsSomeAnd}
-use Rattle.sharc_tree.specs.declared.event.Act.{Act}
-use Rattle.sharc_tree.specs.declared.event.SourceEvent.{SourceEvent}
-use Rattle.sharc_tree.specs.declared.token.Site.{Site}
+use Rattle.sharc_tree.specs.{declared.event.Act.Act, declared.event.SourceEvent.SourceEvent, declared.token.Site.Site}
 use Rattle.sharc_mode.specs.Moded.{Assignment}
-use Rattle.sharc_meaning.specs.Meaning.{asks}
-use Rattle.sharc_meaning.specs.Runs.{answers_of}
-use Rattle.sharc_meaning.specs.State.{Outcome, wants, ended, stopped, spent, event_of}
-use Rattle.sharc_code.specs.declared.code.Code.{Code}
-use Rattle.sharc_code.specs.declared.shape.Shape.{Shape}
-use Rattle.sharc_code.specs.declared.state.State.{State}
-use Rattle.sharc_code.specs.declared.state.State.TheVariants.{Runs, Tries, Stopped, Ended}
-use Rattle.sharc_code.specs.declared.state.Stop.{Stop}
-use Rattle.sharc_code.specs.declared.state.Stop.TheVariants.{Conflict, NoLock, NotSole, Trap}
-use Rattle.sharc_code.specs.Machine.{Machine}
-use Rattle.sharc_code.specs.Path.{begun, machine_after, CodePath}
-use Rattle.sharc_code.specs.Paced.{paced_in}
-use Rattle.sharc_code.specs.Says.{place_at}
-use Rattle.sharc_flat_form.specs.declared.flat.Flat.{Flat as FlatCode}
-use Rattle.sharc_flat_form.specs.Framed.{IsFlat, IsFramed}
-use Rattle.sharc_flat_form.specs.Made.{flat_of}
+use Rattle.sharc_meaning.specs.{Meaning.asks, Runs.answers_of, State.{Outcome, wants, ended, stopped, spent, event_of}}
+use Rattle.sharc_code.specs.{declared.code.Code.Code, declared.shape.Shape.Shape, declared.state.State.State}
+use Rattle.sharc_code.specs.{declared.state.State.TheVariants.{Runs, Tries, Stopped, Ended}, declared.state.Stop.Stop}
+use Rattle.sharc_code.specs.{declared.state.Stop.TheVariants.{Conflict, NoLock, NotSole, Trap}, Machine.Machine}
+use Rattle.sharc_code.specs.{Path.{begun, machine_after, CodePath}, Paced.paced_in, Says.place_at}
+use Rattle.sharc_flat_form.specs.{declared.flat.Flat.{Flat as FlatCode}, Framed.{IsFlat, IsFramed}, Made.flat_of}
 use Rattle.sharc_flat.specs.Correct.{AsksTheSame, MayStart}
 use Rattle.sharc_guarded_form.specs.Machine.{Program}
-use Rattle.sharc_gen.specs.Consistent.{Elements, said_in, IsConsistent}
-use Rattle.sharc_gen.specs.Correct.{by, begins, IsBeginning}
-use Rattle.sharc_gen.specs.Generated.{program_of}
-use Rattle.sharc_gen.specs.Lowered.{lowered_in}
+use Rattle.sharc_gen.specs.{Consistent.{Elements, said_in, IsConsistent}, Correct.{by, begins, IsBeginning}}
+use Rattle.sharc_gen.specs.{Generated.program_of, Lowered.lowered_in}
 use Rattle.sharc_guard.specs.Correct.{Resolved}
-use Rattle.sharc_compile.specs.Coded.{IsRefusal}
-use Rattle.sharc_compile.specs.Made.{IsCodeOf}
+use Rattle.sharc_compile.specs.{Coded.IsRefusal, Made.IsCodeOf}
 
 -- the source wants an event at this site
 abbrev pub WantsEventAt : Outcome → Site → Type 0

@@ -2,18 +2,13 @@
 use Rattle.std.proofs.Common.{◌≡◌, ℕ, ◌⊎◌, inl, inr, ⊎_elim, List, ◌++◌, length, map, refl, sym, ap, ◌∙◌, subst}
 use Rattle.sharc_tree.specs.declared.event.SourceEvent.{SourceEvent}
 use Rattle.sharc_mode.specs.Moded.{Assignment}
-use Rattle.sharc_meaning.specs.Meaning.{asks}
-use Rattle.sharc_meaning.specs.Runs.{answers_of, by}
-use Rattle.sharc_code.specs.declared.code.Code.{Code}
-use Rattle.sharc_code.specs.Machine.{Machine}
+use Rattle.sharc_meaning.specs.{Meaning.asks, Runs.{answers_of, by}}
+use Rattle.sharc_code.specs.{declared.code.Code.Code, Machine.Machine}
 use Rattle.sharc_flat_form.specs.declared.flat.Flat.{Flat as FlatCode}
-use Rattle.sharc_flat.specs.Correct.{MayStart}
-use Rattle.sharc_flat.specs.Flattens.{Flattens}
+use Rattle.sharc_flat.specs.{Correct.MayStart, Flattens.Flattens}
 use Rattle.sharc_guard.specs.Correct.{Resolved}
-use Rattle.sharc_gen.specs.Correct.{begins, IsBeginning}
-use Rattle.sharc_gen.specs.Generated.{program_of}
-use Rattle.sharc_compile.specs.Made.{IsCodeOf}
-use Rattle.sharc_compile.specs.Source.{FollowsSource, IsOverAs}
+use Rattle.sharc_gen.specs.{Correct.{begins, IsBeginning}, Generated.program_of}
+use Rattle.sharc_compile.specs.{Made.IsCodeOf, Source.{FollowsSource, IsOverAs}}
 use Rattle.sharc_compile_laws.specs.Paths.{IsAskedFor, TellsProgram}
 use Rattle.sharc_compile_laws.proofs.Telling.{answers_by, started_at_name, tail_same}
 

@@ -1,21 +1,13 @@
 -- What the instructions of code spawn is what the program spawns.
 use Rattle.std.proofs.Common.{◌≡◌, ℕ, zero, suc, ◌+◌, Bool, true, false, List, [], ◌∷◌, ◌++◌, map, sym, ap, ◌∙◌, subst}
-use Rattle.std.specs.Prelude.{slice_index_or}
-use Rattle.std.specs.List.{AllByRecursion}
-use Rattle.sharc_code.specs.declared.code.Function.{Function as Row}
-use Rattle.sharc_code.specs.declared.code.PlaceMode.{PlaceMode}
+use Rattle.std.specs.{Prelude.slice_index_or, List.AllByRecursion}
+use Rattle.sharc_code.specs.{declared.code.Function.{Function as Row}, declared.code.PlaceMode.PlaceMode, declared.instr.Width.TheVariants.{Char, Int, Long}, declared.instr.Instr.Instr, declared.instr.Register.Register}
 use Rattle.sharc_code.specs.declared.code.PlaceMode.TheVariants as modes
-use Rattle.sharc_code.specs.declared.instr.Width.TheVariants.{Char, Int, Long}
-use Rattle.sharc_code.specs.declared.instr.Instr.{Instr}
 use Rattle.sharc_code.specs.declared.instr.Instr.TheVariants as instrs
-use Rattle.sharc_code.specs.declared.instr.Register.{Register}
-use Rattle.sharc_flat_form.specs.declared.op.Op.{Op}
+use Rattle.sharc_flat_form.specs.{declared.op.Op.Op, declared.op.Spot.Spot, Made.flat_of}
 use Rattle.sharc_flat_form.specs.declared.op.Op.TheVariants as op
-use Rattle.sharc_flat_form.specs.declared.op.Spot.{Spot}
-use Rattle.sharc_flat_form.specs.Made.{flat_of}
 use Rattle.sharc_flat_laws.specs.Tables.{SpawnMeets, IsSpawned, MadeSpawns}
-use Rattle.sharc_guard.specs.Guard.{check_under, head, own, body, tail, expand, expanded, place}
-use Rattle.sharc_guard.specs.Known.{dropped}
+use Rattle.sharc_guard.specs.{Guard.{check_under, head, own, body, tail, expand, expanded, place}, Known.dropped}
 use Rattle.sharc_gen.specs.Generated.{instr_of}
 use Rattle.sharc_compile_laws.specs.Started.{SpawnedAreThreads}
 

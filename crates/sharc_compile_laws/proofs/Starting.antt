@@ -2,13 +2,10 @@
 use Rattle.std.proofs.Common.{◌≡◌, ℕ, ⊎_elim, length, sym, ap, ◌∙◌, subst, arith}
 use Rattle.sharc_tree.specs.Tree.{Function}
 use Rattle.sharc_ctype.specs.Reaches.{Spawns}
-use Rattle.sharc_ctype_laws.specs.Callable.{IsThread}
-use Rattle.sharc_ctype_laws.specs.Laws.{HasMain, OneFunctionOfName, SpawnsThreads}
-use Rattle.sharc_ctype_laws.specs.Limits.{IsMain}
+use Rattle.sharc_ctype_laws.specs.{Callable.IsThread, Laws.{HasMain, OneFunctionOfName, SpawnsThreads}, Limits.IsMain}
 use Rattle.sharc_mode.specs.Moded.{Assignment}
 use Rattle.sharc_meaning.specs.State.{is_reference}
-use Rattle.sharc_flat.specs.Correct.{MayStart}
-use Rattle.sharc_flat.specs.Flattens.{IsMainOf}
+use Rattle.sharc_flat.specs.{Correct.MayStart, Flattens.IsMainOf}
 use Rattle.sharc_compile_laws.specs.Started.{ThreadsMayStart}
 
 main_may : (m : Assignment) (n : ℕ) (f : Function) → IsMain m.typed n f → MayStart m n

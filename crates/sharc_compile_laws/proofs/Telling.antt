@@ -1,42 +1,20 @@
 -- What the threads of a run report, among the events of all threads.
-use Rattle.std.proofs.Common.{◌≡◌, ℕ, ℤ, zero, suc, ◌+◌, ◌<◌, inl, inr, ⊎_elim, Bool, true, false, cond, List, [], ◌∷◌, ◌++◌, length, map, reverse, refl, sym, ap, ◌∙◌, subst, arith, slice_get}
+use Rattle.std.proofs.{Common.{◌≡◌, ℕ, ℤ, zero, suc, ◌+◌, ◌<◌, inl, inr, ⊎_elim, Bool, true, false, cond, List, [], ◌∷◌, ◌++◌, length, map, reverse, refl, sym, ap, ◌∙◌, subst, arith, slice_get}, lemmas.Bool.Decides.nat_tests, lemmas.List.{append-nil, reverse-reverse}, lemmas.List.Elements.filter-append}
 use Rattle.std.specs.Prelude.{◌==◌, nat_eq, filter, slice_index_or}
-use Rattle.std.proofs.lemmas.Bool.Decides.{nat_tests}
-use Rattle.std.proofs.lemmas.List.{append-nil, reverse-append, reverse-reverse}
-use Rattle.std.proofs.lemmas.List.Elements.{filter-append}
-use Rattle.sharc_tree.specs.declared.event.SourceEvent.{SourceEvent}
-use Rattle.sharc_tree.specs.Tree.{Function}
+use Rattle.sharc_tree.specs.{declared.event.SourceEvent.SourceEvent, Tree.Function}
 use Rattle.sharc_ctype.specs.Resolved.{function_at, functions_in}
 use Rattle.sharc_mode.specs.Moded.{Assignment}
-use Rattle.sharc_meaning.specs.Events.{events_of, is_of}
-use Rattle.sharc_meaning.specs.Meaning.{asks}
-use Rattle.sharc_meaning.specs.Runs.{IsNamedAt, answers_of, by}
-use Rattle.sharc_code.specs.declared.code.Code.{Code}
-use Rattle.sharc_code.specs.declared.code.Function.{Function as Row}
-use Rattle.sharc_code.specs.declared.code.GlobalCells.{GlobalCells}
-use Rattle.sharc_code.specs.Machine.{no_function}
-use Rattle.sharc_code.specs.Runs.{Said, said_by}
-use Rattle.sharc_code.specs.Whole.{Erase}
-use Rattle.sharc_flat_form.specs.declared.flat.Flat.{Flat as FlatCode}
-use Rattle.sharc_flat_form.specs.Made.{flat_of}
-use Rattle.sharc_flat.specs.Flattened.{function_code, rows_of}
-use Rattle.sharc_flat.specs.Flattens.{names_of, Flattens}
-use Rattle.sharc_flat.specs.Laid.{AreNamed}
-use Rattle.sharc_flat.specs.Tables.{globals_of}
-use Rattle.sharc_guard.specs.Guard.{entered_at, place}
-use Rattle.sharc_guard.specs.Known.{dropped}
-use Rattle.sharc_gen.specs.Correct.{begins}
-use Rattle.sharc_gen.specs.Generated.{program_of}
-use Rattle.sharc_gen.specs.OfRuns.{told_in}
-use Rattle.sharc_compile.specs.Made.{IsCodeOf}
-use Rattle.sharc_compile.specs.Runs.{RunsFollowSource}
-use Rattle.sharc_compile.specs.Source.{FollowsSource}
+use Rattle.sharc_meaning.specs.{Events.{events_of, is_of}, Meaning.asks, Runs.{IsNamedAt, answers_of, by}}
+use Rattle.sharc_code.specs.{declared.code.Code.Code, declared.code.Function.{Function as Row}, declared.code.GlobalCells.GlobalCells, Machine.no_function, Runs.{Said, said_by}, Whole.Erase}
+use Rattle.sharc_flat_form.specs.{declared.flat.Flat.{Flat as FlatCode}, Made.flat_of}
+use Rattle.sharc_flat.specs.{Flattened.{function_code, rows_of}, Flattens.{names_of, Flattens}, Laid.AreNamed, Tables.globals_of}
+use Rattle.sharc_guard.specs.{Guard.{entered_at, place}, Known.dropped}
+use Rattle.sharc_gen.specs.{Correct.begins, Generated.program_of, OfRuns.told_in}
+use Rattle.sharc_compile.specs.{Made.IsCodeOf, Runs.RunsFollowSource, Source.FollowsSource}
 use Rattle.sharc_compile_laws.specs.Threads.{TellsIn, ThreadsTell}
+use Rattle.sharc_lemmas.proofs.Lists.{reverse_cons}
 
 -- ---- lists
-reverse_cons : {A : Type 0} (x : A) (xs : List A) → reverse (x ∷ xs) ≡ reverse xs ++ x ∷ []
-reverse_cons x xs = reverse-append (x ∷ []) xs
-
 filter_reverse : (f : SourceEvent → Bool) (xs : List SourceEvent) → filter f (reverse xs) ≡ reverse (filter f xs)
 filter_reverse f [] = refl
 filter_reverse f (x ∷ xs) =

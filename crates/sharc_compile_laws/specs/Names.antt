@@ -3,8 +3,7 @@ use Rattle.std.specs.Prelude.{◌<◌, ℕ, length}
 use Rattle.sharc_ctype.specs.Resolved.{function_at}
 use Rattle.sharc_mode.specs.Moded.{Assignment}
 use Rattle.sharc_meaning.specs.Runs.{IsNamedAt}
-use Rattle.sharc_code.specs.declared.code.Code.{Code}
-use Rattle.sharc_code.specs.Machine.{function_of}
+use Rattle.sharc_code.specs.{declared.code.Code.Code, Machine.function_of}
 use Rattle.sharc_flat_form.specs.declared.flat.Flat.{Flat as FlatCode}
 use Rattle.sharc_flat.specs.Flattens.{Flattens, IsMainOf}
 use Rattle.sharc_compile.specs.Made.{IsCodeOf}

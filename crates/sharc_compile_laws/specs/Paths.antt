@@ -1,31 +1,18 @@
 -- What a path of a thread of the code of a program reports, whatever words it finds: what the program asks for by the answers of the events that are reported.
 use Rattle.std.specs.Prelude.{ℕ, ℤ, pos, ◌+◌, ◌*◌, ◌≡◌, ◌<◌, ◌⊎◌, List, ◌∷◌, ◌++◌, map, reverse}
-use Rattle.sharc_tree.specs.declared.event.Act.TheVariants.{Started}
-use Rattle.sharc_tree.specs.declared.event.SourceEvent.{SourceEvent}
+use Rattle.sharc_tree.specs.{declared.event.Act.TheVariants.Started, declared.event.SourceEvent.SourceEvent}
 use Rattle.sharc_ctype.specs.Resolved.{function_at}
 use Rattle.sharc_mode.specs.Moded.{Assignment}
-use Rattle.sharc_meaning.specs.Meaning.{asks}
-use Rattle.sharc_meaning.specs.Runs.{IsNamedAt, answers_of, by}
-use Rattle.sharc_meaning.specs.State.{spent}
-use Rattle.sharc_code.specs.declared.code.Code.{Code}
-use Rattle.sharc_code.specs.declared.shape.Shape.{Shape}
-use Rattle.sharc_code.specs.Machine.{Machine}
-use Rattle.sharc_code.specs.Paced.{paced_in}
-use Rattle.sharc_code.specs.Path.{begun, machine_after, CodePath}
-use Rattle.sharc_code.specs.Runs.{Turn, turns_of, said_by}
+use Rattle.sharc_meaning.specs.{Meaning.asks, Runs.{IsNamedAt, answers_of, by}, State.spent}
+use Rattle.sharc_code.specs.{declared.code.Code.Code, declared.shape.Shape.Shape, Machine.Machine, Paced.paced_in}
+use Rattle.sharc_code.specs.{Path.{begun, machine_after, CodePath}, Runs.{Turn, turns_of, said_by}}
 use Rattle.sharc_code.specs.Whole.{CheckedRun, Erase, place_after}
-use Rattle.sharc_flat_form.specs.declared.flat.Flat.{Flat as FlatCode}
-use Rattle.sharc_flat_form.specs.Made.{flat_of}
-use Rattle.sharc_flat.specs.Correct.{MayStart}
-use Rattle.sharc_flat.specs.Flattens.{Flattens}
-use Rattle.sharc_flat.specs.Laws.{FitsMade}
+use Rattle.sharc_flat_form.specs.{declared.flat.Flat.{Flat as FlatCode}, Made.flat_of}
+use Rattle.sharc_flat.specs.{Correct.MayStart, Flattens.Flattens, Laws.FitsMade}
 use Rattle.sharc_guard.specs.Correct.{Resolved}
-use Rattle.sharc_gen.specs.Consistent.{Elements, said_in, IsConsistent}
-use Rattle.sharc_gen.specs.Correct.{IsBeginning}
-use Rattle.sharc_gen.specs.Lowered.{lowered_in}
+use Rattle.sharc_gen.specs.{Consistent.{Elements, said_in, IsConsistent}, Correct.IsBeginning, Lowered.lowered_in}
 use Rattle.sharc_gen.specs.OfRuns.{elements_before, founds_of, told_in}
-use Rattle.sharc_compile.specs.Made.{IsCodeOf}
-use Rattle.sharc_compile.specs.Source.{IsOverAs}
+use Rattle.sharc_compile.specs.{Made.IsCodeOf, Source.IsOverAs}
 use Rattle.sharc_flat_laws.specs.Typed.{IsTypedProgram}
 
 -- The thread has reported exactly these events after its Started. With some fuel the program asks for just them, by their

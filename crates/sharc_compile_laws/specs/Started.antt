@@ -1,17 +1,12 @@
 -- Which functions threads have: `main`, and what some function spawns. Each may be started.
 use Rattle.std.specs.Prelude.{◌≡◌, ℕ, ◌⊎◌}
-use Rattle.sharc_tree.specs.Low.{IsLow}
-use Rattle.sharc_tree.specs.Placed.{IsPlaced}
-use Rattle.sharc_ctype.specs.Reaches.{Spawns}
-use Rattle.sharc_ctype.specs.Resolved.{IsResolved}
+use Rattle.sharc_tree.specs.{Low.IsLow, Placed.IsPlaced}
+use Rattle.sharc_ctype.specs.{Reaches.Spawns, Resolved.IsResolved}
 use Rattle.sharc_mode.specs.Moded.{Assignment}
-use Rattle.sharc_code.specs.declared.code.Code.{Code}
-use Rattle.sharc_code.specs.declared.instr.Instr.TheVariants.{Spawn}
-use Rattle.sharc_code.specs.declared.instr.Register.{Register}
-use Rattle.sharc_code.specs.Machine.{instr_at}
+use Rattle.sharc_code.specs.{declared.code.Code.Code, declared.instr.Instr.TheVariants.Spawn}
+use Rattle.sharc_code.specs.{declared.instr.Register.Register, Machine.instr_at}
 use Rattle.sharc_flat_form.specs.declared.flat.Flat.{Flat as FlatCode}
-use Rattle.sharc_flat.specs.Correct.{MayStart}
-use Rattle.sharc_flat.specs.Flattens.{Flattens, IsMainOf}
+use Rattle.sharc_flat.specs.{Correct.MayStart, Flattens.{Flattens, IsMainOf}}
 use Rattle.sharc_compile.specs.Made.{IsCodeOf}
 
 abbrev pub HasThread : Assignment → ℕ → Type 0

@@ -1,24 +1,14 @@
 -- What a thread reports in a checked run of the code of a program, in any interleaving, is what the program asks for by the answers of these events.
 use Rattle.std.specs.Prelude.{ℕ, ℤ, pos, ◌≡◌, ◌⊎◌, List, [], map, reverse}
-use Rattle.sharc_tree.specs.declared.event.Act.TheVariants.{Started}
-use Rattle.sharc_tree.specs.declared.event.SourceEvent.{SourceEvent}
+use Rattle.sharc_tree.specs.{declared.event.Act.TheVariants.Started, declared.event.SourceEvent.SourceEvent}
 use Rattle.sharc_ctype.specs.Resolved.{function_at}
 use Rattle.sharc_mode.specs.Moded.{Assignment}
-use Rattle.sharc_meaning.specs.Events.{Stands, events_of}
-use Rattle.sharc_meaning.specs.Meaning.{asks}
-use Rattle.sharc_meaning.specs.Runs.{IsNamedAt, answers_of, by}
-use Rattle.sharc_code.specs.declared.code.Code.{Code}
-use Rattle.sharc_code.specs.declared.shape.Shape.{Shape}
-use Rattle.sharc_code.specs.Path.{begun}
-use Rattle.sharc_code.specs.Runs.{Turn, turns_of}
+use Rattle.sharc_meaning.specs.{Events.{Stands, events_of}, Meaning.asks, Runs.{IsNamedAt, answers_of, by}}
+use Rattle.sharc_code.specs.{declared.code.Code.Code, declared.shape.Shape.Shape, Path.begun, Runs.{Turn, turns_of}}
 use Rattle.sharc_code.specs.Whole.{CheckedRun, Erase}
-use Rattle.sharc_flat_form.specs.declared.flat.Flat.{Flat as FlatCode}
-use Rattle.sharc_flat_form.specs.Made.{flat_of}
-use Rattle.sharc_flat.specs.Correct.{MayStart, ProgramSuits}
-use Rattle.sharc_flat.specs.Flattens.{Flattens}
-use Rattle.sharc_flat.specs.Laws.{FitsMade}
-use Rattle.sharc_gen.specs.Consistent.{IsConsistent}
-use Rattle.sharc_gen.specs.OfRuns.{elements_before, founds_of, told_in}
+use Rattle.sharc_flat_form.specs.{declared.flat.Flat.{Flat as FlatCode}, Made.flat_of}
+use Rattle.sharc_flat.specs.{Correct.{MayStart, ProgramSuits}, Flattens.Flattens, Laws.FitsMade}
+use Rattle.sharc_gen.specs.{Consistent.IsConsistent, OfRuns.{elements_before, founds_of, told_in}}
 use Rattle.sharc_compile.specs.Made.{IsCodeOf}
 
 -- It begins with the Started of a function, at the name of that; and with some fuel the program asks for exactly the events after it, if the function may be started.

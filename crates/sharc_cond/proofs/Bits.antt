@@ -1,17 +1,8 @@
 -- One bit of a word of waiters, set and cleared.
-use Rattle.std.proofs.Math.Nat.{mod-eq_of_lt}
-use Rattle.std.proofs.Math.Pow.{pow-lt}
-use Rattle.std.proofs.Common.{◌≡◌, ℕ, Some, subst, ◌-◌, ◌*◌, ◌^◌, ◌/◌, ◌%◌, ◌<◌, ◌≤◌, ◌==◌, ◌||◌, ◌&&◌, Bool, true, false, not, nat_eq, min, bit_and, bit_or, refl, sym, ap, ◌∙◌, inl, inr, arith, w64}
+use Rattle.std.proofs.{Math.Nat.mod-eq_of_lt, Math.Pow.pow-lt, Common.{◌≡◌, ℕ, Some, subst, ◌-◌, ◌*◌, ◌^◌, ◌/◌, ◌%◌, ◌<◌, ◌≤◌, ◌==◌, ◌||◌, ◌&&◌, Bool, true, false, not, nat_eq, min, bit_and, bit_or, refl, sym, ap, ◌∙◌, inl, inr, arith, w64}, lemmas.Nat.Bits.{bit_at-zero, bit_at-lt, bit_at_and, bit_at_above, same_from_bits, shr_and_one, bit_at_set_same, bit_at_set_other, bit_at_clear_same, bit_at_clear_other, bit_at-trailing_zeros}, lemmas.Bool.{cases_eq, cases_lt, eq-eqb, ne_eqb, or_right, and_right, and_left}}
 use Rattle.std.specs.Int.{bit_at, bit_not, trailing_zeros}
-use Rattle.std.proofs.lemmas.Nat.Bits.{bit_at-zero, bit_at-lt, bit_at_and, bit_at_above, same_from_bits, shr_and_one, bit_at_set_same, bit_at_set_other, bit_at_clear_same, bit_at_clear_other, bit_at-trailing_zeros}
-use Rattle.std.proofs.lemmas.Bool.{cases_eq, cases_lt, eq-eqb, ne_eqb, or_right, and_right, and_left}
-use Rattle.std.proofs.lemmas.Bool.Decides.{nat_tests}
-use Rattle.sharc_cond.specs.Waiters.{waits_in, lowest_of, without_lowest, woken, AddsWaiter, TakesAwayFirst}
-use Rattle.sharc_cond.specs.Laws.{OrEnters, OrWaits, OrLeavesOthers, LowestIsTakenAway}
-
-or_false : (b : Bool) → b ≡ (b || false)
-or_false true = refl
-or_false false = refl
+use Rattle.sharc_cond.specs.{Waiters.{waits_in, lowest_of, without_lowest, woken, AddsWaiter, TakesAwayFirst}, Laws.{OrEnters, OrWaits, OrLeavesOthers, LowestIsTakenAway}}
+use Rattle.sharc_lemmas.proofs.{Bools.{or_false2 as or_false}, Numbers.same_bit}
 
 and_true : (b : Bool) → b ≡ (b && true)
 and_true true = refl
@@ -104,9 +95,6 @@ waits_read word thread = ap (λ b. nat_eq b 1) (shr_and_one word thread)
 pub nobody_in_zero : (k : ℕ) → waits_in 0 k ≡ false
 unfolding waits_in
 nobody_in_zero k = ap (λ b. b == 1) (bit_at-zero k)
-
-same_bit : (x y : ℕ) → x < 2 → y < 2 → (x == 1) ≡ (y == 1) → x ≡ y
-same_bit x y x_bit y_bit same = grind (arith, nat_tests)
 
 pub same_from_waiters : (a b : ℕ) → ((k : ℕ) → waits_in a k ≡ waits_in b k) → a ≡ b
 unfolding waits_in

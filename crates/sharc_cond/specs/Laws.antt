@@ -1,8 +1,6 @@
 -- What holds of every word of waiters, with no call at hand.
 use Rattle.std.specs.Prelude.{◌≡◌, ◌≢◌, ℕ, ◌^◌, ◌<◌, true, false}
-use Rattle.sharc_word.specs.declared.step.TheConstants.{THREADS}
-use Rattle.sharc_word.specs.declared.step.WordOp.TheVariants.{Or}
-use Rattle.sharc_word.specs.Words.{word_after}
+use Rattle.sharc_word.specs.{declared.step.TheConstants.THREADS, declared.step.WordOp.TheVariants.Or, Words.word_after}
 use Rattle.sharc_cond.specs.Waiters.{waits_in, lowest_of, without_lowest, AddsWaiter, TakesAwayFirst}
 
 -- in the word 0 nobody waits

@@ -1,11 +1,7 @@
 -- The inferred positions are closed under the links, and are the least that are.
 use Rattle.std.proofs.Common.{◌≡◌, ℕ, List, [], ◌∷◌, ◌++◌, refl, sym, subst, inl, inr}
-use Rattle.sharc_graph.specs.declared.graph.Finding.{Finding}
-use Rattle.sharc_graph.specs.declared.graph.Finding.TheVariants.{Apart, Source, Behind}
-use Rattle.sharc_graph.specs.Findings.{finding_at}
-use Rattle.sharc_graph.specs.Paths.{last_of}
-use Rattle.sharc_constraints.specs.Flow.{Flow, IsUnwritten, IsSource, IsFirstFor, HasEdge, IsEqual, Follow, LeadsTo, IsInferred, AreInferred}
-use Rattle.sharc_constraints.specs.Laws.{IsDynamic, IsClosed}
+use Rattle.sharc_graph.specs.{declared.graph.Finding.Finding, declared.graph.Finding.TheVariants.{Apart, Source, Behind}, Findings.finding_at, Paths.last_of}
+use Rattle.sharc_constraints.specs.{Flow.{Flow, IsUnwritten, IsSource, IsFirstFor, HasEdge, IsEqual, Follow, LeadsTo, IsInferred, AreInferred}, Laws.{IsDynamic, IsClosed}}
 
 module _ (f : Flow) where
   -- ---- one edge more

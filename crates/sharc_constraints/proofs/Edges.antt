@@ -1,14 +1,9 @@
 -- The edges that are kept are those by which a path may go on.
-use Rattle.std.proofs.Common.{◌≡◌, ℕ, zero, suc, ◌+◌, ◌<◌, ◌≤◌, ◌⊎◌, Bool, true, false, cond, List, [], ◌∷◌, ◌++◌, length, get_or, take, map, refl, sym, ap, ◌∙◌, inl, inr, arith}
+use Rattle.std.proofs.{Common.{◌≡◌, ℕ, zero, suc, ◌+◌, ◌<◌, ◌≤◌, ◌⊎◌, Bool, true, false, cond, List, [], ◌∷◌, ◌++◌, length, get_or, take, map, refl, sym, ap, ◌∙◌, inl, inr, arith}, lemmas.Bool.cases_Bool, lemmas.List.{take_more, append-nil}, lemmas.List.Elements.{All-nil, All-cons, All-head, All-tail}}
 use Rattle.std.specs.List.{Contains, All}
-use Rattle.std.proofs.lemmas.Bool.{cases_Bool}
-use Rattle.std.proofs.lemmas.List.{take_more, append-nil}
-use Rattle.std.proofs.lemmas.List.Elements.{All-nil, All-cons, All-head, All-tail}
-use Rattle.sharc_graph.specs.declared.graph.Edge.{Edge}
-use Rattle.sharc_graph.specs.Paths.{edge_of, node_at, IsWithin}
-use Rattle.sharc_constraints.specs.declared.place.Place.{Place}
-use Rattle.sharc_constraints.specs.declared.place.Link.{Link}
-use Rattle.sharc_constraints.specs.Flow.{place_at, link_of, leads, kept_edges, node_of}
+use Rattle.sharc_graph.specs.{declared.graph.Edge.Edge, Paths.{edge_of, node_at, IsWithin}}
+use Rattle.sharc_constraints.specs.{declared.place.Place.Place, declared.place.Link.Link, Flow.{place_at, link_of, leads, kept_edges, node_of}}
+use Rattle.sharc_lemmas.proofs.Lists.{contains_behind}
 
 -- ---- as they are made
 kept_push : (places : List Place) (links : List Link) (link : Link) → kept_edges places (links ++ link ∷ []) ≡ kept_edges places links ++ kept_edges places (link ∷ [])
@@ -43,9 +38,6 @@ kept_within n places (x ∷ rest) all =
 -- ---- the links of an edge
 contains_here : {X : Type 0} (y : X) (rest : List X) (x : X) → y ≡ x → Contains (y ∷ rest) x
 contains_here y rest x is = (0, omega arith, is)
-
-contains_behind : {X : Type 0} (y : X) (rest : List X) (x : X) → Contains rest x → Contains (y ∷ rest) x
-contains_behind y rest x has = let inside = has.1 in (suc has.0, omega arith, has.2)
 
 contains_cases_at : {X : Type 0} (y : X) (rest : List X) (x : X) (k : ℕ) → k < length (y ∷ rest) → get_or (y ∷ rest) k x ≡ x → (y ≡ x) ⊎ Contains rest x
 contains_cases_at y rest x zero inside is = inl is

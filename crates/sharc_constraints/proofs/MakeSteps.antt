@@ -1,11 +1,7 @@
 -- One depth more.
-use Rattle.std.proofs.Common.{◌≡◌, ℕ, suc, ◌+◌, true, false, List, [], ◌∷◌, ◌++◌, ap, ◌∙◌, arith, append_assoc}
-use Rattle.sharc_constraints.specs.declared.place.Link.{Link}
-use Rattle.sharc_constraints.specs.Flow.{link_of}
-use Rattle.sharc_constraints.specs.Make.{equal_links, below_links}
-
-next : (n : ℕ) → suc n ≡ n + 1
-next n = omega arith
+use Rattle.std.proofs.Common.{◌≡◌, ℕ, ◌+◌, true, false, List, [], ◌∷◌, ◌++◌, ap, ◌∙◌, append_assoc}
+use Rattle.sharc_constraints.specs.{declared.place.Link.Link, Flow.link_of, Make.{equal_links, below_links}}
+use Rattle.sharc_lemmas.proofs.Numbers.{next}
 
 pub equal_more : (links new : List Link) (first second depth : ℕ) → new ≡ ((links ++ equal_links first second depth) ++ link_of (first + depth) (second + depth) false ∷ []) ++ link_of (second + depth) (first + depth) false ∷ [] → new ≡ links ++ equal_links first second (depth + 1)
 equal_more links new first second depth is =

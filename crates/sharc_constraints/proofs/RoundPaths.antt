@@ -1,17 +1,9 @@
 -- Final ranks are those of the shortest paths, and the lowest links to a position its reason.
-use Rattle.std.proofs.Common.{◌≡◌, ℕ, zero, suc, ◌+◌, ◌<◌, ◌≤◌, ◌⊎◌, Bool, true, false, List, [], ◌∷◌, ◌++◌, length, get_or, Option, Some, None, refl, sym, ap, ◌∙◌, subst, inl, inr, arith}
+use Rattle.std.proofs.{Common.{◌≡◌, ℕ, zero, suc, ◌+◌, ◌<◌, ◌≤◌, ◌⊎◌, Bool, true, false, List, [], ◌∷◌, ◌++◌, length, get_or, Option, Some, None, refl, sym, ap, ◌∙◌, subst, inl, inr, arith}, lemmas.Bool.false≢true, lemmas.List.get_or_default}
 use Rattle.std.specs.List.{Contains}
-use Rattle.std.proofs.lemmas.Bool.{false≢true}
-use Rattle.std.proofs.lemmas.List.{get_or_default}
 use Rattle.sharc_graph.specs.Paths.{last_of}
-use Rattle.sharc_constraints.specs.declared.place.Place.{Place}
-use Rattle.sharc_constraints.specs.declared.place.Place.TheVariants.{Root, Unwritten, Dynamic, Private, Other}
-use Rattle.sharc_constraints.specs.declared.place.Link.{Link}
-use Rattle.sharc_constraints.specs.Flow.{Flow, place_at, link_of, is_unwritten, is_source, IsUnwritten, IsSource, LeadsDown, HasEdge, IsFirstFor, Follow, LeadsTo, IsRank, IsRankFor, IsReason}
-use Rattle.sharc_constraints.specs.Rounds.{Ranks, rank_at, link_at, rank_by, rank_for, IsFound, HasRank, IsServed, AreFinal, IsLowest, IsSome}
-use Rattle.sharc_constraints.proofs.Closed.{path_more}
-use Rattle.sharc_constraints.proofs.SamePaths.{end_unwritten}
-use Rattle.sharc_constraints.proofs.RoundSteps.{none_some, same_rank}
+use Rattle.sharc_constraints.specs.{declared.place.Place.Place, declared.place.Place.TheVariants.{Root, Unwritten, Dynamic, Private, Other}, declared.place.Link.Link, Flow.{Flow, place_at, link_of, is_unwritten, is_source, IsUnwritten, IsSource, LeadsDown, HasEdge, IsFirstFor, Follow, LeadsTo, IsRank, IsRankFor, IsReason}, Rounds.{Ranks, rank_at, link_at, rank_by, rank_for, IsFound, HasRank, IsServed, AreFinal, IsLowest, IsSome}}
+use Rattle.sharc_constraints.proofs.{Closed.path_more, SamePaths.end_unwritten, RoundSteps.{none_some, same_rank}}
 
 -- ---- places
 root_of : (place : Place) → is_source place ≡ true → is_unwritten place ≡ true → place ≡ Root

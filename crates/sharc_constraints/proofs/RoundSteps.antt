@@ -1,14 +1,7 @@
 -- What following a link, a round and all rounds make of the ranks.
-use Rattle.std.proofs.Common.{◌≡◌, ℕ, zero, suc, ◌+◌, ◌<◌, ◌≤◌, ◌⊎◌, min, Bool, true, false, cond, ◌&&◌, List, [], ◌∷◌, length, map, Option, Some, None, refl, sym, ap, ◌∙◌, subst, inl, inr, arith}
+use Rattle.std.proofs.{Common.{◌≡◌, ℕ, zero, suc, ◌+◌, ◌<◌, ◌≤◌, ◌⊎◌, min, Bool, true, false, cond, ◌&&◌, List, [], ◌∷◌, length, map, Option, Some, None, refl, sym, ap, ◌∙◌, subst, inl, inr, arith}, lemmas.Bool.{cases_eq, cases_lt, cases_Bool, and_parts, and_cases, eq-eqb, eqb-true, false≢true}, lemmas.List.{length-set, get_or-set_same, get_or-set_other, length-map}, lemmas.List.Sums.{sum_by-set, count_by-le-length}}
 use Rattle.std.specs.Prelude.{nat_eq, slice_set}
-use Rattle.std.proofs.lemmas.Bool.{cases_eq, cases_lt, cases_Bool, and_parts, and_cases, eq-eqb, eqb-true, false≢true}
-use Rattle.std.proofs.lemmas.List.{length-set, get_or-set_same, get_or-set_other, length-map}
-use Rattle.std.proofs.lemmas.List.Sums.{sum_by-set, count_by-le-length}
-use Rattle.sharc_constraints.specs.declared.place.Place.{Place}
-use Rattle.sharc_constraints.specs.declared.place.Place.TheVariants.{Root, Unwritten, Dynamic, Private, Other}
-use Rattle.sharc_constraints.specs.declared.place.Link.{Link}
-use Rattle.sharc_constraints.specs.Flow.{Flow, flow_of, place_at, is_unwritten}
-use Rattle.sharc_constraints.specs.Rounds.{Ranks, rank_at, link_at, first_rank, rank_by, rank_for, is_none, is_rank, is_next, ranks_behind, IsFound, IsServed, AreRanks, AreUpTo, unranked, AreFinal, IsLowest, IsSome}
+use Rattle.sharc_constraints.specs.{declared.place.Place.Place, declared.place.Place.TheVariants.{Root, Unwritten, Dynamic, Private, Other}, declared.place.Link.Link, Flow.{Flow, flow_of, place_at, is_unwritten}, Rounds.{Ranks, rank_at, link_at, first_rank, rank_by, rank_for, is_none, is_rank, is_next, ranks_behind, IsFound, IsServed, AreRanks, AreUpTo, unranked, IsLowest, IsSome}}
 
 -- ---- tests
 three_true : (a b c : Bool) → (a && (b && c)) ≡ true → (a ≡ true) × (b ≡ true) × (c ≡ true)
@@ -57,14 +50,6 @@ by_back Unwritten o new below rank T back is = back rank is
 by_back Dynamic o new below rank T back is = inl is
 by_back Private o new below rank T back is = inl is
 by_back Other o new below rank T back is = inl is
-
-by_low : (place : Place) (o : Option ℕ) (below : Bool) (rank most : ℕ) → ((r : ℕ) → o ≡ Some r → r ≤ most) → rank_by place o below ≡ Some rank → rank ≤ most
-by_low Root o below rank most low is = let zero_is : 0 ≡ rank = same_rank (Some 0) 0 rank refl is in omega arith
-by_low Unwritten o below rank most low is = low rank is
-by_low Dynamic o below rank most low is = let zero_is : 0 ≡ rank = same_rank (Some 0) 0 rank refl is in omega arith
-by_low Private o below rank most low is = absurd (none_some None rank refl is)
-by_low Other o true rank most low is = let zero_is : 0 ≡ rank = same_rank (Some 0) 0 rank refl is in omega arith
-by_low Other o false rank most low is = absurd (none_some None rank refl is)
 
 -- ---- one position more
 module _ (f : Flow) (ranks : Ranks) (i round : ℕ) (so_far : AreRanks f ranks round i) (inside : i < length f.links) (within : (link_at f.links i).edge.to < length f.places) where
@@ -231,35 +216,6 @@ begun places links ranks is =
     found : (p r : ℕ) → first_rank (place_at places p) ≡ Some r → IsFound (flow_of places links) ranks p r
     found p zero at = first_root (place_at places p) 0 at
     found p (suc r) at = let zero_is = first_zero (place_at places p) (suc r) at in absurd (omega arith)
-
-pub round_more : (f : Flow) (ranks : Ranks) (round : ℕ) → AreRanks f ranks round (length f.links) → AreRanks f ranks (round + 1) 0
-round_more f ranks round has =
-    record {
-      size = has.size;
-      roots = has.roots;
-      found = has.found;
-      low = λ p r at. let low = has.low p r at in omega arith;
-      before = λ j r within below. elim (cases_lt r round) [
-        | inl less ↦ has.before j r within less
-        | inr more ↦ let same : round ≡ r = omega arith in subst (IsServed f ranks (link_at f.links j)) same (has.now j within within)
-      ];
-      now = λ j within below. absurd (omega arith);
-    }
-
-pub ended : (f : Flow) (ranks : Ranks) (round : ℕ) → AreRanks f ranks round (length f.links) → AreUpTo ranks round → round ≤ length f.places → AreFinal f ranks
-ended f ranks round has low few =
-    record {
-      size = has.size;
-      roots = has.roots;
-      found = has.found;
-      low = λ p r at. let up = low p r at in omega arith;
-      served = λ j r within. λ is free.
-          let up = by_low (place_at f.places (link_at f.links j).edge.from) (rank_at ranks (link_at f.links j).edge.from) (link_at f.links j).below r round (low (link_at f.links j).edge.from) is in
-          elim (cases_lt r round) [
-            | inl less ↦ has.before j r within less is free
-            | inr more ↦ let same : round ≡ r = omega arith in subst (IsServed f ranks (link_at f.links j)) same (has.now j within within) is free
-          ];
-    }
 
 -- ---- the lowest so far
 -- the link leads to the position, from one that is of the rank below for it

@@ -1,17 +1,8 @@
 -- The paths of the graph are those of the positions and links.
-use Rattle.std.proofs.Common.{◌≡◌, ℕ, zero, suc, ◌<◌, ◌⊎◌, Bool, true, false, List, [], ◌∷◌, length, map, refl, sym, ap, ◌∙◌, subst, inl, inr, arith}
+use Rattle.std.proofs.{Common.{◌≡◌, ℕ, zero, suc, ◌<◌, ◌⊎◌, Bool, true, false, List, [], ◌∷◌, length, map, refl, sym, ap, ◌∙◌, subst, inl, inr, arith}, lemmas.Bool.{false≢true, cases_lt}, lemmas.List.{length-map, get_or_past}}
 use Rattle.std.specs.List.{Contains}
-use Rattle.std.proofs.lemmas.Bool.{false≢true, cases_lt}
-use Rattle.std.proofs.lemmas.List.{length-map, get_or_past}
-use Rattle.sharc_graph.specs.declared.graph.Node.{Node}
-use Rattle.sharc_graph.specs.declared.graph.Finding.{Finding}
-use Rattle.sharc_graph.specs.declared.graph.Finding.TheVariants.{Apart, Source, Behind}
-use Rattle.sharc_graph.specs.Findings.{finding_at}
-use Rattle.sharc_graph.specs.Paths.{Graph, graph_of, last_of, AreFindings, IsFinding}
-use Rattle.sharc_graph.specs.Paths.{HasEdge as GraphEdge, IsSource as GraphSource, IsFree as GraphFree, Follow as GraphFollow, LeadsTo as GraphPath, IsRank as GraphRank, IsReason as GraphReason}
-use Rattle.sharc_constraints.specs.declared.place.Place.{Place}
-use Rattle.sharc_constraints.specs.declared.place.Place.TheVariants.{Root, Unwritten, Dynamic, Private, Other}
-use Rattle.sharc_constraints.specs.Flow.{Flow, place_at, is_unwritten, is_source, IsUnwritten, LeadsDown, HasEdge, IsFirstFor, Follow, LeadsTo, IsRank, IsRankFor, IsReason, IsInferred, AreInferred, node_of, leads, link_of, kept_edges}
+use Rattle.sharc_graph.specs.{declared.graph.Node.Node, declared.graph.Finding.Finding, declared.graph.Finding.TheVariants.{Apart, Source, Behind}, Findings.finding_at, Paths.{Graph, graph_of, last_of, AreFindings, IsFinding, HasEdge as GraphEdge, IsSource as GraphSource, IsFree as GraphFree, Follow as GraphFollow, LeadsTo as GraphPath, IsRank as GraphRank, IsReason as GraphReason}}
+use Rattle.sharc_constraints.specs.{declared.place.Place.Place, declared.place.Place.TheVariants.{Root, Unwritten, Dynamic, Private, Other}, Flow.{Flow, place_at, is_unwritten, is_source, IsUnwritten, LeadsDown, HasEdge, IsFirstFor, Follow, LeadsTo, IsRank, IsRankFor, IsReason, IsInferred, AreInferred, node_of, leads, link_of, kept_edges}}
 use Rattle.sharc_constraints.proofs.Edges.{node_is, link_from_edge, edge_from_link}
 
 abbrev pub graph : Flow → Graph
@@ -100,10 +91,6 @@ module _ (f : Flow) where
   edge_from_first : (p q : ℕ) → IsFirstFor f p q → GraphEdge (kept_edges f.places f.links) p q
   edge_from_first p q (inl has) = graph_edge p q (λ below. leads_from_source (place_at f.places p) below has.0) has.1
   edge_from_first p q (inr has) = edge_from_link f.places f.links p q true has.1 (ap (λ x. leads x true) has.0)
-
-  flow_edge_from_first : (p q : ℕ) → IsFirstFor f p q → HasEdge f p q
-  flow_edge_from_first p q (inl has) = has.1
-  flow_edge_from_first p q (inr has) = inl has.1
 
   -- ---- paths
   follow_from_graph : (p : ℕ) (rest : List ℕ) → GraphFollow (graph f) p rest → Follow f p rest

@@ -1,11 +1,8 @@
 -- The least assignment: which unwritten positions are dynamic, their ranks and reasons.
 use Rattle.std.specs.Prelude.{◌≡◌, ℕ, zero, suc, ◌+◌, ◌≤◌, ◌⊎◌, Bool, true, false, List, [], ◌∷◌, length, slice_index_or, if◌then◌else◌}
 use Rattle.std.specs.List.{Contains}
-use Rattle.sharc_graph.specs.declared.graph.Node.{Node}
-use Rattle.sharc_graph.specs.declared.graph.Edge.{Edge}
-use Rattle.sharc_graph.specs.declared.graph.Finding.{Finding}
-use Rattle.sharc_graph.specs.declared.graph.Finding.TheVariants.{Apart, Source, Behind}
-use Rattle.sharc_graph.specs.Findings.{finding_at}
+use Rattle.sharc_graph.specs.{declared.graph.Node.Node, declared.graph.Edge.Edge, declared.graph.Finding.Finding}
+use Rattle.sharc_graph.specs.{declared.graph.Finding.TheVariants.{Apart, Source, Behind}, Findings.finding_at}
 use Rattle.sharc_graph.specs.Paths.{edge_of, last_of}
 use Rattle.sharc_constraints.specs.declared.place.Place.{Place}
 use Rattle.sharc_constraints.specs.declared.place.Place.TheVariants.{Root, Unwritten, Dynamic, Private, Other}

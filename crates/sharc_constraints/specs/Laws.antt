@@ -1,7 +1,6 @@
 -- What the inferred modes are to those who argue with them: they have what the links ask for, and no more.
 use Rattle.std.specs.Prelude.{◌≡◌, ℕ, Bool, true, List}
-use Rattle.sharc_graph.specs.declared.graph.Finding.{Finding}
-use Rattle.sharc_graph.specs.declared.graph.Finding.TheVariants.{Apart}
+use Rattle.sharc_graph.specs.{declared.graph.Finding.Finding, declared.graph.Finding.TheVariants.Apart}
 use Rattle.sharc_graph.specs.Findings.{finding_at}
 use Rattle.sharc_constraints.specs.Flow.{Flow, IsUnwritten, IsSource, IsFirstFor, HasEdge, IsEqual, LeadsTo, AreInferred}
 

@@ -1,7 +1,6 @@
 -- The links that types give.
 use Rattle.std.specs.Prelude.{ℕ, zero, suc, ◌+◌, true, false, List, [], ◌∷◌, ◌++◌}
-use Rattle.sharc_constraints.specs.declared.place.Link.{Link}
-use Rattle.sharc_constraints.specs.Flow.{link_of}
+use Rattle.sharc_constraints.specs.{declared.place.Link.Link, Flow.link_of}
 
 -- this many positions from the first on are equal to those from the second on
 abbrev pub equal_links : (first second depths : ℕ) → List Link

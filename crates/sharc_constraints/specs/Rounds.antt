@@ -2,8 +2,7 @@
 use Rattle.std.specs.Prelude.{◌≡◌, ℕ, zero, suc, ◌+◌, ◌<◌, ◌≤◌, ◌⊎◌, Bool, true, false, ◌&&◌, List, length, slice_index_or, slice_set, count_by, if◌then◌else◌, Option, Some, None, nat_eq}
 use Rattle.sharc_constraints.specs.declared.place.Place.{Place}
 use Rattle.sharc_constraints.specs.declared.place.Place.TheVariants.{Root, Unwritten, Dynamic, Private, Other}
-use Rattle.sharc_constraints.specs.declared.place.Link.{Link}
-use Rattle.sharc_constraints.specs.Flow.{Flow, place_at, link_of, is_unwritten}
+use Rattle.sharc_constraints.specs.{declared.place.Link.Link, Flow.{Flow, place_at, link_of, is_unwritten}}
 
 abbrev pub Ranks : Type 0
 Ranks = List (Option ℕ)

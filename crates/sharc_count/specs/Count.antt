@@ -1,7 +1,6 @@
 -- The steps of an object's count word.
 use Rattle.std.specs.Prelude.{ℕ}
-use Rattle.sharc_word.specs.declared.step.WordStep.{WordStep}
-use Rattle.sharc_word.specs.declared.step.WordOp.TheVariants.{Load, Add, Sub}
+use Rattle.sharc_word.specs.{declared.step.WordStep.WordStep, declared.step.WordOp.TheVariants.{Load, Add, Sub}}
 
 -- one reference more
 abbrev pub raise_of : ℕ → WordStep

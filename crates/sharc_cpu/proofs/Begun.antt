@@ -2,11 +2,7 @@
 use Rattle.std.proofs.Common.{◌≡◌, ℕ, ℤ, List, None}
 use Rattle.sharc_locks.specs.declared.held_log.HeldMutex.{HeldMutex}
 use Rattle.sharc_shadow.specs.Accesses.{Accesses}
-use Rattle.sharc_code.specs.declared.state.At.{At}
-use Rattle.sharc_code.specs.declared.state.Frame.{Frame}
-use Rattle.sharc_code.specs.declared.state.Print.{Print}
-use Rattle.sharc_code.specs.declared.state.Stage.TheVariants.{Rests}
-use Rattle.sharc_code.specs.Machine.{Machine}
+use Rattle.sharc_code.specs.{declared.state.At.At, declared.state.Frame.Frame, declared.state.Print.Print, declared.state.Stage.TheVariants.Rests, Machine.Machine}
 
 abbrev pub fresh : At → List ℤ → List ℕ → List Frame → ℕ → ℕ → Accesses → List HeldMutex → List ℕ → List Print → Machine
 fresh at ints refs frames number function table held heads prints = record {

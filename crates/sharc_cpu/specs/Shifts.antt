@@ -1,7 +1,6 @@
 -- The counts of shifts.
 use Rattle.std.specs.Prelude.{ℤ, pos, negsuc, ◌+◌, Bool, false, nat_lt}
-use Rattle.sharc_code.specs.declared.instr.Width.{Width}
-use Rattle.sharc_code.specs.Arithmetic.{value_bits}
+use Rattle.sharc_code.specs.{declared.instr.Width.Width, Arithmetic.value_bits}
 
 -- the count is one of the bits of the type
 abbrev pub is_count : Width → ℤ → Bool

@@ -1,20 +1,8 @@
 -- Calls and their arguments.
-use Rattle.std.proofs.Common.{◌≡◌, ℕ, ◌+◌, ◌<◌, Bool, true, false, ◌&&◌, List, [], ◌∷◌, ◌++◌, length, drop, get_or, fold, refl, ap, sym, ◌∙◌, Option, is_some, add-one, drop-cons}
-use Rattle.std.proofs.lemmas.List.Sums.{fold-append}
-use Rattle.sharc_tree.specs.declared.token.Span.{Span}
-use Rattle.sharc_tree.specs.declared.tree.declaration.Identifier.{Identifier}
-use Rattle.sharc_tree.specs.declared.tree.expression.Expr.{Expr}
-use Rattle.sharc_tree.specs.Tree.{Expression, call}
-use Rattle.sharc_tree.specs.View.{view_expr, view_arguments}
-use Rattle.sharc_names.specs.declared.need.Need.TheVariants.{Value}
-use Rattle.sharc_names.specs.declared.scope.Scope.{Scope}
-use Rattle.sharc_names.specs.Kinds.{Kind}
-use Rattle.sharc_names.specs.Names.{Entry, look_up}
-use Rattle.sharc_names.specs.Notes.{Note, Findings, noted}
-use Rattle.sharc_names.specs.Needs.{met, unmet, agreed, unagreed}
-use Rattle.sharc_names.specs.Wants.{first_wanted}
-use Rattle.sharc_ctype.specs.declared.expr.Standing.{Standing}
-use Rattle.sharc_ctype.specs.Expressions.{count, wanted, call_result, call_kind, callee_notes, type_of, are_fine, notes_at, notes_of, notes_of_all}
+use Rattle.std.proofs.{Common.{◌≡◌, ℕ, ◌+◌, ◌<◌, Bool, true, false, ◌&&◌, List, [], ◌∷◌, ◌++◌, length, drop, get_or, fold, refl, ap, sym, ◌∙◌, Option, is_some, add-one, drop-cons}, lemmas.List.Sums.fold-append}
+use Rattle.sharc_tree.specs.{declared.token.Span.Span, declared.tree.declaration.Identifier.Identifier, declared.tree.expression.Expr.Expr, Tree.{Expression, call}, View.{view_expr, view_arguments}}
+use Rattle.sharc_names.specs.{declared.need.Need.TheVariants.Value, declared.scope.Scope.Scope, Kinds.Kind, Names.{Entry, look_up}, Notes.{Note, Findings, noted}, Needs.{met, unmet, agreed, unagreed}, Wants.first_wanted}
+use Rattle.sharc_ctype.specs.{declared.expr.Standing.Standing, Expressions.{count, wanted, call_result, call_kind, callee_notes, type_of, are_fine, notes_at, notes_of, notes_of_all}}
 
 count_is : (list : List Expr) → count (view_arguments list) ≡ length list
 count_is [] = refl

@@ -1,14 +1,9 @@
 -- The place of the first declaration of a token.
-use Rattle.std.proofs.Common.{◌≡◌, ℕ, suc, ◌+◌, ◌<◌, ◌==◌, Bool, true, false, cond, List, [], ◌∷◌, ◌++◌, length, add-one, refl, ap, sym, ◌∙◌, arith, Option, Some, None}
-use Rattle.std.specs.List.{position_from, slice_get}
-use Rattle.std.specs.Option.{option_or, option_map, option_and_then}
+use Rattle.std.proofs.Common.{◌≡◌, ℕ, suc, ◌+◌, ◌<◌, ◌==◌, Bool, true, false, cond, List, [], ◌∷◌, ◌++◌, length, refl, ap, sym, ◌∙◌, arith, Option, Some, None}
+use Rattle.std.specs.{List.{position_from, slice_get}, Option.{option_or, option_map, option_and_then}}
 use Rattle.sharc_tree.specs.declared.tree.declaration.Declaration.{Declaration}
-use Rattle.sharc_ctype.specs.Resolved.{declared_at}
-use Rattle.sharc_ctype.specs.FirstPlaces.{place_of, PlaceRows, HasPlace, HasFirstPlaces}
-
-or_either : (b : Bool) (k : ℕ) (o p : Option ℕ) → cond b (Some k) (option_or o p) ≡ option_or (cond b (Some k) o) p
-or_either true k o p = refl
-or_either false k o p = refl
+use Rattle.sharc_ctype.specs.{Resolved.declared_at, FirstPlaces.{place_of, PlaceRows, HasPlace, HasFirstPlaces}}
+use Rattle.sharc_ctype.proofs.EntityLemmas.{shifted_either, or_either}
 
 position_end : (t : Declaration → Bool) (k : ℕ) (list : List Declaration) (d : Declaration)
     → position_from t k (list ++ d ∷ []) ≡ option_or (position_from t k list) (cond (t d) (Some (k + length list)) None)
@@ -25,10 +20,6 @@ first_pushed list d place old new last first has token =
     ∙ ap (λ o. option_or o (cond (t d) (Some place) None)) (first token)
     ∙ ap (λ n. option_or (place_of list token) (cond (t d) (Some n) None)) (let e : place ≡ 0 + length list = omega arith in e)
     ∙ sym (position_end t 0 list d)
-
-shifted_either : (b : Bool) (k : ℕ) (o : Option ℕ) → cond b (Some (k + 1)) (option_map suc o) ≡ option_map suc (cond b (Some k) o)
-shifted_either true k o = ap Some (add-one k)
-shifted_either false k o = refl
 
 shifted : (t : Declaration → Bool) (k : ℕ) (list : List Declaration) → position_from t (k + 1) list ≡ option_map suc (position_from t k list)
 shifted t k [] = refl

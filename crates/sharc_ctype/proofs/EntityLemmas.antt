@@ -1,14 +1,9 @@
 -- The place of the first entity that two tokens determine, and the numbers of first positions.
-use Rattle.std.proofs.Common.{◌≡◌, ℕ, suc, ◌+◌, ◌<◌, ◌==◌, ◌&&◌, Bool, true, false, cond, List, [], ◌∷◌, ◌++◌, length, add-one, refl, ap, sym, subst, ◌∙◌, arith, Option, Some, None, is_some, Bor}
-use Rattle.std.proofs.lemmas.Bool.{eqb-true}
-use Rattle.std.specs.List.{position_from, slice_get, find}
-use Rattle.std.specs.Option.{option_or, option_map, option_and_then, option_copied}
-use Rattle.sharc_ctype.specs.declared.entity.Entity.{Entity}
-use Rattle.sharc_ctype.specs.declared.entity.Numbered.{Numbered}
-use Rattle.sharc_ctype.specs.Entities.{is_told_by, numbered, numbered_from, numbered_at, positions_in, positions_of}
-use Rattle.sharc_ctype.specs.FirstEntities.{row_at, entity_place, EntityRows, HasEntityPlace, HasFirstEntities, entities_of, AreNumbered}
+use Rattle.std.proofs.{Common.{◌≡◌, ℕ, suc, ◌+◌, ◌<◌, ◌==◌, ◌&&◌, Bool, true, false, cond, List, [], ◌∷◌, ◌++◌, length, add-one, refl, ap, sym, subst, ◌∙◌, arith, Option, Some, None, is_some, Bor}, lemmas.Bool.eqb-true}
+use Rattle.std.specs.{List.{position_from, slice_get, find}, Option.{option_or, option_map, option_and_then, option_copied}}
+use Rattle.sharc_ctype.specs.{declared.entity.Entity.Entity, declared.entity.Numbered.Numbered, Entities.{is_told_by, numbered, numbered_from, numbered_at, positions_in, positions_of}, FirstEntities.{row_at, entity_place, EntityRows, HasEntityPlace, HasFirstEntities, entities_of, AreNumbered}}
 
-or_either : (b : Bool) (k : ℕ) (o p : Option ℕ) → cond b (Some k) (option_or o p) ≡ option_or (cond b (Some k) o) p
+pub or_either : (b : Bool) (k : ℕ) (o p : Option ℕ) → cond b (Some k) (option_or o p) ≡ option_or (cond b (Some k) o) p
 or_either true k o p = refl
 or_either false k o p = refl
 
@@ -28,7 +23,7 @@ entity_pushed list n place old new at first has token last =
     ∙ ap (λ m. option_or (entity_place list token last) (cond (t n) (Some m) None)) (let e : place ≡ 0 + length list = omega arith in e)
     ∙ sym (position_end t 0 list n)
 
-shifted_either : (b : Bool) (k : ℕ) (o : Option ℕ) → cond b (Some (k + 1)) (option_map suc o) ≡ option_map suc (cond b (Some k) o)
+pub shifted_either : (b : Bool) (k : ℕ) (o : Option ℕ) → cond b (Some (k + 1)) (option_map suc o) ≡ option_map suc (cond b (Some k) o)
 shifted_either true k o = ap Some (add-one k)
 shifted_either false k o = refl
 

@@ -1,22 +1,10 @@
 -- In a typed program no struct has more than 256 fields.
-use Rattle.std.proofs.Common.{◌≡◌, ℕ, zero, suc, ◌+◌, ◌<◌, ◌≤◌, Bool, true, false, nat_lt, List, [], ◌∷◌, ◌++◌, length, refl, ap, sym, subst, ◌∙◌, arith, length-append, Option, Some, None}
-use Rattle.std.proofs.lemmas.Bool.Decides.{nat_tests}
-use Rattle.std.specs.Borrow.{Bor}
-use Rattle.std.specs.List.{slice_get}
-use Rattle.std.specs.Option.{option_copied, IfSome}
-use Rattle.sharc_tree.specs.declared.tree.declaration.Declaration.{Declaration}
-use Rattle.sharc_tree.specs.declared.tree.item.StructDefinition.{StructDefinition}
-use Rattle.sharc_tree.specs.Tree.{Item, structure, global, function, Program}
-use Rattle.sharc_names.specs.declared.fault.Fault.{Fault}
-use Rattle.sharc_names.specs.declared.fault.FaultCode.TheVariants.{LimitPassed}
+use Rattle.std.proofs.{Common.{◌≡◌, ℕ, zero, suc, ◌+◌, ◌<◌, ◌≤◌, Bool, true, false, nat_lt, List, [], ◌∷◌, ◌++◌, length, refl, ap, sym, subst, ◌∙◌, arith, length-append, Option, Some, None}, lemmas.Bool.Decides.nat_tests}
+use Rattle.std.specs.{Borrow.Bor, List.slice_get, Option.{option_copied, IfSome}}
+use Rattle.sharc_tree.specs.{declared.tree.declaration.Declaration.Declaration, declared.tree.item.StructDefinition.StructDefinition, Tree.{Item, structure, global, function, Program}}
+use Rattle.sharc_names.specs.{declared.fault.Fault.Fault, declared.fault.FaultCode.TheVariants.LimitPassed, declared.scope.Scope.Scope, Notes.{Note, fault, refers, yields, faults, fault_unless}, Types.type_notes}
 use Rattle.sharc_names.specs.declared.types.Role.TheVariants as role
-use Rattle.sharc_names.specs.declared.scope.Scope.{Scope}
-use Rattle.sharc_names.specs.Notes.{Note, fault, refers, yields, faults, fault_unless}
-use Rattle.sharc_names.specs.Types.{type_notes}
-use Rattle.sharc_ctype.specs.Globals.{sizes_notes, global_notes}
-use Rattle.sharc_ctype.specs.Heads.{twice, within, heads_notes, no_heads}
-use Rattle.sharc_ctype.specs.Items.{field_notes, fields_notes, function_notes, items_notes, file_scope, main_missing, IsTyped}
-use Rattle.sharc_ctype.specs.Resolved.{structs_in}
+use Rattle.sharc_ctype.specs.{Globals.{sizes_notes, global_notes}, Heads.{twice, within, heads_notes, no_heads}, Items.{field_notes, fields_notes, function_notes, items_notes, file_scope, main_missing, IsTyped}, Resolved.structs_in}
 
 pub faults_append : (a b : List Note) → faults (a ++ b) ≡ faults a ++ faults b
 faults_append [] b = refl

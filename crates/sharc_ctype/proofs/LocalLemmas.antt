@@ -1,16 +1,8 @@
 -- The limit on locals over two lists, one after the other.
-use Rattle.std.proofs.Common.{◌≡◌, ℕ, ◌+◌, ◌-◌, ◌<◌, ◌==◌, drop, get_or, add-one, drop-cons, List, [], ◌∷◌, ◌++◌, length, fold, ap, sym, ◌∙◌, arith, append_assoc, length-append}
-use Rattle.std.proofs.lemmas.List.Sums.{fold-append}
+use Rattle.std.proofs.{Common.{◌≡◌, ℕ, ◌+◌, ◌-◌, ◌<◌, ◌==◌, List, [], ◌∷◌, ◌++◌, length, fold, ap, sym, ◌∙◌, arith, append_assoc, length-append}, lemmas.List.Sums.fold-append}
 use Rattle.sharc_tree.specs.declared.tree.declaration.Declaration.{Declaration}
-use Rattle.sharc_names.specs.declared.fault.FaultCode.TheVariants.{LimitPassed}
-use Rattle.sharc_names.specs.Notes.{Findings, noted, fault_where}
+use Rattle.sharc_names.specs.{declared.fault.FaultCode.TheVariants.LimitPassed, Notes.{Findings, noted, fault_where}}
 use Rattle.sharc_ctype.specs.Items.{beyond}
-
-pub first_of_rest : {A : Type 0} (list : List A) (i : ℕ) (e : A) → i < length list → e ≡ get_or list i e → drop i list ≡ e ∷ drop (i + 1) list
-first_of_rest list i e below is = drop-cons list i e below ∙ ap (λ n. get_or list i e ∷ drop n list) (sym (add-one i)) ∙ ap (λ x. x ∷ drop (i + 1) list) (sym is)
-
-less_first : (room n : ℕ) → (room - 1) - n ≡ room - (n + 1)
-less_first room n = omega arith
 
 pub beyond_append : (room : ℕ) (a b : List Declaration) → beyond room (a ++ b) ≡ beyond room a ++ beyond (room - length a) b
 beyond_append room [] b = ap (λ n. beyond n b) (let e : room ≡ room - 0 = omega arith in e)

@@ -1,14 +1,8 @@
 -- The places of the items of one form lead to what has its number.
-use Rattle.std.proofs.Common.{◌≡◌, ℕ, zero, suc, ◌+◌, Bool, true, false, cond, List, [], ◌∷◌, ◌++◌, length, refl, ap, sym, ◌∙◌, arith, append_assoc, length-append, Option, Some, None, is_some}
-use Rattle.std.proofs.lemmas.Option.{slice_get-map}
-use Rattle.std.specs.List.{slice_get}
-use Rattle.std.specs.Option.{option_map, option_and_then}
-use Rattle.sharc_tree.specs.declared.tree.item.Item.{Item as RustItem}
-use Rattle.sharc_tree.specs.Tree.{Item, structure, global, function}
-use Rattle.sharc_tree.specs.View.{view_item, view_items}
-use Rattle.sharc_ctype.specs.Resolved.{structs_in, globals_in, functions_in}
-use Rattle.sharc_ctype.specs.Tables.{has_form, places_of, as_structure, as_global, as_function}
-use Rattle.sharc_ctype.specs.declared.tables.ItemForm.{ItemForm}
+use Rattle.std.proofs.{Common.{◌≡◌, ℕ, zero, suc, ◌+◌, Bool, true, false, cond, List, [], ◌∷◌, ◌++◌, length, refl, ap, sym, ◌∙◌, arith, append_assoc, length-append, Option, Some, None, is_some}, lemmas.Option.slice_get-map}
+use Rattle.std.specs.{List.slice_get, Option.{option_map, option_and_then}}
+use Rattle.sharc_tree.specs.{declared.tree.item.Item.{Item as RustItem}, Tree.{Item, structure, global, function}, View.{view_item, view_items}}
+use Rattle.sharc_ctype.specs.{Resolved.{structs_in, globals_in, functions_in}, Tables.{has_form, places_of, as_structure, as_global, as_function}, declared.tables.ItemForm.ItemForm}
 use Rattle.sharc_ctype.specs.declared.tables.ItemForm.TheVariants as form
 
 at_end : (before : List Item) (i : Item) (rest : List Item) (k : ℕ) → k ≡ length before → slice_get (before ++ i ∷ rest) k ≡ Some i

@@ -1,9 +1,7 @@
 -- A block's statements.
 use Rattle.std.proofs.Common.{◌≡◌, fold, ap, sym, ◌∙◌}
-use Rattle.sharc_tree.specs.declared.token.Span.{Span}
-use Rattle.sharc_tree.specs.Tree.{Statement, block, Statements}
-use Rattle.sharc_names.specs.declared.scope.Scope.{Scope}
-use Rattle.sharc_names.specs.Notes.{Findings, noted}
+use Rattle.sharc_tree.specs.{declared.token.Span.Span, Tree.{Statement, block, Statements}}
+use Rattle.sharc_names.specs.{declared.scope.Scope.Scope, Notes.{Findings, noted}}
 use Rattle.sharc_ctype.specs.Statements.{Around, opened, notes_in, notes_in_all}
 
 pub block_noted : (around inner : Around) (scope : Scope) (x : Statement) (s : Span) (all : Statements) (f0 f1 : Findings) → x ≡ block s all → inner ≡ opened around scope.names

@@ -1,19 +1,14 @@
 -- How the logic stores a program: its expressions and statements as trees of two children a node, each with what is at the node itself.
-use Rattle.std.specs.Prelude.{◌≡◌, [], Option, refl}
-use Rattle.std.specs.Coded.{Coded, code_by}
+use Rattle.std.specs.{Prelude.{◌≡◌, [], Option, refl}, Coded.{Coded, code_by}}
 use base.Stored.{Gv, gnil, gnum, gcons}
 use mathlib.Core.Path.{ap, subst, sym}
-use Rattle.sharc_tree.specs.declared.token.Site.{Site}
-use Rattle.sharc_tree.specs.declared.token.Span.{Span}
+use Rattle.sharc_tree.specs.{declared.token.Site.Site, declared.token.Span.Span}
 use Rattle.sharc_tree.specs.declared.tree.declaration.Identifier.{Identifier}
-use Rattle.sharc_tree.specs.declared.tree.declaration.WrittenType.{WrittenType}
-use Rattle.sharc_tree.specs.declared.tree.expression.Access.{Access}
+use Rattle.sharc_tree.specs.{declared.tree.declaration.WrittenType.WrittenType, declared.tree.expression.Access.Access}
 use Rattle.sharc_tree.specs.declared.tree.expression.BinaryOperator.{BinaryOperator}
 use Rattle.sharc_tree.specs.declared.tree.expression.UnaryOperator.{UnaryOperator}
-use Rattle.sharc_tree.specs.declared.tree.expression.PlaceCall.{PlaceCall}
-use Rattle.sharc_tree.specs.declared.tree.expression.ValueCall.{ValueCall}
-use Rattle.sharc_tree.specs.declared.tree.expression.Constant.{Constant}
-use Rattle.sharc_tree.specs.declared.tree.statement.Jump.{Jump}
+use Rattle.sharc_tree.specs.{declared.tree.expression.PlaceCall.PlaceCall, declared.tree.expression.ValueCall.ValueCall}
+use Rattle.sharc_tree.specs.{declared.tree.expression.Constant.Constant, declared.tree.statement.Jump.Jump}
 use Rattle.sharc_tree.specs.Tree.{Expression, identifier, constant, parentheses, call, spawn, on_value, on_place, cast, index, field, unary, binary, Arguments, no_arguments, argument, Local, Simple, Head, Statement, empty, block, declare, simple, jump, return, if_then, if_then_else, while, for, Statements, no_statements, statement}
 
 pub data Bush (L : Type 0) : Type 0 where

@@ -1,10 +1,8 @@
 -- The four names of condition variables: `struct cond`, `wait`, `signal` and `broadcast`.
-use Rattle.std.specs.Prelude.{Bool, ◌||◌, List, [], ◌∷◌, ◌++◌, is_some, if◌then◌else◌, codes}
+use Rattle.std.specs.Prelude.{Bool, ◌||◌, List, [], ◌∷◌, ◌++◌, is_some, if◌then◌else◌, codes, ℕ}
 use Rattle.sharc_names.specs.declared.meaning.ConditionCall.{ConditionCall}
 use Rattle.sharc_names.specs.declared.meaning.ConditionCall.TheVariants.{Wait, Signal, Broadcast}
-use Rattle.sharc_names.specs.declared.scope.Scope.{Scope}
-use Rattle.sharc_names.specs.Names.{Entry, condition, known, look_up, struct_of}
-use Rattle.std.specs.Prelude.{ℕ}
+use Rattle.sharc_names.specs.{declared.scope.Scope.Scope, Names.{Entry, condition, known, look_up, struct_of}}
 
 -- whether the file defines one of them: the struct, or a global or a function of the other names
 abbrev pub defines_condition : Scope → Bool

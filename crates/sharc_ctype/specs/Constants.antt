@@ -1,8 +1,6 @@
 -- Constant variables: parameters and initialised locals that are never assigned.
-use Rattle.std.specs.Prelude.{◌≡◌, ℕ, ◌==◌, Bool, false, ◌&&◌, not, List}
-use Rattle.std.specs.List.{list_any}
-use Rattle.sharc_tree.specs.Forms.{without_parentheses}
-use Rattle.sharc_tree.specs.Tree.{Function, Item}
+use Rattle.std.specs.{Prelude.{◌≡◌, ℕ, ◌==◌, Bool, false, ◌&&◌, not, List}, List.list_any}
+use Rattle.sharc_tree.specs.{Forms.without_parentheses, Tree.{Function, Item}}
 use Rattle.sharc_names.specs.declared.fault.Named.{Named}
 use Rattle.sharc_ctype.specs.Resolved.{Resolution, functions_in}
 use Rattle.sharc_ctype.specs.Transfers.{Receiver, lvalue, variable, result, Transfer, function_transfers}

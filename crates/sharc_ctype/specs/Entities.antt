@@ -1,17 +1,13 @@
 -- What has a type with modes: fields, globals, results, parameters, locals and casts, in source order; and the positions of their types.
-use Rattle.std.specs.Prelude.{ℕ, ◌+◌, ◌==◌, Bool, ◌&&◌, List, [], ◌∷◌, ◌++◌, drop, length, map, Option}
-use Rattle.std.specs.List.{find}
-use Rattle.sharc_tree.specs.declared.ctype.Mode.{Mode}
-use Rattle.sharc_tree.specs.declared.token.Span.{Span}
+use Rattle.std.specs.{Prelude.{ℕ, ◌+◌, ◌==◌, Bool, ◌&&◌, List, [], ◌∷◌, ◌++◌, drop, length, map, Option}, List.find}
+use Rattle.sharc_tree.specs.{declared.ctype.Mode.Mode, declared.token.Span.Span}
 use Rattle.sharc_tree.specs.declared.tree.declaration.WrittenType.{WrittenType}
 use Rattle.sharc_tree.specs.declared.tree.declaration.Declaration.{Declaration}
 use Rattle.sharc_tree.specs.Measures.{expressions, in_option, in_simple, in_local}
 use Rattle.sharc_tree.specs.Tree.{Expression, cast, Local, First, nothing, declares, does, Head, Statement, empty, block, declare, simple, jump, return, if_then, if_then_else, while, for, Statements, no_statements, statement, Function, Item, structure, global, function}
 use Rattle.sharc_names.specs.declared.types.Role.{Role}
 use Rattle.sharc_names.specs.declared.types.Role.TheVariants as role
-use Rattle.sharc_ctype.specs.Resolved.{Resolution}
-use Rattle.sharc_ctype.specs.declared.entity.Entity.{Entity}
-use Rattle.sharc_ctype.specs.declared.entity.Numbered.{Numbered}
+use Rattle.sharc_ctype.specs.{Resolved.Resolution, declared.entity.Entity.Entity, declared.entity.Numbered.Numbered}
 
 -- what a declaration declares is known by the token of its name
 abbrev pub declared : Role → Declaration → Entity

@@ -1,8 +1,6 @@
 -- The types of expressions, and the faults in them (C11 6.5), one clause for each form.
 use Rattle.std.specs.Prelude.{ℕ, ◌+◌, ◌==◌, Bool, true, false, not, ◌&&◌, ◌||◌, List, [], ◌∷◌, ◌++◌, length, drop, Option, Some, None, is_some, if◌then◌else◌}
-use Rattle.sharc_tree.specs.declared.token.NumberType.{NumberType}
-use Rattle.sharc_tree.specs.declared.token.NumberType.TheVariants as width
-use Rattle.sharc_tree.specs.declared.tree.expression.Access.{Access}
+use Rattle.sharc_tree.specs.{declared.token.NumberType.NumberType, declared.tree.expression.Access.Access}
 use Rattle.sharc_tree.specs.declared.tree.expression.Access.TheVariants.{Dot, Arrow}
 use Rattle.sharc_tree.specs.declared.tree.expression.BinaryOperator.{BinaryOperator}
 use Rattle.sharc_tree.specs.declared.tree.expression.BinaryOperator.TheVariants.{LogicalOr, LogicalAnd, BitOr, BitXor, BitAnd, Equal, NotEqual, Less, Greater, LessOrEqual, GreaterOrEqual, ShiftLeft, ShiftRight, Add, Subtract, Multiply, Divide, Remainder}
@@ -12,22 +10,19 @@ use Rattle.sharc_tree.specs.declared.tree.expression.PlaceCall.{PlaceCall}
 use Rattle.sharc_tree.specs.declared.tree.expression.PlaceCall.TheVariants.{Lock, Unlock, Free}
 use Rattle.sharc_tree.specs.declared.tree.expression.Constant.{Constant}
 use Rattle.sharc_tree.specs.declared.tree.expression.Constant.TheVariants.{Number, Character, Null}
-use Rattle.sharc_tree.specs.declared.tree.declaration.WrittenType.{WrittenType}
-use Rattle.sharc_tree.specs.Forms.{without_parentheses, is_lvalue}
+use Rattle.sharc_tree.specs.{declared.tree.declaration.WrittenType.WrittenType, Forms.{without_parentheses, is_lvalue}}
 use Rattle.sharc_tree.specs.Tree.{Expression, identifier, constant, parentheses, call, spawn, on_value, on_place, cast, index, field, unary, binary, Arguments, no_arguments, argument}
+use Rattle.sharc_tree.specs.declared.token.NumberType.TheVariants as width
 use Rattle.sharc_names.specs.declared.need.Need.{Need}
 use Rattle.sharc_names.specs.declared.need.Need.TheVariants.{Value, Integer, Pointer, Indexed, Struct, StructPointer}
 use Rattle.sharc_names.specs.declared.fault.FaultCode.TheVariants.{UnknownName, TypeMismatch, ArgumentCount, NoLvalue, BadForm}
-use Rattle.sharc_names.specs.declared.types.Role.TheVariants.{Cast}
-use Rattle.sharc_names.specs.declared.scope.Scope.{Scope}
+use Rattle.sharc_names.specs.{declared.types.Role.TheVariants.Cast, declared.scope.Scope.Scope}
 use Rattle.sharc_names.specs.Kinds.{Kind, null, int, long, void, mutex, is_pointer, same_kind, comparable, declared_kind, element_kind, promoted, common}
 use Rattle.sharc_names.specs.Names.{Entry, Meaning, variable, global, function, condition, look_up, named_of, is_function, is_main, parameters_of, result_of}
-use Rattle.sharc_names.specs.Needs.{place, met, unmet, agreed, unagreed}
-use Rattle.sharc_names.specs.Notes.{Note, fault, refers, fault_unless}
+use Rattle.sharc_names.specs.{Needs.{place, met, unmet, agreed, unagreed}, Notes.{Note, fault, refers, fault_unless}}
 use Rattle.sharc_names.specs.Types.{name_kind, main_notes, name_notes, field_in, field_kind, field_notes, type_notes, is_fine}
 use Rattle.sharc_names.specs.Wants.{first_wanted}
-use Rattle.sharc_ctype.specs.declared.expr.Standing.{Standing}
-use Rattle.sharc_ctype.specs.declared.expr.Standing.TheVariants.{AsValue, AsLvalue}
+use Rattle.sharc_ctype.specs.{declared.expr.Standing.Standing, declared.expr.Standing.TheVariants.{AsValue, AsLvalue}}
 use Rattle.sharc_ctype.specs.declared.expr.OperatorClass.{OperatorClass}
 use Rattle.sharc_ctype.specs.declared.expr.OperatorClass.TheVariants.{Logical, Equality, Relation, Shift, Arithmetic}
 

@@ -1,10 +1,7 @@
 -- Where the first entity that two tokens determine is in a list, and a table that has these places.
-use Rattle.std.specs.Prelude.{◌≡◌, ℕ, ◌==◌, ◌&&◌, List, Option, Some, None, map, if◌then◌else◌}
-use Rattle.std.specs.List.{position_from}
-use Rattle.std.specs.Map.{lookup}
-use Rattle.std.specs.Option.{option_or}
-use Rattle.sharc_ctype.specs.declared.entity.Entity.{Entity}
-use Rattle.sharc_ctype.specs.declared.entity.Numbered.{Numbered}
+use Rattle.std.specs.{Prelude.{◌≡◌, ℕ, ◌==◌, ◌&&◌, List, Option, Some, None, map, if◌then◌else◌}, List.position_from}
+use Rattle.std.specs.{Map.lookup, Option.option_or}
+use Rattle.sharc_ctype.specs.{declared.entity.Entity.Entity, declared.entity.Numbered.Numbered}
 use Rattle.sharc_ctype.specs.Entities.{is_told_by, numbered, positions_in}
 
 -- the place of the first entity that begins at this token and ends at that one

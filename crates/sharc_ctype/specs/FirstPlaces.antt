@@ -1,7 +1,5 @@
 -- Where the first declaration of each token is in a list, and a table that has these places.
-use Rattle.std.specs.Prelude.{◌≡◌, ℕ, ◌==◌, List, Option, Some, None, if◌then◌else◌}
-use Rattle.std.specs.List.{position_from}
-use Rattle.std.specs.Map.{lookup}
+use Rattle.std.specs.{Prelude.{◌≡◌, ℕ, ◌==◌, List, Option, Some, None, if◌then◌else◌}, List.position_from, Map.lookup}
 use Rattle.std.specs.Option.{option_or}
 use Rattle.sharc_tree.specs.declared.tree.declaration.Declaration.{Declaration}
 

@@ -10,12 +10,10 @@ use Rattle.sharc_tree.specs.declared.tree.item.GlobalForm.{GlobalForm}
 use Rattle.sharc_tree.specs.declared.tree.item.GlobalForm.TheVariants.{Plain, Array, Initial}
 use Rattle.sharc_tree.specs.Tree.{Item, structure, global, function}
 use Rattle.sharc_names.specs.declared.fault.FaultCode.TheVariants.{TypeMismatch, TypeNotAllowed, BadForm, LimitPassed}
-use Rattle.sharc_names.specs.declared.types.Role.TheVariants as role
-use Rattle.sharc_names.specs.declared.scope.Scope.{Scope}
-use Rattle.sharc_names.specs.Kinds.{stars_of}
+use Rattle.sharc_names.specs.{declared.scope.Scope.Scope, Kinds.stars_of}
 use Rattle.sharc_names.specs.Names.{StructTable, StructMeaning, struct_of, cells_of}
-use Rattle.sharc_names.specs.Notes.{Note, fault, fault_unless, fault_where}
-use Rattle.sharc_names.specs.Types.{type_notes}
+use Rattle.sharc_names.specs.{Notes.{Note, fault, fault_unless, fault_where}, Types.type_notes}
+use Rattle.sharc_names.specs.declared.types.Role.TheVariants as role
 
 -- how many elements a global has
 abbrev pub elements_of : GlobalForm → ℕ

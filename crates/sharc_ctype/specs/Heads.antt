@@ -4,12 +4,11 @@ use Rattle.sharc_tree.specs.declared.tree.item.StructDefinition.{StructDefinitio
 use Rattle.sharc_tree.specs.declared.tree.item.GlobalDefinition.{GlobalDefinition}
 use Rattle.sharc_tree.specs.Tree.{Function, Item, structure, global, function}
 use Rattle.sharc_names.specs.declared.fault.FaultCode.TheVariants.{DefinedTwice, LimitPassed}
-use Rattle.sharc_names.specs.declared.fault.Named.TheVariants as named
 use Rattle.sharc_names.specs.Names.{Entry, Signature, StructTable, defined, look_up, struct_of}
-use Rattle.sharc_names.specs.Names as meaning
 use Rattle.sharc_names.specs.Notes.{Note, refers, fault_unless, fault_where}
-use Rattle.sharc_ctype.specs.declared.head.Heads.{Heads}
-use Rattle.sharc_ctype.specs.Statements.{with_names}
+use Rattle.sharc_names.specs.declared.fault.Named.TheVariants as named
+use Rattle.sharc_names.specs.Names as meaning
+use Rattle.sharc_ctype.specs.{declared.head.Heads.Heads, Statements.with_names}
 
 -- of two definitions of a name the first stays
 abbrev pub with_struct : StructTable → ℕ → StructDefinition → StructTable

@@ -2,20 +2,17 @@
 use Rattle.std.specs.Prelude.{◌≡◌, ℕ, ◌+◌, ◌-◌, ◌==◌, Bool, false, ◌&&◌, List, [], ◌∷◌, ◌++◌, length, fold, replicate, Option, Some, None, is_some, codes}
 use Rattle.sharc_tree.specs.declared.tree.declaration.Declaration.{Declaration}
 use Rattle.sharc_tree.specs.Tree.{Function, Item, structure, global, function, Program}
-use Rattle.sharc_names.specs.declared.fault.FaultCode.TheVariants.{NoMain, LimitPassed}
-use Rattle.sharc_names.specs.declared.fault.Named.{Named}
-use Rattle.sharc_names.specs.declared.fault.Named.TheVariants as named
-use Rattle.sharc_names.specs.declared.types.Role.TheVariants as role
-use Rattle.sharc_names.specs.declared.scope.Scope.{Scope}
-use Rattle.sharc_names.specs.Kinds.{int, same_kind, declared_kind}
+use Rattle.sharc_names.specs.{declared.fault.FaultCode.TheVariants.{NoMain, LimitPassed}, declared.fault.Named.Named}
+use Rattle.sharc_names.specs.{declared.scope.Scope.Scope, Kinds.{int, same_kind, declared_kind}}
 use Rattle.sharc_names.specs.Names.{Entry, Meaning, Signature, look_up, field_of}
-use Rattle.sharc_names.specs.Names as meaning
 use Rattle.sharc_names.specs.Notes.{Note, refers, fault_unless, fault_where, Findings, noted, faults}
 use Rattle.sharc_names.specs.Types.{type_notes}
+use Rattle.sharc_names.specs.declared.fault.Named.TheVariants as named
+use Rattle.sharc_names.specs.declared.types.Role.TheVariants as role
+use Rattle.sharc_names.specs.Names as meaning
 use Rattle.sharc_ctype.specs.Statements.{with_names, declared, declared_notes, notes_in_all, locals_in_all}
 use Rattle.sharc_ctype.specs.Globals.{global_notes, sizes_notes}
-use Rattle.sharc_ctype.specs.Heads.{twice, within, behind_all, heads_notes, no_heads}
-use Rattle.sharc_ctype.specs.Condition.{known_in}
+use Rattle.sharc_ctype.specs.{Heads.{twice, within, behind_all, heads_notes, no_heads}, Condition.known_in}
 
 -- 6.7.2.1: a field of a struct, after others of it: at most 256, no two of one name. Its type sees all fields of the struct
 abbrev pub field_notes : Scope → List Declaration → List Declaration → Declaration → List Note

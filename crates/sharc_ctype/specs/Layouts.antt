@@ -1,6 +1,5 @@
 -- Which cells an element of a struct has, and which of them are pointers.
-use Rattle.std.specs.Prelude.{◌≡◌, ℕ, ◌+◌, ◌*◌, ◌<◌, ◌==◌, Bool, false, length, List, map, slice_index_or}
-use Rattle.std.specs.Int.{bit_at}
+use Rattle.std.specs.{Prelude.{◌≡◌, ℕ, ◌+◌, ◌*◌, ◌<◌, ◌==◌, Bool, false, length, List, map, slice_index_or}, Int.bit_at}
 use Rattle.sharc_tree.specs.declared.tree.declaration.Declaration.{Declaration}
 use Rattle.sharc_names.specs.Kinds.{declared_kind, is_pointer}
 use Rattle.sharc_ctype.specs.declared.layout.StructCells.{StructCells}

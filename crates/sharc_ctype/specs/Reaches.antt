@@ -1,7 +1,6 @@
 -- Which functions threads may run, and which globals they may touch.
 use Rattle.std.specs.Prelude.{◌≡◌, ℕ, List, [], ◌∷◌, ◌++◌, IsSomeAnd, Contains}
-use Rattle.sharc_tree.specs.Marks.{Mark, a_name, a_cast, item_marks}
-use Rattle.sharc_tree.specs.Measures.{in_function}
+use Rattle.sharc_tree.specs.{Marks.{Mark, a_name, a_cast, item_marks}, Measures.in_function}
 use Rattle.sharc_tree.specs.Tree.{Expression, call, spawn, Function, function}
 use Rattle.sharc_names.specs.declared.fault.Named.{Named}
 use Rattle.sharc_names.specs.declared.fault.Named.TheVariants as named

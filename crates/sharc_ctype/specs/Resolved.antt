@@ -4,14 +4,12 @@ use Rattle.sharc_tree.specs.declared.tree.declaration.Declaration.{Declaration}
 use Rattle.sharc_tree.specs.declared.tree.item.StructDefinition.{StructDefinition}
 use Rattle.sharc_tree.specs.declared.tree.item.GlobalDefinition.{GlobalDefinition}
 use Rattle.sharc_tree.specs.Tree.{Function, Item, structure, global, function, Program, Expression, identifier, constant, parentheses, call, spawn, on_value, on_place, cast, index, field, unary, binary}
-use Rattle.sharc_names.specs.declared.fault.Named.{Named}
-use Rattle.sharc_names.specs.declared.fault.Named.TheVariants as named
-use Rattle.sharc_names.specs.Kinds.{Kind, int, void, declared_kind, element_kind}
-use Rattle.sharc_names.specs.Kinds as kinds
+use Rattle.sharc_names.specs.{declared.fault.Named.Named, Kinds.{Kind, int, void, declared_kind, element_kind}}
 use Rattle.sharc_names.specs.Names.{global_kind}
+use Rattle.sharc_names.specs.declared.fault.Named.TheVariants as named
+use Rattle.sharc_names.specs.Kinds as kinds
 use Rattle.sharc_ctype.specs.Expressions.{constant_kind, unary_result, class_of, binary_result}
-use Rattle.sharc_ctype.specs.Statements.{locals_in_all}
-use Rattle.sharc_ctype.specs.Items.{IsTyped, named_in}
+use Rattle.sharc_ctype.specs.{Statements.locals_in_all, Items.{IsTyped, named_in}}
 
 -- a program, and what each of its tokens names
 pub record Resolution : Type 0 where

@@ -5,14 +5,11 @@ use Rattle.sharc_tree.specs.declared.tree.declaration.WrittenType.{WrittenType}
 use Rattle.sharc_tree.specs.Tree.{Expression, Right, value, malloc, Simple, assign, does_call, Local, First, nothing, declares, does, Head, Statement, empty, block, declare, simple, jump, return, if_then, if_then_else, while, for, Statements, no_statements, statement}
 use Rattle.sharc_names.specs.declared.need.Need.TheVariants.{Value, Integer}
 use Rattle.sharc_names.specs.declared.fault.FaultCode.TheVariants.{DefinedTwice, TypeMismatch, BadForm}
-use Rattle.sharc_names.specs.declared.fault.Named.TheVariants.{Variable}
-use Rattle.sharc_names.specs.declared.types.Role.TheVariants as role
-use Rattle.sharc_names.specs.declared.scope.Scope.{Scope}
+use Rattle.sharc_names.specs.{declared.fault.Named.TheVariants.Variable, declared.scope.Scope.Scope}
 use Rattle.sharc_names.specs.Kinds.{Kind, object, void, mutex, same_kind, declared_kind, stars_of, is_struct_behind}
-use Rattle.sharc_names.specs.Names.{Entry, variable, look_up}
-use Rattle.sharc_names.specs.Notes.{Note, refers, fault_unless, fault_where}
-use Rattle.sharc_names.specs.Needs.{met, unmet, unagreed}
-use Rattle.sharc_names.specs.Types.{type_notes, is_fine}
+use Rattle.sharc_names.specs.{Names.{Entry, variable, look_up}, Notes.{Note, refers, fault_unless, fault_where}}
+use Rattle.sharc_names.specs.{Needs.{met, unmet, unagreed}, Types.{type_notes, is_fine}}
+use Rattle.sharc_names.specs.declared.types.Role.TheVariants as role
 use Rattle.sharc_ctype.specs.declared.expr.Standing.TheVariants.{AsLvalue}
 use Rattle.sharc_ctype.specs.Expressions.{type_of, notes_at, notes_of, place_kind, place_notes}
 

@@ -5,12 +5,9 @@ use Rattle.sharc_tree.specs.declared.tree.item.StructDefinition.{StructDefinitio
 use Rattle.sharc_tree.specs.declared.tree.item.GlobalDefinition.{GlobalDefinition}
 use Rattle.sharc_tree.specs.Tree.{Function, Item, structure, global, function}
 use Rattle.sharc_names.specs.declared.fault.Named.{Named}
-use Rattle.sharc_ctype.specs.declared.tables.ItemForm.{ItemForm}
+use Rattle.sharc_ctype.specs.{declared.tables.ItemForm.ItemForm, declared.tables.Tables.Tables, Constants.HasConstants}
+use Rattle.sharc_ctype.specs.{Entities.entities_in, Resolved.declarations_in}
 use Rattle.sharc_ctype.specs.declared.tables.ItemForm.TheVariants as form
-use Rattle.sharc_ctype.specs.declared.tables.Tables.{Tables}
-use Rattle.sharc_ctype.specs.Constants.{HasConstants}
-use Rattle.sharc_ctype.specs.Entities.{entities_in}
-use Rattle.sharc_ctype.specs.Resolved.{declarations_in}
 
 abbrev pub has_form : ItemForm → Item → Bool
 has_form form.Struct (structure s) = true

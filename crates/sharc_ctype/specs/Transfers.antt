@@ -3,11 +3,9 @@ use Rattle.std.specs.Prelude.{IsTrue, List, [], ◌∷◌, ◌++◌, Option, Som
 use Rattle.sharc_tree.specs.declared.tree.declaration.WrittenType.{WrittenType}
 use Rattle.sharc_tree.specs.declared.tree.declaration.Declaration.{Declaration}
 use Rattle.sharc_tree.specs.Tree.{Expression, identifier, constant, parentheses, call, spawn, on_value, on_place, cast, index, field, unary, binary, Arguments, no_arguments, argument, Right, value, malloc, Simple, assign, does_call, Local, First, nothing, declares, does, Statement, empty, block, declare, simple, jump, return, if_then, if_then_else, while, for, Statements, no_statements, statement, Function}
-use Rattle.sharc_names.specs.declared.fault.Named.{Named}
+use Rattle.sharc_names.specs.{declared.fault.Named.Named, Kinds.{Kind, agrees, same_kind, declared_kind}}
 use Rattle.sharc_names.specs.declared.fault.Named.TheVariants as named
-use Rattle.sharc_names.specs.Kinds.{Kind, agrees, same_kind, declared_kind}
-use Rattle.sharc_ctype.specs.Statements.{made}
-use Rattle.sharc_ctype.specs.Resolved.{Resolution, named_at, function_at, kind_at}
+use Rattle.sharc_ctype.specs.{Statements.made, Resolved.{Resolution, named_at, function_at, kind_at}}
 
 -- what is given a value: an lvalue, a parameter or a local, or the result of the function
 pub data Receiver : Type 0 where

@@ -1,18 +1,12 @@
 -- What typing a program answers.
 use Rattle.std.specs.Prelude.{◌≡◌, ℕ, Bool, true, false, List, [], ◌∷◌, drop, slice_index_or, if◌then◌else◌, Result, Ok, Err}
-use Rattle.sharc_tree.specs.declared.token.Site.{Site}
-use Rattle.sharc_tree.specs.declared.token.Token.{Token}
-use Rattle.sharc_tree.specs.declared.token.Tokens.{Tokens}
-use Rattle.sharc_tree.specs.declared.token.FaultAt.{FaultAt}
-use Rattle.sharc_tree.specs.Tree.{Program}
+use Rattle.sharc_tree.specs.{declared.token.Site.Site, declared.token.Token.Token, declared.token.Tokens.Tokens}
+use Rattle.sharc_tree.specs.{declared.token.FaultAt.FaultAt, Tree.Program}
 use Rattle.sharc_names.specs.declared.fault.FaultCode.{FaultCode}
 use Rattle.sharc_names.specs.declared.fault.FaultCode.TheVariants.{UnknownName, DefinedTwice, TypeMismatch, ArgumentCount, NoLvalue, TypeNotAllowed, BadForm, NoMain, LimitPassed}
-use Rattle.sharc_names.specs.declared.fault.Fault.{Fault}
-use Rattle.sharc_names.specs.Notes.{faults, IsFirst}
-use Rattle.sharc_ctype.specs.declared.typed.Typed.{Typed}
-use Rattle.sharc_ctype.specs.declared.typed.TypeFault.{TypeFault}
-use Rattle.sharc_ctype.specs.declared.typed.TypeFault.TheVariants.{At, Memory}
-use Rattle.sharc_ctype.specs.Items.{notes_about}
+use Rattle.sharc_names.specs.{declared.fault.Fault.Fault, Notes.{faults, IsFirst}}
+use Rattle.sharc_ctype.specs.{declared.typed.Typed.Typed, declared.typed.TypeFault.TypeFault}
+use Rattle.sharc_ctype.specs.{declared.typed.TypeFault.TheVariants.{At, Memory}, Items.notes_about}
 
 -- C1, C2, C4, C7 and C9 print the word at their place
 abbrev pub prints_name : FaultCode → Bool

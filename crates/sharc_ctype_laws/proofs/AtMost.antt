@@ -1,46 +1,13 @@
 -- Notes refer to a token at most as often as the tree has a name there.
 use Rattle.std.proofs.Common.{◌≡◌, ℕ, ◌+◌, ◌-◌, ◌≤◌, ◌<◌, ◌==◌, Bool, true, false, List, [], ◌∷◌, ◌++◌, length, drop, refl, ap, ◌∙◌, arith, Option, Some, None, IfSome, is_some, nat_lt, codes}
-use Rattle.sharc_tree.specs.declared.ctype.Base.{Base}
+use Rattle.sharc_tree.specs.{declared.ctype.Base.Base, declared.ctype.Mode.Mode, declared.ctype.Path.Path, declared.ctype.Path.TheVariants.{One, Through}, declared.tree.declaration.Identifier.Identifier, declared.tree.declaration.WrittenType.WrittenType, declared.tree.declaration.Declaration.Declaration, declared.tree.expression.Constant.Constant, declared.tree.item.GlobalDefinition.GlobalDefinition, declared.tree.item.GlobalForm.GlobalForm, declared.tree.item.GlobalForm.TheVariants.{Plain, Array, Initial}, declared.tree.expression.PlaceCall.PlaceCall, Low.{is_unary, LowType, LowTypes, AllLowTypes, LowExpression, LowRight, LowSimple, LowLocal, LowFirst, LowHead, LowStatement, LowStatements, LowDeclarations, LowItem, LowItems}, Marks.{Mark, a_name, a_cast, name_marks, path_marks, level_marks, base_marks, levels_marks, type_marks, declaration_marks, declarations_marks, marks, arguments_marks, option_marks, right_marks, simple_marks, local_marks, first_marks, head_marks, statement_marks, statements_marks, item_marks, items_marks}, Tree.{Expression, Arguments, no_arguments, argument, Right, value, malloc, Simple, assign, does_call, Local, First, nothing, declares, does, Head, Statement, Statements, no_statements, statement, Function, Item}}
 use Rattle.sharc_tree.specs.declared.ctype.Base.TheVariants as base
-use Rattle.sharc_tree.specs.declared.ctype.Mode.{Mode}
 use Rattle.sharc_tree.specs.declared.ctype.Mode.TheVariants as modes
-use Rattle.sharc_tree.specs.declared.ctype.Path.{Path}
-use Rattle.sharc_tree.specs.declared.ctype.Path.TheVariants.{One, Through}
-use Rattle.sharc_tree.specs.declared.tree.declaration.Identifier.{Identifier}
-use Rattle.sharc_tree.specs.declared.tree.declaration.WrittenType.{WrittenType}
-use Rattle.sharc_tree.specs.declared.tree.declaration.Declaration.{Declaration}
-use Rattle.sharc_tree.specs.declared.tree.expression.Constant.{Constant}
-use Rattle.sharc_tree.specs.declared.tree.item.GlobalDefinition.{GlobalDefinition}
-use Rattle.sharc_tree.specs.declared.tree.item.GlobalForm.{GlobalForm}
-use Rattle.sharc_tree.specs.declared.tree.item.GlobalForm.TheVariants.{Plain, Array, Initial}
-use Rattle.sharc_tree.specs.declared.tree.expression.PlaceCall.{PlaceCall}
-use Rattle.sharc_tree.specs.Low.{is_unary, LowType, LowTypes, AllLowTypes, LowExpression, LowRight, LowSimple, LowLocal, LowFirst, LowHead, LowStatement, LowStatements, LowDeclarations, LowItem, LowItems}
-use Rattle.sharc_tree.specs.Marks.{Mark, a_name, a_cast, name_marks, path_marks, level_marks, base_marks, levels_marks, type_marks, declaration_marks, declarations_marks, marks, arguments_marks, option_marks, right_marks, simple_marks, local_marks, first_marks, head_marks, statement_marks, statements_marks, item_marks, items_marks}
-use Rattle.sharc_tree.specs.Tree.{Expression, Arguments, no_arguments, argument, Right, value, malloc, Simple, assign, does_call, Local, First, nothing, declares, does, Head, Statement, Statements, no_statements, statement, Function, Item}
 use Rattle.sharc_tree.specs.Tree as tree
-use Rattle.sharc_names.specs.declared.fault.FaultCode.{FaultCode}
-use Rattle.sharc_names.specs.declared.fault.FaultCode.TheVariants.{TypeNotAllowed, NoLvalue, BadForm, LimitPassed, NoMain}
-use Rattle.sharc_names.specs.declared.fault.Named.{Named}
-use Rattle.sharc_names.specs.declared.fault.Named.TheVariants.{Field}
+use Rattle.sharc_names.specs.{declared.fault.FaultCode.FaultCode, declared.fault.FaultCode.TheVariants.{TypeNotAllowed, NoLvalue, BadForm, LimitPassed, NoMain}, declared.fault.Named.Named, declared.fault.Named.TheVariants.Field, declared.scope.Scope.Scope, declared.types.Role.Role, Kinds.{Kind, void, is_pointer, same_kind, declared_kind, stars_of}, Names.{StructTable, StructMeaning, Entry, Meaning, look_up, struct_of, field_of, parameters_of}, Needs.{place, met}, Notes.{Note, fault, refers, fault_unless}, Types.{name_notes, main_notes, field_in, field_notes, first_kind, first_notes, second_in, second_notes, path_notes, mode_notes, modes_notes, struct_note, base_notes, allowed_there, type_notes, is_fine}, Wants.first_wanted}
 use Rattle.sharc_names.specs.declared.need.Need.TheVariants as need
-use Rattle.sharc_names.specs.declared.scope.Scope.{Scope}
-use Rattle.sharc_names.specs.declared.types.Role.{Role}
 use Rattle.sharc_names.specs.declared.types.Role.TheVariants as role
-use Rattle.sharc_names.specs.Kinds.{Kind, void, is_pointer, same_kind, declared_kind, stars_of}
-use Rattle.sharc_names.specs.Names.{StructTable, StructMeaning, Entry, Meaning, look_up, struct_of, field_of, parameters_of}
-use Rattle.sharc_names.specs.Needs.{place, met}
-use Rattle.sharc_names.specs.Notes.{Note, fault, refers, fault_unless}
-use Rattle.sharc_names.specs.Types.{name_notes, main_notes, field_in, field_notes, first_kind, first_notes, second_in, second_notes, path_notes, mode_notes, modes_notes, struct_note, base_notes, allowed_there, type_notes, is_fine}
-use Rattle.sharc_names.specs.Wants.{first_wanted}
-use Rattle.sharc_ctype.specs.declared.expr.OperatorClass.{OperatorClass}
-use Rattle.sharc_ctype.specs.Heads.{Heading as Heads}
-use Rattle.sharc_ctype.specs.declared.expr.Standing.{Standing}
-use Rattle.sharc_ctype.specs.declared.expr.Standing.TheVariants.{AsValue, AsLvalue}
-use Rattle.sharc_ctype.specs.Expressions.{uncalled_notes, type_of, notes_at, notes_of_all, is_place, access_need, operand_need, place_notes, place_kind, place_call_notes, cast_notes, count, count_notes as arguments_count_notes, callee_notes, wanted, spawn_notes, spawn_wanted, class_of, operands_need, binary_notes}
-use Rattle.sharc_ctype.specs.Globals.{length_notes, initial_notes as constant_notes, base_initial_notes, item_size_notes, sizes_notes, item_cells}
-use Rattle.sharc_ctype.specs.Heads.{head_notes as item_head_notes, heads_notes, behind as heads_behind, no_heads, twice}
-use Rattle.sharc_ctype.specs.Items.{in_body, fields_notes, field_notes as one_field_notes, parameters_notes, beyond, item_notes, items_notes, file_scope, has_main, program_notes}
-use Rattle.sharc_ctype.specs.Statements.{Around, is_here, is_aggregate, returned_as, locals_in_all, opened, looping, with_names, declared, declared_notes, test_notes, count_notes, right_notes, simple_notes, local_notes, initial_notes, return_notes, first_notes as first_part_notes, behind_first, tests_notes, step_notes, in_head, head_notes, after, notes_in, notes_in_all}
+use Rattle.sharc_ctype.specs.{declared.expr.OperatorClass.OperatorClass, Heads.{Heading as Heads, head_notes as item_head_notes, heads_notes, behind as heads_behind, no_heads, twice}, declared.expr.Standing.Standing, declared.expr.Standing.TheVariants.{AsValue, AsLvalue}, Expressions.{uncalled_notes, type_of, notes_at, notes_of_all, is_place, access_need, operand_need, place_notes, place_kind, place_call_notes, cast_notes, count, count_notes as arguments_count_notes, callee_notes, wanted, spawn_notes, spawn_wanted, class_of, operands_need, binary_notes}, Globals.{length_notes, initial_notes as constant_notes, base_initial_notes, item_size_notes, sizes_notes, item_cells}, Items.{in_body, fields_notes, field_notes as one_field_notes, parameters_notes, beyond, item_notes, items_notes, file_scope, has_main, program_notes}, Statements.{Around, is_here, is_aggregate, returned_as, locals_in_all, opened, looping, with_names, declared, declared_notes, test_notes, count_notes, right_notes, simple_notes, local_notes, initial_notes, return_notes, first_notes as first_part_notes, behind_first, tests_notes, step_notes, in_head, head_notes, after, notes_in, notes_in_all}}
 use Rattle.sharc_ctype_laws.proofs.Counts.{one, told, written, told-append, written-append, told_refers, told_yields, told_none, written_one, written_cast, written_none, quiet_fault, quiet_unless, quiet_where, quiet_if, quiet_unmet, quiet_unagreed, quiet_both, side, crossed, behind, before, none_most}
 
 -- quiet parts

@@ -1,29 +1,12 @@
 -- A global of which no fault is noted has an element, and begins at a value of its type.
-use Rattle.std.proofs.Common.{◌≡◌, ◌⊎◌, inl, inr, ℕ, ◌≤◌, ◌==◌, Bool, true, false, cond, List, [], ◌∷◌, ◌++◌, refl, ap, sym, ◌∙◌, subst, arith, eqb-true, ltb-true, leb-true, lt-ltb, Some, unsigned_abs, nat_lt}
-use Rattle.std.proofs.lemmas.Bool.{false≢true, eqb-false}
+use Rattle.std.proofs.{Common.{◌≡◌, ◌⊎◌, inl, inr, ℕ, ◌≤◌, ◌==◌, Bool, true, false, cond, List, [], ◌∷◌, ◌++◌, refl, ap, sym, ◌∙◌, subst, arith, eqb-true, ltb-true, leb-true, lt-ltb, Some, unsigned_abs, nat_lt}, lemmas.Bool.{false≢true, eqb-false}}
 use Rattle.std.specs.List.{AllByRecursion}
-use Rattle.sharc_tree.specs.declared.ctype.Base.{Base}
-use Rattle.sharc_tree.specs.declared.ctype.Base.TheVariants.{Int, Char, Long, Mutex, Void, Struct}
-use Rattle.sharc_tree.specs.declared.tree.declaration.WrittenType.{WrittenType}
-use Rattle.sharc_tree.specs.declared.tree.expression.Constant.{Constant}
-use Rattle.sharc_tree.specs.declared.tree.expression.Constant.TheVariants.{Number, Character, Null}
-use Rattle.sharc_tree.specs.declared.tree.item.GlobalDefinition.{GlobalDefinition}
-use Rattle.sharc_tree.specs.declared.tree.item.GlobalForm.{GlobalForm}
-use Rattle.sharc_tree.specs.declared.tree.item.GlobalForm.TheVariants.{Plain, Array, Initial}
-use Rattle.sharc_tree.specs.Tree.{Item, structure, global, function}
-use Rattle.sharc_names.specs.declared.fault.FaultCode.TheVariants.{TypeMismatch, TypeNotAllowed}
-use Rattle.sharc_names.specs.declared.scope.Scope.{Scope}
+use Rattle.sharc_tree.specs.{declared.ctype.Base.Base, declared.ctype.Base.TheVariants.{Int, Char, Long, Mutex, Void, Struct}, declared.tree.declaration.WrittenType.WrittenType, declared.tree.expression.Constant.Constant, declared.tree.expression.Constant.TheVariants.{Number, Character, Null}, declared.tree.item.GlobalDefinition.GlobalDefinition, declared.tree.item.GlobalForm.GlobalForm, declared.tree.item.GlobalForm.TheVariants.{Plain, Array, Initial}, Tree.{Item, structure, global, function}}
+use Rattle.sharc_names.specs.{declared.fault.FaultCode.TheVariants.{TypeMismatch, TypeNotAllowed}, declared.scope.Scope.Scope, Kinds.{object, stars_of, declared_kind}, Notes.fault_unless, Types.{is_allowed, allowed_there, type_notes}}
 use Rattle.sharc_names.specs.declared.types.Role.TheVariants as role
-use Rattle.sharc_names.specs.Kinds.{object, stars_of, declared_kind}
-use Rattle.sharc_names.specs.Notes.{fault_unless}
-use Rattle.sharc_names.specs.Types.{is_allowed, allowed_there, type_notes}
-use Rattle.sharc_ctype.specs.Globals.{elements_of, length_notes, holds, holds_constant, is_null_constant, base_initial_notes, initial_notes, global_notes}
-use Rattle.sharc_ctype.specs.Items.{item_notes, items_notes}
-use Rattle.sharc_ctype.specs.Resolved.{globals_in}
-use Rattle.sharc_ctype_laws.specs.Constraints.{IsInteger, IsPointer}
-use Rattle.sharc_ctype_laws.specs.Initials.{IsHeldBy, number_of, MeetsInitial, MeetsGlobal}
-use Rattle.sharc_ctype_laws.proofs.Held.{Clean, clean_left, clean_right, clean_well, clean_not_wrong, clean_fault}
-use Rattle.sharc_ctype_laws.proofs.KindLemmas.{pointer_is}
+use Rattle.sharc_ctype.specs.{Globals.{elements_of, length_notes, holds, holds_constant, is_null_constant, base_initial_notes, initial_notes, global_notes}, Items.{item_notes, items_notes}, Resolved.globals_in}
+use Rattle.sharc_ctype_laws.specs.{Constraints.{IsInteger, IsPointer}, Initials.{IsHeldBy, number_of, MeetsInitial, MeetsGlobal}}
+use Rattle.sharc_ctype_laws.proofs.{Held.{Clean, clean_left, clean_right, clean_well, clean_not_wrong, clean_fault}, KindLemmas.pointer_is}
 
 -- lengths
 

@@ -1,34 +1,16 @@
 -- What lock paths name is in scope where their types are read, and stays in scope as long as what has the type.
-use Rattle.std.proofs.Common.{◌≡◌, inl, inr, ℕ, ◌+◌, Bool, true, false, cond, List, [], ◌∷◌, ◌++◌, length, refl, ap, sym, ◌∙◌, subst, Option, Some, None, is_some, bytes_eq}
-use Rattle.std.proofs.lemmas.Bool.{false≢true}
+use Rattle.std.proofs.{Common.{◌≡◌, inl, inr, ℕ, ◌+◌, Bool, true, false, cond, List, [], ◌∷◌, ◌++◌, length, refl, ap, sym, ◌∙◌, subst, Option, Some, None, is_some, bytes_eq}, lemmas.Bool.false≢true}
 use Rattle.std.specs.List.{AllByRecursion}
-use Rattle.sharc_tree.specs.declared.ctype.Mode.{Mode}
-use Rattle.sharc_tree.specs.declared.ctype.Mode.TheVariants.{Private, Readonly, Locked, Racy, Dynamic}
-use Rattle.sharc_tree.specs.declared.ctype.Path.{Path}
-use Rattle.sharc_tree.specs.declared.ctype.Path.TheVariants.{One, Through}
-use Rattle.sharc_tree.specs.declared.tree.declaration.Declaration.{Declaration}
-use Rattle.sharc_tree.specs.declared.tree.declaration.WrittenType.{WrittenType}
-use Rattle.sharc_tree.specs.Measures.{expressions, in_option, in_simple}
-use Rattle.sharc_tree.specs.Tree.{Expression, Local, First, nothing, declares, does, Head, Statement, Statements, no_statements, statement, Function, Item, structure, global, function}
+use Rattle.sharc_tree.specs.{declared.ctype.Mode.Mode, declared.ctype.Mode.TheVariants.{Private, Readonly, Locked, Racy, Dynamic}, declared.ctype.Path.Path, declared.ctype.Path.TheVariants.{One, Through}, declared.tree.declaration.Declaration.Declaration, declared.tree.declaration.WrittenType.WrittenType, Measures.{expressions, in_option, in_simple}, Tree.{Expression, Local, First, nothing, declares, does, Head, Statement, Statements, no_statements, statement, Function, Item, structure, global, function}}
 use Rattle.sharc_tree.specs.Tree as tree
-use Rattle.sharc_names.specs.declared.fault.Named.{Named}
+use Rattle.sharc_names.specs.{declared.fault.Named.Named, declared.scope.Scope.Scope, declared.types.Role.Role, Names.{Entry, Meaning, look_up, field_of, named_of}, Types.{name_notes, first_notes, path_notes, mode_notes, modes_notes, type_notes}}
 use Rattle.sharc_names.specs.declared.fault.Named.TheVariants as named
-use Rattle.sharc_names.specs.declared.scope.Scope.{Scope}
-use Rattle.sharc_names.specs.declared.types.Role.{Role}
 use Rattle.sharc_names.specs.declared.types.Role.TheVariants as role
-use Rattle.sharc_names.specs.Names.{Entry, Meaning, look_up, field_of, named_of}
 use Rattle.sharc_names.specs.Names as meaning
-use Rattle.sharc_names.specs.Types.{name_notes, first_notes, path_notes, mode_notes, modes_notes, type_notes}
-use Rattle.sharc_ctype.specs.Expressions.{notes_of}
-use Rattle.sharc_ctype.specs.Items.{with_parameters, in_body, parameters_notes, fields_notes, function_notes, items_notes}
-use Rattle.sharc_ctype.specs.Resolved.{Resolution, named_at, functions_in}
-use Rattle.sharc_ctype.specs.Statements.{Around, opened, looping, with_names, is_here, declared, local_notes, first_notes as first_part_notes, behind_first, in_head, head_notes, after, notes_in, notes_in_all}
-use Rattle.sharc_ctype_laws.specs.Paths.{meaning_token, IsVariableIn, IsAmong, PathStands, LevelStands, TypeStands, EntryStands, IsClosed, CastStands, FirstStands, LocalsStand, AllLocalsStand, around_in, BodyStands, file_types}
-use Rattle.sharc_ctype_laws.specs.Places.{Placing, at, places_in_local, places_in_first, places_in, places_in_all, places_of, places_of_all}
-use Rattle.sharc_ctype_laws.proofs.AllLemmas.{both, each, mapped}
-use Rattle.sharc_ctype_laws.proofs.Held.{Held, left, right, no_fault, head_named}
-use Rattle.sharc_ctype_laws.proofs.OwnVariables.{IsVariable, AreVariables, same_variable, no_global, no_function, no_known}
-use Rattle.sharc_ctype_laws.proofs.Scenes.{found_or_later}
+use Rattle.sharc_ctype.specs.{Expressions.notes_of, Items.{with_parameters, in_body, parameters_notes, fields_notes, function_notes, items_notes}, Resolved.{Resolution, named_at, functions_in}, Statements.{Around, opened, looping, with_names, is_here, declared, local_notes, first_notes as first_part_notes, behind_first, in_head, head_notes, after, notes_in, notes_in_all}}
+use Rattle.sharc_ctype_laws.specs.{Paths.{meaning_token, IsVariableIn, IsAmong, PathStands, LevelStands, TypeStands, EntryStands, IsClosed, CastStands, FirstStands, LocalsStand, AllLocalsStand, around_in, BodyStands, file_types}, Places.{Placing, at, places_in_local, places_in_first, places_in, places_in_all, places_of, places_of_all}}
+use Rattle.sharc_ctype_laws.proofs.{Held.{Held, left, right, no_fault, head_named}, OwnVariables.{IsVariable, AreVariables, same_variable, no_global, no_function, no_known}, Scenes.found_or_later}
+use Rattle.sharc_lemmas.proofs.Lists.{both, each, mapped_each as mapped}
 
 -- what is found
 

@@ -1,46 +1,16 @@
 -- Where no fault is noted, notes refer to a token exactly as often as the tree has a name there.
 use Rattle.std.proofs.Common.{◌≡◌, ℕ, ◌+◌, Bool, true, false, cond, List, [], ◌∷◌, ◌++◌, length, drop, refl, ap, sym, ◌∙◌, subst, arith, Option, Some, None, IfSome, is_some, nat_lt, codes}
 use Rattle.std.specs.List.{AllByRecursion}
-use Rattle.sharc_tree.specs.declared.ctype.Base.{Base}
+use Rattle.sharc_tree.specs.{declared.ctype.Base.Base, declared.ctype.Mode.Mode, declared.ctype.Path.Path, declared.ctype.Path.TheVariants.{One, Through}, declared.tree.declaration.WrittenType.WrittenType, declared.tree.declaration.Declaration.Declaration, Low.{is_unary, LowType, LowTypes, AllLowTypes, LowExpression, LowRight, LowSimple, LowLocal, LowFirst, LowHead, LowStatement, LowStatements, LowDeclarations, LowItem, LowItems}, Marks.{a_name, name_marks, path_marks, level_marks, base_marks, type_marks, declaration_marks, declarations_marks, marks, arguments_marks, option_marks, right_marks, simple_marks, local_marks, first_marks, head_marks, statement_marks, statements_marks, item_marks, items_marks}, Tree.{Expression, Arguments, no_arguments, argument, Right, value, malloc, Simple, assign, does_call, Local, First, nothing, declares, does, Head, Statement, Statements, no_statements, statement, Item}}
 use Rattle.sharc_tree.specs.declared.ctype.Base.TheVariants as base
-use Rattle.sharc_tree.specs.declared.ctype.Mode.{Mode}
 use Rattle.sharc_tree.specs.declared.ctype.Mode.TheVariants as modes
-use Rattle.sharc_tree.specs.declared.ctype.Path.{Path}
-use Rattle.sharc_tree.specs.declared.ctype.Path.TheVariants.{One, Through}
-use Rattle.sharc_tree.specs.declared.tree.declaration.WrittenType.{WrittenType}
-use Rattle.sharc_tree.specs.declared.tree.declaration.Declaration.{Declaration}
-use Rattle.sharc_tree.specs.Low.{is_unary, LowType, LowTypes, AllLowTypes, LowExpression, LowRight, LowSimple, LowLocal, LowFirst, LowHead, LowStatement, LowStatements, LowDeclarations, LowItem, LowItems}
-use Rattle.sharc_tree.specs.Marks.{a_name, name_marks, path_marks, level_marks, base_marks, type_marks, declaration_marks, declarations_marks, marks, arguments_marks, option_marks, right_marks, simple_marks, local_marks, first_marks, head_marks, statement_marks, statements_marks, item_marks, items_marks}
-use Rattle.sharc_tree.specs.Tree.{Expression, Arguments, no_arguments, argument, Right, value, malloc, Simple, assign, does_call, Local, First, nothing, declares, does, Head, Statement, Statements, no_statements, statement, Function, Item}
 use Rattle.sharc_tree.specs.Tree as tree
-use Rattle.sharc_names.specs.declared.fault.FaultCode.TheVariants.{TypeNotAllowed, BadForm, LimitPassed, NoMain}
-use Rattle.sharc_names.specs.declared.fault.Named.{Named}
+use Rattle.sharc_names.specs.{declared.fault.FaultCode.TheVariants.{TypeNotAllowed, BadForm, LimitPassed, NoMain}, declared.fault.Named.Named, declared.scope.Scope.Scope, declared.types.Role.Role, Kinds.{Kind, void, is_struct_behind, same_kind, declared_kind}, Names.{StructTable, StructMeaning, Entry, look_up, struct_of, field_of, parameters_of, kind_of, is_main}, Needs.met, Notes.{Note, refers, fault_unless}, Types.{name_kind, name_notes, field_in, field_notes, first_kind, first_notes, second_in, second_notes, path_notes, mode_notes, modes_notes, struct_note, base_notes, allowed_there, type_notes, is_fine}, Wants.first_wanted}
 use Rattle.sharc_names.specs.declared.need.Need.TheVariants as need
-use Rattle.sharc_names.specs.declared.scope.Scope.{Scope}
-use Rattle.sharc_names.specs.declared.types.Role.{Role}
 use Rattle.sharc_names.specs.declared.types.Role.TheVariants as role
-use Rattle.sharc_names.specs.Kinds.{Kind, void, is_struct_behind, same_kind, declared_kind}
-use Rattle.sharc_names.specs.Names.{StructTable, StructMeaning, Entry, look_up, struct_of, field_of, parameters_of, kind_of, is_main}
-use Rattle.sharc_names.specs.Needs.{met}
-use Rattle.sharc_names.specs.Notes.{Note, refers, fault_unless}
-use Rattle.sharc_names.specs.Types.{name_kind, name_notes, field_in, field_notes, first_kind, first_notes, second_in, second_notes, path_notes, mode_notes, modes_notes, struct_note, base_notes, allowed_there, type_notes, is_fine}
-use Rattle.sharc_names.specs.Wants.{first_wanted}
-use Rattle.sharc_ctype.specs.Heads.{Heading as Heads}
-use Rattle.sharc_ctype.specs.declared.expr.Standing.{Standing}
-use Rattle.sharc_ctype.specs.declared.expr.Standing.TheVariants.{AsValue, AsLvalue}
-use Rattle.sharc_ctype.specs.Expressions.{notes_at, type_of, notes_of_all, access_need, operand_need, place_kind, count, callee_notes, wanted, spawn_notes, spawn_wanted, class_of, operands_need}
-use Rattle.sharc_ctype.specs.Heads.{head_notes as item_head_notes, heads_notes, behind as heads_behind, no_heads}
-use Rattle.sharc_ctype.specs.Items.{in_body, fields_notes, field_notes as one_field_notes, parameters_notes, item_notes, items_notes, file_scope, has_main, program_notes}
-use Rattle.sharc_ctype.specs.Resolved.{Resolution, declarations_of, declarations_in}
-use Rattle.sharc_ctype.specs.Statements.{Around, is_here, is_aggregate, returned_as, locals_in, locals_in_all, first_locals, opened, looping, with_names, declared, declared_notes, test_notes, count_notes, right_notes, simple_notes, local_notes, initial_notes, return_notes, first_notes as first_part_notes, behind_first, tests_notes, step_notes, in_head, head_notes, after, notes_in, notes_in_all}
-use Rattle.sharc_ctype_laws.proofs.AllLemmas.{front, back}
-use Rattle.sharc_ctype_laws.proofs.AtMost.{quiet_main, quiet_place, quiet_place_call, quiet_cast, quiet_binary, quiet_count, quiet_twice, quiet_beyond, quiet_constant, quiet_length, quiet_sizes, all_levels, type_written, other_marks, item_written, head_told}
-use Rattle.sharc_ctype_laws.proofs.Counts.{one, told, written, told-append, written-append, told_refers, told_one, told_second, told_none, written_one, written_cast, written_none, quiet_unless, quiet_where, quiet_unmet, quiet_unagreed, quiet_both, side_is, crossed_is, behind_is, before_is, none_is}
-use Rattle.sharc_ctype_laws.proofs.FileScene.{fields_are, body_scene}
-use Rattle.sharc_ctype_laws.proofs.Held.{Held, left, right, no_fault, not_wrong, behind_head, second_held}
-use Rattle.sharc_ctype_laws.proofs.Judged.{solid_meaning, member_of, struct_behind_is, judged, field_member}
-use Rattle.sharc_ctype_laws.proofs.Scenes.{IsSolid, IsField, IsScene, found_name, found_field, type_solid}
-use Rattle.sharc_ctype_laws.proofs.Walked.{AreDeclared, scene_with, declared_meant, local_scene, head_scene, after_scene}
+use Rattle.sharc_ctype.specs.{Heads.{Heading as Heads, head_notes as item_head_notes, heads_notes, behind as heads_behind, no_heads}, declared.expr.Standing.Standing, declared.expr.Standing.TheVariants.{AsValue, AsLvalue}, Expressions.{notes_at, type_of, notes_of_all, access_need, operand_need, place_kind, count, callee_notes, wanted, spawn_notes, spawn_wanted, class_of, operands_need}, Items.{in_body, fields_notes, field_notes as one_field_notes, parameters_notes, item_notes, items_notes, file_scope, has_main, program_notes}, Resolved.{Resolution, declarations_of, declarations_in}, Statements.{Around, is_here, is_aggregate, returned_as, locals_in, locals_in_all, first_locals, opened, looping, with_names, declared, declared_notes, test_notes, count_notes, right_notes, simple_notes, local_notes, initial_notes, return_notes, first_notes as first_part_notes, behind_first, tests_notes, step_notes, in_head, head_notes, after, notes_in, notes_in_all}}
+use Rattle.sharc_ctype_laws.proofs.{AtMost.{quiet_main, quiet_place, quiet_place_call, quiet_cast, quiet_binary, quiet_count, quiet_twice, quiet_beyond, quiet_constant, quiet_length, quiet_sizes, all_levels, type_written, other_marks, item_written, head_told}, Counts.{one, told, written, told-append, written-append, told_refers, told_one, told_second, told_none, written_one, written_cast, written_none, quiet_unless, quiet_where, quiet_unmet, quiet_unagreed, quiet_both, side_is, crossed_is, behind_is, before_is, none_is}, FileScene.{fields_are, body_scene}, Held.{Held, left, right, no_fault, not_wrong, behind_head, second_held}, Judged.{solid_meaning, member_of, struct_behind_is, judged, field_member}, Scenes.{IsSolid, IsField, IsScene, found_name, found_field, type_solid}, Walked.{AreDeclared, scene_with, declared_meant, local_scene, head_scene, after_scene}}
+use Rattle.sharc_lemmas.proofs.Lists.{front, back}
 
 -- names
 

@@ -1,34 +1,14 @@
 -- What is assigned, initialised, passed and returned agrees, where no fault is noted.
-use Rattle.std.proofs.Common.{◌≡◌, ◌⊎◌, inl, inr, ℕ, Bool, true, false, not, ◌||◌, cond, List, [], ◌∷◌, ◌++◌, length, drop, refl, ap, sym, ◌∙◌, subst, Option, Some, None}
-use Rattle.std.proofs.lemmas.Bool.{false≢true}
+use Rattle.std.proofs.{Common.{◌≡◌, ◌⊎◌, inl, inr, ℕ, Bool, true, false, not, ◌||◌, cond, List, [], ◌∷◌, ◌++◌, length, drop, refl, ap, sym, ◌∙◌, subst, Option, Some, None}, lemmas.Bool.false≢true}
 use Rattle.std.specs.List.{AllByRecursion}
-use Rattle.sharc_tree.specs.declared.token.Span.{Span}
-use Rattle.sharc_tree.specs.declared.tree.declaration.Identifier.{Identifier}
-use Rattle.sharc_tree.specs.declared.tree.declaration.WrittenType.{WrittenType}
-use Rattle.sharc_tree.specs.declared.tree.declaration.Declaration.{Declaration}
-use Rattle.sharc_tree.specs.Tree.{Expression, Arguments, no_arguments, argument, Right, value, malloc, Simple, assign, does_call, Local, First, nothing, declares, does, Head, Statement, Statements, no_statements, statement, Function, Item}
+use Rattle.sharc_tree.specs.{declared.token.Span.Span, declared.tree.declaration.Identifier.Identifier, declared.tree.declaration.WrittenType.WrittenType, declared.tree.declaration.Declaration.Declaration, Tree.{Expression, Arguments, no_arguments, argument, Right, value, malloc, Simple, assign, does_call, Local, First, nothing, declares, does, Statement, Statements, no_statements, statement, Function}}
 use Rattle.sharc_tree.specs.Tree as tree
-use Rattle.sharc_names.specs.declared.fault.FaultCode.TheVariants.{TypeMismatch, BadForm}
+use Rattle.sharc_names.specs.{declared.fault.FaultCode.TheVariants.{TypeMismatch, BadForm}, declared.scope.Scope.Scope, Kinds.{Kind, void, same_kind, agrees, declared_kind, declared_kinds}, Names.look_up, Needs.{met, unagreed}, Notes.fault_unless, Types.is_fine}
 use Rattle.sharc_names.specs.declared.need.Need.TheVariants as need
-use Rattle.sharc_names.specs.declared.scope.Scope.{Scope}
 use Rattle.sharc_names.specs.declared.types.Role.TheVariants as role
-use Rattle.sharc_names.specs.Kinds.{Kind, void, same_kind, agrees, declared_kind, declared_kinds}
-use Rattle.sharc_names.specs.Names.{look_up}
-use Rattle.sharc_names.specs.Needs.{met, unagreed}
-use Rattle.sharc_names.specs.Notes.{fault_unless}
-use Rattle.sharc_names.specs.Types.{is_fine}
-use Rattle.sharc_ctype.specs.Expressions.{type_of, notes_of, notes_of_all, count, wanted, place_kind}
-use Rattle.sharc_ctype.specs.Items.{in_body, function_notes}
-use Rattle.sharc_ctype.specs.Resolved.{Resolution, named_at, kind_at, declarations_of}
-use Rattle.sharc_ctype.specs.Statements.{Around, opened, looping, with_names, declared, count_notes, made, is_made, right_notes, simple_notes, wanted_by, initial_notes, local_notes, returned_as, return_notes, first_notes, behind_first, tests_notes, step_notes, in_head, after, notes_in, notes_in_all, first_locals, locals_in, locals_in_all}
-use Rattle.sharc_ctype.specs.Transfers.{lvalue, variable, result, gives, parameters_named, passed, transfers, argument_transfers, in_option, right_transfers, simple_transfers, local_transfers, first_transfers, statement_transfers, statements_transfers, function_transfers, Agrees, IsFair}
-use Rattle.sharc_ctype_laws.proofs.AllLemmas.{both, front, back}
-use Rattle.sharc_ctype_laws.proofs.FileScene.{body_scene}
-use Rattle.sharc_ctype_laws.proofs.Held.{Held, left, right, well, not_wrong}
-use Rattle.sharc_ctype_laws.proofs.Judged.{judged, met_by, lvalue_by, argument_agrees, call_callee, spawn_callee, spawn_agrees}
-use Rattle.sharc_ctype_laws.proofs.Scenes.{IsScene, type_fine, need_fits, need_met}
-use Rattle.sharc_ctype_laws.proofs.Walked.{AreDeclared, local_scene, head_scene, after_scene}
-use Rattle.sharc_ctype_laws.proofs.Standings.{lvalue_held}
+use Rattle.sharc_ctype.specs.{Expressions.{type_of, notes_of, notes_of_all, count, wanted, place_kind}, Items.{in_body, function_notes}, Resolved.{Resolution, named_at, kind_at, declarations_of}, Statements.{Around, opened, looping, with_names, declared, count_notes, made, is_made, right_notes, simple_notes, wanted_by, initial_notes, local_notes, returned_as, return_notes, first_notes, behind_first, tests_notes, step_notes, in_head, after, notes_in, notes_in_all, first_locals, locals_in, locals_in_all}, Transfers.{lvalue, variable, result, gives, parameters_named, passed, transfers, argument_transfers, in_option, right_transfers, simple_transfers, local_transfers, first_transfers, statement_transfers, statements_transfers, function_transfers, Agrees, IsFair}}
+use Rattle.sharc_ctype_laws.proofs.{FileScene.body_scene, Held.{Held, left, right, well, not_wrong}, Judged.{judged, met_by, lvalue_by, argument_agrees, call_callee, spawn_callee, spawn_agrees}, Scenes.{IsScene, type_fine, need_fits, need_met}, Walked.{AreDeclared, local_scene, head_scene, after_scene}, Standings.lvalue_held}
+use Rattle.sharc_lemmas.proofs.Lists.{front, back, both}
 
 -- calls
 

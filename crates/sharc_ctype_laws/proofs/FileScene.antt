@@ -1,26 +1,13 @@
 -- The scope of a file, and of each function's body, of which no fault is noted: each name means what the program's declarations say.
-use Rattle.std.proofs.Common.{◌≡◌, ℕ, zero, suc, ◌+◌, Bool, true, false, cond, List, [], ◌∷◌, ◌++◌, length, drop, slice_get, refl, ap, sym, ◌∙◌, Option, Some, None, is_some, add-one, bytes_eq}
-use Rattle.std.proofs.lemmas.Bool.{true≢false, false_from_ne_true}
-use Rattle.std.proofs.lemmas.Slice.Eq.{bytes_eq-Decides}
+use Rattle.std.proofs.{Common.{◌≡◌, ℕ, zero, suc, ◌+◌, Bool, true, false, cond, List, [], ◌∷◌, ◌++◌, length, drop, slice_get, refl, ap, sym, ◌∙◌, Option, Some, None, is_some, add-one, bytes_eq}, lemmas.Bool.{true≢false, false_from_ne_true}, lemmas.Slice.Eq.bytes_eq-Decides}
 use Rattle.std.specs.List.{AllByRecursion}
-use Rattle.sharc_tree.specs.declared.tree.declaration.Declaration.{Declaration}
-use Rattle.sharc_tree.specs.declared.tree.item.StructDefinition.{StructDefinition}
-use Rattle.sharc_tree.specs.Tree.{Function, Item, structure, global, function}
-use Rattle.sharc_names.specs.declared.scope.Scope.{Scope}
+use Rattle.sharc_tree.specs.{declared.tree.declaration.Declaration.Declaration, declared.tree.item.StructDefinition.StructDefinition, Tree.{Function, Item, structure, global, function}}
+use Rattle.sharc_names.specs.{declared.scope.Scope.Scope, Names.{StructTable, StructMeaning, defined, struct_of, Entry, look_up}}
 use Rattle.sharc_names.specs.declared.types.Role.TheVariants as role
-use Rattle.sharc_names.specs.Names.{StructTable, StructMeaning, defined, struct_of, Entry, look_up}
-use Rattle.sharc_ctype.specs.Heads.{Heading as Heads}
-use Rattle.sharc_ctype_laws.specs.Constraints.{struct_named}
-use Rattle.sharc_ctype.specs.Condition.{defines_condition, with_conditions}
-use Rattle.sharc_ctype.specs.Heads.{with_struct, with_entry, global_entry, function_entry, behind, behind_all, no_heads}
-use Rattle.sharc_ctype.specs.Items.{fields_notes, parameters_notes, with_parameters, in_body, function_notes, items_notes, file_scope}
-use Rattle.sharc_ctype_laws.specs.Places.{places_of, places_of_all}
-use Rattle.sharc_ctype.specs.Resolved.{Resolution, structs_in, globals_in, functions_in, declarations_in, declarations_of}
-use Rattle.sharc_ctype.specs.Statements.{with_names, declared, locals_in_all}
-use Rattle.sharc_ctype_laws.proofs.AllLemmas.{both, front, back}
-use Rattle.sharc_ctype_laws.proofs.Held.{Held, left, right}
-use Rattle.sharc_ctype_laws.proofs.Scenes.{IsMeant, AreMeant, IsField, IsStruct, AreStructs, IsScene, type_solid, type_result}
-use Rattle.sharc_ctype_laws.proofs.Walked.{AreDeclared, scene_with, declared_meant, JudgedAt, places_all}
+use Rattle.sharc_ctype.specs.{Heads.{Heading as Heads, with_struct, with_entry, global_entry, function_entry, behind, behind_all, no_heads}, Condition.{defines_condition, with_conditions}, Items.{fields_notes, parameters_notes, with_parameters, in_body, function_notes, items_notes, file_scope}, Resolved.{Resolution, structs_in, globals_in, functions_in, declarations_in, declarations_of}, Statements.{with_names, declared, locals_in_all}}
+use Rattle.sharc_ctype_laws.specs.{Constraints.struct_named, Places.{places_of, places_of_all}}
+use Rattle.sharc_ctype_laws.proofs.{Held.{Held, left, right}, Scenes.{IsMeant, AreMeant, IsField, IsStruct, AreStructs, IsScene, type_solid, type_result}, Walked.{AreDeclared, scene_with, declared_meant, JudgedAt, places_all}}
+use Rattle.sharc_lemmas.proofs.Lists.{front, back, both, bytes_same, no_cons as none_left}
 
 -- what is at the head of what is left
 
@@ -29,9 +16,6 @@ some_of x y a b h = cc
 
 rest_of : {A : Type 0} (x y : A) (a b : List A) → x ∷ a ≡ y ∷ b → a ≡ b
 rest_of x y a b h = cc
-
-none_left : {A : Type 0} (x : A) (rest : List A) → [] ≡ x ∷ rest → ⊥
-none_left x rest h = cc
 
 pub there : {A : Type 0} (list : List A) (n : ℕ) (x : A) (rest : List A) → drop n list ≡ x ∷ rest → slice_get list n ≡ Some x
 there [] zero x rest h = absurd (none_left x rest h)
@@ -66,9 +50,6 @@ entry_meant r structs names e all m = either (AreMeant r structs) names (e ∷ n
 none_of : {A : Type 0} (o : Option A) → is_some o ≡ false → o ≡ None
 none_of None h = refl
 none_of (Some x) h = absurd (true≢false h)
-
-bytes_same : (a : List ℕ) → bytes_eq a a ≡ true
-bytes_same a = (bytes_eq-Decides a a).1 refl
 
 struct_meant : (r : Resolution) (structs table : StructTable) (n : ℕ) (s : StructDefinition) → AreStructs r structs table → (struct_of table s.name.text ≡ None → IsStruct r structs s.name.text (defined n s.fields)) → AreStructs r structs (with_struct table n s)
 struct_meant r structs table n s all m = by (is_some (struct_of table s.name.text)) refl

@@ -1,10 +1,6 @@
 -- Notes without a fault, each of which says what its token names.
 use Rattle.std.proofs.Common.{◌≡◌, ℕ, Bool, true, false, List, [], ◌∷◌, ◌++◌, Option, Some, None, refl}
-use Rattle.sharc_names.specs.declared.fault.Fault.{Fault}
-use Rattle.sharc_names.specs.declared.fault.FaultCode.{FaultCode}
-use Rattle.sharc_names.specs.declared.fault.Named.{Named}
-use Rattle.sharc_names.specs.Notes.{Note, fault, refers, yields, fault_unless, fault_where, faults}
-use Rattle.sharc_names.specs.Types.{field_notes, second_notes}
+use Rattle.sharc_names.specs.{declared.fault.Fault.Fault, declared.fault.FaultCode.FaultCode, declared.fault.Named.Named, Notes.{Note, fault, refers, yields, fault_unless, fault_where, faults}, Types.{field_notes, second_notes}}
 use Rattle.sharc_tree.specs.declared.tree.declaration.Declaration.{Declaration}
 use Rattle.sharc_ctype.specs.Resolved.{Resolution, named_at}
 
@@ -73,7 +69,7 @@ Clean (fault place code ∷ rest) = ⊥
 Clean (refers token what ∷ rest) = Clean rest
 Clean (yields token what ∷ rest) = Clean rest
 
-no_faults : (f : Fault) (rest : List Fault) → f ∷ rest ≡ [] → ⊥
+pub no_faults : (f : Fault) (rest : List Fault) → f ∷ rest ≡ [] → ⊥
 no_faults f rest h = cc
 
 pub clean : (list : List Note) → faults list ≡ [] → Clean list

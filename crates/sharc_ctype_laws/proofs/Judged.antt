@@ -1,58 +1,21 @@
 -- Expressions of which no fault is noted: their type in the scope is the one that their names give, and C11 gives it too.
-use Rattle.std.proofs.Common.{◌≡◌, ◌⊎◌, inl, inr, ⊎_elim, ℕ, ◌+◌, ◌==◌, Bool, true, false, ◌&&◌, ◌||◌, not, cond, nat_lt, List, [], ◌∷◌, length, drop, refl, ap, ap₂, sym, ◌∙◌, subst, eqb-true, Option, Some, None, is_some, arith, codes}
-use Rattle.std.proofs.lemmas.Bool.{false≢true, and_parts, or_cases, not-true}
-use Rattle.std.proofs.lemmas.Slice.Eq.{bytes_eq-Decides}
+use Rattle.std.proofs.{Common.{◌≡◌, ◌⊎◌, inl, inr, ⊎_elim, ℕ, ◌+◌, ◌==◌, Bool, true, false, ◌&&◌, ◌||◌, not, cond, nat_lt, List, [], ◌∷◌, length, drop, refl, ap, ap₂, sym, ◌∙◌, subst, eqb-true, Option, Some, None, is_some, arith, codes}, lemmas.Bool.{false≢true, and_parts, or_cases, not-true}, lemmas.Slice.Eq.bytes_eq-Decides}
 use Rattle.std.specs.List.{AllByRecursion}
 use Rattle.sharc_tree.specs.declared.ctype.Base.TheVariants as base
-use Rattle.sharc_tree.specs.declared.token.Site.{Site}
-use Rattle.sharc_tree.specs.declared.token.Span.{Span}
-use Rattle.sharc_tree.specs.declared.tree.declaration.Identifier.{Identifier}
-use Rattle.sharc_tree.specs.declared.tree.declaration.WrittenType.{WrittenType}
-use Rattle.sharc_tree.specs.declared.tree.declaration.Declaration.{Declaration}
-use Rattle.sharc_tree.specs.declared.token.NumberType.{NumberType}
+use Rattle.sharc_tree.specs.{declared.token.Site.Site, declared.token.Span.Span, declared.tree.declaration.Identifier.Identifier, declared.tree.declaration.WrittenType.WrittenType, declared.tree.declaration.Declaration.Declaration, declared.token.NumberType.NumberType, declared.tree.expression.Constant.Constant, declared.tree.expression.Access.Access, declared.tree.expression.Access.TheVariants.{Dot, Arrow}, declared.tree.expression.BinaryOperator.BinaryOperator, declared.tree.expression.UnaryOperator.UnaryOperator, declared.tree.expression.UnaryOperator.TheVariants.{Negate, Not, Complement, Dereference}, declared.tree.expression.ValueCall.ValueCall, declared.tree.expression.PlaceCall.PlaceCall, declared.tree.expression.PlaceCall.TheVariants.{Lock, Unlock, Free}, declared.tree.item.StructDefinition.StructDefinition, declared.tree.item.GlobalForm.GlobalForm, declared.tree.item.GlobalForm.TheVariants.{Plain, Array, Initial}, Forms.{is_lvalue, without_parentheses}, Tree.{Expression, Arguments, no_arguments, argument, Function}}
 use Rattle.sharc_tree.specs.declared.token.NumberType.TheVariants as width
-use Rattle.sharc_tree.specs.declared.tree.expression.Constant.{Constant}
 use Rattle.sharc_tree.specs.declared.tree.expression.Constant.TheVariants as constants
-use Rattle.sharc_tree.specs.declared.tree.expression.Access.{Access}
-use Rattle.sharc_tree.specs.declared.tree.expression.Access.TheVariants.{Dot, Arrow}
-use Rattle.sharc_tree.specs.declared.tree.expression.BinaryOperator.{BinaryOperator}
-use Rattle.sharc_tree.specs.declared.tree.expression.UnaryOperator.{UnaryOperator}
-use Rattle.sharc_tree.specs.declared.tree.expression.UnaryOperator.TheVariants.{Negate, Not, Complement, Dereference}
-use Rattle.sharc_tree.specs.declared.tree.expression.ValueCall.{ValueCall}
-use Rattle.sharc_tree.specs.declared.tree.expression.PlaceCall.{PlaceCall}
-use Rattle.sharc_tree.specs.declared.tree.expression.PlaceCall.TheVariants.{Lock, Unlock, Free}
-use Rattle.sharc_tree.specs.declared.tree.item.StructDefinition.{StructDefinition}
-use Rattle.sharc_tree.specs.declared.tree.item.GlobalForm.{GlobalForm}
-use Rattle.sharc_tree.specs.declared.tree.item.GlobalForm.TheVariants.{Plain, Array, Initial}
-use Rattle.sharc_tree.specs.Forms.{is_lvalue, without_parentheses}
-use Rattle.sharc_tree.specs.Tree.{Expression, Arguments, no_arguments, argument, Function}
 use Rattle.sharc_tree.specs.Tree as tree
-use Rattle.sharc_names.specs.declared.fault.FaultCode.TheVariants.{TypeMismatch, NoLvalue, BadForm, ArgumentCount}
+use Rattle.sharc_names.specs.{declared.fault.FaultCode.TheVariants.{TypeMismatch, NoLvalue, BadForm, ArgumentCount}, declared.need.Need.Need, declared.scope.Scope.Scope, Kinds.{Kind, object, array, null, int, long, void, mutex, is_pointer, is_struct_behind, same_kind, agrees, declared_kind, declared_kinds, element_kind}, Names.{StructTable, StructMeaning, struct_of, fields_of, field_of, defined, known, Entry, Meaning, Signature, look_up, named_of, kind_of, global_kind, is_main, parameters_of, result_of, condition_parameters}, Needs.{place, fits, met, unmet, agreed, unagreed}, Notes.{fault, fault_unless}, Types.{name_kind, name_notes, field_in, field_among, field_kind, field_notes, is_fine}, Wants.first_wanted}
 use Rattle.sharc_names.specs.declared.fault.Named.TheVariants as named
-use Rattle.sharc_names.specs.declared.need.Need.{Need}
 use Rattle.sharc_names.specs.declared.need.Need.TheVariants as need
-use Rattle.sharc_names.specs.declared.scope.Scope.{Scope}
 use Rattle.sharc_names.specs.declared.types.Role.TheVariants as role
-use Rattle.sharc_names.specs.Kinds.{Kind, object, array, null, int, long, void, mutex, is_pointer, is_array, is_struct_behind, is_struct_base, same_kind, agrees, comparable, declared_kind, declared_kinds, element_kind, promoted, common}
 use Rattle.sharc_names.specs.Kinds as kinds
-use Rattle.sharc_names.specs.Names.{StructTable, StructMeaning, struct_of, fields_of, field_of, defined, known, Entry, Meaning, Signature, look_up, named_of, kind_of, global_kind, is_main, parameters_of, result_of, condition_parameters}
 use Rattle.sharc_names.specs.Names as meaning
-use Rattle.sharc_names.specs.Needs.{place, fits, met, unmet, agreed, unagreed}
-use Rattle.sharc_names.specs.Notes.{fault, fault_unless}
-use Rattle.sharc_names.specs.Types.{name_kind, name_notes, field_in, field_among, field_kind, field_notes, is_fine}
-use Rattle.sharc_names.specs.Wants.{first_wanted}
-use Rattle.sharc_ctype.specs.declared.expr.OperatorClass.{OperatorClass}
-use Rattle.sharc_ctype.specs.declared.expr.OperatorClass.TheVariants.{Logical, Equality, Relation, Shift, Arithmetic}
-use Rattle.sharc_ctype.specs.Expressions.{number_kind, constant_kind, element_of, access_need, operand_need, unary_result, unary_kind, class_of, operands_need, binary_result, may_join, binary_kind, binary_notes, is_place, names_function, place_kind, place_notes, value_call_kind, suits, place_call_kind, place_call_notes, cast_kind, cast_notes, count, takes, count_notes, callee_notes, wanted_if, wanted, call_result, call_kind, can_spawn, spawn_notes, may_spawn, spawn_wanted, spawn_kind, type_of, are_fine, notes_of, notes_of_all}
+use Rattle.sharc_ctype.specs.{declared.expr.OperatorClass.OperatorClass, declared.expr.OperatorClass.TheVariants.{Logical, Equality, Relation, Shift, Arithmetic}, Expressions.{number_kind, constant_kind, element_of, access_need, operand_need, unary_result, unary_kind, class_of, operands_need, binary_result, may_join, binary_kind, binary_notes, is_place, names_function, place_kind, place_notes, value_call_kind, suits, place_call_kind, place_call_notes, cast_kind, cast_notes, count, takes, count_notes, callee_notes, wanted_if, wanted, call_result, call_kind, can_spawn, spawn_notes, may_spawn, spawn_wanted, spawn_kind, type_of, are_fine, notes_of, notes_of_all}, Heads.signature_of, Resolved.{Resolution, structs_in, named_at, function_at, variable_kind, global_kind_of, result_kind_of, named_kind, called_kind, kind_at}, Transfers.{parameters_named, parameters_of as parameters_of_function}, declared.expr.Standing.TheVariants.AsValue}
 use Rattle.sharc_ctype_laws.specs.Constraints.{struct_named, IsMemberOf, HasType, HaveTypes, Callee, of_program, of_conditions, IsInteger, a_variable, a_global, a_function, a_constant, in_parentheses, element_of_pointer, element_of_array, a_call, a_field, a_field_behind, negated, complemented, denied, pointed_to, arithmetic, shifted, related, equated, joined, spawned, printed_or_joined, locked, unlocked, freed, a_cast, none_left, one_more}
-use Rattle.sharc_ctype.specs.Heads.{signature_of}
-use Rattle.sharc_ctype.specs.Resolved.{Resolution, structs_in, named_at, function_at, variable_kind, global_kind_of, result_kind_of, named_kind, called_kind, kind_at}
-use Rattle.sharc_ctype.specs.Transfers.{parameters_named, parameters_of as parameters_of_function}
-use Rattle.sharc_ctype_laws.proofs.Held.{Held, left, right, no_fault, head_named, behind_head, well, not_wrong}
-use Rattle.sharc_ctype_laws.proofs.KindLemmas.{one_kind, integer_is, pointer_is, scalar_is, one_less, common_is, promoted_is, comparable_is, assignable_is}
-use Rattle.sharc_ctype_laws.proofs.Scenes.{IsSolid, IsResult, IsValued, IsMeant, AreMeant, IsField, IsStruct, AreStructs, IsScene, found_name, found_struct, found_field, need_fits, need_met, type_fine}
-use Rattle.sharc_ctype.specs.declared.expr.Standing.TheVariants.{AsValue}
-use Rattle.sharc_ctype_laws.proofs.Standings.{lvalue_held}
+use Rattle.sharc_ctype_laws.proofs.{Held.{Held, left, right, no_fault, head_named, behind_head, well, not_wrong}, KindLemmas.{one_kind, integer_is, pointer_is, scalar_is, common_is, promoted_is, comparable_is, assignable_is}, Scenes.{IsSolid, IsResult, IsValued, IsMeant, AreMeant, IsField, IsStruct, AreStructs, IsScene, found_name, found_struct, found_field, need_fits, need_met, type_fine}, Standings.lvalue_held}
+use Rattle.sharc_lemmas.proofs.Numbers.{one_less}
 
 pub record IsJudged (r : Resolution) (scope : Scope) (e : Expression) : Type 0 where
   pub typed : type_of scope e ≡ Some (kind_at r e)

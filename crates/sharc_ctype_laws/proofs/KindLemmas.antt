@@ -1,14 +1,10 @@
 -- Kinds: which are integers, pointers and scalars, and which agree.
-use Rattle.std.proofs.Common.{◌≡◌, inl, inr, ℕ, ◌+◌, ◌-◌, Bool, true, false, ◌&&◌, ◌||◌, cond, nat_lt, refl, ap, ap₂, sym, ◌∙◌, subst, eqb-true, ltb-true, arith, ⊎_elim}
-use Rattle.std.proofs.lemmas.Bool.{false≢true, and_parts, or_cases}
-use Rattle.std.proofs.lemmas.Slice.Eq.{bytes_eq-Decides}
-use Rattle.sharc_tree.specs.declared.ctype.Base.{Base}
-use Rattle.sharc_tree.specs.declared.ctype.Base.TheVariants.{Int, Char, Long, Mutex, Void, Struct}
-use Rattle.sharc_names.specs.declared.need.Need.TheVariants.{Value}
-use Rattle.sharc_names.specs.Kinds.{Kind, object, array, null, int, long, is_integral, is_integer, is_pointer, is_null, is_long, same_base, same_kind, agrees, comparable, promoted, common}
+use Rattle.std.proofs.{Common.{◌≡◌, inl, inr, ◌+◌, ◌-◌, Bool, true, false, ◌&&◌, ◌||◌, cond, refl, ap, ap₂, sym, ◌∙◌, subst, eqb-true, ⊎_elim}, lemmas.Bool.{false≢true, and_parts, or_cases}, lemmas.Slice.Eq.bytes_eq-Decides}
+use Rattle.sharc_tree.specs.{declared.ctype.Base.Base, declared.ctype.Base.TheVariants.{Int, Char, Long, Mutex, Void, Struct}}
+use Rattle.sharc_names.specs.{declared.need.Need.TheVariants.Value, Kinds.{Kind, object, array, null, int, long, is_integer, is_pointer, is_null, is_long, same_base, same_kind, agrees, comparable, promoted, common}, Needs.fits}
 use Rattle.sharc_names.specs.Kinds as kinds
-use Rattle.sharc_names.specs.Needs.{fits}
 use Rattle.sharc_ctype_laws.specs.Constraints.{IsInteger, IsPointer, IsScalar, Common, both_shorter, left_long, right_long, Comparable, integers, pointers, pointer_and_null, null_and_pointer, Assignable, integer, pointer, null_pointer}
+use Rattle.sharc_lemmas.proofs.Numbers.{one_less}
 
 -- tests that decide equality
 
@@ -38,9 +34,6 @@ integer_is (object b n) h = let p = and_parts _ _ h in (b, p.1, ap (object b) (e
 integer_is (array b n) h = absurd (false≢true h)
 integer_is null h = absurd (false≢true h)
 integer_is kinds.function h = absurd (false≢true h)
-
-pub one_less : (n : ℕ) → nat_lt 0 n ≡ true → n ≡ n - 1 + 1
-one_less n h = let less = ltb-true 0 n h in omega (arith, less)
 
 pub pointer_is : (k : Kind) → is_pointer k ≡ true → IsPointer k
 pointer_is (object b n) h = (b, n - 1, ap (object b) (one_less n h))

@@ -1,29 +1,14 @@
 -- A program of which no fault is noted is within the limits, and has its `main`.
-use Rattle.std.proofs.Common.{◌≡◌, ℕ, suc, ◌+◌, ◌-◌, ◌≤◌, ◌<◌, ◌==◌, Bool, true, ◌&&◌, nat_lt, nat_le, List, [], ◌∷◌, ◌++◌, length, refl, ap, sym, ◌∙◌, arith, Option, Some, None, codes, length-append, ltb-true, leb-true, eqb-true, eq-eqb, is_some}
-use Rattle.std.proofs.lemmas.Bool.{false≢true, true≢false, and_parts}
+use Rattle.std.proofs.{Common.{◌≡◌, ℕ, suc, ◌+◌, ◌-◌, ◌≤◌, ◌<◌, ◌==◌, Bool, true, ◌&&◌, nat_lt, nat_le, List, [], ◌∷◌, ◌++◌, length, refl, ap, sym, ◌∙◌, arith, Option, Some, None, codes, length-append, ltb-true, leb-true, eqb-true, eq-eqb, is_some}, lemmas.Bool.{false≢true, true≢false, and_parts}}
 use Rattle.std.specs.List.{AllByRecursion}
-use Rattle.sharc_tree.specs.declared.tree.declaration.Declaration.{Declaration}
-use Rattle.sharc_tree.specs.Tree.{Function, Item, structure, global, function}
-use Rattle.sharc_names.specs.declared.fault.FaultCode.TheVariants.{LimitPassed, NoMain}
-use Rattle.sharc_names.specs.declared.scope.Scope.{Scope}
-use Rattle.sharc_names.specs.Kinds.{int, same_kind, declared_kind}
-use Rattle.sharc_names.specs.Names.{StructTable, Entry, Meaning, Signature, look_up, struct_of, field_of}
-use Rattle.sharc_names.specs.Types.{type_notes}
+use Rattle.sharc_tree.specs.{declared.tree.declaration.Declaration.Declaration, Tree.{Function, Item, structure, global, function}}
+use Rattle.sharc_names.specs.{declared.fault.FaultCode.TheVariants.{LimitPassed, NoMain}, declared.scope.Scope.Scope, Kinds.{int, same_kind, declared_kind}, Names.{StructTable, Entry, Meaning, Signature, look_up, struct_of, field_of}, Types.type_notes, declared.fault.Named.Named, Notes.{refers, fault_where}}
 use Rattle.sharc_names.specs.declared.types.Role.TheVariants as role
-use Rattle.sharc_names.specs.declared.fault.Named.{Named}
 use Rattle.sharc_names.specs.declared.fault.Named.TheVariants as named
 use Rattle.sharc_names.specs.Names as meaning
-use Rattle.sharc_names.specs.Notes.{refers, fault_where}
-use Rattle.sharc_ctype.specs.Heads.{Heading as Heads}
-use Rattle.sharc_ctype.specs.Globals.{elements_of, global_cells, item_cells, cells_of_all, item_size_notes, sizes_notes}
-use Rattle.sharc_ctype.specs.Heads.{twice, within, behind, head_notes as item_head_notes, heads_notes}
-use Rattle.sharc_ctype.specs.Items.{field_notes as one_field_notes, fields_notes, parameters_notes, beyond, function_notes, item_notes, items_notes, is_main_meaning, has_main, main_missing}
-use Rattle.sharc_ctype.specs.Resolved.{Resolution, structs_in, globals_in, functions_in}
-use Rattle.sharc_ctype.specs.Statements.{with_names, declared, declared_notes, locals_in_all}
+use Rattle.sharc_ctype.specs.{Heads.{Heading as Heads, twice, within, behind, head_notes as item_head_notes, heads_notes}, Globals.{elements_of, global_cells, item_cells, cells_of_all, item_size_notes, sizes_notes}, Items.{field_notes as one_field_notes, fields_notes, parameters_notes, beyond, function_notes, item_notes, items_notes, is_main_meaning, has_main, main_missing}, Resolved.{Resolution, structs_in, globals_in, functions_in}, Statements.{with_names, declared, declared_notes, locals_in_all}}
 use Rattle.sharc_ctype_laws.specs.Limits.{IsMain}
-use Rattle.sharc_ctype_laws.proofs.Held.{Held, well, Clean, clean_left, clean_right, clean_behind, clean_well, clean_not_wrong}
-use Rattle.sharc_ctype_laws.proofs.KindLemmas.{one_kind}
-use Rattle.sharc_ctype_laws.proofs.Scenes.{IsMeant, AreMeant, IsScene, found_name}
+use Rattle.sharc_ctype_laws.proofs.{Held.{Held, well, Clean, clean_left, clean_right, clean_behind, clean_well, clean_not_wrong}, KindLemmas.one_kind, Scenes.{IsMeant, AreMeant, IsScene, found_name}}
 
 -- how many there are of each kind of item
 

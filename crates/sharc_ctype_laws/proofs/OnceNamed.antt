@@ -1,22 +1,13 @@
 -- No two functions have one name, where no fault is noted.
-use Rattle.std.proofs.Common.{◌≡◌, ℕ, zero, suc, Bool, true, false, List, [], ◌∷◌, ◌++◌, Some, refl, ap, ◌∙◌, rules, is_some}
-use Rattle.std.specs.Prelude.{slice_get, if◌then◌else◌}
-use Rattle.std.specs.Str.{bytes_eq}
-use Rattle.std.proofs.lemmas.Bool.{both_ways}
-use Rattle.std.proofs.lemmas.Slice.Eq.{bytes_eq-Decides}
+use Rattle.std.proofs.{Common.{◌≡◌, ℕ, zero, suc, Bool, true, false, List, [], ◌∷◌, ◌++◌, Some, refl, ap, ◌∙◌, rules, is_some}, lemmas.Bool.both_ways}
+use Rattle.std.specs.{Prelude.{slice_get, if◌then◌else◌}, Str.bytes_eq}
 use Rattle.sharc_tree.specs.Tree.{Function, Item, structure, global, function}
-use Rattle.sharc_names.specs.declared.fault.FaultCode.TheVariants.{DefinedTwice}
+use Rattle.sharc_names.specs.{declared.fault.FaultCode.TheVariants.DefinedTwice, Names.{Entry, look_up}}
 use Rattle.sharc_names.specs.declared.fault.Named.TheVariants as named
-use Rattle.sharc_names.specs.Names.{Entry, look_up}
-use Rattle.sharc_ctype.specs.Globals.{sizes_notes}
-use Rattle.sharc_ctype.specs.Heads.{Heading as Heads, with_entry, global_entry, function_entry, behind, twice, within, head_notes, heads_notes, no_heads}
-use Rattle.sharc_ctype.specs.Items.{items_notes, file_scope, notes_about}
-use Rattle.sharc_ctype.specs.Resolved.{functions_in}
+use Rattle.sharc_ctype.specs.{Globals.sizes_notes, Heads.{Heading as Heads, with_entry, global_entry, function_entry, behind, twice, within, head_notes, heads_notes, no_heads}, Items.{items_notes, file_scope, notes_about}, Resolved.functions_in}
 use Rattle.sharc_ctype_laws.specs.Laws.{OneFunctionOfName}
 use Rattle.sharc_ctype_laws.proofs.Held.{Clean, clean, clean_left, clean_right, clean_behind, clean_not_wrong}
-
-same_bytes : (a b : List ℕ) → a ≡ b → bytes_eq a b ≡ true
-same_bytes a b h = search (rules, bytes_eq-Decides a b)
+use Rattle.sharc_lemmas.proofs.Lists.{same_bytes}
 
 module _ (x : List ℕ) where
   abbrev knows : List Entry → Bool

@@ -1,30 +1,14 @@
 -- In a tree at its tokens no two names have one token: so notes without a fault say what the tokens name, and each declaration is found by its token.
-use Rattle.std.proofs.Common.{◌≡◌, ⊎_elim, ℕ, ◌+◌, ◌≤◌, ◌<◌, zero, suc, Bool, true, false, cond, List, [], ◌∷◌, ◌++◌, length, fold, get_or, replicate, refl, ap, sym, ◌∙◌, subst, arith, Some, eq-eqb, ne_eqb, get_or-set_other, get_or-set_same, length-set, set}
-use Rattle.std.proofs.lemmas.Bool.{cases_eq, cases_lt}
-use Rattle.std.proofs.lemmas.List.{length-replicate}
+use Rattle.std.proofs.{Common.{◌≡◌, ⊎_elim, ℕ, ◌+◌, ◌≤◌, ◌<◌, zero, suc, Bool, true, false, cond, List, [], ◌∷◌, ◌++◌, length, fold, get_or, replicate, refl, ap, sym, ◌∙◌, subst, arith, Some, eq-eqb, ne_eqb, get_or-set_other, get_or-set_same, length-set, set}, lemmas.Bool.{cases_eq, cases_lt}, lemmas.List.length-replicate}
 use Rattle.std.specs.List.{AllByRecursion}
-use Rattle.sharc_tree.specs.declared.token.Keyword.{Keyword}
-use Rattle.sharc_tree.specs.declared.token.Keyword.TheVariants.{Scast}
-use Rattle.sharc_tree.specs.declared.token.Token.{Token}
-use Rattle.sharc_tree.specs.declared.token.TokenKind.{TokenKind}
+use Rattle.sharc_tree.specs.{declared.token.Keyword.Keyword, declared.token.Keyword.TheVariants.Scast, declared.token.Token.Token, declared.token.TokenKind.TokenKind, declared.tree.declaration.Declaration.Declaration, Low.IsLow, Marks.{Mark, keyword_marks, kind_marks, marks_from, name_marks, type_marks, declaration_marks, declarations_marks, marks, option_marks, right_marks, simple_marks, local_marks, first_marks, head_marks, statement_marks, statements_marks, item_marks, items_marks}, Placed.IsPlaced, Tree.{Local, First, nothing, declares, does, Statement, Statements, no_statements, statement, Item, Program}}
 use Rattle.sharc_tree.specs.declared.token.TokenKind.TheVariants as kind
-use Rattle.sharc_tree.specs.declared.tree.declaration.Declaration.{Declaration}
-use Rattle.sharc_tree.specs.Low.{IsLow}
-use Rattle.sharc_tree.specs.Marks.{Mark, keyword_marks, kind_marks, marks_from, name_marks, type_marks, declaration_marks, declarations_marks, marks, option_marks, right_marks, simple_marks, local_marks, first_marks, head_marks, statement_marks, statements_marks, item_marks, items_marks}
-use Rattle.sharc_tree.specs.Placed.{IsPlaced}
-use Rattle.sharc_tree.specs.Tree.{Local, First, nothing, declares, does, Statement, Statements, no_statements, statement, Item, Program}
 use Rattle.sharc_tree.specs.Tree as tree
-use Rattle.sharc_names.specs.declared.fault.Named.{Named}
+use Rattle.sharc_names.specs.{declared.fault.Named.Named, Notes.{Note, fault, refers, yields, Findings, is_free, noted, faults}}
 use Rattle.sharc_names.specs.declared.fault.Named.TheVariants as named
-use Rattle.sharc_names.specs.declared.fault.Fault.{Fault}
-use Rattle.sharc_names.specs.Notes.{Note, fault, refers, yields, Findings, is_free, noted, faults}
-use Rattle.sharc_ctype.specs.Items.{notes_about, nothing_found}
-use Rattle.sharc_ctype.specs.Resolved.{Resolution, IsResolved, declarations_of, declarations_in, declared_at, named_at}
-use Rattle.sharc_ctype.specs.Statements.{first_locals, locals_in, locals_in_all}
-use Rattle.sharc_ctype_laws.proofs.AtMost.{program_most}
-use Rattle.sharc_ctype_laws.proofs.Counts.{one, told, written, written-append, told_refers, told_yields, written_one, written_cast, written_none}
-use Rattle.sharc_ctype_laws.proofs.Held.{Held}
-use Rattle.sharc_ctype_laws.proofs.Walked.{AreDeclared}
+use Rattle.sharc_ctype.specs.{Items.{notes_about, nothing_found}, Resolved.{Resolution, IsResolved, declarations_of, declarations_in, declared_at, named_at}, Statements.{first_locals, locals_in, locals_in_all}}
+use Rattle.sharc_ctype_laws.proofs.{AtMost.program_most, Counts.{one, told, written, written-append, told_refers, told_yields, written_one, written_cast, written_none}, Held.{Held, no_faults}, Walked.AreDeclared}
+use Rattle.sharc_lemmas.proofs.Lists.{together}
 
 pub one_same : (t : ℕ) → one t t ≡ 1
 unfolding one
@@ -110,9 +94,6 @@ untold t d f (refers n what ∷ rest) h =
 untold t d f (yields n what ∷ rest) h =
     untold t d (noted f (yields n what)) rest (omega (arith, h))
     ∙ free_other (is_free (get_or f.named n named.Known)) f.named n t what d (λ is. let e = one_same t in let g = ap (one t) (sym is) in omega (arith, h, e, g))
-
-no_faults : (f : Fault) (rest : List Fault) → f ∷ rest ≡ [] → ⊥
-no_faults f rest h = cc
 
 apart_from : (n t : ℕ) (rest : List Note) → told n rest ≡ 0 → 0 < told t rest → (t ≡ n → ⊥)
 apart_from n t rest none some is = let e = ap (λ x. told x rest) is in omega (arith, none, some, e)
@@ -236,10 +217,6 @@ apart : (t : ℕ) (list : List Declaration) → times t list ≡ 0 → AllByRecu
 unfolding times
 apart t [] h = tt
 apart t (d ∷ rest) h = ((λ is. let e = one_same t in let g = ap (one t) is in omega (arith, h, e, g)), apart t rest (omega (arith, h)))
-
-pub together : {A : Type 0} (P Q R : A → Type 0) → ((x : A) → P x → Q x → R x) → (list : List A) → AllByRecursion P list → AllByRecursion Q list → AllByRecursion R list
-together P Q R f [] h k = tt
-together P Q R f (x ∷ rest) h k = (f x h.0 k.0, together P Q R f rest h.1 k.1)
 
 found_by_token : (list : List Declaration) → ((t : ℕ) → times t list ≤ 1) → AllByRecursion (λ d. declared_at list d.name.site.token ≡ Some d) list
 unfolding times

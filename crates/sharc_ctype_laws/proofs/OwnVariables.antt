@@ -1,30 +1,15 @@
 -- The variables in scope in a function are its own parameters and locals: so are those that it names.
-use Rattle.std.proofs.Common.{◌≡◌, ℕ, suc, Bool, true, false, cond, List, [], ◌∷◌, ◌++◌, map, length, refl, ap, sym, ◌∙◌, subst, arith, Some, is_some, bytes_eq, Contains}
-use Rattle.std.proofs.lemmas.Bool.{false≢true}
+use Rattle.std.proofs.{Common.{◌≡◌, ℕ, Bool, true, false, cond, List, [], ◌∷◌, ◌++◌, map, length, refl, ap, sym, ◌∙◌, subst, arith, Some, is_some, bytes_eq, Contains}, lemmas.Bool.false≢true}
 use Rattle.std.specs.List.{AllByRecursion}
-use Rattle.sharc_tree.specs.declared.tree.declaration.Declaration.{Declaration}
-use Rattle.sharc_tree.specs.Measures.{expressions, in_option, in_simple}
-use Rattle.sharc_tree.specs.Tree.{Expression, Local, First, nothing, declares, does, Head, Statement, Statements, no_statements, statement, Function, Item, structure, global, function}
+use Rattle.sharc_tree.specs.{declared.tree.declaration.Declaration.Declaration, Measures.{expressions, in_option, in_simple}, Tree.{Expression, Local, First, nothing, declares, does, Statement, Statements, no_statements, statement, Function, Item, structure, global, function}}
 use Rattle.sharc_tree.specs.Tree as tree
 use Rattle.sharc_names.specs.declared.fault.Named.TheVariants as named
-use Rattle.sharc_names.specs.declared.scope.Scope.{Scope}
-use Rattle.sharc_names.specs.Names.{Entry, Meaning, look_up, named_of}
+use Rattle.sharc_names.specs.{declared.scope.Scope.Scope, Names.{Entry, Meaning, look_up, named_of}}
 use Rattle.sharc_names.specs.Names as meaning
-use Rattle.sharc_ctype.specs.Expressions.{notes_of}
-use Rattle.sharc_ctype.specs.Condition.{defines_condition, with_conditions}
-use Rattle.sharc_ctype.specs.Heads.{Heading as Heads, global_entry, function_entry, behind, behind_all, no_heads}
-use Rattle.sharc_ctype.specs.Items.{with_parameters, in_body, file_scope}
-use Rattle.sharc_ctype.specs.Resolved.{Resolution}
-use Rattle.sharc_ctype.specs.Statements.{Around, opened, looping, with_names, is_here, declared, behind_first, in_head, after, first_locals, locals_in, locals_in_all}
-use Rattle.sharc_ctype_laws.specs.Declared.{NamesOwn, NamesOwnVariables}
-use Rattle.sharc_ctype_laws.specs.Places.{Placing, at, places_in_local, places_in_first, places_in, places_in_all, places_of}
-use Rattle.sharc_ctype_laws.proofs.AllLemmas.{both, front, back}
-use Rattle.sharc_ctype_laws.proofs.Forgotten.{in_function_all}
-use Rattle.sharc_ctype_laws.proofs.Held.{Held}
-use Rattle.sharc_ctype_laws.proofs.Judged.{named_by}
-use Rattle.sharc_ctype_laws.proofs.OwnTokens.{together}
-use Rattle.sharc_ctype_laws.proofs.Scenes.{found_or_later}
-use Rattle.sharc_ctype_laws.proofs.Walked.{JudgedAt}
+use Rattle.sharc_ctype.specs.{Expressions.notes_of, Condition.{defines_condition, with_conditions}, Heads.{Heading as Heads, global_entry, function_entry, behind, behind_all, no_heads}, Items.{with_parameters, in_body, file_scope}, Resolved.Resolution, Statements.{Around, opened, looping, with_names, is_here, declared, behind_first, in_head, after, first_locals, locals_in, locals_in_all}}
+use Rattle.sharc_ctype_laws.specs.{Declared.{NamesOwn, NamesOwnVariables}, Places.{Placing, at, places_in_local, places_in_first, places_in, places_in_all, places_of}}
+use Rattle.sharc_ctype_laws.proofs.{Forgotten.in_function_all, Held.Held, Judged.named_by, Scenes.found_or_later, Walked.JudgedAt}
+use Rattle.sharc_lemmas.proofs.Lists.{front, back, both, together, later}
 
 -- what holds of the variables in scope
 
@@ -174,9 +159,6 @@ names_own r own p j v = by p.expression j.held
     by (tree.binary s o site a b) h = tt
 
 -- each is among them all
-
-later : (n t : ℕ) (list : List ℕ) → Contains list t → Contains (n ∷ list) t
-later n t list (k, low, is) = (suc k, omega (arith, low), is)
 
 lifted : (x : Declaration) (own rest : List Declaration) → AllByRecursion (Among own) rest → AllByRecursion (Among (x ∷ own)) rest
 lifted x own [] h = tt

@@ -1,32 +1,18 @@
 -- No parameter, local or result is a struct or a mutex.
-use Rattle.std.proofs.Common.{◌≡◌, ℕ, ◌+◌, ◌==◌, Bool, true, false, ◌&&◌, ◌||◌, List, [], ◌∷◌, length, refl, ap, sym, ◌∙◌, eqb-true}
-use Rattle.std.proofs.lemmas.Bool.{false≢true}
+use Rattle.std.proofs.{Common.{◌≡◌, ℕ, ◌+◌, ◌==◌, Bool, true, false, ◌&&◌, ◌||◌, List, [], ◌∷◌, length, refl, ap, sym, ◌∙◌, eqb-true}, lemmas.Bool.false≢true}
 use Rattle.std.specs.List.{AllByRecursion}
-use Rattle.sharc_tree.specs.declared.ctype.Base.{Base}
+use Rattle.sharc_tree.specs.{declared.ctype.Base.Base, declared.tree.declaration.WrittenType.WrittenType, declared.tree.declaration.Declaration.Declaration, Tree.{First, nothing, declares, does, Statement, Statements, no_statements, statement, Function}}
 use Rattle.sharc_tree.specs.declared.ctype.Base.TheVariants as base
-use Rattle.sharc_tree.specs.declared.tree.declaration.WrittenType.{WrittenType}
-use Rattle.sharc_tree.specs.declared.tree.declaration.Declaration.{Declaration}
-use Rattle.sharc_tree.specs.Tree.{First, nothing, declares, does, Statement, Statements, no_statements, statement, Function}
 use Rattle.sharc_tree.specs.Tree as tree
-use Rattle.sharc_names.specs.declared.fault.FaultCode.TheVariants.{TypeNotAllowed}
-use Rattle.sharc_names.specs.declared.scope.Scope.{Scope}
-use Rattle.sharc_names.specs.declared.types.Role.{Role}
+use Rattle.sharc_names.specs.{declared.fault.FaultCode.TheVariants.TypeNotAllowed, declared.scope.Scope.Scope, declared.types.Role.Role, Kinds.{is_struct_base, same_base, declared_kind, stars_of}, Types.{holds_struct, holds_mutex, is_allowed, allowed_there, type_notes}}
 use Rattle.sharc_names.specs.declared.types.Role.TheVariants as role
-use Rattle.sharc_names.specs.Kinds.{is_struct_base, same_base, declared_kind, stars_of}
-use Rattle.sharc_names.specs.Types.{holds_struct, holds_mutex, is_allowed, allowed_there, type_notes}
-use Rattle.sharc_ctype.specs.Items.{in_body, parameters_notes, function_notes}
-use Rattle.sharc_ctype.specs.Resolved.{Resolution}
-use Rattle.sharc_ctype.specs.Statements.{Around, opened, looping, with_names, is_aggregate, declared, first_notes, behind_first, in_head, after, notes_in, notes_in_all, first_locals, locals_in, locals_in_all}
+use Rattle.sharc_ctype.specs.{Items.{in_body, parameters_notes, function_notes}, Resolved.Resolution, Statements.{Around, opened, looping, with_names, is_aggregate, declared, first_notes, behind_first, in_head, after, notes_in, notes_in_all, first_locals, locals_in, locals_in_all}}
 use Rattle.sharc_ctype_laws.specs.Laws.{IsPlain}
-use Rattle.sharc_ctype_laws.proofs.AllLemmas.{both}
 use Rattle.sharc_ctype_laws.proofs.Held.{Held, left, right, well}
+use Rattle.sharc_lemmas.proofs.{Bools.and_false, Lists.both}
 
 abbrev Plain : Declaration → Type 0
 Plain d = is_aggregate (declared_kind d.written) ≡ false
-
-and_false : (b : Bool) → (b && false) ≡ false
-and_false true = refl
-and_false false = refl
 
 bare : (where_ : Role) (b : Base) → holds_struct where_ ≡ false → holds_mutex where_ ≡ false → is_allowed where_ b 0 ≡ true → (is_struct_base b || (same_base b base.Mutex && true)) ≡ false
 bare where_ base.Int s m h = refl

@@ -1,40 +1,18 @@
 -- What is spawned, called and reached, where each expression meets the constraints.
-use Rattle.std.proofs.Common.{◌≡◌, ⊎_elim, ℕ, zero, suc, List, [], ◌∷◌, length, slice_get, refl, ap, sym, ◌∙◌, subst, arith, Option, Some, None, is_some, IsSomeAnd, Contains}
-use Rattle.std.proofs.lemmas.Bool.{false≢true}
-use Rattle.std.proofs.lemmas.List.Elements.{Contains-append_cases}
+use Rattle.std.proofs.{Common.{◌≡◌, ⊎_elim, ℕ, zero, suc, List, [], ◌∷◌, length, refl, ap, sym, ◌∙◌, subst, arith, Some, Contains}, lemmas.List.Elements.Contains-append_cases}
 use Rattle.std.specs.List.{AllByRecursion}
-use Rattle.sharc_tree.specs.declared.token.Span.{Span}
-use Rattle.sharc_tree.specs.declared.tree.declaration.Declaration.{Declaration}
-use Rattle.sharc_tree.specs.declared.tree.declaration.Identifier.{Identifier}
-use Rattle.sharc_tree.specs.Measures.{in_function}
-use Rattle.sharc_tree.specs.Tree.{Expression, Arguments, Function}
+use Rattle.sharc_tree.specs.{declared.token.Span.Span, declared.tree.declaration.Declaration.Declaration, declared.tree.declaration.Identifier.Identifier, Measures.in_function, Tree.{Expression, Arguments, Function}}
 use Rattle.sharc_tree.specs.Tree as tree
 use Rattle.sharc_names.specs.declared.fault.Named.TheVariants as named
 use Rattle.sharc_names.specs.Kinds.{Kind, void, declared_kind, declared_kinds}
-use Rattle.sharc_ctype.specs.Resolved.{Resolution, functions_in, function_at, named_at, kind_at}
-use Rattle.sharc_ctype_laws.specs.Constraints.{HasType, Callee, of_program, of_conditions, a_call, spawned}
-use Rattle.sharc_ctype.specs.Reaches.{runs, spawns, of_all, Names, Spawns, Runs, Leads, IsReached}
-use Rattle.sharc_ctype_laws.specs.Callable.{IsCallable, IsThread}
+use Rattle.sharc_ctype.specs.{Resolved.{Resolution, functions_in, function_at, named_at, kind_at}, Reaches.{runs, spawns, of_all, Names, Spawns, Runs, Leads, IsReached}}
+use Rattle.sharc_ctype_laws.specs.{Constraints.{HasType, Callee, of_program, of_conditions, a_call, spawned}, Callable.{IsCallable, IsThread}}
+use Rattle.sharc_lemmas.proofs.{Options.some_there, Lists.at_place, Numbers.none_there}
 
 -- in lists
 
 abbrev pub AreTyped : Resolution → Type 0
 AreTyped r = AllByRecursion (λ f. AllByRecursion (λ e. HasType r e (kind_at r e)) (in_function f)) (functions_in r.program.items)
-
-same_some : {A : Type 0} (x y : A) → Some x ≡ Some y → x ≡ y
-same_some x y h = cc
-
-at_place : {A : Type 0} (P : A → Type 0) (list : List A) (n : ℕ) (x : A) → AllByRecursion P list → slice_get list n ≡ Some x → P x
-at_place P [] n x all is = absurd (false≢true (ap is_some is))
-at_place P (y ∷ rest) zero x all is = subst P (same_some y x is) all.0
-at_place P (y ∷ rest) (suc n) x all is = at_place P rest n x all.1 is
-
-some_there : {A : Type 0} (P : A → Type 0) (o : Option A) → IsSomeAnd o P → (x : A) × (o ≡ Some x) × P x
-some_there P None h = absurd h
-some_there P (Some x) h = (x, refl, h)
-
-none_there : (t : ℕ) → Contains [] t → ⊥
-none_there t (k, low, is) = omega (arith, low)
 
 only_one : (n t : ℕ) → Contains (n ∷ []) t → n ≡ t
 only_one n t (zero, low, is) = is

@@ -1,29 +1,15 @@
 -- Scopes in which each name means what the program's declarations say.
-use Rattle.std.proofs.Common.{◌≡◌, ◌⊎◌, inl, inr, ℕ, ◌==◌, Bool, true, false, ◌&&◌, cond, List, [], ◌∷◌, refl, ap, sym, ◌∙◌, subst, eqb-true, Option, Some, None, is_some, bytes_eq, codes}
-use Rattle.std.proofs.lemmas.Bool.{false≢true, and_parts}
-use Rattle.std.proofs.lemmas.Slice.Eq.{bytes_eq-Decides}
+use Rattle.std.proofs.{Common.{◌≡◌, ◌⊎◌, inl, inr, ℕ, ◌==◌, Bool, true, false, ◌&&◌, cond, List, [], ◌∷◌, refl, ap, sym, ◌∙◌, subst, eqb-true, Option, Some, None, is_some, bytes_eq, codes}, lemmas.Bool.{false≢true, and_parts}, lemmas.Slice.Eq.bytes_eq-Decides}
 use Rattle.std.specs.List.{AllByRecursion}
-use Rattle.sharc_tree.specs.declared.ctype.Base.{Base}
-use Rattle.sharc_tree.specs.declared.ctype.Base.TheVariants.{Int, Char, Long, Mutex, Void, Struct}
-use Rattle.sharc_tree.specs.declared.tree.declaration.WrittenType.{WrittenType}
-use Rattle.sharc_tree.specs.declared.tree.declaration.Declaration.{Declaration}
-use Rattle.sharc_tree.specs.declared.tree.item.StructDefinition.{StructDefinition}
-use Rattle.sharc_tree.specs.Tree.{Expression, Function}
-use Rattle.sharc_names.specs.declared.fault.FaultCode.TheVariants.{TypeNotAllowed, BadForm}
-use Rattle.sharc_names.specs.declared.need.Need.{Need}
-use Rattle.sharc_names.specs.declared.scope.Scope.{Scope}
-use Rattle.sharc_names.specs.declared.types.Role.{Role}
+use Rattle.sharc_tree.specs.{declared.ctype.Base.Base, declared.ctype.Base.TheVariants.{Int, Char, Long, Mutex, Void, Struct}, declared.tree.declaration.WrittenType.WrittenType, declared.tree.declaration.Declaration.Declaration, declared.tree.item.StructDefinition.StructDefinition, Tree.{Expression, Function}}
+use Rattle.sharc_names.specs.{declared.fault.FaultCode.TheVariants.{TypeNotAllowed, BadForm}, declared.need.Need.Need, declared.scope.Scope.Scope, declared.types.Role.Role, Kinds.{Kind, object, array, null, void, declared_kind, stars_of}, Names.{StructTable, StructMeaning, defined, known, struct_of, field_of, Entry, Meaning, look_up}, Needs.{called, fits, met, unmet, misfit, misfit_of, mismatch, used_call}, Types.{is_known, holds_void, is_allowed, allowed_there, base_notes, struct_note, type_notes, is_fine}}
 use Rattle.sharc_names.specs.declared.types.Role.TheVariants as role
-use Rattle.sharc_names.specs.Kinds.{Kind, object, array, null, void, declared_kind, stars_of}
 use Rattle.sharc_names.specs.Kinds as kinds
-use Rattle.sharc_names.specs.Names.{StructTable, StructMeaning, defined, known, struct_of, field_of, Entry, Meaning, look_up}
 use Rattle.sharc_names.specs.Names as meaning
-use Rattle.sharc_names.specs.Needs.{called, fits, met, unmet, misfit, misfit_of, mismatch, used_call}
-use Rattle.sharc_names.specs.Types.{is_known, holds_void, is_allowed, allowed_there, base_notes, struct_note, type_notes, is_fine}
 use Rattle.sharc_ctype_laws.specs.Constraints.{struct_named, name_of}
-use Rattle.sharc_ctype.specs.Heads.{signature_of}
-use Rattle.sharc_ctype.specs.Resolved.{Resolution, structs_in, struct_at, declaration_at, global_at, function_at}
+use Rattle.sharc_ctype.specs.{Heads.signature_of, Resolved.{Resolution, structs_in, struct_at, declaration_at, global_at, function_at}}
 use Rattle.sharc_ctype_laws.proofs.Held.{Held, left, right, no_fault, well}
+use Rattle.sharc_lemmas.proofs.Options.{same_some}
 
 -- a base that objects have: no `void`, and no struct that is not known
 abbrev pub Stands : StructTable → Base → Type 0
@@ -74,9 +60,6 @@ pub record IsScene (r : Resolution) (scope : Scope) : Type 0 where
   pub structs : AreStructs r scope.structs scope.structs
 
 -- what is found is so
-
-same_some : {A : Type 0} (x y : A) → Some x ≡ Some y → x ≡ y
-same_some x y h = cc
 
 pub found_or_later : {A : Type 0} (P : A → Type 0) (x y : A) (later : Option A) (b : Bool) → cond b (Some x) later ≡ Some y → (b ≡ true → P x) → (later ≡ Some y → P y) → P y
 found_or_later P x y later true h p q = subst P (same_some x y h) (p refl)

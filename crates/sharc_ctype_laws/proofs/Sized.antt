@@ -1,26 +1,12 @@
 -- The table of structs says of each struct what its definition says, so the cells of globals are counted by either.
-use Rattle.std.proofs.Common.{◌≡◌, ℕ, ◌*◌, ◌==◌, ◌≤◌, Bool, true, false, cond, List, [], ◌∷◌, ◌++◌, length, refl, ap, sym, ◌∙◌, subst, Option, Some, None, is_some, bytes_eq, codes, arith, append_assoc}
-use Rattle.std.proofs.lemmas.Bool.{true≢false, false_from_ne_true}
-use Rattle.std.proofs.lemmas.Slice.Eq.{bytes_eq-Decides}
-use Rattle.sharc_tree.specs.declared.ctype.Base.{Base}
+use Rattle.std.proofs.{Common.{◌≡◌, ℕ, ◌*◌, ◌==◌, ◌≤◌, Bool, true, false, cond, List, [], ◌∷◌, ◌++◌, length, refl, ap, sym, ◌∙◌, subst, Option, Some, None, is_some, bytes_eq, codes, arith, append_assoc}, lemmas.Bool.{true≢false, false_from_ne_true}, lemmas.Slice.Eq.bytes_eq-Decides}
+use Rattle.sharc_tree.specs.{declared.ctype.Base.Base, declared.tree.declaration.WrittenType.WrittenType, declared.tree.item.StructDefinition.StructDefinition, Tree.{Item, structure, global, function}}
 use Rattle.sharc_tree.specs.declared.ctype.Base.TheVariants as base
-use Rattle.sharc_tree.specs.declared.tree.declaration.WrittenType.{WrittenType}
-use Rattle.sharc_tree.specs.declared.tree.item.StructDefinition.{StructDefinition}
-use Rattle.sharc_tree.specs.Tree.{Item, structure, global, function}
 use Rattle.sharc_names.specs.declared.types.Role.TheVariants as role
-use Rattle.sharc_names.specs.Kinds.{declared_kind, stars_of}
-use Rattle.sharc_names.specs.Names.{StructTable, StructMeaning, defined, known, struct_of}
-use Rattle.sharc_ctype.specs.Condition.{defines_condition, with_conditions}
-use Rattle.sharc_ctype.specs.Globals.{elements_of, struct_cells, base_cells, type_cells, cells_of_all}
-use Rattle.sharc_ctype.specs.Heads.{Heading as Heads, with_struct, behind, behind_all, no_heads}
-use Rattle.sharc_ctype.specs.Items.{item_notes, items_notes, file_scope}
-use Rattle.sharc_ctype.specs.Resolved.{Resolution, structs_in, globals_in}
-use Rattle.sharc_ctype_laws.specs.Constraints.{struct_named}
-use Rattle.sharc_ctype_laws.specs.Sizes.{struct_size, base_size, global_size, all_sizes, CellsAreFew}
-use Rattle.sharc_ctype_laws.proofs.Held.{Held, left, right}
-use Rattle.sharc_ctype_laws.proofs.OwnTokens.{own_tokens}
-use Rattle.sharc_ctype_laws.proofs.Scenes.{Stands, IsSolid, type_solid}
-use Rattle.sharc_ctype_laws.proofs.TypedLaws.{sound, within_limits}
+use Rattle.sharc_names.specs.{Kinds.{declared_kind, stars_of}, Names.{StructTable, StructMeaning, defined, known, struct_of}}
+use Rattle.sharc_ctype.specs.{Condition.{defines_condition, with_conditions}, Globals.{elements_of, struct_cells, base_cells, type_cells, cells_of_all}, Heads.{Heading as Heads, with_struct, behind, behind_all, no_heads}, Items.{item_notes, items_notes, file_scope}, Resolved.{Resolution, structs_in, globals_in}}
+use Rattle.sharc_ctype_laws.specs.{Constraints.struct_named, Sizes.{struct_size, base_size, global_size, all_sizes, CellsAreFew}}
+use Rattle.sharc_ctype_laws.proofs.{Held.{Held, left, right}, OwnTokens.own_tokens, Scenes.{Stands, IsSolid, type_solid}, TypedLaws.{sound, within_limits}}
 
 -- ---- the first that is found
 abbrev or_else : {A : Type 0} → Option A → Option A → Option A

@@ -1,34 +1,17 @@
 -- In a program of which no fault is noted the name of each declaration names it.
-use Rattle.std.proofs.Common.{◌≡◌, ℕ, zero, suc, ◌+◌, List, [], ◌∷◌, ◌++◌, length, slice_get, ap, sym, subst, arith, add-zero, Some, None, is_some}
-use Rattle.std.proofs.lemmas.Bool.{false≢true}
+use Rattle.std.proofs.Common.{◌≡◌, ℕ, zero, suc, ◌+◌, List, [], ◌∷◌, ◌++◌, length, slice_get, sym, subst, arith, add-zero, Some}
 use Rattle.std.specs.List.{AllByRecursion}
-use Rattle.sharc_tree.specs.declared.tree.declaration.Declaration.{Declaration}
-use Rattle.sharc_tree.specs.declared.tree.item.StructDefinition.{StructDefinition}
-use Rattle.sharc_tree.specs.declared.tree.item.GlobalDefinition.{GlobalDefinition}
-use Rattle.sharc_tree.specs.Tree.{Local, First, nothing, declares, does, Head, Statement, Statements, no_statements, statement, Function, Item, structure, global, function}
+use Rattle.sharc_tree.specs.{declared.tree.declaration.Declaration.Declaration, declared.tree.item.StructDefinition.StructDefinition, declared.tree.item.GlobalDefinition.GlobalDefinition, Tree.{Local, First, nothing, declares, does, Statement, Statements, no_statements, statement, Function, Item, structure, global, function}}
 use Rattle.sharc_tree.specs.Tree as tree
-use Rattle.sharc_names.specs.declared.fault.Named.{Named}
+use Rattle.sharc_names.specs.{declared.fault.Named.Named, declared.scope.Scope.Scope, Types.type_notes}
 use Rattle.sharc_names.specs.declared.fault.Named.TheVariants as named
-use Rattle.sharc_names.specs.declared.scope.Scope.{Scope}
 use Rattle.sharc_names.specs.declared.types.Role.TheVariants as role
-use Rattle.sharc_names.specs.Types.{type_notes}
-use Rattle.sharc_ctype.specs.Heads.{Heading as Heads, behind, head_notes as item_head_notes, heads_notes}
-use Rattle.sharc_ctype.specs.Items.{in_body, field_notes as one_field_notes, fields_notes, parameters_notes, function_notes, item_notes, items_notes}
-use Rattle.sharc_ctype.specs.Resolved.{Resolution, named_at, structs_in, globals_in, functions_in, declarations_of, declarations_in}
-use Rattle.sharc_ctype.specs.Statements.{Around, opened, looping, with_names, declared, local_notes, first_notes, behind_first, in_head, after, notes_in, notes_in_all, first_locals, locals_in, locals_in_all}
+use Rattle.sharc_ctype.specs.{Heads.{Heading as Heads, behind, head_notes as item_head_notes, heads_notes}, Items.{in_body, field_notes as one_field_notes, fields_notes, parameters_notes, function_notes, item_notes, items_notes}, Resolved.{Resolution, named_at, structs_in, globals_in, functions_in, declarations_of, declarations_in}, Statements.{Around, opened, looping, with_names, declared, local_notes, first_notes, behind_first, in_head, after, notes_in, notes_in_all, first_locals, locals_in, locals_in_all}}
 use Rattle.sharc_ctype_laws.specs.Declared.{IsItself, NameThemselves}
-use Rattle.sharc_ctype_laws.proofs.AllLemmas.{both, front, back}
-use Rattle.sharc_ctype_laws.proofs.Held.{Held, left, right, head_named}
-use Rattle.sharc_ctype_laws.proofs.OwnTokens.{together}
-use Rattle.sharc_ctype_laws.proofs.Walked.{AreDeclared}
+use Rattle.sharc_ctype_laws.proofs.{Held.{Held, left, right, head_named}, Walked.AreDeclared}
+use Rattle.sharc_lemmas.proofs.{Options.{same_some, none_some as no_some}, Lists.{front, back, both, together}}
 
 -- numbers
-
-same_some : {A : Type 0} (x y : A) → Some x ≡ Some y → x ≡ y
-same_some x y h = cc
-
-no_some : {A : Type 0} (x : A) → None ≡ Some x → ⊥
-no_some x h = false≢true (ap is_some h)
 
 -- what is at each place of a list has a number, counted from one on
 AreNumbered : {A : Type 0} → (A → ℕ → Type 0) → ℕ → List A → Type 0

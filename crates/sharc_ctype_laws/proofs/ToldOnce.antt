@@ -1,16 +1,11 @@
 -- From how often notes refer to a token to the one note that does.
-use Rattle.std.proofs.Common.{◌≡◌, ⊎_elim, ℕ, zero, suc, ◌<◌, List, [], ◌∷◌, ◌++◌, length, get_or, refl, ap, sym, ◌∙◌, arith, Contains}
-use Rattle.std.proofs.lemmas.Bool.{cases_eq}
+use Rattle.std.proofs.{Common.{◌≡◌, ⊎_elim, ℕ, zero, suc, ◌<◌, List, [], ◌∷◌, ◌++◌, length, get_or, refl, ap, sym, ◌∙◌, arith, Contains}, lemmas.Bool.cases_eq}
 use Rattle.sharc_tree.specs.Marks.{Mark, a_name, a_cast}
-use Rattle.sharc_names.specs.declared.fault.Named.{Named}
-use Rattle.sharc_names.specs.Notes.{Note, fault, refers, yields, referred}
-use Rattle.sharc_ctype.specs.Items.{notes_about}
+use Rattle.sharc_names.specs.{declared.fault.Named.Named, Notes.{Note, fault, refers, yields, referred}}
+use Rattle.sharc_ctype.specs.{Items.notes_about, Reaches.name_tokens, Resolved.{Resolution, named_at}}
 use Rattle.sharc_ctype_laws.specs.Laws.{Tells, IsToldOnce}
-use Rattle.sharc_ctype.specs.Reaches.{name_tokens}
-use Rattle.sharc_ctype.specs.Resolved.{Resolution, named_at}
-use Rattle.sharc_ctype_laws.proofs.Counts.{one, told, written, told-append, told_refers, told_yields, told_fault, told_none, written_name, written_cast, written_none}
-use Rattle.sharc_ctype_laws.proofs.Held.{Held, no_fault, head_named, behind_head, yielded, behind_yielded}
-use Rattle.sharc_ctype_laws.proofs.OwnTokens.{one_same, one_other}
+use Rattle.sharc_ctype_laws.proofs.{Counts.{one, told, written, told-append, told_refers, told_yields, told_fault, told_none, written_name, written_cast, written_none}, Held.{Held, no_fault, head_named, behind_head, yielded, behind_yielded}, OwnTokens.{one_same, one_other}}
+use Rattle.sharc_lemmas.proofs.Lists.{later}
 
 -- what is in a list is counted in it, and what is counted is in it
 
@@ -36,9 +31,6 @@ in_names t (a_cast n ∷ rest) k low is = let e = written_cast t n rest in let f
 
 pub name_counted : (t : ℕ) (list : List Mark) → Contains (name_tokens list) t → 0 < written t list
 name_counted t list (k, low, is) = in_names t list k low is
-
-later : (n t : ℕ) (list : List ℕ) → Contains list t → Contains (n ∷ list) t
-later n t list (k, low, is) = (suc k, omega (arith, low), is)
 
 pub name_there : (t : ℕ) (list : List Mark) → 0 < written t list → Contains (name_tokens list) t
 name_there t [] h = let e = written_none t in absurd (omega (arith, e, h))

@@ -1,48 +1,14 @@
 -- The laws of typed programs.
 use Rattle.std.proofs.Common.{◌≡◌, ◌++◌, length, Some, arith, refl}
 use Rattle.std.specs.List.{AllByRecursion}
-use Rattle.sharc_tree.specs.Low.{IsLow}
-use Rattle.sharc_tree.specs.Marks.{items_marks}
-use Rattle.sharc_tree.specs.Measures.{in_function}
-use Rattle.sharc_tree.specs.Tree.{Expression}
+use Rattle.sharc_tree.specs.{Low.IsLow, Marks.items_marks, Measures.in_function, Tree.Expression}
 use Rattle.sharc_tree.specs.Tree as tree
-use Rattle.sharc_ctype_laws.specs.Constraints.{HasType}
+use Rattle.sharc_ctype_laws.specs.{Constraints.HasType, Declared.NamesOwnVariables, Rules.MeetsRules, Laws.{MeetsGlobals, SpawnsByName, SpawnsNameFunctions, SpawnsThreads, ReachesFunctions, OneType, EachNameOnce, OnlyNames, EachNamesItself, EachNamesOwn, NamesFound, EachNamesFound, EachPathFound, IsPlain, ArePlain, NamesInTypes, SameKinds, MeetsConstraints, MeetsStatements, AllFair, WithinLimits, HasMain}, Paths.{IsClosed, PathsAt, BodyStands}, Places.{Placing, places_of, places_of_all}, Found.EachTypeFound}
 use Rattle.sharc_names.specs.Names.{look_up}
-use Rattle.sharc_ctype.specs.Expressions.{type_of, notes_of}
-use Rattle.sharc_ctype_laws.specs.Declared.{NamesOwnVariables}
-use Rattle.sharc_ctype_laws.specs.Rules.{MeetsRules}
-use Rattle.sharc_ctype.specs.Transfers.{IsFair, function_transfers}
-use Rattle.sharc_ctype.specs.Items.{file_scope, items_notes, notes_about, main_missing}
-use Rattle.sharc_ctype.specs.Globals.{sizes_notes}
-use Rattle.sharc_ctype.specs.Heads.{heads_notes, no_heads}
-use Rattle.sharc_ctype_laws.specs.Laws.{MeetsGlobals, SpawnsByName, SpawnsNameFunctions, SpawnsThreads, ReachesFunctions, OneType, EachNameOnce, OnlyNames, EachNamesItself, EachNamesOwn, NamesFound, EachNamesFound, EachPathFound, IsPlain, ArePlain, NamesInTypes, SameKinds, MeetsConstraints, MeetsStatements, AllFair, WithinLimits, HasMain}
-use Rattle.sharc_ctype_laws.specs.Paths.{IsClosed, PathsAt, BodyStands}
-use Rattle.sharc_ctype_laws.specs.Places.{Placing, places_of, places_of_all}
-use Rattle.sharc_ctype.specs.Resolved.{Resolution, IsResolved, functions_in, declarations_in, kind_at}
-use Rattle.sharc_ctype_laws.proofs.AllLemmas.{each}
-use Rattle.sharc_ctype_laws.proofs.AtMost.{program_most}
-use Rattle.sharc_ctype_laws.proofs.Closed.{items_closed, body_stands, cast_stands, none_closed, all_types}
-use Rattle.sharc_ctype_laws.proofs.Exact.{program_is}
-use Rattle.sharc_ctype_laws.proofs.Begun.{globals_meet}
-use Rattle.sharc_ctype_laws.proofs.Fair.{fair_function}
-use Rattle.sharc_ctype_laws.proofs.FileScene.{file_scene, items_places, function_places, each_function}
-use Rattle.sharc_ctype_laws.proofs.Forgotten.{in_function_all}
-use Rattle.sharc_ctype_laws.proofs.Held.{Held, left, right, clean, clean_left, clean_right}
-use Rattle.sharc_ctype_laws.proofs.Judged.{named_by, spawned_name}
-use Rattle.sharc_ctype_laws.proofs.Limited.{few, small, few_cells, main_is}
+use Rattle.sharc_ctype.specs.{Expressions.{type_of, notes_of}, Transfers.{IsFair, function_transfers}, Items.{file_scope, items_notes, notes_about, main_missing}, Globals.sizes_notes, Heads.{heads_notes, no_heads}, Resolved.{Resolution, IsResolved, functions_in, declarations_in, kind_at}}
+use Rattle.sharc_ctype_laws.proofs.{AtMost.program_most, Closed.{items_closed, body_stands, cast_stands, none_closed, all_types}, Exact.program_is, Begun.globals_meet, Fair.fair_function, FileScene.{file_scene, items_places, function_places, each_function}, Forgotten.in_function_all, Held.{Held, left, right, clean, clean_left, clean_right}, Judged.{named_by, spawned_name}, Limited.{few, small, few_cells, main_is}, TypesFound.each_found, OwnTokens.{HasOwnTokens, own_tokens, all_held, all_declared}, Plain.plain_function, Reached.{spawned_thread, reached_function}, Ruled.function_meets, OwnVariables.{own_variables, none_in_file}, Scenes.IsScene, Themselves.themselves, ToldOnce.{counted, name_counted, name_there, told_once}, TypesNamed.named_items, Walked.{AreDeclared, JudgedAt}}
 use Rattle.sharc_ctype_laws.proofs.OneType as types
-use Rattle.sharc_ctype_laws.specs.Found.{EachTypeFound}
-use Rattle.sharc_ctype_laws.proofs.TypesFound.{each_found}
-use Rattle.sharc_ctype_laws.proofs.OwnTokens.{HasOwnTokens, own_tokens, all_held, all_declared, together}
-use Rattle.sharc_ctype_laws.proofs.Plain.{plain_function}
-use Rattle.sharc_ctype_laws.proofs.Reached.{spawned_thread, reached_function}
-use Rattle.sharc_ctype_laws.proofs.Ruled.{function_meets}
-use Rattle.sharc_ctype_laws.proofs.OwnVariables.{own_variables, none_in_file}
-use Rattle.sharc_ctype_laws.proofs.Scenes.{IsScene}
-use Rattle.sharc_ctype_laws.proofs.Themselves.{themselves}
-use Rattle.sharc_ctype_laws.proofs.ToldOnce.{counted, name_counted, name_there, told_once}
-use Rattle.sharc_ctype_laws.proofs.TypesNamed.{named_items}
-use Rattle.sharc_ctype_laws.proofs.Walked.{AreDeclared, JudgedAt}
+use Rattle.sharc_lemmas.proofs.Lists.{each, together}
 
 -- what is known of a typed program whose names have tokens of their own
 pub record IsSound (r : Resolution) : Type 0 where

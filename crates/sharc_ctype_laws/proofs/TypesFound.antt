@@ -1,30 +1,15 @@
 -- In a tree at its tokens what has a type begins at a token of its own, so it is found by its tokens.
-use Rattle.std.proofs.Common.{◌≡◌, ⊎_elim, ℕ, ◌+◌, ◌<◌, ◌≤◌, ◌==◌, ◌&&◌, cond, List, [], ◌∷◌, ◌++◌, map, refl, ap, sym, ◌∙◌, subst, arith, Option, Some, None, eq-eqb, ne_eqb}
-use Rattle.std.proofs.lemmas.Bool.{and_from, and_left, cases_eq, cond-false}
+use Rattle.std.proofs.{Common.{◌≡◌, ⊎_elim, ℕ, ◌+◌, ◌<◌, ◌≤◌, ◌==◌, ◌&&◌, cond, List, [], ◌∷◌, ◌++◌, map, refl, ap, sym, ◌∙◌, subst, arith, Option, Some, None, eq-eqb, ne_eqb}, lemmas.Bool.{and_from, and_left, cases_eq, cond-false}}
 use Rattle.std.specs.List.{AllByRecursion, find}
-use Rattle.sharc_tree.specs.declared.token.Keyword.{Keyword}
-use Rattle.sharc_tree.specs.declared.token.Keyword.TheVariants.{Scast}
-use Rattle.sharc_tree.specs.declared.token.Token.{Token}
-use Rattle.sharc_tree.specs.declared.token.TokenKind.{TokenKind}
+use Rattle.sharc_tree.specs.{declared.token.Keyword.Keyword, declared.token.Keyword.TheVariants.Scast, declared.token.Token.Token, declared.token.TokenKind.TokenKind, declared.tree.declaration.Declaration.Declaration, declared.tree.declaration.WrittenType.WrittenType, Marks.{Mark, a_name, a_cast, number_of, keyword_marks, kind_marks, marks_from, name_marks, type_marks, declaration_marks, declarations_marks, marks, arguments_marks, option_marks, right_marks, simple_marks, local_marks, first_marks, head_marks, statement_marks, statements_marks, item_marks, items_marks}, Measures.{expressions, in_arguments, in_option, in_right, in_simple}, Placed.IsPlaced, Tree.{Expression, Arguments, no_arguments, argument, Right, value, malloc, Simple, assign, does_call, Local, First, nothing, declares, does, Head, Statement, Statements, no_statements, statement, Item, Program}}
 use Rattle.sharc_tree.specs.declared.token.TokenKind.TheVariants as kind
-use Rattle.sharc_tree.specs.declared.tree.declaration.Declaration.{Declaration}
-use Rattle.sharc_tree.specs.declared.tree.declaration.WrittenType.{WrittenType}
-use Rattle.sharc_tree.specs.Marks.{Mark, a_name, a_cast, number_of, keyword_marks, kind_marks, marks_from, name_marks, type_marks, declaration_marks, declarations_marks, marks, arguments_marks, option_marks, right_marks, simple_marks, local_marks, first_marks, head_marks, statement_marks, statements_marks, item_marks, items_marks}
-use Rattle.sharc_tree.specs.Measures.{expressions, in_arguments, in_option, in_right, in_simple}
-use Rattle.sharc_tree.specs.Placed.{IsPlaced}
-use Rattle.sharc_tree.specs.Tree.{Expression, Arguments, no_arguments, argument, Right, value, malloc, Simple, assign, does_call, Local, First, nothing, declares, does, Head, Statement, Statements, no_statements, statement, Item, Program}
 use Rattle.sharc_tree.specs.Tree as tree
 use Rattle.sharc_names.specs.declared.types.Role.{Role}
 use Rattle.sharc_names.specs.declared.types.Role.TheVariants as role
-use Rattle.sharc_ctype.specs.declared.entity.Entity.{Entity}
-use Rattle.sharc_ctype.specs.declared.entity.Numbered.{Numbered}
-use Rattle.sharc_ctype.specs.Entities.{declared, cast_entity, casts, local_entities, first_entities, head_entities, statement_entities, statements_entities, result_of, item_entities, entities_in, positions_of, numbered_from, is_told_by}
-use Rattle.sharc_ctype.specs.Resolved.{Resolution}
-use Rattle.sharc_ctype_laws.specs.Found.{IsFound}
-use Rattle.sharc_ctype_laws.specs.WrittenTypes.{types_in, types_in_arguments, types_in_option, types_in_right, types_in_simple, types_in_local, types_in_first, types_in_head, types_in_statement, types_in_statements, types_in_declarations, types_in_item, types_in_items, IsNamedType}
-use Rattle.sharc_ctype_laws.proofs.AllLemmas.{both, front, back}
-use Rattle.sharc_ctype_laws.proofs.Counts.{one}
-use Rattle.sharc_ctype_laws.proofs.OwnTokens.{one_same, one_other, together}
+use Rattle.sharc_ctype.specs.{declared.entity.Entity.Entity, declared.entity.Numbered.Numbered, Entities.{declared, cast_entity, casts, local_entities, first_entities, head_entities, statement_entities, statements_entities, result_of, item_entities, entities_in, positions_of, numbered_from, is_told_by}, Resolved.Resolution}
+use Rattle.sharc_ctype_laws.specs.{Found.IsFound, WrittenTypes.{types_in, types_in_arguments, types_in_option, types_in_right, types_in_simple, types_in_local, types_in_first, types_in_head, types_in_statement, types_in_statements, types_in_declarations, types_in_item, types_in_items, IsNamedType}}
+use Rattle.sharc_ctype_laws.proofs.{Counts.one, OwnTokens.{one_same, one_other}}
+use Rattle.sharc_lemmas.proofs.Lists.{front, back, both, together}
 
 -- how many marks are at a token, and how much begins there that has a type
 

@@ -1,41 +1,17 @@
 -- The names in the written types of a program of which no fault is noted name what they spell.
-use Rattle.std.proofs.Common.{◌≡◌, inl, inr, ℕ, ◌+◌, Bool, true, false, cond, List, [], ◌∷◌, ◌++◌, length, drop, refl, ap, sym, ◌∙◌, subst, Option, Some, None, is_some, bytes_eq}
-use Rattle.std.proofs.lemmas.Bool.{false≢true}
-use Rattle.std.proofs.lemmas.Slice.Eq.{bytes_eq-Decides}
+use Rattle.std.proofs.{Common.{◌≡◌, inl, inr, ℕ, ◌+◌, Bool, true, false, cond, List, [], ◌∷◌, ◌++◌, length, drop, refl, ap, sym, ◌∙◌, subst, Option, Some, None, is_some, bytes_eq}, lemmas.Bool.false≢true, lemmas.Slice.Eq.bytes_eq-Decides}
 use Rattle.std.specs.List.{AllByRecursion}
-use Rattle.sharc_tree.specs.declared.ctype.Base.{Base}
+use Rattle.sharc_tree.specs.{declared.ctype.Base.Base, declared.ctype.Mode.Mode, declared.ctype.Mode.TheVariants.{Private, Readonly, Locked, Racy, Dynamic}, declared.ctype.Path.Path, declared.ctype.Path.TheVariants.{One, Through}, declared.tree.declaration.WrittenType.WrittenType, declared.tree.declaration.Declaration.Declaration, Tree.{Expression, Arguments, no_arguments, argument, Right, value, malloc, Simple, assign, does_call, Local, First, nothing, declares, does, Head, Statement, Statements, no_statements, statement, Item}}
 use Rattle.sharc_tree.specs.declared.ctype.Base.TheVariants as base
-use Rattle.sharc_tree.specs.declared.ctype.Mode.{Mode}
-use Rattle.sharc_tree.specs.declared.ctype.Mode.TheVariants.{Private, Readonly, Locked, Racy, Dynamic}
-use Rattle.sharc_tree.specs.declared.ctype.Path.{Path}
-use Rattle.sharc_tree.specs.declared.ctype.Path.TheVariants.{One, Through}
-use Rattle.sharc_tree.specs.declared.tree.declaration.WrittenType.{WrittenType}
-use Rattle.sharc_tree.specs.declared.tree.declaration.Declaration.{Declaration}
-use Rattle.sharc_tree.specs.Tree.{Expression, Arguments, no_arguments, argument, Right, value, malloc, Simple, assign, does_call, Local, First, nothing, declares, does, Head, Statement, Statements, no_statements, statement, Function, Item}
 use Rattle.sharc_tree.specs.Tree as tree
-use Rattle.sharc_names.specs.declared.fault.FaultCode.TheVariants.{BadForm}
+use Rattle.sharc_names.specs.{declared.fault.FaultCode.TheVariants.BadForm, declared.scope.Scope.Scope, declared.types.Role.Role, Kinds.{Kind, object, is_struct_behind, declared_kind}, Names.{is_main, StructTable, StructMeaning, defined, known, struct_of, Entry, Meaning, look_up, field_of, named_of, named_struct, kind_of}, Types.{name_kind, name_notes, field_in, field_notes, first_kind, first_notes, second_in, second_notes, path_notes, mode_notes, modes_notes, struct_note, base_notes, type_notes}}
 use Rattle.sharc_names.specs.declared.fault.Named.TheVariants as named
-use Rattle.sharc_names.specs.declared.scope.Scope.{Scope}
-use Rattle.sharc_names.specs.declared.types.Role.{Role}
 use Rattle.sharc_names.specs.declared.types.Role.TheVariants as role
-use Rattle.sharc_names.specs.Kinds.{Kind, object, is_struct_behind, declared_kind}
-use Rattle.sharc_names.specs.Names.{is_main, StructTable, StructMeaning, defined, known, struct_of, Entry, Meaning, look_up, field_of, named_of, named_struct, kind_of}
 use Rattle.sharc_names.specs.Names as meaning
-use Rattle.sharc_names.specs.Types.{name_kind, name_notes, field_in, field_notes, first_kind, first_notes, second_in, second_notes, path_notes, mode_notes, modes_notes, struct_note, base_notes, type_notes}
-use Rattle.sharc_ctype.specs.Expressions.{notes_of, notes_of_all, count, wanted}
-use Rattle.sharc_ctype.specs.Items.{in_body, fields_notes, parameters_notes, item_notes, items_notes}
-use Rattle.sharc_ctype.specs.Resolved.{Resolution, named_at, declarations_of, declarations_in}
-use Rattle.sharc_ctype.specs.Statements.{Around, opened, looping, with_names, declared, count_notes, right_notes, simple_notes, initial_notes, local_notes, return_notes, first_notes as first_part_notes, behind_first, tests_notes, step_notes, in_head, head_notes, after, notes_in, notes_in_all, first_locals, locals_in, locals_in_all}
-use Rattle.sharc_ctype_laws.specs.Constraints.{IsMemberOf}
-use Rattle.sharc_ctype_laws.specs.WrittenTypes.{types_in, types_in_arguments, types_in_option, types_in_right, types_in_simple, types_in_local, types_in_first, types_in_head, types_in_statement, types_in_statements, types_in_declarations, types_in_item, types_in_items, NamesStruct, IsNamedBase, FirstNames, a_field, a_variable, a_global, a_function, a_known_call, IsNamedPath, IsNamedLevel, IsNamedType}
-use Rattle.sharc_ctype_laws.proofs.AllLemmas.{both, front, back}
-use Rattle.sharc_ctype_laws.proofs.Exact.{path_kind}
-use Rattle.sharc_ctype_laws.proofs.FileScene.{fields_are, body_scene}
-use Rattle.sharc_ctype_laws.proofs.Held.{Held, left, right, no_fault, not_wrong, head_named, behind_head, second_held}
-use Rattle.sharc_ctype_laws.proofs.Judged.{not_main_text, struct_behind_is, member_of}
-use Rattle.sharc_ctype_laws.proofs.Scenes.{IsSolid, IsMeant, IsField, IsStruct, IsScene, found_or_later, found_name, found_struct, found_field, type_solid}
-use Rattle.sharc_ctype_laws.proofs.Walked.{AreDeclared, scene_with, declared_meant, local_scene, head_scene, after_scene}
-use Rattle.sharc_ctype_laws.proofs.Standings.{lvalue_held}
+use Rattle.sharc_ctype.specs.{Expressions.{notes_of, notes_of_all, count, wanted}, Items.{in_body, fields_notes, parameters_notes, item_notes, items_notes}, Resolved.{Resolution, named_at, declarations_of, declarations_in}, Statements.{Around, opened, looping, with_names, declared, count_notes, right_notes, simple_notes, initial_notes, local_notes, return_notes, first_notes as first_part_notes, behind_first, tests_notes, step_notes, in_head, head_notes, after, notes_in, notes_in_all, first_locals, locals_in, locals_in_all}}
+use Rattle.sharc_ctype_laws.specs.{Constraints.IsMemberOf, WrittenTypes.{types_in, types_in_arguments, types_in_option, types_in_right, types_in_simple, types_in_local, types_in_first, types_in_head, types_in_statement, types_in_statements, types_in_declarations, types_in_item, types_in_items, NamesStruct, IsNamedBase, FirstNames, a_field, a_variable, a_global, a_function, a_known_call, IsNamedPath, IsNamedLevel, IsNamedType}}
+use Rattle.sharc_ctype_laws.proofs.{Exact.path_kind, FileScene.{fields_are, body_scene}, Held.{Held, left, right, no_fault, not_wrong, head_named, behind_head, second_held}, Judged.{not_main_text, struct_behind_is, member_of}, Scenes.{IsSolid, IsMeant, IsField, IsStruct, IsScene, found_or_later, found_name, found_struct, found_field, type_solid}, Walked.{AreDeclared, scene_with, declared_meant, local_scene, head_scene, after_scene}, Standings.lvalue_held}
+use Rattle.sharc_lemmas.proofs.{Options.same_some, Lists.{front, back, both}}
 
 -- bases
 
@@ -67,9 +43,6 @@ entry_names r structs token name (meaning.variable d) m other is = a_variable is
 entry_names r structs token name (meaning.global n g) m other is = a_global is m.1 m.0
 entry_names r structs token name (meaning.function n f) m other is = a_function is m.1 m.4 (not_main_text n m.0 f name m.2 m.4 other)
 entry_names r structs token name (meaning.condition c) m other is = a_known_call c is m
-
-same_some : {A : Type 0} (x y : A) → Some x ≡ Some y → x ≡ y
-same_some x y h = cc
 
 name_names : (r : Resolution) (scope : Scope) → IsScene r scope → (token : ℕ) (name : List ℕ) (k : Kind) (o : Option Entry) → look_up scope.names name ≡ o → name_kind o ≡ Some k → Held r (name_notes token o) → FirstNames r token name k
 name_names r scope scene token name k None is kind h = absurd (no_fault r _ _ _ h)

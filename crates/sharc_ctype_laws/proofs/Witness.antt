@@ -1,20 +1,12 @@
 -- `int main(void) { return 0; }` is a typed program at its tokens in the forms of the grammar: so the laws speak of something.
 use Rattle.std.proofs.Common.{ℕ, ◌≤◌, List, [], ◌∷◌, refl, arith, Some, None, codes, pos, false}
 use Rattle.sharc_tree.specs.declared.ctype.Base.TheVariants as base
-use Rattle.sharc_tree.specs.declared.token.Site.{Site}
-use Rattle.sharc_tree.specs.declared.token.Span.{Span}
-use Rattle.sharc_tree.specs.declared.token.Token.{Token}
+use Rattle.sharc_tree.specs.{declared.token.Site.Site, declared.token.Span.Span, declared.token.Token.Token, declared.token.Punctuator.TheVariants.{OpenParenthesis, CloseParenthesis, OpenBrace, CloseBrace, Semicolon}, declared.token.TokenKind.TokenKind, Low.IsLow, Placed.{IsSite, IsSpan, IsWhole, IsPlaced}, Tree.{Function, Program, function, statement, no_statements, return, constant}}
 use Rattle.sharc_tree.specs.declared.token.Keyword.TheVariants as key
 use Rattle.sharc_tree.specs.declared.token.NumberType.TheVariants as width
-use Rattle.sharc_tree.specs.declared.token.Punctuator.TheVariants.{OpenParenthesis, CloseParenthesis, OpenBrace, CloseBrace, Semicolon}
-use Rattle.sharc_tree.specs.declared.token.TokenKind.{TokenKind}
 use Rattle.sharc_tree.specs.declared.token.TokenKind.TheVariants as kind
 use Rattle.sharc_tree.specs.declared.tree.expression.Constant.TheVariants as constants
-use Rattle.sharc_tree.specs.Low.{IsLow}
-use Rattle.sharc_tree.specs.Placed.{IsSite, IsSpan, IsWhole, IsPlaced}
-use Rattle.sharc_tree.specs.Tree.{Function, Program, function, statement, no_statements, return, constant}
-use Rattle.sharc_ctype.specs.Items.{named_in}
-use Rattle.sharc_ctype.specs.Resolved.{Resolution, IsResolved}
+use Rattle.sharc_ctype.specs.{Items.named_in, Resolved.{Resolution, IsResolved}}
 use Rattle.sharc_ctype_laws.specs.Laws.{SomeTyped}
 
 abbrev a_token : TokenKind → List ℕ → ℕ → ℕ → Token

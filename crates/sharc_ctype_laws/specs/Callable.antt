@@ -1,7 +1,6 @@
 -- What may be called and what may be spawned.
 use Rattle.std.specs.Prelude.{◌≡◌, ℕ, [], ◌∷◌, Some, codes}
-use Rattle.sharc_tree.specs.declared.tree.declaration.Declaration.{Declaration}
-use Rattle.sharc_tree.specs.Tree.{Function}
+use Rattle.sharc_tree.specs.{declared.tree.declaration.Declaration.Declaration, Tree.Function}
 use Rattle.sharc_names.specs.Kinds.{void, declared_kind}
 use Rattle.sharc_ctype.specs.Resolved.{Resolution, function_at}
 

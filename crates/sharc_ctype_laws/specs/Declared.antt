@@ -1,10 +1,8 @@
 -- What the name of a declaration names: itself. And which variables a function names: its own.
-use Rattle.std.specs.Prelude.{◌≡◌, ℕ, List, ◌++◌, map, Some, Contains}
-use Rattle.std.specs.List.{AllByRecursion}
+use Rattle.std.specs.{Prelude.{◌≡◌, ℕ, List, ◌++◌, map, Some, Contains}, List.AllByRecursion}
 use Rattle.sharc_tree.specs.declared.tree.declaration.Declaration.{Declaration}
 use Rattle.sharc_tree.specs.declared.tree.item.StructDefinition.{StructDefinition}
-use Rattle.sharc_tree.specs.declared.tree.item.GlobalDefinition.{GlobalDefinition}
-use Rattle.sharc_tree.specs.Measures.{in_function}
+use Rattle.sharc_tree.specs.{declared.tree.item.GlobalDefinition.GlobalDefinition, Measures.in_function}
 use Rattle.sharc_tree.specs.Tree.{Expression, identifier, Function}
 use Rattle.sharc_names.specs.declared.fault.Named.{Named}
 use Rattle.sharc_names.specs.declared.fault.Named.TheVariants as named

@@ -1,12 +1,8 @@
 -- What has a type is found by its tokens: no other begins where it does.
-use Rattle.std.specs.Prelude.{◌≡◌, Some}
-use Rattle.std.specs.List.{AllByRecursion}
-use Rattle.sharc_tree.specs.Low.{IsLow}
-use Rattle.sharc_tree.specs.Placed.{IsPlaced}
-use Rattle.sharc_ctype.specs.declared.entity.Entity.{Entity}
-use Rattle.sharc_ctype.specs.declared.entity.Numbered.{Numbered}
-use Rattle.sharc_ctype.specs.Entities.{entities_in, entity_at}
-use Rattle.sharc_ctype.specs.Resolved.{Resolution, IsResolved}
+use Rattle.std.specs.{Prelude.{◌≡◌, Some}, List.AllByRecursion}
+use Rattle.sharc_tree.specs.{Low.IsLow, Placed.IsPlaced}
+use Rattle.sharc_ctype.specs.{declared.entity.Entity.Entity, declared.entity.Numbered.Numbered}
+use Rattle.sharc_ctype.specs.{Entities.{entities_in, entity_at}, Resolved.{Resolution, IsResolved}}
 use Rattle.sharc_ctype_laws.specs.WrittenTypes.{IsNamedType}
 
 -- it is what is found at its tokens, and the names in its type name what they spell

@@ -1,31 +1,18 @@
 -- What holds of each typed program.
-use Rattle.std.specs.Prelude.{◌≡◌, ℕ, false, List, ◌∷◌, ◌++◌, Some, Contains}
-use Rattle.std.specs.List.{AllByRecursion}
-use Rattle.sharc_tree.specs.Low.{IsLow}
-use Rattle.sharc_tree.specs.Marks.{items_marks}
-use Rattle.sharc_tree.specs.Measures.{in_function}
-use Rattle.sharc_tree.specs.Placed.{IsPlaced}
+use Rattle.std.specs.{Prelude.{◌≡◌, ℕ, false, List, ◌∷◌, ◌++◌, Some, Contains}, List.AllByRecursion}
+use Rattle.sharc_tree.specs.{Low.IsLow, Marks.items_marks, Measures.in_function, Placed.IsPlaced}
 use Rattle.sharc_tree.specs.Tree.{Expression, identifier, spawn, Function, Program}
-use Rattle.sharc_names.specs.declared.fault.Named.{Named}
-use Rattle.sharc_names.specs.declared.fault.Named.TheVariants as named
-use Rattle.sharc_names.specs.Kinds.{Kind, declared_kind}
-use Rattle.sharc_names.specs.Names.{Entry, look_up, named_of}
+use Rattle.sharc_names.specs.{declared.fault.Named.Named, Kinds.{Kind, declared_kind}, Names.{Entry, look_up, named_of}}
 use Rattle.sharc_names.specs.Notes.{Note, fault, refers, yields, referred}
-use Rattle.sharc_ctype.specs.Expressions.{type_of}
-use Rattle.sharc_ctype.specs.Items.{IsTyped, notes_about, file_scope}
-use Rattle.sharc_ctype_laws.specs.Places.{Placing, places_of_all}
-use Rattle.sharc_ctype_laws.specs.Paths.{PathsFound}
+use Rattle.sharc_names.specs.declared.fault.Named.TheVariants as named
+use Rattle.sharc_ctype.specs.{Expressions.type_of, Items.{IsTyped, notes_about, file_scope}}
 use Rattle.sharc_ctype.specs.Resolved.{Resolution, IsResolved, globals_in, functions_in, function_at, kind_at, named_at}
-use Rattle.sharc_ctype.specs.Statements.{is_aggregate, locals_in_all}
-use Rattle.sharc_ctype.specs.Transfers.{IsFair, function_transfers}
-use Rattle.sharc_ctype_laws.specs.Constraints.{HasType}
-use Rattle.sharc_ctype_laws.specs.Rules.{MeetsRules}
-use Rattle.sharc_ctype_laws.specs.WrittenTypes.{types_in_items, IsNamedType}
-use Rattle.sharc_ctype_laws.specs.Declared.{NameThemselves, NamesOwnVariables}
-use Rattle.sharc_ctype_laws.specs.Initials.{MeetsGlobal}
-use Rattle.sharc_ctype_laws.specs.Limits.{IsWithinLimits, IsMain}
+use Rattle.sharc_ctype.specs.{Statements.{is_aggregate, locals_in_all}, Transfers.{IsFair, function_transfers}}
 use Rattle.sharc_ctype.specs.Reaches.{name_tokens, Spawns, IsReached}
-use Rattle.sharc_ctype_laws.specs.Callable.{IsCallable, IsThread}
+use Rattle.sharc_ctype_laws.specs.{Places.{Placing, places_of_all}, Paths.PathsFound, Constraints.HasType}
+use Rattle.sharc_ctype_laws.specs.{Rules.MeetsRules, WrittenTypes.{types_in_items, IsNamedType}}
+use Rattle.sharc_ctype_laws.specs.{Declared.{NameThemselves, NamesOwnVariables}, Initials.MeetsGlobal}
+use Rattle.sharc_ctype_laws.specs.{Limits.{IsWithinLimits, IsMain}, Callable.{IsCallable, IsThread}}
 
 -- it says of the token what that names
 abbrev pub Tells : Note → ℕ → Named → Type 0

@@ -1,10 +1,8 @@
 -- How large a typed program may be (SharC's own rule), and its `main` (C11 5.1.2.2.1).
-use Rattle.std.specs.Prelude.{◌≡◌, ℕ, ◌≤◌, [], length, Some, codes}
-use Rattle.std.specs.List.{AllByRecursion}
+use Rattle.std.specs.{Prelude.{◌≡◌, ℕ, ◌≤◌, [], length, Some, codes}, List.AllByRecursion}
 use Rattle.sharc_tree.specs.Tree.{Function, Program}
 use Rattle.sharc_names.specs.Kinds.{int, declared_kind}
-use Rattle.sharc_ctype.specs.Globals.{elements_of, cells_of_all}
-use Rattle.sharc_ctype.specs.Items.{file_scope}
+use Rattle.sharc_ctype.specs.{Globals.{elements_of, cells_of_all}, Items.file_scope}
 use Rattle.sharc_ctype.specs.Resolved.{Resolution, structs_in, globals_in, functions_in, function_at}
 use Rattle.sharc_ctype.specs.Statements.{locals_in_all}
 

@@ -3,19 +3,15 @@ use Rattle.std.specs.Prelude.{◌≡◌, ◌⊎◌, ℕ, false, List, [], ◌∷
 use Rattle.std.specs.List.{AllByRecursion}
 use Rattle.sharc_tree.specs.declared.ctype.Mode.{Mode}
 use Rattle.sharc_tree.specs.declared.ctype.Mode.TheVariants.{Private, Readonly, Locked, Racy, Dynamic}
-use Rattle.sharc_tree.specs.declared.ctype.Path.{Path}
-use Rattle.sharc_tree.specs.declared.ctype.Path.TheVariants.{One, Through}
+use Rattle.sharc_tree.specs.{declared.ctype.Path.Path, declared.ctype.Path.TheVariants.{One, Through}}
 use Rattle.sharc_tree.specs.declared.tree.declaration.WrittenType.{WrittenType}
 use Rattle.sharc_tree.specs.Tree.{Expression, First, nothing, declares, does, Statement, Statements, no_statements, statement, Function, Item, structure, global, function}
 use Rattle.sharc_tree.specs.Tree as tree
-use Rattle.sharc_names.specs.declared.fault.Named.{Named}
-use Rattle.sharc_names.specs.declared.fault.Named.TheVariants as named
-use Rattle.sharc_names.specs.declared.scope.Scope.{Scope}
-use Rattle.sharc_names.specs.Kinds.{declared_kind}
+use Rattle.sharc_names.specs.{declared.fault.Named.Named, declared.scope.Scope.Scope, Kinds.declared_kind}
 use Rattle.sharc_names.specs.Names.{Entry, Meaning}
+use Rattle.sharc_names.specs.declared.fault.Named.TheVariants as named
 use Rattle.sharc_names.specs.Names as meaning
-use Rattle.sharc_ctype.specs.Items.{file_scope, in_body}
-use Rattle.sharc_ctype.specs.Resolved.{Resolution, named_at, functions_in}
+use Rattle.sharc_ctype.specs.{Items.{file_scope, in_body}, Resolved.{Resolution, named_at, functions_in}}
 use Rattle.sharc_ctype.specs.Statements.{Around, opened, looping, behind_first, after}
 use Rattle.sharc_ctype_laws.specs.Places.{Placing, places_of_all}
 

@@ -2,8 +2,7 @@
 use Rattle.std.specs.Prelude.{false, List, [], ◌∷◌, ◌++◌, length, map}
 use Rattle.sharc_tree.specs.Tree.{Expression, Local, First, nothing, declares, does, Statement, empty, block, declare, simple, jump, return, if_then, if_then_else, while, for, Statements, no_statements, statement, Function}
 use Rattle.sharc_tree.specs.Measures.{expressions, in_right, in_simple, in_option}
-use Rattle.sharc_names.specs.declared.scope.Scope.{Scope}
-use Rattle.sharc_names.specs.Kinds.{declared_kind}
+use Rattle.sharc_names.specs.{declared.scope.Scope.Scope, Kinds.declared_kind}
 use Rattle.sharc_ctype.specs.Statements.{Around, opened, looping, with_names, declared, behind_first, in_head, after}
 use Rattle.sharc_ctype.specs.Items.{in_body}
 

@@ -1,14 +1,10 @@
 -- How many cells the globals of a program have, by the structs that it defines.
 use Rattle.std.specs.Prelude.{ℕ, ◌+◌, ◌*◌, ◌==◌, ◌≤◌, List, [], ◌∷◌, length, Option, Some, None, if◌then◌else◌}
-use Rattle.sharc_tree.specs.declared.ctype.Base.{Base}
+use Rattle.sharc_tree.specs.{declared.ctype.Base.Base, declared.tree.item.GlobalDefinition.GlobalDefinition}
+use Rattle.sharc_tree.specs.{declared.tree.item.StructDefinition.StructDefinition, Low.IsLow, Placed.IsPlaced}
 use Rattle.sharc_tree.specs.declared.ctype.Base.TheVariants as base
-use Rattle.sharc_tree.specs.declared.tree.item.GlobalDefinition.{GlobalDefinition}
-use Rattle.sharc_tree.specs.declared.tree.item.StructDefinition.{StructDefinition}
-use Rattle.sharc_tree.specs.Low.{IsLow}
-use Rattle.sharc_tree.specs.Placed.{IsPlaced}
 use Rattle.sharc_names.specs.Kinds.{stars_of}
-use Rattle.sharc_ctype.specs.Globals.{elements_of}
-use Rattle.sharc_ctype.specs.Resolved.{Resolution, IsResolved, structs_in, globals_in}
+use Rattle.sharc_ctype.specs.{Globals.elements_of, Resolved.{Resolution, IsResolved, structs_in, globals_in}}
 use Rattle.sharc_ctype_laws.specs.Constraints.{struct_named}
 
 -- one for each field; the known `struct cond`, which is not defined, has one

@@ -1,22 +1,19 @@
 -- The types that are written in a program, and what their names name.
 use Rattle.std.specs.Prelude.{◌≡◌, ◌⊎◌, ℕ, ◌+◌, List, [], ◌∷◌, ◌++◌, map, Option, Some, None, codes}
 use Rattle.std.specs.List.{AllByRecursion}
-use Rattle.sharc_tree.specs.declared.ctype.Base.{Base}
-use Rattle.sharc_tree.specs.declared.ctype.Base.TheVariants as base
-use Rattle.sharc_tree.specs.declared.ctype.Mode.{Mode}
+use Rattle.sharc_tree.specs.{declared.ctype.Base.Base, declared.ctype.Mode.Mode}
 use Rattle.sharc_tree.specs.declared.ctype.Mode.TheVariants.{Private, Readonly, Locked, Racy, Dynamic}
-use Rattle.sharc_tree.specs.declared.ctype.Path.{Path}
-use Rattle.sharc_tree.specs.declared.ctype.Path.TheVariants.{One, Through}
+use Rattle.sharc_tree.specs.{declared.ctype.Path.Path, declared.ctype.Path.TheVariants.{One, Through}}
 use Rattle.sharc_tree.specs.declared.tree.declaration.WrittenType.{WrittenType}
 use Rattle.sharc_tree.specs.declared.tree.declaration.Declaration.{Declaration}
 use Rattle.sharc_tree.specs.declared.tree.item.StructDefinition.{StructDefinition}
 use Rattle.sharc_tree.specs.declared.tree.item.GlobalDefinition.{GlobalDefinition}
 use Rattle.sharc_tree.specs.Tree.{Expression, identifier, constant, parentheses, call, spawn, on_value, on_place, cast, index, field, unary, binary, Arguments, no_arguments, argument, Right, value, malloc, Simple, assign, does_call, Local, First, nothing, declares, does, Head, Statement, empty, block, declare, simple, jump, return, if_then, if_then_else, while, for, Statements, no_statements, statement, Function, Item, structure, global, function}
+use Rattle.sharc_tree.specs.declared.ctype.Base.TheVariants as base
 use Rattle.sharc_names.specs.declared.fault.Named.TheVariants as named
-use Rattle.sharc_names.specs.declared.meaning.ConditionCall.{ConditionCall}
-use Rattle.sharc_names.specs.Kinds.{Kind, object, declared_kind}
-use Rattle.sharc_names.specs.Kinds as kinds
+use Rattle.sharc_names.specs.{declared.meaning.ConditionCall.ConditionCall, Kinds.{Kind, object, declared_kind}}
 use Rattle.sharc_names.specs.Names.{global_kind}
+use Rattle.sharc_names.specs.Kinds as kinds
 use Rattle.sharc_ctype.specs.Resolved.{Resolution, structs_in, struct_at, named_at, declaration_at, global_at, function_at}
 use Rattle.sharc_ctype_laws.specs.Constraints.{struct_named, IsMemberOf, name_of}
 

@@ -1,11 +1,6 @@
 -- The algebra of the ways to an exit.
-use Rattle.std.proofs.Common.{◌≡◌, ℕ, ◌⊎◌, inl, inr, ◌≤◌, ◌<◌, Option, Some, None, Bool, true, false, min, ◌&&◌, ◌||◌, le_trans, ap, sym, ◌∙◌, arith}
-use Rattle.std.proofs.Math.Nat.{min-le_left, min-le_right, min-eq_left, min-eq_right}
-use Rattle.std.proofs.lemmas.Bool.{cases_lt}
-use Rattle.sharc_dataflow.specs.declared.way.Way.{Way}
-use Rattle.sharc_dataflow.specs.declared.way.Ways.{Ways}
-use Rattle.sharc_dataflow.specs.Flow.{To, Next, Broken, Continued, Ends, Leaves}
-use Rattle.sharc_dataflow.specs.Sums.{lower, kept, behind, way, then_of, either_of}
+use Rattle.std.proofs.{Common.{◌≡◌, ℕ, ◌⊎◌, inl, inr, ◌≤◌, ◌<◌, Option, Some, None, Bool, true, false, min, ◌&&◌, ◌||◌, le_trans, ap, sym, ◌∙◌, arith}, Math.Nat.{min-le_left, min-le_right, min-eq_left, min-eq_right}, lemmas.Bool.cases_lt}
+use Rattle.sharc_dataflow.specs.{declared.way.Way.Way, declared.way.Ways.Ways, Flow.{To, Next, Broken, Continued, Ends, Leaves}, Sums.{lower, kept, behind, way, then_of, either_of}}
 
 abbrev pub Yes : Bool → Type 0
 Yes true = Unit {0}
@@ -21,10 +16,6 @@ Joins Next = Unit {0}
 Joins Broken = Unit {0}
 Joins Continued = Unit {0}
 Joins Ends = ⊥
-
-pub is_most : (o : Option ℕ) (k : ℕ) → o ≡ Some k → AtMost o k
-is_most None k e = absurd (cc)
-is_most (Some m) k e = let q : m ≡ k = grind (arith) in omega arith
 
 pub both_yes : (a b : Bool) → Yes a → Yes b → Yes (a && b)
 both_yes true true h k = tt

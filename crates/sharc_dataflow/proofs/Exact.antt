@@ -1,12 +1,7 @@
 -- That what is computed of a piece of code is exactly what its paths do.
-use Rattle.std.proofs.Common.{◌≡◌, ℕ, List, ◌++◌, ◌⊎◌, inl, inr, ◌≤◌, Option, Some, Contains}
-use Rattle.std.proofs.lemmas.List.Elements.{Contains-append_left, Contains-append_right, Contains-append_cases}
-use Rattle.sharc_dataflow.specs.declared.way.Ways.{Ways}
-use Rattle.sharc_dataflow.specs.declared.way.FlowWarning.{FlowWarning}
-use Rattle.sharc_dataflow.specs.Flow.{Act, From, Start, Inside, To, Next, Ends, Piece, Leaves, Then, through, leaves, behind as late, Clear, Stands, Shows, Hits, Reaches}
-use Rattle.sharc_dataflow.specs.Sums.{behind, way, then_of, Warns, warn_then}
-use Rattle.sharc_dataflow.proofs.Lists.{clear_both, clear_first, clear_last, stands_on, stands_cases, shows_behind, shows_cases, hits_across, hits_cases, Split, first, across, last}
-use Rattle.sharc_dataflow.proofs.Algebra.{Yes, AtMost, Joins, most_behind, most_of, behind_is, then_clear, through_clear, leaves_clear, Came, second, passed, left as came_left, then_least, through_most, second_most, left_most}
+use Rattle.std.proofs.{Common.{◌≡◌, ℕ, List, ◌++◌, ◌⊎◌, inl, inr, ◌≤◌, Option, Some, Contains}, lemmas.List.Elements.{Contains-append_left, Contains-append_right, Contains-append_cases}}
+use Rattle.sharc_dataflow.specs.{declared.way.Ways.Ways, declared.way.FlowWarning.FlowWarning, Flow.{Act, From, Start, Inside, To, Next, Ends, Piece, Leaves, Then, through, leaves, behind as late, Clear, Stands, Shows, Hits, Reaches}, Sums.{behind, way, then_of, Warns, warn_then}}
+use Rattle.sharc_dataflow.proofs.{Lists.{clear_both, clear_first, clear_last, stands_on, stands_cases, shows_behind, shows_cases, hits_across, hits_cases, Split, first, across, last}, Algebra.{Yes, AtMost, Joins, most_behind, most_of, behind_is, then_clear, through_clear, leaves_clear, Came, second, passed, left as came_left, then_least, through_most, second_most, left_most}}
 
 abbrev pub warning : ℕ → ℕ → FlowWarning
 warning r k = record { read = r; since = k }

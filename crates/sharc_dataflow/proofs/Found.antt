@@ -1,20 +1,8 @@
 -- The warnings that are found are those of the paths.
-use Rattle.std.proofs.Common.{◌≡◌, ℕ, List, [], ◌∷◌, ◌++◌, ◌⊎◌, inl, inr, Option, Some, None, Contains, ap, sym, subst, ◌∙◌, append_assoc, append-nil, arith, zero, suc, ◌+◌, ◌<◌, length, drop, add-one, drop-cons}
+use Rattle.std.proofs.{Common.{◌≡◌, ℕ, List, [], ◌∷◌, ◌++◌, ◌⊎◌, inl, inr, Option, Some, None, Contains, ap, sym, subst, ◌∙◌, append-nil, arith, zero, suc, ◌+◌, ◌<◌, length}, lemmas.List.Elements.{Contains-append_left, Contains-append_right, Contains-append_cases}}
 use Rattle.std.specs.Prelude.{slice_index_or}
-use Rattle.std.proofs.lemmas.List.Elements.{Contains-append_left, Contains-append_right, Contains-append_cases}
-use Rattle.sharc_dataflow.specs.declared.step.Step.{Step}
-use Rattle.sharc_dataflow.specs.declared.way.FlowWarning.{FlowWarning}
-use Rattle.sharc_dataflow.specs.Flow.{Inside, Ends, Reaches}
-use Rattle.sharc_dataflow.specs.Code.{Code, paths, listing}
-use Rattle.sharc_dataflow.specs.Sums.{warns}
-use Rattle.sharc_dataflow.specs.Passes.{Summing, Telling, summed, sum_start, told, tell_start, nowhere, heads}
-use Rattle.sharc_dataflow.specs.Gathered.{all_nulled, all_warns}
-use Rattle.sharc_dataflow.specs.Uses.{warning, IsUse, AddsUses}
-use Rattle.sharc_dataflow.proofs.Exact.{Warned, ShownPath}
-use Rattle.sharc_dataflow.proofs.Codes.{exact_code}
-use Rattle.sharc_dataflow.proofs.Named.{hit_nulls, in_code}
-use Rattle.sharc_dataflow.proofs.Summed.{summed_piece}
-use Rattle.sharc_dataflow.proofs.Told.{told_piece}
+use Rattle.sharc_dataflow.specs.{declared.step.Step.Step, declared.way.FlowWarning.FlowWarning, Flow.{Inside, Ends, Reaches}, Code.{Code, paths, listing}, Sums.warns, Passes.{Summing, Telling, summed, sum_start, told, tell_start, nowhere, heads}, Gathered.{all_nulled, all_warns}, Uses.{warning, IsUse, AddsUses}}
+use Rattle.sharc_dataflow.proofs.{Exact.{Warned, ShownPath}, Codes.exact_code, Named.{hit_nulls, in_code}, Summed.summed_piece, Told.told_piece}
 
 -- the two passes, one after the other
 pub heads_are : (x : ℕ) (c : Code) → (summed x (listing c) sum_start).heads ≡ heads x c
@@ -67,10 +55,3 @@ adds_uses c list before after every is = record {
     found : (k r : ℕ) → Contains before (warning r k) ⊎ Contains (all_warns c list) (warning r k) → Contains before (warning r k) ⊎ IsUse c k r
     found k r (inl h) = inl h
     found k r (inr h) = let i = has_cases c list k r h in inr (use_of i.0 c k r ((exact_code i.0 c).warned_path None k r i.1))
-
--- one variable more
-pub about_next : (c : Code) (list : List ℕ) (i x : ℕ) (before found after : List FlowWarning) → i < length list → x ≡ slice_index_or list i x → after ≡ found ++ warns x c None
-    → found ++ all_warns c (drop i list) ≡ before → after ++ all_warns c (drop (i + 1) list) ≡ before
-about_next c list i x before found after h is more e =
-    let next : drop i list ≡ x ∷ drop (i + 1) list = rw (add-one, drop-cons list i x) (ap (λ z. z ∷ drop (suc i) list) (sym is)) in
-    ap (λ z. z ++ all_warns c (drop (i + 1) list)) more ∙ append_assoc found (warns x c None) (all_warns c (drop (i + 1) list)) ∙ ap (λ z. found ++ all_warns c z) (sym next) ∙ e

@@ -1,13 +1,6 @@
 -- Variables by halves.
-use Rattle.std.proofs.Common.{◌≡◌, ℕ, ◌<◌, ◌+◌, List, [], ◌∷◌, ◌++◌, ◌⊎◌, inl, inr, None, Contains, length, take, min, max, slice_index_or, refl, ap, sym, subst, ◌∙◌, append_assoc, add-one, arith}
-use Rattle.std.proofs.Math.Seq.{take-suc}
-use Rattle.std.proofs.lemmas.List.Elements.{Contains-append_left, Contains-append_right, Contains-append_cases}
-use Rattle.sharc_dataflow.specs.declared.step.Step.{Step}
-use Rattle.sharc_dataflow.specs.declared.way.FlowWarning.{FlowWarning}
-use Rattle.sharc_dataflow.specs.Code.{Code, listing}
-use Rattle.sharc_dataflow.specs.Sums.{warns}
-use Rattle.sharc_dataflow.specs.Gathered.{all_warns}
-use Rattle.sharc_dataflow.specs.Narrow.{IsBetween, AreBetween, Same, IsSame}
+use Rattle.std.proofs.{Common.{◌≡◌, ℕ, ◌<◌, ◌+◌, List, [], ◌∷◌, ◌++◌, ◌⊎◌, inl, inr, None, Contains, length, take, min, max, slice_index_or, refl, ap, sym, subst, ◌∙◌, append_assoc, add-one, arith}, Math.Seq.take-suc, lemmas.List.Elements.{Contains-append_left, Contains-append_right, Contains-append_cases}}
+use Rattle.sharc_dataflow.specs.{declared.step.Step.Step, declared.way.FlowWarning.FlowWarning, Code.{Code, listing}, Sums.warns, Gathered.all_warns, Narrow.{IsBetween, AreBetween, Same, IsSame}}
 use Rattle.sharc_dataflow.proofs.Found.{one_is}
 
 -- ---- from the least to the greatest

@@ -1,7 +1,6 @@
 -- Laws of the ways to an exit.
 use Rattle.std.proofs.Common.{◌≡◌, ℕ, Option, Some, None, Bool, true, false, ◌&&◌, ◌||◌, refl, ap, sym, ◌∙◌, arith}
-use Rattle.sharc_dataflow.specs.declared.way.Way.{Way}
-use Rattle.sharc_dataflow.specs.Sums.{lower, kept, follow, either, free, closed}
+use Rattle.sharc_dataflow.specs.{declared.way.Way.Way, Sums.{lower, kept, follow, either, free, closed}}
 
 pub lower_none : (o : Option ℕ) → lower o None ≡ o
 lower_none None = refl
@@ -100,12 +99,3 @@ either_assoc p q r = same (lower (lower p.least q.least) r.least) (lower p.least
 
 pub either_closed : (p : Way) → either p closed ≡ p
 either_closed p = same (lower p.least None) p.least (p.clear || false) p.clear (lower_none p.least) (or_false p.clear)
-
-or_turned : (a b : Bool) → a || b ≡ b || a
-or_turned true true = refl
-or_turned true false = refl
-or_turned false true = refl
-or_turned false false = refl
-
-pub either_turned : (p q : Way) → either p q ≡ either q p
-either_turned p q = same (lower p.least q.least) (lower q.least p.least) (p.clear || q.clear) (q.clear || p.clear) (lower_turned p.least q.least) (or_turned p.clear q.clear)

@@ -20,10 +20,6 @@ module _ (x : ℕ) where
   stands_on k (a ∷ l) m (inl h) c = inl (h.0, clear_both l m h.1 c)
   stands_on k (a ∷ l) m (inr h) c = inr (stands_on k l m h c)
 
-  pub stands_behind : (k : ℕ) (l m : List Act) → Stands x k m → Stands x k (l ++ m)
-  stands_behind k [] m h = h
-  stands_behind k (a ∷ l) m h = inr (stands_behind k l m h)
-
   pub stands_cases : (k : ℕ) (l m : List Act) → Stands x k (l ++ m) → (Stands x k l × Clear x m) ⊎ Stands x k m
   stands_cases k [] m h = inr h
   stands_cases k (a ∷ l) m (inl h) = inl (inl (h.0, clear_first l m h.1), clear_last l m h.1)
@@ -32,11 +28,6 @@ module _ (x : ℕ) where
       later : (Stands x k l × Clear x m) ⊎ Stands x k m → (Stands x k (a ∷ l) × Clear x m) ⊎ Stands x k m
       later (inl c) = inl (inr c.0, c.1)
       later (inr c) = inr c
-
-  pub shows_first : (r : ℕ) (l m : List Act) → Shows x r l → Shows x r (l ++ m)
-  shows_first r [] m h = absurd h
-  shows_first r (a ∷ l) m (inl h) = inl h
-  shows_first r (a ∷ l) m (inr h) = inr (h.0, shows_first r l m h.1)
 
   pub shows_behind : (r : ℕ) (l m : List Act) → Clear x l → Shows x r m → Shows x r (l ++ m)
   shows_behind r [] m c h = h
@@ -50,15 +41,6 @@ module _ (x : ℕ) where
       later : Spares x a → Shows x r l ⊎ (Clear x l × Shows x r m) → Shows x r (a ∷ l) ⊎ (Clear x (a ∷ l) × Shows x r m)
       later s (inl c) = inl (inr (s, c))
       later s (inr c) = inr ((s, c.0), c.1)
-
-  pub hits_first : (k r : ℕ) (l m : List Act) → Hits x k r l → Hits x k r (l ++ m)
-  hits_first k r [] m h = absurd h
-  hits_first k r (a ∷ l) m (inl h) = inl (h.0, shows_first r l m h.1)
-  hits_first k r (a ∷ l) m (inr h) = inr (hits_first k r l m h)
-
-  pub hits_behind : (k r : ℕ) (l m : List Act) → Hits x k r m → Hits x k r (l ++ m)
-  hits_behind k r [] m h = h
-  hits_behind k r (a ∷ l) m h = inr (hits_behind k r l m h)
 
   pub hits_across : (k r : ℕ) (l m : List Act) → Stands x k l → Shows x r m → Hits x k r (l ++ m)
   hits_across k r [] m h s = absurd h

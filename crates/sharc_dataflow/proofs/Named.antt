@@ -1,11 +1,7 @@
 -- What a path nulls, a step nulls.
-use Rattle.std.proofs.Common.{◌≡◌, ℕ, List, [], ◌∷◌, ◌++◌, ◌⊎◌, inl, inr, Contains, refl, ap, sym, subst, ◌∙◌, append_assoc}
-use Rattle.std.proofs.lemmas.List.Elements.{Contains-append_left, Contains-append_right, Contains-push}
-use Rattle.sharc_dataflow.specs.declared.step.Step.{Step}
+use Rattle.std.proofs.{Common.{◌≡◌, ℕ, List, [], ◌∷◌, ◌++◌, ◌⊎◌, inl, inr, Contains, refl, ap, sym, subst, ◌∙◌, append_assoc}, lemmas.List.Elements.{Contains-append_left, Contains-append_right, Contains-push}}
+use Rattle.sharc_dataflow.specs.{declared.step.Step.Step, Flow.{Act, Nulls, From, Start, To, Next, Piece, Goes, goes, before, Does, done, ended, before as not_yet, Then, through, leaves, behind, Caught, on, as_is, Loop, left, ended as loop_ended, again, Hits}, Code.{Code, goes_to, acts, first_then, one_of, catches, repeats, paths, listing, step_of}, Gathered.{nulled_at, all_nulled}}
 use Rattle.sharc_dataflow.specs.declared.step.Step.TheVariants as steps
-use Rattle.sharc_dataflow.specs.Flow.{Act, Nulls, From, Start, To, Next, Piece, Goes, goes, before, Does, done, ended, before as not_yet, Then, through, leaves, behind, Caught, on, as_is, Loop, left, ended as loop_ended, again, Hits}
-use Rattle.sharc_dataflow.specs.Code.{Code, goes_to, acts, first_then, one_of, catches, repeats, paths, listing, step_of}
-use Rattle.sharc_dataflow.specs.Gathered.{nulled_at, all_nulled}
 
 abbrev pub NullIn : ℕ → List Act → Type 0
 NullIn x [] = ⊥

@@ -1,15 +1,8 @@
 -- What is kept of code is the same for the variables at hand.
 use Rattle.std.proofs.Common.{◌≡◌, ℕ, List, [], ◌∷◌, ◌++◌, Bool, true, false, nat_eq, refl, ap, sym, ◌∙◌, append_assoc, append-nil, arith}
-use Rattle.sharc_dataflow.specs.declared.step.Step.{Step}
+use Rattle.sharc_dataflow.specs.{declared.step.Step.Step, declared.exits.Exits.Exits, Flow.{Act, Reads, Nulls, Writes, To, Next, Broken, Continued, Ends}, Code.{Code, goes_to, acts, first_then, one_of, catches, repeats, step_of, listing}, Sums.{only, nulled, written, warn_read}, Passes.{last_or, front}, Narrow.{IsBetween, Same, IsSame, exits_to, either_exits, caught_exits, loop_exits, leading, Kept, kept, whole, nothing_kept, put_behind, then_kept, unless_none, either_kept, caught_kept, loop_kept, AllKept, all_kept, is_between, acts_if, narrows, narrowed, narrow_start}}
 use Rattle.sharc_dataflow.specs.declared.step.Step.TheVariants as steps
-use Rattle.sharc_dataflow.specs.declared.exits.Exits.{Exits}
-use Rattle.sharc_dataflow.specs.Flow.{Act, Reads, Nulls, Writes, To, Next, Broken, Continued, Ends}
-use Rattle.sharc_dataflow.specs.Code.{Code, goes_to, acts, first_then, one_of, catches, repeats, step_of, listing}
-use Rattle.sharc_dataflow.specs.Sums.{only, nulled, written, warn_read}
-use Rattle.sharc_dataflow.specs.Passes.{last_or, front}
-use Rattle.sharc_dataflow.specs.Narrow.{IsBetween, Same, IsSame, exits_to, either_exits, caught_exits, loop_exits, leading, Kept, kept, whole, nothing_kept, put_behind, then_kept, unless_none, either_kept, caught_kept, loop_kept, AllKept, all_kept, is_between, acts_if, narrows, narrowed, narrow_start}
-use Rattle.sharc_dataflow.proofs.Summed.{last_pushed, front_pushed, regroup, regroup_two}
-use Rattle.sharc_dataflow.proofs.Alike.{same_self, same_turned, same_then_same, same_then, same_either, same_caught, same_loop, same_assoc, start_same, same_end, out_same_then, out_same_either, out_same_caught, out_same_loop, out_same_goes}
+use Rattle.sharc_dataflow.proofs.{Summed.{last_pushed, front_pushed, regroup, regroup_two}, Alike.{same_self, same_turned, same_then_same, same_then, same_either, same_caught, same_loop, same_assoc, start_same, same_end, out_same_then, out_same_either, out_same_caught, out_same_loop, out_same_goes}}
 
 left_nil : (l m : List Step) → l ++ m ≡ [] → l ≡ []
 left_nil [] m e = refl

@@ -1,15 +1,7 @@
 -- Of warnings in order, the first of each read.
-use Rattle.std.proofs.Common.{◌≡◌, ℕ, suc, ◌+◌, ◌<◌, ◌≤◌, nat_lt, ◌==◌, List, [], ◌∷◌, ◌⊎◌, inl, inr, Option, Some, None, Bool, true, false, Contains, refl, ap, subst, ◌∙◌, arith, cond}
-use Rattle.std.specs.Prelude.{slice_index_or, if◌then◌else◌}
-use Rattle.std.specs.declared.cmp.Ordering.TheVariants.{Less, Equal, Greater}
-use Rattle.std.specs.Ordering.{is_lt, ordering_then}
-use Rattle.std.specs.List.Sorted.{IsSortedByKey}
-use Rattle.std.proofs.lemmas.Bool.Decides.{nat_tests}
-use Rattle.std.proofs.lemmas.List.Elements.{Contains-append_left, Contains-append_right, Contains-append_cases, Contains-push}
-use Rattle.std.proofs.lemmas.List.Sorted.{Contains-permutation, IsPermutation-sym}
-use Rattle.sharc_dataflow.specs.declared.way.FlowWarning.{FlowWarning}
-use Rattle.sharc_dataflow.specs.Orders.{read_and_since, by_read, IsInOrder, is_read, first_each}
-use Rattle.sharc_dataflow.specs.Uses.{warning, HasWarning, Rising, AreFirsts}
+use Rattle.std.proofs.{Common.{◌≡◌, ℕ, suc, ◌+◌, ◌<◌, ◌≤◌, nat_lt, ◌==◌, List, [], ◌∷◌, ◌⊎◌, inl, inr, Option, Some, None, Bool, true, false, Contains, refl, ap, subst, ◌∙◌, arith, cond}, lemmas.Bool.Decides.nat_tests, lemmas.List.Elements.{Contains-append_left, Contains-append_right, Contains-append_cases, Contains-push}, lemmas.List.Sorted.{Contains-permutation, IsPermutation-sym}}
+use Rattle.std.specs.{Prelude.{slice_index_or, if◌then◌else◌}, declared.cmp.Ordering.TheVariants.{Less, Equal, Greater}, Ordering.{is_lt, ordering_then}, List.Sorted.IsSortedByKey}
+use Rattle.sharc_dataflow.specs.{declared.way.FlowWarning.FlowWarning, Orders.{read_and_since, by_read, IsInOrder, is_read, first_each}, Uses.{warning, HasWarning, Rising, AreFirsts}}
 use Rattle.sharc_dataflow.proofs.Found.{one_is}
 
 abbrev Before : FlowWarning → FlowWarning → Type 0

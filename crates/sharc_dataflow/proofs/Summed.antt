@@ -1,13 +1,7 @@
 -- What the backward pass finds of code.
 use Rattle.std.proofs.Common.{◌≡◌, ℕ, List, [], ◌∷◌, ◌++◌, Option, refl, ap, sym, ◌∙◌, append_assoc, append-nil}
-use Rattle.sharc_dataflow.specs.declared.step.Step.{Step}
+use Rattle.sharc_dataflow.specs.{declared.step.Step.Step, declared.way.Way.Way, declared.way.Ways.Ways, Flow.{Reads, Nulls, Writes, Next, Broken, Continued, Ends}, Code.{Code, goes_to, acts, first_then, one_of, catches, repeats, listing}, Sums.{follow, either, then_of, either_of, caught_of, loop_of, ways}, Passes.{last_or, front, heads, Summing, summing, nothing, back, summed}}
 use Rattle.sharc_dataflow.specs.declared.step.Step.TheVariants as steps
-use Rattle.sharc_dataflow.specs.declared.way.Way.{Way}
-use Rattle.sharc_dataflow.specs.declared.way.Ways.{Ways}
-use Rattle.sharc_dataflow.specs.Flow.{Reads, Nulls, Writes, Next, Broken, Continued, Ends}
-use Rattle.sharc_dataflow.specs.Code.{Code, goes_to, acts, first_then, one_of, catches, repeats, listing}
-use Rattle.sharc_dataflow.specs.Sums.{follow, either, then_of, either_of, caught_of, loop_of, ways}
-use Rattle.sharc_dataflow.specs.Passes.{last_or, front, heads, Summing, summing, nothing, back, summed}
 use Rattle.sharc_dataflow.proofs.Laws.{follow_free, free_follow, follow_closed, follow_assoc, follow_either, either_assoc, either_closed}
 
 pub last_pushed : {A : Type 0} (d a : A) (l : List A) → last_or d (l ++ a ∷ []) ≡ a

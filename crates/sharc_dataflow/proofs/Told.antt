@@ -1,17 +1,8 @@
 -- What the forward pass reports of code.
 use Rattle.std.proofs.Common.{◌≡◌, ℕ, List, [], ◌∷◌, ◌++◌, Option, None, true, nat_eq, refl, ap, sym, ◌∙◌, append_assoc, append-nil}
-use Rattle.sharc_dataflow.specs.declared.step.Step.{Step}
+use Rattle.sharc_dataflow.specs.{declared.step.Step.Step, declared.way.Way.Way, declared.way.Ways.Ways, declared.way.Standing.Standing, declared.way.FlowWarning.FlowWarning, Flow.{Reads, Nulls, Writes, Next, Broken, Continued, Ends}, Code.{Code, goes_to, acts, first_then, one_of, catches, repeats, listing}, Sums.{lower, behind, closed, free, follow, either, only, goes_of, then_of, nulled, written, ways, warns}, Passes.{last_or, front, heads, Telling, telling, forth, told, turning}}
 use Rattle.sharc_dataflow.specs.declared.step.Step.TheVariants as steps
-use Rattle.sharc_dataflow.specs.declared.way.Way.{Way}
-use Rattle.sharc_dataflow.specs.declared.way.Ways.{Ways}
-use Rattle.sharc_dataflow.specs.declared.way.Standing.{Standing}
-use Rattle.sharc_dataflow.specs.declared.way.FlowWarning.{FlowWarning}
-use Rattle.sharc_dataflow.specs.Flow.{Reads, Nulls, Writes, Next, Broken, Continued, Ends}
-use Rattle.sharc_dataflow.specs.Code.{Code, goes_to, acts, first_then, one_of, catches, repeats, listing}
-use Rattle.sharc_dataflow.specs.Sums.{lower, behind, closed, free, follow, either, only, goes_of, then_of, nulled, written, ways, warns}
-use Rattle.sharc_dataflow.specs.Passes.{last_or, front, heads, Telling, telling, forth, told, turning}
-use Rattle.sharc_dataflow.proofs.Laws.{lower_none, lower_turned, lower_assoc, follow_assoc, follow_either}
-use Rattle.sharc_dataflow.proofs.Summed.{last_pushed, front_pushed, regroup, regroup_two}
+use Rattle.sharc_dataflow.proofs.{Laws.{lower_none, lower_turned, lower_assoc, follow_assoc, follow_either}, Summed.{last_pushed, front_pushed, regroup, regroup_two}}
 
 -- what a piece does to all that holds
 abbrev pub passed : Ways → Standing → Standing

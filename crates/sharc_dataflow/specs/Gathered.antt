@@ -1,10 +1,7 @@
 -- How the warnings are gathered, variable by variable. It retraces the code: what is answered is said in Uses.
 use Rattle.std.specs.Prelude.{ℕ, List, [], ◌∷◌, ◌++◌, None}
-use Rattle.sharc_dataflow.specs.declared.step.Step.{Step}
+use Rattle.sharc_dataflow.specs.{declared.step.Step.Step, declared.way.FlowWarning.FlowWarning, Code.Code, Sums.warns}
 use Rattle.sharc_dataflow.specs.declared.step.Step.TheVariants as steps
-use Rattle.sharc_dataflow.specs.declared.way.FlowWarning.{FlowWarning}
-use Rattle.sharc_dataflow.specs.Code.{Code}
-use Rattle.sharc_dataflow.specs.Sums.{warns}
 
 -- the variables that the steps null
 

@@ -1,12 +1,10 @@
 -- The steps that matter to some variables: what is left out, and what takes its place. It retraces the code.
 use Rattle.std.specs.Prelude.{◌≡◌, ℕ, ◌≤◌, nat_le, List, Contains, [], ◌∷◌, ◌++◌, Option, Bool, true, false, ◌&&◌, ◌||◌}
-use Rattle.sharc_dataflow.specs.declared.step.Step.{Step}
-use Rattle.sharc_dataflow.specs.declared.step.Step.TheVariants as steps
-use Rattle.sharc_dataflow.specs.declared.exits.Exits.{Exits}
+use Rattle.sharc_dataflow.specs.{declared.step.Step.Step, declared.exits.Exits.Exits}
 use Rattle.sharc_dataflow.specs.Flow.{To, Next, Broken, Continued, Ends}
-use Rattle.sharc_dataflow.specs.Code.{Code, goes_to, first_then, one_of, listing}
-use Rattle.sharc_dataflow.specs.Sums.{ways, warns}
+use Rattle.sharc_dataflow.specs.{Code.{Code, goes_to, first_then, one_of, listing}, Sums.{ways, warns}}
 use Rattle.sharc_dataflow.specs.Passes.{last_or, front}
+use Rattle.sharc_dataflow.specs.declared.step.Step.TheVariants as steps
 
 -- ---- what is asked of them
 

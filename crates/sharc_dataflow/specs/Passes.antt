@@ -1,13 +1,10 @@
 -- Two passes over the steps of code, for one variable: back over them for what holds at the end of a loop's turn, then forward for the warnings. It retraces the code.
 use Rattle.std.specs.Prelude.{ℕ, List, [], ◌∷◌, ◌++◌, Option, None, nat_eq}
-use Rattle.sharc_dataflow.specs.declared.step.Step.{Step}
-use Rattle.sharc_dataflow.specs.declared.step.Step.TheVariants as steps
-use Rattle.sharc_dataflow.specs.declared.way.Ways.{Ways}
-use Rattle.sharc_dataflow.specs.declared.way.Standing.{Standing}
-use Rattle.sharc_dataflow.specs.declared.way.FlowWarning.{FlowWarning}
-use Rattle.sharc_dataflow.specs.Flow.{Broken, Continued, Ends}
+use Rattle.sharc_dataflow.specs.{declared.step.Step.Step, declared.way.Ways.Ways, declared.way.Standing.Standing}
+use Rattle.sharc_dataflow.specs.{declared.way.FlowWarning.FlowWarning, Flow.{Broken, Continued, Ends}}
 use Rattle.sharc_dataflow.specs.Code.{Code, goes_to, acts, first_then, one_of, catches, repeats}
 use Rattle.sharc_dataflow.specs.Sums.{lower, behind, free, only, goes_of, then_of, either_of, caught_of, loop_of, nulled, written, ways, warn_read}
+use Rattle.sharc_dataflow.specs.declared.step.Step.TheVariants as steps
 
 -- the last of a list, and the others
 abbrev pub last_or : {A : Type 0} → A → List A → A

@@ -1,8 +1,6 @@
 -- What a piece of code does to one variable, computed. It retraces the code: what is answered is said by paths, in Flow and Uses.
 use Rattle.std.specs.Prelude.{ℕ, List, [], ◌∷◌, ◌++◌, Option, Some, None, Bool, true, false, min, nat_eq, ◌&&◌, ◌||◌}
-use Rattle.sharc_dataflow.specs.declared.way.Way.{Way}
-use Rattle.sharc_dataflow.specs.declared.way.Ways.{Ways}
-use Rattle.sharc_dataflow.specs.declared.way.FlowWarning.{FlowWarning}
+use Rattle.sharc_dataflow.specs.{declared.way.Way.Way, declared.way.Ways.Ways, declared.way.FlowWarning.FlowWarning}
 use Rattle.sharc_dataflow.specs.Flow.{Act, Reads, Nulls, Writes, To, Next, Broken, Continued, Ends}
 use Rattle.sharc_dataflow.specs.Code.{Code, goes_to, acts, first_then, one_of, catches, repeats}
 

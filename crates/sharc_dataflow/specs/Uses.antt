@@ -1,8 +1,6 @@
 -- What is answered of code: its reads of nulled variables.
 use Rattle.std.specs.Prelude.{ℕ, ◌<◌, ◌≤◌, List, [], ◌∷◌, Contains, ◌⊎◌}
-use Rattle.sharc_dataflow.specs.declared.way.FlowWarning.{FlowWarning}
-use Rattle.sharc_dataflow.specs.Flow.{Reaches}
-use Rattle.sharc_dataflow.specs.Code.{Code, paths}
+use Rattle.sharc_dataflow.specs.{declared.way.FlowWarning.FlowWarning, Flow.Reaches, Code.{Code, paths}}
 
 abbrev pub warning : ℕ → ℕ → FlowWarning
 warning r k = record { read = r; since = k }

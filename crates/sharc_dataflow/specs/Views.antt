@@ -1,10 +1,7 @@
 -- What the code's values stand for.
 use Rattle.std.specs.Prelude.{List, map}
-use Rattle.sharc_dataflow.specs.declared.back.Sums.{Sums}
-use Rattle.sharc_dataflow.specs.declared.forth.Tells.{Tells}
-use Rattle.sharc_dataflow.specs.declared.narrow.Piece.{Piece}
-use Rattle.sharc_dataflow.specs.declared.narrow.Narrowing.{Narrowing}
-use Rattle.sharc_dataflow.specs.Passes.{Summing, summing, Telling, telling}
+use Rattle.sharc_dataflow.specs.{declared.back.Sums.Sums, declared.forth.Tells.Tells, declared.narrow.Piece.Piece}
+use Rattle.sharc_dataflow.specs.{declared.narrow.Narrowing.Narrowing, Passes.{Summing, summing, Telling, telling}}
 use Rattle.sharc_dataflow.specs.Narrow.{Kept, kept, AllKept, all_kept}
 
 abbrev pub view_sums : Sums → Summing

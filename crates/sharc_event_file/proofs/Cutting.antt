@@ -1,25 +1,15 @@
 -- How many of a run's events have lines that audit accepts.
-use Rattle.std.proofs.Common.{◌≡◌, ℕ, zero, suc, ◌-◌, ◌<◌, ◌≤◌, List, [], ◌∷◌, length, take, Option, Some, None, refl, ap, sym, subst, ◌∙◌, arith}
-use Rattle.std.specs.Prelude.{slice_get}
+use Rattle.std.proofs.Common.{◌≡◌, ℕ, zero, suc, ◌-◌, ◌<◌, ◌≤◌, List, [], ◌∷◌, length, take, refl, ap, sym, subst, ◌∙◌, arith}
 use Rattle.sharc_mode.specs.Moded.{Assignment}
-use Rattle.sharc_audit.specs.declared.audit.EventFault.{EventFault}
+use Rattle.sharc_audit.specs.{declared.audit.EventFault.EventFault, declared.line.EventLine.EventLine, Audited.{Refused, Audits}}
 use Rattle.sharc_audit.specs.declared.audit.Verdict.TheVariants as verdict
-use Rattle.sharc_audit.specs.declared.line.EventLine.{EventLine}
-use Rattle.sharc_audit.specs.Audited.{Accepted, Refused, Audits}
 use Rattle.sharc_said.specs.declared.event.Event.{Event}
-use Rattle.sharc_event_file.specs.declared.cut.Cut.{Cut}
+use Rattle.sharc_event_file.specs.{declared.cut.Cut.Cut, Cut.{HasLines, IsEnd, IsFront}, Writing.AreLinesOf}
 use Rattle.sharc_event_file.specs.declared.cut.Cut.TheVariants as cut
-use Rattle.sharc_event_file.specs.declared.cut.Front.{Front}
-use Rattle.sharc_event_file.specs.Cut.{EndsBy, HasLines, IsEnd, IsFront}
-use Rattle.sharc_event_file.specs.Writing.{AreLinesOf}
 use Rattle.sharc_event_file.proofs.Matching.{front_lines}
+use Rattle.sharc_lemmas.proofs.Lists.{there_is}
 
 -- ---- lists
-there_is : {A : Type 0} (xs : List A) (n : ℕ) (x : A) → slice_get xs n ≡ Some x → n < length xs
-there_is [] n x h = absurd (cc)
-there_is (y ∷ xs) zero x h = omega arith
-there_is (y ∷ xs) (suc n) x h = let low = there_is xs n x h in omega (arith, low)
-
 length_take : {A : Type 0} (n : ℕ) (xs : List A) → n ≤ length xs → length (take n xs) ≡ n
 length_take zero xs h = refl
 length_take (suc n) [] h = absurd (omega (arith, h))
@@ -32,25 +22,8 @@ take_front (suc n) (suc k) [] h = refl
 take_front (suc n) (suc k) (x ∷ xs) h = ap (λ z. x ∷ z) (take_front n k xs (omega (arith, h)))
 
 -- ---- the ends
-ends_by : (m : Assignment) (events : List Event) (lines : List EventLine) (why : Cut) → EndsBy m.typed events (length lines) why → IsEnd m events lines why
-ends_by m events lines cut.Whole h = h
-ends_by m events lines cut.NoLine h = h
-ends_by m events lines cut.Many h = h
-ends_by m events lines cut.Fuel h = absurd (h)
-ends_by m events lines (cut.Refused fault) h = absurd (h)
 
 module _ (m : Assignment) (events : List Event) (lines : List EventLine) (why : Cut) (has : HasLines m.typed events lines why) where
-  pub all_front : (n : ℕ) → Audits m 65536 lines (verdict.Obeys n) → IsFront m events record { count = length lines; cut = why }
-  all_front n obeys = record {
-    lines = lines;
-    are = has.are;
-    count = refl;
-    few = has.few;
-    within = has.within;
-    accepted = obeys.1;
-    ends = ends_by m events lines why has.ends;
-  }
-
   part_front : (n : ℕ) (end : Cut) (h : Refused m 65536 lines n) → IsEnd m events (take h.place lines) end → IsFront m events record { count = n - 1; cut = end }
   part_front n end h is =
       let low : h.place < length lines = there_is lines h.place h.line_at h.first.stands in

@@ -6,6 +6,7 @@ use Rattle.sharc_audit.specs.declared.line.EventLine.{EventLine}
 use Rattle.sharc_said.specs.declared.event.Event.{Event}
 use Rattle.sharc_event_file.specs.Writing.{IsLineOf, AreLinesOf}
 use Rattle.sharc_event_file.proofs.Matching.{lines_more}
+use Rattle.sharc_lemmas.proofs.Lists.{length_push}
 
 pub record IsSoFar (r : Resolution) (events : List Event) (lines : List EventLine) (i : ℕ) : Type 0 where
   pub are : AreLinesOf r lines (take i events)
@@ -16,10 +17,6 @@ take_one : {A : Type 0} (xs : List A) (i : ℕ) (x : A) → slice_get xs i ≡ S
 take_one [] i x h = absurd (cc)
 take_one (y ∷ xs) zero x h = let same : y ≡ x = cc in ap (λ z. z ∷ []) same
 take_one (y ∷ xs) (suc i) x h = ap (λ z. y ∷ z) (take_one xs i x h)
-
-length_push : {A : Type 0} (xs : List A) (x : A) → length (xs ++ x ∷ []) ≡ suc (length xs)
-length_push [] x = refl
-length_push (y ∷ xs) x = ap suc (length_push xs x)
 
 so_far_more : (r : Resolution) (events : List Event) (lines : List EventLine) (i : ℕ) (l : EventLine) (e : Event) → IsSoFar r events lines i → slice_get events i ≡ Some e → IsLineOf r l e → suc i ≤ 4096 → IsSoFar r events (lines ++ l ∷ []) (suc i)
 so_far_more r events lines i l e h at is few = record {

@@ -1,15 +1,12 @@
 -- Lines of events.
 use Rattle.std.proofs.Common.{◌≡◌, ℕ, zero, suc, List, [], ◌∷◌, ◌++◌, map, take, refl, ap, sym, ◌∙◌}
 use Rattle.std.specs.Prelude.{ℤ}
-use Rattle.sharc_tree.specs.declared.event.Act.{Act}
+use Rattle.sharc_tree.specs.{declared.event.Act.Act, declared.event.SourceEvent.SourceEvent}
 use Rattle.sharc_tree.specs.declared.event.Act.TheVariants as acts
-use Rattle.sharc_tree.specs.declared.event.SourceEvent.{SourceEvent}
 use Rattle.sharc_ctype.specs.Resolved.{Resolution}
 use Rattle.sharc_code.specs.declared.code.Code.{Code}
-use Rattle.sharc_audit.specs.declared.line.EventLine.{EventLine}
-use Rattle.sharc_audit.specs.Lines.{written, IsLine, AreLines}
-use Rattle.sharc_said.specs.declared.event.Event.{Event}
-use Rattle.sharc_said.specs.Told.{Told, bare, told, told_of_event}
+use Rattle.sharc_audit.specs.{declared.line.EventLine.EventLine, Lines.{written, IsLine, AreLines}}
+use Rattle.sharc_said.specs.{declared.event.Event.Event, Told.{Told, bare, told, told_of_event}}
 use Rattle.sharc_event_file.specs.Writing.{line_of, IsLineOf, AreLinesOf}
 
 pub lines_more : (r : Resolution) (lines : List EventLine) (l : EventLine) (events : List Event) (e : Event) → AreLinesOf r lines events → IsLineOf r l e → AreLinesOf r (lines ++ l ∷ []) (events ++ e ∷ [])

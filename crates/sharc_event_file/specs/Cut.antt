@@ -2,15 +2,12 @@
 use Rattle.std.specs.Prelude.{◌≡◌, ◌<◌, ◌≤◌, ℕ, suc, List, [], ◌∷◌, ◌++◌, length, take, slice_get, Some}
 use Rattle.sharc_ctype.specs.Resolved.{Resolution}
 use Rattle.sharc_mode.specs.Moded.{Assignment}
-use Rattle.sharc_audit.specs.declared.audit.EventFault.{EventFault}
-use Rattle.sharc_audit.specs.declared.audit.Verdict.TheVariants as verdict
-use Rattle.sharc_audit.specs.declared.line.EventLine.{EventLine}
+use Rattle.sharc_audit.specs.{declared.audit.EventFault.EventFault, declared.line.EventLine.EventLine}
 use Rattle.sharc_audit.specs.Audited.{Accepted, Audits}
+use Rattle.sharc_audit.specs.declared.audit.Verdict.TheVariants as verdict
 use Rattle.sharc_said.specs.declared.event.Event.{Event}
-use Rattle.sharc_event_file.specs.declared.cut.Cut.{Cut}
+use Rattle.sharc_event_file.specs.{declared.cut.Cut.Cut, declared.cut.Front.Front, Writing.{Writable, AreLinesOf}}
 use Rattle.sharc_event_file.specs.declared.cut.Cut.TheVariants as cut
-use Rattle.sharc_event_file.specs.declared.cut.Front.{Front}
-use Rattle.sharc_event_file.specs.Writing.{Writable, AreLinesOf}
 
 -- why these lines are no more, but for what audit says of them
 abbrev pub EndsBy : Resolution → List Event → ℕ → Cut → Type 0

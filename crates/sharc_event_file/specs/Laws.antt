@@ -3,10 +3,8 @@ use Rattle.std.specs.Prelude.{◌≡◌, List, map}
 use Rattle.sharc_tree.specs.declared.event.SourceEvent.{SourceEvent}
 use Rattle.sharc_ctype.specs.Resolved.{Resolution}
 use Rattle.sharc_code.specs.declared.code.Code.{Code}
-use Rattle.sharc_audit.specs.declared.line.EventLine.{EventLine}
-use Rattle.sharc_audit.specs.Lines.{AreLines}
-use Rattle.sharc_said.specs.declared.event.Event.{Event}
-use Rattle.sharc_said.specs.Told.{told, told_of_event}
+use Rattle.sharc_audit.specs.{declared.line.EventLine.EventLine, Lines.AreLines}
+use Rattle.sharc_said.specs.{declared.event.Event.Event, Told.{told, told_of_event}}
 use Rattle.sharc_event_file.specs.Writing.{AreLinesOf}
 
 -- where events are computed as these source events, but for the modes of cells

@@ -1,23 +1,16 @@
 -- What an event file says of an event, and the texts of its lines.
 use Rattle.std.specs.Prelude.{◌≡◌, ◌⊎◌, ℕ, ℤ, FitsSigned, pos, ◌==◌, ◌<◌, ◌≤◌, ◌^◌, List, [], ◌∷◌, ◌++◌, Option, Some, None, codes, decimal, if◌then◌else◌}
-use Rattle.std.specs.Fmt.{signed_decimal}
-use Rattle.std.specs.Int.{w64}
+use Rattle.std.specs.{Fmt.signed_decimal, Int.w64}
 use Rattle.sharc_tree.specs.Tree.{Function}
 use Rattle.sharc_ctype.specs.Resolved.{Resolution, function_at}
-use Rattle.sharc_audit.specs.declared.line.EventLine.{EventLine}
-use Rattle.sharc_audit.specs.declared.line.LineAct.{LineAct}
+use Rattle.sharc_audit.specs.{declared.line.EventLine.EventLine, declared.line.LineAct.LineAct}
+use Rattle.sharc_audit.specs.{Grammar.{IsName, thread_most}, Lines.spawned_by}
 use Rattle.sharc_audit.specs.declared.line.LineAct.TheVariants as line
-use Rattle.sharc_audit.specs.Grammar.{IsName, thread_most}
-use Rattle.sharc_audit.specs.Lines.{spawned_by}
-use Rattle.sharc_said.specs.declared.cells.Where.{Where}
+use Rattle.sharc_said.specs.{declared.cells.Where.Where, declared.event.Deed.Deed, declared.event.Event.Event}
+use Rattle.sharc_said.specs.{declared.event.Reference.Reference, declared.event.Value.Value, Told.{Bare, shown}}
 use Rattle.sharc_said.specs.declared.cells.Where.TheVariants as places
-use Rattle.sharc_said.specs.declared.event.Deed.{Deed}
 use Rattle.sharc_said.specs.declared.event.Deed.TheVariants as deeds
-use Rattle.sharc_said.specs.declared.event.Event.{Event}
-use Rattle.sharc_said.specs.declared.event.Reference.{Reference}
-use Rattle.sharc_said.specs.declared.event.Value.{Value}
 use Rattle.sharc_said.specs.declared.event.Value.TheVariants as values
-use Rattle.sharc_said.specs.Told.{Bare, shown}
 use Rattle.sharc_said.specs.Told as bare
 
 -- ---- what a line can say: numbers of objects, cells and elements that the grammar has, and names

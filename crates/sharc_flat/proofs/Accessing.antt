@@ -1,45 +1,22 @@
 -- Accesses of cells, with the mutex of their mode.
-use Rattle.std.proofs.Common.{◌≡◌, ℕ, ◌+◌, ◌-◌, ◌<◌, ◌≤◌, Bool, true, false, cond, List, [], ◌∷◌, ◌++◌, length, get_or, Option, Some, None, refl, sym, ap, ◌∙◌, subst, arith}
+use Rattle.std.proofs.{Common.{◌≡◌, ℕ, ◌+◌, ◌-◌, ◌<◌, ◌≤◌, Bool, true, false, cond, List, [], ◌∷◌, ◌++◌, length, get_or, Option, Some, None, refl, sym, ap, ◌∙◌, subst, arith}, lemmas.List.{get_or-append-add, get_or_append_left}}
 use Rattle.std.specs.Prelude.{ℤ, pos, slice_get, not}
-use Rattle.std.proofs.lemmas.List.{get_or-append-add, get_or_append_left}
-use Rattle.sharc_tree.specs.declared.event.Act.{Act}
+use Rattle.sharc_tree.specs.{declared.event.Act.Act, declared.event.CellAt.CellAt, declared.event.CellMode.CellMode, declared.event.Object.TheVariants.{Global, Made}, declared.event.SourceEvent.SourceEvent, declared.token.Site.Site, declared.token.Span.Span}
 use Rattle.sharc_tree.specs.declared.event.Act.TheVariants as acts
-use Rattle.sharc_tree.specs.declared.event.CellAt.{CellAt}
-use Rattle.sharc_tree.specs.declared.event.CellMode.{CellMode}
 use Rattle.sharc_tree.specs.declared.event.CellMode.TheVariants as modes
-use Rattle.sharc_tree.specs.declared.event.Object.TheVariants.{Global, Made}
-use Rattle.sharc_tree.specs.declared.event.SourceEvent.{SourceEvent}
-use Rattle.sharc_tree.specs.declared.token.Site.{Site}
-use Rattle.sharc_tree.specs.declared.token.Span.{Span}
 use Rattle.sharc_tree.specs.declared.trap.Trap.TheVariants as traps
 use Rattle.sharc_names.specs.declared.fault.Named.{Named}
 use Rattle.sharc_names.specs.declared.fault.Named.TheVariants as named
-use Rattle.sharc_code.specs.declared.code.PlaceMode.{PlaceMode}
+use Rattle.sharc_code.specs.{declared.code.PlaceMode.PlaceMode, declared.instr.Cell.Cell, declared.instr.Register.TheVariants.Reference}
 use Rattle.sharc_code.specs.declared.code.PlaceMode.TheVariants as places
-use Rattle.sharc_code.specs.declared.instr.Cell.{Cell}
-use Rattle.sharc_code.specs.declared.instr.Register.TheVariants.{Reference}
 use Rattle.sharc_ctype.specs.Resolved.{named_at}
-use Rattle.sharc_mode.specs.Cells.{is_behind_pointer}
-use Rattle.sharc_mode.specs.Moded.{Assignment}
-use Rattle.sharc_meaning.specs.declared.given.GivenUp.{GivenUp}
-use Rattle.sharc_mode.specs.Sharings.{Lock, Sharing, private, readonly, locked, racy, dynamic}
-use Rattle.sharc_meaning.specs.Cells.{cell_of, through, guard_named, guard_beside, guard_by, mutex_named, field_place, field_place_behind, behind}
-use Rattle.sharc_meaning.specs.Places.{guarding, access_mode}
-use Rattle.sharc_meaning.specs.Reference.{is_null, number_of}
-use Rattle.sharc_meaning.specs.State.{State, stopped, Run, then_on, ◌>>◌, give, unless_stop, happens, answered, answer_of, event_of, value_in, value_of, pointers_among}
-use Rattle.sharc_flat_form.specs.declared.op.Op.{Op}
-use Rattle.sharc_flat_form.specs.declared.op.Spot.{Spot}
+use Rattle.sharc_mode.specs.{Cells.is_behind_pointer, Moded.Assignment, Sharings.{Lock, Sharing, private, readonly, locked, racy, dynamic}}
+use Rattle.sharc_meaning.specs.{declared.given.GivenUp.GivenUp, Cells.{cell_of, through, guard_named, guard_beside, guard_by, mutex_named, field_place, field_place_behind, behind}, Places.{guarding, access_mode}, Reference.{is_null, number_of}, State.{State, stopped, Run, then_on, ◌>>◌, give, unless_stop, happens, answered, answer_of, event_of, value_in, value_of, pointers_among}}
+use Rattle.sharc_flat_form.specs.{declared.op.Op.Op, declared.op.Spot.Spot, Machine.{At, asks, halts, cell_at, accessed, next as on, op_turn, first_cell}}
 use Rattle.sharc_flat_form.specs.declared.op.Op.TheVariants as op
-use Rattle.sharc_flat_form.specs.Machine.{At, asks, halts, cell_at, accessed, next as on, op_turn, first_cell}
-use Rattle.sharc_flat.proofs.Under.{under, under_lock, mutex_of, accesses_under}
-use Rattle.sharc_flat.specs.declared.slot.Lvalue.{Lvalue}
-use Rattle.sharc_flat.specs.Scope.{Context, ref_count, register_of, number_in, slot_kind}
-use Rattle.sharc_flat.specs.declared.slot.Slot.{Slot}
-use Rattle.sharc_flat.specs.Places.{Target, guard_field, beside_field, place_mode, mode_named, mode_beside, guard_code, guard_cell, field_of, spot_of}
+use Rattle.sharc_flat.proofs.{Under.{under, under_lock, mutex_of, accesses_under}, Runs.{HasAt, Fin, fin_of, fin_then, Same, weaken, Holds, ends, bind, asks_at, after_event}, Agreeing.{PointerAt, pointer_at, Standing, place, Agree, below, holding, refs_length, same_frame}}
+use Rattle.sharc_flat.specs.{declared.slot.Lvalue.Lvalue, Scope.{Context, ref_count, register_of, number_in, slot_kind}, declared.slot.Slot.Slot, Places.{Target, guard_field, beside_field, place_mode, mode_named, mode_beside, guard_code, guard_cell, field_of, spot_of}, Suits.{PathNamed, PathStands}}
 use Rattle.sharc_flat.specs.Places as places_of
-use Rattle.sharc_flat.specs.Suits.{PathNamed, PathStands}
-use Rattle.sharc_flat.proofs.Runs.{HasAt, Fin, fin_of, fin_then, Same, weaken, Holds, ends, bind, asks_at, after_event}
-use Rattle.sharc_flat.proofs.Agreeing.{PointerAt, pointer_at, Standing, place, Agree, below, holding, refs_length, same_frame}
 
 -- with what was read for a lock
 abbrev pub pending_place : Standing → ℕ → (ℕ → ℤ) → (ℕ → ℤ) → State → ℤ → At

@@ -2,15 +2,11 @@
 use Rattle.std.proofs.Common.{◌≡◌, ℕ, zero, suc, ◌+◌, ◌*◌, ◌/◌, ◌<◌, ◌≤◌, List, [], ◌∷◌, length, refl, ap, arith}
 use Rattle.std.specs.Prelude.{slice_index_or}
 use Rattle.sharc_tree.specs.declared.tree.item.GlobalDefinition.{GlobalDefinition}
-use Rattle.sharc_code.specs.declared.code.GlobalCells.{GlobalCells}
 use Rattle.sharc_code.specs.Says.{no_global}
 use Rattle.sharc_ctype.specs.Resolved.{Resolution, globals_in}
 use Rattle.sharc_flat_form.specs.Framed.{IsInGlobal}
-use Rattle.sharc_flat.specs.Laws.{GlobalsLieApart}
-use Rattle.sharc_flat.specs.Tables.{cells_in, granules_in, globals_from, globals_of}
-
-half : (n : ℕ) → n ≤ 2 * ((n + 1) / 2)
-half n = omega arith
+use Rattle.sharc_flat.specs.{Laws.GlobalsLieApart, Tables.{cells_in, granules_in, globals_from}}
+use Rattle.sharc_lemmas.proofs.Numbers.{half}
 
 -- the cells of a global lie after the first
 behind : (r : Resolution) (at : ℕ) (gs : List GlobalDefinition) (g : ℕ) → g < length (globals_from r at gs) → at ≤ (slice_index_or (globals_from r at gs) g no_global).granule

@@ -1,43 +1,16 @@
 -- Assignments, declarations, calls as statements, and returns.
-use Rattle.std.proofs.Common.{◌≡◌, ℕ, ◌+◌, ◌<◌, Bool, true, false, cond, List, [], ◌∷◌, ◌++◌, length, Option, Some, None, refl, sym, ap, ◌∙◌, subst, arith, length-append}
+use Rattle.std.proofs.{Common.{◌≡◌, ℕ, ◌+◌, ◌<◌, Bool, true, false, cond, List, [], ◌∷◌, ◌++◌, length, Option, Some, None, refl, sym, ap, ◌∙◌, subst, arith, length-append}, lemmas.List.append-nil}
 use Rattle.std.specs.Prelude.{ℤ, pos}
-use Rattle.std.proofs.lemmas.List.{append-nil}
-use Rattle.sharc_tree.specs.declared.token.Site.{Site}
-use Rattle.sharc_tree.specs.declared.token.Span.{Span}
+use Rattle.sharc_tree.specs.{declared.token.Site.Site, declared.token.Span.Span}
 use Rattle.sharc_names.specs.Kinds.{Kind, is_integer, is_pointer}
-use Rattle.sharc_code.specs.declared.instr.Register.{Register}
-use Rattle.sharc_code.specs.declared.instr.Register.TheVariants.{Int, Reference}
-use Rattle.sharc_mode.specs.Moded.{Assignment}
-use Rattle.sharc_mode.specs.Sharings.{Sharing}
-use Rattle.sharc_meaning.specs.declared.given.GivenUp.TheVariants.{Released}
-use Rattle.sharc_meaning.specs.Places.{Place, variable, stored}
-use Rattle.sharc_meaning.specs.Reference.{number_of}
-use Rattle.sharc_meaning.specs.State.{State, Run, ◌>>=◌, is_reference, all_released, temporarily, done, gives_up as source_gives_up}
-use Rattle.sharc_flat_form.specs.declared.op.Op.{Op}
-use Rattle.sharc_flat_form.specs.declared.op.Spot.{Spot}
+use Rattle.sharc_code.specs.{declared.instr.Register.Register, declared.instr.Register.TheVariants.{Int, Reference}}
+use Rattle.sharc_mode.specs.{Moded.Assignment, Sharings.Sharing}
+use Rattle.sharc_meaning.specs.{declared.given.GivenUp.TheVariants.Released, Places.{Place, variable, stored}, Reference.number_of, State.{State, Run, ◌>>=◌, is_reference, all_released, temporarily, done, gives_up as source_gives_up, drops}}
+use Rattle.sharc_flat_form.specs.{declared.op.Op.Op, declared.op.Spot.Spot, Machine.{goes, put}}
 use Rattle.sharc_flat_form.specs.declared.op.Op.TheVariants as op
-use Rattle.sharc_flat_form.specs.Machine.{goes, put}
-use Rattle.sharc_flat.specs.declared.slot.Lvalue.{Lvalue}
-use Rattle.sharc_flat.specs.Scope.{int_count, ref_count, register_of}
-use Rattle.sharc_flat.specs.declared.slot.Slot.{Slot}
-use Rattle.sharc_flat.specs.Places.{Target, in_global, in_global_at, in_object, in_object_at, has_base, base_width, field_of, guard_field, beside_field, guard_cell, guard_code, spot_of, drop_base, settle_base, settle_code, cell_store_code, store_code, cell_take_code, take_code}
+use Rattle.sharc_flat.specs.{declared.slot.Lvalue.Lvalue, Scope.{int_count, ref_count, register_of, slot_kind}, declared.slot.Slot.Slot, Places.{Target, in_global, in_global_at, in_object, in_object_at, has_base, base_width, field_of, guard_field, beside_field, guard_cell, guard_code, spot_of, drop_base, settle_base, settle_code, cell_store_code, store_code, cell_take_code, take_code, target, own_field, global_of, bounds_code, index_code, pointee_code, width_of, base_as_width, width_code, guard_width, index_width}, Suits.{PathStands, is_cell}, Flattened.drop_code}
 use Rattle.sharc_flat.specs.Places as targets
-use Rattle.sharc_flat.specs.Suits.{PathStands, is_cell}
-use Rattle.sharc_flat.specs.Scope.{slot_kind}
-use Rattle.sharc_flat.proofs.Runs.{HasAt, has_front, has_back, Fin, fin_then, Same, weaken, step, bind, without}
-use Rattle.sharc_flat.proofs.Agreeing.{Standing, place, Agree, drop_last, last_is, same_frame, loose_of, Valued}
-use Rattle.sharc_flat.proofs.Accessing.{context}
-use Rattle.sharc_flat.proofs.Values.{bases_count, BasesOf, RunsAs, Lies, bases_are, PlaceAs, at_cell, temporarily_runs}
-use Rattle.sharc_flat.specs.Places.{target, own_field, global_of, bounds_code, index_code, pointee_code}
-use Rattle.sharc_meaning.specs.State.{drops}
-use Rattle.sharc_flat.specs.Places.{width_of, base_as_width, width_code}
-use Rattle.sharc_flat.proofs.Computing.{none_end}
-use Rattle.sharc_flat.proofs.Executing.{Stand}
-use Rattle.sharc_flat.proofs.Statements.{StepAs}
-use Rattle.sharc_flat.proofs.Storing.{store_cell, store_int, store_reference, stores}
-use Rattle.sharc_flat.specs.Places.{guard_width, index_width, store_code, cell_store_code}
-use Rattle.sharc_flat.specs.Flattened.{drop_code}
-use Rattle.sharc_meaning.specs.State.{drops}
+use Rattle.sharc_flat.proofs.{Runs.{HasAt, has_front, has_back, Fin, fin_then, Same, weaken, step, bind, without}, Agreeing.{Standing, place, Agree, drop_last, last_is, same_frame, loose_of, Valued}, Accessing.context, Values.{bases_count, BasesOf, RunsAs, Lies, bases_are, PlaceAs, at_cell, temporarily_runs}, Computing.none_end, Executing.Stand, Statements.StepAs, Storing.{store_cell, store_int, store_reference, stores}}
 
 module _ (m : Assignment) (z : Standing) (kind : Kind) (ints0 : ℕ → ℤ) where
   abbrev S : List Slot → List ℤ → (ℕ → ℤ) → (ℕ → ℤ) → State → Type 0

@@ -1,16 +1,8 @@
 -- Banks of registers that hold a list from their first register on, and NULL after it.
-use Rattle.std.proofs.Common.{◌≡◌, ℕ, ◌+◌, ◌<◌, ◌≤◌, true, false, List, [], ◌∷◌, ◌++◌, length, get_or, refl, sym, ap, ◌∙◌, subst, ⊎_elim, arith, length-append}
+use Rattle.std.proofs.{Common.{◌≡◌, ℕ, ◌+◌, ◌<◌, ◌≤◌, List, [], ◌∷◌, ◌++◌, length, get_or, refl, sym, ap, ◌∙◌, subst, ⊎_elim, arith, length-append}, lemmas.Bool.{cases_eq, cases_lt}, lemmas.List.{get_or-set_same, get_or-set_other, get_or_past, get_or_at, set_at, get_or_append_left}}
 use Rattle.std.specs.Prelude.{ℤ, pos, set, ◌==◌}
-use Rattle.std.proofs.lemmas.Bool.{cases_eq, cases_lt}
-use Rattle.std.proofs.lemmas.Bool.Decides.{nat_tests}
-use Rattle.std.proofs.lemmas.List.{get_or-set_same, get_or-set_other, get_or_past, get_or_at, set_at, get_or_append_left}
 use Rattle.sharc_flat_form.specs.Machine.{put}
-
-eqb_same : (n : ℕ) → (n == n) ≡ true
-eqb_same n = grind (arith, nat_tests)
-
-eqb_other : (m n : ℕ) → (m ≡ n → ⊥) → (m == n) ≡ false
-eqb_other m n ne = grind (arith, nat_tests)
+use Rattle.sharc_lemmas.proofs.Numbers.{same_is as eqb_same, eqb_other}
 
 pub put_same : (bank : ℕ → ℤ) (r : ℕ) (v : ℤ) → put bank r v r ≡ v
 put_same bank r v = rw (eqb_same r) refl
@@ -61,13 +53,6 @@ pub bank_put : (bank : ℕ → ℤ) (xs : List ℤ) (v w : ℤ) (ys : List ℤ) 
 bank_put bank xs v w ys n e h =
     let lt : n < length (xs ++ v ∷ ys) = omega (arith, length-append xs (v ∷ ys)) in
     subst (Bank (put bank n w)) (set_at xs v ys w n (sym e)) (bank_set bank (xs ++ v ∷ ys) n w lt h)
-
--- NULL goes after all
-pub bank_null : (bank : ℕ → ℤ) (xs : List ℤ) (n : ℕ) → length xs ≤ n → Bank bank xs → Bank (put bank n (pos 0)) xs
-bank_null bank xs n le h k = ⊎_elim
-    (λ (is : k ≡ n). put_at bank n k (pos 0) is ∙ sym (get_or_past xs k (pos 0) (omega arith)))
-    (λ (ne : k ≡ n → ⊥). put_other bank n (pos 0) k ne ∙ h k)
-    (cases_eq k n)
 
 pub bank_is : (bank : ℕ → ℤ) (xs ys : List ℤ) → xs ≡ ys → Bank bank xs → Bank bank ys
 bank_is bank xs ys e h = subst (Bank bank) e h

@@ -1,23 +1,14 @@
 -- Arguments, calls and functions.
-use Rattle.std.proofs.Common.{◌≡◌, ℕ, zero, suc, ◌+◌, ◌<◌, ◌≤◌, Bool, true, false, cond, List, [], ◌∷◌, ◌++◌, length, get_or, refl, sym, ap, ◌∙◌, subst, arith, append_assoc, length-append}
+use Rattle.std.proofs.{Common.{◌≡◌, ℕ, zero, suc, ◌+◌, ◌<◌, ◌≤◌, Bool, true, false, cond, List, [], ◌∷◌, ◌++◌, length, get_or, refl, sym, ap, ◌∙◌, subst, arith, append_assoc, length-append}, lemmas.List.append-nil}
 use Rattle.std.specs.Prelude.{ℤ, pos}
-use Rattle.std.proofs.lemmas.List.{append-nil}
 use Rattle.sharc_names.specs.Kinds.{Kind, is_integer, is_pointer}
 use Rattle.sharc_mode.specs.Moded.{Assignment}
-use Rattle.sharc_meaning.specs.State.{State, Run, ◌>>=◌, ◌>>◌, give, is_reference, done, holds_reference, with_temporary}
+use Rattle.sharc_meaning.specs.{State.{State, Run, ◌>>=◌, ◌>>◌, give, is_reference, done, holds_reference, with_temporary, holds}, Expressions.{fitting, passed}}
 use Rattle.sharc_flat_form.specs.declared.op.Op.{Op}
-use Rattle.sharc_flat.specs.Scope.{int_count, ref_count}
-use Rattle.sharc_flat.specs.declared.slot.Slot.{Slot}
-use Rattle.sharc_flat.proofs.Runs.{HasAt, has_front, has_back, Fin, fin_then, Same, weaken, bind}
-use Rattle.sharc_flat.proofs.Agreeing.{Standing, place, Agree, hold, loose_of}
-use Rattle.sharc_flat.proofs.Values.{RunsAs}
-use Rattle.sharc_meaning.specs.State.{holds}
-use Rattle.sharc_tree.specs.Tree.{Expression}
+use Rattle.sharc_flat.specs.{Scope.{int_count, ref_count}, declared.slot.Slot.Slot, Flattened.{passed_code, behind_int, behind_ref}}
+use Rattle.sharc_flat.proofs.{Runs.{HasAt, has_front, has_back, Fin, fin_then, Same, weaken, bind}, Agreeing.{Standing, place, Agree, hold, loose_of}, Values.RunsAs, Testing.fitting_runs}
+use Rattle.sharc_tree.specs.{Tree.Expression, Spans.span_of}
 use Rattle.sharc_ctype.specs.Resolved.{kind_at}
-use Rattle.sharc_meaning.specs.Expressions.{fitting, passed}
-use Rattle.sharc_tree.specs.Spans.{span_of}
-use Rattle.sharc_flat.proofs.Testing.{fitting_runs}
-use Rattle.sharc_flat.specs.Flattened.{passed_code, behind_int, behind_ref}
 
 -- the references among the arguments, and the integers
 abbrev pub refs_of : List Kind → List ℤ → List ℤ

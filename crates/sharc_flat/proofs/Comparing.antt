@@ -1,31 +1,16 @@
 -- Comparisons of references.
-use Rattle.std.proofs.Common.{◌≡◌, ℕ, ◌+◌, ◌<◌, ◌≤◌, Bool, true, false, cond, List, [], ◌∷◌, ◌++◌, length, refl, sym, ap, ◌∙◌, subst, arith, append_assoc, length-append}
-use Rattle.std.specs.Prelude.{ℤ, not}
-use Rattle.std.proofs.lemmas.List.{append-nil}
-use Rattle.sharc_tree.specs.declared.token.Site.{Site}
-use Rattle.sharc_tree.specs.declared.trap.Trap.{Trap}
+use Rattle.std.proofs.{Common.{◌≡◌, ℕ, ◌+◌, ◌<◌, ◌≤◌, Bool, true, false, cond, List, [], ◌∷◌, ◌++◌, length, refl, sym, ap, ◌∙◌, subst, arith, append_assoc, length-append}, lemmas.List.append-nil}
+use Rattle.std.specs.Prelude.{ℤ, not, Result, Ok}
+use Rattle.sharc_tree.specs.{declared.token.Site.Site, declared.trap.Trap.Trap, Tree.Expression}
 use Rattle.sharc_names.specs.Kinds.{Kind}
 use Rattle.sharc_mode.specs.Moded.{Assignment}
-use Rattle.sharc_meaning.specs.State.{State, Run, ◌>>=◌, ◌>>◌, give, is_reference, all_released, temporarily, done, holds_reference, with_temporary}
-use Rattle.sharc_flat_form.specs.declared.op.Op.{Op}
-use Rattle.sharc_flat_form.specs.declared.op.Spot.{Spot}
+use Rattle.sharc_meaning.specs.{State.{State, Run, ◌>>=◌, ◌>>◌, give, is_reference, all_released, temporarily, done, holds_reference, with_temporary, holds}, Arithmetic.{is_zero, is_equal, truth}, Expressions.{resulting, operand}}
+use Rattle.sharc_flat_form.specs.{declared.op.Op.Op, declared.op.Spot.Spot, Machine.put}
 use Rattle.sharc_flat_form.specs.declared.op.Op.TheVariants as op
-use Rattle.sharc_flat_form.specs.Machine.{put}
-use Rattle.sharc_flat.specs.Scope.{int_count, ref_count}
-use Rattle.sharc_flat.specs.declared.slot.Slot.{Slot}
-use Rattle.sharc_flat.proofs.Banks.{put_same, put_other}
-use Rattle.sharc_flat.proofs.Runs.{HasAt, has_front, has_back, Fin, fin_then, Same, weaken, step, bind, without}
-use Rattle.sharc_flat.proofs.Agreeing.{Standing, place, Agree, last_is, hold, with_int, same_frame, loose_of}
-use Rattle.sharc_flat.proofs.Values.{loosen, released, given_place, int_valued, RunsAs, temporarily_runs}
-use Rattle.sharc_meaning.specs.State.{holds}
-use Rattle.sharc_meaning.specs.Arithmetic.{is_zero, is_equal, truth}
-use Rattle.sharc_flat.proofs.Popping.{popping, pop_all}
+use Rattle.sharc_flat.specs.{Scope.{int_count, ref_count}, declared.slot.Slot.Slot}
+use Rattle.sharc_flat.proofs.{Banks.{put_same, put_other}, Runs.{HasAt, has_front, has_back, Fin, fin_then, Same, weaken, step, bind, without}, Agreeing.{Standing, place, Agree, last_is, hold, with_int, same_frame, loose_of}, Values.{loosen, released, given_place, int_valued, RunsAs, temporarily_runs}, Popping.{popping, pop_all}, Computing.truth_same}
 use Rattle.sharc_code.specs.Arithmetic as code
-use Rattle.std.specs.Prelude.{Result, Ok}
-use Rattle.sharc_tree.specs.Tree.{Expression}
 use Rattle.sharc_ctype.specs.Resolved.{kind_at}
-use Rattle.sharc_meaning.specs.Expressions.{resulting, operand}
-use Rattle.sharc_flat.proofs.Computing.{truth_same}
 
 module _ (m : Assignment) (z : Standing) (scope : List Slot) where
   -- the temporaries of a run end, in the order of their registers

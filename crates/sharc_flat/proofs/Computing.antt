@@ -1,41 +1,19 @@
 -- Operators and constants.
-use Rattle.std.proofs.Common.{◌≡◌, ℕ, zero, suc, ◌+◌, ◌<◌, ◌≤◌, Bool, true, false, cond, List, [], ◌∷◌, ◌++◌, length, Option, Some, refl, sym, ap, ◌∙◌, subst, arith, length-append}
-use Rattle.std.specs.Prelude.{ℤ, pos, negsuc, slice_get, not, nat_lt}
-use Rattle.std.proofs.lemmas.List.{append-nil}
-use Rattle.sharc_tree.specs.declared.ctype.Base.{Base}
+use Rattle.std.proofs.{Common.{◌≡◌, ℕ, zero, suc, ◌+◌, ◌<◌, ◌≤◌, Bool, true, false, cond, List, [], ◌∷◌, ◌++◌, length, Option, Some, refl, sym, ap, ◌∙◌, subst, arith, length-append}, lemmas.List.append-nil}
+use Rattle.std.specs.Prelude.{ℤ, pos, negsuc, slice_get, not, nat_lt, Result, Ok, Err, int_div, int_lt, int_le}
+use Rattle.sharc_tree.specs.{declared.ctype.Base.Base, declared.tree.expression.BinaryOperator.BinaryOperator, declared.tree.expression.BinaryOperator.TheVariants.{LogicalOr, LogicalAnd, BitOr, BitXor, BitAnd, Equal, NotEqual, Less, Greater, LessOrEqual, GreaterOrEqual, ShiftLeft, ShiftRight, Add, Subtract, Multiply, Divide, Remainder}, declared.trap.Trap.Trap, Tree.Expression}
 use Rattle.sharc_tree.specs.declared.ctype.Base.TheVariants as base
-use Rattle.sharc_names.specs.Kinds.{Kind, object, array, null, function, is_integer}
+use Rattle.sharc_names.specs.Kinds.{Kind, object, array, null, function, is_integer, int, long, promoted, is_long}
 use Rattle.sharc_mode.specs.Moded.{Assignment}
-use Rattle.sharc_meaning.specs.Places.{Place}
-use Rattle.sharc_meaning.specs.State.{State, Run, ◌>>=◌, ◌>>◌, give, entered, is_reference, temporarily, done, holds_reference}
-use Rattle.sharc_flat_form.specs.declared.op.Op.{Op}
-use Rattle.sharc_flat_form.specs.declared.op.Spot.{Spot}
+use Rattle.sharc_meaning.specs.{Places.Place, State.{State, Run, ◌>>=◌, ◌>>◌, give, entered, is_reference, temporarily, done, holds_reference, stopped, holds}, Arithmetic.{bits_of, bits_of_base, is_zero, is_equal, truth, operated, in_range, is_held_by, divided, shifted}, Expressions.{resulting, operand}}
+use Rattle.sharc_flat_form.specs.{declared.op.Op.Op, declared.op.Spot.Spot, Machine.{put, op_turn, with_result}}
 use Rattle.sharc_flat_form.specs.declared.op.Op.TheVariants as op
-use Rattle.sharc_flat_form.specs.Machine.{put, op_turn}
-use Rattle.sharc_flat.specs.Scope.{int_count}
-use Rattle.sharc_flat.specs.declared.slot.Slot.{Slot}
-use Rattle.sharc_flat.specs.Places.{Target}
-use Rattle.sharc_flat.proofs.Banks.{put_same, put_other}
-use Rattle.sharc_flat.proofs.Runs.{has_front, has_back, Fin, fin_then, Same, weaken, step, bind, without, enters_at}
-use Rattle.sharc_flat.proofs.Agreeing.{Standing, place, Agree, holding, with_int, same_frame, loose_of, Rest}
-use Rattle.sharc_flat.proofs.Values.{integer_is, loosen, released, given_place, int_valued, RunsAs, RestAt, PlaceAs, temporarily_runs}
-use Rattle.sharc_flat.proofs.Runs.{ends}
-use Rattle.sharc_meaning.specs.State.{stopped, holds}
-use Rattle.sharc_meaning.specs.Arithmetic.{bits_of, bits_of_base, is_zero, is_equal, truth, operated, in_range, is_held_by, divided, shifted}
-use Rattle.sharc_tree.specs.declared.tree.expression.BinaryOperator.{BinaryOperator}
-use Rattle.sharc_tree.specs.declared.tree.expression.BinaryOperator.TheVariants.{LogicalOr, LogicalAnd, BitOr, BitXor, BitAnd, Equal, NotEqual, Less, Greater, LessOrEqual, GreaterOrEqual, ShiftLeft, ShiftRight, Add, Subtract, Multiply, Divide, Remainder}
-use Rattle.sharc_tree.specs.declared.trap.Trap.{Trap}
+use Rattle.sharc_flat.specs.{Scope.int_count, declared.slot.Slot.Slot, Places.{Target, width_of, base_as_width}, Flattened.operator_of}
+use Rattle.sharc_flat.proofs.{Banks.{put_same, put_other}, Runs.{has_front, has_back, Fin, fin_then, Same, weaken, step, bind, without, enters_at, ends}, Agreeing.{Standing, place, Agree, holding, with_int, same_frame, loose_of, Rest}, Values.{integer_is, loosen, released, given_place, int_valued, RunsAs, RestAt, PlaceAs, temporarily_runs}}
 use Rattle.sharc_tree.specs.declared.trap.Trap.TheVariants as traps
 use Rattle.sharc_code.specs.declared.instr.Width.{Width}
 use Rattle.sharc_code.specs.Arithmetic as code
-use Rattle.std.specs.Prelude.{Result, Ok, Err, int_div, int_lt, int_le}
-use Rattle.sharc_names.specs.Kinds.{int, long, promoted, is_long}
-use Rattle.sharc_tree.specs.Tree.{Expression}
 use Rattle.sharc_ctype.specs.Resolved.{kind_at}
-use Rattle.sharc_meaning.specs.Expressions.{resulting, operand}
-use Rattle.sharc_flat_form.specs.Machine.{with_result}
-use Rattle.sharc_flat.specs.Places.{width_of, base_as_width}
-use Rattle.sharc_flat.specs.Flattened.{operator_of}
 
 -- ---- arithmetic: the two sides say the same
 pub holds_same : (w : Width) (v : ℤ) → code.holds w v ≡ is_held_by (code.value_bits w) v

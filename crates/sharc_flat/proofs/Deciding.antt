@@ -3,30 +3,16 @@ use Rattle.std.proofs.Common.{◌≡◌, ℕ, ◌+◌, ◌<◌, ◌≤◌, Bool,
 use Rattle.std.specs.Prelude.{ℤ, slice_get, not}
 use Rattle.sharc_names.specs.Kinds.{Kind}
 use Rattle.sharc_mode.specs.Moded.{Assignment}
-use Rattle.sharc_meaning.specs.State.{State, Run, ◌>>=◌, give, is_reference}
-use Rattle.sharc_flat_form.specs.declared.op.Op.{Op}
-use Rattle.sharc_flat_form.specs.declared.op.Spot.{Spot}
+use Rattle.sharc_meaning.specs.{State.{State, Run, ◌>>=◌, give, is_reference}, Arithmetic.{is_zero, truth}}
+use Rattle.sharc_flat_form.specs.{declared.op.Op.Op, Machine.{goes, put, next as on, over_lines}}
 use Rattle.sharc_flat_form.specs.declared.op.Op.TheVariants as op
-use Rattle.sharc_flat_form.specs.Machine.{goes, put, next as on}
-use Rattle.sharc_flat.specs.Scope.{int_count, ref_count}
-use Rattle.sharc_flat.specs.declared.slot.Slot.{Slot}
-use Rattle.sharc_flat.proofs.Banks.{put_same, put_other}
-use Rattle.sharc_flat.proofs.Runs.{HasAt, has_front, has_back, Fin, fin_then, Same, weaken, step, bind}
-use Rattle.sharc_flat.proofs.Agreeing.{Standing, place, Agree, with_int, Rest}
-use Rattle.sharc_flat.proofs.Values.{int_valued, RunsAs}
-use Rattle.sharc_meaning.specs.Arithmetic.{is_zero, truth}
+use Rattle.sharc_flat.specs.{Scope.{int_count, ref_count}, declared.slot.Slot.Slot}
+use Rattle.sharc_flat.proofs.{Banks.{put_same, put_other}, Runs.{HasAt, has_front, has_back, Fin, fin_then, Same, weaken, step, bind}, Agreeing.{Standing, place, Agree, with_int, Rest}, Values.{int_valued, RunsAs}, Computing.truth_same, Testing.{TestAs, not_not}}
 use Rattle.sharc_code.specs.Arithmetic as code
-use Rattle.sharc_flat.proofs.Computing.{truth_same}
-use Rattle.sharc_flat.proofs.Testing.{TestAs}
-use Rattle.sharc_flat_form.specs.Machine.{over_lines}
 
 zero_of : (b : Bool) → is_zero (code.truth b) ≡ not b
 zero_of true = refl
 zero_of false = refl
-
-not_not : (b : Bool) → not (not b) ≡ b
-not_not true = refl
-not_not false = refl
 
 module _ (m : Assignment) (z : Standing) (scope : List Slot) where
   -- a register of a test becomes the truth value

@@ -1,47 +1,15 @@
 -- Declarations, returns, and loops with a head.
-use Rattle.std.proofs.Common.{◌≡◌, ℕ, ◌+◌, ◌<◌, Bool, true, false, cond, List, [], ◌∷◌, ◌++◌, length, get_or, Some, refl, sym, ap, ◌∙◌, subst, ⊎_elim, arith, length-append}
+use Rattle.std.proofs.{Common.{◌≡◌, ℕ, ◌+◌, ◌<◌, Bool, true, false, cond, List, [], ◌∷◌, ◌++◌, length, get_or, Some, refl, sym, ap, ◌∙◌, subst, ⊎_elim, arith, length-append, inl, inr}, lemmas.List.{append-nil, get_or_append_left, get_or_at, map-append}, lemmas.Bool.cases_eq}
 use Rattle.std.specs.Prelude.{ℤ, pos, ◌||◌}
-use Rattle.std.proofs.lemmas.List.{append-nil, get_or_append_left, get_or_at}
-use Rattle.sharc_tree.specs.declared.token.Site.{Site}
-use Rattle.sharc_names.specs.Kinds.{Kind, is_integer, is_pointer}
-use Rattle.sharc_mode.specs.Moded.{Assignment}
-use Rattle.sharc_mode.specs.Sharings.{Sharing}
-use Rattle.sharc_meaning.specs.Places.{variable, stored}
-use Rattle.sharc_meaning.specs.State.{State, Run, ◌>>=◌, ◌>>◌, give, is_reference, pointers_among, writes}
-use Rattle.sharc_flat_form.specs.declared.op.Op.{Op}
-use Rattle.sharc_flat_form.specs.declared.op.Spot.{Spot}
+use Rattle.sharc_tree.specs.{declared.token.Site.Site, declared.tree.declaration.Declaration.Declaration, declared.tree.declaration.WrittenType.WrittenType}
+use Rattle.sharc_names.specs.Kinds.{Kind, is_integer, is_pointer, declared_kind}
+use Rattle.sharc_mode.specs.{Moded.Assignment, Sharings.Sharing}
+use Rattle.sharc_meaning.specs.{Places.{variable, stored}, State.{State, Run, ◌>>=◌, ◌>>◌, give, is_reference, pointers_among, writes, begins_with, new_variable}, Statements.{Flow, next, returned, loop}}
+use Rattle.sharc_flat_form.specs.{declared.op.Op.Op, Machine.put}
 use Rattle.sharc_flat_form.specs.declared.op.Op.TheVariants as op
-use Rattle.sharc_flat_form.specs.Machine.{put}
-use Rattle.sharc_flat.specs.Scope.{int_count, ref_count, register_of}
-use Rattle.sharc_flat.specs.declared.slot.Slot.{Slot}
-use Rattle.sharc_flat.specs.Places.{settle_code}
-use Rattle.sharc_flat.specs.Scope.{slot_kind}
-use Rattle.sharc_flat.proofs.Banks.{bank_is, put_at, put_other}
-use Rattle.sharc_flat.proofs.Runs.{HasAt, has_front, has_back, Fin, fin_then, Same, weaken, step, bind}
-use Rattle.sharc_flat.proofs.Agreeing.{slot_in, int_values, ints_length, Standing, place, Agree, below, push, loose_of}
-use Rattle.sharc_flat.proofs.Values.{RunsAs}
-use Rattle.std.proofs.lemmas.Bool.{cases_eq}
-use Rattle.sharc_flat.specs.Scope.{at_site}
-use Rattle.std.proofs.Common.{inl, inr}
-use Rattle.sharc_meaning.specs.Statements.{Flow, next, returned, loop}
-use Rattle.sharc_flat.specs.Scope.{leaves}
-use Rattle.sharc_flat.specs.Flattened.{Around, looping, result_code, zero_code}
-use Rattle.sharc_flat.proofs.Executing.{Stand, After, Here, Beyond, StatementAs}
-use Rattle.sharc_flat.specs.Flattened.{loop_code}
-use Rattle.sharc_flat.proofs.Statements.{StepAs}
-use Rattle.sharc_flat.proofs.Blocks.{pointers_append, ints_append}
-use Rattle.sharc_flat.specs.Scope.{slot_of}
-use Rattle.sharc_meaning.specs.State.{begins_with, new_variable}
-use Rattle.sharc_tree.specs.declared.tree.declaration.Declaration.{Declaration}
-use Rattle.sharc_names.specs.Kinds.{declared_kind}
-use Rattle.sharc_flat.proofs.Assigning.{assign_variable_runs, settle_length}
-use Rattle.sharc_flat.proofs.Statements.{DecidesAs, loop_runs}
-use Rattle.std.proofs.lemmas.List.{map-append}
-use Rattle.sharc_tree.specs.declared.tree.declaration.WrittenType.{WrittenType}
-
-or_false : (b : Bool) → (b || false) ≡ b
-or_false true = refl
-or_false false = refl
+use Rattle.sharc_flat.specs.{Scope.{int_count, ref_count, register_of, slot_kind, at_site, leaves, slot_of}, declared.slot.Slot.Slot, Places.settle_code, Flattened.{Around, looping, result_code, zero_code, loop_code}}
+use Rattle.sharc_flat.proofs.{Banks.{bank_is, put_at, put_other}, Runs.{HasAt, has_front, has_back, Fin, fin_then, Same, weaken, step, bind}, Agreeing.{slot_in, int_values, ints_length, Standing, place, Agree, below, push, loose_of}, Values.RunsAs, Executing.{Stand, After, Here, Beyond, StatementAs}, Statements.{StepAs, DecidesAs, loop_runs}, Blocks.{pointers_append, ints_append}, Assigning.{assign_variable_runs, settle_length}}
+use Rattle.sharc_lemmas.proofs.Bools.{or_false}
 
 pub declared_reference : (w : WrittenType) → is_reference (declared_kind w) ≡ is_pointer (declared_kind w)
 declared_reference w = or_false (is_pointer (declared_kind w))

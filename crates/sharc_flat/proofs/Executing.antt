@@ -1,30 +1,14 @@
 -- Statements, by how they are left.
-use Rattle.std.proofs.Common.{◌≡◌, ℕ, ◌+◌, ◌<◌, ◌≤◌, true, List, [], ◌∷◌, ◌++◌, length, get_or, take, refl, sym, ap, ◌∙◌, subst, ⊎_elim, arith, append_assoc, length-append}
-use Rattle.std.specs.Prelude.{ℤ, pos}
-use Rattle.std.proofs.lemmas.List.{append-nil, take_at}
+use Rattle.std.proofs.{Common.{◌≡◌, ℕ, ◌+◌, ◌<◌, ◌≤◌, true, List, [], ◌∷◌, ◌++◌, length, get_or, take, refl, sym, ap, ◌∙◌, subst, ⊎_elim, arith, append_assoc, length-append, inl, inr}, lemmas.List.{append-nil, take_at, length-map}}
+use Rattle.std.specs.Prelude.{ℤ, pos, ◌⊎◌}
 use Rattle.sharc_tree.specs.declared.token.Site.{Site}
 use Rattle.sharc_names.specs.Kinds.{Kind, is_integer}
 use Rattle.sharc_mode.specs.Moded.{Assignment}
-use Rattle.sharc_meaning.specs.State.{State, Run, entered, is_reference}
-use Rattle.sharc_flat_form.specs.declared.op.Op.{Op}
-use Rattle.sharc_flat_form.specs.declared.op.Spot.{Spot}
+use Rattle.sharc_meaning.specs.{State.{State, Run, entered, is_reference, in_block}, Statements.{Flow, next, broken, continued, returned}}
+use Rattle.sharc_flat_form.specs.{declared.op.Op.Op, declared.op.Spot.Spot}
 use Rattle.sharc_flat_form.specs.declared.op.Op.TheVariants as op
-use Rattle.sharc_flat.specs.Scope.{ref_count}
-use Rattle.sharc_flat.specs.declared.slot.Slot.{Slot}
-use Rattle.sharc_flat.proofs.Runs.{HasAt, has_front, has_back, Fin, fin_then, Same, weaken, step, enters_at}
-use Rattle.sharc_flat.proofs.Agreeing.{slot_in, Standing, place, Agree, holding, same_frame, loose_of}
-use Rattle.sharc_flat.specs.Scope.{at_site}
-use Rattle.sharc_flat.proofs.Popping.{AllNull}
-use Rattle.sharc_flat.proofs.Blocks.{block_ends}
-use Rattle.sharc_flat.proofs.Popping.{none_behind}
-use Rattle.sharc_flat.proofs.Runs.{without_variables, unblock}
-use Rattle.std.specs.Prelude.{◌⊎◌}
-use Rattle.std.proofs.Common.{inl, inr}
-use Rattle.std.proofs.lemmas.List.{length-map}
-use Rattle.sharc_meaning.specs.Statements.{Flow, next, broken, continued, returned}
-use Rattle.sharc_meaning.specs.State.{in_block}
-use Rattle.sharc_flat.specs.Scope.{ends_from, leaves}
-use Rattle.sharc_flat.specs.Flattened.{Around, result_code, zero_code}
+use Rattle.sharc_flat.specs.{Scope.{ref_count, at_site, ends_from, leaves}, declared.slot.Slot.Slot, Flattened.{Around, result_code, zero_code}}
+use Rattle.sharc_flat.proofs.{Runs.{HasAt, has_front, has_back, Fin, fin_then, Same, weaken, step, enters_at, without_variables, unblock}, Agreeing.{slot_in, Standing, place, Agree, holding, same_frame, loose_of}, Popping.{AllNull, none_behind}, Blocks.block_ends}
 
 module _ (m : Assignment) (z : Standing) (kind : Kind) (ints0 : ℕ → ℤ) where
   -- the variables of a scope are in place, and the callers' integers are untouched

@@ -1,70 +1,20 @@
 -- Constants, names, calls and other single expressions.
-use Rattle.std.proofs.Common.{◌≡◌, ℕ, ◌+◌, ◌-◌, Bool, true, false, List, [], ◌∷◌, ◌++◌, length, Option, Some, None, refl, sym, ap, ◌∙◌, subst, arith, append_assoc, length-append}
+use Rattle.std.proofs.{Common.{◌≡◌, ℕ, ◌+◌, ◌-◌, Bool, true, false, List, [], ◌∷◌, ◌++◌, length, Option, Some, None, refl, sym, ap, ◌∙◌, subst, arith, append_assoc, length-append}, lemmas.List.length-map}
 use Rattle.std.specs.Prelude.{ℤ, pos, not}
 use Rattle.sharc_tree.specs.declared.event.Act.TheVariants as acts
-use Rattle.sharc_tree.specs.declared.event.Object.TheVariants.{Global}
-use Rattle.sharc_tree.specs.declared.token.Site.{Site}
-use Rattle.sharc_tree.specs.declared.token.Span.{Span}
-use Rattle.sharc_names.specs.Kinds.{Kind, null, is_integer}
+use Rattle.sharc_tree.specs.{declared.event.Object.TheVariants.Global, declared.token.Site.Site, declared.token.Span.Span, declared.event.Act.Act, Tree.{Expression, Function}, declared.tree.expression.Constant.Constant, declared.tree.expression.Constant.TheVariants.{Number, Character, Null}, declared.tree.expression.ValueCall.ValueCall, declared.tree.expression.ValueCall.TheVariants.{Join, Print}, declared.token.NumberType.NumberType}
+use Rattle.sharc_names.specs.Kinds.{Kind, null, is_integer, int, long, declared_kind, declared_kinds}
 use Rattle.sharc_code.specs.declared.code.Use.TheVariants as uses
-use Rattle.sharc_tree.specs.declared.event.Act.{Act}
-use Rattle.sharc_mode.specs.Moded.{Assignment}
-use Rattle.sharc_mode.specs.Sharings.{Sharing}
-use Rattle.sharc_meaning.specs.Cells.{cell_of}
-use Rattle.sharc_meaning.specs.Places.{cell, fetched}
-use Rattle.sharc_meaning.specs.State.{State, Run, ◌>>=◌, ◌>>◌, give, happens, answered, answer_of, value_in, is_reference, temporarily, performs}
-use Rattle.sharc_flat_form.specs.declared.op.Op.{Op}
-use Rattle.sharc_flat_form.specs.declared.op.Spot.{Spot}
+use Rattle.sharc_mode.specs.{Moded.Assignment, Sharings.Sharing}
+use Rattle.sharc_meaning.specs.{Cells.cell_of, Places.{cell, fetched}, State.{State, Run, ◌>>=◌, ◌>>◌, give, happens, answered, answer_of, value_in, is_reference, temporarily, performs, event_of}, Arithmetic.{is_zero, truth}, Expressions.{tested, Calls, value_called}, Reference.constant_value}
+use Rattle.sharc_flat_form.specs.{declared.op.Op.Op, declared.op.Spot.Spot, Machine.{At, is_of_null, asks, put, global_cell, first_cell, accessed, next as on, set_int, set_ref, op_turn}}
 use Rattle.sharc_flat_form.specs.declared.op.Op.TheVariants as op
-use Rattle.sharc_flat_form.specs.Machine.{At, is_of_null, asks, put, global_cell, first_cell, accessed, next as on, set_int, set_ref, op_turn}
-use Rattle.sharc_flat.proofs.Under.{under, mutex_of, accesses_under}
-use Rattle.sharc_flat.specs.declared.slot.Lvalue.{Lvalue}
-use Rattle.sharc_flat.specs.Scope.{Context, ref_count}
-use Rattle.sharc_flat.specs.declared.slot.Slot.{Slot}
-use Rattle.sharc_flat.specs.Places.{Target, in_global, in_global_at, in_object, in_object_at, has_base, base_width, field_of, guard_field, beside_field, guard_cell, guard_code, lock_beside, spot_of, drop_base, settle_base, settle_code, cell_value_code, cell_store_code, store_code, cell_take_code, take_code}
+use Rattle.sharc_flat.proofs.{Under.{under, mutex_of, accesses_under}, Banks.{put_same, put_other}, Runs.{HasAt, has_front, has_back, Fin, fin_then, Same, weaken, step, bind, without, after_event, asks_at}, Agreeing.{Standing, place, Agree, holding, push, with_int, same_frame, loose_of}, Accessing.{context, pending_place, access_exact}, Values.{integer_is, int_valued, ref_valued, RunsAs, temporarily_runs}, Computing.{truth_same, none_end}, Linking.CallsAs, Storing.performs_then, Calling.ArgumentsAs, Testing.tested_runs}
+use Rattle.sharc_flat.specs.{declared.slot.Lvalue.Lvalue, Scope.{Context, ref_count, at_site}, declared.slot.Slot.Slot, Places.{Target, in_global, in_global_at, in_object, in_object_at, has_base, base_width, field_of, guard_field, beside_field, guard_cell, guard_code, lock_beside, spot_of, drop_base, settle_base, settle_code, cell_value_code, cell_store_code, store_code, cell_take_code, take_code, target, own_field, global_of, bounds_code, index_code, pointee_code, width_of, base_as_width, width_code, guard_width, index_width}, Suits.PathStands, Flattened.{truth_code, IsFlattened, constant_code, value_call_code}}
 use Rattle.sharc_flat.specs.Places as targets
-use Rattle.sharc_flat.specs.Suits.{PathStands}
-use Rattle.sharc_flat.proofs.Banks.{put_same, put_other}
-use Rattle.sharc_flat.proofs.Runs.{HasAt, has_front, has_back, Fin, fin_then, Same, weaken, step, bind, without, after_event}
-use Rattle.sharc_flat.proofs.Agreeing.{Standing, place, Agree, holding, push, with_int, same_frame, loose_of}
-use Rattle.sharc_flat.proofs.Accessing.{context, pending_place}
-use Rattle.sharc_flat.proofs.Values.{integer_is, int_valued, ref_valued, RunsAs, temporarily_runs}
-use Rattle.sharc_meaning.specs.Arithmetic.{is_zero, truth}
-use Rattle.sharc_flat.specs.Scope.{at_site}
-use Rattle.sharc_flat.specs.Places.{target, own_field, global_of, bounds_code, index_code, pointee_code}
 use Rattle.sharc_code.specs.Arithmetic as code
-use Rattle.sharc_names.specs.Kinds.{int, long}
-use Rattle.sharc_tree.specs.Tree.{Expression}
-use Rattle.sharc_ctype.specs.Resolved.{kind_at}
-use Rattle.sharc_meaning.specs.Expressions.{tested}
-use Rattle.sharc_flat.specs.Places.{width_of, base_as_width, width_code}
-use Rattle.sharc_flat.specs.Flattened.{truth_code}
-use Rattle.sharc_flat.proofs.Computing.{truth_same, none_end}
-use Rattle.std.proofs.lemmas.List.{length-map}
-use Rattle.sharc_flat.specs.Places.{guard_width, index_width, store_code, cell_store_code}
-use Rattle.sharc_names.specs.Kinds.{declared_kind}
-use Rattle.sharc_meaning.specs.Expressions.{Calls}
-use Rattle.sharc_tree.specs.Tree.{Function}
-use Rattle.sharc_names.specs.Kinds.{declared_kinds}
-use Rattle.sharc_flat.specs.Flattened.{IsFlattened}
-use Rattle.sharc_ctype.specs.Resolved.{function_at}
-use Rattle.sharc_flat.proofs.Linking.{CallsAs}
-use Rattle.sharc_flat.proofs.Storing.{performs_then}
-use Rattle.sharc_flat.proofs.Runs.{asks_at}
-use Rattle.sharc_meaning.specs.State.{event_of}
-use Rattle.sharc_flat.proofs.Calling.{ArgumentsAs}
-use Rattle.sharc_flat.proofs.Accessing.{access_exact}
-use Rattle.sharc_flat.proofs.Testing.{tested_runs}
-use Rattle.sharc_meaning.specs.Expressions.{value_called}
-use Rattle.sharc_flat.specs.Flattened.{constant_code, value_call_code}
-use Rattle.sharc_tree.specs.declared.tree.expression.Constant.{Constant}
-use Rattle.sharc_tree.specs.declared.tree.expression.Constant.TheVariants.{Number, Character, Null}
-use Rattle.sharc_tree.specs.declared.tree.expression.ValueCall.{ValueCall}
-use Rattle.sharc_tree.specs.declared.tree.expression.ValueCall.TheVariants.{Join, Print}
-use Rattle.sharc_tree.specs.declared.token.NumberType.{NumberType}
+use Rattle.sharc_ctype.specs.{Resolved.{kind_at, function_at}, Expressions.{constant_kind, number_kind}}
 use Rattle.sharc_tree.specs.declared.token.NumberType.TheVariants as number_types
-use Rattle.sharc_ctype.specs.Expressions.{constant_kind, number_kind}
-use Rattle.sharc_meaning.specs.Reference.{constant_value}
 
 module _ (m : Assignment) (z : Standing) (scope : List Slot) where
   abbrev ctx : Context

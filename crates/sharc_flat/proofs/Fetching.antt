@@ -2,36 +2,17 @@
 use Rattle.std.proofs.Common.{◌≡◌, ℕ, ◌+◌, ◌<◌, ◌≤◌, Bool, true, false, List, [], ◌∷◌, ◌++◌, length, Option, Some, None, refl, sym, ap, ◌∙◌, subst, arith, length-append}
 use Rattle.std.specs.Prelude.{ℤ, pos}
 use Rattle.sharc_tree.specs.declared.event.Act.TheVariants as acts
-use Rattle.sharc_tree.specs.declared.event.CellAt.{CellAt}
-use Rattle.sharc_tree.specs.declared.event.CellMode.{CellMode}
-use Rattle.sharc_tree.specs.declared.token.Site.{Site}
-use Rattle.sharc_tree.specs.declared.token.Span.{Span}
+use Rattle.sharc_tree.specs.{declared.event.CellAt.CellAt, declared.event.CellMode.CellMode, declared.token.Site.Site, declared.token.Span.Span, declared.event.Act.Act}
 use Rattle.sharc_names.specs.Kinds.{Kind}
 use Rattle.sharc_code.specs.declared.code.Use.{Use}
 use Rattle.sharc_code.specs.declared.code.Use.TheVariants as uses
-use Rattle.sharc_tree.specs.declared.event.Act.{Act}
-use Rattle.sharc_mode.specs.Moded.{Assignment}
-use Rattle.sharc_mode.specs.Sharings.{Sharing}
-use Rattle.sharc_meaning.specs.Cells.{cell_of}
-use Rattle.sharc_meaning.specs.Places.{Place, cell, fetched, access_mode}
-use Rattle.sharc_meaning.specs.State.{State, Run, then_on, ◌>>=◌, answered, answer_of, value_in, value_of, is_reference, temporarily, reads_variable, reads}
-use Rattle.sharc_flat_form.specs.declared.op.Op.{Op}
-use Rattle.sharc_flat_form.specs.declared.op.Spot.{Spot}
+use Rattle.sharc_mode.specs.{Moded.Assignment, Sharings.Sharing}
+use Rattle.sharc_meaning.specs.{Cells.cell_of, Places.{Place, cell, fetched, access_mode}, State.{State, Run, then_on, ◌>>=◌, answered, answer_of, value_in, value_of, is_reference, temporarily, reads_variable, reads}}
+use Rattle.sharc_flat_form.specs.{declared.op.Op.Op, declared.op.Spot.Spot, Machine.{At, asks, put, accesses, accessed, next as on, set_int, set_ref, op_turn}}
 use Rattle.sharc_flat_form.specs.declared.op.Op.TheVariants as op
-use Rattle.sharc_flat_form.specs.Machine.{At, asks, put, accesses, accessed, next as on, set_int, set_ref, op_turn}
-use Rattle.sharc_flat.proofs.Under.{under, mutex_of, accesses_under}
-use Rattle.sharc_flat.specs.declared.slot.Lvalue.{Lvalue}
-use Rattle.sharc_flat.specs.Scope.{Context, int_count, ref_count, register_of}
-use Rattle.sharc_flat.specs.declared.slot.Slot.{Slot}
-use Rattle.sharc_flat.specs.Places.{Target, in_global, in_global_at, in_object, in_object_at, has_base, base_width, field_of, guard_field, beside_field, guard_cell, guard_code, spot_of, drop_base, settle_base, copy_code, value_code, cell_value_code}
+use Rattle.sharc_flat.proofs.{Under.{under, mutex_of, accesses_under}, Banks.{put_same, put_other}, Runs.{HasAt, has_front, has_back, Fin, fin_then, Same, step, bind, without, after_event}, Agreeing.{Standing, place, Agree, push, with_int, same_frame, Rest}, Accessing.{variable_ref, context, access_runs, pending_place}, Values.{bases_count, variable_int, BasesOf, base_ends, base_settles, int_valued, ref_valued, RunsAs, bases_are, PlaceAs, AtCell, at_cell, open_at, temporarily_runs}}
+use Rattle.sharc_flat.specs.{declared.slot.Lvalue.Lvalue, Scope.{Context, int_count, ref_count, register_of, slot_kind}, declared.slot.Slot.Slot, Places.{Target, in_global, in_global_at, in_object, in_object_at, has_base, base_width, field_of, guard_field, beside_field, guard_cell, guard_code, spot_of, drop_base, settle_base, copy_code, value_code, cell_value_code}, Suits.{PathStands, is_cell}}
 use Rattle.sharc_flat.specs.Places as targets
-use Rattle.sharc_flat.specs.Suits.{PathStands, is_cell}
-use Rattle.sharc_flat.specs.Scope.{slot_kind}
-use Rattle.sharc_flat.proofs.Banks.{put_same, put_other}
-use Rattle.sharc_flat.proofs.Runs.{HasAt, has_front, has_back, Fin, fin_then, Same, step, bind, without, after_event}
-use Rattle.sharc_flat.proofs.Agreeing.{Standing, place, Agree, push, with_int, same_frame, Rest}
-use Rattle.sharc_flat.proofs.Accessing.{variable_ref, context, access_runs, pending_place}
-use Rattle.sharc_flat.proofs.Values.{bases_count, variable_int, BasesOf, base_ends, base_settles, int_valued, ref_valued, RunsAs, bases_are, PlaceAs, AtCell, at_cell, open_at, temporarily_runs}
 
 module _ (m : Assignment) (z : Standing) (scope : List Slot) where
   abbrev ctx : Context

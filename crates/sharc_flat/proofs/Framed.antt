@@ -1,38 +1,20 @@
 -- Flattened code is framed: each line writes in the frame of its function and leads to lines of it.
-use Rattle.std.proofs.Common.{◌≡◌, ℕ, zero, suc, ◌+◌, ◌-◌, ◌*◌, ◌^◌, ◌<◌, ◌≤◌, Bool, true, false, cond, List, [], ◌∷◌, ◌++◌, length, map, max, get_or, Option, Some, None, refl, sym, ap, ◌∙◌, subst, arith, length-append, nat_lt}
+use Rattle.std.proofs.{Common.{◌≡◌, ℕ, zero, suc, ◌+◌, ◌-◌, ◌*◌, ◌^◌, ◌<◌, ◌≤◌, Bool, true, false, cond, List, [], ◌∷◌, ◌++◌, length, map, max, get_or, Some, None, refl, sym, ap, ◌∙◌, subst, arith, length-append, nat_lt}, lemmas.Bool.Decides.nat_tests}
 use Rattle.std.specs.Prelude.{slice_get}
-use Rattle.std.proofs.lemmas.Bool.Decides.{nat_tests}
-use Rattle.sharc_tree.specs.declared.tree.declaration.Declaration.{Declaration}
-use Rattle.sharc_tree.specs.Tree.{Function}
+use Rattle.sharc_tree.specs.{declared.tree.declaration.Declaration.Declaration, Tree.Function}
 use Rattle.sharc_names.specs.Kinds.{is_pointer, declared_kind}
-use Rattle.sharc_code.specs.declared.code.Function.{Function as Row}
+use Rattle.sharc_code.specs.{declared.code.Function.{Function as Row}, declared.instr.Cell.Cell, declared.instr.Register.Register, Machine.no_function, declared.instr.Width.Width, declared.code.GlobalCells.GlobalCells}
 use Rattle.sharc_code.specs.declared.code.Parameter.TheVariants as parameters
-use Rattle.sharc_code.specs.declared.instr.Cell.{Cell}
 use Rattle.sharc_code.specs.declared.instr.Cell.TheVariants as cells
-use Rattle.sharc_code.specs.declared.instr.Register.{Register}
 use Rattle.sharc_code.specs.declared.instr.Register.TheVariants as registers
-use Rattle.sharc_code.specs.Machine.{no_function}
-use Rattle.sharc_code.specs.Path.{most_ints, most_refs}
 use Rattle.sharc_ctype.specs.Resolved.{function_at, functions_in}
 use Rattle.sharc_mode.specs.Moded.{Assignment}
-use Rattle.sharc_flat_form.specs.declared.op.Op.{Op}
+use Rattle.sharc_flat_form.specs.{declared.op.Op.Op, declared.op.Spot.Spot, Machine.{Flat, function_of}, Framed.{BaseWithin, HandedWithin, HasParameter, OpWrites, InLine, OpLeads, IsFramedAt, IsFramed, IsWide, Leads, IsFlat}}
 use Rattle.sharc_flat_form.specs.declared.op.Op.TheVariants as op
-use Rattle.sharc_flat_form.specs.declared.op.Spot.{Spot}
-use Rattle.sharc_flat_form.specs.Machine.{Flat, function_of}
-use Rattle.sharc_code.specs.declared.instr.Width.{Width}
 use Rattle.sharc_code.specs.declared.instr.Width.TheVariants as widths
-use Rattle.sharc_flat_form.specs.Framed.{BaseWithin, HandedWithin, HasParameter, IsInGlobal, OpWrites, InLine, OpLeads, IsFramedAt, IsFramed, IsWide, Leads, IsFlat}
-use Rattle.sharc_flat.specs.Laws.{FitsFrames}
-use Rattle.sharc_flat.specs.Scope.{int_count, ref_count, slot_of, at_site}
-use Rattle.sharc_flat.specs.Frames.{int_need, ref_need, base_need, handed_need, ints_in, refs_in}
-use Rattle.sharc_flat.specs.Flattened.{IsRow, AreRows, IsFlattened, parameter_of, function_code, functions_code}
-use Rattle.sharc_flat.proofs.Declaring.{declared_reference}
-use Rattle.sharc_flat.proofs.Staying.{Wide, OpStays, Stays}
-use Rattle.sharc_flat.specs.Correct.{ProgramSuits}
-use Rattle.sharc_flat.specs.Flattened.{in_function}
-use Rattle.sharc_flat.proofs.Keeping.{InLoopsAll, front, front_is, function_keeps}
-use Rattle.sharc_flat.proofs.Knowing.{all_loops}
-use Rattle.sharc_code.specs.declared.code.GlobalCells.{GlobalCells}
+use Rattle.sharc_flat.specs.{Laws.FitsFrames, Scope.{int_count, ref_count, slot_of, at_site}, Frames.{int_need, ref_need, base_need, handed_need, ints_in, refs_in}, Flattened.{IsRow, AreRows, IsFlattened, parameter_of, function_code, functions_code, in_function}, Correct.ProgramSuits}
+use Rattle.sharc_flat.proofs.{Declaring.declared_reference, Staying.{Wide, OpStays, Stays}, Keeping.{InLoopsAll, front, front_is, function_keeps}, Knowing.all_loops}
+use Rattle.sharc_lemmas.proofs.Lists.{there_is as inside_list}
 
 -- ---- lists
 get_left : (xs ys : List Op) (j : ℕ) → j < length xs → slice_get (xs ++ ys) j ≡ slice_get xs j
@@ -434,11 +416,6 @@ rows_as_many m globals pc [] [] are = refl
 rows_as_many m globals pc [] (row ∷ rows) are = absurd (let e = ap length are in omega arith)
 rows_as_many m globals pc (f ∷ rest) [] are = absurd are
 rows_as_many m globals pc (f ∷ rest) (row ∷ rows) are = ap suc (rows_as_many m globals (pc + length (function_code m globals pc f)) rest rows are.1)
-
-inside_list : {A : Type 0} (all : List A) (n : ℕ) (a : A) → slice_get all n ≡ Some a → n < length all
-inside_list [] n a at = absurd (cc)
-inside_list (x ∷ all) zero a at = omega arith
-inside_list (x ∷ all) (suc n) a at = let h = inside_list all n a at in omega (arith, h)
 
 pub flattened_is_framed : (m : Assignment) → ProgramSuits m → (flat : Flat) → IsFlattened m flat → FitsFrames flat → IsFlat flat × IsFramed flat
 flattened_is_framed m suits flat is fits =

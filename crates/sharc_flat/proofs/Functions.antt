@@ -1,43 +1,14 @@
 -- Functions, from their first statement to where they return.
-use Rattle.std.proofs.Common.{◌≡◌, ℕ, ◌+◌, ◌<◌, Bool, true, false, cond, List, [], ◌∷◌, ◌++◌, length, get_or, map, Some, refl, sym, ap, ◌∙◌, subst, ⊎_elim, arith, append_assoc}
+use Rattle.std.proofs.{Common.{◌≡◌, ℕ, ◌+◌, ◌<◌, Bool, true, false, cond, List, [], ◌∷◌, ◌++◌, length, get_or, map, Some, refl, sym, ap, ◌∙◌, subst, ⊎_elim, arith, append_assoc}, lemmas.List.append-nil}
 use Rattle.std.specs.Prelude.{ℤ, pos, slice_get}
-use Rattle.std.proofs.lemmas.List.{append-nil}
-use Rattle.sharc_tree.specs.declared.token.Site.{Site}
-use Rattle.sharc_names.specs.Kinds.{Kind, is_integer, is_pointer}
+use Rattle.sharc_tree.specs.{declared.token.Site.Site, declared.tree.declaration.Declaration.Declaration, Tree.Function}
+use Rattle.sharc_names.specs.Kinds.{Kind, is_integer, is_pointer, declared_kind, declared_kinds}
 use Rattle.sharc_mode.specs.Moded.{Assignment}
-use Rattle.sharc_meaning.specs.State.{State, Run, ◌>>=◌, ◌>>◌, give, entered, is_reference, pointers_among}
-use Rattle.sharc_flat_form.specs.declared.op.Op.{Op}
-use Rattle.sharc_flat_form.specs.declared.op.Spot.{Spot}
+use Rattle.sharc_meaning.specs.{State.{State, Run, ◌>>=◌, ◌>>◌, give, entered, is_reference, pointers_among, ends_variables, new_variable}, Statements.Flow, declared.variable.Variable.Variable, Meaning.{parameters_begin, left_at}}
+use Rattle.sharc_flat_form.specs.{declared.op.Op.Op, declared.op.Spot.Spot, Machine.put}
 use Rattle.sharc_flat_form.specs.declared.op.Op.TheVariants as op
-use Rattle.sharc_flat_form.specs.Machine.{put}
-use Rattle.sharc_flat.specs.Scope.{int_count, ref_count}
-use Rattle.sharc_flat.specs.declared.slot.Slot.{Slot}
-use Rattle.sharc_flat.proofs.Banks.{bank_is, put_same, put_other}
-use Rattle.sharc_flat.proofs.Runs.{HasAt, has_front, has_back, Fin, fin_then, Same, weaken, step, bind, enters_at}
-use Rattle.sharc_flat.proofs.Agreeing.{slots_of, int_values, ints_length, Standing, place, Agree, below, holding, push, drop_last, last_is, with_int, same_frame, loose_of}
-use Rattle.sharc_flat.proofs.Values.{apart}
-use Rattle.sharc_flat.specs.Scope.{at_site}
-use Rattle.sharc_flat.proofs.Popping.{AllNull}
-use Rattle.sharc_flat.proofs.Blocks.{block_ends}
-use Rattle.sharc_flat.proofs.Popping.{none_behind}
-use Rattle.sharc_flat.proofs.Runs.{without_variables, unblock}
-use Rattle.sharc_meaning.specs.Statements.{Flow}
-use Rattle.sharc_flat.specs.Scope.{ends_from}
-use Rattle.sharc_flat.specs.Flattened.{result_code, zero_code}
-use Rattle.sharc_flat.proofs.Executing.{Stand, Beyond, StatementAs}
-use Rattle.sharc_flat.specs.Scope.{slot_of}
-use Rattle.sharc_meaning.specs.declared.variable.Variable.{Variable}
-use Rattle.sharc_meaning.specs.State.{ends_variables}
-use Rattle.sharc_meaning.specs.State.{new_variable}
-use Rattle.sharc_tree.specs.declared.tree.declaration.Declaration.{Declaration}
-use Rattle.sharc_names.specs.Kinds.{declared_kind}
-use Rattle.sharc_flat.proofs.Executing.{leave_block}
-use Rattle.sharc_tree.specs.Tree.{Function}
-use Rattle.sharc_names.specs.Kinds.{declared_kinds}
-use Rattle.sharc_meaning.specs.Meaning.{parameters_begin, left_at}
-use Rattle.sharc_flat.specs.Flattened.{around_body, parameters_scope}
-use Rattle.sharc_flat.proofs.Calling.{refs_of, ints_of}
-use Rattle.sharc_flat.specs.Scope.{slot_of}
+use Rattle.sharc_flat.specs.{Scope.{int_count, ref_count, at_site, ends_from, slot_of}, declared.slot.Slot.Slot, Flattened.{result_code, zero_code, around_body, parameters_scope}}
+use Rattle.sharc_flat.proofs.{Banks.{bank_is, put_same, put_other}, Runs.{HasAt, has_front, has_back, Fin, fin_then, Same, weaken, step, bind, enters_at, without_variables, unblock}, Agreeing.{slots_of, int_values, ints_length, Standing, place, Agree, below, holding, push, drop_last, last_is, with_int, same_frame, loose_of}, Values.apart, Popping.{AllNull, none_behind}, Blocks.block_ends, Executing.{Stand, Beyond, StatementAs, leave_block}, Calling.{refs_of, ints_of}}
 
 -- the variables that the parameters are
 abbrev pub begun : List Declaration → List ℤ → List Variable

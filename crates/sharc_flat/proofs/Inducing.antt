@@ -1,110 +1,20 @@
 -- Every expression, by its form.
-use Rattle.std.proofs.Common.{◌≡◌, ℕ, zero, suc, ◌+◌, ◌≤◌, Bool, true, false, cond, List, [], ◌∷◌, ◌++◌, length, Option, Some, None, refl, sym, ap, ◌∙◌, subst, arith, append_assoc}
-use Rattle.std.specs.Prelude.{neg_ℤ, ℤ, pos, ◌||◌}
-use Rattle.std.proofs.lemmas.List.{append-nil}
-use Rattle.sharc_tree.specs.declared.event.Object.TheVariants.{Global, Made}
-use Rattle.sharc_tree.specs.declared.token.Site.{Site}
-use Rattle.sharc_tree.specs.declared.token.Span.{Span}
-use Rattle.sharc_names.specs.Kinds.{Kind, is_integer}
+use Rattle.std.proofs.{Common.{◌≡◌, ℕ, zero, suc, ◌+◌, ◌≤◌, Bool, true, false, cond, List, [], ◌∷◌, ◌++◌, length, Option, Some, None, refl, sym, ap, ◌∙◌, subst, arith, append_assoc}, lemmas.List.append-nil}
+use Rattle.std.specs.{Prelude.{neg_ℤ, ℤ, pos, ◌||◌, Ok, codes}, Str.bytes_eq}
+use Rattle.sharc_tree.specs.{declared.event.Object.TheVariants.{Global, Made}, declared.token.Site.Site, declared.token.Span.Span, declared.tree.expression.BinaryOperator.BinaryOperator, declared.tree.expression.BinaryOperator.TheVariants.{LogicalOr, LogicalAnd, BitOr, BitXor, BitAnd, Equal, NotEqual, Less, Greater, LessOrEqual, GreaterOrEqual, ShiftLeft, ShiftRight, Add, Subtract, Multiply, Divide, Remainder}, Tree.{Expression, identifier, constant, parentheses, call, spawn, on_value, on_place, cast, index, field, unary, binary, Arguments, no_arguments, argument}, Spans.span_of, declared.tree.expression.Access.TheVariants.{Dot, Arrow}, declared.tree.expression.UnaryOperator.TheVariants.{Negate, Not, Complement, Dereference}, declared.event.TakeKind.TakeKind, declared.tree.expression.PlaceCall.TheVariants.{Lock, Unlock, Free}}
+use Rattle.sharc_names.specs.{Kinds.{Kind, is_integer, int, promoted, is_long, declared_kinds, is_array, element_kind}, declared.fault.Named.Named}
 use Rattle.sharc_code.specs.declared.code.Use.{Use}
 use Rattle.sharc_code.specs.declared.code.Use.TheVariants as uses
-use Rattle.sharc_mode.specs.Moded.{Assignment}
-use Rattle.sharc_mode.specs.Sharings.{Sharing}
-use Rattle.sharc_meaning.specs.Cells.{global_elements}
-use Rattle.sharc_ctype.specs.Resolved.{global_at}
-use Rattle.sharc_meaning.specs.Places.{Place, variable, cell, field_in, based, element, element_of_array, index_place, pointee_place, place_named, taken_from}
-use Rattle.sharc_meaning.specs.Reference.{number_of}
-use Rattle.sharc_meaning.specs.State.{Run, ◌>>=◌, ◌>>◌, give, entered, is_reference, temporarily}
-use Rattle.sharc_flat_form.specs.declared.op.Op.{Op}
-use Rattle.sharc_flat_form.specs.declared.op.Spot.{Spot}
+use Rattle.sharc_mode.specs.{Moded.Assignment, Sharings.Sharing, Cells.{cell_at as mode_in, pointed}, Rows.cast_row}
+use Rattle.sharc_meaning.specs.{Cells.{global_elements, element_cells, field_place_named}, Places.{Place, variable, cell, field_in, based, element, element_of_array, index_place, pointee_place, place_named, taken_from}, Reference.{number_of, elements_of, constant_value}, State.{Run, ◌>>=◌, ◌>>◌, give, entered, is_reference, temporarily}, Arithmetic.{bits_of, operated, negated, complement, in_range}, Expressions.{resulting, tested, operand, Calls, value_called, called, named_value, eval, eval_all, place_of, unary_value, binary_value, place_value, spawned, number_named, cast_value, place_called, taking}}
+use Rattle.sharc_ctype.specs.{Resolved.{global_at, kind_at, named_at, structs_in}, Expressions.{constant_kind, class_of, binary_result}, declared.expr.OperatorClass.OperatorClass, declared.expr.OperatorClass.TheVariants.{Logical, Equality, Relation, Shift, Arithmetic}, Transfers.{parameters_named, parameters_of}}
+use Rattle.sharc_flat_form.specs.{declared.op.Op.Op, declared.op.Spot.Spot, Machine.{first_cell, with_result, kind_of, variable_of}}
 use Rattle.sharc_flat_form.specs.declared.op.Op.TheVariants as op
-use Rattle.sharc_flat_form.specs.Machine.{first_cell}
-use Rattle.sharc_flat.specs.Places.{lvalue_of, take_use}
-use Rattle.sharc_flat.specs.Scope.{tokens_in, at_words}
-use Rattle.sharc_flat.specs.declared.slot.Lvalue.{Lvalue}
-use Rattle.sharc_flat.specs.Scope.{Context}
-use Rattle.sharc_flat.specs.declared.slot.Slot.{Slot}
-use Rattle.sharc_flat.specs.Places.{Target, in_global, in_global_at, in_object, in_object_at, has_base, base_width, field_of, guard_field, beside_field, guard_cell, guard_code, spot_of, drop_base, settle_base, settle_code, cell_value_code, cell_store_code, store_code, cell_take_code, take_code}
+use Rattle.sharc_flat.specs.{Places.{lvalue_of, take_use, Target, in_global, in_global_at, in_object, in_object_at, has_base, base_width, field_of, guard_field, beside_field, guard_cell, guard_code, spot_of, drop_base, settle_base, settle_code, cell_value_code, cell_store_code, store_code, cell_take_code, take_code, target, own_field, global_of, bounds_code, index_code, pointee_code, width_of, base_as_width, width_code, guard_width, index_width, object_spot}, Scope.{tokens_in, at_words, Context, at_site}, declared.slot.Lvalue.Lvalue, declared.slot.Slot.Slot, Suits.{PathStands, is_cell, NameSuits, Either, CallSuits, Suits, ArgumentsSuit, PlaceSuits, ReferencesSuit, TakeSuits, OperandsSuit}, Flattened.{operator_of, truth_code, compare_code, passed_code, behind_int, behind_ref, IsFlattened, constant_code, value_call_code, expression_code, arguments_code, place_code, named_code, called_code, lvalue_code, binary_code, spawn_code, cast_code, place_call_code, layout_of}}
 use Rattle.sharc_flat.specs.Places as targets
-use Rattle.sharc_flat.specs.Suits.{PathStands, is_cell}
-use Rattle.sharc_flat.proofs.Runs.{HasAt, Same, weaken}
-use Rattle.sharc_flat.proofs.Agreeing.{Standing, place, Agree, Rest}
-use Rattle.sharc_flat.proofs.Accessing.{context}
-use Rattle.sharc_flat.proofs.Values.{integer_is, RunsAs, within, Lies, PlaceAs}
-use Rattle.sharc_meaning.specs.Reference.{elements_of}
-use Rattle.sharc_meaning.specs.Arithmetic.{bits_of, operated, negated, complement, in_range}
-use Rattle.sharc_flat.specs.Scope.{at_site}
-use Rattle.sharc_flat.specs.Places.{target, own_field, global_of, bounds_code, index_code, pointee_code}
-use Rattle.sharc_tree.specs.declared.tree.expression.BinaryOperator.{BinaryOperator}
-use Rattle.sharc_tree.specs.declared.tree.expression.BinaryOperator.TheVariants.{LogicalOr, LogicalAnd, BitOr, BitXor, BitAnd, Equal, NotEqual, Less, Greater, LessOrEqual, GreaterOrEqual, ShiftLeft, ShiftRight, Add, Subtract, Multiply, Divide, Remainder}
-use Rattle.std.specs.Prelude.{Ok}
-use Rattle.sharc_names.specs.Kinds.{int, promoted, is_long}
-use Rattle.sharc_tree.specs.Tree.{Expression}
-use Rattle.sharc_ctype.specs.Resolved.{kind_at}
-use Rattle.sharc_meaning.specs.Expressions.{resulting, tested, operand}
-use Rattle.sharc_flat_form.specs.Machine.{with_result}
-use Rattle.sharc_flat.specs.Places.{width_of, base_as_width, width_code}
-use Rattle.sharc_flat.specs.Flattened.{operator_of, truth_code, compare_code}
-use Rattle.sharc_flat.proofs.Computing.{bits_same}
-use Rattle.sharc_tree.specs.Spans.{span_of}
-use Rattle.sharc_flat.specs.Places.{guard_width, index_width, store_code, cell_store_code}
-use Rattle.sharc_meaning.specs.Expressions.{Calls}
-use Rattle.sharc_names.specs.Kinds.{declared_kinds}
-use Rattle.sharc_flat.specs.Flattened.{passed_code, behind_int, behind_ref}
-use Rattle.sharc_flat.specs.Flattened.{IsFlattened}
-use Rattle.sharc_flat.proofs.Linking.{CallsAs}
-use Rattle.sharc_flat.proofs.Calling.{ArgumentsAs}
-use Rattle.sharc_flat.proofs.Computing.{entered_runs, unary_runs}
-use Rattle.sharc_flat.proofs.Testing.{tested_runs}
-use Rattle.sharc_meaning.specs.Places.{Place}
-use Rattle.sharc_meaning.specs.Expressions.{value_called, called}
-use Rattle.sharc_flat.specs.Flattened.{constant_code, value_call_code}
-use Rattle.sharc_ctype.specs.Expressions.{constant_kind}
-use Rattle.sharc_meaning.specs.Reference.{constant_value}
-use Rattle.sharc_flat.proofs.Expressing.{constant_runs, nothing_runs, global_runs, denied_runs, value_call_runs, function_call_runs}
-use Rattle.sharc_flat.proofs.Computing.{entered_place, binary_runs, computed_same, promoted_int, promoted_by, bits_same, range_same, is_strict as is_strict_operator}
-use Rattle.sharc_flat.proofs.Fetching.{copy_runs, fetch_runs}
-use Rattle.sharc_flat.proofs.Placing.{pointer_index_runs, array_index_runs, pointee_place_runs, arrow_runs, dot_runs}
-use Rattle.sharc_flat.proofs.Calling.{no_arguments_run, argument_runs}
-use Rattle.sharc_flat.specs.Suits.{NameSuits, Either, CallSuits, Suits, ArgumentsSuit, PlaceSuits}
-use Rattle.sharc_flat.specs.Flattened.{expression_code, arguments_code, place_code, named_code, called_code, lvalue_code, binary_code}
-use Rattle.sharc_meaning.specs.Expressions.{named_value, eval, eval_all, place_of, unary_value, binary_value, place_value}
-use Rattle.sharc_tree.specs.Tree.{identifier, constant, parentheses, call, spawn, on_value, on_place, cast, index, field, unary, binary, Arguments, no_arguments, argument}
-use Rattle.sharc_tree.specs.declared.tree.expression.Access.TheVariants.{Dot, Arrow}
-use Rattle.sharc_tree.specs.declared.tree.expression.UnaryOperator.TheVariants.{Negate, Not, Complement, Dereference}
-use Rattle.sharc_names.specs.declared.fault.Named.{Named}
+use Rattle.sharc_flat.proofs.{Runs.{HasAt, Same, weaken}, Agreeing.{Standing, place, Agree, Rest}, Accessing.context, Values.{integer_is, RunsAs, within, Lies, PlaceAs}, Computing.{bits_same, entered_runs, unary_runs, entered_place, binary_runs, computed_same, promoted_int, promoted_by, range_same, is_strict as is_strict_operator}, Linking.CallsAs, Calling.{ArgumentsAs, no_arguments_run, argument_runs}, Testing.tested_runs, Expressing.{constant_runs, nothing_runs, global_runs, denied_runs, value_call_runs, function_call_runs}, Fetching.{copy_runs, fetch_runs}, Placing.{pointer_index_runs, array_index_runs, pointee_place_runs, arrow_runs, dot_runs}, Taking.{take_cell_runs, take_variable_runs, cast_runs, free_runs, need_more}, Deciding.{and_runs, or_runs}, Spawning.spawn_runs, Waiting.{RefsAs, no_refs_run, ref_run, known_runs}, Comparing.compare_runs, Locking.{lock_runs, unlock_runs}}
 use Rattle.sharc_names.specs.declared.fault.Named.TheVariants as named
-use Rattle.sharc_names.specs.Kinds.{is_array, element_kind}
-use Rattle.sharc_ctype.specs.Resolved.{named_at}
-use Rattle.sharc_ctype.specs.Expressions.{class_of, binary_result}
-use Rattle.sharc_ctype.specs.declared.expr.OperatorClass.{OperatorClass}
-use Rattle.sharc_ctype.specs.declared.expr.OperatorClass.TheVariants.{Logical, Equality, Relation, Shift, Arithmetic}
-use Rattle.sharc_ctype.specs.Transfers.{parameters_named, parameters_of}
-use Rattle.sharc_mode.specs.Cells.{cell_at as mode_in}
-use Rattle.sharc_meaning.specs.Cells.{element_cells, field_place_named}
-use Rattle.sharc_meaning.specs.Places.{place_named}
-use Rattle.sharc_flat.proofs.Taking.{take_cell_runs, take_variable_runs, cast_runs, free_runs, need_more}
-use Rattle.sharc_flat.proofs.Deciding.{and_runs, or_runs}
-use Rattle.sharc_flat.proofs.Spawning.{spawn_runs}
-use Rattle.sharc_flat.proofs.Waiting.{RefsAs, no_refs_run, ref_run, known_runs}
-use Rattle.sharc_flat.specs.Suits.{ReferencesSuit}
-use Rattle.std.specs.Str.{bytes_eq}
-use Rattle.std.specs.Prelude.{codes}
-use Rattle.sharc_flat.specs.Flattened.{spawn_code}
-use Rattle.sharc_meaning.specs.Expressions.{spawned, number_named}
-use Rattle.sharc_flat.proofs.Comparing.{compare_runs}
-use Rattle.sharc_flat.proofs.Locking.{lock_runs, unlock_runs}
-use Rattle.sharc_flat.specs.Suits.{TakeSuits, OperandsSuit}
-use Rattle.sharc_flat.specs.Flattened.{cast_code, place_call_code, layout_of}
-use Rattle.sharc_flat.specs.Places.{object_spot}
-use Rattle.sharc_flat_form.specs.Machine.{kind_of, variable_of}
-use Rattle.sharc_tree.specs.declared.event.TakeKind.{TakeKind}
 use Rattle.sharc_tree.specs.declared.event.TakeKind.TheVariants as kinds
-use Rattle.sharc_tree.specs.declared.tree.expression.PlaceCall.TheVariants.{Lock, Unlock, Free}
-use Rattle.sharc_meaning.specs.Expressions.{cast_value, place_called, taking}
-use Rattle.sharc_mode.specs.Cells.{pointed}
-use Rattle.sharc_mode.specs.Rows.{cast_row}
-use Rattle.sharc_ctype.specs.Resolved.{structs_in}
 
 result_by : (o : OperatorClass) (a b : Kind) → is_reference (binary_result o a b) ≡ false
 result_by Logical a b = refl

@@ -1,31 +1,15 @@
 -- The jumps of the code of a statement stay in it or lead directly after it, or to the places of the loop around it.
 use Rattle.std.proofs.Common.{◌≡◌, ◌==◌, ℕ, ◌+◌, ◌<◌, ◌≤◌, Bool, true, false, cond, List, [], ◌∷◌, ◌++◌, length, take, drop, Option, Some, None, refl, sym, ap, ◌∙◌, subst, arith, length-append, append_assoc}
-use Rattle.sharc_tree.specs.declared.token.Site.{Site}
-use Rattle.sharc_tree.specs.declared.token.Span.{Span}
-use Rattle.sharc_tree.specs.declared.tree.declaration.Declaration.{Declaration}
-use Rattle.sharc_tree.specs.declared.tree.statement.Jump.{Jump}
-use Rattle.sharc_tree.specs.declared.tree.statement.Jump.TheVariants.{Break, Continue}
-use Rattle.sharc_tree.specs.Spans.{span_of}
-use Rattle.sharc_tree.specs.Tree.{Expression, Right, value, malloc, Simple, assign, does_call, Local, First, nothing, declares, does, Statement, empty, block, declare, simple, jump, return, if_then, if_then_else, while, for, Statements, no_statements, statement, Function}
+use Rattle.sharc_tree.specs.{declared.token.Site.Site, declared.token.Span.Span, declared.tree.declaration.Declaration.Declaration, declared.tree.statement.Jump.Jump, declared.tree.statement.Jump.TheVariants.{Break, Continue}, Spans.span_of, Tree.{Expression, Right, value, malloc, Simple, assign, does_call, Local, First, nothing, declares, does, Statement, empty, block, declare, simple, jump, return, if_then, if_then_else, while, for, Statements, no_statements, statement, Function}}
 use Rattle.sharc_names.specs.Kinds.{Kind, declared_kind}
-use Rattle.sharc_code.specs.declared.instr.Register.{Register}
-use Rattle.sharc_code.specs.declared.instr.Register.TheVariants.{Int, Reference}
+use Rattle.sharc_code.specs.{declared.instr.Register.Register, declared.instr.Register.TheVariants.{Int, Reference}, declared.code.GlobalCells.GlobalCells}
 use Rattle.sharc_meaning.specs.State.{is_reference}
-use Rattle.sharc_mode.specs.Cells.{pointed}
-use Rattle.sharc_mode.specs.Moded.{Assignment}
-use Rattle.sharc_mode.specs.Rows.{written, row_at, declared_row}
-use Rattle.sharc_mode.specs.Sharings.{Sharing, private}
+use Rattle.sharc_mode.specs.{Cells.pointed, Moded.Assignment, Rows.{written, row_at, declared_row}, Sharings.{Sharing, private}}
 use Rattle.sharc_flat_form.specs.declared.op.Op.{Op}
 use Rattle.sharc_flat_form.specs.declared.op.Op.TheVariants as op
 use Rattle.sharc_ctype.specs.Resolved.{Resolution}
-use Rattle.sharc_flat.specs.declared.slot.Lvalue.{Lvalue}
-use Rattle.sharc_flat.specs.Scope.{ref_count, Context, register_from, register_of, at_site, pops, ends_from, leaves}
-use Rattle.sharc_flat.specs.declared.slot.Slot.{Slot}
-use Rattle.sharc_flat.specs.Places.{Target, variable, in_global, in_global_at, in_object, in_object_at, base_width, index_width, guard_field, guard_code, drop_base, settle_code, cell_store_code, store_code, width_code}
-use Rattle.sharc_flat.specs.Flattened.{kind_of, is_ref, target_of, mode_of, guard_of, drop_code, truth_code, expression_code, place_code, elements_code, right_code, simple_code, with_variable, ints_of, refs_of, zero_code, initial_code, local_code, first_code, behind_first, step_code, test_code, turn_code, Around, opened, looping, jump_code, result_code, return_code, if_code, sides_code, choice_code, turns_code, body_at, loop_code, behind_statement, behind_statements, statement_code, statements_code, in_function, around_body, function_code, lvalue_in, declared_lvalue}
-use Rattle.sharc_flat.specs.Suits.{IfThere}
+use Rattle.sharc_flat.specs.{declared.slot.Lvalue.Lvalue, Scope.{ref_count, Context, register_from, register_of, at_site, pops, ends_from, leaves}, declared.slot.Slot.Slot, Places.{Target, variable, in_global, in_global_at, in_object, in_object_at, base_width, index_width, guard_field, guard_code, drop_base, settle_code, cell_store_code, store_code, width_code}, Flattened.{kind_of, is_ref, target_of, mode_of, guard_of, drop_code, truth_code, expression_code, place_code, elements_code, right_code, simple_code, with_variable, ints_of, refs_of, zero_code, initial_code, local_code, first_code, behind_first, step_code, test_code, turn_code, Around, opened, looping, jump_code, result_code, return_code, if_code, sides_code, choice_code, turns_code, body_at, loop_code, behind_statement, behind_statements, statement_code, statements_code, in_function, around_body, function_code, lvalue_in, declared_lvalue}, Suits.IfThere}
 use Rattle.sharc_flat.proofs.Staying.{Knows, KnowsPlace, OpStays, Stays, joins, choose, guards, drops_base, widths_stay, truths_stay, expressions_stay, places_stay}
-use Rattle.sharc_code.specs.declared.code.GlobalCells.{GlobalCells}
 
 -- ---- what is known of the calls in statements; and break and continue are in loops
 abbrev pub KnowsRight : (ℕ → Type 0) → Resolution → Right → Type 0

@@ -1,21 +1,12 @@
 -- What a program that suits says of its calls: each names a function. And break and continue are in loops.
 use Rattle.std.proofs.Common.{◌≡◌, ℕ, zero, suc, Bool, true, false, List, [], ◌∷◌, Option, Some, None}
-use Rattle.sharc_tree.specs.declared.tree.expression.Access.{Access}
-use Rattle.sharc_tree.specs.declared.tree.expression.Access.TheVariants.{Dot, Arrow}
-use Rattle.sharc_tree.specs.declared.tree.expression.UnaryOperator.TheVariants.{Negate, Not, Complement, Dereference}
-use Rattle.sharc_tree.specs.declared.tree.declaration.Declaration.{Declaration}
-use Rattle.sharc_tree.specs.Tree.{Expression, identifier, constant, parentheses, call, spawn, on_value, on_place, cast, index, field, unary, binary, Arguments, no_arguments, argument, Right, value, malloc, Simple, assign, does_call, First, nothing, declares, does, Statement, empty, block, declare, simple, jump, return, if_then, if_then_else, while, for, Statements, no_statements, statement, Function}
-use Rattle.sharc_names.specs.declared.fault.Named.{Named}
+use Rattle.sharc_tree.specs.{declared.tree.expression.Access.Access, declared.tree.expression.Access.TheVariants.{Dot, Arrow}, declared.tree.expression.UnaryOperator.TheVariants.{Negate, Not, Complement, Dereference}, declared.tree.declaration.Declaration.Declaration, Tree.{Expression, identifier, constant, parentheses, call, spawn, on_value, on_place, cast, index, field, unary, binary, Arguments, no_arguments, argument, Right, value, malloc, Simple, assign, does_call, First, nothing, declares, does, Statement, empty, block, declare, simple, jump, return, if_then, if_then_else, while, for, Statements, no_statements, statement, Function}}
+use Rattle.sharc_names.specs.{declared.fault.Named.Named, Kinds.{Kind, is_array, declared_kind}}
 use Rattle.sharc_names.specs.declared.fault.Named.TheVariants as named
-use Rattle.sharc_names.specs.Kinds.{Kind, is_array, declared_kind}
 use Rattle.sharc_ctype.specs.Resolved.{Resolution, function_at, kind_at, named_at}
-use Rattle.sharc_mode.specs.Cells.{pointed}
-use Rattle.sharc_mode.specs.Rows.{written, row_at, declared_row}
-use Rattle.sharc_mode.specs.Sharings.{Sharing}
-use Rattle.sharc_flat.specs.Scope.{Context}
-use Rattle.sharc_flat.specs.Suits.{kind_in, Either, CallSuits, FieldSuits, Suits, ArgumentsSuit, ReferencesSuit, PlaceSuits, CountSuits, RightSuits, SimpleSuits, InitialSuits, FirstSuits, IfThere, TestSuits, StatementSuits, StatementsSuit, behind_declaration, in_first, in_statement}
-use Rattle.sharc_flat.proofs.Staying.{KnownName, ByAccess, Knows, KnowsAll, KnowsPlace, either_map}
-use Rattle.sharc_flat.proofs.Keeping.{KnowsRight, KnowsSimple, KnowsFirst, InLoops, InLoopsAll}
+use Rattle.sharc_mode.specs.{Cells.pointed, Rows.{written, row_at, declared_row}, Sharings.Sharing}
+use Rattle.sharc_flat.specs.{Scope.Context, Suits.{kind_in, Either, CallSuits, FieldSuits, Suits, ArgumentsSuit, ReferencesSuit, PlaceSuits, CountSuits, RightSuits, SimpleSuits, InitialSuits, FirstSuits, IfThere, TestSuits, StatementSuits, StatementsSuit, behind_declaration, in_first, in_statement}}
+use Rattle.sharc_flat.proofs.{Staying.{KnownName, ByAccess, Knows, KnowsAll, KnowsPlace, either_map}, Keeping.{KnowsRight, KnowsSimple, KnowsFirst, InLoops, InLoopsAll}}
 
 module _ (F : ℕ → Type 0) where
   -- what is a function of this program is one that is known

@@ -1,56 +1,18 @@
 -- A call of a function of the program.
-use Rattle.std.proofs.Common.{◌≡◌, ℕ, zero, suc, ◌+◌, ◌-◌, ◌<◌, ◌≤◌, Bool, true, false, cond, List, [], ◌∷◌, ◌++◌, length, get_or, take, Some, refl, sym, ap, ◌∙◌, subst, arith, append_assoc, length-append}
-use Rattle.std.specs.Prelude.{ℤ, pos, slice_get, nat_lt}
-use Rattle.std.proofs.lemmas.Bool.Decides.{nat_tests}
-use Rattle.std.proofs.lemmas.List.{append-nil, take_at}
-use Rattle.sharc_tree.specs.declared.token.Site.{Site}
-use Rattle.sharc_names.specs.Kinds.{is_pointer}
+use Rattle.std.proofs.{Common.{◌≡◌, ℕ, zero, suc, ◌+◌, ◌-◌, ◌<◌, ◌≤◌, Bool, true, false, cond, List, [], ◌∷◌, ◌++◌, length, get_or, take, Some, refl, sym, ap, ◌∙◌, subst, arith, append_assoc, length-append}, lemmas.Bool.Decides.nat_tests, lemmas.List.{append-nil, take_at, flat_map_more}, lemmas.Option.slice_get-get_or, Math.Seq.get_or-append_seam, lemmas.List.Sums.sum_by-cons}
+use Rattle.std.specs.Prelude.{ℤ, pos, slice_get, nat_lt, reverse, flat_map, count_by}
+use Rattle.sharc_tree.specs.{declared.token.Site.Site, declared.tree.declaration.Declaration.Declaration, Tree.Function}
+use Rattle.sharc_names.specs.Kinds.{is_pointer, declared_kind, declared_kinds}
 use Rattle.sharc_mode.specs.Moded.{Assignment}
-use Rattle.sharc_meaning.specs.State.{Frame, State, Out, go, over, ◌>>=◌, ◌>>◌, give, entered, is_reference, pointers_among, without_temporaries}
-use Rattle.sharc_flat_form.specs.declared.op.Op.{Op}
-use Rattle.sharc_flat_form.specs.declared.op.Spot.{Spot}
+use Rattle.sharc_meaning.specs.{State.{Frame, State, Out, go, over, ◌>>=◌, ◌>>◌, give, entered, is_reference, pointers_among, without_temporaries, stopped, ends_variables, held_by_frame}, declared.variable.Variable.Variable, Expressions.Calls, Meaning.{parameters_begin, left_at, pointers_passed, with_frame, back_in, run_function, call_value, calls}, Statements.exec_all}
+use Rattle.sharc_flat_form.specs.{declared.op.Op.Op, declared.op.Spot.Spot, Machine.{Flat, At, goes, halts, function_of, called as called_at}}
 use Rattle.sharc_flat_form.specs.declared.op.Op.TheVariants as op
-use Rattle.sharc_flat_form.specs.Machine.{Flat, At, goes}
-use Rattle.sharc_flat.specs.Scope.{int_count, ref_count}
-use Rattle.sharc_flat.specs.declared.slot.Slot.{Slot}
-use Rattle.sharc_flat.proofs.Banks.{bank_is}
-use Rattle.sharc_flat.proofs.Runs.{HasAt, has_front, Fin, fin_then, Same, weaken, step, bind}
-use Rattle.sharc_flat.proofs.Agreeing.{slots_of, int_values, refs_length, Standing, place, Agree, below, holding, loose_of, Rest}
-use Rattle.sharc_flat.proofs.Runs.{ends}
-use Rattle.sharc_meaning.specs.State.{stopped}
-use Rattle.sharc_flat_form.specs.Machine.{halts}
-use Rattle.sharc_flat.specs.Scope.{at_site}
-use Rattle.sharc_flat.proofs.Executing.{Beyond, StatementAs}
-use Rattle.sharc_meaning.specs.declared.variable.Variable.{Variable}
-use Rattle.sharc_meaning.specs.State.{ends_variables}
-use Rattle.sharc_tree.specs.declared.tree.declaration.Declaration.{Declaration}
+use Rattle.sharc_flat.specs.{Scope.{int_count, ref_count, at_site}, declared.slot.Slot.Slot, Flattened.{around_body, function_code, in_function, statements_code, behind_statements, parameters_scope, functions_code, AreRows, IsFlattened, parameter_of}}
+use Rattle.sharc_flat.proofs.{Banks.bank_is, Runs.{HasAt, has_front, Fin, fin_then, Same, weaken, step, bind, ends}, Agreeing.{slots_of, int_values, refs_length, Standing, place, Agree, below, holding, loose_of, Rest}, Executing.{Beyond, StatementAs}, Calling.{refs_of, ints_of}, Functions.{begun, begun_slots, begun_refs, begun_ints, function_runs}}
 use Rattle.sharc_tree.specs.declared.trap.Trap.TheVariants as traps
-use Rattle.sharc_names.specs.Kinds.{declared_kind}
-use Rattle.sharc_meaning.specs.Expressions.{Calls}
-use Rattle.sharc_tree.specs.Tree.{Function}
-use Rattle.sharc_names.specs.Kinds.{declared_kinds}
-use Rattle.sharc_meaning.specs.Meaning.{parameters_begin, left_at, pointers_passed, with_frame, back_in}
-use Rattle.sharc_flat.specs.Flattened.{around_body, function_code, in_function, statements_code, behind_statements, parameters_scope}
-use Rattle.std.specs.Prelude.{reverse, flat_map}
-use Rattle.std.proofs.lemmas.List.{flat_map_more}
-use Rattle.sharc_meaning.specs.State.{held_by_frame}
-use Rattle.sharc_flat.proofs.Calling.{refs_of, ints_of}
-use Rattle.sharc_flat.proofs.Functions.{begun, begun_slots, begun_refs, begun_ints, function_runs}
-use Rattle.sharc_code.specs.declared.code.Function.{Function as Row}
-use Rattle.sharc_code.specs.Machine.{no_function}
-use Rattle.sharc_flat.specs.Flattened.{functions_code, AreRows, IsFlattened, parameter_of}
-use Rattle.sharc_flat_form.specs.Machine.{function_of, called as called_at}
+use Rattle.sharc_code.specs.{declared.code.Function.{Function as Row}, Machine.no_function, declared.code.GlobalCells.GlobalCells}
 use Rattle.sharc_ctype.specs.Resolved.{function_at, functions_in}
-use Rattle.std.proofs.lemmas.Option.{slice_get-get_or}
-use Rattle.std.proofs.Math.Seq.{get_or-append_seam}
-use Rattle.sharc_meaning.specs.Meaning.{run_function, call_value, calls}
-use Rattle.sharc_meaning.specs.Statements.{exec_all}
-use Rattle.sharc_meaning.specs.declared.variable.Variable.{Variable}
-use Rattle.sharc_meaning.specs.State.{ends_variables}
 use mathlib.Core.List.{reverse-cons}
-use Rattle.std.specs.Prelude.{count_by}
-use Rattle.std.proofs.lemmas.List.Sums.{sum_by-cons}
-use Rattle.sharc_code.specs.declared.code.GlobalCells.{GlobalCells}
 
 pub has_all : (os pre : List Op) → HasAt (pre ++ os) (length pre) os
 has_all [] pre = tt

@@ -1,58 +1,18 @@
 -- Mutexes.
-use Rattle.std.proofs.Common.{◌≡◌, ℕ, zero, suc, ◌+◌, Bool, true, false, cond, List, [], ◌∷◌, ◌++◌, length, Option, Some, None, refl, sym, ap, ◌∙◌, subst, ⊎_elim, arith, length-append}
-use Rattle.std.specs.Prelude.{ℤ, pos, slice_get, not, nat_lt}
-use Rattle.std.proofs.lemmas.List.{append-nil}
+use Rattle.std.proofs.{Common.{◌≡◌, ℕ, zero, suc, ◌+◌, Bool, true, false, cond, List, [], ◌∷◌, ◌++◌, length, Option, Some, None, refl, sym, ap, ◌∙◌, subst, ⊎_elim, arith, length-append, inl, inr}, lemmas.List.append-nil}
+use Rattle.std.specs.Prelude.{ℤ, pos, slice_get, not, nat_lt, ◌⊎◌}
 use Rattle.sharc_tree.specs.declared.event.Act.TheVariants as acts
-use Rattle.sharc_tree.specs.declared.token.Site.{Site}
+use Rattle.sharc_tree.specs.{declared.token.Site.Site, declared.token.Span.Span, declared.trap.Trap.Trap}
 use Rattle.sharc_names.specs.Kinds.{Kind, is_integer}
 use Rattle.sharc_mode.specs.Moded.{Assignment}
-use Rattle.sharc_meaning.specs.declared.given.GivenUp.TheVariants.{Released}
-use Rattle.sharc_meaning.specs.Cells.{cell_of}
-use Rattle.sharc_meaning.specs.Places.{Place}
-use Rattle.sharc_meaning.specs.Reference.{number_of}
-use Rattle.sharc_meaning.specs.State.{State, Run, ◌>>=◌, ◌>>◌, give, happens, is_reference, temporarily, performs, without_temporaries}
-use Rattle.sharc_flat_form.specs.declared.op.Op.{Op}
-use Rattle.sharc_flat_form.specs.declared.op.Spot.{Spot}
+use Rattle.sharc_meaning.specs.{declared.given.GivenUp.TheVariants.Released, Cells.cell_of, Places.Place, Reference.number_of, State.{State, Run, ◌>>=◌, ◌>>◌, give, happens, is_reference, temporarily, performs, without_temporaries, stopped, unless_stop, event_of}, Waiting.{lock_call, unlock_call, moves_base, gives_up_base, cell_at_place}, Events.{holds_mutex, held_mutexes}}
+use Rattle.sharc_flat_form.specs.{declared.op.Op.Op, declared.op.Spot.Spot, Machine.{At, goes, asks, put, cell_at, next as on, set_ref, op_turn, asserts, without_base, base_of}}
 use Rattle.sharc_flat_form.specs.declared.op.Op.TheVariants as op
-use Rattle.sharc_flat_form.specs.Machine.{At, goes, asks, put, cell_at, next as on, set_ref, op_turn}
-use Rattle.sharc_tree.specs.declared.token.Span.{Span}
-use Rattle.sharc_tree.specs.declared.trap.Trap.{Trap}
 use Rattle.sharc_tree.specs.declared.trap.Trap.TheVariants as traps
 use Rattle.sharc_code.specs.declared.code.Use.TheVariants.{Other}
-use Rattle.sharc_flat.specs.Scope.{at_words}
-use Rattle.sharc_flat.specs.Scope.{Context, ref_count}
-use Rattle.sharc_flat.specs.declared.slot.Slot.{Slot}
-use Rattle.sharc_flat.specs.Places.{Target, in_global, in_global_at, in_object, in_object_at, has_base, base_width, field_of, guard_field, guard_cell, guard_code, spot_of, drop_base, settle_base, settle_code, cell_value_code, cell_store_code, store_code, cell_take_code, take_code}
+use Rattle.sharc_flat.specs.{Scope.{at_words, Context, ref_count, at_site}, declared.slot.Slot.Slot, Places.{Target, in_global, in_global_at, in_object, in_object_at, has_base, base_width, field_of, guard_field, guard_cell, guard_code, spot_of, drop_base, settle_base, settle_code, cell_value_code, cell_store_code, store_code, cell_take_code, take_code, target, own_field, global_of, bounds_code, index_code, pointee_code, width_of, base_as_width, width_code, guard_width, index_width, object_mode, object_mode_named, object_spot}, Suits.is_cell, Flattened.unlocked_code}
 use Rattle.sharc_flat.specs.Places as targets
-use Rattle.sharc_flat.specs.Suits.{is_cell}
-use Rattle.sharc_flat.proofs.Banks.{put_same}
-use Rattle.sharc_flat.proofs.Runs.{HasAt, has_front, has_back, Fin, fin_then, Same, weaken, step, Holds, bind, without, after_event}
-use Rattle.sharc_flat.proofs.Agreeing.{Standing, place, Agree, holding, push, drop_last, last_is, same_frame, loose_of}
-use Rattle.sharc_flat.proofs.Accessing.{context}
-use Rattle.sharc_flat.proofs.Values.{loosen, BasesOf, base_ends, RunsAs, Lies, PlaceAs, at_cell, temporarily_runs}
-use Rattle.sharc_flat.proofs.Runs.{ends}
-use Rattle.sharc_meaning.specs.State.{stopped, unless_stop}
-use Rattle.sharc_flat_form.specs.Machine.{asserts}
-use Rattle.sharc_flat.specs.Scope.{at_site}
-use Rattle.sharc_flat.specs.Places.{target, own_field, global_of, bounds_code, index_code, pointee_code}
-use Rattle.sharc_flat.proofs.Popping.{AllNull, trailing}
-use Rattle.sharc_meaning.specs.State.{unless_stop}
-use Rattle.sharc_flat.specs.Places.{width_of, base_as_width, width_code}
-use Rattle.sharc_flat.proofs.Computing.{none_end}
-use Rattle.sharc_flat_form.specs.Machine.{asserts}
-use Rattle.std.specs.Prelude.{◌⊎◌}
-use Rattle.std.proofs.Common.{inl, inr}
-use Rattle.sharc_flat.specs.Places.{guard_width, index_width, store_code, cell_store_code}
-use Rattle.sharc_flat.proofs.Storing.{performs_then}
-use Rattle.sharc_flat.proofs.Runs.{asks_at}
-use Rattle.sharc_meaning.specs.State.{event_of}
-use Rattle.sharc_meaning.specs.Places.{Place}
-use Rattle.sharc_flat.proofs.Storing.{moved_on}
-use Rattle.sharc_flat.specs.Places.{object_mode, object_mode_named, object_spot}
-use Rattle.sharc_flat_form.specs.Machine.{without_base, base_of}
-use Rattle.sharc_meaning.specs.Waiting.{lock_call, unlock_call, moves_base, gives_up_base, cell_at_place}
-use Rattle.sharc_meaning.specs.Events.{holds_mutex, held_mutexes}
-use Rattle.sharc_flat.specs.Flattened.{unlocked_code}
+use Rattle.sharc_flat.proofs.{Banks.put_same, Runs.{HasAt, has_front, has_back, Fin, fin_then, Same, weaken, step, Holds, bind, without, after_event, ends, asks_at}, Agreeing.{Standing, place, Agree, holding, push, drop_last, last_is, same_frame, loose_of}, Accessing.context, Values.{loosen, BasesOf, base_ends, RunsAs, Lies, PlaceAs, at_cell, temporarily_runs}, Popping.{AllNull, trailing}, Computing.none_end, Storing.{performs_then, moved_on}}
 
 module _ (m : Assignment) (z : Standing) (scope : List Slot) where
   abbrev ctx : Context

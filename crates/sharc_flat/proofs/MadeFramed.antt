@@ -1,31 +1,14 @@
 -- Code that is laid out stays within its frames, as the code does whose texts are given.
 use Rattle.std.proofs.Common.{◌≡◌, ℕ, zero, suc, ◌+◌, ◌*◌, ◌^◌, ◌<◌, max, List, [], ◌∷◌, length, Option, Some, None, refl, ap, sym, ◌∙◌, subst, arith}
 use Rattle.std.specs.Prelude.{slice_get, slice_index_or, fold}
-use Rattle.sharc_code.specs.declared.code.Function.{Function as Row}
-use Rattle.sharc_code.specs.declared.code.Parameter.{Parameter}
+use Rattle.sharc_code.specs.{declared.code.Function.{Function as Row}, declared.code.Parameter.Parameter, declared.code.Text.Text, Machine.no_function, Path.{most_ints, most_refs}}
 use Rattle.sharc_code.specs.declared.code.Parameter.TheVariants as parameters
-use Rattle.sharc_code.specs.declared.code.Text.{Text}
-use Rattle.sharc_code.specs.Machine.{no_function}
-use Rattle.sharc_code.specs.Path.{most_ints, most_refs}
 use Rattle.sharc_ctype.specs.Resolved.{Resolution, functions_in}
 use Rattle.sharc_mode.specs.Moded.{Assignment}
-use Rattle.sharc_flat_form.specs.declared.flat.Flat.{Flat as FlatCode}
-use Rattle.sharc_flat_form.specs.declared.op.Op.{Op}
+use Rattle.sharc_flat_form.specs.{declared.flat.Flat.{Flat as FlatCode}, declared.op.Op.Op, declared.op.Spot.Spot, Framed.{HasParameter, IsInGlobal, OpWrites, InLine, OpLeads, IsFramedAt, IsFramed, Leads, IsFlat}, Machine.{Flat, function_of}, Made.flat_of}
 use Rattle.sharc_flat_form.specs.declared.op.Op.TheVariants as op
-use Rattle.sharc_flat_form.specs.declared.op.Spot.{Spot}
-use Rattle.sharc_flat_form.specs.Framed.{HasParameter, IsInGlobal, OpWrites, InLine, OpLeads, IsFramedAt, IsFramed, Leads, IsFlat}
-use Rattle.sharc_flat_form.specs.Machine.{Flat, function_of}
-use Rattle.sharc_flat_form.specs.Made.{flat_of}
-use Rattle.sharc_flat.specs.Correct.{ProgramSuits}
-use Rattle.sharc_flat.specs.Flattened.{flattened}
-use Rattle.sharc_flat.specs.Flattens.{Flattens, names_of}
-use Rattle.sharc_flat.specs.Laid.{told_by, with_texts, AreLaid, AreNamed, Lays}
-use Rattle.sharc_flat.specs.Laws.{FitsFrames, FitsMade}
-use Rattle.sharc_flat.specs.Tables.{globals_of}
-use Rattle.sharc_flat.proofs.Apart.{apart}
-use Rattle.sharc_flat.proofs.Flattening.{is_flattened}
-use Rattle.sharc_flat.proofs.Framed.{flattened_is_framed}
-use Rattle.sharc_flat.proofs.Laying.{same_length, rows_same}
+use Rattle.sharc_flat.specs.{Correct.ProgramSuits, Flattened.flattened, Flattens.{Flattens, names_of}, Laid.{told_by, with_texts, AreLaid, AreNamed, Lays}, Laws.{FitsFrames, FitsMade}, Tables.globals_of}
+use Rattle.sharc_flat.proofs.{Apart.apart, Flattening.is_flattened, Framed.flattened_is_framed, Laying.{same_length, rows_same}}
 
 -- ---- lines
 one_line : (o p : Op) → Some o ≡ Some p → o ≡ p

@@ -1,36 +1,16 @@
 -- Where the places are found that lvalues name.
-use Rattle.std.proofs.Common.{◌≡◌, ℕ, ◌+◌, ◌*◌, ◌<◌, ◌≤◌, Bool, true, false, cond, List, [], ◌∷◌, ◌++◌, length, Option, Some, None, refl, sym, ap, ◌∙◌, subst, arith, length-append}
+use Rattle.std.proofs.{Common.{◌≡◌, ℕ, ◌+◌, ◌*◌, ◌<◌, ◌≤◌, Bool, true, false, cond, List, [], ◌∷◌, ◌++◌, length, Option, Some, None, refl, sym, ap, ◌∙◌, subst, arith, length-append}, lemmas.List.append-nil}
 use Rattle.std.specs.Prelude.{ℤ, pos, negsuc, not, nat_lt}
-use Rattle.std.proofs.lemmas.List.{append-nil}
-use Rattle.sharc_tree.specs.declared.event.Object.{Object}
-use Rattle.sharc_tree.specs.declared.event.Object.TheVariants.{Global, Made}
-use Rattle.sharc_tree.specs.declared.token.Site.{Site}
+use Rattle.sharc_tree.specs.{declared.event.Object.Object, declared.event.Object.TheVariants.{Global, Made}, declared.token.Site.Site}
 use Rattle.sharc_tree.specs.declared.trap.Trap.TheVariants as traps
 use Rattle.sharc_names.specs.Kinds.{Kind, is_integer}
 use Rattle.sharc_mode.specs.Moded.{Assignment}
-use Rattle.sharc_meaning.specs.Cells.{global_elements}
+use Rattle.sharc_meaning.specs.{Cells.global_elements, Places.{Place, variable, cell, field_in, pointee, based, element, element_of_array}, Reference.{number_of, is_null, elements_of}, State.{State, Run, then_on, ◌>>=◌, ◌>>◌, give, is_reference, done, holds_reference, with_temporary, stop, stopped, unless_stop}}
 use Rattle.sharc_ctype.specs.Resolved.{global_at}
-use Rattle.sharc_meaning.specs.Places.{Place, variable, cell, field_in, pointee, based, element, element_of_array}
-use Rattle.sharc_meaning.specs.Reference.{number_of}
-use Rattle.sharc_meaning.specs.State.{State, Run, then_on, ◌>>=◌, ◌>>◌, give, is_reference, done, holds_reference, with_temporary}
-use Rattle.sharc_flat_form.specs.declared.op.Op.{Op}
-use Rattle.sharc_flat_form.specs.declared.op.Spot.{Spot}
+use Rattle.sharc_flat_form.specs.{declared.op.Op.Op, declared.op.Spot.Spot, Machine.{goes, put, first_cell, set_int, op_turn, indexed, halts, asserts, goes_on}}
 use Rattle.sharc_flat_form.specs.declared.op.Op.TheVariants as op
-use Rattle.sharc_flat_form.specs.Machine.{goes, put, first_cell, set_int, op_turn}
-use Rattle.sharc_flat.specs.Scope.{Context, int_count, ref_count}
-use Rattle.sharc_flat.specs.declared.slot.Slot.{Slot}
-use Rattle.sharc_flat.specs.Places.{Target, in_global, in_global_at, in_object, in_object_at}
-use Rattle.sharc_flat.proofs.Banks.{put_same, put_other}
-use Rattle.sharc_flat.proofs.Runs.{HasAt, has_front, has_back, Fin, fin_of, fin_then, Same, weaken, step, bind, without}
-use Rattle.sharc_flat.proofs.Agreeing.{Standing, place, Agree, holding, last_is, hold, with_int, loose_of}
-use Rattle.sharc_flat.proofs.Accessing.{context}
-use Rattle.sharc_flat.proofs.Values.{integer_is, loosen, RunsAs, within, Lies, PlaceAs}
-use Rattle.sharc_flat.proofs.Runs.{ends}
-use Rattle.sharc_meaning.specs.State.{stop, stopped, unless_stop}
-use Rattle.sharc_meaning.specs.Reference.{is_null, elements_of}
-use Rattle.sharc_flat_form.specs.Machine.{indexed, halts, asserts, goes_on}
-use Rattle.sharc_flat.specs.Scope.{at_site}
-use Rattle.sharc_flat.specs.Places.{own_field, bounds_code, pointee_code}
+use Rattle.sharc_flat.specs.{Scope.{Context, int_count, ref_count, at_site}, declared.slot.Slot.Slot, Places.{Target, in_global, in_global_at, in_object, in_object_at, own_field, bounds_code, pointee_code}}
+use Rattle.sharc_flat.proofs.{Banks.{put_same, put_other}, Runs.{HasAt, has_front, has_back, Fin, fin_of, fin_then, Same, weaken, step, bind, without, ends}, Agreeing.{Standing, place, Agree, holding, last_is, hold, with_int, loose_of}, Accessing.context, Values.{integer_is, loosen, RunsAs, within, Lies, PlaceAs}}
 
 module _ (m : Assignment) (z : Standing) (scope : List Slot) where
   abbrev ctx : Context

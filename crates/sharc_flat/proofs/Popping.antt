@@ -1,20 +1,11 @@
 -- References are given up in the order in which they lie.
-use Rattle.std.proofs.Common.{◌≡◌, ℕ, zero, suc, ◌+◌, List, [], ◌∷◌, ◌++◌, length, get_or, refl, sym, ap, ◌∙◌, subst, arith, append_assoc, length-append}
+use Rattle.std.proofs.{Common.{◌≡◌, ℕ, zero, suc, ◌+◌, List, [], ◌∷◌, ◌++◌, length, get_or, refl, sym, ap, ◌∙◌, subst, arith, append_assoc, length-append}, lemmas.List.append-nil}
 use Rattle.std.specs.Prelude.{ℤ, pos}
-use Rattle.std.proofs.lemmas.List.{append-nil}
-use Rattle.sharc_meaning.specs.declared.given.GivenUp.TheVariants.{Released}
-use Rattle.sharc_meaning.specs.Reference.{number_of}
-use Rattle.sharc_meaning.specs.State.{State, pointers_among, all_released}
-use Rattle.sharc_flat_form.specs.declared.op.Op.{Op}
-use Rattle.sharc_flat_form.specs.declared.op.Spot.{Spot}
+use Rattle.sharc_meaning.specs.{declared.given.GivenUp.TheVariants.Released, Reference.number_of, State.{State, pointers_among, all_released}}
+use Rattle.sharc_flat_form.specs.{declared.op.Op.Op, declared.op.Spot.Spot, Machine.put}
 use Rattle.sharc_flat_form.specs.declared.op.Op.TheVariants as op
-use Rattle.sharc_flat_form.specs.Machine.{put}
-use Rattle.sharc_flat.specs.Scope.{ref_count}
-use Rattle.sharc_flat.specs.declared.slot.Slot.{Slot}
-use Rattle.sharc_flat.proofs.Banks.{bank_is, bank_put}
-use Rattle.sharc_flat.proofs.Runs.{HasAt, Fin, Same, weaken, step}
-use Rattle.sharc_flat.proofs.Agreeing.{Standing, place, Agree, below, stack_length, last_is, same_frame}
-use Rattle.sharc_flat.proofs.Values.{given_place}
+use Rattle.sharc_flat.specs.{Scope.ref_count, declared.slot.Slot.Slot}
+use Rattle.sharc_flat.proofs.{Banks.{bank_is, bank_put}, Runs.{HasAt, Fin, Same, weaken, step}, Agreeing.{Standing, place, Agree, below, stack_length, last_is, same_frame}, Values.given_place}
 
 abbrev pub AllNull : List ℤ → Type 0
 AllNull xs = (k : ℕ) → get_or xs k (pos 0) ≡ pos 0

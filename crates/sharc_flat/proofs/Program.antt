@@ -1,85 +1,19 @@
 -- Every statement, by its form, and every function.
-use Rattle.std.proofs.Common.{◌≡◌, ℕ, ◌+◌, ◌≤◌, Bool, true, false, cond, List, [], ◌∷◌, ◌++◌, length, Option, Some, None, refl, sym, ap, ◌∙◌, subst, arith, append_assoc, length-append}
-use Rattle.std.specs.Prelude.{ℤ, pos}
-use Rattle.std.proofs.lemmas.List.{append-nil}
+use Rattle.std.proofs.{Common.{◌≡◌, ℕ, ◌+◌, ◌≤◌, Bool, true, false, cond, List, [], ◌∷◌, ◌++◌, length, Option, Some, None, refl, sym, ap, ◌∙◌, subst, arith, append_assoc, length-append}, lemmas.List.append-nil}
+use Rattle.std.specs.Prelude.{ℤ, pos, unsigned_abs}
 use Rattle.sharc_tree.specs.declared.event.Act.TheVariants as acts
-use Rattle.sharc_tree.specs.declared.token.Span.{Span}
-use Rattle.sharc_names.specs.Kinds.{Kind, is_integer}
-use Rattle.sharc_mode.specs.Moded.{Assignment}
-use Rattle.sharc_mode.specs.Sharings.{Sharing}
-use Rattle.sharc_meaning.specs.Places.{stored}
-use Rattle.sharc_meaning.specs.State.{Run, ◌>>=◌, ◌>>◌, give, entered, answered, value_of, is_reference, temporarily, done}
+use Rattle.sharc_tree.specs.{declared.token.Span.Span, Tree.{Expression, Right, value, malloc, Simple, assign, does_call, Local, First, nothing, declares, does, Statement, empty, block, declare, simple, jump, return, if_then, if_then_else, while, for, Statements, no_statements, statement}, Spans.span_of, declared.tree.declaration.Declaration.Declaration}
+use Rattle.sharc_names.specs.Kinds.{Kind, is_integer, int, declared_kind}
+use Rattle.sharc_mode.specs.{Moded.Assignment, Sharings.{Sharing, private}, Cells.{cell_at as mode_in, pointed}, Rows.{written, row_at, declared_row}}
+use Rattle.sharc_meaning.specs.{Places.stored, State.{Run, ◌>>=◌, ◌>>◌, give, entered, answered, value_of, is_reference, temporarily, done, unless_stop, in_block, begins_with}, Expressions.{tested, fitting, Calls, eval, place_of}, Statements.{Flow, next, returned, loop, left_by, exec_all, is_positive, right_value, done_simple, initialised, declared, done_first, done_step, done_test, exec}, Cells.{element_cells, instance_mode}}
 use Rattle.sharc_flat_form.specs.declared.op.Op.{Op}
-use Rattle.sharc_flat_form.specs.declared.op.Spot.{Spot}
 use Rattle.sharc_flat_form.specs.declared.op.Op.TheVariants as op
-use Rattle.sharc_flat.specs.Places.{lvalue_of}
-use Rattle.sharc_flat.specs.Scope.{no_text}
+use Rattle.sharc_flat.specs.{Places.{lvalue_of, Target, in_global, in_global_at, in_object, in_object_at, base_width, beside_field, store_code, target, width_code, index_width, object_spot}, Scope.{no_text, Context, int_count, ref_count, at_site, ends_from, leaves, slot_of}, declared.slot.Slot.Slot, Flattened.{truth_code, Around, opened, looping, result_code, zero_code, jump_code, return_code, loop_code, choice_code, statements_code, behind_statements, IsFlattened, expression_code, place_code, right_code, simple_code, initial_code, local_code, first_code, behind_first, step_code, turn_code, if_code, statement_code, behind_statement}, Suits.{RightSuits, LeftSuits, SimpleSuits, InitialSuits, FirstSuits, in_first, TestSuits, IfThere, is_declaration, in_statement, StatementSuits, StatementsSuit}}
 use Rattle.sharc_code.specs.declared.code.Use.TheVariants as uses
-use Rattle.sharc_flat.specs.Scope.{Context, int_count, ref_count}
-use Rattle.sharc_flat.specs.declared.slot.Slot.{Slot}
-use Rattle.sharc_flat.specs.Places.{Target, in_global, in_global_at, in_object, in_object_at, has_base, base_width, field_of, guard_field, beside_field, guard_cell, guard_code, spot_of, drop_base, settle_base, settle_code, cell_value_code, cell_store_code, store_code, cell_take_code, take_code}
 use Rattle.sharc_flat.specs.Places as targets
-use Rattle.sharc_flat.proofs.Runs.{HasAt, has_front, Same, weaken, bind, enters_at}
-use Rattle.sharc_flat.proofs.Agreeing.{Standing, place, holding, same_frame}
-use Rattle.sharc_flat.proofs.Accessing.{context}
-use Rattle.sharc_flat.proofs.Values.{RunsAs, PlaceAs}
-use Rattle.sharc_meaning.specs.State.{unless_stop}
-use Rattle.sharc_flat.specs.Scope.{at_site}
-use Rattle.sharc_flat.specs.Places.{target, own_field, global_of, bounds_code, index_code, pointee_code}
-use Rattle.sharc_names.specs.Kinds.{int}
-use Rattle.sharc_tree.specs.Tree.{Expression}
+use Rattle.sharc_flat.proofs.{Runs.{HasAt, has_front, Same, weaken, bind, enters_at}, Agreeing.{Standing, place, holding, same_frame}, Accessing.context, Values.{RunsAs, PlaceAs}, Testing.{TestAs, fitting_runs, tested_runs}, Executing.{After, Here, Beyond, StatementAs, entered_statement, block_runs, closed_runs}, Statements.{StepAs, step_then, DecidesAs, loop_runs, no_more, one_more, jump_runs, empty_runs, decides_runs, always_runs, if_runs, choice_runs}, Linking.CallsAs, Taking.{need_more, entered_more, new_runs}, Expressing.give_int, Inducing.{eval_runs, place_runs}, Assigning.{assign_cell_runs, assign_name_runs, call_runs}, Declaring.{begin_runs, initial_runs, return_none_runs, return_value_runs, headed_runs}}
 use Rattle.sharc_ctype.specs.Resolved.{kind_at}
-use Rattle.sharc_meaning.specs.State.{unless_stop}
-use Rattle.sharc_meaning.specs.Expressions.{tested, fitting}
-use Rattle.sharc_flat.specs.Places.{width_of, base_as_width, width_code}
-use Rattle.sharc_flat.specs.Flattened.{truth_code}
-use Rattle.sharc_tree.specs.Spans.{span_of}
-use Rattle.sharc_flat.proofs.Testing.{TestAs}
-use Rattle.sharc_meaning.specs.Statements.{Flow, next, returned, loop}
-use Rattle.sharc_meaning.specs.State.{in_block}
-use Rattle.sharc_flat.specs.Scope.{ends_from, leaves}
-use Rattle.sharc_flat.specs.Flattened.{Around, opened, looping, result_code, zero_code}
-use Rattle.sharc_flat.proofs.Executing.{After, Here, Beyond, StatementAs, entered_statement, block_runs, closed_runs}
-use Rattle.sharc_flat.specs.Flattened.{jump_code, return_code, loop_code, choice_code}
-use Rattle.sharc_meaning.specs.Statements.{left_by}
-use Rattle.sharc_flat.proofs.Statements.{StepAs, step_then}
-use Rattle.sharc_flat.specs.Places.{guard_width, index_width, store_code, cell_store_code}
-use Rattle.sharc_flat.specs.Scope.{slot_of}
-use Rattle.sharc_meaning.specs.State.{begins_with}
-use Rattle.sharc_tree.specs.declared.tree.declaration.Declaration.{Declaration}
 use Rattle.sharc_tree.specs.declared.trap.Trap.TheVariants as traps
-use Rattle.sharc_names.specs.Kinds.{declared_kind}
-use Rattle.sharc_flat.proofs.Statements.{DecidesAs, loop_runs}
-use Rattle.sharc_meaning.specs.Expressions.{Calls}
-use Rattle.sharc_flat.proofs.Testing.{fitting_runs}
-use Rattle.sharc_flat.specs.Flattened.{statements_code, behind_statements}
-use Rattle.sharc_flat.specs.Scope.{slot_of}
-use Rattle.sharc_flat.specs.Flattened.{IsFlattened}
-use Rattle.sharc_meaning.specs.Statements.{exec_all}
-use Rattle.sharc_flat.proofs.Linking.{CallsAs}
-use Rattle.sharc_flat.proofs.Testing.{tested_runs}
-use Rattle.sharc_flat.specs.Flattened.{expression_code, place_code}
-use Rattle.sharc_meaning.specs.Expressions.{eval, place_of}
-use Rattle.sharc_mode.specs.Cells.{cell_at as mode_in}
-use Rattle.sharc_meaning.specs.Cells.{element_cells}
-use Rattle.sharc_flat.proofs.Taking.{need_more, entered_more, new_runs}
-use Rattle.sharc_flat.proofs.Expressing.{give_int}
-use Rattle.sharc_meaning.specs.Statements.{is_positive}
-use Rattle.sharc_meaning.specs.Cells.{instance_mode}
-use Rattle.std.specs.Prelude.{unsigned_abs}
-use Rattle.sharc_flat.specs.Places.{object_spot}
-use Rattle.sharc_flat.proofs.Inducing.{eval_runs, place_runs}
-use Rattle.sharc_flat.proofs.Assigning.{assign_cell_runs, assign_name_runs, call_runs}
-use Rattle.sharc_flat.proofs.Declaring.{begin_runs, initial_runs, return_none_runs, return_value_runs, headed_runs}
-use Rattle.sharc_flat.proofs.Statements.{no_more, one_more, jump_runs, empty_runs, decides_runs, always_runs, if_runs, choice_runs}
-use Rattle.sharc_flat.proofs.Executing.{entered_statement, block_runs}
-use Rattle.sharc_flat.specs.Suits.{RightSuits, LeftSuits, SimpleSuits, InitialSuits, FirstSuits, in_first, TestSuits, IfThere, is_declaration, in_statement, StatementSuits, StatementsSuit}
-use Rattle.sharc_flat.specs.Flattened.{right_code, simple_code, initial_code, local_code, first_code, behind_first, step_code, turn_code, if_code, statement_code, behind_statement}
-use Rattle.sharc_meaning.specs.Statements.{right_value, done_simple, initialised, declared, done_first, done_step, done_test, exec}
-use Rattle.sharc_mode.specs.Cells.{pointed}
-use Rattle.sharc_mode.specs.Rows.{written, row_at, declared_row}
-use Rattle.sharc_mode.specs.Sharings.{private}
-use Rattle.sharc_tree.specs.Tree.{Right, value, malloc, Simple, assign, does_call, Local, First, nothing, declares, does, Statement, empty, block, declare, simple, jump, return, if_then, if_then_else, while, for, Statements, no_statements, statement}
 
 module _ (m : Assignment) (z : Standing) (result : Kind) (ints0 : ℕ → ℤ) (on_call : Calls) (n : ℕ) (calls_as : CallsAs m on_call n) (is : IsFlattened m z.flat) (room : length z.frames + n ≡ 255) where
   abbrev C : List Slot → Context
@@ -276,11 +210,6 @@ module _ (m : Assignment) (z : Standing) (result : Kind) (ints0 : ℕ → ℤ) (
   in_first_is scope nothing = refl
   in_first_is scope (declares l) = refl
   in_first_is scope (does x) = refl
-
-  first_need : First → ℕ
-  first_need nothing = 0
-  first_need (declares l) = 0
-  first_need (does x) = 0
 
   first_runs : (scope : List Slot) (x : First) → FirstSuits (C scope) x → Steps scope (scope ++ first_more x) 0 (done_first on_call m x) (first_code (C scope) x)
   unfolding first_more

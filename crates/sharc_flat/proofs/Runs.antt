@@ -1,15 +1,10 @@
 -- Flat code asks for what the source asks for: what the parts of the meaning are to the machine.
 use Rattle.std.proofs.Common.{◌≡◌, ℕ, zero, suc, ◌+◌, ◌*◌, ◌≤◌, List, [], ◌∷◌, ◌++◌, length, take, drop, Some, refl, sym, ap, ◌∙◌, subst, arith}
 use Rattle.std.specs.Prelude.{ℤ, pos, slice_get}
-use Rattle.sharc_tree.specs.declared.event.Act.{Act}
-use Rattle.sharc_tree.specs.declared.event.SourceEvent.{SourceEvent}
-use Rattle.sharc_tree.specs.declared.token.Site.{Site}
-use Rattle.sharc_meaning.specs.declared.given.GivenUp.{GivenUp}
-use Rattle.sharc_meaning.specs.State.{State, Outcome, wants, spent, Out, go, over, Run, then_on, enters_with, happens, answer_of, event_of, value_in, all_released, ends_temporaries, ends_variables, pointers_among, held_references}
-use Rattle.sharc_flat_form.specs.declared.op.Op.{Op}
-use Rattle.sharc_flat_form.specs.declared.op.Spot.{Spot}
+use Rattle.sharc_tree.specs.{declared.event.Act.Act, declared.event.SourceEvent.SourceEvent, declared.token.Site.Site}
+use Rattle.sharc_meaning.specs.{declared.given.GivenUp.GivenUp, State.{State, Outcome, wants, spent, Out, go, over, Run, then_on, enters_with, happens, answer_of, event_of, value_in, all_released, ends_temporaries, ends_variables, pointers_among, held_references}}
+use Rattle.sharc_flat_form.specs.{declared.op.Op.Op, declared.op.Spot.Spot, Machine.{Flat, At, goes, asks, halts, Came, exec, on_turn, on_answer, with_event, line_turn, op_turn}}
 use Rattle.sharc_flat_form.specs.declared.op.Op.TheVariants as op
-use Rattle.sharc_flat_form.specs.Machine.{Flat, At, goes, asks, halts, Came, exec, on_turn, on_answer, with_event, line_turn, op_turn}
 use Rattle.sharc_flat.proofs.Banks.{Bank}
 
 -- these statements are in the code at this place

@@ -2,39 +2,16 @@
 use Rattle.std.proofs.Common.{◌≡◌, ℕ, ◌+◌, Bool, true, false, cond, List, [], ◌∷◌, ◌++◌, length, refl, sym, ap, ◌∙◌, subst, arith, append_assoc, length-append}
 use Rattle.std.specs.Prelude.{ℤ, pos}
 use Rattle.sharc_tree.specs.declared.event.Act.TheVariants as acts
-use Rattle.sharc_tree.specs.declared.token.Site.{Site}
-use Rattle.sharc_names.specs.Kinds.{Kind, is_integer}
+use Rattle.sharc_tree.specs.{declared.token.Site.Site, Tree.Expression, Spans.span_of}
+use Rattle.sharc_names.specs.Kinds.{Kind, is_integer, int}
 use Rattle.sharc_code.specs.declared.instr.Register.TheVariants.{Int, Reference}
 use Rattle.sharc_mode.specs.Moded.{Assignment}
-use Rattle.sharc_meaning.specs.State.{State, Run, ◌>>=◌, ◌>>◌, give, answered, is_reference, temporarily, done, holds_reference, moves_on, with_temporary, without_temporaries}
-use Rattle.sharc_flat_form.specs.declared.op.Op.{Op}
-use Rattle.sharc_flat_form.specs.declared.op.Spot.{Spot}
+use Rattle.sharc_meaning.specs.{State.{State, Run, ◌>>=◌, ◌>>◌, give, answered, is_reference, temporarily, done, holds_reference, moves_on, with_temporary, without_temporaries, holds, moves, event_of}, Expressions.{operand, fitting, passed}}
+use Rattle.sharc_flat_form.specs.{declared.op.Op.Op, declared.op.Spot.Spot, Machine.{asks, put, next as on, set_int, handed}}
 use Rattle.sharc_flat_form.specs.declared.op.Op.TheVariants as op
-use Rattle.sharc_flat_form.specs.Machine.{asks, put, next as on, set_int}
-use Rattle.sharc_flat.specs.Scope.{ref_count}
-use Rattle.sharc_flat.specs.declared.slot.Slot.{Slot}
-use Rattle.sharc_flat.proofs.Banks.{put_same, put_other}
-use Rattle.sharc_flat.proofs.Runs.{HasAt, has_front, has_back, Fin, fin_then, Same, weaken, bind, without, after_event}
-use Rattle.sharc_flat.proofs.Agreeing.{Standing, place, Agree, holding, last_is, hold, with_int, same_frame, loose_of, Rest}
-use Rattle.sharc_flat.proofs.Values.{int_valued, RunsAs, temporarily_runs}
-use Rattle.sharc_meaning.specs.State.{holds}
-use Rattle.sharc_flat.specs.Scope.{at_site}
-use Rattle.sharc_names.specs.Kinds.{int}
-use Rattle.sharc_tree.specs.Tree.{Expression}
+use Rattle.sharc_flat.specs.{Scope.{ref_count, at_site}, declared.slot.Slot.Slot, Flattened.{passed_code, spawn_code}, Suits.HandsOn}
+use Rattle.sharc_flat.proofs.{Banks.{put_same, put_other}, Runs.{HasAt, has_front, has_back, Fin, fin_then, Same, weaken, bind, without, after_event, asks_at}, Agreeing.{Standing, place, Agree, holding, last_is, hold, with_int, same_frame, loose_of, Rest}, Values.{int_valued, RunsAs, temporarily_runs}, Computing.none_end, Testing.fitting_runs, Storing.moved_on, Taking.need_more}
 use Rattle.sharc_ctype.specs.Resolved.{kind_at}
-use Rattle.sharc_meaning.specs.State.{moves}
-use Rattle.sharc_meaning.specs.Expressions.{operand, fitting, passed}
-use Rattle.sharc_flat.proofs.Computing.{none_end}
-use Rattle.sharc_tree.specs.Spans.{span_of}
-use Rattle.sharc_flat.proofs.Testing.{fitting_runs}
-use Rattle.sharc_flat.specs.Flattened.{passed_code}
-use Rattle.sharc_flat.proofs.Runs.{asks_at}
-use Rattle.sharc_meaning.specs.State.{event_of}
-use Rattle.sharc_flat.proofs.Storing.{moved_on}
-use Rattle.sharc_flat.specs.Suits.{HandsOn}
-use Rattle.sharc_flat.specs.Flattened.{spawn_code}
-use Rattle.sharc_flat_form.specs.Machine.{handed}
-use Rattle.sharc_flat.proofs.Taking.{need_more}
 use Rattle.sharc_code.specs.declared.instr.Register.TheVariants as registers
 
 module _ (m : Assignment) (z : Standing) (scope : List Slot) where

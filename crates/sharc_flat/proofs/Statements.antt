@@ -1,30 +1,14 @@
 -- Lists of statements, choices, loops, jumps and returns.
-use Rattle.std.proofs.Common.{◌≡◌, ℕ, zero, suc, ◌+◌, ◌≤◌, Bool, true, false, cond, List, [], ◌∷◌, ◌++◌, length, Some, refl, sym, ap, ◌∙◌, subst, arith, append_assoc, length-append}
+use Rattle.std.proofs.{Common.{◌≡◌, ℕ, zero, suc, ◌+◌, ◌≤◌, Bool, true, false, cond, List, [], ◌∷◌, ◌++◌, length, Some, refl, sym, ap, ◌∙◌, subst, arith, append_assoc, length-append}, lemmas.List.append-nil}
 use Rattle.std.specs.Prelude.{ℤ, slice_get, not}
-use Rattle.std.proofs.lemmas.List.{append-nil}
 use Rattle.sharc_names.specs.Kinds.{Kind}
 use Rattle.sharc_mode.specs.Moded.{Assignment}
-use Rattle.sharc_meaning.specs.State.{State, Run, ◌>>=◌, ◌>>◌, give}
-use Rattle.sharc_flat_form.specs.declared.op.Op.{Op}
-use Rattle.sharc_flat_form.specs.declared.op.Spot.{Spot}
+use Rattle.sharc_meaning.specs.{State.{State, Run, ◌>>=◌, ◌>>◌, give, spent}, Arithmetic.is_zero, Statements.{Flow, next, on_next, on_turn, turns, loop, left_by}}
+use Rattle.sharc_flat_form.specs.{declared.op.Op.Op, declared.op.Spot.Spot, Machine.{goes, next as on, over_lines}}
 use Rattle.sharc_flat_form.specs.declared.op.Op.TheVariants as op
-use Rattle.sharc_flat_form.specs.Machine.{goes, next as on}
-use Rattle.sharc_flat.specs.Scope.{int_count, ref_count}
-use Rattle.sharc_flat.specs.declared.slot.Slot.{Slot}
-use Rattle.sharc_flat.proofs.Runs.{HasAt, has_front, has_back, Fin, fin_of, fin_then, Same, weaken, step, Holds, bind}
-use Rattle.sharc_flat.proofs.Agreeing.{Standing, place, holding}
-use Rattle.sharc_flat.proofs.Accessing.{context}
-use Rattle.sharc_meaning.specs.Arithmetic.{is_zero}
-use Rattle.sharc_flat.proofs.Testing.{TestAs}
-use Rattle.sharc_meaning.specs.Statements.{Flow, next, on_next, on_turn, turns, loop}
-use Rattle.sharc_meaning.specs.State.{spent}
-use Rattle.sharc_flat.specs.Flattened.{Around, looping, turns_code}
-use Rattle.sharc_flat.proofs.Executing.{Stand, After, Here, Beyond, StatementAs, after_less, after_at}
-use Rattle.sharc_flat_form.specs.Machine.{over_lines}
-use Rattle.sharc_flat.specs.Flattened.{jump_code}
-use Rattle.sharc_tree.specs.declared.tree.statement.Jump.{Jump}
-use Rattle.sharc_tree.specs.declared.tree.statement.Jump.TheVariants.{Break, Continue}
-use Rattle.sharc_meaning.specs.Statements.{left_by}
+use Rattle.sharc_flat.specs.{Scope.{int_count, ref_count}, declared.slot.Slot.Slot, Flattened.{Around, looping, turns_code, jump_code}}
+use Rattle.sharc_flat.proofs.{Runs.{HasAt, has_front, has_back, Fin, fin_of, fin_then, Same, weaken, step, Holds, bind}, Agreeing.{Standing, place, holding}, Accessing.context, Testing.TestAs, Executing.{Stand, After, Here, Beyond, StatementAs, after_less, after_at}}
+use Rattle.sharc_tree.specs.{declared.tree.statement.Jump.Jump, declared.tree.statement.Jump.TheVariants.{Break, Continue}}
 
 module _ (m : Assignment) (z : Standing) (kind : Kind) (ints0 : ℕ → ℤ) where
   spent_here : (c : ℕ) (s : State) (pc : ℕ) (ints refs : ℕ → ℤ) → Holds refs s → Same z.flat s.fuel c (fin_of spent s) s.answers (place z pc ints refs s)

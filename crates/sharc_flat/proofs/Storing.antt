@@ -1,39 +1,18 @@
 -- What goes to places, and what is taken from them.
-use Rattle.std.proofs.Common.{◌≡◌, ℕ, ◌+◌, ◌-◌, ◌<◌, ◌≤◌, Bool, true, false, cond, List, [], ◌∷◌, ◌++◌, length, get_or, take, Option, Some, refl, sym, ap, ◌∙◌, subst, ⊎_elim, arith, length-append}
+use Rattle.std.proofs.{Common.{◌≡◌, ℕ, ◌+◌, ◌-◌, ◌<◌, ◌≤◌, Bool, true, false, cond, List, [], ◌∷◌, ◌++◌, length, get_or, take, Option, Some, refl, sym, ap, ◌∙◌, subst, ⊎_elim, arith, length-append}, lemmas.List.{take_at, set-append_left, set-append_right, get_or-set_same, get_or-set_other}, lemmas.Bool.cases_eq}
 use Rattle.std.specs.Prelude.{set, ℤ, pos}
-use Rattle.std.proofs.lemmas.List.{take_at, set-append_left, set-append_right, get_or-set_same, get_or-set_other}
 use Rattle.sharc_tree.specs.declared.event.Act.TheVariants as acts
-use Rattle.sharc_tree.specs.declared.event.Object.{Object}
-use Rattle.sharc_tree.specs.declared.token.Site.{Site}
-use Rattle.sharc_tree.specs.declared.token.Span.{Span}
+use Rattle.sharc_tree.specs.{declared.event.Object.Object, declared.token.Site.Site, declared.token.Span.Span}
 use Rattle.sharc_names.specs.Kinds.{Kind}
 use Rattle.sharc_code.specs.declared.code.Use.TheVariants as uses
 use Rattle.sharc_code.specs.declared.instr.Register.TheVariants.{Int, Reference}
-use Rattle.sharc_mode.specs.Moded.{Assignment}
-use Rattle.sharc_mode.specs.Sharings.{Sharing}
-use Rattle.sharc_meaning.specs.declared.given.GivenUp.TheVariants.{Released, Replaced}
-use Rattle.sharc_meaning.specs.Cells.{cell_of}
-use Rattle.sharc_meaning.specs.Places.{Place, variable, access_mode, stored}
-use Rattle.sharc_meaning.specs.Reference.{number_of}
-use Rattle.sharc_meaning.specs.State.{State, Out, go, over, Run, then_on, ◌>>=◌, ◌>>◌, happens, value_of, is_reference, pointers_among, all_released, writes, Step, done, performs, holds_reference, moves_on, gives_up, with_value, with_temporary, without_temporaries}
-use Rattle.sharc_flat_form.specs.declared.op.Op.{Op}
-use Rattle.sharc_flat_form.specs.declared.op.Spot.{Spot}
+use Rattle.sharc_mode.specs.{Moded.Assignment, Sharings.Sharing}
+use Rattle.sharc_meaning.specs.{declared.given.GivenUp.TheVariants.{Released, Replaced}, Cells.cell_of, Places.{Place, variable, access_mode, stored}, Reference.number_of, State.{State, Out, go, over, Run, then_on, ◌>>=◌, ◌>>◌, happens, value_of, is_reference, pointers_among, all_released, writes, Step, done, performs, holds_reference, moves_on, gives_up, with_value, with_temporary, without_temporaries}}
+use Rattle.sharc_flat_form.specs.{declared.op.Op.Op, declared.op.Spot.Spot, Machine.{asks, put, accessed, next as on, set_ref, gives_up as also}}
 use Rattle.sharc_flat_form.specs.declared.op.Op.TheVariants as op
-use Rattle.sharc_flat_form.specs.Machine.{asks, put, accessed, next as on, set_ref, gives_up as also}
-use Rattle.sharc_flat.proofs.Under.{under, mutex_of, accesses_under}
-use Rattle.sharc_flat.specs.declared.slot.Lvalue.{Lvalue}
-use Rattle.sharc_flat.specs.Scope.{Context, ref_count, register_of, number_in}
-use Rattle.sharc_flat.specs.declared.slot.Slot.{Slot}
-use Rattle.sharc_flat.specs.Places.{Target, in_global, in_global_at, in_object, in_object_at, has_base, base_width, field_of, guard_field, beside_field, guard_cell, guard_code, spot_of, drop_base, settle_base, settle_code, cell_store_code, store_code, cell_take_code, take_code}
+use Rattle.sharc_flat.proofs.{Under.{under, mutex_of, accesses_under}, Banks.{bank_is, bank_set, put_at, put_other}, Runs.{HasAt, has_back, Fin, fin_then, Same, step, without, after_event}, Agreeing.{int_values, PointerAt, pointer_at, IntAt, int_at, Standing, place, Agree, below, drop_last, last_is, hold, same_frame, loose_of}, Accessing.{variable_ref, context, access_runs, pending_place}, Values.{bases_count, loosen, BasesOf, base_ends, AtCell, open_at}}
+use Rattle.sharc_flat.specs.{declared.slot.Lvalue.Lvalue, Scope.{Context, ref_count, register_of, number_in, slot_kind}, declared.slot.Slot.Slot, Places.{Target, in_global, in_global_at, in_object, in_object_at, has_base, base_width, field_of, guard_field, beside_field, guard_cell, guard_code, spot_of, drop_base, settle_base, settle_code, cell_store_code, store_code, cell_take_code, take_code}, Suits.PathStands}
 use Rattle.sharc_flat.specs.Places as targets
-use Rattle.sharc_flat.specs.Suits.{PathStands}
-use Rattle.sharc_flat.specs.Scope.{slot_kind}
-use Rattle.sharc_flat.proofs.Banks.{bank_is, bank_set, put_at, put_other}
-use Rattle.sharc_flat.proofs.Runs.{HasAt, has_back, Fin, fin_then, Same, step, without, after_event}
-use Rattle.sharc_flat.proofs.Agreeing.{int_values, PointerAt, pointer_at, IntAt, int_at, Standing, place, Agree, below, drop_last, last_is, hold, same_frame, loose_of}
-use Rattle.sharc_flat.proofs.Accessing.{variable_ref, context, access_runs, pending_place}
-use Rattle.sharc_flat.proofs.Values.{bases_count, loosen, BasesOf, base_ends, AtCell, open_at}
-use Rattle.std.proofs.lemmas.Bool.{cases_eq}
 
 pub performs_then : {B : Type 0} (o : Out ℤ) (g : Run B) (k : B → State → Fin) → fin_then (then_on (then_on o (λ _. done)) (λ _. g)) k ≡ fin_then o (λ x u. fin_then (g u) k)
 performs_then (go x s) g k = refl

@@ -1,74 +1,20 @@
 -- What is taken, given and freed, and what is made.
-use Rattle.std.proofs.Common.{◌≡◌, ℕ, zero, suc, ◌+◌, ◌-◌, ◌<◌, ◌≤◌, Bool, true, false, cond, List, [], ◌∷◌, ◌++◌, length, get_or, take, Option, Some, None, refl, sym, ap, ◌∙◌, subst, arith, length-append}
-use Rattle.std.specs.Prelude.{set, ℤ, pos, negsuc, slice_get}
-use Rattle.std.proofs.lemmas.List.{append-nil, take_at, set-append_left, set-append_right}
+use Rattle.std.proofs.{Common.{◌≡◌, ℕ, zero, suc, ◌+◌, ◌-◌, ◌<◌, ◌≤◌, Bool, true, false, cond, List, [], ◌∷◌, ◌++◌, length, get_or, take, Option, Some, None, refl, sym, ap, ◌∙◌, subst, arith, length-append}, lemmas.List.{append-nil, take_at, set-append_left, set-append_right}}
+use Rattle.std.specs.Prelude.{set, ℤ, pos, negsuc, slice_get, unsigned_abs}
 use Rattle.sharc_tree.specs.declared.event.Act.TheVariants as acts
-use Rattle.sharc_tree.specs.declared.event.Object.TheVariants.{Global}
-use Rattle.sharc_tree.specs.declared.token.Site.{Site}
-use Rattle.sharc_tree.specs.declared.token.Span.{Span}
-use Rattle.sharc_names.specs.Kinds.{Kind, is_integer}
-use Rattle.sharc_code.specs.declared.code.Use.{Use}
-use Rattle.sharc_code.specs.declared.instr.Register.TheVariants.{Reference}
-use Rattle.sharc_mode.specs.Moded.{Assignment}
-use Rattle.sharc_mode.specs.Sharings.{Sharing}
-use Rattle.sharc_meaning.specs.Cells.{cell_of}
-use Rattle.sharc_meaning.specs.Places.{Place, variable, cell, taken_from, nulled}
-use Rattle.sharc_meaning.specs.Reference.{number_of}
-use Rattle.sharc_meaning.specs.State.{State, Run, then_on, ◌>>=◌, ◌>>◌, give, entered, happens, answered, value_of, is_reference, pointers_among, temporarily, nulls, done, moves_on, with_value, with_temporary, without_temporaries}
-use Rattle.sharc_flat_form.specs.declared.op.Op.{Op}
-use Rattle.sharc_flat_form.specs.declared.op.Spot.{Spot}
+use Rattle.sharc_tree.specs.{declared.event.Object.TheVariants.Global, declared.token.Site.Site, declared.token.Span.Span, declared.event.TakeKind.TakeKind}
+use Rattle.sharc_names.specs.{Kinds.{Kind, is_integer}, declared.fault.Named.Named}
+use Rattle.sharc_code.specs.{declared.code.Use.Use, declared.instr.Register.TheVariants.Reference, declared.code.Text.Text, Machine.{elements_of as elements_made}}
+use Rattle.sharc_mode.specs.{Moded.Assignment, Sharings.{Sharing, private, readonly, locked, racy, dynamic}}
+use Rattle.sharc_meaning.specs.{Cells.{cell_of, instance_mode, mutex_named, through, field_place_behind}, Places.{Place, variable, cell, taken_from, nulled, cast_to, freed}, Reference.{number_of, is_null, NULL}, State.{State, Run, then_on, ◌>>=◌, ◌>>◌, give, entered, happens, answered, value_of, is_reference, pointers_among, temporarily, nulls, done, moves_on, with_value, with_temporary, without_temporaries, stopped, unless_stop, event_of}, declared.given.GivenUp.TheVariants.Emptied, Statements.is_positive}
+use Rattle.sharc_flat_form.specs.{declared.op.Op.Op, declared.op.Spot.Spot, Machine.{goes, asks, put, accesses, first_cell, next as on, set_ref, asserts, over_lines, kind_of, variable_of, instance_mode as mode_of_object, takes_local, moved}}
 use Rattle.sharc_flat_form.specs.declared.op.Op.TheVariants as op
-use Rattle.sharc_flat_form.specs.Machine.{goes, asks, put, accesses, first_cell, next as on, set_ref}
-use Rattle.sharc_code.specs.declared.code.Text.{Text}
-use Rattle.sharc_flat.specs.Scope.{at_words}
-use Rattle.sharc_flat.specs.declared.slot.Lvalue.{Lvalue}
-use Rattle.sharc_flat.specs.Scope.{Context, ref_count, register_of, number_in}
-use Rattle.sharc_flat.specs.declared.slot.Slot.{Slot}
-use Rattle.sharc_flat.specs.Places.{Target, in_global, in_global_at, in_object, in_object_at, has_base, base_width, field_of, guard_field, beside_field, guard_cell, guard_code, spot_of, drop_base, settle_base, settle_code, cell_value_code, cell_store_code, store_code, cell_take_code, take_code}
+use Rattle.sharc_flat.specs.{Scope.{at_words, Context, ref_count, register_of, number_in, slot_kind, at_site}, declared.slot.Lvalue.Lvalue, declared.slot.Slot.Slot, Places.{Target, in_global, in_global_at, in_object, in_object_at, has_base, base_width, field_of, guard_field, beside_field, guard_cell, guard_code, spot_of, drop_base, settle_base, settle_code, cell_value_code, cell_store_code, store_code, cell_take_code, take_code, target, own_field, global_of, bounds_code, index_code, pointee_code, width_of, base_as_width, width_code, guard_width, index_width, object_mode, object_mode_named, object_spot}, Suits.{PathStands, is_cell, PathNamed}}
 use Rattle.sharc_flat.specs.Places as targets
-use Rattle.sharc_flat.specs.Suits.{PathStands, is_cell}
-use Rattle.sharc_flat.specs.Scope.{slot_kind}
-use Rattle.sharc_flat.proofs.Banks.{Bank, bank_is, bank_set}
-use Rattle.sharc_flat.proofs.Runs.{HasAt, has_front, has_back, Fin, fin_then, Same, weaken, step, bind, without, enters_at, after_event}
-use Rattle.sharc_flat.proofs.Agreeing.{slots_of, int_values, PointerAt, pointer_at, Standing, place, Agree, below, holding, push, last_is, hold, same_frame, loose_of, Rest}
-use Rattle.sharc_flat.proofs.Accessing.{variable_ref, context}
-use Rattle.sharc_flat.proofs.Values.{integer_is, loosen, ref_valued, RunsAs, bases_are, PlaceAs, at_cell, temporarily_runs}
-use Rattle.sharc_flat.proofs.Fetching.{ref_cell_by}
-use Rattle.sharc_flat.proofs.Runs.{ends}
-use Rattle.sharc_meaning.specs.State.{stopped, unless_stop}
-use Rattle.sharc_meaning.specs.Reference.{is_null}
-use Rattle.sharc_flat_form.specs.Machine.{asserts}
-use Rattle.sharc_flat.specs.Scope.{at_site}
-use Rattle.sharc_flat.specs.Places.{target, own_field, global_of, bounds_code, index_code, pointee_code}
-use Rattle.sharc_flat.proofs.Popping.{AllNull, trailing}
-use Rattle.sharc_meaning.specs.State.{unless_stop}
-use Rattle.sharc_flat.specs.Places.{width_of, base_as_width, width_code}
-use Rattle.sharc_flat.proofs.Computing.{none_end}
-use Rattle.sharc_flat_form.specs.Machine.{asserts}
-use Rattle.sharc_flat_form.specs.Machine.{over_lines}
-use Rattle.sharc_flat.specs.Places.{guard_width, index_width, store_code, cell_store_code}
-use Rattle.sharc_flat.proofs.Storing.{performs_then}
-use Rattle.sharc_flat.proofs.Runs.{asks_at}
-use Rattle.sharc_meaning.specs.State.{event_of}
-use Rattle.sharc_meaning.specs.Places.{Place}
-use Rattle.sharc_flat.proofs.Storing.{moved_on}
-use Rattle.sharc_flat_form.specs.Machine.{kind_of, variable_of, instance_mode as mode_of_object, takes_local, moved}
-use Rattle.sharc_tree.specs.declared.event.TakeKind.{TakeKind}
+use Rattle.sharc_flat.proofs.{Banks.{Bank, bank_is, bank_set}, Runs.{HasAt, has_front, has_back, Fin, fin_then, Same, weaken, step, bind, without, enters_at, after_event, ends, asks_at}, Agreeing.{slots_of, int_values, PointerAt, pointer_at, Standing, place, Agree, below, holding, push, last_is, hold, same_frame, loose_of, Rest}, Accessing.{variable_ref, context}, Values.{integer_is, loosen, ref_valued, RunsAs, bases_are, PlaceAs, at_cell, temporarily_runs}, Fetching.ref_cell_by, Popping.{AllNull, trailing}, Computing.none_end, Storing.{performs_then, moved_on}, Under.positive_elements}
 use Rattle.sharc_tree.specs.declared.event.Taken.TheVariants as taken
-use Rattle.sharc_names.specs.declared.fault.Named.{Named}
 use Rattle.sharc_names.specs.declared.fault.Named.TheVariants as named
 use Rattle.sharc_ctype.specs.Resolved.{named_at}
-use Rattle.sharc_mode.specs.Sharings.{private, readonly, locked, racy, dynamic}
-use Rattle.sharc_meaning.specs.Cells.{instance_mode, mutex_named, through, field_place_behind}
-use Rattle.sharc_meaning.specs.Places.{cast_to, freed}
-use Rattle.sharc_meaning.specs.Reference.{NULL}
-use Rattle.sharc_meaning.specs.declared.given.GivenUp.TheVariants.{Emptied}
-use Rattle.sharc_meaning.specs.Statements.{is_positive}
-use Rattle.sharc_flat.specs.Places.{object_mode, object_mode_named, object_spot}
-use Rattle.sharc_flat.specs.Suits.{PathNamed}
-use Rattle.std.specs.Prelude.{unsigned_abs}
-use Rattle.sharc_code.specs.Machine.{elements_of as elements_made}
-use Rattle.sharc_flat.proofs.Under.{positive_elements}
 use Rattle.sharc_tree.specs.declared.event.CellMode.TheVariants as modes
 use Rattle.sharc_tree.specs.declared.trap.Trap.TheVariants as traps
 

@@ -1,41 +1,17 @@
 -- Tests, and values that go to something of a type.
-use Rattle.std.proofs.Common.{◌≡◌, ℕ, zero, suc, ◌+◌, ◌<◌, ◌≤◌, Bool, true, false, cond, List, [], ◌∷◌, ◌++◌, length, Some, refl, sym, ap, ◌∙◌, subst, arith, length-append}
+use Rattle.std.proofs.{Common.{◌≡◌, ℕ, zero, suc, ◌+◌, ◌<◌, ◌≤◌, Bool, true, false, cond, List, [], ◌∷◌, ◌++◌, length, Some, refl, sym, ap, ◌∙◌, subst, arith, length-append}, lemmas.Bool.Decides.nat_tests, lemmas.List.append-nil}
 use Rattle.std.specs.Prelude.{nat_le, ℤ, pos, negsuc, slice_get, not, ◌&&◌, ◌||◌}
-use Rattle.std.proofs.lemmas.Bool.Decides.{nat_tests}
-use Rattle.std.proofs.lemmas.List.{append-nil}
-use Rattle.sharc_tree.specs.declared.token.Site.{Site}
+use Rattle.sharc_tree.specs.{declared.token.Site.Site, Tree.Expression, Spans.span_of}
 use Rattle.sharc_tree.specs.declared.trap.Trap.TheVariants as traps
 use Rattle.sharc_names.specs.Kinds.{Kind, is_integer}
 use Rattle.sharc_mode.specs.Moded.{Assignment}
-use Rattle.sharc_meaning.specs.declared.given.GivenUp.TheVariants.{Released}
-use Rattle.sharc_meaning.specs.Reference.{number_of}
-use Rattle.sharc_meaning.specs.State.{State, Run, ◌>>◌, give, is_reference, all_released, done, gives_up as source_gives_up}
-use Rattle.sharc_flat_form.specs.declared.op.Op.{Op}
-use Rattle.sharc_flat_form.specs.declared.op.Spot.{Spot}
+use Rattle.sharc_meaning.specs.{declared.given.GivenUp.TheVariants.Released, Reference.number_of, State.{State, Run, ◌>>◌, give, is_reference, all_released, done, gives_up as source_gives_up, stopped, unless_stop, holds, drops}, Arithmetic.{bits_of, is_zero, is_equal, is_held_by, fits}, Expressions.{tested, fitting}}
+use Rattle.sharc_flat_form.specs.{declared.op.Op.Op, Machine.{goes, put, op_turn, asserts}}
 use Rattle.sharc_flat_form.specs.declared.op.Op.TheVariants as op
-use Rattle.sharc_flat_form.specs.Machine.{goes, put, op_turn}
-use Rattle.sharc_flat.specs.Scope.{int_count, ref_count}
-use Rattle.sharc_flat.specs.declared.slot.Slot.{Slot}
-use Rattle.sharc_flat.proofs.Banks.{put_same, put_other}
-use Rattle.sharc_flat.proofs.Runs.{HasAt, has_front, has_back, Fin, fin_then, Same, weaken, step, Holds, bind}
-use Rattle.sharc_flat.proofs.Agreeing.{Standing, place, Agree, holding, push, drop_last, last_is, with_int, same_frame, loose_of}
-use Rattle.sharc_flat.proofs.Values.{integer_is, RunsAs}
-use Rattle.sharc_flat.proofs.Runs.{ends}
-use Rattle.sharc_meaning.specs.State.{stopped, unless_stop, holds}
-use Rattle.sharc_meaning.specs.Arithmetic.{bits_of, is_zero, is_equal, is_held_by, fits}
-use Rattle.sharc_flat_form.specs.Machine.{asserts}
-use Rattle.sharc_flat.specs.Scope.{at_site}
-use Rattle.sharc_flat.proofs.Popping.{AllNull, trailing}
+use Rattle.sharc_flat.specs.{Scope.{int_count, ref_count, at_site}, declared.slot.Slot.Slot, Places.{width_of, width_code}, Flattened.truth_code}
+use Rattle.sharc_flat.proofs.{Banks.{put_same, put_other}, Runs.{HasAt, has_front, has_back, Fin, fin_then, Same, weaken, step, Holds, bind, ends}, Agreeing.{Standing, place, Agree, holding, push, drop_last, last_is, with_int, same_frame, loose_of}, Values.{integer_is, RunsAs}, Popping.{AllNull, trailing}, Computing.{holds_same, bits_same}}
 use Rattle.sharc_code.specs.Arithmetic as code
-use Rattle.sharc_tree.specs.Tree.{Expression}
 use Rattle.sharc_ctype.specs.Resolved.{kind_at}
-use Rattle.sharc_meaning.specs.State.{drops, unless_stop}
-use Rattle.sharc_meaning.specs.Expressions.{tested, fitting}
-use Rattle.sharc_flat.specs.Places.{width_of, width_code}
-use Rattle.sharc_flat.specs.Flattened.{truth_code}
-use Rattle.sharc_flat.proofs.Computing.{holds_same, bits_same}
-use Rattle.sharc_tree.specs.Spans.{span_of}
-use Rattle.sharc_flat_form.specs.Machine.{asserts}
 
 -- what is compared with NULL
 le_zero : (n : ℕ) → nat_le (suc n) 0 ≡ false
@@ -50,7 +26,7 @@ zero_of : (b : Bool) → is_zero (code.truth b) ≡ not b
 zero_of true = refl
 zero_of false = refl
 
-not_not : (b : Bool) → not (not b) ≡ b
+pub not_not : (b : Bool) → not (not b) ≡ b
 not_not true = refl
 not_not false = refl
 

@@ -1,65 +1,18 @@
 -- A thread, from its start to its end, and both directions.
-use Rattle.std.proofs.Common.{◌≡◌, ℕ, zero, suc, ◌+◌, ◌-◌, ◌<◌, ◌≤◌, Bool, true, false, cond, List, [], ◌∷◌, ◌++◌, length, get_or, take, map, Some, None, refl, sym, ap, ◌∙◌, subst, ⊎_elim, arith}
-use Rattle.std.specs.Prelude.{ℤ, pos, slice_get, not, nat_lt}
+use Rattle.std.proofs.{Common.{◌≡◌, ℕ, zero, suc, ◌+◌, ◌-◌, ◌<◌, ◌≤◌, Bool, true, false, cond, List, [], ◌∷◌, ◌++◌, length, get_or, take, map, Some, None, refl, sym, ap, ◌∙◌, subst, ⊎_elim, arith, inl, inr}, lemmas.Bool.cases_lt}
+use Rattle.std.specs.Prelude.{ℤ, pos, slice_get, not, nat_lt, ◌⊎◌, ◌≢◌}
 use Rattle.sharc_tree.specs.declared.event.Act.TheVariants as acts
-use Rattle.sharc_tree.specs.declared.token.Site.{Site}
-use Rattle.sharc_names.specs.Kinds.{is_pointer}
-use Rattle.sharc_tree.specs.declared.event.Act.{Act}
+use Rattle.sharc_tree.specs.{declared.token.Site.Site, declared.event.Act.Act, declared.tree.declaration.Declaration.Declaration}
+use Rattle.sharc_names.specs.Kinds.{is_pointer, declared_kind}
 use Rattle.sharc_mode.specs.Moded.{Assignment}
-use Rattle.sharc_meaning.specs.State.{Frame, State, Out, go, over, then_on, ◌>>=◌, ◌>>◌, give, entered, happens, answer_of, value_in, is_reference, pointers_among, done, performs, without_temporaries}
-use Rattle.sharc_flat_form.specs.declared.op.Op.{Op}
-use Rattle.sharc_flat_form.specs.declared.op.Spot.{Spot}
+use Rattle.sharc_meaning.specs.{State.{Frame, State, Out, go, over, then_on, ◌>>=◌, ◌>>◌, give, entered, happens, answer_of, value_in, is_reference, pointers_among, done, performs, without_temporaries, stopped, unless_stop, holds, spent, ends_variables, event_of, Outcome, wants, ended, held_references}, Statements.{turns, exec_all}, declared.variable.Variable.Variable, Meaning.{parameters_begin, left_at, pointers_passed, with_frame, run_function, calls, run_thread, goes_away, asked_by, asks as source_asks, start as source_start, no_frame}, Events.held_mutexes, Laws.SpentIsNone}
+use Rattle.sharc_flat_form.specs.{declared.op.Op.Op, declared.op.Spot.Spot, Machine.{Flat, At, goes, asks, put, next as on, halts, function_of, Turn, Came, exec, on_turn, on_answer, turn, line_turn, end_turn, start as start_at, first_at, begun as begun_at, with_event}}
 use Rattle.sharc_flat_form.specs.declared.op.Op.TheVariants as op
-use Rattle.sharc_flat_form.specs.Machine.{Flat, At, goes, asks, put, next as on}
-use Rattle.sharc_flat.specs.Scope.{ref_count}
-use Rattle.sharc_flat.proofs.Banks.{Bank, bank_is}
-use Rattle.sharc_flat.proofs.Runs.{Fin, fin_of, fin_then, Same, weaken, step, Holds, bind, after_event}
-use Rattle.sharc_flat.proofs.Agreeing.{slots_of, int_values, Standing, place, Agree, below, loose_of}
-use Rattle.sharc_flat.proofs.Runs.{ends}
-use Rattle.sharc_meaning.specs.State.{stopped, unless_stop, holds}
-use Rattle.sharc_flat_form.specs.Machine.{halts}
-use Rattle.sharc_flat.specs.Scope.{at_site}
-use Rattle.sharc_flat.proofs.Banks.{bank_push}
-use Rattle.sharc_meaning.specs.State.{unless_stop}
-use Rattle.std.specs.Prelude.{◌⊎◌}
-use Rattle.std.proofs.Common.{inl, inr}
-use Rattle.sharc_meaning.specs.Statements.{turns}
-use Rattle.sharc_meaning.specs.State.{spent}
-use Rattle.sharc_flat.specs.Scope.{slot_of}
-use Rattle.sharc_meaning.specs.declared.variable.Variable.{Variable}
-use Rattle.sharc_meaning.specs.State.{ends_variables}
-use Rattle.sharc_tree.specs.declared.tree.declaration.Declaration.{Declaration}
+use Rattle.sharc_flat.specs.{Scope.{ref_count, at_site, slot_of}, Flattened.{around_body, in_function, statements_code, parameters_scope, IsFlattened, parameter_of}, Correct.{SameAs, ProgramSuits, MayStart, Forth, Back, AsksTheSame}}
+use Rattle.sharc_flat.proofs.{Banks.{Bank, bank_is, bank_push}, Runs.{Fin, fin_of, fin_then, Same, weaken, step, Holds, bind, after_event, ends, Tells}, Agreeing.{slots_of, int_values, Standing, place, Agree, below, loose_of}, Declaring.declared_reference, Functions.{begun, function_runs}, Linking.{CallsAs, BodiesAs, inner_scope, no_room, one_call, linked, unframe, below_more}, Storing.performs_then, Program.{statements_run, beyond_all}}
 use Rattle.sharc_tree.specs.declared.trap.Trap.TheVariants as traps
-use Rattle.sharc_names.specs.Kinds.{declared_kind}
-use Rattle.sharc_flat.proofs.Declaring.{declared_reference}
-use Rattle.sharc_meaning.specs.Meaning.{parameters_begin, left_at, pointers_passed, with_frame}
-use Rattle.sharc_flat.specs.Flattened.{around_body, in_function, statements_code, parameters_scope}
-use Rattle.sharc_flat.specs.Scope.{slot_of}
-use Rattle.sharc_flat.proofs.Functions.{begun, function_runs}
-use Rattle.sharc_flat.specs.Flattened.{IsFlattened, parameter_of}
-use Rattle.sharc_flat_form.specs.Machine.{function_of}
 use Rattle.sharc_ctype.specs.Resolved.{function_at}
-use Rattle.sharc_meaning.specs.Meaning.{run_function, calls}
-use Rattle.sharc_meaning.specs.Statements.{exec_all}
-use Rattle.sharc_meaning.specs.declared.variable.Variable.{Variable}
-use Rattle.sharc_meaning.specs.State.{ends_variables}
-use Rattle.sharc_flat.proofs.Linking.{CallsAs}
-use Rattle.sharc_flat.proofs.Storing.{performs_then}
-use Rattle.sharc_meaning.specs.State.{event_of}
-use Rattle.sharc_flat.proofs.Linking.{BodiesAs, inner_scope, no_room, one_call}
-use Rattle.sharc_flat.proofs.Program.{statements_run, beyond_all}
-use Rattle.sharc_flat.proofs.Linking.{linked, unframe, below_more}
-use Rattle.sharc_flat.proofs.Declaring.{declared_reference}
-use Rattle.sharc_flat.proofs.Runs.{Tells}
-use Rattle.sharc_flat.specs.Correct.{SameAs, ProgramSuits, MayStart, Forth, Back, AsksTheSame}
-use Rattle.sharc_flat_form.specs.Machine.{Turn, Came, exec, on_turn, on_answer, turn, line_turn, end_turn, start as start_at, first_at, begun as begun_at, with_event}
 use Rattle.sharc_code.specs.declared.code.Parameter.TheVariants as parameters
-use Rattle.sharc_meaning.specs.Meaning.{run_thread, goes_away, asked_by, asks as source_asks, start as source_start, no_frame}
-use Rattle.sharc_meaning.specs.Events.{held_mutexes}
-use Rattle.sharc_meaning.specs.State.{Outcome, wants, ended, held_references}
-use Rattle.sharc_meaning.specs.Laws.{SpentIsNone}
-use Rattle.std.specs.Prelude.{◌≢◌}
-use Rattle.std.proofs.lemmas.Bool.{cases_lt}
 
 -- one event, also at a place after the code
 asks_turn : (flat : Flat) (site : Site) (act : Act) (c : ℕ) (s : State) (w : At) (k : ℤ → State → Fin) → Holds w.refs s → w.events ≡ s.events → w.given ≡ s.given_up → turn flat w ≡ asks w site act (pos 0) (λ v n. on n)

@@ -1,22 +1,13 @@
 -- An access by its mode: under no lock, under one, or stopped.
 use Rattle.std.proofs.Common.{◌≡◌, ℕ, ◌+◌, ◌-◌, Bool, true, false, cond, List, Option, Some, None, refl, ap, ◌∙◌, arith}
 use Rattle.std.specs.Prelude.{ℤ, pos, negsuc, max, zero, suc, unsigned_abs}
-use Rattle.sharc_tree.specs.declared.event.Act.{Act}
-use Rattle.sharc_tree.specs.declared.event.CellAt.{CellAt}
-use Rattle.sharc_tree.specs.declared.event.CellMode.{CellMode}
+use Rattle.sharc_tree.specs.{declared.event.Act.Act, declared.event.CellAt.CellAt, declared.event.CellMode.CellMode}
 use Rattle.sharc_tree.specs.declared.event.CellMode.TheVariants as modes
 use Rattle.sharc_tree.specs.declared.event.Object.TheVariants as objects
 use Rattle.sharc_tree.specs.declared.trap.Trap.TheVariants as traps
-use Rattle.sharc_code.specs.declared.code.GlobalCells.{GlobalCells}
-use Rattle.sharc_code.specs.declared.code.PlaceMode.{PlaceMode}
-use Rattle.sharc_code.specs.declared.code.PlaceMode.TheVariants.{Private, Readonly, Racy, Dynamic, LockedGlobal, LockedSibling, LockedThrough, LockedLoaded}
-use Rattle.sharc_code.specs.declared.instr.Cell.{Cell}
-use Rattle.sharc_code.specs.Machine.{elements_of as elements_made}
-use Rattle.sharc_meaning.specs.Cells.{cell_of, through}
-use Rattle.sharc_meaning.specs.Reference.{is_null, number_of}
-use Rattle.sharc_meaning.specs.Statements.{is_positive}
-use Rattle.sharc_flat_form.specs.declared.op.Spot.{Spot}
-use Rattle.sharc_flat_form.specs.Machine.{At, Turn, asks, ref, cell_at, global_cell, lock_is_null, is_of_null, mode_of, stops, accesses, accessed, next as on}
+use Rattle.sharc_code.specs.{declared.code.GlobalCells.GlobalCells, declared.code.PlaceMode.PlaceMode, declared.code.PlaceMode.TheVariants.{Private, Readonly, Racy, Dynamic, LockedGlobal, LockedSibling, LockedThrough, LockedLoaded}, declared.instr.Cell.Cell, Machine.{elements_of as elements_made}}
+use Rattle.sharc_meaning.specs.{Cells.{cell_of, through}, Reference.{is_null, number_of}, Statements.is_positive}
+use Rattle.sharc_flat_form.specs.{declared.op.Spot.Spot, Machine.{At, Turn, asks, ref, cell_at, global_cell, lock_is_null, is_of_null, mode_of, stops, accesses, accessed, next as on}}
 
 -- the mutex of a place, if its mode is locked and the path does not lead through NULL
 abbrev pub mutex_of : List GlobalCells → At → CellAt → PlaceMode → Option CellAt

@@ -1,34 +1,16 @@
 -- Runs of values and places, and what is in the registers after them.
-use Rattle.std.proofs.Common.{◌≡◌, ℕ, ◌+◌, ◌-◌, ◌<◌, ◌≤◌, Bool, true, false, cond, List, [], ◌∷◌, ◌++◌, length, take, drop, Option, Some, None, refl, sym, ap, ◌∙◌, subst, arith, append_assoc}
+use Rattle.std.proofs.{Common.{◌≡◌, ℕ, ◌+◌, ◌-◌, ◌<◌, ◌≤◌, Bool, true, false, cond, List, [], ◌∷◌, ◌++◌, length, take, drop, Option, Some, None, refl, sym, ap, ◌∙◌, subst, arith, append_assoc}, lemmas.Bool.Decides.nat_tests, lemmas.List.{append-nil, take_at, drop_at}}
 use Rattle.std.specs.Prelude.{ℤ, pos, ◌&&◌, ◌||◌, nat_lt, ◌==◌}
-use Rattle.std.proofs.lemmas.Bool.Decides.{nat_tests}
-use Rattle.std.proofs.lemmas.List.{append-nil, take_at, drop_at}
-use Rattle.sharc_tree.specs.declared.event.Object.{Object}
-use Rattle.sharc_tree.specs.declared.event.Object.TheVariants.{Global, Made}
+use Rattle.sharc_tree.specs.{declared.event.Object.Object, declared.event.Object.TheVariants.{Global, Made}}
 use Rattle.sharc_names.specs.Kinds.{Kind, object, array, null, function, is_integer, is_integral}
-use Rattle.sharc_code.specs.declared.instr.Register.TheVariants.{Int}
-use Rattle.sharc_code.specs.Arithmetic.{word_of}
+use Rattle.sharc_code.specs.{declared.instr.Register.TheVariants.Int, Arithmetic.word_of}
 use Rattle.sharc_mode.specs.Moded.{Assignment}
-use Rattle.sharc_meaning.specs.declared.given.GivenUp.{GivenUp}
-use Rattle.sharc_meaning.specs.declared.given.GivenUp.TheVariants.{Released}
-use Rattle.sharc_meaning.specs.Cells.{cell_of}
-use Rattle.sharc_meaning.specs.Places.{Place, variable, cell, field_in}
-use Rattle.sharc_meaning.specs.Reference.{is_null, number_of}
-use Rattle.sharc_meaning.specs.State.{State, Run, value_of, is_reference, pointers_among, all_released, temporarily}
-use Rattle.sharc_flat_form.specs.declared.op.Op.{Op}
-use Rattle.sharc_flat_form.specs.declared.op.Spot.{Spot}
+use Rattle.sharc_meaning.specs.{declared.given.GivenUp.GivenUp, declared.given.GivenUp.TheVariants.Released, Cells.cell_of, Places.{Place, variable, cell, field_in}, Reference.{is_null, number_of}, State.{State, Run, value_of, is_reference, pointers_among, all_released, temporarily}}
+use Rattle.sharc_flat_form.specs.{declared.op.Op.Op, declared.op.Spot.Spot, Machine.{At, put, cell_at, global_cell, is_of_null, first_cell}}
 use Rattle.sharc_flat_form.specs.declared.op.Op.TheVariants as op
-use Rattle.sharc_flat_form.specs.Machine.{At, put, cell_at, global_cell, is_of_null, first_cell}
-use Rattle.sharc_flat.specs.Scope.{Context, int_count, ref_count, register_of}
-use Rattle.sharc_flat.specs.declared.slot.Slot.{Slot}
-use Rattle.sharc_flat.specs.Places.{Target, in_global, in_global_at, in_object, in_object_at, has_base, base_width, field_of, guard_field, guard_cell, guard_code, lock_beside, spot_of, drop_base, settle_base, copy_code, value_code, cell_value_code}
+use Rattle.sharc_flat.specs.{Scope.{Context, int_count, ref_count, register_of, slot_kind}, declared.slot.Slot.Slot, Places.{Target, in_global, in_global_at, in_object, in_object_at, has_base, base_width, field_of, guard_field, guard_cell, guard_code, lock_beside, spot_of, drop_base, settle_base, copy_code, value_code, cell_value_code}, Suits.is_cell}
 use Rattle.sharc_flat.specs.Places as targets
-use Rattle.sharc_flat.specs.Suits.{is_cell}
-use Rattle.sharc_flat.specs.Scope.{slot_kind}
-use Rattle.sharc_flat.proofs.Banks.{bank_is, bank_put}
-use Rattle.sharc_flat.proofs.Runs.{HasAt, Fin, fin_then, Same, weaken, step, unhold, without}
-use Rattle.sharc_flat.proofs.Agreeing.{ints_length, IntAt, int_at, Standing, place, Agree, below, stack_length, drop_last, last_is, loose_of, Valued, Rest}
-use Rattle.sharc_flat.proofs.Accessing.{context, pending_place}
+use Rattle.sharc_flat.proofs.{Banks.{bank_is, bank_put}, Runs.{HasAt, Fin, fin_then, Same, weaken, step, unhold, without}, Agreeing.{ints_length, IntAt, int_at, Standing, place, Agree, below, stack_length, drop_last, last_is, loose_of, Valued, Rest}, Accessing.{context, pending_place}}
 
 -- ---- types
 apart_at : (stars : ℕ) (b : Bool) → (nat_lt 0 stars || false) ≡ true → ((stars == 0) && b) ≡ true → ⊥

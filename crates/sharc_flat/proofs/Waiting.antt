@@ -1,59 +1,19 @@
 -- Condition variables.
-use Rattle.std.proofs.Common.{◌≡◌, ℕ, zero, suc, ◌+◌, ◌<◌, ◌≤◌, Bool, true, false, cond, List, [], ◌∷◌, ◌++◌, length, Some, refl, sym, ap, ◌∙◌, subst, arith, append_assoc, length-append}
-use Rattle.std.specs.Prelude.{ℤ, pos, slice_get, not}
-use Rattle.std.proofs.lemmas.List.{append-nil}
+use Rattle.std.proofs.{Common.{◌≡◌, ℕ, zero, suc, ◌+◌, ◌<◌, ◌≤◌, Bool, true, false, cond, List, [], ◌∷◌, ◌++◌, length, Some, refl, sym, ap, ◌∙◌, subst, arith, append_assoc, length-append}, lemmas.List.append-nil}
+use Rattle.std.specs.{Prelude.{ℤ, pos, slice_get, not, codes, slice_index_or}, Str.bytes_eq}
 use Rattle.sharc_tree.specs.declared.event.Act.TheVariants as acts
-use Rattle.sharc_tree.specs.declared.event.CellAt.{CellAt}
-use Rattle.sharc_tree.specs.declared.event.Object.TheVariants.{Made}
-use Rattle.sharc_tree.specs.declared.token.Site.{Site}
+use Rattle.sharc_tree.specs.{declared.event.CellAt.CellAt, declared.event.Object.TheVariants.Made, declared.token.Site.Site, declared.event.Act.Act, Tree.{Expression, Arguments}}
 use Rattle.sharc_names.specs.Kinds.{Kind, is_integer}
-use Rattle.sharc_tree.specs.declared.event.Act.{Act}
 use Rattle.sharc_tree.specs.declared.trap.Trap.TheVariants as traps
 use Rattle.sharc_mode.specs.Moded.{Assignment}
-use Rattle.sharc_meaning.specs.Cells.{cell_of}
-use Rattle.sharc_meaning.specs.Places.{pointee}
-use Rattle.sharc_meaning.specs.Reference.{number_of}
-use Rattle.sharc_meaning.specs.State.{State, Out, go, over, Run, then_on, ◌>>=◌, ◌>>◌, give, happens, answer_of, value_in, is_reference, temporarily, Step, done, performs, holds_reference, moves_on, with_temporary, without_temporaries}
-use Rattle.sharc_flat_form.specs.declared.op.Op.{Op}
-use Rattle.sharc_flat_form.specs.declared.op.Spot.{Spot}
+use Rattle.sharc_meaning.specs.{Cells.cell_of, Places.pointee, Reference.{number_of, is_null, NULL}, State.{State, Out, go, over, Run, then_on, ◌>>=◌, ◌>>◌, give, happens, answer_of, value_in, is_reference, temporarily, Step, done, performs, holds_reference, moves_on, with_temporary, without_temporaries, unless_stop, holds, event_of, looks_at}, Expressions.{operand, Calls, called}, Waiting.{cell_at_place, wait_call, signal_call, broadcast_call}, Events.holds_mutex}
+use Rattle.sharc_flat_form.specs.{declared.op.Op.Op, declared.op.Spot.Spot, Machine.{At, asks, put, cell_at, next as on, set_ref, op_turn, asserts, base_of}}
 use Rattle.sharc_flat_form.specs.declared.op.Op.TheVariants as op
-use Rattle.sharc_flat_form.specs.Machine.{At, asks, put, cell_at, next as on, set_ref, op_turn}
-use Rattle.sharc_flat.specs.Scope.{int_count, ref_count}
-use Rattle.sharc_flat.specs.declared.slot.Slot.{Slot}
-use Rattle.sharc_flat.proofs.Banks.{put_same, put_other}
-use Rattle.sharc_flat.proofs.Runs.{HasAt, has_front, has_back, Fin, fin_then, Same, weaken, Holds, bind, without, after_event}
-use Rattle.sharc_flat.proofs.Agreeing.{Standing, place, Agree, holding, push, last_is, hold, same_frame, loose_of, Rest}
-use Rattle.sharc_flat.proofs.Values.{loosen, base_ends, RunsAs, temporarily_runs}
-use Rattle.sharc_meaning.specs.State.{unless_stop, holds}
-use Rattle.sharc_meaning.specs.Reference.{is_null}
-use Rattle.sharc_flat_form.specs.Machine.{asserts}
-use Rattle.sharc_flat.specs.Scope.{at_site}
-use Rattle.sharc_tree.specs.Tree.{Expression}
+use Rattle.sharc_flat.specs.{Scope.{int_count, ref_count, at_site}, declared.slot.Slot.Slot, Flattened.{behind_int, behind_ref, wait_code, with_words, argument_words, condition_code, first_cell_of}}
+use Rattle.sharc_flat.proofs.{Banks.{put_same, put_other}, Runs.{HasAt, has_front, has_back, Fin, fin_then, Same, weaken, Holds, bind, without, after_event, asks_at}, Agreeing.{Standing, place, Agree, holding, push, last_is, hold, same_frame, loose_of, Rest}, Values.{loosen, base_ends, RunsAs, temporarily_runs}, Storing.{performs_then, moved_on}, Locking.chk_by, Comparing.all_end}
 use Rattle.sharc_ctype.specs.Resolved.{kind_at}
-use Rattle.sharc_meaning.specs.State.{unless_stop}
-use Rattle.sharc_meaning.specs.Expressions.{operand}
-use Rattle.sharc_flat_form.specs.Machine.{asserts}
-use Rattle.sharc_meaning.specs.Expressions.{Calls}
-use Rattle.sharc_flat.specs.Flattened.{behind_int, behind_ref}
-use Rattle.sharc_flat.proofs.Storing.{performs_then}
-use Rattle.sharc_flat.proofs.Runs.{asks_at}
-use Rattle.sharc_meaning.specs.State.{event_of}
-use Rattle.sharc_meaning.specs.Expressions.{called}
-use Rattle.sharc_flat.proofs.Storing.{moved_on}
 use Rattle.sharc_names.specs.declared.fault.Named.TheVariants as named
-use Rattle.sharc_meaning.specs.Reference.{NULL}
-use Rattle.sharc_flat_form.specs.Machine.{base_of}
-use Rattle.sharc_meaning.specs.Waiting.{cell_at_place}
-use Rattle.sharc_meaning.specs.Events.{holds_mutex}
-use Rattle.sharc_flat.proofs.Locking.{chk_by}
-use Rattle.sharc_meaning.specs.State.{looks_at}
-use Rattle.sharc_flat.proofs.Comparing.{all_end}
 use Rattle.sharc_code.specs.declared.code.Text.{Text}
-use Rattle.sharc_tree.specs.Tree.{Arguments}
-use Rattle.sharc_flat.specs.Flattened.{wait_code, with_words, argument_words, condition_code, first_cell_of}
-use Rattle.sharc_meaning.specs.Waiting.{wait_call, signal_call, broadcast_call}
-use Rattle.std.specs.Str.{bytes_eq}
-use Rattle.std.specs.Prelude.{codes, slice_index_or}
 
 -- what the references of a call leave to spend
 abbrev pub earned : ℕ → ℕ

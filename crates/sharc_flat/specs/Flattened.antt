@@ -1,10 +1,7 @@
 -- The flat code of a program: one clause for each form. The value of an expression goes to the first free register of the bank of its type.
 use Rattle.std.specs.Prelude.{◌≡◌, ℕ, zero, suc, pos, ◌+◌, Bool, false, List, [], ◌∷◌, ◌++◌, length, drop, map, max, Option, Some, None, codes, if◌then◌else◌}
 use Rattle.std.specs.Str.{bytes_eq}
-use Rattle.sharc_tree.specs.declared.ctype.Base.{Base}
-use Rattle.sharc_tree.specs.declared.ctype.Base.TheVariants as base
-use Rattle.sharc_tree.specs.declared.token.Site.{Site}
-use Rattle.sharc_tree.specs.declared.token.Span.{Span}
+use Rattle.sharc_tree.specs.{declared.ctype.Base.Base, declared.token.Site.Site, declared.token.Span.Span}
 use Rattle.sharc_tree.specs.declared.tree.declaration.Declaration.{Declaration}
 use Rattle.sharc_tree.specs.declared.tree.declaration.Identifier.{Identifier}
 use Rattle.sharc_tree.specs.declared.tree.item.StructDefinition.{StructDefinition}
@@ -12,46 +9,35 @@ use Rattle.sharc_tree.specs.declared.tree.expression.Access.{Access}
 use Rattle.sharc_tree.specs.declared.tree.expression.Access.TheVariants.{Dot, Arrow}
 use Rattle.sharc_tree.specs.declared.tree.expression.BinaryOperator.{BinaryOperator}
 use Rattle.sharc_tree.specs.declared.tree.expression.BinaryOperator.TheVariants.{LogicalOr, LogicalAnd, BitOr, BitXor, BitAnd, Equal, NotEqual, Less, Greater, LessOrEqual, GreaterOrEqual, ShiftLeft, ShiftRight, Add, Subtract, Multiply, Divide, Remainder}
-use Rattle.sharc_tree.specs.declared.tree.expression.Constant.{Constant}
-use Rattle.sharc_tree.specs.declared.tree.expression.PlaceCall.{PlaceCall}
+use Rattle.sharc_tree.specs.{declared.tree.expression.Constant.Constant, declared.tree.expression.PlaceCall.PlaceCall}
 use Rattle.sharc_tree.specs.declared.tree.expression.PlaceCall.TheVariants.{Lock, Unlock, Free}
 use Rattle.sharc_tree.specs.declared.tree.expression.UnaryOperator.{UnaryOperator}
 use Rattle.sharc_tree.specs.declared.tree.expression.UnaryOperator.TheVariants.{Negate, Not, Complement, Dereference}
 use Rattle.sharc_tree.specs.declared.tree.expression.ValueCall.{ValueCall}
 use Rattle.sharc_tree.specs.declared.tree.expression.ValueCall.TheVariants.{Join, Print}
 use Rattle.sharc_tree.specs.declared.tree.statement.Jump.{Jump}
-use Rattle.sharc_tree.specs.declared.tree.statement.Jump.TheVariants.{Break, Continue}
-use Rattle.sharc_tree.specs.Spans.{span_of}
+use Rattle.sharc_tree.specs.{declared.tree.statement.Jump.TheVariants.{Break, Continue}, Spans.span_of}
 use Rattle.sharc_tree.specs.Tree.{Expression, identifier, constant, parentheses, call, spawn, on_value, on_place, cast, index, field, unary, binary, Arguments, no_arguments, argument, Right, value, malloc, Simple, assign, does_call, Local, First, nothing, declares, does, Statement, empty, block, declare, simple, jump, return, if_then, if_then_else, while, for, Statements, no_statements, statement, Function}
+use Rattle.sharc_tree.specs.declared.ctype.Base.TheVariants as base
 use Rattle.sharc_names.specs.declared.fault.Named.{Named}
-use Rattle.sharc_names.specs.declared.fault.Named.TheVariants as named
 use Rattle.sharc_names.specs.Kinds.{Kind, object, element_kind, declared_kind, declared_kinds, promoted}
-use Rattle.sharc_code.specs.declared.code.Function.{Function as Row}
-use Rattle.sharc_code.specs.declared.code.GlobalCells.{GlobalCells}
-use Rattle.sharc_code.specs.declared.code.Parameter.{Parameter}
-use Rattle.sharc_code.specs.declared.code.Parameter.TheVariants as parameters
-use Rattle.sharc_code.specs.declared.code.Text.{Text}
-use Rattle.sharc_code.specs.declared.code.Use.TheVariants as uses
-use Rattle.sharc_code.specs.declared.instr.Cell.{Cell}
-use Rattle.sharc_code.specs.declared.instr.Cell.TheVariants as cells
+use Rattle.sharc_names.specs.declared.fault.Named.TheVariants as named
+use Rattle.sharc_code.specs.{declared.code.Function.{Function as Row}, declared.code.GlobalCells.GlobalCells}
+use Rattle.sharc_code.specs.{declared.code.Parameter.Parameter, declared.code.Text.Text, declared.instr.Cell.Cell}
 use Rattle.sharc_code.specs.declared.instr.Operator.{Operator}
+use Rattle.sharc_code.specs.declared.code.Parameter.TheVariants as parameters
+use Rattle.sharc_code.specs.declared.code.Use.TheVariants as uses
+use Rattle.sharc_code.specs.declared.instr.Cell.TheVariants as cells
 use Rattle.sharc_code.specs.declared.instr.Operator.TheVariants as operators
 use Rattle.sharc_code.specs.declared.instr.Register.TheVariants as registers
 use Rattle.sharc_ctype.specs.Expressions.{class_of, binary_result}
-use Rattle.sharc_ctype.specs.Resolved.{named_at, kind_at, structs_in, functions_in}
-use Rattle.sharc_ctype.specs.Transfers.{parameters_named}
-use Rattle.sharc_mode.specs.Cells.{cell_at, pointed}
-use Rattle.sharc_mode.specs.Rows.{written, row_at, declared_row, cast_row}
-use Rattle.sharc_mode.specs.Sharings.{Sharing, private}
-use Rattle.sharc_mode.specs.Moded.{Assignment}
-use Rattle.sharc_meaning.specs.Cells.{element_cells, field_place_named}
-use Rattle.sharc_meaning.specs.Expressions.{number_named}
-use Rattle.sharc_meaning.specs.Reference.{constant_value}
-use Rattle.sharc_meaning.specs.State.{is_reference}
-use Rattle.sharc_flat_form.specs.declared.op.Op.{Op}
-use Rattle.sharc_flat_form.specs.declared.op.Spot.{Spot}
+use Rattle.sharc_ctype.specs.{Resolved.{named_at, kind_at, structs_in, functions_in}, Transfers.parameters_named}
+use Rattle.sharc_mode.specs.{Cells.{cell_at, pointed}, Rows.{written, row_at, declared_row, cast_row}}
+use Rattle.sharc_mode.specs.{Sharings.{Sharing, private}, Moded.Assignment}
+use Rattle.sharc_meaning.specs.{Cells.{element_cells, field_place_named}, Expressions.number_named}
+use Rattle.sharc_meaning.specs.{Reference.constant_value, State.is_reference}
+use Rattle.sharc_flat_form.specs.{declared.op.Op.Op, declared.op.Spot.Spot, Machine.Flat}
 use Rattle.sharc_flat_form.specs.declared.op.Op.TheVariants as op
-use Rattle.sharc_flat_form.specs.Machine.{Flat}
 use Rattle.sharc_flat.specs.Frames.{ints_in, refs_in}
 use Rattle.sharc_flat.specs.Scope.{slot_of, int_count, ref_count, Context, no_text, tokens_in, at_site, at_words, ends_from, leaves}
 use Rattle.sharc_flat.specs.declared.slot.Slot.{Slot}

@@ -1,20 +1,15 @@
 -- Texts where they lie: the same code, with the places of its texts among the bytes of all texts.
 use Rattle.std.specs.Prelude.{◌≡◌, ℕ, ◌+◌, ◌-◌, ◌<◌, ◌≤◌, List, [], ◌∷◌, ◌++◌, length, slice_get, slice_range, Option, Some, None, codes}
-use Rattle.sharc_tree.specs.declared.tree.declaration.Declaration.{Declaration}
-use Rattle.sharc_tree.specs.Texts.{tokens_text}
-use Rattle.sharc_code.specs.declared.code.Function.{Function as Row}
-use Rattle.sharc_code.specs.declared.code.PlaceMode.{PlaceMode}
+use Rattle.sharc_tree.specs.{declared.tree.declaration.Declaration.Declaration, Texts.tokens_text}
+use Rattle.sharc_code.specs.{declared.code.Function.{Function as Row}, declared.code.PlaceMode.PlaceMode}
 use Rattle.sharc_code.specs.declared.code.PlaceMode.TheVariants.{LockedGlobal, LockedSibling, LockedThrough, LockedLoaded}
 use Rattle.sharc_code.specs.declared.code.Text.{Text}
 use Rattle.sharc_names.specs.declared.fault.Named.{Named}
 use Rattle.sharc_names.specs.declared.fault.Named.TheVariants as named
 use Rattle.sharc_ctype.specs.Resolved.{Resolution, named_at, declaration_at}
-use Rattle.sharc_mode.specs.Sharings.{text_at}
-use Rattle.sharc_mode.specs.WellFormed.{fields_behind}
-use Rattle.sharc_flat_form.specs.declared.op.Op.{Op}
+use Rattle.sharc_mode.specs.{Sharings.text_at, WellFormed.fields_behind}
+use Rattle.sharc_flat_form.specs.{declared.op.Op.Op, declared.op.Spot.Spot, Machine.Flat}
 use Rattle.sharc_flat_form.specs.declared.op.Op.TheVariants as op
-use Rattle.sharc_flat_form.specs.declared.op.Spot.{Spot}
-use Rattle.sharc_flat_form.specs.Machine.{Flat}
 
 -- ---- operations with other texts
 abbrev pub told_by : Text → Text → Spot → Spot

@@ -1,20 +1,13 @@
 -- What holds of flattened code.
 use Rattle.std.specs.Prelude.{◌≡◌, ℕ, ◌+◌, ◌*◌, ◌^◌, ◌<◌, List, slice_get, Some}
-use Rattle.sharc_code.specs.Path.{most_ints, most_refs}
-use Rattle.sharc_code.specs.declared.code.GlobalCells.{GlobalCells}
+use Rattle.sharc_code.specs.{Path.{most_ints, most_refs}, declared.code.GlobalCells.GlobalCells}
 use Rattle.sharc_mode.specs.Moded.{Assignment}
 use Rattle.sharc_flat_form.specs.declared.op.Op.TheVariants as op
-use Rattle.sharc_flat_form.specs.declared.op.Spot.{Spot}
-use Rattle.sharc_flat_form.specs.Framed.{IsInGlobal, IsFlat, IsFramed}
-use Rattle.sharc_flat_form.specs.Machine.{Flat}
-use Rattle.sharc_flat.specs.Correct.{ProgramSuits, AsksTheSame}
-use Rattle.sharc_flat.specs.Flattened.{IsFlattened}
-use Rattle.sharc_flat.specs.Flattens.{Flattens}
-use Rattle.sharc_flat.specs.Laid.{Lays}
+use Rattle.sharc_flat_form.specs.{declared.op.Spot.Spot, Framed.{IsInGlobal, IsFlat, IsFramed}, Machine.Flat}
+use Rattle.sharc_flat_form.specs.{declared.flat.Flat.{Flat as FlatCode}, Made.flat_of}
+use Rattle.sharc_flat.specs.{Correct.{ProgramSuits, AsksTheSame}, Flattened.IsFlattened, Flattens.Flattens, Laid.Lays}
 use Rattle.sharc_flat.specs.Tables.{globals_of}
 use Rattle.sharc_ctype.specs.Resolved.{Resolution}
-use Rattle.sharc_flat_form.specs.declared.flat.Flat.{Flat as FlatCode}
-use Rattle.sharc_flat_form.specs.Made.{flat_of}
 
 abbrev pub FlattenedAsksTheSame : Type 0
 FlattenedAsksTheSame = (m : Assignment) → ProgramSuits m → (flat : Flat) → IsFlattened m flat → AsksTheSame m flat

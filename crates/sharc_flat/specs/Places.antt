@@ -2,39 +2,30 @@
 -- of a cell that is found by an index in the first free integer register. Where the mutex of an element is read behind a pointer, the number of that pointer's cell
 -- is in the next one.
 use Rattle.std.specs.Prelude.{ℕ, ◌+◌, Bool, true, false, ◌&&◌, ◌||◌, List, [], ◌∷◌, ◌++◌, Option, Some, None, if◌then◌else◌}
-use Rattle.sharc_tree.specs.declared.ctype.Base.{Base}
-use Rattle.sharc_tree.specs.declared.ctype.Base.TheVariants as base
-use Rattle.sharc_tree.specs.declared.token.Site.{Site}
-use Rattle.sharc_tree.specs.declared.token.Span.{Span}
+use Rattle.sharc_tree.specs.{declared.ctype.Base.Base, declared.token.Site.Site, declared.token.Span.Span}
 use Rattle.sharc_tree.specs.declared.tree.expression.Access.TheVariants.{Dot, Arrow}
 use Rattle.sharc_tree.specs.declared.tree.expression.Constant.{Constant}
 use Rattle.sharc_tree.specs.declared.tree.expression.Constant.TheVariants.{Number}
-use Rattle.sharc_tree.specs.declared.tree.expression.UnaryOperator.TheVariants.{Dereference}
-use Rattle.sharc_tree.specs.Spans.{span_of}
+use Rattle.sharc_tree.specs.{declared.tree.expression.UnaryOperator.TheVariants.Dereference, Spans.span_of}
 use Rattle.sharc_tree.specs.Tree.{Expression, identifier, constant, parentheses, index, field, unary}
+use Rattle.sharc_tree.specs.declared.ctype.Base.TheVariants as base
 use Rattle.sharc_names.specs.declared.fault.Named.{Named}
-use Rattle.sharc_names.specs.declared.fault.Named.TheVariants as named
 use Rattle.sharc_names.specs.Kinds.{Kind, object, array, null, function, is_array, is_integer, element_kind}
-use Rattle.sharc_code.specs.declared.code.GlobalCells.{GlobalCells}
-use Rattle.sharc_code.specs.declared.code.PlaceMode.{PlaceMode}
+use Rattle.sharc_names.specs.declared.fault.Named.TheVariants as named
+use Rattle.sharc_code.specs.{declared.code.GlobalCells.GlobalCells, declared.code.PlaceMode.PlaceMode}
 use Rattle.sharc_code.specs.declared.code.PlaceMode.TheVariants.{Private, Readonly, Racy, Dynamic, LockedGlobal, LockedSibling, LockedThrough, LockedLoaded}
-use Rattle.sharc_code.specs.declared.code.Text.{Text}
-use Rattle.sharc_code.specs.declared.code.Use.{Use}
-use Rattle.sharc_code.specs.declared.code.Use.TheVariants as uses
-use Rattle.sharc_code.specs.declared.instr.Cell.{Cell}
-use Rattle.sharc_code.specs.declared.instr.Cell.TheVariants as cells
-use Rattle.sharc_code.specs.declared.instr.Register.{Register}
-use Rattle.sharc_code.specs.declared.instr.Register.TheVariants.{Int, Reference}
+use Rattle.sharc_code.specs.{declared.code.Text.Text, declared.code.Use.Use, declared.instr.Cell.Cell}
+use Rattle.sharc_code.specs.{declared.instr.Register.Register, declared.instr.Register.TheVariants.{Int, Reference}}
 use Rattle.sharc_code.specs.declared.instr.Width.{Width}
+use Rattle.sharc_code.specs.declared.code.Use.TheVariants as uses
+use Rattle.sharc_code.specs.declared.instr.Cell.TheVariants as cells
 use Rattle.sharc_code.specs.declared.instr.Width.TheVariants as widths
 use Rattle.sharc_ctype.specs.Resolved.{Resolution, named_at, kind_at, global_at}
 use Rattle.sharc_mode.specs.Cells.{is_behind_pointer}
 use Rattle.sharc_mode.specs.Sharings.{Lock, Sharing, private, readonly, locked, racy, dynamic}
 use Rattle.sharc_meaning.specs.Cells.{field_place as place_of_field, field_place_named, field_place_behind, global_elements, element_cells}
-use Rattle.sharc_flat_form.specs.declared.op.Op.{Op}
-use Rattle.sharc_flat_form.specs.declared.op.Spot.{Spot}
+use Rattle.sharc_flat_form.specs.{declared.op.Op.Op, declared.op.Spot.Spot, Machine.first_cell}
 use Rattle.sharc_flat_form.specs.declared.op.Op.TheVariants as op
-use Rattle.sharc_flat_form.specs.Machine.{first_cell}
 use Rattle.sharc_flat.specs.declared.slot.Lvalue.{Lvalue}
 use Rattle.sharc_flat.specs.Scope.{Context, register_of, number_in, no_text, tokens_in, no_cell, at_site, at_words}
 

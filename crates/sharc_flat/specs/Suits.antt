@@ -1,8 +1,7 @@
 -- What the theorem asks of a program: what its parts name is in scope where they are, and their types are as C11 has them.
 use Rattle.std.specs.Prelude.{◌≡◌, ℕ, Bool, true, false, List, [], ◌∷◌, ◌++◌, Option, Some, None, zero, suc, codes, if◌then◌else◌}
 use Rattle.std.specs.Str.{bytes_eq}
-use Rattle.sharc_tree.specs.declared.tree.declaration.Declaration.{Declaration}
-use Rattle.sharc_tree.specs.declared.tree.expression.Access.{Access}
+use Rattle.sharc_tree.specs.{declared.tree.declaration.Declaration.Declaration, declared.tree.expression.Access.Access}
 use Rattle.sharc_tree.specs.declared.tree.expression.Access.TheVariants.{Dot, Arrow}
 use Rattle.sharc_tree.specs.declared.tree.expression.BinaryOperator.{BinaryOperator}
 use Rattle.sharc_tree.specs.declared.tree.expression.BinaryOperator.TheVariants.{LogicalOr, LogicalAnd, Equal, NotEqual}
@@ -11,16 +10,13 @@ use Rattle.sharc_tree.specs.declared.tree.expression.PlaceCall.TheVariants.{Lock
 use Rattle.sharc_tree.specs.declared.tree.expression.UnaryOperator.TheVariants.{Negate, Not, Complement, Dereference}
 use Rattle.sharc_tree.specs.Tree.{Expression, identifier, constant, parentheses, call, spawn, on_value, on_place, cast, index, field, unary, binary, Arguments, no_arguments, argument, Right, value, malloc, Simple, assign, does_call, First, nothing, declares, does, Statement, empty, block, declare, simple, jump, return, if_then, if_then_else, while, for, Statements, no_statements, statement, Function}
 use Rattle.sharc_names.specs.declared.fault.Named.{Named}
-use Rattle.sharc_names.specs.declared.fault.Named.TheVariants as named
 use Rattle.sharc_names.specs.Kinds.{Kind, is_integer, is_pointer, is_array, declared_kind, declared_kinds}
-use Rattle.sharc_ctype.specs.Resolved.{Resolution, named_at, kind_at, function_at}
-use Rattle.sharc_ctype.specs.Transfers.{parameters_named}
-use Rattle.sharc_mode.specs.Cells.{cell_at, pointed}
-use Rattle.sharc_mode.specs.Rows.{written, row_at, declared_row, cast_row}
+use Rattle.sharc_names.specs.declared.fault.Named.TheVariants as named
+use Rattle.sharc_ctype.specs.{Resolved.{Resolution, named_at, kind_at, function_at}, Transfers.parameters_named}
+use Rattle.sharc_mode.specs.{Cells.{cell_at, pointed}, Rows.{written, row_at, declared_row, cast_row}}
 use Rattle.sharc_mode.specs.Sharings.{Sharing, locked}
 use Rattle.sharc_meaning.specs.State.{is_reference}
-use Rattle.sharc_flat.specs.Scope.{slot_of, slot_kind, Context}
-use Rattle.sharc_flat.specs.declared.slot.Slot.{Slot}
+use Rattle.sharc_flat.specs.{Scope.{slot_of, slot_kind, Context}, declared.slot.Slot.Slot}
 use Rattle.sharc_flat.specs.Places.{Target, variable, in_global, target, global_of, guard_field}
 
 -- the variables of a lock path are in scope

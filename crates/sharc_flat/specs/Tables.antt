@@ -4,13 +4,9 @@ use Rattle.sharc_tree.specs.declared.tree.declaration.Declaration.{Declaration}
 use Rattle.sharc_tree.specs.declared.tree.item.GlobalDefinition.{GlobalDefinition}
 use Rattle.sharc_tree.specs.declared.tree.item.StructDefinition.{StructDefinition}
 use Rattle.sharc_names.specs.Kinds.{is_pointer, declared_kind}
-use Rattle.sharc_code.specs.declared.code.GlobalCells.{GlobalCells}
-use Rattle.sharc_code.specs.declared.code.Layout.{Layout}
-use Rattle.sharc_code.specs.Arithmetic.{word_of}
-use Rattle.sharc_ctype.specs.Globals.{elements_of}
-use Rattle.sharc_ctype.specs.Resolved.{Resolution, globals_in, structs_in}
-use Rattle.sharc_meaning.specs.Cells.{element_cells}
-use Rattle.sharc_meaning.specs.Store.{form_value}
+use Rattle.sharc_code.specs.{declared.code.GlobalCells.GlobalCells, declared.code.Layout.Layout, Arithmetic.word_of}
+use Rattle.sharc_ctype.specs.{Globals.elements_of, Resolved.{Resolution, globals_in, structs_in}}
+use Rattle.sharc_meaning.specs.{Cells.element_cells, Store.form_value}
 
 -- ---- globals
 abbrev pub cells_in : Resolution → GlobalDefinition → ℕ

@@ -1,20 +1,14 @@
 -- Flat code whose lines stay within the frames of their functions and lead to lines of them.
 use Rattle.std.specs.Prelude.{Bool, ℕ, ◌+◌, ◌*◌, ◌^◌, ◌≡◌, ◌<◌, ◌≤◌, List, length, slice_get, slice_index_or, Some}
-use Rattle.sharc_code.specs.Path.{most_ints, most_refs}
-use Rattle.sharc_code.specs.Says.{no_global}
-use Rattle.sharc_code.specs.declared.code.Function.{Function}
-use Rattle.sharc_code.specs.declared.code.GlobalCells.{GlobalCells}
-use Rattle.sharc_code.specs.declared.code.Parameter.{Parameter}
-use Rattle.sharc_code.specs.declared.code.Parameter.TheVariants as parameters
-use Rattle.sharc_code.specs.declared.instr.Cell.{Cell}
-use Rattle.sharc_code.specs.declared.instr.Cell.TheVariants as cells
-use Rattle.sharc_code.specs.declared.instr.Register.{Register}
-use Rattle.sharc_code.specs.declared.instr.Register.TheVariants as registers
-use Rattle.sharc_code.specs.declared.instr.Width.{Width}
+use Rattle.sharc_code.specs.{Path.{most_ints, most_refs}, Says.no_global, declared.code.Function.Function}
+use Rattle.sharc_code.specs.{declared.code.GlobalCells.GlobalCells, declared.code.Parameter.Parameter}
+use Rattle.sharc_code.specs.{declared.instr.Cell.Cell, declared.instr.Register.Register, declared.instr.Width.Width}
 use Rattle.sharc_code.specs.declared.instr.Width.TheVariants.{Char, Int, Long}
-use Rattle.sharc_flat_form.specs.declared.op.Op.{Op}
+use Rattle.sharc_code.specs.declared.code.Parameter.TheVariants as parameters
+use Rattle.sharc_code.specs.declared.instr.Cell.TheVariants as cells
+use Rattle.sharc_code.specs.declared.instr.Register.TheVariants as registers
+use Rattle.sharc_flat_form.specs.{declared.op.Op.Op, Machine.{Flat, function_of}}
 use Rattle.sharc_flat_form.specs.declared.op.Op.TheVariants as op
-use Rattle.sharc_flat_form.specs.Machine.{Flat, function_of}
 
 abbrev pub BaseWithin : ℕ → Cell → Type 0
 BaseWithin refs (cells.Global g place) = Unit {0}

@@ -1,30 +1,19 @@
 -- Each expression of a typed program suits.
-use Rattle.std.proofs.Common.{◌≡◌, inl, inr, ℕ, Bool, true, false, List, refl, ap, sym, ◌∙◌, subst, Option, Some, None, if◌then◌else◌}
-use Rattle.std.proofs.lemmas.Bool.{false≢true}
+use Rattle.std.proofs.{Common.{◌≡◌, inl, inr, ℕ, Bool, true, false, List, refl, ap, sym, ◌∙◌, subst, Option, Some, None, if◌then◌else◌}, lemmas.Bool.false≢true}
 use Rattle.std.specs.List.{AllByRecursion}
-use Rattle.sharc_tree.specs.declared.tree.declaration.Identifier.{Identifier}
-use Rattle.sharc_tree.specs.declared.tree.expression.Constant.{Constant}
+use Rattle.sharc_tree.specs.{declared.tree.declaration.Identifier.Identifier, declared.tree.expression.Constant.Constant, declared.token.NumberType.NumberType, Forms.is_lvalue, Measures.expressions, Tree.{Expression, Function}}
 use Rattle.sharc_tree.specs.declared.tree.expression.Constant.TheVariants as constants
-use Rattle.sharc_tree.specs.declared.token.NumberType.{NumberType}
 use Rattle.sharc_tree.specs.declared.token.NumberType.TheVariants as width
-use Rattle.sharc_tree.specs.Forms.{is_lvalue}
-use Rattle.sharc_tree.specs.Measures.{expressions}
-use Rattle.sharc_tree.specs.Tree.{Expression, Function}
-use Rattle.sharc_names.specs.Kinds.{Kind, object, array, is_array, is_integer, is_pointer, declared_kind, declared_kinds}
+use Rattle.sharc_names.specs.Kinds.{Kind, array, is_array, is_integer, is_pointer, declared_kind}
 use Rattle.sharc_names.specs.Kinds as kinds
-use Rattle.sharc_ctype.specs.Expressions.{constant_kind, number_kind}
-use Rattle.sharc_ctype.specs.Resolved.{Resolution, kind_at, function_at, variable_kind}
-use Rattle.sharc_ctype.specs.Statements.{is_aggregate}
-use Rattle.sharc_mode.specs.Moded.{Assignment}
-use Rattle.sharc_mode.specs.Sharings.{Sharing}
+use Rattle.sharc_ctype.specs.{Expressions.{constant_kind, number_kind}, Resolved.{Resolution, kind_at, function_at, variable_kind}, Statements.is_aggregate}
+use Rattle.sharc_mode.specs.{Moded.Assignment, Sharings.Sharing}
 use Rattle.sharc_meaning.specs.State.{is_reference}
-use Rattle.sharc_ctype_laws.specs.Constraints.{HasType, Callee, of_program, of_conditions, IsInteger, IsPointer, Common, both_shorter, left_long, right_long, a_variable, a_global, a_function, a_constant, in_parentheses, element_of_pointer, element_of_array, a_call, a_field, a_field_behind, negated, complemented, denied, pointed_to, arithmetic, shifted, related, equated, joined, spawned, printed_or_joined, locked, unlocked, freed, a_cast}
-use Rattle.sharc_ctype_laws.specs.Rules.{IsHeld}
-use Rattle.sharc_flat.specs.Places.{Target, variable, in_global, in_global_at, in_object, in_object_at, target, named_target, own_field, global_of}
-use Rattle.sharc_flat.specs.Scope.{Context, slot_kind}
-use Rattle.sharc_flat.specs.Suits.{TakeSuits, LeftSuits, PathStands, is_cell}
+use Rattle.sharc_ctype_laws.specs.{Constraints.{HasType, Callee, of_program, of_conditions, IsInteger, IsPointer, Common, both_shorter, left_long, right_long, a_variable, a_global, a_function, a_constant, in_parentheses, element_of_pointer, element_of_array, a_call, a_field, a_field_behind, negated, complemented, denied, pointed_to, arithmetic, shifted, related, equated, joined, spawned, printed_or_joined, locked, unlocked, freed, a_cast}, Rules.IsHeld}
+use Rattle.sharc_flat.specs.{Places.{Target, variable, in_global, in_global_at, in_object, in_object_at, target, named_target, own_field, global_of}, Scope.{Context, slot_kind}, Suits.{TakeSuits, LeftSuits, PathStands, is_cell}}
 use Rattle.sharc_flat_laws.specs.Stands.{AtPlace, GlobalsUnguarded}
 use Rattle.sharc_flat_laws.proofs.Sorts.{integer_yes, pointer_reference, pointer_plain, declared_reference, held_same}
+use Rattle.sharc_lemmas.proofs.Bools.{no}
 
 -- what is known of the program
 pub record Facts (m : Assignment) : Type 0 where
@@ -58,9 +47,6 @@ result_plain m w i _ _ (of_conditions c is spelled) = refl
 either_cell : (b : Bool) (g n k : ℕ) → is_cell (if b then in_global_at g n else in_object_at k) ≡ true
 either_cell true g n k = refl
 either_cell false g n k = refl
-
-no : (A : Type 0) (b : Bool) → b ≡ false → b ≡ true → A
-no A b f t = absurd (false≢true (sym f ∙ t))
 
 pub whole_cell : (c : Context) → Facts c.program → (e : Expression) (k : Kind) → HasType c.program.typed e k → is_aggregate k ≡ true → (f : Option ℕ) → Stand c (expressions e) → is_cell (target c.program.typed f e) ≡ true
 whole_cell c w _ _ (a_variable {token = token} is at spelled) h f all = no _ _ (ap (λ o. is_aggregate (variable_kind o)) (sym at) ∙ (all.0.name token is).held) h
@@ -181,7 +167,7 @@ target_fits c w _ _ (unlocked m a) l n all = absurd (false≢true l)
 target_fits c w _ _ (freed m a p) l n all = absurd (false≢true l)
 target_fits c w _ _ (a_cast m a p) l n all = absurd (false≢true l)
 
-no_function_pointer : (k : Kind) → IsPointer k → k ≡ kinds.function → ⊥
+pub no_function_pointer : (k : Kind) → IsPointer k → k ≡ kinds.function → ⊥
 no_function_pointer k p is = false≢true (ap is_reference (sym is) ∙ pointer_reference k p)
 
 no_function_integer : (k : Kind) → IsInteger k → k ≡ kinds.function → ⊥

@@ -1,31 +1,11 @@
 -- The lock paths of a well-moded program are of the allowed forms.
 use Rattle.std.proofs.Common.{◌≡◌, ℕ, ◌+◌, List, [], ◌∷◌, ◌++◌, refl, sym, Option, Some, None}
 use Rattle.std.specs.List.{AllByRecursion, flat_map}
-use Rattle.sharc_tree.specs.declared.ctype.Path.{Path}
-use Rattle.sharc_tree.specs.declared.token.Span.{Span}
-use Rattle.sharc_ctype.specs.declared.entity.Entity.{Entity}
-use Rattle.sharc_ctype.specs.declared.entity.Numbered.{Numbered}
-use Rattle.sharc_ctype.specs.Entities.{entities_in, numbered, numbered_from, positions_of}
-use Rattle.sharc_ctype.specs.Resolved.{Resolution, globals_in, functions_in}
-use Rattle.sharc_mode.specs.declared.finding.Finding.{Finding}
-use Rattle.sharc_mode.specs.Expressions.{items_notes}
-use Rattle.sharc_mode.specs.Moded.{Assignment}
-use Rattle.sharc_mode.specs.Notes.{type_notes, path_notes, errors_by, private_notes, mode_notes, private_field_notes, names_in_level}
-use Rattle.sharc_mode.specs.WellFormed.{first_unfit_path, first_unfit_mode, place_of}
-use Rattle.sharc_mode.specs.WellModed.{WellModed, spawned_notes, touched_notes, notes_about}
+use Rattle.sharc_tree.specs.{declared.ctype.Path.Path, declared.token.Span.Span}
+use Rattle.sharc_ctype.specs.{declared.entity.Entity.Entity, declared.entity.Numbered.Numbered, Entities.{entities_in, numbered, numbered_from, positions_of}, Resolved.{Resolution, globals_in, functions_in}}
+use Rattle.sharc_mode.specs.{declared.finding.Finding.Finding, Expressions.items_notes, Moded.Assignment, Notes.{type_notes, path_notes, errors_by, private_notes, mode_notes, private_field_notes, names_in_level}, WellFormed.{first_unfit_path, first_unfit_mode, place_of}, WellModed.{WellModed, spawned_notes, touched_notes, notes_about}}
 use Rattle.sharc_flat_laws.specs.Stands.{IsFit}
-use Rattle.sharc_flat_laws.proofs.AllLemmas.{front, back}
-
-no_head : {A : Type 0} (x : A) (rest : List A) → x ∷ rest ≡ [] → ⊥
-no_head x rest h = cc
-
-parts : {A : Type 0} (a b : List A) → a ++ b ≡ [] → (a ≡ []) × (b ≡ [])
-parts [] b h = (refl, h)
-parts (x ∷ rest) b h = absurd (no_head x (rest ++ b) h)
-
-none_of : {A B : Type 0} (f : A → List B) (xs : List A) → flat_map f xs ≡ [] → AllByRecursion (λ x. f x ≡ []) xs
-none_of f [] h = tt
-none_of f (x ∷ xs) h = let p = parts (f x) (flat_map f xs) h in (p.0, none_of f xs p.1)
+use Rattle.sharc_lemmas.proofs.Lists.{front, back, no_head, none_of}
 
 from_all : {A B : Type 0} (P : B → Type 0) (f : A → List B) (xs : List A) → AllByRecursion P (flat_map f xs) → AllByRecursion (λ x. AllByRecursion P (f x)) xs
 from_all P f [] h = tt

@@ -1,33 +1,18 @@
 -- In a typed program with its least assignment each lock path names a pointer in scope where it is used.
 use Rattle.std.proofs.Common.{inr, ℕ, Bool, true, false, cond, List, [], ◌∷◌, ◌++◌, length, map, Option, Some, None}
 use Rattle.std.specs.List.{AllByRecursion}
-use Rattle.sharc_tree.specs.declared.tree.declaration.Declaration.{Declaration}
-use Rattle.sharc_tree.specs.Low.{LowItems}
-use Rattle.sharc_tree.specs.Measures.{expressions, in_option, in_right, in_simple, in_local, in_first, in_statement, in_statements, in_function}
-use Rattle.sharc_tree.specs.Tree.{Expression, Right, value, malloc, Simple, assign, does_call, Local, First, nothing, declares, does, Statement, Statements, no_statements, statement, Function, Item, structure, global, function}
+use Rattle.sharc_tree.specs.{declared.tree.declaration.Declaration.Declaration, Low.LowItems, Measures.{expressions, in_option, in_right, in_simple, in_local, in_first, in_statement, in_statements, in_function}, Tree.{Expression, Right, value, malloc, Simple, assign, does_call, Local, First, nothing, declares, does, Statement, Statements, no_statements, statement, Function, Item, structure, global, function}}
 use Rattle.sharc_tree.specs.Tree as tree
 use Rattle.sharc_names.specs.declared.fault.Named.TheVariants as named
-use Rattle.sharc_names.specs.declared.scope.Scope.{Scope}
+use Rattle.sharc_names.specs.{declared.scope.Scope.Scope, Names.Entry}
 use Rattle.sharc_names.specs.declared.types.Role.TheVariants as role
-use Rattle.sharc_names.specs.Names.{Entry, Meaning}
 use Rattle.sharc_names.specs.Names as meaning
-use Rattle.sharc_ctype.specs.declared.entity.Entity.{Entity}
-use Rattle.sharc_ctype.specs.Entities.{declared as entity_declared, casts, local_entities, first_entities, head_entities, statement_entities, statements_entities, result_of, function_entities, entities_in}
-use Rattle.sharc_ctype.specs.Items.{with_parameters, in_body, file_scope}
-use Rattle.sharc_ctype.specs.Resolved.{Resolution, globals_in, functions_in, structs_in}
-use Rattle.sharc_ctype.specs.Statements.{Around, opened, looping, with_names, is_here, declared, behind_first, in_head, after}
-use Rattle.sharc_mode.specs.Moded.{Assignment}
-use Rattle.sharc_mode.specs.Rows.{written, declared_row}
-use Rattle.sharc_ctype_laws.specs.Declared.{IsItself}
-use Rattle.sharc_ctype_laws.specs.Found.{IsFound, EachTypeFound}
-use Rattle.sharc_ctype_laws.specs.Laws.{EachNamesItself, EachNamesFound, EachPathFound, MeetsConstraints, NamesFound}
-use Rattle.sharc_ctype_laws.specs.Paths.{IsVariableIn, TypeStands, PathsAt, FirstStands, LocalsStand, AllLocalsStand, around_in, BodyStands, file_types}
-use Rattle.sharc_ctype_laws.specs.Places.{Placing, at, places_in_local, places_in_first, places_in, places_in_all, places_of, places_of_all}
+use Rattle.sharc_ctype.specs.{declared.entity.Entity.Entity, Entities.{declared as entity_declared, casts, local_entities, first_entities, head_entities, statement_entities, statements_entities, result_of, function_entities, entities_in}, Items.{with_parameters, in_body, file_scope}, Resolved.{Resolution, globals_in, functions_in, structs_in}, Statements.{Around, opened, looping, with_names, is_here, declared, behind_first, in_head, after}}
+use Rattle.sharc_mode.specs.{Moded.Assignment, Rows.{written, declared_row}}
+use Rattle.sharc_ctype_laws.specs.{Declared.IsItself, Found.{IsFound, EachTypeFound}, Laws.{EachNamesItself, EachNamesFound, EachPathFound, MeetsConstraints, NamesFound}, Paths.{IsVariableIn, TypeStands, PathsAt, FirstStands, LocalsStand, AllLocalsStand, around_in, BodyStands, file_types}, Places.{Placing, at, places_in_local, places_in_first, places_in, places_in_all, places_of, places_of_all}}
 use Rattle.sharc_flat_laws.specs.Stands.{LocksAt, LocksOf, FirstLocks, LocalLocks, AllLocalLocks, LocksAreFound}
-use Rattle.sharc_flat_laws.proofs.AllLemmas.{both, front, back, together}
-use Rattle.sharc_flat_laws.proofs.FileNames.{in_file}
-use Rattle.sharc_flat_laws.proofs.Pointing.{type_good, pointed_good, reads_written, has_entity, good_row}
-use Rattle.sharc_flat_laws.proofs.Reading.{wider_type, MeaningKnown, EntriesKnown, FileType, IsField, IsGlobal, FileKnown, Seen, Good, all_good, locks_at, CastFound, casts_found, PlaceKnown, IsTyped, seen_by}
+use Rattle.sharc_flat_laws.proofs.{FileNames.in_file, Pointing.{type_good, pointed_good, reads_written, has_entity, good_row}, Reading.{wider_type, MeaningKnown, EntriesKnown, FileType, IsField, IsGlobal, FileKnown, Seen, Good, all_good, locks_at, CastFound, casts_found, PlaceKnown, IsTyped, seen_by}}
+use Rattle.sharc_lemmas.proofs.Lists.{front, back, both, together}
 
 -- ---- the scope grows
 

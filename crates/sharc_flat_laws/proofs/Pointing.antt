@@ -1,36 +1,16 @@
 -- The modes of what has a type: what their lock paths name is in scope where that of the type's own paths is.
 use Rattle.std.proofs.Common.{◌≡◌, ℕ, zero, suc, ◌+◌, ◌-◌, ◌<◌, ◌==◌, Bool, true, false, cond, List, [], ◌∷◌, ◌++◌, length, map, take, drop, refl, ap, sym, ◌∙◌, subst, arith, lt-ltb, Option, Some, None}
-use Rattle.std.specs.Prelude.{slice_index_or}
-use Rattle.std.specs.List.{AllByRecursion, find}
-use Rattle.std.specs.Option.{option_or}
-use Rattle.sharc_tree.specs.declared.ctype.Base.{Base}
-use Rattle.sharc_tree.specs.declared.ctype.Path.TheVariants.{One, Through}
-use Rattle.sharc_tree.specs.declared.ctype.Mode.{Mode}
-use Rattle.sharc_tree.specs.declared.ctype.Mode.TheVariants.{Private, Readonly, Locked, Racy, Dynamic}
-use Rattle.sharc_tree.specs.declared.tree.declaration.WrittenType.{WrittenType}
-use Rattle.sharc_names.specs.declared.fault.Named.{Named}
+use Rattle.std.specs.{Prelude.slice_index_or, List.{AllByRecursion, find}, Option.option_or}
+use Rattle.sharc_tree.specs.{declared.ctype.Base.Base, declared.ctype.Path.TheVariants.{One, Through}, declared.ctype.Mode.Mode, declared.ctype.Mode.TheVariants.{Private, Readonly, Locked, Racy, Dynamic}, declared.tree.declaration.WrittenType.WrittenType}
+use Rattle.sharc_names.specs.{declared.fault.Named.Named, declared.types.Role.Role, Kinds.{Kind, is_pointer}, Names.Entry}
 use Rattle.sharc_names.specs.declared.fault.Named.TheVariants as named
-use Rattle.sharc_names.specs.declared.types.Role.{Role}
 use Rattle.sharc_names.specs.declared.types.Role.TheVariants as role
-use Rattle.sharc_names.specs.Kinds.{Kind, is_pointer}
-use Rattle.sharc_names.specs.Names.{Entry}
-use Rattle.sharc_ctype.specs.declared.entity.Entity.{Entity}
-use Rattle.sharc_ctype.specs.declared.entity.Numbered.{Numbered}
-use Rattle.sharc_ctype.specs.Entities.{entities_in, entity_at, is_told_by, numbered_from, positions_of, written_modes, first_depth}
-use Rattle.sharc_ctype.specs.Resolved.{Resolution, named_at, declaration_at, variable_kind}
-use Rattle.sharc_ctype_laws.specs.Found.{IsFound}
-use Rattle.sharc_ctype_laws.specs.Paths.{IsAmong, LevelStands, TypeStands}
-use Rattle.sharc_ctype_laws.specs.WrittenTypes.{FirstNames, a_field, a_variable, a_global, a_function, a_known_call, IsNamedLevel, IsNamedType}
-use Rattle.sharc_graph.specs.declared.graph.Finding.{Finding}
-use Rattle.sharc_graph.specs.declared.graph.Finding.TheVariants.{Apart, Source, Behind}
-use Rattle.sharc_graph.specs.Findings.{finding_at}
-use Rattle.sharc_mode.specs.Cells.{first_of, pointed}
-use Rattle.sharc_mode.specs.Flows.{IsLeastAssignment, mode_found}
-use Rattle.sharc_mode.specs.Moded.{Assignment, mode_at}
-use Rattle.sharc_mode.specs.Rows.{Reading, written, through, Targets, deeper, targets_from, entity_row, read}
-use Rattle.sharc_mode.specs.Settled.{is_mutex, settled, field_target, otherwise_of, settled_modes, settled_in, settled_at}
-use Rattle.sharc_mode.specs.Sharings.{Sharing, private, readonly, locked, racy, dynamic, sharing_of, text_at, is_sibling_lock}
+use Rattle.sharc_ctype.specs.{declared.entity.Entity.Entity, declared.entity.Numbered.Numbered, Entities.{entities_in, entity_at, is_told_by, numbered_from, positions_of, written_modes, first_depth}, Resolved.{Resolution, named_at, declaration_at, variable_kind}}
+use Rattle.sharc_ctype_laws.specs.{Found.IsFound, Paths.{IsAmong, LevelStands, TypeStands}, WrittenTypes.{FirstNames, a_field, a_variable, a_global, a_function, a_known_call, IsNamedLevel, IsNamedType}}
+use Rattle.sharc_graph.specs.{declared.graph.Finding.Finding, declared.graph.Finding.TheVariants.{Apart, Source, Behind}, Findings.finding_at}
+use Rattle.sharc_mode.specs.{Cells.{first_of, pointed}, Flows.{IsLeastAssignment, mode_found}, Moded.{Assignment, mode_at}, Rows.{Reading, written, through, Targets, deeper, targets_from, entity_row, read}, Settled.{is_mutex, settled, field_target, otherwise_of, settled_modes, settled_in, settled_at}, Sharings.{Sharing, private, readonly, locked, racy, dynamic, sharing_of, text_at, is_sibling_lock}}
 use Rattle.sharc_flat_laws.specs.Stands.{PathNamedIn, PathIn}
+use Rattle.sharc_lemmas.proofs.Options.{same_some, none_some}
 
 -- ---- levels
 abbrev pub LevelGood : Resolution → List Entry → Option Mode → Type 0
@@ -162,12 +142,6 @@ pub record Position (list : List Entity) (s : ℕ) (n : Numbered) : Type 0 where
   pub skip : ℕ
   pub first : n.first ≡ s + skip
   pub levels : (k : ℕ) → k < positions_of n.entity → slice_index_or (settled_in list) (skip + k) (Some Private) ≡ slice_index_or (settled_modes n.entity) k (Some Private)
-
-none_some : {A : Type 0} (x : A) → None ≡ Some x → ⊥
-none_some x h = cc
-
-same_some : {A : Type 0} (x y : A) → Some x ≡ Some y → x ≡ y
-same_some x y h = cc
 
 pub position_of : (test : Numbered → Bool) (list : List Entity) (s : ℕ) (n : Numbered) → find test (numbered_from s list) ≡ Some n → Position list s n
 position_of test [] s n h = absurd (none_some n h)

@@ -1,51 +1,20 @@
 -- Each expression whose names are in scope and whose types hold: the lock paths of its cell and of what it points to name pointers in scope.
-use Rattle.std.proofs.Common.{◌≡◌, inl, inr, ℕ, zero, suc, ◌+◌, ◌<◌, Bool, true, false, cond, List, [], ◌∷◌, length, slice_get, refl, ap, sym, ◌∙◌, subst, arith, lt-ltb, Option, Some, None, is_some, bytes_eq}
-use Rattle.std.proofs.lemmas.Bool.{false≢true}
+use Rattle.std.proofs.{Common.{◌≡◌, inl, inr, ℕ, zero, suc, ◌+◌, ◌<◌, Bool, true, false, cond, List, [], ◌∷◌, length, slice_get, refl, ap, sym, ◌∙◌, subst, arith, lt-ltb, Option, Some, None, is_some, bytes_eq}, lemmas.Bool.false≢true}
 use Rattle.std.specs.List.{AllByRecursion}
-use Rattle.sharc_tree.specs.declared.ctype.Mode.{Mode}
-use Rattle.sharc_tree.specs.declared.ctype.Mode.TheVariants.{Private, Readonly, Locked, Racy, Dynamic}
-use Rattle.sharc_tree.specs.declared.ctype.Path.TheVariants.{One, Through}
-use Rattle.sharc_tree.specs.declared.token.Span.{Span}
-use Rattle.sharc_tree.specs.declared.tree.declaration.Declaration.{Declaration}
-use Rattle.sharc_tree.specs.declared.tree.declaration.Identifier.{Identifier}
-use Rattle.sharc_tree.specs.declared.tree.declaration.WrittenType.{WrittenType}
-use Rattle.sharc_tree.specs.declared.tree.expression.Access.{Access}
-use Rattle.sharc_tree.specs.declared.tree.expression.Access.TheVariants.{Dot, Arrow}
-use Rattle.sharc_tree.specs.declared.tree.expression.Constant.{Constant}
+use Rattle.sharc_tree.specs.{declared.ctype.Mode.Mode, declared.ctype.Mode.TheVariants.{Private, Readonly, Locked, Racy, Dynamic}, declared.ctype.Path.TheVariants.{One, Through}, declared.token.Span.Span, declared.tree.declaration.Declaration.Declaration, declared.tree.declaration.Identifier.Identifier, declared.tree.declaration.WrittenType.WrittenType, declared.tree.expression.Access.Access, declared.tree.expression.Access.TheVariants.{Dot, Arrow}, declared.tree.expression.Constant.Constant, declared.tree.expression.UnaryOperator.UnaryOperator, declared.tree.expression.UnaryOperator.TheVariants.{Negate, Not, Complement, Dereference}, declared.tree.item.GlobalDefinition.GlobalDefinition, declared.tree.item.StructDefinition.StructDefinition, Measures.{expressions, in_arguments}, Tree.{Expression, field, identifier, Arguments, no_arguments, argument, Function}}
 use Rattle.sharc_tree.specs.declared.tree.expression.Constant.TheVariants as constants
-use Rattle.sharc_tree.specs.declared.tree.expression.UnaryOperator.{UnaryOperator}
-use Rattle.sharc_tree.specs.declared.tree.expression.UnaryOperator.TheVariants.{Negate, Not, Complement, Dereference}
-use Rattle.sharc_tree.specs.declared.tree.item.GlobalDefinition.{GlobalDefinition}
-use Rattle.sharc_tree.specs.declared.tree.item.StructDefinition.{StructDefinition}
-use Rattle.sharc_tree.specs.Measures.{expressions, in_arguments}
-use Rattle.sharc_tree.specs.Tree.{Expression, field, identifier, Arguments, no_arguments, argument, Function}
 use Rattle.sharc_tree.specs.Tree as tree
-use Rattle.sharc_names.specs.declared.fault.Named.{Named}
+use Rattle.sharc_names.specs.{declared.fault.Named.Named, declared.scope.Scope.Scope, Kinds.{Kind, object, is_array, is_pointer, declared_kind}, Names.{Entry, Meaning, field_of, look_up, named_of}}
 use Rattle.sharc_names.specs.declared.fault.Named.TheVariants as named
-use Rattle.sharc_names.specs.declared.scope.Scope.{Scope}
 use Rattle.sharc_names.specs.declared.types.Role.TheVariants as role
 use Rattle.sharc_tree.specs.declared.ctype.Base.TheVariants as base
-use Rattle.sharc_names.specs.Kinds.{Kind, object, is_array, is_pointer, declared_kind}
-use Rattle.sharc_names.specs.Names.{Entry, Meaning, field_of, look_up, named_of}
 use Rattle.sharc_names.specs.Names as meaning
-use Rattle.sharc_ctype.specs.Entities.{cast_entity, casts, declared, entities_in, is_told_by, positions_of}
-use Rattle.sharc_ctype.specs.declared.entity.Entity.{Entity}
-use Rattle.sharc_ctype.specs.declared.entity.Numbered.{Numbered}
-use Rattle.sharc_ctype.specs.Resolved.{Resolution, named_at, declaration_at, global_at, function_at, globals_in, functions_in, structs_in, kind_at, variable_kind}
-use Rattle.sharc_mode.specs.Cells.{is_mutex_kind, written_cell, top_of, declared_cell, field_named, first_mode, global_cell, named_cell, pointed, instance, unary_cell, cell_at}
-use Rattle.sharc_mode.specs.Flows.{IsLeastAssignment}
-use Rattle.sharc_mode.specs.Moded.{Assignment, mode_at}
-use Rattle.sharc_mode.specs.Rows.{Reading, written, Targets, is_constant_named, constant_use, base_use, no_row, declared_row, global_row, named_row, result_row, called_row, behind, constant_row, reading_through, unary_row, row_at}
-use Rattle.sharc_mode.specs.Sharings.{Sharing, private, readonly, locked, racy, lock_of, is_private}
-use Rattle.sharc_ctype_laws.specs.Constraints.{HasType, IsMemberOf, struct_named, a_variable, a_global, a_function, a_field, a_field_behind}
-use Rattle.sharc_ctype_laws.specs.Found.{IsFound}
-use Rattle.sharc_ctype_laws.specs.Laws.{NamesFound}
-use Rattle.sharc_ctype_laws.specs.Paths.{meaning_token, IsVariableIn, IsAmong, LevelStands, TypeStands, EntryStands, IsClosed, CastStands, PathsAt}
-use Rattle.sharc_ctype_laws.specs.Places.{Placing, at}
-use Rattle.sharc_ctype_laws.specs.WrittenTypes.{IsNamedType}
+use Rattle.sharc_ctype.specs.{Entities.{cast_entity, casts, declared, entities_in, is_told_by, positions_of}, declared.entity.Entity.Entity, declared.entity.Numbered.Numbered, Resolved.{Resolution, named_at, declaration_at, global_at, function_at, globals_in, functions_in, structs_in, kind_at, variable_kind}}
+use Rattle.sharc_mode.specs.{Cells.{is_mutex_kind, written_cell, top_of, declared_cell, field_named, first_mode, global_cell, named_cell, pointed, instance, unary_cell, cell_at}, Flows.IsLeastAssignment, Moded.{Assignment, mode_at}, Rows.{Reading, written, Targets, is_constant_named, constant_use, base_use, no_row, declared_row, global_row, named_row, result_row, called_row, behind, constant_row, reading_through, unary_row, row_at}, Sharings.{Sharing, private, readonly, locked, racy, lock_of, is_private}}
+use Rattle.sharc_ctype_laws.specs.{Constraints.{HasType, IsMemberOf, struct_named, a_variable, a_global, a_function, a_field, a_field_behind}, Found.IsFound, Laws.NamesFound, Paths.{meaning_token, IsVariableIn, IsAmong, LevelStands, TypeStands, EntryStands, IsClosed, CastStands, PathsAt}, Places.{Placing, at}, WrittenTypes.IsNamedType}
 use Rattle.sharc_flat_laws.specs.Stands.{PathNamedIn, PathIn, LocksAt}
-use Rattle.sharc_flat_laws.proofs.AllLemmas.{front, back, both}
-use Rattle.sharc_flat_laws.proofs.Pointing.{LevelGood, TypeGood, same_token, no_global, type_good, position_of, mode_good, GoodRow, deeper_good, pointed_good, Reads, reads_written, reads_through, HasEntity, has_entity, good_row}
+use Rattle.sharc_flat_laws.proofs.{Pointing.{LevelGood, TypeGood, same_token, no_global, type_good, position_of, mode_good, GoodRow, deeper_good, pointed_good, Reads, reads_written, reads_through, HasEntity, has_entity, good_row}, Scoped.found_or_later}
+use Rattle.sharc_lemmas.proofs.Lists.{front, back, both}
 
 -- ---- the types of the file name no variables
 
@@ -137,13 +106,6 @@ entries_good r whole (e ∷ rest) into c k = (one e.meaning (λ x is. into x (in
     one (meaning.global n g) here s h = tt
     one (meaning.function n s) here t h = tt
     one (meaning.condition k) here s h = tt
-
-same_some : {A : Type 0} (x y : A) → Some x ≡ Some y → x ≡ y
-same_some x y h = cc
-
-found_or_later : {A : Type 0} (P : A → Type 0) (x y : A) (later : Option A) (b : Bool) → cond b (Some x) later ≡ Some y → P x → (later ≡ Some y → P y) → P y
-found_or_later P x y later true h p q = subst P (same_some x y h) p
-found_or_later P x y later false h p q = q h
 
 entry_found : (P : Entry → Type 0) (names : List Entry) (name : List ℕ) (e : Entry) → AllByRecursion P names → look_up names name ≡ Some e → P e
 entry_found P [] name e all is = absurd (false≢true (ap is_some is))

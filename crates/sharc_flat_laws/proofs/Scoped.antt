@@ -1,29 +1,18 @@
 -- The variables in scope are those of the flat scope.
-use Rattle.std.proofs.Common.{◌≡◌, inl, inr, ℕ, ◌==◌, Bool, true, false, cond, List, [], ◌∷◌, ◌++◌, refl, ap, sym, ◌∙◌, subst, eqb-true, arith, Option, Some, None, is_some, bytes_eq}
-use Rattle.std.proofs.lemmas.Bool.{false≢true}
-use Rattle.std.proofs.lemmas.Bool.Decides.{nat_tests}
+use Rattle.std.proofs.{Common.{◌≡◌, inl, inr, ℕ, ◌==◌, Bool, true, false, cond, List, [], ◌∷◌, ◌++◌, refl, ap, sym, ◌∙◌, subst, eqb-true, Option, Some, None, is_some, bytes_eq}, lemmas.Bool.false≢true}
 use Rattle.std.specs.List.{AllByRecursion}
-use Rattle.sharc_tree.specs.declared.tree.declaration.Declaration.{Declaration}
-use Rattle.sharc_tree.specs.Tree.{Expression}
+use Rattle.sharc_tree.specs.{declared.tree.declaration.Declaration.Declaration, Tree.Expression}
 use Rattle.sharc_tree.specs.Tree as tree
-use Rattle.sharc_names.specs.declared.fault.Named.{Named}
+use Rattle.sharc_names.specs.{declared.fault.Named.Named, declared.scope.Scope.Scope, Kinds.{is_pointer, declared_kind}, Names.{Entry, Meaning, look_up, named_of}}
 use Rattle.sharc_names.specs.declared.fault.Named.TheVariants as named
-use Rattle.sharc_names.specs.declared.scope.Scope.{Scope}
-use Rattle.sharc_names.specs.Kinds.{is_pointer, declared_kind}
-use Rattle.sharc_names.specs.Names.{Entry, Meaning, look_up, named_of}
 use Rattle.sharc_names.specs.Names as meaning
-use Rattle.sharc_ctype.specs.Resolved.{Resolution, named_at, declaration_at, kind_at, variable_kind}
-use Rattle.sharc_ctype.specs.Statements.{is_aggregate, is_here, declared}
+use Rattle.sharc_ctype.specs.{Resolved.{Resolution, named_at, declaration_at, kind_at, variable_kind}, Statements.{is_aggregate, is_here, declared}}
 use Rattle.sharc_mode.specs.Sharings.{Sharing, private, readonly, locked, racy, dynamic}
-use Rattle.sharc_ctype_laws.specs.Constraints.{HasType}
-use Rattle.sharc_ctype_laws.specs.Laws.{NamesFound}
-use Rattle.sharc_ctype_laws.specs.Places.{Placing, at}
-use Rattle.sharc_flat.specs.Scope.{Context, slot_of, slot_kind}
-use Rattle.sharc_flat.specs.declared.slot.Slot.{Slot}
-use Rattle.sharc_flat.specs.Suits.{PathNamed, PathStands, behind_declaration}
-use Rattle.sharc_ctype_laws.specs.Paths.{meaning_token, IsVariableIn}
+use Rattle.sharc_ctype_laws.specs.{Constraints.HasType, Laws.NamesFound, Places.{Placing, at}, Paths.{meaning_token, IsVariableIn}}
+use Rattle.sharc_flat.specs.{Scope.{Context, slot_of, slot_kind}, declared.slot.Slot.Slot, Suits.{PathNamed, PathStands, behind_declaration}}
 use Rattle.sharc_flat_laws.specs.Stands.{IsHere, NameStands, PathNamedIn, PathIn, LocksAt}
 use Rattle.sharc_flat_laws.proofs.Expressions.{Stand}
+use Rattle.sharc_lemmas.proofs.{Numbers.{same_is as eqb_same}, Options.{same_some, no_guard as no_token}}
 
 abbrev pub right_kind : Resolution → ℕ → Bool
 right_kind r token = is_pointer (variable_kind (declaration_at r token))
@@ -50,9 +39,6 @@ pub record Own (r : Resolution) (d : Declaration) : Type 0 where
   pub plain : is_aggregate (declared_kind d.written) ≡ false
 
 -- one more variable
-
-eqb_same : (n : ℕ) → (n == n) ≡ true
-eqb_same n = grind (arith, nat_tests)
 
 slot_more : (list more : List Slot) (x : ℕ) (b : Bool) → slot_kind list x ≡ Some b → slot_kind (list ++ more) x ≡ Some b
 slot_more [] more x b h = absurd (false≢true (ap is_some h))
@@ -105,10 +91,7 @@ with_variable c block d names s o = record {
 
 -- what is named is in scope
 
-same_some : {A : Type 0} (x y : A) → Some x ≡ Some y → x ≡ y
-same_some x y h = cc
-
-found_or_later : {A : Type 0} (P : A → Type 0) (x y : A) (later : Option A) (b : Bool) → cond b (Some x) later ≡ Some y → P x → (later ≡ Some y → P y) → P y
+pub found_or_later : {A : Type 0} (P : A → Type 0) (x y : A) (later : Option A) (b : Bool) → cond b (Some x) later ≡ Some y → P x → (later ≡ Some y → P y) → P y
 found_or_later P x y later true h p q = subst P (same_some x y h) p
 found_or_later P x y later false h p q = q h
 
@@ -149,9 +132,6 @@ name_stands c scope all (tree.unary s o a) h = tt
 name_stands c scope all (tree.binary s o site a b) h = tt
 
 -- lock paths
-
-no_token : (x : ℕ) → None ≡ Some x → ⊥
-no_token x h = cc
 
 variable_here : (c : Context) (names : List Entry) (x : ℕ) → AreHere c names → IsVariableIn names x → IsHere c x
 variable_here c [] x all h = absurd h

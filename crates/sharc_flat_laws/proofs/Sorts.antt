@@ -1,19 +1,13 @@
 -- What the types of C11 are to flat code: integers, references, and what goes to what.
-use Rattle.std.proofs.Common.{◌≡◌, inl, inr, ℕ, ◌+◌, ◌==◌, Bool, true, false, ◌&&◌, ◌||◌, refl, ap, sym, ◌∙◌, subst, arith, lt-ltb, eqb-true}
-use Rattle.std.proofs.lemmas.Bool.{true≢false}
-use Rattle.sharc_tree.specs.declared.ctype.Base.TheVariants.{Mutex}
+use Rattle.std.proofs.{Common.{◌≡◌, inl, inr, ◌+◌, ◌==◌, true, false, ◌&&◌, ◌||◌, refl, ap, sym, ◌∙◌, subst, arith, lt-ltb}, lemmas.Bool.true≢false}
+use Rattle.sharc_tree.specs.{declared.ctype.Base.TheVariants.Mutex, declared.tree.declaration.WrittenType.WrittenType}
 use Rattle.sharc_ctype.specs.Statements.{is_aggregate}
-use Rattle.sharc_tree.specs.declared.tree.declaration.WrittenType.{WrittenType}
 use Rattle.sharc_names.specs.Kinds.{Kind, null, is_integer, is_pointer, is_null, is_integral, is_struct_base, same_base, declared_kind}
 use Rattle.sharc_meaning.specs.State.{is_reference}
-use Rattle.sharc_ctype_laws.specs.Constraints.{IsInteger, IsPointer, IsScalar, Comparable, integers, pointers, pointer_and_null, null_and_pointer, Assignable, integer, pointer, null_pointer}
-use Rattle.sharc_ctype_laws.specs.Rules.{IsHeld}
+use Rattle.sharc_ctype_laws.specs.{Constraints.{IsInteger, IsPointer, IsScalar, Comparable, integers, pointers, pointer_and_null, null_and_pointer, Assignable, integer, pointer, null_pointer}, Rules.IsHeld}
 use Rattle.sharc_flat.specs.Suits as suits
 use Rattle.sharc_flat.specs.Suits.{Goes, Passes, SameSort}
-
-pub or_false : (b : Bool) → (b || false) ≡ b
-or_false true = refl
-or_false false = refl
+use Rattle.sharc_lemmas.proofs.{Bools.{or_false, and_false}, Numbers.some_star}
 
 pub integer_yes : (k : Kind) → IsInteger k → is_integer k ≡ true
 integer_yes k (b, t, is) = ap is_integer is ∙ t
@@ -29,13 +23,6 @@ pointer_pointer k (b, n, is) = ap is_pointer is ∙ lt-ltb 0 (n + 1) (omega arit
 
 pub pointer_reference : (k : Kind) → IsPointer k → is_reference k ≡ true
 pointer_reference k p = ap (λ b. b || is_null k) (pointer_pointer k p)
-
-pub some_star : (n : ℕ) → (n + 1 == 0) ≡ false
-some_star n = by (n + 1 == 0) refl
-  where
-    by : (z : Bool) → (n + 1 == 0) ≡ z → z ≡ false
-    by true h = let e = eqb-true (n + 1) 0 h in absurd (omega (arith, e))
-    by false h = refl
 
 pub pointer_integer : (k : Kind) → IsPointer k → is_integer k ≡ false
 pointer_integer k (b, n, is) = ap is_integer is ∙ ap (λ z. z && is_integral b) (some_star n)
@@ -72,10 +59,6 @@ declared_reference w = or_false (is_pointer (declared_kind w))
 pub held_same : (k : Kind) → IsHeld k → is_pointer k ≡ is_reference k
 held_same k (inl i) = integer_pointer k i ∙ sym (integer_reference k i)
 held_same k (inr p) = pointer_pointer k p ∙ sym (pointer_reference k p)
-
-and_false : (b : Bool) → (b && false) ≡ false
-and_false true = refl
-and_false false = refl
 
 pub pointer_plain : (k : Kind) → IsPointer k → is_aggregate k ≡ false
 pointer_plain k (b, n, is) = ap is_aggregate is ∙ ap (λ z. (z && is_struct_base b) || (same_base b Mutex && z)) (some_star n) ∙ and_false (same_base b Mutex)

@@ -1,48 +1,20 @@
 -- Each expression of a typed program suits.
 use Rattle.std.proofs.Common.{◌≡◌, inl, ℕ, ◌+◌, true, List, [], ◌∷◌, refl, ap, sym, ◌∙◌, subst, Some, None, bytes_eq, codes, if◌then◌else◌}
-use Rattle.std.proofs.lemmas.Bool.{false≢true}
-use Rattle.sharc_tree.specs.declared.ctype.Base.{Base}
+use Rattle.sharc_tree.specs.{declared.ctype.Base.Base, declared.tree.declaration.Identifier.Identifier, declared.tree.declaration.WrittenType.WrittenType, declared.tree.expression.BinaryOperator.BinaryOperator, declared.tree.expression.BinaryOperator.TheVariants.{LogicalOr, LogicalAnd, BitOr, BitXor, BitAnd, Equal, NotEqual, Less, Greater, LessOrEqual, GreaterOrEqual, ShiftLeft, ShiftRight, Add, Subtract, Multiply, Divide, Remainder}, declared.token.Site.Site, declared.token.Span.Span, declared.tree.expression.Access.Access, declared.tree.expression.PlaceCall.PlaceCall, declared.tree.expression.ValueCall.ValueCall, declared.tree.expression.UnaryOperator.UnaryOperator, declared.tree.expression.UnaryOperator.TheVariants.{Negate, Not, Complement, Dereference}, Measures.{expressions, in_arguments}, Tree.{Expression, identifier, index, Arguments, no_arguments, argument}}
 use Rattle.sharc_tree.specs.declared.ctype.Base.TheVariants as base
-use Rattle.sharc_tree.specs.declared.tree.declaration.Identifier.{Identifier}
-use Rattle.sharc_tree.specs.declared.tree.declaration.WrittenType.{WrittenType}
-use Rattle.sharc_tree.specs.declared.tree.expression.BinaryOperator.{BinaryOperator}
-use Rattle.sharc_tree.specs.declared.tree.expression.BinaryOperator.TheVariants.{LogicalOr, LogicalAnd, BitOr, BitXor, BitAnd, Equal, NotEqual, Less, Greater, LessOrEqual, GreaterOrEqual, ShiftLeft, ShiftRight, Add, Subtract, Multiply, Divide, Remainder}
-use Rattle.sharc_tree.specs.declared.token.Site.{Site}
-use Rattle.sharc_tree.specs.declared.token.Span.{Span}
-use Rattle.sharc_tree.specs.declared.tree.expression.Access.{Access}
-use Rattle.sharc_tree.specs.declared.tree.expression.PlaceCall.{PlaceCall}
-use Rattle.sharc_tree.specs.declared.tree.expression.ValueCall.{ValueCall}
-use Rattle.sharc_tree.specs.declared.tree.expression.UnaryOperator.{UnaryOperator}
-use Rattle.sharc_tree.specs.declared.tree.expression.UnaryOperator.TheVariants.{Negate, Not, Complement, Dereference}
-use Rattle.sharc_tree.specs.Measures.{expressions, in_arguments}
-use Rattle.sharc_tree.specs.Tree.{Expression, identifier, index, Arguments, no_arguments, argument, Function}
 use Rattle.sharc_tree.specs.Tree as tree
-use Rattle.sharc_names.specs.declared.fault.Named.{Named}
+use Rattle.sharc_names.specs.{declared.fault.Named.Named, Kinds.{Kind, object, array, is_array, is_integer, is_pointer, declared_kind, declared_kinds}, declared.meaning.ConditionCall.ConditionCall, declared.meaning.ConditionCall.TheVariants.{Wait, Signal, Broadcast}, Names.condition_parameters}
 use Rattle.sharc_names.specs.declared.fault.Named.TheVariants as named
-use Rattle.sharc_names.specs.Kinds.{Kind, object, array, is_array, is_integer, is_pointer, declared_kind, declared_kinds}
 use Rattle.sharc_names.specs.Kinds as kinds
-use Rattle.sharc_names.specs.declared.meaning.ConditionCall.{ConditionCall}
-use Rattle.sharc_names.specs.declared.meaning.ConditionCall.TheVariants.{Wait, Signal, Broadcast}
-use Rattle.sharc_names.specs.Names.{condition_parameters}
-use Rattle.sharc_ctype.specs.declared.expr.OperatorClass.TheVariants.{Logical, Equality, Relation, Shift, Arithmetic}
-use Rattle.sharc_ctype.specs.Expressions.{class_of}
-use Rattle.sharc_ctype.specs.Resolved.{Resolution, named_at, kind_at, variable_kind}
-use Rattle.sharc_ctype.specs.Transfers.{parameters_named, parameters_of}
-use Rattle.sharc_mode.specs.Cells.{named_cell}
-use Rattle.sharc_mode.specs.Sharings.{Sharing}
+use Rattle.sharc_ctype.specs.{declared.expr.OperatorClass.TheVariants.{Logical, Equality, Relation, Shift, Arithmetic}, Expressions.class_of, Resolved.{Resolution, named_at, kind_at, variable_kind}, Transfers.{parameters_named, parameters_of}}
+use Rattle.sharc_mode.specs.{Cells.named_cell, Sharings.Sharing}
 use Rattle.sharc_meaning.specs.State.{is_reference}
 use Rattle.sharc_ctype_laws.specs.Constraints.{HasType, HaveTypes, Callee, of_program, of_conditions, name_of, IsInteger, IsPointer, IsScalar, integers, Assignable, a_variable, a_global, a_function, element_of_pointer, element_of_array, a_call, a_field, a_field_behind, negated, complemented, denied, pointed_to, arithmetic, shifted, related, equated, joined, spawned, printed_or_joined, locked, unlocked, freed, a_cast, none_left, one_more}
-use Rattle.sharc_flat.specs.Places.{in_global, target, global_of}
-use Rattle.sharc_flat.specs.Scope.{Context, slot_kind}
+use Rattle.sharc_flat.specs.{Places.{in_global, target, global_of}, Scope.{Context, slot_kind}, Suits.{Suits, PlaceSuits, ArgumentsSuit, ReferencesSuit, IndexSuits, CallSuits, NameSuits, OperandsSuit, HandsOn, Passes, Either, PathStands, is_cell}}
 use Rattle.sharc_flat.specs.Suits as flat
-use Rattle.sharc_flat.specs.Suits.{Suits, PlaceSuits, ArgumentsSuit, ReferencesSuit, IndexSuits, CallSuits, TakeSuits, LeftSuits, NameSuits, OperandsSuit, HandsOn, Passes, Either, PathStands, is_cell}
 use Rattle.sharc_flat_laws.specs.Stands.{AtPlace}
-use Rattle.sharc_flat_laws.proofs.AllLemmas.{front, back}
-use Rattle.sharc_flat_laws.proofs.Sorts.{integer_yes, pointer_reference, scalar, goes, passes, given, same_sort, declared_reference}
-use Rattle.sharc_flat_laws.proofs.Expressions.{Facts, Stand, whole_cell, array_target, target_fits, takes}
-
-no_function_pointer : (k : Kind) → IsPointer k → k ≡ kinds.function → ⊥
-no_function_pointer k p is = false≢true (ap is_reference (sym is) ∙ pointer_reference k p)
+use Rattle.sharc_flat_laws.proofs.{Sorts.{integer_yes, pointer_reference, scalar, goes, passes, given, same_sort, declared_reference}, Expressions.{Facts, Stand, whole_cell, array_target, target_fits, takes, no_function_pointer}}
+use Rattle.sharc_lemmas.proofs.Lists.{front, back}
 
 -- operators
 

@@ -1,36 +1,21 @@
 -- What flattened code spawns, and its tables.
-use Rattle.std.proofs.Common.{◌≡◌, ℕ, zero, suc, ◌+◌, ◌^◌, ◌<◌, List, [], ◌∷◌, length, Option, Some, refl, sym, ap, ◌∙◌, subst, arith, slice_get}
-use Rattle.std.specs.Prelude.{IsSomeAnd, slice_index}
-use Rattle.std.specs.List.{AllByRecursion, Contains}
-use Rattle.std.proofs.lemmas.List.Elements.{Contains-append_right}
-use Rattle.sharc_tree.specs.Measures.{in_function as expressions_in}
-use Rattle.sharc_tree.specs.Tree.{Expression, spawn, Function}
+use Rattle.std.proofs.{Common.{◌≡◌, ℕ, zero, suc, ◌+◌, ◌^◌, ◌<◌, List, [], ◌∷◌, length, Option, Some, refl, sym, ap, ◌∙◌, subst, arith, slice_get}, lemmas.List.Elements.Contains-append_right}
+use Rattle.std.specs.{Prelude.{IsSomeAnd, slice_index}, List.{AllByRecursion, Contains}}
+use Rattle.sharc_tree.specs.{Measures.{in_function as expressions_in}, Tree.{Expression, spawn, Function}}
 use Rattle.sharc_names.specs.declared.fault.Named.TheVariants as named
-use Rattle.sharc_code.specs.declared.code.Function.{Function as Row}
-use Rattle.sharc_code.specs.declared.code.GlobalCells.{GlobalCells}
-use Rattle.sharc_code.specs.declared.code.Text.{Text}
-use Rattle.sharc_code.specs.Ranges.{GlobalsFit}
-use Rattle.sharc_ctype.specs.Reaches.{of_all, spawns}
-use Rattle.sharc_ctype.specs.Resolved.{Resolution, function_at, functions_in, globals_in, named_at}
+use Rattle.sharc_code.specs.{declared.code.Function.{Function as Row}, declared.code.GlobalCells.GlobalCells, declared.code.Text.Text, Ranges.GlobalsFit}
+use Rattle.sharc_ctype.specs.{Reaches.{of_all, spawns}, Resolved.{Resolution, function_at, functions_in, globals_in, named_at}}
 use Rattle.sharc_ctype_laws.specs.Laws.{MeetsGlobals, SpawnsByName, SpawnsNameFunctions, SpawnsThreads, WithinLimits}
 use Rattle.sharc_meaning.specs.Expressions.{number_named}
 use Rattle.sharc_mode.specs.Moded.{Assignment}
 use Rattle.sharc_flat_form.specs.declared.op.Op.{Op}
 use Rattle.sharc_flat_form.specs.declared.op.Op.TheVariants as op
-use Rattle.sharc_flat.specs.Flattened.{functions_code, rows_of, function_code}
-use Rattle.sharc_flat.specs.Flattens.{names_of}
-use Rattle.sharc_flat.specs.Laid.{AreLaid, AreNamed, with_texts}
-use Rattle.sharc_flat.specs.Tables.{globals_of}
+use Rattle.sharc_flat.specs.{Flattened.{functions_code, rows_of, function_code}, Flattens.names_of, Laid.{AreLaid, AreNamed, with_texts}, Tables.globals_of}
 use Rattle.sharc_flat_laws.specs.Tables.{SpawnMeets, IsSpawned, MadeSpawns, MadeTablesFit}
-use Rattle.sharc_flat_laws.proofs.Spawning.{AllMeet, Each, functions_ask}
-use Rattle.sharc_flat_laws.proofs.Words.{words, globals_fit}
+use Rattle.sharc_flat_laws.proofs.{Spawning.{AllMeet, Each, functions_ask}, Words.{words, globals_fit}}
+use Rattle.sharc_lemmas.proofs.Lists.{there_is as inside}
 
 -- ---- lists
-inside : {A : Type 0} (xs : List A) (n : ℕ) (x : A) → slice_get xs n ≡ Some x → n < length xs
-inside [] n x e = absurd (cc)
-inside (y ∷ xs) zero x e = omega arith
-inside (y ∷ xs) (suc n) x e = let h = inside xs n x e in omega arith
-
 named_count : (bytes : List ℕ) (told : List Row) (names : List (List ℕ)) (made : List Row) → AreNamed bytes told names made → length made ≡ length told
 named_count bytes [] [] [] h = refl
 named_count bytes (x ∷ xs) (n ∷ ns) (y ∷ ys) h = ap suc (named_count bytes xs ns ys h.1)

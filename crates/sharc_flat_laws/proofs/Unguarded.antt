@@ -1,36 +1,15 @@
 -- No position of a program whose lock paths are fit is locked behind a sibling pointer.
-use Rattle.std.proofs.Common.{◌≡◌, ℕ, zero, suc, ◌<◌, ◌++◌, length, arith, ◌==◌, eqb-true, Bool, true, false, ◌&&◌, ◌||◌, not, cond, List, [], ◌∷◌, drop, refl, ap, sym, subst, ⊎_elim, Option, Some, None}
-use Rattle.std.specs.Prelude.{is_none, slice_index_or}
-use Rattle.std.proofs.lemmas.Bool.{false≢true, and_parts, or_cases}
-use Rattle.std.specs.List.{AllByRecursion}
-use Rattle.std.specs.Option.{option_or}
-use Rattle.sharc_tree.specs.declared.ctype.Base.{Base}
+use Rattle.std.proofs.{Common.{◌≡◌, ℕ, zero, suc, ◌<◌, ◌++◌, length, arith, ◌==◌, eqb-true, Bool, true, false, ◌&&◌, ◌||◌, not, cond, List, [], ◌∷◌, drop, refl, ap, sym, subst, ⊎_elim, Option, Some, None}, lemmas.Bool.{false≢true, and_parts, or_cases, or_parts as neither_open}}
+use Rattle.std.specs.{Prelude.{is_none, slice_index_or}, List.AllByRecursion, Option.option_or}
+use Rattle.sharc_tree.specs.{declared.ctype.Base.Base, declared.ctype.Path.Path, declared.ctype.Mode.Mode, declared.ctype.Mode.TheVariants.{Private, Readonly, Locked, Racy, Dynamic}, declared.tree.item.GlobalDefinition.GlobalDefinition}
 use Rattle.sharc_tree.specs.declared.ctype.Base.TheVariants as base
-use Rattle.sharc_tree.specs.declared.ctype.Path.{Path}
-use Rattle.sharc_tree.specs.declared.ctype.Mode.{Mode}
-use Rattle.sharc_tree.specs.declared.ctype.Mode.TheVariants.{Private, Readonly, Locked, Racy, Dynamic}
-use Rattle.sharc_names.specs.declared.fault.Named.{Named}
+use Rattle.sharc_names.specs.{declared.fault.Named.Named, Kinds.{Kind, object, array, null, is_pointer}, declared.types.Role.Role}
 use Rattle.sharc_names.specs.declared.fault.Named.TheVariants as named
-use Rattle.sharc_names.specs.Kinds.{Kind, object, array, null, is_pointer}
 use Rattle.sharc_names.specs.Kinds as kinds
-use Rattle.sharc_ctype.specs.Resolved.{Resolution, global_at, named_at, named_kind}
-use Rattle.sharc_mode.specs.declared.place.Place.{Place}
-use Rattle.sharc_mode.specs.declared.place.Place.TheVariants.{Global, Field, Local, Result}
-use Rattle.sharc_mode.specs.Cells.{is_mutex_kind, is_behind_pointer, first_mode, global_cell}
-use Rattle.sharc_mode.specs.Sharings.{Lock, is_field, lock_of, sharing_of}
-use Rattle.sharc_mode.specs.WellFormed.{allows_path, path_fits, unless, unfit_path, unfit_path_in, allows_pointer, leaves_open, top_path_fits, unfit_top_path, first_unfit_path, place_of}
-use Rattle.sharc_mode.specs.Settled.{is_mutex, settled, field_target, otherwise_of, settled_modes, settled_in, settled_at}
-use Rattle.sharc_ctype.specs.Entities.{first_depth, entities_in, entity_at}
-use Rattle.sharc_ctype.specs.declared.entity.Numbered.{Numbered}
-use Rattle.sharc_tree.specs.declared.tree.item.GlobalDefinition.{GlobalDefinition}
-use Rattle.sharc_graph.specs.declared.graph.Finding.{Finding}
-use Rattle.sharc_graph.specs.declared.graph.Finding.TheVariants.{Apart, Source, Behind}
-use Rattle.sharc_graph.specs.Findings.{finding_at}
-use Rattle.sharc_mode.specs.Flows.{IsLeastAssignment, mode_found}
-use Rattle.sharc_mode.specs.Moded.{Assignment, mode_at}
+use Rattle.sharc_ctype.specs.{Resolved.{Resolution, global_at, named_at, named_kind}, Entities.{first_depth, entities_in, entity_at}, declared.entity.Numbered.Numbered, declared.entity.Entity.Entity}
+use Rattle.sharc_mode.specs.{declared.place.Place.Place, declared.place.Place.TheVariants.{Global, Field, Local, Result}, Cells.{is_mutex_kind, is_behind_pointer, first_mode, global_cell}, Sharings.{Lock, is_field, lock_of, sharing_of}, WellFormed.{allows_path, path_fits, unless, unfit_path, unfit_path_in, allows_pointer, leaves_open, top_path_fits, unfit_top_path, first_unfit_path, place_of}, Settled.{is_mutex, settled, field_target, otherwise_of, settled_modes, settled_in, settled_at}, Flows.{IsLeastAssignment, mode_found}, Moded.{Assignment, mode_at}}
+use Rattle.sharc_graph.specs.{declared.graph.Finding.Finding, declared.graph.Finding.TheVariants.{Apart, Source, Behind}, Findings.finding_at}
 use Rattle.sharc_flat_laws.specs.Stands.{IsFit, FitAreUnguarded}
-use Rattle.sharc_ctype.specs.declared.entity.Entity.{Entity}
-use Rattle.sharc_names.specs.declared.types.Role.{Role}
 use Rattle.sharc_names.specs.declared.types.Role.TheVariants as role
 use Rattle.sharc_meaning.specs.Cells.{field_place}
 use Rattle.sharc_flat.specs.Places.{guard_named, guard_field}
@@ -120,10 +99,6 @@ closed_one r false otherwise h = absurd (false≢true (sym h))
 settled_own : (r : Resolution) (b : Bool) (m : Mode) → IsUnguarded r (Some m) → IsUnguarded r (cond b (Some Racy) (Some m))
 settled_own r true m h = refl
 settled_own r false m h = h
-
-neither_open : (a b : Bool) → (a || b) ≡ false → (a ≡ false) × (b ≡ false)
-neither_open false b h = (refl, h)
-neither_open true b h = absurd (false≢true (sym h))
 
 settled_closed : (r : Resolution) (b : Base) (otherwise : Option Mode) (levels : List (Option Mode)) → leaves_open b levels ≡ false → AllByRecursion (IsUnguarded r) levels → AllByRecursion (IsUnguarded r) (settled b otherwise levels)
 settled_closed r b otherwise [] o h = tt

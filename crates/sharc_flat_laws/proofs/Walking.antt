@@ -1,38 +1,17 @@
 -- Each statement of a typed program suits.
-use Rattle.std.proofs.Common.{◌≡◌, ℕ, Bool, true, false, List, ◌++◌, refl, ap, sym, ◌∙◌, Option, Some, None, IfSome}
-use Rattle.std.proofs.lemmas.Bool.{false≢true}
+use Rattle.std.proofs.{Common.{◌≡◌, ℕ, Bool, true, false, List, ◌++◌, refl, ap, sym, ◌∙◌, Option, Some, None, IfSome}, lemmas.Bool.false≢true}
 use Rattle.std.specs.List.{AllByRecursion}
-use Rattle.sharc_tree.specs.declared.tree.declaration.Declaration.{Declaration}
-use Rattle.sharc_tree.specs.declared.tree.declaration.WrittenType.{WrittenType}
-use Rattle.sharc_tree.specs.Low.{LowStatement, LowStatements, is_statement}
-use Rattle.sharc_tree.specs.Measures.{expressions, in_option, in_right, in_simple, in_first, in_statement, in_statements}
-use Rattle.sharc_tree.specs.Tree.{Expression, Right, value, malloc, Simple, assign, does_call, First, nothing, declares, does, Head, Statement, Statements, no_statements, statement}
+use Rattle.sharc_tree.specs.{declared.tree.declaration.Declaration.Declaration, declared.tree.declaration.WrittenType.WrittenType, Low.{LowStatement, LowStatements, is_statement}, Measures.{expressions, in_option, in_right, in_simple, in_first, in_statement, in_statements}, Tree.{Expression, Right, value, malloc, Simple, assign, does_call, First, nothing, declares, does, Statement, Statements, no_statements, statement}}
 use Rattle.sharc_tree.specs.Tree as tree
-use Rattle.sharc_names.specs.declared.scope.Scope.{Scope}
-use Rattle.sharc_names.specs.Kinds.{Kind, is_null, is_integer, is_pointer, same_kind, agrees, declared_kind}
-use Rattle.sharc_names.specs.Names.{Entry}
-use Rattle.sharc_ctype.specs.Resolved.{Resolution, kind_at, variable_kind}
-use Rattle.sharc_ctype.specs.Statements.{Around, opened, looping, with_names, declared, behind_first, in_head, after, made, first_locals, locals_in, locals_in_all}
-use Rattle.sharc_ctype.specs.Transfers.{Agrees, IsFair, gives, variable, result, transfers, in_option as option_transfers, right_transfers, simple_transfers, first_transfers, statement_transfers, statements_transfers}
-use Rattle.sharc_mode.specs.Cells.{cell_at, pointed}
-use Rattle.sharc_mode.specs.Moded.{Assignment}
-use Rattle.sharc_ctype_laws.specs.Laws.{NamesFound}
-use Rattle.sharc_mode.specs.Rows.{row_at}
-use Rattle.sharc_mode.specs.Sharings.{Sharing}
+use Rattle.sharc_names.specs.{declared.scope.Scope.Scope, Kinds.{Kind, is_null, is_integer, is_pointer, same_kind, agrees, declared_kind}, Names.Entry}
+use Rattle.sharc_ctype.specs.{Resolved.{Resolution, kind_at, variable_kind}, Statements.{Around, opened, looping, with_names, declared, behind_first, in_head, after, made, first_locals, locals_in, locals_in_all}, Transfers.{Agrees, IsFair, gives, variable, result, transfers, in_option as option_transfers, right_transfers, simple_transfers, first_transfers, statement_transfers, statements_transfers}}
+use Rattle.sharc_mode.specs.{Cells.{cell_at, pointed}, Moded.Assignment, Rows.row_at, Sharings.Sharing}
+use Rattle.sharc_ctype_laws.specs.{Laws.NamesFound, Constraints.{HasType, IsScalar}, Places.{Placing, at, places_in_first, places_in, places_in_all}, Rules.{IsHeld, MeetsRight, MeetsSimple, MeetsFirst, MeetsTest, MeetsReturn, Meets, AllMeet}}
 use Rattle.sharc_meaning.specs.State.{is_reference}
-use Rattle.sharc_ctype_laws.specs.Constraints.{HasType, IsScalar}
-use Rattle.sharc_ctype_laws.specs.Places.{Placing, at, places_in_first, places_in, places_in_all}
-use Rattle.sharc_ctype_laws.specs.Rules.{IsHeld, MeetsRight, MeetsSimple, MeetsFirst, MeetsTest, MeetsReturn, Meets, AllMeet}
-use Rattle.sharc_flat.specs.Places.{target}
-use Rattle.sharc_flat.specs.Scope.{Context}
-use Rattle.sharc_flat.specs.Suits.{Suits, Goes, RightSuits, SimpleSuits, InitialSuits, FirstSuits, TestSuits, IfThere, StatementSuits, StatementsSuit, PathStands, behind_declaration, in_first as flat_first, in_statement as flat_statement, is_declaration, kind_in}
+use Rattle.sharc_flat.specs.{Places.target, Scope.Context, Suits.{Suits, Goes, RightSuits, SimpleSuits, InitialSuits, FirstSuits, TestSuits, IfThere, StatementSuits, StatementsSuit, PathStands, behind_declaration, in_first as flat_first, in_statement as flat_statement, is_declaration, kind_in}}
 use Rattle.sharc_flat_laws.specs.Stands.{LocksAt, LocksOf, FirstLocks, LocalLocks, AllLocalLocks}
-use Rattle.sharc_flat_laws.proofs.AllLemmas.{both, front, back}
-use Rattle.sharc_flat_laws.proofs.KindLemmas.{one_kind, assigned_by}
-use Rattle.sharc_flat_laws.proofs.Sorts.{integer_yes, pointer_reference, scalar, goes, declared_reference}
-use Rattle.sharc_flat_laws.proofs.Expressions.{Facts, Stand, target_fits, lefts, no_function_held}
-use Rattle.sharc_flat_laws.proofs.Suiting.{suits, place, first}
-use Rattle.sharc_flat_laws.proofs.Scoped.{Same, Own, Known, stand, with_variable, new_here, path_stands}
+use Rattle.sharc_flat_laws.proofs.{KindLemmas.{one_kind, assigned_by}, Sorts.{integer_yes, pointer_reference, scalar, goes, declared_reference}, Expressions.{Facts, Stand, target_fits, lefts, no_function_held}, Suiting.{suits, place, first}, Scoped.{Same, Own, Known, stand, with_variable, new_here, path_stands}}
+use Rattle.sharc_lemmas.proofs.Lists.{front, back, both}
 
 abbrev Has : Resolution → Expression → Type 0
 Has r e = HasType r e (kind_at r e)

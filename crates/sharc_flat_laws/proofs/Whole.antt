@@ -1,38 +1,19 @@
 -- Each function of a typed program suits.
-use Rattle.std.proofs.Common.{◌≡◌, ℕ, zero, suc, false, List, [], ◌∷◌, ◌++◌, length, slice_get, refl, ap, subst, Some, is_some}
-use Rattle.std.proofs.lemmas.Bool.{false≢true}
+use Rattle.std.proofs.{Common.{◌≡◌, ℕ, zero, suc, false, List, [], ◌∷◌, ◌++◌, length, slice_get, refl, ap, subst, Some, is_some}, lemmas.Bool.false≢true}
 use Rattle.std.specs.List.{AllByRecursion}
-use Rattle.sharc_tree.specs.declared.tree.declaration.Declaration.{Declaration}
-use Rattle.sharc_tree.specs.Low.{LowItems, LowStatements}
-use Rattle.sharc_tree.specs.Tree.{Function, Item, structure, global, function}
+use Rattle.sharc_tree.specs.{declared.tree.declaration.Declaration.Declaration, Low.{LowItems, LowStatements}, Tree.{Function, Item, structure, global, function}}
 use Rattle.sharc_names.specs.declared.fault.Named.TheVariants as named
-use Rattle.sharc_names.specs.declared.scope.Scope.{Scope}
-use Rattle.sharc_names.specs.Kinds.{declared_kind}
-use Rattle.sharc_names.specs.Names.{Entry}
+use Rattle.sharc_names.specs.{declared.scope.Scope.Scope, Kinds.declared_kind, Names.Entry}
 use Rattle.sharc_code.specs.declared.code.GlobalCells.{GlobalCells}
-use Rattle.sharc_ctype.specs.Items.{with_parameters, in_body, file_scope}
-use Rattle.sharc_ctype.specs.Resolved.{Resolution, functions_in}
-use Rattle.sharc_ctype.specs.Statements.{declared, is_aggregate, locals_in_all}
+use Rattle.sharc_ctype.specs.{Items.{with_parameters, in_body, file_scope}, Resolved.{Resolution, functions_in}, Statements.{declared, is_aggregate, locals_in_all}}
 use Rattle.sharc_mode.specs.Moded.{Assignment}
-use Rattle.sharc_ctype_laws.specs.Declared.{IsItself}
-use Rattle.sharc_ctype_laws.specs.Laws.{EachNamesItself, EachNamesFound, MeetsConstraints, OneType, MeetsStatements, AllFair, NamesFound, IsPlain, ArePlain}
-use Rattle.sharc_ctype_laws.specs.Places.{Placing, places_of, places_of_all}
-use Rattle.sharc_flat.specs.Flattened.{parameters_scope, in_function}
-use Rattle.sharc_flat.specs.Scope.{Context, slot_of}
-use Rattle.sharc_flat.specs.declared.slot.Slot.{Slot}
-use Rattle.sharc_ctype_laws.specs.Paths.{around_in}
+use Rattle.sharc_ctype_laws.specs.{Declared.IsItself, Laws.{EachNamesItself, EachNamesFound, MeetsConstraints, OneType, MeetsStatements, AllFair, NamesFound, IsPlain, ArePlain}, Places.{Placing, places_of, places_of_all}, Paths.around_in}
+use Rattle.sharc_flat.specs.{Flattened.{parameters_scope, in_function}, Scope.{Context, slot_of}, declared.slot.Slot.Slot}
 use Rattle.sharc_flat_laws.specs.Stands.{LocksAt, LocksAreFound, TypedSuits}
-use Rattle.sharc_flat_laws.proofs.AllLemmas.{front, back, together}
-use Rattle.sharc_flat_laws.proofs.FileNames.{in_file}
-use Rattle.sharc_flat_laws.proofs.Fits.{well_moded_fit}
-use Rattle.sharc_flat_laws.proofs.Unguarded.{globals_unguarded}
-use Rattle.sharc_flat_laws.proofs.Scoped.{MeaningIsHere, Same, Own, with_variable}
-use Rattle.sharc_flat_laws.proofs.Walking.{statements_suit}
+use Rattle.sharc_flat_laws.proofs.{FileNames.in_file, Fits.well_moded_fit, Unguarded.globals_unguarded, Scoped.{MeaningIsHere, Same, Own, with_variable}, Walking.statements_suit}
+use Rattle.sharc_lemmas.proofs.{Options.same_some, Lists.{front, back, together}}
 
 -- in lists
-
-same_some : {A : Type 0} (x y : A) → Some x ≡ Some y → x ≡ y
-same_some x y h = cc
 
 at_place : {A : Type 0} (P : A → Type 0) (list : List A) (n : ℕ) (x : A) → AllByRecursion P list → slice_get list n ≡ Some x → P x
 at_place P [] n x all is = absurd (false≢true (ap is_some is))

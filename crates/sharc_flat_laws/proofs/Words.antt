@@ -1,23 +1,13 @@
 -- What globals hold at first are words, and globals lie one after the other.
 use Rattle.std.proofs.Common.{◌≡◌, ℕ, zero, suc, ℤ, pos, negsuc, ◌+◌, ◌*◌, ◌/◌, ◌^◌, ◌<◌, ◌≤◌, inl, inr, Bool, true, false, cond, List, [], ◌∷◌, ◌++◌, length, take, replicate, Some, refl, sym, subst, arith}
-use Rattle.std.specs.Prelude.{neg_ℤ, slice_index, slice_index_or, unsigned_abs}
-use Rattle.std.specs.List.{AllByRecursion}
-use Rattle.sharc_tree.specs.declared.ctype.Base.{Base}
-use Rattle.sharc_tree.specs.declared.ctype.Base.TheVariants.{Int, Char, Long, Mutex, Void, Struct}
-use Rattle.sharc_tree.specs.declared.tree.declaration.WrittenType.{WrittenType}
-use Rattle.sharc_tree.specs.declared.tree.expression.Constant.{Constant}
-use Rattle.sharc_tree.specs.declared.tree.expression.Constant.TheVariants.{Number, Character, Null}
-use Rattle.sharc_tree.specs.declared.tree.item.GlobalDefinition.{GlobalDefinition}
-use Rattle.sharc_tree.specs.declared.tree.item.GlobalForm.{GlobalForm}
-use Rattle.sharc_tree.specs.declared.tree.item.GlobalForm.TheVariants.{Plain, Array, Initial}
-use Rattle.sharc_code.specs.Arithmetic.{word_of}
-use Rattle.sharc_code.specs.Ranges.{GlobalsFit, first_place, end_place}
-use Rattle.sharc_code.specs.Says.{no_global}
+use Rattle.std.specs.{Prelude.{neg_ℤ, slice_index, slice_index_or, unsigned_abs}, List.AllByRecursion}
+use Rattle.sharc_tree.specs.{declared.ctype.Base.Base, declared.ctype.Base.TheVariants.{Int, Char, Long, Mutex, Void, Struct}, declared.tree.declaration.WrittenType.WrittenType, declared.tree.expression.Constant.Constant, declared.tree.expression.Constant.TheVariants.{Number, Character, Null}, declared.tree.item.GlobalDefinition.GlobalDefinition, declared.tree.item.GlobalForm.GlobalForm, declared.tree.item.GlobalForm.TheVariants.{Plain, Array, Initial}}
+use Rattle.sharc_code.specs.{Arithmetic.word_of, Ranges.{GlobalsFit, first_place, end_place}, Says.no_global}
 use Rattle.sharc_ctype.specs.Resolved.{Resolution}
 use Rattle.sharc_ctype_laws.specs.Initials.{IsHeldBy, MeetsInitial, MeetsGlobal, number_of}
-use Rattle.sharc_meaning.specs.Reference.{constant_value}
-use Rattle.sharc_meaning.specs.Store.{form_value}
+use Rattle.sharc_meaning.specs.{Reference.constant_value, Store.form_value}
 use Rattle.sharc_flat.specs.Tables.{cells_in, granules_in, globals_from, all_granules, first_words, all_first_words}
+use Rattle.sharc_lemmas.proofs.Numbers.{half}
 
 -- ---- words
 -- a number of 63 bits and a sign is a word
@@ -92,9 +82,6 @@ pub words : (r : Resolution) (gs : List GlobalDefinition) → AllByRecursion Mee
 words r gs h j = word_at (all_first_words r gs) j (all_words r gs h)
 
 -- ---- globals
-half : (n : ℕ) → n ≤ 2 * ((n + 1) / 2)
-half n = omega arith
-
 -- from a granule on
 starts : (r : Resolution) (at : ℕ) (gs : List GlobalDefinition) (g : ℕ) → g < length (globals_from r at gs) → at ≤ (slice_index_or (globals_from r at gs) g no_global).granule
 starts r at [] g lt = absurd (omega arith)

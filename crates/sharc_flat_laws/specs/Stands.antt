@@ -1,39 +1,22 @@
 -- What holds where an expression is: the variables that it names and those of the lock paths that it uses are in the flat scope.
-use Rattle.std.specs.Prelude.{◌≡◌, ℕ, false, true, List, Option, Some, None}
-use Rattle.std.specs.List.{AllByRecursion}
-use Rattle.sharc_tree.specs.declared.tree.declaration.Declaration.{Declaration}
-use Rattle.sharc_tree.specs.Low.{IsLow}
-use Rattle.sharc_tree.specs.Placed.{IsPlaced}
+use Rattle.std.specs.{Prelude.{◌≡◌, ℕ, false, true, List, Option, Some, None}, List.AllByRecursion}
+use Rattle.sharc_tree.specs.{declared.tree.declaration.Declaration.Declaration, Low.IsLow, Placed.IsPlaced}
 use Rattle.sharc_tree.specs.Tree.{Expression, identifier, First, nothing, declares, does, Statement, Statements, no_statements, statement}
 use Rattle.sharc_tree.specs.Tree as tree
-use Rattle.sharc_names.specs.declared.fault.Named.{Named}
+use Rattle.sharc_names.specs.{declared.fault.Named.Named, Kinds.is_pointer, Names.Entry}
 use Rattle.sharc_names.specs.declared.fault.Named.TheVariants as named
-use Rattle.sharc_names.specs.Kinds.{is_pointer}
-use Rattle.sharc_names.specs.Names.{Entry}
 use Rattle.sharc_ctype.specs.Items.{file_scope, in_body}
 use Rattle.sharc_ctype.specs.Resolved.{Resolution, IsResolved, functions_in, declaration_at, global_at, kind_at, named_at, variable_kind}
 use Rattle.sharc_ctype.specs.Statements.{Around, is_aggregate, opened, looping, declared, behind_first, after}
-use Rattle.sharc_mode.specs.Cells.{cell_at, global_cell, pointed}
-use Rattle.sharc_ctype.specs.declared.entity.Entity.{Entity}
-use Rattle.sharc_ctype.specs.Entities.{entities_in}
-use Rattle.sharc_mode.specs.Flows.{IsLeastAssignment}
-use Rattle.sharc_mode.specs.WellModed.{WellModed}
-use Rattle.sharc_mode.specs.WellFormed.{first_unfit_path, place_of}
-use Rattle.sharc_mode.specs.Moded.{Assignment}
-use Rattle.sharc_mode.specs.Rows.{written, row_at, declared_row}
-use Rattle.sharc_mode.specs.Sharings.{Sharing, locked}
-use Rattle.sharc_ctype_laws.specs.Constraints.{HasType}
-use Rattle.sharc_ctype_laws.specs.Paths.{IsVariableIn, around_in}
+use Rattle.sharc_ctype.specs.{declared.entity.Entity.Entity, Entities.entities_in}
+use Rattle.sharc_mode.specs.{Cells.{cell_at, global_cell, pointed}, Flows.IsLeastAssignment, WellModed.WellModed}
+use Rattle.sharc_mode.specs.{WellFormed.{first_unfit_path, place_of}, Moded.Assignment}
+use Rattle.sharc_mode.specs.{Rows.{written, row_at, declared_row}, Sharings.{Sharing, locked}}
+use Rattle.sharc_ctype_laws.specs.{Constraints.HasType, Paths.{IsVariableIn, around_in}}
 use Rattle.sharc_ctype_laws.specs.Places.{Placing, places_of_all}
-use Rattle.sharc_flat_form.specs.declared.flat.Flat.{Flat as FlatCode}
-use Rattle.sharc_flat_form.specs.Framed.{IsFlat, IsFramed}
-use Rattle.sharc_flat_form.specs.Made.{flat_of}
-use Rattle.sharc_flat.specs.Correct.{ProgramSuits, AsksTheSame}
-use Rattle.sharc_flat.specs.Flattens.{Flattens}
-use Rattle.sharc_flat.specs.Laws.{FitsMade}
-use Rattle.sharc_flat.specs.Places.{guard_field}
-use Rattle.sharc_flat.specs.Scope.{Context, slot_kind}
-use Rattle.sharc_flat.specs.Suits.{PathStands}
+use Rattle.sharc_flat_form.specs.{declared.flat.Flat.{Flat as FlatCode}, Framed.{IsFlat, IsFramed}, Made.flat_of}
+use Rattle.sharc_flat.specs.{Correct.{ProgramSuits, AsksTheSame}, Flattens.Flattens, Laws.FitsMade, Places.guard_field}
+use Rattle.sharc_flat.specs.{Scope.{Context, slot_kind}, Suits.PathStands}
 
 -- a variable that is named is in the scope, in the bank of its type, and is no struct and no mutex
 pub record IsHere (c : Context) (token : ℕ) : Type 0 where

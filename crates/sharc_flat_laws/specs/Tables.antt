@@ -1,13 +1,9 @@
 -- What flattening makes of a typed program spawns functions of the program, and its tables are in their ranges.
-use Rattle.std.specs.Prelude.{ℕ}
-use Rattle.std.specs.List.{AllByRecursion}
-use Rattle.sharc_tree.specs.Low.{IsLow}
-use Rattle.sharc_tree.specs.Placed.{IsPlaced}
-use Rattle.sharc_ctype.specs.Reaches.{Spawns}
-use Rattle.sharc_ctype.specs.Resolved.{Resolution, IsResolved}
+use Rattle.std.specs.{Prelude.ℕ, List.AllByRecursion}
+use Rattle.sharc_tree.specs.{Low.IsLow, Placed.IsPlaced}
+use Rattle.sharc_ctype.specs.{Reaches.Spawns, Resolved.{Resolution, IsResolved}}
 use Rattle.sharc_mode.specs.Moded.{Assignment}
-use Rattle.sharc_flat_form.specs.declared.flat.Flat.{Flat as FlatCode}
-use Rattle.sharc_flat_form.specs.declared.op.Op.{Op}
+use Rattle.sharc_flat_form.specs.{declared.flat.Flat.{Flat as FlatCode}, declared.op.Op.Op}
 use Rattle.sharc_flat_form.specs.declared.op.Op.TheVariants as op
 use Rattle.sharc_flat.specs.Flattens.{Flattens}
 use Rattle.sharc_guard.specs.Tables.{FlatTablesFit}

@@ -1,10 +1,7 @@
 -- A typed, well-moded program with its least assignment: what the laws of its code ask of it.
-use Rattle.sharc_tree.specs.Low.{IsLow}
-use Rattle.sharc_tree.specs.Placed.{IsPlaced}
+use Rattle.sharc_tree.specs.{Low.IsLow, Placed.IsPlaced}
 use Rattle.sharc_ctype.specs.Resolved.{IsResolved}
-use Rattle.sharc_mode.specs.Flows.{IsLeastAssignment}
-use Rattle.sharc_mode.specs.Moded.{Assignment}
-use Rattle.sharc_mode.specs.WellModed.{WellModed}
+use Rattle.sharc_mode.specs.{Flows.IsLeastAssignment, Moded.Assignment, WellModed.WellModed}
 
 pub record IsTypedProgram (m : Assignment) : Type 0 where
   pub resolved : IsResolved m.typed

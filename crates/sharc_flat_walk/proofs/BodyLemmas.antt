@@ -1,26 +1,12 @@
 -- The lines of statements, made one after the other.
-use Rattle.std.proofs.Common.{◌≡◌, ℕ, ◌+◌, ◌-◌, ◌<◌, ◌≤◌, Bool, List, [], ◌∷◌, ◌++◌, length, set, Option, Some, None, refl, ap, sym, ◌∙◌, append_assoc, length-append}
-use Rattle.std.proofs.lemmas.List.{length-set}
-use Rattle.sharc_tree.specs.declared.token.Span.{Span}
-use Rattle.sharc_tree.specs.Tree.{Expression, Simple, Statement, Statements, Head, block, if_then_else}
+use Rattle.std.proofs.{Common.{◌≡◌, ℕ, ◌+◌, ◌-◌, ◌<◌, ◌≤◌, Bool, List, [], ◌∷◌, ◌++◌, length, set, Option, Some, None, refl, ap, sym, ◌∙◌, append_assoc}, lemmas.List.length-set}
+use Rattle.sharc_tree.specs.{declared.token.Span.Span, Tree.{Expression, Simple, Statement, Statements, block, if_then_else}, declared.token.Site.Site, Spans.span_of}
 use Rattle.sharc_names.specs.declared.kind.Kind.{Kind as RustKind}
-use Rattle.sharc_flat_form.specs.declared.op.Op.{Op}
-use Rattle.sharc_flat_form.specs.declared.op.Op.TheVariants.{BlockEnd, Enter, Return, Skip, SkipIfZero}
-use Rattle.sharc_flat.specs.declared.slot.Slot.{Slot}
-use Rattle.sharc_flat_form.specs.declared.op.Spot.{Spot}
-use Rattle.sharc_tree.specs.declared.token.Site.{Site}
-use Rattle.sharc_tree.specs.Spans.{span_of}
+use Rattle.sharc_flat_form.specs.{declared.op.Op.Op, declared.op.Op.TheVariants.{Enter, Return, Skip, SkipIfZero}, declared.op.Spot.Spot}
+use Rattle.sharc_flat.specs.{declared.slot.Slot.Slot, Places.width_code, Scope.{Context, at_site, leaves}, Flattened.{Around, refs_of, expression_code, return_code, result_code, zero_code, looping, ints_of, test_code, turn_code, step_code, if_code, choice_code, loop_code, statement_code}}
 use Rattle.sharc_meaning.specs.State.{is_reference}
-use Rattle.sharc_flat.specs.Places.{width_code}
-use Rattle.sharc_flat.specs.Scope.{Context, at_site, ends_from, leaves}
-use Rattle.sharc_flat.specs.Flattened.{Around, refs_of, expression_code, return_code, result_code, zero_code, opened, looping, ints_of, test_code, turn_code, step_code, first_code, behind_first, if_code, choice_code, loop_code, statement_code, statements_code, behind_statements}
-use Rattle.sharc_flat_walk.specs.declared.bodies.Around.{Around as RustAround}
-use Rattle.sharc_flat_walk.specs.declared.patch.Hole.{Hole}
-use Rattle.sharc_flat_walk.specs.declared.source.Source.{Source}
-use Rattle.sharc_flat_walk.specs.View.{context, outermost, around_of, hole_at, hole_of, finished, block_code, loop_in, for_in}
-use Rattle.sharc_flat_walk.proofs.ScopeLemmas.{innermost_push, outermost_push, innermost_none, outermost_whole}
-use Rattle.sharc_flat_walk.proofs.StatementLemmas.{context_is, grown_first}
-use Rattle.sharc_flat_walk.proofs.WalkLemmas.{entered, chosen, chosen_sides, looped_always, looped_while, hole_within}
+use Rattle.sharc_flat_walk.specs.{declared.bodies.Around.{Around as RustAround}, declared.patch.Hole.Hole, declared.source.Source.Source, View.{context, outermost, around_of, hole_at, hole_of, finished, block_code}}
+use Rattle.sharc_flat_walk.proofs.{ScopeLemmas.{innermost_none, outermost_whole}, WalkLemmas.{entered, chosen, chosen_sides, looped_always, looped_while}}
 
 -- ---- choices, where the code of the test is over an equal context
 pub choice_lines : (c d : Context) (e : Expression) (old l1 l2 l3 : List Op) (h : Hole) (F : ℕ → List Op) → d ≡ c → l1 ≡ old ++ turn_code d (Some e) 0 → h ≡ hole_at d (length l1)
@@ -38,9 +24,6 @@ sides_lines c d e old l1 l2 l3 l4 l5 l6 h over F G same e1 at e2 e3 over_at e4 e
     (e1 ∙ ap (λ k. old ++ turn_code k (Some e) 0) same) e2 (ap (λ k. k.line) at)
     (e3 ∙ ap (λ r. set l2 h.line (SkipIfZero r (length l2 - h.line - 1 + 1))) (ap (λ k. k.register) at ∙ ap ints_of same))
     over_at e4 e5 e6
-
-pub turn_within : (d : Context) (e : Expression) (old l1 l2 body : List Op) (h : Hole) → l1 ≡ old ++ turn_code d (Some e) 0 → h ≡ hole_at d (length l1) → l2 ≡ l1 ++ body → h.line < length l2
-turn_within d e old l1 l2 body h e1 at e2 = hole_within old (test_code d e) l1 l2 body (ints_of d) h.line e1 e2 (ap (λ k. k.line) at)
 
 -- ---- a return
 pub returned_nothing : (c : Context) (a : Around) (site : Site) (spot : Spot) (all : List ℕ) (g : Bool) (old l1 l2 l3 : List Op) → all ≡ a.inside ++ a.outside → g ≡ is_reference a.result → spot ≡ at_site site
@@ -98,47 +81,6 @@ around_within result b k n broken continued outer pc marks eb ek en =
     ∙ ap (λ l. record { result = a.result; broken = pc + 1; continued = pc + 2; inside = []; outside = l }) (outermost_whole outer marks)
 
 -- ---- blocks
-pub around_opened : (c : Context) (a : RustAround) (marks pushed : List ℕ) (n : ℕ) → a.outer ≤ length marks → pushed ≡ marks ++ n ∷ [] → n ≡ length c.scope → around_of a pushed ≡ opened c (around_of a marks)
-around_opened c a marks pushed n within e size =
-    let b = around_of a marks in
-    ap (around_of a) e
-    ∙ ap (λ l. record { result = b.result; broken = a.broken; continued = a.continued; inside = l; outside = outermost a.outer (marks ++ n ∷ []) }) (innermost_push a.outer marks n within)
-    ∙ ap (λ l. record { result = b.result; broken = a.broken; continued = a.continued; inside = n ∷ b.inside; outside = l }) (outermost_push a.outer marks n within)
-    ∙ ap (λ k. record { result = b.result; broken = a.broken; continued = a.continued; inside = k ∷ b.inside; outside = b.outside }) size
-
-pub block_lines : (p : Source) (xs ys zs : List Slot) (a : RustAround) (marks pushed : List ℕ) (all : Statements) (began : ℕ) (old l1 l2 l3 : List Op)
-    → a.outer ≤ length marks → began ≡ length xs → pushed ≡ marks ++ began ∷ [] → l1 ≡ old ++ statements_code (context p xs) (around_of a pushed) (length old) all
-    → ys ≡ (behind_statements (context p xs) all).scope → zs ≡ ys → l2 ≡ l1 ++ ends_from zs began → l3 ≡ l2 ++ BlockEnd ∷ []
-    → l3 ≡ old ++ block_code (context p xs) (around_of a marks) (length old) all
-block_lines p xs ys zs a marks pushed all began old l1 l2 l3 within size push e1 ends same e2 e3 =
-    let c = context p xs in
-    let S = statements_code c (opened c (around_of a marks)) (length old) all in
-    let E = ends_from (behind_statements c all).scope (length xs) in
-    let first : l1 ≡ old ++ S = e1 ∙ ap (λ k. old ++ statements_code c k (length old) all) (around_opened c a marks pushed began within push size) in
-    let second : l2 ≡ (old ++ S) ++ E = e2 ∙ ap (λ l. l ++ ends_from zs began) first ∙ ap (λ l. (old ++ S) ++ ends_from l began) (same ∙ ends) ∙ ap (λ n. (old ++ S) ++ ends_from (behind_statements c all).scope n) size in
-    e3 ∙ ap (λ l. l ++ BlockEnd ∷ []) (second ∙ append_assoc old S E) ∙ append_assoc old (S ++ E) (BlockEnd ∷ [])
-
-pub counted_lines : (p : Source) (xs ys zs : List Slot) (a : RustAround) (marks pushed : List ℕ) (h : Head) (x : Statement) (test : Option Expression) (step : Option Simple) (began : ℕ) (old l1 l2 l3 : List Op)
-    → a.outer ≤ length marks → began ≡ length xs → pushed ≡ marks ++ began ∷ [] → l1 ≡ old ++ first_code (context p xs) h.first → ys ≡ (behind_first (context p xs) h.first).scope
-    → test ≡ h.test → step ≡ h.step → l2 ≡ l1 ++ loop_in (context p ys) (around_of a pushed) (length l1) test step x → zs ≡ ys → l3 ≡ l2 ++ ends_from zs began
-    → l3 ≡ old ++ for_in (context p xs) (around_of a marks) (length old) h x
-counted_lines p xs ys zs a marks pushed h x test step began old l1 l2 l3 within size push e1 ends et es e2 same e3 =
-    let c = context p xs in
-    let f = first_code c h.first in
-    let b = behind_first c h.first in
-    let next : context p ys ≡ b = context_is p xs ys b (grown_first c h.first) ends in
-    let here : length l1 ≡ length old + length f = ap length e1 ∙ length-append old f in
-    let o = opened c (around_of a marks) in
-    let L = loop_in b o (length old + length f) h.test h.step x in
-    let E = ends_from b.scope (length xs) in
-    let second : l2 ≡ (old ++ f) ++ L = e2 ∙ ap (λ k. l1 ++ loop_in k (around_of a pushed) (length l1) test step x) next
-    ∙ ap (λ k. l1 ++ loop_in b k (length l1) test step x) (around_opened c a marks pushed began within push size)
-    ∙ ap (λ n. l1 ++ loop_in b o n test step x) here
-    ∙ ap (λ t. l1 ++ loop_in b o (length old + length f) t step x) et
-    ∙ ap (λ t. l1 ++ loop_in b o (length old + length f) h.test t x) es
-    ∙ ap (λ l. l ++ L) e1 in
-    let third : l3 ≡ ((old ++ f) ++ L) ++ E = e3 ∙ ap (λ l. l ++ ends_from zs began) second ∙ ap (λ l. ((old ++ f) ++ L) ++ ends_from l began) (same ∙ ends) ∙ ap (λ n. ((old ++ f) ++ L) ++ ends_from b.scope n) size in
-    third ∙ ap (λ l. l ++ E) (append_assoc old f L) ∙ append_assoc old (f ++ L) E
 
 -- ---- statements with equal parts, after their Enter
 pub block_at : (c : Context) (a : Around) (s : Span) (x : Statement) (all again : Statements) (old l1 l2 : List Op) → x ≡ block s all → again ≡ all → l1 ≡ old ++ Enter ∷ [] → l2 ≡ l1 ++ block_code c a (length l1) again

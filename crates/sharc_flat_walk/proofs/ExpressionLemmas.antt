@@ -1,26 +1,12 @@
 -- The code of an expression is that of its operands, and then its own.
 use Rattle.std.proofs.Common.{◌≡◌, ℕ, ◌+◌, Bool, true, false, List, [], ◌∷◌, ◌++◌, length, Option, None, if◌then◌else◌, refl, ap, sym, ◌∙◌, append_assoc}
-use Rattle.sharc_tree.specs.declared.token.Site.{Site}
-use Rattle.sharc_tree.specs.declared.tree.expression.BinaryOperator.{BinaryOperator}
-use Rattle.sharc_tree.specs.declared.tree.expression.BinaryOperator.TheVariants.{LogicalOr, LogicalAnd, BitOr, BitXor, BitAnd, Equal, NotEqual, Less, Greater, LessOrEqual, GreaterOrEqual, ShiftLeft, ShiftRight, Add, Subtract, Multiply, Divide, Remainder}
-use Rattle.sharc_tree.specs.declared.token.Span.{Span}
-use Rattle.sharc_tree.specs.declared.tree.declaration.Declaration.{Declaration}
-use Rattle.sharc_tree.specs.declared.tree.declaration.Identifier.{Identifier}
-use Rattle.sharc_tree.specs.Tree.{Expression, Arguments, call, index, binary}
-use Rattle.sharc_names.specs.declared.fault.Named.{Named}
-use Rattle.sharc_names.specs.Kinds.{declared_kinds}
-use Rattle.sharc_ctype.specs.Resolved.{named_at}
-use Rattle.sharc_ctype.specs.Transfers.{parameters_named}
-use Rattle.sharc_flat_form.specs.declared.op.Spot.{Spot}
-use Rattle.sharc_names.specs.Kinds.{is_array, element_kind}
-use Rattle.sharc_ctype.specs.Resolved.{kind_at, global_at}
+use Rattle.sharc_tree.specs.{declared.token.Site.Site, declared.tree.expression.BinaryOperator.BinaryOperator, declared.tree.expression.BinaryOperator.TheVariants.{LogicalOr, LogicalAnd, BitOr, BitXor, BitAnd, Equal, NotEqual, Less, Greater, LessOrEqual, GreaterOrEqual, ShiftLeft, ShiftRight, Add, Subtract, Multiply, Divide, Remainder}, declared.token.Span.Span, declared.tree.declaration.Declaration.Declaration, declared.tree.declaration.Identifier.Identifier, Tree.{Expression, Arguments, call, index, binary}}
+use Rattle.sharc_names.specs.{declared.fault.Named.Named, Kinds.{declared_kinds, is_array, element_kind}}
+use Rattle.sharc_ctype.specs.{Resolved.{named_at, kind_at, global_at}, Transfers.parameters_named}
+use Rattle.sharc_flat_form.specs.{declared.op.Spot.Spot, declared.op.Op.Op, Machine.first_cell}
 use Rattle.sharc_meaning.specs.Cells.{element_cells, global_elements}
-use Rattle.sharc_flat_form.specs.declared.op.Op.{Op}
 use Rattle.sharc_flat_form.specs.declared.op.Op.TheVariants as op
-use Rattle.sharc_flat_form.specs.Machine.{first_cell}
-use Rattle.sharc_flat.specs.Scope.{Context, at_site}
-use Rattle.sharc_flat.specs.Places.{bounds_code, global_of, index_code, own_field, target}
-use Rattle.sharc_flat.specs.Flattened.{is_ref, truth_code, binary_code, expression_code, arguments_code, called_code, place_code, guard_of, lvalue_code}
+use Rattle.sharc_flat.specs.{Scope.{Context, at_site}, Places.{bounds_code, global_of, index_code, own_field, target}, Flattened.{is_ref, truth_code, binary_code, expression_code, arguments_code, called_code, place_code, guard_of, lvalue_code}}
 use Rattle.sharc_flat_walk.specs.View.{indexed_code, index_register, element_code}
 
 binary_split : (c : Context) (i r : ℕ) (at : Site) (o : BinaryOperator) (a b : Expression) (of_a : List Op) (of_b : ℕ → ℕ → List Op) → binary_code c i r at o a b of_a of_b ≡ of_a ++ binary_code c i r at o a b [] of_b

@@ -1,11 +1,8 @@
 -- Lines that are made one after the other.
-use Rattle.std.proofs.Common.{◌≡◌, ℕ, ◌+◌, ◌-◌, ◌<◌, List, [], ◌∷◌, ◌++◌, length, set, take, Option, Some, None, refl, ap, sym, ◌∙◌, arith, append_assoc, length-append}
-use Rattle.std.proofs.lemmas.List.{set-append_right, length_push, length-set, take_at}
-use Rattle.sharc_flat_form.specs.declared.op.Op.{Op}
-use Rattle.sharc_flat_form.specs.declared.op.Op.TheVariants.{Enter, IsFalse, Jump, Skip, SkipIfZero}
+use Rattle.std.proofs.{Common.{◌≡◌, ℕ, ◌+◌, ◌-◌, ◌<◌, List, [], ◌∷◌, ◌++◌, length, set, take, Some, None, refl, ap, sym, ◌∙◌, arith, append_assoc, length-append}, lemmas.List.{set-append_right, length_push, take_at}}
+use Rattle.sharc_flat_form.specs.{declared.op.Op.Op, declared.op.Op.TheVariants.{Enter, IsFalse, Jump, Skip, SkipIfZero}}
 use Rattle.sharc_flat.specs.Flattened.{if_code, choice_code, turns_code, loop_code}
-use Rattle.sharc_flat_walk.specs.declared.patch.Hole.{Hole}
-use Rattle.sharc_flat_walk.specs.View.{decided_code, with_hole, finished}
+use Rattle.sharc_flat_walk.specs.View.{decided_code, finished}
 
 set_at : (xs ys : List Op) (n k : ℕ) (v : Op) → n ≡ length xs + k → set (xs ++ ys) n v ≡ xs ++ set ys k v
 set_at xs ys n k v e =
@@ -38,11 +35,6 @@ decided old e t filled_in l1 l2 l3 l5 l6 i more n at e1 e2 e3 e4 e5 e6 =
     ∙ append_assoc old (SkipIfZero i (length (e ++ t) + more) ∷ (e ++ t)) (f ∷ f ∷ [])
 
 -- ---- statements one after the other, each by its place
-pub stepped : (lines new all : List Op) (F R : ℕ → List Op) → lines ++ (F (length lines) ++ R (length lines + length (F (length lines)))) ≡ all → new ≡ lines ++ F (length lines) → new ++ R (length new) ≡ all
-stepped lines new all F R is new_is =
-    let f = F (length lines) in
-    let size : length new ≡ length lines + length f = ap length new_is ∙ length-append lines f in
-    ap (λ n. new ++ R n) size ∙ ap (λ l. l ++ R (length lines + length f)) new_is ∙ append_assoc lines f (R (length lines + length f)) ∙ is
 
 -- the lines after an Enter
 pub entered : (old begun new : List Op) (F : ℕ → List Op) → begun ≡ old ++ Enter ∷ [] → new ≡ begun ++ F (length begun) → new ≡ old ++ Enter ∷ F (length old + 1)
@@ -208,15 +200,3 @@ looped_while old test step l1 l2 l3 l4 l5 l6 l7 l8 i F e1 e2 e3 e4 e5 e6 e7 e8 =
 -- ---- variables that begin stay those before them
 pub kept_first : {A : Type 0} (xs ys zs : List A) → ys ≡ xs ++ zs → take (length xs) ys ≡ xs
 kept_first xs ys zs e = ap (take (length xs)) e ∙ take_at xs zs (length xs) refl
-
--- a hole is one of the lines
-pub hole_within : (old test l1 l2 body : List Op) (i n : ℕ) → l1 ≡ old ++ led test i 0 → l2 ≡ l1 ++ body → n ≡ length l1 - 1 → n < length l2
-hole_within old test l1 l2 body i n e1 e2 at =
-    omega (arith, ap length e1, ap length e2, length-append old (led test i 0), length-append test (SkipIfZero i 0 ∷ []), length-append l1 body)
-
-pub length_filled : (lines : List Op) (n : ℕ) (v : Op) → length (set lines n v) ≡ length lines
-length_filled lines n v = length-set lines n v
-
-pub length_with_hole : (hole : Option Hole) (lines : List Op) → length (with_hole hole lines) ≡ length lines
-length_with_hole None lines = refl
-length_with_hole (Some h) lines = length-set lines h.line (SkipIfZero h.register (length lines - h.line - 1 + 1))

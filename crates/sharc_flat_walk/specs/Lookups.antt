@@ -1,11 +1,8 @@
 -- What flattening looks up: the structs by their names, and the places of fields by the tokens that declare them.
-use Rattle.std.specs.Prelude.{◌≡◌, ℕ, List, nat_eq, cond, Option, Some, unwrap_or}
-use Rattle.std.specs.Borrow.{Bor}
-use Rattle.std.specs.Option.{option_map_or}
-use Rattle.std.specs.Str.{bytes_eq}
-use Rattle.indexmap.specs.IndexMap.{get, get_by, IndexMap}
-use Rattle.std.specs.declared.hash.FoldHasher.{FoldHasher}
+use Rattle.std.specs.{Prelude.{◌≡◌, ℕ, List, nat_eq, cond, Option, Some, unwrap_or}, Borrow.Bor, Option.option_map_or}
+use Rattle.std.specs.{Str.bytes_eq, declared.hash.FoldHasher.FoldHasher}
 use Rattle.std.specs.declared.hash.BuildHasherDefault.{BuildHasherDefault}
+use Rattle.indexmap.specs.IndexMap.{get, get_by, IndexMap}
 use Rattle.sharc_tree.specs.declared.tree.declaration.Declaration.{Declaration}
 use Rattle.sharc_tree.specs.declared.tree.item.StructDefinition.{StructDefinition}
 use Rattle.sharc_meaning.specs.Cells.{struct_cells, field_place_in, place_in}

@@ -1,37 +1,29 @@
 -- What the values of the walk are in the definitions.
 use Rattle.std.specs.Prelude.{ℕ, ◌+◌, ◌-◌, false, List, [], ◌∷◌, ◌++◌, length, reverse, take, drop, slice_set, Option, None, Some, if◌then◌else◌}
-use Rattle.sharc_names.specs.View.{view_kind}
-use Rattle.sharc_flat_walk.specs.declared.bodies.Around.{Around as RustAround}
-use Rattle.sharc_tree.specs.Spans.{span_of}
-use Rattle.sharc_tree.specs.Tree as tree
-use Rattle.sharc_mode.specs.declared.sharing.Sharing.TheVariants.{Private}
-use Rattle.sharc_flat_walk.specs.declared.spots.SpotAccess.{SpotAccess}
-use Rattle.sharc_flat.specs.Flattened.{Around, first_cell_of, opened, looping, simple_code, ints_of, refs_of, first_code, behind_first, step_code, turn_code, if_code, loop_code, statement_code, statements_code, behind_statements}
-use Rattle.sharc_tree.specs.declared.token.Site.{Site}
-use Rattle.sharc_tree.specs.declared.tree.expression.BinaryOperator.{BinaryOperator}
-use Rattle.sharc_tree.specs.declared.tree.expression.BinaryOperator.TheVariants.{LogicalAnd, LogicalOr}
+use Rattle.sharc_names.specs.{View.view_kind, Kinds.{is_array, element_kind}}
+use Rattle.sharc_flat_walk.specs.{declared.bodies.Around.{Around as RustAround}, declared.spots.SpotAccess.SpotAccess}
 use Rattle.sharc_flat_walk.specs.declared.operations.Evaluation.{Evaluation}
-use Rattle.sharc_flat_walk.specs.declared.operations.Evaluation.TheVariants.{And, Or, Both}
-use Rattle.sharc_code.specs.declared.code.Use.{Use}
-use Rattle.sharc_code.specs.declared.code.Use.TheVariants as uses
-use Rattle.sharc_flat_form.specs.declared.op.Op.{Op}
-use Rattle.sharc_flat_form.specs.declared.op.Spot.{Spot}
-use Rattle.sharc_flat_form.specs.declared.op.Op.TheVariants as op
-use Rattle.sharc_flat_walk.specs.declared.patch.Hole.{Hole}
-use Rattle.sharc_flat_walk.specs.declared.places.Bound.{Bound}
-use Rattle.sharc_flat_walk.specs.declared.places.Bound.TheVariants as bound
-use Rattle.sharc_flat_walk.specs.declared.places.Taking.{Taking}
-use Rattle.sharc_flat_walk.specs.declared.places.Taking.TheVariants.{Cast, Free}
-use Rattle.sharc_flat.specs.declared.slot.Slot.{Slot}
-use Rattle.sharc_flat_walk.specs.declared.source.Source.{Source}
+use Rattle.sharc_flat_walk.specs.{declared.operations.Evaluation.TheVariants.{And, Or, Both}, declared.patch.Hole.Hole}
+use Rattle.sharc_flat_walk.specs.{declared.places.Bound.Bound, declared.places.Taking.Taking}
+use Rattle.sharc_flat_walk.specs.{declared.places.Taking.TheVariants.{Cast, Free}, declared.source.Source.Source}
 use Rattle.sharc_flat_walk.specs.declared.target.Target.{Target as RustTarget}
 use Rattle.sharc_flat_walk.specs.declared.target.Target.TheVariants.{Variable, InGlobal, InGlobalAt, InObject, InObjectAt}
-use Rattle.sharc_names.specs.Kinds.{is_array, element_kind}
-use Rattle.sharc_ctype.specs.Resolved.{kind_at, global_at}
-use Rattle.sharc_meaning.specs.Cells.{element_cells, global_elements}
-use Rattle.sharc_flat_form.specs.Machine.{first_cell}
+use Rattle.sharc_tree.specs.{Spans.span_of, declared.token.Site.Site}
+use Rattle.sharc_tree.specs.declared.tree.expression.BinaryOperator.{BinaryOperator}
+use Rattle.sharc_tree.specs.declared.tree.expression.BinaryOperator.TheVariants.{LogicalAnd, LogicalOr}
+use Rattle.sharc_tree.specs.Tree as tree
+use Rattle.sharc_mode.specs.declared.sharing.Sharing.TheVariants.{Private}
+use Rattle.sharc_flat.specs.Flattened.{Around, first_cell_of, opened, looping, simple_code, ints_of, refs_of, first_code, behind_first, step_code, turn_code, if_code, loop_code, statement_code, statements_code, behind_statements}
+use Rattle.sharc_flat.specs.declared.slot.Slot.{Slot}
 use Rattle.sharc_flat.specs.Places.{Target, bounds_code, global_of, own_field, target, variable, in_global, in_global_at, in_object, in_object_at}
 use Rattle.sharc_flat.specs.Scope.{Context, at_site, ends_from}
+use Rattle.sharc_code.specs.declared.code.Use.{Use}
+use Rattle.sharc_code.specs.declared.code.Use.TheVariants as uses
+use Rattle.sharc_flat_form.specs.{declared.op.Op.Op, declared.op.Spot.Spot, Machine.first_cell}
+use Rattle.sharc_flat_form.specs.declared.op.Op.TheVariants as op
+use Rattle.sharc_flat_walk.specs.declared.places.Bound.TheVariants as bound
+use Rattle.sharc_ctype.specs.Resolved.{kind_at, global_at}
+use Rattle.sharc_meaning.specs.Cells.{element_cells, global_elements}
 
 abbrev pub view_target : RustTarget → Target
 view_target (Variable x) = variable x

@@ -1,14 +1,12 @@
 -- The tables of the globals, from one on.
-use Rattle.std.proofs.Common.{◌≡◌, ℕ, zero, suc, pos, negsuc, ℤ, ◌+◌, ◌-◌, ◌*◌, ◌/◌, ◌%◌, ◌^◌, ◌<◌, List, [], ◌∷◌, ◌++◌, take, drop, replicate, Some, ap, sym, ◌∙◌, arith, append_assoc}
-use Rattle.std.proofs.lemmas.List.{take-replicate}
-use Rattle.std.specs.Prelude.{slice_get, neg_ℤ}
+use Rattle.std.proofs.Common.{◌≡◌, ℕ, ◌+◌, ◌-◌, ◌*◌, ◌/◌, ◌%◌, ◌^◌, ◌<◌, List, [], ◌∷◌, ◌++◌, take, drop, replicate, Some, ap, sym, ◌∙◌, arith, append_assoc}
+use Rattle.std.specs.Prelude.{slice_get}
 use Rattle.sharc_tree.specs.declared.tree.item.GlobalDefinition.{GlobalDefinition}
-use Rattle.sharc_code.specs.declared.code.GlobalCells.{GlobalCells}
-use Rattle.sharc_code.specs.Arithmetic.{word_of}
+use Rattle.sharc_code.specs.{declared.code.GlobalCells.GlobalCells, Arithmetic.word_of}
 use Rattle.sharc_ctype.specs.Resolved.{Resolution}
 use Rattle.sharc_meaning.specs.Store.{form_value}
 use Rattle.sharc_flat.specs.Tables.{cells_in, granules_in, globals_from, all_granules, first_words, all_first_words}
-use Rattle.sharc_flatten.proofs.ListLemmas.{drop_got}
+use Rattle.sharc_lemmas.proofs.Lists.{got as drop_got}
 
 pub list_more : (r : Resolution) (gs : List GlobalDefinition) (n granules cells after : ℕ) (g : GlobalDefinition) (list new whole : List GlobalCells) → slice_get gs n ≡ Some g → cells ≡ cells_in r g
     → after ≡ granules + (cells + 1) / 2 → new ≡ list ++ record { granule = granules + 1; cells = cells } ∷ [] → list ++ globals_from r (granules + 1) (drop n gs) ≡ whole → new ++ globals_from r (after + 1) (drop (n + 1) gs) ≡ whole
@@ -36,20 +34,3 @@ words_more r gs n cells word g words new whole at is first made before =
     ap (λ l. l ++ rest) (made ∙ (ap (λ (k : ℕ). words ++ take (2 * ((k + 1) / 2)) (word ∷ replicate (2 * ((k + 1) / 2)) 0)) is ∙ ap (λ w. words ++ take (2 * granules_in r g) (w ∷ replicate (2 * granules_in r g) 0)) first))
     ∙ (append_assoc words (first_words r g) rest
     ∙ (ap (λ l. words ++ all_first_words r l) (sym (drop_got gs n g at)) ∙ before))
-
--- the first word, and zeros
-pub some_words : (n word : ℕ) → 0 < n → take (2 * n) (word ∷ replicate (2 * n) 0) ≡ word ∷ replicate (2 * n - 1) 0
-some_words n word some =
-    let e : 2 * n ≡ suc (2 * n - 1) = omega (arith, some) in
-    ap (λ k. take k (word ∷ replicate (2 * n) 0)) e ∙ ap (λ l. word ∷ l) (take-replicate (2 * n - 1) (2 * n) 0 (omega arith))
-
-pub zeros_more : (left : ℕ) (words new whole : List ℕ) → 0 < left → new ≡ words ++ 0 ∷ [] → words ++ replicate left 0 ≡ whole → new ++ replicate (left - 1) 0 ≡ whole
-zeros_more left words new whole some made before =
-    let e : suc (left - 1) ≡ left = omega (arith, some) in
-    ap (λ l. l ++ replicate (left - 1) 0) made ∙ (append_assoc words (0 ∷ []) (replicate (left - 1) 0) ∙ (ap (λ k. words ++ replicate k 0) e ∙ before))
-
--- the word of a value with the other sign
-pub other_sign : (z : ℤ) (n : ℕ) → n < 2 ^ 64 → word_of z < 2 ^ 64 → (n + word_of z) % 2 ^ 64 ≡ 0 → word_of (neg_ℤ z) < 2 ^ 64 → n ≡ word_of (neg_ℤ z)
-other_sign (pos zero) n small within whole other = omega (arith, small, whole)
-other_sign (pos (suc k)) n small within whole other = omega (arith, small, within, whole)
-other_sign (negsuc k) n small within whole other = omega (arith, small, within, whole, other)

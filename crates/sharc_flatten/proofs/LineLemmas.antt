@@ -1,13 +1,10 @@
 -- Lines with where their texts lie, and rows with where the names of their functions lie.
-use Rattle.std.proofs.Common.{◌≡◌, ℕ, ◌+◌, ◌<◌, ◌≤◌, List, [], ◌∷◌, ◌++◌, length, take, drop, get_or, set, refl, ap, sym, ◌∙◌, subst, Option, Some, None, arith, append_assoc}
-use Rattle.std.proofs.lemmas.List.{append-nil, take_all, take_more, take_more_set}
+use Rattle.std.proofs.{Common.{◌≡◌, ℕ, ◌+◌, ◌<◌, ◌≤◌, List, [], ◌∷◌, ◌++◌, length, take, drop, get_or, set, refl, ap, sym, ◌∙◌, subst, Option, Some, None, arith, append_assoc}, lemmas.List.{append-nil, take_all, take_more, take_more_set}}
 use Rattle.std.specs.Prelude.{slice_get}
-use Rattle.sharc_code.specs.declared.code.Function.{Function as Row}
-use Rattle.sharc_code.specs.declared.code.Text.{Text}
+use Rattle.sharc_code.specs.{declared.code.Function.{Function as Row}, declared.code.Text.Text}
 use Rattle.sharc_ctype.specs.Resolved.{Resolution}
-use Rattle.sharc_flat_form.specs.declared.op.Op.{Op}
+use Rattle.sharc_flat_form.specs.{declared.op.Op.Op, declared.op.Spot.Spot}
 use Rattle.sharc_flat_form.specs.declared.op.Op.TheVariants as op
-use Rattle.sharc_flat_form.specs.declared.op.Spot.{Spot}
 use Rattle.sharc_flat.specs.Laid.{with_texts, spot_in, AreTexts, AreTextsIn, IsLaid, AreLaid, IsNamed, AreNamed}
 use Rattle.sharc_flatten.specs.Places.{Grows}
 use Rattle.sharc_flatten.proofs.ListLemmas.{take_got, same_at}

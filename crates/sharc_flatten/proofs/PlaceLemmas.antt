@@ -1,8 +1,6 @@
 -- Where tokens lie in the text of all of them.
-use Rattle.std.proofs.Common.{◌≡◌, ℕ, zero, suc, ◌+◌, ◌-◌, ◌<◌, ◌≤◌, min, List, [], ◌∷◌, ◌++◌, length, take, drop, get_or, refl, ap, sym, ◌∙◌, arith, append_assoc, zero-add}
-use Rattle.std.proofs.lemmas.List.{append-nil, take_at, drop_at, take_min, length-drop}
-use Rattle.sharc_tree.specs.declared.token.Token.{Token}
-use Rattle.sharc_tree.specs.Texts.{blank_between, tokens_text}
+use Rattle.std.proofs.{Common.{◌≡◌, ℕ, zero, suc, ◌+◌, ◌-◌, ◌<◌, ◌≤◌, min, List, [], ◌∷◌, ◌++◌, length, take, drop, get_or, refl, ap, sym, ◌∙◌, arith, append_assoc, zero-add}, lemmas.List.{append-nil, take_at, drop_at, take_min, length-drop}}
+use Rattle.sharc_tree.specs.{declared.token.Token.Token, Texts.{blank_between, tokens_text}}
 use Rattle.sharc_code.specs.declared.code.Text.{Text}
 use Rattle.sharc_flatten.specs.Places.{places_from, LiesIn, Grows}
 
@@ -45,10 +43,6 @@ take_past (x ∷ p) q n = let e : suc (length p) + n ≡ suc (length p + n) = om
 blank_front : (t : Token) (rest : List Token) (k : ℕ) → blank_between t (take (suc k) rest) ≡ blank_between t rest
 blank_front t [] k = refl
 blank_front t (r ∷ rest) k = refl
-
-begin_first : (ts : List Token) → begin_of ts 0 ≡ 0
-begin_first [] = refl
-begin_first (t ∷ rest) = refl
 
 -- the tokens up to one, from the first on
 front_words : (ts : List Token) (k : ℕ) (more : List ℕ) → k < length ts → take (end_of ts k) (tokens_text ts ++ more) ≡ tokens_text (take (suc k) ts)
@@ -124,9 +118,6 @@ lies_on old now what place lies grows more =
 
 pub grows_by : (old what now : List ℕ) → now ≡ old ++ what → Grows old now
 grows_by old what now is = (what, sym is)
-
-pub grows_same : (old : List ℕ) → Grows old old
-grows_same old = ([], append-nil old)
 
 pub grows_more : (a b c : List ℕ) → Grows a b → Grows b c → Grows a c
 grows_more a b c g h = (g.0 ++ h.0, sym (append_assoc a g.0 h.0) ∙ (ap (λ l. l ++ h.0) g.1 ∙ h.1))

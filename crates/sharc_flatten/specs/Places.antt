@@ -1,7 +1,6 @@
 -- Where texts lie among the bytes of all texts.
 use Rattle.std.specs.Prelude.{◌≡◌, ℕ, ◌+◌, List, [], ◌∷◌, ◌++◌, length, slice_range}
-use Rattle.sharc_tree.specs.declared.token.Token.{Token}
-use Rattle.sharc_tree.specs.Texts.{blank_between}
+use Rattle.sharc_tree.specs.{declared.token.Token.Token, Texts.blank_between}
 use Rattle.sharc_code.specs.declared.code.Text.{Text}
 
 -- each of the tokens in the text of all of them, the first at this place

@@ -1,24 +1,14 @@
 -- The log of code beside that of guarded code.
-use Rattle.std.proofs.Common.{◌&&◌, ◌||◌, ◌≡◌, ℕ, suc, ◌+◌, Bool, true, false, not, List, [], ◌∷◌, ◌++◌, length, All, refl, sym, ap, ◌∙◌, subst, arith, is_some, Some, ◌==◌, eqb-true}
+use Rattle.std.proofs.{Common.{◌&&◌, ◌||◌, ◌≡◌, ℕ, suc, ◌+◌, Bool, true, false, not, List, [], ◌∷◌, ◌++◌, length, All, refl, sym, ap, ◌∙◌, subst, arith, is_some, Some, ◌==◌, eqb-true}, lemmas.Bool.Decides.nat_tests, lemmas.Bool.and_parts}
 use Rattle.std.specs.Prelude.{if◌then◌else◌}
-use Rattle.std.proofs.lemmas.Bool.Decides.{nat_tests}
-use Rattle.std.proofs.lemmas.Bool.{and_parts}
-use Rattle.sharc_tree.specs.declared.event.Object.{Object}
+use Rattle.sharc_tree.specs.{declared.event.Object.Object, declared.event.CellAt.CellAt}
 use Rattle.sharc_tree.specs.declared.event.Object.TheVariants as objects
-use Rattle.sharc_tree.specs.declared.event.CellAt.{CellAt}
-use Rattle.sharc_locks.specs.declared.held_log.HeldMutex.{HeldMutex}
-use Rattle.sharc_locks.specs.HeldLog.{without, object_of}
-use Rattle.sharc_code.specs.declared.code.GlobalCells.{GlobalCells}
-use Rattle.sharc_code.specs.Machine.{reference_of}
-use Rattle.sharc_code.specs.Ranges.{IsInGlobal}
+use Rattle.sharc_locks.specs.{declared.held_log.HeldMutex.HeldMutex, HeldLog.{without, object_of}}
+use Rattle.sharc_code.specs.{declared.code.GlobalCells.GlobalCells, Machine.reference_of, Ranges.IsInGlobal}
 use Rattle.sharc_meaning.specs.Events.{same_cell}
 use Rattle.sharc_guarded_form.specs.Machine.{is_held, without_mutex}
 use Rattle.sharc_gen.specs.Related.{place_in, number_in, IsKnown, IsCell, IsHeldAs, AreHeld}
-
-same_bool : (b c : Bool) → (b ≡ true → c ≡ true) → (c ≡ true → b ≡ true) → b ≡ c
-same_bool true c f g = sym (f refl)
-same_bool false true f g = g refl
-same_bool false false f g = refl
+use Rattle.sharc_lemmas.proofs.Bools.{same_test as same_bool}
 
 all_first : {X : Type 0} (P : X → Type 0) (x : X) (xs : List X) → All P (x ∷ xs) → P x
 all_first P x xs h = h 0 x (omega arith)

@@ -1,30 +1,15 @@
 -- What a turn lowers, in guarded code and in code.
-use Rattle.std.proofs.Common.{◌≡◌, ℕ, ℤ, pos, negsuc, zero, suc, ◌+◌, ◌*◌, ◌⊎◌, inl, inr, Bool, true, false, not, List, [], ◌∷◌, ◌++◌, length, Option, Some, None, Result, Ok, Err, nat_lt, refl, sym, ap, ◌∙◌, arith, cond}
+use Rattle.std.proofs.{Common.{◌≡◌, ℕ, ℤ, pos, negsuc, zero, suc, ◌+◌, ◌*◌, ◌⊎◌, inl, inr, Bool, true, false, not, List, [], ◌∷◌, ◌++◌, length, Option, Some, None, Result, Ok, Err, nat_lt, refl, sym, ap, ◌∙◌, arith, cond}, lemmas.List.{append-nil, length-append}}
 use Rattle.std.specs.Option.{option_to_list}
-use Rattle.std.proofs.lemmas.List.{append-nil, length-append}
-use Rattle.sharc_tree.specs.declared.event.SourceEvent.{SourceEvent}
-use Rattle.sharc_tree.specs.declared.trap.Trap.{Trap}
+use Rattle.sharc_tree.specs.{declared.event.SourceEvent.SourceEvent, declared.trap.Trap.Trap}
 use Rattle.sharc_tree.specs.declared.trap.Trap.TheVariants as traps
-use Rattle.sharc_code.specs.declared.code.Function.{Function}
-use Rattle.sharc_code.specs.declared.instr.Cell.{Cell}
-use Rattle.sharc_code.specs.declared.instr.Cell.TheVariants.{Global, GlobalAt, Object as InObject, ObjectAt}
-use Rattle.sharc_code.specs.declared.instr.Instr.{Instr}
-use Rattle.sharc_code.specs.declared.instr.Instr.TheVariants.{ComputeInt, ComputeLong, NegateInt, NegateLong, ChkWidth, JumpIfZero, JumpIfNull, Call, Return, ChkNull, ChkHeld, ChkNotHeld, ChkPositive, ChkRoom, ChkLock, ChkLockLoaded, Bounds, GlobalBounds, Load, Store, LoadRef, Exchange, Lower, New, TakeCell, TakeLocal, Give, Free, Lock, Unlock, Spawn, Join, Print, Start, Exit, CondEnter, CondWait, CondSignal, CondBroadcast}
-use Rattle.sharc_code.specs.declared.instr.Register.{Register}
+use Rattle.sharc_code.specs.{declared.code.Function.Function, declared.instr.Cell.Cell, declared.instr.Cell.TheVariants.{Global, GlobalAt, Object as InObject, ObjectAt}, declared.instr.Instr.Instr, declared.instr.Instr.TheVariants.{ComputeInt, ComputeLong, NegateInt, NegateLong, ChkWidth, JumpIfZero, JumpIfNull, Call, Return, ChkNull, ChkHeld, ChkNotHeld, ChkPositive, ChkRoom, ChkLock, ChkLockLoaded, Bounds, GlobalBounds, Load, Store, LoadRef, Exchange, Lower, New, TakeCell, TakeLocal, Give, Free, Lock, Unlock, Spawn, Join, Print, Start, Exit, CondEnter, CondWait, CondSignal, CondBroadcast}, declared.instr.Register.Register, declared.instr.Width.TheVariants.{Int, Long}, declared.shape.Shape.Shape, declared.state.Frame.Frame, Arithmetic.{holds, is_zero, computed, negated}, Machine.{Machine, ref, lower, is_positive}, Says.made_cell}
 use Rattle.sharc_code.specs.declared.instr.Register.TheVariants as registers
-use Rattle.sharc_code.specs.declared.instr.Width.TheVariants.{Int, Long}
-use Rattle.sharc_code.specs.declared.shape.Shape.{Shape}
-use Rattle.sharc_code.specs.declared.state.Frame.{Frame}
-use Rattle.sharc_code.specs.Arithmetic.{holds, is_zero, computed, negated}
-use Rattle.sharc_code.specs.Machine.{Machine, ref, lower, is_positive}
 use Rattle.sharc_code.specs.Path as Code
-use Rattle.sharc_code.specs.Says.{made_cell}
 use Rattle.sharc_meaning.specs.Reference.{is_null, number_of, elements_of}
 use Rattle.sharc_guarded_form.specs.Machine as Form
-use Rattle.sharc_guarded_form.specs.Machine.{Program, Thread, Phase, Running, Leaving, Left, Turn, Goes, Asks, Checks, Halts, int, cell_at, is_of_null, is_held, without_base, handed, step}
-use Rattle.sharc_guarded_form.specs.Path.{after, may_go}
-use Rattle.sharc_gen.specs.Generated.{instr_of}
-use Rattle.sharc_gen.specs.Lowered.{lowered_by, unless_told}
+use Rattle.sharc_guarded_form.specs.{Machine.{Program, Thread, Phase, Running, Leaving, Left, Turn, Goes, Asks, Checks, Halts, int, cell_at, is_of_null, is_held, without_base, handed, step}, Path.{after, may_go}}
+use Rattle.sharc_gen.specs.{Generated.instr_of, Lowered.{lowered_by, unless_told}}
 
 -- what a statement lowers
 abbrev pub lowered_of : Thread → Instr → List ℕ

@@ -1,17 +1,8 @@
 -- The numbers of generated code are in the ranges of those of its guarded code.
 use Rattle.std.proofs.Common.{◌≡◌, ℕ, zero, suc, ◌+◌, ◌*◌, ◌^◌, ◌<◌, ◌≤◌, List, [], ◌∷◌, length, map, sym, ap, ◌∙◌, subst, arith, Some, slice_get, slice_index_or}
 use Rattle.std.specs.Prelude.{slice_index}
-use Rattle.sharc_code.specs.declared.code.Code.{Code}
-use Rattle.sharc_code.specs.declared.code.Function.{Function}
-use Rattle.sharc_code.specs.declared.instr.Instr.{Instr}
-use Rattle.sharc_code.specs.declared.instr.Instr.TheVariants.{Call, Exit, GlobalBounds, Spawn, Start}
-use Rattle.sharc_code.specs.declared.instr.Register.{Register}
-use Rattle.sharc_code.specs.Machine.{instr_at}
-use Rattle.sharc_code.specs.Path.{most_ints, most_refs}
-use Rattle.sharc_code.specs.Ranges.{GlobalsFit, NumbersFit}
-use Rattle.sharc_guarded_form.specs.declared.guarded.Guarded.{Guarded}
-use Rattle.sharc_guarded_form.specs.Form.{IsGuarded}
-use Rattle.sharc_guarded_form.specs.Tables.{TablesFit}
+use Rattle.sharc_code.specs.{declared.code.Code.Code, declared.code.Function.Function, declared.instr.Instr.Instr, declared.instr.Instr.TheVariants.{Call, Exit, GlobalBounds, Spawn, Start}, declared.instr.Register.Register, Machine.instr_at, Path.{most_ints, most_refs}, Ranges.{GlobalsFit, NumbersFit}}
+use Rattle.sharc_guarded_form.specs.{declared.guarded.Guarded.Guarded, Form.IsGuarded, Tables.TablesFit}
 use Rattle.sharc_gen.specs.Generated.{IsGenerated, instr_of, program_of}
 
 -- an instruction that is no call is where its statement is

@@ -4,36 +4,13 @@ use Rattle.sharc_tree.specs.declared.event.Act.TheVariants as acts
 use Rattle.sharc_tree.specs.declared.trap.Trap.TheVariants as traps
 use Rattle.sharc_shadow.specs.declared.shadow_word.Kind.TheVariants as kinds
 use Rattle.sharc_granule.specs.State.{NewView}
-use Rattle.sharc_code.specs.declared.code.Code.{Code}
-use Rattle.sharc_code.specs.declared.instr.Width.TheVariants.{Int, Long}
-use Rattle.sharc_code.specs.declared.instr.Cell.{Cell}
-use Rattle.sharc_code.specs.declared.instr.Cell.TheVariants.{Global, GlobalAt, Object as InObject, ObjectAt}
-use Rattle.sharc_code.specs.declared.instr.Instr.{Instr}
-use Rattle.sharc_code.specs.declared.instr.Instr.TheVariants.{Constant, Move, MoveReference, Null, ComputeInt, ComputeLong, NegateInt, NegateLong, Complement, Not, SameReference, ChkWidth, Jump, JumpIfZero, JumpIfNull, Call, Return, ChkNull, ChkHeld, ChkNotHeld, ChkPositive, ChkRoom, ChkLock, ChkLockLoaded, Bounds, GlobalBounds, ChkRead, ChkWrite, Load, Store, LoadRef, Exchange, Raise, RaiseLoaded, Lower, New, TakeCell, TakeLocal, TestSole, Clear, Give, Free, Lock, Unlock, Spawn, Join, Print, Start, Exit, CondEnter, CondWait, CondSignal, CondBroadcast}
-use Rattle.sharc_code.specs.declared.shape.Shape.{Shape}
-use Rattle.sharc_code.specs.declared.state.State.{State}
-use Rattle.sharc_code.specs.declared.state.State.TheVariants.{Runs, Tries, Stopped, Ended}
-use Rattle.sharc_code.specs.declared.state.Stage.{Stage}
-use Rattle.sharc_code.specs.declared.state.Stage.TheVariants.{Rests, Looks, Clears, Makes, Empties, Lowers, FreeLooks, FreeClears, Uncounts, Links, Names, Hands, Begins, Enters, Withdraws, WithdrawsFrom, Leaves, Wakes}
-use Rattle.sharc_code.specs.Arithmetic.{computed, negated, complement, is_zero, truth, holds}
-use Rattle.sharc_code.specs.Layout.{cell_of, granule_at, granule_of}
-use Rattle.sharc_code.specs.Machine.{Machine, int, ref, act, goes, accessed, set_ref, is_positive, place, object, is_of_null}
-use Rattle.sharc_code.specs.Path.{after, asked_by, may_go}
-use Rattle.sharc_code.specs.Paced.{is_failed_try, repeats}
-use Rattle.sharc_code.specs.Says.{said, speaks_of, cell_at, made_cell, place_at, mode_of}
+use Rattle.sharc_code.specs.{declared.code.Code.Code, declared.instr.Width.TheVariants.{Int, Long}, declared.instr.Cell.Cell, declared.instr.Cell.TheVariants.{Global, GlobalAt, Object as InObject, ObjectAt}, declared.instr.Instr.Instr, declared.instr.Instr.TheVariants.{Constant, Move, MoveReference, Null, ComputeInt, ComputeLong, NegateInt, NegateLong, Complement, Not, SameReference, ChkWidth, Jump, JumpIfZero, JumpIfNull, Call, Return, ChkNull, ChkHeld, ChkNotHeld, ChkPositive, ChkRoom, ChkLock, ChkLockLoaded, Bounds, GlobalBounds, ChkRead, ChkWrite, Load, Store, LoadRef, Exchange, Raise, RaiseLoaded, Lower, New, TakeCell, TakeLocal, TestSole, Clear, Give, Free, Lock, Unlock, Spawn, Join, Print, Start, Exit, CondEnter, CondWait, CondSignal, CondBroadcast}, declared.shape.Shape.Shape, declared.state.State.State, declared.state.State.TheVariants.{Runs, Tries, Stopped, Ended}, declared.state.Stage.Stage, declared.state.Stage.TheVariants.{Rests, Looks, Clears, Makes, Empties, Lowers, FreeLooks, FreeClears, Uncounts, Links, Names, Hands, Begins, Enters, Withdraws, WithdrawsFrom, Leaves, Wakes}, Arithmetic.{computed, negated, complement, is_zero, truth, holds}, Layout.{cell_of, granule_at, granule_of}, Machine.{Machine, int, ref, act, goes, accessed, set_ref, is_positive, place, object, is_of_null}, Path.{after, asked_by, may_go}, Paced.{is_failed_try, repeats}, Says.{said, speaks_of, cell_at, made_cell, place_at, mode_of}}
 use Rattle.sharc_meaning.specs.Reference.{NULL, is_null, number_of, elements_of}
-use Rattle.sharc_guarded_form.specs.Form.{IsAtPlace, IsGuarded}
+use Rattle.sharc_guarded_form.specs.{Form.{IsAtPlace, IsGuarded}, Machine.{Program, Thread, Phase, Turn, Running, statement_at, turn, step, function_at}, Path.weight}
 use Rattle.sharc_guarded_form.specs.Machine as Form
-use Rattle.sharc_guarded_form.specs.Machine.{Program, Thread, Phase, Turn, Running, statement_at, turn, step, function_at}
-use Rattle.sharc_guarded_form.specs.Path.{weight}
-use Rattle.sharc_gen.specs.Generated.{instr_of, program_over}
-use Rattle.sharc_gen.specs.Consistent.{Elements, MayFind, IsMutex, IsLock}
-use Rattle.sharc_gen.specs.Related.{Same, IsAtStage, IsInClear, IsInFree, IsInSpawn, IsInExit, IsInSignal, IsInNew, phase_of, phase_at, IsCell}
-use Rattle.sharc_gen.proofs.Registers.{no_reference, elements_are}
-use Rattle.sharc_gen.proofs.Logs.{log_length}
-use Rattle.sharc_gen.proofs.Sames.{all_ints, all_refs, int_is, ref_is, null_at, pending_null, pending_number, set_ref_same, null_same, pending_same, null_cell, cell_is, mode_is}
+use Rattle.sharc_gen.specs.{Generated.{instr_of, program_over}, Consistent.{Elements, MayFind, IsMutex, IsLock}, Related.{Same, IsAtStage, IsInClear, IsInFree, IsInSpawn, IsInExit, IsInSignal, IsInNew, phase_of, phase_at, IsCell}}
+use Rattle.sharc_gen.proofs.{Registers.{no_reference, elements_are}, Logs.log_length, Sames.{all_ints, all_refs, int_is, ref_is, null_at, pending_null, pending_number, set_ref_same, null_same, pending_same, null_cell, cell_is, mode_is}, Turns.Turned}
 use Rattle.sharc_gen.proofs.Inside as Inner
-use Rattle.sharc_gen.proofs.Turns.{Turned}
 use Rattle.sharc_gen.proofs.Single as Single
 use Rattle.sharc_gen.proofs.Calls as Calling
 use Rattle.sharc_gen.proofs.Asking as Asking

@@ -1,28 +1,12 @@
 -- What is the same in a machine of code and in a thread of guarded code, and stays so where both write the same.
-use Rattle.std.proofs.Common.{◌≡◌, ℕ, ℤ, ◌+◌, ◌-◌, ◌*◌, ◌<◌, inl, inr, List, refl, sym, ap, ◌∙◌, subst, arith, slice_index, slice_index_or, slice_set, ◌==◌}
-use Rattle.std.proofs.lemmas.Bool.{lt-ltb}
+use Rattle.std.proofs.{Common.{◌≡◌, ℕ, ℤ, ◌+◌, ◌-◌, ◌*◌, ◌<◌, inl, inr, List, refl, sym, ap, ◌∙◌, subst, arith, slice_index, slice_index_or, slice_set, ◌==◌}, lemmas.Bool.lt-ltb}
 use Rattle.sharc_tree.specs.declared.event.CellAt.{CellAt}
 use Rattle.sharc_tree.specs.declared.event.CellMode.TheVariants as modes
-use Rattle.sharc_code.specs.declared.code.Code.{Code}
-use Rattle.sharc_code.specs.declared.code.PlaceMode.{PlaceMode}
-use Rattle.sharc_code.specs.declared.code.PlaceMode.TheVariants.{Private, Readonly, Racy, Dynamic, LockedGlobal, LockedSibling, LockedThrough, LockedLoaded}
-use Rattle.sharc_code.specs.declared.instr.Cell.{Cell}
-use Rattle.sharc_code.specs.declared.instr.Cell.TheVariants.{Global, GlobalAt, Object as InObject, ObjectAt}
-use Rattle.sharc_code.specs.declared.instr.Instr.{Instr}
-use Rattle.sharc_code.specs.declared.shape.Shape.{Shape}
-use Rattle.sharc_code.specs.declared.state.TheConstants.{FRAMES}
-use Rattle.sharc_code.specs.Arithmetic.{word_of}
-use Rattle.sharc_code.specs.Layout.{first_cell, words_of, word_at}
-use Rattle.sharc_code.specs.Machine.{Machine, int, ref, set_int, set_ref, place, object, is_of_null}
-use Rattle.sharc_code.specs.Path.{most_ints, most_refs}
-use Rattle.sharc_code.specs.Says.{cell_at, mode_of, no_global, made_cell}
+use Rattle.sharc_code.specs.{declared.code.Code.Code, declared.code.PlaceMode.PlaceMode, declared.code.PlaceMode.TheVariants.{Private, Readonly, Racy, Dynamic, LockedGlobal, LockedSibling, LockedThrough, LockedLoaded}, declared.instr.Cell.Cell, declared.instr.Cell.TheVariants.{Global, GlobalAt, Object as InObject, ObjectAt}, declared.instr.Instr.Instr, declared.shape.Shape.Shape, declared.state.TheConstants.FRAMES, Arithmetic.word_of, Layout.{first_cell, words_of, word_at}, Machine.{Machine, int, ref, set_int, set_ref, place, object, is_of_null}, Path.{most_ints, most_refs}, Says.{cell_at, mode_of, no_global, made_cell}, Ranges.IsInGlobal}
 use Rattle.sharc_meaning.specs.Reference.{NULL, is_null, number_of}
-use Rattle.sharc_code.specs.Ranges.{IsInGlobal}
 use Rattle.sharc_guarded_form.specs.Machine as Form
 use Rattle.sharc_guarded_form.specs.Machine.{Program, Thread}
-use Rattle.sharc_gen.specs.Generated.{program_over}
-use Rattle.sharc_gen.specs.Consistent.{Elements, Has, IsThere}
-use Rattle.sharc_gen.specs.Related.{AreInts, AreRefs, IsReference, IsCell, Same}
+use Rattle.sharc_gen.specs.{Generated.program_over, Consistent.{Elements, Has, IsThere}, Related.{AreInts, AreRefs, IsReference, IsCell, Same}}
 use Rattle.sharc_gen.proofs.Registers.{int_written, ref_written, no_reference, retabled, null_of, number_from, through_is}
 
 abbrev pub all_ints : Code → ℕ

@@ -3,25 +3,19 @@
 use Rattle.std.specs.Prelude.{ℕ, ◌≡◌, ◌+◌, ◌*◌, ◌^◌, ◌<◌, ◌⊎◌, true, false, List, [], ◌∷◌, ◌++◌, length, All, Option, Some, None, slice_index}
 use Rattle.std.specs.Option.{option_to_list}
 use Rattle.sharc_tree.specs.declared.event.SourceEvent.{SourceEvent}
-use Rattle.sharc_granule.specs.declared.stage.Stage.{Stage as NewStage}
-use Rattle.sharc_granule.specs.declared.stage.Stage.TheVariants.{Length}
+use Rattle.sharc_granule.specs.{declared.stage.Stage.{Stage as NewStage}, declared.stage.Stage.TheVariants.Length}
 use Rattle.sharc_locks.specs.declared.held_log.HeldMutex.{HeldMutex}
-use Rattle.sharc_code.specs.declared.code.Code.{Code}
-use Rattle.sharc_code.specs.declared.code.Parameter.{Parameter}
-use Rattle.sharc_code.specs.declared.code.Parameter.TheVariants as parameters
-use Rattle.sharc_code.specs.declared.instr.Cell.{Cell}
+use Rattle.sharc_code.specs.{declared.code.Code.Code, declared.code.Parameter.Parameter, declared.instr.Cell.Cell}
 use Rattle.sharc_code.specs.declared.instr.Cell.TheVariants.{Global, GlobalAt, Object as InObject, ObjectAt}
 use Rattle.sharc_code.specs.declared.instr.Instr.{Instr}
 use Rattle.sharc_code.specs.declared.instr.Instr.TheVariants.{ChkHeld, ChkNotHeld, ChkLock, ChkLockLoaded, Bounds, LoadRef, Exchange, New, TakeCell, Lock, Unlock, Start}
-use Rattle.sharc_code.specs.declared.shape.Shape.{Shape}
-use Rattle.sharc_code.specs.declared.state.Stage.{Stage}
-use Rattle.sharc_code.specs.declared.state.Stage.TheVariants.{Makes, Enters}
-use Rattle.sharc_code.specs.Arithmetic.{word_of}
+use Rattle.sharc_code.specs.{declared.shape.Shape.Shape, declared.state.Stage.Stage}
+use Rattle.sharc_code.specs.{declared.state.Stage.TheVariants.{Makes, Enters}, Arithmetic.word_of}
 use Rattle.sharc_code.specs.Layout.{first_cell, words_of, cell_of}
 use Rattle.sharc_code.specs.Machine.{Machine, int, ref, place, object, word, is_held, function_of, instr_at}
-use Rattle.sharc_code.specs.Path.{turn, after, asked_by, machine_after}
-use Rattle.sharc_code.specs.Says.{says, speaks_of, elements_after}
+use Rattle.sharc_code.specs.{Path.{turn, after, asked_by, machine_after}, Says.{says, speaks_of, elements_after}}
 use Rattle.sharc_code.specs.Ranges.{IsInGlobal}
+use Rattle.sharc_code.specs.declared.code.Parameter.TheVariants as parameters
 
 -- ---- what a path reports of the source
 -- The elements of the objects by their numbers, at each turn of a path: those of the last New of the number among the events of all threads before

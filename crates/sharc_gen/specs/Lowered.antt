@@ -1,12 +1,9 @@
 -- The references whose count a path of a thread lowered since its last event, by their numbers.
 use Rattle.std.specs.Prelude.{ℕ, List, [], ◌∷◌, ◌++◌, length, Option, Some, None}
 use Rattle.sharc_tree.specs.declared.event.SourceEvent.{SourceEvent}
-use Rattle.sharc_code.specs.declared.code.Code.{Code}
-use Rattle.sharc_code.specs.declared.instr.Instr.{Instr}
-use Rattle.sharc_code.specs.declared.instr.Instr.TheVariants.{Lower}
-use Rattle.sharc_code.specs.declared.shape.Shape.{Shape}
-use Rattle.sharc_code.specs.Machine.{Machine, ref, instr_at}
-use Rattle.sharc_code.specs.Path.{machine_after}
+use Rattle.sharc_code.specs.{declared.code.Code.Code, declared.instr.Instr.Instr}
+use Rattle.sharc_code.specs.{declared.instr.Instr.TheVariants.Lower, declared.shape.Shape.Shape}
+use Rattle.sharc_code.specs.{Machine.{Machine, ref, instr_at}, Path.machine_after}
 use Rattle.sharc_gen.specs.Consistent.{Elements, said_now}
 
 -- what this instruction lowers; 0 where its register has no reference

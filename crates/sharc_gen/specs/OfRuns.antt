@@ -1,12 +1,9 @@
 -- What a checked run gives of the path of one of its threads.
 use Rattle.std.specs.Prelude.{ℕ, ◌≡◌, List, [], ◌∷◌, length, map, reverse, nat_le, None, if◌then◌else◌}
 use Rattle.sharc_tree.specs.declared.event.SourceEvent.{SourceEvent}
-use Rattle.sharc_code.specs.declared.code.Code.{Code}
-use Rattle.sharc_code.specs.declared.shape.Shape.{Shape}
-use Rattle.sharc_code.specs.Machine.{Machine}
+use Rattle.sharc_code.specs.{declared.code.Code.Code, declared.shape.Shape.Shape, Machine.Machine}
 use Rattle.sharc_code.specs.Path.{begun, CodePath, machine_after, turn, asked_by}
-use Rattle.sharc_code.specs.Runs.{Said, Turn, result_of, turns_of, said_by}
-use Rattle.sharc_code.specs.Whole.{CheckedRun, Erase, place_after}
+use Rattle.sharc_code.specs.{Runs.{Said, Turn, result_of, turns_of, said_by}, Whole.{CheckedRun, Erase, place_after}}
 use Rattle.sharc_code.specs.Says.{elements_in}
 use Rattle.sharc_gen.specs.Consistent.{Elements, said_in}
 

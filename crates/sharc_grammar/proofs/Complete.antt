@@ -1,29 +1,14 @@
 -- The machine reads each phrase that fits.
-use Rattle.std.proofs.Common.{◌≡◌, ℕ, ◌≤◌, ◌<◌, List, [], ◌∷◌, Option, Some, None, refl, sym, ap, ◌∙◌, arith, Bool, true, false, cond}
-use Rattle.std.specs.Prelude.{nat_le}
-use Rattle.std.proofs.lemmas.Bool.{le-leb, lt-leb}
+use Rattle.std.proofs.{Common.{◌≡◌, ℕ, ◌≤◌, ◌<◌, List, [], ◌∷◌, Option, Some, None, refl, sym, ap, ◌∙◌, arith, Bool, true, false, cond}, lemmas.Bool.{true_from_ne_false as must}}
 use Rattle.sharc_tree.specs.declared.token.Keyword.TheVariants as key
-use Rattle.sharc_tree.specs.declared.token.Punctuator.TheVariants.{OpenParenthesis, CloseParenthesis, Comma, Arrow, Minus, Star, Exclamation, Tilde}
-use Rattle.sharc_tree.specs.declared.ctype.Base.{Base}
+use Rattle.sharc_tree.specs.{declared.token.Punctuator.TheVariants.{OpenParenthesis, CloseParenthesis, Comma, Arrow, Minus, Star, Exclamation, Tilde}, declared.ctype.Base.Base, declared.tree.expression.BinaryOperator.BinaryOperator, declared.tree.expression.UnaryOperator.UnaryOperator, declared.tree.expression.UnaryOperator.TheVariants.{Negate, Not, Complement, Dereference}, declared.tree.expression.Access.Access, declared.tree.expression.Constant.Constant}
 use Rattle.sharc_tree.specs.declared.ctype.Base.TheVariants as base
-use Rattle.sharc_tree.specs.declared.tree.expression.BinaryOperator.{BinaryOperator}
-use Rattle.sharc_tree.specs.declared.tree.expression.UnaryOperator.{UnaryOperator}
-use Rattle.sharc_tree.specs.declared.tree.expression.UnaryOperator.TheVariants.{Negate, Not, Complement, Dereference}
-use Rattle.sharc_tree.specs.declared.tree.expression.Access.{Access}
 use Rattle.sharc_tree.specs.declared.tree.expression.Access.TheVariants as access
 use Rattle.sharc_tree.specs.declared.tree.expression.ValueCall.TheVariants as value_call
 use Rattle.sharc_tree.specs.declared.tree.expression.PlaceCall.TheVariants as place_call
-use Rattle.sharc_tree.specs.declared.tree.expression.Constant.{Constant}
 use Rattle.sharc_tree.specs.declared.tree.expression.Constant.TheVariants as constants
-use Rattle.sharc_grammar.specs.Grammar.{Word, name, keyword, mark, number, character, Sharing, private, readonly, racy, dynamic, locked, locked_through, Declaring, sharing_words, level_words, base_words, bottom_words, levels_words, list_words, declaring_words, FitsBottom, FitsLevels, FitsList, FitsType, NoModes, IsPlain, Front, parenthesis, of_spawn, of_value, of_place, of_cast, Phrase, identifier, constant, enclosed, call, index, field, unary, binary, Phrases, none, more, operator_mark, unary_mark, access_mark, constant_word, strength, front_words, words, words_of_rest, level, FitsFront, Fits, FitAll, malloc, Doing, assign, invoke, Line, doing_words, Part}
-use Rattle.sharc_grammar.specs.Machine.{Outer, LinePlace, as_statement, in_line, as_step, ValuePlace, returning, testing, subject, counting, Cont, part, beneath, right_of, fronted, indexing, arguments, NamePlace, field_of, local, TypePlace, naming, casting, sizing, ModePlace, before_base, at_level, Core, Want, Have, Called, Valued, TypeWant, ModeFirst, StructWant, Typed, Named, State, or_else, to, role, grip_of, grip, joined, with_last, floor, want, counted, shift, have, called, takes_modes, moded, mode_step, based, begin_type, typed, fields, may_declare, line_start, start, returned, for_test, for_step, malloced, core_step, Stuck, then_on, reads, reads_at}
-use Rattle.sharc_grammar.specs.Operators.{weak, operating, settle_stops, role_binary, role_unary}
-
-pub le_true : (m n : ℕ) → m ≤ n → nat_le m n ≡ true
-le_true = le-leb
-
-pub le_false : (m n : ℕ) → n < m → nat_le m n ≡ false
-le_false m n h = lt-leb m n h
+use Rattle.sharc_grammar.specs.{Grammar.{Word, name, keyword, mark, number, character, Sharing, private, readonly, racy, dynamic, locked, locked_through, Declaring, sharing_words, level_words, base_words, bottom_words, levels_words, list_words, declaring_words, FitsBottom, FitsLevels, FitsList, FitsType, NoModes, IsPlain, Front, parenthesis, of_spawn, of_value, of_place, of_cast, Phrase, identifier, constant, enclosed, call, index, field, unary, binary, Phrases, none, more, operator_mark, unary_mark, access_mark, constant_word, strength, front_words, words, words_of_rest, level, FitsFront, Fits, FitAll, malloc, Doing, assign, invoke, Line, doing_words, Part}, Machine.{Outer, LinePlace, as_statement, in_line, as_step, ValuePlace, returning, testing, subject, counting, Cont, part, beneath, right_of, fronted, indexing, arguments, NamePlace, field_of, local, TypePlace, naming, casting, sizing, ModePlace, before_base, at_level, Core, Want, Have, Called, Valued, TypeWant, ModeFirst, StructWant, Typed, Named, State, or_else, to, role, grip_of, grip, joined, with_last, floor, want, counted, shift, have, called, takes_modes, moded, mode_step, based, begin_type, typed, fields, may_declare, line_start, start, returned, for_test, for_step, malloced, core_step, Stuck, then_on, reads, reads_at}, Operators.{weak, operating, settle_stops, role_binary, role_unary}}
+use Rattle.sharc_lemmas.proofs.Numbers.{le_true2 as le_true}
 
 pub whole_binary : (y : List Word) (a b : Phrase) (o : BinaryOperator) (k : Cont) → grip y ≤ strength o → reads_at y (Have b (right_of a o k)) ≡ reads_at y (Have (binary o a b) k)
 whole_binary [] a b o k h = refl
@@ -389,10 +374,6 @@ base_reads_after p m (base.Struct s) y = refl
 -- where no modes are taken none is written
 abbrev pub ModesFit : TypePlace → Bool → List (Option Sharing) → Type 0
 ModesFit p first levels = takes_modes p ≡ false → IsPlain first levels
-
-pub must : (b : Bool) → (b ≡ false → ⊥) → b ≡ true
-must true h = refl
-must false h = absurd (h refl)
 
 pub never : {A : Type 0} (b : Bool) → b ≡ false → b ≡ true → A
 never b f t = cc

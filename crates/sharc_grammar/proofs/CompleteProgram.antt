@@ -1,13 +1,10 @@
 -- The machine reads each statement and each program that fits.
 use Rattle.std.proofs.Common.{◌≡◌, ℕ, ◌≤◌, List, [], ◌∷◌, ◌++◌, Option, Some, None, refl, sym, ap, ◌∙◌, arith, subst, Bool, true, false, cond, append_assoc, append-nil}
 use Rattle.sharc_tree.specs.declared.token.Keyword.TheVariants as key
-use Rattle.sharc_tree.specs.declared.token.Punctuator.TheVariants.{OpenParenthesis, CloseParenthesis, OpenBrace, CloseBrace, Semicolon, Star}
-use Rattle.sharc_tree.specs.declared.tree.statement.Jump.{Jump}
+use Rattle.sharc_tree.specs.{declared.token.Punctuator.TheVariants.{OpenParenthesis, CloseParenthesis, OpenBrace, CloseBrace, Semicolon, Star}, declared.tree.statement.Jump.Jump, declared.tree.expression.Constant.Constant}
 use Rattle.sharc_tree.specs.declared.tree.statement.Jump.TheVariants as jumps
-use Rattle.sharc_tree.specs.declared.tree.expression.Constant.{Constant}
 use Rattle.sharc_tree.specs.declared.tree.expression.Constant.TheVariants as constants
-use Rattle.sharc_grammar.specs.Grammar.{Word, name, keyword, mark, Typing, Declaring, declaring_words, FitsType, Phrase, identifier, constant, enclosed, call, index, field, unary, binary, constant_word, words, level, Fits, Value, value, malloc, Doing, assign, invoke, Line, nothing, does, declares, Sentence, line, jump, return, block, under, Sentences, no_more, sentence, Opening, if_of, else_of, while_of, for_of, option_words, count_words, value_words, doing_words, initial_words, line_words, step_words, jump_word, written, written_all, opening_words, is_call, is_declaring, is_declaration, takes_else, FitsOption, FitsCount, FitsValue, FitsDoing, FitsInitial, FitsLine, FitsStep, FitsAs, FitAllAs, FitsOpening, Form, single, array, initially, Part, structure, global, function, form_words, fields_words, further_words, parameters_words, part_words, program_words, FitAllDeclaring, FitsForm, FitsFields, FitsPart, IsProgram}
-use Rattle.sharc_grammar.specs.Machine.{Outer, body, items, inside, LinePlace, as_statement, as_first, DoingPlace, in_line, as_step, ValuePlace, of_doing, of_local, by_if, by_while, condition, returning, testing, subject, valued, counting, part, on_top, field_of, parameter_of, local, naming, sizing, Core, Want, Have, Start, Done, Returning, ForOpen, ForTest, ForStep, Malloced, Valued, TypeWant, Named, Fields, InitialWant, Top, State, At, to, grip, want, lined, loop, doing_end, local_line, begin_type, declaring_of, with_part, with_declaring, fields, with_item, holds_items, may_declare, is_else, done, core_step, Read, Stuck, then_on, reads, reads_at}
+use Rattle.sharc_grammar.specs.{Grammar.{Word, name, keyword, mark, Typing, Declaring, declaring_words, FitsType, Phrase, identifier, constant, enclosed, call, index, field, unary, binary, constant_word, words, level, Fits, Value, value, malloc, Doing, assign, invoke, Line, nothing, does, declares, Sentence, line, jump, return, block, under, Sentences, no_more, sentence, Opening, if_of, else_of, while_of, for_of, option_words, count_words, value_words, doing_words, initial_words, line_words, step_words, jump_word, written, written_all, opening_words, is_call, is_declaring, is_declaration, takes_else, FitsOption, FitsCount, FitsValue, FitsDoing, FitsInitial, FitsLine, FitsStep, FitsAs, FitAllAs, FitsOpening, Form, single, array, initially, Part, structure, global, function, form_words, fields_words, further_words, parameters_words, part_words, program_words, FitAllDeclaring, FitsForm, FitsFields, FitsPart, IsProgram}, Machine.{Outer, body, items, inside, LinePlace, as_statement, as_first, DoingPlace, in_line, as_step, ValuePlace, of_doing, of_local, by_if, by_while, condition, returning, testing, subject, valued, counting, part, on_top, field_of, parameter_of, local, naming, sizing, Core, Want, Have, Start, Done, Returning, ForOpen, ForTest, ForStep, Malloced, Valued, TypeWant, Named, Fields, InitialWant, Top, State, At, to, grip, want, lined, loop, doing_end, local_line, begin_type, declaring_of, with_part, with_declaring, fields, with_item, holds_items, may_declare, is_else, done, core_step, Read, Stuck, then_on, reads, reads_at}}
 use Rattle.sharc_grammar.proofs.Complete.{IsFirst, IsTypeFirst, first, doing_first, list_first, same_step, returned_at, test_at, step_at, malloced_at, line_start_at, start_at, start_declares_at, declares_at, fields_at, never, reads_declaring, size_read, reads_phrase}
 
 pub data Ender : Type 0 where

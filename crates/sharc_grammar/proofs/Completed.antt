@@ -1,18 +1,12 @@
 -- Each state of the machine that fits has a completion, and one within the limits where the state is within them.
 use Rattle.std.proofs.Common.{◌≡◌, ℕ, ◌+◌, ◌≤◌, ◌<◌, List, [], ◌∷◌, length, Option, Some, None, refl, ap, ◌∙◌, arith, Bool, true, false}
 use Rattle.std.specs.Prelude.{max, pos}
-use Rattle.sharc_tree.specs.declared.token.NumberType.TheVariants.{Int}
+use Rattle.sharc_tree.specs.{declared.token.NumberType.TheVariants.Int, declared.token.Punctuator.TheVariants.{OpenParenthesis, CloseParenthesis, OpenBrace, CloseBrace, CloseBracket, Semicolon, Comma, Assign, Star}, declared.ctype.Base.Base}
 use Rattle.sharc_tree.specs.declared.token.Keyword.TheVariants as key
-use Rattle.sharc_tree.specs.declared.token.Punctuator.TheVariants.{OpenParenthesis, CloseParenthesis, OpenBrace, CloseBrace, CloseBracket, Semicolon, Comma, Assign, Star}
-use Rattle.sharc_tree.specs.declared.ctype.Base.{Base}
 use Rattle.sharc_tree.specs.declared.ctype.Base.TheVariants as base
 use Rattle.sharc_tree.specs.declared.tree.expression.Constant.TheVariants as constants
-use Rattle.sharc_grammar.specs.Grammar.{Word, name, keyword, mark, number, character, Sharing, locked, locked_through, Typing, Declaring, sharing_words, level_words, base_words, type_words, declaring_words, FitsType, IsPlain, of_spawn, of_cast, Phrase, constant, enclosed, call, index, field, unary, binary, Phrases, none, more, words, level, Fits, Value, value, malloc, Doing, assign, Line, nothing, does, Sentence, line, return, block, under, Sentences, no_more, sentence, if_of, while_of, value_words, doing_words, line_words, loop_words, written, written_all, opening_words, is_declaring, is_declaration, FitsOption, FitsValue, FitsDoing, FitsLine, FitsStep, FitsAs, Form, single, array, initially, Part, structure, global, parameters_words, part_words, program_words, FitsForm, FitsPart, IsProgram}
-use Rattle.sharc_grammar.specs.Machine.{Outer, body, items, inside, LinePlace, as_statement, as_first, DoingPlace, in_line, as_step, ValuePlace, of_doing, of_local, Asked, by_if, by_while, Place, condition, returning, testing, subject, valued, counting, Cont, part, beneath, right_of, fronted, indexing, arguments, NamePlace, on_top, field_of, parameter_of, local, TypePlace, naming, casting, sizing, ModePlace, before_base, at_level, Core, Want, Have, Called, Dotted, Spawning, Start, Done, Returning, ForOpen, ForTest, ForStep, Malloced, Valued, TypeWant, ModeFirst, StructWant, Typed, PathWant, PathNamed, PathThrough, Named, Fields, ArrayWant, InitialWant, InitialNegative, Top, with_last, floor, loop, local_line, typing_of, takes_modes, moded, based, declaring_of, with_part, with_declaring, fields, with_item, function_of, may_declare}
-use Rattle.sharc_grammar.specs.Limits.{height, highest, FewStars, FewFront, Few, FewAll, Low, LowOption, LowValue, LowDoing, LowInitial, LowLine, LowStep, LowSentence, LowAll, LowOpening, line_nesting, nesting, deepest, nesting_before, FewGiven, LowPart, LowProgram, depth, around_it}
-use Rattle.sharc_grammar.proofs.CompleteProgram.{MayStand}
-use Rattle.sharc_grammar.specs.Operators.{floor_most}
-use Rattle.sharc_grammar.proofs.Sound.{outside, line_place_words, doing_place_words, value_place_words, around, struct_words, name_place_words, type_place_words, mode_place_words, so_far, Outside, DoingAt, ValueAt, Around, NameAt, TypeAt, ModeAt, BaseAt, Sound, program_more, is_program_more, parameters_more, declaring_more, some_field, list_more, all_more, items_more, fit_more, may, moded_sound, moded_says, fields_more, based_sound, is_statement}
+use Rattle.sharc_grammar.specs.{Grammar.{Word, name, keyword, mark, number, character, Sharing, locked, locked_through, Typing, Declaring, sharing_words, level_words, base_words, type_words, declaring_words, FitsType, IsPlain, of_spawn, of_cast, Phrase, constant, enclosed, call, index, field, unary, binary, Phrases, none, more, words, level, Fits, Value, value, malloc, Doing, assign, Line, nothing, does, Sentence, line, return, block, under, Sentences, no_more, sentence, if_of, while_of, value_words, doing_words, line_words, loop_words, written, written_all, opening_words, is_declaring, is_declaration, FitsOption, FitsValue, FitsDoing, FitsLine, FitsStep, FitsAs, Form, single, array, initially, Part, structure, global, parameters_words, part_words, program_words, FitsForm, FitsPart, IsProgram}, Machine.{Outer, body, items, inside, LinePlace, as_statement, as_first, DoingPlace, in_line, as_step, ValuePlace, of_doing, of_local, Asked, by_if, by_while, Place, condition, returning, testing, subject, valued, counting, Cont, part, beneath, right_of, fronted, indexing, arguments, NamePlace, on_top, field_of, parameter_of, local, TypePlace, naming, casting, sizing, ModePlace, before_base, at_level, Core, Want, Have, Called, Dotted, Spawning, Start, Done, Returning, ForOpen, ForTest, ForStep, Malloced, Valued, TypeWant, ModeFirst, StructWant, Typed, PathWant, PathNamed, PathThrough, Named, Fields, ArrayWant, InitialWant, InitialNegative, Top, with_last, floor, loop, local_line, typing_of, takes_modes, moded, based, declaring_of, with_part, with_declaring, fields, with_item, function_of, may_declare}, Limits.{height, highest, FewStars, FewFront, Few, FewAll, Low, LowOption, LowValue, LowDoing, LowInitial, LowLine, LowStep, LowSentence, LowAll, LowOpening, line_nesting, nesting, deepest, nesting_before, FewGiven, LowPart, LowProgram, depth, around_it}, Operators.floor_most}
+use Rattle.sharc_grammar.proofs.{CompleteProgram.MayStand, Sound.{outside, line_place_words, doing_place_words, value_place_words, around, struct_words, name_place_words, type_place_words, mode_place_words, so_far, Outside, DoingAt, ValueAt, Around, NameAt, TypeAt, ModeAt, BaseAt, Sound, program_more, is_program_more, parameters_more, declaring_more, some_field, list_more, all_more, items_more, fit_more, may, moded_sound, moded_says, fields_more, based_sound, is_statement}}
 
 -- what is around it is within the limits
 

@@ -2,14 +2,11 @@
 use Rattle.std.specs.Prelude.{◌≡◌, ℕ, zero, suc, List, [], ◌∷◌, ◌++◌, Some, None, true, false, replicate, pos}
 use Rattle.std.proofs.Common.{refl}
 use Rattle.sharc_tree.specs.declared.token.Keyword.TheVariants as key
-use Rattle.sharc_tree.specs.declared.token.Punctuator.TheVariants.{OpenParenthesis, CloseParenthesis, OpenBrace, CloseBrace, OpenBracket, CloseBracket, Semicolon, Comma, Arrow, Assign, Less, Plus, Minus, Star, AndAnd, OrOr}
-use Rattle.sharc_tree.specs.declared.token.NumberType.TheVariants.{Int}
+use Rattle.sharc_tree.specs.{declared.token.Punctuator.TheVariants.{OpenParenthesis, CloseParenthesis, OpenBrace, CloseBrace, OpenBracket, CloseBracket, Semicolon, Comma, Arrow, Assign, Less, Plus, Minus, Star, AndAnd, OrOr}, declared.token.NumberType.TheVariants.Int}
 use Rattle.sharc_tree.specs.declared.ctype.Base.TheVariants as base
 use Rattle.sharc_tree.specs.declared.tree.expression.BinaryOperator.TheVariants as op
 use Rattle.sharc_tree.specs.declared.tree.expression.Constant.TheVariants as constants
-use Rattle.sharc_grammar.specs.Grammar.{Word, name, keyword, mark, number, left_out, private, dynamic, locked, locked_through, Typing, of_cast, Phrase, identifier, constant, enclosed, binary, value, malloc, assign, nothing, does, declares, line, return, under, Sentences, no_more, sentence, if_of, else_of, while_of, for_of, array, initially, Part, structure, global, function}
-use Rattle.sharc_grammar.specs.Machine.{Read, Stuck, reads, first_state}
-use Rattle.sharc_grammar.specs.Limits.{StuckAt, Over, reads_within}
+use Rattle.sharc_grammar.specs.{Grammar.{Word, name, keyword, mark, number, left_out, private, dynamic, locked, locked_through, Typing, of_cast, Phrase, identifier, constant, enclosed, binary, value, malloc, assign, nothing, does, declares, line, return, under, Sentences, no_more, sentence, if_of, else_of, while_of, for_of, array, initially, Part, structure, global, function}, Machine.{Read, Stuck, reads, first_state}, Limits.{StuckAt, Over, reads_within}}
 
 abbrev O : Word
 O = mark OpenParenthesis

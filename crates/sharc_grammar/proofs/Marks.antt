@@ -1,18 +1,8 @@
 -- The names and casts of a tree that lies at its tokens are there, in order, and its spans can be printed.
-use Rattle.std.proofs.Common.{◌≡◌, ℕ, suc, zero, ◌+◌, ◌-◌, ◌≤◌, ◌<◌, List, [], ◌∷◌, ◌++◌, length, drop, get_or, HoldsAt, refl, sym, ap, ◌∙◌, arith, subst, length-drop, ⊎_elim, Contains}
+use Rattle.std.proofs.{Common.{◌≡◌, ℕ, suc, zero, ◌+◌, ◌-◌, ◌≤◌, ◌<◌, List, [], ◌∷◌, ◌++◌, length, drop, get_or, HoldsAt, refl, sym, ap, ◌∙◌, arith, subst, length-drop, ⊎_elim, Contains}, lemmas.Bool.cases_lt, lemmas.List.drop_more, lemmas.List.Elements.Contains-append_right}
 use Rattle.std.specs.List.{AllPairs}
-use Rattle.std.proofs.lemmas.Bool.{cases_lt}
-use Rattle.std.proofs.lemmas.List.{drop_more}
-use Rattle.std.proofs.lemmas.List.Elements.{Contains-append_right}
 use Rattle.sharc_tree.specs.Tree as tree
-use Rattle.sharc_tree.specs.Spans.{span_of, span_of_statement}
-use Rattle.sharc_tree.specs.Marks.{Mark, a_name, number_of, keyword_marks, kind_marks, marks_from, AreMarks, Stand, items_marks}
-use Rattle.sharc_tree.specs.Placed.{IsSpan, Placed, PlacedStatement, IsPlaced}
-use Rattle.sharc_tree.specs.declared.token.Keyword.{Keyword}
-use Rattle.sharc_tree.specs.declared.token.Keyword.TheVariants.{Scast}
-use Rattle.sharc_tree.specs.declared.token.Span.{Span}
-use Rattle.sharc_tree.specs.declared.token.Token.{Token}
-use Rattle.sharc_tree.specs.declared.token.TokenKind.{TokenKind}
+use Rattle.sharc_tree.specs.{Spans.{span_of, span_of_statement}, Marks.{Mark, a_name, number_of, keyword_marks, kind_marks, marks_from, AreMarks, Stand, items_marks}, Placed.{IsSpan, Placed, PlacedStatement, IsPlaced}, declared.token.Keyword.Keyword, declared.token.Keyword.TheVariants.Scast, declared.token.Span.Span, declared.token.Token.Token, declared.token.TokenKind.TokenKind}
 use Rattle.sharc_tree.specs.declared.token.TokenKind.TheVariants as kind
 
 -- they may be sought from an earlier token on

@@ -1,19 +1,11 @@
 -- The tree of an expression lies at its tokens.
 use Rattle.std.proofs.Common.{◌≡◌, ℕ, ◌+◌, ◌≤◌, ◌<◌, List, [], ◌∷◌, length, Option, Some, None, IfSome, refl, arith, Bool, true, false}
 use Rattle.sharc_tree.specs.Tree as tree
-use Rattle.sharc_tree.specs.Spans.{span_of}
-use Rattle.sharc_tree.specs.Marks.{name_marks, type_marks, declaration_marks, declarations_marks, marks, arguments_marks, option_marks, AreMarks}
-use Rattle.sharc_tree.specs.Placed.{point, option_spans, argument_spans, declaration_spans, PlacedType, PlacedDeclaration, PlacedDeclarations, Placed, AllPlaced}
-use Rattle.sharc_tree.specs.declared.token.Site.{Site}
-use Rattle.sharc_tree.specs.declared.token.Span.{Span}
-use Rattle.sharc_tree.specs.declared.token.Token.{Token}
-use Rattle.sharc_tree.specs.declared.ctype.Base.{Base}
+use Rattle.sharc_tree.specs.{Spans.span_of, Marks.{name_marks, type_marks, declaration_marks, declarations_marks, marks, arguments_marks, option_marks, AreMarks}, Placed.{point, option_spans, argument_spans, declaration_spans, PlacedType, PlacedDeclaration, PlacedDeclarations, Placed, AllPlaced}, declared.token.Site.Site, declared.token.Span.Span, declared.token.Token.Token, declared.ctype.Base.Base}
 use Rattle.sharc_tree.specs.declared.ctype.Base.TheVariants as base
 use Rattle.sharc_tree.specs.declared.tree.expression.PlaceCall.TheVariants as place_call
-use Rattle.sharc_grammar.specs.Grammar.{Sharing, Typing, Declaring, Front, parenthesis, of_spawn, of_value, of_place, of_cast, Phrase, identifier, constant, enclosed, call, index, field, unary, binary, Phrases, none, more, FitsList, FitsType, FitsFront, Fits, FitAll, FitsOption, FitAllDeclaring}
-use Rattle.sharc_grammar.specs.Places.{span_at, name_at, level_size, base_size, levels_size, type_size, declaring_size, front_size, size, sizes, rest_size, option_size, fields_size, base_name, base_place, type_at, declaration_at, front_at, expression_at, arguments_at, option_at, declarations_at}
-use Rattle.sharc_grammar.proofs.Marks.{left, right}
-use Rattle.sharc_grammar.proofs.Standing.{Standing, Lies, lies, lies_point, Row, part, last, whole}
+use Rattle.sharc_grammar.specs.{Grammar.{Sharing, Typing, Declaring, Front, parenthesis, of_spawn, of_value, of_place, of_cast, Phrase, identifier, constant, enclosed, call, index, field, unary, binary, Phrases, none, more, FitsList, FitsType, FitsFront, Fits, FitAll, FitsOption, FitAllDeclaring}, Places.{span_at, name_at, level_size, base_size, levels_size, type_size, declaring_size, front_size, size, sizes, rest_size, option_size, fields_size, base_name, base_place, type_at, declaration_at, front_at, expression_at, arguments_at, option_at, declarations_at}}
+use Rattle.sharc_grammar.proofs.{Marks.{left, right}, Standing.{Standing, Lies, lies, lies_point, Row, part, last, whole}}
 
 -- types
 

@@ -1,19 +1,10 @@
 -- There is one reading, and its measures are those of its tree.
-use Rattle.std.proofs.Common.{◌≡◌, ℕ, ◌+◌, ◌-◌, ◌≤◌, List, [], ◌++◌, length, take, drop, refl, sym, ap, ◌∙◌, arith, subst, length-append, max, inl, inr}
-use Rattle.std.proofs.Math.Seq.{take-append_seam, drop-append_seam}
+use Rattle.std.proofs.{Common.{◌≡◌, ℕ, ◌+◌, ◌-◌, ◌≤◌, List, [], ◌++◌, length, take, drop, refl, sym, ap, ◌∙◌, arith, subst, length-append, max, inl, inr}, Math.Seq.{take-append_seam, drop-append_seam}}
 use Rattle.sharc_tree.specs.Tree as tree
 use Rattle.sharc_tree.specs.Measures as measures
-use Rattle.sharc_tree.specs.declared.token.Site.{Site}
-use Rattle.sharc_tree.specs.declared.token.Span.{Span}
-use Rattle.sharc_tree.specs.declared.token.Tokens.{Tokens}
-use Rattle.sharc_grammar.specs.Grammar.{Word, Front, parenthesis, of_spawn, of_value, of_place, of_cast, Phrase, identifier, constant, enclosed, call, index, field, unary, binary, Phrases, none, more, Line, nothing, does, declares, Sentence, line, jump, return, block, under, Sentences, no_more, sentence, Opening, if_of, else_of, while_of, for_of, Callable, Part, program_words, IsProgram}
-use Rattle.sharc_grammar.specs.Limits.{height, highest, line_nesting, nesting, deepest, nesting_before, BeginsWithin, StuckAt, Over, reads_within}
-use Rattle.sharc_grammar.specs.Machine.{Read, reads, first_state}
-use Rattle.sharc_grammar.specs.Places.{Reads, site_in, items_at, size, sentence_size, expression_at, arguments_at, front_at, statement_at, statements_at, under_at, line_at, function_at}
-use Rattle.sharc_grammar.specs.Faults.{IsFault, wrong_code}
-use Rattle.sharc_grammar.specs.declared.fault.GrammarFault.TheVariants.{Deep}
-use Rattle.sharc_grammar.proofs.Whole.{only}
-use Rattle.sharc_grammar.proofs.WithinLaws.{first_wrong, first_excess}
+use Rattle.sharc_tree.specs.{declared.token.Site.Site, declared.token.Span.Span, declared.token.Tokens.Tokens}
+use Rattle.sharc_grammar.specs.{Grammar.{Word, Front, parenthesis, of_spawn, of_value, of_place, of_cast, Phrase, identifier, constant, enclosed, call, index, field, unary, binary, Phrases, none, more, Line, nothing, does, declares, Sentence, line, jump, return, block, under, Sentences, no_more, sentence, Opening, if_of, else_of, while_of, for_of, Callable, Part, program_words, IsProgram}, Limits.{height, highest, line_nesting, nesting, deepest, nesting_before, BeginsWithin, StuckAt, Over, reads_within}, Machine.{Read, reads, first_state}, Places.{Reads, site_in, items_at, size, sentence_size, expression_at, arguments_at, front_at, statement_at, statements_at, under_at, line_at, function_at}, Faults.{IsFault, wrong_code}, declared.fault.GrammarFault.TheVariants.Deep}
+use Rattle.sharc_grammar.proofs.{Whole.only, WithinLaws.{first_wrong, first_excess}}
 
 same_program : (p q : List Part) → IsProgram p → IsProgram q → program_words p [] ≡ program_words q [] → p ≡ q
 same_program p q a b e = let h : Read p ≡ Read q = sym (only p a) ∙ ap (λ z. reads z first_state) e ∙ only q b in cc

@@ -1,10 +1,6 @@
 -- Places of tokens, and parts that follow one another.
-use Rattle.std.proofs.Common.{◌≡◌, ℕ, ◌+◌, ◌-◌, ◌≤◌, ◌<◌, List, [], ◌∷◌, ◌++◌, length, drop, get_or, refl, sym, ap, ◌∙◌, arith, subst, subst₂}
-use Rattle.std.proofs.lemmas.List.{at_drop_more}
-use Rattle.sharc_tree.specs.declared.token.Site.{Site}
-use Rattle.sharc_tree.specs.declared.token.Span.{Span}
-use Rattle.sharc_tree.specs.declared.token.Token.{Token}
-use Rattle.sharc_tree.specs.Placed.{site_of as site_of_token, IsSite, IsSpan, Follow, IsWhole, point}
+use Rattle.std.proofs.{Common.{◌≡◌, ℕ, ◌+◌, ◌-◌, ◌≤◌, ◌<◌, List, [], ◌∷◌, ◌++◌, length, drop, get_or, refl, sym, ap, ◌∙◌, arith, subst, subst₂}, lemmas.List.at_drop_more}
+use Rattle.sharc_tree.specs.{declared.token.Site.Site, declared.token.Span.Span, declared.token.Token.Token, Placed.{site_of as site_of_token, IsSite, IsSpan, Follow, IsWhole, point}}
 use Rattle.sharc_grammar.specs.Places.{site_of, site_in, span_at}
 
 -- the places of these tokens

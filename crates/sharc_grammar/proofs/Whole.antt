@@ -2,11 +2,8 @@
 use Rattle.std.proofs.Common.{◌≡◌, List, [], ◌∷◌, ◌++◌, Option, Some, None, refl, sym, ap, ◌∙◌, append_assoc, append-nil, subst, Bool, true, false, cond}
 use Rattle.sharc_tree.specs.declared.token.Keyword.TheVariants as key
 use Rattle.sharc_tree.specs.declared.token.Punctuator.TheVariants.{OpenParenthesis, CloseParenthesis, OpenBrace, CloseBracket, Semicolon, Comma, Ampersand}
-use Rattle.sharc_grammar.specs.Grammar.{Word, keyword, mark, Part, program_words, IsProgram, EndsAt, FirstFault}
-use Rattle.sharc_grammar.specs.Machine.{Core, Top, Fixed, an_open, a_close, a_semicolon, a_comma, a_brace, a_bracket, an_ampersand, a_sizeof, State, At, fixed_word, fixed_words, is_fixed, core_step, step, Outcome, Read, Stuck, core_finish, finish, then_on, reads, first_state}
-use Rattle.sharc_grammar.proofs.CompleteProgram.{reads_program}
-use Rattle.sharc_grammar.proofs.Sound.{so_far, Sound, Goes, core_goes}
-use Rattle.sharc_grammar.proofs.Completed.{LowCore, Completed, completed}
+use Rattle.sharc_grammar.specs.{Grammar.{Word, keyword, mark, Part, program_words, IsProgram, EndsAt, FirstFault}, Machine.{Core, Top, Fixed, an_open, a_close, a_semicolon, a_comma, a_brace, a_bracket, an_ampersand, a_sizeof, State, At, fixed_word, fixed_words, is_fixed, core_step, step, Outcome, Read, Stuck, core_finish, finish, then_on, reads, first_state}}
+use Rattle.sharc_grammar.proofs.{CompleteProgram.reads_program, Sound.{so_far, Sound, Goes, core_goes}, Completed.{LowCore, Completed, completed}}
 
 -- a program is what is read
 pub only : (p : List Part) → IsProgram p → reads (program_words p []) first_state ≡ Read p

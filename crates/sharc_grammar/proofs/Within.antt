@@ -1,23 +1,16 @@
 -- What is within the limits stays so, backward and, past the test, forward.
-use Rattle.std.proofs.Common.{◌≡◌, ℕ, ◌+◌, ◌≤◌, ◌<◌, List, [], ◌∷◌, length, Option, Some, None, refl, sym, ◌∙◌, arith, Bool, true, false, cond}
+use Rattle.std.proofs.{Common.{◌≡◌, ℕ, ◌+◌, ◌≤◌, ◌<◌, List, [], ◌∷◌, length, Option, Some, None, refl, sym, ◌∙◌, arith, Bool, true, false, cond}, lemmas.Bool.{leb-false, lt-leb}}
 use Rattle.std.specs.Prelude.{nat_le}
-use Rattle.std.proofs.lemmas.Bool.{leb-false, lt-leb}
 use Rattle.sharc_tree.specs.declared.token.Keyword.TheVariants as key
-use Rattle.sharc_tree.specs.declared.token.Punctuator.TheVariants.{OpenParenthesis, CloseParenthesis, OpenBrace, CloseBrace, OpenBracket, CloseBracket, Semicolon, Comma, Arrow, Assign, Minus, Star, Exclamation, Tilde}
-use Rattle.sharc_tree.specs.declared.ctype.Base.{Base}
+use Rattle.sharc_tree.specs.{declared.token.Punctuator.TheVariants.{OpenParenthesis, CloseParenthesis, OpenBrace, CloseBrace, OpenBracket, CloseBracket, Semicolon, Comma, Arrow, Assign, Minus, Star, Exclamation, Tilde}, declared.ctype.Base.Base, declared.tree.expression.BinaryOperator.BinaryOperator, declared.tree.expression.UnaryOperator.UnaryOperator, declared.tree.expression.UnaryOperator.TheVariants.{Negate, Not, Complement, Dereference}, declared.tree.expression.Access.Access}
 use Rattle.sharc_tree.specs.declared.ctype.Base.TheVariants as base
-use Rattle.sharc_tree.specs.declared.tree.expression.BinaryOperator.{BinaryOperator}
 use Rattle.sharc_tree.specs.declared.tree.expression.BinaryOperator.TheVariants as op
-use Rattle.sharc_tree.specs.declared.tree.expression.UnaryOperator.{UnaryOperator}
-use Rattle.sharc_tree.specs.declared.tree.expression.UnaryOperator.TheVariants.{Negate, Not, Complement, Dereference}
-use Rattle.sharc_tree.specs.declared.tree.expression.Access.{Access}
 use Rattle.sharc_tree.specs.declared.tree.expression.ValueCall.TheVariants as value_call
 use Rattle.sharc_tree.specs.declared.tree.expression.PlaceCall.TheVariants as place_call
 use Rattle.sharc_tree.specs.declared.tree.expression.Constant.TheVariants as constants
-use Rattle.sharc_grammar.specs.Grammar.{Word, name, keyword, mark, number, character, Sharing, private, readonly, racy, dynamic, locked, locked_through, Typing, Declaring, Front, parenthesis, of_value, of_place, Phrase, identifier, constant, unary, binary, Phrases, none, strength, Value, value, Doing, assign, invoke, Line, nothing, does, declares, Sentence, line, jump, return, block, under, Opening, if_of, else_of, while_of, for_of, is_call, Form, single, array, initially, Part, structure, global}
-use Rattle.sharc_grammar.specs.Machine.{Outer, body, items, inside, LinePlace, as_statement, as_first, DoingPlace, in_line, as_step, ValuePlace, of_doing, of_local, Asked, by_if, by_while, Place, condition, returning, testing, subject, valued, counting, Cont, part, beneath, right_of, fronted, indexing, arguments, NamePlace, on_top, field_of, parameter_of, local, TypePlace, naming, casting, sizing, ModePlace, before_base, at_level, Core, Want, Have, Called, Dotted, Spawning, Start, Done, Returning, ForOpen, ForTest, ForStep, Malloced, Valued, TypeWant, ModeFirst, StructWant, Typed, PathWant, PathNamed, PathThrough, Named, Fields, ArrayWant, InitialWant, InitialNegative, Top, Fixed, a_semicolon, a_bracket, State, At, or_else, to, Role, Calling, Indexing, Accessing, Operating, Ending, role, floor, settle, mallocs, want, open_call, lined, doing_end, local_line, local_end, value_end, subject_end, condition_end, return_end, test_end, leave, front_end, index_end, argument_end, end_at, counted, shift, have, dotted, called, spawning, typing_of, takes_modes, moded, mode_step, based, base_step, begin_type, struct_want, level_step, name_step, comma_step, close_type, open_type, typed, path_want, path_named, path_through, declaring_of, with_part, named_top, named_field, named_parameter, named_local, named, fields, array_want, initial_negative, initial_want, with_item, function_of, close_block, holds_items, line_start, start, is_else, done, returned, for_test, for_step, malloced, core_step}
-use Rattle.sharc_grammar.specs.Limits.{height, FewStars, FewFront, Few, LowValue, LowDoing, LowInitial, line_nesting, nesting, LowPart, LowProgram, depth, around_it, crowded_line, crowded_doing, crowded_place, crowded, over_place, over_at, over_start, over_done, over_cast, over_core}
+use Rattle.sharc_grammar.specs.{Grammar.{Word, name, keyword, mark, number, character, Sharing, private, readonly, racy, dynamic, locked, locked_through, Typing, Declaring, Front, parenthesis, of_value, of_place, Phrase, identifier, constant, unary, binary, Phrases, none, strength, Value, value, Doing, assign, invoke, Line, nothing, does, declares, Sentence, line, jump, return, block, under, Opening, if_of, else_of, while_of, for_of, is_call, Form, single, array, initially, Part, structure, global}, Machine.{Outer, body, items, inside, LinePlace, as_statement, as_first, DoingPlace, in_line, as_step, ValuePlace, of_doing, of_local, Asked, by_if, by_while, Place, condition, returning, testing, subject, valued, counting, Cont, part, beneath, right_of, fronted, indexing, arguments, NamePlace, on_top, field_of, parameter_of, local, TypePlace, naming, casting, sizing, ModePlace, before_base, at_level, Core, Want, Have, Called, Dotted, Spawning, Start, Done, Returning, ForOpen, ForTest, ForStep, Malloced, Valued, TypeWant, ModeFirst, StructWant, Typed, PathWant, PathNamed, PathThrough, Named, Fields, ArrayWant, InitialWant, InitialNegative, Top, Fixed, a_semicolon, a_bracket, State, At, or_else, to, Role, Calling, Indexing, Accessing, Operating, Ending, role, floor, settle, mallocs, want, open_call, lined, doing_end, local_line, local_end, value_end, subject_end, condition_end, return_end, test_end, leave, front_end, index_end, argument_end, end_at, counted, shift, have, dotted, called, spawning, typing_of, takes_modes, moded, mode_step, based, base_step, begin_type, struct_want, level_step, name_step, comma_step, close_type, open_type, typed, path_want, path_named, path_through, declaring_of, with_part, named_top, named_field, named_parameter, named_local, named, fields, array_want, initial_negative, initial_want, with_item, function_of, close_block, holds_items, line_start, start, is_else, done, returned, for_test, for_step, malloced, core_step}, Limits.{height, FewStars, FewFront, Few, LowValue, LowDoing, LowInitial, line_nesting, nesting, LowPart, LowProgram, depth, around_it, crowded_line, crowded_doing, crowded_place, crowded, over_place, over_at, over_start, over_done, over_cast, over_core}}
 use Rattle.sharc_grammar.proofs.Completed.{LowOuter, Room, RoomToDeclare, LowDoingPlace, LowValuePlace, LowPlace, LowAround, LowName, LowType, LowMode, LowStart, LowCore, low_part_more, low_part_less, few_given_more, few_given_less, low_item_more, low_item_less, deepest_more, highest_more, few_more, few_less, around_most, depth_most}
+use Rattle.sharc_lemmas.proofs.Numbers.{test_down}
 
 -- from one core to the next
 pub record Moves (P : Type 0) (n : Core) : Type 0 where
@@ -46,9 +39,6 @@ cond_moves P false o h = tt
 
 test_up : (m : ℕ) → nat_le 64 m ≡ false → m < 64
 test_up m e = leb-false 64 m e
-
-test_down : (m : ℕ) → m < 64 → nat_le 64 m ≡ false
-test_down m h = lt-leb 64 m h
 
 second : (a b : Bool) → cond a true b ≡ false → b ≡ false
 second true b h = cc

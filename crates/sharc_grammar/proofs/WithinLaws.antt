@@ -1,11 +1,7 @@
 -- The machine within the limits: what it reads, and its first faults.
 use Rattle.std.proofs.Common.{◌≡◌, List, [], ◌∷◌, ◌++◌, Option, Some, None, refl, sym, ap, ◌∙◌, append_assoc, subst, Bool, true, false, cond}
-use Rattle.sharc_grammar.specs.Grammar.{Word, Part, program_words, IsProgram}
-use Rattle.sharc_grammar.specs.Machine.{Core, Want, Have, Called, Dotted, Spawning, Start, Done, Returning, ForOpen, ForTest, ForStep, Malloced, Valued, TypeWant, ModeFirst, StructWant, Typed, PathWant, PathNamed, PathThrough, Named, Fields, ArrayWant, InitialWant, InitialNegative, Top, Fixed, State, At, is_fixed, core_step, step, Read, Stuck, core_finish, finish, then_on, reads, first_state}
-use Rattle.sharc_grammar.specs.Limits.{LowProgram, BeginsWithin, FirstWrong, Exceeds, FirstExcess, over, Limited, ReadWithin, StuckAt, Over, lifted, next_within, reads_within}
-use Rattle.sharc_grammar.proofs.Completed.{LowCore}
-use Rattle.sharc_grammar.proofs.Within.{MovesTo, core_moves, not_over}
-use Rattle.sharc_grammar.proofs.Whole.{only, found, Reached, ReachedNext, step_reached, first_reached, LowState, completed_at, Stops, ends}
+use Rattle.sharc_grammar.specs.{Grammar.{Word, Part, program_words, IsProgram}, Machine.{Core, Want, Have, Called, Dotted, Spawning, Start, Done, Returning, ForOpen, ForTest, ForStep, Malloced, Valued, TypeWant, ModeFirst, StructWant, Typed, PathWant, PathNamed, PathThrough, Named, Fields, ArrayWant, InitialWant, InitialNegative, Top, Fixed, State, At, is_fixed, core_step, step, Read, Stuck, core_finish, finish, then_on, reads, first_state}, Limits.{LowProgram, BeginsWithin, FirstWrong, Exceeds, FirstExcess, over, Limited, ReadWithin, StuckAt, Over, lifted, next_within, reads_within}}
+use Rattle.sharc_grammar.proofs.{Completed.LowCore, Within.{MovesTo, core_moves, not_over}, Whole.{only, found, Reached, ReachedNext, step_reached, first_reached, LowState, completed_at, Stops, ends}}
 
 -- from one state to the next
 abbrev pub Steps : Type 0 → Option State → Type 0

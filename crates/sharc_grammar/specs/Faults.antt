@@ -2,8 +2,7 @@
 use Rattle.std.specs.Prelude.{◌≡◌, ℕ, ◌≤◌, ◌⊎◌, List, ◌∷◌, length, take, drop}
 use Rattle.sharc_grammar.specs.declared.fault.GrammarFault.{GrammarFault}
 use Rattle.sharc_grammar.specs.declared.fault.GrammarFault.TheVariants.{Unexpected, Deep, LeftOut}
-use Rattle.sharc_grammar.specs.Grammar.{Word, left_out, EndsAt}
-use Rattle.sharc_grammar.specs.Limits.{BeginsWithin, Exceeds}
+use Rattle.sharc_grammar.specs.{Grammar.{Word, left_out, EndsAt}, Limits.{BeginsWithin, Exceeds}}
 
 -- the digit of the code: P1, P2 and P3
 abbrev pub digit_of : GrammarFault → ℕ

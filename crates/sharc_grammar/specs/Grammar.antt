@@ -1,25 +1,21 @@
 -- The grammar of programs: phrases, and the words of each.
 use Rattle.std.specs.Prelude.{◌≡◌, ℕ, Bool, true, false, ◌≤◌, ◌<◌, List, [], ◌∷◌, ◌++◌, Option, Some, None}
-use Rattle.sharc_tree.specs.declared.token.Keyword.{Keyword}
-use Rattle.sharc_tree.specs.declared.token.Keyword.TheVariants as key
-use Rattle.sharc_tree.specs.declared.token.Punctuator.{Punctuator}
+use Rattle.sharc_tree.specs.{declared.token.Keyword.Keyword, declared.token.Punctuator.Punctuator}
 use Rattle.sharc_tree.specs.declared.token.Punctuator.TheVariants.{OpenParenthesis, CloseParenthesis, OpenBrace, CloseBrace, OpenBracket, CloseBracket, Semicolon, Comma, Dot, Arrow, Assign, Equal, NotEqual, Less, Greater, LessOrEqual, GreaterOrEqual, ShiftLeft, ShiftRight, Plus, Minus, Star, Slash, Percent, Ampersand, AndAnd, Bar, OrOr, Caret, Exclamation, Tilde}
-use Rattle.sharc_tree.specs.declared.token.Number.{Number}
-use Rattle.sharc_tree.specs.declared.ctype.Base.{Base}
-use Rattle.sharc_tree.specs.declared.ctype.Base.TheVariants as base
+use Rattle.sharc_tree.specs.{declared.token.Number.Number, declared.ctype.Base.Base}
 use Rattle.sharc_tree.specs.declared.tree.expression.BinaryOperator.{BinaryOperator}
-use Rattle.sharc_tree.specs.declared.tree.expression.BinaryOperator.TheVariants as op
 use Rattle.sharc_tree.specs.declared.tree.expression.UnaryOperator.{UnaryOperator}
 use Rattle.sharc_tree.specs.declared.tree.expression.UnaryOperator.TheVariants.{Negate, Not, Complement, Dereference}
-use Rattle.sharc_tree.specs.declared.tree.expression.Access.{Access}
-use Rattle.sharc_tree.specs.declared.tree.expression.Access.TheVariants as access
-use Rattle.sharc_tree.specs.declared.tree.expression.ValueCall.{ValueCall}
-use Rattle.sharc_tree.specs.declared.tree.expression.ValueCall.TheVariants as value_call
-use Rattle.sharc_tree.specs.declared.tree.expression.PlaceCall.{PlaceCall}
-use Rattle.sharc_tree.specs.declared.tree.expression.PlaceCall.TheVariants as place_call
-use Rattle.sharc_tree.specs.declared.tree.statement.Jump.{Jump}
-use Rattle.sharc_tree.specs.declared.tree.statement.Jump.TheVariants as jumps
+use Rattle.sharc_tree.specs.{declared.tree.expression.Access.Access, declared.tree.expression.ValueCall.ValueCall}
+use Rattle.sharc_tree.specs.{declared.tree.expression.PlaceCall.PlaceCall, declared.tree.statement.Jump.Jump}
 use Rattle.sharc_tree.specs.declared.tree.expression.Constant.{Constant}
+use Rattle.sharc_tree.specs.declared.token.Keyword.TheVariants as key
+use Rattle.sharc_tree.specs.declared.ctype.Base.TheVariants as base
+use Rattle.sharc_tree.specs.declared.tree.expression.BinaryOperator.TheVariants as op
+use Rattle.sharc_tree.specs.declared.tree.expression.Access.TheVariants as access
+use Rattle.sharc_tree.specs.declared.tree.expression.ValueCall.TheVariants as value_call
+use Rattle.sharc_tree.specs.declared.tree.expression.PlaceCall.TheVariants as place_call
+use Rattle.sharc_tree.specs.declared.tree.statement.Jump.TheVariants as jumps
 use Rattle.sharc_tree.specs.declared.tree.expression.Constant.TheVariants as constants
 
 -- what the grammar sees of a token: of a name its text

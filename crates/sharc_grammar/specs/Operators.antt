@@ -1,12 +1,10 @@
 -- Laws of operators: how tightly they bind, and what the machine makes of what is around them.
 use Rattle.std.specs.Prelude.{◌≡◌, ℕ, ◌≤◌, ◌<◌, cond}
-use Rattle.std.proofs.Common.{refl, ap}
-use Rattle.std.proofs.Math.Dec.{lit<, lit≤}
-use Rattle.std.proofs.Math.Nat.{lt_trans, not-le_of_lt}
+use Rattle.std.proofs.{Common.{refl, ap}, Math.Dec.{lit<, lit≤}, Math.Nat.{lt_trans, not-le_of_lt}}
 use Rattle.std.proofs.lemmas.Bool.{le-leb, lt-leb}
 use Rattle.sharc_tree.specs.declared.tree.expression.BinaryOperator.{BinaryOperator}
-use Rattle.sharc_tree.specs.declared.tree.expression.BinaryOperator.TheVariants as op
 use Rattle.sharc_tree.specs.declared.tree.expression.UnaryOperator.{UnaryOperator}
+use Rattle.sharc_tree.specs.declared.tree.expression.BinaryOperator.TheVariants as op
 use Rattle.sharc_grammar.specs.Grammar.{Word, mark, parenthesis, of_spawn, of_value, of_place, of_cast, Phrase, unary, binary, operator_mark, strength}
 use Rattle.sharc_grammar.specs.Machine.{condition, returning, testing, subject, valued, counting, Cont, part, beneath, right_of, fronted, indexing, arguments, Role, Calling, Indexing, Accessing, Operating, Ending, role, grip_of, floor, settle, end_at, shift, have}
 

@@ -1,15 +1,7 @@
 -- What the steps of a New are of: the top, or a word of its block.
-use Rattle.std.proofs.Common.{◌≡◌, ◌≢◌, ℕ, ◌+◌, ◌-◌, ◌*◌, ◌<◌, ◌≤◌, zero, suc, List, length, drop, refl, sym, ap, ◌∙◌, subst, inl, inr, arith}
-use Rattle.std.proofs.lemmas.Bool.{cases_lt, lt-ltb, le-ltb}
-use Rattle.sharc_word.specs.declared.step.WordStep.{WordStep}
-use Rattle.sharc_word.specs.declared.step.WordOp.{WordOp}
-use Rattle.sharc_word.specs.declared.step.WordOp.TheVariants.{Load, Swap, Cas}
-use Rattle.sharc_granule.specs.declared.arguments.NewArguments.{NewArguments}
-use Rattle.sharc_granule.specs.declared.stage.NewTurn.TheVariants.{Do, Made, HeapFull}
-use Rattle.sharc_granule.specs.Block.{granules_of}
-use Rattle.sharc_granule.specs.Handed.{MovesOn}
-use Rattle.sharc_granule.specs.Asks.{Asks, TakesOwn, ReadsTop, MovesTop, FindsNoRoom, TakesTop, top_word, word_number, step_of, last_steps, own_steps, turn_at}
-use Rattle.sharc_granule.specs.Laws.{words_of, StepsAreOfWords, ComesFrom, OwnList, MovedTop, BlocksHaveTheirWords, GranulesStay, IsOwnStep, OfTheTop, OfItsBlock, StepsAreOwn, StepsKeepTop}
+use Rattle.std.proofs.{Common.{◌≡◌, ◌≢◌, ℕ, ◌+◌, ◌-◌, ◌*◌, ◌<◌, ◌≤◌, zero, suc, List, length, drop, refl, sym, ap, ◌∙◌, subst, inl, inr, arith}, lemmas.Bool.{cases_lt, lt-ltb, le-ltb}}
+use Rattle.sharc_word.specs.{declared.step.WordStep.WordStep, declared.step.WordOp.WordOp, declared.step.WordOp.TheVariants.{Load, Swap, Cas}}
+use Rattle.sharc_granule.specs.{declared.arguments.NewArguments.NewArguments, declared.stage.NewTurn.TheVariants.{Do, Made, HeapFull}, Block.granules_of, Handed.MovesOn, Asks.{Asks, TakesOwn, ReadsTop, MovesTop, FindsNoRoom, TakesTop, top_word, word_number, step_of, last_steps, own_steps, turn_at}, Laws.{words_of, StepsAreOfWords, ComesFrom, OwnList, MovedTop, BlocksHaveTheirWords, GranulesStay, IsOwnStep, OfTheTop, OfItsBlock, StepsAreOwn, StepsKeepTop}}
 use Rattle.sharc_granule.proofs.Steps.{turn_in_cells, rest_after_cells}
 
 -- ---- the numbers of words
@@ -49,7 +41,7 @@ data Aims (a : NewArguments) (results : List ℕ) (step : WordStep) : Type 0 whe
   AtTop : a.head ≡ 0 → step.word ≡ top_word → MovesOn step.op → Aims a results step
   AtBlock : (header offset : ℕ) → ComesFrom a results header → offset < 2 + a.cells → step.word ≡ word_number a (a.first + 2 * header + offset) → Aims a results step
 
-same_step : (s t : WordStep) → Do s ≡ Do t → s ≡ t
+pub same_step : (s t : WordStep) → Do s ≡ Do t → s ≡ t
 same_step s t same = cc
 
 made_is_no_step : (header : ℕ) (step : WordStep) → Made header ≡ Do step → ⊥

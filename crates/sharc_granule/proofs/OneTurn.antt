@@ -1,16 +1,8 @@
 -- A New asks for one turn, and what follows from it.
-use Rattle.std.proofs.Common.{◌≡◌, ℕ, ◌+◌, ◌-◌, ◌≤◌, zero, suc, List, [], ◌∷◌, length, drop, refl, sym, ap, ◌∙◌, arith, inl, inr, subst}
-use Rattle.std.proofs.lemmas.Bool.{cases_lt}
-use Rattle.sharc_word.specs.declared.step.WordStep.{WordStep}
-use Rattle.sharc_word.specs.declared.step.WordOp.{WordOp}
-use Rattle.sharc_word.specs.declared.step.WordOp.TheVariants.{Load, Swap, Cas}
-use Rattle.sharc_granule.specs.declared.stage.NewTurn.{NewTurn}
-use Rattle.sharc_granule.specs.declared.stage.NewTurn.TheVariants.{Do, Made, HeapFull}
-use Rattle.sharc_granule.specs.declared.arguments.NewArguments.{NewArguments}
-use Rattle.sharc_granule.specs.Asks.{Asks, TakesOwn, ReadsTop, MovesTop, FindsNoRoom, TakesTop, AreTops, HasMoved, top_word, step_of, last_steps, own_steps, turn_at}
-use Rattle.sharc_granule.specs.Laws.{AsksOneTurn, HasNoRoom, HeapIsFullWithoutRoom, MovesByOneBlock, TopMovesByOneBlock, OwnListEnds, TopEnds, OwnList, MovedTop, MadeIsItsBlock}
-use Rattle.sharc_granule.proofs.Steps.{turn_in_cells, rest_after_cells}
-use Rattle.sharc_granule.proofs.Tops.{moved_is_not_trying, moved_once, tops_once, tops_are_some, moved_is_some}
+use Rattle.std.proofs.{Common.{◌≡◌, ℕ, ◌+◌, ◌-◌, ◌≤◌, zero, suc, List, [], ◌∷◌, length, drop, refl, sym, ap, ◌∙◌, arith, inl, inr, subst}, lemmas.Bool.cases_lt}
+use Rattle.sharc_word.specs.{declared.step.WordStep.WordStep, declared.step.WordOp.WordOp, declared.step.WordOp.TheVariants.{Load, Swap, Cas}}
+use Rattle.sharc_granule.specs.{declared.stage.NewTurn.NewTurn, declared.stage.NewTurn.TheVariants.{Do, Made, HeapFull}, declared.arguments.NewArguments.NewArguments, Asks.{Asks, TakesOwn, ReadsTop, MovesTop, FindsNoRoom, TakesTop, AreTops, HasMoved, top_word, step_of, last_steps, own_steps, turn_at}, Laws.{AsksOneTurn, HasNoRoom, HeapIsFullWithoutRoom, MovesByOneBlock, TopMovesByOneBlock, OwnListEnds, TopEnds, OwnList, MovedTop, MadeIsItsBlock}}
+use Rattle.sharc_granule.proofs.{Steps.{turn_in_cells, rest_after_cells}, Tops.{moved_is_not_trying, moved_once, tops_once, tops_are_some, moved_is_some}, Aims.same_step}
 
 tops_of_nothing : (results : List ℕ) (top : ℕ) → results ≡ [] → AreTops results top → ⊥
 tops_of_nothing results top none tops = let P = λ (r : List ℕ). AreTops r top in tops_are_some top (subst P none tops)
@@ -74,9 +66,6 @@ quiet_not_full : (turn other : NewTurn) → IsQuiet other → turn ≡ other →
 quiet_not_full turn other (Loads word is) same full = cc
 quiet_not_full turn other (Swaps word new is) same full = cc
 quiet_not_full turn other (Makes header is) same full = cc
-
-same_step : (s t : WordStep) → Do s ≡ Do t → s ≡ t
-same_step s t same = cc
 
 same_op : (w v : ℕ) (o p : WordOp) → Do (step_of w o) ≡ Do (step_of v p) → o ≡ p
 same_op w v o p same = ap (λ (s : WordStep). s.op) (same_step (step_of w o) (step_of v p) same)

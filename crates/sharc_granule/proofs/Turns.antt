@@ -1,17 +1,7 @@
 -- Which results were found up to a stage, and what is asked for there.
-use Rattle.std.proofs.Common.{◌≡◌, ◌≢◌, ℕ, ◌+◌, ◌<◌, ◌≤◌, List, [], ◌∷◌, ◌++◌, length, drop, refl, sym, ap, ◌∙◌, inl, inr, arith, append_assoc, if◌then◌else◌}
-use Rattle.std.proofs.lemmas.List.{length-append, length_push}
-use Rattle.std.proofs.lemmas.Bool.{cases_eq, cases_lt, eq-eqb, ne_eqb, le-leb, lt-leb, lt-ltb, le-ltb}
+use Rattle.std.proofs.{Common.{◌≡◌, ◌≢◌, ℕ, ◌+◌, ◌<◌, ◌≤◌, List, [], ◌∷◌, ◌++◌, length, drop, refl, sym, ap, ◌∙◌, inl, inr, arith, append_assoc, if◌then◌else◌}, lemmas.List.{length-append, length_push}, lemmas.Bool.{cases_eq, cases_lt, eq-eqb, ne_eqb, le-leb, lt-leb, lt-ltb, le-ltb}}
 use Rattle.sharc_word.specs.declared.step.WordOp.TheVariants.{Cas}
-use Rattle.sharc_granule.specs.declared.stage.NewTurn.{NewTurn}
-use Rattle.sharc_granule.specs.declared.stage.NewTurn.TheVariants.{Do}
-use Rattle.sharc_granule.specs.declared.stage.Stage.{Stage}
-use Rattle.sharc_granule.specs.declared.stage.Stage.TheVariants.{Begins, Link, Cell, Top, Move, Count, Length, Made as Finished, Full}
-use Rattle.sharc_granule.specs.declared.arguments.NewArguments.{NewArguments}
-use Rattle.sharc_granule.specs.Asks.{Asks, TakesOwn, ReadsTop, MovesTop, FindsNoRoom, TakesTop, AreTops, NoneTwice, top_word, step_of, last_steps, own_steps, turn_at, granule_number, head_after}
-use Rattle.sharc_granule.specs.Stages.{turn_of_stage, try_from, next_stage, next_head, HasBlock, OfOwn, OfTop, IsInCell, IsAtTop, IsAtStage}
-use Rattle.sharc_granule.specs.State.{NewView, IsStep, IsAfter}
-use Rattle.sharc_granule.specs.Laws.{NewBegins, NewGoesOn, NewStays}
+use Rattle.sharc_granule.specs.{declared.stage.NewTurn.NewTurn, declared.stage.NewTurn.TheVariants.Do, declared.stage.Stage.Stage, declared.stage.Stage.TheVariants.{Begins, Link, Cell, Top, Move, Count, Length, Made as Finished, Full}, declared.arguments.NewArguments.NewArguments, Asks.{Asks, TakesOwn, ReadsTop, MovesTop, FindsNoRoom, TakesTop, AreTops, NoneTwice, top_word, step_of, last_steps, own_steps, turn_at, granule_number, head_after}, Stages.{turn_of_stage, try_from, next_stage, next_head, HasBlock, OfOwn, OfTop, IsInCell, IsAtTop, IsAtStage}, State.{NewView, IsStep, IsAfter}, Laws.{NewBegins, NewGoesOn, NewStays}}
 use Rattle.sharc_granule.proofs.Steps.{turn_in_cells, rest_after_cells}
 
 -- ---- what a stage asks for is what a New asks for

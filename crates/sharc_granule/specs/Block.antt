@@ -1,6 +1,5 @@
 -- The size of a block.
-use Rattle.std.specs.Prelude.{ℕ, zero, suc, ◌+◌, ◌*◌, ◌/◌, ◌^◌, ◌≤◌, nat_le, if◌then◌else◌}
-use Rattle.std.specs.Int.{IsPowerOfTwo}
+use Rattle.std.specs.{Prelude.{ℕ, zero, suc, ◌+◌, ◌*◌, ◌/◌, ◌^◌, ◌≤◌, nat_le, if◌then◌else◌}, Int.IsPowerOfTwo}
 
 -- the granules that an object of this many cells takes: its header, and two cells to a granule
 abbrev pub granules_of : ℕ → ℕ

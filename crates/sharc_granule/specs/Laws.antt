@@ -1,14 +1,9 @@
 -- What holds of every New.
 use Rattle.std.specs.Prelude.{◌≡◌, ◌≢◌, ℕ, ◌+◌, ◌*◌, ◌^◌, ◌<◌, ◌≤◌, List, [], ◌∷◌, ◌++◌, length, slice_index, All, AllPairs}
-use Rattle.sharc_word.specs.declared.step.WordStep.{WordStep}
-use Rattle.sharc_word.specs.declared.step.WordOp.TheVariants.{Cas}
-use Rattle.sharc_granule.specs.declared.stage.NewTurn.{NewTurn}
-use Rattle.sharc_granule.specs.declared.stage.NewTurn.TheVariants.{Do, Made, HeapFull}
-use Rattle.sharc_granule.specs.declared.arguments.NewArguments.{NewArguments}
-use Rattle.sharc_word.specs.declared.step.WordEvent.{WordEvent}
-use Rattle.sharc_word.specs.Words.{words_after}
-use Rattle.sharc_word.specs.History.{LegalHistory}
-use Rattle.sharc_granule.specs.Block.{granules_of, IsBlock, block_of}
+use Rattle.sharc_word.specs.{declared.step.WordStep.WordStep, declared.step.WordOp.TheVariants.Cas}
+use Rattle.sharc_word.specs.{declared.step.WordEvent.WordEvent, Words.words_after, History.LegalHistory}
+use Rattle.sharc_granule.specs.{declared.stage.NewTurn.NewTurn, declared.stage.NewTurn.TheVariants.{Do, Made, HeapFull}}
+use Rattle.sharc_granule.specs.{declared.arguments.NewArguments.NewArguments, Block.{granules_of, IsBlock, block_of}}
 use Rattle.sharc_granule.specs.Handed.{Granules, KeepsTop, MovesOn, HandsOut, LieInOrder, handed_out}
 use Rattle.sharc_granule.specs.State.{NewView, IsAfter, IsStep, begun, told, turn_of}
 use Rattle.sharc_granule.specs.Asks.{count_word, length_word, cell_word, granule_number, Asks, AreTops, HasMoved, step_of, top_word}

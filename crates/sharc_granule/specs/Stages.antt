@@ -1,8 +1,7 @@
 -- The stages of a New: what each asks for, which one comes next, and which results were found up to it.
 use Rattle.std.specs.Prelude.{◌≡◌, ◌≢◌, ℕ, ◌+◌, ◌<◌, ◌≤◌, [], List, length, nat_lt, nat_le, nat_eq, if◌then◌else◌}
 use Rattle.sharc_word.specs.declared.step.WordOp.TheVariants.{Load, Swap, Cas}
-use Rattle.sharc_granule.specs.declared.stage.NewTurn.{NewTurn}
-use Rattle.sharc_granule.specs.declared.stage.NewTurn.TheVariants.{Do, Made, HeapFull}
+use Rattle.sharc_granule.specs.{declared.stage.NewTurn.NewTurn, declared.stage.NewTurn.TheVariants.{Do, Made, HeapFull}}
 use Rattle.sharc_granule.specs.declared.stage.Stage.{Stage}
 use Rattle.sharc_granule.specs.declared.stage.Stage.TheVariants.{Begins, Link, Cell, Top, Move, Count, Length, Made as Finished, Full}
 use Rattle.sharc_granule.specs.declared.arguments.NewArguments.{NewArguments}

@@ -1,11 +1,8 @@
 -- A New on its way, turn by turn: what it asks for, and how it goes on when it is given what its step found.
 use Rattle.std.specs.Prelude.{◌≡◌, ℕ, List, Option, Some, None}
-use Rattle.sharc_granule.specs.declared.arguments.NewArguments.{NewArguments}
-use Rattle.sharc_granule.specs.declared.stage.NewTurn.{NewTurn}
-use Rattle.sharc_granule.specs.declared.stage.NewTurn.TheVariants.{Do, Made, HeapFull}
-use Rattle.sharc_granule.specs.declared.stage.Stage.{Stage}
-use Rattle.sharc_granule.specs.declared.stage.Stage.TheVariants.{Begins, Length}
-use Rattle.sharc_granule.specs.Asks.{Asks, head_after}
+use Rattle.sharc_granule.specs.{declared.arguments.NewArguments.NewArguments, declared.stage.NewTurn.NewTurn}
+use Rattle.sharc_granule.specs.{declared.stage.NewTurn.TheVariants.{Do, Made, HeapFull}, declared.stage.Stage.Stage}
+use Rattle.sharc_granule.specs.{declared.stage.Stage.TheVariants.{Begins, Length}, Asks.{Asks, head_after}}
 use Rattle.sharc_granule.specs.Stages.{turn_of_stage, next_stage, next_head, IsAtStage}
 
 -- what a New was given, how far it has come, and the head of the own list as it now is

@@ -1,19 +1,14 @@
 -- What flat and guarded code have in common where the one is beside the other.
 use Rattle.std.proofs.Common.{◌≡◌, ℕ, ℤ, pos, negsuc, zero, suc, Bool, List, [], ◌∷◌, length, Some, None, refl, ap}
 use Rattle.sharc_tree.specs.declared.event.CellAt.{CellAt}
-use Rattle.sharc_code.specs.declared.code.PlaceMode.{PlaceMode}
-use Rattle.sharc_code.specs.declared.code.PlaceMode.TheVariants.{Private, Readonly, Racy, Dynamic, LockedGlobal, LockedSibling, LockedThrough, LockedLoaded}
-use Rattle.sharc_code.specs.declared.code.Use.{Use}
+use Rattle.sharc_code.specs.{declared.code.PlaceMode.PlaceMode, declared.code.PlaceMode.TheVariants.{Private, Readonly, Racy, Dynamic, LockedGlobal, LockedSibling, LockedThrough, LockedLoaded}, declared.code.Use.Use, declared.instr.Cell.Cell, declared.instr.Register.Register, declared.state.Frame.Frame}
 use Rattle.sharc_code.specs.declared.code.Use.TheVariants as uses
-use Rattle.sharc_code.specs.declared.instr.Cell.{Cell}
 use Rattle.sharc_code.specs.declared.instr.Cell.TheVariants as cells
-use Rattle.sharc_code.specs.declared.instr.Register.{Register}
 use Rattle.sharc_code.specs.declared.instr.Register.TheVariants as registers
-use Rattle.sharc_code.specs.declared.state.Frame.{Frame}
 use Rattle.sharc_code.specs.Arithmetic as Code
 use Rattle.sharc_code.specs.Says as Says
 use Rattle.sharc_meaning.specs.Arithmetic.{is_zero}
-use Rattle.sharc_flat_form.specs.Machine.{Flat, Caller, At, cell_at, base_of, is_of_null, mode_of, instance_mode, kind_of, variable_of, argument}
+use Rattle.sharc_flat_form.specs.Machine.{Flat, Caller, At, cell_at, is_of_null, mode_of, instance_mode, kind_of, variable_of, argument}
 use Rattle.sharc_guarded_form.specs.Machine as Form
 use Rattle.sharc_guarded_form.specs.Machine.{Program, Thread, Running}
 use Rattle.sharc_guard.specs.Guard.{place, guarded}
@@ -84,12 +79,6 @@ module _ (dropped : ℕ → Bool) (flat : Flat) (m : At) (q : ℕ) (h : List Cel
   null_same (cells.GlobalAt g i) = refl
   null_same (cells.Object r n) = refl
   null_same (cells.ObjectAt r i) = refl
-
-  pub base_same : (c : Cell) → Form.base_of me c ≡ base_of m c
-  base_same (cells.Global g n) = refl
-  base_same (cells.GlobalAt g i) = refl
-  base_same (cells.Object r n) = refl
-  base_same (cells.ObjectAt r i) = refl
 
   pub argument_same : (r : Register) → Form.argument me r ≡ argument m r
   argument_same (registers.Int i) = refl

@@ -1,25 +1,11 @@
 -- Each access comes after its check.
-use Rattle.std.proofs.Common.{◌≡◌, ℕ, zero, suc, ◌+◌, ◌-◌, ◌<◌, ◌≤◌, ◌⊎◌, inl, inr, Bool, true, false, List, [], ◌∷◌, ◌++◌, length, map, refl, sym, ap, ◌∙◌, subst, ⊎_elim, arith, Some, None, slice_get, slice_index_or, cond}
-use Rattle.std.proofs.lemmas.Bool.{cases_lt}
-use Rattle.std.proofs.lemmas.List.{append_assoc, length-map}
-use Rattle.sharc_code.specs.declared.code.Function.{Function}
-use Rattle.sharc_code.specs.declared.code.PlaceMode.{PlaceMode}
-use Rattle.sharc_code.specs.declared.code.PlaceMode.TheVariants.{Private, Readonly, Racy, Dynamic, LockedGlobal, LockedSibling, LockedThrough, LockedLoaded}
-use Rattle.sharc_code.specs.declared.code.SourcePlace.{SourcePlace}
-use Rattle.sharc_code.specs.declared.instr.Cell.TheVariants.{Global, Object}
-use Rattle.sharc_code.specs.declared.instr.Width.TheVariants.{Char, Int, Long}
-use Rattle.sharc_code.specs.declared.instr.Instr.{Instr}
-use Rattle.sharc_code.specs.declared.instr.Instr.TheVariants.{Start, Exit, ChkRead, ChkWrite, ChkLock, ChkLockLoaded, Load, Store, LoadRef, Exchange, TakeCell}
-use Rattle.sharc_code.specs.Machine.{no_function}
-use Rattle.sharc_flat_form.specs.declared.op.Op.{Op}
-use Rattle.sharc_flat_form.specs.declared.op.Spot.{Spot}
+use Rattle.std.proofs.{Common.{◌≡◌, ℕ, zero, suc, ◌+◌, ◌-◌, ◌<◌, ◌≤◌, ◌⊎◌, inl, inr, Bool, true, false, List, [], ◌∷◌, ◌++◌, length, map, refl, sym, ap, ◌∙◌, subst, ⊎_elim, arith, Some, None, slice_get, slice_index_or, cond}, lemmas.Bool.cases_lt, lemmas.List.{append_assoc, length-map}}
+use Rattle.sharc_code.specs.{declared.code.Function.Function, declared.code.PlaceMode.PlaceMode, declared.code.PlaceMode.TheVariants.{Private, Readonly, Racy, Dynamic, LockedGlobal, LockedSibling, LockedThrough, LockedLoaded}, declared.code.SourcePlace.SourcePlace, declared.instr.Cell.TheVariants.{Global, Object}, declared.instr.Width.TheVariants.{Char, Int, Long}, declared.instr.Instr.Instr, declared.instr.Instr.TheVariants.{Start, Exit, ChkRead, ChkWrite, ChkLock, ChkLockLoaded, Load, Store, LoadRef, Exchange, TakeCell}, Machine.no_function}
+use Rattle.sharc_flat_form.specs.{declared.op.Op.Op, declared.op.Spot.Spot, Machine.Flat}
 use Rattle.sharc_flat_form.specs.declared.op.Op.TheVariants as op
-use Rattle.sharc_flat_form.specs.Machine.{Flat}
 use Rattle.sharc_guarded_form.specs.Machine.{Program, source_at}
-use Rattle.sharc_guard.specs.Guard.{expand, head, body, tail, own, width, offset, place, guarded, entered_at, source_of, check_under}
-use Rattle.sharc_guard.specs.Checked.{Access, access_of, IsCheckOf, LeadsTo, IsNoTarget, IsAfterCheck, IsCheckedAt}
-use Rattle.sharc_guard.proofs.Placing.{HasAt, width_is, stands, place_next, source_is}
-use Rattle.sharc_guard.proofs.Framing.{there_is, AllIn, all_append, all_at, has_at, get_inside, head_all}
+use Rattle.sharc_guard.specs.{Guard.{expand, head, body, tail, own, width, offset, place, guarded, entered_at, source_of, check_under}, Checked.{Access, access_of, IsCheckOf, LeadsTo, IsNoTarget, IsAfterCheck, IsCheckedAt}}
+use Rattle.sharc_guard.proofs.{Placing.{HasAt, width_is, stands, place_next, source_is}, Framing.{there_is, AllIn, all_append, all_at, has_at, get_inside, head_all}}
 
 -- ---- places grow
 pub grows : (dropped : ℕ → Bool) (k : ℕ) (lines : List Op) (n d : ℕ) → offset dropped k lines n ≤ offset dropped k lines (n + d)

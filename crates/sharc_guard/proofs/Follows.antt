@@ -1,55 +1,21 @@
 -- One operation of flat code and its own guarded statement.
-use Rattle.std.proofs.Common.{◌≡◌, ℕ, ℤ, zero, suc, pos, negsuc, ◌+◌, ◌*◌, ◌<◌, ◌⊎◌, inl, inr, Bool, true, false, not, List, [], ◌∷◌, ◌++◌, length, map, refl, sym, ap, ◌∙◌, subst, arith, Some, None, Option, Result, Ok, Err, nat_lt, slice_get, slice_index_or}
+use Rattle.std.proofs.{Common.{◌≡◌, ℕ, ℤ, zero, suc, pos, negsuc, ◌+◌, ◌*◌, ◌<◌, ◌⊎◌, inl, inr, Bool, true, false, not, List, [], ◌∷◌, ◌++◌, length, map, refl, sym, ap, ◌∙◌, subst, arith, Some, None, Option, Result, Ok, Err, nat_lt, slice_get, slice_index_or}, lemmas.Bool.Decides.nat_tests, lemmas.Bool.ne_eqb, lemmas.List.{length-append, length-map, append-nil}}
 use Rattle.std.specs.Prelude.{nat_eq, if◌then◌else◌}
-use Rattle.std.proofs.lemmas.Bool.Decides.{nat_tests}
-use Rattle.std.proofs.lemmas.Bool.{ne_eqb}
-use Rattle.std.proofs.lemmas.List.{length-append, length-map, append-nil}
-use Rattle.sharc_tree.specs.declared.event.Act.{Act}
+use Rattle.sharc_tree.specs.{declared.event.Act.Act, declared.event.CellAt.CellAt, declared.event.CellMode.CellMode, declared.event.SourceEvent.SourceEvent, declared.trap.Trap.Trap}
 use Rattle.sharc_tree.specs.declared.event.Act.TheVariants as acts
 use Rattle.sharc_tree.specs.declared.event.Taken.TheVariants as takens
-use Rattle.sharc_tree.specs.declared.event.CellAt.{CellAt}
-use Rattle.sharc_tree.specs.declared.event.CellMode.{CellMode}
-use Rattle.sharc_tree.specs.declared.event.SourceEvent.{SourceEvent}
-use Rattle.sharc_tree.specs.declared.trap.Trap.{Trap}
 use Rattle.sharc_tree.specs.declared.trap.Trap.TheVariants as traps
-use Rattle.sharc_code.specs.declared.code.Function.{Function}
-use Rattle.sharc_code.specs.declared.code.SourcePlace.{SourcePlace}
-use Rattle.sharc_code.specs.declared.instr.Width.{Width}
-use Rattle.sharc_code.specs.declared.instr.Width.TheVariants.{Char, Int, Long}
-use Rattle.sharc_code.specs.declared.instr.Cell.{Cell}
-use Rattle.sharc_code.specs.declared.instr.Cell.TheVariants.{Global, GlobalAt, Object as InObject, ObjectAt}
-use Rattle.sharc_code.specs.declared.instr.Register.{Register}
+use Rattle.sharc_code.specs.{declared.code.Function.Function, declared.code.SourcePlace.SourcePlace, declared.instr.Width.Width, declared.instr.Width.TheVariants.{Char, Int, Long}, declared.instr.Cell.Cell, declared.instr.Cell.TheVariants.{Global, GlobalAt, Object as InObject, ObjectAt}, declared.instr.Register.Register, declared.instr.Instr.Instr, declared.instr.Instr.TheVariants.{RaiseLoaded, Lower, MoveReference, LoadRef, TakeCell, Lock, Spawn, Exit}, declared.instr.Operator.Operator, Arithmetic.{computed, negated}, Machine.{no_function, is_positive, elements_of as elements_made}, declared.code.Use.Use, Says.{variable_of, kind_of, made_cell}, declared.code.PlaceMode.TheVariants.Readonly, Runs.put}
 use Rattle.sharc_code.specs.declared.instr.Register.TheVariants as registers
-use Rattle.sharc_code.specs.declared.instr.Instr.{Instr}
-use Rattle.sharc_code.specs.declared.instr.Instr.TheVariants.{RaiseLoaded, Lower, MoveReference, LoadRef, TakeCell, Lock, Spawn, Exit}
-use Rattle.sharc_code.specs.declared.instr.Operator.{Operator}
-use Rattle.sharc_code.specs.Arithmetic.{computed, negated}
-use Rattle.sharc_meaning.specs.Statements.{is_positive as positive}
-use Rattle.sharc_code.specs.Machine.{no_function, is_positive, elements_of as elements_made}
-use Rattle.sharc_code.specs.declared.code.Use.{Use}
+use Rattle.sharc_meaning.specs.{Statements.{is_positive as positive}, declared.given.GivenUp.GivenUp, declared.given.GivenUp.TheVariants.{Released, Replaced, Emptied}, Events.{held_mutexes, locked_by, unlocked_by}, Reference.{NULL, is_null, number_of}, State.{stopped, ended, event_of, answer_of}}
 use Rattle.sharc_code.specs.declared.code.Use.TheVariants as uses
-use Rattle.sharc_code.specs.Says.{variable_of, kind_of, made_cell}
-use Rattle.sharc_code.specs.declared.code.PlaceMode.TheVariants.{Readonly}
-use Rattle.sharc_code.specs.Runs.{put}
-use Rattle.sharc_meaning.specs.declared.given.GivenUp.{GivenUp}
-use Rattle.sharc_meaning.specs.declared.given.GivenUp.TheVariants.{Released, Replaced, Emptied}
-use Rattle.sharc_meaning.specs.Events.{held_mutexes, locked_by, unlocked_by}
-use Rattle.sharc_meaning.specs.Reference.{NULL, is_null, number_of}
-use Rattle.sharc_meaning.specs.State.{stopped, ended, event_of, answer_of}
-use Rattle.sharc_flat_form.specs.declared.op.Op.{Op}
-use Rattle.sharc_flat_form.specs.declared.op.Spot.{Spot}
+use Rattle.sharc_flat_form.specs.{declared.op.Op.Op, declared.op.Spot.Spot, Machine.{goes, asks, halts, op_turn}, Path.after, Framed.{IsFlat, Leads, IsWide}}
 use Rattle.sharc_flat_form.specs.declared.op.Op.TheVariants as op
 use Rattle.sharc_flat_form.specs.Machine as Flat
-use Rattle.sharc_flat_form.specs.Machine.{goes, asks, halts, op_turn}
 use Rattle.sharc_guarded_form.specs.Machine as Form
-use Rattle.sharc_guarded_form.specs.Machine.{Program, Thread, Phase, Running, Leaving, Left, Turn, Goes, Asks, Checks, Halts, Stopped, step, source_at, statement_at}
-use Rattle.sharc_guarded_form.specs.Path.{weight}
-use Rattle.sharc_guard.specs.Guard.{source_of, source_at_spot, compute, negate, body, tail, entered_at}
-use Rattle.sharc_guard.specs.Correct.{Resolved, moved, bottom, image}
-use Rattle.sharc_flat_form.specs.Path.{after}
-use Rattle.sharc_flat_form.specs.Framed.{IsFlat, Leads, IsWide}
-use Rattle.sharc_guard.proofs.Holding.{quiet_held, lock_held, unlock_held, funext}
-use Rattle.sharc_guard.proofs.Placing.{HasAt, pl, p}
+use Rattle.sharc_guarded_form.specs.{Machine.{Program, Thread, Phase, Running, Leaving, Left, Turn, Goes, Asks, Checks, Halts, Stopped, step, source_at, statement_at}, Path.weight}
+use Rattle.sharc_guard.specs.{Guard.{source_of, source_at_spot, compute, negate, body, tail, entered_at}, Correct.{Resolved, moved, bottom, image}}
+use Rattle.sharc_guard.proofs.{Holding.{quiet_held, lock_held, unlock_held, funext}, Placing.{HasAt, pl, p}}
 
 resolved_push : (gs : List GivenUp) (ks : List ℕ) (n : ℕ) → Resolved gs ks → Resolved (gs ++ Released n ∷ []) (ks ++ n ∷ [])
 resolved_push [] [] n h = (refl, tt)

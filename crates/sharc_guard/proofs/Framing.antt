@@ -1,34 +1,16 @@
 -- The guarded code of framed flat code is well formed.
-use Rattle.std.proofs.Common.{◌≡◌, ℕ, zero, suc, ◌+◌, ◌-◌, ◌*◌, ◌^◌, ◌<◌, ◌≤◌, max, Bool, true, false, List, [], ◌∷◌, ◌++◌, length, map, fold, refl, sym, ap, ◌∙◌, subst, ⊎_elim, arith, Some, nat_lt, slice_get, slice_index_or}
+use Rattle.std.proofs.{Common.{◌≡◌, ℕ, zero, suc, ◌+◌, ◌-◌, ◌*◌, ◌^◌, ◌<◌, ◌≤◌, max, Bool, true, false, List, [], ◌∷◌, ◌++◌, length, map, fold, refl, sym, ap, ◌∙◌, subst, ⊎_elim, arith, Some, nat_lt, slice_get, slice_index_or}, lemmas.Bool.{lt-ltb, le-ltb, cases_lt}, lemmas.List.{length-append, length-map}}
 use Rattle.std.specs.Prelude.{if◌then◌else◌}
-use Rattle.std.proofs.lemmas.Bool.{lt-ltb, le-ltb, cases_lt}
-use Rattle.std.proofs.lemmas.List.{length-append, length-map}
-use Rattle.sharc_code.specs.declared.code.Function.{Function}
-use Rattle.sharc_code.specs.declared.code.Parameter.{Parameter}
+use Rattle.sharc_code.specs.{declared.code.Function.Function, declared.code.Parameter.Parameter, declared.code.PlaceMode.PlaceMode, declared.code.PlaceMode.TheVariants.{Private, Readonly, Racy, Dynamic, LockedGlobal, LockedSibling, LockedThrough, LockedLoaded}, declared.code.GlobalCells.GlobalCells, declared.instr.Cell.Cell, declared.instr.Register.Register, declared.instr.Width.TheVariants.{Char, Int, Long}, declared.instr.Instr.Instr, declared.instr.Instr.TheVariants.{Jump, JumpIfZero, JumpIfNull, Call, Return, Start, Exit, ChkRead, ChkWrite, ChkLock, ChkLockLoaded, TestSole, Clear}, Machine.no_function, Ranges.IsInGlobal}
 use Rattle.sharc_code.specs.declared.code.Parameter.TheVariants as parameters
-use Rattle.sharc_code.specs.declared.code.PlaceMode.{PlaceMode}
-use Rattle.sharc_code.specs.declared.code.PlaceMode.TheVariants.{Private, Readonly, Racy, Dynamic, LockedGlobal, LockedSibling, LockedThrough, LockedLoaded}
-use Rattle.sharc_code.specs.declared.code.GlobalCells.{GlobalCells}
-use Rattle.sharc_code.specs.declared.instr.Cell.{Cell}
 use Rattle.sharc_code.specs.declared.instr.Cell.TheVariants as cells
-use Rattle.sharc_code.specs.declared.instr.Register.{Register}
 use Rattle.sharc_code.specs.declared.instr.Register.TheVariants as registers
-use Rattle.sharc_code.specs.declared.instr.Width.TheVariants.{Char, Int, Long}
-use Rattle.sharc_code.specs.declared.instr.Instr.{Instr}
-use Rattle.sharc_code.specs.declared.instr.Instr.TheVariants.{Jump, JumpIfZero, JumpIfNull, Call, Return, Start, Exit, ChkRead, ChkWrite, ChkLock, ChkLockLoaded, TestSole, Clear}
-use Rattle.sharc_code.specs.Machine.{no_function}
-use Rattle.sharc_code.specs.Ranges.{IsInGlobal}
-use Rattle.sharc_flat_form.specs.declared.op.Op.{Op}
-use Rattle.sharc_flat_form.specs.declared.op.Spot.{Spot}
+use Rattle.sharc_flat_form.specs.{declared.op.Op.Op, declared.op.Spot.Spot, Machine.{Flat, function_of}, Framed.{OpWrites, InLine, OpLeads, IsFramed}}
 use Rattle.sharc_flat_form.specs.declared.op.Op.TheVariants as op
-use Rattle.sharc_flat_form.specs.Machine.{Flat, function_of}
-use Rattle.sharc_guarded_form.specs.Form.{WritesWithin, BaseWithin, HandedWithin, HasFewCells, IsBody, Leads, IsAtPlace, HasParameter, IsEntry, IsGuarded}
-use Rattle.sharc_guarded_form.specs.Machine.{Program, function_at}
+use Rattle.sharc_guarded_form.specs.{Form.{WritesWithin, BaseWithin, HandedWithin, HasFewCells, IsBody, Leads, IsAtPlace, HasParameter, IsEntry, IsGuarded}, Machine.{Program, function_at}}
 use Rattle.sharc_guard.specs.Guard.{expand, head, body, tail, own, width, offset, place, expanded, guarded, entered_at, check_under}
 use Rattle.sharc_flat_form.specs.Framed as Framed
-use Rattle.sharc_flat_form.specs.Framed.{OpWrites, InLine, OpLeads, IsFramed}
-use Rattle.sharc_guard.proofs.Placing.{HasAt, width_is, stands, place_next}
-use Rattle.sharc_guard.proofs.Walking.{IsIdle, idle_length, bodied}
+use Rattle.sharc_guard.proofs.{Placing.{HasAt, width_is, stands, place_next}, Walking.{IsIdle, idle_length, bodied}}
 
 -- ---- the line of a place
 line_from : (ℕ → Bool) → ℕ → List Op → ℕ → ℕ

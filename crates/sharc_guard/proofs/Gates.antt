@@ -1,38 +1,22 @@
 -- What comes before a statement: checks of what it asks for.
 use Rattle.std.proofs.Common.{◌≡◌, ℕ, ℤ, pos, ◌+◌, ◌-◌, inl, inr, Bool, true, false, List, [], ◌∷◌, Some, None, refl, sym, ap, ◌∙◌, subst, cond}
-use Rattle.sharc_tree.specs.declared.event.Act.{Act}
+use Rattle.sharc_tree.specs.{declared.event.Act.Act, declared.event.CellAt.CellAt, declared.event.CellMode.CellMode}
 use Rattle.sharc_tree.specs.declared.event.Act.TheVariants as acts
-use Rattle.sharc_tree.specs.declared.event.CellAt.{CellAt}
-use Rattle.sharc_tree.specs.declared.event.CellMode.{CellMode}
 use Rattle.sharc_tree.specs.declared.event.CellMode.TheVariants as modes
 use Rattle.sharc_tree.specs.declared.event.Object.TheVariants as objects
 use Rattle.sharc_tree.specs.declared.event.Taken.TheVariants as taken
 use Rattle.sharc_tree.specs.declared.trap.Trap.TheVariants as traps
 use Rattle.sharc_shadow.specs.declared.shadow_word.Kind.{Kind}
 use Rattle.sharc_shadow.specs.declared.shadow_word.Kind.TheVariants as kinds
-use Rattle.sharc_code.specs.declared.code.PlaceMode.{PlaceMode}
-use Rattle.sharc_code.specs.declared.code.PlaceMode.TheVariants.{Private, Readonly, Racy, Dynamic, LockedGlobal, LockedSibling, LockedThrough, LockedLoaded}
-use Rattle.sharc_code.specs.declared.instr.Cell.{Cell}
+use Rattle.sharc_code.specs.{declared.code.PlaceMode.PlaceMode, declared.code.PlaceMode.TheVariants.{Private, Readonly, Racy, Dynamic, LockedGlobal, LockedSibling, LockedThrough, LockedLoaded}, declared.instr.Cell.Cell, declared.instr.Instr.Instr, declared.instr.Instr.TheVariants.{ChkRead, ChkWrite}}
 use Rattle.sharc_code.specs.declared.instr.Cell.TheVariants as cells
-use Rattle.sharc_code.specs.declared.instr.Instr.{Instr}
-use Rattle.sharc_code.specs.declared.instr.Instr.TheVariants.{ChkRead, ChkWrite}
-use Rattle.sharc_meaning.specs.declared.given.GivenUp.TheVariants.{Replaced}
-use Rattle.sharc_meaning.specs.Cells.{cell_of, through}
-use Rattle.sharc_meaning.specs.Events.{held_mutexes}
-use Rattle.sharc_meaning.specs.Reference.{is_null, number_of}
-use Rattle.sharc_meaning.specs.State.{stopped}
-use Rattle.sharc_flat_form.specs.declared.op.Op.{Op}
-use Rattle.sharc_flat_form.specs.declared.op.Spot.{Spot}
+use Rattle.sharc_meaning.specs.{declared.given.GivenUp.TheVariants.Replaced, Cells.{cell_of, through}, Events.held_mutexes, Reference.{is_null, number_of}, State.stopped}
+use Rattle.sharc_flat_form.specs.{declared.op.Op.Op, declared.op.Spot.Spot, Machine.{Flat, At, Turn, asks, halts, ref, next, stops, cell_at, global_cell, mode_of, is_of_null, lock_is_null, accesses, accessed, op_turn, kind_of, int, set_int, set_ref, gives_up}}
 use Rattle.sharc_flat_form.specs.declared.op.Op.TheVariants as op
-use Rattle.sharc_flat_form.specs.Machine.{Flat, At, Turn, asks, halts, ref, next, stops, cell_at, global_cell, mode_of, is_of_null, lock_is_null, accesses, accessed, op_turn, kind_of, int, set_int, set_ref, gives_up}
 use Rattle.sharc_guarded_form.specs.Machine as Form
-use Rattle.sharc_guarded_form.specs.Machine.{Program, Thread, source_at}
-use Rattle.sharc_guarded_form.specs.Path.{weight}
-use Rattle.sharc_guard.specs.Guard.{place, guarded, check_under, head}
-use Rattle.sharc_guard.specs.Counted.{IsAccess, IsUnder, Tells, OverwritesNone, IsBeside, LockStands}
-use Rattle.sharc_guard.proofs.Places.{IsPlaceOf, spot_of}
-use Rattle.sharc_guard.proofs.Beside.{beside, cell_same, null_same}
-use Rattle.sharc_guard.proofs.Turning.{IsOpenFor}
+use Rattle.sharc_guarded_form.specs.{Machine.{Program, Thread, source_at}, Path.weight}
+use Rattle.sharc_guard.specs.{Guard.{place, guarded, check_under, head}, Counted.{IsAccess, IsUnder, Tells, OverwritesNone, IsBeside, LockStands}}
+use Rattle.sharc_guard.proofs.{Places.{IsPlaceOf, spot_of}, Beside.{beside, cell_same, null_same}, Turning.IsOpenFor}
 
 module _ (dropped : ℕ → Bool) (flat : Flat) (m : At) where
   abbrev pl : ℕ → ℕ

@@ -1,31 +1,18 @@
 -- What comes before an operation's own statement: it passes, or stops where flat code stops.
 use Rattle.std.proofs.Common.{◌≡◌, ℕ, ℤ, pos, ◌+◌, Bool, true, false, List, [], ◌∷◌, refl, sym, ap, ◌∙◌, subst}
 use Rattle.std.specs.Prelude.{if◌then◌else◌}
-use Rattle.sharc_tree.specs.declared.event.Act.{Act}
+use Rattle.sharc_tree.specs.{declared.event.Act.Act, declared.event.CellAt.CellAt, declared.event.CellMode.CellMode}
 use Rattle.sharc_tree.specs.declared.event.Act.TheVariants as acts
 use Rattle.sharc_tree.specs.declared.event.Taken.TheVariants as takens
-use Rattle.sharc_tree.specs.declared.event.CellAt.{CellAt}
-use Rattle.sharc_tree.specs.declared.event.CellMode.{CellMode}
 use Rattle.sharc_tree.specs.declared.trap.Trap.TheVariants as traps
-use Rattle.sharc_code.specs.declared.code.PlaceMode.{PlaceMode}
-use Rattle.sharc_code.specs.declared.code.PlaceMode.TheVariants.{Private, Readonly, Racy, Dynamic, LockedGlobal, LockedSibling, LockedThrough, LockedLoaded}
-use Rattle.sharc_code.specs.declared.instr.Cell.{Cell}
-use Rattle.sharc_code.specs.declared.instr.Cell.TheVariants.{Global, Object}
-use Rattle.sharc_code.specs.declared.instr.Instr.{Instr}
-use Rattle.sharc_code.specs.declared.instr.Instr.TheVariants.{ChkRead, ChkWrite, ChkLock, ChkLockLoaded, TestSole, Clear}
-use Rattle.sharc_meaning.specs.declared.given.GivenUp.TheVariants.{Replaced, Emptied}
-use Rattle.sharc_meaning.specs.Reference.{number_of}
-use Rattle.sharc_meaning.specs.State.{stopped}
-use Rattle.sharc_flat_form.specs.declared.op.Op.{Op}
-use Rattle.sharc_flat_form.specs.declared.op.Spot.{Spot}
+use Rattle.sharc_code.specs.{declared.code.PlaceMode.PlaceMode, declared.code.PlaceMode.TheVariants.{Private, Readonly, Racy, Dynamic, LockedGlobal, LockedSibling, LockedThrough, LockedLoaded}, declared.instr.Cell.Cell, declared.instr.Cell.TheVariants.{Global, Object}, declared.instr.Instr.Instr, declared.instr.Instr.TheVariants.{ChkRead, ChkWrite, ChkLock, ChkLockLoaded, TestSole, Clear}}
+use Rattle.sharc_meaning.specs.{declared.given.GivenUp.TheVariants.{Replaced, Emptied}, Reference.number_of, State.stopped}
+use Rattle.sharc_flat_form.specs.{declared.op.Op.Op, declared.op.Spot.Spot, Machine.{goes, asks, halts, op_turn}}
 use Rattle.sharc_flat_form.specs.declared.op.Op.TheVariants as op
 use Rattle.sharc_flat_form.specs.Machine as Flat
-use Rattle.sharc_flat_form.specs.Machine.{goes, asks, halts, op_turn}
 use Rattle.sharc_guarded_form.specs.Machine as Form
-use Rattle.sharc_guarded_form.specs.Machine.{Thread, Turn, Goes, Asks, Checks, Halts, Stopped, step}
-use Rattle.sharc_guarded_form.specs.Path.{weight}
-use Rattle.sharc_guard.specs.Guard.{source_of, check_under, head}
-use Rattle.sharc_guard.specs.Correct.{image}
+use Rattle.sharc_guarded_form.specs.{Machine.{Thread, Turn, Goes, Asks, Checks, Halts, Stopped, step}, Path.weight}
+use Rattle.sharc_guard.specs.{Guard.{source_of, check_under, head}, Correct.image}
 use Rattle.sharc_guard.proofs.Follows.{g, at, Unlocked}
 
 -- a turn that leads on, where what it checks is well

@@ -1,29 +1,14 @@
 -- What a turn of guarded code does to the log.
 use Rattle.std.proofs.Common.{◌≡◌, ℕ, ℤ, pos, negsuc, ◌+◌, ◌*◌, Bool, true, false, not, filter, cond, List, [], ◌∷◌, ◌++◌, length, Result, Ok, Err, nat_lt, refl, sym, ap, ◌∙◌}
-use Rattle.sharc_tree.specs.declared.event.Act.{Act}
+use Rattle.sharc_tree.specs.{declared.event.Act.Act, declared.event.CellAt.CellAt, declared.event.SourceEvent.SourceEvent, declared.trap.Trap.Trap}
 use Rattle.sharc_tree.specs.declared.event.Act.TheVariants as acts
-use Rattle.sharc_tree.specs.declared.event.CellAt.{CellAt}
-use Rattle.sharc_tree.specs.declared.event.SourceEvent.{SourceEvent}
-use Rattle.sharc_tree.specs.declared.trap.Trap.{Trap}
 use Rattle.sharc_tree.specs.declared.trap.Trap.TheVariants as traps
-use Rattle.sharc_code.specs.declared.code.Parameter.{Parameter}
+use Rattle.sharc_code.specs.{declared.code.Parameter.Parameter, declared.instr.Cell.Cell, declared.instr.Cell.TheVariants.{Global, GlobalAt, Object as InObject, ObjectAt}, declared.instr.Instr.Instr, declared.instr.Instr.TheVariants.{ComputeInt, ComputeLong, NegateInt, NegateLong, ChkWidth, JumpIfZero, JumpIfNull, Call, Return, ChkNull, ChkHeld, ChkNotHeld, ChkPositive, ChkRoom, ChkLock, ChkLockLoaded, Bounds, GlobalBounds, Load, Store, LoadRef, Exchange, New, TakeCell, TakeLocal, Give, Free, Lock, Unlock, Spawn, Join, Print, Start, Exit, CondEnter, CondWait, CondSignal, CondBroadcast}, declared.instr.Register.Register, declared.instr.Width.TheVariants.{Int, Long}, declared.state.Frame.Frame, Arithmetic.{holds, is_zero, computed, negated}, Machine.is_positive, Says.made_cell}
 use Rattle.sharc_code.specs.declared.code.Parameter.TheVariants as parameters
-use Rattle.sharc_code.specs.declared.instr.Cell.{Cell}
-use Rattle.sharc_code.specs.declared.instr.Cell.TheVariants.{Global, GlobalAt, Object as InObject, ObjectAt}
-use Rattle.sharc_code.specs.declared.instr.Instr.{Instr}
-use Rattle.sharc_code.specs.declared.instr.Instr.TheVariants.{ComputeInt, ComputeLong, NegateInt, NegateLong, ChkWidth, JumpIfZero, JumpIfNull, Call, Return, ChkNull, ChkHeld, ChkNotHeld, ChkPositive, ChkRoom, ChkLock, ChkLockLoaded, Bounds, GlobalBounds, Load, Store, LoadRef, Exchange, New, TakeCell, TakeLocal, Give, Free, Lock, Unlock, Spawn, Join, Print, Start, Exit, CondEnter, CondWait, CondSignal, CondBroadcast}
-use Rattle.sharc_code.specs.declared.instr.Register.{Register}
 use Rattle.sharc_code.specs.declared.instr.Register.TheVariants as registers
-use Rattle.sharc_code.specs.declared.instr.Width.TheVariants.{Int, Long}
-use Rattle.sharc_code.specs.declared.state.Frame.{Frame}
-use Rattle.sharc_code.specs.Arithmetic.{holds, is_zero, computed, negated}
-use Rattle.sharc_code.specs.Machine.{is_positive}
-use Rattle.sharc_code.specs.Says.{made_cell}
-use Rattle.sharc_meaning.specs.Events.{held_mutexes, locked_by, same_cell, unlocked_by}
-use Rattle.sharc_meaning.specs.Reference.{is_null, number_of, elements_of}
+use Rattle.sharc_meaning.specs.{Events.{held_mutexes, locked_by, same_cell, unlocked_by}, Reference.{is_null, number_of, elements_of}}
 use Rattle.sharc_guarded_form.specs.Machine as Form
-use Rattle.sharc_guarded_form.specs.Machine.{Program, Thread, Phase, Running, Leaving, Left, Turn, Goes, Asks, Checks, Halts, int, cell_at, is_of_null, is_held, without_base, handed, function_at, statement_at, step, turn}
-use Rattle.sharc_guarded_form.specs.Path.{after, fresh, started, thread_after, with_parameter}
+use Rattle.sharc_guarded_form.specs.{Machine.{Program, Thread, Phase, Running, Leaving, Left, Turn, Goes, Asks, Checks, Halts, int, cell_at, is_of_null, is_held, without_base, handed, function_at, statement_at, step, turn}, Path.{after, fresh, started, thread_after, with_parameter}}
 use Rattle.sharc_guard.specs.Logged.{LogsAreHeld}
 use Rattle.sharc_guard.proofs.Holding.{quiet_held, lock_held, unlock_held}
 

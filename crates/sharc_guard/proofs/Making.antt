@@ -1,16 +1,10 @@
 -- The lists that guarding fills.
-use Rattle.std.proofs.Common.{◌≡◌, ◌≤◌, ◌<◌, ℕ, zero, suc, ◌+◌, ◌-◌, ◌*◌, Bool, true, false, List, [], ◌∷◌, ◌++◌, length, drop, refl, sym, ap, ◌∙◌, arith, Some, slice_get, get_or, nat_lt, if◌then◌else◌}
-use Rattle.std.proofs.lemmas.List.{length-append, get_or_append_left}
-use Rattle.std.proofs.Math.Seq.{get_or-append_seam}
-use Rattle.std.proofs.lemmas.Bool.{ltb-true, ltb-false}
-use Rattle.sharc_code.specs.declared.instr.Instr.{Instr}
-use Rattle.sharc_code.specs.declared.instr.Instr.TheVariants.{Start, Exit}
+use Rattle.std.proofs.{Common.{◌≡◌, ◌≤◌, ◌<◌, ℕ, zero, suc, ◌+◌, ◌-◌, ◌*◌, Bool, true, false, List, [], ◌∷◌, ◌++◌, length, drop, refl, sym, ap, ◌∙◌, arith, Some, slice_get, get_or, nat_lt, if◌then◌else◌}, lemmas.List.{length-append, get_or_append_left}, Math.Seq.get_or-append_seam, lemmas.Bool.{ltb-true, ltb-false}}
+use Rattle.sharc_code.specs.{declared.instr.Instr.Instr, declared.instr.Instr.TheVariants.{Start, Exit}}
 use Rattle.sharc_flat_form.specs.declared.op.Op.{Op}
 use Rattle.sharc_flat_form.specs.declared.op.Op.TheVariants as op
-use Rattle.sharc_guard.specs.Guard.{width, offset, place, expanded, head, own, body, tail}
-use Rattle.sharc_guard.specs.Made.{among, places, marked}
-use Rattle.sharc_guard.proofs.Placing.{offset_next}
-use Rattle.sharc_guard.proofs.Holding.{funext}
+use Rattle.sharc_guard.specs.{Guard.{width, offset, place, expanded, head, own, body, tail}, Made.{among, places, marked}}
+use Rattle.sharc_guard.proofs.{Placing.offset_next, Holding.funext}
 
 abbrev pub Summed : List Bool → List Op → ℕ → ℕ → List ℕ → Type 0
 Summed marks lines n at starts = (starts ≡ places (marked marks) lines n) × (at ≡ place (marked marks) lines n) × (at ≤ 2 + 4 * n)

@@ -1,48 +1,20 @@
 -- The notes of the pass say what is known.
 use mathlib.Core.Path.{fun_ext}
-use Rattle.std.proofs.Common.{◌≡◌, ◌≢◌, ℕ, ◌+◌, ◌<◌, ◌≤◌, Bool, true, false, not, ◌&&◌, ◌||◌, Option, Some, None, refl, sym, ap, ◌∙◌, arith, cond, nat_lt}
+use Rattle.std.proofs.{Common.{◌≡◌, ◌≢◌, ℕ, ◌+◌, ◌<◌, ◌≤◌, Bool, true, false, not, ◌&&◌, ◌||◌, Option, Some, None, refl, sym, ap, ◌∙◌, arith, cond, nat_lt}, lemmas.Bool.Decides.nat_tests}
 use Rattle.std.specs.Prelude.{◌==◌, nat_le}
-use Rattle.std.proofs.lemmas.Bool.Decides.{nat_tests}
-use Rattle.sharc_shadow.specs.declared.shadow_word.Kind.{Kind}
-use Rattle.sharc_shadow.specs.declared.shadow_word.Kind.TheVariants.{Read, Write}
+use Rattle.sharc_shadow.specs.{declared.shadow_word.Kind.Kind, declared.shadow_word.Kind.TheVariants.{Read, Write}}
 use Rattle.sharc_flat_form.specs.declared.op.Op.{Op}
 use Rattle.sharc_flat_form.specs.declared.op.Op.TheVariants as op
-use Rattle.sharc_guard.specs.declared.marks.Copied.{Copied}
-use Rattle.sharc_guard.specs.declared.marks.Numbered.{Numbered}
-use Rattle.sharc_guard.specs.declared.marks.Passed.{Passed}
-use Rattle.sharc_guard.specs.declared.operations.Copying.{Copying}
-use Rattle.sharc_guard.specs.Known.{writes_ref, writes_int, Place, in_variable, in_global, same_place, assigns, counts, Access, access, tells, Know, nothing, number_given, copy_given, unless_written, with_element, place_of, is_at, passes_by, know_next}
-use Rattle.sharc_guard.specs.Marked.{access_of, copy_of, number_of_line, Notes, or_never, copy_by, number_by, passed_by, passed_at, know_of, with_written, with_copy, with_number, stronger, with_place, with_access, CopyBefore, NumberBefore, PassedBefore, AreBefore}
-use Rattle.sharc_guard.proofs.Repeating.{eq_true, eq_same, eq_other, some_is, true_false}
+use Rattle.sharc_guard.specs.{declared.marks.Copied.Copied, declared.marks.Numbered.Numbered, declared.marks.Passed.Passed, declared.operations.Copying.Copying, Known.{writes_ref, writes_int, Place, in_variable, in_global, same_place, assigns, counts, Access, access, tells, Know, nothing, number_given, copy_given, unless_written, with_element, place_of, is_at, passes_by, know_next}, Marked.{access_of, copy_of, number_of_line, Notes, or_never, copy_by, number_by, passed_by, passed_at, know_of, with_written, with_copy, with_number, stronger, with_place, with_access, CopyBefore, NumberBefore, PassedBefore, AreBefore}}
+use Rattle.sharc_guard.proofs.Repeating.{eq_same, true_false}
+use Rattle.sharc_lemmas.proofs.{Bools.{or_false, and_false, and_true}, Options.{same_some as some_is}, Numbers.{eqb_other as eq_other, is_below as lt_true, same_number as eq_true, le_true2 as le_true}}
 
 -- ---- tests
-lt_true : (a b : ℕ) → a < b → nat_lt a b ≡ true
-lt_true a b lt = grind (arith, nat_tests)
-
 lt_false : (a b : ℕ) → b ≤ a → nat_lt a b ≡ false
 lt_false a b le = grind (arith, nat_tests)
 
-le_true : (a b : ℕ) → a ≤ b → nat_le a b ≡ true
-le_true a b le = grind (arith, nat_tests)
-
 le_false : (a b : ℕ) → b < a → nat_le a b ≡ false
 le_false a b lt = grind (arith, nat_tests)
-
-and_false : (b : Bool) → (b && false) ≡ false
-and_false true = refl
-and_false false = refl
-
-and_true : (b : Bool) → (b && true) ≡ b
-and_true true = refl
-and_true false = refl
-
-or_false : (b : Bool) → (b || false) ≡ b
-or_false true = refl
-or_false false = refl
-
-or_true : (b : Bool) → (b || true) ≡ true
-or_true true = refl
-or_true false = refl
 
 pub turned : (a b : ℕ) → (a == b) ≡ (b == a)
 turned a b = by (a == b) (b == a) refl refl

@@ -2,16 +2,9 @@
 use mathlib.Core.Path.{fun_ext}
 use Rattle.std.proofs.Common.{◌≡◌, ℕ, ◌+◌, Bool, true, false, ◌&&◌, ◌||◌, Option, Some, None, refl, sym, ap, ◌∙◌, subst, cond}
 use Rattle.std.specs.Prelude.{◌==◌, OnOk, Result, Ok, Err}
-use Rattle.sharc_shadow.specs.declared.shadow_word.Kind.{Kind}
-use Rattle.sharc_shadow.specs.declared.shadow_word.Kind.TheVariants.{Write}
+use Rattle.sharc_shadow.specs.{declared.shadow_word.Kind.Kind, declared.shadow_word.Kind.TheVariants.Write}
 use Rattle.sharc_flat_form.specs.declared.op.Op.{Op}
-use Rattle.sharc_guard.specs.declared.marks.Copied.{Copied}
-use Rattle.sharc_guard.specs.declared.marks.Numbered.{Numbered}
-use Rattle.sharc_guard.specs.declared.marks.Passed.{Passed}
-use Rattle.sharc_guard.specs.declared.operations.Copying.{Copying}
-use Rattle.sharc_guard.specs.declared.operations.Written.{Written}
-use Rattle.sharc_guard.specs.Known.{Place, in_variable, in_global, access, know_next, writes_int, writes_ref}
-use Rattle.sharc_guard.specs.Marked.{access_of, copy_of, is_one, is_written, number_of_line, Notes, know_of, passed_at, noted_place, stronger, with_access, with_copy, with_noted, with_number, with_place, with_written, AreBefore}
+use Rattle.sharc_guard.specs.{declared.marks.Copied.Copied, declared.marks.Numbered.Numbered, declared.marks.Passed.Passed, declared.operations.Copying.Copying, declared.operations.Written.Written, Known.{Place, in_variable, in_global, access, know_next, writes_int, writes_ref}, Marked.{access_of, copy_of, is_one, is_written, number_of_line, Notes, know_of, passed_at, noted_place, stronger, with_access, with_copy, with_noted, with_number, with_place, with_written, AreBefore}}
 use Rattle.sharc_guard.proofs.Marking.{turned, known_after, noted_before}
 
 pub on_ok : {A E : Type 0} (P Q : Type 0) (r : Result A E) → (P → Q) → OnOk r P → OnOk r Q

@@ -1,35 +1,13 @@
 -- Where guarded code is, beside flat code.
-use Rattle.std.proofs.Common.{◌≡◌, ℕ, ℤ, pos, zero, suc, ◌+◌, ◌*◌, ◌<◌, ◌≤◌, ◌⊎◌, inl, inr, Bool, true, false, List, [], ◌∷◌, ◌++◌, length, Some, refl, sym, ap, ◌∙◌, subst, arith, ⊎_elim, append-nil}
+use Rattle.std.proofs.{Common.{◌≡◌, ℕ, ℤ, pos, zero, suc, ◌+◌, ◌*◌, ◌<◌, ◌≤◌, ◌⊎◌, inl, inr, Bool, true, false, List, [], ◌∷◌, ◌++◌, length, Some, refl, sym, ap, ◌∙◌, subst, arith, ⊎_elim, append-nil}, lemmas.Option.slice_get-get_or}
 use Rattle.std.specs.Prelude.{slice_get}
-use Rattle.std.proofs.lemmas.Option.{slice_get-get_or}
-use Rattle.sharc_code.specs.declared.code.PlaceMode.{PlaceMode}
-use Rattle.sharc_code.specs.declared.code.PlaceMode.TheVariants.{Private, Readonly, Racy, Dynamic, LockedGlobal, LockedSibling, LockedThrough, LockedLoaded}
-use Rattle.sharc_code.specs.declared.instr.Instr.{Instr}
-use Rattle.sharc_code.specs.declared.instr.Instr.TheVariants.{ChkRead, ChkWrite, RaiseLoaded, Lower, MoveReference}
-use Rattle.sharc_code.specs.declared.instr.Width.TheVariants.{Char, Int, Long}
+use Rattle.sharc_code.specs.{declared.code.PlaceMode.PlaceMode, declared.code.PlaceMode.TheVariants.{Private, Readonly, Racy, Dynamic, LockedGlobal, LockedSibling, LockedThrough, LockedLoaded}, declared.instr.Instr.Instr, declared.instr.Instr.TheVariants.{ChkRead, ChkWrite, RaiseLoaded, Lower, MoveReference}, declared.instr.Width.TheVariants.{Char, Int, Long}}
 use Rattle.sharc_meaning.specs.Events.{held_mutexes}
-use Rattle.sharc_flat_form.specs.declared.op.Op.{Op}
-use Rattle.sharc_flat_form.specs.declared.op.Spot.{Spot}
+use Rattle.sharc_flat_form.specs.{declared.op.Op.Op, declared.op.Spot.Spot, Machine.{Flat, At, goes, next, line_turn, op_turn, turn}, Path.{may_go, at_after, IsPath as IsFlatPath, asked_by, asked}}
 use Rattle.sharc_flat_form.specs.declared.op.Op.TheVariants as op
-use Rattle.sharc_flat_form.specs.Machine.{Flat, At, goes, next, line_turn, op_turn, turn}
-use Rattle.sharc_guarded_form.specs.Machine.{Program, Thread}
-use Rattle.sharc_guarded_form.specs.Path.{weight}
-use Rattle.sharc_guard.specs.Guard.{place, guarded, check_under, head, own, body, tail}
-use Rattle.sharc_guard.proofs.Placing.{HasAt}
-use Rattle.sharc_guard.proofs.Places.{pieces}
-use Rattle.sharc_guard.specs.Level.{Enters, Level, IsLevel}
-use Rattle.sharc_guard.proofs.Walking.{IsIdle}
-use Rattle.sharc_flat_form.specs.Path.{may_go, at_after, IsPath as IsFlatPath}
-use Rattle.sharc_guard.proofs.Turns.{behind}
-use Rattle.sharc_flat_form.specs.Path.{asked_by, asked}
-use Rattle.sharc_guard.specs.Asked.{is_enter, moves}
-use Rattle.sharc_guard.specs.Counted.{AreLowered, LockStands}
-use Rattle.sharc_guard.proofs.Places.{stands, place_next, place_of}
-use Rattle.sharc_guard.proofs.Beside.{beside}
-use Rattle.sharc_guard.proofs.Ready.{Ready, enters}
-use Rattle.sharc_guard.proofs.Near.{IsQuiet, SettlingBy, Near, Ending}
-use Rattle.sharc_guard.proofs.Turning.{IsOpenFor}
-use Rattle.sharc_guard.proofs.Gates.{Guards, heads}
+use Rattle.sharc_guarded_form.specs.{Machine.{Program, Thread}, Path.weight}
+use Rattle.sharc_guard.specs.{Guard.{place, guarded, check_under, head, own, body, tail}, Level.{Enters, Level, IsLevel}, Asked.{is_enter, moves}, Counted.{AreLowered, LockStands}}
+use Rattle.sharc_guard.proofs.{Placing.HasAt, Places.{pieces, stands, place_next, place_of}, Walking.IsIdle, Turns.behind, Beside.beside, Ready.{Ready, enters}, Near.{IsQuiet, SettlingBy, Near, Ending}, Turning.IsOpenFor, Gates.{Guards, heads}}
 
 -- it does not only enter an expression
 abbrev pub IsMoving : Op → Type 0
@@ -66,13 +44,6 @@ few_turns pl s d (op.LoadRef r cell spot) = let f = few_checks (ChkRead cell s) 
 few_turns pl s d (op.StoreRef r cell spot) = let f = few_checks (ChkWrite cell s) spot false spot.mode s in omega arith
 few_turns pl s d (op.TakeCell r cell spot) = let f = few_checks (ChkWrite cell s) spot false spot.mode s in omega arith
 few_turns pl s d _ = omega arith
-
--- what the tail has
-pub quiet_tail : (o : Op) → IsQuiet (tail o)
-quiet_tail (op.LoadRef r cell spot) = refl
-quiet_tail (op.StoreRef r cell spot) = refl
-quiet_tail (op.Settle x from) = refl
-quiet_tail _ = tt
 
 settling_next : (m : At) (a : Thread) (k : ℕ) (rest : List Instr) → IsQuiet rest → SettlingBy rest a m k → SettlingBy rest a (next m) k
 settling_next m a k [] q h = h

@@ -1,28 +1,12 @@
 -- Where the pieces of guarded code lie, and what the site of a line says.
-use Rattle.std.proofs.Common.{◌≡◌, ℕ, Bool, ◌+◌, ◌<◌, ◌≤◌, List, [], ◌∷◌, ◌++◌, length, Option, Some, None, sym, ap, ◌∙◌, subst, ⊎_elim, arith, append_assoc}
+use Rattle.std.proofs.Common.{◌≡◌, ℕ, Bool, ◌+◌, ◌<◌, ◌≤◌, List, [], ◌∷◌, ◌++◌, length, Option, Some, None, sym, ap, ◌∙◌, subst, append_assoc}
 use Rattle.std.specs.Prelude.{slice_get}
-use Rattle.std.proofs.lemmas.Bool.{cases_lt}
-use Rattle.std.proofs.lemmas.Option.{slice_get_past}
-use Rattle.sharc_code.specs.declared.code.PlaceMode.TheVariants.{Readonly}
-use Rattle.sharc_code.specs.declared.code.SourcePlace.{SourcePlace}
-use Rattle.sharc_code.specs.declared.instr.Instr.{Instr}
-use Rattle.sharc_flat_form.specs.declared.op.Op.{Op}
-use Rattle.sharc_flat_form.specs.declared.op.Spot.{Spot}
+use Rattle.sharc_code.specs.{declared.code.PlaceMode.TheVariants.Readonly, declared.code.SourcePlace.SourcePlace, declared.instr.Instr.Instr}
+use Rattle.sharc_flat_form.specs.{declared.op.Op.Op, declared.op.Spot.Spot, Machine.Flat}
 use Rattle.sharc_flat_form.specs.declared.op.Op.TheVariants as op
-use Rattle.sharc_flat_form.specs.Machine.{Flat}
 use Rattle.sharc_guarded_form.specs.Machine.{source_at}
 use Rattle.sharc_guard.specs.Guard.{place, guarded, source_of, head, own, body, tail, expand}
 use Rattle.sharc_guard.proofs.Placing.{HasAt, stands as stands_at, place_next as next_at, source_is as source_of_line}
-
--- where a value is
-pub within : {A : Type 0} (a : List A) (i : ℕ) (x : A) → slice_get a i ≡ Some x → i < length a
-within a i x h = ⊎_elim (λ (lt : i < length a). lt) (λ (le : length a ≤ i). let p = slice_get_past a i le in absurd (cc)) (cases_lt i (length a))
-
-pub has_back : (g : List Instr) (pc : ℕ) (a b : List Instr) → HasAt g pc (a ++ b) → HasAt g (pc + length a) b
-has_back g pc [] b h = let e : pc ≡ pc + 0 = omega arith in subst (λ n. HasAt g n b) e h
-has_back g pc (i ∷ a) b h =
-    let e : pc + 1 + length a ≡ pc + length (i ∷ a) = omega arith in
-    subst (λ n. HasAt g n b) e (has_back g (pc + 1) a b h.1)
 
 -- ---- sites
 -- what an operation is in the source, if it may stop, check or ask; the pointer to a mutex is readonly

@@ -1,74 +1,23 @@
 -- What is known of checks is what the lines of the piece say.
-use Rattle.std.proofs.Common.{◌≡◌, ◌≢◌, ℕ, ℤ, pos, negsuc, zero, suc, ◌+◌, ◌*◌, ◌^◌, ◌<◌, ◌≤◌, ◌⊎◌, inl, inr, Bool, true, false, not, ◌&&◌, ◌||◌, Option, Some, None, refl, sym, ap, ◌∙◌, subst, arith, cond, ⊎_elim, nat_lt}
+use Rattle.std.proofs.{Common.{◌≡◌, ◌≢◌, ℕ, ℤ, pos, negsuc, zero, suc, ◌+◌, ◌*◌, ◌^◌, ◌<◌, ◌≤◌, ◌⊎◌, inl, inr, Bool, true, false, not, ◌&&◌, ◌||◌, Option, Some, None, refl, sym, ap, ◌∙◌, subst, arith, cond, ⊎_elim, nat_lt}, lemmas.Bool.{cases_lt, ltb-true, lt-ltb, or_right, or_left, and_from as and_both, not_from_false as true_not}, lemmas.Bool.Decides.nat_tests}
 use Rattle.std.specs.Prelude.{slice_get, ◌==◌}
-use Rattle.std.proofs.lemmas.Bool.{cases_lt, ltb-true, lt-ltb}
-use Rattle.std.proofs.lemmas.Bool.Decides.{nat_tests}
-use Rattle.sharc_shadow.specs.declared.shadow_word.Kind.{Kind}
-use Rattle.sharc_shadow.specs.declared.shadow_word.Kind.TheVariants.{Read, Write}
-use Rattle.sharc_code.specs.declared.code.PlaceMode.{PlaceMode}
-use Rattle.sharc_code.specs.declared.code.PlaceMode.TheVariants.{Private, Readonly, Racy, Dynamic, LockedGlobal, LockedSibling, LockedThrough, LockedLoaded}
-use Rattle.sharc_code.specs.declared.instr.Cell.{Cell}
+use Rattle.sharc_shadow.specs.{declared.shadow_word.Kind.Kind, declared.shadow_word.Kind.TheVariants.{Read, Write}}
+use Rattle.sharc_code.specs.{declared.code.PlaceMode.PlaceMode, declared.code.PlaceMode.TheVariants.{Private, Readonly, Racy, Dynamic, LockedGlobal, LockedSibling, LockedThrough, LockedLoaded}, declared.instr.Cell.Cell}
 use Rattle.sharc_code.specs.declared.instr.Cell.TheVariants as cells
-use Rattle.sharc_flat_form.specs.declared.op.Spot.{Spot}
-use Rattle.sharc_flat_form.specs.declared.op.Op.{Op}
+use Rattle.sharc_flat_form.specs.{declared.op.Spot.Spot, declared.op.Op.Op, Machine.Flat}
 use Rattle.sharc_flat_form.specs.declared.op.Op.TheVariants as op
-use Rattle.sharc_flat_form.specs.Machine.{Flat}
-use Rattle.sharc_guard.specs.Known.{is_straight, is_target, writes_ref, writes_int, Place, in_variable, in_global, same_place, assigns, counts, Access, access, is_dynamic, tells, Know, nothing, few, of_constant, element, with_element, number_given, copy_given, unless_written, variable_place, global_place, place_of, is_at, passes_by, know_next, know_after, known, has_passed, drops_at, dropped}
-use Rattle.sharc_guard.specs.Repeated.{IsStraight, Keeps, IsPiece, AllKeep, IsCopy, IsNumber, constant, of_object, of_global, IsPlaceAt, IsSimple, IsChecked, IsOfInteger, IsRepeated, DropsRepeated, ItsCheckStands, RepeatedCheckStands}
+use Rattle.sharc_guard.specs.{Known.{is_straight, is_target, writes_ref, writes_int, Place, in_variable, in_global, same_place, assigns, counts, Access, access, is_dynamic, tells, Know, nothing, few, of_constant, element, with_element, number_given, copy_given, unless_written, variable_place, global_place, place_of, is_at, passes_by, know_next, know_after, known, has_passed, drops_at, dropped}, Repeated.{IsStraight, Keeps, IsPiece, AllKeep, IsCopy, IsNumber, constant, of_object, of_global, IsPlaceAt, IsSimple, IsChecked, IsOfInteger, IsRepeated, DropsRepeated, ItsCheckStands, RepeatedCheckStands}}
+use Rattle.sharc_lemmas.proofs.{Options.{same_some as some_is}, Bools.{and_left, or_split as or_either, not_true, and_right, false_true}, Numbers.{eqb_other as eq_other, same_number as eq_true}}
 
 -- ---- tests
-pub eq_true : (m n : ℕ) → (m == n) ≡ true → m ≡ n
-eq_true m n e = grind (arith, nat_tests)
-
 pub eq_same : (m n : ℕ) → m ≡ n → (m == n) ≡ true
 eq_same m n e = grind (arith, nat_tests)
-
-pub eq_other : (m n : ℕ) → (m ≡ n → ⊥) → (m == n) ≡ false
-eq_other m n ne = grind (arith, nat_tests)
-
-pub and_left : (a b : Bool) → (a && b) ≡ true → a ≡ true
-and_left true b e = refl
-and_left false b e = absurd (cc)
-
-pub and_right : (a b : Bool) → (a && b) ≡ true → b ≡ true
-and_right true b e = e
-and_right false b e = absurd (cc)
-
-pub and_both : (a b : Bool) → a ≡ true → b ≡ true → (a && b) ≡ true
-and_both true b ea eb = eb
-and_both false b ea eb = absurd (cc)
-
-pub or_either : (a b : Bool) → (a || b) ≡ true → (a ≡ true) ⊎ (b ≡ true)
-or_either true b e = inl refl
-or_either false b e = inr e
-
-pub or_left : (a b : Bool) → a ≡ true → (a || b) ≡ true
-or_left true b e = refl
-or_left false b e = absurd (cc)
-
-pub or_right : (a b : Bool) → b ≡ true → (a || b) ≡ true
-or_right true b e = refl
-or_right false b e = e
-
-pub not_true : (b : Bool) → not b ≡ true → b ≡ false
-not_true true e = absurd (cc)
-not_true false e = refl
-
-pub true_not : (b : Bool) → b ≡ false → not b ≡ true
-true_not true e = absurd (cc)
-true_not false e = refl
-
-pub some_is : {A : Type 0} (a b : A) → Some a ≡ Some b → a ≡ b
-some_is a b e = cc
 
 pub no_some : {A B : Type 0} (a : A) → None ≡ Some a → B
 no_some a e = absurd (cc)
 
 pub true_false : {A : Type 0} → true ≡ false → A
 true_false e = absurd (cc)
-
-pub false_true : {A : Type 0} → false ≡ true → A
-false_true e = absurd (cc)
 
 pub place_is : (a b : Place) → same_place a b ≡ true → a ≡ b
 place_is (in_variable x n) (in_variable y k) e = ap (λ z. in_variable z n) (eq_true x y (and_left (x == y) (n == k) e)) ∙ ap (in_variable y) (eq_true n k (and_right (x == y) (n == k) e))

@@ -1,29 +1,15 @@
 -- One more turn of guarded code.
 use Rattle.std.proofs.Common.{◌≡◌, ℕ, ℤ, zero, suc, ◌+◌, ◌*◌, ◌≤◌, ◌⊎◌, inl, inr, Bool, true, List, [], ◌∷◌, ◌++◌, length, map, Some, refl, sym, ap, ◌∙◌, subst, arith, ⊎_elim}
 use Rattle.std.specs.Prelude.{slice_get, slice_index_or}
-use Rattle.sharc_code.specs.declared.code.Function.{Function}
-use Rattle.sharc_code.specs.declared.instr.Instr.{Instr}
-use Rattle.sharc_code.specs.declared.instr.Instr.TheVariants.{RaiseLoaded, Lower, MoveReference, Exit}
-use Rattle.sharc_code.specs.declared.instr.Width.TheVariants.{Char, Int, Long}
+use Rattle.sharc_code.specs.{declared.code.Function.Function, declared.instr.Instr.Instr, declared.instr.Instr.TheVariants.{RaiseLoaded, Lower, MoveReference, Exit}, declared.instr.Width.TheVariants.{Char, Int, Long}}
 use Rattle.sharc_code.specs.Machine as CodeMachine
-use Rattle.sharc_flat_form.specs.declared.op.Op.{Op}
+use Rattle.sharc_flat_form.specs.{declared.op.Op.Op, Machine.{Flat, At, Turn, goes, asks, halts, turn, op_turn}, Path.{may_go, at_after, IsPath as IsFlatPath, asked_by, asked}}
 use Rattle.sharc_flat_form.specs.declared.op.Op.TheVariants as op
-use Rattle.sharc_flat_form.specs.Machine.{Flat, At, Turn, goes, asks, halts, turn, op_turn}
 use Rattle.sharc_guarded_form.specs.Machine as Form
-use Rattle.sharc_guarded_form.specs.Machine.{Program, Thread, Phase, Running, Leaving, Left, source_at, statement_at}
+use Rattle.sharc_guarded_form.specs.{Machine.{Program, Thread, Phase, Running, Leaving, Left, source_at, statement_at}, Path.{thread_after, IsPath, weight, weight_in}}
 use Rattle.sharc_guarded_form.specs.Path as Path
-use Rattle.sharc_guarded_form.specs.Path.{thread_after, IsPath, weight, weight_in}
-use Rattle.sharc_guard.specs.Guard.{place, guarded, entered_at, head, own, body, tail}
-use Rattle.sharc_guard.proofs.Placing.{HasAt}
-use Rattle.sharc_guard.specs.Counted.{Tells, LocksFrom}
-use Rattle.sharc_guard.proofs.Gates.{GivesNow}
-use Rattle.sharc_guard.specs.Level.{IsLevel}
-use Rattle.sharc_flat_form.specs.Path.{may_go, at_after, IsPath as IsFlatPath}
-use Rattle.sharc_guard.proofs.Turns.{behind}
-use Rattle.sharc_flat_form.specs.Path.{asked_by, asked}
-use Rattle.sharc_guard.specs.Asked.{guarded_asked_by, guarded_asked, is_enter, moves}
-use Rattle.sharc_guard.proofs.Near.{quiet, IsQuiet, Near, Ending, Follow}
-use Rattle.sharc_guard.proofs.Phases.{IsMoving, Stage, ahead, behind_it, leaves, Bound, opens, enters_all}
+use Rattle.sharc_guard.specs.{Guard.{place, guarded, entered_at, head, own, body, tail}, Counted.{Tells, LocksFrom}, Level.IsLevel, Asked.{guarded_asked_by, guarded_asked, is_enter, moves}}
+use Rattle.sharc_guard.proofs.{Placing.HasAt, Gates.GivesNow, Turns.behind, Near.{quiet, IsQuiet, Near, Ending, Follow}, Phases.{IsMoving, Stage, ahead, behind_it, leaves, Bound, opens, enters_all}}
 
 pub statement_is : (xs : List Instr) (n : ℕ) (i : Instr) → slice_get xs n ≡ Some i → slice_index_or xs n Exit ≡ i
 statement_is [] n i e = absurd (cc)

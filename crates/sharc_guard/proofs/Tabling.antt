@@ -1,21 +1,11 @@
 -- The functions that guarded code spawns are those that flat code spawns.
-use Rattle.std.proofs.Common.{◌≡◌, ℕ, suc, ◌+◌, ◌<◌, ◌^◌, Bool, List, [], ◌∷◌, ◌++◌, length, refl, sym, ap, ◌∙◌, subst, arith, Some, slice_get}
+use Rattle.std.proofs.{Common.{◌≡◌, ℕ, suc, ◌+◌, ◌<◌, ◌^◌, Bool, List, [], ◌∷◌, ◌++◌, length, refl, sym, ap, ◌∙◌, subst, arith, Some, slice_get}, lemmas.List.length-map}
 use Rattle.std.specs.Prelude.{slice_index}
-use Rattle.std.proofs.lemmas.List.{length-map}
-use Rattle.sharc_code.specs.declared.code.GlobalCells.{GlobalCells}
-use Rattle.sharc_code.specs.declared.instr.Width.TheVariants.{Char, Int, Long}
-use Rattle.sharc_code.specs.declared.instr.Instr.{Instr}
-use Rattle.sharc_code.specs.declared.instr.Instr.TheVariants.{Spawn}
-use Rattle.sharc_code.specs.Ranges.{GlobalsFit}
-use Rattle.sharc_flat_form.specs.declared.flat.Flat.{Flat as FlatCode}
-use Rattle.sharc_flat_form.specs.declared.op.Op.{Op}
+use Rattle.sharc_code.specs.{declared.code.GlobalCells.GlobalCells, declared.instr.Width.TheVariants.{Char, Int, Long}, declared.instr.Instr.Instr, declared.instr.Instr.TheVariants.Spawn, Ranges.GlobalsFit}
+use Rattle.sharc_flat_form.specs.{declared.flat.Flat.{Flat as FlatCode}, declared.op.Op.Op, Made.flat_of}
 use Rattle.sharc_flat_form.specs.declared.op.Op.TheVariants as op
-use Rattle.sharc_flat_form.specs.Made.{flat_of}
-use Rattle.sharc_guarded_form.specs.declared.guarded.Guarded.{Guarded}
-use Rattle.sharc_guarded_form.specs.Tables.{TablesFit}
-use Rattle.sharc_guard.specs.Guard.{head, own, body, tail, expand, expanded, guarded, entered_at, place}
-use Rattle.sharc_guard.specs.Made.{IsMade}
-use Rattle.sharc_guard.specs.Tables.{FlatTablesFit}
+use Rattle.sharc_guarded_form.specs.{declared.guarded.Guarded.Guarded, Tables.TablesFit}
+use Rattle.sharc_guard.specs.{Guard.{head, own, body, tail, expand, expanded, guarded, entered_at, place}, Made.IsMade, Tables.FlatTablesFit}
 use Rattle.sharc_guard.proofs.Framing.{AllIn, all_append, all_at, head_all}
 
 -- what a statement spawns is one of this many functions

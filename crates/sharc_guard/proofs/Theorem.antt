@@ -1,54 +1,21 @@
 -- The paths of guarded code are those of flat code.
-use Rattle.sharc_guard.proofs.Gates.{Guards as GuardsOf}
-use Rattle.sharc_guard.proofs.Turning.{IsOpenFor}
+use Rattle.sharc_guard.proofs.{Gates.{Guards as GuardsOf, Passes, GivesNow}, Turning.IsOpenFor, Beside.beside, Ready.{Is, null_is, put_other, Ready}, Near.{IsLowering, Near, Ending, leaving, Follow, lands}, Phases.{Ahead, Stage, ahead, behind_it, leaves, Bound}, Steps.{statement_is, quiet_turn, function_site, Coming, landed, Was, PassedBy, LastPassed}, Ways.ways, Comes.{at_body, at_check, comes}}
 use Rattle.sharc_tree.specs.declared.event.Act.TheVariants as acts
 use Rattle.sharc_tree.specs.declared.event.CellMode.TheVariants as modes
 use Rattle.sharc_tree.specs.declared.event.Taken.TheVariants as taken
-use Rattle.sharc_meaning.specs.Statements.{is_positive}
-use Rattle.sharc_meaning.specs.Reference.{elements_of}
-use Rattle.sharc_meaning.specs.Arithmetic.{is_zero}
-use Rattle.sharc_code.specs.Arithmetic.{holds}
-use Rattle.sharc_code.specs.declared.code.PlaceMode.TheVariants.{Private, Readonly, Racy, Dynamic, LockedGlobal, LockedSibling, LockedThrough, LockedLoaded}
-use Rattle.sharc_code.specs.declared.code.PlaceMode.{PlaceMode}
-use Rattle.sharc_code.specs.declared.instr.Cell.{Cell}
-use Rattle.sharc_tree.specs.declared.event.CellMode.{CellMode}
-use Rattle.sharc_tree.specs.declared.event.Act.{Act}
-use Rattle.sharc_tree.specs.declared.token.Site.{Site}
-use Rattle.std.proofs.Common.{◌≡◌, ◌≢◌, ℕ, ℤ, pos, zero, suc, ◌+◌, ◌*◌, ◌<◌, ◌≤◌, ◌⊎◌, inl, inr, Bool, List, [], ◌∷◌, length, map, refl, sym, ap, ◌∙◌, subst, arith, ⊎_elim, cond, Result, Ok, Err, false, true, not, negsuc, nat_lt}
+use Rattle.sharc_meaning.specs.{Statements.is_positive, Reference.elements_of, Arithmetic.is_zero, declared.given.GivenUp.TheVariants.Replaced, Events.{held_mutexes, holds_mutex}}
+use Rattle.sharc_code.specs.{Arithmetic.holds, declared.code.PlaceMode.TheVariants.{Private, Readonly, Racy, Dynamic, LockedGlobal, LockedSibling, LockedThrough, LockedLoaded}, declared.code.PlaceMode.PlaceMode, declared.instr.Cell.Cell, declared.code.Function.Function, declared.code.Parameter.Parameter, declared.instr.Instr.Instr, declared.instr.Instr.TheVariants.{RaiseLoaded, Lower, MoveReference, ChkRead, ChkWrite}, declared.instr.Width.TheVariants.{Char, Int, Long}}
+use Rattle.sharc_tree.specs.{declared.event.CellMode.CellMode, declared.event.Act.Act, declared.token.Site.Site, declared.event.CellAt.CellAt, declared.trap.Trap.Trap}
+use Rattle.std.proofs.{Common.{◌≡◌, ◌≢◌, ℕ, ℤ, pos, zero, suc, ◌+◌, ◌*◌, ◌<◌, ◌≤◌, ◌⊎◌, inl, inr, Bool, List, [], ◌∷◌, length, map, refl, sym, ap, ◌∙◌, subst, arith, ⊎_elim, cond, Result, Ok, Err, false, true, not, negsuc, nat_lt}, lemmas.Bool.cases_eq, lemmas.Option.slice_get_past}
 use Rattle.std.specs.Prelude.{slice_index_or}
-use Rattle.std.proofs.lemmas.Bool.{cases_eq}
-use Rattle.std.proofs.lemmas.Option.{slice_get_past}
-use Rattle.sharc_code.specs.declared.code.Function.{Function}
-use Rattle.sharc_code.specs.declared.code.Parameter.{Parameter}
 use Rattle.sharc_code.specs.declared.code.Parameter.TheVariants as parameters
-use Rattle.sharc_code.specs.declared.instr.Instr.{Instr}
-use Rattle.sharc_code.specs.declared.instr.Instr.TheVariants.{RaiseLoaded, Lower, MoveReference, ChkRead, ChkWrite}
-use Rattle.sharc_code.specs.declared.instr.Width.TheVariants.{Char, Int, Long}
 use Rattle.sharc_code.specs.Machine as CodeMachine
-use Rattle.sharc_tree.specs.declared.event.CellAt.{CellAt}
-use Rattle.sharc_tree.specs.declared.trap.Trap.{Trap}
 use Rattle.sharc_tree.specs.declared.trap.Trap.TheVariants as traps
-use Rattle.sharc_meaning.specs.declared.given.GivenUp.TheVariants.{Replaced}
-use Rattle.sharc_meaning.specs.Events.{held_mutexes, holds_mutex}
-use Rattle.sharc_flat_form.specs.declared.op.Op.{Op}
-use Rattle.sharc_flat_form.specs.declared.op.Spot.{Spot}
+use Rattle.sharc_flat_form.specs.{declared.op.Op.Op, declared.op.Spot.Spot, Machine.{Flat, At, Turn, goes, asks, halts, function_of, end_turn, line_turn, op_turn, turn, first_at, begun, start, Caller, indexed, asserts, with_result, takes_local, goes_on, stops, returned, called, set_int, int, ref, cell_at, mode_of, lock_is_null, accesses, accessed, next, set_ref, gives_up, kind_of}, Path.at_after}
 use Rattle.sharc_flat_form.specs.declared.op.Op.TheVariants as op
-use Rattle.sharc_flat_form.specs.Machine.{Flat, At, Turn, goes, asks, halts, function_of, end_turn, line_turn, op_turn, turn, first_at, begun, start, Caller, indexed, asserts, with_result, takes_local, goes_on, stops, returned, called, set_int, int, ref, cell_at, mode_of, lock_is_null, accesses, accessed, next, set_ref, gives_up, kind_of}
 use Rattle.sharc_guarded_form.specs.Machine as Form
-use Rattle.sharc_guarded_form.specs.Machine.{Program, Thread, statement_at}
-use Rattle.sharc_guarded_form.specs.Path.{with_parameter, fresh, started, thread_after, IsPath, weight_in}
-use Rattle.sharc_guard.specs.Guard.{place, guarded, entered_at, own, body, tail, head, check_under}
-use Rattle.sharc_guard.specs.Level.{IsEntry, Takes, Level, IsLevel}
-use Rattle.sharc_flat_form.specs.Path.{at_after}
-use Rattle.sharc_guard.specs.Counted.{Tells, IsSettling, AreLowered, OverwritesNone, Quietly, OnWay, IsReplaced, Stands, HasCome, LocksFrom, GuardedCounts, NeedsCheck, IsPassed, WasChecked, IsOf}
-use Rattle.sharc_guard.proofs.Beside.{beside}
-use Rattle.sharc_guard.proofs.Ready.{Is, null_is, put_other, Ready}
-use Rattle.sharc_guard.proofs.Near.{IsLowering, Near, Ending, leaving, Follow, lands}
-use Rattle.sharc_guard.proofs.Gates.{Passes, GivesNow}
-use Rattle.sharc_guard.proofs.Phases.{Ahead, Stage, ahead, behind_it, leaves, Bound}
-use Rattle.sharc_guard.proofs.Steps.{statement_is, quiet_turn, function_site, Coming, landed, Was, PassedBy, LastPassed}
-use Rattle.sharc_guard.proofs.Ways.{ways}
-use Rattle.sharc_guard.proofs.Comes.{at_body, at_check, comes}
+use Rattle.sharc_guarded_form.specs.{Machine.{Program, Thread, statement_at}, Path.{with_parameter, fresh, started, thread_after, IsPath, weight_in}}
+use Rattle.sharc_guard.specs.{Guard.{place, guarded, entered_at, own, body, tail, head, check_under}, Level.{IsEntry, Takes, Level, IsLevel}, Counted.{Tells, IsSettling, AreLowered, OverwritesNone, Quietly, OnWay, IsReplaced, Stands, HasCome, LocksFrom, GuardedCounts, NeedsCheck, IsPassed, WasChecked, IsOf}}
 
 module _ (dropped : ℕ → Bool) (flat : Flat) (level : IsLevel flat) where
   abbrev pl : ℕ → ℕ

@@ -1,40 +1,20 @@
 -- A path of guarded code comes to where a path of flat code is.
-use Rattle.std.proofs.Common.{◌≡◌, ℕ, ℤ, zero, suc, pos, ◌+◌, ◌-◌, ◌*◌, ◌<◌, ◌≤◌, ◌⊎◌, inl, inr, Bool, true, false, List, [], ◌∷◌, ◌++◌, length, map, refl, sym, ap, ◌∙◌, subst, arith, Some, None, Option, slice_get, slice_index_or}
-use Rattle.std.proofs.lemmas.List.{append-nil, append_assoc, length-append}
-use Rattle.sharc_tree.specs.declared.event.Act.{Act}
+use Rattle.std.proofs.{Common.{◌≡◌, ℕ, ℤ, zero, suc, pos, ◌+◌, ◌-◌, ◌*◌, ◌<◌, ◌≤◌, ◌⊎◌, inl, inr, Bool, true, false, List, [], ◌∷◌, ◌++◌, length, map, refl, sym, ap, ◌∙◌, subst, arith, Some, None, Option, slice_get, slice_index_or}, lemmas.List.{append-nil, append_assoc, length-append}}
+use Rattle.sharc_tree.specs.{declared.event.Act.Act, declared.token.Site.Site, declared.trap.Trap.Trap}
 use Rattle.sharc_tree.specs.declared.event.Act.TheVariants as acts
-use Rattle.sharc_tree.specs.declared.token.Site.{Site}
-use Rattle.sharc_tree.specs.declared.trap.Trap.{Trap}
 use Rattle.sharc_tree.specs.declared.trap.Trap.TheVariants as traps
-use Rattle.sharc_code.specs.declared.code.Function.{Function}
-use Rattle.sharc_code.specs.declared.code.Parameter.{Parameter}
+use Rattle.sharc_code.specs.{declared.code.Function.Function, declared.code.Parameter.Parameter, declared.code.PlaceMode.PlaceMode, declared.code.PlaceMode.TheVariants.{Private, Readonly, Racy, Dynamic, LockedGlobal, LockedSibling, LockedThrough, LockedLoaded}, declared.code.SourcePlace.SourcePlace, declared.instr.Width.TheVariants.{Char, Int, Long}, declared.instr.Instr.Instr, declared.instr.Instr.TheVariants.{ChkRead, ChkWrite}, Machine.no_function}
 use Rattle.sharc_code.specs.declared.code.Parameter.TheVariants as parameters
-use Rattle.sharc_code.specs.declared.code.PlaceMode.{PlaceMode}
-use Rattle.sharc_code.specs.declared.code.PlaceMode.TheVariants.{Private, Readonly, Racy, Dynamic, LockedGlobal, LockedSibling, LockedThrough, LockedLoaded}
-use Rattle.sharc_code.specs.declared.code.SourcePlace.{SourcePlace}
-use Rattle.sharc_code.specs.declared.instr.Width.TheVariants.{Char, Int, Long}
-use Rattle.sharc_code.specs.declared.instr.Instr.{Instr}
-use Rattle.sharc_code.specs.declared.instr.Instr.TheVariants.{ChkRead, ChkWrite}
-use Rattle.sharc_code.specs.Machine.{no_function}
-use Rattle.sharc_meaning.specs.Reference.{NULL}
-use Rattle.sharc_meaning.specs.State.{stopped, event_of}
-use Rattle.sharc_flat_form.specs.declared.op.Op.{Op}
-use Rattle.sharc_flat_form.specs.declared.op.Spot.{Spot}
+use Rattle.sharc_meaning.specs.{Reference.NULL, State.{stopped, event_of}}
+use Rattle.sharc_flat_form.specs.{declared.op.Op.Op, declared.op.Spot.Spot, Machine.{goes, asks, halts, op_turn}, Path.at_after, Framed.{IsFlat, Leads}}
 use Rattle.sharc_flat_form.specs.declared.op.Op.TheVariants as op
 use Rattle.sharc_flat_form.specs.Machine as Flat
-use Rattle.sharc_flat_form.specs.Machine.{goes, asks, halts, op_turn}
 use Rattle.sharc_guarded_form.specs.Machine as Form
-use Rattle.sharc_guarded_form.specs.Machine.{Thread, Phase, Running, Leaving, Left, Turn, Goes, Asks, Checks, Halts, Stopped, Ended, Check, step, source_at, statement_at}
+use Rattle.sharc_guarded_form.specs.{Machine.{Thread, Phase, Running, Leaving, Left, Turn, Goes, Asks, Checks, Halts, Stopped, Ended, Check, step, source_at, statement_at}, Path.{weight, started, fresh, thread_after, weight_in}}
 use Rattle.sharc_guarded_form.specs.Path as Guarded
-use Rattle.sharc_guarded_form.specs.Path.{weight, started, fresh, thread_after, weight_in}
-use Rattle.sharc_guard.specs.Guard.{source_of, head, body, tail, own, expand, entered_at, check_under}
-use Rattle.sharc_guard.specs.Correct.{Resolved, bottom, image, Wants, IsBeside}
+use Rattle.sharc_guard.specs.{Guard.{source_of, head, body, tail, own, expand, entered_at, check_under}, Correct.{Resolved, bottom, image, Wants, IsBeside}}
 use Rattle.sharc_flat_form.specs.Path as Flow
-use Rattle.sharc_flat_form.specs.Path.{at_after}
-use Rattle.sharc_flat_form.specs.Framed.{IsFlat, Leads}
-use Rattle.sharc_guard.proofs.Placing.{HasAt, stands, place_next, statement_is, source_is}
-use Rattle.sharc_guard.proofs.Follows.{g, at, Callers, Is, Trailing, AtEnd, Near, Follow, follows, Bodied, Unlocked, leaving}
-use Rattle.sharc_guard.proofs.Heads.{IsPass, Asking, IsHead, AreHeads, heads}
+use Rattle.sharc_guard.proofs.{Placing.{HasAt, stands, place_next, statement_is, source_is}, Follows.{g, at, Callers, Is, Trailing, AtEnd, Near, Follow, follows, Bodied, Unlocked, leaving}, Heads.{IsPass, Asking, IsHead, AreHeads, heads}}
 
 line_at : (lines : List Op) (n : ℕ) → n < length lines → (o : Op) × (slice_get lines n ≡ Some o)
 line_at [] n lt = absurd (omega arith)

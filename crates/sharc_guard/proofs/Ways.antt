@@ -1,30 +1,16 @@
 -- What flat code holds stays held until it is given up.
 use mathlib.Core.Path.{fun_ext}
-use Rattle.std.proofs.Common.{◌≡◌, ◌≢◌, ℕ, ℤ, pos, negsuc, zero, suc, ◌+◌, ◌-◌, ◌*◌, ◌≤◌, ◌⊎◌, inl, inr, Bool, true, false, not, List, [], ◌∷◌, ◌++◌, length, Option, Some, None, refl, sym, ap, ◌∙◌, subst, arith, cond, ⊎_elim, append-nil, append_assoc, Result, Ok, Err}
+use Rattle.std.proofs.{Common.{◌≡◌, ◌≢◌, ℕ, ℤ, pos, negsuc, zero, suc, ◌+◌, ◌-◌, ◌*◌, ◌≤◌, ◌⊎◌, inl, inr, Bool, true, false, not, List, [], ◌∷◌, ◌++◌, length, Option, Some, None, refl, sym, ap, ◌∙◌, subst, arith, cond, ⊎_elim, append-nil, append_assoc, Result, Ok, Err}, lemmas.Bool.cases_eq, lemmas.Option.{slice_get_past, slice_get-get_or}}
 use Rattle.std.specs.Prelude.{slice_get, nat_lt}
-use Rattle.std.proofs.lemmas.Bool.{cases_eq}
-use Rattle.std.proofs.lemmas.Option.{slice_get_past, slice_get-get_or}
-use Rattle.sharc_tree.specs.declared.event.Act.{Act}
+use Rattle.sharc_tree.specs.{declared.event.Act.Act, declared.event.CellAt.CellAt, declared.event.CellMode.CellMode, declared.trap.Trap.Trap}
 use Rattle.sharc_tree.specs.declared.event.Act.TheVariants as acts
 use Rattle.sharc_tree.specs.declared.event.Taken.TheVariants as taken
-use Rattle.sharc_tree.specs.declared.event.CellAt.{CellAt}
-use Rattle.sharc_tree.specs.declared.event.CellMode.{CellMode}
-use Rattle.sharc_tree.specs.declared.trap.Trap.{Trap}
 use Rattle.sharc_tree.specs.declared.trap.Trap.TheVariants as traps
-use Rattle.sharc_code.specs.declared.instr.Cell.{Cell}
-use Rattle.sharc_code.specs.Arithmetic.{computed, negated, holds}
-use Rattle.sharc_meaning.specs.declared.given.GivenUp.{GivenUp}
-use Rattle.sharc_meaning.specs.declared.given.GivenUp.TheVariants.{Released, Replaced, Emptied}
-use Rattle.sharc_meaning.specs.Arithmetic.{is_zero}
-use Rattle.sharc_meaning.specs.Events.{held_mutexes, holds_mutex}
-use Rattle.sharc_meaning.specs.Reference.{number_of, elements_of}
-use Rattle.sharc_meaning.specs.Statements.{is_positive}
-use Rattle.sharc_flat_form.specs.declared.op.Op.{Op}
-use Rattle.sharc_flat_form.specs.declared.op.Spot.{Spot}
+use Rattle.sharc_code.specs.{declared.instr.Cell.Cell, Arithmetic.{computed, negated, holds}}
+use Rattle.sharc_meaning.specs.{declared.given.GivenUp.GivenUp, declared.given.GivenUp.TheVariants.{Released, Replaced, Emptied}, Arithmetic.is_zero, Events.{held_mutexes, holds_mutex}, Reference.{number_of, elements_of}, Statements.is_positive}
+use Rattle.sharc_flat_form.specs.{declared.op.Op.Op, declared.op.Spot.Spot, Machine.{Flat, Caller, At, Turn, goes, asks, halts, put, int, ref, set_int, set_ref, popped, moved, settled, next, over_lines, goes_on, stops, asserts, with_result, cell_at, mode_of, lock_is_null, accesses, accessed, gives_up, kind_of, indexed, takes_local, called, returned, end_turn, line_turn, op_turn}}
 use Rattle.sharc_flat_form.specs.declared.op.Op.TheVariants as op
-use Rattle.sharc_flat_form.specs.Machine.{Flat, Caller, At, Turn, goes, asks, halts, put, int, ref, set_int, set_ref, popped, moved, settled, next, over_lines, goes_on, stops, asserts, with_result, cell_at, mode_of, lock_is_null, accesses, accessed, gives_up, kind_of, indexed, takes_local, called, returned, end_turn, line_turn, op_turn}
-use Rattle.sharc_guard.specs.Level.{free, Slots, with_slot, with_moved, Enters, Leaves, Level, IsLevel}
-use Rattle.sharc_guard.specs.Counted.{IsReleased, Quietly, OnWay}
+use Rattle.sharc_guard.specs.{Level.{free, Slots, with_slot, with_moved, Enters, Leaves, Level, IsLevel}, Counted.{IsReleased, Quietly, OnWay}}
 use Rattle.sharc_guard.proofs.Ready.{Is, Hold, put_at, put_other, Frames, Ready, enters, hold_as, slot_same, moved_same, keeps, puts, moves, null_here, call_ready, return_ready, is_free}
 
 released_left : (a b : List GivenUp) (n : ℕ) → IsReleased a n → IsReleased (a ++ b) n

@@ -1,12 +1,9 @@
 -- Guarded code asks for what flat code asks for.
 use Rattle.std.specs.Prelude.{Bool, ℕ, ℤ, ◌+◌, ◌*◌, ◌≡◌, ◌<◌, ◌≤◌, ◌⊎◌, List, [], ◌∷◌, ◌++◌, length, map}
-use Rattle.sharc_tree.specs.declared.event.Act.{Act}
-use Rattle.sharc_tree.specs.declared.token.Site.{Site}
-use Rattle.sharc_tree.specs.declared.trap.Trap.{Trap}
+use Rattle.sharc_tree.specs.{declared.event.Act.Act, declared.token.Site.Site, declared.trap.Trap.Trap}
 use Rattle.sharc_code.specs.declared.state.Frame.{Frame}
 use Rattle.sharc_meaning.specs.declared.given.GivenUp.{GivenUp}
-use Rattle.sharc_meaning.specs.declared.given.GivenUp.TheVariants.{Released, Replaced, Emptied}
-use Rattle.sharc_meaning.specs.Events.{held_mutexes}
+use Rattle.sharc_meaning.specs.{declared.given.GivenUp.TheVariants.{Released, Replaced, Emptied}, Events.held_mutexes}
 use Rattle.sharc_meaning.specs.State.{stopped, ended}
 use Rattle.sharc_flat_form.specs.Machine as Flat
 use Rattle.sharc_guarded_form.specs.Machine.{Program, Thread, Running, Check, Turn, Goes, Asks, Checks, Halts, Stopped, Ended, turn, source_at}

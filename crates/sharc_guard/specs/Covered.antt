@@ -1,18 +1,13 @@
 -- On each path an access whose check is dropped was checked before, and its object is held since.
 use Rattle.std.specs.Prelude.{◌≡◌, ℕ, ℤ, ◌<◌, true, false, ◌⊎◌, List, [], ◌∷◌, length, Option, Some, slice_get}
-use Rattle.sharc_tree.specs.declared.event.CellAt.{CellAt}
-use Rattle.sharc_tree.specs.declared.event.Object.{Object}
+use Rattle.sharc_tree.specs.{declared.event.CellAt.CellAt, declared.event.Object.Object}
 use Rattle.sharc_tree.specs.declared.event.Object.TheVariants as objects
-use Rattle.sharc_shadow.specs.declared.shadow_word.Kind.{Kind}
-use Rattle.sharc_shadow.specs.declared.shadow_word.Kind.TheVariants.{Read, Write}
+use Rattle.sharc_shadow.specs.{declared.shadow_word.Kind.Kind, declared.shadow_word.Kind.TheVariants.{Read, Write}}
 use Rattle.sharc_meaning.specs.Reference.{number_of}
-use Rattle.sharc_flat_form.specs.declared.op.Op.{Op}
-use Rattle.sharc_flat_form.specs.declared.op.Op.TheVariants as op
-use Rattle.sharc_flat_form.specs.Machine.{Flat, At, Turn, asks, turn, cell_at, start}
+use Rattle.sharc_flat_form.specs.{declared.op.Op.Op, Machine.{Flat, At, Turn, asks, turn, cell_at, start}}
 use Rattle.sharc_flat_form.specs.Path.{at_after, IsPath}
-use Rattle.sharc_guard.specs.Known.{counts, dropped}
-use Rattle.sharc_guard.specs.Repeated.{IsStraight}
-use Rattle.sharc_guard.specs.Counted.{IsAccess}
+use Rattle.sharc_flat_form.specs.declared.op.Op.TheVariants as op
+use Rattle.sharc_guard.specs.{Known.{counts, dropped}, Repeated.IsStraight, Counted.IsAccess}
 
 -- it asks for an access of this cell, of this kind or a write, in mode dynamic
 abbrev pub Makes : Turn → Kind → CellAt → Type 0

@@ -1,19 +1,14 @@
 -- An example: `int x; int main() { x = 7; print(x); return; }`, where x is dynamic.
 use Rattle.std.specs.Prelude.{ℕ, ◌≡◌, pos, Bool, true, List, [], ◌∷◌, nat_eq}
-use Rattle.sharc_code.specs.declared.code.Function.{Function}
+use Rattle.sharc_code.specs.{declared.code.Function.Function, declared.instr.Cell.TheVariants.Global}
+use Rattle.sharc_code.specs.{declared.instr.Instr.Instr, Says.no_site}
 use Rattle.sharc_code.specs.declared.code.Parameter.TheVariants as parameters
 use Rattle.sharc_code.specs.declared.code.PlaceMode.TheVariants as modes
 use Rattle.sharc_code.specs.declared.code.Use.TheVariants as uses
-use Rattle.sharc_code.specs.declared.instr.Cell.TheVariants.{Global}
-use Rattle.sharc_code.specs.declared.instr.Instr.{Instr}
 use Rattle.sharc_code.specs.declared.instr.Instr.TheVariants as instr
-use Rattle.sharc_code.specs.Says.{no_site}
-use Rattle.sharc_flat_form.specs.declared.op.Op.{Op}
+use Rattle.sharc_flat_form.specs.{declared.op.Op.Op, declared.op.Spot.Spot, Machine.Flat, Framed.{IsFlat, IsFramed}}
 use Rattle.sharc_flat_form.specs.declared.op.Op.TheVariants as op
-use Rattle.sharc_flat_form.specs.declared.op.Spot.{Spot}
-use Rattle.sharc_flat_form.specs.Machine.{Flat}
 use Rattle.sharc_guarded_form.specs.Form.{IsGuarded}
-use Rattle.sharc_flat_form.specs.Framed.{IsFlat, IsFramed}
 use Rattle.sharc_guard.specs.Guard.{guarded}
 
 abbrev pub there : Spot

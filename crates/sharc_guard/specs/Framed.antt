@@ -1,7 +1,6 @@
 -- The guarded code of flat code whose lines stay within their functions and frames is well formed.
 use Rattle.std.specs.Prelude.{ℕ, Bool}
-use Rattle.sharc_flat_form.specs.Machine.{Flat}
-use Rattle.sharc_flat_form.specs.Framed.{IsFramed}
+use Rattle.sharc_flat_form.specs.{Machine.Flat, Framed.IsFramed}
 use Rattle.sharc_guarded_form.specs.Form.{IsGuarded}
 use Rattle.sharc_guard.specs.Guard.{guarded}
 

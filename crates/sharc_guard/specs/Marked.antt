@@ -2,24 +2,18 @@
 -- floor is void.
 use Rattle.std.specs.Prelude.{◌≡◌, ℕ, ◌+◌, ◌==◌, ◌<◌, Bool, true, false, ◌&&◌, ◌||◌, List, length, Option, Some, None, nat_lt, nat_le, get_or, if◌then◌else◌}
 use Rattle.std.specs.Map.{lookup}
-use Rattle.sharc_shadow.specs.declared.shadow_word.Kind.{Kind}
-use Rattle.sharc_shadow.specs.declared.shadow_word.Kind.TheVariants.{Write}
+use Rattle.sharc_shadow.specs.{declared.shadow_word.Kind.Kind, declared.shadow_word.Kind.TheVariants.Write}
 use Rattle.sharc_code.specs.declared.code.Function.{Function}
-use Rattle.sharc_flat_form.specs.declared.op.Op.{Op}
+use Rattle.sharc_flat_form.specs.{declared.op.Op.Op, Machine.Flat}
 use Rattle.sharc_flat_form.specs.declared.op.Op.TheVariants as op
-use Rattle.sharc_flat_form.specs.Machine.{Flat}
-use Rattle.sharc_guard.specs.declared.marks.Copied.{Copied}
-use Rattle.sharc_guard.specs.declared.marks.Numbered.{Numbered}
-use Rattle.sharc_guard.specs.declared.marks.Passed.{Passed}
-use Rattle.sharc_guard.specs.declared.marks.Place.{Place as PlaceNoted}
-use Rattle.sharc_guard.specs.declared.marks.Place.TheVariants as noted
-use Rattle.sharc_guard.specs.declared.marks.Knowledge.{Knowledge}
-use Rattle.sharc_guard.specs.declared.operations.CellAccess.{CellAccess}
-use Rattle.sharc_guard.specs.declared.operations.Copying.{Copying}
-use Rattle.sharc_guard.specs.declared.operations.Written.{Written}
-use Rattle.sharc_guard.specs.declared.operations.Written.TheVariants as written
+use Rattle.sharc_guard.specs.{declared.marks.Copied.Copied, declared.marks.Numbered.Numbered}
+use Rattle.sharc_guard.specs.{declared.marks.Passed.Passed, declared.marks.Place.{Place as PlaceNoted}}
+use Rattle.sharc_guard.specs.{declared.marks.Knowledge.Knowledge, declared.operations.CellAccess.CellAccess}
+use Rattle.sharc_guard.specs.{declared.operations.Copying.Copying, declared.operations.Written.Written}
 use Rattle.sharc_guard.specs.Known.{is_led_to, is_entry, Place, in_variable, in_global, counts, Access, tells, Know, of_constant, with_element, place_of, has_passed, dropped}
 use Rattle.sharc_guard.specs.Made.{marked}
+use Rattle.sharc_guard.specs.declared.marks.Place.TheVariants as noted
+use Rattle.sharc_guard.specs.declared.operations.Written.TheVariants as written
 
 -- ---- operations
 abbrev pub is_written : Written → ℕ → Bool

@@ -1,12 +1,9 @@
 -- The tables of guarded code are in their ranges where those of the flat code are.
 use Rattle.std.specs.Prelude.{ℕ, ◌≡◌, ◌<◌, ◌^◌, Bool, length, slice_get, slice_index, Some}
-use Rattle.sharc_code.specs.declared.instr.Register.{Register}
-use Rattle.sharc_code.specs.Ranges.{GlobalsFit}
-use Rattle.sharc_flat_form.specs.declared.flat.Flat.{Flat as FlatCode}
+use Rattle.sharc_code.specs.{declared.instr.Register.Register, Ranges.GlobalsFit}
+use Rattle.sharc_flat_form.specs.{declared.flat.Flat.{Flat as FlatCode}, declared.op.Spot.Spot}
 use Rattle.sharc_flat_form.specs.declared.op.Op.TheVariants as op
-use Rattle.sharc_flat_form.specs.declared.op.Spot.{Spot}
-use Rattle.sharc_guarded_form.specs.declared.guarded.Guarded.{Guarded}
-use Rattle.sharc_guarded_form.specs.Tables.{TablesFit}
+use Rattle.sharc_guarded_form.specs.{declared.guarded.Guarded.Guarded, Tables.TablesFit}
 use Rattle.sharc_guard.specs.Made.{IsMade}
 
 -- `main` and each function that is spawned are functions, the globals lie one after the other within their granules, and what they hold at first are words

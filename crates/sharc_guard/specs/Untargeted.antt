@@ -2,9 +2,7 @@
 use Rattle.std.specs.Prelude.{ℕ, ◌≡◌, true, slice_get, Some}
 use Rattle.sharc_code.specs.declared.instr.Instr.{Instr}
 use Rattle.sharc_flat_form.specs.Machine.{Flat}
-use Rattle.sharc_guard.specs.Checked.{Access, access_of, IsNoTarget}
-use Rattle.sharc_guard.specs.Guard.{guarded}
-use Rattle.sharc_guard.specs.Known.{dropped}
+use Rattle.sharc_guard.specs.{Checked.{Access, access_of, IsNoTarget}, Guard.guarded, Known.dropped}
 
 -- no jump and no call leads there
 abbrev pub DroppedIsNoTarget : Type 0

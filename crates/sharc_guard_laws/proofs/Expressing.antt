@@ -1,44 +1,18 @@
 -- The code of an expression: after it one register more holds something, if its value is a reference.
 use Rattle.std.specs.Prelude.{ℤ}
-use Rattle.std.proofs.Common.{◌≡◌, ℕ, zero, suc, ◌+◌, ◌<◌, ◌≤◌, Bool, true, false, cond, List, [], ◌∷◌, ◌++◌, length, map, refl, ap, sym, ◌∙◌, subst, arith, Option, Some, None, codes, bytes_eq, if◌then◌else◌}
-use Rattle.std.proofs.lemmas.Bool.{false≢true}
-use Rattle.sharc_tree.specs.declared.token.Site.{Site}
-use Rattle.sharc_tree.specs.declared.token.Span.{Span}
-use Rattle.sharc_tree.specs.declared.tree.declaration.Identifier.{Identifier}
-use Rattle.sharc_tree.specs.declared.tree.expression.Access.{Access}
-use Rattle.sharc_tree.specs.declared.tree.expression.Access.TheVariants.{Dot, Arrow}
-use Rattle.sharc_tree.specs.declared.tree.expression.BinaryOperator.{BinaryOperator}
-use Rattle.sharc_tree.specs.declared.tree.expression.BinaryOperator.TheVariants.{LogicalOr, LogicalAnd, BitOr, BitXor, BitAnd, Equal, NotEqual, Less, Greater, LessOrEqual, GreaterOrEqual, ShiftLeft, ShiftRight, Add, Subtract, Multiply, Divide, Remainder}
-use Rattle.sharc_tree.specs.declared.tree.expression.PlaceCall.{PlaceCall}
-use Rattle.sharc_tree.specs.declared.tree.expression.PlaceCall.TheVariants.{Lock, Unlock, Free}
-use Rattle.sharc_tree.specs.declared.tree.expression.UnaryOperator.TheVariants.{Negate, Not, Complement, Dereference}
-use Rattle.sharc_tree.specs.Spans.{span_of}
-use Rattle.sharc_tree.specs.Tree.{Expression, identifier, constant, parentheses, call, spawn, on_value, on_place, cast, index, field, unary, binary, Arguments, no_arguments, argument, Function}
-use Rattle.sharc_names.specs.declared.fault.Named.{Named}
+use Rattle.std.proofs.{Common.{◌≡◌, ℕ, zero, suc, ◌+◌, ◌<◌, ◌≤◌, Bool, true, false, cond, List, [], ◌∷◌, ◌++◌, length, map, refl, ap, sym, ◌∙◌, subst, arith, Option, Some, None, codes, bytes_eq, if◌then◌else◌}, lemmas.Bool.false≢true}
+use Rattle.sharc_tree.specs.{declared.token.Site.Site, declared.token.Span.Span, declared.tree.declaration.Identifier.Identifier, declared.tree.expression.Access.Access, declared.tree.expression.Access.TheVariants.{Dot, Arrow}, declared.tree.expression.BinaryOperator.BinaryOperator, declared.tree.expression.BinaryOperator.TheVariants.{LogicalOr, LogicalAnd, BitOr, BitXor, BitAnd, Equal, NotEqual, Less, Greater, LessOrEqual, GreaterOrEqual, ShiftLeft, ShiftRight, Add, Subtract, Multiply, Divide, Remainder}, declared.tree.expression.PlaceCall.PlaceCall, declared.tree.expression.PlaceCall.TheVariants.{Lock, Unlock, Free}, declared.tree.expression.UnaryOperator.TheVariants.{Negate, Not, Complement, Dereference}, Spans.span_of, Tree.{Expression, identifier, constant, parentheses, call, spawn, on_value, on_place, cast, index, field, unary, binary, Arguments, no_arguments, argument, Function}}
+use Rattle.sharc_names.specs.{declared.fault.Named.Named, Kinds.{Kind, is_array, is_integer, element_kind, declared_kind, declared_kinds}}
 use Rattle.sharc_names.specs.declared.fault.Named.TheVariants as named
-use Rattle.sharc_names.specs.Kinds.{Kind, is_array, is_integer, element_kind, declared_kind, declared_kinds}
 use Rattle.sharc_code.specs.declared.code.Use.TheVariants as uses
-use Rattle.sharc_ctype.specs.Resolved.{kind_at, function_at, result_kind_of, global_at}
-use Rattle.sharc_ctype.specs.Transfers.{parameters_named, parameters_of}
-use Rattle.sharc_mode.specs.Moded.{Assignment}
-use Rattle.sharc_mode.specs.Sharings.{Sharing}
-use Rattle.sharc_meaning.specs.Cells.{element_cells, field_place_named, global_elements}
-use Rattle.sharc_meaning.specs.Expressions.{number_named}
-use Rattle.sharc_meaning.specs.State.{is_reference}
-use Rattle.sharc_flat_form.specs.declared.op.Op.{Op}
+use Rattle.sharc_ctype.specs.{Resolved.{kind_at, function_at, result_kind_of, global_at}, Transfers.{parameters_named, parameters_of}}
+use Rattle.sharc_mode.specs.{Moded.Assignment, Sharings.Sharing}
+use Rattle.sharc_meaning.specs.{Cells.{element_cells, field_place_named, global_elements}, Expressions.number_named, State.is_reference}
+use Rattle.sharc_flat_form.specs.{declared.op.Op.Op, declared.op.Spot.Spot, Machine.{Flat, function_of, first_cell}}
 use Rattle.sharc_flat_form.specs.declared.op.Op.TheVariants as op
-use Rattle.sharc_flat_form.specs.declared.op.Spot.{Spot}
-use Rattle.sharc_flat_form.specs.Machine.{Flat, function_of, first_cell}
-use Rattle.sharc_flat.specs.declared.slot.Lvalue.{Lvalue}
-use Rattle.sharc_flat.specs.Scope.{Context, slot_of, ref_count, at_site}
-use Rattle.sharc_flat.specs.Places.{Target, variable, in_global, in_global_at, in_object, in_object_at, target, own_field, global_of, base_width, take_code, bounds_code, index_code, pointee_code}
-use Rattle.sharc_flat.specs.Flattened.{kind_of, is_ref, target_of, mode_of, what_names, lvalue_in, named_code, truth_code, compare_code, binary_code, behind_int, behind_ref, called_code, passed_code, place_call_code, cast_code, guard_of, taken_guard, field_code, expression_code, arguments_code, place_code}
-use Rattle.sharc_flat.specs.Suits.{Suits, PlaceSuits, ArgumentsSuit, ReferencesSuit, NameSuits, CallSuits, FieldSuits, TakeSuits, PlaceCallSuits, OperandsSuit, Either}
+use Rattle.sharc_flat.specs.{declared.slot.Lvalue.Lvalue, Scope.{Context, slot_of, ref_count, at_site}, Places.{Target, variable, in_global, in_global_at, in_object, in_object_at, target, own_field, global_of, base_width, take_code, bounds_code, index_code, pointee_code}, Flattened.{kind_of, is_ref, target_of, mode_of, what_names, lvalue_in, named_code, truth_code, compare_code, binary_code, behind_int, behind_ref, called_code, passed_code, place_call_code, cast_code, guard_of, taken_guard, field_code, expression_code, arguments_code, place_code}, Suits.{Suits, PlaceSuits, ArgumentsSuit, ReferencesSuit, NameSuits, CallSuits, FieldSuits, TakeSuits, PlaceCallSuits, OperandsSuit, Either}}
 use Rattle.sharc_guard.specs.Level.{Slot, free, full, Fits, Slots, result_slot, Enters, Level}
-use Rattle.sharc_guard_laws.proofs.Located.{width, pointers, pointers_are}
-use Rattle.sharc_guard_laws.proofs.Pieces.{line}
-use Rattle.sharc_guard_laws.proofs.Parts.{plain_integer, wide_promoted, wide_common, IsKept, kept_cell, P, B, then_do, pre, post, none, keeps, enter, null_at, values, takes, passes_kept, truths, compares, logicals, eithers, pointees, bounded, conditions, spawns, value_calls, locked_at, unlocked_at, freed_if, given_if}
-use Rattle.sharc_guard_laws.proofs.Slots.{AreFit, fits_full, fits_free, below, below_full, shifted}
+use Rattle.sharc_guard_laws.proofs.{Located.{width, pointers, pointers_are}, Pieces.line, Parts.{plain_integer, wide_promoted, wide_common, IsKept, kept_cell, P, B, then_do, pre, post, none, keeps, enter, null_at, values, takes, passes_kept, truths, compares, logicals, eithers, pointees, bounded, conditions, spawns, value_calls, locked_at, unlocked_at, freed_if, given_if}, Slots.{AreFit, fits_full, fits_free, below, below_full, shifted}}
 
 -- each function finds what its callers leave for it
 abbrev pub Entries : Flat → Assignment → (ℕ → Slots) → Type 0

@@ -1,8 +1,9 @@
 -- Pieces of flat code with what is known at each of their lines, one after the other: knowledge of any kind, given by which fits which and by what an operation needs.
 use Rattle.std.specs.Prelude.{slice_get, slice_index_or}
-use Rattle.std.proofs.Common.{◌≡◌, ℕ, zero, suc, ◌+◌, ◌≤◌, List, [], ◌∷◌, ◌++◌, length, refl, ap, sym, ◌∙◌, subst, arith, length-append, append_assoc, Some, None}
+use Rattle.std.proofs.Common.{◌≡◌, ℕ, zero, suc, ◌+◌, ◌≤◌, List, [], ◌∷◌, ◌++◌, length, refl, ap, sym, ◌∙◌, subst, arith, length-append, append_assoc, Some}
 use Rattle.sharc_flat_form.specs.declared.op.Op.{Op}
 use Rattle.sharc_flat_form.specs.declared.op.Op.TheVariants as op
+use Rattle.sharc_lemmas.proofs.Options.{same_some, none_some}
 
 -- at the lines from this one on this is known
 abbrev pub Agrees : {St : Type 0} → (ℕ → St) → ℕ → List St → Type 0
@@ -36,12 +37,6 @@ pub all_after : {St : Type 0} (list : List St) (d : St) (q : ℕ) → length lis
 all_after [] d q le = refl
 all_after (s ∷ rest) d zero le = absurd (omega (arith, le))
 all_after (s ∷ rest) d (suc q) le = all_after rest d q (omega (arith, le))
-
-same_some : {A : Type 0} (x y : A) → Some x ≡ Some y → x ≡ y
-same_some x y h = cc
-
-none_some : {A : Type 0} (x : A) → None ≡ Some x → ⊥
-none_some x h = cc
 
 -- what is known at its first line, or after it where it has none
 abbrev pub first : {St : Type 0} → List St → St → St

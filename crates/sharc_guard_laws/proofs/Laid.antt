@@ -1,41 +1,21 @@
 -- Code that is laid out overwrites no reference and names its mutexes, as the code does whose texts are given.
 use Rattle.std.proofs.Common.{◌≡◌, inl, inr, ℕ, zero, suc, ◌+◌, ◌-◌, ◌<◌, Bool, List, [], ◌∷◌, length, Some, None, refl, ap, sym, ◌∙◌, subst, arith}
 use Rattle.std.specs.Prelude.{slice_get, slice_index_or}
-use Rattle.sharc_code.specs.declared.code.Function.{Function as Row}
-use Rattle.sharc_code.specs.declared.code.Parameter.{Parameter}
+use Rattle.sharc_code.specs.{declared.code.Function.{Function as Row}, declared.code.Parameter.Parameter, declared.code.Text.Text, Machine.no_function, declared.code.GlobalCells.GlobalCells, declared.code.PlaceMode.PlaceMode, declared.instr.Cell.Cell}
 use Rattle.sharc_code.specs.declared.code.Parameter.TheVariants as parameters
-use Rattle.sharc_code.specs.declared.code.Text.{Text}
-use Rattle.sharc_code.specs.Machine.{no_function}
 use Rattle.sharc_ctype.specs.Resolved.{Resolution, functions_in}
 use Rattle.sharc_mode.specs.Moded.{Assignment}
-use Rattle.sharc_flat_form.specs.declared.op.Op.{Op}
+use Rattle.sharc_flat_form.specs.{declared.op.Op.Op, Machine.{Flat, At, function_of, cell_at, lock_is_null}, Made.flat_of, declared.op.Spot.Spot}
 use Rattle.sharc_flat_form.specs.declared.op.Op.TheVariants as op
-use Rattle.sharc_flat_form.specs.Machine.{Flat, At, function_of, cell_at, lock_is_null}
-use Rattle.sharc_flat_form.specs.Made.{flat_of}
-use Rattle.sharc_flat.specs.Flattened.{rows_of, flattened, function_code, AreRows, IsFlattened}
-use Rattle.sharc_flat.specs.Flattens.{names_of}
-use Rattle.sharc_flat.specs.Laid.{told_by, with_texts, AreLaid, AreNamed, Lays}
-use Rattle.sharc_flat.specs.Tables.{globals_of}
+use Rattle.sharc_flat.specs.{Flattened.{rows_of, flattened, function_code, AreRows, IsFlattened}, Flattens.names_of, Laid.{told_by, with_texts, AreLaid, AreNamed, Lays}, Tables.globals_of}
 use Rattle.sharc_tree.specs.Tree.{Function}
-use Rattle.sharc_code.specs.declared.code.GlobalCells.{GlobalCells}
-use Rattle.sharc_guard.specs.Level.{Slots, Fits, Enters, Calls, Resumes, Leaves, Level, Takes, IsEntry, IsLevel}
-use Rattle.sharc_guard.specs.Counted.{IsBeside, LockStands}
+use Rattle.sharc_guard.specs.{Level.{Slots, Fits, Enters, Calls, Resumes, Leaves, Level, Takes, IsEntry, IsLevel}, Counted.{IsBeside, LockStands}}
 use Rattle.sharc_guard_laws.specs.Laws.{MadeIsLevel, FlattenedLocksStand, MadeLocksStand}
-use Rattle.sharc_guard_laws.proofs.Ties.{Ties, Next, Needs}
-use Rattle.sharc_guard_laws.proofs.Traced.{IsTraced, stand, flattened_is_traced}
-use Rattle.sharc_code.specs.declared.code.PlaceMode.{PlaceMode}
+use Rattle.sharc_guard_laws.proofs.{Ties.{Ties, Next, Needs}, Traced.{IsTraced, stand, flattened_is_traced}, Program.flattened_is_level}
 use Rattle.sharc_code.specs.declared.code.PlaceMode.TheVariants as modes
-use Rattle.sharc_code.specs.declared.instr.Cell.{Cell}
-use Rattle.sharc_flat_form.specs.declared.op.Spot.{Spot}
-use Rattle.sharc_guard_laws.proofs.Program.{flattened_is_level}
+use Rattle.sharc_lemmas.proofs.Options.{same_some, none_some}
 
 -- ---- lines
-same_some : {A : Type 0} (x y : A) → Some x ≡ Some y → x ≡ y
-same_some x y h = cc
-
-none_some : {A : Type 0} (x : A) → None ≡ Some x → ⊥
-none_some x h = cc
-
 -- a line that is made is one that is given, with other texts
 pub record Told (told : List Op) (n : ℕ) (p : Op) : Type 0 where
   pub line : Op

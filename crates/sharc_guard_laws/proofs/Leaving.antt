@@ -1,18 +1,10 @@
 -- At the end of blocks their pointers are given up, in the order of their declarations.
-use Rattle.std.proofs.Common.{◌≡◌, ⊎_elim, ℕ, ◌+◌, ◌<◌, ◌≤◌, Bool, true, false, cond, List, [], ◌∷◌, take, drop, refl, ap, sym, ◌∙◌, subst, arith, nat_lt}
-use Rattle.std.proofs.lemmas.Bool.{cases_eq, cases_lt}
-use Rattle.std.proofs.lemmas.Bool.Decides.{nat_tests}
-use Rattle.std.proofs.lemmas.List.{take-append-drop}
-use Rattle.sharc_flat_form.specs.declared.op.Op.{Op}
+use Rattle.std.proofs.{Common.{◌≡◌, ⊎_elim, ℕ, ◌+◌, ◌<◌, ◌≤◌, Bool, true, false, cond, List, [], ◌∷◌, take, drop, refl, ap, sym, ◌∙◌, subst, arith, nat_lt}, lemmas.Bool.{cases_eq, cases_lt}, lemmas.Bool.Decides.nat_tests, lemmas.List.take-append-drop}
+use Rattle.sharc_flat_form.specs.{declared.op.Op.Op, Machine.Flat}
 use Rattle.sharc_flat_form.specs.declared.op.Op.TheVariants as op
-use Rattle.sharc_flat_form.specs.Machine.{Flat}
-use Rattle.sharc_flat.specs.Scope.{ref_count, pops, ends_from, leaves}
-use Rattle.sharc_flat.specs.declared.slot.Slot.{Slot}
+use Rattle.sharc_flat.specs.{Scope.{ref_count, pops, ends_from, leaves}, declared.slot.Slot.Slot}
 use Rattle.sharc_guard.specs.Level.{free, Fits, Slots, with_slot}
-use Rattle.sharc_guard_laws.proofs.Located.{count-append}
-use Rattle.sharc_guard_laws.proofs.Parts.{P, then_do, does}
-use Rattle.sharc_guard_laws.proofs.Pieces.{nothing}
-use Rattle.sharc_guard_laws.proofs.Slots.{fits_same, fits_free, fit_same, with_same, with_other}
+use Rattle.sharc_guard_laws.proofs.{Located.count-append, Parts.{P, then_do, does}, Pieces.nothing, Slots.{fits_same, fits_free, fit_same, with_same, with_other}}
 
 -- the variables that remain after blocks have ended, each of which began with this number of them
 abbrev pub kept : List Slot → List ℕ → List Slot

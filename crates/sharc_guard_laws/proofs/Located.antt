@@ -1,14 +1,11 @@
 -- Where the variables of a scope are: a pointer in a reference register below all that is free, any other in an integer register.
-use Rattle.std.proofs.Common.{◌≡◌, ℕ, ◌+◌, ◌<◌, ◌≤◌, ◌==◌, ◌||◌, Bool, true, false, cond, List, [], ◌∷◌, ◌++◌, map, refl, ap, sym, ◌∙◌, subst, arith, Some, is_some}
-use Rattle.std.proofs.lemmas.Bool.{false≢true}
-use Rattle.sharc_tree.specs.declared.tree.declaration.Declaration.{Declaration}
-use Rattle.sharc_tree.specs.declared.tree.declaration.WrittenType.{WrittenType}
+use Rattle.std.proofs.{Common.{◌≡◌, ℕ, ◌+◌, ◌<◌, ◌≤◌, ◌==◌, ◌||◌, Bool, true, false, cond, List, [], ◌∷◌, ◌++◌, map, refl, ap, sym, ◌∙◌, subst, arith, Some, is_some}, lemmas.Bool.false≢true}
+use Rattle.sharc_tree.specs.{declared.tree.declaration.Declaration.Declaration, declared.tree.declaration.WrittenType.WrittenType}
 use Rattle.sharc_names.specs.Kinds.{Kind, is_pointer, declared_kind, declared_kinds}
-use Rattle.sharc_code.specs.declared.instr.Register.{Register}
-use Rattle.sharc_code.specs.declared.instr.Register.TheVariants.{Int, Reference}
+use Rattle.sharc_code.specs.{declared.instr.Register.Register, declared.instr.Register.TheVariants.{Int, Reference}}
 use Rattle.sharc_meaning.specs.State.{is_reference}
-use Rattle.sharc_flat.specs.Scope.{slot_of, slot_kind, ref_count, register_from, register_of}
-use Rattle.sharc_flat.specs.declared.slot.Slot.{Slot}
+use Rattle.sharc_flat.specs.{Scope.{slot_of, slot_kind, ref_count, register_from, register_of}, declared.slot.Slot.Slot}
+use Rattle.sharc_lemmas.proofs.Options.{same_bool}
 
 -- a reference register below this one, or an integer register
 abbrev pub IsIn : Bool → ℕ → Register → Type 0
@@ -16,9 +13,6 @@ IsIn true top (Reference n) = n < top
 IsIn true top (Int n) = ⊥
 IsIn false top (Reference n) = ⊥
 IsIn false top (Int n) = Unit {0}
-
-same_bool : (a b : Bool) → Some a ≡ Some b → a ≡ b
-same_bool a b h = cc
 
 located_from : (xs : List Slot) (i r token : ℕ) (b : Bool) → slot_kind xs token ≡ Some b → IsIn b (r + ref_count xs) (register_from i r xs token)
 located_from [] i r token b h = absurd (false≢true (ap is_some h))

@@ -1,35 +1,16 @@
 -- The parts of the code of an expression: an access, a test, an operator, a call.
-use Rattle.std.proofs.Common.{◌≡◌, ⊎_elim, ℕ, ◌+◌, ◌<◌, ◌≤◌, ◌==◌, ◌&&◌, ◌||◌, eqb-true, Bool, true, false, cond, List, [], ◌∷◌, ◌++◌, length, refl, ap, ◌∙◌, subst, arith, length-append, append_assoc, Option, Some, None, codes, bytes_eq}
-use Rattle.std.proofs.lemmas.Bool.{false≢true, cases_eq}
-use Rattle.sharc_tree.specs.declared.ctype.Base.{Base}
-use Rattle.sharc_tree.specs.declared.token.Site.{Site}
-use Rattle.sharc_tree.specs.declared.tree.expression.BinaryOperator.{BinaryOperator}
-use Rattle.sharc_tree.specs.declared.tree.expression.BinaryOperator.TheVariants.{NotEqual}
-use Rattle.sharc_tree.specs.declared.tree.expression.ValueCall.{ValueCall}
-use Rattle.sharc_tree.specs.declared.tree.expression.ValueCall.TheVariants.{Join, Print}
-use Rattle.sharc_tree.specs.Tree.{Arguments}
+use Rattle.std.proofs.{Common.{◌≡◌, ⊎_elim, ℕ, ◌+◌, ◌<◌, ◌≤◌, ◌==◌, ◌&&◌, ◌||◌, eqb-true, Bool, true, false, cond, List, [], ◌∷◌, ◌++◌, length, refl, ap, ◌∙◌, subst, arith, length-append, append_assoc, Option, Some, None, codes, bytes_eq}, lemmas.Bool.{false≢true, cases_eq}}
+use Rattle.sharc_tree.specs.{declared.ctype.Base.Base, declared.token.Site.Site, declared.tree.expression.BinaryOperator.BinaryOperator, declared.tree.expression.BinaryOperator.TheVariants.NotEqual, declared.tree.expression.ValueCall.ValueCall, declared.tree.expression.ValueCall.TheVariants.{Join, Print}, Tree.Arguments}
 use Rattle.sharc_names.specs.Kinds.{Kind, object, array, null, int, long, is_long, is_integral, is_integer, is_pointer, promoted, common}
 use Rattle.sharc_names.specs.Kinds as kinds
-use Rattle.sharc_code.specs.declared.code.Use.{Use}
-use Rattle.sharc_code.specs.declared.instr.Cell.{Cell}
-use Rattle.sharc_code.specs.declared.instr.Register.{Register}
-use Rattle.sharc_code.specs.declared.instr.Register.TheVariants.{Int, Reference}
+use Rattle.sharc_code.specs.{declared.code.Use.Use, declared.instr.Cell.Cell, declared.instr.Register.Register, declared.instr.Register.TheVariants.{Int, Reference}}
 use Rattle.sharc_mode.specs.Sharings.{Sharing}
 use Rattle.sharc_meaning.specs.State.{is_reference}
-use Rattle.sharc_flat_form.specs.declared.op.Op.{Op}
+use Rattle.sharc_flat_form.specs.{declared.op.Op.Op, declared.op.Spot.Spot, Framed.IsWide, Machine.Flat}
 use Rattle.sharc_flat_form.specs.declared.op.Op.TheVariants as op
-use Rattle.sharc_flat_form.specs.declared.op.Spot.{Spot}
-use Rattle.sharc_flat_form.specs.Framed.{IsWide}
-use Rattle.sharc_flat_form.specs.Machine.{Flat}
-use Rattle.sharc_flat.specs.declared.slot.Lvalue.{Lvalue}
-use Rattle.sharc_flat.specs.Scope.{Context, slot_kind, ref_count, register_of, number_in, at_site}
-use Rattle.sharc_flat.specs.Places.{Target, variable, in_global, in_global_at, in_object, in_object_at, width_of, has_base, base_width, cell_of, guard_field, guard_code, drop_base, settle_base, copy_code, cell_value_code, value_code, settle_code, cell_store_code, store_code, cell_take_code, take_code, bounds_code, pointee_code, width_code}
-use Rattle.sharc_flat.specs.Flattened.{drop_code, truth_code, differ_code, compare_code, logical_code, either_code, wait_code, condition_code, with_words, argument_words, spawn_code, value_call_code, unlocked_code, passed_code, first_cell_of}
-use Rattle.sharc_flat.specs.Suits.{is_cell}
+use Rattle.sharc_flat.specs.{declared.slot.Lvalue.Lvalue, Scope.{Context, slot_kind, ref_count, register_of, number_in, at_site}, Places.{Target, variable, in_global, in_global_at, in_object, in_object_at, width_of, has_base, base_width, cell_of, guard_field, guard_code, drop_base, settle_base, copy_code, cell_value_code, value_code, settle_code, cell_store_code, store_code, cell_take_code, take_code, bounds_code, pointee_code, width_code}, Flattened.{drop_code, truth_code, differ_code, compare_code, logical_code, either_code, wait_code, condition_code, with_words, argument_words, spawn_code, value_call_code, unlocked_code, passed_code, first_cell_of}, Suits.is_cell}
 use Rattle.sharc_guard.specs.Level.{free, full, Slots, with_slot, with_moved, slot_of as cell_slot, Enters, Level}
-use Rattle.sharc_guard_laws.proofs.Located.{IsIn, located, width}
-use Rattle.sharc_guard_laws.proofs.Pieces.{Piece, wider, wider_end, nothing, joins, step, over, over_null}
-use Rattle.sharc_guard_laws.proofs.Slots.{AreFit, fit_same, fit_through, below, below_free, fit_below, none_cleared, with_same, with_other, below_more, popped, pushed, settled, taken}
+use Rattle.sharc_guard_laws.proofs.{Located.{IsIn, located, width}, Pieces.{Piece, wider, wider_end, nothing, joins, step, over, over_null}, Slots.{AreFit, fit_same, fit_through, below, below_free, fit_below, none_cleared, with_same, with_other, below_more, popped, pushed, settled, taken}}
 
 -- ---- kinds
 plain_by : (b : Base) (n : ℕ) → is_integer (object b n) ≡ true → is_reference (object b n) ≡ false

@@ -1,13 +1,11 @@
 -- Pieces of flat code with what the registers hold at each of their lines.
 use Rattle.std.specs.Prelude.{slice_get}
 use Rattle.std.proofs.Common.{◌≡◌, Some, ℕ, ◌+◌, ◌<◌, Bool, List, [], ◌∷◌, ◌++◌, length}
-use Rattle.sharc_flat_form.specs.declared.op.Op.{Op}
+use Rattle.sharc_flat_form.specs.{declared.op.Op.Op, Machine.Flat}
 use Rattle.sharc_flat_form.specs.declared.op.Op.TheVariants as op
-use Rattle.sharc_flat_form.specs.Machine.{Flat}
 use Rattle.sharc_guard.specs.Level.{free, Slots, with_slot, Enters, Level}
-use Rattle.sharc_guard_laws.proofs.Flow.{Agrees}
+use Rattle.sharc_guard_laws.proofs.{Flow.Agrees, Slots.{AreFit, fit_same, fit_through}}
 use Rattle.sharc_guard_laws.proofs.Flow as flow
-use Rattle.sharc_guard_laws.proofs.Slots.{AreFit, fit_same, fit_through}
 
 abbrev cleared : Slots → ℕ → Slots
 cleared s r = with_slot s r free

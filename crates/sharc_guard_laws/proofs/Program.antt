@@ -1,32 +1,20 @@
 -- The functions of a program one after the other: what registers hold at each line of all of them.
-use Rattle.std.proofs.Common.{◌≡◌, ℕ, zero, suc, ◌+◌, ◌-◌, ◌<◌, ◌≤◌, Bool, true, false, cond, List, [], ◌∷◌, ◌++◌, length, map, refl, ap, sym, ◌∙◌, subst, arith, length-append, append_assoc, Some, None, nat_lt}
-use Rattle.std.proofs.lemmas.Bool.{false≢true}
-use Rattle.std.proofs.lemmas.Bool.Decides.{nat_tests}
+use Rattle.std.proofs.{Common.{◌≡◌, ℕ, zero, suc, ◌+◌, ◌-◌, ◌<◌, ◌≤◌, Bool, true, false, cond, List, [], ◌∷◌, ◌++◌, length, map, refl, ap, sym, ◌∙◌, subst, arith, length-append, append_assoc, Some, nat_lt}, lemmas.Bool.false≢true, lemmas.Bool.Decides.nat_tests}
 use Rattle.std.specs.Prelude.{slice_get, slice_index_or}
-use Rattle.sharc_tree.specs.declared.tree.declaration.Declaration.{Declaration}
-use Rattle.sharc_tree.specs.Tree.{Function}
+use Rattle.sharc_tree.specs.{declared.tree.declaration.Declaration.Declaration, Tree.Function}
 use Rattle.sharc_names.specs.Kinds.{is_pointer, declared_kind}
-use Rattle.sharc_code.specs.declared.code.Function.{Function as Row}
-use Rattle.sharc_code.specs.declared.code.GlobalCells.{GlobalCells}
+use Rattle.sharc_code.specs.{declared.code.Function.{Function as Row}, declared.code.GlobalCells.GlobalCells, Machine.no_function}
 use Rattle.sharc_code.specs.declared.code.Parameter.TheVariants as parameters
-use Rattle.sharc_code.specs.Machine.{no_function}
 use Rattle.sharc_ctype.specs.Resolved.{function_at, functions_in, result_kind_of}
 use Rattle.sharc_mode.specs.Moded.{Assignment}
 use Rattle.sharc_meaning.specs.State.{is_reference}
-use Rattle.sharc_flat_form.specs.declared.op.Op.{Op}
+use Rattle.sharc_flat_form.specs.{declared.op.Op.Op, Machine.{Flat, function_of}}
 use Rattle.sharc_flat_form.specs.declared.op.Op.TheVariants as op
-use Rattle.sharc_flat_form.specs.Machine.{Flat, function_of}
-use Rattle.sharc_flat.specs.Scope.{Context, slot_of, ref_count, at_site, ends_from}
-use Rattle.sharc_flat.specs.Flattened.{zero_code, behind_statements, statements_code, in_function, around_body, function_code, functions_code, parameter_of, refs_of, AreRows}
-use Rattle.sharc_flat.specs.Suits.{StatementsSuit}
+use Rattle.sharc_flat.specs.{Scope.{Context, slot_of, ref_count, at_site, ends_from}, Flattened.{zero_code, behind_statements, statements_code, in_function, around_body, function_code, functions_code, parameter_of, refs_of, AreRows}, Suits.StatementsSuit}
 use Rattle.sharc_guard.specs.Level.{Slot, free, full, Fits, Slots, Level, Takes}
 use Rattle.sharc_guard_laws.specs.Laws.{FlattenedIsLevel}
-use Rattle.sharc_guard_laws.proofs.Expressing.{Entries, gives_reference}
-use Rattle.sharc_guard_laws.proofs.Located.{width, declared_reference}
-use Rattle.sharc_guard_laws.proofs.Flow.{Agrees, agrees_left, agrees_right, agrees_all}
-use Rattle.sharc_guard_laws.proofs.Pieces.{IsOwn, Levels, levels_both, pick, enters}
-use Rattle.sharc_guard_laws.proofs.Slots.{AreFit, fit_same, below, below_full}
-use Rattle.sharc_guard_laws.proofs.Stating.{IsAround, L, S, ends_at, then_at, entered, lift, longer, zeros, result_alone, all_statements}
+use Rattle.sharc_guard_laws.proofs.{Expressing.{Entries, gives_reference}, Located.{width, declared_reference}, Flow.{Agrees, agrees_left, agrees_right, agrees_all}, Pieces.{IsOwn, Levels, levels_both, pick, enters}, Slots.{AreFit, fit_same, below, below_full}, Stating.{IsAround, L, S, ends_at, then_at, entered, lift, longer, zeros, result_alone, all_statements}}
+use Rattle.sharc_lemmas.proofs.Options.{same_some, none_some}
 
 -- ---- lists
 get_left : (xs ys : List Op) (j : ℕ) → j < length xs → slice_get (xs ++ ys) j ≡ slice_get xs j
@@ -37,12 +25,6 @@ get_left (x ∷ xs) ys (suc j) lt = get_left xs ys j (omega (arith, lt))
 get_right : (xs ys : List Op) (j : ℕ) → slice_get (xs ++ ys) (length xs + j) ≡ slice_get ys j
 get_right [] ys j = let e : 0 + j ≡ j = omega arith in ap (slice_get ys) e
 get_right (x ∷ xs) ys j = let e : length (x ∷ xs) + j ≡ suc (length xs + j) = omega arith in ap (slice_get (x ∷ (xs ++ ys))) e ∙ get_right xs ys j
-
-same_some : {A : Type 0} (x y : A) → Some x ≡ Some y → x ≡ y
-same_some x y h = cc
-
-none_some : {A : Type 0} (x : A) → None ≡ Some x → ⊥
-none_some x h = cc
 
 inside_list : {A : Type 0} (all : List A) (n : ℕ) (a : A) → slice_get all n ≡ Some a → n < length all
 inside_list [] n a at = absurd (none_some a at)

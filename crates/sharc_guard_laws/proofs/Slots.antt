@@ -1,7 +1,5 @@
 -- What registers hold: the first ones of a frame anything, all after them NULL.
-use Rattle.std.proofs.Common.{◌≡◌, ⊎_elim, ℕ, ◌+◌, ◌<◌, ◌≤◌, true, false, cond, refl, ap, sym, ◌∙◌, subst, arith, eq-eqb, ne_eqb, nat_lt}
-use Rattle.std.proofs.lemmas.Bool.{cases_eq, cases_lt}
-use Rattle.std.proofs.lemmas.Bool.Decides.{nat_tests}
+use Rattle.std.proofs.{Common.{◌≡◌, ⊎_elim, ℕ, ◌+◌, ◌<◌, ◌≤◌, true, false, cond, refl, ap, sym, ◌∙◌, subst, arith, eq-eqb, ne_eqb, nat_lt}, lemmas.Bool.{cases_eq, cases_lt}, lemmas.Bool.Decides.nat_tests}
 use Rattle.sharc_guard.specs.Level.{Slot, free, full, Fits, Slots, with_slot, with_moved}
 
 pub fits_same : (x : Slot) → Fits x x
@@ -20,10 +18,6 @@ fits_through : (x y z : Slot) → Fits x y → Fits y z → Fits x z
 fits_through free y z a b = fits_free z
 fits_through full free z a b = absurd a
 fits_through full full z a b = b
-
-only_free : (x : Slot) → Fits x free → x ≡ free
-only_free free h = refl
-only_free full h = absurd h
 
 abbrev pub AreFit : Slots → Slots → Type 0
 AreFit s t = (k : ℕ) → Fits (s k) (t k)
@@ -48,14 +42,8 @@ below_free n k le = let e : nat_lt k n ≡ false = grind (arith, nat_tests, le) 
 abbrev pub NoneFrom : ℕ → Slots → Type 0
 NoneFrom n s = (k : ℕ) → n ≤ k → s k ≡ free
 
-pub none_below : (n : ℕ) → NoneFrom n (below n)
-none_below n k le = below_free n k le
-
 pub fit_below : (n : ℕ) (s : Slots) → NoneFrom n s → AreFit s (below n)
 fit_below n s h k = ⊎_elim (λ lt. subst (Fits (s k)) (sym (below_full n k lt)) (fits_full (s k))) (λ ge. subst (λ x. Fits x (below n k)) (sym (h k ge)) (fits_free (below n k))) (cases_lt k n)
-
-pub none_fit : (n : ℕ) (s t : Slots) → AreFit s t → NoneFrom n t → NoneFrom n s
-none_fit n s t a h k le = only_free (s k) (subst (Fits (s k)) (h k le) (a k))
 
 pub below_more : (n m : ℕ) → n ≤ m → AreFit (below n) (below m)
 below_more n m le = fit_below m (below n) (λ k ge. below_free n k (omega (arith, le, ge)))

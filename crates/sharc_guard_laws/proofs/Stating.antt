@@ -1,35 +1,14 @@
 -- The code of a statement: what variables hold is held before it and after it, and nothing else.
-use Rattle.std.proofs.Common.{◌≡◌, inl, inr, ⊎_elim, ℕ, ◌+◌, ◌<◌, ◌≤◌, Bool, true, false, List, [], ◌∷◌, ◌++◌, length, take, refl, ap, sym, ◌∙◌, subst, arith, length-append, append_assoc, Option, Some, None}
-use Rattle.std.proofs.lemmas.Bool.{false≢true, cases_eq}
-use Rattle.std.proofs.lemmas.List.{append-nil, take-append-le, take_all, take_at}
-use Rattle.sharc_tree.specs.declared.token.Site.{Site}
-use Rattle.sharc_tree.specs.declared.tree.declaration.Declaration.{Declaration}
-use Rattle.sharc_tree.specs.declared.tree.statement.Jump.{Jump}
-use Rattle.sharc_tree.specs.declared.tree.statement.Jump.TheVariants.{Break, Continue}
-use Rattle.sharc_tree.specs.Spans.{span_of}
-use Rattle.sharc_tree.specs.Tree.{Expression, Right, value, malloc, Simple, assign, does_call, Local, First, nothing, declares, does, Statement, empty, block, declare, simple, jump, return, if_then, if_then_else, while, for, Statements, no_statements, statement}
+use Rattle.std.proofs.{Common.{◌≡◌, inl, inr, ⊎_elim, ℕ, ◌+◌, ◌<◌, ◌≤◌, Bool, true, false, List, [], ◌∷◌, ◌++◌, length, take, refl, ap, sym, ◌∙◌, subst, arith, length-append, append_assoc, Option, Some, None}, lemmas.Bool.{false≢true, cases_eq}, lemmas.List.{append-nil, take-append-le, take_all, take_at}}
+use Rattle.sharc_tree.specs.{declared.token.Site.Site, declared.tree.declaration.Declaration.Declaration, declared.tree.statement.Jump.Jump, declared.tree.statement.Jump.TheVariants.{Break, Continue}, Spans.span_of, Tree.{Expression, Right, value, malloc, Simple, assign, does_call, Local, First, nothing, declares, does, Statement, empty, block, declare, simple, jump, return, if_then, if_then_else, while, for, Statements, no_statements, statement}}
 use Rattle.sharc_names.specs.Kinds.{Kind, declared_kind}
-use Rattle.sharc_mode.specs.Cells.{pointed}
-use Rattle.sharc_mode.specs.Moded.{Assignment}
-use Rattle.sharc_mode.specs.Rows.{written, row_at, declared_row}
-use Rattle.sharc_mode.specs.Sharings.{Sharing}
+use Rattle.sharc_mode.specs.{Cells.pointed, Moded.Assignment, Rows.{written, row_at, declared_row}, Sharings.Sharing}
 use Rattle.sharc_meaning.specs.State.{is_reference}
-use Rattle.sharc_flat_form.specs.declared.op.Op.{Op}
+use Rattle.sharc_flat_form.specs.{declared.op.Op.Op, Machine.Flat}
 use Rattle.sharc_flat_form.specs.declared.op.Op.TheVariants as op
-use Rattle.sharc_flat_form.specs.Machine.{Flat}
-use Rattle.sharc_flat.specs.declared.slot.Lvalue.{Lvalue}
-use Rattle.sharc_flat.specs.declared.slot.Slot.{Slot}
-use Rattle.sharc_flat.specs.Scope.{Context, slot_of, ref_count, at_site, ends_from, leaves}
-use Rattle.sharc_flat.specs.Places.{Target, variable, in_global, in_global_at, in_object, in_object_at, base_width, index_width, store_code, width_code}
-use Rattle.sharc_flat.specs.Flattened.{kind_of, is_ref, target_of, mode_of, guard_of, lvalue_in, expression_code, place_code, elements_code, right_code, simple_code, with_variable, ints_of, refs_of, zero_code, initial_code, local_code, first_code, behind_first, step_code, test_code, turn_code, Around, opened, looping, jump_code, result_code, return_code, body_at, turns_code, behind_statement, behind_statements, statement_code, statements_code}
-use Rattle.sharc_flat.specs.Suits.{Suits, Goes, CountSuits, RightSuits, LeftSuits, SimpleSuits, InitialSuits, FirstSuits, TestSuits, IfThere, StatementSuits, StatementsSuit, is_declaration, in_first, in_statement}
+use Rattle.sharc_flat.specs.{declared.slot.Lvalue.Lvalue, declared.slot.Slot.Slot, Scope.{Context, slot_of, ref_count, at_site, ends_from, leaves}, Places.{Target, variable, in_global, in_global_at, in_object, in_object_at, base_width, index_width, store_code, width_code}, Flattened.{kind_of, is_ref, target_of, mode_of, guard_of, lvalue_in, expression_code, place_code, elements_code, right_code, simple_code, with_variable, ints_of, refs_of, zero_code, initial_code, local_code, first_code, behind_first, step_code, test_code, turn_code, Around, opened, looping, jump_code, result_code, return_code, body_at, turns_code, behind_statement, behind_statements, statement_code, statements_code}, Suits.{Suits, Goes, CountSuits, RightSuits, LeftSuits, SimpleSuits, InitialSuits, FirstSuits, TestSuits, IfThere, StatementSuits, StatementsSuit, is_declaration, in_first, in_statement}}
 use Rattle.sharc_guard.specs.Level.{free, full, Fits, Slots, with_slot, with_moved, result_slot, Enters, Leaves, Level}
-use Rattle.sharc_guard_laws.proofs.Expressing.{Entries, gives_reference, expressions, places}
-use Rattle.sharc_guard_laws.proofs.Leaving.{kept, leaves_to, ends}
-use Rattle.sharc_guard_laws.proofs.Located.{width, one_more, declared_reference}
-use Rattle.sharc_guard_laws.proofs.Parts.{plain_integer, B, then_do, pre, post, none, does as does_one, keeps, enter, null_at, widths_kept, truths, drops, cells_stored, variable_stored}
-use Rattle.sharc_guard_laws.proofs.Pieces.{Piece, known, moved, joins, line, turned, sides, Inner, always, decided, looped}
-use Rattle.sharc_guard_laws.proofs.Slots.{AreFit, fits_full, fits_free, fit_same, below, below_full, below_free, fit_below, none_cleared, with_same, with_other, pushed}
+use Rattle.sharc_guard_laws.proofs.{Expressing.{Entries, gives_reference, expressions, places}, Leaving.{kept, leaves_to, ends}, Located.{width, one_more, declared_reference}, Parts.{plain_integer, B, then_do, pre, post, none, does as does_one, keeps, enter, null_at, widths_kept, truths, drops, cells_stored, variable_stored}, Pieces.{Piece, known, moved, joins, line, turned, sides, Inner, always, decided, looped}, Slots.{AreFit, fits_full, fits_free, fit_same, below, below_full, below_free, fit_below, none_cleared, with_same, with_other, pushed}}
 
 -- ---- scopes
 
@@ -374,9 +353,6 @@ module _ (flat : Flat) (owner : ℕ → ℕ) (f : ℕ) (m : Assignment) where
       (return_at D r (pc + length X + length Y + length Z + length R) to site h.result))))
 
   -- ---- loops
-  turn_length : (c : Context) (e : Option Expression) (over : ℕ) → length (turn_code c e over) ≡ length (turn_code c e 0)
-  turn_length c None over = refl
-  turn_length c (Some e) over = length-append (test_code c e) (op.SkipIfZero (ints_of c) over ∷ []) ∙ sym (length-append (test_code c e) (op.SkipIfZero (ints_of c) 0 ∷ []))
 
   test_length : (c : Context) (e : Expression) (over : ℕ) → length (turn_code c (Some e) over) ≡ length (test_code c e) + 1
   test_length c e over = length-append (test_code c e) (op.SkipIfZero (ints_of c) over ∷ [])

@@ -1,23 +1,15 @@
 -- What is known of integer registers holds on all paths, so the mutexes of accesses are named.
 use Rattle.std.specs.Prelude.{ℤ, pos, negsuc, Result, Ok, Err, slice_get}
-use Rattle.std.proofs.Common.{◌≡◌, ◌⊎◌, inl, inr, ⊎_elim, ℕ, zero, suc, ◌+◌, ◌-◌, ◌*◌, ◌<◌, ◌≤◌, Bool, true, false, not, cond, List, [], ◌∷◌, length, refl, ap, sym, ◌∙◌, subst, arith, eq-eqb, ne_eqb, Option, Some, None, nat_lt}
-use Rattle.std.proofs.lemmas.Bool.{false≢true}
-use Rattle.sharc_tree.specs.declared.event.Act.{Act}
-use Rattle.sharc_tree.specs.declared.token.Site.{Site}
-use Rattle.sharc_tree.specs.declared.trap.Trap.{Trap}
+use Rattle.std.proofs.{Common.{◌≡◌, ◌⊎◌, inl, inr, ⊎_elim, ℕ, zero, suc, ◌+◌, ◌-◌, ◌*◌, ◌<◌, ◌≤◌, Bool, true, false, not, cond, List, [], ◌∷◌, length, refl, ap, sym, ◌∙◌, subst, arith, eq-eqb, ne_eqb, Option, Some, None, nat_lt}, lemmas.Bool.false≢true}
+use Rattle.sharc_tree.specs.{declared.event.Act.Act, declared.token.Site.Site, declared.trap.Trap.Trap}
 use Rattle.sharc_tree.specs.declared.trap.Trap.TheVariants as traps
 use Rattle.sharc_code.specs.declared.code.Parameter.{Parameter}
 use Rattle.sharc_code.specs.declared.code.Parameter.TheVariants as parameters
 use Rattle.sharc_code.specs.declared.instr.Cell.TheVariants as cells
 use Rattle.sharc_code.specs.declared.instr.Register.TheVariants as registers
-use Rattle.sharc_meaning.specs.Reference.{is_null, elements_of}
-use Rattle.sharc_meaning.specs.Arithmetic.{is_zero}
-use Rattle.sharc_meaning.specs.Events.{held_mutexes}
-use Rattle.sharc_flat_form.specs.declared.op.Op.{Op}
+use Rattle.sharc_meaning.specs.{Reference.{is_null, elements_of}, Arithmetic.is_zero, Events.held_mutexes}
+use Rattle.sharc_flat_form.specs.{declared.op.Op.Op, declared.op.Spot.Spot, Machine.{Flat, At, Caller, Turn, goes, asks, stops, over_lines, first_at, put, int, ref, set_int, next, asserts, with_result, lock_is_null, indexed, takes_local, moved, function_of, called, returned, begun, start, end_turn, op_turn, line_turn}, Path.{after, may_go, at_after, IsPath}}
 use Rattle.sharc_flat_form.specs.declared.op.Op.TheVariants as op
-use Rattle.sharc_flat_form.specs.declared.op.Spot.{Spot}
-use Rattle.sharc_flat_form.specs.Machine.{Flat, At, Caller, Turn, goes, asks, stops, over_lines, first_at, put, int, ref, set_int, next, asserts, with_result, lock_is_null, indexed, takes_local, moved, function_of, called, returned, begun, start, end_turn, op_turn, line_turn}
-use Rattle.sharc_flat_form.specs.Path.{after, may_go, at_after, IsPath}
 use Rattle.sharc_guard.specs.Counted.{LocksStand}
 use Rattle.sharc_guard_laws.proofs.Ties.{Tie, copied, scaled, beside, register_in, Holds, Ties, In, Fit, Apart, Kept, Copied, IsFirst, IsSecond, Bounded, Called, AllHold, Next, Needs}
 

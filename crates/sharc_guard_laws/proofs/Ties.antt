@@ -1,9 +1,8 @@
 -- Integer registers that name two cells of one element: the one that is accessed, and that of the mutex beside it.
 use Rattle.std.specs.Prelude.{ℤ, pos}
 use Rattle.std.proofs.Common.{◌≡◌, ◌⊎◌, inl, ℕ, ◌+◌, ◌*◌, ◌<◌, List, [], ◌∷◌, refl}
-use Rattle.sharc_flat_form.specs.declared.op.Op.{Op}
+use Rattle.sharc_flat_form.specs.{declared.op.Op.Op, Machine.{Flat, At, function_of}}
 use Rattle.sharc_flat_form.specs.declared.op.Op.TheVariants as op
-use Rattle.sharc_flat_form.specs.Machine.{Flat, At, function_of}
 use Rattle.sharc_guard.specs.Counted.{LockStands}
 
 -- what is known of a register and the one after it: they hold the same; the first the place of a field of an element, the next the element's number; or both the places

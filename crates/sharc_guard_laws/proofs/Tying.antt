@@ -1,44 +1,16 @@
 -- The parts of flattened code: which integer registers name two cells of one element at each of their lines.
-use Rattle.std.proofs.Common.{◌≡◌, inl, inr, ⊎_elim, ℕ, ◌+◌, ◌-◌, ◌<◌, ◌≤◌, Bool, true, false, cond, List, [], ◌∷◌, ◌++◌, length, drop, refl, ap, sym, ◌∙◌, subst, arith, length-append, append_assoc, Option, Some, None, codes, bytes_eq}
-use Rattle.std.proofs.lemmas.Bool.{false≢true}
-use Rattle.sharc_tree.specs.declared.token.Site.{Site}
-use Rattle.sharc_tree.specs.declared.token.Span.{Span}
-use Rattle.sharc_tree.specs.declared.tree.declaration.Identifier.{Identifier}
-use Rattle.sharc_tree.specs.declared.tree.expression.Access.{Access}
-use Rattle.sharc_tree.specs.declared.tree.expression.Access.TheVariants.{Dot, Arrow}
-use Rattle.sharc_tree.specs.declared.tree.expression.BinaryOperator.{BinaryOperator}
-use Rattle.sharc_tree.specs.declared.tree.expression.BinaryOperator.TheVariants.{LogicalOr, LogicalAnd, BitOr, BitXor, BitAnd, Equal, NotEqual, Less, Greater, LessOrEqual, GreaterOrEqual, ShiftLeft, ShiftRight, Add, Subtract, Multiply, Divide, Remainder}
-use Rattle.sharc_tree.specs.declared.tree.expression.PlaceCall.{PlaceCall}
-use Rattle.sharc_tree.specs.declared.tree.expression.PlaceCall.TheVariants.{Lock, Unlock, Free}
-use Rattle.sharc_tree.specs.declared.tree.expression.UnaryOperator.TheVariants.{Negate, Not, Complement, Dereference}
-use Rattle.sharc_tree.specs.declared.tree.expression.ValueCall.{ValueCall}
-use Rattle.sharc_tree.specs.declared.tree.expression.ValueCall.TheVariants.{Join, Print}
-use Rattle.sharc_tree.specs.Spans.{span_of}
-use Rattle.sharc_tree.specs.Tree.{Expression, identifier, constant, parentheses, call, spawn, on_value, on_place, cast, index, field, unary, binary, Arguments, no_arguments, argument}
-use Rattle.sharc_names.specs.declared.fault.Named.{Named}
+use Rattle.std.proofs.{Common.{◌≡◌, inl, inr, ⊎_elim, ℕ, ◌+◌, ◌-◌, ◌<◌, ◌≤◌, Bool, true, false, cond, List, [], ◌∷◌, ◌++◌, length, drop, refl, ap, sym, ◌∙◌, subst, arith, length-append, append_assoc, Option, Some, None, codes, bytes_eq}, lemmas.Bool.false≢true}
+use Rattle.sharc_tree.specs.{declared.token.Site.Site, declared.token.Span.Span, declared.tree.declaration.Identifier.Identifier, declared.tree.expression.Access.Access, declared.tree.expression.Access.TheVariants.{Dot, Arrow}, declared.tree.expression.BinaryOperator.BinaryOperator, declared.tree.expression.BinaryOperator.TheVariants.{LogicalOr, LogicalAnd, BitOr, BitXor, BitAnd, Equal, NotEqual, Less, Greater, LessOrEqual, GreaterOrEqual, ShiftLeft, ShiftRight, Add, Subtract, Multiply, Divide, Remainder}, declared.tree.expression.PlaceCall.PlaceCall, declared.tree.expression.PlaceCall.TheVariants.{Lock, Unlock, Free}, declared.tree.expression.UnaryOperator.TheVariants.{Negate, Not, Complement, Dereference}, declared.tree.expression.ValueCall.ValueCall, declared.tree.expression.ValueCall.TheVariants.{Join, Print}, Spans.span_of, Tree.{Expression, identifier, constant, parentheses, call, spawn, on_value, on_place, cast, index, field, unary, binary, Arguments, no_arguments, argument}}
+use Rattle.sharc_names.specs.{declared.fault.Named.Named, Kinds.{Kind, is_array, is_integer, element_kind, declared_kinds}}
 use Rattle.sharc_names.specs.declared.fault.Named.TheVariants as named
-use Rattle.sharc_names.specs.Kinds.{Kind, is_array, is_integer, element_kind, declared_kinds}
-use Rattle.sharc_code.specs.declared.code.GlobalCells.{GlobalCells}
-use Rattle.sharc_code.specs.declared.code.Use.{Use}
+use Rattle.sharc_code.specs.{declared.code.GlobalCells.GlobalCells, declared.code.Use.Use, declared.instr.Register.Register, declared.instr.Register.TheVariants.{Int, Reference}, Arithmetic.word_of}
 use Rattle.sharc_code.specs.declared.code.Use.TheVariants as uses
-use Rattle.sharc_code.specs.declared.instr.Register.{Register}
-use Rattle.sharc_code.specs.declared.instr.Register.TheVariants.{Int, Reference}
-use Rattle.sharc_code.specs.Arithmetic.{word_of}
-use Rattle.sharc_ctype.specs.Resolved.{named_at, kind_at, global_at}
-use Rattle.sharc_ctype.specs.Transfers.{parameters_named}
-use Rattle.sharc_mode.specs.Cells.{is_behind_pointer}
-use Rattle.sharc_mode.specs.Sharings.{Lock as LockPath, Sharing, private, readonly, locked, racy, dynamic}
-use Rattle.sharc_meaning.specs.Cells.{cell_of as cell_in, element_cells, field_place, field_place_named, global_elements}
-use Rattle.sharc_meaning.specs.Expressions.{number_named}
-use Rattle.sharc_flat_form.specs.declared.op.Op.{Op}
+use Rattle.sharc_ctype.specs.{Resolved.{named_at, kind_at, global_at}, Transfers.parameters_named}
+use Rattle.sharc_mode.specs.{Cells.is_behind_pointer, Sharings.{Lock as LockPath, Sharing, private, readonly, locked, racy, dynamic}}
+use Rattle.sharc_meaning.specs.{Cells.{cell_of as cell_in, element_cells, field_place, field_place_named, global_elements}, Expressions.number_named}
+use Rattle.sharc_flat_form.specs.{declared.op.Op.Op, declared.op.Spot.Spot, Machine.{Flat, At, function_of, first_cell, cell_at}}
 use Rattle.sharc_flat_form.specs.declared.op.Op.TheVariants as op
-use Rattle.sharc_flat_form.specs.declared.op.Spot.{Spot}
-use Rattle.sharc_flat_form.specs.Machine.{Flat, At, function_of, first_cell, cell_at}
-use Rattle.sharc_flat.specs.declared.slot.Lvalue.{Lvalue}
-use Rattle.sharc_flat.specs.Scope.{Context, register_of, at_site}
-use Rattle.sharc_flat.specs.Places.{Target, variable, in_global, in_global_at, in_object, in_object_at, named_target, target, own_field, global_of, has_base, base_width, index_width, cell_of, guard_cell, field_of, guard_field, beside_named, beside_field, mode_beside, mode_named, place_mode, lock_beside, spot_of, bounds_code, index_code, pointee_code, guard_code, drop_base, settle_base, copy_code, cell_value_code, value_code, settle_code, cell_store_code, store_code, cell_take_code, take_code, width_code}
-use Rattle.sharc_flat.specs.Flattened.{is_ref, target_of, mode_of, what_names, lvalue_in, named_code, truth_code, differ_code, compare_code, logical_code, either_code, binary_code, behind_int, behind_ref, wait_code, condition_code, with_words, argument_words, called_code, passed_code, spawn_code, value_call_code, unlocked_code, place_call_code, cast_code, guard_of, taken_guard, field_code, expression_code, arguments_code, place_code}
-use Rattle.sharc_flat.specs.Suits.{is_cell}
+use Rattle.sharc_flat.specs.{declared.slot.Lvalue.Lvalue, Scope.{Context, register_of, at_site}, Places.{Target, variable, in_global, in_global_at, in_object, in_object_at, named_target, target, own_field, global_of, has_base, base_width, index_width, cell_of, guard_cell, field_of, guard_field, beside_named, beside_field, mode_beside, mode_named, place_mode, lock_beside, spot_of, bounds_code, index_code, pointee_code, guard_code, drop_base, settle_base, copy_code, cell_value_code, value_code, settle_code, cell_store_code, store_code, cell_take_code, take_code, width_code}, Flattened.{is_ref, target_of, mode_of, what_names, lvalue_in, named_code, truth_code, differ_code, compare_code, logical_code, either_code, binary_code, behind_int, behind_ref, wait_code, condition_code, with_words, argument_words, called_code, passed_code, spawn_code, value_call_code, unlocked_code, place_call_code, cast_code, guard_of, taken_guard, field_code, expression_code, arguments_code, place_code}, Suits.is_cell}
 use Rattle.sharc_guard.specs.Counted.{IsBeside, LockStands}
 use Rattle.sharc_guard_laws.proofs.Flow as flow
 use Rattle.sharc_guard_laws.proofs.Ties.{Tie, copied, scaled, beside, register_in, Ties, In, Fit, fit_same, fit_through, Apart, Kept, Bounded, AllHold, Next, Needs}
@@ -90,8 +62,6 @@ module _ (flat : Flat) where
   G = flat.globals
 
   -- ---- the mutex of an access
-  same_field : (a n mutex : ℕ) → a + mutex ≡ a + n - n + mutex
-  same_field a n mutex = omega arith
 
   lock_cells : (m : At) (i r mutex : ℕ) (t : Target) → is_cell t ≡ true → AllHold flat (place_ties G t (Some mutex) i) m
       → cell_at G m (guard_cell G mutex i r t) ≡ record { object = (cell_at G m (cell_of G i r t)).object; cell = (cell_at G m (cell_of G i r t)).cell - field_of t + mutex }

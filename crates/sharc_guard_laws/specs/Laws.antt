@@ -1,20 +1,11 @@
 -- What the laws of guarded code ask of flat code holds of flattened code.
 use Rattle.std.specs.Prelude.{ℕ, Bool}
-use Rattle.sharc_tree.specs.Low.{IsLow}
-use Rattle.sharc_tree.specs.Placed.{IsPlaced}
+use Rattle.sharc_tree.specs.{Low.IsLow, Placed.IsPlaced}
 use Rattle.sharc_ctype.specs.Resolved.{IsResolved}
-use Rattle.sharc_mode.specs.Flows.{IsLeastAssignment}
-use Rattle.sharc_mode.specs.Moded.{Assignment}
-use Rattle.sharc_mode.specs.WellModed.{WellModed}
-use Rattle.sharc_flat_form.specs.declared.flat.Flat.{Flat as FlatCode}
-use Rattle.sharc_flat_form.specs.Machine.{Flat}
-use Rattle.sharc_flat_form.specs.Made.{flat_of}
-use Rattle.sharc_flat.specs.Correct.{ProgramSuits}
-use Rattle.sharc_flat.specs.Flattened.{IsFlattened}
-use Rattle.sharc_flat.specs.Flattens.{Flattens}
-use Rattle.sharc_guard.specs.Counted.{LocksStand, Guards}
-use Rattle.sharc_guard.specs.Guard.{guarded}
-use Rattle.sharc_guard.specs.Level.{IsLevel}
+use Rattle.sharc_mode.specs.{Flows.IsLeastAssignment, Moded.Assignment, WellModed.WellModed}
+use Rattle.sharc_flat_form.specs.{declared.flat.Flat.{Flat as FlatCode}, Machine.Flat, Made.flat_of}
+use Rattle.sharc_flat.specs.{Correct.ProgramSuits, Flattened.IsFlattened, Flattens.Flattens}
+use Rattle.sharc_guard.specs.{Counted.{LocksStand, Guards}, Guard.guarded, Level.IsLevel}
 
 -- it overwrites no reference
 abbrev pub FlattenedIsLevel : Type 0

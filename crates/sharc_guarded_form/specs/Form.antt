@@ -1,15 +1,13 @@
 -- Which guarded code is well formed: its statements lead to places of the same function, and write registers of its frame.
 use Rattle.std.specs.Prelude.{ℕ, ◌+◌, ◌*◌, ◌^◌, ◌≡◌, ◌<◌, ◌≤◌, length, slice_get, Some}
-use Rattle.sharc_code.specs.declared.code.Function.{Function}
-use Rattle.sharc_code.specs.declared.code.Parameter.{Parameter}
-use Rattle.sharc_code.specs.declared.code.Parameter.TheVariants as parameters
+use Rattle.sharc_code.specs.{declared.code.Function.Function, declared.code.Parameter.Parameter}
 use Rattle.sharc_code.specs.declared.instr.Cell.{Cell}
 use Rattle.sharc_code.specs.declared.instr.Cell.TheVariants.{Global, GlobalAt, Object as InObject, ObjectAt}
-use Rattle.sharc_code.specs.declared.instr.Register.{Register}
-use Rattle.sharc_code.specs.declared.instr.Register.TheVariants as registers
-use Rattle.sharc_code.specs.declared.instr.Instr.{Instr}
+use Rattle.sharc_code.specs.{declared.instr.Register.Register, declared.instr.Instr.Instr}
 use Rattle.sharc_code.specs.declared.instr.Instr.TheVariants.{Constant, Move, MoveReference, Null, ComputeInt, ComputeLong, NegateInt, NegateLong, Complement, Not, SameReference, Jump, JumpIfZero, JumpIfNull, Call, Return, Bounds, GlobalBounds, Load, Exchange, Raise, RaiseLoaded, Lower, New, TakeCell, TakeLocal, Free, Lock, Unlock, Spawn, Start, Exit}
 use Rattle.sharc_code.specs.Ranges.{FramesFit, IsInGlobal}
+use Rattle.sharc_code.specs.declared.code.Parameter.TheVariants as parameters
+use Rattle.sharc_code.specs.declared.instr.Register.TheVariants as registers
 use Rattle.sharc_guarded_form.specs.Machine.{Program, function_at}
 
 -- ---- registers that are written

@@ -1,9 +1,8 @@
 -- The turns of a thread of guarded code, given what it is answered.
 use Rattle.std.specs.Prelude.{ℕ, ℤ, pos, ◌+◌, ◌≡◌, Bool, true, false, List, [], ◌∷◌}
-use Rattle.sharc_code.specs.declared.code.Parameter.{Parameter}
-use Rattle.sharc_code.specs.declared.code.Parameter.TheVariants as parameters
-use Rattle.sharc_code.specs.declared.instr.Instr.{Instr}
+use Rattle.sharc_code.specs.{declared.code.Parameter.Parameter, declared.instr.Instr.Instr}
 use Rattle.sharc_code.specs.declared.instr.Instr.TheVariants.{Free, New, Spawn, CondSignal}
+use Rattle.sharc_code.specs.declared.code.Parameter.TheVariants as parameters
 use Rattle.sharc_meaning.specs.Reference.{NULL}
 use Rattle.sharc_guarded_form.specs.Machine.{Program, Thread, Turn, Goes, Asks, Checks, Halts, Running, set_int, set_ref, function_at, statement_at, turn}
 

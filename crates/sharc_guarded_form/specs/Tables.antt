@@ -1,7 +1,6 @@
 -- Tables of guarded code whose numbers are in the ranges that the machine asks for.
 use Rattle.std.specs.Prelude.{ℕ, ◌≡◌, ◌<◌, ◌^◌, length, slice_get, slice_index, Some}
-use Rattle.sharc_code.specs.declared.instr.Instr.TheVariants.{Spawn}
-use Rattle.sharc_code.specs.declared.instr.Register.{Register}
+use Rattle.sharc_code.specs.{declared.instr.Instr.TheVariants.Spawn, declared.instr.Register.Register}
 use Rattle.sharc_code.specs.Ranges.{GlobalsFit}
 use Rattle.sharc_guarded_form.specs.declared.guarded.Guarded.{Guarded}
 

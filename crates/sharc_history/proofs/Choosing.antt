@@ -1,20 +1,14 @@
 -- The thread whose turn is next.
 use Rattle.std.proofs.Common.{◌≡◌, ℕ, zero, suc, ◌<◌, true, List, [], ◌∷◌, length, get_or, refl, ap, sym, subst, ◌∙◌, arith}
-use Rattle.sharc_code.specs.declared.code.Code.{Code}
-use Rattle.sharc_code.specs.declared.shape.Shape.{Shape}
+use Rattle.sharc_code.specs.{declared.code.Code.Code, declared.shape.Shape.Shape}
 use Rattle.sharc_schedule.specs.Schedule.{stored, Stored}
-use Rattle.sharc_seq.specs.Laws.{EnabledLaws}
-use Rattle.sharc_seq.specs.Run.{enabled, IsChosen}
+use Rattle.sharc_seq.specs.{Laws.EnabledLaws, Run.{enabled, IsChosen}}
 use Rattle.sharc_threads.specs.Ends.{Standing, is_enabled}
 
 any_default : (xs : List ℕ) (i d e : ℕ) → i < length xs → get_or xs i d ≡ get_or xs i e
 any_default [] i d e h = absurd (omega (arith, h))
 any_default (x ∷ xs) zero d e h = refl
 any_default (x ∷ xs) (suc i) d e h = any_default xs i d e (omega (arith, h))
-
-pub nothing : (xs : List ℕ) → length xs ≡ 0 → xs ≡ []
-nothing [] e = refl
-nothing (x ∷ xs) e = absurd (omega (arith, e))
 
 pub record Chose (places : List (ℕ × ℕ)) (code : Code) (s : Shape) (limit : ℕ) (g : Standing) (count t : ℕ) : Type 0 where
   pub chosen : IsChosen (Stored places) count (enabled code s limit g) t

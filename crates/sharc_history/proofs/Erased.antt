@@ -1,17 +1,8 @@
 -- Runs with the same word operations tell the same: between two word operations each thread goes on by itself.
 use Rattle.std.proofs.Common.{◌≡◌, ℕ, zero, suc, Bool, true, false, nat_eq, List, [], ◌∷◌, ◌++◌, append-nil, map, Option, Some, None, if◌then◌else◌, refl, sym, ap, ◌∙◌, subst, eqb-true}
 use Rattle.sharc_tree.specs.declared.event.SourceEvent.{SourceEvent}
-use Rattle.sharc_word.specs.declared.step.WordEvent.{WordEvent}
-use Rattle.sharc_word.specs.declared.step.WordStep.{WordStep}
-use Rattle.sharc_code.specs.declared.code.Code.{Code}
-use Rattle.sharc_code.specs.declared.shape.Shape.{Shape}
-use Rattle.sharc_code.specs.Laws.{RunLaws}
-use Rattle.sharc_code.specs.Machine.{Machine, instr_at}
-use Rattle.sharc_code.specs.Opening.{opening_words}
-use Rattle.sharc_code.specs.Path.{after, asked_by, begun, turn}
-use Rattle.sharc_code.specs.Runs.{Said, OneThread, Turn, Global, MayTurn, IsOf, IsRun, event_list, opening_of, result_of, state_now, step_of, with_told, word_events}
-use Rattle.sharc_code.specs.Says.{elements_in, says, speaks_of}
-use Rattle.sharc_code.specs.Whole.{Erase, bounds, one_thread, place_after}
+use Rattle.sharc_word.specs.{declared.step.WordEvent.WordEvent, declared.step.WordStep.WordStep}
+use Rattle.sharc_code.specs.{declared.code.Code.Code, declared.shape.Shape.Shape, Laws.RunLaws, Machine.{Machine, instr_at}, Opening.opening_words, Path.{after, asked_by, begun, turn}, Runs.{Said, OneThread, Turn, Global, MayTurn, IsOf, IsRun, event_list, opening_of, result_of, state_now, step_of, with_told, word_events}, Says.{elements_in, says, speaks_of}, Whole.{Erase, bounds, one_thread, place_after}}
 use Rattle.sharc_history.specs.Laws.{OneHistory}
 use Rattle.sharc_history.proofs.Silent.{local_silent}
 

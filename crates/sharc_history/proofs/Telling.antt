@@ -1,24 +1,12 @@
 -- A run that has one turn more has one event more, if the turn is one.
-use Rattle.std.proofs.Common.{◌≡◌, ℕ, zero, suc, ◌%◌, ◌^◌, List, [], ◌∷◌, ◌++◌, map, Option, Some, None, refl, ap, sym, ◌∙◌}
-use Rattle.std.specs.Prelude.{reverse, IfSome}
-use Rattle.std.specs.Option.{option_map}
-use Rattle.std.proofs.lemmas.List.{reverse-append}
-use Rattle.std.proofs.Math.Nat.{add-mul-mod_self_left}
-use Rattle.sharc_tree.specs.declared.event.Act.{Act}
+use Rattle.std.proofs.{Common.{◌≡◌, ℕ, ◌%◌, ◌^◌, List, [], ◌∷◌, ◌++◌, map, Option, Some, None, refl, ap, sym, ◌∙◌}, lemmas.List.reverse-append}
+use Rattle.std.specs.{Prelude.{reverse, IfSome}, Option.option_map}
+use Rattle.sharc_tree.specs.{declared.event.Act.Act, declared.event.SourceEvent.SourceEvent}
 use Rattle.sharc_tree.specs.declared.event.Act.TheVariants as acts
-use Rattle.sharc_tree.specs.declared.event.SourceEvent.{SourceEvent}
-use Rattle.sharc_code.specs.declared.code.Code.{Code}
-use Rattle.sharc_code.specs.declared.shape.Shape.{Shape}
-use Rattle.sharc_code.specs.Machine.{instr_at}
-use Rattle.sharc_code.specs.Runs.{Said, Turn, result_of, told_by, with_told}
-use Rattle.sharc_code.specs.Says.{says, speaks_of, reference, number_of, elements_in, elements_after}
-use Rattle.sharc_code.specs.Whole.{one_thread, Erase, place_after}
-use Rattle.sharc_said.specs.declared.cells.Origin.{Origin}
-use Rattle.sharc_said.specs.declared.event.Event.{Event}
-use Rattle.sharc_said.specs.declared.next.Coming.{Coming}
-use Rattle.sharc_said.specs.Told.{Told, shown, bare, told, told_of_event, bare_of, comes, spoken}
-use Rattle.sharc_history.specs.History.{elements_behind, told_events, with_origin}
-use Rattle.sharc_history.specs.Going.{AwaitsAt, with_event, elements_by}
+use Rattle.sharc_code.specs.{declared.code.Code.Code, declared.shape.Shape.Shape, Machine.instr_at, Runs.{Said, Turn, result_of, told_by, with_told}, Says.{says, speaks_of, reference, elements_in, elements_after}, Whole.{one_thread, Erase, place_after}}
+use Rattle.sharc_said.specs.{declared.cells.Origin.Origin, declared.event.Event.Event, declared.next.Coming.Coming, Told.{Told, shown, bare, told, told_of_event, bare_of, comes, spoken}}
+use Rattle.sharc_history.specs.{History.{elements_behind, told_events, with_origin}, Going.{AwaitsAt, with_event, elements_by}}
+use Rattle.sharc_lemmas.proofs.Lists.{map_both}
 
 -- ---- the turn
 what_comes_at : (code : Code) (s : Shape) (turns : List Turn) → ℕ → ℕ → Option Told
@@ -45,10 +33,6 @@ with_source (Some e) events = e ∷ events
 pub told_grown : (t : ℕ) (o : Option SourceEvent) (earlier : List (Said SourceEvent)) → map (λ (x : Said SourceEvent). x.told) (with_told t o earlier) ≡ with_source o (map (λ (x : Said SourceEvent). x.told) earlier)
 told_grown t None earlier = refl
 told_grown t (Some e) earlier = refl
-
-map_both : {A B : Type 0} (f : A → B) (a b : List A) → map f (a ++ b) ≡ map f a ++ map f b
-map_both f [] b = refl
-map_both f (x ∷ a) b = ap (λ z. f x ∷ z) (map_both f a b)
 
 pub events_more : (code : Code) (sources : List SourceEvent) (events : List Event) (e : Option Event) (x : Option SourceEvent) → option_map (told code) e ≡ bare_of x
     → map (told code) events ≡ map told_of_event (reverse sources) → map (told code) (with_event e events) ≡ map told_of_event (reverse (with_source x sources))
@@ -94,11 +78,6 @@ elements_more code sources (Some e) (Some x) number held same h =
     ap (elements_behind (shown e.deed) number) h
     ∙ ap (λ (k : Told). elements_behind k.bare number (elements_in sources number)) one
     ∙ behind_is x x.act number (elements_in sources number)
-
--- the number of an object in its reference has 32 bits
-pub numbered_by : (number elements : ℕ) → number_of (reference number elements) ≡ number % 2 ^ 32
-numbered_by zero elements = refl
-numbered_by (suc number) elements = add-mul-mod_self_left (suc number) (2 ^ 32) elements
 
 -- ---- where in the source they are
 pub origins_more : (code : Code) (origins : List Origin) (events : List Event) (e : Option Event) (x : Option SourceEvent) (at here : Origin) → option_map (told code) e ≡ bare_of x

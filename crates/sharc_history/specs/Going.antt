@@ -1,19 +1,12 @@
 -- What a run by a schedule keeps between two turns.
 use Rattle.std.specs.Prelude.{ℕ, ◌≡◌, false, List, [], ◌∷◌, ◌++◌, map, reverse, length, Option, Some, None, IfSome}
 use Rattle.std.specs.Option.{option_map}
-use Rattle.sharc_code.specs.declared.code.Code.{Code}
-use Rattle.sharc_code.specs.declared.shape.Shape.{Shape}
-use Rattle.sharc_code.specs.Machine.{instr_at}
-use Rattle.sharc_code.specs.Runs.{Turn}
-use Rattle.sharc_code.specs.Says.{elements_in}
-use Rattle.sharc_code.specs.Whole.{place_after}
+use Rattle.sharc_code.specs.{declared.code.Code.Code, declared.shape.Shape.Shape, Machine.instr_at, Runs.Turn}
+use Rattle.sharc_code.specs.{Says.elements_in, Whole.place_after}
 use Rattle.sharc_schedule.specs.Schedule.{Stored}
-use Rattle.sharc_seq.specs.Run.{AreChosen}
-use Rattle.sharc_seq.specs.Walk.{StandsAt}
+use Rattle.sharc_seq.specs.{Run.AreChosen, Walk.StandsAt}
 use Rattle.sharc_threads.specs.Ends.{is_enabled}
-use Rattle.sharc_said.specs.declared.next.Coming.{Coming}
-use Rattle.sharc_said.specs.declared.event.Event.{Event}
-use Rattle.sharc_said.specs.Origins.{origin_at}
+use Rattle.sharc_said.specs.{declared.next.Coming.Coming, declared.event.Event.Event, Origins.origin_at}
 use Rattle.sharc_said.specs.Told.{shown, told, told_of_event, comes, spoken, IsComing}
 use Rattle.sharc_history.specs.declared.going.Going.{Going}
 use Rattle.sharc_history.specs.History.{elements_of, elements_behind, told_events, origins_of}

@@ -1,22 +1,15 @@
 -- The source events of a run by a schedule.
 use Rattle.std.specs.Prelude.{ℕ, ◌≡◌, ◌==◌, false, List, [], ◌∷◌, map, reverse, nat_eq, Option, Some, None, if◌then◌else◌}
-use Rattle.std.specs.HashMap.{get, HashMap}
-use Rattle.std.specs.Option.{unwrap_or}
+use Rattle.std.specs.{HashMap.{get, HashMap}, Option.unwrap_or}
 use Rattle.sharc_tree.specs.declared.event.SourceEvent.{SourceEvent}
-use Rattle.sharc_code.specs.declared.code.Code.{Code}
-use Rattle.sharc_code.specs.declared.shape.Shape.{Shape}
-use Rattle.sharc_code.specs.Runs.{Turn, told_by}
-use Rattle.sharc_code.specs.Says.{number_of}
+use Rattle.sharc_code.specs.{declared.code.Code.Code, declared.shape.Shape.Shape, Runs.{Turn, told_by}, Says.number_of}
 use Rattle.sharc_code.specs.Whole.{CheckedRun, Erase, one_thread, place_after}
 use Rattle.sharc_schedule.specs.Schedule.{Stored}
 use Rattle.sharc_seq.specs.Run.{AreChosen}
 use Rattle.sharc_threads.specs.Ends.{is_enabled}
-use Rattle.sharc_said.specs.declared.cells.Origin.{Origin}
-use Rattle.sharc_said.specs.declared.event.Event.{Event}
-use Rattle.sharc_said.specs.Origins.{origin_at}
+use Rattle.sharc_said.specs.{declared.cells.Origin.Origin, declared.event.Event.Event, Origins.origin_at}
 use Rattle.sharc_said.specs.Told.{Bare, New, told, told_of_event}
-use Rattle.sharc_history.specs.declared.history.History.{History}
-use Rattle.sharc_history.specs.Lasts.{AreLasts}
+use Rattle.sharc_history.specs.{declared.history.History.History, Lasts.AreLasts}
 
 -- ---- the elements of objects
 abbrev pub elements_of : {S : Type 0} → HashMap ℕ ℕ S → ℕ → ℕ

@@ -1,21 +1,13 @@
 -- The threads that wait or were stopped at the end of a run.
 use Rattle.std.specs.Prelude.{ℕ, ◌≡◌, ◌&&◌, ◌||◌, Bool, true, List, All, map, filter, is_some, Some, None}
-use Rattle.std.specs.List.{range_with_len}
-use Rattle.std.specs.Option.{option_map}
+use Rattle.std.specs.{List.range_with_len, Option.option_map}
 use Rattle.sharc_word.specs.declared.step.TheConstants.{THREADS}
-use Rattle.sharc_code.specs.declared.code.Code.{Code}
-use Rattle.sharc_code.specs.declared.shape.Shape.{Shape}
-use Rattle.sharc_code.specs.Machine.{Machine, instr_at}
-use Rattle.sharc_code.specs.Path.{may_go}
-use Rattle.sharc_code.specs.Waits.{waits_now}
+use Rattle.sharc_code.specs.{declared.code.Code.Code, declared.shape.Shape.Shape, Machine.{Machine, instr_at}}
+use Rattle.sharc_code.specs.{Path.may_go, Waits.waits_now}
 use Rattle.sharc_threads.specs.Ends.{Standing}
-use Rattle.sharc_said.specs.declared.next.Coming.{Coming}
-use Rattle.sharc_said.specs.Origins.{origin_at}
-use Rattle.sharc_said.specs.Refused.{refused_at}
-use Rattle.sharc_said.specs.Told.{at, IsComing}
-use Rattle.sharc_history.specs.declared.last.Halt.{Halt}
+use Rattle.sharc_said.specs.{declared.next.Coming.Coming, Origins.origin_at, Refused.refused_at, Told.{at, IsComing}}
+use Rattle.sharc_history.specs.{declared.last.Halt.Halt, declared.last.Last.Last}
 use Rattle.sharc_history.specs.declared.last.Halt.TheVariants as halts
-use Rattle.sharc_history.specs.declared.last.Last.{Last}
 
 -- ---- which threads these are
 -- it is neither gone nor stopped, and its next turn would be a failed try

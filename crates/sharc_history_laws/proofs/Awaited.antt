@@ -1,33 +1,14 @@
 -- The thread that holds a mutex for which another one waits.
 use Rattle.std.proofs.Common.{◌≡◌, ℕ, zero, suc, ◌≢◌, true, List, is_some, refl, sym, ap, ◌∙◌, subst}
 use Rattle.std.specs.Prelude.{slice_index}
-use Rattle.sharc_code.specs.declared.code.Code.{Code}
-use Rattle.sharc_code.specs.declared.instr.Cell.{Cell}
+use Rattle.sharc_code.specs.{declared.code.Code.Code, declared.instr.Cell.Cell, declared.shape.Shape.Shape, Laws.RunLaws, Layout.{Fits, cell_word}, Machine.{Machine, instr_at, word, place, object}, Opening.opening_words, Runs.{Turn, Global, IsRun, opening_of}, Says.cell_at, Whole.{one_thread, bounds, place_after}}
 use Rattle.sharc_code.specs.declared.instr.Instr.TheVariants as instrs
-use Rattle.sharc_code.specs.declared.shape.Shape.{Shape}
-use Rattle.sharc_code.specs.Laws.{RunLaws}
-use Rattle.sharc_code.specs.Layout.{Fits, cell_word}
-use Rattle.sharc_code.specs.Machine.{Machine, instr_at, word, place, object}
-use Rattle.sharc_code.specs.Opening.{opening_words}
-use Rattle.sharc_code.specs.Runs.{Turn, Global, IsRun, opening_of}
-use Rattle.sharc_code.specs.Says.{cell_at}
-use Rattle.sharc_code.specs.Whole.{one_thread, bounds, place_after}
 use Rattle.sharc_locks.specs.HeldLog.{object_of}
 use Rattle.sharc_gen.specs.Consistent.{IsApart}
 use Rattle.sharc_meaning.specs.Events.{events_of, holds_mutex}
-use Rattle.sharc_invariant.specs.Labels.{Labels}
-use Rattle.sharc_invariant.specs.Laws.{Keeps, Begins as CodeBegins, CellsAreThere, PointersAreThere, AccessesAreAllowed}
-use Rattle.sharc_invariant.specs.MachineInvariant.{IsOn}
-use Rattle.sharc_invariant.specs.State.{IsSmall, StageStands, object_of_cell, number_in}
-use Rattle.sharc_invariant.specs.Typed.{IsWellTyped, Fine}
-use Rattle.sharc_invariant.specs.Types.{Targets, Field, Content, is_mutex}
+use Rattle.sharc_invariant.specs.{Labels.Labels, Laws.{Keeps, Begins as CodeBegins, CellsAreThere, PointersAreThere, AccessesAreAllowed}, MachineInvariant.IsOn, State.{IsSmall, StageStands, object_of_cell, number_in}, Typed.{IsWellTyped, Fine}, Types.{Targets, Field, Content, is_mutex}}
 use Rattle.sharc_history_laws.specs.History.{history_of}
-use Rattle.sharc_history_laws.proofs.Finds.{is_apart, is_there, object_is}
-use Rattle.sharc_history_laws.proofs.Locked.{held_told, names_cell}
-use Rattle.sharc_history_laws.proofs.Locking.{Locks, lock_runs}
-use Rattle.sharc_history_laws.proofs.Rules.{newest}
-use Rattle.sharc_history_laws.proofs.Single.{rests_hold}
-use Rattle.sharc_history_laws.proofs.Stands.{there, some_base}
+use Rattle.sharc_history_laws.proofs.{Finds.{is_apart, is_there, object_is}, Locked.{held_told, names_cell}, Locking.{Locks, lock_runs}, Rules.newest, Single.rests_hold, Stands.{there, some_base}}
 
 module _ (cell_laws : CellsAreThere) (pointers : PointersAreThere) (rights : AccessesAreAllowed) (laws : RunLaws) (begins_law : CodeBegins) (keeps : Keeps) (x : Targets) (code : Code) (s : Shape) (ls : Labels) (wt : IsWellTyped x code ls) (fits : Fits code s) (few : IsSmall code s)
     (run : List Turn) (is_run : IsRun bounds (one_thread code s) (opening_of bounds (one_thread code s) (opening_words code s)) run) (t : ℕ) (on : IsOn (place_after code s run) t) (c : Cell) (site : ℕ)

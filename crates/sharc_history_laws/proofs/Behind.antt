@@ -1,47 +1,15 @@
 -- Cells behind the last one of an object, and places beside the cells of a global, have the value that they begin with: no turn of typed code writes one.
-use Rattle.std.proofs.Common.{◌≡◌, ◌≢◌, ℕ, ◌+◌, ◌*◌, ◌<◌, ◌≤◌, Bool, true, false, ◌||◌, List, ◌∷◌, Option, Some, None, refl, sym, ap, ◌∙◌, subst, ⊎_elim, arith}
+use Rattle.std.proofs.{Common.{◌≡◌, ◌≢◌, ℕ, ◌+◌, ◌*◌, ◌<◌, ◌≤◌, Bool, true, false, ◌||◌, List, ◌∷◌, Option, Some, None, refl, sym, ap, ◌∙◌, subst, ⊎_elim, arith}, lemmas.Bool.or_right}
 use Rattle.std.specs.Prelude.{slice_index_or}
-use Rattle.sharc_tree.specs.declared.event.CellAt.{CellAt}
-use Rattle.sharc_tree.specs.declared.event.Object.{Object}
+use Rattle.sharc_tree.specs.{declared.event.CellAt.CellAt, declared.event.Object.Object, declared.event.SourceEvent.SourceEvent}
 use Rattle.sharc_tree.specs.declared.event.Object.TheVariants as objects
-use Rattle.sharc_tree.specs.declared.event.SourceEvent.{SourceEvent}
 use Rattle.sharc_ctype.specs.Resolved.{Resolution}
-use Rattle.sharc_code.specs.declared.code.Code.{Code}
-use Rattle.sharc_code.specs.declared.instr.Cell.{Cell}
-use Rattle.sharc_code.specs.declared.instr.Instr.{Instr}
+use Rattle.sharc_code.specs.{declared.code.Code.Code, declared.instr.Cell.Cell, declared.instr.Instr.Instr, declared.shape.Shape.Shape, Laws.RunLaws, Layout.Fits, Machine.{Machine, instr_at}, Ranges.IsInGlobal, Runs.{Turn, Global, MayTurn, result_of}, Says.{said, cell_at, speaks_of, no_global}, Whole.{one_thread, bounds, place_after}}
 use Rattle.sharc_code.specs.declared.instr.Instr.TheVariants as instrs
-use Rattle.sharc_code.specs.declared.shape.Shape.{Shape}
-use Rattle.sharc_code.specs.Laws.{RunLaws}
-use Rattle.sharc_code.specs.Layout.{Fits}
-use Rattle.sharc_code.specs.Machine.{Machine, instr_at}
-use Rattle.sharc_code.specs.Ranges.{IsInGlobal}
-use Rattle.sharc_code.specs.Runs.{Turn, Global, MayTurn, result_of}
-use Rattle.sharc_code.specs.Says.{said, cell_at, speaks_of, no_global}
-use Rattle.sharc_code.specs.Whole.{one_thread, bounds, place_after}
 use Rattle.sharc_gen.specs.OfRuns.{table_of}
-use Rattle.sharc_meaning.specs.Events.{makes, is_cell, is_number, made_by, same_cell}
-use Rattle.sharc_meaning.specs.Store.{cell_changed, initial_value}
-use Rattle.sharc_invariant.specs.Types.{Targets, Field}
-use Rattle.sharc_invariant.specs.Labels.{Labels}
-use Rattle.sharc_invariant.specs.Typed.{IsWellTyped, Fine, HasCell}
-use Rattle.sharc_invariant.specs.World.{World}
-use Rattle.sharc_invariant.specs.State.{IsSmall, OnHold}
-use Rattle.sharc_invariant.specs.MachineInvariant.{IsOn}
-use Rattle.sharc_invariant.specs.Laws.{Keeps, CellsAreThere, PointersAreThere, AccessesAreAllowed}
-use Rattle.sharc_history_laws.proofs.Acts.{given_at, freed_at, About, is_access, no_access}
-use Rattle.sharc_history_laws.proofs.Consists.{Consists, consists_then}
-use Rattle.sharc_history_laws.proofs.Contents.{newest_value, value_changed, value_kept}
-use Rattle.sharc_history_laws.proofs.Holding.{cell_eq}
-use Rattle.sharc_history_laws.proofs.Lists.{Newest}
-use Rattle.sharc_history_laws.proofs.Locked.{NamesIn}
-use Rattle.sharc_history_laws.proofs.OneMode.{place_of, numbers_now}
-use Rattle.sharc_history_laws.proofs.Rules.{pushed, about_now, decide, number_yes, number_not}
-use Rattle.sharc_history_laws.proofs.Shared.{number_of}
-use Rattle.sharc_history_laws.proofs.Stands.{there}
-use Rattle.sharc_history_laws.proofs.Tables.{header_of}
-use Rattle.sharc_history_laws.proofs.Telling.{changed_said, unchanged_said}
-use Rattle.sharc_history_laws.proofs.Valued.{made_zero, cell_named, hold}
-use Rattle.sharc_history_laws.proofs.Values.{was, cells_stay}
+use Rattle.sharc_meaning.specs.{Events.{makes, is_cell, is_number, made_by, same_cell}, Store.{cell_changed, initial_value}}
+use Rattle.sharc_invariant.specs.{Types.{Targets, Field}, Labels.Labels, Typed.{IsWellTyped, Fine, HasCell}, World.World, State.{IsSmall, OnHold}, MachineInvariant.IsOn, Laws.{Keeps, CellsAreThere, PointersAreThere, AccessesAreAllowed}}
+use Rattle.sharc_history_laws.proofs.{Acts.{given_at, freed_at, About, is_access, no_access}, Consists.{Consists, consists_then}, Contents.{newest_value, value_changed, value_kept}, Holding.cell_eq, Lists.Newest, Locked.NamesIn, OneMode.{place_of, numbers_now}, Rules.{pushed, about_now, decide, number_yes, number_not}, Shared.number_of, Stands.there, Tables.header_of, Telling.{changed_said, unchanged_said}, Valued.{made_zero, cell_named, hold}, Values.{was, cells_stay}}
 
 abbrev pub IsBehind : Code → World → (ℕ → ℕ) → Object → ℕ → Type 0
 IsBehind code w cells (objects.Made n) cell = (n ≢ 0) × ((w.obj n).live ≡ true) × (cells n ≤ cell)
@@ -49,10 +17,6 @@ IsBehind code w cells (objects.Global q) cell = IsInGlobal code.globals.items q 
 
 abbrev pub AreFirst : Resolution → Code → Newest → World → (ℕ → ℕ) → Type 0
 AreFirst r code L w cells = (c : CellAt) → IsBehind code w cells c.object c.cell → newest_value r L c ≡ initial_value r c.object
-
-or_right : (a b : Bool) → b ≡ true → (a || b) ≡ true
-or_right true b e = refl
-or_right false b e = e
 
 module _ (cell_laws : CellsAreThere) (pointers : PointersAreThere) (rights : AccessesAreAllowed) (laws : RunLaws) (keeps : Keeps) (x : Targets) (code : Code) (s : Shape) (ls : Labels) (wt : IsWellTyped x code ls) (fits : Fits code s) (few : IsSmall code s)
     (one : Turn) (earlier : List Turn) (h : Consists x code s ls earlier) (may : MayTurn bounds (one_thread code s) (place_after code s earlier) one) where

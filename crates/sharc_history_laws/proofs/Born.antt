@@ -1,41 +1,14 @@
 -- The cells of an object that a turn makes are 0, and its type is the one that its New's place says.
-use Rattle.std.proofs.Common.{◌≡◌, ℕ, ◌+◌, ◌*◌, ◌/◌, ◌^◌, ◌<◌, ◌≢◌, min, max, Bool, true, false, nat_lt, List, ◌∷◌, Option, Some, None, if◌then◌else◌, refl, sym, ap, ◌∙◌, subst, arith}
+use Rattle.std.proofs.{Common.{◌≡◌, ℕ, ◌+◌, ◌*◌, ◌/◌, ◌^◌, ◌<◌, ◌≢◌, min, max, Bool, true, false, nat_lt, List, ◌∷◌, Option, Some, None, if◌then◌else◌, refl, sym, ap, ◌∙◌, subst, arith}, lemmas.List.get_or-set_other}
 use Rattle.std.specs.Prelude.{slice_index}
-use Rattle.std.proofs.lemmas.List.{get_or-set_other}
 use Rattle.sharc_word.specs.declared.step.WordOp.TheVariants as ops
-use Rattle.sharc_word.specs.declared.step.WordStep.{WordStep}
-use Rattle.sharc_word.specs.declared.step.WordEvent.{WordEvent}
-use Rattle.sharc_word.specs.Words.{word_after}
-use Rattle.sharc_granule.specs.State.{NewView}
-use Rattle.sharc_granule.specs.Asks.{word_number}
-use Rattle.sharc_granule.specs.Stages.{turn_of_stage}
-use Rattle.sharc_granule.specs.declared.arguments.NewArguments.{NewArguments}
-use Rattle.sharc_granule.specs.declared.stage.Stage.{Stage as NewStage}
+use Rattle.sharc_word.specs.{declared.step.WordStep.WordStep, declared.step.WordEvent.WordEvent, Words.word_after}
+use Rattle.sharc_granule.specs.{State.NewView, Asks.word_number, Stages.turn_of_stage, declared.arguments.NewArguments.NewArguments, declared.stage.Stage.{Stage as NewStage}}
 use Rattle.sharc_granule.specs.declared.stage.Stage.TheVariants as news
-use Rattle.sharc_code.specs.declared.code.Code.{Code}
-use Rattle.sharc_code.specs.declared.instr.Instr.{Instr}
+use Rattle.sharc_code.specs.{declared.code.Code.Code, declared.instr.Instr.Instr, declared.shape.Shape.Shape, declared.state.Stage.Stage, declared.state.Stage.TheVariants.Makes, Laws.RunLaws, Layout.{Fits, first_cell}, Machine.{Machine, instr_at, act, asks_new, elements_of, int, ref, new, all_cells}, Path.{turn, after, asked_by}, Runs.{Turn, Global, MayTurn, after_turn, state_now, result_of, words_now, step_of}, Whole.{one_thread, bounds, place_after}}
 use Rattle.sharc_code.specs.declared.instr.Instr.TheVariants as instrs
-use Rattle.sharc_code.specs.declared.shape.Shape.{Shape}
-use Rattle.sharc_code.specs.declared.state.Stage.{Stage}
-use Rattle.sharc_code.specs.declared.state.Stage.TheVariants.{Makes}
-use Rattle.sharc_code.specs.Laws.{RunLaws}
-use Rattle.sharc_code.specs.Layout.{Fits, first_cell}
-use Rattle.sharc_code.specs.Machine.{Machine, instr_at, act, asks_new, elements_of, int, ref, new, all_cells}
-use Rattle.sharc_code.specs.Path.{turn, after, asked_by}
-use Rattle.sharc_code.specs.Runs.{Turn, Global, MayTurn, after_turn, state_now, result_of, words_now, step_of}
-use Rattle.sharc_code.specs.Whole.{one_thread, bounds, place_after}
-use Rattle.sharc_invariant.specs.Types.{Targets, StaticType, cells_of}
-use Rattle.sharc_invariant.specs.Labels.{Entry, Empty, Refers, Unknown, Label, Labels, LessEntry, Leads, fill}
-use Rattle.sharc_invariant.specs.Typed.{IsWellTyped, Fine}
-use Rattle.sharc_invariant.specs.World.{ObjectState}
-use Rattle.sharc_invariant.specs.Words.{cell_at}
-use Rattle.sharc_invariant.specs.Objects.{objects_behind, made_behind, new_behind, owned, type_held, entry_type}
-use Rattle.sharc_invariant.specs.State.{IsSmall, StageStands, BuildsAt}
-use Rattle.sharc_invariant.specs.Laws.{Keeps, CellsAreThere, PointersAreThere}
-use Rattle.sharc_history_laws.proofs.Consists.{Consists, consists_then, objects_then, made_word}
-use Rattle.sharc_history_laws.proofs.Rules.{put_same}
-use Rattle.sharc_history_laws.proofs.Stands.{granules_low}
-use Rattle.sharc_history_laws.proofs.Tables.{header_at, header_in, header_of, elements_in_stage}
+use Rattle.sharc_invariant.specs.{Types.{Targets, StaticType, cells_of}, Labels.{Entry, Empty, Refers, Unknown, Label, Labels, LessEntry, Leads, fill}, Typed.{IsWellTyped, Fine}, World.ObjectState, Words.cell_at, Objects.{objects_behind, made_behind, new_behind, owned, type_held, entry_type}, State.{IsSmall, StageStands, BuildsAt}, Laws.{Keeps, CellsAreThere, PointersAreThere}}
+use Rattle.sharc_history_laws.proofs.{Consists.{Consists, consists_then, objects_then, made_word}, Rules.put_same, Stands.granules_low, Tables.{header_at, header_in, header_of, elements_in_stage}}
 
 -- ---- words
 pub word_other : (words : List ℕ) (event : Option WordEvent) (step : WordStep) (w : ℕ) → step_of event ≡ Some step → (w ≡ step.word → ⊥) → slice_index (words_now words event) w ≡ slice_index words w

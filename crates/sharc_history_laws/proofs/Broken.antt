@@ -1,50 +1,17 @@
 -- With the access that was refused first no history goes on that keeps the rules.
-use Rattle.std.proofs.Common.{◌≡◌, ℕ, ◌+◌, ◌≢◌, ◌⊎◌, inl, inr, Bool, true, false, ◌||◌, List, [], ◌∷◌, ◌++◌, reverse, filter, Option, Some, None, is_some, if◌then◌else◌, refl, sym, ap, ◌∙◌, subst, ⊎_elim, eqb-true}
-use Rattle.std.specs.Prelude.{slice_index}
-use Rattle.std.specs.List.{list_any}
-use Rattle.std.proofs.lemmas.Bool.{cases_eq}
-use Rattle.std.proofs.lemmas.List.{reverse-append}
-use Rattle.sharc_tree.specs.declared.event.Act.{Act}
+use Rattle.std.proofs.{Common.{◌≡◌, ℕ, ◌+◌, ◌≢◌, ◌⊎◌, inl, inr, Bool, true, false, ◌||◌, List, [], ◌∷◌, ◌++◌, reverse, filter, Option, Some, None, is_some, if◌then◌else◌, refl, sym, ap, ◌∙◌, subst, ⊎_elim, eqb-true}, lemmas.Bool.{cases_eq, false_from_ne_true as unset, or_from as or_no}, lemmas.List.reverse-append}
+use Rattle.std.specs.{Prelude.slice_index, List.list_any}
+use Rattle.sharc_tree.specs.{declared.event.Act.Act, declared.event.Object.Object, declared.event.SourceEvent.SourceEvent}
 use Rattle.sharc_tree.specs.declared.event.Act.TheVariants as acts
 use Rattle.sharc_tree.specs.declared.event.CellMode.TheVariants as modes
-use Rattle.sharc_tree.specs.declared.event.Object.{Object}
 use Rattle.sharc_tree.specs.declared.event.Object.TheVariants as objects
-use Rattle.sharc_tree.specs.declared.event.SourceEvent.{SourceEvent}
-use Rattle.sharc_shadow.specs.declared.shadow_word.Kind.{Kind}
-use Rattle.sharc_shadow.specs.declared.shadow_word.Kind.TheVariants.{Read, Write}
-use Rattle.sharc_shadow.specs.ShadowWord.{epoch_of, is_write}
-use Rattle.sharc_code.specs.declared.code.Code.{Code}
-use Rattle.sharc_code.specs.declared.shape.Shape.{Shape}
-use Rattle.sharc_code.specs.declared.state.ConflictAt.{ConflictAt}
-use Rattle.sharc_code.specs.declared.state.Stop.{Stop}
-use Rattle.sharc_code.specs.declared.state.Stop.TheVariants.{Conflict, NoLock, NotSole, Trap}
-use Rattle.sharc_code.specs.Layout.{first_shadow}
-use Rattle.sharc_code.specs.Machine.{Machine, instr_at}
-use Rattle.sharc_code.specs.Path.{may_go}
-use Rattle.sharc_code.specs.Runs.{Turn, state_now, told_by}
-use Rattle.sharc_code.specs.Whole.{Erase, one_thread, place_after}
-use Rattle.sharc_meaning.specs.Events.{Access, access_by, made_by, given_by, is_number, begins, frees, is_of, events_of, granule_of}
-use Rattle.sharc_meaning.specs.Obeys.{History, AccessSet, ends, until_gone, Obeys}
-use Rattle.sharc_meaning.specs.Store.{is_gone}
-use Rattle.sharc_invariant.specs.Bits.{CheckOf}
-use Rattle.sharc_invariant.specs.Labels.{Labels}
-use Rattle.sharc_invariant.specs.Reports.{touch_at}
-use Rattle.sharc_invariant.specs.Types.{Targets}
-use Rattle.sharc_history_laws.specs.Causes.{NothingBetween, IsCause, IsNamed, GoesOn, WasMade, IsNextOf, BreaksRules, HasNamed}
-use Rattle.sharc_history_laws.specs.Conflicts.{IsCheck}
-use Rattle.sharc_history_laws.specs.Followed.{ChecksAreFollowed, Follows, IsNext, IsMade, TellsAccess, access_of, access_checked}
-use Rattle.sharc_history_laws.specs.History.{history_of}
-use Rattle.sharc_history_laws.proofs.Caused.{cause, has_named}
-use Rattle.sharc_history_laws.proofs.Checks.{check_cell, write_of_access}
-use Rattle.sharc_history_laws.proofs.Doing.{Does, Plain, Passes, Refuses, IsNoCheck, does}
-use Rattle.sharc_history_laws.proofs.Ends.{base_run}
-use Rattle.sharc_history_laws.proofs.Lasting.{halted}
-use Rattle.sharc_history_laws.proofs.Lists.{Newest, reverse_push}
-use Rattle.sharc_history_laws.proofs.Rules.{pushed, newest, newest_now, put_other}
-use Rattle.sharc_history_laws.proofs.Wholes.{TheLaws, Typed, RunOf, whole, fresh_of}
-
-yes : true ≡ false → ⊥
-yes e = cc
+use Rattle.sharc_shadow.specs.{declared.shadow_word.Kind.Kind, declared.shadow_word.Kind.TheVariants.{Read, Write}, ShadowWord.{epoch_of, is_write}}
+use Rattle.sharc_code.specs.{declared.code.Code.Code, declared.shape.Shape.Shape, declared.state.ConflictAt.ConflictAt, declared.state.Stop.Stop, declared.state.Stop.TheVariants.{Conflict, NoLock, NotSole, Trap}, Layout.first_shadow, Machine.{Machine, instr_at}, Path.may_go, Runs.{Turn, state_now, told_by}, Whole.{Erase, one_thread, place_after}}
+use Rattle.sharc_meaning.specs.{Events.{Access, access_by, made_by, given_by, is_number, begins, frees, is_of, events_of, granule_of}, Obeys.{History, AccessSet, ends, until_gone, Obeys}, Store.is_gone}
+use Rattle.sharc_invariant.specs.{Bits.CheckOf, Labels.Labels, Reports.touch_at, Types.Targets}
+use Rattle.sharc_history_laws.specs.{Causes.{NothingBetween, IsCause, IsNamed, GoesOn, WasMade, IsNextOf, BreaksRules, HasNamed}, Conflicts.IsCheck, Followed.{ChecksAreFollowed, Follows, IsNext, IsMade, TellsAccess, access_of, access_checked}, History.history_of}
+use Rattle.sharc_history_laws.proofs.{Caused.{cause, has_named}, Checks.{check_cell, write_of_access}, Doing.{Does, Plain, Passes, Refuses, IsNoCheck, does}, Ends.base_run, Lasting.halted, Lists.{Newest, reverse_push}, Rules.{pushed, newest, newest_now, put_other}, Wholes.{TheLaws, Typed, RunOf, whole, fresh_of}}
+use Rattle.sharc_lemmas.proofs.Bools.{yes}
 
 -- ---- lists
 abbrev pub AllOf : (SourceEvent → Type 0) → History → Type 0
@@ -58,14 +25,6 @@ all_snoc P (d ∷ R) e h k = (h.0, all_snoc P R e h.1 k)
 pub all_reverse : (P : SourceEvent → Type 0) (L : Newest) → AllOf P L → AllOf P (reverse L)
 all_reverse P [] h = tt
 all_reverse P (e ∷ L) h = subst (AllOf P) (sym (reverse_push e L)) (all_snoc P (reverse L) e (all_reverse P L h.1) h.0)
-
-or_no : (a b : Bool) → a ≡ false → b ≡ false → (a || b) ≡ false
-or_no true b e f = e
-or_no false b e f = f
-
-unset : (b : Bool) → (b ≡ true → ⊥) → b ≡ false
-unset true h = absurd (h refl)
-unset false h = refl
 
 pub none_any : (f : SourceEvent → Bool) (R : History) → AllOf (λ e. f e ≡ false) R → list_any f R ≡ false
 none_any f [] h = refl

@@ -1,30 +1,19 @@
 -- What an effect on the world leaves of a passed check, or of an object that a thread has alone or that is gone.
-use Rattle.std.proofs.Common.{◌≡◌, ℕ, suc, ◌≢◌, ◌⊎◌, inl, inr, Bool, true, false, ◌&&◌, if◌then◌else◌, refl, sym, ap, ◌∙◌, subst, ⊎_elim, arith}
+use Rattle.std.proofs.{Common.{◌≡◌, ℕ, suc, ◌≢◌, ◌⊎◌, inl, inr, Bool, true, false, ◌&&◌, if◌then◌else◌, refl, sym, ap, ◌∙◌, subst, ⊎_elim}, lemmas.Bool.cases_eq}
 use Rattle.std.specs.Prelude.{nat_eq}
-use Rattle.std.proofs.lemmas.Bool.{cases_eq}
-use Rattle.std.proofs.lemmas.Bool.Decides.{nat_tests}
 use Rattle.sharc_code.specs.Runs.{put}
-use Rattle.sharc_invariant.specs.Granules.{GranuleState, Passed, cleared, withdrawn}
-use Rattle.sharc_invariant.specs.Types.{ObjectType}
-use Rattle.sharc_invariant.specs.World.{TypeRules, Size, RegisterOf, Slot, In, TypedReference, ObjectState, Shut, Sole, World, WorldInvariant, WinOk, in_ref, put2, place, none, retype, give, make, freed, set_gran}
-use Rattle.sharc_invariant.specs.Effect.{Effect, Silent, Silently, Accesses, Clears, Gives, Frees, Makes, Locks, Unlocks, Returns, Withdraws}
-use Rattle.sharc_invariant.specs.History.{Closing, Without}
+use Rattle.sharc_invariant.specs.{Granules.{GranuleState, Passed, cleared, withdrawn}, Types.ObjectType, World.{TypeRules, Size, RegisterOf, Slot, In, TypedReference, ObjectState, Shut, Sole, World, WorldInvariant, WinOk, in_ref, put2, place, none, retype, give, make, freed, set_gran}, Effect.{Effect, Silent, Silently, Accesses, Clears, Gives, Frees, Makes, Locks, Unlocks, Returns, Withdraws}, History.{Closing, Without}}
+use Rattle.sharc_lemmas.proofs.Numbers.{ne_eq, eq_refl}
 
 -- thread u has passed a check of granule j of object n, or the object is had alone, or gone
 abbrev pub Stands : World → (n j u : ℕ) → Bool → Type 0
 Stands w n j u write = Passed (w.gran n j) u write ⊎ Without w n
 
 -- ---- changed functions
-eq_refl : (n : ℕ) → nat_eq n n ≡ true
-eq_refl n = grind (arith, nat_tests)
-
-ne_eq : (m n : ℕ) → (m ≡ n → ⊥) → nat_eq m n ≡ false
-ne_eq m n ne = grind (arith, nat_tests)
-
-put_same : {A : Type 0} (f : ℕ → A) (i : ℕ) (v : A) → put f i v i ≡ v
+pub put_same : {A : Type 0} (f : ℕ → A) (i : ℕ) (v : A) → put f i v i ≡ v
 put_same f i v = rw (eq_refl i) refl
 
-put_other : {A : Type 0} (f : ℕ → A) (i j : ℕ) (v : A) → (j ≡ i → ⊥) → put f i v j ≡ f j
+pub put_other : {A : Type 0} (f : ℕ → A) (i j : ℕ) (v : A) → (j ≡ i → ⊥) → put f i v j ≡ f j
 put_other f i j v ne = rw (ne_eq j i ne) refl
 
 gran_other : (f : ℕ → ℕ → GranuleState) (o g n j : ℕ) (v : GranuleState) → (n ≡ o → ⊥) → put2 f o g v n j ≡ f n j

@@ -1,49 +1,16 @@
 -- The check that a report may name is its cause, and there is one.
-use Rattle.std.proofs.Common.{◌≡◌, ℕ, zero, suc, ◌+◌, ◌*◌, ◌/◌, ◌<◌, ◌≤◌, ◌≢◌, ◌⊎◌, inl, inr, Bool, true, false, ◌||◌, ◌&&◌, List, [], ◌∷◌, ◌++◌, Option, Some, None, if◌then◌else◌, refl, sym, ap, ◌∙◌, subst, ⊎_elim, arith}
+use Rattle.std.proofs.{Common.{◌≡◌, ℕ, zero, suc, ◌+◌, ◌*◌, ◌/◌, ◌<◌, ◌≤◌, ◌≢◌, ◌⊎◌, inl, inr, Bool, true, false, ◌||◌, ◌&&◌, List, [], ◌∷◌, ◌++◌, Option, Some, None, if◌then◌else◌, refl, sym, ap, ◌∙◌, subst, ⊎_elim, arith}, lemmas.Bool.{cases_eq, cases_lt, or_right}, lemmas.Bool.Decides.nat_tests}
 use Rattle.std.specs.Prelude.{slice_index, nat_lt, ◌==◌}
-use Rattle.std.proofs.lemmas.Bool.{cases_eq, cases_lt}
-use Rattle.std.proofs.lemmas.Bool.Decides.{nat_tests}
 use Rattle.sharc_tree.specs.declared.event.CellAt.{CellAt}
 use Rattle.sharc_word.specs.declared.step.TheConstants.{THREADS}
-use Rattle.sharc_shadow.specs.declared.shadow_word.Kind.{Kind}
-use Rattle.sharc_shadow.specs.declared.shadow_word.Kind.TheVariants.{Read, Write}
-use Rattle.sharc_shadow.specs.declared.access_table.Note.{Note}
-use Rattle.sharc_shadow.specs.Accesses.{note_of, site_at}
-use Rattle.sharc_shadow.specs.Functions.{conflicts_in}
-use Rattle.sharc_shadow.specs.ShadowWord.{epoch_of, is_of, stands, HasOther, Conflicts}
-use Rattle.sharc_code.specs.declared.code.Code.{Code}
-use Rattle.sharc_code.specs.declared.instr.Cell.{Cell}
-use Rattle.sharc_code.specs.declared.shape.Shape.{Shape}
-use Rattle.sharc_code.specs.declared.state.ConflictAt.{ConflictAt}
-use Rattle.sharc_code.specs.declared.state.Stop.TheVariants.{Conflict}
-use Rattle.sharc_code.specs.Layout.{granules, first_shadow, shadow_word}
-use Rattle.sharc_code.specs.Machine.{Machine, instr_at, wrote, stopped}
-use Rattle.sharc_code.specs.Runs.{Turn, Global}
-use Rattle.sharc_code.specs.Says.{cell_at}
-use Rattle.sharc_code.specs.Whole.{place_after}
+use Rattle.sharc_shadow.specs.{declared.shadow_word.Kind.Kind, declared.shadow_word.Kind.TheVariants.{Read, Write}, declared.access_table.Note.Note, Accesses.{note_of, site_at}, Functions.conflicts_in, ShadowWord.{epoch_of, is_of, stands, HasOther, Conflicts}}
+use Rattle.sharc_code.specs.{declared.code.Code.Code, declared.instr.Cell.Cell, declared.shape.Shape.Shape, declared.state.ConflictAt.ConflictAt, declared.state.Stop.TheVariants.Conflict, Layout.{granules, first_shadow, shadow_word}, Machine.{Machine, instr_at, wrote, stopped}, Runs.{Turn, Global}, Says.cell_at, Whole.place_after}
 use Rattle.sharc_meaning.specs.Events.{granule_of as granule_in}
-use Rattle.sharc_invariant.specs.Bits.{CheckOf}
-use Rattle.sharc_invariant.specs.Labels.{Labels}
-use Rattle.sharc_invariant.specs.Reports.{touch_at}
-use Rattle.sharc_invariant.specs.State.{object_of_cell, number_in}
-use Rattle.sharc_invariant.specs.Types.{Targets}
-use Rattle.sharc_history_laws.specs.Causes.{noted_site, Stood, StoppedThere, IsNamed, OfWrite, OfRead, OfStop, OfFirst, NothingBetween, IsCause, HasNamed}
-use Rattle.sharc_history_laws.specs.Conflicts.{site_of_check, IsCheck}
-use Rattle.sharc_history_laws.specs.Followed.{ChecksAreFollowed, IsOfAccess}
-use Rattle.sharc_history_laws.proofs.Checks.{CheckCell, check_cell, cell_of_access, checked_here, adds, live_then, inside_then}
-use Rattle.sharc_history_laws.proofs.Conflicting.{accesses_show}
-use Rattle.sharc_history_laws.proofs.Doing.{check_of, IsCheckAt}
-use Rattle.sharc_history_laws.proofs.Followed.{of_check}
-use Rattle.sharc_history_laws.proofs.Noting.{notes_told}
+use Rattle.sharc_invariant.specs.{Bits.CheckOf, Labels.Labels, Reports.touch_at, State.{object_of_cell, number_in}, Types.Targets}
+use Rattle.sharc_history_laws.specs.{Causes.{noted_site, Stood, StoppedThere, IsNamed, OfWrite, OfRead, OfStop, OfFirst, NothingBetween, IsCause, HasNamed}, Conflicts.{site_of_check, IsCheck}, Followed.ChecksAreFollowed}
+use Rattle.sharc_history_laws.proofs.{Checks.{CheckCell, check_cell, cell_of_access, checked_here, adds, live_then, inside_then}, Conflicting.accesses_show, Doing.{check_of, IsCheckAt}, Followed.of_check, Noting.notes_told, Remaining.{word_at, site_now, Reason, Writes, Written, stop_is}, Shadows.at_low, Spots.{Spot, SameSpot, same_spot, object_is}, Walking.along, Wholes.{TheLaws, Typed, RunOf, Whole, whole, halting, fresh_of}}
 use Rattle.sharc_history_laws.proofs.Remaining as remaining
-use Rattle.sharc_history_laws.proofs.Remaining.{word_at, site_now, Reason, Writes, Written, stop_is}
-use Rattle.sharc_history_laws.proofs.Shadows.{at_low}
-use Rattle.sharc_history_laws.proofs.Spots.{Spot, SameSpot, same_spot, object_is}
-use Rattle.sharc_history_laws.proofs.Walking.{along}
-use Rattle.sharc_history_laws.proofs.Wholes.{TheLaws, Typed, RunOf, Whole, whole, halting, fresh_of}
-
-yes : true ≡ false → ⊥
-yes e = cc
+use Rattle.sharc_lemmas.proofs.{Numbers.same_is, Bools.yes, Options.some_or}
 
 -- an earlier part of a run is one
 base_of : (code : Code) (s : Shape) (between base : List Turn) → RunOf code s (between ++ base) → RunOf code s base
@@ -52,13 +19,6 @@ base_of code s (one ∷ between) base run = base_of code s between base run.0
 
 same_numbers : (o j p q : ℕ) → o ≡ p → o + 1 + j ≡ p + 1 + q → j ≡ q
 same_numbers o j p q a b = omega (arith, a, b)
-
-or_right : (a b : Bool) → b ≡ true → (a || b) ≡ true
-or_right true b e = refl
-or_right false b e = e
-
-same_is : (n : ℕ) → (n == n) ≡ true
-same_is n = grind (arith, nat_tests)
 
 site_of : (n : Note) (e z : ℕ) → site_at (Some n) e ≡ Some z → (n.site ≡ z) × (n.epoch ≡ e)
 site_of n e z h = elim (n.epoch == e) as (λ b. (n.epoch == e) ≡ b → (if b then Some n.site else None) ≡ Some z → (n.site ≡ z) × (n.epoch ≡ e)) [
@@ -72,10 +32,6 @@ site_of n e z h = elim (n.epoch == e) as (λ b. (n.epoch == e) ≡ b → (if b t
 some_note : (o : Option Note) (e z : ℕ) → site_at o e ≡ Some z → (n : Note) × (o ≡ Some n) × (n.site ≡ z) × (n.epoch ≡ e)
 some_note None e z h = absurd (let f : None ≡ Some z = h in cc)
 some_note (Some n) e z h = let k = site_of n e z h in (n, refl, k.0, k.1)
-
-some_or : (o : Option ℕ) → ((z : ℕ) × (o ≡ Some z)) ⊎ (o ≡ None)
-some_or None = inr refl
-some_or (Some z) = inl (z, refl)
 
 module _ (laws : TheLaws) (x : Targets) (code : Code) (s : Shape) (ls : Labels) (typed : Typed x code s ls) where
   -- the object of this granule

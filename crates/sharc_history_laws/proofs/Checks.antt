@@ -1,45 +1,11 @@
 -- A turn that is a check: its cell, the bit that it sets, and the access that it is of.
-use Rattle.std.proofs.Common.{◌≡◌, ℕ, ◌+◌, ◌*◌, ◌<◌, Bool, true, false, List, ◌∷◌, Some, None, if◌then◌else◌, refl, sym, ap, ◌∙◌, subst, arith}
-use Rattle.std.specs.Prelude.{nat_lt}
-use Rattle.std.proofs.lemmas.Bool.Decides.{nat_tests}
-use Rattle.sharc_shadow.specs.declared.shadow_word.Kind.{Kind}
-use Rattle.sharc_shadow.specs.declared.shadow_word.Kind.TheVariants.{Read, Write}
-use Rattle.sharc_shadow.specs.ShadowWord.{AddsAccess, is_write}
-use Rattle.sharc_code.specs.declared.code.Code.{Code}
-use Rattle.sharc_code.specs.declared.instr.Cell.{Cell}
-use Rattle.sharc_code.specs.declared.instr.Instr.{Instr}
-use Rattle.sharc_code.specs.declared.shape.Shape.{Shape}
-use Rattle.sharc_code.specs.Layout.{granules, granule_at, granule_of}
-use Rattle.sharc_code.specs.Machine.{Machine, instr_at, place}
-use Rattle.sharc_code.specs.Runs.{Turn, Global, result_of, after_turn}
-use Rattle.sharc_code.specs.Says.{cell_at}
-use Rattle.sharc_code.specs.Whole.{one_thread, bounds, place_after}
+use Rattle.std.proofs.Common.{◌≡◌, ℕ, ◌+◌, ◌*◌, ◌<◌, Bool, true, false, List, ◌∷◌, Some, None, if◌then◌else◌, refl, sym, ap, ◌∙◌, subst}
+use Rattle.sharc_shadow.specs.{declared.shadow_word.Kind.Kind, declared.shadow_word.Kind.TheVariants.{Read, Write}, ShadowWord.{AddsAccess, is_write}}
+use Rattle.sharc_code.specs.{declared.code.Code.Code, declared.instr.Cell.Cell, declared.instr.Instr.Instr, declared.shape.Shape.Shape, Layout.{granules, granule_at, granule_of}, Machine.{Machine, instr_at, place}, Runs.{Turn, Global, result_of, after_turn}, Says.cell_at, Whole.{one_thread, bounds, place_after}}
 use Rattle.sharc_meaning.specs.Events.{Access}
-use Rattle.sharc_invariant.specs.Bits.{CheckOf}
-use Rattle.sharc_invariant.specs.Labels.{Label, Labels}
-use Rattle.sharc_invariant.specs.MachineInvariant.{IsOn}
-use Rattle.sharc_invariant.specs.Reports.{touch_at}
-use Rattle.sharc_invariant.specs.State.{State, StageStands, OnHold}
-use Rattle.sharc_invariant.specs.Typed.{Fine, HasCell}
-use Rattle.sharc_invariant.specs.Types.{Targets, Field}
-use Rattle.sharc_invariant.specs.World.{World}
+use Rattle.sharc_invariant.specs.{Bits.CheckOf, Labels.{Label, Labels}, MachineInvariant.IsOn, Reports.touch_at, State.{State, StageStands, OnHold}, Typed.{Fine, HasCell}, Types.{Targets, Field}, World.World}
 use Rattle.sharc_history_laws.specs.Followed.{Accesses, IsFollowed, ChecksAreFollowed, access_to, access_checked}
-use Rattle.sharc_history_laws.proofs.Consists.{Consists}
-use Rattle.sharc_history_laws.proofs.Doing.{check_of}
-use Rattle.sharc_history_laws.proofs.Followed.{IsCheckBy, OfRead, OfWrite, check_by, accessed_is}
-use Rattle.sharc_history_laws.proofs.Remaining.{word_at, check_bit}
-use Rattle.sharc_history_laws.proofs.Single.{single, rests_hold}
-use Rattle.sharc_history_laws.proofs.Spots.{IsChecked, is_checked}
-use Rattle.sharc_history_laws.proofs.Staying.{StillThere, kept_calm}
-use Rattle.sharc_history_laws.proofs.Tables.{header_of}
-use Rattle.sharc_history_laws.proofs.Acts.{given_at, freed_at}
-use Rattle.sharc_history_laws.proofs.Wholes.{TheLaws, Typed, RunOf, Whole, whole, whole_next, fresh_of}
-
-granule_low : (s : Shape) (g : ℕ) → granule_at s g < granules s
-granule_low s g = elim (nat_lt g (granules s)) as (λ b. nat_lt g (granules s) ≡ b → (if b then g else 0) < granules s) [
-  | true ↦ λ e. grind (arith, nat_tests)
-  | false ↦ λ e. omega arith
-] refl
+use Rattle.sharc_history_laws.proofs.{Consists.Consists, Doing.{check_of, granule_low}, Followed.{IsCheckBy, OfRead, OfWrite, check_by, accessed_is}, Remaining.{word_at, check_bit}, Single.{single, rests_hold}, Spots.{IsChecked, is_checked}, Staying.{StillThere, kept_calm}, Tables.header_of, Acts.{given_at, freed_at}, Wholes.{TheLaws, Typed, RunOf, Whole, whole, whole_next, fresh_of}}
 
 -- the cell of a check
 pub record CheckCell (code : Code) (s : Shape) (g : Global Machine) (one : Turn) (kind : Kind) (p : ℕ) : Type 0 where

@@ -1,51 +1,14 @@
 -- No bit stands in the granules of an object that is given or freed.
-use Rattle.std.proofs.Common.{◌≡◌, ℕ, zero, suc, ◌+◌, ◌*◌, ◌/◌, ◌^◌, ◌<◌, ◌≤◌, ◌≢◌, Bool, true, false, ◌&&◌, not, min, None, if◌then◌else◌, refl, sym, ap, ◌∙◌, subst, ⊎_elim, arith}
+use Rattle.std.proofs.{Common.{◌≡◌, ℕ, zero, suc, ◌+◌, ◌*◌, ◌/◌, ◌^◌, ◌<◌, ◌≤◌, ◌≢◌, Bool, true, false, ◌&&◌, not, min, None, if◌then◌else◌, refl, sym, ap, ◌∙◌, subst, ⊎_elim, arith}, lemmas.Bool.{cases_eq, cases_lt}, lemmas.Bool.Decides.nat_tests}
 use Rattle.std.specs.Prelude.{slice_index, nat_lt, ◌==◌}
-use Rattle.std.proofs.lemmas.Bool.{cases_eq, cases_lt}
-use Rattle.std.proofs.lemmas.Bool.Decides.{nat_tests}
-use Rattle.sharc_shadow.specs.declared.shadow_word.Kind.{Kind}
-use Rattle.sharc_shadow.specs.declared.shadow_word.Kind.TheVariants.{Read, Write}
-use Rattle.sharc_shadow.specs.Laws.{ShadowLaws}
-use Rattle.sharc_shadow.specs.ShadowWord.{stands}
-use Rattle.sharc_code.specs.declared.code.Code.{Code}
-use Rattle.sharc_code.specs.declared.instr.Cell.{Cell}
+use Rattle.sharc_shadow.specs.{declared.shadow_word.Kind.Kind, declared.shadow_word.Kind.TheVariants.{Read, Write}, Laws.ShadowLaws, ShadowWord.stands}
+use Rattle.sharc_code.specs.{declared.code.Code.Code, declared.instr.Cell.Cell, declared.instr.Instr.Instr, declared.shape.Shape.Shape, declared.state.Stage.Stage, declared.state.Stage.TheVariants.{Rests, Looks, Clears, Empties, Lowers, FreeLooks, FreeClears, Uncounts, Links}, Layout.{Fits, granules, first_shadow, granule_at, granule_of, length_word}, Machine.{Machine, instr_at, act, ref, place, at_stage, looks, clear, rests, free, free_looks, freed, empties, emptied, fields, layout_at, data_granules, data_granule, largest, step_of, wrote}, Path.{begun, turn, after, may_go, asked_by}, Runs.{Turn, Global, MayTurn, after_turn, state_now, result_of}, Whole.{one_thread, bounds}}
 use Rattle.sharc_code.specs.declared.instr.Cell.TheVariants as cells
-use Rattle.sharc_code.specs.declared.instr.Instr.{Instr}
 use Rattle.sharc_code.specs.declared.instr.Instr.TheVariants as instrs
-use Rattle.sharc_code.specs.declared.shape.Shape.{Shape}
-use Rattle.sharc_code.specs.declared.state.Stage.{Stage}
-use Rattle.sharc_code.specs.declared.state.Stage.TheVariants.{Rests, Looks, Clears, Empties, Lowers, FreeLooks, FreeClears, Uncounts, Links}
-use Rattle.sharc_code.specs.Layout.{Fits, granules, first_shadow, granule_at, granule_of, length_word}
-use Rattle.sharc_code.specs.Machine.{Machine, instr_at, act, ref, place, at_stage, looks, clear, rests, free, free_looks, freed, empties, emptied, fields, layout_at, data_granules, data_granule, largest, step_of, wrote}
-use Rattle.sharc_code.specs.Path.{begun, turn, after, may_go, asked_by}
-use Rattle.sharc_code.specs.Runs.{Turn, Global, MayTurn, after_turn, state_now, result_of}
-use Rattle.sharc_code.specs.Whole.{one_thread, bounds}
 use Rattle.sharc_word.specs.declared.step.WordOp.TheVariants as ops
-use Rattle.sharc_invariant.specs.Bits.{Touch, Untouched, CheckOf, ClearOf, WithdrawOf, cleared_by, freed_by, touch_of}
-use Rattle.sharc_invariant.specs.History.{Closing}
-use Rattle.sharc_invariant.specs.Labels.{Gate, Sole, Entry, Refers, Label, Labels, Leads, LessGate, LessEntry, gated, empty}
-use Rattle.sharc_invariant.specs.Laws.{CellsAreThere, PointersAreThere, StateStands}
-use Rattle.sharc_invariant.specs.MachineInvariant.{IsOn}
-use Rattle.sharc_invariant.specs.Reports.{touch_at}
-use Rattle.sharc_invariant.specs.State.{State, Runs, StageStands, GateStands, OnClear, OnFree, OnHold, granules_freed, object_of_cell, number_in, view_of}
-use Rattle.sharc_invariant.specs.Typed.{IsWellTyped, Fine, HasCell}
-use Rattle.sharc_invariant.specs.Types.{Targets, StaticType, Field, cells_of}
-use Rattle.sharc_invariant.specs.Words.{length_at}
-use Rattle.sharc_invariant.specs.World.{World, Sole as IsSole}
-use Rattle.sharc_history_laws.proofs.Arriving.{IsUncleared, less_uncleared, walks, is_clearing, Arrives, arriving}
-use Rattle.sharc_history_laws.proofs.Consists.{found_is}
-use Rattle.sharc_history_laws.proofs.Doing.{IsCheckAt, check_of, Does, Plain, Passes, Refuses, IsNoCheck, does}
-use Rattle.sharc_history_laws.proofs.Remaining.{word_at, Remains}
-use Rattle.sharc_history_laws.proofs.Rules.{put_same, put_other}
-use Rattle.sharc_history_laws.proofs.Shadows.{IsNext, WordBy, word_by, at_low}
-use Rattle.sharc_history_laws.proofs.Shared.{closing_own}
-use Rattle.sharc_history_laws.proofs.Single.{single, rests_hold}
-use Rattle.sharc_history_laws.proofs.Stands.{there, gate, granules_low, reads_ref, sole_ref, live_ref, target_ref}
-use Rattle.sharc_history_laws.proofs.Tables.{length_kept}
-use Rattle.sharc_history_laws.proofs.Writes.{writes}
-
-yes : true ≡ false → ⊥
-yes e = cc
+use Rattle.sharc_invariant.specs.{Bits.{Touch, Untouched, CheckOf, ClearOf, WithdrawOf, cleared_by, freed_by, touch_of}, History.Closing, Labels.{Gate, Sole, Entry, Refers, Label, Labels, Leads, LessGate, LessEntry, gated, empty}, Laws.{CellsAreThere, PointersAreThere, StateStands}, MachineInvariant.IsOn, Reports.touch_at, State.{State, Runs, StageStands, GateStands, OnClear, OnFree, OnHold, granules_freed, object_of_cell, number_in, view_of}, Typed.{IsWellTyped, Fine, HasCell}, Types.{Targets, StaticType, Field, cells_of}, Words.length_at, World.{World, Sole as IsSole}}
+use Rattle.sharc_history_laws.proofs.{Arriving.{IsUncleared, less_uncleared, walks, is_clearing, Arrives, arriving}, Consists.found_is, Doing.{IsCheckAt, check_of, Does, Plain, Passes, Refuses, IsNoCheck, does}, Remaining.{word_at, Remains}, Rules.{put_same, put_other}, Shadows.{IsNext, WordBy, word_by, at_low, in_cells}, Shared.closing_own, Single.{single, rests_hold}, Stands.{there, gate, granules_low, reads_ref, sole_ref, live_ref, target_ref}, Tables.length_kept, Writes.writes}
+use Rattle.sharc_lemmas.proofs.{Numbers.not_below, Bools.yes}
 
 -- ---- what is said of a thread that clears an object or gives it
 -- no bit stands in the first granules of an object
@@ -87,18 +50,8 @@ in_free_calm P code layout (Uncounts all) e = absurd (yes e)
 in_free_calm P code layout _ e = tt
 
 -- ---- numbers
-in_cells : (n done : ℕ) → done < (min n largest + 1) / 2 → 2 * done < n
-in_cells n done lt = omega arith
-
 of_cells : (n done : ℕ) → n ≤ largest → 2 * done < n → done < (min n largest + 1) / 2
 of_cells n done le lt = omega arith
-
-not_below : (a b : ℕ) → nat_lt a b ≡ false → b ≤ a
-not_below a b e = grind (arith, nat_tests)
-
-unset : (b : Bool) → (b ≡ true → ⊥) → b ≡ false
-unset true h = absurd (h refl)
-unset false h = refl
 
 not_clear : (P : ℕ → ℕ → Type 0) (j : Instr) → is_clearing j ≡ false → OnClear P j → ⊥
 not_clear P (instrs.Clear r count) e h = yes e

@@ -1,47 +1,15 @@
 -- A refused check of an access comes from checks that others made, in a run of typed code.
-use Rattle.std.proofs.Common.{◌≡◌, ℕ, ◌+◌, ◌<◌, inl, inr, Bool, true, false, List, [], ◌∷◌, Option, Some, None, is_some, nat_lt, if◌then◌else◌, refl, sym, ap, ◌∙◌, subst, ⊎_elim, arith}
+use Rattle.std.proofs.{Common.{◌≡◌, ℕ, ◌+◌, ◌<◌, inl, inr, Bool, true, false, List, [], ◌∷◌, Option, Some, None, is_some, nat_lt, if◌then◌else◌, refl, sym, ap, ◌∙◌, subst, ⊎_elim, arith}, lemmas.Bool.cases_eq, lemmas.Bool.Decides.nat_tests}
 use Rattle.std.specs.Prelude.{slice_index, ◌==◌}
-use Rattle.std.proofs.lemmas.Bool.{cases_eq}
-use Rattle.std.proofs.lemmas.Bool.Decides.{nat_tests}
 use Rattle.sharc_tree.specs.declared.trap.Trap.TheVariants as traps
-use Rattle.sharc_shadow.specs.declared.shadow_word.Kind.{Kind}
-use Rattle.sharc_shadow.specs.declared.shadow_word.Kind.TheVariants.{Read, Write}
-use Rattle.sharc_shadow.specs.Accesses.{note_of, site_at}
-use Rattle.sharc_shadow.specs.ShadowWord.{epoch_of, stands}
-use Rattle.sharc_shadow.specs.Functions.{bits_of, conflicts_in, noted}
+use Rattle.sharc_shadow.specs.{declared.shadow_word.Kind.Kind, declared.shadow_word.Kind.TheVariants.{Read, Write}, Accesses.{note_of, site_at}, ShadowWord.{epoch_of, stands}, Functions.{bits_of, conflicts_in, noted}}
 use Rattle.sharc_word.specs.declared.step.WordOp.TheVariants as ops
-use Rattle.sharc_code.specs.declared.code.Code.{Code}
-use Rattle.sharc_code.specs.declared.instr.Cell.{Cell}
-use Rattle.sharc_code.specs.declared.instr.Instr.{Instr}
+use Rattle.sharc_code.specs.{declared.code.Code.Code, declared.instr.Cell.Cell, declared.instr.Instr.Instr, declared.shape.Shape.Shape, declared.state.ConflictAt.ConflictAt, declared.state.Stage.Stage, declared.state.Stage.TheVariants.{Clears, FreeClears, WithdrawsFrom}, declared.state.Stop.Stop, declared.state.Stop.TheVariants.{Conflict, NoLock, NotSole, Trap}, Layout.{Fits, granules, cell_of, cell_word, granule_at, granule_of, shadow_word}, Machine.{Machine, Own, instr_at, act, place, word, ref, is_held, is_of_null, goes, stopped, checked, lock_checked, tested, with_own, wrote, with_note, step_of}, Opening.opening_words, Path.{turn, after, may_go, asked_by}, Runs.{Turn, Global, IsRun, MayTurn, after_turn, put, state_now, result_of, opening_of}, Whole.{one_thread, bounds, place_after}}
 use Rattle.sharc_code.specs.declared.instr.Instr.TheVariants as instrs
-use Rattle.sharc_code.specs.declared.shape.Shape.{Shape}
-use Rattle.sharc_code.specs.declared.state.ConflictAt.{ConflictAt}
-use Rattle.sharc_code.specs.declared.state.Stage.{Stage}
-use Rattle.sharc_code.specs.declared.state.Stage.TheVariants.{Clears, FreeClears, WithdrawsFrom}
-use Rattle.sharc_code.specs.declared.state.Stop.{Stop}
-use Rattle.sharc_code.specs.declared.state.Stop.TheVariants.{Conflict, NoLock, NotSole, Trap}
-use Rattle.sharc_code.specs.Layout.{Fits, granules, cell_of, cell_word, granule_at, granule_of, shadow_word}
-use Rattle.sharc_code.specs.Machine.{Machine, Own, instr_at, act, place, word, ref, is_held, is_of_null, goes, stopped, checked, lock_checked, tested, with_own, wrote, with_note, step_of}
-use Rattle.sharc_code.specs.Opening.{opening_words}
-use Rattle.sharc_code.specs.Path.{turn, after, may_go, asked_by}
-use Rattle.sharc_code.specs.Runs.{Turn, Global, IsRun, MayTurn, after_turn, put, state_now, result_of, opening_of}
-use Rattle.sharc_code.specs.Whole.{one_thread, bounds, place_after}
-use Rattle.sharc_invariant.specs.Types.{Targets}
-use Rattle.sharc_invariant.specs.Labels.{Labels}
-use Rattle.sharc_invariant.specs.Typed.{IsWellTyped}
-use Rattle.sharc_invariant.specs.State.{IsSmall}
-use Rattle.sharc_invariant.specs.Opened.{first_place}
-use Rattle.sharc_invariant.specs.Bits.{Touch, Untouched, CheckOf, ClearOf, WithdrawOf, Marks, cleared_by, freed_by, withdrawn_by, touch_of, with_check, without_thread, marks_by, marks_after}
-use Rattle.sharc_invariant.specs.Reports.{RunsConflict, CheckStands, touch_at}
-use Rattle.sharc_invariant.specs.Laws.{RunsBits}
+use Rattle.sharc_invariant.specs.{Types.Targets, Labels.Labels, Typed.IsWellTyped, State.IsSmall, Opened.first_place, Bits.{Touch, Untouched, CheckOf, ClearOf, WithdrawOf, Marks, cleared_by, freed_by, withdrawn_by, touch_of, with_check, without_thread, marks_by, marks_after}, Reports.{RunsConflict, CheckStands, touch_at}, Laws.RunsBits}
 use Rattle.sharc_history_laws.specs.Conflicts.{site_of_check, Past, MadeSince, Opposes, ShowsConflict}
-use Rattle.sharc_history_laws.proofs.Consists.{found_is}
-use Rattle.sharc_history_laws.proofs.Rules.{put_same, put_other}
-use Rattle.sharc_history_laws.proofs.Quits.{Quits, Still, Traps, is_trap, is_reporting, quits}
-use Rattle.sharc_history_laws.proofs.Sole.{Halting, stop_none}
-
-yes : true ≡ false → ⊥
-yes e = cc
+use Rattle.sharc_history_laws.proofs.{Consists.found_is, Rules.{put_same, put_other}, Quits.{Quits, Still, Traps, is_trap, is_reporting, quits}, Sole.{Halting, stop_none}}
+use Rattle.sharc_lemmas.proofs.Bools.{yes}
 
 -- ---- a turn that is a check has a site
 module _ (s : Shape) (kind : Kind) (p : ℕ) (ok : Bool) where

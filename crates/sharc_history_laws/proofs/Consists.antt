@@ -1,71 +1,19 @@
 -- The path of each thread of each run of typed code is consistent.
-use Rattle.std.proofs.Common.{◌≡◌, ℕ, zero, suc, ◌+◌, ◌*◌, ◌^◌, ◌<◌, ◌≤◌, ◌≢◌, inl, Bool, true, false, cond, length, List, [], ◌∷◌, Option, Some, None, if◌then◌else◌, refl, sym, ap, ◌∙◌, subst, ⊎_elim, arith, eqb-true}
-use Rattle.std.specs.Prelude.{slice_index, slice_set, nat_eq, nat_lt, ◌==◌}
-use Rattle.std.proofs.lemmas.Bool.{cases_eq, le-leb, lt-leb}
-use Rattle.std.proofs.lemmas.Bool.Decides.{nat_tests}
-use Rattle.std.proofs.lemmas.List.{length-map}
+use Rattle.std.proofs.{Common.{◌≡◌, ℕ, zero, suc, ◌+◌, ◌*◌, ◌^◌, ◌<◌, ◌≤◌, ◌≢◌, inl, Bool, true, false, cond, length, List, [], ◌∷◌, Option, Some, None, if◌then◌else◌, refl, sym, ap, ◌∙◌, subst, ⊎_elim, arith, eqb-true}, lemmas.Bool.{cases_eq, le-leb, lt-leb, true_from_ne_false as not_false}, lemmas.List.length-map}
+use Rattle.std.specs.Prelude.{slice_index, nat_lt, ◌==◌}
 use Rattle.sharc_word.specs.declared.step.WordOp.TheVariants as ops
-use Rattle.sharc_word.specs.declared.step.WordStep.{WordStep}
-use Rattle.sharc_word.specs.declared.step.WordEvent.{WordEvent}
-use Rattle.sharc_word.specs.Words.{word_after, words_after_step}
+use Rattle.sharc_word.specs.{declared.step.WordStep.WordStep, declared.step.WordEvent.WordEvent, Words.{word_after, words_after_step}}
 use Rattle.sharc_tree.specs.declared.event.SourceEvent.{SourceEvent}
-use Rattle.sharc_granule.specs.State.{NewView}
-use Rattle.sharc_granule.specs.Asks.{word_number}
-use Rattle.sharc_granule.specs.Stages.{turn_of_stage}
-use Rattle.sharc_granule.specs.declared.arguments.NewArguments.{NewArguments}
-use Rattle.sharc_granule.specs.declared.stage.Stage.{Stage as NewStage}
+use Rattle.sharc_granule.specs.{State.NewView, Asks.word_number, Stages.turn_of_stage, declared.arguments.NewArguments.NewArguments, declared.stage.Stage.{Stage as NewStage}}
 use Rattle.sharc_granule.specs.declared.stage.Stage.TheVariants as news
-use Rattle.sharc_code.specs.declared.code.Code.{Code}
-use Rattle.sharc_code.specs.declared.instr.Instr.{Instr}
+use Rattle.sharc_code.specs.{declared.code.Code.Code, declared.instr.Instr.Instr, declared.shape.Shape.Shape, declared.state.Stage.Stage, declared.state.Stage.TheVariants.{Rests, Makes, Links}, Laws.RunLaws, Layout.{Fits, granules, first_cell}, Machine.{Machine, instr_at, ref, act, asks_new, elements_of, int, new_state}, Opening.opening_words, Path.{begun, machine_after, turn, asked_by, may_go}, Runs.{Said, Turn, Global, IsRun, MayTurn, at, after_turn, put, words_now, state_now, result_of, step_of, turns_of, with_told, state_after, opening_of, Answered}, Whole.{one_thread, bounds, place_after, Erase}, Says.{speaks_of, elements_in}}
 use Rattle.sharc_code.specs.declared.instr.Instr.TheVariants as instrs
-use Rattle.sharc_code.specs.declared.shape.Shape.{Shape}
-use Rattle.sharc_code.specs.declared.state.Stage.{Stage}
-use Rattle.sharc_code.specs.declared.state.Stage.TheVariants.{Rests, Makes, Links}
-use Rattle.sharc_code.specs.Laws.{RunLaws}
-use Rattle.sharc_code.specs.Layout.{Fits, granules, first_cell}
-use Rattle.sharc_code.specs.Machine.{Machine, instr_at, ref, act, asks_new, elements_of, int, new_state}
-use Rattle.sharc_code.specs.Opening.{opening_words}
-use Rattle.sharc_code.specs.Path.{begun, machine_after, turn, asked_by, may_go}
-use Rattle.sharc_code.specs.Runs.{Said, Turn, Global, IsRun, MayTurn, at, after_turn, put, words_now, state_now, result_of, step_of, turns_of, with_told, state_after, opening_of, Answered}
-use Rattle.sharc_code.specs.Whole.{one_thread, bounds, place_after, Erase}
-use Rattle.sharc_code.specs.Says.{speaks_of, elements_in}
-use Rattle.sharc_gen.specs.Consistent.{Elements, elements_told, said_now, Has, IsConsistent, IsConsistentTurn}
-use Rattle.sharc_gen.specs.OfRuns.{founds_of, told_in, table_of, elements_before}
-use Rattle.sharc_invariant.specs.Types.{Targets}
-use Rattle.sharc_invariant.specs.Labels.{Gate, Closed, Checked, Holds, Loaded, HoldsLoaded, Sole, Labels}
-use Rattle.sharc_invariant.specs.Typed.{IsWellTyped, Fine}
-use Rattle.sharc_invariant.specs.World.{RegisterOf, In, Cell as CellOf, Base, Loaded as IsLoaded, World, ObjectState, WinOk, in_ref, base_of}
-use Rattle.sharc_invariant.specs.Words.{has_returned, length_at, lang_of, is_freed}
-use Rattle.sharc_invariant.specs.Blocks.{Built, Live}
-use Rattle.sharc_invariant.specs.Opened.{first_world}
-use Rattle.sharc_invariant.specs.Effect.{Effect}
-use Rattle.sharc_invariant.specs.Objects.{changes_objects, objects_now}
-use Rattle.sharc_invariant.specs.State.{State, IsSmall, StageStands, GateStands, StopStands, BuildsAt, OnHold, base_of_cell, number_in}
-use Rattle.sharc_invariant.specs.MachineInvariant.{IsOn, WasLoaded}
-use Rattle.sharc_invariant.specs.Laws.{Keeps, Begins as CodeBegins, CellsAreThere, PointersAreThere}
-use Rattle.sharc_history_laws.proofs.Gates.{LoadedStands, loaded_still, links_still, takes_loaded, unloaded}
-use Rattle.sharc_history_laws.proofs.Single.{single, rests_hold}
-use Rattle.sharc_history_laws.proofs.Stands.{live_slot, granules_low, gate, sole_ref, live_ref}
-use Rattle.sharc_history_laws.proofs.Tables.{header_at, header_in, header_of, elements_in_stage, told_other, told_made, was_live, length_kept}
-use Rattle.sharc_history_laws.proofs.Writes.{writes}
-use Rattle.sharc_history_laws.proofs.Finds.{finds}
+use Rattle.sharc_gen.specs.{Consistent.{Elements, elements_told, said_now, Has, IsConsistent, IsConsistentTurn}, OfRuns.{founds_of, told_in, table_of, elements_before}}
+use Rattle.sharc_invariant.specs.{Types.Targets, Labels.{Gate, Closed, Checked, Holds, Loaded, HoldsLoaded, Sole, Labels}, Typed.{IsWellTyped, Fine}, World.{RegisterOf, In, Cell as CellOf, Base, Loaded as IsLoaded, World, ObjectState, WinOk, in_ref, base_of}, Words.{has_returned, length_at, lang_of, is_freed}, Blocks.{Built, Live}, Opened.first_world, Effect.Effect, Objects.{changes_objects, objects_now}, State.{State, IsSmall, StageStands, GateStands, StopStands, BuildsAt, OnHold, base_of_cell, number_in}, MachineInvariant.{IsOn, WasLoaded}, Laws.{Keeps, Begins as CodeBegins, CellsAreThere, PointersAreThere}}
+use Rattle.sharc_history_laws.proofs.{Gates.{LoadedStands, loaded_still, links_still, takes_loaded, unloaded}, Single.{single, rests_hold}, Stands.{live_slot, granules_low, gate, sole_ref, live_ref}, Tables.{header_at, header_in, header_of, elements_in_stage, told_other, told_made, was_live, length_kept}, Writes.writes, Finds.finds, Carried.{put_other, put_same}}
+use Rattle.sharc_lemmas.proofs.{Numbers.{ne_eq, eq_refl, is_below}, Lists.set_here}
 
 -- ---- changed functions
-eq_refl : (n : ℕ) → nat_eq n n ≡ true
-eq_refl n = grind (arith, nat_tests)
-
-ne_eq : (m n : ℕ) → (m ≡ n → ⊥) → nat_eq m n ≡ false
-ne_eq m n ne = grind (arith, nat_tests)
-
-is_below : (a b : ℕ) → a < b → nat_lt a b ≡ true
-is_below a b lt = grind (arith, nat_tests)
-
-put_same : {A : Type 0} (f : ℕ → A) (i : ℕ) (v : A) → put f i v i ≡ v
-put_same f i v = rw (eq_refl i) refl
-
-put_other : {A : Type 0} (f : ℕ → A) (i j : ℕ) (v : A) → (j ≡ i → ⊥) → put f i v j ≡ f j
-put_other f i j v ne = rw (ne_eq j i ne) refl
-
 put_all : {A : Type 0} (P : ℕ → A → Type 0) (f : ℕ → A) (i : ℕ) (v : A) → P i v → ((j : ℕ) → (j ≡ i → ⊥) → P j (f j)) → (j : ℕ) → P j (put f i v j)
 put_all P f i v here there j = ⊎_elim
     (λ (e : j ≡ i). subst (λ k. P k (put f i v k)) (sym e) (subst (P i) (sym (put_same f i v)) here))
@@ -73,11 +21,6 @@ put_all P f i v here there j = ⊎_elim
     (cases_eq j i)
 
 -- ---- what a turn found
-set_here : (words : List ℕ) (n v : ℕ) → n < length words → slice_index (slice_set words n v) n ≡ v
-set_here [] n v lt = absurd (omega arith)
-set_here (w ∷ ws) zero v lt = refl
-set_here (w ∷ ws) (suc n) v lt = set_here ws n v (omega arith)
-
 pub found_is : (words : List ℕ) (event : Option WordEvent) (step : WordStep) → step_of event ≡ Some step → Answered words event → result_of event ≡ slice_index words step.word
 found_is words None step q a = absurd (let f : None ≡ Some step = q in cc)
 found_is words (Some e) step q a = let same : e.step ≡ step = cc in a.result_is ∙ ap (λ (y : WordStep). slice_index words y.word) same
@@ -159,10 +102,6 @@ takes_single (instrs.Exchange r c site) e = refl
 takes_single (instrs.RaiseLoaded r) e = refl
 takes_single (instrs.TakeCell r c site) e = refl
 takes_single _ e = absurd (cc)
-
-not_false : (b : Bool) → (b ≡ false → ⊥) → b ≡ true
-not_false true h = refl
-not_false false h = absurd (h refl)
 
 module _ (x : Targets) (code : Code) (s : Shape) (ls : Labels) (wt : IsWellTyped x code ls) (fits : Fits code s) (g : Global Machine) (world : World) (st : State x code s ls g world) where
   -- a thread that was not started has made no turn

@@ -1,32 +1,13 @@
 -- What cells hold by the events of a run, and as words.
-use Rattle.std.proofs.Common.{◌≡◌, ℕ, ℤ, pos, negsuc, suc, ◌+◌, ◌-◌, ◌*◌, ◌^◌, ◌<◌, ◌⊎◌, Bool, true, false, cond, ◌∷◌, reverse, Some, sym, ap, ◌∙◌, subst, arith, ltb-true}
+use Rattle.std.proofs.{Common.{◌≡◌, ℕ, ℤ, pos, negsuc, suc, ◌+◌, ◌-◌, ◌*◌, ◌^◌, ◌<◌, ◌⊎◌, Bool, true, false, cond, ◌∷◌, reverse, Some, sym, ap, ◌∙◌, subst, arith, ltb-true}, lemmas.Bool.Decides.nat_tests}
 use Rattle.std.specs.Prelude.{slice_index, find, nat_lt}
-use Rattle.std.proofs.lemmas.Bool.Decides.{nat_tests}
-use Rattle.sharc_tree.specs.declared.event.CellAt.{CellAt}
-use Rattle.sharc_tree.specs.declared.event.SourceEvent.{SourceEvent}
+use Rattle.sharc_tree.specs.{declared.event.CellAt.CellAt, declared.event.SourceEvent.SourceEvent}
 use Rattle.sharc_ctype.specs.Resolved.{Resolution}
-use Rattle.sharc_code.specs.declared.code.Code.{Code}
-use Rattle.sharc_code.specs.declared.instr.Width.{Width}
-use Rattle.sharc_code.specs.declared.instr.Width.TheVariants.{Char, Int, Long}
-use Rattle.sharc_code.specs.declared.shape.Shape.{Shape}
-use Rattle.sharc_code.specs.Arithmetic.{word_of, int_of, holds, value_bits}
-use Rattle.sharc_code.specs.Machine.{Machine}
-use Rattle.sharc_code.specs.Runs.{Global}
-use Rattle.sharc_code.specs.Says.{reference}
+use Rattle.sharc_code.specs.{declared.code.Code.Code, declared.instr.Width.Width, declared.instr.Width.TheVariants.{Char, Int, Long}, declared.shape.Shape.Shape, Arithmetic.{word_of, int_of, holds, value_bits}, Machine.Machine, Runs.Global, Says.reference}
 use Rattle.sharc_gen.specs.Consistent.{Elements}
 use Rattle.sharc_meaning.specs.Store.{changes, value_left, value_by, value_after, initial_value}
-use Rattle.sharc_invariant.specs.Types.{Targets, ObjectType, Content, Pointer, field_in}
-use Rattle.sharc_invariant.specs.Labels.{Labels, Number, Anything, Exactly, Within, Indexes, OfElement, OfGlobal, Narrower, LessNumber}
-use Rattle.sharc_invariant.specs.Typed.{IsWellTyped}
-use Rattle.sharc_invariant.specs.World.{World}
-use Rattle.sharc_invariant.specs.Words.{cell_at}
-use Rattle.sharc_invariant.specs.State.{NumberStands}
-use Rattle.sharc_history_laws.proofs.Emptying.{IsEmptied}
-use Rattle.sharc_history_laws.proofs.Lists.{Newest, latest_is}
-use Rattle.sharc_history_laws.proofs.Locked.{Names, names_one}
-use Rattle.sharc_history_laws.proofs.OneMode.{place_of}
-use Rattle.sharc_history_laws.proofs.Shared.{number_of}
-use Rattle.sharc_history_laws.proofs.Sparing.{is_value}
+use Rattle.sharc_invariant.specs.{Types.{Targets, ObjectType, Content, Pointer, field_in}, Labels.{Labels, Number, Anything, Exactly, Within, Indexes, OfElement, OfGlobal, Narrower, LessNumber}, Typed.IsWellTyped, World.World, Words.cell_at, State.NumberStands}
+use Rattle.sharc_history_laws.proofs.{Emptying.IsEmptied, Lists.{Newest, latest_is}, Locked.{Names, names_one}, OneMode.place_of, Shared.number_of, Sparing.is_value}
 
 -- ---- values by the events, the newest event first
 abbrev pub newest_value : Resolution → Newest → CellAt → ℤ

@@ -1,42 +1,14 @@
 -- What a turn does to the access table of its thread and whether it stops the thread at the check of an access.
-use Rattle.std.proofs.Common.{◌≡◌, ℕ, zero, suc, ◌+◌, ◌<◌, ◌⊎◌, inl, inr, Bool, true, false, length, List, [], ◌∷◌, Option, Some, None, is_some, if◌then◌else◌, refl, sym, ap, ◌∙◌, ⊎_elim, arith}
+use Rattle.std.proofs.{Common.{◌≡◌, ℕ, zero, suc, ◌+◌, ◌<◌, ◌⊎◌, inl, inr, Bool, true, false, length, List, [], ◌∷◌, Option, Some, None, is_some, if◌then◌else◌, refl, sym, ap, ◌∙◌, ⊎_elim, arith}, lemmas.Bool.cases_eq, lemmas.Bool.Decides.nat_tests, lemmas.List.get_or-set_other}
 use Rattle.std.specs.Prelude.{slice_index, slice_index_or, slice_set, nat_lt, ◌==◌}
-use Rattle.std.proofs.lemmas.Bool.{cases_eq}
-use Rattle.std.proofs.lemmas.Bool.Decides.{nat_tests}
-use Rattle.std.proofs.lemmas.List.{get_or-set_other}
-use Rattle.sharc_shadow.specs.declared.shadow_word.Kind.{Kind}
-use Rattle.sharc_shadow.specs.declared.shadow_word.Kind.TheVariants.{Read, Write}
-use Rattle.sharc_shadow.specs.declared.access_table.Note.{Note}
-use Rattle.sharc_shadow.specs.declared.access_table.GranuleNotes.{GranuleNotes}
-use Rattle.sharc_shadow.specs.Notes.{blank, of_kind, with_note}
-use Rattle.sharc_shadow.specs.Accesses.{Accesses, note_of, site_at}
-use Rattle.sharc_shadow.specs.ShadowWord.{epoch_of}
-use Rattle.sharc_shadow.specs.Functions.{bits_of, conflicts_in, noted}
+use Rattle.sharc_shadow.specs.{declared.shadow_word.Kind.Kind, declared.shadow_word.Kind.TheVariants.{Read, Write}, declared.access_table.Note.Note, declared.access_table.GranuleNotes.GranuleNotes, Notes.{blank, of_kind, with_note}, Accesses.{Accesses, note_of, site_at}, ShadowWord.epoch_of, Functions.{bits_of, conflicts_in, noted}}
 use Rattle.sharc_word.specs.declared.step.WordOp.TheVariants as ops
-use Rattle.sharc_code.specs.declared.code.Code.{Code}
-use Rattle.sharc_code.specs.declared.instr.Cell.{Cell}
-use Rattle.sharc_code.specs.declared.instr.Instr.{Instr}
+use Rattle.sharc_code.specs.{declared.code.Code.Code, declared.instr.Cell.Cell, declared.instr.Instr.Instr, declared.shape.Shape.Shape, declared.state.ConflictAt.ConflictAt, declared.state.Stage.Stage, declared.state.Stage.TheVariants.{Clears, FreeClears, WithdrawsFrom}, declared.state.Stop.TheVariants.Conflict, Layout.{granules, first_shadow, granule_at, granule_of, shadow_word}, Machine.{Machine, Own, instr_at, act, place, ref, row_of, checked, stopped, with_own, wrote, step_of}, Path.{turn, after, may_go, asked_by}, Runs.{Turn, Global, MayTurn, after_turn, state_now, result_of}, Whole.{one_thread, bounds}}
 use Rattle.sharc_code.specs.declared.instr.Instr.TheVariants as instrs
-use Rattle.sharc_code.specs.declared.shape.Shape.{Shape}
-use Rattle.sharc_code.specs.declared.state.ConflictAt.{ConflictAt}
-use Rattle.sharc_code.specs.declared.state.Stage.{Stage}
-use Rattle.sharc_code.specs.declared.state.Stage.TheVariants.{Clears, FreeClears, WithdrawsFrom}
-use Rattle.sharc_code.specs.declared.state.Stop.TheVariants.{Conflict}
-use Rattle.sharc_code.specs.Layout.{granules, first_shadow, granule_at, granule_of, shadow_word}
-use Rattle.sharc_code.specs.Machine.{Machine, Own, instr_at, act, place, ref, row_of, checked, stopped, with_own, wrote, step_of}
 use Rattle.sharc_code.specs.Machine as machines
-use Rattle.sharc_code.specs.Path.{turn, after, may_go, asked_by}
-use Rattle.sharc_code.specs.Runs.{Turn, Global, MayTurn, after_turn, state_now, result_of}
-use Rattle.sharc_code.specs.Whole.{one_thread, bounds}
-use Rattle.sharc_invariant.specs.Bits.{Touch, Untouched, CheckOf, WithdrawOf, cleared_by, freed_by, withdrawn_by, touch_of}
-use Rattle.sharc_invariant.specs.Reports.{touch_at}
-use Rattle.sharc_history_laws.proofs.Conflicting.{Refused, OfRead, OfWrite, conflict_stop}
-use Rattle.sharc_history_laws.proofs.Consists.{found_is}
-use Rattle.sharc_history_laws.proofs.Rules.{put_same}
-use Rattle.sharc_history_laws.proofs.Tabled.{is_access_check, tabled}
-
-yes : true ≡ false → ⊥
-yes e = cc
+use Rattle.sharc_invariant.specs.{Bits.{Touch, Untouched, CheckOf, WithdrawOf, cleared_by, freed_by, withdrawn_by, touch_of}, Reports.touch_at}
+use Rattle.sharc_history_laws.proofs.{Conflicting.{Refused, OfRead, OfWrite, conflict_stop}, Consists.found_is, Rules.put_same, Tabled.{is_access_check, tabled}}
+use Rattle.sharc_lemmas.proofs.Bools.{yes}
 
 -- ---- tables
 set_most : (xs : List GranuleNotes) (q : ℕ) (v : GranuleNotes) → (slice_index_or (slice_set xs q v) q blank ≡ v) ⊎ (slice_index_or (slice_set xs q v) q blank ≡ slice_index_or xs q blank)
@@ -187,7 +159,7 @@ pub record IsCheckAt (s : Shape) (m : Machine) (i : Instr) (kind : Kind) (q site
   pub granule : q ≡ granule_at s (granule_of (place m cell))
   pub low : q < granules s
 
-granule_low : (s : Shape) (g : ℕ) → granule_at s g < granules s
+pub granule_low : (s : Shape) (g : ℕ) → granule_at s g < granules s
 granule_low s g = elim (nat_lt g (granules s)) as (λ b. nat_lt g (granules s) ≡ b → (if b then g else 0) < granules s) [
   | true ↦ λ e. grind (arith, nat_tests)
   | false ↦ λ e. omega arith

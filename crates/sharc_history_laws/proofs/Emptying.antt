@@ -1,18 +1,8 @@
 -- An object whose pointer cells a Free empties: the thread goes on with it until the object is gone.
-use Rattle.std.proofs.Common.{◌≡◌, ℕ, zero, suc, ◌+◌, ◌*◌, ◌⊎◌, inl, inr, min, Bool, true, false, ◌||◌, nat_lt, Some, if◌then◌else◌, refl, sym, ap, ◌∙◌, subst, ⊎_elim}
-use Rattle.std.proofs.lemmas.Bool.{cases_eq}
-use Rattle.sharc_code.specs.declared.code.Code.{Code}
-use Rattle.sharc_code.specs.declared.code.Layout.{Layout}
+use Rattle.std.proofs.{Common.{◌≡◌, ℕ, zero, suc, ◌+◌, ◌*◌, ◌⊎◌, inl, inr, min, Bool, true, false, ◌||◌, nat_lt, Some, if◌then◌else◌, refl, sym, ap, ◌∙◌, subst, ⊎_elim}, lemmas.Bool.cases_eq}
+use Rattle.sharc_code.specs.{declared.code.Code.Code, declared.code.Layout.Layout, declared.shape.Shape.Shape, declared.state.Stage.Stage, declared.state.Stage.TheVariants.{Empties, Lowers, FreeLooks, FreeClears, Uncounts}, Machine.{Machine, instr_at, ref, act, free, layout_at, empties, emptied, free_looks, at_stage, data_granules, fields, largest}, Path.{turn, after, may_go}, Runs.{Turn, Global, after_turn, state_now, result_of, words_now, is_started}, Whole.{one_thread, bounds}}
 use Rattle.sharc_code.specs.declared.instr.Instr.TheVariants as instrs
-use Rattle.sharc_code.specs.declared.shape.Shape.{Shape}
-use Rattle.sharc_code.specs.declared.state.Stage.{Stage}
-use Rattle.sharc_code.specs.declared.state.Stage.TheVariants.{Empties, Lowers, FreeLooks, FreeClears, Uncounts}
-use Rattle.sharc_code.specs.Machine.{Machine, instr_at, ref, act, free, layout_at, empties, emptied, free_looks, at_stage, data_granules, fields, largest}
-use Rattle.sharc_code.specs.Path.{turn, after, may_go}
-use Rattle.sharc_code.specs.Runs.{Turn, Global, after_turn, state_now, result_of, words_now, is_started}
-use Rattle.sharc_code.specs.Whole.{one_thread, bounds}
-use Rattle.sharc_history_laws.proofs.Acts.{freed_at, freed_in}
-use Rattle.sharc_history_laws.proofs.Rules.{put_same, put_other}
+use Rattle.sharc_history_laws.proofs.{Acts.{freed_at, freed_in}, Rules.{put_same, put_other}}
 
 abbrev pub is_emptying : Stage → Bool
 is_emptying (Empties i all) = true

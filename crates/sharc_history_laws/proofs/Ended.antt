@@ -1,48 +1,15 @@
 -- A thread that is gone by the events has ended.
-use Rattle.std.proofs.Common.{◌≡◌, ℕ, pos, ◌⊎◌, ◌↔◌, Bool, true, false, ◌&&◌, List, [], ◌∷◌, Option, Some, None, refl, sym, ap, ◌∙◌, subst, ⊎_elim, arith, eqb-true}
+use Rattle.std.proofs.{Common.{◌≡◌, ℕ, pos, ◌⊎◌, ◌↔◌, Bool, true, false, ◌&&◌, List, [], ◌∷◌, Option, Some, None, refl, sym, ap, ◌∙◌, subst, ⊎_elim, arith, eqb-true}, lemmas.Bool.{cases_eq, false_from_ne_true as unset, true_from_ne_false as some_true}}
 use Rattle.std.specs.Prelude.{slice_index}
-use Rattle.std.proofs.lemmas.Bool.{cases_eq}
 use Rattle.sharc_tree.specs.declared.event.SourceEvent.{SourceEvent}
-use Rattle.sharc_code.specs.declared.code.Code.{Code}
-use Rattle.sharc_code.specs.declared.instr.Instr.{Instr}
+use Rattle.sharc_code.specs.{declared.code.Code.Code, declared.instr.Instr.Instr, declared.shape.Shape.Shape, declared.state.State.TheVariants.Ended, Laws.RunLaws, Layout.{Fits, state_word}, Machine.{Machine, instr_at, act, exit}, Opening.opening_words, Path.{turn, after, may_go}, Runs.{Turn, Global, IsRun, opening_of, result_of, state_now}, Says.said, Whole.{one_thread, bounds, place_after}}
 use Rattle.sharc_code.specs.declared.instr.Instr.TheVariants as instrs
-use Rattle.sharc_code.specs.declared.shape.Shape.{Shape}
-use Rattle.sharc_code.specs.declared.state.State.TheVariants.{Ended}
-use Rattle.sharc_code.specs.Laws.{RunLaws}
-use Rattle.sharc_code.specs.Layout.{Fits, state_word}
-use Rattle.sharc_code.specs.Machine.{Machine, instr_at, act, exit}
-use Rattle.sharc_code.specs.Opening.{opening_words}
-use Rattle.sharc_code.specs.Path.{turn, after, may_go}
-use Rattle.sharc_code.specs.Runs.{Turn, Global, IsRun, opening_of, result_of, state_now}
-use Rattle.sharc_code.specs.Says.{said}
-use Rattle.sharc_code.specs.Whole.{one_thread, bounds, place_after}
-use Rattle.sharc_gen.specs.Consistent.{said_now}
-use Rattle.sharc_gen.specs.OfRuns.{table_of}
+use Rattle.sharc_gen.specs.{Consistent.said_now, OfRuns.table_of}
 use Rattle.sharc_meaning.specs.Store.{is_gone, is_natural, went}
-use Rattle.sharc_invariant.specs.Labels.{Labels}
-use Rattle.sharc_invariant.specs.Laws.{Keeps, Begins as CodeBegins, CellsAreThere, PointersAreThere, AccessesAreAllowed}
-use Rattle.sharc_invariant.specs.State.{IsSmall}
-use Rattle.sharc_invariant.specs.Typed.{IsWellTyped}
-use Rattle.sharc_invariant.specs.Types.{Targets}
+use Rattle.sharc_invariant.specs.{Labels.Labels, Laws.{Keeps, Begins as CodeBegins, CellsAreThere, PointersAreThere, AccessesAreAllowed}, State.IsSmall, Typed.IsWellTyped, Types.Targets}
 use Rattle.sharc_history_laws.specs.History.{history_of}
-use Rattle.sharc_history_laws.proofs.Acts.{thread_said}
-use Rattle.sharc_history_laws.proofs.Broken.{AllOf, all_reverse, none_any}
-use Rattle.sharc_history_laws.proofs.Consists.{consists}
-use Rattle.sharc_history_laws.proofs.Going.{is_exit}
-use Rattle.sharc_history_laws.proofs.Leaving.{gone_said, not_gone, leaves_at}
-use Rattle.sharc_history_laws.proofs.Lists.{Newest}
-use Rattle.sharc_history_laws.proofs.Rules.{pushed, newest, newest_now, about_now, number_is, put_same, put_other}
-
-yes : true ≡ false → ⊥
-yes e = cc
-
-unset : (b : Bool) → (b ≡ true → ⊥) → b ≡ false
-unset true h = absurd (h refl)
-unset false h = refl
-
-some_true : (b : Bool) → (b ≡ false → ⊥) → b ≡ true
-some_true true h = refl
-some_true false h = absurd (h refl)
+use Rattle.sharc_history_laws.proofs.{Acts.thread_said, Broken.{AllOf, all_reverse, none_any}, Consists.consists, Going.is_exit, Leaving.{gone_said, not_gone, leaves_at}, Lists.Newest, Rules.{pushed, newest, newest_now, about_now, number_is, put_same, put_other}}
+use Rattle.sharc_lemmas.proofs.Bools.{yes}
 
 -- the event says that thread n is gone
 abbrev GoneBy : ℕ → SourceEvent → Bool

@@ -1,34 +1,12 @@
 -- What a report may name by the notes and stops at the end of a run is what it may name by those that were there when the check was refused.
-use Rattle.std.proofs.Common.{◌≡◌, ℕ, ◌≢◌, ◌⊎◌, inl, inr, true, false, List, [], ◌∷◌, ◌++◌, Option, Some, None, refl, sym, ap, ◌∙◌, subst, ⊎_elim}
-use Rattle.std.proofs.lemmas.Bool.{cases_eq}
-use Rattle.sharc_shadow.specs.declared.shadow_word.Kind.{Kind}
-use Rattle.sharc_shadow.specs.declared.shadow_word.Kind.TheVariants.{Read, Write}
-use Rattle.sharc_shadow.specs.Accesses.{note_of, site_at}
-use Rattle.sharc_shadow.specs.ShadowWord.{epoch_of, is_of, is_written, stands, Conflicts}
-use Rattle.sharc_code.specs.declared.code.Code.{Code}
-use Rattle.sharc_code.specs.declared.shape.Shape.{Shape}
-use Rattle.sharc_code.specs.declared.state.ConflictAt.{ConflictAt}
-use Rattle.sharc_code.specs.declared.state.Stop.TheVariants.{Conflict}
-use Rattle.sharc_code.specs.Machine.{Machine, wrote}
-use Rattle.sharc_code.specs.Runs.{Turn, Global, state_now}
-use Rattle.sharc_code.specs.Whole.{one_thread, place_after}
-use Rattle.sharc_invariant.specs.Labels.{Labels}
-use Rattle.sharc_invariant.specs.Types.{Targets}
-use Rattle.sharc_history_laws.specs.Causes.{noted_site, Stood, StoppedThere, IsNamed, OfWrite, OfRead, OfStop, OfFirst, ShowsCause, HasNamed}
-use Rattle.sharc_history_laws.specs.Followed.{ChecksAreFollowed}
-use Rattle.sharc_history_laws.proofs.Caused.{Report, the_report, cause, has_named}
-use Rattle.sharc_history_laws.proofs.Lasting.{epoch_is, note_later, write_before, FoundLater, stop_from, stop_later, stopped_later}
+use Rattle.std.proofs.{Common.{◌≡◌, ℕ, ◌≢◌, ◌⊎◌, true, false, List, [], ◌∷◌, ◌++◌, Option, Some, None, refl, sym, ap, ◌∙◌, subst, ⊎_elim}, lemmas.Bool.cases_eq}
+use Rattle.sharc_shadow.specs.{declared.shadow_word.Kind.Kind, declared.shadow_word.Kind.TheVariants.{Read, Write}, Accesses.{note_of, site_at}, ShadowWord.{epoch_of, is_of, is_written, stands, Conflicts}}
+use Rattle.sharc_code.specs.{declared.code.Code.Code, declared.shape.Shape.Shape, declared.state.ConflictAt.ConflictAt, declared.state.Stop.TheVariants.Conflict, Machine.{Machine, wrote}, Runs.{Turn, Global, state_now}, Whole.{one_thread, place_after}}
+use Rattle.sharc_invariant.specs.{Labels.Labels, Types.Targets}
+use Rattle.sharc_history_laws.specs.{Causes.{noted_site, Stood, StoppedThere, IsNamed, OfWrite, OfRead, OfStop, OfFirst, ShowsCause, HasNamed}, Followed.ChecksAreFollowed}
+use Rattle.sharc_history_laws.proofs.{Caused.{Report, the_report, cause, has_named}, Lasting.{epoch_is, note_later, write_before, FoundLater, stop_from, stop_later, stopped_later}, Remaining.{word_at, site_now, StoppedAt, Reason, Writes, Written}, Rules.put_other, Wholes.{TheLaws, Typed, RunOf, whole}}
 use Rattle.sharc_history_laws.proofs.Remaining as remaining
-use Rattle.sharc_history_laws.proofs.Remaining.{word_at, site_now, StoppedAt, IsFirst, Reason, Writes, Written}
-use Rattle.sharc_history_laws.proofs.Rules.{put_other}
-use Rattle.sharc_history_laws.proofs.Wholes.{TheLaws, Typed, RunOf, whole}
-
-yes : true ≡ false → ⊥
-yes e = cc
-
-some_or : (o : Option ℕ) → ((z : ℕ) × (o ≡ Some z)) ⊎ (o ≡ None)
-some_or None = inr refl
-some_or (Some z) = inl (z, refl)
+use Rattle.sharc_lemmas.proofs.{Bools.yes, Options.some_or}
 
 not_both : (o : Option ℕ) (z : ℕ) → o ≡ None → o ≡ Some z → ⊥
 not_both o z a b = let f : None ≡ Some z = sym a ∙ b in cc

@@ -1,45 +1,16 @@
 -- What a turn of typed code finds is consistent.
-use Rattle.std.proofs.Common.{◌≡◌, ℕ, zero, suc, ◌+◌, ◌*◌, ◌/◌, ◌<◌, ◌≤◌, ◌≢◌, Bool, true, false, Some, refl, sym, ap, ◌∙◌, subst, ⊎_elim, arith}
+use Rattle.std.proofs.{Common.{◌≡◌, ℕ, zero, suc, ◌+◌, ◌*◌, ◌/◌, ◌<◌, ◌≤◌, ◌≢◌, Bool, true, false, Some, refl, sym, ap, ◌∙◌, subst, ⊎_elim, arith}, Math.Nat.mul-le-mul_right, lemmas.Bool.{cases_eq, cases_lt}, lemmas.Bool.Decides.nat_tests, lemmas.List.Elements.All-contains_itself}
 use Rattle.std.specs.Prelude.{slice_index, slice_index_or, nat_lt, ◌==◌}
-use Rattle.std.proofs.Math.Nat.{mul-le-mul_right}
-use Rattle.std.proofs.lemmas.Bool.{cases_eq, cases_lt}
-use Rattle.std.proofs.lemmas.Bool.Decides.{nat_tests}
-use Rattle.std.proofs.lemmas.List.Elements.{All-contains_itself}
-use Rattle.sharc_word.specs.declared.step.TheConstants.{THREADS}
-use Rattle.sharc_word.specs.declared.step.WordStep.{WordStep}
-use Rattle.sharc_granule.specs.declared.stage.Stage.{Stage as NewStage}
+use Rattle.sharc_word.specs.{declared.step.TheConstants.THREADS, declared.step.WordStep.WordStep}
+use Rattle.sharc_granule.specs.{declared.stage.Stage.{Stage as NewStage}, State.NewView}
 use Rattle.sharc_granule.specs.declared.stage.Stage.TheVariants as news
-use Rattle.sharc_granule.specs.State.{NewView}
-use Rattle.sharc_code.specs.declared.code.Code.{Code}
-use Rattle.sharc_code.specs.declared.code.Parameter.{Parameter}
+use Rattle.sharc_code.specs.{declared.code.Code.Code, declared.code.Parameter.Parameter, declared.instr.Cell.Cell, declared.instr.Instr.Instr, declared.shape.Shape.Shape, declared.state.Stage.Stage, declared.state.Stage.TheVariants.{Rests, Looks, Clears, Makes, Empties, Lowers, FreeLooks, FreeClears, Uncounts, Links, Names, Hands, Begins, Enters, Withdraws, WithdrawsFrom, Leaves, Wakes}, Arithmetic.word_of, Layout.{Fits, granules, first_cell, cell_of, length_word, function_word, argument_word, state_word}, Machine.{Machine, act, instr_at, ref, int, place, object, word, is_held, is_of_null, function_of}, Path.{turn, asked_by}, Ranges.IsInGlobal, Runs.Global}
 use Rattle.sharc_code.specs.declared.code.Parameter.TheVariants as parameters
-use Rattle.sharc_code.specs.declared.instr.Cell.{Cell}
 use Rattle.sharc_code.specs.declared.instr.Cell.TheVariants as cells
-use Rattle.sharc_code.specs.declared.instr.Instr.{Instr}
 use Rattle.sharc_code.specs.declared.instr.Instr.TheVariants as instrs
-use Rattle.sharc_code.specs.declared.shape.Shape.{Shape}
-use Rattle.sharc_code.specs.declared.state.Stage.{Stage}
-use Rattle.sharc_code.specs.declared.state.Stage.TheVariants.{Rests, Looks, Clears, Makes, Empties, Lowers, FreeLooks, FreeClears, Uncounts, Links, Names, Hands, Begins, Enters, Withdraws, WithdrawsFrom, Leaves, Wakes}
-use Rattle.sharc_code.specs.Arithmetic.{word_of}
-use Rattle.sharc_code.specs.Layout.{Fits, granules, first_cell, cell_of, length_word, function_word, argument_word, state_word}
-use Rattle.sharc_code.specs.Machine.{Machine, act, instr_at, ref, int, place, object, word, is_held, is_of_null, function_of}
-use Rattle.sharc_code.specs.Path.{turn, asked_by}
-use Rattle.sharc_code.specs.Ranges.{IsInGlobal}
-use Rattle.sharc_code.specs.Runs.{Global}
 use Rattle.sharc_gen.specs.Consistent.{Elements, IsNumber, IsApart, IsThere, IsMutex, IsLock, IsFree, IsHeld, IsLength, IsNewIn, IsNewAt, IsArgument, IsArgumentAt, MayFind}
-use Rattle.sharc_invariant.specs.Types.{Targets, ObjectType, StaticType, Field, FieldType, Content, cells_of, field_in, is_pointer, is_mutex, type_at}
-use Rattle.sharc_invariant.specs.Types.Content.{MutexWord, Pointer}
-use Rattle.sharc_invariant.specs.Labels.{Loaded, OfGlobal, Label, Labels}
-use Rattle.sharc_invariant.specs.Typed.{IsWellTyped, Fine, HasField, HasCell, PointsToMutex}
-use Rattle.sharc_invariant.specs.World.{RegisterOf, ArgumentOf, In, Slot, Cell as CellOf, Loaded as IsLoaded, World, WinOk, in_ref}
-use Rattle.sharc_invariant.specs.Words.{cell_at, length_at, lang_of, if_reference, is_unread, argument_of}
-use Rattle.sharc_invariant.specs.Blocks.{Built, Live}
-use Rattle.sharc_invariant.specs.State.{State, Runs, StageStands, GateStands, NumberStands, BuildsAt, OnHold, object_of_cell, number_in, base_of_cell, refs_at, types_at}
-use Rattle.sharc_invariant.specs.MachineInvariant.{IsOn}
-use Rattle.sharc_invariant.specs.Laws.{CellsAreThere}
-use Rattle.sharc_history_laws.proofs.Gates.{LoadedStands, no_pending}
-use Rattle.sharc_history_laws.proofs.Single.{single, rests_hold}
-use Rattle.sharc_history_laws.proofs.Stands.{register_is, live_slot, live_low, top, gate, known_ref, some_base, there, live_ref, target_ref}
+use Rattle.sharc_invariant.specs.{Types.{Targets, ObjectType, StaticType, Field, FieldType, Content, cells_of, field_in, is_pointer, is_mutex, type_at}, Types.Content.{MutexWord, Pointer}, Labels.{Loaded, OfGlobal, Label, Labels}, Typed.{IsWellTyped, Fine, HasField, HasCell, PointsToMutex}, World.{RegisterOf, ArgumentOf, In, Slot, Cell as CellOf, Loaded as IsLoaded, World, WinOk, in_ref}, Words.{cell_at, length_at, lang_of, if_reference, is_unread, argument_of}, Blocks.{Built, Live}, State.{State, Runs, StageStands, GateStands, NumberStands, BuildsAt, OnHold, object_of_cell, number_in, base_of_cell, refs_at, types_at}, MachineInvariant.IsOn, Laws.CellsAreThere}
+use Rattle.sharc_history_laws.proofs.{Gates.{LoadedStands, no_pending}, Single.{single, rests_hold}, Stands.{register_is, live_slot, live_low, top, gate, known_ref, some_base, there, live_ref, target_ref}}
 
 module _ (there_laws : CellsAreThere) (x : Targets) (code : Code) (s : Shape) (ls : Labels) (wt : IsWellTyped x code ls) (fits : Fits code s) (g : Global Machine) (world : World) (st : State x code s ls g world) where
   -- what a slot holds has a number of 32 bits

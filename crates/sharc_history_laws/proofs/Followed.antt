@@ -1,44 +1,19 @@
 -- A check of an access is directly before it, so where it passed its thread makes the access next.
-use Rattle.std.proofs.Common.{◌≡◌, ℕ, ◌+◌, Bool, true, false, List, [], ◌∷◌, ◌++◌, Some, is_some, if◌then◌else◌, refl, sym, ap, ◌∙◌, subst, ⊎_elim, arith}
+use Rattle.std.proofs.{Common.{◌≡◌, ℕ, ◌+◌, Bool, true, false, List, [], ◌∷◌, ◌++◌, Some, is_some, if◌then◌else◌, refl, sym, ap, ◌∙◌, subst, ⊎_elim, arith}, lemmas.Bool.cases_eq, lemmas.Bool.Decides.nat_tests}
 use Rattle.std.specs.Prelude.{◌==◌, nat_eq}
-use Rattle.std.proofs.lemmas.Bool.{cases_eq}
-use Rattle.std.proofs.lemmas.Bool.Decides.{nat_tests}
-use Rattle.sharc_tree.specs.declared.event.SourceEvent.{SourceEvent}
-use Rattle.sharc_tree.specs.declared.event.CellAt.{CellAt}
+use Rattle.sharc_tree.specs.{declared.event.SourceEvent.SourceEvent, declared.event.CellAt.CellAt}
 use Rattle.sharc_tree.specs.declared.event.Act.TheVariants as acts
 use Rattle.sharc_tree.specs.declared.event.Taken.TheVariants as takens
-use Rattle.sharc_shadow.specs.declared.shadow_word.Kind.{Kind}
-use Rattle.sharc_shadow.specs.declared.shadow_word.Kind.TheVariants.{Read, Write}
-use Rattle.sharc_shadow.specs.Accesses.{note_of, site_at}
-use Rattle.sharc_shadow.specs.ShadowWord.{epoch_of}
-use Rattle.sharc_shadow.specs.Functions.{conflicts_in, noted}
-use Rattle.sharc_code.specs.declared.code.Code.{Code}
-use Rattle.sharc_code.specs.declared.code.PlaceMode.{PlaceMode}
+use Rattle.sharc_shadow.specs.{declared.shadow_word.Kind.Kind, declared.shadow_word.Kind.TheVariants.{Read, Write}, Accesses.{note_of, site_at}, ShadowWord.epoch_of, Functions.{conflicts_in, noted}}
+use Rattle.sharc_code.specs.{declared.code.Code.Code, declared.code.PlaceMode.PlaceMode, declared.instr.Cell.Cell, declared.instr.Instr.Instr, declared.shape.Shape.Shape, declared.state.Stage.Stage, declared.state.Stage.TheVariants.{Clears, FreeClears, WithdrawsFrom}, declared.state.Stop.Stop, declared.state.Stop.TheVariants.Conflict, Arithmetic.int_of, Layout.{granule_at, granule_of}, Machine.{Machine, Own, instr_at, act, place, ref, int, row_of, stopped, with_own, with_note, wrote, checked}, Path.{turn, after, may_go}, Runs.{Turn, Global, after_turn, paired, state_now, result_of, turns_of}, Says.{cell_at, mode_of, place_at, said, reference, kind_of}, Whole.{one_thread, bounds, place_after, Erase}}
 use Rattle.sharc_code.specs.declared.code.PlaceMode.TheVariants as places
-use Rattle.sharc_code.specs.declared.instr.Cell.{Cell}
 use Rattle.sharc_code.specs.declared.instr.Cell.TheVariants as cells
-use Rattle.sharc_code.specs.declared.instr.Instr.{Instr}
 use Rattle.sharc_code.specs.declared.instr.Instr.TheVariants as instrs
-use Rattle.sharc_code.specs.declared.shape.Shape.{Shape}
-use Rattle.sharc_code.specs.declared.state.Stage.{Stage}
-use Rattle.sharc_code.specs.declared.state.Stage.TheVariants.{Clears, FreeClears, WithdrawsFrom}
-use Rattle.sharc_code.specs.declared.state.Stop.{Stop}
-use Rattle.sharc_code.specs.declared.state.Stop.TheVariants.{Conflict}
-use Rattle.sharc_code.specs.Arithmetic.{int_of}
-use Rattle.sharc_code.specs.Layout.{granule_at, granule_of}
-use Rattle.sharc_code.specs.Machine.{Machine, Own, instr_at, act, place, ref, int, row_of, stopped, with_own, with_note, wrote, checked}
-use Rattle.sharc_code.specs.Path.{turn, after, may_go}
-use Rattle.sharc_code.specs.Runs.{Turn, Global, after_turn, paired, state_now, result_of, turns_of}
-use Rattle.sharc_code.specs.Says.{cell_at, mode_of, place_at, said, reference, kind_of}
-use Rattle.sharc_code.specs.Whole.{one_thread, bounds, place_after, Erase}
 use Rattle.sharc_meaning.specs.Events.{Access, access_by}
 use Rattle.sharc_invariant.specs.Bits.{Touch, Untouched, CheckOf, WithdrawOf, cleared_by, freed_by, withdrawn_by, touch_of}
-use Rattle.sharc_history_laws.specs.Conflicts.{site_of_check, IsCheck}
-use Rattle.sharc_history_laws.specs.Followed.{Accesses, IsFollowed, ChecksAreFollowed, access_to, access_of, TellsAccess, Follows, IsNext, IsMade, IsOfAccess}
+use Rattle.sharc_history_laws.specs.{Conflicts.{site_of_check, IsCheck}, Followed.{Accesses, IsFollowed, ChecksAreFollowed, access_to, access_of, TellsAccess, Follows, IsNext, IsMade, IsOfAccess}}
 use Rattle.sharc_history_laws.proofs.Rules.{put_same, put_other}
-
-yes : true ≡ false → ⊥
-yes e = cc
+use Rattle.sharc_lemmas.proofs.Bools.{yes}
 
 -- ---- turns that are checks
 abbrev Parts : Touch → Kind → ℕ → Bool → Type 0

@@ -1,23 +1,10 @@
 -- Where a reference was loaded and is not raised the place's gate says so, and a Free that is to put its block into a list goes on.
 use Rattle.std.proofs.Common.{◌≡◌, ℕ, zero, suc, ◌+◌, ◌⊎◌, inl, inr, Bool, true, false, List, refl, sym, ap, ◌∙◌, subst, ⊎_elim}
 use Rattle.std.specs.Prelude.{◌==◌}
-use Rattle.sharc_code.specs.declared.code.Code.{Code}
-use Rattle.sharc_code.specs.declared.instr.Cell.{Cell}
-use Rattle.sharc_code.specs.declared.instr.Instr.{Instr}
-use Rattle.sharc_code.specs.declared.instr.Instr.TheVariants.{Constant, Move, MoveReference, Null, ComputeInt, ComputeLong, NegateInt, NegateLong, Complement, Not, SameReference as CompareReferences, ChkWidth, Jump, JumpIfZero, JumpIfNull, Call, Return, ChkNull, ChkHeld, ChkNotHeld, ChkPositive, ChkRoom, ChkLock, ChkLockLoaded, Bounds, GlobalBounds, ChkRead, ChkWrite, Load, Store, LoadRef, Exchange, Raise, RaiseLoaded, Lower, New, TakeCell, TakeLocal, TestSole, Clear, Give, Free, Lock as LockCell, Unlock, Spawn, Join, Print, Start, Exit, CondEnter, CondWait, CondSignal, CondBroadcast}
-use Rattle.sharc_code.specs.declared.shape.Shape.{Shape}
-use Rattle.sharc_code.specs.declared.state.Stage.TheVariants.{Links}
-use Rattle.sharc_code.specs.Layout.{cell_of, cell_word}
-use Rattle.sharc_code.specs.Machine.{Machine, act, goes, accessed, set_ref, raise, is_held, lock_checked, free, layout_at, instr_at}
-use Rattle.sharc_code.specs.Path.{turn, after, may_go}
-use Rattle.sharc_invariant.specs.Types.{Targets}
-use Rattle.sharc_invariant.specs.Labels.{Closed, Holds, Sole, Label, Labels}
-use Rattle.sharc_invariant.specs.Typed.{Fine}
-use Rattle.sharc_invariant.specs.World.{World}
-use Rattle.sharc_invariant.specs.Blocks.{Heap}
-use Rattle.sharc_invariant.specs.State.{StageStands, OnFree}
-use Rattle.sharc_invariant.specs.MachineInvariant.{WasLoaded}
+use Rattle.sharc_code.specs.{declared.code.Code.Code, declared.instr.Cell.Cell, declared.instr.Instr.Instr, declared.instr.Instr.TheVariants.{Constant, Move, MoveReference, Null, ComputeInt, ComputeLong, NegateInt, NegateLong, Complement, Not, SameReference as CompareReferences, ChkWidth, Jump, JumpIfZero, JumpIfNull, Call, Return, ChkNull, ChkHeld, ChkNotHeld, ChkPositive, ChkRoom, ChkLock, ChkLockLoaded, Bounds, GlobalBounds, ChkRead, ChkWrite, Load, Store, LoadRef, Exchange, Raise, RaiseLoaded, Lower, New, TakeCell, TakeLocal, TestSole, Clear, Give, Free, Lock as LockCell, Unlock, Spawn, Join, Print, Start, Exit, CondEnter, CondWait, CondSignal, CondBroadcast}, declared.shape.Shape.Shape, declared.state.Stage.TheVariants.Links, Layout.{cell_of, cell_word}, Machine.{Machine, act, goes, accessed, set_ref, raise, is_held, lock_checked, free, layout_at, instr_at}, Path.{turn, after, may_go}}
+use Rattle.sharc_invariant.specs.{Types.Targets, Labels.{Closed, Holds, Sole, Label, Labels}, Typed.Fine, World.World, Blocks.Heap, State.{StageStands, OnFree}, MachineInvariant.WasLoaded}
 use Rattle.sharc_history_laws.proofs.Calm.{calm, is_load, is_links}
+use Rattle.sharc_lemmas.proofs.Bools.{yes}
 
 -- ---- what was loaded
 closed : (l : Label) → l.gate ≡ Closed → WasLoaded l.gate → ⊥
@@ -39,9 +26,6 @@ takes_loaded (Exchange r c site) = true
 takes_loaded (RaiseLoaded r) = true
 takes_loaded (TakeCell r c site) = true
 takes_loaded _ = false
-
-yes : true ≡ false → ⊥
-yes e = cc
 
 -- at the others none was
 pub unloaded : (x : Targets) (code : Code) (ls : Labels) (pc : ℕ) (l : Label) (i : Instr) → takes_loaded i ≡ false → Fine x code ls pc l i → WasLoaded l.gate → ⊥
@@ -201,9 +185,6 @@ module _ (code : Code) (s : Shape) (m : Machine) where
       absurd (let f : true ≡ false = sym (ap is_links q) ∙ ap is_links y in cc))
       (λ (go : may_go (after (act code s i m) found).at.state ≡ true). go)
       ((calm code s m i found other).linked e q)
-
-  load_linked : (c : Cell) (site found e : ℕ) → (after (act code s (LoadRef c site) m) found).own.stage ≡ Links e → may_go (after (act code s (LoadRef c site) m) found).at.state ≡ true
-  load_linked c site found e q = refl
 
   is_load_of : (i : Instr) → is_load i ≡ true → (c : Cell) × (site : ℕ) × (i ≡ LoadRef c site)
   is_load_of (LoadRef c site) e = (c, site, refl)

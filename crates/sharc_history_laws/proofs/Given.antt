@@ -1,36 +1,15 @@
 -- What a thread was given to begin with, its function and its argument, no turn writes once the thread is started.
-use Rattle.std.proofs.Common.{◌≡◌, ℕ, ℤ, pos, negsuc, zero, suc, ◌+◌, ◌*◌, ◌<◌, ◌≤◌, ◌≢◌, true, false, nat_lt, List, Option, Some, None, if◌then◌else◌, refl, sym, ap, ◌∙◌, subst, arith}
+use Rattle.std.proofs.{Common.{◌≡◌, ℕ, ℤ, pos, negsuc, zero, suc, ◌+◌, ◌*◌, ◌<◌, ◌≤◌, ◌≢◌, true, false, nat_lt, List, Option, Some, None, if◌then◌else◌, refl, sym, ap, ◌∙◌, subst, arith}, lemmas.List.get_or-set_other}
 use Rattle.std.specs.Prelude.{slice_index}
-use Rattle.std.proofs.lemmas.List.{get_or-set_other}
 use Rattle.sharc_tree.specs.declared.trap.Trap.TheVariants as traps
-use Rattle.sharc_word.specs.declared.step.TheConstants.{THREADS}
-use Rattle.sharc_word.specs.declared.step.WordOp.{WordOp}
+use Rattle.sharc_word.specs.{declared.step.TheConstants.THREADS, declared.step.WordOp.WordOp, declared.step.WordStep.WordStep, declared.step.WordEvent.WordEvent, Words.{word_after, words_after_step}}
 use Rattle.sharc_word.specs.declared.step.WordOp.TheVariants as ops
-use Rattle.sharc_word.specs.declared.step.WordStep.{WordStep}
-use Rattle.sharc_word.specs.declared.step.WordEvent.{WordEvent}
-use Rattle.sharc_word.specs.Words.{word_after, words_after_step}
-use Rattle.sharc_granule.specs.State.{NewView, told}
-use Rattle.sharc_granule.specs.Asks.{word_number}
-use Rattle.sharc_granule.specs.Stages.{turn_of_stage}
-use Rattle.sharc_granule.specs.declared.arguments.NewArguments.{NewArguments}
-use Rattle.sharc_granule.specs.declared.stage.Stage.{Stage as NewStage}
+use Rattle.sharc_granule.specs.{State.{NewView, told}, Asks.word_number, Stages.turn_of_stage, declared.arguments.NewArguments.NewArguments, declared.stage.Stage.{Stage as NewStage}}
 use Rattle.sharc_granule.specs.declared.stage.Stage.TheVariants as news
-use Rattle.sharc_code.specs.declared.code.Code.{Code}
-use Rattle.sharc_code.specs.declared.code.Layout.{Layout}
-use Rattle.sharc_code.specs.declared.instr.Register.{Register}
-use Rattle.sharc_code.specs.declared.instr.Instr.{Instr}
+use Rattle.sharc_code.specs.{declared.code.Code.Code, declared.code.Layout.Layout, declared.instr.Register.Register, declared.instr.Instr.Instr, declared.shape.Shape.Shape, declared.state.Stage.Stage, declared.state.Stage.TheVariants.{Looks, Clears, Makes, Empties, Lowers, FreeLooks, FreeClears, Uncounts, Links, Names, Hands, Begins, Enters, Withdraws, WithdrawsFrom, Leaves as Leaving, Wakes}, Layout.{words_of, cell_word, shadow_word, count_word, length_word, first_cell, first_shadow, state_word, function_word, argument_word}, Machine.{Machine, Turn as Act, Local, Asks, step_of, act, int, ref, word, place, raise, lower, test, new, asks_new, new_state, elements_of, clear, free, layout_at, spawn, join, start, exit, signal, joined, trapped, instr_at}, Path.{turn, asked_by}, Runs.words_now}
 use Rattle.sharc_code.specs.declared.instr.Instr.TheVariants as instrs
-use Rattle.sharc_code.specs.declared.shape.Shape.{Shape}
-use Rattle.sharc_code.specs.declared.state.Stage.{Stage}
-use Rattle.sharc_code.specs.declared.state.Stage.TheVariants.{Looks, Clears, Makes, Empties, Lowers, FreeLooks, FreeClears, Uncounts, Links, Names, Hands, Begins, Enters, Withdraws, WithdrawsFrom, Leaves as Leaving, Wakes}
-use Rattle.sharc_code.specs.Layout.{words_of, cell_word, shadow_word, count_word, length_word, first_cell, first_shadow, state_word, function_word, argument_word}
-use Rattle.sharc_code.specs.Machine.{Machine, Turn as Act, Local, Asks, step_of, act, int, ref, word, place, raise, lower, test, new, asks_new, new_state, elements_of, clear, free, layout_at, spawn, join, start, exit, signal, joined, trapped, instr_at}
-use Rattle.sharc_code.specs.Path.{turn, asked_by}
-use Rattle.sharc_code.specs.Runs.{words_now}
 use Rattle.sharc_code.specs.Runs as Runs
-use Rattle.sharc_invariant.specs.World.{World}
-use Rattle.sharc_invariant.specs.Blocks.{Heap}
-use Rattle.sharc_invariant.specs.State.{StageStands}
+use Rattle.sharc_invariant.specs.{World.World, Blocks.Heap, State.StageStands}
 use Rattle.sharc_history_laws.proofs.Tables.{step_leaves}
 
 -- a step that leaves its word, or is on another than these two of thread n

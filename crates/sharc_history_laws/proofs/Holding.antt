@@ -1,15 +1,11 @@
 -- The mutexes that a thread holds by a history that grows by one event.
 use Rattle.std.proofs.Common.{◌≡◌, ℕ, Bool, true, false, not, ◌||◌, ◌&&◌, List, [], ◌∷◌, ◌++◌, reverse, Option, Some, None, refl, sym, ap, ◌∙◌, if◌then◌else◌, eqb-true}
-use Rattle.std.specs.Prelude.{◌==◌}
-use Rattle.std.specs.List.{list_any}
-use Rattle.sharc_tree.specs.declared.event.SourceEvent.{SourceEvent}
-use Rattle.sharc_tree.specs.declared.event.CellAt.{CellAt}
-use Rattle.sharc_tree.specs.declared.event.Object.{Object}
+use Rattle.std.specs.{Prelude.{◌==◌}, List.list_any}
+use Rattle.sharc_tree.specs.{declared.event.SourceEvent.SourceEvent, declared.event.CellAt.CellAt, declared.event.Object.Object}
 use Rattle.sharc_tree.specs.declared.event.Object.TheVariants as objects
-use Rattle.sharc_meaning.specs.Events.{same_object, same_cell, is_cell, locked_by, locks, unlocks, is_of, events_of, unless_unlocked, held_mutexes, holds_mutex}
-use Rattle.sharc_meaning.specs.Obeys.{History}
-use Rattle.sharc_history_laws.proofs.Lists.{Newest, reverse_push}
-use Rattle.sharc_history_laws.proofs.Sets.{own_append}
+use Rattle.sharc_meaning.specs.{Events.{same_object, same_cell, is_cell, locked_by, locks, unlocks, is_of, events_of, unless_unlocked, held_mutexes, holds_mutex}, Obeys.History}
+use Rattle.sharc_history_laws.proofs.{Lists.{Newest, reverse_push}, Sets.own_append}
+use Rattle.sharc_lemmas.proofs.Bools.{both as both_true}
 
 -- ---- cells
 object_eq : (a b : Object) → same_object a b ≡ true → a ≡ b
@@ -17,10 +13,6 @@ object_eq (objects.Global g) (objects.Global h) e = ap objects.Global (eqb-true 
 object_eq (objects.Made g) (objects.Made h) e = ap objects.Made (eqb-true g h e)
 object_eq (objects.Global g) (objects.Made h) e = absurd (let f : false ≡ true = e in cc)
 object_eq (objects.Made g) (objects.Global h) e = absurd (let f : false ≡ true = e in cc)
-
-both_true : (a b : Bool) → (a && b) ≡ true → (a ≡ true) × (b ≡ true)
-both_true true b e = (refl, e)
-both_true false b e = absurd (let f : false ≡ true = e in cc)
 
 pub cell_eq : (a b : CellAt) → same_cell a b ≡ true → a ≡ b
 cell_eq a b e =

@@ -1,29 +1,10 @@
 -- An object to which a stopped thread refers is neither cleared, given nor freed by another one.
-use Rattle.std.proofs.Common.{◌≡◌, ℕ, ◌+◌, ◌*◌, ◌<◌, ◌≢◌, true, false, List, ◌∷◌, Some, None, if◌then◌else◌, refl, sym, ◌∙◌, subst, ⊎_elim}
+use Rattle.std.proofs.{Common.{◌≡◌, ℕ, ◌+◌, ◌*◌, ◌<◌, ◌≢◌, true, false, List, ◌∷◌, Some, None, if◌then◌else◌, refl, sym, ◌∙◌, subst, ⊎_elim}, lemmas.Bool.cases_eq}
 use Rattle.std.specs.Prelude.{◌==◌}
-use Rattle.std.proofs.lemmas.Bool.{cases_eq}
-use Rattle.sharc_code.specs.declared.code.Code.{Code}
-use Rattle.sharc_code.specs.declared.instr.Instr.{Instr}
+use Rattle.sharc_code.specs.{declared.code.Code.Code, declared.instr.Instr.Instr, declared.shape.Shape.Shape, declared.state.Stage.Stage, declared.state.Stage.TheVariants.{Clears, FreeClears, Uncounts, WithdrawsFrom}, Layout.granule_at, Machine.{Machine, instr_at, ref, row_of, data_granule}, Runs.{Turn, Global, after_turn, result_of}, Whole.{one_thread, bounds, place_after}}
 use Rattle.sharc_code.specs.declared.instr.Instr.TheVariants as instrs
-use Rattle.sharc_code.specs.declared.shape.Shape.{Shape}
-use Rattle.sharc_code.specs.declared.state.Stage.{Stage}
-use Rattle.sharc_code.specs.declared.state.Stage.TheVariants.{Clears, FreeClears, Uncounts, WithdrawsFrom}
-use Rattle.sharc_code.specs.Layout.{granule_at}
-use Rattle.sharc_code.specs.Machine.{Machine, instr_at, ref, row_of, data_granule}
-use Rattle.sharc_code.specs.Runs.{Turn, Global, after_turn, result_of}
-use Rattle.sharc_code.specs.Whole.{one_thread, bounds, place_after}
-use Rattle.sharc_invariant.specs.Bits.{Untouched, ClearOf, WithdrawOf, cleared_by, freed_by, withdrawn_by, touch_of}
-use Rattle.sharc_invariant.specs.Labels.{Labels}
-use Rattle.sharc_invariant.specs.MachineInvariant.{IsOn}
-use Rattle.sharc_invariant.specs.Reports.{touch_at}
-use Rattle.sharc_invariant.specs.State.{State, StageStands, OnHold}
-use Rattle.sharc_invariant.specs.Types.{Targets}
-use Rattle.sharc_invariant.specs.World.{World}
-use Rattle.sharc_history_laws.proofs.Acts.{given_at, freed_in, freed_at}
-use Rattle.sharc_history_laws.proofs.Cleared.{IsAlone, some, live as live_one, no_other, object_one, alone_clear, alone_free, alone_give, clear_inside, free_inside}
-use Rattle.sharc_history_laws.proofs.Shadows.{at_low}
-use Rattle.sharc_history_laws.proofs.Staying.{StillThere, kept, kept_globals}
-use Rattle.sharc_history_laws.proofs.Wholes.{TheLaws, Typed, RunOf, Whole, fresh_of}
+use Rattle.sharc_invariant.specs.{Bits.{Untouched, ClearOf, WithdrawOf, cleared_by, freed_by, withdrawn_by, touch_of}, Labels.Labels, MachineInvariant.IsOn, Reports.touch_at, State.{State, StageStands, OnHold}, Types.Targets, World.World}
+use Rattle.sharc_history_laws.proofs.{Acts.{given_at, freed_in, freed_at}, Cleared.{IsAlone, some, live as live_one, no_other, object_one, alone_clear, alone_free, alone_give, clear_inside, free_inside}, Shadows.at_low, Staying.{StillThere, kept, kept_globals}, Wholes.{TheLaws, Typed, RunOf, Whole, fresh_of}}
 
 module _ (laws : TheLaws) (x : Targets) (code : Code) (s : Shape) (ls : Labels) (typed : Typed x code s ls) (one : Turn) (earlier : List Turn) (run : RunOf code s (one ∷ earlier)) (w : Whole x code s ls earlier)
     (o k : ℕ) (live : (w.consists.world.obj o).live ≡ true) (inside : 2 * k < w.consists.state.cells o) (v : ℕ) (ne : v ≢ one.thread) (hold : OnHold ((place_after code s earlier).threads v).own.stage)

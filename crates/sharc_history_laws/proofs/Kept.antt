@@ -1,54 +1,22 @@
 -- A mutex that is locked by the events is in a held log; and what a Spawn has given a thread that has had no event is
 -- the argument that it is to read.
-use Rattle.std.proofs.Common.{◌≡◌, ◌≢◌, ℕ, ℤ, pos, zero, suc, ◌^◌, ◌<◌, ◌≤◌, ◌⊎◌, inl, inr, ⊎_elim, Bool, true, false, not, ◌&&◌, ◌||◌, length, List, [], ◌∷◌, ◌++◌, reverse, Some, if◌then◌else◌, refl, sym, ap, ◌∙◌, subst, arith, eqb-true, append_assoc}
-use Rattle.std.specs.Prelude.{Any, Contains, slice_index, nat_lt, ◌==◌}
-use Rattle.std.specs.List.{list_any}
-use Rattle.std.proofs.lemmas.Bool.{and_parts, cases_lt}
-use Rattle.std.proofs.lemmas.Bool.Decides.{nat_tests}
-use Rattle.std.proofs.lemmas.List.{get_or_append_left, get_or_push, length_push}
+use Rattle.std.proofs.{Common.{◌≡◌, ◌≢◌, ℕ, ℤ, pos, zero, suc, ◌^◌, ◌<◌, ◌≤◌, ◌⊎◌, inl, inr, ⊎_elim, Bool, true, false, not, ◌&&◌, ◌||◌, length, List, [], ◌∷◌, ◌++◌, reverse, Some, if◌then◌else◌, refl, sym, ap, ◌∙◌, subst, arith, eqb-true, append_assoc}, lemmas.Bool.{and_parts, cases_lt, or_right}, lemmas.Bool.Decides.nat_tests, lemmas.List.{get_or_append_left, get_or_push, length_push}}
+use Rattle.std.specs.{Prelude.{Any, Contains, slice_index, nat_lt, ◌==◌}, List.list_any}
 use Rattle.sharc_word.specs.declared.step.TheConstants.{THREADS}
 use Rattle.sharc_tree.specs.declared.event.Act.TheVariants as acts
-use Rattle.sharc_tree.specs.declared.event.CellAt.{CellAt}
-use Rattle.sharc_tree.specs.declared.event.Object.{Object}
+use Rattle.sharc_tree.specs.{declared.event.CellAt.CellAt, declared.event.Object.Object, declared.event.SourceEvent.SourceEvent}
 use Rattle.sharc_tree.specs.declared.event.Object.TheVariants as objects
-use Rattle.sharc_tree.specs.declared.event.SourceEvent.{SourceEvent}
-use Rattle.sharc_locks.specs.declared.held_log.HeldMutex.{HeldMutex}
-use Rattle.sharc_locks.specs.HeldLog.{object_of}
+use Rattle.sharc_locks.specs.{declared.held_log.HeldMutex.HeldMutex, HeldLog.object_of}
 use Rattle.sharc_ctype.specs.Resolved.{Resolution}
-use Rattle.sharc_code.specs.declared.code.Code.{Code}
+use Rattle.sharc_code.specs.{declared.code.Code.Code, declared.shape.Shape.Shape, Layout.{Fits, state_word}, Machine.{function_of, reference_of}, Runs.Turn, Says.{reference, started_with}, Whole.place_after}
 use Rattle.sharc_code.specs.declared.code.Parameter.TheVariants as parameters
-use Rattle.sharc_code.specs.declared.shape.Shape.{Shape}
-use Rattle.sharc_code.specs.Layout.{Fits, state_word}
-use Rattle.sharc_code.specs.Machine.{function_of, reference_of}
-use Rattle.sharc_code.specs.Runs.{Turn}
-use Rattle.sharc_code.specs.Says.{reference, started_with}
-use Rattle.sharc_code.specs.Whole.{place_after}
 use Rattle.sharc_gen.specs.OfRuns.{table_of}
-use Rattle.sharc_meaning.specs.Events.{events_of}
-use Rattle.sharc_meaning.specs.Reference.{is_null}
+use Rattle.sharc_meaning.specs.{Events.events_of, Reference.is_null, References.refers, Store.{IsNewThread, MayCome, is_locked, is_natural, is_spawn, spawns, was_spawned}}
 use Rattle.sharc_meaning.specs.Reference as Reference
-use Rattle.sharc_meaning.specs.References.{refers}
-use Rattle.sharc_meaning.specs.Store.{IsNewThread, MayCome, is_locked, is_natural, is_spawn, spawns, was_spawned}
-use Rattle.sharc_invariant.specs.Types.{Targets}
-use Rattle.sharc_invariant.specs.Labels.{Labels}
-use Rattle.sharc_invariant.specs.Typed.{IsWellTyped}
-use Rattle.sharc_invariant.specs.World.{ArgumentOf, In}
-use Rattle.sharc_invariant.specs.Words.{argument_of, if_reference, is_unread}
-use Rattle.sharc_invariant.specs.MachineInvariant.{log_refers}
-use Rattle.sharc_invariant.specs.Laws.{CellsAreThere}
-use Rattle.sharc_history_laws.specs.History.{history_of}
-use Rattle.sharc_history_laws.specs.Stores.{is_about_waiters}
-use Rattle.sharc_history_laws.proofs.Finds.{low_slot, same_object}
-use Rattle.sharc_history_laws.proofs.Holding.{any_push}
-use Rattle.sharc_history_laws.proofs.Lists.{Newest, reverse_push}
-use Rattle.sharc_history_laws.proofs.Locked.{IsIn, NamesIn}
-use Rattle.sharc_history_laws.proofs.Mutual.{locked_is}
-use Rattle.sharc_history_laws.proofs.Rules.{newest}
-use Rattle.sharc_history_laws.proofs.Started.{Begun, IsStart, SpawnedIn, Unheard, WasGiven, argument_given, function_given, unheard}
-use Rattle.sharc_history_laws.proofs.Stored.{EachMayCome, Stored}
-
-yes : true ≡ false → ⊥
-yes e = cc
+use Rattle.sharc_invariant.specs.{Types.Targets, Labels.Labels, Typed.IsWellTyped, World.{ArgumentOf, In}, Words.{argument_of, if_reference, is_unread}, MachineInvariant.log_refers, Laws.CellsAreThere}
+use Rattle.sharc_history_laws.specs.{History.history_of, Stores.is_about_waiters}
+use Rattle.sharc_history_laws.proofs.{Finds.{low_slot, same_object}, Holding.any_push, Lists.{Newest, reverse_push}, Locked.{IsIn, NamesIn}, Mutual.locked_is, Rules.newest, Started.{Begun, IsStart, SpawnedIn, Unheard, WasGiven, argument_given, function_given, unheard}, Stored.{EachMayCome, Stored}, Threaded.or_left}
+use Rattle.sharc_lemmas.proofs.{Numbers.{same_is, is_below as below}, Bools.yes}
 
 -- ---- held logs
 -- an entry is found at its word, where no two of the log are at one
@@ -105,17 +73,6 @@ fresh_spawns r (e ∷ L) all = (
   λ f v is. subst (MayCome r (reverse L) e) is (all (reverse L) e [] (reverse_push e L) (ap is_about_waiters is)),
   fresh_spawns r L (λ before d after stands. all before d (after ++ e ∷ []) (reverse_push e L ∙ ap (λ xs. xs ++ e ∷ []) stands ∙ append_assoc before (d ∷ after) (e ∷ []))),
 )
-
-same_is : (n : ℕ) → (n == n) ≡ true
-same_is n = grind (arith, nat_tests)
-
-or_left : (a b : Bool) → a ≡ true → (a || b) ≡ true
-or_left true b e = refl
-or_left false b e = absurd (yes (sym e))
-
-or_right : (a b : Bool) → b ≡ true → (a || b) ≡ true
-or_right true b e = refl
-or_right false b e = e
 
 spawns_it : (e : SourceEvent) (t f : ℕ) (v : ℤ) → IsStart t f v e → spawns t e ≡ true
 spawns_it e t f v h = ap (λ a. is_spawn a && is_natural t e.answer) h.0 ∙ ap (is_natural t) h.1 ∙ same_is t
@@ -182,9 +139,6 @@ chosen true true true v e f q = refl
 chosen true true false v e f q = absurd (yes (sym q))
 chosen true false c v e f q = absurd (yes (sym f))
 chosen false b c v e f q = absurd (yes (sym e))
-
-below : (a b : ℕ) → a < b → nat_lt a b ≡ true
-below a b lt = grind (arith, nat_tests)
 
 pub spawned_given : (cell_laws : CellsAreThere) (x : Targets) (code : Code) (s : Shape) (ls : Labels) (wt : IsWellTyped x code ls) (fits : Fits code s) (r : Resolution)
     (run : List Turn) → Stored r x code s ls run → Begun x code s ls run → (u f o : ℕ) (v : ℤ) → events_of u (history_of code s run) ≡ [] → Any (IsStart u f v) (history_of code s run)

@@ -1,45 +1,15 @@
 -- A pointer cell that refers to an object by the events does so by the words, but where a Free empties its object.
-use Rattle.std.proofs.Common.{◌≡◌, ◌≢◌, ℕ, ◌+◌, ◌*◌, ◌/◌, ◌^◌, ◌<◌, ◌⊎◌, inl, inr, true, cond, ◌&&◌, List, refl, sym, ap, ◌∙◌, subst, ⊎_elim, arith, ltb-true}
+use Rattle.std.proofs.{Common.{◌≡◌, ◌≢◌, ℕ, ◌+◌, ◌*◌, ◌/◌, ◌^◌, ◌<◌, ◌⊎◌, inl, inr, true, cond, ◌&&◌, List, refl, sym, ap, ◌∙◌, subst, ⊎_elim, arith, ltb-true}, lemmas.Bool.and_parts}
 use Rattle.std.specs.Prelude.{slice_index, nat_lt}
-use Rattle.std.proofs.lemmas.Bool.{and_parts}
 use Rattle.sharc_tree.specs.declared.event.CellAt.{CellAt}
 use Rattle.sharc_ctype.specs.Resolved.{Resolution}
-use Rattle.sharc_code.specs.declared.code.Code.{Code}
-use Rattle.sharc_code.specs.declared.shape.Shape.{Shape}
-use Rattle.sharc_code.specs.Laws.{RunLaws}
-use Rattle.sharc_code.specs.Layout.{Fits, cell_word, cell_of}
-use Rattle.sharc_code.specs.Machine.{Machine}
-use Rattle.sharc_code.specs.Opening.{opening_words}
-use Rattle.sharc_code.specs.Runs.{Turn, Global, IsRun, opening_of}
-use Rattle.sharc_code.specs.Says.{reference}
-use Rattle.sharc_code.specs.Whole.{one_thread, bounds, place_after}
+use Rattle.sharc_code.specs.{declared.code.Code.Code, declared.shape.Shape.Shape, Laws.RunLaws, Layout.{Fits, cell_word, cell_of}, Machine.Machine, Opening.opening_words, Runs.{Turn, Global, IsRun, opening_of}, Says.reference, Whole.{one_thread, bounds, place_after}}
 use Rattle.sharc_gen.specs.OfRuns.{table_of}
-use Rattle.sharc_meaning.specs.References.{refers}
-use Rattle.sharc_meaning.specs.Store.{value_after}
-use Rattle.sharc_invariant.specs.Types.{Targets, field_in, is_pointer}
-use Rattle.sharc_invariant.specs.Labels.{Labels}
-use Rattle.sharc_invariant.specs.Typed.{IsWellTyped}
-use Rattle.sharc_invariant.specs.World.{Cell as CellOf, ObjectState, World}
+use Rattle.sharc_meaning.specs.{References.refers, Store.value_after}
+use Rattle.sharc_invariant.specs.{Types.{Targets, field_in, is_pointer}, Labels.Labels, Typed.IsWellTyped, World.{Cell as CellOf, ObjectState, World}, State.{State, IsSmall}, Opened.{first_world, first_place}, Objects.objects_after, MachineInvariant.{cells_now, is_pointer_now, cell_refers}, Laws.{Keeps, Begins as CodeBegins, CellsAreThere, PointersAreThere, AccessesAreAllowed, StateStands}}
 use Rattle.sharc_invariant.specs.Words as Words
-use Rattle.sharc_invariant.specs.State.{State, IsSmall}
-use Rattle.sharc_invariant.specs.Opened.{first_world, first_place}
-use Rattle.sharc_invariant.specs.Objects.{objects_after}
-use Rattle.sharc_invariant.specs.MachineInvariant.{cells_now, is_pointer_now, cell_refers}
-use Rattle.sharc_invariant.specs.Laws.{Keeps, Begins as CodeBegins, CellsAreThere, PointersAreThere, AccessesAreAllowed, StateStands}
-use Rattle.sharc_history_laws.specs.History.{history_of}
-use Rattle.sharc_history_laws.specs.SeenCells.{IsBeingFreed, IsCellIn}
-use Rattle.sharc_history_laws.specs.Stores.{BeginsWith}
-use Rattle.sharc_history_laws.proofs.Contents.{newest_value, value_is, value_held, IsCellOf, content_of, word_of_cell}
-use Rattle.sharc_history_laws.proofs.Emptying.{IsEmptied}
-use Rattle.sharc_history_laws.proofs.Finds.{low_slot}
-use Rattle.sharc_history_laws.proofs.Kept.{referred}
-use Rattle.sharc_history_laws.proofs.Locked.{Names}
-use Rattle.sharc_history_laws.proofs.OneMode.{place_of}
-use Rattle.sharc_history_laws.proofs.Rules.{newest}
-use Rattle.sharc_history_laws.proofs.SeenCells.{Seen, seen, cell_word_is, cells_are, clears, holds_reference, names, number_is, place_is, pointer_value}
-use Rattle.sharc_history_laws.proofs.Shared.{number_of, some_closing}
-use Rattle.sharc_history_laws.proofs.Unemptied.{on_hold}
-use Rattle.sharc_history_laws.proofs.Unwritten.{emptying}
+use Rattle.sharc_history_laws.specs.{History.history_of, SeenCells.{IsBeingFreed, IsCellIn}, Stores.BeginsWith}
+use Rattle.sharc_history_laws.proofs.{Contents.{newest_value, value_is, value_held, IsCellOf, content_of, word_of_cell}, Emptying.IsEmptied, Finds.low_slot, Kept.referred, Locked.Names, OneMode.place_of, Rules.newest, SeenCells.{Seen, seen, cell_word_is, cells_are, clears, holds_reference, names, number_is, place_is, pointer_value}, Shared.{number_of, some_closing}, Unemptied.on_hold, Unwritten.emptying}
 
 module _ (state_law : StateStands) (cell_laws : CellsAreThere) (x : Targets) (code : Code) (s : Shape) (ls : Labels) (wt : IsWellTyped x code ls) (fits : Fits code s) (r : Resolution)
     (run : List Turn) (k : Seen r x code s ls run) (p i : ℕ) (is : is_pointer_now x s (place_after code s run) k.consists.world.obj p i ≡ true) where

@@ -1,47 +1,16 @@
 -- Which cells are pointers: those that are by the source, and refer to an object by the events, are so by the words.
-use Rattle.std.proofs.Common.{◌≡◌, ◌≢◌, ℕ, pos, ◌+◌, ◌-◌, ◌*◌, ◌<◌, ◌≤◌, ◌⊎◌, inl, inr, Bool, true, false, ◌&&◌, List, [], ◌∷◌, reverse, Option, Some, None, refl, sym, ap, ◌∙◌, subst, ⊎_elim, arith}
+use Rattle.std.proofs.{Common.{◌≡◌, ◌≢◌, ℕ, pos, ◌+◌, ◌-◌, ◌*◌, ◌<◌, ◌≤◌, ◌⊎◌, inl, inr, Bool, true, false, ◌&&◌, List, [], ◌∷◌, reverse, Option, Some, None, refl, sym, ap, ◌∙◌, subst, ⊎_elim, arith}, lemmas.Bool.{cases_Bool, cases_lt, lt-ltb}, lemmas.Bool.Decides.nat_tests, lemmas.List.reverse-append}
 use Rattle.std.specs.Prelude.{nat_lt, ◌==◌}
-use Rattle.std.proofs.lemmas.Bool.{cases_Bool, cases_lt, lt-ltb}
-use Rattle.std.proofs.lemmas.Bool.Decides.{nat_tests}
-use Rattle.std.proofs.lemmas.List.{reverse-append}
 use Rattle.sharc_tree.specs.declared.event.Object.TheVariants as objects
 use Rattle.sharc_tree.specs.declared.event.SourceEvent.{SourceEvent}
 use Rattle.sharc_ctype.specs.Resolved.{Resolution}
-use Rattle.sharc_code.specs.declared.code.Code.{Code}
-use Rattle.sharc_code.specs.declared.shape.Shape.{Shape}
-use Rattle.sharc_code.specs.Laws.{RunLaws}
-use Rattle.sharc_code.specs.Layout.{Fits}
-use Rattle.sharc_code.specs.Machine.{Machine}
-use Rattle.sharc_code.specs.Opening.{opening_words}
-use Rattle.sharc_code.specs.Ranges.{IsInGlobal, first_place as first_cell_of}
-use Rattle.sharc_code.specs.Runs.{Turn, Global, IsRun, result_of, opening_of}
-use Rattle.sharc_code.specs.Whole.{one_thread, bounds, place_after}
-use Rattle.sharc_gen.specs.Consistent.{said_now}
-use Rattle.sharc_gen.specs.OfRuns.{table_of}
-use Rattle.sharc_meaning.specs.Events.{latest, makes, made_by}
-use Rattle.sharc_meaning.specs.References.{refers}
-use Rattle.sharc_meaning.specs.Store.{initial_value, is_live, value_after}
-use Rattle.sharc_invariant.specs.Types.{Targets, Field, field_in, field_of_cell, global_field, globals_target, is_pointer}
-use Rattle.sharc_invariant.specs.Labels.{Labels}
-use Rattle.sharc_invariant.specs.Typed.{IsWellTyped}
-use Rattle.sharc_invariant.specs.World.{ObjectState, World}
-use Rattle.sharc_invariant.specs.State.{IsSmall, State}
-use Rattle.sharc_invariant.specs.Opened.{first_world, first_place}
-use Rattle.sharc_invariant.specs.Objects.{objects_after}
-use Rattle.sharc_invariant.specs.MachineInvariant.{cells_now, is_pointer_now}
-use Rattle.sharc_invariant.specs.Laws.{Keeps, Begins as CodeBegins, CellsAreThere, PointersAreThere, AccessesAreAllowed, StateStands}
-use Rattle.sharc_history_laws.specs.History.{history_of}
-use Rattle.sharc_history_laws.specs.Kept.{Grows}
-use Rattle.sharc_history_laws.specs.Stores.{BeginsWith}
-use Rattle.sharc_history_laws.proofs.Acts.{made_said}
-use Rattle.sharc_history_laws.proofs.Consists.{Consists, headed, live_not_built}
-use Rattle.sharc_history_laws.proofs.Contents.{value_is}
-use Rattle.sharc_history_laws.proofs.MadeOf.{MadeInRun, lives_in, made_in, pointers_made, some_made}
-use Rattle.sharc_history_laws.proofs.Rules.{newest, newest_now, pushed, about_now, decide, number_not}
-use Rattle.sharc_history_laws.proofs.SeenCells.{Seen, seen, cells_are}
-
-yes : true ≡ false → ⊥
-yes e = cc
+use Rattle.sharc_code.specs.{declared.code.Code.Code, declared.shape.Shape.Shape, Laws.RunLaws, Layout.Fits, Machine.Machine, Opening.opening_words, Ranges.{IsInGlobal, first_place as first_cell_of}, Runs.{Turn, Global, IsRun, result_of, opening_of}, Whole.{one_thread, bounds, place_after}}
+use Rattle.sharc_gen.specs.{Consistent.said_now, OfRuns.table_of}
+use Rattle.sharc_meaning.specs.{Events.{latest, makes, made_by}, References.refers, Store.{initial_value, is_live, value_after}}
+use Rattle.sharc_invariant.specs.{Types.{Targets, Field, field_in, field_of_cell, global_field, globals_target, is_pointer}, Labels.Labels, Typed.IsWellTyped, World.{ObjectState, World}, State.{IsSmall, State}, Opened.{first_world, first_place}, Objects.objects_after, MachineInvariant.{cells_now, is_pointer_now}, Laws.{Keeps, Begins as CodeBegins, CellsAreThere, PointersAreThere, AccessesAreAllowed, StateStands}}
+use Rattle.sharc_history_laws.specs.{History.history_of, Kept.Grows, Stores.BeginsWith}
+use Rattle.sharc_history_laws.proofs.{Acts.made_said, Consists.{Consists, headed, live_not_built}, Contents.value_is, MadeOf.{MadeInRun, lives_in, made_in, pointers_made, some_made}, Rules.{newest, newest_now, pushed, about_now, decide, number_not}, SeenCells.{Seen, seen, cells_are}}
+use Rattle.sharc_lemmas.proofs.Bools.{yes}
 
 all_three : (a b c : Bool) → a ≡ true → b ≡ true → c ≡ true → (a && (b && c)) ≡ true
 all_three a b c p q r = ap (λ z. z && (b && c)) p ∙ ap (λ z. z && c) q ∙ r

@@ -1,38 +1,12 @@
 -- After a check was refused: the epoch of its granule stays, its object is there, and the notes and stops of the epoch are those that were there.
-use Rattle.std.proofs.Common.{◌≡◌, ℕ, ◌+◌, ◌*◌, ◌/◌, ◌<◌, ◌≢◌, ◌⊎◌, inl, inr, true, false, List, [], ◌∷◌, ◌++◌, Option, Some, is_some, refl, sym, ap, ◌∙◌, subst, ⊎_elim, arith}
+use Rattle.std.proofs.{Common.{◌≡◌, ℕ, ◌+◌, ◌*◌, ◌/◌, ◌<◌, ◌≢◌, ◌⊎◌, inl, inr, true, false, List, [], ◌∷◌, ◌++◌, Option, Some, is_some, refl, sym, ap, ◌∙◌, subst, ⊎_elim, arith}, lemmas.Bool.cases_eq, lemmas.Bool.Decides.nat_tests}
 use Rattle.std.specs.Prelude.{◌==◌}
-use Rattle.std.proofs.lemmas.Bool.{cases_eq}
-use Rattle.std.proofs.lemmas.Bool.Decides.{nat_tests}
-use Rattle.sharc_shadow.specs.declared.shadow_word.Kind.{Kind}
-use Rattle.sharc_shadow.specs.declared.shadow_word.Kind.TheVariants.{Write}
-use Rattle.sharc_shadow.specs.declared.access_table.Note.{Note}
-use Rattle.sharc_shadow.specs.Accesses.{note_of, site_at}
-use Rattle.sharc_shadow.specs.ShadowWord.{epoch_of, stands}
-use Rattle.sharc_code.specs.declared.code.Code.{Code}
-use Rattle.sharc_code.specs.declared.instr.Cell.{Cell}
+use Rattle.sharc_shadow.specs.{declared.shadow_word.Kind.Kind, declared.shadow_word.Kind.TheVariants.Write, declared.access_table.Note.Note, Accesses.{note_of, site_at}, ShadowWord.{epoch_of, stands}}
+use Rattle.sharc_code.specs.{declared.code.Code.Code, declared.instr.Cell.Cell, declared.shape.Shape.Shape, declared.state.ConflictAt.ConflictAt, declared.state.Stop.Stop, declared.state.Stop.TheVariants.Conflict, Layout.granules, Machine.{Machine, ref}, Path.may_go, Runs.{Turn, state_now}, Whole.{one_thread, place_after}}
 use Rattle.sharc_code.specs.declared.instr.Cell.TheVariants as cells
-use Rattle.sharc_code.specs.declared.shape.Shape.{Shape}
-use Rattle.sharc_code.specs.declared.state.ConflictAt.{ConflictAt}
-use Rattle.sharc_code.specs.declared.state.Stop.{Stop}
-use Rattle.sharc_code.specs.declared.state.Stop.TheVariants.{Conflict}
-use Rattle.sharc_code.specs.Layout.{granules}
-use Rattle.sharc_code.specs.Machine.{Machine, ref}
-use Rattle.sharc_code.specs.Path.{may_go}
-use Rattle.sharc_code.specs.Runs.{Turn, state_now}
-use Rattle.sharc_code.specs.Whole.{one_thread, place_after}
-use Rattle.sharc_invariant.specs.Labels.{Labels}
-use Rattle.sharc_invariant.specs.State.{OnHold, object_of_cell, number_in}
-use Rattle.sharc_invariant.specs.Types.{Targets}
-use Rattle.sharc_history_laws.proofs.Caused.{Report, the_report}
-use Rattle.sharc_history_laws.proofs.Checks.{CheckCell, check_cell, checked_here, hold as hold_check, adds, live_then, inside_then}
-use Rattle.sharc_history_laws.proofs.Consists.{Consists}
-use Rattle.sharc_history_laws.proofs.Keeping.{remains_there, uncleared}
-use Rattle.sharc_history_laws.proofs.Remaining.{word_at, site_now, StoppedAt, epoch_still, still_now, note_was, stop_was, refused, some_site}
-use Rattle.sharc_history_laws.proofs.Rules.{put_other}
-use Rattle.sharc_history_laws.proofs.Wholes.{TheLaws, Typed, RunOf, Whole, whole, whole_next, fresh_of}
-
-yes : true ≡ false → ⊥
-yes e = cc
+use Rattle.sharc_invariant.specs.{Labels.Labels, State.{OnHold, object_of_cell, number_in}, Types.Targets}
+use Rattle.sharc_history_laws.proofs.{Caused.{Report, the_report}, Checks.{CheckCell, check_cell, checked_here, hold as hold_check, adds, live_then, inside_then}, Consists.Consists, Keeping.{remains_there, uncleared}, Remaining.{word_at, site_now, StoppedAt, epoch_still, still_now, note_was, stop_was, refused, some_site}, Rules.put_other, Wholes.{TheLaws, Typed, RunOf, Whole, whole, whole_next, fresh_of}}
+use Rattle.sharc_lemmas.proofs.Bools.{yes}
 
 module _ (laws : TheLaws) (x : Targets) (code : Code) (s : Shape) (ls : Labels) (typed : Typed x code s ls) where
   -- a thread that has stopped makes no turn

@@ -1,9 +1,7 @@
 -- The event of each turn of typed code may come after those before it, if it does not tell who waits.
-use Rattle.std.proofs.Common.{◌≡◌, ℕ, ℤ, pos, negsuc, zero, suc, ◌+◌, ◌<◌, ◌≤◌, ◌≢◌, ◌⊎◌, inl, inr, Bool, true, false, ◌||◌, nat_lt, List, [], ◌∷◌, reverse, Option, Some, None, is_some, if◌then◌else◌, refl, sym, ap, ◌∙◌, subst, ⊎_elim, arith, eqb-true, ltb-true}
+use Rattle.std.proofs.{Common.{◌≡◌, ℕ, ℤ, pos, negsuc, zero, suc, ◌+◌, ◌<◌, ◌≤◌, ◌≢◌, ◌⊎◌, inl, inr, Bool, true, false, ◌||◌, nat_lt, List, [], ◌∷◌, reverse, Option, Some, None, is_some, if◌then◌else◌, refl, sym, ap, ◌∙◌, subst, ⊎_elim, arith, eqb-true, ltb-true}, lemmas.Bool.Decides.nat_tests, lemmas.Bool.{false_from_ne_true as not_true}}
 use Rattle.std.specs.Prelude.{slice_index, ◌==◌, Contains}
-use Rattle.std.proofs.lemmas.Bool.Decides.{nat_tests}
-use Rattle.sharc_word.specs.declared.step.TheConstants.{THREADS}
-use Rattle.sharc_word.specs.declared.step.WordStep.{WordStep}
+use Rattle.sharc_word.specs.{declared.step.TheConstants.THREADS, declared.step.WordStep.WordStep}
 use Rattle.sharc_word.specs.declared.step.WordOp.TheVariants as ops
 use Rattle.sharc_tree.specs.declared.event.Act.TheVariants as acts
 use Rattle.sharc_tree.specs.declared.event.SourceEvent.{SourceEvent}
@@ -11,72 +9,24 @@ use Rattle.sharc_tree.specs.declared.trap.Trap.TheVariants as traps
 use Rattle.sharc_granule.specs.declared.stage.Stage.{Stage as NewStage}
 use Rattle.sharc_granule.specs.declared.stage.Stage.TheVariants as news
 use Rattle.sharc_cond.specs.Waiters.{waits_in}
-use Rattle.sharc_locks.specs.declared.held_log.HeldMutex.{HeldMutex}
-use Rattle.sharc_locks.specs.HeldLog.{object_of}
+use Rattle.sharc_locks.specs.{declared.held_log.HeldMutex.HeldMutex, HeldLog.object_of}
 use Rattle.sharc_ctype.specs.Resolved.{Resolution}
-use Rattle.sharc_code.specs.declared.code.Code.{Code}
-use Rattle.sharc_code.specs.declared.instr.Cell.{Cell}
-use Rattle.sharc_code.specs.declared.instr.Instr.{Instr}
+use Rattle.sharc_code.specs.{declared.code.Code.Code, declared.instr.Cell.Cell, declared.instr.Instr.Instr, declared.instr.Register.Register, declared.shape.Shape.Shape, declared.state.Stage.Stage, declared.state.Stage.TheVariants.{Makes, Uncounts, Begins, Enters, Withdraws, WithdrawsFrom, Leaves, Wakes}, Laws.RunLaws, Arithmetic.int_of, Layout.{Fits, first_cell, state_word}, Machine.{Machine, step_of, instr_at, int, ref, word, act, place, object, is_held, join, joined, trapped, Local, Asks}, Path.{turn, asked_by}, Runs.{Turn, Global, MayTurn, result_of}, Says.{said, cell_at, speaks_of, take_local, nobody, in_signal, in_exit, in_spawn, in_start, in_free, in_new, new_event, event_at, reference}, Whole.{one_thread, bounds, place_after}}
 use Rattle.sharc_code.specs.declared.instr.Instr.TheVariants as instrs
-use Rattle.sharc_code.specs.declared.instr.Register.{Register}
-use Rattle.sharc_code.specs.declared.shape.Shape.{Shape}
-use Rattle.sharc_code.specs.declared.state.Stage.{Stage}
-use Rattle.sharc_code.specs.declared.state.Stage.TheVariants.{Makes, Uncounts, Begins, Enters, Withdraws, WithdrawsFrom, Leaves, Wakes}
-use Rattle.sharc_code.specs.Laws.{RunLaws}
-use Rattle.sharc_code.specs.Arithmetic.{int_of}
-use Rattle.sharc_code.specs.Layout.{Fits, first_cell, state_word}
-use Rattle.sharc_code.specs.Machine.{Machine, step_of, instr_at, int, ref, word, act, place, object, is_held, join, joined, trapped, Local, Asks}
-use Rattle.sharc_code.specs.Path.{turn, asked_by}
-use Rattle.sharc_code.specs.Runs.{Turn, Global, MayTurn, result_of}
-use Rattle.sharc_code.specs.Says.{said, cell_at, speaks_of, take_local, nobody, in_signal, in_exit, in_spawn, in_start, in_free, in_new, new_event, event_at, reference}
-use Rattle.sharc_code.specs.Whole.{one_thread, bounds, place_after}
 use Rattle.sharc_code_laws.specs.Told.{state_of, TellsState}
-use Rattle.sharc_gen.specs.Consistent.{Elements, MayFind}
-use Rattle.sharc_gen.specs.OfRuns.{table_of}
-use Rattle.sharc_meaning.specs.Events.{is_cell, locked_by, unlocked_by}
-use Rattle.sharc_meaning.specs.Obeys.{History}
-use Rattle.sharc_meaning.specs.Store.{MayCome, IsFresh, was_spawned, went, was_locked_by, value_after}
-use Rattle.sharc_invariant.specs.Types.{Targets, Field}
-use Rattle.sharc_invariant.specs.Labels.{Labels}
-use Rattle.sharc_invariant.specs.Typed.{IsWellTyped, Fine, Accesses}
-use Rattle.sharc_invariant.specs.Words.{is_ended}
+use Rattle.sharc_gen.specs.{Consistent.{Elements, MayFind}, OfRuns.table_of}
+use Rattle.sharc_meaning.specs.{Events.{is_cell, locked_by, unlocked_by}, Obeys.History, Store.{MayCome, IsFresh, was_spawned, went, was_locked_by, value_after}}
+use Rattle.sharc_invariant.specs.{Types.{Targets, Field}, Labels.Labels, Typed.{IsWellTyped, Fine, Accesses}, Words.is_ended, State.{IsSmall, StageStands, OnHold}, MachineInvariant.IsOn, Laws.{Keeps, CellsAreThere, PointersAreThere, AccessesAreAllowed, StateStands}}
 use Rattle.sharc_invariant.specs.Words as Words
-use Rattle.sharc_invariant.specs.State.{IsSmall, StageStands, OnHold}
-use Rattle.sharc_invariant.specs.MachineInvariant.{IsOn}
-use Rattle.sharc_invariant.specs.Laws.{Keeps, CellsAreThere, PointersAreThere, AccessesAreAllowed, StateStands}
 use Rattle.sharc_history_laws.specs.Stores.{is_about_waiters}
-use Rattle.sharc_history_laws.proofs.Consists.{Consists, found_is, quiet_is, own_turn, header_built, built_low, live_not_built}
-use Rattle.sharc_history_laws.proofs.Contents.{value_is, newest_value, value_held, content_of, word_of_cell, Contents}
-use Rattle.sharc_history_laws.proofs.Emptying.{IsEmptied}
-use Rattle.sharc_history_laws.proofs.Holding.{cell_eq, holds_in}
-use Rattle.sharc_history_laws.proofs.Lists.{Newest, live_in, is_live_in}
-use Rattle.sharc_history_laws.proofs.Living.{LivesTold}
-use Rattle.sharc_history_laws.proofs.Locked.{IsIn, LogTold, names_cell, one_place, held_told}
-use Rattle.sharc_history_laws.proofs.Locking.{word_is}
-use Rattle.sharc_history_laws.proofs.Logged.{LogHas, is_logged}
+use Rattle.sharc_history_laws.proofs.{Consists.{Consists, found_is, quiet_is, own_turn, header_built, built_low, live_not_built}, Contents.{value_is, newest_value, value_held, content_of, word_of_cell, Contents}, Emptying.IsEmptied, Holding.{cell_eq, holds_in}, Lists.{Newest, live_in, is_live_in}, Living.LivesTold, Locked.{IsIn, LogTold, names_cell, one_place, held_told}, Locking.word_is, Logged.{LogHas, is_logged}, Mutual.{Mutual, MayMutex, no_lock, locked_in, locked_by_in, locked_is, locked_by_is}, Mutexless.{mutex_said, no_mutex, not_locked}, Logs.is_locking, Rules.number_is, Shared.number_of, Single.{single, rests_hold}, Sparing.is_value, Tables.header_of, Threaded.ThreadsTold, Unemptied.not_emptied}
 use Rattle.sharc_history_laws.proofs.Placed as Placed
-use Rattle.sharc_history_laws.proofs.Mutual.{Mutual, MayMutex, no_lock, locked_in, locked_by_in, locked_is, locked_by_is}
-use Rattle.sharc_history_laws.proofs.Mutexless.{mutex_said, no_mutex, not_locked}
-use Rattle.sharc_history_laws.proofs.Logs.{is_locking}
-use Rattle.sharc_history_laws.proofs.Rules.{number_is}
-use Rattle.sharc_history_laws.proofs.Shared.{number_of}
-use Rattle.sharc_history_laws.proofs.Single.{single, rests_hold}
-use Rattle.sharc_history_laws.proofs.Sparing.{is_value}
-use Rattle.sharc_history_laws.proofs.Tables.{header_of}
-use Rattle.sharc_history_laws.proofs.Threaded.{ThreadsTold}
-use Rattle.sharc_history_laws.proofs.Unemptied.{not_emptied}
-
-yes : true ≡ false → ⊥
-yes e = cc
+use Rattle.sharc_lemmas.proofs.Bools.{yes}
 
 -- it may come, if it does not tell who waits
 abbrev pub IsLegal : Resolution → History → Option SourceEvent → Type 0
 IsLegal r R None = Unit {0}
 IsLegal r R (Some e) = is_about_waiters e.act ≡ false → MayCome r R e e.act
-
-not_true : (b : Bool) → (b ≡ true → ⊥) → b ≡ false
-not_true true h = absurd (h refl)
-not_true false h = refl
 
 -- what is known of the events before a turn
 pub record Told (r : Resolution) (x : Targets) (code : Code) (s : Shape) (ls : Labels) (earlier : List Turn) (h : Consists x code s ls earlier) (L : Newest) : Type 0 where

@@ -5,34 +5,12 @@ use Rattle.sharc_tree.specs.declared.event.SourceEvent.{SourceEvent}
 use Rattle.sharc_tree.specs.declared.event.Object.TheVariants as objects
 use Rattle.sharc_granule.specs.declared.stage.Stage.{Stage as NewStage}
 use Rattle.sharc_granule.specs.declared.stage.Stage.TheVariants as news
-use Rattle.sharc_code.specs.declared.code.Code.{Code}
-use Rattle.sharc_code.specs.declared.instr.Instr.{Instr}
+use Rattle.sharc_code.specs.{declared.code.Code.Code, declared.instr.Instr.Instr, declared.shape.Shape.Shape, declared.state.Stage.Stage, declared.state.Stage.TheVariants.Makes, Laws.RunLaws, Layout.Fits, Machine.{Machine, instr_at, ref}, Runs.{Turn, Global, MayTurn, after_turn}, Whole.{one_thread, bounds, place_after}}
 use Rattle.sharc_code.specs.declared.instr.Instr.TheVariants as instrs
-use Rattle.sharc_code.specs.declared.shape.Shape.{Shape}
-use Rattle.sharc_code.specs.declared.state.Stage.{Stage}
-use Rattle.sharc_code.specs.declared.state.Stage.TheVariants.{Makes}
-use Rattle.sharc_code.specs.Laws.{RunLaws}
-use Rattle.sharc_code.specs.Layout.{Fits}
-use Rattle.sharc_code.specs.Machine.{Machine, instr_at, ref}
-use Rattle.sharc_code.specs.Runs.{Turn, Global, MayTurn, after_turn, result_of}
-use Rattle.sharc_code.specs.Whole.{one_thread, bounds, place_after}
-use Rattle.sharc_meaning.specs.Events.{makes, frees, is_number, made_by}
-use Rattle.sharc_meaning.specs.Store.{meets}
-use Rattle.sharc_invariant.specs.Types.{Targets}
-use Rattle.sharc_invariant.specs.Labels.{Labels}
-use Rattle.sharc_invariant.specs.Typed.{IsWellTyped}
-use Rattle.sharc_invariant.specs.World.{ObjectState}
-use Rattle.sharc_invariant.specs.Objects.{objects_behind, made_behind, new_behind, objects_now, owned, type_held}
-use Rattle.sharc_invariant.specs.State.{IsSmall}
-use Rattle.sharc_invariant.specs.Laws.{Keeps, CellsAreThere, PointersAreThere, AccessesAreAllowed}
-use Rattle.sharc_history_laws.proofs.Acts.{given_at, freed_at, About}
-use Rattle.sharc_history_laws.proofs.Consists.{Consists}
-use Rattle.sharc_history_laws.proofs.Lists.{Newest, live_in, live_other}
-use Rattle.sharc_history_laws.proofs.Rules.{pushed, same_behind, put_same, decide, number_yes, number_not}
-use Rattle.sharc_history_laws.proofs.Tables.{header_at, header_in, header_of}
-
-yes : true ≡ false → ⊥
-yes e = cc
+use Rattle.sharc_meaning.specs.{Events.{makes, frees, is_number, made_by}, Store.meets}
+use Rattle.sharc_invariant.specs.{Types.Targets, Labels.Labels, Typed.IsWellTyped, World.ObjectState, Objects.{objects_behind, made_behind, new_behind, objects_now, owned, type_held}, State.IsSmall, Laws.{Keeps, CellsAreThere, PointersAreThere, AccessesAreAllowed}}
+use Rattle.sharc_history_laws.proofs.{Acts.{given_at, freed_at, About}, Consists.Consists, Lists.{Newest, live_in, live_other}, Rules.{pushed, same_behind, put_same, decide, number_yes, number_not}, Tables.{header_at, header_in, header_of}}
+use Rattle.sharc_lemmas.proofs.Bools.{yes}
 
 -- an event that frees the object, and does not make it
 live_freed : (e : SourceEvent) (L : Newest) (n : ℕ) → makes (objects.Made n) e ≡ false → frees (objects.Made n) e ≡ true → live_in (e ∷ L) n ≡ false

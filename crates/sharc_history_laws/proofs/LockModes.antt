@@ -3,29 +3,12 @@ use Rattle.std.proofs.Common.{◌≡◌, ℕ, pos, zero, suc, ◌+◌, ◌-◌, 
 use Rattle.std.specs.Prelude.{slice_index_or}
 use Rattle.sharc_tree.specs.declared.event.CellAt.{CellAt}
 use Rattle.sharc_tree.specs.declared.event.CellMode.TheVariants as modes
-use Rattle.sharc_code.specs.declared.code.Code.{Code}
-use Rattle.sharc_code.specs.declared.code.PlaceMode.{PlaceMode}
+use Rattle.sharc_code.specs.{declared.code.Code.Code, declared.code.PlaceMode.PlaceMode, declared.instr.Cell.Cell, declared.shape.Shape.Shape, Arithmetic.word_of, Layout.Fits, Machine.{Machine, ref, int}, Ranges.IsInGlobal, Runs.Global, Says.{cell_at, global_cell, made_cell, mode_of, no_global, lock_through}}
 use Rattle.sharc_code.specs.declared.code.PlaceMode.TheVariants as places
-use Rattle.sharc_code.specs.declared.instr.Cell.{Cell}
 use Rattle.sharc_code.specs.declared.instr.Cell.TheVariants as cells
-use Rattle.sharc_code.specs.declared.shape.Shape.{Shape}
-use Rattle.sharc_code.specs.Arithmetic.{word_of}
-use Rattle.sharc_code.specs.Layout.{Fits}
-use Rattle.sharc_code.specs.Machine.{Machine, ref, int}
-use Rattle.sharc_code.specs.Ranges.{IsInGlobal}
-use Rattle.sharc_code.specs.Runs.{Global}
-use Rattle.sharc_code.specs.Says.{cell_at, global_cell, made_cell, mode_of, no_global, lock_through}
 use Rattle.sharc_gen.specs.Consistent.{IsThere}
-use Rattle.sharc_invariant.specs.Types.{Targets, Lock, FieldLock, StaticType, ObjectType, cells_of}
-use Rattle.sharc_invariant.specs.Types.Lock.{Global as GlobalLock, Through, Self}
-use Rattle.sharc_invariant.specs.Types.FieldLock.{OfType, OfGlobals, OfElement}
-use Rattle.sharc_invariant.specs.Types.FieldMode.{Under}
-use Rattle.sharc_invariant.specs.Labels.{Refers, Element, OfElement as OfElementCell, OfGlobal, Number, Anything, Exactly, Within, Indexes, Label, Labels, LessNumber, SameReference, Itself, IsCopy, HasCopy, Copies, Chained}
-use Rattle.sharc_invariant.specs.Typed.{IsWellTyped, IsMutexOf, IsMode, IsTypeMode, IsLockMode, IsLockCell, IsTypeLock, IsSibling, HasBefore, no_lock}
-use Rattle.sharc_invariant.specs.State.{State, ElementStands, OnHold, View, view_of, types_at}
-use Rattle.sharc_invariant.specs.MachineInvariant.{IsOn}
-use Rattle.sharc_history_laws.proofs.Stands.{rn}
-use Rattle.sharc_history_laws.proofs.Locked.{Names, names_one, names_cell, element_one, same_refs, number_of_global, number_of_element, same_type}
+use Rattle.sharc_invariant.specs.{Types.{Targets, Lock, FieldLock, StaticType, ObjectType, cells_of}, Types.Lock.{Global as GlobalLock, Through, Self}, Types.FieldLock.{OfType, OfGlobals, OfElement}, Types.FieldMode.Under, Labels.{Refers, Element, OfElement as OfElementCell, OfGlobal, Number, Anything, Exactly, Within, Indexes, Label, Labels, LessNumber, SameReference, Itself, IsCopy, HasCopy, Copies, Chained}, Typed.{IsWellTyped, IsMutexOf, IsMode, IsTypeMode, IsLockMode, IsLockCell, IsTypeLock, IsSibling, HasBefore, no_lock}, State.{State, ElementStands, OnHold, View, view_of, types_at}, MachineInvariant.IsOn}
+use Rattle.sharc_history_laws.proofs.{Stands.rn, Locked.{Names, names_one, names_cell, element_one, same_refs, number_of_global, number_of_element, same_type}}
 
 refers_eq : (a b : StaticType) → Refers a ≡ Refers b → a ≡ b
 refers_eq a b e = cc
@@ -80,7 +63,7 @@ same_copies l k e a b (HasCopy h) = HasCopy (sym (e b) ∙ h)
 same_copies l k e a b (Copies h) = Copies (sym (e a) ∙ h ∙ e b)
 same_copies l k e a b (Chained c p q) = Chained c (same_copies l k e a c p) (same_copies l k e c b q)
 
-through_some : (n j : ℕ) → n ≢ 0 → lock_through n j ≡ Some (made_cell n j)
+pub through_some : (n j : ℕ) → n ≢ 0 → lock_through n j ≡ Some (made_cell n j)
 through_some zero j ne = absurd (ne refl)
 through_some (suc n) j ne = refl
 

@@ -1,55 +1,20 @@
 -- A lock check that is refused is of an access whose mode names the mutex that the check looks for.
-use Rattle.std.proofs.Common.{◌≡◌, ℕ, zero, suc, ◌+◌, Bool, true, false, List, [], ◌∷◌, ◌++◌, Some, None, is_some, if◌then◌else◌, refl, sym, ap, ◌∙◌, subst, ⊎_elim}
+use Rattle.std.proofs.{Common.{◌≡◌, ℕ, zero, suc, ◌+◌, Bool, true, false, List, [], ◌∷◌, ◌++◌, Some, None, is_some, if◌then◌else◌, refl, sym, ap, ◌∙◌, subst, ⊎_elim}, lemmas.Bool.cases_eq}
 use Rattle.std.specs.Prelude.{◌==◌}
-use Rattle.std.proofs.lemmas.Bool.{cases_eq}
-use Rattle.sharc_tree.specs.declared.event.CellAt.{CellAt}
+use Rattle.sharc_tree.specs.{declared.event.CellAt.CellAt, declared.event.SourceEvent.SourceEvent}
 use Rattle.sharc_tree.specs.declared.event.CellMode.TheVariants as modes
-use Rattle.sharc_tree.specs.declared.event.SourceEvent.{SourceEvent}
 use Rattle.sharc_tree.specs.declared.trap.Trap.TheVariants as traps
-use Rattle.sharc_shadow.specs.declared.shadow_word.Kind.{Kind}
-use Rattle.sharc_shadow.specs.declared.shadow_word.Kind.TheVariants.{Read, Write}
-use Rattle.sharc_shadow.specs.Accesses.{note_of, site_at}
-use Rattle.sharc_shadow.specs.ShadowWord.{epoch_of}
-use Rattle.sharc_shadow.specs.Functions.{conflicts_in, noted}
-use Rattle.sharc_code.specs.declared.code.Code.{Code}
-use Rattle.sharc_code.specs.declared.code.PlaceMode.{PlaceMode}
+use Rattle.sharc_shadow.specs.{declared.shadow_word.Kind.Kind, declared.shadow_word.Kind.TheVariants.{Read, Write}, Accesses.{note_of, site_at}, ShadowWord.epoch_of, Functions.{conflicts_in, noted}}
+use Rattle.sharc_code.specs.{declared.code.Code.Code, declared.code.PlaceMode.PlaceMode, declared.instr.Cell.Cell, declared.instr.Instr.Instr, declared.shape.Shape.Shape, declared.state.Stop.Stop, declared.state.Stop.TheVariants.{Conflict, NoLock, NotSole, Trap}, Layout.{Fits, cell_of, cell_word, granule_at, granule_of}, Machine.{Machine, Own, instr_at, act, place, word, is_held, is_of_null, goes, stopped, checked, lock_checked, tested, with_own, wrote, with_note}, Opening.opening_words, Path.{turn, after}, Runs.{Turn, Global, IsRun, MayTurn, put, state_now, result_of, opening_of}, Says.{cell_at, made_cell, mode_of, place_at, lock_through}, Whole.{one_thread, bounds, place_after}}
 use Rattle.sharc_code.specs.declared.code.PlaceMode.TheVariants as places
-use Rattle.sharc_code.specs.declared.instr.Cell.{Cell}
 use Rattle.sharc_code.specs.declared.instr.Cell.TheVariants as cells
-use Rattle.sharc_code.specs.declared.instr.Instr.{Instr}
 use Rattle.sharc_code.specs.declared.instr.Instr.TheVariants as instrs
-use Rattle.sharc_code.specs.declared.shape.Shape.{Shape}
-use Rattle.sharc_code.specs.declared.state.Stop.{Stop}
-use Rattle.sharc_code.specs.declared.state.Stop.TheVariants.{Conflict, NoLock, NotSole, Trap}
-use Rattle.sharc_code.specs.Layout.{Fits, cell_of, cell_word, granule_at, granule_of}
-use Rattle.sharc_code.specs.Machine.{Machine, Own, instr_at, act, place, word, is_held, is_of_null, goes, stopped, checked, lock_checked, tested, with_own, wrote, with_note}
-use Rattle.sharc_code.specs.Opening.{opening_words}
-use Rattle.sharc_code.specs.Path.{turn, after}
-use Rattle.sharc_code.specs.Runs.{Turn, Global, IsRun, MayTurn, put, state_now, result_of, opening_of}
-use Rattle.sharc_code.specs.Says.{cell_at, made_cell, mode_of, place_at, lock_through}
-use Rattle.sharc_code.specs.Whole.{one_thread, bounds, place_after}
 use Rattle.sharc_gen.specs.Consistent.{IsThere}
-use Rattle.sharc_meaning.specs.Events.{Access, access_by, events_of, holds_mutex}
-use Rattle.sharc_meaning.specs.Obeys.{History, Obeys, Until}
-use Rattle.sharc_invariant.specs.Types.{Targets, Field, FieldMode, Content}
-use Rattle.sharc_invariant.specs.Labels.{Gate, Closed, Checked, Holds, Loaded, HoldsLoaded, Sole, Label, Labels, LessGate, LessNumber, SameReference, gated}
-use Rattle.sharc_invariant.specs.Typed.{IsWellTyped, Fine, Accesses as TypedAccess, MayAccess, IsMode, knows_base}
-use Rattle.sharc_invariant.specs.State.{State, IsSmall, OnHold}
-use Rattle.sharc_invariant.specs.MachineInvariant.{IsOn}
-use Rattle.sharc_invariant.specs.Laws.{CellsAreThere}
-use Rattle.sharc_history_laws.specs.Reports.{IsLockCheck, LacksLock}
-use Rattle.sharc_history_laws.specs.Followed.{Accesses, IsLocked, IsFollowed, ChecksAreFollowed, access_to, access_of, access_checked, ShowsLock}
-use Rattle.sharc_history_laws.proofs.Consists.{Consists}
-use Rattle.sharc_history_laws.proofs.Finds.{is_there}
-use Rattle.sharc_history_laws.proofs.Followed.{accessed_is}
-use Rattle.sharc_history_laws.proofs.LockModes.{same_copies, lock_mode_now}
-use Rattle.sharc_history_laws.proofs.Quits.{Quits, Still, Traps, is_trap, is_reporting, quits}
-use Rattle.sharc_history_laws.proofs.Rules.{put_same, put_other}
-use Rattle.sharc_history_laws.proofs.Single.{rests_hold}
-use Rattle.sharc_history_laws.proofs.Sole.{Halting, stop_none}
-
-yes : true ≡ false → ⊥
-yes e = cc
+use Rattle.sharc_meaning.specs.{Events.{Access, access_by, events_of, holds_mutex}, Obeys.{History, Obeys, Until}}
+use Rattle.sharc_invariant.specs.{Types.{Targets, Field, FieldMode, Content}, Labels.{Gate, Closed, Checked, Holds, Loaded, HoldsLoaded, Sole, Label, Labels, LessGate, LessNumber, SameReference, gated}, Typed.{IsWellTyped, Fine, Accesses as TypedAccess, MayAccess, IsMode, knows_base}, State.{State, OnHold}, MachineInvariant.IsOn, Laws.CellsAreThere}
+use Rattle.sharc_history_laws.specs.{Reports.{IsLockCheck, LacksLock}, Followed.{Accesses, IsLocked, IsFollowed, ChecksAreFollowed, access_to, access_of, access_checked, ShowsLock}}
+use Rattle.sharc_history_laws.proofs.{Consists.Consists, Finds.is_there, Followed.accessed_is, LockModes.{same_copies, lock_mode_now}, Quits.{Quits, Still, Traps, is_trap, is_reporting, quits}, Rules.{put_same, put_other}, Single.rests_hold, Sole.{Halting, stop_none}}
+use Rattle.sharc_lemmas.proofs.Bools.{yes}
 
 -- ---- the turn that stopped there
 pub data LockStop (s : Shape) (m : Machine) (i : Instr) (site mutex : ℕ) (y : Machine) : Type 0 where

@@ -1,37 +1,15 @@
 -- At an access under a lock the thread holds that mutex by its events.
-use Rattle.std.proofs.Common.{◌≡◌, ℕ, ℤ, pos, zero, suc, ◌+◌, ◌-◌, ◌*◌, ◌<◌, ◌≤◌, ◌≢◌, ◌⊎◌, inl, inr, true, false, not, cond, List, [], ◌∷◌, ◌++◌, Option, Some, None, is_some, if◌then◌else◌, refl, sym, ap, ◌∙◌, subst, ⊎_elim, arith, eqb-true}
+use Rattle.std.proofs.{Common.{◌≡◌, ℕ, ℤ, pos, zero, suc, ◌+◌, ◌-◌, ◌*◌, ◌<◌, ◌≤◌, ◌≢◌, ◌⊎◌, inl, inr, true, false, not, cond, List, [], ◌∷◌, ◌++◌, Option, Some, None, is_some, if◌then◌else◌, refl, sym, ap, ◌∙◌, subst, ⊎_elim, arith, eqb-true}, lemmas.Bool.{cases_eq, cases_lt}, lemmas.Bool.Decides.nat_tests}
 use Rattle.std.specs.Prelude.{nat_lt, ◌==◌, slice_index_or, All}
-use Rattle.std.proofs.lemmas.Bool.{cases_eq, cases_lt}
-use Rattle.std.proofs.lemmas.Bool.Decides.{nat_tests}
-use Rattle.sharc_tree.specs.declared.event.CellAt.{CellAt}
+use Rattle.sharc_tree.specs.{declared.event.CellAt.CellAt, declared.event.Object.Object}
 use Rattle.sharc_tree.specs.declared.event.CellMode.TheVariants as modes
-use Rattle.sharc_tree.specs.declared.event.Object.{Object}
 use Rattle.sharc_tree.specs.declared.event.Object.TheVariants as objects
-use Rattle.sharc_locks.specs.declared.held_log.HeldMutex.{HeldMutex}
-use Rattle.sharc_locks.specs.HeldLog.{without, object_of}
-use Rattle.sharc_code.specs.declared.code.Code.{Code}
-use Rattle.sharc_code.specs.declared.code.PlaceMode.{PlaceMode}
-use Rattle.sharc_code.specs.declared.instr.Cell.{Cell}
+use Rattle.sharc_locks.specs.{declared.held_log.HeldMutex.HeldMutex, HeldLog.{without, object_of}}
+use Rattle.sharc_code.specs.{declared.code.Code.Code, declared.code.PlaceMode.PlaceMode, declared.instr.Cell.Cell, declared.shape.Shape.Shape, Arithmetic.word_of, Layout.{Fits, first_cell, words_of, cell_of, cell_word}, Machine.{Machine, ref, int, place, object, word}, Ranges.IsInGlobal, Runs.Global, Says.{said, cell_at, global_cell, made_cell, mode_of, place_at, no_global, speaks_of}}
 use Rattle.sharc_code.specs.declared.instr.Cell.TheVariants as cells
-use Rattle.sharc_code.specs.declared.shape.Shape.{Shape}
-use Rattle.sharc_code.specs.Arithmetic.{word_of}
-use Rattle.sharc_code.specs.Layout.{Fits, first_cell, words_of, cell_of, cell_word}
-use Rattle.sharc_code.specs.Machine.{Machine, ref, int, place, object, word}
-use Rattle.sharc_code.specs.Ranges.{IsInGlobal}
-use Rattle.sharc_code.specs.Runs.{Global}
-use Rattle.sharc_code.specs.Says.{said, cell_at, global_cell, made_cell, mode_of, place_at, no_global, speaks_of}
 use Rattle.sharc_gen.specs.Consistent.{IsThere, IsApart}
-use Rattle.sharc_invariant.specs.Types.{Targets, FieldMode, FieldLock, Lock, StaticType, ObjectType, cells_of}
-use Rattle.sharc_invariant.specs.Types.Lock.{Global as GlobalLock, Through, Self}
-use Rattle.sharc_invariant.specs.Types.FieldLock.{OfType, OfGlobals, OfElement}
-use Rattle.sharc_invariant.specs.Labels.{Refers, Element, Named, Nth, OfElement as OfElementCell, OfGlobal, Label, Labels, SameReference, Itself, IsCopy, HasCopy, Copies, Chained}
-use Rattle.sharc_invariant.specs.Typed.{IsWellTyped, Fine, HasField, HasCell, MayAccess, IsMode, IsTypeMode, IsLockMode, IsLockCell, IsTypeLock, IsMutexOf, IsSibling, no_lock}
-use Rattle.sharc_invariant.specs.World.{RegisterOf, World, ObjectState, in_ref}
-use Rattle.sharc_invariant.specs.State.{State, NumberStands, ElementStands, OnHold, View, view_of, refs_at, types_at}
-use Rattle.sharc_invariant.specs.MachineInvariant.{IsOn}
-use Rattle.sharc_history_laws.proofs.Stands.{top, reads_ref, rn}
-use Rattle.sharc_history_laws.proofs.Lists.{Newest}
-use Rattle.sharc_history_laws.proofs.Holding.{holds_in}
+use Rattle.sharc_invariant.specs.{Types.{Targets, FieldMode, FieldLock, Lock, StaticType, ObjectType, cells_of}, Types.Lock.{Global as GlobalLock, Through, Self}, Types.FieldLock.{OfType, OfGlobals, OfElement}, Labels.{Refers, Element, Named, Nth, OfElement as OfElementCell, OfGlobal, Label, Labels, SameReference, Itself, IsCopy, HasCopy, Copies, Chained}, Typed.{IsWellTyped, Fine, HasField, HasCell, MayAccess, IsMode, IsTypeMode, IsLockMode, IsLockCell, IsTypeLock, IsMutexOf, IsSibling, no_lock}, World.{RegisterOf, World, ObjectState, in_ref}, State.{State, NumberStands, ElementStands, OnHold, View, view_of, refs_at, types_at}, MachineInvariant.IsOn}
+use Rattle.sharc_history_laws.proofs.{Stands.{top, reads_ref, rn}, Lists.Newest, Holding.holds_in}
 
 -- ---- entries of a log
 abbrev pub IsIn : HeldMutex → List HeldMutex → Type 0

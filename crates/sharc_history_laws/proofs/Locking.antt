@@ -1,56 +1,19 @@
 -- The held logs of threads are those that their events tell, so an access under a lock comes while the thread holds the mutex.
-use Rattle.std.proofs.Common.{◌≡◌, ℕ, zero, suc, ◌+◌, ◌<◌, ◌≢◌, ◌⊎◌, inl, Bool, true, false, not, ◌||◌, ◌&&◌, length, List, [], ◌∷◌, ◌++◌, reverse, Option, Some, None, if◌then◌else◌, refl, sym, ap, ◌∙◌, subst, ⊎_elim, arith}
+use Rattle.std.proofs.{Common.{◌≡◌, ℕ, zero, suc, ◌+◌, ◌<◌, ◌≢◌, ◌⊎◌, inl, Bool, true, false, not, ◌||◌, ◌&&◌, length, List, [], ◌∷◌, ◌++◌, reverse, Option, Some, None, if◌then◌else◌, refl, sym, ap, ◌∙◌, subst, ⊎_elim, arith}, lemmas.Bool.cases_eq, lemmas.Bool.Decides.nat_tests}
 use Rattle.std.specs.Prelude.{nat_lt, ◌==◌}
-use Rattle.std.proofs.lemmas.Bool.{cases_eq}
-use Rattle.std.proofs.lemmas.Bool.Decides.{nat_tests}
 use Rattle.sharc_tree.specs.declared.event.Act.TheVariants as acts
-use Rattle.sharc_tree.specs.declared.event.SourceEvent.{SourceEvent}
-use Rattle.sharc_tree.specs.declared.event.CellAt.{CellAt}
+use Rattle.sharc_tree.specs.{declared.event.SourceEvent.SourceEvent, declared.event.CellAt.CellAt, declared.event.Object.Object}
 use Rattle.sharc_tree.specs.declared.event.CellMode.TheVariants as modes
-use Rattle.sharc_tree.specs.declared.event.Object.{Object}
 use Rattle.sharc_tree.specs.declared.event.Object.TheVariants as objects
-use Rattle.sharc_locks.specs.declared.held_log.HeldMutex.{HeldMutex}
-use Rattle.sharc_locks.specs.HeldLog.{with_mutex, without}
-use Rattle.sharc_code.specs.declared.code.Code.{Code}
-use Rattle.sharc_code.specs.declared.code.PlaceMode.{PlaceMode}
-use Rattle.sharc_code.specs.declared.instr.Cell.{Cell}
-use Rattle.sharc_code.specs.declared.instr.Instr.{Instr}
+use Rattle.sharc_locks.specs.{declared.held_log.HeldMutex.HeldMutex, HeldLog.{with_mutex, without}}
+use Rattle.sharc_code.specs.{declared.code.Code.Code, declared.code.PlaceMode.PlaceMode, declared.instr.Cell.Cell, declared.instr.Instr.Instr, declared.shape.Shape.Shape, Laws.RunLaws, Layout.{Fits, first_cell, words_of, cell_of}, Machine.{Machine, instr_at, place, object, word, is_held, taken, act, locked, goes, fails}, Opening.opening_words, Path.{turn, after}, Runs.{Turn, Global, IsRun, MayTurn, after_turn, put, state_now, result_of, opening_of}, Whole.{one_thread, bounds, place_after}, Says.{said, cell_at, mode_of, place_at, speaks_of, event_at, lock_through}}
 use Rattle.sharc_code.specs.declared.instr.Instr.TheVariants as instrs
-use Rattle.sharc_code.specs.declared.shape.Shape.{Shape}
-use Rattle.sharc_code.specs.Laws.{RunLaws}
-use Rattle.sharc_code.specs.Layout.{Fits, first_cell, words_of, cell_of}
-use Rattle.sharc_code.specs.Machine.{Machine, instr_at, ref, place, object, word, is_held, taken, act, locked, goes, fails}
-use Rattle.sharc_code.specs.Opening.{opening_words}
-use Rattle.sharc_code.specs.Path.{turn, after}
-use Rattle.sharc_code.specs.Runs.{Turn, Global, IsRun, MayTurn, after_turn, put, state_now, result_of, opening_of}
-use Rattle.sharc_code.specs.Whole.{one_thread, bounds, place_after}
-use Rattle.sharc_code.specs.Says.{said, cell_at, mode_of, place_at, speaks_of, event_at, lock_through}
-use Rattle.sharc_gen.specs.Consistent.{said_now, IsMutex}
-use Rattle.sharc_gen.specs.OfRuns.{table_of}
-use Rattle.sharc_meaning.specs.Events.{Access, same_object, same_cell, is_cell, locks, unlocks, is_of}
-use Rattle.sharc_meaning.specs.Obeys.{History, IsAccess}
-use Rattle.sharc_invariant.specs.Types.{Targets, FieldMode}
-use Rattle.sharc_invariant.specs.Labels.{Labels}
-use Rattle.sharc_invariant.specs.Typed.{IsWellTyped, Fine, MayAccess, IsMode}
-use Rattle.sharc_invariant.specs.World.{World}
-use Rattle.sharc_invariant.specs.State.{IsSmall, StageStands, GateStands, OnHold}
-use Rattle.sharc_invariant.specs.MachineInvariant.{IsOn}
-use Rattle.sharc_invariant.specs.Laws.{Keeps, Begins as CodeBegins, CellsAreThere, PointersAreThere, AccessesAreAllowed}
+use Rattle.sharc_gen.specs.{Consistent.{said_now, IsMutex}, OfRuns.table_of}
+use Rattle.sharc_meaning.specs.{Events.{Access, same_object, same_cell, is_cell, locks, unlocks, is_of}, Obeys.{History, IsAccess}}
+use Rattle.sharc_invariant.specs.{Types.{Targets, FieldMode}, Labels.Labels, Typed.{IsWellTyped, Fine, MayAccess, IsMode}, World.World, State.{IsSmall, StageStands, GateStands, OnHold}, MachineInvariant.IsOn, Laws.{Keeps, Begins as CodeBegins, CellsAreThere, PointersAreThere, AccessesAreAllowed}}
 use Rattle.sharc_history_laws.specs.History.{history_of}
-use Rattle.sharc_history_laws.proofs.Single.{rests_hold}
-use Rattle.sharc_history_laws.proofs.Stands.{gate}
-use Rattle.sharc_history_laws.proofs.Finds.{mutex_cell, pending_apart}
-use Rattle.sharc_history_laws.proofs.Consists.{Consists, consists_then, at_first}
-use Rattle.sharc_history_laws.proofs.Acts.{access_said, thread_said, is_access, no_access, access_at, IsAccess as TellsAccess, access_of}
-use Rattle.sharc_history_laws.proofs.Lists.{Newest, EachAccess, no_event, each_push}
-use Rattle.sharc_history_laws.proofs.Rules.{pushed, newest, newest_now, number_is, about_now, hold_access, put_same, put_other}
-use Rattle.sharc_history_laws.proofs.Holding.{cell_eq, holds_in, holds_other, holds_own}
-use Rattle.sharc_history_laws.proofs.Logs.{is_locking, logs}
-use Rattle.sharc_history_laws.proofs.Mutexless.{mutex_said, no_mutex, not_locked}
-use Rattle.sharc_history_laws.proofs.Locked.{IsIn, in_append, in_without, Names, names_one, names_cell, one_place, LogTold, held_told, mutex_names, lock_eq, through_is}
-
-yes : true ≡ false → ⊥
-yes e = cc
+use Rattle.sharc_history_laws.proofs.{Single.rests_hold, Stands.gate, Finds.{mutex_cell, pending_apart}, Consists.{Consists, consists_then, at_first}, Acts.{access_said, thread_said, is_access, no_access, access_at, IsAccess as TellsAccess, access_of}, Lists.{Newest, EachAccess, no_event, each_push}, Rules.{pushed, newest, newest_now, number_is, about_now, hold_access, put_same, put_other}, Holding.{cell_eq, holds_in, holds_other, holds_own}, Logs.{is_locking, logs}, Mutexless.{mutex_said, no_mutex, not_locked}, Locked.{IsIn, in_append, in_without, Names, names_one, names_cell, one_place, LogTold, held_told, mutex_names, lock_eq, through_is}}
+use Rattle.sharc_lemmas.proofs.Numbers.{is_below}
 
 object_refl : (a : Object) → same_object a a ≡ true
 object_refl (objects.Global g) = let e : (g == g) ≡ true = grind (arith, nat_tests) in e
@@ -58,9 +21,6 @@ object_refl (objects.Made n) = let e : (n == n) ≡ true = grind (arith, nat_tes
 
 pub cell_refl : (c : CellAt) → same_cell c c ≡ true
 cell_refl c = ap (λ b. b && (c.cell == c.cell)) (object_refl c.object) ∙ (let e : (c.cell == c.cell) ≡ true = grind (arith, nat_tests) in e)
-
-pub is_below : (a b : ℕ) → a < b → nat_lt a b ≡ true
-is_below a b lt = grind (arith, nat_tests)
 
 -- ---- one turn
 module _ (cell_laws : CellsAreThere) (pointers : PointersAreThere) (rights : AccessesAreAllowed) (laws : RunLaws) (keeps : Keeps) (x : Targets) (code : Code) (s : Shape) (ls : Labels) (wt : IsWellTyped x code ls) (fits : Fits code s) (few : IsSmall code s)

@@ -1,57 +1,20 @@
 -- What a thread holds by its events is in its held log, so where a lock check is refused it does not hold the mutex.
-use Rattle.std.proofs.Common.{◌≡◌, ℕ, pos, zero, suc, ◌+◌, ◌<◌, ◌⊎◌, inl, inr, Bool, true, false, not, cond, ◌||◌, ◌&&◌, length, List, [], ◌∷◌, ◌++◌, reverse, Option, Some, None, is_some, if◌then◌else◌, refl, sym, ap, ◌∙◌, subst, ⊎_elim, arith, eqb-true}
+use Rattle.std.proofs.{Common.{◌≡◌, ℕ, pos, zero, suc, ◌+◌, ◌<◌, ◌⊎◌, inl, inr, Bool, true, false, not, cond, ◌||◌, ◌&&◌, length, List, [], ◌∷◌, ◌++◌, reverse, Option, Some, None, is_some, if◌then◌else◌, refl, sym, ap, ◌∙◌, subst, ⊎_elim, arith, eqb-true}, lemmas.Bool.cases_eq, lemmas.Bool.Decides.nat_tests}
 use Rattle.std.specs.Prelude.{nat_lt, ◌==◌}
-use Rattle.std.proofs.lemmas.Bool.{cases_eq}
-use Rattle.std.proofs.lemmas.Bool.Decides.{nat_tests}
 use Rattle.sharc_tree.specs.declared.event.Act.TheVariants as acts
-use Rattle.sharc_tree.specs.declared.event.SourceEvent.{SourceEvent}
-use Rattle.sharc_tree.specs.declared.event.CellAt.{CellAt}
+use Rattle.sharc_tree.specs.{declared.event.SourceEvent.SourceEvent, declared.event.CellAt.CellAt}
 use Rattle.sharc_tree.specs.declared.trap.Trap.TheVariants as traps
-use Rattle.sharc_locks.specs.declared.held_log.HeldMutex.{HeldMutex}
-use Rattle.sharc_locks.specs.HeldLog.{with_mutex, without, object_of}
-use Rattle.sharc_code.specs.declared.code.Code.{Code}
-use Rattle.sharc_code.specs.declared.instr.Cell.{Cell}
+use Rattle.sharc_locks.specs.{declared.held_log.HeldMutex.HeldMutex, HeldLog.{with_mutex, without, object_of}}
+use Rattle.sharc_code.specs.{declared.code.Code.Code, declared.instr.Cell.Cell, declared.instr.Instr.Instr, declared.shape.Shape.Shape, declared.state.Stop.Stop, declared.state.Stop.TheVariants.{Conflict, NoLock, NotSole, Trap}, Laws.RunLaws, Layout.{Fits, first_cell, words_of, cell_of, cell_word, granule_at, granule_of}, Machine.{Machine, Own, instr_at, ref, place, object, word, is_held, is_of_null, taken, act, locked, goes, fails, checked, lock_checked, tested, stopped, with_own, wrote, with_note}, Opening.opening_words, Path.{turn, after, may_go}, Runs.{Turn, Global, IsRun, MayTurn, after_turn, put, state_now, result_of, opening_of}, Whole.{one_thread, bounds, place_after}, Says.{said, cell_at, made_cell, speaks_of, event_at}}
 use Rattle.sharc_code.specs.declared.instr.Cell.TheVariants as cells
-use Rattle.sharc_code.specs.declared.instr.Instr.{Instr}
 use Rattle.sharc_code.specs.declared.instr.Instr.TheVariants as instrs
-use Rattle.sharc_code.specs.declared.shape.Shape.{Shape}
-use Rattle.sharc_code.specs.declared.state.Stop.{Stop}
-use Rattle.sharc_code.specs.declared.state.Stop.TheVariants.{Conflict, NoLock, NotSole, Trap}
-use Rattle.sharc_shadow.specs.declared.shadow_word.Kind.{Kind}
-use Rattle.sharc_shadow.specs.declared.shadow_word.Kind.TheVariants.{Read, Write}
-use Rattle.sharc_shadow.specs.Accesses.{note_of, site_at}
-use Rattle.sharc_shadow.specs.ShadowWord.{epoch_of}
-use Rattle.sharc_shadow.specs.Functions.{conflicts_in, noted}
-use Rattle.sharc_code.specs.Laws.{RunLaws}
-use Rattle.sharc_code.specs.Layout.{Fits, first_cell, words_of, cell_of, cell_word, granule_at, granule_of}
-use Rattle.sharc_code.specs.Machine.{Machine, Own, instr_at, ref, place, object, word, is_held, is_of_null, taken, act, locked, goes, fails, checked, lock_checked, tested, stopped, with_own, wrote, with_note}
-use Rattle.sharc_code.specs.Opening.{opening_words}
-use Rattle.sharc_code.specs.Path.{turn, after, may_go}
-use Rattle.sharc_code.specs.Runs.{Turn, Global, IsRun, MayTurn, after_turn, put, state_now, result_of, opening_of}
-use Rattle.sharc_code.specs.Whole.{one_thread, bounds, place_after}
-use Rattle.sharc_code.specs.Says.{said, cell_at, made_cell, speaks_of, event_at}
-use Rattle.sharc_gen.specs.Consistent.{said_now, MayFind, IsLock, IsMutex, IsApart, IsFree}
-use Rattle.sharc_gen.specs.OfRuns.{table_of}
-use Rattle.sharc_meaning.specs.Events.{same_cell, is_cell, locks, unlocks, is_of, events_of, holds_mutex}
-use Rattle.sharc_invariant.specs.Types.{Targets}
-use Rattle.sharc_invariant.specs.Labels.{Labels}
-use Rattle.sharc_invariant.specs.Typed.{IsWellTyped}
-use Rattle.sharc_invariant.specs.State.{IsSmall}
-use Rattle.sharc_invariant.specs.Laws.{Keeps, Begins as CodeBegins, CellsAreThere, PointersAreThere, AccessesAreAllowed}
-use Rattle.sharc_history_laws.specs.History.{history_of}
-use Rattle.sharc_history_laws.specs.Reports.{IsLockCheck, LacksLock}
-use Rattle.sharc_history_laws.proofs.Consists.{Consists, consists_then, own_turn, at_first}
-use Rattle.sharc_history_laws.proofs.Lists.{Newest}
-use Rattle.sharc_history_laws.proofs.Rules.{pushed, newest, newest_now, put_same, put_other}
-use Rattle.sharc_history_laws.proofs.Holding.{cell_eq, holds_in, holds_other, holds_own}
-use Rattle.sharc_history_laws.proofs.Logs.{is_locking, logs}
-use Rattle.sharc_history_laws.proofs.Mutexless.{mutex_said, no_mutex, not_locked}
-use Rattle.sharc_history_laws.proofs.Locked.{IsIn, all_in, Names, names_one, names_cell, one_place}
-use Rattle.sharc_history_laws.proofs.Locking.{cell_refl, is_below, is_own, is_others, word_is, lock_event, unlock_event}
-use Rattle.sharc_history_laws.proofs.Quits.{Quits, Still, Traps, is_trap, is_reporting, quits}
-
-yes : true ≡ false → ⊥
-yes e = cc
+use Rattle.sharc_shadow.specs.{declared.shadow_word.Kind.Kind, declared.shadow_word.Kind.TheVariants.{Read, Write}, Accesses.{note_of, site_at}, ShadowWord.epoch_of, Functions.{conflicts_in, noted}}
+use Rattle.sharc_gen.specs.{Consistent.{said_now, MayFind, IsLock, IsMutex, IsApart, IsFree}, OfRuns.table_of}
+use Rattle.sharc_meaning.specs.Events.{same_cell, is_cell, locks, unlocks, is_of}
+use Rattle.sharc_invariant.specs.{Types.Targets, Labels.Labels, Typed.IsWellTyped, State.IsSmall, Laws.{Keeps, Begins as CodeBegins, CellsAreThere, PointersAreThere, AccessesAreAllowed}}
+use Rattle.sharc_history_laws.specs.{History.history_of, Reports.{IsLockCheck, LacksLock}}
+use Rattle.sharc_history_laws.proofs.{Consists.{Consists, consists_then, own_turn, at_first}, Lists.Newest, Rules.{pushed, newest, newest_now, put_same, put_other}, Holding.{cell_eq, holds_in, holds_other, holds_own}, Logs.{is_locking, logs}, Mutexless.{mutex_said, no_mutex, not_locked}, Locked.{IsIn, all_in, Names, names_one, names_cell, one_place}, Locking.{cell_refl, is_own, is_others, word_is, lock_event, unlock_event}, Quits.{Quits, Still, Traps, is_trap, is_reporting, quits}, Sole.stop_none}
+use Rattle.sharc_lemmas.proofs.{Numbers.is_below, Bools.yes}
 
 above : (n : ℕ) → (n == 0) ≡ false → 0 < n
 above zero e = absurd (yes e)
@@ -386,10 +349,6 @@ pub record Lacking (x : Targets) (code : Code) (s : Shape) (ls : Labels) (run : 
   pub has : (u : ℕ) → LogHas code s (newest code s run) u ((place_after code s run).threads u).own.held
   pub halts : (u : ℕ) → is_some ((place_after code s run).threads u).own.stop ≡ true → may_go ((place_after code s run).threads u).at.state ≡ false
   pub shows : (u site word : ℕ) → ((place_after code s run).threads u).own.stop ≡ Some (NoLock site word) → LacksLock code (history_of code s run) u ((place_after code s run).threads u) site
-
-stop_none : (o : Option Stop) → (is_some o ≡ true → ⊥) → o ≡ None
-stop_none None h = refl
-stop_none (Some w) h = absurd (h refl)
 
 module _ (cell_laws : CellsAreThere) (pointers : PointersAreThere) (rights : AccessesAreAllowed) (laws : RunLaws) (begins_law : CodeBegins) (keeps : Keeps) (x : Targets) (code : Code) (s : Shape) (ls : Labels) (wt : IsWellTyped x code ls) (fits : Fits code s) (few : IsSmall code s) where
   pub lacking : (run : List Turn) → IsRun bounds (one_thread code s) (opening_of bounds (one_thread code s) (opening_words code s)) run → Lacking x code s ls run

@@ -1,50 +1,18 @@
 -- The pointer cells of a made object are those that its last New made pointers.
-use Rattle.std.proofs.Common.{◌≡◌, ℕ, ◌%◌, ◌<◌, ◌≢◌, true, false, cond, length, List, [], ◌∷◌, Option, Some, None, refl, sym, ap, ◌∙◌, subst, ⊎_elim, arith}
+use Rattle.std.proofs.{Common.{◌≡◌, ℕ, ◌%◌, ◌<◌, ◌≢◌, true, false, cond, length, List, [], ◌∷◌, Option, Some, None, refl, sym, ap, ◌∙◌, subst, ⊎_elim, arith}, lemmas.Bool.cases_eq}
 use Rattle.std.specs.Prelude.{find, slice_index_or}
-use Rattle.std.proofs.lemmas.Bool.{cases_eq}
 use Rattle.sharc_tree.specs.declared.event.SourceEvent.{SourceEvent}
 use Rattle.sharc_tree.specs.declared.event.Object.TheVariants as objects
-use Rattle.sharc_granule.specs.State.{NewView}
-use Rattle.sharc_granule.specs.declared.stage.Stage.{Stage as NewStage}
+use Rattle.sharc_granule.specs.{State.NewView, declared.stage.Stage.{Stage as NewStage}}
 use Rattle.sharc_granule.specs.declared.stage.Stage.TheVariants as news
-use Rattle.sharc_code.specs.declared.code.Code.{Code}
-use Rattle.sharc_code.specs.declared.instr.Instr.{Instr}
+use Rattle.sharc_code.specs.{declared.code.Code.Code, declared.instr.Instr.Instr, declared.shape.Shape.Shape, declared.state.Stage.Stage, declared.state.Stage.TheVariants.Makes, Laws.RunLaws, Layout.Fits, Machine.{Machine, instr_at, ref}, Opening.opening_words, Runs.{Turn, Global, IsRun, MayTurn, after_turn, result_of, opening_of}, Says.{said, in_new, new_event, place_at, speaks_of}, Whole.{one_thread, bounds, place_after}}
 use Rattle.sharc_code.specs.declared.instr.Instr.TheVariants as instrs
-use Rattle.sharc_code.specs.declared.shape.Shape.{Shape}
-use Rattle.sharc_code.specs.declared.state.Stage.{Stage}
-use Rattle.sharc_code.specs.declared.state.Stage.TheVariants.{Makes}
-use Rattle.sharc_code.specs.Laws.{RunLaws}
-use Rattle.sharc_code.specs.Layout.{Fits}
-use Rattle.sharc_code.specs.Machine.{Machine, instr_at, ref}
-use Rattle.sharc_code.specs.Opening.{opening_words}
-use Rattle.sharc_code.specs.Runs.{Turn, Global, IsRun, MayTurn, after_turn, result_of, opening_of}
-use Rattle.sharc_code.specs.Says.{said, in_new, new_event, place_at, speaks_of}
-use Rattle.sharc_code.specs.Whole.{one_thread, bounds, place_after}
-use Rattle.sharc_gen.specs.Consistent.{said_now}
-use Rattle.sharc_gen.specs.OfRuns.{table_of}
-use Rattle.sharc_meaning.specs.Events.{latest, makes, is_number}
-use Rattle.sharc_meaning.specs.Store.{is_live}
-use Rattle.sharc_invariant.specs.Types.{Targets, StaticType, Field, Content, Integer, MutexWord, Waiters, Pointer, cells_of, field_at, field_of_cell, field_in, is_pointer, no_field, row_of}
-use Rattle.sharc_invariant.specs.Labels.{Label, Labels}
-use Rattle.sharc_invariant.specs.Typed.{IsWellTyped, IsSameContent, Recasts}
-use Rattle.sharc_invariant.specs.World.{ObjectState}
-use Rattle.sharc_invariant.specs.Opened.{first_world, first_place}
-use Rattle.sharc_invariant.specs.Objects.{objects_after, objects_behind, objects_now}
-use Rattle.sharc_invariant.specs.State.{IsSmall}
-use Rattle.sharc_invariant.specs.Laws.{Keeps, Begins as CodeBegins, CellsAreThere, PointersAreThere, AccessesAreAllowed}
+use Rattle.sharc_gen.specs.{Consistent.said_now, OfRuns.table_of}
+use Rattle.sharc_meaning.specs.{Events.{latest, makes, is_number}, Store.is_live}
+use Rattle.sharc_invariant.specs.{Types.{Targets, StaticType, Field, Content, Integer, MutexWord, Waiters, Pointer, cells_of, field_at, field_of_cell, field_in, is_pointer, no_field, row_of}, Labels.{Label, Labels}, Typed.{IsWellTyped, IsSameContent, Recasts}, World.ObjectState, Opened.{first_world, first_place}, Objects.{objects_after, objects_behind, objects_now}, State.IsSmall, Laws.{Keeps, Begins as CodeBegins, CellsAreThere, PointersAreThere, AccessesAreAllowed}}
 use Rattle.sharc_history_laws.specs.History.{history_of}
-use Rattle.sharc_history_laws.proofs.Acts.{About, made_said, given_at, freed_at}
-use Rattle.sharc_history_laws.proofs.Born.{fine as new_fine, target_is as new_target}
-use Rattle.sharc_history_laws.proofs.Consists.{Consists, consists_then, objects_then, at_first, none_live, given}
-use Rattle.sharc_history_laws.proofs.Lists.{Newest, latest_is, is_live_in}
-use Rattle.sharc_history_laws.proofs.Living.{LivesTold, lives_told}
-use Rattle.sharc_history_laws.proofs.Rules.{pushed, newest, newest_now, about_now, number_yes, number_not, same_behind, freed_gone, decide}
-use Rattle.sharc_history_laws.proofs.Tables.{header_at, header_in, header_of, was_live}
-use Rattle.sharc_history_laws.proofs.Valued.{header_some}
-use Rattle.sharc_history_laws.proofs.Values.{field_is, fine as give_fine, old_target, new_target as cast_target}
-
-yes : true ≡ false → ⊥
-yes e = cc
+use Rattle.sharc_history_laws.proofs.{Acts.{About, made_said, given_at, freed_at}, Born.{fine as new_fine, target_is as new_target}, Consists.{Consists, consists_then, objects_then, at_first, none_live, given}, Lists.{Newest, latest_is, is_live_in}, Living.{LivesTold, lives_told}, Rules.{pushed, newest, newest_now, about_now, number_yes, number_not, same_behind, freed_gone, decide}, Tables.{header_at, header_in, header_of, was_live}, Valued.header_some, Values.{field_is, fine as give_fine, old_target, new_target as cast_target}}
+use Rattle.sharc_lemmas.proofs.Bools.{yes}
 
 -- ---- the last New of an object
 -- it is this event, and a cell of an object of this target is a pointer where it is one of what is made there

@@ -2,17 +2,9 @@
 use Rattle.std.proofs.Common.{◌≡◌, ℕ, Option, refl, sym, ap, ◌∙◌}
 use Rattle.sharc_tree.specs.declared.event.CellAt.{CellAt}
 use Rattle.sharc_tree.specs.declared.event.CellMode.TheVariants as modes
-use Rattle.sharc_code.specs.declared.code.Code.{Code}
-use Rattle.sharc_code.specs.declared.code.PlaceMode.{PlaceMode}
-use Rattle.sharc_code.specs.declared.instr.Cell.{Cell}
+use Rattle.sharc_code.specs.{declared.code.Code.Code, declared.code.PlaceMode.PlaceMode, declared.instr.Cell.Cell, Machine.Machine, Says.mode_of}
 use Rattle.sharc_code.specs.declared.instr.Cell.TheVariants as cells
-use Rattle.sharc_code.specs.Machine.{Machine}
-use Rattle.sharc_code.specs.Says.{mode_of}
-use Rattle.sharc_invariant.specs.Types.{Lock, FieldLock, FieldMode}
-use Rattle.sharc_invariant.specs.Types.Lock.{Global, Through, Self}
-use Rattle.sharc_invariant.specs.Types.FieldLock.{OfType, OfGlobals, OfElement}
-use Rattle.sharc_invariant.specs.Labels.{Label}
-use Rattle.sharc_invariant.specs.Typed.{IsMode, IsTypeMode, IsLockMode}
+use Rattle.sharc_invariant.specs.{Types.{Lock, FieldLock, FieldMode}, Types.Lock.{Global, Through, Self}, Types.FieldLock.{OfType, OfGlobals, OfElement}, Labels.Label, Typed.{IsMode, IsTypeMode, IsLockMode}}
 
 module _ (code : Code) (m : Machine) (at : CellAt) where
   -- the mode is a lock

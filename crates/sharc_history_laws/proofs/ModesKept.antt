@@ -1,66 +1,20 @@
 -- In each run of typed code the cells of an object keep their modes until it is given or freed.
-use Rattle.std.proofs.Common.{◌≡◌, ℕ, ◌+◌, ◌-◌, ◌*◌, ◌<◌, ◌≢◌, ◌⊎◌, inl, inr, Bool, true, false, ◌||◌, List, [], ◌∷◌, reverse, Option, Some, None, refl, sym, ap, ◌∙◌, subst, ⊎_elim}
+use Rattle.std.proofs.{Common.{◌≡◌, ℕ, ◌+◌, ◌-◌, ◌*◌, ◌<◌, ◌≢◌, ◌⊎◌, inl, inr, Bool, true, false, ◌||◌, List, [], ◌∷◌, reverse, Option, Some, None, refl, sym, ap, ◌∙◌, subst, ⊎_elim}, lemmas.Bool.cases_eq, lemmas.List.get_or-set_other}
 use Rattle.std.specs.Prelude.{slice_index}
-use Rattle.std.proofs.lemmas.Bool.{cases_eq}
-use Rattle.std.proofs.lemmas.List.{get_or-set_other}
-use Rattle.sharc_word.specs.declared.step.WordStep.{WordStep}
-use Rattle.sharc_word.specs.declared.step.WordEvent.{WordEvent}
-use Rattle.sharc_word.specs.Words.{word_after, words_after_step}
-use Rattle.sharc_tree.specs.declared.event.Act.{Act as SourceAct}
+use Rattle.sharc_word.specs.{declared.step.WordStep.WordStep, declared.step.WordEvent.WordEvent, Words.{word_after, words_after_step}}
+use Rattle.sharc_tree.specs.{declared.event.Act.{Act as SourceAct}, declared.event.SourceEvent.SourceEvent, declared.event.CellAt.CellAt, declared.event.CellMode.{CellMode as EventMode}, declared.event.Object.Object}
 use Rattle.sharc_tree.specs.declared.event.Act.TheVariants as acts
-use Rattle.sharc_tree.specs.declared.event.SourceEvent.{SourceEvent}
-use Rattle.sharc_tree.specs.declared.event.CellAt.{CellAt}
-use Rattle.sharc_tree.specs.declared.event.CellMode.{CellMode as EventMode}
 use Rattle.sharc_tree.specs.declared.event.CellMode.TheVariants as modes
-use Rattle.sharc_tree.specs.declared.event.Object.{Object}
 use Rattle.sharc_tree.specs.declared.event.Object.TheVariants as objects
-use Rattle.sharc_code.specs.declared.code.Code.{Code}
-use Rattle.sharc_code.specs.declared.instr.Cell.{Cell}
+use Rattle.sharc_code.specs.{declared.code.Code.Code, declared.instr.Cell.Cell, declared.instr.Instr.Instr, declared.shape.Shape.Shape, Laws.RunLaws, Layout.Fits, Machine.{Machine, Turn as Act, Local, Asks, instr_at}, Opening.opening_words, Path.{turn, asked_by}, Runs.{Turn, Global, IsRun, MayTurn, after_turn, result_of, step_of, words_now, opening_of}, Whole.{one_thread, bounds, place_after}, Says.{said, cell_at, made_cell, place_at, speaks_of}}
 use Rattle.sharc_code.specs.declared.instr.Cell.TheVariants as cells
-use Rattle.sharc_code.specs.declared.instr.Instr.{Instr}
-use Rattle.sharc_code.specs.declared.shape.Shape.{Shape}
-use Rattle.sharc_code.specs.Laws.{RunLaws}
-use Rattle.sharc_code.specs.Layout.{Fits}
-use Rattle.sharc_code.specs.Machine.{Machine, Turn as Act, Local, Asks, instr_at}
-use Rattle.sharc_code.specs.Opening.{opening_words}
-use Rattle.sharc_code.specs.Path.{turn, asked_by}
-use Rattle.sharc_code.specs.Runs.{Turn, Global, IsRun, MayTurn, after_turn, result_of, step_of, words_now, opening_of}
-use Rattle.sharc_code.specs.Whole.{one_thread, bounds, place_after}
-use Rattle.sharc_code.specs.Says.{said, cell_at, made_cell, place_at, speaks_of}
-use Rattle.sharc_gen.specs.Consistent.{said_now}
-use Rattle.sharc_gen.specs.OfRuns.{table_of}
-use Rattle.sharc_meaning.specs.Events.{Access, makes, gives, begins, frees, is_number}
-use Rattle.sharc_meaning.specs.Obeys.{IsAccess}
-use Rattle.sharc_invariant.specs.Types.{Targets, Field, FieldMode, CellMode, cells_of, field_in, mode_in, mode_at, is_pointer, lock_number}
-use Rattle.sharc_invariant.specs.Types.FieldLock.{OfType, OfGlobals, OfElement}
-use Rattle.sharc_invariant.specs.Labels.{Labels}
-use Rattle.sharc_invariant.specs.Typed.{IsWellTyped}
-use Rattle.sharc_invariant.specs.World.{Cell as CellOf, World, ObjectState}
-use Rattle.sharc_invariant.specs.Words.{lang_of, has_returned, length_at}
+use Rattle.sharc_gen.specs.{Consistent.said_now, OfRuns.table_of}
+use Rattle.sharc_meaning.specs.{Events.{Access, makes, gives, begins, frees, is_number}, Obeys.IsAccess}
+use Rattle.sharc_invariant.specs.{Types.{Targets, Field, FieldMode, CellMode, cells_of, field_in, mode_in, mode_at, is_pointer, lock_number}, Types.FieldLock.{OfType, OfGlobals, OfElement}, Labels.Labels, Typed.IsWellTyped, World.{Cell as CellOf, World, ObjectState}, Words.{lang_of, has_returned}, History.{Closing, Without}, Objects.changes_objects, State.{IsSmall, OnHold, object_of_cell, number_in, size_of_run}, MachineInvariant.IsOn, Laws.{Keeps, Begins as CodeBegins, CellsAreThere, PointersAreThere, AccessesAreAllowed, StateStands}}
 use Rattle.sharc_invariant.specs.Words as Words
-use Rattle.sharc_invariant.specs.History.{Closing, Without}
-use Rattle.sharc_invariant.specs.Objects.{changes_objects}
-use Rattle.sharc_invariant.specs.State.{IsSmall, OnHold, object_of_cell, number_in, size_of_run}
-use Rattle.sharc_invariant.specs.MachineInvariant.{IsOn}
-use Rattle.sharc_invariant.specs.Laws.{Keeps, Begins as CodeBegins, CellsAreThere, PointersAreThere, AccessesAreAllowed, StateStands}
 use Rattle.sharc_history_laws.specs.History.{history_of}
-use Rattle.sharc_history_laws.proofs.Stands.{gate}
-use Rattle.sharc_history_laws.proofs.Tables.{header_of, length_kept, step_leaves}
-use Rattle.sharc_history_laws.proofs.Writes.{writes}
-use Rattle.sharc_history_laws.proofs.Sparing.{Spares, SparesTurn, Leaves, Elsewhere, Had}
-use Rattle.sharc_history_laws.proofs.Unwritten.{spares}
-use Rattle.sharc_history_laws.proofs.Consists.{Consists, consists_then, objects_then, effect_then, at_first}
-use Rattle.sharc_history_laws.proofs.Acts.{access_said, given_at, freed_at, About, is_access, no_access, access_at, IsAccess as TellsAccess, access_of}
-use Rattle.sharc_history_laws.proofs.Lists.{Newest, EachAccess, no_event, each_push}
-use Rattle.sharc_history_laws.proofs.Rules.{pushed, newest, newest_now, about_now, hold_access, cell_is, same_behind, number_yes}
-use Rattle.sharc_history_laws.proofs.Shared.{number_of, closing_own, some_closing, not_sole, unless_given, unless_made}
-use Rattle.sharc_history_laws.proofs.Carried.{without_carried}
-use Rattle.sharc_history_laws.proofs.Locked.{Names}
-use Rattle.sharc_history_laws.proofs.OneMode.{ModeBy, ModeOf, place_of, one_by, mode_now, numbers_now}
-use Rattle.sharc_history_laws.proofs.Since.{IsTo, Since, AsBefore, as_before}
-
-yes : true ≡ false → ⊥
-yes e = cc
+use Rattle.sharc_history_laws.proofs.{Stands.gate, Tables.{header_of, length_kept, step_leaves}, Writes.writes, Sparing.{Spares, SparesTurn, Leaves, Elsewhere, Had}, Unwritten.spares, Consists.{Consists, consists_then, objects_then, effect_then, at_first}, Acts.{access_said, given_at, freed_at, About, is_access, no_access, access_at, IsAccess as TellsAccess, access_of}, Lists.{Newest, EachAccess, no_event, each_push}, Rules.{pushed, newest, newest_now, about_now, hold_access, cell_is, same_behind, number_yes}, Shared.{number_of, closing_own, some_closing, not_sole, unless_given, unless_made}, Carried.without_carried, Locked.Names, OneMode.{ModeBy, ModeOf, place_of, one_by, mode_now, numbers_now}, Since.{IsTo, Since, AsBefore, as_before}}
+use Rattle.sharc_lemmas.proofs.Bools.{or_first, yes}
 
 -- ---- a word that a turn spares
 module _ (target : ℕ) (P : Type 0) where
@@ -75,10 +29,6 @@ module _ (target : ℕ) (P : Type 0) where
   word_spared words (Some e) (Asks step go) asks h = let same : e.step ≡ step = cc in step_spared words e.step (subst (Spares target P) (sym same) h)
 
 -- ---- an access neither begins nor frees an object
-or_first : (a b : Bool) → (a || b) ≡ false → a ≡ false
-or_first true b e = e
-or_first false b e = refl
-
 or_second : (a b : Bool) → (a || b) ≡ false → b ≡ false
 or_second true b e = absurd (yes e)
 or_second false b e = e

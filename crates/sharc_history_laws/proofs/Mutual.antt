@@ -1,16 +1,10 @@
 -- At each time one thread at most holds a mutex by the events of a run, and it is the one that locked it last.
-use Rattle.std.proofs.Common.{◌≡◌, ℕ, Bool, true, false, not, ◌||◌, ◌&&◌, cond, [], ◌∷◌, reverse, Option, Some, None, refl, sym, ap, ◌∙◌, arith, eqb-true}
+use Rattle.std.proofs.Common.{◌≡◌, ℕ, Bool, true, false, not, ◌||◌, ◌&&◌, cond, [], ◌∷◌, reverse, Option, Some, None, refl, sym, ap, ◌∙◌, eqb-true}
 use Rattle.std.specs.Prelude.{◌==◌, find}
-use Rattle.std.proofs.lemmas.Bool.Decides.{nat_tests}
-use Rattle.sharc_tree.specs.declared.event.SourceEvent.{SourceEvent}
-use Rattle.sharc_tree.specs.declared.event.CellAt.{CellAt}
-use Rattle.sharc_meaning.specs.Events.{locks, unlocks, is_of}
-use Rattle.sharc_meaning.specs.Store.{meets, is_locked, was_locked_by}
-use Rattle.sharc_history_laws.proofs.Holding.{holds_in, holds_own, holds_other}
-use Rattle.sharc_history_laws.proofs.Lists.{Newest, latest_is}
-
-yes : true ≡ false → ⊥
-yes e = cc
+use Rattle.sharc_tree.specs.{declared.event.SourceEvent.SourceEvent, declared.event.CellAt.CellAt}
+use Rattle.sharc_meaning.specs.{Events.{locks, unlocks, is_of}, Store.{meets, is_locked, was_locked_by}}
+use Rattle.sharc_history_laws.proofs.{Holding.{holds_in, holds_own, holds_other}, Lists.{Newest, latest_is}}
+use Rattle.sharc_lemmas.proofs.{Numbers.same_is, Bools.yes}
 
 -- ---- the newest event first
 abbrev pub locked_in : Newest → CellAt → Bool
@@ -35,9 +29,6 @@ locked_now e L c false false p q = ap (λ l. meets (locks c) (cond (l || unlocks
 by_now : (e : SourceEvent) (L : Newest) (c : CellAt) (t : ℕ) (a : Bool) → locks c e ≡ a → locked_by_in (e ∷ L) c t ≡ cond a (e.thread == t) (locked_by_in L c t)
 by_now e L c t true p = ap (λ l. meets (λ d. d.thread == t) (cond l (Some e) (find (locks c) L))) p
 by_now e L c t false p = ap (λ l. meets (λ d. d.thread == t) (cond l (Some e) (find (locks c) L))) p
-
-same_is : (t : ℕ) → (t == t) ≡ true
-same_is t = grind (arith, nat_tests)
 
 holds_now : (e : SourceEvent) (L : Newest) (t : ℕ) (c : CellAt) (own a b : Bool) → is_of t e ≡ own → locks c e ≡ a → unlocks c e ≡ b → holds_in (e ∷ L) t c ≡ cond own (a || (holds_in L t c && not b)) (holds_in L t c)
 holds_now e L t c true a b o p q = holds_own e L t c o ∙ ap (λ l. l || (holds_in L t c && not (unlocks c e))) p ∙ ap (λ u. a || (holds_in L t c && not u)) q

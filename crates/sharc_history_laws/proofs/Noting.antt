@@ -1,36 +1,14 @@
 -- Each note in the access table of a thread is of a check that the thread made in the run, and that passed.
-use Rattle.std.proofs.Common.{◌≡◌, ℕ, zero, suc, ◌+◌, ◌⊎◌, inl, inr, Bool, true, false, List, [], ◌∷◌, Some, None, is_some, if◌then◌else◌, refl, sym, ap, ◌∙◌, subst, ⊎_elim}
+use Rattle.std.proofs.{Common.{◌≡◌, ℕ, zero, suc, ◌+◌, ◌⊎◌, inl, inr, Bool, true, false, List, [], ◌∷◌, Some, None, is_some, if◌then◌else◌, refl, sym, ap, ◌∙◌, subst, ⊎_elim}, lemmas.Bool.cases_eq, lemmas.List.get_or-set_other}
 use Rattle.std.specs.Prelude.{slice_index, slice_index_or, slice_set, replicate}
-use Rattle.std.proofs.lemmas.Bool.{cases_eq}
-use Rattle.std.proofs.lemmas.List.{get_or-set_other}
-use Rattle.sharc_shadow.specs.declared.shadow_word.Kind.{Kind}
-use Rattle.sharc_shadow.specs.declared.shadow_word.Kind.TheVariants.{Read, Write}
-use Rattle.sharc_shadow.specs.declared.access_table.Note.{Note}
-use Rattle.sharc_shadow.specs.declared.access_table.GranuleNotes.{GranuleNotes}
-use Rattle.sharc_shadow.specs.Notes.{blank, of_kind, with_note}
-use Rattle.sharc_shadow.specs.Accesses.{Accesses, note_of, site_at}
-use Rattle.sharc_shadow.specs.ShadowWord.{epoch_of}
-use Rattle.sharc_shadow.specs.Functions.{bits_of, conflicts_in, noted}
+use Rattle.sharc_shadow.specs.{declared.shadow_word.Kind.Kind, declared.shadow_word.Kind.TheVariants.{Read, Write}, declared.access_table.Note.Note, declared.access_table.GranuleNotes.GranuleNotes, Notes.{blank, of_kind, with_note}, Accesses.{Accesses, note_of, site_at}, ShadowWord.epoch_of, Functions.{bits_of, conflicts_in, noted}}
 use Rattle.sharc_word.specs.declared.step.WordOp.TheVariants as ops
-use Rattle.sharc_code.specs.declared.code.Code.{Code}
-use Rattle.sharc_code.specs.declared.instr.Cell.{Cell}
-use Rattle.sharc_code.specs.declared.instr.Instr.{Instr}
+use Rattle.sharc_code.specs.{declared.code.Code.Code, declared.instr.Cell.Cell, declared.instr.Instr.Instr, declared.shape.Shape.Shape, declared.state.Stop.TheVariants.Conflict, Layout.{granules, granule_at, granule_of, shadow_word}, Machine.{Machine, instr_at, act, place, checked, stopped, with_own, wrote, step_of}, Opening.opening_words, Path.{turn, after, may_go, asked_by}, Runs.{Turn, Global, IsRun, MayTurn, after_turn, put, state_now, result_of, opening_of}, Whole.{one_thread, bounds, place_after}}
 use Rattle.sharc_code.specs.declared.instr.Instr.TheVariants as instrs
-use Rattle.sharc_code.specs.declared.shape.Shape.{Shape}
-use Rattle.sharc_code.specs.declared.state.Stop.TheVariants.{Conflict}
-use Rattle.sharc_code.specs.Layout.{granules, granule_at, granule_of, shadow_word}
-use Rattle.sharc_code.specs.Machine.{Machine, instr_at, act, place, checked, stopped, with_own, wrote, step_of}
 use Rattle.sharc_code.specs.Machine as machines
-use Rattle.sharc_code.specs.Opening.{opening_words}
-use Rattle.sharc_code.specs.Path.{turn, after, may_go, asked_by}
-use Rattle.sharc_code.specs.Runs.{Turn, Global, IsRun, MayTurn, after_turn, put, state_now, result_of, opening_of}
-use Rattle.sharc_code.specs.Whole.{one_thread, bounds, place_after}
 use Rattle.sharc_invariant.specs.Bits.{CheckOf, touch_of}
 use Rattle.sharc_history_laws.specs.Conflicts.{site_of_check, IsNoted}
-use Rattle.sharc_history_laws.proofs.Conflicting.{granule_same}
-use Rattle.sharc_history_laws.proofs.Consists.{found_is}
-use Rattle.sharc_history_laws.proofs.Rules.{put_same, put_other}
-use Rattle.sharc_history_laws.proofs.Tabled.{is_access_check, tabled}
+use Rattle.sharc_history_laws.proofs.{Conflicting.granule_same, Consists.found_is, Rules.{put_same, put_other}, Tabled.{is_access_check, tabled}}
 
 -- ---- tables
 set_at_most : (xs : List GranuleNotes) (q : ℕ) (v : GranuleNotes) → (slice_index_or (slice_set xs q v) q blank ≡ v) ⊎ (slice_index_or (slice_set xs q v) q blank ≡ slice_index_or xs q blank)
@@ -66,7 +44,7 @@ blank_at zero p = refl
 blank_at (suc n) zero = refl
 blank_at (suc n) (suc p) = blank_at n p
 
-blank_none : (kind : Kind) (note : Note) → of_kind kind blank ≡ Some note → ⊥
+pub blank_none : (kind : Kind) (note : Note) → of_kind kind blank ≡ Some note → ⊥
 blank_none Read note e = let f : None ≡ Some note = e in cc
 blank_none Write note e = let f : None ≡ Some note = e in cc
 

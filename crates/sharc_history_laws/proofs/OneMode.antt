@@ -1,40 +1,14 @@
 -- From its New or Give to its next Give or Freed each cell of an object is accessed under one mode, and a cell of a global always.
-use Rattle.std.proofs.Common.{◌≡◌, ℕ, zero, suc, ◌+◌, ◌-◌, ◌*◌, ◌≤◌, ◌≢◌, Bool, true, false, List, [], ◌∷◌, Some, refl, sym, ap, ◌∙◌, subst, arith}
+use Rattle.std.proofs.Common.{◌≡◌, ℕ, zero, suc, ◌+◌, ◌-◌, ◌*◌, ◌≤◌, ◌≢◌, Bool, List, [], ◌∷◌, Some, refl, sym, ap, ◌∙◌, subst, arith}
 use Rattle.std.specs.Prelude.{map, slice_index_or}
-use Rattle.sharc_tree.specs.declared.event.CellAt.{CellAt}
-use Rattle.sharc_tree.specs.declared.event.CellMode.{CellMode as EventMode}
+use Rattle.sharc_tree.specs.{declared.event.CellAt.CellAt, declared.event.CellMode.{CellMode as EventMode}, declared.event.Object.Object}
 use Rattle.sharc_tree.specs.declared.event.CellMode.TheVariants as modes
-use Rattle.sharc_tree.specs.declared.event.Object.{Object}
 use Rattle.sharc_tree.specs.declared.event.Object.TheVariants as objects
-use Rattle.sharc_code.specs.declared.code.Code.{Code}
-use Rattle.sharc_code.specs.declared.code.PlaceMode.{PlaceMode}
+use Rattle.sharc_code.specs.{declared.code.Code.Code, declared.code.PlaceMode.PlaceMode, declared.instr.Cell.Cell, declared.shape.Shape.Shape, Arithmetic.word_of, Layout.Fits, Machine.{Machine, ref, int, place}, Ranges.IsInGlobal, Runs.Global, Says.{cell_at, global_cell, made_cell, mode_of, no_global, lock_through}}
 use Rattle.sharc_code.specs.declared.code.PlaceMode.TheVariants as places
-use Rattle.sharc_code.specs.declared.instr.Cell.{Cell}
 use Rattle.sharc_code.specs.declared.instr.Cell.TheVariants as cells
-use Rattle.sharc_code.specs.declared.shape.Shape.{Shape}
-use Rattle.sharc_code.specs.Arithmetic.{word_of}
-use Rattle.sharc_code.specs.Layout.{Fits}
-use Rattle.sharc_code.specs.Machine.{Machine, ref, int, place}
-use Rattle.sharc_code.specs.Ranges.{IsInGlobal}
-use Rattle.sharc_code.specs.Runs.{Global}
-use Rattle.sharc_code.specs.Says.{cell_at, global_cell, made_cell, mode_of, no_global, lock_through}
-use Rattle.sharc_invariant.specs.Types.{Targets, Field, FieldMode, FieldLock, Lock, Mutex, ObjectType, StaticType, CellMode, field_in, mode_in, mode_at, is_pointer, lock_number, mutex_of, type_of, no_mutex}
-use Rattle.sharc_invariant.specs.Types.Lock.{Global as GlobalLock, Through, Self}
-use Rattle.sharc_invariant.specs.Types.FieldLock.{OfType, OfGlobals, OfElement}
-use Rattle.sharc_invariant.specs.Labels.{HoldsLoaded, Refers, Label, Labels}
-use Rattle.sharc_invariant.specs.Typed.{IsWellTyped, HasCell, HasBase, MayAccess, IsMode, IsTypeMode, IsLockMode, IsLockCell, IsTypeLock, IsSibling, no_lock}
-use Rattle.sharc_invariant.specs.World.{RegisterOf, In, Cell as CellOf, Loaded as IsLoaded, World, WinOk, in_ref, base_of}
-use Rattle.sharc_invariant.specs.Words.{lang_of}
-use Rattle.sharc_invariant.specs.State.{State, GateStands, EntryStands, OnHold, View, view_of, refs_at, types_at, base_of_cell, object_of_cell, number_in}
-use Rattle.sharc_invariant.specs.MachineInvariant.{IsOn}
-use Rattle.sharc_invariant.specs.Laws.{CellsAreThere}
-use Rattle.sharc_history_laws.proofs.Stands.{top, gate, reads_ref, known_ref, there, rn}
-use Rattle.sharc_history_laws.proofs.Finds.{is_there}
-use Rattle.sharc_history_laws.proofs.Shared.{number_of}
-use Rattle.sharc_history_laws.proofs.Locked.{Names, names_one, same_refs, number_of_global, number_of_element, same_type, element_one}
-
-yes : true ≡ false → ⊥
-yes e = cc
+use Rattle.sharc_invariant.specs.{Types.{Targets, Field, FieldMode, Lock, Mutex, ObjectType, StaticType, field_in, lock_number, mutex_of, type_of}, Types.Lock.{Global as GlobalLock, Through, Self}, Types.FieldLock.{OfType, OfGlobals, OfElement}, Labels.{HoldsLoaded, Refers, Label, Labels}, Typed.{IsWellTyped, HasCell, HasBase, MayAccess, IsMode, IsTypeMode, IsLockMode, IsLockCell, IsTypeLock, IsSibling, no_lock}, World.{RegisterOf, In, Cell as CellOf, Loaded as IsLoaded, World, WinOk, in_ref, base_of}, Words.lang_of, State.{State, GateStands, EntryStands, OnHold, View, view_of, refs_at, types_at, base_of_cell, object_of_cell, number_in}, MachineInvariant.IsOn, Laws.CellsAreThere}
+use Rattle.sharc_history_laws.proofs.{Stands.{top, gate, reads_ref, known_ref, there, rn}, Finds.is_there, Shared.number_of, Locked.{Names, names_one, same_refs, number_of_global, number_of_element, same_type, element_one}, LockModes.through_some}
 
 -- the number of a cell in its object, as the world has it
 abbrev pub place_of : Code → Object → ℕ → ℕ
@@ -70,10 +44,6 @@ map_at : {A B : Type 0} (f : A → B) (xs : List A) (k : ℕ) (d : A) → slice_
 map_at f [] k d = refl
 map_at f (x ∷ xs) zero d = refl
 map_at f (x ∷ xs) (suc k) d = map_at f xs k d
-
-through_some : (n j : ℕ) → n ≢ 0 → lock_through n j ≡ Some (made_cell n j)
-through_some zero j ne = absurd (ne refl)
-through_some (suc n) j ne = refl
 
 -- ---- the mode of an access
 module _ (cell_laws : CellsAreThere) (x : Targets) (code : Code) (s : Shape) (ls : Labels) (wt : IsWellTyped x code ls) (fits : Fits code s) (g : Global Machine) (world : World) (st : State x code s ls g world) (t : ℕ) (on : IsOn g t) (hold : OnHold (g.threads t).own.stage) where

@@ -1,35 +1,15 @@
 -- What the cells of the globals hold at first is what their definitions say.
-use Rattle.std.proofs.Common.{◌≡◌, ℕ, ◌+◌, ◌-◌, ◌*◌, ◌<◌, ◌≤◌, ◌≢◌, ◌⊎◌, inl, Bool, true, false, [], refl, sym, ap, ◌∙◌, subst, arith}
+use Rattle.std.proofs.{Common.{◌≡◌, ℕ, ◌+◌, ◌-◌, ◌*◌, ◌<◌, ◌≤◌, ◌≢◌, ◌⊎◌, inl, Bool, true, false, [], refl, sym, ap, ◌∙◌, subst, arith}, lemmas.Bool.Decides.nat_tests, lemmas.List.FromFn.get_or-map-range_with_len}
 use Rattle.std.specs.Prelude.{slice_index, nat_lt, nat_le, ◌==◌}
-use Rattle.std.proofs.lemmas.Bool.Decides.{nat_tests}
-use Rattle.std.proofs.lemmas.List.FromFn.{get_or-map-range_with_len}
-use Rattle.sharc_tree.specs.declared.event.CellAt.{CellAt}
-use Rattle.sharc_tree.specs.declared.event.Object.{Object}
+use Rattle.sharc_tree.specs.{declared.event.CellAt.CellAt, declared.event.Object.Object}
 use Rattle.sharc_tree.specs.declared.event.Object.TheVariants as objects
 use Rattle.sharc_ctype.specs.Resolved.{Resolution}
-use Rattle.sharc_code.specs.declared.code.Code.{Code}
-use Rattle.sharc_code.specs.declared.shape.Shape.{Shape}
-use Rattle.sharc_code.specs.Arithmetic.{int_of}
-use Rattle.sharc_code.specs.Layout.{Fits, words_of, first_cell}
-use Rattle.sharc_code.specs.Opening.{opening_words, opens_with, opening_cell, first_global, first_heap as first_heap_word}
-use Rattle.sharc_code.specs.Ranges.{IsInGlobal}
-use Rattle.sharc_code.specs.Whole.{place_after}
+use Rattle.sharc_code.specs.{declared.code.Code.Code, declared.shape.Shape.Shape, Arithmetic.int_of, Layout.{Fits, words_of, first_cell}, Opening.{opening_words, opens_with, opening_cell, first_global, first_heap as first_heap_word}, Ranges.IsInGlobal, Whole.place_after}
 use Rattle.sharc_gen.specs.OfRuns.{table_of}
 use Rattle.sharc_meaning.specs.Store.{initial_value}
-use Rattle.sharc_invariant.specs.Types.{Targets, Field, Content, Integer, MutexWord, Waiters, Pointer, field_in, global_field, globals_target}
-use Rattle.sharc_invariant.specs.Labels.{Labels}
-use Rattle.sharc_invariant.specs.Typed.{IsWellTyped, Initial}
-use Rattle.sharc_invariant.specs.Words.{cell_at}
-use Rattle.sharc_invariant.specs.Opened.{first_world, the_globals}
-use Rattle.sharc_invariant.specs.Laws.{Begins as CodeBegins}
+use Rattle.sharc_invariant.specs.{Types.{Targets, Field, Content, Integer, MutexWord, Waiters, Pointer, field_in, global_field, globals_target}, Labels.Labels, Typed.{IsWellTyped, Initial}, Words.cell_at, Opened.{first_world, the_globals}, Laws.{Begins as CodeBegins}}
 use Rattle.sharc_history_laws.specs.Stores.{BeginsWith}
-use Rattle.sharc_history_laws.proofs.Consists.{Consists, at_first, none_live}
-use Rattle.sharc_history_laws.proofs.Contents.{newest_value, value_held, IsCellOf, content_of, word_of_cell, Contents}
-use Rattle.sharc_history_laws.proofs.Emptying.{IsEmptied}
-use Rattle.sharc_history_laws.proofs.Locked.{Names}
-use Rattle.sharc_history_laws.proofs.OneMode.{place_of}
-use Rattle.sharc_history_laws.proofs.Shared.{number_of}
-use Rattle.sharc_history_laws.proofs.Sparing.{is_value, holds_waiters}
+use Rattle.sharc_history_laws.proofs.{Consists.{Consists, at_first, none_live}, Contents.{newest_value, value_held, IsCellOf, content_of, word_of_cell, Contents}, Emptying.IsEmptied, Locked.Names, OneMode.place_of, Shared.number_of, Sparing.{is_value, holds_waiters}}
 
 module _ (code : Code) (s : Shape) where
   other : (a b : ℕ) → (a ≡ b → ⊥) → (a == b) ≡ false

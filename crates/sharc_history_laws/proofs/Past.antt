@@ -6,39 +6,18 @@ use Rattle.sharc_tree.specs.declared.trap.Trap.TheVariants as traps
 use Rattle.sharc_word.specs.declared.step.TheConstants.{THREADS}
 use Rattle.sharc_word.specs.declared.step.WordOp.TheVariants as ops
 use Rattle.sharc_cond.specs.Waiters.{waits_in}
-use Rattle.sharc_shadow.specs.declared.shadow_word.Kind.{Kind}
-use Rattle.sharc_shadow.specs.declared.shadow_word.Kind.TheVariants.{Read, Write}
-use Rattle.sharc_shadow.specs.Functions.{conflicts_in}
-use Rattle.sharc_granule.specs.State.{NewView, told, turn_of}
-use Rattle.sharc_granule.specs.declared.stage.NewTurn.{NewTurn}
-use Rattle.sharc_granule.specs.declared.stage.NewTurn.TheVariants.{Do, Made, HeapFull}
-use Rattle.sharc_code.specs.declared.code.Code.{Code}
-use Rattle.sharc_code.specs.declared.code.Layout.{Layout}
-use Rattle.sharc_code.specs.declared.instr.Cell.{Cell}
-use Rattle.sharc_code.specs.declared.instr.Register.{Register}
+use Rattle.sharc_shadow.specs.{declared.shadow_word.Kind.Kind, declared.shadow_word.Kind.TheVariants.{Read, Write}, Functions.conflicts_in}
+use Rattle.sharc_granule.specs.{State.{NewView, told, turn_of}, declared.stage.NewTurn.NewTurn, declared.stage.NewTurn.TheVariants.{Do, Made, HeapFull}}
+use Rattle.sharc_code.specs.{declared.code.Code.Code, declared.code.Layout.Layout, declared.instr.Cell.Cell, declared.instr.Register.Register, declared.instr.Width.TheVariants.{Char, Int, Long}, declared.instr.Instr.Instr, declared.instr.Instr.TheVariants.{Constant, Move, MoveReference, Null, ComputeInt, ComputeLong, NegateInt, NegateLong, Complement, Not, SameReference, ChkWidth, Jump, JumpIfZero, JumpIfNull, Call, Return, ChkNull, ChkHeld, ChkNotHeld, ChkPositive, ChkRoom, ChkLock, ChkLockLoaded, Bounds, GlobalBounds, ChkRead, ChkWrite, Load, Store, LoadRef, Exchange, Raise, RaiseLoaded, Lower, New, TakeCell, TakeLocal, TestSole, Clear, Give, Free, Lock, Unlock, Spawn, Join, Print, Start, Exit, CondEnter, CondWait, CondSignal, CondBroadcast}, declared.shape.Shape.Shape, declared.state.Stage.Stage, Arithmetic.{computed, negated, is_zero, holds}, Layout.{granule_at, granule_of, cell_of, cell_word, state_word}, Machine.{Machine, act, int, ref, goes, asserts, with_result, has_room, called, returned, holds_none, is_of_null, is_held, indexed, wrote, checked, lock_checked, raise, lower, test, tested, after_new, asks_new, new, new_state, elements_of, looks, clear, data_granules, free_looks, empties, emptied, free, layout_at, spawn, function_of, wakes, signal, is_positive, fields, largest, place, set_ref, accessed, move_ref, trapped, locked, joined, join, woken, word, Local, Asks, step_of, instr_at, no_frame, exit, withdraws}, Path.after, declared.state.Stage.TheVariants.{Looks, Clears, Makes, Empties, Lowers, FreeLooks, FreeClears, Uncounts, Links, Names, Hands, Begins, Wakes, Withdraws, WithdrawsFrom, Leaves}}
 use Rattle.sharc_code.specs.declared.instr.Register.TheVariants as registers
-use Rattle.sharc_code.specs.declared.instr.Width.TheVariants.{Char, Int, Long}
-use Rattle.sharc_code.specs.declared.instr.Instr.{Instr}
-use Rattle.sharc_code.specs.declared.instr.Instr.TheVariants.{Constant, Move, MoveReference, Null, ComputeInt, ComputeLong, NegateInt, NegateLong, Complement, Not, SameReference, ChkWidth, Jump, JumpIfZero, JumpIfNull, Call, Return, ChkNull, ChkHeld, ChkNotHeld, ChkPositive, ChkRoom, ChkLock, ChkLockLoaded, Bounds, GlobalBounds, ChkRead, ChkWrite, Load, Store, LoadRef, Exchange, Raise, RaiseLoaded, Lower, New, TakeCell, TakeLocal, TestSole, Clear, Give, Free, Lock, Unlock, Spawn, Join, Print, Start, Exit, CondEnter, CondWait, CondSignal, CondBroadcast}
-use Rattle.sharc_code.specs.declared.shape.Shape.{Shape}
-use Rattle.sharc_code.specs.declared.state.Stage.{Stage}
-use Rattle.sharc_code.specs.Arithmetic.{computed, negated, is_zero, holds}
-use Rattle.sharc_code.specs.Layout.{granule_at, granule_of, cell_of, cell_word, state_word}
-use Rattle.sharc_code.specs.Machine.{Machine, act, int, ref, goes, asserts, with_result, has_room, called, returned, holds_none, is_of_null, is_held, indexed, wrote, checked, lock_checked, raise, lower, test, tested, after_new, asks_new, new, new_state, elements_of, looks, clear, data_granules, free_looks, empties, emptied, free, layout_at, spawn, function_of, wakes, signal, is_positive, fields, largest, place, set_ref, accessed, move_ref, trapped, locked, joined, join, woken, word, Local, Asks, step_of}
-use Rattle.sharc_code.specs.Path.{after}
 use Rattle.sharc_code.specs.declared.instr.Cell.TheVariants as cells
-use Rattle.sharc_code.specs.declared.state.Stage.TheVariants.{Looks, Clears, Makes, Empties, Lowers, FreeLooks, FreeClears, Uncounts, Links, Names, Hands, Begins, Wakes, Withdraws, WithdrawsFrom, Leaves}
-use Rattle.sharc_code.specs.Machine.{instr_at, no_frame, exit, withdraws}
-use Rattle.sharc_invariant.specs.Labels.{Gate, Within, Checked, Holds, Number, Label, Labels, Leads, set_number, empty, forgets, gated, knows}
-use Rattle.sharc_invariant.specs.State.{View, FramesStand, BelowStands, frame_at}
-use Rattle.sharc_invariant.specs.Typed.{IsWellTyped, Fine, Numbers, Passes_on, LeadsChecked, handed_label, knows_base, without_base_of, unlocked_label}
-use Rattle.sharc_invariant.specs.Types.{Targets}
+use Rattle.sharc_invariant.specs.{Labels.{Gate, Within, Checked, Holds, Number, Label, Labels, Leads, set_number, empty, forgets, gated, knows}, State.{View, FramesStand, BelowStands, frame_at}, Typed.{IsWellTyped, Fine, Numbers, Passes_on, LeadsChecked, handed_label, knows_base, without_base_of, unlocked_label}, Types.Targets}
 
 -- after its turn the thread is at its place still, or at none where threads begin
 pub record Departs (m y : Machine) : Type 0 where
   pub place : (y.at.pc ≡ m.at.pc) ⊎ (y.at.pc ≢ 0)
 
-past_end : (is : List Instr) → slice_index_or is (length is) Exit ≡ Exit
+pub past_end : (is : List Instr) → slice_index_or is (length is) Exit ≡ Exit
 past_end [] = refl
 past_end (i ∷ is) = past_end is
 

@@ -1,29 +1,11 @@
 -- The cell that an instruction names, at a place of a run: it is one of a live object, its word is the one that the instruction asks for, and it holds what its field says.
 use Rattle.std.proofs.Common.{◌≡◌, ℕ, ◌+◌, ◌*◌, ◌<◌, refl, sym, ap, ◌∙◌, subst}
-use Rattle.sharc_code.specs.declared.code.Code.{Code}
-use Rattle.sharc_code.specs.declared.instr.Cell.{Cell}
+use Rattle.sharc_code.specs.{declared.code.Code.Code, declared.instr.Cell.Cell, declared.shape.Shape.Shape, Layout.Fits, Machine.{Machine, object, place, word}, Runs.Global, Says.cell_at}
 use Rattle.sharc_code.specs.declared.instr.Cell.TheVariants as cells
-use Rattle.sharc_code.specs.declared.shape.Shape.{Shape}
-use Rattle.sharc_code.specs.Layout.{Fits}
-use Rattle.sharc_code.specs.Machine.{Machine, object, place, word}
-use Rattle.sharc_code.specs.Runs.{Global}
-use Rattle.sharc_code.specs.Says.{cell_at}
 use Rattle.sharc_tree.specs.declared.event.CellAt.{CellAt}
-use Rattle.sharc_invariant.specs.Types.{Targets, Field, field_in}
-use Rattle.sharc_invariant.specs.Labels.{Labels}
-use Rattle.sharc_invariant.specs.Typed.{IsWellTyped, HasCell}
-use Rattle.sharc_invariant.specs.World.{World}
+use Rattle.sharc_invariant.specs.{Types.{Targets, Field, field_in}, Labels.Labels, Typed.{IsWellTyped, HasCell}, World.World, Cells.IsThere, State.{State, OnHold, object_of_cell, number_in}, MachineInvariant.IsOn, Laws.CellsAreThere}
 use Rattle.sharc_invariant.specs.Words as Words
-use Rattle.sharc_invariant.specs.Cells.{IsThere}
-use Rattle.sharc_invariant.specs.State.{State, OnHold, object_of_cell, number_in}
-use Rattle.sharc_invariant.specs.MachineInvariant.{IsOn}
-use Rattle.sharc_invariant.specs.Laws.{CellsAreThere}
-use Rattle.sharc_history_laws.proofs.Contents.{IsCellOf, content_of, word_of_cell}
-use Rattle.sharc_history_laws.proofs.Finds.{is_there}
-use Rattle.sharc_history_laws.proofs.Locked.{Names, names_cell}
-use Rattle.sharc_history_laws.proofs.OneMode.{place_of, numbers_now}
-use Rattle.sharc_history_laws.proofs.Shared.{number_of}
-use Rattle.sharc_history_laws.proofs.Stands.{some_base, there}
+use Rattle.sharc_history_laws.proofs.{Contents.{IsCellOf, content_of, word_of_cell}, Finds.is_there, Locked.{Names, names_cell}, OneMode.{place_of, numbers_now}, Shared.number_of, Stands.{some_base, there}}
 
 module _ (cell_laws : CellsAreThere) (x : Targets) (code : Code) (s : Shape) (ls : Labels) (wt : IsWellTyped x code ls) (fits : Fits code s) (g : Global Machine) (world : World) (st : State x code s ls g world) (t : ℕ) (on : IsOn g t) (hold : OnHold (g.threads t).own.stage)
     (k : Cell) (f : Field) (has : HasCell x code (ls.at (g.threads t).at.pc) k f) where

@@ -1,28 +1,15 @@
 -- Who waits by a history that grows by one event, and which turns tell it.
-use Rattle.std.proofs.Common.{◌≡◌, ℕ, pos, zero, suc, ◌+◌, Bool, true, false, ◌||◌, ◌&&◌, cond, reverse, Option, Some, None, if◌then◌else◌, refl, sym, ap, ◌∙◌, subst}
+use Rattle.std.proofs.{Common.{◌≡◌, ℕ, pos, zero, suc, ◌+◌, Bool, true, false, ◌||◌, ◌&&◌, cond, reverse, Option, Some, None, if◌then◌else◌, refl, sym, ap, ◌∙◌, subst}, lemmas.Bool.{and_left as and_no}}
 use Rattle.std.specs.Prelude.{◌==◌, find}
-use Rattle.sharc_tree.specs.declared.event.Act.{Act}
+use Rattle.sharc_tree.specs.{declared.event.Act.Act, declared.event.CellAt.CellAt, declared.event.SourceEvent.SourceEvent}
 use Rattle.sharc_tree.specs.declared.event.Act.TheVariants as acts
-use Rattle.sharc_tree.specs.declared.event.CellAt.{CellAt}
-use Rattle.sharc_tree.specs.declared.event.SourceEvent.{SourceEvent}
-use Rattle.sharc_granule.specs.State.{NewView}
-use Rattle.sharc_granule.specs.declared.stage.Stage.{Stage as NewStage}
+use Rattle.sharc_granule.specs.{State.NewView, declared.stage.Stage.{Stage as NewStage}}
 use Rattle.sharc_granule.specs.declared.stage.Stage.TheVariants as news
 use Rattle.sharc_cond.specs.Waiters.{waits_in, lowest_of}
-use Rattle.sharc_code.specs.declared.code.Code.{Code}
-use Rattle.sharc_code.specs.declared.instr.Cell.{Cell}
-use Rattle.sharc_code.specs.declared.instr.Instr.{Instr}
+use Rattle.sharc_code.specs.{declared.code.Code.Code, declared.instr.Cell.Cell, declared.instr.Instr.Instr, declared.instr.Register.Register, declared.state.Stage.Stage, declared.state.Stage.TheVariants.{Makes, Uncounts, Begins, Enters, Withdraws, WithdrawsFrom, Leaves, Wakes}, Machine.{Machine, ref}, Says.{said, event_at, cell_at, take_local, nobody, in_signal, in_start, in_free, in_new, in_spawn, in_exit, new_event}}
 use Rattle.sharc_code.specs.declared.instr.Instr.TheVariants as instrs
-use Rattle.sharc_code.specs.declared.instr.Register.{Register}
-use Rattle.sharc_code.specs.declared.state.Stage.{Stage}
-use Rattle.sharc_code.specs.declared.state.Stage.TheVariants.{Makes, Uncounts, Begins, Enters, Withdraws, WithdrawsFrom, Leaves, Wakes}
-use Rattle.sharc_code.specs.Machine.{Machine, ref}
-use Rattle.sharc_code.specs.Says.{said, event_at, cell_at, take_local, nobody, in_signal, in_start, in_free, in_new, in_spawn, in_exit, new_event}
-use Rattle.sharc_meaning.specs.Events.{is_cell}
-use Rattle.sharc_meaning.specs.Store.{meets, is_waiter, is_natural, entered, signalled, broadcast_on, enters, takes_away}
-use Rattle.sharc_history_laws.proofs.Lists.{Newest, latest_is}
-use Rattle.sharc_history_laws.proofs.Rules.{pushed}
-use Rattle.sharc_history_laws.proofs.Sparing.{waited_cell}
+use Rattle.sharc_meaning.specs.{Events.is_cell, Store.{meets, is_waiter, is_natural, entered, signalled, broadcast_on, enters, takes_away}}
+use Rattle.sharc_history_laws.proofs.{Lists.{Newest, latest_is}, Rules.pushed, Sparing.waited_cell}
 
 -- ---- who waits, the newest event first
 abbrev pub waits_by : Newest → CellAt → ℕ → Bool
@@ -55,10 +42,6 @@ condition_of _ = None
 abbrev pub condition_said : Option SourceEvent → Option CellAt
 condition_said None = None
 condition_said (Some e) = condition_of e.act
-
-and_no : (a b : Bool) → a ≡ false → (a && b) ≡ false
-and_no true b e = absurd (let z : true ≡ false = e in cc)
-and_no false b e = refl
 
 -- one of another cell leaves the waiters
 other_act : (c : CellAt) (u : ℕ) (e : SourceEvent) → is_cell c (condition_of e.act) ≡ false → (enters c u e ≡ false) × (takes_away c u e ≡ false)

@@ -1,47 +1,13 @@
 -- What remains of checks in shadow words, access tables and stops: why a bit and the written bit stand.
-use Rattle.std.proofs.Common.{◌≡◌, ℕ, suc, ◌+◌, ◌*◌, ◌/◌, ◌<◌, ◌≤◌, ◌⊎◌, inl, inr, Bool, true, false, not, ◌||◌, ◌&&◌, Option, Some, None, is_some, if◌then◌else◌, refl, sym, ap, ◌∙◌, subst, ⊎_elim, arith}
+use Rattle.std.proofs.{Common.{◌≡◌, ℕ, suc, ◌+◌, ◌*◌, ◌/◌, ◌<◌, ◌≤◌, ◌⊎◌, inl, inr, Bool, true, false, not, ◌||◌, ◌&&◌, Option, Some, None, is_some, if◌then◌else◌, refl, sym, ap, ◌∙◌, subst, ⊎_elim, arith}, lemmas.Bool.{cases_eq, or_right, false_from_ne_true as unset}}
 use Rattle.std.specs.Prelude.{slice_index, ◌==◌}
-use Rattle.std.proofs.lemmas.Bool.{cases_eq}
-use Rattle.std.proofs.lemmas.Bool.Decides.{nat_tests}
-use Rattle.sharc_shadow.specs.declared.shadow_word.Kind.{Kind}
-use Rattle.sharc_shadow.specs.declared.shadow_word.Kind.TheVariants.{Read, Write}
-use Rattle.sharc_shadow.specs.declared.access_table.Note.{Note}
-use Rattle.sharc_shadow.specs.Accesses.{note_of, site_at}
-use Rattle.sharc_shadow.specs.Functions.{conflicts_in}
-use Rattle.sharc_shadow.specs.Laws.{ShadowLaws}
-use Rattle.sharc_shadow.specs.ShadowWord.{epoch_of, is_of, is_write, is_written, stands, AddsAccess, Conflicts, Withdraws as WithdrawsWord}
-use Rattle.sharc_code.specs.declared.code.Code.{Code}
-use Rattle.sharc_code.specs.declared.instr.Cell.{Cell}
-use Rattle.sharc_code.specs.declared.instr.Instr.{Instr}
+use Rattle.sharc_shadow.specs.{declared.shadow_word.Kind.Kind, declared.shadow_word.Kind.TheVariants.{Read, Write}, declared.access_table.Note.Note, Accesses.{note_of, site_at}, Functions.conflicts_in, Laws.ShadowLaws, ShadowWord.{epoch_of, is_of, is_write, is_written, stands, AddsAccess, Conflicts, Withdraws as WithdrawsWord}}
+use Rattle.sharc_code.specs.{declared.code.Code.Code, declared.instr.Cell.Cell, declared.instr.Instr.Instr, declared.shape.Shape.Shape, declared.state.ConflictAt.ConflictAt, declared.state.Stop.TheVariants.Conflict, Layout.{Fits, granules, first_shadow, granule_at, granule_of}, Machine.{Machine, instr_at, place, wrote, stopped, with_own}, Runs.{Turn, Global, MayTurn, after_turn, state_now}, Whole.{one_thread, bounds}}
 use Rattle.sharc_code.specs.declared.instr.Instr.TheVariants as instrs
-use Rattle.sharc_code.specs.declared.shape.Shape.{Shape}
-use Rattle.sharc_code.specs.declared.state.ConflictAt.{ConflictAt}
-use Rattle.sharc_code.specs.declared.state.Stop.TheVariants.{Conflict}
-use Rattle.sharc_code.specs.Layout.{Fits, granules, first_shadow, granule_at, granule_of}
-use Rattle.sharc_code.specs.Machine.{Machine, instr_at, place, wrote, stopped, with_own}
 use Rattle.sharc_code.specs.Machine as machines
-use Rattle.sharc_code.specs.Runs.{Turn, Global, MayTurn, after_turn, state_now}
-use Rattle.sharc_code.specs.Whole.{one_thread, bounds}
-use Rattle.sharc_invariant.specs.Bits.{Touch, Untouched, CheckOf, ClearOf, WithdrawOf}
-use Rattle.sharc_invariant.specs.Granules.{Passed}
-use Rattle.sharc_invariant.specs.Labels.{Labels}
-use Rattle.sharc_invariant.specs.Laws.{CellsAreThere}
-use Rattle.sharc_invariant.specs.MachineInvariant.{IsOn}
-use Rattle.sharc_invariant.specs.Reports.{touch_at}
-use Rattle.sharc_invariant.specs.State.{State, StageStands, OnHold, object_of_cell, number_in}
-use Rattle.sharc_invariant.specs.Typed.{IsWellTyped, Fine, HasCell}
-use Rattle.sharc_invariant.specs.Types.{Targets, Field}
-use Rattle.sharc_invariant.specs.Words.{note_number, noted_by}
-use Rattle.sharc_invariant.specs.World.{World}
-use Rattle.sharc_history_laws.proofs.Doing.{Does, Plain, Passes, Refuses, IsCheckAt, check_of, IsNoCheck, site_still, site_new, note_from, does}
-use Rattle.sharc_history_laws.proofs.Rules.{put_other}
-use Rattle.sharc_history_laws.proofs.Shadows.{IsNext, WordBy, word_by, at_low}
-use Rattle.sharc_history_laws.proofs.Single.{rests_hold}
-use Rattle.sharc_history_laws.proofs.Stands.{there}
-use Rattle.sharc_history_laws.proofs.Withdrawing.{has_left, Noted, leaving}
-
-yes : true ≡ false → ⊥
-yes e = cc
+use Rattle.sharc_invariant.specs.{Bits.{Touch, Untouched, CheckOf, ClearOf, WithdrawOf}, Granules.Passed, Labels.Labels, Laws.CellsAreThere, MachineInvariant.IsOn, Reports.touch_at, State.{State, StageStands, OnHold, object_of_cell, number_in}, Typed.{IsWellTyped, Fine, HasCell}, Types.{Targets, Field}, Words.{note_number, noted_by}, World.World}
+use Rattle.sharc_history_laws.proofs.{Doing.{Does, Plain, Passes, Refuses, IsCheckAt, check_of, IsNoCheck, site_still, site_new, note_from, does}, Rules.put_other, Shadows.{IsNext, WordBy, word_by, at_low}, Single.rests_hold, Stands.there, Withdrawing.{has_left, Noted, leaving}, Threaded.or_left}
+use Rattle.sharc_lemmas.proofs.{Numbers.{same_is, eqb_other as ne_of, same_number as eq_of}, Bools.{and_left, or_split as or_cases, yes}}
 
 -- ---- what remains
 abbrev pub word_at : Global Machine → ℕ → ℕ
@@ -88,22 +54,6 @@ pub record Remains (s : Shape) (g : Global Machine) : Type 0 where
   pub left : (k p : ℕ) → p < granules s → stands (word_at g p) k ≡ true → has_left (g.threads k) p ≡ false
 
 -- ---- booleans
-or_left : (a b : Bool) → a ≡ true → (a || b) ≡ true
-or_left true b e = refl
-or_left false b e = absurd (yes (sym e))
-
-or_right : (a b : Bool) → b ≡ true → (a || b) ≡ true
-or_right true b e = refl
-or_right false b e = e
-
-or_cases : (a b : Bool) → (a || b) ≡ true → (a ≡ true) ⊎ (b ≡ true)
-or_cases true b e = inl refl
-or_cases false b e = inr e
-
-and_left : (a b : Bool) → (a && b) ≡ true → a ≡ true
-and_left true b e = refl
-and_left false b e = e
-
 and_right : (a b : Bool) → (a && b) ≡ true → b ≡ true
 and_right true b e = e
 and_right false b e = absurd (yes (sym e))
@@ -119,19 +69,6 @@ not_no true e = absurd (yes e)
 not_yes : (b : Bool) → not b ≡ true → b ≡ false
 not_yes false e = refl
 not_yes true e = absurd (yes (sym e))
-
-unset : (b : Bool) → (b ≡ true → ⊥) → b ≡ false
-unset true h = absurd (h refl)
-unset false h = refl
-
-same_is : (n : ℕ) → (n == n) ≡ true
-same_is n = grind (arith, nat_tests)
-
-eq_of : (a b : ℕ) → (a == b) ≡ true → a ≡ b
-eq_of a b e = grind (arith, nat_tests)
-
-ne_of : (a b : ℕ) → (a ≡ b → ⊥) → (a == b) ≡ false
-ne_of a b ne = grind (arith, nat_tests)
 
 -- ---- notes
 pub some_site : (o : Option Note) (e z : ℕ) → site_at o e ≡ Some z → (n : Note) × (o ≡ Some n) × (n.epoch ≡ e)

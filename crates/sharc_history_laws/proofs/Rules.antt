@@ -1,50 +1,20 @@
 -- Each access of a run of typed code is to a live object, by its owner where the cell is private, and no write under mode readonly.
-use Rattle.std.proofs.Common.{◌≡◌, ℕ, ◌^◌, ◌<◌, ◌≢◌, ◌⊎◌, inl, inr, Bool, true, false, ◌||◌, List, [], ◌∷◌, reverse, Option, Some, None, refl, sym, ap, ◌∙◌, subst, ⊎_elim, arith}
+use Rattle.std.proofs.{Common.{◌≡◌, ℕ, ◌^◌, ◌<◌, ◌≢◌, ◌⊎◌, inl, inr, Bool, true, false, ◌||◌, List, [], ◌∷◌, reverse, Option, Some, None, refl, sym, ap, ◌∙◌, subst, ⊎_elim, arith}, lemmas.Bool.cases_eq, lemmas.Bool.Decides.nat_tests}
 use Rattle.std.specs.Prelude.{nat_eq, ◌==◌}
-use Rattle.std.proofs.lemmas.Bool.{cases_eq}
-use Rattle.std.proofs.lemmas.Bool.Decides.{nat_tests}
 use Rattle.sharc_tree.specs.declared.event.SourceEvent.{SourceEvent}
 use Rattle.sharc_tree.specs.declared.event.CellMode.TheVariants as modes
 use Rattle.sharc_tree.specs.declared.event.Object.TheVariants as objects
 use Rattle.sharc_granule.specs.declared.stage.Stage.{Stage as NewStage}
 use Rattle.sharc_granule.specs.declared.stage.Stage.TheVariants as news
-use Rattle.sharc_code.specs.declared.code.Code.{Code}
-use Rattle.sharc_code.specs.declared.instr.Cell.{Cell}
+use Rattle.sharc_code.specs.{declared.code.Code.Code, declared.instr.Cell.Cell, declared.instr.Instr.Instr, declared.shape.Shape.Shape, declared.state.Stage.Stage, declared.state.Stage.TheVariants.{Makes, Uncounts}, Laws.RunLaws, Layout.Fits, Machine.{Machine, instr_at, ref}, Opening.opening_words, Runs.{Said, Turn, Global, IsRun, MayTurn, after_turn, put, result_of, with_told, opening_of}, Whole.{one_thread, bounds, place_after, Erase}, Says.{said, cell_at, place_at, speaks_of}}
 use Rattle.sharc_code.specs.declared.instr.Cell.TheVariants as cells
-use Rattle.sharc_code.specs.declared.instr.Instr.{Instr}
 use Rattle.sharc_code.specs.declared.instr.Instr.TheVariants as instrs
-use Rattle.sharc_code.specs.declared.shape.Shape.{Shape}
-use Rattle.sharc_code.specs.declared.state.Stage.{Stage}
-use Rattle.sharc_code.specs.declared.state.Stage.TheVariants.{Makes, Uncounts}
-use Rattle.sharc_code.specs.Laws.{RunLaws}
-use Rattle.sharc_code.specs.Layout.{Fits}
-use Rattle.sharc_code.specs.Machine.{Machine, instr_at, ref}
-use Rattle.sharc_code.specs.Opening.{opening_words}
-use Rattle.sharc_code.specs.Runs.{Said, Turn, Global, IsRun, MayTurn, after_turn, put, result_of, with_told, opening_of}
-use Rattle.sharc_code.specs.Whole.{one_thread, bounds, place_after, Erase}
-use Rattle.sharc_code.specs.Says.{said, cell_at, place_at, speaks_of}
-use Rattle.sharc_gen.specs.Consistent.{said_now}
-use Rattle.sharc_gen.specs.OfRuns.{told_in, table_of}
-use Rattle.sharc_meaning.specs.Events.{Access, makes, gives, frees, begins, is_number, made_by, given_by, freed_by}
-use Rattle.sharc_meaning.specs.Obeys.{History, IsAccess, IsThere, is_owner}
-use Rattle.sharc_invariant.specs.Types.{Targets, Field, FieldMode, field_in, mode_in}
-use Rattle.sharc_invariant.specs.Labels.{Labels}
-use Rattle.sharc_invariant.specs.Typed.{IsWellTyped, Fine, Accesses}
-use Rattle.sharc_invariant.specs.World.{ObjectState, World, CanBy}
-use Rattle.sharc_invariant.specs.Words.{lang_of}
-use Rattle.sharc_invariant.specs.Cells.{IsThere as CellIsThere}
-use Rattle.sharc_invariant.specs.Objects.{objects_behind, made_behind, new_behind, freed_behind, objects_now, owned, gone, type_held}
-use Rattle.sharc_invariant.specs.State.{IsSmall, StageStands, OnHold, object_of_cell, number_in}
-use Rattle.sharc_invariant.specs.MachineInvariant.{IsOn}
-use Rattle.sharc_invariant.specs.Laws.{Keeps, Begins as CodeBegins, CellsAreThere, PointersAreThere, AccessesAreAllowed}
+use Rattle.sharc_gen.specs.{Consistent.said_now, OfRuns.{told_in, table_of}}
+use Rattle.sharc_meaning.specs.{Events.{Access, makes, gives, frees, begins, is_number, made_by, given_by, freed_by}, Obeys.{History, IsAccess, IsThere, is_owner}}
+use Rattle.sharc_invariant.specs.{Types.{Targets, Field, FieldMode, field_in, mode_in}, Labels.Labels, Typed.{IsWellTyped, Fine}, World.{ObjectState, World, CanBy}, Words.lang_of, Cells.{IsThere as CellIsThere}, Objects.{objects_behind, made_behind, new_behind, freed_behind, objects_now, owned, gone, type_held}, State.{IsSmall, StageStands, OnHold, object_of_cell, number_in}, MachineInvariant.IsOn, Laws.{Keeps, Begins as CodeBegins, CellsAreThere, PointersAreThere, AccessesAreAllowed}}
 use Rattle.sharc_history_laws.specs.History.{history_of}
-use Rattle.sharc_history_laws.proofs.Single.{single, rests_hold}
-use Rattle.sharc_history_laws.proofs.Stands.{live_low, known_ref, there, live_ref, sole_ref}
-use Rattle.sharc_history_laws.proofs.Tables.{header_at, header_in, header_of, was_live}
-use Rattle.sharc_history_laws.proofs.Consists.{Consists, consists_then, objects_then, given, header_built, built_low}
-use Rattle.sharc_history_laws.proofs.Acts.{access_said, thread_said, given_at, freed_in, freed_at, About, about, AreLow, is_access, no_access, access_at, IsAccess as TellsAccess, access_of}
-use Rattle.sharc_history_laws.proofs.Lists.{Newest, EachAccess, no_event, each_push, live_in, owned_in, is_live_in, owned_is, live_made, live_other, owned_begun, owned_other}
-use Rattle.sharc_history_laws.proofs.Modes.{private_field, readonly_field}
+use Rattle.sharc_history_laws.proofs.{Single.{single, rests_hold}, Stands.{live_low, known_ref, there, live_ref, sole_ref}, Tables.{header_at, header_in, header_of, was_live}, Consists.{Consists, consists_then, objects_then, given, header_built, built_low}, Acts.{access_said, thread_said, given_at, freed_in, freed_at, About, about, AreLow, is_access, no_access, access_at, IsAccess as TellsAccess, access_of}, Lists.{Newest, EachAccess, no_event, each_push, live_in, owned_in, is_live_in, owned_is, live_made, live_other, owned_begun, owned_other}, Modes.{private_field, readonly_field}}
+use Rattle.sharc_lemmas.proofs.Numbers.{same_is as eq_refl}
 
 -- ---- numbers of objects
 pub number_yes : (n : ℕ) → is_number n (Some n) ≡ true
@@ -53,9 +23,6 @@ number_yes n = let e : (n == n) ≡ true = grind (arith, nat_tests) in e
 pub number_not : (n : ℕ) (o : Option ℕ) → (o ≡ Some n → ⊥) → is_number n o ≡ false
 number_not n None h = refl
 number_not n (Some k) h = let ne : n ≡ k → ⊥ = λ e. h (ap (λ j. Some j) (sym e)) in let e : (n == k) ≡ false = grind (arith, nat_tests) in e
-
-eq_refl : (n : ℕ) → (n == n) ≡ true
-eq_refl n = grind (arith, nat_tests)
 
 pub put_same : {A : Type 0} (f : ℕ → A) (i : ℕ) (v : A) → put f i v i ≡ v
 put_same f i v = rw (eq_refl i) refl

@@ -3,30 +3,13 @@ use Rattle.std.proofs.Common.{◌≡◌, ◌≢◌, ℕ, suc, ◌+◌, ◌*◌, 
 use Rattle.std.specs.Prelude.{◌==◌, Contains}
 use Rattle.sharc_tree.specs.declared.event.CellAt.{CellAt}
 use Rattle.sharc_tree.specs.declared.event.Object.TheVariants as objects
-use Rattle.sharc_locks.specs.declared.held_log.HeldMutex.{HeldMutex}
-use Rattle.sharc_locks.specs.HeldLog.{object_of}
+use Rattle.sharc_locks.specs.{declared.held_log.HeldMutex.HeldMutex, HeldLog.object_of}
 use Rattle.sharc_ctype.specs.Resolved.{Resolution}
-use Rattle.sharc_code.specs.declared.code.Code.{Code}
-use Rattle.sharc_code.specs.declared.shape.Shape.{Shape}
-use Rattle.sharc_code.specs.Laws.{RunLaws}
-use Rattle.sharc_code.specs.Layout.{Fits, first_cell}
-use Rattle.sharc_code.specs.Machine.{reference_of}
-use Rattle.sharc_code.specs.Opening.{opening_words}
-use Rattle.sharc_code.specs.Runs.{Turn, IsRun, opening_of}
-use Rattle.sharc_code.specs.Whole.{CheckedRun, one_thread, bounds, place_after}
+use Rattle.sharc_code.specs.{declared.code.Code.Code, declared.shape.Shape.Shape, Laws.RunLaws, Layout.{Fits, first_cell}, Machine.reference_of, Opening.opening_words, Runs.{Turn, IsRun, opening_of}, Whole.{CheckedRun, one_thread, bounds, place_after}}
 use Rattle.sharc_meaning.specs.Store.{is_locked}
-use Rattle.sharc_invariant.specs.Types.{Targets}
-use Rattle.sharc_invariant.specs.Labels.{Labels}
-use Rattle.sharc_invariant.specs.Typed.{IsWellTyped}
-use Rattle.sharc_invariant.specs.Words.{cell_at}
-use Rattle.sharc_invariant.specs.MachineInvariant.{log_refers}
-use Rattle.sharc_invariant.specs.Laws.{CellsAreThere}
+use Rattle.sharc_invariant.specs.{Types.Targets, Labels.Labels, Typed.IsWellTyped, Words.cell_at, MachineInvariant.log_refers, Laws.CellsAreThere}
 use Rattle.sharc_history_laws.specs.History.{history_of}
-use Rattle.sharc_history_laws.proofs.Finds.{is_apart}
-use Rattle.sharc_history_laws.proofs.Locked.{IsIn}
-use Rattle.sharc_history_laws.proofs.Mutual.{locked_is}
-use Rattle.sharc_history_laws.proofs.Rules.{newest}
-use Rattle.sharc_history_laws.proofs.Stored.{Stored}
+use Rattle.sharc_history_laws.proofs.{Finds.is_apart, Locked.IsIn, Mutual.locked_is, Rules.newest, Stored.Stored}
 
 -- ---- beginnings of runs
 begins_run : (code : Code) (s : Shape) (later earlier : List Turn) → IsRun bounds (one_thread code s) (opening_of bounds (one_thread code s) (opening_words code s)) (later ++ earlier)

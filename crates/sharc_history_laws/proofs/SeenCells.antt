@@ -1,57 +1,17 @@
 -- A pointer cell that refers to an object by the words does so by the events, but where a Free empties its object.
-use Rattle.std.proofs.Common.{◌≡◌, ℕ, pos, zero, suc, ◌+◌, ◌*◌, ◌/◌, ◌^◌, ◌<◌, ◌≢◌, inl, inr, Bool, true, false, cond, not, ◌&&◌, List, [], ◌∷◌, refl, sym, ap, ◌∙◌, subst, ⊎_elim, arith, ltb-true}
+use Rattle.std.proofs.{Common.{◌≡◌, ℕ, pos, zero, suc, ◌+◌, ◌*◌, ◌/◌, ◌^◌, ◌<◌, ◌≢◌, inl, inr, Bool, true, false, cond, not, ◌&&◌, List, [], ◌∷◌, refl, sym, ap, ◌∙◌, subst, ⊎_elim, arith, ltb-true}, lemmas.Bool.{cases_Bool, and_parts}, lemmas.Bool.Decides.nat_tests}
 use Rattle.std.specs.Prelude.{slice_index, nat_lt, ◌==◌, ◌%◌}
-use Rattle.std.proofs.lemmas.Bool.{cases_Bool, and_parts}
-use Rattle.std.proofs.lemmas.Bool.Decides.{nat_tests}
-use Rattle.sharc_tree.specs.declared.event.CellAt.{CellAt}
-use Rattle.sharc_tree.specs.declared.event.Object.{Object}
+use Rattle.sharc_tree.specs.{declared.event.CellAt.CellAt, declared.event.Object.Object}
 use Rattle.sharc_tree.specs.declared.event.Object.TheVariants as objects
 use Rattle.sharc_ctype.specs.Resolved.{Resolution}
-use Rattle.sharc_code.specs.declared.code.Code.{Code}
-use Rattle.sharc_code.specs.declared.shape.Shape.{Shape}
-use Rattle.sharc_code.specs.declared.state.Stage.{Stage}
-use Rattle.sharc_code.specs.declared.state.Stage.TheVariants.{Empties, Lowers, FreeLooks, FreeClears, Uncounts}
-use Rattle.sharc_code.specs.Laws.{RunLaws}
-use Rattle.sharc_code.specs.Layout.{Fits, granules, granule_at, words_of, first_cell, cell_word, cell_of, length_word}
-use Rattle.sharc_code.specs.Machine.{Machine}
-use Rattle.sharc_code.specs.Opening.{opening_words}
-use Rattle.sharc_code.specs.Ranges.{IsInGlobal}
-use Rattle.sharc_code.specs.Runs.{Turn, Global, IsRun, result_of, opening_of}
-use Rattle.sharc_code.specs.Says.{reference}
-use Rattle.sharc_code.specs.Whole.{one_thread, bounds, place_after}
-use Rattle.sharc_gen.specs.Consistent.{Elements, said_now}
-use Rattle.sharc_gen.specs.OfRuns.{table_of}
-use Rattle.sharc_meaning.specs.Reference.{is_null}
-use Rattle.sharc_meaning.specs.References.{refers}
-use Rattle.sharc_meaning.specs.Store.{value_after}
-use Rattle.sharc_invariant.specs.Types.{Targets, Field, Content, Pointer, field_in, field_of_cell, global_field, globals_target, is_pointer, cells_of}
-use Rattle.sharc_invariant.specs.Labels.{Labels}
-use Rattle.sharc_invariant.specs.Typed.{IsWellTyped}
-use Rattle.sharc_invariant.specs.World.{Cell as CellOf, World, ObjectState}
+use Rattle.sharc_code.specs.{declared.code.Code.Code, declared.shape.Shape.Shape, declared.state.Stage.Stage, declared.state.Stage.TheVariants.{Empties, Lowers, FreeLooks, FreeClears, Uncounts}, Laws.RunLaws, Layout.{Fits, granules, granule_at, words_of, first_cell, cell_word, cell_of, length_word}, Machine.Machine, Opening.opening_words, Ranges.IsInGlobal, Runs.{Turn, Global, IsRun, result_of, opening_of}, Says.reference, Whole.{one_thread, bounds, place_after}}
+use Rattle.sharc_gen.specs.{Consistent.{Elements, said_now}, OfRuns.table_of}
+use Rattle.sharc_meaning.specs.{Reference.is_null, References.refers, Store.value_after}
+use Rattle.sharc_invariant.specs.{Types.{Targets, Field, Content, Pointer, field_in, field_of_cell, global_field, globals_target, is_pointer, cells_of}, Labels.Labels, Typed.IsWellTyped, World.{Cell as CellOf, World, ObjectState}, State.{State, IsSmall}, Opened.{first_world, first_place}, Objects.{objects_after, objects_now}, MachineInvariant.{cells_now, is_pointer_now, cell_refers}, Laws.{Keeps, Begins as CodeBegins, CellsAreThere, PointersAreThere, AccessesAreAllowed, StateStands}}
 use Rattle.sharc_invariant.specs.Words as Words
-use Rattle.sharc_invariant.specs.State.{State, IsSmall}
-use Rattle.sharc_invariant.specs.Opened.{first_world, first_place}
-use Rattle.sharc_invariant.specs.Objects.{objects_after, objects_now}
-use Rattle.sharc_invariant.specs.MachineInvariant.{cells_now, is_pointer_now, cell_refers}
-use Rattle.sharc_invariant.specs.Laws.{Keeps, Begins as CodeBegins, CellsAreThere, PointersAreThere, AccessesAreAllowed, StateStands}
-use Rattle.sharc_history_laws.specs.History.{history_of}
-use Rattle.sharc_history_laws.specs.Stores.{BeginsWith}
-use Rattle.sharc_history_laws.specs.SeenCells.{is_clearing, IsCellIn, IsLiveBy, IsBeingFreed, RefersBy, CellIsSeen}
-use Rattle.sharc_history_laws.proofs.Behind.{AreFirst, first_then}
-use Rattle.sharc_history_laws.proofs.Consists.{Consists, consists_then, objects_then, at_first, none_live}
-use Rattle.sharc_history_laws.proofs.Contents.{newest_value, value_is, value_held, IsCellOf, content_of, word_of_cell, Contents}
-use Rattle.sharc_history_laws.proofs.Emptying.{IsEmptied, is_emptying}
-use Rattle.sharc_history_laws.proofs.Lists.{Newest, is_live_in}
-use Rattle.sharc_history_laws.proofs.Locked.{Names, NamesIn}
-use Rattle.sharc_history_laws.proofs.OneMode.{place_of}
-use Rattle.sharc_history_laws.proofs.Opening.{contents_first}
-use Rattle.sharc_history_laws.proofs.Rules.{ObjectsTold, newest, newest_now, about_now, objects_told}
-use Rattle.sharc_history_laws.proofs.Shared.{number_of, some_closing}
-use Rattle.sharc_history_laws.proofs.Sparing.{is_value}
-use Rattle.sharc_history_laws.proofs.Stands.{live_low}
-use Rattle.sharc_history_laws.proofs.Unemptied.{on_hold}
-use Rattle.sharc_history_laws.proofs.Unwritten.{emptying}
-use Rattle.sharc_history_laws.proofs.Valued.{contents_then}
+use Rattle.sharc_history_laws.specs.{History.history_of, Stores.BeginsWith, SeenCells.{is_clearing, IsCellIn, IsLiveBy, IsBeingFreed, RefersBy, CellIsSeen}}
+use Rattle.sharc_history_laws.proofs.{Behind.{AreFirst, first_then}, Consists.{Consists, consists_then, objects_then, at_first, none_live}, Contents.{newest_value, value_is, value_held, IsCellOf, content_of, word_of_cell, Contents}, Emptying.{IsEmptied, is_emptying}, Lists.{Newest, is_live_in}, Locked.{Names, NamesIn}, OneMode.place_of, Opening.contents_first, Rules.{ObjectsTold, newest, newest_now, about_now, objects_told}, Shared.{number_of, some_closing}, Sparing.is_value, Stands.live_low, Unemptied.on_hold, Unwritten.emptying, Valued.contents_then}
+use Rattle.sharc_lemmas.proofs.Numbers.{same_is as eq_refl, ne_zero}
 
 -- ---- references
 not_null : (n : ℕ) → n ≢ 0 → is_null (pos n) ≡ false
@@ -74,12 +34,6 @@ holds_reference _ T v e = absurd (cc)
 pub pointer_value : (a : Content) → is_pointer a ≡ true → is_value a ≡ true
 pointer_value (Pointer f) e = refl
 pointer_value _ e = absurd (cc)
-
-eq_refl : (n : ℕ) → (n == n) ≡ true
-eq_refl n = grind (arith, nat_tests)
-
-pub ne_zero : (n : ℕ) → (n ≡ 0 → ⊥) → (n == 0) ≡ false
-ne_zero n ne = grind (arith, nat_tests)
 
 pub clears : (stage : Stage) → is_emptying stage ≡ true → is_clearing stage ≡ true
 clears (Empties i all) e = refl

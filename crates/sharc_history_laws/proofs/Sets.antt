@@ -1,11 +1,8 @@
 -- Access sets by a history with its newest event first.
 use Rattle.std.proofs.Common.{◌≡◌, ℕ, ◌≢◌, Bool, true, false, ◌||◌, ◌&&◌, cond, [], ◌∷◌, ◌++◌, reverse, refl, sym, ap, ◌∙◌, subst, ⊎_elim, ◌⊎◌, inl, inr, if◌then◌else◌}
 use Rattle.std.specs.List.{list_any}
-use Rattle.sharc_tree.specs.declared.event.SourceEvent.{SourceEvent}
-use Rattle.sharc_tree.specs.declared.event.CellMode.TheVariants.{Dynamic}
-use Rattle.sharc_tree.specs.declared.event.Object.{Object}
-use Rattle.sharc_meaning.specs.Events.{Access, granule_of, begins, is_of, events_of}
-use Rattle.sharc_meaning.specs.Obeys.{History, IsAccess, AccessSet, until_return, ends, ReadSharedOrOwn}
+use Rattle.sharc_tree.specs.{declared.event.SourceEvent.SourceEvent, declared.event.CellMode.TheVariants.Dynamic, declared.event.Object.Object}
+use Rattle.sharc_meaning.specs.{Events.{Access, granule_of, begins, is_of, events_of}, Obeys.{History, IsAccess, AccessSet, until_return, ends, ReadSharedOrOwn}}
 use Rattle.sharc_history_laws.proofs.Lists.{Newest, Split, Last, Earlier, split, reverse_push}
 
 -- the event is an access of mode dynamic to that granule, by this thread, and a write or not

@@ -1,54 +1,18 @@
 -- What a turn does to the shadow word of each granule.
-use Rattle.std.proofs.Common.{◌≡◌, ℕ, ℤ, pos, negsuc, zero, suc, ◌+◌, ◌*◌, ◌/◌, ◌%◌, ◌^◌, ◌<◌, ◌≤◌, ◌≢◌, Bool, true, false, length, List, [], ◌∷◌, Option, Some, None, if◌then◌else◌, min, refl, sym, ap, ◌∙◌, subst, ⊎_elim, arith, eqb-true}
-use Rattle.std.specs.Prelude.{slice_index, slice_index_or, slice_set, nat_lt, bit_or, ◌==◌, Contains}
-use Rattle.std.proofs.lemmas.Bool.{cases_eq, cases_lt}
-use Rattle.std.proofs.lemmas.Bool.Decides.{nat_tests}
-use Rattle.std.proofs.lemmas.List.{get_or-set_other}
+use Rattle.std.proofs.{Common.{◌≡◌, ℕ, ℤ, pos, negsuc, zero, suc, ◌+◌, ◌*◌, ◌/◌, ◌%◌, ◌^◌, ◌<◌, ◌≤◌, ◌≢◌, Bool, true, false, length, List, [], ◌∷◌, Option, Some, None, if◌then◌else◌, min, refl, sym, ap, ◌∙◌, subst, ⊎_elim, arith, eqb-true}, lemmas.Bool.{cases_eq, cases_lt}, lemmas.Bool.Decides.nat_tests, lemmas.List.get_or-set_other}
+use Rattle.std.specs.Prelude.{slice_index, nat_lt, bit_or, ◌==◌, Contains}
 use Rattle.sharc_tree.specs.declared.trap.Trap.TheVariants as traps
-use Rattle.sharc_word.specs.declared.step.TheConstants.{THREADS}
-use Rattle.sharc_word.specs.declared.step.WordEvent.{WordEvent}
-use Rattle.sharc_word.specs.declared.step.WordOp.{WordOp}
+use Rattle.sharc_word.specs.{declared.step.TheConstants.THREADS, declared.step.WordEvent.WordEvent, declared.step.WordOp.WordOp, declared.step.WordStep.WordStep, Words.{word_after, words_after_step}}
 use Rattle.sharc_word.specs.declared.step.WordOp.TheVariants as ops
-use Rattle.sharc_word.specs.declared.step.WordStep.{WordStep}
-use Rattle.sharc_word.specs.Words.{word_after, words_after_step}
-use Rattle.sharc_shadow.specs.declared.shadow_word.Kind.{Kind}
-use Rattle.sharc_shadow.specs.declared.shadow_word.Kind.TheVariants.{Read, Write}
-use Rattle.sharc_shadow.specs.declared.access_table.GranuleNotes.{GranuleNotes}
-use Rattle.sharc_shadow.specs.Accesses.{Accesses, ListsNoted, is_noted}
-use Rattle.sharc_shadow.specs.Functions.{bits_of, cleared_of, withdrawn_of}
-use Rattle.sharc_shadow.specs.Laws.{ShadowLaws}
-use Rattle.sharc_shadow.specs.ShadowWord.{epoch_of, is_written, stands, AddsAccess, Withdraws as WithdrawsWord}
-use Rattle.sharc_granule.specs.Asks.{word_number}
-use Rattle.sharc_granule.specs.Stages.{turn_of_stage}
-use Rattle.sharc_granule.specs.State.{NewView, told}
-use Rattle.sharc_granule.specs.declared.arguments.NewArguments.{NewArguments}
-use Rattle.sharc_granule.specs.declared.stage.Stage.{Stage as NewStage}
+use Rattle.sharc_shadow.specs.{declared.shadow_word.Kind.Kind, declared.shadow_word.Kind.TheVariants.{Read, Write}, declared.access_table.GranuleNotes.GranuleNotes, Accesses.{Accesses, ListsNoted, is_noted}, Functions.{bits_of, cleared_of, withdrawn_of}, Laws.ShadowLaws, ShadowWord.{epoch_of, is_written, stands, AddsAccess, Withdraws as WithdrawsWord}}
+use Rattle.sharc_granule.specs.{Asks.word_number, Stages.turn_of_stage, State.{NewView, told}, declared.arguments.NewArguments.NewArguments, declared.stage.Stage.{Stage as NewStage}}
 use Rattle.sharc_granule.specs.declared.stage.Stage.TheVariants as news
-use Rattle.sharc_code.specs.declared.code.Code.{Code}
-use Rattle.sharc_code.specs.declared.instr.Instr.{Instr}
+use Rattle.sharc_code.specs.{declared.code.Code.Code, declared.instr.Instr.Instr, declared.instr.Register.Register, declared.shape.Shape.Shape, declared.state.Stage.Stage, declared.state.Stage.TheVariants.{Looks, Clears, Makes, Empties, Lowers, FreeLooks, FreeClears, Uncounts, Links, Names, Hands, Begins, Enters, Withdraws, WithdrawsFrom, Leaves as Leaving, Wakes}, Layout.{Fits, granules, first_cell, first_shadow, words_of, granule_at, granule_of, shadow_word, count_word, length_word, cell_word, state_word}, Machine.{Machine, Turn as StepTurn, Local, Asks, act, instr_at, step_of, int, ref, place, word, goes, set_ref, move_ref, accessed, trapped, raise, lower, test, new, asks_new, new_state, elements_of, clear, free, layout_at, data_granules, data_granule, spawn, joined, join, start, exit, row_of, without_own, withdrew, signal, largest, wrote}, Path.{turn, asked_by, may_go}, Runs.{Turn, Global, MayTurn, Answered, after_turn, words_now, result_of}, Whole.{one_thread, bounds}}
 use Rattle.sharc_code.specs.declared.instr.Instr.TheVariants as instrs
-use Rattle.sharc_code.specs.declared.instr.Register.{Register}
-use Rattle.sharc_code.specs.declared.shape.Shape.{Shape}
-use Rattle.sharc_code.specs.declared.state.Stage.{Stage}
-use Rattle.sharc_code.specs.declared.state.Stage.TheVariants.{Looks, Clears, Makes, Empties, Lowers, FreeLooks, FreeClears, Uncounts, Links, Names, Hands, Begins, Enters, Withdraws, WithdrawsFrom, Leaves as Leaving, Wakes}
-use Rattle.sharc_code.specs.Layout.{Fits, granules, first_cell, first_shadow, words_of, granule_at, granule_of, shadow_word, count_word, length_word, cell_word, state_word}
-use Rattle.sharc_code.specs.Machine.{Machine, Turn as StepTurn, Local, Asks, act, instr_at, step_of, int, ref, place, word, goes, set_ref, move_ref, accessed, trapped, raise, lower, test, new, asks_new, new_state, elements_of, clear, free, layout_at, data_granules, data_granule, spawn, joined, join, start, exit, row_of, without_own, withdrew, signal, largest, wrote}
-use Rattle.sharc_code.specs.Path.{turn, asked_by, may_go}
-use Rattle.sharc_code.specs.Runs.{Turn, Global, MayTurn, Answered, after_turn, words_now, result_of}
 use Rattle.sharc_code.specs.Runs as runs
-use Rattle.sharc_code.specs.Whole.{one_thread, bounds}
-use Rattle.sharc_invariant.specs.Bits.{Touch, Untouched, CheckOf, ClearOf, WithdrawOf, cleared_by, freed_by, withdrawn_by, touch_of}
-use Rattle.sharc_invariant.specs.Granules.{sum_to}
-use Rattle.sharc_invariant.specs.Labels.{Labels}
-use Rattle.sharc_invariant.specs.MachineInvariant.{IsOn}
-use Rattle.sharc_invariant.specs.Reports.{touch_at}
-use Rattle.sharc_invariant.specs.State.{State, StageStands, OnHold}
-use Rattle.sharc_invariant.specs.Typed.{IsWellTyped, Fine}
-use Rattle.sharc_invariant.specs.Types.{Targets, cells_of}
-use Rattle.sharc_invariant.specs.World.{World}
-use Rattle.sharc_history_laws.proofs.Consists.{found_is}
-use Rattle.sharc_history_laws.proofs.Stands.{sole_ref, live_ref, target_ref}
-use Rattle.sharc_history_laws.proofs.Tables.{step_leaves}
+use Rattle.sharc_invariant.specs.{Bits.{Touch, Untouched, CheckOf, ClearOf, WithdrawOf, cleared_by, freed_by, withdrawn_by, touch_of}, Granules.sum_to, Labels.Labels, MachineInvariant.IsOn, Reports.touch_at, State.{State, StageStands, OnHold}, Typed.{IsWellTyped, Fine}, Types.{Targets, cells_of}, World.World}
+use Rattle.sharc_history_laws.proofs.{Consists.found_is, Stands.{sole_ref, live_ref, target_ref}, Tables.step_leaves}
+use Rattle.sharc_lemmas.proofs.Lists.{set_here as set_at, same_or}
 
 -- ---- words by what a turn is to them
 -- no bit stands, and the epoch is one more
@@ -159,11 +123,6 @@ blank_past [] p le = refl
 blank_past (a ∷ notes) zero le = absurd (omega arith)
 blank_past (a ∷ notes) (suc p) le = blank_past notes p (omega arith)
 
-same_or : {X : Type 0} (xs : List X) (k : ℕ) (d e : X) → k < length xs → slice_index_or xs k d ≡ slice_index_or xs k e
-same_or [] k d e lt = absurd (omega arith)
-same_or (x ∷ xs) zero d e lt = refl
-same_or (x ∷ xs) (suc k) d e lt = same_or xs k d e (omega arith)
-
 pub row_low : (table : Accesses) → ListsNoted table → (row : ℕ) → row < length table.order → slice_index table.order row < length table.notes
 row_low table lists row lt =
     let p = slice_index table.order row in
@@ -179,13 +138,8 @@ sum_low : (n : ℕ) (f : ℕ → ℕ) → ((t : ℕ) → f t ≤ 100000000) → 
 sum_low zero f few = omega arith
 sum_low (suc n) f few = let a = sum_low n f few in let b = few n in omega arith
 
-in_cells : (n done : ℕ) → done < (min n largest + 1) / 2 → 2 * done < n
+pub in_cells : (n done : ℕ) → done < (min n largest + 1) / 2 → 2 * done < n
 in_cells n done lt = omega arith
-
-set_at : (words : List ℕ) (n v : ℕ) → n < length words → slice_index (slice_set words n v) n ≡ v
-set_at [] n v lt = absurd (omega arith)
-set_at (w ∷ ws) zero v lt = refl
-set_at (w ∷ ws) (suc n) v lt = set_at ws n v (omega arith)
 
 -- ---- one turn
 module _ (laws : ShadowLaws) (x : Targets) (code : Code) (s : Shape) (ls : Labels) (wt : IsWellTyped x code ls) (fits : Fits code s) (g : Global Machine) (world : World) (st : State x code s ls g world) (tr : Turn)

@@ -1,57 +1,19 @@
 -- No access set of a run of typed code holds accesses of two threads of which one writes.
-use Rattle.std.proofs.Common.{◌≡◌, ℕ, ◌+◌, ◌-◌, ◌*◌, ◌/◌, ◌≤◌, ◌≢◌, ◌⊎◌, inl, inr, Bool, true, false, ◌||◌, ◌&&◌, List, [], ◌∷◌, Option, Some, None, refl, sym, ap, ◌∙◌, subst, ⊎_elim, arith}
+use Rattle.std.proofs.{Common.{◌≡◌, ℕ, ◌+◌, ◌-◌, ◌*◌, ◌/◌, ◌≤◌, ◌≢◌, ◌⊎◌, inl, inr, Bool, true, false, ◌||◌, ◌&&◌, List, [], ◌∷◌, Option, Some, None, refl, sym, ap, ◌∙◌, subst, ⊎_elim, arith}, lemmas.Bool.cases_eq, lemmas.Bool.Decides.nat_tests}
 use Rattle.std.specs.Prelude.{◌==◌, slice_index, slice_index_or}
-use Rattle.std.proofs.lemmas.Bool.{cases_eq}
-use Rattle.std.proofs.lemmas.Bool.Decides.{nat_tests}
 use Rattle.sharc_tree.specs.declared.event.Act.TheVariants as acts
-use Rattle.sharc_tree.specs.declared.event.SourceEvent.{SourceEvent}
+use Rattle.sharc_tree.specs.{declared.event.SourceEvent.SourceEvent, declared.event.Object.Object}
 use Rattle.sharc_tree.specs.declared.event.CellMode.TheVariants as modes
-use Rattle.sharc_tree.specs.declared.event.Object.{Object}
 use Rattle.sharc_tree.specs.declared.event.Object.TheVariants as objects
-use Rattle.sharc_code.specs.declared.code.Code.{Code}
-use Rattle.sharc_code.specs.declared.instr.Cell.{Cell}
+use Rattle.sharc_code.specs.{declared.code.Code.Code, declared.instr.Cell.Cell, declared.instr.Instr.Instr, declared.shape.Shape.Shape, declared.state.Stage.Stage, declared.state.Stage.TheVariants.{Rests, Makes, Uncounts, Links, Withdraws, WithdrawsFrom, Leaves}, Laws.RunLaws, Layout.Fits, Machine.{Machine, instr_at, ref, place, act}, Opening.opening_words, Path.{turn, after, may_go}, Runs.{Turn, Global, IsRun, MayTurn, after_turn, put, state_now, result_of, opening_of}, Whole.{one_thread, bounds, place_after}, Says.{said, cell_at, place_at, speaks_of, in_exit, no_global}}
 use Rattle.sharc_code.specs.declared.instr.Cell.TheVariants as cells
-use Rattle.sharc_code.specs.declared.instr.Instr.{Instr}
 use Rattle.sharc_code.specs.declared.instr.Instr.TheVariants as instrs
-use Rattle.sharc_code.specs.declared.shape.Shape.{Shape}
 use Rattle.sharc_code.specs.declared.state.State.TheVariants as states
-use Rattle.sharc_code.specs.declared.state.Stage.{Stage}
-use Rattle.sharc_code.specs.declared.state.Stage.TheVariants.{Rests, Makes, Uncounts, Links, Withdraws, WithdrawsFrom, Leaves}
-use Rattle.sharc_code.specs.Laws.{RunLaws}
-use Rattle.sharc_code.specs.Layout.{Fits}
-use Rattle.sharc_code.specs.Machine.{Machine, instr_at, ref, place, act}
-use Rattle.sharc_code.specs.Opening.{opening_words}
-use Rattle.sharc_code.specs.Path.{turn, after, may_go}
-use Rattle.sharc_code.specs.Runs.{Turn, Global, IsRun, MayTurn, after_turn, put, state_now, result_of, opening_of}
-use Rattle.sharc_code.specs.Whole.{one_thread, bounds, place_after}
-use Rattle.sharc_code.specs.Says.{said, cell_at, place_at, speaks_of, in_exit, no_global}
-use Rattle.sharc_gen.specs.Consistent.{said_now}
-use Rattle.sharc_gen.specs.OfRuns.{table_of}
-use Rattle.sharc_meaning.specs.Events.{Access, granule_of, makes, gives, begins, is_of, access_by}
-use Rattle.sharc_meaning.specs.Obeys.{until_return, ends}
-use Rattle.sharc_invariant.specs.Granules.{Passed}
-use Rattle.sharc_invariant.specs.Types.{Targets, Field, FieldMode}
-use Rattle.sharc_invariant.specs.Labels.{Gate, Closed, Checked, Holds, Loaded, HoldsLoaded, Sole, Labels}
-use Rattle.sharc_invariant.specs.Typed.{IsWellTyped, Fine, IsNotSole}
-use Rattle.sharc_invariant.specs.World.{RegisterOf, ObjectState, Shut, Sole as IsSole, World, WinOk, in_ref}
-use Rattle.sharc_invariant.specs.Words.{lang_of, has_returned, is_withdrawing, is_ended}
-use Rattle.sharc_invariant.specs.History.{Closing, Without}
-use Rattle.sharc_invariant.specs.Objects.{changes_objects, makes_object, frees_object, objects_behind}
-use Rattle.sharc_invariant.specs.State.{State, Runs, IsSmall, StageStands, GateStands, StopStands, OnHold, OnExit, object_of_cell, number_in, label_now, size_of_run}
-use Rattle.sharc_invariant.specs.MachineInvariant.{IsOn, MachineInvariant, IsAlone, WindowStands, label_of}
-use Rattle.sharc_invariant.specs.Laws.{Keeps, Begins as CodeBegins, CellsAreThere, PointersAreThere, AccessesAreAllowed, StateStands}
-use Rattle.sharc_history_laws.proofs.Single.{single, rests_hold}
-use Rattle.sharc_history_laws.proofs.Stands.{register_is, gate, reads_ref}
-use Rattle.sharc_history_laws.proofs.Finds.{is_there}
-use Rattle.sharc_history_laws.proofs.Tables.{header_of, was_live}
-use Rattle.sharc_history_laws.proofs.Consists.{Consists, consists_then, objects_then, effect_then, given, at_first}
-use Rattle.sharc_history_laws.proofs.Acts.{access_said, thread_said, given_at, freed_in, freed_at, About, is_access, no_access, access_at, IsAccess as TellsAccess, access_of}
-use Rattle.sharc_history_laws.proofs.Lists.{Newest}
-use Rattle.sharc_history_laws.proofs.Modes.{dynamic_field}
-use Rattle.sharc_history_laws.proofs.Rules.{pushed, newest, newest_now, number_is, about_now, hold_access, cell_is, can_mode, freed_gone, number_yes, put_same, put_other}
-use Rattle.sharc_history_laws.proofs.Sets.{IsHere, Goes, InSet, NoConflict, Clean}
-use Rattle.sharc_history_laws.proofs.Carried.{Stands, carried}
-use Rattle.sharc_history_laws.proofs.Going.{is_exit, going}
+use Rattle.sharc_gen.specs.{Consistent.said_now, OfRuns.table_of}
+use Rattle.sharc_meaning.specs.{Events.{Access, granule_of, makes, gives, begins, is_of, access_by}, Obeys.{until_return, ends}}
+use Rattle.sharc_invariant.specs.{Granules.Passed, Types.{Targets, Field, FieldMode}, Labels.{Gate, Closed, Checked, Holds, Loaded, HoldsLoaded, Sole, Labels}, Typed.{IsWellTyped, Fine, IsNotSole}, World.{RegisterOf, ObjectState, Shut, Sole as IsSole, World, WinOk, in_ref}, Words.{lang_of, has_returned, is_withdrawing, is_ended}, History.{Closing, Without}, Objects.{changes_objects, makes_object, frees_object, objects_behind}, State.{State, Runs, IsSmall, StageStands, GateStands, StopStands, OnHold, OnExit, object_of_cell, number_in, label_now, size_of_run}, MachineInvariant.{IsOn, MachineInvariant, IsAlone, WindowStands, label_of}, Laws.{Keeps, Begins as CodeBegins, CellsAreThere, PointersAreThere, AccessesAreAllowed, StateStands}}
+use Rattle.sharc_history_laws.proofs.{Single.{single, rests_hold}, Stands.{register_is, gate, reads_ref}, Finds.is_there, Tables.{header_of, was_live}, Consists.{Consists, consists_then, objects_then, effect_then, given, at_first}, Acts.{access_said, thread_said, given_at, freed_in, freed_at, About, is_access, no_access, access_at, IsAccess as TellsAccess, access_of}, Lists.Newest, Modes.dynamic_field, Rules.{pushed, newest, newest_now, number_is, about_now, hold_access, cell_is, can_mode, freed_gone, number_yes, put_same, put_other}, Sets.{IsHere, Goes, InSet, NoConflict, Clean}, Carried.{Stands, carried}, Going.{is_exit, going}}
+use Rattle.sharc_lemmas.proofs.Bools.{yes}
 
 -- ---- objects and granules as the world has them
 abbrev pub number_of : Object → ℕ
@@ -61,9 +23,6 @@ number_of (objects.Made n) = n
 abbrev pub index_of : Code → Object → ℕ → ℕ
 index_of code (objects.Global g) granule = granule + (slice_index_or code.globals.items g no_global).granule - 1
 index_of code (objects.Made n) granule = granule
-
-yes : true ≡ false → ⊥
-yes e = cc
 
 -- ---- gates
 pub not_sole : (s : Shape) (w : World) (t : ℕ) (m : Machine) (y : Gate) → IsNotSole y → GateStands s w t m y → (q : ℕ) → w.win t ≡ IsSole q → ⊥

@@ -1,16 +1,8 @@
 -- Instructions of one turn: a thread that stands at one is in the middle of nothing.
 use Rattle.std.proofs.Common.{◌≡◌, ℕ, Bool, true, false, List, refl, sym, subst}
-use Rattle.sharc_code.specs.declared.code.Code.{Code}
-use Rattle.sharc_code.specs.declared.instr.Instr.{Instr}
+use Rattle.sharc_code.specs.{declared.code.Code.Code, declared.instr.Instr.Instr, declared.instr.Register.Register, declared.shape.Shape.Shape, declared.state.Stage.Stage, declared.state.Stage.TheVariants.{Rests, Looks, Clears, Makes, Empties, Lowers, FreeLooks, FreeClears, Uncounts, Links, Names, Hands, Begins, Enters, Withdraws, WithdrawsFrom, Leaves, Wakes}, Machine.Machine}
 use Rattle.sharc_code.specs.declared.instr.Instr.TheVariants as instrs
-use Rattle.sharc_code.specs.declared.instr.Register.{Register}
-use Rattle.sharc_code.specs.declared.shape.Shape.{Shape}
-use Rattle.sharc_code.specs.declared.state.Stage.{Stage}
-use Rattle.sharc_code.specs.declared.state.Stage.TheVariants.{Rests, Looks, Clears, Makes, Empties, Lowers, FreeLooks, FreeClears, Uncounts, Links, Names, Hands, Begins, Enters, Withdraws, WithdrawsFrom, Leaves, Wakes}
-use Rattle.sharc_code.specs.Machine.{Machine}
-use Rattle.sharc_invariant.specs.World.{World}
-use Rattle.sharc_invariant.specs.Blocks.{Heap}
-use Rattle.sharc_invariant.specs.State.{StageStands, OnClear, OnNew, OnFree, OnSpawn, OnStart, OnExit, OnSignal, OnHold}
+use Rattle.sharc_invariant.specs.{World.World, Blocks.Heap, State.{StageStands, OnClear, OnNew, OnFree, OnSpawn, OnStart, OnExit, OnSignal, OnHold}}
 
 -- ---- instructions of one turn
 abbrev pub single : Instr → Bool

@@ -1,48 +1,16 @@
 -- A thread that stopped at a test of a sole reference found the number of references to its object, of which there is another one.
-use Rattle.std.proofs.Common.{◌≡◌, ℕ, zero, suc, ◌+◌, ◌*◌, ◌<◌, ◌≤◌, ◌⊎◌, inl, inr, Bool, true, false, List, [], ◌∷◌, Option, Some, None, is_some, if◌then◌else◌, refl, sym, ap, ◌∙◌, subst, ⊎_elim, arith, eqb-true}
+use Rattle.std.proofs.{Common.{◌≡◌, ℕ, zero, suc, ◌+◌, ◌*◌, ◌<◌, ◌≤◌, ◌⊎◌, inl, inr, Bool, true, false, List, [], ◌∷◌, Option, Some, None, is_some, if◌then◌else◌, refl, sym, ap, ◌∙◌, subst, ⊎_elim, arith, eqb-true}, lemmas.Bool.cases_eq}
 use Rattle.std.specs.Prelude.{nat_eq, slice_index, ◌==◌}
-use Rattle.std.proofs.lemmas.Bool.{cases_eq}
 use Rattle.sharc_tree.specs.declared.trap.Trap.TheVariants as traps
 use Rattle.sharc_word.specs.declared.step.TheConstants.{THREADS}
 use Rattle.sharc_count.specs.Count.{test_of}
-use Rattle.sharc_shadow.specs.declared.shadow_word.Kind.{Kind}
-use Rattle.sharc_shadow.specs.declared.shadow_word.Kind.TheVariants.{Read, Write}
-use Rattle.sharc_shadow.specs.Accesses.{note_of, site_at}
-use Rattle.sharc_shadow.specs.ShadowWord.{epoch_of}
-use Rattle.sharc_shadow.specs.Functions.{conflicts_in, noted}
-use Rattle.sharc_code.specs.declared.state.TheConstants.{FRAMES}
-use Rattle.sharc_code.specs.declared.code.Code.{Code}
-use Rattle.sharc_code.specs.declared.instr.Instr.{Instr}
+use Rattle.sharc_shadow.specs.{declared.shadow_word.Kind.Kind, declared.shadow_word.Kind.TheVariants.{Read, Write}, Accesses.{note_of, site_at}, ShadowWord.epoch_of, Functions.{conflicts_in, noted}}
+use Rattle.sharc_code.specs.{declared.state.TheConstants.FRAMES, declared.code.Code.Code, declared.instr.Instr.Instr, declared.shape.Shape.Shape, declared.state.Stop.Stop, declared.state.Stop.TheVariants.{Conflict, NoLock, NotSole, Trap}, Layout.{Fits, granules, words_of, cell_of, cell_word, count_word, granule_at, granule_of}, Machine.{Machine, Own, instr_at, act, ref, place, word, is_held, is_of_null, goes, stopped, checked, lock_checked, tested, with_own, wrote, with_note}, Opening.opening_words, Path.{turn, after, may_go, most_refs, asked_by}, Runs.{Turn, Global, IsRun, MayTurn, after_turn, put, state_now, result_of, opening_of}, Whole.{one_thread, bounds, place_after}}
 use Rattle.sharc_code.specs.declared.instr.Instr.TheVariants as instrs
-use Rattle.sharc_code.specs.declared.shape.Shape.{Shape}
-use Rattle.sharc_code.specs.declared.state.Stop.{Stop}
-use Rattle.sharc_code.specs.declared.state.Stop.TheVariants.{Conflict, NoLock, NotSole, Trap}
-use Rattle.sharc_code.specs.Layout.{Fits, granules, words_of, cell_of, cell_word, count_word, granule_at, granule_of}
-use Rattle.sharc_code.specs.Machine.{Machine, Own, instr_at, act, ref, place, word, is_held, is_of_null, goes, stopped, checked, lock_checked, tested, with_own, wrote, with_note}
-use Rattle.sharc_code.specs.Opening.{opening_words}
-use Rattle.sharc_code.specs.Path.{turn, after, may_go, most_refs, asked_by}
-use Rattle.sharc_code.specs.Runs.{Turn, Global, IsRun, MayTurn, after_turn, put, state_now, result_of, opening_of}
-use Rattle.sharc_code.specs.Whole.{one_thread, bounds, place_after}
-use Rattle.sharc_invariant.specs.Granules.{one, sum_to}
-use Rattle.sharc_invariant.specs.Types.{Targets}
-use Rattle.sharc_invariant.specs.Labels.{Labels}
-use Rattle.sharc_invariant.specs.Typed.{IsWellTyped, Fine}
-use Rattle.sharc_invariant.specs.World.{ObjectState}
-use Rattle.sharc_invariant.specs.Words.{argument_of}
-use Rattle.sharc_invariant.specs.State.{IsSmall, StageStands}
-use Rattle.sharc_invariant.specs.Opened.{first_world, first_place}
-use Rattle.sharc_invariant.specs.Objects.{objects_after}
-use Rattle.sharc_invariant.specs.MachineInvariant.{register_refers, log_refers, hand_refers, cell_refers, references_to}
-use Rattle.sharc_invariant.specs.Reports.{RunsTest, TestStands}
+use Rattle.sharc_invariant.specs.{Granules.{one, sum_to}, Types.Targets, Labels.Labels, Typed.{IsWellTyped, Fine}, World.ObjectState, Words.argument_of, State.{IsSmall, StageStands}, Opened.{first_world, first_place}, Objects.objects_after, MachineInvariant.{register_refers, log_refers, hand_refers, cell_refers, references_to}, Reports.{RunsTest, TestStands}}
 use Rattle.sharc_history_laws.specs.Reports.{OtherReference, InRegister, InArgument, InLog, InHand, InCell, FindsOthers}
-use Rattle.sharc_history_laws.proofs.Consists.{Consists, found_is}
-use Rattle.sharc_history_laws.proofs.Rules.{put_same, put_other}
-use Rattle.sharc_history_laws.proofs.Quits.{Quits, Still, Traps, is_trap, is_reporting, quits}
-use Rattle.sharc_history_laws.proofs.Single.{rests_hold}
-use Rattle.sharc_history_laws.proofs.Stands.{known_ref}
-
-yes : true ≡ false → ⊥
-yes e = cc
+use Rattle.sharc_history_laws.proofs.{Consists.{Consists, found_is}, Rules.{put_same, put_other}, Quits.{Quits, Still, Traps, is_trap, is_reporting, quits}, Single.rests_hold, Stands.known_ref}
+use Rattle.sharc_lemmas.proofs.Bools.{yes}
 
 -- ---- sums
 some_of : (n : ℕ) (f : ℕ → ℕ) → ((i : ℕ) × (i < n) × (1 ≤ f i)) ⊎ (sum_to n f ≡ 0)

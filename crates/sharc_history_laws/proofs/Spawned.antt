@@ -1,33 +1,11 @@
 -- Which threads were started and have ended, at each place of a run.
-use Rattle.std.proofs.Common.{◌≡◌, Bool, true, false, ◌||◌, List, [], ◌∷◌, is_some, refl, sym, ap, subst, arith}
+use Rattle.std.proofs.{Common.{◌≡◌, true, ◌||◌, List, [], ◌∷◌, is_some, sym, ap, subst, arith}, lemmas.List.FromFn.get_or-map-range_with_len, lemmas.Bool.or_right}
 use Rattle.std.specs.Prelude.{nat_eq, slice_index}
-use Rattle.std.proofs.lemmas.List.FromFn.{get_or-map-range_with_len}
-use Rattle.sharc_code.specs.declared.code.Code.{Code}
-use Rattle.sharc_code.specs.declared.shape.Shape.{Shape}
-use Rattle.sharc_code.specs.Laws.{RunLaws}
-use Rattle.sharc_code.specs.Layout.{Fits, state_word, words_of}
-use Rattle.sharc_code.specs.Opening.{opening_words, opens_with}
-use Rattle.sharc_code.specs.Runs.{Turn, IsRun, is_started, opening_of, words_now}
-use Rattle.sharc_code.specs.Whole.{one_thread, bounds, place_after}
-use Rattle.sharc_invariant.specs.Types.{Targets}
-use Rattle.sharc_invariant.specs.Labels.{Labels}
-use Rattle.sharc_invariant.specs.Laws.{Keeps, Begins as CodeBegins, CellsAreThere, PointersAreThere, AccessesAreAllowed}
-use Rattle.sharc_invariant.specs.State.{IsSmall}
-use Rattle.sharc_invariant.specs.Typed.{IsWellTyped}
-use Rattle.sharc_invariant.specs.Words.{is_ended}
+use Rattle.sharc_code.specs.{declared.code.Code.Code, declared.shape.Shape.Shape, Laws.RunLaws, Layout.{Fits, state_word, words_of}, Opening.{opening_words, opens_with}, Runs.{Turn, IsRun, is_started, opening_of, words_now}, Whole.{one_thread, bounds, place_after}}
+use Rattle.sharc_invariant.specs.{Types.Targets, Labels.Labels, Laws.{Keeps, Begins as CodeBegins, CellsAreThere, PointersAreThere, AccessesAreAllowed}, State.IsSmall, Typed.IsWellTyped, Words.is_ended}
 use Rattle.sharc_history_laws.specs.Threads.{ThreadsAreTold}
-use Rattle.sharc_history_laws.proofs.Consists.{Consists, consists_then, at_first}
-use Rattle.sharc_history_laws.proofs.Lists.{Newest}
-use Rattle.sharc_history_laws.proofs.Logged.{lacking}
-use Rattle.sharc_history_laws.proofs.Rules.{newest, newest_now}
-use Rattle.sharc_history_laws.proofs.Threaded.{ThreadsTold, threads_then, nobody_yet}
-
-yes : true ≡ false → ⊥
-yes e = cc
-
-or_right : (a b : Bool) → b ≡ true → (a || b) ≡ true
-or_right true b e = refl
-or_right false b e = e
+use Rattle.sharc_history_laws.proofs.{Consists.{Consists, consists_then, at_first}, Lists.Newest, Logged.lacking, Rules.{newest, newest_now}, Threaded.{ThreadsTold, threads_then, nobody_yet}}
+use Rattle.sharc_lemmas.proofs.Bools.{yes}
 
 -- ---- thread 0
 module _ (code : Code) (s : Shape) where

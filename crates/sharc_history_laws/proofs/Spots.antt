@@ -1,30 +1,13 @@
 -- Where the cell of a check lies: two checked cells of the same granule of memory are of the same object and granule to the source.
-use Rattle.std.proofs.Common.{◌≡◌, ℕ, suc, ◌+◌, ◌-◌, ◌*◌, ◌/◌, ◌<◌, ◌≤◌, ◌≢◌, true, refl, sym, ap, ◌∙◌, subst, ⊎_elim, arith}
+use Rattle.std.proofs.{Common.{◌≡◌, ℕ, suc, ◌+◌, ◌-◌, ◌*◌, ◌/◌, ◌<◌, ◌≤◌, ◌≢◌, true, refl, sym, ap, ◌∙◌, subst, ⊎_elim, arith}, lemmas.Bool.{cases_eq, cases_lt}, lemmas.Bool.Decides.nat_tests}
 use Rattle.std.specs.Prelude.{slice_index_or}
-use Rattle.std.proofs.lemmas.Bool.{cases_eq, cases_lt}
-use Rattle.std.proofs.lemmas.Bool.Decides.{nat_tests}
 use Rattle.sharc_tree.specs.declared.event.CellAt.{CellAt}
 use Rattle.sharc_tree.specs.declared.event.Object.TheVariants as objects
-use Rattle.sharc_code.specs.declared.code.Code.{Code}
-use Rattle.sharc_code.specs.declared.instr.Cell.{Cell}
+use Rattle.sharc_code.specs.{declared.code.Code.Code, declared.instr.Cell.Cell, declared.shape.Shape.Shape, Arithmetic.word_of, Layout.{Fits, granule_at, granule_of}, Machine.{Machine, int, ref, place}, Runs.Global, Says.{cell_at, global_cell, made_cell, no_global}}
 use Rattle.sharc_code.specs.declared.instr.Cell.TheVariants as cells
-use Rattle.sharc_code.specs.declared.shape.Shape.{Shape}
-use Rattle.sharc_code.specs.Arithmetic.{word_of}
-use Rattle.sharc_code.specs.Layout.{Fits, granule_at, granule_of}
-use Rattle.sharc_code.specs.Machine.{Machine, int, ref, place}
-use Rattle.sharc_code.specs.Runs.{Global}
-use Rattle.sharc_code.specs.Says.{cell_at, global_cell, made_cell, no_global}
 use Rattle.sharc_meaning.specs.Events.{granule_of as granule_in}
-use Rattle.sharc_invariant.specs.Labels.{Label, Labels, OfGlobal}
-use Rattle.sharc_invariant.specs.Laws.{CellsAreThere}
-use Rattle.sharc_invariant.specs.MachineInvariant.{IsOn}
-use Rattle.sharc_invariant.specs.State.{State, OnHold, NumberStands, object_of_cell, number_in, view_of, refs_at, types_at}
-use Rattle.sharc_invariant.specs.Typed.{IsWellTyped, AreGlobals, HasCell, IsInGlobal}
-use Rattle.sharc_invariant.specs.Types.{Targets, Field}
-use Rattle.sharc_invariant.specs.World.{World}
-use Rattle.sharc_history_laws.proofs.Shadows.{at_low}
-use Rattle.sharc_history_laws.proofs.Stands.{rn, top, known_ref, there}
-use Rattle.sharc_history_laws.proofs.Staying.{IsObject}
+use Rattle.sharc_invariant.specs.{Labels.{Label, Labels, OfGlobal}, Laws.CellsAreThere, MachineInvariant.IsOn, State.{State, OnHold, NumberStands, object_of_cell, number_in, view_of, refs_at, types_at}, Typed.{IsWellTyped, AreGlobals, HasCell, IsInGlobal}, Types.{Targets, Field}, World.World}
+use Rattle.sharc_history_laws.proofs.{Shadows.at_low, Stands.{rn, top, known_ref, there}, Staying.IsObject}
 
 -- the cell is of granule k of object o, which is granule p of memory
 pub data Spot (code : Code) (at : CellAt) (o k p : ℕ) : Type 0 where

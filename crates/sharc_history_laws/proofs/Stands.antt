@@ -1,27 +1,10 @@
 -- What the invariant says of a thread that goes on: its registers, the gate of its place, and the cells that its instruction names.
-use Rattle.std.proofs.Common.{◌≡◌, ℕ, suc, ◌+◌, ◌^◌, ◌<◌, ◌≢◌, Bool, true, false, cond, refl, sym, ap, ◌∙◌, subst, arith}
+use Rattle.std.proofs.{Common.{◌≡◌, ℕ, suc, ◌+◌, ◌^◌, ◌<◌, ◌≢◌, Bool, true, false, cond, refl, sym, ap, ◌∙◌, subst, arith}, lemmas.Bool.Decides.nat_tests}
 use Rattle.std.specs.Prelude.{slice_index, ◌==◌}
-use Rattle.std.proofs.lemmas.Bool.Decides.{nat_tests}
-use Rattle.sharc_code.specs.declared.code.Code.{Code}
-use Rattle.sharc_code.specs.declared.instr.Cell.{Cell}
+use Rattle.sharc_code.specs.{declared.code.Code.Code, declared.instr.Cell.Cell, declared.instr.Instr.Instr, declared.shape.Shape.Shape, declared.state.Stage.Stage, declared.state.Stage.TheVariants.Links, Layout.{Fits, granules}, Machine.{Machine, instr_at, ref, is_of_null}, Runs.Global}
 use Rattle.sharc_code.specs.declared.instr.Cell.TheVariants as cells
-use Rattle.sharc_code.specs.declared.instr.Instr.{Instr}
 use Rattle.sharc_code.specs.declared.instr.Instr.TheVariants as instrs
-use Rattle.sharc_code.specs.declared.shape.Shape.{Shape}
-use Rattle.sharc_code.specs.declared.state.Stage.{Stage}
-use Rattle.sharc_code.specs.declared.state.Stage.TheVariants.{Links}
-use Rattle.sharc_code.specs.Layout.{Fits, granules}
-use Rattle.sharc_code.specs.Machine.{Machine, instr_at, ref, is_of_null}
-use Rattle.sharc_code.specs.Runs.{Global}
-use Rattle.sharc_invariant.specs.Types.{Targets, ObjectType, StaticType, Field}
-use Rattle.sharc_invariant.specs.Labels.{Sole, Refers, Label, Labels}
-use Rattle.sharc_invariant.specs.Typed.{IsWellTyped, HasCell, HasBase}
-use Rattle.sharc_invariant.specs.World.{RegisterOf, In, Slot, Sole as IsSole, World, ObjectState, in_ref}
-use Rattle.sharc_invariant.specs.Words.{lang_of, is_freed}
-use Rattle.sharc_invariant.specs.Cells.{IsThere}
-use Rattle.sharc_invariant.specs.State.{State, Runs, View, TopStands, EntryStands, GateStands, OnHold, view_of, label_now, refs_at, types_at}
-use Rattle.sharc_invariant.specs.MachineInvariant.{IsOn}
-use Rattle.sharc_invariant.specs.Laws.{CellsAreThere}
+use Rattle.sharc_invariant.specs.{Types.{Targets, ObjectType, StaticType, Field}, Labels.{Sole, Refers, Label, Labels}, Typed.{IsWellTyped, HasCell, HasBase}, World.{RegisterOf, In, Slot, Sole as IsSole, World, ObjectState, in_ref}, Words.{lang_of, is_freed}, Cells.IsThere, State.{State, Runs, View, TopStands, EntryStands, GateStands, OnHold, view_of, label_now, refs_at, types_at}, MachineInvariant.IsOn, Laws.CellsAreThere}
 
 -- ---- stages at which no block is to be linked
 label_held : (l : Label) (i : Instr) (stage : Stage) → OnHold stage → label_now l i stage ≡ l

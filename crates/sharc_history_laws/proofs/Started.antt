@@ -1,63 +1,21 @@
 -- The first event of a thread is the Started of the function and the argument with which an earlier Spawn started it, or of main.
-use Rattle.std.proofs.Common.{◌≡◌, ℕ, ℤ, pos, suc, ◌<◌, ◌≢◌, ◌⊎◌, inl, inr, Bool, true, false, ◌&&◌, length, List, [], ◌∷◌, ◌++◌, reverse, Option, Some, None, if◌then◌else◌, refl, sym, ap, ◌∙◌, subst, ⊎_elim, arith, eqb-true}
+use Rattle.std.proofs.{Common.{◌≡◌, ℕ, ℤ, pos, suc, ◌<◌, ◌≢◌, ◌⊎◌, inl, inr, Bool, true, false, ◌&&◌, length, List, [], ◌∷◌, ◌++◌, reverse, Option, Some, None, if◌then◌else◌, refl, sym, ap, ◌∙◌, subst, ⊎_elim, arith, eqb-true}, lemmas.Bool.cases_eq, lemmas.Bool.Decides.nat_tests, lemmas.List.{get_or_append_left, get_or_push, length_push}, lemmas.List.FromFn.get_or-map-range_with_len}
 use Rattle.std.specs.Prelude.{slice_index, nat_lt, nat_eq, nat_le, ◌==◌, Any}
-use Rattle.std.proofs.lemmas.Bool.{cases_eq}
-use Rattle.std.proofs.lemmas.Bool.Decides.{nat_tests}
-use Rattle.std.proofs.lemmas.List.{get_or_append_left, get_or_push, length_push}
-use Rattle.std.proofs.lemmas.List.FromFn.{get_or-map-range_with_len}
 use Rattle.sharc_word.specs.declared.step.TheConstants.{THREADS}
 use Rattle.sharc_word.specs.declared.step.WordOp.TheVariants as ops
 use Rattle.sharc_tree.specs.declared.event.Act.TheVariants as acts
 use Rattle.sharc_tree.specs.declared.event.SourceEvent.{SourceEvent}
-use Rattle.sharc_code.specs.declared.code.Code.{Code}
-use Rattle.sharc_code.specs.declared.code.Parameter.{Parameter}
+use Rattle.sharc_code.specs.{declared.code.Code.Code, declared.code.Parameter.Parameter, declared.instr.Instr.Instr, declared.instr.Register.Register, declared.shape.Shape.Shape, declared.state.Stage.Stage, declared.state.Stage.TheVariants.{Rests, Begins, Enters}, Arithmetic.word_of, Laws.RunLaws, Layout.{Fits, words_of, state_word, function_word, argument_word}, Machine.{Machine, instr_at, act, start, spawn, int, ref, argument, function_of}, Opening.{opening_words, opens_with, opening_cell, first_global}, Path.{turn, after, asked_by}, Runs.{Turn, Global, IsRun, MayTurn, put, state_now, result_of, is_started, opening_of}, Says.{said, speaks_of, reference, started_with, in_start, argument_of, of_argument}, StandingLaws.SpawnsStart, Stages.begins_of, Whole.{one_thread, bounds, place_after}}
 use Rattle.sharc_code.specs.declared.code.Parameter.TheVariants as parameters
-use Rattle.sharc_code.specs.declared.instr.Instr.{Instr}
 use Rattle.sharc_code.specs.declared.instr.Instr.TheVariants as instrs
-use Rattle.sharc_code.specs.declared.instr.Register.{Register}
 use Rattle.sharc_code.specs.declared.instr.Register.TheVariants as registers
-use Rattle.sharc_code.specs.declared.shape.Shape.{Shape}
-use Rattle.sharc_code.specs.declared.state.Stage.{Stage}
-use Rattle.sharc_code.specs.declared.state.Stage.TheVariants.{Rests, Begins, Enters}
-use Rattle.sharc_code.specs.Arithmetic.{word_of}
-use Rattle.sharc_code.specs.Laws.{RunLaws}
-use Rattle.sharc_code.specs.Layout.{Fits, words_of, first_shadow, first_cell, state_word, function_word, argument_word}
-use Rattle.sharc_code.specs.Machine.{Machine, instr_at, act, start, spawn, int, ref, argument, function_of}
-use Rattle.sharc_code.specs.Opening.{opening_words, opens_with, opening_cell, first_global}
-use Rattle.sharc_code.specs.Path.{turn, after, asked_by}
-use Rattle.sharc_code.specs.Runs.{Turn, Global, IsRun, MayTurn, put, state_now, result_of, is_started, opening_of}
-use Rattle.sharc_code.specs.Says.{said, speaks_of, reference, started_with, in_start, argument_of, of_argument}
-use Rattle.sharc_code.specs.StandingLaws.{SpawnsStart}
-use Rattle.sharc_code.specs.Stages.{begins_of}
-use Rattle.sharc_code.specs.Whole.{one_thread, bounds, place_after}
-use Rattle.sharc_gen.specs.Consistent.{Elements, said_now}
-use Rattle.sharc_gen.specs.OfRuns.{table_of}
-use Rattle.sharc_meaning.specs.Events.{Stands, is_of, events_of}
-use Rattle.sharc_meaning.specs.Obeys.{History}
-use Rattle.sharc_invariant.specs.Types.{Targets}
-use Rattle.sharc_invariant.specs.Labels.{Labels}
-use Rattle.sharc_invariant.specs.Typed.{IsWellTyped, Fine}
-use Rattle.sharc_invariant.specs.World.{ArgumentOf, In, in_ref}
-use Rattle.sharc_invariant.specs.Words.{is_unread, if_reference}
+use Rattle.sharc_gen.specs.{Consistent.{Elements, said_now}, OfRuns.table_of}
+use Rattle.sharc_meaning.specs.{Events.{Stands, is_of, events_of}, Obeys.History}
+use Rattle.sharc_invariant.specs.{Types.Targets, Labels.Labels, Typed.{IsWellTyped, Fine}, World.{ArgumentOf, In, in_ref}, Words.{is_unread, if_reference}, State.{IsSmall, StageStands, OnSpawn, OnHold, view_of, refs_at, types_at}, MachineInvariant.IsOn, Laws.{Keeps, Begins as CodeBegins, CellsAreThere, PointersAreThere, AccessesAreAllowed}}
 use Rattle.sharc_invariant.specs.Words as Words
-use Rattle.sharc_invariant.specs.State.{IsSmall, StageStands, OnSpawn, OnHold, view_of, refs_at, types_at}
-use Rattle.sharc_invariant.specs.MachineInvariant.{IsOn}
-use Rattle.sharc_invariant.specs.Laws.{Keeps, Begins as CodeBegins, CellsAreThere, PointersAreThere, AccessesAreAllowed}
-use Rattle.sharc_history_laws.specs.History.{history_of}
-use Rattle.sharc_history_laws.specs.Starts.{IsSpawnedByCode, IsStartedBy}
-use Rattle.sharc_history_laws.proofs.Consists.{Consists, consists_then, at_first, found_is, same_table}
-use Rattle.sharc_history_laws.proofs.Contents.{back_again, fits_in}
-use Rattle.sharc_history_laws.proofs.Given.{spares_given, given_stays}
-use Rattle.sharc_history_laws.proofs.Holding.{own_push}
-use Rattle.sharc_history_laws.proofs.Lists.{Newest, Split, Last, Earlier, split, reverse_push}
-use Rattle.sharc_history_laws.proofs.Locking.{is_own}
-use Rattle.sharc_history_laws.proofs.Rules.{pushed, newest, newest_now, number_is, put_same, put_other}
-use Rattle.sharc_history_laws.proofs.Stands.{live_slot, top, rn}
-use Rattle.sharc_history_laws.proofs.Tables.{header_of}
-use Rattle.sharc_history_laws.proofs.Valued.{same_elements, reference_as}
-
-yes : true ≡ false → ⊥
-yes e = cc
+use Rattle.sharc_history_laws.specs.{History.history_of, Starts.{IsSpawnedByCode, IsStartedBy}}
+use Rattle.sharc_history_laws.proofs.{Consists.{Consists, consists_then, at_first, found_is, same_table}, Contents.{back_again, fits_in}, Given.{spares_given, given_stays}, Holding.own_push, Lists.{Newest, Split, Last, Earlier, split, reverse_push}, Locking.is_own, Rules.{pushed, newest, newest_now, number_is, put_same, put_other}, Stands.{live_slot, top, rn}, Tables.header_of, Valued.{same_elements, reference_as}}
+use Rattle.sharc_lemmas.proofs.Bools.{yes}
 
 -- ---- what a thread was given, by the events
 abbrev pub IsStart : ℕ → ℕ → ℤ → SourceEvent → Type 0

@@ -1,47 +1,15 @@
 -- An object in whose granules bits stand stays, and no event of a turn is about its beginning or its end.
-use Rattle.std.proofs.Common.{◌≡◌, ℕ, ◌+◌, ◌*◌, ◌<◌, ◌≢◌, Bool, true, false, ◌||◌, List, ◌∷◌, Option, Some, None, refl, sym, ap, ◌∙◌, subst, ⊎_elim, arith}
+use Rattle.std.proofs.{Common.{◌≡◌, ℕ, ◌+◌, ◌*◌, ◌<◌, ◌≢◌, Bool, true, false, ◌||◌, List, ◌∷◌, Option, Some, None, refl, sym, ap, ◌∙◌, subst, ⊎_elim, arith}, lemmas.Bool.{cases_eq, or_from as or_no}, lemmas.Bool.Decides.nat_tests}
 use Rattle.std.specs.Prelude.{◌==◌}
-use Rattle.std.proofs.lemmas.Bool.{cases_eq}
-use Rattle.std.proofs.lemmas.Bool.Decides.{nat_tests}
-use Rattle.sharc_tree.specs.declared.event.Object.{Object}
+use Rattle.sharc_tree.specs.{declared.event.Object.Object, declared.event.SourceEvent.SourceEvent}
 use Rattle.sharc_tree.specs.declared.event.Object.TheVariants as objects
-use Rattle.sharc_tree.specs.declared.event.SourceEvent.{SourceEvent}
 use Rattle.sharc_shadow.specs.ShadowWord.{stands}
-use Rattle.sharc_code.specs.declared.code.Code.{Code}
-use Rattle.sharc_code.specs.declared.instr.Instr.{Instr}
+use Rattle.sharc_code.specs.{declared.code.Code.Code, declared.instr.Instr.Instr, declared.shape.Shape.Shape, declared.state.Stage.Stage, declared.state.Stage.TheVariants.{Uncounts, Leaves as Leaving}, Layout.granules, Machine.{Machine, instr_at, ref}, Path.turn, Runs.{Turn, Global, result_of, paired, told_by, after_turn}, Says.said, Whole.{Erase, one_thread, bounds, place_after}}
 use Rattle.sharc_code.specs.declared.instr.Instr.TheVariants as instrs
-use Rattle.sharc_code.specs.declared.shape.Shape.{Shape}
-use Rattle.sharc_code.specs.declared.state.Stage.{Stage}
-use Rattle.sharc_code.specs.declared.state.Stage.TheVariants.{Uncounts, Leaves as Leaving}
-use Rattle.sharc_code.specs.Layout.{granules}
-use Rattle.sharc_code.specs.Machine.{Machine, instr_at, ref}
-use Rattle.sharc_code.specs.Path.{turn}
-use Rattle.sharc_code.specs.Runs.{Turn, Global, result_of, paired, told_by, after_turn}
-use Rattle.sharc_code.specs.Says.{said}
-use Rattle.sharc_code.specs.Whole.{Erase, one_thread, bounds, place_after}
-use Rattle.sharc_meaning.specs.Events.{begins, frees, is_number, made_by, given_by, freed_by}
-use Rattle.sharc_meaning.specs.Store.{is_gone}
-use Rattle.sharc_invariant.specs.Blocks.{Built, Live}
-use Rattle.sharc_invariant.specs.Labels.{Labels}
-use Rattle.sharc_invariant.specs.MachineInvariant.{IsOn}
-use Rattle.sharc_invariant.specs.State.{State}
-use Rattle.sharc_invariant.specs.Types.{Targets, cells_of}
-use Rattle.sharc_invariant.specs.Words.{has_withdrawn, is_ended}
-use Rattle.sharc_invariant.specs.World.{World, ObjectState}
-use Rattle.sharc_history_laws.proofs.Acts.{given_at, freed_in, freed_at, About, about}
-use Rattle.sharc_history_laws.proofs.Cleared.{given_cleared, freed_cleared}
-use Rattle.sharc_history_laws.proofs.Consists.{Consists, objects_then, header_built}
-use Rattle.sharc_history_laws.proofs.Going.{is_exit}
-use Rattle.sharc_history_laws.proofs.Leaving.{gone_said, not_gone, leaves_at}
-use Rattle.sharc_history_laws.proofs.Remaining.{word_at}
-use Rattle.sharc_history_laws.proofs.Rules.{same_behind, low_numbers}
-use Rattle.sharc_history_laws.proofs.Tables.{header_of, length_kept}
-use Rattle.sharc_history_laws.proofs.Wholes.{TheLaws, Typed, RunOf, Whole, fresh_of, next_consists}
-use Rattle.sharc_history_laws.proofs.Withdrawing.{has_left}
-use Rattle.sharc_history_laws.proofs.Writes.{writes}
-
-yes : true ≡ false → ⊥
-yes e = cc
+use Rattle.sharc_meaning.specs.{Events.{begins, frees, is_number, made_by, given_by, freed_by}, Store.is_gone}
+use Rattle.sharc_invariant.specs.{Blocks.{Built, Live}, Labels.Labels, MachineInvariant.IsOn, State.State, Types.{Targets, cells_of}, Words.{has_withdrawn, is_ended}, World.{World, ObjectState}}
+use Rattle.sharc_history_laws.proofs.{Acts.{given_at, freed_in, freed_at, About, about}, Cleared.{given_cleared, freed_cleared}, Consists.{Consists, objects_then, header_built}, Going.is_exit, Leaving.{gone_said, not_gone, leaves_at}, Remaining.word_at, Rules.{same_behind, low_numbers}, Tables.{header_of, length_kept}, Wholes.{TheLaws, Typed, RunOf, Whole, fresh_of, next_consists}, Withdrawing.has_left, Writes.writes}
+use Rattle.sharc_lemmas.proofs.Bools.{yes}
 
 number_no : (n : ℕ) (o : Option ℕ) → (o ≡ Some n → ⊥) → is_number n o ≡ false
 number_no n None never = refl
@@ -49,10 +17,6 @@ number_no n (Some k) never = let ne : n ≡ k → ⊥ = λ e. never (ap (λ j. S
   where
     differ : (a b : ℕ) → (a ≡ b → ⊥) → (a == b) ≡ false
     differ a b ne = grind (arith, nat_tests)
-
-or_no : (a b : Bool) → a ≡ false → b ≡ false → (a || b) ≡ false
-or_no true b e f = e
-or_no false b e f = f
 
 -- the object of this number, where it is one that was made
 abbrev pub IsObject : Object → ℕ → Type 0

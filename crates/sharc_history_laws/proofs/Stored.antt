@@ -1,41 +1,15 @@
 -- The source events of each run of typed code may come one after the other, but that nothing is said of those that tell who waits.
-use Rattle.std.proofs.Common.{◌≡◌, true, false, List, [], ◌∷◌, reverse, Option, Some, None, refl, sym, subst}
+use Rattle.std.proofs.Common.{◌≡◌, false, List, [], ◌∷◌, reverse, Option, Some, None, refl, sym, subst}
 use Rattle.sharc_tree.specs.declared.event.SourceEvent.{SourceEvent}
 use Rattle.sharc_ctype.specs.Resolved.{Resolution}
-use Rattle.sharc_code.specs.declared.code.Code.{Code}
-use Rattle.sharc_code.specs.declared.shape.Shape.{Shape}
-use Rattle.sharc_code.specs.Laws.{RunLaws}
-use Rattle.sharc_code.specs.Layout.{Fits}
-use Rattle.sharc_code.specs.Opening.{opening_words}
-use Rattle.sharc_code.specs.Runs.{Turn, IsRun, result_of, opening_of}
-use Rattle.sharc_code.specs.Whole.{one_thread, bounds, place_after}
+use Rattle.sharc_code.specs.{declared.code.Code.Code, declared.shape.Shape.Shape, Laws.RunLaws, Layout.Fits, Opening.opening_words, Runs.{Turn, IsRun, result_of, opening_of}, Whole.{one_thread, bounds, place_after}}
 use Rattle.sharc_code_laws.specs.Told.{StatesAreTold}
-use Rattle.sharc_gen.specs.Consistent.{said_now}
-use Rattle.sharc_gen.specs.OfRuns.{table_of}
-use Rattle.sharc_meaning.specs.Events.{Stands}
-use Rattle.sharc_meaning.specs.Obeys.{History}
-use Rattle.sharc_meaning.specs.Store.{MayCome}
-use Rattle.sharc_invariant.specs.Types.{Targets}
-use Rattle.sharc_invariant.specs.Labels.{Labels}
-use Rattle.sharc_invariant.specs.Typed.{IsWellTyped}
-use Rattle.sharc_invariant.specs.State.{IsSmall}
-use Rattle.sharc_invariant.specs.Laws.{Keeps, Begins as CodeBegins, CellsAreThere, PointersAreThere, AccessesAreAllowed, StateStands}
-use Rattle.sharc_history_laws.specs.History.{history_of}
-use Rattle.sharc_history_laws.specs.Stores.{BeginsWith, is_about_waiters}
-use Rattle.sharc_history_laws.proofs.Consists.{Consists, consists_then, objects_then, at_first}
-use Rattle.sharc_history_laws.proofs.Legal.{IsLegal, Told, legal_now, may_mutex}
-use Rattle.sharc_history_laws.proofs.Lists.{Newest, Split, Last, Earlier, split}
-use Rattle.sharc_history_laws.proofs.Living.{lives_told}
-use Rattle.sharc_history_laws.proofs.Locking.{logs_then}
-use Rattle.sharc_history_laws.proofs.Logged.{has_then}
-use Rattle.sharc_history_laws.proofs.Mutual.{Mutual, MayMutex, mutual_then, nobody_holds}
-use Rattle.sharc_history_laws.proofs.Opening.{contents_first}
-use Rattle.sharc_history_laws.proofs.Rules.{pushed, newest, newest_now, about_now}
-use Rattle.sharc_history_laws.proofs.Threaded.{threads_then, nobody_yet}
-use Rattle.sharc_history_laws.proofs.Valued.{contents_then}
-
-yes : true ≡ false → ⊥
-yes e = cc
+use Rattle.sharc_gen.specs.{Consistent.said_now, OfRuns.table_of}
+use Rattle.sharc_meaning.specs.{Events.Stands, Obeys.History, Store.MayCome}
+use Rattle.sharc_invariant.specs.{Types.Targets, Labels.Labels, Typed.IsWellTyped, State.IsSmall, Laws.{Keeps, Begins as CodeBegins, CellsAreThere, PointersAreThere, AccessesAreAllowed, StateStands}}
+use Rattle.sharc_history_laws.specs.{History.history_of, Stores.{BeginsWith, is_about_waiters}}
+use Rattle.sharc_history_laws.proofs.{Consists.{Consists, consists_then, objects_then, at_first}, Legal.{IsLegal, Told, legal_now, may_mutex}, Lists.{Newest, Split, Last, Earlier, split}, Living.lives_told, Locking.logs_then, Logged.has_then, Mutual.{Mutual, MayMutex, mutual_then, nobody_holds}, Opening.contents_first, Rules.{pushed, newest, newest_now, about_now}, Threaded.{threads_then, nobody_yet}, Valued.contents_then}
+use Rattle.sharc_lemmas.proofs.Bools.{yes}
 
 -- each event of the history, but those that tell who waits
 abbrev pub EachMayCome : Resolution → History → Type 0

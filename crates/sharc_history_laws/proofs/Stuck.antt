@@ -2,47 +2,18 @@
 use Rattle.std.proofs.Common.{◌≡◌, ℕ, ℤ, pos, negsuc, zero, suc, ◌≢◌, ◌⊎◌, inl, inr, Bool, true, false, not, ◌||◌, List, nat_lt, ltb-true, Some, None, if◌then◌else◌, refl, sym, ap, ◌∙◌, subst, ⊎_elim, arith, eqb-true}
 use Rattle.std.specs.Prelude.{slice_index, ◌==◌}
 use Rattle.sharc_word.specs.declared.step.TheConstants.{THREADS}
-use Rattle.sharc_tree.specs.declared.event.Act.{Act}
-use Rattle.sharc_tree.specs.declared.event.SourceEvent.{SourceEvent}
+use Rattle.sharc_tree.specs.{declared.event.Act.Act, declared.event.SourceEvent.SourceEvent}
 use Rattle.sharc_ctype.specs.Resolved.{Resolution}
 use Rattle.sharc_cond.specs.Waiters.{waits_in}
-use Rattle.sharc_code.specs.declared.code.Code.{Code}
-use Rattle.sharc_code.specs.declared.instr.Cell.{Cell}
-use Rattle.sharc_code.specs.declared.instr.Instr.{Instr}
+use Rattle.sharc_code.specs.{declared.code.Code.Code, declared.instr.Cell.Cell, declared.instr.Instr.Instr, declared.shape.Shape.Shape, Layout.{Fits, state_word}, Machine.{Machine, instr_at, int, word}, Runs.{Turn, Global}, Says.cell_at, Waits.{asks_for, joins, held_up}, Whole.{CheckedRun, place_after, Waits}}
 use Rattle.sharc_code.specs.declared.instr.Instr.TheVariants as instrs
-use Rattle.sharc_code.specs.declared.shape.Shape.{Shape}
 use Rattle.sharc_code.specs.declared.state.Wait.TheVariants as waits
-use Rattle.sharc_code.specs.Layout.{Fits, state_word}
-use Rattle.sharc_code.specs.Machine.{Machine, instr_at, int, word}
-use Rattle.sharc_code.specs.Runs.{Turn, Global}
-use Rattle.sharc_code.specs.Says.{cell_at}
-use Rattle.sharc_code.specs.Waits.{asks_for, joins, held_up}
-use Rattle.sharc_code.specs.Whole.{CheckedRun, place_after, Waits}
 use Rattle.sharc_meaning.specs.Store.{MayCome, is_locked, is_waiter, went}
-use Rattle.sharc_invariant.specs.Types.{Targets}
-use Rattle.sharc_invariant.specs.Labels.{Labels}
-use Rattle.sharc_invariant.specs.Typed.{IsWellTyped, Fine, IsNotSole}
-use Rattle.sharc_invariant.specs.State.{IsSmall, StageStands}
-use Rattle.sharc_invariant.specs.MachineInvariant.{IsOn}
-use Rattle.sharc_invariant.specs.Laws.{CellsAreThere, StateStands}
-use Rattle.sharc_history_laws.specs.Awaits.{AwaitedIsHeld, AwaitedIsNotGone}
-use Rattle.sharc_history_laws.specs.History.{history_of}
-use Rattle.sharc_history_laws.specs.Stuck.{act_awaited}
-use Rattle.sharc_history_laws.proofs.Contents.{word_of_cell}
-use Rattle.sharc_history_laws.proofs.Emptying.{IsEmptied}
-use Rattle.sharc_history_laws.proofs.Mutual.{locked_is}
+use Rattle.sharc_invariant.specs.{Types.Targets, Labels.Labels, Typed.{IsWellTyped, Fine, IsNotSole}, State.{IsSmall, StageStands}, MachineInvariant.IsOn, Laws.{CellsAreThere, StateStands}}
+use Rattle.sharc_history_laws.specs.{Awaits.{AwaitedIsHeld, AwaitedIsNotGone}, History.history_of, Stuck.act_awaited}
+use Rattle.sharc_history_laws.proofs.{Contents.word_of_cell, Emptying.IsEmptied, Mutual.locked_is, Queued.{waits_by, waiter_is}, Rules.newest, Shared.number_of, Single.rests_hold, Sparing.holds_waiters, Stored.Stored, Unemptied.not_emptied, Woken.Awaited}
 use Rattle.sharc_history_laws.proofs.Placed as Placed
-use Rattle.sharc_history_laws.proofs.Queued.{waits_by, waiter_is}
-use Rattle.sharc_history_laws.proofs.Rules.{newest}
-use Rattle.sharc_history_laws.proofs.Shared.{number_of}
-use Rattle.sharc_history_laws.proofs.Single.{rests_hold}
-use Rattle.sharc_history_laws.proofs.Sparing.{holds_waiters}
-use Rattle.sharc_history_laws.proofs.Stored.{Stored}
-use Rattle.sharc_history_laws.proofs.Unemptied.{not_emptied}
-use Rattle.sharc_history_laws.proofs.Woken.{Awaited}
-
-yes : true ≡ false → ⊥
-yes e = cc
+use Rattle.sharc_lemmas.proofs.Bools.{yes}
 
 not_zero : (n : ℕ) → not (n == 0) ≡ true → n ≢ 0
 not_zero zero e z = yes (sym e)

@@ -1,39 +1,17 @@
 -- The elements of objects by the source events are those that the length words of live objects hold.
-use Rattle.std.proofs.Common.{◌≡◌, ℕ, zero, suc, ◌+◌, ◌*◌, ◌%◌, ◌^◌, ◌<◌, ◌≤◌, ◌≢◌, ◌⊎◌, inl, inr, Bool, true, false, List, [], ◌∷◌, Option, Some, None, if◌then◌else◌, refl, sym, ap, ◌∙◌, subst, ⊎_elim, arith, eqb-true}
-use Rattle.std.specs.Prelude.{slice_index, slice_set, nat_eq, ◌==◌, ◌||◌}
-use Rattle.std.proofs.lemmas.Bool.{cases_eq, cases_lt}
-use Rattle.std.proofs.lemmas.Bool.Decides.{nat_tests}
-use Rattle.std.proofs.lemmas.List.{get_or-set_other}
-use Rattle.sharc_word.specs.declared.step.WordStep.{WordStep}
-use Rattle.sharc_word.specs.declared.step.WordEvent.{WordEvent}
-use Rattle.sharc_word.specs.Words.{word_after, words_after_step}
+use Rattle.std.proofs.{Common.{◌≡◌, ℕ, zero, suc, ◌+◌, ◌*◌, ◌%◌, ◌^◌, ◌<◌, ◌≤◌, ◌≢◌, ◌⊎◌, inl, inr, Bool, true, false, List, [], ◌∷◌, Option, Some, None, if◌then◌else◌, refl, sym, ap, ◌∙◌, subst, ⊎_elim, arith, eqb-true}, lemmas.Bool.{cases_eq, cases_lt}, lemmas.Bool.Decides.nat_tests, lemmas.List.get_or-set_other}
+use Rattle.std.specs.Prelude.{slice_index, nat_eq, ◌==◌, ◌||◌}
+use Rattle.sharc_word.specs.{declared.step.WordStep.WordStep, declared.step.WordEvent.WordEvent, Words.{word_after, words_after_step}}
 use Rattle.sharc_tree.specs.declared.event.SourceEvent.{SourceEvent}
-use Rattle.sharc_granule.specs.State.{NewView}
-use Rattle.sharc_granule.specs.declared.stage.Stage.{Stage as NewStage}
+use Rattle.sharc_granule.specs.{State.NewView, declared.stage.Stage.{Stage as NewStage}}
 use Rattle.sharc_granule.specs.declared.stage.Stage.TheVariants as news
 use Rattle.sharc_cond.specs.Waiters.{waits_in}
-use Rattle.sharc_code.specs.declared.code.Code.{Code}
-use Rattle.sharc_code.specs.declared.instr.Cell.{Cell}
-use Rattle.sharc_code.specs.declared.instr.Register.{Register}
-use Rattle.sharc_code.specs.declared.instr.Instr.{Instr}
+use Rattle.sharc_code.specs.{declared.code.Code.Code, declared.instr.Cell.Cell, declared.instr.Register.Register, declared.instr.Instr.Instr, declared.shape.Shape.Shape, declared.state.Stage.Stage, declared.state.Stage.TheVariants.{Makes, Uncounts, Begins, Enters, Withdraws, WithdrawsFrom, Leaves as Leaving, Wakes}, Layout.first_cell, Machine.{Machine, Turn, Local, Asks, ref}, Path.asked_by, Runs.{Global, put, words_now, step_of}, Says.{said, reference, number_of, take_local, nobody, in_signal, in_exit, in_spawn, in_start, in_free, in_new, new_event}}
 use Rattle.sharc_code.specs.declared.instr.Instr.TheVariants as instrs
-use Rattle.sharc_code.specs.declared.shape.Shape.{Shape}
-use Rattle.sharc_code.specs.declared.state.Stage.{Stage}
-use Rattle.sharc_code.specs.declared.state.Stage.TheVariants.{Makes, Uncounts, Begins, Enters, Withdraws, WithdrawsFrom, Leaves as Leaving, Wakes}
-use Rattle.sharc_code.specs.Layout.{first_cell}
-use Rattle.sharc_code.specs.Machine.{Machine, Turn, Local, Asks, ref}
-use Rattle.sharc_code.specs.Path.{asked_by}
-use Rattle.sharc_code.specs.Runs.{Global, put, words_now, step_of}
-use Rattle.sharc_code.specs.Says.{said, reference, number_of, take_local, nobody, in_signal, in_exit, in_spawn, in_start, in_free, in_new, new_event}
 use Rattle.sharc_gen.specs.Consistent.{Elements, elements_told}
-use Rattle.sharc_invariant.specs.Types.{Targets}
-use Rattle.sharc_invariant.specs.Labels.{Labels}
-use Rattle.sharc_invariant.specs.World.{ObjectState, World}
-use Rattle.sharc_invariant.specs.Words.{length_at, cell_at}
-use Rattle.sharc_invariant.specs.Blocks.{Heap, Built, Live}
-use Rattle.sharc_invariant.specs.Objects.{objects_behind, made_behind, new_behind, freed_behind, owned, gone, type_held}
-use Rattle.sharc_invariant.specs.State.{State}
+use Rattle.sharc_invariant.specs.{Types.Targets, Labels.Labels, World.{ObjectState, World}, Words.{length_at, cell_at}, Blocks.{Built, Live}, Objects.{objects_behind, made_behind, new_behind, freed_behind, owned, gone, type_held}, State.State}
 use Rattle.sharc_history_laws.proofs.Writes.{Wrote, Leaves, Low, CountOf, InCell, InBlock, Writes}
+use Rattle.sharc_lemmas.proofs.Lists.{set_same}
 
 -- ---- the object that a turn makes
 abbrev pub header_at : NewStage → Option ℕ
@@ -206,11 +184,6 @@ module _ (ls : Labels) (t : ℕ) (m m' : Machine) (f : ℕ → ObjectState) (o :
   was_live _ given h = inl h
 
 -- ---- length words
-set_same : (words : List ℕ) (n v : ℕ) → v ≡ slice_index words n → slice_index (slice_set words n v) n ≡ slice_index words n
-set_same [] n v e = refl
-set_same (w ∷ ws) zero v e = e
-set_same (w ∷ ws) (suc n) v e = set_same ws n v e
-
 pub step_leaves : (words : List ℕ) (step : WordStep) (w : ℕ) → ((v : ℕ) → word_after step.op v ≡ v) → slice_index (words_after_step words step) w ≡ slice_index words w
 step_leaves words step w keeps =
     ⊎_elim

@@ -1,23 +1,14 @@
 -- Which turns tell that a thread was spawned, or is gone, and which tell a change of a cell.
 use Rattle.std.proofs.Common.{◌≡◌, ℕ, zero, suc, Bool, true, false, Option, Some, None, if◌then◌else◌, refl}
 use Rattle.std.specs.Prelude.{◌==◌, ◌||◌}
-use Rattle.sharc_tree.specs.declared.event.Act.{Act}
+use Rattle.sharc_tree.specs.{declared.event.Act.Act, declared.event.CellAt.CellAt, declared.event.SourceEvent.SourceEvent}
 use Rattle.sharc_tree.specs.declared.event.Act.TheVariants as acts
-use Rattle.sharc_tree.specs.declared.event.CellAt.{CellAt}
-use Rattle.sharc_tree.specs.declared.event.SourceEvent.{SourceEvent}
 use Rattle.sharc_tree.specs.declared.event.Taken.TheVariants as takens
-use Rattle.sharc_granule.specs.State.{NewView}
-use Rattle.sharc_granule.specs.declared.stage.Stage.{Stage as NewStage}
+use Rattle.sharc_granule.specs.{State.NewView, declared.stage.Stage.{Stage as NewStage}}
 use Rattle.sharc_granule.specs.declared.stage.Stage.TheVariants as news
 use Rattle.sharc_cond.specs.Waiters.{waits_in}
-use Rattle.sharc_code.specs.declared.code.Code.{Code}
-use Rattle.sharc_code.specs.declared.instr.Cell.{Cell}
-use Rattle.sharc_code.specs.declared.instr.Instr.{Instr}
+use Rattle.sharc_code.specs.{declared.code.Code.Code, declared.instr.Cell.Cell, declared.instr.Instr.Instr, declared.state.Stage.Stage, declared.state.Stage.TheVariants.{Makes, Uncounts, Enters, Wakes}, Machine.{Machine, ref}, Says.{said, take_local, nobody, in_signal, in_start, in_free, in_new, new_event}}
 use Rattle.sharc_code.specs.declared.instr.Instr.TheVariants as instrs
-use Rattle.sharc_code.specs.declared.state.Stage.{Stage}
-use Rattle.sharc_code.specs.declared.state.Stage.TheVariants.{Makes, Uncounts, Enters, Wakes}
-use Rattle.sharc_code.specs.Machine.{Machine, ref}
-use Rattle.sharc_code.specs.Says.{said, take_local, nobody, in_signal, in_start, in_free, in_new, new_event}
 use Rattle.sharc_meaning.specs.Store.{is_spawn, is_gone, cell_changed}
 use Rattle.sharc_history_laws.proofs.Acts.{access_said}
 

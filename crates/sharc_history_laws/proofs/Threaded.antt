@@ -1,68 +1,27 @@
 -- Who was started, and who has ended, by the events of a run.
-use Rattle.std.proofs.Common.{◌≡◌, ℕ, ℤ, pos, ◌+◌, ◌<◌, ◌⊎◌, inl, inr, Bool, true, false, ◌||◌, ◌&&◌, length, List, [], ◌∷◌, reverse, Option, Some, None, if◌then◌else◌, refl, sym, ap, ◌∙◌, subst, ⊎_elim, arith, eqb-true}
-use Rattle.std.specs.Prelude.{slice_index, nat_lt, nat_eq, ◌==◌}
-use Rattle.std.specs.List.{list_any}
-use Rattle.std.proofs.lemmas.Bool.{cases_eq}
-use Rattle.std.proofs.lemmas.Bool.Decides.{nat_tests}
+use Rattle.std.proofs.{Common.{◌≡◌, ℕ, ℤ, pos, ◌+◌, ◌<◌, ◌⊎◌, Bool, true, false, ◌||◌, ◌&&◌, length, List, [], ◌∷◌, reverse, Option, Some, None, if◌then◌else◌, refl, sym, ap, ◌∙◌, subst, ⊎_elim, arith, eqb-true}, lemmas.Bool.{cases_eq, or_right}, lemmas.Bool.Decides.nat_tests}
+use Rattle.std.specs.{Prelude.{slice_index, nat_lt, nat_eq, ◌==◌}, List.list_any}
 use Rattle.sharc_word.specs.declared.step.TheConstants.{THREADS}
 use Rattle.sharc_word.specs.declared.step.WordOp.TheVariants as ops
 use Rattle.sharc_tree.specs.declared.event.Act.TheVariants as acts
 use Rattle.sharc_tree.specs.declared.event.SourceEvent.{SourceEvent}
-use Rattle.sharc_code.specs.declared.code.Code.{Code}
-use Rattle.sharc_code.specs.declared.instr.Instr.{Instr}
+use Rattle.sharc_code.specs.{declared.code.Code.Code, declared.instr.Instr.Instr, declared.instr.Register.Register, declared.shape.Shape.Shape, declared.state.Stage.Stage, declared.state.Stage.TheVariants.{Begins, Withdraws, WithdrawsFrom, Leaves}, Laws.RunLaws, Layout.{Fits, state_word}, Machine.{Machine, instr_at, act, exit, spawn, withdraws, withdrew, at_stage}, Path.{turn, after, asked_by}, Runs.{Turn, Global, MayTurn, after_turn, put, state_now, result_of, words_now, is_started}, Says.{said, speaks_of, in_exit, in_spawn}, Whole.{one_thread, bounds, place_after}}
 use Rattle.sharc_code.specs.declared.instr.Instr.TheVariants as instrs
-use Rattle.sharc_code.specs.declared.instr.Register.{Register}
-use Rattle.sharc_code.specs.declared.shape.Shape.{Shape}
-use Rattle.sharc_code.specs.declared.state.Stage.{Stage}
-use Rattle.sharc_code.specs.declared.state.Stage.TheVariants.{Begins, Withdraws, WithdrawsFrom, Leaves}
-use Rattle.sharc_code.specs.Laws.{RunLaws}
-use Rattle.sharc_code.specs.Layout.{Fits, state_word}
-use Rattle.sharc_code.specs.Machine.{Machine, instr_at, act, exit, spawn, withdraws, withdrew, at_stage}
-use Rattle.sharc_code.specs.Path.{turn, after, asked_by}
-use Rattle.sharc_code.specs.Runs.{Turn, Global, MayTurn, after_turn, put, state_now, result_of, words_now, is_started}
-use Rattle.sharc_code.specs.Says.{said, speaks_of, in_exit, in_spawn}
-use Rattle.sharc_code.specs.Whole.{one_thread, bounds, place_after}
 use Rattle.sharc_gen.specs.OfRuns.{table_of}
-use Rattle.sharc_meaning.specs.Obeys.{History}
-use Rattle.sharc_meaning.specs.Store.{spawns, is_spawn, is_natural, is_gone, was_spawned, went}
-use Rattle.sharc_invariant.specs.Types.{Targets}
-use Rattle.sharc_invariant.specs.Labels.{Labels}
-use Rattle.sharc_invariant.specs.Typed.{IsWellTyped}
-use Rattle.sharc_invariant.specs.Words.{is_ended}
-use Rattle.sharc_invariant.specs.State.{IsSmall, StageStands}
-use Rattle.sharc_invariant.specs.Laws.{Keeps, CellsAreThere, PointersAreThere, AccessesAreAllowed}
-use Rattle.sharc_history_laws.proofs.Consists.{Consists, after_set}
-use Rattle.sharc_history_laws.proofs.Going.{is_exit, going}
-use Rattle.sharc_history_laws.proofs.Holding.{any_push}
-use Rattle.sharc_history_laws.proofs.Lists.{Newest, reverse_push}
-use Rattle.sharc_history_laws.proofs.Rules.{pushed, number_is, put_same, put_other}
-use Rattle.sharc_history_laws.proofs.Telling.{threads_said, is_threading, neither, no_thread}
+use Rattle.sharc_meaning.specs.{Obeys.History, Store.{spawns, is_spawn, is_natural, is_gone, was_spawned, went}}
+use Rattle.sharc_invariant.specs.{Types.Targets, Labels.Labels, Typed.IsWellTyped, Words.is_ended, State.{IsSmall, StageStands}, Laws.{Keeps, CellsAreThere, PointersAreThere, AccessesAreAllowed}}
+use Rattle.sharc_history_laws.proofs.{Consists.{Consists, after_set}, Going.{is_exit, going}, Holding.any_push, Lists.{Newest, reverse_push}, Rules.{pushed, number_is, put_same, put_other}, Telling.{threads_said, is_threading, neither, no_thread}}
+use Rattle.sharc_lemmas.proofs.{Numbers.same_is, Bools.{or_split as or_cases, yes}}
 
-yes : true ≡ false → ⊥
-yes e = cc
-
-or_cases : (a b : Bool) → (a || b) ≡ true → (a ≡ true) ⊎ (b ≡ true)
-or_cases true b e = inl refl
-or_cases false b e = inr e
-
-or_left : (a b : Bool) → a ≡ true → (a || b) ≡ true
+pub or_left : (a b : Bool) → a ≡ true → (a || b) ≡ true
 or_left true b e = refl
 or_left false b e = absurd (yes (sym e))
-
-or_right : (a b : Bool) → b ≡ true → (a || b) ≡ true
-or_right true b e = refl
-or_right false b e = e
 
 and_parts : (a b : Bool) → (a && b) ≡ true → (a ≡ true) × (b ≡ true)
 and_parts true b e = (refl, e)
 and_parts false b e = absurd (yes (sym e))
 
-same_is : (n : ℕ) → (n == n) ≡ true
-same_is n = grind (arith, nat_tests)
-
 -- ---- histories that grow
-went_test : ℤ → SourceEvent → Bool
-went_test z e = is_gone e.act && is_natural e.thread z
 
 spawned_push : (e : SourceEvent) (L : Newest) (n : ℕ) → was_spawned (reverse (e ∷ L)) n ≡ (was_spawned (reverse L) n || spawns n e)
 spawned_push e L n = ap (list_any (spawns n)) (reverse_push e L) ∙ any_push (spawns n) (reverse L) e

@@ -1,27 +1,10 @@
 -- No Free empties the object of a cell at which a thread is whose gate is no sole reference.
 use Rattle.std.proofs.Common.{◌≡◌, ℕ, ◌+◌, ◌≢◌, true, false, refl, ap, ◌∙◌}
 use Rattle.std.specs.Prelude.{slice_index}
-use Rattle.sharc_code.specs.declared.code.Code.{Code}
-use Rattle.sharc_code.specs.declared.instr.Cell.{Cell}
+use Rattle.sharc_code.specs.{declared.code.Code.Code, declared.instr.Cell.Cell, declared.shape.Shape.Shape, declared.state.Stage.Stage, declared.state.Stage.TheVariants.Links, Layout.Fits, Machine.Machine, Runs.Global}
 use Rattle.sharc_code.specs.declared.instr.Cell.TheVariants as cells
-use Rattle.sharc_code.specs.declared.shape.Shape.{Shape}
-use Rattle.sharc_code.specs.declared.state.Stage.{Stage}
-use Rattle.sharc_code.specs.declared.state.Stage.TheVariants.{Links}
-use Rattle.sharc_code.specs.Layout.{Fits}
-use Rattle.sharc_code.specs.Machine.{Machine}
-use Rattle.sharc_code.specs.Runs.{Global}
-use Rattle.sharc_invariant.specs.Types.{Targets}
-use Rattle.sharc_invariant.specs.Labels.{Labels}
-use Rattle.sharc_invariant.specs.Typed.{IsWellTyped, IsNotSole}
-use Rattle.sharc_invariant.specs.World.{World}
-use Rattle.sharc_invariant.specs.History.{Closing}
-use Rattle.sharc_invariant.specs.State.{State, OnHold, object_of_cell}
-use Rattle.sharc_invariant.specs.MachineInvariant.{IsOn}
-use Rattle.sharc_invariant.specs.Laws.{StateStands}
-use Rattle.sharc_history_laws.proofs.Emptying.{IsEmptied, is_emptying}
-use Rattle.sharc_history_laws.proofs.Shared.{closing_own, some_closing, not_sole}
-use Rattle.sharc_history_laws.proofs.Stands.{gate}
-use Rattle.sharc_history_laws.proofs.Unwritten.{emptying}
+use Rattle.sharc_invariant.specs.{Types.Targets, Labels.Labels, Typed.{IsWellTyped, IsNotSole}, World.World, History.Closing, State.{State, OnHold, object_of_cell}, MachineInvariant.IsOn, Laws.StateStands}
+use Rattle.sharc_history_laws.proofs.{Emptying.{IsEmptied, is_emptying}, Shared.{closing_own, some_closing, not_sole}, Stands.gate, Unwritten.emptying}
 
 pub on_hold : (stage : Stage) → is_emptying stage ≡ true → OnHold stage
 on_hold (Links all) e = absurd (let z : false ≡ true = e in cc)

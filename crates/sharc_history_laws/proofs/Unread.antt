@@ -1,51 +1,17 @@
 -- A thread that has its argument to read has had no event, and a Spawn has answered its number that gave it what it is to read.
-use Rattle.std.proofs.Common.{◌≡◌, ◌≢◌, ℕ, ◌+◌, ◌<◌, inl, inr, Bool, true, false, ◌&&◌, length, List, [], ◌∷◌, ◌++◌, reverse, Option, Some, None, if◌then◌else◌, refl, sym, ap, ◌∙◌, subst, ⊎_elim, arith, eqb-true}
+use Rattle.std.proofs.{Common.{◌≡◌, ◌≢◌, ℕ, ◌+◌, ◌<◌, inl, inr, Bool, true, false, ◌&&◌, length, List, [], ◌∷◌, ◌++◌, reverse, Option, Some, None, if◌then◌else◌, refl, sym, ap, ◌∙◌, subst, ⊎_elim, arith, eqb-true}, lemmas.Bool.cases_eq, lemmas.Bool.Decides.nat_tests}
 use Rattle.std.specs.Prelude.{slice_index, nat_lt, ◌==◌, ◌^◌}
-use Rattle.std.proofs.lemmas.Bool.{cases_eq}
-use Rattle.std.proofs.lemmas.Bool.Decides.{nat_tests}
 use Rattle.sharc_word.specs.declared.step.TheConstants.{THREADS}
 use Rattle.sharc_tree.specs.declared.event.SourceEvent.{SourceEvent}
-use Rattle.sharc_code.specs.declared.code.Code.{Code}
-use Rattle.sharc_code.specs.declared.code.Parameter.{Parameter}
+use Rattle.sharc_code.specs.{declared.code.Code.Code, declared.code.Parameter.Parameter, declared.instr.Instr.Instr, declared.shape.Shape.Shape, declared.state.Stage.Stage, declared.state.Stage.TheVariants.{Rests, Enters, Withdraws, WithdrawsFrom, Leaves}, declared.state.TheConstants.FRAMES, Laws.RunLaws, Layout.{Fits, state_word, function_word}, Machine.{Machine, instr_at, act, start, exit, withdraws, has_room, called, entered, with_parameter, function_of}, Opening.opening_words, Path.{turn, after}, Runs.{Turn, Global, IsRun, MayTurn, put, state_now, result_of, opening_of}, Says.{said, speaks_of, reference, started_with, in_start}, StandingLaws.SpawnsStart, Whole.{one_thread, bounds, place_after}}
 use Rattle.sharc_code.specs.declared.code.Parameter.TheVariants as parameters
-use Rattle.sharc_code.specs.declared.instr.Instr.{Instr}
 use Rattle.sharc_code.specs.declared.instr.Instr.TheVariants as instrs
-use Rattle.sharc_code.specs.declared.shape.Shape.{Shape}
-use Rattle.sharc_code.specs.declared.state.Stage.{Stage}
-use Rattle.sharc_code.specs.declared.state.Stage.TheVariants.{Rests, Enters, Withdraws, WithdrawsFrom, Leaves}
-use Rattle.sharc_code.specs.declared.state.TheConstants.{FRAMES}
-use Rattle.sharc_code.specs.Laws.{RunLaws}
-use Rattle.sharc_code.specs.Layout.{Fits, state_word, function_word}
-use Rattle.sharc_code.specs.Machine.{Machine, instr_at, act, start, exit, withdraws, has_room, called, entered, with_parameter, function_of}
-use Rattle.sharc_code.specs.Opening.{opening_words}
-use Rattle.sharc_code.specs.Path.{turn, after}
-use Rattle.sharc_code.specs.Runs.{Turn, Global, IsRun, MayTurn, put, state_now, result_of, opening_of}
-use Rattle.sharc_code.specs.Says.{said, speaks_of, reference, started_with, in_start}
-use Rattle.sharc_code.specs.StandingLaws.{SpawnsStart}
-use Rattle.sharc_code.specs.Whole.{one_thread, bounds, place_after}
 use Rattle.sharc_gen.specs.OfRuns.{table_of}
 use Rattle.sharc_meaning.specs.Events.{events_of}
-use Rattle.sharc_invariant.specs.Types.{Targets}
-use Rattle.sharc_invariant.specs.Labels.{Labels}
-use Rattle.sharc_invariant.specs.Typed.{IsWellTyped}
-use Rattle.sharc_invariant.specs.World.{ArgumentOf, In}
-use Rattle.sharc_invariant.specs.Words.{is_unread, is_first, if_reference, argument_of}
-use Rattle.sharc_invariant.specs.State.{IsSmall, StageStands, FramesStand, view_of}
-use Rattle.sharc_invariant.specs.MachineInvariant.{IsOn}
-use Rattle.sharc_invariant.specs.Laws.{Keeps, Begins as CodeBegins, CellsAreThere, PointersAreThere, AccessesAreAllowed}
-use Rattle.sharc_history_laws.specs.History.{history_of}
-use Rattle.sharc_history_laws.specs.Seen.{IsGivenTo}
-use Rattle.sharc_history_laws.proofs.Consists.{Consists}
-use Rattle.sharc_history_laws.proofs.Finds.{low_slot}
-use Rattle.sharc_history_laws.proofs.Holding.{own_push}
-use Rattle.sharc_history_laws.proofs.Lists.{Newest}
-use Rattle.sharc_history_laws.proofs.Locking.{is_others}
-use Rattle.sharc_history_laws.proofs.Past.{arriving}
-use Rattle.sharc_history_laws.proofs.Rules.{pushed, newest, newest_now, put_same, put_other}
-use Rattle.sharc_history_laws.proofs.Started.{Unheard, SpawnedIn, WasGiven, function_given, argument_given, spawned_any, begun_runs}
-
-yes : true ≡ false → ⊥
-yes e = cc
+use Rattle.sharc_invariant.specs.{Types.Targets, Labels.Labels, Typed.IsWellTyped, World.{ArgumentOf, In}, Words.{is_unread, is_first, if_reference, argument_of}, State.{IsSmall, StageStands, FramesStand, view_of}, MachineInvariant.IsOn, Laws.{Keeps, Begins as CodeBegins, CellsAreThere, PointersAreThere, AccessesAreAllowed}}
+use Rattle.sharc_history_laws.specs.{History.history_of, Seen.IsGivenTo}
+use Rattle.sharc_history_laws.proofs.{Consists.Consists, Finds.low_slot, Holding.own_push, Lists.Newest, Locking.is_others, Past.arriving, Rules.{pushed, newest, newest_now, put_same, put_other}, Started.{Unheard, SpawnedIn, WasGiven, function_given, argument_given, spawned_any, begun_runs}}
+use Rattle.sharc_lemmas.proofs.{Numbers.{is_below as less}, Bools.yes}
 
 some_none : (f : ℕ) → Some f ≡ None → ⊥
 some_none f e = cc
@@ -73,9 +39,6 @@ four true true true false p q r e = absurd (yes (sym e))
 four true true false d p q r e = absurd (yes (sym r))
 four true false c d p q r e = absurd (yes (sym q))
 four false b c d p q r e = absurd (yes (sym p))
-
-less : (a b : ℕ) → a < b → nat_lt a b ≡ true
-less a b lt = grind (arith, nat_tests)
 
 pc_called : (z : Machine) (pc site : ℕ) → z.at.depth ≡ 0 → z.at.refs ≡ 0 → z.at.ints ≡ 0 → length z.frames ≡ FRAMES → (called z pc 0 0 site).at.pc ≡ pc
 pc_called z pc site d r n long = picks (has_room z 0 0) _ _

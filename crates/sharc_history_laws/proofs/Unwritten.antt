@@ -1,28 +1,10 @@
 -- A readonly pointer cell of an object that no thread has alone is written by no turn of typed code.
 use Rattle.std.proofs.Common.{◌≡◌, ℕ, ◌+◌, ◌<◌, true, false, Some, refl, sym, ◌∙◌, subst}
-use Rattle.sharc_code.specs.declared.code.Code.{Code}
-use Rattle.sharc_code.specs.declared.instr.Cell.{Cell}
-use Rattle.sharc_code.specs.declared.instr.Instr.{Instr}
+use Rattle.sharc_code.specs.{declared.code.Code.Code, declared.instr.Cell.Cell, declared.instr.Instr.Instr, declared.shape.Shape.Shape, declared.state.Stage.TheVariants.Empties, Layout.Fits, Machine.{Machine, instr_at, ref}, Path.turn, Runs.Global}
 use Rattle.sharc_code.specs.declared.instr.Instr.TheVariants as instrs
-use Rattle.sharc_code.specs.declared.shape.Shape.{Shape}
-use Rattle.sharc_code.specs.declared.state.Stage.TheVariants.{Empties}
-use Rattle.sharc_code.specs.Layout.{Fits}
-use Rattle.sharc_code.specs.Machine.{Machine, instr_at, ref}
-use Rattle.sharc_code.specs.Path.{turn}
-use Rattle.sharc_code.specs.Runs.{Global}
-use Rattle.sharc_invariant.specs.Types.{Targets, Field, Content, Integer, MutexWord, Waiters, Pointer, CellMode, field_in, mode_at, is_pointer}
-use Rattle.sharc_invariant.specs.Labels.{Labels}
-use Rattle.sharc_invariant.specs.Typed.{IsWellTyped, Fine, Accesses}
-use Rattle.sharc_invariant.specs.World.{Sole as IsSole, World, CanBy}
-use Rattle.sharc_invariant.specs.Words.{lang_of, cell_at}
-use Rattle.sharc_invariant.specs.History.{Closing}
-use Rattle.sharc_invariant.specs.State.{State, GateStands, OnHold, object_of_cell, number_in}
-use Rattle.sharc_invariant.specs.MachineInvariant.{IsOn}
-use Rattle.sharc_invariant.specs.Laws.{CellsAreThere, PointersAreThere, AccessesAreAllowed}
-use Rattle.sharc_history_laws.proofs.Single.{single, rests_hold}
-use Rattle.sharc_history_laws.proofs.Sparing.{SparesTurn, is_value, written_cell}
+use Rattle.sharc_invariant.specs.{Types.{Targets, Field, Content, Integer, MutexWord, Waiters, Pointer, CellMode, field_in, mode_at, is_pointer}, Labels.Labels, Typed.{IsWellTyped, Fine, Accesses}, World.{Sole as IsSole, World, CanBy}, Words.{lang_of, cell_at}, History.Closing, State.{State, GateStands, OnHold, object_of_cell, number_in}, MachineInvariant.IsOn, Laws.{CellsAreThere, PointersAreThere, AccessesAreAllowed}}
+use Rattle.sharc_history_laws.proofs.{Single.{single, rests_hold}, Sparing.{SparesTurn, is_value, written_cell}, Stands.{there, gate, reads_ref}}
 use Rattle.sharc_history_laws.proofs.Sparing as Sparing
-use Rattle.sharc_history_laws.proofs.Stands.{there, gate, reads_ref}
 
 pointer_value : (c : Content) → is_pointer c ≡ true → is_value c ≡ true
 pointer_value (Integer w) e = refl

@@ -2,64 +2,20 @@
 use Rattle.std.proofs.Common.{◌≡◌, ℕ, pos, zero, suc, ◌+◌, ◌*◌, ◌≢◌, ◌⊎◌, inl, inr, Bool, true, false, ◌||◌, List, ◌∷◌, Option, Some, None, refl, sym, ap, ◌∙◌, subst, ⊎_elim, arith}
 use Rattle.std.specs.Prelude.{slice_index}
 use Rattle.sharc_word.specs.declared.step.WordOp.TheVariants as ops
-use Rattle.sharc_tree.specs.declared.event.Act.{Act}
+use Rattle.sharc_tree.specs.{declared.event.Act.Act, declared.event.CellAt.CellAt, declared.event.Object.Object, declared.event.SourceEvent.SourceEvent}
 use Rattle.sharc_tree.specs.declared.event.Act.TheVariants as acts
-use Rattle.sharc_tree.specs.declared.event.CellAt.{CellAt}
-use Rattle.sharc_tree.specs.declared.event.Object.{Object}
 use Rattle.sharc_tree.specs.declared.event.Object.TheVariants as objects
-use Rattle.sharc_tree.specs.declared.event.SourceEvent.{SourceEvent}
 use Rattle.sharc_ctype.specs.Resolved.{Resolution}
-use Rattle.sharc_code.specs.declared.code.Code.{Code}
-use Rattle.sharc_code.specs.declared.instr.Cell.{Cell}
-use Rattle.sharc_code.specs.declared.instr.Instr.{Instr}
+use Rattle.sharc_code.specs.{declared.code.Code.Code, declared.instr.Cell.Cell, declared.instr.Instr.Instr, declared.shape.Shape.Shape, declared.state.Stage.TheVariants.Empties, Arithmetic.word_of, Laws.RunLaws, Layout.Fits, Machine.{Machine, instr_at, int, ref, word, act, object}, Path.{turn, asked_by}, Runs.{Turn, Global, MayTurn, after_turn, result_of, words_now}, Says.{said, cell_at, speaks_of, reference}, Whole.{one_thread, bounds, place_after}}
 use Rattle.sharc_code.specs.declared.instr.Instr.TheVariants as instrs
-use Rattle.sharc_code.specs.declared.shape.Shape.{Shape}
-use Rattle.sharc_code.specs.declared.state.Stage.TheVariants.{Empties}
-use Rattle.sharc_code.specs.Arithmetic.{word_of}
-use Rattle.sharc_code.specs.Laws.{RunLaws}
-use Rattle.sharc_code.specs.Layout.{Fits}
-use Rattle.sharc_code.specs.Machine.{Machine, instr_at, int, ref, word, act, object, place}
-use Rattle.sharc_code.specs.Path.{turn, asked_by}
-use Rattle.sharc_code.specs.Runs.{Turn, Global, MayTurn, after_turn, result_of, words_now}
-use Rattle.sharc_code.specs.Says.{said, cell_at, speaks_of, reference}
-use Rattle.sharc_code.specs.Whole.{one_thread, bounds, place_after}
-use Rattle.sharc_gen.specs.Consistent.{Elements}
-use Rattle.sharc_gen.specs.OfRuns.{table_of}
-use Rattle.sharc_meaning.specs.Events.{makes, is_cell, is_number, made_by, same_cell}
-use Rattle.sharc_meaning.specs.Store.{changes, cell_changed, value_left}
-use Rattle.sharc_invariant.specs.Types.{Targets, Field, Content, Integer, MutexWord, Waiters, Pointer, field_in, is_pointer}
-use Rattle.sharc_invariant.specs.Labels.{Labels}
-use Rattle.sharc_invariant.specs.Typed.{IsWellTyped, Fine, Accesses, HasCell}
-use Rattle.sharc_invariant.specs.World.{Cell as CellOf, ObjectState}
+use Rattle.sharc_gen.specs.{Consistent.Elements, OfRuns.table_of}
+use Rattle.sharc_meaning.specs.{Events.{makes, is_cell, is_number, made_by, same_cell}, Store.{changes, cell_changed, value_left}}
+use Rattle.sharc_invariant.specs.{Types.{Targets, Field, Content, Integer, MutexWord, Waiters, Pointer, field_in, is_pointer}, Labels.Labels, Typed.{IsWellTyped, Fine, Accesses, HasCell}, World.{Cell as CellOf, ObjectState}, State.{IsSmall, StageStands, OnHold, object_of_cell, number_in, view_of, refs_at, types_at}, MachineInvariant.IsOn, Laws.{Keeps, CellsAreThere, PointersAreThere, AccessesAreAllowed}}
 use Rattle.sharc_invariant.specs.Words as Words
-use Rattle.sharc_invariant.specs.State.{IsSmall, StageStands, OnHold, object_of_cell, number_in, view_of, refs_at, types_at}
-use Rattle.sharc_invariant.specs.MachineInvariant.{IsOn}
-use Rattle.sharc_invariant.specs.Laws.{Keeps, CellsAreThere, PointersAreThere, AccessesAreAllowed}
-use Rattle.sharc_history_laws.proofs.Acts.{given_at, freed_at, About, no_access}
+use Rattle.sharc_history_laws.proofs.{Acts.{given_at, freed_at, About, no_access}, Born.born, Consists.{Consists, consists_then, objects_then, after_set, same_table, headed, live_not_built, header_built}, Contents.{newest_value, value_changed, value_kept, value_held, IsCellOf, content_of, word_of_cell, Contents, one_cell, back_again, fits_in}, Emptying.{IsFreeing, IsEmptied, emptied_then}, Holding.cell_eq, Lists.Newest, Locked.Names, Locking.cell_refl, ModesKept.word_spared, OneMode.{place_of, numbers_now}, Rules.{pushed, about_now, decide, number_yes, number_not, freed_gone}, Shared.number_of, Single.{single, rests_hold}, Sparing.{is_value, written_cell, spares}, Stands.{live_slot, there, top, rn}, Tables.header_of, Telling.{changed_said, unchanged_said}, Unwritten.writes_single, Values.{Kept, kept}}
 use Rattle.sharc_history_laws.proofs.Acts as Acts
-use Rattle.sharc_history_laws.proofs.Born.{born}
-use Rattle.sharc_history_laws.proofs.Consists.{Consists, consists_then, objects_then, after_set, same_table, headed, live_not_built, header_built}
-use Rattle.sharc_history_laws.proofs.Contents.{newest_value, value_changed, value_kept, value_held, IsCellOf, content_of, word_of_cell, Contents, one_cell, back_again, fits_in}
-use Rattle.sharc_history_laws.proofs.Emptying.{IsFreeing, IsEmptied, freeing_then, own_emptied, emptied_then}
-use Rattle.sharc_history_laws.proofs.Holding.{cell_eq}
-use Rattle.sharc_history_laws.proofs.Lists.{Newest}
-use Rattle.sharc_history_laws.proofs.Locked.{Names}
-use Rattle.sharc_history_laws.proofs.Locking.{cell_refl}
-use Rattle.sharc_history_laws.proofs.ModesKept.{word_spared}
-use Rattle.sharc_history_laws.proofs.OneMode.{place_of, numbers_now}
 use Rattle.sharc_history_laws.proofs.Placed as Placed
-use Rattle.sharc_history_laws.proofs.Rules.{pushed, about_now, decide, number_yes, number_not, freed_gone}
-use Rattle.sharc_history_laws.proofs.Shared.{number_of}
-use Rattle.sharc_history_laws.proofs.Single.{single, rests_hold}
-use Rattle.sharc_history_laws.proofs.Sparing.{is_value, written_cell, spares}
-use Rattle.sharc_history_laws.proofs.Stands.{live_slot, there, top, rn}
-use Rattle.sharc_history_laws.proofs.Tables.{header_of}
-use Rattle.sharc_history_laws.proofs.Telling.{changed_said, unchanged_said}
-use Rattle.sharc_history_laws.proofs.Unwritten.{writes_single}
-use Rattle.sharc_history_laws.proofs.Values.{Kept, kept}
-
-yes : true ≡ false → ⊥
-yes e = cc
+use Rattle.sharc_lemmas.proofs.Bools.{yes}
 
 -- a New leaves 0
 pub made_zero : (e : SourceEvent) (a : Act) (n : ℕ) → made_by e a ≡ Some n → value_left a ≡ pos 0

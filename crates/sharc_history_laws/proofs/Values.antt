@@ -1,39 +1,12 @@
 -- An object that was there before a turn and is there after it has cells with the same contents.
-use Rattle.std.proofs.Common.{◌≡◌, ℕ, ◌+◌, ◌*◌, ◌%◌, ◌<◌, ◌≢◌, Bool, true, false, length, List, ◌∷◌, Some, refl, sym, ap, ◌∙◌, subst, ⊎_elim, arith}
+use Rattle.std.proofs.{Common.{◌≡◌, ℕ, ◌+◌, ◌*◌, ◌%◌, ◌<◌, ◌≢◌, Bool, true, false, length, List, ◌∷◌, Some, refl, sym, ap, ◌∙◌, subst, ⊎_elim, arith}, lemmas.Bool.cases_eq, lemmas.Bool.Decides.nat_tests}
 use Rattle.std.specs.Prelude.{◌==◌}
-use Rattle.std.proofs.lemmas.Bool.{cases_eq}
-use Rattle.std.proofs.lemmas.Bool.Decides.{nat_tests}
-use Rattle.sharc_code.specs.declared.code.Code.{Code}
-use Rattle.sharc_code.specs.declared.instr.Instr.{Instr}
+use Rattle.sharc_code.specs.{declared.code.Code.Code, declared.instr.Instr.Instr, declared.shape.Shape.Shape, Laws.RunLaws, Layout.Fits, Machine.{Machine, instr_at, act, ref}, Path.{turn, after}, Runs.{Turn, Global, MayTurn, after_turn, state_now, result_of}, Whole.{one_thread, bounds, place_after}}
 use Rattle.sharc_code.specs.declared.instr.Instr.TheVariants as instrs
-use Rattle.sharc_code.specs.declared.shape.Shape.{Shape}
-use Rattle.sharc_code.specs.Laws.{RunLaws}
-use Rattle.sharc_code.specs.Layout.{Fits}
-use Rattle.sharc_code.specs.Machine.{Machine, instr_at, act, ref}
-use Rattle.sharc_code.specs.Path.{turn, after}
-use Rattle.sharc_code.specs.Runs.{Turn, Global, MayTurn, after_turn, state_now, result_of}
-use Rattle.sharc_code.specs.Whole.{one_thread, bounds, place_after}
 use Rattle.sharc_gen.specs.Consistent.{Elements}
-use Rattle.sharc_invariant.specs.Types.{Targets, ObjectType, StaticType, Field, FieldType, Content, Integer, MutexWord, Waiters, Pointer, cells_of, field_at, field_of_cell, field_in, globals_target}
-use Rattle.sharc_invariant.specs.Labels.{Label, Labels, empty}
-use Rattle.sharc_invariant.specs.Typed.{IsWellTyped, Fine, IsSameContent}
-use Rattle.sharc_invariant.specs.World.{ObjectState, World}
-use Rattle.sharc_invariant.specs.Objects.{objects_behind, owned, type_held}
-use Rattle.sharc_invariant.specs.State.{State, IsSmall, StageStands}
-use Rattle.sharc_invariant.specs.Laws.{Keeps, CellsAreThere, PointersAreThere}
-use Rattle.sharc_history_laws.proofs.Acts.{given_at, freed_at}
-use Rattle.sharc_history_laws.proofs.Born.{filled_target}
-use Rattle.sharc_history_laws.proofs.Consists.{Consists, consists_then, objects_then, given}
-use Rattle.sharc_history_laws.proofs.Contents.{value_held}
-use Rattle.sharc_history_laws.proofs.Rules.{put_same, same_behind, freed_gone, decide}
-use Rattle.sharc_history_laws.proofs.Single.{rests_hold}
-use Rattle.sharc_history_laws.proofs.Sparing.{is_value, holds_waiters}
-use Rattle.sharc_history_laws.proofs.Stands.{target_ref, sole_ref}
-use Rattle.sharc_history_laws.proofs.Tables.{header_of, was_live, length_kept}
-use Rattle.sharc_history_laws.proofs.Writes.{writes}
-
-yes : true ≡ false → ⊥
-yes e = cc
+use Rattle.sharc_invariant.specs.{Types.{Targets, StaticType, Field, Content, Integer, MutexWord, Waiters, Pointer, cells_of, field_at, field_of_cell, field_in, globals_target}, Labels.{Label, Labels, empty}, Typed.{IsWellTyped, Fine, IsSameContent}, World.{ObjectState, World}, Objects.{objects_behind, owned, type_held}, State.{State, IsSmall, StageStands}, Laws.{Keeps, CellsAreThere, PointersAreThere}}
+use Rattle.sharc_history_laws.proofs.{Acts.{given_at, freed_at}, Born.filled_target, Consists.{Consists, consists_then, objects_then, given}, Contents.value_held, Rules.{put_same, same_behind, freed_gone, decide}, Single.rests_hold, Sparing.{is_value, holds_waiters}, Stands.{target_ref, sole_ref}, Tables.{header_of, was_live, length_kept}, Writes.writes}
+use Rattle.sharc_lemmas.proofs.Bools.{yes}
 
 -- ---- contents of one kind
 pub record SameContent (a b : Content) : Type 0 where

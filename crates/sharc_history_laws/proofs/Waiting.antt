@@ -1,83 +1,22 @@
 -- Whoever waits by the events stands where it waits, and the words of conditions have the bits of those who wait.
-use Rattle.std.proofs.Common.{◌≡◌, ℕ, pos, zero, suc, ◌+◌, ◌^◌, ◌<◌, ◌≢◌, ◌⊎◌, inl, inr, Bool, true, false, not, ◌||◌, ◌&&◌, cond, List, ◌∷◌, Option, Some, None, if◌then◌else◌, refl, sym, ap, ◌∙◌, subst, ⊎_elim, arith, eqb-true}
+use Rattle.std.proofs.{Common.{◌≡◌, ℕ, pos, zero, suc, ◌+◌, ◌^◌, ◌<◌, ◌≢◌, ◌⊎◌, inl, inr, Bool, true, false, not, ◌||◌, ◌&&◌, cond, List, ◌∷◌, Option, Some, None, if◌then◌else◌, refl, sym, ap, ◌∙◌, subst, ⊎_elim, arith, eqb-true}, lemmas.Bool.{cases_eq, false_from_ne_true as not_true}, lemmas.Bool.Decides.nat_tests, lemmas.List.get_or-set_other}
 use Rattle.std.specs.Prelude.{slice_index, ◌==◌}
-use Rattle.std.proofs.lemmas.Bool.{cases_eq}
-use Rattle.std.proofs.lemmas.Bool.Decides.{nat_tests}
-use Rattle.std.proofs.lemmas.List.{get_or-set_other}
-use Rattle.sharc_word.specs.declared.step.TheConstants.{THREADS}
-use Rattle.sharc_word.specs.declared.step.WordOp.{WordOp}
+use Rattle.sharc_word.specs.{declared.step.TheConstants.THREADS, declared.step.WordOp.WordOp, Words.word_after}
 use Rattle.sharc_word.specs.declared.step.WordOp.TheVariants as ops
-use Rattle.sharc_word.specs.Words.{word_after}
-use Rattle.sharc_tree.specs.declared.event.Act.{Act}
+use Rattle.sharc_tree.specs.{declared.event.Act.Act, declared.event.CellAt.CellAt, declared.event.Object.Object, declared.event.SourceEvent.SourceEvent}
 use Rattle.sharc_tree.specs.declared.event.Act.TheVariants as acts
-use Rattle.sharc_tree.specs.declared.event.CellAt.{CellAt}
-use Rattle.sharc_tree.specs.declared.event.Object.{Object}
 use Rattle.sharc_tree.specs.declared.event.Object.TheVariants as objects
-use Rattle.sharc_tree.specs.declared.event.SourceEvent.{SourceEvent}
-use Rattle.sharc_cond.specs.Laws.{WaitersLaws}
-use Rattle.sharc_cond.specs.Waiters.{waits_in, lowest_of, without_lowest}
-use Rattle.sharc_code.specs.declared.code.Code.{Code}
-use Rattle.sharc_code.specs.declared.instr.Cell.{Cell}
+use Rattle.sharc_cond.specs.{Laws.WaitersLaws, Waiters.{waits_in, lowest_of, without_lowest}}
+use Rattle.sharc_code.specs.{declared.code.Code.Code, declared.instr.Cell.Cell, declared.instr.Instr.Instr, declared.shape.Shape.Shape, declared.state.Stage.Stage, declared.state.Stage.TheVariants.{Empties, Links, Wakes}, Arithmetic.word_of, Laws.RunLaws, Layout.Fits, Machine.{Machine, instr_at, int, ref, word, act, signal, is_of_null, step_of, goes, fails}, Path.{turn, after, asked_by}, Runs.{Turn, Global, MayTurn, after_turn, put, state_now, result_of, words_now}, Says.{said, cell_at, speaks_of, nobody, in_signal, event_at}, Whole.{one_thread, bounds, place_after}}
 use Rattle.sharc_code.specs.declared.instr.Cell.TheVariants as cells
-use Rattle.sharc_code.specs.declared.instr.Instr.{Instr}
 use Rattle.sharc_code.specs.declared.instr.Instr.TheVariants as instrs
-use Rattle.sharc_code.specs.declared.shape.Shape.{Shape}
-use Rattle.sharc_code.specs.declared.state.Stage.{Stage}
-use Rattle.sharc_code.specs.declared.state.Stage.TheVariants.{Empties, Links, Wakes}
-use Rattle.sharc_code.specs.Arithmetic.{word_of}
-use Rattle.sharc_code.specs.Laws.{RunLaws}
-use Rattle.sharc_code.specs.Layout.{Fits}
-use Rattle.sharc_code.specs.Machine.{Machine, instr_at, int, ref, word, act, signal, is_of_null, step_of, goes, fails}
-use Rattle.sharc_code.specs.Path.{turn, after, asked_by}
-use Rattle.sharc_code.specs.Runs.{Turn, Global, MayTurn, after_turn, put, state_now, result_of, words_now}
-use Rattle.sharc_code.specs.Says.{said, cell_at, speaks_of, nobody, in_signal, event_at}
-use Rattle.sharc_code.specs.Whole.{one_thread, bounds, place_after}
 use Rattle.sharc_gen.specs.OfRuns.{table_of}
-use Rattle.sharc_meaning.specs.Events.{is_cell, same_cell}
-use Rattle.sharc_meaning.specs.Store.{entered, takes_away}
-use Rattle.sharc_invariant.specs.Types.{Targets, Field, Content, Integer, MutexWord, Waiters, Pointer, field_in}
-use Rattle.sharc_invariant.specs.Labels.{Gate, Closed, Labels}
-use Rattle.sharc_invariant.specs.Typed.{IsWellTyped, Fine, Accesses, HasCell, IsNotSole}
-use Rattle.sharc_invariant.specs.World.{In, RegisterOf, ObjectState, World}
-use Rattle.sharc_invariant.specs.State.{IsSmall, StageStands, EntryStands, OnHold, object_of_cell, number_in, view_of, refs_at, types_at}
-use Rattle.sharc_invariant.specs.MachineInvariant.{IsOn}
-use Rattle.sharc_invariant.specs.Laws.{Keeps, CellsAreThere, PointersAreThere, AccessesAreAllowed, StateStands}
+use Rattle.sharc_meaning.specs.{Events.{is_cell, same_cell}, Store.{entered, takes_away}}
+use Rattle.sharc_invariant.specs.{Types.{Targets, Field, Content, Integer, MutexWord, Waiters, Pointer, field_in}, Labels.{Gate, Closed, Labels}, Typed.{IsWellTyped, Fine, Accesses, HasCell, IsNotSole}, World.{In, RegisterOf, ObjectState, World}, State.{IsSmall, StageStands, EntryStands, OnHold, object_of_cell, number_in, view_of, refs_at, types_at}, MachineInvariant.IsOn, Laws.{Keeps, CellsAreThere, PointersAreThere, AccessesAreAllowed, StateStands}}
 use Rattle.sharc_history_laws.specs.Waiters.{WaitsFollow}
-use Rattle.sharc_history_laws.proofs.Acts.{freed_at, thread_said}
-use Rattle.sharc_history_laws.proofs.Born.{born}
-use Rattle.sharc_history_laws.proofs.Consists.{Consists, consists_then, objects_then, after_set, found_is, headed, live_not_built, header_built}
-use Rattle.sharc_history_laws.proofs.Contents.{IsCellOf, content_of, word_of_cell, one_cell}
-use Rattle.sharc_history_laws.proofs.Emptying.{IsFreeing, IsEmptied, is_emptying, emptied_then}
-use Rattle.sharc_history_laws.proofs.Going.{wakes_nobody}
-use Rattle.sharc_history_laws.proofs.Holding.{cell_eq}
-use Rattle.sharc_history_laws.proofs.Lists.{Newest}
-use Rattle.sharc_history_laws.proofs.Locking.{cell_refl}
-use Rattle.sharc_history_laws.proofs.ModesKept.{word_spared}
-use Rattle.sharc_history_laws.proofs.OneMode.{place_of, numbers_now}
+use Rattle.sharc_history_laws.proofs.{Acts.{freed_at, thread_said}, Born.born, Consists.{Consists, consists_then, objects_then, after_set, found_is, headed, live_not_built, header_built}, Contents.{IsCellOf, content_of, word_of_cell, one_cell}, Emptying.{IsFreeing, IsEmptied, is_emptying, emptied_then}, Going.wakes_nobody, Holding.cell_eq, Lists.Newest, Locking.cell_refl, ModesKept.word_spared, OneMode.{place_of, numbers_now}, Queued.{waits_by, waits_behind, waiter_behind, other_event, is_condition, no_condition, condition_elsewhere, no_enter, woken_leaves, is_enter, enterless}, Rules.{pushed, about_now, number_is, decide, freed_gone, put_same, put_other}, Shared.number_of, Single.{single, rests_hold}, Sparing.{holds_waiters, is_mutex, waited_cell, written_cell, spares_cell}, Stands.{register_is, live_slot, some_base, there, top, reads_ref}, Tables.header_of, Unemptied.not_emptied, Valued.cell_named, Values.{Kept, kept}}
 use Rattle.sharc_history_laws.proofs.Placed as Placed
-use Rattle.sharc_history_laws.proofs.Queued.{waits_by, waits_behind, waiter_behind, other_event, is_condition, no_condition, condition_elsewhere, no_enter, woken_leaves, is_enter, enterless}
-use Rattle.sharc_history_laws.proofs.Rules.{pushed, about_now, number_is, decide, freed_gone, put_same, put_other}
-use Rattle.sharc_history_laws.proofs.Shared.{number_of}
-use Rattle.sharc_history_laws.proofs.Single.{single, rests_hold}
-use Rattle.sharc_history_laws.proofs.Sparing.{holds_waiters, is_mutex, waited_cell, written_cell, spares_cell}
-use Rattle.sharc_history_laws.proofs.Stands.{register_is, live_slot, some_base, there, top, reads_ref}
-use Rattle.sharc_history_laws.proofs.Tables.{header_of}
-use Rattle.sharc_history_laws.proofs.Unemptied.{not_emptied}
-use Rattle.sharc_history_laws.proofs.Valued.{cell_named}
-use Rattle.sharc_history_laws.proofs.Values.{Kept, kept}
-
-yes : true ≡ false → ⊥
-yes e = cc
-
-not_true : (b : Bool) → (b ≡ true → ⊥) → b ≡ false
-not_true true h = absurd (h refl)
-not_true false h = refl
-
-same_is : (n : ℕ) → (n == n) ≡ true
-same_is n = grind (arith, nat_tests)
-
-other_is : (n k : ℕ) → (n ≡ k → ⊥) → (n == k) ≡ false
-other_is n k ne = grind (arith, nat_tests)
+use Rattle.sharc_lemmas.proofs.{Numbers.{same_is, eqb_other as other_is}, Bools.yes}
 
 -- ---- who waits by the events
 -- where a thread waits at a cell, or unlocks its mutex before that

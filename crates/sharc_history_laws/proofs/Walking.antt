@@ -1,28 +1,14 @@
 -- Between two places of a run with the same epoch of a granule, at both of which the bit of a thread stands: the bit stands all along, the object stays,
 -- and no event is about its beginning or its end, or that of the thread.
 use Rattle.std.proofs.Common.{◌≡◌, ℕ, ◌+◌, ◌*◌, ◌<◌, ◌≤◌, ◌≢◌, ◌⊎◌, inl, inr, true, false, List, [], ◌∷◌, ◌++◌, Some, None, sym, ◌∙◌, subst, ⊎_elim, arith}
-use Rattle.sharc_tree.specs.declared.event.Object.{Object}
-use Rattle.sharc_tree.specs.declared.event.SourceEvent.{SourceEvent}
+use Rattle.sharc_tree.specs.{declared.event.Object.Object, declared.event.SourceEvent.SourceEvent}
 use Rattle.sharc_shadow.specs.ShadowWord.{epoch_of, stands}
-use Rattle.sharc_code.specs.declared.code.Code.{Code}
-use Rattle.sharc_code.specs.declared.shape.Shape.{Shape}
-use Rattle.sharc_code.specs.Layout.{granules}
-use Rattle.sharc_code.specs.Machine.{Machine}
-use Rattle.sharc_code.specs.Runs.{Turn, Global, told_by}
-use Rattle.sharc_code.specs.Whole.{Erase, one_thread, place_after}
-use Rattle.sharc_meaning.specs.Events.{begins, frees}
-use Rattle.sharc_meaning.specs.Store.{is_gone}
-use Rattle.sharc_invariant.specs.Labels.{Labels}
-use Rattle.sharc_invariant.specs.Types.{Targets}
+use Rattle.sharc_code.specs.{declared.code.Code.Code, declared.shape.Shape.Shape, Layout.granules, Machine.Machine, Runs.{Turn, Global, told_by}, Whole.{Erase, one_thread, place_after}}
+use Rattle.sharc_meaning.specs.{Events.{begins, frees}, Store.is_gone}
+use Rattle.sharc_invariant.specs.{Labels.Labels, Types.Targets}
 use Rattle.sharc_history_laws.specs.Causes.{NothingBetween}
-use Rattle.sharc_history_laws.proofs.Consists.{Consists}
-use Rattle.sharc_history_laws.proofs.Remaining.{word_at, epoch_grows, bit_or_left, left_still}
-use Rattle.sharc_history_laws.proofs.Staying.{IsObject, stays, nothing, stays_on}
-use Rattle.sharc_history_laws.proofs.Wholes.{TheLaws, Typed, RunOf, Whole, whole, whole_next, fresh_of}
-use Rattle.sharc_history_laws.proofs.Withdrawing.{has_left}
-
-yes : true ≡ false → ⊥
-yes e = cc
+use Rattle.sharc_history_laws.proofs.{Consists.Consists, Remaining.{word_at, epoch_grows, bit_or_left, left_still}, Staying.{IsObject, stays, nothing, stays_on}, Wholes.{TheLaws, Typed, RunOf, Whole, whole, whole_next, fresh_of}, Withdrawing.has_left}
+use Rattle.sharc_lemmas.proofs.Bools.{yes}
 
 none_there : (after : List Turn) (turn : Turn) (before : List Turn) → [] ≡ after ++ turn ∷ before → ⊥
 none_there [] turn before e = cc

@@ -1,41 +1,11 @@
 -- What holds behind each run of typed code, by all that is known of it.
-use Rattle.std.proofs.Common.{◌≡◌, ℕ, zero, suc, ◌+◌, ◌<◌, true, false, List, [], ◌∷◌, Some, None, replicate, refl, sym, ap, ◌∙◌, subst}
+use Rattle.std.proofs.Common.{◌≡◌, ℕ, zero, suc, ◌+◌, ◌<◌, true, List, [], ◌∷◌, Some, None, replicate, refl, sym, ap, ◌∙◌, subst}
 use Rattle.std.specs.Prelude.{slice_index, slice_index_or}
-use Rattle.sharc_shadow.specs.declared.shadow_word.Kind.{Kind}
-use Rattle.sharc_shadow.specs.declared.shadow_word.Kind.TheVariants.{Read, Write}
-use Rattle.sharc_shadow.specs.declared.access_table.Note.{Note}
-use Rattle.sharc_shadow.specs.Notes.{blank, of_kind}
-use Rattle.sharc_shadow.specs.Accesses.{note_of}
-use Rattle.sharc_shadow.specs.Laws.{ShadowLaws}
-use Rattle.sharc_shadow.specs.ShadowWord.{stands}
-use Rattle.sharc_code.specs.declared.code.Code.{Code}
-use Rattle.sharc_code.specs.declared.shape.Shape.{Shape}
-use Rattle.sharc_code.specs.declared.state.ConflictAt.{ConflictAt}
-use Rattle.sharc_code.specs.declared.state.Stop.TheVariants.{Conflict}
-use Rattle.sharc_code.specs.Laws.{RunLaws}
-use Rattle.sharc_code.specs.Layout.{Fits, granules, first_shadow}
-use Rattle.sharc_code.specs.Machine.{Machine}
-use Rattle.sharc_code.specs.Opening.{opening_words}
-use Rattle.sharc_code.specs.Runs.{Turn, Global, IsRun, opening_of}
-use Rattle.sharc_code.specs.Whole.{one_thread, bounds, place_after}
-use Rattle.sharc_invariant.specs.Bits.{BitsStand}
-use Rattle.sharc_invariant.specs.Labels.{Labels}
-use Rattle.sharc_invariant.specs.Laws.{Keeps, Begins as CodeBegins, CellsAreThere, PointersAreThere, AccessesAreAllowed, StateStands, RunsBits}
-use Rattle.sharc_invariant.specs.Opened.{first_place}
-use Rattle.sharc_invariant.specs.Bits.{marks_after}
-use Rattle.sharc_invariant.specs.Reports.{RunsConflict}
-use Rattle.sharc_invariant.specs.State.{IsSmall}
-use Rattle.sharc_invariant.specs.Typed.{IsWellTyped}
-use Rattle.sharc_invariant.specs.Types.{Targets}
-use Rattle.sharc_history_laws.proofs.Cleared.{AllCleared, cleared_then, first_cleared}
-use Rattle.sharc_history_laws.proofs.Consists.{Consists, consists_then, at_first}
-use Rattle.sharc_history_laws.proofs.Logged.{lacking}
-use Rattle.sharc_history_laws.proofs.Remaining.{word_at, Remains, remains_then}
-use Rattle.sharc_history_laws.proofs.Shadows.{at_low}
-use Rattle.sharc_history_laws.proofs.Sole.{Halting, stop_none}
-
-yes : true ≡ false → ⊥
-yes e = cc
+use Rattle.sharc_shadow.specs.{declared.shadow_word.Kind.Kind, declared.access_table.Note.Note, Notes.{blank, of_kind}, Accesses.note_of, Laws.ShadowLaws, ShadowWord.stands}
+use Rattle.sharc_code.specs.{declared.code.Code.Code, declared.shape.Shape.Shape, declared.state.ConflictAt.ConflictAt, declared.state.Stop.TheVariants.Conflict, Laws.RunLaws, Layout.{Fits, granules, first_shadow}, Machine.Machine, Opening.opening_words, Runs.{Turn, Global, IsRun, opening_of}, Whole.{one_thread, bounds, place_after}}
+use Rattle.sharc_invariant.specs.{Bits.{BitsStand, marks_after}, Labels.Labels, Laws.{Keeps, Begins as CodeBegins, CellsAreThere, PointersAreThere, AccessesAreAllowed, StateStands, RunsBits}, Opened.first_place, Reports.RunsConflict, State.IsSmall, Typed.IsWellTyped, Types.Targets}
+use Rattle.sharc_history_laws.proofs.{Cleared.{AllCleared, cleared_then, first_cleared}, Consists.{Consists, consists_then, at_first}, Logged.lacking, Remaining.{word_at, Remains, remains_then}, Shadows.at_low, Sole.{Halting, stop_none}, Noting.blank_none}
+use Rattle.sharc_lemmas.proofs.Bools.{yes}
 
 -- the laws that it takes
 pub record TheLaws : Type 0 where
@@ -63,10 +33,6 @@ blank_at : (n p : ℕ) → slice_index_or (replicate n blank) p blank ≡ blank
 blank_at zero p = refl
 blank_at (suc n) zero = refl
 blank_at (suc n) (suc p) = blank_at n p
-
-blank_none : (kind : Kind) (note : Note) → of_kind kind blank ≡ Some note → ⊥
-blank_none Read note e = let f : None ≡ Some note = e in cc
-blank_none Write note e = let f : None ≡ Some note = e in cc
 
 -- what is known of a code
 pub record Typed (x : Targets) (code : Code) (s : Shape) (ls : Labels) : Type 0 where

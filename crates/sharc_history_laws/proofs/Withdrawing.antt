@@ -1,42 +1,12 @@
 -- From which granules a thread has withdrawn, after each turn.
-use Rattle.std.proofs.Common.{◌≡◌, ℕ, zero, suc, ◌+◌, ◌<◌, ◌≤◌, Bool, true, false, ◌||◌, length, List, [], ◌∷◌, Option, Some, None, is_some, if◌then◌else◌, refl, sym, ap, ◌∙◌, subst, ⊎_elim, arith, eqb-true}
-use Rattle.std.specs.Prelude.{slice_index, slice_index_or, take, nat_lt, ◌==◌}
-use Rattle.std.specs.List.{list_any}
-use Rattle.std.proofs.lemmas.Bool.{cases_eq}
-use Rattle.std.proofs.lemmas.Bool.Decides.{nat_tests}
-use Rattle.sharc_shadow.specs.declared.shadow_word.Kind.{Kind}
-use Rattle.sharc_shadow.specs.declared.shadow_word.Kind.TheVariants.{Read, Write}
-use Rattle.sharc_shadow.specs.declared.access_table.Note.{Note}
-use Rattle.sharc_shadow.specs.declared.access_table.GranuleNotes.{GranuleNotes}
-use Rattle.sharc_shadow.specs.Notes.{blank, has_note, of_kind}
-use Rattle.sharc_shadow.specs.Accesses.{Accesses, ListsNoted, note_of, site_at}
-use Rattle.sharc_code.specs.declared.code.Code.{Code}
-use Rattle.sharc_code.specs.declared.instr.Instr.{Instr}
+use Rattle.std.proofs.{Common.{◌≡◌, ℕ, zero, suc, ◌+◌, ◌<◌, ◌≤◌, Bool, true, false, ◌||◌, length, List, [], ◌∷◌, Option, Some, None, is_some, if◌then◌else◌, refl, sym, ap, ◌∙◌, subst, ⊎_elim, arith, eqb-true}, lemmas.Bool.{cases_eq, false_from_ne_true as unset}, lemmas.Bool.Decides.nat_tests}
+use Rattle.std.specs.{Prelude.{slice_index, slice_index_or, take, nat_lt, ◌==◌}, List.list_any}
+use Rattle.sharc_shadow.specs.{declared.shadow_word.Kind.Kind, declared.shadow_word.Kind.TheVariants.{Read, Write}, declared.access_table.Note.Note, declared.access_table.GranuleNotes.GranuleNotes, Notes.{blank, has_note, of_kind}, Accesses.{Accesses, ListsNoted, note_of, site_at}}
+use Rattle.sharc_code.specs.{declared.code.Code.Code, declared.instr.Instr.Instr, declared.shape.Shape.Shape, declared.state.Stage.Stage, declared.state.Stage.TheVariants.{Clears, FreeClears, Withdraws, WithdrawsFrom, Leaves}, declared.state.State.{State as PlaceState}, declared.state.State.TheVariants.{Runs, Tries, Stopped, Ended}, Layout.{granules, granule_at}, Machine.{Machine, instr_at, act, exit, withdraws, withdrew, at_stage, row_of, ref}, Path.{turn, after, may_go}, Runs.{Turn, Global, MayTurn, after_turn, state_now, result_of}, Whole.{one_thread, bounds}}
 use Rattle.sharc_code.specs.declared.instr.Instr.TheVariants as instrs
-use Rattle.sharc_code.specs.declared.shape.Shape.{Shape}
-use Rattle.sharc_code.specs.declared.state.Stage.{Stage}
-use Rattle.sharc_code.specs.declared.state.Stage.TheVariants.{Clears, FreeClears, Withdraws, WithdrawsFrom, Leaves}
-use Rattle.sharc_code.specs.declared.state.State.{State as PlaceState}
-use Rattle.sharc_code.specs.declared.state.State.TheVariants.{Runs, Tries, Stopped, Ended}
-use Rattle.sharc_code.specs.Layout.{granules, granule_at}
-use Rattle.sharc_code.specs.Machine.{Machine, instr_at, act, exit, withdraws, withdrew, at_stage, row_of, ref}
-use Rattle.sharc_code.specs.Path.{turn, after, may_go}
-use Rattle.sharc_code.specs.Runs.{Turn, Global, MayTurn, after_turn, state_now, result_of}
-use Rattle.sharc_code.specs.Whole.{one_thread, bounds}
-use Rattle.sharc_invariant.specs.Bits.{Touch, Untouched, CheckOf, WithdrawOf, cleared_by, freed_by, withdrawn_by, touch_of}
-use Rattle.sharc_invariant.specs.Blocks.{Heap}
-use Rattle.sharc_invariant.specs.Labels.{Labels}
-use Rattle.sharc_invariant.specs.Reports.{touch_at}
-use Rattle.sharc_invariant.specs.State.{State, StageStands, OnExit}
-use Rattle.sharc_invariant.specs.Types.{Targets}
-use Rattle.sharc_invariant.specs.Words.{has_withdrawn, is_withdrawing, is_ended}
-use Rattle.sharc_invariant.specs.World.{World}
-use Rattle.sharc_history_laws.proofs.Going.{is_exit, going}
-use Rattle.sharc_history_laws.proofs.Rules.{put_same}
-use Rattle.sharc_history_laws.proofs.Shadows.{row_low, at_low}
-
-yes : true ≡ false → ⊥
-yes e = cc
+use Rattle.sharc_invariant.specs.{Bits.{Touch, Untouched, CheckOf, WithdrawOf, cleared_by, freed_by, withdrawn_by, touch_of}, Blocks.Heap, Labels.Labels, Reports.touch_at, State.{State, StageStands, OnExit}, Types.Targets, Words.{has_withdrawn, is_withdrawing, is_ended}, World.World}
+use Rattle.sharc_history_laws.proofs.{Going.{is_exit, going}, Rules.put_same, Shadows.{row_low, at_low}}
+use Rattle.sharc_lemmas.proofs.{Numbers.same_is, Bools.yes, Lists.same_or}
 
 -- the thread has withdrawn from the granule
 abbrev pub has_left : Machine → ℕ → Bool
@@ -45,9 +15,6 @@ has_left m p = has_withdrawn m.own.stage m.own.table.order (is_ended m.at.state)
 -- ---- rows
 abbrev among : ℕ → ℕ → List ℕ → Bool
 among p n order = list_any (λ h. p == h) (take n order)
-
-same_is : (n : ℕ) → (n == n) ≡ true
-same_is n = grind (arith, nat_tests)
 
 in_first : (order : List ℕ) (n i p : ℕ) → i < n → i < length order → slice_index order i ≡ p → among p n order ≡ true
 in_first [] n i p lt on e = absurd (omega arith)
@@ -94,11 +61,6 @@ of_site : (o : Option Note) (e z : ℕ) → site_at o e ≡ Some z → (n : Note
 of_site None e z h = absurd (let f : None ≡ Some z = h in cc)
 of_site (Some n) e z h = (n, refl)
 
-same_or : {X : Type 0} (xs : List X) (k : ℕ) (d e : X) → k < length xs → slice_index_or xs k d ≡ slice_index_or xs k e
-same_or [] k d e lt = absurd (omega arith)
-same_or (x ∷ xs) zero d e lt = refl
-same_or (x ∷ xs) (suc k) d e lt = same_or xs k d e (omega arith)
-
 -- a granule with a note is in a row
 listed : (table : Accesses) → ListsNoted table → (p : ℕ) (kind : Kind) (e z : ℕ) → site_at (note_of table p kind) e ≡ Some z → IsAmong table.order (length table.order) p
 listed table lists p kind e z h =
@@ -128,10 +90,6 @@ going_on Runs e = refl
 going_on Tries e = refl
 going_on Stopped e = refl
 going_on Ended e = absurd (yes (sym e))
-
-unset : (b : Bool) → (b ≡ true → ⊥) → b ≡ false
-unset true h = absurd (h refl)
-unset false h = refl
 
 -- ---- one turn
 module _ (x : Targets) (code : Code) (s : Shape) (ls : Labels) (g : Global Machine) (world : World) (st : State x code s ls g world) (tr : Turn) (may : MayTurn bounds (one_thread code s) g tr) where

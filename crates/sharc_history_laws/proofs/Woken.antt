@@ -1,65 +1,21 @@
 -- The source events of each run of typed code that tell who waits may come after those before them.
-use Rattle.std.proofs.Common.{◌≡◌, ℕ, pos, zero, suc, ◌+◌, ◌<◌, ◌^◌, ◌⊎◌, inl, inr, Bool, true, false, List, [], ◌∷◌, reverse, length, nat_lt, Option, Some, None, if◌then◌else◌, refl, sym, ap, ◌∙◌, subst, ⊎_elim, arith, eqb-true}
+use Rattle.std.proofs.{Common.{◌≡◌, ℕ, pos, zero, suc, ◌+◌, ◌<◌, ◌^◌, ◌⊎◌, inl, inr, Bool, true, false, List, [], ◌∷◌, reverse, length, nat_lt, Option, Some, None, if◌then◌else◌, refl, sym, ap, ◌∙◌, subst, ⊎_elim, arith, eqb-true}, lemmas.Bool.{cases_eq, false_from_ne_true as not_true}, lemmas.Bool.Decides.nat_tests}
 use Rattle.std.specs.Prelude.{slice_index, ◌==◌}
-use Rattle.std.proofs.lemmas.Bool.{cases_eq}
-use Rattle.std.proofs.lemmas.Bool.Decides.{nat_tests}
 use Rattle.sharc_word.specs.declared.step.WordOp.{WordOp}
 use Rattle.sharc_word.specs.declared.step.WordOp.TheVariants as ops
-use Rattle.sharc_tree.specs.declared.event.Act.{Act}
+use Rattle.sharc_tree.specs.{declared.event.Act.Act, declared.event.Object.Object, declared.event.CellAt.CellAt, declared.event.SourceEvent.SourceEvent}
 use Rattle.sharc_tree.specs.declared.event.Act.TheVariants as acts
-use Rattle.sharc_tree.specs.declared.event.Object.{Object}
 use Rattle.sharc_tree.specs.declared.event.Object.TheVariants as objects
-use Rattle.sharc_tree.specs.declared.event.CellAt.{CellAt}
-use Rattle.sharc_tree.specs.declared.event.SourceEvent.{SourceEvent}
 use Rattle.sharc_ctype.specs.Resolved.{Resolution}
-use Rattle.sharc_cond.specs.Laws.{WaitersLaws}
-use Rattle.sharc_cond.specs.Waiters.{waits_in, lowest_of, without_lowest}
-use Rattle.sharc_code.specs.declared.code.Code.{Code}
-use Rattle.sharc_code.specs.declared.instr.Cell.{Cell}
-use Rattle.sharc_code.specs.declared.instr.Instr.{Instr}
+use Rattle.sharc_cond.specs.{Laws.WaitersLaws, Waiters.{waits_in, lowest_of, without_lowest}}
+use Rattle.sharc_code.specs.{declared.code.Code.Code, declared.instr.Cell.Cell, declared.instr.Instr.Instr, declared.shape.Shape.Shape, declared.state.Stage.Stage, declared.state.Stage.TheVariants.{Withdraws, WithdrawsFrom, Leaves, Wakes}, Laws.RunLaws, Layout.Fits, Machine.{Machine, instr_at, word, act, exit, withdraws, withdrew, signal, at_stage, step_of}, Opening.opening_words, Path.{turn, after, asked_by}, Runs.{Turn, Global, IsRun, MayTurn, after_turn, put, state_now, result_of, opening_of}, Says.{said, cell_at, speaks_of, nobody, in_signal, event_at}, Whole.{one_thread, bounds, place_after}}
 use Rattle.sharc_code.specs.declared.instr.Instr.TheVariants as instrs
-use Rattle.sharc_code.specs.declared.shape.Shape.{Shape}
-use Rattle.sharc_code.specs.declared.state.Stage.{Stage}
-use Rattle.sharc_code.specs.declared.state.Stage.TheVariants.{Withdraws, WithdrawsFrom, Leaves, Wakes}
-use Rattle.sharc_code.specs.Laws.{RunLaws}
-use Rattle.sharc_code.specs.Layout.{Fits}
-use Rattle.sharc_code.specs.Machine.{Machine, instr_at, word, act, exit, withdraws, withdrew, signal, at_stage, step_of}
-use Rattle.sharc_code.specs.Opening.{opening_words}
-use Rattle.sharc_code.specs.Path.{turn, after, asked_by}
-use Rattle.sharc_code.specs.Runs.{Turn, Global, IsRun, MayTurn, after_turn, put, state_now, result_of, opening_of}
-use Rattle.sharc_code.specs.Says.{said, cell_at, speaks_of, nobody, in_signal, event_at}
-use Rattle.sharc_code.specs.Whole.{one_thread, bounds, place_after}
-use Rattle.sharc_gen.specs.Consistent.{said_now}
-use Rattle.sharc_gen.specs.OfRuns.{table_of}
-use Rattle.sharc_meaning.specs.Events.{Stands}
-use Rattle.sharc_meaning.specs.Obeys.{History}
-use Rattle.sharc_meaning.specs.Store.{MayCome, is_waiter}
-use Rattle.sharc_invariant.specs.Types.{Targets}
-use Rattle.sharc_invariant.specs.Labels.{Labels}
-use Rattle.sharc_invariant.specs.Typed.{IsWellTyped}
-use Rattle.sharc_invariant.specs.State.{IsSmall}
-use Rattle.sharc_invariant.specs.Laws.{Keeps, Begins as CodeBegins, CellsAreThere, PointersAreThere, AccessesAreAllowed, StateStands}
-use Rattle.sharc_history_laws.specs.History.{history_of}
-use Rattle.sharc_history_laws.specs.Stores.{BeginsWith, is_about_waiters}
-use Rattle.sharc_history_laws.specs.Waiters.{WaitsFollow}
-use Rattle.sharc_history_laws.proofs.Consists.{Consists, consists_then, at_first, found_is}
-use Rattle.sharc_history_laws.proofs.Contents.{IsCellOf, content_of, word_of_cell}
-use Rattle.sharc_history_laws.proofs.Emptying.{IsEmptied}
-use Rattle.sharc_history_laws.proofs.Going.{is_exit, going, wakes_nobody}
-use Rattle.sharc_history_laws.proofs.Lists.{Newest, Split, Last, Earlier, split}
-use Rattle.sharc_history_laws.proofs.Opening.{waiters_first, only_globals}
-use Rattle.sharc_history_laws.proofs.Queued.{waits_by, waiter_is, condition_of, condition_said, is_condition, no_condition}
-use Rattle.sharc_history_laws.proofs.Rules.{pushed, newest, newest_now, put_same, put_other}
-use Rattle.sharc_history_laws.proofs.Shared.{number_of}
-use Rattle.sharc_history_laws.proofs.Sparing.{waited_cell, holds_waiters}
-use Rattle.sharc_history_laws.proofs.Waiting.{WaitersStand, WordsTell, Here, here, here_at_wait, bit_here, words_then, stands_then}
-
-yes : true ≡ false → ⊥
-yes e = cc
-
-not_true : (b : Bool) → (b ≡ true → ⊥) → b ≡ false
-not_true true h = absurd (h refl)
-not_true false h = refl
+use Rattle.sharc_gen.specs.{Consistent.said_now, OfRuns.table_of}
+use Rattle.sharc_meaning.specs.{Events.Stands, Obeys.History, Store.{MayCome, is_waiter}}
+use Rattle.sharc_invariant.specs.{Types.Targets, Labels.Labels, Typed.IsWellTyped, State.IsSmall, Laws.{Keeps, Begins as CodeBegins, CellsAreThere, PointersAreThere, AccessesAreAllowed, StateStands}}
+use Rattle.sharc_history_laws.specs.{History.history_of, Stores.{BeginsWith, is_about_waiters}, Waiters.WaitsFollow}
+use Rattle.sharc_history_laws.proofs.{Consists.{Consists, consists_then, at_first, found_is}, Contents.{IsCellOf, content_of, word_of_cell}, Emptying.IsEmptied, Going.{is_exit, going, wakes_nobody}, Lists.{Newest, Split, Last, Earlier, split}, Opening.{waiters_first, only_globals}, Queued.{waits_by, waiter_is, condition_of, condition_said, is_condition, no_condition}, Rules.{pushed, newest, newest_now, put_same, put_other}, Shared.number_of, Sparing.{waited_cell, holds_waiters}, Waiting.{WaitersStand, WordsTell, Here, here, here_at_wait, bit_here, words_then, stands_then}}
+use Rattle.sharc_lemmas.proofs.Bools.{yes}
 
 -- ---- a turn of Exit wakes nobody
 module _ (s : Shape) (m : Machine) (found : ℕ) where

@@ -1,42 +1,15 @@
 -- Which word a turn of typed code writes: one below the blocks, a count, a cell of a live object, or one of a block that the thread builds.
-use Rattle.std.proofs.Common.{◌≡◌, ℕ, ℤ, pos, negsuc, zero, suc, ◌+◌, ◌*◌, ◌/◌, ◌<◌, ◌≤◌, ◌≢◌, Bool, true, false, nat_lt, List, if◌then◌else◌, refl, sym, ap, ◌∙◌, subst, arith}
+use Rattle.std.proofs.{Common.{◌≡◌, ℕ, ℤ, pos, negsuc, zero, suc, ◌+◌, ◌*◌, ◌/◌, ◌<◌, ◌≤◌, ◌≢◌, Bool, true, false, nat_lt, List, if◌then◌else◌, refl, sym, ap, ◌∙◌, subst, arith}, lemmas.Bool.Decides.nat_tests}
 use Rattle.std.specs.Prelude.{◌==◌}
-use Rattle.std.proofs.lemmas.Bool.Decides.{nat_tests}
 use Rattle.sharc_tree.specs.declared.trap.Trap.TheVariants as traps
-use Rattle.sharc_word.specs.declared.step.TheConstants.{THREADS}
-use Rattle.sharc_word.specs.declared.step.WordOp.{WordOp}
+use Rattle.sharc_word.specs.{declared.step.TheConstants.THREADS, declared.step.WordOp.WordOp, declared.step.WordStep.WordStep, Words.word_after}
 use Rattle.sharc_word.specs.declared.step.WordOp.TheVariants as ops
-use Rattle.sharc_word.specs.declared.step.WordStep.{WordStep}
-use Rattle.sharc_word.specs.Words.{word_after}
-use Rattle.sharc_granule.specs.State.{NewView, told}
-use Rattle.sharc_granule.specs.Asks.{word_number}
-use Rattle.sharc_granule.specs.Stages.{turn_of_stage}
-use Rattle.sharc_granule.specs.declared.arguments.NewArguments.{NewArguments}
-use Rattle.sharc_granule.specs.declared.stage.Stage.{Stage as NewStage}
+use Rattle.sharc_granule.specs.{State.{NewView, told}, Asks.word_number, Stages.turn_of_stage, declared.arguments.NewArguments.NewArguments, declared.stage.Stage.{Stage as NewStage}}
 use Rattle.sharc_granule.specs.declared.stage.Stage.TheVariants as news
-use Rattle.sharc_code.specs.declared.code.Code.{Code}
-use Rattle.sharc_code.specs.declared.instr.Cell.{Cell}
-use Rattle.sharc_code.specs.declared.instr.Register.{Register}
-use Rattle.sharc_code.specs.declared.instr.Instr.{Instr}
+use Rattle.sharc_code.specs.{declared.code.Code.Code, declared.instr.Cell.Cell, declared.instr.Register.Register, declared.instr.Instr.Instr, declared.shape.Shape.Shape, declared.state.Stage.Stage, declared.state.Stage.TheVariants.{Looks, Clears, Makes, Empties, Lowers, FreeLooks, FreeClears, Uncounts, Links, Names, Hands, Begins, Enters, Withdraws, WithdrawsFrom, Leaves as Leaving, Wakes}, Layout.{Fits, granules, granule_at, words_of, cell_word, cell_of, shadow_word, count_word, length_word, first_cell, first_shadow, state_word}, Machine.{Machine, Turn, Local, Asks, step_of, act, int, ref, word, raise, lower, test, new, asks_new, new_state, elements_of, clear, free, layout_at, spawn, join, start, exit, signal, goes, set_ref, accessed, move_ref, joined, trapped, instr_at, pointer_cell}, Path.turn, Runs.Global}
 use Rattle.sharc_code.specs.declared.instr.Instr.TheVariants as instrs
-use Rattle.sharc_code.specs.declared.shape.Shape.{Shape}
-use Rattle.sharc_code.specs.declared.state.Stage.{Stage}
-use Rattle.sharc_code.specs.declared.state.Stage.TheVariants.{Looks, Clears, Makes, Empties, Lowers, FreeLooks, FreeClears, Uncounts, Links, Names, Hands, Begins, Enters, Withdraws, WithdrawsFrom, Leaves as Leaving, Wakes}
-use Rattle.sharc_code.specs.Layout.{Fits, granules, granule_at, words_of, cell_word, cell_of, shadow_word, count_word, length_word, first_cell, first_shadow, state_word}
-use Rattle.sharc_code.specs.Machine.{Machine, Turn, Local, Asks, step_of, act, int, ref, word, raise, lower, test, new, asks_new, new_state, elements_of, clear, free, layout_at, spawn, join, start, exit, signal, goes, set_ref, accessed, move_ref, joined, trapped, instr_at, pointer_cell}
-use Rattle.sharc_code.specs.Path.{turn}
-use Rattle.sharc_code.specs.Runs.{Global}
-use Rattle.sharc_invariant.specs.Types.{Targets, Field}
-use Rattle.sharc_invariant.specs.Labels.{Label, Labels}
-use Rattle.sharc_invariant.specs.Typed.{IsWellTyped, Fine, HasCell}
-use Rattle.sharc_invariant.specs.World.{World, ObjectState}
-use Rattle.sharc_invariant.specs.Words.{cell_at}
-use Rattle.sharc_invariant.specs.Blocks.{Heap, Built, Live}
-use Rattle.sharc_invariant.specs.State.{State, Runs, StageStands, BuildsAt, all_pointers, OnHold, object_of_cell, number_in}
-use Rattle.sharc_invariant.specs.MachineInvariant.{IsOn}
-use Rattle.sharc_invariant.specs.Laws.{CellsAreThere, PointersAreThere}
-use Rattle.sharc_history_laws.proofs.Single.{single, rests_hold}
-use Rattle.sharc_history_laws.proofs.Stands.{there, sole_ref, live_ref, target_ref}
+use Rattle.sharc_invariant.specs.{Types.{Targets, Field}, Labels.{Label, Labels}, Typed.{IsWellTyped, Fine, HasCell}, World.{World, ObjectState}, Words.cell_at, Blocks.{Heap, Built, Live}, State.{State, Runs, StageStands, BuildsAt, all_pointers, OnHold, object_of_cell, number_in}, MachineInvariant.IsOn, Laws.{CellsAreThere, PointersAreThere}}
+use Rattle.sharc_history_laws.proofs.{Single.{single, rests_hold}, Stands.{there, sole_ref, live_ref, target_ref}}
 
 pub data Wrote (s : Shape) (obj : ℕ → ObjectState) (cells : ℕ → ℕ) (heap : Heap) (t : ℕ) (step : WordStep) : Type 0 where
   Leaves : ((v : ℕ) → word_after step.op v ≡ v) → Wrote s obj cells heap t step

@@ -1,21 +1,11 @@
 -- What threads wait for at the end of a run.
 use Rattle.std.specs.Prelude.{◌≡◌, ◌≢◌, ◌<◌, ◌⊎◌, ℕ, pos, true, false, List, slice_index}
 use Rattle.sharc_word.specs.declared.step.TheConstants.{THREADS}
-use Rattle.sharc_code.specs.declared.code.Code.{Code}
-use Rattle.sharc_code.specs.declared.instr.Cell.{Cell}
-use Rattle.sharc_code.specs.declared.instr.Instr.TheVariants.{Lock}
-use Rattle.sharc_code.specs.declared.shape.Shape.{Shape}
-use Rattle.sharc_code.specs.Layout.{Fits, state_word}
-use Rattle.sharc_code.specs.Machine.{instr_at, word}
-use Rattle.sharc_code.specs.Runs.{Turn}
-use Rattle.sharc_code.specs.Says.{cell_at}
-use Rattle.sharc_code.specs.Whole.{CheckedRun, IsOn, place_after}
-use Rattle.sharc_meaning.specs.Events.{events_of, holds_mutex}
-use Rattle.sharc_meaning.specs.Store.{went}
-use Rattle.sharc_invariant.specs.Types.{Targets}
-use Rattle.sharc_invariant.specs.Labels.{Labels}
-use Rattle.sharc_invariant.specs.Typed.{IsWellTyped}
-use Rattle.sharc_invariant.specs.State.{IsSmall}
+use Rattle.sharc_code.specs.{declared.code.Code.Code, declared.instr.Cell.Cell, declared.instr.Instr.TheVariants.Lock}
+use Rattle.sharc_code.specs.{declared.shape.Shape.Shape, Layout.{Fits, state_word}, Machine.{instr_at, word}, Runs.Turn}
+use Rattle.sharc_code.specs.{Says.cell_at, Whole.{CheckedRun, IsOn, place_after}}
+use Rattle.sharc_meaning.specs.{Events.{events_of, holds_mutex}, Store.went}
+use Rattle.sharc_invariant.specs.{Types.Targets, Labels.Labels, Typed.IsWellTyped, State.IsSmall}
 use Rattle.sharc_history_laws.specs.History.{history_of}
 
 -- where a thread is to lock a mutex whose word is not 0, a thread holds that mutex by its events

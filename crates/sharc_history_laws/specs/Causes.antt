@@ -1,28 +1,16 @@
 -- The cause of a refused check of an access: the check of another thread that its report names, and what came between the two.
-use Rattle.std.specs.Prelude.{◌≡◌, ◌≢◌, ◌<◌, false, ℕ, ◌⊎◌, Bool, true, false, List, [], ◌∷◌, ◌++◌, Option, Some, None}
-use Rattle.sharc_tree.specs.declared.event.Object.{Object}
-use Rattle.sharc_tree.specs.declared.event.SourceEvent.{SourceEvent}
+use Rattle.std.specs.Prelude.{◌≡◌, ◌≢◌, ◌<◌, false, ℕ, ◌⊎◌, Bool, true, List, [], ◌∷◌, ◌++◌, Option, Some, None}
+use Rattle.sharc_tree.specs.{declared.event.Object.Object, declared.event.SourceEvent.SourceEvent}
 use Rattle.sharc_word.specs.declared.step.TheConstants.{THREADS}
-use Rattle.sharc_shadow.specs.declared.shadow_word.Kind.{Kind}
-use Rattle.sharc_shadow.specs.declared.shadow_word.Kind.TheVariants.{Read, Write}
-use Rattle.sharc_shadow.specs.Accesses.{note_of, site_at}
-use Rattle.sharc_shadow.specs.ShadowWord.{is_written, stands}
-use Rattle.sharc_code.specs.declared.code.Code.{Code}
-use Rattle.sharc_code.specs.declared.shape.Shape.{Shape}
-use Rattle.sharc_code.specs.declared.state.ConflictAt.{ConflictAt}
-use Rattle.sharc_code.specs.declared.state.Stop.TheVariants.{Conflict}
-use Rattle.sharc_code.specs.Layout.{Fits}
-use Rattle.sharc_code.specs.Machine.{Machine, instr_at}
-use Rattle.sharc_code.specs.Path.{begun, may_go}
-use Rattle.sharc_code.specs.Runs.{Turn, Global, told_by}
+use Rattle.sharc_shadow.specs.{declared.shadow_word.Kind.Kind, declared.shadow_word.Kind.TheVariants.{Read, Write}}
+use Rattle.sharc_shadow.specs.{Accesses.{note_of, site_at}, ShadowWord.{is_written, stands}}
+use Rattle.sharc_code.specs.{declared.code.Code.Code, declared.shape.Shape.Shape, declared.state.ConflictAt.ConflictAt}
+use Rattle.sharc_code.specs.{declared.state.Stop.TheVariants.Conflict, Layout.Fits, Machine.{Machine, instr_at}}
+use Rattle.sharc_code.specs.{Path.{begun, may_go}, Runs.{Turn, Global, told_by}}
 use Rattle.sharc_code.specs.Whole.{CheckedRun, Erase, one_thread, place_after}
-use Rattle.sharc_meaning.specs.Events.{Access, access_by, begins, frees, granule_of}
-use Rattle.sharc_meaning.specs.Obeys.{Obeys, until_gone}
+use Rattle.sharc_meaning.specs.{Events.{Access, access_by, begins, frees, granule_of}, Obeys.{Obeys, until_gone}}
 use Rattle.sharc_meaning.specs.Store.{is_gone}
-use Rattle.sharc_invariant.specs.Types.{Targets}
-use Rattle.sharc_invariant.specs.Labels.{Labels}
-use Rattle.sharc_invariant.specs.Typed.{IsWellTyped}
-use Rattle.sharc_invariant.specs.State.{IsSmall}
+use Rattle.sharc_invariant.specs.{Types.Targets, Labels.Labels, Typed.IsWellTyped, State.IsSmall}
 use Rattle.sharc_history_laws.specs.Conflicts.{IsCheck}
 use Rattle.sharc_history_laws.specs.Followed.{ChecksAreFollowed, access_of, access_checked, IsOfAccess}
 use Rattle.sharc_history_laws.specs.History.{history_of}

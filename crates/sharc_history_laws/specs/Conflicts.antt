@@ -1,26 +1,15 @@
 -- What the refused checks of accesses of checked runs of typed code show. Lists of turns have the last one first.
 use Rattle.std.specs.Prelude.{◌≡◌, ◌≢◌, ℕ, ◌⊎◌, Bool, true, false, List, [], ◌∷◌, ◌++◌, Option, Some, None, slice_index}
-use Rattle.sharc_shadow.specs.declared.shadow_word.Kind.{Kind}
-use Rattle.sharc_shadow.specs.declared.shadow_word.Kind.TheVariants.{Write}
-use Rattle.sharc_shadow.specs.declared.access_table.Note.{Note}
-use Rattle.sharc_shadow.specs.Accesses.{note_of, site_at}
+use Rattle.sharc_shadow.specs.{declared.shadow_word.Kind.Kind, declared.shadow_word.Kind.TheVariants.Write}
+use Rattle.sharc_shadow.specs.{declared.access_table.Note.Note, Accesses.{note_of, site_at}}
 use Rattle.sharc_shadow.specs.ShadowWord.{stands, epoch_of}
-use Rattle.sharc_code.specs.declared.code.Code.{Code}
-use Rattle.sharc_code.specs.declared.instr.Instr.{Instr}
-use Rattle.sharc_code.specs.declared.instr.Instr.TheVariants.{ChkRead, ChkWrite}
-use Rattle.sharc_code.specs.declared.shape.Shape.{Shape}
-use Rattle.sharc_code.specs.declared.state.ConflictAt.{ConflictAt}
-use Rattle.sharc_code.specs.declared.state.Stop.TheVariants.{Conflict}
-use Rattle.sharc_code.specs.Layout.{Fits, shadow_word}
-use Rattle.sharc_code.specs.Machine.{Machine, instr_at}
-use Rattle.sharc_code.specs.Runs.{Turn}
+use Rattle.sharc_code.specs.{declared.code.Code.Code, declared.instr.Instr.Instr}
+use Rattle.sharc_code.specs.{declared.instr.Instr.TheVariants.{ChkRead, ChkWrite}, declared.shape.Shape.Shape}
+use Rattle.sharc_code.specs.{declared.state.ConflictAt.ConflictAt, declared.state.Stop.TheVariants.Conflict}
+use Rattle.sharc_code.specs.{Layout.{Fits, shadow_word}, Machine.{Machine, instr_at}, Runs.Turn}
 use Rattle.sharc_code.specs.Whole.{CheckedRun, place_after}
-use Rattle.sharc_invariant.specs.Types.{Targets}
-use Rattle.sharc_invariant.specs.Labels.{Labels}
-use Rattle.sharc_invariant.specs.Typed.{IsWellTyped}
-use Rattle.sharc_invariant.specs.State.{IsSmall}
-use Rattle.sharc_invariant.specs.Bits.{Touch, Untouched, CheckOf, ClearOf, WithdrawOf}
-use Rattle.sharc_invariant.specs.Reports.{touch_at}
+use Rattle.sharc_invariant.specs.{Types.Targets, Labels.Labels, Typed.IsWellTyped, State.IsSmall}
+use Rattle.sharc_invariant.specs.{Bits.{Touch, Untouched, CheckOf, ClearOf, WithdrawOf}, Reports.touch_at}
 
 -- ---- checks in a run
 abbrev pub site_of_check : Instr → Option ℕ

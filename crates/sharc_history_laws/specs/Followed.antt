@@ -1,32 +1,18 @@
 -- Code in which each check is directly before the access that it is of, and what then comes of checks and of reports.
 use Rattle.std.specs.Prelude.{◌≡◌, ℕ, ◌+◌, Bool, true, false, List, [], ◌∷◌, ◌++◌, Option, Some, None}
-use Rattle.sharc_tree.specs.declared.event.CellAt.{CellAt}
+use Rattle.sharc_tree.specs.{declared.event.CellAt.CellAt, declared.event.SourceEvent.SourceEvent}
 use Rattle.sharc_tree.specs.declared.event.CellMode.TheVariants as modes
-use Rattle.sharc_tree.specs.declared.event.SourceEvent.{SourceEvent}
 use Rattle.sharc_shadow.specs.declared.shadow_word.Kind.{Kind}
-use Rattle.sharc_code.specs.declared.code.Code.{Code}
-use Rattle.sharc_code.specs.declared.code.PlaceMode.{PlaceMode}
+use Rattle.sharc_code.specs.{declared.code.Code.Code, declared.code.PlaceMode.PlaceMode}
 use Rattle.sharc_code.specs.declared.code.PlaceMode.TheVariants.{Dynamic, LockedGlobal, LockedSibling, LockedThrough, LockedLoaded}
-use Rattle.sharc_code.specs.declared.instr.Cell.{Cell}
-use Rattle.sharc_code.specs.declared.instr.Instr.{Instr}
+use Rattle.sharc_code.specs.{declared.instr.Cell.Cell, declared.instr.Instr.Instr}
 use Rattle.sharc_code.specs.declared.instr.Instr.TheVariants.{ChkRead, ChkWrite, ChkLock, ChkLockLoaded, Load, Store, LoadRef, Exchange, TakeCell}
-use Rattle.sharc_code.specs.declared.shape.Shape.{Shape}
-use Rattle.sharc_code.specs.declared.state.Stop.TheVariants.{NoLock}
-use Rattle.sharc_code.specs.Layout.{Fits}
-use Rattle.sharc_code.specs.Machine.{Machine, instr_at}
-use Rattle.sharc_code.specs.Path.{may_go}
-use Rattle.sharc_code.specs.Runs.{Turn, told_by, turns_of}
-use Rattle.sharc_code.specs.Says.{cell_at, mode_of, place_at}
-use Rattle.sharc_code.specs.Whole.{CheckedRun, Erase, one_thread, place_after}
-use Rattle.sharc_meaning.specs.Events.{Access, access_by, events_of, holds_mutex}
-use Rattle.sharc_meaning.specs.Obeys.{History, Obeys, Until}
-use Rattle.sharc_invariant.specs.Types.{Targets}
-use Rattle.sharc_invariant.specs.Labels.{Labels}
-use Rattle.sharc_invariant.specs.Typed.{IsWellTyped}
-use Rattle.sharc_invariant.specs.State.{IsSmall}
-use Rattle.sharc_history_laws.specs.Conflicts.{IsCheck}
-use Rattle.sharc_history_laws.specs.History.{history_of}
-use Rattle.sharc_history_laws.specs.Reports.{IsLockCheck}
+use Rattle.sharc_code.specs.{declared.shape.Shape.Shape, declared.state.Stop.TheVariants.NoLock, Layout.Fits}
+use Rattle.sharc_code.specs.{Machine.{Machine, instr_at}, Path.may_go, Runs.{Turn, told_by, turns_of}}
+use Rattle.sharc_code.specs.{Says.{cell_at, mode_of, place_at}, Whole.{CheckedRun, Erase, one_thread, place_after}}
+use Rattle.sharc_meaning.specs.{Events.{Access, access_by, events_of, holds_mutex}, Obeys.{History, Obeys, Until}}
+use Rattle.sharc_invariant.specs.{Types.Targets, Labels.Labels, Typed.IsWellTyped, State.IsSmall}
+use Rattle.sharc_history_laws.specs.{Conflicts.IsCheck, History.history_of, Reports.IsLockCheck}
 
 -- ---- accesses of a code
 -- the instruction accesses this cell, at this site

@@ -1,16 +1,10 @@
 -- The source events of each checked run of typed code keep the rules of the modes.
 use Rattle.std.specs.Prelude.{List, reverse}
-use Rattle.sharc_code.specs.declared.code.Code.{Code}
-use Rattle.sharc_code.specs.declared.shape.Shape.{Shape}
-use Rattle.sharc_code.specs.Layout.{Fits}
-use Rattle.sharc_code.specs.Runs.{Turn}
+use Rattle.sharc_code.specs.{declared.code.Code.Code, declared.shape.Shape.Shape, Layout.Fits, Runs.Turn}
 use Rattle.sharc_code.specs.Whole.{CheckedRun, Erase}
 use Rattle.sharc_gen.specs.OfRuns.{told_in}
 use Rattle.sharc_meaning.specs.Obeys.{History, Obeys, until_return}
-use Rattle.sharc_invariant.specs.Types.{Targets}
-use Rattle.sharc_invariant.specs.Labels.{Labels}
-use Rattle.sharc_invariant.specs.Typed.{IsWellTyped}
-use Rattle.sharc_invariant.specs.State.{IsSmall}
+use Rattle.sharc_invariant.specs.{Types.Targets, Labels.Labels, Typed.IsWellTyped, State.IsSmall}
 
 -- the events of a run, the first one first
 abbrev pub history_of : Code → Shape → List Turn → History

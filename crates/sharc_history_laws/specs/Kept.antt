@@ -1,34 +1,21 @@
 -- The references that the source events of a checked run of typed code tell of, the words tell of too: those of held
 -- mutexes, of arguments that are not read yet, and of the pointer cells of live objects. And which cells are pointers.
 use Rattle.std.specs.Prelude.{ℕ, ℤ, pos, ◌≡◌, ◌≢◌, ◌⊎◌, ◌+◌, ◌-◌, true, false, List, [], ◌∷◌, ◌++◌, Any, Some}
-use Rattle.sharc_tree.specs.declared.event.Act.TheVariants.{Spawn}
-use Rattle.sharc_tree.specs.declared.event.CellAt.{CellAt}
+use Rattle.sharc_tree.specs.{declared.event.Act.TheVariants.Spawn, declared.event.CellAt.CellAt}
 use Rattle.sharc_tree.specs.declared.event.Object.TheVariants.{Global as GlobalNumber, Made}
 use Rattle.sharc_tree.specs.declared.event.SourceEvent.{SourceEvent}
-use Rattle.sharc_code.specs.declared.code.Code.{Code}
-use Rattle.sharc_code.specs.declared.code.Parameter.TheVariants.{Reference}
-use Rattle.sharc_code.specs.declared.shape.Shape.{Shape}
-use Rattle.sharc_code.specs.Layout.{Fits}
-use Rattle.sharc_code.specs.Machine.{function_of}
-use Rattle.sharc_code.specs.Ranges.{IsInGlobal, first_place as first_cell_of}
-use Rattle.sharc_code.specs.Runs.{Turn}
+use Rattle.sharc_code.specs.{declared.code.Code.Code, declared.code.Parameter.TheVariants.Reference}
+use Rattle.sharc_code.specs.{declared.shape.Shape.Shape, Layout.Fits, Machine.function_of}
+use Rattle.sharc_code.specs.{Ranges.{IsInGlobal, first_place as first_cell_of}, Runs.Turn}
 use Rattle.sharc_code.specs.Whole.{CheckedRun, place_after}
 use Rattle.sharc_ctype.specs.Resolved.{Resolution}
-use Rattle.sharc_meaning.specs.Events.{events_of, latest, makes}
-use Rattle.sharc_meaning.specs.References.{refers}
+use Rattle.sharc_meaning.specs.{Events.{events_of, latest, makes}, References.refers}
 use Rattle.sharc_meaning.specs.Store.{initial_value, is_live, is_locked, value_after}
-use Rattle.sharc_invariant.specs.Types.{Targets, global_field, is_pointer}
-use Rattle.sharc_invariant.specs.Labels.{Labels}
-use Rattle.sharc_invariant.specs.Typed.{IsWellTyped}
-use Rattle.sharc_invariant.specs.Words.{argument_of}
-use Rattle.sharc_invariant.specs.World.{ObjectState}
-use Rattle.sharc_invariant.specs.State.{IsSmall}
-use Rattle.sharc_invariant.specs.Opened.{first_world, first_place}
-use Rattle.sharc_invariant.specs.Objects.{objects_after}
+use Rattle.sharc_invariant.specs.{Types.{Targets, global_field, is_pointer}, Labels.Labels, Typed.IsWellTyped}
+use Rattle.sharc_invariant.specs.{Words.argument_of, World.ObjectState, State.IsSmall}
+use Rattle.sharc_invariant.specs.{Opened.{first_world, first_place}, Objects.objects_after}
 use Rattle.sharc_invariant.specs.MachineInvariant.{cell_refers, is_pointer_now, log_refers}
-use Rattle.sharc_history_laws.specs.History.{history_of}
-use Rattle.sharc_history_laws.specs.SeenCells.{IsBeingFreed, IsCellIn}
-use Rattle.sharc_history_laws.specs.Stores.{BeginsWith}
+use Rattle.sharc_history_laws.specs.{History.history_of, SeenCells.{IsBeingFreed, IsCellIn}, Stores.BeginsWith}
 
 -- where a mutex of an object is locked by the events, the held log of a thread refers to the object
 abbrev pub LockedAreLogged : Type 0

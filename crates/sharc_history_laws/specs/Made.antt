@@ -1,20 +1,11 @@
 -- Pointer cells of made objects, by the source.
 use Rattle.std.specs.Prelude.{◌≡◌, ◌≢◌, ℕ, true, List, Some}
-use Rattle.sharc_tree.specs.declared.event.Object.TheVariants.{Made}
-use Rattle.sharc_tree.specs.declared.event.SourceEvent.{SourceEvent}
-use Rattle.sharc_code.specs.declared.code.Code.{Code}
-use Rattle.sharc_code.specs.declared.shape.Shape.{Shape}
-use Rattle.sharc_code.specs.Layout.{Fits}
-use Rattle.sharc_code.specs.Runs.{Turn}
+use Rattle.sharc_tree.specs.{declared.event.Object.TheVariants.Made, declared.event.SourceEvent.SourceEvent}
+use Rattle.sharc_code.specs.{declared.code.Code.Code, declared.shape.Shape.Shape, Layout.Fits, Runs.Turn}
 use Rattle.sharc_code.specs.Whole.{CheckedRun}
-use Rattle.sharc_meaning.specs.Events.{latest, makes}
-use Rattle.sharc_meaning.specs.Store.{is_live}
-use Rattle.sharc_invariant.specs.Types.{Targets, field_in, is_pointer}
-use Rattle.sharc_invariant.specs.Labels.{Labels}
-use Rattle.sharc_invariant.specs.Typed.{IsWellTyped}
-use Rattle.sharc_invariant.specs.State.{IsSmall}
-use Rattle.sharc_invariant.specs.Opened.{first_world, first_place}
-use Rattle.sharc_invariant.specs.Objects.{objects_after}
+use Rattle.sharc_meaning.specs.{Events.{latest, makes}, Store.is_live}
+use Rattle.sharc_invariant.specs.{Types.{Targets, field_in, is_pointer}, Labels.Labels, Typed.IsWellTyped}
+use Rattle.sharc_invariant.specs.{State.IsSmall, Opened.{first_world, first_place}, Objects.objects_after}
 use Rattle.sharc_history_laws.specs.History.{history_of}
 
 -- a cell of an object that is made and live is a pointer by the table where it is one of what is made at the token of the object's last New

@@ -1,26 +1,14 @@
 -- What the reports of checked runs of typed code show.
 use Rattle.std.specs.Prelude.{◌≡◌, ℕ, ◌+◌, ◌<◌, ◌≤◌, List, ◌∷◌, ◌++◌, Some, false, slice_index}
 use Rattle.sharc_tree.specs.declared.event.CellAt.{CellAt}
-use Rattle.sharc_code.specs.declared.code.Code.{Code}
-use Rattle.sharc_code.specs.declared.instr.Instr.{Instr}
+use Rattle.sharc_code.specs.{declared.code.Code.Code, declared.instr.Instr.Instr}
 use Rattle.sharc_code.specs.declared.instr.Instr.TheVariants.{ChkLock, ChkLockLoaded, TestSole}
-use Rattle.sharc_code.specs.declared.shape.Shape.{Shape}
-use Rattle.sharc_code.specs.declared.state.Stop.TheVariants.{NoLock, NotSole}
-use Rattle.sharc_code.specs.Layout.{Fits, count_word}
-use Rattle.sharc_code.specs.Machine.{Machine, instr_at, ref}
-use Rattle.sharc_code.specs.Runs.{Turn, Global}
-use Rattle.sharc_code.specs.Says.{cell_at, made_cell}
-use Rattle.sharc_code.specs.Whole.{CheckedRun, place_after}
-use Rattle.sharc_meaning.specs.Events.{events_of, holds_mutex}
-use Rattle.sharc_meaning.specs.Obeys.{History}
-use Rattle.sharc_invariant.specs.Types.{Targets}
-use Rattle.sharc_invariant.specs.Labels.{Labels}
-use Rattle.sharc_invariant.specs.Typed.{IsWellTyped}
-use Rattle.sharc_invariant.specs.World.{ObjectState}
-use Rattle.sharc_invariant.specs.Words.{argument_of}
-use Rattle.sharc_invariant.specs.State.{IsSmall}
-use Rattle.sharc_invariant.specs.Opened.{first_world, first_place}
-use Rattle.sharc_invariant.specs.Objects.{objects_after}
+use Rattle.sharc_code.specs.{declared.shape.Shape.Shape, declared.state.Stop.TheVariants.{NoLock, NotSole}}
+use Rattle.sharc_code.specs.{Layout.{Fits, count_word}, Machine.{Machine, instr_at, ref}, Runs.{Turn, Global}}
+use Rattle.sharc_code.specs.{Says.{cell_at, made_cell}, Whole.{CheckedRun, place_after}}
+use Rattle.sharc_meaning.specs.{Events.{events_of, holds_mutex}, Obeys.History}
+use Rattle.sharc_invariant.specs.{Types.Targets, Labels.Labels, Typed.IsWellTyped, World.ObjectState, Words.argument_of}
+use Rattle.sharc_invariant.specs.{State.IsSmall, Opened.{first_world, first_place}, Objects.objects_after}
 use Rattle.sharc_invariant.specs.MachineInvariant.{register_refers, log_refers, hand_refers, cell_refers, references_to}
 use Rattle.sharc_history_laws.specs.History.{history_of}
 

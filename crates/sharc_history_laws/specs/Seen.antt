@@ -1,29 +1,15 @@
 -- What the source events of a checked run of typed code tell of references that are in no register and in no cell: of held mutexes, and of arguments that are
 -- not read yet.
 use Rattle.std.specs.Prelude.{ℕ, ◌≡◌, ◌≢◌, ◌<◌, ◌^◌, true, List, [], ◌++◌}
-use Rattle.sharc_tree.specs.declared.event.CellAt.{CellAt}
-use Rattle.sharc_tree.specs.declared.event.Object.TheVariants.{Made}
-use Rattle.sharc_code.specs.declared.code.Code.{Code}
-use Rattle.sharc_code.specs.declared.code.Parameter.TheVariants.{Reference}
-use Rattle.sharc_code.specs.declared.shape.Shape.{Shape}
-use Rattle.sharc_code.specs.Layout.{Fits}
-use Rattle.sharc_code.specs.Machine.{function_of}
-use Rattle.sharc_code.specs.Runs.{Turn}
-use Rattle.sharc_code.specs.Says.{reference}
+use Rattle.sharc_tree.specs.{declared.event.CellAt.CellAt, declared.event.Object.TheVariants.Made}
+use Rattle.sharc_code.specs.{declared.code.Code.Code, declared.code.Parameter.TheVariants.Reference}
+use Rattle.sharc_code.specs.{declared.shape.Shape.Shape, Layout.Fits, Machine.function_of, Runs.Turn, Says.reference}
 use Rattle.sharc_code.specs.Whole.{CheckedRun, place_after}
 use Rattle.sharc_ctype.specs.Resolved.{Resolution}
-use Rattle.sharc_meaning.specs.Events.{events_of}
-use Rattle.sharc_meaning.specs.Obeys.{History}
-use Rattle.sharc_meaning.specs.Runs.{IsSpawned}
-use Rattle.sharc_meaning.specs.Store.{is_locked}
-use Rattle.sharc_invariant.specs.Types.{Targets}
-use Rattle.sharc_invariant.specs.Labels.{Labels}
-use Rattle.sharc_invariant.specs.Typed.{IsWellTyped}
-use Rattle.sharc_invariant.specs.Words.{argument_of}
-use Rattle.sharc_invariant.specs.State.{IsSmall}
+use Rattle.sharc_meaning.specs.{Events.events_of, Obeys.History, Runs.IsSpawned, Store.is_locked}
+use Rattle.sharc_invariant.specs.{Types.Targets, Labels.Labels, Typed.IsWellTyped, Words.argument_of, State.IsSmall}
 use Rattle.sharc_invariant.specs.MachineInvariant.{log_refers}
-use Rattle.sharc_history_laws.specs.History.{history_of}
-use Rattle.sharc_history_laws.specs.Stores.{BeginsWith}
+use Rattle.sharc_history_laws.specs.{History.history_of, Stores.BeginsWith}
 
 -- the turns of a checked run up to some turn are a checked run
 abbrev pub RunsBegin : Type 0

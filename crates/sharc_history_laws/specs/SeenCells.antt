@@ -1,33 +1,19 @@
 -- What the pointer cells of a checked run of typed code refer to, by the events.
 use Rattle.std.specs.Prelude.{◌≡◌, ◌≢◌, ◌⊎◌, ℕ, ◌+◌, Bool, true, false, List}
-use Rattle.sharc_tree.specs.declared.event.CellAt.{CellAt}
-use Rattle.sharc_tree.specs.declared.event.Object.{Object}
+use Rattle.sharc_tree.specs.{declared.event.CellAt.CellAt, declared.event.Object.Object}
 use Rattle.sharc_tree.specs.declared.event.Object.TheVariants.{Global as GlobalNumber, Made}
 use Rattle.sharc_ctype.specs.Resolved.{Resolution}
-use Rattle.sharc_code.specs.declared.code.Code.{Code}
-use Rattle.sharc_code.specs.declared.instr.Instr.TheVariants.{Free}
-use Rattle.sharc_code.specs.declared.shape.Shape.{Shape}
+use Rattle.sharc_code.specs.{declared.code.Code.Code, declared.instr.Instr.TheVariants.Free, declared.shape.Shape.Shape}
 use Rattle.sharc_code.specs.declared.state.Stage.{Stage}
 use Rattle.sharc_code.specs.declared.state.Stage.TheVariants.{Empties, Lowers, FreeLooks, FreeClears, Uncounts}
-use Rattle.sharc_code.specs.Layout.{Fits}
-use Rattle.sharc_code.specs.Machine.{Machine, instr_at, ref}
-use Rattle.sharc_code.specs.Path.{may_go}
-use Rattle.sharc_code.specs.Ranges.{IsInGlobal, first_place as first_cell_of}
-use Rattle.sharc_code.specs.Runs.{Turn, Global}
+use Rattle.sharc_code.specs.{Layout.Fits, Machine.{Machine, instr_at, ref}, Path.may_go}
+use Rattle.sharc_code.specs.{Ranges.{IsInGlobal, first_place as first_cell_of}, Runs.{Turn, Global}}
 use Rattle.sharc_code.specs.Whole.{CheckedRun, place_after}
-use Rattle.sharc_meaning.specs.Obeys.{History}
-use Rattle.sharc_meaning.specs.References.{refers}
-use Rattle.sharc_meaning.specs.Store.{is_live, value_after}
-use Rattle.sharc_invariant.specs.Types.{Targets, field_in, global_field, is_pointer}
-use Rattle.sharc_invariant.specs.Labels.{Labels}
-use Rattle.sharc_invariant.specs.Typed.{IsWellTyped}
-use Rattle.sharc_invariant.specs.World.{ObjectState}
-use Rattle.sharc_invariant.specs.State.{IsSmall}
-use Rattle.sharc_invariant.specs.Opened.{first_world, first_place}
-use Rattle.sharc_invariant.specs.Objects.{objects_after}
-use Rattle.sharc_invariant.specs.MachineInvariant.{cell_refers}
-use Rattle.sharc_history_laws.specs.History.{history_of}
-use Rattle.sharc_history_laws.specs.Stores.{BeginsWith}
+use Rattle.sharc_meaning.specs.{Obeys.History, References.refers, Store.{is_live, value_after}}
+use Rattle.sharc_invariant.specs.{Types.{Targets, field_in, global_field, is_pointer}, Labels.Labels, Typed.IsWellTyped}
+use Rattle.sharc_invariant.specs.{World.ObjectState, State.IsSmall, Opened.{first_world, first_place}}
+use Rattle.sharc_invariant.specs.{Objects.objects_after, MachineInvariant.cell_refers}
+use Rattle.sharc_history_laws.specs.{History.history_of, Stores.BeginsWith}
 
 -- the cell of the source is number i of object p of the machine: object 0 has the cells of all globals, from granule 1 on
 abbrev pub IsCellIn : Code → Object → ℕ → ℕ → ℕ → Type 0

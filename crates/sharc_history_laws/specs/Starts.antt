@@ -1,22 +1,11 @@
 -- Who starts the threads of a checked run of typed code.
 use Rattle.std.specs.Prelude.{◌≡◌, ◌<◌, ◌⊎◌, ℕ, ℤ, pos, List, [], length}
-use Rattle.sharc_tree.specs.declared.event.Act.TheVariants.{Started}
-use Rattle.sharc_tree.specs.declared.event.SourceEvent.{SourceEvent}
-use Rattle.sharc_code.specs.declared.code.Code.{Code}
-use Rattle.sharc_code.specs.declared.instr.Instr.TheVariants.{Spawn}
-use Rattle.sharc_code.specs.declared.instr.Register.{Register}
-use Rattle.sharc_code.specs.declared.shape.Shape.{Shape}
-use Rattle.sharc_code.specs.Layout.{Fits}
-use Rattle.sharc_code.specs.Machine.{function_of, instr_at}
-use Rattle.sharc_code.specs.Runs.{Turn}
-use Rattle.sharc_code.specs.Whole.{CheckedRun}
-use Rattle.sharc_meaning.specs.Events.{Stands, events_of}
-use Rattle.sharc_meaning.specs.Obeys.{History}
-use Rattle.sharc_meaning.specs.Runs.{IsSpawned}
-use Rattle.sharc_invariant.specs.Types.{Targets}
-use Rattle.sharc_invariant.specs.Labels.{Labels}
-use Rattle.sharc_invariant.specs.Typed.{IsWellTyped}
-use Rattle.sharc_invariant.specs.State.{IsSmall}
+use Rattle.sharc_tree.specs.{declared.event.Act.TheVariants.Started, declared.event.SourceEvent.SourceEvent}
+use Rattle.sharc_code.specs.{declared.code.Code.Code, declared.instr.Instr.TheVariants.Spawn}
+use Rattle.sharc_code.specs.{declared.instr.Register.Register, declared.shape.Shape.Shape, Layout.Fits}
+use Rattle.sharc_code.specs.{Machine.{function_of, instr_at}, Runs.Turn, Whole.CheckedRun}
+use Rattle.sharc_meaning.specs.{Events.{Stands, events_of}, Obeys.History, Runs.IsSpawned}
+use Rattle.sharc_invariant.specs.{Types.Targets, Labels.Labels, Typed.IsWellTyped, State.IsSmall}
 use Rattle.sharc_history_laws.specs.History.{history_of}
 
 -- thread 0 has the code's first function, and its argument is 0

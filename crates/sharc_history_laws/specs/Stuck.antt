@@ -1,26 +1,15 @@
 -- What a thread that waits asks for cannot come.
 use Rattle.std.specs.Prelude.{◌≡◌, ℕ, List, Option, Some, None}
-use Rattle.sharc_tree.specs.declared.event.Act.{Act}
+use Rattle.sharc_tree.specs.{declared.event.Act.Act, declared.event.SourceEvent.SourceEvent}
 use Rattle.sharc_tree.specs.declared.event.Act.TheVariants as acts
-use Rattle.sharc_tree.specs.declared.event.SourceEvent.{SourceEvent}
 use Rattle.sharc_ctype.specs.Resolved.{Resolution}
-use Rattle.sharc_code.specs.declared.code.Code.{Code}
-use Rattle.sharc_code.specs.declared.instr.Instr.{Instr}
-use Rattle.sharc_code.specs.declared.instr.Instr.TheVariants.{Lock, Join, CondWait}
-use Rattle.sharc_code.specs.declared.shape.Shape.{Shape}
-use Rattle.sharc_code.specs.Layout.{Fits}
-use Rattle.sharc_code.specs.Machine.{Machine, instr_at, int}
-use Rattle.sharc_code.specs.Runs.{Turn}
-use Rattle.sharc_code.specs.Says.{cell_at}
+use Rattle.sharc_code.specs.{declared.code.Code.Code, declared.instr.Instr.Instr}
+use Rattle.sharc_code.specs.{declared.instr.Instr.TheVariants.{Lock, Join, CondWait}, declared.shape.Shape.Shape}
+use Rattle.sharc_code.specs.{Layout.Fits, Machine.{Machine, instr_at, int}, Runs.Turn, Says.cell_at}
 use Rattle.sharc_code.specs.Whole.{CheckedRun, place_after, Waits, IsOn}
 use Rattle.sharc_meaning.specs.Store.{MayCome}
-use Rattle.sharc_invariant.specs.Types.{Targets}
-use Rattle.sharc_invariant.specs.Labels.{Labels}
-use Rattle.sharc_invariant.specs.Typed.{IsWellTyped}
-use Rattle.sharc_invariant.specs.State.{IsSmall}
-use Rattle.sharc_history_laws.specs.History.{history_of}
-use Rattle.sharc_history_laws.specs.Stores.{BeginsWith}
-use Rattle.sharc_history_laws.specs.Waiters.{WaitsFollow}
+use Rattle.sharc_invariant.specs.{Types.Targets, Labels.Labels, Typed.IsWellTyped, State.IsSmall}
+use Rattle.sharc_history_laws.specs.{History.history_of, Stores.BeginsWith, Waiters.WaitsFollow}
 
 -- the event of an instruction at which threads wait, where it goes on
 abbrev pub act_awaited : Code → Machine → Instr → Option Act

@@ -1,18 +1,10 @@
 -- Which threads were started, have ended or were stopped, by the source events of a checked run of typed code.
 use Rattle.std.specs.Prelude.{◌≡◌, ℕ, pos, true, false, List, Some}
-use Rattle.sharc_code.specs.declared.code.Code.{Code}
-use Rattle.sharc_code.specs.declared.shape.Shape.{Shape}
-use Rattle.sharc_code.specs.declared.state.State.TheVariants.{Ended}
-use Rattle.sharc_code.specs.declared.state.Stop.{Stop}
-use Rattle.sharc_code.specs.Layout.{Fits}
-use Rattle.sharc_code.specs.Path.{may_go}
-use Rattle.sharc_code.specs.Runs.{Turn}
-use Rattle.sharc_code.specs.Whole.{CheckedRun, place_after}
+use Rattle.sharc_code.specs.{declared.code.Code.Code, declared.shape.Shape.Shape}
+use Rattle.sharc_code.specs.{declared.state.State.TheVariants.Ended, declared.state.Stop.Stop, Layout.Fits, Path.may_go}
+use Rattle.sharc_code.specs.{Runs.Turn, Whole.{CheckedRun, place_after}}
 use Rattle.sharc_meaning.specs.Store.{was_spawned, went}
-use Rattle.sharc_invariant.specs.Types.{Targets}
-use Rattle.sharc_invariant.specs.Labels.{Labels}
-use Rattle.sharc_invariant.specs.Typed.{IsWellTyped}
-use Rattle.sharc_invariant.specs.State.{IsSmall}
+use Rattle.sharc_invariant.specs.{Types.Targets, Labels.Labels, Typed.IsWellTyped, State.IsSmall}
 use Rattle.sharc_history_laws.specs.History.{history_of}
 
 -- thread 0 and whoever a Spawn has answered were started; a thread that has ended is gone by the events; and one that was stopped goes on no more

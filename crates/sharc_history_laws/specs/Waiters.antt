@@ -2,23 +2,12 @@
 use Rattle.std.specs.Prelude.{◌≡◌, ℕ, ◌+◌, List}
 use Rattle.sharc_tree.specs.declared.event.SourceEvent.{SourceEvent}
 use Rattle.sharc_ctype.specs.Resolved.{Resolution}
-use Rattle.sharc_code.specs.declared.code.Code.{Code}
-use Rattle.sharc_code.specs.declared.instr.Cell.{Cell}
-use Rattle.sharc_code.specs.declared.instr.Instr.TheVariants.{CondEnter, CondWait, Unlock}
-use Rattle.sharc_code.specs.declared.shape.Shape.{Shape}
-use Rattle.sharc_code.specs.Layout.{Fits}
-use Rattle.sharc_code.specs.Machine.{instr_at}
-use Rattle.sharc_code.specs.Runs.{Turn}
-use Rattle.sharc_code.specs.Whole.{CheckedRun}
-use Rattle.sharc_meaning.specs.Events.{Stands}
-use Rattle.sharc_meaning.specs.Obeys.{History}
-use Rattle.sharc_meaning.specs.Store.{MayCome}
-use Rattle.sharc_invariant.specs.Types.{Targets}
-use Rattle.sharc_invariant.specs.Labels.{Labels}
-use Rattle.sharc_invariant.specs.Typed.{IsWellTyped}
-use Rattle.sharc_invariant.specs.State.{IsSmall}
-use Rattle.sharc_history_laws.specs.History.{history_of}
-use Rattle.sharc_history_laws.specs.Stores.{BeginsWith}
+use Rattle.sharc_code.specs.{declared.code.Code.Code, declared.instr.Cell.Cell}
+use Rattle.sharc_code.specs.{declared.instr.Instr.TheVariants.{CondEnter, CondWait, Unlock}, declared.shape.Shape.Shape}
+use Rattle.sharc_code.specs.{Layout.Fits, Machine.instr_at, Runs.Turn, Whole.CheckedRun}
+use Rattle.sharc_meaning.specs.{Events.Stands, Obeys.History, Store.MayCome}
+use Rattle.sharc_invariant.specs.{Types.Targets, Labels.Labels, Typed.IsWellTyped, State.IsSmall}
+use Rattle.sharc_history_laws.specs.{History.history_of, Stores.BeginsWith}
 
 -- behind this place a mutex is unlocked, and behind that the thread waits at the cell
 pub record IsWait (code : Code) (pc : ℕ) (c : Cell) : Type 0 where

@@ -1,26 +1,14 @@
 -- The least assignment, from what is settled, why positions are roots and what is found.
-use Rattle.std.proofs.Common.{◌≡◌, ℕ, ◌<◌, ◌≤◌, true, List, Option, Some, None, length, refl, ap, sym, ◌∙◌, subst, inl, inr, arith}
+use Rattle.std.proofs.{Common.{◌≡◌, ℕ, ◌<◌, ◌≤◌, true, List, Option, Some, None, length, refl, ap, sym, ◌∙◌, subst, inl, inr, arith}, lemmas.Bool.{cases_lt, false≢true}, lemmas.List.{get_or_default, get_or_past}}
 use Rattle.std.specs.Prelude.{slice_index_or}
-use Rattle.std.proofs.lemmas.Bool.{cases_lt, false≢true}
-use Rattle.std.proofs.lemmas.List.{get_or_default, get_or_past}
-use Rattle.sharc_graph.specs.declared.graph.Finding.{Finding}
-use Rattle.sharc_graph.specs.declared.graph.Finding.TheVariants.{Apart, Source, Behind}
-use Rattle.sharc_graph.specs.Findings.{finding_at}
-use Rattle.sharc_constraints.specs.declared.place.Place.{Place}
+use Rattle.sharc_graph.specs.{declared.graph.Finding.Finding, declared.graph.Finding.TheVariants.{Apart, Source, Behind}, Findings.finding_at}
+use Rattle.sharc_constraints.specs.{declared.place.Place.Place, Flow.{flow_of, place_at, is_unwritten, is_source, IsUnwritten, IsSource, IsInferred, AreInferred}}
 use Rattle.sharc_constraints.specs.declared.place.Place.TheVariants as place
-use Rattle.sharc_constraints.specs.Flow.{flow_of, place_at, is_unwritten, is_source, IsUnwritten, IsSource, IsInferred, AreInferred}
-use Rattle.sharc_tree.specs.declared.ctype.Mode.{Mode}
-use Rattle.sharc_tree.specs.declared.ctype.Mode.TheVariants.{Private}
-use Rattle.sharc_ctype.specs.Entities.{entities_in}
-use Rattle.sharc_ctype.specs.Resolved.{Resolution}
-use Rattle.sharc_mode.specs.declared.position.Reason.{Reason}
-use Rattle.sharc_mode.specs.declared.position.Reason.TheVariants.{Touched, Spawned, From}
-use Rattle.sharc_mode.specs.Flows.{IsRoot, IsRootReason, IsPlaceFor, ArePlaces, IsReasonFor, IsLeastAssignment, mode_found, links_of}
-use Rattle.sharc_mode.specs.Moded.{position_count}
-use Rattle.sharc_mode.specs.Settled.{settled_in, settled_at}
+use Rattle.sharc_tree.specs.{declared.ctype.Mode.Mode, declared.ctype.Mode.TheVariants.Private}
+use Rattle.sharc_ctype.specs.{Entities.entities_in, Resolved.Resolution}
+use Rattle.sharc_mode.specs.{declared.position.Reason.Reason, declared.position.Reason.TheVariants.{Touched, Spawned, From}, Flows.{IsRoot, IsRootReason, IsPlaceFor, ArePlaces, IsReasonFor, IsLeastAssignment, mode_found, links_of}, Moded.position_count, Settled.{settled_in, settled_at}}
 use Rattle.sharc_reach.specs.Reaching.{Reaching, AreReached}
-use Rattle.sharc_infer.specs.Positions.{place_of, reason_of, settled_of, root_of, ArePlacesOf, AreModesOf, AreReasonsOf}
-use Rattle.sharc_infer.specs.Roots.{Roots, roots_of}
+use Rattle.sharc_infer.specs.{Positions.{place_of, reason_of, settled_of, root_of, ArePlacesOf, AreModesOf, AreReasonsOf}, Roots.{Roots, roots_of}}
 use Rattle.sharc_infer.proofs.RootLemmas.{HasRoot, Sound, roots_size, roots_sound, roots_complete}
 
 is_root : (r : Resolution) (p : ℕ) (reason : Reason) → IsRootReason r p (Some reason) → IsRoot r p

@@ -1,21 +1,11 @@
 -- The links of what follows other things.
-use Rattle.std.proofs.Common.{◌≡◌, ℕ, zero, suc, ◌+◌, ◌<◌, ◌≤◌, min, map, length, drop, get_or, arith, Some, inl, inr, List, [], ◌∷◌, ◌++◌, Result, OnOk, refl, ap, sym, ◌∙◌, subst, append_assoc}
-use Rattle.std.proofs.lemmas.Grind.{flat_map-append}
-use Rattle.std.proofs.lemmas.Bool.{cases_lt}
-use Rattle.std.proofs.lemmas.List.{drop_more, drop_all, append-nil, get_or-map, length-map}
+use Rattle.std.proofs.{Common.{◌≡◌, ℕ, zero, suc, ◌+◌, ◌<◌, ◌≤◌, min, map, length, drop, get_or, arith, Some, inl, inr, List, [], ◌∷◌, ◌++◌, Result, OnOk, refl, ap, sym, ◌∙◌, subst, append_assoc}, lemmas.Grind.flat_map-append, lemmas.Bool.cases_lt, lemmas.List.{drop_all, append-nil, get_or-map, length-map}}
 use Rattle.sharc_constraints.specs.declared.place.Link.{Link}
-use Rattle.sharc_tree.specs.declared.tree.declaration.Declaration.{Declaration}
-use Rattle.sharc_tree.specs.declared.tree.expression.Expr.{Expr}
-use Rattle.sharc_tree.specs.Tree.{Expression, no_arguments, argument, value}
-use Rattle.sharc_tree.specs.View.{view_arguments}
-use Rattle.sharc_ctype.specs.Resolved.{Resolution}
-use Rattle.sharc_ctype.specs.Entities.{numbered_from, positions_of, positions_in}
-use Rattle.sharc_ctype.specs.Transfers.{Transfer, variable, gives, passed}
-use Rattle.sharc_ctype.specs.declared.entity.Entity.{Entity}
-use Rattle.sharc_ctype.specs.declared.entity.Numbered.{Numbered}
-use Rattle.sharc_mode.specs.Flows.{cast_links, equal_rows}
-use Rattle.sharc_mode.specs.Rows.{written, declared_row, row_at}
+use Rattle.sharc_tree.specs.{declared.tree.declaration.Declaration.Declaration, declared.tree.expression.Expr.Expr, Tree.{Expression, no_arguments, argument, value}, View.view_arguments}
+use Rattle.sharc_ctype.specs.{Resolved.Resolution, Entities.{numbered_from, positions_of, positions_in}, Transfers.{Transfer, variable, gives, passed}, declared.entity.Entity.Entity, declared.entity.Numbered.Numbered}
+use Rattle.sharc_mode.specs.{Flows.{cast_links, equal_rows}, Rows.{written, declared_row, row_at}}
 use Rattle.sharc_infer.specs.Links.{given, given_by, casts_in}
+use Rattle.sharc_lemmas.proofs.Lists.{first_of_rest as from_place}
 
 pub casts_both : (r : Resolution) (a b : List Expression) → casts_in r (a ++ b) ≡ casts_in r a ++ casts_in r b
 casts_both r a b = flat_map-append (cast_links r) a b
@@ -23,29 +13,12 @@ casts_both r a b = flat_map-append (cast_links r) a b
 pub given_both : (r : Resolution) (function : ℕ) (a b : List Transfer) → given r function (a ++ b) ≡ given r function a ++ given r function b
 given_both r function a b = flat_map-append (given_by r function) a b
 
--- the links of both are added in turn
-casts_two : (r : Resolution) (old mid : List Link) (a b : List Expression) → mid ≡ old ++ casts_in r a → mid ++ casts_in r b ≡ old ++ casts_in r (a ++ b)
-casts_two r old mid a b is = ap (λ l. l ++ casts_in r b) is ∙ append_assoc old (casts_in r a) (casts_in r b) ∙ ap (λ l. old ++ l) (sym (casts_both r a b))
-
-pub casts_added : {T E : Type 0} (r : Resolution) (answer : Result T E) (old mid new : List Link) (a b : List Expression) → mid ≡ old ++ casts_in r a → OnOk answer (new ≡ mid ++ casts_in r b) → OnOk answer (new ≡ old ++ casts_in r (a ++ b))
-casts_added r answer old mid new a b is behind = subst (λ l. OnOk answer (new ≡ l)) (casts_two r old mid a b is) behind
-
-pub casts_first : (r : Resolution) (old mid all : List Link) (a b : List Expression) → mid ≡ old ++ casts_in r a → old ++ casts_in r (a ++ b) ≡ all → mid ++ casts_in r b ≡ all
-casts_first r old mid all a b is whole = casts_two r old mid a b is ∙ whole
-
 given_two : (r : Resolution) (function : ℕ) (old mid : List Link) (a b : List Transfer) → mid ≡ old ++ given r function a → mid ++ given r function b ≡ old ++ given r function (a ++ b)
 given_two r function old mid a b is = ap (λ l. l ++ given r function b) is ∙ append_assoc old (given r function a) (given r function b) ∙ ap (λ l. old ++ l) (sym (given_both r function a b))
 
 pub given_added : {T E : Type 0} (r : Resolution) (function : ℕ) (answer : Result T E) (old mid new : List Link) (a b : List Transfer) → mid ≡ old ++ given r function a → OnOk answer (new ≡ mid ++ given r function b)
     → OnOk answer (new ≡ old ++ given r function (a ++ b))
 given_added r function answer old mid new a b is behind = subst (λ l. OnOk answer (new ≡ l)) (given_two r function old mid a b is) behind
-
-pub given_first : (r : Resolution) (function : ℕ) (old mid all : List Link) (a b : List Transfer) → mid ≡ old ++ given r function a → old ++ given r function (a ++ b) ≡ all → mid ++ given r function b ≡ all
-given_first r function old mid all a b is whole = given_two r function old mid a b is ∙ whole
-
--- what is at a place, and what follows it
-pub from_place : {A : Type 0} (xs : List A) (i : ℕ) (x : A) → i < length xs → x ≡ get_or xs i x → drop i xs ≡ x ∷ drop (i + 1) xs
-from_place xs i x below is = drop_more xs i x below ∙ ap (λ y. y ∷ drop (i + 1) xs) (sym is)
 
 -- the same of what is made of each
 pub from_mapped : {A B : Type 0} (f : A → B) (xs : List A) (all : List B) (i : ℕ) (x : A) → map f xs ≡ all → i < length xs → x ≡ get_or xs i x → drop i all ≡ f x ∷ drop (i + 1) all

@@ -1,41 +1,15 @@
 -- The list of roots has a reason exactly where a position is a root.
-use Rattle.std.proofs.Common.{◌≡◌, ◌⊎◌, ℕ, zero, suc, ◌<◌, ◌≤◌, Bool, true, false, List, [], ◌∷◌, Option, Some, None, length, get_or, set, replicate, refl, ap, sym, ◌∙◌, subst, inl, inr, arith}
+use Rattle.std.proofs.{Common.{◌≡◌, ◌⊎◌, ℕ, zero, suc, ◌<◌, ◌≤◌, Bool, true, false, List, [], ◌∷◌, Option, Some, None, length, get_or, set, replicate, refl, ap, sym, ◌∙◌, subst, inl, inr, arith}, lemmas.Bool.{cases_eq, cases_lt, cases_Bool, ltb-true, lt-ltb}, lemmas.List.{length-set, get_or-set_same, get_or-set_other, get_or_past, get_or-replicate, length-replicate, set_past}}
 use Rattle.std.specs.Prelude.{IsSomeAnd, Contains, nat_lt}
-use Rattle.std.specs.List.{slice_get}
-use Rattle.std.proofs.lemmas.Bool.{cases_eq, cases_lt, cases_Bool, ltb-true, lt-ltb}
-use Rattle.std.proofs.lemmas.List.{length-set, get_or-set_same, get_or-set_other, get_or_past, get_or-replicate, length-replicate, set_past}
-use Rattle.sharc_tree.specs.declared.tree.declaration.Declaration.{Declaration}
-use Rattle.sharc_tree.specs.declared.tree.item.GlobalDefinition.{GlobalDefinition}
-use Rattle.sharc_tree.specs.Tree.{Function}
-use Rattle.sharc_ctype.specs.declared.entity.Numbered.{Numbered}
-use Rattle.sharc_ctype.specs.Entities.{entity_at, positions_of}
-use Rattle.sharc_ctype.specs.Reaches.{IsReached, NamesGlobal}
-use Rattle.sharc_ctype.specs.Resolved.{Resolution, global_at, function_at, globals_in, functions_in}
-use Rattle.sharc_mode.specs.declared.position.Reason.{Reason}
-use Rattle.sharc_mode.specs.declared.position.Reason.TheVariants.{Touched, Spawned}
-use Rattle.sharc_mode.specs.Flows.{IsFirst, IsTouchedIn, IsPassedTo, IsRoot, IsRootReason}
-use Rattle.sharc_mode.specs.Moded.{position_count}
+use Rattle.sharc_tree.specs.{declared.tree.declaration.Declaration.Declaration, declared.tree.item.GlobalDefinition.GlobalDefinition, Tree.Function}
+use Rattle.sharc_ctype.specs.{declared.entity.Numbered.Numbered, Entities.{entity_at, positions_of}, Reaches.{IsReached, NamesGlobal}, Resolved.{Resolution, global_at, function_at, globals_in, functions_in}}
+use Rattle.sharc_mode.specs.{declared.position.Reason.Reason, declared.position.Reason.TheVariants.{Touched, Spawned}, Flows.{IsFirst, IsTouchedIn, IsPassedTo, IsRoot, IsRootReason}, Moded.position_count}
 use Rattle.sharc_reach.specs.Reaching.{Reaching, first_of, is_chosen, IsFirstOf, AreReached}
-use Rattle.sharc_infer.specs.Positions.{root_of}
-use Rattle.sharc_infer.specs.Roots.{Roots, marked, rooted, touch, touched_below, mark_all, pass, passed_below, roots_of}
-
-some_and : {A : Type 0} (o : Option A) (P : A → Type 0) → IsSomeAnd o P → (x : A) × (o ≡ Some x) × P x
-some_and None P h = absurd h
-some_and (Some x) P h = (x, refl, h)
+use Rattle.sharc_infer.specs.{Positions.root_of, Roots.{Roots, marked, rooted, touch, touched_below, mark_all, pass, passed_below, roots_of}}
+use Rattle.sharc_lemmas.proofs.{Options.{same_some, none_some as none_not_some, some_and}, Lists.{there_is as some_inside, head_there as contains_here, contains_behind}}
 
 and_some : {A : Type 0} (o : Option A) (P : A → Type 0) (x : A) → o ≡ Some x → P x → IsSomeAnd o P
 and_some {A = A} o P x is p = let Q : Option A → Type 0 = λ z. IsSomeAnd z P in subst Q (sym is) p
-
-some_inside : {A : Type 0} (xs : List A) (n : ℕ) (x : A) → slice_get xs n ≡ Some x → n < length xs
-some_inside [] n x is = absurd (let no : None ≡ Some x = is in cc)
-some_inside (y ∷ ys) zero x is = omega arith
-some_inside (y ∷ ys) (suc n) x is = let inside = some_inside ys n x is in omega arith
-
-none_not_some : {A : Type 0} (x : A) → None ≡ Some x → ⊥
-none_not_some x is = cc
-
-same_some : {A : Type 0} (x y : A) → Some x ≡ Some y → x ≡ y
-same_some x y is = cc
 
 -- ---- one mark
 at_set : (roots : Roots) (k p : ℕ) (reason : Reason) → (root_of (set roots k (Some reason)) p ≡ root_of roots p) ⊎ ((k ≡ p) × (root_of (set roots k (Some reason)) p ≡ Some reason))
@@ -79,12 +53,6 @@ HasRoot roots p = root_of roots p ≡ None → ⊥
 
 abbrev pub Sound : Resolution → Roots → Type 0
 Sound r roots = (p : ℕ) (reason : Reason) → root_of roots p ≡ Some reason → IsRootReason r p (Some reason)
-
-contains_here : {A : Type 0} (y : A) (rest : List A) → Contains (y ∷ rest) y
-contains_here y rest = (0, omega arith, refl)
-
-contains_behind : {A : Type 0} (y : A) (rest : List A) (x : A) → Contains rest x → Contains (y ∷ rest) x
-contains_behind y rest x has = let inside = has.1 in (suc has.0, omega arith, has.2)
 
 module _ (r : Resolution) where
   rooted_size : (token : ℕ) (reason : Reason) (roots : Roots) → length (rooted r token reason roots) ≡ length roots

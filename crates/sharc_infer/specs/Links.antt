@@ -1,12 +1,9 @@
 -- The links of what is given, with the token of the function whose result is meant.
-use Rattle.std.specs.Prelude.{ℕ, List, Option, Some}
-use Rattle.std.specs.List.{flat_map}
+use Rattle.std.specs.{Prelude.{ℕ, List, Option, Some}, List.flat_map}
 use Rattle.sharc_constraints.specs.declared.place.Link.{Link}
 use Rattle.sharc_tree.specs.Tree.{Expression}
-use Rattle.sharc_ctype.specs.Resolved.{Resolution}
-use Rattle.sharc_ctype.specs.Transfers.{Receiver, lvalue, variable, result, Transfer}
-use Rattle.sharc_mode.specs.Flows.{equal_rows, source_row, cast_links}
-use Rattle.sharc_mode.specs.Rows.{Targets, written, declared_row, row_at}
+use Rattle.sharc_ctype.specs.{Resolved.Resolution, Transfers.{Receiver, lvalue, variable, result, Transfer}}
+use Rattle.sharc_mode.specs.{Flows.{equal_rows, source_row, cast_links}, Rows.{Targets, written, declared_row, row_at}}
 
 abbrev pub given_row : Resolution → ℕ → Receiver → Option Targets
 given_row r function (lvalue u) = row_at r u

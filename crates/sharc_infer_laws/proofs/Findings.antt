@@ -1,7 +1,6 @@
 -- What is found of a position is one.
 use Rattle.std.proofs.Common.{◌≡◌, ℕ, [], refl, ap, sym, ◌∙◌, subst, arith}
-use Rattle.sharc_graph.specs.declared.graph.Finding.{Finding}
-use Rattle.sharc_graph.specs.declared.graph.Finding.TheVariants.{Apart, Source, Behind}
+use Rattle.sharc_graph.specs.{declared.graph.Finding.Finding, declared.graph.Finding.TheVariants.{Apart, Source, Behind}}
 use Rattle.sharc_constraints.specs.Flow.{Flow, IsSource, LeadsTo, IsRank, IsRankFor, IsReason, IsInferred}
 
 module _ (f : Flow) where

@@ -1,19 +1,11 @@
 -- The least assignment of a program is one.
 use Rattle.std.proofs.Common.{◌≡◌, ℕ, ◌<◌, true, List, Option, Some, None, refl, ap, sym, ◌∙◌, subst, ext_get_or}
-use Rattle.sharc_tree.specs.declared.ctype.Mode.{Mode}
-use Rattle.sharc_tree.specs.declared.ctype.Mode.TheVariants.{Private}
-use Rattle.sharc_graph.specs.declared.graph.Finding.{Finding}
-use Rattle.sharc_graph.specs.declared.graph.Finding.TheVariants.{Apart, Source, Behind}
-use Rattle.sharc_graph.specs.Findings.{finding_at}
-use Rattle.sharc_constraints.specs.declared.place.Place.{Place}
+use Rattle.sharc_tree.specs.{declared.ctype.Mode.Mode, declared.ctype.Mode.TheVariants.Private}
+use Rattle.sharc_graph.specs.{declared.graph.Finding.Finding, declared.graph.Finding.TheVariants.{Apart, Source, Behind}, Findings.finding_at}
+use Rattle.sharc_constraints.specs.{declared.place.Place.Place, Flow.{flow_of, place_at, is_unwritten, AreInferred}}
 use Rattle.sharc_constraints.specs.declared.place.Place.TheVariants as place
-use Rattle.sharc_constraints.specs.Flow.{flow_of, place_at, is_unwritten, AreInferred}
 use Rattle.sharc_ctype.specs.Resolved.{Resolution}
-use Rattle.sharc_mode.specs.declared.position.Reason.{Reason}
-use Rattle.sharc_mode.specs.declared.position.Reason.TheVariants.{Touched, Spawned, From}
-use Rattle.sharc_mode.specs.Flows.{IsUnsettledPlace, IsPlaceFor, ArePlaces, links_of, inferred_mode, mode_found, IsRootReason, IsReasonBy, IsReasonFor, IsLeastAssignment}
-use Rattle.sharc_mode.specs.Moded.{Assignment, position_count, reason_at}
-use Rattle.sharc_mode.specs.Settled.{settled_at}
+use Rattle.sharc_mode.specs.{declared.position.Reason.Reason, declared.position.Reason.TheVariants.{Touched, Spawned, From}, Flows.{IsUnsettledPlace, IsPlaceFor, ArePlaces, links_of, inferred_mode, mode_found, IsRootReason, IsReasonBy, IsReasonFor, IsLeastAssignment}, Moded.{Assignment, position_count, reason_at}, Settled.settled_at}
 use Rattle.sharc_infer_laws.specs.Laws.{FindingsAreOne, IsOneRoot}
 
 -- ---- places

@@ -1,11 +1,7 @@
 -- The name of a parameter lies in one function.
 use Rattle.std.proofs.Common.{◌≡◌, ℕ, zero, suc, ◌+◌, ◌<◌, ◌≤◌, List, [], ◌∷◌, ◌++◌, length, get_or, Some, None, refl, ap, sym, subst, arith, Contains}
 use Rattle.std.specs.Prelude.{slice_get}
-use Rattle.sharc_tree.specs.declared.token.Span.{Span}
-use Rattle.sharc_tree.specs.declared.token.Token.{Token}
-use Rattle.sharc_tree.specs.declared.tree.declaration.Declaration.{Declaration}
-use Rattle.sharc_tree.specs.Placed.{Follow, declaration_spans, item_spans, PlacedDeclaration, PlacedDeclarations, PlacedItem, PlacedItems}
-use Rattle.sharc_tree.specs.Tree.{Function, Item, structure, global, function}
+use Rattle.sharc_tree.specs.{declared.token.Span.Span, declared.token.Token.Token, declared.tree.declaration.Declaration.Declaration, Placed.{Follow, declaration_spans, item_spans, PlacedDeclaration, PlacedDeclarations, PlacedItem, PlacedItems}, Tree.{Function, Item, structure, global, function}}
 use Rattle.sharc_ctype.specs.Resolved.{functions_in}
 
 -- the name of a declaration lies in its span

@@ -1,38 +1,13 @@
 -- A root is one thing to one function.
-use Rattle.std.proofs.Common.{◌≡◌, ℕ, zero, suc, ◌<◌, ◌==◌, List, [], ◌∷◌, ◌++◌, length, Option, Some, None, IsSomeAnd, refl, ap, sym, ◌∙◌, subst, arith, eqb-true, Contains}
+use Rattle.std.proofs.{Common.{◌≡◌, ℕ, ◌<◌, ◌==◌, [], ◌∷◌, ◌++◌, length, Some, ap, sym, ◌∙◌, subst, arith, eqb-true, Contains}, lemmas.Bool.and_parts, lemmas.List.Elements.{All-from_recursion, All-contains, Contains-append_left}}
 use Rattle.std.specs.List.{AllByRecursion}
-use Rattle.std.specs.Prelude.{slice_get}
-use Rattle.std.proofs.lemmas.Bool.{and_parts}
-use Rattle.std.proofs.lemmas.List.Elements.{All-from_recursion, All-contains, Contains-append_left}
-use Rattle.sharc_tree.specs.declared.tree.declaration.Declaration.{Declaration}
-use Rattle.sharc_tree.specs.declared.tree.item.GlobalDefinition.{GlobalDefinition}
-use Rattle.sharc_tree.specs.Placed.{IsPlaced}
-use Rattle.sharc_tree.specs.Tree.{Function}
+use Rattle.sharc_tree.specs.{declared.tree.declaration.Declaration.Declaration, declared.tree.item.GlobalDefinition.GlobalDefinition, Placed.IsPlaced, Tree.Function}
 use Rattle.sharc_names.specs.declared.fault.Named.TheVariants as named
-use Rattle.sharc_ctype.specs.declared.entity.Numbered.{Numbered}
-use Rattle.sharc_ctype.specs.Entities.{entities_in, is_told_by, numbered, entity_at, positions_of}
-use Rattle.sharc_ctype.specs.Resolved.{Resolution, named_at, functions_in, function_at, global_at}
-use Rattle.sharc_ctype.specs.Statements.{locals_in_all}
+use Rattle.sharc_ctype.specs.{declared.entity.Numbered.Numbered, Entities.{entities_in, is_told_by, numbered, entity_at, positions_of}, Resolved.{Resolution, named_at, functions_in, function_at, global_at}, Statements.locals_in_all}
 use Rattle.sharc_ctype_laws.specs.Declared.{IsItself, NameThemselves}
 use Rattle.sharc_mode.specs.Flows.{IsFirst, Touches, IsTouchedIn, IsPassedTo}
-use Rattle.sharc_infer_laws.proofs.Numbers.{passes, one_at}
-use Rattle.sharc_infer_laws.proofs.Owners.{one_owner}
-
--- what there is, and that it is so
-some_and : {A : Type 0} (o : Option A) (P : A → Type 0) → IsSomeAnd o P → (x : A) × (o ≡ Some x) × P x
-some_and None P is = absurd is
-some_and (Some x) P is = (x, refl, is)
-
-none_some : {A : Type 0} (x : A) → None ≡ Some x → ⊥
-none_some x is = cc
-
-some_same : {A : Type 0} (x y : A) → Some x ≡ Some y → x ≡ y
-some_same x y is = cc
-
-at_get : {A : Type 0} (P : A → Type 0) (list : List A) (n : ℕ) (x : A) → AllByRecursion P list → slice_get list n ≡ Some x → P x
-at_get P [] n x all is = absurd (none_some x is)
-at_get P (y ∷ rest) zero x all is = subst P (some_same y x is) all.0
-at_get P (y ∷ rest) (suc n) x all is = at_get P rest n x all.1 is
+use Rattle.sharc_infer_laws.proofs.{Numbers.{passes, one_at}, Owners.one_owner}
+use Rattle.sharc_lemmas.proofs.{Options.some_and, Lists.{at_place as at_get}}
 
 same_global : (n m : ℕ) → named.Global n ≡ named.Global m → n ≡ m
 same_global n m is = cc

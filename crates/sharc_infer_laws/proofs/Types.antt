@@ -1,33 +1,12 @@
 -- What `well_formed` says of the type of an entity is reported of it.
-use Rattle.std.proofs.Common.{◌≡◌, ℕ, zero, suc, ◌+◌, ◌<◌, Bool, true, false, not, ◌&&◌, ◌||◌, cond, List, [], ◌∷◌, ◌++◌, length, map, take, drop, get_or, Option, Some, None, is_some, refl, ap, sym, ◌∙◌, subst, arith}
-use Rattle.std.specs.Prelude.{Contains}
-use Rattle.std.specs.List.{AllByRecursion, flat_map, list_any}
-use Rattle.std.specs.Option.{option_or}
-use Rattle.std.proofs.lemmas.Bool.{false≢true}
-use Rattle.std.proofs.lemmas.List.{drop-drop}
-use Rattle.sharc_tree.specs.declared.ctype.Base.{Base}
+use Rattle.std.proofs.{Common.{◌≡◌, ℕ, zero, suc, ◌+◌, ◌<◌, Bool, true, false, not, ◌&&◌, ◌||◌, cond, List, [], ◌∷◌, ◌++◌, length, map, take, drop, get_or, Option, Some, None, is_some, refl, ap, sym, ◌∙◌, subst, arith}, lemmas.Bool.{false≢true, or_right, or_left}, lemmas.List.drop-drop}
+use Rattle.std.specs.{Prelude.Contains, List.{AllByRecursion, flat_map, list_any}, Option.option_or}
+use Rattle.sharc_tree.specs.{declared.ctype.Base.Base, declared.ctype.Path.Path, declared.ctype.Mode.Mode, declared.ctype.Mode.TheVariants.{Private, Racy}, declared.token.Span.Span, Texts.{path_text, mode_text}}
 use Rattle.sharc_tree.specs.declared.ctype.Base.TheVariants as base
-use Rattle.sharc_tree.specs.declared.ctype.Path.{Path}
-use Rattle.sharc_tree.specs.declared.ctype.Mode.{Mode}
-use Rattle.sharc_tree.specs.declared.ctype.Mode.TheVariants.{Private, Racy}
-use Rattle.sharc_tree.specs.declared.token.Span.{Span}
-use Rattle.sharc_tree.specs.Texts.{path_text, mode_text}
 use Rattle.sharc_names.specs.declared.types.Role.{Role}
 use Rattle.sharc_names.specs.declared.types.Role.TheVariants as role
-use Rattle.sharc_ctype.specs.declared.entity.Entity.{Entity}
-use Rattle.sharc_ctype.specs.declared.entity.Numbered.{Numbered}
-use Rattle.sharc_ctype.specs.Entities.{entities_in, first_depth, numbered, numbered_from, positions_of, written_modes}
-use Rattle.sharc_mode.specs.declared.error.ErrorCode.{ErrorCode}
-use Rattle.sharc_mode.specs.declared.error.ErrorCode.TheVariants.{PrivateTarget, LockPathNotConstant, ModeNotAllowed, PrivateField}
-use Rattle.sharc_mode.specs.declared.finding.Finding.{Finding}
-use Rattle.sharc_mode.specs.declared.finding.Finding.TheVariants.{Wrong, Names, Takes}
-use Rattle.sharc_mode.specs.Flows.{IsLeastAssignment}
-use Rattle.sharc_mode.specs.Laws.{SettledStay, SettledAreCounted}
-use Rattle.sharc_mode.specs.Moded.{Assignment, position_count}
-use Rattle.sharc_mode.specs.Notes.{error, mismatch, no_type, error_where, top_levels, position_levels, levels_of, printed_type, private_notes, path_notes, mode_notes, is_private_level, is_field_role, private_field_notes, names_of, names_in, names_in_level, type_notes}
-use Rattle.sharc_mode.specs.Settled.{is_mutex, settled, field_target, otherwise_of, settled_modes, settled_in}
-use Rattle.sharc_mode.specs.Sharings.{Sharing, private, readonly, locked, racy, dynamic, sharing_of, text_at, object_of}
-use Rattle.sharc_mode.specs.WellFormed.{place_of, is_private_mode, begins_private, holds_private, meant, first_unfit_path, first_unfit_mode, lowest}
+use Rattle.sharc_ctype.specs.{declared.entity.Entity.Entity, declared.entity.Numbered.Numbered, Entities.{entities_in, first_depth, numbered, numbered_from, positions_of, written_modes}}
+use Rattle.sharc_mode.specs.{declared.error.ErrorCode.ErrorCode, declared.error.ErrorCode.TheVariants.{PrivateTarget, LockPathNotConstant, ModeNotAllowed, PrivateField}, declared.finding.Finding.Finding, declared.finding.Finding.TheVariants.{Wrong, Names, Takes}, Flows.IsLeastAssignment, Laws.{SettledStay, SettledAreCounted}, Moded.{Assignment, position_count}, Notes.{error, mismatch, no_type, error_where, top_levels, position_levels, levels_of, printed_type, private_notes, path_notes, mode_notes, is_private_level, is_field_role, private_field_notes, names_of, names_in, names_in_level, type_notes}, Settled.{is_mutex, settled, field_target, otherwise_of, settled_modes, settled_in}, Sharings.{Sharing, private, readonly, locked, racy, dynamic, sharing_of, text_at, object_of}, WellFormed.{place_of, is_private_mode, begins_private, holds_private, meant, first_unfit_path, first_unfit_mode, lowest}}
 use Rattle.sharc_infer_laws.specs.Types.{code_of, IsTold, TypesAreTold}
 
 -- ---- levels that are known more of than others
@@ -39,14 +18,6 @@ Agrees (None ∷ xs) [] = ⊥
 Agrees (Some x ∷ xs) [] = ⊥
 Agrees (None ∷ xs) (y ∷ ys) = Agrees xs ys
 Agrees (Some x ∷ xs) (y ∷ ys) = (y ≡ Some x) × Agrees xs ys
-
-or_left : (a b : Bool) → a ≡ true → (a || b) ≡ true
-or_left true b is = refl
-or_left false b is = absurd (false≢true is)
-
-or_right : (a b : Bool) → b ≡ true → (a || b) ≡ true
-or_right true b is = refl
-or_right false b is = is
 
 or_kept : (a b c d : Bool) → (a ≡ true → c ≡ true) → (b ≡ true → d ≡ true) → (a || b) ≡ true → (c || d) ≡ true
 or_kept true b c d left right is = or_left c d (left refl)

@@ -1,13 +1,10 @@
 -- What is one: what is found of a position, why a root is one, and the least assignment of a program.
 use Rattle.std.specs.Prelude.{◌≡◌, ℕ, List}
-use Rattle.sharc_tree.specs.Low.{IsLow}
-use Rattle.sharc_tree.specs.Placed.{IsPlaced}
-use Rattle.sharc_graph.specs.declared.graph.Finding.{Finding}
-use Rattle.sharc_graph.specs.Findings.{finding_at}
+use Rattle.sharc_tree.specs.{Low.IsLow, Placed.IsPlaced}
+use Rattle.sharc_graph.specs.{declared.graph.Finding.Finding, Findings.finding_at}
 use Rattle.sharc_constraints.specs.Flow.{Flow, IsUnwritten, AreInferred}
 use Rattle.sharc_ctype.specs.Resolved.{Resolution, IsResolved}
-use Rattle.sharc_mode.specs.Flows.{IsTouchedIn, IsPassedTo, IsLeastAssignment}
-use Rattle.sharc_mode.specs.Moded.{Assignment}
+use Rattle.sharc_mode.specs.{Flows.{IsTouchedIn, IsPassedTo, IsLeastAssignment}, Moded.Assignment}
 
 -- a typed program at its tokens, in the forms of the grammar
 pub record IsTypedAtTokens (r : Resolution) : Type 0 where

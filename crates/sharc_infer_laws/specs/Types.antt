@@ -1,14 +1,10 @@
 -- What `well_formed` says of the type of an entity, beside what the checker reports of it.
 use Rattle.std.specs.Prelude.{◌≡◌, Option, Some, None, Contains}
-use Rattle.sharc_ctype.specs.declared.entity.Numbered.{Numbered}
-use Rattle.sharc_ctype.specs.Entities.{entities_in, numbered}
+use Rattle.sharc_ctype.specs.{declared.entity.Numbered.Numbered, Entities.{entities_in, numbered}}
 use Rattle.sharc_mode.specs.declared.error.ErrorCode.{ErrorCode}
 use Rattle.sharc_mode.specs.declared.error.ErrorCode.TheVariants.{LockPathNotConstant, ModeNotAllowed}
-use Rattle.sharc_mode.specs.declared.error.ModeError.{ModeError}
-use Rattle.sharc_mode.specs.declared.finding.Finding.TheVariants.{Wrong}
-use Rattle.sharc_mode.specs.Flows.{IsLeastAssignment}
-use Rattle.sharc_mode.specs.Moded.{Assignment}
-use Rattle.sharc_mode.specs.Notes.{type_notes}
+use Rattle.sharc_mode.specs.{declared.error.ModeError.ModeError, declared.finding.Finding.TheVariants.Wrong}
+use Rattle.sharc_mode.specs.{Flows.IsLeastAssignment, Moded.Assignment, Notes.type_notes}
 use Rattle.sharc_mode.specs.WellFormed.{place_of, type_code}
 
 -- what `well_formed` answers of the type of an entity at its place

@@ -2,23 +2,9 @@
 use Rattle.std.proofs.Common.{◌≡◌, ℕ, ℤ, pos, zero, suc, ◌+◌, Bool, true, false, ◌||◌, ◌==◌, List, [], ◌∷◌, ◌++◌, map, reverse, None, Some, refl, sym, ap, subst, ◌∙◌}
 use Rattle.std.specs.Prelude.{Option, if◌then◌else◌}
 use Rattle.sharc_tree.specs.declared.event.SourceEvent.{SourceEvent}
-use Rattle.sharc_code.specs.declared.code.Code.{Code}
-use Rattle.sharc_code.specs.declared.instr.Instr.{Instr}
-use Rattle.sharc_code.specs.declared.instr.Instr.TheVariants.{Load, Store, LoadRef, Exchange, New, TakeCell, TakeLocal, Give, Free, Lock, Unlock, Spawn, Join, Print, Start, Exit, CondEnter, CondWait, CondSignal, CondBroadcast}
-use Rattle.sharc_code.specs.declared.shape.Shape.{Shape}
-use Rattle.sharc_code.specs.declared.state.Stage.{Stage}
-use Rattle.sharc_code.specs.declared.state.Stage.TheVariants.{Makes, Uncounts, Begins, Enters, Withdraws, WithdrawsFrom, Leaves, Wakes}
-use Rattle.sharc_code.specs.declared.instr.Cell.{Cell}
-use Rattle.sharc_code.specs.declared.instr.Register.{Register}
+use Rattle.sharc_code.specs.{declared.code.Code.Code, declared.instr.Instr.Instr, declared.instr.Instr.TheVariants.{Load, Store, LoadRef, Exchange, New, TakeCell, TakeLocal, Give, Free, Lock, Unlock, Spawn, Join, Print, Start, Exit, CondEnter, CondWait, CondSignal, CondBroadcast}, declared.shape.Shape.Shape, declared.state.Stage.Stage, declared.state.Stage.TheVariants.{Makes, Uncounts, Begins, Enters, Withdraws, WithdrawsFrom, Leaves, Wakes}, declared.instr.Cell.Cell, declared.instr.Register.Register, Machine.{Machine, instr_at, ref}, Runs.{Said, Turn, Owns, paired, result_of, told_by, with_told}, Says.{in_exit, in_free, in_new, in_signal, in_spawn, in_start, new_event, nobody, said, take_local}, StandingLaws.NumbersAreOwn, Whole.{Erase, one_thread, place_after}}
 use Rattle.sharc_cond.specs.Waiters.{waits_in}
-use Rattle.sharc_granule.specs.State.{NewView}
-use Rattle.sharc_granule.specs.declared.stage.Stage.{Stage as NewStage}
-use Rattle.sharc_granule.specs.declared.stage.Stage.TheVariants.{Length}
-use Rattle.sharc_code.specs.Machine.{Machine, instr_at, ref}
-use Rattle.sharc_code.specs.Runs.{Said, Turn, Owns, paired, result_of, told_by, with_told}
-use Rattle.sharc_code.specs.Says.{in_exit, in_free, in_new, in_signal, in_spawn, in_start, new_event, nobody, said, take_local}
-use Rattle.sharc_code.specs.StandingLaws.{NumbersAreOwn}
-use Rattle.sharc_code.specs.Whole.{Erase, one_thread, place_after}
+use Rattle.sharc_granule.specs.{State.NewView, declared.stage.Stage.{Stage as NewStage}, declared.stage.Stage.TheVariants.Length}
 use Rattle.sharc_gen.specs.OfRuns.{told_in}
 use Rattle.sharc_mode.specs.Moded.{Assignment}
 use Rattle.sharc_meaning.specs.References.{Begun}

@@ -1,29 +1,19 @@
 -- The code of a program: as a value, by computing, and that it is what the program is compiled to.
 use Rattle.std.proofs.Common.{◌≡◌, ℕ, ◌^◌, true, List, [], length, refl, le_refl}
-use Rattle.std.specs.Prelude.{Vec, nat_lt, nat_le}
-use Rattle.std.specs.Global.{Global}
+use Rattle.std.specs.{Prelude.{Vec, nat_lt, nat_le}, Global.Global}
 use denote.RawPtr.{null_ptr}
 use Rattle.sharc_ctype.specs.Resolved.{functions_in, globals_in}
 use Rattle.sharc_mode.specs.Moded.{Assignment}
-use Rattle.sharc_code.specs.declared.code.Code.{Code}
-use Rattle.sharc_code.specs.declared.code.Function.{Function as Row}
-use Rattle.sharc_code.specs.declared.code.GlobalCells.{GlobalCells}
-use Rattle.sharc_flat_form.specs.declared.flat.Flat.{Flat as FlatCode}
-use Rattle.sharc_flat_form.specs.declared.op.Op.{Op}
-use Rattle.sharc_flat_form.specs.Made.{flat_of}
-use Rattle.sharc_flat.specs.Flattened.{flattened}
-use Rattle.sharc_flat.specs.Flattens.{Flattens, IsMainOf, names_of}
-use Rattle.sharc_flat.specs.Laws.{FitsMade}
-use Rattle.sharc_flat.specs.Tables.{globals_of, all_granules, all_first_words, layouts_of, pointers_of}
-use Rattle.sharc_guard.specs.Guard.{guarded}
-use Rattle.sharc_guard.specs.Known.{dropped}
-use Rattle.sharc_guarded_form.specs.declared.guarded.Guarded.{Guarded}
-use Rattle.sharc_guarded_form.specs.Machine.{Program}
+use Rattle.sharc_code.specs.{declared.code.Code.Code, declared.code.Function.{Function as Row}, declared.code.GlobalCells.GlobalCells}
+use Rattle.sharc_flat_form.specs.{declared.flat.Flat.{Flat as FlatCode}, declared.op.Op.Op, Made.flat_of}
+use Rattle.sharc_flat.specs.{Flattened.flattened, Flattens.{Flattens, IsMainOf, names_of}, Laws.FitsMade, Tables.{globals_of, all_granules, all_first_words, layouts_of, pointers_of}}
+use Rattle.sharc_guard.specs.{Guard.guarded, Known.dropped}
+use Rattle.sharc_guarded_form.specs.{declared.guarded.Guarded.Guarded, Machine.Program}
 use Rattle.sharc_gen.specs.Generated.{generated}
 use Rattle.sharc_compile.specs.Made.{IsCodeOf}
 use Rattle.sharc_sound.specs.Compiled.{IsCompiled}
-use Rattle.sharc_instance_laws.proofs.Testing.{below, within}
 use Rattle.sharc_instance_laws.proofs.Laying.{are_laid, are_named, behind_lines, behind_names, laid, named, names_behind}
+use Rattle.sharc_lemmas.proofs.Numbers.{lt_true as below, le_true as within}
 
 module _ (alloc : Global) where
   -- a list as the program holds it

@@ -1,43 +1,24 @@
 -- What is built of the two sources, with a run of each code.
-use Rattle.std.proofs.Common.{◌≡◌, ℕ, zero, suc, ◌+◌, ◌*◌, ◌<◌, ◌≤◌, true, List, [], ◌∷◌, ◌++◌, length, replicate, None, Some, refl, sym, subst, ◌∙◌, append_assoc, arith}
+use Rattle.std.proofs.Common.{◌≡◌, ℕ, zero, suc, ◌+◌, ◌*◌, ◌<◌, ◌≤◌, true, List, [], ◌∷◌, ◌++◌, replicate, refl, sym, subst, ◌∙◌, append_assoc, arith}
 use Rattle.std.specs.Global.{Global}
 use lib.Count.{count_trailing_zeros}
-use Rattle.sharc_code.specs.declared.code.Code.{Code}
-use Rattle.sharc_code.specs.declared.code.GlobalCells.{GlobalCells}
-use Rattle.sharc_code.specs.declared.shape.Shape.{Shape}
-use Rattle.sharc_code.specs.Laws.{RunLaws}
-use Rattle.sharc_code.specs.Layout.{Fits}
-use Rattle.sharc_code.specs.Ranges.{GlobalsFit, NumbersFit, end_place, first_place}
-use Rattle.sharc_code.specs.Runs.{Owns, Turn}
-use Rattle.sharc_code.specs.Whole.{place_after}
-use Rattle.sharc_code.specs.StandingLaws.{NumbersAreOwn}
+use Rattle.sharc_code.specs.{declared.code.Code.Code, declared.code.GlobalCells.GlobalCells, declared.shape.Shape.Shape, Laws.RunLaws, Layout.Fits, Ranges.{GlobalsFit, NumbersFit, end_place, first_place}, Runs.{Owns, Turn}, Whole.place_after, StandingLaws.NumbersAreOwn}
 use Rattle.sharc_granule.specs.Block.{block_of, doubled}
 use Rattle.sharc_mode_laws.specs.Laws.{RulesAreMet}
-use Rattle.sharc_build.specs.declared.building.Built.{Built}
-use Rattle.sharc_build.specs.Built.{IsBuilt}
+use Rattle.sharc_build.specs.{declared.building.Built.Built, Built.IsBuilt}
 use Rattle.sharc_flat_form.specs.Made.{flat_of}
-use Rattle.sharc_instance_laws.specs.Instances.{GetsStuck, IsObeying, ReportsAlone}
-use Rattle.sharc_instance_laws.specs.Sources.{locking_source, sharing_source}
-use Rattle.sharc_instance_laws.proofs.Alone.{alone, earlier_owns}
+use Rattle.sharc_instance_laws.specs.{Instances.{GetsStuck, IsObeying, ReportsAlone}, Sources.{locking_source, sharing_source}}
+use Rattle.sharc_instance_laws.proofs.{Alone.{alone, earlier_owns}, Building.AreSmall, Going.{ends, ends_alone, from, passes}, Locking.locking, Numbers.{fits_made, numbers_fit}, Sharing.sharing, Stopping.{has_reported, is_stuck, reported, stuck}, SharedFront.beyond}
 use Rattle.sharc_instance_laws.proofs.Asked as asked
 use Rattle.sharc_instance_laws.proofs.Building as building
-use Rattle.sharc_instance_laws.proofs.Building.{AreSmall}
-use Rattle.sharc_instance_laws.proofs.Testing.{within}
 use Rattle.sharc_instance_laws.proofs.Front as locking_front
-use Rattle.sharc_instance_laws.proofs.Going.{ends, ends_alone, from, passes}
-use Rattle.sharc_instance_laws.proofs.Locking.{locking}
-use Rattle.sharc_instance_laws.proofs.Numbers.{FlatTests, Tests, fits_made, numbers_fit}
 use Rattle.sharc_instance_laws.proofs.SharedFront as sharing_front
-use Rattle.sharc_instance_laws.proofs.Sharing.{sharing}
-use Rattle.sharc_instance_laws.proofs.Stopping.{has_reported, is_stuck, reported, stuck}
 use Rattle.sharc_instance_laws.proofs.Touching as touching
+use Rattle.sharc_lemmas.proofs.Numbers.{le_true as within}
 
 -- ---- the globals of the locking program lie one behind the other
 abbrev the_globals : List GlobalCells
 the_globals = record { granule = 1; cells = 1 } ∷ record { granule = 2; cells = 1 } ∷ []
-
-beyond : {P : Type 0} (n : ℕ) → suc (suc n) < 2 → P
-beyond n less = absurd (omega (arith, less))
 
 lows : (g : ℕ) → g < 2 → 2 ≤ first_place the_globals g
 lows zero less = within 2 2 refl

@@ -1,32 +1,12 @@
 -- A schedule of which each turn may be made gives a checked run, and a test of the place where it ends holds there: both by computing.
-use Rattle.std.proofs.Common.{◌≡◌, ℕ, zero, suc, ◌<◌, ◌≤◌, Bool, true, false, ◌&&◌, List, [], ◌∷◌, length, replicate, None, Some, refl, arith}
+use Rattle.std.proofs.Common.{◌≡◌, ℕ, zero, suc, ◌<◌, ◌≤◌, Bool, true, ◌&&◌, List, [], ◌∷◌, length, replicate, None, Some, refl}
 use Rattle.std.specs.Prelude.{Option, nat_lt, nat_le}
-use Rattle.std.proofs.lemmas.Bool.Decides.{nat_tests}
 use Rattle.sharc_word.specs.declared.step.WordStep.{WordStep}
 use Rattle.sharc_tree.specs.declared.event.SourceEvent.{SourceEvent}
-use Rattle.sharc_code.specs.declared.code.Code.{Code}
-use Rattle.sharc_code.specs.declared.shape.Shape.{Shape}
-use Rattle.sharc_code.specs.Machine.{Machine}
-use Rattle.sharc_code.specs.Opening.{opening_words}
-use Rattle.sharc_code.specs.Path.{may_go}
-use Rattle.sharc_code.specs.Runs.{OneThread, Turn, Global, IsRun, MayTurn, IsOf, Answered, Owns, at, after_turn, made_event, made_now, opening_of, step_of, turn_by}
-use Rattle.sharc_code.specs.Whole.{bounds, one_thread}
+use Rattle.sharc_code.specs.{declared.code.Code.Code, declared.shape.Shape.Shape, Machine.Machine, Opening.opening_words, Path.may_go, Runs.{OneThread, Turn, Global, IsRun, MayTurn, IsOf, Answered, Owns, at, after_turn, made_event, made_now, opening_of, step_of, turn_by}, Whole.{bounds, one_thread}}
+use Rattle.sharc_lemmas.proofs.{Bools.{and_left as left, and_right as right}, Numbers.{lt_true as below, le_true as within}}
 
 -- ---- booleans
-pub left : (a b : Bool) → (a && b) ≡ true → a ≡ true
-left true b e = refl
-left false b e = e
-
-pub right : (a b : Bool) → (a && b) ≡ true → b ≡ true
-right true b e = e
-right false b e = cc
-
-below : (n limit : ℕ) → nat_lt n limit ≡ true → n < limit
-below n limit e = grind (arith, nat_tests)
-
-within : (n limit : ℕ) → nat_le n limit ≡ true → n ≤ limit
-within n limit e = grind (arith, nat_tests)
-
 -- ---- one turn
 abbrev has_word : List ℕ → Option WordStep → Bool
 has_word words None = true

@@ -1,18 +1,10 @@
 -- Events of a thread in which each access is to one cell, under one mutex that the thread holds there.
-use Rattle.std.proofs.Common.{◌≡◌, ℕ, ℤ, Bool, true, false, List, [], ◌∷◌, ◌++◌, map, None, Some, refl, sym, ap, subst, ◌∙◌, arith, append_assoc, append-nil, ⊎_elim}
-use Rattle.std.specs.Prelude.{Option, filter, if◌then◌else◌, ◌==◌}
-use Rattle.std.specs.List.{list_any}
-use Rattle.sharc_tree.specs.declared.event.Act.{Act}
-use Rattle.sharc_tree.specs.declared.event.Act.TheVariants.{Started}
-use Rattle.sharc_tree.specs.declared.event.CellAt.{CellAt}
-use Rattle.sharc_tree.specs.declared.event.CellMode.TheVariants.{Private, Readonly, Locked, Dynamic}
-use Rattle.sharc_tree.specs.declared.event.Object.TheVariants.{Global}
-use Rattle.sharc_tree.specs.declared.event.SourceEvent.{SourceEvent}
+use Rattle.std.proofs.Common.{◌≡◌, ℕ, ℤ, Bool, true, false, List, [], ◌∷◌, ◌++◌, map, None, Some, refl, sym, ap, subst, ◌∙◌, append_assoc, append-nil, ⊎_elim}
+use Rattle.std.specs.{Prelude.{Option, filter, if◌then◌else◌, ◌==◌}, List.list_any}
+use Rattle.sharc_tree.specs.{declared.event.Act.Act, declared.event.Act.TheVariants.Started, declared.event.CellAt.CellAt, declared.event.CellMode.TheVariants.{Private, Readonly, Locked, Dynamic}, declared.event.Object.TheVariants.Global, declared.event.SourceEvent.SourceEvent}
 use Rattle.sharc_mode.specs.Moded.{Assignment}
-use Rattle.sharc_meaning.specs.Events.{Access, Stands, access_by, events_of, held_mutexes, holds_mutex, is_of, locked_by, same_cell, unless_unlocked}
-use Rattle.sharc_meaning.specs.Meaning.{asks}
-use Rattle.sharc_meaning.specs.Obeys.{AlwaysObeys, IsThere, Obeys, Until, until_gone}
-use Rattle.sharc_meaning.specs.Runs.{Follows, SourceRun, answers_of, by}
+use Rattle.sharc_meaning.specs.{Events.{Access, Stands, access_by, events_of, held_mutexes, holds_mutex, is_of, locked_by, same_cell, unless_unlocked}, Meaning.asks, Obeys.{AlwaysObeys, IsThere, Obeys, Until, until_gone}, Runs.{Follows, SourceRun, answers_of, by}}
+use Rattle.sharc_lemmas.proofs.Numbers.{same_is as same}
 
 abbrev pub mutex_cell : CellAt
 mutex_cell = record { object = Global 0; cell = 0 }
@@ -84,9 +76,6 @@ of_own begins e asked (b ∷ bs) rest a argument act g is access =
       mode = h.mode;
       held = behind b bs argument (ap (λ (x : SourceEvent). x.act) (sym (heads begins b asked (bs ++ e ∷ rest) is)) ∙ act) h.held;
     }
-
-same : (n : ℕ) → (n == n) ≡ true
-same n = search arith
 
 named_so : (e : SourceEvent) (thread : ℕ) → e.thread ≡ thread → is_of thread e ≡ true
 named_so e thread is = ap (λ (n : ℕ). n == thread) is ∙ same thread

@@ -1,27 +1,12 @@
 -- The program that the locking source is: its tokens, its phrases, what its names name, and its modes.
 use Rattle.std.specs.Prelude.{ℕ, pos, false, List, [], ◌∷◌, Option, Some, None, codes}
-use Rattle.sharc_tree.specs.declared.ctype.Base.{Base}
+use Rattle.sharc_tree.specs.{declared.ctype.Base.Base, declared.ctype.Mode.Mode, declared.ctype.Mode.TheVariants.{Racy, Locked}, declared.ctype.Path.TheVariants.One, declared.token.Keyword.Keyword, declared.token.Number.Number, declared.token.NumberType.TheVariants.Int, declared.token.Punctuator.Punctuator, declared.token.Token.Token, declared.token.TokenKind.TokenKind, declared.token.Tokens.Tokens, declared.tree.expression.PlaceCall.PlaceCall, declared.tree.expression.PlaceCall.TheVariants.{Lock, Unlock}, declared.tree.expression.ValueCall.TheVariants.Join, Tree.Program}
 use Rattle.sharc_tree.specs.declared.ctype.Base.TheVariants as base
-use Rattle.sharc_tree.specs.declared.ctype.Mode.{Mode}
-use Rattle.sharc_tree.specs.declared.ctype.Mode.TheVariants.{Racy, Locked}
-use Rattle.sharc_tree.specs.declared.ctype.Path.TheVariants.{One}
-use Rattle.sharc_tree.specs.declared.token.Keyword.{Keyword}
 use Rattle.sharc_tree.specs.declared.token.Keyword.TheVariants as key
-use Rattle.sharc_tree.specs.declared.token.Number.{Number}
-use Rattle.sharc_tree.specs.declared.token.NumberType.TheVariants.{Int}
-use Rattle.sharc_tree.specs.declared.token.Punctuator.{Punctuator}
 use Rattle.sharc_tree.specs.declared.token.Punctuator.TheVariants as sign
-use Rattle.sharc_tree.specs.declared.token.Token.{Token}
-use Rattle.sharc_tree.specs.declared.token.TokenKind.{TokenKind}
 use Rattle.sharc_tree.specs.declared.token.TokenKind.TheVariants as kind
-use Rattle.sharc_tree.specs.declared.token.Tokens.{Tokens}
 use Rattle.sharc_tree.specs.declared.tree.expression.Constant.TheVariants as constants
-use Rattle.sharc_tree.specs.declared.tree.expression.PlaceCall.{PlaceCall}
-use Rattle.sharc_tree.specs.declared.tree.expression.PlaceCall.TheVariants.{Lock, Unlock}
-use Rattle.sharc_tree.specs.declared.tree.expression.ValueCall.TheVariants.{Join}
-use Rattle.sharc_tree.specs.Tree.{Program}
-use Rattle.sharc_grammar.specs.Grammar.{Sharing, locked, Typing, Declaring, of_spawn, of_value, of_place, Phrase, identifier, constant, enclosed, value, assign, invoke, does, Sentence, line, return, no_more, sentence, single, Part, global, function}
-use Rattle.sharc_grammar.specs.Places.{items_at, site_in}
+use Rattle.sharc_grammar.specs.{Grammar.{Sharing, locked, Typing, Declaring, of_spawn, of_value, of_place, Phrase, identifier, constant, enclosed, value, assign, invoke, does, Sentence, line, return, no_more, sentence, single, Part, global, function}, Places.{items_at, site_in}}
 use Rattle.sharc_names.specs.declared.fault.Named.{Named}
 use Rattle.sharc_names.specs.declared.fault.Named.TheVariants as named
 use Rattle.sharc_ctype.specs.Resolved.{Resolution}

@@ -1,18 +1,12 @@
 -- The numbers of a code fit: by tests of its tables that compute.
 use Rattle.std.proofs.Common.{◌≡◌, ℕ, zero, suc, ◌+◌, ◌*◌, ◌^◌, ◌<◌, Bool, true, List, [], ◌∷◌, length, None, Some, refl, subst}
 use Rattle.std.specs.Prelude.{Option, nat_lt, nat_le, slice_get, slice_index, slice_index_or}
-use Rattle.sharc_code.specs.declared.code.Code.{Code}
-use Rattle.sharc_code.specs.declared.instr.Instr.{Instr}
-use Rattle.sharc_code.specs.declared.instr.Instr.TheVariants.{GlobalBounds, Spawn, Exit}
-use Rattle.sharc_code.specs.declared.state.TheConstants.{FRAMES}
-use Rattle.sharc_code.specs.Path.{most_ints, most_refs}
-use Rattle.sharc_code.specs.Ranges.{GlobalsFit, NumbersFit}
-use Rattle.sharc_flat_form.specs.declared.op.Op.{Op}
+use Rattle.sharc_code.specs.{declared.code.Code.Code, declared.instr.Instr.Instr, declared.instr.Instr.TheVariants.{GlobalBounds, Spawn, Exit}, declared.state.TheConstants.FRAMES, Path.{most_ints, most_refs}, Ranges.{GlobalsFit, NumbersFit}}
+use Rattle.sharc_flat_form.specs.{declared.op.Op.Op, Machine.Flat}
 use Rattle.sharc_flat_form.specs.declared.op.Op.TheVariants as op
-use Rattle.sharc_flat_form.specs.Machine.{Flat}
 use Rattle.sharc_flat.specs.Laws.{FitsMade}
-use Rattle.sharc_instance_laws.proofs.Testing.{all_pass, below, within}
-use Rattle.sharc_instance_laws.proofs.Going.{left, right}
+use Rattle.sharc_instance_laws.proofs.Testing.{all_pass}
+use Rattle.sharc_lemmas.proofs.{Bools.{and_left as left, and_right as right}, Numbers.{lt_true as below, le_true as within}}
 
 -- ---- each of a list, by its place
 module _ {X : Type 0} (test : X → Bool) where

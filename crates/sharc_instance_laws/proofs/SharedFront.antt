@@ -1,25 +1,18 @@
 -- The sharing source is that program, with its least modes.
-use Rattle.std.proofs.Common.{◌≡◌, ℕ, zero, suc, ◌<◌, true, false, [], ◌∷◌, refl, arith}
-use Rattle.sharc_graph.specs.declared.graph.Finding.TheVariants.{Apart}
+use Rattle.std.proofs.Common.{◌≡◌, ℕ, zero, suc, ◌<◌, false, [], ◌∷◌, refl, arith}
+use Rattle.sharc_graph.specs.{declared.graph.Finding.TheVariants.Apart, Findings.finding_at}
 use Rattle.sharc_constraints.specs.declared.place.Place.TheVariants as place
-use Rattle.sharc_lex.specs.Grammar.{reading}
-use Rattle.sharc_lex.specs.Words.{keywords}
-use Rattle.sharc_grammar.specs.Grammar.{IsProgram}
-use Rattle.sharc_grammar.specs.Limits.{LowProgram}
-use Rattle.sharc_grammar.specs.Places.{Reads}
-use Rattle.sharc_ctype.specs.Resolved.{IsResolved}
+use Rattle.sharc_lex.specs.{Grammar.reading, Words.keywords}
+use Rattle.sharc_grammar.specs.{Grammar.IsProgram, Limits.LowProgram, Places.Reads}
+use Rattle.sharc_ctype.specs.{Resolved.IsResolved, Reaches.Spawns}
 use Rattle.sharc_constraints.specs.Flow.{IsInferred, IsUnwritten, flow_of, place_at}
-use Rattle.sharc_graph.specs.Findings.{finding_at}
-use Rattle.sharc_mode.specs.Flows.{IsLeastAssignment, IsPlaceFor, IsReasonFor, links_of, mode_found}
-use Rattle.sharc_mode.specs.Moded.{reason_at}
-use Rattle.sharc_mode.specs.Settled.{settled_at}
+use Rattle.sharc_mode.specs.{Flows.{IsLeastAssignment, IsPlaceFor, IsReasonFor, links_of, mode_found}, Moded.reason_at, Settled.settled_at, WellModed.{TellsTouched, WellModed}}
 use Rattle.sharc_tree.specs.declared.ctype.Mode.TheVariants.{Private}
 use Rattle.std.specs.Prelude.{Ok, slice_index_or}
-use Rattle.sharc_ctype.specs.Reaches.{Spawns}
-use Rattle.sharc_mode.specs.WellModed.{TellsTouched, WellModed}
 use Rattle.sharc_sound.specs.Front.{IsFront}
 use Rattle.sharc_instance_laws.specs.Sources.{sharing_source}
 use Rattle.sharc_instance_laws.proofs.Sharing.{phrases, program, resolution, sharing, modes, tokens}
+use Rattle.sharc_lemmas.proofs.Bools.{no_cell as clash}
 
 read : reading sharing_source ≡ Ok tokens
 unfolding reading keywords
@@ -43,16 +36,13 @@ places_are zero = refl
 places_are (suc zero) = refl
 places_are (suc (suc n)) = refl
 
-clash : false ≡ true → ⊥
-clash e = cc
-
 none_unwritten : (position : ℕ) → IsUnwritten (flow_of (place.Private ∷ place.Private ∷ []) (links_of resolution)) position
     → IsInferred (flow_of (place.Private ∷ place.Private ∷ []) (links_of resolution)) position (finding_at (Apart ∷ Apart ∷ []) position)
 none_unwritten zero e = absurd (clash e)
 none_unwritten (suc zero) e = absurd (clash e)
 none_unwritten (suc (suc n)) e = absurd (clash e)
 
-beyond : {P : Type 0} (n : ℕ) → suc (suc n) < 2 → P
+pub beyond : {P : Type 0} (n : ℕ) → suc (suc n) < 2 → P
 beyond n less = absurd (omega (arith, less))
 
 modes_are : (position : ℕ) → position < 2 → slice_index_or modes position Private ≡ mode_found (settled_at resolution position) (finding_at (Apart ∷ Apart ∷ []) position)

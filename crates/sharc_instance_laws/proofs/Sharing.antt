@@ -1,24 +1,12 @@
 -- The program that the sharing source is: its tokens, its phrases, what its names name, and its modes.
 use Rattle.std.specs.Prelude.{ℕ, pos, false, List, [], ◌∷◌, Some, None, codes}
-use Rattle.sharc_tree.specs.declared.ctype.Base.{Base}
+use Rattle.sharc_tree.specs.{declared.ctype.Base.Base, declared.ctype.Mode.Mode, declared.ctype.Mode.TheVariants.Private, declared.token.Keyword.Keyword, declared.token.Number.Number, declared.token.NumberType.TheVariants.Int, declared.token.Punctuator.Punctuator, declared.token.Token.Token, declared.token.TokenKind.TokenKind, declared.token.Tokens.Tokens, declared.tree.expression.PlaceCall.TheVariants.Free, Tree.Program}
 use Rattle.sharc_tree.specs.declared.ctype.Base.TheVariants as base
-use Rattle.sharc_tree.specs.declared.ctype.Mode.{Mode}
-use Rattle.sharc_tree.specs.declared.ctype.Mode.TheVariants.{Private}
-use Rattle.sharc_tree.specs.declared.token.Keyword.{Keyword}
 use Rattle.sharc_tree.specs.declared.token.Keyword.TheVariants as key
-use Rattle.sharc_tree.specs.declared.token.Number.{Number}
-use Rattle.sharc_tree.specs.declared.token.NumberType.TheVariants.{Int}
-use Rattle.sharc_tree.specs.declared.token.Punctuator.{Punctuator}
 use Rattle.sharc_tree.specs.declared.token.Punctuator.TheVariants as sign
-use Rattle.sharc_tree.specs.declared.token.Token.{Token}
-use Rattle.sharc_tree.specs.declared.token.TokenKind.{TokenKind}
 use Rattle.sharc_tree.specs.declared.token.TokenKind.TheVariants as kind
-use Rattle.sharc_tree.specs.declared.token.Tokens.{Tokens}
 use Rattle.sharc_tree.specs.declared.tree.expression.Constant.TheVariants as constants
-use Rattle.sharc_tree.specs.declared.tree.expression.PlaceCall.TheVariants.{Free}
-use Rattle.sharc_tree.specs.Tree.{Program}
-use Rattle.sharc_grammar.specs.Grammar.{private, Typing, of_place, identifier, constant, enclosed, Value, value, malloc, assign, invoke, does, declares, Sentence, line, return, no_more, sentence, Part, function}
-use Rattle.sharc_grammar.specs.Places.{items_at, site_in}
+use Rattle.sharc_grammar.specs.{Grammar.{private, Typing, of_place, identifier, constant, enclosed, Value, value, malloc, assign, invoke, does, declares, Sentence, line, return, no_more, sentence, Part, function}, Places.{items_at, site_in}}
 use Rattle.sharc_names.specs.declared.fault.Named.{Named}
 use Rattle.sharc_names.specs.declared.fault.Named.TheVariants as named
 use Rattle.sharc_ctype.specs.Resolved.{Resolution}

@@ -1,19 +1,8 @@
 -- Where a run is stuck, and where a thread of it has stopped at a cast or `free`: tests of a place, and what they say.
-use Rattle.std.proofs.Common.{◌≡◌, ℕ, zero, suc, ◌<◌, Bool, true, false, not, ◌&&◌, ◌||◌, List, [], ◌∷◌, None, Some, refl, sym, subst, arith, ⊎_elim}
+use Rattle.std.proofs.{Common.{◌≡◌, ℕ, zero, suc, ◌<◌, Bool, true, false, not, ◌&&◌, ◌||◌, List, [], ◌∷◌, None, Some, refl, sym, subst, arith, ⊎_elim}, lemmas.Bool.{cases_eq, and_from as both}}
 use Rattle.std.specs.Prelude.{Option, nat_lt}
-use Rattle.std.proofs.lemmas.Bool.{cases_eq}
-use Rattle.std.proofs.lemmas.Bool.Decides.{nat_tests}
-use Rattle.sharc_code.specs.declared.code.Code.{Code}
-use Rattle.sharc_code.specs.declared.shape.Shape.{Shape}
-use Rattle.sharc_code.specs.declared.state.Stop.{Stop}
-use Rattle.sharc_code.specs.declared.state.Stop.TheVariants.{Conflict, NoLock, NotSole, Trap}
-use Rattle.sharc_code.specs.Machine.{Machine}
-use Rattle.sharc_code.specs.Opening.{opening_words}
-use Rattle.sharc_code.specs.Path.{may_go}
-use Rattle.sharc_code.specs.Runs.{Turn, Global, is_started}
-use Rattle.sharc_code.specs.Waits.{waits_now}
-use Rattle.sharc_code.specs.Whole.{IsStuck, bounds, place_after}
-use Rattle.sharc_instance_laws.proofs.Going.{left, right}
+use Rattle.sharc_code.specs.{declared.code.Code.Code, declared.shape.Shape.Shape, declared.state.Stop.Stop, declared.state.Stop.TheVariants.{Conflict, NoLock, NotSole, Trap}, Machine.Machine, Opening.opening_words, Path.may_go, Runs.{Turn, Global, is_started}, Waits.waits_now, Whole.{IsStuck, bounds, place_after}}
+use Rattle.sharc_lemmas.proofs.{Bools.{and_left as left, and_right as right, either}, Numbers.{lt_true as below}}
 
 -- ---- a test of all numbers below one
 abbrev pub all_below : ℕ → (ℕ → Bool) → Bool
@@ -34,10 +23,6 @@ each_below (suc n) p e k less = ⊎_elim
 word_few : (words : List ℕ) (t : ℕ) → is_started bounds words t ≡ true → nat_lt t 31 ≡ true
 word_few words t e = left (nat_lt t 31) _ e
 
-either : (a b : Bool) (P : Type 0) → (a ≡ true → P) → (b ≡ true → P) → (a || b) ≡ true → P
-either true b P f g e = f refl
-either false b P f g e = g e
-
 pub few_started : (code : Code) (s : Shape) (run : List Turn) (t : ℕ) → (place_after code s run).started t ≡ true → nat_lt t 31 ≡ true
 few_started code s [] t e = word_few (opening_words code s) t e
 few_started code s (turn ∷ earlier) t e =
@@ -54,15 +39,9 @@ may_wait code s g t = not (is_on g t) || waits_now code s g.words (g.threads t)
 abbrev pub is_stuck : Code → Shape → Global Machine → Bool
 is_stuck code s g = is_on g 0 && all_below 31 (may_wait code s g)
 
-both : (a b : Bool) → a ≡ true → b ≡ true → (a && b) ≡ true
-both a b e f = rw (e, f) refl
-
 unless : (a b : Bool) → a ≡ true → (not a || b) ≡ true → b ≡ true
 unless true b e f = f
 unless false b e f = cc
-
-below : (n limit : ℕ) → nat_lt n limit ≡ true → n < limit
-below n limit e = grind (arith, nat_tests)
 
 pub stuck : (code : Code) (s : Shape) (run : List Turn) → is_stuck code s (place_after code s run) ≡ true → IsStuck code s (place_after code s run)
 stuck code s run e =

@@ -3,12 +3,10 @@ use Rattle.std.proofs.Common.{◌≡◌, ℕ, zero, suc, ◌<◌, Bool, true, fa
 use Rattle.std.specs.Prelude.{nat_lt, slice_index_or}
 use Rattle.sharc_names.specs.declared.fault.Named.{Named}
 use Rattle.sharc_names.specs.declared.fault.Named.TheVariants as named
-use Rattle.sharc_ctype.specs.Reaches.{IsReached, Names, NamesGlobal}
-use Rattle.sharc_ctype.specs.Resolved.{named_at}
+use Rattle.sharc_ctype.specs.{Reaches.{IsReached, Names, NamesGlobal}, Resolved.named_at}
 use Rattle.sharc_mode.specs.WellModed.{TellsTouched, WellModed}
-use Rattle.sharc_instance_laws.proofs.Testing.{all_pass, below}
-use Rattle.sharc_instance_laws.proofs.Going.{left, right}
-use Rattle.sharc_instance_laws.proofs.Locking.{locking, resolution}
+use Rattle.sharc_instance_laws.proofs.{Testing.all_pass, Locking.{locking, resolution}}
+use Rattle.sharc_lemmas.proofs.{Bools.{and_left as left, and_right as right}, Numbers.{lt_true as below}}
 
 -- ---- which tokens name what
 abbrev touched : ℕ → Bool

@@ -1,21 +1,15 @@
 -- That there are what laws of runs ask for: a program that always obeys, a run that is stuck, and a report where nothing is in flight.
-use Rattle.std.specs.Prelude.{◌≡◌, ℕ, List, Some}
-use Rattle.std.specs.Global.{Global}
+use Rattle.std.specs.{Prelude.{◌≡◌, ℕ, List, Some}, Global.Global}
 use Rattle.sharc_mode.specs.Moded.{Assignment}
 use Rattle.sharc_mode_laws.specs.Rules.{MeetsRules}
-use Rattle.sharc_code.specs.declared.shape.Shape.{Shape}
-use Rattle.sharc_code.specs.declared.state.Stop.TheVariants.{NotSole}
-use Rattle.sharc_code.specs.Layout.{Fits}
-use Rattle.sharc_code.specs.Machine.{ref}
-use Rattle.sharc_code.specs.Runs.{Turn}
-use Rattle.sharc_code.specs.Whole.{CheckedRun, Stuck, place_after}
+use Rattle.sharc_code.specs.{declared.shape.Shape.Shape, declared.state.Stop.TheVariants.NotSole, Layout.Fits}
+use Rattle.sharc_code.specs.{Machine.ref, Runs.Turn, Whole.{CheckedRun, Stuck, place_after}}
 use Rattle.sharc_meaning.specs.Obeys.{AlwaysObeys}
 use Rattle.sharc_invariant.specs.Labels.{Labels}
 use Rattle.sharc_accepted_laws.specs.Targets.{targets_of}
 use Rattle.sharc_history_laws.specs.Reports.{FindsOthers}
 use Rattle.sharc_wants_laws.specs.Cause.{NothingIsInFlight}
-use Rattle.sharc_build.specs.declared.building.Built.{Built}
-use Rattle.sharc_build.specs.Built.{IsBuilt}
+use Rattle.sharc_build.specs.{declared.building.Built.Built, Built.IsBuilt}
 use Rattle.sharc_instance_laws.specs.Sources.{locking_source, sharing_source}
 
 -- ---- what is asked for

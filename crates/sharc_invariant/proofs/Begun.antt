@@ -1,24 +1,10 @@
 -- A thread that is begun and has made no turn stands at the first place.
-use Rattle.std.proofs.Common.{◌≡◌, ℕ, pos, ◌+◌, ◌*◌, true, false, refl, sym, ap, ◌∙◌, subst, arith}
+use Rattle.std.proofs.{Common.{◌≡◌, ℕ, pos, ◌+◌, ◌*◌, true, false, refl, sym, ap, ◌∙◌, subst, arith}, lemmas.List.length-replicate}
 use Rattle.std.specs.Prelude.{slice_index}
-use Rattle.std.proofs.lemmas.List.{length-replicate}
 use Rattle.sharc_shadow.specs.Notes.{blank}
-use Rattle.sharc_code.specs.declared.state.TheConstants.{FRAMES}
-use Rattle.sharc_code.specs.declared.code.Code.{Code}
-use Rattle.sharc_code.specs.declared.shape.Shape.{Shape}
-use Rattle.sharc_code.specs.Layout.{granules}
-use Rattle.sharc_code.specs.Machine.{Machine, no_frame}
-use Rattle.sharc_code.specs.Path.{begun, may_go, most_refs, most_ints}
-use Rattle.sharc_code.specs.Runs.{Global}
-use Rattle.sharc_invariant.specs.Types.{Targets}
-use Rattle.sharc_invariant.specs.Labels.{Empty, Anything, Labels}
-use Rattle.sharc_invariant.specs.Typed.{IsWellTyped, refs_in, ints_in}
-use Rattle.sharc_invariant.specs.World.{World, RegisterOf, Shut, in_ref}
-use Rattle.sharc_invariant.specs.Blocks.{Heap}
-use Rattle.sharc_invariant.specs.State.{State, View, view_of, EntryStands, NumberStands, TopStands, FramesStand, GateStands, Runs, IsThread, ThreadStands, refs_at, types_at}
-use Rattle.sharc_invariant.proofs.Own.{runs_at}
-use Rattle.sharc_invariant.proofs.Plain.{register_plain}
-use Rattle.sharc_invariant.proofs.Opened.{nth_replicate, no_passes, no_note}
+use Rattle.sharc_code.specs.{declared.state.TheConstants.FRAMES, declared.code.Code.Code, declared.shape.Shape.Shape, Layout.granules, Machine.{Machine, no_frame}, Path.{begun, may_go, most_refs, most_ints}, Runs.Global}
+use Rattle.sharc_invariant.specs.{Types.Targets, Labels.{Empty, Anything, Labels}, Typed.{IsWellTyped, refs_in, ints_in}, World.{World, RegisterOf, Shut, in_ref}, Blocks.Heap, State.{State, View, view_of, EntryStands, NumberStands, TopStands, FramesStand, GateStands, Runs, IsThread, ThreadStands, refs_at, types_at}}
+use Rattle.sharc_invariant.proofs.{Own.runs_at, Plain.register_plain, Opened.{nth_replicate, no_passes, no_note}}
 
 module _ (x : Targets) (code : Code) (s : Shape) (ls : Labels) (wt : IsWellTyped x code ls) where
   begun_top : (t : ℕ) (v : View) → ((r : ℕ) → v.refs r ≡ 0) → TopStands x t v 0 0 (λ n. pos 0) (ls.at 0)

@@ -1,54 +1,13 @@
 -- The bits of shadow words behind each turn, and at each place of a run.
-use Rattle.std.proofs.Common.{◌≡◌, ℕ, suc, ◌+◌, ◌*◌, ◌<◌, ◌⊎◌, ◌||◌, Bool, true, false, cond, List, [], ◌∷◌, refl, sym, ap, ◌∙◌, subst, inl, inr, ⊎_elim, arith}
+use Rattle.std.proofs.{Common.{◌≡◌, ℕ, suc, ◌+◌, ◌*◌, ◌<◌, ◌⊎◌, ◌||◌, Bool, true, false, cond, List, [], ◌∷◌, refl, sym, ap, ◌∙◌, subst, inl, inr, ⊎_elim, arith}, lemmas.Bool.{cases_eq, cases_Bool, ltb-true, lt-ltb, true_from_ne_false}}
 use Rattle.std.specs.Prelude.{length, take, slice_index, slice_set, nat_lt, nat_eq, is_some, bit_or, ◌==◌, if◌then◌else◌}
-use Rattle.std.proofs.lemmas.Bool.{cases_eq, cases_Bool, ltb-true, lt-ltb, true_from_ne_false}
-use Rattle.sharc_word.specs.declared.step.TheConstants.{THREADS}
-use Rattle.sharc_word.specs.declared.step.WordOp.TheVariants.{Load, Swap, Or, Cas}
-use Rattle.sharc_word.specs.declared.step.WordStep.{WordStep}
-use Rattle.sharc_word.specs.History.{MayFollow}
-use Rattle.sharc_word.specs.Words.{word_after}
-use Rattle.sharc_shadow.specs.declared.shadow_word.Kind.{Kind}
-use Rattle.sharc_shadow.specs.declared.shadow_word.Kind.TheVariants.{Read, Write}
-use Rattle.sharc_shadow.specs.Accesses.{note_of, site_at}
-use Rattle.sharc_shadow.specs.ShadowWord.{epoch_of, is_of, is_written, stands, Withdraws as WithdrawsWord, AddsAccess}
-use Rattle.sharc_shadow.specs.Functions.{bits_of, cleared_of, withdrawn_of, conflicts_in, noted}
-use Rattle.sharc_shadow.specs.Laws.{ShadowLaws}
-use Rattle.sharc_code.specs.declared.code.Code.{Code}
-use Rattle.sharc_code.specs.declared.instr.Instr.{Instr}
-use Rattle.sharc_code.specs.declared.instr.Instr.TheVariants.{ChkRead, ChkWrite, Clear, Free, New, Spawn, Exit}
-use Rattle.sharc_code.specs.declared.instr.Register.{Register}
-use Rattle.sharc_code.specs.declared.shape.Shape.{Shape}
-use Rattle.sharc_code.specs.declared.state.Stage.{Stage}
-use Rattle.sharc_code.specs.declared.state.Stage.TheVariants.{Rests, Clears, Makes, FreeClears, Names, Hands, Begins, Withdraws, WithdrawsFrom, Leaves}
-use Rattle.sharc_code.specs.declared.state.State.{State as PlaceState}
-use Rattle.sharc_code.specs.declared.state.State.TheVariants.{Runs as RunsOn, Tries, Stopped, Ended}
-use Rattle.sharc_code.specs.declared.state.Stop.{Stop}
-use Rattle.sharc_code.specs.declared.state.Stop.TheVariants.{Conflict}
-use Rattle.sharc_code.specs.Layout.{Fits, granules, granule_at, granule_of, first_shadow, first_cell, shadow_word, state_word}
-use Rattle.sharc_code.specs.Machine.{Machine, Own, Turn as StepTurn, Local, Asks, step_of, act, instr_at, place, ref, at_stage, ends, stopped, with_own, with_note, wrote, checked, check, clear, looks, free, free_looks, layout_at, data_granule, exit, withdraws, withdrew, row_of, without_own}
-use Rattle.sharc_code.specs.Path.{may_go, turn, asked_by}
-use Rattle.sharc_code.specs.Runs.{Turn, Global, put, at, MayTurn, IsRun, Answered, after_turn, result_of}
-use Rattle.sharc_code.specs.Whole.{one_thread, bounds}
-use Rattle.sharc_code.proofs.Places.{eq_refl, ne_eq, put_same, put_other, put_all}
-use Rattle.sharc_invariant.specs.Bits.{Touch, Untouched, CheckOf, ClearOf, WithdrawOf, Marks, no_marks, with_check, without_thread, cleared_by, freed_by, withdrawn_by, touch_of, marks_by, marks_now, marks_after, BitsStand, AllBitsStand}
-use Rattle.sharc_invariant.specs.Granules.{Passed}
-use Rattle.sharc_invariant.specs.Types.{Targets}
-use Rattle.sharc_invariant.specs.Labels.{Labels}
-use Rattle.sharc_invariant.specs.Typed.{IsWellTyped}
-use Rattle.sharc_invariant.specs.World.{World}
-use Rattle.sharc_invariant.specs.Blocks.{Heap}
-use Rattle.sharc_invariant.specs.Words.{shadow_at, is_ended, is_withdrawing, has_withdrawn, note_number, noted_by}
-use Rattle.sharc_invariant.specs.Opened.{first_place}
-use Rattle.sharc_invariant.specs.Turns.{made_turn}
-use Rattle.sharc_invariant.specs.State.{State, IsSmall, StageStands, OnNew, OnSpawn, OnExit}
-use Rattle.sharc_invariant.specs.Laws.{RunsFromTheBeginning, RunsBits}
-use Rattle.sharc_invariant.proofs.Stores.{index_put}
-use Rattle.sharc_invariant.proofs.Turns.{local_turn, asks_turn, some_step}
-use Rattle.sharc_invariant.proofs.Checks.{noted_numbers, same_kind, other_put}
-use Rattle.sharc_invariant.proofs.Withdrawn.{is_row, one_more, row_low, first_row, noted_withdraws, wrote_now}
-use Rattle.sharc_invariant.proofs.Opened.{shadow_zero}
-use Rattle.sharc_invariant.proofs.Marked.{MarkedAt, at_same, at_clear, at_read, at_write, at_withdraw}
-use Rattle.sharc_invariant.proofs.Touched.{IsFit, fit_calm, IsPlain, KeepsNotes, Leaves_all, leaves, at_looks, at_free_looks}
+use Rattle.sharc_word.specs.{declared.step.TheConstants.THREADS, declared.step.WordOp.TheVariants.{Load, Swap, Or, Cas}, declared.step.WordStep.WordStep, History.MayFollow, Words.word_after}
+use Rattle.sharc_shadow.specs.{declared.shadow_word.Kind.Kind, declared.shadow_word.Kind.TheVariants.{Read, Write}, Accesses.{note_of, site_at}, ShadowWord.{epoch_of, is_of, is_written, stands, Withdraws as WithdrawsWord, AddsAccess}, Functions.{bits_of, cleared_of, withdrawn_of, conflicts_in, noted}, Laws.ShadowLaws}
+use Rattle.sharc_code.specs.{declared.code.Code.Code, declared.instr.Instr.Instr, declared.instr.Instr.TheVariants.{ChkRead, ChkWrite, Clear, Free, New, Spawn, Exit}, declared.instr.Register.Register, declared.shape.Shape.Shape, declared.state.Stage.Stage, declared.state.Stage.TheVariants.{Rests, Clears, Makes, FreeClears, Names, Hands, Begins, Withdraws, WithdrawsFrom, Leaves}, declared.state.State.{State as PlaceState}, declared.state.State.TheVariants.{Runs as RunsOn, Tries, Stopped, Ended}, declared.state.Stop.Stop, declared.state.Stop.TheVariants.Conflict, Layout.{Fits, granules, granule_at, granule_of, first_shadow, first_cell, shadow_word, state_word}, Machine.{Machine, Own, Turn as StepTurn, Local, Asks, step_of, act, instr_at, place, ref, at_stage, ends, stopped, with_own, with_note, wrote, checked, check, clear, looks, free, free_looks, layout_at, data_granule, exit, withdraws, withdrew, row_of, without_own}, Path.{may_go, turn, asked_by}, Runs.{Turn, Global, put, at, MayTurn, IsRun, Answered, after_turn, result_of}, Whole.{one_thread, bounds}}
+use Rattle.sharc_code.proofs.Places.{put_same, put_other, put_all}
+use Rattle.sharc_invariant.specs.{Bits.{Touch, Untouched, CheckOf, ClearOf, WithdrawOf, Marks, no_marks, with_check, without_thread, cleared_by, freed_by, withdrawn_by, touch_of, marks_by, marks_now, marks_after, BitsStand, AllBitsStand}, Granules.Passed, Types.Targets, Labels.Labels, Typed.IsWellTyped, World.World, Blocks.Heap, Words.{shadow_at, is_ended, is_withdrawing, has_withdrawn, note_number, noted_by}, Opened.first_place, Turns.made_turn, State.{State, IsSmall, StageStands, OnNew, OnSpawn, OnExit}, Laws.{RunsFromTheBeginning, RunsBits}}
+use Rattle.sharc_invariant.proofs.{Stores.index_put, Turns.{local_turn, asks_turn, some_step}, Checks.{noted_numbers, same_kind, other_put}, Withdrawn.{is_row, one_more, row_low, first_row, noted_withdraws, wrote_now}, Opened.shadow_zero, Marked.{MarkedAt, at_same, at_clear, at_read, at_write, at_withdraw}, Touched.{IsFit, fit_calm, IsPlain, KeepsNotes, Leaves_all, leaves, at_looks, at_free_looks}}
+use Rattle.sharc_lemmas.proofs.Numbers.{ne_eq, eq_refl}
 
 -- ---- numbers
 pub in_low : (s : Shape) (p : ℕ) → p < granules s → granule_at s p ≡ p
@@ -107,10 +66,6 @@ from_new P Q _ f h = absurd h
 from_spawn : (P : ℕ → Register → Type 0) (Q : Type 0) (i : Instr) → ((f : ℕ) (from : Register) → P f from → Q) → OnSpawn P i → Q
 from_spawn P Q (Spawn r f from site) k h = k f from h
 from_spawn P Q _ k h = absurd h
-
-from_exit : (P Q : Type 0) (i : Instr) → (P → Q) → OnExit P i → Q
-from_exit P Q Exit k h = k h
-from_exit P Q _ k h = absurd h
 
 abbrev pub IsNoExit : Instr → Type 0
 IsNoExit Exit = ⊥

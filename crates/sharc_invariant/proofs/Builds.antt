@@ -1,43 +1,15 @@
 -- The turns of a New before its last: the world stays, and a word of the thread's own block or the top may change.
-use Rattle.std.proofs.Common.{◌≡◌, ℕ, zero, suc, ◌+◌, ◌^◌, ◌<◌, ◌≤◌, ◌≢◌, Bool, true, false, cond, List, Option, None, Some, refl, sym, ap, ◌∙◌, subst, ⊎_elim, arith}
+use Rattle.std.proofs.{Common.{◌≡◌, ℕ, zero, suc, ◌+◌, ◌^◌, ◌<◌, ◌≤◌, ◌≢◌, Bool, true, false, cond, List, Option, None, Some, refl, sym, ap, ◌∙◌, subst, ⊎_elim, arith}, lemmas.Bool.cases_order, lemmas.List.length-set}
 use mathlib.Core.Path.{fun_ext}
 use Rattle.std.specs.Prelude.{length, slice_index, slice_set, ◌==◌}
-use Rattle.std.proofs.lemmas.Bool.{cases_order}
-use Rattle.std.proofs.lemmas.List.{length-set}
 use Rattle.sharc_word.specs.declared.step.TheConstants.{THREADS}
-use Rattle.sharc_shadow.specs.Accesses.{note_of}
-use Rattle.sharc_shadow.specs.ShadowWord.{epoch_of}
-use Rattle.sharc_shadow.specs.declared.shadow_word.Kind.{Kind}
-use Rattle.sharc_shadow.specs.declared.shadow_word.Kind.TheVariants.{Read, Write}
-use Rattle.sharc_code.specs.declared.code.Code.{Code}
+use Rattle.sharc_shadow.specs.{Accesses.note_of, ShadowWord.epoch_of, declared.shadow_word.Kind.Kind, declared.shadow_word.Kind.TheVariants.{Read, Write}}
+use Rattle.sharc_code.specs.{declared.code.Code.Code, declared.shape.Shape.Shape, declared.state.State.{State as StateOf}, declared.state.State.TheVariants.{Runs as RunsOn, Tries, Stopped, Ended}, declared.state.Stop.Stop, declared.state.Stage.Stage, declared.state.Stage.TheVariants.{Rests, Makes, Lowers, Links, Names, Hands, Begins, Withdraws, WithdrawsFrom, Leaves}, Layout.{Fits as FitsShape, granules, top_word}, Machine.{Machine, instr_at}, Path.{may_go, counted}, Runs.{Turn, Global, put, MayTurn}, Whole.{one_thread, bounds}}
 use Rattle.sharc_code.specs.declared.instr.Instr.TheVariants as instrs
-use Rattle.sharc_code.specs.declared.shape.Shape.{Shape}
-use Rattle.sharc_code.specs.declared.state.State.{State as StateOf}
-use Rattle.sharc_code.specs.declared.state.State.TheVariants.{Runs as RunsOn, Tries, Stopped, Ended}
-use Rattle.sharc_code.specs.declared.state.Stop.{Stop}
-use Rattle.sharc_code.specs.declared.state.Stage.{Stage}
-use Rattle.sharc_code.specs.declared.state.Stage.TheVariants.{Rests, Makes, Lowers, Links, Names, Hands, Begins, Withdraws, WithdrawsFrom, Leaves}
-use Rattle.sharc_code.specs.Layout.{Fits as FitsShape, granules, top_word}
-use Rattle.sharc_code.specs.Machine.{Machine, instr_at}
-use Rattle.sharc_code.specs.Path.{may_go, counted}
-use Rattle.sharc_code.specs.Runs.{Turn, Global, put, MayTurn}
-use Rattle.sharc_code.specs.Whole.{one_thread, bounds}
-use Rattle.sharc_code.proofs.Places.{put_other, put_all, ne_eq}
-use Rattle.sharc_invariant.specs.Granules.{sum_to}
-use Rattle.sharc_invariant.specs.Types.{Targets}
-use Rattle.sharc_invariant.specs.Labels.{Label, Labels}
-use Rattle.sharc_invariant.specs.Typed.{Fine, IsWellTyped}
-use Rattle.sharc_invariant.specs.World.{World, Shut}
-use Rattle.sharc_invariant.specs.Blocks.{Heap, Kept, Built, InBlock, IsListed}
-use Rattle.sharc_invariant.specs.Words.{conc_of, Shows, head_of, is_ended, has_withdrawn, note_number, noted_by, register_of, staged_of}
-use Rattle.sharc_invariant.specs.Turns.{made_turn, KeepsOthers}
-use Rattle.sharc_invariant.specs.State.{StopStands, State, Runs, View, view_of, StageStands, SpawnsNow, FramesStand, GateStands, HeapStands, TopStands, label_now}
-use Rattle.sharc_invariant.proofs.Listed.{store_ok, within_block, in_use}
-use Rattle.sharc_invariant.proofs.Others.{OnHold, loses}
-use Rattle.sharc_invariant.proofs.Quiet.{heap_now, put_self, sum_up, label_held, freed_held, locks_same}
-use Rattle.sharc_invariant.proofs.Changes.{KeepsPart, KeepsLower, conc_now, changed_state}
-use Rattle.sharc_invariant.proofs.Stores.{index_put, arena}
-use Rattle.sharc_invariant.proofs.Heaps.{apart_stored, built_size, block_word, low_block, built_dead}
+use Rattle.sharc_code.proofs.Places.{put_other, put_all}
+use Rattle.sharc_invariant.specs.{Granules.sum_to, Types.Targets, Labels.{Label, Labels}, Typed.{Fine, IsWellTyped}, World.{World, Shut}, Blocks.{Heap, Kept, Built, InBlock, IsListed}, Words.{conc_of, Shows, head_of, is_ended, has_withdrawn, note_number, noted_by, register_of, staged_of}, Turns.{made_turn, KeepsOthers}, State.{StopStands, State, Runs, View, view_of, StageStands, SpawnsNow, FramesStand, GateStands, HeapStands, TopStands, label_now}}
+use Rattle.sharc_invariant.proofs.{Listed.{store_ok, within_block, in_use}, Others.{OnHold, loses}, Quiet.{heap_now, put_self, sum_up, label_held, freed_held, locks_same}, Changes.{KeepsPart, KeepsLower, conc_now, changed_state}, Stores.{index_put, arena}, Heaps.{apart_stored, built_size, block_word, low_block, built_dead}}
+use Rattle.sharc_lemmas.proofs.Numbers.{ne_eq}
 
 abbrev pub IsMaking : Stage → Type 0
 IsMaking Rests = Unit {0}

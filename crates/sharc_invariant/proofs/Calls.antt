@@ -1,35 +1,12 @@
 -- A call keeps the invariant: the callee's frame stands above the caller's.
-use Rattle.std.proofs.Common.{◌≡◌, ℕ, ℤ, zero, suc, ◌+◌, ◌^◌, ◌<◌, ◌≤◌, Bool, true, false, cond, ◌&&◌, List, [], ◌∷◌, Some, None, refl, sym, ap, ◌∙◌, subst, inl, inr, ⊎_elim, arith, ltb-true}
+use Rattle.std.proofs.{Common.{◌≡◌, ℕ, ℤ, zero, suc, ◌+◌, ◌^◌, ◌<◌, ◌≤◌, Bool, true, false, cond, ◌&&◌, List, [], ◌∷◌, Some, None, refl, sym, ap, ◌∙◌, subst, inl, inr, ⊎_elim, arith, ltb-true}, lemmas.Bool.Decides.nat_tests, lemmas.List.{length-set, get_or-set_same, get_or-set_other}}
 use Rattle.std.specs.Prelude.{length, filter, map, nat_lt, slice_set, ◌==◌}
-use Rattle.std.proofs.lemmas.Bool.Decides.{nat_tests}
-use Rattle.std.proofs.lemmas.List.{length-set, get_or-set_same, get_or-set_other}
 use Rattle.sharc_tree.specs.declared.trap.Trap.TheVariants as traps
-use Rattle.sharc_code.specs.declared.state.TheConstants.{FRAMES}
-use Rattle.sharc_code.specs.declared.code.Code.{Code}
+use Rattle.sharc_code.specs.{declared.state.TheConstants.FRAMES, declared.code.Code.Code, declared.shape.Shape.Shape, declared.state.Frame.Frame, declared.state.State.TheVariants.{Runs as RunsOn}, declared.state.Stop.TheVariants.Trap, Layout.Fits, Machine.{Machine, Local, instr_at, has_room, stopped, no_frame}, Path.{turn, counted}, Runs.{Turn, Global, MayTurn}, Whole.{one_thread, bounds}}
 use Rattle.sharc_code.specs.declared.instr.Instr.TheVariants as instrs
-use Rattle.sharc_code.specs.declared.shape.Shape.{Shape}
-use Rattle.sharc_code.specs.declared.state.Frame.{Frame}
-use Rattle.sharc_code.specs.declared.state.State.TheVariants.{Runs as RunsOn}
-use Rattle.sharc_code.specs.declared.state.Stop.TheVariants.{Trap}
-use Rattle.sharc_code.specs.Layout.{Fits}
-use Rattle.sharc_code.specs.Machine.{Machine, Local, instr_at, called, has_room, stopped, no_frame}
-use Rattle.sharc_code.specs.Path.{turn, counted}
-use Rattle.sharc_code.specs.Runs.{Turn, Global, MayTurn}
-use Rattle.sharc_code.specs.Whole.{one_thread, bounds}
-use Rattle.sharc_code.proofs.Places.{ne_eq}
-use Rattle.sharc_invariant.specs.Types.{Targets, ObjectType, Lock, Global as OfGlobals, Through, Self, mutex_of}
-use Rattle.sharc_invariant.specs.Labels.{Entry, Empty, Refers, Unknown, Number, Anything, Exactly, Within, Indexes, OfElement, OfGlobal, Closed, Pass, IsIn, Label, Labels, Leads, Less, HasBase}
-use Rattle.sharc_invariant.specs.Typed.{IsWellTyped, Calls, Passes, PassesLock, called_label, entry_label, below, below_number, below_pass}
-use Rattle.sharc_invariant.specs.World.{World}
-use Rattle.sharc_invariant.specs.Effect.{Silently}
-use Rattle.sharc_invariant.specs.Turns.{made_turn}
-use Rattle.sharc_invariant.specs.State.{State, View, view_of, frame_at, EntryStands, NumberStands, FrameStands, TopStands, StartStands, CallerStands, BelowStands, FramesStand, GateStands, refs_at, types_at}
-use Rattle.sharc_invariant.specs.Laws.{Turned}
-use Rattle.sharc_invariant.proofs.Frames.{map_same, at_cell, with_locks, same_ref, less_number, number_kept, less_stands}
-use Rattle.sharc_invariant.proofs.Quiet.{heap_now}
-use Rattle.sharc_invariant.proofs.Turns.{local_turn, room_of}
-use Rattle.sharc_invariant.proofs.Own.{runs, rests, top, fine, begun_before, closed_less, runs_at}
-use Rattle.sharc_invariant.proofs.Plain.{is_shut, going, plain_state, stop_state}
+use Rattle.sharc_invariant.specs.{Types.{Targets, ObjectType, Lock, Global as OfGlobals, Through, Self, mutex_of}, Labels.{Entry, Empty, Refers, Unknown, Number, Anything, Exactly, Within, Indexes, OfElement, OfGlobal, Closed, Pass, IsIn, Label, Labels, Leads, Less, HasBase}, Typed.{IsWellTyped, Calls, Passes, PassesLock, called_label, entry_label, below, below_number, below_pass}, World.World, Effect.Silently, Turns.made_turn, State.{State, View, view_of, frame_at, EntryStands, NumberStands, FrameStands, TopStands, StartStands, CallerStands, BelowStands, FramesStand, GateStands, refs_at, types_at}, Laws.Turned}
+use Rattle.sharc_invariant.proofs.{Frames.{map_same, at_cell, with_locks, same_ref, less_number, number_kept, less_stands}, Quiet.heap_now, Turns.{local_turn, room_of}, Own.{runs, rests, top, fine, begun_before, closed_less, runs_at}, Plain.{is_shut, going, plain_state, stop_state}}
+use Rattle.sharc_lemmas.proofs.Numbers.{ne_eq}
 
 -- ---- the caller's frame
 pub below_at : {A : Type 0} (k : ℕ) (f : ℕ → A) (a b : A) (r : ℕ) → r < k → below k f a b r ≡ f r

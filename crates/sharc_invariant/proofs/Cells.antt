@@ -1,26 +1,10 @@
 -- The cells that instructions name are there.
-use Rattle.std.proofs.Common.{◌≡◌, ℕ, ℤ, pos, suc, ◌+◌, ◌-◌, ◌*◌, ◌%◌, ◌<◌, ◌≤◌, ◌≢◌, true, false, cond, refl, sym, ap, ◌∙◌, subst, ⊎_elim, arith}
+use Rattle.std.proofs.{Common.{◌≡◌, ℕ, ℤ, pos, suc, ◌+◌, ◌-◌, ◌*◌, ◌%◌, ◌<◌, ◌≤◌, ◌≢◌, true, false, cond, refl, sym, ap, ◌∙◌, subst, ⊎_elim, arith}, lemmas.Bool.cases_eq, lemmas.Bool.Decides.nat_tests, Math.Nat.{mul-le-mul_right, suc-mul}, lemmas.Nat.mod-mul-add}
 use Rattle.std.specs.Prelude.{length, nat_lt, ◌==◌}
-use Rattle.std.proofs.lemmas.Bool.{cases_eq}
-use Rattle.std.proofs.lemmas.Bool.Decides.{nat_tests}
-use Rattle.std.proofs.Math.Nat.{mul-le-mul_right, suc-mul}
-use Rattle.std.proofs.lemmas.Nat.{mod-mul-add}
-use Rattle.sharc_code.specs.declared.code.Code.{Code}
-use Rattle.sharc_code.specs.declared.instr.Cell.{Cell}
+use Rattle.sharc_code.specs.{declared.code.Code.Code, declared.instr.Cell.Cell, declared.shape.Shape.Shape, Arithmetic.word_of, Layout.{Fits, words_of, first_cell, cell_word, word_at, cell_of}, Machine.{Machine, place, word, ref, int}, Runs.Global}
 use Rattle.sharc_code.specs.declared.instr.Cell.TheVariants as cells
-use Rattle.sharc_code.specs.declared.shape.Shape.{Shape}
-use Rattle.sharc_code.specs.Arithmetic.{word_of}
-use Rattle.sharc_code.specs.Layout.{Fits, words_of, first_cell, cell_word, word_at, cell_of}
-use Rattle.sharc_code.specs.Machine.{Machine, place, word, ref, int}
-use Rattle.sharc_code.specs.Runs.{Global}
-use Rattle.sharc_code.proofs.Places.{eq_refl, ne_eq}
-use Rattle.sharc_invariant.specs.Types.{Targets, ObjectType, StaticType, Field, field_in, field_at, field_of_cell, global_field, cells_of}
-use Rattle.sharc_invariant.specs.Labels.{Refers, OfElement, OfGlobal, Label, Labels}
-use Rattle.sharc_invariant.specs.Typed.{IsWellTyped, HasCell, IsInGlobal}
-use Rattle.sharc_invariant.specs.World.{ObjectState, TypedReference, Holder, RegisterOf, In, World, Based, base_of, in_ref}
-use Rattle.sharc_invariant.specs.Words.{cell_at}
-use Rattle.sharc_invariant.specs.State.{State, View, view_of, EntryStands, NumberStands, TopStands, refs_at, types_at, base_of_cell, object_of_cell, number_in}
-use Rattle.sharc_invariant.specs.Cells.{IsThere}
+use Rattle.sharc_invariant.specs.{Types.{Targets, ObjectType, StaticType, Field, field_in, field_at, field_of_cell, global_field, cells_of}, Labels.{Refers, OfElement, OfGlobal, Label, Labels}, Typed.{IsWellTyped, HasCell, IsInGlobal}, World.{ObjectState, RegisterOf, In, World, Based, base_of, in_ref}, Words.cell_at, State.{State, View, view_of, EntryStands, NumberStands, TopStands, refs_at, types_at, base_of_cell, object_of_cell, number_in}, Cells.IsThere}
+use Rattle.sharc_lemmas.proofs.Numbers.{ne_eq, eq_refl}
 
 module _ (x : Targets) (code : Code) (s : Shape) (ls : Labels) (wt : IsWellTyped x code ls) (fits : Fits code s) (g : Global Machine) (world : World) (st : State x code s ls g world) (t : ℕ) (m : Machine) (names : ℕ → ℤ) (l : Label)
     (top : TopStands x t (view_of st.elements world t m) m.at.refs m.at.ints names l) (reads : (r : ℕ) → ref m r ≡ in_ref world (RegisterOf t (m.at.refs + r))) where

@@ -1,39 +1,12 @@
 -- The checks of accesses keep the invariant.
 use Rattle.std.proofs.Common.{◌≡◌, ℕ, ℤ, suc, ◌+◌, ◌/◌, ◌<◌, ◌⊎◌, Bool, true, false, cond, List, ◌∷◌, Some, None, refl, sym, ap, ◌∙◌, subst, inl, inr, ⊎_elim}
 use Rattle.std.specs.Prelude.{length, slice_index, is_some}
-use Rattle.sharc_shadow.specs.declared.shadow_word.Kind.{Kind}
-use Rattle.sharc_shadow.specs.Accesses.{Accesses, note_of, site_at}
-use Rattle.sharc_shadow.specs.ShadowWord.{epoch_of, is_write}
-use Rattle.sharc_shadow.specs.Functions.{conflicts_in, noted}
-use Rattle.sharc_shadow.specs.Laws.{ShadowLaws}
-use Rattle.sharc_code.specs.declared.code.Code.{Code}
-use Rattle.sharc_code.specs.declared.instr.Cell.{Cell}
+use Rattle.sharc_shadow.specs.{declared.shadow_word.Kind.Kind, Accesses.{Accesses, note_of, site_at}, ShadowWord.{epoch_of, is_write}, Functions.{conflicts_in, noted}, Laws.ShadowLaws}
+use Rattle.sharc_code.specs.{declared.code.Code.Code, declared.instr.Cell.Cell, declared.instr.Instr.Instr, declared.shape.Shape.Shape, declared.state.Stage.TheVariants.Rests, Layout.{Fits, granule_of}, Machine.{Own as Own', Machine, instr_at, place, check, wrote, with_note, with_own, ref}, Path.turn, Runs.{Turn, Global, put, MayTurn}, Whole.{one_thread, bounds}}
 use Rattle.sharc_code.specs.declared.instr.Cell.TheVariants as cells
-use Rattle.sharc_code.specs.declared.instr.Instr.{Instr}
-use Rattle.sharc_code.specs.declared.shape.Shape.{Shape}
-use Rattle.sharc_code.specs.declared.state.Stage.TheVariants.{Rests}
-use Rattle.sharc_code.specs.Layout.{Fits, granule_of}
-use Rattle.sharc_code.specs.Machine.{Own as Own', Machine, instr_at, place, check, wrote, with_note, with_own, ref}
-use Rattle.sharc_code.specs.Path.{turn}
-use Rattle.sharc_code.specs.Runs.{Turn, Global, put, MayTurn}
-use Rattle.sharc_code.specs.Whole.{one_thread, bounds}
 use Rattle.sharc_code.proofs.Places.{put_same, put_other}
-use Rattle.sharc_invariant.specs.Granules.{GranuleState, Passed, marked, passed}
-use Rattle.sharc_invariant.specs.Types.{Targets, Field, FieldMode}
-use Rattle.sharc_invariant.specs.Labels.{Gate, Closed, Checked, Holds, Loaded, HoldsLoaded, Sole as SoleGate, Pass, Label, Labels, Leads, LessGate, gated}
-use Rattle.sharc_invariant.specs.Typed.{IsWellTyped, HasCell, IsPlace, LeadsChecked}
-use Rattle.sharc_invariant.specs.World.{World, Window, Shut, May, RegisterOf, in_ref, put2, set_gran, set_win}
-use Rattle.sharc_invariant.specs.Effect.{Silent, Silently}
-use Rattle.sharc_invariant.specs.Turns.{made_turn}
-use Rattle.sharc_invariant.specs.State.{Runs, State, View, view_of, TopStands, FramesStand, PassStands, GateStands, base_of_cell, object_of_cell, number_in, refs_at}
-use Rattle.sharc_invariant.specs.Laws.{Turned}
-use Rattle.sharc_invariant.proofs.Effects.{put2_all}
-use Rattle.sharc_invariant.proofs.Frames.{Agrees, Always, Low, top_agrees, callers_agree, less_stands}
-use Rattle.sharc_invariant.proofs.Quiet.{heap_now}
-use Rattle.sharc_invariant.proofs.Own.{is_single, runs, rests, top, gate, runs_at}
-use Rattle.sharc_invariant.proofs.Plain.{is_shut, register_plain}
-use Rattle.sharc_invariant.proofs.CheckTurns.{refused, passes_state, all_kept}
-use Rattle.sharc_invariant.proofs.Rights.{pass_at}
+use Rattle.sharc_invariant.specs.{Granules.{GranuleState, Passed, marked, passed}, Types.{Targets, Field, FieldMode}, Labels.{Gate, Closed, Checked, Holds, Loaded, HoldsLoaded, Sole as SoleGate, Pass, Label, Labels, Leads, LessGate, gated}, Typed.{IsWellTyped, HasCell, IsPlace, LeadsChecked}, World.{World, Window, Shut, May, RegisterOf, in_ref, put2, set_gran, set_win}, Effect.{Silent, Silently}, Turns.made_turn, State.{Runs, State, View, view_of, TopStands, FramesStand, PassStands, GateStands, base_of_cell, object_of_cell, number_in, refs_at}, Laws.Turned}
+use Rattle.sharc_invariant.proofs.{Effects.put2_all, Frames.{Agrees, Always, Low, top_agrees, callers_agree, less_stands}, Quiet.heap_now, Own.{is_single, runs, rests, top, gate, runs_at}, Plain.{is_shut, register_plain}, CheckTurns.{refused, passes_state, all_kept}, Rights.pass_at}
 
 put2_same : {A : Type 0} (f : ℕ → ℕ → A) (o i : ℕ) (v : A) → put2 f o i v o i ≡ v
 put2_same f o i v = ap (λ g. g i) (put_same f o (put (f o) i v)) ∙ put_same (f o) i v

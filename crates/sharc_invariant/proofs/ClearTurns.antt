@@ -1,48 +1,15 @@
 -- Clear keeps the invariant: it loads how many elements there are, and for each granule its shadow word, and swaps it.
-use Rattle.std.proofs.Common.{◌≡◌, ℕ, suc, ◌+◌, ◌*◌, ◌<◌, ◌≤◌, ◌≢◌, true, false, cond, List, None, refl, sym, ap, ◌∙◌, subst, ⊎_elim, arith, ltb-true}
+use Rattle.std.proofs.{Common.{◌≡◌, ℕ, suc, ◌+◌, ◌*◌, ◌<◌, ◌≤◌, ◌≢◌, true, false, cond, List, None, refl, sym, ap, ◌∙◌, subst, ⊎_elim, arith, ltb-true}, lemmas.Bool.cases_eq, lemmas.Bool.Decides.nat_tests, lemmas.List.set-get_or}
 use mathlib.Core.Path.{fun_ext}
 use Rattle.std.specs.Prelude.{length, slice_index, slice_set, nat_lt, ◌==◌}
-use Rattle.std.proofs.lemmas.Bool.{cases_eq}
-use Rattle.std.proofs.lemmas.Bool.Decides.{nat_tests}
-use Rattle.std.proofs.lemmas.List.{set-get_or}
-use Rattle.sharc_word.specs.declared.step.TheConstants.{THREADS}
-use Rattle.sharc_word.specs.declared.step.WordOp.TheVariants.{Load, Swap}
-use Rattle.sharc_shadow.specs.Laws.{ShadowLaws}
-use Rattle.sharc_shadow.specs.ShadowWord.{epoch_of}
-use Rattle.sharc_shadow.specs.Functions.{cleared_of}
-use Rattle.sharc_code.specs.declared.code.Code.{Code}
+use Rattle.sharc_word.specs.{declared.step.TheConstants.THREADS, declared.step.WordOp.TheVariants.{Load, Swap}}
+use Rattle.sharc_shadow.specs.{Laws.ShadowLaws, ShadowWord.epoch_of, Functions.cleared_of}
+use Rattle.sharc_code.specs.{declared.code.Code.Code, declared.shape.Shape.Shape, declared.state.Stage.Stage, declared.state.Stage.TheVariants.{Rests, Looks, Clears}, Layout.{granules, granule_at, first_cell, length_word, shadow_word}, Machine.{Machine, step_of, instr_at, ref, looks, clear, data_granules, data_granule, at_stage, act, rests}, Path.{turn, counted}, Runs.{Turn, Global, put, MayTurn, after_turn}, Whole.{one_thread, bounds}}
 use Rattle.sharc_code.specs.declared.instr.Instr.TheVariants as instrs
-use Rattle.sharc_code.specs.declared.shape.Shape.{Shape}
-use Rattle.sharc_code.specs.declared.state.Stage.{Stage}
-use Rattle.sharc_code.specs.declared.state.Stage.TheVariants.{Rests, Looks, Clears}
-use Rattle.sharc_code.specs.Layout.{granules, granule_at, first_cell, length_word, shadow_word}
-use Rattle.sharc_code.specs.Machine.{Machine, step_of, instr_at, ref, looks, clear, data_granules, data_granule, at_stage}
-use Rattle.sharc_code.specs.Path.{turn}
-use Rattle.sharc_code.specs.Runs.{Turn, Global, put, MayTurn, after_turn}
-use Rattle.sharc_code.specs.Whole.{one_thread, bounds}
-use Rattle.sharc_code.proofs.Places.{put_same, put_all, ne_eq}
-use Rattle.sharc_invariant.specs.Granules.{Passed, cleared, sum_to}
-use Rattle.sharc_invariant.specs.Types.{Targets, ObjectType, cells_of}
-use Rattle.sharc_invariant.specs.Labels.{Label, Labels}
-use Rattle.sharc_invariant.specs.Typed.{Fine, IsWellTyped}
-use Rattle.sharc_invariant.specs.World.{RegisterOf, In, World, Sole, put2, set_gran}
-use Rattle.sharc_invariant.specs.Blocks.{Built, InBlock}
-use Rattle.sharc_invariant.specs.Words.{lang_of, conc_of, Shows, length_at, shadow_at, staged_of}
-use Rattle.sharc_invariant.specs.Turns.{made_turn}
-use Rattle.sharc_invariant.specs.Effect.{Silently, Clears as ClearsOf}
-use Rattle.sharc_invariant.specs.State.{State, view_of, EntryStands, GateStands, StageStands, AreCleared, refs_at, types_at, size_of_run}
-use Rattle.sharc_invariant.specs.Laws.{Turned}
-use Rattle.sharc_invariant.proofs.Effects.{clear_ok}
-use Rattle.sharc_invariant.proofs.Plain.{same_words}
-use Rattle.sharc_invariant.proofs.Quiet.{heap_now, label_held}
-use Rattle.sharc_invariant.proofs.Changes.{KeepsLow}
-use Rattle.sharc_invariant.proofs.Walks.{IsWalk, walk_hold}
-use Rattle.sharc_invariant.proofs.Turns.{asks_turn, room_of}
-use Rattle.sharc_invariant.proofs.Stores.{index_put, shadow_store, stored_within}
-use Rattle.sharc_invariant.proofs.Seen.{shadow_stored, put2_off}
-use Rattle.sharc_code.specs.Machine.{act, rests}
-use Rattle.sharc_code.specs.Path.{counted}
-use Rattle.sharc_invariant.proofs.Clears.{in_cells, sum_more, epochs_low, cleared_small, cleared_reads, part_words, clear_cases, object, walk_top, walk_reads, some, live, stays_on, goes_on}
+use Rattle.sharc_code.proofs.Places.{put_same, put_all}
+use Rattle.sharc_invariant.specs.{Granules.{Passed, cleared, sum_to}, Types.{Targets, ObjectType, cells_of}, Labels.{Label, Labels}, Typed.{Fine, IsWellTyped}, World.{RegisterOf, In, World, Sole, put2, set_gran}, Blocks.{Built, InBlock}, Words.{lang_of, conc_of, Shows, length_at, shadow_at, staged_of}, Turns.made_turn, Effect.{Silently, Clears as ClearsOf}, State.{State, view_of, EntryStands, GateStands, StageStands, AreCleared, refs_at, types_at, size_of_run}, Laws.Turned}
+use Rattle.sharc_invariant.proofs.{Effects.clear_ok, Plain.same_words, Quiet.{heap_now, label_held}, Changes.KeepsLow, Walks.{IsWalk, walk_hold}, Turns.{asks_turn, room_of}, Stores.{index_put, shadow_store, stored_within}, Seen.{shadow_stored, put2_off}, Clears.{in_cells, sum_more, epochs_low, cleared_small, cleared_reads, part_words, clear_cases, object, walk_top, walk_reads, some, live, stays_on, goes_on}}
+use Rattle.sharc_lemmas.proofs.Numbers.{ne_eq}
 
 -- ---- what stands of a granule behind its clear
 pub cleared_more : (w : World) (o done : ℕ) → ((u : ℕ) → (w.gran o done).read_note u ≤ suc (w.gran o done).epoch) → ((u : ℕ) → (w.gran o done).write_note u ≤ suc (w.gran o done).epoch)

@@ -1,43 +1,15 @@
 -- The granules of an object that a thread has alone are cleared.
-use Rattle.std.proofs.Common.{◌≡◌, ℕ, ℤ, zero, suc, ◌+◌, ◌*◌, ◌/◌, ◌^◌, ◌<◌, ◌≤◌, ◌≢◌, Bool, true, false, List, Some, None, refl, sym, ap, ◌∙◌, subst, ⊎_elim, arith}
+use Rattle.std.proofs.{Common.{◌≡◌, ℕ, ℤ, zero, suc, ◌+◌, ◌*◌, ◌/◌, ◌^◌, ◌<◌, ◌≤◌, ◌≢◌, Bool, true, false, List, Some, None, refl, sym, ap, ◌∙◌, subst, ⊎_elim, arith}, lemmas.Bool.cases_eq, lemmas.List.length-set}
 use mathlib.Core.Path.{fun_ext}
 use Rattle.std.specs.Prelude.{length, slice_index, slice_set, min, ◌==◌}
-use Rattle.std.proofs.lemmas.Bool.{cases_eq}
-use Rattle.std.proofs.lemmas.List.{length-set}
 use Rattle.sharc_word.specs.declared.step.TheConstants.{THREADS}
-use Rattle.sharc_shadow.specs.Laws.{ShadowLaws}
-use Rattle.sharc_shadow.specs.ShadowWord.{epoch_of}
-use Rattle.sharc_shadow.specs.Functions.{cleared_of}
-use Rattle.sharc_code.specs.declared.code.Code.{Code}
+use Rattle.sharc_shadow.specs.{Laws.ShadowLaws, ShadowWord.epoch_of, Functions.cleared_of}
+use Rattle.sharc_code.specs.{declared.code.Code.Code, declared.shape.Shape.Shape, declared.state.Stage.Stage, declared.state.Stage.TheVariants.{Rests, Looks, Clears}, Layout.{granules, first_cell}, Machine.{Machine, instr_at, ref, largest}, Runs.{Turn, Global, put, MayTurn}, Whole.{one_thread, bounds}}
 use Rattle.sharc_code.specs.declared.instr.Instr.TheVariants as instrs
-use Rattle.sharc_code.specs.declared.shape.Shape.{Shape}
-use Rattle.sharc_code.specs.declared.state.Stage.{Stage}
-use Rattle.sharc_code.specs.declared.state.Stage.TheVariants.{Rests, Looks, Clears}
-use Rattle.sharc_code.specs.Layout.{granules, first_cell}
-use Rattle.sharc_code.specs.Machine.{Machine, instr_at, ref, largest}
-use Rattle.sharc_code.specs.Runs.{Turn, Global, put, MayTurn}
-use Rattle.sharc_code.specs.Whole.{one_thread, bounds}
 use Rattle.sharc_code.proofs.Places.{put_same, put_other, put_all}
-use Rattle.sharc_invariant.specs.Granules.{GranuleState, Passed, cleared, sum_to}
-use Rattle.sharc_invariant.specs.Types.{Targets}
-use Rattle.sharc_invariant.specs.Labels.{Gate, Label, Labels, Leads, gated, Sole as SoleGate}
-use Rattle.sharc_invariant.specs.Typed.{IsWellTyped, IsUnpassed}
-use Rattle.sharc_invariant.specs.World.{RegisterOf, In, Slot, World, Sole, in_ref, WorldInvariant}
-use Rattle.sharc_invariant.specs.Blocks.{Heap, Kept, Built, InBlock}
-use Rattle.sharc_invariant.specs.Words.{lang_of, conc_of, Shows, Reads, staged_of}
-use Rattle.sharc_invariant.specs.Turns.{made_turn, KeepsOthers}
-use Rattle.sharc_invariant.specs.State.{State, View, view_of, TopStands, FramesStand, PassStands, GateStands, StageStands, refs_at, size_of_run}
-use Rattle.sharc_invariant.proofs.Effects.{sole_at, only_slot}
-use Rattle.sharc_invariant.proofs.Frames.{Agrees, Low, callers_agree, less_stands}
-use Rattle.sharc_invariant.proofs.Accesses.{gate_top}
-use Rattle.sharc_invariant.proofs.Own.{runs_at}
-use Rattle.sharc_invariant.proofs.Quiet.{heap_now, label_held}
-use Rattle.sharc_invariant.proofs.Changes.{KeepsLow}
-use Rattle.sharc_invariant.proofs.Walks.{IsWalk, walk_hold, walk_register, walk_state, walked, conc_walked}
-use Rattle.sharc_invariant.proofs.Stores.{index_put, arena, MayStore}
-use Rattle.sharc_invariant.proofs.Listed.{store_ok}
-use Rattle.sharc_invariant.proofs.Sums.{sum_one}
-use Rattle.sharc_invariant.proofs.Others.{loses}
+use Rattle.sharc_invariant.specs.{Granules.{GranuleState, Passed, cleared, sum_to}, Types.Targets, Labels.{Gate, Label, Labels, Leads, gated, Sole as SoleGate}, Typed.{IsWellTyped, IsUnpassed}, World.{RegisterOf, In, Slot, World, Sole, in_ref, WorldInvariant}, Blocks.{Heap, Kept, Built, InBlock}, Words.{lang_of, conc_of, Shows, Reads, staged_of}, Turns.{made_turn, KeepsOthers}, State.{State, View, view_of, TopStands, FramesStand, PassStands, GateStands, StageStands, refs_at, size_of_run}}
+use Rattle.sharc_invariant.proofs.{Effects.{sole_at, only_slot}, Frames.{Agrees, Low, callers_agree, less_stands}, Accesses.gate_top, Own.runs_at, Quiet.{heap_now, label_held}, Changes.KeepsLow, Walks.{IsWalk, walk_hold, walk_register, walk_state, walked, conc_walked}, Stores.{index_put, arena, MayStore}, Listed.store_ok, Sums.sum_one, Others.loses}
+use Rattle.sharc_lemmas.proofs.Numbers.{times_more as suc_times}
 
 -- ---- numbers
 pub cleared_small : (v : ℕ) → cleared_of v < 2 ^ 64
@@ -46,9 +18,6 @@ cleared_small v = omega arith
 
 pub in_cells : (a d : ℕ) → d < (min a largest + 1) / 2 → 2 * d < a
 in_cells a d h = omega arith
-
-suc_times : (n m : ℕ) → suc n * m ≡ n * m + m
-suc_times n m = grind arith
 
 sum_bound : (n c : ℕ) (f : ℕ → ℕ) → ((j : ℕ) → f j ≤ c) → sum_to n f ≤ n * c
 sum_bound zero c f h = omega arith

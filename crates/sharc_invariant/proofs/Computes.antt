@@ -1,31 +1,12 @@
 -- Arithmetic gives what its width holds.
 use Rattle.std.proofs.Common.{◌≡◌, ℕ, suc, arith, ℤ, pos, negsuc, ◌+◌, ◌^◌, Bool, true, false, cond, not, Result, Ok, Err, refl, subst}
-use Rattle.std.specs.Prelude.{int_rem, ◌+ℤ◌, ◌-ℤ◌, ◌*ℤ◌, int_div, int_le, int_lt, nat_lt, ◌&&◌}
-use Rattle.sharc_code.specs.declared.code.Code.{Code}
-use Rattle.sharc_code.specs.declared.instr.Operator.{Operator}
-use Rattle.sharc_code.specs.declared.instr.Operator.TheVariants.{Add, Subtract, Multiply, Divide, Remainder, ShiftLeft, ShiftRight, And, Or, Xor, Equal, NotEqual, Less, Greater, AtMost, AtLeast}
-use Rattle.sharc_code.specs.declared.instr.Width.{Width}
-use Rattle.sharc_code.specs.declared.instr.Width.TheVariants.{Char, Int, Long}
-use Rattle.std.specs.Int.{int_shr}
+use Rattle.std.specs.{Prelude.{int_rem, ◌+ℤ◌, ◌-ℤ◌, ◌*ℤ◌, int_div, int_le, int_lt, nat_lt, ◌&&◌}, Int.int_shr}
+use Rattle.sharc_code.specs.{declared.code.Code.Code, declared.instr.Operator.Operator, declared.instr.Operator.TheVariants.{Add, Subtract, Multiply, Divide, Remainder, ShiftLeft, ShiftRight, And, Or, Xor, Equal, NotEqual, Less, Greater, AtMost, AtLeast}, declared.instr.Width.Width, declared.instr.Width.TheVariants.{Char, Int, Long}, declared.instr.Instr.Instr, declared.shape.Shape.Shape, Arithmetic.{holds, in_range, divided, computed, truth, is_zero, value_bits, complement}, Machine.{Machine, instr_at, int}, Runs.{Turn, Global, MayTurn}, Whole.{one_thread, bounds}}
 use Rattle.sharc_tree.specs.declared.trap.Trap.{Trap}
 use Rattle.sharc_tree.specs.declared.trap.Trap.TheVariants as traps
-use Rattle.sharc_code.specs.declared.instr.Instr.{Instr}
 use Rattle.sharc_code.specs.declared.instr.Instr.TheVariants as instrs
-use Rattle.sharc_code.specs.declared.shape.Shape.{Shape}
-use Rattle.sharc_code.specs.Arithmetic.{holds, in_range, divided, computed, truth, is_zero, value_bits, complement}
-use Rattle.sharc_code.specs.Machine.{Machine, instr_at, int}
-use Rattle.sharc_code.specs.Runs.{Turn, Global, MayTurn}
-use Rattle.sharc_code.specs.Whole.{one_thread, bounds}
-use Rattle.sharc_invariant.specs.Types.{Targets}
-use Rattle.sharc_invariant.specs.Labels.{Labels, Within}
-use Rattle.sharc_invariant.specs.Typed.{IsWellTyped, is_shift, is_comparison, Fits as FitsWidth}
-use Rattle.sharc_invariant.specs.World.{World}
-use Rattle.sharc_invariant.specs.State.{State, view_of, refs_at, types_at}
-use Rattle.sharc_invariant.specs.Laws.{Turned}
-use Rattle.sharc_invariant.proofs.Frames.{less_number}
-use Rattle.sharc_invariant.proofs.Own.{is_single, runs, top, fine}
-use Rattle.sharc_invariant.proofs.Operators.{rem_holds, shr_holds, and_holds, or_holds, xor_holds, not_holds}
-use Rattle.sharc_invariant.proofs.Steps.{results, numbers, of_turn}
+use Rattle.sharc_invariant.specs.{Types.Targets, Labels.{Labels, Within}, Typed.{IsWellTyped, is_shift, is_comparison, Fits as FitsWidth}, World.World, State.{State, view_of, refs_at, types_at}, Laws.Turned}
+use Rattle.sharc_invariant.proofs.{Frames.less_number, Own.{is_single, runs, top, fine}, Operators.{rem_holds, shr_holds, and_holds, or_holds, xor_holds, not_holds}, Steps.{results, numbers, of_turn}}
 
 -- a stop, or a value that the width holds
 abbrev Gives : Width → Result ℤ Trap → Type 0

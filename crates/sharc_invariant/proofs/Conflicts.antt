@@ -1,40 +1,13 @@
 -- What checks find.
-use Rattle.std.proofs.Common.{◌≡◌, ℕ, suc, ◌+◌, ◌<◌, ◌≢◌, ◌⊎◌, Bool, true, false, cond, refl, sym, ap, ◌∙◌, subst, inl, inr, ⊎_elim}
+use Rattle.std.proofs.{Common.{◌≡◌, ℕ, suc, ◌+◌, ◌<◌, ◌≢◌, ◌⊎◌, Bool, true, false, cond, refl, sym, ap, ◌∙◌, subst, inl, inr, ⊎_elim}, lemmas.Bool.{cases_Bool, eqb-true}}
 use Rattle.std.specs.Prelude.{slice_index, nat_eq, if◌then◌else◌}
-use Rattle.std.proofs.lemmas.Bool.{cases_Bool, eqb-true}
 use Rattle.sharc_word.specs.declared.step.WordOp.TheVariants.{Or}
-use Rattle.sharc_shadow.specs.declared.shadow_word.Kind.{Kind}
-use Rattle.sharc_shadow.specs.declared.shadow_word.Kind.TheVariants.{Read, Write}
-use Rattle.sharc_shadow.specs.ShadowWord.{epoch_of, is_of, is_written, stands, Conflicts}
-use Rattle.sharc_shadow.specs.Functions.{bits_of, conflicts_in}
-use Rattle.sharc_shadow.specs.Laws.{ShadowLaws}
-use Rattle.sharc_code.specs.declared.code.Code.{Code}
-use Rattle.sharc_code.specs.declared.instr.Instr.{Instr}
-use Rattle.sharc_code.specs.declared.instr.Instr.TheVariants.{ChkRead, ChkWrite, Clear, Free, Exit}
-use Rattle.sharc_code.specs.declared.shape.Shape.{Shape}
-use Rattle.sharc_code.specs.declared.state.Stage.{Stage}
-use Rattle.sharc_code.specs.declared.state.Stage.TheVariants.{Clears, FreeClears, WithdrawsFrom}
-use Rattle.sharc_code.specs.declared.state.Stop.{Stop}
-use Rattle.sharc_code.specs.declared.state.Stop.TheVariants.{Conflict}
-use Rattle.sharc_code.specs.Layout.{granules, granule_at, granule_of, shadow_word}
-use Rattle.sharc_code.specs.Machine.{Machine, Own, step_of, act, instr_at, place, stopped, with_own, with_note, wrote, checked, check, row_of, ref}
-use Rattle.sharc_code.specs.Path.{may_go, turn}
-use Rattle.sharc_code.specs.Runs.{Turn, Global, at, MayTurn, after_turn, result_of}
-use Rattle.sharc_code.specs.Whole.{one_thread, bounds}
-use Rattle.sharc_code.proofs.Places.{eq_refl, put_same}
-use Rattle.sharc_invariant.specs.Bits.{Touch, Untouched, CheckOf, WithdrawOf, Marks, cleared_by, freed_by, withdrawn_by, touch_of, marks_after}
-use Rattle.sharc_invariant.specs.Reports.{CheckStands, RunsConflict, touch_at}
-use Rattle.sharc_invariant.specs.Granules.{Passed}
-use Rattle.sharc_invariant.specs.Types.{Targets}
-use Rattle.sharc_invariant.specs.Labels.{Labels}
-use Rattle.sharc_invariant.specs.World.{World}
-use Rattle.sharc_invariant.specs.Words.{shadow_at, is_withdrawing, noted_by}
-use Rattle.sharc_invariant.specs.Opened.{first_place}
-use Rattle.sharc_invariant.specs.State.{State}
-use Rattle.sharc_invariant.specs.Laws.{RunsFromTheBeginning}
-use Rattle.sharc_invariant.proofs.Turns.{asks_turn}
-use Rattle.sharc_invariant.proofs.Withdrawn.{wrote_now}
-use Rattle.sharc_invariant.proofs.BitTurns.{AllMarked, IsNoExit, in_low, at_low, going_on, noted_calm, check_calm, owned, bit_here, written_here, marked_after}
+use Rattle.sharc_shadow.specs.{declared.shadow_word.Kind.Kind, declared.shadow_word.Kind.TheVariants.{Read, Write}, ShadowWord.{epoch_of, is_of, is_written, stands, Conflicts}, Functions.{bits_of, conflicts_in}, Laws.ShadowLaws}
+use Rattle.sharc_code.specs.{declared.code.Code.Code, declared.instr.Instr.Instr, declared.instr.Instr.TheVariants.{ChkRead, ChkWrite, Clear, Free, Exit}, declared.shape.Shape.Shape, declared.state.Stage.Stage, declared.state.Stage.TheVariants.{Clears, FreeClears, WithdrawsFrom}, declared.state.Stop.Stop, declared.state.Stop.TheVariants.Conflict, Layout.{granules, granule_at, granule_of, shadow_word}, Machine.{Machine, Own, step_of, act, instr_at, place, stopped, with_own, with_note, wrote, checked, check, row_of, ref}, Path.{may_go, turn}, Runs.{Turn, Global, at, MayTurn, after_turn, result_of}, Whole.{one_thread, bounds}}
+use Rattle.sharc_code.proofs.Places.{put_same}
+use Rattle.sharc_invariant.specs.{Bits.{Touch, Untouched, CheckOf, WithdrawOf, Marks, cleared_by, freed_by, withdrawn_by, touch_of, marks_after}, Reports.{CheckStands, RunsConflict, touch_at}, Granules.Passed, Types.Targets, Labels.Labels, World.World, Words.{shadow_at, is_withdrawing, noted_by}, Opened.first_place, State.State, Laws.RunsFromTheBeginning}
+use Rattle.sharc_invariant.proofs.{Turns.asks_turn, Withdrawn.wrote_now, BitTurns.{AllMarked, IsNoExit, in_low, at_low, going_on, noted_calm, check_calm, owned, bit_here, written_here, marked_after}}
+use Rattle.sharc_lemmas.proofs.Numbers.{eq_refl}
 
 -- a check goes on where it finds no conflict
 checked_goes : (m : Machine) (stop : Stop) (own : Own) (b : Bool) → may_go (if b then stopped m stop else with_own m own).at.state ≡ cond b false true
@@ -44,10 +17,6 @@ checked_goes m stop own false = refl
 refused_is : (b : Bool) → cond b false true ≡ false → b ≡ true
 refused_is true e = refl
 refused_is false e = absurd (cc)
-
--- the turns that are checks
-is_check : Touch → Kind → ℕ → Bool → Type 0
-is_check y kind p ok = y ≡ CheckOf kind p ok
 
 abbrev Parts : Touch → Kind → ℕ → Bool → Type 0
 Parts (CheckOf kind' p' ok') kind p ok = (kind' ≡ kind) × (p' ≡ p) × (ok' ≡ ok)

@@ -1,42 +1,15 @@
 -- Raise and Lower of a register, and what moves references between registers.
-use Rattle.std.proofs.Common.{◌≡◌, ℕ, ℤ, zero, suc, ◌+◌, ◌-◌, ◌%◌, ◌^◌, ◌<◌, ◌≤◌, ◌≢◌, true, refl, sym, ap, ◌∙◌, subst, inl, inr, ⊎_elim, arith, List, [], ◌∷◌, Bool, false, cond, ◌||◌}
+use Rattle.std.proofs.{Common.{◌≡◌, ℕ, ℤ, zero, suc, ◌+◌, ◌-◌, ◌%◌, ◌^◌, ◌<◌, ◌≤◌, ◌≢◌, true, refl, sym, ap, ◌∙◌, subst, inl, inr, ⊎_elim, arith, List, [], ◌∷◌, Bool, false, cond, ◌||◌}, lemmas.Bool.cases_eq, lemmas.Bool.Decides.nat_tests}
 use mathlib.Core.Path.{fun_ext}
 use Rattle.std.specs.Prelude.{length, slice_index, slice_set, nat_lt, ◌==◌}
-use Rattle.std.proofs.lemmas.Bool.{cases_eq}
-use Rattle.std.proofs.lemmas.Bool.Decides.{nat_tests}
-use Rattle.sharc_word.specs.declared.step.WordOp.TheVariants.{Add, Sub}
-use Rattle.sharc_word.specs.Words.{word_after}
+use Rattle.sharc_word.specs.{declared.step.WordOp.TheVariants.{Add, Sub}, Words.word_after}
 use Rattle.sharc_count.specs.Count.{raise_of, lower_of}
-use Rattle.sharc_code.specs.declared.code.Code.{Code}
-use Rattle.sharc_code.specs.declared.instr.Instr.{Instr}
+use Rattle.sharc_code.specs.{declared.code.Code.Code, declared.instr.Instr.Instr, declared.shape.Shape.Shape, Layout.{granules, granule_at, count_word}, Machine.{Machine, Local, Asks, instr_at, goes, set_ref, ref, raise, lower}, Path.turn, Runs.{Turn, Global, put, MayTurn, after_turn}, Whole.{one_thread, bounds}}
 use Rattle.sharc_code.specs.declared.instr.Instr.TheVariants as instrs
-use Rattle.sharc_code.specs.declared.shape.Shape.{Shape}
-use Rattle.sharc_code.specs.Layout.{granules, granule_at, count_word}
-use Rattle.sharc_code.specs.Machine.{Machine, Turn as StepTurn, Local, Asks, instr_at, goes, set_ref, ref, raise, lower}
-use Rattle.sharc_code.specs.Path.{turn}
-use Rattle.sharc_code.specs.Runs.{Turn, Global, put, MayTurn, after_turn}
-use Rattle.sharc_code.specs.Whole.{one_thread, bounds}
-use Rattle.sharc_code.proofs.Places.{eq_refl, put_same, put_other}
-use Rattle.sharc_invariant.specs.Types.Lock.{Global as OfGlobals, Through, Self}
-use Rattle.sharc_invariant.specs.Types.{nothing, Targets, type_of, Lock, Names, SomeNames}
-use Rattle.sharc_invariant.specs.Labels.{Empty, Refers, Unknown, Closed, Label, Labels, Leads, fill, empty, Entry, EntryMentions, IsFree, forgets, forgotten, some_names}
-use Rattle.sharc_invariant.specs.Typed.{IsWellTyped, IsRef, IsVacant, Fine}
-use Rattle.sharc_invariant.specs.World.{TypedReference, RegisterOf, World, Shut, Sole, In, Slot, in_ref, place, null, none, grow, drop, set_win, set_slot, Fits, WorldInvariant}
-use Rattle.sharc_invariant.specs.Words.{lang_of, conc_of, Shows, count_at, store, set_reg, has_returned}
-use Rattle.sharc_invariant.specs.Granules.{GranuleState, Passed}
-use Rattle.sharc_invariant.specs.Effect.{Silent, Effect, Silently}
-use Rattle.sharc_invariant.specs.Turns.{made_turn}
-use Rattle.sharc_invariant.specs.State.{State, View, view_of, EntryStands, TopStands, refs_at, types_at, IsSmall, size_of_run}
-use Rattle.sharc_invariant.proofs.Effects.{set_slot_ok, grow_ok, drop_ok, set_win_ok, count_pos, place_other}
-use Rattle.sharc_invariant.proofs.Frames.{filled, FilledStands, fill_stands, empty_stands}
-use Rattle.sharc_invariant.proofs.Small.{total_low}
-use Rattle.sharc_invariant.proofs.Stores.{index_put, count_store, stored_words, stored_within}
-use Rattle.sharc_invariant.proofs.Seen.{count_stored, reg_stored}
-use Rattle.sharc_invariant.proofs.Turns.{local_turn, asks_turn, room_of}
-use Rattle.sharc_invariant.proofs.Own.{is_single, runs, rests, top, fine}
-use Rattle.sharc_invariant.proofs.Plain.{register_plain, is_shut, same_words}
-use Rattle.sharc_invariant.proofs.Filled.{SetsRef, filled_state, inside_world, free_shut}
-use Rattle.sharc_invariant.specs.Objects.{changes_objects}
+use Rattle.sharc_code.proofs.Places.{put_same, put_other}
+use Rattle.sharc_invariant.specs.{Types.Lock.{Global as OfGlobals, Through, Self}, Types.{nothing, Targets, type_of, Lock, Names, SomeNames}, Labels.{Empty, Refers, Unknown, Closed, Label, Labels, Leads, fill, empty, Entry, EntryMentions, IsFree, forgets, forgotten, some_names}, Typed.{IsWellTyped, IsRef}, World.{TypedReference, RegisterOf, World, Shut, Sole, In, Slot, in_ref, place, null, none, grow, drop, set_win, set_slot, Fits, WorldInvariant}, Words.{lang_of, conc_of, Shows, count_at, store, set_reg, has_returned}, Granules.{GranuleState, Passed}, Effect.{Silent, Effect, Silently}, Turns.made_turn, State.{State, View, view_of, EntryStands, TopStands, refs_at, types_at, IsSmall, size_of_run}, Objects.changes_objects}
+use Rattle.sharc_invariant.proofs.{Effects.{set_slot_ok, grow_ok, drop_ok, set_win_ok, count_pos, place_other}, Frames.{filled, FilledStands, fill_stands, empty_stands}, Small.total_low, Stores.{index_put, count_store, stored_words, stored_within}, Seen.{count_stored, reg_stored}, Turns.{local_turn, asks_turn, room_of}, Own.{is_single, runs, rests, top, fine}, Plain.{register_plain, is_shut, same_words}, Filled.{SetsRef, filled_state, inside_world, free_shut}}
+use Rattle.sharc_lemmas.proofs.Numbers.{eq_refl}
 
 pub raise_zero : (s : Shape) (n : ℕ) (m : Machine) → n ≡ 0 → raise s n m ≡ Local m
 raise_zero s n m e = ap (λ n. raise s n m) e

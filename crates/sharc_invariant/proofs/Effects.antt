@@ -1,15 +1,11 @@
 -- Each effect of a turn keeps the invariant of the world.
-use Rattle.std.proofs.Common.{◌≡◌, ℕ, suc, ◌+◌, ◌-◌, ◌<◌, ◌≤◌, ◌⊎◌, ◌≢◌, Bool, true, false, refl, sym, ap, ◌∙◌, subst, inl, inr, ⊎_elim, arith, eqb-true}
+use Rattle.std.proofs.{Common.{◌≡◌, ℕ, suc, ◌+◌, ◌-◌, ◌<◌, ◌≤◌, ◌⊎◌, ◌≢◌, Bool, true, false, refl, sym, ap, ◌∙◌, subst, inl, inr, ⊎_elim, arith, eqb-true}, lemmas.Bool.{cases_eq, and_parts}}
 use Rattle.std.specs.Prelude.{nat_eq}
-use Rattle.std.proofs.lemmas.Bool.{cases_eq, and_parts}
 use Rattle.sharc_code.specs.Runs.{put}
-use Rattle.sharc_code.proofs.Places.{eq_refl, put_same, put_other, put_all}
-use Rattle.sharc_invariant.specs.Granules.{GranuleState, Bits, one, sum_to, Passed, Clean, cleared, marked, passed, withdrawn}
-use Rattle.sharc_invariant.specs.Types.{ObjectType, nothing, CellMode}
-use Rattle.sharc_invariant.specs.Types.CellMode.{Private, Readonly, Racy, Dynamic, Locked, Sibling, Behind}
-use Rattle.sharc_invariant.specs.World.{TypeRules, Laws, TypedReference, Holder, RegisterOf, ArgumentOf, LogOf, Staged, Slot, In, Cell, ObjectState, Base, By, Global, Window, Shut, May, Loaded, Sole, World, put2, same_own, same_slot, place, none, null, thread_of, in_ref, Size, total, Inside, base_of, Based, CanBy, Can, Right, WinOk, Uses, Opens, Free, who, Fits, Words, WorldInvariant, set_slot, grow, drop, shift, set_win, swap, set_gran, set_mutex, give, retype, make, freed}
-use Rattle.sharc_invariant.proofs.Sums.{sum_zero, sum_ext, sum_one, one_same, one_other}
-use Rattle.sharc_invariant.proofs.Granules.{up, down, bits_cleared, bits_marked, bits_passed, bits_withdrawn}
+use Rattle.sharc_code.proofs.Places.{put_same, put_other, put_all}
+use Rattle.sharc_invariant.specs.{Granules.{GranuleState, Bits, one, sum_to, Passed, Clean, cleared, marked, passed, withdrawn}, Types.{ObjectType, nothing, CellMode}, Types.CellMode.{Private, Readonly, Racy, Dynamic, Locked, Sibling, Behind}, World.{TypeRules, Laws, TypedReference, Holder, RegisterOf, ArgumentOf, LogOf, Staged, Slot, In, Cell, ObjectState, Base, By, Global, Window, Shut, May, Loaded, Sole, World, put2, same_own, same_slot, place, none, null, thread_of, in_ref, Size, total, Inside, base_of, Based, CanBy, Can, Right, WinOk, Uses, Opens, Free, who, Fits, Words, WorldInvariant, set_slot, grow, drop, shift, set_win, swap, set_gran, set_mutex, give, retype, make, freed}}
+use Rattle.sharc_invariant.proofs.{Sums.{sum_zero, sum_ext, sum_one, one_same, one_other}, Granules.{up, down, bits_cleared, bits_marked, bits_passed, bits_withdrawn}}
+use Rattle.sharc_lemmas.proofs.Numbers.{eq_refl}
 
 own_eq : (a b : Holder) → same_own a b ≡ true → a ≡ b
 own_eq (RegisterOf t r) (RegisterOf u q) h = let p = and_parts (nat_eq t u) (nat_eq r q) h in ap (λ x. RegisterOf x r) (eqb-true t u p.0) ∙ ap (λ x. RegisterOf u x) (eqb-true r q p.1)
@@ -773,15 +769,3 @@ module _ (z : Size) (l : TypeRules) (w : World) (inv : WorldInvariant z l w) whe
             (λ u nu b hb q. base_not o gone u b hb q)
             (λ u q nu nr one'. put_other w.count o (in_ref w (RegisterOf u q)) 1 (not_it (In (RegisterOf u q))) ∙ one');
       }
-
-  -- the lock behind a pointer that was loaded is held
-  pub behind_ok : (t : ℕ) (k : Bool) (b : Base) (i j v : ℕ) → w.win t ≡ Loaded b j v → l.mode (w.obj (base_of w t b)).ty i ≡ Behind j → w.mutex v 0 ≡ suc t → WorldInvariant z l (set_win w t (May k b i))
-  behind_ok t k b i j v e m held =
-      let h = subst (WinOk l w t) e (inv.wins t) in
-      let P : ℕ → Type 0 = λ x. w.mutex x 0 ≡ suc t in
-      let can : Can l w t k (base_of w t b) i = subst (CanBy l w t k (base_of w t b) i) (sym m) (subst P (sym h.1) held) in
-      set_win_ok t (May k b i) (record { based = h.0.based; can = can })
-
-  -- Windows 3 of MachineInvariant
-  pub sole_window : (t r : ℕ) → w.win t ≡ Sole r → ((s : Slot) → (s ≡ In (RegisterOf t r) → ⊥) → (w.slots s).reference ≡ in_ref w (RegisterOf t r) → ⊥) × ((u : ℕ) (b : Base) (i v : ℕ) → w.win u ≡ Loaded b i v → v ≡ in_ref w (RegisterOf t r) → ⊥)
-  sole_window t r e = (only_slot t r e, λ u b i v k q. let h = subst (WinOk l w u) k (inv.wins u) in only_slot t r e (Cell (base_of w u b) i) (λ c. absurd (cc)) (h.1 ∙ q))

@@ -1,20 +1,9 @@
 -- An object whose pointers are all empty has no reference in it.
-use Rattle.std.proofs.Common.{◌≡◌, ℕ, ◌+◌, ◌-◌, ◌*◌, ◌/◌, ◌%◌, ◌^◌, ◌<◌, ◌≤◌, ◌≢◌, true, false, refl, ap, ◌∙◌, subst, ⊎_elim, arith, sym, List, [], ◌∷◌, zero, suc}
+use Rattle.std.proofs.{Common.{◌≡◌, ℕ, ◌+◌, ◌-◌, ◌*◌, ◌/◌, ◌%◌, ◌^◌, ◌<◌, ◌≤◌, ◌≢◌, true, false, refl, ap, ◌∙◌, subst, ⊎_elim, arith, sym, List, [], ◌∷◌, zero, suc}, lemmas.Bool.{cases_eq, cases_order, cases_lt}, lemmas.Nat.{mod-mul-add, div-mul-add}, Math.Nat.{mul-le-mul_right, suc-mul}}
 use Rattle.std.specs.Prelude.{length, slice_index, min, ◌==◌, slice_index_or}
-use Rattle.std.proofs.lemmas.Bool.{cases_eq, cases_order, cases_lt}
-use Rattle.std.proofs.lemmas.Nat.{mod-mul-add, div-mul-add}
-use Rattle.std.proofs.Math.Nat.{mul-le-mul_right, suc-mul}
-use Rattle.sharc_code.proofs.Places.{ne_eq}
-use Rattle.sharc_code.specs.declared.code.Code.{Code}
-use Rattle.sharc_code.specs.declared.shape.Shape.{Shape}
-use Rattle.sharc_code.specs.Layout.{Fits}
-use Rattle.sharc_code.specs.Machine.{Machine, layout_at, pointer_cell, fields, largest, field_of}
-use Rattle.sharc_code.specs.Runs.{Global}
-use Rattle.sharc_invariant.specs.Types.{Targets, ObjectType, cells_of, field_at, field_in, field_of_cell, is_pointer, Field, no_field, row_of}
-use Rattle.sharc_invariant.specs.Labels.{Labels}
-use Rattle.sharc_invariant.specs.Typed.{IsWellTyped, IsLayout}
-use Rattle.sharc_invariant.specs.World.{Cell, World}
-use Rattle.sharc_invariant.specs.State.{State, AreEmpty, all_pointers}
+use Rattle.sharc_code.specs.{declared.code.Code.Code, declared.shape.Shape.Shape, Layout.Fits, Machine.{Machine, layout_at, pointer_cell, fields, largest, field_of}, Runs.Global}
+use Rattle.sharc_invariant.specs.{Types.{Targets, ObjectType, cells_of, field_at, field_in, field_of_cell, is_pointer, Field, no_field, row_of}, Labels.Labels, Typed.{IsWellTyped, IsLayout}, World.{Cell, World}, State.{State, AreEmpty, all_pointers}}
+use Rattle.sharc_lemmas.proofs.Numbers.{ne_eq}
 
 split : (i c : ℕ) → c ≢ 0 → i ≡ i / c * c + i % c
 split i c nz = grind arith

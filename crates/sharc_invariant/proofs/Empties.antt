@@ -1,52 +1,16 @@
 -- The turns of a Free that empty the pointers of its object, and lower what they held.
-use Rattle.std.proofs.Common.{◌≡◌, ℕ, zero, suc, ◌+◌, ◌-◌, ◌*◌, ◌%◌, ◌^◌, ◌<◌, ◌≤◌, ◌≢◌, true, false, cond, List, None, Some, refl, sym, ap, ◌∙◌, subst, ⊎_elim, arith, ltb-true, ◌/◌}
+use Rattle.std.proofs.{Common.{◌≡◌, ℕ, zero, suc, ◌+◌, ◌-◌, ◌*◌, ◌%◌, ◌^◌, ◌<◌, ◌≤◌, ◌≢◌, true, false, cond, List, None, Some, refl, sym, ap, ◌∙◌, subst, ⊎_elim, arith, ltb-true, ◌/◌}, lemmas.Bool.cases_eq, lemmas.Bool.Decides.nat_tests}
 use mathlib.Core.Path.{fun_ext}
 use Rattle.std.specs.Prelude.{length, slice_index, slice_set, nat_lt, min, ◌==◌}
-use Rattle.std.proofs.lemmas.Bool.{cases_eq}
-use Rattle.std.proofs.lemmas.Bool.Decides.{nat_tests}
-use Rattle.sharc_word.specs.declared.step.TheConstants.{THREADS}
-use Rattle.sharc_word.specs.declared.step.WordOp.TheVariants.{Swap, Sub}
-use Rattle.sharc_word.specs.Words.{word_after}
-use Rattle.sharc_shadow.specs.Laws.{ShadowLaws}
-use Rattle.sharc_shadow.specs.ShadowWord.{epoch_of}
+use Rattle.sharc_word.specs.{declared.step.TheConstants.THREADS, declared.step.WordOp.TheVariants.{Swap, Sub}, Words.word_after}
+use Rattle.sharc_shadow.specs.{Laws.ShadowLaws, ShadowWord.epoch_of}
 use Rattle.sharc_count.specs.Count.{lower_of}
-use Rattle.sharc_code.specs.declared.code.Code.{Code}
-use Rattle.sharc_code.specs.declared.code.Layout.{Layout}
+use Rattle.sharc_code.specs.{declared.code.Code.Code, declared.code.Layout.Layout, declared.shape.Shape.Shape, declared.state.Stage.Stage, declared.state.Stage.TheVariants.{Empties, Lowers, FreeLooks, Uncounts}, Layout.{Fits as FitsShape, granules, words_of, first_cell, cell_word, cell_of, count_word}, Machine.{Machine, step_of, instr_at, ref, at_stage, largest, empties, emptied, free, layout_at, fields, pointer_cell}, Path.counted, Runs.{Turn, Global, put, MayTurn, after_turn}, Whole.{one_thread, bounds}}
 use Rattle.sharc_code.specs.declared.instr.Instr.TheVariants as instrs
-use Rattle.sharc_code.specs.declared.shape.Shape.{Shape}
-use Rattle.sharc_code.specs.declared.state.Stage.{Stage}
-use Rattle.sharc_code.specs.declared.state.Stage.TheVariants.{Empties, Lowers, FreeLooks, Uncounts}
-use Rattle.sharc_code.specs.Layout.{Fits as FitsShape, granules, words_of, first_cell, cell_word, cell_of, count_word}
-use Rattle.sharc_code.specs.Machine.{Machine, step_of, instr_at, ref, at_stage, largest, empties, emptied, free, layout_at, fields, pointer_cell, data_granules}
-use Rattle.sharc_code.specs.Path.{counted}
-use Rattle.sharc_code.specs.Runs.{Turn, Global, put, MayTurn, after_turn}
-use Rattle.sharc_code.specs.Whole.{one_thread, bounds}
 use Rattle.sharc_code.proofs.Places.{put_other}
-use Rattle.sharc_invariant.specs.Granules.{sum_to}
-use Rattle.sharc_invariant.specs.Types.{Targets, ObjectType, type_at}
-use Rattle.sharc_invariant.specs.Labels.{Label, Labels}
-use Rattle.sharc_invariant.specs.Typed.{Fine, IsWellTyped}
-use Rattle.sharc_invariant.specs.World.{RegisterOf, ArgumentOf, Staged, Slot, In, TypedReference, Cell as CellOf, World, Sole, WorldInvariant, in_ref, place, null, none, set_slot, swap, drop, Free}
-use Rattle.sharc_invariant.specs.Blocks.{Built, InBlock, Kept}
-use Rattle.sharc_invariant.specs.Words.{lang_of, conc_of, Shows, cell_at, count_at, staged_of, store}
-use Rattle.sharc_invariant.specs.Turns.{made_turn, KeepsOthers}
-use Rattle.sharc_invariant.specs.Effect.{Silently}
-use Rattle.sharc_invariant.specs.State.{State, Runs, View, view_of, StageStands, EntryStands, FramesStand, TopStands, GateStands, AreEmpty, Emptying, all_pointers, label_now, refs_at, types_at, IsSmall, size_of_run}
-use Rattle.sharc_invariant.specs.Laws.{Turned}
-use Rattle.sharc_invariant.proofs.Effects.{set_slot_ok, empty_ok, drop_ok, count_pos, place_same, place_other, slot_cases}
-use Rattle.sharc_invariant.proofs.Small.{total_low}
-use Rattle.sharc_invariant.proofs.Quiet.{heap_now, label_held}
-use Rattle.sharc_invariant.proofs.Changes.{KeepsLow}
-use Rattle.sharc_invariant.proofs.Walks.{IsWalk, walk_hold, walk_state, walked, conc_held}
-use Rattle.sharc_invariant.proofs.Turns.{asks_turn}
-use Rattle.sharc_invariant.proofs.Stores.{index_put, arena, cell_store, count_store, stored_within}
-use Rattle.sharc_invariant.proofs.Seen.{cell_stored, count_stored, staged_stored}
-use Rattle.sharc_invariant.proofs.Counts.{count_is}
-use Rattle.sharc_invariant.proofs.Clears.{part_words, sum_more, alone, walk_top}
-use Rattle.sharc_invariant.proofs.Emptied.{pointer_there, some_cells}
-use Rattle.sharc_invariant.proofs.Loads.{lang_laws}
-use Rattle.sharc_invariant.proofs.Frees.{not_less, few_of, empties_counted, at_free, granules_split, free_fine, free_win, free_reads, free_some, free_live, free_cells, free_begun, free_act}
-use Rattle.sharc_invariant.proofs.Others.{loses}
+use Rattle.sharc_invariant.specs.{Granules.sum_to, Types.{Targets, ObjectType, type_at}, Labels.{Label, Labels}, Typed.{Fine, IsWellTyped}, World.{RegisterOf, ArgumentOf, Staged, Slot, In, TypedReference, Cell as CellOf, World, Sole, WorldInvariant, in_ref, place, null, none, set_slot, swap, drop, Free}, Blocks.{Built, InBlock, Kept}, Words.{lang_of, conc_of, Shows, cell_at, count_at, staged_of, store}, Turns.{made_turn, KeepsOthers}, Effect.Silently, State.{State, Runs, View, view_of, StageStands, EntryStands, FramesStand, TopStands, GateStands, AreEmpty, Emptying, all_pointers, label_now, refs_at, types_at, IsSmall, size_of_run}, Laws.Turned}
+use Rattle.sharc_invariant.proofs.{Effects.{set_slot_ok, empty_ok, drop_ok, count_pos, place_same, place_other, slot_cases}, Small.total_low, Quiet.{heap_now, label_held}, Changes.KeepsLow, Walks.{IsWalk, walk_hold, walk_state, walked, conc_held}, Turns.asks_turn, Stores.{index_put, arena, cell_store, count_store, stored_within}, Seen.{cell_stored, count_stored, staged_stored}, Counts.count_is, Clears.{part_words, sum_more, alone, walk_top}, Emptied.{pointer_there, some_cells}, Loads.lang_laws, Frees.{few_of, empties_counted, at_free, granules_split, free_fine, free_win, free_reads, free_some, free_live, free_cells, free_begun, free_act}, Others.loses}
+use Rattle.sharc_lemmas.proofs.Numbers.{not_below as not_less}
 
 emptied_next : (i p : ℕ) → i ≤ p → p < 2 ^ 63 → nat_lt i (min p largest) ≡ false → i ≡ p
 emptied_next i p le low e = let a = not_less i (min p largest) e in omega arith
@@ -69,9 +33,6 @@ cell_word_is s o c lt =
     let e : nat_lt w (words_of s) ≡ true = grind (arith, nat_tests) in
     let q : cell_word s (cell_of o c) ≡ w = rw e refl in
     q ∙ (let z : w ≡ cell_at s o c = omega arith in z)
-
-zero_low : (n : ℕ) → 0 ≤ n
-zero_low n = omega arith
 
 none_below : (i : ℕ) → i < 0 → ⊥
 none_below i lt = omega arith

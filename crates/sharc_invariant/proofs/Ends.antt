@@ -3,33 +3,14 @@ use Rattle.std.proofs.Common.{◌≡◌, ℕ, ℤ, zero, suc, ◌+◌, ◌||◌,
 use Rattle.std.specs.Prelude.{pos, negsuc, length, slice_index_or, nat_lt, ◌==◌, not, Result, Ok, Err, is_some, slice_set}
 use Rattle.sharc_tree.specs.declared.trap.Trap.{Trap}
 use Rattle.sharc_tree.specs.declared.trap.Trap.TheVariants as traps
-use Rattle.sharc_word.specs.declared.step.TheConstants.{THREADS}
-use Rattle.sharc_granule.specs.State.{NewView, told, turn_of}
-use Rattle.sharc_granule.specs.declared.stage.NewTurn.{NewTurn}
-use Rattle.sharc_granule.specs.declared.stage.NewTurn.TheVariants.{Do, Made, HeapFull}
-use Rattle.sharc_shadow.specs.Accesses.{note_of, site_at}
-use Rattle.sharc_shadow.specs.Functions.{conflicts_in, noted}
-use Rattle.sharc_shadow.specs.ShadowWord.{epoch_of}
-use Rattle.sharc_shadow.specs.declared.shadow_word.Kind.{Kind}
+use Rattle.sharc_word.specs.{declared.step.TheConstants.THREADS, declared.step.WordOp.TheVariants.Load}
+use Rattle.sharc_granule.specs.{State.{NewView, told, turn_of}, declared.stage.NewTurn.NewTurn, declared.stage.NewTurn.TheVariants.{Do, Made, HeapFull}}
+use Rattle.sharc_shadow.specs.{Accesses.{note_of, site_at}, Functions.{conflicts_in, noted}, ShadowWord.epoch_of, declared.shadow_word.Kind.Kind}
 use Rattle.sharc_cond.specs.Waiters.{waits_in}
-use Rattle.sharc_code.specs.declared.code.Code.{Code}
-use Rattle.sharc_code.specs.declared.code.Layout.{Layout}
-use Rattle.sharc_code.specs.declared.code.Parameter.{Parameter}
+use Rattle.sharc_code.specs.{declared.code.Code.Code, declared.code.Layout.Layout, declared.code.Parameter.Parameter, declared.instr.Register.Register, declared.instr.Instr.Instr, declared.shape.Shape.Shape, declared.state.State.TheVariants.{Runs as RunsOn}, declared.state.Stop.Stop, declared.state.Stage.Stage, declared.state.Stage.TheVariants.{Rests, Looks, Clears, Makes, Empties, Lowers, FreeLooks, FreeClears, Uncounts, Links, Names, Hands, Begins, Enters, Wakes}, Machine.{Machine, Local, Asks, act, goes, goes_to, at_stage, rests, fails, stopped, trapped, asserts, with_result, called, has_room, no_frame, back_to, holds_none, returned, indexed, wrote, with_note, checked, lock_checked, is_held, raise, lower, test, after_new, asks_new, new, looks, clear, free_looks, empties, emptied, free, spawn, joined, join, with_parameter, start, wakes, signal, with_own, set_int, set_ref, data_granules, function_of, new_state, step_of, layout_at, ref, int, word, accessed, move_ref, is_positive, is_of_null, elements_of}, Path.after, Layout.{state_word, cell_word, cell_of}, Arithmetic.{holds, is_zero}}
 use Rattle.sharc_code.specs.declared.code.Parameter.TheVariants as parameters
-use Rattle.sharc_code.specs.declared.instr.Register.{Register}
-use Rattle.sharc_code.specs.declared.instr.Instr.{Instr}
 use Rattle.sharc_code.specs.declared.instr.Instr.TheVariants as instrs
-use Rattle.sharc_code.specs.declared.shape.Shape.{Shape}
-use Rattle.sharc_code.specs.declared.state.State.TheVariants.{Runs as RunsOn}
-use Rattle.sharc_code.specs.declared.state.Stop.{Stop}
-use Rattle.sharc_code.specs.declared.state.Stage.{Stage}
-use Rattle.sharc_code.specs.declared.state.Stage.TheVariants.{Rests, Looks, Clears, Makes, Empties, Lowers, FreeLooks, FreeClears, Uncounts, Links, Names, Hands, Begins, Enters, Wakes}
-use Rattle.sharc_code.specs.Machine.{Machine, Local, Asks, act, goes, goes_to, at_stage, rests, fails, stopped, trapped, asserts, with_result, called, has_room, no_frame, back_to, holds_none, returned, indexed, wrote, with_note, checked, lock_checked, is_held, raise, lower, test, after_new, asks_new, new, looks, clear, free_looks, empties, emptied, free, spawn, joined, join, with_parameter, start, wakes, signal, with_own, set_int, set_ref, data_granules, function_of, new_state, step_of, layout_at, ref, int, word, accessed, move_ref, is_positive, is_of_null, elements_of}
-use Rattle.sharc_code.specs.Path.{after}
 use Rattle.sharc_invariant.specs.Words.{has_returned, is_withdrawing}
-use Rattle.sharc_code.specs.Layout.{state_word, cell_word, cell_of}
-use Rattle.sharc_word.specs.declared.step.WordOp.TheVariants.{Load}
-use Rattle.sharc_code.specs.Arithmetic.{holds, is_zero}
 
 abbrev pub is_exit : Instr → Bool
 is_exit instrs.Exit = true

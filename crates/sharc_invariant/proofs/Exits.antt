@@ -1,57 +1,15 @@
 -- The turns of an Exit: it says that the thread returned, withdraws from each granule of its table, and says that it is gone.
-use Rattle.std.proofs.Common.{◌≡◌, ℕ, zero, suc, ◌+◌, ◌*◌, ◌^◌, ◌<◌, ◌≤◌, ◌≢◌, ◌⊎◌, ◌||◌, ◌&&◌, Bool, true, false, cond, List, [], None, refl, sym, ap, ◌∙◌, subst, inl, inr, ⊎_elim, arith, ltb-true}
+use Rattle.std.proofs.{Common.{◌≡◌, ℕ, zero, suc, ◌+◌, ◌*◌, ◌^◌, ◌<◌, ◌≤◌, ◌≢◌, ◌⊎◌, ◌||◌, ◌&&◌, Bool, true, false, cond, List, [], None, refl, sym, ap, ◌∙◌, subst, inl, inr, ⊎_elim, arith, ltb-true}, lemmas.Bool.{cases_eq, cases_lt}, lemmas.Bool.Decides.nat_tests, lemmas.List.{set-get_or, length-set}}
 use mathlib.Core.Path.{fun_ext}
 use Rattle.std.specs.Prelude.{length, slice_index, slice_set, take, nat_lt, nat_eq, ◌==◌}
-use Rattle.std.proofs.lemmas.Bool.{cases_eq, cases_lt}
-use Rattle.std.proofs.lemmas.Bool.Decides.{nat_tests}
-use Rattle.std.proofs.lemmas.List.{set-get_or, length-set}
-use Rattle.sharc_word.specs.declared.step.TheConstants.{THREADS}
-use Rattle.sharc_word.specs.declared.step.WordOp.TheVariants.{Load, Swap, Cas}
-use Rattle.sharc_shadow.specs.Laws.{ShadowLaws}
-use Rattle.sharc_shadow.specs.Accesses.{note_of}
-use Rattle.sharc_shadow.specs.Functions.{withdrawn_of}
-use Rattle.sharc_shadow.specs.ShadowWord.{epoch_of}
-use Rattle.sharc_shadow.specs.declared.shadow_word.Kind.{Kind}
-use Rattle.sharc_shadow.specs.declared.shadow_word.Kind.TheVariants.{Read, Write}
-use Rattle.sharc_code.specs.declared.code.Code.{Code}
+use Rattle.sharc_word.specs.{declared.step.TheConstants.THREADS, declared.step.WordOp.TheVariants.{Load, Swap, Cas}}
+use Rattle.sharc_shadow.specs.{Laws.ShadowLaws, Accesses.note_of, Functions.withdrawn_of, ShadowWord.epoch_of, declared.shadow_word.Kind.Kind, declared.shadow_word.Kind.TheVariants.{Read, Write}}
+use Rattle.sharc_code.specs.{declared.code.Code.Code, declared.shape.Shape.Shape, declared.state.State.{State as StateOf}, declared.state.State.TheVariants.{Runs as RunsOn, Tries, Stopped, Ended}, declared.state.Stage.Stage, declared.state.Stage.TheVariants.{Rests, Makes, Lowers, Links, Names, Hands, Begins, Withdraws, WithdrawsFrom, Leaves}, Arithmetic.int_of, Layout.{Fits as FitsShape, granules, granule_at, top_word, shadow_word, next_thread_word, state_word, function_word, argument_word}, Machine.{Machine, instr_at, function_of, step_of, at_stage, exit, withdraws, withdrew, row_of, without_own}, Path.{turn, may_go, counted}, Runs.{Turn, Global, put, MayTurn, after_turn, is_started}, Whole.{one_thread, bounds}}
 use Rattle.sharc_code.specs.declared.instr.Instr.TheVariants as instrs
-use Rattle.sharc_code.specs.declared.shape.Shape.{Shape}
-use Rattle.sharc_code.specs.declared.state.State.{State as StateOf}
-use Rattle.sharc_code.specs.declared.state.State.TheVariants.{Runs as RunsOn, Tries, Stopped, Ended}
-use Rattle.sharc_code.specs.declared.state.Stage.{Stage}
-use Rattle.sharc_code.specs.declared.state.Stage.TheVariants.{Rests, Makes, Lowers, Links, Names, Hands, Begins, Withdraws, WithdrawsFrom, Leaves}
-use Rattle.sharc_code.specs.Arithmetic.{int_of}
-use Rattle.sharc_code.specs.Layout.{Fits as FitsShape, granules, granule_at, top_word, shadow_word, next_thread_word, state_word, function_word, argument_word}
-use Rattle.sharc_code.specs.Machine.{Machine, instr_at, function_of, step_of, at_stage, exit, withdraws, withdrew, row_of, without_own, reference_of}
-use Rattle.sharc_code.specs.Path.{turn, may_go, counted}
-use Rattle.sharc_code.specs.Runs.{Turn, Global, put, MayTurn, after_turn, is_started}
-use Rattle.sharc_code.specs.Whole.{one_thread, bounds}
-use Rattle.sharc_code.proofs.Places.{put_same, put_other, put_all, eq_refl, ne_eq}
-use Rattle.sharc_invariant.specs.Granules.{GranuleState, Passed, withdrawn}
-use Rattle.sharc_invariant.specs.Types.{Targets, nothing}
-use Rattle.sharc_invariant.specs.Labels.{Label, Labels, IsIn}
-use Rattle.sharc_invariant.specs.Typed.{Fine, IsWellTyped}
-use Rattle.sharc_invariant.specs.World.{In, RegisterOf, ArgumentOf, Cell as CellOf, TypedReference, World, Shut, Sole, WorldInvariant, in_ref, put2, set_gran}
-use Rattle.sharc_invariant.specs.Blocks.{Heap, Kept, Built, InBlock}
-use Rattle.sharc_invariant.specs.Words.{lang_of, conc_of, MachineView, Shows, Reads, IsNobodys, store, has_returned, is_withdrawing, has_withdrawn, is_ended, is_unread, is_first, if_reference, argument_of, making_of, note_number, noted_by, register_of, staged_of, logged, shadow_at, cell_at, count_at, length_at}
-use Rattle.sharc_invariant.specs.Turns.{made_turn, KeepsOthers}
-use Rattle.sharc_invariant.specs.Effect.{Effect, Silently, Returns, Withdraws as WithdrawsOf, events_of}
-use Rattle.sharc_invariant.specs.State.{StopStands, State, Runs, View, view_of, StageStands, SpawnsNow, Reserves, NumberStands, EntryStands, FramesStand, GateStands, Threads, Firsts, TopStands, FrameStands, PassStands, label_now, size_of_run}
-use Rattle.sharc_invariant.specs.Laws.{Followed}
-use Rattle.sharc_invariant.proofs.Effects.{withdraw_ok}
-use Rattle.sharc_invariant.proofs.Listed.{store_ok}
-use Rattle.sharc_invariant.proofs.Others.{OnHold, loses}
-use Rattle.sharc_invariant.proofs.Quiet.{KeepsThread, KeepsMost, heap_now, put_self, sum_up, label_held, freed_held, locks_same, most_state}
-use Rattle.sharc_invariant.proofs.Changes.{KeepsPart, KeepsLow, lower, conc_now, changed_state}
-use Rattle.sharc_invariant.proofs.Turns.{asks_turn, room_of}
-use Rattle.sharc_invariant.proofs.Stores.{index_put, arena, shadow_store, stored_within}
-use Rattle.sharc_invariant.proofs.Seen.{shadow_stored, put2_off}
-use Rattle.sharc_invariant.proofs.Heaps.{apart_stored}
-use Rattle.sharc_invariant.proofs.Clears.{part_words}
-use Rattle.sharc_invariant.proofs.Uncounted.{granule_cases}
-use Rattle.sharc_invariant.proofs.Withdrawn.{is_row, one_more, row_low, first_row, noted_withdraws, wrote_now, withdrawn_reads, withdrawn_small}
-use Rattle.sharc_invariant.specs.Objects.{changes_objects, objects_now}
-use Rattle.sharc_invariant.proofs.Owned.{effect_objects, behind_same}
+use Rattle.sharc_code.proofs.Places.{put_same, put_other, put_all}
+use Rattle.sharc_invariant.specs.{Granules.{GranuleState, Passed, withdrawn}, Types.{Targets, nothing}, Labels.{Label, Labels, IsIn}, Typed.{Fine, IsWellTyped}, World.{In, RegisterOf, ArgumentOf, TypedReference, World, Shut, WorldInvariant, in_ref, put2, set_gran}, Blocks.{Heap, Kept, Built, InBlock}, Words.{lang_of, conc_of, MachineView, Shows, Reads, store, has_returned, is_withdrawing, has_withdrawn, is_ended, is_unread, is_first, if_reference, argument_of, making_of, note_number, noted_by, register_of, staged_of, logged, shadow_at, cell_at, count_at, length_at}, Turns.{made_turn, KeepsOthers}, Effect.{Effect, Silently, Returns, Withdraws as WithdrawsOf, events_of}, State.{StopStands, State, Runs, View, view_of, StageStands, SpawnsNow, NumberStands, EntryStands, FramesStand, GateStands, Threads, Firsts, TopStands, label_now, size_of_run}, Laws.Followed, Objects.{changes_objects, objects_now}}
+use Rattle.sharc_invariant.proofs.{Effects.withdraw_ok, Listed.store_ok, Others.{OnHold, loses}, Quiet.{KeepsThread, KeepsMost, heap_now, put_self, sum_up, label_held, freed_held, locks_same, most_state}, Changes.{KeepsPart, KeepsLow, lower, conc_now, changed_state}, Turns.{asks_turn, room_of}, Stores.{index_put, arena, shadow_store, stored_within}, Seen.{shadow_stored, put2_off}, Heaps.apart_stored, Clears.part_words, Uncounted.granule_cases, Withdrawn.{is_row, one_more, row_low, first_row, noted_withdraws, wrote_now, withdrawn_reads, withdrawn_small}, Owned.{effect_objects, behind_same}, Spawns.no_argument}
+use Rattle.sharc_lemmas.proofs.Numbers.{ne_eq, eq_refl}
 
 -- ---- the stages
 abbrev pub IsExiting : Stage → Type 0
@@ -104,10 +62,6 @@ find_granule w cells p (suc n) = ⊎_elim
   where
     smaller : (o n : ℕ) → o < suc n → (o ≡ n → ⊥) → o < n
     smaller o n lt ne = ⊎_elim (λ (l : o < n). l) (λ (ge : n ≤ o). absurd (ne (omega arith))) (cases_lt o n)
-
-no_argument : (b c : Bool) (v : ℕ) → c ≡ false → cond (b && c) v 0 ≡ 0
-no_argument true c v e = ap (λ c. cond c v 0) e
-no_argument false c v e = refl
 
 module _ (x : Targets) (code : Code) (s : Shape) (ls : Labels) (wt : IsWellTyped x code ls) (fits : FitsShape code s) (laws : ShadowLaws) (g : Global Machine) (world : World) (st : State x code s ls g world) (tr : Turn)
     (may : MayTurn bounds (one_thread code s) g tr) (is : instr_at code (g.threads tr.thread).at.pc ≡ instrs.Exit) (exiting : IsExiting (g.threads tr.thread).own.stage) where

@@ -1,21 +1,10 @@
 -- Frames: what a label says of registers, when it says less, and when registers change.
-use Rattle.std.proofs.Common.{◌≡◌, ℕ, ℤ, pos, negsuc, zero, suc, ◌+◌, ◌<◌, ◌≤◌, ◌⊎◌, ◌≢◌, Bool, true, false, cond, List, [], ◌∷◌, Some, None, refl, sym, ap, ◌∙◌, subst, inl, inr, ⊎_elim, arith}
+use Rattle.std.proofs.{Common.{◌≡◌, ℕ, ℤ, pos, negsuc, zero, suc, ◌+◌, ◌<◌, ◌≤◌, ◌⊎◌, ◌≢◌, Bool, true, false, cond, List, [], ◌∷◌, Some, None, refl, sym, ap, ◌∙◌, subst, inl, inr, ⊎_elim, arith}, lemmas.Bool.{eqb-false, ltb-true}, lemmas.Bool.Decides.nat_tests}
 use Rattle.std.specs.Prelude.{map, nat_eq, nat_lt, ◌*◌, ◌/◌, ◌&&◌, not, filter}
-use Rattle.std.proofs.lemmas.Bool.{eqb-false, ltb-true}
-use Rattle.std.proofs.lemmas.Bool.Decides.{nat_tests}
-use Rattle.sharc_code.specs.declared.instr.Width.{Width}
-use Rattle.sharc_code.specs.declared.instr.Width.TheVariants.{Char, Int, Long}
-use Rattle.sharc_code.specs.Arithmetic.{holds}
-use Rattle.sharc_code.specs.declared.code.Code.{Code}
-use Rattle.sharc_code.specs.declared.state.Frame.{Frame}
-use Rattle.sharc_code.specs.Runs.{put}
-use Rattle.sharc_code.proofs.Places.{eq_refl, put_same, put_other, put_all}
-use Rattle.sharc_invariant.specs.Granules.{Passed}
-use Rattle.sharc_invariant.specs.Types.{Targets, ObjectType, Mutex, Lock, StaticType, mutex_of, type_of, SomeNames, Mentions, cells_of}
-use Rattle.sharc_invariant.specs.Types.Lock.{Global, Through, Self}
-use Rattle.sharc_invariant.specs.Labels.{Entry, Empty, Refers, Unknown, Element, Number, Anything, Exactly, Within, Indexes, OfElement, OfGlobal, Pass, IsIn, Label, Labels, SameReference, Itself, IsCopy, HasCopy, Copies, Chained, SameLock, AllSame, SameType, LessEntry, Narrower, LessNumber, Less, EntryMentions, HasBase, IsScoped, fill, empty, without_copies, without_index, without_base, is_base}
-use Rattle.sharc_invariant.specs.Typed.{below, below_copy, below_number, below_pass, called_label, Calls}
-use Rattle.sharc_invariant.specs.State.{frame_at, BelowStands, View, EntryStands, NumberStands, PassStands, FrameStands, TopStands, refs_at, types_at}
+use Rattle.sharc_code.specs.{declared.instr.Width.Width, declared.instr.Width.TheVariants.{Char, Int, Long}, Arithmetic.holds, declared.code.Code.Code, declared.state.Frame.Frame, Runs.put}
+use Rattle.sharc_code.proofs.Places.{put_same, put_other, put_all}
+use Rattle.sharc_invariant.specs.{Granules.Passed, Types.{Targets, ObjectType, Mutex, Lock, StaticType, mutex_of, type_of, SomeNames, Mentions, cells_of}, Types.Lock.{Global, Through, Self}, Labels.{Entry, Empty, Refers, Unknown, Element, Number, Anything, Exactly, Within, Indexes, OfElement, OfGlobal, Pass, IsIn, Label, Labels, SameReference, Itself, IsCopy, HasCopy, Copies, Chained, SameLock, AllSame, SameType, LessEntry, Narrower, LessNumber, Less, EntryMentions, HasBase, IsScoped, fill, empty, without_copies, without_index, without_base, is_base}, Typed.{below, below_copy, below_number, below_pass, called_label, Calls}, State.{frame_at, BelowStands, View, EntryStands, NumberStands, PassStands, FrameStands, TopStands, refs_at, types_at}}
+use Rattle.sharc_lemmas.proofs.Numbers.{eq_refl}
 
 -- ---- the same reference, lock, type
 pub same_ref : (l : Label) (refs : ℕ → ℕ) → ((r : ℕ) → refs (l.same r) ≡ refs r) → (a b : ℕ) → SameReference l a b → refs a ≡ refs b
@@ -275,9 +264,6 @@ top_agrees x t v v' base ints names l a top n k = frame_agrees x t v v' Always A
 -- ---- the callers
 below_env : (k : ℕ) (f : ℕ → Entry) (a b : Entry) (r : ℕ) → r < k → below k f a b r ≡ f r
 below_env k f a b r lt = let e : nat_lt r k ≡ true = grind (arith, nat_tests) in rw e refl
-
-below_nums : (k : ℕ) (f : ℕ → Number) (a b : Number) (r : ℕ) → r < k → below k f a b r ≡ f r
-below_nums k f a b r lt = let e : nat_lt r k ≡ true = grind (arith, nat_tests) in rw e refl
 
 pub copy_inside : (k : ℕ) (f : ℕ → ℕ) (r : ℕ) → r < k → below_copy k f r < k
 copy_inside k f r lt = elim (nat_lt r k && nat_lt (f r) k) as (λ y. (nat_lt r k && nat_lt (f r) k) ≡ y → cond y (f r) r < k) [ true ↦ λ e. grind (arith, nat_tests) | false ↦ λ e. lt ] refl

@@ -1,54 +1,15 @@
 -- Give keeps the invariant: the object that a thread has alone comes to stand under another type, whose cells are the same.
-use Rattle.std.proofs.Common.{◌≡◌, ℕ, ℤ, suc, ◌+◌, ◌<◌, ◌≢◌, true, false, refl, sym, ap, ◌∙◌, subst, inl, arith, ◌*◌, ◌≤◌}
+use Rattle.std.proofs.{Common.{◌≡◌, ℕ, ℤ, suc, ◌+◌, ◌<◌, ◌≢◌, true, false, refl, sym, ap, ◌∙◌, subst, inl, arith, ◌*◌, ◌≤◌}, lemmas.List.set-get_or}
 use Rattle.std.specs.Prelude.{length, slice_index, ◌↔◌, ◌==◌, is_some, Contains}
-use Rattle.sharc_code.specs.declared.code.Code.{Code}
+use Rattle.sharc_code.specs.{declared.code.Code.Code, declared.shape.Shape.Shape, Layout.{Fits, granules, count_word}, Machine.{Machine, instr_at, goes, ref, act}, Runs.{Turn, Global, put, MayTurn, after_turn}, Whole.{one_thread, bounds}, declared.state.Stage.TheVariants.Rests}
 use Rattle.sharc_code.specs.declared.instr.Instr.TheVariants as instrs
-use Rattle.sharc_code.specs.declared.shape.Shape.{Shape}
-use Rattle.sharc_code.specs.Layout.{Fits, granules, count_word}
-use Rattle.sharc_code.specs.Machine.{Machine, instr_at, goes, ref, act}
-use Rattle.sharc_code.specs.Runs.{Turn, Global, put, MayTurn, after_turn}
-use Rattle.sharc_code.specs.Whole.{one_thread, bounds}
 use Rattle.sharc_code.proofs.Places.{put_same, put_other, put_all}
-use Rattle.sharc_invariant.specs.Types.{Targets, ObjectType, StaticType, type_at, type_of, Mentions, cells_of}
-use Rattle.sharc_invariant.specs.Labels.{Empty, Refers, Label, Labels, fill, empty, Unknown, LessEntry}
-use Rattle.sharc_invariant.specs.Typed.{IsWellTyped, refs_in, ints_in, Fine}
-use Rattle.sharc_invariant.specs.World.{TypedReference, RegisterOf, In, Slot, Cell as CellOf, World, Shut, Sole, WorldInvariant, in_ref, ArgumentOf}
-use Rattle.sharc_invariant.specs.Words.{lang_of, conc_of, Shows, cell_at, Apart, head_of}
-use Rattle.sharc_invariant.specs.Turns.{made_turn, KeepsOthers}
-use Rattle.sharc_invariant.specs.State.{State, View, view_of, TopStands, EntryStands, GateStands, refs_at, types_at, size_of_run, HeapStands, Locks, Runs, FramesStand}
-use Rattle.sharc_invariant.specs.Laws.{Turned}
-use Rattle.sharc_invariant.proofs.Effects.{place_other, place_all, sole_at, place_same}
-use Rattle.sharc_invariant.proofs.Frames.{filled, fill_stands, empty_stands, type_kept, put_base}
-use Rattle.sharc_invariant.proofs.Turns.{asks_turn, room_of}
-use Rattle.sharc_invariant.proofs.Plain.{same_words, register_plain}
-use Rattle.sharc_invariant.proofs.CheckTurns.{put_put}
-use Rattle.sharc_invariant.proofs.Scoped.{scoped_empty}
-use Rattle.sharc_invariant.proofs.Loads.{lang_laws}
+use Rattle.sharc_invariant.specs.{Types.{Targets, ObjectType, StaticType, type_at, type_of, Mentions, cells_of, field_in}, Labels.{Empty, Refers, Label, Labels, fill, empty, Unknown, LessEntry}, Typed.{IsWellTyped, refs_in, ints_in, Fine, Recasts}, World.{TypedReference, RegisterOf, In, Slot, Cell as CellOf, World, Shut, Sole, WorldInvariant, in_ref, ArgumentOf, give, LogOf, Staged, ObjectState}, Words.{lang_of, conc_of, Shows, cell_at, Apart, head_of}, Turns.{made_turn, KeepsOthers}, State.{State, View, view_of, TopStands, EntryStands, GateStands, refs_at, types_at, size_of_run, HeapStands, Locks, Runs, FramesStand}, Laws.Turned, Granules.sum_to, Effect.Gives, Blocks.Heap, Objects.{changes_objects, objects_now, objects_behind, owned, type_held}}
+use Rattle.sharc_invariant.proofs.{Effects.{place_other, place_all, sole_at, place_same, give_ok}, Frames.{filled, fill_stands, empty_stands, type_kept, put_base}, Turns.{asks_turn, room_of}, Plain.{same_words, register_plain, next_runs}, CheckTurns.put_put, Scoped.scoped_empty, Loads.lang_laws, Quiet.heap_now, Changes.{KeepsPart, KeepsLow, lower, held_same, changed_state}, Walks.{IsWalk, conc_walked}, Clears.sum_more, Filled.{view_filled, below_filled}, Own.{begun_before, not_begun, fine, runs, rests, top, gate}, Recasts.{IsAlike, recast_types, recast_alike}, Others.loses, Owned.owned_is}
 use Rattle.sharc_word.specs.declared.step.TheConstants.{THREADS}
 use Rattle.sharc_locks.specs.HeldLog.{object_of}
 use Rattle.sharc_shadow.specs.ShadowWord.{epoch_of}
-use Rattle.sharc_code.specs.declared.state.Stage.TheVariants.{Rests}
-use Rattle.sharc_invariant.specs.Granules.{sum_to}
-use Rattle.sharc_invariant.proofs.Quiet.{heap_now}
-use Rattle.sharc_invariant.proofs.Changes.{KeepsPart, KeepsLow, lower, held_same, changed_state}
-use Rattle.std.proofs.lemmas.List.{set-get_or}
-use Rattle.sharc_invariant.proofs.Walks.{IsWalk}
-use Rattle.sharc_invariant.proofs.Clears.{sum_more}
 use Rattle.sharc_count.specs.Count.{test_of}
-use Rattle.sharc_invariant.specs.World.{give, LogOf, Staged, ObjectState}
-use Rattle.sharc_invariant.specs.Types.{field_in}
-use Rattle.sharc_invariant.specs.Typed.{Recasts}
-use Rattle.sharc_invariant.specs.Effect.{Gives}
-use Rattle.sharc_invariant.proofs.Effects.{give_ok}
-use Rattle.sharc_invariant.proofs.Filled.{view_filled, below_filled}
-use Rattle.sharc_invariant.proofs.Plain.{next_runs}
-use Rattle.sharc_invariant.proofs.Own.{begun_before, not_begun, fine, runs, rests, top, gate}
-use Rattle.sharc_invariant.specs.Blocks.{Heap}
-use Rattle.sharc_invariant.proofs.Walks.{conc_walked}
-use Rattle.sharc_invariant.proofs.Recasts.{IsAlike, recast_types, recast_alike}
-use Rattle.sharc_invariant.proofs.Others.{loses}
-use Rattle.sharc_invariant.specs.Objects.{changes_objects, objects_now, objects_behind, owned, type_held}
-use Rattle.sharc_invariant.proofs.Owned.{owned_is}
 
 module _ (x : Targets) (code : Code) (s : Shape) (ls : Labels) (wt : IsWellTyped x code ls) (fits : Fits code s) (g : Global Machine) (world : World) (st : State x code s ls g world) (tr : Turn)
     (may : MayTurn bounds (one_thread code s) g tr) (r site : ℕ) (is : instr_at code (g.threads tr.thread).at.pc ≡ instrs.Give r site) where

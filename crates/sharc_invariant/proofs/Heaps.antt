@@ -1,22 +1,10 @@
 -- Words of blocks that no object has, and the sizes of blocks.
-use Rattle.std.proofs.Common.{◌≡◌, ℕ, ◌+◌, ◌*◌, ◌^◌, ◌<◌, ◌≤◌, ◌≢◌, true, sym, ap, ◌∙◌, subst, ⊎_elim, arith}
+use Rattle.std.proofs.{Common.{◌≡◌, ℕ, ◌+◌, ◌*◌, ◌^◌, ◌<◌, ◌≤◌, ◌≢◌, true, sym, ap, ◌∙◌, subst, ⊎_elim, arith}, lemmas.Bool.{cases_eq, cases_order}, Math.Pow.pow-lt, lemmas.Nat.pow_pos, lemmas.Nat.Bits.{bit_at-pow_other, bit_at-trailing_zeros}}
 use Rattle.std.specs.Int.{w64, trailing_zeros}
-use Rattle.std.proofs.lemmas.Bool.{cases_eq, cases_order}
-use Rattle.std.proofs.Math.Pow.{pow-lt}
-use Rattle.std.proofs.lemmas.Nat.{pow_pos}
-use Rattle.std.proofs.lemmas.Nat.Bits.{bit_at-pow_other, bit_at-trailing_zeros}
-use Rattle.sharc_code.specs.declared.shape.Shape.{Shape}
-use Rattle.sharc_code.specs.Layout.{granules, first_cell}
-use Rattle.sharc_code.specs.Machine.{Machine, size_of}
-use Rattle.sharc_code.specs.Runs.{Global, put}
+use Rattle.sharc_code.specs.{declared.shape.Shape.Shape, Layout.{granules, first_cell}, Machine.{Machine, size_of}, Runs.{Global, put}}
 use Rattle.sharc_code.proofs.Places.{put_other}
-use Rattle.sharc_invariant.specs.Types.{Targets, field_in}
-use Rattle.sharc_invariant.specs.World.{World, ObjectState}
-use Rattle.sharc_invariant.specs.Blocks.{Built, Listed, Heap, InBlock}
-use Rattle.sharc_invariant.specs.Words.{MachineView, Shows, Apart, FitsContent, Reads, store, cell_at, count_at, length_at, shadow_at}
-use Rattle.sharc_invariant.specs.State.{HeapStands}
-use Rattle.sharc_invariant.proofs.Stores.{arena}
-use Rattle.sharc_invariant.proofs.Seen.{stale_off}
+use Rattle.sharc_invariant.specs.{Types.{Targets, field_in}, World.{World, ObjectState}, Blocks.{Built, Listed, Heap, InBlock}, Words.{MachineView, Shows, Apart, FitsContent, Reads, store, cell_at, count_at, length_at, shadow_at}, State.HeapStands}
+use Rattle.sharc_invariant.proofs.{Stores.arena, Seen.stale_off}
 
 -- ---- sizes
 pub trailing_power : (p : ℕ) → p < 64 → trailing_zeros w64 (2 ^ p) ≡ p

@@ -2,34 +2,12 @@
 use Rattle.std.proofs.Common.{◌≡◌, ℕ, ℤ, ◌+◌, ◌⊎◌, ◌≢◌, true, false, cond, Some, None, refl, sym, ap, ◌∙◌, subst, inl, inr, ⊎_elim}
 use Rattle.std.specs.Prelude.{◌==◌}
 use Rattle.sharc_tree.specs.declared.trap.Trap.TheVariants as traps
-use Rattle.sharc_code.specs.declared.code.Code.{Code}
-use Rattle.sharc_code.specs.declared.instr.Cell.{Cell}
+use Rattle.sharc_code.specs.{declared.code.Code.Code, declared.instr.Cell.Cell, declared.instr.Instr.Instr, declared.shape.Shape.Shape, declared.state.Stop.Stop, declared.state.Stop.TheVariants.{Trap, NoLock}, Layout.{Fits, cell_word, cell_of}, Machine.{Machine, Local, instr_at, ref, goes, stopped, lock_checked, is_held, is_of_null, word}, Path.turn, Runs.{Turn, Global, MayTurn}, Whole.{one_thread, bounds}}
 use Rattle.sharc_code.specs.declared.instr.Cell.TheVariants as cells
-use Rattle.sharc_code.specs.declared.instr.Instr.{Instr}
 use Rattle.sharc_code.specs.declared.instr.Instr.TheVariants as instrs
-use Rattle.sharc_code.specs.declared.shape.Shape.{Shape}
-use Rattle.sharc_code.specs.declared.state.Stop.{Stop}
-use Rattle.sharc_code.specs.declared.state.Stop.TheVariants.{Trap, NoLock}
-use Rattle.sharc_code.specs.Layout.{Fits, cell_word, cell_of}
-use Rattle.sharc_code.specs.Machine.{Machine, Local, instr_at, ref, goes, stopped, lock_checked, is_held, is_of_null, word}
-use Rattle.sharc_code.specs.Path.{turn}
-use Rattle.sharc_code.specs.Runs.{Turn, Global, MayTurn}
-use Rattle.sharc_code.specs.Whole.{one_thread, bounds}
 use Rattle.sharc_code.proofs.Places.{put_same, put_other}
-use Rattle.sharc_invariant.specs.Types.{Targets}
-use Rattle.sharc_invariant.specs.Labels.{Gate, Closed, Checked, Holds, Loaded, HoldsLoaded, Sole as SoleGate, Label, Labels, Leads, LessGate, gated}
-use Rattle.sharc_invariant.specs.Typed.{IsWellTyped, knows_base}
-use Rattle.sharc_invariant.specs.World.{World, Window, Shut, Loaded as IsLoaded, WinOk, RegisterOf, in_ref, set_win}
-use Rattle.sharc_invariant.specs.Words.{lang_of}
-use Rattle.sharc_invariant.specs.Effect.{Silently}
-use Rattle.sharc_invariant.specs.State.{StopStands, State, view_of, TopStands, FramesStand, GateStands, base_of_cell, number_in}
-use Rattle.sharc_invariant.specs.Laws.{Turned}
-use Rattle.sharc_invariant.proofs.Turns.{local_turn, room_of}
-use Rattle.sharc_invariant.proofs.Own.{is_single, runs, rests, top, gate, fine, begun_before}
-use Rattle.sharc_invariant.proofs.Quiet.{KeepsOwn}
-use Rattle.sharc_invariant.proofs.Plain.{plain_state, is_shut, same_words, going}
-use Rattle.sharc_invariant.proofs.Accesses.{gate_top, windowed_state}
-use Rattle.sharc_invariant.proofs.Steps.{knows_top, stops, asserted, of_turn, reads}
+use Rattle.sharc_invariant.specs.{Types.Targets, Labels.{Gate, Closed, Checked, Holds, Loaded, HoldsLoaded, Sole as SoleGate, Label, Labels, Leads, LessGate, gated}, Typed.{IsWellTyped, knows_base}, World.{World, Window, Shut, Loaded as IsLoaded, WinOk, RegisterOf, in_ref, set_win}, Words.lang_of, Effect.Silently, State.{StopStands, State, view_of, TopStands, FramesStand, GateStands, base_of_cell, number_in}, Laws.Turned}
+use Rattle.sharc_invariant.proofs.{Turns.{local_turn, room_of}, Own.{is_single, runs, rests, top, gate, fine, begun_before}, Quiet.KeepsOwn, Plain.{plain_state, is_shut, same_words, going}, Accesses.{gate_top, windowed_state}, Steps.{knows_top, stops, asserted, of_turn, reads}}
 
 pub held_gate : (c : Cell) (y : Gate) → LessGate (Holds c) y → (y ≡ Closed) ⊎ (y ≡ Holds c)
 held_gate c Closed h = inl refl

@@ -1,37 +1,13 @@
 -- Indexes are within their objects.
-use Rattle.std.proofs.Common.{◌≡◌, ℕ, ℤ, pos, negsuc, suc, ◌+◌, ◌-◌, ◌*◌, ◌/◌, ◌^◌, ◌<◌, ◌≤◌, ◌≢◌, true, false, cond, refl, sym, ap, ◌∙◌, subst, ⊎_elim, arith, ltb-true}
+use Rattle.std.proofs.{Common.{◌≡◌, ℕ, ℤ, pos, negsuc, suc, ◌+◌, ◌-◌, ◌*◌, ◌/◌, ◌^◌, ◌<◌, ◌≤◌, ◌≢◌, true, false, cond, refl, sym, ap, ◌∙◌, subst, ⊎_elim, arith, ltb-true}, lemmas.Bool.cases_eq, lemmas.Bool.Decides.nat_tests, Math.Nat.{mul-le-mul_left, mul_comm}}
 use Rattle.std.specs.Prelude.{slice_index, nat_lt}
-use Rattle.std.proofs.lemmas.Bool.{cases_eq}
-use Rattle.std.proofs.lemmas.Bool.Decides.{nat_tests}
-use Rattle.std.proofs.Math.Nat.{mul-le-mul_left, mul_comm}
 use Rattle.sharc_tree.specs.declared.trap.Trap.TheVariants as traps
 use Rattle.sharc_word.specs.declared.step.WordOp.TheVariants.{Load}
-use Rattle.sharc_code.specs.declared.code.Code.{Code}
-use Rattle.sharc_code.specs.declared.instr.Instr.{Instr}
+use Rattle.sharc_code.specs.{declared.code.Code.Code, declared.instr.Instr.Instr, declared.instr.Width.TheVariants.Long, declared.shape.Shape.Shape, declared.state.Stop.TheVariants.Trap, Arithmetic.int_of, Layout.{Fits, granules, granule_at, length_word}, Machine.{Machine, Local, Asks, instr_at, int, ref, goes, set_int, indexed, field_of, largest, stopped, step_of}, Runs.{Turn, Global, put, MayTurn, after_turn}, Whole.{one_thread, bounds}}
 use Rattle.sharc_code.specs.declared.instr.Instr.TheVariants as instrs
-use Rattle.sharc_code.specs.declared.instr.Width.TheVariants.{Long}
-use Rattle.sharc_code.specs.declared.shape.Shape.{Shape}
-use Rattle.sharc_code.specs.declared.state.Stop.TheVariants.{Trap}
-use Rattle.sharc_code.specs.Arithmetic.{int_of}
-use Rattle.sharc_code.specs.Layout.{Fits, granules, granule_at, length_word}
-use Rattle.sharc_code.specs.Machine.{Machine, Local, Asks, instr_at, int, ref, goes, set_int, indexed, field_of, largest, stopped, step_of}
-use Rattle.sharc_code.specs.Runs.{Turn, Global, put, MayTurn, after_turn}
-use Rattle.sharc_code.specs.Whole.{one_thread, bounds}
 use Rattle.sharc_code.proofs.Places.{put_same}
-use Rattle.sharc_invariant.specs.Types.{Targets, ObjectType, cells_of}
-use Rattle.sharc_invariant.specs.Labels.{Element, Named, Nth, Fresh, Number, Anything, Within, Exactly, Indexes, OfElement, OfGlobal, Closed, Label, Labels, Leads, set_number}
-use Rattle.sharc_invariant.specs.Typed.{IsWellTyped, IsInt, IsElement}
-use Rattle.sharc_invariant.specs.World.{World, RegisterOf, In, in_ref}
-use Rattle.sharc_invariant.specs.Words.{length_at}
-use Rattle.sharc_invariant.specs.Effect.{Silently}
-use Rattle.sharc_invariant.specs.Turns.{made_turn}
-use Rattle.sharc_invariant.specs.State.{State, View, view_of, NumberStands, ElementStands, EntryStands, TopStands, refs_at, types_at}
-use Rattle.sharc_invariant.specs.Laws.{Turned}
-use Rattle.sharc_invariant.proofs.Turns.{asks_turn, local_turn, room_of}
-use Rattle.sharc_invariant.proofs.Own.{is_single, runs, rests, top, fine}
-use Rattle.sharc_invariant.proofs.Plain.{register_plain, is_shut, stop_state, numbers_state}
-use Rattle.sharc_invariant.proofs.Accesses.{back_again, loaded_words}
-use Rattle.sharc_invariant.proofs.Steps.{number_named}
+use Rattle.sharc_invariant.specs.{Types.{Targets, ObjectType, cells_of}, Labels.{Element, Named, Nth, Fresh, Number, Anything, Within, Exactly, Indexes, OfElement, OfGlobal, Closed, Label, Labels, Leads, set_number}, Typed.{IsWellTyped, IsInt, IsElement}, World.{World, RegisterOf, In, in_ref}, Words.length_at, Effect.Silently, Turns.made_turn, State.{State, View, view_of, NumberStands, ElementStands, EntryStands, TopStands, refs_at, types_at}, Laws.Turned}
+use Rattle.sharc_invariant.proofs.{Turns.{asks_turn, local_turn, room_of}, Own.{is_single, runs, rests, top, fine}, Plain.{register_plain, is_shut, stop_state, numbers_state}, Accesses.{back_again, loaded_words}, Steps.number_named}
 
 -- a new name for a value
 fresh_top : (x : Targets) (t : ℕ) (v : View) (base ints : ℕ) (names : ℕ → ℤ) (l : Label) (name : ℕ) (z : ℤ) → Fresh l name → TopStands x t v base ints names l → TopStands x t v base ints (put names name z) l

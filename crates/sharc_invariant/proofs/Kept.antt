@@ -1,56 +1,13 @@
 -- Each turn keeps the invariant.
 use Rattle.std.proofs.Common.{◌≡◌, refl, ap, Bool, true, false, sym, ◌∙◌, subst}
-use Rattle.sharc_shadow.specs.Laws.{ShadowLaws}
-use Rattle.sharc_shadow.specs.declared.shadow_word.Kind.TheVariants.{Read, Write}
-use Rattle.sharc_code.specs.declared.code.Code.{Code}
-use Rattle.sharc_code.specs.declared.instr.Instr.{Instr}
+use Rattle.sharc_shadow.specs.{Laws.ShadowLaws, declared.shadow_word.Kind.TheVariants.{Read, Write}}
+use Rattle.sharc_code.specs.{declared.code.Code.Code, declared.instr.Instr.Instr, declared.shape.Shape.Shape, Layout.Fits, Machine.{Machine, instr_at, act}, Runs.{Turn, Global, MayTurn, result_of, after_turn}, Whole.{one_thread, bounds}, declared.state.Stage.Stage, declared.state.Stage.TheVariants.{Withdraws, WithdrawsFrom, Leaves}, Path.after}
 use Rattle.sharc_code.specs.declared.instr.Instr.TheVariants as instrs
 use Rattle.sharc_code.specs.declared.instr.Register.TheVariants as registers
-use Rattle.sharc_code.specs.declared.shape.Shape.{Shape}
-use Rattle.sharc_code.specs.Layout.{Fits}
-use Rattle.sharc_code.specs.Machine.{Machine, instr_at, act}
-use Rattle.sharc_code.specs.Runs.{Turn, Global, MayTurn, result_of, after_turn}
-use Rattle.sharc_code.specs.Whole.{one_thread, bounds}
-use Rattle.sharc_invariant.specs.Types.{Targets, is_pointer}
-use Rattle.sharc_invariant.specs.Labels.{Labels}
-use Rattle.sharc_invariant.specs.Typed.{IsWellTyped}
-use Rattle.sharc_invariant.specs.World.{World}
-use Rattle.sharc_invariant.specs.State.{State, IsSmall, StageStands, OnExit}
-use Rattle.sharc_invariant.specs.Laws.{Turned, Followed, Keeps}
-use Rattle.sharc_invariant.proofs.Own.{fine}
-use Rattle.sharc_invariant.proofs.Counts.{Raise_keeps, Lower_keeps}
-use Rattle.sharc_invariant.proofs.Steps.{of_turn, Constant_keeps, Move_keeps, Negate_int_keeps, Negate_long_keeps, Not_keeps, Same_keeps, Width_keeps, Jump_keeps, Jump_zero_keeps, Jump_null_keeps, Null_check_keeps, Not_held_keeps, Positive_keeps, Room_keeps}
-use Rattle.sharc_invariant.proofs.Held.{Held_keeps, Lock_check_keeps, Lock_check_loaded_keeps}
-use Rattle.sharc_invariant.proofs.Checked.{check_keeps}
-use Rattle.sharc_invariant.proofs.Loads.{Raise_loaded_keeps}
-use Rattle.sharc_invariant.proofs.Swaps.{Exchange_keeps, Take_cell_keeps}
-use Rattle.sharc_invariant.proofs.Sole.{Test_sole_keeps, Null_keeps}
-use Rattle.sharc_invariant.proofs.Indexes.{Bounds_keeps, Global_bounds_keeps}
-use Rattle.sharc_invariant.proofs.Waits.{Cond_enter_keeps, Join_keeps, Cond_wait_keeps, Cond_broadcast_keeps}
-use Rattle.sharc_invariant.proofs.Moves.{Move_reference_keeps, Take_local_keeps}
-use Rattle.sharc_invariant.proofs.Calls.{Call_keeps}
-use Rattle.sharc_invariant.proofs.Returns.{Return_keeps}
-use Rattle.sharc_invariant.proofs.Computes.{fits_now, Compute_int_keeps, Compute_long_keeps, Complement_keeps}
-use Rattle.sharc_invariant.proofs.Locked.{Lock_keeps, Unlock_keeps}
-use Rattle.sharc_invariant.proofs.Signals.{Cond_signal_keeps}
-use Rattle.sharc_invariant.proofs.Prints.{Print_keeps}
-use Rattle.sharc_invariant.proofs.Gives.{Give_keeps}
-use Rattle.sharc_invariant.proofs.ClearTurns.{Clear_keeps}
-use Rattle.sharc_invariant.proofs.Starts.{Start_keeps}
-use Rattle.sharc_invariant.proofs.Spawns.{Spawn_number_keeps, Spawn_reference_keeps}
-use Rattle.sharc_invariant.proofs.Accesses.{Load_keeps, Store_keeps, LoadRef_keeps}
+use Rattle.sharc_invariant.specs.{Types.{Targets, is_pointer}, Labels.Labels, Typed.IsWellTyped, World.World, State.{State, IsSmall, StageStands, OnExit}, Laws.{Turned, Followed, Keeps}, Words.{is_withdrawing, has_returned, lang_of}, Objects.{changes_objects, objects_now}}
+use Rattle.sharc_invariant.proofs.{Own.fine, Counts.{Raise_keeps, Lower_keeps}, Steps.{of_turn, Constant_keeps, Move_keeps, Negate_int_keeps, Negate_long_keeps, Not_keeps, Same_keeps, Width_keeps, Jump_keeps, Jump_zero_keeps, Jump_null_keeps, Null_check_keeps, Not_held_keeps, Positive_keeps, Room_keeps}, Held.{Held_keeps, Lock_check_keeps, Lock_check_loaded_keeps}, Checked.check_keeps, Loads.Raise_loaded_keeps, Swaps.{Exchange_keeps, Take_cell_keeps}, Sole.{Test_sole_keeps, Null_keeps}, Indexes.{Bounds_keeps, Global_bounds_keeps}, Waits.{Cond_enter_keeps, Join_keeps, Cond_wait_keeps, Cond_broadcast_keeps}, Moves.{Move_reference_keeps, Take_local_keeps}, Calls.Call_keeps, Returns.Return_keeps, Computes.{fits_now, Compute_int_keeps, Compute_long_keeps, Complement_keeps}, Locked.{Lock_keeps, Unlock_keeps}, Signals.Cond_signal_keeps, Prints.Print_keeps, Gives.Give_keeps, ClearTurns.Clear_keeps, Starts.Start_keeps, Spawns.{Spawn_number_keeps, Spawn_reference_keeps}, Accesses.{Load_keeps, Store_keeps, LoadRef_keeps}, Makings.New_keeps, Links.Free_keeps, Exits.Exit_follows, Ends.{is_exit, goes_on}, Owned.{effect_objects, behind_same}}
 use Rattle.sharc_granule.specs.Laws.{NewLaws}
-use Rattle.sharc_invariant.proofs.Makings.{New_keeps}
-use Rattle.sharc_invariant.proofs.Links.{Free_keeps}
-use Rattle.sharc_invariant.proofs.Exits.{Exit_follows}
-use Rattle.sharc_invariant.proofs.Ends.{is_exit, goes_on}
-use Rattle.sharc_invariant.specs.Words.{is_withdrawing, has_returned, lang_of}
-use Rattle.sharc_code.specs.declared.state.Stage.{Stage}
-use Rattle.sharc_code.specs.declared.state.Stage.TheVariants.{Withdraws, WithdrawsFrom, Leaves}
-use Rattle.sharc_code.specs.Path.{after}
 use Rattle.sharc_code.proofs.Places.{put_same}
-use Rattle.sharc_invariant.specs.Objects.{changes_objects, objects_now}
-use Rattle.sharc_invariant.proofs.Owned.{effect_objects, behind_same}
 
 -- an instruction that may make, give or free an object
 abbrev is_of_objects : Instr → Bool

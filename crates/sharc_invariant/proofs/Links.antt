@@ -1,65 +1,20 @@
 -- The last turn of a Free: the block of the dead object goes to the thread's list.
-use Rattle.std.proofs.Common.{◌≡◌, ℕ, suc, ◌+◌, ◌*◌, ◌^◌, ◌<◌, ◌≤◌, ◌≢◌, true, false, cond, List, None, Some, refl, sym, ap, ◌∙◌, subst, ⊎_elim, arith}
+use Rattle.std.proofs.{Common.{◌≡◌, ℕ, suc, ◌+◌, ◌*◌, ◌^◌, ◌<◌, ◌≤◌, ◌≢◌, true, false, cond, List, None, Some, refl, sym, ap, ◌∙◌, subst, ⊎_elim, arith}, lemmas.Bool.{cases_eq, cases_order}, lemmas.List.{get_or-set_same, get_or-set_other, length-set}}
 use mathlib.Core.Path.{fun_ext}
 use Rattle.std.specs.Prelude.{length, slice_index, slice_set, ◌==◌}
-use Rattle.std.proofs.lemmas.Bool.{cases_eq, cases_lt, cases_order}
-use Rattle.std.proofs.lemmas.List.{get_or-set_same, get_or-set_other, length-set, get_or_past}
-use Rattle.sharc_word.specs.declared.step.TheConstants.{THREADS}
-use Rattle.sharc_word.specs.declared.step.WordOp.TheVariants.{Swap}
-use Rattle.sharc_shadow.specs.Laws.{ShadowLaws}
-use Rattle.sharc_shadow.specs.Accesses.{note_of}
-use Rattle.sharc_shadow.specs.ShadowWord.{epoch_of}
-use Rattle.sharc_shadow.specs.declared.shadow_word.Kind.{Kind}
-use Rattle.sharc_shadow.specs.declared.shadow_word.Kind.TheVariants.{Read, Write}
-use Rattle.sharc_code.specs.declared.code.Code.{Code}
-use Rattle.sharc_code.specs.declared.code.Layout.{Layout}
-use Rattle.sharc_code.specs.declared.instr.Instr.{Instr}
+use Rattle.sharc_word.specs.{declared.step.TheConstants.THREADS, declared.step.WordOp.TheVariants.Swap}
+use Rattle.sharc_shadow.specs.{Laws.ShadowLaws, Accesses.note_of, ShadowWord.epoch_of, declared.shadow_word.Kind.Kind, declared.shadow_word.Kind.TheVariants.{Read, Write}}
+use Rattle.sharc_code.specs.{declared.code.Code.Code, declared.code.Layout.Layout, declared.instr.Instr.Instr, declared.shape.Shape.Shape, declared.state.Stage.Stage, declared.state.Stage.TheVariants.{Rests, Empties, Lowers, FreeLooks, FreeClears, Uncounts, Links}, declared.state.State.TheVariants.{Runs as RunsOn, Tries, Stopped, Ended}, Layout.{Fits as FitsShape, granules, top_word, length_word}, Machine.{Machine, step_of, instr_at, ref, layout_at, size_of, free_size, free_head, freed as freed_machine}, Path.may_go, Runs.{Turn, Global, put, MayTurn, after_turn}, Whole.{one_thread, bounds}}
 use Rattle.sharc_code.specs.declared.instr.Instr.TheVariants as instrs
-use Rattle.sharc_code.specs.declared.shape.Shape.{Shape}
-use Rattle.sharc_code.specs.declared.state.Stage.{Stage}
-use Rattle.sharc_code.specs.declared.state.Stage.TheVariants.{Rests, Empties, Lowers, FreeLooks, FreeClears, Uncounts, Links}
-use Rattle.sharc_code.specs.declared.state.State.TheVariants.{Runs as RunsOn, Tries, Stopped, Ended}
-use Rattle.sharc_code.specs.Layout.{Fits as FitsShape, granules, top_word, length_word}
-use Rattle.sharc_code.specs.Machine.{Machine, step_of, instr_at, ref, layout_at, size_of, free_size, free_head, freed as freed_machine}
-use Rattle.sharc_code.specs.Path.{may_go}
-use Rattle.sharc_code.specs.Runs.{Turn, Global, put, MayTurn, after_turn}
-use Rattle.sharc_code.specs.Whole.{one_thread, bounds}
-use Rattle.sharc_code.proofs.Places.{put_same, put_other, put_all, ne_eq, eq_refl}
-use Rattle.sharc_invariant.specs.Granules.{sum_to}
-use Rattle.sharc_invariant.specs.Types.{Targets}
-use Rattle.sharc_invariant.specs.Labels.{Label, Labels, empty}
-use Rattle.sharc_invariant.specs.Typed.{Fine, IsWellTyped}
-use Rattle.sharc_invariant.specs.World.{World, Shut, put2}
-use Rattle.sharc_invariant.specs.Blocks.{Heap, Kept, Built, Live, Listed, pushed}
-use Rattle.sharc_invariant.specs.Words.{lang_of, conc_of, Shows, head_of, head_with, making_of, is_freed, is_ended, has_withdrawn, note_number, noted_by, register_of, staged_of, length_at, has_returned}
-use Rattle.sharc_invariant.specs.Turns.{made_turn, KeepsOthers}
-use Rattle.sharc_invariant.specs.Effect.{Silently}
-use Rattle.sharc_invariant.specs.State.{State, Runs, View, view_of, StageStands, FramesStand, GateStands, HeapStands, TopStands, label_now, block_for, IsSmall}
-use Rattle.sharc_invariant.specs.Laws.{Turned}
-use Rattle.sharc_invariant.proofs.Listed.{push_ok, put2_same, put2_other}
-use Rattle.sharc_invariant.proofs.Quiet.{put_self, locks_same}
-use Rattle.sharc_invariant.proofs.Changes.{KeepsPart, KeepsLower, conc_now, changed_state}
-use Rattle.sharc_invariant.proofs.Turns.{asks_turn, room_of}
-use Rattle.sharc_invariant.proofs.Stores.{index_put, arena}
-use Rattle.sharc_invariant.proofs.Clears.{sum_more}
-use Rattle.sharc_invariant.proofs.Frames.{less_stands}
-use Rattle.sharc_invariant.proofs.Own.{runs_at, closed_less}
-use Rattle.sharc_invariant.proofs.Heaps.{size_power, same_power, apart_stored, built_size, block_word, low_block, listed_size, built_dead}
-use Rattle.sharc_invariant.proofs.Frees.{free_fine, free_begun, free_act, length_is, free_first, free_looks_turn, free_swaps}
-use Rattle.sharc_invariant.proofs.Empties.{free_empties, free_lowers}
-use Rattle.sharc_invariant.proofs.Uncounted.{free_uncounts}
-use Rattle.sharc_invariant.proofs.Walks.{IsWalk}
-use Rattle.sharc_invariant.proofs.Others.{loses}
-use Rattle.sharc_invariant.specs.Objects.{changes_objects, objects_now, frees_object}
-use Rattle.sharc_invariant.proofs.Owned.{effect_objects, behind_same}
+use Rattle.sharc_code.proofs.Places.{put_same, put_other, put_all}
+use Rattle.sharc_invariant.specs.{Granules.sum_to, Types.Targets, Labels.{Label, Labels, empty}, Typed.{Fine, IsWellTyped}, World.{World, Shut, put2}, Blocks.{Heap, Kept, Built, Live, Listed, pushed}, Words.{lang_of, conc_of, Shows, head_of, head_with, making_of, is_freed, is_ended, has_withdrawn, note_number, noted_by, register_of, staged_of, length_at, has_returned}, Turns.{made_turn, KeepsOthers}, Effect.Silently, State.{State, Runs, View, view_of, StageStands, FramesStand, GateStands, HeapStands, TopStands, label_now, block_for, IsSmall}, Laws.Turned, Objects.{changes_objects, objects_now, frees_object}}
+use Rattle.sharc_invariant.proofs.{Listed.{push_ok, put2_same, put2_other}, Quiet.{put_self, locks_same}, Changes.{KeepsPart, KeepsLower, conc_now, changed_state}, Turns.{asks_turn, room_of}, Stores.{index_put, arena}, Clears.sum_more, Frames.less_stands, Own.{runs_at, closed_less}, Heaps.{size_power, same_power, apart_stored, built_size, block_word, low_block, listed_size, built_dead}, Frees.{free_fine, free_begun, free_act, length_is, free_first, free_looks_turn, free_swaps}, Empties.{free_empties, free_lowers}, Uncounted.free_uncounts, Walks.IsWalk, Others.loses, Owned.{effect_objects, behind_same}}
+use Rattle.sharc_lemmas.proofs.{Numbers.{ne_eq, eq_refl}, Lists.set_null}
 
 -- the size of the list is that of the block for the cells
 size_for : (all c : ℕ) → size_of (Rattle.sharc_granule.specs.Block.block_of (Rattle.sharc_code.specs.Machine.all_cells all c)) ≡ size_of (block_for (all * c))
 unfolding block_for
 size_for all c = refl
-
-set_null : (l : List ℕ) (n : ℕ) → slice_index (slice_set l n 0) n ≡ 0
-set_null l n = ⊎_elim (λ (lt : n < length l). get_or-set_same l n 0 0 lt) (λ (le : length l ≤ n). get_or_past (slice_set l n 0) n 0 (let e = length-set l n 0 in omega arith)) (cases_lt n (length l))
 
 module _ (x : Targets) (code : Code) (s : Shape) (ls : Labels) (wt : IsWellTyped x code ls) (fits : FitsShape code s) (laws : ShadowLaws) (g : Global Machine) (world : World) (st : State x code s ls g world) (tr : Turn)
     (may : MayTurn bounds (one_thread code s) g tr) (r layout site : ℕ) (is : instr_at code (g.threads tr.thread).at.pc ≡ instrs.Free r layout site) (all : ℕ) (at_stage_is : (g.threads tr.thread).own.stage ≡ Links all) where

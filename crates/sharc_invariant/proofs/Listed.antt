@@ -1,9 +1,7 @@
 -- New and Free keep blocks apart and the lists of freed blocks threaded.
-use Rattle.std.proofs.Common.{◌≡◌, ℕ, suc, ◌+◌, ◌*◌, ◌<◌, ◌≤◌, ◌⊎◌, ◌≢◌, refl, sym, ap, ◌∙◌, subst, inl, inr, ⊎_elim, arith}
-use Rattle.std.proofs.lemmas.Bool.{cases_eq, cases_order}
+use Rattle.std.proofs.{Common.{◌≡◌, ℕ, suc, ◌+◌, ◌*◌, ◌<◌, ◌≤◌, ◌⊎◌, ◌≢◌, refl, sym, ap, ◌∙◌, subst, inl, inr, ⊎_elim, arith}, lemmas.Bool.{cases_eq, cases_order}}
 use Rattle.sharc_code.specs.Runs.{put}
-use Rattle.sharc_invariant.specs.World.{put2}
-use Rattle.sharc_invariant.specs.Blocks.{State, Unused, Built, Listed, Arena, Heap, length_at, Begins, Kept, popped, carved, stored, restated, pushed, IsListed, InBlock}
+use Rattle.sharc_invariant.specs.{World.put2, Blocks.{State, Unused, Built, Listed, Arena, Heap, length_at, Begins, Kept, popped, carved, stored, restated, pushed, IsListed, InBlock}}
 use Rattle.sharc_code.proofs.Places.{put_same, put_other, put_all}
 
 -- a function of two numbers, changed at one place
@@ -18,7 +16,7 @@ put2_same f t i v = ap (λ (k : ℕ → ℕ). k i) (put_same f t (put (f t) i v)
 pub put2_other : (f : ℕ → ℕ → ℕ) (t i v u j : ℕ) → (u ≡ t → j ≡ i → ⊥) → f u j ≡ put2 f t i v u j
 put2_other f t i v u j n = put2_all (λ u' j' y. (u' ≡ t → j' ≡ i → ⊥) → f u' j' ≡ y) f t i v (λ n. absurd (n refl refl)) (λ _ _ _ _. refl) u j n
 
-pair_cases : (u t j i : ℕ) → ((u ≡ t) × (j ≡ i)) ⊎ (u ≡ t → j ≡ i → ⊥)
+pub pair_cases : (u t j i : ℕ) → ((u ≡ t) × (j ≡ i)) ⊎ (u ≡ t → j ≡ i → ⊥)
 pair_cases u t j i = ⊎_elim
     (λ (e : u ≡ t). ⊎_elim (λ (k : j ≡ i). inl (e, k)) (λ (n : j ≡ i → ⊥). inr (λ _ k. n k)) (cases_eq j i))
     (λ (n : u ≡ t → ⊥). inr (λ e _. n e))
@@ -135,10 +133,6 @@ module _ (a : Arena) (h : Heap) (k : Kept a h) where
         };
         blank = λ i le. k.blank i (omega arith);
       }
-
-  -- the words of the new block hold zeros
-  pub carved_blank : (t s at : ℕ) → InBlock a (carved h t s) h.top at → h.words at ≡ 0
-  carved_blank t s at i = k.blank at (omega arith)
 
   -- ---- New from the own list
   pub pop_ok : (t s : ℕ) → h.heads t s ≢ 0 → (e : ℕ) × ((h.state (h.heads t s) ≡ Listed t (suc e)) × ((h.size (h.heads t s) ≡ s) × Kept a (popped a h t s e)))

@@ -1,36 +1,11 @@
 -- A reference that was loaded from a cell is raised.
-use Rattle.std.proofs.Common.{◌≡◌, ℕ, suc, ◌+◌, Bool, false, refl, sym, ap, ◌∙◌, subst, inl, ⊎_elim, arith}
+use Rattle.std.proofs.{Common.{◌≡◌, ℕ, suc, ◌+◌, Bool, false, refl, sym, ap, ◌∙◌, subst, inl, ⊎_elim, arith}, lemmas.Bool.cases_eq}
 use Rattle.std.specs.Prelude.{slice_set}
-use Rattle.std.proofs.lemmas.Bool.{cases_eq}
-use Rattle.sharc_code.specs.declared.code.Code.{Code}
-use Rattle.sharc_code.specs.declared.instr.Cell.{Cell}
+use Rattle.sharc_code.specs.{declared.code.Code.Code, declared.instr.Cell.Cell, declared.shape.Shape.Shape, Layout.Fits, Machine.{Machine, Local, Asks, instr_at, goes, accessed, set_ref, ref, raise}, Path.turn, Runs.{Turn, Global, MayTurn}, Whole.{one_thread, bounds}}
 use Rattle.sharc_code.specs.declared.instr.Instr.TheVariants as instrs
-use Rattle.sharc_code.specs.declared.shape.Shape.{Shape}
-use Rattle.sharc_code.specs.Layout.{Fits}
-use Rattle.sharc_code.specs.Machine.{Machine, Local, Asks, instr_at, goes, accessed, set_ref, ref, raise}
-use Rattle.sharc_code.specs.Path.{turn}
-use Rattle.sharc_code.specs.Runs.{Turn, Global, MayTurn}
-use Rattle.sharc_code.specs.Whole.{one_thread, bounds}
 use Rattle.sharc_code.proofs.Places.{put_other}
-use Rattle.sharc_invariant.specs.Types.{Targets, type_at, type_of}
-use Rattle.sharc_invariant.specs.Labels.{Refers, Label, Labels, fill}
-use Rattle.sharc_invariant.specs.Typed.{IsWellTyped, refs_in, ints_in}
-use Rattle.sharc_invariant.specs.World.{Laws, TypedReference, RegisterOf, In, Cell as CellOf, World, Shut, Loaded, Sole, WinOk, Right, CanBy, base_of, in_ref, null, set_win, set_slot, grow, Fits as FitsType}
-use Rattle.sharc_invariant.specs.Words.{lang_of, conc_of}
-use Rattle.sharc_invariant.specs.Effect.{Silently}
-use Rattle.sharc_invariant.specs.Cells.{IsThere}
-use Rattle.sharc_invariant.specs.State.{State, View, view_of, TopStands, EntryStands, GateStands, IsSmall, refs_at, types_at, size_of_run, base_of_cell, object_of_cell, number_in}
-use Rattle.sharc_invariant.specs.Laws.{Turned}
-use Rattle.sharc_invariant.proofs.Effects.{set_slot_ok, cell_fits}
-use Rattle.sharc_invariant.proofs.Frames.{filled, fill_stands}
-use Rattle.sharc_invariant.proofs.Turns.{local_turn, room_of}
-use Rattle.sharc_invariant.proofs.Own.{runs, rests, top, gate, fine}
-use Rattle.sharc_invariant.proofs.Plain.{register_plain, same_words}
-use Rattle.sharc_invariant.proofs.Seen.{reg_stored}
-use Rattle.sharc_invariant.proofs.Filled.{filled_state, inside_world, free_shut}
-use Rattle.sharc_invariant.proofs.Counts.{raise_zero, raise_some, raised_state, filled_silent, closed_inv, closed_shut, closed_sim}
-use Rattle.sharc_invariant.proofs.Cells.{cell_there}
-use Rattle.sharc_invariant.proofs.Rights.{points_to}
+use Rattle.sharc_invariant.specs.{Types.{Targets, type_at, type_of}, Labels.{Refers, Label, Labels, fill}, Typed.{IsWellTyped, refs_in, ints_in}, World.{Laws, TypedReference, RegisterOf, In, Cell as CellOf, World, Shut, Loaded, Sole, WinOk, Right, CanBy, base_of, in_ref, null, set_win, set_slot, grow, Fits as FitsType}, Words.{lang_of, conc_of}, Effect.Silently, Cells.IsThere, State.{State, View, view_of, TopStands, EntryStands, GateStands, IsSmall, refs_at, types_at, size_of_run, base_of_cell, object_of_cell, number_in}, Laws.Turned}
+use Rattle.sharc_invariant.proofs.{Effects.{set_slot_ok, cell_fits}, Frames.{filled, fill_stands}, Turns.{local_turn, room_of}, Own.{runs, rests, top, gate, fine}, Plain.{register_plain, same_words}, Seen.reg_stored, Filled.{filled_state, inside_world, free_shut}, Counts.{raise_zero, raise_some, raised_state, filled_silent, closed_inv, closed_shut, closed_sim}, Cells.cell_there, Rights.points_to}
 
 -- the table of targets has the laws that the world asks for
 pub lang_laws : (x : Targets) (code : Code) (ls : Labels) → IsWellTyped x code ls → Laws (lang_of x)

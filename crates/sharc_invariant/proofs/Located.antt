@@ -1,26 +1,11 @@
 -- A cell that an instruction names, whose base is not NULL, is there.
 use Rattle.std.proofs.Common.{◌≡◌, ℕ, ◌+◌, Bool, true, false, cond, sym, ap, ◌∙◌, subst}
 use Rattle.std.specs.Prelude.{slice_index, ◌==◌}
-use Rattle.sharc_code.specs.declared.code.Code.{Code}
-use Rattle.sharc_code.specs.declared.instr.Cell.{Cell}
+use Rattle.sharc_code.specs.{declared.code.Code.Code, declared.instr.Cell.Cell, declared.shape.Shape.Shape, Layout.Fits, Machine.{Machine, instr_at, ref, is_of_null}, Runs.Global}
 use Rattle.sharc_code.specs.declared.instr.Cell.TheVariants as cells
-use Rattle.sharc_code.specs.declared.shape.Shape.{Shape}
-use Rattle.sharc_code.specs.Layout.{Fits}
-use Rattle.sharc_code.specs.Machine.{Machine, instr_at, ref, is_of_null}
-use Rattle.sharc_code.specs.Runs.{Global}
 use Rattle.sharc_code.proofs.Places.{put_same}
-use Rattle.sharc_invariant.specs.Types.{Targets, Field}
-use Rattle.sharc_invariant.specs.Labels.{Label, Labels, knows}
-use Rattle.sharc_invariant.specs.Typed.{IsWellTyped, HasField, Accesses}
-use Rattle.sharc_invariant.specs.World.{RegisterOf, World, Right, in_ref}
-use Rattle.sharc_invariant.specs.Words.{lang_of}
-use Rattle.sharc_invariant.specs.State.{State, Runs, View, TopStands, GateStands, OnHold, base_of_cell, number_in, view_of}
-use Rattle.sharc_invariant.specs.Cells.{IsThere}
-use Rattle.sharc_invariant.specs.MachineInvariant.{IsOn}
-use Rattle.sharc_invariant.proofs.Quiet.{label_held, freed_held}
-use Rattle.sharc_invariant.proofs.Steps.{knows_top}
-use Rattle.sharc_invariant.proofs.Cells.{cell_there}
-use Rattle.sharc_invariant.proofs.Rights.{right}
+use Rattle.sharc_invariant.specs.{Types.{Targets, Field}, Labels.{Label, Labels, knows}, Typed.{IsWellTyped, HasField, Accesses}, World.{RegisterOf, World, Right, in_ref}, Words.lang_of, State.{State, Runs, View, TopStands, GateStands, OnHold, base_of_cell, number_in, view_of}, Cells.IsThere, MachineInvariant.IsOn}
+use Rattle.sharc_invariant.proofs.{Quiet.{label_held, freed_held}, Steps.knows_top, Cells.cell_there, Rights.right}
 
 module _ (x : Targets) (code : Code) (s : Shape) (ls : Labels) (wt : IsWellTyped x code ls) (fits : Fits code s) (g : Global Machine) (world : World) (st : State x code s ls g world) (t : ℕ) (on : IsOn g t) (hold : OnHold (g.threads t).own.stage) where
   abbrev m : Machine

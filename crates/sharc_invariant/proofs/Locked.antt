@@ -1,60 +1,21 @@
 -- Taking a mutex and giving it back keep the invariant: the reference of the base goes to the log, and comes back from it.
-use Rattle.std.proofs.Common.{◌≡◌, ◌≢◌, ℕ, ℤ, suc, ◌+◌, ◌^◌, ◌<◌, Bool, true, false, cond, List, [], ◌∷◌, ◌++◌, Option, Some, None, refl, sym, ap, ◌∙◌, subst, inl, inr, ⊎_elim, arith, eqb-true}
+use Rattle.std.proofs.{Common.{◌≡◌, ◌≢◌, ℕ, ℤ, suc, ◌+◌, ◌^◌, ◌<◌, Bool, true, false, cond, List, [], ◌∷◌, ◌++◌, Option, Some, None, refl, sym, ap, ◌∙◌, subst, inl, inr, ⊎_elim, arith, eqb-true}, lemmas.List.length-set, lemmas.Bool.cases_eq, lemmas.Bool.Decides.nat_tests}
 use mathlib.Core.Path.{fun_ext}
 use Rattle.std.specs.Prelude.{length, slice_index, slice_set, nat_lt, is_some, Contains, ◌==◌}
-use Rattle.std.proofs.lemmas.List.{length-set}
-use Rattle.std.proofs.lemmas.Bool.{cases_eq}
-use Rattle.std.proofs.lemmas.Bool.Decides.{nat_tests}
-use Rattle.sharc_word.specs.declared.step.TheConstants.{THREADS}
-use Rattle.sharc_word.specs.declared.step.WordOp.TheVariants.{Cas, Swap}
-use Rattle.sharc_shadow.specs.declared.shadow_word.Kind.{Kind}
-use Rattle.sharc_shadow.specs.declared.shadow_word.Kind.TheVariants.{Read, Write}
-use Rattle.sharc_locks.specs.declared.held_log.HeldMutex.{HeldMutex}
-use Rattle.sharc_locks.specs.HeldLog.{IsHeldLog, object_of, with_mutex, without}
-use Rattle.sharc_code.specs.declared.code.Code.{Code}
-use Rattle.sharc_code.specs.declared.instr.Cell.{Cell}
+use Rattle.sharc_word.specs.{declared.step.TheConstants.THREADS, declared.step.WordOp.TheVariants.{Cas, Swap}}
+use Rattle.sharc_shadow.specs.{declared.shadow_word.Kind.Kind, declared.shadow_word.Kind.TheVariants.{Read, Write}}
+use Rattle.sharc_locks.specs.{declared.held_log.HeldMutex.HeldMutex, HeldLog.{IsHeldLog, object_of, with_mutex, without}}
+use Rattle.sharc_code.specs.{declared.code.Code.Code, declared.instr.Cell.Cell, declared.instr.Instr.Instr, declared.shape.Shape.Shape, Layout.{Fits, words_of}, Machine.{Machine, instr_at, ref, word, object, next, goes, fails, is_held, taken, locked, unlocked, without_base, reference_of, step_of}, Runs.{Turn, Global, put, MayTurn, after_turn}, Whole.{one_thread, bounds}}
 use Rattle.sharc_code.specs.declared.instr.Cell.TheVariants as cells
-use Rattle.sharc_code.specs.declared.instr.Instr.{Instr}
 use Rattle.sharc_code.specs.declared.instr.Instr.TheVariants as instrs
-use Rattle.sharc_code.specs.declared.shape.Shape.{Shape}
-use Rattle.sharc_code.specs.Layout.{Fits, words_of}
-use Rattle.sharc_code.specs.Machine.{Machine, instr_at, ref, word, object, next, goes, fails, is_held, taken, locked, unlocked, without_base, reference_of, step_of}
-use Rattle.sharc_code.specs.Runs.{Turn, Global, put, MayTurn, after_turn}
-use Rattle.sharc_code.specs.Whole.{one_thread, bounds}
 use Rattle.sharc_code.proofs.Places.{put_all}
-use Rattle.sharc_invariant.specs.Types.{Targets, Field, nothing, field_in, is_mutex, type_of}
-use Rattle.sharc_invariant.specs.Labels.{Closed, Holds, Empty, Refers, Unknown, Label, Labels, Leads, IsFree, empty, fill}
-use Rattle.sharc_invariant.specs.Typed.{IsWellTyped, IsRef, IsVacant, IsBaseFree, HasCell, refs_in, ints_in, without_base_of, unlocked_label}
-use Rattle.sharc_invariant.specs.World.{TypedReference, Slot, RegisterOf, ArgumentOf, LogOf, In, Cell as CellOf, Shut, Sole, World, WorldInvariant, in_ref, none, place, put2, shift}
-use Rattle.sharc_invariant.specs.Words.{conc_of, lang_of, Shows, cell_at, logged, noted_by, register_of, set_reg, has_returned}
-use Rattle.sharc_invariant.specs.Effect.{Effect, Silent, Locks, Unlocks}
-use Rattle.sharc_invariant.specs.Turns.{made_turn, made_conc}
-use Rattle.sharc_invariant.specs.State.{State, View, view_of, FramesStand, GateStands, TopStands, EntryStands, object_of_cell, number_in, refs_at, types_at, size_of_run}
-use Rattle.sharc_invariant.specs.Laws.{Turned}
-use Rattle.sharc_invariant.proofs.Effects.{place_other, shift_ok, lock_ok, unlock_ok}
-use Rattle.sharc_invariant.proofs.Frames.{filled, FilledStands, fill_stands, empty_stands}
-use Rattle.sharc_invariant.proofs.Quiet.{KeepsSelf, loud_state, heap_now, noted_same, put_self}
-use Rattle.sharc_invariant.proofs.Turns.{asks_turn, room_of}
-use Rattle.sharc_invariant.proofs.Own.{is_single, runs, rests, top, gate, fine, begun_before, not_begun}
-use Rattle.sharc_invariant.proofs.Plain.{register_plain, is_shut, going, next_runs}
-use Rattle.sharc_invariant.proofs.Stores.{index_put, cell_store, stored_words, stored_within}
-use Rattle.sharc_invariant.proofs.Seen.{reg_stored, cell_cell}
-use Rattle.sharc_invariant.proofs.Cells.{cell_there}
-use Rattle.sharc_invariant.proofs.Filled.{refs_set, view_filled, below_filled, free_shut, inside, inside_world}
-use Rattle.sharc_invariant.proofs.Accesses.{loaded_words}
-use Rattle.sharc_invariant.proofs.Waits.{tries_again}
-use Rattle.sharc_invariant.proofs.Logs.{found_in, append_other, append_same, contains_append, append_log, without_other, without_same, contains_without, without_lower, without_log}
-use Rattle.sharc_invariant.proofs.Mutexes.{mutex_stored, log_stored, locks_changed, Changes, IsLogged}
-use Rattle.sharc_invariant.proofs.Others.{loses}
-use Rattle.sharc_invariant.specs.Objects.{changes_objects}
+use Rattle.sharc_invariant.specs.{Types.{Targets, Field, nothing, field_in, is_mutex, type_of}, Labels.{Closed, Holds, Empty, Refers, Unknown, Label, Labels, Leads, IsFree, empty, fill}, Typed.{IsWellTyped, IsRef, IsVacant, IsBaseFree, HasCell, refs_in, ints_in, without_base_of, unlocked_label}, World.{TypedReference, Slot, RegisterOf, ArgumentOf, LogOf, In, Cell as CellOf, Shut, Sole, World, WorldInvariant, in_ref, none, place, put2, shift}, Words.{conc_of, lang_of, Shows, cell_at, logged, noted_by, register_of, set_reg, has_returned}, Effect.{Effect, Silent, Locks, Unlocks}, Turns.{made_turn, made_conc}, State.{State, View, view_of, FramesStand, GateStands, TopStands, EntryStands, object_of_cell, number_in, refs_at, types_at, size_of_run}, Laws.Turned, Objects.changes_objects}
+use Rattle.sharc_invariant.proofs.{Effects.{place_other, shift_ok, lock_ok, unlock_ok}, Frames.{filled, FilledStands, fill_stands, empty_stands}, Quiet.{KeepsSelf, loud_state, heap_now, noted_same, put_self}, Turns.{asks_turn, room_of}, Own.{is_single, runs, rests, top, gate, fine, begun_before, not_begun}, Plain.{register_plain, is_shut, going, next_runs}, Stores.{index_put, cell_store, stored_words, stored_within}, Seen.{reg_stored, cell_cell}, Cells.cell_there, Filled.{refs_set, view_filled, below_filled, free_shut, inside, inside_world}, Accesses.loaded_words, Waits.tries_again, Logs.{found_in, append_other, append_same, contains_append, append_log, without_other, without_same, contains_without, without_lower, without_log}, Mutexes.{mutex_stored, log_stored, locks_changed, Changes, IsLogged}, Others.loses}
+use Rattle.sharc_lemmas.proofs.Options.{some_of}
 
 none_of : (o : Option ℕ) → is_some o ≡ false → o ≡ None
 none_of None e = refl
 none_of (Some n) e = absurd (cc)
-
-some_of : (o : Option ℕ) → is_some o ≡ true → (n : ℕ) × (o ≡ Some n)
-some_of None e = absurd (cc)
-some_of (Some n) e = (n, refl)
 
 -- whether there is room for another mutex a frame does not see
 room_top : (x : Targets) (t : ℕ) (v : View) (base ints : ℕ) (names : ℕ → ℤ) (l : Label) (b : Bool) → TopStands x t v base ints names l → TopStands x t v base ints names (record l { gate = Closed; room = b })

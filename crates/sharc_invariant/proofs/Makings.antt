@@ -1,61 +1,17 @@
 -- The last turn of a New: the length is written, and the object is there.
-use Rattle.std.proofs.Common.{◌≡◌, ℕ, suc, ◌+◌, ◌*◌, ◌^◌, ◌<◌, ◌≤◌, ◌≢◌, ◌⊎◌, true, false, cond, List, None, Some, refl, sym, ap, ◌∙◌, subst, inl, ⊎_elim, arith}
+use Rattle.std.proofs.{Common.{◌≡◌, ℕ, suc, ◌+◌, ◌*◌, ◌^◌, ◌<◌, ◌≤◌, ◌≢◌, ◌⊎◌, true, false, cond, List, None, Some, refl, sym, ap, ◌∙◌, subst, inl, ⊎_elim, arith}, lemmas.Bool.{cases_eq, eqb-true, eqb-false}, lemmas.List.{get_or-set_same, get_or-set_other, length-set}}
 use mathlib.Core.Path.{fun_ext}
 use Rattle.std.specs.Prelude.{length, slice_index, slice_set, nat_lt, min, max, pos, ◌==◌, ◌↔◌, is_some, Contains}
-use Rattle.std.proofs.lemmas.Bool.{cases_eq, eqb-true, eqb-false}
-use Rattle.std.proofs.lemmas.List.{get_or-set_same, get_or-set_other, length-set}
-use Rattle.sharc_word.specs.declared.step.TheConstants.{THREADS}
-use Rattle.sharc_word.specs.declared.step.WordOp.TheVariants.{Swap}
-use Rattle.sharc_granule.specs.Laws.{NewLaws}
-use Rattle.sharc_granule.specs.State.{NewView, told}
-use Rattle.sharc_granule.specs.Asks.{step_of, length_word}
-use Rattle.sharc_granule.specs.declared.arguments.NewArguments.{NewArguments}
+use Rattle.sharc_word.specs.{declared.step.TheConstants.THREADS, declared.step.WordOp.TheVariants.Swap}
+use Rattle.sharc_granule.specs.{Laws.NewLaws, State.{NewView, told}, Asks.{step_of, length_word}, declared.arguments.NewArguments.NewArguments}
 use Rattle.sharc_granule.specs.declared.stage.Stage.TheVariants as news
 use Rattle.sharc_locks.specs.HeldLog.{object_of}
-use Rattle.sharc_shadow.specs.ShadowWord.{epoch_of}
-use Rattle.sharc_shadow.specs.declared.shadow_word.Kind.{Kind}
-use Rattle.sharc_shadow.specs.declared.shadow_word.Kind.TheVariants.{Read, Write}
-use Rattle.sharc_code.specs.declared.code.Code.{Code}
+use Rattle.sharc_shadow.specs.{ShadowWord.epoch_of, declared.shadow_word.Kind.Kind, declared.shadow_word.Kind.TheVariants.{Read, Write}}
+use Rattle.sharc_code.specs.{declared.code.Code.Code, declared.shape.Shape.Shape, declared.state.State.TheVariants.{Runs as RunsOn}, declared.state.Stage.TheVariants.{Rests, Makes}, Layout.{Fits as FitsShape, granules, top_word, first_cell}, Machine.{Machine, instr_at, int, elements_of, size_of, new_state, asks_new, goes_on_new, made as made_machine}, Path.turn, Runs.{Turn, Global, put, MayTurn, after_turn}, Whole.{one_thread, bounds}}
 use Rattle.sharc_code.specs.declared.instr.Instr.TheVariants as instrs
-use Rattle.sharc_code.specs.declared.shape.Shape.{Shape}
-use Rattle.sharc_code.specs.declared.state.State.TheVariants.{Runs as RunsOn}
-use Rattle.sharc_code.specs.declared.state.Stage.TheVariants.{Rests, Makes}
-use Rattle.sharc_code.specs.Layout.{Fits as FitsShape, granules, top_word, first_cell}
-use Rattle.sharc_code.specs.Machine.{Machine, instr_at, int, elements_of, size_of, new_state, asks_new, goes_on_new, made as made_machine}
-use Rattle.sharc_code.specs.Path.{turn}
-use Rattle.sharc_code.specs.Runs.{Turn, Global, put, MayTurn, after_turn}
-use Rattle.sharc_code.specs.Whole.{one_thread, bounds}
 use Rattle.sharc_code.proofs.Places.{put_same, put_other, put_all}
-use Rattle.sharc_invariant.specs.Granules.{GranuleState, Bits, Passed, sum_to}
-use Rattle.sharc_invariant.specs.Types.{Targets, ObjectType, field_in, is_mutex, type_at, type_of, cells_of}
-use Rattle.sharc_invariant.specs.Labels.{Label, Labels, Refers, fill, Unknown, LessEntry}
-use Rattle.sharc_invariant.specs.Typed.{Fine, IsWellTyped, refs_in, ints_in}
-use Rattle.sharc_invariant.specs.World.{In, RegisterOf, Cell as CellOf, TypedReference, ObjectState, World, Shut, WorldInvariant, in_ref, make, null, place, put2}
-use Rattle.sharc_invariant.specs.Blocks.{Heap, Kept, Built, Live, InBlock, IsListed, restated}
-use Rattle.sharc_invariant.specs.Words.{Apart, MachineView, IsNobodys, lang_of, conc_of, Shows, shown, set_reg, store, cell_at, count_at, length_at, head_of, head_with, making_of, register_of, staged_of, noted_by, has_returned}
-use Rattle.sharc_invariant.specs.Opened.{fresh_granule}
-use Rattle.sharc_invariant.specs.Turns.{made_turn, KeepsOthers}
-use Rattle.sharc_invariant.specs.Effect.{Makes as MakesOf}
-use Rattle.sharc_invariant.specs.State.{State, View, Runs, view_of, BuildsAt, HeapStands, Locks, TopStands, FramesStand, EntryStands, refs_at, types_at, block_for, size_of_run}
-use Rattle.sharc_invariant.specs.Laws.{Turned}
-use Rattle.sharc_invariant.proofs.Effects.{make_ok, place_same, place_other}
-use Rattle.sharc_invariant.proofs.Frames.{Agrees, Always, Low, filled, fill_stands, top_agrees, callers_agree, less_stands}
-use Rattle.sharc_invariant.proofs.Filled.{below_filled}
-use Rattle.sharc_invariant.proofs.Listed.{restate_ok}
-use Rattle.sharc_invariant.proofs.Quiet.{heap_now, put_self, sum_up}
-use Rattle.sharc_invariant.proofs.Changes.{KeepsPart, conc_now, changed_state, held_same}
-use Rattle.sharc_invariant.proofs.Turns.{asks_turn, room_of}
-use Rattle.sharc_invariant.proofs.Own.{runs_at, closed_less, ref_inside}
-use Rattle.sharc_invariant.proofs.Seen.{reg_stored}
-use Rattle.sharc_invariant.proofs.Stores.{arena}
-use Rattle.sharc_invariant.proofs.Unlogged.{logged_entry}
-use Rattle.sharc_invariant.proofs.Heaps.{IsApart, apart_stored, block_word, built_size, low_block, built_dead}
-use Rattle.sharc_invariant.proofs.Builds.{IsMaking, new_fine, new_begun, new_top, new_shut, new_register, new_noted, own_at, own_off, own_low, own_kept, own_others, own_epochs}
-use Rattle.sharc_invariant.proofs.News.{IsGiven, is_given, word_in, new_first, clears_cell, counts_one, moves_top}
-use Rattle.sharc_invariant.proofs.Objects.{block_is, stale_sound, found_granules, made_sim, positive, factor_low}
-use Rattle.sharc_invariant.proofs.Others.{loses}
-use Rattle.sharc_invariant.specs.Objects.{changes_objects, objects_now, objects_behind, owned, makes_object, is_length, new_behind, made_behind}
-use Rattle.sharc_invariant.proofs.Owned.{owned_is, effect_objects, behind_same}
+use Rattle.sharc_invariant.specs.{Granules.{GranuleState, Bits, Passed, sum_to}, Types.{Targets, ObjectType, field_in, is_mutex, type_at, type_of, cells_of}, Labels.{Label, Labels, Refers, fill, Unknown, LessEntry}, Typed.{Fine, IsWellTyped, refs_in, ints_in}, World.{In, RegisterOf, Cell as CellOf, TypedReference, ObjectState, World, Shut, WorldInvariant, in_ref, make, null, place, put2}, Blocks.{Heap, Kept, Built, Live, InBlock, IsListed, restated}, Words.{Apart, MachineView, IsNobodys, lang_of, conc_of, Shows, shown, set_reg, store, cell_at, count_at, length_at, head_of, head_with, making_of, register_of, staged_of, noted_by, has_returned}, Opened.fresh_granule, Turns.{made_turn, KeepsOthers}, Effect.{Makes as MakesOf}, State.{State, View, Runs, view_of, BuildsAt, HeapStands, Locks, TopStands, FramesStand, EntryStands, refs_at, types_at, block_for, size_of_run}, Laws.Turned, Objects.{changes_objects, objects_now, objects_behind, owned, makes_object, is_length, new_behind, made_behind}}
+use Rattle.sharc_invariant.proofs.{Effects.{make_ok, place_same, place_other}, Frames.{Agrees, Always, Low, filled, fill_stands, top_agrees, callers_agree, less_stands}, Filled.below_filled, Listed.restate_ok, Quiet.{heap_now, put_self, sum_up}, Changes.{KeepsPart, conc_now, changed_state, held_same}, Turns.{asks_turn, room_of}, Own.{runs_at, closed_less, ref_inside}, Seen.reg_stored, Stores.arena, Unlogged.logged_entry, Heaps.{IsApart, apart_stored, block_word, built_size, low_block, built_dead}, Builds.{IsMaking, new_fine, new_begun, new_top, new_shut, new_register, new_noted, own_at, own_off, own_low, own_kept, own_others, own_epochs}, News.{IsGiven, is_given, word_in, new_first, clears_cell, counts_one, moves_top}, Objects.{block_is, stale_sound, found_granules, made_sim, positive, factor_low}, Others.loses, Owned.{owned_is, effect_objects, behind_same}}
 
 module _ (x : Targets) (code : Code) (s : Shape) (ls : Labels) (wt : IsWellTyped x code ls) (fits : FitsShape code s) (laws : NewLaws) (g : Global Machine) (world : World) (st : State x code s ls g world) (tr : Turn)
     (may : MayTurn bounds (one_thread code s) g tr) (r count cells site : ℕ) (is : instr_at code (g.threads tr.thread).at.pc ≡ instrs.New r count cells site) (making : IsMaking (g.threads tr.thread).own.stage)

@@ -1,13 +1,11 @@
 -- The bits of one shadow word, with the notes of threads, behind each kind of turn on it.
-use Rattle.std.proofs.Common.{◌≡◌, ℕ, suc, ◌⊎◌, ◌||◌, ◌&&◌, Bool, true, false, refl, sym, ap, ◌∙◌, inl, inr, ⊎_elim}
+use Rattle.std.proofs.{Common.{◌≡◌, ℕ, suc, ◌⊎◌, ◌||◌, ◌&&◌, Bool, true, false, sym, ap, ◌∙◌, inl, inr, ⊎_elim}, lemmas.Bool.{cases_eq, and_parts, or_right as or_second, or_left as or_first}}
 use Rattle.std.specs.Prelude.{nat_eq, not, ◌==◌, Option}
-use Rattle.std.proofs.lemmas.Bool.{cases_eq, and_parts}
-use Rattle.sharc_shadow.specs.declared.shadow_word.Kind.{Kind}
-use Rattle.sharc_shadow.specs.declared.shadow_word.Kind.TheVariants.{Read, Write}
-use Rattle.sharc_shadow.specs.ShadowWord.{epoch_of, is_of, is_written, stands, AddsAccess, Withdraws}
+use Rattle.sharc_shadow.specs.{declared.shadow_word.Kind.Kind, declared.shadow_word.Kind.TheVariants.{Read, Write}, ShadowWord.{epoch_of, is_of, is_written, stands, AddsAccess, Withdraws}}
 use Rattle.sharc_code.specs.Runs.{put}
-use Rattle.sharc_code.proofs.Places.{eq_refl, ne_eq, put_same, put_other, put_all}
+use Rattle.sharc_code.proofs.Places.{put_same, put_other, put_all}
 use Rattle.sharc_invariant.specs.Bits.{Marks, no_marks, with_check, without_thread}
+use Rattle.sharc_lemmas.proofs.{Bools.{or_split as or_true, not_true}, Numbers.{ne_eq, eq_refl}}
 
 -- a word, and by thread the numbers of its notes and whether it may go on
 pub record MarkedAt (v : ℕ) (rn wn : ℕ → ℕ) (goes : ℕ → Bool) (f : Marks) : Type 0 where
@@ -17,22 +15,6 @@ pub record MarkedAt (v : ℕ) (rn wn : ℕ → ℕ) (goes : ℕ → Bool) (f : M
   pub wrote : is_written v ≡ true → (k : ℕ) × (stands v k ≡ true) × (f.writes k ≡ true)
   -- of a thread that was not stopped each check was passed
   pub all : (k : ℕ) → goes k ≡ true → f.writes k ≡ true → f.passed_write k ≡ true
-
-or_true : (a b : Bool) → (a || b) ≡ true → (a ≡ true) ⊎ (b ≡ true)
-or_true true b e = inl refl
-or_true false b e = inr e
-
-or_first : (a b : Bool) → a ≡ true → (a || b) ≡ true
-or_first true b e = refl
-or_first false b e = absurd (cc)
-
-or_second : (a b : Bool) → b ≡ true → (a || b) ≡ true
-or_second true b e = refl
-or_second false b e = e
-
-not_true : (b : Bool) → not b ≡ true → b ≡ false
-not_true false e = refl
-not_true true e = absurd (cc)
 
 -- nothing is done to it
 pub at_same : (v v' : ℕ) (rn wn rn' wn' : ℕ → ℕ) (goes goes' : ℕ → Bool) (f : Marks) → v' ≡ v → ((k : ℕ) → rn' k ≡ rn k) → ((k : ℕ) → wn' k ≡ wn k) → ((k : ℕ) → goes' k ≡ true → goes k ≡ true)

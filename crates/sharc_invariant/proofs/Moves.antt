@@ -1,42 +1,13 @@
 -- A reference goes from one register to another.
-use Rattle.std.proofs.Common.{◌≡◌, ℕ, ℤ, zero, suc, ◌+◌, ◌<◌, ◌⊎◌, ◌≢◌, true, false, cond, refl, sym, ap, ◌∙◌, subst, inl, inr, ⊎_elim, arith}
+use Rattle.std.proofs.{Common.{◌≡◌, ℕ, ℤ, zero, suc, ◌+◌, ◌<◌, ◌⊎◌, ◌≢◌, true, false, cond, refl, sym, ap, ◌∙◌, subst, inl, inr, ⊎_elim, arith}, lemmas.Bool.Decides.nat_tests, lemmas.List.{length-set, set-set, set-get_or}}
 use mathlib.Core.Path.{fun_ext}
 use Rattle.std.specs.Prelude.{length, slice_index, slice_set, ◌==◌}
-use Rattle.std.proofs.lemmas.Bool.Decides.{nat_tests}
-use Rattle.std.proofs.lemmas.List.{length-set, set-set, set-get_or}
 use Rattle.sharc_count.specs.Count.{test_of}
-use Rattle.sharc_code.specs.declared.code.Code.{Code}
-use Rattle.sharc_code.specs.declared.instr.Instr.{Instr}
+use Rattle.sharc_code.specs.{declared.code.Code.Code, declared.instr.Instr.Instr, declared.shape.Shape.Shape, Layout.{Fits, count_word}, Machine.{Machine, Local, Asks, instr_at, goes, set_ref, move_ref, test, ref}, Path.turn, Runs.{Turn, Global, put, MayTurn, after_turn}, Whole.{one_thread, bounds}}
 use Rattle.sharc_code.specs.declared.instr.Instr.TheVariants as instrs
-use Rattle.sharc_code.specs.declared.shape.Shape.{Shape}
-use Rattle.sharc_code.specs.Layout.{Fits, count_word}
-use Rattle.sharc_code.specs.Machine.{Machine, Local, Asks, instr_at, goes, set_ref, move_ref, test, ref}
-use Rattle.sharc_code.specs.Path.{turn}
-use Rattle.sharc_code.specs.Runs.{Turn, Global, put, MayTurn, after_turn}
-use Rattle.sharc_code.specs.Whole.{one_thread, bounds}
 use Rattle.sharc_code.proofs.Places.{put_same, put_other}
-use Rattle.sharc_invariant.specs.Types.{Targets, nothing, Mentions}
-use Rattle.sharc_invariant.specs.Labels.{Empty, Refers, Unknown, Closed, Label, Labels, Leads, EntryMentions, fill, empty, IsFree}
-use Rattle.sharc_invariant.specs.Typed.{IsWellTyped, IsRef, IsVacant, refs_in, ints_in, moved_copy}
-use Rattle.sharc_invariant.specs.World.{TypedReference, RegisterOf, ArgumentOf, In, Slot, Cell as CellOf, World, Shut, Sole, in_ref, none, place, put2, shift}
-use Rattle.sharc_invariant.specs.Words.{lang_of, conc_of, Shows, register_of, set_reg}
-use Rattle.sharc_invariant.specs.Effect.{Silently}
-use Rattle.sharc_invariant.specs.Turns.{made_turn}
-use Rattle.sharc_invariant.specs.State.{State, View, view_of, EntryStands, TopStands, FramesStand, refs_at, types_at, size_of_run}
-use Rattle.sharc_invariant.specs.Laws.{Turned}
-use Rattle.sharc_invariant.proofs.Effects.{place_other, shift_ok}
-use Rattle.sharc_invariant.proofs.Frames.{filled, FilledStands, fill_stands, empty_stands, type_kept, put_base}
-use Rattle.sharc_invariant.proofs.Quiet.{KeepsOwn, heap_now, quiet_state, noted_same, conc_plain}
-use Rattle.sharc_invariant.proofs.Turns.{local_turn, asks_turn, room_of}
-use Rattle.sharc_invariant.proofs.Own.{is_single, runs, rests, top, fine, not_begun, begun_before}
-use Rattle.sharc_invariant.proofs.Plain.{register_plain, is_shut, going, next_runs, same_words}
-use Rattle.sharc_invariant.proofs.Seen.{reg_stored}
-use Rattle.sharc_invariant.proofs.Filled.{refs_set, view_filled, below_filled, free_shut, inside, inside_world}
-use Rattle.sharc_invariant.proofs.CheckTurns.{put_put}
-use Rattle.sharc_invariant.proofs.Accesses.{loaded_words}
-use Rattle.sharc_invariant.proofs.Scoped.{scoped_empty}
-use Rattle.sharc_invariant.proofs.Steps.{leads as stays}
-use Rattle.sharc_invariant.proofs.Others.{loses}
+use Rattle.sharc_invariant.specs.{Types.{Targets, nothing, Mentions}, Labels.{Empty, Refers, Unknown, Closed, Label, Labels, Leads, EntryMentions, fill, empty, IsFree}, Typed.{IsWellTyped, IsRef, IsVacant, refs_in, ints_in, moved_copy}, World.{TypedReference, RegisterOf, ArgumentOf, In, Slot, Cell as CellOf, World, Shut, Sole, in_ref, none, place, put2, shift}, Words.{lang_of, conc_of, Shows, register_of, set_reg}, Effect.Silently, Turns.made_turn, State.{State, View, view_of, EntryStands, TopStands, FramesStand, refs_at, types_at, size_of_run}, Laws.Turned}
+use Rattle.sharc_invariant.proofs.{Effects.{place_other, shift_ok}, Frames.{filled, FilledStands, fill_stands, empty_stands, type_kept, put_base}, Quiet.{KeepsOwn, heap_now, quiet_state, noted_same, conc_plain}, Turns.{local_turn, asks_turn, room_of}, Own.{is_single, runs, rests, top, fine, not_begun, begun_before}, Plain.{register_plain, is_shut, going, next_runs, same_words}, Seen.reg_stored, Filled.{refs_set, view_filled, below_filled, free_shut, inside, inside_world}, CheckTurns.put_put, Accesses.loaded_words, Scoped.scoped_empty, Steps.{leads as stays}, Others.loses}
 
 module _ (x : Targets) (code : Code) (s : Shape) (ls : Labels) (wt : IsWellTyped x code ls) (fits : Fits code s) (g : Global Machine) (world : World) (st : State x code s ls g world) (tr : Turn)
     (may : MayTurn bounds (one_thread code s) g tr) (i : Instr) (is : instr_at code (g.threads tr.thread).at.pc ≡ i) (single : is_single i ≡ true) (r from : ℕ) (gt : (ls.at (g.threads tr.thread).at.pc).gate ≡ Closed)

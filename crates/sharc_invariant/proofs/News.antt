@@ -1,54 +1,17 @@
 -- The turns of a New before its last: from the thread's own list, or from the top.
-use Rattle.std.proofs.Common.{◌≡◌, ℕ, zero, suc, ◌+◌, ◌*◌, ◌^◌, ◌<◌, ◌≤◌, ◌≢◌, Bool, true, false, cond, List, None, Some, refl, sym, ap, ◌∙◌, subst, ⊎_elim, arith, ltb-true}
+use Rattle.std.proofs.{Common.{◌≡◌, ℕ, zero, suc, ◌+◌, ◌*◌, ◌^◌, ◌<◌, ◌≤◌, ◌≢◌, Bool, true, false, cond, List, None, Some, refl, sym, ap, ◌∙◌, subst, ⊎_elim, arith, ltb-true}, lemmas.Bool.{cases_eq, cases_lt, eqb-true, eqb-false}, lemmas.Bool.Decides.nat_tests, lemmas.List.{set-get_or, get_or_past, length-set}, Math.Pow.pow_mono}
 use mathlib.Core.Path.{fun_ext}
 use Rattle.std.specs.Prelude.{length, slice_index, slice_set, nat_lt, nat_le, nat_eq, ◌==◌}
-use Rattle.std.proofs.lemmas.Bool.{cases_eq, cases_lt, eqb-true, eqb-false}
-use Rattle.std.proofs.lemmas.Bool.Decides.{nat_tests}
-use Rattle.std.proofs.lemmas.List.{set-get_or, get_or_past, length-set}
-use Rattle.std.proofs.Math.Pow.{pow_mono}
 use Rattle.sharc_tree.specs.declared.trap.Trap.TheVariants as traps
-use Rattle.sharc_word.specs.declared.step.TheConstants.{THREADS}
-use Rattle.sharc_word.specs.declared.step.WordOp.TheVariants.{Load, Swap, Cas}
-use Rattle.sharc_granule.specs.Laws.{NewLaws}
-use Rattle.sharc_granule.specs.Block.{block_of}
-use Rattle.sharc_granule.specs.State.{NewView, told, turn_of}
-use Rattle.sharc_granule.specs.Stages.{turn_of_stage, next_stage, next_head, try_from, after_cell}
-use Rattle.sharc_granule.specs.Asks.{word_number, granule_number, step_of, cell_word, count_word, length_word, top_word as top_number}
-use Rattle.sharc_granule.specs.declared.arguments.NewArguments.{NewArguments}
-use Rattle.sharc_granule.specs.declared.stage.NewTurn.TheVariants.{Do}
-use Rattle.sharc_granule.specs.declared.stage.Stage.{Stage as NewStage}
+use Rattle.sharc_word.specs.{declared.step.TheConstants.THREADS, declared.step.WordOp.TheVariants.{Load, Swap, Cas}}
+use Rattle.sharc_granule.specs.{Laws.NewLaws, Block.block_of, State.{NewView, told, turn_of}, Stages.{turn_of_stage, next_stage, next_head, try_from, after_cell}, Asks.{word_number, granule_number, step_of, cell_word, count_word, length_word, top_word as top_number}, declared.arguments.NewArguments.NewArguments, declared.stage.NewTurn.TheVariants.Do, declared.stage.Stage.{Stage as NewStage}}
 use Rattle.sharc_granule.specs.declared.stage.Stage.TheVariants as news
-use Rattle.sharc_code.specs.declared.code.Code.{Code}
+use Rattle.sharc_code.specs.{declared.code.Code.Code, declared.shape.Shape.Shape, declared.state.State.TheVariants.{Runs as RunsOn, Stopped}, declared.state.Stop.TheVariants.Trap, declared.state.Stage.Stage, declared.state.Stage.TheVariants.{Rests, Makes}, Layout.{Fits as FitsShape, granules, granule_at, top_word, first_cell}, Machine.{Machine, instr_at, int, elements_of, all_cells, size_of, new_state, new, asks_new, after_new, goes_on_new, at_stage, trapped}, Path.turn, Runs.{Turn, Global, put, MayTurn, after_turn}, Whole.{one_thread, bounds}}
 use Rattle.sharc_code.specs.declared.instr.Instr.TheVariants as instrs
-use Rattle.sharc_code.specs.declared.shape.Shape.{Shape}
-use Rattle.sharc_code.specs.declared.state.State.TheVariants.{Runs as RunsOn, Stopped}
-use Rattle.sharc_code.specs.declared.state.Stop.TheVariants.{Trap}
-use Rattle.sharc_code.specs.declared.state.Stage.{Stage}
-use Rattle.sharc_code.specs.declared.state.Stage.TheVariants.{Rests, Makes}
-use Rattle.sharc_code.specs.Layout.{Fits as FitsShape, granules, granule_at, top_word, first_cell}
-use Rattle.sharc_code.specs.Machine.{Machine, instr_at, int, elements_of, all_cells, size_of, new_state, new, asks_new, after_new, goes_on_new, at_stage, trapped}
-use Rattle.sharc_code.specs.Path.{turn}
-use Rattle.sharc_code.specs.Runs.{Turn, Global, put, MayTurn, after_turn}
-use Rattle.sharc_code.specs.Whole.{one_thread, bounds}
-use Rattle.sharc_code.proofs.Places.{put_same, put_other, put_all, eq_refl, ne_eq}
-use Rattle.sharc_invariant.specs.Types.{Targets}
-use Rattle.sharc_invariant.specs.Labels.{Labels}
-use Rattle.sharc_invariant.specs.Typed.{IsWellTyped}
-use Rattle.sharc_invariant.specs.World.{World, put2}
-use Rattle.sharc_invariant.specs.Blocks.{Heap, Kept, Built, Live, Listed, InBlock, popped, carved, State as BlockState}
-use Rattle.sharc_invariant.specs.Words.{conc_of, Shows, head_of, head_with, making_of, length_at}
-use Rattle.sharc_invariant.specs.Turns.{made_turn, KeepsOthers}
-use Rattle.sharc_invariant.specs.Effect.{Silently}
-use Rattle.sharc_invariant.specs.State.{State, BuildsAt, HeapStands}
-use Rattle.sharc_invariant.specs.Laws.{Turned}
-use Rattle.sharc_invariant.proofs.Listed.{pop_ok, carve_ok, store_ok, below_blocks, put2_same, put2_other}
-use Rattle.sharc_invariant.proofs.Quiet.{heap_now}
-use Rattle.sharc_invariant.proofs.Changes.{KeepsLower}
-use Rattle.sharc_invariant.proofs.Turns.{asks_turn, room_of}
-use Rattle.sharc_invariant.proofs.Stores.{index_put, arena}
-use Rattle.sharc_invariant.proofs.Heaps.{size_power, same_power, apart_stored, built_size, listed_size, low_block}
-use Rattle.sharc_invariant.proofs.Builds.{IsMaking, builds_state, own_state, own_off, own_at}
-use Rattle.sharc_invariant.proofs.Others.{loses}
+use Rattle.sharc_code.proofs.Places.{put_same, put_other, put_all}
+use Rattle.sharc_invariant.specs.{Types.Targets, Labels.Labels, Typed.IsWellTyped, World.{World, put2}, Blocks.{Heap, Kept, Built, Live, Listed, InBlock, popped, carved}, Words.{conc_of, Shows, head_of, head_with, making_of, length_at}, Turns.{made_turn, KeepsOthers}, Effect.Silently, State.{State, BuildsAt, HeapStands}, Laws.Turned}
+use Rattle.sharc_invariant.proofs.{Listed.{pop_ok, carve_ok, store_ok, below_blocks, put2_same, put2_other}, Quiet.heap_now, Changes.KeepsLower, Turns.{asks_turn, room_of}, Stores.{index_put, arena}, Heaps.{size_power, same_power, apart_stored, built_size, listed_size, low_block}, Builds.{IsMaking, builds_state, own_state, own_off, own_at}, Others.loses}
+use Rattle.sharc_lemmas.proofs.Numbers.{ne_eq, eq_refl, not_below as not_lt, le_true}
 
 -- ---- blocks
 pub record IsBlockOf (c n : ℕ) : Type 0 where
@@ -94,15 +57,6 @@ granule_in a n lt = let e : nat_lt n a.end ≡ true = grind (arith, nat_tests) i
 
 pub granule_here : (s : Shape) (n : ℕ) → n < granules s → granule_at s n ≡ n
 granule_here s n lt = let e : nat_lt n (granules s) ≡ true = grind (arith, nat_tests) in rw e refl
-
-le_true : (a b : ℕ) → nat_le a b ≡ true → a ≤ b
-le_true a b e = grind (arith, nat_tests)
-
-le_false : (a b : ℕ) → nat_le a b ≡ false → b < a
-le_false a b e = grind (arith, nat_tests)
-
-not_lt : (a b : ℕ) → nat_lt a b ≡ false → b ≤ a
-not_lt a b e = grind (arith, nat_tests)
 
 module _ (x : Targets) (code : Code) (s : Shape) (ls : Labels) (wt : IsWellTyped x code ls) (fits : FitsShape code s) (laws : NewLaws) (g : Global Machine) (world : World) (st : State x code s ls g world) (tr : Turn)
     (may : MayTurn bounds (one_thread code s) g tr) (r count cells site : ℕ) (is : instr_at code (g.threads tr.thread).at.pc ≡ instrs.New r count cells site) (making : IsMaking (g.threads tr.thread).own.stage) where

@@ -1,15 +1,9 @@
 -- The source events of a run obey the sharing rules.
-use Rattle.std.proofs.Common.{◌≡◌, ℕ, suc, ◌⊎◌, Bool, true, false, List, ◌∷◌, refl, sym, ap, ◌∙◌, subst, inl, inr, ⊎_elim}
+use Rattle.std.proofs.{Common.{◌≡◌, ℕ, suc, ◌⊎◌, Bool, true, false, List, ◌∷◌, refl, sym, ap, ◌∙◌, subst, inl, inr, ⊎_elim}, lemmas.Bool.cases_eq}
 use Rattle.std.specs.Prelude.{◌++◌}
-use Rattle.std.proofs.lemmas.Bool.{cases_eq}
 use Rattle.sharc_code.specs.Runs.{put}
 use Rattle.sharc_code.proofs.Places.{put_same, put_other}
-use Rattle.sharc_invariant.specs.Granules.{GranuleState, Passed, cleared, withdrawn}
-use Rattle.sharc_invariant.specs.Types.{ObjectType, nothing, CellMode}
-use Rattle.sharc_invariant.specs.Types.CellMode.{Private, Readonly, Racy, Dynamic, Locked, Sibling, Behind}
-use Rattle.sharc_invariant.specs.World.{TypeRules, TypedReference, Holder, RegisterOf, In, ObjectState, Base, Shut, Sole, World, put2, in_ref, Size, base_of, CanBy, Right, WorldInvariant, set_gran, set_mutex, give, make, freed, none, thread_of, retype}
-use Rattle.sharc_invariant.specs.History.{Event, Access, New, Give, Freed, Lock, Unlock, Return, mutex_of, IsInAccessSet, Held, Ok, NoConflict, Closing, Without, Tied}
-use Rattle.sharc_invariant.specs.Effect.{Silent, Effect, Silently, Accesses, Clears, Gives, Frees, Makes, Locks, Unlocks, Returns, Withdraws, NoneOf, events_of}
+use Rattle.sharc_invariant.specs.{Granules.{GranuleState, Passed, cleared, withdrawn}, Types.{ObjectType, nothing, CellMode}, Types.CellMode.{Private, Readonly, Racy, Dynamic, Locked, Sibling, Behind}, World.{TypeRules, TypedReference, Holder, RegisterOf, In, ObjectState, Base, Shut, Sole, World, put2, in_ref, Size, base_of, CanBy, Right, WorldInvariant, set_gran, set_mutex, give, make, freed, none, thread_of, retype}, History.{Event, Access, New, Give, Freed, Lock, Unlock, Return, mutex_of, IsInAccessSet, Held, Ok, NoConflict, Closing, Without, Tied}, Effect.{Silent, Effect, Silently, Accesses, Clears, Gives, Frees, Makes, Locks, Unlocks, Returns, Withdraws, NoneOf, events_of}}
 use Rattle.sharc_invariant.proofs.Effects.{place_other, put2_all, base_other, sole_at, base_live}
 
 passed_read : (g : GranuleState) (t : ℕ) (k : Bool) → Passed g t k → Passed g t false

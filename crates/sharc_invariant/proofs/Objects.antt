@@ -1,20 +1,10 @@
 -- An object comes: what its words and its granules are.
-use Rattle.std.proofs.Common.{◌≡◌, ℕ, ◌+◌, ◌*◌, ◌^◌, ◌<◌, ◌≤◌, true, false, cond, refl, sym, ap, ◌∙◌, subst, ⊎_elim, arith}
+use Rattle.std.proofs.{Common.{◌≡◌, ℕ, ◌+◌, ◌*◌, ◌^◌, ◌<◌, ◌≤◌, true, false, cond, refl, sym, ap, ◌∙◌, subst, ⊎_elim, arith}, lemmas.Bool.cases_eq, lemmas.Bool.Decides.nat_tests}
 use Rattle.std.specs.Prelude.{nat_lt, min, max}
-use Rattle.std.proofs.lemmas.Bool.{cases_eq}
-use Rattle.std.proofs.lemmas.Bool.Decides.{nat_tests}
 use Rattle.sharc_granule.specs.Block.{block_of}
-use Rattle.sharc_code.specs.declared.instr.Width.TheVariants.{Char, Int, Long}
-use Rattle.sharc_code.specs.declared.shape.Shape.{Shape}
-use Rattle.sharc_code.specs.Runs.{put}
+use Rattle.sharc_code.specs.{declared.instr.Width.TheVariants.{Char, Int, Long}, declared.shape.Shape.Shape, Runs.put}
 use Rattle.sharc_code.proofs.Places.{put_same, put_other}
-use Rattle.sharc_invariant.specs.Granules.{GranuleState, Bits}
-use Rattle.sharc_invariant.specs.Types.{Targets, ObjectType, Content, field_in, is_pointer, is_mutex, type_at}
-use Rattle.sharc_invariant.specs.Types.Content.{Integer, MutexWord, Waiters, Pointer}
-use Rattle.sharc_invariant.specs.World.{In, RegisterOf, Cell as CellOf, TypedReference, ObjectState, World, make, null, place}
-use Rattle.sharc_invariant.specs.Words.{MachineView, Reads, FitsContent, lang_of, Shows, shown, cell_at, count_at, length_at, shadow_at}
-use Rattle.sharc_invariant.specs.Opened.{fresh_granule}
-use Rattle.sharc_invariant.specs.State.{block_for}
+use Rattle.sharc_invariant.specs.{Granules.{GranuleState, Bits}, Types.{Targets, ObjectType, Content, field_in, is_pointer, is_mutex, type_at}, Types.Content.{Integer, MutexWord, Waiters, Pointer}, World.{In, RegisterOf, Cell as CellOf, TypedReference, ObjectState, World, make, null, place}, Words.{MachineView, Reads, FitsContent, lang_of, Shows, shown, cell_at, count_at, length_at, shadow_at}, Opened.fresh_granule, State.block_for}
 
 -- ---- what zeros are
 pub zero_fits : (h : Content) → FitsContent h 0

@@ -1,26 +1,11 @@
 -- A thread that does not make the turn stays as it stood.
 use Rattle.std.proofs.Common.{◌≡◌, ℕ, ◌+◌, ◌*◌, ◌<◌, ◌≤◌, ◌≢◌, List, Option, Some, None, refl, sym, ap, ◌∙◌, subst, arith}
 use Rattle.std.specs.Prelude.{slice_index}
-use Rattle.sharc_granule.specs.State.{NewView}
-use Rattle.sharc_granule.specs.declared.arguments.NewArguments.{NewArguments}
-use Rattle.sharc_granule.specs.declared.stage.Stage.{Stage as NewStage}
+use Rattle.sharc_granule.specs.{State.NewView, declared.arguments.NewArguments.NewArguments, declared.stage.Stage.{Stage as NewStage}}
 use Rattle.sharc_granule.specs.declared.stage.Stage.TheVariants as news
-use Rattle.sharc_code.specs.declared.code.Code.{Code}
-use Rattle.sharc_code.specs.declared.instr.Instr.{Instr}
-use Rattle.sharc_code.specs.declared.instr.Instr.TheVariants.{Clear, New, Free, Spawn, Start}
-use Rattle.sharc_code.specs.declared.instr.Register.{Register}
-use Rattle.sharc_code.specs.declared.shape.Shape.{Shape}
-use Rattle.sharc_code.specs.declared.state.Stage.{Stage}
-use Rattle.sharc_code.specs.declared.state.Stage.TheVariants.{Rests, Looks, Clears, Makes, Empties, Lowers, FreeLooks, FreeClears, Uncounts, Links, Names, Hands, Begins, Enters, Withdraws, WithdrawsFrom, Leaves, Wakes}
-use Rattle.sharc_code.specs.Layout.{function_word, argument_word, first_cell}
-use Rattle.sharc_code.specs.Machine.{Machine, ref, pointer_cell, layout_at}
-use Rattle.sharc_invariant.specs.Granules.{GranuleState}
-use Rattle.sharc_invariant.specs.Labels.{Gate, Closed, Checked, Holds, Loaded, HoldsLoaded, Sole as SoleGate}
-use Rattle.sharc_invariant.specs.World.{RegisterOf, Cell, Sole, Shut, Loaded as IsLoaded, World, in_ref}
-use Rattle.sharc_invariant.specs.Blocks.{Heap, Built}
-use Rattle.sharc_invariant.specs.Turns.{KeepsOthers, OnlyLoses}
+use Rattle.sharc_code.specs.{declared.code.Code.Code, declared.instr.Instr.Instr, declared.instr.Instr.TheVariants.{Clear, New, Free, Spawn, Start}, declared.instr.Register.Register, declared.shape.Shape.Shape, declared.state.Stage.Stage, declared.state.Stage.TheVariants.{Rests, Looks, Clears, Makes, Empties, Lowers, FreeLooks, FreeClears, Uncounts, Links, Names, Hands, Begins, Enters, Withdraws, WithdrawsFrom, Leaves, Wakes}, Layout.{function_word, argument_word, first_cell}, Machine.{Machine, ref, pointer_cell, layout_at}}
+use Rattle.sharc_invariant.specs.{Granules.GranuleState, Labels.{Gate, Closed, Checked, Holds, Loaded, HoldsLoaded, Sole as SoleGate}, World.{RegisterOf, Cell, Sole, Shut, Loaded as IsLoaded, World, in_ref}, Blocks.{Heap, Built}, Turns.{KeepsOthers, OnlyLoses}, State.{StopStands, GateStands, base_of_cell, number_in, StageStands, OnClear, OnNew, OnFree, OnSpawn, OnStart, AreCleared, Swapping, Emptying, Reserves, SpawnsNow, BuildsAt, all_pointers, granules_freed}}
 pub use Rattle.sharc_invariant.specs.State.{OnHold}
-use Rattle.sharc_invariant.specs.State.{StopStands, GateStands, base_of_cell, number_in, StageStands, OnClear, OnNew, OnFree, OnSpawn, OnStart, AreCleared, Swapping, Emptying, Reserves, SpawnsNow, BuildsAt, all_pointers, granules_freed}
 
 -- a granule that is as it was loses nothing
 pub loses : {x y : GranuleState} → y ≡ x → OnlyLoses x y

@@ -1,29 +1,11 @@
 -- The thread that makes the turn: where it stands, and where it comes to stand.
-use Rattle.std.proofs.Common.{◌≡◌, ℕ, ℤ, zero, suc, ◌+◌, ◌*◌, ◌<◌, ◌≤◌, ◌≢◌, max, Bool, true, false, List, [], ◌∷◌, Option, Some, None, refl, sym, ap, ◌∙◌, subst, ⊎_elim, arith}
+use Rattle.std.proofs.{Common.{◌≡◌, ℕ, ℤ, zero, suc, ◌+◌, ◌*◌, ◌<◌, ◌≤◌, ◌≢◌, max, Bool, true, false, List, [], ◌∷◌, Option, Some, None, refl, sym, ap, ◌∙◌, subst, ⊎_elim, arith}, Math.Nat.{mul-le-mul_left, mul_comm}}
 use Rattle.std.specs.Prelude.{length, slice_index_or, fold, ◌==◌}
-use Rattle.std.proofs.Math.Nat.{mul-le-mul_left, mul_comm}
-use Rattle.sharc_code.specs.declared.state.TheConstants.{FRAMES}
-use Rattle.sharc_code.specs.declared.code.Code.{Code}
-use Rattle.sharc_code.specs.declared.code.Function.{Function}
-use Rattle.sharc_code.specs.declared.instr.Instr.{Instr}
+use Rattle.sharc_code.specs.{declared.state.TheConstants.FRAMES, declared.code.Code.Code, declared.code.Function.Function, declared.instr.Instr.Instr, declared.instr.Register.Register, declared.shape.Shape.Shape, declared.state.Frame.Frame, declared.state.Stage.Stage, declared.state.Stage.TheVariants.{Rests, Looks, Clears, Makes, Empties, Lowers, FreeLooks, FreeClears, Uncounts, Links, Names, Hands, Begins, Enters, Withdraws, WithdrawsFrom, Leaves, Wakes}, Machine.{Machine, instr_at, function_of, no_function}, Path.{most_ints, most_refs, may_go}, Runs.Global}
 use Rattle.sharc_code.specs.declared.instr.Instr.TheVariants as instrs
-use Rattle.sharc_code.specs.declared.instr.Register.{Register}
-use Rattle.sharc_code.specs.declared.shape.Shape.{Shape}
-use Rattle.sharc_code.specs.declared.state.Frame.{Frame}
-use Rattle.sharc_code.specs.declared.state.Stage.{Stage}
-use Rattle.sharc_code.specs.declared.state.Stage.TheVariants.{Rests, Looks, Clears, Makes, Empties, Lowers, FreeLooks, FreeClears, Uncounts, Links, Names, Hands, Begins, Enters, Withdraws, WithdrawsFrom, Leaves, Wakes}
-use Rattle.sharc_code.specs.Machine.{Machine, instr_at, function_of, no_function}
-use Rattle.sharc_code.specs.Path.{most_ints, most_refs, may_go}
-use Rattle.sharc_code.specs.Runs.{Global}
-use Rattle.sharc_code.proofs.Places.{ne_eq}
-use Rattle.sharc_invariant.specs.Types.{Targets}
-use Rattle.sharc_invariant.specs.Labels.{Gate, Closed, Label, Labels, LessGate}
-use Rattle.sharc_invariant.specs.Typed.{Fine, IsWellTyped, refs_in, ints_in}
-use Rattle.sharc_invariant.specs.World.{World}
-use Rattle.sharc_invariant.specs.Blocks.{Heap}
-use Rattle.sharc_invariant.specs.State.{State, View, BelowStands, FramesStand, frame_at, StageStands, OnClear, OnNew, OnFree, OnSpawn, OnStart, OnExit, OnSignal, Runs, GateStands, TopStands, label_now, view_of}
-use Rattle.sharc_invariant.proofs.Quiet.{label_held}
-use Rattle.sharc_invariant.proofs.Others.{OnHold}
+use Rattle.sharc_invariant.specs.{Types.Targets, Labels.{Gate, Closed, Label, Labels, LessGate}, Typed.{Fine, IsWellTyped, refs_in, ints_in}, World.World, Blocks.Heap, State.{State, View, BelowStands, FramesStand, frame_at, StageStands, OnClear, OnNew, OnFree, OnSpawn, OnStart, OnExit, OnSignal, Runs, GateStands, TopStands, label_now, view_of}}
+use Rattle.sharc_invariant.proofs.{Quiet.label_held, Others.OnHold}
+use Rattle.sharc_lemmas.proofs.Numbers.{ne_eq, times_more as suc_times}
 
 -- ---- instructions of one turn
 abbrev pub is_single : Instr → Bool
@@ -99,9 +81,6 @@ refs_most code f = most_at (λ g. g.refs) 0 code.functions.items f refl
 
 pub ints_most : (code : Code) (f : ℕ) → (function_of code f).ints ≤ most_ints code.functions.items
 ints_most code f = most_at (λ g. g.ints) 0 code.functions.items f refl
-
-suc_times : (n m : ℕ) → suc n * m ≡ n * m + m
-suc_times n m = grind arith
 
 pub bases_low : (x : Targets) (code : Code) (ls : Labels) (t : ℕ) (v : View) (frames : List Frame) (d base ints f : ℕ) → BelowStands x code ls t v frames d base ints f
     → (base + most_refs code.functions.items ≤ d * most_refs code.functions.items) × (ints + most_ints code.functions.items ≤ d * most_ints code.functions.items)

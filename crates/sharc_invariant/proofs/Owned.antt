@@ -3,27 +3,11 @@ use Rattle.std.proofs.Common.{◌≡◌, ℕ, suc, ◌+◌, ◌≢◌, ◌||◌,
 use mathlib.Core.Path.{fun_ext}
 use Rattle.sharc_granule.specs.declared.stage.Stage.{Stage as NewStage}
 use Rattle.sharc_granule.specs.declared.stage.Stage.TheVariants as news
-use Rattle.sharc_code.specs.declared.code.Code.{Code}
-use Rattle.sharc_code.specs.declared.instr.Instr.{Instr}
+use Rattle.sharc_code.specs.{declared.code.Code.Code, declared.instr.Instr.Instr, declared.shape.Shape.Shape, declared.state.Stage.Stage, declared.state.Stage.TheVariants.{Rests, Makes, Uncounts}, Machine.{Machine, instr_at, ref}, Path.may_go, Runs.{Global, Turn, after_turn, is_started}, Whole.{one_thread, bounds}}
 use Rattle.sharc_code.specs.declared.instr.Instr.TheVariants as instrs
-use Rattle.sharc_code.specs.declared.shape.Shape.{Shape}
-use Rattle.sharc_code.specs.declared.state.Stage.{Stage}
-use Rattle.sharc_code.specs.declared.state.Stage.TheVariants.{Rests, Makes, Uncounts}
-use Rattle.sharc_code.specs.Machine.{Machine, instr_at, ref}
-use Rattle.sharc_code.specs.Path.{may_go}
-use Rattle.sharc_code.specs.Runs.{Global, Turn, after_turn, is_started}
-use Rattle.sharc_invariant.specs.Types.{Targets, type_of, ObjectType}
-use Rattle.sharc_invariant.specs.Labels.{Empty, Refers, Unknown, Labels}
-use Rattle.sharc_invariant.specs.World.{TypeRules, RegisterOf, In, World, ObjectState, in_ref, TypedReference}
-use Rattle.sharc_invariant.specs.Effect.{Effect, Silently, Accesses, Clears, Gives, Frees, Makes as MakesOf, Locks, Unlocks, Returns, Withdraws}
-use Rattle.sharc_invariant.specs.Objects.{changes_objects, makes_object, frees_object, is_length, new_behind, made_behind, freed_behind, objects_behind, type_held, entry_type}
-use Rattle.sharc_invariant.specs.State.{State, View, view_of, EntryStands, TopStands, label_now, refs_at, types_at}
-use Rattle.sharc_invariant.proofs.Others.{OnHold}
-use Rattle.sharc_invariant.proofs.Quiet.{label_held}
-use Rattle.sharc_invariant.proofs.Plain.{register_plain}
-use Rattle.sharc_code.specs.Whole.{one_thread, bounds}
+use Rattle.sharc_invariant.specs.{Types.{Targets, type_of, ObjectType}, Labels.{Empty, Refers, Unknown, Labels}, World.{TypeRules, RegisterOf, In, World, ObjectState, in_ref, TypedReference}, Effect.{Effect, Silently, Accesses, Clears, Gives, Frees, Makes as MakesOf, Locks, Unlocks, Returns, Withdraws}, Objects.{changes_objects, makes_object, frees_object, is_length, new_behind, made_behind, freed_behind, objects_behind, type_held, entry_type}, State.{State, View, view_of, EntryStands, TopStands, label_now, refs_at, types_at}, Turns.made_turn}
+use Rattle.sharc_invariant.proofs.{Others.OnHold, Quiet.label_held, Plain.register_plain}
 use Rattle.sharc_code.proofs.Places.{put_same}
-use Rattle.sharc_invariant.specs.Turns.{made_turn}
 
 -- ---- an effect without a change of objects
 pub effect_objects : (l : TypeRules) (t : ℕ) (returned changes : Bool) (w w' : World) → Effect l t returned changes w w' → changes ≡ false → w'.obj ≡ w.obj

@@ -1,32 +1,11 @@
 -- Turns that change no word: registers alone, tests and jumps.
-use Rattle.std.proofs.Common.{◌≡◌, ℕ, ℤ, pos, suc, ◌+◌, ◌<◌, ◌≤◌, true, false, cond, List, Option, Some, None, refl, sym, ap, ◌∙◌, subst, arith}
+use Rattle.std.proofs.{Common.{◌≡◌, ℕ, ℤ, pos, suc, ◌+◌, ◌<◌, ◌≤◌, true, false, cond, List, Option, Some, None, refl, sym, ap, ◌∙◌, subst, arith}, lemmas.List.{get_or-set_same, get_or-set_other, length-set}}
 use mathlib.Core.Path.{fun_ext}
 use Rattle.std.specs.Prelude.{length, slice_index}
-use Rattle.std.proofs.lemmas.List.{get_or-set_same, get_or-set_other, length-set}
-use Rattle.sharc_code.specs.declared.state.TheConstants.{FRAMES}
-use Rattle.sharc_code.specs.declared.code.Code.{Code}
-use Rattle.sharc_code.specs.declared.instr.Instr.{Instr}
-use Rattle.sharc_code.specs.declared.shape.Shape.{Shape}
-use Rattle.sharc_code.specs.declared.state.Stop.{Stop}
-use Rattle.sharc_code.specs.declared.state.Frame.{Frame}
-use Rattle.sharc_code.specs.declared.state.State.TheVariants.{Runs as RunsOn, Tries, Stopped, Ended}
-use Rattle.sharc_code.specs.declared.state.Stage.TheVariants.{Rests}
-use Rattle.sharc_code.specs.Machine.{Machine, instr_at, goes, goes_to, set_int, stopped}
-use Rattle.sharc_code.specs.Path.{may_go, counted}
-use Rattle.sharc_code.specs.Runs.{Global, put}
+use Rattle.sharc_code.specs.{declared.state.TheConstants.FRAMES, declared.code.Code.Code, declared.instr.Instr.Instr, declared.shape.Shape.Shape, declared.state.Stop.Stop, declared.state.Frame.Frame, declared.state.State.TheVariants.{Runs as RunsOn, Tries, Stopped, Ended}, declared.state.Stage.TheVariants.Rests, Machine.{Machine, instr_at, goes, goes_to, set_int, stopped}, Path.{may_go, counted}, Runs.{Global, put}}
 use Rattle.sharc_code.proofs.Places.{put_same, put_other, put_all}
-use Rattle.sharc_invariant.specs.Types.{Targets}
-use Rattle.sharc_invariant.specs.Labels.{Closed, Number, Label, Labels, Less, LessGate, Leads, set_number}
-use Rattle.sharc_invariant.specs.Typed.{IsWellTyped, IsInt}
-use Rattle.sharc_invariant.specs.World.{World, Shut}
-use Rattle.sharc_invariant.specs.Blocks.{Heap, Kept}
-use Rattle.sharc_invariant.specs.Words.{MachineView, conc_of, Shows, register_of, is_ended}
-use Rattle.sharc_invariant.specs.Turns.{made_turn, KeepsOthers}
-use Rattle.sharc_invariant.specs.State.{StopStands, BelowStands, State, View, view_of, vals_of, NumberStands, TopStands, FramesStand, GateStands, Runs, refs_at, types_at}
-use Rattle.sharc_invariant.proofs.Frames.{less_stands, Agrees, Low, callers_agree}
-use Rattle.sharc_invariant.proofs.Quiet.{KeepsOwn, KeepsWords, KeepsWorld, heap_now, quiet_state, freed_held, noted_same, conc_plain}
-use Rattle.sharc_invariant.proofs.Others.{stop_at, OnHold, loses}
-use Rattle.sharc_invariant.proofs.Own.{is_single, closed_less, runs_at, int_inside, runs, rests, top, gate, not_begun, begun_before}
+use Rattle.sharc_invariant.specs.{Types.Targets, Labels.{Closed, Number, Label, Labels, Less, LessGate, Leads, set_number}, Typed.{IsWellTyped, IsInt}, World.{World, Shut}, Blocks.{Heap, Kept}, Words.{MachineView, conc_of, Shows, register_of, is_ended}, Turns.{made_turn, KeepsOthers}, State.{StopStands, BelowStands, State, View, view_of, vals_of, NumberStands, TopStands, FramesStand, GateStands, Runs, refs_at, types_at}}
+use Rattle.sharc_invariant.proofs.{Frames.{less_stands, Agrees, Low, callers_agree}, Quiet.{KeepsOwn, KeepsWords, KeepsWorld, heap_now, quiet_state, freed_held, noted_same, conc_plain}, Others.{stop_at, OnHold, loses}, Own.{is_single, closed_less, runs_at, int_inside, runs, rests, top, gate, not_begun, begun_before}}
 
 -- ---- registers as they are seen
 pub register_plain : (code : Code) (m : Machine) → m.own.stage ≡ Rests → (i : ℕ) → register_of code m i ≡ slice_index m.refs i

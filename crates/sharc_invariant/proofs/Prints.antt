@@ -1,36 +1,14 @@
 -- A print keeps the invariant: the count of prints is nobody's word.
-use Rattle.std.proofs.Common.{◌≡◌, ℕ, ◌+◌, ◌%◌, ◌^◌, ◌<◌, Some, None, refl, sym, ap, ◌∙◌, subst, arith}
+use Rattle.std.proofs.{Common.{◌≡◌, ℕ, ◌+◌, ◌%◌, ◌^◌, ◌<◌, Some, None, refl, sym, ap, ◌∙◌, subst, arith}, lemmas.List.length-set}
 use mathlib.Core.Path.{fun_ext}
 use Rattle.std.specs.Prelude.{length, slice_index, slice_set}
-use Rattle.std.proofs.lemmas.List.{length-set}
 use Rattle.sharc_word.specs.declared.step.WordOp.TheVariants.{Add}
 use Rattle.sharc_shadow.specs.ShadowWord.{epoch_of}
-use Rattle.sharc_code.specs.declared.code.Code.{Code}
+use Rattle.sharc_code.specs.{declared.code.Code.Code, declared.shape.Shape.Shape, Layout.{Fits, first_cell, prints_word}, Machine.{Machine, Asks, instr_at, int, printed, step_of}, Runs.{Turn, Global, put, MayTurn, after_turn}, Whole.{one_thread, bounds}}
 use Rattle.sharc_code.specs.declared.instr.Instr.TheVariants as instrs
-use Rattle.sharc_code.specs.declared.shape.Shape.{Shape}
-use Rattle.sharc_code.specs.Layout.{Fits, first_cell, prints_word}
-use Rattle.sharc_code.specs.Machine.{Machine, Asks, instr_at, int, printed, step_of}
-use Rattle.sharc_code.specs.Runs.{Turn, Global, put, MayTurn, after_turn}
-use Rattle.sharc_code.specs.Whole.{one_thread, bounds}
 use Rattle.sharc_code.proofs.Places.{put_other, put_all}
-use Rattle.sharc_invariant.specs.Types.{Targets, field_in}
-use Rattle.sharc_invariant.specs.Labels.{Label, Labels}
-use Rattle.sharc_invariant.specs.Typed.{IsWellTyped}
-use Rattle.sharc_invariant.specs.World.{World}
-use Rattle.sharc_invariant.specs.Blocks.{Kept}
-use Rattle.sharc_invariant.specs.Words.{MachineView, conc_of, Shows, FitsContent, Reads, register_of, store, cell_at, count_at, length_at, shadow_at}
-use Rattle.sharc_invariant.specs.Effect.{Silently}
-use Rattle.sharc_invariant.specs.Turns.{made_turn}
-use Rattle.sharc_invariant.specs.State.{State, View, view_of, FramesStand}
-use Rattle.sharc_invariant.specs.Laws.{Turned}
-use Rattle.sharc_invariant.proofs.Listed.{store_ok}
-use Rattle.sharc_invariant.proofs.Quiet.{KeepsOwn, KeepsWords, heap_now, quiet_state, noted_same, conc_plain, put_self}
-use Rattle.sharc_invariant.proofs.Turns.{asks_turn, room_of}
-use Rattle.sharc_invariant.proofs.Own.{runs, rests, top, fine, begun_before, not_begun}
-use Rattle.sharc_invariant.proofs.Plain.{register_plain, is_shut, going, next_runs}
-use Rattle.sharc_invariant.proofs.Stores.{index_put}
-use Rattle.sharc_invariant.proofs.Seen.{stale_off}
-use Rattle.sharc_invariant.proofs.Others.{loses}
+use Rattle.sharc_invariant.specs.{Types.{Targets, field_in}, Labels.{Label, Labels}, Typed.IsWellTyped, World.World, Blocks.Kept, Words.{MachineView, conc_of, Shows, FitsContent, Reads, register_of, store, cell_at, count_at, length_at, shadow_at}, Effect.Silently, Turns.made_turn, State.{State, View, view_of, FramesStand}, Laws.Turned}
+use Rattle.sharc_invariant.proofs.{Listed.store_ok, Quiet.{KeepsOwn, KeepsWords, heap_now, quiet_state, noted_same, conc_plain, put_self}, Turns.{asks_turn, room_of}, Own.{runs, rests, top, fine, begun_before, not_begun}, Plain.{register_plain, is_shut, going, next_runs}, Stores.index_put, Seen.stale_off, Others.loses}
 
 -- word 3 shows nothing of the world
 low_stored : (x : Targets) (s : Shape) (cells elements : ℕ → ℕ) (c : MachineView) (w : World) (v : ℕ) → Shows x s cells elements c w → Shows x s cells elements (store c 3 v) w

@@ -1,36 +1,12 @@
 -- A return keeps the invariant: what the callee gives back comes to stand in the caller's frame.
-use Rattle.std.proofs.Common.{◌≡◌, ℕ, ℤ, zero, suc, ◌+◌, ◌-◌, ◌<◌, ◌≤◌, ◌≢◌, true, false, cond, ◌&&◌, not, List, [], ◌∷◌, Some, None, refl, sym, ap, ◌∙◌, subst, ⊎_elim, arith}
+use Rattle.std.proofs.{Common.{◌≡◌, ℕ, ℤ, zero, suc, ◌+◌, ◌-◌, ◌<◌, ◌≤◌, ◌≢◌, true, false, cond, ◌&&◌, not, List, [], ◌∷◌, Some, None, refl, sym, ap, ◌∙◌, subst, ⊎_elim, arith}, lemmas.Bool.{cases_eq, cases_order}, lemmas.Bool.Decides.nat_tests}
 use Rattle.std.specs.Prelude.{length, nat_lt, slice_index_or, ◌==◌}
-use Rattle.std.proofs.lemmas.Bool.{cases_eq, cases_order}
-use Rattle.std.proofs.lemmas.Bool.Decides.{nat_tests}
 use Rattle.sharc_tree.specs.declared.trap.Trap.TheVariants as traps
-use Rattle.sharc_code.specs.declared.state.TheConstants.{FRAMES}
-use Rattle.sharc_code.specs.declared.code.Code.{Code}
-use Rattle.sharc_code.specs.declared.instr.Instr.{Instr}
+use Rattle.sharc_code.specs.{declared.state.TheConstants.FRAMES, declared.code.Code.Code, declared.instr.Instr.Instr, declared.shape.Shape.Shape, declared.state.Frame.Frame, declared.state.Stop.TheVariants.Trap, Layout.Fits, Machine.{Machine, Local, instr_at, back_to, goes_to, holds_none, stopped, no_frame}, Path.{turn, counted}, Runs.{Turn, Global, MayTurn}, Whole.{one_thread, bounds}}
 use Rattle.sharc_code.specs.declared.instr.Instr.TheVariants as instrs
-use Rattle.sharc_code.specs.declared.shape.Shape.{Shape}
-use Rattle.sharc_code.specs.declared.state.Frame.{Frame}
-use Rattle.sharc_code.specs.declared.state.Stop.TheVariants.{Trap}
-use Rattle.sharc_code.specs.Layout.{Fits}
-use Rattle.sharc_code.specs.Machine.{Machine, Local, instr_at, returned, back_to, goes_to, holds_none, stopped, no_frame}
-use Rattle.sharc_code.specs.Path.{turn, counted}
-use Rattle.sharc_code.specs.Runs.{Turn, Global, MayTurn}
-use Rattle.sharc_code.specs.Whole.{one_thread, bounds}
-use Rattle.sharc_code.proofs.Places.{ne_eq}
-use Rattle.sharc_invariant.specs.Types.{Targets, ObjectType, type_of}
-use Rattle.sharc_invariant.specs.Labels.{Entry, Empty, Refers, Unknown, Element, Named, Nth, IsNamed, HasName, HasBase, Number, Anything, Exactly, Within, Indexes, OfElement, OfGlobal, Gate, Closed, Pass, IsIn, Label, Labels, Leads, Less, EntryMentions}
-use Rattle.sharc_invariant.specs.Typed.{IsWellTyped, Fine, IsPlain, MayStart, Returns, called_label, below, below_copy, below_number}
-use Rattle.sharc_invariant.specs.World.{World, Shut}
-use Rattle.sharc_invariant.specs.Effect.{Silently}
-use Rattle.sharc_invariant.specs.Turns.{made_turn}
-use Rattle.sharc_invariant.specs.State.{State, View, view_of, frame_at, EntryStands, NumberStands, FrameStands, TopStands, BelowStands, FramesStand, GateStands, refs_at, types_at}
-use Rattle.sharc_invariant.specs.Laws.{Turned}
-use Rattle.sharc_invariant.proofs.Frames.{type_kept, less_entry, less_number, number_kept, less_stands}
-use Rattle.sharc_invariant.proofs.Quiet.{heap_now}
-use Rattle.sharc_invariant.proofs.Turns.{local_turn, room_of}
-use Rattle.sharc_invariant.proofs.Own.{runs, rests, top, fine, begun_before, closed_less, runs_at}
-use Rattle.sharc_invariant.proofs.Plain.{is_shut, going, plain_state, stop_state}
-use Rattle.sharc_invariant.proofs.Calls.{number_below}
+use Rattle.sharc_invariant.specs.{Types.{Targets, ObjectType, type_of}, Labels.{Entry, Empty, Refers, Unknown, Named, Nth, HasName, HasBase, Number, Anything, Exactly, Within, Indexes, OfElement, OfGlobal, Closed, IsIn, Label, Labels, Leads, EntryMentions}, Typed.{IsWellTyped, Fine, IsPlain, Returns, called_label, below, below_copy, below_number}, World.{World, Shut}, Effect.Silently, Turns.made_turn, State.{State, View, view_of, frame_at, EntryStands, NumberStands, FrameStands, TopStands, BelowStands, FramesStand, GateStands, refs_at, types_at}, Laws.Turned}
+use Rattle.sharc_invariant.proofs.{Frames.{type_kept, less_entry, less_number, number_kept, less_stands}, Quiet.heap_now, Turns.{local_turn, room_of}, Own.{runs, rests, top, fine, begun_before, closed_less, runs_at}, Plain.{is_shut, going, plain_state, stop_state}, Calls.number_below}
+use Rattle.sharc_lemmas.proofs.Numbers.{ne_eq}
 
 below_here : {A : Type 0} (k : ℕ) (f : ℕ → A) (a b : A) (r : ℕ) → r ≡ k → below k f a b r ≡ a
 below_here k f a b r e = let e1 : nat_lt r k ≡ false = grind (arith, nat_tests) in let e2 : (r == k) ≡ true = grind (arith, nat_tests) in ap (λ x. cond x (f r) (cond (r == k) a b)) e1 ∙ ap (λ x. cond x a b) e2

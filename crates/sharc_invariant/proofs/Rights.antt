@@ -1,31 +1,11 @@
 -- A thread at a place may make the access that its label lets it make.
-use Rattle.std.proofs.Common.{◌≡◌, ℕ, ℤ, pos, zero, suc, ◌+◌, ◌-◌, ◌*◌, ◌/◌, ◌<◌, ◌≤◌, ◌⊎◌, ◌≢◌, Bool, true, false, List, [], ◌∷◌, Option, Some, None, refl, sym, ap, ◌∙◌, subst, inl, inr, ⊎_elim, arith}
+use Rattle.std.proofs.{Common.{◌≡◌, ℕ, ℤ, pos, zero, suc, ◌+◌, ◌-◌, ◌*◌, ◌/◌, ◌<◌, ◌≤◌, ◌⊎◌, ◌≢◌, Bool, true, false, List, [], ◌∷◌, Option, Some, None, refl, sym, ap, ◌∙◌, subst, inl, inr, ⊎_elim, arith}, Math.Nat.{mod-eq_of_lt, mul-le-mul_right, suc-mul}}
 use Rattle.std.specs.Prelude.{length, slice_index_or, map}
-use Rattle.std.proofs.Math.Nat.{mod-eq_of_lt, mul-le-mul_right, suc-mul}
 use Rattle.sharc_word.specs.declared.step.TheConstants.{THREADS}
-use Rattle.sharc_code.specs.declared.code.Code.{Code}
-use Rattle.sharc_code.specs.declared.instr.Cell.{Cell}
+use Rattle.sharc_code.specs.{declared.code.Code.Code, declared.instr.Cell.Cell, declared.shape.Shape.Shape, Arithmetic.word_of, Layout.{Fits, cell_word, cell_of}, Machine.{Machine, ref, int, word, place, is_held}, Runs.{Global as Place}}
 use Rattle.sharc_code.specs.declared.instr.Cell.TheVariants as cells
-use Rattle.sharc_code.specs.declared.shape.Shape.{Shape}
-use Rattle.sharc_code.specs.Arithmetic.{word_of}
-use Rattle.sharc_code.specs.Layout.{Fits, cell_word, cell_of}
-use Rattle.sharc_code.specs.Machine.{Machine, ref, int, word, place, is_held}
-use Rattle.sharc_code.specs.Runs.{Global as Place}
-use Rattle.sharc_invariant.specs.Granules.{GranuleState, Passed}
-use Rattle.sharc_invariant.specs.Types.{Targets, ObjectType, StaticType, Mutex, Lock, FieldLock, FieldMode, CellMode, Field, mode_at, mode_in, lock_mode, lock_number, no_mutex, field_mutex, type_at, cells_of, field_at, field_of_cell, type_in, field_in, is_mutex, is_private, mutex_of, type_of}
-use Rattle.sharc_invariant.specs.Types.Lock.{Global, Through, Self}
-use Rattle.sharc_invariant.specs.Types.FieldLock.{OfType, OfGlobals, OfElement}
-use Rattle.sharc_invariant.specs.Types.FieldMode.{Private, Readonly, Racy, Dynamic, Under, Behind}
-use Rattle.sharc_invariant.specs.Types.Content.{MutexWord}
-use Rattle.sharc_invariant.specs.Labels.{Refers, Element, Named, Nth, Number, OfElement as OfElementCell, OfGlobal as OfGlobalCells, HoldsLoaded, Label, Labels, SameReference}
-use Rattle.sharc_invariant.specs.Typed.{PointsTo, AreFieldLocks, IsGlobalLock, IsAnyGlobalLock, IsFieldLock, IsAnyLock, IsPlace, PointsToMutex, IsWellTyped, HasCell, MayAccess, IsChecked, Directly, Earlier, Covers, IsOwn, IsMutexOf, IsLockCell, IsSibling, no_lock}
-use Rattle.sharc_invariant.specs.World.{TypeRules, ObjectState, TypedReference, Holder, RegisterOf, In, Slot, World, Window, May, Based, base_of, CanBy, Can, Right, in_ref, Base}
-use Rattle.sharc_invariant.specs.World.Base.{By, Global as OfGlobal}
-use Rattle.sharc_invariant.specs.Words.{lang_of}
-use Rattle.sharc_invariant.specs.Cells.{IsThere}
-use Rattle.sharc_invariant.specs.State.{PassStands, NumberStands, ElementStands, State, View, view_of, TopStands, FramesStand, GateStands, EntryStands, refs_at, types_at, base_of_cell, object_of_cell, number_in}
-use Rattle.sharc_invariant.proofs.Frames.{same_ref, same_lock, map_same, with_locks}
-use Rattle.sharc_invariant.proofs.Cells.{cell_there, cell_word_is, field_row}
+use Rattle.sharc_invariant.specs.{Granules.{GranuleState, Passed}, Types.{Targets, ObjectType, StaticType, Mutex, Lock, FieldLock, FieldMode, CellMode, Field, mode_at, mode_in, lock_mode, lock_number, no_mutex, field_mutex, type_at, cells_of, field_at, field_of_cell, type_in, field_in, is_mutex, is_private, mutex_of, type_of}, Types.Lock.{Global, Through, Self}, Types.FieldLock.{OfType, OfGlobals, OfElement}, Types.FieldMode.{Private, Readonly, Racy, Dynamic, Under, Behind}, Types.Content.MutexWord, Labels.{Refers, Element, Named, Nth, Number, OfElement as OfElementCell, OfGlobal as OfGlobalCells, HoldsLoaded, Label, Labels, SameReference}, Typed.{PointsTo, AreFieldLocks, IsGlobalLock, IsAnyGlobalLock, IsFieldLock, IsAnyLock, IsPlace, PointsToMutex, IsWellTyped, HasCell, MayAccess, IsChecked, Directly, Earlier, Covers, IsOwn, IsMutexOf, IsLockCell, IsSibling, no_lock}, World.{TypeRules, ObjectState, TypedReference, Holder, RegisterOf, In, Slot, World, Window, May, Based, base_of, CanBy, Can, Right, in_ref, Base}, World.Base.{By, Global as OfGlobal}, Words.lang_of, Cells.IsThere, State.{PassStands, NumberStands, ElementStands, State, View, view_of, TopStands, FramesStand, GateStands, EntryStands, refs_at, types_at, base_of_cell, object_of_cell, number_in}}
+use Rattle.sharc_invariant.proofs.{Frames.{same_ref, same_lock, map_same, with_locks}, Cells.{cell_there, cell_word_is, field_row}}
 
 nth_map : {A B : Type 0} (f : A → B) (xs : List A) (k : ℕ) (a : A) (b : B) → k < length xs → slice_index_or (map f xs) k b ≡ f (slice_index_or xs k a)
 nth_map f [] k a b lt = absurd (omega arith)

@@ -1,14 +1,9 @@
 -- What is known behind a change is scoped where it was before, and a label says no more than itself.
-use Rattle.std.proofs.Common.{◌≡◌, ℕ, ◌<◌, ◌≤◌, ◌⊎◌, ◌≢◌, Bool, true, false, cond, List, [], ◌∷◌, refl, sym, ap, ◌∙◌, subst, inl, inr, ⊎_elim, arith}
+use Rattle.std.proofs.{Common.{◌≡◌, ℕ, ◌<◌, ◌≤◌, ◌⊎◌, ◌≢◌, Bool, true, false, cond, List, [], ◌∷◌, refl, sym, ap, ◌∙◌, subst, inl, inr, ⊎_elim, arith}, lemmas.Bool.eqb-false}
 use Rattle.std.specs.Prelude.{nat_eq}
-use Rattle.std.proofs.lemmas.Bool.{eqb-false}
-use Rattle.sharc_code.specs.declared.instr.Width.{Width}
-use Rattle.sharc_code.specs.declared.instr.Width.TheVariants.{Char, Int, Long}
-use Rattle.sharc_code.specs.Runs.{put}
+use Rattle.sharc_code.specs.{declared.instr.Width.Width, declared.instr.Width.TheVariants.{Char, Int, Long}, Runs.put}
 use Rattle.sharc_code.proofs.Places.{put_same, put_other, put_all}
-use Rattle.sharc_invariant.specs.Types.{Lock, StaticType, Mentions}
-use Rattle.sharc_invariant.specs.Types.Lock.{Global, Through, Self}
-use Rattle.sharc_invariant.specs.Labels.{Entry, Empty, Refers, Unknown, Number, Anything, Exactly, Within, Indexes, OfElement, OfGlobal, Gate, Closed, Checked, Holds, Loaded, HoldsLoaded, Sole, Label, Itself, IsCopy, SameLock, AllSame, LessEntry, Narrower, LessNumber, LessGate, Less, EntryMentions, HasBase, IsScoped, set_number, fill, empty, gated, knows, without_copies, without_index}
+use Rattle.sharc_invariant.specs.{Types.{Lock, StaticType, Mentions}, Types.Lock.{Global, Through, Self}, Labels.{Entry, Empty, Refers, Unknown, Number, Anything, Exactly, Within, Indexes, OfElement, OfGlobal, Gate, Closed, Checked, Holds, Loaded, HoldsLoaded, Sole, Label, Itself, IsCopy, SameLock, AllSame, LessEntry, Narrower, LessNumber, LessGate, Less, EntryMentions, HasBase, IsScoped, set_number, fill, empty, gated, knows, without_copies, without_index}}
 use Rattle.sharc_invariant.proofs.Frames.{kept_pass}
 
 -- ---- less than itself

@@ -1,16 +1,9 @@
 -- What the machine does to its words and registers is what the proof's world does.
-use Rattle.std.proofs.Common.{◌≡◌, ℕ, ◌+◌, ◌*◌, ◌<◌, ◌⊎◌, ◌≢◌, true, false, refl, sym, ap, ◌∙◌, subst, inl, inr, ⊎_elim, arith, ◌≤◌}
-use Rattle.std.proofs.lemmas.Bool.{cases_eq, cases_order}
-use Rattle.sharc_code.specs.declared.shape.Shape.{Shape}
-use Rattle.sharc_code.specs.Runs.{put}
+use Rattle.std.proofs.{Common.{◌≡◌, ℕ, ◌+◌, ◌*◌, ◌<◌, ◌⊎◌, ◌≢◌, true, false, refl, sym, ap, ◌∙◌, subst, ⊎_elim, arith, ◌≤◌}, lemmas.Bool.{cases_eq, cases_order}}
+use Rattle.sharc_code.specs.{declared.shape.Shape.Shape, Runs.put, Layout.granules}
 use Rattle.sharc_code.proofs.Places.{put_same, put_other, put_all}
-use Rattle.sharc_invariant.specs.Granules.{GranuleState}
-use Rattle.sharc_invariant.specs.Types.{Targets, Content, field_in, is_mutex, is_pointer}
-use Rattle.sharc_invariant.specs.Types.Content.{Integer, MutexWord, Waiters, Pointer}
-use Rattle.sharc_invariant.specs.World.{TypedReference, Holder, RegisterOf, ArgumentOf, LogOf, Staged, In, Cell, World, in_ref, place, put2, ObjectState}
-use Rattle.sharc_invariant.specs.Words.{MachineView, Shows, Apart, FitsContent, Reads, shadow_at, count_at, length_at, cell_at, store, set_reg, AreStale}
-use Rattle.sharc_invariant.proofs.Effects.{place_same, place_other, place_all, slot_cases}
-use Rattle.sharc_code.specs.Layout.{granules}
+use Rattle.sharc_invariant.specs.{Granules.GranuleState, Types.{Targets, Content, field_in, is_mutex, is_pointer}, Types.Content.{Integer, MutexWord, Waiters, Pointer}, World.{TypedReference, Holder, RegisterOf, ArgumentOf, LogOf, Staged, In, Cell, World, in_ref, place, put2, ObjectState}, Words.{MachineView, Shows, Apart, FitsContent, Reads, shadow_at, count_at, length_at, cell_at, store, set_reg, AreStale}}
+use Rattle.sharc_invariant.proofs.{Effects.{place_same, place_other, place_all, slot_cases}, Listed.pair_cases}
 use Rattle.sharc_shadow.specs.ShadowWord.{epoch_of}
 
 put2_away : (f : ℕ → ℕ → ℕ) (t i v u j : ℕ) → (u ≡ t → j ≡ i → ⊥) → f u j ≡ put2 f t i v u j
@@ -26,12 +19,6 @@ pub put2_off : {A : Type 0} (f : ℕ → ℕ → A) (t i u j : ℕ) (v : A) → 
 put2_off {A} f t i u j v ne = ⊎_elim
     (λ (e : u ≡ t). ap (λ u. f u j) e ∙ sym (put_other (f t) i j v (ne e)) ∙ ap (λ (g : ℕ → A). g j) (sym (put_same f t (put (f t) i v))) ∙ ap (λ u. put2 f t i v u j) (sym e))
     (λ (n : u ≡ t → ⊥). ap (λ (g : ℕ → A). g j) (sym (put_other f t u (put (f t) i v) n)))
-    (cases_eq u t)
-
-pub pair_cases : (u t j i : ℕ) → ((u ≡ t) × (j ≡ i)) ⊎ (u ≡ t → j ≡ i → ⊥)
-pair_cases u t j i = ⊎_elim
-    (λ (e : u ≡ t). ⊎_elim (λ (k : j ≡ i). inl (e, k)) (λ (n : j ≡ i → ⊥). inr (λ _ k. n k)) (cases_eq j i))
-    (λ (n : u ≡ t → ⊥). inr (λ e _. n e))
     (cases_eq u t)
 
 pointer_fits : (h : Content) (v : ℕ) → is_pointer h ≡ true → FitsContent h v

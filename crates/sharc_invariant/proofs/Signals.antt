@@ -1,45 +1,15 @@
 -- A signal keeps the invariant: in one turn it reads who waits, in others it takes the lowest waiter away.
-use Rattle.std.proofs.Common.{◌≡◌, ℕ, ◌+◌, ◌-◌, ◌^◌, ◌<◌, ◌⊎◌, Bool, true, false, cond, List, Some, None, refl, sym, ap, ◌∙◌, subst, inl, inr, ⊎_elim, arith, eqb-true}
+use Rattle.std.proofs.{Common.{◌≡◌, ℕ, ◌+◌, ◌-◌, ◌^◌, ◌<◌, ◌⊎◌, Bool, true, false, cond, List, Some, None, refl, sym, ap, ◌∙◌, subst, inl, inr, ⊎_elim, arith, eqb-true}, lemmas.Nat.and_le_l}
 use mathlib.Core.Path.{fun_ext}
 use Rattle.std.specs.Prelude.{length, slice_index, slice_set, ◌==◌}
-use Rattle.std.proofs.lemmas.Nat.{and_le_l}
 use Rattle.sharc_word.specs.declared.step.WordOp.TheVariants.{Load, Cas}
-use Rattle.sharc_shadow.specs.declared.shadow_word.Kind.{Kind}
-use Rattle.sharc_shadow.specs.declared.shadow_word.Kind.TheVariants.{Read, Write}
-use Rattle.sharc_shadow.specs.Accesses.{Accesses}
+use Rattle.sharc_shadow.specs.{declared.shadow_word.Kind.Kind, declared.shadow_word.Kind.TheVariants.{Read, Write}, Accesses.Accesses}
 use Rattle.sharc_cond.specs.Waiters.{without_lowest}
-use Rattle.sharc_code.specs.declared.code.Code.{Code}
-use Rattle.sharc_code.specs.declared.instr.Cell.{Cell}
+use Rattle.sharc_code.specs.{declared.code.Code.Code, declared.instr.Cell.Cell, declared.shape.Shape.Shape, declared.state.State.TheVariants.{Runs as RunsOn, Tries, Stopped, Ended}, declared.state.Stage.Stage, declared.state.Stage.TheVariants.{Rests, Looks, Clears, Makes, Empties, Lowers, FreeLooks, FreeClears, Uncounts, Links, Names, Hands, Begins, Enters, Withdraws, WithdrawsFrom, Leaves, Wakes}, Layout.Fits, Machine.{Machine, instr_at, word, wakes, rests, at_stage, step_of}, Path.{turn, may_go}, Runs.{Turn, Global, put, MayTurn, after_turn}, Whole.{one_thread, bounds}}
 use Rattle.sharc_code.specs.declared.instr.Instr.TheVariants as instrs
-use Rattle.sharc_code.specs.declared.shape.Shape.{Shape}
-use Rattle.sharc_code.specs.declared.state.State.TheVariants.{Runs as RunsOn, Tries, Stopped, Ended}
-use Rattle.sharc_code.specs.declared.state.Stage.{Stage}
-use Rattle.sharc_code.specs.declared.state.Stage.TheVariants.{Rests, Looks, Clears, Makes, Empties, Lowers, FreeLooks, FreeClears, Uncounts, Links, Names, Hands, Begins, Enters, Withdraws, WithdrawsFrom, Leaves, Wakes}
-use Rattle.sharc_code.specs.Layout.{Fits}
-use Rattle.sharc_code.specs.Machine.{Machine, instr_at, word, wakes, rests, at_stage, step_of}
-use Rattle.sharc_code.specs.Path.{turn, may_go}
-use Rattle.sharc_code.specs.Runs.{Turn, Global, put, MayTurn, after_turn}
-use Rattle.sharc_code.specs.Whole.{one_thread, bounds}
-use Rattle.sharc_code.proofs.Places.{ne_eq}
-use Rattle.sharc_invariant.specs.Types.{Targets, Field, field_in, is_pointer, is_mutex}
-use Rattle.sharc_invariant.specs.Types.Content.{Waiters}
-use Rattle.sharc_invariant.specs.Labels.{Label, Labels, LessGate, Closed}
-use Rattle.sharc_invariant.specs.Typed.{Fine, IsWellTyped}
-use Rattle.sharc_invariant.specs.World.{World, RegisterOf, in_ref}
-use Rattle.sharc_invariant.specs.Blocks.{Heap}
-use Rattle.sharc_invariant.specs.Words.{conc_of, Shows, FitsContent, cell_at, is_ended, staged_of, logged, noted_by, register_of, making_of}
-use Rattle.sharc_invariant.specs.Effect.{Silently}
-use Rattle.sharc_invariant.specs.Turns.{made_turn, made_conc}
-use Rattle.sharc_invariant.specs.State.{State, View, view_of, FramesStand, GateStands, TopStands, Runs, StageStands, OnSignal, SpawnsNow, label_now, object_of_cell, number_in}
-use Rattle.sharc_invariant.specs.Laws.{Turned}
-use Rattle.sharc_invariant.proofs.Frames.{less_stands}
-use Rattle.sharc_invariant.proofs.Others.{OnHold, loses}
-use Rattle.sharc_invariant.proofs.Quiet.{KeepsSelf, loud_state, heap_now, label_held, freed_held, noted_of, put_self, locks_kept}
-use Rattle.sharc_invariant.proofs.Turns.{asks_turn, room_of}
-use Rattle.sharc_invariant.proofs.Own.{closed_less, runs_at}
-use Rattle.sharc_invariant.proofs.Stores.{index_put, cell_store, stored_words, stored_within}
-use Rattle.sharc_invariant.proofs.Seen.{integer_stored}
-use Rattle.sharc_invariant.proofs.Cells.{cell_there}
+use Rattle.sharc_invariant.specs.{Types.{Targets, Field, field_in, is_pointer, is_mutex}, Types.Content.Waiters, Labels.{Label, Labels, LessGate, Closed}, Typed.{Fine, IsWellTyped}, World.{World, RegisterOf, in_ref}, Blocks.Heap, Words.{conc_of, Shows, FitsContent, cell_at, is_ended, staged_of, logged, noted_by, register_of, making_of}, Effect.Silently, Turns.{made_turn, made_conc}, State.{State, View, view_of, FramesStand, GateStands, TopStands, Runs, StageStands, OnSignal, SpawnsNow, label_now, object_of_cell, number_in}, Laws.Turned}
+use Rattle.sharc_invariant.proofs.{Frames.less_stands, Others.{OnHold, loses}, Quiet.{KeepsSelf, loud_state, heap_now, label_held, freed_held, noted_of, put_self, locks_kept}, Turns.{asks_turn, room_of}, Own.{closed_less, runs_at}, Stores.{index_put, cell_store, stored_words, stored_within}, Seen.integer_stored, Cells.cell_there}
+use Rattle.sharc_lemmas.proofs.Numbers.{ne_eq}
 
 -- the stages of a signal
 abbrev IsWaking : Stage → Type 0

@@ -1,9 +1,6 @@
 -- How many references there can be.
-use Rattle.std.proofs.Common.{◌≡◌, ℕ, zero, suc, ◌*◌, ◌≤◌, ap, ◌∙◌, ⊎_elim, arith}
-use Rattle.std.proofs.lemmas.Bool.{cases_eq}
-use Rattle.sharc_invariant.specs.Granules.{one, sum_to}
-use Rattle.sharc_invariant.specs.World.{TypedReference, RegisterOf, ArgumentOf, LogOf, Staged, Slot, In, Cell, Size, total}
-use Rattle.sharc_invariant.specs.State.{most_references}
+use Rattle.std.proofs.{Common.{◌≡◌, ℕ, zero, suc, ◌*◌, ◌≤◌, ap, ◌∙◌, ⊎_elim, arith}, lemmas.Bool.cases_eq}
+use Rattle.sharc_invariant.specs.{Granules.{one, sum_to}, World.{TypedReference, RegisterOf, ArgumentOf, LogOf, Staged, Slot, In, Cell, Size, total}, State.most_references}
 use Rattle.sharc_invariant.proofs.Sums.{one_same, one_other}
 
 one_low : (x o : ℕ) → one x o ≤ 1

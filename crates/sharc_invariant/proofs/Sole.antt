@@ -1,37 +1,13 @@
 -- A thread finds that it has the only reference to an object; and a register comes to hold NULL.
-use Rattle.std.proofs.Common.{◌≡◌, ℕ, suc, ◌+◌, ◌⊎◌, ◌≢◌, true, false, cond, Some, None, refl, sym, ap, ◌∙◌, subst, inl, inr, ⊎_elim, arith}
+use Rattle.std.proofs.{Common.{◌≡◌, ℕ, suc, ◌+◌, ◌⊎◌, ◌≢◌, true, false, cond, Some, None, refl, sym, ap, ◌∙◌, subst, inl, inr, ⊎_elim, arith}, lemmas.Bool.eqb-true}
 use mathlib.Core.Path.{fun_ext}
 use Rattle.std.specs.Prelude.{slice_index, ◌==◌}
-use Rattle.std.proofs.lemmas.Bool.{eqb-true}
 use Rattle.sharc_count.specs.Count.{test_of}
-use Rattle.sharc_code.specs.declared.code.Code.{Code}
+use Rattle.sharc_code.specs.{declared.code.Code.Code, declared.shape.Shape.Shape, declared.state.Stop.TheVariants.NotSole, Layout.{Fits, count_word}, Machine.{Machine, Asks, Local, instr_at, goes, set_ref, stopped, tested, ref}, Runs.{Turn, Global, MayTurn, after_turn}, Whole.{one_thread, bounds}}
 use Rattle.sharc_code.specs.declared.instr.Instr.TheVariants as instrs
-use Rattle.sharc_code.specs.declared.shape.Shape.{Shape}
-use Rattle.sharc_code.specs.declared.state.Stop.TheVariants.{NotSole}
-use Rattle.sharc_code.specs.Layout.{Fits, count_word}
-use Rattle.sharc_code.specs.Machine.{Machine, Asks, Local, instr_at, goes, set_ref, stopped, tested, ref}
-use Rattle.sharc_code.specs.Runs.{Turn, Global, MayTurn, after_turn}
-use Rattle.sharc_code.specs.Whole.{one_thread, bounds}
 use Rattle.sharc_code.proofs.Places.{put_same}
-use Rattle.sharc_invariant.specs.Types.{Targets}
-use Rattle.sharc_invariant.specs.Labels.{Gate, Closed, Checked, Holds, Loaded, HoldsLoaded, Sole as SoleGate, Label, Labels, LessGate, without_base}
-use Rattle.sharc_invariant.specs.Typed.{IsWellTyped}
-use Rattle.sharc_invariant.specs.World.{World, Window, Shut, Sole, WinOk, RegisterOf, In, in_ref, set_win, set_slot, null}
-use Rattle.sharc_invariant.specs.Words.{lang_of, conc_of}
-use Rattle.sharc_invariant.specs.Effect.{Silently}
-use Rattle.sharc_invariant.specs.Turns.{made_turn}
-use Rattle.sharc_invariant.specs.State.{State, View, view_of, TopStands, EntryStands, FramesStand, GateStands, IsSmall, refs_at, types_at, size_of_run}
-use Rattle.sharc_invariant.specs.Laws.{Turned}
-use Rattle.sharc_invariant.proofs.Effects.{set_slot_ok}
-use Rattle.sharc_invariant.proofs.Frames.{filled, kept_pass}
-use Rattle.sharc_invariant.proofs.Quiet.{put_self}
-use Rattle.sharc_invariant.proofs.Turns.{asks_turn, local_turn, room_of}
-use Rattle.sharc_invariant.proofs.Own.{runs, rests, top, fine}
-use Rattle.sharc_invariant.proofs.Plain.{register_plain, is_shut, stop_state, same_words}
-use Rattle.sharc_invariant.proofs.Seen.{reg_stored}
-use Rattle.sharc_invariant.proofs.Filled.{filled_state, inside_world, free_shut}
-use Rattle.sharc_invariant.proofs.Counts.{count_is, filled_silent}
-use Rattle.sharc_invariant.proofs.Accesses.{windowed_state, loaded_words, silent_window}
+use Rattle.sharc_invariant.specs.{Types.Targets, Labels.{Gate, Closed, Checked, Holds, Loaded, HoldsLoaded, Sole as SoleGate, Label, Labels, LessGate, without_base}, Typed.IsWellTyped, World.{World, Window, Shut, Sole, WinOk, RegisterOf, In, in_ref, set_win, set_slot, null}, Words.{lang_of, conc_of}, Effect.Silently, Turns.made_turn, State.{State, View, view_of, TopStands, EntryStands, FramesStand, GateStands, IsSmall, refs_at, types_at, size_of_run}, Laws.Turned}
+use Rattle.sharc_invariant.proofs.{Effects.set_slot_ok, Frames.{filled, kept_pass}, Quiet.put_self, Turns.{asks_turn, local_turn, room_of}, Own.{runs, rests, top, fine}, Plain.{register_plain, is_shut, stop_state, same_words}, Seen.reg_stored, Filled.{filled_state, inside_world, free_shut}, Counts.{count_is, filled_silent}, Accesses.{windowed_state, loaded_words, silent_window}}
 
 sole_gate : (r : ℕ) (y : Gate) → LessGate (SoleGate r false) y → (y ≡ Closed) ⊎ (y ≡ SoleGate r false)
 sole_gate r Closed h = inl refl

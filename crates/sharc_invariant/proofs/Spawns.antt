@@ -1,68 +1,19 @@
 -- Spawn's first three turns keep the invariant: a number is given out, and the function and the argument are written.
-use Rattle.std.proofs.Common.{◌≡◌, ℕ, ℤ, pos, zero, suc, ◌+◌, ◌*◌, ◌^◌, ◌<◌, ◌≤◌, ◌≢◌, ◌&&◌, Bool, true, false, cond, List, Option, Some, None, refl, sym, ap, ◌∙◌, subst, inl, inr, ⊎_elim, arith, ltb-true}
+use Rattle.std.proofs.{Common.{◌≡◌, ℕ, ℤ, pos, zero, suc, ◌+◌, ◌*◌, ◌^◌, ◌<◌, ◌≤◌, ◌≢◌, ◌&&◌, Bool, true, false, cond, List, Option, Some, None, refl, sym, ap, ◌∙◌, subst, inl, inr, ⊎_elim, arith, ltb-true}, lemmas.Bool.cases_eq, lemmas.Bool.Decides.nat_tests, lemmas.List.{length-set, get_or-set_same, get_or-set_other}}
 use mathlib.Core.Path.{fun_ext}
 use Rattle.std.specs.Prelude.{◌%◌, length, slice_index, slice_set, nat_lt, nat_eq, ◌||◌, ◌==◌}
-use Rattle.std.proofs.lemmas.Bool.{cases_eq}
-use Rattle.std.proofs.lemmas.Bool.Decides.{nat_tests}
-use Rattle.std.proofs.lemmas.List.{length-set, get_or-set_same, get_or-set_other}
 use Rattle.sharc_tree.specs.declared.trap.Trap.TheVariants as traps
-use Rattle.sharc_word.specs.declared.step.TheConstants.{THREADS}
-use Rattle.sharc_word.specs.declared.step.WordOp.TheVariants.{Swap, Add}
-use Rattle.sharc_locks.specs.declared.held_log.HeldMutex.{HeldMutex}
-use Rattle.sharc_locks.specs.HeldLog.{object_of}
-use Rattle.sharc_shadow.specs.declared.shadow_word.Kind.{Kind}
-use Rattle.sharc_shadow.specs.declared.shadow_word.Kind.TheVariants.{Read, Write}
-use Rattle.sharc_shadow.specs.Accesses.{Accesses, note_of}
-use Rattle.sharc_code.specs.declared.state.TheConstants.{FRAMES}
-use Rattle.sharc_code.specs.declared.code.Code.{Code}
+use Rattle.sharc_word.specs.{declared.step.TheConstants.THREADS, declared.step.WordOp.TheVariants.{Swap, Add}}
+use Rattle.sharc_locks.specs.{declared.held_log.HeldMutex.HeldMutex, HeldLog.object_of}
+use Rattle.sharc_shadow.specs.{declared.shadow_word.Kind.Kind, declared.shadow_word.Kind.TheVariants.{Read, Write}, Accesses.{Accesses, note_of}, ShadowWord.epoch_of}
+use Rattle.sharc_code.specs.{declared.state.TheConstants.FRAMES, declared.code.Code.Code, declared.shape.Shape.Shape, declared.state.Frame.Frame, declared.state.State.TheVariants.{Runs as RunsOn}, declared.state.Stage.Stage, declared.state.Stage.TheVariants.{Rests, Looks, Clears, Makes, Empties, Lowers, FreeLooks, FreeClears, Uncounts, Links, Names, Hands, Begins, Enters, Withdraws, WithdrawsFrom, Leaves, Wakes}, Arithmetic.{holds, int_of}, declared.instr.Width.TheVariants.Char, Layout.{Fits, next_thread_word, state_word, function_word, argument_word, first_cell, top_word}, Machine.{Machine, int, ref, set_int, handed, reference_of, function_of, instr_at, step_of, at_stage, stopped, numbered, argument, spawn, start}, Path.{begun, turn, may_go, counted}, Runs.{Turn, Global, put, is_started, MayTurn, after_turn}, Whole.{one_thread, bounds}, declared.instr.Register.Register, declared.state.Stop.TheVariants.Trap}
 use Rattle.sharc_code.specs.declared.code.Parameter.TheVariants as parameters
 use Rattle.sharc_code.specs.declared.instr.Instr.TheVariants as instrs
-use Rattle.sharc_code.specs.declared.shape.Shape.{Shape}
-use Rattle.sharc_code.specs.declared.state.Frame.{Frame}
-use Rattle.sharc_code.specs.declared.state.State.{State as StateOf}
-use Rattle.sharc_code.specs.declared.state.State.TheVariants.{Runs as RunsOn, Tries, Stopped, Ended}
-use Rattle.sharc_code.specs.declared.state.Stage.{Stage}
-use Rattle.sharc_code.specs.declared.state.Stage.TheVariants.{Rests, Looks, Clears, Makes, Empties, Lowers, FreeLooks, FreeClears, Uncounts, Links, Names, Hands, Begins, Enters, Withdraws, WithdrawsFrom, Leaves, Wakes}
-use Rattle.sharc_code.specs.Arithmetic.{holds, int_of}
-use Rattle.sharc_code.specs.declared.instr.Width.TheVariants.{Char}
-use Rattle.sharc_code.specs.Layout.{Fits, next_thread_word, state_word, function_word, argument_word}
-use Rattle.sharc_code.specs.Machine.{Machine, int, ref, set_int, handed, Asks, reference_of, function_of, instr_at, no_frame, step_of, at_stage, stopped, numbered, argument, spawn, called, trapped, with_parameter, entered, start}
-use Rattle.sharc_code.specs.Path.{begun, turn, may_go, counted}
-use Rattle.sharc_code.specs.Runs.{Turn, Global, put, is_started, MayTurn, after_turn}
-use Rattle.sharc_code.specs.Whole.{one_thread, bounds}
-use Rattle.sharc_code.proofs.Places.{put_same, put_other, put_all, ne_eq}
-use Rattle.sharc_invariant.specs.Types.{Targets, ObjectType, nothing, is_private}
-use Rattle.sharc_invariant.specs.Labels.{LessGate, Entry, Empty, Refers, Unknown, Number, Anything, Exactly, Within, Indexes, OfElement, OfGlobal, Named, Nth, HasName, empty, set_number, Closed, Label, Labels, Leads, HasBase}
-use Rattle.sharc_invariant.specs.Typed.{IsShared, Passes, IsWellTyped, Fine}
-use Rattle.sharc_invariant.specs.World.{Window, TypedReference, Holder, RegisterOf, ArgumentOf, LogOf, Staged, In, Slot, Cell as CellOf, World, Shut, Sole, WorldInvariant, in_ref, none, place, shift}
-use Rattle.sharc_invariant.specs.Words.{MachineView, conc_of, lang_of, Shows, is_first, is_unread, if_reference, note_number, register_of, argument_of, staged_of, noted_by, logged, is_ended, has_withdrawn, set_reg, making_of}
-use Rattle.sharc_invariant.specs.Effect.{Silently}
-use Rattle.sharc_invariant.specs.Turns.{made_turn, KeepsOthers}
-use Rattle.sharc_invariant.specs.State.{StopStands, State, IsSmall, View, view_of, vals_of, Runs, ThreadStands, Threads, Firsts, Reserves, SpawnsNow, EntryStands, NumberStands, TopStands, BelowStands, FramesStand, GateStands, StageStands, label_now, refs_at, types_at, size_of_run}
-use Rattle.sharc_invariant.specs.Laws.{Turned}
-use Rattle.sharc_invariant.proofs.Effects.{place_same, place_other, shift_ok}
-use Rattle.sharc_invariant.proofs.Frames.{empty_stands, Agrees, Low, callers_agree, less_number, filled, less_stands, entry_kept}
-use Rattle.sharc_invariant.proofs.Quiet.{KeepsThread, KeepsMost, heap_now, most_state, sum_up, label_held, freed_held}
-use Rattle.sharc_invariant.proofs.Others.{OnHold, loses}
-use Rattle.sharc_invariant.proofs.Turns.{asks_turn, room_of}
-use Rattle.sharc_invariant.proofs.Own.{ref_inside, int_inside, closed_less, runs_at}
-use Rattle.sharc_invariant.proofs.Filled.{view_filled, below_filled, free_shut}
-use Rattle.sharc_invariant.proofs.Calls.{passed_entry}
-use Rattle.sharc_invariant.proofs.Listed.{store_ok}
-use Rattle.sharc_invariant.proofs.Accesses.{back_again}
-use Rattle.sharc_invariant.proofs.Begun.{begun_stands, begun_regs}
-use Rattle.sharc_invariant.proofs.Stores.{index_put}
-use Rattle.sharc_invariant.proofs.Seen.{reg_stored, stale_off}
-use Rattle.sharc_invariant.proofs.Sums.{sum_one}
-use Rattle.sharc_invariant.specs.Blocks.{Kept}
-use Rattle.sharc_invariant.specs.Granules.{sum_to}
-use Rattle.sharc_invariant.specs.Types.{field_in}
-use Rattle.sharc_invariant.specs.Words.{FitsContent, Reads, store, cell_at, count_at, length_at, shadow_at}
-use Rattle.sharc_code.specs.Layout.{first_cell, top_word}
-use Rattle.sharc_shadow.specs.ShadowWord.{epoch_of}
-use Rattle.sharc_code.specs.declared.instr.Register.{Register}
+use Rattle.sharc_code.proofs.Places.{put_same, put_other, put_all}
+use Rattle.sharc_invariant.specs.{Types.{Targets, ObjectType, nothing, is_private, field_in}, Labels.{LessGate, Entry, Empty, Refers, Unknown, Number, Anything, Exactly, Within, Indexes, OfElement, OfGlobal, Named, Nth, HasName, empty, set_number, Closed, Label, Labels, Leads, HasBase}, Typed.{IsShared, Passes, IsWellTyped, Fine}, World.{Window, TypedReference, Holder, RegisterOf, ArgumentOf, LogOf, Staged, In, Slot, Cell as CellOf, World, Shut, Sole, WorldInvariant, in_ref, none, place, shift}, Words.{MachineView, conc_of, lang_of, Shows, is_first, is_unread, if_reference, note_number, register_of, argument_of, staged_of, noted_by, logged, is_ended, has_withdrawn, set_reg, making_of, FitsContent, Reads, store, cell_at, count_at, length_at, shadow_at}, Effect.Silently, Turns.{made_turn, KeepsOthers}, State.{StopStands, State, IsSmall, View, view_of, vals_of, Runs, ThreadStands, Threads, Firsts, Reserves, SpawnsNow, EntryStands, NumberStands, TopStands, BelowStands, FramesStand, GateStands, StageStands, label_now, refs_at, types_at, size_of_run}, Laws.Turned, Blocks.Kept, Granules.sum_to}
+use Rattle.sharc_invariant.proofs.{Effects.{place_same, place_other, shift_ok}, Frames.{empty_stands, Agrees, Low, callers_agree, less_number, filled, less_stands, entry_kept}, Quiet.{KeepsThread, KeepsMost, heap_now, most_state, sum_up, label_held}, Others.{OnHold, loses}, Turns.{asks_turn, room_of}, Own.{ref_inside, int_inside, closed_less, runs_at}, Filled.{view_filled, below_filled, free_shut}, Calls.passed_entry, Listed.store_ok, Accesses.back_again, Begun.{begun_stands, begun_regs}, Stores.index_put, Seen.{reg_stored, stale_off}, Sums.sum_one, Starts.{register_held, going_on}}
 use Rattle.sharc_code.specs.declared.instr.Register.TheVariants as registers
-use Rattle.sharc_code.specs.declared.state.Stop.TheVariants.{Trap}
+use Rattle.sharc_lemmas.proofs.Numbers.{ne_eq}
 
 -- a word below the shadow words shows nothing of the world
 low_stored : (x : Targets) (s : Shape) (cells elements : ℕ → ℕ) (c : MachineView) (w : World) (k v : ℕ) → k < 97 → Shows x s cells elements c w → Shows x s cells elements (store c k v) w
@@ -129,22 +80,13 @@ spawning_withdrawn (WithdrawsFrom a b) order ended p e = absurd (cc)
 spawning_withdrawn Leaves order ended p e = absurd (cc)
 spawning_withdrawn _ order ended p e = refl
 
-going_on : (y : StateOf) → may_go y ≡ true → is_ended y ≡ false
-going_on RunsOn e = refl
-going_on Tries e = refl
-going_on Stopped e = refl
-going_on Ended e = absurd (cc)
-
-register_held : (code : Code) (m : Machine) → OnHold m.own.stage → (i : ℕ) → register_of code m i ≡ slice_index m.refs i
-register_held code m h i = ap (λ b. cond b 0 (slice_index m.refs i)) (freed_held (instr_at code m.at.pc) m.own.stage m.at.refs i h)
-
 spawning_notes : (m m' : Machine) → m'.own.table ≡ m.own.table → is_spawning m.own.stage ≡ true → is_spawning m'.own.stage ≡ true → is_ended m.at.state ≡ false → is_ended m'.at.state ≡ false → (kind : Kind) (p : ℕ) → noted_by m' kind p ≡ noted_by m kind p
 spawning_notes m m' et es er eb ee kind p =
     let a = spawning_withdrawn m.own.stage m.own.table.order (is_ended m.at.state) p es ∙ eb in
     let b = spawning_withdrawn m'.own.stage m'.own.table.order (is_ended m'.at.state) p er ∙ ee in
     ap (λ b. cond b 0 (note_number (note_of m'.own.table p kind))) b ∙ ap (λ (tb : Accesses). note_number (note_of tb p kind)) et ∙ ap (λ b. cond b 0 (note_number (note_of m.own.table p kind))) (sym a)
 
-no_argument : (b c : Bool) (v : ℕ) → c ≡ false → cond (b && c) v 0 ≡ 0
+pub no_argument : (b c : Bool) (v : ℕ) → c ≡ false → cond (b && c) v 0 ≡ 0
 no_argument true c v e = ap (λ c. cond c v 0) e
 no_argument false c v e = refl
 

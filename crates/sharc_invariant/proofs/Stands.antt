@@ -1,38 +1,14 @@
 -- Of counts, references and windows the invariant says what the machine invariant does.
-use Rattle.std.proofs.Common.{◌≡◌, ℕ, zero, suc, ◌+◌, ◌*◌, ◌/◌, ◌<◌, ◌≢◌, ◌⊎◌, true, false, cond, refl, sym, ap, ◌∙◌, subst, inl, inr, ⊎_elim, arith}
+use Rattle.std.proofs.{Common.{◌≡◌, ℕ, zero, suc, ◌+◌, ◌*◌, ◌/◌, ◌<◌, ◌≢◌, ◌⊎◌, true, false, cond, refl, sym, ap, ◌∙◌, subst, inl, inr, ⊎_elim, arith}, lemmas.Bool.{cases_eq, cases_Bool, and_parts, and_from, ltb-true, lt-ltb, true_from_ne_false}}
 use mathlib.Core.Path.{fun_ext}
 use Rattle.std.specs.Prelude.{slice_index, nat_lt, ◌&&◌}
-use Rattle.std.proofs.lemmas.Bool.{cases_eq, cases_Bool, and_parts, and_from, ltb-true, lt-ltb, true_from_ne_false}
 use Rattle.sharc_word.specs.declared.step.TheConstants.{THREADS}
-use Rattle.sharc_code.specs.declared.state.TheConstants.{FRAMES}
-use Rattle.sharc_code.specs.declared.code.Code.{Code}
-use Rattle.sharc_code.specs.declared.instr.Cell.{Cell}
+use Rattle.sharc_code.specs.{declared.state.TheConstants.FRAMES, declared.code.Code.Code, declared.instr.Cell.Cell, declared.instr.Instr.Instr, declared.shape.Shape.Shape, declared.state.Stage.Stage, declared.state.Stage.TheVariants.Links, Layout.{granules, words_of, cell_word, cell_of, count_word, length_word}, Machine.{Machine, instr_at, ref}, Path.most_refs, Runs.Global}
 use Rattle.sharc_code.specs.declared.instr.Cell.TheVariants as cells
-use Rattle.sharc_code.specs.declared.instr.Instr.{Instr}
 use Rattle.sharc_code.specs.declared.instr.Instr.TheVariants as instrs
-use Rattle.sharc_code.specs.declared.shape.Shape.{Shape}
-use Rattle.sharc_code.specs.declared.state.Stage.{Stage}
-use Rattle.sharc_code.specs.declared.state.Stage.TheVariants.{Links}
-use Rattle.sharc_code.specs.Layout.{granules, words_of, cell_word, cell_of, count_word, length_word}
-use Rattle.sharc_code.specs.Machine.{Machine, instr_at, ref}
-use Rattle.sharc_code.specs.Path.{most_refs}
-use Rattle.sharc_code.specs.Runs.{Global}
-use Rattle.sharc_code.proofs.Places.{ne_eq}
-use Rattle.sharc_invariant.specs.Granules.{one, sum_to}
-use Rattle.sharc_invariant.specs.Types.{Targets, cells_of, field_in, is_pointer, is_private, type_at, type_of}
-use Rattle.sharc_invariant.specs.Labels.{Gate, Closed, Checked, Holds, Loaded, HoldsLoaded, Sole, Empty, Refers, Unknown, Label, Labels}
-use Rattle.sharc_invariant.specs.Typed.{IsWellTyped}
-use Rattle.sharc_invariant.specs.World.{TypedReference, Holder, RegisterOf, ArgumentOf, LogOf, Staged, Slot, In, Cell as CellOf, ObjectState, Window, May, Loaded as IsLoaded, Sole as IsSoleOf, World, WinOk, Based, base_of, total, Size, in_ref, Refers as RefersTo, Laws}
-use Rattle.sharc_invariant.specs.Words.{lang_of, register_of, argument_of, is_freed, count_at, cell_at}
-use Rattle.sharc_invariant.specs.State.{State, EntryStands, GateStands, label_now, view_of, refs_at, types_at, base_of_cell, object_of_cell, number_in, size_of_run}
-use Rattle.sharc_invariant.specs.MachineInvariant.{cells_now, is_pointer_now, cell_refers, register_refers, log_refers, hand_refers, references_to, Has, IsTyped, IsKept, HoldsStill, IsAlone, WindowStands, WasLoaded, IsSole, IsOn, label_of, HasType, MachineInvariant}
-use Rattle.sharc_invariant.specs.Laws.{StateStands}
-use Rattle.sharc_invariant.proofs.Sums.{sum_ext}
-use Rattle.sharc_invariant.proofs.Counts.{count_is}
-use Rattle.sharc_invariant.proofs.Frees.{length_is}
-use Rattle.sharc_invariant.proofs.Empties.{cell_word_is}
-use Rattle.sharc_invariant.proofs.Effects.{sole_at, only_slot}
-use Rattle.sharc_invariant.proofs.Loads.{lang_laws}
+use Rattle.sharc_invariant.specs.{Granules.{one, sum_to}, Types.{Targets, cells_of, field_in, is_pointer, is_private, type_at, type_of}, Labels.{Gate, Closed, Checked, Holds, Loaded, HoldsLoaded, Sole, Empty, Refers, Unknown, Label, Labels}, Typed.IsWellTyped, World.{Holder, RegisterOf, ArgumentOf, LogOf, Staged, Slot, In, Cell as CellOf, ObjectState, Loaded as IsLoaded, Sole as IsSoleOf, World, WinOk, Based, base_of, total, in_ref}, Words.{lang_of, register_of, argument_of, is_freed, count_at, cell_at}, State.{State, EntryStands, GateStands, label_now, view_of, refs_at, types_at, base_of_cell, object_of_cell, number_in, size_of_run}, MachineInvariant.{cells_now, is_pointer_now, cell_refers, register_refers, log_refers, hand_refers, references_to, Has, IsTyped, IsKept, HoldsStill, IsAlone, WindowStands, WasLoaded, IsSole, IsOn, label_of, HasType, MachineInvariant}, Laws.StateStands}
+use Rattle.sharc_invariant.proofs.{Sums.sum_ext, Counts.count_is, Frees.length_is, Empties.cell_word_is, Effects.{sole_at, only_slot}, Loads.lang_laws}
+use Rattle.sharc_lemmas.proofs.Numbers.{ne_eq}
 
 -- where something stands directly before, the registers of a thread refer to what they hold
 registers_shown : (l : Label) (i : Instr) (stage : Stage) (base : ℕ) → ((label_now l i stage).gate ≡ Closed) ⊎ ((j : ℕ) → is_freed i stage base j ≡ false)

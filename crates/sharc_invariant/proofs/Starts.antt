@@ -1,55 +1,18 @@
 -- Start keeps the invariant: a thread loads its function, and then its argument, and enters it.
-use Rattle.std.proofs.Common.{◌≡◌, ℕ, ℤ, pos, suc, ◌+◌, ◌*◌, ◌^◌, ◌<◌, ◌≢◌, ◌⊎◌, ◌&&◌, Bool, true, false, cond, List, Some, None, refl, sym, ap, ◌∙◌, subst, inl, inr, ⊎_elim, arith}
+use Rattle.std.proofs.{Common.{◌≡◌, ℕ, ℤ, pos, suc, ◌+◌, ◌*◌, ◌^◌, ◌<◌, ◌≢◌, ◌⊎◌, ◌&&◌, Bool, true, false, cond, List, Some, None, refl, sym, ap, ◌∙◌, subst, inl, inr, ⊎_elim, arith}, lemmas.Bool.cases_eq, lemmas.Bool.Decides.nat_tests, lemmas.List.{length-set, get_or-set_same, get_or-set_other, set-get_or}}
 use mathlib.Core.Path.{fun_ext}
 use Rattle.std.specs.Prelude.{length, slice_index, slice_index_or, slice_set, nat_lt, ◌==◌}
-use Rattle.std.proofs.lemmas.Bool.{cases_eq}
-use Rattle.std.proofs.lemmas.Bool.Decides.{nat_tests}
-use Rattle.std.proofs.lemmas.List.{length-set, get_or-set_same, get_or-set_other, set-get_or}
 use Rattle.sharc_tree.specs.declared.trap.Trap.TheVariants as traps
-use Rattle.sharc_word.specs.declared.step.TheConstants.{THREADS}
-use Rattle.sharc_word.specs.declared.step.WordOp.TheVariants.{Load}
-use Rattle.sharc_locks.specs.declared.held_log.HeldMutex.{HeldMutex}
-use Rattle.sharc_locks.specs.HeldLog.{object_of}
-use Rattle.sharc_shadow.specs.declared.shadow_word.Kind.{Kind}
-use Rattle.sharc_shadow.specs.declared.shadow_word.Kind.TheVariants.{Read, Write}
-use Rattle.sharc_shadow.specs.Accesses.{Accesses, note_of}
-use Rattle.sharc_code.specs.declared.state.TheConstants.{FRAMES}
-use Rattle.sharc_code.specs.declared.code.Code.{Code}
-use Rattle.sharc_code.specs.declared.code.Parameter.{Parameter}
+use Rattle.sharc_word.specs.{declared.step.TheConstants.THREADS, declared.step.WordOp.TheVariants.Load}
+use Rattle.sharc_locks.specs.{declared.held_log.HeldMutex.HeldMutex, HeldLog.object_of}
+use Rattle.sharc_shadow.specs.{declared.shadow_word.Kind.Kind, declared.shadow_word.Kind.TheVariants.{Read, Write}, Accesses.{Accesses, note_of}}
+use Rattle.sharc_code.specs.{declared.state.TheConstants.FRAMES, declared.code.Code.Code, declared.code.Parameter.Parameter, declared.shape.Shape.Shape, declared.state.At.At, declared.state.Frame.Frame, declared.state.State.{State as StateOf}, declared.state.State.TheVariants.{Runs as RunsOn, Tries, Stopped, Ended}, declared.state.Stage.Stage, declared.state.Stage.TheVariants.{Rests, Looks, Clears, Makes, Empties, Lowers, FreeLooks, FreeClears, Uncounts, Links, Names, Hands, Begins, Enters, Withdraws, WithdrawsFrom, Leaves, Wakes}, Arithmetic.int_of, Layout.{Fits, function_at, state_word, function_word, argument_word}, Machine.{Machine, Asks, reference_of, function_of, instr_at, no_frame, step_of, at_stage, called, trapped, with_parameter, entered, start}, Path.{turn, may_go, counted, most_refs}, Runs.{Turn, Global, put, MayTurn, after_turn}, Whole.{one_thread, bounds}}
 use Rattle.sharc_code.specs.declared.code.Parameter.TheVariants as parameters
 use Rattle.sharc_code.specs.declared.instr.Instr.TheVariants as instrs
-use Rattle.sharc_code.specs.declared.shape.Shape.{Shape}
-use Rattle.sharc_code.specs.declared.state.At.{At}
-use Rattle.sharc_code.specs.declared.state.Frame.{Frame}
-use Rattle.sharc_code.specs.declared.state.State.{State as StateOf}
-use Rattle.sharc_code.specs.declared.state.State.TheVariants.{Runs as RunsOn, Tries, Stopped, Ended}
-use Rattle.sharc_code.specs.declared.state.Stage.{Stage}
-use Rattle.sharc_code.specs.declared.state.Stage.TheVariants.{Rests, Looks, Clears, Makes, Empties, Lowers, FreeLooks, FreeClears, Uncounts, Links, Names, Hands, Begins, Enters, Withdraws, WithdrawsFrom, Leaves, Wakes}
-use Rattle.sharc_code.specs.Arithmetic.{int_of}
-use Rattle.sharc_code.specs.Layout.{Fits, function_at, state_word, function_word, argument_word}
-use Rattle.sharc_code.specs.Machine.{Machine, Asks, reference_of, function_of, instr_at, no_frame, step_of, at_stage, called, trapped, with_parameter, entered, start}
-use Rattle.sharc_code.specs.Path.{turn, may_go, counted, most_refs}
-use Rattle.sharc_code.specs.Runs.{Turn, Global, put, MayTurn, after_turn}
-use Rattle.sharc_code.specs.Whole.{one_thread, bounds}
-use Rattle.sharc_code.proofs.Places.{put_same, put_other, put_all, ne_eq}
-use Rattle.sharc_invariant.specs.Types.{Targets, nothing}
-use Rattle.sharc_invariant.specs.Labels.{Empty, Refers, Unknown, Label, Labels, Less, HasBase}
-use Rattle.sharc_invariant.specs.Typed.{IsWellTyped, Fine, MayStart, entry_label, refs_in}
-use Rattle.sharc_invariant.specs.World.{TypedReference, Holder, RegisterOf, ArgumentOf, LogOf, Staged, In, Slot, Cell as CellOf, World, Shut, Sole, WorldInvariant, Free, in_ref, none, place, put2, shift}
-use Rattle.sharc_invariant.specs.Words.{MachineView, conc_of, lang_of, Shows, is_first, is_unread, if_reference, note_number, register_of, argument_of, staged_of, noted_by, logged, is_ended, has_withdrawn, making_of}
-use Rattle.sharc_invariant.specs.Effect.{Silently}
-use Rattle.sharc_invariant.specs.Turns.{made_turn, KeepsOthers}
-use Rattle.sharc_invariant.specs.State.{State, View, view_of, Runs, Threads, Firsts, SpawnsNow, EntryStands, NumberStands, TopStands, StartStands, FramesStand, GateStands, StageStands, OnStart, label_now, frame_at, refs_at, types_at, size_of_run}
-use Rattle.sharc_invariant.specs.Laws.{Turned}
-use Rattle.sharc_invariant.proofs.Effects.{place_same, place_other, shift_ok}
-use Rattle.sharc_invariant.proofs.Frames.{less_stands, entry_kept, number_kept}
-use Rattle.sharc_invariant.proofs.Quiet.{KeepsThread, heap_now, started_same, sum_up, kept_state, label_held, freed_held}
-use Rattle.sharc_invariant.proofs.Others.{OnHold, loses}
-use Rattle.sharc_invariant.proofs.Turns.{asks_turn, room_of}
-use Rattle.sharc_invariant.proofs.Own.{closed_less, runs_at, refs_most, ints_most}
-use Rattle.sharc_invariant.proofs.Plain.{same_words, same_others}
-use Rattle.sharc_invariant.proofs.Filled.{free_shut}
-use Rattle.sharc_invariant.proofs.Seen.{reg_stored}
+use Rattle.sharc_code.proofs.Places.{put_same, put_other, put_all}
+use Rattle.sharc_invariant.specs.{Types.{Targets, nothing}, Labels.{Empty, Refers, Unknown, Label, Labels, Less, HasBase}, Typed.{IsWellTyped, Fine, MayStart, entry_label, refs_in}, World.{TypedReference, Holder, RegisterOf, ArgumentOf, LogOf, Staged, In, Slot, Cell as CellOf, World, Shut, Sole, WorldInvariant, in_ref, none, place, shift}, Words.{MachineView, conc_of, lang_of, Shows, is_first, is_unread, if_reference, note_number, register_of, argument_of, staged_of, noted_by, logged, is_ended, has_withdrawn, making_of}, Effect.Silently, Turns.{made_turn, KeepsOthers}, State.{State, View, view_of, Runs, Threads, Firsts, SpawnsNow, EntryStands, NumberStands, TopStands, StartStands, FramesStand, GateStands, StageStands, OnStart, label_now, frame_at, refs_at, types_at, size_of_run}, Laws.Turned}
+use Rattle.sharc_invariant.proofs.{Effects.{place_same, place_other, shift_ok}, Frames.{less_stands, entry_kept, number_kept}, Quiet.{KeepsThread, heap_now, started_same, sum_up, kept_state, label_held, freed_held}, Others.{OnHold, loses}, Turns.{asks_turn, room_of}, Own.{closed_less, runs_at, refs_most, ints_most}, Plain.{same_words, same_others}, Filled.free_shut, Seen.reg_stored}
+use Rattle.sharc_lemmas.proofs.Numbers.{ne_eq}
 
 -- ---- the machine that enters a function
 pub called_first : (n : Machine) (pc site : ℕ) → n.at.pc ≡ 0 → n.at.ints ≡ 0 → n.at.refs ≡ 0 → n.at.depth ≡ 0 → 0 < length n.frames
@@ -63,7 +26,7 @@ called_first n pc site ep ei er ed lt =
     ap (λ a. F a n.at.ints n.at.refs n.at.depth) ep ∙ ap (λ b. F 0 b n.at.refs n.at.depth) ei ∙ ap (λ c. F 0 0 c n.at.depth) er ∙ ap (F 0 0 0) ed
     ∙ ap (λ b. cond ((b && true) && true) (record n { at = record { pc = pc; ints = 0; refs = 0; depth = 1; state = RunsOn }; frames = slice_set n.frames 0 record { pc = 1; ints = 0; refs = 0 } }) (trapped n traps.CallDepth site)) q
 
-register_held : (code : Code) (m : Machine) → OnHold m.own.stage → (i : ℕ) → register_of code m i ≡ slice_index m.refs i
+pub register_held : (code : Code) (m : Machine) → OnHold m.own.stage → (i : ℕ) → register_of code m i ≡ slice_index m.refs i
 register_held code m h i = ap (λ b. cond b 0 (slice_index m.refs i)) (freed_held (instr_at code m.at.pc) m.own.stage m.at.refs i h)
 
 abbrev pub is_early : Stage → Bool
@@ -102,7 +65,7 @@ early_withdrawn Rests order ended p e = refl
 early_withdrawn (Enters f) order ended p e = refl
 early_withdrawn _ order ended p e = absurd (cc)
 
-going_on : (y : StateOf) → may_go y ≡ true → is_ended y ≡ false
+pub going_on : (y : StateOf) → may_go y ≡ true → is_ended y ≡ false
 going_on RunsOn e = refl
 going_on Tries e = refl
 going_on Stopped e = refl

@@ -1,39 +1,14 @@
 -- Turns that ask the words nothing: the thread's place and one of its integers change, and what is known there.
-use Rattle.std.proofs.Common.{◌≡◌, ℕ, ℤ, suc, ◌+◌, ◌<◌, ◌≤◌, ◌≢◌, Bool, true, false, cond, not, Result, Ok, Err, refl, sym, ap, ◌∙◌, subst, ⊎_elim, arith}
+use Rattle.std.proofs.{Common.{◌≡◌, ℕ, ℤ, suc, ◌+◌, ◌<◌, ◌≤◌, ◌≢◌, Bool, true, false, cond, not, Result, Ok, Err, refl, sym, ap, ◌∙◌, subst, ⊎_elim, arith}, lemmas.Bool.eqb-true, lemmas.Bool.Decides.nat_tests}
 use Rattle.std.specs.Prelude.{neg_ℤ, length, nat_lt, ◌==◌}
-use Rattle.std.proofs.lemmas.Bool.{eqb-true}
-use Rattle.std.proofs.lemmas.Bool.Decides.{nat_tests}
 use Rattle.sharc_tree.specs.declared.trap.Trap.{Trap}
 use Rattle.sharc_tree.specs.declared.trap.Trap.TheVariants as traps
-use Rattle.sharc_code.specs.declared.code.Code.{Code}
-use Rattle.sharc_code.specs.declared.instr.Cell.{Cell}
-use Rattle.sharc_code.specs.declared.instr.Width.{Width}
-use Rattle.sharc_code.specs.declared.instr.Width.TheVariants.{Char, Int, Long}
-use Rattle.sharc_code.specs.declared.instr.Instr.{Instr}
+use Rattle.sharc_code.specs.{declared.code.Code.Code, declared.instr.Cell.Cell, declared.instr.Width.Width, declared.instr.Width.TheVariants.{Char, Int, Long}, declared.instr.Instr.Instr, declared.shape.Shape.Shape, declared.state.Stop.Stop, declared.state.Stop.TheVariants.{Trap as Trapped}, Arithmetic.{holds, in_range, negated, truth, is_zero}, Machine.{Machine, Local, Asks, instr_at, int, ref, goes, goes_to, set_int, with_result, asserts, stopped, trapped, lock_checked, is_held, is_of_null, word}, Path.{turn, counted}, Runs.{Turn, Global, put, MayTurn}, Whole.{one_thread, bounds}}
 use Rattle.sharc_code.specs.declared.instr.Instr.TheVariants as instrs
-use Rattle.sharc_code.specs.declared.shape.Shape.{Shape}
-use Rattle.sharc_code.specs.declared.state.Stop.{Stop}
-use Rattle.sharc_code.specs.declared.state.Stop.TheVariants.{Trap as Trapped}
-use Rattle.sharc_code.specs.Arithmetic.{holds, in_range, negated, truth, is_zero}
-use Rattle.sharc_code.specs.Machine.{Machine, Local, Asks, instr_at, int, ref, goes, goes_to, set_int, with_result, asserts, stopped, trapped, lock_checked, is_held, is_of_null, word}
-use Rattle.sharc_code.specs.Path.{turn, counted}
-use Rattle.sharc_code.specs.Runs.{Turn, Global, put, MayTurn}
-use Rattle.sharc_code.specs.Whole.{one_thread, bounds}
 use Rattle.sharc_code.proofs.Places.{put_same, put_other, put_all}
-use Rattle.sharc_invariant.specs.Types.{Targets, ObjectType}
-use Rattle.sharc_invariant.specs.Labels.{Element, Named, Nth, IsNamed, HasName, Fresh, Number, Anything, Within, Exactly, Indexes, OfElement, OfGlobal, empty, Closed, Label, Labels, Less, Leads, set_number, knows}
-use Rattle.sharc_invariant.specs.Typed.{IsWellTyped, Numbers}
-use Rattle.sharc_invariant.specs.World.{World, RegisterOf, in_ref}
-use Rattle.sharc_invariant.specs.Effect.{Silently}
-use Rattle.sharc_invariant.specs.Turns.{made_turn}
-use Rattle.sharc_invariant.specs.State.{State, View, view_of, NumberStands, ElementStands, TopStands, refs_at, types_at}
-use Rattle.sharc_invariant.specs.Laws.{Turned}
-use Rattle.sharc_invariant.proofs.Frames.{empty_stands, filled}
-use Rattle.sharc_invariant.proofs.Quiet.{put_self}
+use Rattle.sharc_invariant.specs.{Types.{Targets, ObjectType}, Labels.{Element, Named, Nth, IsNamed, HasName, Fresh, Number, Anything, Within, Exactly, Indexes, OfElement, OfGlobal, empty, Closed, Label, Labels, Less, Leads, set_number, knows}, Typed.{IsWellTyped, Numbers}, World.{World, RegisterOf, in_ref}, Effect.Silently, Turns.made_turn, State.{State, View, view_of, NumberStands, ElementStands, TopStands, refs_at, types_at}, Laws.Turned}
+use Rattle.sharc_invariant.proofs.{Frames.{empty_stands, filled}, Quiet.put_self, Turns.{local_turn, room_of}, Own.{is_single, runs, rests, top, fine}, Plain.{register_plain, is_shut, jump_state, stop_state, numbers_state}}
 use mathlib.Core.Path.{fun_ext}
-use Rattle.sharc_invariant.proofs.Turns.{local_turn, room_of}
-use Rattle.sharc_invariant.proofs.Own.{is_single, runs, rests, top, fine}
-use Rattle.sharc_invariant.proofs.Plain.{register_plain, is_shut, jump_state, stop_state, numbers_state}
 
 -- the gate of a label that a check leaves open
 pub knows_top : (x : Targets) (t : ℕ) (v : View) (base ints : ℕ) (names : ℕ → ℤ) (l : Label) (r : ℕ) → refs_at v base r ≢ 0 → TopStands x t v base ints names l → TopStands x t v base ints names (knows l r)

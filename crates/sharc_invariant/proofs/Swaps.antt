@@ -1,45 +1,13 @@
 -- A cell and a register exchange what they refer to.
-use Rattle.std.proofs.Common.{◌≡◌, ℕ, ℤ, suc, ◌+◌, ◌/◌, ◌^◌, ◌<◌, ◌≢◌, Bool, true, false, refl, sym, ap, ◌∙◌, subst, inl, ⊎_elim, arith}
+use Rattle.std.proofs.{Common.{◌≡◌, ℕ, ℤ, suc, ◌+◌, ◌/◌, ◌^◌, ◌<◌, ◌≢◌, Bool, true, false, refl, sym, ap, ◌∙◌, subst, inl, ⊎_elim, arith}, lemmas.Bool.cases_eq}
 use mathlib.Core.Path.{fun_ext}
 use Rattle.std.specs.Prelude.{length, slice_index, slice_set}
-use Rattle.std.proofs.lemmas.Bool.{cases_eq}
 use Rattle.sharc_word.specs.declared.step.WordOp.TheVariants.{Swap}
-use Rattle.sharc_code.specs.declared.code.Code.{Code}
-use Rattle.sharc_code.specs.declared.instr.Cell.{Cell}
-use Rattle.sharc_code.specs.declared.instr.Instr.{Instr}
+use Rattle.sharc_code.specs.{declared.code.Code.Code, declared.instr.Cell.Cell, declared.instr.Instr.Instr, declared.shape.Shape.Shape, Layout.Fits, Machine.{Machine, Asks, step_of, instr_at, goes, accessed, set_ref, ref, word}, Path.turn, Runs.{Turn, Global, put, MayTurn, after_turn}, Whole.{one_thread, bounds}}
 use Rattle.sharc_code.specs.declared.instr.Instr.TheVariants as instrs
-use Rattle.sharc_code.specs.declared.shape.Shape.{Shape}
-use Rattle.sharc_code.specs.Layout.{Fits}
-use Rattle.sharc_code.specs.Machine.{Machine, Asks, step_of, instr_at, goes, accessed, set_ref, ref, word}
-use Rattle.sharc_code.specs.Path.{turn}
-use Rattle.sharc_code.specs.Runs.{Turn, Global, put, MayTurn, after_turn}
-use Rattle.sharc_code.specs.Whole.{one_thread, bounds}
 use Rattle.sharc_code.proofs.Places.{put_same, put_other}
-use Rattle.sharc_invariant.specs.Types.{Targets, ObjectType, Field, StaticType, type_at, type_of, mode_at, field_in, is_pointer, Mentions, CellMode}
-use Rattle.sharc_invariant.specs.Types.CellMode.{Private, Readonly, Racy, Dynamic, Locked, Sibling, Behind}
-use Rattle.sharc_invariant.specs.Labels.{Entry, Empty, Refers, Unknown, Closed, Label, Labels, Leads, LessEntry, fill, empty}
-use Rattle.sharc_invariant.specs.Typed.{IsWellTyped, IsRef, PointsTo, Accesses as IsAccess, refs_in, ints_in}
-use Rattle.sharc_invariant.specs.World.{TypeRules, TypedReference, Holder, RegisterOf, In, Slot, Cell as CellOf, World, Shut, Sole, Base, By, Global as OfGlobals, Based, Right, CanBy, Inside, WorldInvariant, base_of, in_ref, place, set_win, set_slot, swap}
-use Rattle.sharc_invariant.specs.Words.{lang_of, conc_of, Shows, cell_at, store, set_reg}
-use Rattle.sharc_invariant.specs.Effect.{Accesses}
-use Rattle.sharc_invariant.specs.Turns.{made_turn}
-use Rattle.sharc_invariant.specs.Cells.{IsThere}
-use Rattle.sharc_invariant.specs.State.{State, View, view_of, TopStands, EntryStands, GateStands, refs_at, types_at, size_of_run, base_of_cell, object_of_cell, number_in}
-use Rattle.sharc_invariant.specs.Laws.{Turned}
-use Rattle.sharc_invariant.proofs.Effects.{place_same, place_other, place_all, set_slot_ok, set_win_ok, exchange_ok, sole_at, base_other}
-use Rattle.sharc_invariant.proofs.Frames.{filled, fill_stands, empty_stands, type_kept, same_type, put_base}
-use Rattle.sharc_invariant.proofs.Turns.{asks_turn, room_of}
-use Rattle.sharc_invariant.proofs.Own.{is_single, runs, rests, top, gate, fine}
-use Rattle.sharc_invariant.proofs.Plain.{register_plain}
-use Rattle.sharc_invariant.proofs.Stores.{index_put, cell_store, stored_words, stored_within}
-use Rattle.sharc_invariant.proofs.Seen.{cell_stored, reg_stored}
-use Rattle.sharc_invariant.proofs.Filled.{filled_slots, inside_world, free_shut}
-use Rattle.sharc_invariant.proofs.Cells.{cell_there}
-use Rattle.sharc_invariant.proofs.CheckTurns.{sim_win, put_put}
-use Rattle.sharc_invariant.proofs.Rights.{right, points_to}
-use Rattle.sharc_invariant.proofs.Accesses.{gate_alone}
-use Rattle.sharc_invariant.proofs.Scoped.{scoped_empty}
-use Rattle.sharc_invariant.proofs.Loads.{lang_laws}
+use Rattle.sharc_invariant.specs.{Types.{Targets, ObjectType, Field, StaticType, type_at, type_of, mode_at, field_in, is_pointer, Mentions, CellMode}, Types.CellMode.{Private, Readonly, Racy, Dynamic, Locked, Sibling, Behind}, Labels.{Entry, Empty, Refers, Unknown, Closed, Label, Labels, Leads, LessEntry, fill, empty}, Typed.{IsWellTyped, IsRef, PointsTo, Accesses as IsAccess, refs_in, ints_in}, World.{TypeRules, TypedReference, Holder, RegisterOf, In, Slot, Cell as CellOf, World, Shut, Sole, Base, By, Global as OfGlobals, Based, Right, CanBy, Inside, WorldInvariant, base_of, in_ref, place, set_win, set_slot, swap}, Words.{lang_of, conc_of, Shows, cell_at, store, set_reg}, Effect.Accesses, Turns.made_turn, Cells.IsThere, State.{State, View, view_of, TopStands, EntryStands, GateStands, refs_at, types_at, size_of_run, base_of_cell, object_of_cell, number_in}, Laws.Turned}
+use Rattle.sharc_invariant.proofs.{Effects.{place_same, place_other, place_all, set_slot_ok, set_win_ok, exchange_ok, sole_at, base_other}, Frames.{filled, fill_stands, empty_stands, type_kept, same_type, put_base}, Turns.{asks_turn, room_of}, Own.{is_single, runs, rests, top, gate, fine}, Plain.register_plain, Stores.{index_put, cell_store, stored_words, stored_within}, Seen.{cell_stored, reg_stored}, Filled.{filled_slots, inside_world, free_shut}, Cells.cell_there, CheckTurns.{sim_win, put_put}, Rights.{right, points_to}, Accesses.gate_alone, Scoped.scoped_empty, Loads.lang_laws}
 
 -- a right counts references, and not their types
 base_refs : (w v : World) (t : ℕ) (b : Base) → ((q : Slot) → (v.slots q).reference ≡ (w.slots q).reference) → base_of v t b ≡ base_of w t b

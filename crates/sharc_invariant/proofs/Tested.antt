@@ -2,34 +2,11 @@
 use Rattle.std.proofs.Common.{◌≡◌, ℕ, zero, suc, ◌+◌, ◌≤◌, ◌≢◌, Bool, true, false, refl, sym, ap, ◌∙◌, subst, arith}
 use Rattle.std.specs.Prelude.{slice_index, ◌==◌, if◌then◌else◌}
 use Rattle.sharc_count.specs.Count.{test_of}
-use Rattle.sharc_code.specs.declared.code.Code.{Code}
-use Rattle.sharc_code.specs.declared.instr.Instr.TheVariants.{TestSole}
-use Rattle.sharc_code.specs.declared.shape.Shape.{Shape}
-use Rattle.sharc_code.specs.declared.state.Stop.{Stop}
-use Rattle.sharc_code.specs.declared.state.Stop.TheVariants.{NotSole}
-use Rattle.sharc_code.specs.Layout.{count_word}
-use Rattle.sharc_code.specs.Machine.{Machine, act, instr_at, goes, stopped, tested, ref}
-use Rattle.sharc_code.specs.Path.{may_go}
-use Rattle.sharc_code.specs.Runs.{Turn, Global, at, MayTurn, after_turn, result_of}
-use Rattle.sharc_code.specs.Whole.{one_thread, bounds}
-use Rattle.sharc_code.proofs.Places.{put_same, eq_refl}
-use Rattle.sharc_invariant.specs.Types.{Targets}
-use Rattle.sharc_invariant.specs.Labels.{Labels}
-use Rattle.sharc_invariant.specs.Typed.{IsWellTyped}
-use Rattle.sharc_invariant.specs.World.{World, RegisterOf, In, in_ref}
-use Rattle.sharc_invariant.specs.Words.{lang_of}
-use Rattle.sharc_invariant.specs.Opened.{first_place}
-use Rattle.sharc_invariant.specs.State.{State, size_of_run}
-use Rattle.sharc_invariant.specs.MachineInvariant.{references_to}
-use Rattle.sharc_invariant.specs.Reports.{TestStands, RunsTest}
-use Rattle.sharc_invariant.specs.Laws.{RunsFromTheBeginning}
-use Rattle.sharc_invariant.proofs.Effects.{count_pos}
-use Rattle.sharc_invariant.proofs.Own.{rests, top, fine}
-use Rattle.sharc_invariant.proofs.Plain.{register_plain}
-use Rattle.sharc_invariant.proofs.Counts.{count_is}
-use Rattle.sharc_invariant.proofs.Turns.{asks_turn}
-use Rattle.sharc_invariant.proofs.BitTurns.{found_at}
-use Rattle.sharc_invariant.proofs.Stands.{count_stands}
+use Rattle.sharc_code.specs.{declared.code.Code.Code, declared.instr.Instr.TheVariants.TestSole, declared.shape.Shape.Shape, declared.state.Stop.Stop, declared.state.Stop.TheVariants.NotSole, Layout.count_word, Machine.{Machine, act, instr_at, goes, stopped, tested, ref}, Path.may_go, Runs.{Turn, Global, at, MayTurn, after_turn, result_of}, Whole.{one_thread, bounds}}
+use Rattle.sharc_code.proofs.Places.{put_same}
+use Rattle.sharc_invariant.specs.{Types.Targets, Labels.Labels, Typed.IsWellTyped, World.{World, RegisterOf, In, in_ref}, Words.lang_of, Opened.first_place, State.{State, size_of_run}, MachineInvariant.references_to, Reports.{TestStands, RunsTest}, Laws.RunsFromTheBeginning}
+use Rattle.sharc_invariant.proofs.{Effects.count_pos, Own.{rests, top, fine}, Plain.register_plain, Counts.count_is, Turns.asks_turn, BitTurns.found_at, Stands.count_stands}
+use Rattle.sharc_lemmas.proofs.Numbers.{eq_refl}
 
 more_than_one : (n : ℕ) → 1 ≤ n → n ≢ 1 → 2 ≤ n
 more_than_one zero le ne = absurd (omega (arith, le))

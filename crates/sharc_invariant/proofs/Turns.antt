@@ -1,16 +1,8 @@
 -- A turn of a checked run, as what it makes of the whole machine.
 use Rattle.std.proofs.Common.{◌≡◌, ℕ, ◌+◌, ◌<◌, ◌||◌, List, Option, Some, None, refl, ap, ◌∙◌, subst, ◌≤◌, arith}
 use Rattle.std.specs.Prelude.{length, slice_index, slice_set}
-use Rattle.sharc_word.specs.declared.step.WordStep.{WordStep}
-use Rattle.sharc_word.specs.declared.step.WordEvent.{WordEvent}
-use Rattle.sharc_word.specs.Words.{word_after, words_after_step}
-use Rattle.sharc_word.specs.History.{MayFollow}
-use Rattle.sharc_code.specs.declared.code.Code.{Code}
-use Rattle.sharc_code.specs.declared.shape.Shape.{Shape}
-use Rattle.sharc_code.specs.Machine.{Machine, Turn as StepTurn, Local, Asks}
-use Rattle.sharc_code.specs.Path.{turn, after, counted}
-use Rattle.sharc_code.specs.Runs.{Turn, Global, put, MayTurn, after_turn, made_now, is_started, words_now, result_of, step_of, Answered}
-use Rattle.sharc_code.specs.Whole.{one_thread, bounds}
+use Rattle.sharc_word.specs.{declared.step.WordStep.WordStep, declared.step.WordEvent.WordEvent, Words.{word_after, words_after_step}, History.MayFollow}
+use Rattle.sharc_code.specs.{declared.code.Code.Code, declared.shape.Shape.Shape, Machine.{Machine, Turn as StepTurn, Local, Asks}, Path.{turn, after, counted}, Runs.{Turn, Global, put, MayTurn, after_turn, made_now, is_started, words_now, result_of, step_of, Answered}, Whole.{one_thread, bounds}}
 use Rattle.sharc_code.proofs.Places.{put_same}
 use Rattle.sharc_invariant.specs.Turns.{made_turn}
 

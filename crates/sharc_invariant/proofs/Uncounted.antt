@@ -1,57 +1,16 @@
 -- The turn of a Free that sets the count to 0: the object is dead, and its block the thread's.
 use Rattle.sharc_code.specs.declared.instr.Instr.TheVariants as instrs
-use Rattle.sharc_code.specs.Layout.{Fits as FitsShape, top_word, granules, count_word}
-use Rattle.sharc_invariant.specs.Effect.{Frees as FreesOf}
-use Rattle.sharc_invariant.specs.World.{freed, none, ObjectState, TypedReference, RegisterOf, ArgumentOf, In, Shut, Sole, World, in_ref, put2, place, WorldInvariant, Cell as CellOf}
-use Rattle.sharc_invariant.specs.Types.{nothing, field_in, is_pointer, is_mutex, Targets, ObjectType, cells_of}
-use Rattle.sharc_invariant.specs.Blocks.{Heap, Kept, Built, Live, restated, IsListed, Unused, State as BlockState}
-use Rattle.sharc_invariant.specs.Words.{is_freed, set_reg, store, FitsContent, Apart, staged_of, is_ended, has_withdrawn, noted_by, note_number, register_of, conc_of, Shows, count_at, cell_at, lang_of, head_of, head_with, making_of}
-use Rattle.sharc_invariant.specs.State.{block_for, AreEmpty, all_pointers, label_now, Runs, StageStands, HeapStands, Locks, State, view_of, EntryStands, GateStands, refs_at, types_at, size_of_run, View, FramesStand, TopStands}
-use Rattle.sharc_invariant.specs.Labels.{empty, Label, Labels}
-use Rattle.sharc_invariant.proofs.Effects.{freed_ok, place_other}
-use Rattle.sharc_invariant.proofs.Seen.{count_stored, reg_stored, cell_cell}
-use Rattle.sharc_invariant.proofs.Frames.{filled, empty_stands}
-use Rattle.sharc_invariant.proofs.Filled.{view_filled, below_filled}
-use Rattle.sharc_invariant.proofs.Counts.{count_is}
-use Rattle.sharc_invariant.proofs.Stores.{count_store, stored_within, index_put, arena}
-use Rattle.sharc_invariant.proofs.Listed.{restate_ok}
-use Rattle.sharc_invariant.proofs.Changes.{KeepsPart, KeepsLow, lower, conc_now, held_same, changed_state}
-use Rattle.sharc_invariant.proofs.Walks.{IsWalk, walk_hold, walk_register}
-use Rattle.sharc_invariant.proofs.Clears.{part_words, sum_more}
-use Rattle.sharc_invariant.proofs.Emptied.{all_empty}
-use Rattle.sharc_invariant.proofs.Unlogged.{unlogged, logged_entry}
-use Rattle.sharc_invariant.proofs.Frees.{free_cells, free_fine, free_win, free_reads, free_some, free_live, free_begun, free_act}
-use Rattle.sharc_invariant.proofs.Quiet.{heap_now, label_held, put_self}
-use Rattle.sharc_code.specs.declared.state.State.TheVariants.{Runs as RunsOn, Tries, Stopped, Ended}
-use Rattle.sharc_code.specs.declared.state.Stage.{Stage}
-use Rattle.sharc_code.specs.declared.state.Stage.TheVariants.{Uncounts, Links}
-use Rattle.sharc_code.specs.Machine.{layout_at, Machine, Asks, step_of, instr_at, ref, at_stage, data_granules, largest}
-use Rattle.sharc_code.specs.Path.{may_go, turn}
-use Rattle.sharc_code.proofs.Places.{put_same, put_other, put_all, ne_eq, eq_refl}
-use Rattle.sharc_shadow.specs.declared.shadow_word.Kind.TheVariants.{Read, Write}
-use Rattle.sharc_shadow.specs.declared.shadow_word.Kind.{Kind}
-use Rattle.sharc_shadow.specs.Accesses.{note_of}
+use Rattle.sharc_code.specs.{Layout.{Fits as FitsShape, top_word, granules, count_word}, declared.state.State.TheVariants.{Runs as RunsOn, Tries, Stopped, Ended}, declared.state.Stage.Stage, declared.state.Stage.TheVariants.{Uncounts, Links}, Machine.{layout_at, Machine, Asks, step_of, instr_at, ref, at_stage, data_granules, largest}, Path.{may_go, turn}, declared.code.Code.Code, declared.shape.Shape.Shape, Runs.{Turn, Global, put, MayTurn, after_turn}, Whole.{one_thread, bounds}, declared.instr.Instr.Instr}
+use Rattle.sharc_invariant.specs.{Effect.{Frees as FreesOf}, World.{freed, none, ObjectState, TypedReference, RegisterOf, ArgumentOf, In, Shut, Sole, World, in_ref, put2, place, WorldInvariant, Cell as CellOf}, Types.{nothing, field_in, is_pointer, is_mutex, Targets, ObjectType, cells_of}, Blocks.{Heap, Kept, Built, Live, restated, IsListed, Unused, State as BlockState}, Words.{is_freed, set_reg, store, FitsContent, Apart, staged_of, is_ended, has_withdrawn, noted_by, note_number, register_of, conc_of, Shows, count_at, cell_at, lang_of, head_of, head_with, making_of}, State.{block_for, AreEmpty, all_pointers, label_now, Runs, StageStands, HeapStands, Locks, State, view_of, EntryStands, GateStands, refs_at, types_at, size_of_run, View, FramesStand, TopStands}, Labels.{empty, Label, Labels}, Granules.{sum_to, GranuleState, Bits, Passed}, Typed.{Fine, IsWellTyped}, Turns.{made_turn, KeepsOthers}, Laws.Turned, Objects.{changes_objects, objects_now, objects_behind, frees_object, freed_behind}}
+use Rattle.sharc_invariant.proofs.{Effects.{freed_ok, place_other}, Seen.{count_stored, reg_stored, cell_cell}, Frames.{filled, empty_stands}, Filled.{view_filled, below_filled}, Counts.count_is, Stores.{count_store, stored_within, index_put, arena}, Listed.restate_ok, Changes.{KeepsPart, KeepsLow, lower, conc_now, held_same, changed_state}, Walks.{IsWalk, walk_hold, walk_register}, Clears.{part_words, sum_more}, Emptied.all_empty, Unlogged.{unlogged, logged_entry}, Frees.{free_cells, free_fine, free_win, free_reads, free_some, free_live, free_begun, free_act}, Quiet.{heap_now, label_held, put_self}, Turns.{asks_turn, room_of}, Others.loses}
+use Rattle.sharc_code.proofs.Places.{put_same, put_other, put_all}
+use Rattle.sharc_shadow.specs.{declared.shadow_word.Kind.TheVariants.{Read, Write}, declared.shadow_word.Kind.Kind, Accesses.note_of, Laws.ShadowLaws, ShadowWord.epoch_of}
 use Rattle.sharc_locks.specs.HeldLog.{object_of}
-use Rattle.std.proofs.Common.{◌≡◌, ℕ, suc, ◌+◌, ◌*◌, ◌<◌, ◌≤◌, ◌≢◌, true, false, cond, List, refl, sym, ap, ◌∙◌, subst, ⊎_elim, arith, Bool, ◌⊎◌, ◌-◌, ◌/◌, ◌^◌, inl, inr}
+use Rattle.std.proofs.{Common.{◌≡◌, ℕ, suc, ◌+◌, ◌*◌, ◌<◌, ◌≤◌, ◌≢◌, true, false, cond, List, refl, sym, ap, ◌∙◌, subst, ⊎_elim, arith, Bool, ◌⊎◌, ◌-◌, ◌/◌, ◌^◌, inl, inr}, lemmas.Bool.{cases_eq, cases_lt}}
 use mathlib.Core.Path.{fun_ext}
 use Rattle.std.specs.Prelude.{length, slice_index, slice_set, ◌==◌, ◌↔◌, is_some, Contains, min}
-use Rattle.std.proofs.lemmas.Bool.{cases_eq, cases_lt}
-use Rattle.sharc_word.specs.declared.step.TheConstants.{THREADS}
-use Rattle.sharc_word.specs.declared.step.WordOp.TheVariants.{Swap}
-use Rattle.sharc_shadow.specs.Laws.{ShadowLaws}
-use Rattle.sharc_shadow.specs.ShadowWord.{epoch_of}
-use Rattle.sharc_code.specs.declared.code.Code.{Code}
-use Rattle.sharc_code.specs.declared.shape.Shape.{Shape}
-use Rattle.sharc_code.specs.Runs.{Turn, Global, put, MayTurn, after_turn}
-use Rattle.sharc_code.specs.Whole.{one_thread, bounds}
-use Rattle.sharc_invariant.specs.Granules.{sum_to, GranuleState, Bits, Passed}
-use Rattle.sharc_invariant.specs.Typed.{Fine, IsWellTyped}
-use Rattle.sharc_invariant.specs.Turns.{made_turn, KeepsOthers}
-use Rattle.sharc_invariant.specs.Laws.{Turned}
-use Rattle.sharc_invariant.proofs.Turns.{asks_turn, room_of}
-use Rattle.sharc_code.specs.declared.instr.Instr.{Instr}
-use Rattle.sharc_invariant.proofs.Others.{loses}
-use Rattle.sharc_invariant.specs.Objects.{changes_objects, objects_now, objects_behind, frees_object, freed_behind}
+use Rattle.sharc_word.specs.{declared.step.TheConstants.THREADS, declared.step.WordOp.TheVariants.Swap}
+use Rattle.sharc_lemmas.proofs.Numbers.{ne_eq, eq_refl}
 
 not_unused : (f : ℕ → BlockState) (o : ℕ) → f o ≡ Live → f o ≡ Unused → ⊥
 not_unused f o a b = let z : Live ≡ Unused = sym a ∙ b in cc

@@ -1,21 +1,11 @@
 -- An object that a thread has alone is in no log of held mutexes.
-use Rattle.std.proofs.Common.{◌≡◌, ℕ, zero, suc, ◌<◌, true, false, cond, List, [], ◌∷◌, Option, Some, refl, sym, ap, ◌∙◌, arith}
+use Rattle.std.proofs.{Common.{◌≡◌, ℕ, zero, suc, ◌<◌, true, false, cond, List, [], ◌∷◌, Option, Some, refl, sym, ap, ◌∙◌, arith}, lemmas.Bool.eqb-true}
 use Rattle.std.specs.Prelude.{length, slice_index_or, Contains, ◌==◌, is_some}
-use Rattle.std.proofs.lemmas.Bool.{eqb-true}
-use Rattle.sharc_locks.specs.declared.held_log.HeldMutex.{HeldMutex}
-use Rattle.sharc_locks.specs.HeldLog.{object_of}
-use Rattle.sharc_code.specs.declared.code.Code.{Code}
-use Rattle.sharc_code.specs.declared.shape.Shape.{Shape}
-use Rattle.sharc_code.specs.Machine.{Machine, reference_of}
-use Rattle.sharc_code.specs.Runs.{Global}
-use Rattle.sharc_code.proofs.Places.{eq_refl}
-use Rattle.sharc_invariant.specs.Types.{Targets}
-use Rattle.sharc_invariant.specs.Labels.{Labels}
-use Rattle.sharc_invariant.specs.World.{RegisterOf, LogOf, In, World, Sole, in_ref}
-use Rattle.sharc_invariant.specs.Words.{lang_of, conc_of, cell_at}
-use Rattle.sharc_invariant.specs.State.{State, size_of_run}
-use Rattle.sharc_invariant.proofs.Effects.{only_slot}
-use Rattle.sharc_invariant.proofs.Seen.{cell_cell}
+use Rattle.sharc_locks.specs.{declared.held_log.HeldMutex.HeldMutex, HeldLog.object_of}
+use Rattle.sharc_code.specs.{declared.code.Code.Code, declared.shape.Shape.Shape, Machine.{Machine, reference_of}, Runs.Global}
+use Rattle.sharc_invariant.specs.{Types.Targets, Labels.Labels, World.{RegisterOf, LogOf, In, World, Sole, in_ref}, Words.{lang_of, conc_of, cell_at}, State.{State, size_of_run}}
+use Rattle.sharc_invariant.proofs.{Effects.only_slot, Seen.cell_cell}
+use Rattle.sharc_lemmas.proofs.Numbers.{eq_refl}
 
 -- the entry that is found of a word that is there
 abbrev Found : List HeldMutex → HeldMutex → Option ℕ → Type 0

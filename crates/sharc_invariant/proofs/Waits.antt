@@ -1,45 +1,16 @@
 -- Turns that try again, and those of conditions that no thread waits at.
-use Rattle.std.proofs.Common.{◌≡◌, ℕ, ℤ, pos, negsuc, ◌+◌, ◌^◌, ◌<◌, true, false, cond, ◌||◌, Some, None, refl, sym, ap, ◌∙◌, subst, ⊎_elim, arith}
+use Rattle.std.proofs.{Common.{◌≡◌, ℕ, ℤ, pos, negsuc, ◌+◌, ◌^◌, ◌<◌, true, false, cond, ◌||◌, Some, None, refl, sym, ap, ◌∙◌, subst, ⊎_elim, arith}, lemmas.Nat.{or_lt, pow_below}}
 use mathlib.Core.Path.{fun_ext}
 use Rattle.std.specs.Prelude.{bit_or, length, slice_index, slice_set, nat_lt, ◌==◌}
-use Rattle.sharc_word.specs.declared.step.TheConstants.{THREADS}
-use Rattle.sharc_word.specs.declared.step.WordOp.TheVariants.{Load, Swap, Or}
-use Rattle.std.proofs.lemmas.Nat.{or_lt, pow_below}
+use Rattle.sharc_word.specs.{declared.step.TheConstants.THREADS, declared.step.WordOp.TheVariants.{Load, Swap, Or}}
 use Rattle.sharc_tree.specs.declared.trap.Trap.TheVariants as traps
-use Rattle.sharc_code.specs.declared.code.Code.{Code}
-use Rattle.sharc_code.specs.declared.instr.Cell.{Cell}
+use Rattle.sharc_code.specs.{declared.code.Code.Code, declared.instr.Cell.Cell, declared.instr.Instr.Instr, declared.shape.Shape.Shape, declared.state.Stop.Stop, declared.state.Stop.TheVariants.Trap, Layout.{Fits, state_word}, Machine.{Machine, Local, Asks, instr_at, int, word, goes, fails, stopped, joined, join, woken, is_held, step_of}, Path.turn, Runs.{Turn, Global, MayTurn, after_turn}, Whole.{one_thread, bounds}}
 use Rattle.sharc_code.specs.declared.instr.Cell.TheVariants as cells
-use Rattle.sharc_code.specs.declared.instr.Instr.{Instr}
 use Rattle.sharc_code.specs.declared.instr.Instr.TheVariants as instrs
-use Rattle.sharc_code.specs.declared.shape.Shape.{Shape}
-use Rattle.sharc_code.specs.declared.state.Stop.{Stop}
-use Rattle.sharc_code.specs.declared.state.Stop.TheVariants.{Trap}
-use Rattle.sharc_code.specs.Layout.{Fits, state_word}
-use Rattle.sharc_code.specs.Machine.{Machine, Local, Asks, instr_at, int, word, goes, fails, stopped, joined, join, woken, is_held, step_of}
 use Rattle.sharc_cond.specs.Waiters.{waits_in}
-use Rattle.sharc_code.specs.Path.{turn}
-use Rattle.sharc_code.specs.Runs.{Turn, Global, MayTurn, after_turn}
-use Rattle.sharc_code.specs.Whole.{one_thread, bounds}
 use Rattle.sharc_code.proofs.Places.{put_same}
-use Rattle.sharc_invariant.specs.Types.{Targets, Field, field_in, is_pointer, is_mutex}
-use Rattle.sharc_invariant.specs.Types.Content.{Waiters}
-use Rattle.sharc_invariant.specs.Labels.{Gate, Holds, LessGate, Closed, Label, Labels, Leads, gated}
-use Rattle.sharc_invariant.specs.Typed.{IsWellTyped}
-use Rattle.sharc_invariant.specs.World.{World, Shut, Sole, RegisterOf, in_ref, set_win}
-use Rattle.sharc_invariant.specs.Words.{conc_of, Shows, FitsContent, cell_at}
-use Rattle.sharc_invariant.specs.Effect.{Silently}
-use Rattle.sharc_invariant.specs.Turns.{made_turn}
-use Rattle.sharc_invariant.specs.State.{State, View, view_of, FramesStand, GateStands, object_of_cell, number_in}
-use Rattle.sharc_invariant.specs.Laws.{Turned}
-use Rattle.sharc_invariant.proofs.Quiet.{heap_now}
-use Rattle.sharc_invariant.proofs.Turns.{asks_turn, local_turn, room_of}
-use Rattle.sharc_invariant.proofs.Own.{is_single, runs, rests, top, gate, fine, begun_before, runs_at, closed_less}
-use Rattle.sharc_invariant.proofs.Plain.{register_plain, is_shut, going, plain_state, jump_state, stop_state}
-use Rattle.sharc_invariant.proofs.Stores.{index_put, cell_store, stored_words, stored_within}
-use Rattle.sharc_invariant.proofs.Seen.{integer_stored}
-use Rattle.sharc_invariant.proofs.Cells.{cell_there}
-use Rattle.sharc_invariant.proofs.Held.{held_gate}
-use Rattle.sharc_invariant.proofs.Accesses.{loaded_words, windowed_state, silent_window}
+use Rattle.sharc_invariant.specs.{Types.{Targets, Field, field_in, is_pointer, is_mutex}, Types.Content.Waiters, Labels.{Gate, Holds, LessGate, Closed, Label, Labels, Leads, gated}, Typed.IsWellTyped, World.{World, Shut, Sole, RegisterOf, in_ref, set_win}, Words.{conc_of, Shows, FitsContent, cell_at}, Effect.Silently, Turns.made_turn, State.{State, View, view_of, FramesStand, GateStands, object_of_cell, number_in}, Laws.Turned}
+use Rattle.sharc_invariant.proofs.{Quiet.heap_now, Turns.{asks_turn, local_turn, room_of}, Own.{is_single, runs, rests, top, gate, fine, begun_before, runs_at, closed_less}, Plain.{register_plain, is_shut, going, plain_state, jump_state, stop_state}, Stores.{index_put, cell_store, stored_words, stored_within}, Seen.integer_stored, Cells.cell_there, Held.held_gate, Accesses.{loaded_words, windowed_state, silent_window}}
 
 module _ (x : Targets) (code : Code) (s : Shape) (ls : Labels) (wt : IsWellTyped x code ls) (fits : Fits code s) (g : Global Machine) (world : World) (st : State x code s ls g world) (tr : Turn)
     (may : MayTurn bounds (one_thread code s) g tr) where

@@ -3,34 +3,12 @@ use Rattle.std.proofs.Common.{◌≡◌, ℕ, suc, ◌+◌, ◌*◌, ◌<◌, �
 use mathlib.Core.Path.{fun_ext}
 use Rattle.std.specs.Prelude.{length, slice_index, ◌↔◌, ◌==◌, is_some, Contains}
 use Rattle.sharc_word.specs.declared.step.TheConstants.{THREADS}
-use Rattle.sharc_locks.specs.declared.held_log.HeldMutex.{HeldMutex}
-use Rattle.sharc_locks.specs.HeldLog.{object_of}
-use Rattle.sharc_shadow.specs.declared.shadow_word.Kind.TheVariants.{Read, Write}
-use Rattle.sharc_shadow.specs.declared.shadow_word.Kind.{Kind}
-use Rattle.sharc_shadow.specs.Accesses.{note_of}
-use Rattle.sharc_shadow.specs.ShadowWord.{epoch_of}
-use Rattle.sharc_code.specs.declared.code.Code.{Code}
-use Rattle.sharc_code.specs.declared.shape.Shape.{Shape}
-use Rattle.sharc_code.specs.declared.state.State.TheVariants.{Runs as RunsOn, Tries, Stopped, Ended}
-use Rattle.sharc_code.specs.declared.state.Stage.{Stage}
-use Rattle.sharc_code.specs.declared.state.Stage.TheVariants.{Rests, Looks, Clears, Makes, Empties, Lowers, FreeLooks, FreeClears, Uncounts, Links, Names, Hands, Begins, Withdraws, WithdrawsFrom, Leaves}
-use Rattle.sharc_code.specs.Layout.{top_word, granules, first_cell}
-use Rattle.sharc_code.specs.Machine.{Machine, to, instr_at}
-use Rattle.sharc_code.specs.Path.{may_go}
-use Rattle.sharc_code.specs.Runs.{Global, put}
+use Rattle.sharc_locks.specs.{declared.held_log.HeldMutex.HeldMutex, HeldLog.object_of}
+use Rattle.sharc_shadow.specs.{declared.shadow_word.Kind.TheVariants.{Read, Write}, declared.shadow_word.Kind.Kind, Accesses.note_of, ShadowWord.epoch_of}
+use Rattle.sharc_code.specs.{declared.code.Code.Code, declared.shape.Shape.Shape, declared.state.State.TheVariants.{Runs as RunsOn, Tries, Stopped, Ended}, declared.state.Stage.Stage, declared.state.Stage.TheVariants.{Rests, Looks, Clears, Makes, Empties, Lowers, FreeLooks, FreeClears, Uncounts, Links, Names, Hands, Begins, Withdraws, WithdrawsFrom, Leaves}, Layout.{top_word, granules, first_cell}, Machine.{Machine, to, instr_at}, Path.may_go, Runs.{Global, put}}
 use Rattle.sharc_code.proofs.Places.{put_all}
-use Rattle.sharc_invariant.specs.Granules.{sum_to}
-use Rattle.sharc_invariant.specs.Types.{Targets, field_in, is_mutex, cells_of}
-use Rattle.sharc_invariant.specs.Labels.{Labels}
-use Rattle.sharc_invariant.specs.Typed.{IsWellTyped}
-use Rattle.sharc_invariant.specs.World.{ArgumentOf, In, ObjectState, World, WorldInvariant}
-use Rattle.sharc_invariant.specs.Blocks.{Kept, Live}
-use Rattle.sharc_invariant.specs.Words.{note_number, making_of, head_of, conc_of, Shows, Apart, register_of, staged_of, noted_by, is_ended, has_withdrawn, lang_of, cell_at}
-use Rattle.sharc_invariant.specs.Turns.{made_turn, KeepsOthers}
-use Rattle.sharc_invariant.specs.State.{block_for, State, HeapStands, Locks, Runs, SpawnsNow, size_of_run}
-use Rattle.sharc_invariant.proofs.Others.{OnHold}
-use Rattle.sharc_invariant.proofs.Quiet.{heap_now, head_same, freed_held, put_self}
-use Rattle.sharc_invariant.proofs.Changes.{KeepsPart, KeepsLow, lower, conc_now, held_same, changed_state}
+use Rattle.sharc_invariant.specs.{Granules.sum_to, Types.{Targets, field_in, is_mutex, cells_of}, Labels.Labels, Typed.IsWellTyped, World.{ArgumentOf, In, ObjectState, World, WorldInvariant}, Blocks.{Kept, Live}, Words.{note_number, making_of, head_of, conc_of, Shows, Apart, register_of, staged_of, noted_by, is_ended, has_withdrawn, lang_of, cell_at}, Turns.{made_turn, KeepsOthers}, State.{block_for, State, HeapStands, Locks, Runs, SpawnsNow, size_of_run}}
+use Rattle.sharc_invariant.proofs.{Others.OnHold, Quiet.{heap_now, head_same, freed_held, put_self}, Changes.{KeepsPart, KeepsLow, lower, conc_now, held_same, changed_state}}
 
 -- the stages of an instruction that walks over an object, but for that in which the object is dead
 abbrev pub IsWalk : Stage → Type 0

@@ -1,22 +1,9 @@
 -- Runs stay in the invariant, and their events obey the sharing rules.
-use Rattle.std.proofs.Common.{◌≡◌, ℕ, ◌≢◌, Bool, List, [], ◌∷◌, refl, sym, ap, ◌∙◌, subst, ⊎_elim}
+use Rattle.std.proofs.{Common.{◌≡◌, ℕ, ◌≢◌, Bool, List, [], ◌∷◌, refl, sym, ap, ◌∙◌, subst, ⊎_elim}, lemmas.Bool.cases_eq}
 use Rattle.std.specs.Prelude.{◌++◌}
-use Rattle.std.proofs.lemmas.Bool.{cases_eq}
-use Rattle.sharc_code.specs.declared.code.Code.{Code}
-use Rattle.sharc_code.specs.declared.shape.Shape.{Shape}
-use Rattle.sharc_code.specs.Machine.{Machine, instr_at}
-use Rattle.sharc_code.specs.Runs.{Turn, Global, at, after_turn, state_now}
-use Rattle.sharc_code.specs.Whole.{one_thread, bounds}
+use Rattle.sharc_code.specs.{declared.code.Code.Code, declared.shape.Shape.Shape, Machine.{Machine, instr_at}, Runs.{Turn, Global, at, after_turn, state_now}, Whole.{one_thread, bounds}}
 use Rattle.sharc_code.proofs.Places.{put_other}
-use Rattle.sharc_invariant.specs.World.{TypeRules, World}
-use Rattle.sharc_invariant.specs.Words.{lang_of, has_returned}
-use Rattle.sharc_invariant.specs.State.{size_of_run}
-use Rattle.sharc_invariant.specs.Effect.{Effect, Silently, Accesses, Clears, Gives, Frees, Makes, Locks, Unlocks, Returns, Withdraws, NoneOf, events_of}
-use Rattle.sharc_invariant.specs.History.{Event, Return, Tied}
-use Rattle.sharc_invariant.specs.Opened.{first_world, first_place}
-use Rattle.sharc_invariant.specs.Laws.{Begins, Keeps, Followed, RunsStay, RunsFromTheBeginning, StateStands, RunsStand, NothingYet, NoneReturned}
-use Rattle.sharc_invariant.specs.MachineInvariant.{MachineInvariant}
-use Rattle.sharc_invariant.specs.Objects.{changes_objects, objects_now}
+use Rattle.sharc_invariant.specs.{World.{TypeRules, World}, Words.{lang_of, has_returned}, State.size_of_run, Effect.{Effect, Silently, Accesses, Clears, Gives, Frees, Makes, Locks, Unlocks, Returns, Withdraws, NoneOf, events_of}, History.{Event, Return, Tied}, Opened.{first_world, first_place}, Laws.{Begins, Keeps, Followed, RunsStay, RunsFromTheBeginning, StateStands, RunsStand, NothingYet, NoneReturned}, MachineInvariant.MachineInvariant, Objects.{changes_objects, objects_now}}
 use Rattle.sharc_invariant.proofs.Obeyed.{effect_tied}
 
 joined : {A : Type 0} (a b c : List A) → a ++ (b ++ c) ≡ (a ++ b) ++ c

@@ -1,25 +1,12 @@
 -- The notes of a thread that withdraws row by row.
-use Rattle.std.proofs.Common.{◌≡◌, ℕ, zero, suc, ◌+◌, ◌<◌, ◌≤◌, ◌≢◌, ◌||◌, ◌&&◌, Bool, true, false, cond, List, [], ◌∷◌, Option, None, Some, refl, sym, ap, ◌∙◌, ⊎_elim, arith, ◌^◌}
-use Rattle.std.specs.Prelude.{length, take, slice_index, slice_index_or, nat_lt, nat_eq, not, is_some, ◌==◌, Contains, bit_and}
-use Rattle.std.specs.List.{list_any}
-use Rattle.std.proofs.lemmas.Bool.{cases_lt, eqb-true, eqb-false}
-use Rattle.std.proofs.lemmas.Bool.Decides.{nat_tests}
-use Rattle.std.proofs.lemmas.Nat.{and_le_l}
-use Rattle.sharc_shadow.specs.declared.shadow_word.Kind.{Kind}
-use Rattle.sharc_shadow.specs.declared.shadow_word.Kind.TheVariants.{Read, Write}
-use Rattle.sharc_shadow.specs.declared.access_table.GranuleNotes.{GranuleNotes}
-use Rattle.sharc_shadow.specs.Notes.{blank, has_note, of_kind}
-use Rattle.sharc_shadow.specs.Accesses.{Accesses, ListsNoted, is_noted, note_of, site_at}
-use Rattle.sharc_shadow.specs.Functions.{withdrawn_of, all_but}
-use Rattle.sharc_shadow.specs.Laws.{ShadowLaws}
-use Rattle.sharc_shadow.specs.ShadowWord.{epoch_of, is_of, is_written, stands}
+use Rattle.std.proofs.{Common.{◌≡◌, ℕ, zero, suc, ◌+◌, ◌<◌, ◌≤◌, ◌≢◌, ◌||◌, ◌&&◌, Bool, true, false, cond, List, [], ◌∷◌, Option, None, Some, refl, sym, ap, ◌∙◌, ⊎_elim, arith, ◌^◌}, lemmas.Bool.{cases_lt, eqb-true, eqb-false}, lemmas.Bool.Decides.nat_tests, lemmas.Nat.and_le_l}
+use Rattle.std.specs.{Prelude.{length, take, slice_index, slice_index_or, nat_lt, nat_eq, not, is_some, ◌==◌, Contains, bit_and}, List.list_any}
+use Rattle.sharc_shadow.specs.{declared.shadow_word.Kind.Kind, declared.shadow_word.Kind.TheVariants.{Read, Write}, declared.access_table.GranuleNotes.GranuleNotes, Notes.{blank, has_note, of_kind}, Accesses.{Accesses, ListsNoted, is_noted, note_of, site_at}, Functions.{withdrawn_of, all_but}, Laws.ShadowLaws, ShadowWord.{epoch_of, is_of, is_written, stands}}
 use Rattle.sharc_word.specs.declared.step.TheConstants.{THREADS}
-use Rattle.sharc_code.specs.Machine.{Machine, wrote, withdraws, at_stage}
-use Rattle.sharc_code.specs.declared.state.Stage.TheVariants.{Withdraws, Leaves}
-use Rattle.sharc_code.specs.Runs.{put}
-use Rattle.sharc_code.proofs.Places.{eq_refl, ne_eq, put_same, put_other, put_all}
-use Rattle.sharc_invariant.specs.Granules.{GranuleState, withdrawn}
-use Rattle.sharc_invariant.specs.Words.{note_number, noted_by, Reads}
+use Rattle.sharc_code.specs.{Machine.{Machine, wrote, withdraws, at_stage}, declared.state.Stage.TheVariants.{Withdraws, Leaves}, Runs.put}
+use Rattle.sharc_code.proofs.Places.{put_same, put_other, put_all}
+use Rattle.sharc_invariant.specs.{Granules.{GranuleState, withdrawn}, Words.{note_number, noted_by, Reads}}
+use Rattle.sharc_lemmas.proofs.{Numbers.{ne_eq, eq_refl}, Lists.same_or}
 
 -- ---- the rows that were withdrawn from
 abbrev pub is_row : List ℕ → ℕ → Bool
@@ -55,11 +42,6 @@ not_before (a ∷ order) (suc row) p le h =
     let q : (p == a) ≡ false = ne_eq p a (λ e. h 0 (omega arith) (sym e)) in
     let r = not_before order row p (omega arith) (λ i lt. h (suc i) (omega arith)) in
     rw (q, r) refl
-
-same_or : {X : Type 0} (xs : List X) (k : ℕ) (d e : X) → k < length xs → slice_index_or xs k d ≡ slice_index_or xs k e
-same_or [] k d e lt = absurd (omega arith)
-same_or (x ∷ xs) zero d e lt = refl
-same_or (x ∷ xs) (suc k) d e lt = same_or xs k d e (omega arith)
 
 -- ---- the table
 -- a row is a granule

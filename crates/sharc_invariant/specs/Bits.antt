@@ -1,19 +1,14 @@
 -- What was done to the shadow word of each granule since its last Clear, told by the turns of a run, and what stands of its bits.
 use Rattle.std.specs.Prelude.{ℕ, ◌≡◌, ◌<◌, ◌==◌, ◌||◌, Bool, true, false, List, [], ◌∷◌, slice_index, if◌then◌else◌}
-use Rattle.sharc_shadow.specs.declared.shadow_word.Kind.{Kind}
-use Rattle.sharc_shadow.specs.declared.shadow_word.Kind.TheVariants.{Read, Write}
+use Rattle.sharc_shadow.specs.{declared.shadow_word.Kind.Kind, declared.shadow_word.Kind.TheVariants.{Read, Write}}
 use Rattle.sharc_shadow.specs.ShadowWord.{is_written, stands}
-use Rattle.sharc_code.specs.declared.code.Code.{Code}
-use Rattle.sharc_code.specs.declared.instr.Instr.{Instr}
+use Rattle.sharc_code.specs.{declared.code.Code.Code, declared.instr.Instr.Instr}
 use Rattle.sharc_code.specs.declared.instr.Instr.TheVariants.{ChkRead, ChkWrite, Clear, Free, Exit}
-use Rattle.sharc_code.specs.declared.shape.Shape.{Shape}
-use Rattle.sharc_code.specs.declared.state.Stage.{Stage}
+use Rattle.sharc_code.specs.{declared.shape.Shape.Shape, declared.state.Stage.Stage}
 use Rattle.sharc_code.specs.declared.state.Stage.TheVariants.{Clears, FreeClears, WithdrawsFrom}
 use Rattle.sharc_code.specs.Layout.{granules, granule_at, granule_of, shadow_word}
-use Rattle.sharc_code.specs.Machine.{Machine, instr_at, place, ref, data_granule, row_of}
-use Rattle.sharc_code.specs.Path.{may_go}
-use Rattle.sharc_code.specs.Runs.{Turn, Global, put, at, after_turn, result_of}
-use Rattle.sharc_code.specs.Whole.{one_thread, bounds}
+use Rattle.sharc_code.specs.{Machine.{Machine, instr_at, place, ref, data_granule, row_of}, Path.may_go}
+use Rattle.sharc_code.specs.{Runs.{Turn, Global, put, at, after_turn, result_of}, Whole.{one_thread, bounds}}
 
 -- ---- turns on shadow words
 pub data Touch : Type 0 where

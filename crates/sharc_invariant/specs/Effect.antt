@@ -1,7 +1,6 @@
 -- The effects of turns on the world, of which each turn has one: what the layers above the world need to know of a turn.
 use Rattle.std.specs.Prelude.{ℕ, suc, ◌≡◌, Bool, true, false, List, [], ◌∷◌}
-use Rattle.sharc_invariant.specs.Granules.{GranuleState, Passed, cleared, withdrawn}
-use Rattle.sharc_invariant.specs.Types.{ObjectType}
+use Rattle.sharc_invariant.specs.{Granules.{GranuleState, Passed, cleared, withdrawn}, Types.ObjectType}
 use Rattle.sharc_invariant.specs.World.{TypeRules, RegisterOf, Base, Sole, World, in_ref, put2, Right, give, make, freed, set_gran, base_of}
 use Rattle.sharc_invariant.specs.History.{Event, Access, New, Give, Freed, Lock, Unlock, Return, IsInAccessSet}
 

@@ -1,8 +1,7 @@
 -- What the source can see of a run, the last first, with objects, cells and modes as the world has them; and what it obeys.
 use Rattle.std.specs.Prelude.{ℕ, suc, ◌≡◌, ◌⊎◌, ◌≢◌, Bool, true, false, List, [], ◌∷◌}
 use Rattle.sharc_code.specs.Runs.{put}
-use Rattle.sharc_invariant.specs.Granules.{Passed}
-use Rattle.sharc_invariant.specs.Types.{ObjectType, nothing, CellMode}
+use Rattle.sharc_invariant.specs.{Granules.Passed, Types.{ObjectType, nothing, CellMode}}
 use Rattle.sharc_invariant.specs.Types.CellMode.{Private, Readonly, Dynamic, Locked, Sibling}
 use Rattle.sharc_invariant.specs.World.{TypeRules, RegisterOf, ObjectState, Sole, World, put2, in_ref}
 

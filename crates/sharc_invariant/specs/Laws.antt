@@ -1,25 +1,18 @@
 -- The laws of the invariant, with no call at hand.
 use Rattle.std.specs.Prelude.{ℕ, ◌≡◌, ◌≢◌, ◌<◌, ◌⊎◌, ◌++◌, Bool, true, false, List, [], ◌∷◌}
-use Rattle.sharc_code.specs.declared.code.Code.{Code}
-use Rattle.sharc_code.specs.declared.shape.Shape.{Shape}
-use Rattle.sharc_code.specs.Layout.{Fits}
+use Rattle.sharc_code.specs.{declared.code.Code.Code, declared.shape.Shape.Shape, Layout.Fits}
 use Rattle.sharc_code.specs.Machine.{Machine, instr_at, is_of_null, layout_at, pointer_cell}
-use Rattle.sharc_code.specs.Runs.{Turn, Global, MayTurn, after_turn, at, IsRun}
-use Rattle.sharc_code.specs.Whole.{one_thread, bounds}
+use Rattle.sharc_code.specs.{Runs.{Turn, Global, MayTurn, after_turn, at, IsRun}, Whole.{one_thread, bounds}}
 use Rattle.sharc_code.specs.declared.instr.Cell.{Cell}
-use Rattle.sharc_invariant.specs.Types.{Targets, Field}
-use Rattle.sharc_invariant.specs.Labels.{Labels}
-use Rattle.sharc_invariant.specs.Typed.{IsWellTyped, HasField, IsLayout, Accesses}
-use Rattle.sharc_invariant.specs.Cells.{IsThere}
+use Rattle.sharc_invariant.specs.{Types.{Targets, Field}, Labels.Labels}
+use Rattle.sharc_invariant.specs.{Typed.{IsWellTyped, HasField, IsLayout, Accesses}, Cells.IsThere}
 use Rattle.sharc_invariant.specs.World.{TypeRules, ObjectState, World, Size, WorldInvariant, Right}
 use Rattle.sharc_invariant.specs.Words.{lang_of, has_returned}
 use Rattle.sharc_invariant.specs.State.{State, IsSmall, OnHold, all_pointers, base_of_cell, number_in}
-use Rattle.sharc_invariant.specs.Effect.{Effect, events_of, NoneOf}
-use Rattle.sharc_invariant.specs.History.{Event, Return, Tied}
+use Rattle.sharc_invariant.specs.{Effect.{Effect, events_of, NoneOf}, History.{Event, Return, Tied}}
 use Rattle.sharc_invariant.specs.Opened.{first_world, first_place}
 use Rattle.sharc_invariant.specs.Objects.{changes_objects, objects_now, objects_after}
-use Rattle.sharc_invariant.specs.MachineInvariant.{MachineInvariant, IsOn}
-use Rattle.sharc_invariant.specs.Bits.{marks_after, AllBitsStand}
+use Rattle.sharc_invariant.specs.{MachineInvariant.{MachineInvariant, IsOn}, Bits.{marks_after, AllBitsStand}}
 use Rattle.sharc_invariant.specs.Sample.{the_targets, the_labels, IsSample}
 
 -- the state behind a turn: a world with the invariant, and what has become of the world

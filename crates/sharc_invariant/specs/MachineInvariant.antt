@@ -1,20 +1,15 @@
 -- What stands of counts and of references at a place of a run, by its words and registers alone and by which objects there are.
 use Rattle.std.specs.Prelude.{ℕ, ◌+◌, ◌*◌, ◌≡◌, ◌≢◌, ◌==◌, ◌&&◌, Bool, true, slice_index, nat_lt, if◌then◌else◌}
 use Rattle.sharc_word.specs.declared.step.TheConstants.{THREADS}
-use Rattle.sharc_code.specs.declared.state.TheConstants.{FRAMES}
-use Rattle.sharc_code.specs.declared.code.Code.{Code}
-use Rattle.sharc_code.specs.declared.instr.Cell.{Cell}
-use Rattle.sharc_code.specs.declared.instr.Cell.TheVariants as cells
+use Rattle.sharc_code.specs.{declared.state.TheConstants.FRAMES, declared.code.Code.Code, declared.instr.Cell.Cell}
 use Rattle.sharc_code.specs.declared.shape.Shape.{Shape}
 use Rattle.sharc_code.specs.Layout.{granules, words_of, count_word, length_word, cell_word, cell_of}
-use Rattle.sharc_code.specs.Machine.{Machine, instr_at, ref}
-use Rattle.sharc_code.specs.Path.{may_go, most_refs}
-use Rattle.sharc_code.specs.Runs.{Global}
+use Rattle.sharc_code.specs.{Machine.{Machine, instr_at, ref}, Path.{may_go, most_refs}, Runs.Global}
+use Rattle.sharc_code.specs.declared.instr.Cell.TheVariants as cells
 use Rattle.sharc_invariant.specs.Granules.{one, sum_to}
 use Rattle.sharc_invariant.specs.Types.{Targets, CellMode, field_in, mode_at, type_at, type_of, cells_of, is_pointer, is_private}
 use Rattle.sharc_invariant.specs.Labels.{Gate, Checked, Loaded, HoldsLoaded, Sole, Entry, Empty, Refers, Unknown, Label, Labels}
-use Rattle.sharc_invariant.specs.World.{ObjectState}
-use Rattle.sharc_invariant.specs.Words.{register_of, argument_of, logged, staged_of}
+use Rattle.sharc_invariant.specs.{World.ObjectState, Words.{register_of, argument_of, logged, staged_of}}
 use Rattle.sharc_invariant.specs.State.{label_now, object_of_cell, number_in}
 
 -- ---- references

@@ -1,19 +1,13 @@
 -- Which objects there are behind the turns of a run: each comes with the last turn of its New, has another type from its Give on, and is gone
 -- from the turn of its Free that sets the count to 0.
 use Rattle.std.specs.Prelude.{ℕ, Bool, true, false, List, [], ◌∷◌}
-use Rattle.sharc_granule.specs.declared.stage.Stage.{Stage as NewStage}
-use Rattle.sharc_granule.specs.declared.stage.Stage.TheVariants.{Length}
-use Rattle.sharc_code.specs.declared.code.Code.{Code}
-use Rattle.sharc_code.specs.declared.instr.Instr.{Instr}
-use Rattle.sharc_code.specs.declared.instr.Instr.TheVariants.{New, Give, Free}
-use Rattle.sharc_code.specs.declared.shape.Shape.{Shape}
-use Rattle.sharc_code.specs.declared.state.Stage.{Stage}
-use Rattle.sharc_code.specs.declared.state.Stage.TheVariants.{Makes, Uncounts}
-use Rattle.sharc_code.specs.Machine.{Machine, instr_at, ref}
-use Rattle.sharc_code.specs.Runs.{Turn, Global, put, at, after_turn}
+use Rattle.sharc_granule.specs.{declared.stage.Stage.{Stage as NewStage}, declared.stage.Stage.TheVariants.Length}
+use Rattle.sharc_code.specs.{declared.code.Code.Code, declared.instr.Instr.Instr}
+use Rattle.sharc_code.specs.{declared.instr.Instr.TheVariants.{New, Give, Free}, declared.shape.Shape.Shape}
+use Rattle.sharc_code.specs.{declared.state.Stage.Stage, declared.state.Stage.TheVariants.{Makes, Uncounts}}
+use Rattle.sharc_code.specs.{Machine.{Machine, instr_at, ref}, Runs.{Turn, Global, put, at, after_turn}}
 use Rattle.sharc_code.specs.Whole.{one_thread, bounds}
-use Rattle.sharc_invariant.specs.Types.{ObjectType, nothing, type_of}
-use Rattle.sharc_invariant.specs.Labels.{Entry, Empty, Refers, Unknown, Labels}
+use Rattle.sharc_invariant.specs.{Types.{ObjectType, nothing, type_of}, Labels.{Entry, Empty, Refers, Unknown, Labels}}
 use Rattle.sharc_invariant.specs.World.{ObjectState}
 
 -- ---- turns that change an object

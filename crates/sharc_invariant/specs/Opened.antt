@@ -1,13 +1,8 @@
 -- The world of a code that has made no turn.
 use Rattle.std.specs.Prelude.{◌+◌, ◌==◌, true, false, [], slice_index, if◌then◌else◌}
-use Rattle.sharc_code.specs.declared.code.Code.{Code}
-use Rattle.sharc_code.specs.declared.shape.Shape.{Shape}
-use Rattle.sharc_code.specs.Machine.{Machine}
-use Rattle.sharc_code.specs.Opening.{opening_words}
-use Rattle.sharc_code.specs.Runs.{Global, opening_of}
-use Rattle.sharc_code.specs.Whole.{one_thread, bounds}
-use Rattle.sharc_invariant.specs.Granules.{GranuleState}
-use Rattle.sharc_invariant.specs.Types.{Targets, nothing, globals_target, type_at}
+use Rattle.sharc_code.specs.{declared.code.Code.Code, declared.shape.Shape.Shape, Machine.Machine}
+use Rattle.sharc_code.specs.{Opening.opening_words, Runs.{Global, opening_of}, Whole.{one_thread, bounds}}
+use Rattle.sharc_invariant.specs.{Granules.GranuleState, Types.{Targets, nothing, globals_target, type_at}}
 use Rattle.sharc_invariant.specs.World.{Slot, In, Cell, TypedReference, ObjectState, World, none, null, Shut}
 use Rattle.sharc_invariant.specs.Blocks.{Heap, Unused}
 

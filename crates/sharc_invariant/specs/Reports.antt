@@ -1,25 +1,15 @@
 -- What the turns find that may end in a report: a check is refused where another thread has passed one that it conflicts with, and only where
 -- another has made one; and a test of a sole reference finds how many references there are.
 use Rattle.std.specs.Prelude.{ℕ, ◌≡◌, ◌≢◌, ◌≤◌, ◌⊎◌, Bool, true, false, List, ◌∷◌, slice_index}
-use Rattle.sharc_shadow.specs.declared.shadow_word.Kind.{Kind}
-use Rattle.sharc_shadow.specs.declared.shadow_word.Kind.TheVariants.{Write}
+use Rattle.sharc_shadow.specs.{declared.shadow_word.Kind.Kind, declared.shadow_word.Kind.TheVariants.Write}
 use Rattle.sharc_shadow.specs.ShadowWord.{stands}
-use Rattle.sharc_code.specs.declared.code.Code.{Code}
-use Rattle.sharc_code.specs.declared.instr.Instr.TheVariants.{TestSole}
-use Rattle.sharc_code.specs.declared.shape.Shape.{Shape}
-use Rattle.sharc_code.specs.Layout.{Fits, shadow_word}
-use Rattle.sharc_code.specs.Machine.{Machine, instr_at, ref}
-use Rattle.sharc_code.specs.Path.{may_go}
-use Rattle.sharc_code.specs.Runs.{Turn, Global, IsRun, at, after_turn, result_of}
+use Rattle.sharc_code.specs.{declared.code.Code.Code, declared.instr.Instr.TheVariants.TestSole}
+use Rattle.sharc_code.specs.{declared.shape.Shape.Shape, Layout.{Fits, shadow_word}, Machine.{Machine, instr_at, ref}}
+use Rattle.sharc_code.specs.{Path.may_go, Runs.{Turn, Global, IsRun, at, after_turn, result_of}}
 use Rattle.sharc_code.specs.Whole.{one_thread, bounds}
-use Rattle.sharc_invariant.specs.Types.{Targets}
-use Rattle.sharc_invariant.specs.Labels.{Labels}
-use Rattle.sharc_invariant.specs.Typed.{IsWellTyped}
-use Rattle.sharc_invariant.specs.State.{IsSmall}
-use Rattle.sharc_invariant.specs.Opened.{first_world, first_place}
-use Rattle.sharc_invariant.specs.Objects.{objects_after}
-use Rattle.sharc_invariant.specs.MachineInvariant.{references_to}
-use Rattle.sharc_invariant.specs.Bits.{Marks, Touch, CheckOf, touch_of, marks_after}
+use Rattle.sharc_invariant.specs.{Types.Targets, Labels.Labels, Typed.IsWellTyped, State.IsSmall}
+use Rattle.sharc_invariant.specs.{Opened.{first_world, first_place}, Objects.objects_after}
+use Rattle.sharc_invariant.specs.{MachineInvariant.references_to, Bits.{Marks, Touch, CheckOf, touch_of, marks_after}}
 
 -- what the turn is to shadow words
 abbrev pub touch_at : Code → Shape → Global Machine → Turn → Touch

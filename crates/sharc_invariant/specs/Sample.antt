@@ -8,16 +8,11 @@ use Rattle.sharc_code.specs.declared.code.PlaceMode.TheVariants as modes
 use Rattle.sharc_code.specs.declared.instr.Cell.TheVariants as cells
 use Rattle.sharc_code.specs.declared.instr.Instr.{Instr}
 use Rattle.sharc_code.specs.declared.instr.Instr.TheVariants.{Constant, MoveReference, JumpIfNull, Return, ChkNull, ChkHeld, ChkNotHeld, ChkRoom, ChkLock, ChkWrite, Store, Raise, Lower, New, TakeLocal, TestSole, Clear, Give, Lock, Unlock, Spawn, Start, Exit}
+use Rattle.sharc_code.specs.{declared.instr.Width.TheVariants.{Char, Int}, declared.code.Code.Code, Machine.function_of}
+use Rattle.sharc_code.specs.{Says.place_at, Runs.put}
 use Rattle.sharc_code.specs.declared.instr.Register.TheVariants as registers
-use Rattle.sharc_code.specs.declared.instr.Width.TheVariants.{Char, Int}
-use Rattle.sharc_code.specs.declared.code.Code.{Code}
-use Rattle.sharc_code.specs.Machine.{function_of}
-use Rattle.sharc_code.specs.Says.{place_at}
-use Rattle.sharc_code.specs.Runs.{put}
-use Rattle.sharc_invariant.specs.Types.{Targets, Field, StaticType}
-use Rattle.sharc_invariant.specs.Types.FieldLock.{OfElement}
-use Rattle.sharc_invariant.specs.Types.FieldMode.{Private, Racy, Dynamic, Under}
-use Rattle.sharc_invariant.specs.Types.Content.{Integer, MutexWord}
+use Rattle.sharc_invariant.specs.{Types.{Targets, Field, StaticType}, Types.FieldLock.OfElement}
+use Rattle.sharc_invariant.specs.{Types.FieldMode.{Private, Racy, Dynamic, Under}, Types.Content.{Integer, MutexWord}}
 use Rattle.sharc_invariant.specs.Labels.{Empty, Refers, Anything, Exactly, Within, Closed, Checked, Holds, Sole, Label, Labels, Signature, fill, empty, gated, knows, set_number, without_base}
 use Rattle.sharc_invariant.specs.Typed.{moved_copy, unlocked_label}
 

@@ -1,30 +1,21 @@
 -- The invariant of a place of a checked run of typed code: a world that is the machine's, and each thread at a place whose label it stands to.
 use Rattle.std.specs.Prelude.{ℕ, ℤ, pos, zero, suc, ◌+◌, ◌-◌, ◌*◌, ◌/◌, ◌^◌, ◌≡◌, ◌≢◌, ◌<◌, ◌≤◌, ◌↔◌, min, max, true, false, List, [], length, Option, Some, None, Contains, slice_index, slice_index_or}
 use Rattle.sharc_word.specs.declared.step.TheConstants.{THREADS}
-use Rattle.sharc_granule.specs.State.{NewView}
-use Rattle.sharc_granule.specs.Block.{block_of}
-use Rattle.sharc_granule.specs.declared.stage.Stage.{Stage as NewStage}
+use Rattle.sharc_granule.specs.{State.NewView, Block.block_of, declared.stage.Stage.{Stage as NewStage}}
 use Rattle.sharc_granule.specs.declared.stage.Stage.TheVariants as news
-use Rattle.sharc_locks.specs.declared.held_log.HeldMutex.{HeldMutex}
-use Rattle.sharc_locks.specs.HeldLog.{IsHeldLog}
-use Rattle.sharc_shadow.specs.Accesses.{ListsNoted}
-use Rattle.sharc_shadow.specs.ShadowWord.{epoch_of}
-use Rattle.sharc_code.specs.declared.state.TheConstants.{FRAMES}
-use Rattle.sharc_code.specs.declared.code.Code.{Code}
-use Rattle.sharc_code.specs.declared.instr.Cell.{Cell}
-use Rattle.sharc_code.specs.declared.instr.Cell.TheVariants as cells
+use Rattle.sharc_locks.specs.{declared.held_log.HeldMutex.HeldMutex, HeldLog.IsHeldLog}
+use Rattle.sharc_shadow.specs.{Accesses.ListsNoted, ShadowWord.epoch_of}
+use Rattle.sharc_code.specs.{declared.state.TheConstants.FRAMES, declared.code.Code.Code, declared.instr.Cell.Cell}
 use Rattle.sharc_code.specs.declared.instr.Instr.{Instr}
 use Rattle.sharc_code.specs.declared.instr.Instr.TheVariants.{Call, New, Clear, Free, Spawn, Start, Exit, CondSignal}
-use Rattle.sharc_code.specs.declared.instr.Register.{Register}
-use Rattle.sharc_code.specs.declared.shape.Shape.{Shape}
-use Rattle.sharc_code.specs.declared.state.Frame.{Frame}
+use Rattle.sharc_code.specs.{declared.instr.Register.Register, declared.shape.Shape.Shape, declared.state.Frame.Frame}
 use Rattle.sharc_code.specs.declared.state.Stage.{Stage}
 use Rattle.sharc_code.specs.declared.state.Stage.TheVariants.{Rests, Looks, Clears, Makes, Empties, Lowers, FreeLooks, FreeClears, Uncounts, Links, Names, Hands, Begins, Enters, Withdraws, WithdrawsFrom, Leaves, Wakes}
 use Rattle.sharc_code.specs.Arithmetic.{holds, int_of}
 use Rattle.sharc_code.specs.Layout.{words_of, top_word, next_thread_word, state_word, function_word, argument_word, granules, first_cell, cell_of, cell_word}
 use Rattle.sharc_code.specs.Machine.{Machine, argument, instr_at, layout_at, no_frame, int, ref, place, word, is_held, pointer_cell, fields, data_granules, new_state, elements_of}
-use Rattle.sharc_code.specs.Path.{begun, may_go, most_ints, most_refs}
-use Rattle.sharc_code.specs.Runs.{Global}
+use Rattle.sharc_code.specs.{Path.{begun, may_go, most_ints, most_refs}, Runs.Global}
+use Rattle.sharc_code.specs.declared.instr.Cell.TheVariants as cells
 use Rattle.sharc_invariant.specs.Granules.{GranuleState, sum_to, Passed}
 use Rattle.sharc_invariant.specs.Types.{Targets, ObjectType, nothing, cells_of, field_in, globals_target, is_mutex, type_of}
 use Rattle.sharc_invariant.specs.Labels.{Entry, Empty, Refers, Unknown, Element, Named, Nth, Number, Anything, Exactly, Within, Indexes, OfElement, OfGlobal, Gate, Closed, Checked, Holds, Loaded, HoldsLoaded, Sole, Pass, IsIn, Label, Labels, Leads, empty}

@@ -1,17 +1,10 @@
 -- What a turn makes of the whole machine, and what it leaves to the threads that do not make it.
 use Rattle.std.specs.Prelude.{ℕ, ◌+◌, ◌≡◌, ◌≢◌, ◌⊎◌, ◌||◌, Bool, false, List, slice_index}
 use Rattle.sharc_shadow.specs.declared.shadow_word.Kind.TheVariants.{Read, Write}
-use Rattle.sharc_code.specs.declared.code.Code.{Code}
-use Rattle.sharc_code.specs.declared.shape.Shape.{Shape}
-use Rattle.sharc_code.specs.Layout.{first_cell}
-use Rattle.sharc_code.specs.Machine.{Machine}
-use Rattle.sharc_code.specs.Path.{counted}
-use Rattle.sharc_code.specs.Runs.{Global, put, is_started}
-use Rattle.sharc_code.specs.Whole.{bounds}
-use Rattle.sharc_invariant.specs.Granules.{GranuleState, Passed}
-use Rattle.sharc_invariant.specs.World.{RegisterOf, In, Cell, Sole, World, in_ref}
-use Rattle.sharc_invariant.specs.Blocks.{Heap, Built, InBlock}
-use Rattle.sharc_invariant.specs.Words.{MachineView, register_of, noted_by}
+use Rattle.sharc_code.specs.{declared.code.Code.Code, declared.shape.Shape.Shape, Layout.first_cell, Machine.Machine}
+use Rattle.sharc_code.specs.{Path.counted, Runs.{Global, put, is_started}, Whole.bounds}
+use Rattle.sharc_invariant.specs.{Granules.{GranuleState, Passed}, World.{RegisterOf, In, Cell, Sole, World, in_ref}}
+use Rattle.sharc_invariant.specs.{Blocks.{Heap, Built, InBlock}, Words.{MachineView, register_of, noted_by}}
 
 -- thread t has made a turn: the words are these, and it is there
 abbrev pub made_turn : Global Machine → ℕ → List ℕ → Machine → Global Machine

@@ -1,23 +1,17 @@
 -- Typed code: what each instruction asks of what is known at its place, and what the next place, and the target of a jump, may then know.
 use Rattle.std.specs.Prelude.{ℕ, pos, ◌+◌, ◌-◌, ◌*◌, ◌^◌, ◌≡◌, ◌≢◌, ◌<◌, ◌≤◌, ◌⊎◌, ◌==◌, ◌&&◌, Bool, true, false, List, [], ◌∷◌, length, filter, nat_lt, Option, Some, None, slice_index, slice_index_or, if◌then◌else◌}
-use Rattle.sharc_code.specs.declared.code.Code.{Code}
-use Rattle.sharc_code.specs.declared.code.Parameter.TheVariants as parameters
-use Rattle.sharc_code.specs.declared.code.PlaceMode.{PlaceMode}
-use Rattle.sharc_code.specs.declared.code.PlaceMode.TheVariants as modes
-use Rattle.sharc_code.specs.declared.instr.Cell.{Cell}
-use Rattle.sharc_code.specs.declared.instr.Cell.TheVariants as cells
-use Rattle.sharc_code.specs.declared.instr.Width.{Width}
-use Rattle.sharc_code.specs.declared.instr.Width.TheVariants.{Char, Int, Long}
+use Rattle.sharc_code.specs.{declared.code.Code.Code, declared.code.PlaceMode.PlaceMode, declared.instr.Cell.Cell}
+use Rattle.sharc_code.specs.{declared.instr.Width.Width, declared.instr.Width.TheVariants.{Char, Int, Long}}
 use Rattle.sharc_code.specs.declared.instr.Operator.{Operator}
 use Rattle.sharc_code.specs.declared.instr.Operator.TheVariants.{ShiftLeft, ShiftRight, Equal, NotEqual, Less, Greater, AtMost, AtLeast}
-use Rattle.sharc_code.specs.declared.instr.Register.{Register}
-use Rattle.sharc_code.specs.declared.instr.Register.TheVariants as registers
-use Rattle.sharc_code.specs.declared.instr.Instr.{Instr}
+use Rattle.sharc_code.specs.{declared.instr.Register.Register, declared.instr.Instr.Instr}
 use Rattle.sharc_code.specs.declared.instr.Instr.TheVariants.{Constant, Move, MoveReference, Null, ComputeInt, ComputeLong, NegateInt, NegateLong, Complement, Not, SameReference as CompareReferences, ChkWidth, Jump, JumpIfZero, JumpIfNull, Call, Return, ChkNull, ChkHeld, ChkNotHeld, ChkPositive, ChkRoom, ChkLock, ChkLockLoaded, Bounds, GlobalBounds, ChkRead, ChkWrite, Load, Store, LoadRef, Exchange, Raise, RaiseLoaded, Lower, New, TakeCell, TakeLocal, TestSole, Clear, Give, Free, Lock as LockCell, Unlock, Spawn, Join, Print, Start, Exit, CondEnter, CondWait, CondSignal, CondBroadcast}
-use Rattle.sharc_code.specs.Arithmetic.{holds, int_of}
-use Rattle.sharc_code.specs.Machine.{function_of, instr_at, layout_at}
-use Rattle.sharc_code.specs.Says.{place_at, no_global}
-use Rattle.sharc_code.specs.Runs.{put}
+use Rattle.sharc_code.specs.{Arithmetic.{holds, int_of}, Machine.{function_of, instr_at, layout_at}}
+use Rattle.sharc_code.specs.{Says.{place_at, no_global}, Runs.put}
+use Rattle.sharc_code.specs.declared.code.Parameter.TheVariants as parameters
+use Rattle.sharc_code.specs.declared.code.PlaceMode.TheVariants as modes
+use Rattle.sharc_code.specs.declared.instr.Cell.TheVariants as cells
+use Rattle.sharc_code.specs.declared.instr.Register.TheVariants as registers
 use Rattle.sharc_invariant.specs.Types.{Targets, AreTargets, Lock, StaticType, FieldLock, FieldMode, Content, Field, FieldType, field_at, field_of_cell, global_field, cells_of, is_pointer, is_private, Mentions}
 use Rattle.sharc_invariant.specs.Types.Lock.{Global, Through, Self}
 use Rattle.sharc_invariant.specs.Types.FieldLock.{OfType, OfGlobals, OfElement as OfSameElement}

@@ -2,27 +2,20 @@
 use Rattle.std.specs.Prelude.{ℕ, suc, ◌+◌, ◌*◌, ◌/◌, ◌≡◌, ◌<◌, ◌≤◌, ◌≢◌, ◌==◌, ◌&&◌, ◌||◌, Bool, true, false, List, take, Option, Some, None, slice_index, nat_lt, if◌then◌else◌}
 use Rattle.std.specs.List.{list_any}
 use Rattle.sharc_word.specs.declared.step.TheConstants.{THREADS}
-use Rattle.sharc_shadow.specs.declared.shadow_word.Kind.{Kind}
-use Rattle.sharc_shadow.specs.declared.shadow_word.Kind.TheVariants.{Read, Write}
-use Rattle.sharc_shadow.specs.declared.access_table.Note.{Note}
-use Rattle.sharc_shadow.specs.Accesses.{note_of}
+use Rattle.sharc_shadow.specs.{declared.shadow_word.Kind.Kind, declared.shadow_word.Kind.TheVariants.{Read, Write}}
+use Rattle.sharc_shadow.specs.{declared.access_table.Note.Note, Accesses.note_of}
 use Rattle.sharc_shadow.specs.ShadowWord.{epoch_of, is_written, stands}
 use Rattle.sharc_granule.specs.State.{NewView}
 use Rattle.sharc_locks.specs.HeldLog.{object_of}
-use Rattle.sharc_code.specs.declared.code.Code.{Code}
-use Rattle.sharc_code.specs.declared.code.Parameter.{Parameter}
-use Rattle.sharc_code.specs.declared.code.Parameter.TheVariants as parameters
-use Rattle.sharc_code.specs.declared.instr.Instr.{Instr}
-use Rattle.sharc_code.specs.declared.instr.Instr.TheVariants as instrs
-use Rattle.sharc_code.specs.declared.shape.Shape.{Shape}
-use Rattle.sharc_code.specs.declared.state.State.{State}
-use Rattle.sharc_code.specs.declared.state.State.TheVariants.{Ended}
-use Rattle.sharc_code.specs.declared.state.Stage.{Stage}
+use Rattle.sharc_code.specs.{declared.code.Code.Code, declared.code.Parameter.Parameter, declared.instr.Instr.Instr}
+use Rattle.sharc_code.specs.{declared.shape.Shape.Shape, declared.state.State.State}
+use Rattle.sharc_code.specs.{declared.state.State.TheVariants.Ended, declared.state.Stage.Stage}
 use Rattle.sharc_code.specs.declared.state.Stage.TheVariants.{Rests, Makes, Lowers, Links, Withdraws, WithdrawsFrom, Leaves, Enters}
 use Rattle.sharc_code.specs.Layout.{granules, first_shadow, state_word, function_word, argument_word}
 use Rattle.sharc_code.specs.Arithmetic.{holds, int_of}
-use Rattle.sharc_code.specs.Machine.{Machine, instr_at, function_of, reference_of, size_of}
-use Rattle.sharc_code.specs.Runs.{Global, put}
+use Rattle.sharc_code.specs.{Machine.{Machine, instr_at, function_of, reference_of, size_of}, Runs.{Global, put}}
+use Rattle.sharc_code.specs.declared.code.Parameter.TheVariants as parameters
+use Rattle.sharc_code.specs.declared.instr.Instr.TheVariants as instrs
 use Rattle.sharc_invariant.specs.Granules.{GranuleState}
 use Rattle.sharc_invariant.specs.Types.{Targets, Content, mode_at, type_at, field_in, is_private, is_mutex, is_pointer}
 use Rattle.sharc_invariant.specs.Types.Content.{Integer}

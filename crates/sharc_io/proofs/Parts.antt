@@ -1,8 +1,7 @@
 -- What one call takes from a source or adds to a sink, after what the calls before it did.
-use Rattle.std.proofs.Common.{ℕ, ◌≡◌, ◌≤◌, ◌+◌, List, ◌++◌, length, take, drop, Option, sym, subst, arith, length-append}
+use Rattle.std.proofs.{Common.{ℕ, ◌≡◌, ◌≤◌, ◌+◌, List, ◌++◌, length, Option, arith, length-append}, KnownBytes.Consumes-trans}
 use lib.Seq.{take-add}
-use Rattle.std.specs.Io.KnownBytes.{Consumes, Appends}
-use Rattle.std.proofs.KnownBytes.{Consumes-trans, Appends-trans}
+use Rattle.std.specs.Io.KnownBytes.{Consumes}
 use Rattle.sharc_io.specs.Reading.{TakesFront, TakesAtMost}
 
 -- a front part of n bytes after the bytes that were taken before
@@ -22,9 +21,3 @@ takes_at_most_more a b c bytes n all more before joined = record {
   taken = Consumes-trans a b c bytes more.front before more.taken;
   short = omega (arith, length-append bytes more.front, more.short);
 }
-
--- a front part of what was still to be written, after the front part that was written before
-pub appends_front_more : (a b c : Option (List ℕ)) (bytes : List ℕ) (m n : ℕ)
-    → Appends a b (take m bytes) → Appends b c (take n (drop m bytes)) → Appends a c (take (m + n) bytes)
-appends_front_more a b c bytes m n before more =
-    subst (Appends a c) (sym (take-add m n bytes)) (Appends-trans a b c _ _ before more)

@@ -1,7 +1,5 @@
 -- What reading takes from a source.
-use Rattle.std.specs.Prelude.{ℕ, ◌≡◌, ◌≤◌, List, length}
-use Rattle.std.specs.Io.KnownBytes.{Consumes}
-use Rattle.std.specs.declared.option.Option.{Option}
+use Rattle.std.specs.{Prelude.{ℕ, ◌≡◌, ◌≤◌, List, length}, Io.KnownBytes.Consumes, declared.option.Option.Option}
 
 -- a front part of what was left was taken, this many bytes long
 pub record TakesFront (old new : Option (List ℕ)) (count : ℕ) : Type 0 where

@@ -1,25 +1,12 @@
 -- The turn may be passed on: the event of the step goes to the end of the history, and of its port's part.
-use Rattle.std.proofs.Common.{◌≡◌, ◌≢◌, ℕ, suc, ◌+◌, ◌%◌, ◌^◌, ◌<◌, ◌≤◌, inl, ⊎_elim, List, [], ◌∷◌, ◌++◌, length, drop, slice_index, slice_set, refl, sym, ap, ◌∙◌, subst, arith, append_assoc, eq-eqb, ne_eqb}
-use Rattle.std.proofs.lemmas.List.{append-nil}
-use Rattle.std.proofs.lemmas.List.Elements.{filter-append}
-use Rattle.std.proofs.Math.Nat.{mod-add-mod}
+use Rattle.std.proofs.{Common.{◌≡◌, ◌≢◌, ℕ, suc, ◌+◌, ◌%◌, ◌^◌, ◌<◌, ◌≤◌, inl, ⊎_elim, List, [], ◌∷◌, ◌++◌, length, drop, slice_index, slice_set, refl, sym, ap, ◌∙◌, subst, arith, append_assoc, eq-eqb, ne_eqb}, lemmas.List.append-nil, lemmas.List.Elements.filter-append, Math.Nat.mod-add-mod}
 use Rattle.std.specs.Prelude.{Some}
 use mathlib.Core.Option.{some, none}
 use lib.ListN.{get_elem?}
 use Rattle.atomic_table.specs.Table.{Me, Allows, gives}
 use Rattle.atomic_table.proofs.Lists.{at_set}
-use Rattle.sharc_word.specs.declared.step.WordStep.{WordStep}
-use Rattle.sharc_word.specs.declared.step.WordEvent.{WordEvent}
-use Rattle.sharc_word.specs.Words.{words_after_step, words_after}
-use Rattle.sharc_word.specs.History.{MayFollow, events_of}
-use Rattle.sharc_word.specs.Place.{event_of}
-use Rattle.sharc_word.specs.Laws.{HistoryLaws}
-use Rattle.sharc_journal.specs.declared.journal.Journal.{Journal}
-use Rattle.sharc_journal.specs.declared.rule.Part.{Part}
-use Rattle.sharc_journal.specs.declared.rule.Turn.TheVariants.{Idle}
-use Rattle.sharc_journal.specs.declared.rule.View.{View}
-use Rattle.sharc_journal.specs.Rule.{Slot, IsAmong, IsNew, AreNew, AreBelow, IsRight, PartIs, TurnIs, JournalRule, idle, having, passed}
-use Rattle.sharc_journal.specs.Table.{Made, MadeStep, stepped}
+use Rattle.sharc_word.specs.{declared.step.WordStep.WordStep, declared.step.WordEvent.WordEvent, Words.{words_after_step, words_after}, History.{MayFollow, events_of}, Place.event_of, Laws.HistoryLaws}
+use Rattle.sharc_journal.specs.{declared.journal.Journal.Journal, declared.rule.Part.Part, declared.rule.Turn.TheVariants.Idle, declared.rule.View.View, Rule.{Slot, IsAmong, IsNew, AreNew, AreBelow, IsRight, PartIs, TurnIs, JournalRule, idle, having, passed}, Table.{Made, MadeStep, stepped}}
 use Rattle.sharc_journal.proofs.Kept.{St, Homes, among_one, one_part, turn_passed, head_is}
 
 pub events_push_same : (thread : ℕ) (history : List WordEvent) (e : WordEvent) → e.thread ≡ thread → events_of thread (history ++ e ∷ []) ≡ events_of thread history ++ e ∷ []

@@ -1,14 +1,8 @@
 -- Objects, cells and modes that are found to be the same are equal.
-use Rattle.std.proofs.Common.{◌≡◌, true, subst, Option, Some, None, refl, ap, ◌∙◌}
-use Rattle.std.proofs.lemmas.Bool.{eqb-true, eq-eqb, and_parts, and_from}
-use Rattle.sharc_tree.specs.declared.event.CellAt.{CellAt}
-use Rattle.sharc_tree.specs.declared.event.CellMode.{CellMode}
-use Rattle.sharc_tree.specs.declared.event.CellMode.TheVariants.{Private, Readonly, Locked, Racy, Dynamic}
-use Rattle.sharc_tree.specs.declared.event.Object.{Object}
-use Rattle.sharc_tree.specs.declared.event.Object.TheVariants.{Global, Made}
+use Rattle.std.proofs.{Common.{◌≡◌, true, subst, Option, Some, None, refl, ap, ◌∙◌}, lemmas.Bool.{eqb-true, eq-eqb, and_parts, and_from}}
+use Rattle.sharc_tree.specs.{declared.event.CellAt.CellAt, declared.event.CellMode.CellMode, declared.event.CellMode.TheVariants.{Private, Readonly, Locked, Racy, Dynamic}, declared.event.Object.Object, declared.event.Object.TheVariants.{Global, Made}}
 use Rattle.sharc_meaning.specs.Events.{same_object, same_cell}
-use Rattle.sharc_judge.specs.Deciding.{same_mutex, same_mode}
-use Rattle.sharc_judge.specs.Laws.{EqualObjects, EqualCells, EqualModes}
+use Rattle.sharc_judge.specs.{Deciding.{same_mutex, same_mode}, Laws.{EqualObjects, EqualCells, EqualModes}}
 
 pub equal_objects : (a b : Object) → same_object a b ≡ true → a ≡ b
 equal_objects (Global g) (Global h) e = ap Global (eqb-true g h e)

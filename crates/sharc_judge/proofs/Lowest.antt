@@ -1,12 +1,8 @@
 -- The lowest rule that does not hold.
-use Rattle.std.proofs.Common.{◌≡◌, ◌↔◌, IsTrue, ◌<◌, Bool, true, false, List, arith}
-use Rattle.std.proofs.lemmas.Bool.{both_ways}
+use Rattle.std.proofs.{Common.{◌≡◌, ◌↔◌, IsTrue, ◌<◌, Bool, true, false, List, arith}, lemmas.Bool.both_ways}
 use Rattle.sharc_tree.specs.declared.event.SourceEvent.{SourceEvent}
 use Rattle.sharc_meaning.specs.Obeys.{Until, Obeys}
-use Rattle.sharc_judge.specs.declared.rule.Rule.{Rule}
-use Rattle.sharc_judge.specs.declared.rule.Rule.TheVariants.{Live, OneMode, Owner, NotWritten, UnderItsLock, ReadSharedOrOneThread}
-use Rattle.sharc_judge.specs.Judged.{Holds, number, IsLowestBroken}
-use Rattle.sharc_judge.specs.Laws.{ObeysEach}
+use Rattle.sharc_judge.specs.{declared.rule.Rule.Rule, declared.rule.Rule.TheVariants.{Live, OneMode, Owner, NotWritten, UnderItsLock, ReadSharedOrOneThread}, Judged.{Holds, number, IsLowestBroken}, Laws.ObeysEach}
 
 pub broken_by : {b : Bool} {P : Type 0} → (IsTrue b ↔ P) → b ≡ false → P → ⊥
 broken_by {b = b} h e p = both_ways b e (h.1 p)
@@ -15,17 +11,6 @@ pub kept_by : {b : Bool} {P : Type 0} → (IsTrue b ↔ P) → b ≡ true → P
 kept_by h e = h.0 e
 
 module _ (R : List SourceEvent) (until : Until) where
-  below_1 : (other : Rule) → number other < 1 → Holds R until other
-  below_1 Live less = absurd (omega (arith, less))
-  below_1 OneMode less = absurd (omega (arith, less))
-  below_1 Owner less = absurd (omega (arith, less))
-  below_1 NotWritten less = absurd (omega (arith, less))
-  below_1 UnderItsLock less = absurd (omega (arith, less))
-  below_1 ReadSharedOrOneThread less = absurd (omega (arith, less))
-
-  pub lowest_1 : (Holds R until Live → ⊥) → IsLowestBroken R until Live
-  lowest_1 broken = record { broken = broken; lower = below_1 }
-
   below_2 : (h1 : Holds R until Live) (other : Rule) → number other < 2 → Holds R until other
   below_2 h1 Live less = h1
   below_2 h1 OneMode less = absurd (omega (arith, less))

@@ -1,16 +1,8 @@
 -- Tests at each place of a list, and at each pair of places.
-use Rattle.std.proofs.Common.{◌≡◌, ◌⊎◌, inl, inr, ℕ, ◌+◌, ◌<◌, Bool, true, false, ◌||◌, List, [], ◌∷◌, ◌++◌, take, drop, length, slice_index_or, refl, ap, sym, ◌∙◌, append_assoc, append-nil, add-one, drop-cons, suc}
+use Rattle.std.proofs.{Common.{◌≡◌, ◌⊎◌, inl, inr, ◌+◌, ◌<◌, Bool, false, ◌||◌, List, [], ◌∷◌, ◌++◌, refl, ap, sym, ◌∙◌, append_assoc, append-nil}, lemmas.Bool.{or_parts as neither, or_from as none_of}}
 use Rattle.sharc_tree.specs.declared.event.SourceEvent.{SourceEvent}
 use Rattle.sharc_meaning.specs.Events.{Stands}
 use Rattle.sharc_judge.specs.Deciding.{any_place, any_pair}
-use Rattle.sharc_judge.proofs.Lists.{take_next}
-
-pub neither : (x y : Bool) → (x || y) ≡ false → (x ≡ false) × (y ≡ false)
-neither true y h = absurd (cc)
-neither false y h = (refl, h)
-
-pub none_of : (x y : Bool) → x ≡ false → y ≡ false → (x || y) ≡ false
-none_of x y e f = rw (e, f) refl
 
 -- ---- at each place
 
@@ -32,15 +24,6 @@ from_each p before [] h = refl
 from_each p before (d ∷ l) h =
     none_of (p before d) (any_place p (before ++ d ∷ []) l) (ap (λ z. p z d) (sym (append-nil before)) ∙ h [] d l refl)
     (from_each p (before ++ d ∷ []) l (λ b e a is. ap (λ z. p z e) (append_assoc before (d ∷ []) b) ∙ h (d ∷ b) e a (ap (λ z. d ∷ z) is)))
-
--- one place more
-pub place_next : (p : List SourceEvent → SourceEvent → Bool) (l : List SourceEvent) (i : ℕ) (e : SourceEvent) → i < length l → e ≡ slice_index_or l i e
-    → any_place p (take i l) (drop i l) ≡ (p (take i l) e || any_place p (take (i + 1) l) (drop (i + 1) l))
-place_next p l i e h is =
-    ap (any_place p (take i l)) next ∙ ap (λ z. p (take i l) e || any_place p z (drop (i + 1) l)) (sym (take_next l i e h is))
-  where
-    next : drop i l ≡ e ∷ drop (i + 1) l
-    next = rw (add-one, drop-cons l i e h) (ap (λ z. z ∷ drop (suc i) l) (sym is))
 
 -- ---- at each pair
 

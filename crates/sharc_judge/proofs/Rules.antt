@@ -1,29 +1,14 @@
 -- A rule of the modes holds exactly where no access breaks it.
-use Rattle.std.proofs.Common.{◌≡◌, ◌≢◌, ◌↔◌, ◌⊎◌, inl, inr, ℕ, ◌==◌, Bool, true, false, not, ◌&&◌, ◌||◌, List, [], ◌∷◌, ◌++◌, Option, Some, None, refl, ap, sym, subst, ◌∙◌, append_assoc}
+use Rattle.std.proofs.{Common.{◌≡◌, ◌≢◌, ◌↔◌, ◌⊎◌, inl, inr, ℕ, ◌==◌, Bool, true, false, not, ◌&&◌, ◌||◌, List, [], ◌∷◌, ◌++◌, Option, Some, None, refl, ap, sym, subst, ◌∙◌, append_assoc}, lemmas.Bool.{not-true, not-false, not_from_true, not_from_false, both_ways, and_parts, and_from, and_cases, and_left, and_right, or_parts, or_from, eqb-true, eq-eqb, ne_eqb, false_from_ne_true as no_conflict}, lemmas.List.Folds.list_any-append}
 use Rattle.std.specs.List.{list_any}
-use Rattle.std.proofs.lemmas.Bool.{not-true, not-false, not_from_true, not_from_false, both_ways, and_parts, and_from, and_cases, and_left, and_right, or_parts, or_from, eqb-true, eq-eqb, ne_eqb}
-use Rattle.std.proofs.lemmas.List.Folds.{list_any-append}
-use Rattle.sharc_tree.specs.declared.event.Act.{Act}
-use Rattle.sharc_tree.specs.declared.event.Act.TheVariants.{Read, Write, New, Take, Give, Freed, Lock, Unlock, Spawn, Started, Join, Print, Return, Gone, Enter, Woken, Signal, Broadcast}
-use Rattle.sharc_tree.specs.declared.event.CellAt.{CellAt}
-use Rattle.sharc_tree.specs.declared.event.CellMode.{CellMode}
-use Rattle.sharc_tree.specs.declared.event.CellMode.TheVariants.{Private, Readonly, Locked, Racy, Dynamic}
-use Rattle.sharc_tree.specs.declared.event.Object.{Object}
-use Rattle.sharc_tree.specs.declared.event.Object.TheVariants.{Global, Made}
-use Rattle.sharc_tree.specs.declared.event.SourceEvent.{SourceEvent}
-use Rattle.sharc_meaning.specs.Events.{same_object, same_cell, granule_of, Access, access_by, begins, frees, locks, unlocks, unless_unlocked, locked_by, held_mutexes, holds_mutex, is_of, events_of, Stands}
-use Rattle.sharc_meaning.specs.Obeys.{IsAccess, AccessSet, ends, IsThere, ToLive, UnderOneMode, is_owner, ByOwner, Unwritten, UnderLock, ReadSharedOrOwn}
+use Rattle.sharc_tree.specs.{declared.event.Act.Act, declared.event.Act.TheVariants.{Read, Write, New, Take, Give, Freed, Lock, Unlock, Spawn, Started, Join, Print, Return, Gone, Enter, Woken, Signal, Broadcast}, declared.event.CellAt.CellAt, declared.event.CellMode.CellMode, declared.event.CellMode.TheVariants.{Private, Readonly, Locked, Racy, Dynamic}, declared.event.Object.Object, declared.event.Object.TheVariants.{Global, Made}, declared.event.SourceEvent.SourceEvent}
+use Rattle.sharc_meaning.specs.{Events.{same_object, same_cell, granule_of, Access, access_by, begins, frees, locks, unlocks, unless_unlocked, locked_by, held_mutexes, holds_mutex, is_of, events_of, Stands}, Obeys.{IsAccess, AccessSet, ends, IsThere, ToLive, UnderOneMode, is_owner, ByOwner, Unwritten, UnderLock, ReadSharedOrOwn}}
 use Rattle.sharc_meaning.specs.Obeys as obeys
 use Rattle.sharc_judge.specs.declared.history.Test.TheVariants as test
 use Rattle.sharc_judge.specs.declared.pair.Pair.TheVariants as pair
-use Rattle.sharc_judge.specs.declared.pair.Until.{Until}
-use Rattle.sharc_judge.specs.declared.rule.Rule.{Rule}
+use Rattle.sharc_judge.specs.{declared.pair.Until.Until, declared.rule.Rule.Rule, Deciding.{view_until, same_mode, is_dynamic, test_of, any_place, any_pair, pair_of, disagrees, conflicts, is_there, not_by_owner, is_written, without_lock, beside, breaks, of_access, breaks_with, breaks_by}, Judged.Holds, Laws.{Unbroken, HoldsUnbroken}}
 use Rattle.sharc_judge.specs.declared.rule.Rule.TheVariants as rule
-use Rattle.sharc_judge.specs.Deciding.{view_until, same_mode, is_dynamic, test_of, any_place, any_pair, pair_of, disagrees, conflicts, is_there, not_by_owner, is_written, without_lock, beside, breaks, of_access, breaks_with, breaks_by}
-use Rattle.sharc_judge.specs.Judged.{Holds}
-use Rattle.sharc_judge.specs.Laws.{Unbroken, HoldsUnbroken}
-use Rattle.sharc_judge.proofs.Alike.{equal_objects, same_as_itself, equal_cells, same_cell_itself, equal_modes, same_mode_itself}
-use Rattle.sharc_judge.proofs.Pairs.{at_each, from_each, at_each_pair, from_each_pair, Behind, in_order}
+use Rattle.sharc_judge.proofs.{Alike.{equal_objects, same_as_itself, equal_cells, same_cell_itself, equal_modes, same_mode_itself}, Pairs.{at_each, from_each, at_each_pair, from_each_pair, Behind, in_order}}
 
 unbroken : (rule : Rule) (u : Until) (R : List SourceEvent) → any_place (breaks_by rule u) [] R ≡ false → Unbroken rule u R
 unbroken rule u R h before e after a stands is = ap (breaks_with rule u before e.thread) (sym is) ∙ at_each (breaks_by rule u) [] R h before e after stands
@@ -324,10 +309,6 @@ conflicting u thread b d between c =
     (and_from _ _ (not_from_false _ (ne_eqb d.thread thread c.other))
     (ap (conflicts b) c.is ∙ and_from _ _ (ap is_dynamic c.mode) (and_from _ _ (subst (λ z. same_object a.cell.object z ≡ true) c.object (same_as_itself a.cell.object)) (and_from _ _ (eq-eqb _ _ c.granule) c.write))))
     (and_from _ _ (not_from_false _ c.begun) (not_from_false _ c.ended))
-
-no_conflict : (b : Bool) → (b ≡ true → ⊥) → b ≡ false
-no_conflict true h = absurd (h refl)
-no_conflict false h = refl
 
 beside_none : (m : CellMode) (u : Until) (before : List SourceEvent) (thread : ℕ) (b : Access) → (m ≡ Dynamic → any_pair (pair_of (pair.Conflicts u thread (of_access b))) before ≡ false) → beside m u before thread (of_access b) ≡ false
 beside_none Dynamic u before thread b h = h refl

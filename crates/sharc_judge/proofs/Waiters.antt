@@ -1,14 +1,8 @@
 -- The lowest of the threads that wait.
-use Rattle.std.proofs.Common.{◌≡◌, ◌↔◌, ◌⊎◌, inl, inr, ℕ, ℤ, pos, ◌+◌, ◌<◌, ◌≤◌, nat_lt, Bool, true, false, ◌||◌, List, [], ◌∷◌, reverse, Option, Some, None, if◌then◌else◌, refl, ap, sym, subst, ◌∙◌, arith}
+use Rattle.std.proofs.{Common.{◌≡◌, ◌↔◌, ◌⊎◌, inl, inr, ℕ, ℤ, pos, ◌+◌, ◌<◌, ◌≤◌, nat_lt, Bool, true, false, ◌||◌, List, [], ◌∷◌, reverse, Option, Some, None, if◌then◌else◌, refl, ap, sym, subst, ◌∙◌, arith}, Math.Bool.or-false, lemmas.Bool.{ltb-true, ltb-false, eqb-true, and_parts, or_cases, or_left, or_right, both_ways, cases_order}, lemmas.List.reverse-append, lemmas.List.Folds.list_any-append}
 use Rattle.std.specs.List.{list_any, find}
-use Rattle.std.proofs.Math.Bool.{or-false}
-use Rattle.std.proofs.lemmas.Bool.{ltb-true, ltb-false, eqb-true, and_parts, or_cases, or_left, or_right, both_ways, cases_order}
-use Rattle.std.proofs.lemmas.List.{reverse-append}
-use Rattle.std.proofs.lemmas.List.Folds.{list_any-append}
-use Rattle.sharc_tree.specs.declared.event.CellAt.{CellAt}
-use Rattle.sharc_tree.specs.declared.event.SourceEvent.{SourceEvent}
-use Rattle.sharc_meaning.specs.Events.{is_of}
-use Rattle.sharc_meaning.specs.Store.{meets, enters, takes_away, is_waiter, Signals}
+use Rattle.sharc_tree.specs.{declared.event.CellAt.CellAt, declared.event.SourceEvent.SourceEvent}
+use Rattle.sharc_meaning.specs.{Events.is_of, Store.{meets, enters, takes_away, is_waiter, Signals}}
 use Rattle.sharc_judge.specs.Deciding.{or_lower, lower_waiter, lowest_from, lowest_waiter, waiter_answer}
 
 -- ---- who waits has an event

@@ -1,24 +1,18 @@
 -- Tests of events, and of pairs of events, as Bool: what the private functions say.
 use Rattle.std.specs.Prelude.{ℕ, ℤ, pos, ◌+◌, ◌==◌, Bool, true, false, not, ◌&&◌, ◌||◌, List, [], ◌∷◌, ◌++◌, Option, Some, None, nat_lt, if◌then◌else◌}
 use Rattle.std.specs.List.{list_any}
-use Rattle.sharc_tree.specs.declared.event.Act.{Act}
-use Rattle.sharc_tree.specs.declared.event.CellAt.{CellAt}
-use Rattle.sharc_tree.specs.declared.event.CellMode.{CellMode}
+use Rattle.sharc_tree.specs.{declared.event.Act.Act, declared.event.CellAt.CellAt, declared.event.CellMode.CellMode}
 use Rattle.sharc_tree.specs.declared.event.CellMode.TheVariants.{Private, Readonly, Locked, Racy, Dynamic}
-use Rattle.sharc_tree.specs.declared.event.Object.{Object}
-use Rattle.sharc_tree.specs.declared.event.Object.TheVariants.{Global, Made}
+use Rattle.sharc_tree.specs.{declared.event.Object.Object, declared.event.Object.TheVariants.{Global, Made}}
 use Rattle.sharc_tree.specs.declared.event.SourceEvent.{SourceEvent}
 use Rattle.sharc_meaning.specs.Events.{same_object, same_cell, granule_of, Access, access_by, makes, frees, begins, locks, unlocks, latest}
-use Rattle.sharc_meaning.specs.Obeys as obeys
 use Rattle.sharc_meaning.specs.Store.{changes, is_live, meets, is_natural, spawns, is_gone, enters, takes_away, is_waiter}
-use Rattle.sharc_judge.specs.declared.access.CellAccess.{CellAccess}
-use Rattle.sharc_judge.specs.declared.history.Test.{Test}
+use Rattle.sharc_meaning.specs.Obeys as obeys
+use Rattle.sharc_judge.specs.{declared.access.CellAccess.CellAccess, declared.history.Test.Test}
+use Rattle.sharc_judge.specs.{declared.pair.Pair.Pair, declared.pair.Until.Until, declared.rule.Rule.Rule}
 use Rattle.sharc_judge.specs.declared.history.Test.TheVariants as test
-use Rattle.sharc_judge.specs.declared.pair.Pair.{Pair}
 use Rattle.sharc_judge.specs.declared.pair.Pair.TheVariants as pair
-use Rattle.sharc_judge.specs.declared.pair.Until.{Until}
 use Rattle.sharc_judge.specs.declared.pair.Until.TheVariants as until
-use Rattle.sharc_judge.specs.declared.rule.Rule.{Rule}
 use Rattle.sharc_judge.specs.declared.rule.Rule.TheVariants as rule
 
 -- ---- views

@@ -1,16 +1,11 @@
 -- What the tests of this crate are to those who argue with them.
 use Rattle.std.specs.Prelude.{◌≡◌, ◌↔◌, true, false, List}
-use Rattle.sharc_tree.specs.declared.event.CellAt.{CellAt}
-use Rattle.sharc_tree.specs.declared.event.CellMode.{CellMode}
-use Rattle.sharc_tree.specs.declared.event.Object.{Object}
-use Rattle.sharc_tree.specs.declared.event.SourceEvent.{SourceEvent}
-use Rattle.sharc_meaning.specs.Events.{same_object, same_cell, Access, Stands}
+use Rattle.sharc_tree.specs.{declared.event.CellAt.CellAt, declared.event.CellMode.CellMode}
+use Rattle.sharc_tree.specs.{declared.event.Object.Object, declared.event.SourceEvent.SourceEvent}
+use Rattle.sharc_meaning.specs.{Events.{same_object, same_cell, Access, Stands}, Obeys.{IsAccess, Obeys}}
 use Rattle.sharc_meaning.specs.Obeys as obeys
-use Rattle.sharc_meaning.specs.Obeys.{IsAccess, Obeys}
-use Rattle.sharc_judge.specs.declared.pair.Until.{Until}
-use Rattle.sharc_judge.specs.declared.rule.Rule.{Rule}
-use Rattle.sharc_judge.specs.Deciding.{view_until, same_mode, of_access, breaks}
-use Rattle.sharc_judge.specs.Judged.{Holds}
+use Rattle.sharc_judge.specs.{declared.pair.Until.Until, declared.rule.Rule.Rule}
+use Rattle.sharc_judge.specs.{Deciding.{view_until, same_mode, of_access, breaks}, Judged.Holds}
 
 -- ---- the rules
 

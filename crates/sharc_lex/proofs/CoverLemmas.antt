@@ -1,26 +1,10 @@
 -- What the grammar reads are tokens in order, each the slice of its span, with white space and line markers alone between them.
-use Rattle.std.proofs.Common.{◌≡◌, ℕ, zero, suc, ◌+◌, ◌-◌, ◌<◌, ◌≤◌, ◌==◌, min, Bool, true, false, cond, List, [], ◌∷◌, ◌++◌, length, get_or, take, drop, slice_index, Result, Ok, Err, sym, refl, ap, ◌∙◌, subst, inl, inr, arith, add-zero, one-add, length-drop, length-take-le, get_or-drop}
-use Rattle.std.specs.Prelude.{ok_or, not, All}
-use Rattle.std.specs.List.{prefix_len, position_or_len}
-use Rattle.std.proofs.lemmas.Bool.{cases_lt, eqb-true}
-use Rattle.std.proofs.lemmas.List.{drop-drop, take-append-le, take-append-drop}
-use Rattle.std.proofs.lemmas.List.Elements.{All-nil, All-cons, All-append, All-weaker}
-use Rattle.std.proofs.lemmas.List.Sums.{prefix_len-le-length, passes_at_first}
+use Rattle.std.proofs.{Common.{◌≡◌, ℕ, zero, suc, ◌+◌, ◌-◌, ◌<◌, ◌≤◌, ◌==◌, min, Bool, true, false, cond, List, [], ◌∷◌, ◌++◌, length, get_or, take, drop, slice_index, Result, Ok, Err, sym, refl, ap, ◌∙◌, subst, inl, inr, arith, add-zero, one-add, length-drop, length-take-le, get_or-drop}, lemmas.Bool.{cases_lt, eqb-true}, lemmas.List.{drop-drop, take-append-le, take-append-drop}, lemmas.List.Elements.{All-nil, All-cons, All-append, All-weaker}, lemmas.List.Sums.{prefix_len-le-length, passes_at_first}}
+use Rattle.std.specs.{Prelude.{ok_or, not, All}, List.{prefix_len, position_or_len}}
 use Rattle.sharc_tree.specs.declared.token.Token.{Token}
-use Rattle.sharc_lex.specs.declared.fault.Fault.{Fault}
+use Rattle.sharc_lex.specs.{declared.fault.Fault.Fault, declared.fault.Place.Place, declared.token_at.Lexeme.Lexeme, Bytes.{is_white_space, is_blank}, Files.with_file, Grammar.{Read, tokens_of, token, at_offset, behind_tokens, marker_line, text_line, line_read, marked, with_tokens, with_place, IsWithin, ◌>>=◌}, Laws.{IsLongest, IsBetween, IsSlice, Covers}, Lines.{line_at, BeginsLine}, Markers.{is_marker_line, marker}, TokenAt.token_at}
 use Rattle.sharc_lex.specs.declared.fault.Fault.TheVariants as fault
-use Rattle.sharc_lex.specs.declared.fault.Place.{Place}
-use Rattle.sharc_lex.specs.declared.token_at.Lexeme.{Lexeme}
-use Rattle.sharc_lex.specs.Bytes.{is_white_space, is_blank}
-use Rattle.sharc_lex.specs.Files.{with_file}
-use Rattle.sharc_lex.specs.Grammar.{Read, tokens_of, token, at_offset, behind_tokens, marker_line, text_line, line_read, marked, with_tokens, with_place, IsWithin, ◌>>=◌}
-use Rattle.sharc_lex.specs.Laws.{IsLongest, IsBetween, IsSlice, Covers}
-use Rattle.sharc_lex.specs.Lines.{line_at, BeginsLine}
-use Rattle.sharc_lex.specs.Markers.{is_marker_line, marker}
-use Rattle.sharc_lex.specs.TokenAt.{token_at}
-use Rattle.sharc_lex.proofs.LongestLemmas.{token_longest}
-use Rattle.sharc_lex.proofs.ReadingLemmas.{lines_from, lines_from-first, lines_from-end, len_of}
-use Rattle.sharc_lex.proofs.WithinLemmas.{chosen, bind_ok, ok_injective, with_file-length, with_place-ok, behind_tokens-ok}
+use Rattle.sharc_lex.proofs.{LongestLemmas.token_longest, ReadingLemmas.{lines_from, lines_from-first, lines_from-end, len_of}, WithinLemmas.{chosen, bind_ok, ok_injective, with_file-length, with_place-ok, behind_tokens-ok}}
 
 -- the bytes up to the first newline, and those after the first of them
 abbrev line_of : List ℕ → List ℕ

@@ -1,10 +1,6 @@
 -- The names of files in a set of slices.
-use Rattle.std.proofs.Common.{◌≡◌, ℕ, ◌+◌, Bool, true, false, not, cond, nat_eq, List, [], ◌∷◌, ◌++◌, map, refl, ap, ◌∙◌, ◌||◌}
-use Rattle.std.proofs.lemmas.List.{map-append}
-use Rattle.std.specs.Borrow.{Bor}
-use Rattle.std.specs.List.{list_any, position_or_len}
-use Rattle.std.specs.Cmp.Lexicographic.{pointwise}
-use Rattle.std.specs.Str.{bytes_eq}
+use Rattle.std.proofs.{Common.{◌≡◌, ℕ, ◌+◌, Bool, true, false, not, cond, nat_eq, List, [], ◌∷◌, ◌++◌, map, refl, ap, ◌∙◌, ◌||◌}, lemmas.List.map-append}
+use Rattle.std.specs.{Borrow.Bor, List.{list_any, position_or_len}, Cmp.Lexicographic.pointwise, Str.bytes_eq}
 use Rattle.indexmap.specs.IndexSet.{insert_key}
 use Rattle.sharc_lex.specs.Files.{with_file, place_of}
 

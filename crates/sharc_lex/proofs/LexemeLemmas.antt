@@ -1,22 +1,9 @@
 -- A token has a byte at least, and no more than there are.
-use Rattle.std.proofs.Common.{◌≡◌, ℕ, ◌+◌, ◌<◌, ◌≤◌, min, Bool, true, false, cond, ◌||◌, ltb, eqb, nat_eq, ◌⊎◌, List, [], ◌∷◌, ◌++◌, length, take, Option, Some, None, Result, Ok, Err, sym, refl, ap, ◌∙◌, subst, inl, inr, arith, length-take}
-use Rattle.std.specs.Prelude.{ok_or, option_map, IfOk}
-use Rattle.std.specs.List.{prefix_len, starts_with, list_all}
-use Rattle.std.proofs.lemmas.List.Sums.{prefix_len-le-length}
-use Rattle.std.proofs.lemmas.Bool.{and_parts, ltb-true}
-use Rattle.std.proofs.lemmas.Slice.Eq.{bytes_eq-Decides}
+use Rattle.std.proofs.{Common.{◌≡◌, ℕ, ◌+◌, ◌<◌, ◌≤◌, min, Bool, true, cond, ◌||◌, ltb, eqb, nat_eq, ◌⊎◌, List, [], ◌∷◌, ◌++◌, length, take, Option, Some, None, Result, Ok, Err, sym, refl, ap, ◌∙◌, subst, inl, inr, arith, length-take}, lemmas.List.Sums.prefix_len-le-length, lemmas.Bool.{and_parts, ltb-true}, lemmas.Slice.Eq.bytes_eq-Decides}
+use Rattle.std.specs.{Prelude.{ok_or, option_map, IfOk}, List.{prefix_len, starts_with, list_all}}
 use Rattle.sharc_tree.specs.declared.token.TokenKind.{TokenKind}
-use Rattle.sharc_lex.specs.declared.fault.Fault.{Fault}
-use Rattle.sharc_lex.specs.declared.token_at.Lexeme.{Lexeme}
-use Rattle.sharc_lex.specs.Bytes.{is_letter, is_digit, is_word_byte}
-use Rattle.sharc_lex.specs.Characters.{character, constant, plain, behind_backslash}
-use Rattle.sharc_lex.specs.Punctuators.{first_begun, singles, pairs, triples, quadruples}
-use Rattle.sharc_lex.specs.TokenAt.{LiesIn, token_at, of_len}
-
--- which way a test goes
-chosen : {A : Type 0} (b : Bool) (x y z : A) → cond b x y ≡ z → ((b ≡ true) × (x ≡ z)) ⊎ ((b ≡ false) × (y ≡ z))
-chosen true x y z e = inl (refl, e)
-chosen false x y z e = inr (refl, e)
+use Rattle.sharc_lex.specs.{declared.fault.Fault.Fault, declared.token_at.Lexeme.Lexeme, Bytes.{is_letter, is_digit, is_word_byte}, Characters.{character, constant, plain, behind_backslash}, Punctuators.{first_begun, singles, pairs, triples, quadruples}, TokenAt.{LiesIn, token_at, of_len}}
+use Rattle.sharc_lex.proofs.WithinLemmas.{chosen}
 
 pub of_len-len : (len : ℕ) (r : Result TokenKind Fault) (found : Lexeme) → of_len len r ≡ Ok found → found.len ≡ len
 of_len-len len (Ok k) found e = let same : found ≡ record { len = len; kind = k } = cc in ap (λ (x : Lexeme). x.len) same

@@ -1,13 +1,7 @@
 -- The tokens of a line, a step at a time.
-use Rattle.std.proofs.Common.{◌≡◌, ℕ, zero, suc, ◌+◌, ◌-◌, ◌<◌, true, false, cond, List, [], ◌∷◌, ◌++◌, length, get_or, drop, Result, Ok, Err, sym, refl, ap, ◌∙◌, arith, add-zero, append_assoc}
+use Rattle.std.proofs.Common.{◌≡◌, ℕ, zero, suc, ◌+◌, ◌-◌, ◌<◌, false, cond, List, [], ◌∷◌, ◌++◌, length, get_or, drop, Result, Ok, Err, sym, refl, ap, ◌∙◌, arith, add-zero, append_assoc}
 use Rattle.sharc_tree.specs.declared.token.Token.{Token}
-use Rattle.sharc_lex.specs.declared.fault.Fault.{Fault}
-use Rattle.sharc_lex.specs.declared.fault.LineFault.{LineFault}
-use Rattle.sharc_lex.specs.declared.fault.Place.{Place}
-use Rattle.sharc_lex.specs.declared.token_at.Lexeme.{Lexeme}
-use Rattle.sharc_lex.specs.Bytes.{is_white_space}
-use Rattle.sharc_lex.specs.Grammar.{tokens_of, token, at_offset, behind_tokens, Steps, ◌>>=◌}
-use Rattle.sharc_lex.specs.TokenAt.{token_at}
+use Rattle.sharc_lex.specs.{declared.fault.Fault.Fault, declared.fault.LineFault.LineFault, declared.fault.Place.Place, declared.token_at.Lexeme.Lexeme, Bytes.is_white_space, Grammar.{tokens_of, token, at_offset, behind_tokens, Steps, ◌>>=◌}, TokenAt.token_at}
 use Rattle.sharc_lex.proofs.LexemeLemmas.{token_lies}
 
 -- after the bytes that belong to a token
@@ -17,10 +11,6 @@ tokens_of-taken place (suc taken) offset [] = refl
 tokens_of-taken place (suc taken) offset (b ∷ bytes) =
     let same : offset + 1 + taken ≡ offset + suc taken = omega arith in
     tokens_of-taken place taken (offset + 1) bytes ∙ ap (λ o. tokens_of place 0 o (drop taken bytes)) same
-
--- white space gives no token
-pub tokens_of-white : (place : Place) (offset b : ℕ) (bytes : List ℕ) → is_white_space b ≡ true → tokens_of place 0 offset (b ∷ bytes) ≡ tokens_of place 0 (offset + 1) bytes
-tokens_of-white place offset b bytes white = ap (λ t. cond t (tokens_of place 0 (offset + 1) bytes) (at_offset offset (token_at b bytes) >>= λ found. tokens_of place (found.len - 1) (offset + 1) bytes >>= λ tokens. Ok (token place offset (b ∷ bytes) found ∷ tokens))) white
 
 tokens_of-black : (place : Place) (offset b : ℕ) (bytes : List ℕ) → is_white_space b ≡ false → tokens_of place 0 offset (b ∷ bytes) ≡ (at_offset offset (token_at b bytes) >>= λ found. tokens_of place (found.len - 1) (offset + 1) bytes >>= λ tokens. Ok (token place offset (b ∷ bytes) found ∷ tokens))
 tokens_of-black place offset b bytes black = ap (λ t. cond t (tokens_of place 0 (offset + 1) bytes) (at_offset offset (token_at b bytes) >>= λ found. tokens_of place (found.len - 1) (offset + 1) bytes >>= λ tokens. Ok (token place offset (b ∷ bytes) found ∷ tokens))) black
@@ -45,15 +35,6 @@ tokens_of-token place offset b bytes found black e =
 pub behind_tokens-push : (before : List Token) (t : Token) (r : Result (List Token) LineFault) → behind_tokens before (r >>= λ tokens. Ok (t ∷ tokens)) ≡ behind_tokens (before ++ t ∷ []) r
 behind_tokens-push before t (Ok tokens) = ap (λ ts. Ok ts) (sym (append_assoc before (t ∷ []) tokens))
 behind_tokens-push before t (Err found) = refl
-
--- a step over white space, and over a token
-pub step_white : (tokens : List Token) (place : Place) (offset : ℕ) (bytes : List ℕ) → 0 < length bytes → is_white_space (get_or bytes 0 0) ≡ true → Steps tokens tokens place offset bytes 1
-step_white tokens place offset [] some white = absurd (omega (arith, some))
-step_white tokens place offset (b ∷ bytes) some white = record {
-  some = omega arith;
-  within = omega arith;
-  read = ap (behind_tokens tokens) (tokens_of-white place offset b bytes white);
-}
 
 pub step_token : (tokens : List Token) (place : Place) (offset : ℕ) (bytes : List ℕ) (found : Lexeme) → 0 < length bytes → is_white_space (get_or bytes 0 0) ≡ false → token_at (get_or bytes 0 0) (drop 1 bytes) ≡ Ok found → Steps tokens (tokens ++ token place offset bytes found ∷ []) place offset bytes found.len
 step_token tokens place offset [] found some black e = absurd (omega (arith, some))

@@ -1,26 +1,11 @@
 -- The token at the front of the bytes is the longest one there.
-use Rattle.std.proofs.Common.{◌≡◌, ℕ, zero, suc, ◌+◌, ◌-◌, ◌<◌, ◌≤◌, ◌==◌, Bool, true, false, not, cond, ◌&&◌, leb, eqb, nat_eq, ◌⊎◌, List, [], ◌∷◌, length, get_or, take, Some, Result, Ok, Err, sym, refl, ap, ◌∙◌, subst, inl, inr, arith, one-add, length-take-le}
-use Rattle.std.specs.Prelude.{ok_or, option_map, All, Contains, IfOk}
-use Rattle.std.specs.List.{prefix_len, starts_with, list_all}
-use Rattle.std.proofs.lemmas.Bool.{cases_Bool, and_parts, leb-true, false≢true, eqb-true, eq-eqb, not-true}
-use Rattle.std.proofs.lemmas.List.{take_all}
-use Rattle.std.proofs.lemmas.List.Elements.{All-cons, All-contains, All-weaker}
-use Rattle.std.proofs.lemmas.List.Sums.{AllPass-from_list_all}
-use Rattle.std.proofs.lemmas.Slice.Eq.{bytes_eq-Decides}
+use Rattle.std.proofs.{Common.{◌≡◌, ℕ, zero, suc, ◌+◌, ◌-◌, ◌<◌, ◌≤◌, ◌==◌, Bool, true, false, not, cond, ◌&&◌, leb, eqb, nat_eq, ◌⊎◌, List, [], ◌∷◌, length, get_or, take, Some, Result, Ok, Err, sym, refl, ap, ◌∙◌, subst, inl, inr, arith, one-add, length-take-le}, lemmas.Bool.{cases_Bool, and_parts, leb-true, false≢true, eqb-true, eq-eqb, not-true}, lemmas.List.take_all, lemmas.List.Elements.{All-cons, All-contains, All-weaker}, lemmas.List.Sums.AllPass-from_list_all, lemmas.Slice.Eq.bytes_eq-Decides}
+use Rattle.std.specs.{Prelude.{ok_or, option_map, All, Contains, IfOk}, List.{prefix_len, starts_with, list_all}}
 use Rattle.sharc_tree.specs.declared.token.TokenKind.{TokenKind}
 use Rattle.sharc_tree.specs.declared.token.TokenKind.TheVariants as kind
-use Rattle.sharc_lex.specs.declared.fault.Fault.{Fault}
+use Rattle.sharc_lex.specs.{declared.fault.Fault.Fault, declared.token_at.Lexeme.Lexeme, Bytes.{is_letter, is_digit, is_word_byte}, Characters.{character, constant, plain, behind_backslash}, Laws.{IsRun, IsConstant, IsToken, IsLongest}, Numbers.number, Punctuators.{punctuator, punctuators, first_begun}, TokenAt.{token_at, word_at, number_at, of_len}, Words.word}
 use Rattle.sharc_lex.specs.declared.fault.Fault.TheVariants as fault
-use Rattle.sharc_lex.specs.declared.token_at.Lexeme.{Lexeme}
-use Rattle.sharc_lex.specs.Bytes.{is_letter, is_digit, is_word_byte}
-use Rattle.sharc_lex.specs.Characters.{character, constant, plain, behind_backslash}
-use Rattle.sharc_lex.specs.Laws.{IsRun, IsConstant, IsToken, IsLongest}
-use Rattle.sharc_lex.specs.Numbers.{number}
-use Rattle.sharc_lex.specs.Punctuators.{punctuator, punctuators, first_begun}
-use Rattle.sharc_lex.specs.TokenAt.{token_at, word_at, number_at, of_len}
-use Rattle.sharc_lex.specs.Words.{word}
-use Rattle.sharc_lex.proofs.LexemeLemmas.{token_lies, of_len-len, constant_len, ok_or_some}
-use Rattle.sharc_lex.proofs.WithinLemmas.{chosen}
+use Rattle.sharc_lex.proofs.{LexemeLemmas.{token_lies, of_len-len, constant_len, ok_or_some}, WithinLemmas.chosen}
 
 abbrev Table : Type 0
 Table = List (List ℕ × TokenKind)

@@ -1,7 +1,5 @@
 -- A value that is too large stays so, whatever digits follow.
-use Rattle.std.proofs.Common.{◌≡◌, ℕ, ◌+◌, ◌*◌, ◌^◌, ◌<◌, ◌≤◌, Bool, true, false, cond, ltb, ◌&&◌, List, [], ◌∷◌, Some, None, ap, ◌∙◌, inl, inr, arith}
-use Rattle.std.proofs.Math.Nat.{mul-le-mul_left}
-use Rattle.std.proofs.lemmas.Bool.{ltb-true, ltb-false, le-ltb, cases_Bool}
+use Rattle.std.proofs.{Common.{◌≡◌, ℕ, ◌+◌, ◌*◌, ◌^◌, ◌<◌, ◌≤◌, Bool, true, false, cond, ltb, ◌&&◌, List, [], ◌∷◌, Some, None, ap, ◌∙◌, inl, inr, arith}, Math.Nat.mul-le-mul_left, lemmas.Bool.{ltb-true, ltb-false, le-ltb, cases_Bool}}
 use Rattle.sharc_lex.specs.Numbers.{digit_value, value_behind, with_digit, small_value}
 
 -- either the digit is one of the base or there is no value

@@ -2,8 +2,7 @@
 use Rattle.std.proofs.Common.{◌≡◌, ℕ, Bool, true, false, cond, List, [], ◌∷◌, ◌++◌, nat_eq, Option, Some, None, refl}
 use Rattle.std.specs.List.{starts_with}
 use Rattle.sharc_tree.specs.declared.token.TokenKind.{TokenKind}
-use Rattle.sharc_lex.specs.declared.token_at.Lexeme.{Lexeme}
-use Rattle.sharc_lex.specs.Punctuators.{first_begun}
+use Rattle.sharc_lex.specs.{declared.token_at.Lexeme.Lexeme, Punctuators.first_begun}
 
 abbrev Table : Type 0
 Table = List (List ℕ × TokenKind)

@@ -1,14 +1,9 @@
 -- The lines of a source, one at a time.
-use Rattle.std.proofs.Common.{◌≡◌, ℕ, suc, ◌+◌, ◌-◌, ◌<◌, ◌≤◌, ◌==◌, Bool, true, false, not, cond, leb, List, [], ◌∷◌, length, take, drop, Result, Ok, Err, sym, refl, ap, ◌∙◌, subst, inl, inr, arith, one-add, length-drop, length-take-le}
+use Rattle.std.proofs.{Common.{◌≡◌, ℕ, suc, ◌+◌, ◌-◌, ◌<◌, ◌≤◌, ◌==◌, Bool, true, false, not, cond, leb, List, [], ◌∷◌, length, take, drop, Result, Ok, Err, sym, refl, ap, ◌∙◌, subst, inl, inr, arith, one-add, length-drop, length-take-le}, lemmas.Bool.{cases_Bool, le-leb, lt-leb, leb-true, leb-false}, lemmas.List.{drop-drop, take_all}}
 use Rattle.std.specs.List.{position_or_len}
-use Rattle.std.proofs.lemmas.Bool.{cases_Bool, le-leb, lt-leb, leb-true, leb-false}
-use Rattle.std.proofs.lemmas.List.{drop-drop, take_all}
 use Rattle.sharc_tree.specs.declared.token.FaultAt.{FaultAt}
-use Rattle.sharc_lex.specs.declared.fault.Fault.{Fault}
-use Rattle.sharc_lex.specs.Faults.{Refuses}
-use Rattle.sharc_lex.specs.declared.fault.LexFault.{LexFault}
+use Rattle.sharc_lex.specs.{declared.fault.Fault.Fault, Faults.Refuses, declared.fault.LexFault.LexFault, Grammar.{lines_of, in_front, Read, line_read, with_place, lines_read, opening, tokens_read, reading, IsWithin, ◌>>=◌}}
 use Rattle.sharc_lex.specs.declared.fault.LexFault.TheVariants as lex
-use Rattle.sharc_lex.specs.Grammar.{lines_of, in_front, Read, line_read, with_place, lines_read, opening, tokens_read, reading, IsWithin, ◌>>=◌}
 use Rattle.sharc_lex.proofs.WithinLemmas.{within_line}
 
 -- the lines from an offset on

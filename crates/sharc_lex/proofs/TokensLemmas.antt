@@ -1,35 +1,11 @@
 -- What holds of what was read is kept from line to line, up to the end of the source or its first fault.
-use Rattle.std.proofs.Common.{◌≡◌, ℕ, zero, suc, ◌+◌, ◌-◌, ◌<◌, ◌≤◌, min, Bool, true, false, not, cond, ◌||◌, ◌⊎◌, List, [], ◌∷◌, ◌++◌, length, get_or, drop, Option, Some, None, Result, Ok, Err, sym, refl, ap, ◌∙◌, subst, inl, inr, arith, one-add}
-use Rattle.std.specs.Prelude.{ok_or, All}
-use Rattle.std.specs.List.{prefix_len, list_any}
-use Rattle.std.specs.Str.{bytes_eq}
-use Rattle.std.proofs.Math.Seq.{get_or-append_seam}
-use Rattle.std.proofs.lemmas.Bool.{le-leb}
-use Rattle.std.proofs.lemmas.List.{get_or_append_left}
-use Rattle.std.proofs.lemmas.List.Elements.{All-nil, All-append, All-weaker}
-use Rattle.std.proofs.lemmas.List.Sums.{prefix_len-le-length}
-use Rattle.std.proofs.lemmas.Slice.Eq.{bytes_eq-Decides}
-use Rattle.sharc_tree.specs.declared.token.FaultAt.{FaultAt}
-use Rattle.sharc_tree.specs.declared.token.Token.{Token}
-use Rattle.sharc_tree.specs.declared.token.Tokens.{Tokens}
-use Rattle.sharc_lex.specs.declared.fault.Fault.{Fault}
+use Rattle.std.proofs.{Common.{◌≡◌, ℕ, zero, suc, ◌+◌, ◌-◌, ◌<◌, ◌≤◌, min, Bool, true, false, not, cond, ◌||◌, ◌⊎◌, List, [], ◌∷◌, ◌++◌, length, get_or, drop, Option, Some, None, Result, Ok, Err, sym, refl, ap, ◌∙◌, subst, inl, inr, arith, one-add}, Math.Seq.get_or-append_seam, lemmas.Bool.le-leb, lemmas.List.get_or_append_left, lemmas.List.Elements.{All-nil, All-append, All-weaker}, lemmas.List.Sums.prefix_len-le-length, lemmas.Slice.Eq.bytes_eq-Decides}
+use Rattle.std.specs.{Prelude.{ok_or, All}, List.{prefix_len, list_any}, Str.bytes_eq}
+use Rattle.sharc_tree.specs.{declared.token.FaultAt.FaultAt, declared.token.Token.Token, declared.token.Tokens.Tokens}
+use Rattle.sharc_lex.specs.{declared.fault.Fault.Fault, declared.fault.LexFault.LexFault, declared.fault.LineFault.LineFault, declared.fault.Place.Place, Bytes.{is_white_space, is_blank}, Faults.Refuses, Files.{with_file, place_of}, Grammar.{Read, tokens_of, token, at_offset, behind_tokens, marker_line, text_line, line_read, marked, with_tokens, fault_at, with_place, lines_read, lines_of, opening, tokens_read, reading, IsWithin, ◌>>=◌}, Laws.{name_in, AreTokensOf, IsFaultIn, TellsPlace, Covers}, Lines.{line_at, BeginsLine, StandsIn}, Markers.{is_marker_line, marker}, TokenAt.token_at}
 use Rattle.sharc_lex.specs.declared.fault.Fault.TheVariants as fault
-use Rattle.sharc_lex.specs.declared.fault.LexFault.{LexFault}
 use Rattle.sharc_lex.specs.declared.fault.LexFault.TheVariants as lex
-use Rattle.sharc_lex.specs.declared.fault.LineFault.{LineFault}
-use Rattle.sharc_lex.specs.declared.fault.Place.{Place}
-use Rattle.sharc_lex.specs.Bytes.{is_white_space, is_blank}
-use Rattle.sharc_lex.specs.Faults.{Refuses}
-use Rattle.sharc_lex.specs.Files.{with_file, place_of}
-use Rattle.sharc_lex.specs.Grammar.{Read, tokens_of, token, at_offset, behind_tokens, marker_line, text_line, line_read, marked, with_tokens, fault_at, with_place, lines_read, lines_of, opening, tokens_read, reading, IsWithin, ◌>>=◌}
-use Rattle.sharc_lex.specs.Laws.{name_in, AreTokensOf, IsFaultIn, TellsPlace, Covers}
-use Rattle.sharc_lex.specs.Lines.{line_at, BeginsLine, StandsIn}
-use Rattle.sharc_lex.specs.Markers.{is_marker_line, marker}
-use Rattle.sharc_lex.specs.TokenAt.{token_at}
-use Rattle.sharc_lex.proofs.CoverLemmas.{Covered, IsOnLine, tokens_of-on_line, empty, renumbered, covers_count, line_length, end_inside, covered_line, end_of_lines, line_is_there}
-use Rattle.sharc_lex.proofs.PlaceLemmas.{stands_within, stands_behind_text, stands_behind_marker, stands_first}
-use Rattle.sharc_lex.proofs.ReadingLemmas.{lines_from, lines_from-first, len_of}
-use Rattle.sharc_lex.proofs.WithinLemmas.{chosen, bind_ok, ok_or-ok, ok_injective, with_file-length, with_place-ok, behind_tokens-ok, within_line}
+use Rattle.sharc_lex.proofs.{CoverLemmas.{Covered, IsOnLine, tokens_of-on_line, empty, renumbered, covers_count, line_length, end_inside, covered_line, end_of_lines, line_is_there}, PlaceLemmas.{stands_within, stands_behind_text, stands_behind_marker, stands_first}, ReadingLemmas.{lines_from, lines_from-first, len_of}, WithinLemmas.{chosen, bind_ok, ok_or-ok, ok_injective, with_file-length, with_place-ok, behind_tokens-ok, within_line}}
 
 -- a file that is looked up is found, and those before it keep their places
 

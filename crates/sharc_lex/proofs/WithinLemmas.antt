@@ -1,20 +1,10 @@
 -- A line that is read keeps what was read within the limits.
-use Rattle.std.proofs.Common.{◌≡◌, ℕ, zero, suc, ◌+◌, ◌-◌, ◌^◌, ◌<◌, ◌≤◌, ◌==◌, Bool, true, false, not, cond, ◌||◌, ltb, ◌⊎◌, List, [], ◌∷◌, ◌++◌, length, take, drop, Option, Some, None, Result, Ok, Err, refl, ap, subst, inl, inr, arith, length-append}
-use Rattle.std.specs.Prelude.{option_and_then, ok_or}
-use Rattle.std.specs.List.{prefix_len, list_any, list_all}
-use Rattle.std.specs.Str.{bytes_eq}
-use Rattle.std.proofs.lemmas.Bool.{ltb-true}
-use Rattle.std.proofs.lemmas.List.Sums.{prefix_len-le-length}
+use Rattle.std.proofs.{Common.{◌≡◌, ℕ, zero, suc, ◌+◌, ◌-◌, ◌^◌, ◌<◌, ◌≤◌, ◌==◌, Bool, true, false, not, cond, ◌||◌, ltb, ◌⊎◌, List, [], ◌∷◌, ◌++◌, length, take, drop, Option, Some, None, Result, Ok, Err, refl, ap, subst, inl, inr, arith, length-append}, lemmas.Bool.ltb-true, lemmas.List.Sums.prefix_len-le-length}
+use Rattle.std.specs.{Prelude.{option_and_then, ok_or}, List.{prefix_len, list_any, list_all}, Str.bytes_eq}
 use Rattle.sharc_tree.specs.declared.token.Token.{Token}
 use Rattle.sharc_lex.specs.declared.fault.Fault.TheVariants as fault
-use Rattle.sharc_lex.specs.declared.fault.LineFault.{LineFault}
-use Rattle.sharc_lex.specs.declared.fault.Place.{Place}
-use Rattle.sharc_lex.specs.Bytes.{is_blank, is_digit, is_white_space, behind}
-use Rattle.sharc_lex.specs.Files.{with_file, place_of}
-use Rattle.sharc_lex.specs.Grammar.{Read, tokens_of, token, at_offset, behind_tokens, line_read, marker_line, text_line, marked, with_tokens, with_place, IsWithin, ◌>>=◌}
-use Rattle.sharc_lex.specs.Markers.{marker, line_number, file_name, is_flag, is_marker_line}
-use Rattle.sharc_lex.specs.Numbers.{value_behind}
-use Rattle.sharc_lex.specs.TokenAt.{token_at}
+use Rattle.sharc_lex.specs.{declared.fault.LineFault.LineFault, declared.fault.Place.Place, Bytes.{is_blank, is_digit, is_white_space, behind}, Files.{with_file, place_of}, Grammar.{Read, tokens_of, token, at_offset, behind_tokens, line_read, marker_line, text_line, marked, with_tokens, with_place, IsWithin, ◌>>=◌}, Markers.{marker, line_number, file_name, is_flag, is_marker_line}, Numbers.value_behind, TokenAt.token_at}
+use Rattle.sharc_lemmas.proofs.Options.{bind_some}
 
 -- which way a test goes
 pub chosen : {A : Type 0} (b : Bool) (x y z : A) → cond b x y ≡ z → ((b ≡ true) × (x ≡ z)) ⊎ ((b ≡ false) × (y ≡ z))
@@ -25,10 +15,6 @@ chosen false x y z e = inr (refl, e)
 pub bind_ok : {A B E : Type 0} (r : Result A E) (f : A → Result B E) (y : B) → (r >>= f) ≡ Ok y → (x : A) × (r ≡ Ok x) × (f x ≡ Ok y)
 bind_ok (Ok x) f y e = (x, refl, e)
 bind_ok (Err e) f y h = cc
-
-pub bind_some : {A B : Type 0} (o : Option A) (f : A → Option B) (y : B) → option_and_then f o ≡ Some y → (x : A) × (o ≡ Some x) × (f x ≡ Some y)
-bind_some (Some x) f y e = (x, refl, e)
-bind_some None f y e = cc
 
 pub ok_or-ok : {A E : Type 0} (o : Option A) (f : E) (x : A) → ok_or o f ≡ Ok x → o ≡ Some x
 ok_or-ok None f x e = cc

@@ -1,10 +1,6 @@
 -- In a table of texts only those of the text's own length matter.
-use Rattle.std.proofs.Common.{◌≡◌, ◌≢◌, ℕ, Bool, true, false, cond, ◌==◌, ◌||◌, List, [], ◌∷◌, length, Some, None, sym, refl, ap, ◌∙◌, inl, inr}
-use Rattle.std.specs.Prelude.{filter}
-use Rattle.std.specs.List.{list_all, list_any}
-use Rattle.std.specs.Str.{bytes_eq}
-use Rattle.std.proofs.lemmas.Bool.{eqb-false, ne_eqb, and_parts, false≢true, cases_Bool}
-use Rattle.std.proofs.lemmas.Slice.Eq.{bytes_eq-Decides}
+use Rattle.std.proofs.{Common.{◌≡◌, ◌≢◌, ℕ, Bool, true, false, cond, ◌==◌, ◌||◌, List, [], ◌∷◌, length, Some, None, sym, refl, ap, ◌∙◌, inl, inr}, lemmas.Bool.{eqb-false, ne_eqb, and_parts, false≢true, cases_Bool}, lemmas.Slice.Eq.bytes_eq-Decides}
+use Rattle.std.specs.{Prelude.filter, List.{list_all, list_any}, Str.bytes_eq}
 use Rattle.sharc_tree.specs.declared.token.TokenKind.{TokenKind}
 use Rattle.sharc_lex.specs.Words.{entry_at}
 

@@ -1,6 +1,5 @@
 -- The classes of bytes that tokens, white space and line markers are made of.
-use Rattle.std.specs.Prelude.{ℕ, Bool, ◌==◌, ◌||◌, ◌&&◌, nat_le, List, drop}
-use Rattle.std.specs.List.{prefix_len}
+use Rattle.std.specs.{Prelude.{ℕ, Bool, ◌==◌, ◌||◌, ◌&&◌, nat_le, List, drop}, List.prefix_len}
 
 -- a space or a tab
 abbrev pub is_blank : ℕ → Bool

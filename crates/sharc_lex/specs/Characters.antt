@@ -1,8 +1,7 @@
 -- Character constants: a quote, what it stands for, a quote.
 use Rattle.std.specs.Prelude.{ℕ, ◌==◌, ◌&&◌, not, List, [], ◌∷◌, Option, Some, None, option_map, if◌then◌else◌}
 use Rattle.sharc_tree.specs.declared.token.TokenKind.TheVariants as kind
-use Rattle.sharc_lex.specs.declared.token_at.Lexeme.{Lexeme}
-use Rattle.sharc_lex.specs.Bytes.{is_printable}
+use Rattle.sharc_lex.specs.{declared.token_at.Lexeme.Lexeme, Bytes.is_printable}
 
 -- what an escape stands for: \n \t \r \0 \\ \' \"
 abbrev pub escaped : ℕ → Option ℕ

@@ -1,13 +1,11 @@
 -- What a fault prints, and what a failed call says.
 use Rattle.std.specs.Prelude.{◌≡◌, ℕ, List, [], ◌∷◌, Result, Ok, Err}
 use Rattle.sharc_tree.specs.declared.token.FaultAt.{FaultAt}
-use Rattle.sharc_lex.specs.declared.fault.Failure.{Failure}
+use Rattle.sharc_lex.specs.{declared.fault.Failure.Failure, declared.fault.Fault.Fault}
+use Rattle.sharc_lex.specs.{declared.fault.LexFault.LexFault, declared.fault.LineFault.LineFault}
 use Rattle.sharc_lex.specs.declared.fault.Failure.TheVariants as failure
-use Rattle.sharc_lex.specs.declared.fault.Fault.{Fault}
 use Rattle.sharc_lex.specs.declared.fault.Fault.TheVariants as fault
-use Rattle.sharc_lex.specs.declared.fault.LexFault.{LexFault}
 use Rattle.sharc_lex.specs.declared.fault.LexFault.TheVariants as lex
-use Rattle.sharc_lex.specs.declared.fault.LineFault.{LineFault}
 
 -- the digit of a fault's code, and the byte that it prints
 abbrev pub digit_of : Fault → ℕ

@@ -1,7 +1,5 @@
 -- The files that a source names, in the order of their first appearance.
-use Rattle.std.specs.Prelude.{ℕ, List, [], ◌∷◌, ◌++◌, if◌then◌else◌}
-use Rattle.std.specs.List.{position_or_len, list_any}
-use Rattle.std.specs.Str.{bytes_eq}
+use Rattle.std.specs.{Prelude.{ℕ, List, [], ◌∷◌, ◌++◌, if◌then◌else◌}, List.{position_or_len, list_any}, Str.bytes_eq}
 
 -- the files with one more, where it is not among them
 abbrev pub with_file : List (List ℕ) → List ℕ → List (List ℕ)

@@ -2,19 +2,11 @@
 -- the next line; every other line is white space and tokens, each the longest that is there, with their places.
 use Rattle.std.specs.Prelude.{◌≡◌, ℕ, ◌+◌, ◌-◌, ◌^◌, ◌<◌, ◌≤◌, ◌==◌, List, [], ◌∷◌, ◌++◌, length, take, drop, slice_index_or, Result, Ok, Err, ok_or, if◌then◌else◌, zero, suc, codes}
 use Rattle.std.specs.List.{prefix_len}
-use Rattle.sharc_tree.specs.declared.token.FaultAt.{FaultAt}
-use Rattle.sharc_tree.specs.declared.token.Token.{Token}
-use Rattle.sharc_tree.specs.declared.token.Tokens.{Tokens}
-use Rattle.sharc_lex.specs.declared.fault.Fault.{Fault}
+use Rattle.sharc_tree.specs.{declared.token.FaultAt.FaultAt, declared.token.Token.Token, declared.token.Tokens.Tokens}
+use Rattle.sharc_lex.specs.{declared.fault.Fault.Fault, declared.fault.Place.Place, declared.fault.LineFault.LineFault}
+use Rattle.sharc_lex.specs.{declared.token_at.Lexeme.Lexeme, Bytes.{is_blank, is_white_space}, Faults.text_of}
+use Rattle.sharc_lex.specs.{Files.{with_file, place_of}, Markers.{is_marker_line, marker}, TokenAt.token_at}
 use Rattle.sharc_lex.specs.declared.fault.Fault.TheVariants as fault
-use Rattle.sharc_lex.specs.declared.fault.Place.{Place}
-use Rattle.sharc_lex.specs.declared.fault.LineFault.{LineFault}
-use Rattle.sharc_lex.specs.declared.token_at.Lexeme.{Lexeme}
-use Rattle.sharc_lex.specs.Bytes.{is_blank, is_white_space}
-use Rattle.sharc_lex.specs.Faults.{text_of}
-use Rattle.sharc_lex.specs.Files.{with_file, place_of}
-use Rattle.sharc_lex.specs.Markers.{is_marker_line, marker}
-use Rattle.sharc_lex.specs.TokenAt.{token_at}
 
 infixl 10 ◌>>=◌
 abbrev pub ◌>>=◌ : {A B E : Type 0} → Result A E → (A → Result B E) → Result B E

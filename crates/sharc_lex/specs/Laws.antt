@@ -1,20 +1,13 @@
 -- What holds of the tokens of a source: they are in order, each the slice of its span and the longest token there, with white space and line
 -- markers alone between them, and each is in the file and the line that line markers and newlines give it.
 use Rattle.std.specs.Prelude.{◌≡◌, ℕ, ◌+◌, ◌-◌, ◌<◌, ◌≤◌, ◌⊎◌, Bool, true, List, [], ◌∷◌, length, take, slice_index, slice_index_or, slice_range, All, Contains, Some, Result, Ok}
-use Rattle.sharc_tree.specs.declared.token.FaultAt.{FaultAt}
-use Rattle.sharc_tree.specs.declared.token.Token.{Token}
-use Rattle.sharc_tree.specs.declared.token.Tokens.{Tokens}
+use Rattle.sharc_tree.specs.{declared.token.FaultAt.FaultAt, declared.token.Token.Token, declared.token.Tokens.Tokens}
 use Rattle.sharc_tree.specs.declared.token.TokenKind.{TokenKind}
-use Rattle.sharc_lex.specs.declared.fault.Fault.{Fault}
-use Rattle.sharc_lex.specs.declared.fault.LexFault.{LexFault}
+use Rattle.sharc_lex.specs.{declared.fault.Fault.Fault, declared.fault.LexFault.LexFault}
+use Rattle.sharc_lex.specs.{declared.token_at.Lexeme.Lexeme, Bytes.{is_white_space, is_letter, is_digit}}
+use Rattle.sharc_lex.specs.{Characters.character, Lines.{line_at, BeginsLine, StandsIn}, Markers.is_marker_line}
+use Rattle.sharc_lex.specs.{Punctuators.punctuators, TokenAt.{LiesIn, word_at, number_at}}
 use Rattle.sharc_lex.specs.declared.fault.LexFault.TheVariants as lex
-use Rattle.sharc_lex.specs.declared.token_at.Lexeme.{Lexeme}
-use Rattle.sharc_lex.specs.Bytes.{is_white_space, is_letter, is_digit}
-use Rattle.sharc_lex.specs.Characters.{character}
-use Rattle.sharc_lex.specs.Lines.{line_at, BeginsLine, StandsIn}
-use Rattle.sharc_lex.specs.Markers.{is_marker_line}
-use Rattle.sharc_lex.specs.Punctuators.{punctuators}
-use Rattle.sharc_lex.specs.TokenAt.{LiesIn, word_at, number_at}
 
 -- a text that is a word, a number or a character constant as a whole, and what it is
 abbrev pub IsRun : (ℕ → Bool) → (List ℕ → Result Lexeme Fault) → List ℕ → TokenKind → Type 0

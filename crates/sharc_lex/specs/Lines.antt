@@ -1,8 +1,7 @@
 -- Lines of a source, and the file and the line in which an offset of it lies.
 use Rattle.std.specs.Prelude.{◌≡◌, ℕ, ◌+◌, ◌-◌, ◌<◌, ◌≤◌, ◌==◌, ◌⊎◌, false, List, length, take, drop, slice_index, slice_range, Option, Some, None, if◌then◌else◌, codes}
 use Rattle.std.specs.List.{prefix_len, position_or_len, count_by}
-use Rattle.sharc_lex.specs.Bytes.{is_blank}
-use Rattle.sharc_lex.specs.Markers.{is_marker_line, marker}
+use Rattle.sharc_lex.specs.{Bytes.is_blank, Markers.{is_marker_line, marker}}
 
 -- the bytes from an offset up to the next newline
 abbrev pub line_at : List ℕ → ℕ → List ℕ

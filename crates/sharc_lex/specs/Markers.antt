@@ -1,8 +1,7 @@
 -- Line markers, as GCC writes them: which file and line the next line of the source is from.
 use Rattle.std.specs.Prelude.{ℕ, ◌+◌, ◌^◌, Bool, ◌==◌, ◌&&◌, ◌||◌, not, nat_le, nat_lt, List, [], ◌∷◌, take, drop, slice_index, Option, Some, None, option_and_then, if◌then◌else◌}
 use Rattle.std.specs.List.{prefix_len, list_all}
-use Rattle.sharc_lex.specs.Bytes.{is_blank, is_digit, is_printable, behind}
-use Rattle.sharc_lex.specs.Numbers.{value_behind}
+use Rattle.sharc_lex.specs.{Bytes.{is_blank, is_digit, is_printable, behind}, Numbers.value_behind}
 
 infixl 10 ◌>>=◌
 abbrev pub ◌>>=◌ : {A B : Type 0} → Option A → (A → Option B) → Option B

@@ -1,7 +1,6 @@
 -- Numbers, in octal, decimal and hexadecimal digits.
 use Rattle.std.specs.Prelude.{ℕ, ◌+◌, ◌-◌, ◌*◌, ◌^◌, Bool, ◌==◌, ◌&&◌, ◌||◌, nat_le, nat_lt, List, [], ◌∷◌, length, take, slice_index, Option, Some, None, option_map, if◌then◌else◌, pos}
-use Rattle.sharc_tree.specs.declared.token.Number.{Number}
-use Rattle.sharc_tree.specs.declared.token.NumberType.TheVariants.{Int, Long}
+use Rattle.sharc_tree.specs.{declared.token.Number.Number, declared.token.NumberType.TheVariants.{Int, Long}}
 use Rattle.sharc_lex.specs.Bytes.{is_digit}
 
 -- what a byte counts as a digit; 16 where it is not one

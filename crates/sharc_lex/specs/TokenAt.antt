@@ -3,14 +3,10 @@ use Rattle.std.specs.Prelude.{ℕ, ◌==◌, ◌<◌, ◌≤◌, length, List, �
 use Rattle.std.specs.List.{prefix_len}
 use Rattle.sharc_tree.specs.declared.token.TokenKind.{TokenKind}
 use Rattle.sharc_tree.specs.declared.token.TokenKind.TheVariants as kind
-use Rattle.sharc_lex.specs.declared.fault.Fault.{Fault}
+use Rattle.sharc_lex.specs.{declared.fault.Fault.Fault, declared.token_at.Lexeme.Lexeme}
+use Rattle.sharc_lex.specs.{Bytes.{is_letter, is_digit, is_word_byte}, Characters.character, Numbers.number}
+use Rattle.sharc_lex.specs.{Punctuators.punctuator, Words.word}
 use Rattle.sharc_lex.specs.declared.fault.Fault.TheVariants as fault
-use Rattle.sharc_lex.specs.declared.token_at.Lexeme.{Lexeme}
-use Rattle.sharc_lex.specs.Bytes.{is_letter, is_digit, is_word_byte}
-use Rattle.sharc_lex.specs.Characters.{character}
-use Rattle.sharc_lex.specs.Numbers.{number}
-use Rattle.sharc_lex.specs.Punctuators.{punctuator}
-use Rattle.sharc_lex.specs.Words.{word}
 
 -- a token of this many bytes, where they are one
 abbrev pub of_len : ℕ → Result TokenKind Fault → Result Lexeme Fault

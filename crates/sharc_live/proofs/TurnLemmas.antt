@@ -1,12 +1,10 @@
 -- The steps of a loop, piece by piece.
 use Rattle.std.proofs.Common.{◌≡◌, List, [], ◌∷◌, ◌++◌, Option, Some, None, refl, ap, ◌∙◌, append_assoc}
-use Rattle.sharc_dataflow.specs.declared.step.Step.{Step}
+use Rattle.sharc_dataflow.specs.{declared.step.Step.Step, Code.{Code, repeats, listing}}
 use Rattle.sharc_dataflow.specs.declared.step.Step.TheVariants as steps
-use Rattle.sharc_dataflow.specs.Code.{Code, repeats, listing}
 use Rattle.sharc_tree.specs.Tree.{Expression, Head}
 use Rattle.sharc_ctype.specs.Resolved.{Resolution}
-use Rattle.sharc_live.specs.Flows.{of_option, simple_flow, first_flow, test_flow, turn_flow, for_flow}
-use Rattle.sharc_live.specs.Turns.{turn_begins, turn_ends}
+use Rattle.sharc_live.specs.{Flows.{of_option, simple_flow, first_flow, test_flow, turn_flow, for_flow}, Turns.{turn_begins, turn_ends}}
 
 pub turn_listing : (o : Option Code) (body step : Code) → steps.Head ∷ (turn_begins o ++ (listing body ++ steps.Caught ∷ (listing step ++ turn_ends o))) ≡ listing (repeats (turn_flow o body step))
 turn_listing None body step = simp append_assoc

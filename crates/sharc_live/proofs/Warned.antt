@@ -1,30 +1,13 @@
 -- From the warnings by numbers of tokens to those by places.
-use Rattle.std.proofs.Common.{◌≡◌, ℕ, ◌<◌, ◌≤◌, List, [], ◌∷◌, length, map, ◌⊎◌, inl, inr, Option, Some, None, Contains, refl, ap, sym, subst, arith, zero, suc, ◌+◌, ◌++◌, drop, add-one, drop-cons}
+use Rattle.std.proofs.{Common.{◌≡◌, ℕ, ◌<◌, ◌≤◌, List, [], ◌∷◌, length, map, ◌⊎◌, inl, inr, Option, Some, None, Contains, refl, ap, sym, subst, arith, zero, suc, ◌+◌, ◌++◌, drop, add-one, drop-cons}, lemmas.List.Elements.{Contains-append_left, Contains-append_right, Contains-append_cases, Contains-push}}
 use Rattle.std.specs.Prelude.{slice_get, slice_index_or}
-use Rattle.std.proofs.lemmas.List.Elements.{Contains-append_left, Contains-append_right, Contains-append_cases, Contains-push}
-use Rattle.sharc_tree.specs.declared.token.Token.{Token}
-use Rattle.sharc_tree.specs.Tree.{Function}
+use Rattle.sharc_tree.specs.{declared.token.Token.Token, Tree.Function, declared.tree.item.Item.Item, View.{view_item, view_items}}
 use Rattle.sharc_tree.specs.Tree as tree
-use Rattle.sharc_tree.specs.declared.tree.item.Item.{Item}
-use Rattle.sharc_tree.specs.View.{view_item, view_items}
 use Rattle.sharc_ctype.specs.Resolved.{Resolution, functions_in}
 use Rattle.sharc_mode.specs.declared.error.Warning.{Warning}
-use Rattle.sharc_dataflow.specs.declared.way.FlowWarning.{FlowWarning}
-use Rattle.sharc_dataflow.specs.Uses.{warning, HasWarning, IsUse, AddsUses, Rising, AreFirsts}
-use Rattle.sharc_live.specs.Flows.{function_flow}
-use Rattle.sharc_live.specs.Gathers.{AddsAll}
-use Rattle.sharc_live.specs.Uses.{site_of, site_at, warning_at, IsUseAmong, IsUseIn, IsWarned, InOrder, IsWarning, AreWarnings}
-
-from_one : {A : Type 0} (a b : A) (k : ℕ) → k < length (a ∷ []) → slice_index_or (a ∷ []) k b ≡ b → a ≡ b
-from_one a b zero l e = e
-from_one a b (suc k) l e = absurd (omega (arith, l))
-
-from_cons : {A : Type 0} (a b : A) (l : List A) → Contains (a ∷ l) b → (a ≡ b) ⊎ Contains l b
-from_cons a b l h = found (Contains-append_cases (a ∷ []) l b h)
-  where
-    found : Contains (a ∷ []) b ⊎ Contains l b → (a ≡ b) ⊎ Contains l b
-    found (inl i) = inl (from_one a b i.0 i.1 i.2)
-    found (inr i) = inr i
+use Rattle.sharc_dataflow.specs.{declared.way.FlowWarning.FlowWarning, Uses.{warning, HasWarning, IsUse, AddsUses, Rising, AreFirsts}}
+use Rattle.sharc_live.specs.{Flows.function_flow, Gathers.AddsAll, Uses.{site_of, site_at, warning_at, IsUseAmong, IsUseIn, IsWarned, InOrder, IsWarning, AreWarnings}}
+use Rattle.sharc_lemmas.proofs.Lists.{head_or_tail as from_cons}
 
 from_map : {A B : Type 0} (f : A → B) (l : List A) (b : B) → Contains (map f l) b → (a : A) × Contains l a × (f a ≡ b)
 from_map f [] b h = absurd (omega (arith, h.1))

@@ -2,8 +2,7 @@
 use Rattle.std.specs.Prelude.{ℕ, List, Contains, ◌⊎◌}
 use Rattle.sharc_tree.specs.Tree.{Function}
 use Rattle.sharc_ctype.specs.Resolved.{Resolution}
-use Rattle.sharc_dataflow.specs.declared.way.FlowWarning.{FlowWarning}
-use Rattle.sharc_dataflow.specs.Uses.{warning, HasWarning}
+use Rattle.sharc_dataflow.specs.{declared.way.FlowWarning.FlowWarning, Uses.{warning, HasWarning}}
 use Rattle.sharc_live.specs.Uses.{IsUseAmong}
 
 -- the warnings of these functions are added

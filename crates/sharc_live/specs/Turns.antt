@@ -1,8 +1,7 @@
 -- The steps of a turn of a loop, before its body and after its step. It retraces the code.
 use Rattle.std.specs.Prelude.{List, [], ◌∷◌, ◌++◌, Option, Some, None}
-use Rattle.sharc_dataflow.specs.declared.step.Step.{Step}
+use Rattle.sharc_dataflow.specs.{declared.step.Step.Step, Code.{Code, listing}}
 use Rattle.sharc_dataflow.specs.declared.step.Step.TheVariants as steps
-use Rattle.sharc_dataflow.specs.Code.{Code, listing}
 
 abbrev pub body_begins : List Step
 body_begins = steps.Fork ∷ (steps.Break ∷ (steps.Other ∷ (steps.Catch ∷ [])))

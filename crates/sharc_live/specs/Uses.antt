@@ -1,13 +1,9 @@
 -- The warnings of a program: its reads of locals that a sharing cast or `free` may have nulled.
 use Rattle.std.specs.Prelude.{◌≡◌, ℕ, ◌<◌, ◌≤◌, List, [], ◌∷◌, Contains, Option, Some, None, slice_get}
-use Rattle.sharc_tree.specs.declared.token.Site.{Site}
-use Rattle.sharc_tree.specs.declared.token.Token.{Token}
-use Rattle.sharc_tree.specs.Tree.{Function}
+use Rattle.sharc_tree.specs.{declared.token.Site.Site, declared.token.Token.Token, Tree.Function}
 use Rattle.sharc_ctype.specs.Resolved.{Resolution, functions_in}
-use Rattle.sharc_mode.specs.declared.error.Warning.{Warning}
-use Rattle.sharc_mode.specs.Sharings.{text_at}
-use Rattle.sharc_dataflow.specs.Uses.{IsUse}
-use Rattle.sharc_dataflow.specs.declared.way.FlowWarning.{FlowWarning}
+use Rattle.sharc_mode.specs.{declared.error.Warning.Warning, Sharings.text_at}
+use Rattle.sharc_dataflow.specs.{Uses.IsUse, declared.way.FlowWarning.FlowWarning}
 use Rattle.sharc_live.specs.Flows.{function_flow}
 
 -- the place of a token, by its number

@@ -2,8 +2,7 @@
 use Rattle.std.proofs.Common.{◌≡◌, ◌≢◌, ℕ, ◌<◌, ◌≤◌, Bool, true, false, ◌==◌, List, [], ◌∷◌, ◌++◌, ◌⊎◌, inl, inr, Contains, refl, sym, ap, ◌∙◌, subst, arith, append_assoc, append-nil, length}
 use Rattle.sharc_tree.specs.Tree.{Function}
 use Rattle.sharc_ctype.specs.Resolved.{Resolution, functions_in}
-use Rattle.sharc_dataflow.specs.Flow.{Act, Reads, Nulls, Writes, To, Next, Ends}
-use Rattle.sharc_dataflow.specs.Code.{Code, first_then}
+use Rattle.sharc_dataflow.specs.{Flow.{Act, Reads, Nulls, Writes, To, Next, Ends}, Code.{Code, first_then}}
 use Rattle.sharc_live.specs.Flows.{goes_on, function_flow}
 use Rattle.sharc_meaning.specs.State.{Use, reads, writes, nulls, Traced, State, Out, go, over, Run, then_on, ◌>>=◌, give, ends_temporaries, temporarily, ends_variables, in_block}
 use Rattle.sharc_live_laws.proofs.Ways.{Way, way_cut, way_then, way_leaves, idle_ends, idle_before, idle_behind}

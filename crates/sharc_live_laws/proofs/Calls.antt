@@ -1,34 +1,16 @@
 -- Calls and threads: a call is a frame of its own, with a way through its function.
-use Rattle.std.proofs.Common.{◌≡◌, ℕ, zero, suc, ◌+◌, ◌<◌, false, ◌==◌, List, [], ◌∷◌, ◌⊎◌, inl, inr, Contains, Option, Some, None, refl, sym, subst, arith}
-use Rattle.std.proofs.lemmas.Bool.{cases_eq}
-use Rattle.std.proofs.lemmas.List.Elements.{Contains-append_left, Contains-append_right, Contains-push}
-use Rattle.std.specs.Prelude.{ℤ, pos, slice_get}
-use Rattle.sharc_tree.specs.declared.token.Site.{Site}
-use Rattle.sharc_tree.specs.declared.tree.declaration.Declaration.{Declaration}
+use Rattle.std.proofs.{Common.{◌≡◌, ℕ, zero, suc, ◌+◌, ◌<◌, false, ◌==◌, List, [], ◌∷◌, ◌⊎◌, inl, inr, Contains, Option, Some, None, refl, sym, subst, arith}, lemmas.Bool.cases_eq}
+use Rattle.std.specs.Prelude.{ℤ, pos}
+use Rattle.sharc_tree.specs.{declared.token.Site.Site, declared.tree.declaration.Declaration.Declaration, Tree.Function}
 use Rattle.sharc_tree.specs.declared.trap.Trap.TheVariants as traps
-use Rattle.sharc_tree.specs.Tree.{Function}
 use Rattle.sharc_names.specs.Kinds.{declared_kind}
 use Rattle.sharc_ctype.specs.Resolved.{functions_in, function_at}
 use Rattle.sharc_mode.specs.Moded.{Assignment}
-use Rattle.sharc_dataflow.specs.Flow.{To, Next, Ends}
-use Rattle.sharc_dataflow.specs.Code.{Code}
+use Rattle.sharc_dataflow.specs.{Flow.{To, Next, Ends}, Code.Code}
 use Rattle.sharc_live.specs.Flows.{goes_on, parameters_flow, function_flow}
-use Rattle.sharc_meaning.specs.State.{Frame, Traced, State, Out, go, over, Run, then_on, ◌>>=◌, ◌>>◌, give, entered, in_block, without_temporaries}
-use Rattle.sharc_meaning.specs.Expressions.{Calls}
-use Rattle.sharc_meaning.specs.Statements.{exec_all}
-use Rattle.sharc_meaning.specs.Meaning.{parameters_begin, left_at, pointers_passed, with_frame, back_in, in_frame, run_function, call_value, calls, goes_away, run_thread, start, asked_by, asks}
-use Rattle.sharc_live_laws.proofs.Ways.{Way, way_goes, way_stays}
-use Rattle.sharc_live_laws.proofs.Along.{Any, onward, shown, Other, Moved, Reached, Along, along_cut, binds, blocked}
-use Rattle.sharc_live_laws.proofs.Calm.{idle, calm_give, calm_done, calm_stop, calm_away, Kept, Same}
-use Rattle.sharc_live_laws.proofs.Locals.{begins_along}
-use Rattle.sharc_live_laws.proofs.Places.{entered_along, then_calm}
-use Rattle.sharc_live_laws.proofs.Values.{Runs}
-use Rattle.sharc_live_laws.proofs.Statements.{exec_all_along}
-
-in_list : {A : Type 0} (l : List A) (n : ℕ) (f : A) → slice_get l n ≡ Some f → Contains l f
-in_list [] n f e = absurd (cc)
-in_list (g ∷ l) zero f e = let same : g ≡ f = cc in subst (λ z. Contains (g ∷ l) z) same (Contains-append_left (g ∷ []) l g (Contains-push [] g))
-in_list (g ∷ l) (suc n) f e = Contains-append_right (g ∷ []) l f (in_list l n f e)
+use Rattle.sharc_meaning.specs.{State.{Frame, Traced, State, Out, go, over, Run, then_on, ◌>>=◌, ◌>>◌, give, entered, in_block, without_temporaries}, Expressions.Calls, Statements.exec_all, Meaning.{parameters_begin, left_at, pointers_passed, with_frame, back_in, in_frame, run_function, call_value, calls, goes_away, run_thread, start, asked_by, asks}}
+use Rattle.sharc_live_laws.proofs.{Ways.{Way, way_goes, way_stays}, Along.{Any, onward, shown, Other, Moved, Reached, Along, along_cut, binds, blocked}, Calm.{idle, calm_give, calm_done, calm_stop, calm_away, Kept, Same}, Locals.begins_along, Places.{entered_along, then_calm}, Values.Runs, Statements.exec_all_along}
+use Rattle.sharc_lemmas.proofs.Lists.{in_list}
 
 -- what a trace shows of each call is a way through a function
 pub record Told (m : Assignment) (x : ℕ) (trace : List Traced) : Type 0 where

@@ -1,33 +1,16 @@
 -- Runs that do nothing with locals and make no calls.
 use Rattle.std.proofs.Common.{◌≡◌, ℕ, zero, suc, Bool, true, false, cond, List, [], ◌∷◌, refl, ◌∙◌, length}
-use Rattle.std.specs.Prelude.{ℤ, not, Some, Result, Ok, Err, nat_lt, codes, slice_index_or}
-use Rattle.std.specs.Str.{bytes_eq}
-use Rattle.sharc_tree.specs.declared.event.Act.{Act}
+use Rattle.std.specs.{Prelude.{ℤ, not, Some, Result, Ok, Err, nat_lt, codes, slice_index_or}, Str.bytes_eq}
+use Rattle.sharc_tree.specs.{declared.event.Act.Act, declared.event.CellMode.TheVariants.{Readonly, Locked}, declared.event.Object.Object, declared.event.Object.TheVariants.{Global, Made}, declared.token.Site.Site, declared.trap.Trap.Trap}
 use Rattle.sharc_tree.specs.declared.event.Act.TheVariants as events
-use Rattle.sharc_tree.specs.declared.event.CellMode.TheVariants.{Readonly, Locked}
-use Rattle.sharc_tree.specs.declared.event.Object.{Object}
-use Rattle.sharc_tree.specs.declared.event.Object.TheVariants.{Global, Made}
-use Rattle.sharc_tree.specs.declared.token.Site.{Site}
-use Rattle.sharc_tree.specs.declared.trap.Trap.{Trap}
 use Rattle.sharc_tree.specs.declared.trap.Trap.TheVariants as traps
 use Rattle.sharc_names.specs.Kinds.{Kind}
 use Rattle.sharc_ctype.specs.Resolved.{Resolution}
 use Rattle.sharc_mode.specs.Sharings.{Sharing, private, readonly, locked, racy, dynamic}
-use Rattle.sharc_meaning.specs.Cells.{cell_of, Guard, mutex, behind, nothing, guard_of, instance_mode}
-use Rattle.sharc_meaning.specs.Events.{held_mutexes, holds_mutex}
-use Rattle.sharc_meaning.specs.Reference.{NULL, is_null, number_of}
-use Rattle.sharc_meaning.specs.declared.given.GivenUp.{GivenUp}
-use Rattle.sharc_meaning.specs.declared.given.GivenUp.TheVariants.{Released, Emptied}
-use Rattle.sharc_meaning.specs.State.{State, Out, go, over, Run, then_on, ◌>>=◌, give, done, stop, unless_stop, enters, enters_with, happens, answered, performs, gives_up, drops, holds, holds_reference, moves, moves_on, is_reference, value_of, looks_at, sets, stands}
-use Rattle.sharc_meaning.specs.declared.variable.Variable.{Variable}
-use Rattle.sharc_meaning.specs.Places.{Place, variable, cell, pointee, based, guarding, access_mode, cast_to, freed}
-use Rattle.sharc_meaning.specs.Waiting.{cell_at_place, moves_base, gives_up_base, lock_call, unlock_call, wait_call, signal_call, broadcast_call, condition_call}
-use Rattle.sharc_meaning.specs.Expressions.{resulting}
-use Rattle.sharc_meaning.specs.Meaning.{goes_away}
+use Rattle.sharc_meaning.specs.{Cells.{cell_of, Guard, mutex, behind, nothing, guard_of, instance_mode}, Events.{held_mutexes, holds_mutex}, Reference.{NULL, is_null, number_of}, declared.given.GivenUp.GivenUp, declared.given.GivenUp.TheVariants.{Released, Emptied}, State.{State, Out, go, over, Run, then_on, ◌>>=◌, give, done, stop, unless_stop, enters, enters_with, happens, answered, performs, gives_up, drops, holds, holds_reference, moves, moves_on, is_reference, value_of, looks_at, sets, stands}, declared.variable.Variable.Variable, Places.{Place, variable, cell, pointee, based, guarding, access_mode, cast_to, freed}, Waiting.{cell_at_place, moves_base, gives_up_base, lock_call, unlock_call, wait_call, signal_call, broadcast_call, condition_call}, Expressions.resulting, Meaning.goes_away}
 use Rattle.sharc_dataflow.specs.Flow.{Next, Ends}
 use Rattle.sharc_live.specs.Flows.{goes_on}
-use Rattle.sharc_live_laws.proofs.Ways.{way_goes, way_stays}
-use Rattle.sharc_live_laws.proofs.Along.{Any, onward, Along, Reached, moved_not}
+use Rattle.sharc_live_laws.proofs.{Ways.{way_goes, way_stays}, Along.{Any, onward, Along, Reached, moved_not}}
 
 -- the trace, the number of calls and the frame are what they were
 abbrev pub Same : State → State → Type 0

@@ -1,26 +1,17 @@
 -- What is done at places: where a place is a local, its use is that of the flow.
-use Rattle.std.proofs.Common.{◌≡◌, ◌≢◌, ℕ, Bool, true, false, ◌==◌, List, [], ◌∷◌, inl, Option, Some, None, refl, sym, ap, ◌∙◌, subst, arith, eq-eqb, ne_eqb, eqb-true, append-nil}
-use Rattle.std.proofs.lemmas.Bool.{eqb-false}
+use Rattle.std.proofs.{Common.{◌≡◌, ◌≢◌, ℕ, Bool, true, false, ◌==◌, List, [], ◌∷◌, inl, Option, Some, None, refl, sym, ap, ◌∙◌, subst, arith, eq-eqb, ne_eqb, eqb-true, append-nil}, lemmas.Bool.eqb-false}
 use Rattle.std.specs.Prelude.{ℤ}
 use Rattle.sharc_tree.specs.declared.event.Act.TheVariants as events
 use Rattle.sharc_tree.specs.declared.event.Taken.TheVariants as taken
-use Rattle.sharc_tree.specs.declared.event.TakeKind.{TakeKind}
-use Rattle.sharc_tree.specs.declared.token.Site.{Site}
-use Rattle.sharc_tree.specs.declared.tree.declaration.Declaration.{Declaration}
+use Rattle.sharc_tree.specs.{declared.event.TakeKind.TakeKind, declared.token.Site.Site, declared.tree.declaration.Declaration.Declaration}
 use Rattle.sharc_names.specs.Kinds.{Kind, is_pointer}
 use Rattle.sharc_ctype.specs.Resolved.{Resolution}
 use Rattle.sharc_mode.specs.Sharings.{Sharing}
-use Rattle.sharc_dataflow.specs.Flow.{Act, Reads, Nulls, Writes, Spares, To, Next, goes, done, through}
-use Rattle.sharc_dataflow.specs.Code.{Code, acts, first_then}
+use Rattle.sharc_dataflow.specs.{Flow.{Act, Reads, Nulls, Writes, Spares, To, Next, goes, done, through}, Code.{Code, acts, first_then}}
 use Rattle.sharc_live.specs.Flows.{goes_on, declares_flow}
 use Rattle.sharc_live.specs.Flows as flows
-use Rattle.sharc_meaning.specs.Reference.{NULL, is_null}
-use Rattle.sharc_meaning.specs.State.{Use, reads, writes, nulls, Run, traces, reads_variable, writes_variable, value_of, new_variable, begins_with}
-use Rattle.sharc_meaning.specs.Places.{Place, variable, cell, fetched, stored, nulled, taken_from}
-use Rattle.sharc_live_laws.proofs.Covering.{Covers, covers_same, covers_both, covers_spared, covers_twice}
-use Rattle.sharc_live_laws.proofs.Ways.{Way, way_goes, way_does, idle_ends, idle_behind}
-use Rattle.sharc_live_laws.proofs.Along.{act_of, only_if, shown_if, Any, onward, Along, along_as, then_idle, idle_then, shown}
-use Rattle.sharc_live_laws.proofs.Calm.{Calm, calm_then, idle, calm_give, calm_looks, calm_sets, calm_stands, calm_either, calm_answered, calm_performs, calm_drops, calm_holds, calm_moves, calm_gives_up, calm_done, calm_mode}
+use Rattle.sharc_meaning.specs.{Reference.{NULL, is_null}, State.{Use, reads, writes, nulls, Run, traces, reads_variable, writes_variable, value_of, new_variable, begins_with}, Places.{Place, variable, cell, fetched, stored, nulled, taken_from}}
+use Rattle.sharc_live_laws.proofs.{Covering.{Covers, covers_same, covers_both, covers_spared, covers_twice}, Ways.{Way, way_goes, way_does, idle_ends, idle_behind}, Along.{act_of, only_if, shown_if, Any, onward, Along, along_as, then_idle, idle_then, shown}, Calm.{Calm, calm_then, idle, calm_give, calm_looks, calm_sets, calm_stands, calm_either, calm_answered, calm_performs, calm_drops, calm_holds, calm_moves, calm_gives_up, calm_done, calm_mode}}
 
 -- the code of a use of the local, if it is one
 abbrev pub use_flow : Use → Option ℕ → ℕ → Code

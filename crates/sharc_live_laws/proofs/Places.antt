@@ -1,37 +1,16 @@
 -- Places: the code that finds one, and the local that it is.
-use Rattle.std.proofs.Common.{◌≡◌, ℕ, Bool, true, false, cond, ◌==◌, List, [], Option, Some, None, refl, ◌∙◌, subst, append-nil}
-use Rattle.std.proofs.lemmas.Bool.{both_ways}
+use Rattle.std.proofs.{Common.{◌≡◌, ℕ, Bool, true, false, cond, ◌==◌, List, [], Option, Some, None, refl, ◌∙◌, subst, append-nil}, lemmas.Bool.both_ways}
 use Rattle.std.specs.Prelude.{ℤ, pos, negsuc, nat_lt}
-use Rattle.sharc_tree.specs.declared.event.Object.{Object}
-use Rattle.sharc_tree.specs.declared.event.Object.TheVariants.{Global, Made}
-use Rattle.sharc_tree.specs.declared.token.Site.{Site}
-use Rattle.sharc_tree.specs.declared.token.Span.{Span}
-use Rattle.sharc_tree.specs.declared.tree.expression.Access.{Access}
-use Rattle.sharc_tree.specs.declared.tree.expression.Access.TheVariants.{Dot, Arrow}
-use Rattle.sharc_tree.specs.declared.tree.expression.UnaryOperator.{UnaryOperator}
-use Rattle.sharc_tree.specs.declared.tree.expression.UnaryOperator.TheVariants.{Negate, Not, Complement, Dereference}
-use Rattle.sharc_tree.specs.declared.trap.Trap.{Trap}
+use Rattle.sharc_tree.specs.{declared.event.Object.Object, declared.event.Object.TheVariants.{Global, Made}, declared.token.Site.Site, declared.token.Span.Span, declared.tree.expression.Access.Access, declared.tree.expression.Access.TheVariants.{Dot, Arrow}, declared.tree.expression.UnaryOperator.UnaryOperator, declared.tree.expression.UnaryOperator.TheVariants.{Negate, Not, Complement, Dereference}, declared.trap.Trap.Trap, Tree.{Expression, identifier, constant, parentheses, call, spawn, on_value, on_place, cast, index, field, unary, binary, Function}}
 use Rattle.sharc_tree.specs.declared.trap.Trap.TheVariants as traps
-use Rattle.sharc_tree.specs.Tree.{Expression, identifier, constant, parentheses, call, spawn, on_value, on_place, cast, index, field, unary, binary, Function}
-use Rattle.sharc_names.specs.declared.fault.Named.{Named}
+use Rattle.sharc_names.specs.{declared.fault.Named.Named, Kinds.{Kind, is_array, element_kind, int, long}}
 use Rattle.sharc_names.specs.declared.fault.Named.TheVariants as named
-use Rattle.sharc_names.specs.Kinds.{Kind, is_array, element_kind, int, long}
-use Rattle.sharc_ctype.specs.declared.expr.OperatorClass.{OperatorClass}
-use Rattle.sharc_ctype.specs.declared.expr.OperatorClass.TheVariants.{Logical, Equality, Relation, Shift, Arithmetic}
-use Rattle.sharc_ctype.specs.Expressions.{class_of, binary_result}
-use Rattle.sharc_ctype.specs.Resolved.{Resolution, named_at, kind_at, global_at, function_at, result_kind_of, called_kind}
-use Rattle.sharc_dataflow.specs.Flow.{Act, To, Next, Broken, Continued, Ends}
-use Rattle.sharc_dataflow.specs.Code.{Code, first_then, one_of}
+use Rattle.sharc_ctype.specs.{declared.expr.OperatorClass.OperatorClass, declared.expr.OperatorClass.TheVariants.{Logical, Equality, Relation, Shift, Arithmetic}, Expressions.{class_of, binary_result}, Resolved.{Resolution, named_at, kind_at, global_at, function_at, result_kind_of, called_kind}}
+use Rattle.sharc_dataflow.specs.{Flow.{Act, To, Next, Broken, Continued, Ends}, Code.{Code, first_then, one_of}}
 use Rattle.sharc_live.specs.Flows.{goes_on, variable_named, variable_of, through, of_base, of_operand, flow, place_flow}
 use Rattle.sharc_live.specs.Flows as flows
-use Rattle.sharc_meaning.specs.Cells.{element_cells, global_elements, field_place_named}
-use Rattle.sharc_meaning.specs.Reference.{number_of, elements_of}
-use Rattle.sharc_meaning.specs.State.{Run, ◌>>=◌, ◌>>◌, give, stop, entered}
-use Rattle.sharc_meaning.specs.Places.{Place, variable, cell, no_place, place_named, pointee, field_in, based, element, element_of_array, index_place, pointee_place, field_place, unary_place}
-use Rattle.sharc_live_laws.proofs.Ways.{Way, way_goes, way_stays, way_then, way_leaves, way_one, way_other}
-use Rattle.sharc_live_laws.proofs.Along.{Any, onward, Along, along_as, moved_not, gives, binds, then_idle, idle_then}
-use Rattle.sharc_live_laws.proofs.Calm.{Calm, calm_enters, calm_based, idle}
-use Rattle.sharc_live_laws.proofs.Locals.{is_named, is_at, unseen, way_read_more}
+use Rattle.sharc_meaning.specs.{Cells.{element_cells, global_elements, field_place_named}, Reference.{number_of, elements_of}, State.{Run, ◌>>=◌, ◌>>◌, give, stop, entered}, Places.{Place, variable, cell, no_place, place_named, pointee, field_in, based, element, element_of_array, index_place, pointee_place, field_place, unary_place}}
+use Rattle.sharc_live_laws.proofs.{Ways.{Way, way_goes, way_stays, way_then, way_leaves, way_one, way_other}, Along.{Any, onward, Along, along_as, moved_not, gives, binds, then_idle, idle_then}, Calm.{Calm, calm_enters, calm_based, idle}, Locals.{is_named, is_at, unseen, way_read_more}}
 
 -- ---- what no array is
 

@@ -4,17 +4,10 @@ use Rattle.std.specs.Prelude.{All}
 use Rattle.sharc_tree.specs.declared.token.Site.{Site}
 use Rattle.sharc_mode.specs.Moded.{Assignment}
 use Rattle.sharc_dataflow.specs.Flow.{Ends, Clear, Shows, Hits}
-use Rattle.sharc_meaning.specs.Events.{events_of}
-use Rattle.sharc_meaning.specs.Runs.{answers_of}
-use Rattle.sharc_meaning.specs.State.{Use, reads, nulls, Traced}
-use Rattle.sharc_live.specs.Uses.{IsUseIn}
-use Rattle.sharc_meaning.specs.Meaning.{asks}
-use Rattle.sharc_live.specs.Flows.{function_flow}
+use Rattle.sharc_meaning.specs.{Events.events_of, Runs.answers_of, State.{Use, reads, nulls, Traced}, Meaning.asks}
+use Rattle.sharc_live.specs.{Uses.IsUseIn, Flows.function_flow}
 use Rattle.sharc_live_laws.specs.Traces.{traced, Untouched, SilentReadsAreSafe, SilentReadsInRunsAreSafe}
-use Rattle.sharc_live_laws.proofs.Covering.{shows_second, hits_second}
-use Rattle.sharc_live_laws.proofs.Ways.{inside}
-use Rattle.sharc_live_laws.proofs.Along.{act_of, only_if, shown_if, shown_one, shown, Other}
-use Rattle.sharc_live_laws.proofs.Calls.{Told, asked_told}
+use Rattle.sharc_live_laws.proofs.{Covering.{shows_second, hits_second}, Ways.inside, Along.{act_of, only_if, shown_if, shown_one, shown, Other}, Calls.{Told, asked_told}}
 
 module _ (x call : ℕ) where
   -- an entry that leaves the variable as it is

@@ -2,34 +2,15 @@
 use Rattle.std.proofs.Common.{◌≡◌, ℕ, ◌<◌, false, ◌==◌, List, [], Option, Some, None, refl}
 use Rattle.std.specs.Prelude.{ℤ, pos, unsigned_abs}
 use Rattle.sharc_tree.specs.declared.event.Act.TheVariants as events
-use Rattle.sharc_tree.specs.declared.token.Site.{Site}
-use Rattle.sharc_tree.specs.declared.tree.declaration.Declaration.{Declaration}
-use Rattle.sharc_tree.specs.declared.tree.statement.Jump.{Jump}
-use Rattle.sharc_tree.specs.declared.tree.statement.Jump.TheVariants.{Break, Continue}
+use Rattle.sharc_tree.specs.{declared.token.Site.Site, declared.tree.declaration.Declaration.Declaration, declared.tree.statement.Jump.Jump, declared.tree.statement.Jump.TheVariants.{Break, Continue}, Spans.span_of, Tree.{Expression, Right, value, malloc, Simple, assign, does_call, Local, First, nothing, declares, does, Statement, empty, block, declare, simple, jump, return, if_then, if_then_else, while, for, Statements, no_statements, statement}}
 use Rattle.sharc_tree.specs.declared.trap.Trap.TheVariants as traps
-use Rattle.sharc_tree.specs.Spans.{span_of}
-use Rattle.sharc_tree.specs.Tree.{Expression, Right, value, malloc, Simple, assign, does_call, Local, First, nothing, declares, does, Statement, empty, block, declare, simple, jump, return, if_then, if_then_else, while, for, Statements, no_statements, statement}
 use Rattle.sharc_names.specs.Kinds.{Kind, declared_kind}
 use Rattle.sharc_ctype.specs.Resolved.{kind_at}
-use Rattle.sharc_mode.specs.Cells.{cell_at, pointed}
-use Rattle.sharc_mode.specs.Moded.{Assignment}
-use Rattle.sharc_mode.specs.Rows.{written, row_at, declared_row}
-use Rattle.sharc_mode.specs.Sharings.{Sharing, private}
-use Rattle.sharc_dataflow.specs.Flow.{Next, Broken, Continued, Ends}
-use Rattle.sharc_dataflow.specs.Code.{Code, goes_to, first_then, catches}
+use Rattle.sharc_mode.specs.{Cells.{cell_at, pointed}, Moded.Assignment, Rows.{written, row_at, declared_row}, Sharings.{Sharing, private}}
+use Rattle.sharc_dataflow.specs.{Flow.{Next, Broken, Continued, Ends}, Code.{Code, goes_to, first_then, catches}}
 use Rattle.sharc_live.specs.Flows.{goes_on, variable_of, flow, of_option, right_flow, simple_flow, declares_flow, local_flow, first_flow, turn_flow, test_flow, jump_flow, statement_flow, statements_flow}
-use Rattle.sharc_meaning.specs.Cells.{element_cells, instance_mode}
-use Rattle.sharc_meaning.specs.State.{State, Out, go, over, Run, then_on, ◌>>=◌, ◌>>◌, give, done, value_of, begins_with}
-use Rattle.sharc_meaning.specs.Places.{variable}
-use Rattle.sharc_meaning.specs.Expressions.{Calls, tested, eval}
-use Rattle.sharc_meaning.specs.Statements.{Flow, next, broken, continued, returned, on_next, elements_made, is_positive, right_value, done_simple, initialised, declared, done_first, done_step, done_test, left_by, return_with, exec, exec_all}
-use Rattle.sharc_live_laws.proofs.Ways.{way_goes, way_then, way_leaves}
-use Rattle.sharc_live_laws.proofs.Along.{Any, Reached, Along, moved_as, reached_behind, still_ready, gives, binds, then_idle, scoped, blocked}
-use Rattle.sharc_live_laws.proofs.Calm.{calm_then, idle, calm_give, calm_done, calm_unless, calm_looks, calm_answered, calm_drops}
-use Rattle.sharc_live_laws.proofs.Locals.{stored_along, begins_along, begins_alone}
-use Rattle.sharc_live_laws.proofs.Places.{either_along, one_along, other_along, entered_along, then_calm}
-use Rattle.sharc_live_laws.proofs.Values.{Runs, tested_along, fitting_along, eval_along, place_along}
-use Rattle.sharc_live_laws.proofs.Loops.{exit_of, Trying, tries_none, tries_some, loop_along}
+use Rattle.sharc_meaning.specs.{Cells.{element_cells, instance_mode}, State.{State, Out, go, over, Run, then_on, ◌>>=◌, ◌>>◌, give, done, value_of, begins_with}, Places.variable, Expressions.{Calls, tested, eval}, Statements.{Flow, next, broken, continued, returned, on_next, elements_made, is_positive, right_value, done_simple, initialised, declared, done_first, done_step, done_test, left_by, return_with, exec, exec_all}}
+use Rattle.sharc_live_laws.proofs.{Ways.{way_goes, way_then, way_leaves}, Along.{Any, Reached, Along, moved_as, reached_behind, still_ready, gives, binds, then_idle, scoped, blocked}, Calm.{calm_then, idle, calm_give, calm_done, calm_unless, calm_looks, calm_answered, calm_drops}, Locals.{stored_along, begins_along, begins_alone}, Places.{either_along, one_along, other_along, entered_along, then_calm}, Values.{Runs, tested_along, fitting_along, eval_along, place_along}, Loops.{exit_of, Trying, tries_none, tries_some, loop_along}}
 
 module _ (m : Assignment) (x : ℕ) where
   -- a run that is left by an exit

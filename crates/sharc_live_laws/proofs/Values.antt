@@ -2,43 +2,17 @@
 use Rattle.std.proofs.Common.{◌≡◌, ℕ, true, false, ◌==◌, List, [], ◌∷◌, Option, Some, None, refl}
 use Rattle.std.specs.Prelude.{ℤ, pos, not, drop}
 use Rattle.sharc_tree.specs.declared.event.Act.TheVariants as events
-use Rattle.sharc_tree.specs.declared.event.Object.TheVariants.{Global}
-use Rattle.sharc_tree.specs.declared.event.TakeKind.{TakeKind}
-use Rattle.sharc_tree.specs.declared.event.TakeKind.TheVariants.{Cast, Free as ToFree}
-use Rattle.sharc_tree.specs.declared.token.Site.{Site}
-use Rattle.sharc_tree.specs.declared.token.Span.{Span}
-use Rattle.sharc_tree.specs.declared.tree.expression.BinaryOperator.{BinaryOperator}
-use Rattle.sharc_tree.specs.declared.tree.expression.BinaryOperator.TheVariants.{LogicalOr, LogicalAnd}
-use Rattle.sharc_tree.specs.declared.tree.expression.PlaceCall.{PlaceCall}
-use Rattle.sharc_tree.specs.declared.tree.expression.PlaceCall.TheVariants.{Lock, Unlock, Free}
-use Rattle.sharc_tree.specs.declared.tree.expression.UnaryOperator.{UnaryOperator}
-use Rattle.sharc_tree.specs.declared.tree.expression.UnaryOperator.TheVariants.{Negate, Not, Complement, Dereference}
-use Rattle.sharc_tree.specs.declared.tree.expression.ValueCall.{ValueCall}
+use Rattle.sharc_tree.specs.{declared.event.Object.TheVariants.Global, declared.event.TakeKind.TakeKind, declared.event.TakeKind.TheVariants.{Cast, Free as ToFree}, declared.token.Site.Site, declared.token.Span.Span, declared.tree.expression.BinaryOperator.BinaryOperator, declared.tree.expression.BinaryOperator.TheVariants.{LogicalOr, LogicalAnd}, declared.tree.expression.PlaceCall.PlaceCall, declared.tree.expression.PlaceCall.TheVariants.{Lock, Unlock, Free}, declared.tree.expression.UnaryOperator.UnaryOperator, declared.tree.expression.UnaryOperator.TheVariants.{Negate, Not, Complement, Dereference}, declared.tree.expression.ValueCall.ValueCall, Spans.span_of, Tree.{Expression, identifier, constant, parentheses, call, spawn, on_value, on_place, cast, index, field, unary, binary, Arguments, no_arguments, argument}}
 use Rattle.sharc_tree.specs.declared.trap.Trap.TheVariants as traps
-use Rattle.sharc_tree.specs.Spans.{span_of}
-use Rattle.sharc_tree.specs.Tree.{Expression, identifier, constant, parentheses, call, spawn, on_value, on_place, cast, index, field, unary, binary, Arguments, no_arguments, argument}
-use Rattle.sharc_names.specs.declared.fault.Named.{Named}
+use Rattle.sharc_names.specs.{declared.fault.Named.Named, Kinds.{Kind, declared_kinds, promoted}}
 use Rattle.sharc_names.specs.declared.fault.Named.TheVariants as named
-use Rattle.sharc_names.specs.Kinds.{Kind, declared_kinds, promoted}
-use Rattle.sharc_ctype.specs.Expressions.{class_of, binary_result}
-use Rattle.sharc_ctype.specs.Resolved.{named_at, kind_at}
-use Rattle.sharc_ctype.specs.Transfers.{parameters_named}
-use Rattle.sharc_mode.specs.Cells.{cell_at, pointed}
-use Rattle.sharc_mode.specs.Moded.{Assignment}
-use Rattle.sharc_mode.specs.Rows.{cast_row}
-use Rattle.sharc_mode.specs.Sharings.{Sharing}
+use Rattle.sharc_ctype.specs.{Expressions.{class_of, binary_result}, Resolved.{named_at, kind_at}, Transfers.parameters_named}
+use Rattle.sharc_mode.specs.{Cells.{cell_at, pointed}, Moded.Assignment, Rows.cast_row, Sharings.Sharing}
 use Rattle.sharc_dataflow.specs.Code.{Code, first_then}
 use Rattle.sharc_live.specs.Flows.{goes_on, variable_named, variable_of, through, of_operands, of_place_call, of_base, flow, flow_all, place_flow}
 use Rattle.sharc_live.specs.Flows as flows
-use Rattle.sharc_meaning.specs.Arithmetic.{bits_of, fits, is_zero, truth, operated, negated, complement}
-use Rattle.sharc_meaning.specs.Reference.{is_null, constant_value}
-use Rattle.sharc_meaning.specs.State.{Run, ◌>>=◌, temporarily}
-use Rattle.sharc_meaning.specs.Places.{Place, cell, pointee_place}
-use Rattle.sharc_meaning.specs.Expressions.{Calls, tested, operand, fitting, passed, named_value, called, number_named, value_act, resulting, spawned, value_called, taking, place_called, cast_value, place_value, unary_value, binary_value, eval, eval_all, place_of}
-use Rattle.sharc_live_laws.proofs.Along.{Any, onward, Along, binds, then_idle, scoped}
-use Rattle.sharc_live_laws.proofs.Calm.{calm_then, idle, calm_give, calm_done, calm_unless, calm_either, calm_answered, calm_performs, calm_drops, calm_holds, calm_moves, calm_resulting, calm_cast, calm_freed, calm_lock, calm_unlock, calm_condition}
-use Rattle.sharc_live_laws.proofs.Locals.{is_named, reads_along, fetched_along, taken_along}
-use Rattle.sharc_live_laws.proofs.Places.{Spot, names, either_along, one_along, other_along, entered_along, then_calm, pointee_along, field_along, index_along, named_along, no_place_along, unary_place_along}
+use Rattle.sharc_meaning.specs.{Arithmetic.{bits_of, fits, is_zero, truth, operated, negated, complement}, Reference.{is_null, constant_value}, State.{Run, ◌>>=◌, temporarily}, Places.{Place, cell, pointee_place}, Expressions.{Calls, tested, operand, fitting, passed, named_value, called, number_named, value_act, resulting, spawned, value_called, taking, place_called, cast_value, place_value, unary_value, binary_value, eval, eval_all, place_of}}
+use Rattle.sharc_live_laws.proofs.{Along.{Any, onward, Along, binds, then_idle, scoped}, Calm.{calm_then, idle, calm_give, calm_done, calm_unless, calm_either, calm_answered, calm_performs, calm_drops, calm_holds, calm_moves, calm_resulting, calm_cast, calm_freed, calm_lock, calm_unlock, calm_condition}, Locals.{is_named, reads_along, fetched_along, taken_along}, Places.{Spot, names, either_along, one_along, other_along, entered_along, then_calm, pointee_along, field_along, index_along, named_along, no_place_along, unary_place_along}}
 
 module _ (m : Assignment) (x : ℕ) where
   abbrev pub Runs : {A : Type 0} → Code → Run A → Type 0

@@ -1,12 +1,8 @@
 -- What a thread does with its locals: no read of a nulled one is without a warning.
 use Rattle.std.specs.Prelude.{◌≡◌, ◌≢◌, ℕ, ℤ, List, ◌∷◌, ◌++◌, All}
-use Rattle.sharc_tree.specs.declared.token.Site.{Site}
-use Rattle.sharc_tree.specs.declared.event.SourceEvent.{SourceEvent}
-use Rattle.sharc_mode.specs.declared.error.Warning.{Warning}
-use Rattle.sharc_mode.specs.Moded.{Assignment}
-use Rattle.sharc_meaning.specs.Events.{events_of}
-use Rattle.sharc_meaning.specs.Runs.{answers_of, Follows}
-use Rattle.sharc_meaning.specs.State.{Traced, Use, reads, nulls}
+use Rattle.sharc_tree.specs.{declared.token.Site.Site, declared.event.SourceEvent.SourceEvent}
+use Rattle.sharc_mode.specs.{declared.error.Warning.Warning, Moded.Assignment}
+use Rattle.sharc_meaning.specs.{Events.events_of, Runs.{answers_of, Follows}, State.{Traced, Use, reads, nulls}}
 use Rattle.sharc_meaning.specs.Meaning.{asks}
 use Rattle.sharc_live.specs.Uses.{AreWarnings, IsWarned}
 

@@ -1,6 +1,5 @@
 -- The source that `make` writes, by its lines.
-use Rattle.std.specs.Prelude.{ℕ, List, [], ◌∷◌, ◌++◌, map, codes, decimal}
-use Rattle.std.specs.List.{flat_map, range_with_len}
+use Rattle.std.specs.{Prelude.{ℕ, List, [], ◌∷◌, ◌++◌, map, codes, decimal}, List.{flat_map, range_with_len}}
 
 -- the text of these lines: each is ended by a newline
 unfoldable pub text_of : List (List ℕ) → List ℕ

@@ -1,14 +1,7 @@
 -- What taking the entry at a place out of a held log leaves.
-use Rattle.std.proofs.Common.{◌≡◌, ◌≢◌, ◌==◌, ℕ, ◌+◌, ◌<◌, Some, List, ◌∷◌, ◌++◌, length, get_or, take, drop, zero, suc, refl, sym, ap, ◌∙◌, arith, rules, tests, inl, inr}
-use Rattle.std.specs.List.{remove, position}
-use Rattle.std.proofs.Math.Seq.{drop-cons}
-use Rattle.std.proofs.lemmas.List.{take-append-drop, get_or_default}
-use Rattle.std.proofs.lemmas.List.Quantifiers.{position-Some, all_pairs_remove}
-use Rattle.std.proofs.lemmas.List.Edits.{length-remove, get_or-remove_below, get_or-remove_above}
-use Rattle.std.proofs.lemmas.Bool.{cases_lt, eq-eqb, ne_eqb}
-use Rattle.std.specs.Prelude.{None, []}
-use Rattle.sharc_locks.specs.HeldLog.{Holds, HoldsEachOnce, IsHeldLog, GivesUp, without, object_of}
-use Rattle.sharc_locks.specs.declared.held_log.HeldMutex.{HeldMutex}
+use Rattle.std.proofs.{Common.{◌≡◌, ◌≢◌, ◌==◌, ℕ, ◌+◌, ◌<◌, Some, List, ◌∷◌, ◌++◌, length, get_or, take, drop, zero, suc, refl, sym, ap, ◌∙◌, arith, rules, tests, inl, inr}, Math.Seq.drop-cons, lemmas.List.{take-append-drop, get_or_default}, lemmas.List.Quantifiers.{position-Some, all_pairs_remove}, lemmas.List.Edits.{length-remove, get_or-remove_below, get_or-remove_above}, lemmas.Bool.{cases_lt, eq-eqb, ne_eqb}}
+use Rattle.std.specs.{List.{remove, position}, Prelude.{None, []}}
+use Rattle.sharc_locks.specs.{HeldLog.{Holds, HoldsEachOnce, IsHeldLog, GivesUp, without, object_of}, declared.held_log.HeldMutex.HeldMutex}
 
 -- a list is what lies before a place, the element there, and what lies after it
 split_at : {X : Type 0} (xs : List X) (i : ℕ) (x : X) → i < length xs → x ≡ get_or xs i x → xs ≡ take i xs ++ x ∷ drop (suc i) xs

@@ -4,14 +4,9 @@ use Rattle.std.specs.Prelude.{ℤ, ◌≢◌}
 use Rattle.sharc_tree.specs.declared.event.SourceEvent.{SourceEvent}
 use Rattle.sharc_ctype.specs.Resolved.{function_at}
 use Rattle.sharc_mode.specs.Moded.{Assignment}
-use Rattle.sharc_meaning.specs.Laws.{IsPrefix, GoesOn, MoreIsGivenUp, MoreFuel, MoreFuelChangesNothing, MoreAnswers, MoreAnswersChangeNothing, NoMoreThanAnswers, WantsBehindAnswers, Comes, OneAnswerMore}
-use Rattle.sharc_meaning.specs.Meaning.{Asked, asked_by, asks, run_thread, start}
-use Rattle.sharc_meaning.specs.State.{Outcome, wants, ended, stopped, spent, Out, go, over}
-use Rattle.sharc_meaning.proofs.Closed.{thread_kept}
-use Rattle.sharc_meaning.proofs.Growing.{prefix_refl}
+use Rattle.sharc_meaning.specs.{Laws.{IsPrefix, GoesOn, MoreIsGivenUp, MoreFuel, MoreFuelChangesNothing, MoreAnswers, MoreAnswersChangeNothing, NoMoreThanAnswers, WantsBehindAnswers, Comes, OneAnswerMore}, Meaning.{Asked, asked_by, asks, run_thread, start}, State.{Outcome, wants, ended, stopped, spent, Out, go, over}}
+use Rattle.sharc_meaning.proofs.{Closed.thread_kept, Growing.prefix_refl, Going.{with_more, NoMore, ComesIn}, Counting.{Counting, counting, Counts, NoneLeft}}
 use Rattle.sharc_meaning.proofs.Going as going
-use Rattle.sharc_meaning.proofs.Going.{with_more, NoMore, ComesIn}
-use Rattle.sharc_meaning.proofs.Counting.{Counting, counting, Counts, NoneLeft}
 
 abbrev outcome_of : {A : Type 0} → Out A → Outcome
 outcome_of (go x s) = ended

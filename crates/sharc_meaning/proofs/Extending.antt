@@ -1,20 +1,11 @@
 -- Source runs grow by events that are wanted and may come.
-use Rattle.std.proofs.Common.{◌≡◌, ◌⊎◌, inl, inr, ℕ, ◌≤◌, Bool, true, false, cond, List, [], ◌∷◌, ◌++◌, map, refl, sym, ap, ◌∙◌, subst, arith, append-nil, length}
+use Rattle.std.proofs.{Common.{◌≡◌, ◌⊎◌, inl, inr, ℕ, ◌≤◌, Bool, true, false, cond, List, [], ◌∷◌, ◌++◌, map, refl, sym, ap, ◌∙◌, subst, arith, append-nil, length}, lemmas.Bool.Decides.nat_tests}
 use Rattle.std.specs.Prelude.{◌==◌}
-use Rattle.std.proofs.lemmas.Bool.Decides.{nat_tests}
 use Rattle.sharc_tree.specs.declared.event.SourceEvent.{SourceEvent}
 use Rattle.sharc_mode.specs.Moded.{Assignment}
-use Rattle.sharc_meaning.specs.Events.{events_of, is_of}
-use Rattle.sharc_meaning.specs.Laws.{Next, RunsGrow, RunsStart}
-use Rattle.sharc_meaning.specs.Meaning.{asks}
-use Rattle.sharc_meaning.specs.Runs.{by, answers_of, Follows}
-use Rattle.sharc_meaning.proofs.Asking.{no_more_than_answers}
-use Rattle.sharc_meaning.proofs.Legal.{stores_grow}
-use Rattle.sharc_meaning.proofs.Obeying.{further}
-use Rattle.sharc_meaning.proofs.Running.{events_append, map_both}
-
-pub same_thread : (t u : ℕ) → (t == u) ≡ true → t ≡ u
-same_thread t u h = search (nat_tests, arith)
+use Rattle.sharc_meaning.specs.{Events.{events_of, is_of}, Laws.{Next, RunsGrow, RunsStart}, Meaning.asks, Runs.{by, answers_of, Follows}}
+use Rattle.sharc_meaning.proofs.{Asking.no_more_than_answers, Legal.stores_grow, Obeying.further, Running.events_append}
+use Rattle.sharc_lemmas.proofs.{Numbers.{same_number as same_thread}, Lists.map_both}
 
 -- the events of a thread, with one more at the end of the list
 module _ (e : SourceEvent) (u : ℕ) where

@@ -1,18 +1,11 @@
 -- More fuel and more answers change nothing but an end for want of them, and what was wanted then comes.
 use Rattle.std.proofs.Common.{◌≡◌, ℕ, zero, suc, ◌+◌, Bool, true, false, cond, List, [], ◌∷◌, ◌++◌, refl, sym, ap, ◌∙◌, subst, arith, length, append-nil, drop}
 use Rattle.std.specs.Prelude.{ℤ, pos}
-use Rattle.sharc_tree.specs.declared.event.Act.{Act}
-use Rattle.sharc_tree.specs.declared.event.SourceEvent.{SourceEvent}
-use Rattle.sharc_tree.specs.declared.token.Site.{Site}
+use Rattle.sharc_tree.specs.{declared.event.Act.Act, declared.event.SourceEvent.SourceEvent, declared.token.Site.Site}
 use Rattle.sharc_tree.specs.declared.event.Act.TheVariants as acts
 use Rattle.sharc_tree.specs.declared.event.Taken.TheVariants as taken
-use Rattle.sharc_meaning.specs.declared.given.GivenUp.{GivenUp}
-use Rattle.sharc_meaning.specs.Laws.{IsPrefix, IsAnswer}
-use Rattle.sharc_meaning.specs.State.{Frame, State, all_released, pointers_among, Outcome, wants, ended, stopped, spent, Out, go, over, Run, Step, then_on, ◌>>◌, give, enters_with, happens, answer_of, event_of, ends_temporaries, value_of, ends_variables, without_temporaries}
-use Rattle.sharc_meaning.specs.Statements.{Flow, next, broken, continued, returned, on_turn, turns}
-use Rattle.sharc_meaning.specs.Meaning.{back_in, with_frame}
-use Rattle.sharc_meaning.proofs.Closed.{Closed}
-use Rattle.sharc_meaning.proofs.Growing.{Grows, grows_refl, grows_on, one_more, prefix_refl, prefix_on, state_of, Growing, growing, grows_then, grows_turn, grows_turns, grows_cond, gives_more}
+use Rattle.sharc_meaning.specs.{declared.given.GivenUp.GivenUp, Laws.{IsPrefix, IsAnswer}, State.{Frame, State, all_released, pointers_among, Outcome, wants, ended, stopped, spent, Out, go, over, Run, Step, then_on, ◌>>◌, give, enters_with, happens, answer_of, event_of, ends_temporaries, value_of, ends_variables, without_temporaries}, Statements.{Flow, next, broken, continued, returned, on_turn, turns}, Meaning.{back_in, with_frame}}
+use Rattle.sharc_meaning.proofs.{Closed.Closed, Growing.{Grows, grows_refl, grows_on, one_more, prefix_refl, prefix_on, state_of, Growing, growing, grows_then, grows_turn, grows_turns, grows_cond, gives_more}}
 
 abbrev pub with_more : ℕ → List ℤ → State → State
 with_more d ys s = record s { answers = s.answers ++ ys; fuel = s.fuel + d }

@@ -1,14 +1,8 @@
 -- No event is taken back, and nothing of the trace; nor is anything that was given up before the next event comes.
 use Rattle.std.proofs.Common.{◌≡◌, ℕ, zero, suc, Bool, true, false, cond, List, [], ◌∷◌, ◌++◌, refl, sym, ap, ◌∙◌, append_assoc, append-nil, length, drop}
 use Rattle.std.specs.Prelude.{ℤ}
-use Rattle.sharc_tree.specs.declared.event.Act.{Act}
-use Rattle.sharc_tree.specs.declared.event.SourceEvent.{SourceEvent}
-use Rattle.sharc_tree.specs.declared.token.Site.{Site}
-use Rattle.sharc_meaning.specs.declared.given.GivenUp.{GivenUp}
-use Rattle.sharc_meaning.specs.Laws.{IsPrefix}
-use Rattle.sharc_meaning.specs.State.{Frame, Traced, State, all_released, pointers_among, Out, go, over, Run, Step, then_on, give, enters_with, happens, answer_of, event_of, ends_temporaries, value_of, ends_variables, without_temporaries}
-use Rattle.sharc_meaning.specs.Statements.{Flow, next, broken, continued, returned, on_turn, turns}
-use Rattle.sharc_meaning.specs.Meaning.{back_in, with_frame}
+use Rattle.sharc_tree.specs.{declared.event.Act.Act, declared.event.SourceEvent.SourceEvent, declared.token.Site.Site}
+use Rattle.sharc_meaning.specs.{declared.given.GivenUp.GivenUp, Laws.IsPrefix, State.{Frame, Traced, State, all_released, pointers_among, Out, go, over, Run, Step, then_on, give, enters_with, happens, answer_of, event_of, ends_temporaries, value_of, ends_variables, without_temporaries}, Statements.{Flow, next, broken, continued, returned, on_turn, turns}, Meaning.{back_in, with_frame}}
 use Rattle.sharc_meaning.proofs.Closed.{Closed}
 
 pub prefix_refl : {A : Type 0} (a : List A) → IsPrefix a a

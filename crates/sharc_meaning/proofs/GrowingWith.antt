@@ -3,15 +3,9 @@ use Rattle.std.proofs.Common.{◌≡◌, ◌⊎◌, inl, inr, ℕ, Bool, true, f
 use Rattle.sharc_tree.specs.declared.event.SourceEvent.{SourceEvent}
 use Rattle.sharc_ctype.specs.Resolved.{function_at}
 use Rattle.sharc_mode.specs.Moded.{Assignment}
-use Rattle.sharc_meaning.specs.Events.{events_of, is_of}
-use Rattle.sharc_meaning.specs.Laws.{Starts, IsNext, AskedFor, RunsGrowWith, LastAsked}
-use Rattle.sharc_meaning.specs.Meaning.{asks}
-use Rattle.sharc_meaning.specs.Runs.{by, answers_of, IsNamedAt, IsFirst, IsSpawned, Follows, SourceRunWith}
-use Rattle.sharc_meaning.specs.Store.{MayCome}
-use Rattle.sharc_meaning.proofs.Asking.{no_more_than_answers}
-use Rattle.sharc_meaning.proofs.Extending.{same_thread, one_own, one_other, with_more, is_itself, nothing_in}
-use Rattle.sharc_meaning.proofs.Legal.{stores_grow}
-use Rattle.sharc_meaning.proofs.Running.{map_both, stands_where, asks_in_first, InFirst, InSecond}
+use Rattle.sharc_meaning.specs.{Events.{events_of, is_of}, Laws.{Starts, IsNext, AskedFor, RunsGrowWith, LastAsked}, Meaning.asks, Runs.{by, answers_of, IsNamedAt, IsFirst, IsSpawned, Follows, SourceRunWith}, Store.MayCome}
+use Rattle.sharc_meaning.proofs.{Asking.no_more_than_answers, Extending.{one_own, one_other, with_more, is_itself, nothing_in}, Legal.stores_grow, Running.{stands_where, asks_in_first, InFirst, InSecond}}
+use Rattle.sharc_lemmas.proofs.{Numbers.{same_number as same_thread}, Lists.map_both}
 
 module _ (m : Assignment) (R : List SourceEvent) (e : SourceEvent) where
   other_asks : (fuel u : ℕ) → is_of u e ≡ false → (events_of u R ≡ []) ⊎ Follows m R fuel u → (events_of u (R ++ e ∷ []) ≡ []) ⊎ Follows m (R ++ e ∷ []) fuel u

@@ -2,9 +2,7 @@
 use Rattle.std.proofs.Common.{◌≡◌, ◌⊎◌, List, [], ◌∷◌, ◌++◌, refl, sym, ap, ◌∙◌, append_assoc}
 use mathlib.Core.Logic.{inl, inr}
 use Rattle.sharc_tree.specs.declared.event.SourceEvent.{SourceEvent}
-use Rattle.sharc_meaning.specs.Events.{Stands}
-use Rattle.sharc_meaning.specs.Laws.{StoresGrow, PrefixesAreLegal}
-use Rattle.sharc_meaning.specs.Store.{MayCome}
+use Rattle.sharc_meaning.specs.{Events.Stands, Laws.{StoresGrow, PrefixesAreLegal}, Store.MayCome}
 
 -- what is in a list with one more at its end is that one, or is in the list
 pub record InFront (R before : List SourceEvent) (e : SourceEvent) : Type 0 where

@@ -1,19 +1,10 @@
 -- The reasons of an assignment say nothing of the modes of cells.
 use Rattle.std.proofs.Common.{◌≡◌, List, Option, Some, None, refl, ap, ◌∙◌, Bool, true, false, if◌then◌else◌}
-use Rattle.sharc_tree.specs.declared.ctype.Mode.{Mode}
-use Rattle.sharc_tree.specs.declared.tree.item.GlobalDefinition.{GlobalDefinition}
-use Rattle.sharc_tree.specs.Tree.{Expression, identifier, constant, parentheses, call, spawn, on_value, on_place, cast, index, field, unary, binary}
-use Rattle.sharc_names.specs.declared.fault.Named.{Named}
+use Rattle.sharc_tree.specs.{declared.ctype.Mode.Mode, declared.tree.item.GlobalDefinition.GlobalDefinition, Tree.{Expression, identifier, constant, parentheses, call, spawn, on_value, on_place, cast, index, field, unary, binary}}
+use Rattle.sharc_names.specs.{declared.fault.Named.Named, Kinds.is_array}
 use Rattle.sharc_names.specs.declared.fault.Named.TheVariants as named
-use Rattle.sharc_names.specs.Kinds.{is_array}
-use Rattle.sharc_ctype.specs.declared.entity.Numbered.{Numbered}
-use Rattle.sharc_ctype.specs.Entities.{entity_at}
-use Rattle.sharc_ctype.specs.Resolved.{Resolution, named_at, global_at, kind_at}
-use Rattle.sharc_mode.specs.declared.position.Reason.{Reason}
-use Rattle.sharc_mode.specs.Cells.{first_mode, global_cell, named_cell, pointed, unary_cell, instance, field_named, cell_at}
-use Rattle.sharc_mode.specs.Moded.{Assignment}
-use Rattle.sharc_mode.specs.Rows.{Targets, row_at}
-use Rattle.sharc_mode.specs.Sharings.{Sharing}
+use Rattle.sharc_ctype.specs.{declared.entity.Numbered.Numbered, Entities.entity_at, Resolved.{Resolution, named_at, global_at, kind_at}}
+use Rattle.sharc_mode.specs.{declared.position.Reason.Reason, Cells.{first_mode, global_cell, named_cell, pointed, unary_cell, instance, field_named, cell_at}, Moded.Assignment, Rows.{Targets, row_at}, Sharings.Sharing}
 use Rattle.sharc_meaning.specs.Laws.{SameModes, ModesAlone}
 
 module _ (r : Resolution) (modes : List Mode) (a b : List (Option Reason)) where

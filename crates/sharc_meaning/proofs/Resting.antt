@@ -3,11 +3,7 @@ use Rattle.std.proofs.Common.{◌≡◌, ℕ, ◌+◌, ◌-◌, ◌<◌, ◌≤�
 use Rattle.std.specs.Prelude.{◌≢◌}
 use Rattle.sharc_tree.specs.declared.event.SourceEvent.{SourceEvent}
 use Rattle.sharc_mode.specs.Moded.{Assignment}
-use Rattle.sharc_meaning.specs.Events.{events_of}
-use Rattle.sharc_meaning.specs.Laws.{ReferencesAtRest, ReferencesFromSomeFuel}
-use Rattle.sharc_meaning.specs.References.{Begun, asked_with, held_count, ThreadHolds, ThreadHoldsWith, in_cell, in_argument, in_mutex, in_thread}
-use Rattle.sharc_meaning.specs.Runs.{answers_of}
-use Rattle.sharc_meaning.specs.State.{spent}
+use Rattle.sharc_meaning.specs.{Events.events_of, Laws.{ReferencesAtRest, ReferencesFromSomeFuel}, References.{Begun, asked_with, held_count, ThreadHolds, ThreadHoldsWith, in_cell, in_argument, in_mutex, in_thread}, Runs.answers_of, State.spent}
 use Rattle.sharc_meaning.proofs.Asking.{more_fuel_same}
 
 module _ (m : Assignment) (R : List SourceEvent) (thread : ℕ) where

@@ -1,32 +1,16 @@
 -- Source runs: what comes before in one is one.
-use Rattle.std.proofs.Common.{◌≡◌, ◌⊎◌, inl, inr, ℕ, suc, ◌+◌, ◌≤◌, Bool, true, false, cond, List, [], ◌∷◌, ◌++◌, map, refl, sym, ap, ◌∙◌, subst, arith, length, length-append}
+use Rattle.std.proofs.Common.{◌≡◌, ◌⊎◌, inl, inr, ℕ, ◌+◌, ◌≤◌, List, [], ◌∷◌, ◌++◌, map, refl, sym, ap, ◌∙◌, subst, arith, length, length-append}
 use Rattle.std.specs.Prelude.{ℤ, ◌≢◌}
 use Rattle.sharc_tree.specs.declared.event.SourceEvent.{SourceEvent}
 use Rattle.sharc_mode.specs.Moded.{Assignment}
-use Rattle.sharc_meaning.specs.Events.{Stands, events_of, is_of}
-use Rattle.sharc_meaning.specs.Laws.{RunPrefixes, RunPrefixesWith}
-use Rattle.sharc_meaning.specs.Meaning.{Asked, asks}
-use Rattle.sharc_meaning.specs.Runs.{by, answers_of, Follows}
-use Rattle.sharc_meaning.specs.State.{Outcome, wants, ended, stopped, spent}
-use Rattle.sharc_meaning.proofs.Asking.{more_answers, more_answers_same, no_more_than_answers, wants_behind_answers}
-use Rattle.sharc_meaning.proofs.Legal.{prefixes_legal}
+use Rattle.sharc_meaning.specs.{Events.{Stands, events_of, is_of}, Laws.{RunPrefixes, RunPrefixesWith}, Meaning.{Asked, asks}, Runs.{by, answers_of, Follows}, State.{Outcome, wants, ended, stopped, spent}}
+use Rattle.sharc_meaning.proofs.{Asking.{more_answers, more_answers_same, no_more_than_answers, wants_behind_answers}, Legal.prefixes_legal}
+use Rattle.sharc_lemmas.proofs.Lists.{map_length, map_both, pick}
 
 -- ---- lists
-pick : {A : Type 0} (c : Bool) (x : A) (l l1 l2 : List A) → l ≡ l1 ++ l2 → cond c (x ∷ l) l ≡ cond c (x ∷ l1) l1 ++ l2
-pick true x l l1 l2 e = ap (λ z. x ∷ z) e
-pick false x l l1 l2 e = e
-
 pub events_append : (t : ℕ) (a b : List SourceEvent) → events_of t (a ++ b) ≡ events_of t a ++ events_of t b
 events_append t [] b = refl
 events_append t (x ∷ a) b = pick (is_of t x) x (events_of t (a ++ b)) (events_of t a) (events_of t b) (events_append t a b)
-
-pub map_both : {A B : Type 0} (f : A → B) (a b : List A) → map f (a ++ b) ≡ map f a ++ map f b
-map_both f [] b = refl
-map_both f (x ∷ a) b = ap (λ z. f x ∷ z) (map_both f a b)
-
-map_length : {A B : Type 0} (f : A → B) (a : List A) → length (map f a) ≡ length a
-map_length f [] = refl
-map_length f (x ∷ a) = ap suc (map_length f a)
 
 fronts : {A : Type 0} (a b c d : List A) → a ++ b ≡ c ++ d → length a ≡ length c → a ≡ c
 fronts [] b [] d h l = refl

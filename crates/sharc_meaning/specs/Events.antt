@@ -3,12 +3,9 @@ use Rattle.std.specs.Prelude.{◌≡◌, ℕ, ◌==◌, ◌/◌, Bool, true, fal
 use Rattle.std.specs.List.{list_any}
 use Rattle.sharc_tree.specs.declared.event.Act.{Act}
 use Rattle.sharc_tree.specs.declared.event.Act.TheVariants.{Read, Write, New, Take, Give, Freed, Lock, Unlock}
-use Rattle.sharc_tree.specs.declared.event.CellAt.{CellAt}
-use Rattle.sharc_tree.specs.declared.event.CellMode.{CellMode}
-use Rattle.sharc_tree.specs.declared.event.Object.{Object}
-use Rattle.sharc_tree.specs.declared.event.Object.TheVariants.{Global, Made}
-use Rattle.sharc_tree.specs.declared.event.SourceEvent.{SourceEvent}
-use Rattle.sharc_tree.specs.declared.event.Taken.TheVariants.{Cell}
+use Rattle.sharc_tree.specs.{declared.event.CellAt.CellAt, declared.event.CellMode.CellMode}
+use Rattle.sharc_tree.specs.{declared.event.Object.Object, declared.event.Object.TheVariants.{Global, Made}}
+use Rattle.sharc_tree.specs.{declared.event.SourceEvent.SourceEvent, declared.event.Taken.TheVariants.Cell}
 use Rattle.sharc_meaning.specs.Reference.{number_of}
 
 -- ---- objects and cells

@@ -2,20 +2,14 @@
 use Rattle.std.specs.Prelude.{◌≡◌, ◌≢◌, ◌↔◌, ℕ, ℤ, pos, ◌+◌, ◌≤◌, List, [], ◌∷◌, ◌++◌, length, map, ◌⊎◌}
 use Rattle.sharc_tree.specs.declared.event.Act.{Act}
 use Rattle.sharc_tree.specs.declared.event.Act.TheVariants.{Read, New, Take, Spawn, Started, Signal}
-use Rattle.sharc_tree.specs.declared.event.Taken.TheVariants.{Cell, Local}
-use Rattle.sharc_tree.specs.declared.event.SourceEvent.{SourceEvent}
-use Rattle.sharc_ctype.specs.Resolved.{Resolution, function_at}
+use Rattle.sharc_tree.specs.{declared.event.Taken.TheVariants.{Cell, Local}, declared.event.SourceEvent.SourceEvent}
 use Rattle.sharc_tree.specs.Tree.{Expression}
-use Rattle.sharc_mode.specs.Cells.{cell_at}
-use Rattle.sharc_mode.specs.Moded.{Assignment}
-use Rattle.sharc_mode.specs.Rows.{modes_at}
-use Rattle.sharc_meaning.specs.Events.{events_of}
-use Rattle.sharc_meaning.specs.Meaning.{Asked, run_thread, start, asks}
-use Rattle.sharc_meaning.specs.Obeys.{Until, Obeys}
+use Rattle.sharc_ctype.specs.Resolved.{Resolution, function_at}
+use Rattle.sharc_mode.specs.{Cells.cell_at, Moded.Assignment, Rows.modes_at}
+use Rattle.sharc_meaning.specs.{Events.events_of, Meaning.{Asked, run_thread, start, asks}, Obeys.{Until, Obeys}}
 use Rattle.sharc_meaning.specs.References.{Begun, asked_with, Holder, References, ReferencesWith}
 use Rattle.sharc_meaning.specs.Runs.{by, answers_of, IsNamedAt, IsFirst, IsSpawned, Follows, SourceRun, SourceRunWith}
-use Rattle.sharc_meaning.specs.State.{State, wants, spent, over}
-use Rattle.sharc_meaning.specs.Store.{MayCome, LegalStore}
+use Rattle.sharc_meaning.specs.{State.{State, wants, spent, over}, Store.{MayCome, LegalStore}}
 
 abbrev pub IsPrefix : {A : Type 0} → List A → List A → Type 0
 IsPrefix {A} some all = (rest : List A) × (all ≡ some ++ rest)

@@ -1,19 +1,15 @@
 -- What the text of a function means: the events that a thread of it asks for.
 use Rattle.std.specs.Prelude.{ℕ, ℤ, zero, suc, pos, ◌+◌, nat_lt, not, List, [], ◌∷◌, length, count_by, Option, Some, None}
 use Rattle.sharc_tree.specs.declared.event.Act.TheVariants as acts
-use Rattle.sharc_tree.specs.declared.event.SourceEvent.{SourceEvent}
-use Rattle.sharc_tree.specs.declared.token.Site.{Site}
-use Rattle.sharc_tree.specs.declared.tree.declaration.Declaration.{Declaration}
+use Rattle.sharc_tree.specs.{declared.event.SourceEvent.SourceEvent, declared.token.Site.Site}
+use Rattle.sharc_tree.specs.{declared.tree.declaration.Declaration.Declaration, Tree.Function}
 use Rattle.sharc_tree.specs.declared.trap.Trap.TheVariants as traps
-use Rattle.sharc_tree.specs.Tree.{Function}
 use Rattle.sharc_names.specs.Kinds.{is_pointer, declared_kind}
 use Rattle.sharc_ctype.specs.Resolved.{function_at}
 use Rattle.sharc_mode.specs.Moded.{Assignment}
-use Rattle.sharc_meaning.specs.declared.given.GivenUp.{GivenUp}
-use Rattle.sharc_meaning.specs.Events.{held_mutexes}
+use Rattle.sharc_meaning.specs.{declared.given.GivenUp.GivenUp, Events.held_mutexes}
 use Rattle.sharc_meaning.specs.State.{Frame, Traced, State, Outcome, ended, Out, go, over, Run, Step, ◌>>=◌, ◌>>◌, give, done, stop, unless_stop, entered, performs, without_temporaries, looks_at, begins_with, in_block, held_references}
-use Rattle.sharc_meaning.specs.Expressions.{Calls}
-use Rattle.sharc_meaning.specs.Statements.{Flow, returned, exec_all}
+use Rattle.sharc_meaning.specs.{Expressions.Calls, Statements.{Flow, returned, exec_all}}
 
 -- ---- calls and threads
 

@@ -1,16 +1,10 @@
 -- The references to an object: what holds one after a list of events, by a scan of the whole state.
 use Rattle.std.specs.Prelude.{◌≡◌, ◌⊎◌, ℕ, ℤ, ◌≤◌, ◌<◌, ◌==◌, ◌%◌, Bool, true, false, not, ◌&&◌, ◌||◌, List, [], ◌∷◌, length, count_by, filter_map, flat_map, Any, slice_index_or, Option, Some, None, if◌then◌else◌}
-use Rattle.std.specs.List.{list_any}
-use Rattle.std.specs.Str.{bytes_eq}
-use Rattle.sharc_tree.specs.declared.ctype.Base.{Base}
-use Rattle.sharc_tree.specs.declared.ctype.Base.TheVariants.{Struct}
-use Rattle.sharc_tree.specs.declared.event.Act.{Act}
-use Rattle.sharc_tree.specs.declared.event.Act.TheVariants.{Take, Spawn}
-use Rattle.sharc_tree.specs.declared.event.CellAt.{CellAt}
-use Rattle.sharc_tree.specs.declared.event.Object.{Object}
-use Rattle.sharc_tree.specs.declared.event.Object.TheVariants.{Global, Made}
-use Rattle.sharc_tree.specs.declared.event.SourceEvent.{SourceEvent}
-use Rattle.sharc_tree.specs.declared.event.TakeKind.{TakeKind}
+use Rattle.std.specs.{List.list_any, Str.bytes_eq}
+use Rattle.sharc_tree.specs.{declared.ctype.Base.Base, declared.ctype.Base.TheVariants.Struct, declared.event.Act.Act}
+use Rattle.sharc_tree.specs.{declared.event.Act.TheVariants.{Take, Spawn}, declared.event.CellAt.CellAt}
+use Rattle.sharc_tree.specs.{declared.event.Object.Object, declared.event.Object.TheVariants.{Global, Made}}
+use Rattle.sharc_tree.specs.{declared.event.SourceEvent.SourceEvent, declared.event.TakeKind.TakeKind}
 use Rattle.sharc_tree.specs.declared.event.TakeKind.TheVariants.{Cast, Free}
 use Rattle.sharc_tree.specs.declared.tree.declaration.Declaration.{Declaration}
 use Rattle.sharc_tree.specs.declared.tree.declaration.WrittenType.{WrittenType}
@@ -22,10 +16,8 @@ use Rattle.sharc_ctype.specs.Layouts.{pointer_cells}
 use Rattle.sharc_ctype.specs.Resolved.{Resolution, structs_in, functions_in, function_at, global_at}
 use Rattle.sharc_ctype.specs.Transfers.{function_transfers}
 use Rattle.sharc_mode.specs.Moded.{Assignment}
-use Rattle.sharc_meaning.specs.Events.{makes, events_of, latest}
-use Rattle.sharc_meaning.specs.Meaning.{Asked, asks}
-use Rattle.sharc_meaning.specs.Reference.{is_null, number_of}
-use Rattle.sharc_meaning.specs.Runs.{Follows, answers_of}
+use Rattle.sharc_meaning.specs.{Events.{makes, events_of, latest}, Meaning.{Asked, asks}}
+use Rattle.sharc_meaning.specs.{Reference.{is_null, number_of}, Runs.{Follows, answers_of}}
 use Rattle.sharc_meaning.specs.Store.{value_after, meets, is_live, is_locked, spawns}
 
 -- the value is a reference to the object of this number

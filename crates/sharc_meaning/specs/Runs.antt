@@ -1,15 +1,11 @@
 -- Source runs: legal stores in which each thread asks for the events that are its own. Nothing is checked in them.
 use Rattle.std.specs.Prelude.{◌≡◌, ◌≢◌, ◌⊎◌, IsTrue, ℕ, ℤ, pos, Bool, false, List, [], map, Any, Option, Some, None, codes}
 use Rattle.std.specs.Str.{bytes_eq}
-use Rattle.sharc_tree.specs.declared.event.Act.TheVariants.{Spawn, Started}
-use Rattle.sharc_tree.specs.declared.event.SourceEvent.{SourceEvent}
-use Rattle.sharc_tree.specs.declared.token.Site.{Site}
-use Rattle.sharc_tree.specs.Tree.{Function}
+use Rattle.sharc_tree.specs.{declared.event.Act.TheVariants.{Spawn, Started}, declared.event.SourceEvent.SourceEvent}
+use Rattle.sharc_tree.specs.{declared.token.Site.Site, Tree.Function}
 use Rattle.sharc_ctype.specs.Resolved.{Resolution, function_at}
 use Rattle.sharc_mode.specs.Moded.{Assignment}
-use Rattle.sharc_meaning.specs.Events.{Stands, events_of}
-use Rattle.sharc_meaning.specs.Meaning.{asks}
-use Rattle.sharc_meaning.specs.Store.{LegalStore}
+use Rattle.sharc_meaning.specs.{Events.{Stands, events_of}, Meaning.asks, Store.LegalStore}
 
 -- the same event, of this thread
 abbrev pub by : ℕ → SourceEvent → SourceEvent

@@ -1,18 +1,12 @@
 -- A thread on its way through its text: what it has, and the few things that it does, of which its meaning is made.
 use Rattle.std.specs.Prelude.{ℕ, zero, suc, ℤ, pos, ◌==◌, ◌-◌, Bool, true, false, ◌||◌, List, [], ◌∷◌, ◌++◌, length, take, drop, map, reverse, flat_map, if◌then◌else◌}
-use Rattle.sharc_tree.specs.declared.event.Act.{Act}
-use Rattle.sharc_tree.specs.declared.event.Act.TheVariants.{Read, New, Take, Spawn, Signal}
-use Rattle.sharc_tree.specs.declared.event.Taken.TheVariants.{Cell, Local}
-use Rattle.sharc_tree.specs.declared.event.CellAt.{CellAt}
-use Rattle.sharc_tree.specs.declared.event.SourceEvent.{SourceEvent}
-use Rattle.sharc_tree.specs.declared.token.Site.{Site}
-use Rattle.sharc_tree.specs.declared.tree.declaration.Declaration.{Declaration}
-use Rattle.sharc_tree.specs.declared.trap.Trap.{Trap}
+use Rattle.sharc_tree.specs.{declared.event.Act.Act, declared.event.Act.TheVariants.{Read, New, Take, Spawn, Signal}}
+use Rattle.sharc_tree.specs.{declared.event.Taken.TheVariants.{Cell, Local}, declared.event.CellAt.CellAt}
+use Rattle.sharc_tree.specs.{declared.event.SourceEvent.SourceEvent, declared.token.Site.Site}
+use Rattle.sharc_tree.specs.{declared.tree.declaration.Declaration.Declaration, declared.trap.Trap.Trap}
 use Rattle.sharc_names.specs.Kinds.{Kind, is_pointer, is_null, declared_kind}
-use Rattle.sharc_meaning.specs.declared.given.GivenUp.{GivenUp}
-use Rattle.sharc_meaning.specs.declared.given.GivenUp.TheVariants.{Released}
-use Rattle.sharc_meaning.specs.declared.variable.Variable.{Variable}
-use Rattle.sharc_meaning.specs.Reference.{number_of}
+use Rattle.sharc_meaning.specs.{declared.given.GivenUp.GivenUp, declared.given.GivenUp.TheVariants.Released}
+use Rattle.sharc_meaning.specs.{declared.variable.Variable.Variable, Reference.number_of}
 
 -- ---- what it has
 

@@ -1,23 +1,18 @@
 -- What statements do, and how they are left: one clause for each form.
 use Rattle.std.specs.Prelude.{ℕ, ℤ, zero, suc, pos, negsuc, Bool, true, false, Option, Some, None, unsigned_abs, if◌then◌else◌}
 use Rattle.sharc_tree.specs.declared.event.Act.TheVariants as acts
-use Rattle.sharc_tree.specs.declared.token.Site.{Site}
-use Rattle.sharc_tree.specs.declared.tree.declaration.Declaration.{Declaration}
+use Rattle.sharc_tree.specs.{declared.token.Site.Site, declared.tree.declaration.Declaration.Declaration}
 use Rattle.sharc_tree.specs.declared.tree.statement.Jump.{Jump}
-use Rattle.sharc_tree.specs.declared.tree.statement.Jump.TheVariants.{Break, Continue}
-use Rattle.sharc_tree.specs.declared.trap.Trap.TheVariants as traps
-use Rattle.sharc_tree.specs.Spans.{span_of}
+use Rattle.sharc_tree.specs.{declared.tree.statement.Jump.TheVariants.{Break, Continue}, Spans.span_of}
 use Rattle.sharc_tree.specs.Tree.{Expression, Right, value, malloc, Simple, assign, does_call, Local, First, nothing, declares, does, Statement, empty, block, declare, simple, jump, return, if_then, if_then_else, while, for, Statements, no_statements, statement}
+use Rattle.sharc_tree.specs.declared.trap.Trap.TheVariants as traps
 use Rattle.sharc_names.specs.Kinds.{Kind, declared_kind}
 use Rattle.sharc_ctype.specs.Resolved.{kind_at}
-use Rattle.sharc_mode.specs.Cells.{cell_at, pointed}
-use Rattle.sharc_mode.specs.Moded.{Assignment}
-use Rattle.sharc_mode.specs.Rows.{written, row_at, declared_row}
+use Rattle.sharc_mode.specs.{Cells.{cell_at, pointed}, Moded.Assignment, Rows.{written, row_at, declared_row}}
 use Rattle.sharc_mode.specs.Sharings.{Sharing, private}
 use Rattle.sharc_meaning.specs.Cells.{element_cells, instance_mode}
 use Rattle.sharc_meaning.specs.State.{spent, over, Run, Step, ◌>>=◌, ◌>>◌, give, done, unless_stop, entered, answered, drops, temporarily, value_of, looks_at, begins_with, in_block}
-use Rattle.sharc_meaning.specs.Places.{variable, stored}
-use Rattle.sharc_meaning.specs.Expressions.{Calls, tested, fitting, eval, place_of}
+use Rattle.sharc_meaning.specs.{Places.{variable, stored}, Expressions.{Calls, tested, fitting, eval, place_of}}
 
 -- how a statement is left
 pub data Flow : Type 0 where

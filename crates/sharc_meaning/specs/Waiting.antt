@@ -2,13 +2,10 @@
 use Rattle.std.specs.Prelude.{ℕ, ℤ, nat_lt, not, List, [], ◌∷◌, length, slice_index_or, codes, if◌then◌else◌}
 use Rattle.std.specs.Str.{bytes_eq}
 use Rattle.sharc_tree.specs.declared.event.Act.TheVariants as acts
-use Rattle.sharc_tree.specs.declared.event.CellAt.{CellAt}
-use Rattle.sharc_tree.specs.declared.event.Object.TheVariants.{Global, Made}
+use Rattle.sharc_tree.specs.{declared.event.CellAt.CellAt, declared.event.Object.TheVariants.{Global, Made}}
 use Rattle.sharc_tree.specs.declared.token.Site.{Site}
 use Rattle.sharc_tree.specs.declared.trap.Trap.TheVariants as traps
-use Rattle.sharc_meaning.specs.Cells.{cell_of}
-use Rattle.sharc_meaning.specs.Events.{held_mutexes, holds_mutex}
-use Rattle.sharc_meaning.specs.Reference.{NULL, is_null}
+use Rattle.sharc_meaning.specs.{Cells.cell_of, Events.{held_mutexes, holds_mutex}, Reference.{NULL, is_null}}
 use Rattle.sharc_meaning.specs.declared.given.GivenUp.TheVariants.{Released}
 use Rattle.sharc_meaning.specs.State.{Step, ◌>>=◌, ◌>>◌, done, unless_stop, answered, performs, gives_up, holds_reference, moves_on, looks_at}
 use Rattle.sharc_meaning.specs.Places.{Place, variable, cell, pointee}

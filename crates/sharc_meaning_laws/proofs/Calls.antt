@@ -1,33 +1,18 @@
 -- Calls and threads of a typed program lose no reference.
-use Rattle.std.proofs.Common.{◌≡◌, ℕ, zero, suc, ◌+◌, ◌-◌, ◌≤◌, Bool, true, false, not, cond, List, [], ◌∷◌, ◌++◌, refl, sym, ap, ◌∙◌, subst, arith, length, length-append, take, take_at, drop, count_by, nat_lt, Option, Some, None}
-use Rattle.std.proofs.lemmas.List.Sums.{sum_by-cons}
-use Rattle.std.specs.Prelude.{ℤ, pos}
-use Rattle.std.specs.List.{AllByRecursion}
+use Rattle.std.proofs.{Common.{◌≡◌, ℕ, zero, suc, ◌+◌, ◌-◌, ◌≤◌, Bool, true, false, not, cond, List, [], ◌∷◌, ◌++◌, refl, sym, ap, ◌∙◌, subst, arith, length, length-append, take, take_at, drop, count_by, nat_lt, Option, Some, None}, lemmas.List.Sums.sum_by-cons}
+use Rattle.std.specs.{Prelude.{ℤ, pos}, List.AllByRecursion}
 use Rattle.sharc_tree.specs.declared.event.Act.TheVariants as acts
-use Rattle.sharc_tree.specs.declared.token.Site.{Site}
-use Rattle.sharc_tree.specs.declared.tree.declaration.Declaration.{Declaration}
+use Rattle.sharc_tree.specs.{declared.token.Site.Site, declared.tree.declaration.Declaration.Declaration, Measures.in_function, Tree.Function}
 use Rattle.sharc_tree.specs.declared.trap.Trap.TheVariants as traps
-use Rattle.sharc_tree.specs.Measures.{in_function}
-use Rattle.sharc_tree.specs.Tree.{Function}
 use Rattle.sharc_names.specs.Kinds.{is_pointer, declared_kind, declared_kinds}
-use Rattle.sharc_ctype.specs.Resolved.{Resolution, function_at, variable_kind}
-use Rattle.sharc_ctype.specs.Statements.{locals_in_all}
+use Rattle.sharc_ctype.specs.{Resolved.{Resolution, function_at, variable_kind}, Statements.locals_in_all}
 use Rattle.sharc_mode.specs.Moded.{Assignment}
 use Rattle.sharc_ctype_laws.specs.Rules.{MeetsRules}
-use Rattle.sharc_meaning.specs.Events.{held_mutexes}
-use Rattle.sharc_meaning.specs.declared.variable.Variable.{Variable}
-use Rattle.sharc_meaning.specs.State.{Frame, State, writes, Out, go, over, Run, then_on, ◌>>=◌, give, entered, all_released, pointers_among, ends_variables, without_temporaries, new_variable}
-use Rattle.sharc_meaning.specs.Expressions.{Calls}
-use Rattle.sharc_meaning.specs.Statements.{exec_all}
-use Rattle.sharc_meaning.specs.Meaning.{parameters_begin, left_at, pointers_passed, with_frame, back_in, run_function, call_value, calls, goes_away, run_thread, start}
-use Rattle.sharc_meaning_laws.proofs.Counts.{Declared, total, outer, refs, rel, vars, one, refs_append, vars_append, cut_variables}
+use Rattle.sharc_meaning.specs.{Events.held_mutexes, declared.variable.Variable.Variable, State.{Frame, State, writes, Out, go, over, Run, then_on, ◌>>=◌, give, entered, all_released, pointers_among, ends_variables, without_temporaries, new_variable}, Expressions.Calls, Statements.exec_all, Meaning.{parameters_begin, left_at, pointers_passed, with_frame, back_in, run_function, call_value, calls, goes_away, run_thread, start}}
+use Rattle.sharc_meaning_laws.proofs.{Counts.{Declared, total, outer, refs, rel, vars, one, refs_append, vars_append, cut_variables}, Runs.{Same, up_level, up_on, state_of}, Steps.slot, Typed.Facts, Expressions.{Kept, CallsKeep, passed_in, kept_give}, Statements.{AreTyped, Own, exec_all_kept}}
 use Rattle.sharc_meaning_laws.proofs.Runs as runs
-use Rattle.sharc_meaning_laws.proofs.Runs.{Same, up_level, up_on, state_of}
 use Rattle.sharc_meaning_laws.proofs.Steps as steps
-use Rattle.sharc_meaning_laws.proofs.Steps.{slot}
-use Rattle.sharc_meaning_laws.proofs.Typed.{Facts}
-use Rattle.sharc_meaning_laws.proofs.Expressions.{Kept, CallsKeep, passed_in, kept_give}
-use Rattle.sharc_meaning_laws.proofs.Statements.{AreTyped, Own, front, back, exec_all_kept}
+use Rattle.sharc_lemmas.proofs.Lists.{front, back}
 
 -- what is known of a function
 pub record Known (r : Resolution) (f : Function) : Type 0 where

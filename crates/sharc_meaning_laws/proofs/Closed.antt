@@ -1,55 +1,14 @@
 -- What holds of every run: what the parts of the meaning keep, by one induction on the syntax, in which a `free` is one part.
-use Rattle.std.specs.Prelude.{◌≡◌, refl, ℕ, zero, suc, ℤ, pos, negsuc, Bool, true, false, cond, not, List, [], ◌∷◌, ◌++◌, length, drop, slice_index_or, unsigned_abs, Option, Some, None, Result, Ok, Err, nat_lt, codes}
-use Rattle.std.specs.List.{AllByRecursion}
-use Rattle.std.specs.Str.{bytes_eq}
-use Rattle.sharc_tree.specs.declared.event.Act.{Act}
-use Rattle.sharc_tree.specs.declared.event.Object.{Object}
-use Rattle.sharc_tree.specs.declared.event.Object.TheVariants.{Global, Made}
-use Rattle.sharc_tree.specs.declared.token.Site.{Site}
-use Rattle.sharc_tree.specs.declared.token.Span.{Span}
-use Rattle.sharc_tree.specs.declared.tree.declaration.Declaration.{Declaration}
-use Rattle.sharc_tree.specs.declared.tree.expression.Access.{Access}
-use Rattle.sharc_tree.specs.declared.tree.expression.Access.TheVariants.{Dot, Arrow}
-use Rattle.sharc_tree.specs.declared.tree.expression.BinaryOperator.{BinaryOperator}
-use Rattle.sharc_tree.specs.declared.tree.expression.BinaryOperator.TheVariants.{LogicalOr, LogicalAnd}
-use Rattle.sharc_tree.specs.declared.tree.expression.PlaceCall.{PlaceCall}
-use Rattle.sharc_tree.specs.declared.tree.expression.PlaceCall.TheVariants.{Lock, Unlock, Free}
-use Rattle.sharc_tree.specs.declared.tree.expression.UnaryOperator.{UnaryOperator}
-use Rattle.sharc_tree.specs.declared.tree.expression.UnaryOperator.TheVariants.{Negate, Not, Complement, Dereference}
-use Rattle.sharc_tree.specs.declared.tree.expression.ValueCall.{ValueCall}
-use Rattle.sharc_tree.specs.declared.tree.expression.ValueCall.TheVariants.{Join, Print}
-use Rattle.sharc_tree.specs.Tree.{Expression, identifier, constant, parentheses, call, spawn, on_value, on_place, cast, index, field, unary, binary, Arguments, no_arguments, argument, Right, value, malloc, Simple, assign, does_call, Local, First, nothing, declares, does, Statement, empty, block, declare, simple, jump, return, if_then, if_then_else, while, for, Statements, no_statements, statement, Function}
-use Rattle.sharc_names.specs.declared.fault.Named.{Named}
+use Rattle.std.specs.{Prelude.{◌≡◌, refl, ℕ, zero, suc, ℤ, pos, negsuc, Bool, true, false, cond, not, List, [], ◌∷◌, ◌++◌, length, drop, slice_index_or, unsigned_abs, Option, Some, None, Result, Ok, Err, nat_lt, codes}, List.AllByRecursion, Str.bytes_eq}
+use Rattle.sharc_tree.specs.{declared.event.Act.Act, declared.event.Object.Object, declared.event.Object.TheVariants.{Global, Made}, declared.token.Site.Site, declared.token.Span.Span, declared.tree.declaration.Declaration.Declaration, declared.tree.expression.Access.Access, declared.tree.expression.Access.TheVariants.{Dot, Arrow}, declared.tree.expression.BinaryOperator.BinaryOperator, declared.tree.expression.BinaryOperator.TheVariants.{LogicalOr, LogicalAnd}, declared.tree.expression.PlaceCall.PlaceCall, declared.tree.expression.PlaceCall.TheVariants.{Lock, Unlock, Free}, declared.tree.expression.UnaryOperator.UnaryOperator, declared.tree.expression.UnaryOperator.TheVariants.{Negate, Not, Complement, Dereference}, declared.tree.expression.ValueCall.ValueCall, declared.tree.expression.ValueCall.TheVariants.{Join, Print}, Tree.{Expression, identifier, constant, parentheses, call, spawn, on_value, on_place, cast, index, field, unary, binary, Arguments, no_arguments, argument, Right, value, malloc, Simple, assign, does_call, Local, First, nothing, declares, does, Statement, empty, block, declare, simple, jump, return, if_then, if_then_else, while, for, Statements, no_statements, statement, Function}, declared.event.CellMode.CellMode, declared.event.CellMode.TheVariants.{Readonly, Locked}, declared.event.TakeKind.TheVariants.Cast, declared.trap.Trap.Trap, Spans.span_of}
+use Rattle.sharc_names.specs.{declared.fault.Named.Named, Kinds.{Kind, is_pointer, is_array, element_kind, declared_kind, declared_kinds, promoted}}
 use Rattle.sharc_names.specs.declared.fault.Named.TheVariants as named
-use Rattle.sharc_names.specs.Kinds.{Kind, is_pointer, is_array, element_kind, declared_kind, declared_kinds, promoted}
-use Rattle.sharc_ctype.specs.Resolved.{Resolution, named_at, kind_at, function_at}
-use Rattle.sharc_mode.specs.Moded.{Assignment}
-use Rattle.sharc_mode.specs.Sharings.{Sharing, private, readonly, locked, racy, dynamic}
-use Rattle.sharc_meaning.specs.Cells.{cell_of, element_cells, Guard, mutex, behind, nothing as no_mutex, guard_of, instance_mode}
+use Rattle.sharc_ctype.specs.{Resolved.{Resolution, named_at, kind_at, function_at}, Expressions.{class_of, binary_result}, Transfers.parameters_named}
+use Rattle.sharc_mode.specs.{Moded.Assignment, Sharings.{Sharing, private, readonly, locked, racy, dynamic}, Cells.{cell_at, pointed}, Rows.{written, row_at, declared_row, cast_row}}
+use Rattle.sharc_meaning.specs.{Cells.{cell_of, element_cells, Guard, mutex, behind, nothing as no_mutex, guard_of, instance_mode}, Arithmetic.{bits_of, fits, is_zero, truth, operated, negated, complement}, Events.{held_mutexes, holds_mutex}, Reference.{NULL, is_null, number_of, elements_of, constant_value}, declared.given.GivenUp.GivenUp, declared.given.GivenUp.TheVariants.{Emptied, Released, Replaced}, References.taken_to_free, State.{Frame, Use, writes, nulls, go, new_variable, with_value, with_temporary, without_temporaries, Run, Step, ◌>>=◌, give, stop, unless_stop, entered, answered, performs, gives_up, drops, holds, holds_reference, moves, moves_on, is_reference, temporarily, value_of, looks_at, traces, sets, reads_variable, writes_variable, begins_with, in_block}, Places.{Place, variable, cell, no_place, place_named, pointee, based, element, element_of_array, index_place, pointee_place, field_place, unary_place, guarding, access_mode, fetched, stored, taken_from, cast_to}, Waiting.{cell_at_place, moves_base, gives_up_base, lock_call, unlock_call, wait_call, signal_call, broadcast_call, condition_call}, Expressions.{Calls, resulting, tested, operand, fitting, passed, named_value, called, number_named, value_act, spawned, value_called, place_called, cast_value, place_value, unary_value, binary_value, eval, eval_all, place_of}, Statements.{Flow, next, broken, continued, returned, on_next, loop, left_by, elements_made, is_positive, right_value, done_simple, initialised, declared, done_first, done_step, done_test, return_with, exec, exec_all}, Meaning.{parameters_begin, left_at, in_frame, run_function, call_value, calls, goes_away, run_thread}}
 use Rattle.sharc_tree.specs.declared.event.Act.TheVariants as acts
-use Rattle.sharc_tree.specs.declared.event.CellMode.{CellMode}
-use Rattle.sharc_tree.specs.declared.event.CellMode.TheVariants.{Readonly, Locked}
 use Rattle.sharc_tree.specs.declared.event.Taken.TheVariants as taken
-use Rattle.sharc_tree.specs.declared.event.TakeKind.TheVariants.{Cast}
-use Rattle.sharc_tree.specs.declared.trap.Trap.{Trap}
 use Rattle.sharc_tree.specs.declared.trap.Trap.TheVariants as traps
-use Rattle.sharc_tree.specs.Spans.{span_of}
-use Rattle.sharc_ctype.specs.Expressions.{class_of, binary_result}
-use Rattle.sharc_ctype.specs.Transfers.{parameters_named}
-use Rattle.sharc_mode.specs.Cells.{cell_at, pointed}
-use Rattle.sharc_mode.specs.Rows.{written, row_at, declared_row, cast_row}
-use Rattle.sharc_meaning.specs.Arithmetic.{bits_of, fits, is_zero, truth, operated, negated, complement}
-use Rattle.sharc_meaning.specs.Events.{held_mutexes, holds_mutex}
-use Rattle.sharc_meaning.specs.Reference.{NULL, is_null, number_of, elements_of, constant_value}
-use Rattle.sharc_meaning.specs.declared.given.GivenUp.{GivenUp}
-use Rattle.sharc_meaning.specs.declared.given.GivenUp.TheVariants.{Emptied, Released, Replaced}
-use Rattle.sharc_meaning.specs.References.{taken_to_free}
-use Rattle.sharc_meaning.specs.State.{Frame, Use, writes, nulls, go, new_variable, with_value, with_temporary, without_temporaries, Run, Step, ◌>>=◌, give, stop, unless_stop, entered, answered, performs, gives_up, drops, holds, holds_reference, moves, moves_on, is_reference, temporarily, value_of, looks_at, traces, sets, reads_variable, writes_variable, begins_with, in_block}
-use Rattle.sharc_meaning.specs.Places.{Place, variable, cell, no_place, place_named, pointee, based, element, element_of_array, index_place, pointee_place, field_place, unary_place, guarding, access_mode, fetched, stored, taken_from, cast_to}
-use Rattle.sharc_meaning.specs.Waiting.{cell_at_place, moves_base, gives_up_base, lock_call, unlock_call, wait_call, signal_call, broadcast_call, condition_call}
-use Rattle.sharc_meaning.specs.Expressions.{Calls, resulting, tested, operand, fitting, passed, named_value, called, number_named, value_act, spawned, value_called, place_called, cast_value, place_value, unary_value, binary_value, eval, eval_all, place_of}
-use Rattle.sharc_meaning.specs.Statements.{Flow, next, broken, continued, returned, on_next, loop, left_by, elements_made, is_positive, right_value, done_simple, initialised, declared, done_first, done_step, done_test, return_with, exec, exec_all}
-use Rattle.sharc_meaning.specs.Meaning.{parameters_begin, left_at, in_frame, run_function, call_value, calls, goes_away, run_thread}
 
 -- given up by something else than the cells of an object that is freed
 abbrev pub NotEmptied : GivenUp → Type 0

@@ -1,47 +1,19 @@
 -- Expressions of a typed program lose no reference.
-use Rattle.std.proofs.Common.{◌≡◌, ℕ, suc, ◌+◌, Bool, true, false, not, cond, List, [], ◌∷◌, ◌++◌, refl, sym, ap, ◌∙◌, subst, length, drop, append_assoc, append-nil, Some}
-use Rattle.std.proofs.lemmas.Bool.{false≢true, true≢false}
+use Rattle.std.proofs.{Common.{◌≡◌, ℕ, suc, ◌+◌, Bool, true, false, not, cond, List, [], ◌∷◌, ◌++◌, refl, sym, ap, ◌∙◌, subst, length, drop, append_assoc, append-nil, Some}, lemmas.Bool.{false≢true, true≢false}}
 use Rattle.std.specs.Prelude.{ℤ, pos}
-use Rattle.sharc_tree.specs.declared.ctype.Base.{Base}
+use Rattle.sharc_tree.specs.{declared.ctype.Base.Base, declared.event.Object.TheVariants.{Global, Made}, declared.event.TakeKind.TakeKind, declared.event.TakeKind.TheVariants.{Cast, Free as ToFree}, declared.token.Site.Site, declared.token.Span.Span, declared.tree.declaration.Identifier.Identifier, declared.tree.expression.Access.TheVariants.{Dot, Arrow}, declared.tree.expression.BinaryOperator.BinaryOperator, declared.tree.expression.BinaryOperator.TheVariants.{LogicalOr, LogicalAnd}, declared.tree.expression.PlaceCall.TheVariants.{Lock, Unlock, Free}, declared.tree.expression.UnaryOperator.TheVariants.Dereference, declared.tree.expression.ValueCall.ValueCall, Forms.is_lvalue, Spans.span_of, Tree.{Expression, identifier, index, field, unary, Arguments, Function}}
 use Rattle.sharc_tree.specs.declared.ctype.Base.TheVariants as base
 use Rattle.sharc_tree.specs.declared.event.Act.TheVariants as acts
-use Rattle.sharc_tree.specs.declared.event.Object.TheVariants.{Global, Made}
-use Rattle.sharc_tree.specs.declared.event.TakeKind.{TakeKind}
-use Rattle.sharc_tree.specs.declared.event.TakeKind.TheVariants.{Cast, Free as ToFree}
-use Rattle.sharc_tree.specs.declared.token.Site.{Site}
-use Rattle.sharc_tree.specs.declared.token.Span.{Span}
-use Rattle.sharc_tree.specs.declared.tree.declaration.Identifier.{Identifier}
-use Rattle.sharc_tree.specs.declared.tree.expression.Access.TheVariants.{Dot, Arrow}
-use Rattle.sharc_tree.specs.declared.tree.expression.BinaryOperator.{BinaryOperator}
-use Rattle.sharc_tree.specs.declared.tree.expression.BinaryOperator.TheVariants.{LogicalOr, LogicalAnd}
-use Rattle.sharc_tree.specs.declared.tree.expression.PlaceCall.TheVariants.{Lock, Unlock, Free}
-use Rattle.sharc_tree.specs.declared.tree.expression.UnaryOperator.TheVariants.{Dereference}
-use Rattle.sharc_tree.specs.declared.tree.expression.ValueCall.{ValueCall}
 use Rattle.sharc_tree.specs.declared.trap.Trap.TheVariants as traps
-use Rattle.sharc_tree.specs.Forms.{is_lvalue}
-use Rattle.sharc_tree.specs.Spans.{span_of}
-use Rattle.sharc_tree.specs.Tree.{Expression, identifier, index, field, unary, Arguments, Function}
-use Rattle.sharc_names.specs.declared.fault.Named.{Named}
-use Rattle.sharc_names.specs.Kinds.{Kind, object, array, is_array, is_pointer, element_kind, mutex, declared_kind, declared_kinds, promoted}
+use Rattle.sharc_names.specs.{declared.fault.Named.Named, Kinds.{Kind, object, array, is_array, is_pointer, element_kind, mutex, declared_kind, declared_kinds, promoted}}
 use Rattle.sharc_names.specs.Kinds as kinds
-use Rattle.sharc_ctype.specs.Expressions.{class_of, binary_result}
-use Rattle.sharc_ctype.specs.Resolved.{named_at, kind_at, function_at}
-use Rattle.sharc_ctype.specs.Transfers.{parameters_named}
-use Rattle.sharc_mode.specs.Cells.{cell_at, pointed}
-use Rattle.sharc_mode.specs.Moded.{Assignment}
-use Rattle.sharc_mode.specs.Rows.{cast_row}
+use Rattle.sharc_ctype.specs.{Expressions.{class_of, binary_result}, Resolved.{named_at, kind_at, function_at}, Transfers.parameters_named}
+use Rattle.sharc_mode.specs.{Cells.{cell_at, pointed}, Moded.Assignment, Rows.cast_row}
 use Rattle.sharc_ctype_laws.specs.Constraints.{HasType, HaveTypes, Callee, of_program, of_conditions, a_variable, a_global, a_function, a_constant, in_parentheses, element_of_pointer, element_of_array, a_call, a_field, a_field_behind, negated, complemented, denied, pointed_to, arithmetic, shifted, related, equated, joined, spawned, printed_or_joined, locked, unlocked, freed, a_cast, none_left, one_more}
-use Rattle.sharc_meaning.specs.Arithmetic.{bits_of, fits, is_zero, truth, operated, negated as negative, complement}
-use Rattle.sharc_meaning.specs.Cells.{element_cells}
-use Rattle.sharc_meaning.specs.Reference.{is_null, number_of, elements_of, constant_value}
-use Rattle.sharc_meaning.specs.State.{Run, ◌>>=◌, give, answered, moves, is_reference, temporarily}
-use Rattle.sharc_meaning.specs.Places.{Place, variable, cell, place_named, pointee, field_in, based, element, element_of_array as element_in, index_place, pointee_place}
-use Rattle.sharc_meaning.specs.Expressions.{Calls, resulting, tested, operand, fitting, passed, called, number_named, value_act, spawned as spawning, value_called, taking, place_called, cast_value, place_value, binary_value, eval, eval_all, place_of}
+use Rattle.sharc_meaning.specs.{Arithmetic.{bits_of, fits, is_zero, truth, operated, negated as negative, complement}, Cells.element_cells, Reference.{is_null, number_of, elements_of, constant_value}, State.{Run, ◌>>=◌, give, answered, moves, is_reference, temporarily}, Places.{Place, variable, cell, place_named, pointee, field_in, based, element, element_of_array as element_in, index_place, pointee_place}, Expressions.{Calls, resulting, tested, operand, fitting, passed, called, number_named, value_act, spawned as spawning, value_called, taking, place_called, cast_value, place_value, binary_value, eval, eval_all, place_of}}
 use Rattle.sharc_meaning_laws.proofs.Runs as runs
-use Rattle.sharc_meaning_laws.proofs.Runs.{Same, Starts, same_starts, starts_on}
+use Rattle.sharc_meaning_laws.proofs.{Runs.{Same, Starts, same_starts, starts_on}, Steps.slot, Typed.{Facts, Names, names_start, named_variable, named_global, field_names, whole_left, passes, pointer_reference, no_function_object, no_function_array, no_function_pointer}}
 use Rattle.sharc_meaning_laws.proofs.Steps as steps
-use Rattle.sharc_meaning_laws.proofs.Steps.{slot}
-use Rattle.sharc_meaning_laws.proofs.Typed.{Facts, Names, names_start, named_variable, named_global, field_names, whole_left, passes, pointer_reference, no_function_object, no_function_array, no_function_pointer}
 
 -- what temporaries hold of arguments for parameters of these types
 abbrev pub passed_in : List Kind → List ℤ → List ℤ

@@ -1,17 +1,11 @@
 -- What a `free` has taken is freed next.
-use Rattle.std.proofs.Common.{◌≡◌, inl, inr, ℕ, ℤ, pos, List, [], ◌∷◌, ◌++◌, length, get_or, reverse, refl, sym, ap, ◌∙◌, subst, append_assoc}
-use Rattle.std.proofs.lemmas.Bool.{both_ways}
+use Rattle.std.proofs.{Common.{◌≡◌, inl, inr, ℕ, ℤ, pos, List, [], ◌∷◌, ◌++◌, length, get_or, reverse, refl, sym, ap, ◌∙◌, subst, append_assoc}, lemmas.Bool.both_ways}
 use Rattle.std.specs.List.{AllByRecursion, flat_map}
 use Rattle.sharc_tree.specs.declared.event.SourceEvent.{SourceEvent}
 use Rattle.sharc_ctype.specs.Resolved.{function_at}
-use Rattle.sharc_meaning.specs.declared.given.GivenUp.{GivenUp}
-use Rattle.sharc_meaning.specs.declared.given.GivenUp.TheVariants.{Emptied}
-use Rattle.sharc_meaning.specs.Meaning.{asked_at, asked_by, start}
-use Rattle.sharc_meaning.specs.Reference.{number_of}
-use Rattle.sharc_meaning.specs.State.{State, Outcome, Out, go, over, held_by_frame, held_references, pointers_among}
+use Rattle.sharc_meaning.specs.{declared.given.GivenUp.GivenUp, declared.given.GivenUp.TheVariants.Emptied, Meaning.{asked_at, asked_by, start}, Reference.number_of, State.{State, Outcome, Out, go, over, held_by_frame, held_references, pointers_among}}
 use Rattle.sharc_meaning_laws.specs.Freeing.{FreesFollowIn, FreesFollow, WasTaken, EmptiedWereTaken}
-use Rattle.sharc_meaning_laws.proofs.Closed.{NotEmptied, thread_kept}
-use Rattle.sharc_meaning_laws.proofs.Settled.{Followed, Settled, settled_followed, pending_followed, followed_there, settled_last, pending_some, Freeing, Calm, Quiet, calm, no_emptied}
+use Rattle.sharc_meaning_laws.proofs.{Closed.{NotEmptied, thread_kept}, Settled.{Followed, Settled, settled_followed, pending_followed, followed_there, settled_last, pending_some, Freeing, Calm, Quiet, calm, no_emptied}}
 
 pub last_same : {A : Type 0} (a b : List A) (x y : A) → a ++ x ∷ [] ≡ b ++ y ∷ [] → x ≡ y
 last_same [] [] x y h = cc

@@ -1,32 +1,14 @@
 -- What a thread of a typed program holds is held on, or given up.
-use Rattle.std.proofs.Common.{◌≡◌, ℕ, zero, suc, ◌+◌, ◌≤◌, ◌||◌, Bool, true, false, List, [], ◌∷◌, refl, sym, ap, ◌∙◌, subst, arith, length, slice_get, Some, is_some}
-use Rattle.std.proofs.lemmas.Bool.{false≢true}
-use Rattle.std.specs.List.{AllByRecursion}
+use Rattle.std.proofs.Common.{◌≡◌, ℕ, ◌+◌, ◌≤◌, ◌||◌, [], ◌∷◌, refl, sym, ap, ◌∙◌, subst, arith, length, Some}
 use Rattle.sharc_tree.specs.Tree.{Function}
 use Rattle.sharc_names.specs.Kinds.{is_struct_behind, declared_kind}
 use Rattle.sharc_ctype.specs.Resolved.{Resolution, functions_in, function_at}
 use Rattle.sharc_ctype_laws.specs.Laws.{EachNamesItself, MeetsConstraints, OneType, MeetsStatements, ArePlain}
-use Rattle.sharc_meaning.specs.Meaning.{asked_by, run_thread, start}
-use Rattle.sharc_meaning.specs.References.{held_count}
-use Rattle.sharc_meaning.specs.State.{wants, ended, stopped, spent, Out, go, over}
+use Rattle.sharc_meaning.specs.{Meaning.{asked_by, run_thread, start}, References.held_count, State.{wants, ended, stopped, spent, Out, go, over}}
 use Rattle.sharc_meaning_laws.specs.Held.{released, HeldAreHeldOn}
-use Rattle.sharc_meaning_laws.proofs.Counts.{total, total_is}
+use Rattle.sharc_meaning_laws.proofs.{Counts.{total, total_is}, Runs.state_of, Typed.Facts, Calls.{Known, thread_kept}}
 use Rattle.sharc_meaning_laws.proofs.Runs as runs
-use Rattle.sharc_meaning_laws.proofs.Runs.{UpBy, state_of}
-use Rattle.sharc_meaning_laws.proofs.Typed.{Facts}
-use Rattle.sharc_meaning_laws.proofs.Calls.{Known, thread_kept}
-
-same_some : {A : Type 0} (x y : A) → Some x ≡ Some y → x ≡ y
-same_some x y h = cc
-
-at_place : {A : Type 0} (P : A → Type 0) (list : List A) (k : ℕ) (x : A) → AllByRecursion P list → slice_get list k ≡ Some x → P x
-at_place P [] k x all is = absurd (false≢true (ap is_some is))
-at_place P (y ∷ rest) zero x all is = subst P (same_some y x is) all.0
-at_place P (y ∷ rest) (suc k) x all is = at_place P rest k x all.1 is
-
-no_struct : (b c : Bool) → (b || c) ≡ false → b ≡ false
-no_struct true c h = h
-no_struct false c h = refl
+use Rattle.sharc_lemmas.proofs.{Bools.{or_first as no_struct}, Lists.at_place}
 
 -- of an end and of one with more fuel
 module _ (r : Resolution) (n d : ℕ) where

@@ -1,35 +1,12 @@
 -- Runs that free what they take: from events of which none waits to be freed they come to such events, or want the event that frees what was taken last.
-use Rattle.std.proofs.Common.{◌≡◌, ◌⊎◌, inl, inr, ℕ, zero, suc, Bool, true, false, not, ◌&&◌, cond, List, [], ◌∷◌, ◌++◌, refl, sym, ap, ◌∙◌, subst, append_assoc, length}
-use Rattle.std.proofs.lemmas.Bool.{both_ways}
-use Rattle.std.specs.List.{AllByRecursion}
-use Rattle.std.specs.Prelude.{ℤ, pos, drop}
-use Rattle.sharc_tree.specs.declared.event.Act.{Act}
+use Rattle.std.proofs.{Common.{◌≡◌, ◌⊎◌, inl, inr, ℕ, zero, suc, Bool, true, false, not, ◌&&◌, cond, List, [], ◌∷◌, ◌++◌, refl, sym, ap, ◌∙◌, subst, append_assoc, length}, lemmas.Bool.both_ways}
+use Rattle.std.specs.{List.AllByRecursion, Prelude.{ℤ, pos, drop}}
+use Rattle.sharc_tree.specs.{declared.event.Act.Act, declared.event.CellAt.CellAt, declared.event.CellMode.CellMode, declared.event.Object.Object, declared.event.SourceEvent.SourceEvent, declared.event.TakeKind.TheVariants.{Free as ToFree}, declared.token.Site.Site, declared.token.Span.Span, declared.tree.expression.PlaceCall.TheVariants.Free, Spans.span_of, Tree.Expression}
 use Rattle.sharc_tree.specs.declared.event.Act.TheVariants as acts
-use Rattle.sharc_tree.specs.declared.event.CellAt.{CellAt}
-use Rattle.sharc_tree.specs.declared.event.CellMode.{CellMode}
-use Rattle.sharc_tree.specs.declared.event.Object.{Object}
-use Rattle.sharc_tree.specs.declared.event.SourceEvent.{SourceEvent}
 use Rattle.sharc_tree.specs.declared.event.Taken.TheVariants as taken
-use Rattle.sharc_tree.specs.declared.event.TakeKind.TheVariants.{Free as ToFree}
-use Rattle.sharc_tree.specs.declared.token.Site.{Site}
-use Rattle.sharc_tree.specs.declared.token.Span.{Span}
-use Rattle.sharc_tree.specs.declared.tree.expression.PlaceCall.TheVariants.{Free}
-use Rattle.sharc_tree.specs.Spans.{span_of}
-use Rattle.sharc_tree.specs.Tree.{Expression}
 use Rattle.sharc_ctype.specs.Resolved.{Resolution}
-use Rattle.sharc_mode.specs.Cells.{cell_at}
-use Rattle.sharc_mode.specs.Moded.{Assignment}
-use Rattle.sharc_mode.specs.Sharings.{Sharing}
-use Rattle.sharc_meaning.specs.Cells.{cell_of}
-use Rattle.sharc_meaning.specs.Reference.{is_null, number_of}
-use Rattle.sharc_meaning.specs.References.{taken_to_free}
-use Rattle.sharc_meaning.specs.declared.given.GivenUp.{GivenUp}
-use Rattle.sharc_meaning.specs.declared.given.GivenUp.TheVariants.{Emptied}
-use Rattle.sharc_meaning.specs.State.{Frame, State, Outcome, wants, Out, go, over, Run, Step, then_on, ◌>>◌, give, done, enters_with, happens, answered, answer_of, value_of, event_of, ends_temporaries, ends_variables, without_temporaries, all_released, pointers_among}
-use Rattle.sharc_meaning.specs.Places.{Place, variable, cell, access_mode, nulled, taken_from, freed}
-use Rattle.sharc_meaning.specs.Expressions.{place_called}
-use Rattle.sharc_meaning.specs.Statements.{Flow, next, broken, continued, returned, on_turn, turns}
-use Rattle.sharc_meaning.specs.Meaning.{back_in, with_frame}
+use Rattle.sharc_mode.specs.{Cells.cell_at, Moded.Assignment, Sharings.Sharing}
+use Rattle.sharc_meaning.specs.{Cells.cell_of, Reference.{is_null, number_of}, References.taken_to_free, declared.given.GivenUp.GivenUp, declared.given.GivenUp.TheVariants.Emptied, State.{Frame, State, Outcome, wants, Out, go, over, Run, Step, then_on, ◌>>◌, give, done, enters_with, happens, answered, answer_of, value_of, event_of, ends_temporaries, ends_variables, without_temporaries, all_released, pointers_among}, Places.{Place, variable, cell, access_mode, nulled, taken_from, freed}, Expressions.place_called, Statements.{Flow, next, broken, continued, returned, on_turn, turns}, Meaning.{back_in, with_frame}}
 use Rattle.sharc_meaning_laws.specs.Freeing.{takes_something}
 use Rattle.sharc_meaning_laws.proofs.Closed.{NotEmptied, Closed}
 

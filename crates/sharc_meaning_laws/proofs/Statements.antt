@@ -1,47 +1,21 @@
 -- Statements of a typed program lose no reference.
 use Rattle.std.proofs.Common.{ℕ, Bool, true, false, List, [], ◌∷◌, ◌++◌, refl, sym, ap, ◌∙◌, Option, Some, None, unsigned_abs}
-use Rattle.std.specs.Prelude.{ℤ, pos, IfSome}
-use Rattle.std.specs.List.{AllByRecursion}
+use Rattle.std.specs.{Prelude.{ℤ, pos, IfSome}, List.AllByRecursion}
 use Rattle.sharc_tree.specs.declared.event.Act.TheVariants as acts
-use Rattle.sharc_tree.specs.declared.event.Object.TheVariants.{Global, Made}
-use Rattle.sharc_tree.specs.declared.token.Site.{Site}
-use Rattle.sharc_tree.specs.declared.tree.declaration.Declaration.{Declaration}
-use Rattle.sharc_tree.specs.declared.tree.declaration.WrittenType.{WrittenType}
+use Rattle.sharc_tree.specs.{declared.event.Object.TheVariants.{Global, Made}, declared.token.Site.Site, declared.tree.declaration.Declaration.Declaration, declared.tree.declaration.WrittenType.WrittenType, Measures.{expressions, in_option, in_right, in_simple, in_local, in_first, in_head, in_statement, in_statements}, Spans.span_of, Tree.{Expression, identifier, constant, parentheses, call, spawn, on_value, on_place, cast, index, field, unary, binary, Right, value, malloc, Simple, assign, does_call, Local, First, nothing, declares, does, Statement, empty, block, declare, simple, jump, return, if_then, if_then_else, while, for, Statements, no_statements, statement}}
 use Rattle.sharc_tree.specs.declared.trap.Trap.TheVariants as traps
-use Rattle.sharc_tree.specs.Measures.{expressions, in_option, in_right, in_simple, in_local, in_first, in_head, in_statement, in_statements}
-use Rattle.sharc_tree.specs.Spans.{span_of}
-use Rattle.sharc_tree.specs.Tree.{Expression, identifier, constant, parentheses, call, spawn, on_value, on_place, cast, index, field, unary, binary, Right, value, malloc, Simple, assign, does_call, Local, First, nothing, declares, does, Statement, empty, block, declare, simple, jump, return, if_then, if_then_else, while, for, Statements, no_statements, statement}
 use Rattle.sharc_names.specs.declared.fault.Named.TheVariants as named
 use Rattle.sharc_names.specs.Kinds.{Kind, is_pointer, declared_kind}
-use Rattle.sharc_ctype.specs.Resolved.{Resolution, kind_at, variable_kind}
-use Rattle.sharc_ctype.specs.Statements.{first_locals, locals_in, locals_in_all}
-use Rattle.sharc_mode.specs.Cells.{cell_at, pointed}
-use Rattle.sharc_mode.specs.Moded.{Assignment}
-use Rattle.sharc_mode.specs.Rows.{written, row_at, declared_row}
-use Rattle.sharc_mode.specs.Sharings.{Sharing, private}
-use Rattle.sharc_ctype_laws.specs.Constraints.{HasType}
-use Rattle.sharc_ctype_laws.specs.Declared.{IsItself}
-use Rattle.sharc_ctype_laws.specs.Rules.{MeetsSimple, MeetsFirst, Meets, AllMeet}
-use Rattle.sharc_meaning.specs.Cells.{element_cells, instance_mode}
-use Rattle.sharc_meaning.specs.State.{Run}
-use Rattle.sharc_meaning.specs.Places.{Place, variable, cell, stored}
-use Rattle.sharc_meaning.specs.Expressions.{Calls, tested, eval}
-use Rattle.sharc_meaning.specs.Statements.{Flow, next, broken, continued, returned, on_next, left_by, elements_made, is_positive, right_value, done_simple, initialised, declared, done_first, done_step, done_test, return_with, exec, exec_all}
+use Rattle.sharc_ctype.specs.{Resolved.{Resolution, kind_at, variable_kind}, Statements.{first_locals, locals_in, locals_in_all}}
+use Rattle.sharc_mode.specs.{Cells.{cell_at, pointed}, Moded.Assignment, Rows.{written, row_at, declared_row}, Sharings.{Sharing, private}}
+use Rattle.sharc_ctype_laws.specs.{Constraints.HasType, Declared.IsItself, Rules.{MeetsSimple, MeetsFirst, Meets, AllMeet}}
+use Rattle.sharc_meaning.specs.{Cells.{element_cells, instance_mode}, State.Run, Places.{Place, variable, cell, stored}, Expressions.{Calls, tested, eval}, Statements.{Flow, next, broken, continued, returned, on_next, left_by, elements_made, is_positive, right_value, done_simple, initialised, declared, done_first, done_step, done_test, return_with, exec, exec_all}}
 use Rattle.sharc_meaning_laws.proofs.Runs as runs
-use Rattle.sharc_meaning_laws.proofs.Runs.{Same, Starts, starts_on}
+use Rattle.sharc_meaning_laws.proofs.{Runs.{Same, Starts, starts_on}, Typed.{Facts, Names, names_start, declared_reference, no_function_held}, Expressions.{Kept, Keeps, kept_give, kept_either, tested_kept, fitting_kept, CallsKeep, eval_kept, place_kept}}
 use Rattle.sharc_meaning_laws.proofs.Steps as steps
-use Rattle.sharc_meaning_laws.proofs.Typed.{Facts, Names, names_start, declared_reference, no_function_held}
-use Rattle.sharc_meaning_laws.proofs.Expressions.{Kept, Keeps, kept_give, kept_either, tested_kept, fitting_kept, CallsKeep, eval_kept, place_kept}
+use Rattle.sharc_lemmas.proofs.Lists.{front, back}
 
 -- ---- what holds of each in a list
-
-pub front : {A : Type 0} (P : A → Type 0) (a b : List A) → AllByRecursion P (a ++ b) → AllByRecursion P a
-front P [] b h = tt
-front P (x ∷ rest) b h = (h.0, front P rest b h.1)
-
-pub back : {A : Type 0} (P : A → Type 0) (a b : List A) → AllByRecursion P (a ++ b) → AllByRecursion P b
-back P [] b h = h
-back P (x ∷ rest) b h = back P rest b h.1
 
 abbrev pub Has : Resolution → Expression → Type 0
 Has r e = HasType r e (kind_at r e)

@@ -1,37 +1,17 @@
 -- The few things that a thread does lose no reference, and neither do the accesses that are made of them.
-use Rattle.std.proofs.Common.{◌≡◌, ℕ, ◌+◌, ◌-◌, ◌*◌, ◌≤◌, Bool, true, false, not, cond, List, [], ◌∷◌, ◌++◌, refl, sym, ap, ◌∙◌, subst, arith, length, take, take_at, length-append, append-nil, nat_lt, slice_index_or, codes, bytes_eq, Some, Result, Ok, Err}
-use Rattle.std.proofs.lemmas.Bool.{false≢true}
-use Rattle.std.specs.List.{AllByRecursion}
-use Rattle.std.specs.Prelude.{ℤ, pos, negsuc}
-use Rattle.sharc_tree.specs.declared.event.Act.{Act}
+use Rattle.std.proofs.{Common.{◌≡◌, ℕ, ◌+◌, ◌-◌, ◌*◌, ◌≤◌, Bool, true, false, not, cond, List, [], ◌∷◌, ◌++◌, refl, sym, ap, ◌∙◌, subst, arith, length, take, take_at, length-append, append-nil, nat_lt, slice_index_or, codes, bytes_eq, Some, Result, Ok, Err}, lemmas.Bool.false≢true}
+use Rattle.std.specs.{List.AllByRecursion, Prelude.{ℤ, pos, negsuc}}
+use Rattle.sharc_tree.specs.{declared.event.Act.Act, declared.event.CellMode.TheVariants.{Readonly, Locked}, declared.event.Object.Object, declared.event.Object.TheVariants.{Global, Made}, declared.event.TakeKind.TakeKind, declared.token.Site.Site, declared.tree.declaration.Declaration.Declaration, declared.trap.Trap.Trap}
 use Rattle.sharc_tree.specs.declared.event.Act.TheVariants as acts
-use Rattle.sharc_tree.specs.declared.event.CellMode.TheVariants.{Readonly, Locked}
-use Rattle.sharc_tree.specs.declared.event.Object.{Object}
-use Rattle.sharc_tree.specs.declared.event.Object.TheVariants.{Global, Made}
-use Rattle.sharc_tree.specs.declared.event.TakeKind.{TakeKind}
 use Rattle.sharc_tree.specs.declared.event.Taken.TheVariants as taken
-use Rattle.sharc_tree.specs.declared.token.Site.{Site}
-use Rattle.sharc_tree.specs.declared.tree.declaration.Declaration.{Declaration}
-use Rattle.sharc_tree.specs.declared.trap.Trap.{Trap}
 use Rattle.sharc_tree.specs.declared.trap.Trap.TheVariants as traps
-use Rattle.sharc_names.specs.declared.fault.Named.{Named}
+use Rattle.sharc_names.specs.{declared.fault.Named.Named, Kinds.{Kind, is_pointer}}
 use Rattle.sharc_names.specs.declared.fault.Named.TheVariants as named
-use Rattle.sharc_names.specs.Kinds.{Kind, is_pointer}
 use Rattle.sharc_ctype.specs.Resolved.{Resolution, declaration_at, variable_kind}
 use Rattle.sharc_mode.specs.Sharings.{Sharing, private, readonly, locked, racy, dynamic}
-use Rattle.sharc_meaning.specs.Cells.{cell_of, Guard, mutex, behind, nothing as no_mutex, guard_of, instance_mode}
-use Rattle.sharc_meaning.specs.Events.{held_mutexes, holds_mutex}
-use Rattle.sharc_meaning.specs.Reference.{NULL, is_null, number_of}
-use Rattle.sharc_meaning.specs.declared.given.GivenUp.{GivenUp}
-use Rattle.sharc_meaning.specs.declared.given.GivenUp.TheVariants.{Released, Replaced, Emptied}
-use Rattle.sharc_meaning.specs.declared.variable.Variable.{Variable}
-use Rattle.sharc_meaning.specs.State.{State, Use, reads, writes, nulls, go, Run, then_on, ◌>>=◌, give, done, stop, unless_stop, happens, answered, performs, all_released, gives_up, drops, holds, holds_reference, moves, moves_on, is_reference, with_value, value_in, value_of, looks_at, traces, sets, reads_variable, new_variable, begins_with}
-use Rattle.sharc_meaning.specs.Places.{Place, variable, cell, pointee, based, element, guarding, access_mode, fetched, stored, nulled, taken_from, cast_to, freed}
-use Rattle.sharc_meaning.specs.Waiting.{cell_at_place, lock_call, unlock_call, wait_call, signal_call, broadcast_call, condition_call, moves_base, gives_up_base}
-use Rattle.sharc_meaning.specs.Expressions.{resulting, named_value}
-use Rattle.sharc_meaning_laws.proofs.Counts.{Declared, refs, rel, vars, one, gone, one_gone, one_null, refs_append, rel_append, vars_append, set_loses, set_keeps, still_declared}
+use Rattle.sharc_meaning.specs.{Cells.{cell_of, Guard, mutex, behind, nothing as no_mutex, guard_of, instance_mode}, Events.{held_mutexes, holds_mutex}, Reference.{NULL, is_null, number_of}, declared.given.GivenUp.GivenUp, declared.given.GivenUp.TheVariants.{Released, Replaced, Emptied}, declared.variable.Variable.Variable, State.{State, Use, reads, writes, nulls, go, Run, then_on, ◌>>=◌, give, done, stop, unless_stop, happens, answered, performs, all_released, gives_up, drops, holds, holds_reference, moves, moves_on, is_reference, with_value, value_in, value_of, looks_at, traces, sets, reads_variable, new_variable, begins_with}, Places.{Place, variable, cell, pointee, based, element, guarding, access_mode, fetched, stored, nulled, taken_from, cast_to, freed}, Waiting.{cell_at_place, lock_call, unlock_call, wait_call, signal_call, broadcast_call, condition_call, moves_base, gives_up_base}, Expressions.{resulting, named_value}}
+use Rattle.sharc_meaning_laws.proofs.{Counts.{Declared, refs, rel, vars, one, gone, one_gone, one_null, refs_append, rel_append, vars_append, set_loses, set_keeps, still_declared}, Runs.{Same, moves_level, up_level}}
 use Rattle.sharc_meaning_laws.proofs.Runs as runs
-use Rattle.sharc_meaning_laws.proofs.Runs.{Same, moves_level, up_level}
 
 -- what a temporary holds of a value of this type
 abbrev pub slot : Bool → ℤ → List ℤ

@@ -1,30 +1,18 @@
 -- What typing says of the places that expressions name, and of the temporaries that hold their values.
-use Rattle.std.proofs.Common.{◌≡◌, inl, inr, ℕ, ◌+◌, ◌==◌, Bool, true, false, ◌||◌, ◌&&◌, List, [], ◌∷◌, ◌++◌, refl, sym, ap, ◌∙◌, subst, arith, append-nil, lt-ltb, eqb-true, Some}
-use Rattle.std.proofs.lemmas.Bool.{false≢true}
+use Rattle.std.proofs.{Common.{◌≡◌, inl, inr, ℕ, ◌+◌, ◌==◌, Bool, true, false, ◌||◌, ◌&&◌, List, [], ◌∷◌, ◌++◌, refl, sym, ap, ◌∙◌, subst, arith, append-nil, lt-ltb, Some}, lemmas.Bool.false≢true}
 use Rattle.std.specs.Prelude.{ℤ}
-use Rattle.sharc_tree.specs.declared.ctype.Base.{Base}
+use Rattle.sharc_tree.specs.{declared.ctype.Base.Base, declared.event.Object.TheVariants.{Global, Made}, declared.token.NumberType.NumberType, declared.tree.declaration.Declaration.Declaration, declared.tree.declaration.Identifier.Identifier, declared.tree.declaration.WrittenType.WrittenType, declared.tree.expression.Constant.Constant, Forms.is_lvalue, Tree.{Expression, Function}}
 use Rattle.sharc_tree.specs.declared.ctype.Base.TheVariants as base
-use Rattle.sharc_tree.specs.declared.event.Object.TheVariants.{Global, Made}
-use Rattle.sharc_tree.specs.declared.token.NumberType.{NumberType}
 use Rattle.sharc_tree.specs.declared.token.NumberType.TheVariants as width
-use Rattle.sharc_tree.specs.declared.tree.declaration.Declaration.{Declaration}
-use Rattle.sharc_tree.specs.declared.tree.declaration.Identifier.{Identifier}
-use Rattle.sharc_tree.specs.declared.tree.declaration.WrittenType.{WrittenType}
-use Rattle.sharc_tree.specs.declared.tree.expression.Constant.{Constant}
 use Rattle.sharc_tree.specs.declared.tree.expression.Constant.TheVariants as constants
-use Rattle.sharc_tree.specs.Forms.{is_lvalue}
-use Rattle.sharc_tree.specs.Tree.{Expression, Function}
-use Rattle.sharc_names.specs.declared.fault.Named.{Named}
+use Rattle.sharc_names.specs.{declared.fault.Named.Named, Kinds.{Kind, object, array, is_pointer, is_null, is_array, is_struct_base, is_struct_behind, declared_kind}}
 use Rattle.sharc_names.specs.declared.fault.Named.TheVariants as named
-use Rattle.sharc_names.specs.Kinds.{Kind, object, array, null, is_pointer, is_null, is_array, is_struct_base, is_struct_behind, declared_kind}
 use Rattle.sharc_names.specs.Kinds as kinds
-use Rattle.sharc_ctype.specs.Expressions.{constant_kind, number_kind}
-use Rattle.sharc_ctype.specs.Resolved.{Resolution, kind_at, function_at, declaration_at, variable_kind}
-use Rattle.sharc_ctype_laws.specs.Constraints.{HasType, Callee, of_program, of_conditions, IsInteger, IsPointer, Common, both_shorter, left_long, right_long, Assignable, integer, pointer, null_pointer, a_variable, a_global, a_function, a_constant, in_parentheses, element_of_pointer, element_of_array, a_call, a_field, a_field_behind, negated, complemented, denied, pointed_to, arithmetic, shifted, related, equated, joined, spawned, printed_or_joined, locked, unlocked, freed, a_cast}
-use Rattle.sharc_ctype_laws.specs.Rules.{IsHeld}
-use Rattle.sharc_meaning.specs.State.{is_reference}
-use Rattle.sharc_meaning.specs.Places.{Place, variable, cell, place_named, field_in}
+use Rattle.sharc_ctype.specs.{Expressions.{constant_kind, number_kind}, Resolved.{Resolution, kind_at, function_at, declaration_at, variable_kind}}
+use Rattle.sharc_ctype_laws.specs.{Constraints.{HasType, Callee, of_program, of_conditions, IsInteger, IsPointer, Common, both_shorter, left_long, right_long, Assignable, integer, pointer, null_pointer, a_variable, a_global, a_function, a_constant, in_parentheses, element_of_pointer, element_of_array, a_call, a_field, a_field_behind, negated, complemented, denied, pointed_to, arithmetic, shifted, related, equated, joined, spawned, printed_or_joined, locked, unlocked, freed, a_cast}, Rules.IsHeld}
+use Rattle.sharc_meaning.specs.{State.is_reference, Places.{Place, variable, cell, place_named, field_in}}
 use Rattle.sharc_meaning_laws.proofs.Runs.{Starts}
+use Rattle.sharc_lemmas.proofs.{Bools.{or_false, no}, Numbers.some_star}
 
 -- what is known of the program
 pub record Facts (r : Resolution) : Type 0 where
@@ -44,10 +32,6 @@ pointer_reference k p = ap (λ b. b || is_null k) (pointer_pointer k p)
 
 integer_pointer : (k : Kind) → IsInteger k → is_pointer k ≡ false
 integer_pointer k (b, t, is) = ap is_pointer is
-
-or_false : (b : Bool) → (b || false) ≡ b
-or_false true = refl
-or_false false = refl
 
 pub declared_reference : (w : WrittenType) → is_reference (declared_kind w) ≡ is_pointer (declared_kind w)
 declared_reference w = or_false (is_pointer (declared_kind w))
@@ -97,18 +81,8 @@ result_whole : (r : Resolution) → Facts r → (i : Identifier) (ps : List Kind
 result_whole r w i _ _ (of_program {n = n} f is at spelled other) = ap (λ b. b || false) (w.results n f at)
 result_whole r w i _ _ (of_conditions c is spelled) = refl
 
-some_star : (n : ℕ) → (n + 1 == 0) ≡ false
-some_star n = by (n + 1 == 0) refl
-  where
-    by : (z : Bool) → (n + 1 == 0) ≡ z → z ≡ false
-    by true h = let e = eqb-true (n + 1) 0 h in absurd (omega (arith, e))
-    by false h = refl
-
 pointer_whole : (k : Kind) → IsPointer k → is_whole k ≡ false
 pointer_whole k (b, n, is) = ap is_whole is ∙ ap (λ z. (z && is_struct_base b) || false) (some_star n)
-
-no : (A : Type 0) (b : Bool) → b ≡ false → b ≡ true → A
-no A b f t = absurd (false≢true (sym f ∙ t))
 
 pub whole_left : (r : Resolution) → Facts r → (e : Expression) (k : Kind) → HasType r e k → is_whole k ≡ true → is_lvalue e ≡ true
 whole_left r w _ _ (a_variable is at spelled) h = refl

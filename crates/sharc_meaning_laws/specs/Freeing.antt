@@ -1,18 +1,12 @@
 -- What a `free` has taken is freed next, and what its cells hold is given up before.
 use Rattle.std.specs.Prelude.{◌≡◌, ℕ, ℤ, pos, Bool, true, false, not, ◌&&◌, List, [], ◌∷◌, ◌++◌, map, get_or}
-use Rattle.sharc_tree.specs.declared.event.Act.TheVariants.{Freed}
-use Rattle.sharc_tree.specs.declared.event.Object.TheVariants.{Made}
+use Rattle.sharc_tree.specs.{declared.event.Act.TheVariants.Freed, declared.event.Object.TheVariants.Made}
 use Rattle.sharc_tree.specs.declared.event.SourceEvent.{SourceEvent}
 use Rattle.sharc_mode.specs.Moded.{Assignment}
-use Rattle.sharc_meaning.specs.declared.given.GivenUp.{GivenUp}
-use Rattle.sharc_meaning.specs.declared.given.GivenUp.TheVariants.{Emptied}
-use Rattle.sharc_meaning.specs.Events.{Stands, events_of}
-use Rattle.sharc_meaning.specs.Meaning.{Asked, asks}
-use Rattle.sharc_meaning.specs.Reference.{is_null, number_of}
-use Rattle.sharc_meaning.specs.References.{refers, taken_to_free, is_taken_to_free, Begun, asked_with}
-use Rattle.sharc_meaning.specs.Runs.{by}
-use Rattle.sharc_meaning.specs.State.{wants}
-use Rattle.sharc_meaning.specs.Store.{is_live}
+use Rattle.sharc_meaning.specs.{declared.given.GivenUp.GivenUp, declared.given.GivenUp.TheVariants.Emptied}
+use Rattle.sharc_meaning.specs.{Events.{Stands, events_of}, Meaning.{Asked, asks}, Reference.{is_null, number_of}}
+use Rattle.sharc_meaning.specs.{References.{refers, taken_to_free, is_taken_to_free, Begun, asked_with}, Runs.by}
+use Rattle.sharc_meaning.specs.{State.wants, Store.is_live}
 
 -- ---- what a thread asks for
 

@@ -1,24 +1,11 @@
 -- The proofs of the laws.
-use Rattle.std.proofs.Common.{◌≡◌, ◌⊎◌, ℕ, ◌+◌, ◌<◌, Bool, true, false, ◌&&◌, List, [], ◌∷◌, ◌++◌, Option, Some, None, refl, ap, sym, ◌∙◌, subst, inl, inr}
-use Rattle.std.specs.Prelude.{slice_index_or}
-use Rattle.std.specs.List.{flat_map}
-use Rattle.sharc_graph.specs.declared.graph.Finding.{Finding}
-use Rattle.sharc_graph.specs.declared.graph.Finding.TheVariants.{Apart, Source, Behind}
-use Rattle.sharc_graph.specs.Findings.{finding_at}
-use Rattle.sharc_tree.specs.declared.ctype.Mode.{Mode}
-use Rattle.sharc_tree.specs.declared.ctype.Mode.TheVariants.{Private, Dynamic}
-use Rattle.sharc_tree.specs.declared.tree.item.GlobalDefinition.{GlobalDefinition}
-use Rattle.sharc_ctype.specs.Entities.{entities_in, numbered}
-use Rattle.sharc_ctype.specs.Resolved.{globals_in, functions_in}
-use Rattle.sharc_mode.specs.declared.error.ErrorCode.TheVariants.{PrivateReachesThread}
-use Rattle.sharc_mode.specs.declared.error.ModeError.{ModeError}
-use Rattle.sharc_mode.specs.Cells.{top_of}
-use Rattle.sharc_mode.specs.Expressions.{items_notes}
-use Rattle.sharc_mode.specs.Flows.{IsLeastAssignment, IsReasonFor, mode_found, inferred_mode}
-use Rattle.sharc_mode.specs.Moded.{Assignment, position_count, reason_at}
-use Rattle.sharc_mode.specs.Notes.{error_where, type_notes, errors_of, is_private_level}
-use Rattle.sharc_mode.specs.Settled.{settled_at}
-use Rattle.sharc_mode.specs.WellModed.{AreModeErrors, mode_errors, touched_notes, spawned_notes}
+use Rattle.std.proofs.Common.{◌≡◌, ◌⊎◌, ℕ, ◌+◌, ◌<◌, Bool, ◌&&◌, List, [], ◌∷◌, ◌++◌, Option, Some, None, refl, ap, sym, ◌∙◌, subst, inl, inr}
+use Rattle.std.specs.{Prelude.slice_index_or, List.flat_map}
+use Rattle.sharc_graph.specs.{declared.graph.Finding.Finding, declared.graph.Finding.TheVariants.{Apart, Source, Behind}, Findings.finding_at}
+use Rattle.sharc_tree.specs.{declared.ctype.Mode.Mode, declared.ctype.Mode.TheVariants.{Private, Dynamic}, declared.tree.item.GlobalDefinition.GlobalDefinition}
+use Rattle.sharc_ctype.specs.{Entities.{entities_in, numbered}, Resolved.{globals_in, functions_in}}
+use Rattle.sharc_mode.specs.{declared.error.ErrorCode.TheVariants.PrivateReachesThread, declared.error.ModeError.ModeError, Cells.top_of, Expressions.items_notes, Flows.{IsLeastAssignment, IsReasonFor, mode_found, inferred_mode}, Moded.{Assignment, position_count, reason_at}, Notes.{error_where, type_notes, errors_of, is_private_level}, Settled.settled_at, WellModed.{AreModeErrors, mode_errors, touched_notes, spawned_notes}}
+use Rattle.sharc_lemmas.proofs.Bools.{same_test}
 
 -- the least assignment leaves what is settled
 pub settled_mode : (m : Assignment) → IsLeastAssignment m → (position : ℕ) → position < position_count m.typed → (mode : Mode) → settled_at m.typed position ≡ Some mode → slice_index_or m.modes position Private ≡ mode
@@ -38,12 +25,6 @@ by_finding mode (Behind rank reason) is = inr is
 pub inferred : (m : Assignment) → IsLeastAssignment m → (position : ℕ) → position < position_count m.typed → settled_at m.typed position ≡ None
     → (slice_index_or m.modes position Private ≡ Private) ⊎ (slice_index_or m.modes position Private ≡ Dynamic)
 inferred m least position within is = by_finding (slice_index_or m.modes position Private) (finding_at least.findings position) (least.mode position within ∙ ap (λ s. mode_found s (finding_at least.findings position)) is)
-
--- two tests of one fact are one
-same_test : (a b : Bool) → (a ≡ true → b ≡ true) → (b ≡ true → a ≡ true) → a ≡ b
-same_test true b there back = sym (there refl)
-same_test false true there back = back refl
-same_test false false there back = refl
 
 same_notes : (s t : ℕ → Bool) → ((g : ℕ) → s g ≡ t g) → (n : ℕ) (list : List GlobalDefinition) → touched_notes s n list ≡ touched_notes t n list
 same_notes s t same n [] = refl

@@ -1,33 +1,13 @@
 -- What the least assignment is among all that are enough.
-use Rattle.std.proofs.Common.{◌≡◌, ◌⊎◌, ℕ, ◌+◌, ◌<◌, Bool, true, false, List, [], ◌∷◌, length, length-append, Option, Some, None, refl, ap, sym, ◌∙◌, subst, inl, inr, arith}
-use Rattle.std.specs.Prelude.{slice_index_or}
-use Rattle.std.proofs.lemmas.Bool.{cases_lt, false≢true}
-use Rattle.std.proofs.lemmas.List.{get_or_past}
-use Rattle.std.proofs.lemmas.List.Elements.{All-get_or}
-use Rattle.std.specs.Prelude.{Contains}
-use Rattle.sharc_graph.specs.declared.graph.Finding.{Finding}
-use Rattle.sharc_graph.specs.declared.graph.Finding.TheVariants.{Apart, Source, Behind}
-use Rattle.sharc_graph.specs.Findings.{finding_at}
-use Rattle.sharc_graph.specs.Paths.{IsWithin, edge_of}
-use Rattle.sharc_constraints.specs.declared.place.Place.{Place}
+use Rattle.std.proofs.{Common.{◌≡◌, ◌⊎◌, ℕ, ◌+◌, ◌<◌, Bool, true, false, List, [], ◌∷◌, length, length-append, Option, Some, None, refl, ap, sym, ◌∙◌, subst, inl, inr, arith}, lemmas.Bool.{cases_lt, false≢true}, lemmas.List.get_or_past, lemmas.List.Elements.All-get_or}
+use Rattle.std.specs.Prelude.{slice_index_or, Contains}
+use Rattle.sharc_graph.specs.{declared.graph.Finding.Finding, declared.graph.Finding.TheVariants.{Apart, Source, Behind}, Findings.finding_at, Paths.{IsWithin, edge_of}}
+use Rattle.sharc_constraints.specs.{declared.place.Place.Place, declared.place.Link.Link, Flow.{flow_of, link_of, place_at, is_unwritten, is_source, IsUnwritten, IsSource, IsFirstFor, HasEdge}, Laws.{FlowLaws, IsClosed, IsDynamic}}
 use Rattle.sharc_constraints.specs.declared.place.Place.TheVariants as place
-use Rattle.sharc_constraints.specs.declared.place.Link.{Link}
-use Rattle.sharc_constraints.specs.Flow.{flow_of, link_of, place_at, is_unwritten, is_source, IsUnwritten, IsSource, IsFirstFor, HasEdge}
-use Rattle.sharc_constraints.specs.Laws.{FlowLaws, IsClosed, IsDynamic}
-use Rattle.sharc_tree.specs.declared.ctype.Base.{Base}
-use Rattle.sharc_tree.specs.declared.ctype.Mode.{Mode}
-use Rattle.sharc_tree.specs.declared.ctype.Mode.TheVariants.{Private, Readonly, Locked, Racy, Dynamic}
-use Rattle.sharc_ctype.specs.Entities.{entities_in, written_modes, positions_of, positions_in}
-use Rattle.sharc_ctype.specs.Resolved.{Resolution}
-use Rattle.sharc_ctype.specs.declared.entity.Entity.{Entity}
-use Rattle.sharc_mode.specs.Flows.{IsLeastAssignment, IsRoot, IsPlaceFor, ArePlaces, written_place, inferred_mode, mode_found, links_of}
-use Rattle.sharc_mode.specs.Moded.{Assignment, position_count}
-use Rattle.sharc_mode.specs.Pairs.{AreEquated, IsBelow, IsEnough, mode_given, mode_by}
-use Rattle.sharc_mode.specs.Settled.{settled, otherwise_of, settled_modes, settled_in, settled_at}
-use Rattle.sharc_mode.specs.Sharings.{sharing_of, is_dynamic}
-use Rattle.sharc_mode.proofs.LawLemmas.{inferred}
-use Rattle.sharc_mode.proofs.PairLemmas.{below_from, below_to, equal_from, equal_to}
-use Rattle.sharc_mode.proofs.WithinLemmas.{links_within}
+use Rattle.sharc_tree.specs.{declared.ctype.Base.Base, declared.ctype.Mode.Mode, declared.ctype.Mode.TheVariants.{Private, Readonly, Locked, Racy, Dynamic}}
+use Rattle.sharc_ctype.specs.{Entities.{entities_in, written_modes, positions_of, positions_in}, Resolved.Resolution, declared.entity.Entity.Entity}
+use Rattle.sharc_mode.specs.{Flows.{IsLeastAssignment, IsRoot, IsPlaceFor, ArePlaces, written_place, inferred_mode, mode_found, links_of}, Moded.{Assignment, position_count}, Pairs.{AreEquated, IsBelow, IsEnough, mode_given, mode_by}, Settled.{settled, otherwise_of, settled_modes, settled_in, settled_at}, Sharings.{sharing_of, is_dynamic}}
+use Rattle.sharc_mode.proofs.{LawLemmas.inferred, PairLemmas.{below_from, below_to, equal_from, equal_to}, WithinLemmas.links_within}
 
 -- ---- places and modes
 open_place : (r : Resolution) (p : ℕ) (at : Place) → IsPlaceFor r p None at → is_unwritten at ≡ true
@@ -96,13 +76,6 @@ given_inferred : (finding : Finding) → mode_given None (is_dynamic (sharing_of
 given_inferred Apart = refl
 given_inferred Source = refl
 given_inferred (Behind rank reason) = refl
-
-told_dynamic : (m : Mode) → is_dynamic (sharing_of m) ≡ true → m ≡ Dynamic
-told_dynamic Private is = absurd (false≢true is)
-told_dynamic Readonly is = absurd (false≢true is)
-told_dynamic (Locked path) is = absurd (false≢true is)
-told_dynamic Racy is = absurd (false≢true is)
-told_dynamic Dynamic is = refl
 
 modes_agree : (a b : Mode) → (a ≡ Private) ⊎ (a ≡ Dynamic) → (b ≡ Private) ⊎ (b ≡ Dynamic) → (a ≡ Dynamic → b ≡ Dynamic) → (b ≡ Dynamic → a ≡ Dynamic) → a ≡ b
 modes_agree a b (inl one) (inl two) there back = one ∙ sym two

@@ -1,10 +1,7 @@
 -- The positions of an entity are positions of the program.
 use Rattle.std.proofs.Common.{◌≡◌, ℕ, ◌+◌, ◌≤◌, Bool, true, false, List, [], ◌∷◌, Option, Some, None, sym, subst, cond, arith}
 use Rattle.std.specs.List.{find}
-use Rattle.sharc_ctype.specs.Resolved.{Resolution}
-use Rattle.sharc_ctype.specs.declared.entity.Entity.{Entity}
-use Rattle.sharc_ctype.specs.declared.entity.Numbered.{Numbered}
-use Rattle.sharc_ctype.specs.Entities.{entities_in, entity_at, numbered_from, positions_of, positions_in, is_told_by}
+use Rattle.sharc_ctype.specs.{Resolved.Resolution, declared.entity.Entity.Entity, declared.entity.Numbered.Numbered, Entities.{entities_in, entity_at, numbered_from, positions_of, positions_in, is_told_by}}
 use Rattle.sharc_mode.specs.Moded.{position_count}
 
 -- what was found ends by this position

@@ -1,14 +1,8 @@
 -- The modes of a row, one by one.
-use Rattle.std.proofs.Common.{◌≡◌, ◌⊎◌, inl, inr, ℕ, zero, suc, ◌+◌, ◌-◌, ◌<◌, ◌≤◌, ◌==◌, cond, Bool, true, false, ◌&&◌, List, [], ◌∷◌, ◌++◌, length, take, drop, map, Option, Some, get_or, refl, ap, sym, ◌∙◌, subst, add-one, append_assoc, arith}
-use Rattle.std.proofs.lemmas.List.{take_more, get_or-drop, length-drop, map-append}
-use Rattle.std.proofs.lemmas.Bool.Decides.{nat_tests}
+use Rattle.std.proofs.{Common.{◌≡◌, ◌⊎◌, inl, inr, ℕ, zero, suc, ◌+◌, ◌-◌, ◌<◌, ◌≤◌, ◌==◌, cond, Bool, true, false, ◌&&◌, List, [], ◌∷◌, ◌++◌, length, take, drop, map, Option, Some, get_or, refl, ap, sym, ◌∙◌, subst, add-one, append_assoc, arith}, lemmas.List.{take_more, get_or-drop, length-drop, map-append}, lemmas.Bool.Decides.nat_tests}
 use Rattle.std.specs.Prelude.{slice_index_or}
-use Rattle.sharc_tree.specs.declared.ctype.Mode.{Mode}
-use Rattle.sharc_tree.specs.declared.ctype.Mode.TheVariants.{Private}
-use Rattle.sharc_mode.specs.Cells.{first_of, pointed}
-use Rattle.sharc_mode.specs.Moded.{Assignment}
-use Rattle.sharc_mode.specs.Rows.{Targets, deeper, read, modes_of}
-use Rattle.sharc_mode.specs.Sharings.{Sharing, sharing_of, same, same_all, mode_of}
+use Rattle.sharc_tree.specs.{declared.ctype.Mode.Mode, declared.ctype.Mode.TheVariants.Private}
+use Rattle.sharc_mode.specs.{Cells.{first_of, pointed}, Moded.Assignment, Rows.{Targets, deeper, read, modes_of}, Sharings.{Sharing, sharing_of, same, same_all, mode_of}}
 
 from_first : (f : Mode → Sharing) (modes : List Mode) (first k : ℕ) → first < length modes
     → map f (take (suc k) (drop first modes)) ≡ first_of (map f (take (suc k) (drop first modes))) ∷ map f (take k (drop (suc first) modes))
@@ -77,17 +71,6 @@ alike m a b next_a next_b whole some_a some_b ends_a ends_b same_first a_is b_is
     ∙ ap (λ y. same_all m.typed (modes_of m (deeper a)) (modes_of m y)) b_is
     ∙ ap (λ t. t && same_all m.typed (modes_of m (deeper a)) (modes_of m (deeper b))) (sym same_first)
     ∙ sym (one_more m a b some_a some_b ends_a ends_b) ∙ were
-
-pub unlike : (m : Assignment) (a b : Targets) → 0 < a.count → 0 < b.count → a.first + a.count ≤ length m.modes → b.first + b.count ≤ length m.modes
-    → same m.typed (pointed m (Some a)) (pointed m (Some b)) ≡ false → same_all m.typed (modes_of m a) (modes_of m b) ≡ false
-unlike m a b some_a some_b ends_a ends_b other =
-    one_more m a b some_a some_b ends_a ends_b ∙ ap (λ t. t && same_all m.typed (modes_of m (deeper a)) (modes_of m (deeper b))) other
-
-pub both_end : (m : Assignment) (a b : Targets) → a.count ≡ 0 → b.count ≡ 0 → same_all m.typed (modes_of m a) (modes_of m b) ≡ true
-both_end m a b none_a none_b = ap (λ l. same_all m.typed l (modes_of m b)) (none_of_row m a none_a) ∙ ap (λ l. same_all m.typed [] l) (none_of_row m b none_b)
-
-pub first_ends : (m : Assignment) (a b : Targets) → a.count ≡ 0 → 0 < b.count → b.first + b.count ≤ length m.modes → same_all m.typed (modes_of m a) (modes_of m b) ≡ false
-first_ends m a b none some ends = ap (λ l. same_all m.typed l (modes_of m b)) (none_of_row m a none) ∙ ap (λ l. same_all m.typed [] l) (first_and_rest m b some ends)
 
 pub second_ends : (m : Assignment) (a b : Targets) → 0 < a.count → a.first + a.count ≤ length m.modes → b.count ≡ 0 → same_all m.typed (modes_of m a) (modes_of m b) ≡ false
 second_ends m a b some ends none = ap (λ l. same_all m.typed l (modes_of m b)) (first_and_rest m a some ends) ∙ ap (λ l. same_all m.typed (pointed m (Some a) ∷ modes_of m (deeper a)) l) (none_of_row m b none)

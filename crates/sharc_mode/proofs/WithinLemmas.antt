@@ -1,32 +1,14 @@
 -- The links join positions of the program.
-use Rattle.std.proofs.Common.{◌≡◌, ℕ, zero, suc, ◌+◌, ◌-◌, ◌<◌, ◌≤◌, min, Bool, true, false, cond, List, [], ◌∷◌, ◌++◌, Option, Some, None, subst, arith}
+use Rattle.std.proofs.{Common.{◌≡◌, ℕ, zero, suc, ◌+◌, ◌-◌, ◌<◌, ◌≤◌, min, Bool, true, false, cond, List, [], ◌∷◌, ◌++◌, Option, Some, None, subst, arith}, lemmas.Bool.ne_eqb, lemmas.List.Elements.{All-nil, All-cons, All-append}}
 use Rattle.std.specs.List.{flat_map, All}
-use Rattle.std.proofs.lemmas.Bool.{ne_eqb}
-use Rattle.std.proofs.lemmas.List.Elements.{All-nil, All-cons, All-append}
 use Rattle.sharc_graph.specs.Paths.{IsWithin}
-use Rattle.sharc_constraints.specs.declared.place.Link.{Link}
-use Rattle.sharc_constraints.specs.Flow.{link_of}
-use Rattle.sharc_constraints.specs.Make.{equal_links, below_links}
-use Rattle.sharc_tree.specs.declared.tree.expression.Constant.{Constant}
-use Rattle.sharc_tree.specs.declared.tree.expression.Constant.TheVariants.{Number, Character, Null}
-use Rattle.sharc_tree.specs.declared.tree.expression.UnaryOperator.{UnaryOperator}
-use Rattle.sharc_tree.specs.declared.tree.expression.UnaryOperator.TheVariants.{Negate, Not, Complement, Dereference}
-use Rattle.sharc_tree.specs.declared.tree.item.GlobalDefinition.{GlobalDefinition}
-use Rattle.sharc_tree.specs.Measures.{in_function}
-use Rattle.sharc_tree.specs.Tree.{Expression, identifier, constant, parentheses, call, spawn, on_value, on_place, cast, index, field, unary, binary, Right, value, malloc, Function, Item, structure, global, function}
-use Rattle.sharc_names.specs.declared.fault.Named.{Named}
+use Rattle.sharc_constraints.specs.{declared.place.Link.Link, Flow.link_of, Make.{equal_links, below_links}}
+use Rattle.sharc_tree.specs.{declared.tree.expression.Constant.Constant, declared.tree.expression.Constant.TheVariants.{Number, Character, Null}, declared.tree.expression.UnaryOperator.UnaryOperator, declared.tree.expression.UnaryOperator.TheVariants.{Negate, Not, Complement, Dereference}, declared.tree.item.GlobalDefinition.GlobalDefinition, Measures.in_function, Tree.{Expression, identifier, constant, parentheses, call, spawn, on_value, on_place, cast, index, field, unary, binary, Right, value, malloc, Function, Item, structure, global, function}}
+use Rattle.sharc_names.specs.{declared.fault.Named.Named, declared.types.Role.Role, Kinds.is_array}
 use Rattle.sharc_names.specs.declared.fault.Named.TheVariants as named
-use Rattle.sharc_names.specs.declared.types.Role.{Role}
 use Rattle.sharc_names.specs.declared.types.Role.TheVariants as role
-use Rattle.sharc_names.specs.Kinds.{is_array}
-use Rattle.sharc_ctype.specs.Entities.{entities_in, entity_at, numbered_from, positions_of, positions_in, is_told_by}
-use Rattle.sharc_ctype.specs.Resolved.{Resolution, named_at, global_at, function_at, kind_at}
-use Rattle.sharc_ctype.specs.Transfers.{Receiver, lvalue, variable, result, function_transfers}
-use Rattle.sharc_ctype.specs.declared.entity.Entity.{Entity}
-use Rattle.sharc_ctype.specs.declared.entity.Numbered.{Numbered}
-use Rattle.sharc_mode.specs.Flows.{equal_rows, levels_down, receiver_row, source_row, transfer_links, cast_links, item_links, links_of}
-use Rattle.sharc_mode.specs.Moded.{position_count}
-use Rattle.sharc_mode.specs.Rows.{Reading, written, Targets, no_row, deeper, targets_from, entity_row, declared_row, cast_row, global_row, named_row, result_row, called_row, behind, constant_row, reading_through, base_use, unary_row, row_at}
+use Rattle.sharc_ctype.specs.{Entities.{entities_in, entity_at, numbered_from, positions_of, positions_in, is_told_by}, Resolved.{Resolution, named_at, global_at, function_at, kind_at}, Transfers.{Receiver, lvalue, variable, result, function_transfers}, declared.entity.Entity.Entity, declared.entity.Numbered.Numbered}
+use Rattle.sharc_mode.specs.{Flows.{equal_rows, levels_down, receiver_row, source_row, transfer_links, cast_links, item_links, links_of}, Moded.position_count, Rows.{Reading, written, Targets, no_row, deeper, targets_from, entity_row, declared_row, cast_row, global_row, named_row, result_row, called_row, behind, constant_row, reading_through, base_use, unary_row, row_at}}
 use Rattle.sharc_mode.proofs.RowLemmas.{EndsBy, ends_by}
 
 abbrev pub AllWithin : ℕ → List Link → Type 0

@@ -2,7 +2,6 @@
 use Rattle.std.specs.Prelude.{◌==◌, Bool, false, ◌&&◌, List, [], ◌∷◌, Option, Some, None, if◌then◌else◌}
 use Rattle.sharc_tree.specs.declared.ctype.Mode.{Mode}
 use Rattle.sharc_tree.specs.declared.ctype.Mode.TheVariants.{Private, Readonly, Locked, Racy, Dynamic}
-use Rattle.sharc_tree.specs.declared.ctype.Base.TheVariants as base
 use Rattle.sharc_tree.specs.declared.tree.declaration.WrittenType.{WrittenType}
 use Rattle.sharc_tree.specs.declared.tree.declaration.Declaration.{Declaration}
 use Rattle.sharc_tree.specs.declared.tree.item.GlobalDefinition.{GlobalDefinition}
@@ -11,14 +10,12 @@ use Rattle.sharc_tree.specs.declared.tree.expression.Access.TheVariants.{Dot, Ar
 use Rattle.sharc_tree.specs.declared.tree.expression.UnaryOperator.{UnaryOperator}
 use Rattle.sharc_tree.specs.declared.tree.expression.UnaryOperator.TheVariants.{Negate, Not, Complement, Dereference}
 use Rattle.sharc_tree.specs.Tree.{Expression, identifier, constant, parentheses, call, spawn, on_value, on_place, cast, index, field, unary, binary}
-use Rattle.sharc_names.specs.declared.fault.Named.{Named}
+use Rattle.sharc_tree.specs.declared.ctype.Base.TheVariants as base
+use Rattle.sharc_names.specs.{declared.fault.Named.Named, Kinds.{Kind, object, is_array, is_pointer, declared_kind}}
 use Rattle.sharc_names.specs.declared.fault.Named.TheVariants as named
-use Rattle.sharc_names.specs.Kinds.{Kind, object, is_array, is_pointer, declared_kind}
 use Rattle.sharc_ctype.specs.Resolved.{Resolution, named_at, global_at, declaration_at, named_kind, kind_at}
-use Rattle.sharc_ctype.specs.declared.entity.Numbered.{Numbered}
-use Rattle.sharc_ctype.specs.Entities.{entity_at}
-use Rattle.sharc_mode.specs.Moded.{Assignment, mode_at}
-use Rattle.sharc_mode.specs.Rows.{Targets, modes_of, row_at}
+use Rattle.sharc_ctype.specs.{declared.entity.Numbered.Numbered, Entities.entity_at}
+use Rattle.sharc_mode.specs.{Moded.{Assignment, mode_at}, Rows.{Targets, modes_of, row_at}}
 use Rattle.sharc_mode.specs.Sharings.{Lock, Sharing, private, readonly, locked, racy, dynamic, lock_of, is_private, is_sibling_lock}
 
 -- an object of C type mutex

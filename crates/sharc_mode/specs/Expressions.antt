@@ -1,15 +1,12 @@
 -- What is to be said of each expression and statement: one clause for each production.
-use Rattle.std.specs.Prelude.{ℕ, List, [], ◌∷◌, ◌++◌, drop, Option, Some, None}
-use Rattle.std.specs.List.{flat_map}
+use Rattle.std.specs.{Prelude.{ℕ, List, [], ◌∷◌, ◌++◌, drop, Option, Some, None}, List.flat_map}
 use Rattle.sharc_tree.specs.declared.tree.declaration.Declaration.{Declaration}
 use Rattle.sharc_tree.specs.declared.tree.expression.PlaceCall.{PlaceCall}
 use Rattle.sharc_tree.specs.declared.tree.expression.PlaceCall.TheVariants.{Lock, Unlock, Free}
 use Rattle.sharc_tree.specs.Tree.{Expression, identifier, constant, parentheses, call, spawn, on_value, on_place, cast, index, field, unary, binary, Arguments, no_arguments, argument, Right, value, malloc, Simple, assign, does_call, Local, First, nothing, declares, does, Head, Statement, Statements, no_statements, statement, Function, Item, structure, global, function}
 use Rattle.sharc_tree.specs.Tree as tree
-use Rattle.sharc_ctype.specs.Resolved.{named_at}
-use Rattle.sharc_ctype.specs.Transfers.{parameters_named}
-use Rattle.sharc_mode.specs.declared.finding.Finding.{Finding}
-use Rattle.sharc_mode.specs.Moded.{Assignment}
+use Rattle.sharc_ctype.specs.{Resolved.named_at, Transfers.parameters_named}
+use Rattle.sharc_mode.specs.{declared.finding.Finding.Finding, Moded.Assignment}
 use Rattle.sharc_mode.specs.Notes.{agree_notes, write_notes, call_notes, cast_notes, source_notes, field_notes}
 use Rattle.sharc_mode.specs.Rows.{written, at_call, base_use, declared_row, cast_row, named_row, modes_of, modes_at}
 use Rattle.sharc_mode.specs.Sharings.{Sharing}

@@ -3,27 +3,21 @@ use Rattle.std.specs.Prelude.{◌≡◌, ◌⊎◌, ℕ, ◌-◌, ◌<◌, ◌�
 use Rattle.std.specs.List.{flat_map}
 use Rattle.sharc_tree.specs.declared.ctype.Mode.{Mode}
 use Rattle.sharc_tree.specs.declared.ctype.Mode.TheVariants.{Private, Readonly, Locked, Racy, Dynamic}
-use Rattle.sharc_tree.specs.declared.tree.declaration.Declaration.{Declaration}
-use Rattle.sharc_tree.specs.Measures.{in_function}
+use Rattle.sharc_tree.specs.{declared.tree.declaration.Declaration.Declaration, Measures.in_function}
 use Rattle.sharc_tree.specs.Tree.{Expression, cast, Right, value, malloc, Function, Item, structure, global, function}
 use Rattle.sharc_graph.specs.declared.graph.Finding.{Finding}
-use Rattle.sharc_graph.specs.declared.graph.Finding.TheVariants.{Apart, Source, Behind}
-use Rattle.sharc_graph.specs.Findings.{finding_at}
-use Rattle.sharc_constraints.specs.declared.place.Place.{Place}
+use Rattle.sharc_graph.specs.{declared.graph.Finding.TheVariants.{Apart, Source, Behind}, Findings.finding_at}
+use Rattle.sharc_constraints.specs.{declared.place.Place.Place, declared.place.Link.Link}
+use Rattle.sharc_constraints.specs.{Flow.{flow_of, place_at, AreInferred}, Make.{equal_links, below_links}}
 use Rattle.sharc_constraints.specs.declared.place.Place.TheVariants as place
-use Rattle.sharc_constraints.specs.declared.place.Link.{Link}
-use Rattle.sharc_constraints.specs.Flow.{flow_of, place_at, AreInferred}
-use Rattle.sharc_constraints.specs.Make.{equal_links, below_links}
-use Rattle.sharc_ctype.specs.Reaches.{Spawns, IsReached, NamesGlobal}
-use Rattle.sharc_ctype.specs.Resolved.{Resolution, global_at, function_at}
+use Rattle.sharc_ctype.specs.{Reaches.{Spawns, IsReached, NamesGlobal}, Resolved.{Resolution, global_at, function_at}}
 use Rattle.sharc_ctype.specs.Transfers.{Receiver, lvalue, variable, result, Transfer, function_transfers}
 use Rattle.sharc_ctype.specs.declared.entity.Numbered.{Numbered}
+use Rattle.sharc_ctype.specs.Entities.{entities_in, numbered, entity_at, positions_of}
 use Rattle.sharc_mode.specs.declared.position.Reason.{Reason}
 use Rattle.sharc_mode.specs.declared.position.Reason.TheVariants.{Touched, Spawned, From}
-use Rattle.sharc_ctype.specs.Entities.{entities_in, numbered, entity_at, positions_of}
 use Rattle.sharc_mode.specs.Moded.{Assignment, position_count, reason_at}
-use Rattle.sharc_mode.specs.Rows.{Targets, written, declared_row, cast_row, row_at, behind}
-use Rattle.sharc_mode.specs.Settled.{settled_at}
+use Rattle.sharc_mode.specs.{Rows.{Targets, written, declared_row, cast_row, row_at, behind}, Settled.settled_at}
 
 -- ---- roots: the first position of what this token declares, where its type has one
 

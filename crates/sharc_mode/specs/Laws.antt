@@ -1,18 +1,12 @@
 -- What the definitions of this crate are to those who argue with them.
 use Rattle.std.specs.Prelude.{◌≡◌, ◌⊎◌, ◌↔◌, ℕ, ◌<◌, Bool, true, false, List, length, slice_index_or, Some, None, Contains, All}
-use Rattle.sharc_tree.specs.declared.ctype.Mode.{Mode}
-use Rattle.sharc_tree.specs.declared.ctype.Mode.TheVariants.{Private, Dynamic}
-use Rattle.sharc_ctype.specs.Entities.{entities_in}
-use Rattle.sharc_ctype.specs.Resolved.{Resolution}
+use Rattle.sharc_tree.specs.{declared.ctype.Mode.Mode, declared.ctype.Mode.TheVariants.{Private, Dynamic}}
+use Rattle.sharc_ctype.specs.{Entities.entities_in, Resolved.Resolution}
 use Rattle.sharc_graph.specs.Paths.{IsWithin}
-use Rattle.sharc_constraints.specs.declared.place.Link.{Link}
-use Rattle.sharc_constraints.specs.Flow.{link_of}
-use Rattle.sharc_mode.specs.declared.error.ModeError.{ModeError}
-use Rattle.sharc_mode.specs.Flows.{IsLeastAssignment, links_of}
-use Rattle.sharc_mode.specs.Moded.{Assignment, position_count, reason_at}
-use Rattle.sharc_mode.specs.Pairs.{AreEquated, IsBelow, IsEnough}
-use Rattle.sharc_mode.specs.Sharings.{sharing_of, is_dynamic}
-use Rattle.sharc_mode.specs.Settled.{settled_in, settled_at}
+use Rattle.sharc_constraints.specs.{declared.place.Link.Link, Flow.link_of}
+use Rattle.sharc_mode.specs.{declared.error.ModeError.ModeError, Flows.{IsLeastAssignment, links_of}}
+use Rattle.sharc_mode.specs.{Moded.{Assignment, position_count, reason_at}, Pairs.{AreEquated, IsBelow, IsEnough}}
+use Rattle.sharc_mode.specs.{Sharings.{sharing_of, is_dynamic}, Settled.{settled_in, settled_at}}
 use Rattle.sharc_mode.specs.WellModed.{AreModeErrors}
 
 -- the least assignment leaves what is settled, and gives no reason for it

@@ -1,11 +1,8 @@
 -- A typed program with a mode for each of its positions.
 use Rattle.std.specs.Prelude.{ℕ, ◌≡◌, List, length, slice_index_or, Option, None}
-use Rattle.sharc_tree.specs.declared.ctype.Mode.{Mode}
-use Rattle.sharc_tree.specs.declared.ctype.Mode.TheVariants.{Private}
-use Rattle.sharc_ctype.specs.Resolved.{Resolution}
-use Rattle.sharc_ctype.specs.Entities.{entities_in, positions_in}
-use Rattle.sharc_mode.specs.declared.position.Reason.{Reason}
-use Rattle.sharc_mode.specs.Sharings.{Sharing, sharing_of}
+use Rattle.sharc_tree.specs.{declared.ctype.Mode.Mode, declared.ctype.Mode.TheVariants.Private}
+use Rattle.sharc_ctype.specs.{Resolved.Resolution, Entities.{entities_in, positions_in}}
+use Rattle.sharc_mode.specs.{declared.position.Reason.Reason, Sharings.{Sharing, sharing_of}}
 
 -- the modes by position, and why those are dynamic that were inferred to be
 pub record Assignment : Type 0 where

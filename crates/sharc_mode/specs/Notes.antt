@@ -1,31 +1,20 @@
 -- What is to be said of each construct: the cases M1 to M11, and which variables and globals lock paths name.
 use Rattle.std.specs.Prelude.{ℕ, ◌+◌, ◌==◌, Bool, true, false, ◌||◌, List, [], ◌∷◌, ◌++◌, drop, take, map, slice_range, Option, Some, None, if◌then◌else◌}
-use Rattle.std.specs.List.{flat_map, list_any}
-use Rattle.std.specs.Option.{option_or}
-use Rattle.sharc_tree.specs.declared.ctype.Base.{Base}
-use Rattle.sharc_tree.specs.declared.ctype.Base.TheVariants as base
-use Rattle.sharc_tree.specs.declared.ctype.CType.{CType}
-use Rattle.sharc_tree.specs.declared.ctype.Path.{Path}
-use Rattle.sharc_tree.specs.declared.ctype.Mode.{Mode}
-use Rattle.sharc_tree.specs.declared.ctype.Mode.TheVariants.{Private}
-use Rattle.sharc_tree.specs.declared.token.Span.{Span}
-use Rattle.sharc_tree.specs.declared.tree.declaration.Declaration.{Declaration}
-use Rattle.sharc_tree.specs.Forms.{without_parentheses}
-use Rattle.sharc_tree.specs.Spans.{span_of}
-use Rattle.sharc_tree.specs.Texts.{path_text, mode_text, tokens_text}
+use Rattle.std.specs.{List.{flat_map, list_any}, Option.option_or}
+use Rattle.sharc_tree.specs.{declared.ctype.Base.Base, declared.ctype.CType.CType, declared.ctype.Path.Path}
+use Rattle.sharc_tree.specs.{declared.ctype.Mode.Mode, declared.ctype.Mode.TheVariants.Private}
+use Rattle.sharc_tree.specs.{declared.token.Span.Span, declared.tree.declaration.Declaration.Declaration}
+use Rattle.sharc_tree.specs.{Forms.without_parentheses, Spans.span_of, Texts.{path_text, mode_text, tokens_text}}
 use Rattle.sharc_tree.specs.Tree.{Expression, identifier, Arguments}
-use Rattle.sharc_names.specs.declared.types.Role.{Role}
+use Rattle.sharc_tree.specs.declared.ctype.Base.TheVariants as base
+use Rattle.sharc_names.specs.{declared.types.Role.Role, Kinds.{Kind, object, array, null, function}}
 use Rattle.sharc_names.specs.declared.types.Role.TheVariants as role
-use Rattle.sharc_names.specs.Kinds.{Kind, object, array, null, function}
-use Rattle.sharc_ctype.specs.Resolved.{Resolution, named_at, kind_at}
-use Rattle.sharc_ctype.specs.declared.entity.Numbered.{Numbered}
+use Rattle.sharc_ctype.specs.{Resolved.{Resolution, named_at, kind_at}, declared.entity.Numbered.Numbered}
+use Rattle.sharc_ctype.specs.Entities.{positions_of}
 use Rattle.sharc_mode.specs.declared.error.ErrorCode.{ErrorCode}
 use Rattle.sharc_mode.specs.declared.error.ErrorCode.TheVariants.{ModeMismatch, ReadonlyWrite, PrivateTarget, LockPathNotConstant, ModeNotAllowed, PrivateField, CastChangesInnerMode, ReadonlySource, NamedByLockPath, NeedsConstantBase}
-use Rattle.sharc_mode.specs.declared.error.ModeError.{ModeError}
-use Rattle.sharc_mode.specs.declared.finding.Finding.{Finding}
-use Rattle.sharc_mode.specs.declared.finding.Finding.TheVariants.{Wrong, Names, Takes}
-use Rattle.sharc_mode.specs.Cells.{cell_at, top_of}
-use Rattle.sharc_ctype.specs.Entities.{positions_of}
+use Rattle.sharc_mode.specs.{declared.error.ModeError.ModeError, declared.finding.Finding.Finding}
+use Rattle.sharc_mode.specs.{declared.finding.Finding.TheVariants.{Wrong, Names, Takes}, Cells.{cell_at, top_of}}
 use Rattle.sharc_mode.specs.Moded.{Assignment}
 use Rattle.sharc_mode.specs.Rows.{Reading, written, at_call, read, modes_of, modes_at, declared_row, argument_use, path_variable}
 use Rattle.sharc_mode.specs.Sharings.{Lock, Sharing, private, readonly, locked, racy, dynamic, sharing_of, path_of, mode_of, text_at, same_all, is_readonly, is_sibling, variable_named, object_named, object_of}

@@ -1,17 +1,11 @@
 -- Which positions the links join, in the words of the rule, and which assignments of dynamic are enough.
 use Rattle.std.specs.Prelude.{◌≡◌, ◌⊎◌, ℕ, ◌+◌, ◌<◌, Bool, true, false, Option, Some, None, Contains}
-use Rattle.sharc_tree.specs.declared.ctype.Mode.{Mode}
-use Rattle.sharc_tree.specs.declared.ctype.Mode.TheVariants.{Private, Dynamic}
-use Rattle.sharc_tree.specs.declared.token.Span.{Span}
-use Rattle.sharc_tree.specs.declared.tree.declaration.WrittenType.{WrittenType}
-use Rattle.sharc_tree.specs.Measures.{in_function}
-use Rattle.sharc_tree.specs.Tree.{Expression, cast, Function, function}
-use Rattle.sharc_ctype.specs.Entities.{entities_in, numbered, positions_of}
-use Rattle.sharc_ctype.specs.Resolved.{Resolution}
-use Rattle.sharc_ctype.specs.Transfers.{Transfer, function_transfers}
-use Rattle.sharc_ctype.specs.declared.entity.Numbered.{Numbered}
-use Rattle.sharc_mode.specs.Flows.{IsRoot, receiver_row, source_row}
-use Rattle.sharc_mode.specs.Rows.{Targets, cast_row, row_at, behind}
+use Rattle.sharc_tree.specs.{declared.ctype.Mode.Mode, declared.ctype.Mode.TheVariants.{Private, Dynamic}}
+use Rattle.sharc_tree.specs.{declared.token.Span.Span, declared.tree.declaration.WrittenType.WrittenType}
+use Rattle.sharc_tree.specs.{Measures.in_function, Tree.{Expression, cast, Function, function}}
+use Rattle.sharc_ctype.specs.{Entities.{entities_in, numbered, positions_of}, Resolved.Resolution}
+use Rattle.sharc_ctype.specs.{Transfers.{Transfer, function_transfers}, declared.entity.Numbered.Numbered}
+use Rattle.sharc_mode.specs.{Flows.{IsRoot, receiver_row, source_row}, Rows.{Targets, cast_row, row_at, behind}}
 use Rattle.sharc_mode.specs.Settled.{settled_at}
 
 -- the targets of the types of what is assigned, initialised, passed, spawned with or returned and of what it is given, from depth 1 on

@@ -1,8 +1,6 @@
 -- What rows of positions are to those who go over them.
 use Rattle.std.specs.Prelude.{◌≡◌, ℕ, ◌+◌, ◌<◌, ◌≤◌, [], ◌∷◌, length, drop, Some}
-use Rattle.sharc_mode.specs.Cells.{pointed}
-use Rattle.sharc_mode.specs.Moded.{Assignment}
-use Rattle.sharc_mode.specs.Rows.{Targets, deeper, modes_of}
+use Rattle.sharc_mode.specs.{Cells.pointed, Moded.Assignment, Rows.{Targets, deeper, modes_of}}
 
 -- a row of some positions is its first target, and what that points to in turn
 abbrev pub BeginsWithTarget : Type 0

@@ -1,7 +1,6 @@
 -- What an expression points to: positions of some declared type, and how their lock paths are read where it is used.
 use Rattle.std.specs.Prelude.{ℕ, ◌+◌, ◌-◌, ◌==◌, Bool, false, List, [], ◌∷◌, take, drop, map, option_map, Option, Some, None, is_some, if◌then◌else◌}
-use Rattle.sharc_tree.specs.declared.token.Span.{Span}
-use Rattle.sharc_tree.specs.declared.tree.declaration.Declaration.{Declaration}
+use Rattle.sharc_tree.specs.{declared.token.Span.Span, declared.tree.declaration.Declaration.Declaration}
 use Rattle.sharc_tree.specs.declared.tree.item.GlobalDefinition.{GlobalDefinition}
 use Rattle.sharc_tree.specs.declared.tree.expression.Access.{Access}
 use Rattle.sharc_tree.specs.declared.tree.expression.Access.TheVariants.{Dot, Arrow}
@@ -10,14 +9,11 @@ use Rattle.sharc_tree.specs.declared.tree.expression.UnaryOperator.TheVariants.{
 use Rattle.sharc_tree.specs.declared.tree.expression.Constant.{Constant}
 use Rattle.sharc_tree.specs.declared.tree.expression.Constant.TheVariants.{Number, Character, Null}
 use Rattle.sharc_tree.specs.Tree.{Expression, identifier, constant, parentheses, call, spawn, on_value, on_place, cast, index, field, unary, binary, Arguments, no_arguments, argument, Function}
-use Rattle.sharc_names.specs.declared.fault.Named.{Named}
+use Rattle.sharc_names.specs.{declared.fault.Named.Named, declared.types.Role.Role, Kinds.is_array}
 use Rattle.sharc_names.specs.declared.fault.Named.TheVariants as named
-use Rattle.sharc_names.specs.declared.types.Role.{Role}
 use Rattle.sharc_names.specs.declared.types.Role.TheVariants as role
-use Rattle.sharc_names.specs.Kinds.{is_array}
 use Rattle.sharc_ctype.specs.Resolved.{Resolution, named_at, global_at, function_at, kind_at}
-use Rattle.sharc_ctype.specs.declared.entity.Numbered.{Numbered}
-use Rattle.sharc_ctype.specs.Entities.{entity_at, positions_of}
+use Rattle.sharc_ctype.specs.{declared.entity.Numbered.Numbered, Entities.{entity_at, positions_of}}
 use Rattle.sharc_ctype.specs.Constants.{is_constant}
 use Rattle.sharc_mode.specs.Moded.{Assignment}
 use Rattle.sharc_mode.specs.Sharings.{Lock, Sharing, private, readonly, locked, racy, dynamic, sharing_of, text_at, is_sibling_lock, variable_of}

@@ -1,15 +1,12 @@
 -- What is settled of a position before any inference: what is written there, and what is meant where nothing is.
 use Rattle.std.specs.Prelude.{ℕ, Bool, true, false, List, [], ◌∷◌, ◌++◌, slice_index_or, Option, Some, None, if◌then◌else◌}
 use Rattle.std.specs.Option.{option_or}
-use Rattle.sharc_tree.specs.declared.ctype.Base.{Base}
-use Rattle.sharc_tree.specs.declared.ctype.Base.TheVariants as base
-use Rattle.sharc_tree.specs.declared.ctype.Mode.{Mode}
+use Rattle.sharc_tree.specs.{declared.ctype.Base.Base, declared.ctype.Mode.Mode}
 use Rattle.sharc_tree.specs.declared.ctype.Mode.TheVariants.{Private, Racy, Dynamic}
+use Rattle.sharc_tree.specs.declared.ctype.Base.TheVariants as base
 use Rattle.sharc_names.specs.declared.types.Role.{Role}
 use Rattle.sharc_names.specs.declared.types.Role.TheVariants as role
-use Rattle.sharc_ctype.specs.Resolved.{Resolution}
-use Rattle.sharc_ctype.specs.declared.entity.Entity.{Entity}
-use Rattle.sharc_ctype.specs.Entities.{entities_in, written_modes}
+use Rattle.sharc_ctype.specs.{Resolved.Resolution, declared.entity.Entity.Entity, Entities.{entities_in, written_modes}}
 
 -- a level of C type mutex: the last of a type with that base
 abbrev pub is_mutex : Base → List (Option Mode) → Bool

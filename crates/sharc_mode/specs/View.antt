@@ -1,18 +1,15 @@
 -- What the code's values stand for.
-use Rattle.std.specs.Prelude.{ℕ, ◌+◌, ◌≤◌, List, Option, Some, None}
-use Rattle.std.specs.Borrow.{Bor}
-use Rattle.sharc_tree.specs.Tree.{argument, no_arguments}
-use Rattle.sharc_tree.specs.View.{view_expr, view_arguments}
+use Rattle.std.specs.{Prelude.{ℕ, ◌+◌, ◌≤◌, List, Option, Some, None}, Borrow.Bor}
+use Rattle.sharc_tree.specs.{Tree.{argument, no_arguments}, View.{view_expr, view_arguments}}
 use Rattle.sharc_mode.specs.declared.sharing.Lock.{Lock as RustLock}
 use Rattle.sharc_mode.specs.declared.sharing.Sharing.{Sharing as RustSharing}
 use Rattle.sharc_mode.specs.declared.sharing.Sharing.TheVariants.{Private, Readonly, Locked, Racy, Dynamic}
 use Rattle.sharc_mode.specs.declared.row.Reading.{Reading as RustReading}
 use Rattle.sharc_mode.specs.declared.row.Reading.TheVariants.{Written, Through, Call, Spawn}
-use Rattle.sharc_mode.specs.declared.row.Targets.{Targets as RustTargets}
-use Rattle.sharc_ctype.specs.Resolved.{Resolution}
-use Rattle.sharc_mode.specs.Moded.{position_count}
+use Rattle.sharc_mode.specs.{declared.row.Targets.{Targets as RustTargets}, Moded.position_count}
 use Rattle.sharc_mode.specs.Rows.{Reading, written, through, at_call, Targets}
 use Rattle.sharc_mode.specs.Sharings.{Lock, Sharing, private, readonly, locked, racy, dynamic}
+use Rattle.sharc_ctype.specs.Resolved.{Resolution}
 
 abbrev pub view_name : Option (Bor (List ℕ)) → Option (List ℕ)
 view_name None = None

@@ -1,28 +1,23 @@
 -- Types in which modes are not placed as they may be: M3, M4 and M5.
 use Rattle.std.specs.Prelude.{ℕ, Bool, true, false, ◌&&◌, ◌||◌, ◌==◌, not, List, [], ◌∷◌, Option, Some, None, is_some, if◌then◌else◌}
 use Rattle.std.specs.Option.{option_or}
-use Rattle.sharc_tree.specs.declared.ctype.Base.{Base}
-use Rattle.sharc_tree.specs.declared.ctype.Base.TheVariants as base
-use Rattle.sharc_tree.specs.declared.ctype.CType.{CType}
-use Rattle.sharc_tree.specs.declared.ctype.Path.{Path}
+use Rattle.sharc_tree.specs.{declared.ctype.Base.Base, declared.ctype.CType.CType, declared.ctype.Path.Path}
 use Rattle.sharc_tree.specs.declared.ctype.Mode.{Mode}
 use Rattle.sharc_tree.specs.declared.ctype.Mode.TheVariants.{Private, Readonly, Locked, Racy}
 use Rattle.sharc_tree.specs.declared.tree.declaration.Declaration.{Declaration}
 use Rattle.sharc_tree.specs.declared.tree.item.StructDefinition.{StructDefinition}
-use Rattle.sharc_names.specs.declared.fault.Named.{Named}
-use Rattle.sharc_names.specs.declared.fault.Named.TheVariants as named
-use Rattle.sharc_names.specs.declared.types.Role.{Role}
-use Rattle.sharc_names.specs.declared.types.Role.TheVariants as role
-use Rattle.sharc_names.specs.Kinds.{Kind, object, declared_kind}
+use Rattle.sharc_tree.specs.declared.ctype.Base.TheVariants as base
+use Rattle.sharc_names.specs.{declared.fault.Named.Named, declared.types.Role.Role, Kinds.{Kind, object, declared_kind}}
 use Rattle.sharc_names.specs.Names.{field_of}
+use Rattle.sharc_names.specs.declared.fault.Named.TheVariants as named
+use Rattle.sharc_names.specs.declared.types.Role.TheVariants as role
 use Rattle.sharc_ctype.specs.Resolved.{Resolution, named_at, struct_at, declaration_at, named_kind}
+use Rattle.sharc_ctype.specs.Constants.{is_constant}
 use Rattle.sharc_mode.specs.declared.error.ErrorCode.{ErrorCode}
 use Rattle.sharc_mode.specs.declared.error.ErrorCode.TheVariants.{PrivateTarget, LockPathNotConstant, ModeNotAllowed}
 use Rattle.sharc_mode.specs.declared.place.Place.{Place}
 use Rattle.sharc_mode.specs.declared.place.Place.TheVariants.{Global, Field, Local, Result}
-use Rattle.sharc_ctype.specs.Constants.{is_constant}
-use Rattle.sharc_mode.specs.Cells.{is_mutex_kind, top_of}
-use Rattle.sharc_mode.specs.Settled.{is_mutex, settled, field_target}
+use Rattle.sharc_mode.specs.{Cells.{is_mutex_kind, top_of}, Settled.{is_mutex, settled, field_target}}
 use Rattle.sharc_mode.specs.Sharings.{Lock, lock_of}
 
 -- `Local` stands for locals, parameters and casts

@@ -2,23 +2,17 @@
 use Rattle.std.specs.Prelude.{◌≡◌, ◌↔◌, IsTrue, ℕ, ◌+◌, ◌==◌, Bool, false, ◌&&◌, List, [], ◌∷◌, ◌++◌, if◌then◌else◌}
 use Rattle.std.specs.List.{flat_map, list_any}
 use Rattle.sharc_tree.specs.declared.tree.declaration.Declaration.{Declaration}
-use Rattle.sharc_tree.specs.declared.tree.item.GlobalDefinition.{GlobalDefinition}
-use Rattle.sharc_tree.specs.Measures.{in_function}
-use Rattle.sharc_tree.specs.Tree.{Function}
+use Rattle.sharc_tree.specs.{declared.tree.item.GlobalDefinition.GlobalDefinition, Measures.in_function, Tree.Function}
 use Rattle.sharc_names.specs.declared.fault.Named.{Named}
 use Rattle.sharc_names.specs.declared.fault.Named.TheVariants as named
 use Rattle.sharc_ctype.specs.Reaches.{of_all, spawns, IsTouched}
 use Rattle.sharc_ctype.specs.Resolved.{Resolution, named_at, globals_in, functions_in}
-use Rattle.sharc_mode.specs.declared.error.ErrorCode.TheVariants.{PrivateReachesThread}
-use Rattle.sharc_mode.specs.declared.error.ModeError.{ModeError}
-use Rattle.sharc_mode.specs.declared.finding.Finding.{Finding}
-use Rattle.sharc_mode.specs.Cells.{top_of}
 use Rattle.sharc_ctype.specs.Entities.{entities_in, numbered}
-use Rattle.sharc_mode.specs.Expressions.{items_notes}
-use Rattle.sharc_mode.specs.Moded.{Assignment}
+use Rattle.sharc_mode.specs.declared.error.ErrorCode.TheVariants.{PrivateReachesThread}
+use Rattle.sharc_mode.specs.{declared.error.ModeError.ModeError, declared.finding.Finding.Finding, Cells.top_of}
+use Rattle.sharc_mode.specs.{Expressions.items_notes, Moded.Assignment}
 use Rattle.sharc_mode.specs.Notes.{error_where, type_notes, errors_of, is_private_level}
-use Rattle.sharc_mode.specs.Rows.{written, declared_row, modes_of}
-use Rattle.sharc_mode.specs.Sharings.{Sharing, is_private}
+use Rattle.sharc_mode.specs.{Rows.{written, declared_row, modes_of}, Sharings.{Sharing, is_private}}
 
 -- M7: the target of a spawned function's parameter is private, or a touched global has the written top mode private
 

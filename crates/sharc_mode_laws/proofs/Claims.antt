@@ -1,21 +1,11 @@
 -- What holds of each note of a short list, by what the list is made of, there and back.
-use Rattle.std.proofs.Common.{◌≡◌, ℕ, Bool, true, false, cond, List, [], ◌∷◌, refl, ap, ◌∙◌, subst, drop, Option, Some, None, Contains}
-use Rattle.std.proofs.lemmas.Bool.{false≢true, true≢false}
+use Rattle.std.proofs.{Common.{◌≡◌, ℕ, Bool, true, false, cond, List, [], ◌∷◌, refl, ap, ◌∙◌, subst, drop, Option, Some, None, Contains}, lemmas.Bool.{false≢true, true≢false}}
 use Rattle.std.specs.List.{AllByRecursion, flat_map}
-use Rattle.sharc_tree.specs.declared.ctype.Base.{Base}
-use Rattle.sharc_tree.specs.declared.ctype.Mode.{Mode}
-use Rattle.sharc_tree.specs.declared.ctype.Mode.TheVariants.{Private, Readonly, Locked, Racy, Dynamic}
-use Rattle.sharc_tree.specs.declared.ctype.Path.{Path}
-use Rattle.sharc_tree.specs.declared.token.Span.{Span}
+use Rattle.sharc_tree.specs.{declared.ctype.Base.Base, declared.ctype.Mode.Mode, declared.ctype.Mode.TheVariants.{Private, Readonly, Locked, Racy, Dynamic}, declared.ctype.Path.Path, declared.token.Span.Span}
 use Rattle.sharc_ctype.specs.Resolved.{Resolution}
-use Rattle.sharc_mode.specs.declared.error.ErrorCode.{ErrorCode}
-use Rattle.sharc_mode.specs.declared.error.ModeError.{ModeError}
-use Rattle.sharc_mode.specs.declared.finding.Finding.{Finding}
-use Rattle.sharc_mode.specs.declared.finding.Finding.TheVariants.{Wrong, Names, Takes}
-use Rattle.sharc_mode.specs.Notes.{error_where, agree, path_notes, mode_notes, names_of, names_in, names_in_all, names_in_level, names_read, takes, unmet_notes, cast_notes}
-use Rattle.sharc_mode.specs.Rows.{Reading, read_lock}
-use Rattle.sharc_mode.specs.Sharings.{Lock, Sharing, private, readonly, locked, racy, dynamic, lock_of, same_all, object_of}
-use Rattle.sharc_mode_laws.proofs.Lists.{of_each, to_each, spread, gather, same_some, none_some}
+use Rattle.sharc_mode.specs.{declared.error.ErrorCode.ErrorCode, declared.error.ModeError.ModeError, declared.finding.Finding.Finding, declared.finding.Finding.TheVariants.{Wrong, Names, Takes}, Notes.{error_where, agree, path_notes, mode_notes, names_of, names_in, names_in_all, names_in_level, names_read, takes, unmet_notes, cast_notes}, Rows.{Reading, read_lock}, Sharings.{Lock, Sharing, private, readonly, locked, racy, dynamic, lock_of, same_all, object_of}}
+use Rattle.sharc_mode_laws.proofs.Lists.{spread, gather}
+use Rattle.sharc_lemmas.proofs.{Options.{same_some, none_some}, Lists.{of_each, to_each}}
 
 -- where something is wrong, W; of what a path names, N; of what is taken, T
 abbrev pub Said : Type 0 → (ℕ → Type 0) → (ℕ → Type 0) → Finding → Type 0

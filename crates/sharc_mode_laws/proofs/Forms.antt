@@ -1,32 +1,16 @@
 -- Lock paths of the allowed forms, there and back.
-use Rattle.std.proofs.Common.{◌≡◌, ⊎_elim, ℕ, zero, suc, ◌+◌, ◌<◌, Bool, true, false, not, ◌||◌, List, [], ◌∷◌, length, slice_get, refl, ap, sym, ◌∙◌, arith, eqb-true, Option, Some, None}
-use Rattle.std.proofs.lemmas.Bool.{false≢true, true≢false, or_cases, and_parts, and_from}
-use Rattle.sharc_tree.specs.declared.ctype.Base.{Base}
+use Rattle.std.proofs.{Common.{◌≡◌, ⊎_elim, ℕ, zero, suc, ◌+◌, ◌<◌, Bool, true, false, not, ◌||◌, List, [], ◌∷◌, length, slice_get, refl, ap, sym, ◌∙◌, arith, eqb-true, Option, Some, None}, lemmas.Bool.{false≢true, true≢false, or_cases, and_parts, and_from, or_right, or_left, or_parts as or_false, or_from as false_or, not_from_true as false_not}}
+use Rattle.sharc_tree.specs.{declared.ctype.Base.Base, declared.ctype.Mode.Mode, declared.ctype.Mode.TheVariants.{Private, Readonly, Locked, Racy, Dynamic}, declared.ctype.Path.Path, declared.ctype.Path.TheVariants.{One, Through}, declared.tree.declaration.Declaration.Declaration, declared.tree.item.StructDefinition.StructDefinition}
 use Rattle.sharc_tree.specs.declared.ctype.Base.TheVariants as base
-use Rattle.sharc_tree.specs.declared.ctype.Mode.{Mode}
-use Rattle.sharc_tree.specs.declared.ctype.Mode.TheVariants.{Private, Readonly, Locked, Racy, Dynamic}
-use Rattle.sharc_tree.specs.declared.ctype.Path.{Path}
-use Rattle.sharc_tree.specs.declared.ctype.Path.TheVariants.{One, Through}
-use Rattle.sharc_tree.specs.declared.tree.declaration.Declaration.{Declaration}
-use Rattle.sharc_tree.specs.declared.tree.item.StructDefinition.{StructDefinition}
-use Rattle.sharc_names.specs.declared.fault.Named.{Named}
+use Rattle.sharc_names.specs.{declared.fault.Named.Named, Kinds.{Kind, object, array, null, mutex, declared_kind}, Names.field_of}
 use Rattle.sharc_names.specs.declared.fault.Named.TheVariants as named
-use Rattle.sharc_names.specs.Kinds.{Kind, object, array, null, mutex, declared_kind}
 use Rattle.sharc_names.specs.Kinds as kinds
-use Rattle.sharc_names.specs.Names.{field_of}
-use Rattle.sharc_ctype.specs.declared.entity.Entity.{Entity}
-use Rattle.sharc_ctype.specs.Constants.{is_constant}
-use Rattle.sharc_ctype.specs.Resolved.{Resolution, named_at, struct_at, declaration_at, named_kind}
-use Rattle.sharc_mode.specs.declared.place.Place.{Place}
+use Rattle.sharc_ctype.specs.{declared.entity.Entity.Entity, Constants.is_constant, Resolved.{Resolution, named_at, struct_at, declaration_at, named_kind}}
+use Rattle.sharc_mode.specs.{declared.place.Place.Place, Cells.{is_mutex_kind, top_of}, Settled.is_mutex, Sharings.lock_of, WellFormed.{place_of, names_global_mutex, names_sibling_mutex, is_mutex_pointer, is_readonly_top, is_readonly_lock, names_sibling_pointer, fields_of, fields_named, fields_behind, is_mutex_field, is_through_constant, allows_path, leaves_open, allows_pointer, path_fits, top_path_fits, unfit_path, unfit_top_path, unfit_path_in, first_unfit_path}}
 use Rattle.sharc_mode.specs.declared.place.Place.TheVariants as place
-use Rattle.sharc_mode.specs.Cells.{is_mutex_kind, top_of}
-use Rattle.sharc_mode.specs.Settled.{is_mutex}
-use Rattle.sharc_mode.specs.Sharings.{lock_of}
-use Rattle.sharc_mode.specs.WellFormed.{place_of, names_global_mutex, names_sibling_mutex, is_mutex_pointer, is_readonly_top, is_readonly_lock, names_sibling_pointer, fields_of, fields_named, fields_behind, is_mutex_field, is_through_constant, allows_path, leaves_open, allows_pointer, path_fits, top_path_fits, unfit_path, unfit_top_path, unfit_path_in, first_unfit_path}
-use Rattle.sharc_mode_laws.specs.Constructs.{IsWritten}
-use Rattle.sharc_mode_laws.specs.Paths.{IsMutexBehind, IsLockPointer, AreTargetsWritten, IsAllowed, global_mutex, sibling_mutex, sibling_pointer, through_constant}
-use Rattle.sharc_mode_laws.proofs.Lists.{or_left, or_right, same_some, none_some}
+use Rattle.sharc_mode_laws.specs.{Constructs.IsWritten, Paths.{IsMutexBehind, IsLockPointer, AreTargetsWritten, IsAllowed, global_mutex, sibling_mutex, sibling_pointer, through_constant}}
 use Rattle.sharc_mode_laws.proofs.Options.{or_none, none_or, unless_none, none_unless, none_of}
+use Rattle.sharc_lemmas.proofs.Options.{same_some, none_some}
 
 mutex_is : (k : Kind) → is_mutex_kind k ≡ true → k ≡ mutex
 mutex_is (object base.Int n) h = absurd (false≢true h)
@@ -76,21 +60,9 @@ base_level_by : (b : Base) (below : List (Option Mode)) → b ≡ base.Mutex →
 base_level_by b [] is size = ap (λ z. is_mutex z []) is
 base_level_by b (x ∷ below) is size = absurd (omega (arith, size))
 
-pub or_false : (a b : Bool) → (a || b) ≡ false → (a ≡ false) × (b ≡ false)
-or_false true b h = absurd (true≢false h)
-or_false false b h = (refl, h)
-
-pub false_or : (a b : Bool) → a ≡ false → b ≡ false → (a || b) ≡ false
-false_or true b h k = absurd (true≢false h)
-false_or false b h k = k
-
 not_false : (a : Bool) → not a ≡ false → a ≡ true
 not_false true h = refl
 not_false false h = absurd (true≢false h)
-
-false_not : (a : Bool) → a ≡ true → not a ≡ false
-false_not true h = refl
-false_not false h = absurd (false≢true h)
 
 closed_at : (b : Base) (below : List (Option Mode)) → leaves_open b below ≡ false → (j : ℕ) → slice_get below j ≡ Some None → (b ≡ base.Mutex) × (suc j ≡ length below)
 closed_at b [] h j is = absurd (none_some None is)

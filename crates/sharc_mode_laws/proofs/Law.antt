@@ -1,53 +1,18 @@
 -- A program is well-moded exactly where it meets the rules.
-use Rattle.std.proofs.Common.{◌≡◌, ◌↔◌, ℕ, ◌==◌, Bool, true, false, cond, List, [], ◌∷◌, ◌++◌, drop, refl, ap, sym, ◌∙◌, subst, eq-eqb, ne_eqb, Option, Some, None, Contains}
-use Rattle.std.proofs.lemmas.Bool.{false≢true, true≢false, and_parts, and_from}
+use Rattle.std.proofs.{Common.{◌≡◌, ◌↔◌, ℕ, ◌==◌, Bool, true, false, cond, List, [], ◌∷◌, ◌++◌, drop, refl, ap, sym, ◌∙◌, subst, eq-eqb, ne_eqb, Option, Some, None, Contains}, lemmas.Bool.{false≢true, true≢false, and_parts, and_from, true_from_ne_false as true_by, or_parts as or_false, or_from as false_or}}
 use Rattle.std.specs.List.{AllByRecursion, flat_map, list_any}
-use Rattle.sharc_tree.specs.declared.token.Span.{Span}
-use Rattle.sharc_tree.specs.declared.tree.declaration.Identifier.{Identifier}
-use Rattle.sharc_tree.specs.declared.tree.expression.Access.{Access}
-use Rattle.sharc_tree.specs.declared.tree.expression.Access.TheVariants.{Dot, Arrow}
-use Rattle.sharc_tree.specs.Forms.{without_parentheses}
-use Rattle.sharc_tree.specs.Tree.{Expression}
+use Rattle.sharc_tree.specs.{declared.token.Span.Span, declared.tree.declaration.Identifier.Identifier, declared.tree.expression.Access.Access, declared.tree.expression.Access.TheVariants.{Dot, Arrow}, Forms.without_parentheses, Tree.Expression}
 use Rattle.sharc_tree.specs.Tree as tree
 use Rattle.sharc_names.specs.declared.fault.Named.{Named}
 use Rattle.sharc_names.specs.declared.fault.Named.TheVariants as named
-use Rattle.sharc_ctype.specs.Constants.{is_constant}
-use Rattle.sharc_ctype.specs.Resolved.{Resolution, named_at}
-use Rattle.sharc_mode.specs.declared.error.ErrorCode.TheVariants.{NamedByLockPath}
-use Rattle.sharc_mode.specs.declared.finding.Finding.{Finding}
-use Rattle.sharc_mode.specs.declared.finding.Finding.TheVariants.{Wrong, Names, Takes}
-use Rattle.sharc_mode.specs.Cells.{cell_at, top_of}
-use Rattle.sharc_mode.specs.Moded.{Assignment}
-use Rattle.sharc_mode.specs.Notes.{is_private_level, error_where, is_named, error_of, errors_by, taken_variable}
-use Rattle.sharc_mode.specs.Rows.{written, is_constant_named, base_use, declared_row, cast_row, named_row, modes_of}
-use Rattle.sharc_mode.specs.Sharings.{Lock, Sharing, private, readonly, locked, racy, dynamic, is_readonly, same_all, is_sibling, is_sibling_lock, text_at, variable_named, object_named}
-use Rattle.sharc_mode.specs.WellModed.{WellModed, TellsTouched, mode_errors, notes_about}
-use Rattle.sharc_mode_laws.specs.Constructs.{IsExpression}
-use Rattle.sharc_mode_laws.specs.Paths.{IsThroughConstant, through, IsSiblingUse, IsNamedByPath, is_written, is_substituted, is_made}
-use Rattle.sharc_mode_laws.specs.Rules.{MeetsRules}
-use Rattle.sharc_mode_laws.proofs.Calls.{arguments_met, met_arguments}
-use Rattle.sharc_mode_laws.proofs.Claims.{Said}
-use Rattle.sharc_mode_laws.proofs.Forms.{or_false, false_or, forms_allowed, allowed_forms}
-use Rattle.sharc_mode_laws.proofs.Holds.{Holds, Facts, facts, from_facts, holds, from_holds}
+use Rattle.sharc_ctype.specs.{Constants.is_constant, Resolved.{Resolution, named_at}}
+use Rattle.sharc_mode.specs.{declared.error.ErrorCode.TheVariants.NamedByLockPath, declared.finding.Finding.Finding, declared.finding.Finding.TheVariants.{Wrong, Names, Takes}, Cells.{cell_at, top_of}, Moded.Assignment, Notes.{is_private_level, error_where, is_named, error_of, errors_by, taken_variable}, Rows.{written, is_constant_named, base_use, declared_row, cast_row, named_row, modes_of}, Sharings.{Lock, Sharing, private, readonly, locked, racy, dynamic, is_readonly, same_all, is_sibling, is_sibling_lock, text_at, variable_named, object_named}, WellModed.{WellModed, TellsTouched, mode_errors, notes_about}}
+use Rattle.sharc_mode_laws.specs.{Constructs.IsExpression, Paths.{IsThroughConstant, through, IsSiblingUse, IsNamedByPath, is_written, is_substituted, is_made}, Rules.MeetsRules}
+use Rattle.sharc_mode_laws.proofs.{Calls.{arguments_met, met_arguments}, Claims.Said, Forms.{forms_allowed, allowed_forms}, Holds.{Holds, facts, from_facts, holds, from_holds}, Levels.{above_none, none_above}, Lists.{passes_there, passes_by}, Modes.{level_is, modes_allowed, allowed_modes, no_private, private_none}, Threads.{spawned_by, by_spawned, private_target, target_private}, Touched.{touched, tells}}
 use Rattle.sharc_mode_laws.proofs.Holds as by_notes
-use Rattle.sharc_mode_laws.proofs.Levels.{above_none, none_above}
-use Rattle.sharc_mode_laws.proofs.Lists.{each, passes_there, passes_by, same_some, none_some}
-use Rattle.sharc_mode_laws.proofs.Modes.{level_is, modes_allowed, allowed_modes, no_private, private_none}
-use Rattle.sharc_mode_laws.proofs.Threads.{spawned_by, by_spawned, private_target, target_private}
-use Rattle.sharc_mode_laws.proofs.Touched.{touched, tells}
+use Rattle.sharc_lemmas.proofs.{Options.{same_some, none_some}, Lists.{each, no_head, none_of}, Bools.{not_ended as not_both}}
 
 -- ---- lists of errors
-
-no_head : {A : Type 0} (x : A) (rest : List A) → x ∷ rest ≡ [] → ⊥
-no_head x rest h = cc
-
-parts_of : {A : Type 0} (a b : List A) → a ++ b ≡ [] → (a ≡ []) × (b ≡ [])
-parts_of [] b h = (refl, h)
-parts_of (x ∷ rest) b h = absurd (no_head x (rest ++ b) h)
-
-none_of : {A B : Type 0} (f : A → List B) (xs : List A) → flat_map f xs ≡ [] → AllByRecursion (λ x. f x ≡ []) xs
-none_of f [] h = tt
-none_of f (x ∷ xs) h = let p = parts_of (f x) (flat_map f xs) h in (p.0, none_of f xs p.1)
 
 of_none : {A B : Type 0} (f : A → List B) (xs : List A) → AllByRecursion (λ x. f x ≡ []) xs → flat_map f xs ≡ []
 of_none f [] h = refl
@@ -106,13 +71,6 @@ fine_all m touched h =
     sym (of_none (errors_by m.typed notes) notes (each (Fine notes) (λ n. errors_by m.typed notes n ≡ []) (fine_silent m.typed notes) notes h))
 
 -- ---- small readings
-
-true_by : (b : Bool) → (b ≡ false → ⊥) → b ≡ true
-true_by true h = refl
-true_by false h = absurd (h refl)
-
-not_both : (b : Bool) → b ≡ true → b ≡ false → ⊥
-not_both b yes_is no_is = true≢false (sym yes_is ∙ no_is)
 
 readonly_is : (s : Sharing) → is_readonly s ≡ true → s ≡ readonly
 readonly_is private h = absurd (false≢true h)

@@ -1,20 +1,13 @@
 -- Levels above private targets, there and back.
-use Rattle.std.proofs.Common.{◌≡◌, ◌⊎◌, inl, inr, ⊎_elim, ℕ, zero, suc, ◌+◌, ◌<◌, Bool, true, false, not, ◌&&◌, List, [], ◌∷◌, ◌++◌, map, take, drop, slice_get, refl, ap, sym, ◌∙◌, arith, Option, Some, None}
-use Rattle.std.proofs.lemmas.Bool.{false≢true, true≢false, or_cases, and_parts}
+use Rattle.std.proofs.{Common.{◌≡◌, ◌⊎◌, inl, inr, ⊎_elim, ℕ, zero, suc, ◌+◌, ◌<◌, Bool, true, false, not, ◌&&◌, List, [], ◌∷◌, ◌++◌, map, take, drop, slice_get, refl, ap, sym, ◌∙◌, arith, Option, Some, None}, lemmas.Bool.{false≢true, true≢false, or_cases, and_parts, or_right, or_left}}
 use Rattle.std.specs.Option.{option_or}
-use Rattle.sharc_tree.specs.declared.ctype.Mode.{Mode}
-use Rattle.sharc_tree.specs.declared.ctype.Mode.TheVariants.{Private, Readonly, Locked, Racy, Dynamic}
+use Rattle.sharc_tree.specs.{declared.ctype.Mode.Mode, declared.ctype.Mode.TheVariants.{Private, Readonly, Locked, Racy, Dynamic}}
 use Rattle.sharc_names.specs.declared.types.Role.{Role}
 use Rattle.sharc_names.specs.declared.types.Role.TheVariants as role
-use Rattle.sharc_ctype.specs.declared.entity.Numbered.{Numbered}
-use Rattle.sharc_ctype.specs.Entities.{positions_of}
-use Rattle.sharc_mode.specs.Cells.{top_of}
-use Rattle.sharc_mode.specs.Moded.{Assignment}
-use Rattle.sharc_mode.specs.Notes.{top_levels, position_levels, levels_of}
-use Rattle.sharc_mode.specs.WellFormed.{is_private_mode, begins_private, holds_private}
-use Rattle.sharc_mode_laws.specs.Constructs.{IsEntity}
-use Rattle.sharc_mode_laws.specs.Rules.{NoneAbovePrivate}
-use Rattle.sharc_mode_laws.proofs.Lists.{or_left, or_right, same_some, none_some}
+use Rattle.sharc_ctype.specs.{declared.entity.Numbered.Numbered, Entities.positions_of}
+use Rattle.sharc_mode.specs.{Cells.top_of, Moded.Assignment, Notes.{top_levels, position_levels, levels_of}, WellFormed.{is_private_mode, begins_private, holds_private}}
+use Rattle.sharc_mode_laws.specs.{Constructs.IsEntity, Rules.NoneAbovePrivate}
+use Rattle.sharc_lemmas.proofs.{Options.{same_some, none_some}, Bools.{not_true as not_above}}
 
 -- ---- places in lists
 
@@ -84,10 +77,6 @@ begun_by (Some x ∷ below) h = ap (λ y. Some (Some y)) (private_is x h)
 above_by : (a b : Bool) → a ≡ false → b ≡ true → (not a && b) ≡ true
 above_by true b is h = absurd (true≢false is)
 above_by false b is h = h
-
-not_above : (a : Bool) → not a ≡ true → a ≡ false
-not_above true h = absurd (false≢true h)
-not_above false h = refl
 
 -- ---- levels
 

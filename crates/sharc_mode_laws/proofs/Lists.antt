@@ -1,23 +1,7 @@
 -- What holds of each element of a list, and what is an element.
-use Rattle.std.proofs.Common.{◌≡◌, ◌⊎◌, inl, inr, ⊎_elim, ℕ, zero, suc, ◌<◌, Bool, true, false, ◌||◌, List, [], ◌∷◌, ◌++◌, length, slice_index_or, slice_get, refl, ap, ◌∙◌, subst, arith, Some, None, Contains}
-use Rattle.std.proofs.lemmas.Bool.{false≢true, or_cases}
+use Rattle.std.proofs.{Common.{◌≡◌, ◌⊎◌, ⊎_elim, ◌<◌, Bool, true, false, ◌||◌, List, [], ◌∷◌, ◌++◌, ap, ◌∙◌, Contains}, lemmas.Bool.{false≢true, or_cases, or_right, or_left}}
 use Rattle.std.specs.List.{AllByRecursion, flat_map, list_any}
-
-pub both : {A : Type 0} (P : A → Type 0) (a b : List A) → AllByRecursion P a → AllByRecursion P b → AllByRecursion P (a ++ b)
-both P [] b ha hb = hb
-both P (x ∷ rest) b ha hb = (ha.0, both P rest b ha.1 hb)
-
-pub front : {A : Type 0} (P : A → Type 0) (a b : List A) → AllByRecursion P (a ++ b) → AllByRecursion P a
-front P [] b h = tt
-front P (x ∷ rest) b h = (h.0, front P rest b h.1)
-
-pub back : {A : Type 0} (P : A → Type 0) (a b : List A) → AllByRecursion P (a ++ b) → AllByRecursion P b
-back P [] b h = h
-back P (x ∷ rest) b h = back P rest b h.1
-
-pub each : {A : Type 0} (P Q : A → Type 0) → ((x : A) → P x → Q x) → (list : List A) → AllByRecursion P list → AllByRecursion Q list
-each P Q f [] h = tt
-each P Q f (x ∷ rest) h = (f x h.0, each P Q f rest h.1)
+use Rattle.sharc_lemmas.proofs.{Lists.{front, back, both, head_there, head_or_tail, tail_there}, Equal.none_there}
 
 pub spread : {A B : Type 0} (P : B → Type 0) (f : A → List B) (xs : List A) → AllByRecursion P (flat_map f xs) → AllByRecursion (λ x. AllByRecursion P (f x)) xs
 spread P f [] h = tt
@@ -29,48 +13,6 @@ gather P f (x ∷ xs) h = both P (f x) (flat_map f xs) h.0 (gather P f xs h.1)
 
 -- elements
 
-pub none_there : {A : Type 0} (x : A) → Contains [] x → ⊥
-none_there x (k, low, is) = omega (arith, low)
-
-pub head_there : {A : Type 0} (x : A) (rest : List A) → Contains (x ∷ rest) x
-head_there x rest = (zero, omega arith, refl)
-
-pub tail_there : {A : Type 0} (y x : A) (rest : List A) → Contains rest x → Contains (y ∷ rest) x
-tail_there y x rest has = let inside = has.1 in (suc has.0, omega arith, has.2)
-
-cases_at : {A : Type 0} (y x : A) (rest : List A) (k : ℕ) → k < length (y ∷ rest) → slice_index_or (y ∷ rest) k x ≡ x → (y ≡ x) ⊎ Contains rest x
-cases_at y x rest zero inside is = inl is
-cases_at y x rest (suc k) inside is = inr (k, omega arith, is)
-
-pub head_or_tail : {A : Type 0} (y x : A) (rest : List A) → Contains (y ∷ rest) x → (y ≡ x) ⊎ Contains rest x
-head_or_tail y x rest has = cases_at y x rest has.0 has.1 has.2
-
-pub of_each : {A : Type 0} (P : A → Type 0) (list : List A) (x : A) → AllByRecursion P list → Contains list x → P x
-of_each P [] x h has = absurd (none_there x has)
-of_each P (y ∷ rest) x h has = ⊎_elim (λ is. subst P is h.0) (λ later. of_each P rest x h.1 later) (head_or_tail y x rest has)
-
-pub to_each : {A : Type 0} (P : A → Type 0) (list : List A) → ((x : A) → Contains list x → P x) → AllByRecursion P list
-to_each P [] h = tt
-to_each P (y ∷ rest) h = (h y (head_there y rest), to_each P rest (λ x has. h x (tail_there y x rest has)))
-
-pub same_some : {A : Type 0} (x y : A) → Some x ≡ Some y → x ≡ y
-same_some x y h = cc
-
-pub none_some : {A : Type 0} (x : A) → None ≡ Some x → ⊥
-none_some x h = cc
-
-pub place_there : {A : Type 0} (list : List A) (k : ℕ) (x : A) → slice_get list k ≡ Some x → Contains list x
-place_there [] k x is = absurd (none_some x is)
-place_there (y ∷ rest) zero x is = subst (λ z. Contains (y ∷ rest) z) (same_some y x is) (head_there y rest)
-place_there (y ∷ rest) (suc k) x is = tail_there y x rest (place_there rest k x is)
-
-next_place : {A : Type 0} (y x : A) (rest : List A) → (k : ℕ) × (slice_get rest k ≡ Some x) → (k : ℕ) × (slice_get (y ∷ rest) k ≡ Some x)
-next_place y x rest found = (suc found.0, found.1)
-
-pub place_of_element : {A : Type 0} (list : List A) (x : A) → Contains list x → (k : ℕ) × (slice_get list k ≡ Some x)
-place_of_element [] x has = absurd (none_there x has)
-place_of_element (y ∷ rest) x has = ⊎_elim (λ is. (zero, ap Some is)) (λ later. next_place y x rest (place_of_element rest x later)) (head_or_tail y x rest has)
-
 -- tests
 
 next_passes : {A : Type 0} (p : A → Bool) (y : A) (rest : List A) → (x : A) × Contains rest x × (p x ≡ true) → (x : A) × Contains (y ∷ rest) x × (p x ≡ true)
@@ -79,14 +21,6 @@ next_passes p y rest found = (found.0, tail_there y found.0 rest found.1, found.
 pub passes_there : {A : Type 0} (p : A → Bool) (list : List A) → list_any p list ≡ true → (x : A) × Contains list x × (p x ≡ true)
 passes_there p [] h = absurd (false≢true h)
 passes_there p (y ∷ rest) h = ⊎_elim (λ is. (y, head_there y rest, is)) (λ later. next_passes p y rest (passes_there p rest later)) (or_cases (p y) (list_any p rest) h)
-
-pub or_left : (a b : Bool) → a ≡ true → (a || b) ≡ true
-or_left true b is = refl
-or_left false b is = absurd (false≢true is)
-
-pub or_right : (a b : Bool) → b ≡ true → (a || b) ≡ true
-or_right true b is = refl
-or_right false b is = is
 
 pub passes_by : {A : Type 0} (p : A → Bool) (list : List A) (x : A) → Contains list x → p x ≡ true → list_any p list ≡ true
 passes_by p [] x has is = absurd (none_there x has)

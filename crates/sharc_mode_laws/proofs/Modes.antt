@@ -1,23 +1,16 @@
 -- Modes that are where they may be, there and back.
-use Rattle.std.proofs.Common.{◌≡◌, ℕ, zero, suc, ◌+◌, ◌<◌, true, not, ◌&&◌, List, [], ◌∷◌, length, slice_get, refl, ap, sym, ◌∙◌, arith, Option, Some, None}
-use Rattle.std.proofs.lemmas.Bool.{false≢true, and_parts, and_from}
+use Rattle.std.proofs.{Common.{◌≡◌, ℕ, zero, suc, ◌+◌, ◌<◌, true, not, ◌&&◌, List, [], ◌∷◌, length, slice_get, refl, ap, sym, ◌∙◌, arith, Option, Some, None}, lemmas.Bool.{false≢true, and_parts, and_from}}
 use Rattle.std.specs.List.{list_any}
-use Rattle.sharc_tree.specs.declared.ctype.Base.{Base}
+use Rattle.sharc_tree.specs.{declared.ctype.Base.Base, declared.ctype.Mode.Mode, declared.ctype.Mode.TheVariants.{Private, Readonly, Locked, Racy, Dynamic}}
 use Rattle.sharc_tree.specs.declared.ctype.Base.TheVariants as base
-use Rattle.sharc_tree.specs.declared.ctype.Mode.{Mode}
-use Rattle.sharc_tree.specs.declared.ctype.Mode.TheVariants.{Private, Readonly, Locked, Racy, Dynamic}
 use Rattle.sharc_names.specs.declared.types.Role.{Role}
 use Rattle.sharc_names.specs.declared.types.Role.TheVariants as role
 use Rattle.sharc_ctype.specs.declared.entity.Entity.{Entity}
-use Rattle.sharc_mode.specs.declared.place.Place.{Place}
+use Rattle.sharc_mode.specs.{declared.place.Place.Place, Notes.{is_private_level, is_field_role}, WellFormed.{place_of, is_private_mode, is_racy_mode, base_allows, level_allows, top_allows, unfit_mode, unfit_top, unfit_mode_in, first_unfit_mode}}
 use Rattle.sharc_mode.specs.declared.place.Place.TheVariants as place
-use Rattle.sharc_mode.specs.Notes.{is_private_level, is_field_role}
-use Rattle.sharc_mode.specs.WellFormed.{place_of, is_private_mode, is_racy_mode, base_allows, level_allows, top_allows, unfit_mode, unfit_top, unfit_mode_in, first_unfit_mode}
-use Rattle.sharc_mode_laws.specs.Constructs.{IsWritten}
-use Rattle.sharc_mode_laws.specs.Rules.{HasPrivateTop, of_variable, of_result, IsModeAllowed}
-use Rattle.sharc_mode_laws.proofs.Levels.{private_is}
-use Rattle.sharc_mode_laws.proofs.Lists.{same_some, none_some, passes_there, passes_by, place_there, place_of_element}
-use Rattle.sharc_mode_laws.proofs.Options.{or_none, none_or, unless_none, none_unless, none_of}
+use Rattle.sharc_mode_laws.specs.{Constructs.IsWritten, Rules.{HasPrivateTop, of_variable, of_result, IsModeAllowed}}
+use Rattle.sharc_mode_laws.proofs.{Levels.private_is, Lists.{passes_there, passes_by}, Options.{or_none, none_or, unless_none, none_unless, none_of}}
+use Rattle.sharc_lemmas.proofs.{Options.{same_some, none_some}, Lists.{place_of_element, in_list as place_there}}
 
 racy_is : (mode : Mode) → is_racy_mode mode ≡ true → mode ≡ Racy
 racy_is Private h = absurd (false≢true h)

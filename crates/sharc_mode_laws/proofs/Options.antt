@@ -1,9 +1,8 @@
 -- The first of several options: that there is none, and that each is none.
-use Rattle.std.proofs.Common.{◌≡◌, Bool, true, false, refl, ap, sym, ◌∙◌, Option, Some, None}
-use Rattle.std.proofs.lemmas.Bool.{false≢true}
+use Rattle.std.proofs.{Common.{◌≡◌, Bool, true, false, refl, ap, sym, ◌∙◌, Option, Some, None}, lemmas.Bool.false≢true}
 use Rattle.std.specs.Option.{option_or}
 use Rattle.sharc_mode.specs.WellFormed.{unless}
-use Rattle.sharc_mode_laws.proofs.Lists.{none_some}
+use Rattle.sharc_lemmas.proofs.Options.{none_some}
 
 pub or_none : {A : Type 0} (a b : Option A) → option_or a b ≡ None → (a ≡ None) × (b ≡ None)
 or_none None b h = (refl, h)

@@ -1,16 +1,13 @@
 -- What threads get: which functions are spawned; and that it can be determined which globals they touch.
-use Rattle.std.proofs.Common.{◌≡◌, ⊎_elim, ℕ, ◌==◌, Bool, true, false, List, [], ◌∷◌, refl, ap, sym, ◌∙◌, subst, eqb-true, eq-eqb, Option, Some, None, IsSomeAnd, Contains}
-use Rattle.std.proofs.lemmas.Bool.{false≢true}
-use Rattle.std.proofs.lemmas.List.Elements.{Contains-append_left, Contains-append_right, Contains-append_cases}
+use Rattle.std.proofs.{Common.{◌≡◌, ⊎_elim, ℕ, ◌==◌, Bool, true, false, List, [], ◌∷◌, refl, ap, sym, ◌∙◌, subst, eqb-true, Contains}, lemmas.Bool.false≢true, lemmas.List.Elements.{Contains-append_left, Contains-append_right, Contains-append_cases}}
 use Rattle.std.specs.List.{flat_map}
 use Rattle.sharc_tree.specs.Measures.{in_function}
 use Rattle.sharc_names.specs.declared.fault.Named.{Named}
 use Rattle.sharc_names.specs.declared.fault.Named.TheVariants as named
-use Rattle.sharc_ctype.specs.Reaches.{spawns, of_all, Names, Spawns}
-use Rattle.sharc_ctype.specs.Resolved.{Resolution, functions_in, function_at, named_at}
-use Rattle.sharc_mode.specs.Sharings.{Sharing, private, readonly, locked, racy, dynamic}
-use Rattle.sharc_mode.specs.WellModed.{names_function, all_spawned, is_spawned, has_private_target}
-use Rattle.sharc_mode_laws.proofs.Lists.{none_there, head_there, tail_there, head_or_tail, passes_there, passes_by, place_there, place_of_element}
+use Rattle.sharc_ctype.specs.{Reaches.{spawns, of_all, Names, Spawns}, Resolved.{Resolution, functions_in, function_at, named_at}}
+use Rattle.sharc_mode.specs.{Sharings.{Sharing, private, readonly, locked, racy, dynamic}, WellModed.{names_function, all_spawned, is_spawned, has_private_target}}
+use Rattle.sharc_mode_laws.proofs.Lists.{passes_there, passes_by}
+use Rattle.sharc_lemmas.proofs.{Numbers.{same_is as same_number}, Options.{some_there, and_some as there_some}, Lists.{head_there, head_or_tail, place_of_element, in_list as place_there, tail_there}, Equal.none_there}
 
 -- ---- words on lists
 
@@ -28,16 +25,6 @@ next_flat f z rest y found = (found.0, tail_there z found.0 rest found.1, found.
 pub flat_from : {A B : Type 0} (f : A → List B) (list : List A) (y : B) → Contains (flat_map f list) y → (x : A) × Contains list x × Contains (f x) y
 flat_from f [] y has = absurd (none_there y has)
 flat_from f (z ∷ rest) y has = ⊎_elim (λ here. (z, head_there z rest, here)) (λ later. next_flat f z rest y (flat_from f rest y later)) (Contains-append_cases (f z) (flat_map f rest) y has)
-
-pub some_there : {A : Type 0} (P : A → Type 0) (o : Option A) → IsSomeAnd o P → (x : A) × (o ≡ Some x) × P x
-some_there P None h = absurd h
-some_there P (Some x) h = (x, refl, h)
-
-pub there_some : {A : Type 0} (P : A → Type 0) (o : Option A) (x : A) → o ≡ Some x → P x → IsSomeAnd o P
-there_some P o x is h = subst (λ z. IsSomeAnd z P) (sym is) h
-
-pub same_number : (n : ℕ) → (n == n) ≡ true
-same_number n = eq-eqb n n refl
 
 -- ---- names of functions and globals
 

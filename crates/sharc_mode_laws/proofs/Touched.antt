@@ -1,17 +1,13 @@
 -- Which globals threads touch can be determined: by the calls that lead only through functions below a number, as that grows.
-use Rattle.std.proofs.Common.{◌≡◌, ◌⊎◌, ⊎_elim, ℕ, zero, suc, ◌+◌, ◌<◌, ◌==◌, Bool, true, false, ◌&&◌, ◌||◌, List, [], ◌∷◌, ◌++◌, length, slice_get, refl, ap, sym, ◌∙◌, subst, arith, eqb-true, Option, Some, None}
-use Rattle.std.proofs.lemmas.Bool.{false≢true, or_cases, and_parts, and_from}
-use Rattle.std.proofs.lemmas.Option.{slice_get_within}
+use Rattle.std.proofs.{Common.{◌≡◌, ◌⊎◌, ⊎_elim, ℕ, zero, suc, ◌+◌, ◌<◌, ◌==◌, Bool, true, false, ◌&&◌, ◌||◌, List, [], ◌∷◌, ◌++◌, length, slice_get, refl, ap, sym, ◌∙◌, subst, arith, eqb-true, Option, Some, None}, lemmas.Bool.{false≢true, or_cases, and_parts, and_from, or_right, or_left}, lemmas.Option.slice_get_within}
 use Rattle.std.specs.List.{list_any}
-use Rattle.sharc_tree.specs.Measures.{in_function}
-use Rattle.sharc_tree.specs.Tree.{Function}
+use Rattle.sharc_tree.specs.{Measures.in_function, Tree.Function}
 use Rattle.sharc_names.specs.declared.fault.Named.{Named}
 use Rattle.sharc_names.specs.declared.fault.Named.TheVariants as named
-use Rattle.sharc_ctype.specs.Reaches.{runs, spawns, of_all, Names, Runs, Leads, IsReached, tokens_of, IsTouched}
-use Rattle.sharc_ctype.specs.Resolved.{Resolution, functions_in, function_at, named_at}
+use Rattle.sharc_ctype.specs.{Reaches.{runs, spawns, of_all, Names, Runs, Leads, IsReached, tokens_of, IsTouched}, Resolved.{Resolution, functions_in, function_at, named_at}}
 use Rattle.sharc_mode.specs.WellModed.{names_function, all_spawned, TellsTouched}
-use Rattle.sharc_mode_laws.proofs.Lists.{or_left, or_right, passes_there, passes_by, place_there, place_of_element, same_some, none_some}
-use Rattle.sharc_mode_laws.proofs.Threads.{flat_there, flat_from, some_there, there_some, same_number, names_is, is_names, names_global, global_is, is_global}
+use Rattle.sharc_mode_laws.proofs.{Lists.{passes_there, passes_by}, Threads.{flat_there, flat_from, names_is, is_names, names_global, global_is, is_global}}
+use Rattle.sharc_lemmas.proofs.{Numbers.{same_is as same_number}, Options.{same_some, none_some, some_there, and_some as there_some}, Lists.{place_of_element, in_list as place_there}}
 
 equal_or_below : (j k : ℕ) → j < suc k → (j ≡ k) ⊎ (j < k)
 equal_or_below j k low = grind arith

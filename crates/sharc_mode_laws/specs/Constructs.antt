@@ -1,20 +1,15 @@
 -- The constructs of a program that the rules of modes speak of: what is given to what, what is called, taken and written.
 use Rattle.std.specs.Prelude.{◌≡◌, ℕ, List, [], ◌∷◌, ◌++◌, Some, slice_get, Contains}
-use Rattle.sharc_tree.specs.declared.ctype.Mode.{Mode}
-use Rattle.sharc_tree.specs.declared.token.Span.{Span}
+use Rattle.sharc_tree.specs.{declared.ctype.Mode.Mode, declared.token.Span.Span}
 use Rattle.sharc_tree.specs.declared.tree.declaration.Declaration.{Declaration}
 use Rattle.sharc_tree.specs.declared.tree.declaration.Identifier.{Identifier}
 use Rattle.sharc_tree.specs.declared.tree.declaration.WrittenType.{WrittenType}
-use Rattle.sharc_tree.specs.declared.tree.expression.PlaceCall.TheVariants.{Free}
-use Rattle.sharc_tree.specs.Measures.{in_function}
+use Rattle.sharc_tree.specs.{declared.tree.expression.PlaceCall.TheVariants.Free, Measures.in_function}
 use Rattle.sharc_tree.specs.Tree.{Expression, call, spawn, on_place, cast, Arguments, no_arguments, argument, Right, value, Local, First, nothing, declares, does, Statement, empty, block, declare, simple, jump, return, if_then, if_then_else, while, for, Statements, no_statements, statement, Function}
-use Rattle.sharc_ctype.specs.declared.entity.Entity.{Entity}
-use Rattle.sharc_ctype.specs.declared.entity.Numbered.{Numbered}
-use Rattle.sharc_ctype.specs.Entities.{entities_in, numbered}
-use Rattle.sharc_ctype.specs.Resolved.{functions_in, named_at}
+use Rattle.sharc_ctype.specs.{declared.entity.Entity.Entity, declared.entity.Numbered.Numbered}
+use Rattle.sharc_ctype.specs.{Entities.{entities_in, numbered}, Resolved.{functions_in, named_at}}
 use Rattle.sharc_ctype.specs.Transfers.{lvalue, variable, result, function_transfers, parameters_named, passed}
-use Rattle.sharc_mode.specs.Moded.{Assignment}
-use Rattle.sharc_mode.specs.Rows.{written, at_call, declared_row, modes_of, modes_at}
+use Rattle.sharc_mode.specs.{Moded.Assignment, Rows.{written, at_call, declared_row, modes_of, modes_at}}
 use Rattle.sharc_mode.specs.Sharings.{Sharing}
 
 abbrev pub IsFunction : Assignment → Function → Type 0

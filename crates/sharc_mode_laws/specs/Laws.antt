@@ -1,9 +1,7 @@
 -- A program is well-moded exactly where it meets the rules.
 use Rattle.std.specs.Prelude.{◌≡◌, ◌↔◌, ℕ, Bool, true}
-use Rattle.sharc_ctype.specs.Reaches.{Spawns, IsReached}
-use Rattle.sharc_ctype.specs.Resolved.{Resolution}
-use Rattle.sharc_mode.specs.Moded.{Assignment}
-use Rattle.sharc_mode.specs.WellModed.{WellModed, is_spawned}
+use Rattle.sharc_ctype.specs.{Reaches.{Spawns, IsReached}, Resolved.Resolution}
+use Rattle.sharc_mode.specs.{Moded.Assignment, WellModed.{WellModed, is_spawned}}
 use Rattle.sharc_mode_laws.specs.Rules.{MeetsRules}
 
 -- of every program with a mode for each of its positions, or for some

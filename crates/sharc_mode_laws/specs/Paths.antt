@@ -1,29 +1,21 @@
 -- Lock paths: which are allowed where, which a call reads, and which variables and globals they name.
 use Rattle.std.specs.Prelude.{◌≡◌, IsTrue, ℕ, ◌+◌, ◌<◌, List, length, Some, None, slice_get, Contains}
 use Rattle.sharc_tree.specs.declared.ctype.Base.TheVariants as base
-use Rattle.sharc_tree.specs.declared.ctype.Mode.TheVariants.{Readonly, Locked}
-use Rattle.sharc_tree.specs.declared.ctype.Path.{Path}
-use Rattle.sharc_tree.specs.declared.ctype.Path.TheVariants.{One, Through}
-use Rattle.sharc_tree.specs.declared.token.Span.{Span}
+use Rattle.sharc_tree.specs.{declared.ctype.Mode.TheVariants.{Readonly, Locked}, declared.ctype.Path.Path}
+use Rattle.sharc_tree.specs.{declared.ctype.Path.TheVariants.{One, Through}, declared.token.Span.Span}
 use Rattle.sharc_tree.specs.declared.tree.declaration.Declaration.{Declaration}
-use Rattle.sharc_tree.specs.declared.tree.declaration.Identifier.{Identifier}
-use Rattle.sharc_tree.specs.declared.tree.expression.Access.{Access}
+use Rattle.sharc_tree.specs.{declared.tree.declaration.Identifier.Identifier, declared.tree.expression.Access.Access}
 use Rattle.sharc_tree.specs.declared.tree.expression.Access.TheVariants.{Arrow}
 use Rattle.sharc_tree.specs.declared.tree.item.StructDefinition.{StructDefinition}
 use Rattle.sharc_tree.specs.Tree.{Expression, identifier, field, Arguments}
 use Rattle.sharc_names.specs.declared.fault.Named.TheVariants as named
-use Rattle.sharc_names.specs.Kinds.{object, mutex, declared_kind}
-use Rattle.sharc_names.specs.Names.{field_of}
-use Rattle.sharc_ctype.specs.declared.entity.Entity.{Entity}
-use Rattle.sharc_ctype.specs.declared.entity.Numbered.{Numbered}
-use Rattle.sharc_ctype.specs.Constants.{is_constant}
+use Rattle.sharc_names.specs.{Kinds.{object, mutex, declared_kind}, Names.field_of}
+use Rattle.sharc_ctype.specs.{declared.entity.Entity.Entity, declared.entity.Numbered.Numbered, Constants.is_constant}
 use Rattle.sharc_ctype.specs.Resolved.{Resolution, named_at, struct_at, declaration_at, named_kind}
 use Rattle.sharc_mode.specs.declared.place.Place.TheVariants as place
-use Rattle.sharc_mode.specs.Cells.{top_of}
-use Rattle.sharc_mode.specs.Moded.{Assignment}
+use Rattle.sharc_mode.specs.{Cells.top_of, Moded.Assignment}
 use Rattle.sharc_mode.specs.Rows.{Reading, written, at_call, read_lock, declared_row, named_row, modes_of}
-use Rattle.sharc_mode.specs.Sharings.{Lock, locked, lock_of, object_of, is_sibling_lock}
-use Rattle.sharc_mode.specs.WellFormed.{place_of}
+use Rattle.sharc_mode.specs.{Sharings.{Lock, locked, lock_of, object_of, is_sibling_lock}, WellFormed.place_of}
 use Rattle.sharc_mode_laws.specs.Constructs.{IsExpression, IsCall, IsEntity}
 
 -- ---- the forms of a lock path

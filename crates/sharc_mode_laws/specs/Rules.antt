@@ -1,31 +1,20 @@
 -- What is well-moded: the rules M1 to M11, one clause each.
 use Rattle.std.specs.Prelude.{◌≡◌, IsTrue, ℕ, ◌+◌, ◌<◌, List, ◌∷◌, drop, length, Some, slice_get, Contains}
 use Rattle.sharc_tree.specs.declared.ctype.Base.TheVariants as base
-use Rattle.sharc_tree.specs.declared.ctype.Mode.{Mode}
-use Rattle.sharc_tree.specs.declared.ctype.Mode.TheVariants.{Private, Racy, Locked}
-use Rattle.sharc_tree.specs.declared.ctype.Path.{Path}
-use Rattle.sharc_tree.specs.declared.token.Span.{Span}
+use Rattle.sharc_tree.specs.{declared.ctype.Mode.Mode, declared.ctype.Mode.TheVariants.{Private, Racy, Locked}}
+use Rattle.sharc_tree.specs.{declared.ctype.Path.Path, declared.token.Span.Span}
 use Rattle.sharc_tree.specs.declared.tree.declaration.Declaration.{Declaration}
 use Rattle.sharc_tree.specs.declared.tree.declaration.Identifier.{Identifier}
-use Rattle.sharc_tree.specs.declared.tree.declaration.WrittenType.{WrittenType}
-use Rattle.sharc_tree.specs.declared.tree.expression.Access.{Access}
-use Rattle.sharc_tree.specs.declared.tree.item.GlobalDefinition.{GlobalDefinition}
-use Rattle.sharc_tree.specs.Forms.{without_parentheses}
+use Rattle.sharc_tree.specs.{declared.tree.declaration.WrittenType.WrittenType, declared.tree.expression.Access.Access}
+use Rattle.sharc_tree.specs.{declared.tree.item.GlobalDefinition.GlobalDefinition, Forms.without_parentheses}
 use Rattle.sharc_tree.specs.Tree.{Expression, identifier, cast, Arguments, Right, Function}
 use Rattle.sharc_names.specs.declared.types.Role.TheVariants as role
-use Rattle.sharc_ctype.specs.declared.entity.Entity.{Entity}
-use Rattle.sharc_ctype.specs.declared.entity.Numbered.{Numbered}
-use Rattle.sharc_ctype.specs.Entities.{positions_of}
-use Rattle.sharc_ctype.specs.Reaches.{Spawns, IsTouched}
-use Rattle.sharc_ctype.specs.Resolved.{named_at, global_at, function_at}
-use Rattle.sharc_mode.specs.declared.place.Place.{Place}
-use Rattle.sharc_mode.specs.declared.place.Place.TheVariants as place
-use Rattle.sharc_mode.specs.Cells.{cell_at, top_of}
-use Rattle.sharc_mode.specs.Moded.{Assignment}
-use Rattle.sharc_mode.specs.Pairs.{IsBelow}
+use Rattle.sharc_ctype.specs.{declared.entity.Entity.Entity, declared.entity.Numbered.Numbered, Entities.positions_of}
+use Rattle.sharc_ctype.specs.{Reaches.{Spawns, IsTouched}, Resolved.{named_at, global_at, function_at}}
+use Rattle.sharc_mode.specs.{declared.place.Place.Place, Cells.{cell_at, top_of}, Moded.Assignment, Pairs.IsBelow}
 use Rattle.sharc_mode.specs.Rows.{written, argument_use, path_variable, declared_row, cast_row, modes_of, modes_at}
-use Rattle.sharc_mode.specs.Sharings.{Lock, Sharing, private, readonly, same_all, object_named}
-use Rattle.sharc_mode.specs.WellFormed.{place_of}
+use Rattle.sharc_mode.specs.{Sharings.{Lock, Sharing, private, readonly, same_all, object_named}, WellFormed.place_of}
+use Rattle.sharc_mode.specs.declared.place.Place.TheVariants as place
 use Rattle.sharc_mode_laws.specs.Constructs.{IsExpression, IsCall, IsTaken, IsAssigned, IsGiven, IsEntity, IsWritten}
 use Rattle.sharc_mode_laws.specs.Paths.{IsBase, IsAllowed, HasPath, IsThroughConstant, IsSiblingUse, IsNamedByPath}
 

@@ -1,12 +1,9 @@
 -- The table of fields has the first of each name.
 use Rattle.std.proofs.Common.{◌≡◌, ℕ, Bool, true, false, cond, List, [], ◌∷◌, ◌++◌, refl, ap, sym, ◌∙◌, Option, Some, None, is_some}
-use Rattle.std.proofs.lemmas.Slice.Eq.{bytes_eq-Decides}
-use Rattle.std.specs.Borrow.{Bor}
-use Rattle.std.specs.Map.{lookup}
-use Rattle.std.specs.Str.{bytes_eq}
+use Rattle.std.specs.{Borrow.Bor, Map.lookup, Str.bytes_eq}
 use Rattle.sharc_tree.specs.declared.tree.declaration.Declaration.{Declaration}
-use Rattle.sharc_names.specs.Names.{field_of}
-use Rattle.sharc_names.specs.Seen.{fields_seen, found_field, FieldRows, field_at, HasAlso, HasFirstFields}
+use Rattle.sharc_names.specs.{Names.field_of, Seen.{fields_seen, found_field, FieldRows, field_at, HasAlso, HasFirstFields}}
+use Rattle.sharc_lemmas.proofs.Lists.{same_name}
 
 abbrev or_else : Option Declaration → Option Declaration → Option Declaration
 or_else None o = o
@@ -35,9 +32,6 @@ choice false true None d h = refl
 choice false true (Some x) d h = let no : false ≡ true = h refl in cc
 choice false false None d h = refl
 choice false false (Some x) d h = refl
-
-same_name : (a b : List ℕ) → bytes_eq a b ≡ true → a ≡ b
-same_name a b e = (bytes_eq-Decides a b).0 e
 
 -- one field more, at the end
 pub first_pushed : (list : List (Bor Declaration)) (d : Bor Declaration) (known : Bool) (old new : FieldRows) → HasFirstFields list old → known ≡ is_some (field_of (fields_seen list) d.now.name.text)

@@ -1,9 +1,7 @@
 -- The fault that is kept is the first of all.
-use Rattle.std.proofs.Common.{◌≡◌, ◌⊎◌, inl, inr, ℕ, ◌==◌, nat_lt, Bool, true, false, cond, ◌||◌, ◌&&◌, List, [], ◌∷◌, fold, refl, ap, sym, subst, ◌∙◌, arith, Some, None}
-use Rattle.std.proofs.lemmas.Bool.Decides.{nat_tests}
+use Rattle.std.proofs.{Common.{◌≡◌, ◌⊎◌, inl, inr, ℕ, ◌==◌, nat_lt, Bool, true, false, cond, ◌||◌, ◌&&◌, List, [], ◌∷◌, fold, refl, ap, sym, subst, ◌∙◌, arith, Some, None}, lemmas.Bool.Decides.nat_tests}
 use Rattle.std.specs.List.{AllByRecursion}
-use Rattle.sharc_names.specs.declared.fault.Fault.{Fault}
-use Rattle.sharc_names.specs.Notes.{Note, fault, refers, yields, Findings, digit, is_before, first_of, noted, faults, IsAmong, IsAnswer}
+use Rattle.sharc_names.specs.{declared.fault.Fault.Fault, Notes.{Note, fault, refers, yields, Findings, digit, is_before, first_of, noted, faults, IsAmong, IsAnswer}}
 
 pub first_of_notes : (f : Findings) (list : List Note) → (fold noted f list).first ≡ fold first_of f.first (faults list)
 first_of_notes f [] = refl
@@ -29,9 +27,6 @@ record Best (old : Fault) (list : List Fault) : Type 0 where
   after_old : is_before old first ≡ false
   among : (first ≡ old) ⊎ IsAmong first list
   none : AllByRecursion (λ g. is_before g first ≡ false) list
-
-either_among : (f g : Fault) (rest : List Fault) → (f ≡ g) ⊎ IsAmong f rest → IsAmong f (g ∷ rest)
-either_among f g rest h = h
 
 old_or_later : (f old g : Fault) (rest : List Fault) → (f ≡ old) ⊎ IsAmong f rest → (f ≡ old) ⊎ IsAmong f (g ∷ rest)
 old_or_later f old g rest (inl e) = inl e

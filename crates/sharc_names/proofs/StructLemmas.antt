@@ -1,11 +1,7 @@
 -- The table of structs, read by bytes.
 use Rattle.std.proofs.Common.{◌≡◌, ℕ, Bool, true, false, cond, List, [], ◌∷◌, ◌++◌, refl, ap, ◌∙◌, Option, Some, None}
-use Rattle.std.specs.Borrow.{Bor}
-use Rattle.std.specs.Map.{lookup}
-use Rattle.std.specs.Option.{option_copied}
-use Rattle.std.specs.Str.{bytes_eq}
-use Rattle.sharc_names.specs.declared.structs.StructMeaning.{StructMeaning}
-use Rattle.sharc_names.specs.View.{view_struct, structs_seen, found_struct}
+use Rattle.std.specs.{Borrow.Bor, Map.lookup, Option.option_copied, Str.bytes_eq}
+use Rattle.sharc_names.specs.{declared.structs.StructMeaning.StructMeaning, View.{view_struct, structs_seen, found_struct}}
 use Rattle.sharc_names.specs.Names as names
 
 abbrev Rows : Type 0

@@ -1,15 +1,8 @@
 -- The table of names agrees with its log.
-use Rattle.std.proofs.Common.{◌≡◌, ℕ, ◌-◌, ◌<◌, ◌≤◌, suc, length, drop, arith, Bool, true, false, cond, List, [], ◌∷◌, ◌++◌, reverse, refl, ap, sym, subst, ◌∙◌, Option, Some}
-use Rattle.std.proofs.lemmas.List.{reverse-append}
-use Rattle.std.proofs.lemmas.Slice.Eq.{bytes_eq-Decides}
-use Rattle.std.specs.Borrow.{Bor}
-use Rattle.std.specs.Map.{lookup}
-use Rattle.std.specs.Str.{bytes_eq}
-use Rattle.sharc_names.specs.declared.meaning.Bound.{Bound}
-use Rattle.sharc_names.specs.declared.names.Shadow.{Shadow}
-use Rattle.sharc_names.specs.Names.{Entry, look_up}
-use Rattle.sharc_names.specs.View.{view_bound, view_bounds}
-use Rattle.sharc_names.specs.Table.{entries, in_scope, newest_of, table_at, HidesOlder, IsKept}
+use Rattle.std.proofs.{Common.{◌≡◌, ℕ, ◌-◌, ◌<◌, ◌≤◌, suc, length, drop, arith, Bool, true, false, cond, List, [], ◌∷◌, ◌++◌, reverse, refl, ap, sym, subst, ◌∙◌, Option, Some}, lemmas.List.reverse-append}
+use Rattle.std.specs.{Borrow.Bor, Map.lookup, Str.bytes_eq}
+use Rattle.sharc_names.specs.{declared.meaning.Bound.Bound, declared.names.Shadow.Shadow, Names.{Entry, look_up}, View.{view_bound, view_bounds}, Table.{entries, in_scope, newest_of, table_at, HidesOlder, IsKept}}
+use Rattle.sharc_lemmas.proofs.Lists.{same_name}
 
 abbrev Table : Type 0
 Table = List (Bor (List ℕ) × Option Bound)
@@ -43,9 +36,6 @@ kept_push log s old new kept writes hidden = record {
 unwritten : (b : Bool) (e : Entry) (h x t : Option Entry) → (b ≡ true → h ≡ x) → t ≡ cond b (Some e) x → cond b h t ≡ x
 unwritten true e h x t same is = same refl
 unwritten false e h x t same is = is
-
-same_name : (a b : List ℕ) → bytes_eq a b ≡ true → a ≡ b
-same_name a b e = (bytes_eq-Decides a b).0 e
 
 pub kept_pop : (log : List Shadow) (s : Shadow) (old new : Table) → IsKept (log ++ s ∷ []) old → Writes s.bound.name.now s.hidden old new → IsKept log new
 kept_pop log s old new kept writes =

@@ -1,18 +1,16 @@
 -- What names mean where they are written (C11 6.2.1 to 6.2.3).
 use Rattle.std.specs.Prelude.{ℕ, Bool, true, false, List, [], ◌∷◌, length, Option, Some, None, if◌then◌else◌, codes}
-use Rattle.std.specs.Str.{bytes_eq}
-use Rattle.std.specs.Map.{lookup}
+use Rattle.std.specs.{Str.bytes_eq, Map.lookup}
 use Rattle.sharc_tree.specs.declared.tree.declaration.Identifier.{Identifier}
 use Rattle.sharc_tree.specs.declared.tree.declaration.WrittenType.{WrittenType}
 use Rattle.sharc_tree.specs.declared.tree.declaration.Declaration.{Declaration}
 use Rattle.sharc_tree.specs.declared.tree.item.GlobalDefinition.{GlobalDefinition}
 use Rattle.sharc_tree.specs.declared.tree.item.GlobalForm.{GlobalForm}
 use Rattle.sharc_tree.specs.declared.tree.item.GlobalForm.TheVariants.{Plain, Array, Initial}
-use Rattle.sharc_names.specs.declared.fault.Named.{Named}
-use Rattle.sharc_names.specs.declared.fault.Named.TheVariants as named
-use Rattle.sharc_names.specs.declared.meaning.ConditionCall.{ConditionCall}
+use Rattle.sharc_names.specs.{declared.fault.Named.Named, declared.meaning.ConditionCall.ConditionCall}
 use Rattle.sharc_names.specs.declared.meaning.ConditionCall.TheVariants.{Wait, Signal, Broadcast}
 use Rattle.sharc_names.specs.Kinds.{Kind, object, array, void, condition_pointer, mutex_pointer, declared_kind, declared_kinds}
+use Rattle.sharc_names.specs.declared.fault.Named.TheVariants as named
 use Rattle.sharc_names.specs.Kinds as kinds
 
 -- what a function is called by

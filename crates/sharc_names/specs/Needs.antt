@@ -1,10 +1,9 @@
 -- What the place of an expression needs of it.
 use Rattle.std.specs.Prelude.{ℕ, ◌==◌, Bool, true, ◌||◌, List, [], ◌∷◌, Option, Some, None, if◌then◌else◌}
 use Rattle.sharc_tree.specs.declared.ctype.Base.{Base}
-use Rattle.sharc_tree.specs.declared.ctype.Base.TheVariants as base
 use Rattle.sharc_tree.specs.Tree.{Expression, identifier, constant, parentheses, call, spawn, on_value, on_place, cast, index, field, unary, binary}
-use Rattle.sharc_tree.specs.Forms.{without_parentheses}
-use Rattle.sharc_tree.specs.Spans.{span_of}
+use Rattle.sharc_tree.specs.{Forms.without_parentheses, Spans.span_of}
+use Rattle.sharc_tree.specs.declared.ctype.Base.TheVariants as base
 use Rattle.sharc_names.specs.declared.need.Need.{Need}
 use Rattle.sharc_names.specs.declared.need.Need.TheVariants.{Value, Integer, Pointer, Indexed, Struct, StructPointer}
 use Rattle.sharc_names.specs.declared.fault.FaultCode.TheVariants.{TypeMismatch, TypeNotAllowed, BadForm}

@@ -1,7 +1,5 @@
 -- What the tables of structs and of fields stand for.
-use Rattle.std.specs.Prelude.{◌≡◌, ℕ, Bool, cond, List, [], map, Option, Some, None}
-use Rattle.std.specs.Borrow.{Bor}
-use Rattle.std.specs.Map.{lookup}
+use Rattle.std.specs.{Prelude.{◌≡◌, ℕ, Bool, cond, List, [], map, Option, Some, None}, Borrow.Bor, Map.lookup}
 use Rattle.std.specs.Str.{bytes_eq}
 use Rattle.sharc_tree.specs.declared.tree.declaration.Declaration.{Declaration}
 use Rattle.sharc_names.specs.Names.{field_of}

@@ -1,11 +1,7 @@
 -- What the table of names stands for.
-use Rattle.std.specs.Prelude.{◌≡◌, ℕ, List, [], ◌∷◌, map, reverse, Option, Some, None}
-use Rattle.std.specs.Borrow.{Bor}
-use Rattle.std.specs.Map.{lookup}
+use Rattle.std.specs.{Prelude.{◌≡◌, ℕ, List, [], ◌∷◌, map, reverse, Option, Some, None}, Borrow.Bor, Map.lookup}
 use Rattle.std.specs.Str.{bytes_eq}
-use Rattle.sharc_names.specs.declared.meaning.Bound.{Bound}
-use Rattle.sharc_names.specs.declared.names.Shadow.{Shadow}
-use Rattle.sharc_names.specs.Names.{Entry, look_up}
+use Rattle.sharc_names.specs.{declared.meaning.Bound.Bound, declared.names.Shadow.Shadow, Names.{Entry, look_up}}
 use Rattle.sharc_names.specs.View.{view_bound, view_bounds}
 
 abbrev pub entries : List Shadow → List Entry

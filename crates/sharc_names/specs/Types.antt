@@ -2,8 +2,7 @@
 use Rattle.std.specs.Prelude.{ℕ, ◌+◌, ◌==◌, nat_lt, Bool, true, false, ◌&&◌, ◌||◌, List, [], ◌∷◌, ◌++◌, Option, Some, None, is_some, if◌then◌else◌}
 use Rattle.sharc_tree.specs.declared.ctype.Base.{Base}
 use Rattle.sharc_tree.specs.declared.ctype.Base.TheVariants.{Int, Char, Long, Mutex, Void, Struct}
-use Rattle.sharc_tree.specs.declared.ctype.Path.{Path}
-use Rattle.sharc_tree.specs.declared.ctype.Path.TheVariants.{One, Through}
+use Rattle.sharc_tree.specs.{declared.ctype.Path.Path, declared.ctype.Path.TheVariants.{One, Through}}
 use Rattle.sharc_tree.specs.declared.ctype.Mode.{Mode}
 use Rattle.sharc_tree.specs.declared.ctype.Mode.TheVariants.{Private, Readonly, Locked, Racy, Dynamic}
 use Rattle.sharc_tree.specs.declared.tree.declaration.WrittenType.{WrittenType}
@@ -11,11 +10,11 @@ use Rattle.sharc_tree.specs.declared.tree.declaration.Declaration.{Declaration}
 use Rattle.sharc_names.specs.declared.types.Role.{Role}
 use Rattle.sharc_names.specs.declared.types.Role.TheVariants.{Field, Global, Local, Parameter, Result, Cast, Made}
 use Rattle.sharc_names.specs.declared.fault.FaultCode.TheVariants.{UnknownName, TypeNotAllowed, BadForm}
-use Rattle.sharc_names.specs.declared.fault.Named.TheVariants as named
 use Rattle.sharc_names.specs.declared.scope.Scope.{Scope}
 use Rattle.sharc_names.specs.Kinds.{Kind, object, declared_kind, stars_of, is_struct_behind}
 use Rattle.sharc_names.specs.Names.{Entry, Meaning, look_up, StructTable, StructMeaning, struct_of, fields_of, field_of, named_struct, kind_of, named_of, is_main}
 use Rattle.sharc_names.specs.Notes.{Note, fault, refers, yields, fault_unless, fault_where}
+use Rattle.sharc_names.specs.declared.fault.Named.TheVariants as named
 
 -- A use of a name (6.5.1p2). A use of the function `main` has no type.
 

@@ -1,22 +1,19 @@
 -- What the program's values stand for.
-use Rattle.std.specs.Prelude.{ℕ, List, [], ◌∷◌, Option, Some, None}
-use Rattle.std.specs.Borrow.{Bor}
+use Rattle.std.specs.{Prelude.{ℕ, List, [], ◌∷◌, Option, Some, None}, Borrow.Bor}
 use Rattle.sharc_tree.specs.declared.ctype.Base.{Base}
 use Rattle.sharc_tree.specs.declared.ctype.Base.TheVariants as base
-use Rattle.sharc_names.specs.declared.kind.Root.{Root}
-use Rattle.sharc_names.specs.declared.kind.Root.TheVariants as root
-use Rattle.sharc_names.specs.declared.kind.Kind.{Kind as RustKind}
-use Rattle.sharc_names.specs.declared.kind.Kind.TheVariants as kind
+use Rattle.sharc_names.specs.{declared.kind.Root.Root, declared.kind.Kind.{Kind as RustKind}}
 use Rattle.sharc_names.specs.declared.meaning.Signature.{Signature as RustSignature}
-use Rattle.sharc_names.specs.declared.meaning.Meaning.{Meaning as RustMeaning}
-use Rattle.sharc_names.specs.declared.meaning.Meaning.TheVariants as meaning
-use Rattle.sharc_names.specs.declared.meaning.Bound.{Bound}
+use Rattle.sharc_names.specs.{declared.meaning.Meaning.{Meaning as RustMeaning}, declared.meaning.Bound.Bound}
 use Rattle.sharc_names.specs.declared.wanted.Wanted.{Wanted}
 use Rattle.sharc_names.specs.declared.wanted.Wanted.TheVariants.{Parameters, Condition, MutexPointer}
 use Rattle.sharc_names.specs.declared.structs.StructMeaning.{StructMeaning as RustStruct}
-use Rattle.sharc_names.specs.declared.structs.StructMeaning.TheVariants as struct
 use Rattle.sharc_names.specs.Kinds.{Kind, object, array, null, function, mutex_pointer, declared_kinds}
 use Rattle.sharc_names.specs.Names.{Meaning, Signature, Entry, variable, global, condition, condition_parameters, StructMeaning, StructTable, defined, known}
+use Rattle.sharc_names.specs.declared.kind.Root.TheVariants as root
+use Rattle.sharc_names.specs.declared.kind.Kind.TheVariants as kind
+use Rattle.sharc_names.specs.declared.meaning.Meaning.TheVariants as meaning
+use Rattle.sharc_names.specs.declared.structs.StructMeaning.TheVariants as struct
 use Rattle.sharc_names.specs.Names as names
 
 abbrev pub view_root : Root → Base

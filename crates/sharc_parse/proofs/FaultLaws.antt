@@ -1,16 +1,8 @@
 -- A program has no fault, and there is one fault at most.
-use Rattle.std.proofs.Common.{◌≡◌, ℕ, zero, suc, ◌≤◌, ◌<◌, List, [], ◌∷◌, ◌++◌, length, take, drop, refl, sym, ap, ◌∙◌, arith, subst, inl, inr}
+use Rattle.std.proofs.{Common.{◌≡◌, ℕ, zero, suc, ◌≤◌, ◌<◌, List, [], ◌∷◌, ◌++◌, length, take, drop, refl, sym, ap, ◌∙◌, arith, subst, inl, inr}, lemmas.List.{append_assoc, append-nil, take-append-drop}}
 use Rattle.std.specs.Prelude.{◌⊎◌}
-use Rattle.std.proofs.lemmas.List.{append_assoc, append-nil, take-append-drop}
-use Rattle.sharc_tree.specs.Tree.{Program}
-use Rattle.sharc_tree.specs.declared.token.FaultAt.{FaultAt}
-use Rattle.sharc_tree.specs.declared.token.Tokens.{Tokens}
-use Rattle.sharc_grammar.specs.Grammar.{Word, Part, IsProgram, program_words, EndsAt}
-use Rattle.sharc_grammar.specs.Limits.{LowProgram, BeginsWithin, Exceeds}
-use Rattle.sharc_grammar.specs.Places.{Reads, words_of}
-use Rattle.sharc_grammar.specs.Faults.{IsFault, wrong_code}
-use Rattle.sharc_grammar.specs.declared.fault.GrammarFault.{GrammarFault}
-use Rattle.sharc_grammar.specs.declared.fault.GrammarFault.TheVariants.{Deep}
+use Rattle.sharc_tree.specs.{Tree.Program, declared.token.FaultAt.FaultAt, declared.token.Tokens.Tokens}
+use Rattle.sharc_grammar.specs.{Grammar.{Word, Part, IsProgram, program_words, EndsAt}, Limits.{LowProgram, BeginsWithin, Exceeds}, Places.{Reads, words_of}, Faults.{IsFault, wrong_code}, declared.fault.GrammarFault.GrammarFault, declared.fault.GrammarFault.TheVariants.Deep}
 use Rattle.sharc_parse.specs.Programs.{IsFaultOf, IsToldAt, told_of}
 
 -- why the words up to a place are refused with the code

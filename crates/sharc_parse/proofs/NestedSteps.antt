@@ -1,33 +1,12 @@
 -- The machine's steps over statements with others inside, and where they are.
-use Rattle.std.proofs.Common.{◌≡◌, ℕ, ◌+◌, ◌-◌, ◌≤◌, ◌<◌, List, [], ◌∷◌, ◌++◌, Some, refl, sym, ap, ◌∙◌, arith, subst, Bool, true, false, cond}
+use Rattle.std.proofs.{Common.{◌≡◌, ℕ, ◌+◌, ◌-◌, ◌≤◌, ◌<◌, List, [], ◌∷◌, ◌++◌, Some, refl, sym, ap, ◌∙◌, arith, Bool, true, false, cond}, lemmas.Bool.{lt-leb, le-leb, false≢true, true≢false}}
 use Rattle.std.specs.Prelude.{Result, Ok, Err}
-use Rattle.std.proofs.lemmas.Bool.{lt-leb, le-leb, false≢true, true≢false}
 use Rattle.sharc_tree.specs.Tree as tree
-use Rattle.sharc_tree.specs.Children.{view_statements-push}
-use Rattle.sharc_tree.specs.View.{view_stmt, view_statements}
-use Rattle.sharc_tree.specs.declared.token.Token.{Token}
-use Rattle.sharc_tree.specs.declared.token.Site.{Site}
-use Rattle.sharc_tree.specs.declared.token.Span.{Span}
+use Rattle.sharc_tree.specs.{Children.view_statements-push, View.{view_stmt, view_statements}, declared.token.Token.Token, declared.token.Site.Site, declared.token.Span.Span, declared.token.Punctuator.TheVariants.{OpenBrace, CloseBrace}, declared.tree.statement.Stmt.Stmt}
 use Rattle.sharc_tree.specs.declared.token.Keyword.TheVariants as key
-use Rattle.sharc_tree.specs.declared.token.Punctuator.TheVariants.{OpenBrace, CloseBrace}
-use Rattle.sharc_tree.specs.declared.tree.statement.Stmt.{Stmt}
-use Rattle.sharc_grammar.specs.Grammar.{Word, keyword, mark, Phrase, Loop, Sentence, under, Sentences, no_more, sentence, if_of, else_of, Opening, while_of, for_of}
-use Rattle.sharc_grammar.specs.Machine.{Outer, body, items, inside, as_statement, Start, Done, At, start, line_start, done, is_else, holds_items, with_item}
-use Rattle.sharc_grammar.specs.Limits.{Over, next_within, reads_within, around_it}
-use Rattle.sharc_grammar.specs.Places.{site_in, size, sentence_size, all_size, opening_size, span_at, expression_at, head_at, statement_at, statements_at}
-use Rattle.sharc_parse.specs.declared.token.Fault.{Fault}
-use Rattle.sharc_parse.specs.declared.token.Fault.TheVariants.{Memory, Wrong, Deep}
-use Rattle.sharc_parse.specs.View.{bare}
-use Rattle.sharc_parse.specs.Goes.{from, Past, NotAt, IsAt}
-use Rattle.sharc_parse.specs.Lines.{line_within}
-use Rattle.sharc_parse.specs.declared.word.StatementWord.{StatementWord}
-use Rattle.sharc_parse.specs.declared.word.StatementWord.TheVariants.{If, While, For, Return, Break, Continue}
-use Rattle.sharc_parse.specs.Words.{statement_word, NoStatement}
-use Rattle.sharc_parse.specs.Heads.{bare_head}
-use Rattle.sharc_parse.specs.Statements.{bare_statement, sentence_of, sentences_of, ReadsStatement, BuildsStatement, IsRestPlaced}
-use Rattle.sharc_parse.specs.Nested.{IsOpen, holding, closed, ReadsStatements}
-use Rattle.sharc_parse.proofs.Steps.{passes, fails}
-use Rattle.sharc_parse.proofs.WordSteps.{line_there}
+use Rattle.sharc_grammar.specs.{Grammar.{Word, keyword, mark, Phrase, Loop, Sentence, under, Sentences, no_more, sentence, if_of, else_of, Opening, while_of, for_of}, Machine.{Outer, body, items, inside, as_statement, Start, Done, At, start, line_start, done, is_else, holds_items, with_item}, Limits.{Over, next_within, reads_within, around_it}, Places.{site_in, size, sentence_size, all_size, opening_size, span_at, expression_at, head_at, statement_at, statements_at}}
+use Rattle.sharc_parse.specs.{declared.token.Fault.Fault, declared.token.Fault.TheVariants.{Memory, Wrong, Deep}, View.bare, Goes.{from, Past, NotAt, IsAt}, Lines.line_within, declared.word.StatementWord.StatementWord, declared.word.StatementWord.TheVariants.{If, While, For, Return, Break, Continue}, Words.{statement_word, NoStatement}, Heads.bare_head, Statements.{bare_statement, sentence_of, sentences_of, ReadsStatement, BuildsStatement, IsRestPlaced}, Nested.{IsOpen, holding, closed, ReadsStatements}}
+use Rattle.sharc_parse.proofs.{Steps.{passes, fails}, WordSteps.line_there, PlainSteps.over_statement}
 
 -- blocks
 
@@ -99,9 +78,6 @@ for_ends h s o [] = refl
 for_ends h s o (t ∷ y) = refl
 
 -- where they are
-
-over_statement : (s : ℕ → Site) (n : ℕ) (v w : tree.Statement) → v ≡ w → w ≡ statement_at s n (bare_statement w) → v ≡ statement_at s n (bare_statement v)
-over_statement s n v w e h = subst (λ v. v ≡ statement_at s n (bare_statement v)) (sym e) h
 
 -- a statement that was made, with its first word before the old place
 pub rest_placed : (result : Result Stmt Fault) (tokens : List Token) (n old new : ℕ) (x : tree.Statement) → BuildsStatement result x → old ≡ n + 1 → x ≡ statement_at (site_in tokens) n (bare_statement x) → new ≡ n + sentence_size (bare_statement x) → IsRestPlaced result tokens old new

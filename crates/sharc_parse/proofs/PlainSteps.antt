@@ -1,28 +1,10 @@
 -- The machine's steps over statements that hold no other.
-use Rattle.std.proofs.Common.{◌≡◌, ℕ, inl, inr, ◌+◌, ◌<◌, List, [], ◌∷◌, sym, ap, ◌∙◌, arith, Bool, true, false}
-use Rattle.std.specs.Prelude.{◌==◌, ◌⊎◌, ◌≢◌}
-use Rattle.std.proofs.lemmas.Bool.Decides.{eqb_tells}
-use Rattle.std.proofs.lemmas.Bool.{lt-leb, le-leb}
-use Rattle.sharc_tree.specs.declared.token.Punctuator.TheVariants.{Semicolon}
-use Rattle.sharc_tree.specs.declared.tree.statement.Jump.{Jump}
-use Rattle.sharc_grammar.specs.Grammar.{Word, mark, jump}
-use Rattle.sharc_grammar.specs.Machine.{Outer, as_statement, Done, a_semicolon, At, holds_items, may_declare}
-use Rattle.sharc_grammar.specs.Limits.{reads_within, around_it, crowded_line}
-use Rattle.std.proofs.Common.{Option, subst}
-use Rattle.std.specs.Prelude.{Result, Ok, Err}
+use Rattle.std.proofs.{Common.{◌≡◌, ℕ, inl, inr, ◌+◌, ◌<◌, List, [], ◌∷◌, sym, ap, ◌∙◌, arith, Bool, true, false, Option, subst}, lemmas.Bool.Decides.eqb_tells, lemmas.Bool.{lt-leb, le-leb}}
+use Rattle.std.specs.Prelude.{◌==◌, ◌⊎◌, ◌≢◌, Result, Ok, Err}
+use Rattle.sharc_tree.specs.{declared.token.Punctuator.TheVariants.Semicolon, declared.tree.statement.Jump.Jump, View.{view_expr, view_option, view_stmt}, declared.token.Token.Token, declared.token.Site.Site, declared.token.Span.Span, declared.tree.expression.Expr.Expr, declared.tree.statement.Stmt.Stmt}
+use Rattle.sharc_grammar.specs.{Grammar.{Word, mark, jump}, Machine.{Outer, as_statement, Done, a_semicolon, At, holds_items, may_declare}, Limits.{reads_within, around_it, crowded_line}, Places.{site_in, option_size, option_at, span_at, statement_at, sentence_size}}
 use Rattle.sharc_tree.specs.Tree as tree
-use Rattle.sharc_tree.specs.View.{view_expr, view_option, view_stmt}
-use Rattle.sharc_tree.specs.declared.token.Token.{Token}
-use Rattle.sharc_tree.specs.declared.token.Site.{Site}
-use Rattle.sharc_tree.specs.declared.token.Span.{Span}
-use Rattle.sharc_tree.specs.declared.tree.expression.Expr.{Expr}
-use Rattle.sharc_tree.specs.declared.tree.statement.Stmt.{Stmt}
-use Rattle.sharc_grammar.specs.Places.{site_in, option_size, option_at, span_at, statement_at, sentence_size}
-use Rattle.sharc_parse.specs.declared.token.Fault.{Fault}
-use Rattle.sharc_parse.specs.declared.token.Fault.TheVariants.{Memory, Wrong, Deep}
-use Rattle.sharc_parse.specs.Rights.{option_of}
-use Rattle.sharc_parse.specs.Heads.{by_return, ReadsTail, IsTailPlaced}
-use Rattle.sharc_parse.specs.Statements.{bare_statement, sentence_of, BuildsStatement, ReadsReturn, IsRestPlaced}
+use Rattle.sharc_parse.specs.{declared.token.Fault.Fault, declared.token.Fault.TheVariants.{Memory, Wrong, Deep}, Rights.option_of, Heads.{by_return, ReadsTail, IsTailPlaced}, Statements.{bare_statement, sentence_of, BuildsStatement, ReadsReturn, IsRestPlaced}}
 use Rattle.sharc_parse.proofs.Steps.{fixed_goes}
 
 pub line_may : (o : Outer) (may : Bool) → holds_items o ≡ may → may_declare as_statement o ≡ may
@@ -50,7 +32,7 @@ return_reads (Err Memory) sp x old new b t = λ o. tt
 return_reads (Err Wrong) sp x old new b t = absurd b
 return_reads (Err Deep) sp x old new b t = absurd b
 
-over_statement : (s : ℕ → Site) (n : ℕ) (v w : tree.Statement) → v ≡ w → w ≡ statement_at s n (bare_statement w) → v ≡ statement_at s n (bare_statement v)
+pub over_statement : (s : ℕ → Site) (n : ℕ) (v w : tree.Statement) → v ≡ w → w ≡ statement_at s n (bare_statement w) → v ≡ statement_at s n (bare_statement v)
 over_statement s n v w e h = subst (λ v. v ≡ statement_at s n (bare_statement v)) (sym e) h
 
 -- its first word has the number before the old place

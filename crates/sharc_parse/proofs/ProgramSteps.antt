@@ -1,29 +1,12 @@
 -- The machine's steps over the items of a program, and its first fault.
-use Rattle.std.proofs.Common.{◌≡◌, ℕ, ◌+◌, ◌-◌, ◌<◌, ◌≤◌, List, [], ◌∷◌, ◌++◌, length, drop, refl, sym, ap, ◌∙◌, arith, subst, length-drop}
+use Rattle.std.proofs.{Common.{◌≡◌, ℕ, ◌+◌, ◌-◌, ◌<◌, ◌≤◌, List, [], ◌∷◌, ◌++◌, length, drop, refl, sym, ap, ◌∙◌, arith, subst, length-drop}, lemmas.List.{drop_all, length-map}}
 use Rattle.std.specs.Prelude.{Result, Ok, Err}
-use Rattle.std.proofs.lemmas.List.{drop_all, length-map}
-use Rattle.sharc_tree.specs.View.{view_item, view_items, view_program}
+use Rattle.sharc_tree.specs.{View.{view_item, view_items, view_program}, declared.token.Token.Token, declared.token.Tokens.Tokens, declared.token.Site.Site, declared.tree.item.Item.Item, declared.tree.item.Program.Program}
 use Rattle.sharc_tree.specs.Tree as tree
-use Rattle.sharc_tree.specs.declared.token.Token.{Token}
-use Rattle.sharc_tree.specs.declared.token.Tokens.{Tokens}
-use Rattle.sharc_tree.specs.declared.token.Site.{Site}
-use Rattle.sharc_tree.specs.declared.tree.item.Item.{Item}
-use Rattle.sharc_tree.specs.declared.tree.item.Program.{Program}
-use Rattle.sharc_grammar.specs.Grammar.{Word, Part, IsProgram, program_words}
-use Rattle.sharc_grammar.specs.Machine.{on_top, naming, TypeWant, Top, At, with_part, first_state}
-use Rattle.sharc_grammar.specs.Limits.{LowProgram, ReadWithin, StuckAt, Over, reads_within}
-use Rattle.sharc_grammar.specs.Places.{words_of, site_in, part_size, item_at, items_at, Reads}
+use Rattle.sharc_grammar.specs.{Grammar.{Word, Part, IsProgram, program_words}, Machine.{on_top, naming, TypeWant, Top, At, with_part, first_state}, Limits.{LowProgram, ReadWithin, StuckAt, Over, reads_within}, Places.{words_of, site_in, part_size, item_at, items_at, Reads}, Faults.{IsFault, wrong_code}}
 use Rattle.sharc_grammar.specs.declared.fault.GrammarFault.TheVariants as grammar_faults
-use Rattle.sharc_grammar.specs.Faults.{IsFault, wrong_code}
-use Rattle.sharc_parse.specs.declared.token.Fault.{Fault}
-use Rattle.sharc_parse.specs.declared.token.Fault.TheVariants.{Memory as NoMemory, Wrong, Deep}
-use Rattle.sharc_parse.specs.declared.program.ParseFault.{ParseFault}
-use Rattle.sharc_parse.specs.declared.program.ParseFault.TheVariants.{At as FaultOf, Memory}
-use Rattle.sharc_parse.specs.Goes.{from}
-use Rattle.sharc_parse.specs.Items.{part_of, ReadsItem, IsItemPlaced}
-use Rattle.sharc_parse.specs.declared.program.Refusal.{Refusal}
+use Rattle.sharc_parse.specs.{declared.token.Fault.Fault, declared.token.Fault.TheVariants.{Memory as NoMemory, Wrong, Deep}, declared.program.ParseFault.ParseFault, declared.program.ParseFault.TheVariants.{At as FaultOf, Memory}, Goes.from, Items.{part_of, ReadsItem, IsItemPlaced}, declared.program.Refusal.Refusal, Programs.{parts_of, code_of, ReadsItems, Refuses, Completes, Parses}}
 use Rattle.sharc_parse.specs.declared.program.Refusal.TheVariants as refusals
-use Rattle.sharc_parse.specs.Programs.{parts_of, code_of, ReadsItems, Refuses, Completes, Parses}
 
 -- at a word, a step from the top is one of a type there
 top_goes : (all : List Part) (ts : List Word) → 0 < length ts → reads_within ts (At [] (Top all)) ≡ reads_within ts (At [] (TypeWant (naming (on_top all))))

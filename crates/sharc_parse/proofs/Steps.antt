@@ -1,42 +1,19 @@
 -- The machine's steps within the limits, put together as the parser takes them.
-use Rattle.std.proofs.Common.{◌≡◌, ℕ, ◌+◌, ◌≤◌, ◌<◌, List, [], ◌∷◌, ◌++◌, Some, None, refl, sym, ap, ◌∙◌, arith, subst, true, false, cond, max, Result, Ok, Err}
+use Rattle.std.proofs.{Common.{◌≡◌, ℕ, ◌+◌, ◌≤◌, ◌<◌, List, [], ◌∷◌, ◌++◌, Some, None, refl, sym, ap, ◌∙◌, arith, subst, true, false, cond, max, Result, Ok, Err}, lemmas.Bool.{le-leb, lt-leb}}
 use Rattle.std.specs.Prelude.{nat_le}
-use Rattle.std.proofs.lemmas.Bool.{le-leb, lt-leb}
 use Rattle.sharc_tree.specs.declared.token.Keyword.TheVariants as key
-use Rattle.sharc_tree.specs.declared.token.Punctuator.TheVariants.{OpenParenthesis, CloseParenthesis, OpenBrace, OpenBracket, CloseBracket, Semicolon, Comma, Dot, Arrow, Minus, Star, Ampersand, Exclamation, Tilde}
-use Rattle.sharc_tree.specs.declared.tree.expression.BinaryOperator.{BinaryOperator}
+use Rattle.sharc_tree.specs.{declared.token.Punctuator.TheVariants.{OpenParenthesis, CloseParenthesis, OpenBrace, OpenBracket, CloseBracket, Semicolon, Comma, Dot, Arrow, Minus, Star, Ampersand, Exclamation, Tilde}, declared.tree.expression.BinaryOperator.BinaryOperator, declared.tree.expression.UnaryOperator.UnaryOperator, declared.tree.expression.UnaryOperator.TheVariants.{Negate, Not, Complement, Dereference}, declared.tree.expression.Access.Access, declared.tree.expression.Constant.Constant, View.{view_expr, view_arguments}, Children.view_arguments-push, declared.token.Site.Site, declared.tree.expression.Expr.Expr, declared.token.Span.Span, declared.token.Token.Token, declared.tree.declaration.Identifier.Identifier}
 use Rattle.sharc_tree.specs.declared.tree.expression.BinaryOperator.TheVariants as op
-use Rattle.sharc_tree.specs.declared.tree.expression.UnaryOperator.{UnaryOperator}
-use Rattle.sharc_tree.specs.declared.tree.expression.UnaryOperator.TheVariants.{Negate, Not, Complement, Dereference}
-use Rattle.sharc_tree.specs.declared.tree.expression.Access.{Access}
 use Rattle.sharc_tree.specs.declared.tree.expression.Access.TheVariants as access
 use Rattle.sharc_tree.specs.declared.tree.expression.ValueCall.TheVariants as value_call
 use Rattle.sharc_tree.specs.declared.tree.expression.PlaceCall.TheVariants as place_call
-use Rattle.sharc_tree.specs.declared.tree.expression.Constant.{Constant}
 use Rattle.sharc_tree.specs.declared.tree.expression.Constant.TheVariants as constants
-use Rattle.sharc_grammar.specs.Grammar.{Word, name, keyword, mark, number, character, Front, of_place, Phrase, identifier, constant, enclosed, call, index, field, unary, binary, Phrases, none, more, operator_mark, unary_mark, access_mark, constant_word, strength, front_level}
-use Rattle.sharc_grammar.specs.Machine.{condition, returning, testing, subject, valued, counting, Cont, part, beneath, right_of, fronted, indexing, arguments, Core, Want, Have, Called, Dotted, Fixed, an_open, a_close, a_semicolon, a_comma, a_brace, a_bracket, an_ampersand, a_sizeof, State, At, fixed_word, is_fixed, to, Role, Calling, Indexing, Accessing, Operating, Ending, role, grip_of, grip, with_last, floor, settle, mallocs, want, open_call, front_end, end_at, counted, shift, have}
-use Rattle.sharc_grammar.specs.Limits.{height, highest, depth, crowded, over_core, over, Limited, StuckAt, Over, next_within, reads_within}
-use Rattle.sharc_grammar.specs.Operators.{weak, operating, settle_stops, role_binary, role_unary, floor_most}
+use Rattle.sharc_grammar.specs.{Grammar.{Word, name, keyword, mark, number, character, Front, of_place, Phrase, identifier, constant, enclosed, call, index, field, unary, binary, Phrases, none, more, operator_mark, unary_mark, access_mark, constant_word, strength, front_level}, Machine.{condition, returning, testing, subject, valued, counting, Cont, part, beneath, right_of, fronted, indexing, arguments, Core, Want, Have, Called, Dotted, Fixed, an_open, a_close, a_semicolon, a_comma, a_brace, a_bracket, an_ampersand, a_sizeof, State, At, fixed_word, is_fixed, to, Role, Calling, Indexing, Accessing, Operating, Ending, role, grip_of, grip, with_last, floor, settle, mallocs, want, open_call, front_end, end_at, counted, shift, have}, Limits.{height, highest, depth, crowded, over_core, over, Limited, StuckAt, Over, next_within, reads_within}, Operators.{weak, operating, settle_stops, role_binary, role_unary, floor_most}, Places.{size, sizes, rest_size, expression_at, arguments_at, site_in, span_at, name_at, front_size, type_size, type_at}}
 use Rattle.sharc_tree.specs.Tree as tree
-use Rattle.sharc_tree.specs.View.{view_expr, view_arguments}
-use Rattle.sharc_tree.specs.Children.{view_arguments-push}
-use Rattle.sharc_tree.specs.declared.token.Site.{Site}
-use Rattle.sharc_tree.specs.declared.tree.expression.Expr.{Expr}
-use Rattle.sharc_grammar.specs.Places.{size, sizes, rest_size, expression_at, arguments_at}
-use Rattle.sharc_tree.specs.declared.token.Span.{Span}
-use Rattle.sharc_tree.specs.declared.token.Token.{Token}
-use Rattle.sharc_tree.specs.declared.tree.declaration.Identifier.{Identifier}
-use Rattle.sharc_grammar.specs.Places.{site_in, span_at, name_at, front_size, type_size, type_at}
-use Rattle.sharc_parse.specs.declared.token.Piece.{Piece}
-use Rattle.sharc_parse.specs.declared.token.Fault.{Fault}
-use Rattle.sharc_parse.specs.declared.expr.Front.{Front as ParsedFront}
+use Rattle.sharc_parse.specs.{declared.token.Piece.Piece, declared.token.Fault.Fault, declared.expr.Front.{Front as ParsedFront}, Goes.{Builds, IsPlaced, StandsFront, bare_front, front_tree, NotAt, IsAt, NoName, NoConstant, NoUnary, NoFront, NoCall, NoMalloc, NoAccess, front_word, after_front}, View.{bare, bare_type, phrase_of, phrases_of}, declared.token.FrontWord.FrontWord}
 use Rattle.sharc_parse.specs.declared.expr.Front.TheVariants as fronts
-use Rattle.sharc_parse.specs.Goes.{Builds, IsPlaced, StandsFront, bare_front, front_tree}
-use Rattle.sharc_parse.specs.View.{bare, bare_type, phrase_of, phrases_of}
-use Rattle.sharc_parse.specs.declared.token.FrontWord.{FrontWord}
 use Rattle.sharc_parse.specs.declared.token.FrontWord.TheVariants as begins
-use Rattle.sharc_parse.specs.Goes.{NotAt, IsAt, NoName, NoConstant, NoUnary, NoFront, NoCall, NoMalloc, NoAccess, front_word, after_front}
+use Rattle.sharc_lemmas.proofs.Numbers.{test_down}
 
 -- a step that passes the test, and one that doesn't
 pub passes : (n : State) (y all : List Word) → over n ≡ false → next_within (Some n) (λ s. reads_within y s) all ≡ reads_within y n
@@ -44,9 +21,6 @@ passes n y all e = ap (λ b. cond b (Over all) (reads_within y n)) e
 
 pub fails : (n : State) (y all : List Word) → over n ≡ true → next_within (Some n) (λ s. reads_within y s) all ≡ Over all
 fails n y all e = ap (λ b. cond b (Over all) (reads_within y n)) e
-
-pub test_down : (m : ℕ) → m < 64 → nat_le 64 m ≡ false
-test_down m h = lt-leb 64 m h
 
 -- there is room for one level more
 pub fine : (k : Cont) (m : ℕ) → crowded k ≡ false → m < 64 → cond (crowded k) true (nat_le 64 m) ≡ false
@@ -173,12 +147,6 @@ constant_step constants.Null k = refl
 pub constant_goes : (c : Constant) (k : Cont) (y : List Word) → crowded k ≡ false → reads_within (constant_word c ∷ y) (At [] (Want k)) ≡ reads_within y (At [] (Have (constant c) k))
 constant_goes c k y w = ap (λ o. next_within o (λ s. reads_within y s) (constant_word c ∷ y)) (constant_step c k) ∙ passes (At [] (Have (constant c) k)) y (constant_word c ∷ y) w
 
-pub name_goes : (n : List ℕ) (k : Cont) (y : List Word) → crowded k ≡ false → reads_within (name n ∷ y) (At [] (Want k)) ≡ reads_within y (At [] (Have (identifier n) k))
-name_goes n k y w = passes (At [] (Have (identifier n) k)) y (name n ∷ y) w
-
-pub call_goes : (n : List ℕ) (k : Cont) (y : List Word) → depth k < 64 → reads_within (mark OpenParenthesis ∷ y) (At [] (Have (identifier n) k)) ≡ reads_within y (At [] (Called n k))
-call_goes n k y h = passes (At [] (Called n k)) y (mark OpenParenthesis ∷ y) (test_down (depth k) h)
-
 pub call_deep : (n : List ℕ) (k : Cont) (ts : List Word) → IsAt (mark OpenParenthesis) ts → 64 ≤ depth k → reads_within ts (At [] (Have (identifier n) k)) ≡ Over ts
 call_deep n k [] a h = absurd a
 call_deep n k (t ∷ y) a h =
@@ -276,9 +244,6 @@ closed_operator o x k h f =
     ∙ closed_counts o x k h
 
 -- indexes and fields
-
-pub index_goes : (x : Phrase) (k : Cont) (y : List Word) → crowded k ≡ false → depth k + height x < 64 → reads_within (mark OpenBracket ∷ y) (At [] (Have x k)) ≡ reads_within y (At [] (Want (indexing x k)))
-index_goes x k y c h = passes (At [] (Want (indexing x k))) y (mark OpenBracket ∷ y) (fine k (depth k + height x) c h)
 
 pub index_deep : (x : Phrase) (k : Cont) (ts : List Word) → IsAt (mark OpenBracket) ts → crowded k ≡ false → 64 ≤ depth k + height x → reads_within ts (At [] (Have x k)) ≡ Over ts
 index_deep x k [] a c h = absurd a

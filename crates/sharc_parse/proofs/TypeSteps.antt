@@ -1,31 +1,13 @@
 -- The machine's steps over types.
-use Rattle.std.proofs.Common.{◌≡◌, ℕ, suc, ◌+◌, ◌≤◌, ◌<◌, List, [], ◌∷◌, length, Option, Some, None, refl, sym, ap, ◌∙◌, arith, subst, Bool, true, false, cond}
-use Rattle.std.proofs.lemmas.Bool.{le-leb, lt-leb}
+use Rattle.std.proofs.{Common.{◌≡◌, ℕ, suc, ◌+◌, ◌≤◌, ◌<◌, List, [], ◌∷◌, length, Option, Some, None, refl, sym, ap, ◌∙◌, arith, subst, Bool, true, false, cond}, lemmas.Bool.{le-leb, lt-leb}}
 use Rattle.sharc_tree.specs.declared.token.Keyword.TheVariants as key
-use Rattle.sharc_tree.specs.declared.token.Punctuator.TheVariants.{OpenParenthesis, CloseParenthesis, OpenBrace, Comma, Arrow, Star}
-use Rattle.sharc_tree.specs.declared.ctype.Base.{Base}
+use Rattle.sharc_tree.specs.{declared.token.Punctuator.TheVariants.{OpenParenthesis, CloseParenthesis, OpenBrace, Comma, Arrow, Star}, declared.ctype.Base.Base, declared.token.Token.Token, declared.token.Site.Site, declared.token.Span.Span, declared.ctype.Mode.Mode, declared.tree.declaration.WrittenType.WrittenType}
 use Rattle.sharc_tree.specs.declared.ctype.Base.TheVariants as base
-use Rattle.sharc_grammar.specs.Grammar.{Word, name, keyword, mark, Sharing, private, readonly, racy, dynamic, locked, locked_through, Typing, of_cast}
-use Rattle.sharc_grammar.specs.Machine.{Cont, Want, fronted, ModePlace, before_base, at_level, moded, TypePlace, casting, takes_modes, TypeWant, ModeFirst, StructWant, Typed, PathWant, PathNamed, PathThrough, an_open, a_close, State, At, or_else, mode_step, base_step, based, begin_type, typed, level_step, path_named}
-use Rattle.sharc_grammar.specs.Limits.{StuckAt, Over, next_within, reads_within, over_core, over, depth, crowded}
-use Rattle.sharc_parse.specs.declared.types.ModeWord.{ModeWord}
+use Rattle.sharc_grammar.specs.{Grammar.{Word, name, keyword, mark, Sharing, private, readonly, racy, dynamic, locked, locked_through, Typing, of_cast}, Machine.{Cont, Want, fronted, ModePlace, before_base, at_level, moded, TypePlace, casting, takes_modes, TypeWant, ModeFirst, StructWant, Typed, PathWant, PathNamed, PathThrough, an_open, a_close, State, At, or_else, mode_step, base_step, based, begin_type, typed, level_step, path_named}, Limits.{StuckAt, Over, next_within, reads_within, over_core, over, depth, crowded}, Places.{site_in, level_size, levels_size, levels_at, level_at, base_place, span_at, type_size}}
+use Rattle.sharc_parse.specs.{declared.types.ModeWord.ModeWord, declared.types.BaseWord.BaseWord, Goes.{NotAt, IsAt, NoName, from, Past}, declared.token.Fault.Fault, declared.token.Fault.TheVariants.{Memory, Wrong, Deep}, declared.types.Bottom.Bottom, View.{bare_level, bare_type}, Types.{typed_levels, typed_state, ReadsLevel, IsModeRestPlaced, IsModePlaced, ReadsBottom, EndsBottom, IsBottomPlaced, ReadsType, EndsType, IsTypePlaced, ReadsCast, mode_word, NoMode, HasMode, IsOpen, mode_within, after_mode, base_word, NoBase, base_within, EndsLevel, EndsLevels}}
 use Rattle.sharc_parse.specs.declared.types.ModeWord.TheVariants as modes
-use Rattle.sharc_parse.specs.declared.types.BaseWord.{BaseWord}
 use Rattle.sharc_parse.specs.declared.types.BaseWord.TheVariants as bases
-use Rattle.sharc_parse.specs.Goes.{NotAt, IsAt, NoName}
 use Rattle.std.specs.Prelude.{map, insert, Ok, Err}
-use Rattle.sharc_tree.specs.declared.token.Token.{Token}
-use Rattle.sharc_tree.specs.declared.token.Site.{Site}
-use Rattle.sharc_tree.specs.declared.token.Span.{Span}
-use Rattle.sharc_tree.specs.declared.ctype.Mode.{Mode}
-use Rattle.sharc_tree.specs.declared.tree.declaration.WrittenType.{WrittenType}
-use Rattle.sharc_grammar.specs.Places.{site_in, level_size, levels_size, levels_at, level_at, base_place, span_at, type_size}
-use Rattle.sharc_parse.specs.declared.token.Fault.{Fault}
-use Rattle.sharc_parse.specs.declared.token.Fault.TheVariants.{Memory, Wrong, Deep}
-use Rattle.sharc_parse.specs.declared.types.Bottom.{Bottom}
-use Rattle.sharc_parse.specs.View.{bare_level, bare_type}
-use Rattle.sharc_parse.specs.Goes.{from, Past}
-use Rattle.sharc_parse.specs.Types.{typed_levels, typed_state, ReadsLevel, IsModeRestPlaced, IsModePlaced, ReadsBottom, EndsBottom, IsBottomPlaced, ReadsType, EndsType, IsTypePlaced, ReadsCast, mode_word, NoMode, HasMode, IsOpen, mode_within, after_mode, base_word, NoBase, base_within, EndsLevel, EndsLevels}
 use Rattle.sharc_parse.proofs.Steps.{passes, fails, fixed_goes, fine}
 
 -- there is a level, and so the mode passes no limit

@@ -1,19 +1,10 @@
 -- The machine's steps over the first words of statements.
-use Rattle.std.proofs.Common.{◌≡◌, ℕ, ◌+◌, ◌≤◌, ◌<◌, List, [], ◌∷◌, Some, None, refl, sym, ap, ◌∙◌, arith, true, false}
-use Rattle.std.proofs.lemmas.Bool.{lt-leb, le-leb}
+use Rattle.std.proofs.{Common.{◌≡◌, ℕ, ◌+◌, ◌≤◌, ◌<◌, List, [], ◌∷◌, Some, None, refl, sym, ap, ◌∙◌, arith, true, false}, lemmas.Bool.{lt-leb, le-leb}}
 use Rattle.sharc_tree.specs.declared.token.Keyword.TheVariants as key
 use Rattle.sharc_tree.specs.declared.token.Punctuator.TheVariants.{OpenParenthesis, CloseParenthesis, OpenBrace, CloseBrace}
-use Rattle.sharc_grammar.specs.Grammar.{Word, keyword, mark, Phrase}
-use Rattle.sharc_grammar.specs.Machine.{Outer, inside, as_statement, Asked, condition, part, Want, Have, Start, an_open, At, leave, asked, start, line_start}
-use Rattle.sharc_grammar.specs.Machine.{grip}
-use Rattle.sharc_grammar.specs.Limits.{StuckAt, Over, next_within, reads_within, around_it, over}
-use Rattle.sharc_parse.specs.declared.word.StatementWord.{StatementWord}
-use Rattle.sharc_parse.specs.declared.word.StatementWord.TheVariants.{If, While, For, Return, Break, Continue}
-use Rattle.sharc_parse.specs.Goes.{NotAt, IsAt}
-use Rattle.sharc_parse.specs.Lines.{line_within}
-use Rattle.sharc_parse.specs.Words.{statement_word, room_of, NoStatement, after_word}
-use Rattle.sharc_parse.proofs.Steps.{passes, fails, fixed_goes}
-use Rattle.sharc_parse.proofs.RightSteps.{ends_place}
+use Rattle.sharc_grammar.specs.{Grammar.{Word, keyword, mark, Phrase}, Machine.{Outer, inside, as_statement, Asked, condition, part, Want, Have, Start, an_open, At, leave, asked, start, line_start, grip}, Limits.{StuckAt, Over, next_within, reads_within, around_it, over}}
+use Rattle.sharc_parse.specs.{declared.word.StatementWord.StatementWord, declared.word.StatementWord.TheVariants.{If, While, For, Return, Break, Continue}, Goes.{NotAt, IsAt}, Lines.line_within, Words.{statement_word, room_of, NoStatement, after_word}}
+use Rattle.sharc_parse.proofs.{Steps.{passes, fails, fixed_goes}, RightSteps.ends_place}
 
 start_step : (w : StatementWord) (o : Outer) → start o (statement_word w) ≡ Some (after_word w o)
 start_step If o = refl

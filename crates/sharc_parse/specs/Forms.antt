@@ -1,18 +1,14 @@
 -- What the functions promise that read what follows the name of a global.
 use Rattle.std.specs.Prelude.{◌≡◌, ℕ, ◌+◌, List, [], ◌∷◌, Option, Some, None, Result, IfOk}
-use Rattle.sharc_tree.specs.declared.token.Token.{Token}
-use Rattle.sharc_tree.specs.declared.token.Number.{Number}
+use Rattle.sharc_tree.specs.{declared.token.Token.Token, declared.token.Number.Number}
 use Rattle.sharc_tree.specs.declared.token.Punctuator.TheVariants.{OpenParenthesis}
-use Rattle.sharc_tree.specs.declared.tree.expression.Constant.{Constant}
-use Rattle.sharc_tree.specs.declared.tree.expression.Constant.TheVariants as constants
-use Rattle.sharc_tree.specs.declared.tree.item.GlobalForm.{GlobalForm}
+use Rattle.sharc_tree.specs.{declared.tree.expression.Constant.Constant, declared.tree.item.GlobalForm.GlobalForm}
 use Rattle.sharc_tree.specs.declared.tree.item.GlobalForm.TheVariants.{Plain, Array, Initial}
+use Rattle.sharc_tree.specs.declared.tree.expression.Constant.TheVariants as constants
 use Rattle.sharc_grammar.specs.Grammar.{Word, mark, number, character, constant_word, Typing, Declaring, Form, single, array, initially, Part, global}
 use Rattle.sharc_grammar.specs.Machine.{on_top, Named, ArrayWant, InitialWant, Top, a_semicolon, At, declaring_of, with_part}
-use Rattle.sharc_grammar.specs.Limits.{reads_within}
-use Rattle.sharc_grammar.specs.Places.{site_in, form_size, form_at}
-use Rattle.sharc_parse.specs.declared.token.Fault.{Fault}
-use Rattle.sharc_parse.specs.Goes.{from, Past, NotAt, Goes}
+use Rattle.sharc_grammar.specs.{Limits.reads_within, Places.{site_in, form_size, form_at}}
+use Rattle.sharc_parse.specs.{declared.token.Fault.Fault, Goes.{from, Past, NotAt, Goes}}
 
 abbrev pub NoNumber : List Word → Type 0
 NoNumber (number n ∷ rest) = ⊥

@@ -1,35 +1,28 @@
 -- What the functions of the parser promise: they go the machine's way.
 use Rattle.std.specs.Prelude.{◌≡◌, ℕ, ◌+◌, ◌≤◌, ◌<◌, Bool, true, false, List, [], ◌∷◌, length, drop, Option, Some, None, Result, Ok, Err, IfOk}
-use Rattle.sharc_tree.specs.View.{view_expr}
-use Rattle.sharc_tree.specs.declared.token.Token.{Token}
-use Rattle.sharc_tree.specs.declared.token.Span.{Span}
+use Rattle.sharc_tree.specs.{View.view_expr, declared.token.Token.Token, declared.token.Span.Span}
 use Rattle.sharc_tree.specs.declared.token.Punctuator.{Punctuator}
 use Rattle.sharc_tree.specs.declared.token.Punctuator.TheVariants.{OpenParenthesis}
-use Rattle.sharc_tree.specs.declared.tree.declaration.Identifier.{Identifier}
-use Rattle.sharc_tree.specs.declared.tree.expression.Expr.{Expr}
+use Rattle.sharc_tree.specs.{declared.tree.declaration.Identifier.Identifier, declared.tree.expression.Expr.Expr}
 use Rattle.sharc_tree.specs.declared.tree.expression.Constant.{Constant}
 use Rattle.sharc_tree.specs.declared.tree.expression.BinaryOperator.{BinaryOperator}
 use Rattle.sharc_tree.specs.declared.tree.expression.UnaryOperator.{UnaryOperator}
 use Rattle.sharc_tree.specs.declared.tree.expression.Access.{Access}
 use Rattle.sharc_grammar.specs.Grammar.{Word, name, keyword, mark, number, character, left_out, Phrase, identifier, constant, constant_word, unary_mark, operator_mark, access_mark, strength}
-use Rattle.sharc_grammar.specs.Machine.{Cont, Want, Have, State, At, floor, grip, grip_of, role, TypeWant, an_open, fronted, part, valued}
+use Rattle.sharc_grammar.specs.Machine.{Cont, Want, Have, State, At, floor, grip, grip_of, role, TypeWant, an_open, fronted, part, valued, an_ampersand, Spawning, casting}
 use Rattle.sharc_grammar.specs.Limits.{Limited, StuckAt, Over, reads_within, depth, crowded, height}
-use Rattle.sharc_grammar.specs.Places.{words_of, site_in, size, expression_at}
-use Rattle.sharc_parse.specs.declared.token.Fault.{Fault}
-use Rattle.sharc_parse.specs.declared.token.Fault.TheVariants.{Memory, Wrong, Deep}
+use Rattle.sharc_grammar.specs.Places.{words_of, site_in, size, expression_at, front_size, type_at}
+use Rattle.sharc_parse.specs.{declared.token.Fault.Fault, declared.token.Fault.TheVariants.{Memory, Wrong, Deep}}
 use Rattle.sharc_parse.specs.declared.token.FrontWord.{FrontWord}
 use Rattle.sharc_parse.specs.declared.token.FrontWord.TheVariants.{Parenthesis, Spawn, Value, Place, Cast}
-use Rattle.sharc_parse.specs.declared.token.Piece.{Piece}
+use Rattle.sharc_parse.specs.{declared.token.Piece.Piece, declared.expr.Front.Front}
+use Rattle.sharc_parse.specs.declared.expr.Front.TheVariants.{Parenthesis as FrontParenthesis, Spawn as FrontSpawn, Value as FrontValue, Place as FrontPlace, Cast as FrontCast}
+use Rattle.sharc_parse.specs.View.{phrase_of, bare_type}
 use Rattle.sharc_tree.specs.declared.token.Keyword.TheVariants as key
 use Rattle.sharc_tree.specs.declared.tree.expression.ValueCall.TheVariants as value_call
 use Rattle.sharc_tree.specs.declared.tree.expression.PlaceCall.TheVariants as place_call
-use Rattle.sharc_parse.specs.declared.expr.Front.{Front}
-use Rattle.sharc_parse.specs.declared.expr.Front.TheVariants.{Parenthesis as FrontParenthesis, Spawn as FrontSpawn, Value as FrontValue, Place as FrontPlace, Cast as FrontCast}
 use Rattle.sharc_tree.specs.Tree as tree
 use Rattle.sharc_grammar.specs.Grammar as grammar
-use Rattle.sharc_grammar.specs.Machine.{an_ampersand, Spawning, casting}
-use Rattle.sharc_grammar.specs.Places.{front_size, type_at}
-use Rattle.sharc_parse.specs.View.{phrase_of, bare_type}
 
 -- the words from token number n on
 abbrev pub from : List Token → ℕ → List Word

@@ -1,20 +1,15 @@
 -- What the functions that read the head of a `for` promise.
 use Rattle.std.specs.Prelude.{◌≡◌, ℕ, ◌+◌, ◌<◌, List, [], ◌∷◌, Option, Some, None, Result, IfOk}
 use Rattle.sharc_tree.specs.Tree as tree
-use Rattle.sharc_tree.specs.View.{view_expr, view_option, view_simple, view_head}
-use Rattle.sharc_tree.specs.declared.token.Token.{Token}
-use Rattle.sharc_tree.specs.declared.tree.expression.Expr.{Expr}
-use Rattle.sharc_tree.specs.declared.tree.statement.Simple.{Simple}
+use Rattle.sharc_tree.specs.{View.{view_expr, view_option, view_simple, view_head}, declared.token.Token.Token}
+use Rattle.sharc_tree.specs.{declared.tree.expression.Expr.Expr, declared.tree.statement.Simple.Simple}
 use Rattle.sharc_tree.specs.declared.tree.statement.ForHead.{ForHead}
 use Rattle.sharc_grammar.specs.Grammar.{Word, Phrase, Doing, Line, Loop, return, for_of}
 use Rattle.sharc_grammar.specs.Machine.{Outer, inside, Place, returning, testing, Start, Done, Returning, ForOpen, ForTest, ForStep, an_open, State, At, loop}
 use Rattle.sharc_grammar.specs.Limits.{reads_within, around_it}
 use Rattle.sharc_grammar.specs.Places.{site_in, option_size, option_at, step_size, step_at, opening_size, head_at}
-use Rattle.sharc_parse.specs.declared.token.Fault.{Fault}
-use Rattle.sharc_parse.specs.Goes.{Goes}
-use Rattle.sharc_parse.specs.Rights.{bare_option, option_of}
-use Rattle.sharc_parse.specs.Simples.{bare_doing}
-use Rattle.sharc_parse.specs.Lines.{bare_line}
+use Rattle.sharc_parse.specs.{declared.token.Fault.Fault, Goes.Goes, Rights.{bare_option, option_of}}
+use Rattle.sharc_parse.specs.{Simples.bare_doing, Lines.bare_line}
 
 -- where an expression that may be left out comes before a `;`
 pub data Tail : Type 0 where

@@ -1,24 +1,16 @@
 -- What the functions that read the items of a program promise.
 use Rattle.std.specs.Prelude.{◌≡◌, ℕ, ◌+◌, true, List, [], Option, Some, None, Result, Ok, Err, IfOk}
 use Rattle.sharc_tree.specs.Tree as tree
-use Rattle.sharc_tree.specs.View.{view_item}
-use Rattle.sharc_tree.specs.declared.token.Token.{Token}
+use Rattle.sharc_tree.specs.{View.view_item, declared.token.Token.Token}
 use Rattle.sharc_tree.specs.declared.token.Punctuator.TheVariants.{OpenBrace}
 use Rattle.sharc_tree.specs.declared.tree.declaration.Identifier.{Identifier}
-use Rattle.sharc_tree.specs.declared.tree.declaration.WrittenType.{WrittenType}
-use Rattle.sharc_tree.specs.declared.tree.item.Item.{Item}
+use Rattle.sharc_tree.specs.{declared.tree.declaration.WrittenType.WrittenType, declared.tree.item.Item.Item}
 use Rattle.sharc_grammar.specs.Grammar.{Word, mark, Typing, Part, structure, global, function}
 use Rattle.sharc_grammar.specs.Machine.{on_top, field_of, parameter_of, naming, TypeWant, Top, State, At, with_part}
-use Rattle.sharc_grammar.specs.Limits.{reads_within}
-use Rattle.sharc_grammar.specs.Places.{site_in, type_size, part_size, name_at, type_at, item_at}
-use Rattle.sharc_parse.specs.declared.token.Fault.{Fault}
-use Rattle.sharc_parse.specs.declared.token.Fault.TheVariants.{Memory}
-use Rattle.sharc_parse.specs.View.{bare_type, bare_declaration}
-use Rattle.sharc_parse.specs.Goes.{from, Past, NotAt, Goes}
-use Rattle.sharc_parse.specs.Types.{typed_state, EndsType}
-use Rattle.sharc_parse.specs.Locals.{struct_type}
-use Rattle.sharc_parse.specs.Forms.{form_of}
-use Rattle.sharc_parse.specs.Fields.{declared}
+use Rattle.sharc_grammar.specs.{Limits.reads_within, Places.{site_in, type_size, part_size, name_at, type_at, item_at}}
+use Rattle.sharc_parse.specs.{declared.token.Fault.Fault, declared.token.Fault.TheVariants.Memory}
+use Rattle.sharc_parse.specs.{View.{bare_type, bare_declaration}, Goes.{from, Past, NotAt, Goes}}
+use Rattle.sharc_parse.specs.{Types.{typed_state, EndsType}, Locals.struct_type, Forms.form_of, Fields.declared}
 use Rattle.sharc_parse.specs.Statements.{bare_statements}
 
 abbrev pub bare_item : tree.Item → Part

@@ -1,22 +1,17 @@
 -- What the functions that read lines promise: what a `;` ends in a block, and in the head of a `for`.
 use Rattle.std.specs.Prelude.{◌≡◌, ℕ, ◌+◌, ◌⊎◌, Bool, true, false, List, [], ◌∷◌, Result, IfOk}
 use Rattle.sharc_tree.specs.Tree as tree
-use Rattle.sharc_tree.specs.View.{view_first}
-use Rattle.sharc_tree.specs.declared.token.Token.{Token}
-use Rattle.sharc_tree.specs.declared.token.Keyword.TheVariants as key
+use Rattle.sharc_tree.specs.{View.view_first, declared.token.Token.Token}
 use Rattle.sharc_tree.specs.declared.token.Punctuator.TheVariants.{Semicolon, Minus, Exclamation, Tilde, Star, OpenParenthesis}
 use Rattle.sharc_tree.specs.declared.tree.statement.ForFirst.{ForFirst}
+use Rattle.sharc_tree.specs.declared.token.Keyword.TheVariants as key
 use Rattle.sharc_grammar.specs.Grammar.{Word, name, keyword, mark, number, character, Line, nothing, does, declares}
 use Rattle.sharc_grammar.specs.Machine.{Outer, LinePlace, in_line, local, naming, part, subject, Want, TypeWant, At, lined, line_start, may_declare}
 use Rattle.sharc_grammar.specs.Limits.{Limited, StuckAt, next_within, reads_within, crowded_line}
 use Rattle.sharc_grammar.specs.Places.{site_in, line_size, first_at}
-use Rattle.sharc_parse.specs.declared.token.Fault.{Fault}
-use Rattle.sharc_parse.specs.declared.types.BaseWord.{BaseWord}
-use Rattle.sharc_parse.specs.declared.line.MayDeclare.{MayDeclare}
-use Rattle.sharc_parse.specs.declared.line.MayDeclare.TheVariants.{Yes, No}
-use Rattle.sharc_parse.specs.Goes.{Goes}
-use Rattle.sharc_parse.specs.Types.{HasMode, NoMode, base_word, NoBase}
-use Rattle.sharc_parse.specs.Simples.{bare_doing}
+use Rattle.sharc_parse.specs.{declared.token.Fault.Fault, declared.types.BaseWord.BaseWord}
+use Rattle.sharc_parse.specs.{declared.line.MayDeclare.MayDeclare, declared.line.MayDeclare.TheVariants.{Yes, No}}
+use Rattle.sharc_parse.specs.{Goes.Goes, Types.{HasMode, NoMode, base_word, NoBase}, Simples.bare_doing}
 use Rattle.sharc_parse.specs.Locals.{bare_local}
 
 abbrev pub bare_line : tree.First → Line

@@ -1,24 +1,19 @@
 -- What the functions that read declarations promise.
 use Rattle.std.specs.Prelude.{◌≡◌, ℕ, ◌+◌, true, false, List, [], ◌∷◌, Option, Some, None, Result, Ok, IfOk}
 use Rattle.sharc_tree.specs.Tree as tree
-use Rattle.sharc_tree.specs.View.{view_option, view_right, view_local}
-use Rattle.sharc_tree.specs.declared.token.Token.{Token}
+use Rattle.sharc_tree.specs.{View.{view_option, view_right, view_local}, declared.token.Token.Token}
 use Rattle.sharc_tree.specs.declared.token.Punctuator.TheVariants.{Assign, CloseParenthesis, OpenBrace}
-use Rattle.sharc_tree.specs.declared.ctype.Base.TheVariants as base
 use Rattle.sharc_tree.specs.declared.tree.declaration.Identifier.{Identifier}
 use Rattle.sharc_tree.specs.declared.tree.declaration.WrittenType.{WrittenType}
-use Rattle.sharc_tree.specs.declared.tree.declaration.Declaration.{Declaration}
-use Rattle.sharc_tree.specs.declared.tree.statement.Right.{Right}
+use Rattle.sharc_tree.specs.{declared.tree.declaration.Declaration.Declaration, declared.tree.statement.Right.Right}
 use Rattle.sharc_tree.specs.declared.tree.statement.Local.{Local}
+use Rattle.sharc_tree.specs.declared.ctype.Base.TheVariants as base
 use Rattle.sharc_grammar.specs.Grammar.{Word, mark, Typing, Declared, Value}
 use Rattle.sharc_grammar.specs.Machine.{Outer, LinePlace, NamePlace, on_top, parameter_of, local, naming, of_local, TypeWant, Named, State, At, declaring_of}
 use Rattle.sharc_grammar.specs.Limits.{reads_within}
 use Rattle.sharc_grammar.specs.Places.{site_in, declaring_size, declaration_at, initial_size, initial_at, local_size, local_at}
-use Rattle.sharc_parse.specs.declared.token.Fault.{Fault}
-use Rattle.sharc_parse.specs.View.{bare_type, bare_declaration}
-use Rattle.sharc_parse.specs.Goes.{Goes, NotAt}
-use Rattle.sharc_parse.specs.Types.{typed_state, EndsType}
-use Rattle.sharc_parse.specs.Rights.{bare_value, valued_state, EndsValue}
+use Rattle.sharc_parse.specs.{declared.token.Fault.Fault, View.{bare_type, bare_declaration}, Goes.{Goes, NotAt}}
+use Rattle.sharc_parse.specs.{Types.{typed_state, EndsType}, Rights.{bare_value, valued_state, EndsValue}}
 
 abbrev pub void_type : Typing
 void_type = record { mode_first = false; base = base.Void; levels = None ∷ [] }

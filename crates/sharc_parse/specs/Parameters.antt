@@ -1,17 +1,13 @@
 -- What the functions that read the parameters of a function promise.
 use Rattle.std.specs.Prelude.{◌≡◌, ℕ, ◌+◌, Bool, true, false, List, [], ◌∷◌, Option, Some, None, Result, IfOk}
-use Rattle.sharc_tree.specs.declared.token.Token.{Token}
-use Rattle.sharc_tree.specs.declared.token.Punctuator.TheVariants.{CloseParenthesis}
+use Rattle.sharc_tree.specs.{declared.token.Token.Token, declared.token.Punctuator.TheVariants.CloseParenthesis}
 use Rattle.sharc_tree.specs.declared.tree.declaration.Declaration.{Declaration}
 use Rattle.sharc_grammar.specs.Grammar.{Word, mark, Typing, Declaring, Part, no_more}
 use Rattle.sharc_grammar.specs.Machine.{body, parameter_of, naming, TypeWant, Named, Start, a_brace, State, At}
 use Rattle.sharc_grammar.specs.Limits.{reads_within}
 use Rattle.sharc_grammar.specs.Places.{site_in, declaring_size, declaration_at, parameters_size, declarations_at}
-use Rattle.sharc_parse.specs.declared.token.Fault.{Fault}
-use Rattle.sharc_parse.specs.View.{bare_declaration}
-use Rattle.sharc_parse.specs.Goes.{from, Past, NotAt, Goes}
-use Rattle.sharc_parse.specs.Locals.{void_type}
-use Rattle.sharc_parse.specs.Fields.{declared}
+use Rattle.sharc_parse.specs.{declared.token.Fault.Fault, View.bare_declaration, Goes.{from, Past, NotAt, Goes}}
+use Rattle.sharc_parse.specs.{Locals.void_type, Fields.declared}
 
 abbrev pub ClosesVoid : Bool → Typing → List Token → ℕ → ℕ → Type 0
 ClosesVoid true t tokens old new = (t ≡ void_type) × Past (mark CloseParenthesis) tokens old new

@@ -1,25 +1,15 @@
 -- What the parser answers: the program, or the first fault.
 use Rattle.std.specs.Prelude.{◌≡◌, ℕ, List, [], ◌∷◌, drop, map, slice_index_or, Result, Ok, Err, IfOk}
-use Rattle.sharc_tree.specs.View.{view_items, view_program}
-use Rattle.sharc_tree.specs.declared.token.Token.{Token}
-use Rattle.sharc_tree.specs.declared.token.Tokens.{Tokens}
-use Rattle.sharc_tree.specs.declared.token.Site.{Site}
-use Rattle.sharc_tree.specs.declared.token.FaultAt.{FaultAt}
-use Rattle.sharc_tree.specs.declared.tree.item.Item.{Item}
+use Rattle.sharc_tree.specs.{View.{view_items, view_program}, declared.token.Token.Token, declared.token.Tokens.Tokens}
+use Rattle.sharc_tree.specs.{declared.token.Site.Site, declared.token.FaultAt.FaultAt, declared.tree.item.Item.Item}
 use Rattle.sharc_tree.specs.declared.tree.item.Program.{Program}
-use Rattle.sharc_grammar.specs.declared.fault.GrammarFault.{GrammarFault}
-use Rattle.sharc_grammar.specs.declared.fault.GrammarFault.TheVariants as fault
-use Rattle.sharc_grammar.specs.Grammar.{Word, Part}
-use Rattle.sharc_grammar.specs.Machine.{first_state}
-use Rattle.sharc_grammar.specs.Limits.{ReadWithin, reads_within}
-use Rattle.sharc_grammar.specs.Places.{words_of, site_in, items_at, Reads}
+use Rattle.sharc_grammar.specs.{declared.fault.GrammarFault.GrammarFault, Grammar.{Word, Part}, Machine.first_state}
+use Rattle.sharc_grammar.specs.{Limits.{ReadWithin, reads_within}, Places.{words_of, site_in, items_at, Reads}}
 use Rattle.sharc_grammar.specs.Faults.{IsFault, wrong_code}
-use Rattle.sharc_parse.specs.declared.program.Refusal.{Refusal}
-use Rattle.sharc_parse.specs.declared.program.Refusal.TheVariants.{Wrong, Deep}
-use Rattle.sharc_parse.specs.declared.token.Fault.{Fault}
-use Rattle.sharc_parse.specs.declared.program.ParseFault.{ParseFault}
-use Rattle.sharc_parse.specs.declared.program.ParseFault.TheVariants.{At as FaultOf, Memory}
-use Rattle.sharc_parse.specs.Goes.{from, Goes}
+use Rattle.sharc_grammar.specs.declared.fault.GrammarFault.TheVariants as fault
+use Rattle.sharc_parse.specs.{declared.program.Refusal.Refusal, declared.program.Refusal.TheVariants.{Wrong, Deep}}
+use Rattle.sharc_parse.specs.{declared.token.Fault.Fault, declared.program.ParseFault.ParseFault}
+use Rattle.sharc_parse.specs.{declared.program.ParseFault.TheVariants.{At as FaultOf, Memory}, Goes.{from, Goes}}
 use Rattle.sharc_parse.specs.Items.{part_of}
 
 -- the file and the line of the first of the tokens, or of the end of input

@@ -1,25 +1,15 @@
 -- What the functions that read statements promise.
 use Rattle.std.specs.Prelude.{◌≡◌, ℕ, ◌+◌, ◌<◌, Bool, true, List, [], ◌∷◌, Result, Ok, Err, IfOk}
 use Rattle.sharc_tree.specs.Tree as tree
-use Rattle.sharc_tree.specs.View.{view_stmt, view_statements}
-use Rattle.sharc_tree.specs.declared.token.Token.{Token}
-use Rattle.sharc_tree.specs.declared.token.Span.{Span}
+use Rattle.sharc_tree.specs.{View.{view_stmt, view_statements}, declared.token.Token.Token, declared.token.Span.Span}
+use Rattle.sharc_tree.specs.{declared.tree.statement.Jump.Jump, declared.tree.statement.Stmt.Stmt}
 use Rattle.sharc_tree.specs.declared.token.Keyword.TheVariants as key
-use Rattle.sharc_tree.specs.declared.tree.statement.Jump.{Jump}
-use Rattle.sharc_tree.specs.declared.tree.statement.Stmt.{Stmt}
 use Rattle.sharc_grammar.specs.Grammar.{Word, keyword, Sentence, line, jump, return, block, under, Sentences, no_more, sentence, if_of, else_of, while_of, for_of, nothing, does, declares, takes_else}
 use Rattle.sharc_grammar.specs.Machine.{Outer, as_statement, Start, Done, Returning, a_semicolon, At, holds_items}
-use Rattle.sharc_grammar.specs.Limits.{reads_within, around_it}
-use Rattle.sharc_grammar.specs.Places.{site_in, sentence_size, statement_at}
-use Rattle.sharc_parse.specs.declared.token.Fault.{Fault}
-use Rattle.sharc_parse.specs.declared.token.Fault.TheVariants.{Memory}
-use Rattle.sharc_parse.specs.View.{bare}
-use Rattle.sharc_parse.specs.Goes.{NotAt, Goes}
-use Rattle.sharc_parse.specs.Rights.{bare_option}
-use Rattle.sharc_parse.specs.Simples.{bare_doing}
-use Rattle.sharc_parse.specs.Locals.{bare_local}
-use Rattle.sharc_parse.specs.Heads.{bare_head}
-use Rattle.sharc_parse.specs.Lines.{line_within}
+use Rattle.sharc_grammar.specs.{Limits.{reads_within, around_it}, Places.{site_in, sentence_size, statement_at}}
+use Rattle.sharc_parse.specs.{declared.token.Fault.Fault, declared.token.Fault.TheVariants.Memory, View.bare}
+use Rattle.sharc_parse.specs.{Goes.{NotAt, Goes}, Rights.bare_option, Simples.bare_doing, Locals.bare_local}
+use Rattle.sharc_parse.specs.{Heads.bare_head, Lines.line_within}
 
 abbrev mutual
   pub bare_statement : tree.Statement → Sentence

@@ -1,29 +1,22 @@
 -- What the functions that read types promise.
 use Rattle.std.specs.Prelude.{◌≡◌, ℕ, ◌+◌, ◌≤◌, ◌<◌, Bool, true, false, List, [], ◌∷◌, length, Option, Some, None, Result, Ok, Err, IfOk}
-use Rattle.sharc_tree.specs.declared.token.Token.{Token}
-use Rattle.sharc_tree.specs.declared.token.Site.{Site}
-use Rattle.sharc_tree.specs.declared.token.Keyword.TheVariants as key
-use Rattle.sharc_tree.specs.declared.token.Punctuator.TheVariants.{Star}
-use Rattle.sharc_tree.specs.declared.ctype.Base.{Base}
-use Rattle.sharc_tree.specs.declared.ctype.Mode.{Mode}
-use Rattle.sharc_tree.specs.declared.ctype.Mode.TheVariants as mode
-use Rattle.sharc_tree.specs.declared.ctype.Path.{Path}
+use Rattle.sharc_tree.specs.{declared.token.Token.Token, declared.token.Site.Site}
+use Rattle.sharc_tree.specs.{declared.token.Punctuator.TheVariants.Star, declared.ctype.Base.Base}
+use Rattle.sharc_tree.specs.{declared.ctype.Mode.Mode, declared.ctype.Path.Path}
 use Rattle.sharc_tree.specs.declared.tree.declaration.WrittenType.{WrittenType}
+use Rattle.sharc_tree.specs.declared.token.Keyword.TheVariants as key
+use Rattle.sharc_tree.specs.declared.ctype.Mode.TheVariants as mode
 use Rattle.sharc_grammar.specs.Grammar.{Word, keyword, mark, Sharing, private, readonly, racy, dynamic, Typing, of_cast}
 use Rattle.sharc_grammar.specs.Machine.{ModePlace, before_base, at_level, moded, TypePlace, takes_modes, TypeWant, Typed, PathWant, an_open, State, At, mode_step, base_step, based, casting, Cont, Want, fronted}
 use Rattle.sharc_grammar.specs.Limits.{Limited, StuckAt, Over, next_within, reads_within, depth, crowded}
 use Rattle.sharc_grammar.specs.Places.{site_in, sharing_size, level_size, base_size, base_name, type_size, mode_at, level_at, bottom_at, base_place, type_at}
-use Rattle.sharc_parse.specs.declared.token.Fault.{Fault}
-use Rattle.sharc_parse.specs.declared.token.Fault.TheVariants.{Memory, Wrong, Deep}
-use Rattle.sharc_parse.specs.declared.types.Modes.{Modes}
+use Rattle.sharc_parse.specs.{declared.token.Fault.Fault, declared.token.Fault.TheVariants.{Memory, Wrong, Deep}}
+use Rattle.sharc_parse.specs.{declared.types.Modes.Modes, declared.types.ModeWord.ModeWord}
+use Rattle.sharc_parse.specs.{declared.types.BaseWord.BaseWord, declared.types.Bottom.Bottom}
+use Rattle.sharc_parse.specs.{View.{bare_path, bare_mode, bare_level, bare_type}, Goes.{from, Past, NotAt, Goes}}
 use Rattle.sharc_parse.specs.declared.types.Modes.TheVariants as allowed
-use Rattle.sharc_parse.specs.declared.types.ModeWord.{ModeWord}
 use Rattle.sharc_parse.specs.declared.types.ModeWord.TheVariants as modes
-use Rattle.sharc_parse.specs.declared.types.BaseWord.{BaseWord}
 use Rattle.sharc_parse.specs.declared.types.BaseWord.TheVariants as bases
-use Rattle.sharc_parse.specs.declared.types.Bottom.{Bottom}
-use Rattle.sharc_parse.specs.View.{bare_path, bare_mode, bare_level, bare_type}
-use Rattle.sharc_parse.specs.Goes.{from, Past, NotAt, Goes}
 
 -- sharing modes
 

@@ -1,14 +1,11 @@
 -- The phrase of a tree: what is left of it without the places of its tokens.
 use Rattle.std.specs.Prelude.{List, map, Option, Some, None}
 use Rattle.sharc_tree.specs.Tree as tree
-use Rattle.sharc_tree.specs.View.{view_expr, view_arguments}
-use Rattle.sharc_tree.specs.declared.ctype.Mode.{Mode}
-use Rattle.sharc_tree.specs.declared.ctype.Mode.TheVariants as mode
-use Rattle.sharc_tree.specs.declared.ctype.Path.{Path}
+use Rattle.sharc_tree.specs.{View.{view_expr, view_arguments}, declared.ctype.Mode.Mode, declared.ctype.Path.Path}
 use Rattle.sharc_tree.specs.declared.ctype.Path.TheVariants.{One, Through}
 use Rattle.sharc_tree.specs.declared.tree.declaration.WrittenType.{WrittenType}
-use Rattle.sharc_tree.specs.declared.tree.declaration.Declaration.{Declaration}
-use Rattle.sharc_tree.specs.declared.tree.expression.Expr.{Expr}
+use Rattle.sharc_tree.specs.{declared.tree.declaration.Declaration.Declaration, declared.tree.expression.Expr.Expr}
+use Rattle.sharc_tree.specs.declared.ctype.Mode.TheVariants as mode
 use Rattle.sharc_grammar.specs.Grammar.{Sharing, private, readonly, racy, dynamic, locked, locked_through, Typing, Declaring, parenthesis, of_spawn, of_value, of_place, of_cast, Phrase, identifier, constant, enclosed, call, index, field, unary, binary, Phrases, none, more}
 
 abbrev pub bare_path : Path → Sharing

@@ -1,20 +1,15 @@
 -- What the functions that read the first words of statements promise.
 use Rattle.std.specs.Prelude.{◌≡◌, ℕ, ◌+◌, ◌≤◌, ◌<◌, List, [], ◌∷◌, Option, Some, None, Result, Ok, Err, IfOk}
-use Rattle.sharc_tree.specs.View.{view_expr}
-use Rattle.sharc_tree.specs.declared.token.Token.{Token}
+use Rattle.sharc_tree.specs.{View.view_expr, declared.token.Token.Token, declared.tree.expression.Expr.Expr}
 use Rattle.sharc_tree.specs.declared.token.Keyword.TheVariants as key
-use Rattle.sharc_tree.specs.declared.tree.expression.Expr.{Expr}
 use Rattle.sharc_tree.specs.declared.tree.statement.Jump.TheVariants as jumps
 use Rattle.sharc_grammar.specs.Grammar.{Word, keyword, jump}
 use Rattle.sharc_grammar.specs.Machine.{Outer, inside, Asked, by_if, by_while, condition, part, Want, Start, Done, Returning, ForOpen, an_open, a_semicolon, State, At, asked}
-use Rattle.sharc_grammar.specs.Limits.{reads_within, around_it}
-use Rattle.sharc_grammar.specs.Places.{site_in, size, expression_at}
-use Rattle.sharc_parse.specs.declared.token.Fault.{Fault}
-use Rattle.sharc_parse.specs.declared.token.Fault.TheVariants.{Deep}
+use Rattle.sharc_grammar.specs.{Limits.{reads_within, around_it}, Places.{site_in, size, expression_at}}
+use Rattle.sharc_parse.specs.{declared.token.Fault.Fault, declared.token.Fault.TheVariants.Deep}
 use Rattle.sharc_parse.specs.declared.word.StatementWord.{StatementWord}
 use Rattle.sharc_parse.specs.declared.word.StatementWord.TheVariants.{If, While, For, Return, Break, Continue}
-use Rattle.sharc_parse.specs.View.{phrase_of}
-use Rattle.sharc_parse.specs.Goes.{from, Past, IsAt, Goes}
+use Rattle.sharc_parse.specs.{View.phrase_of, Goes.{from, Past, IsAt, Goes}}
 
 abbrev pub statement_word : StatementWord → Word
 statement_word If = keyword key.If

@@ -1,32 +1,15 @@
 -- Which events are about a topic.
-use Rattle.std.proofs.Common.{◌≡◌, ◌⊎◌, inl, inr, ℕ, Bool, true, false, ◌&&◌, ◌||◌, refl, ap, sym, ◌∙◌}
-use Rattle.std.specs.Prelude.{◌==◌, pos, negsuc, ℤ, Some, None, Option}
-use Rattle.std.specs.List.{list_any}
-use Rattle.std.specs.Bool.{Decides}
-use Rattle.std.specs.Cmp.{signed_Decides}
-use Rattle.std.specs.Ordering.{int_eq}
-use Rattle.std.proofs.lemmas.Bool.{cases_eq, eq-eqb, ne_eqb, or_from}
-use Rattle.sharc_tree.specs.declared.event.Act.{Act}
+use Rattle.std.proofs.{Common.{◌≡◌, ◌⊎◌, inl, inr, ℕ, Bool, true, false, ◌&&◌, ◌||◌, refl, ap, sym, ◌∙◌}, lemmas.Bool.{cases_eq, eq-eqb, ne_eqb, or_from}}
+use Rattle.std.specs.{Prelude.{◌==◌, pos, negsuc, ℤ, Some, None, Option}, List.list_any, Bool.Decides, Cmp.signed_Decides, Ordering.int_eq}
+use Rattle.sharc_tree.specs.{declared.event.Act.Act, declared.event.CellAt.CellAt, declared.event.CellMode.CellMode, declared.event.CellMode.TheVariants.{Private, Readonly, Locked, Racy, Dynamic}, declared.event.Object.Object, declared.event.Object.TheVariants.{Global, Made}, declared.event.SourceEvent.SourceEvent, declared.event.Taken.TheVariants.Cell}
 use Rattle.sharc_tree.specs.declared.event.Act.TheVariants as acts
-use Rattle.sharc_tree.specs.declared.event.CellAt.{CellAt}
-use Rattle.sharc_tree.specs.declared.event.CellMode.{CellMode}
-use Rattle.sharc_tree.specs.declared.event.CellMode.TheVariants.{Private, Readonly, Locked, Racy, Dynamic}
-use Rattle.sharc_tree.specs.declared.event.Object.{Object}
-use Rattle.sharc_tree.specs.declared.event.Object.TheVariants.{Global, Made}
-use Rattle.sharc_tree.specs.declared.event.SourceEvent.{SourceEvent}
-use Rattle.sharc_tree.specs.declared.event.Taken.TheVariants.{Cell}
-use Rattle.sharc_meaning.specs.Events.{same_object, same_cell, is_number, made_by, given_by, freed_by, locked_by, unlocked_by, is_cell, Access, access_by, granule_of}
-use Rattle.sharc_meaning.specs.Obeys.{ends, until_return}
-use Rattle.sharc_meaning.specs.Store.{cell_changed, is_spawn, is_gone, is_natural}
+use Rattle.sharc_meaning.specs.{Events.{same_object, same_cell, is_number, made_by, given_by, freed_by, locked_by, unlocked_by, is_cell, Access, access_by, granule_of}, Obeys.{ends, until_return}, Store.{cell_changed, is_spawn, is_gone, is_natural}}
 use Rattle.sharc_judge.specs.Deciding.{is_dynamic}
-use Rattle.sharc_past.specs.declared.topics.Topic.{Topic}
+use Rattle.sharc_past.specs.{declared.topics.Topic.Topic, declared.keys.CellKey.CellKey, declared.keys.GranuleKey.GranuleKey, Reads.{same_granule, is_shared, is_write}, Topics.{object_key, cell_key, granule_key, changing, topics_by, same_topic}}
 use Rattle.sharc_past.specs.declared.topics.Topic.TheVariants as topic
-use Rattle.sharc_past.specs.declared.keys.CellKey.{CellKey}
-use Rattle.sharc_past.specs.declared.keys.GranuleKey.{GranuleKey}
 use Rattle.sharc_past.specs.contracts.keys.CellKeyPartialEq.TheImpl as cell_eq
 use Rattle.sharc_past.specs.contracts.keys.ObjectKeyPartialEq.TheImpl as object_eq
-use Rattle.sharc_past.specs.Reads.{same_granule, is_shared, is_write}
-use Rattle.sharc_past.specs.Topics.{object_key, cell_key, granule_key, changing, topics_by, same_topic}
+use Rattle.sharc_lemmas.proofs.Bools.{or_false as or_none, and_false as and_none, and_true as and_all}
 
 -- ---- keys
 
@@ -54,18 +37,6 @@ same_granules_on c d = ap (λ b. b && (granule_of c == granule_of d)) (same_on c
     same_on (Global n) (Made m) = refl
     same_on (Made n) (Global m) = refl
     same_on (Made n) (Made m) = refl
-
-or_none : (b : Bool) → (b || false) ≡ b
-or_none true = refl
-or_none false = refl
-
-and_none : (b : Bool) → (b && false) ≡ false
-and_none true = refl
-and_none false = refl
-
-pub and_all : (b : Bool) → (b && true) ≡ b
-and_all true = refl
-and_all false = refl
 
 one : {b c : Bool} → b ≡ c → (b || false) ≡ c
 one {b} h = or_none b ∙ h

@@ -1,22 +1,14 @@
 -- Which mutexes a thread holds, by the last event of each that is its own.
-use Rattle.std.proofs.Common.{◌≡◌, ◌⊎◌, inl, inr, ℕ, ◌==◌, Bool, true, false, ◌&&◌, ◌||◌, List, [], ◌∷◌, ◌++◌, Option, Some, None, refl, ap, sym, ◌∙◌}
+use Rattle.std.proofs.{Common.{◌≡◌, ◌⊎◌, inl, inr, ℕ, ◌==◌, Bool, true, false, ◌&&◌, ◌||◌, List, [], ◌∷◌, ◌++◌, Option, Some, None, refl, ap, sym, ◌∙◌}, lemmas.Bool.{and_parts, and_from, and_left, and_right, or_left, or_right, or_cases, or_parts, or_from, not_from_true, not_from_false, both_ways, false_from_ne_true}, lemmas.List.Folds.list_any-append}
 use Rattle.std.specs.List.{list_any}
-use Rattle.std.proofs.lemmas.Bool.{and_parts, and_from, and_left, and_right, or_left, or_right, or_cases, or_parts, or_from, not_from_true, not_from_false, both_ways, false_from_ne_true}
-use Rattle.std.proofs.lemmas.List.Folds.{list_any-append}
-use Rattle.sharc_tree.specs.declared.event.CellAt.{CellAt}
-use Rattle.sharc_tree.specs.declared.event.SourceEvent.{SourceEvent}
+use Rattle.sharc_tree.specs.{declared.event.CellAt.CellAt, declared.event.SourceEvent.SourceEvent}
 use Rattle.sharc_meaning.specs.Events.{locks, unlocks, Stands}
 use Rattle.sharc_judge.specs.declared.history.Test.TheVariants as test
 use Rattle.sharc_judge.specs.declared.pair.Pair.TheVariants as pair
 use Rattle.sharc_judge.specs.Deciding.{test_of, any_pair, pair_of}
-use Rattle.sharc_past.specs.declared.table.Noted.{Noted}
+use Rattle.sharc_past.specs.{declared.table.Noted.Noted, Latest.{latest_at, latest_about}, Topics.cell_key}
 use Rattle.sharc_past.specs.declared.topics.Topic.TheVariants as topic
-use Rattle.sharc_past.specs.Latest.{latest_at, latest_about}
-use Rattle.sharc_past.specs.Topics.{cell_key}
-use Rattle.sharc_past.proofs.About.{about_hold}
-use Rattle.sharc_past.proofs.Latest.{IsLast, last_stands, none_meets, latest_same}
-use Rattle.sharc_past.proofs.Pairs.{from_each_pair, pair_found, Order, in_order, none_at}
-use Rattle.sharc_past.proofs.Storing.{meets_noted}
+use Rattle.sharc_past.proofs.{About.about_hold, Latest.{IsLast, last_stands, none_meets, latest_same}, Pairs.{from_each_pair, pair_found, Order, in_order, none_at}, Storing.meets_noted}
 
 none_implied : (p q : SourceEvent → Bool) (l : List SourceEvent) → ((e : SourceEvent) → q e ≡ true → p e ≡ true) → list_any p l ≡ false → list_any q l ≡ false
 none_implied p q [] so h = refl

@@ -1,13 +1,9 @@
 -- The last event that meets a test.
-use Rattle.std.proofs.Common.{◌≡◌, ◌⊎◌, inl, inr, ℕ, ◌+◌, ◌<◌, Bool, true, false, not, ◌||◌, List, [], ◌∷◌, ◌++◌, length, Option, Some, None, refl, ap, sym, subst, ◌∙◌, arith}
-use Rattle.std.specs.Prelude.{is_some, if◌then◌else◌}
-use Rattle.std.specs.List.{find, list_any}
-use Rattle.std.proofs.lemmas.Bool.{le-leb, lt-leb}
-use Rattle.std.proofs.lemmas.List.{reverse-append}
+use Rattle.std.proofs.{Common.{◌≡◌, ◌⊎◌, inl, inr, ℕ, ◌+◌, ◌<◌, Bool, true, false, not, ◌||◌, List, [], ◌∷◌, ◌++◌, length, Option, Some, None, refl, ap, sym, subst, ◌∙◌, arith}, lemmas.Bool.{le-leb, lt-leb}, lemmas.List.reverse-append}
+use Rattle.std.specs.{Prelude.{is_some, if◌then◌else◌}, List.{find, list_any}}
 use Rattle.sharc_tree.specs.declared.event.SourceEvent.{SourceEvent}
 use Rattle.sharc_meaning.specs.Events.{Stands, latest}
-use Rattle.sharc_past.specs.declared.table.Noted.{Noted}
-use Rattle.sharc_past.specs.Latest.{latest_from, latest_at, is_behind}
+use Rattle.sharc_past.specs.{declared.table.Noted.Noted, Latest.{latest_from, latest_at, is_behind}}
 use Rattle.sharc_past.proofs.Lists.{by_growing}
 
 abbrev noted_at : ℕ → SourceEvent → Noted

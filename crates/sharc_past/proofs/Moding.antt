@@ -1,26 +1,15 @@
 -- The mode of a cell: where no access so far was under another mode, the last one tells.
-use Rattle.std.proofs.Common.{◌≡◌, ◌⊎◌, inl, inr, Bool, true, false, not, ◌&&◌, List, ◌∷◌, ◌++◌, Option, Some, None, refl, ap, sym, subst, ◌∙◌, arith}
+use Rattle.std.proofs.{Common.{◌≡◌, ◌⊎◌, inl, inr, Bool, true, false, not, ◌&&◌, List, ◌∷◌, ◌++◌, Option, Some, None, refl, ap, sym, subst, ◌∙◌, arith}, lemmas.Bool.{and_parts, and_from, and_cases, and_left, and_right, not_from_true, not_from_false, not-false, both_ways, false_from_ne_true}}
 use Rattle.std.specs.List.{list_any}
-use Rattle.std.proofs.lemmas.Bool.{and_parts, and_from, and_cases, and_left, and_right, not_from_true, not_from_false, not-false, both_ways, false_from_ne_true}
-use Rattle.sharc_tree.specs.declared.event.CellAt.{CellAt}
-use Rattle.sharc_tree.specs.declared.event.Object.{Object}
-use Rattle.sharc_tree.specs.declared.event.Object.TheVariants.{Global, Made}
-use Rattle.sharc_tree.specs.declared.event.SourceEvent.{SourceEvent}
+use Rattle.sharc_tree.specs.{declared.event.CellAt.CellAt, declared.event.Object.Object, declared.event.Object.TheVariants.{Global, Made}, declared.event.SourceEvent.SourceEvent}
 use Rattle.sharc_meaning.specs.Events.{same_cell, Access, access_by, Stands}
-use Rattle.sharc_judge.specs.declared.access.CellAccess.{CellAccess}
+use Rattle.sharc_judge.specs.{declared.access.CellAccess.CellAccess, declared.pair.Until.TheVariants.Return, Deciding.{same_mode, disagrees, test_of, any_pair, pair_of, view_access, of_access}, Laws.{Unbroken, SameLaws}}
 use Rattle.sharc_judge.specs.declared.history.Test.TheVariants as test
 use Rattle.sharc_judge.specs.declared.pair.Pair.TheVariants as pair
-use Rattle.sharc_judge.specs.declared.pair.Until.TheVariants.{Return}
 use Rattle.sharc_judge.specs.declared.rule.Rule.TheVariants as rule
-use Rattle.sharc_judge.specs.Deciding.{same_mode, disagrees, test_of, any_pair, pair_of, view_access, of_access}
-use Rattle.sharc_judge.specs.Laws.{Unbroken, SameLaws}
-use Rattle.sharc_past.specs.declared.table.Noted.{Noted}
+use Rattle.sharc_past.specs.{declared.table.Noted.Noted, Latest.{latest_at, latest_about, last_period, is_behind}, Topics.cell_key}
 use Rattle.sharc_past.specs.declared.topics.Topic.TheVariants as topic
-use Rattle.sharc_past.specs.Latest.{latest_at, latest_about, last_period, is_behind}
-use Rattle.sharc_past.specs.Topics.{cell_key}
-use Rattle.sharc_past.proofs.About.{is_access_of, about_access, about_period}
-use Rattle.sharc_past.proofs.Latest.{IsLast, last_stands, none_meets, latest_same, latest_never, behind_is}
-use Rattle.sharc_past.proofs.Pairs.{at_each_pair, from_each_pair, pair_found, Order, in_order, none_between, none_after, none_at}
+use Rattle.sharc_past.proofs.{About.{is_access_of, about_access, about_period}, Latest.{IsLast, last_stands, none_meets, latest_same, latest_never, behind_is}, Pairs.{at_each_pair, from_each_pair, pair_found, Order, in_order, none_between, none_after, none_at}}
 
 pub last_period_is : (o : Object) (R : List SourceEvent) → last_period o R ≡ latest_at (test_of (test.BeginsOrFrees o)) R
 last_period_is (Global g) R = sym (latest_never (test_of (test.BeginsOrFrees (Global g))) R (λ e. refl))

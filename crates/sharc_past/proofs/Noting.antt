@@ -1,11 +1,7 @@
 -- An event noted under one topic after another.
-use Rattle.std.proofs.Common.{◌≡◌, ◌-◌, ◌≤◌, length, take, drop, slice_index_or, arith, Bool, true, false, ◌||◌, cond, List, [], ◌∷◌, Option, Some, Ok, Err, refl, ap, sym, ◌∙◌}
-use Rattle.std.specs.Prelude.{Result, OnOk, if◌then◌else◌}
-use Rattle.std.specs.List.{list_any}
-use Rattle.std.proofs.lemmas.List.{take_all}
-use Rattle.sharc_past.specs.declared.table.Noted.{Noted}
-use Rattle.sharc_past.specs.declared.topics.Topic.{Topic}
-use Rattle.sharc_past.specs.Topics.{same_topic}
+use Rattle.std.proofs.{Common.{◌≡◌, ◌-◌, ◌≤◌, length, take, drop, slice_index_or, arith, Bool, true, false, ◌||◌, cond, List, [], ◌∷◌, Option, Some, Ok, Err, refl, ap, sym, ◌∙◌}, lemmas.List.take_all}
+use Rattle.std.specs.{Prelude.{Result, OnOk, if◌then◌else◌}, List.list_any}
+use Rattle.sharc_past.specs.{declared.table.Noted.Noted, declared.topics.Topic.Topic, Topics.same_topic}
 
 pub on_ok : {A E : Type 0} (r : Result A E) {P Q : Type 0} → (P → Q) → OnOk r P → OnOk r Q
 on_ok (Ok a) f h = f h

@@ -1,14 +1,9 @@
 -- The reads of a granule since it was last written.
-use Rattle.std.proofs.Common.{◌≡◌, ◌⊎◌, inl, inr, ℕ, ◌+◌, Bool, true, false, ◌&&◌, ◌||◌, List, [], ◌∷◌, ◌++◌, length, refl, ap, sym, subst, ◌∙◌, arith}
-use Rattle.std.specs.Prelude.{if◌then◌else◌}
-use Rattle.std.specs.List.{list_any}
-use Rattle.std.proofs.lemmas.Bool.{or_parts, or_cases, or_left, or_right}
-use Rattle.std.proofs.lemmas.List.Folds.{list_any-append}
+use Rattle.std.proofs.{Common.{◌≡◌, ◌⊎◌, inl, inr, ℕ, ◌+◌, Bool, true, false, ◌&&◌, ◌||◌, List, [], ◌∷◌, ◌++◌, length, refl, ap, sym, subst, ◌∙◌, arith}, lemmas.Bool.{or_parts, or_cases, or_left, or_right}, lemmas.List.Folds.list_any-append}
+use Rattle.std.specs.{Prelude.{if◌then◌else◌}, List.list_any}
 use Rattle.sharc_tree.specs.declared.event.SourceEvent.{SourceEvent}
 use Rattle.sharc_meaning.specs.Events.{access_by, Stands}
-use Rattle.sharc_past.specs.declared.keys.GranuleKey.{GranuleKey}
-use Rattle.sharc_past.specs.declared.table.Noted.{Noted}
-use Rattle.sharc_past.specs.Reads.{is_shared, is_write, with_shared, with_read, reads_from}
+use Rattle.sharc_past.specs.{declared.keys.GranuleKey.GranuleKey, declared.table.Noted.Noted, Reads.{is_shared, is_write, with_shared, with_read, reads_from}}
 
 pub reads_more : (q : GranuleKey) (l : List SourceEvent) (e : SourceEvent) → reads_from q 0 [] (l ++ e ∷ []) ≡ with_read q (record { place = length l; event = e }) (reads_from q 0 [] l)
 reads_more q l e = from 0 (length l) [] l (omega arith)

@@ -1,27 +1,13 @@
 -- What the events leave, by the last event about each topic.
-use Rattle.std.proofs.Common.{◌≡◌, ℕ, Bool, true, false, not, ◌&&◌, ◌||◌, List, [], ◌∷◌, ◌++◌, length, Option, Some, None, refl, ap, sym, ◌∙◌, arith, append_assoc}
-use Rattle.std.specs.Prelude.{ℤ, pos, negsuc, int_lt, IsTrue, ◌==◌, is_some, if◌then◌else◌}
-use Rattle.std.specs.List.{list_any, find}
-use Rattle.std.proofs.lemmas.Bool.{lt-leb, le-leb, or_parts, not-true, not_from_false}
-use Rattle.std.proofs.lemmas.List.{reverse-append}
-use Rattle.sharc_tree.specs.declared.event.Act.{Act}
+use Rattle.std.proofs.{Common.{◌≡◌, ℕ, Bool, true, false, not, ◌&&◌, ◌||◌, List, [], ◌∷◌, ◌++◌, length, Option, Some, None, refl, ap, sym, ◌∙◌, arith, append_assoc}, lemmas.Bool.{lt-leb, le-leb, or_parts, not-true, not_from_false}, lemmas.List.reverse-append}
+use Rattle.std.specs.{Prelude.{ℤ, pos, negsuc, int_lt, IsTrue, ◌==◌, is_some, if◌then◌else◌}, List.{list_any, find}}
+use Rattle.sharc_tree.specs.{declared.event.Act.Act, declared.event.CellAt.CellAt, declared.event.Object.Object, declared.event.Object.TheVariants.{Global, Made}, declared.event.SourceEvent.SourceEvent}
 use Rattle.sharc_tree.specs.declared.event.Act.TheVariants as acts
-use Rattle.sharc_tree.specs.declared.event.CellAt.{CellAt}
-use Rattle.sharc_tree.specs.declared.event.Object.{Object}
-use Rattle.sharc_tree.specs.declared.event.Object.TheVariants.{Global, Made}
-use Rattle.sharc_tree.specs.declared.event.SourceEvent.{SourceEvent}
 use Rattle.sharc_ctype.specs.Resolved.{Resolution}
-use Rattle.sharc_meaning.specs.Events.{makes, frees, begins, is_cell, locks, unlocks, latest}
-use Rattle.sharc_meaning.specs.Obeys.{is_owner}
-use Rattle.sharc_meaning.specs.Store.{cell_changed, changes, value_left, value_by, value_after, initial_value, meets, is_live, is_locked, was_locked_by, spawns, was_spawned, is_gone, went, is_natural, IsNewThread}
-use Rattle.sharc_past.specs.declared.table.Noted.{Noted}
+use Rattle.sharc_meaning.specs.{Events.{makes, frees, begins, is_cell, locks, unlocks, latest}, Obeys.is_owner, Store.{cell_changed, changes, value_left, value_by, value_after, initial_value, meets, is_live, is_locked, was_locked_by, spawns, was_spawned, is_gone, went, is_natural, IsNewThread}}
+use Rattle.sharc_past.specs.{declared.table.Noted.Noted, Kept.IsSpawnedOnce, Latest.{latest_at, latest_about, last_make, is_behind}, Topics.cell_key}
 use Rattle.sharc_past.specs.declared.topics.Topic.TheVariants as topic
-use Rattle.sharc_past.specs.Kept.{IsSpawnedOnce}
-use Rattle.sharc_past.specs.Latest.{latest_at, latest_about, last_make, is_behind}
-use Rattle.sharc_past.specs.Topics.{cell_key}
-use Rattle.sharc_past.proofs.About.{about_make, about_change, about_life, about_begin, about_mutex, about_lock, about_spawn, about_gone}
-use Rattle.sharc_past.proofs.Latest.{latest_more, latest_same, latest_never, latest_is, event_of, place_below, any_is}
-use Rattle.sharc_past.proofs.Lists.{by_growing}
+use Rattle.sharc_past.proofs.{About.{about_make, about_change, about_life, about_begin, about_mutex, about_lock, about_spawn, about_gone}, Latest.{latest_more, latest_same, latest_never, latest_is, event_of, place_below, any_is}, Lists.by_growing}
 
 latest_next : (test : SourceEvent → Bool) (l : List SourceEvent) (e : SourceEvent) → latest test (l ++ e ∷ []) ≡ (if test e then Some e else latest test l)
 latest_next test l e = ap (find test) (reverse-append l (e ∷ []))
@@ -41,9 +27,6 @@ meets_is test among other R same = ap (meets_noted test) (latest_same other amon
 
 pub live_is : (n : ℕ) (R : List SourceEvent) → meets_noted (makes (Made n)) (latest_about (topic.Life n) R) ≡ is_live R (Made n)
 live_is n R = meets_is (makes (Made n)) (λ e. makes (Made n) e || frees (Made n) e) _ R (λ e. about_life n e e.act)
-
-pub never_live : (g : ℕ) (R : List SourceEvent) → false ≡ is_live R (Global g)
-never_live g R = ap (meets_noted (makes (Global g))) (sym (latest_never (λ e. makes (Global g) e || frees (Global g) e) R (λ e. refl))) ∙ meets_is (makes (Global g)) (λ e. makes (Global g) e || frees (Global g) e) _ R (λ e. refl)
 
 pub locked_is : (c : CellAt) (R : List SourceEvent) → meets_noted (locks c) (latest_about (topic.Mutex (cell_key c)) R) ≡ is_locked R c
 locked_is c R = meets_is (locks c) (λ e. locks c e || unlocks c e) _ R (λ e. about_mutex c e e.act)

@@ -1,22 +1,12 @@
 -- What is kept of a list of events, and what is asked of an event behind them.
 use Rattle.std.specs.Prelude.{◌≡◌, ℕ, ◌<◌, true, false, nat_eq, List, length, Option, Some, None}
-use Rattle.std.specs.HashMap.{get, HashMap}
-use Rattle.std.specs.Option.{unwrap_or}
-use Rattle.std.specs.declared.vec.Vec.{Vec}
+use Rattle.std.specs.{HashMap.{get, HashMap}, Option.unwrap_or, declared.vec.Vec.Vec}
 use Rattle.sharc_tree.specs.declared.event.SourceEvent.{SourceEvent}
-use Rattle.sharc_meaning.specs.Events.{events_of, Stands}
-use Rattle.sharc_meaning.specs.Store.{spawns, was_spawned}
-use Rattle.sharc_judge.specs.declared.pair.Until.TheVariants.{Return}
-use Rattle.sharc_judge.specs.declared.rule.Rule.{Rule}
-use Rattle.sharc_judge.specs.Deciding.{breaks_by}
-use Rattle.sharc_judge.specs.Judged.{number}
-use Rattle.sharc_judge.specs.Laws.{Unbroken}
-use Rattle.sharc_past.specs.declared.keys.GranuleKey.{GranuleKey}
-use Rattle.sharc_past.specs.declared.table.Noted.{Noted}
-use Rattle.sharc_past.specs.declared.topics.Topic.{Topic}
-use Rattle.sharc_past.specs.Latest.{latest_about}
-use Rattle.sharc_past.specs.Reads.{reads_in, reads_of}
-use Rattle.sharc_past.specs.Topics.{found}
+use Rattle.sharc_meaning.specs.{Events.{events_of, Stands}, Store.{spawns, was_spawned}}
+use Rattle.sharc_judge.specs.{declared.pair.Until.TheVariants.Return, declared.rule.Rule.Rule, Deciding.breaks_by}
+use Rattle.sharc_judge.specs.{Judged.number, Laws.Unbroken}
+use Rattle.sharc_past.specs.{declared.keys.GranuleKey.GranuleKey, declared.table.Noted.Noted}
+use Rattle.sharc_past.specs.{declared.topics.Topic.Topic, Latest.latest_about, Reads.{reads_in, reads_of}, Topics.found}
 
 abbrev pub count_in : {S : Type 0} → HashMap ℕ ℕ S → ℕ → ℕ
 count_in counts thread = unwrap_or (get nat_eq counts thread) 0

@@ -1,12 +1,9 @@
 -- The last event of a list that meets a test, or is about a topic, with its place.
 use Rattle.std.specs.Prelude.{ℕ, ◌+◌, Bool, true, nat_le, List, [], ◌∷◌, Option, Some, None, if◌then◌else◌}
-use Rattle.sharc_tree.specs.declared.event.Object.{Object}
-use Rattle.sharc_tree.specs.declared.event.Object.TheVariants.{Global, Made}
+use Rattle.sharc_tree.specs.{declared.event.Object.Object, declared.event.Object.TheVariants.{Global, Made}}
 use Rattle.sharc_tree.specs.declared.event.SourceEvent.{SourceEvent}
-use Rattle.sharc_past.specs.declared.table.Noted.{Noted}
-use Rattle.sharc_past.specs.declared.topics.Topic.{Topic}
+use Rattle.sharc_past.specs.{declared.table.Noted.Noted, declared.topics.Topic.Topic, Topics.is_about}
 use Rattle.sharc_past.specs.declared.topics.Topic.TheVariants as topic
-use Rattle.sharc_past.specs.Topics.{is_about}
 
 -- with this one before them, where their places begin with n
 abbrev pub latest_from : (SourceEvent → Bool) → ℕ → Option Noted → List SourceEvent → Option Noted

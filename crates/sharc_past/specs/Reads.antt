@@ -1,20 +1,15 @@
 -- The reads of a granule under mode dynamic since it was last written or taken under it.
 use Rattle.std.specs.Prelude.{ℕ, ◌+◌, Bool, true, false, ◌&&◌, List, [], ◌∷◌, ◌++◌, Option, Some, None, if◌then◌else◌}
-use Rattle.std.specs.HashMap.{get, HashMap}
-use Rattle.std.specs.List.{list_any}
-use Rattle.std.specs.declared.vec.Vec.{Vec}
+use Rattle.std.specs.{HashMap.{get, HashMap}, List.list_any, declared.vec.Vec.Vec}
 use Rattle.sharc_tree.specs.declared.event.SourceEvent.{SourceEvent}
 use Rattle.sharc_meaning.specs.Events.{Access, access_by}
-use Rattle.sharc_judge.specs.declared.access.CellAccess.{CellAccess}
-use Rattle.sharc_judge.specs.declared.pair.Pair.TheVariants as pair
-use Rattle.sharc_judge.specs.declared.pair.Until.TheVariants.{Return}
+use Rattle.sharc_judge.specs.{declared.access.CellAccess.CellAccess, declared.pair.Until.TheVariants.Return}
 use Rattle.sharc_judge.specs.Deciding.{is_dynamic, pair_of}
-use Rattle.sharc_past.specs.declared.keys.GranuleKey.{GranuleKey}
-use Rattle.sharc_past.specs.declared.table.Noted.{Noted}
+use Rattle.sharc_judge.specs.declared.pair.Pair.TheVariants as pair
+use Rattle.sharc_past.specs.{declared.keys.GranuleKey.GranuleKey, declared.table.Noted.Noted}
+use Rattle.sharc_past.specs.{Latest.{latest_about, last_begin, is_behind}, Topics.granule_key}
 use Rattle.sharc_past.specs.contracts.keys.GranuleKeyPartialEq.TheImpl as granule_eq
 use Rattle.sharc_past.specs.declared.topics.Topic.TheVariants as topic
-use Rattle.sharc_past.specs.Latest.{latest_about, last_begin, is_behind}
-use Rattle.sharc_past.specs.Topics.{granule_key}
 
 abbrev pub same_granule : GranuleKey → GranuleKey → Bool
 same_granule = granule_eq.ghosts.eq

@@ -1,24 +1,14 @@
 -- What an event is about.
-use Rattle.std.specs.Prelude.{ℕ, pos, Bool, List, [], ◌∷◌, Option}
-use Rattle.std.specs.HashMap.{get, HashMap}
-use Rattle.std.specs.List.{list_any}
-use Rattle.sharc_tree.specs.declared.event.Act.{Act}
-use Rattle.sharc_tree.specs.declared.event.Act.TheVariants as acts
-use Rattle.sharc_tree.specs.declared.event.CellAt.{CellAt}
-use Rattle.sharc_tree.specs.declared.event.CellMode.{CellMode}
-use Rattle.sharc_tree.specs.declared.event.CellMode.TheVariants.{Dynamic}
-use Rattle.sharc_tree.specs.declared.event.Object.{Object}
-use Rattle.sharc_tree.specs.declared.event.Object.TheVariants.{Global, Made}
-use Rattle.sharc_tree.specs.declared.event.SourceEvent.{SourceEvent}
+use Rattle.std.specs.{Prelude.{ℕ, pos, Bool, List, [], ◌∷◌, Option}, HashMap.{get, HashMap}, List.list_any}
+use Rattle.sharc_tree.specs.{declared.event.Act.Act, declared.event.CellAt.CellAt, declared.event.CellMode.CellMode}
+use Rattle.sharc_tree.specs.{declared.event.CellMode.TheVariants.Dynamic, declared.event.Object.Object}
+use Rattle.sharc_tree.specs.{declared.event.Object.TheVariants.{Global, Made}, declared.event.SourceEvent.SourceEvent}
 use Rattle.sharc_tree.specs.declared.event.Taken.TheVariants.{Cell}
-use Rattle.sharc_meaning.specs.Events.{granule_of}
-use Rattle.sharc_meaning.specs.Reference.{number_of}
-use Rattle.sharc_past.specs.declared.keys.CellKey.{CellKey}
-use Rattle.sharc_past.specs.declared.keys.GranuleKey.{GranuleKey}
-use Rattle.sharc_past.specs.declared.keys.ObjectKey.{ObjectKey}
+use Rattle.sharc_tree.specs.declared.event.Act.TheVariants as acts
+use Rattle.sharc_meaning.specs.{Events.granule_of, Reference.number_of}
+use Rattle.sharc_past.specs.{declared.keys.CellKey.CellKey, declared.keys.GranuleKey.GranuleKey}
+use Rattle.sharc_past.specs.{declared.keys.ObjectKey.ObjectKey, declared.table.Noted.Noted, declared.topics.Topic.Topic}
 use Rattle.sharc_past.specs.declared.keys.ObjectKey.TheVariants as key
-use Rattle.sharc_past.specs.declared.table.Noted.{Noted}
-use Rattle.sharc_past.specs.declared.topics.Topic.{Topic}
 use Rattle.sharc_past.specs.declared.topics.Topic.TheVariants as topic
 use Rattle.sharc_past.specs.contracts.topics.TopicPartialEq.TheImpl as topic_eq
 

@@ -1,19 +1,10 @@
 -- The least of the chosen functions that name a global, and what is answered in all.
-use Rattle.std.proofs.Common.{◌≡◌, ◌≢◌, ℕ, ◌<◌, ◌≤◌, ◌⊎◌, min, Bool, true, false, List, [], ◌∷◌, Option, Some, None, length, get_or, fold, replicate, map, refl, ap, sym, ◌∙◌, subst, inl, inr, arith}
-use Rattle.std.proofs.lemmas.Bool.{cases_eq, cases_lt, false≢true}
-use Rattle.std.proofs.lemmas.List.{length-set, get_or-set_same, get_or-set_other, get_or-replicate, length-replicate}
-use Rattle.sharc_graph.specs.declared.graph.Finding.{Finding}
-use Rattle.sharc_graph.specs.Paths.{AreFindings}
+use Rattle.std.proofs.{Common.{◌≡◌, ◌≢◌, ℕ, ◌<◌, ◌≤◌, ◌⊎◌, min, Bool, true, false, List, [], ◌∷◌, Option, Some, None, length, get_or, fold, replicate, map, refl, ap, sym, ◌∙◌, subst, inl, inr, arith}, lemmas.Bool.{cases_eq, cases_lt, false≢true}, lemmas.List.{length-set, get_or-set_same, get_or-set_other, get_or-replicate, length-replicate}}
+use Rattle.sharc_graph.specs.{declared.graph.Finding.Finding, Paths.AreFindings}
 use Rattle.sharc_names.specs.declared.fault.Named.TheVariants as named
-use Rattle.sharc_ctype.specs.Resolved.{Resolution, named_at, functions_in, globals_in}
-use Rattle.sharc_ctype.specs.Reaches.{Names, tokens_of, NamesGlobal}
-use Rattle.sharc_reach.specs.declared.mention.Mention.{Mention}
-use Rattle.sharc_reach.specs.Mentions.{mentions_below}
-use Rattle.sharc_reach.specs.Graphs.{is_found, is_source}
-use Rattle.sharc_reach.specs.Firsts.{global_named, lower, lowered, named_by, lowered_by}
-use Rattle.sharc_reach.specs.Reaching.{Reaching, is_chosen, first_of, IsFirstOf, AreReached}
-use Rattle.sharc_reach.proofs.MemberLemmas.{Has, has_same, of_function_below, below_of_function, names_of, of_names, some_within}
-use Rattle.sharc_reach.proofs.PathLemmas.{graph_in, chosen_size, chosen_reached, reached_chosen, spawned_size, source_is_spawned, spawned_is_source}
+use Rattle.sharc_ctype.specs.{Resolved.{Resolution, named_at, functions_in, globals_in}, Reaches.{Names, tokens_of, NamesGlobal}}
+use Rattle.sharc_reach.specs.{declared.mention.Mention.Mention, Mentions.mentions_below, Graphs.{is_found, is_source}, Firsts.{global_named, lower, lowered, named_by, lowered_by}, Reaching.{Reaching, is_chosen, first_of, IsFirstOf, AreReached}}
+use Rattle.sharc_reach.proofs.{MemberLemmas.{Has, has_same, of_function_below, below_of_function, names_of, of_names, some_within}, PathLemmas.{graph_in, chosen_size, chosen_reached, reached_chosen, spawned_size, source_is_spawned, spawned_is_source}}
 
 -- ---- the least number with a property
 abbrev pub Least : (ℕ → Type 0) → Option ℕ → Type 0

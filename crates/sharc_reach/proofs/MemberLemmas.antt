@@ -1,23 +1,13 @@
 -- Elements with a property, and what names among a function's mean.
-use Rattle.std.proofs.Common.{◌≡◌, ℕ, zero, suc, ◌<◌, ◌⊎◌, List, [], ◌∷◌, ◌++◌, Option, Some, None, length, get_or, refl, ap, sym, ◌∙◌, subst, inl, inr, arith}
-use Rattle.std.specs.Prelude.{IsSomeAnd, Contains}
-use Rattle.std.specs.List.{slice_get, filter_map, cons_option}
-use Rattle.std.proofs.lemmas.Bool.{cases_eq}
+use Rattle.std.proofs.{Common.{◌≡◌, ℕ, zero, suc, ◌<◌, ◌⊎◌, List, [], ◌∷◌, ◌++◌, Option, Some, None, length, get_or, refl, ap, sym, ◌∙◌, subst, inl, inr, arith}, lemmas.Bool.cases_eq}
+use Rattle.std.specs.{Prelude.{IsSomeAnd, Contains}, List.{slice_get, filter_map, cons_option}}
 use Rattle.sharc_names.specs.declared.fault.Named.{Named}
 use Rattle.sharc_names.specs.declared.fault.Named.TheVariants as named
-use Rattle.sharc_tree.specs.Measures.{in_function}
-use Rattle.sharc_tree.specs.Tree.{Function}
-use Rattle.sharc_ctype.specs.Resolved.{Resolution, named_at, function_at}
-use Rattle.sharc_ctype.specs.Reaches.{runs, spawns, of_all, Names, Spawns, Runs, tokens_of, NamesGlobal}
-use Rattle.sharc_reach.specs.declared.mention.Mention.{Mention}
-use Rattle.sharc_reach.specs.declared.mention.Role.{Role}
+use Rattle.sharc_tree.specs.{Measures.in_function, Tree.Function}
+use Rattle.sharc_ctype.specs.{Resolved.{Resolution, named_at, function_at}, Reaches.{runs, spawns, of_all, Names, Spawns, Runs, tokens_of, NamesGlobal}}
+use Rattle.sharc_reach.specs.{declared.mention.Mention.Mention, declared.mention.Role.Role, Mentions.{function_mentions, mentions_in, mentions_below}, Graphs.{function_named, ran_as, spawned_as, ran, spawned}, Firsts.global_named}
 use Rattle.sharc_reach.specs.declared.mention.Role.TheVariants as role
-use Rattle.sharc_reach.specs.Mentions.{function_mentions, mentions_in, mentions_below}
-use Rattle.sharc_reach.specs.Graphs.{function_named, ran_as, spawned_as, ran, spawned}
-use Rattle.sharc_reach.specs.Firsts.{global_named}
-use Rattle.sharc_reach.proofs.TreeLemmas.{tokens, of_function}
-use Rattle.sharc_reach.proofs.OwnerLemmas.{Owned, own_function}
-use Rattle.sharc_reach.proofs.RunLemmas.{told, ran_token, spawned_token, function_runs, function_spawns}
+use Rattle.sharc_reach.proofs.{TreeLemmas.{tokens, of_function}, OwnerLemmas.{Owned, own_function}, RunLemmas.{told, ran_token, spawned_token, function_runs, function_spawns}}
 
 -- ---- some element has the property
 abbrev pub Has : {A : Type 0} → (A → Type 0) → List A → Type 0

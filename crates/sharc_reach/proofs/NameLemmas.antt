@@ -1,12 +1,7 @@
 -- The names of lists of marks, one after the other, and of the levels of a type.
-use Rattle.std.proofs.Common.{◌≡◌, ℕ, ◌+◌, ◌<◌, Bool, true, false, Option, length, drop, get_or, arith, List, [], ◌∷◌, ◌++◌, refl, ap, sym, ◌∙◌, append_assoc}
-use Rattle.std.proofs.lemmas.List.{drop_more, drop_all, append-nil, length-drop}
-use Rattle.sharc_tree.specs.declared.ctype.Mode.{Mode}
-use Rattle.sharc_tree.specs.declared.tree.declaration.Declaration.{Declaration}
-use Rattle.sharc_tree.specs.Marks.{Mark, a_name, a_cast, level_marks, levels_marks, declaration_marks, declarations_marks}
-use Rattle.sharc_reach.specs.declared.mention.Mention.{Mention}
-use Rattle.sharc_reach.specs.declared.mention.Role.TheVariants.{Named}
-use Rattle.sharc_reach.specs.Mentions.{mention, names, bottom_marks_by}
+use Rattle.std.proofs.{Common.{◌≡◌, ℕ, ◌+◌, ◌<◌, Bool, true, false, Option, length, drop, get_or, arith, List, [], ◌∷◌, ◌++◌, refl, ap, sym, ◌∙◌, append_assoc}, lemmas.List.{drop_more, length-drop}}
+use Rattle.sharc_tree.specs.{declared.ctype.Mode.Mode, declared.tree.declaration.Declaration.Declaration, Marks.{Mark, a_name, a_cast, level_marks, levels_marks, declaration_marks, declarations_marks}}
+use Rattle.sharc_reach.specs.{declared.mention.Mention.Mention, declared.mention.Role.TheVariants.Named, Mentions.{mention, names}}
 
 pub names_append : (n : ℕ) (a b : List Mark) → names n (a ++ b) ≡ names n a ++ names n b
 names_append n [] b = refl
@@ -15,12 +10,6 @@ names_append n (a_cast token ∷ a) b = names_append n a b
 
 pub names_both : (n : ℕ) (a b : List Mark) (old mid new : List Mention) → mid ≡ old ++ names n a → new ≡ mid ++ names n b → new ≡ old ++ names n (a ++ b)
 names_both n a b old mid new one two = two ∙ ap (λ l. l ++ names n b) one ∙ append_assoc old (names n a) (names n b) ∙ ap (λ l. old ++ l) (sym (names_append n a b))
-
--- the levels of a type from the one with number k down
-at_last : (first : Bool) (base : List Mark) (m : Option Mode) (rest : List (Option Mode)) → length rest ≡ 0 → levels_marks first base (m ∷ rest) ≡ bottom_marks_by first (level_marks m) base
-at_last true base m [] none = refl
-at_last false base m [] none = refl
-at_last first base m (x ∷ rest) none = absurd (omega arith)
 
 at_above : (first : Bool) (base : List Mark) (m : Option Mode) (rest : List (Option Mode)) → 0 < length rest → levels_marks first base (m ∷ rest) ≡ levels_marks first base rest ++ level_marks m
 at_above first base m [] some = absurd (omega arith)
@@ -37,14 +26,6 @@ names_higher n first base levels k above m old mid new next within is one two =
     names_both n (levels_marks first base (drop above levels)) (level_marks m) old mid new one two
     ∙ ap (λ i. old ++ names n (levels_marks first base (drop i levels) ++ level_marks m)) (sym next)
     ∙ ap (λ l. old ++ names n l) (sym (at_above first base m (drop (k + 1) levels) (let size = length-drop (k + 1) levels in omega arith)))
-    ∙ ap (λ l. old ++ names n (levels_marks first base l)) (sym (from_level levels k m (omega arith) is))
-
-pub names_lowest : (n : ℕ) (first : Bool) (base : List Mark) (levels : List (Option Mode)) (k above : ℕ) (m : Option Mode) (old mid new : List Mention) → k + 1 ≡ above → above ≡ length levels → m ≡ get_or levels k m
-    → mid ≡ old ++ names n (levels_marks first base (drop above levels)) → new ≡ mid ++ names n (bottom_marks_by first (level_marks m) base) → new ≡ old ++ names n (levels_marks first base (drop k levels))
-names_lowest n first base levels k above m old mid new next within is one two =
-    two
-    ∙ ap (λ l. l ++ names n (bottom_marks_by first (level_marks m) base)) (one ∙ ap (λ l. old ++ names n (levels_marks first base l)) (drop_all above levels (omega arith)) ∙ append-nil old)
-    ∙ ap (λ l. old ++ names n l) (sym (at_last first base m (drop (k + 1) levels) (let size = length-drop (k + 1) levels in omega arith)))
     ∙ ap (λ l. old ++ names n (levels_marks first base l)) (sym (from_level levels k m (omega arith) is))
 
 -- one declaration more

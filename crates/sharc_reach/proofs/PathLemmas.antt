@@ -1,23 +1,11 @@
 -- The paths of the graph of the functions are the lists of functions in which each calls or spawns the next.
-use Rattle.std.proofs.Common.{◌≡◌, ℕ, ◌<◌, ◌≤◌, ◌⊎◌, true, false, ◌&&◌, List, [], ◌∷◌, Option, Some, None, length, get_or, set, fold, replicate, map, refl, ap, sym, ◌∙◌, subst, inl, inr, arith}
-use Rattle.std.specs.Prelude.{nat_lt, Contains}
-use Rattle.std.specs.List.{filter_map, All}
-use Rattle.std.proofs.lemmas.Bool.{cases_eq, cases_lt, cases_Bool, and_parts, ltb-true, lt-ltb, false≢true}
-use Rattle.std.proofs.lemmas.List.{length-set, get_or-set_same, get_or-set_other, get_or_past, get_or_default, get_or-replicate, length-replicate, length-map, get_or-map}
-use Rattle.sharc_graph.specs.declared.graph.Node.{Node}
-use Rattle.sharc_graph.specs.declared.graph.Edge.{Edge}
-use Rattle.sharc_graph.specs.declared.graph.Finding.{Finding}
-use Rattle.sharc_graph.specs.declared.graph.Finding.TheVariants.{Apart, Source, Behind}
-use Rattle.sharc_graph.specs.Findings.{finding_at}
-use Rattle.sharc_graph.specs.Paths.{Graph, graph_of, IsWithin, no_node, node_at, IsSource, IsFree, edge_of, HasEdge, Follow, last_of, LeadsTo, IsFinding, AreFindings}
+use Rattle.std.proofs.{Common.{◌≡◌, ℕ, ◌<◌, ◌≤◌, ◌⊎◌, true, false, ◌&&◌, List, [], ◌∷◌, Option, Some, None, length, get_or, set, fold, replicate, map, refl, ap, sym, ◌∙◌, subst, inl, inr, arith}, lemmas.Bool.{cases_eq, cases_lt, cases_Bool, and_parts, ltb-true, lt-ltb, false≢true}, lemmas.List.{length-set, get_or-set_same, get_or-set_other, get_or_past, get_or_default, get_or-replicate, length-replicate, length-map, get_or-map}}
+use Rattle.std.specs.{Prelude.{nat_lt, Contains}, List.{filter_map, All}}
+use Rattle.sharc_graph.specs.{declared.graph.Node.Node, declared.graph.Edge.Edge, declared.graph.Finding.Finding, declared.graph.Finding.TheVariants.{Apart, Source, Behind}, Findings.finding_at, Paths.{Graph, graph_of, IsWithin, no_node, node_at, IsSource, IsFree, edge_of, HasEdge, Follow, last_of, LeadsTo, IsFinding, AreFindings}}
 use Rattle.sharc_names.specs.declared.fault.Named.TheVariants as named
 use Rattle.sharc_tree.specs.Measures.{in_function}
-use Rattle.sharc_ctype.specs.Resolved.{Resolution, functions_in}
-use Rattle.sharc_ctype.specs.Reaches.{runs, spawns, of_all, Names, Spawns, Runs, Leads, IsReached}
-use Rattle.sharc_reach.specs.declared.mention.Mention.{Mention}
-use Rattle.sharc_reach.specs.Mentions.{mentions_below}
-use Rattle.sharc_reach.specs.Graphs.{ran, spawned, edge_within, edge_of_mention, quiet_node, source_node, marked, marked_by, is_found, is_source}
-use Rattle.sharc_reach.specs.Reaching.{is_chosen, IsSpawned}
+use Rattle.sharc_ctype.specs.{Resolved.{Resolution, functions_in}, Reaches.{runs, spawns, of_all, Names, Spawns, Runs, Leads, IsReached}}
+use Rattle.sharc_reach.specs.{declared.mention.Mention.Mention, Mentions.mentions_below, Graphs.{ran, spawned, edge_within, edge_of_mention, quiet_node, source_node, marked, marked_by, is_found, is_source}, Reaching.{is_chosen, IsSpawned}}
 use Rattle.sharc_reach.proofs.MemberLemmas.{Has, has_same, has_contained, contained, has_made, has_source, below_has, has_below, of_function_below, below_of_function, runs_of, of_runs, spawns_of, of_spawns, some_within}
 
 -- ---- edges

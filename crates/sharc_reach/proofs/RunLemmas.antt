@@ -1,14 +1,8 @@
 -- The names that the walk lists as called or spawned are those that the expressions of the function call or spawn.
-use Rattle.std.proofs.Common.{◌≡◌, ℕ, List, [], ◌∷◌, ◌++◌, Option, Some, None, refl, ap, sym, ◌∙◌, append_assoc}
-use Rattle.std.proofs.lemmas.List.{append-nil}
-use Rattle.sharc_tree.specs.Marks.{Mark, a_name, a_cast, type_marks, name_marks, declaration_marks, declarations_marks}
-use Rattle.sharc_tree.specs.Measures.{expressions, in_arguments, in_option, in_right, in_simple, in_local, in_first, in_head, in_statement, in_statements, in_function}
-use Rattle.sharc_tree.specs.Tree.{Expression, identifier, constant, parentheses, call, spawn, on_value, on_place, cast, index, field, unary, binary, Arguments, no_arguments, argument, Right, value, malloc, Simple, assign, does_call, Local, First, nothing, declares, does, Head, Statement, empty, block, declare, simple, jump, return, if_then, if_then_else, while, for, Statements, no_statements, statement, Function}
+use Rattle.std.proofs.{Common.{◌≡◌, ℕ, List, [], ◌∷◌, ◌++◌, Option, Some, None, refl, ap, sym, ◌∙◌, append_assoc}, lemmas.List.append-nil}
+use Rattle.sharc_tree.specs.{Marks.{Mark, a_name, a_cast, type_marks, name_marks, declaration_marks, declarations_marks}, Measures.{expressions, in_arguments, in_option, in_right, in_simple, in_local, in_first, in_head, in_statement, in_statements, in_function}, Tree.{Expression, identifier, constant, parentheses, call, spawn, on_value, on_place, cast, index, field, unary, binary, Arguments, no_arguments, argument, Right, value, malloc, Simple, assign, does_call, Local, First, nothing, declares, does, Head, Statement, empty, block, declare, simple, jump, return, if_then, if_then_else, while, for, Statements, no_statements, statement, Function}}
 use Rattle.sharc_ctype.specs.Reaches.{runs, spawns, of_all}
-use Rattle.sharc_reach.specs.declared.mention.Mention.{Mention}
-use Rattle.sharc_reach.specs.declared.mention.Role.{Role}
-use Rattle.sharc_reach.specs.declared.mention.Role.TheVariants.{Named, Called, Spawned}
-use Rattle.sharc_reach.specs.Mentions.{names, mentions, mentions_of_all, option_mentions, right_mentions, simple_mentions, local_mentions, first_mentions, head_mentions, statement_mentions, statements_mentions, function_mentions}
+use Rattle.sharc_reach.specs.{declared.mention.Mention.Mention, declared.mention.Role.Role, declared.mention.Role.TheVariants.{Named, Called, Spawned}, Mentions.{names, mentions, mentions_of_all, option_mentions, right_mentions, simple_mentions, local_mentions, first_mentions, head_mentions, statement_mentions, statements_mentions, function_mentions}}
 
 -- the tokens of those whose roles count
 abbrev pub told : (Role → ℕ → List ℕ) → List Mention → List ℕ

@@ -3,8 +3,7 @@ use Rattle.std.specs.Prelude.{ℕ, min, Bool, true, false, List, Option, None, S
 use Rattle.sharc_names.specs.declared.fault.Named.{Named}
 use Rattle.sharc_names.specs.declared.fault.Named.TheVariants as named
 use Rattle.sharc_ctype.specs.Resolved.{Resolution, named_at}
-use Rattle.sharc_reach.specs.declared.mention.Mention.{Mention}
-use Rattle.sharc_reach.specs.Reaching.{is_chosen}
+use Rattle.sharc_reach.specs.{declared.mention.Mention.Mention, Reaching.is_chosen}
 
 abbrev pub global_named : Named → Option ℕ
 global_named (named.Global n) = Some n

@@ -1,16 +1,12 @@
 -- The graph of the functions: each name that is called or spawned is an edge, and each that is spawned makes a source.
 use Rattle.std.specs.Prelude.{ℕ, Bool, true, false, not, ◌&&◌, nat_lt, List, Option, None, Some, slice_set, if◌then◌else◌}
-use Rattle.sharc_graph.specs.declared.graph.Node.{Node}
-use Rattle.sharc_graph.specs.declared.graph.Edge.{Edge}
-use Rattle.sharc_graph.specs.declared.graph.Finding.{Finding}
-use Rattle.sharc_graph.specs.declared.graph.Finding.TheVariants.{Apart, Source, Behind}
-use Rattle.sharc_graph.specs.Findings.{is_apart}
+use Rattle.sharc_graph.specs.{declared.graph.Node.Node, declared.graph.Edge.Edge, declared.graph.Finding.Finding}
+use Rattle.sharc_graph.specs.{declared.graph.Finding.TheVariants.{Apart, Source, Behind}, Findings.is_apart}
 use Rattle.sharc_graph.specs.Paths.{edge_of}
 use Rattle.sharc_names.specs.declared.fault.Named.{Named}
 use Rattle.sharc_names.specs.declared.fault.Named.TheVariants as named
 use Rattle.sharc_ctype.specs.Resolved.{Resolution, named_at}
-use Rattle.sharc_reach.specs.declared.mention.Mention.{Mention}
-use Rattle.sharc_reach.specs.declared.mention.Role.{Role}
+use Rattle.sharc_reach.specs.{declared.mention.Mention.Mention, declared.mention.Role.Role}
 use Rattle.sharc_reach.specs.declared.mention.Role.TheVariants as role
 
 abbrev pub function_named : Named → Option ℕ

@@ -1,12 +1,10 @@
 -- The names in a function, in the order in which they are written, each with what the function does with it.
 use Rattle.std.specs.Prelude.{ℕ, zero, suc, Bool, true, false, List, [], ◌∷◌, ◌++◌, Option, Some, None}
-use Rattle.sharc_tree.specs.declared.ctype.Mode.{Mode}
-use Rattle.sharc_tree.specs.declared.tree.declaration.WrittenType.{WrittenType}
+use Rattle.sharc_tree.specs.{declared.ctype.Mode.Mode, declared.tree.declaration.WrittenType.WrittenType}
 use Rattle.sharc_tree.specs.Marks.{Mark, a_name, a_cast, level_marks, base_marks, type_marks, name_marks, declaration_marks, declarations_marks}
 use Rattle.sharc_tree.specs.Tree.{Expression, identifier, constant, parentheses, call, spawn, on_value, on_place, cast, index, field, unary, binary, Arguments, no_arguments, argument, Right, value, malloc, Simple, assign, does_call, Local, First, nothing, declares, does, Head, Statement, empty, block, declare, simple, jump, return, if_then, if_then_else, while, for, Statements, no_statements, statement, Function}
 use Rattle.sharc_ctype.specs.Resolved.{Resolution, function_at}
-use Rattle.sharc_reach.specs.declared.mention.Mention.{Mention}
-use Rattle.sharc_reach.specs.declared.mention.Role.{Role}
+use Rattle.sharc_reach.specs.{declared.mention.Mention.Mention, declared.mention.Role.Role}
 use Rattle.sharc_reach.specs.declared.mention.Role.TheVariants.{Named, Called, Spawned}
 
 abbrev pub mention : ℕ → ℕ → Role → Mention

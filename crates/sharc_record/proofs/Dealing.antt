@@ -1,19 +1,9 @@
 -- The hands of all workers, when one is put in its place or taken from there.
-use Rattle.std.proofs.Common.{◌≡◌, ℕ, zero, suc, ◌+◌, ◌<◌, ◌≤◌, List, [], ◌∷◌, ◌++◌, length, get_or, set, Option, Some, None, refl, sym, ap, ◌∙◌, subst, arith, below_more, ⊎_elim}
-use Rattle.std.proofs.lemmas.Bool.{cases_eq}
-use Rattle.std.proofs.lemmas.List.{get_or-set_same, get_or-set_other, length-set, get_or_append_left, get_or_push}
-use Rattle.sharc_record.proofs.Places.{any_default}
-use Rattle.sharc_record.specs.declared.hand.Hand.{Hand}
-use Rattle.sharc_record.specs.declared.worker.Worker.{Worker}
-use Rattle.sharc_code.specs.declared.code.Code.{Code}
-use Rattle.sharc_code.specs.declared.shape.Shape.{Shape}
+use Rattle.std.proofs.{Common.{◌≡◌, ℕ, suc, ◌+◌, ◌<◌, ◌≤◌, List, [], ◌∷◌, ◌++◌, length, get_or, set, Option, Some, None, refl, sym, ap, ◌∙◌, subst, arith, ⊎_elim}, lemmas.Bool.cases_eq, lemmas.List.{get_or-set_same, get_or-set_other, length-set}}
+use Rattle.sharc_record.specs.{declared.hand.Hand.Hand, declared.worker.Worker.Worker, Round.{MayRun, HasRun, MayRunAt, HasRunAt, hand_at}}
+use Rattle.sharc_code.specs.{declared.code.Code.Code, declared.shape.Shape.Shape}
 use Rattle.sharc_journal.specs.Shared.{SharedView}
-use Rattle.sharc_record.specs.Round.{MayRun, HasRun, MayRunAt, HasRunAt, hand_at}
-
-pub some_within : {X : Type 0} (xs : List (Option X)) (n : ℕ) (x : X) → get_or xs n None ≡ Some x → n < length xs
-some_within [] n x e = absurd (let h : None ≡ Some x = e in cc)
-some_within (y ∷ ys) zero x e = omega arith
-some_within (y ∷ ys) (suc n) x e = let h = some_within ys n x e in omega (arith, h)
+use Rattle.sharc_lemmas.proofs.Lists.{any_default}
 
 module _ (workers : List Worker) (w : ℕ) (old new : Worker) (n : ℕ) (x : Option Hand)
     (low : w < length workers) (is : old ≡ get_or workers w old) (put : new.hands.items ≡ set old.hands.items n x) where
@@ -65,22 +55,6 @@ module _ (P : Option Hand → Option Hand → Type 0) (first now next : List (Op
   left_less left m h = off_it m (λ e. omega (arith, e, h)) ∙ left m (omega (arith, h))
 
 -- ---- taking them back
--- one more element is at its place in both lists
-pub pushed : {A B : Type 0} (P : ℕ → A → B → Type 0) (xs : List A) (ys : List B) (n : ℕ) (x : A) (y : B) (more : List A) (too : List B) → length xs ≡ n → length ys ≡ n
-    → more ≡ xs ++ x ∷ [] → too ≡ ys ++ y ∷ []
-    → ((m : ℕ) (a : A) (b : B) → m < n → P m (get_or xs m a) (get_or ys m b)) → P n x y
-    → (m : ℕ) (a : A) (b : B) → m < n + 1 → P m (get_or more m a) (get_or too m b)
-pushed P xs ys n x y more too e f is also each this m a b h =
-    below_more (λ k. P k (get_or more k a) (get_or too k b)) n
-    (λ k low.
-    let p : get_or more k a ≡ get_or xs k a = ap (λ zs. get_or zs k a) is ∙ get_or_append_left xs (x ∷ []) a k (omega (arith, e, low)) in
-    let q : get_or too k b ≡ get_or ys k b = ap (λ zs. get_or zs k b) also ∙ get_or_append_left ys (y ∷ []) b k (omega (arith, f, low)) in
-    subst (λ v. P k v (get_or too k b)) (sym p) (subst (λ v. P k (get_or xs k a) v) (sym q) (each k a b low)))
-    (let p : get_or more n a ≡ x = ap (λ zs. get_or zs n a) is ∙ get_or_push xs x a n e in
-    let q : get_or too n b ≡ y = ap (λ zs. get_or zs n b) also ∙ get_or_push ys y b n f in
-    subst (λ v. P n v (get_or too n b)) (sym p) (subst (λ v. P n x v) (sym q) this))
-    m h
-
 -- ---- dealing them out
 -- what is left of a list from a place on, when its first is drawn
 module _ {X : Type 0} (all xs ys : List X) (n : ℕ) (x : X) (is : xs ≡ x ∷ ys) (left : (k : ℕ) (d : X) → get_or xs k d ≡ get_or all (n + k) d) where
@@ -93,29 +67,9 @@ module _ {X : Type 0} (all xs ys : List X) (n : ℕ) (x : X) (is : xs ≡ x ∷ 
   pub drawn_length : (most : ℕ) → n + length xs ≡ most → n + 1 + length ys ≡ most
   drawn_length most e = let f : length xs ≡ suc (length ys) = ap (λ zs. length zs) is in omega (arith, e, f)
 
-pub one_of_two : (v m w n : ℕ) (P : Type 0) → (v ≡ w → m ≡ n → P) → ((v ≡ w → m ≡ n → ⊥) → P) → P
-one_of_two v m w n P f g =
-    ⊎_elim
-    (λ (e : v ≡ w). ⊎_elim (λ (h : m ≡ n). f e h) (λ (h : m ≡ n → ⊥). g (λ a. h)) (cases_eq m n))
-    (λ (e : v ≡ w → ⊥). g (λ a b. e a))
-    (cases_eq v w)
-
-pub same_some : {X : Type 0} (x y : X) → Some x ≡ Some y → x ≡ y
-same_some x y e = cc
-
 -- ---- a list that is changed one element after the other
 module _ {X : Type 0} (R : X → X → Type 0) (first now : List X) (n : ℕ) (old new : X) (low : n < length now) (is : old ≡ get_or now n old)
     (left : (m : ℕ) (a : X) → n ≤ m → get_or now m a ≡ get_or first m a) where
-  pub set_done : ((m : ℕ) (a b : X) → m < n → R (get_or first m a) (get_or now m b)) → R old new → length now ≡ length first → (m : ℕ) (a b : X) → m < n + 1 → R (get_or first m a) (get_or (set now n new) m b)
-  set_done done this same m a b h =
-      below_more (λ k. R (get_or first k a) (get_or (set now n new) k b)) n
-      (λ k below. subst (R (get_or first k a)) (sym (get_or-set_other now n k new b (λ e. omega (arith, e, below)))) (done k a b below))
-      (subst (R (get_or first n a)) (sym (get_or-set_same now n new b low))
-      (subst (λ x. R x new) (is ∙ left n old (omega arith) ∙ any_default first n old a (omega (arith, low, same))) this))
-      m h
-
-  pub set_left : (m : ℕ) (a : X) → n + 1 ≤ m → get_or (set now n new) m a ≡ get_or first m a
-  set_left m a h = get_or-set_other now n m new a (λ e. omega (arith, e, h)) ∙ left m a (omega (arith, h))
 
 -- ---- what may run, and what has run
 pub may_at : (code : Code) (s : Shape) (limit : ℕ) (shared : SharedView) (x : Option Hand) → ((hand : Hand) → x ≡ Some hand → MayRun code s limit shared hand) → MayRunAt code s limit shared x

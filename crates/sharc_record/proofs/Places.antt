@@ -9,9 +9,3 @@ pub at_place : {X : Type 0} (xs : List X) (t : ℕ) → t < length xs → At xs 
 at_place [] t h = absurd (omega (arith, h))
 at_place (x ∷ xs) zero h = record { one = x; is = λ d. refl }
 at_place (x ∷ xs) (suc t) h = let a = at_place xs t (omega (arith, h)) in record { one = a.one; is = λ d. a.is d }
-
--- within a list the default is not looked at
-pub any_default : {X : Type 0} (xs : List X) (i : ℕ) (d e : X) → i < length xs → get_or xs i d ≡ get_or xs i e
-any_default [] i d e h = absurd (omega (arith, h))
-any_default (x ∷ xs) zero d e h = refl
-any_default (x ∷ xs) (suc i) d e h = any_default xs i d e (omega (arith, h))

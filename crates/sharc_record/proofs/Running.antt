@@ -1,28 +1,13 @@
 -- What a quantum over a port of a journal makes of a thread and of its seat.
-use Rattle.std.proofs.Common.{◌≡◌, ℕ, ◌+◌, ◌<◌, ◌≤◌, ◌==◌, Bool, true, false, List, [], ◌∷◌, ◌++◌, length, Some, None, refl, sym, ap, ◌∙◌, subst, arith}
+use Rattle.std.proofs.{Common.{◌≡◌, ℕ, ◌+◌, ◌<◌, ◌≤◌, ◌==◌, Bool, true, false, List, [], ◌∷◌, ◌++◌, length, Some, None, refl, sym, ap, ◌∙◌, subst, arith}, lemmas.List.{append-nil, length-append}}
 use Rattle.std.specs.Prelude.{if◌then◌else◌}
-use Rattle.std.proofs.lemmas.Bool.Decides.{nat_tests}
-use Rattle.std.proofs.lemmas.List.{append-nil, length-append}
-use Rattle.sharc_word.specs.Place.{Place, LeadsInEvents, place_of_events}
-use Rattle.sharc_word.specs.Laws.{PlaceLaws}
-use Rattle.sharc_code.specs.declared.code.Code.{Code}
-use Rattle.sharc_code.specs.declared.shape.Shape.{Shape}
-use Rattle.sharc_code.specs.declared.state.State.{State}
-use Rattle.sharc_code.specs.declared.state.State.TheVariants.{Runs, Tries, Stopped, Ended}
-use Rattle.sharc_code.specs.Machine.{Machine, Turn, Local, Asks}
-use Rattle.sharc_code.specs.Path.{may_go, turn, machine_after, events_of_turn, events_of_path, made_in}
-use Rattle.sharc_cpu.specs.Thread.{ThreadView, IsThread}
-use Rattle.sharc_cpu.specs.Quantum.{IsQuantum, pause_of}
-use Rattle.sharc_cpu.specs.declared.quantum.Pause.{Pause}
-use Rattle.sharc_cpu.specs.declared.quantum.Pause.TheVariants.{Ran, Spent}
-use Rattle.sharc_journal.specs.Shared.{SeatView}
-use Rattle.sharc_journal.specs.declared.journal.TheConstants.{QUANTUM}
+use Rattle.sharc_word.specs.{Place.{Place, LeadsInEvents, place_of_events}, Laws.PlaceLaws}
+use Rattle.sharc_code.specs.{declared.code.Code.Code, declared.shape.Shape.Shape, declared.state.State.State, declared.state.State.TheVariants.{Runs, Tries, Stopped, Ended}, Machine.{Machine, Turn, Local, Asks}, Path.{may_go, turn, machine_after, events_of_turn, events_of_path, made_in}}
+use Rattle.sharc_cpu.specs.{Thread.{ThreadView, IsThread}, Quantum.{IsQuantum, pause_of}, declared.quantum.Pause.Pause, declared.quantum.Pause.TheVariants.{Ran, Spent}}
+use Rattle.sharc_journal.specs.{Shared.SeatView, declared.journal.TheConstants.QUANTUM}
 use Rattle.sharc_rounds.specs.Round.{Seat}
 use Rattle.sharc_record.specs.Round.{HasRun}
-
--- below the limit no turn at all is answered with Ran where one may come
-below : (made limit : ℕ) → made < limit → (made == limit) ≡ false
-below made limit h = grind (arith, nat_tests)
+use Rattle.sharc_lemmas.proofs.Numbers.{below}
 
 ran_or_spent : (b : Bool) → b ≡ false → (if b then Spent else Ran) ≡ Ran
 ran_or_spent true e = cc

@@ -1,16 +1,10 @@
 -- Laws of recorded runs, for the crates above.
 use Rattle.std.specs.Prelude.{ℕ, ◌≡◌, ◌≤◌, List}
-use Rattle.sharc_code.specs.declared.code.Code.{Code}
-use Rattle.sharc_code.specs.declared.shape.Shape.{Shape}
-use Rattle.sharc_code.specs.Layout.{Fits}
-use Rattle.sharc_code.specs.Whole.{place_after}
+use Rattle.sharc_code.specs.{declared.code.Code.Code, declared.shape.Shape.Shape, Layout.Fits, Whole.place_after}
 use Rattle.sharc_recorded.specs.File.{FileView, IsFile, HoldsNoSchedule, written}
-use Rattle.sharc_seq.specs.declared.run.SeqRun.{SeqRun}
-use Rattle.sharc_seq.specs.Run.{IsSeqRun}
-use Rattle.sharc_schedule.specs.Schedule.{Stored}
-use Rattle.sharc_schedule.specs.Laws.{ShowsSame}
-use Rattle.sharc_record.specs.declared.run.Recorded.{Recorded}
-use Rattle.sharc_record.specs.Run.{IsRecorded}
+use Rattle.sharc_seq.specs.{declared.run.SeqRun.SeqRun, Run.IsSeqRun}
+use Rattle.sharc_schedule.specs.{Schedule.Stored, Laws.ShowsSame}
+use Rattle.sharc_record.specs.{declared.run.Recorded.Recorded, Run.IsRecorded}
 
 -- what a recorded file says of a run
 abbrev pub file_of : List ℕ → Shape → ℕ → Recorded → FileView

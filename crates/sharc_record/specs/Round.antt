@@ -1,21 +1,14 @@
 -- What a round over a journal makes of the threads, of the words and of the events.
 use Rattle.std.specs.Prelude.{ℕ, ◌≡◌, ◌≤◌, ◌++◌, true, List, length, Option, Some, None, slice_index_or}
 use Rattle.sharc_word.specs.declared.step.WordEvent.{WordEvent}
-use Rattle.sharc_code.specs.declared.code.Code.{Code}
-use Rattle.sharc_code.specs.declared.shape.Shape.{Shape}
-use Rattle.sharc_code.specs.Layout.{words_of}
-use Rattle.sharc_code.specs.Path.{may_go}
-use Rattle.sharc_code.specs.Runs.{Turn, IsRun, opening_of, word_events}
-use Rattle.sharc_code.specs.Opening.{opening_words}
+use Rattle.sharc_code.specs.{declared.code.Code.Code, declared.shape.Shape.Shape, Layout.words_of, Path.may_go}
+use Rattle.sharc_code.specs.{Runs.{Turn, IsRun, opening_of, word_events}, Opening.opening_words}
 use Rattle.sharc_code.specs.Whole.{one_thread, bounds, place_after}
 use Rattle.sharc_cpu.specs.Thread.{ThreadView, IsThread}
-use Rattle.sharc_journal.specs.Shared.{SharedView}
+use Rattle.sharc_journal.specs.{Shared.SharedView, declared.journal.TheConstants.QUANTUM}
 use Rattle.sharc_threads.specs.Seats.{AreSeats}
 use Rattle.sharc_rounds.specs.Round.{Seat, MadeQuantumAt, MadeRound}
-use Rattle.sharc_journal.specs.declared.journal.TheConstants.{QUANTUM}
-use Rattle.sharc_record.specs.declared.hand.Hand.{Hand}
-use Rattle.sharc_record.specs.declared.worker.Worker.{Worker}
-use Rattle.sharc_record.specs.declared.round.Rounds.{Rounds}
+use Rattle.sharc_record.specs.{declared.hand.Hand.Hand, declared.worker.Worker.Worker, declared.round.Rounds.Rounds}
 
 -- ---- one thread
 -- a thread may make a quantum over the port of the seat of this number

@@ -1,12 +1,8 @@
 -- Recorded runs, and how they end.
 use Rattle.std.specs.Prelude.{ℕ, ◌≡◌, List}
-use Rattle.sharc_code.specs.declared.code.Code.{Code}
-use Rattle.sharc_code.specs.declared.shape.Shape.{Shape}
-use Rattle.sharc_code.specs.Runs.{Turn}
-use Rattle.sharc_code.specs.Whole.{place_after}
+use Rattle.sharc_code.specs.{declared.code.Code.Code, declared.shape.Shape.Shape, Runs.Turn, Whole.place_after}
 use Rattle.sharc_threads.specs.Ends.{AreStarted, EndIs}
-use Rattle.sharc_schedule.specs.Journal.{IsJournalOf}
-use Rattle.sharc_schedule.specs.Schedule.{schedule_of}
+use Rattle.sharc_schedule.specs.{Journal.IsJournalOf, Schedule.schedule_of}
 use Rattle.sharc_record.specs.declared.run.Recorded.{Recorded}
 
 -- A checked run, in which no thread makes more events than this, and which ends where no thread is enabled. Its word events are the

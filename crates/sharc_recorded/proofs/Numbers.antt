@@ -1,21 +1,8 @@
 -- Numbers and places in lines.
-use Rattle.std.proofs.Common.{◌≡◌, ◌≢◌, ℕ, ◌<◌, ◌≤◌, ◌^◌, ◌==◌, ◌&&◌, Bool, true, false, nat_le, ◌⊎◌, inl, inr, ⊎_elim, List, [], ◌∷◌, ◌++◌, Option, Some, None, length, decimal, refl, sym, ap, ◌∙◌, subst, arith, eq-eqb, ne_eqb, eqb-true, if◌then◌else◌}
-use Rattle.std.specs.Str.{bytes_eq}
-use Rattle.std.specs.Str.Parse.{digits_value, AllDigits}
-use Rattle.std.specs.Char.{digit_value}
-use Rattle.std.proofs.lemmas.Fmt.{decimal_is_IsNumeral}
-use Rattle.std.proofs.lemmas.Slice.Eq.{bytes_eq-Decides}
-use Rattle.std.proofs.lemmas.Bool.{le-leb, leb-true}
-use Rattle.sharc_recorded.specs.File.{place_line, IsPlace, AreNumbers, Begins}
-use Rattle.sharc_recorded.specs.Reading.{number_in, pair_of, word_of, after_word, place_in, numbers_in, rest_after}
-
-pub if_yes : {A : Type 0} (b : Bool) (x y : A) → b ≡ true → (if b then x else y) ≡ x
-if_yes true x y e = refl
-if_yes false x y e = absurd cc
-
-pub if_no : {A : Type 0} (b : Bool) (x y : A) → b ≡ false → (if b then x else y) ≡ y
-if_no true x y e = absurd cc
-if_no false x y e = refl
+use Rattle.std.proofs.{Common.{◌≡◌, ◌≢◌, ℕ, ◌<◌, ◌≤◌, ◌^◌, ◌==◌, ◌&&◌, Bool, true, false, nat_le, ◌⊎◌, inl, inr, ⊎_elim, List, [], ◌∷◌, ◌++◌, Option, Some, None, length, decimal, refl, sym, ap, ◌∙◌, subst, arith, eq-eqb, ne_eqb, eqb-true, if◌then◌else◌}, lemmas.Fmt.decimal_is_IsNumeral, lemmas.Bool.{le-leb, leb-true, false_from_ne_true as true_or_false}}
+use Rattle.std.specs.{Str.bytes_eq, Str.Parse.{digits_value, AllDigits}, Char.digit_value}
+use Rattle.sharc_recorded.specs.{File.{place_line, IsPlace, AreNumbers, Begins}, Reading.{number_in, pair_of, word_of, after_word, place_in, numbers_in, rest_after}}
+use Rattle.sharc_lemmas.proofs.{Bools.{and_left, and_right, if_false as if_no, if_true as if_yes}, Lists.{same_name as bytes_same, same_bytes as bytes_alike}}
 
 abbrev or_else : {A : Type 0} → A → Option A → A
 or_else a None = a
@@ -51,24 +38,6 @@ lacks-append b [] ys h k = k
 lacks-append b (x ∷ xs) ys h k = (h.0, lacks-append b xs ys h.1 k)
 
 -- ---- one number
-and_left : (a b : Bool) → (a && b) ≡ true → a ≡ true
-and_left true b e = refl
-and_left false b e = absurd cc
-
-and_right : (a b : Bool) → (a && b) ≡ true → b ≡ true
-and_right true b e = e
-and_right false b e = absurd cc
-
-pub bytes_same : (xs ys : List ℕ) → bytes_eq xs ys ≡ true → xs ≡ ys
-bytes_same xs ys e = (bytes_eq-Decides xs ys).0 e
-
-pub bytes_alike : (xs ys : List ℕ) → xs ≡ ys → bytes_eq xs ys ≡ true
-bytes_alike xs ys e = (bytes_eq-Decides xs ys).1 e
-
-true_or_false : (b : Bool) → (b ≡ true → ⊥) → b ≡ false
-true_or_false true not = absurd (not refl)
-true_or_false false not = refl
-
 pub bytes_differ : (xs ys : List ℕ) → xs ≢ ys → bytes_eq xs ys ≡ false
 bytes_differ xs ys apart = true_or_false (bytes_eq xs ys) (λ e. apart (bytes_same xs ys e))
 

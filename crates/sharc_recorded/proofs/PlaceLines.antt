@@ -1,11 +1,9 @@
 -- The plain reader answers what the lines say, and else the first line at fault.
-use Rattle.std.proofs.Common.{◌≡◌, ◌≢◌, ℕ, suc, ◌+◌, ◌<◌, ◌≤◌, ◌^◌, Bool, true, false, List, [], ◌∷◌, ◌++◌, Option, Some, None, length, map, take, decimal, refl, sym, ap, ◌∙◌, subst, arith, if◌then◌else◌}
-use Rattle.std.specs.Prelude.{Result, Ok, Err}
-use Rattle.std.specs.Str.{bytes_eq}
-use Rattle.std.proofs.lemmas.Fmt.{decimal_is_IsNumeral}
-use Rattle.sharc_recorded.specs.File.{place_line, text_line, IsPlace, ArePlaces}
-use Rattle.sharc_recorded.specs.Reading.{place_in, after_word, with_place, read_places}
-use Rattle.sharc_recorded.proofs.Numbers.{if_no, bytes_same, bytes_differ, decimal_lacks_blank, word_after, place_sound, place_complete}
+use Rattle.std.proofs.{Common.{◌≡◌, ◌≢◌, ℕ, suc, ◌+◌, ◌<◌, ◌≤◌, ◌^◌, Bool, true, false, List, [], ◌∷◌, ◌++◌, Option, Some, None, length, map, take, decimal, refl, sym, ap, ◌∙◌, subst, arith, if◌then◌else◌}, lemmas.Fmt.decimal_is_IsNumeral}
+use Rattle.std.specs.{Prelude.{Result, Ok, Err}, Str.bytes_eq}
+use Rattle.sharc_recorded.specs.{File.{place_line, text_line, IsPlace, ArePlaces}, Reading.{place_in, after_word, with_place, read_places}}
+use Rattle.sharc_recorded.proofs.Numbers.{bytes_differ, decimal_lacks_blank, word_after, place_sound, place_complete}
+use Rattle.sharc_lemmas.proofs.{Bools.{if_false as if_no}, Lists.{same_name as bytes_same}}
 
 abbrev IsOk : {A : Type 0} → Result A ℕ → Type 0
 IsOk (Ok x) = Unit {0}

@@ -1,11 +1,8 @@
 -- The plain reader on whole files.
 use Rattle.std.proofs.Common.{◌≡◌, ℕ, suc, ◌+◌, ◌-◌, List, [], ◌∷◌, ◌++◌, Option, Some, None, map, take, decimal, refl, sym, ap, ◌∙◌, subst, arith, append_assoc}
 use Rattle.std.specs.Prelude.{Result, Ok, Err}
-use Rattle.sharc_recorded.specs.File.{FileView, place_line, schedule_line, schedule_word, text_line, joined_by, NoneBegins, ArePlaces, AreNumbers, AreLinesOf}
-use Rattle.sharc_recorded.specs.Reading.{numbers_in, rest_after, read_places, with_places, at_schedule, read_source, read_lines}
-use Rattle.sharc_recorded.specs.Laws.{ReadsFiles, ReadsAll, ReadsFaults}
-use Rattle.sharc_recorded.proofs.Numbers.{numbers_sound, numbers_complete, rest_after_sound, rest_after_complete, rest_after_none, none_after}
-use Rattle.sharc_recorded.proofs.PlaceLines.{err_not_ok, ok_not_err, ok_is, err_is, PlacesAre, places_sound, places_complete, Faults, places_fault}
+use Rattle.sharc_recorded.specs.{File.{FileView, place_line, schedule_line, schedule_word, text_line, joined_by, NoneBegins, ArePlaces, AreNumbers, AreLinesOf}, Reading.{numbers_in, rest_after, read_places, with_places, at_schedule, read_source, read_lines}, Laws.{ReadsFiles, ReadsAll, ReadsFaults}}
+use Rattle.sharc_recorded.proofs.{Numbers.{numbers_sound, numbers_complete, rest_after_sound, rest_after_complete, rest_after_none, none_after}, PlaceLines.{err_not_ok, ok_not_err, ok_is, err_is, PlacesAre, places_sound, places_complete, Faults, places_fault}}
 
 joined_more : (a b : List ℕ) (lines : List (List ℕ)) → joined_by (a ++ 10 ∷ b) lines ≡ a ++ 10 ∷ joined_by b lines
 joined_more a b [] = refl

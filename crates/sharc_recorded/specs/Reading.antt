@@ -1,7 +1,6 @@
 -- A plain reader of lines.
 use Rattle.std.specs.Prelude.{ℕ, ◌+◌, ◌==◌, ◌&&◌, nat_le, List, [], ◌∷◌, ◌++◌, decimal, Option, Some, None, Result, Ok, Err, if◌then◌else◌}
-use Rattle.std.specs.Str.{bytes_eq}
-use Rattle.std.specs.Str.Parse.{digits_value}
+use Rattle.std.specs.{Str.bytes_eq, Str.Parse.digits_value}
 use Rattle.sharc_recorded.specs.File.{FileView, schedule_word, text_line}
 
 -- a decimal number in this range, without a leading zero

@@ -1,9 +1,7 @@
 -- What a fault shows.
 use Rattle.std.specs.Prelude.{ℕ, ◌≡◌, List, Result, Err}
-use Rattle.sharc_recorded.specs.declared.file.RecordFile.{RecordFile}
-use Rattle.sharc_recorded.specs.declared.file.FileFault.{FileFault}
-use Rattle.sharc_recorded.specs.declared.file.FileFault.TheVariants.{Line, Memory}
-use Rattle.sharc_recorded.specs.File.{FileView, lines_in, IsFault}
+use Rattle.sharc_recorded.specs.{declared.file.RecordFile.RecordFile, declared.file.FileFault.FileFault}
+use Rattle.sharc_recorded.specs.{declared.file.FileFault.TheVariants.{Line, Memory}, File.{FileView, lines_in, IsFault}}
 
 -- it is the line that the plain reader answers; out of memory shows nothing
 abbrev pub PlacesShow : Result (List (ℕ × ℕ)) ℕ → FileFault → Type 0

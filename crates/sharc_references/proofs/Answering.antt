@@ -1,26 +1,14 @@
 -- The list is that of the references, each once.
-use Rattle.std.proofs.Common.{◌≡◌, ◌↔◌, ℕ, true, List, Option, Some, None, refl, sym, ◌∙◌, rules}
-use Rattle.std.specs.Prelude.{IsTrue, codes}
-use Rattle.std.specs.List.{AllByRecursion}
-use Rattle.std.specs.Str.{bytes_eq}
-use Rattle.std.proofs.lemmas.Slice.Eq.{bytes_eq-Decides}
-use Rattle.sharc_tree.specs.declared.event.SourceEvent.{SourceEvent}
-use Rattle.sharc_tree.specs.Tree.{Function}
+use Rattle.std.proofs.{Common.{◌≡◌, ◌↔◌, ℕ, true, List, Option, Some, None, refl, sym, ◌∙◌, rules}, lemmas.Slice.Eq.bytes_eq-Decides}
+use Rattle.std.specs.{Prelude.{IsTrue, codes}, List.AllByRecursion, Str.bytes_eq}
+use Rattle.sharc_tree.specs.{declared.event.SourceEvent.SourceEvent, Tree.Function}
 use Rattle.sharc_ctype.specs.Resolved.{Resolution, IsResolved, globals_in, function_at}
-use Rattle.sharc_ctype_laws.specs.Initials.{MeetsGlobal}
-use Rattle.sharc_ctype_laws.specs.Laws.{MeetsGlobals, OneFunctionOfName}
+use Rattle.sharc_ctype_laws.specs.{Initials.MeetsGlobal, Laws.{MeetsGlobals, OneFunctionOfName}}
 use Rattle.sharc_mode.specs.Moded.{Assignment}
-use Rattle.sharc_meaning.specs.References.{ReferencesWith}
-use Rattle.sharc_meaning.specs.Runs.{is_named_main, SourceRun}
+use Rattle.sharc_meaning.specs.{References.ReferencesWith, Runs.{is_named_main, SourceRun}}
 use Rattle.sharc_judge.specs.Laws.{SameLaws}
-use Rattle.sharc_references.specs.declared.holder.Holder.{Holder}
-use Rattle.sharc_references.specs.declared.holder.Holder.TheVariants.{InCell, InArgument, InMutex, InThread}
-use Rattle.sharc_references.specs.Answered.{view_holder, IsListed, AreReferences}
-use Rattle.sharc_references.specs.Listed.{holders}
-use Rattle.sharc_references.proofs.Complete.{cell_listed, mutex_listed, argument_listed, thread_listed}
-use Rattle.sharc_references.proofs.Distinct.{all_distinct}
-use Rattle.sharc_references.proofs.Entries.{OneMain}
-use Rattle.sharc_references.proofs.Sound.{all_sound}
+use Rattle.sharc_references.specs.{declared.holder.Holder.Holder, declared.holder.Holder.TheVariants.{InCell, InArgument, InMutex, InThread}, Answered.{view_holder, IsListed, AreReferences}, Listed.holders}
+use Rattle.sharc_references.proofs.{Complete.{cell_listed, mutex_listed, argument_listed, thread_listed}, Distinct.all_distinct, Entries.OneMain, Sound.all_sound}
 
 called_main : (f : Function) → bytes_eq f.name.text (codes "main") ≡ true → f.name.text ≡ codes "main"
 called_main f h = search (rules, bytes_eq-Decides f.name.text (codes "main"))

@@ -1,49 +1,19 @@
 -- What holds a reference is listed.
-use Rattle.std.proofs.Common.{◌≡◌, ◌⊎◌, inl, inr, ℕ, zero, suc, ◌+◌, ◌<◌, Bool, true, false, not, ◌&&◌, ◌||◌, List, [], ◌∷◌, ◌++◌, Option, Some, None, refl, ap, sym, subst, ◌∙◌}
-use Rattle.std.specs.Prelude.{ℤ, pos, negsuc, ◌==◌, ◌%◌, Any, length, slice_get, slice_index_or, IsTrue, if◌then◌else◌}
-use Rattle.std.specs.List.{list_any, AllByRecursion}
-use Rattle.std.proofs.lemmas.Bool.{not_from_false, both_ways, and_parts, and_from, or_cases, or_left, or_right, eqb-true, eq-eqb}
-use Rattle.sharc_tree.specs.declared.ctype.Base.{Base}
-use Rattle.sharc_tree.specs.declared.ctype.Base.TheVariants.{Int, Char, Long, Mutex, Void, Struct}
-use Rattle.sharc_tree.specs.declared.event.Act.{Act}
+use Rattle.std.proofs.{Common.{◌≡◌, ◌⊎◌, inl, inr, ℕ, zero, suc, ◌+◌, ◌<◌, Bool, true, false, not, ◌&&◌, ◌||◌, List, [], ◌∷◌, ◌++◌, Option, Some, None, refl, ap, sym, subst, ◌∙◌}, lemmas.Bool.{not_from_false, both_ways, and_parts, and_from, or_cases, eqb-true}}
+use Rattle.std.specs.{Prelude.{ℤ, pos, negsuc, ◌==◌, ◌%◌, length, slice_get, slice_index_or, IsTrue, if◌then◌else◌}, List.{list_any, AllByRecursion}}
+use Rattle.sharc_tree.specs.{declared.ctype.Base.Base, declared.ctype.Base.TheVariants.{Int, Char, Long, Mutex, Void, Struct}, declared.event.Act.Act, declared.event.CellAt.CellAt, declared.event.CellMode.CellMode, declared.event.Object.Object, declared.event.Object.TheVariants.{Global, Made}, declared.event.SourceEvent.SourceEvent, declared.tree.declaration.WrittenType.WrittenType, declared.tree.expression.Constant.TheVariants.Null, declared.tree.item.GlobalDefinition.GlobalDefinition, declared.tree.item.GlobalForm.GlobalForm, declared.tree.item.GlobalForm.TheVariants.{Plain, Array, Initial}}
 use Rattle.sharc_tree.specs.declared.event.Act.TheVariants as acts
-use Rattle.sharc_tree.specs.declared.event.CellAt.{CellAt}
-use Rattle.sharc_tree.specs.declared.event.CellMode.{CellMode}
-use Rattle.sharc_tree.specs.declared.event.Object.{Object}
-use Rattle.sharc_tree.specs.declared.event.Object.TheVariants.{Global, Made}
-use Rattle.sharc_tree.specs.declared.event.SourceEvent.{SourceEvent}
 use Rattle.sharc_tree.specs.declared.event.Taken.TheVariants as taken
-use Rattle.sharc_tree.specs.declared.tree.declaration.WrittenType.{WrittenType}
-use Rattle.sharc_tree.specs.declared.tree.expression.Constant.{Constant}
-use Rattle.sharc_tree.specs.declared.tree.expression.Constant.TheVariants.{Null}
-use Rattle.sharc_tree.specs.declared.tree.item.GlobalDefinition.{GlobalDefinition}
-use Rattle.sharc_tree.specs.declared.tree.item.GlobalForm.{GlobalForm}
-use Rattle.sharc_tree.specs.declared.tree.item.GlobalForm.TheVariants.{Plain, Array, Initial}
 use Rattle.sharc_names.specs.Kinds.{Kind, object, is_pointer, is_integral, declared_kind}
-use Rattle.sharc_ctype.specs.Layouts.{pointer_cells}
-use Rattle.sharc_ctype.specs.Resolved.{Resolution, globals_in, global_at}
-use Rattle.sharc_ctype_laws.specs.Constraints.{IsInteger, IsPointer}
-use Rattle.sharc_ctype_laws.specs.Initials.{MeetsInitial, MeetsGlobal}
+use Rattle.sharc_ctype.specs.{Layouts.pointer_cells, Resolved.{Resolution, globals_in, global_at}}
+use Rattle.sharc_ctype_laws.specs.{Constraints.IsInteger, Initials.{MeetsInitial, MeetsGlobal}}
 use Rattle.sharc_mode.specs.Moded.{Assignment}
-use Rattle.sharc_meaning.specs.Events.{is_of, is_cell, is_number, made_by, makes, same_object, same_cell, locks, unlocks, locked_by, events_of, latest}
-use Rattle.sharc_meaning.specs.References.{refers, base_fields, is_pointer_in, is_pointer_of_global, is_pointer_of, passes, asked_with, held_count, CellRefers, ArgumentRefers, ThreadHoldsWith}
-use Rattle.sharc_meaning.specs.Runs.{Follows, SourceRun}
-use Rattle.sharc_meaning.specs.Store.{cell_changed, changes, value_left, form_value, global_value, initial_value, value_by, value_after, meets, is_locked, spawns, is_spawn, is_natural}
+use Rattle.sharc_meaning.specs.{Events.{is_of, is_cell, is_number, made_by, makes, same_object, same_cell, locks, unlocks, locked_by}, References.{refers, base_fields, is_pointer_in, is_pointer_of_global, is_pointer_of, passes, CellRefers, ArgumentRefers, ThreadHoldsWith}, Runs.SourceRun, Store.{cell_changed, changes, value_left, form_value, global_value, initial_value, value_by, value_after, meets, is_locked, spawns, is_spawn, is_natural}}
 use Rattle.sharc_judge.specs.Laws.{SameLaws}
-use Rattle.sharc_references.specs.declared.holder.Holder.{Holder}
-use Rattle.sharc_references.specs.declared.holder.Holder.TheVariants.{InCell, InArgument, InMutex, InThread}
-use Rattle.sharc_references.specs.Answered.{IsListed}
-use Rattle.sharc_references.specs.Listed.{cell_refers, cell_at, mutex_at, is_passed, argument_at, in_thread_all, thread_at, by_act, holders_at, holders}
-use Rattle.sharc_references.specs.Starting.{thread_count}
-use Rattle.sharc_references.proofs.Entries.{OneMain, placed, Placed, events_begun, follows_begun}
-use Rattle.sharc_references.proofs.Latest.{LastAt, last_found, latest_last, latest_none, stands_any}
-use Rattle.sharc_references.proofs.Places.{alone, in_front, in_back, of_threads, here}
-use Rattle.sharc_references.proofs.Sound.{true_cell, count_is}
+use Rattle.sharc_references.specs.{declared.holder.Holder.Holder, declared.holder.Holder.TheVariants.{InCell, InArgument, InMutex, InThread}, Answered.IsListed, Listed.{cell_refers, cell_at, mutex_at, is_passed, argument_at, in_thread_all, thread_at, by_act, holders_at, holders}, Starting.thread_count}
+use Rattle.sharc_references.proofs.{Entries.{OneMain, placed, events_begun, follows_begun}, Latest.{LastAt, last_found, latest_last, latest_none, stands_any}, Places.{alone, in_front, in_back, of_threads, here}, Sound.{true_cell, count_is}}
 
 -- ---- what a cell has that nobody wrote
-
-null_refers : (n : ℕ) → refers n (pos 0) ≡ false
-null_refers n = refl
 
 abbrev base_of : Kind → Base
 base_of (object b stars) = b

@@ -1,25 +1,13 @@
 -- No holder is listed twice: it is listed at the last event that marks it.
-use Rattle.std.proofs.Common.{◌≡◌, ◌⊎◌, inl, inr, ℕ, Bool, true, false, not, ◌&&◌, ◌||◌, List, [], ◌∷◌, ◌++◌, refl, ap, sym, subst, ◌∙◌}
-use Rattle.std.specs.Prelude.{ℤ, pos, negsuc, ◌==◌, if◌then◌else◌}
-use Rattle.std.specs.List.{list_any}
-use Rattle.std.proofs.lemmas.Bool.{not-true, both_ways, and_parts, and_from, or_left, eq-eqb}
-use Rattle.sharc_tree.specs.declared.event.Act.{Act}
+use Rattle.std.proofs.{Common.{◌≡◌, ◌⊎◌, inl, inr, ℕ, Bool, true, false, not, ◌&&◌, ◌||◌, List, [], ◌∷◌, ◌++◌, refl, ap, sym, subst, ◌∙◌}, lemmas.Bool.{not-true, both_ways, and_parts, and_from, or_left, eq-eqb}}
+use Rattle.std.specs.{Prelude.{ℤ, pos, negsuc, ◌==◌, if◌then◌else◌}, List.list_any}
+use Rattle.sharc_tree.specs.{declared.event.Act.Act, declared.event.CellAt.CellAt, declared.event.Object.TheVariants.Made, declared.event.SourceEvent.SourceEvent}
 use Rattle.sharc_tree.specs.declared.event.Act.TheVariants as acts
-use Rattle.sharc_tree.specs.declared.event.CellAt.{CellAt}
-use Rattle.sharc_tree.specs.declared.event.Object.TheVariants.{Made}
-use Rattle.sharc_tree.specs.declared.event.SourceEvent.{SourceEvent}
 use Rattle.sharc_mode.specs.Moded.{Assignment}
-use Rattle.sharc_meaning.specs.Events.{is_of, is_cell, makes, same_object, locks, unlocks, locked_by}
-use Rattle.sharc_meaning.specs.References.{passes}
-use Rattle.sharc_meaning.specs.Store.{cell_changed, changes, spawns, is_spawn, is_natural}
+use Rattle.sharc_meaning.specs.{Events.{is_of, is_cell, makes, same_object, locks, unlocks, locked_by}, References.passes, Store.{cell_changed, changes, spawns, is_spawn, is_natural}}
 use Rattle.sharc_judge.specs.Laws.{SameLaws}
-use Rattle.sharc_references.specs.declared.holder.Holder.{Holder}
-use Rattle.sharc_references.specs.declared.holder.Holder.TheVariants.{InCell, InArgument, InMutex, InThread}
-use Rattle.sharc_references.specs.Answered.{IsListed, AreDistinct}
-use Rattle.sharc_references.specs.Listed.{at_places, cell_refers, cell_at, mutex_at, is_passed, argument_at, in_thread_all, thread_at, by_act, holders_at, holders}
-use Rattle.sharc_references.specs.Starting.{thread_count}
-use Rattle.sharc_references.proofs.Latest.{stands_any}
-use Rattle.sharc_references.proofs.Places.{AtPlace, only, one_distinct, in_either, in_threads, threads_distinct, both_distinct, somewhere}
+use Rattle.sharc_references.specs.{declared.holder.Holder.Holder, declared.holder.Holder.TheVariants.{InCell, InArgument, InMutex, InThread}, Answered.{IsListed, AreDistinct}, Listed.{at_places, cell_refers, cell_at, mutex_at, is_passed, argument_at, in_thread_all, thread_at, by_act, holders_at, holders}, Starting.thread_count}
+use Rattle.sharc_references.proofs.{Latest.stands_any, Places.{AtPlace, only, one_distinct, in_either, in_threads, threads_distinct, both_distinct, somewhere}}
 
 module _ (fuel : ℕ) (m : Assignment) (R : List SourceEvent) (n : ℕ) where
   -- the event is one after which the holder may be listed

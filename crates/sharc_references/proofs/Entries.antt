@@ -1,18 +1,13 @@
 -- The function and the argument of a thread that has begun, and what it answers to, after the events of a legal store.
-use Rattle.std.proofs.Common.{◌≡◌, ◌⊎◌, inl, inr, ℕ, zero, suc, ◌+◌, Bool, true, false, cond, List, [], ◌∷◌, ◌++◌, length, length-append, Some, refl, ap, sym, subst, ◌∙◌, arith, append_assoc}
-use Rattle.std.specs.Prelude.{ℤ, pos, ◌==◌, ◌||◌, ◌&&◌, slice_get, find, drop, slice_index_or, Any, Option, codes, IsTrue, if◌then◌else◌}
-use Rattle.std.specs.List.{list_any}
-use Rattle.std.specs.Str.{bytes_eq}
-use Rattle.std.proofs.lemmas.Bool.{eq-eqb, ne_eqb}
+use Rattle.std.proofs.{Common.{◌≡◌, ◌⊎◌, inl, inr, ℕ, zero, suc, ◌+◌, Bool, true, false, cond, List, [], ◌∷◌, ◌++◌, length, length-append, Some, refl, ap, sym, subst, ◌∙◌, arith, append_assoc}, lemmas.Bool.{eq-eqb, ne_eqb}}
+use Rattle.std.specs.{Prelude.{ℤ, pos, ◌==◌, ◌||◌, ◌&&◌, slice_get, find, drop, slice_index_or, Any, Option, codes, IsTrue, if◌then◌else◌}, List.list_any, Str.bytes_eq}
 use Rattle.sharc_tree.specs.declared.event.Act.TheVariants as acts
-use Rattle.sharc_tree.specs.declared.event.SourceEvent.{SourceEvent}
-use Rattle.sharc_tree.specs.Tree.{Function}
+use Rattle.sharc_tree.specs.{declared.event.SourceEvent.SourceEvent, Tree.Function}
 use Rattle.sharc_ctype.specs.Resolved.{Resolution, function_at, functions_in}
 use Rattle.sharc_mode.specs.Moded.{Assignment}
-use Rattle.sharc_meaning.specs.Events.{events_of, is_of}
-use Rattle.sharc_meaning.specs.Runs.{answers_of, is_named_main, IsFirst, IsSpawned, Follows}
-use Rattle.sharc_meaning.specs.Store.{spawns, is_natural, was_spawned, is_spawn, IsNewThread, MayCome, LegalStore}
+use Rattle.sharc_meaning.specs.{Events.{events_of, is_of}, Runs.{answers_of, is_named_main, IsFirst, IsSpawned, Follows}, Store.{spawns, is_natural, was_spawned, is_spawn, IsNewThread, MayCome, LegalStore}}
 use Rattle.sharc_references.specs.Starting.{main_from, main_of, with_zero, spawned_with, spawned_by_event, entry, own_answers}
+use Rattle.sharc_lemmas.proofs.Lists.{find_none}
 
 -- one function at most is called main
 abbrev pub OneMain : Resolution → Type 0
@@ -27,14 +22,6 @@ append_own t (x ∷ a) b = pick (append_own t a b) (is_of t x)
     pick more false = more
 
 -- ---- finding
-
-pub find_none : {A : Type 0} (p : A → Bool) (xs ys : List A) → list_any p xs ≡ false → find p (xs ++ ys) ≡ find p ys
-find_none p [] ys h = refl
-find_none p (x ∷ xs) ys h = by_case (find_none p xs ys) (p x) refl
-  where
-    by_case : (list_any p xs ≡ false → find p (xs ++ ys) ≡ find p ys) → (b : Bool) → p x ≡ b → (if p x then Some x else find p (xs ++ ys)) ≡ find p ys
-    by_case more true i = absurd (let z : true ≡ false = sym (ap (λ z. z || list_any p xs) i) ∙ h in cc)
-    by_case more false i = ap (λ z. if z then Some x else find p (xs ++ ys)) i ∙ more (sym (ap (λ z. z || list_any p xs) i) ∙ h)
 
 -- an element with a property is at some place
 pub record Placed {A : Type 0} (P : A → Type 0) (xs : List A) : Type 0 where

@@ -1,7 +1,6 @@
 -- The first function called main, one function after the other.
 use Rattle.std.proofs.Common.{◌≡◌, ℕ, zero, suc, ◌+◌, true, false, List, [], ◌∷◌, drop, Some, None, refl, ap, sym, ◌∙◌, add-one}
-use Rattle.std.specs.Prelude.{slice_get, codes, if◌then◌else◌}
-use Rattle.std.specs.Str.{bytes_eq}
+use Rattle.std.specs.{Prelude.{slice_get, codes, if◌then◌else◌}, Str.bytes_eq}
 use Rattle.sharc_tree.specs.Tree.{Function}
 use Rattle.sharc_references.specs.Starting.{main_from}
 

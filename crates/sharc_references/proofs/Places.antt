@@ -1,12 +1,8 @@
 -- What is listed at places.
-use Rattle.std.proofs.Common.{◌≡◌, ◌⊎◌, inl, inr, ℕ, zero, suc, ◌<◌, ◌≤◌, Bool, true, false, List, [], ◌∷◌, ◌++◌, refl, ap, sym, subst, arith}
+use Rattle.std.proofs.{Common.{◌≡◌, ◌⊎◌, inl, inr, ℕ, zero, suc, ◌<◌, ◌≤◌, Bool, true, false, List, [], ◌∷◌, ◌++◌, refl, ap, sym, subst, arith}, lemmas.Bool.{eqb-true, eq-eqb, both_ways}}
 use Rattle.std.specs.Prelude.{◌==◌, if◌then◌else◌}
-use Rattle.std.proofs.lemmas.Bool.{eqb-true, eq-eqb, both_ways}
 use Rattle.sharc_tree.specs.declared.event.SourceEvent.{SourceEvent}
-use Rattle.sharc_references.specs.declared.holder.Holder.{Holder}
-use Rattle.sharc_references.specs.declared.holder.Holder.TheVariants.{InThread}
-use Rattle.sharc_references.specs.Answered.{IsListed, AreDistinct}
-use Rattle.sharc_references.specs.Listed.{at_places, in_thread_all}
+use Rattle.sharc_references.specs.{declared.holder.Holder.Holder, declared.holder.Holder.TheVariants.InThread, Answered.{IsListed, AreDistinct}, Listed.{at_places, in_thread_all}}
 
 pub in_front : (h : Holder) (a b : List Holder) → IsListed h a → IsListed h (a ++ b)
 in_front h [] b i = absurd i

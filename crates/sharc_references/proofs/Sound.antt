@@ -1,29 +1,13 @@
 -- What is listed holds a reference.
-use Rattle.std.proofs.Common.{◌≡◌, ◌⊎◌, inl, inr, ℕ, ◌<◌, Bool, true, false, not, ◌&&◌, ◌||◌, List, [], ◌∷◌, ◌++◌, Some, refl, ap, sym, subst, ◌∙◌}
-use Rattle.std.specs.Prelude.{ℤ, pos, negsuc, ◌==◌, Any, if◌then◌else◌}
-use Rattle.std.specs.List.{list_any}
-use Rattle.std.proofs.lemmas.Bool.{not-true, not_from_false, both_ways, and_parts, and_from, or_cases, or_left, or_right, eqb-true, eq-eqb}
-use Rattle.sharc_tree.specs.declared.event.Act.{Act}
+use Rattle.std.proofs.{Common.{◌≡◌, ◌⊎◌, inl, inr, ℕ, ◌<◌, Bool, true, false, not, ◌&&◌, ◌||◌, List, [], ◌∷◌, ◌++◌, Some, refl, ap, sym, subst, ◌∙◌}, lemmas.Bool.{not-true, not_from_false, both_ways, and_parts, and_from, or_cases, or_left, or_right, eqb-true, eq-eqb}}
+use Rattle.std.specs.{Prelude.{ℤ, pos, negsuc, ◌==◌, Any, if◌then◌else◌}, List.list_any}
+use Rattle.sharc_tree.specs.{declared.event.Act.Act, declared.event.CellAt.CellAt, declared.event.Object.Object, declared.event.Object.TheVariants.{Global, Made}, declared.event.SourceEvent.SourceEvent}
 use Rattle.sharc_tree.specs.declared.event.Act.TheVariants as acts
-use Rattle.sharc_tree.specs.declared.event.CellAt.{CellAt}
-use Rattle.sharc_tree.specs.declared.event.Object.{Object}
-use Rattle.sharc_tree.specs.declared.event.Object.TheVariants.{Global, Made}
-use Rattle.sharc_tree.specs.declared.event.SourceEvent.{SourceEvent}
 use Rattle.sharc_mode.specs.Moded.{Assignment}
-use Rattle.sharc_meaning.specs.Events.{is_of, events_of, is_cell, same_object, same_cell, locks, unlocks, locked_by, latest}
-use Rattle.sharc_meaning.specs.Meaning.{asks}
-use Rattle.sharc_meaning.specs.References.{refers, Counts, is_taken_to_free, Begun, asked_with, held_count, passes, is_pointer_of, CellRefers, ArgumentRefers, ReferencesWith}
-use Rattle.sharc_meaning.specs.Runs.{Follows, SourceRun}
-use Rattle.sharc_meaning.specs.Store.{changes, value_after, meets, is_live, is_locked, spawns, is_spawn, is_natural}
+use Rattle.sharc_meaning.specs.{Events.{is_of, events_of, is_cell, same_object, same_cell, locks, unlocks, locked_by, latest}, Meaning.asks, References.{refers, Counts, is_taken_to_free, Begun, asked_with, held_count, passes, is_pointer_of, CellRefers, ArgumentRefers, ReferencesWith}, Runs.{Follows, SourceRun}, Store.{changes, value_after, meets, is_live, is_locked, spawns, is_spawn, is_natural}}
 use Rattle.sharc_judge.specs.Laws.{SameLaws}
-use Rattle.sharc_references.specs.declared.holder.Holder.{Holder}
-use Rattle.sharc_references.specs.declared.holder.Holder.TheVariants.{InCell, InArgument, InMutex, InThread}
-use Rattle.sharc_references.specs.Answered.{view_holder, IsListed}
-use Rattle.sharc_references.specs.Listed.{counts, cell_refers, cell_at, mutex_at, is_passed, argument_at, in_thread_all, thread_at, by_act, holders_at, holders}
-use Rattle.sharc_references.specs.Starting.{entry, own_answers, count_by_entry, thread_count}
-use Rattle.sharc_references.proofs.Entries.{OneMain, any_placed, begun_events, events_begun, own_told, follows_entry}
-use Rattle.sharc_references.proofs.Latest.{latest_is, stands_any}
-use Rattle.sharc_references.proofs.Places.{only, in_either, in_threads, somewhere}
+use Rattle.sharc_references.specs.{declared.holder.Holder.Holder, declared.holder.Holder.TheVariants.{InCell, InArgument, InMutex, InThread}, Answered.{view_holder, IsListed}, Listed.{counts, cell_refers, cell_at, mutex_at, is_passed, argument_at, in_thread_all, thread_at, by_act, holders_at, holders}, Starting.{entry, own_answers, count_by_entry, thread_count}}
+use Rattle.sharc_references.proofs.{Entries.{OneMain, any_placed, begun_events, events_begun, own_told, follows_entry}, Latest.{latest_is, stands_any}, Places.{only, in_either, in_threads, somewhere}}
 
 pub counts_true : (R : List SourceEvent) (n : ℕ) (o : Object) → counts R n o ≡ true → Counts R n o
 counts_true R n (Global g) h = tt

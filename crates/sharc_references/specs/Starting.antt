@@ -1,16 +1,11 @@
 -- What a thread has begun with, read off a list of events.
 use Rattle.std.specs.Prelude.{ℕ, ℤ, pos, ◌+◌, ◌==◌, List, [], ◌∷◌, drop, find, Option, Some, None, codes, if◌then◌else◌}
 use Rattle.std.specs.Str.{bytes_eq}
-use Rattle.sharc_tree.specs.declared.event.Act.{Act}
+use Rattle.sharc_tree.specs.{declared.event.Act.Act, declared.event.SourceEvent.SourceEvent, Tree.Function}
 use Rattle.sharc_tree.specs.declared.event.Act.TheVariants as acts
-use Rattle.sharc_tree.specs.declared.event.SourceEvent.{SourceEvent}
-use Rattle.sharc_tree.specs.Tree.{Function}
 use Rattle.sharc_ctype.specs.Resolved.{Resolution, functions_in}
 use Rattle.sharc_mode.specs.Moded.{Assignment}
-use Rattle.sharc_meaning.specs.Events.{events_of}
-use Rattle.sharc_meaning.specs.Meaning.{Asked, asks}
-use Rattle.sharc_meaning.specs.References.{held_count}
-use Rattle.sharc_meaning.specs.Runs.{answers_of}
+use Rattle.sharc_meaning.specs.{Events.events_of, Meaning.{Asked, asks}, References.held_count, Runs.answers_of}
 use Rattle.sharc_meaning.specs.Store.{spawns}
 
 -- the first function that is called main, where these begin with this number

@@ -2,29 +2,13 @@
 use Rattle.std.proofs.Common.{◌≡◌, ℕ, suc, Bool, not, ◌&&◌, ◌||◌, List, [], ◌∷◌, length, map, filter, None, refl, sym, ap, ◌∙◌, subst, arith, if◌then◌else◌}
 use Rattle.std.specs.List.{range_with_len, All, list_any}
 use Rattle.sharc_word.specs.declared.step.TheConstants.{THREADS}
-use Rattle.sharc_code.specs.declared.code.Code.{Code}
-use Rattle.sharc_code.specs.declared.instr.Instr.{Instr}
-use Rattle.sharc_code.specs.declared.instr.Instr.TheVariants.{Lock, Join, CondWait}
-use Rattle.sharc_code.specs.declared.shape.Shape.{Shape}
-use Rattle.sharc_code.specs.declared.state.State.{State}
+use Rattle.sharc_code.specs.{declared.code.Code.Code, declared.instr.Instr.Instr, declared.instr.Instr.TheVariants.{Lock, Join, CondWait}, declared.shape.Shape.Shape, declared.state.State.State, Machine.{Machine, Own, instr_at}, Path.may_go, Runs.Turn, ThreadLaws.{settle, settled}, Waits.{asks_for, wait_of, held_up}, Whole.place_after}
 use Rattle.sharc_code.specs.declared.state.State.TheVariants as state
-use Rattle.sharc_code.specs.Machine.{Machine, Own, instr_at}
-use Rattle.sharc_code.specs.Path.{may_go}
-use Rattle.sharc_code.specs.Runs.{Turn}
-use Rattle.sharc_code.specs.ThreadLaws.{settle, settled}
-use Rattle.sharc_code.specs.Waits.{asks_for, wait_of, held_up}
-use Rattle.sharc_code.specs.Whole.{place_after}
 use Rattle.sharc_cpu.specs.Thread.{ThreadView, is_stop}
 use Rattle.sharc_threads.specs.Ends.{Standing, IsAt, AreStarted}
 use Rattle.sharc_schedule.specs.Laws.{SameEnds}
-use Rattle.sharc_run_text.specs.Laws.{shown, TextIsOne}
-use Rattle.sharc_run_text.specs.Others.{number_of}
-use Rattle.sharc_run_text.specs.RunText.{is_gone, IsRunText}
-use Rattle.sharc_run.specs.declared.outcome.Outcome.TheVariants.{Done, Reported, Stopped, Stuck, Limit}
-use Rattle.sharc_run.specs.declared.run.Ran.{Ran}
-use Rattle.sharc_run.specs.Laws.{is_on, goes_on, outcome_told, OutcomeIsTold}
-use Rattle.sharc_run.specs.Outcome.{is_report, has_reported, was_stopped}
-use Rattle.sharc_run.specs.Run.{IsEnd}
+use Rattle.sharc_run_text.specs.{Laws.{shown, TextIsOne}, Others.number_of, RunText.{is_gone, IsRunText}}
+use Rattle.sharc_run.specs.{declared.outcome.Outcome.TheVariants.{Done, Reported, Stopped, Stuck, Limit}, declared.run.Ran.Ran, Laws.{is_on, goes_on, outcome_told, OutcomeIsTold}, Outcome.{is_report, has_reported, was_stopped}, Run.IsEnd}
 use Rattle.sharc_replay.specs.Laws.{SaysSame}
 
 -- ---- a thread of which it is forgotten whether its last turn was a failed try

@@ -1,25 +1,14 @@
 -- What a reply is to the words of `load`, where its source is a program with accepted modes.
-use Rattle.std.proofs.Common.{◌≡◌, ℕ, ◌+◌, ◌<◌, ◌≤◌, Bool, true, false, List, ◌++◌, length, Option, Some, None, is_some, refl, ap, sym, ◌∙◌, subst, arith}
-use Rattle.std.proofs.lemmas.Bool.{false≢true}
+use Rattle.std.proofs.{Common.{◌≡◌, ℕ, ◌+◌, ◌<◌, ◌≤◌, Bool, true, false, List, ◌++◌, length, Option, Some, None, is_some, refl, ap, sym, ◌∙◌, subst}, lemmas.Bool.false≢true}
 use Rattle.sharc_mode.specs.Moded.{Assignment}
 use Rattle.sharc_mode_laws.specs.Rules.{MeetsRules}
-use Rattle.sharc_cli.specs.Commands.{commands}
-use Rattle.sharc_cli.specs.declared.command.Command.{Command}
-use Rattle.sharc_cli.specs.declared.command.Command.TheVariants.{Audit, Load, Record, Replay}
+use Rattle.sharc_cli.specs.{Commands.commands, declared.command.Command.Command, declared.command.Command.TheVariants.{Audit, Load, Record, Replay}}
 use Rattle.sharc_load.specs.Source.{source_of}
 use Rattle.sharc_sound.specs.Front.{IsFront}
-use Rattle.sharc_top.specs.declared.ran.RunNumbers.{RunNumbers}
-use Rattle.sharc_top.specs.declared.status.Status.{Status}
-use Rattle.sharc_top.specs.declared.task.Task.{Task}
+use Rattle.sharc_top.specs.{declared.ran.RunNumbers.RunNumbers, declared.status.Status.Status, declared.task.Task.Task, Answers.{Answers, faulty, program}, Limits.source_limit, Loading.{LoadReplies, load_numbers, long, size_lines, loaded as was_loaded}, Reply.{Replies, answered, audited, loaded, recorded, replayed, task_in, too_long, usage}, Running.{Runs, not_run, ran}, Verdict.Does}
 use Rattle.sharc_top.specs.declared.task.Task.TheVariants as task
-use Rattle.sharc_top.specs.Answers.{Answers, faulty, program}
-use Rattle.sharc_top.specs.Limits.{source_limit}
-use Rattle.sharc_top.specs.Loading.{LoadReplies, load_numbers, long, size_lines}
-use Rattle.sharc_top.specs.Loading.{loaded as was_loaded}
-use Rattle.sharc_top.specs.Reply.{Replies, answered, audited, loaded, recorded, replayed, task_in, too_long, usage}
-use Rattle.sharc_top.specs.Running.{Runs, not_run, ran}
-use Rattle.sharc_top.specs.Verdict.{Does}
 use Rattle.sharc_top_laws.specs.Laws.{IsRunning, SourceLaws}
+use Rattle.sharc_lemmas.proofs.Numbers.{not_long}
 
 -- ---- the words
 command_or_none : (o : Option Command) (c : Command) → o ≡ Some c → o ≡ None → ⊥
@@ -66,9 +55,6 @@ of_load words input number workers s text asked (loaded n w z other is reply) =
     subst (λ k. LoadReplies number k z other) (ap workers_in same) (subst (λ k. LoadReplies k w z other) (ap number_in same) reply)
 
 -- ---- the source
-not_long : (most n : ℕ) → most < n → n ≤ most → ⊥
-not_long most n more short = omega (arith, more, short)
-
 only_ran : (n : RunNumbers) (m : Assignment) (s : Status) (text : List ℕ) → MeetsRules m → Runs n m s text → IsRunning n m s text
 only_ran n m s text meets (not_run t is) = absurd (is.breaks_rules meets)
 only_ran n m s text meets (ran code run also compiled fit is) = record { code = code; compiled = compiled; fits = fit; ran = run; runs = is; ends = refl; written = refl }

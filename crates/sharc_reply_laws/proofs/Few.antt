@@ -1,28 +1,10 @@
 -- A thread that is chosen has made fewer events than the limit.
-use Rattle.std.proofs.Common.{◌≡◌, ℕ, ◌+◌, ◌<◌, ◌≤◌, ⊎_elim, Bool, true, false, not, ◌&&◌, List, [], ◌∷◌, length, refl, sym, subst, arith}
+use Rattle.std.proofs.{Common.{◌≡◌, ℕ, ◌+◌, ◌<◌, ◌≤◌, ⊎_elim, true, not, ◌&&◌, List, [], ◌∷◌, length, sym, subst, arith}, lemmas.Bool.cases_eq}
 use Rattle.std.specs.Prelude.{nat_lt}
-use Rattle.std.proofs.lemmas.Bool.{cases_eq}
-use Rattle.std.proofs.lemmas.Bool.Decides.{nat_tests}
-use Rattle.sharc_code.specs.declared.code.Code.{Code}
-use Rattle.sharc_code.specs.declared.shape.Shape.{Shape}
-use Rattle.sharc_code.specs.declared.state.State.{State}
-use Rattle.sharc_code.specs.declared.state.State.TheVariants.{Runs, Tries, Stopped, Ended}
-use Rattle.sharc_code.specs.Laws.{RunLaws}
-use Rattle.sharc_code.specs.Path.{counted, may_go}
-use Rattle.sharc_code.specs.Runs.{Turn}
-use Rattle.sharc_code.specs.Waits.{waits_now}
-use Rattle.sharc_code.specs.Whole.{bounds, place_after}
+use Rattle.sharc_code.specs.{declared.code.Code.Code, declared.shape.Shape.Shape, declared.state.State.State, declared.state.State.TheVariants.{Runs, Tries, Stopped, Ended}, Laws.RunLaws, Path.{counted, may_go}, Runs.Turn, Waits.waits_now, Whole.{bounds, place_after}}
 use Rattle.sharc_threads.specs.Ends.{Standing, is_enabled}
-use Rattle.sharc_seq.specs.Laws.{EnabledLaws}
-use Rattle.sharc_seq.specs.Run.{AreChosen, IsChosen, enabled}
-
-left : (a b : Bool) → (a && b) ≡ true → a ≡ true
-left true b e = refl
-left false b e = e
-
-right : (a b : Bool) → (a && b) ≡ true → b ≡ true
-right true b e = e
-right false b e = cc
+use Rattle.sharc_seq.specs.{Laws.EnabledLaws, Run.{AreChosen, IsChosen, enabled}}
+use Rattle.sharc_lemmas.proofs.{Bools.{and_left as left, and_right as right}, Numbers.{lt_true as below}}
 
 counts_few : (state : State) → counted state ≤ 1
 counts_few Runs = omega arith
@@ -32,9 +14,6 @@ counts_few Ended = omega arith
 
 bounded : (x y c limit : ℕ) → x ≡ y + c → y < limit → c ≤ 1 → x ≤ limit
 bounded x y c limit e low few = omega arith
-
-below : (n limit : ℕ) → nat_lt n limit ≡ true → n < limit
-below n limit e = grind (arith, nat_tests)
 
 module _ (code : Code) (s : Shape) (limit : ℕ) (g : Standing) (t : ℕ) where
   has_room : is_enabled code s limit g t ≡ true → g.made t < limit

@@ -5,27 +5,12 @@ use Rattle.sharc_tree.specs.declared.event.SourceEvent.{SourceEvent}
 use Rattle.sharc_ctype_laws.specs.Declared.{NameThemselves}
 use Rattle.sharc_ctype.specs.Resolved.{function_at}
 use Rattle.sharc_mode.specs.Moded.{Assignment}
-use Rattle.sharc_meaning.specs.Events.{events_of}
-use Rattle.sharc_meaning.specs.Obeys.{History}
-use Rattle.sharc_meaning.specs.Reference.{number_of}
-use Rattle.sharc_meaning.specs.References.{Begun}
-use Rattle.sharc_meaning.specs.Runs.{IsNamedAt}
-use Rattle.sharc_code.specs.declared.code.Code.{Code}
-use Rattle.sharc_code.specs.declared.instr.Instr.TheVariants.{TestSole}
-use Rattle.sharc_code.specs.declared.shape.Shape.{Shape}
-use Rattle.sharc_code.specs.declared.state.Stop.TheVariants.{NotSole}
-use Rattle.sharc_code.specs.Layout.{count_word}
-use Rattle.sharc_code.specs.Machine.{Machine, instr_at, ref, stopped}
-use Rattle.sharc_code.specs.Path.{begun}
-use Rattle.sharc_code.specs.Runs.{Turn, turns_of}
-use Rattle.sharc_code.specs.Whole.{CheckedRun, place_after}
+use Rattle.sharc_meaning.specs.{Events.events_of, Obeys.History, Reference.number_of, References.Begun, Runs.IsNamedAt}
+use Rattle.sharc_code.specs.{declared.code.Code.Code, declared.instr.Instr.TheVariants.TestSole, declared.shape.Shape.Shape, declared.state.Stop.TheVariants.NotSole, Layout.count_word, Machine.{Machine, instr_at, ref, stopped}, Path.begun, Runs.{Turn, turns_of}, Whole.{CheckedRun, place_after}}
 use Rattle.sharc_flat.specs.Correct.{MayStart}
-use Rattle.sharc_gen.specs.Consistent.{IsConsistent}
-use Rattle.sharc_gen.specs.OfRuns.{elements_before, founds_of}
-use Rattle.sharc_invariant.specs.Types.{Targets}
-use Rattle.sharc_invariant.specs.Labels.{Labels}
-use Rattle.sharc_history_laws.specs.History.{history_of}
-use Rattle.sharc_history_laws.specs.Reports.{FindsOthers}
+use Rattle.sharc_gen.specs.{Consistent.IsConsistent, OfRuns.{elements_before, founds_of}}
+use Rattle.sharc_invariant.specs.{Types.Targets, Labels.Labels}
+use Rattle.sharc_history_laws.specs.{History.history_of, Reports.FindsOthers}
 use Rattle.sharc_wants_laws.specs.Seeing.{TestersGive}
 use Rattle.sharc_sound_laws.specs.Reports.{WantsReported}
 use Rattle.sharc_told_laws.specs.Tested.{TestsStay, count_found}

@@ -1,37 +1,19 @@
 -- By the events of the whole run the source wants the access of a check that was refused: its thread stands there to the end.
-use Rattle.std.proofs.Common.{◌≡◌, ℕ, ◌+◌, ◌⊎◌, inl, inr, Bool, true, false, List, ◌∷◌, Some, None, refl, sym, ap, ◌∙◌, subst}
-use Rattle.std.proofs.lemmas.Bool.{false≢true}
+use Rattle.std.proofs.{Common.{◌≡◌, ℕ, ◌+◌, ◌⊎◌, inl, inr, Bool, true, false, List, ◌∷◌, Some, refl, sym, ap, ◌∙◌, subst}, lemmas.Bool.false≢true}
 use Rattle.sharc_tree.specs.declared.event.CellAt.{CellAt}
 use Rattle.sharc_shadow.specs.declared.shadow_word.Kind.{Kind}
 use Rattle.sharc_mode.specs.Moded.{Assignment}
 use Rattle.sharc_meaning.specs.Events.{Access, access_by}
-use Rattle.sharc_code.specs.declared.code.Code.{Code}
-use Rattle.sharc_code.specs.declared.code.PlaceMode.{PlaceMode}
+use Rattle.sharc_code.specs.{declared.code.Code.Code, declared.code.PlaceMode.PlaceMode, declared.instr.Cell.Cell, declared.instr.Cell.TheVariants.{Global, GlobalAt, Object as InObject, ObjectAt}, declared.instr.Instr.Instr, declared.instr.Instr.TheVariants.{ChkRead, ChkWrite, Exchange, Load, LoadRef, Start, Store, TakeCell}, declared.shape.Shape.Shape, declared.state.ConflictAt.ConflictAt, declared.state.State.TheVariants.Stopped, declared.state.Stop.Stop, declared.state.Stop.TheVariants.Conflict, Machine.{Machine, instr_at, stopped}, Path.may_go, Runs.Turn, Says.{cell_at, mode_of, place_at}, Whole.{CheckedRun, place_after}}
 use Rattle.sharc_code.specs.declared.code.PlaceMode.TheVariants as modes
-use Rattle.sharc_code.specs.declared.instr.Cell.{Cell}
-use Rattle.sharc_code.specs.declared.instr.Cell.TheVariants.{Global, GlobalAt, Object as InObject, ObjectAt}
-use Rattle.sharc_code.specs.declared.instr.Instr.{Instr}
-use Rattle.sharc_code.specs.declared.instr.Instr.TheVariants.{ChkRead, ChkWrite, Exchange, Load, LoadRef, Start, Store, TakeCell}
-use Rattle.sharc_code.specs.declared.shape.Shape.{Shape}
-use Rattle.sharc_code.specs.declared.state.ConflictAt.{ConflictAt}
-use Rattle.sharc_code.specs.declared.state.State.TheVariants.{Stopped}
-use Rattle.sharc_code.specs.declared.state.Stop.{Stop}
-use Rattle.sharc_code.specs.declared.state.Stop.TheVariants.{Conflict}
-use Rattle.sharc_code.specs.Machine.{Machine, instr_at, stopped}
-use Rattle.sharc_code.specs.Path.{may_go}
-use Rattle.sharc_code.specs.Runs.{Turn}
-use Rattle.sharc_code.specs.Says.{cell_at, mode_of, place_at}
-use Rattle.sharc_code.specs.Whole.{CheckedRun, place_after}
 use Rattle.sharc_invariant.specs.Bits.{CheckOf, touch_of}
-use Rattle.sharc_history_laws.specs.Causes.{ShowsCause}
-use Rattle.sharc_history_laws.specs.Conflicts.{site_of_check}
-use Rattle.sharc_history_laws.specs.Followed.{ChecksAreFollowed, access_of, access_to}
-use Rattle.sharc_history_laws.specs.History.{history_of}
+use Rattle.sharc_history_laws.specs.{Causes.ShowsCause, Conflicts.site_of_check, Followed.{ChecksAreFollowed, access_of, access_to}, History.history_of}
 use Rattle.sharc_wants_laws.specs.Wants.{IsNotThere}
 use Rattle.sharc_sound_laws.specs.Standing.{IsPlaced}
 use Rattle.sharc_told_laws.specs.Tested.{ChecksStay, is_access_check}
 use Rattle.sharc_reply_laws.specs.Reports.{WantsRefusedAccess, access_refused}
 use Rattle.sharc_reply_laws.proofs.Wanting.{act_eq, by_check}
+use Rattle.sharc_lemmas.proofs.Options.{no_guard as no_site}
 
 -- ---- a thread that is stopped would make the access that it would have made
 module _ (code : Code) (m : Machine) (stop : Stop) where
@@ -68,9 +50,6 @@ module _ (code : Code) (m : Machine) (stop : Stop) where
   access_same _ = refl
 
 -- ---- a refused check
-no_site : (site : ℕ) → None ≡ Some site → ⊥
-no_site site e = cc
-
 check_has_site : (i : Instr) (site : ℕ) → site_of_check i ≡ Some site → is_access_check i ≡ true
 check_has_site (ChkRead c at) site e = refl
 check_has_site (ChkWrite c at) site e = refl

@@ -2,30 +2,16 @@
 use Rattle.std.proofs.Common.{◌≡◌, ℕ, false, List, [], ◌∷◌, Some, subst}
 use Rattle.sharc_shadow.specs.declared.shadow_word.Kind.{Kind}
 use Rattle.sharc_mode.specs.Moded.{Assignment}
-use Rattle.sharc_meaning.specs.Events.{Access}
-use Rattle.sharc_meaning.specs.Reference.{number_of}
-use Rattle.sharc_code.specs.declared.code.Code.{Code}
-use Rattle.sharc_code.specs.declared.shape.Shape.{Shape}
-use Rattle.sharc_code.specs.declared.state.ConflictAt.{ConflictAt}
-use Rattle.sharc_code.specs.declared.state.State.TheVariants.{Stopped}
-use Rattle.sharc_code.specs.declared.state.Stop.{Stop}
-use Rattle.sharc_code.specs.declared.state.Stop.TheVariants.{Conflict, NoLock, NotSole, Trap}
-use Rattle.sharc_code.specs.Runs.{Turn}
-use Rattle.sharc_code.specs.Whole.{CheckedRun, place_after}
+use Rattle.sharc_meaning.specs.{Events.Access, Reference.number_of}
+use Rattle.sharc_code.specs.{declared.code.Code.Code, declared.shape.Shape.Shape, declared.state.ConflictAt.ConflictAt, declared.state.State.TheVariants.Stopped, declared.state.Stop.Stop, declared.state.Stop.TheVariants.{Conflict, NoLock, NotSole, Trap}, Runs.Turn, Whole.{CheckedRun, place_after}}
 use Rattle.sharc_cpu.specs.Thread.{ThreadView}
 use Rattle.sharc_threads.specs.Ends.{AreStarted}
 use Rattle.sharc_compile.specs.Refused.{IsReport}
 use Rattle.sharc_invariant.specs.Labels.{Labels}
-use Rattle.sharc_history_laws.specs.Causes.{ShowsCause}
-use Rattle.sharc_history_laws.specs.Conflicts.{IsCheck}
-use Rattle.sharc_history_laws.specs.Followed.{ShowsLock, access_checked}
-use Rattle.sharc_history_laws.specs.History.{history_of}
-use Rattle.sharc_history_laws.specs.Reports.{FindsOthers}
-use Rattle.sharc_history_laws.specs.Seen.{RunsBegin}
+use Rattle.sharc_history_laws.specs.{Causes.ShowsCause, Conflicts.IsCheck, Followed.{ShowsLock, access_checked}, History.history_of, Reports.FindsOthers, Seen.RunsBegin}
 use Rattle.sharc_accepted_laws.specs.Targets.{targets_of}
 use Rattle.sharc_wants_laws.specs.Cause.{ShowsReference}
-use Rattle.sharc_sound_laws.specs.Reports.{IsReportOf, WantsReported}
-use Rattle.sharc_sound_laws.specs.StandStands.{Stands}
+use Rattle.sharc_sound_laws.specs.{Reports.{IsReportOf, WantsReported}, StandStands.Stands}
 use Rattle.sharc_reply_laws.specs.Reports.{ReportTells, WantsAccess, WantsRefusedAccess, WantsUnder, access_refused, object_tested}
 
 module _ (begins : RunsBegin) (m : Assignment) (code : Code) (s : Shape) (ls : Labels) (run : List Turn) (checked : CheckedRun code s run) (stands : Stands m (targets_of m) code s ls run)

@@ -1,26 +1,18 @@
 -- What a thread tells, by the function that the source run gives it.
-use Rattle.std.proofs.Common.{◌≡◌, ℕ, ℤ, ◌⊎◌, inl, inr, true, cond, List, [], ◌∷◌, ◌++◌, Option, Some, None, refl, sym, ap, ◌∙◌, subst, arith}
+use Rattle.std.proofs.{Common.{◌≡◌, ℕ, ℤ, ◌⊎◌, inl, inr, cond, List, [], ◌∷◌, ◌++◌, Option, Some, None, refl, sym, ap, ◌∙◌, subst}, lemmas.List.Elements.filter-append}
 use Rattle.std.specs.Prelude.{◌==◌}
-use Rattle.std.proofs.lemmas.Bool.Decides.{nat_tests}
-use Rattle.std.proofs.lemmas.List.Elements.{filter-append}
-use Rattle.sharc_tree.specs.declared.event.Act.TheVariants.{Started}
-use Rattle.sharc_tree.specs.declared.event.SourceEvent.{SourceEvent}
-use Rattle.sharc_tree.specs.declared.token.Site.{Site}
-use Rattle.sharc_tree.specs.Tree.{Function}
+use Rattle.sharc_tree.specs.{declared.event.Act.TheVariants.Started, declared.event.SourceEvent.SourceEvent, declared.token.Site.Site, Tree.Function}
 use Rattle.sharc_names.specs.declared.fault.Named.TheVariants as named
 use Rattle.sharc_ctype.specs.Resolved.{Resolution, function_at, named_at}
 use Rattle.sharc_ctype_laws.specs.Declared.{NameThemselves}
 use Rattle.sharc_mode.specs.Moded.{Assignment}
-use Rattle.sharc_meaning.specs.Events.{Stands, events_of, is_of}
-use Rattle.sharc_meaning.specs.Obeys.{History}
-use Rattle.sharc_meaning.specs.References.{Begun}
-use Rattle.sharc_meaning.specs.Runs.{IsNamedAt}
-use Rattle.sharc_code.specs.declared.code.Code.{Code}
-use Rattle.sharc_code.specs.Machine.{Machine}
+use Rattle.sharc_meaning.specs.{Events.{Stands, events_of, is_of}, Obeys.History, References.Begun, Runs.IsNamedAt}
+use Rattle.sharc_code.specs.{declared.code.Code.Code, Machine.Machine}
 use Rattle.sharc_flat.specs.Correct.{MayStart}
 use Rattle.sharc_gen.specs.Correct.{IsBeginning}
 use Rattle.sharc_compile_laws.specs.Paths.{IsAskedFor, TellsProgram}
 use Rattle.sharc_reply_laws.specs.Threads.{HasBegun, HasNotBegun}
+use Rattle.sharc_lemmas.proofs.Numbers.{same_is}
 
 -- two functions with one name are one
 pub same_function : (r : Resolution) → NameThemselves r → (n k : ℕ) (site : Site) → IsNamedAt (function_at r n) site → IsNamedAt (function_at r k) site → n ≡ k
@@ -35,9 +27,6 @@ same_function r names n k site a b = by (function_at r n) (function_at r k) refl
     by (Some f) (Some g) p q a b =
         let tokens = ap (λ (s : Site). named_at r s.token) (sym a ∙ b) in
         number_eq n k (sym (names.functions n f p) ∙ tokens ∙ names.functions k g q)
-
-same_is : (n : ℕ) → (n == n) ≡ true
-same_is n = grind (arith, nat_tests)
 
 -- the events of a thread, where its first one stands
 pub from_first : (t : ℕ) (R before after : History) (e : SourceEvent) → Stands R before e after → e.thread ≡ t → events_of t before ≡ [] → events_of t R ≡ e ∷ events_of t after

@@ -1,37 +1,16 @@
 -- What the source wants where a thread makes a check.
 use Rattle.std.proofs.Common.{◌≡◌, ℕ, ◌+◌, pos, ◌⊎◌, inl, inr, Bool, true, false, List, Some, None, sym, ap, ◌∙◌, subst}
 use Rattle.std.specs.Prelude.{slice_index_or}
-use Rattle.sharc_tree.specs.declared.event.Act.{Act}
-use Rattle.sharc_tree.specs.declared.event.CellAt.{CellAt}
-use Rattle.sharc_tree.specs.declared.event.SourceEvent.{SourceEvent}
-use Rattle.sharc_tree.specs.declared.token.Site.{Site}
-use Rattle.sharc_tree.specs.declared.trap.Trap.{Trap}
+use Rattle.sharc_tree.specs.{declared.event.Act.Act, declared.event.CellAt.CellAt, declared.event.SourceEvent.SourceEvent, declared.token.Site.Site, declared.trap.Trap.Trap}
 use Rattle.sharc_tree.specs.declared.trap.Trap.TheVariants as traps
 use Rattle.sharc_mode.specs.Moded.{Assignment}
-use Rattle.sharc_meaning.specs.Events.{Access, access_by}
-use Rattle.sharc_meaning.specs.Obeys.{History}
-use Rattle.sharc_meaning.specs.State.{Outcome, event_of, stopped, wants}
-use Rattle.sharc_code.specs.declared.code.Code.{Code}
-use Rattle.sharc_code.specs.declared.code.PlaceMode.{PlaceMode}
-use Rattle.sharc_code.specs.declared.code.PlaceMode.TheVariants.{Dynamic}
-use Rattle.sharc_code.specs.declared.instr.Cell.{Cell}
-use Rattle.sharc_code.specs.declared.instr.Instr.{Instr}
-use Rattle.sharc_code.specs.declared.instr.Instr.TheVariants.{ChkLock, ChkLockLoaded, ChkRead, ChkWrite, Exchange, Exit, Load, LoadRef, Start, Store, TakeCell}
-use Rattle.sharc_code.specs.declared.shape.Shape.{Shape}
-use Rattle.sharc_code.specs.declared.state.State.TheVariants.{Stopped}
-use Rattle.sharc_code.specs.declared.state.Stop.TheVariants.{NoLock}
-use Rattle.sharc_code.specs.Machine.{Machine, instr_at}
-use Rattle.sharc_code.specs.Runs.{Turn}
-use Rattle.sharc_code.specs.Says.{cell_at, made_cell, mode_of, place_at}
-use Rattle.sharc_code.specs.Whole.{place_after}
+use Rattle.sharc_meaning.specs.{Events.{Access, access_by}, Obeys.History, State.{Outcome, event_of, stopped, wants}}
+use Rattle.sharc_code.specs.{declared.code.Code.Code, declared.code.PlaceMode.PlaceMode, declared.code.PlaceMode.TheVariants.Dynamic, declared.instr.Cell.Cell, declared.instr.Instr.Instr, declared.instr.Instr.TheVariants.{ChkLock, ChkLockLoaded, ChkRead, ChkWrite, Exchange, Exit, Load, LoadRef, Start, Store, TakeCell}, declared.shape.Shape.Shape, declared.state.State.TheVariants.Stopped, declared.state.Stop.TheVariants.NoLock, Machine.{Machine, instr_at}, Runs.Turn, Says.{cell_at, made_cell, mode_of, place_at}, Whole.place_after}
 use Rattle.sharc_flat_form.specs.declared.flat.Flat.{Flat as FlatCode}
 use Rattle.sharc_gen.specs.Generated.{generated}
 use Rattle.sharc_guard.specs.Counted.{IsUnder}
 use Rattle.sharc_compile.specs.Made.{IsCodeOf}
-use Rattle.sharc_history_laws.specs.Conflicts.{site_of_check}
-use Rattle.sharc_history_laws.specs.Followed.{Accesses, IsFollowed, ShowsLock, access_of, access_to}
-use Rattle.sharc_history_laws.specs.History.{history_of}
-use Rattle.sharc_history_laws.specs.Reports.{IsLockCheck}
+use Rattle.sharc_history_laws.specs.{Conflicts.site_of_check, Followed.{Accesses, IsFollowed, ShowsLock, access_of, access_to}, History.history_of, Reports.IsLockCheck}
 use Rattle.sharc_wants_laws.specs.Wants.{IsNotThere, StopsOrWantsUnder, WantsAct, WantsBy, access_tested}
 use Rattle.sharc_sound_laws.specs.Standing.{IsPlaced}
 use Rattle.sharc_reply_laws.specs.Reports.{WantsAccess, WantsUnder}

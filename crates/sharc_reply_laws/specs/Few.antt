@@ -1,9 +1,6 @@
 -- Where each turn of a run is made by a thread that is chosen among those that may make one, no thread makes more events than the limit.
 use Rattle.std.specs.Prelude.{ℕ, ◌≡◌, ◌≤◌, List}
-use Rattle.sharc_code.specs.declared.code.Code.{Code}
-use Rattle.sharc_code.specs.declared.shape.Shape.{Shape}
-use Rattle.sharc_code.specs.Runs.{Turn}
-use Rattle.sharc_code.specs.Whole.{place_after}
+use Rattle.sharc_code.specs.{declared.code.Code.Code, declared.shape.Shape.Shape, Runs.Turn, Whole.place_after}
 use Rattle.sharc_seq.specs.Run.{AreChosen}
 
 abbrev pub ChosenAreFew : Type 0

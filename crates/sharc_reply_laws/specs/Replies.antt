@@ -3,35 +3,25 @@ use Rattle.std.specs.Prelude.{◌≡◌, ℕ, ◌<◌, ◌≤◌, false, List, �
 use Rattle.std.specs.Io.KnownBytes.{Appends}
 use Rattle.sharc_mode.specs.Moded.{Assignment}
 use Rattle.sharc_mode_laws.specs.Rules.{MeetsRules}
-use Rattle.sharc_code.specs.declared.code.Code.{Code}
-use Rattle.sharc_code.specs.declared.shape.Shape.{Shape}
-use Rattle.sharc_code.specs.declared.state.State.TheVariants.{Stopped}
-use Rattle.sharc_code.specs.declared.state.Stop.{Stop}
-use Rattle.sharc_code.specs.Layout.{Fits}
-use Rattle.sharc_code.specs.Runs.{Turn}
+use Rattle.sharc_code.specs.{declared.code.Code.Code, declared.shape.Shape.Shape}
+use Rattle.sharc_code.specs.{declared.state.State.TheVariants.Stopped, declared.state.Stop.Stop, Layout.Fits, Runs.Turn}
 use Rattle.sharc_code.specs.Whole.{CheckedRun, place_after}
 use Rattle.sharc_cpu.specs.Thread.{ThreadView}
 use Rattle.sharc_threads.specs.Ends.{AreStarted, is_enabled}
-use Rattle.sharc_run.specs.declared.outcome.Outcome.{Outcome}
-use Rattle.sharc_run.specs.Outcome.{HasOutcome}
+use Rattle.sharc_run.specs.{declared.outcome.Outcome.Outcome, Outcome.HasOutcome}
 use Rattle.sharc_run_text.specs.RunText.{IsRunText, thread_line}
 use Rattle.sharc_compile.specs.Refused.{IsReport}
-use Rattle.sharc_invariant.specs.Labels.{Labels}
-use Rattle.sharc_invariant.specs.Typed.{IsWellTyped}
+use Rattle.sharc_invariant.specs.{Labels.Labels, Typed.IsWellTyped}
 use Rattle.sharc_accepted_laws.specs.Targets.{targets_of}
 use Rattle.sharc_history_laws.specs.History.{history_of}
 use Rattle.sharc_sound.specs.Front.{IsFront}
 use Rattle.sharc_build.specs.Built.{IsBuilt}
 use Rattle.sharc_sound_laws.specs.Deadlock.{IsDeadlock}
 use Rattle.sharc_told_laws.specs.Prints.{printed_in, value_line}
-use Rattle.sharc_top.specs.declared.status.Status.{Status}
-use Rattle.sharc_top.specs.declared.status.Status.TheVariants as status
-use Rattle.sharc_top.specs.Reply.{Replied, RepliedInPart, Replies}
-use Rattle.sharc_top.specs.Running.{status_of}
+use Rattle.sharc_top.specs.{declared.status.Status.Status, Reply.{Replied, RepliedInPart, Replies}, Running.status_of}
 use Rattle.sharc_top.specs.Status.{code_of}
-use Rattle.sharc_reply_laws.specs.Orders.{AreTurnsBy, Asks, Order, written_of}
-use Rattle.sharc_reply_laws.specs.Reports.{ReportTells}
-use Rattle.sharc_reply_laws.specs.Runs.{RunTells}
+use Rattle.sharc_top.specs.declared.status.Status.TheVariants as status
+use Rattle.sharc_reply_laws.specs.{Orders.{AreTurnsBy, Asks, Order, written_of}, Reports.ReportTells, Runs.RunTells}
 use Rattle.sharc_reply_laws.specs.Threads.{ThreadTells}
 
 -- Of a thread of a run whose line says why it was stopped: it is among those of the run, was stopped there for that, and tells this.

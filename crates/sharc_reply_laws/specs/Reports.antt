@@ -3,38 +3,20 @@ use Rattle.std.specs.Prelude.{◌≡◌, ℕ, pos, Bool, List, Some}
 use Rattle.sharc_tree.specs.declared.event.Act.{Act}
 use Rattle.sharc_shadow.specs.declared.shadow_word.Kind.{Kind}
 use Rattle.sharc_mode.specs.Moded.{Assignment}
-use Rattle.sharc_meaning.specs.Events.{Access, access_by}
-use Rattle.sharc_meaning.specs.Meaning.{Asked}
-use Rattle.sharc_meaning.specs.Obeys.{History}
-use Rattle.sharc_meaning.specs.Reference.{number_of}
+use Rattle.sharc_meaning.specs.{Events.{Access, access_by}, Meaning.Asked, Obeys.History, Reference.number_of}
 use Rattle.sharc_meaning.specs.State.{wants, event_of}
-use Rattle.sharc_code.specs.declared.code.Code.{Code}
-use Rattle.sharc_code.specs.declared.shape.Shape.{Shape}
-use Rattle.sharc_code.specs.declared.state.ConflictAt.{ConflictAt}
-use Rattle.sharc_code.specs.declared.state.State.TheVariants.{Stopped}
-use Rattle.sharc_code.specs.declared.state.Stop.{Stop}
-use Rattle.sharc_code.specs.declared.state.Stop.TheVariants.{Conflict, NoLock, NotSole, Trap}
-use Rattle.sharc_code.specs.Layout.{Fits}
-use Rattle.sharc_code.specs.Machine.{ref}
-use Rattle.sharc_code.specs.Runs.{Turn}
-use Rattle.sharc_code.specs.Says.{place_at}
-use Rattle.sharc_code.specs.Whole.{CheckedRun, place_after}
+use Rattle.sharc_code.specs.{declared.code.Code.Code, declared.shape.Shape.Shape, declared.state.ConflictAt.ConflictAt}
+use Rattle.sharc_code.specs.{declared.state.State.TheVariants.Stopped, declared.state.Stop.Stop}
+use Rattle.sharc_code.specs.{declared.state.Stop.TheVariants.{Conflict, NoLock, NotSole, Trap}, Layout.Fits}
+use Rattle.sharc_code.specs.{Machine.ref, Runs.Turn, Says.place_at, Whole.{CheckedRun, place_after}}
 use Rattle.sharc_cpu.specs.Thread.{ThreadView}
 use Rattle.sharc_guard.specs.Counted.{IsUnder}
 use Rattle.sharc_compile_laws.specs.Paths.{OfTyped}
-use Rattle.sharc_invariant.specs.Types.{Targets}
-use Rattle.sharc_invariant.specs.Labels.{Labels}
-use Rattle.sharc_invariant.specs.Typed.{IsWellTyped}
-use Rattle.sharc_invariant.specs.State.{IsSmall}
-use Rattle.sharc_history_laws.specs.Causes.{IsNamed, ShowsCause}
-use Rattle.sharc_history_laws.specs.Conflicts.{IsCheck}
-use Rattle.sharc_history_laws.specs.Followed.{ShowsLock, access_checked}
-use Rattle.sharc_history_laws.specs.History.{history_of}
-use Rattle.sharc_history_laws.specs.Reports.{FindsOthers}
-use Rattle.sharc_sound_laws.specs.CauseLaws.{NamesCause}
+use Rattle.sharc_invariant.specs.{Types.Targets, Labels.Labels, Typed.IsWellTyped, State.IsSmall}
+use Rattle.sharc_history_laws.specs.{Causes.{IsNamed, ShowsCause}, Conflicts.IsCheck}
+use Rattle.sharc_history_laws.specs.{Followed.{ShowsLock, access_checked}, History.history_of, Reports.FindsOthers}
+use Rattle.sharc_sound_laws.specs.{CauseLaws.NamesCause, Reports.WantsReported, Standing.StandsAt}
 use Rattle.sharc_wants_laws.specs.Cause.{ShowsReference}
-use Rattle.sharc_sound_laws.specs.Reports.{WantsReported}
-use Rattle.sharc_sound_laws.specs.Standing.{StandsAt}
 
 -- by these events the thread of the source wants this access next, at a site of the code
 pub record WantsAccess (m : Assignment) (code : Code) (R : History) (thread site : ℕ) (access : Access) : Type 0 where

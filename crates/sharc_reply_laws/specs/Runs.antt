@@ -2,35 +2,22 @@
 use Rattle.std.specs.Prelude.{◌≡◌, ℕ, Bool, List, ◌∷◌, ◌++◌, Some}
 use Rattle.sharc_shadow.specs.declared.shadow_word.Kind.{Kind}
 use Rattle.sharc_mode.specs.Moded.{Assignment}
-use Rattle.sharc_meaning.specs.Obeys.{AlwaysObeys, Obeys, until_return}
-use Rattle.sharc_meaning.specs.References.{Holder, References, in_thread}
+use Rattle.sharc_meaning.specs.{Obeys.{AlwaysObeys, Obeys, until_return}, References.{Holder, References, in_thread}}
 use Rattle.sharc_meaning.specs.Runs.{SourceRun}
-use Rattle.sharc_code.specs.declared.code.Code.{Code}
-use Rattle.sharc_code.specs.declared.shape.Shape.{Shape}
-use Rattle.sharc_code.specs.declared.state.Print.{Print}
-use Rattle.sharc_code.specs.declared.state.Stop.{Stop}
-use Rattle.sharc_code.specs.Layout.{Fits}
-use Rattle.sharc_code.specs.Runs.{Turn}
-use Rattle.sharc_code.specs.Whole.{CheckedRun, Stuck, place_after}
+use Rattle.sharc_code.specs.{declared.code.Code.Code, declared.shape.Shape.Shape, declared.state.Print.Print}
+use Rattle.sharc_code.specs.{declared.state.Stop.Stop, Layout.Fits, Runs.Turn, Whole.{CheckedRun, Stuck, place_after}}
 use Rattle.sharc_cpu.specs.Thread.{ThreadView}
 use Rattle.sharc_threads.specs.Ends.{AreStarted}
 use Rattle.sharc_run_text.specs.RunText.{AreInOrder}
 use Rattle.sharc_told_laws.specs.Prints.{ArePrintsOf}
 use Rattle.sharc_compile.specs.Refused.{IsReport}
-use Rattle.sharc_invariant.specs.Labels.{Labels}
-use Rattle.sharc_invariant.specs.Typed.{IsWellTyped}
-use Rattle.sharc_history_laws.specs.Conflicts.{IsCheck}
-use Rattle.sharc_history_laws.specs.Followed.{IsOfAccess}
-use Rattle.sharc_history_laws.specs.History.{history_of}
+use Rattle.sharc_invariant.specs.{Labels.Labels, Typed.IsWellTyped}
+use Rattle.sharc_history_laws.specs.{Conflicts.IsCheck, Followed.IsOfAccess, History.history_of}
 use Rattle.sharc_accepted_laws.specs.Targets.{targets_of}
 use Rattle.sharc_wants_laws.specs.Alone.{Passes, tested_object}
-use Rattle.sharc_sound_laws.specs.StandStands.{PlaceStands}
-use Rattle.sharc_build.specs.declared.building.Built.{Built}
-use Rattle.sharc_build.specs.Built.{IsBuilt}
-use Rattle.sharc_sound_laws.specs.Deadlock.{IsDeadlock}
-use Rattle.sharc_sound_laws.specs.Obeying.{NoAccessReport}
-use Rattle.sharc_reply_laws.specs.Reports.{ReportTells}
-use Rattle.sharc_reply_laws.specs.Threads.{ThreadTells}
+use Rattle.sharc_sound_laws.specs.{StandStands.PlaceStands, Deadlock.IsDeadlock, Obeying.NoAccessReport}
+use Rattle.sharc_build.specs.{declared.building.Built.Built, Built.IsBuilt}
+use Rattle.sharc_reply_laws.specs.{Reports.ReportTells, Threads.ThreadTells}
 
 -- The turns, the last one first, are of threads in any order, of the code of this program, which is typed by these labels.
 pub record RunTells (m : Assignment) (code : Code) (s : Shape) (ls : Labels) (run : List Turn) : Type 0 where

@@ -1,26 +1,14 @@
 -- How far a thread of a checked run has come in the source, by its events of the run.
 use Rattle.std.specs.Prelude.{◌≡◌, ◌⊎◌, ◌+◌, ◌*◌, ◌<◌, ◌≤◌, ℕ, List, []}
 use Rattle.sharc_mode.specs.Moded.{Assignment}
-use Rattle.sharc_meaning.specs.Events.{events_of}
-use Rattle.sharc_meaning.specs.Meaning.{Asked, asks}
-use Rattle.sharc_meaning.specs.Obeys.{History}
-use Rattle.sharc_meaning.specs.Runs.{Follows, answers_of}
+use Rattle.sharc_meaning.specs.{Events.events_of, Meaning.{Asked, asks}, Obeys.History, Runs.{Follows, answers_of}}
 use Rattle.sharc_meaning.specs.State.{spent}
-use Rattle.sharc_code.specs.declared.code.Code.{Code}
-use Rattle.sharc_code.specs.declared.shape.Shape.{Shape}
-use Rattle.sharc_code.specs.Layout.{Fits}
-use Rattle.sharc_code.specs.Machine.{Machine}
-use Rattle.sharc_code.specs.Paced.{paced_in}
-use Rattle.sharc_code.specs.Path.{begun}
-use Rattle.sharc_code.specs.Runs.{Turn, turns_of}
-use Rattle.sharc_code.specs.Whole.{CheckedRun, place_after}
+use Rattle.sharc_code.specs.{declared.code.Code.Code, declared.shape.Shape.Shape, Layout.Fits, Machine.Machine}
+use Rattle.sharc_code.specs.{Paced.paced_in, Path.begun, Runs.{Turn, turns_of}, Whole.{CheckedRun, place_after}}
 use Rattle.sharc_gen.specs.OfRuns.{founds_of}
 use Rattle.sharc_compile.specs.Source.{IsOverAs}
 use Rattle.sharc_compile_laws.specs.Paths.{OfTyped}
-use Rattle.sharc_invariant.specs.Types.{Targets}
-use Rattle.sharc_invariant.specs.Labels.{Labels}
-use Rattle.sharc_invariant.specs.Typed.{IsWellTyped}
-use Rattle.sharc_invariant.specs.State.{IsSmall}
+use Rattle.sharc_invariant.specs.{Types.Targets, Labels.Labels, Typed.IsWellTyped, State.IsSmall}
 use Rattle.sharc_history_laws.specs.History.{history_of}
 
 -- what its function, with its argument and the answers of its own events, has come to with this fuel

@@ -1,11 +1,8 @@
 -- Texts that were added piece by piece.
-use Rattle.std.proofs.Common.{◌≡◌, ℕ, ◌+◌, ◌<◌, List, ◌∷◌, ◌++◌, length, drop, get_or, ap, sym, subst, ◌∙◌, append_assoc, cond, Option, Result, Ok, Err, OnOk}
-use Rattle.std.specs.Result.{is_ok}
-use Rattle.std.proofs.lemmas.List.{drop_more}
+use Rattle.std.proofs.{Common.{◌≡◌, ℕ, ◌+◌, ◌<◌, List, ◌∷◌, ◌++◌, length, drop, get_or, ap, sym, subst, ◌∙◌, append_assoc, Option, Result, OnOk}, lemmas.List.drop_more}
 use Rattle.std.specs.List.{flat_map}
 use Rattle.sharc_ctype.specs.Resolved.{Resolution}
-use Rattle.sharc_mode.specs.declared.error.Cast.{Cast}
-use Rattle.sharc_mode.specs.declared.error.ModeError.{ModeError}
+use Rattle.sharc_mode.specs.{declared.error.Cast.Cast, declared.error.ModeError.ModeError}
 use Rattle.sharc_report.specs.Verdicts.{beside, check_text, refusal}
 
 pub three : {T E : Type 0} (answer : Result T E) (old m1 m2 new a b c : List ℕ) → m1 ≡ old ++ a → m2 ≡ m1 ++ b → OnOk answer (new ≡ m2 ++ c) → OnOk answer (new ≡ old ++ (a ++ (b ++ c)))
@@ -20,11 +17,6 @@ six answer old m1 m2 m3 new a b c d e f p q r last =
     let all : m3 ++ ((d ++ e) ++ f) ≡ old ++ (((y ++ d) ++ e) ++ f) =
     ap (λ l. l ++ ((d ++ e) ++ f)) first ∙ append_assoc old y ((d ++ e) ++ f) ∙ ap (λ l. old ++ l) (sym (append_assoc y (d ++ e) f)) ∙ ap (λ l. old ++ (l ++ f)) (sym (append_assoc y d e)) in
     subst (λ l. OnOk answer (new ≡ l)) all last
-
--- what a call that extends a text says of its success
-pub taken : {T E : Type 0} (answer : Result T E) (new a b : List ℕ) → new ≡ cond (is_ok answer) a b → OnOk answer (new ≡ a)
-taken (Ok x) new a b h = h
-taken (Err e) new a b h = tt
 
 -- what is made of one element more of a list
 pub one_more : {A : Type 0} (f : A → List ℕ) (items list : List A) (i : ℕ) (x : A) (old new all : List ℕ) → items ≡ list → i < length items → x ≡ get_or items i x → new ≡ old ++ f x → old ++ flat_map f (drop i list) ≡ all → new ++ flat_map f (drop (i + 1) list) ≡ all

@@ -1,19 +1,15 @@
 -- What `explain` writes: what has a type with modes, and why its inferred positions are dynamic.
 use Rattle.std.specs.Prelude.{ℕ, zero, suc, ◌+◌, ◌-◌, nat_lt, Bool, true, false, List, [], ◌++◌, codes, decimal, replicate, slice_get, Option, Some, None, if◌then◌else◌}
 use Rattle.std.specs.List.{flat_map}
-use Rattle.sharc_tree.specs.Texts.{type_text}
-use Rattle.sharc_tree.specs.Tree.{Function}
+use Rattle.sharc_tree.specs.{Texts.type_text, Tree.Function}
 use Rattle.sharc_names.specs.declared.types.Role.{Role}
 use Rattle.sharc_names.specs.declared.types.Role.TheVariants as role
-use Rattle.sharc_ctype.specs.declared.entity.Entity.{Entity}
-use Rattle.sharc_ctype.specs.declared.entity.Numbered.{Numbered}
+use Rattle.sharc_ctype.specs.{declared.entity.Entity.Entity, declared.entity.Numbered.Numbered}
 use Rattle.sharc_ctype.specs.Entities.{entities_in, first_depth, numbered, positions_of}
 use Rattle.sharc_ctype.specs.Resolved.{Resolution, function_at}
 use Rattle.sharc_mode.specs.declared.position.Reason.{Reason}
 use Rattle.sharc_mode.specs.declared.position.Reason.TheVariants.{Touched, Spawned, From}
-use Rattle.sharc_mode.specs.Moded.{Assignment, reason_at}
-use Rattle.sharc_mode.specs.Notes.{printed_type}
-use Rattle.sharc_mode.specs.Sharings.{text_at}
+use Rattle.sharc_mode.specs.{Moded.{Assignment, reason_at}, Notes.printed_type, Sharings.text_at}
 use Rattle.sharc_report.specs.Places.{token_place, tokens_between}
 
 -- ---- KIND NAME

@@ -1,13 +1,10 @@
 -- What `check` writes: the errors of modes, each with the cast that would repair it, or the warnings and `accepted`.
 use Rattle.std.specs.Prelude.{ℕ, List, [], ◌∷◌, ◌++◌, codes, decimal, drop, slice_set, Option, Some, None}
 use Rattle.std.specs.List.{flat_map}
-use Rattle.sharc_tree.specs.declared.ctype.CType.{CType}
-use Rattle.sharc_tree.specs.Texts.{type_text}
+use Rattle.sharc_tree.specs.{declared.ctype.CType.CType, Texts.type_text}
 use Rattle.sharc_ctype.specs.Resolved.{Resolution}
-use Rattle.sharc_mode.specs.declared.error.Cast.{Cast}
-use Rattle.sharc_mode.specs.declared.error.ModeError.{ModeError}
-use Rattle.sharc_mode.specs.declared.error.Warning.{Warning}
-use Rattle.sharc_mode.specs.declared.error.ErrorCode.{ErrorCode}
+use Rattle.sharc_mode.specs.{declared.error.Cast.Cast, declared.error.ModeError.ModeError}
+use Rattle.sharc_mode.specs.{declared.error.Warning.Warning, declared.error.ErrorCode.ErrorCode}
 use Rattle.sharc_mode.specs.declared.error.ErrorCode.TheVariants.{ModeMismatch, ReadonlyWrite, PrivateTarget, LockPathNotConstant, ModeNotAllowed, PrivateField, PrivateReachesThread, CastChangesInnerMode, ReadonlySource, NamedByLockPath, NeedsConstantBase}
 use Rattle.sharc_mode.specs.Errors.{number_of}
 use Rattle.sharc_report.specs.Places.{site_text, tokens_between}

@@ -1,22 +1,13 @@
 -- The program with a cast written in it, and its modes.
 use Rattle.std.specs.Prelude.{ℕ, ◌+◌, nat_lt, Bool, false, List, [], ◌∷◌, ◌++◌, drop, take, map, replicate, length, Option, Some, None, if◌then◌else◌}
 use Rattle.std.specs.Str.{bytes_eq}
-use Rattle.sharc_tree.specs.declared.ctype.Base.{Base}
-use Rattle.sharc_tree.specs.declared.ctype.Base.TheVariants.{Struct}
-use Rattle.sharc_tree.specs.declared.ctype.Mode.{Mode}
-use Rattle.sharc_tree.specs.declared.ctype.Mode.TheVariants.{Private}
-use Rattle.sharc_tree.specs.declared.token.Site.{Site}
-use Rattle.sharc_tree.specs.Tree.{Program}
-use Rattle.sharc_ctype.specs.declared.entity.Numbered.{Numbered}
-use Rattle.sharc_ctype.specs.Entities.{entities_in, numbered, entity_at}
-use Rattle.sharc_ctype.specs.Items.{named_in}
-use Rattle.sharc_ctype.specs.Resolved.{Resolution}
-use Rattle.sharc_mode.specs.declared.error.Cast.{Cast}
-use Rattle.sharc_mode.specs.declared.position.Reason.{Reason}
-use Rattle.sharc_mode.specs.declared.position.Reason.TheVariants.{Touched, Spawned, From}
-use Rattle.sharc_mode.specs.Moded.{Assignment}
-use Rattle.sharc_rewrite.specs.declared.written.Recast.{Recast}
-use Rattle.sharc_rewrite.specs.Recast.{program_with_cast}
+use Rattle.sharc_tree.specs.{declared.ctype.Base.Base, declared.ctype.Base.TheVariants.Struct, declared.ctype.Mode.Mode}
+use Rattle.sharc_tree.specs.{declared.ctype.Mode.TheVariants.Private, declared.token.Site.Site, Tree.Program}
+use Rattle.sharc_ctype.specs.{declared.entity.Numbered.Numbered, Entities.{entities_in, numbered, entity_at}}
+use Rattle.sharc_ctype.specs.{Items.named_in, Resolved.Resolution}
+use Rattle.sharc_mode.specs.{declared.error.Cast.Cast, declared.position.Reason.Reason}
+use Rattle.sharc_mode.specs.{declared.position.Reason.TheVariants.{Touched, Spawned, From}, Moded.Assignment}
+use Rattle.sharc_rewrite.specs.{declared.written.Recast.Recast, Recast.program_with_cast}
 
 -- ---- the program: the cast is around the expression of its tokens, wherever that is passed, assigned or returned, or initialises a local
 

@@ -1,8 +1,6 @@
 -- A program with a cast written round an expression.
 use Rattle.std.specs.Prelude.{◌==◌, Bool, false, ◌&&◌, map, if◌then◌else◌, option_map}
-use Rattle.sharc_tree.specs.declared.token.Span.{Span}
-use Rattle.sharc_tree.specs.declared.tree.declaration.WrittenType.{WrittenType}
-use Rattle.sharc_tree.specs.Spans.{span_of}
+use Rattle.sharc_tree.specs.{declared.token.Span.Span, declared.tree.declaration.WrittenType.WrittenType, Spans.span_of}
 use Rattle.sharc_tree.specs.Tree.{Expression, identifier, constant, parentheses, call, spawn, on_value, on_place, cast, index, field, unary, binary, Arguments, no_arguments, argument, Right, value, malloc, Simple, assign, does_call, Local, First, nothing, declares, does, Head, Statement, Statements, no_statements, statement, Function, Item, structure, global, function, Program}
 use Rattle.sharc_tree.specs.Tree as tree
 use Rattle.sharc_rewrite.specs.declared.written.Recast.{Recast}

@@ -1,36 +1,12 @@
 -- Rounds go on: the run grows by a round, and the events that are left become fewer.
-use Rattle.std.proofs.Common.{◌≡◌, ◌≢◌, [], ◌<◌, ◌≤◌, ◌++◌, ⊎_elim, Bool, true, false, not, ℕ, List, None, length, get_or, refl, sym, ap, ◌∙◌, subst, arith}
+use Rattle.std.proofs.{Common.{◌≡◌, ◌≢◌, [], ◌<◌, ◌≤◌, ◌++◌, ⊎_elim, true, false, ℕ, List, None, length, get_or, refl, sym, ap, ◌∙◌, subst, arith}, lemmas.Bool.cases_lt}
 use Rattle.std.specs.Prelude.{◌&&◌, ◌||◌, nat_lt}
-use Rattle.std.proofs.lemmas.Bool.{cases_lt}
-use Rattle.std.proofs.lemmas.Bool.Decides.{nat_tests}
-use Rattle.sharc_word.specs.declared.step.TheConstants.{THREADS}
-use Rattle.sharc_word.specs.Laws.{HistoryLaws}
-use Rattle.sharc_code.specs.declared.code.Code.{Code}
-use Rattle.sharc_code.specs.declared.shape.Shape.{Shape}
-use Rattle.sharc_code.specs.Laws.{RunLaws}
-use Rattle.sharc_code.specs.Opening.{opening_words}
-use Rattle.sharc_code.specs.Path.{may_go}
-use Rattle.sharc_code.specs.Runs.{Turn, IsRun, at, opening_of, is_started, turns_of, word_events}
-use Rattle.sharc_code.specs.StandingLaws.{StandingLaws}
-use Rattle.sharc_code.specs.Waits.{waits_now}
-use Rattle.sharc_code.specs.Whole.{one_thread, bounds, place_after}
-use Rattle.sharc_threads.specs.Ends.{Standing, is_enabled}
-use Rattle.sharc_threads.specs.Laws.{TableLaws}
-use Rattle.sharc_threads.specs.Seats.{AreSeats, HasBegun, left, may_turn_at}
-use Rattle.sharc_rounds.specs.Round.{Seat, MadeRound}
-use Rattle.sharc_rounds.specs.Laws.{StandsAt, GoneOn, RoundsGoOn, RoundsKeepLength}
+use Rattle.sharc_word.specs.{declared.step.TheConstants.THREADS, Laws.HistoryLaws}
+use Rattle.sharc_code.specs.{declared.code.Code.Code, declared.shape.Shape.Shape, Laws.RunLaws, Opening.opening_words, Path.may_go, Runs.{Turn, IsRun, at, opening_of, is_started, turns_of, word_events}, StandingLaws.StandingLaws, Waits.waits_now, Whole.{one_thread, bounds, place_after}}
+use Rattle.sharc_threads.specs.{Ends.{Standing, is_enabled}, Laws.TableLaws, Seats.{AreSeats, HasBegun, left, may_turn_at}}
+use Rattle.sharc_rounds.specs.{Round.{Seat, MadeRound}, Laws.{StandsAt, GoneOn, RoundsGoOn, RoundsKeepLength}}
 use Rattle.sharc_rounds.proofs.Growing.{merged, turns, run_on, words_then, bound_then, were_started, seats_then, made_turn, no_event}
-
-both : (a b : Bool) → (a && b) ≡ true → (a ≡ true) × (b ≡ true)
-both true b e = (refl, e)
-both false b e = absurd (let h : false ≡ true = e in cc)
-
-not_true : (b : Bool) → not b ≡ true → b ≡ false
-not_true true e = absurd (let h : false ≡ true = e in cc)
-not_true false e = refl
-
-lt_true : (m n : ℕ) → nat_lt m n ≡ true → m < n
-lt_true m n e = grind (arith, nat_tests)
+use Rattle.sharc_lemmas.proofs.{Bools.{not_true, both}, Numbers.lt_true}
 
 pub next_length : HistoryLaws → RoundsKeepLength
 next_length laws code s limit words now old new round = ap (λ (ws : List ℕ). length ws) round.history.words_are ∙ laws.count words round.history.history

@@ -1,21 +1,9 @@
 -- A run grows by a round.
-use Rattle.std.proofs.Common.{◌≡◌, ◌≢◌, ℕ, zero, suc, ◌+◌, ◌-◌, ◌<◌, ◌≤◌, Bool, true, false, List, [], ◌∷◌, ◌++◌, length, get_or, Some, None, refl, sym, ap, ◌∙◌, subst, arith, ◌⊎◌, inl, inr, ⊎_elim, cond, eq-eqb}
-use Rattle.std.specs.Prelude.{nat_eq}
-use Rattle.std.specs.List.{sum_by}
-use Rattle.std.proofs.lemmas.List.Sums.{sum_by-cons}
-use Rattle.std.proofs.lemmas.Bool.{cases_lt}
-use Rattle.std.proofs.lemmas.List.{get_or_past}
-use Rattle.sharc_word.specs.declared.step.TheConstants.{THREADS}
-use Rattle.sharc_word.specs.declared.step.WordEvent.{WordEvent}
-use Rattle.sharc_code.specs.declared.code.Code.{Code}
-use Rattle.sharc_code.specs.declared.shape.Shape.{Shape}
-use Rattle.sharc_code.specs.Machine.{Machine}
-use Rattle.sharc_code.specs.Path.{may_go, machine_after, events_of_path, made_in as made_in_path, IsPath as IsCodePath}
-use Rattle.sharc_code.specs.Runs.{Turn, Parts, Round, IsRun, at, made_in, turns_of, word_events}
-use Rattle.sharc_code.specs.Whole.{one_thread, bounds, turns_by}
-use Rattle.sharc_code.specs.Laws.{RunLaws, IsPathOf, IsMerged}
-use Rattle.sharc_threads.specs.Ends.{Standing}
-use Rattle.sharc_threads.specs.Seats.{IsSeat, AreSeats, left, left_to}
+use Rattle.std.proofs.{Common.{◌≡◌, ◌≢◌, ℕ, zero, suc, ◌+◌, ◌-◌, ◌<◌, ◌≤◌, Bool, true, false, List, [], ◌∷◌, ◌++◌, length, get_or, Some, None, refl, sym, ap, ◌∙◌, subst, arith, ◌⊎◌, inl, inr, ⊎_elim, cond, eq-eqb}, lemmas.List.Sums.sum_by-cons, lemmas.Bool.cases_lt, lemmas.List.get_or_past}
+use Rattle.std.specs.{Prelude.nat_eq, List.sum_by}
+use Rattle.sharc_word.specs.{declared.step.TheConstants.THREADS, declared.step.WordEvent.WordEvent}
+use Rattle.sharc_code.specs.{declared.code.Code.Code, declared.shape.Shape.Shape, Machine.Machine, Path.{may_go, machine_after, events_of_path, made_in as made_in_path, IsPath as IsCodePath}, Runs.{Turn, Parts, Round, IsRun, at, made_in, turns_of, word_events}, Whole.{one_thread, bounds, turns_by}, Laws.{RunLaws, IsPathOf, IsMerged}}
+use Rattle.sharc_threads.specs.{Ends.Standing, Seats.{IsSeat, AreSeats, left, left_to}}
 use Rattle.sharc_rounds.specs.Round.{Seat, MadeQuantumAt, MadeRound}
 
 -- ---- sums

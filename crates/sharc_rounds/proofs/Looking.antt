@@ -2,17 +2,11 @@
 use Rattle.std.proofs.Common.{◌≡◌, ℕ, List, length, Option, Some, None, slice_index, sym, ap, ◌∙◌, subst}
 use Rattle.std.specs.Prelude.{◌&&◌, nat_lt, nat_eq}
 use Rattle.sharc_word.specs.declared.step.TheConstants.{THREADS}
-use Rattle.sharc_code.specs.declared.code.Code.{Code}
-use Rattle.sharc_code.specs.declared.shape.Shape.{Shape}
-use Rattle.sharc_code.specs.Layout.{state_word}
-use Rattle.sharc_code.specs.Runs.{is_started}
-use Rattle.sharc_code.specs.Whole.{bounds}
+use Rattle.sharc_code.specs.{declared.code.Code.Code, declared.shape.Shape.Shape, Layout.state_word, Runs.is_started, Whole.bounds}
 use Rattle.sharc_cpu.specs.Thread.{ThreadView}
 use Rattle.sharc_threads.specs.Seats.{HasBegun}
 use Rattle.sharc_bus.specs.Bus.{BusView, RestView, IsOf}
-use Rattle.sharc_rounds.specs.declared.words.Words.{Words}
-use Rattle.sharc_rounds.specs.declared.round.Rounds.{Rounds}
-use Rattle.sharc_rounds.specs.Round.{AreWords, SameWords, KeptBus, AreRounds}
+use Rattle.sharc_rounds.specs.{declared.words.Words.Words, declared.round.Rounds.Rounds, Round.{AreWords, SameWords, KeptBus, AreRounds}}
 
 started_same : (one other : List ℕ) (t : ℕ) → slice_index one (state_word t) ≡ slice_index other (state_word t) → is_started bounds one t ≡ is_started bounds other t
 started_same one other t e = ap (λ k. nat_lt t THREADS && nat_eq k 1) e

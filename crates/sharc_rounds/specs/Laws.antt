@@ -1,12 +1,8 @@
 -- Laws of rounds, for the crates above.
 use Rattle.std.specs.Prelude.{ℕ, ◌≡◌, ◌≤◌, ◌<◌, ◌++◌, true, List, length, None, slice_index_or}
-use Rattle.sharc_word.specs.declared.step.WordEvent.{WordEvent}
-use Rattle.sharc_word.specs.declared.step.TheConstants.{THREADS}
-use Rattle.sharc_code.specs.declared.code.Code.{Code}
-use Rattle.sharc_code.specs.declared.shape.Shape.{Shape}
-use Rattle.sharc_code.specs.Opening.{opening_words}
-use Rattle.sharc_code.specs.Runs.{Turn, IsRun, opening_of, word_events}
-use Rattle.sharc_code.specs.Whole.{one_thread, bounds, place_after}
+use Rattle.sharc_word.specs.{declared.step.WordEvent.WordEvent, declared.step.TheConstants.THREADS}
+use Rattle.sharc_code.specs.{declared.code.Code.Code, declared.shape.Shape.Shape, Opening.opening_words}
+use Rattle.sharc_code.specs.{Runs.{Turn, IsRun, opening_of, word_events}, Whole.{one_thread, bounds, place_after}}
 use Rattle.sharc_threads.specs.Seats.{AreSeats, HasBegun, left, may_turn_at}
 use Rattle.sharc_rounds.specs.Round.{Seat, MadeRound}
 

@@ -1,24 +1,17 @@
 -- What a round makes of the threads and of the words.
 use Rattle.std.specs.Prelude.{ℕ, ◌≡◌, ◌≢◌, ◌<◌, ◌≤◌, ◌+◌, ◌++◌, true, List, [], length, Option, Some, None, slice_index_or}
-use Rattle.sharc_word.specs.declared.step.WordEvent.{WordEvent}
-use Rattle.sharc_word.specs.declared.step.TheConstants.{THREADS}
-use Rattle.sharc_code.specs.declared.code.Code.{Code}
-use Rattle.sharc_code.specs.declared.shape.Shape.{Shape}
-use Rattle.sharc_code.specs.declared.state.Wait.{Wait}
-use Rattle.sharc_code.specs.declared.state.Wait.TheVariants as waits
+use Rattle.sharc_word.specs.{declared.step.WordEvent.WordEvent, declared.step.TheConstants.THREADS}
+use Rattle.sharc_code.specs.{declared.code.Code.Code, declared.shape.Shape.Shape, declared.state.Wait.Wait}
 use Rattle.sharc_code.specs.Layout.{words_of, state_word}
 use Rattle.sharc_code.specs.Path.{IsPath, machine_after, events_of_path, made_in, may_go}
-use Rattle.sharc_code.specs.Runs.{Turn, IsRun, opening_of}
-use Rattle.sharc_code.specs.Opening.{opening_words}
+use Rattle.sharc_code.specs.{Runs.{Turn, IsRun, opening_of}, Opening.opening_words}
 use Rattle.sharc_code.specs.Whole.{one_thread, bounds, place_after}
+use Rattle.sharc_code.specs.declared.state.Wait.TheVariants as waits
 use Rattle.sharc_cpu.specs.Thread.{ThreadView, IsThread}
 use Rattle.sharc_bus.specs.Bus.{BusView, IsOf, OneHistory}
 use Rattle.sharc_threads.specs.Seats.{AreSeats}
-use Rattle.sharc_rounds.specs.declared.hand.TheConstants.{QUANTUM}
-use Rattle.sharc_rounds.specs.declared.hand.Hand.{Hand}
-use Rattle.sharc_rounds.specs.declared.worker.Worker.{Worker}
-use Rattle.sharc_rounds.specs.declared.round.Rounds.{Rounds}
-use Rattle.sharc_rounds.specs.declared.words.Words.{Words}
+use Rattle.sharc_rounds.specs.{declared.hand.TheConstants.QUANTUM, declared.hand.Hand.Hand}
+use Rattle.sharc_rounds.specs.{declared.worker.Worker.Worker, declared.round.Rounds.Rounds, declared.words.Words.Words}
 
 -- a place of the table of threads: a thread that was started, or none
 abbrev pub Seat : Type 0

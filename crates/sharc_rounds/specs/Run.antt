@@ -1,8 +1,6 @@
 -- Runs that workers make in rounds, and how they end.
 use Rattle.std.specs.Prelude.{ℕ, ◌≡◌, ◌≤◌, false, List}
-use Rattle.sharc_code.specs.declared.code.Code.{Code}
-use Rattle.sharc_code.specs.declared.shape.Shape.{Shape}
-use Rattle.sharc_code.specs.Runs.{Turn}
+use Rattle.sharc_code.specs.{declared.code.Code.Code, declared.shape.Shape.Shape, Runs.Turn}
 use Rattle.sharc_code.specs.Whole.{CheckedRun, place_after}
 use Rattle.sharc_threads.specs.Ends.{is_enabled, AreStarted, EndIs}
 use Rattle.sharc_rounds.specs.declared.run.RoundsRun.{RoundsRun}

@@ -1,27 +1,16 @@
 -- How a run ended, from where its threads are.
 use Rattle.std.proofs.Common.{◌≡◌, ℕ, Bool, true, false, not, List, [], ◌∷◌, refl, sym, ap, ◌∙◌, subst, arith}
-use Rattle.std.specs.Prelude.{Result, Ok, Err, IfOk, nat_lt, ◌&&◌, if◌then◌else◌}
-use Rattle.std.specs.List.{Any, list_any}
+use Rattle.std.specs.{Prelude.{Result, Ok, Err, IfOk, nat_lt, ◌&&◌, if◌then◌else◌}, List.{Any, list_any}}
 use Rattle.sharc_word.specs.declared.step.TheConstants.{THREADS}
-use Rattle.sharc_code.specs.declared.code.Code.{Code}
-use Rattle.sharc_code.specs.declared.shape.Shape.{Shape}
-use Rattle.sharc_code.specs.Path.{may_go}
-use Rattle.sharc_code.specs.Runs.{Turn}
-use Rattle.sharc_code.specs.Waits.{waits_now}
-use Rattle.sharc_code.specs.Whole.{place_after, IsStuck}
+use Rattle.sharc_code.specs.{declared.code.Code.Code, declared.shape.Shape.Shape, Path.may_go, Runs.Turn, Waits.waits_now, Whole.{place_after, IsStuck}}
 use Rattle.sharc_cpu.specs.Thread.{ThreadView}
-use Rattle.sharc_threads.specs.declared.end.End.{End}
+use Rattle.sharc_threads.specs.{declared.end.End.End, Ends.{Standing, is_enabled, AllAreDone, EndIs, IsAt, AreStarted}}
 use Rattle.sharc_threads.specs.declared.end.End.TheVariants as ends
-use Rattle.sharc_threads.specs.Ends.{Standing, is_enabled, AllAreDone, EndIs, IsAt, AreStarted}
-use Rattle.sharc_run.specs.declared.outcome.Outcome.TheVariants.{Reported, Stopped}
-use Rattle.sharc_run.specs.Outcome.{has_reported, was_stopped, IsSpent, NoneStopped, HasOutcome, by_end, outcome_of}
-use Rattle.sharc_run.specs.Outcome.HasOutcome.{reported, stopped, stuck, limited, done}
+use Rattle.sharc_run.specs.{declared.outcome.Outcome.TheVariants.{Reported, Stopped}, Outcome.{has_reported, was_stopped, IsSpent, NoneStopped, HasOutcome, by_end, outcome_of}, Outcome.HasOutcome.{reported, stopped, stuck, limited, done}, declared.run.Ran.Ran, Run.IsEnd}
 use Rattle.sharc_seq.specs.Run.{AreChosen}
-use Rattle.sharc_run_text.specs.Others.{AreAllowed}
-use Rattle.sharc_run_text.specs.RunText.{IsRunText}
-use Rattle.sharc_run.specs.declared.run.Ran.{Ran}
-use Rattle.sharc_run.specs.Run.{IsEnd}
-use Rattle.sharc_run.proofs.Listed.{and_first, le_false, number_of, on_from, goes_on, spent_when, IsOne, one_in, at, was_started, all_gone, not_stuck}
+use Rattle.sharc_run_text.specs.{Others.AreAllowed, RunText.IsRunText}
+use Rattle.sharc_run.proofs.Listed.{number_of, on_from, goes_on, spent_when, IsOne, one_in, at, was_started, all_gone, not_stuck}
+use Rattle.sharc_lemmas.proofs.{Bools.{and_left as and_first}, Numbers.{not_below as le_false}}
 
 -- ---- the end
 module _ (code : Code) (s : Shape) (limit : ℕ) (turns : List Turn) (threads : List ThreadView) (fits : s.threads ≡ THREADS) (are : AreStarted code s (place_after code s turns) threads)

@@ -1,50 +1,18 @@
 -- The threads that were started, in a list, and those of the place where a run is.
 use Rattle.std.proofs.Common.{◌≡◌, ℕ, zero, suc, ◌+◌, ◌<◌, ◌≤◌, Bool, true, false, not, List, [], ◌∷◌, length, map, filter, get_or, refl, sym, ap, ◌∙◌, subst, arith, ◌⊎◌, inl, inr}
-use Rattle.std.specs.Prelude.{nat_lt, nat_eq, ◌&&◌, ◌||◌, slice_index, if◌then◌else◌}
-use Rattle.std.specs.List.{range_with_len, All, list_any}
-use Rattle.std.proofs.lemmas.Bool.Decides.{nat_tests}
+use Rattle.std.specs.{Prelude.{nat_lt, nat_eq, ◌&&◌, ◌||◌, slice_index, if◌then◌else◌}, List.{range_with_len, All, list_any}}
 use Rattle.sharc_word.specs.declared.step.TheConstants.{THREADS}
-use Rattle.sharc_code.specs.declared.code.Code.{Code}
-use Rattle.sharc_code.specs.declared.shape.Shape.{Shape}
-use Rattle.sharc_code.specs.declared.state.State.{State}
+use Rattle.sharc_code.specs.{declared.code.Code.Code, declared.shape.Shape.Shape, declared.state.State.State, Layout.state_word, Opening.opening_words, Path.may_go, Runs.{Turn, is_started, words_now}, Waits.waits_now, Whole.{bounds, place_after, IsStuck, IsOn}}
 use Rattle.sharc_code.specs.declared.state.State.TheVariants as state
-use Rattle.sharc_code.specs.Layout.{state_word}
-use Rattle.sharc_code.specs.Opening.{opening_words}
-use Rattle.sharc_code.specs.Path.{may_go}
-use Rattle.sharc_code.specs.Runs.{Turn, is_started, words_now}
-use Rattle.sharc_code.specs.Waits.{waits_now}
-use Rattle.sharc_code.specs.Whole.{bounds, place_after, IsStuck, IsOn}
 use Rattle.sharc_cpu.specs.Thread.{ThreadView, is_stop}
-use Rattle.sharc_threads.specs.Ends.{Standing, AllAreDone, IsAt, AreStarted}
-use Rattle.sharc_threads.specs.Seats.{is_end}
+use Rattle.sharc_threads.specs.{Ends.{Standing, AllAreDone, IsAt, AreStarted}, Seats.is_end}
 use Rattle.sharc_run.specs.Outcome.{was_stopped, is_gone}
+use Rattle.sharc_lemmas.proofs.{Bools.{and_left as and_first, or_first, either, or_second}, Numbers.{lt_true, not_below as le_false}}
 
 -- ---- truth values
-pub or_first : (a b : Bool) → (a || b) ≡ false → a ≡ false
-or_first true b e = e
-or_first false b e = refl
-
-or_second : (a b : Bool) → (a || b) ≡ false → b ≡ false
-or_second true b e = cc
-or_second false b e = e
-
-pub and_first : (a b : Bool) → (a && b) ≡ true → a ≡ true
-and_first true b e = refl
-and_first false b e = e
-
-lt_true : (m n : ℕ) → nat_lt m n ≡ true → m < n
-lt_true m n e = grind (arith, nat_tests)
-
-pub le_false : (m n : ℕ) → nat_lt m n ≡ false → n ≤ m
-le_false m n e = grind (arith, nat_tests)
-
 -- ---- who was started has a number that threads have
 started_word : (words : List ℕ) (t : ℕ) → is_started bounds words t ≡ true → t < THREADS
 started_word words t e = lt_true t THREADS (and_first (nat_lt t THREADS) (nat_eq (slice_index words (state_word t)) 1) e)
-
-either : (a b : Bool) (P : Type 0) → (a ≡ true → P) → (b ≡ true → P) → (a || b) ≡ true → P
-either true b P f g e = f refl
-either false b P f g e = g e
 
 pub started_low : (code : Code) (s : Shape) (turns : List Turn) (t : ℕ) → (place_after code s turns).started t ≡ true → t < THREADS
 started_low code s [] t e = started_word (opening_words code s) t e

@@ -1,24 +1,12 @@
 -- The words and the threads of a run that ended determine its outcome.
 use Rattle.std.proofs.Common.{◌≡◌, ℕ, suc, Bool, true, false, not, List, [], ◌∷◌, refl, sym, ap, ◌∙◌, subst, arith}
-use Rattle.std.specs.Prelude.{◌&&◌, ◌||◌, if◌then◌else◌}
-use Rattle.std.specs.List.{All, Any, list_any}
+use Rattle.std.specs.{Prelude.{◌&&◌, ◌||◌, if◌then◌else◌}, List.{All, Any, list_any}}
 use Rattle.sharc_word.specs.declared.step.TheConstants.{THREADS}
-use Rattle.sharc_code.specs.declared.code.Code.{Code}
-use Rattle.sharc_code.specs.declared.shape.Shape.{Shape}
-use Rattle.sharc_code.specs.declared.state.State.{State}
+use Rattle.sharc_code.specs.{declared.code.Code.Code, declared.shape.Shape.Shape, declared.state.State.State, Path.may_go, Runs.Turn, Waits.{waits_now, held_up}, Whole.{place_after, IsStuck, IsOn}}
 use Rattle.sharc_code.specs.declared.state.State.TheVariants as state
-use Rattle.sharc_code.specs.Path.{may_go}
-use Rattle.sharc_code.specs.Runs.{Turn}
-use Rattle.sharc_code.specs.Waits.{waits_now, held_up}
-use Rattle.sharc_code.specs.Whole.{place_after, IsStuck, IsOn}
 use Rattle.sharc_cpu.specs.Thread.{ThreadView, is_stop}
-use Rattle.sharc_threads.specs.Ends.{Standing, IsAt, AreStarted}
-use Rattle.sharc_threads.specs.Seats.{is_end}
-use Rattle.sharc_run.specs.declared.outcome.Outcome.{Outcome}
-use Rattle.sharc_run.specs.declared.outcome.Outcome.TheVariants.{Done, Reported, Stopped, Stuck, Limit}
-use Rattle.sharc_run.specs.Outcome.{has_reported, was_stopped, is_gone, IsSpent, NoneStopped, HasOutcome}
-use Rattle.sharc_run.specs.Outcome.HasOutcome.{reported, stopped, stuck, limited, done}
-use Rattle.sharc_run.specs.Laws.{is_on, goes_on, OutcomeIsTold}
+use Rattle.sharc_threads.specs.{Ends.{Standing, IsAt, AreStarted}, Seats.is_end}
+use Rattle.sharc_run.specs.{declared.outcome.Outcome.Outcome, declared.outcome.Outcome.TheVariants.{Done, Reported, Stopped, Stuck, Limit}, Outcome.{has_reported, was_stopped, is_gone, IsSpent, NoneStopped, HasOutcome}, Outcome.HasOutcome.{reported, stopped, stuck, limited, done}, Laws.{is_on, goes_on, OutcomeIsTold}}
 use Rattle.sharc_run.proofs.Listed.{number_of, head_at, rest_at, find_number, none_at, IsOne, one_in, at, was_started, is_listed, waits_all}
 use Rattle.sharc_run.proofs.Listed as listed
 

@@ -1,16 +1,11 @@
 -- How a run ended, by its causes.
 use Rattle.std.specs.Prelude.{ℕ, ◌≡◌, ◌≤◌, Bool, true, false, List, Option, Some, None, if◌then◌else◌}
 use Rattle.std.specs.List.{Any, All, list_any}
-use Rattle.sharc_code.specs.declared.code.Code.{Code}
-use Rattle.sharc_code.specs.declared.shape.Shape.{Shape}
-use Rattle.sharc_code.specs.declared.state.Stop.{Stop}
-use Rattle.sharc_code.specs.declared.state.Stop.TheVariants.{Conflict, NoLock, NotSole, Trap}
-use Rattle.sharc_code.specs.Whole.{IsStuck}
+use Rattle.sharc_code.specs.{declared.code.Code.Code, declared.shape.Shape.Shape, declared.state.Stop.Stop}
+use Rattle.sharc_code.specs.{declared.state.Stop.TheVariants.{Conflict, NoLock, NotSole, Trap}, Whole.IsStuck}
 use Rattle.sharc_cpu.specs.Thread.{ThreadView, is_stop}
-use Rattle.sharc_threads.specs.declared.end.End.{End}
+use Rattle.sharc_threads.specs.{declared.end.End.End, Ends.Standing, Seats.is_end}
 use Rattle.sharc_threads.specs.declared.end.End.TheVariants as ends
-use Rattle.sharc_threads.specs.Ends.{Standing}
-use Rattle.sharc_threads.specs.Seats.{is_end}
 use Rattle.sharc_run.specs.declared.outcome.Outcome.{Outcome}
 use Rattle.sharc_run.specs.declared.outcome.Outcome.TheVariants.{Done, Reported, Stopped, Stuck, Limit}
 

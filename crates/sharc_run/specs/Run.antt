@@ -1,17 +1,12 @@
 -- Whole runs of a code, with their text and outcome.
 use Rattle.std.specs.Prelude.{ℕ, ◌≡◌, ◌≤◌, false, List}
-use Rattle.sharc_code.specs.declared.code.Code.{Code}
-use Rattle.sharc_code.specs.declared.shape.Shape.{Shape}
-use Rattle.sharc_code.specs.Runs.{Turn}
+use Rattle.sharc_code.specs.{declared.code.Code.Code, declared.shape.Shape.Shape, Runs.Turn}
 use Rattle.sharc_code.specs.Whole.{CheckedRun, place_after}
 use Rattle.sharc_cpu.specs.Thread.{ThreadView}
-use Rattle.sharc_threads.specs.declared.end.End.{End}
-use Rattle.sharc_threads.specs.Ends.{Standing, is_enabled, AreStarted, EndIs}
-use Rattle.sharc_seq.specs.Choice.{seeded}
-use Rattle.sharc_seq.specs.Run.{AreChosen}
+use Rattle.sharc_threads.specs.{declared.end.End.End, Ends.{Standing, is_enabled, AreStarted, EndIs}}
+use Rattle.sharc_seq.specs.{Choice.seeded, Run.AreChosen}
 use Rattle.sharc_run_text.specs.RunText.{IsRunText}
-use Rattle.sharc_run.specs.declared.run.Ran.{Ran}
-use Rattle.sharc_run.specs.Outcome.{HasOutcome}
+use Rattle.sharc_run.specs.{declared.run.Ran.Ran, Outcome.HasOutcome}
 
 -- the text and the outcome of a run that ended at this place: those of the threads that were started
 pub record IsEnd (code : Code) (s : Shape) (limit : ℕ) (g : Standing) (ran : Ran) : Type 0 where

@@ -1,8 +1,7 @@
 -- The thread that a refused write names is the lowest other one whose bit was set.
 use Rattle.std.proofs.Common.{◌≡◌, refl, ℕ, Option, Some, None}
 use Rattle.std.specs.Prelude.{is_some, if◌then◌else◌}
-use Rattle.sharc_shadow.specs.declared.shadow_word.Kind.TheVariants.{Write}
-use Rattle.sharc_shadow.specs.Functions.{lowest_other, conflicts_in, first_in}
+use Rattle.sharc_shadow.specs.{declared.shadow_word.Kind.TheVariants.Write, Functions.{lowest_other, conflicts_in, first_in}}
 
 some_or_none : (o : Option ℕ) → (if is_some o then o else None) ≡ o
 some_or_none None = refl

@@ -1,8 +1,7 @@
 -- Lists that are sorted by a number, and in which what ties is in the same order, are one.
-use Rattle.std.proofs.Common.{◌≡◌, ℕ, suc, ◌<◌, ◌≤◌, Bool, true, false, not, ◌&&◌, cond, List, [], ◌∷◌, length, get_or, filter, refl, sym, ap, ◌∙◌, subst, arith, le_antisymm, nat_lt, ◌==◌, nat_cmp, is_lt, Less, Equal, Greater}
+use Rattle.std.proofs.{Common.{◌≡◌, ℕ, suc, ◌<◌, ◌≤◌, Bool, true, false, not, ◌&&◌, cond, List, [], ◌∷◌, length, get_or, filter, refl, sym, ap, ◌∙◌, subst, arith, le_antisymm, nat_lt, ◌==◌, nat_cmp, is_lt, Less, Equal, Greater}, lemmas.Bool.Decides.nat_tests, lemmas.List.Sorted.IsNonDecreasingBy-from_sort}
 use Rattle.std.specs.List.Sorted.{ties, IsSortedByKey, IsStableByKey}
-use Rattle.std.proofs.lemmas.Bool.Decides.{nat_tests}
-use Rattle.std.proofs.lemmas.List.Sorted.{IsNonDecreasingBy-from_sort}
+use Rattle.sharc_lemmas.proofs.Numbers.{not_below as le_of}
 
 -- ---- ties
 is_first : (a b : Bool) → is_lt (cond a Less (cond b Equal Greater)) ≡ a
@@ -17,9 +16,6 @@ neither_of : (a b : Bool) → (not a && not b) ≡ true → (a ≡ false) × (b 
 neither_of true b e = cc
 neither_of false true e = cc
 neither_of false false e = (refl, refl)
-
-le_of : (m n : ℕ) → nat_lt m n ≡ false → n ≤ m
-le_of m n e = grind (arith, nat_tests)
 
 not_lt : (n : ℕ) → nat_lt n n ≡ false
 not_lt n = grind (arith, nat_tests)

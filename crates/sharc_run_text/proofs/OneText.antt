@@ -1,23 +1,10 @@
 -- The text is the same where it says the same of each thread.
 use Rattle.std.proofs.Common.{◌≡◌, ℕ, ◌==◌, ◌&&◌, not, suc, Bool, true, false, List, [], ◌∷◌, ◌++◌, length, map, flat_map, find, codes, decimal, cond, is_some, Option, Some, None, refl, sym, ap, ◌∙◌, subst, arith, if◌then◌else◌}
-use Rattle.std.specs.List.Sorted.{IsStableByKey}
-use Rattle.std.specs.Ordering.{nat_cmp}
-use Rattle.sharc_shadow.specs.declared.shadow_word.Kind.{Kind}
-use Rattle.sharc_shadow.specs.declared.shadow_word.Kind.TheVariants.{Read, Write}
-use Rattle.sharc_shadow.specs.Accesses.{note_of, site_at}
-use Rattle.sharc_shadow.specs.Functions.{lowest_other}
-use Rattle.sharc_shadow.specs.ShadowWord.{stands}
-use Rattle.sharc_code.specs.declared.code.Code.{Code}
-use Rattle.sharc_code.specs.declared.state.ConflictAt.{ConflictAt}
-use Rattle.sharc_code.specs.declared.state.Print.{Print}
-use Rattle.sharc_code.specs.declared.state.Stop.{Stop}
-use Rattle.sharc_code.specs.declared.state.Stop.TheVariants.{Conflict, NoLock, NotSole, Trap}
-use Rattle.sharc_code.specs.declared.state.Wait.{Wait}
-use Rattle.sharc_code.specs.Waits.{is_held_up}
+use Rattle.std.specs.{List.Sorted.IsStableByKey, Ordering.nat_cmp}
+use Rattle.sharc_shadow.specs.{declared.shadow_word.Kind.Kind, declared.shadow_word.Kind.TheVariants.{Read, Write}, Accesses.{note_of, site_at}, Functions.lowest_other, ShadowWord.stands}
+use Rattle.sharc_code.specs.{declared.code.Code.Code, declared.state.ConflictAt.ConflictAt, declared.state.Print.Print, declared.state.Stop.Stop, declared.state.Stop.TheVariants.{Conflict, NoLock, NotSole, Trap}, declared.state.Wait.Wait, Waits.is_held_up}
 use Rattle.sharc_cpu.specs.Thread.{ThreadView}
-use Rattle.sharc_run_text.specs.Others.{number_of, noted, refused_by, refused, is_first_write, or_refused, or_read, or_later, access_of, access_of_any, access_of_number, has_number, wrote_before, was_refused_first, refused_access, or_first_refused, against}
-use Rattle.sharc_run_text.specs.RunText.{place_of, prints_of, AreInOrder, print_line, code_of, access_text, other_text, stop_text, wait_text, made_text, unstopped_text, why_text, thread_line, is_gone, IsRunText}
-use Rattle.sharc_run_text.specs.Laws.{Shown, shown, TextIsOne}
+use Rattle.sharc_run_text.specs.{Others.{number_of, noted, refused_by, refused, is_first_write, or_refused, or_read, or_later, access_of, access_of_any, access_of_number, has_number, wrote_before, was_refused_first, refused_access, or_first_refused, against}, RunText.{place_of, prints_of, AreInOrder, print_line, code_of, access_text, other_text, stop_text, wait_text, made_text, unstopped_text, why_text, thread_line, is_gone, IsRunText}, Laws.{Shown, shown, TextIsOne}}
 use Rattle.sharc_run_text.proofs.OneOrder.{one_order}
 
 -- ---- lists of threads

@@ -1,6 +1,5 @@
 -- Texts that were added piece by piece.
-use Rattle.std.proofs.Common.{◌≡◌, ℕ, List, ◌++◌, ap, subst, ◌∙◌, append_assoc, cond, Result, Ok, Err, OnOk}
-use Rattle.std.specs.Result.{is_ok}
+use Rattle.std.proofs.Common.{◌≡◌, ℕ, List, ◌++◌, ap, subst, ◌∙◌, append_assoc, Result, OnOk}
 
 pub four : {T E : Type 0} (answer : Result T E) (old m1 m2 m3 new a b c d : List ℕ) → m1 ≡ old ++ a → m2 ≡ m1 ++ b → m3 ≡ m2 ++ c → OnOk answer (new ≡ m3 ++ d) → OnOk answer (new ≡ old ++ (((a ++ b) ++ c) ++ d))
 four answer old m1 m2 m3 new a b c d p q r last =
@@ -12,8 +11,3 @@ pub five : {T E : Type 0} (answer : Result T E) (old m1 m2 m3 m4 new a b c d e :
 five answer old m1 m2 m3 m4 new a b c d e p q r s last =
     let joined : m2 ≡ old ++ (a ++ b) = q ∙ ap (λ l. l ++ b) p ∙ append_assoc old a b in
     four answer old m2 m3 m4 new (a ++ b) c d e joined r s last
-
--- what a call that extends a text says of its success
-pub taken : {T E : Type 0} (answer : Result T E) (new a b : List ℕ) → new ≡ cond (is_ok answer) a b → OnOk answer (new ≡ a)
-taken (Ok x) new a b h = h
-taken (Err e) new a b h = tt

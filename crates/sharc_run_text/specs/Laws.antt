@@ -1,13 +1,10 @@
 -- Laws of texts, for the crates above.
 use Rattle.std.specs.Prelude.{ℕ, ◌≡◌, Bool, List, map, Option}
 use Rattle.sharc_shadow.specs.Accesses.{Accesses}
-use Rattle.sharc_code.specs.declared.code.Code.{Code}
-use Rattle.sharc_code.specs.declared.state.Print.{Print}
-use Rattle.sharc_code.specs.declared.state.Stop.{Stop}
+use Rattle.sharc_code.specs.{declared.code.Code.Code, declared.state.Print.Print, declared.state.Stop.Stop}
 use Rattle.sharc_code.specs.declared.state.Wait.{Wait}
 use Rattle.sharc_cpu.specs.Thread.{ThreadView}
-use Rattle.sharc_run_text.specs.Others.{number_of}
-use Rattle.sharc_run_text.specs.RunText.{prints_of, is_gone, IsRunText}
+use Rattle.sharc_run_text.specs.{Others.number_of, RunText.{prints_of, is_gone, IsRunText}}
 
 -- what a text says of a thread: whether it is gone, its number, why it was stopped, what it waits for, how many events it has made, and
 -- what it printed and accessed

@@ -1,13 +1,9 @@
 -- The other access of a conflict: which one a report names.
 use Rattle.std.specs.Prelude.{ℕ, ◌<◌, ◌==◌, ◌&&◌, Bool, true, false, not, List, All, find, Option, Some, None, is_some, if◌then◌else◌}
 use Rattle.sharc_word.specs.declared.step.TheConstants.{THREADS}
-use Rattle.sharc_shadow.specs.declared.shadow_word.Kind.{Kind}
-use Rattle.sharc_shadow.specs.declared.shadow_word.Kind.TheVariants.{Read, Write}
-use Rattle.sharc_shadow.specs.Accesses.{note_of, site_at}
-use Rattle.sharc_shadow.specs.Functions.{lowest_other}
-use Rattle.sharc_shadow.specs.ShadowWord.{stands, is_written}
-use Rattle.sharc_code.specs.declared.state.ConflictAt.{ConflictAt}
-use Rattle.sharc_code.specs.declared.state.Stop.{Stop}
+use Rattle.sharc_shadow.specs.{declared.shadow_word.Kind.Kind, declared.shadow_word.Kind.TheVariants.{Read, Write}}
+use Rattle.sharc_shadow.specs.{Accesses.{note_of, site_at}, Functions.lowest_other, ShadowWord.{stands, is_written}}
+use Rattle.sharc_code.specs.{declared.state.ConflictAt.ConflictAt, declared.state.Stop.Stop}
 use Rattle.sharc_code.specs.declared.state.Stop.TheVariants.{Conflict, NoLock, NotSole, Trap}
 use Rattle.sharc_cpu.specs.Thread.{ThreadView}
 use Rattle.sharc_run_text.specs.declared.other.Access.{Access}

@@ -1,9 +1,7 @@
 -- The texts of a code's sites.
 use Rattle.std.specs.Prelude.{ℕ, List, [], ◌++◌, codes, decimal, slice_index_or, slice_range}
 use Rattle.sharc_tree.specs.declared.token.Site.{Site}
-use Rattle.sharc_code.specs.declared.code.Code.{Code}
-use Rattle.sharc_code.specs.declared.code.Text.{Text}
-use Rattle.sharc_code.specs.Says.{place_at}
+use Rattle.sharc_code.specs.{declared.code.Code.Code, declared.code.Text.Text, Says.place_at}
 
 -- the bytes of a text
 abbrev pub text_of : Code → Text → List ℕ

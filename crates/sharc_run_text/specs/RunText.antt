@@ -1,30 +1,19 @@
 -- The text of a run that has ended.
 use Rattle.std.specs.Prelude.{◌≡◌, ℕ, ◌-◌, ◌==◌, Bool, true, false, List, [], ◌++◌, codes, decimal, slice_index, Option, Some, None, if◌then◌else◌}
-use Rattle.std.specs.Fmt.{signed_decimal}
-use Rattle.std.specs.List.{flat_map}
-use Rattle.std.specs.Ordering.{nat_cmp}
+use Rattle.std.specs.{Fmt.signed_decimal, List.flat_map, Ordering.nat_cmp}
 use Rattle.std.specs.List.Sorted.{IsPermutation, IsSortedByKey, IsStableByKey}
-use Rattle.sharc_tree.specs.declared.trap.Trap.{Trap}
+use Rattle.sharc_tree.specs.{declared.trap.Trap.Trap, Traps.trap_number}
 use Rattle.sharc_tree.specs.declared.trap.Trap.TheVariants as traps
-use Rattle.sharc_tree.specs.Traps.{trap_number}
-use Rattle.sharc_shadow.specs.declared.shadow_word.Kind.{Kind}
-use Rattle.sharc_shadow.specs.declared.shadow_word.Kind.TheVariants.{Read, Write}
-use Rattle.sharc_code.specs.declared.code.Code.{Code}
-use Rattle.sharc_code.specs.declared.code.Use.{Use}
-use Rattle.sharc_code.specs.declared.code.Use.TheVariants as uses
-use Rattle.sharc_code.specs.declared.state.ConflictAt.{ConflictAt}
-use Rattle.sharc_code.specs.declared.state.Print.{Print}
-use Rattle.sharc_code.specs.declared.state.State.{State}
-use Rattle.sharc_code.specs.declared.state.State.TheVariants.{Runs, Tries, Stopped, Ended}
-use Rattle.sharc_code.specs.declared.state.Stop.{Stop}
+use Rattle.sharc_shadow.specs.{declared.shadow_word.Kind.Kind, declared.shadow_word.Kind.TheVariants.{Read, Write}}
+use Rattle.sharc_code.specs.{declared.code.Code.Code, declared.code.Use.Use, declared.state.ConflictAt.ConflictAt}
+use Rattle.sharc_code.specs.{declared.state.Print.Print, declared.state.State.State}
+use Rattle.sharc_code.specs.{declared.state.State.TheVariants.{Runs, Tries, Stopped, Ended}, declared.state.Stop.Stop}
 use Rattle.sharc_code.specs.declared.state.Stop.TheVariants.{Conflict, NoLock, NotSole, Trap as Trapped}
-use Rattle.sharc_code.specs.declared.state.Wait.{Wait}
-use Rattle.sharc_code.specs.declared.state.Wait.TheVariants.{Mutex, Join, Cond}
-use Rattle.sharc_code.specs.Says.{place_at}
-use Rattle.sharc_code.specs.Waits.{is_held_up}
+use Rattle.sharc_code.specs.{declared.state.Wait.Wait, declared.state.Wait.TheVariants.{Mutex, Join, Cond}}
+use Rattle.sharc_code.specs.{Says.place_at, Waits.is_held_up}
+use Rattle.sharc_code.specs.declared.code.Use.TheVariants as uses
 use Rattle.sharc_cpu.specs.Thread.{ThreadView}
-use Rattle.sharc_run_text.specs.declared.other.Access.{Access}
-use Rattle.sharc_run_text.specs.Others.{number_of, other_access}
+use Rattle.sharc_run_text.specs.{declared.other.Access.Access, Others.{number_of, other_access}}
 use Rattle.sharc_run_text.specs.Places.{lvalue, lock_path, at_site, lvalue_at}
 
 -- ---- prints

@@ -1,10 +1,8 @@
 -- Where in the source a turn is.
 use Rattle.std.specs.Prelude.{ℕ, ◌+◌, ◌%◌, ◌^◌}
-use Rattle.sharc_code.specs.declared.code.Code.{Code}
-use Rattle.sharc_code.specs.declared.instr.Instr.{Instr}
+use Rattle.sharc_code.specs.{declared.code.Code.Code, declared.instr.Instr.Instr}
 use Rattle.sharc_code.specs.declared.instr.Instr.TheVariants.{Load, Store, LoadRef, Exchange, New, TakeCell, TakeLocal, Give, Free, Lock, Unlock, Spawn, Join, Print, Start, Exit, ChkLockLoaded, CondEnter, CondWait, CondSignal, CondBroadcast}
-use Rattle.sharc_code.specs.declared.state.Stage.{Stage}
-use Rattle.sharc_code.specs.declared.state.Stage.TheVariants.{Enters}
+use Rattle.sharc_code.specs.{declared.state.Stage.Stage, declared.state.Stage.TheVariants.Enters}
 use Rattle.sharc_code.specs.Machine.{Machine, instr_at}
 use Rattle.sharc_said.specs.declared.cells.Origin.{Origin}
 use Rattle.sharc_said.specs.declared.cells.Origin.TheVariants as origins

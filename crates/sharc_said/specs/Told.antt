@@ -1,34 +1,23 @@
 -- The event of a turn by what is known of it before its step, and by what the step found. It has no modes of cells.
 use Rattle.std.specs.Prelude.{◌≡◌, ℕ, ℤ, pos, zero, suc, ◌-◌, ◌*◌, ◌+◌, ◌==◌, ◌||◌, Option, Some, None, slice_index_or, if◌then◌else◌}
-use Rattle.sharc_tree.specs.declared.token.Site.{Site}
-use Rattle.sharc_tree.specs.declared.event.Object.TheVariants as objects
-use Rattle.sharc_tree.specs.declared.event.CellAt.{CellAt}
-use Rattle.sharc_tree.specs.declared.event.Act.{Act}
-use Rattle.sharc_tree.specs.declared.event.Act.TheVariants as acts
+use Rattle.sharc_tree.specs.{declared.token.Site.Site, declared.event.CellAt.CellAt, declared.event.Act.Act}
 use Rattle.sharc_tree.specs.declared.event.SourceEvent.{SourceEvent}
-use Rattle.sharc_granule.specs.State.{NewView}
-use Rattle.sharc_granule.specs.declared.stage.Stage.{Stage as NewStage}
+use Rattle.sharc_tree.specs.declared.event.Object.TheVariants as objects
+use Rattle.sharc_tree.specs.declared.event.Act.TheVariants as acts
+use Rattle.sharc_granule.specs.{State.NewView, declared.stage.Stage.{Stage as NewStage}}
 use Rattle.sharc_granule.specs.declared.stage.Stage.TheVariants.{Length}
 use Rattle.sharc_cond.specs.Waiters.{waits_in, lowest_of}
-use Rattle.sharc_code.specs.declared.code.Code.{Code}
-use Rattle.sharc_code.specs.declared.instr.Instr.{Instr}
-use Rattle.sharc_code.specs.Arithmetic.{int_of}
+use Rattle.sharc_code.specs.{declared.code.Code.Code, declared.instr.Instr.Instr, Arithmetic.int_of}
 use Rattle.sharc_code.specs.Machine.{Machine, function_of}
 use Rattle.sharc_code.specs.Says.{no_global, place_at, reference, started_with, said, speaks_of}
-use Rattle.sharc_said.specs.declared.cells.Origin.{Origin}
+use Rattle.sharc_said.specs.{declared.cells.Origin.Origin, declared.cells.Where.Where, declared.event.Deed.Deed}
+use Rattle.sharc_said.specs.{declared.event.Event.Event, declared.event.Reference.Reference, declared.event.Value.Value}
+use Rattle.sharc_said.specs.{declared.next.Argument.Argument, declared.next.Coming.Coming, declared.next.Next.Next}
 use Rattle.sharc_said.specs.declared.cells.Origin.TheVariants as origins
-use Rattle.sharc_said.specs.declared.cells.Where.{Where}
 use Rattle.sharc_said.specs.declared.cells.Where.TheVariants as places
-use Rattle.sharc_said.specs.declared.event.Deed.{Deed}
 use Rattle.sharc_said.specs.declared.event.Deed.TheVariants as deeds
-use Rattle.sharc_said.specs.declared.event.Event.{Event}
-use Rattle.sharc_said.specs.declared.event.Reference.{Reference}
-use Rattle.sharc_said.specs.declared.event.Value.{Value}
 use Rattle.sharc_said.specs.declared.event.Value.TheVariants as values
-use Rattle.sharc_said.specs.declared.next.Argument.{Argument}
 use Rattle.sharc_said.specs.declared.next.Argument.TheVariants as arguments
-use Rattle.sharc_said.specs.declared.next.Coming.{Coming}
-use Rattle.sharc_said.specs.declared.next.Next.{Next}
 use Rattle.sharc_said.specs.declared.next.Next.TheVariants as nexts
 
 -- ---- places

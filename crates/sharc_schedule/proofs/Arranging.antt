@@ -1,19 +1,10 @@
 -- A checked run with its turns without a word operation moved is a checked run that ends in the same place.
 use Rattle.std.proofs.Common.{◌≡◌, ℕ, ◌+◌, ◌≤◌, List, sym, ap, ◌∙◌, subst}
-use Rattle.sharc_word.specs.declared.step.TheConstants.{THREADS}
-use Rattle.sharc_word.specs.History.{LegalHistory}
-use Rattle.sharc_word.specs.Words.{words_after}
+use Rattle.sharc_word.specs.{declared.step.TheConstants.THREADS, History.LegalHistory, Words.words_after}
 use Rattle.sharc_tree.specs.declared.event.SourceEvent.{SourceEvent}
-use Rattle.sharc_code.specs.Machine.{Machine}
-use Rattle.sharc_code.specs.Opening.{opening_words}
-use Rattle.sharc_code.specs.Runs.{IsPath, Global, OneThread, word_events, turns_of, made_in, state_after, opening_of}
-use Rattle.sharc_code.specs.Laws.{RunLaws, StandsWhere}
-use Rattle.sharc_code.specs.ThreadLaws.{settled}
-use Rattle.sharc_code.specs.Whole.{one_thread, bounds}
-use Rattle.sharc_schedule.specs.Schedule.{arranged}
-use Rattle.sharc_schedule.specs.Laws.{ArrangedRuns}
-use Rattle.sharc_schedule.proofs.Arranged.{arranged_events, arranged_turns}
-use Rattle.sharc_schedule.proofs.Started.{all_begun, begun, all_loose_begun, no_turn_past, same_started}
+use Rattle.sharc_code.specs.{Machine.Machine, Opening.opening_words, Runs.{IsPath, Global, OneThread, word_events, turns_of, made_in, state_after, opening_of}, Laws.{RunLaws, StandsWhere}, ThreadLaws.settled, Whole.{one_thread, bounds}}
+use Rattle.sharc_schedule.specs.{Schedule.arranged, Laws.ArrangedRuns}
+use Rattle.sharc_schedule.proofs.{Arranged.{arranged_events, arranged_turns}, Started.{all_begun, begun, all_loose_begun, no_turn_past, same_started}}
 
 pub arrange : RunLaws → ArrangedRuns
 arrange laws code s turns run =

@@ -1,25 +1,12 @@
 -- The turns for one event of the journal are those of the schedule.
 use Rattle.std.proofs.Common.{◌≡◌, ℕ, suc, ◌<◌, ◌≤◌, Bool, true, false, List, [], ◌∷◌, ◌++◌, length, refl, sym, ap, ◌∙◌, subst, arith, append_assoc, ⊎_elim, ◌⊎◌, inl, inr, if◌then◌else◌}
 use native.Mathlib.Decide.{dec_le}
-use Rattle.sharc_code.specs.declared.code.Code.{Code}
-use Rattle.sharc_code.specs.declared.shape.Shape.{Shape}
-use Rattle.sharc_code.specs.declared.state.State.{State}
-use Rattle.sharc_code.specs.declared.state.State.TheVariants.{Runs, Tries, Stopped, Ended}
-use Rattle.sharc_code.specs.Machine.{Machine}
-use Rattle.sharc_code.specs.Path.{counted}
-use Rattle.sharc_code.specs.Runs.{Turn, Owns, MayTurn, state_now}
-use Rattle.sharc_code.specs.Laws.{RunLaws}
-use Rattle.sharc_code.specs.ThreadLaws.{ThreadLaws}
-use Rattle.sharc_code.specs.Whole.{one_thread, bounds, place_after}
+use Rattle.sharc_code.specs.{declared.code.Code.Code, declared.shape.Shape.Shape, declared.state.State.State, declared.state.State.TheVariants.{Runs, Tries, Stopped, Ended}, Machine.Machine, Path.counted, Runs.{Turn, Owns, MayTurn, state_now}, Laws.RunLaws, ThreadLaws.ThreadLaws, Whole.{one_thread, bounds, place_after}}
 use Rattle.sharc_threads.specs.Ends.{is_enabled}
 use Rattle.sharc_seq.specs.Walk.{has_event}
-use Rattle.sharc_schedule.specs.Schedule.{is_try, without_tries}
-use Rattle.sharc_schedule.specs.Laws.{SameEnds}
-use Rattle.sharc_schedule.proofs.Trying.{may_kept, state_same, NoTries, without}
-use Rattle.sharc_schedule.proofs.Among.{Last, cut}
-use Rattle.sharc_schedule.proofs.Replaying.{Few, few_before, enabled_turn}
-use Rattle.sharc_schedule.specs.Going.{Quiet, Loud, AllCount, Stepped}
-use Rattle.sharc_schedule.proofs.Matching.{Run, quiet_kept, as_many}
+use Rattle.sharc_schedule.specs.{Schedule.{is_try, without_tries}, Laws.SameEnds, Going.{Quiet, Loud, AllCount, Stepped}}
+use Rattle.sharc_schedule.proofs.{Trying.{may_kept, state_same, NoTries, without}, Among.{Last, cut}, Replaying.{Few, few_before, enabled_turn}, Matching.{Run, quiet_kept, as_many}}
+use Rattle.sharc_lemmas.proofs.Bools.{not_ended as no_both}
 
 -- ---- lists
 pub record Split (xs : List Turn) (n : ℕ) : Type 0 where
@@ -38,9 +25,6 @@ split (x ∷ xs) n le = by (dec_le n (length xs)) (λ h. split xs n h) where
 abbrev pub head_event : List Turn → Bool
 head_event [] = false
 head_event (x ∷ xs) = has_event x.event
-
-pub no_both : (b : Bool) → b ≡ true → b ≡ false → ⊥
-no_both b on off = let e : true ≡ false = sym on ∙ off in absurd cc
 
 quiet_low : (high low : List Turn) → Quiet (high ++ low) → Quiet low
 quiet_low [] low q = q

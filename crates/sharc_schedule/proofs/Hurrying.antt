@@ -1,23 +1,10 @@
 -- Several turns of the run that makes a schedule at once, none of which has a word operation.
-use Rattle.std.proofs.Common.{◌≡◌, ℕ, suc, ◌≤◌, true, false, List, [], ◌∷◌, ◌++◌, length, replicate, refl, sym, ap, ◌∙◌, subst, append_assoc}
-use Rattle.std.proofs.lemmas.List.{append-nil}
-use Rattle.sharc_code.specs.declared.code.Code.{Code}
-use Rattle.sharc_code.specs.declared.shape.Shape.{Shape}
-use Rattle.sharc_code.specs.Laws.{RunLaws}
-use Rattle.sharc_code.specs.Runs.{Turn, Owns}
-use Rattle.sharc_code.specs.ThreadLaws.{ThreadLaws}
-use Rattle.sharc_code.specs.Whole.{place_after}
-use Rattle.sharc_threads.specs.Ends.{is_enabled}
-use Rattle.sharc_threads.specs.Laws.{TableLaws}
-use Rattle.sharc_seq.specs.Run.{enabled}
-use Rattle.sharc_seq.specs.Walk.{StandsAt, AreQuietTurns, WentQuietly}
-use Rattle.sharc_schedule.specs.declared.places.Going.{Going}
-use Rattle.sharc_schedule.specs.Schedule.{place_in, places_of, counted_together}
-use Rattle.sharc_schedule.specs.Going.{AllCount, GoesAt, Hurried, Quiet, Walked}
-use Rattle.sharc_schedule.proofs.Lasts.{one_after}
-use Rattle.sharc_schedule.proofs.Placing.{enabled_kept, enabled_there}
-use Rattle.sharc_schedule.proofs.Replaying.{Few}
-use Rattle.sharc_schedule.proofs.Turning.{few_after}
+use Rattle.std.proofs.{Common.{◌≡◌, ℕ, suc, ◌≤◌, true, false, List, [], ◌∷◌, ◌++◌, length, replicate, refl, sym, ap, ◌∙◌, subst, append_assoc}, lemmas.List.append-nil}
+use Rattle.sharc_code.specs.{declared.code.Code.Code, declared.shape.Shape.Shape, Laws.RunLaws, Runs.{Turn, Owns}, ThreadLaws.ThreadLaws, Whole.place_after}
+use Rattle.sharc_threads.specs.{Ends.is_enabled, Laws.TableLaws}
+use Rattle.sharc_seq.specs.{Run.enabled, Walk.{StandsAt, AreQuietTurns, WentQuietly}}
+use Rattle.sharc_schedule.specs.{declared.places.Going.Going, Schedule.{place_in, places_of, counted_together}, Going.{AllCount, GoesAt, Hurried, Quiet, Walked}}
+use Rattle.sharc_schedule.proofs.{Lasts.one_after, Placing.{enabled_kept, enabled_there}, Replaying.Few, Turning.few_after}
 
 owns_both : (t : ℕ) (more before : List Turn) → Owns t more → Owns t before → Owns t (more ++ before)
 owns_both t [] before h low = low

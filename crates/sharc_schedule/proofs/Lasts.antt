@@ -1,8 +1,8 @@
 -- A place that comes after others, counted together with them.
-use Rattle.std.proofs.Common.{◌≡◌, ◌≢◌, ℕ, zero, suc, ◌+◌, ◌<◌, ◌≤◌, Bool, true, false, nat_eq, List, [], ◌∷◌, ◌++◌, length, get_or, set, replicate, refl, sym, ap, ◌∙◌, subst, arith, append_assoc, eq-eqb, ne_eqb, if◌then◌else◌}
+use Rattle.std.proofs.Common.{◌≡◌, ◌≢◌, ℕ, zero, suc, ◌+◌, ◌<◌, ◌≤◌, Bool, true, false, nat_eq, List, [], ◌∷◌, ◌++◌, length, get_or, set, replicate, refl, sym, ap, ◌∙◌, arith, append_assoc, eq-eqb, ne_eqb, if◌then◌else◌}
 use native.Mathlib.Decide.{ℕ_discrete}
-use Rattle.sharc_schedule.specs.Schedule.{place_in, counted_in, counted_together}
-use Rattle.sharc_schedule.proofs.Plain.{if_no, if_yes}
+use Rattle.sharc_schedule.specs.Schedule.{counted_in, counted_together}
+use Rattle.sharc_lemmas.proofs.Bools.{if_false as if_no, if_true as if_yes}
 
 abbrev pub add_last : ℕ → List (ℕ × ℕ) → List (ℕ × ℕ)
 add_last p [] = (p, 1) ∷ []
@@ -116,9 +116,3 @@ add_other (x ∷ y ∷ more) (suc n) p k r many is apart = ap (λ (ys : List (�
 pub add_first : (xs : List (ℕ × ℕ)) (p k : ℕ) → length xs ≡ 0 → xs ++ (p, k) ∷ [] ≡ add_many p k xs
 add_first [] p k none = refl
 add_first (x ∷ xs) p k none = absurd (omega (arith, none))
-
--- an element that is there is the same whatever is given where there is none
-pub same_at : {A : Type 0} (xs : List A) (n : ℕ) (a b : A) → n < length xs → get_or xs n a ≡ get_or xs n b
-same_at [] n a b low = absurd (omega (arith, low))
-same_at (x ∷ xs) zero a b low = refl
-same_at (x ∷ xs) (suc n) a b low = same_at xs n a b (omega (arith, low))

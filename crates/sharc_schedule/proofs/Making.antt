@@ -1,33 +1,13 @@
 -- The turns that are made for a journal are those of the schedule of each of its runs.
-use Rattle.std.proofs.Common.{◌≡◌, ◌≢◌, ℕ, zero, suc, ◌+◌, ◌-◌, ◌<◌, ◌≤◌, Bool, true, false, not, nat_eq, ◌&&◌, ◌||◌, nat_lt, List, [], ◌∷◌, ◌++◌, Option, Some, None, length, get_or, eqb-true, refl, sym, ap, ◌∙◌, subst, arith, append_assoc, length-append, ◌⊎◌, inl, inr, if◌then◌else◌}
-use Rattle.std.proofs.lemmas.List.{append-nil}
+use Rattle.std.proofs.{Common.{◌≡◌, ◌≢◌, ℕ, zero, suc, ◌+◌, ◌-◌, ◌<◌, ◌≤◌, Bool, true, false, not, nat_eq, ◌&&◌, ◌||◌, nat_lt, List, [], ◌∷◌, ◌++◌, Option, Some, None, length, get_or, eqb-true, refl, sym, ap, ◌∙◌, subst, arith, append_assoc, length-append, ◌⊎◌, inl, inr, if◌then◌else◌}, lemmas.List.append-nil}
 use native.Mathlib.Decide.{dec_le, ℕ_discrete}
-use Rattle.sharc_word.specs.declared.step.WordEvent.{WordEvent}
-use Rattle.sharc_word.specs.declared.step.TheConstants.{THREADS}
-use Rattle.sharc_code.specs.declared.code.Code.{Code}
-use Rattle.sharc_code.specs.declared.shape.Shape.{Shape}
-use Rattle.sharc_code.specs.Laws.{RunLaws}
-use Rattle.sharc_code.specs.Machine.{Machine}
-use Rattle.sharc_code.specs.Path.{may_go}
-use Rattle.sharc_code.specs.Runs.{Turn, Owns, IsOf, is_started, state_now, made_now, words_now, word_events, event_list}
-use Rattle.sharc_code.specs.ThreadLaws.{ThreadLaws}
-use Rattle.sharc_code.specs.Waits.{waits_now}
-use Rattle.sharc_code.specs.Whole.{one_thread, bounds, place_after}
+use Rattle.sharc_word.specs.{declared.step.WordEvent.WordEvent, declared.step.TheConstants.THREADS}
+use Rattle.sharc_code.specs.{declared.code.Code.Code, declared.shape.Shape.Shape, Laws.RunLaws, Machine.Machine, Path.may_go, Runs.{Turn, Owns, IsOf, is_started, state_now, made_now, words_now, word_events, event_list}, ThreadLaws.ThreadLaws, Waits.waits_now, Whole.{one_thread, bounds, place_after}}
 use Rattle.sharc_threads.specs.Ends.{Standing, is_enabled}
 use Rattle.sharc_seq.specs.Walk.{has_event}
-use Rattle.sharc_schedule.specs.Schedule.{loose, loose_by, firm, firm_by, all_loose, arranged, without_tries, scheduled_turns}
-use Rattle.sharc_schedule.specs.Laws.{SameEnds}
-use Rattle.sharc_schedule.specs.Journal.{IsJournalOf}
-use Rattle.sharc_schedule.specs.Going.{Quiet, AllCount, Stepped, Followed, thread_at}
-use Rattle.sharc_schedule.proofs.Arranging.{arrange}
-use Rattle.sharc_schedule.proofs.Following.{Runs_to, Split, split, no_both, owns_low, run_low, few_low, enough, follow_event}
-use Rattle.sharc_schedule.proofs.Matching.{quiet_kept, as_many}
-use Rattle.sharc_schedule.proofs.Among.{Last, cut}
-use Rattle.sharc_schedule.proofs.Replaying.{Few, few_before, started_low, enabled_turn}
-use Rattle.sharc_schedule.proofs.Showing.{enabled_same}
-use Rattle.sharc_schedule.proofs.Trying.{NoTries, without, put_other, now_started}
-use Rattle.sharc_schedule.proofs.Turning.{no_tries}
-use Rattle.sharc_schedule.proofs.Plain.{or_known}
+use Rattle.sharc_schedule.specs.{Schedule.{loose, loose_by, firm, firm_by, all_loose, arranged, without_tries, scheduled_turns}, Laws.SameEnds, Journal.IsJournalOf, Going.{Quiet, AllCount, Stepped, Followed, thread_at}}
+use Rattle.sharc_schedule.proofs.{Arranging.arrange, Following.{Runs_to, Split, split, owns_low, run_low, few_low, enough, follow_event}, Matching.{quiet_kept, as_many}, Among.{Last, cut}, Replaying.{Few, few_before, started_low, enabled_turn}, Showing.enabled_same, Trying.{NoTries, without, put_other, now_started}, Turning.no_tries}
+use Rattle.sharc_lemmas.proofs.Bools.{not_ended as no_both, or_known}
 
 -- ---- loose turns
 pub loose_quiet : (t : ℕ) (turns : List Turn) → Quiet (loose t turns)

@@ -1,27 +1,14 @@
 -- Turns of one thread on top of one run are determined by how many they are.
-use Rattle.std.proofs.Common.{◌≡◌, ℕ, ◌==◌, true, false, List, [], ◌∷◌, ◌++◌, Option, Some, None, length, refl, sym, ap, ◌∙◌, arith}
-use Rattle.std.proofs.lemmas.Nat.Bits.{bit_at-zero}
+use Rattle.std.proofs.{Common.{◌≡◌, ℕ, ◌==◌, true, false, List, [], ◌∷◌, ◌++◌, Option, Some, None, length, refl, sym, ap, ◌∙◌, arith}, lemmas.Nat.Bits.bit_at-zero, lemmas.Bool.{false_from_ne_true as true_or_false}}
 use Rattle.sharc_word.specs.declared.step.WordEvent.{WordEvent}
 use Rattle.sharc_cond.specs.Waiters.{waits_in}
-use Rattle.sharc_code.specs.declared.code.Code.{Code}
-use Rattle.sharc_code.specs.declared.shape.Shape.{Shape}
-use Rattle.sharc_code.specs.declared.state.State.TheVariants.{Tries}
-use Rattle.sharc_code.specs.declared.state.Wait.{Wait}
+use Rattle.sharc_code.specs.{declared.code.Code.Code, declared.shape.Shape.Shape, declared.state.State.TheVariants.Tries, declared.state.Wait.Wait, Machine.{Machine, Local, Asks}, Opening.opening_words, Path.{turn, after, asked_by, may_go}, Runs.{Turn, IsRun, Owns, result_of, step_of as step_in, state_now, opening_of, threads_of, scheduled}, Laws.RunLaws, ThreadLaws.{ThreadLaws, found_now, behind}, Waits.{held_up, wait_of, waits_now}, Whole.{one_thread, bounds, place_after}}
 use Rattle.sharc_code.specs.declared.state.Wait.TheVariants as waits
-use Rattle.sharc_code.specs.Machine.{Machine, Local, Asks}
 use Rattle.sharc_code.specs.Machine as Step
-use Rattle.sharc_code.specs.Opening.{opening_words}
-use Rattle.sharc_code.specs.Path.{turn, after, asked_by, may_go}
-use Rattle.sharc_code.specs.Runs.{Turn, IsRun, Owns, result_of, step_of as step_in, state_now, opening_of, threads_of, scheduled}
-use Rattle.sharc_code.specs.Laws.{RunLaws}
-use Rattle.sharc_code.specs.ThreadLaws.{ThreadLaws, found_now, behind}
-use Rattle.sharc_code.specs.Waits.{held_up, wait_of, waits_now}
-use Rattle.sharc_code.specs.Whole.{one_thread, bounds, place_after}
 use Rattle.sharc_seq.specs.Walk.{has_event}
-use Rattle.sharc_schedule.specs.Schedule.{is_try, without_tries}
-use Rattle.sharc_schedule.specs.Going.{Quiet}
+use Rattle.sharc_schedule.specs.{Schedule.{is_try, without_tries}, Going.Quiet}
 use Rattle.sharc_schedule.proofs.Trying.{tries_where}
-use Rattle.sharc_schedule.proofs.Plain.{if_no, true_or_false}
+use Rattle.sharc_lemmas.proofs.Bools.{if_false as if_no}
 
 -- ---- a turn without a step is no failed try: it would be one whatever the words are, and where all words are 0 nobody waits
 nobody_in_zero : (number : ℕ) → waits_in 0 number ≡ false

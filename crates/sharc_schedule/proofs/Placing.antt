@@ -1,23 +1,14 @@
 -- The place of a thread among those that are enabled, and that it stays the same where only its own turns come, without a word operation.
-use Rattle.std.proofs.Common.{◌≡◌, ◌≢◌, ℕ, zero, suc, ◌+◌, ◌<◌, ◌≤◌, Bool, true, false, nat_eq, List, [], ◌∷◌, ◌++◌, filter, refl, sym, ap, ◌∙◌, subst, arith, eq-eqb, ne_eqb, if◌then◌else◌}
+use Rattle.std.proofs.Common.{◌≡◌, ◌≢◌, ℕ, zero, suc, ◌+◌, ◌<◌, ◌≤◌, Bool, true, false, nat_eq, List, [], ◌∷◌, ◌++◌, filter, sym, ap, ◌∙◌, subst, arith, eq-eqb, ne_eqb, if◌then◌else◌}
 use Rattle.std.specs.List.{range_with_len}
 use native.Mathlib.Decide.{dec_le, ℕ_discrete}
 use mathlib.Core.Logic.{dite}
-use Rattle.sharc_code.specs.declared.code.Code.{Code}
-use Rattle.sharc_code.specs.declared.shape.Shape.{Shape}
-use Rattle.sharc_code.specs.Laws.{RunLaws}
-use Rattle.sharc_code.specs.Runs.{Turn, Owns}
-use Rattle.sharc_code.specs.ThreadLaws.{ThreadLaws}
-use Rattle.sharc_code.specs.Whole.{place_after}
-use Rattle.sharc_threads.specs.Ends.{is_enabled}
-use Rattle.sharc_threads.specs.Laws.{TableLaws}
-use Rattle.sharc_seq.specs.declared.walk.Walk.{Walk}
-use Rattle.sharc_seq.specs.Run.{enabled}
-use Rattle.sharc_seq.specs.Walk.{StandsAt}
-use Rattle.sharc_schedule.specs.Going.{Quiet}
-use Rattle.sharc_schedule.specs.Schedule.{place_in}
+use Rattle.sharc_code.specs.{declared.code.Code.Code, declared.shape.Shape.Shape, Laws.RunLaws, Runs.{Turn, Owns}, ThreadLaws.ThreadLaws, Whole.place_after}
+use Rattle.sharc_threads.specs.{Ends.is_enabled, Laws.TableLaws}
+use Rattle.sharc_seq.specs.{declared.walk.Walk.Walk, Run.enabled, Walk.StandsAt}
+use Rattle.sharc_schedule.specs.{Going.Quiet, Schedule.place_in}
 use Rattle.sharc_schedule.proofs.Making.{others_same}
-use Rattle.sharc_schedule.proofs.Plain.{if_yes, if_no}
+use Rattle.sharc_lemmas.proofs.{Bools.{if_false as if_no, if_true as if_yes}, Lists.filter_agrees}
 
 -- how many numbers below this one pass a test
 abbrev pub passed : (ℕ → Bool) → ℕ → ℕ
@@ -67,10 +58,6 @@ pub place_passed : (f : ℕ → Bool) (t n : ℕ) → t < n → f t ≡ true →
 place_passed f t n high on = let p = place_from f t 0 n (omega arith) (omega (arith, high)) on in omega (arith, p)
 
 -- ---- tests that agree
-pub filter_agrees : (f g : ℕ → Bool) (xs : List ℕ) → ((t : ℕ) → f t ≡ g t) → filter f xs ≡ filter g xs
-filter_agrees f g [] same = refl
-filter_agrees f g (x ∷ xs) same = ap (λ b. if b then x ∷ filter f xs else filter f xs) (same x) ∙ ap (λ (ys : List ℕ). if g x then x ∷ ys else ys) (filter_agrees f g xs same)
-
 -- it does not matter by which run it is determined who is enabled
 pub enabled_there : (laws : TableLaws) (code : Code) (s : Shape) (limit : ℕ) (one other : List Turn) (walk : Walk) → StandsAt code s one walk → StandsAt code s other walk
     → enabled code s limit (place_after code s one) ≡ enabled code s limit (place_after code s other)

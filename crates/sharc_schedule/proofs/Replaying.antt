@@ -1,35 +1,16 @@
 -- The chooser of a schedule leads to the run of its turns.
-use Rattle.std.proofs.Common.{◌≡◌, ℕ, ◌+◌, ◌<◌, ◌≤◌, Bool, true, false, not, ◌&&◌, ◌||◌, nat_eq, nat_lt, ⊎_elim, List, [], ◌∷◌, ◌++◌, Option, Some, None, length, refl, sym, ap, ◌∙◌, subst, arith, append_assoc, length-append, if◌then◌else◌}
-use Rattle.std.specs.Prelude.{slice_index}
-use Rattle.std.specs.List.{range_with_len}
-use Rattle.std.proofs.lemmas.List.{append-nil}
-use Rattle.std.proofs.lemmas.Bool.{lt-ltb, le-ltb}
+use Rattle.std.proofs.{Common.{◌≡◌, ℕ, ◌+◌, ◌<◌, ◌≤◌, Bool, true, false, not, ◌&&◌, ◌||◌, nat_eq, nat_lt, ⊎_elim, List, [], ◌∷◌, ◌++◌, Option, Some, None, length, refl, sym, ap, ◌∙◌, subst, arith, append_assoc, length-append, if◌then◌else◌}, lemmas.List.append-nil, lemmas.Bool.{lt-ltb, le-ltb, false_from_ne_true as true_or_false}}
+use Rattle.std.specs.{Prelude.slice_index, List.range_with_len}
 use native.Mathlib.Decide.{dec_le, ℕ_discrete}
 use mathlib.Core.Logic.{dite}
-use Rattle.sharc_word.specs.declared.step.WordEvent.{WordEvent}
-use Rattle.sharc_word.specs.declared.step.WordStep.{WordStep}
-use Rattle.sharc_word.specs.declared.step.TheConstants.{THREADS}
+use Rattle.sharc_word.specs.{declared.step.WordEvent.WordEvent, declared.step.WordStep.WordStep, declared.step.TheConstants.THREADS}
 use Rattle.sharc_tree.specs.declared.event.SourceEvent.{SourceEvent}
-use Rattle.sharc_code.specs.declared.code.Code.{Code}
-use Rattle.sharc_code.specs.declared.shape.Shape.{Shape}
-use Rattle.sharc_code.specs.declared.state.State.{State}
-use Rattle.sharc_code.specs.declared.state.State.TheVariants.{Runs, Tries, Stopped, Ended}
-use Rattle.sharc_code.specs.Machine.{Machine}
+use Rattle.sharc_code.specs.{declared.code.Code.Code, declared.shape.Shape.Shape, declared.state.State.State, declared.state.State.TheVariants.{Runs, Tries, Stopped, Ended}, Machine.Machine, Layout.state_word, Opening.opening_words, Path.{turn, after, asked_by, may_go, counted}, Runs.{Turn, Global, OneThread, MayTurn, IsRun, Answered, is_started, result_of, step_of, state_now, made_now, opening_of, scheduled, threads_of}, Laws.RunLaws, ThreadLaws.{ThreadLaws, found_now, behind}, Waits.waits_now, Whole.{one_thread, bounds, place_after}}
 use Rattle.sharc_code.specs.Machine as Step
-use Rattle.sharc_code.specs.Layout.{state_word}
-use Rattle.sharc_code.specs.Opening.{opening_words}
-use Rattle.sharc_code.specs.Path.{turn, after, asked_by, may_go, counted}
-use Rattle.sharc_code.specs.Runs.{Turn, Global, OneThread, MayTurn, IsRun, Answered, is_started, result_of, step_of, state_now, made_now, opening_of, scheduled, threads_of}
-use Rattle.sharc_code.specs.Laws.{RunLaws}
-use Rattle.sharc_code.specs.ThreadLaws.{ThreadLaws, found_now, behind}
-use Rattle.sharc_code.specs.Waits.{waits_now}
-use Rattle.sharc_code.specs.Whole.{one_thread, bounds, place_after}
 use Rattle.sharc_threads.specs.Ends.{is_enabled}
 use Rattle.sharc_seq.specs.Run.{enabled, AreChosen}
 use Rattle.sharc_schedule.specs.Schedule.{is_try, place_in, places_of, or_first}
-use Rattle.sharc_schedule.proofs.Trying.{NoTries, put_own, put_other}
-use Rattle.sharc_schedule.proofs.Among.{Among, place_within, place_is, among_filter, among_range, none_left, Last, cut, index_seam}
-use Rattle.sharc_schedule.proofs.Plain.{true_or_false}
+use Rattle.sharc_schedule.proofs.{Trying.{NoTries, put_own, put_other}, Among.{Among, place_within, place_is, among_filter, among_range, none_left, Last, cut, index_seam}}
 
 all_four : (a b c d : Bool) → a ≡ true → b ≡ true → c ≡ true → d ≡ false → (a && (b && (c && not d))) ≡ true
 all_four a b c d e f g h = ap (λ x. x && (b && (c && not d))) e ∙ (ap (λ x. x && (c && not d)) f ∙ (ap (λ x. x && not d) g ∙ ap not h))

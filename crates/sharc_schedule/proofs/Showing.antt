@@ -1,29 +1,11 @@
 -- What a replay shows: places with the same ends enable the same threads, end alike and show the same.
-use Rattle.std.proofs.Common.{◌≡◌, ℕ, ◌≤◌, false, not, ◌&&◌, nat_lt, List, [], ◌++◌, None, filter, refl, sym, ap, ◌∙◌, subst, if◌then◌else◌}
+use Rattle.std.proofs.{Common.{◌≡◌, ℕ, ◌≤◌, false, not, ◌&&◌, nat_lt, List, [], ◌++◌, None, filter, refl, sym, ap, ◌∙◌, subst, if◌then◌else◌}, lemmas.List.append-nil}
 use Rattle.std.specs.List.{range_with_len}
-use Rattle.std.proofs.lemmas.List.{append-nil}
-use Rattle.sharc_code.specs.declared.code.Code.{Code}
-use Rattle.sharc_code.specs.declared.instr.Instr.{Instr}
-use Rattle.sharc_code.specs.declared.instr.Instr.TheVariants.{Lock, Join, CondWait}
-use Rattle.sharc_code.specs.declared.shape.Shape.{Shape}
-use Rattle.sharc_code.specs.Machine.{Machine, Own, instr_at}
-use Rattle.sharc_code.specs.Path.{may_go}
-use Rattle.sharc_code.specs.Runs.{Turn}
-use Rattle.sharc_code.specs.Laws.{RunLaws}
-use Rattle.sharc_code.specs.ThreadLaws.{ThreadLaws, settled}
-use Rattle.sharc_code.specs.Waits.{asks_for, wait_of, waits_now, held_up}
-use Rattle.sharc_code.specs.Whole.{CheckedRun, place_after, IsOn, IsStuck}
+use Rattle.sharc_code.specs.{declared.code.Code.Code, declared.instr.Instr.Instr, declared.instr.Instr.TheVariants.{Lock, Join, CondWait}, declared.shape.Shape.Shape, Machine.{Machine, Own, instr_at}, Path.may_go, Runs.Turn, Laws.RunLaws, ThreadLaws.{ThreadLaws, settled}, Waits.{asks_for, wait_of, waits_now, held_up}, Whole.{CheckedRun, place_after, IsOn, IsStuck}}
 use Rattle.sharc_cpu.specs.Thread.{ThreadView}
-use Rattle.sharc_threads.specs.declared.end.End.{End}
-use Rattle.sharc_threads.specs.declared.end.End.TheVariants.{AllDone, Stuck, Budget}
-use Rattle.sharc_threads.specs.Ends.{Standing, is_enabled, AllAreDone, EndIs, IsAt}
-use Rattle.sharc_schedule.specs.Schedule.{arranged, without_tries, scheduled_turns, places_of, one_by_one, schedule_of, Stored}
-use Rattle.sharc_schedule.specs.Laws.{SameEnds, Shows, RunsWithoutTries, ScheduledRuns, SchedulesReplay, ReplaysShow, ScheduleLaws}
-use Rattle.sharc_schedule.proofs.Arranging.{arrange}
-use Rattle.sharc_schedule.proofs.Trying.{may_settle, same_may, without, NoTries}
-use Rattle.sharc_schedule.proofs.Together.{counted}
-use Rattle.sharc_schedule.proofs.Fitting.{fit}
-use Rattle.sharc_schedule.proofs.Replaying.{chosen_by, one_run}
+use Rattle.sharc_threads.specs.{declared.end.End.End, declared.end.End.TheVariants.{AllDone, Stuck, Budget}, Ends.{Standing, is_enabled, AllAreDone, EndIs, IsAt}}
+use Rattle.sharc_schedule.specs.{Schedule.{arranged, without_tries, scheduled_turns, places_of, one_by_one, schedule_of, Stored}, Laws.{SameEnds, Shows, RunsWithoutTries, ScheduledRuns, SchedulesReplay, ReplaysShow, ScheduleLaws}}
+use Rattle.sharc_schedule.proofs.{Arranging.arrange, Trying.{may_settle, same_may, without, NoTries}, Together.counted, Fitting.fit, Replaying.{chosen_by, one_run}}
 
 same_asks : (s : Shape) (i : Instr) (m : Machine) → asks_for s i (settled m) ≡ asks_for s i m
 same_asks s (Lock cell site) m = refl

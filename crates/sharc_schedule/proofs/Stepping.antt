@@ -1,18 +1,10 @@
 -- From run to run.
-use Rattle.std.proofs.Common.{◌≡◌, ℕ, suc, ◌+◌, ◌<◌, List, ◌++◌, length, get_or, refl, ap, ◌∙◌, subst, arith}
-use Rattle.sharc_word.specs.declared.step.WordEvent.{WordEvent}
-use Rattle.sharc_code.specs.declared.code.Code.{Code}
-use Rattle.sharc_code.specs.declared.shape.Shape.{Shape}
-use Rattle.sharc_code.specs.Runs.{Turn}
-use Rattle.sharc_schedule.specs.declared.places.Going.{Going}
-use Rattle.sharc_schedule.specs.Going.{Reached, Stepped, Followed, thread_at}
-use Rattle.sharc_schedule.proofs.Lasts.{same_at}
+use Rattle.std.proofs.Common.{◌≡◌, ℕ, suc, ◌+◌, ◌<◌, List, ◌++◌, refl, ◌∙◌, subst, arith}
+use Rattle.sharc_code.specs.{declared.code.Code.Code, declared.shape.Shape.Shape, Runs.Turn}
+use Rattle.sharc_schedule.specs.{declared.places.Going.Going, Going.{Reached, Stepped, Followed}}
 
 pub stepped : (code : Code) (s : Shape) (limit t u : ℕ) (turns : List Turn) (going : Going) → t ≡ u → (r : Reached code s limit t turns going) → Stepped code s limit u turns (r.more ++ turns)
 stepped code s limit t u turns going e r = subst (λ v. Stepped code s limit v turns (r.more ++ turns)) e record { more = r.more; own = r.own; is = refl; ends = r.ends }
 
 pub once_more : (code : Code) (s : Shape) (limit : ℕ) (pick : ℕ → ℕ) (first before turns : List Turn) (n : ℕ) → Followed code s limit pick first n before → Stepped code s limit (pick n) before turns → Followed code s limit pick first (n + 1) turns
 once_more code s limit pick first before turns n f g = subst (λ k. Followed code s limit pick first k turns) (let e : suc n ≡ n + 1 = omega arith in e) (before, f, g)
-
-pub thread_is : (journal : List WordEvent) (i : ℕ) (event : WordEvent) → i < length journal → event ≡ get_or journal i event → event.thread ≡ thread_at journal i
-thread_is journal i event low is = ap (λ (e : WordEvent). e.thread) (is ∙ same_at journal i event _ low)

@@ -2,19 +2,9 @@
 use Rattle.std.proofs.Common.{◌≡◌, ◌≢◌, ℕ, ◌+◌, ◌≤◌, Bool, true, false, ◌||◌, nat_eq, List, [], ◌∷◌, refl, sym, ap, ◌∙◌, subst, arith, eq-eqb, ne_eqb, if◌then◌else◌}
 use native.Mathlib.Decide.{ℕ_discrete}
 use Rattle.sharc_tree.specs.declared.event.SourceEvent.{SourceEvent}
-use Rattle.sharc_code.specs.declared.code.Code.{Code}
-use Rattle.sharc_code.specs.declared.shape.Shape.{Shape}
-use Rattle.sharc_code.specs.declared.state.State.{State}
-use Rattle.sharc_code.specs.declared.state.State.TheVariants.{Runs, Tries, Stopped, Ended}
-use Rattle.sharc_code.specs.Machine.{Machine, fails}
-use Rattle.sharc_code.specs.Opening.{opening_words}
-use Rattle.sharc_code.specs.Path.{turn, after, asked_by, may_go, counted}
-use Rattle.sharc_code.specs.Runs.{Turn, Global, OneThread, MayTurn, IsRun, Answered, is_started, result_of, put, state_now, made_now, words_now, after_turn, opening_of}
-use Rattle.sharc_code.specs.ThreadLaws.{ThreadLaws, settle, settled}
-use Rattle.sharc_code.specs.Whole.{one_thread, bounds, place_after}
-use Rattle.sharc_schedule.specs.Schedule.{is_try, without_tries}
-use Rattle.sharc_schedule.specs.Laws.{SameEnds}
-use Rattle.sharc_schedule.proofs.Plain.{if_no, if_yes, or_known}
+use Rattle.sharc_code.specs.{declared.code.Code.Code, declared.shape.Shape.Shape, declared.state.State.State, declared.state.State.TheVariants.{Runs, Tries, Stopped, Ended}, Machine.{Machine, fails}, Opening.opening_words, Path.{turn, after, asked_by, may_go, counted}, Runs.{Turn, Global, OneThread, MayTurn, IsRun, Answered, is_started, result_of, put, state_now, made_now, words_now, after_turn, opening_of}, ThreadLaws.{ThreadLaws, settle, settled}, Whole.{one_thread, bounds, place_after}}
+use Rattle.sharc_schedule.specs.{Schedule.{is_try, without_tries}, Laws.SameEnds}
+use Rattle.sharc_lemmas.proofs.Bools.{if_false as if_no, if_true as if_yes, or_known}
 
 -- ---- one thread
 pub tries_where : (state : State) → is_try state ≡ true → state ≡ Tries

@@ -1,31 +1,14 @@
 -- One more turn of the run that makes a schedule.
-use Rattle.std.proofs.Common.{◌≡◌, ℕ, zero, suc, ◌<◌, ◌≤◌, Bool, true, false, List, [], ◌∷◌, ◌++◌, length, replicate, get_or, sym, ap, ◌∙◌, subst, arith, inl, inr}
+use Rattle.std.proofs.{Common.{◌≡◌, ℕ, zero, suc, ◌<◌, ◌≤◌, Bool, true, false, List, [], ◌∷◌, ◌++◌, length, replicate, get_or, sym, ap, ◌∙◌, subst, arith, inl}, lemmas.Bool.{false_from_ne_true as true_or_false}}
 use Rattle.std.specs.Prelude.{nat_lt}
-use Rattle.std.specs.List.{range_with_len}
-use Rattle.std.proofs.lemmas.List.FromFn.{length-range_with_len}
 use native.Mathlib.Decide.{ℕ_discrete}
 use Rattle.sharc_word.specs.declared.step.TheConstants.{THREADS}
-use Rattle.sharc_code.specs.declared.code.Code.{Code}
-use Rattle.sharc_code.specs.declared.shape.Shape.{Shape}
-use Rattle.sharc_code.specs.Laws.{RunLaws}
-use Rattle.sharc_code.specs.Path.{may_go, counted}
-use Rattle.sharc_code.specs.Runs.{Turn, state_now, made_now}
-use Rattle.sharc_code.specs.ThreadLaws.{ThreadLaws}
-use Rattle.sharc_code.specs.Whole.{one_thread, place_after}
-use Rattle.sharc_threads.specs.Ends.{Standing, is_enabled}
-use Rattle.sharc_threads.specs.Laws.{TableLaws}
-use Rattle.sharc_seq.specs.declared.walk.Walk.{Walk}
-use Rattle.sharc_seq.specs.Run.{enabled}
-use Rattle.sharc_seq.specs.Walk.{StandsAt, WentOn}
-use Rattle.sharc_schedule.specs.declared.places.Going.{Going}
-use Rattle.sharc_schedule.specs.Schedule.{is_try, place_in, places_of, counted_together}
-use Rattle.sharc_schedule.specs.Going.{AllCount, GoesAt, OneMore, Walked, Reached}
-use Rattle.sharc_schedule.proofs.Fitting.{Counted, sum_bound, all_counted, places_small, made_all}
-use Rattle.sharc_schedule.proofs.Following.{no_count}
-use Rattle.sharc_schedule.proofs.Among.{place_within, among_filter, among_range}
-use Rattle.sharc_schedule.proofs.Replaying.{Run, Few, places_length}
-use Rattle.sharc_schedule.proofs.Trying.{NoTries, put_own, put_other}
-use Rattle.sharc_schedule.proofs.Plain.{both, filter_less, lt_true, true_or_false}
+use Rattle.sharc_code.specs.{declared.code.Code.Code, declared.shape.Shape.Shape, Laws.RunLaws, Path.{may_go, counted}, Runs.{Turn, state_now, made_now}, ThreadLaws.ThreadLaws, Whole.{one_thread, place_after}}
+use Rattle.sharc_threads.specs.{Ends.{Standing, is_enabled}, Laws.TableLaws}
+use Rattle.sharc_seq.specs.{declared.walk.Walk.Walk, Run.enabled, Walk.{StandsAt, WentOn}}
+use Rattle.sharc_schedule.specs.{declared.places.Going.Going, Schedule.{is_try, place_in, places_of, counted_together}, Going.{AllCount, GoesAt, OneMore, Walked, Reached}}
+use Rattle.sharc_schedule.proofs.{Fitting.{Counted, sum_bound, all_counted, places_small, made_all}, Following.no_count, Replaying.{Run, Few, places_length}, Trying.{NoTries, put_own, put_other}}
+use Rattle.sharc_lemmas.proofs.{Bools.both, Numbers.lt_true}
 
 -- ---- who is enabled
 -- it does not matter by which run it is determined who is enabled

@@ -1,16 +1,11 @@
 -- What the proof of the call that makes a schedule needs: where its run is, and by which turns it goes on.
 use Rattle.std.specs.Prelude.{ℕ, zero, suc, ◌≡◌, ◌≤◌, ◌⊎◌, Bool, true, false, List, [], ◌∷◌, ◌++◌, slice_index_or}
-use Rattle.sharc_word.specs.declared.step.WordEvent.{WordEvent}
-use Rattle.sharc_word.specs.declared.step.WordOp.TheVariants.{Load}
-use Rattle.sharc_code.specs.declared.code.Code.{Code}
-use Rattle.sharc_code.specs.declared.shape.Shape.{Shape}
-use Rattle.sharc_code.specs.Path.{counted}
-use Rattle.sharc_code.specs.Runs.{Turn, Owns, state_now}
-use Rattle.sharc_code.specs.Whole.{one_thread, place_after}
+use Rattle.sharc_word.specs.{declared.step.WordEvent.WordEvent, declared.step.WordOp.TheVariants.Load}
+use Rattle.sharc_code.specs.{declared.code.Code.Code, declared.shape.Shape.Shape, Path.counted}
+use Rattle.sharc_code.specs.{Runs.{Turn, Owns, state_now}, Whole.{one_thread, place_after}}
 use Rattle.sharc_threads.specs.Ends.{is_enabled}
 use Rattle.sharc_seq.specs.Walk.{has_event, StandsAt, AreQuietTurns}
-use Rattle.sharc_schedule.specs.Schedule.{places_of, counted_together}
-use Rattle.sharc_schedule.specs.declared.places.Going.{Going}
+use Rattle.sharc_schedule.specs.{Schedule.{places_of, counted_together}, declared.places.Going.Going}
 
 -- no turn is a failed try
 abbrev pub AllCount : Code → Shape → List Turn → Type 0

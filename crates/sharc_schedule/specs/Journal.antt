@@ -1,9 +1,7 @@
 -- The runs of a journal.
 use Rattle.std.specs.Prelude.{ℕ, ◌≡◌, ◌≤◌, false, List}
 use Rattle.sharc_word.specs.declared.step.WordEvent.{WordEvent}
-use Rattle.sharc_code.specs.declared.code.Code.{Code}
-use Rattle.sharc_code.specs.declared.shape.Shape.{Shape}
-use Rattle.sharc_code.specs.Runs.{Turn, word_events}
+use Rattle.sharc_code.specs.{declared.code.Code.Code, declared.shape.Shape.Shape, Runs.{Turn, word_events}}
 use Rattle.sharc_code.specs.Whole.{CheckedRun, place_after}
 use Rattle.sharc_threads.specs.Ends.{is_enabled}
 

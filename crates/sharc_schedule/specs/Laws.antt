@@ -1,16 +1,10 @@
 -- Laws of schedules, for the crates above.
-use Rattle.std.specs.Prelude.{ℕ, ◌≡◌, ◌≤◌, false, List, map, filter}
-use Rattle.std.specs.List.{range_with_len, All}
+use Rattle.std.specs.{Prelude.{ℕ, ◌≡◌, ◌≤◌, false, List, map, filter}, List.{range_with_len, All}}
 use Rattle.sharc_word.specs.declared.step.TheConstants.{THREADS}
-use Rattle.sharc_code.specs.declared.code.Code.{Code}
-use Rattle.sharc_code.specs.declared.shape.Shape.{Shape}
-use Rattle.sharc_code.specs.Runs.{Turn, word_events}
-use Rattle.sharc_code.specs.ThreadLaws.{settled}
-use Rattle.sharc_code.specs.Waits.{wait_of}
-use Rattle.sharc_code.specs.Whole.{CheckedRun, place_after}
+use Rattle.sharc_code.specs.{declared.code.Code.Code, declared.shape.Shape.Shape, Runs.{Turn, word_events}}
+use Rattle.sharc_code.specs.{ThreadLaws.settled, Waits.wait_of, Whole.{CheckedRun, place_after}}
 use Rattle.sharc_cpu.specs.Thread.{ThreadView}
-use Rattle.sharc_seq.specs.declared.run.SeqRun.{SeqRun}
-use Rattle.sharc_seq.specs.Run.{AreChosen, IsSeqRun}
+use Rattle.sharc_seq.specs.{declared.run.SeqRun.SeqRun, Run.{AreChosen, IsSeqRun}}
 use Rattle.sharc_threads.specs.Ends.{Standing, is_enabled, EndIs}
 use Rattle.sharc_recorded.specs.File.{ArePlaces}
 use Rattle.sharc_schedule.specs.Schedule.{arranged, without_tries, scheduled_turns, counted_together, one_by_one, schedule_of, Stored}

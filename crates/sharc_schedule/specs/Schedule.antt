@@ -1,12 +1,8 @@
 -- The schedule of a run: its turns in the order of its word operations, without failed tries, each as a place among the enabled threads.
 use Rattle.std.specs.Prelude.{ℕ, zero, suc, ◌≡◌, Bool, true, false, nat_eq, nat_lt, List, [], ◌∷◌, ◌++◌, Option, Some, None, replicate, slice_index, if◌then◌else◌}
-use Rattle.sharc_word.specs.declared.step.WordEvent.{WordEvent}
-use Rattle.sharc_word.specs.declared.step.TheConstants.{THREADS}
-use Rattle.sharc_code.specs.declared.code.Code.{Code}
-use Rattle.sharc_code.specs.declared.shape.Shape.{Shape}
-use Rattle.sharc_code.specs.declared.state.State.{State}
-use Rattle.sharc_code.specs.declared.state.State.TheVariants.{Runs, Tries, Stopped, Ended}
-use Rattle.sharc_code.specs.Runs.{Turn, state_now}
+use Rattle.sharc_word.specs.{declared.step.WordEvent.WordEvent, declared.step.TheConstants.THREADS}
+use Rattle.sharc_code.specs.{declared.code.Code.Code, declared.shape.Shape.Shape, declared.state.State.State}
+use Rattle.sharc_code.specs.{declared.state.State.TheVariants.{Runs, Tries, Stopped, Ended}, Runs.{Turn, state_now}}
 use Rattle.sharc_code.specs.Whole.{one_thread, place_after}
 use Rattle.sharc_seq.specs.Run.{enabled}
 

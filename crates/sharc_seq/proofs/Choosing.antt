@@ -1,40 +1,13 @@
 -- Which threads are enabled, and the one that is chosen among them.
-use Rattle.std.proofs.Common.{◌≡◌, ℕ, zero, suc, ◌+◌, ◌<◌, ◌≤◌, Bool, true, false, not, List, [], ◌∷◌, ◌++◌, length, get_or, filter, refl, sym, ap, ◌∙◌, subst, arith, ⊎_elim}
-use Rattle.std.specs.Prelude.{nat_lt, ◌&&◌, if◌then◌else◌}
-use Rattle.std.specs.List.{range_with_len}
-use Rattle.std.proofs.lemmas.Bool.{cases_lt}
-use Rattle.std.proofs.lemmas.List.{append-nil}
-use Rattle.std.proofs.lemmas.List.Elements.{filter-append}
+use Rattle.std.proofs.{Common.{◌≡◌, ℕ, zero, suc, ◌+◌, ◌<◌, ◌≤◌, Bool, true, false, not, List, [], ◌∷◌, ◌++◌, length, get_or, filter, refl, sym, ap, ◌∙◌, subst, arith, ⊎_elim}, lemmas.Bool.{cases_lt, and_left as off}, lemmas.List.append-nil, lemmas.List.Elements.filter-append}
+use Rattle.std.specs.{Prelude.{nat_lt, ◌&&◌, if◌then◌else◌}, List.range_with_len}
 use Rattle.sharc_word.specs.declared.step.TheConstants.{THREADS}
-use Rattle.sharc_code.specs.declared.code.Code.{Code}
-use Rattle.sharc_code.specs.declared.shape.Shape.{Shape}
-use Rattle.sharc_code.specs.Path.{may_go}
-use Rattle.sharc_code.specs.Waits.{waits_now}
+use Rattle.sharc_code.specs.{declared.code.Code.Code, declared.shape.Shape.Shape, Path.may_go, Waits.waits_now}
 use Rattle.sharc_threads.specs.Ends.{Standing, is_enabled}
 use Rattle.sharc_seq.specs.Run.{enabled}
+use Rattle.sharc_lemmas.proofs.Lists.{any_default, fails, passes, nothing, up_to}
 
 -- ---- the list of those that are
-shifted : (a n : ℕ) → (a ∷ []) ++ range_with_len (a + 1) n ≡ range_with_len a (suc n)
-shifted a n = refl
-
--- one number more comes at the end
-pub range_more : (a n : ℕ) → range_with_len a (suc n) ≡ range_with_len a n ++ (a + n) ∷ []
-range_more a zero = ap (λ k. k ∷ []) (omega arith)
-range_more a (suc n) = ap (λ xs. a ∷ xs) (range_more (a + 1) n ∙ ap (λ k. range_with_len (a + 1) n ++ k ∷ []) (omega arith))
-
-passes : (b : Bool) (n : ℕ) → b ≡ true → (if b then n ∷ [] else []) ≡ n ∷ []
-passes true n e = refl
-passes false n e = cc
-
-fails : (b : Bool) (n : ℕ) → b ≡ false → (if b then n ∷ [] else []) ≡ []
-fails true n e = cc
-fails false n e = refl
-
-up_to : (p : ℕ → Bool) (n : ℕ) → filter p (range_with_len 0 (n + 1)) ≡ filter p (range_with_len 0 n) ++ (if p n then n ∷ [] else [])
-up_to p n =
-    ap (λ k. filter p (range_with_len 0 k)) (let e : n + 1 ≡ suc n = omega arith in e)
-    ∙ ap (filter p) (range_more 0 n ∙ ap (λ k. range_with_len 0 n ++ k ∷ []) (let e : 0 + n ≡ n = omega arith in e))
-    ∙ filter-append p (range_with_len 0 n) (n ∷ [])
 
 pub up_to_yes : (p : ℕ → Bool) (n : ℕ) → p n ≡ true → filter p (range_with_len 0 (n + 1)) ≡ filter p (range_with_len 0 n) ++ n ∷ []
 up_to_yes p n e = up_to p n ∙ ap (λ xs. filter p (range_with_len 0 n) ++ xs) (passes (p n) n e)
@@ -73,10 +46,6 @@ unlisted p from (suc n) h (suc k) low =
 -- ---- lists that are given by other functions
 passed : (b c : Bool) (x : ℕ) (xs ys : List ℕ) → b ≡ c → xs ≡ ys → (if b then x ∷ xs else xs) ≡ (if c then x ∷ ys else ys)
 passed b c x xs ys e f = cc
-
-pub filter_same : (p q : ℕ → Bool) (xs : List ℕ) → ((n : ℕ) → p n ≡ q n) → filter p xs ≡ filter q xs
-filter_same p q [] same = refl
-filter_same p q (x ∷ xs) same = passed (p x) (q x) x (filter p xs) (filter q xs) (same x) (filter_same p q xs same)
 
 one_less : (p q : ℕ → Bool) (x : ℕ) (xs : List ℕ) (b c : Bool) → p x ≡ b → q x ≡ c → (b ≡ true → c ≡ true) → filter p (filter q xs) ≡ filter p xs
     → filter p (if c then x ∷ filter q xs else filter q xs) ≡ (if b then x ∷ filter p xs else filter p xs)
@@ -118,10 +87,6 @@ filter_no p xs n d low e =
     ap (filter p) (firsts_more xs n d low) ∙ filter-append p (firsts n xs) (get_or xs n d ∷ []) ∙ ap (λ ys. filter p (firsts n xs) ++ ys) (fails (p (get_or xs n d)) (get_or xs n d) e) ∙ append-nil (filter p (firsts n xs))
 
 -- ---- who is enabled
-off : (a b : Bool) → a ≡ false → (a && b) ≡ false
-off true b e = cc
-off false b e = refl
-
 below_or : (started : Bool) (t n : ℕ) → (started ≡ true → t < n) → n ≤ t → started ≡ false
 below_or true t n low h = absurd (let k : t < n = low refl in omega (arith, k, h))
 below_or false t n low h = refl
@@ -134,18 +99,8 @@ none_enabled code s limit g fits few none t =
     (λ (high : s.threads ≤ t). off (g.started t) (may_go (g.threads t).at.state && (nat_lt (g.made t) limit && not (waits_now code s g.words (g.threads t)))) (below_or (g.started t) t THREADS (few t) (omega (arith, high, fits))))
     (cases_lt t s.threads)
 
--- within a list the default is not looked at
-pub any_default : {X : Type 0} (xs : List X) (i : ℕ) (d e : X) → i < length xs → get_or xs i d ≡ get_or xs i e
-any_default [] i d e h = absurd (omega (arith, h))
-any_default (x ∷ xs) zero d e h = refl
-any_default (x ∷ xs) (suc i) d e h = any_default xs i d e (omega (arith, h))
-
 pub picked : (code : Code) (s : Shape) (limit : ℕ) (g : Standing) (among : List ℕ) (place number : ℕ) → among ≡ enabled code s limit g → place < length among → number ≡ get_or among place number
     → Passes (is_enabled code s limit g) 0 s.threads number
 picked code s limit g among place number e low is =
     subst (Passes (is_enabled code s limit g) 0 s.threads) (sym (is ∙ ap (λ (xs : List ℕ). get_or xs place number) e ∙ any_default (enabled code s limit g) place number 0 (subst (λ (xs : List ℕ). place < length xs) e low)))
     (listed (is_enabled code s limit g) 0 s.threads place (subst (λ (xs : List ℕ). place < length xs) e low))
-
-pub nothing : (xs : List ℕ) → length xs ≡ 0 → xs ≡ []
-nothing [] e = refl
-nothing (x ∷ xs) e = absurd (omega (arith, e))

@@ -1,39 +1,15 @@
 -- A run grows by the turn that was made.
-use Rattle.std.proofs.Common.{◌≡◌, ℕ, suc, ◌+◌, ◌-◌, ◌<◌, ◌≤◌, Bool, true, false, List, [], ◌∷◌, ◌++◌, length, get_or, set, filter, Option, Some, None, refl, sym, ap, ◌∙◌, subst, arith, ⊎_elim}
-use Rattle.std.specs.Prelude.{nat_eq, nat_lt, ◌||◌, is_some, reverse}
-use Rattle.std.specs.List.{range_with_len}
-use Rattle.std.proofs.lemmas.Bool.Decides.{nat_tests}
-use Rattle.std.proofs.lemmas.Bool.{cases_eq}
-use Rattle.std.proofs.lemmas.List.{get_or-set_same, get_or-set_other, length-set, length-reverse, reverse-append}
-use Rattle.std.proofs.lemmas.List.Sums.{sum_by-set}
-use Rattle.sharc_word.specs.Place.{Place, LeadsInWords, place_of_words}
-use Rattle.sharc_word.specs.declared.step.TheConstants.{THREADS}
-use Rattle.sharc_code.specs.declared.code.Code.{Code}
-use Rattle.sharc_code.specs.declared.shape.Shape.{Shape}
-use Rattle.sharc_code.specs.Machine.{Machine, Turn as Act, Local, Asks}
-use Rattle.sharc_code.specs.Path.{turn, after, asked_by, TurnLeads, may_go, counted}
-use Rattle.sharc_code.specs.Runs.{Turn, turn_with, result_of, step_of, IsOf, put, words_now, state_now, made_now, after_turn, Answered, MayTurn, is_started, threads_of}
-use Rattle.sharc_code.specs.Stages.{begins_of}
-use Rattle.sharc_code.specs.StandingLaws.{StandingLaws}
-use Rattle.sharc_code.specs.ThreadLaws.{found_now}
-use Rattle.sharc_code.specs.Whole.{one_thread, bounds, place_after, event_in}
+use Rattle.std.proofs.{Common.{◌≡◌, ℕ, suc, ◌+◌, ◌-◌, ◌<◌, ◌≤◌, Bool, true, List, [], ◌∷◌, ◌++◌, length, get_or, set, filter, Option, Some, None, refl, sym, ap, ◌∙◌, subst, arith, ⊎_elim}, lemmas.Bool.cases_eq, lemmas.List.{get_or-set_same, get_or-set_other, length-set, length-reverse, reverse-append}, lemmas.List.Sums.sum_by-set}
+use Rattle.std.specs.{Prelude.{nat_lt, ◌||◌, is_some, reverse}, List.range_with_len}
+use Rattle.sharc_word.specs.{Place.{Place, LeadsInWords, place_of_words}, declared.step.TheConstants.THREADS}
+use Rattle.sharc_code.specs.{declared.code.Code.Code, declared.shape.Shape.Shape, Machine.{Machine, Turn as Act, Local, Asks}, Path.{turn, after, asked_by, TurnLeads, may_go, counted}, Runs.{Turn, turn_with, result_of, step_of, IsOf, put, words_now, state_now, made_now, after_turn, Answered, MayTurn, is_started, threads_of}, Stages.begins_of, StandingLaws.StandingLaws, ThreadLaws.found_now, Whole.{one_thread, bounds, place_after, event_in}}
 use Rattle.sharc_cpu.specs.Thread.{ThreadView}
-use Rattle.sharc_threads.specs.Ends.{Standing, is_enabled}
-use Rattle.sharc_threads.specs.Laws.{TableLaws}
-use Rattle.sharc_threads.specs.Seats.{Sits, IsSeat, AreSeats, AreOf, may_turn_at, left, left_to}
-use Rattle.sharc_seq.specs.declared.walk.Walk.{Walk}
-use Rattle.sharc_seq.specs.Run.{enabled, IsChosen}
-use Rattle.sharc_seq.specs.Walk.{IsThreadAt, MadeTurn, MadeTurnAt, ToldAt, FoundAt, Began, StandsAt, WentOn, numbers_of, has_step, has_event}
-use Rattle.sharc_seq.proofs.Made.{both, lt_true}
-use Rattle.sharc_seq.proofs.Choosing.{picked, any_default, filter_same, filter_less}
+use Rattle.sharc_threads.specs.{Ends.{Standing, is_enabled}, Laws.TableLaws, Seats.{Sits, IsSeat, AreSeats, AreOf, may_turn_at, left, left_to}}
+use Rattle.sharc_seq.specs.{declared.walk.Walk.Walk, Run.{enabled, IsChosen}, Walk.{IsThreadAt, MadeTurn, MadeTurnAt, ToldAt, FoundAt, Began, StandsAt, WentOn, numbers_of, has_step, has_event}}
+use Rattle.sharc_seq.proofs.Choosing.{picked, filter_less}
+use Rattle.sharc_lemmas.proofs.{Bools.{both, or_known}, Numbers.{ne_eq, lt_true, eq_refl}, Lists.{any_default, filter_agrees as filter_same}}
 
 -- ---- functions changed at one place
-eq_refl : (n : ℕ) → nat_eq n n ≡ true
-eq_refl n = grind (arith, nat_tests)
-
-ne_eq : (m n : ℕ) → (m ≡ n → ⊥) → nat_eq m n ≡ false
-ne_eq m n ne = grind (arith, nat_tests)
-
 pub put_same : {A : Type 0} (f : ℕ → A) (i : ℕ) (v : A) → put f i v i ≡ v
 put_same f i v = rw (eq_refl i) refl
 
@@ -210,10 +186,6 @@ sits laws code s limit g words seats t x of on e =
       thread = thread_at code s g.threads g.made g.started t x is;
       may = ap (may_turn_at words limit) e ∙ laws.enabled code s limit g words seats of t ∙ on;
     }
-
-pub or_known : (a b : Bool) → (a ≡ true → b ≡ true) → (a || b) ≡ b
-or_known true b h = sym (h refl)
-or_known false b h = refl
 
 pub same_some : (seats : List (Option ThreadView)) (t : ℕ) (old new : ThreadView) → t < length seats → get_or seats t None ≡ Some old → (k : ℕ) → is_some (get_or (set seats t (Some new)) k None) ≡ is_some (get_or seats k None)
 same_some seats t old new low is k =

@@ -1,27 +1,13 @@
 -- A quantum of one turn of an enabled thread makes one turn, which is an event.
-use Rattle.std.proofs.Common.{◌≡◌, ℕ, suc, ◌+◌, ◌<◌, ◌==◌, Bool, true, false, not, List, [], ◌∷◌, length, refl, sym, ap, ◌∙◌, subst, arith}
-use Rattle.std.specs.Prelude.{nat_lt, ◌&&◌, if◌then◌else◌}
-use Rattle.std.proofs.lemmas.Bool.Decides.{nat_tests}
+use Rattle.std.proofs.Common.{◌≡◌, ℕ, suc, ◌+◌, ◌<◌, ◌==◌, Bool, true, false, List, [], ◌∷◌, length, refl, sym, ap, ◌∙◌, subst, arith}
+use Rattle.std.specs.Prelude.{◌&&◌, if◌then◌else◌}
 use Rattle.sharc_word.specs.Place.{Place, Leads, LeadsInWords, place_of_words}
-use Rattle.sharc_code.specs.declared.code.Code.{Code}
-use Rattle.sharc_code.specs.declared.shape.Shape.{Shape}
-use Rattle.sharc_code.specs.declared.state.State.{State}
-use Rattle.sharc_code.specs.declared.state.State.TheVariants.{Runs, Tries}
+use Rattle.sharc_code.specs.{declared.code.Code.Code, declared.shape.Shape.Shape, declared.state.State.State, declared.state.State.TheVariants.{Runs, Tries}, Machine.{Machine, Turn, Local, Asks}, Path.{turn, after, events_of_turn, TurnLeads, may_go, counted, machine_after, events_of_path, made_in}, ThreadLaws.{ThreadLaws, found_now, behind}, Waits.waits_now}
 use Rattle.sharc_code.specs.declared.state.State.TheVariants as states
-use Rattle.sharc_code.specs.Machine.{Machine, Turn, Local, Asks}
-use Rattle.sharc_code.specs.Path.{turn, after, events_of_turn, TurnLeads, may_go, counted, machine_after, events_of_path, made_in}
-use Rattle.sharc_code.specs.ThreadLaws.{ThreadLaws, found_now, behind}
-use Rattle.sharc_code.specs.Waits.{waits_now}
-use Rattle.sharc_cpu.specs.Thread.{ThreadView}
-use Rattle.sharc_cpu.specs.Quantum.{IsQuantum, pause_of}
-use Rattle.sharc_cpu.specs.declared.quantum.Pause.{Pause}
-use Rattle.sharc_cpu.specs.declared.quantum.Pause.TheVariants.{Ran, Spent}
+use Rattle.sharc_cpu.specs.{Thread.ThreadView, Quantum.{IsQuantum, pause_of}, declared.quantum.Pause.Pause, declared.quantum.Pause.TheVariants.{Ran, Spent}}
+use Rattle.sharc_lemmas.proofs.Numbers.{below}
 
 -- ---- answers
--- below the limit no turn at all is answered with Ran where one may come
-below : (made limit : ℕ) → made < limit → (made == limit) ≡ false
-below made limit h = grind (arith, nat_tests)
-
 ran_or_spent : (b : Bool) → b ≡ false → (if b then Spent else Ran) ≡ Ran
 ran_or_spent true e = cc
 ran_or_spent false e = refl
@@ -94,13 +80,3 @@ module _ (laws : ThreadLaws) (code : Code) (s : Shape) (limit : ℕ) (words now 
   one_turn q may below off = by_founds q may below off q.goes.founds refl
 
 -- ---- what enabled means
-pub both : (a b : Bool) → (a && b) ≡ true → (a ≡ true) × (b ≡ true)
-both true b e = (refl, e)
-both false b e = absurd (let h : false ≡ true = e in cc)
-
-pub not_true : (b : Bool) → not b ≡ true → b ≡ false
-not_true true e = absurd (let h : false ≡ true = e in cc)
-not_true false e = refl
-
-pub lt_true : (m n : ℕ) → nat_lt m n ≡ true → m < n
-lt_true m n e = grind (arith, nat_tests)

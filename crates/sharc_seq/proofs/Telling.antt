@@ -1,17 +1,9 @@
 -- A quantum of one turn over a port that reports whether it made a step, and what that found.
 use Rattle.std.proofs.Common.{◌≡◌, ℕ, ◌+◌, Bool, true, false, List, [], ◌∷◌, length, refl, sym, ap, ◌∙◌, subst, arith}
-use Rattle.sharc_word.specs.declared.step.WordEvent.{WordEvent}
-use Rattle.sharc_word.specs.Place.{Place, Leads, LeadsInWords, place_of_words}
-use Rattle.sharc_code.specs.declared.code.Code.{Code}
-use Rattle.sharc_code.specs.declared.shape.Shape.{Shape}
-use Rattle.sharc_code.specs.Machine.{Turn, Local, Asks}
-use Rattle.sharc_code.specs.Path.{turn, asked_by, events_of_turn, events_of_path, made_in}
-use Rattle.sharc_code.specs.ThreadLaws.{found_now}
-use Rattle.sharc_cpu.specs.Thread.{ThreadView}
-use Rattle.sharc_cpu.specs.Quantum.{IsQuantum}
-use Rattle.sharc_cpu.specs.declared.quantum.Pause.{Pause}
-use Rattle.sharc_seq.specs.Told.{as_number, place_told, told_in, found_in, words_in, LeadsTold}
-use Rattle.sharc_seq.specs.Walk.{has_step}
+use Rattle.sharc_word.specs.{declared.step.WordEvent.WordEvent, Place.{Place, Leads, LeadsInWords, place_of_words}}
+use Rattle.sharc_code.specs.{declared.code.Code.Code, declared.shape.Shape.Shape, Machine.{Turn, Local, Asks}, Path.{turn, asked_by, events_of_turn, events_of_path, made_in}, ThreadLaws.found_now}
+use Rattle.sharc_cpu.specs.{Thread.ThreadView, Quantum.IsQuantum, declared.quantum.Pause.Pause}
+use Rattle.sharc_seq.specs.{Told.{as_number, place_told, told_in, found_in, words_in, LeadsTold}, Walk.has_step}
 
 leads_words : (events : List WordEvent) (from to : Place) → Leads LeadsTold from events to → Leads LeadsInWords (place_of_words (words_in from.words)) events (place_of_words (words_in to.words))
 leads_words [] from to h = ap (λ (p : Place). place_of_words (words_in p.words)) h

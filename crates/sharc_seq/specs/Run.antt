@@ -1,9 +1,7 @@
 -- Runs of which one chooser chooses each turn: who makes it, and where the run ends.
 use Rattle.std.specs.Prelude.{ℕ, ◌≡◌, ◌<◌, false, List, [], ◌∷◌, length, filter, reverse, slice_index}
 use Rattle.std.specs.List.{range_with_len}
-use Rattle.sharc_code.specs.declared.code.Code.{Code}
-use Rattle.sharc_code.specs.declared.shape.Shape.{Shape}
-use Rattle.sharc_code.specs.Runs.{Turn, threads_of}
+use Rattle.sharc_code.specs.{declared.code.Code.Code, declared.shape.Shape.Shape, Runs.{Turn, threads_of}}
 use Rattle.sharc_code.specs.Whole.{CheckedRun, place_after}
 use Rattle.sharc_threads.specs.Ends.{Standing, is_enabled, AreStarted, EndIs}
 use Rattle.sharc_seq.specs.declared.run.SeqRun.{SeqRun}

@@ -1,14 +1,9 @@
 -- What a run by a chooser keeps between two turns.
 use Rattle.std.specs.Prelude.{ℕ, ◌≡◌, false, List, reverse}
-use Rattle.sharc_code.specs.declared.code.Code.{Code}
-use Rattle.sharc_code.specs.declared.shape.Shape.{Shape}
-use Rattle.sharc_code.specs.Runs.{Turn, threads_of}
+use Rattle.sharc_code.specs.{declared.code.Code.Code, declared.shape.Shape.Shape, Runs.{Turn, threads_of}}
 use Rattle.sharc_code.specs.Whole.{place_after}
 use Rattle.sharc_threads.specs.Ends.{Standing, is_enabled, AreStarted, EndIs}
-use Rattle.sharc_seq.specs.declared.table.Table.{Table}
-use Rattle.sharc_seq.specs.declared.run.SeqRun.{SeqRun}
-use Rattle.sharc_seq.specs.Run.{AreChosen}
-use Rattle.sharc_seq.specs.Walk.{StandsAt}
+use Rattle.sharc_seq.specs.{declared.table.Table.Table, declared.run.SeqRun.SeqRun, Run.AreChosen, Walk.StandsAt}
 
 -- at this place is a run whose turns were chosen
 pub record IsTable (answers : ℕ → ℕ → ℕ → Type 0) (code : Code) (s : Shape) (limit : ℕ) (table : Table) : Type 0 where

@@ -1,24 +1,16 @@
 -- Runs of which the caller picks each turn: where such a run is, and what one more turn makes of it.
 use Rattle.std.specs.Prelude.{ℕ, ◌≡◌, ◌<◌, ◌≤◌, ◌+◌, Bool, true, false, List, [], ◌∷◌, ◌++◌, length, filter, is_some, Option, Some, None, slice_index_or}
 use Rattle.std.specs.List.{range_with_len}
-use Rattle.sharc_word.specs.Place.{LeadsInWords, place_of_words}
-use Rattle.sharc_word.specs.declared.step.WordEvent.{WordEvent}
-use Rattle.sharc_word.specs.declared.step.WordStep.{WordStep}
-use Rattle.sharc_word.specs.declared.step.TheConstants.{THREADS}
-use Rattle.sharc_code.specs.declared.code.Code.{Code}
-use Rattle.sharc_code.specs.declared.shape.Shape.{Shape}
-use Rattle.sharc_code.specs.Layout.{words_of}
+use Rattle.sharc_word.specs.{Place.{LeadsInWords, place_of_words}, declared.step.WordEvent.WordEvent}
+use Rattle.sharc_word.specs.{declared.step.WordStep.WordStep, declared.step.TheConstants.THREADS}
+use Rattle.sharc_code.specs.{declared.code.Code.Code, declared.shape.Shape.Shape, Layout.words_of}
 use Rattle.sharc_code.specs.Path.{turn, after, asked_by, counted, TurnLeads, machine_after, IsPath as IsCodePath}
-use Rattle.sharc_code.specs.Opening.{opening_words}
-use Rattle.sharc_code.specs.ThreadLaws.{found_now}
-use Rattle.sharc_code.specs.Runs.{Turn, IsRun, opening_of, result_of, state_now}
-use Rattle.sharc_code.specs.Stages.{begins_of}
+use Rattle.sharc_code.specs.{Opening.opening_words, ThreadLaws.found_now}
+use Rattle.sharc_code.specs.{Runs.{Turn, IsRun, opening_of, result_of, state_now}, Stages.begins_of}
 use Rattle.sharc_code.specs.Whole.{one_thread, bounds, place_after}
 use Rattle.sharc_cpu.specs.Thread.{ThreadView, IsThread}
-use Rattle.sharc_threads.specs.Ends.{is_enabled}
-use Rattle.sharc_threads.specs.Seats.{AreSeats, HasBegun, IsSeat, left}
-use Rattle.sharc_seq.specs.declared.walk.Walk.{Walk}
-use Rattle.sharc_seq.specs.Quiet.{MakesQuietly}
+use Rattle.sharc_threads.specs.{Ends.is_enabled, Seats.{AreSeats, HasBegun, IsSeat, left}}
+use Rattle.sharc_seq.specs.{declared.walk.Walk.Walk, Quiet.MakesQuietly}
 
 -- ---- a turn that made one event
 pub record MadeTurn (code : Code) (s : Shape) (words now : List ℕ) (old new : ThreadView) : Type 0 where

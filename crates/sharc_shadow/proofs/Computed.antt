@@ -1,12 +1,8 @@
 -- The functions meet the relations.
-use Rattle.std.proofs.Common.{◌≡◌, ℕ, ◌+◌, ◌^◌, ◌%◌, ◌==◌, ◌||◌, ◌&&◌, true, false, not, bit_and, refl, sym, ap, ◌∙◌, subst, inl, inr, arith, Option}
-use Rattle.std.proofs.lemmas.Bool.{cases_Bool, eq-eqb, ne_eqb, or_right}
-use Rattle.sharc_shadow.specs.declared.shadow_word.Kind.TheVariants.{Read, Write}
-use Rattle.sharc_shadow.specs.ShadowWord.{stands, is_of, epoch_of, Withdraws}
-use Rattle.sharc_shadow.specs.Functions.{bits_of, cleared_of, withdrawn_of, all_but}
-use Rattle.sharc_shadow.specs.Laws.{BitsAreOfAccess, OrAddsAccess, OrLeavesOthers, OrSetsOwnBit, WithdrawnWithdraws, WithdrawnLeavesOthers, ClearedClears}
-use Rattle.sharc_shadow.proofs.OneBit.{or_false, and_true, without_bit, and_fits}
-use Rattle.sharc_shadow.proofs.Sets.{thread_bit, write_bits, adds_access, withdraws_reader, withdraws_writer, clears}
+use Rattle.std.proofs.{Common.{◌≡◌, ℕ, ◌+◌, ◌^◌, ◌%◌, ◌==◌, ◌||◌, ◌&&◌, true, false, not, bit_and, refl, sym, ap, ◌∙◌, subst, inl, inr, arith, Option}, lemmas.Bool.{cases_Bool, eq-eqb, ne_eqb, or_right}}
+use Rattle.sharc_shadow.specs.{declared.shadow_word.Kind.TheVariants.{Read, Write}, ShadowWord.{stands, is_of, epoch_of, Withdraws}, Functions.{bits_of, cleared_of, withdrawn_of, all_but}, Laws.{BitsAreOfAccess, OrAddsAccess, OrLeavesOthers, OrSetsOwnBit, WithdrawnWithdraws, WithdrawnLeavesOthers, ClearedClears}}
+use Rattle.sharc_shadow.proofs.{OneBit.{without_bit, and_fits}, Sets.{thread_bit, write_bits, adds_access, withdraws_reader, withdraws_writer, clears}}
+use Rattle.sharc_lemmas.proofs.Bools.{or_false, and_true}
 
 pub bits_are_of_access : BitsAreOfAccess
 unfolding bits_of

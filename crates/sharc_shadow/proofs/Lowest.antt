@@ -1,14 +1,8 @@
 -- The lowest other thread, and conflicts as a test.
-use Rattle.std.proofs.Common.{◌≡◌, ◌≢◌, ℕ, ◌+◌, ◌<◌, ◌≤◌, zero, suc, ◌==◌, ◌&&◌, Bool, true, false, not, Option, Some, None, is_some, IsTrue, ◌↔◌, refl, sym, ap, ◌∙◌, inl, inr, arith, Decides, if◌then◌else◌}
-use Rattle.std.proofs.lemmas.Bool.{cases_eq, cases_lt, cases_Bool, eq-eqb, ne_eqb, and_parts, false≢true, true≢false}
-use Rattle.std.proofs.lemmas.Bool.Decides.{same_from_decides, Decides-and, Decides-like}
-use Rattle.sharc_shadow.specs.declared.shadow_word.Kind.{Kind}
-use Rattle.sharc_shadow.specs.declared.shadow_word.Kind.TheVariants.{Read, Write}
-use Rattle.sharc_shadow.specs.ShadowWord.{stands, is_written, is_of, epoch_of, IsOther, HasOther, IsFirstOther, Conflicts}
-use Rattle.sharc_shadow.specs.Functions.{lowest_from, lowest_other, conflicts_in, first_in}
-use Rattle.sharc_shadow.proofs.OneBit.{and_true, and_false}
-use Rattle.sharc_shadow.proofs.Sets.{stands_above}
-use Rattle.sharc_shadow.proofs.Conflict.{other_of_conflict}
+use Rattle.std.proofs.{Common.{◌≡◌, ◌≢◌, ℕ, ◌+◌, ◌<◌, ◌≤◌, zero, suc, ◌==◌, ◌&&◌, Bool, true, false, not, Option, Some, None, is_some, IsTrue, ◌↔◌, refl, sym, ap, ◌∙◌, inl, inr, arith, Decides, if◌then◌else◌}, lemmas.Bool.{cases_eq, cases_lt, cases_Bool, eq-eqb, ne_eqb, and_parts, false≢true, true≢false}, lemmas.Bool.Decides.{same_from_decides, Decides-and, Decides-like}}
+use Rattle.sharc_shadow.specs.{declared.shadow_word.Kind.Kind, declared.shadow_word.Kind.TheVariants.{Read, Write}, ShadowWord.{stands, is_written, is_of, epoch_of, IsOther, HasOther, IsFirstOther, Conflicts}, Functions.{lowest_from, lowest_other, conflicts_in, first_in}}
+use Rattle.sharc_shadow.proofs.{Sets.stands_above, Conflict.other_of_conflict}
+use Rattle.sharc_lemmas.proofs.{Bools.{and_false, if_false, if_true, and_true}, Options.{no_guard as some_is_not_none, some_of as some_or_none}}
 
 -- the test of one thread
 abbrev test : ℕ → ℕ → ℕ → Bool
@@ -37,14 +31,6 @@ test_below word thread other k first below =
 stands_low : (word k : ℕ) → stands word k ≡ true → k < 31
 stands_low word k stood = elim (cases_lt k 31) [ inl below ↦ below | inr above ↦ absurd (false≢true (sym (stands_above word k above) ∙ stood)) ]
 
-if_true : {A : Type 0} (b : Bool) (m n : A) → b ≡ true → (if b then m else n) ≡ m
-if_true true m n e = refl
-if_true false m n e = absurd cc
-
-if_false : {A : Type 0} (b : Bool) (m n : A) → b ≡ false → (if b then m else n) ≡ n
-if_false true m n e = absurd cc
-if_false false m n e = refl
-
 finds : (word thread other more first : ℕ) → IsFirstOther word thread other → first ≤ other → other < first + more → lowest_from word thread first more ≡ Some other
 unfolding lowest_from
 finds word thread other zero first is from before = absurd (omega arith)
@@ -54,15 +40,6 @@ finds word thread other (suc more) first is from before =
       | inr apart ↦
           if_false (test word thread first) (Some first) (lowest_from word thread (suc first) more) (test_below word thread other first is (omega arith))
           ∙ finds word thread other more (suc first) is (omega arith) (omega arith)
-    ]
-
-finds_none : (word thread more first : ℕ) → ¬ HasOther word thread → lowest_from word thread first more ≡ None
-unfolding lowest_from
-finds_none word thread zero first none = refl
-finds_none word thread (suc more) first none =
-    elim (cases_Bool (test word thread first)) [
-      | inl passes ↦ absurd (none (first, other_of_test word thread first passes))
-      | inr fails ↦ if_false (test word thread first) (Some first) (lowest_from word thread (suc first) more) fails ∙ finds_none word thread more (suc first) none
     ]
 
 -- where the bit of another thread is set, one is found
@@ -107,14 +84,6 @@ pub lowest_is : (word thread other : ℕ) → IsFirstOther word thread other →
 unfolding lowest_other
 lowest_is word thread other is = finds word thread other 31 0 is (omega arith) (let low = stands_low word other is.is.stood in omega arith)
 
-pub lowest_none : (word thread : ℕ) → ¬ HasOther word thread → lowest_other word thread ≡ None
-unfolding lowest_other
-lowest_none word thread none = finds_none word thread 31 0 none
-
-some_or_none : (o : Option ℕ) → is_some o ≡ true → (x : ℕ) × (o ≡ Some x)
-some_or_none None some = absurd (false≢true some)
-some_or_none (Some x) some = (x, refl)
-
 found_some : (word thread other : ℕ) → IsOther word thread other → is_some (lowest_other word thread) ≡ true
 unfolding lowest_other
 found_some word thread other is = finds_some word thread other 31 0 is (omega arith) (let low = stands_low word other is.stood in omega arith)
@@ -145,12 +114,6 @@ decides old thread Read wrote = Decides-like (is_some (lowest_other old thread) 
     not_is true = ((λ e. sym e), (λ e. sym e))
     not_is false = ((λ e. refl), (λ e. refl))
 
-pub conflict_is : (old thread : ℕ) (kind : Kind) (wrote : Option ℕ) (r : Bool) → (IsTrue r ↔ Conflicts old thread kind wrote) → r ≡ conflicts_in old thread kind wrote
-conflict_is old thread kind wrote r h = same_from_decides r (conflicts_in old thread kind wrote) (from_true r h) (decides old thread kind wrote)
-  where
-    from_true : (r : Bool) → (IsTrue r ↔ Conflicts old thread kind wrote) → Decides r (Conflicts old thread kind wrote)
-    from_true r h = (h.0, h.1)
-
 -- ---- the first of a conflict
 pub first_found : (old thread other : ℕ) (kind : Kind) (wrote : Option ℕ) → conflicts_in old thread kind wrote ≡ true → IsFirstOther old thread other → Some other ≡ first_in old thread kind wrote
 unfolding first_in
@@ -163,9 +126,6 @@ first_none old thread kind wrote peace = sym (if_false (conflicts_in old thread 
 first_of_conflict : (old thread : ℕ) (kind : Kind) (wrote : Option ℕ) → conflicts_in old thread kind wrote ≡ true → first_in old thread kind wrote ≡ lowest_other old thread
 unfolding first_in
 first_of_conflict old thread kind wrote conflict = if_true (conflicts_in old thread kind wrote) (lowest_other old thread) None conflict
-
-some_is_not_none : (x : ℕ) → None ≡ Some x → ⊥
-some_is_not_none x e = cc
 
 pub first_in_is_first : (old thread other : ℕ) (kind : Kind) (wrote : Option ℕ) → (first_in old thread kind wrote ≡ Some other) ↔ (Conflicts old thread kind wrote × IsFirstOther old thread other)
 first_in_is_first old thread other kind wrote = (

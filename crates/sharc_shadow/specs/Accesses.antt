@@ -1,9 +1,7 @@
 -- A table of notes by granule and kind, with the granules in the order of their first notes.
 use Rattle.std.specs.Prelude.{◌≡◌, ◌≢◌, ℕ, ◌^◌, ◌<◌, ◌≤◌, ◌==◌, ◌++◌, [], ◌∷◌, Bool, true, List, Option, Some, None, length, slice_index_or, Contains, AllPairs, count_by, if◌then◌else◌}
-use Rattle.sharc_shadow.specs.declared.shadow_word.Kind.{Kind}
-use Rattle.sharc_shadow.specs.declared.access_table.Note.{Note}
-use Rattle.sharc_shadow.specs.declared.access_table.GranuleNotes.{GranuleNotes}
-use Rattle.sharc_shadow.specs.Notes.{blank, of_kind, has_note}
+use Rattle.sharc_shadow.specs.{declared.shadow_word.Kind.Kind, declared.access_table.Note.Note}
+use Rattle.sharc_shadow.specs.{declared.access_table.GranuleNotes.GranuleNotes, Notes.{blank, of_kind, has_note}}
 
 -- what is noted of each granule, and which granules were noted, in the order of their first notes
 pub record Accesses : Type 0 where

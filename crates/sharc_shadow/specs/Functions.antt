@@ -1,11 +1,8 @@
 -- What the calls on shadow words and tables compute, as functions.
 use Rattle.std.specs.Prelude.{ℕ, zero, suc, ◌+◌, ◌-◌, ◌*◌, ◌%◌, ◌^◌, ◌==◌, ◌&&◌, Bool, not, ◌++◌, ◌∷◌, [], Option, Some, None, is_some, slice_index_or, slice_set, bit_and, bit_or, if◌then◌else◌}
 use Rattle.sharc_word.specs.declared.step.TheConstants.{THREADS}
-use Rattle.sharc_shadow.specs.declared.shadow_word.Kind.{Kind}
-use Rattle.sharc_shadow.specs.declared.shadow_word.Kind.TheVariants.{Read, Write}
-use Rattle.sharc_shadow.specs.declared.access_table.Note.{Note}
-use Rattle.sharc_shadow.specs.Notes.{blank, with_note}
-use Rattle.sharc_shadow.specs.Accesses.{Accesses, is_noted}
+use Rattle.sharc_shadow.specs.{declared.shadow_word.Kind.Kind, declared.shadow_word.Kind.TheVariants.{Read, Write}}
+use Rattle.sharc_shadow.specs.{declared.access_table.Note.Note, Notes.{blank, with_note}, Accesses.{Accesses, is_noted}}
 use Rattle.sharc_shadow.specs.ShadowWord.{stands, is_written, is_of, epoch_of}
 
 -- the bits of one access

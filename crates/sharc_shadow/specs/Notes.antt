@@ -1,9 +1,7 @@
 -- What a table has of one granule.
 use Rattle.std.specs.Prelude.{◌||◌, Bool, Option, Some, None, is_some}
-use Rattle.sharc_shadow.specs.declared.shadow_word.Kind.{Kind}
-use Rattle.sharc_shadow.specs.declared.shadow_word.Kind.TheVariants.{Read, Write}
-use Rattle.sharc_shadow.specs.declared.access_table.Note.{Note}
-use Rattle.sharc_shadow.specs.declared.access_table.GranuleNotes.{GranuleNotes}
+use Rattle.sharc_shadow.specs.{declared.shadow_word.Kind.Kind, declared.shadow_word.Kind.TheVariants.{Read, Write}}
+use Rattle.sharc_shadow.specs.{declared.access_table.Note.Note, declared.access_table.GranuleNotes.GranuleNotes}
 
 -- nothing is noted
 abbrev pub blank : GranuleNotes

@@ -1,6 +1,5 @@
 -- The bits of the other threads of a shadow word.
-use Rattle.std.specs.Prelude.{◌≡◌, ℕ, ◌+◌, ◌==◌, ◌&&◌, not}
-use Rattle.std.specs.Int.{bit_at}
+use Rattle.std.specs.{Prelude.{◌≡◌, ℕ, ◌+◌, ◌==◌, ◌&&◌, not}, Int.bit_at}
 use Rattle.sharc_shadow.specs.ShadowWord.{stands}
 
 -- the bits that stand for other threads are set, and no more

@@ -1,9 +1,6 @@
 -- A program that was read has no more items than tokens.
 use Rattle.std.proofs.Common.{◌≡◌, ℕ, ◌+◌, ◌≤◌, List, [], ◌∷◌, length, refl, arith}
-use Rattle.sharc_tree.specs.Tree.{Item, Program}
-use Rattle.sharc_tree.specs.declared.token.Span.{Span}
-use Rattle.sharc_tree.specs.declared.token.Token.{Token}
-use Rattle.sharc_tree.specs.Placed.{Follow, item_spans, IsPlaced}
+use Rattle.sharc_tree.specs.{Tree.{Item, Program}, declared.token.Span.Span, declared.token.Token.Token, Placed.{Follow, item_spans, IsPlaced}}
 
 -- spans that follow one another are no more than the tokens
 spans_fit : (all : List Token) (from until : ℕ) (spans : List Span) → from ≤ until → Follow all from until spans → length spans + from ≤ until

@@ -1,10 +1,8 @@
 -- The code that a program with its modes is compiled to.
 use Rattle.sharc_mode.specs.Moded.{Assignment}
 use Rattle.sharc_code.specs.declared.code.Code.{Code}
-use Rattle.sharc_flat_form.specs.declared.flat.Flat.{Flat}
-use Rattle.sharc_flat_form.specs.Made.{flat_of}
-use Rattle.sharc_flat.specs.Flattens.{Flattens}
-use Rattle.sharc_flat.specs.Laws.{FitsMade}
+use Rattle.sharc_flat_form.specs.{declared.flat.Flat.Flat, Made.flat_of}
+use Rattle.sharc_flat.specs.{Flattens.Flattens, Laws.FitsMade}
 use Rattle.sharc_compile.specs.Made.{IsCodeOf}
 
 -- it is flattened; each access is checked and each reference counted; and each statement of that is an instruction

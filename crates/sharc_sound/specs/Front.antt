@@ -1,22 +1,17 @@
 -- What the front end makes of a source: the program that it is, with the least assignment of modes, or the reason why it is refused.
 use Rattle.std.specs.Prelude.{◌≡◌, ℕ, List, Result, Ok, Err}
-use Rattle.sharc_tree.specs.declared.token.FaultAt.{FaultAt}
-use Rattle.sharc_tree.specs.declared.token.Tokens.{Tokens}
-use Rattle.sharc_tree.specs.Tree.{Program}
+use Rattle.sharc_tree.specs.{declared.token.FaultAt.FaultAt, declared.token.Tokens.Tokens, Tree.Program}
 use Rattle.sharc_lex.specs.Grammar.{reading}
-use Rattle.sharc_grammar.specs.declared.fault.GrammarFault.{GrammarFault}
-use Rattle.sharc_grammar.specs.Places.{Reads}
+use Rattle.sharc_grammar.specs.{declared.fault.GrammarFault.GrammarFault, Places.Reads}
 use Rattle.sharc_names.specs.declared.fault.FaultCode.{FaultCode}
 use Rattle.sharc_parse.specs.Programs as parser
 use Rattle.sharc_ctype.specs.Resolved.{Resolution, IsResolved}
 use Rattle.sharc_ctype.specs.Typings as typing
 use Rattle.sharc_reach.specs.Reaching.{AreReached}
-use Rattle.sharc_mode.specs.Flows.{IsLeastAssignment}
-use Rattle.sharc_mode.specs.Moded.{Assignment}
+use Rattle.sharc_mode.specs.{Flows.IsLeastAssignment, Moded.Assignment}
 use Rattle.sharc_report.specs.declared.refusal.SourceFault.{SourceFault}
 use Rattle.sharc_report.specs.declared.refusal.SourceFault.TheVariants.{Lexer, Parser, Typing}
-use Rattle.sharc_sound.specs.declared.program.ReachedProgram.{ReachedProgram}
-use Rattle.sharc_sound.specs.declared.program.Refusal.{Refusal}
+use Rattle.sharc_sound.specs.{declared.program.ReachedProgram.ReachedProgram, declared.program.Refusal.Refusal}
 use Rattle.sharc_sound.specs.declared.program.Refusal.TheVariants.{Source, Memory}
 
 -- its tokens are those of the source, and the grammar reads them as the program, which is typed

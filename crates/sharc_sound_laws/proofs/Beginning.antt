@@ -1,28 +1,15 @@
 -- The first words of the globals, one after the other, are those that their definitions say.
-use Rattle.std.proofs.Common.{◌≡◌, ℕ, ℤ, pos, negsuc, zero, suc, ◌+◌, ◌-◌, ◌*◌, ◌^◌, ◌<◌, ◌≤◌, inl, inr, Bool, true, false, cond, length, List, [], ◌∷◌, ◌++◌, take, Some, None, refl, sym, ap, ◌∙◌, subst, arith}
-use Rattle.std.specs.Prelude.{◌==◌, nat_lt, slice_index, slice_index_or, slice_get, replicate, neg_ℤ, unsigned_abs}
-use Rattle.std.specs.List.{AllByRecursion}
-use Rattle.std.proofs.lemmas.Bool.Decides.{nat_tests}
-use Rattle.sharc_tree.specs.declared.ctype.Base.{Base}
-use Rattle.sharc_tree.specs.declared.ctype.Base.TheVariants.{Int, Char, Long, Mutex, Void, Struct}
-use Rattle.sharc_tree.specs.declared.tree.declaration.WrittenType.{WrittenType}
-use Rattle.sharc_tree.specs.declared.tree.expression.Constant.{Constant}
-use Rattle.sharc_tree.specs.declared.tree.expression.Constant.TheVariants.{Number, Character, Null}
-use Rattle.sharc_tree.specs.declared.tree.item.GlobalDefinition.{GlobalDefinition}
-use Rattle.sharc_tree.specs.declared.tree.item.GlobalForm.{GlobalForm}
-use Rattle.sharc_tree.specs.declared.tree.item.GlobalForm.TheVariants.{Plain, Array, Initial}
+use Rattle.std.proofs.{Common.{◌≡◌, ℕ, ℤ, pos, negsuc, zero, suc, ◌+◌, ◌-◌, ◌*◌, ◌^◌, ◌<◌, ◌≤◌, inl, inr, Bool, true, false, cond, length, List, [], ◌∷◌, ◌++◌, take, Some, None, refl, sym, ap, ◌∙◌, subst, arith}, lemmas.Bool.Decides.nat_tests}
+use Rattle.std.specs.{Prelude.{◌==◌, nat_lt, slice_index, slice_get, replicate, neg_ℤ, unsigned_abs}, List.AllByRecursion}
+use Rattle.sharc_tree.specs.{declared.ctype.Base.Base, declared.ctype.Base.TheVariants.{Int, Char, Long, Mutex, Void, Struct}, declared.tree.declaration.WrittenType.WrittenType, declared.tree.expression.Constant.Constant, declared.tree.expression.Constant.TheVariants.{Number, Character, Null}, declared.tree.item.GlobalDefinition.GlobalDefinition, declared.tree.item.GlobalForm.GlobalForm, declared.tree.item.GlobalForm.TheVariants.{Plain, Array, Initial}}
 use Rattle.sharc_names.specs.Kinds.{declared_kind}
 use Rattle.sharc_ctype.specs.Resolved.{Resolution, globals_in}
-use Rattle.sharc_ctype_laws.specs.Initials.{IsHeldBy, MeetsInitial, MeetsGlobal}
-use Rattle.sharc_ctype_laws.specs.Laws.{MeetsGlobals}
-use Rattle.sharc_code.specs.declared.code.GlobalCells.{GlobalCells}
-use Rattle.sharc_code.specs.Arithmetic.{word_of, int_of}
-use Rattle.sharc_code.specs.Ranges.{IsInGlobal}
-use Rattle.sharc_meaning.specs.Cells.{element_cells}
-use Rattle.sharc_meaning.specs.Reference.{constant_value}
-use Rattle.sharc_meaning.specs.Store.{form_value, global_value}
+use Rattle.sharc_ctype_laws.specs.{Initials.{IsHeldBy, MeetsInitial, MeetsGlobal}, Laws.MeetsGlobals}
+use Rattle.sharc_code.specs.{declared.code.GlobalCells.GlobalCells, Arithmetic.{word_of, int_of}, Ranges.IsInGlobal}
+use Rattle.sharc_meaning.specs.{Cells.element_cells, Reference.constant_value, Store.{form_value, global_value}}
 use Rattle.sharc_flat.specs.Tables.{cells_in, granules_in, globals_from, first_words, all_first_words}
 use Rattle.sharc_sound_laws.specs.Begins.{MadeCodeBegins}
+use Rattle.sharc_lemmas.proofs.Lists.{all_null as zeros}
 
 -- ---- lists
 front : (n : ℕ) (xs ys : List ℕ) (k : ℕ) → k < n → n ≤ length xs → slice_index (take n xs ++ ys) k ≡ slice_index xs k
@@ -35,11 +22,6 @@ behind : (n : ℕ) (xs ys : List ℕ) (k : ℕ) → n ≤ length xs → slice_in
 behind zero xs ys k le = let e : 0 + k ≡ k = omega arith in ap (slice_index ys) e
 behind (suc n) [] ys k le = absurd (omega arith)
 behind (suc n) (x ∷ xs) ys k le = let e : suc n + k ≡ suc (n + k) = omega arith in ap (slice_index (x ∷ (take n xs ++ ys))) e ∙ behind n xs ys k (omega arith)
-
-zeros : (n k : ℕ) → slice_index (replicate n 0) k ≡ 0
-zeros zero k = refl
-zeros (suc n) zero = refl
-zeros (suc n) (suc k) = zeros n k
 
 so_many : (n : ℕ) → length {A = ℕ} (replicate n 0) ≡ n
 so_many zero = refl

@@ -1,33 +1,17 @@
 -- All codes of one program are alike: its flat code is laid out in any order of its texts.
 use Rattle.std.proofs.Common.{◌≡◌, ℕ, zero, suc, List, [], ◌∷◌, map, get_or, Option, Some, None, refl, sym, ap, ◌∙◌, subst}
-use Rattle.sharc_code.specs.declared.code.Code.{Code}
-use Rattle.sharc_code.specs.declared.code.Function.{Function}
-use Rattle.sharc_code.specs.declared.code.SourcePlace.{SourcePlace}
-use Rattle.sharc_code.specs.declared.code.Text.{Text}
-use Rattle.sharc_code.specs.declared.instr.Instr.{Instr}
-use Rattle.sharc_code.specs.declared.instr.Instr.TheVariants.{Call, Start, Exit}
-use Rattle.sharc_code.specs.Machine.{no_function}
-use Rattle.sharc_code.specs.Says.{no_place}
+use Rattle.sharc_code.specs.{declared.code.Code.Code, declared.code.Function.Function, declared.code.SourcePlace.SourcePlace, declared.code.Text.Text, declared.instr.Instr.Instr, declared.instr.Instr.TheVariants.{Call, Start, Exit}, Machine.no_function, Says.no_place}
 use Rattle.sharc_ctype.specs.Resolved.{Resolution, functions_in}
 use Rattle.sharc_ctype_laws.specs.Laws.{OneFunctionOfName}
 use Rattle.sharc_mode.specs.Moded.{Assignment}
-use Rattle.sharc_flat.specs.Flattened.{flattened}
-use Rattle.sharc_flat.specs.Flattens.{names_of}
-use Rattle.sharc_flat.specs.Laid.{with_texts, spot_in, words_of, lock_text_of, lies_at, AreTextsIn, AreLaid, AreNamed}
-use Rattle.sharc_flat.specs.Tables.{globals_of}
-use Rattle.sharc_flat_form.specs.declared.op.Op.{Op}
+use Rattle.sharc_flat.specs.{Flattened.flattened, Flattens.names_of, Laid.{with_texts, spot_in, words_of, lock_text_of, lies_at, AreTextsIn, AreLaid, AreNamed}, Tables.globals_of}
+use Rattle.sharc_flat_form.specs.{declared.op.Op.Op, declared.op.Spot.Spot, Machine.Flat, Made.flat_of}
 use Rattle.sharc_flat_form.specs.declared.op.Op.TheVariants as op
-use Rattle.sharc_flat_form.specs.declared.op.Spot.{Spot}
-use Rattle.sharc_flat_form.specs.Machine.{Flat}
-use Rattle.sharc_flat_form.specs.Made.{flat_of}
 use Rattle.sharc_gen.specs.Generated.{instr_of}
-use Rattle.sharc_guard.specs.Guard.{source_of, entered_at, place, expanded}
-use Rattle.sharc_guard.specs.Known.{dropped}
+use Rattle.sharc_guard.specs.{Guard.{source_of, entered_at, place, expanded}, Known.dropped}
 use Rattle.sharc_sound.specs.Compiled.{IsCompiled}
-use Rattle.sharc_sound_laws.specs.Alike.{unnamed, IsSamePlace}
-use Rattle.sharc_sound_laws.specs.AlikeLaws.{CompiledAreAlike}
-use Rattle.sharc_sound_laws.proofs.Lists.{ap2, map_same, element_of}
-use Rattle.sharc_sound_laws.proofs.Lines.{place_same, statements_same}
+use Rattle.sharc_sound_laws.specs.{Alike.{unnamed, IsSamePlace}, AlikeLaws.CompiledAreAlike}
+use Rattle.sharc_sound_laws.proofs.{Lists.{ap2, map_same, element_of}, Lines.{place_same, statements_same}}
 
 -- ---- functions
 entered_same : (bytes : List ℕ) (pl ql : ℕ → ℕ) → ((n : ℕ) → pl n ≡ ql n) → (xs : List Function) (names : List (List ℕ)) (ys : List Function) → AreNamed bytes xs names ys

@@ -1,51 +1,23 @@
 -- In a stuck run no thread has an event that may come next.
-use Rattle.std.proofs.Common.{◌≡◌, ◌≢◌, ℕ, zero, suc, pos, ◌<◌, ◌⊎◌, inl, inr, ⊎_elim, Bool, true, false, ◌||◌, ◌&&◌, cond, List, [], ◌∷◌, ◌++◌, length, Some, None, refl, sym, ap, ◌∙◌, subst, arith}
-use Rattle.std.specs.Prelude.{◌==◌, slice_index_or}
-use Rattle.std.specs.List.{list_any}
-use Rattle.sharc_tree.specs.declared.event.Act.{Act}
+use Rattle.std.proofs.{Common.{◌≡◌, ◌≢◌, ℕ, zero, suc, pos, ◌<◌, ◌⊎◌, inl, inr, ⊎_elim, Bool, true, false, ◌||◌, ◌&&◌, cond, List, [], ◌∷◌, ◌++◌, length, Some, None, refl, sym, ap, ◌∙◌, subst, arith}, lemmas.Bool.or_right}
+use Rattle.std.specs.{Prelude.{◌==◌, slice_index_or}, List.list_any}
+use Rattle.sharc_tree.specs.{declared.event.Act.Act, declared.event.SourceEvent.SourceEvent}
 use Rattle.sharc_tree.specs.declared.event.Act.TheVariants as acts
-use Rattle.sharc_tree.specs.declared.event.SourceEvent.{SourceEvent}
 use Rattle.sharc_ctype_laws.specs.Declared.{NameThemselves}
 use Rattle.sharc_mode.specs.Moded.{Assignment}
-use Rattle.sharc_meaning.specs.Events.{events_of, is_of}
-use Rattle.sharc_meaning.specs.Laws.{AskLaws}
-use Rattle.sharc_meaning.specs.Obeys.{History}
-use Rattle.sharc_meaning.specs.Runs.{Follows, IsFirst, IsSpawned, SourceRun}
-use Rattle.sharc_meaning.specs.State.{Outcome, wants, ended, spent, event_of}
-use Rattle.sharc_meaning.specs.Store.{MayCome, is_gone, is_natural, is_spawn, spawns, was_spawned, went}
-use Rattle.sharc_code.specs.declared.code.Code.{Code}
-use Rattle.sharc_code.specs.declared.instr.Instr.{Instr}
-use Rattle.sharc_code.specs.declared.instr.Instr.TheVariants.{Lock, Join, CondWait, Start}
-use Rattle.sharc_code.specs.declared.shape.Shape.{Shape}
-use Rattle.sharc_code.specs.declared.state.State.{State}
-use Rattle.sharc_code.specs.declared.state.State.TheVariants.{Runs, Tries, Stopped, Ended}
-use Rattle.sharc_code.specs.Machine.{Machine, instr_at, int}
-use Rattle.sharc_code.specs.Path.{may_go}
-use Rattle.sharc_code.specs.Runs.{Turn}
-use Rattle.sharc_code.specs.Says.{cell_at, place_at}
-use Rattle.sharc_code.specs.Waits.{asks_for, held_up}
-use Rattle.sharc_code.specs.Whole.{IsOn, Stuck, Waits, place_after}
-use Rattle.sharc_history_laws.specs.History.{history_of}
-use Rattle.sharc_history_laws.specs.Stuck.{act_awaited}
-use Rattle.sharc_history_laws.specs.Threads.{ThreadsAreTold}
+use Rattle.sharc_meaning.specs.{Events.{events_of, is_of}, Laws.AskLaws, Obeys.History, Runs.{Follows, IsFirst, IsSpawned, SourceRun}, State.{Outcome, wants, ended, spent, event_of}, Store.{MayCome, is_gone, is_natural, is_spawn, spawns, was_spawned, went}}
+use Rattle.sharc_code.specs.{declared.code.Code.Code, declared.instr.Instr.Instr, declared.instr.Instr.TheVariants.{Lock, Join, CondWait, Start}, declared.shape.Shape.Shape, declared.state.State.State, declared.state.State.TheVariants.{Runs, Tries, Stopped, Ended}, Machine.{Machine, instr_at, int}, Path.may_go, Runs.Turn, Says.{cell_at, place_at}, Waits.{asks_for, held_up}, Whole.{IsOn, Stuck, Waits, place_after}}
+use Rattle.sharc_history_laws.specs.{History.history_of, Stuck.act_awaited, Threads.ThreadsAreTold}
 use Rattle.sharc_wants_laws.specs.Wants.{IsNotThere, WantsBy}
 use Rattle.sharc_sound_laws.specs.Standing.{IsPlaced}
-use Rattle.sharc_sound_laws.proofs.Standing.{IsNextBy, behind_own, from_first, next_by, same_is}
-use Rattle.sharc_sound_laws.proofs.Picked.{yes}
+use Rattle.sharc_sound_laws.proofs.Standing.{IsNextBy, behind_own, from_first, next_by}
+use Rattle.sharc_lemmas.proofs.{Numbers.same_is, Bools.{or_split as or_cases, yes}}
 
 -- ---- tests over lists
 
 and_right : (a b : Bool) → (a && b) ≡ true → b ≡ true
 and_right true b e = e
 and_right false b e = absurd (yes (sym e))
-
-or_cases : (a b : Bool) → (a || b) ≡ true → (a ≡ true) ⊎ (b ≡ true)
-or_cases true b e = inl refl
-or_cases false b e = inr e
-
-or_right : (a b : Bool) → b ≡ true → (a || b) ≡ true
-or_right true b e = refl
-or_right false b e = e
 
 any_at : (test : SourceEvent → Bool) (xs : History) (k : ℕ) (x : SourceEvent) → k < length xs → slice_index_or xs k x ≡ x → test x ≡ true → list_any test xs ≡ true
 any_at test [] k x lt at is = absurd (omega arith)

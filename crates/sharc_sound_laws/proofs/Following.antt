@@ -1,30 +1,17 @@
 -- A thread of a checked run follows the source: the function that it begins with is the one that its name says.
 use Rattle.std.proofs.Common.{◌≡◌, ℕ, ℤ, ◌<◌, ◌⊎◌, inl, inr, ◌||◌, cond, List, [], ◌∷◌, map, Option, Some, None, refl, sym, ap, ◌∙◌, subst, ⊎_elim}
-use Rattle.std.specs.Prelude.{IsTrue, codes, length}
-use Rattle.std.specs.List.{list_any}
-use Rattle.std.specs.Str.{bytes_eq}
-use Rattle.sharc_tree.specs.declared.event.Act.TheVariants.{Started}
-use Rattle.sharc_tree.specs.declared.event.CellAt.{CellAt}
-use Rattle.sharc_tree.specs.declared.event.SourceEvent.{SourceEvent}
-use Rattle.sharc_tree.specs.Tree.{Function}
-use Rattle.sharc_ctype.specs.Resolved.{function_at}
+use Rattle.std.specs.{Prelude.{IsTrue, codes, length}, List.list_any, Str.bytes_eq}
+use Rattle.sharc_tree.specs.{declared.event.Act.TheVariants.Started, declared.event.CellAt.CellAt, declared.event.SourceEvent.SourceEvent, Tree.Function}
+use Rattle.sharc_ctype.specs.{Resolved.function_at, Reaches.Spawns}
 use Rattle.sharc_ctype_laws.specs.Declared.{NameThemselves}
 use Rattle.sharc_mode.specs.Moded.{Assignment}
-use Rattle.sharc_meaning.specs.Events.{events_of, held_mutexes, locked_by, same_cell, unless_unlocked, unlocks}
-use Rattle.sharc_meaning.specs.Meaning.{asks}
-use Rattle.sharc_meaning.specs.Obeys.{History}
-use Rattle.sharc_meaning.specs.Runs.{Follows, IsFirst, IsNamedAt, IsSpawned, answers_of, by, is_named_main}
-use Rattle.sharc_code.specs.declared.code.Code.{Code}
-use Rattle.sharc_code.specs.Machine.{Machine, function_of}
-use Rattle.sharc_flat.specs.Correct.{MayStart}
-use Rattle.sharc_flat.specs.Flattens.{IsMainOf}
-use Rattle.sharc_ctype.specs.Reaches.{Spawns}
-use Rattle.sharc_compile_laws.specs.Started.{HasThread}
-use Rattle.sharc_compile_laws.specs.Threads.{TellsIn}
+use Rattle.sharc_meaning.specs.{Events.{events_of, held_mutexes, locked_by, same_cell, unless_unlocked, unlocks}, Meaning.asks, Obeys.History, Runs.{Follows, IsFirst, IsNamedAt, IsSpawned, answers_of, by, is_named_main}}
+use Rattle.sharc_code.specs.{declared.code.Code.Code, Machine.{Machine, function_of}}
+use Rattle.sharc_flat.specs.{Correct.MayStart, Flattens.IsMainOf}
+use Rattle.sharc_compile_laws.specs.{Started.HasThread, Threads.TellsIn}
 use Rattle.sharc_wants_laws.specs.Wants.{IsWhere}
 use Rattle.sharc_sound_laws.specs.Standing.{IsPlaced}
-use Rattle.sharc_sound_laws.proofs.Named.{same_function}
-use Rattle.sharc_sound_laws.proofs.Standing.{from_first}
+use Rattle.sharc_sound_laws.proofs.{Named.same_function, Standing.from_first}
 use Rattle.sharc_history_laws.specs.Starts.{IsOfMain, IsSpawnedByCode, IsStartedBy}
 
 -- ---- what is held by events of a thread

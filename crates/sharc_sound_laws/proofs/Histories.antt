@@ -1,43 +1,16 @@
 -- The runs of codes that are alike tell the same source events.
 use Rattle.std.proofs.Common.{◌≡◌, ℕ, zero, suc, ◌==◌, ◌||◌, ◌+◌, ◌-◌, ◌*◌, List, [], ◌∷◌, map, get_or, Option, Some, None, if◌then◌else◌, refl, sym, ap, ◌∙◌}
 use Rattle.std.specs.Prelude.{ℤ, pos}
-use Rattle.sharc_tree.specs.declared.token.Site.{Site}
-use Rattle.sharc_tree.specs.declared.event.Act.{Act}
+use Rattle.sharc_tree.specs.{declared.token.Site.Site, declared.event.Act.Act, declared.event.CellAt.CellAt, declared.event.CellMode.CellMode, declared.event.SourceEvent.SourceEvent}
 use Rattle.sharc_tree.specs.declared.event.Act.TheVariants as acts
-use Rattle.sharc_tree.specs.declared.event.CellAt.{CellAt}
-use Rattle.sharc_tree.specs.declared.event.CellMode.{CellMode}
 use Rattle.sharc_tree.specs.declared.event.CellMode.TheVariants as modes
 use Rattle.sharc_tree.specs.declared.event.Object.TheVariants as objects
-use Rattle.sharc_tree.specs.declared.event.SourceEvent.{SourceEvent}
 use Rattle.sharc_tree.specs.declared.event.Taken.TheVariants as takens
 use Rattle.sharc_cond.specs.Waiters.{lowest_of, waits_in}
-use Rattle.sharc_granule.specs.State.{NewView}
-use Rattle.sharc_granule.specs.declared.stage.Stage.{Stage as NewStage}
-use Rattle.sharc_granule.specs.declared.stage.Stage.TheVariants.{Length}
-use Rattle.sharc_code.specs.declared.code.Code.{Code}
-use Rattle.sharc_code.specs.declared.code.Function.{Function}
-use Rattle.sharc_code.specs.declared.code.GlobalCells.{GlobalCells}
-use Rattle.sharc_code.specs.declared.code.PlaceMode.{PlaceMode}
-use Rattle.sharc_code.specs.declared.code.PlaceMode.TheVariants.{Private, Readonly, Racy, Dynamic, LockedGlobal, LockedSibling, LockedThrough, LockedLoaded}
-use Rattle.sharc_code.specs.declared.code.Use.{Use}
-use Rattle.sharc_code.specs.declared.instr.Cell.{Cell}
-use Rattle.sharc_code.specs.declared.instr.Cell.TheVariants.{Global, GlobalAt, Object, ObjectAt}
-use Rattle.sharc_code.specs.declared.instr.Instr.{Instr}
-use Rattle.sharc_code.specs.declared.instr.Instr.TheVariants.{Load, Store, LoadRef, Exchange, New, TakeCell, TakeLocal, Give, Free, Lock, Unlock, Spawn, Join, Print, Start, Exit, CondEnter, CondWait, CondSignal, CondBroadcast}
-use Rattle.sharc_code.specs.declared.instr.Register.{Register}
-use Rattle.sharc_code.specs.declared.shape.Shape.{Shape}
-use Rattle.sharc_code.specs.declared.state.Stage.{Stage}
-use Rattle.sharc_code.specs.declared.state.Stage.TheVariants.{Makes, Uncounts, Begins, Enters, Withdraws, WithdrawsFrom, Leaves, Wakes}
-use Rattle.sharc_code.specs.Arithmetic.{int_of, word_of}
-use Rattle.sharc_code.specs.Machine.{Machine, instr_at, int, ref}
-use Rattle.sharc_code.specs.Runs.{Said, Turn, result_of, with_told}
-use Rattle.sharc_code.specs.Says.{access, cell_at, elements_in, event, event_at, global_cell, in_exit, in_free, in_new, in_signal, in_spawn, in_start, kind_of, made_cell, mode_of, new_event, no_global, nobody, own_event, place_at, reference, said, speaks_of, started_with, take_local, variable_of}
-use Rattle.sharc_code.specs.Whole.{Erase, place_after}
-use Rattle.sharc_sound_laws.specs.Alike.{AreAlike}
-use Rattle.sharc_sound_laws.specs.AlikeLaws.{HistoriesAreAlike}
-use Rattle.sharc_sound_laws.proofs.Lists.{ap2}
-use Rattle.sharc_sound_laws.proofs.Places.{checked_same, chosen_same, enabled_same, place_same}
-use Rattle.sharc_sound_laws.proofs.Turns.{by_function, instr_same}
+use Rattle.sharc_granule.specs.{State.NewView, declared.stage.Stage.{Stage as NewStage}, declared.stage.Stage.TheVariants.Length}
+use Rattle.sharc_code.specs.{declared.code.Code.Code, declared.code.Function.Function, declared.code.GlobalCells.GlobalCells, declared.code.PlaceMode.PlaceMode, declared.code.PlaceMode.TheVariants.{Private, Readonly, Racy, Dynamic, LockedGlobal, LockedSibling, LockedThrough, LockedLoaded}, declared.code.Use.Use, declared.instr.Cell.Cell, declared.instr.Cell.TheVariants.{Global, GlobalAt, Object, ObjectAt}, declared.instr.Instr.Instr, declared.instr.Instr.TheVariants.{Load, Store, LoadRef, Exchange, New, TakeCell, TakeLocal, Give, Free, Lock, Unlock, Spawn, Join, Print, Start, Exit, CondEnter, CondWait, CondSignal, CondBroadcast}, declared.instr.Register.Register, declared.shape.Shape.Shape, declared.state.Stage.Stage, declared.state.Stage.TheVariants.{Makes, Uncounts, Begins, Enters, Withdraws, WithdrawsFrom, Leaves, Wakes}, Arithmetic.{int_of, word_of}, Machine.{Machine, instr_at, int, ref}, Runs.{Said, Turn, result_of, with_told}, Says.{access, cell_at, elements_in, event, event_at, global_cell, in_exit, in_free, in_new, in_signal, in_spawn, in_start, kind_of, made_cell, mode_of, new_event, no_global, nobody, own_event, place_at, reference, said, speaks_of, started_with, take_local, variable_of}, Whole.{Erase, place_after}}
+use Rattle.sharc_sound_laws.specs.{Alike.AreAlike, AlikeLaws.HistoriesAreAlike}
+use Rattle.sharc_sound_laws.proofs.{Lists.ap2, Places.{checked_same, chosen_same, enabled_same, place_same}, Turns.{by_function, instr_same}}
 
 module _ (a b : Code) (alike : AreAlike a b) where
   -- ---- sites, cells and modes

@@ -1,5 +1,6 @@
 -- Lists of which the elements, or what a function gives of them, are the same.
-use Rattle.std.proofs.Common.{◌≡◌, ℕ, zero, suc, Bool, cond, List, [], ◌∷◌, ◌++◌, length, get_or, map, filter, flat_map, fold, refl, sym, ap, ◌∙◌, arith}
+use Rattle.std.proofs.Common.{◌≡◌, ℕ, zero, suc, Bool, cond, List, [], ◌∷◌, ◌++◌, length, get_or, map, filter, fold, refl, sym, ap, ◌∙◌, arith}
+use Rattle.sharc_lemmas.proofs.Lists.{map_length as mapped}
 
 pub ap2 : {A B C : Type 0} (f : A → B → C) {x y : A} {u v : B} → x ≡ y → u ≡ v → f x u ≡ f y v
 ap2 f {x = x} {y = y} {u = u} {v = v} p q = ap (λ z. f z u) p ∙ ap (f y) q
@@ -13,15 +14,7 @@ pub filter_same : {A : Type 0} (f g : A → Bool) → ((x : A) → f x ≡ g x) 
 filter_same f g same [] = refl
 filter_same f g same (x ∷ xs) = ap (λ b. cond b (x ∷ filter f xs) (filter f xs)) (same x) ∙ ap (λ zs. cond (g x) (x ∷ zs) zs) (filter_same f g same xs)
 
-pub flat_same : {A B : Type 0} (f g : A → List B) → ((x : A) → f x ≡ g x) → (xs : List A) → flat_map f xs ≡ flat_map g xs
-flat_same f g same [] = refl
-flat_same f g same (x ∷ xs) = ap (λ z. z ++ flat_map f xs) (same x) ∙ ap (λ zs. g x ++ zs) (flat_same f g same xs)
-
 -- ---- lists of which a function gives the same
-mapped : {A B : Type 0} (f : A → B) (xs : List A) → length (map f xs) ≡ length xs
-mapped f [] = refl
-mapped f (x ∷ xs) = ap suc (mapped f xs)
-
 none_is_some : {A : Type 0} (n : ℕ) → 0 ≡ suc n → A
 none_is_some n h = absurd (omega (arith, h))
 

@@ -1,7 +1,6 @@
 -- Functions by their names.
 use Rattle.std.proofs.Common.{◌≡◌, ℕ, Option, Some, None, refl, sym, ap, ◌∙◌}
-use Rattle.sharc_tree.specs.declared.token.Site.{Site}
-use Rattle.sharc_tree.specs.Tree.{Function}
+use Rattle.sharc_tree.specs.{declared.token.Site.Site, Tree.Function}
 use Rattle.sharc_names.specs.declared.fault.Named.TheVariants as named
 use Rattle.sharc_ctype.specs.Resolved.{Resolution, function_at, named_at}
 use Rattle.sharc_ctype_laws.specs.Declared.{NameThemselves}

@@ -2,9 +2,7 @@
 use Rattle.std.proofs.Common.{◌≡◌, ℕ, ℤ, ◌+◌, ◌<◌, ◌≢◌, List, [], ◌∷◌, ◌++◌, length, refl, sym, ap, ◌∙◌, subst, arith}
 use Rattle.sharc_tree.specs.declared.event.SourceEvent.{SourceEvent}
 use Rattle.sharc_mode.specs.Moded.{Assignment}
-use Rattle.sharc_meaning.specs.Laws.{AskLaws, IsPrefix}
-use Rattle.sharc_meaning.specs.Meaning.{asks, Asked}
-use Rattle.sharc_meaning.specs.State.{Outcome, wants}
+use Rattle.sharc_meaning.specs.{Laws.{AskLaws, IsPrefix}, Meaning.{asks, Asked}, State.{Outcome, wants}}
 use Rattle.sharc_sound_laws.specs.Next.{IsSameAsked, OneIsNext}
 
 -- ---- lists

@@ -1,33 +1,14 @@
 -- The search of a report finds a check that may be named.
-use Rattle.std.proofs.Common.{◌≡◌, ℕ, zero, suc, ◌+◌, ◌<◌, ◌≤◌, ◌≢◌, ◌⊎◌, inl, inr, Bool, true, false, not, ◌&&◌, cond, map, List, [], ◌∷◌, filter, find, replicate, Option, Some, None, is_some, if◌then◌else◌, refl, sym, ap, ◌∙◌, subst, ⊎_elim, arith, eqb-true}
-use Rattle.std.specs.Prelude.{◌==◌, slice_index_or}
-use Rattle.std.specs.List.{range_with_len, All}
-use Rattle.std.proofs.lemmas.Bool.{cases_eq}
-use Rattle.std.proofs.lemmas.Bool.Decides.{nat_tests}
+use Rattle.std.proofs.{Common.{◌≡◌, ℕ, zero, suc, ◌+◌, ◌<◌, ◌≤◌, ◌≢◌, ◌⊎◌, inl, inr, Bool, true, false, not, ◌&&◌, cond, map, List, [], ◌∷◌, filter, find, replicate, Option, Some, None, is_some, if◌then◌else◌, refl, sym, ap, ◌∙◌, subst, ⊎_elim, arith, eqb-true}, lemmas.Bool.cases_eq, lemmas.Bool.Decides.nat_tests}
+use Rattle.std.specs.{Prelude.{◌==◌, slice_index_or}, List.{range_with_len, All}}
 use Rattle.sharc_word.specs.declared.step.TheConstants.{THREADS}
-use Rattle.sharc_shadow.specs.declared.shadow_word.Kind.{Kind}
-use Rattle.sharc_shadow.specs.declared.shadow_word.Kind.TheVariants.{Read, Write}
-use Rattle.sharc_shadow.specs.Notes.{blank, of_kind}
-use Rattle.sharc_shadow.specs.Accesses.{note_of, site_at}
-use Rattle.sharc_shadow.specs.Functions.{lowest_from, lowest_other}
-use Rattle.sharc_shadow.specs.ShadowWord.{stands, is_written}
-use Rattle.sharc_code.specs.declared.code.Code.{Code}
-use Rattle.sharc_code.specs.declared.shape.Shape.{Shape}
-use Rattle.sharc_code.specs.declared.state.ConflictAt.{ConflictAt}
-use Rattle.sharc_code.specs.declared.state.Stop.{Stop}
-use Rattle.sharc_code.specs.declared.state.Stop.TheVariants.{Conflict, NoLock, NotSole, Trap}
-use Rattle.sharc_code.specs.Layout.{Fits, granules}
-use Rattle.sharc_code.specs.Machine.{Machine}
-use Rattle.sharc_code.specs.Path.{begun}
-use Rattle.sharc_code.specs.Runs.{Global}
+use Rattle.sharc_shadow.specs.{declared.shadow_word.Kind.Kind, declared.shadow_word.Kind.TheVariants.{Read, Write}, Notes.{blank, of_kind}, Accesses.{note_of, site_at}, Functions.{lowest_from, lowest_other}, ShadowWord.{stands, is_written}}
+use Rattle.sharc_code.specs.{declared.code.Code.Code, declared.shape.Shape.Shape, declared.state.ConflictAt.ConflictAt, declared.state.Stop.Stop, declared.state.Stop.TheVariants.{Conflict, NoLock, NotSole, Trap}, Layout.{Fits, granules}, Machine.Machine, Path.begun, Runs.Global}
 use Rattle.sharc_cpu.specs.Thread.{ThreadView}
 use Rattle.sharc_threads.specs.Ends.{IsAt, AreStarted}
 use Rattle.sharc_history_laws.specs.Causes.{noted_site, Stood, IsNamed, OfWrite, OfRead, OfStop, OfFirst, HasNamed}
-use Rattle.sharc_run_text.specs.declared.other.Access.{Access}
-use Rattle.sharc_run_text.specs.Others.{number_of, noted, is_same_place, refused_by, refused, check_by, or_refused, or_read, or_later, access_of, access_of_any, has_number, wrote_before, is_first_write, was_refused_first, refused_access, or_first_refused, against, other_access}
-
-pub yes : true ≡ false → ⊥
-yes e = cc
+use Rattle.sharc_run_text.specs.{declared.other.Access.Access, Others.{number_of, noted, is_same_place, refused_by, refused, check_by, or_refused, or_read, or_later, access_of, access_of_any, has_number, wrote_before, is_first_write, was_refused_first, refused_access, or_first_refused, against, other_access}}
+use Rattle.sharc_lemmas.proofs.{Bools.yes, Options.some_or}
 
 -- ---- lists
 abbrev AllR : (ThreadView → Type 0) → List ThreadView → Type 0
@@ -85,10 +66,6 @@ mem_map : (u : ℕ) (vs : List ThreadView) → Mem u (map (λ (t : ThreadView). 
 mem_map u [] k = k
 mem_map u (v ∷ vs) (inl e) = inl e
 mem_map u (v ∷ vs) (inr k) = inr (mem_map u vs k)
-
-some_or : (o : Option ℕ) → ((z : ℕ) × (o ≡ Some z)) ⊎ (o ≡ None)
-some_or None = inr refl
-some_or (Some z) = inl (z, refl)
 
 some_view : (o : Option ThreadView) → ((v : ThreadView) × (o ≡ Some v)) ⊎ (o ≡ None)
 some_view None = inr refl

@@ -1,38 +1,15 @@
 -- What a thread that was stopped by a report wants.
-use Rattle.std.proofs.Common.{◌≡◌, ℕ, ◌⊎◌, ⊎_elim, List, [], ◌∷◌, ◌++◌, reverse, Some, None, Option, refl, sym, ap, ◌∙◌, subst}
-use Rattle.std.proofs.lemmas.List.{reverse-append}
-use Rattle.std.proofs.lemmas.List.Elements.{filter-append}
+use Rattle.std.proofs.{Common.{◌≡◌, ℕ, ◌⊎◌, ⊎_elim, List, [], ◌∷◌, ◌++◌, reverse, Some, None, Option, refl, sym, ap, ◌∙◌, subst}, lemmas.List.reverse-append, lemmas.List.Elements.filter-append}
 use Rattle.sharc_tree.specs.declared.event.SourceEvent.{SourceEvent}
 use Rattle.sharc_mode.specs.Moded.{Assignment}
-use Rattle.sharc_meaning.specs.Events.{events_of, is_of}
-use Rattle.sharc_meaning.specs.Obeys.{History}
-use Rattle.sharc_code.specs.declared.code.Code.{Code}
-use Rattle.sharc_code.specs.declared.instr.Instr.{Instr}
-use Rattle.sharc_code.specs.declared.instr.Instr.TheVariants.{Start, TestSole}
-use Rattle.sharc_code.specs.declared.shape.Shape.{Shape}
-use Rattle.sharc_code.specs.declared.state.State.TheVariants.{Stopped}
-use Rattle.sharc_code.specs.declared.state.Stop.{Stop}
-use Rattle.sharc_code.specs.declared.state.Stop.TheVariants.{Conflict, NoLock, NotSole, Trap}
-use Rattle.sharc_code.specs.Laws.{RunLaws}
-use Rattle.sharc_code.specs.Layout.{Fits}
-use Rattle.sharc_code.specs.Opening.{opening_words}
-use Rattle.sharc_code.specs.Machine.{instr_at}
-use Rattle.sharc_code.specs.Runs.{IsRun, Said, Turn, opening_of, told_by, with_told}
-use Rattle.sharc_code.specs.Whole.{CheckedRun, Erase, bounds, one_thread, place_after}
+use Rattle.sharc_meaning.specs.{Events.{events_of, is_of}, Obeys.History}
+use Rattle.sharc_code.specs.{declared.code.Code.Code, declared.instr.Instr.Instr, declared.instr.Instr.TheVariants.{Start, TestSole}, declared.shape.Shape.Shape, declared.state.State.TheVariants.Stopped, declared.state.Stop.Stop, declared.state.Stop.TheVariants.{Conflict, NoLock, NotSole, Trap}, Laws.RunLaws, Layout.Fits, Opening.opening_words, Machine.instr_at, Runs.{IsRun, Said, Turn, opening_of, told_by, with_told}, Whole.{CheckedRun, Erase, bounds, one_thread, place_after}}
 use Rattle.sharc_gen.specs.OfRuns.{told_in}
 use Rattle.sharc_compile.specs.Refused.{IsReport}
-use Rattle.sharc_invariant.specs.Types.{Targets}
-use Rattle.sharc_invariant.specs.Labels.{Labels}
-use Rattle.sharc_invariant.specs.Typed.{IsWellTyped}
-use Rattle.sharc_invariant.specs.State.{IsSmall}
-use Rattle.sharc_history_laws.specs.Causes.{NamesAreCauses, ReportsHaveNamed}
-use Rattle.sharc_history_laws.specs.Conflicts.{AccessReportsShow, site_of_check}
-use Rattle.sharc_history_laws.specs.Followed.{ChecksAreFollowed, LockReportsShowAccess}
-use Rattle.sharc_history_laws.specs.History.{history_of}
-use Rattle.sharc_history_laws.specs.Reports.{CastReportsShow, IsLockCheck}
+use Rattle.sharc_invariant.specs.{Types.Targets, Labels.Labels, Typed.IsWellTyped, State.IsSmall}
+use Rattle.sharc_history_laws.specs.{Causes.{NamesAreCauses, ReportsHaveNamed}, Conflicts.{AccessReportsShow, site_of_check}, Followed.{ChecksAreFollowed, LockReportsShowAccess}, History.history_of, Reports.{CastReportsShow, IsLockCheck}}
 use Rattle.sharc_wants_laws.specs.Wants.{IsNotThere}
-use Rattle.sharc_sound_laws.specs.Reports.{IsReportOf, WantsReported}
-use Rattle.sharc_sound_laws.specs.Standing.{IsPlaced}
+use Rattle.sharc_sound_laws.specs.{Reports.{IsReportOf, WantsReported}, Standing.IsPlaced}
 use Rattle.sharc_sound_laws.proofs.Standing.{from_first}
 
 -- ---- histories that grow

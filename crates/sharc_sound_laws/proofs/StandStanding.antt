@@ -1,27 +1,11 @@
 -- What stands of each checked run of typed code, by the laws of its threads, its places and its reports.
 use Rattle.std.proofs.Common.{◌≡◌, ℕ, List, [], ◌∷◌, ◌++◌, subst, Some}
 use Rattle.sharc_mode.specs.Moded.{Assignment}
-use Rattle.sharc_code.specs.declared.code.Code.{Code}
-use Rattle.sharc_code.specs.declared.shape.Shape.{Shape}
-use Rattle.sharc_code.specs.declared.state.ConflictAt.{ConflictAt}
-use Rattle.sharc_code.specs.declared.state.Stop.TheVariants.{Conflict, NoLock}
-use Rattle.sharc_code.specs.Laws.{RunLaws}
-use Rattle.sharc_code.specs.Layout.{Fits}
-use Rattle.sharc_code.specs.Runs.{OneThread, Bounds, Turn, Global, IsRun}
-use Rattle.sharc_code.specs.Whole.{CheckedRun, one_thread, bounds, place_after}
+use Rattle.sharc_code.specs.{declared.code.Code.Code, declared.shape.Shape.Shape, declared.state.ConflictAt.ConflictAt, declared.state.Stop.TheVariants.{Conflict, NoLock}, Laws.RunLaws, Layout.Fits, Runs.{OneThread, Bounds, Turn, Global, IsRun}, Whole.{CheckedRun, one_thread, bounds, place_after}}
 use Rattle.sharc_compile_laws.specs.Paths.{ThreadsTellInRuns}
-use Rattle.sharc_invariant.specs.Types.{Targets}
-use Rattle.sharc_invariant.specs.Labels.{Labels}
-use Rattle.sharc_invariant.specs.Typed.{IsWellTyped}
-use Rattle.sharc_invariant.specs.Laws.{RunsStand, RunsBits}
-use Rattle.sharc_invariant.specs.Opened.{first_place}
-use Rattle.sharc_invariant.specs.State.{IsSmall}
-use Rattle.sharc_history_laws.specs.Causes.{AccessReportsBreakRules, NamesAreCauses, ReportsHaveNamed}
-use Rattle.sharc_history_laws.specs.Conflicts.{AccessReportsShow}
-use Rattle.sharc_history_laws.specs.Followed.{ChecksAreFollowed, LockReportsBreakRules, LockReportsShowAccess}
-use Rattle.sharc_history_laws.specs.Paths.{PathsAreConsistent}
-use Rattle.sharc_sound_laws.specs.CauseLaws.{OthersAreCauses}
-use Rattle.sharc_sound_laws.specs.StandStands.{ThreadStands, PlaceStands, ConflictStands, LockStands}
+use Rattle.sharc_invariant.specs.{Types.Targets, Labels.Labels, Typed.IsWellTyped, Laws.{RunsStand, RunsBits}, Opened.first_place, State.IsSmall}
+use Rattle.sharc_history_laws.specs.{Causes.{AccessReportsBreakRules, NamesAreCauses, ReportsHaveNamed}, Conflicts.AccessReportsShow, Followed.{ChecksAreFollowed, LockReportsBreakRules, LockReportsShowAccess}, Paths.PathsAreConsistent}
+use Rattle.sharc_sound_laws.specs.{CauseLaws.OthersAreCauses, StandStands.{ThreadStands, PlaceStands, ConflictStands, LockStands}}
 
 -- a run begins with each of its first parts
 first_part : {S E : Type 0} (b : Bounds) (m : OneThread S E) (from : Global S) (later earlier : List Turn) → IsRun b m from (later ++ earlier) → IsRun b m from earlier

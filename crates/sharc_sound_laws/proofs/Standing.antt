@@ -1,36 +1,18 @@
 -- Where a thread of a source run stands: by its events it has come to this outcome. What then may come next of it, and how the run goes on.
-use Rattle.std.proofs.Common.{◌≡◌, ◌≢◌, ℕ, suc, ℤ, pos, ◌+◌, ⊎_elim, true, false, cond, List, [], ◌∷◌, ◌++◌, length, map, Some, refl, sym, ap, ◌∙◌, subst, arith, append_assoc}
+use Rattle.std.proofs.{Common.{◌≡◌, ◌≢◌, ℕ, suc, ℤ, pos, ◌+◌, ⊎_elim, cond, List, [], ◌∷◌, ◌++◌, length, map, Some, refl, sym, ap, ◌∙◌, subst, arith, append_assoc}, lemmas.List.{map-append, append-nil}, lemmas.List.Elements.filter-append}
 use Rattle.std.specs.Prelude.{◌==◌}
-use Rattle.std.proofs.lemmas.Bool.Decides.{nat_tests}
-use Rattle.std.proofs.lemmas.List.{map-append, append-nil}
-use Rattle.std.proofs.lemmas.List.Elements.{filter-append}
-use Rattle.sharc_tree.specs.declared.event.Act.{Act}
+use Rattle.sharc_tree.specs.{declared.event.Act.Act, declared.event.SourceEvent.SourceEvent, declared.token.Site.Site}
 use Rattle.sharc_tree.specs.declared.event.Act.TheVariants as acts
-use Rattle.sharc_tree.specs.declared.event.SourceEvent.{SourceEvent}
 use Rattle.sharc_tree.specs.declared.event.Taken.TheVariants as taken
-use Rattle.sharc_tree.specs.declared.token.Site.{Site}
 use Rattle.sharc_ctype.specs.Resolved.{function_at}
 use Rattle.sharc_ctype_laws.specs.Declared.{NameThemselves}
 use Rattle.sharc_mode.specs.Moded.{Assignment}
-use Rattle.sharc_meaning.specs.Events.{Access, Stands, access_by, events_of, is_of}
-use Rattle.sharc_meaning.specs.Laws.{AskLaws, RunLaws, IsAnswer, Next}
-use Rattle.sharc_meaning.specs.Meaning.{Asked, asks}
-use Rattle.sharc_meaning.specs.Obeys.{History}
-use Rattle.sharc_meaning.specs.Runs.{Follows, IsNamedAt, SourceRun, answers_of, by}
-use Rattle.sharc_meaning.specs.State.{wants, spent, event_of}
-use Rattle.sharc_meaning.specs.Store.{MayCome, value_after}
-use Rattle.sharc_sound_laws.specs.Next.{IsSameAsked}
-use Rattle.sharc_sound_laws.specs.Standing.{StandsAt}
-use Rattle.sharc_sound_laws.proofs.Named.{same_function}
-use Rattle.sharc_sound_laws.proofs.Next.{wanted, comes_as}
+use Rattle.sharc_meaning.specs.{Events.{Access, Stands, access_by, events_of, is_of}, Laws.{AskLaws, RunLaws, IsAnswer, Next}, Meaning.{Asked, asks}, Obeys.History, Runs.{Follows, IsNamedAt, SourceRun, answers_of, by}, State.{wants, spent, event_of}, Store.{MayCome, value_after}}
+use Rattle.sharc_sound_laws.specs.{Next.IsSameAsked, Standing.StandsAt}
+use Rattle.sharc_sound_laws.proofs.{Named.same_function, Next.{wanted, comes_as}}
+use Rattle.sharc_lemmas.proofs.Numbers.{same_is, other_is}
 
 -- ---- events of a thread
-pub same_is : (n : ℕ) → (n == n) ≡ true
-same_is n = grind (arith, nat_tests)
-
-other_is : (n k : ℕ) → n ≢ k → (n == k) ≡ false
-other_is n k ne = grind (arith, nat_tests)
-
 one_of : (t : ℕ) (e : SourceEvent) → e.thread ≡ t → events_of t (e ∷ []) ≡ e ∷ []
 one_of t e own = ap (λ b. cond b (e ∷ []) []) (ap (λ n. n == t) own ∙ same_is t)
 

@@ -1,10 +1,7 @@
 -- The first instruction of the code of flat code.
 use Rattle.std.proofs.Common.{◌≡◌, ap, ◌∙◌}
 use Rattle.std.specs.Prelude.{List, slice_index_or}
-use Rattle.sharc_code.specs.declared.code.Code.{Code}
-use Rattle.sharc_code.specs.declared.instr.Instr.{Instr}
-use Rattle.sharc_code.specs.declared.instr.Instr.TheVariants.{Exit, Start}
-use Rattle.sharc_code.specs.Machine.{instr_at}
+use Rattle.sharc_code.specs.{declared.code.Code.Code, declared.instr.Instr.Instr, declared.instr.Instr.TheVariants.{Exit, Start}, Machine.instr_at}
 use Rattle.sharc_flat_form.specs.declared.flat.Flat.{Flat as FlatCode}
 use Rattle.sharc_gen.specs.Generated.{generated}
 use Rattle.sharc_compile.specs.Made.{IsCodeOf}

@@ -1,39 +1,14 @@
 -- With an access that was refused a source run goes on, and obeys no more.
 use Rattle.std.proofs.Common.{◌≡◌, ◌≢◌, ℕ, ◌+◌, ◌⊎◌, inl, inr, ⊎_elim, Bool, true, false, List, [], ◌∷◌, ◌++◌, Some, None, refl, sym, ap, ◌∙◌, subst, append_assoc}
-use Rattle.sharc_tree.specs.declared.event.Act.{Act}
+use Rattle.sharc_tree.specs.{declared.event.Act.Act, declared.event.CellAt.CellAt, declared.event.SourceEvent.SourceEvent}
 use Rattle.sharc_tree.specs.declared.event.Act.TheVariants as acts
-use Rattle.sharc_tree.specs.declared.event.CellAt.{CellAt}
 use Rattle.sharc_tree.specs.declared.event.CellMode.TheVariants as modes
-use Rattle.sharc_tree.specs.declared.event.SourceEvent.{SourceEvent}
 use Rattle.sharc_tree.specs.declared.event.Taken.TheVariants as taken
 use Rattle.sharc_mode.specs.Moded.{Assignment}
-use Rattle.sharc_meaning.specs.Events.{Access, access_by, events_of, holds_mutex}
-use Rattle.sharc_meaning.specs.Laws.{AskLaws, RunLaws}
-use Rattle.sharc_meaning.specs.Meaning.{Asked}
-use Rattle.sharc_meaning.specs.Obeys.{AlwaysObeys, History, Obeys, until_gone}
-use Rattle.sharc_meaning.specs.Runs.{SourceRun}
-use Rattle.sharc_meaning.specs.State.{Outcome, wants, ended, stopped}
-use Rattle.sharc_code.specs.declared.code.Code.{Code}
-use Rattle.sharc_code.specs.declared.code.PlaceMode.{PlaceMode}
-use Rattle.sharc_code.specs.declared.code.PlaceMode.TheVariants.{Dynamic}
-use Rattle.sharc_code.specs.declared.instr.Cell.{Cell}
-use Rattle.sharc_code.specs.declared.instr.Instr.{Instr}
-use Rattle.sharc_code.specs.declared.instr.Instr.TheVariants.{Start, ChkRead, ChkWrite, ChkLock, ChkLockLoaded, Load, Store, LoadRef, Exchange, TakeCell}
-use Rattle.sharc_code.specs.declared.shape.Shape.{Shape}
-use Rattle.sharc_code.specs.declared.state.State.{State}
-use Rattle.sharc_code.specs.declared.state.State.TheVariants.{Runs, Tries, Stopped, Ended}
-use Rattle.sharc_code.specs.declared.state.Stop.TheVariants.{NoLock}
-use Rattle.sharc_code.specs.Machine.{Machine, instr_at}
-use Rattle.sharc_code.specs.Path.{may_go}
-use Rattle.sharc_code.specs.Runs.{Turn}
-use Rattle.sharc_code.specs.Says.{cell_at, mode_of, place_at}
-use Rattle.sharc_code.specs.Whole.{place_after}
+use Rattle.sharc_meaning.specs.{Events.{Access, access_by, events_of, holds_mutex}, Laws.{AskLaws, RunLaws}, Meaning.Asked, Obeys.{AlwaysObeys, History, Obeys, until_gone}, Runs.SourceRun, State.{Outcome, wants, ended, stopped}}
+use Rattle.sharc_code.specs.{declared.code.Code.Code, declared.code.PlaceMode.PlaceMode, declared.code.PlaceMode.TheVariants.Dynamic, declared.instr.Cell.Cell, declared.instr.Instr.Instr, declared.instr.Instr.TheVariants.{Start, ChkRead, ChkWrite, ChkLock, ChkLockLoaded, Load, Store, LoadRef, Exchange, TakeCell}, declared.shape.Shape.Shape, declared.state.State.State, declared.state.State.TheVariants.{Runs, Tries, Stopped, Ended}, declared.state.Stop.TheVariants.NoLock, Machine.{Machine, instr_at}, Path.may_go, Runs.Turn, Says.{cell_at, mode_of, place_at}, Whole.place_after}
 use Rattle.sharc_guard.specs.Counted.{IsUnder}
-use Rattle.sharc_history_laws.specs.Causes.{BreaksRules, GoesOn, WasMade, IsNextOf}
-use Rattle.sharc_history_laws.specs.Conflicts.{site_of_check}
-use Rattle.sharc_history_laws.specs.Followed.{Accesses, ChecksAreFollowed, IsFollowed, access_of, access_to}
-use Rattle.sharc_history_laws.specs.History.{history_of}
-use Rattle.sharc_history_laws.specs.Reports.{IsLockCheck, LacksLock}
+use Rattle.sharc_history_laws.specs.{Causes.{BreaksRules, GoesOn, WasMade, IsNextOf}, Conflicts.site_of_check, Followed.{Accesses, ChecksAreFollowed, IsFollowed, access_of, access_to}, History.history_of, Reports.{IsLockCheck, LacksLock}}
 use Rattle.sharc_wants_laws.specs.Wants.{IsNotThere, WantsAccess, WantsBy, StopsOrWantsUnder, access_tested}
 use Rattle.sharc_sound_laws.specs.Standing.{IsPlaced, StandsAt}
 use Rattle.sharc_sound_laws.proofs.Standing.{grows, stays}

@@ -1,9 +1,7 @@
 -- Codes that are the same to the machine, and whose globals and sites say the same in the same words, wherever their texts are.
 use Rattle.std.specs.Prelude.{ℕ, ◌≡◌, map}
-use Rattle.sharc_code.specs.declared.code.Code.{Code}
-use Rattle.sharc_code.specs.declared.code.Function.{Function}
-use Rattle.sharc_code.specs.declared.code.SourcePlace.{SourcePlace}
-use Rattle.sharc_code.specs.Says.{place_at}
+use Rattle.sharc_code.specs.{declared.code.Code.Code, declared.code.Function.Function}
+use Rattle.sharc_code.specs.{declared.code.SourcePlace.SourcePlace, Says.place_at}
 use Rattle.sharc_run_text.specs.Places.{text_of}
 
 -- a function without the place of its name

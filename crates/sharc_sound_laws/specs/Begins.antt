@@ -1,10 +1,9 @@
 -- The globals of the code of a typed program hold at first what their definitions say.
 use Rattle.std.specs.Prelude.{◌≡◌, ℕ, pos, Some, Bool}
-use Rattle.sharc_tree.specs.declared.token.Number.{Number}
-use Rattle.sharc_tree.specs.declared.token.Span.{Span}
-use Rattle.sharc_tree.specs.declared.tree.expression.Constant.TheVariants as constants
+use Rattle.sharc_tree.specs.{declared.token.Number.Number, declared.token.Span.Span}
 use Rattle.sharc_tree.specs.declared.tree.item.GlobalDefinition.{GlobalDefinition}
 use Rattle.sharc_tree.specs.declared.tree.item.GlobalForm.TheVariants.{Initial}
+use Rattle.sharc_tree.specs.declared.tree.expression.Constant.TheVariants as constants
 use Rattle.sharc_ctype.specs.Resolved.{Resolution, IsResolved, global_at}
 use Rattle.sharc_mode.specs.Moded.{Assignment}
 use Rattle.sharc_code.specs.declared.code.Code.{Code}

@@ -1,11 +1,7 @@
 -- A stuck run of the code that is built of a source is a deadlock of the source.
 use Rattle.std.specs.Prelude.{ℕ, List}
-use Rattle.sharc_code.specs.declared.shape.Shape.{Shape}
-use Rattle.sharc_code.specs.Layout.{Fits}
-use Rattle.sharc_code.specs.Runs.{Turn}
-use Rattle.sharc_code.specs.Whole.{CheckedRun, Stuck}
-use Rattle.sharc_build.specs.declared.building.Built.{Built}
-use Rattle.sharc_build.specs.Built.{IsBuilt}
+use Rattle.sharc_code.specs.{declared.shape.Shape.Shape, Layout.Fits, Runs.Turn, Whole.{CheckedRun, Stuck}}
+use Rattle.sharc_build.specs.{declared.building.Built.Built, Built.IsBuilt}
 use Rattle.sharc_sound_laws.specs.Deadlock.{IsDeadlock}
 
 -- no event of a thread that was not stopped extends its events to a source run

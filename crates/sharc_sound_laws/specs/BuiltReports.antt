@@ -1,21 +1,14 @@
 -- The reports of the runs of the code that is built of a source.
 use Rattle.std.specs.Prelude.{◌≡◌, ℕ, List, Some}
-use Rattle.sharc_code.specs.declared.shape.Shape.{Shape}
-use Rattle.sharc_code.specs.declared.state.State.TheVariants.{Stopped}
-use Rattle.sharc_code.specs.declared.state.Stop.{Stop}
-use Rattle.sharc_code.specs.declared.state.Stop.TheVariants.{NotSole}
-use Rattle.sharc_code.specs.Layout.{Fits}
-use Rattle.sharc_code.specs.Runs.{Turn}
+use Rattle.sharc_code.specs.{declared.shape.Shape.Shape, declared.state.State.TheVariants.Stopped}
+use Rattle.sharc_code.specs.{declared.state.Stop.Stop, declared.state.Stop.TheVariants.NotSole, Layout.Fits, Runs.Turn}
 use Rattle.sharc_code.specs.Whole.{CheckedRun, place_after}
 use Rattle.sharc_compile.specs.Refused.{IsReport}
-use Rattle.sharc_invariant.specs.Labels.{Labels}
-use Rattle.sharc_invariant.specs.Typed.{IsWellTyped}
+use Rattle.sharc_invariant.specs.{Labels.Labels, Typed.IsWellTyped}
 use Rattle.sharc_meaning.specs.Obeys.{AlwaysObeys}
 use Rattle.sharc_accepted_laws.specs.Targets.{targets_of}
-use Rattle.sharc_build.specs.declared.building.Built.{Built}
-use Rattle.sharc_build.specs.Built.{IsBuilt}
-use Rattle.sharc_sound_laws.specs.Obeying.{NoAccessReport}
-use Rattle.sharc_sound_laws.specs.Reports.{IsReportOf}
+use Rattle.sharc_build.specs.{declared.building.Built.Built, Built.IsBuilt}
+use Rattle.sharc_sound_laws.specs.{Obeying.NoAccessReport, Reports.IsReportOf}
 use Rattle.sharc_wants_laws.specs.Cause.{ShowsReference}
 
 -- where every source run obeys there is none of A1 to A3

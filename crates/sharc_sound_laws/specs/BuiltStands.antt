@@ -1,14 +1,9 @@
 -- What stands of the runs of the code that is built of a source, beside that they keep to the program.
 use Rattle.std.specs.Prelude.{ℕ, List}
-use Rattle.sharc_code.specs.declared.shape.Shape.{Shape}
-use Rattle.sharc_code.specs.Layout.{Fits}
-use Rattle.sharc_code.specs.Runs.{Turn}
-use Rattle.sharc_code.specs.Whole.{CheckedRun}
-use Rattle.sharc_invariant.specs.Labels.{Labels}
-use Rattle.sharc_invariant.specs.Typed.{IsWellTyped}
+use Rattle.sharc_code.specs.{declared.shape.Shape.Shape, Layout.Fits, Runs.Turn, Whole.CheckedRun}
+use Rattle.sharc_invariant.specs.{Labels.Labels, Typed.IsWellTyped}
 use Rattle.sharc_accepted_laws.specs.Targets.{targets_of}
-use Rattle.sharc_build.specs.declared.building.Built.{Built}
-use Rattle.sharc_build.specs.Built.{IsBuilt}
+use Rattle.sharc_build.specs.{declared.building.Built.Built, Built.IsBuilt}
 use Rattle.sharc_sound_laws.specs.StandStands.{Stands}
 
 -- the code is typed, and so it is of every checked run, by threads in any order

@@ -1,22 +1,13 @@
 -- What the other access shows that the report of a conflict names.
 use Rattle.std.specs.Prelude.{◌≡◌, ℕ, List, Some}
-use Rattle.sharc_code.specs.declared.code.Code.{Code}
-use Rattle.sharc_code.specs.declared.shape.Shape.{Shape}
-use Rattle.sharc_code.specs.declared.state.ConflictAt.{ConflictAt}
-use Rattle.sharc_code.specs.declared.state.Stop.TheVariants.{Conflict}
-use Rattle.sharc_code.specs.Layout.{Fits}
-use Rattle.sharc_code.specs.Runs.{Turn}
+use Rattle.sharc_code.specs.{declared.code.Code.Code, declared.shape.Shape.Shape, declared.state.ConflictAt.ConflictAt}
+use Rattle.sharc_code.specs.{declared.state.Stop.TheVariants.Conflict, Layout.Fits, Runs.Turn}
 use Rattle.sharc_code.specs.Whole.{CheckedRun, place_after}
 use Rattle.sharc_cpu.specs.Thread.{ThreadView}
 use Rattle.sharc_threads.specs.Ends.{AreStarted}
-use Rattle.sharc_invariant.specs.Types.{Targets}
-use Rattle.sharc_invariant.specs.Labels.{Labels}
-use Rattle.sharc_invariant.specs.Typed.{IsWellTyped}
-use Rattle.sharc_invariant.specs.State.{IsSmall}
-use Rattle.sharc_history_laws.specs.Causes.{ShowsCause}
-use Rattle.sharc_history_laws.specs.Followed.{ChecksAreFollowed}
-use Rattle.sharc_run_text.specs.declared.other.Access.{Access}
-use Rattle.sharc_run_text.specs.Others.{other_access}
+use Rattle.sharc_invariant.specs.{Types.Targets, Labels.Labels, Typed.IsWellTyped, State.IsSmall}
+use Rattle.sharc_history_laws.specs.{Causes.ShowsCause, Followed.ChecksAreFollowed}
+use Rattle.sharc_run_text.specs.{declared.other.Access.Access, Others.other_access}
 
 -- the report names another access, and that one is the cause
 pub record NamesCause (code : Code) (s : Shape) (run : List Turn) (threads : List ThreadView) (t : ℕ) (c : ConflictAt) : Type 0 where

@@ -4,13 +4,9 @@ use Rattle.sharc_mode.specs.Moded.{Assignment}
 use Rattle.sharc_mode_laws.specs.Rules.{MeetsRules}
 use Rattle.sharc_code.specs.declared.code.Code.{Code}
 use Rattle.sharc_flat.specs.Correct.{MayStart}
-use Rattle.sharc_compile_laws.specs.Paths.{PathsTell, ThreadsTellInRuns}
-use Rattle.sharc_compile_laws.specs.Started.{HasThread}
-use Rattle.sharc_compile_laws.specs.Threads.{RunsTell}
-use Rattle.sharc_sound.specs.Compiled.{IsCompiled}
-use Rattle.sharc_sound.specs.Front.{IsFront}
-use Rattle.sharc_build.specs.declared.building.Built.{Built}
-use Rattle.sharc_build.specs.Built.{IsBuilt}
+use Rattle.sharc_compile_laws.specs.{Paths.{PathsTell, ThreadsTellInRuns}, Started.HasThread, Threads.RunsTell}
+use Rattle.sharc_sound.specs.{Compiled.IsCompiled, Front.IsFront}
+use Rattle.sharc_build.specs.{declared.building.Built.Built, Built.IsBuilt}
 
 -- Where the results of a path of a thread are consistent, the thread reports what the program asks for, stops where that
 -- stops, or wants what is refused, at its site, and keeps the pace; so does each thread of a checked run, in any

@@ -1,23 +1,14 @@
 -- What every interleaving of the code of an accepted program keeps, where the code is typed.
 use Rattle.std.specs.Prelude.{List}
 use Rattle.sharc_mode.specs.Moded.{Assignment}
-use Rattle.sharc_code.specs.declared.code.Code.{Code}
-use Rattle.sharc_code.specs.declared.shape.Shape.{Shape}
-use Rattle.sharc_code.specs.Layout.{Fits}
-use Rattle.sharc_code.specs.Runs.{Turn}
+use Rattle.sharc_code.specs.{declared.code.Code.Code, declared.shape.Shape.Shape, Layout.Fits, Runs.Turn}
 use Rattle.sharc_code.specs.Whole.{CheckedRun}
-use Rattle.sharc_flat_form.specs.declared.flat.Flat.{Flat as FlatCode}
-use Rattle.sharc_flat_form.specs.Made.{flat_of}
-use Rattle.sharc_flat.specs.Laws.{FitsMade}
-use Rattle.sharc_flat.specs.Flattens.{Flattens}
+use Rattle.sharc_flat_form.specs.{declared.flat.Flat.{Flat as FlatCode}, Made.flat_of}
+use Rattle.sharc_flat.specs.{Laws.FitsMade, Flattens.Flattens}
 use Rattle.sharc_compile.specs.Made.{IsCodeOf}
 use Rattle.sharc_flat_laws.specs.Typed.{IsTypedProgram}
-use Rattle.sharc_meaning.specs.Obeys.{History, Obeys, until_return}
-use Rattle.sharc_meaning.specs.Runs.{SourceRun}
-use Rattle.sharc_invariant.specs.Types.{Targets}
-use Rattle.sharc_invariant.specs.Labels.{Labels}
-use Rattle.sharc_invariant.specs.Typed.{IsWellTyped}
-use Rattle.sharc_invariant.specs.State.{IsSmall}
+use Rattle.sharc_meaning.specs.{Obeys.{History, Obeys, until_return}, Runs.SourceRun}
+use Rattle.sharc_invariant.specs.{Types.Targets, Labels.Labels, Typed.IsWellTyped, State.IsSmall}
 use Rattle.sharc_history_laws.specs.History.{history_of}
 use Rattle.sharc_sound_laws.specs.Begins.{AreUnsigned}
 

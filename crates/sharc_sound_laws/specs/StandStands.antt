@@ -3,42 +3,25 @@ use Rattle.std.specs.Prelude.{◌≡◌, ◌⊎◌, ℕ, Bool, List, [], ◌∷�
 use Rattle.sharc_tree.specs.declared.event.SourceEvent.{SourceEvent}
 use Rattle.sharc_shadow.specs.declared.shadow_word.Kind.{Kind}
 use Rattle.sharc_mode.specs.Moded.{Assignment}
-use Rattle.sharc_meaning.specs.Events.{access_by}
-use Rattle.sharc_meaning.specs.Obeys.{Obeys, Until}
-use Rattle.sharc_code.specs.declared.code.Code.{Code}
-use Rattle.sharc_code.specs.declared.shape.Shape.{Shape}
-use Rattle.sharc_code.specs.declared.state.ConflictAt.{ConflictAt}
-use Rattle.sharc_code.specs.declared.state.Stop.TheVariants.{Conflict, NoLock, NotSole}
-use Rattle.sharc_code.specs.Layout.{Fits}
-use Rattle.sharc_code.specs.Paced.{paced_in}
-use Rattle.sharc_code.specs.Path.{begun}
-use Rattle.sharc_code.specs.Runs.{Turn, turns_of, said_by}
-use Rattle.sharc_code.specs.Whole.{CheckedRun, Erase, place_after}
+use Rattle.sharc_meaning.specs.{Events.access_by, Obeys.{Obeys, Until}}
+use Rattle.sharc_code.specs.{declared.code.Code.Code, declared.shape.Shape.Shape, declared.state.ConflictAt.ConflictAt}
+use Rattle.sharc_code.specs.{declared.state.Stop.TheVariants.{Conflict, NoLock, NotSole}, Layout.Fits, Paced.paced_in}
+use Rattle.sharc_code.specs.{Path.begun, Runs.{Turn, turns_of, said_by}, Whole.{CheckedRun, Erase, place_after}}
 use Rattle.sharc_cpu.specs.Thread.{ThreadView}
 use Rattle.sharc_threads.specs.Ends.{AreStarted}
-use Rattle.sharc_flat_form.specs.declared.flat.Flat.{Flat as FlatCode}
-use Rattle.sharc_flat_form.specs.Made.{flat_of}
-use Rattle.sharc_flat.specs.Flattens.{Flattens}
-use Rattle.sharc_flat.specs.Laws.{FitsMade}
-use Rattle.sharc_gen.specs.Consistent.{IsConsistent}
-use Rattle.sharc_gen.specs.Correct.{IsBeginning}
-use Rattle.sharc_gen.specs.Lowered.{lowered_in}
+use Rattle.sharc_flat_form.specs.{declared.flat.Flat.{Flat as FlatCode}, Made.flat_of}
+use Rattle.sharc_flat.specs.{Flattens.Flattens, Laws.FitsMade}
+use Rattle.sharc_gen.specs.{Consistent.IsConsistent, Correct.IsBeginning, Lowered.lowered_in}
 use Rattle.sharc_gen.specs.OfRuns.{elements_before, founds_of, told_in}
 use Rattle.sharc_compile.specs.Made.{IsCodeOf}
 use Rattle.sharc_compile_laws.specs.Paths.{TellsProgram}
 use Rattle.sharc_flat_laws.specs.Typed.{IsTypedProgram}
-use Rattle.sharc_invariant.specs.Types.{Targets}
-use Rattle.sharc_invariant.specs.Labels.{Labels}
-use Rattle.sharc_invariant.specs.Typed.{IsWellTyped}
-use Rattle.sharc_invariant.specs.Opened.{first_world, first_place}
-use Rattle.sharc_invariant.specs.Objects.{objects_after}
-use Rattle.sharc_invariant.specs.MachineInvariant.{MachineInvariant}
-use Rattle.sharc_invariant.specs.Bits.{marks_after, AllBitsStand}
-use Rattle.sharc_invariant.specs.State.{IsSmall}
+use Rattle.sharc_invariant.specs.{Types.Targets, Labels.Labels, Typed.IsWellTyped, Opened.{first_world, first_place}}
+use Rattle.sharc_invariant.specs.{Objects.objects_after, MachineInvariant.MachineInvariant}
+use Rattle.sharc_invariant.specs.{Bits.{marks_after, AllBitsStand}, State.IsSmall}
 use Rattle.sharc_history_laws.specs.Causes.{IsNamed, HasNamed, ShowsCause, BreaksRules}
 use Rattle.sharc_history_laws.specs.Conflicts.{IsCheck, ShowsConflict}
-use Rattle.sharc_history_laws.specs.Followed.{IsOfAccess, ShowsLock, access_checked}
-use Rattle.sharc_history_laws.specs.History.{history_of}
+use Rattle.sharc_history_laws.specs.{Followed.{IsOfAccess, ShowsLock, access_checked}, History.history_of}
 use Rattle.sharc_history_laws.specs.Reports.{FindsOthers}
 use Rattle.sharc_sound_laws.specs.CauseLaws.{NamesCause}
 

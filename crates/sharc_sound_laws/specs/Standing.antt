@@ -2,29 +2,16 @@
 use Rattle.std.specs.Prelude.{◌≡◌, ◌⊎◌, ℕ, List}
 use Rattle.sharc_tree.specs.declared.event.CellAt.{CellAt}
 use Rattle.sharc_mode.specs.Moded.{Assignment}
-use Rattle.sharc_code.specs.declared.code.Code.{Code}
-use Rattle.sharc_code.specs.declared.shape.Shape.{Shape}
-use Rattle.sharc_code.specs.declared.state.State.TheVariants.{Ended}
-use Rattle.sharc_code.specs.Layout.{Fits}
-use Rattle.sharc_code.specs.Machine.{Machine, instr_at}
-use Rattle.sharc_code.specs.Runs.{Turn}
-use Rattle.sharc_code.specs.Whole.{CheckedRun, place_after}
-use Rattle.sharc_flat_form.specs.declared.flat.Flat.{Flat as FlatCode}
-use Rattle.sharc_flat_form.specs.Made.{flat_of}
-use Rattle.sharc_flat.specs.Laws.{FitsMade}
-use Rattle.sharc_flat.specs.Flattens.{Flattens}
-use Rattle.sharc_meaning.specs.Events.{events_of, holds_mutex}
-use Rattle.sharc_meaning.specs.Meaning.{Asked, asks}
-use Rattle.sharc_meaning.specs.Obeys.{History}
-use Rattle.sharc_meaning.specs.Runs.{Follows, answers_of}
-use Rattle.sharc_meaning.specs.State.{ended}
-use Rattle.sharc_compile.specs.Made.{IsCodeOf}
-use Rattle.sharc_compile.specs.Refused.{WantsRefused}
+use Rattle.sharc_code.specs.{declared.code.Code.Code, declared.shape.Shape.Shape}
+use Rattle.sharc_code.specs.{declared.state.State.TheVariants.Ended, Layout.Fits, Machine.{Machine, instr_at}}
+use Rattle.sharc_code.specs.{Runs.Turn, Whole.{CheckedRun, place_after}}
+use Rattle.sharc_flat_form.specs.{declared.flat.Flat.{Flat as FlatCode}, Made.flat_of}
+use Rattle.sharc_flat.specs.{Laws.FitsMade, Flattens.Flattens}
+use Rattle.sharc_meaning.specs.{Events.{events_of, holds_mutex}, Meaning.{Asked, asks}, Obeys.History}
+use Rattle.sharc_meaning.specs.{Runs.{Follows, answers_of}, State.ended}
+use Rattle.sharc_compile.specs.{Made.IsCodeOf, Refused.WantsRefused}
 use Rattle.sharc_flat_laws.specs.Typed.{IsTypedProgram}
-use Rattle.sharc_invariant.specs.Types.{Targets}
-use Rattle.sharc_invariant.specs.Labels.{Labels}
-use Rattle.sharc_invariant.specs.Typed.{IsWellTyped}
-use Rattle.sharc_invariant.specs.State.{IsSmall}
+use Rattle.sharc_invariant.specs.{Types.Targets, Labels.Labels, Typed.IsWellTyped, State.IsSmall}
 use Rattle.sharc_history_laws.specs.History.{history_of}
 use Rattle.sharc_wants_laws.specs.Wants.{IsNotThere, WantsBy}
 

@@ -1,10 +1,8 @@
 -- The code that is built of a source is typed, by the targets of the program that the source is.
 use Rattle.std.specs.Prelude.{ℕ, List}
-use Rattle.sharc_invariant.specs.Labels.{Labels}
-use Rattle.sharc_invariant.specs.Typed.{IsWellTyped}
+use Rattle.sharc_invariant.specs.{Labels.Labels, Typed.IsWellTyped}
 use Rattle.sharc_accepted_laws.specs.Targets.{targets_of}
-use Rattle.sharc_build.specs.declared.building.Built.{Built}
-use Rattle.sharc_build.specs.Built.{IsBuilt}
+use Rattle.sharc_build.specs.{declared.building.Built.Built, Built.IsBuilt}
 
 abbrev pub BuiltIsTyped : Type 0
 BuiltIsTyped = (source : List ℕ) (built : Built) → IsBuilt source built → (ls : Labels) × IsWellTyped (targets_of built.checked) built.code ls

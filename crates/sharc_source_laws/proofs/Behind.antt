@@ -1,22 +1,14 @@
 -- What holds of the numbers and characters among the words of a program holds of those after a part of it; so no number at which a global begins has a sign.
 use Rattle.std.proofs.Common.{◌≡◌, ℕ, pos, zero, suc, ◌+◌, Bool, true, false, List, [], ◌∷◌, Option, Some, None, subst}
 use Rattle.std.specs.Prelude.{slice_get}
-use Rattle.sharc_tree.specs.declared.token.Number.{Number}
-use Rattle.sharc_tree.specs.declared.token.Site.{Site}
-use Rattle.sharc_tree.specs.declared.token.Span.{Span}
-use Rattle.sharc_tree.specs.declared.ctype.Base.{Base}
+use Rattle.sharc_tree.specs.{declared.token.Number.Number, declared.token.Site.Site, declared.token.Span.Span, declared.ctype.Base.Base, declared.tree.expression.Constant.Constant, declared.tree.item.GlobalDefinition.GlobalDefinition, declared.tree.item.GlobalForm.GlobalForm, declared.tree.item.GlobalForm.TheVariants.Initial}
 use Rattle.sharc_tree.specs.declared.ctype.Base.TheVariants as base
-use Rattle.sharc_tree.specs.declared.tree.expression.Constant.{Constant}
 use Rattle.sharc_tree.specs.declared.tree.expression.Constant.TheVariants as constants
 use Rattle.sharc_tree.specs.declared.tree.expression.PlaceCall.TheVariants as place_call
 use Rattle.sharc_tree.specs.declared.tree.expression.ValueCall.TheVariants as value_call
-use Rattle.sharc_tree.specs.declared.tree.item.GlobalDefinition.{GlobalDefinition}
-use Rattle.sharc_tree.specs.declared.tree.item.GlobalForm.{GlobalForm}
-use Rattle.sharc_tree.specs.declared.tree.item.GlobalForm.TheVariants.{Initial}
 use Rattle.sharc_ctype.specs.Resolved.{globals_in}
-use Rattle.sharc_grammar.specs.Grammar.{Word, name, keyword, mark, number, character, Sharing, private, readonly, racy, dynamic, locked, locked_through, Typing, Declaring, sharing_words, level_words, base_words, bottom_words, levels_words, list_words, type_words, declaring_words, Front, parenthesis, of_spawn, of_value, of_place, of_cast, front_words, Phrase, identifier, constant, enclosed, call, index, field, unary, binary, Phrases, none, more, operator_mark, access_mark, constant_word, words, words_of_all, words_of_rest, Value, value, malloc, Doing, assign, invoke, Line, nothing, does, declares, Loop, Sentence, line, jump, return, block, under, Sentences, no_more, sentence, Opening, if_of, else_of, while_of, for_of, option_words, count_words, value_words, doing_words, initial_words, line_words, step_words, loop_words, written, written_all, opening_words, Form, single, array, initially, Part, structure, global, function, sign_words, form_words, fields_words, further_words, parameters_words, part_words, program_words}
+use Rattle.sharc_grammar.specs.{Grammar.{Word, name, keyword, mark, number, character, Sharing, private, readonly, racy, dynamic, locked, locked_through, Typing, Declaring, sharing_words, level_words, base_words, bottom_words, levels_words, list_words, type_words, declaring_words, Front, parenthesis, of_spawn, of_value, of_place, of_cast, front_words, Phrase, identifier, constant, enclosed, call, index, field, unary, binary, Phrases, none, more, operator_mark, access_mark, constant_word, words, words_of_all, words_of_rest, Value, value, malloc, Doing, assign, invoke, Line, nothing, does, declares, Loop, Sentence, line, jump, return, block, under, Sentences, no_more, sentence, Opening, if_of, else_of, while_of, for_of, option_words, count_words, value_words, doing_words, initial_words, line_words, step_words, loop_words, written, written_all, opening_words, Form, single, array, initially, Part, structure, global, function, sign_words, form_words, fields_words, further_words, parameters_words, part_words, program_words}, Places.{declaring_size, part_size, span_at, form_at, items_at}}
 use Rattle.sharc_source_laws.specs.Constants.{IsHeld}
-use Rattle.sharc_grammar.specs.Places.{declaring_size, part_size, span_at, form_at, items_at}
 
 -- a number has no sign
 abbrev pub IsUnsigned : Number → Type 0

@@ -1,17 +1,10 @@
 -- A source that holds a line of a schedule, or the first of events, has two `%` in a row among its tokens, and so is no program.
 use Rattle.std.proofs.Common.{◌≡◌, ℕ, ◌+◌, ◌==◌, Bool, true, false, List, [], ◌∷◌, ◌++◌, drop, Option, Some, None, Result, Ok, Err, ok_or, is_ok, codes, refl, sym, ap, ◌∙◌, subst, if◌then◌else◌}
-use Rattle.sharc_tree.specs.declared.token.FaultAt.{FaultAt}
-use Rattle.sharc_lex.specs.declared.fault.Fault.{Fault}
-use Rattle.sharc_tree.specs.declared.token.Token.{Token}
-use Rattle.sharc_tree.specs.declared.token.Tokens.{Tokens}
+use Rattle.sharc_tree.specs.{declared.token.FaultAt.FaultAt, declared.token.Token.Token, declared.token.Tokens.Tokens}
+use Rattle.sharc_lex.specs.{declared.fault.Fault.Fault, declared.fault.LineFault.LineFault, declared.fault.Place.Place, Grammar.{◌>>=◌, in_front, lines_of, token, tokens_of, behind_tokens, Read, opening, marked, with_tokens, marker_line, text_line, line_read, with_place, lines_read, tokens_read, reading}, Markers.is_marker_line}
 use Rattle.sharc_tree.specs.declared.token.TokenKind.TheVariants as kind
 use Rattle.sharc_tree.specs.declared.token.Punctuator.TheVariants as sign
-use Rattle.sharc_lex.specs.declared.fault.LineFault.{LineFault}
-use Rattle.sharc_lex.specs.declared.fault.Place.{Place}
-use Rattle.sharc_lex.specs.Grammar.{◌>>=◌, in_front, lines_of, token, tokens_of, behind_tokens, Read, opening, marked, with_tokens, marker_line, text_line, line_read, with_place, lines_read, tokens_read, reading}
-use Rattle.sharc_lex.specs.Markers.{is_marker_line}
-use Rattle.sharc_grammar.specs.Grammar.{mark}
-use Rattle.sharc_grammar.specs.Places.{word_of, words_of}
+use Rattle.sharc_grammar.specs.{Grammar.mark, Places.{word_of, words_of}}
 use Rattle.sharc_recorded.specs.File.{schedule_word}
 use Rattle.sharc_source_laws.specs.Laws.{ProgramsHoldNoEvents, ProgramsHoldNoSchedule}
 use Rattle.sharc_source_laws.proofs.Percents.{Apart, program_apart, apart_before, not_twice}

@@ -1,36 +1,15 @@
 -- No number in a token has a sign, and its type holds it, as that of a character does.
-use Rattle.std.proofs.Common.{◌≡◌, ℕ, pos, zero, suc, ◌+◌, ◌-◌, ◌==◌, Bool, true, false, List, [], ◌∷◌, ◌++◌, take, drop, Option, Some, None, Result, Ok, Err, ok_or, refl, sym, subst, arith, if◌then◌else◌}
-use Rattle.std.specs.Prelude.{option_map, slice_get, nat_le, nat_lt, ◌^◌, unwrap_or, length, nat_eq}
-use Rattle.std.specs.Prelude.{◌||◌, ◌&&◌, not, ◌<◌}
-use Rattle.std.proofs.lemmas.Bool.Decides.{nat_tests}
-use Rattle.std.specs.Str.{bytes_eq}
-use Rattle.std.specs.List.{starts_with, prefix_len}
+use Rattle.std.proofs.{Common.{◌≡◌, ℕ, pos, zero, suc, ◌+◌, ◌-◌, ◌==◌, Bool, true, false, List, [], ◌∷◌, ◌++◌, take, drop, Option, Some, None, Result, Ok, Err, ok_or, refl, sym, subst, arith, if◌then◌else◌}, lemmas.Bool.Decides.nat_tests}
+use Rattle.std.specs.{Prelude.{option_map, slice_get, nat_le, nat_lt, ◌^◌, unwrap_or, length, nat_eq, ◌||◌, ◌&&◌, not, ◌<◌}, Str.bytes_eq, List.{starts_with, prefix_len}}
 use Rattle.sharc_ctype.specs.Resolved.{globals_in, functions_in}
-use Rattle.sharc_tree.specs.declared.token.FaultAt.{FaultAt}
-use Rattle.sharc_tree.specs.declared.token.NumberType.TheVariants.{Int, Long}
-use Rattle.sharc_tree.specs.declared.token.Token.{Token}
+use Rattle.sharc_tree.specs.{declared.token.FaultAt.FaultAt, declared.token.NumberType.TheVariants.{Int, Long}, declared.token.Token.Token, declared.token.Tokens.Tokens, declared.token.TokenKind.TokenKind}
 use Rattle.sharc_tree.specs.declared.tree.expression.Constant.TheVariants as constants
-use Rattle.sharc_tree.specs.declared.token.Tokens.{Tokens}
-use Rattle.sharc_tree.specs.declared.token.TokenKind.{TokenKind}
 use Rattle.sharc_tree.specs.declared.token.TokenKind.TheVariants as kind
-use Rattle.sharc_lex.specs.declared.fault.Fault.{Fault}
+use Rattle.sharc_lex.specs.{declared.fault.Fault.Fault, declared.fault.LineFault.LineFault, declared.fault.Place.Place, declared.token_at.Lexeme.Lexeme, Bytes.{is_blank, is_printable, is_letter, is_digit, is_white_space, is_word_byte}, Characters.{character, constant, escaped, behind_backslash, plain}, Grammar.{◌>>=◌, at_offset, lines_of, token, tokens_of, behind_tokens, Read, opening, marked, with_tokens, marker_line, text_line, line_read, with_place, lines_read, tokens_read, reading}, Markers.{is_marker_line, marker}, Numbers.{value, without_suffix, has_suffix, typed, small_value}, Punctuators.{first_begun, punctuators, punctuator}, TokenAt.{of_len, word_at, number_at, token_at}, Words.{entry_at, keywords, word}}
 use Rattle.sharc_lex.specs.declared.fault.Fault.TheVariants as fault
-use Rattle.sharc_lex.specs.declared.fault.LineFault.{LineFault}
-use Rattle.sharc_lex.specs.declared.fault.Place.{Place}
-use Rattle.sharc_lex.specs.declared.token_at.Lexeme.{Lexeme}
-use Rattle.sharc_lex.specs.Bytes.{is_blank, is_printable, is_letter, is_digit, is_white_space, is_word_byte}
-use Rattle.sharc_lex.specs.Characters.{character, constant, escaped, behind_backslash, plain}
-use Rattle.sharc_lex.specs.Grammar.{◌>>=◌, at_offset, lines_of, token, tokens_of, behind_tokens, Read, opening, marked, with_tokens, marker_line, text_line, line_read, with_place, lines_read, tokens_read, reading}
-use Rattle.sharc_lex.specs.Markers.{is_marker_line, marker}
-use Rattle.sharc_lex.specs.Numbers.{value, without_suffix, has_suffix, typed, small_value}
-use Rattle.sharc_lex.specs.Punctuators.{first_begun, punctuators, punctuator}
-use Rattle.sharc_lex.specs.TokenAt.{of_len, word_at, number_at, token_at}
-use Rattle.sharc_lex.specs.Words.{entry_at, keywords, word}
 use Rattle.sharc_grammar.specs.Places.{kind_word, words_of, site_in}
-use Rattle.sharc_source_laws.specs.Constants.{IsHeld, ConstantsAreHeld}
-use Rattle.sharc_source_laws.specs.Laws.{NumbersHaveNoSign}
-use Rattle.sharc_source_laws.proofs.Held.{functions_held}
-use Rattle.sharc_source_laws.proofs.Behind.{IsPlainWord, Plainly, globals_begin, begins_unsigned}
+use Rattle.sharc_source_laws.specs.{Constants.{IsHeld, ConstantsAreHeld}, Laws.NumbersHaveNoSign}
+use Rattle.sharc_source_laws.proofs.{Held.functions_held, Behind.{IsPlainWord, Plainly, globals_begin, begins_unsigned}}
 
 -- ---- one token
 abbrev IsPlainKind : TokenKind → Type 0

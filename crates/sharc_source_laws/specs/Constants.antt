@@ -1,16 +1,12 @@
 -- The constants in the functions of a program that a source is: each has a value that its type holds.
 use Rattle.std.specs.Prelude.{◌≡◌, ℕ, true, false, List, Option, Some, None, Ok, slice_get, Contains}
-use Rattle.sharc_tree.specs.declared.token.Span.{Span}
-use Rattle.sharc_tree.specs.declared.token.Tokens.{Tokens}
-use Rattle.sharc_tree.specs.declared.tree.expression.Constant.{Constant}
-use Rattle.sharc_tree.specs.Measures.{in_function}
+use Rattle.sharc_tree.specs.{declared.token.Span.Span, declared.token.Tokens.Tokens}
+use Rattle.sharc_tree.specs.{declared.tree.expression.Constant.Constant, Measures.in_function}
 use Rattle.sharc_tree.specs.Tree.{Program, Expression, identifier, constant, parentheses, call, spawn, on_value, on_place, cast, index, field, unary, binary, Arguments, no_arguments, argument, Right, value, malloc, Simple, assign, does_call, First, nothing, declares, does, Head, Statement, empty, block, declare, simple, jump, return, if_then, if_then_else, while, for, Statements, no_statements, statement, Function}
 use Rattle.sharc_lex.specs.Grammar.{reading}
 use Rattle.sharc_grammar.specs.Places.{Reads}
-use Rattle.sharc_ctype.specs.Expressions.{constant_kind}
-use Rattle.sharc_ctype.specs.Resolved.{functions_in}
-use Rattle.sharc_meaning.specs.Reference.{constant_value}
-use Rattle.sharc_meaning.specs.State.{is_reference}
+use Rattle.sharc_ctype.specs.{Expressions.constant_kind, Resolved.functions_in}
+use Rattle.sharc_meaning.specs.{Reference.constant_value, State.is_reference}
 use Rattle.sharc_code.specs.Arithmetic.{holds}
 use Rattle.sharc_flat.specs.Places.{width_of}
 

@@ -1,12 +1,9 @@
 -- Laws of sources that are programs, for the crates above.
 use Rattle.std.specs.Prelude.{ℕ, ◌≡◌, ◌≢◌, List, ◌∷◌, ◌++◌, codes, Ok, Some, Bool, pos, slice_get}
-use Rattle.sharc_tree.specs.declared.token.Number.{Number}
-use Rattle.sharc_tree.specs.declared.token.Span.{Span}
-use Rattle.sharc_tree.specs.declared.token.Tokens.{Tokens}
-use Rattle.sharc_tree.specs.declared.tree.expression.Constant.TheVariants as constants
+use Rattle.sharc_tree.specs.{declared.token.Number.Number, declared.token.Span.Span, declared.token.Tokens.Tokens}
 use Rattle.sharc_tree.specs.declared.tree.item.GlobalDefinition.{GlobalDefinition}
-use Rattle.sharc_tree.specs.declared.tree.item.GlobalForm.TheVariants.{Initial}
-use Rattle.sharc_tree.specs.Tree.{Program}
+use Rattle.sharc_tree.specs.{declared.tree.item.GlobalForm.TheVariants.Initial, Tree.Program}
+use Rattle.sharc_tree.specs.declared.tree.expression.Constant.TheVariants as constants
 use Rattle.sharc_ctype.specs.Resolved.{globals_in}
 use Rattle.sharc_lex.specs.Grammar.{reading}
 use Rattle.sharc_grammar.specs.Places.{Reads}

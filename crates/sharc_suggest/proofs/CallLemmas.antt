@@ -1,21 +1,9 @@
 -- What is suggested in a call, and in a program.
-use Rattle.std.proofs.Common.{◌≡◌, ℕ, zero, Bool, cond, List, [], ◌++◌, map, Option, None, ap, sym, ◌∙◌}
-use Rattle.std.proofs.Math.Path.{fun_ext}
-use Rattle.std.proofs.lemmas.List.Concat.{flat_map-append}
-use Rattle.sharc_tree.specs.declared.token.Span.{Span}
-use Rattle.sharc_tree.specs.declared.tree.declaration.Identifier.{Identifier}
-use Rattle.sharc_tree.specs.declared.tree.expression.Expr.{Expr}
-use Rattle.sharc_tree.specs.Tree.{Expression, call, Item}
-use Rattle.sharc_tree.specs.View.{view_arguments}
+use Rattle.std.proofs.{Common.{◌≡◌, ℕ, zero, Bool, cond, List, [], ◌++◌, map, Option, None, ap, sym, ◌∙◌}, Math.Path.fun_ext, lemmas.List.Concat.flat_map-append}
+use Rattle.sharc_tree.specs.{declared.token.Span.Span, declared.tree.declaration.Identifier.Identifier, declared.tree.expression.Expr.Expr, Tree.{Expression, call, Item}, View.view_arguments}
 use Rattle.sharc_names.specs.Names.{Entry}
-use Rattle.sharc_mode.specs.declared.error.Cast.{Cast}
-use Rattle.sharc_mode.specs.declared.error.ModeError.{ModeError}
-use Rattle.sharc_mode.specs.Errors.{is_mismatch}
-use Rattle.sharc_mode.specs.Moded.{Assignment}
-use Rattle.sharc_suggest.specs.Casts.{suggested_for, suggested_in, cast_for}
-use Rattle.sharc_suggest.specs.Firsts.{CastRows, HasFirst, row_for}
-use Rattle.sharc_suggest.specs.Givings.{Giving, givings, all_givings, items_givings}
-use Rattle.sharc_suggest.specs.Repairs.{told}
+use Rattle.sharc_mode.specs.{declared.error.Cast.Cast, declared.error.ModeError.ModeError, Errors.is_mismatch, Moded.Assignment}
+use Rattle.sharc_suggest.specs.{Casts.{suggested_for, suggested_in, cast_for}, Firsts.{CastRows, HasFirst, row_for}, Givings.{Giving, givings, all_givings, items_givings}, Repairs.told}
 
 pub suggested_both : (m : Assignment) (named : ℕ → Bool) (a b : List Giving) → suggested_in m named (a ++ b) ≡ suggested_in m named a ++ suggested_in m named b
 suggested_both m named a b = flat_map-append (suggested_for m named) a b

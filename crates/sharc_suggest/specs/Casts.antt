@@ -1,14 +1,10 @@
 -- The casts that are suggested in a program, each where the M1 that it repairs is reported.
 use Rattle.std.specs.Prelude.{◌≡◌, ℕ, ◌==◌, Bool, List, [], ◌∷◌, map, Option, Some, None, if◌then◌else◌}
 use Rattle.std.specs.List.{flat_map}
-use Rattle.sharc_mode.specs.declared.error.Cast.{Cast}
-use Rattle.sharc_mode.specs.declared.error.ModeError.{ModeError}
-use Rattle.sharc_mode.specs.Errors.{is_mismatch}
-use Rattle.sharc_mode.specs.Moded.{Assignment}
-use Rattle.sharc_mode.specs.Notes.{is_named}
+use Rattle.sharc_mode.specs.{declared.error.Cast.Cast, declared.error.ModeError.ModeError, Errors.is_mismatch}
+use Rattle.sharc_mode.specs.{Moded.Assignment, Notes.is_named}
 use Rattle.sharc_check.specs.Named.{said_of_paths}
-use Rattle.sharc_suggest.specs.Givings.{Giving, wanted, items_givings}
-use Rattle.sharc_suggest.specs.Repairs.{repair}
+use Rattle.sharc_suggest.specs.{Givings.{Giving, wanted, items_givings}, Repairs.repair}
 
 -- of what is given, by a test of which variables lock paths name
 abbrev pub suggested_for : Assignment → (ℕ → Bool) → Giving → List Cast

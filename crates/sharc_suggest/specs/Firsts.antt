@@ -1,10 +1,6 @@
 -- A table of the first cast at each token. It retraces the code.
-use Rattle.std.specs.Prelude.{◌≡◌, ℕ, ◌==◌, List, Option, Some, None, if◌then◌else◌}
-use Rattle.std.specs.Borrow.{Bor}
-use Rattle.std.specs.Map.{lookup}
-use Rattle.sharc_mode.specs.declared.error.Cast.{Cast}
-use Rattle.sharc_mode.specs.Errors.{is_mismatch}
-use Rattle.sharc_mode.specs.declared.error.ModeError.{ModeError}
+use Rattle.std.specs.{Prelude.{◌≡◌, ℕ, ◌==◌, List, Option, Some, None, if◌then◌else◌}, Borrow.Bor, Map.lookup}
+use Rattle.sharc_mode.specs.{declared.error.Cast.Cast, Errors.is_mismatch, declared.error.ModeError.ModeError}
 use Rattle.sharc_suggest.specs.Casts.{cast_at}
 
 abbrev pub CastRows : Type 0

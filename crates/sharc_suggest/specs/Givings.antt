@@ -4,11 +4,8 @@ use Rattle.sharc_tree.specs.declared.tree.declaration.Declaration.{Declaration}
 use Rattle.sharc_tree.specs.Tree.{Expression, identifier, constant, parentheses, call, spawn, on_value, on_place, cast, index, field, unary, binary, Arguments, no_arguments, argument, Right, value, malloc, Simple, assign, does_call, Local, First, nothing, declares, does, Head, Statement, Statements, no_statements, statement, Item, structure, global, function}
 use Rattle.sharc_tree.specs.Tree as tree
 use Rattle.sharc_names.specs.Names.{Entry}
-use Rattle.sharc_ctype.specs.Resolved.{named_at}
-use Rattle.sharc_ctype.specs.Transfers.{parameters_named}
-use Rattle.sharc_mode.specs.Expressions.{expected}
-use Rattle.sharc_mode.specs.Moded.{Assignment}
-use Rattle.sharc_mode.specs.Rows.{written, declared_row, modes_of, modes_at}
+use Rattle.sharc_ctype.specs.{Resolved.named_at, Transfers.parameters_named}
+use Rattle.sharc_mode.specs.{Expressions.expected, Moded.Assignment, Rows.{written, declared_row, modes_of, modes_at}}
 use Rattle.sharc_mode.specs.Sharings.{Sharing}
 use Rattle.sharc_suggest.specs.Repairs.{entry_of}
 

@@ -1,8 +1,6 @@
 -- What suggestions are to those who argue with them.
 use Rattle.std.specs.Prelude.{◌≡◌, List, map, Option}
-use Rattle.sharc_mode.specs.declared.error.Cast.{Cast}
-use Rattle.sharc_mode.specs.declared.error.ModeError.{ModeError}
-use Rattle.sharc_mode.specs.Moded.{Assignment}
+use Rattle.sharc_mode.specs.{declared.error.Cast.Cast, declared.error.ModeError.ModeError, Moded.Assignment}
 use Rattle.sharc_suggest.specs.Casts.{IsSuggested, AreSuggested}
 
 -- an error has one answer

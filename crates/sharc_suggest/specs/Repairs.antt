@@ -2,22 +2,15 @@
 use Rattle.std.specs.Prelude.{ℕ, ◌-◌, Bool, true, false, not, ◌&&◌, ◌||◌, List, [], ◌∷◌, drop, slice_get, slice_index_or, Option, Some, None, if◌then◌else◌, codes}
 use Rattle.std.specs.Str.{bytes_eq}
 use Rattle.sharc_tree.specs.declared.token.Keyword.TheVariants as keyword
-use Rattle.sharc_tree.specs.declared.token.Token.{Token}
-use Rattle.sharc_tree.specs.declared.token.TokenKind.{TokenKind}
-use Rattle.sharc_tree.specs.declared.token.TokenKind.TheVariants as kind
-use Rattle.sharc_tree.specs.Forms.{without_parentheses, is_lvalue}
-use Rattle.sharc_tree.specs.Spans.{span_of}
-use Rattle.sharc_tree.specs.Tree.{Expression}
+use Rattle.sharc_tree.specs.{declared.token.Token.Token, declared.token.TokenKind.TokenKind}
+use Rattle.sharc_tree.specs.{Forms.{without_parentheses, is_lvalue}, Spans.span_of, Tree.Expression}
 use Rattle.sharc_tree.specs.declared.tree.declaration.Declaration.{Declaration}
-use Rattle.sharc_names.specs.Names.{Entry, variable, look_up, named_of}
-use Rattle.sharc_names.specs.declared.fault.Named.{Named}
+use Rattle.sharc_tree.specs.declared.token.TokenKind.TheVariants as kind
+use Rattle.sharc_names.specs.{Names.{Entry, variable, look_up, named_of}, declared.fault.Named.Named}
 use Rattle.sharc_names.specs.declared.fault.Named.TheVariants as named
 use Rattle.sharc_ctype.specs.Resolved.{Resolution, named_at, kind_at}
-use Rattle.sharc_mode.specs.declared.error.Cast.{Cast}
-use Rattle.sharc_mode.specs.Cells.{cell_at}
-use Rattle.sharc_mode.specs.Moded.{Assignment}
-use Rattle.sharc_mode.specs.Notes.{shown, base_of, taken_variable}
-use Rattle.sharc_mode.specs.Rows.{modes_at}
+use Rattle.sharc_mode.specs.{declared.error.Cast.Cast, Cells.cell_at, Moded.Assignment}
+use Rattle.sharc_mode.specs.{Notes.{shown, base_of, taken_variable}, Rows.modes_at}
 use Rattle.sharc_mode.specs.Sharings.{Sharing, private, readonly, locked, racy, dynamic, same_all, same_named, is_readonly, text_at}
 
 -- ---- the two types differ only in the mode at depth 1

@@ -1,17 +1,11 @@
 -- What is given is in the body of a function, after its name and its parameters.
 use Rattle.std.proofs.Common.{◌≡◌, inl, inr, ℕ, ◌+◌, ◌<◌, ◌≤◌, List, [], ◌∷◌, refl, ap, eqb-true, eq-eqb, arith}
 use Rattle.std.specs.List.{AllByRecursion}
-use Rattle.sharc_tree.specs.declared.token.Token.{Token}
-use Rattle.sharc_tree.specs.declared.tree.declaration.Declaration.{Declaration}
-use Rattle.sharc_tree.specs.Placed.{Follow, declaration_spans, PlacedDeclarations, PlacedItem}
-use Rattle.sharc_tree.specs.Spans.{span_of}
-use Rattle.sharc_tree.specs.Tree.{Function, function}
+use Rattle.sharc_tree.specs.{declared.token.Token.Token, declared.tree.declaration.Declaration.Declaration, Placed.{Follow, declaration_spans, PlacedDeclarations, PlacedItem}, Spans.span_of, Tree.{Function, function}}
 use Rattle.sharc_suggest.specs.Givings.{Giving}
 use Rattle.sharc_suggest_laws.specs.Values.{count_of, met_by, met_in_statements, begins_at}
-use Rattle.sharc_suggest_laws.proofs.Counted.{counted}
-use Rattle.sharc_suggest_laws.proofs.Few.{Test, AtMostOnce, few_statements}
-use Rattle.sharc_suggest_laws.proofs.Follows.{split}
-use Rattle.sharc_suggest_laws.proofs.Listed.{each}
+use Rattle.sharc_suggest_laws.proofs.{Counted.counted, Few.{Test, AtMostOnce, few_statements}, Follows.split}
+use Rattle.sharc_lemmas.proofs.Lists.{each}
 
 abbrev pub at_token : ℕ → Test
 at_token t = record { token = t; test = begins_at t; begins = λ e is. eqb-true (span_of e).first.token t is }

@@ -1,24 +1,15 @@
 -- What holds of all written types of a program holds of all that has a type; what holds of all that has a type holds of what is declared, and of the casts in what is given.
 use Rattle.std.proofs.Common.{ℕ, zero, suc, List, [], ◌∷◌, ◌++◌, map, Option, Some, None, sym, subst}
 use Rattle.std.specs.List.{AllByRecursion}
-use Rattle.sharc_tree.specs.declared.tree.declaration.WrittenType.{WrittenType}
-use Rattle.sharc_tree.specs.declared.tree.declaration.Declaration.{Declaration}
-use Rattle.sharc_tree.specs.declared.tree.item.GlobalDefinition.{GlobalDefinition}
-use Rattle.sharc_tree.specs.Measures.{expressions, in_arguments, in_option, in_right, in_simple, in_local}
-use Rattle.sharc_tree.specs.Tree.{Expression, identifier, constant, parentheses, call, spawn, on_value, on_place, cast, index, field, unary, binary, Arguments, no_arguments, argument, Right, value, malloc, Simple, assign, does_call, Local, First, nothing, declares, does, Head, Statement, Statements, no_statements, statement, Function, Item, structure, global, function}
+use Rattle.sharc_tree.specs.{declared.tree.declaration.WrittenType.WrittenType, declared.tree.declaration.Declaration.Declaration, declared.tree.item.GlobalDefinition.GlobalDefinition, Measures.{expressions, in_arguments, in_option, in_right, in_simple, in_local}, Tree.{Expression, identifier, constant, parentheses, call, spawn, on_value, on_place, cast, index, field, unary, binary, Arguments, no_arguments, argument, Right, value, malloc, Simple, assign, does_call, Local, First, nothing, declares, does, Head, Statement, Statements, no_statements, statement, Function, Item, structure, global, function}}
 use Rattle.sharc_tree.specs.Tree as tree
-use Rattle.sharc_names.specs.Names.{Entry}
-use Rattle.sharc_names.specs.declared.types.Role.{Role}
+use Rattle.sharc_names.specs.{Names.Entry, declared.types.Role.Role}
 use Rattle.sharc_names.specs.declared.types.Role.TheVariants as role
-use Rattle.sharc_ctype.specs.declared.entity.Entity.{Entity}
-use Rattle.sharc_ctype.specs.Entities.{declared, casts, first_entities, head_entities, statement_entities, statements_entities, item_entities, entities_in}
-use Rattle.sharc_ctype.specs.Resolved.{globals_in, functions_in, declarations_of, declarations_in}
-use Rattle.sharc_ctype.specs.Statements.{first_locals, locals_in, locals_in_all}
+use Rattle.sharc_ctype.specs.{declared.entity.Entity.Entity, Entities.{declared, casts, first_entities, head_entities, statement_entities, statements_entities, item_entities, entities_in}, Resolved.{globals_in, functions_in, declarations_of, declarations_in}, Statements.{first_locals, locals_in, locals_in_all}}
 use Rattle.sharc_ctype_laws.specs.WrittenTypes.{types_in, types_in_arguments, types_in_option, types_in_right, types_in_simple, types_in_first, types_in_head, types_in_statement, types_in_statements, types_in_declarations, types_in_item, types_in_items}
-use Rattle.sharc_suggest.specs.Givings.{behind_first, after, with_parameters, Receiver, of_declared, of_left, of_parameter, Giving, one_giving, givings, all_givings, option_givings, value_givings, right_givings, simple_givings, local_givings, first_givings, head_givings, givings_in, givings_in_all, item_givings, items_givings}
-use Rattle.sharc_suggest.specs.Repairs.{entry_of}
+use Rattle.sharc_suggest.specs.{Givings.{behind_first, after, with_parameters, Receiver, of_declared, of_left, of_parameter, Giving, one_giving, givings, all_givings, option_givings, value_givings, right_givings, simple_givings, local_givings, first_givings, head_givings, givings_in, givings_in_all, item_givings, items_givings}, Repairs.entry_of}
 use Rattle.sharc_suggest_laws.proofs.Grown.{casts_append}
-use Rattle.sharc_suggest_laws.proofs.Listed.{front, back, joint}
+use Rattle.sharc_lemmas.proofs.Lists.{front, back, both as joint}
 
 -- of the types of these
 abbrev pub Have : (WrittenType → Type 0) → List Entity → Type 0

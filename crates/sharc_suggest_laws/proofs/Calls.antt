@@ -1,26 +1,14 @@
 -- Calls of condition variables that a program does not define: what the file knows of their names, and what the token of one names with the cast written.
-use Rattle.std.proofs.Common.{◌≡◌, ◌⊎◌, inl, inr, ⊎_elim, ℕ, ◌<◌, ◌≤◌, ◌==◌, ◌||◌, Bool, true, false, cond, List, [], ◌∷◌, ◌++◌, length, get_or, Option, Some, None, is_some, bytes_eq, codes, refl, ap, sym, ◌∙◌, eqb-true}
-use Rattle.std.specs.List.{AllByRecursion}
-use Rattle.std.specs.Map.{lookup}
-use Rattle.std.proofs.lemmas.Bool.{false≢true, cases_lt}
-use Rattle.sharc_tree.specs.declared.tree.declaration.Declaration.{Declaration}
-use Rattle.sharc_tree.specs.declared.tree.item.StructDefinition.{StructDefinition}
-use Rattle.sharc_tree.specs.Tree.{Item, structure, global, function}
-use Rattle.sharc_names.specs.declared.fault.Named.{Named}
+use Rattle.std.proofs.{Common.{◌≡◌, ◌⊎◌, inl, inr, ⊎_elim, ℕ, ◌<◌, ◌≤◌, ◌==◌, ◌||◌, Bool, true, false, cond, List, [], ◌∷◌, ◌++◌, length, get_or, Option, Some, None, is_some, bytes_eq, codes, refl, ap, sym, ◌∙◌, eqb-true}, lemmas.Bool.{false≢true, cases_lt}}
+use Rattle.std.specs.{List.AllByRecursion, Map.lookup}
+use Rattle.sharc_tree.specs.{declared.tree.declaration.Declaration.Declaration, declared.tree.item.StructDefinition.StructDefinition, Tree.{Item, structure, global, function}}
+use Rattle.sharc_names.specs.{declared.fault.Named.Named, declared.meaning.ConditionCall.TheVariants.{Wait, Signal, Broadcast}, declared.scope.Scope.Scope, Names.{Entry, StructMeaning, StructTable, look_up, struct_of, named_of}, Notes.{Note, fault, refers, yields, is_free}}
 use Rattle.sharc_names.specs.declared.fault.Named.TheVariants as named
-use Rattle.sharc_names.specs.declared.meaning.ConditionCall.TheVariants.{Wait, Signal, Broadcast}
-use Rattle.sharc_names.specs.declared.scope.Scope.{Scope}
-use Rattle.sharc_names.specs.Names.{Entry, StructMeaning, StructTable, look_up, struct_of, named_of}
 use Rattle.sharc_names.specs.Names as meaning
-use Rattle.sharc_names.specs.Notes.{Note, fault, refers, yields, is_free}
-use Rattle.sharc_ctype.specs.Condition.{defines_condition, call_entry, with_conditions}
-use Rattle.sharc_ctype.specs.Heads.{Heading, with_struct, with_entry, global_entry, function_entry, behind, behind_all, no_heads}
-use Rattle.sharc_ctype.specs.Items.{file_scope, notes_about, named_in}
-use Rattle.sharc_ctype.specs.Resolved.{Resolution, named_at}
+use Rattle.sharc_ctype.specs.{Condition.{defines_condition, call_entry, with_conditions}, Heads.{Heading, with_struct, with_entry, global_entry, function_entry, behind, behind_all, no_heads}, Items.{file_scope, notes_about, named_in}, Resolved.{Resolution, named_at}}
 use Rattle.sharc_mode.specs.Sharings.{is_field}
 use Rattle.sharc_suggest.specs.Repairs.{is_call_name, is_call_at}
-use Rattle.sharc_suggest_laws.proofs.Folded.{seen, named_seen, named_past, IsOwnAt}
-use Rattle.sharc_suggest_laws.proofs.Noted.{IsHarmless, Noted, done, kept, added, old_fault, new_fault}
+use Rattle.sharc_suggest_laws.proofs.{Folded.{seen, named_seen, named_past, IsOwnAt}, Noted.{IsHarmless, Noted, done, kept, added, old_fault, new_fault}}
 
 -- ---- a file that knows something that it does not define
 

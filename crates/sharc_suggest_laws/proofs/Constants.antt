@@ -1,21 +1,12 @@
 -- The same variables are constant in a program with a cast written in it, where its names name what they named.
-use Rattle.std.proofs.Common.{◌≡◌, inl, inr, ℕ, Bool, true, false, not, ◌&&◌, ◌||◌, cond, List, [], ◌∷◌, ◌++◌, map, Option, Some, None, option_map, is_some, refl, ap, ap₂, sym, ◌∙◌}
+use Rattle.std.proofs.{Common.{◌≡◌, inl, inr, ℕ, Bool, true, false, not, ◌&&◌, ◌||◌, cond, List, [], ◌∷◌, ◌++◌, map, Option, Some, None, option_map, is_some, refl, ap, ap₂, sym, ◌∙◌}, lemmas.Bool.false≢true, lemmas.List.Folds.list_any-append}
 use Rattle.std.specs.List.{list_any}
-use Rattle.std.proofs.lemmas.Bool.{false≢true}
-use Rattle.std.proofs.lemmas.List.Folds.{list_any-append}
-use Rattle.sharc_tree.specs.declared.tree.declaration.WrittenType.{WrittenType}
-use Rattle.sharc_tree.specs.declared.tree.declaration.Declaration.{Declaration}
-use Rattle.sharc_tree.specs.Forms.{without_parentheses}
-use Rattle.sharc_tree.specs.Tree.{Expression, identifier, constant, parentheses, call, spawn, on_value, on_place, cast, index, field, unary, binary, Arguments, no_arguments, argument, Right, value, malloc, Simple, assign, does_call, Local, First, nothing, declares, does, Head, Statement, Statements, no_statements, statement, Function, Item, structure, global, function, Program}
+use Rattle.sharc_tree.specs.{declared.tree.declaration.WrittenType.WrittenType, declared.tree.declaration.Declaration.Declaration, Forms.without_parentheses, Tree.{Expression, identifier, constant, parentheses, call, spawn, on_value, on_place, cast, index, field, unary, binary, Arguments, no_arguments, argument, Right, value, malloc, Simple, assign, does_call, Local, First, nothing, declares, does, Head, Statement, Statements, no_statements, statement, Function, Item, structure, global, function, Program}}
 use Rattle.sharc_tree.specs.Tree as tree
 use Rattle.sharc_names.specs.declared.fault.Named.{Named}
 use Rattle.sharc_names.specs.declared.fault.Named.TheVariants as named
-use Rattle.sharc_rewrite.specs.declared.written.Recast.{Recast}
-use Rattle.sharc_rewrite.specs.Recast.{around, with_cast, right_with_cast, simple_with_cast, local_with_cast, first_with_cast, statement_with_cast, statements_with_cast, function_with_cast, item_with_cast, program_with_cast}
-use Rattle.sharc_ctype.specs.Constants.{is_among, stands_left, is_assigned_by, is_assigned_in, is_constant}
-use Rattle.sharc_ctype.specs.Resolved.{Resolution, functions_in, named_at}
-use Rattle.sharc_ctype.specs.Transfers.{Receiver, lvalue, variable, result, Transfer, parameters_named, gives, passed, transfers, argument_transfers, in_option, right_transfers, simple_transfers, first_transfers, statement_transfers, statements_transfers}
-use Rattle.sharc_ctype.specs.Variables.{initialised, initialised_first, initialised_in, initialised_in_all, variable as variable_in, variable_of, with_value, all_with_value}
+use Rattle.sharc_rewrite.specs.{declared.written.Recast.Recast, Recast.{around, with_cast, right_with_cast, simple_with_cast, local_with_cast, first_with_cast, statement_with_cast, statements_with_cast, function_with_cast, item_with_cast, program_with_cast}}
+use Rattle.sharc_ctype.specs.{Constants.{is_among, stands_left, is_assigned_by, is_assigned_in, is_constant}, Resolved.{Resolution, functions_in, named_at}, Transfers.{Receiver, lvalue, variable, result, Transfer, parameters_named, gives, passed, transfers, argument_transfers, in_option, right_transfers, simple_transfers, first_transfers, statement_transfers, statements_transfers}, Variables.{initialised, initialised_first, initialised_in, initialised_in_all, variable as variable_in, variable_of, with_value, all_with_value}}
 use Rattle.sharc_suggest_laws.specs.Names.{is_dull, KeepsName}
 use Rattle.sharc_suggest_laws.proofs.Declared.{same_functions}
 

@@ -1,25 +1,14 @@
 -- A cast to modes that are expected has them.
-use Rattle.std.proofs.Common.{◌≡◌, ℕ, true, List, [], ◌∷◌, length, take, drop, map, Option, Some, None, refl, ap, ap₂, ◌∙◌, eq-eqb}
-use Rattle.std.proofs.lemmas.Bool.{and_from, cond-true}
-use Rattle.std.proofs.lemmas.Slice.Eq.{bytes_eq-Decides}
-use Rattle.sharc_tree.specs.declared.ctype.CType.{CType}
-use Rattle.sharc_tree.specs.declared.ctype.Mode.{Mode}
-use Rattle.sharc_tree.specs.Spans.{span_of}
-use Rattle.sharc_tree.specs.Tree.{Expression, cast}
+use Rattle.std.proofs.{Common.{◌≡◌, ℕ, true, List, [], ◌∷◌, length, take, drop, map, Option, Some, None, refl, ap, ap₂, ◌∙◌, eq-eqb}, lemmas.Bool.{and_from, cond-true}, lemmas.Slice.Eq.bytes_eq-Decides}
+use Rattle.sharc_tree.specs.{declared.ctype.CType.CType, declared.ctype.Mode.Mode, Spans.span_of, Tree.{Expression, cast}}
 use Rattle.sharc_names.specs.declared.fault.Named.{Named}
 use Rattle.sharc_names.specs.declared.fault.Named.TheVariants as named
 use Rattle.sharc_ctype.specs.Resolved.{Resolution, named_at, kind_at}
-use Rattle.sharc_mode.specs.Moded.{Assignment}
-use Rattle.sharc_mode.specs.Notes.{agree, base_of}
-use Rattle.sharc_mode.specs.Rows.{Targets, written, read, entity_row, cast_row, modes_of}
-use Rattle.sharc_mode.specs.Sharings.{Sharing, private, readonly, locked, racy, dynamic, lock_of, path_with, sharing_of, mode_of, same, same_named, same_text, same_first, same_second, same_all, text_at}
+use Rattle.sharc_mode.specs.{Moded.Assignment, Notes.{agree, base_of}, Rows.{Targets, written, read, entity_row, cast_row, modes_of}, Sharings.{Sharing, private, readonly, locked, racy, dynamic, lock_of, path_with, sharing_of, mode_of, same, same_named, same_text, same_first, same_second, same_all, text_at}}
 use Rattle.sharc_rewrite.specs.Applied.{written_or, targets, inserted, first_of, first_new, resolution_with, assignment_with}
 use Rattle.sharc_suggest.specs.Repairs.{cast_to}
 use Rattle.sharc_suggest_laws.specs.Expected.{IsCastAt, HasExpected, Agrees, CastHasExpected}
-use Rattle.sharc_suggest_laws.proofs.Inserted.{stretch_added}
-use Rattle.sharc_suggest_laws.proofs.Rows.{row_of, all_read}
-use Rattle.sharc_suggest_laws.proofs.Stands.{suggested_stands}
-use Rattle.sharc_suggest_laws.proofs.Types.{targets_counted}
+use Rattle.sharc_suggest_laws.proofs.{Inserted.stretch_added, Rows.{row_of, all_read}, Stands.suggested_stands, Types.targets_counted}
 
 -- ---- the modes of a type that is shown are those that it was made of
 

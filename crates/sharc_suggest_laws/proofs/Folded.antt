@@ -1,14 +1,10 @@
 -- What tokens name by notes with others among them.
-use Rattle.std.proofs.Common.{◌≡◌, ◌⊎◌, inl, inr, ⊎_elim, ℕ, ◌<◌, ◌≤◌, ◌==◌, Bool, true, false, cond, List, [], ◌∷◌, length, get_or, set, refl, ap, sym, subst, ◌∙◌, eqb-true, arith}
+use Rattle.std.proofs.{Common.{◌≡◌, ◌⊎◌, inl, inr, ⊎_elim, ℕ, ◌<◌, ◌≤◌, ◌==◌, Bool, true, false, cond, List, [], ◌∷◌, length, get_or, set, refl, ap, sym, subst, ◌∙◌, eqb-true, arith}, lemmas.Bool.{false≢true, eqb-false, cases_lt}, lemmas.List.{length-set, length-replicate, get_or-set_same, get_or-set_other, get_or_past, get_or-replicate}}
 use Rattle.std.specs.List.{fold, AllByRecursion}
-use Rattle.std.proofs.lemmas.Bool.{false≢true, eqb-false, cases_lt}
-use Rattle.std.proofs.lemmas.List.{length-set, length-replicate, get_or-set_same, get_or-set_other, get_or_past, get_or-replicate}
 use Rattle.sharc_tree.specs.Tree.{Program}
-use Rattle.sharc_names.specs.declared.fault.Named.{Named}
+use Rattle.sharc_names.specs.{declared.fault.Named.Named, Notes.{Note, fault, refers, yields, Findings, is_free, set_if_free, noted}}
 use Rattle.sharc_names.specs.declared.fault.Named.TheVariants as named
-use Rattle.sharc_names.specs.Notes.{Note, fault, refers, yields, Findings, is_free, set_if_free, noted}
-use Rattle.sharc_ctype.specs.Items.{notes_about, nothing_found, named_in}
-use Rattle.sharc_ctype.specs.Resolved.{Resolution, IsResolved, named_at}
+use Rattle.sharc_ctype.specs.{Items.{notes_about, nothing_found, named_in}, Resolved.{Resolution, IsResolved, named_at}}
 use Rattle.sharc_mode.specs.Sharings.{is_field}
 use Rattle.sharc_suggest_laws.specs.Names.{is_dull, KeepsName}
 use Rattle.sharc_suggest_laws.proofs.Noted.{Noted, done, kept, added, old_fault, new_fault}

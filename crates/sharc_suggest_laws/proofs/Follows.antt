@@ -1,8 +1,6 @@
 -- Spans that follow one another, in two parts.
 use Rattle.std.proofs.Common.{ℕ, ◌+◌, ◌<◌, ◌≤◌, List, [], ◌∷◌, ◌++◌, arith}
-use Rattle.sharc_tree.specs.declared.token.Span.{Span}
-use Rattle.sharc_tree.specs.declared.token.Token.{Token}
-use Rattle.sharc_tree.specs.Placed.{Follow}
+use Rattle.sharc_tree.specs.{declared.token.Span.Span, declared.token.Token.Token, Placed.Follow}
 
 -- there is a token between them
 pub split : (all : List Token) (from until : ℕ) (xs ys : List Span) → from ≤ until → Follow all from until (xs ++ ys)

@@ -1,41 +1,12 @@
 -- The mismatch is gone where the same is expected of the cast as was of what was there.
-use Rattle.sharc_suggest.specs.Casts.{IsSuggested}
-use Rattle.std.proofs.Common.{◌≡◌, ℕ, ◌+◌, ◌≤◌, ◌==◌, ◌&&◌, Bool, true, false, cond, List, [], ◌∷◌, ◌++◌, length, Some, refl, ap, subst, ◌∙◌, eq-eqb, arith}
+use Rattle.sharc_suggest.specs.{Casts.IsSuggested, Repairs.cast_to, Givings.{Giving, items_givings, wanted}}
+use Rattle.std.proofs.{Common.{◌≡◌, ℕ, ◌+◌, ◌≤◌, ◌==◌, ◌&&◌, Bool, true, false, cond, List, [], ◌∷◌, ◌++◌, length, Some, refl, ap, subst, ◌∙◌, eq-eqb, arith}, lemmas.Bool.{and_from, cond-true}, lemmas.List.map-append}
 use Rattle.std.specs.List.{filter}
-use Rattle.std.proofs.lemmas.Bool.{and_from, cond-true}
-use Rattle.std.proofs.lemmas.List.{map-append}
-use Rattle.sharc_tree.specs.declared.token.Span.{Span}
-use Rattle.sharc_tree.specs.declared.tree.declaration.WrittenType.{WrittenType}
-use Rattle.sharc_tree.specs.Placed.{IsPlaced}
-use Rattle.sharc_tree.specs.Spans.{span_of}
-use Rattle.sharc_tree.specs.Tree.{Expression, cast}
-use Rattle.sharc_rewrite.specs.declared.written.Recast.{Recast}
-use Rattle.sharc_rewrite.specs.Recast.{type_at, is_there, around, with_cast}
-use Rattle.sharc_mode.specs.declared.error.Cast.{Cast}
-use Rattle.sharc_mode.specs.declared.error.ModeError.{ModeError}
-use Rattle.sharc_mode.specs.declared.finding.Finding.{Finding}
-use Rattle.sharc_mode.specs.Moded.{Assignment, IsWhole}
-use Rattle.sharc_mode.specs.Notes.{agree_notes}
-use Rattle.sharc_mode.specs.Sharings.{Sharing}
-use Rattle.sharc_mode.specs.WellModed.{notes_about}
-use Rattle.sharc_rewrite.specs.Applied.{recast_of, assignment_with}
-use Rattle.sharc_suggest.specs.Repairs.{cast_to}
-use Rattle.sharc_suggest_laws.specs.Expected.{IsCastAt}
-use Rattle.sharc_suggest.specs.Givings.{Giving, items_givings, wanted}
-use Rattle.sharc_suggest_laws.specs.Givings.{giving_with, receiver_with}
-use Rattle.sharc_suggest_laws.specs.Gone.{IsGone, IsExpectedAgain, GoneWhereExpected}
-use Rattle.sharc_suggest_laws.specs.Mismatches.{is_mismatch_at}
-use Rattle.sharc_suggest_laws.specs.Values.{count_of, met_by, met_in_items, begins_at}
-use Rattle.sharc_suggest_laws.proofs.Agreed.{told_of, told_in, told_append, in_program}
-use Rattle.sharc_suggest_laws.proofs.Counted.{counted, counted_append, in_items as items_counted}
-use Rattle.sharc_suggest_laws.proofs.Expected.{agrees}
-use Rattle.sharc_suggest_laws.proofs.Few.{values_begin_apart}
-use Rattle.sharc_suggest_laws.proofs.Grown.{span_same}
-use Rattle.sharc_suggest_laws.proofs.Mismatches.{at_value, told_at, told_all}
-use Rattle.sharc_suggest_laws.proofs.Quiet.{ones}
-use Rattle.sharc_suggest_laws.proofs.Site.{HasSite, has_site}
-use Rattle.sharc_suggest_laws.proofs.Stands.{suggested_stands}
-use Rattle.sharc_suggest_laws.proofs.Written.{givings_with, in_items as items_written}
+use Rattle.sharc_tree.specs.{declared.token.Span.Span, declared.tree.declaration.WrittenType.WrittenType, Placed.IsPlaced, Spans.span_of, Tree.{Expression, cast}}
+use Rattle.sharc_rewrite.specs.{declared.written.Recast.Recast, Recast.{type_at, is_there, around, with_cast}, Applied.{recast_of, assignment_with}}
+use Rattle.sharc_mode.specs.{declared.error.Cast.Cast, declared.error.ModeError.ModeError, declared.finding.Finding.Finding, Moded.{Assignment, IsWhole}, Notes.agree_notes, Sharings.Sharing, WellModed.notes_about}
+use Rattle.sharc_suggest_laws.specs.{Expected.IsCastAt, Givings.{giving_with, receiver_with}, Gone.{IsGone, IsExpectedAgain, GoneWhereExpected}, Mismatches.is_mismatch_at, Values.{count_of, met_by, met_in_items, begins_at}}
+use Rattle.sharc_suggest_laws.proofs.{Agreed.{told_of, told_in, told_append, in_program}, Counted.{counted, counted_append, in_items as items_counted}, Expected.agrees, Few.values_begin_apart, Grown.span_same, Mismatches.{at_value, told_at, told_all}, Quiet.ones, Site.{HasSite, has_site}, Stands.suggested_stands, Written.{givings_with, in_items as items_written}}
 
 around_by : (c : Recast) (e : Expression) (b : Bool) → span_of (cond b (cast (span_of e) (type_at c (span_of e)) e) e) ≡ span_of e
 around_by c e true = refl

@@ -1,20 +1,11 @@
 -- What has a type in a program at its tokens with a cast written in it: what had one before, in its order, and that many times the cast, which is after all that begins before it.
-use Rattle.std.proofs.Common.{◌≡◌, ℕ, ◌+◌, ◌<◌, ◌≤◌, ◌==◌, Bool, true, false, ◌&&◌, ◌⊎◌, inl, inr, List, [], ◌∷◌, ◌++◌, map, refl, ap, sym, subst, subst₂, Option, Some, None, IfSome, option_map, if◌then◌else◌, eqb-true, arith}
-use Rattle.std.proofs.lemmas.Bool.{and_parts}
-use Rattle.sharc_tree.specs.declared.token.Span.{Span}
-use Rattle.sharc_tree.specs.declared.token.Token.{Token}
-use Rattle.sharc_tree.specs.declared.tree.declaration.Declaration.{Declaration}
-use Rattle.sharc_tree.specs.Measures.{expressions, in_arguments, in_option, in_right, in_simple, in_local}
-use Rattle.sharc_tree.specs.Placed.{Follow, IsWhole, point, option_spans, argument_spans, first_spans, head_spans, statement_spans, declaration_spans, form_spans, item_spans, PlacedDeclaration, PlacedDeclarations, Placed, AllPlaced, PlacedRight, PlacedSimple, PlacedLocal, PlacedFirst, PlacedHead, PlacedStatement, PlacedStatements, PlacedItem, PlacedItems}
-use Rattle.sharc_tree.specs.Spans.{span_of, span_of_right, span_of_simple, span_of_statement, span_of_item}
-use Rattle.sharc_tree.specs.Tree.{Expression, identifier, constant, parentheses, call, spawn, on_value, on_place, cast, index, field, unary, binary, Arguments, no_arguments, argument, Right, value, malloc, Simple, assign, does_call, Local, First, nothing, declares, does, Head, Statement, Statements, no_statements, statement, Function, Item, structure, global, function}
+use Rattle.std.proofs.{Common.{◌≡◌, ℕ, ◌+◌, ◌<◌, ◌≤◌, ◌==◌, Bool, true, false, ◌&&◌, ◌⊎◌, inl, inr, List, [], ◌∷◌, ◌++◌, map, refl, ap, sym, subst, subst₂, Option, Some, None, IfSome, option_map, if◌then◌else◌, eqb-true, arith}, lemmas.Bool.and_parts}
+use Rattle.sharc_tree.specs.{declared.token.Span.Span, declared.token.Token.Token, declared.tree.declaration.Declaration.Declaration, Measures.{expressions, in_arguments, in_option, in_right, in_simple, in_local}, Placed.{Follow, IsWhole, point, option_spans, argument_spans, first_spans, head_spans, statement_spans, declaration_spans, form_spans, item_spans, PlacedDeclaration, PlacedDeclarations, Placed, AllPlaced, PlacedRight, PlacedSimple, PlacedLocal, PlacedFirst, PlacedHead, PlacedStatement, PlacedStatements, PlacedItem, PlacedItems}, Spans.{span_of, span_of_right, span_of_simple, span_of_statement, span_of_item}, Tree.{Expression, identifier, constant, parentheses, call, spawn, on_value, on_place, cast, index, field, unary, binary, Arguments, no_arguments, argument, Right, value, malloc, Simple, assign, does_call, Local, First, nothing, declares, does, Head, Statement, Statements, no_statements, statement, Function, Item, structure, global, function}}
 use Rattle.sharc_tree.specs.Tree as tree
 use Rattle.sharc_names.specs.declared.types.Role.{Role}
 use Rattle.sharc_names.specs.declared.types.Role.TheVariants as role
-use Rattle.sharc_rewrite.specs.declared.written.Recast.{Recast}
-use Rattle.sharc_rewrite.specs.Recast.{type_at, is_there, around, with_cast, all_with_cast, right_with_cast, simple_with_cast, local_with_cast, first_with_cast, head_with_cast, statement_with_cast, statements_with_cast, item_with_cast}
-use Rattle.sharc_ctype.specs.declared.entity.Entity.{Entity}
-use Rattle.sharc_ctype.specs.Entities.{declared, casts, cast_entity, result_of, local_entities, first_entities, head_entities, statement_entities, statements_entities, item_entities, entities_in}
+use Rattle.sharc_rewrite.specs.{declared.written.Recast.Recast, Recast.{type_at, is_there, around, with_cast, all_with_cast, right_with_cast, simple_with_cast, local_with_cast, first_with_cast, head_with_cast, statement_with_cast, statements_with_cast, item_with_cast}}
+use Rattle.sharc_ctype.specs.{declared.entity.Entity.Entity, Entities.{declared, casts, cast_entity, result_of, local_entities, first_entities, head_entities, statement_entities, statements_entities, item_entities, entities_in}}
 use Rattle.sharc_suggest_laws.specs.Values.{count_of, met_by, met_inside, met_inside_all, met_at, of_option, met_in_right, met_in_simple, met_in_local, met_in_first, met_in_head, met_in_statement, met_in_statements, met_in_item, met_in_items}
 use Rattle.sharc_suggest_laws.proofs.Follows.{split}
 

@@ -1,28 +1,16 @@
 -- What is said of the type of a cast that is suggested does no harm: its names name there what they name where they are written.
-use Rattle.std.proofs.Common.{◌≡◌, inl, inr, ℕ, ◌+◌, Bool, true, false, List, [], ◌∷◌, ◌++◌, map, Option, Some, None, refl, ap, sym, subst, ◌∙◌, eqb-true}
-use Rattle.std.proofs.lemmas.Bool.{false≢true, and_parts}
-use Rattle.sharc_tree.specs.declared.ctype.Base.{Base}
+use Rattle.std.proofs.{Common.{◌≡◌, inl, inr, ℕ, ◌+◌, Bool, true, false, List, [], ◌∷◌, ◌++◌, map, Option, Some, None, refl, ap, sym, subst, ◌∙◌, eqb-true}, lemmas.Bool.{false≢true, and_parts}}
+use Rattle.sharc_tree.specs.{declared.ctype.Base.Base, declared.ctype.Mode.Mode, declared.tree.declaration.Declaration.Declaration, declared.tree.declaration.WrittenType.WrittenType}
 use Rattle.sharc_tree.specs.declared.ctype.Base.TheVariants as base
-use Rattle.sharc_tree.specs.declared.ctype.Mode.{Mode}
-use Rattle.sharc_tree.specs.declared.tree.declaration.Declaration.{Declaration}
-use Rattle.sharc_tree.specs.declared.tree.declaration.WrittenType.{WrittenType}
-use Rattle.sharc_names.specs.declared.fault.FaultCode.TheVariants.{TypeNotAllowed}
-use Rattle.sharc_names.specs.declared.fault.Named.{Named}
+use Rattle.sharc_names.specs.{declared.fault.FaultCode.TheVariants.TypeNotAllowed, declared.fault.Named.Named, declared.scope.Scope.Scope, Names.{Entry, StructMeaning, StructTable, struct_of, look_up, named_of, named_struct}, Notes.fault_unless, Types.{name_notes, main_notes, second_in, second_notes, path_notes, mode_notes, modes_notes, struct_note, base_notes, allowed_there, type_notes, first_kind}}
 use Rattle.sharc_names.specs.declared.fault.Named.TheVariants as named
-use Rattle.sharc_names.specs.declared.scope.Scope.{Scope}
 use Rattle.sharc_names.specs.declared.types.Role.TheVariants as role
-use Rattle.sharc_names.specs.Names.{Entry, StructMeaning, StructTable, struct_of, look_up, named_of, named_struct}
 use Rattle.sharc_names.specs.Names as meaning
-use Rattle.sharc_names.specs.Notes.{fault_unless}
-use Rattle.sharc_names.specs.Types.{name_notes, main_notes, second_in, second_notes, path_notes, mode_notes, modes_notes, struct_note, base_notes, allowed_there, type_notes, first_kind}
-use Rattle.sharc_ctype.specs.Resolved.{Resolution, named_at}
-use Rattle.sharc_ctype.specs.Statements.{with_names}
+use Rattle.sharc_ctype.specs.{Resolved.{Resolution, named_at}, Statements.with_names}
 use Rattle.sharc_mode.specs.Sharings.{Sharing, private, readonly, locked, racy, dynamic, is_field, same_named, mode_of, path_with, text_at}
 use Rattle.sharc_suggest.specs.Repairs.{is_call_at, keeps_named, keeps, keeps_all}
 use Rattle.sharc_suggest_laws.specs.Names.{is_dull}
-use Rattle.sharc_suggest_laws.proofs.Words.{calls_apart}
-use Rattle.sharc_suggest_laws.proofs.Noted.{Clean, left, right, no_fault, Noted, done, added, both, more_faults, new_fault, quiet, main_faults, unless_faults}
-use Rattle.sharc_suggest_laws.proofs.Scoped.{IsFoundAs, Scoped}
+use Rattle.sharc_suggest_laws.proofs.{Words.calls_apart, Noted.{Clean, left, right, no_fault, Noted, done, added, both, more_faults, new_fault, quiet, main_faults, unless_faults}, Scoped.{IsFoundAs, Scoped}}
 
 -- a global or a function
 abbrev pub is_filed : Named → Bool

@@ -1,36 +1,19 @@
 -- At each place one mismatch of modes at most: each is reported of a giving, at its first token.
 use Rattle.std.proofs.Common.{◌≡◌, ℕ, ◌+◌, ◌≤◌, ◌==◌, Bool, true, false, cond, List, [], ◌∷◌, ◌++◌, length, Option, Some, None, refl, ap, ◌∙◌, arith}
 use Rattle.std.specs.List.{flat_map, filter}
-use Rattle.sharc_tree.specs.declared.ctype.Base.{Base}
-use Rattle.sharc_tree.specs.declared.token.Span.{Span}
-use Rattle.sharc_tree.specs.Spans.{span_of}
-use Rattle.sharc_tree.specs.Tree.{Expression}
+use Rattle.sharc_tree.specs.{declared.ctype.Base.Base, declared.token.Span.Span, Spans.span_of, Tree.Expression}
 use Rattle.sharc_ctype.specs.Resolved.{Resolution, kind_at}
-use Rattle.sharc_mode.specs.declared.error.ErrorCode.TheVariants.{ModeMismatch, NamedByLockPath}
-use Rattle.sharc_mode.specs.declared.error.ModeError.{ModeError}
-use Rattle.sharc_mode.specs.declared.finding.Finding.{Finding}
-use Rattle.sharc_mode.specs.declared.finding.Finding.TheVariants.{Wrong, Names, Takes}
-use Rattle.sharc_mode.specs.Moded.{Assignment}
-use Rattle.sharc_mode.specs.Notes.{agree, agree_notes, base_of, error_where, error_of, errors_by, is_named, mismatch, shown}
-use Rattle.sharc_mode.specs.Rows.{modes_at}
-use Rattle.sharc_mode.specs.Sharings.{Sharing, same_all, text_at}
-use Rattle.sharc_mode.specs.WellModed.{notes_about}
-use Rattle.sharc_suggest_laws.specs.Mismatches.{is_mismatch_at, OneMismatch}
-use Rattle.sharc_suggest_laws.specs.Values.{count_of, met_by, met_in_items, begins_at}
+use Rattle.sharc_mode.specs.{declared.error.ErrorCode.TheVariants.{ModeMismatch, NamedByLockPath}, declared.error.ModeError.ModeError, declared.finding.Finding.Finding, declared.finding.Finding.TheVariants.{Wrong, Names, Takes}, Moded.Assignment, Notes.{agree, agree_notes, base_of, error_where, error_of, errors_by, is_named, mismatch, shown}, Rows.modes_at, Sharings.{Sharing, same_all, text_at}, WellModed.notes_about}
+use Rattle.sharc_suggest_laws.specs.{Mismatches.{is_mismatch_at, OneMismatch}, Values.{count_of, met_by, met_in_items, begins_at}}
 use Rattle.sharc_suggest.specs.Givings.{Giving, items_givings, wanted}
-use Rattle.sharc_suggest_laws.proofs.Agreed.{told_of, told_in, in_program}
-use Rattle.sharc_suggest_laws.proofs.Counted.{counted, in_items as items_counted}
-use Rattle.sharc_suggest_laws.proofs.Few.{values_begin_apart}
-use Rattle.sharc_suggest_laws.proofs.Quiet.{one, ones}
+use Rattle.sharc_suggest_laws.proofs.{Agreed.{told_of, told_in, in_program}, Counted.{counted, in_items as items_counted}, Few.values_begin_apart, Quiet.{one, ones}}
+use Rattle.sharc_lemmas.proofs.Numbers.{zero_le as least}
 
 -- ---- of a value: one at its first token
 
 one_by : (b : Bool) → cond b 1 0 + 0 ≤ count_of b
 one_by true = let fits : 1 + 0 ≤ 1 = omega arith in fits
 one_by false = let fits : 0 + 0 ≤ 0 = omega arith in fits
-
-least : (n : ℕ) → 0 ≤ n
-least n = omega arith
 
 unless_by : (t : ℕ) (r : Resolution) (s : Span) (b : Base) (want found : List Sharing) (same : Bool) → ones t (cond same [] (mismatch ModeMismatch s (shown r b want) (shown r b found) ∷ [])) ≤ count_of (s.first.token == t)
 unless_by t r s b want found true = least (count_of (s.first.token == t))

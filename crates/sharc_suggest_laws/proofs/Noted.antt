@@ -1,33 +1,11 @@
 -- Notes with others among them, faults apart: what a cast adds to what is to be said of a program.
 use Rattle.std.proofs.Common.{◌≡◌, ◌⊎◌, ℕ, ◌==◌, Bool, true, false, not, ◌||◌, cond, List, [], ◌∷◌, ◌++◌, Option, Some, None, refl}
 use Rattle.std.specs.List.{AllByRecursion}
-use Rattle.sharc_tree.specs.declared.ctype.Base.{Base}
+use Rattle.sharc_tree.specs.{declared.ctype.Base.Base, declared.ctype.Mode.Mode, declared.ctype.Mode.TheVariants.{Private, Readonly, Locked, Racy, Dynamic}, declared.ctype.Path.Path, declared.ctype.Path.TheVariants.{One, Through}, declared.tree.declaration.WrittenType.WrittenType, declared.tree.declaration.Declaration.Declaration, declared.tree.expression.PlaceCall.PlaceCall, Tree.Expression}
 use Rattle.sharc_tree.specs.declared.ctype.Base.TheVariants as base
-use Rattle.sharc_tree.specs.declared.ctype.Mode.{Mode}
-use Rattle.sharc_tree.specs.declared.ctype.Mode.TheVariants.{Private, Readonly, Locked, Racy, Dynamic}
-use Rattle.sharc_tree.specs.declared.ctype.Path.{Path}
-use Rattle.sharc_tree.specs.declared.ctype.Path.TheVariants.{One, Through}
-use Rattle.sharc_tree.specs.declared.tree.declaration.WrittenType.{WrittenType}
-use Rattle.sharc_tree.specs.declared.tree.declaration.Declaration.{Declaration}
-use Rattle.sharc_tree.specs.declared.tree.expression.PlaceCall.{PlaceCall}
-use Rattle.sharc_tree.specs.Tree.{Expression}
-use Rattle.sharc_names.specs.declared.fault.FaultCode.{FaultCode}
-use Rattle.sharc_names.specs.declared.fault.FaultCode.TheVariants.{TypeMismatch, ArgumentCount, NoLvalue, TypeNotAllowed, BadForm}
-use Rattle.sharc_names.specs.declared.fault.Named.{Named}
-use Rattle.sharc_names.specs.declared.need.Need.{Need}
-use Rattle.sharc_names.specs.declared.scope.Scope.{Scope}
-use Rattle.sharc_names.specs.declared.types.Role.{Role}
-use Rattle.sharc_names.specs.Kinds.{Kind, object, array, null, is_pointer, stars_of}
+use Rattle.sharc_names.specs.{declared.fault.FaultCode.FaultCode, declared.fault.FaultCode.TheVariants.{TypeMismatch, ArgumentCount, NoLvalue, TypeNotAllowed, BadForm}, declared.fault.Named.Named, declared.need.Need.Need, declared.scope.Scope.Scope, declared.types.Role.Role, Kinds.{Kind, object, array, null, is_pointer, stars_of}, Names.{Entry, Meaning, StructMeaning, look_up, field_of, struct_of, is_main}, Needs.{place, called, fits, unmet, misfit, misfit_of, mismatch, used_call, agreed, unagreed}, Notes.{Note, fault, refers, yields, fault_unless, fault_where, faults}, Types.{main_notes, name_notes, field_notes, first_notes, first_kind, second_in, second_notes, path_notes, mode_notes, modes_notes, struct_note, base_notes, allowed_there, type_notes}}
 use Rattle.sharc_names.specs.Kinds as kinds
-use Rattle.sharc_names.specs.Names.{Entry, Meaning, StructMeaning, look_up, field_of, struct_of, is_main}
-use Rattle.sharc_names.specs.Needs.{place, called, fits, unmet, misfit, misfit_of, mismatch, used_call, agreed, unagreed}
-use Rattle.sharc_names.specs.Notes.{Note, fault, refers, yields, fault_unless, fault_where, faults}
-use Rattle.sharc_names.specs.Types.{main_notes, name_notes, field_notes, first_notes, first_kind, second_in, second_notes, path_notes, mode_notes, modes_notes, struct_note, base_notes, allowed_there, type_notes}
-use Rattle.sharc_ctype.specs.declared.expr.Standing.{Standing}
-use Rattle.sharc_ctype.specs.declared.expr.Standing.TheVariants.{AsValue, AsLvalue}
-use Rattle.sharc_ctype.specs.declared.expr.OperatorClass.{OperatorClass}
-use Rattle.sharc_ctype.specs.Expressions.{is_place, place_notes, suits, place_call_notes, keeps_kind, cast_notes, count_notes, may_join, binary_notes}
-use Rattle.sharc_ctype.specs.Resolved.{Resolution, named_at}
+use Rattle.sharc_ctype.specs.{declared.expr.Standing.Standing, declared.expr.Standing.TheVariants.{AsValue, AsLvalue}, declared.expr.OperatorClass.OperatorClass, Expressions.{is_place, place_notes, suits, place_call_notes, keeps_kind, cast_notes, count_notes, may_join, binary_notes}, Resolved.{Resolution, named_at}}
 use Rattle.sharc_mode.specs.Sharings.{is_field}
 use Rattle.sharc_suggest.specs.Repairs.{is_call_at}
 use Rattle.sharc_suggest_laws.specs.Names.{is_dull}

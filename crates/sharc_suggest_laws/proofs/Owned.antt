@@ -1,19 +1,12 @@
 -- In a resolved program at its tokens at most one thing is said of each token.
-use Rattle.std.proofs.Common.{◌⊎◌, inl, inr, ⊎_elim, ℕ, suc, List, [], ◌∷◌, Contains, sym, subst, arith}
+use Rattle.std.proofs.{Common.{◌⊎◌, inl, inr, ⊎_elim, ℕ, List, [], ◌∷◌, Contains, sym, subst, arith}, lemmas.Bool.cases_eq}
 use Rattle.std.specs.List.{AllByRecursion}
-use Rattle.std.proofs.lemmas.Bool.{cases_eq}
-use Rattle.sharc_names.specs.declared.fault.Named.{Named}
-use Rattle.sharc_names.specs.Notes.{Note, fault, refers, yields, referred}
-use Rattle.sharc_ctype.specs.Items.{notes_about}
-use Rattle.sharc_ctype.specs.Reaches.{name_tokens}
-use Rattle.sharc_ctype.specs.Resolved.{Resolution, named_at}
+use Rattle.sharc_names.specs.{declared.fault.Named.Named, Notes.{Note, fault, refers, yields, referred}}
+use Rattle.sharc_ctype.specs.{Items.notes_about, Reaches.name_tokens, Resolved.{Resolution, named_at}}
 use Rattle.sharc_tree.specs.Marks.{items_marks}
 use Rattle.sharc_ctype_laws.specs.Laws.{Tells, IsToldOnce}
 use Rattle.sharc_suggest_laws.proofs.Folded.{IsOwnAt}
-use Rattle.sharc_suggest_laws.proofs.Listed.{joint}
-
-later : (n t : ℕ) (list : List ℕ) → Contains list t → Contains (n ∷ list) t
-later n t list (k, low, is) = (suc k, omega (arith, low), is)
+use Rattle.sharc_lemmas.proofs.Lists.{both as joint, later}
 
 none_told : (t : ℕ) (v : Named) (l : List Note) → (Contains (referred l) t → ⊥) → AllByRecursion (IsOwnAt t v) l
 none_told t v [] not_so = tt

@@ -1,33 +1,9 @@
 -- What is said of a construct without a mismatch of what is given to something.
-use Rattle.std.proofs.Common.{◌≡◌, ℕ, ◌+◌, ◌==◌, Bool, true, false, ◌&&◌, cond, List, [], ◌∷◌, ◌++◌, drop, Option, Some, None, refl, arith}
+use Rattle.std.proofs.{Common.{◌≡◌, ℕ, ◌+◌, ◌==◌, Bool, true, false, ◌&&◌, cond, List, [], ◌∷◌, ◌++◌, drop, Option, Some, None, refl, arith}, lemmas.Bool.{and_left, true≢false}}
 use Rattle.std.specs.List.{flat_map, list_any}
-use Rattle.std.proofs.lemmas.Bool.{and_left, true≢false}
-use Rattle.sharc_tree.specs.declared.ctype.Base.{Base}
-use Rattle.sharc_tree.specs.declared.ctype.Mode.{Mode}
-use Rattle.sharc_tree.specs.declared.ctype.Path.{Path}
-use Rattle.sharc_tree.specs.declared.token.Span.{Span}
-use Rattle.sharc_tree.specs.declared.tree.declaration.Declaration.{Declaration}
-use Rattle.sharc_tree.specs.declared.tree.item.GlobalDefinition.{GlobalDefinition}
-use Rattle.sharc_tree.specs.declared.tree.expression.PlaceCall.{PlaceCall}
-use Rattle.sharc_tree.specs.declared.tree.expression.PlaceCall.TheVariants.{Lock, Unlock, Free}
-use Rattle.sharc_tree.specs.Forms.{without_parentheses}
-use Rattle.sharc_tree.specs.Spans.{span_of}
-use Rattle.sharc_tree.specs.Tree.{Expression, Arguments, Function}
-use Rattle.sharc_ctype.specs.declared.entity.Numbered.{Numbered}
-use Rattle.sharc_ctype.specs.Resolved.{Resolution, named_at}
-use Rattle.sharc_mode.specs.declared.error.ErrorCode.{ErrorCode}
-use Rattle.sharc_mode.specs.declared.error.ErrorCode.TheVariants.{ReadonlyWrite, PrivateTarget, PrivateField, PrivateReachesThread, CastChangesInnerMode, ReadonlySource}
-use Rattle.sharc_mode.specs.declared.finding.Finding.{Finding}
-use Rattle.sharc_mode.specs.declared.finding.Finding.TheVariants.{Wrong, Names, Takes}
-use Rattle.sharc_mode.specs.Cells.{cell_at, top_of}
-use Rattle.sharc_mode.specs.Errors.{is_mismatch}
-use Rattle.sharc_mode.specs.Expressions.{place_notes}
-use Rattle.sharc_mode.specs.Moded.{Assignment}
-use Rattle.sharc_mode.specs.Notes.{span_text, error_where, write_notes, private_notes, path_notes, mode_notes, is_private_level, is_field_role, private_field_notes, names_of, names_in, names_in_all, names_in_level, type_notes, unmet_notes, first_unmet, names_read, parameter_names, names_at_call, call_notes, cast_notes, taken_variable, takes, source_notes, sibling_notes, field_notes, levels_of, printed_type, mismatch, shown}
-use Rattle.sharc_mode.specs.Rows.{Reading, at_call, read, declared_row, modes_of, written}
-use Rattle.sharc_mode.specs.Sharings.{Lock as LockPath, Sharing, private, readonly, locked, racy, dynamic, sharing_of, text_at, same_all, is_readonly, is_sibling, variable_named, object_of}
-use Rattle.sharc_mode.specs.WellFormed.{place_of, holds_private, first_unfit_path, first_unfit_mode}
-use Rattle.sharc_mode.specs.WellModed.{is_spawned, has_private_target, parameter_notes, spawned_notes, touched_notes}
+use Rattle.sharc_tree.specs.{declared.ctype.Base.Base, declared.ctype.Mode.Mode, declared.ctype.Path.Path, declared.token.Span.Span, declared.tree.declaration.Declaration.Declaration, declared.tree.item.GlobalDefinition.GlobalDefinition, declared.tree.expression.PlaceCall.PlaceCall, declared.tree.expression.PlaceCall.TheVariants.{Lock, Unlock, Free}, Forms.without_parentheses, Spans.span_of, Tree.{Expression, Arguments, Function}}
+use Rattle.sharc_ctype.specs.{declared.entity.Numbered.Numbered, Resolved.{Resolution, named_at}}
+use Rattle.sharc_mode.specs.{declared.error.ErrorCode.ErrorCode, declared.error.ErrorCode.TheVariants.{ReadonlyWrite, PrivateTarget, PrivateField, PrivateReachesThread, CastChangesInnerMode, ReadonlySource}, declared.finding.Finding.Finding, declared.finding.Finding.TheVariants.{Wrong, Names, Takes}, Cells.{cell_at, top_of}, Errors.is_mismatch, Expressions.place_notes, Moded.Assignment, Notes.{span_text, error_where, write_notes, private_notes, path_notes, mode_notes, is_private_level, is_field_role, private_field_notes, names_of, names_in, names_in_all, names_in_level, type_notes, unmet_notes, first_unmet, names_read, parameter_names, names_at_call, call_notes, cast_notes, taken_variable, takes, source_notes, sibling_notes, field_notes, levels_of, printed_type, mismatch, shown}, Rows.{Reading, at_call, read, declared_row, modes_of, written}, Sharings.{Lock as LockPath, Sharing, private, readonly, locked, racy, dynamic, sharing_of, text_at, same_all, is_readonly, is_sibling, variable_named, object_of}, WellFormed.{place_of, holds_private, first_unfit_path, first_unfit_mode}, WellModed.{is_spawned, has_private_target, parameter_notes, spawned_notes, touched_notes}}
 use Rattle.sharc_suggest_laws.specs.Mismatches.{is_mismatch_at}
 
 -- how many mismatches at a token are said

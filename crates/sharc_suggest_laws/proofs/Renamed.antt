@@ -1,42 +1,18 @@
 -- What tokens name in a program with a suggested cast written in it.
-use Rattle.std.proofs.Common.{◌≡◌, ◌⊎◌, inl, inr, ℕ, ◌+◌, ◌==◌, zero, suc, Bool, true, false, cond, List, [], ◌∷◌, Some, slice_get, refl, ap, sym, subst, ◌∙◌}
+use Rattle.std.proofs.{Common.{◌≡◌, ◌⊎◌, inl, inr, ℕ, ◌+◌, ◌==◌, zero, suc, Bool, true, false, cond, List, [], ◌∷◌, Some, slice_get, refl, ap, sym, subst, ◌∙◌}, lemmas.Bool.false≢true, lemmas.Slice.Eq.bytes_eq-Decides}
 use Rattle.std.specs.List.{AllByRecursion}
-use Rattle.std.proofs.lemmas.Bool.{false≢true}
-use Rattle.std.proofs.lemmas.Slice.Eq.{bytes_eq-Decides}
-use Rattle.sharc_tree.specs.declared.ctype.Base.{Base}
+use Rattle.sharc_tree.specs.{declared.ctype.Base.Base, declared.token.Site.Site, declared.tree.declaration.WrittenType.WrittenType, declared.tree.declaration.Declaration.Declaration, declared.tree.item.GlobalDefinition.GlobalDefinition, declared.tree.item.GlobalForm.GlobalForm, declared.tree.item.GlobalForm.TheVariants.{Plain, Array, Initial}, declared.tree.expression.Constant.Constant, declared.tree.expression.Constant.TheVariants.{Number, Character, Null}, declared.tree.expression.UnaryOperator.UnaryOperator, declared.tree.expression.UnaryOperator.TheVariants.{Negate, Not, Complement, Dereference}, declared.token.NumberType.NumberType, Measures.expressions, Tree.{Expression, identifier, constant, parentheses, call, spawn, on_value, on_place, cast, index, field, unary, binary, Function}}
 use Rattle.sharc_tree.specs.declared.ctype.Base.TheVariants as base
-use Rattle.sharc_tree.specs.declared.token.Site.{Site}
-use Rattle.sharc_tree.specs.declared.tree.declaration.WrittenType.{WrittenType}
-use Rattle.sharc_tree.specs.declared.tree.declaration.Declaration.{Declaration}
-use Rattle.sharc_tree.specs.declared.tree.item.GlobalDefinition.{GlobalDefinition}
-use Rattle.sharc_tree.specs.declared.tree.item.GlobalForm.{GlobalForm}
-use Rattle.sharc_tree.specs.declared.tree.item.GlobalForm.TheVariants.{Plain, Array, Initial}
-use Rattle.sharc_tree.specs.declared.tree.expression.Constant.{Constant}
-use Rattle.sharc_tree.specs.declared.tree.expression.Constant.TheVariants.{Number, Character, Null}
-use Rattle.sharc_tree.specs.declared.tree.expression.UnaryOperator.{UnaryOperator}
-use Rattle.sharc_tree.specs.declared.tree.expression.UnaryOperator.TheVariants.{Negate, Not, Complement, Dereference}
-use Rattle.sharc_tree.specs.declared.token.NumberType.{NumberType}
 use Rattle.sharc_tree.specs.declared.token.NumberType.TheVariants as width
-use Rattle.sharc_tree.specs.Measures.{expressions}
-use Rattle.sharc_tree.specs.Tree.{Expression, identifier, constant, parentheses, call, spawn, on_value, on_place, cast, index, field, unary, binary, Function}
-use Rattle.sharc_names.specs.declared.fault.Named.{Named}
+use Rattle.sharc_names.specs.{declared.fault.Named.Named, Kinds.{Kind, object, array, null, is_long, declared_kind, element_kind, promoted, common, int, long}, Names.global_kind}
 use Rattle.sharc_names.specs.declared.fault.Named.TheVariants as named
-use Rattle.sharc_names.specs.Kinds.{Kind, object, array, null, is_long, declared_kind, element_kind, promoted, common, int, long}
 use Rattle.sharc_names.specs.Kinds as kinds
-use Rattle.sharc_names.specs.Names.{global_kind}
-use Rattle.sharc_ctype.specs.declared.entity.Entity.{Entity}
-use Rattle.sharc_ctype.specs.declared.expr.OperatorClass.{OperatorClass}
-use Rattle.sharc_ctype.specs.declared.expr.OperatorClass.TheVariants.{Logical, Equality, Relation, Shift, Arithmetic}
-use Rattle.sharc_ctype.specs.Entities.{entities_in, numbered, numbered_from, positions_of}
-use Rattle.sharc_ctype.specs.Expressions.{number_kind, constant_kind, unary_result, class_of, binary_result}
-use Rattle.sharc_ctype.specs.Resolved.{Resolution, named_at, globals_in, functions_in, declarations_in, declared_at, variable_kind, global_kind_of, result_kind_of, named_kind, called_kind, kind_at}
-use Rattle.sharc_mode.specs.Notes.{base_of}
-use Rattle.sharc_mode.specs.Sharings.{is_field}
+use Rattle.sharc_ctype.specs.{declared.entity.Entity.Entity, declared.expr.OperatorClass.OperatorClass, declared.expr.OperatorClass.TheVariants.{Logical, Equality, Relation, Shift, Arithmetic}, Entities.{entities_in, numbered, numbered_from, positions_of}, Expressions.{number_kind, constant_kind, unary_result, class_of, binary_result}, Resolved.{Resolution, named_at, globals_in, functions_in, declarations_in, declared_at, variable_kind, global_kind_of, result_kind_of, named_kind, called_kind, kind_at}}
+use Rattle.sharc_mode.specs.{Notes.base_of, Sharings.is_field}
 use Rattle.sharc_ctype_laws.specs.WrittenTypes.{NamesStruct, IsNamedBase, IsNamedType}
 use Rattle.sharc_rewrite.specs.Applied.{names_struct, base_site}
 use Rattle.sharc_suggest_laws.specs.Names.{is_dull}
-use Rattle.sharc_suggest_laws.proofs.Bases.{Have, HaveCasts, HoldInAll, in_all, AreDeclared, first_casts}
-use Rattle.sharc_suggest_laws.proofs.Mild.{NamesBase}
+use Rattle.sharc_suggest_laws.proofs.{Bases.{Have, HaveCasts, HoldInAll, in_all, AreDeclared, first_casts}, Mild.NamesBase}
 
 -- ---- a base that something has, and where it is named
 

@@ -1,60 +1,17 @@
 -- The mismatch for which a cast was suggested is gone.
-use Rattle.std.proofs.Common.{◌≡◌, ℕ, ◌+◌, ◌<◌, ◌≤◌, ◌==◌, ◌&&◌, Bool, true, List, ◌∷◌, ◌++◌, length, Some, refl, ap, subst, ◌∙◌, eq-eqb, arith, not}
+use Rattle.std.proofs.{Common.{◌≡◌, ℕ, ◌+◌, ◌<◌, ◌≤◌, ◌==◌, ◌&&◌, Bool, true, List, ◌∷◌, ◌++◌, length, Some, refl, ap, subst, ◌∙◌, eq-eqb, arith, not}, lemmas.Bool.{and_parts, and_from}}
 use Rattle.std.specs.List.{AllByRecursion}
-use Rattle.std.proofs.lemmas.Bool.{and_parts, and_from}
-use Rattle.sharc_tree.specs.declared.token.Span.{Span}
-use Rattle.sharc_tree.specs.declared.tree.declaration.Declaration.{Declaration}
-use Rattle.sharc_tree.specs.Forms.{without_parentheses, is_lvalue}
-use Rattle.sharc_tree.specs.Placed.{IsPlaced}
-use Rattle.sharc_tree.specs.Spans.{span_of}
-use Rattle.sharc_tree.specs.Tree.{Expression}
+use Rattle.sharc_tree.specs.{declared.token.Span.Span, declared.tree.declaration.Declaration.Declaration, Forms.{without_parentheses, is_lvalue}, Placed.IsPlaced, Spans.span_of, Tree.Expression}
 use Rattle.sharc_names.specs.declared.scope.Scope.{Scope}
-use Rattle.sharc_rewrite.specs.declared.written.Recast.{Recast}
-use Rattle.sharc_rewrite.specs.Recast.{is_there, all_with_cast}
-use Rattle.sharc_ctype.specs.declared.expr.Standing.TheVariants.{AsLvalue}
-use Rattle.sharc_ctype.specs.Heads.{heads_notes, no_heads}
-use Rattle.sharc_ctype.specs.Globals.{sizes_notes}
-use Rattle.sharc_ctype.specs.Items.{file_scope, items_notes, main_missing, notes_about}
-use Rattle.sharc_ctype.specs.Resolved.{Resolution, named_at}
-use Rattle.sharc_ctype.specs.Transfers.{parameters_named}
-use Rattle.sharc_mode.specs.declared.error.Cast.{Cast}
-use Rattle.sharc_mode.specs.declared.error.ModeError.{ModeError}
-use Rattle.sharc_mode.specs.Cells.{cell_at}
-use Rattle.sharc_mode.specs.Expressions.{expected}
-use Rattle.sharc_mode.specs.Moded.{Assignment, IsWhole}
-use Rattle.sharc_mode.specs.Notes.{is_named, parameter_names, names_at_call, taken_variable}
-use Rattle.sharc_mode.specs.Rows.{at_call, row_at}
-use Rattle.sharc_mode.specs.Sharings.{is_readonly}
+use Rattle.sharc_rewrite.specs.{declared.written.Recast.Recast, Recast.{is_there, all_with_cast}, Applied.{recast_of, assignment_with}}
+use Rattle.sharc_ctype.specs.{declared.expr.Standing.TheVariants.AsLvalue, Heads.{heads_notes, no_heads}, Globals.sizes_notes, Items.{file_scope, items_notes, main_missing, notes_about}, Resolved.{Resolution, named_at}, Transfers.parameters_named}
+use Rattle.sharc_mode.specs.{declared.error.Cast.Cast, declared.error.ModeError.ModeError, Cells.cell_at, Expressions.expected, Moded.{Assignment, IsWhole}, Notes.{is_named, parameter_names, names_at_call, taken_variable}, Rows.{at_call, row_at}, Sharings.is_readonly}
 use Rattle.sharc_check.specs.Named.{said_of_paths}
 use Rattle.sharc_ctype_laws.specs.Laws.{EachNameOnce, OnlyNames, NamesInTypes, SameKinds}
-use Rattle.sharc_rewrite.specs.Applied.{recast_of, assignment_with}
-use Rattle.sharc_suggest.specs.Casts.{IsSuggested}
-use Rattle.sharc_suggest.specs.Repairs.{differ_first, may_be_cast, is_free, keeps_all}
-use Rattle.sharc_suggest.specs.Givings.{Receiver, of_declared, of_left, of_parameter, Giving, items_givings, beyond, wanted, wanted_of}
-use Rattle.sharc_suggest_laws.specs.Givings.{receiver_with}
-use Rattle.sharc_suggest_laws.specs.Repaired.{Repairs}
-use Rattle.sharc_suggest_laws.specs.Values.{count_of, met_by, met_in_items, begins_at}
-use Rattle.sharc_suggest_laws.proofs.Added.{suggested_is_added_once, at_tokens}
-use Rattle.sharc_suggest_laws.proofs.Arguments.{IsGivenTo, in_items as arguments_in}
-use Rattle.sharc_suggest_laws.proofs.CallNames.{IsSaid, calls_said}
-use Rattle.sharc_suggest_laws.proofs.Calls.{call_stays}
-use Rattle.sharc_suggest_laws.proofs.Clear.{all_clear}
-use Rattle.sharc_suggest_laws.proofs.Counted.{counted, counted_append, in_items as items_counted}
-use Rattle.sharc_suggest_laws.proofs.Few.{at_most_one, begins_once}
-use Rattle.sharc_suggest_laws.proofs.Gone.{gone_again}
-use Rattle.sharc_suggest_laws.proofs.Lefts.{IsBehind, Stands, in_items as lefts_in}
-use Rattle.sharc_suggest_laws.proofs.Listed.{front, back}
-use Rattle.sharc_suggest_laws.proofs.Folded.{IsOwnAt}
-use Rattle.sharc_suggest_laws.proofs.Noted.{Clean, clean_from, Noted}
-use Rattle.sharc_suggest_laws.proofs.Owned.{all_own}
-use Rattle.sharc_suggest_laws.proofs.RowsStay.{Frame, now, first_at}
-use Rattle.sharc_suggest_laws.proofs.Site.{IsFor, has_site}
-use Rattle.sharc_suggest_laws.proofs.Spines.{spine}
-use Rattle.sharc_suggest_laws.proofs.Stands.{first_fits}
-use Rattle.sharc_suggest_laws.proofs.Stay.{notes_grown, names_stay, keeps_expected}
-use Rattle.sharc_suggest_laws.proofs.Strong.{IsStrong, AreStrong, all_strong}
-use Rattle.sharc_suggest_laws.proofs.Types.{types_stay}
-use Rattle.sharc_suggest_laws.proofs.Wants.{left_wanted, IsCall, parameters_same, parameters_clear, beyond_clear, beyond_named, parameter_wanted}
+use Rattle.sharc_suggest.specs.{Casts.IsSuggested, Repairs.{differ_first, may_be_cast, is_free, keeps_all}, Givings.{Receiver, of_declared, of_left, of_parameter, Giving, items_givings, beyond, wanted, wanted_of}}
+use Rattle.sharc_suggest_laws.specs.{Givings.receiver_with, Repaired.Repairs, Values.{count_of, met_by, met_in_items, begins_at}}
+use Rattle.sharc_suggest_laws.proofs.{Added.{suggested_is_added_once, at_tokens}, Arguments.{IsGivenTo, in_items as arguments_in}, CallNames.{IsSaid, calls_said}, Calls.call_stays, Clear.all_clear, Counted.{counted, counted_append, in_items as items_counted}, Few.{at_most_one, begins_once}, Gone.gone_again, Lefts.{IsBehind, Stands, in_items as lefts_in}, Folded.IsOwnAt, Noted.{Clean, clean_from, Noted}, Owned.all_own, RowsStay.{Frame, now, first_at}, Site.{IsFor, has_site}, Spines.spine, Stands.first_fits, Stay.{notes_grown, names_stay, keeps_expected}, Strong.{IsStrong, AreStrong, all_strong}, Types.types_stay, Wants.{left_wanted, IsCall, parameters_same, parameters_clear, beyond_clear, beyond_named, parameter_wanted}}
+use Rattle.sharc_lemmas.proofs.Lists.{front, back}
 
 -- of the giving that the cast was suggested for
 of_site : (P : Giving → Type 0) (gs before behind : List Giving) (g : Giving) → gs ≡ before ++ g ∷ behind → AllByRecursion P gs → P g

@@ -1,37 +1,15 @@
 -- A program with a cast written in it, as C typing sees it.
 use Rattle.std.proofs.Common.{◌≡◌, ℕ, ◌+◌, ◌-◌, ◌==◌, Bool, true, false, cond, List, [], ◌∷◌, ◌++◌, length, map, is_some, refl, ap, ap₂, sym, subst, ◌∙◌, codes}
 use Rattle.std.specs.List.{AllByRecursion}
-use Rattle.sharc_tree.specs.declared.ctype.Base.{Base}
-use Rattle.sharc_tree.specs.declared.ctype.Base.TheVariants.{Int, Char, Long, Mutex, Void, Struct}
-use Rattle.sharc_tree.specs.declared.tree.declaration.Declaration.{Declaration}
-use Rattle.sharc_tree.specs.declared.tree.expression.Constant.{Constant}
-use Rattle.sharc_tree.specs.declared.tree.item.GlobalDefinition.{GlobalDefinition}
-use Rattle.sharc_tree.specs.declared.tree.item.GlobalForm.{GlobalForm}
-use Rattle.sharc_tree.specs.declared.tree.item.GlobalForm.TheVariants.{Plain, Array, Initial}
-use Rattle.sharc_tree.specs.Tree.{Function, Item, structure, global, function}
-use Rattle.sharc_names.specs.declared.fault.FaultCode.TheVariants.{DefinedTwice, LimitPassed, NoMain}
-use Rattle.sharc_names.specs.declared.scope.Scope.{Scope}
+use Rattle.sharc_tree.specs.{declared.ctype.Base.Base, declared.ctype.Base.TheVariants.{Int, Char, Long, Mutex, Void, Struct}, declared.tree.declaration.Declaration.Declaration, declared.tree.expression.Constant.Constant, declared.tree.item.GlobalDefinition.GlobalDefinition, declared.tree.item.GlobalForm.GlobalForm, declared.tree.item.GlobalForm.TheVariants.{Plain, Array, Initial}, Tree.{Function, Item, structure, global, function}}
+use Rattle.sharc_names.specs.{declared.fault.FaultCode.TheVariants.{DefinedTwice, LimitPassed, NoMain}, declared.scope.Scope.Scope, Kinds.{declared_kind, stars_of}, Names.{Entry, StructTable, field_of, struct_of, look_up}, Notes.{Note, fault_unless, fault_where}, Types.type_notes}
 use Rattle.sharc_names.specs.declared.types.Role.TheVariants as role
-use Rattle.sharc_names.specs.Kinds.{declared_kind, stars_of}
-use Rattle.sharc_names.specs.Names.{Entry, StructTable, field_of, struct_of, look_up}
-use Rattle.sharc_names.specs.Notes.{Note, fault_unless, fault_where}
-use Rattle.sharc_names.specs.Types.{type_notes}
-use Rattle.sharc_rewrite.specs.declared.written.Recast.{Recast}
-use Rattle.sharc_rewrite.specs.Recast.{statements_with_cast, function_with_cast, item_with_cast, program_with_cast}
-use Rattle.sharc_ctype.specs.Condition.{known_in}
-use Rattle.sharc_ctype.specs.Globals.{length_notes, base_initial_notes, initial_notes, global_notes, item_cells, item_size_notes, sizes_notes}
-use Rattle.sharc_ctype.specs.Heads.{Heading, within, head_notes, heads_notes, behind, behind_all, no_heads}
-use Rattle.sharc_ctype.specs.Items.{field_notes, fields_notes, parameters_notes, with_parameters, beyond, function_notes, item_notes, items_notes, has_main, main_missing, file_scope, program_notes, notes_about}
-use Rattle.sharc_ctype.specs.Resolved.{Resolution}
-use Rattle.sharc_ctype.specs.Statements.{with_names, declared, declared_notes, locals_in_all}
+use Rattle.sharc_rewrite.specs.{declared.written.Recast.Recast, Recast.{statements_with_cast, function_with_cast, item_with_cast, program_with_cast}}
+use Rattle.sharc_ctype.specs.{Condition.known_in, Globals.{length_notes, base_initial_notes, initial_notes, global_notes, item_cells, item_size_notes, sizes_notes}, Heads.{Heading, within, head_notes, heads_notes, behind, behind_all, no_heads}, Items.{field_notes, fields_notes, parameters_notes, with_parameters, beyond, function_notes, item_notes, items_notes, has_main, main_missing, file_scope, program_notes, notes_about}, Resolved.Resolution, Statements.{with_names, declared, declared_notes, locals_in_all}}
 use Rattle.sharc_suggest.specs.Givings as scopes
-use Rattle.sharc_suggest.specs.Repairs.{entry_of}
-use Rattle.sharc_suggest.specs.Givings.{item_givings, items_givings}
-use Rattle.sharc_suggest_laws.proofs.Listed.{front, back, joint}
-use Rattle.sharc_suggest_laws.proofs.Noted.{Clean, left, right, Noted, done, both, same, AreFaults, IsTame, quiet, unless_faults, where_faults, faults_tame, append_tame, type_tame}
-use Rattle.sharc_suggest_laws.proofs.Restated.{in_statements, declared_tame}
-use Rattle.sharc_suggest_laws.proofs.Retyped.{Setting, IsMild, AreMild}
-use Rattle.sharc_suggest_laws.proofs.Scoped.{Scoped, scoped_file, scoped_with}
+use Rattle.sharc_suggest.specs.{Repairs.entry_of, Givings.{item_givings, items_givings}}
+use Rattle.sharc_suggest_laws.proofs.{Noted.{Clean, left, right, Noted, done, both, same, AreFaults, IsTame, quiet, unless_faults, where_faults, faults_tame, append_tame, type_tame}, Restated.{in_statements, declared_tame}, Retyped.{Setting, IsMild, AreMild}, Scoped.{Scoped, scoped_file, scoped_with}}
+use Rattle.sharc_lemmas.proofs.Lists.{front, back, both as joint}
 
 -- ---- what is said of what is declared, in which what yields is a field
 

@@ -1,29 +1,16 @@
 -- Statements with a cast written in them, as C typing sees them.
 use Rattle.std.proofs.Common.{◌≡◌, ℕ, List, [], ◌∷◌, ◌++◌, Option, Some, None, option_map, refl, sym, subst}
 use Rattle.std.specs.List.{AllByRecursion}
-use Rattle.sharc_tree.specs.declared.tree.declaration.Declaration.{Declaration}
-use Rattle.sharc_tree.specs.Tree.{Expression, Right, value, malloc, Simple, assign, does_call, Local, First, nothing, declares, does, Head, Statement, Statements, no_statements, statement, Function, Item, structure, global, function}
+use Rattle.sharc_tree.specs.{declared.tree.declaration.Declaration.Declaration, Tree.{Expression, Right, value, malloc, Simple, assign, does_call, Local, First, nothing, declares, does, Head, Statement, Statements, no_statements, statement}}
 use Rattle.sharc_tree.specs.Tree as tree
-use Rattle.sharc_names.specs.declared.fault.FaultCode.TheVariants.{DefinedTwice, TypeMismatch, BadForm}
-use Rattle.sharc_names.specs.declared.need.Need.TheVariants.{Value, Integer}
-use Rattle.sharc_names.specs.declared.scope.Scope.{Scope}
+use Rattle.sharc_names.specs.{declared.fault.FaultCode.TheVariants.{DefinedTwice, TypeMismatch, BadForm}, declared.need.Need.TheVariants.{Value, Integer}, declared.scope.Scope.Scope, Kinds.{Kind, void, same_kind, declared_kind}, Names.Entry, Needs.{met, unmet, unagreed}, Types.type_notes}
 use Rattle.sharc_names.specs.declared.types.Role.TheVariants as role
-use Rattle.sharc_names.specs.Kinds.{Kind, void, same_kind, declared_kind}
-use Rattle.sharc_names.specs.Names.{Entry}
-use Rattle.sharc_names.specs.Needs.{met, unmet, unagreed}
-use Rattle.sharc_names.specs.Types.{type_notes}
-use Rattle.sharc_rewrite.specs.declared.written.Recast.{Recast}
-use Rattle.sharc_rewrite.specs.Recast.{around, with_cast, right_with_cast, simple_with_cast, local_with_cast, first_with_cast, head_with_cast, statement_with_cast, statements_with_cast}
-use Rattle.sharc_ctype.specs.declared.expr.Standing.TheVariants.{AsValue, AsLvalue}
-use Rattle.sharc_ctype.specs.Expressions.{type_of, notes_of, place_kind}
-use Rattle.sharc_ctype.specs.Statements.{Around, opened, looping, with_names, is_here, declared, declared_notes, test_notes, count_notes, right_notes, simple_notes, is_aggregate, initial_notes, local_notes, returned_as, return_notes, first_notes, behind_first, tests_notes, step_notes, head_notes, after, notes_in, notes_in_all}
+use Rattle.sharc_rewrite.specs.{declared.written.Recast.Recast, Recast.{around, with_cast, right_with_cast, simple_with_cast, local_with_cast, first_with_cast, head_with_cast, statement_with_cast, statements_with_cast}}
+use Rattle.sharc_ctype.specs.{declared.expr.Standing.TheVariants.{AsValue, AsLvalue}, Expressions.{type_of, notes_of, place_kind}, Statements.{Around, opened, looping, with_names, is_here, declared, declared_notes, test_notes, count_notes, right_notes, simple_notes, is_aggregate, initial_notes, local_notes, returned_as, return_notes, first_notes, behind_first, tests_notes, step_notes, head_notes, after, notes_in, notes_in_all}}
 use Rattle.sharc_suggest.specs.Givings as scopes
-use Rattle.sharc_suggest.specs.Repairs.{entry_of}
-use Rattle.sharc_suggest.specs.Givings.{Receiver, of_declared, of_left, givings, option_givings, value_givings, right_givings, simple_givings, local_givings, first_givings, head_givings, givings_in, givings_in_all}
-use Rattle.sharc_suggest_laws.proofs.Listed.{front, back}
-use Rattle.sharc_suggest_laws.proofs.Noted.{Clean, left, right, Noted, done, both, same, IsTame, quiet, unless_faults, where_faults, unmet_faults, unagreed_faults, place_faults, append_tame, faults_tame, type_tame}
-use Rattle.sharc_suggest_laws.proofs.Retyped.{Setting, IsMild, AreMild, inside, value_in, with_faults}
-use Rattle.sharc_suggest_laws.proofs.Scoped.{Scoped, scoped_with}
+use Rattle.sharc_suggest.specs.{Repairs.entry_of, Givings.{Receiver, of_declared, of_left, givings, option_givings, value_givings, right_givings, simple_givings, local_givings, first_givings, head_givings, givings_in, givings_in_all}}
+use Rattle.sharc_suggest_laws.proofs.{Noted.{Clean, left, right, Noted, done, both, same, IsTame, quiet, unless_faults, where_faults, unmet_faults, unagreed_faults, place_faults, append_tame, faults_tame, type_tame}, Retyped.{Setting, IsMild, AreMild, inside, value_in, with_faults}, Scoped.{Scoped, scoped_with}}
+use Rattle.sharc_lemmas.proofs.Lists.{front, back}
 
 -- a value, where only faults come after it
 value_stated : (w : Setting) (names scope : List Entry) → Scoped w.file.names names scope → (r : Receiver) (e : Expression) → AreMild w (value_givings scope r e) → (want now : Option Kind)

@@ -1,19 +1,12 @@
 -- The modes of what is where it was, or that many positions further on.
-use Rattle.std.proofs.Common.{◌≡◌, ℕ, ◌+◌, ◌-◌, ◌≤◌, ◌==◌, Bool, true, false, cond, ◌⊎◌, inl, inr, List, [], ◌∷◌, map, length, take, drop, Option, Some, None, refl, ap, ap₂, sym, ◌∙◌, arith}
-use Rattle.std.proofs.lemmas.Bool.{eqb-false}
+use Rattle.std.proofs.{Common.{◌≡◌, ℕ, ◌+◌, ◌-◌, ◌≤◌, ◌==◌, Bool, true, false, cond, ◌⊎◌, inl, inr, List, [], ◌∷◌, map, length, take, drop, Option, Some, None, refl, ap, ap₂, sym, ◌∙◌, arith}, lemmas.Bool.eqb-false}
 use Rattle.sharc_tree.specs.declared.ctype.Mode.{Mode}
 use Rattle.sharc_names.specs.declared.types.Role.{Role}
 use Rattle.sharc_names.specs.declared.types.Role.TheVariants as role
-use Rattle.sharc_ctype.specs.Resolved.{Resolution}
-use Rattle.sharc_ctype.specs.declared.entity.Entity.{Entity}
-use Rattle.sharc_ctype.specs.declared.entity.Numbered.{Numbered}
-use Rattle.sharc_ctype.specs.Entities.{positions_of}
-use Rattle.sharc_mode.specs.Moded.{Assignment}
-use Rattle.sharc_mode.specs.Rows.{Targets, written, read, targets_from, entity_row, modes_of}
-use Rattle.sharc_mode.specs.Sharings.{Sharing, private, readonly, locked, racy, dynamic, sharing_of}
+use Rattle.sharc_ctype.specs.{Resolved.Resolution, declared.entity.Entity.Entity, declared.entity.Numbered.Numbered, Entities.positions_of}
+use Rattle.sharc_mode.specs.{Moded.Assignment, Rows.{Targets, written, read, targets_from, entity_row, modes_of}, Sharings.{Sharing, private, readonly, locked, racy, dynamic, sharing_of}}
 use Rattle.sharc_rewrite.specs.Applied.{inserted}
-use Rattle.sharc_suggest_laws.proofs.Found.{IsMoved, AreMoved}
-use Rattle.sharc_suggest_laws.proofs.Inserted.{stretch_before, stretch_behind}
+use Rattle.sharc_suggest_laws.proofs.{Found.{IsMoved, AreMoved}, Inserted.{stretch_before, stretch_behind}}
 
 -- ---- a row that is read as it is written
 

@@ -1,47 +1,18 @@
 -- An expression that comes before the cast points to what it pointed to, with the modes that it had.
-use Rattle.std.proofs.Common.{◌≡◌, ◌⊎◌, inl, inr, ℕ, zero, suc, ◌+◌, ◌-◌, ◌<◌, ◌≤◌, ◌==◌, Bool, true, false, cond, List, [], ◌∷◌, length, Option, Some, None, option_map, slice_get, refl, ap, sym, subst, ◌∙◌, eqb-true, arith}
+use Rattle.std.proofs.{Common.{◌≡◌, ◌⊎◌, inl, inr, ℕ, zero, suc, ◌+◌, ◌-◌, ◌<◌, ◌≤◌, ◌==◌, Bool, true, false, cond, List, [], ◌∷◌, length, Option, Some, None, option_map, slice_get, refl, ap, sym, subst, ◌∙◌, eqb-true, arith}, lemmas.Bool.{false≢true, true≢false, eqb-false}, lemmas.Option.slice_get-map}
 use Rattle.std.specs.List.{AllByRecursion}
-use Rattle.std.proofs.lemmas.Bool.{false≢true, true≢false, eqb-false}
-use Rattle.std.proofs.lemmas.Option.{slice_get-map}
-use Rattle.sharc_tree.specs.declared.tree.declaration.Declaration.{Declaration}
-use Rattle.sharc_tree.specs.declared.tree.item.GlobalDefinition.{GlobalDefinition}
-use Rattle.sharc_tree.specs.declared.tree.expression.Access.{Access}
-use Rattle.sharc_tree.specs.declared.tree.expression.Access.TheVariants.{Dot, Arrow}
-use Rattle.sharc_tree.specs.declared.tree.expression.Constant.{Constant}
-use Rattle.sharc_tree.specs.declared.tree.expression.Constant.TheVariants.{Number, Character, Null}
-use Rattle.sharc_tree.specs.declared.tree.expression.UnaryOperator.{UnaryOperator}
-use Rattle.sharc_tree.specs.declared.tree.expression.UnaryOperator.TheVariants.{Negate, Not, Complement, Dereference}
-use Rattle.sharc_tree.specs.Tree.{Expression, identifier, constant, parentheses, call, spawn, on_value, on_place, cast, index, field, unary, binary, Function}
-use Rattle.sharc_names.specs.declared.fault.Named.{Named}
+use Rattle.sharc_tree.specs.{declared.tree.declaration.Declaration.Declaration, declared.tree.item.GlobalDefinition.GlobalDefinition, declared.tree.expression.Access.Access, declared.tree.expression.Access.TheVariants.{Dot, Arrow}, declared.tree.expression.Constant.Constant, declared.tree.expression.Constant.TheVariants.{Number, Character, Null}, declared.tree.expression.UnaryOperator.UnaryOperator, declared.tree.expression.UnaryOperator.TheVariants.{Negate, Not, Complement, Dereference}, Tree.{Expression, identifier, constant, parentheses, call, spawn, on_value, on_place, cast, index, field, unary, binary, Function}}
+use Rattle.sharc_names.specs.{declared.fault.Named.Named, declared.need.Need.TheVariants.Indexed, declared.types.Role.Role, Kinds.{Kind, object, array, null}, Needs.met}
 use Rattle.sharc_names.specs.declared.fault.Named.TheVariants as named
-use Rattle.sharc_names.specs.declared.need.Need.TheVariants.{Indexed}
-use Rattle.sharc_names.specs.declared.types.Role.{Role}
 use Rattle.sharc_names.specs.declared.types.Role.TheVariants as role
-use Rattle.sharc_names.specs.Kinds.{Kind, object, array, null, is_array, element_kind, declared_kind}
 use Rattle.sharc_names.specs.Kinds as kinds
-use Rattle.sharc_names.specs.Needs.{met}
-use Rattle.sharc_rewrite.specs.declared.written.Recast.{Recast}
-use Rattle.sharc_rewrite.specs.Recast.{with_cast, function_with_cast}
-use Rattle.sharc_ctype.specs.declared.entity.Entity.{Entity}
-use Rattle.sharc_ctype.specs.declared.entity.Numbered.{Numbered}
-use Rattle.sharc_ctype.specs.Entities.{entity_at, positions_of}
-use Rattle.sharc_ctype.specs.Expressions.{element_of, operand_need, unary_kind}
-use Rattle.sharc_ctype.specs.Resolved.{Resolution, named_at, globals_in, functions_in, declarations_in, declared_at, global_at, function_at, declaration_at, variable_kind, global_kind_of, result_kind_of, named_kind, called_kind}
-use Rattle.sharc_mode.specs.declared.error.Cast.{Cast}
-use Rattle.sharc_mode.specs.Moded.{Assignment}
-use Rattle.sharc_mode.specs.Rows.{Reading, written, Targets, is_constant_named, constant_use, base_use, no_row, deeper, targets_from, entity_row, declared_row, global_row, named_row, result_row, called_row, behind, constant_row, reading_through, unary_row}
-use Rattle.sharc_mode.specs.Sharings.{is_field}
-use Rattle.sharc_rewrite.specs.Applied.{recast_of, targets, resolution_with}
+use Rattle.sharc_rewrite.specs.{declared.written.Recast.Recast, Recast.{with_cast, function_with_cast}, Applied.{recast_of, targets, resolution_with}}
+use Rattle.sharc_ctype.specs.{declared.entity.Entity.Entity, declared.entity.Numbered.Numbered, Entities.{entity_at, positions_of}, Expressions.{element_of, operand_need, unary_kind}, Resolved.{Resolution, named_at, globals_in, functions_in, declarations_in, declared_at, global_at, function_at, declaration_at, variable_kind, global_kind_of, result_kind_of, named_kind, called_kind}}
+use Rattle.sharc_mode.specs.{declared.error.Cast.Cast, Moded.Assignment, Rows.{Reading, written, Targets, is_constant_named, constant_use, base_use, no_row, deeper, targets_from, entity_row, declared_row, global_row, named_row, result_row, called_row, behind, constant_row, reading_through, unary_row}, Sharings.is_field}
 use Rattle.sharc_suggest.specs.Repairs.{is_call_at}
-use Rattle.sharc_suggest_laws.specs.Names.{is_dull, KeepsName}
-use Rattle.sharc_suggest_laws.specs.Values.{met_in_items, begins_at}
-use Rattle.sharc_suggest_laws.proofs.Clear.{IsClearAt, begun_in, AreClear}
-use Rattle.sharc_suggest_laws.proofs.Constants.{AllKept, constants_same}
-use Rattle.sharc_suggest_laws.proofs.Declared.{same_globals, same_functions, same_declarations}
-use Rattle.sharc_suggest_laws.proofs.Found.{AreMoved}
-use Rattle.sharc_suggest_laws.proofs.Lefts.{is_function}
-use Rattle.sharc_suggest_laws.proofs.Stands.{IsAdded, first_place}
-use Rattle.sharc_suggest_laws.proofs.Types.{all_others}
+use Rattle.sharc_suggest_laws.specs.{Names.{is_dull, KeepsName}, Values.{met_in_items, begins_at}}
+use Rattle.sharc_suggest_laws.proofs.{Clear.{IsClearAt, begun_in, AreClear}, Constants.{AllKept, constants_same}, Declared.{same_globals, same_functions, same_declarations}, Found.AreMoved, Lefts.is_function, Stands.{IsAdded, first_place}, Types.all_others}
+use Rattle.sharc_lemmas.proofs.Options.{none_some}
 
 -- a program with a cast written in it where something that is given begins
 pub record Frame (m : Assignment) (c : Cast) : Type 0 where
@@ -326,9 +297,6 @@ constant_moved first count (Character byte) = no_rows first count
 constant_moved first count Null = tt
 
 -- what is needed of a part is no name of a function
-
-pub none_some : {A : Type 0} (x : A) → None ≡ Some x → ⊥
-none_some x is = cc
 
 pub element_held : (k : Kind) (i : Option Kind) (whole : Kind) → element_of (met Indexed (Some k)) i ≡ Some whole → is_function k ≡ false
 element_held (object b n) i whole is = refl

@@ -1,9 +1,8 @@
 -- The variables in scope where casts are suggested, beside all names in scope where C typing looks.
 use Rattle.std.proofs.Common.{◌≡◌, ℕ, Bool, true, false, cond, List, [], ◌∷◌, Option, Some, None, refl, bytes_eq}
 use Rattle.sharc_tree.specs.declared.tree.declaration.Declaration.{Declaration}
-use Rattle.sharc_names.specs.Names.{Entry, Meaning, look_up}
+use Rattle.sharc_names.specs.{Names.{Entry, Meaning, look_up}, declared.fault.FaultCode.TheVariants.DefinedTwice}
 use Rattle.sharc_names.specs.Names as meaning
-use Rattle.sharc_names.specs.declared.fault.FaultCode.TheVariants.{DefinedTwice}
 use Rattle.sharc_ctype.specs.Statements.{is_here, declared, declared_notes}
 use Rattle.sharc_suggest.specs.Repairs.{entry_of}
 use Rattle.sharc_suggest_laws.proofs.Noted.{Clean, behind_head, not_wrong}

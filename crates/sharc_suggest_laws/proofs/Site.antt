@@ -1,14 +1,7 @@
 -- What a cast was suggested for.
 use Rattle.std.proofs.Common.{◌≡◌, ℕ, ◌==◌, Bool, true, false, cond, ◌⊎◌, inl, inr, List, [], ◌∷◌, ◌++◌, Option, Some, None, refl, ap, sym, subst, ◌∙◌, eqb-true}
-use Rattle.sharc_mode.specs.declared.error.Cast.{Cast}
-use Rattle.sharc_mode.specs.declared.error.ModeError.{ModeError}
-use Rattle.sharc_mode.specs.Errors.{is_mismatch}
-use Rattle.sharc_mode.specs.Moded.{Assignment}
-use Rattle.sharc_mode.specs.Rows.{modes_at}
-use Rattle.sharc_mode.specs.Sharings.{Sharing}
-use Rattle.sharc_suggest.specs.Casts.{suggested_for, suggested_in, cast_at, IsSuggested}
-use Rattle.sharc_suggest.specs.Repairs.{repair_with, is_repairable, cast_to}
-use Rattle.sharc_suggest.specs.Givings.{Giving, items_givings, wanted}
+use Rattle.sharc_mode.specs.{declared.error.Cast.Cast, declared.error.ModeError.ModeError, Errors.is_mismatch, Moded.Assignment, Rows.modes_at, Sharings.Sharing}
+use Rattle.sharc_suggest.specs.{Casts.{suggested_for, suggested_in, cast_at, IsSuggested}, Repairs.{repair_with, is_repairable, cast_to}, Givings.{Giving, items_givings, wanted}}
 
 -- it is one of these
 abbrev pub IsAmong : Cast → List Cast → Type 0

@@ -1,43 +1,17 @@
 -- A token that names a global or a function in a program at its tokens has the text of what the file knows as that; and one that names what the program does not define
 -- shows that the file knows the calls of condition variables.
-use Rattle.std.proofs.Common.{◌≡◌, ◌⊎◌, inl, inr, ⊎_elim, ℕ, zero, suc, ◌+◌, ◌<◌, Bool, true, false, cond, List, [], ◌∷◌, ◌++◌, length, drop, get_or, Option, Some, None, slice_get, bytes_eq, refl, ap, sym, ◌∙◌, arith}
+use Rattle.std.proofs.{Common.{◌≡◌, ◌⊎◌, inl, inr, ⊎_elim, ℕ, zero, suc, ◌+◌, ◌<◌, Bool, true, false, cond, List, [], ◌∷◌, ◌++◌, length, drop, get_or, Option, Some, None, slice_get, bytes_eq, refl, ap, sym, ◌∙◌, arith}, lemmas.Bool.false≢true}
 use Rattle.std.specs.List.{AllByRecursion}
-use Rattle.std.proofs.lemmas.Bool.{false≢true}
-use Rattle.sharc_tree.specs.declared.ctype.Base.{Base}
+use Rattle.sharc_tree.specs.{declared.ctype.Base.Base, declared.ctype.Mode.Mode, declared.ctype.Mode.TheVariants.{Private, Readonly, Locked, Racy, Dynamic}, declared.ctype.Path.Path, declared.ctype.Path.TheVariants.{One, Through}, declared.token.Token.Token, declared.tree.declaration.WrittenType.WrittenType, declared.tree.declaration.Declaration.Declaration, Marks.{Mark, a_name, path_marks, level_marks, levels_marks, base_marks, IsMark, AreMarks}, Placed.{PlacedType, Placed, AllPlaced}, Tree.{Expression, identifier, constant, parentheses, call, spawn, on_value, on_place, cast, index, field, unary, binary, Arguments, no_arguments, argument}}
 use Rattle.sharc_tree.specs.declared.ctype.Base.TheVariants as base
-use Rattle.sharc_tree.specs.declared.ctype.Mode.{Mode}
-use Rattle.sharc_tree.specs.declared.ctype.Mode.TheVariants.{Private, Readonly, Locked, Racy, Dynamic}
-use Rattle.sharc_tree.specs.declared.ctype.Path.{Path}
-use Rattle.sharc_tree.specs.declared.ctype.Path.TheVariants.{One, Through}
-use Rattle.sharc_tree.specs.declared.token.Token.{Token}
-use Rattle.sharc_tree.specs.declared.tree.declaration.WrittenType.{WrittenType}
-use Rattle.sharc_tree.specs.declared.tree.declaration.Declaration.{Declaration}
-use Rattle.sharc_tree.specs.Marks.{Mark, a_name, path_marks, level_marks, levels_marks, base_marks, IsMark, AreMarks}
-use Rattle.sharc_tree.specs.Placed.{PlacedType, Placed, AllPlaced}
-use Rattle.sharc_tree.specs.Tree.{Expression, identifier, constant, parentheses, call, spawn, on_value, on_place, cast, index, field, unary, binary, Arguments, no_arguments, argument}
-use Rattle.sharc_names.specs.declared.fault.Named.{Named}
+use Rattle.sharc_names.specs.{declared.fault.Named.Named, declared.scope.Scope.Scope, declared.types.Role.Role, Kinds.Kind, Names.{Entry, Meaning, StructMeaning, StructTable, look_up, named_of, struct_of, field_of}, Notes.{Note, fault, refers, yields}, Needs.met, Wants.first_wanted, declared.need.Need.TheVariants.{Value, Integer, Indexed}, Types.{is_fine, field_in, name_notes, main_notes, field_notes, first_notes, first_kind, second_in, second_notes, path_notes, mode_notes, modes_notes, struct_note, base_notes, type_notes}}
 use Rattle.sharc_names.specs.declared.fault.Named.TheVariants as named
-use Rattle.sharc_names.specs.declared.scope.Scope.{Scope}
-use Rattle.sharc_names.specs.declared.types.Role.{Role}
 use Rattle.sharc_names.specs.declared.types.Role.TheVariants as role
-use Rattle.sharc_names.specs.Kinds.{Kind}
-use Rattle.sharc_names.specs.Names.{Entry, Meaning, StructMeaning, StructTable, look_up, named_of, struct_of, field_of}
 use Rattle.sharc_names.specs.Names as meaning
-use Rattle.sharc_names.specs.Notes.{Note, fault, refers, yields}
-use Rattle.sharc_names.specs.Needs.{met}
-use Rattle.sharc_names.specs.Wants.{first_wanted}
-use Rattle.sharc_names.specs.declared.need.Need.TheVariants.{Value, Integer, Indexed}
-use Rattle.sharc_names.specs.Types.{is_fine, field_in, name_notes, main_notes, field_notes, first_notes, first_kind, second_in, second_notes, path_notes, mode_notes, modes_notes, struct_note, base_notes, type_notes}
-use Rattle.sharc_ctype.specs.declared.expr.Standing.{Standing}
-use Rattle.sharc_ctype.specs.declared.expr.Standing.TheVariants.{AsValue, AsLvalue}
-use Rattle.sharc_ctype.specs.Expressions.{access_need, operand_need, class_of, operands_need, place_kind, count, wanted, spawn_wanted, callee_notes, spawn_notes, type_of, notes_at, notes_of_all}
-use Rattle.sharc_ctype.specs.Resolved.{Resolution}
-use Rattle.sharc_ctype.specs.Statements.{with_names, declared, is_here}
+use Rattle.sharc_ctype.specs.{declared.expr.Standing.Standing, declared.expr.Standing.TheVariants.{AsValue, AsLvalue}, Expressions.{access_need, operand_need, class_of, operands_need, place_kind, count, wanted, spawn_wanted, callee_notes, spawn_notes, type_of, notes_at, notes_of_all}, Resolved.Resolution, Statements.{with_names, declared, is_here}}
 use Rattle.sharc_mode.specs.Sharings.{is_field, text_of, text_at}
-use Rattle.sharc_suggest_laws.proofs.Calls.{KnowsCalls}
-use Rattle.sharc_suggest_laws.proofs.Listed.{joint}
-use Rattle.sharc_suggest_laws.proofs.Mild.{is_filed}
-use Rattle.sharc_suggest_laws.proofs.Noted.{AreFaults, IsFault, unless_faults, unmet_faults, unagreed_faults, place_faults, place_call_faults, cast_faults, count_faults, main_faults, binary_faults}
+use Rattle.sharc_suggest_laws.proofs.{Calls.KnowsCalls, Mild.is_filed, Noted.{AreFaults, IsFault, unless_faults, unmet_faults, unagreed_faults, place_faults, place_call_faults, cast_faults, count_faults, main_faults, binary_faults}}
+use Rattle.sharc_lemmas.proofs.Lists.{both as joint}
 
 -- ---- of one note
 

@@ -1,44 +1,17 @@
 -- The same of statements, and of the whole program.
-use Rattle.std.proofs.Common.{◌≡◌, ⊎_elim, ℕ, ◌+◌, ◌<◌, ◌≤◌, ◌==◌, ◌||◌, not, nat_lt, Bool, true, false, cond, List, [], ◌∷◌, ◌++◌, length, get_or, Contains, Option, Some, None, IfSome, is_some, bytes_eq, codes, refl, ap, sym, subst, ◌∙◌, eqb-true}
+use Rattle.std.proofs.{Common.{◌≡◌, ⊎_elim, ℕ, ◌+◌, ◌<◌, ◌≤◌, ◌==◌, ◌||◌, not, nat_lt, Bool, true, false, cond, List, [], ◌∷◌, ◌++◌, length, get_or, Contains, Option, Some, None, IfSome, is_some, bytes_eq, codes, refl, ap, sym, subst, ◌∙◌, eqb-true}, lemmas.Bool.{false≢true, true≢false, cases_lt}, lemmas.Slice.Eq.bytes_eq-Decides}
 use Rattle.std.specs.List.{AllByRecursion}
-use Rattle.std.proofs.lemmas.Bool.{false≢true, true≢false, cases_lt}
-use Rattle.std.proofs.lemmas.Slice.Eq.{bytes_eq-Decides}
-use Rattle.sharc_tree.specs.declared.tree.declaration.Declaration.{Declaration}
-use Rattle.sharc_tree.specs.Marks.{items_marks}
-use Rattle.sharc_tree.specs.Placed.{PlacedDeclarations, Placed, PlacedRight, PlacedSimple, PlacedLocal, PlacedFirst, PlacedStatement, PlacedStatements, PlacedItem, PlacedItems, IsPlaced}
-use Rattle.sharc_tree.specs.Tree.{Expression, Right, value, malloc, Simple, assign, does_call, Local, First, nothing, declares, does, Head, Statement, Statements, no_statements, statement, Function, Item, structure, global, function}
+use Rattle.sharc_tree.specs.{declared.tree.declaration.Declaration.Declaration, Marks.items_marks, Placed.{PlacedDeclarations, Placed, PlacedRight, PlacedSimple, PlacedLocal, PlacedFirst, PlacedStatement, PlacedStatements, PlacedItem, PlacedItems, IsPlaced}, Tree.{Expression, Right, value, malloc, Simple, assign, does_call, Local, First, nothing, declares, does, Statement, Statements, no_statements, statement, Function, Item, structure, global, function}}
 use Rattle.sharc_tree.specs.Tree as tree
-use Rattle.sharc_names.specs.declared.fault.FaultCode.TheVariants.{DefinedTwice, LimitPassed, TypeMismatch, BadForm}
-use Rattle.sharc_names.specs.declared.fault.Named.{Named}
+use Rattle.sharc_names.specs.{declared.fault.FaultCode.TheVariants.{DefinedTwice, LimitPassed, TypeMismatch, BadForm}, declared.fault.Named.Named, declared.scope.Scope.Scope, Kinds.{Kind, void, same_kind, declared_kind}, Needs.met, declared.need.Need.TheVariants.{Value, Integer}, Names.{Entry, look_up, named_of, field_of}, Notes.{Note, is_free, fault, refers, yields, fault_unless, fault_where, referred}, Types.{is_fine, type_notes}}
 use Rattle.sharc_names.specs.declared.fault.Named.TheVariants as named
-use Rattle.sharc_names.specs.declared.scope.Scope.{Scope}
 use Rattle.sharc_names.specs.declared.types.Role.TheVariants as role
-use Rattle.sharc_names.specs.Kinds.{Kind, void, same_kind, declared_kind}
-use Rattle.sharc_names.specs.Needs.{met}
-use Rattle.sharc_names.specs.declared.need.Need.TheVariants.{Value, Integer}
-use Rattle.sharc_names.specs.Names.{Entry, look_up, named_of, field_of}
-use Rattle.sharc_names.specs.Notes.{Note, is_free, fault, refers, yields, fault_unless, fault_where, referred}
-use Rattle.sharc_names.specs.Types.{is_fine, type_notes}
-use Rattle.sharc_ctype.specs.Expressions.{type_of, place_kind}
-use Rattle.sharc_ctype.specs.declared.expr.Standing.TheVariants.{AsValue, AsLvalue}
-use Rattle.sharc_ctype.specs.Condition.{known_in, defines_condition, with_conditions}
-use Rattle.sharc_ctype.specs.Heads.{Heading, with_entry, global_entry, function_entry, head_notes as item_head_notes, heads_notes, behind, behind_all, no_heads}
-use Rattle.sharc_ctype.specs.Items.{field_notes, fields_notes, parameters_notes, with_parameters, item_notes, items_notes, file_scope, notes_about, named_in}
-use Rattle.sharc_ctype.specs.Reaches.{name_tokens}
-use Rattle.sharc_ctype.specs.Resolved.{Resolution, IsResolved, named_at}
-use Rattle.sharc_ctype.specs.Statements.{Around, opened, looping, with_names, declared, declared_notes, is_here, test_notes, count_notes, right_notes, simple_notes, is_made, is_aggregate, wanted_by, returned_as, initial_notes, local_notes, return_notes, first_notes, behind_first, tests_notes, step_notes, after, notes_in, notes_in_all, locals_in_all}
+use Rattle.sharc_ctype.specs.{Expressions.{type_of, place_kind}, declared.expr.Standing.TheVariants.{AsValue, AsLvalue}, Condition.{known_in, defines_condition, with_conditions}, Heads.{Heading, with_entry, global_entry, function_entry, head_notes as item_head_notes, heads_notes, behind, behind_all, no_heads}, Items.{field_notes, fields_notes, parameters_notes, with_parameters, item_notes, items_notes, file_scope, notes_about, named_in}, Reaches.name_tokens, Resolved.{Resolution, IsResolved, named_at}, Statements.{Around, opened, looping, with_names, declared, declared_notes, is_here, test_notes, count_notes, right_notes, simple_notes, is_made, is_aggregate, wanted_by, returned_as, initial_notes, local_notes, return_notes, first_notes, behind_first, tests_notes, step_notes, after, notes_in, notes_in_all, locals_in_all}}
 use Rattle.sharc_mode.specs.Sharings.{is_field, text_at}
 use Rattle.sharc_ctype_laws.specs.Laws.{Tells, IsToldOnce}
 use Rattle.sharc_suggest_laws.specs.Names.{is_dull}
-use Rattle.sharc_suggest_laws.proofs.Folded.{seen, named_seen, named_past, IsOwnAt}
-use Rattle.sharc_suggest_laws.proofs.Owned.{told_or_not}
-use Rattle.sharc_suggest_laws.proofs.Words.{name_there, name_apart, call_text}
-use Rattle.sharc_suggest_laws.proofs.Calls.{KnowsCalls, no_global, no_function, calls_known}
-use Rattle.sharc_suggest_laws.proofs.Listed.{joint, back}
-use Rattle.sharc_suggest_laws.proofs.Mild.{IsSpelled, is_filed}
-use Rattle.sharc_suggest_laws.proofs.Noted.{Clean, left, right, behind_head, not_wrong, unless_faults, where_faults, unmet_faults, unagreed_faults, place_faults}
-use Rattle.sharc_suggest_laws.proofs.Reread.{length_faults, initial_faults, sizes_faults, beyond_faults}
-use Rattle.sharc_suggest_laws.proofs.Spelled.{IsFiledAs, IsSpelt, AreSpelt, not_filed, plainly, faults_spelt, text_is, IsOver, over_file, over_with, type_spelt, behind_faults, inside}
+use Rattle.sharc_suggest_laws.proofs.{Folded.{seen, named_seen, named_past, IsOwnAt}, Owned.told_or_not, Words.{name_there, name_apart, call_text}, Calls.{KnowsCalls, no_global, no_function, calls_known}, Mild.{IsSpelled, is_filed}, Noted.{Clean, left, right, behind_head, not_wrong, unless_faults, where_faults, unmet_faults, unagreed_faults, place_faults}, Reread.{length_faults, initial_faults, sizes_faults, beyond_faults}, Spelled.{IsFiledAs, IsSpelt, AreSpelt, not_filed, plainly, faults_spelt, text_is, IsOver, over_file, over_with, type_spelt, behind_faults, inside}}
+use Rattle.sharc_lemmas.proofs.Lists.{back, both as joint}
 
 in_test : (r : Resolution) (file : Scope) (names : List Entry) → IsOver file.names names → (e : Expression) → Placed r.program.tokens.list e → AreSpelt r file (test_notes (with_names file names) e)
 in_test r file names over e placed = behind_faults r file _ _ (inside r file names over AsValue e placed) (unmet_faults Value e (type_of (with_names file names) e))

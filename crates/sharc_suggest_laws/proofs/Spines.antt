@@ -1,39 +1,16 @@
 -- What an expression that comes before the cast points to, and its type.
-use Rattle.std.proofs.Common.{◌≡◌, ℕ, ◌+◌, ◌<◌, ◌≤◌, false, cond, ◌++◌, Option, Some, None, refl, ap, ap₂, sym, subst, ◌∙◌, arith}
+use Rattle.std.proofs.{Common.{◌≡◌, ℕ, ◌+◌, ◌<◌, ◌≤◌, false, cond, ◌++◌, Option, Some, None, refl, ap, ap₂, sym, subst, ◌∙◌, arith}, lemmas.Bool.true≢false}
 use Rattle.std.specs.List.{AllByRecursion}
-use Rattle.std.proofs.lemmas.Bool.{true≢false}
-use Rattle.sharc_tree.specs.declared.token.Span.{Span}
-use Rattle.sharc_tree.specs.declared.tree.declaration.Declaration.{Declaration}
-use Rattle.sharc_tree.specs.Measures.{expressions}
-use Rattle.sharc_tree.specs.Placed.{Placed}
-use Rattle.sharc_tree.specs.Spans.{span_of}
-use Rattle.sharc_tree.specs.Tree.{Expression, identifier, constant, parentheses, call, spawn, on_value, on_place, cast, index, field, unary, binary}
-use Rattle.sharc_names.specs.declared.fault.Named.{Named}
-use Rattle.sharc_names.specs.declared.need.Need.{Need}
-use Rattle.sharc_names.specs.declared.need.Need.TheVariants.{Integer, Indexed}
-use Rattle.sharc_names.specs.declared.scope.Scope.{Scope}
-use Rattle.sharc_names.specs.Kinds.{Kind, object, array, null, is_array, element_kind}
+use Rattle.sharc_tree.specs.{declared.token.Span.Span, declared.tree.declaration.Declaration.Declaration, Measures.expressions, Placed.Placed, Spans.span_of, Tree.{Expression, identifier, constant, parentheses, call, spawn, on_value, on_place, cast, index, field, unary, binary}}
+use Rattle.sharc_names.specs.{declared.fault.Named.Named, declared.need.Need.Need, declared.need.Need.TheVariants.{Integer, Indexed}, declared.scope.Scope.Scope, Kinds.{Kind, object, array, null, is_array, element_kind}, Names.{Entry, Meaning, look_up, named_of}, Needs.{met, unmet}, Types.{name_notes, field_in, field_kind, field_notes}}
 use Rattle.sharc_names.specs.Kinds as kinds
-use Rattle.sharc_names.specs.Names.{Entry, Meaning, look_up, named_of}
 use Rattle.sharc_names.specs.Names as meaning
-use Rattle.sharc_names.specs.Needs.{met, unmet}
-use Rattle.sharc_names.specs.Types.{name_notes, field_in, field_kind, field_notes}
-use Rattle.sharc_rewrite.specs.Recast.{with_cast}
-use Rattle.sharc_ctype.specs.declared.expr.OperatorClass.{OperatorClass}
-use Rattle.sharc_ctype.specs.declared.expr.OperatorClass.TheVariants.{Logical, Equality, Relation, Shift, Arithmetic}
-use Rattle.sharc_ctype.specs.declared.expr.Standing.{Standing}
-use Rattle.sharc_ctype.specs.declared.expr.Standing.TheVariants.{AsValue}
-use Rattle.sharc_ctype.specs.Expressions.{element_of, access_need, operand_need, unary_result, unary_kind, class_of, operands_need, binary_result, binary_kind, binary_notes, type_of, notes_at}
-use Rattle.sharc_ctype.specs.Resolved.{named_at, named_kind, kind_at}
-use Rattle.sharc_mode.specs.declared.error.Cast.{Cast}
-use Rattle.sharc_mode.specs.Moded.{Assignment}
-use Rattle.sharc_mode.specs.Rows.{written, named_row, behind, reading_through, base_use, row_at}
-use Rattle.sharc_rewrite.specs.Applied.{recast_of}
+use Rattle.sharc_rewrite.specs.{Recast.with_cast, Applied.recast_of}
+use Rattle.sharc_ctype.specs.{declared.expr.OperatorClass.OperatorClass, declared.expr.OperatorClass.TheVariants.{Logical, Equality, Relation, Shift, Arithmetic}, declared.expr.Standing.Standing, declared.expr.Standing.TheVariants.AsValue, Expressions.{element_of, access_need, operand_need, unary_result, unary_kind, class_of, operands_need, binary_result, binary_kind, binary_notes, type_of, notes_at}, Resolved.{named_at, named_kind, kind_at}}
+use Rattle.sharc_mode.specs.{declared.error.Cast.Cast, Moded.Assignment, Rows.{written, named_row, behind, reading_through, base_use, row_at}}
 use Rattle.sharc_suggest_laws.specs.Names.{is_dull}
-use Rattle.sharc_suggest_laws.proofs.Lefts.{IsTypedIn, is_function, typed_itself}
-use Rattle.sharc_suggest_laws.proofs.Listed.{front, back}
-use Rattle.sharc_suggest_laws.proofs.RowsStay.{Frame, now, many, first_at, IsRowMoved, AreRowsMoved, other_moved, named_kind_same, named_moved, call_moved, call_kind_same, base_same, element_moved, no_rows, unary_moved, constant_moved, none_some, element_held, operand_held}
-use Rattle.sharc_suggest_laws.proofs.Strong.{IsStrong, AreStrong}
+use Rattle.sharc_suggest_laws.proofs.{Lefts.{IsTypedIn, is_function, typed_itself}, RowsStay.{Frame, now, many, first_at, IsRowMoved, AreRowsMoved, other_moved, named_kind_same, named_moved, call_moved, call_kind_same, base_same, element_moved, no_rows, unary_moved, constant_moved, element_held, operand_held}, Strong.{IsStrong, AreStrong}}
+use Rattle.sharc_lemmas.proofs.{Options.none_some, Lists.{front, back}}
 
 -- the same row, moved, and the same type
 pub record IsSpine (m : Assignment) (c : Cast) (frame : Frame m c) (e : Expression) : Type 0 where

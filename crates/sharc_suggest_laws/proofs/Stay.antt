@@ -1,44 +1,15 @@
 -- Each token names what it named, where the program with a suggested cast is typed.
-use Rattle.sharc_tree.specs.Low.{IsLow}
-use Rattle.sharc_suggest.specs.Casts.{IsSuggested}
-use Rattle.sharc_mode.specs.declared.error.ModeError.{ModeError}
-use Rattle.std.proofs.Common.{Some, ◌≡◌, ℕ, ◌+◌, ◌≤◌, ◌==◌, ◌&&◌, Bool, true, List, [], ◌∷◌, length, refl, ap, sym, subst, ◌∙◌, eq-eqb, arith}
+use Rattle.sharc_tree.specs.{Low.IsLow, declared.token.Span.Span, declared.tree.declaration.WrittenType.WrittenType, Measures.expressions, Placed.IsPlaced, Spans.span_of}
+use Rattle.sharc_suggest.specs.{Casts.IsSuggested, Repairs.{differ_first, may_be_cast, keeps_all}, Givings.{Giving, items_givings}}
+use Rattle.sharc_mode.specs.{declared.error.ModeError.ModeError, declared.error.Cast.Cast, Moded.Assignment}
+use Rattle.std.proofs.{Common.{Some, ◌≡◌, ℕ, ◌+◌, ◌≤◌, ◌==◌, ◌&&◌, Bool, true, List, [], ◌∷◌, length, refl, ap, sym, subst, ◌∙◌, eq-eqb, arith}, lemmas.Bool.{and_parts, and_from}}
 use Rattle.std.specs.List.{AllByRecursion}
-use Rattle.std.proofs.lemmas.Bool.{and_parts, and_from}
-use Rattle.sharc_tree.specs.declared.token.Span.{Span}
-use Rattle.sharc_tree.specs.declared.tree.declaration.WrittenType.{WrittenType}
-use Rattle.sharc_tree.specs.Measures.{expressions}
-use Rattle.sharc_tree.specs.Placed.{IsPlaced}
-use Rattle.sharc_tree.specs.Spans.{span_of}
-use Rattle.sharc_rewrite.specs.declared.written.Recast.{Recast}
-use Rattle.sharc_rewrite.specs.Recast.{type_at, is_there, program_with_cast}
-use Rattle.sharc_ctype.specs.declared.entity.Entity.{Entity}
-use Rattle.sharc_ctype.specs.Entities.{entities_in, numbered}
-use Rattle.sharc_ctype.specs.Items.{file_scope, notes_about, IsTyped}
-use Rattle.sharc_ctype.specs.Resolved.{Resolution, IsResolved}
-use Rattle.sharc_mode.specs.declared.error.Cast.{Cast}
-use Rattle.sharc_mode.specs.Moded.{Assignment}
-use Rattle.sharc_ctype_laws.specs.Laws.{EachNameOnce, OnlyNames, NamesInTypes}
-use Rattle.sharc_ctype_laws.specs.WrittenTypes.{IsNamedType}
-use Rattle.sharc_rewrite.specs.Applied.{recast_of, base_site, program_with}
-use Rattle.sharc_suggest.specs.Repairs.{differ_first, may_be_cast, keeps_all}
-use Rattle.sharc_suggest.specs.Givings.{Giving, items_givings}
-use Rattle.sharc_suggest_laws.specs.Names.{NamesStay}
-use Rattle.sharc_suggest_laws.specs.Values.{count_of, met_by, met_in_items}
-use Rattle.sharc_suggest_laws.proofs.Added.{at_tokens}
-use Rattle.sharc_suggest_laws.proofs.Bases.{Have, HaveCasts, of_items, in_all, IsGiven}
-use Rattle.sharc_suggest_laws.proofs.Counted.{counted, counted_append, in_items as items_counted}
-use Rattle.sharc_suggest_laws.proofs.Few.{at_most_one, begins_once}
-use Rattle.sharc_suggest_laws.proofs.Folded.{keeps}
-use Rattle.sharc_suggest_laws.proofs.Listed.{back, joint}
-use Rattle.sharc_suggest_laws.proofs.Mild.{IsSpelled, NamesBase, type_mild}
-use Rattle.sharc_suggest_laws.proofs.Noted.{Clean, clean_from, Noted}
-use Rattle.sharc_suggest_laws.proofs.Owned.{all_own}
-use Rattle.sharc_suggest_laws.proofs.Renamed.{HasBase, each_has, base_named, given_based}
-use Rattle.sharc_suggest_laws.proofs.Reread.{setting_of, in_program}
-use Rattle.sharc_suggest_laws.proofs.Retyped.{Setting, IsMild, AreMild}
-use Rattle.sharc_suggest_laws.proofs.Site.{IsFor, HasSite, has_site}
-use Rattle.sharc_suggest_laws.proofs.SpelledAll.{spelled}
+use Rattle.sharc_rewrite.specs.{declared.written.Recast.Recast, Recast.{type_at, is_there, program_with_cast}, Applied.{recast_of, base_site, program_with}}
+use Rattle.sharc_ctype.specs.{declared.entity.Entity.Entity, Entities.{entities_in, numbered}, Items.{file_scope, notes_about, IsTyped}, Resolved.{Resolution, IsResolved}}
+use Rattle.sharc_ctype_laws.specs.{Laws.{EachNameOnce, OnlyNames, NamesInTypes}, WrittenTypes.IsNamedType}
+use Rattle.sharc_suggest_laws.specs.{Names.NamesStay, Values.{count_of, met_by, met_in_items}}
+use Rattle.sharc_suggest_laws.proofs.{Added.at_tokens, Bases.{Have, HaveCasts, of_items, in_all, IsGiven}, Counted.{counted, counted_append, in_items as items_counted}, Few.{at_most_one, begins_once}, Folded.keeps, Mild.{IsSpelled, NamesBase, type_mild}, Noted.{Clean, clean_from, Noted}, Owned.all_own, Renamed.{HasBase, each_has, base_named, given_based}, Reread.{setting_of, in_program}, Retyped.{Setting, IsMild, AreMild}, Site.{IsFor, HasSite, has_site}, SpelledAll.spelled}
+use Rattle.sharc_lemmas.proofs.Lists.{back, both as joint}
 
 -- ---- the cast is at one giving alone
 

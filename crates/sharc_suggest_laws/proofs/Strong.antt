@@ -1,16 +1,12 @@
 -- A token that is determined to be a field by its own name still names that field.
-use Rattle.std.proofs.Common.{◌≡◌, ◌⊎◌, inl, inr, ℕ, ◌<◌, ◌≤◌, ◌==◌, Bool, true, false, cond, List, [], ◌∷◌, length, get_or, refl, ap, sym, ◌∙◌, eqb-true, eq-eqb, arith}
+use Rattle.std.proofs.{Common.{◌≡◌, ◌⊎◌, inl, inr, ℕ, ◌<◌, ◌≤◌, ◌==◌, Bool, true, false, cond, List, [], ◌∷◌, length, get_or, refl, ap, sym, ◌∙◌, eqb-true, eq-eqb, arith}, lemmas.Bool.{false≢true, cases_lt}}
 use Rattle.std.specs.List.{AllByRecursion}
-use Rattle.std.proofs.lemmas.Bool.{false≢true, cases_lt}
-use Rattle.sharc_names.specs.declared.fault.Named.{Named}
+use Rattle.sharc_names.specs.{declared.fault.Named.Named, Notes.{Note, fault, refers, yields, is_free}}
 use Rattle.sharc_names.specs.declared.fault.Named.TheVariants as named
-use Rattle.sharc_names.specs.Notes.{Note, fault, refers, yields, is_free}
-use Rattle.sharc_ctype.specs.Items.{notes_about, named_in}
-use Rattle.sharc_ctype.specs.Resolved.{Resolution, IsResolved, named_at}
+use Rattle.sharc_ctype.specs.{Items.{notes_about, named_in}, Resolved.{Resolution, IsResolved, named_at}}
 use Rattle.sharc_mode.specs.Sharings.{is_field}
 use Rattle.sharc_suggest_laws.specs.Names.{is_dull, KeepsName}
-use Rattle.sharc_suggest_laws.proofs.Folded.{seen, named_seen, named_past, IsOwnAt, field_taken}
-use Rattle.sharc_suggest_laws.proofs.Noted.{Clean, no_fault, behind_head, behind_yields, IsHarmless, Noted, done, kept, added, old_fault, new_fault}
+use Rattle.sharc_suggest_laws.proofs.{Folded.{seen, named_seen, named_past, IsOwnAt, field_taken}, Noted.{Clean, no_fault, behind_head, behind_yields, IsHarmless, Noted, done, kept, added, old_fault, new_fault}}
 
 -- after its own name a field stays
 chosen : (b : Bool) (w y v : Named) → (b ≡ true → w ≡ v) → y ≡ v → cond b w y ≡ v

@@ -1,20 +1,12 @@
 -- What is declared, and each other cast, keeps its modes.
-use Rattle.std.proofs.Common.{◌≡◌, ℕ, ◌==◌, ◌&&◌, Bool, true, false, List, ◌∷◌, ◌++◌, length, drop, Option, refl, ap, sym, subst, subst₂, ◌∙◌, eqb-true}
+use Rattle.std.proofs.{Common.{◌≡◌, ℕ, ◌==◌, ◌&&◌, Bool, true, false, List, ◌∷◌, ◌++◌, length, drop, Option, refl, ap, sym, subst, subst₂, ◌∙◌, eqb-true}, lemmas.Bool.{and_parts, false_from_ne_true}, lemmas.List.length-map}
 use Rattle.std.specs.List.{find}
-use Rattle.std.proofs.lemmas.Bool.{and_parts, false_from_ne_true}
-use Rattle.std.proofs.lemmas.List.{length-map}
 use Rattle.sharc_tree.specs.declared.ctype.Mode.{Mode}
-use Rattle.sharc_ctype.specs.declared.entity.Entity.{Entity}
-use Rattle.sharc_ctype.specs.declared.entity.Numbered.{Numbered}
-use Rattle.sharc_ctype.specs.Entities.{entity_at, is_told_by, numbered_from, positions_of}
-use Rattle.sharc_mode.specs.declared.error.Cast.{Cast}
-use Rattle.sharc_mode.specs.Moded.{Assignment}
+use Rattle.sharc_ctype.specs.{declared.entity.Entity.Entity, declared.entity.Numbered.Numbered, Entities.{entity_at, is_told_by, numbered_from, positions_of}}
+use Rattle.sharc_mode.specs.{declared.error.Cast.Cast, Moded.Assignment}
 use Rattle.sharc_rewrite.specs.Applied.{resolution_with, written_or, targets, inserted, assignment_with}
 use Rattle.sharc_suggest_laws.specs.Kept.{TypesStay}
-use Rattle.sharc_suggest_laws.proofs.Added.{suggested_is_added_once}
-use Rattle.sharc_suggest_laws.proofs.Found.{AreMoved, all_moved}
-use Rattle.sharc_suggest_laws.proofs.Rows.{entity_same}
-use Rattle.sharc_suggest_laws.proofs.Stands.{IsAdded, entity_of, first_place, first_is, first_fits}
+use Rattle.sharc_suggest_laws.proofs.{Added.suggested_is_added_once, Found.{AreMoved, all_moved}, Rows.entity_same, Stands.{IsAdded, entity_of, first_place, first_is, first_fits}}
 
 pub targets_counted : (levels : List (Option Mode)) → length (drop 1 levels) ≡ length (targets levels)
 targets_counted levels = sym (length-map (drop 1 levels) written_or)

@@ -1,37 +1,16 @@
 -- What is expected at the cast is what was expected.
-use Rattle.std.proofs.Common.{◌≡◌, ◌⊎◌, inl, inr, ℕ, zero, suc, ◌≤◌, ◌==◌, Bool, true, false, not, ◌&&◌, ◌||◌, cond, List, [], ◌∷◌, map, length, take, drop, Option, Some, None, option_map, is_some, is_none, slice_get, refl, ap, ap₂, sym, subst, ◌∙◌, eq-eqb}
+use Rattle.std.proofs.{Common.{◌≡◌, ◌⊎◌, inl, inr, ℕ, zero, suc, ◌≤◌, ◌==◌, Bool, true, false, not, ◌&&◌, ◌||◌, cond, List, [], ◌∷◌, map, length, take, drop, Option, Some, None, option_map, is_some, is_none, slice_get, refl, ap, ap₂, sym, subst, ◌∙◌, eq-eqb}, lemmas.Bool.{false≢true, and_parts}}
 use Rattle.std.specs.List.{AllByRecursion, flat_map}
-use Rattle.std.proofs.lemmas.Bool.{false≢true, and_parts}
-use Rattle.sharc_tree.specs.declared.ctype.Mode.{Mode}
-use Rattle.sharc_tree.specs.declared.tree.declaration.Declaration.{Declaration}
-use Rattle.sharc_tree.specs.Forms.{without_parentheses}
-use Rattle.sharc_tree.specs.Tree.{Expression, identifier, constant, parentheses, call, spawn, on_value, on_place, cast, index, field, unary, binary, Arguments, no_arguments, argument, Function}
-use Rattle.sharc_names.specs.declared.fault.Named.{Named}
+use Rattle.sharc_tree.specs.{declared.ctype.Mode.Mode, declared.tree.declaration.Declaration.Declaration, Forms.without_parentheses, Tree.{Expression, identifier, constant, parentheses, call, spawn, on_value, on_place, cast, index, field, unary, binary, Arguments, no_arguments, argument, Function}, Spans.span_of}
+use Rattle.sharc_names.specs.{declared.fault.Named.Named, Names.{Entry, look_up}}
 use Rattle.sharc_names.specs.declared.fault.Named.TheVariants as named
-use Rattle.sharc_names.specs.Names.{Entry, look_up}
-use Rattle.sharc_rewrite.specs.declared.written.Recast.{Recast}
-use Rattle.sharc_rewrite.specs.Recast.{is_there, around, with_cast, all_with_cast, function_with_cast, type_at}
-use Rattle.sharc_tree.specs.Spans.{span_of}
-use Rattle.sharc_ctype.specs.Resolved.{Resolution, named_at, function_at, functions_in}
-use Rattle.sharc_ctype.specs.Transfers.{parameters_of, parameters_named}
-use Rattle.sharc_mode.specs.declared.error.Cast.{Cast}
-use Rattle.sharc_mode.specs.declared.finding.Finding.{Finding}
-use Rattle.sharc_mode.specs.declared.finding.Finding.TheVariants.{Names}
-use Rattle.sharc_mode.specs.Expressions.{expected}
-use Rattle.sharc_mode.specs.Moded.{Assignment}
-use Rattle.sharc_mode.specs.Notes.{is_named, names_of, names_in, names_in_all, names_read, parameter_names, taken_variable}
-use Rattle.sharc_mode.specs.Rows.{Reading, at_call, Targets, is_constant_named, constant_use, argument_use, lock_through, with_base, lock_for, read_lock, read, reading_through, declared_row, modes_of}
-use Rattle.sharc_mode.specs.Sharings.{Lock, Sharing, private, readonly, locked, racy, dynamic, sharing_of, is_field, variable_named, object_named, text_at}
-use Rattle.sharc_rewrite.specs.Applied.{recast_of, targets, inserted, assignment_with}
-use Rattle.sharc_suggest.specs.Repairs.{is_free, is_call_at, keeps_named, keeps, keeps_all}
-use Rattle.sharc_suggest.specs.Givings.{beyond}
+use Rattle.sharc_rewrite.specs.{declared.written.Recast.Recast, Recast.{is_there, around, with_cast, all_with_cast, function_with_cast, type_at}, Applied.{recast_of, targets, inserted, assignment_with}}
+use Rattle.sharc_ctype.specs.{Resolved.{Resolution, named_at, function_at, functions_in}, Transfers.{parameters_of, parameters_named}}
+use Rattle.sharc_mode.specs.{declared.error.Cast.Cast, declared.finding.Finding.Finding, declared.finding.Finding.TheVariants.Names, Expressions.expected, Moded.Assignment, Notes.{is_named, names_of, names_in, names_in_all, names_read, parameter_names, taken_variable}, Rows.{Reading, at_call, Targets, is_constant_named, constant_use, argument_use, lock_through, with_base, lock_for, read_lock, read, reading_through, declared_row, modes_of}, Sharings.{Lock, Sharing, private, readonly, locked, racy, dynamic, sharing_of, is_field, variable_named, object_named, text_at}}
+use Rattle.sharc_suggest.specs.{Repairs.{is_free, is_call_at, keeps_named, keeps, keeps_all}, Givings.beyond}
 use Rattle.sharc_suggest_laws.specs.Names.{is_dull, KeepsName}
-use Rattle.sharc_suggest_laws.proofs.Arguments.{nth, args_met, one_nth}
-use Rattle.sharc_suggest_laws.proofs.CallNames.{named_left, named_right}
-use Rattle.sharc_suggest_laws.proofs.Grown.{span_same}
-use Rattle.sharc_suggest_laws.proofs.Rows.{IsShifted, same_stretch}
-use Rattle.sharc_suggest_laws.proofs.RowsStay.{Frame, now, many, first_at, IsRowMoved, AreRowsMoved, IsClearOf, clear_moved, functions_same, use_same}
-use Rattle.sharc_suggest_laws.proofs.Stands.{first_is}
+use Rattle.sharc_suggest_laws.proofs.{Arguments.{nth, args_met, one_nth}, CallNames.{named_left, named_right}, Grown.span_same, Rows.{IsShifted, same_stretch}, RowsStay.{Frame, now, many, first_at, IsRowMoved, AreRowsMoved, IsClearOf, clear_moved, functions_same, use_same}, Stands.first_is}
+use Rattle.sharc_lemmas.proofs.Options.{no_guard as no_use, some_is as one_use}
 
 -- ---- the modes of a row that was moved, where its lock paths are read alike
 
@@ -216,9 +195,6 @@ are_good m tells (s ∷ rest) named_so = (
 
 -- arguments stay the constant variables that they were, but for one that the cast is put round
 
-no_use : (y : ℕ) → None ≡ Some y → ⊥
-no_use y is = cc
-
 argument_by : (m : Assignment) (c : Cast) → Frame m c → (a : Expression) (w : Option ℕ) → constant_use m.typed a ≡ w → ((y : ℕ) → is_there (recast_of m.typed c) a ≡ true → w ≡ Some y → ⊥) → (b : Bool) → is_there (recast_of m.typed c) a ≡ b
     → constant_use (now m c) (cond b (cast (span_of (with_cast (recast_of m.typed c) a)) (type_at (recast_of m.typed c) (span_of (with_cast (recast_of m.typed c) a))) (with_cast (recast_of m.typed c) a)) (with_cast (recast_of m.typed c) a)) ≡ w
 argument_by m c frame a None is never true there = refl
@@ -253,9 +229,6 @@ uses_same m c frame whole x w (d ∷ rest) (argument a more) among never is =
 
 named_itself : (z : ℕ) → is_named z (Names z ∷ []) ≡ true
 named_itself z = ap (λ (b : Bool). b || false) (eq-eqb z z refl)
-
-one_use : (a b : ℕ) → Some a ≡ Some b → a ≡ b
-one_use a b is = cc
 
 constant_variable : (r : Resolution) (tells : ℕ → Bool) (v : Named) → is_constant_named r v ≡ true → is_free tells (object_named r v) ≡ true → ((z : ℕ) → is_named z (names_of (object_named r v)) ≡ true → tells z ≡ true) → ⊥
 constant_variable r tells (named.Struct n) is free told = false≢true is

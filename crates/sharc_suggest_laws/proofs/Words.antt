@@ -1,16 +1,11 @@
 -- Which tokens begin a path with a known call: the word `locked` comes two before one, and no name does.
-use Rattle.std.proofs.Common.{◌≡◌, ◌⊎◌, inl, inr, ⊎_elim, ℕ, zero, suc, ◌+◌, ◌-◌, ◌≤◌, ◌&&◌, Bool, true, false, List, [], ◌∷◌, ◌++◌, Contains, Option, Some, None, slice_get, refl, ap, sym, subst, ◌∙◌, arith}
-use Rattle.std.proofs.lemmas.Bool.{false≢true, and_parts}
-use Rattle.sharc_tree.specs.declared.token.Keyword.{Keyword}
-use Rattle.sharc_tree.specs.declared.token.Keyword.TheVariants.{Scast}
-use Rattle.sharc_tree.specs.declared.token.Token.{Token}
-use Rattle.sharc_tree.specs.declared.token.TokenKind.{TokenKind}
+use Rattle.std.proofs.{Common.{◌≡◌, ◌⊎◌, inl, inr, ⊎_elim, ℕ, zero, suc, ◌+◌, ◌-◌, ◌≤◌, ◌&&◌, Bool, true, false, List, [], ◌∷◌, ◌++◌, Contains, Option, Some, None, slice_get, refl, ap, sym, subst, ◌∙◌, arith}, lemmas.Bool.{false≢true, and_parts}}
+use Rattle.sharc_tree.specs.{declared.token.Keyword.Keyword, declared.token.Keyword.TheVariants.Scast, declared.token.Token.Token, declared.token.TokenKind.TokenKind, Marks.{Mark, keyword_marks, kind_marks, marks_from, items_marks}}
 use Rattle.sharc_tree.specs.declared.token.TokenKind.TheVariants as kind
-use Rattle.sharc_tree.specs.Marks.{Mark, keyword_marks, kind_marks, marks_from, items_marks}
-use Rattle.sharc_ctype.specs.Reaches.{name_tokens}
-use Rattle.sharc_ctype.specs.Resolved.{Resolution}
+use Rattle.sharc_ctype.specs.{Reaches.name_tokens, Resolved.Resolution}
 use Rattle.sharc_mode.specs.Sharings.{text_of, text_at}
 use Rattle.sharc_suggest.specs.Repairs.{is_call_name, is_identifier, is_locked, begins_call, is_call_at}
+use Rattle.sharc_lemmas.proofs.{Numbers.{none_there as none}, Lists.later}
 
 -- ---- the name of the call
 
@@ -59,15 +54,9 @@ calls_apart r t is = after_word r t (call_word (slice_get r.program.tokens.list 
 
 -- ---- the tokens of identifiers are those of the names
 
-later : (n t : ℕ) (list : List ℕ) → Contains list t → Contains (n ∷ list) t
-later n t list (k, low, is) = (suc k, omega (arith, low), is)
-
 split : (n t : ℕ) (list : List ℕ) → Contains (n ∷ list) t → (n ≡ t) ⊎ Contains list t
 split n t list (zero, low, is) = inl is
 split n t list (suc k, low, is) = inr (k, omega (arith, low), is)
-
-none : (t : ℕ) → Contains [] t → ⊥
-none t (k, low, is) = omega (arith, low)
 
 first_named : (n : ℕ) (k : TokenKind) (text : List ℕ) (more : List Mark) → is_identifier k ≡ true → Contains (name_tokens (kind_marks k text n ++ more)) n
 first_named n kind.Identifier text more is = (0, omega arith, refl)

@@ -1,20 +1,12 @@
 -- A cast to what is expected has the modes that are expected.
 use Rattle.std.specs.Prelude.{◌≡◌, ℕ, ◌≤◌, List, [], length, Some}
-use Rattle.sharc_tree.specs.declared.token.Span.{Span}
-use Rattle.sharc_tree.specs.declared.tree.declaration.WrittenType.{WrittenType}
-use Rattle.sharc_tree.specs.Placed.{IsPlaced}
-use Rattle.sharc_tree.specs.Spans.{span_of}
-use Rattle.sharc_tree.specs.Tree.{Expression, cast}
+use Rattle.sharc_tree.specs.{declared.token.Span.Span, declared.tree.declaration.WrittenType.WrittenType}
+use Rattle.sharc_tree.specs.{Placed.IsPlaced, Spans.span_of, Tree.{Expression, cast}}
 use Rattle.sharc_ctype.specs.Entities.{cast_entity, entity_at}
-use Rattle.sharc_mode.specs.declared.error.Cast.{Cast}
-use Rattle.sharc_mode.specs.declared.error.ModeError.{ModeError}
-use Rattle.sharc_mode.specs.Moded.{Assignment, IsWhole}
-use Rattle.sharc_mode.specs.Notes.{agree_notes}
-use Rattle.sharc_mode.specs.Rows.{modes_at}
-use Rattle.sharc_mode.specs.Sharings.{Sharing}
+use Rattle.sharc_mode.specs.{declared.error.Cast.Cast, declared.error.ModeError.ModeError, Moded.{Assignment, IsWhole}}
+use Rattle.sharc_mode.specs.{Notes.agree_notes, Rows.modes_at, Sharings.Sharing}
 use Rattle.sharc_rewrite.specs.Applied.{resolution_with, assignment_with}
-use Rattle.sharc_suggest.specs.Casts.{IsSuggested}
-use Rattle.sharc_suggest.specs.Repairs.{cast_to}
+use Rattle.sharc_suggest.specs.{Casts.IsSuggested, Repairs.cast_to}
 
 -- the first of what has a type at the tokens of the cast is a cast to its type, with this first position
 pub record IsCastAt (m : Assignment) (c : Cast) (first : ℕ) : Type 0 where

@@ -1,10 +1,7 @@
 -- At each place one mismatch of modes at most.
-use Rattle.std.specs.Prelude.{ℕ, ◌==◌, ◌≤◌, Bool, ◌&&◌, List, length}
-use Rattle.std.specs.List.{filter}
+use Rattle.std.specs.{Prelude.{ℕ, ◌==◌, ◌≤◌, Bool, ◌&&◌, List, length}, List.filter}
 use Rattle.sharc_tree.specs.Placed.{IsPlaced}
-use Rattle.sharc_mode.specs.declared.error.ModeError.{ModeError}
-use Rattle.sharc_mode.specs.Errors.{is_mismatch}
-use Rattle.sharc_mode.specs.Moded.{Assignment}
+use Rattle.sharc_mode.specs.{declared.error.ModeError.ModeError, Errors.is_mismatch, Moded.Assignment}
 use Rattle.sharc_mode.specs.WellModed.{AreModeErrors}
 
 -- an M1 at this token

@@ -1,14 +1,10 @@
 -- What the tokens of a program name with a cast written in it.
 use Rattle.std.specs.Prelude.{◌≡◌, ◌⊎◌, ℕ, Bool, true, false, Some}
-use Rattle.sharc_tree.specs.Low.{IsLow}
-use Rattle.sharc_tree.specs.Placed.{IsPlaced}
+use Rattle.sharc_tree.specs.{Low.IsLow, Placed.IsPlaced}
 use Rattle.sharc_names.specs.declared.fault.Named.{Named}
 use Rattle.sharc_names.specs.declared.fault.Named.TheVariants as named
-use Rattle.sharc_ctype.specs.Items.{IsTyped}
-use Rattle.sharc_ctype.specs.Resolved.{IsResolved, named_at}
-use Rattle.sharc_mode.specs.declared.error.Cast.{Cast}
-use Rattle.sharc_mode.specs.declared.error.ModeError.{ModeError}
-use Rattle.sharc_mode.specs.Moded.{Assignment}
+use Rattle.sharc_ctype.specs.{Items.IsTyped, Resolved.{IsResolved, named_at}}
+use Rattle.sharc_mode.specs.{declared.error.Cast.Cast, declared.error.ModeError.ModeError, Moded.Assignment}
 use Rattle.sharc_mode.specs.Sharings.{is_field}
 use Rattle.sharc_rewrite.specs.Applied.{program_with, resolution_with}
 use Rattle.sharc_suggest.specs.Casts.{IsSuggested}

@@ -1,16 +1,9 @@
 -- A cast that is suggested is written in its program once.
-use Rattle.std.specs.Prelude.{◌≡◌, ◌<◌, List, ◌∷◌, ◌++◌, Some}
-use Rattle.std.specs.List.{AllByRecursion}
-use Rattle.sharc_tree.specs.declared.token.Span.{Span}
-use Rattle.sharc_tree.specs.Placed.{IsPlaced}
-use Rattle.sharc_rewrite.specs.declared.written.Recast.{Recast}
-use Rattle.sharc_rewrite.specs.Recast.{type_at}
-use Rattle.sharc_ctype.specs.declared.entity.Entity.{Entity}
-use Rattle.sharc_ctype.specs.Entities.{cast_entity, entities_in}
-use Rattle.sharc_mode.specs.declared.error.Cast.{Cast}
-use Rattle.sharc_mode.specs.declared.error.ModeError.{ModeError}
-use Rattle.sharc_mode.specs.Moded.{Assignment}
-use Rattle.sharc_rewrite.specs.Applied.{recast_of, program_with}
+use Rattle.std.specs.{Prelude.{◌≡◌, ◌<◌, List, ◌∷◌, ◌++◌, Some}, List.AllByRecursion}
+use Rattle.sharc_tree.specs.{declared.token.Span.Span, Placed.IsPlaced}
+use Rattle.sharc_rewrite.specs.{declared.written.Recast.Recast, Recast.type_at, Applied.{recast_of, program_with}}
+use Rattle.sharc_ctype.specs.{declared.entity.Entity.Entity, Entities.{cast_entity, entities_in}}
+use Rattle.sharc_mode.specs.{declared.error.Cast.Cast, declared.error.ModeError.ModeError, Moded.Assignment}
 use Rattle.sharc_suggest.specs.Casts.{IsSuggested}
 
 -- what has a type now is what had one, in its order, and among it the cast at its tokens; all that is listed before it begins before it

@@ -1,12 +1,8 @@
 -- A cast that is suggested for a mismatch of modes repairs it.
 use Rattle.std.specs.Prelude.{Some}
-use Rattle.sharc_tree.specs.Low.{IsLow}
-use Rattle.sharc_tree.specs.Placed.{IsPlaced}
-use Rattle.sharc_ctype.specs.Items.{IsTyped}
-use Rattle.sharc_ctype.specs.Resolved.{IsResolved}
-use Rattle.sharc_mode.specs.declared.error.Cast.{Cast}
-use Rattle.sharc_mode.specs.declared.error.ModeError.{ModeError}
-use Rattle.sharc_mode.specs.Moded.{Assignment, IsWhole}
+use Rattle.sharc_tree.specs.{Low.IsLow, Placed.IsPlaced}
+use Rattle.sharc_ctype.specs.{Items.IsTyped, Resolved.IsResolved}
+use Rattle.sharc_mode.specs.{declared.error.Cast.Cast, declared.error.ModeError.ModeError, Moded.{Assignment, IsWhole}}
 use Rattle.sharc_rewrite.specs.Applied.{program_with, assignment_with}
 use Rattle.sharc_suggest.specs.Casts.{IsSuggested}
 use Rattle.sharc_suggest_laws.specs.Gone.{IsGone}

@@ -1,46 +1,11 @@
 -- Threads that begin.
-use Rattle.std.proofs.Common.{◌≡◌, ℕ, suc, ◌+◌, ◌-◌, ◌<◌, ◌≤◌, Bool, true, false, List, [], ◌∷◌, length, get_or, set, Option, Some, None, refl, sym, ap, ◌∙◌, subst, arith, below_more}
-use Rattle.std.specs.Prelude.{nat_eq, nat_lt, ◌&&◌, ◌||◌, slice_index}
-use Rattle.std.specs.List.{fold}
-use Rattle.std.proofs.lemmas.Bool.Decides.{nat_tests}
-use Rattle.std.proofs.lemmas.List.{get_or-set_same, get_or-set_other}
+use Rattle.std.proofs.{Common.{◌≡◌, ℕ, suc, ◌+◌, ◌-◌, ◌<◌, ◌≤◌, Bool, true, false, List, [], ◌∷◌, length, get_or, set, Option, Some, None, refl, sym, ap, ◌∙◌, subst, arith, below_more}, lemmas.List.{get_or-set_same, get_or-set_other}, lemmas.Bool.{or_right, or_left, or_from as or_none}}
+use Rattle.std.specs.{Prelude.{nat_eq, nat_lt, ◌&&◌, ◌||◌, slice_index}, List.fold}
 use Rattle.sharc_word.specs.declared.step.TheConstants.{THREADS}
-use Rattle.sharc_code.specs.declared.code.Code.{Code}
-use Rattle.sharc_code.specs.declared.shape.Shape.{Shape}
-use Rattle.sharc_code.specs.Layout.{state_word}
-use Rattle.sharc_code.specs.Machine.{Machine}
-use Rattle.sharc_code.specs.Path.{begun}
-use Rattle.sharc_code.specs.Runs.{is_started}
-use Rattle.sharc_code.specs.Whole.{bounds}
+use Rattle.sharc_code.specs.{declared.code.Code.Code, declared.shape.Shape.Shape, Layout.state_word, Machine.Machine, Path.begun, Runs.is_started, Whole.bounds}
 use Rattle.sharc_cpu.specs.Thread.{ThreadView}
 use Rattle.sharc_threads.specs.Seats.{IsSeat, AreSeats, HasBegun, left, left_to}
-
-or_right : (a b : Bool) → b ≡ true → (a || b) ≡ true
-or_right true b e = refl
-or_right false b e = e
-
-or_left : (a b : Bool) → a ≡ true → (a || b) ≡ true
-or_left true b e = refl
-or_left false b e = cc
-
-or_none : (a b : Bool) → a ≡ false → b ≡ false → (a || b) ≡ false
-or_none true b e f = cc
-or_none false b e f = f
-
-or_cases : (a b : Bool) (P : Type 0) → (a ≡ true → P) → (b ≡ true → P) → (a || b) ≡ true → P
-or_cases true b P f g e = f refl
-or_cases false b P f g e = g e
-
-or_false : (a : Bool) → (a || false) ≡ a
-or_false true = refl
-or_false false = refl
-
-and_left : (a b : Bool) → (a && b) ≡ true → a ≡ true
-and_left true b e = refl
-and_left false b e = e
-
-lt_true : (m n : ℕ) → nat_lt m n ≡ true → m < n
-lt_true m n e = grind (arith, nat_tests)
+use Rattle.sharc_lemmas.proofs.{Bools.{and_left, either as or_cases}, Numbers.lt_true}
 
 started_low : (words : List ℕ) (t : ℕ) → is_started bounds words t ≡ true → t < THREADS
 started_low words t e = lt_true t THREADS (and_left (nat_lt t THREADS) (nat_eq (slice_index words (state_word t)) 1) e)
@@ -102,19 +67,6 @@ same_started code s threads made started other seats same are = record {
     by : (t : ℕ) (x : Option ThreadView) → IsSeat code s threads made started t x → IsSeat code s threads made other t x
     by t None is = (sym (same t) ∙ is.0, is.1, is.2)
     by t (Some thread) is = (sym (same t) ∙ is.0, is.1)
-
-unbegun : (code : Code) (s : Shape) (seats : List (Option ThreadView)) → length seats ≡ THREADS → ((t : ℕ) → get_or seats t None ≡ None) → AreSeats code s (begun code s) (λ t. 0) (λ t. false) seats
-unbegun code s seats count none = record {
-  count = count;
-  few = λ t e. absurd (let h : false ≡ true = e in cc);
-  each = λ t low. subst (IsSeat code s (begun code s) (λ k. 0) (λ k. false) t) (sym (none t)) (refl, refl, refl);
-}
-
-pub opened : (code : Code) (s : Shape) (words : List ℕ) (old new : List (Option ThreadView)) → length old ≡ THREADS → ((t : ℕ) → get_or old t None ≡ None) → length new ≡ length old
-    → ((t : ℕ) → t < THREADS → HasBegun code s words t (get_or old t None) (get_or new t None)) → AreSeats code s (begun code s) (λ t. 0) (is_started bounds words) new
-opened code s words old new count none same has =
-    same_started code s (begun code s) (λ t. 0) (λ t. is_started bounds words t || false) (is_started bounds words) new (λ t. or_false (is_started bounds words t))
-    (table_begins code s (begun code s) (λ t. 0) (λ t. false) words old new (unbegun code s old count none) same has)
 
 -- ---- one place after the other
 module _ (R : ℕ → Option ThreadView → Option ThreadView → Type 0) (first now : List (Option ThreadView)) (n : ℕ) (new : Option ThreadView) (low : n < length now)

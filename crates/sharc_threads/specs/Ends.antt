@@ -1,16 +1,10 @@
 -- Where a run is: whose turn may be next, how it ends there, and which threads it had.
 use Rattle.std.specs.Prelude.{ℕ, ◌≡◌, ◌&&◌, nat_lt, not, Bool, true, false, List, map, filter}
 use Rattle.std.specs.List.{range_with_len, All}
-use Rattle.sharc_code.specs.declared.code.Code.{Code}
-use Rattle.sharc_code.specs.declared.shape.Shape.{Shape}
-use Rattle.sharc_code.specs.Machine.{Machine}
-use Rattle.sharc_code.specs.Path.{may_go}
-use Rattle.sharc_code.specs.Runs.{Global}
-use Rattle.sharc_code.specs.Waits.{waits_now}
-use Rattle.sharc_code.specs.Whole.{IsStuck}
+use Rattle.sharc_code.specs.{declared.code.Code.Code, declared.shape.Shape.Shape, Machine.Machine, Path.may_go}
+use Rattle.sharc_code.specs.{Runs.Global, Waits.waits_now, Whole.IsStuck}
 use Rattle.sharc_cpu.specs.Thread.{ThreadView, IsThread}
-use Rattle.sharc_threads.specs.declared.end.End.{End}
-use Rattle.sharc_threads.specs.declared.end.End.TheVariants.{AllDone, Stuck, Budget}
+use Rattle.sharc_threads.specs.{declared.end.End.End, declared.end.End.TheVariants.{AllDone, Stuck, Budget}}
 
 -- where a run is: the words, each thread, whether it was started, and how many events it has made
 abbrev pub Standing : Type 0

@@ -1,10 +1,7 @@
 -- Laws of tables of threads, for the crates above.
 use Rattle.std.specs.Prelude.{ℕ, ◌≡◌, ◌<◌, ◌||◌, Bool, List, length, is_some, None, Option, slice_index_or}
 use Rattle.sharc_word.specs.declared.step.TheConstants.{THREADS}
-use Rattle.sharc_code.specs.declared.code.Code.{Code}
-use Rattle.sharc_code.specs.declared.shape.Shape.{Shape}
-use Rattle.sharc_code.specs.Machine.{Machine}
-use Rattle.sharc_code.specs.Runs.{is_started}
+use Rattle.sharc_code.specs.{declared.code.Code.Code, declared.shape.Shape.Shape, Machine.Machine, Runs.is_started}
 use Rattle.sharc_code.specs.Whole.{bounds}
 use Rattle.sharc_cpu.specs.Thread.{ThreadView}
 use Rattle.sharc_threads.specs.Ends.{Standing, is_enabled, AreStarted}

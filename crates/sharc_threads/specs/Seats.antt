@@ -2,15 +2,9 @@
 use Rattle.std.specs.Prelude.{ℕ, ◌≡◌, ◌<◌, ◌-◌, ◌&&◌, nat_lt, not, Bool, true, false, List, [], ◌∷◌, length, Option, Some, None, slice_index_or}
 use Rattle.std.specs.List.{sum_by}
 use Rattle.sharc_word.specs.declared.step.TheConstants.{THREADS}
-use Rattle.sharc_code.specs.declared.code.Code.{Code}
-use Rattle.sharc_code.specs.declared.shape.Shape.{Shape}
-use Rattle.sharc_code.specs.declared.state.State.{State}
-use Rattle.sharc_code.specs.declared.state.State.TheVariants.{Runs, Tries, Stopped, Ended}
-use Rattle.sharc_code.specs.Machine.{Machine}
-use Rattle.sharc_code.specs.Path.{begun, may_go}
-use Rattle.sharc_code.specs.Runs.{is_started}
-use Rattle.sharc_code.specs.Waits.{held_up}
-use Rattle.sharc_code.specs.Whole.{bounds}
+use Rattle.sharc_code.specs.{declared.code.Code.Code, declared.shape.Shape.Shape, declared.state.State.State}
+use Rattle.sharc_code.specs.{declared.state.State.TheVariants.{Runs, Tries, Stopped, Ended}, Machine.Machine}
+use Rattle.sharc_code.specs.{Path.{begun, may_go}, Runs.is_started, Waits.held_up, Whole.bounds}
 use Rattle.sharc_cpu.specs.Thread.{ThreadView, IsThread}
 use Rattle.sharc_threads.specs.Ends.{Standing}
 

@@ -1,23 +1,9 @@
 -- Lists that rise by a key, and lists of which each part has one number.
-use Rattle.std.proofs.Common.{◌≡◌, ◌≢◌, ℕ, zero, suc, ◌+◌, ◌<◌, ◌≤◌, ◌⊎◌, ⊎_elim, Bool, true, false, cond, List, [], ◌∷◌, ◌++◌, map, filter, refl, sym, ap, ◌∙◌, arith}
-use Rattle.std.specs.Prelude.{◌==◌, flat_map}
-use Rattle.std.specs.List.{range_with_len}
-use Rattle.std.proofs.lemmas.Bool.{cases_eq, cases_order}
-use Rattle.std.proofs.lemmas.Bool.Decides.{nat_tests}
-use Rattle.std.proofs.lemmas.List.{append-nil}
-use Rattle.std.proofs.lemmas.List.Elements.{filter-append}
-
-pub same_is : (n : ℕ) → (n == n) ≡ true
-same_is n = grind (arith, nat_tests)
-
-pub other_is : (n k : ℕ) → n ≢ k → (n == k) ≡ false
-other_is n k ne = grind (arith, nat_tests)
+use Rattle.std.proofs.{Common.{◌≡◌, ◌≢◌, ℕ, zero, suc, ◌+◌, ◌<◌, ◌≤◌, ◌⊎◌, ⊎_elim, Bool, true, false, cond, List, [], ◌∷◌, ◌++◌, map, filter, refl, sym, ap, ◌∙◌, arith}, lemmas.Bool.{cases_eq, cases_order}, lemmas.List.append-nil, lemmas.List.Elements.filter-append}
+use Rattle.std.specs.{Prelude.{◌==◌, flat_map}, List.range_with_len}
+use Rattle.sharc_lemmas.proofs.{Numbers.{same_is, other_is}, Lists.flat_same}
 
 -- ---- flat_map
-pub flat_same : {X A : Type 0} (f g : X → List A) → ((x : X) → f x ≡ g x) → (xs : List X) → flat_map f xs ≡ flat_map g xs
-flat_same f g h [] = refl
-flat_same f g h (x ∷ xs) = ap (λ l. l ++ flat_map f xs) (h x) ∙ ap (λ l. g x ++ l) (flat_same f g h xs)
-
 flat_none : {X A : Type 0} (none : List A) → none ≡ [] → (xs : List X) → flat_map (λ (x : X). none) xs ≡ []
 flat_none none e [] = refl
 flat_none none e (x ∷ xs) = ap (λ l. l ++ flat_map (λ (x : _). none) xs) e ∙ flat_none none e xs

@@ -1,35 +1,13 @@
 -- The prints of a run, one after the other: what each thread has of them, where they are, and which events of the source they are.
-use Rattle.std.proofs.Common.{◌≡◌, ℕ, ℤ, zero, suc, ◌+◌, ◌%◌, ◌^◌, ◌<◌, ◌≤◌, ◌⊎◌, ⊎_elim, inl, inr, Bool, true, false, ◌||◌, ◌&&◌, ◌*◌, cond, List, [], ◌∷◌, ◌++◌, length, map, filter, reverse, Option, Some, None, refl, sym, ap, ◌∙◌, subst, arith}
-use Rattle.std.specs.Prelude.{nat_eq, nat_lt, nat_le, ◌==◌, slice_index, slice_set, All}
-use Rattle.std.specs.List.{cons_option, range_with_len}
-use Rattle.std.proofs.lemmas.Bool.{cases_eq}
-use Rattle.std.proofs.lemmas.Bool.Decides.{nat_tests}
-use Rattle.std.proofs.lemmas.List.{append-nil, get_or-set_other, length_push, map_push, reverse-append}
-use Rattle.std.proofs.lemmas.List.Elements.{All-nil, All-push, All-weaker, filter-append, filter_map-append}
-use Rattle.std.proofs.lemmas.List.FromFn.{get_or-map-range_with_len}
+use Rattle.std.proofs.{Common.{◌≡◌, ℕ, ℤ, zero, suc, ◌+◌, ◌%◌, ◌^◌, ◌<◌, ◌≤◌, ◌⊎◌, ⊎_elim, Bool, true, false, ◌||◌, ◌&&◌, ◌*◌, cond, List, [], ◌∷◌, ◌++◌, length, map, filter, reverse, Option, Some, None, refl, sym, ap, ◌∙◌, subst, arith}, lemmas.Bool.{cases_eq, or_right}, lemmas.Bool.Decides.nat_tests, lemmas.List.{append-nil, get_or-set_other, length_push, map_push, reverse-append}, lemmas.List.Elements.{All-nil, All-push, All-weaker, filter-append, filter_map-append}, lemmas.List.FromFn.get_or-map-range_with_len}
+use Rattle.std.specs.{Prelude.{nat_eq, nat_lt, nat_le, ◌==◌, slice_index, All}, List.{cons_option, range_with_len}}
 use Rattle.sharc_tree.specs.declared.event.SourceEvent.{SourceEvent}
-use Rattle.sharc_word.specs.declared.step.TheConstants.{THREADS}
+use Rattle.sharc_word.specs.{declared.step.TheConstants.THREADS, declared.step.WordStep.WordStep, declared.step.WordEvent.WordEvent, Words.{word_after, words_after_step}}
 use Rattle.sharc_word.specs.declared.step.WordOp.TheVariants as ops
-use Rattle.sharc_word.specs.declared.step.WordStep.{WordStep}
-use Rattle.sharc_word.specs.declared.step.WordEvent.{WordEvent}
-use Rattle.sharc_word.specs.Words.{word_after, words_after_step}
-use Rattle.sharc_code.specs.declared.code.Code.{Code}
-use Rattle.sharc_code.specs.declared.instr.Instr.{Instr}
-use Rattle.sharc_code.specs.declared.instr.Instr.TheVariants.{Print}
-use Rattle.sharc_code.specs.declared.shape.Shape.{Shape}
-use Rattle.sharc_code.specs.declared.state.Print.{Print as PrintAt}
-use Rattle.sharc_code.specs.Layout.{prints_word, words_of}
-use Rattle.sharc_code.specs.Laws.{RunLaws}
-use Rattle.sharc_code.specs.Machine.{Machine, instr_at, step_of as step_at, act, int}
-use Rattle.sharc_code.specs.Opening.{opening_words, opens_with, opening_cell, first_global}
-use Rattle.sharc_code.specs.Path.{turn, after, asked_by, counted}
-use Rattle.sharc_code.specs.Runs.{Answered, Global, IsRun, Said, Turn, is_started, opening_of, put, result_of, step_of, told_by, with_told, words_now}
-use Rattle.sharc_code.specs.Says.{elements_in, said, speaks_of}
-use Rattle.sharc_code.specs.StandingLaws.{StandingLaws}
-use Rattle.sharc_code.specs.Whole.{Erase, bounds, one_thread, place_after}
+use Rattle.sharc_code.specs.{declared.code.Code.Code, declared.instr.Instr.Instr, declared.instr.Instr.TheVariants.Print, declared.shape.Shape.Shape, declared.state.Print.{Print as PrintAt}, Layout.{prints_word, words_of}, Laws.RunLaws, Machine.{Machine, instr_at, step_of as step_at, act, int}, Opening.{opening_words, opens_with, opening_cell, first_global}, Path.{turn, after, asked_by, counted}, Runs.{Answered, Global, IsRun, Said, Turn, is_started, opening_of, put, result_of, step_of, told_by, with_told, words_now}, Says.{elements_in, said, speaks_of}, StandingLaws.StandingLaws, Whole.{Erase, bounds, one_thread, place_after}}
 use Rattle.sharc_told_laws.specs.Prints.{events_in, printed_by, printed_in}
-use Rattle.sharc_told_laws.proofs.Lists.{other_is, same_is}
-use Rattle.sharc_told_laws.proofs.Sorts.{Elsewhere, IsQuiet, LeavesIt, Prints, Quiet, Sort, print_of, printed_of, sorted}
+use Rattle.sharc_told_laws.proofs.{Sorts.{Elsewhere, IsQuiet, LeavesIt, Prints, Quiet, Sort, print_of, printed_of, sorted}, Stopping.{put_other, put_same}}
+use Rattle.sharc_lemmas.proofs.{Numbers.{same_is, other_is}, Bools.or_split, Lists.{set_here, set_same, range_more}}
 
 -- ---- what is printed, one after the other
 -- a print, with its thread
@@ -68,18 +46,6 @@ listed None = []
 listed (Some v) = v ∷ []
 
 -- ---- sums, and functions changed at one place
-eq_refl : (n : ℕ) → nat_eq n n ≡ true
-eq_refl n = grind (arith, nat_tests)
-
-ne_eq : (m n : ℕ) → (m ≡ n → ⊥) → nat_eq m n ≡ false
-ne_eq m n ne = grind (arith, nat_tests)
-
-put_same : {A : Type 0} (f : ℕ → A) (i : ℕ) (v : A) → put f i v i ≡ v
-put_same f i v = rw (eq_refl i) refl
-
-put_other : {A : Type 0} (f : ℕ → A) (i j : ℕ) (v : A) → (j ≡ i → ⊥) → put f i v j ≡ f j
-put_other f i j v ne = rw (ne_eq j i ne) refl
-
 abbrev sum_to : ℕ → (ℕ → ℕ) → ℕ
 sum_to zero f = 0
 sum_to (suc n) f = f n + sum_to n f
@@ -110,21 +76,7 @@ sum_more (suc n) f i more lt =
     (λ (ne : n ≡ i → ⊥). let rest = sum_more n f i more (omega arith) in let a = put_other f i n (f i + more) ne in omega arith)
     (cases_eq n i)
 
-range_more : (a n : ℕ) → range_with_len a (suc n) ≡ range_with_len a n ++ (a + n) ∷ []
-range_more a zero = ap (λ k. k ∷ []) (let e : a ≡ a + 0 = omega arith in e)
-range_more a (suc n) =
-    ap (λ l. a ∷ l) (range_more (a + 1) n)
-    ∙ ap (λ k. a ∷ (range_with_len (a + 1) n ++ k ∷ [])) (let e : a + 1 + n ≡ a + suc n = omega arith in e)
-
 -- ---- tests
-or_split : (a b : Bool) → (a || b) ≡ true → (a ≡ true) ⊎ (b ≡ true)
-or_split true b e = inl refl
-or_split false b e = inr e
-
-or_right : (a b : Bool) → b ≡ true → (a || b) ≡ true
-or_right true b e = refl
-or_right false b e = e
-
 is_low : (words : List ℕ) (t : ℕ) → is_started bounds words t ≡ true → t < THREADS
 is_low words t e = by (nat_lt t THREADS) refl (nat_eq (slice_index words (4 + 3 * t)) 1) e
   where
@@ -133,16 +85,6 @@ is_low words t e = by (nat_lt t THREADS) refl (nat_eq (slice_index words (4 + 3 
     by false f c e = cc
 
 -- ---- words
-set_same : (words : List ℕ) (n v : ℕ) → v ≡ slice_index words n → slice_index (slice_set words n v) n ≡ slice_index words n
-set_same [] n v e = refl
-set_same (w ∷ ws) zero v e = e
-set_same (w ∷ ws) (suc n) v e = set_same ws n v e
-
-set_here : (words : List ℕ) (n v : ℕ) → n < length words → slice_index (slice_set words n v) n ≡ v
-set_here [] n v lt = absurd (omega arith)
-set_here (w ∷ ws) zero v lt = refl
-set_here (w ∷ ws) (suc n) v lt = set_here ws n v (omega arith)
-
 step_keeps : (words : List ℕ) (step : WordStep) (w : ℕ) → (step.word ≡ w → (v : ℕ) → word_after step.op v ≡ v) → slice_index (words_after_step words step) w ≡ slice_index words w
 step_keeps words step w keeps =
     ⊎_elim

@@ -1,27 +1,12 @@
 -- A turn tells events of its own thread.
-use Rattle.std.proofs.Common.{◌≡◌, ℕ, zero, suc, Bool, true, false, ◌||◌, cond, List, [], ◌∷◌, ◌++◌, map, reverse, Option, Some, None, if◌then◌else◌, refl, sym, ap, ◌∙◌, subst, arith}
+use Rattle.std.proofs.{Common.{◌≡◌, ℕ, zero, suc, Bool, true, false, ◌||◌, cond, List, [], ◌∷◌, ◌++◌, map, reverse, Option, Some, None, if◌then◌else◌, refl, sym, ap, ◌∙◌, subst}, lemmas.List.append-nil, lemmas.List.Elements.filter-append}
 use Rattle.std.specs.Prelude.{◌==◌, nat_eq, filter}
-use Rattle.std.proofs.lemmas.Bool.Decides.{nat_tests}
-use Rattle.std.proofs.lemmas.List.{append-nil, reverse-append}
-use Rattle.std.proofs.lemmas.List.Elements.{filter-append}
 use Rattle.sharc_tree.specs.declared.event.SourceEvent.{SourceEvent}
 use Rattle.sharc_cond.specs.Waiters.{waits_in}
-use Rattle.sharc_granule.specs.State.{NewView}
-use Rattle.sharc_granule.specs.declared.stage.Stage.{Stage as NewStage}
+use Rattle.sharc_granule.specs.{State.NewView, declared.stage.Stage.{Stage as NewStage}}
 use Rattle.sharc_granule.specs.declared.stage.Stage.TheVariants as news
-use Rattle.sharc_code.specs.declared.code.Code.{Code}
-use Rattle.sharc_code.specs.declared.instr.Cell.{Cell}
-use Rattle.sharc_code.specs.declared.instr.Register.{Register}
-use Rattle.sharc_code.specs.declared.instr.Instr.{Instr}
-use Rattle.sharc_code.specs.declared.instr.Instr.TheVariants.{Load, Store, LoadRef, Exchange, New, TakeCell, TakeLocal, Give, Free, Lock, Unlock, Spawn, Join, Print, Start, Exit, CondEnter, CondWait, CondSignal, CondBroadcast}
-use Rattle.sharc_code.specs.declared.shape.Shape.{Shape}
-use Rattle.sharc_code.specs.declared.state.Stage.{Stage}
-use Rattle.sharc_code.specs.declared.state.Stage.TheVariants.{Makes, Uncounts, Begins, Enters, Withdraws, WithdrawsFrom, Leaves, Wakes}
-use Rattle.sharc_code.specs.Machine.{Machine, ref, instr_at}
-use Rattle.sharc_code.specs.Runs.{Said, Turn, result_of, said_by, told_by, with_told}
-use Rattle.sharc_code.specs.Says.{elements_in, in_exit, in_free, in_new, in_signal, in_spawn, in_start, new_event, nobody, said, speaks_of, take_local}
-use Rattle.sharc_code.specs.StandingLaws.{StandingLaws}
-use Rattle.sharc_code.specs.Whole.{Erase, one_thread, place_after}
+use Rattle.sharc_code.specs.{declared.code.Code.Code, declared.instr.Cell.Cell, declared.instr.Register.Register, declared.instr.Instr.Instr, declared.instr.Instr.TheVariants.{Load, Store, LoadRef, Exchange, New, TakeCell, TakeLocal, Give, Free, Lock, Unlock, Spawn, Join, Print, Start, Exit, CondEnter, CondWait, CondSignal, CondBroadcast}, declared.shape.Shape.Shape, declared.state.Stage.Stage, declared.state.Stage.TheVariants.{Makes, Uncounts, Begins, Enters, Withdraws, WithdrawsFrom, Leaves, Wakes}, Machine.{Machine, ref, instr_at}, Runs.{Said, Turn, result_of, said_by, told_by, with_told}, Says.{elements_in, in_exit, in_free, in_new, in_signal, in_spawn, in_start, new_event, nobody, said, speaks_of, take_local}, StandingLaws.StandingLaws, Whole.{Erase, one_thread, place_after}}
+use Rattle.sharc_lemmas.proofs.{Lists.reverse_cons, Numbers.same_test}
 
 -- ---- one turn
 -- of the thread of this number, if it is one
@@ -99,9 +84,6 @@ module _ (code : Code) (m : Machine) where
   own _ found elements = tt
 
 -- ---- lists
-reverse_cons : {A : Type 0} (x : A) (xs : List A) → reverse (x ∷ xs) ≡ reverse xs ++ x ∷ []
-reverse_cons x xs = reverse-append (x ∷ []) xs
-
 filter_reverse : (f : SourceEvent → Bool) (xs : List SourceEvent) → filter f (reverse xs) ≡ reverse (filter f xs)
 filter_reverse f [] = refl
 filter_reverse f (x ∷ xs) =
@@ -110,27 +92,6 @@ filter_reverse f (x ∷ xs) =
     by_test : (b : Bool) → reverse (filter f xs) ++ cond b (x ∷ []) [] ≡ reverse (cond b (x ∷ filter f xs) (filter f xs))
     by_test true = sym (reverse_cons x (filter f xs))
     by_test false = append-nil (reverse (filter f xs))
-
-same_test : (a b : ℕ) → (a == b) ≡ nat_eq b a
-same_test a b = by_tests (a == b) (nat_eq b a) refl refl
-  where
-    equal : (a == b) ≡ true → a ≡ b
-    equal e = grind (arith, nat_tests)
-
-    other : (a == b) ≡ false → a ≡ b → ⊥
-    other e q = grind (arith, nat_tests)
-
-    equal_too : nat_eq b a ≡ true → b ≡ a
-    equal_too e = grind (arith, nat_tests)
-
-    other_too : nat_eq b a ≡ false → b ≡ a → ⊥
-    other_too e q = grind (arith, nat_tests)
-
-    by_tests : (x y : Bool) → (a == b) ≡ x → nat_eq b a ≡ y → x ≡ y
-    by_tests true true p q = refl
-    by_tests false false p q = refl
-    by_tests true false p q = absurd (other_too q (sym (equal p)))
-    by_tests false true p q = absurd (other p (sym (equal_too q)))
 
 -- ---- a run
 abbrev told_in : List (Said SourceEvent) → List SourceEvent

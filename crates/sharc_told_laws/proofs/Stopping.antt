@@ -1,45 +1,17 @@
 -- A thread that has a stop is stopped.
-use Rattle.std.proofs.Common.{◌≡◌, ℕ, ℤ, pos, negsuc, zero, suc, ◌+◌, ◌*◌, min, Bool, true, false, not, ◌&&◌, ◌||◌, ◌==◌, nat_lt, length, is_some, Some, None, if◌then◌else◌, refl, arith, ◌⊎◌, inl, inr, ⊎_elim, subst, List, [], ◌∷◌, sym, ap, ◌∙◌}
+use Rattle.std.proofs.{Common.{◌≡◌, ℕ, ℤ, pos, negsuc, zero, suc, ◌+◌, ◌*◌, min, Bool, true, false, not, ◌&&◌, ◌||◌, ◌==◌, nat_lt, length, is_some, Some, None, if◌then◌else◌, refl, ◌⊎◌, inl, inr, ⊎_elim, subst, List, [], ◌∷◌, sym, ap, ◌∙◌}, lemmas.Bool.cases_eq}
 use Rattle.std.specs.Prelude.{Result, Ok, Err}
 use Rattle.sharc_tree.specs.declared.trap.Trap.{Trap}
 use Rattle.sharc_tree.specs.declared.trap.Trap.TheVariants as traps
 use Rattle.sharc_word.specs.declared.step.TheConstants.{THREADS}
 use Rattle.sharc_word.specs.declared.step.WordOp.TheVariants as ops
 use Rattle.sharc_cond.specs.Waiters.{waits_in}
-use Rattle.sharc_shadow.specs.declared.shadow_word.Kind.{Kind}
-use Rattle.sharc_shadow.specs.declared.shadow_word.Kind.TheVariants.{Read, Write}
-use Rattle.sharc_shadow.specs.Accesses.{note_of, site_at}
-use Rattle.sharc_shadow.specs.ShadowWord.{epoch_of}
-use Rattle.sharc_shadow.specs.Functions.{conflicts_in, noted}
-use Rattle.sharc_granule.specs.State.{NewView, told, turn_of}
-use Rattle.sharc_granule.specs.declared.stage.NewTurn.{NewTurn}
-use Rattle.sharc_granule.specs.declared.stage.NewTurn.TheVariants.{Do, Made, HeapFull}
-use Rattle.sharc_code.specs.declared.code.Code.{Code}
-use Rattle.sharc_code.specs.declared.code.Layout.{Layout}
-use Rattle.sharc_code.specs.declared.code.Parameter.{Parameter}
+use Rattle.sharc_shadow.specs.{declared.shadow_word.Kind.Kind, declared.shadow_word.Kind.TheVariants.{Read, Write}, Accesses.{note_of, site_at}, ShadowWord.epoch_of, Functions.{conflicts_in, noted}}
+use Rattle.sharc_granule.specs.{State.{NewView, told, turn_of}, declared.stage.NewTurn.NewTurn, declared.stage.NewTurn.TheVariants.{Do, Made, HeapFull}}
+use Rattle.sharc_code.specs.{declared.code.Code.Code, declared.code.Layout.Layout, declared.code.Parameter.Parameter, declared.instr.Cell.Cell, declared.instr.Register.Register, declared.instr.Width.TheVariants.{Int, Long}, declared.instr.Instr.Instr, declared.instr.Instr.TheVariants.{Constant, Move, MoveReference, Null, ComputeInt, ComputeLong, NegateInt, NegateLong, Complement, Not, SameReference, ChkWidth, Jump, JumpIfZero, JumpIfNull, Call, Return, ChkNull, ChkHeld, ChkNotHeld, ChkPositive, ChkRoom, ChkLock, ChkLockLoaded, Bounds, GlobalBounds, ChkRead, ChkWrite, Load, Store, LoadRef, Exchange, Raise, RaiseLoaded, Lower, New, TakeCell, TakeLocal, TestSole, Clear, Give, Free, Lock, Unlock, Spawn, Join, Print, Start, Exit, CondEnter, CondWait, CondSignal, CondBroadcast}, declared.shape.Shape.Shape, declared.state.Stage.Stage, declared.state.Stage.TheVariants.{Rests, Looks, Clears, Makes, Empties, Lowers, FreeLooks, FreeClears, Uncounts, Links, Names, Hands, Begins, Enters, Withdraws, WithdrawsFrom, Leaves, Wakes}, Arithmetic.{computed, negated, is_zero, holds}, Layout.{granule_at, granule_of, cell_of, cell_word, state_word}, Machine.{Machine, instr_at, Own, act, int, ref, goes, goes_to, asserts, with_result, has_room, called, returned, holds_none, is_of_null, is_held, indexed, wrote, with_note, checked, lock_checked, raise, lower, test, tested, after_new, asks_new, new, new_state, elements_of, looks, clear, data_granules, free_looks, empties, emptied, free, layout_at, spawn, with_parameter, entered, start, function_of, withdraws, exit, wakes, signal, is_positive, fields, largest, at_stage, place, set_ref, accessed, move_ref, numbered, trapped, locked, joined, join, woken, word, handed, Local, Asks, step_of}, Path.{after, may_go, turn}, declared.state.State.State, declared.state.State.TheVariants.Stopped, declared.state.Stop.Stop, Opening.opening_words, Runs.{Global, IsRun, Turn as RunTurn, opening_of, put, result_of}, Whole.{bounds, one_thread, place_after}}
 use Rattle.sharc_code.specs.declared.code.Parameter.TheVariants as parameters
-use Rattle.sharc_code.specs.declared.instr.Cell.{Cell}
-use Rattle.sharc_code.specs.declared.instr.Register.{Register}
 use Rattle.sharc_code.specs.declared.instr.Register.TheVariants as registers
-use Rattle.sharc_code.specs.declared.instr.Width.TheVariants.{Int, Long}
-use Rattle.sharc_code.specs.declared.instr.Instr.{Instr}
-use Rattle.sharc_code.specs.declared.instr.Instr.TheVariants.{Constant, Move, MoveReference, Null, ComputeInt, ComputeLong, NegateInt, NegateLong, Complement, Not, SameReference, ChkWidth, Jump, JumpIfZero, JumpIfNull, Call, Return, ChkNull, ChkHeld, ChkNotHeld, ChkPositive, ChkRoom, ChkLock, ChkLockLoaded, Bounds, GlobalBounds, ChkRead, ChkWrite, Load, Store, LoadRef, Exchange, Raise, RaiseLoaded, Lower, New, TakeCell, TakeLocal, TestSole, Clear, Give, Free, Lock, Unlock, Spawn, Join, Print, Start, Exit, CondEnter, CondWait, CondSignal, CondBroadcast}
-use Rattle.sharc_code.specs.declared.shape.Shape.{Shape}
-use Rattle.sharc_code.specs.declared.state.Stage.{Stage}
-use Rattle.sharc_code.specs.declared.state.Stage.TheVariants.{Rests, Looks, Clears, Makes, Empties, Lowers, FreeLooks, FreeClears, Uncounts, Links, Names, Hands, Begins, Enters, Withdraws, WithdrawsFrom, Leaves, Wakes}
-use Rattle.sharc_code.specs.Arithmetic.{computed, negated, is_zero, holds}
-use Rattle.sharc_code.specs.Layout.{granule_at, granule_of, cell_of, cell_word, state_word}
-use Rattle.sharc_code.specs.Machine.{Machine, instr_at, Own, act, int, ref, goes, goes_to, asserts, with_result, has_room, called, returned, holds_none, is_of_null, is_held, indexed, wrote, with_note, checked, lock_checked, raise, lower, test, tested, after_new, asks_new, new, new_state, elements_of, looks, clear, data_granules, free_looks, empties, emptied, free, layout_at, spawn, with_parameter, entered, start, function_of, withdraws, exit, wakes, signal, is_positive, fields, largest, at_stage, place, set_ref, accessed, move_ref, numbered, trapped, locked, joined, join, woken, word, handed, Local, Asks, step_of}
-use Rattle.sharc_code.specs.Path.{after, may_go, turn}
-use Rattle.std.specs.Prelude.{nat_eq}
-use Rattle.std.proofs.lemmas.Bool.{cases_eq}
-use Rattle.std.proofs.lemmas.Bool.Decides.{nat_tests}
-use Rattle.sharc_code.specs.declared.state.State.{State}
-use Rattle.sharc_code.specs.declared.state.State.TheVariants.{Stopped}
-use Rattle.sharc_code.specs.declared.state.Stop.{Stop}
-use Rattle.sharc_code.specs.Opening.{opening_words}
-use Rattle.sharc_code.specs.Runs.{Global, IsRun, Turn as RunTurn, opening_of, put, result_of}
-use Rattle.sharc_code.specs.Whole.{bounds, one_thread, place_after}
+use Rattle.sharc_lemmas.proofs.Numbers.{ne_eq, eq_refl}
 
 -- ---- one turn
 note_stop : (own : Own) (granule : ℕ) (kind : Kind) (epoch site : ℕ) → (with_note own granule kind epoch site).stop ≡ own.stop
@@ -268,12 +240,6 @@ module _ (code : Code) (s : Shape) (m : Machine) where
 -- ---- runs
 abbrev pub IsStop : Machine → Type 0
 IsStop m = (stop : Stop) → m.own.stop ≡ Some stop → m.at.state ≡ Stopped
-
-eq_refl : (n : ℕ) → nat_eq n n ≡ true
-eq_refl n = grind (arith, nat_tests)
-
-ne_eq : (m n : ℕ) → (m ≡ n → ⊥) → nat_eq m n ≡ false
-ne_eq m n ne = grind (arith, nat_tests)
 
 pub put_same : {A : Type 0} (f : ℕ → A) (i : ℕ) (v : A) → put f i v i ≡ v
 put_same f i v = rw (eq_refl i) refl

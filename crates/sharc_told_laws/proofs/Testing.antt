@@ -1,26 +1,10 @@
 -- A thread that was refused at the check of an access, or at a test of a sole reference, stands there to the end of the run.
-use Rattle.std.proofs.Common.{◌≡◌, ℕ, ◌==◌, Bool, true, false, List, [], ◌∷◌, ◌++◌, Option, Some, None, if◌then◌else◌, refl, sym, ap, ◌∙◌, ⊎_elim, eqb-true}
+use Rattle.std.proofs.{Common.{◌≡◌, ℕ, ◌==◌, Bool, true, false, List, [], ◌∷◌, ◌++◌, Option, Some, None, if◌then◌else◌, refl, sym, ap, ◌∙◌, ⊎_elim, eqb-true}, lemmas.Bool.{cases_eq, false≢true}}
 use Rattle.std.specs.Prelude.{slice_index}
-use Rattle.std.proofs.lemmas.Bool.{cases_eq, false≢true}
-use Rattle.sharc_word.specs.declared.step.WordEvent.{WordEvent}
+use Rattle.sharc_word.specs.{declared.step.WordEvent.WordEvent, declared.step.WordStep.WordStep}
 use Rattle.sharc_word.specs.declared.step.WordOp.TheVariants as ops
-use Rattle.sharc_word.specs.declared.step.WordStep.{WordStep}
-use Rattle.sharc_shadow.specs.declared.shadow_word.Kind.TheVariants.{Read, Write}
-use Rattle.sharc_shadow.specs.Functions.{conflicts_in}
-use Rattle.sharc_shadow.specs.ShadowWord.{epoch_of}
-use Rattle.sharc_code.specs.declared.code.Code.{Code}
-use Rattle.sharc_code.specs.declared.instr.Instr.{Instr}
-use Rattle.sharc_code.specs.declared.instr.Instr.TheVariants.{ChkRead, ChkWrite, TestSole}
-use Rattle.sharc_code.specs.declared.shape.Shape.{Shape}
-use Rattle.sharc_code.specs.declared.state.State.TheVariants.{Stopped}
-use Rattle.sharc_code.specs.declared.state.Stop.{Stop}
-use Rattle.sharc_code.specs.declared.state.Stop.TheVariants.{NotSole}
-use Rattle.sharc_code.specs.Layout.{count_word, granule_at, granule_of}
-use Rattle.sharc_code.specs.Machine.{Machine, Own, act, goes, instr_at, place, ref, stopped, tested, with_note, with_own, wrote}
-use Rattle.sharc_code.specs.Opening.{opening_words}
-use Rattle.sharc_code.specs.Path.{after, asked_by, may_go, turn}
-use Rattle.sharc_code.specs.Runs.{Answered, Global, IsRun, Turn, opening_of, result_of, step_of}
-use Rattle.sharc_code.specs.Whole.{bounds, one_thread, place_after}
+use Rattle.sharc_shadow.specs.{declared.shadow_word.Kind.TheVariants.{Read, Write}, Functions.conflicts_in, ShadowWord.epoch_of}
+use Rattle.sharc_code.specs.{declared.code.Code.Code, declared.instr.Instr.Instr, declared.instr.Instr.TheVariants.{ChkRead, ChkWrite, TestSole}, declared.shape.Shape.Shape, declared.state.State.TheVariants.Stopped, declared.state.Stop.Stop, declared.state.Stop.TheVariants.NotSole, Layout.{count_word, granule_at, granule_of}, Machine.{Machine, Own, act, goes, instr_at, place, ref, stopped, tested, with_note, with_own, wrote}, Opening.opening_words, Path.{after, asked_by, may_go, turn}, Runs.{Answered, Global, IsRun, Turn, opening_of, result_of, step_of}, Whole.{bounds, one_thread, place_after}}
 use Rattle.sharc_told_laws.specs.Tested.{count_found, is_access_check, tester}
 use Rattle.sharc_told_laws.proofs.Stopping.{put_other, put_same}
 

@@ -1,9 +1,6 @@
 -- Whose the source events of a run are: a turn tells events of its own thread.
 use Rattle.std.specs.Prelude.{◌≡◌, ◌==◌, ℕ, List, filter, map, reverse}
-use Rattle.sharc_code.specs.declared.code.Code.{Code}
-use Rattle.sharc_code.specs.declared.shape.Shape.{Shape}
-use Rattle.sharc_code.specs.Runs.{Turn, said_by}
-use Rattle.sharc_code.specs.Whole.{Erase}
+use Rattle.sharc_code.specs.{declared.code.Code.Code, declared.shape.Shape.Shape, Runs.{Turn, said_by}, Whole.Erase}
 use Rattle.sharc_told_laws.specs.Prints.{events_in}
 
 -- so those of a thread, among the events of all, are what its own turns tell

@@ -1,16 +1,10 @@
 -- What a run prints: the Print events of its source events, in their order.
 use Rattle.std.specs.Prelude.{◌≡◌, ℕ, ℤ, List, ◌++◌, codes, filter_map, flat_map, length, map, reverse, Option, Some, None}
-use Rattle.std.specs.Fmt.{signed_decimal}
-use Rattle.std.specs.List.{range_with_len}
-use Rattle.sharc_tree.specs.declared.event.Act.{Act}
-use Rattle.sharc_tree.specs.declared.event.Act.TheVariants.{Print as Prints}
+use Rattle.std.specs.{Fmt.signed_decimal, List.range_with_len}
+use Rattle.sharc_tree.specs.{declared.event.Act.Act, declared.event.Act.TheVariants.{Print as Prints}}
 use Rattle.sharc_tree.specs.declared.event.SourceEvent.{SourceEvent}
-use Rattle.sharc_code.specs.declared.code.Code.{Code}
-use Rattle.sharc_code.specs.declared.shape.Shape.{Shape}
-use Rattle.sharc_code.specs.declared.state.Print.{Print}
-use Rattle.sharc_code.specs.Layout.{Fits}
-use Rattle.sharc_code.specs.Runs.{Turn}
-use Rattle.sharc_code.specs.Whole.{CheckedRun, Erase, place_after}
+use Rattle.sharc_code.specs.{declared.code.Code.Code, declared.shape.Shape.Shape, declared.state.Print.Print}
+use Rattle.sharc_code.specs.{Layout.Fits, Runs.Turn, Whole.{CheckedRun, Erase, place_after}}
 use Rattle.sharc_cpu.specs.Thread.{ThreadView}
 use Rattle.sharc_threads.specs.Ends.{AreStarted}
 use Rattle.sharc_run_text.specs.RunText.{AreInOrder, IsRunText, place_of, thread_line}

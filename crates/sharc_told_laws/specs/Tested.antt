@@ -1,15 +1,9 @@
 -- A thread that was refused at the check of an access, or at a test of a sole reference, stands there to the end of the run.
 use Rattle.std.specs.Prelude.{◌≡◌, ◌≢◌, ℕ, Bool, true, false, List, ◌∷◌, ◌++◌, slice_index}
-use Rattle.sharc_code.specs.declared.code.Code.{Code}
-use Rattle.sharc_code.specs.declared.instr.Instr.{Instr}
-use Rattle.sharc_code.specs.declared.instr.Instr.TheVariants.{ChkRead, ChkWrite, TestSole}
-use Rattle.sharc_code.specs.declared.shape.Shape.{Shape}
-use Rattle.sharc_code.specs.declared.state.Stop.{Stop}
-use Rattle.sharc_code.specs.declared.state.Stop.TheVariants.{NotSole}
-use Rattle.sharc_code.specs.Layout.{count_word}
-use Rattle.sharc_code.specs.Machine.{Machine, instr_at, ref, stopped}
-use Rattle.sharc_code.specs.Path.{may_go}
-use Rattle.sharc_code.specs.Runs.{Turn}
+use Rattle.sharc_code.specs.{declared.code.Code.Code, declared.instr.Instr.Instr}
+use Rattle.sharc_code.specs.{declared.instr.Instr.TheVariants.{ChkRead, ChkWrite, TestSole}, declared.shape.Shape.Shape}
+use Rattle.sharc_code.specs.{declared.state.Stop.Stop, declared.state.Stop.TheVariants.NotSole, Layout.count_word}
+use Rattle.sharc_code.specs.{Machine.{Machine, instr_at, ref, stopped}, Path.may_go, Runs.Turn}
 use Rattle.sharc_code.specs.Whole.{CheckedRun, place_after}
 
 -- the thread of this turn, as it was before it

@@ -2,18 +2,12 @@
 use Rattle.std.proofs.Common.{◌≡◌, ℕ, List}
 use Rattle.sharc_mode.specs.Moded.{Assignment}
 use Rattle.sharc_code.specs.declared.code.Code.{Code}
-use Rattle.sharc_report.specs.Refusals.{refusal_line}
-use Rattle.sharc_report.specs.declared.refusal.SourceFault.{SourceFault}
+use Rattle.sharc_report.specs.{Refusals.refusal_line, declared.refusal.SourceFault.SourceFault}
 use Rattle.sharc_run.specs.declared.run.Ran.{Ran}
 use Rattle.sharc_sound.specs.Front.{IsFront, IsSourceFault}
-use Rattle.sharc_top.specs.declared.ran.RunNumbers.{RunNumbers}
-use Rattle.sharc_top.specs.declared.status.Status.{Status}
+use Rattle.sharc_top.specs.{declared.ran.RunNumbers.RunNumbers, declared.status.Status.Status, Answers.{Answers, faulty, program}, Recording.{GivesSource, at_fault, by_program, not_made}, Refused.{IsModeRefusal, Refuses, source_refused, modes_refused}, Running.not_run}
 use Rattle.sharc_top.specs.declared.status.Status.TheVariants as status
 use Rattle.sharc_top.specs.declared.task.Task.TheVariants as task
-use Rattle.sharc_top.specs.Answers.{Answers, faulty, program}
-use Rattle.sharc_top.specs.Recording.{GivesSource, at_fault, by_program, not_made}
-use Rattle.sharc_top.specs.Refused.{IsModeRefusal, Refuses, source_refused, modes_refused}
-use Rattle.sharc_top.specs.Running.{not_run}
 
 pub refuses_source : (source : List ℕ) (s : Status) (text : List ℕ) (fault : SourceFault) → IsSourceFault source fault → s ≡ status.SourceRefused → text ≡ refusal_line fault → Refuses source s text
 refuses_source source s text fault is e t = rw (e, t) (source_refused fault is)

@@ -2,22 +2,12 @@
 use Rattle.std.proofs.Common.{◌≡◌, ℕ, ◌<◌, ◌≤◌, List, length, Option, Some, None, IfSome, subst}
 use Rattle.sharc_mode.specs.Moded.{Assignment}
 use Rattle.sharc_mode_laws.specs.Rules.{MeetsRules}
-use Rattle.sharc_audit.specs.declared.audit.Verdict.{Verdict}
-use Rattle.sharc_audit.specs.declared.file.FileFault.{FileFault}
+use Rattle.sharc_audit.specs.{declared.audit.Verdict.Verdict, declared.file.FileFault.FileFault, declared.line.EventLine.EventLine, Audited.Audits, Files.IsFault, Grammar.text_lines, Texts.{verdict_line, bad_line, many_line, file_fault_line}}
 use Rattle.sharc_audit.specs.declared.file.FileFault.TheVariants as fault
-use Rattle.sharc_audit.specs.declared.line.EventLine.{EventLine}
-use Rattle.sharc_audit.specs.Audited.{Audits}
-use Rattle.sharc_audit.specs.Files.{IsFault}
-use Rattle.sharc_audit.specs.Grammar.{text_lines}
-use Rattle.sharc_audit.specs.Texts.{verdict_line, bad_line, many_line, file_fault_line}
-use Rattle.sharc_report.specs.Refusals.{refusal_line}
-use Rattle.sharc_report.specs.declared.refusal.SourceFault.{SourceFault}
+use Rattle.sharc_report.specs.{Refusals.refusal_line, declared.refusal.SourceFault.SourceFault}
 use Rattle.sharc_sound.specs.Front.{IsFront, IsSourceFault}
-use Rattle.sharc_top.specs.declared.status.Status.{Status}
+use Rattle.sharc_top.specs.{declared.status.Status.Status, EventFiles.{status_of, Judges, not_judged, judged, JudgesSource, faulty_source, of_program, IsFewIn, FileReplies, long_file, no_file, many_events, long_source, source_judged, IsFileReply}, Text.line, Refused.IsModeRefusal}
 use Rattle.sharc_top.specs.declared.status.Status.TheVariants as status
-use Rattle.sharc_top.specs.EventFiles.{status_of, Judges, not_judged, judged, JudgesSource, faulty_source, of_program, IsFewIn, FileReplies, long_file, no_file, many_events, long_source, source_judged, IsFileReply}
-use Rattle.sharc_top.specs.Text.{line}
-use Rattle.sharc_top.specs.Refused.{IsModeRefusal}
 use Rattle.sharc_top.proofs.Replies.{input_over}
 use Rattle.std.specs.Prelude.{codes}
 
@@ -50,6 +40,3 @@ pub reply_long_file : (left : Option (List ℕ)) (s : Status) (text : List ℕ) 
 reply_long_file left s text long e t =
     let l = input_over left 16777216 long in
     record { input = l.input; told = l.told; reply = rw (e, t) (long_file l.long) }
-
-pub reply_file : (left : Option (List ℕ)) (input : List ℕ) (s : Status) (text : List ℕ) → IfSome left (λ bytes. input ≡ bytes) → FileReplies input s text → IsFileReply left s text
-reply_file left input s text told is = record { input = input; told = told; reply = is }

@@ -1,15 +1,8 @@
 -- What a sink holds after some lines of a text.
 use lib.Seq.{take-add}
-use Rattle.std.proofs.Common.{ℕ, ◌≡◌, ◌≤◌, ◌<◌, ◌+◌, ◌-◌, List, length, take, drop, Option, sym, subst, arith, length-take}
-use Rattle.std.proofs.lemmas.List.{take-take}
+use Rattle.std.proofs.{Common.{ℕ, ◌≡◌, ◌≤◌, ◌<◌, ◌+◌, ◌-◌, List, length, take, drop, Option, subst, arith, length-take}, lemmas.List.take-take}
 use Rattle.std.specs.Io.KnownBytes.{Appends}
-use Rattle.std.proofs.KnownBytes.{Appends-trans}
-
--- a front part of what was still to be written, after the front part that was written before
-appends_front_more : (a b c : Option (List ℕ)) (bytes : List ℕ) (m n : ℕ)
-    → Appends a b (take m bytes) → Appends b c (take n (drop m bytes)) → Appends a c (take (m + n) bytes)
-appends_front_more a b c bytes m n before more =
-    subst (Appends a c) (sym (take-add m n bytes)) (Appends-trans a b c _ _ before more)
+use Rattle.sharc_lemmas.proofs.Lists.{appends_front_more}
 
 -- one more line of a text, after those before it
 pub appends_line : (a b c : Option (List ℕ)) (text : List ℕ) (from end : ℕ) → from ≤ end

@@ -1,26 +1,14 @@
 -- What is written for a source that is recorded and for a recorded file is a reply to it.
-use Rattle.std.proofs.Common.{◌≡◌, ℕ, ◌<◌, ◌≤◌, List, length, Option, IfSome, arith}
+use Rattle.std.proofs.Common.{◌≡◌, ℕ, ◌<◌, ◌≤◌, List, length, Option, IfSome}
 use Rattle.std.specs.Prelude.{codes}
 use Rattle.sharc_mode.specs.Moded.{Assignment}
 use Rattle.sharc_code.specs.declared.code.Code.{Code}
 use Rattle.sharc_recorded.specs.File.{FileView, lines_in, IsFile, IsFault}
-use Rattle.sharc_report.specs.Refusals.{refusal_line}
-use Rattle.sharc_report.specs.declared.refusal.SourceFault.{SourceFault}
 use Rattle.sharc_run.specs.declared.run.Ran.{Ran}
-use Rattle.sharc_sound.specs.Front.{IsFront, IsSourceFault}
-use Rattle.sharc_top.specs.declared.status.Status.{Status}
+use Rattle.sharc_sound.specs.Front.{IsFront}
+use Rattle.sharc_top.specs.{declared.status.Status.Status, Recording.{Records, Replays, GivesRun, GivesSource, by_program, long_input, recorded, IsRecordReply, bad_file_line, ReplayReplies, long_recording, no_recording, long_source_in, replayed, IsReplayReply}, Text.line}
 use Rattle.sharc_top.specs.declared.status.Status.TheVariants as status
-use Rattle.sharc_top.specs.Recording.{Records, Replays, GivesRun, not_made, GivesSource, at_fault, by_program, RecordReplies, long_input, recorded, IsRecordReply, bad_file_line, ReplayReplies, long_recording, no_recording, long_source_in, replayed, IsReplayReply}
-use Rattle.sharc_top.specs.Refused.{IsModeRefusal}
-use Rattle.sharc_top.specs.Text.{line}
 use Rattle.sharc_top.proofs.Replies.{input_over}
-
-pub gives_refused : (m : Assignment) (Makes : Code → Ran → Type 0) (s : Status) (text : List ℕ) → s ≡ status.ModesRefused → IsModeRefusal m text → GivesRun m Makes s text
-gives_refused m Makes s text e is = rw e (not_made text is)
-
-pub gives_faulty : (source : List ℕ) (Makes : Code → Ran → Type 0) (s : Status) (text : List ℕ) (fault : SourceFault) → IsSourceFault source fault → s ≡ status.SourceRefused → text ≡ refusal_line fault
-    → GivesSource source Makes s text
-gives_faulty source Makes s text fault is e t = rw (e, t) (at_fault fault is)
 
 pub gives_program : (source : List ℕ) (Makes : Code → Ran → Type 0) (s : Status) (text : List ℕ) (m : Assignment) → IsFront source m → GivesRun m Makes s text → GivesSource source Makes s text
 gives_program source Makes s text m front is = by_program m s text front is
@@ -53,6 +41,3 @@ pub reply_long_recording : (left : Option (List ℕ)) (s : Status) (text : List 
 reply_long_recording left s text long e t =
     let l = input_over left 1073741824 long in
     record { input = l.input; told = l.told; reply = rw (e, t) (long_recording l.long) }
-
-pub reply_replay : (left : Option (List ℕ)) (input : List ℕ) (s : Status) (text : List ℕ) → IfSome left (λ bytes. input ≡ bytes) → ReplayReplies input s text → IsReplayReply left s text
-reply_replay left input s text told is = record { input = input; told = told; reply = is }

@@ -1,40 +1,17 @@
 -- What a reply is a reply to.
-use Rattle.std.proofs.Common.{◌≡◌, ℕ, ◌+◌, ◌<◌, ◌≤◌, List, [], length, Option, Some, None, IfSome, unwrap_or, true, false, refl, arith, replicate, codes, inl, inr}
-use Rattle.std.proofs.lemmas.List.{length-replicate}
+use Rattle.std.proofs.{Common.{◌≡◌, ℕ, ◌+◌, ◌<◌, ◌≤◌, List, [], length, Option, Some, None, IfSome, unwrap_or, refl, arith, replicate, codes, inl, inr}, lemmas.List.length-replicate}
 use Rattle.sharc_mode.specs.Moded.{Assignment}
 use Rattle.sharc_cli.specs.Commands.{commands}
-use Rattle.sharc_cli.specs.declared.command.Command.{Command}
-use Rattle.sharc_top.specs.declared.status.Status.{Status}
+use Rattle.sharc_top.specs.{declared.status.Status.Status, declared.task.Task.Task, Text.line, declared.ran.RunNumbers.RunNumbers, Answers.{Answers, faulty, program}, Loading.{LoadReplies, long, loaded}, Recording.{GivesRun, not_made, made, GivesSource, at_fault, by_program, RecordReplies, long_input, IsRecordReply, ReplayReplies, long_recording, no_recording, long_source_in, IsReplayReply}, Recording.RecordReplies.{recorded as of_record}, Recording.ReplayReplies.{replayed as of_replay}, Running.{Runs, not_run, ran, status_of as run_status_of}, Verdict.{Checks, accepted, refused, Explains, explained, Does}, EventFiles.{status_of, Judges, not_judged, judged, JudgesSource, faulty_source, of_program, FileReplies, long_file, no_file, many_events, long_source, source_judged, IsFileReply}, Reply.{task_in, ReadsSource, usage_text, Replies, IsReply, usage, too_long, answered, recorded, replayed, audited}, Reply.Replies.{loaded as of_load}, Status.{code_of, IsOfReply}}
 use Rattle.sharc_top.specs.declared.status.Status.TheVariants as status
-use Rattle.sharc_top.specs.declared.task.Task.{Task}
 use Rattle.sharc_top.specs.declared.task.Task.TheVariants as task
-use Rattle.sharc_top.specs.Text.{line}
-use Rattle.sharc_run.specs.declared.outcome.Outcome.{Outcome}
+use Rattle.sharc_run.specs.{declared.outcome.Outcome.Outcome, declared.run.Ran.Ran}
 use Rattle.sharc_run.specs.declared.outcome.Outcome.TheVariants as outcome
-use Rattle.sharc_top.specs.declared.ran.RunNumbers.{RunNumbers}
-use Rattle.sharc_top.specs.Answers.{Answers, faulty, program}
-use Rattle.sharc_top.specs.Loading.{LoadReplies, long, loaded}
-use Rattle.sharc_top.specs.Recording.{GivesRun, not_made, made, GivesSource, at_fault, by_program, RecordReplies, long_input, IsRecordReply, ReplayReplies, long_recording, no_recording, long_source_in, IsReplayReply}
-use Rattle.sharc_top.specs.Recording.RecordReplies.{recorded as of_record}
-use Rattle.sharc_top.specs.Recording.ReplayReplies.{replayed as of_replay}
 use Rattle.sharc_code.specs.declared.code.Code.{Code}
-use Rattle.sharc_run.specs.declared.run.Ran.{Ran}
-use Rattle.sharc_top.specs.Running.{Runs, not_run, ran}
-use Rattle.sharc_top.specs.Running.{status_of as run_status_of}
-use Rattle.sharc_top.specs.Verdict.{Checks, accepted, refused, Explains, explained, Does}
-use Rattle.sharc_audit.specs.declared.audit.Verdict.{Verdict}
+use Rattle.sharc_audit.specs.{declared.audit.Verdict.Verdict, declared.line.EventLine.EventLine}
 use Rattle.sharc_audit.specs.declared.audit.Verdict.TheVariants as verdict
-use Rattle.sharc_audit.specs.declared.line.EventLine.{EventLine}
 use Rattle.sharc_cli.specs.declared.command.Command.TheVariants as command
-use Rattle.sharc_top.specs.EventFiles.{status_of, Judges, not_judged, judged, JudgesSource, faulty_source, of_program, FileReplies, long_file, no_file, many_events, long_source, source_judged, IsFileReply}
-use Rattle.sharc_top.specs.Reply.{task_in, ReadsSource, usage_text, Replies, IsReply, usage, too_long, answered, recorded, replayed, audited}
-use Rattle.sharc_top.specs.Reply.Replies.{loaded as of_load}
-use Rattle.sharc_top.specs.Status.{code_of, IsOfReply, IsOfSilence}
-
--- what a source has left, where it reports it
-pub told_left : (left : Option (List ℕ)) → IfSome left (λ bytes. unwrap_or left [] ≡ bytes)
-told_left None = tt
-told_left (Some bytes) = refl
+use Rattle.sharc_lemmas.proofs.Lists.{told_left}
 
 -- an input that is longer than a number, and what a source had left where it reports it
 pub record LongInput (left : Option (List ℕ)) (limit : ℕ) : Type 0 where
@@ -159,30 +136,5 @@ reply_status words input s text (recorded workers heap limit x y h is) = record_
 reply_status words input s text (replayed x y h is) = replay_status input x y is
 reply_status words input s text (audited x y h is) = file_status input x y is
 
-not_ten : (n : ℕ) → IsOfReply n → n ≡ 10 → ⊥
-not_ten n (inl a) e = omega (arith, a, e)
-not_ten n (inr (inl a)) e = omega (arith, a, e)
-not_ten n (inr (inr a)) e = omega (arith, a, e)
-
-not_nine : (n : ℕ) → IsOfReply n → n ≡ 9 → ⊥
-not_nine n (inl a) e = omega (arith, a, e)
-not_nine n (inr (inl a)) e = omega (arith, a, e)
-not_nine n (inr (inr a)) e = omega (arith, a, e)
-
-not_eleven : (n : ℕ) → IsOfReply n → n ≡ 11 → ⊥
-not_eleven n (inl a) e = omega (arith, a, e)
-not_eleven n (inr (inl a)) e = omega (arith, a, e)
-not_eleven n (inr (inr a)) e = omega (arith, a, e)
-
-not_silent : (n : ℕ) → IsOfReply n → IsOfSilence n → ⊥
-not_silent n r (inl e) = not_nine n r e
-not_silent n r (inr e) = not_eleven n r e
-
 pub reply_of : (words : List (List ℕ)) (left : Option (List ℕ)) (s : Status) (text : List ℕ) → IsReply words left s text → IsOfReply (code_of s)
 reply_of words left s text r = reply_status words r.input s text r.reply
-
-pub reply_not_ten : (words : List (List ℕ)) (left : Option (List ℕ)) (s : Status) (text : List ℕ) → IsReply words left s text → code_of s ≡ 10 → ⊥
-reply_not_ten words left s text r = not_ten (code_of s) (reply_of words left s text r)
-
-pub reply_not_silent : (words : List (List ℕ)) (left : Option (List ℕ)) (s : Status) (text : List ℕ) → IsReply words left s text → IsOfSilence (code_of s) → ⊥
-reply_not_silent words left s text r = not_silent (code_of s) (reply_of words left s text r)

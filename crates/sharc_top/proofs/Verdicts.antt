@@ -1,22 +1,12 @@
 -- What was written is what the commands write.
 use Rattle.std.proofs.Common.{◌≡◌, ℕ, List, ◌++◌}
 use Rattle.sharc_live.specs.Uses.{AreWarnings}
-use Rattle.sharc_mode.specs.declared.error.Warning.{Warning}
-use Rattle.sharc_mode.specs.Moded.{Assignment}
+use Rattle.sharc_mode.specs.{declared.error.Warning.Warning, Moded.Assignment}
 use Rattle.sharc_mode_laws.specs.Rules.{MeetsRules}
-use Rattle.sharc_report.specs.declared.refusal.SourceFault.{SourceFault}
-use Rattle.sharc_report.specs.Explanations.{explain_text}
-use Rattle.sharc_report.specs.Refusals.{refusal_line}
-use Rattle.sharc_report.specs.Verdicts.{accepted_text}
+use Rattle.sharc_report.specs.{declared.refusal.SourceFault.SourceFault, Explanations.explain_text, Refusals.refusal_line, Verdicts.accepted_text}
 use Rattle.sharc_sound.specs.Front.{IsFront, IsSourceFault}
-use Rattle.sharc_top.specs.declared.status.Status.{Status}
+use Rattle.sharc_top.specs.{declared.status.Status.Status, declared.task.Task.Task, Answers.{Answers, faulty, program}, Refused.IsModeRefusal, Verdict.{Checks, accepted, refused, Explains, explained, Does}}
 use Rattle.sharc_top.specs.declared.status.Status.TheVariants as status
-use Rattle.sharc_top.specs.declared.task.Task.{Task}
-use Rattle.sharc_top.specs.declared.ran.RunNumbers.{RunNumbers}
-use Rattle.sharc_top.specs.Answers.{Answers, faulty, program}
-use Rattle.sharc_top.specs.Refused.{IsModeRefusal}
-use Rattle.sharc_top.specs.Running.{Runs, not_run}
-use Rattle.sharc_top.specs.Verdict.{Checks, accepted, refused, Explains, explained, Does}
 
 pub checks_accepted : (m : Assignment) (s : Status) (text : List ℕ) (warnings : List Warning) → MeetsRules m → AreWarnings m.typed warnings → s ≡ status.Done → text ≡ accepted_text m.typed warnings
     → Checks m s text
@@ -27,9 +17,6 @@ checks_refused m s text e is = rw e (refused text is)
 
 pub explains_both : (m : Assignment) (s : Status) (verdict text : List ℕ) → Checks m s verdict → text ≡ explain_text m ++ verdict → Explains m s text
 explains_both m s verdict text is t = rw t (explained s verdict is)
-
-pub runs_refused : (n : RunNumbers) (m : Assignment) (s : Status) (text : List ℕ) → s ≡ status.ModesRefused → IsModeRefusal m text → Runs n m s text
-runs_refused n m s text e is = rw e (not_run text is)
 
 pub answers_faulty : (t : Task) (source : List ℕ) (s : Status) (text : List ℕ) (fault : SourceFault) → IsSourceFault source fault → s ≡ status.SourceRefused → text ≡ refusal_line fault → Answers t source s text
 answers_faulty t source s text fault found e is = rw (e, is) (faulty fault found)

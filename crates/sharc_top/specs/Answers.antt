@@ -1,13 +1,10 @@
 -- What is written for a source, and with which status the call ends.
 use Rattle.std.specs.Prelude.{ℕ, List}
 use Rattle.sharc_mode.specs.Moded.{Assignment}
-use Rattle.sharc_report.specs.Refusals.{refusal_line}
-use Rattle.sharc_report.specs.declared.refusal.SourceFault.{SourceFault}
+use Rattle.sharc_report.specs.{Refusals.refusal_line, declared.refusal.SourceFault.SourceFault}
 use Rattle.sharc_sound.specs.Front.{IsFront, IsSourceFault}
-use Rattle.sharc_top.specs.declared.status.Status.{Status}
+use Rattle.sharc_top.specs.{declared.status.Status.Status, declared.task.Task.Task, Verdict.Does}
 use Rattle.sharc_top.specs.declared.status.Status.TheVariants as status
-use Rattle.sharc_top.specs.declared.task.Task.{Task}
-use Rattle.sharc_top.specs.Verdict.{Does}
 
 -- What is written for a source within the limit, and the status: the first fault of the first stage that has one, else what becomes of the program that
 -- it is, with the least modes.

@@ -1,7 +1,6 @@
 -- Commands that some words ask for, and those that may wait.
 use Rattle.std.specs.Prelude.{◌≡◌, ℕ, List, Bool, true, false, Option, Some, None}
-use Rattle.sharc_cli.specs.Commands.{commands}
-use Rattle.sharc_cli.specs.declared.command.Command.{Command}
+use Rattle.sharc_cli.specs.{Commands.commands, declared.command.Command.Command}
 use Rattle.sharc_cli.specs.declared.command.Command.TheVariants as command
 
 -- some words are this command, or, of None, are no command

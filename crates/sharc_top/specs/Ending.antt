@@ -1,9 +1,6 @@
 -- What becomes of a reply where it is written.
-use Rattle.std.specs.Prelude.{◌≡◌, ℕ, ◌<◌, List, length, take, Option, Result, Ok}
-use Rattle.std.specs.Io.KnownBytes.{Appends}
-use Rattle.sharc_top.specs.declared.refused.Failure.{Failure}
-use Rattle.sharc_top.specs.declared.reply.Reply.{Reply}
-use Rattle.sharc_top.specs.Status.{code_of}
+use Rattle.std.specs.{Prelude.{◌≡◌, ℕ, ◌<◌, List, length, take, Option, Result, Ok}, Io.KnownBytes.Appends}
+use Rattle.sharc_top.specs.{declared.refused.Failure.Failure, declared.reply.Reply.Reply, Status.code_of}
 
 -- there is a reply, it was written whole, and this is its exit status
 pub record WritesAll (found : Result Reply Failure) (old new : Option (List ℕ)) (code : ℕ) : Type 0 where

@@ -2,20 +2,15 @@
 use Rattle.std.specs.Prelude.{◌≡◌, ℕ, ◌<◌, ◌≤◌, List, length, codes, Option, IfSome}
 use Rattle.sharc_mode.specs.Moded.{Assignment}
 use Rattle.sharc_mode_laws.specs.Rules.{MeetsRules}
-use Rattle.sharc_audit.specs.declared.audit.Verdict.{Verdict}
-use Rattle.sharc_audit.specs.declared.audit.Verdict.TheVariants as verdict
-use Rattle.sharc_audit.specs.declared.line.EventLine.{EventLine}
-use Rattle.sharc_audit.specs.Audited.{Audits}
+use Rattle.sharc_audit.specs.{declared.audit.Verdict.Verdict, declared.line.EventLine.EventLine, Audited.Audits}
 use Rattle.sharc_audit.specs.Grammar.{text_lines, IsEventFile, IsFirstBad, HasMany}
 use Rattle.sharc_audit.specs.Texts.{verdict_line, bad_line, many_line}
-use Rattle.sharc_report.specs.Refusals.{refusal_line}
-use Rattle.sharc_report.specs.declared.refusal.SourceFault.{SourceFault}
+use Rattle.sharc_audit.specs.declared.audit.Verdict.TheVariants as verdict
+use Rattle.sharc_report.specs.{Refusals.refusal_line, declared.refusal.SourceFault.SourceFault}
 use Rattle.sharc_sound.specs.Front.{IsFront, IsSourceFault}
-use Rattle.sharc_top.specs.declared.status.Status.{Status}
-use Rattle.sharc_top.specs.declared.status.Status.TheVariants as status
-use Rattle.sharc_top.specs.Limits.{source_limit, file_limit}
-use Rattle.sharc_top.specs.Text.{line}
+use Rattle.sharc_top.specs.{declared.status.Status.Status, Limits.{source_limit, file_limit}, Text.line}
 use Rattle.sharc_top.specs.Refused.{IsModeRefusal}
+use Rattle.sharc_top.specs.declared.status.Status.TheVariants as status
 
 abbrev pub status_of : Verdict → Status
 status_of (verdict.Obeys n) = status.Done

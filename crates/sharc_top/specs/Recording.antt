@@ -2,24 +2,15 @@
 use Rattle.std.specs.Prelude.{◌≡◌, ℕ, ◌<◌, ◌≤◌, List, ◌++◌, length, codes, decimal, Option, IfSome}
 use Rattle.sharc_mode.specs.Moded.{Assignment}
 use Rattle.sharc_mode_laws.specs.Rules.{MeetsRules}
-use Rattle.sharc_code.specs.declared.code.Code.{Code}
-use Rattle.sharc_code.specs.declared.shape.Shape.{Shape}
-use Rattle.sharc_code.specs.Layout.{Fits}
+use Rattle.sharc_code.specs.{declared.code.Code.Code, declared.shape.Shape.Shape, Layout.Fits, Ranges.NumbersFit}
 use Rattle.sharc_recorded.specs.File.{FileView, lines_in, IsFile, IsFault, AreNumbers}
 use Rattle.sharc_replay.specs.Run.{IsRecord, IsScheduledRun}
-use Rattle.sharc_report.specs.Refusals.{refusal_line}
-use Rattle.sharc_report.specs.declared.refusal.SourceFault.{SourceFault}
+use Rattle.sharc_report.specs.{Refusals.refusal_line, declared.refusal.SourceFault.SourceFault}
 use Rattle.sharc_run.specs.declared.run.Ran.{Ran}
-use Rattle.sharc_code.specs.Ranges.{NumbersFit}
-use Rattle.sharc_sound.specs.Compiled.{IsCompiled}
-use Rattle.sharc_sound.specs.Front.{IsFront, IsSourceFault}
-use Rattle.sharc_top.specs.declared.recorded.RecordNumbers.{RecordNumbers}
-use Rattle.sharc_top.specs.declared.status.Status.{Status}
+use Rattle.sharc_sound.specs.{Compiled.IsCompiled, Front.{IsFront, IsSourceFault}}
+use Rattle.sharc_top.specs.{declared.recorded.RecordNumbers.RecordNumbers, declared.status.Status.Status}
+use Rattle.sharc_top.specs.{Limits.{source_limit, recording_limit}, Refused.IsModeRefusal, Running.status_of, Text.line}
 use Rattle.sharc_top.specs.declared.status.Status.TheVariants as status
-use Rattle.sharc_top.specs.Limits.{source_limit, recording_limit}
-use Rattle.sharc_top.specs.Refused.{IsModeRefusal}
-use Rattle.sharc_top.specs.Running.{status_of}
-use Rattle.sharc_top.specs.Text.{line}
 
 -- ---- the runs
 

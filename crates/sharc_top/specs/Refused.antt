@@ -1,19 +1,13 @@
 -- What is written for a program whose modes are refused.
 use Rattle.std.specs.Prelude.{◌≡◌, ℕ, List, Option, Result, Ok, Err}
-use Rattle.sharc_mode.specs.declared.error.Cast.{Cast}
-use Rattle.sharc_mode.specs.declared.error.ModeError.{ModeError}
-use Rattle.sharc_mode.specs.Moded.{Assignment}
+use Rattle.sharc_mode.specs.{declared.error.Cast.Cast, declared.error.ModeError.ModeError, Moded.Assignment}
 use Rattle.sharc_mode_laws.specs.Rules.{MeetsRules}
 use Rattle.sharc_check.specs.Checks.{AreAll}
 use Rattle.sharc_suggest.specs.Casts.{AreSuggested}
-use Rattle.sharc_report.specs.Refusals.{refusal_line}
-use Rattle.sharc_report.specs.Verdicts.{check_text}
-use Rattle.sharc_report.specs.declared.refusal.SourceFault.{SourceFault}
+use Rattle.sharc_report.specs.{Refusals.refusal_line, Verdicts.check_text, declared.refusal.SourceFault.SourceFault}
 use Rattle.sharc_sound.specs.Front.{IsFront, IsSourceFault}
-use Rattle.sharc_build.specs.declared.building.Built.{Built}
-use Rattle.sharc_build.specs.Built.{IsBuilt}
-use Rattle.sharc_top.specs.declared.reply.Reply.{Reply}
-use Rattle.sharc_top.specs.declared.status.Status.{Status}
+use Rattle.sharc_build.specs.{declared.building.Built.Built, Built.IsBuilt}
+use Rattle.sharc_top.specs.{declared.reply.Reply.Reply, declared.status.Status.Status}
 use Rattle.sharc_top.specs.declared.status.Status.TheVariants as status
 
 -- all the cases M1 to M11 that arise, in their order, each with the cast that would repair it

@@ -1,20 +1,13 @@
 -- What the program writes for its words and its input, and with which status it ends.
 use Rattle.std.specs.Prelude.{◌≡◌, ◌⊎◌, Bool, true, false, ℕ, ◌<◌, ◌≤◌, List, length, take, codes, Option, Some, None, IfSome, IsSome}
 use Rattle.std.specs.Io.KnownBytes.{Appends}
-use Rattle.sharc_cli.specs.Commands.{commands}
-use Rattle.sharc_cli.specs.declared.command.Command.{Command}
+use Rattle.sharc_cli.specs.{Commands.commands, declared.command.Command.Command}
 use Rattle.sharc_cli.specs.declared.command.Command.TheVariants as command
-use Rattle.sharc_top.specs.declared.status.Status.{Status}
+use Rattle.sharc_top.specs.{declared.status.Status.Status, declared.task.Task.Task, Answers.Answers}
+use Rattle.sharc_top.specs.{EventFiles.FileReplies, Loading.LoadReplies, Limits.source_limit}
+use Rattle.sharc_top.specs.{Recording.{RecordReplies, ReplayReplies}, Status.code_of, Text.line}
 use Rattle.sharc_top.specs.declared.status.Status.TheVariants as status
-use Rattle.sharc_top.specs.declared.task.Task.{Task}
 use Rattle.sharc_top.specs.declared.task.Task.TheVariants as task
-use Rattle.sharc_top.specs.Answers.{Answers}
-use Rattle.sharc_top.specs.EventFiles.{FileReplies}
-use Rattle.sharc_top.specs.Loading.{LoadReplies}
-use Rattle.sharc_top.specs.Limits.{source_limit}
-use Rattle.sharc_top.specs.Recording.{RecordReplies, ReplayReplies}
-use Rattle.sharc_top.specs.Status.{code_of}
-use Rattle.sharc_top.specs.Text.{line}
 
 -- ---- the words
 

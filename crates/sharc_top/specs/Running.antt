@@ -2,19 +2,12 @@
 use Rattle.std.specs.Prelude.{ℕ, ◌≡◌, ◌≤◌, List, Option, Some, None}
 use Rattle.sharc_mode.specs.Moded.{Assignment}
 use Rattle.sharc_mode_laws.specs.Rules.{MeetsRules}
-use Rattle.sharc_code.specs.declared.code.Code.{Code}
-use Rattle.sharc_code.specs.declared.shape.Shape.{Shape}
-use Rattle.sharc_code.specs.Layout.{Fits}
-use Rattle.sharc_run.specs.declared.outcome.Outcome.{Outcome}
+use Rattle.sharc_code.specs.{declared.code.Code.Code, declared.shape.Shape.Shape, Layout.Fits, Ranges.NumbersFit}
+use Rattle.sharc_run.specs.{declared.outcome.Outcome.Outcome, declared.run.Ran.Ran, Run.{IsSeededRun, IsWorkersRun}}
 use Rattle.sharc_run.specs.declared.outcome.Outcome.TheVariants as outcome
-use Rattle.sharc_run.specs.declared.run.Ran.{Ran}
-use Rattle.sharc_run.specs.Run.{IsSeededRun, IsWorkersRun}
-use Rattle.sharc_code.specs.Ranges.{NumbersFit}
 use Rattle.sharc_sound.specs.Compiled.{IsCompiled}
-use Rattle.sharc_top.specs.declared.ran.RunNumbers.{RunNumbers}
-use Rattle.sharc_top.specs.declared.status.Status.{Status}
+use Rattle.sharc_top.specs.{declared.ran.RunNumbers.RunNumbers, declared.status.Status.Status, Refused.IsModeRefusal}
 use Rattle.sharc_top.specs.declared.status.Status.TheVariants as status
-use Rattle.sharc_top.specs.Refused.{IsModeRefusal}
 
 -- the numbers that the command line lets through
 pub record AreNumbers (n : RunNumbers) : Type 0 where

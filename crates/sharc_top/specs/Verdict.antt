@@ -1,17 +1,13 @@
 -- What `check`, `explain` and `run` write for a program with its modes, and with which status they end.
 use Rattle.std.specs.Prelude.{ℕ, List, ◌++◌}
-use Rattle.sharc_mode.specs.declared.error.Warning.{Warning}
-use Rattle.sharc_mode.specs.Moded.{Assignment}
+use Rattle.sharc_mode.specs.{declared.error.Warning.Warning, Moded.Assignment}
 use Rattle.sharc_mode_laws.specs.Rules.{MeetsRules}
 use Rattle.sharc_live.specs.Uses.{AreWarnings}
-use Rattle.sharc_report.specs.Explanations.{explain_text}
-use Rattle.sharc_report.specs.Verdicts.{accepted_text}
-use Rattle.sharc_top.specs.declared.status.Status.{Status}
-use Rattle.sharc_top.specs.declared.status.Status.TheVariants as status
-use Rattle.sharc_top.specs.declared.task.Task.{Task}
-use Rattle.sharc_top.specs.declared.task.Task.TheVariants as task
-use Rattle.sharc_top.specs.Refused.{IsModeRefusal}
+use Rattle.sharc_report.specs.{Explanations.explain_text, Verdicts.accepted_text}
+use Rattle.sharc_top.specs.{declared.status.Status.Status, declared.task.Task.Task, Refused.IsModeRefusal}
 use Rattle.sharc_top.specs.Running.{AreNumbers, Runs}
+use Rattle.sharc_top.specs.declared.status.Status.TheVariants as status
+use Rattle.sharc_top.specs.declared.task.Task.TheVariants as task
 
 -- what `check` writes; of modes that are accepted, the reads of locals that a sharing cast or `free` may have nulled
 pub data Checks (m : Assignment) : Status → List ℕ → Type 0 where

@@ -2,18 +2,12 @@
 use Rattle.std.proofs.Common.{◌≡◌, ℕ, ◌≤◌, List, length, Some, sym, ap, ◌∙◌, subst}
 use Rattle.sharc_mode.specs.Moded.{Assignment}
 use Rattle.sharc_code.specs.declared.code.Code.{Code}
-use Rattle.sharc_cli.specs.Commands.{commands}
-use Rattle.sharc_cli.specs.declared.command.Command.TheVariants.{Replay}
+use Rattle.sharc_cli.specs.{Commands.commands, declared.command.Command.TheVariants.Replay}
 use Rattle.sharc_recorded.specs.File.{FileView, IsFile, written}
 use Rattle.sharc_run.specs.declared.run.Ran.{Ran}
 use Rattle.sharc_sound.specs.Front.{IsFront}
-use Rattle.sharc_sound_laws.specs.Alike.{AreAlike}
-use Rattle.sharc_sound_laws.specs.AlikeLaws.{RunsAreAlike, CompiledAreAlike}
-use Rattle.sharc_top.specs.declared.status.Status.{Status}
-use Rattle.sharc_top.specs.Limits.{source_limit, recording_limit}
-use Rattle.sharc_top.specs.Recording.{Replays}
-use Rattle.sharc_top.specs.Reply.{IsReply}
-use Rattle.sharc_top.specs.Running.{status_of}
+use Rattle.sharc_sound_laws.specs.{Alike.AreAlike, AlikeLaws.{RunsAreAlike, CompiledAreAlike}}
+use Rattle.sharc_top.specs.{declared.status.Status.Status, Limits.{source_limit, recording_limit}, Recording.Replays, Reply.IsReply, Running.status_of}
 use Rattle.sharc_top_laws.specs.RecordLaws.{IsRecorded, IsRecording, RecordsAreOnly, IsReplaying, ReplaysAreOnly, SaysTheSame, ReplaysSayAgain}
 
 module _ (compiled : CompiledAreAlike) (runs : RunsAreAlike) where

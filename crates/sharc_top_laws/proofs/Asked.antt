@@ -4,16 +4,9 @@ use Rattle.std.specs.Io.KnownBytes.{Appends}
 use Rattle.sharc_mode.specs.Moded.{Assignment}
 use Rattle.sharc_mode_laws.specs.Rules.{MeetsRules}
 use Rattle.sharc_sound.specs.Front.{IsFront}
-use Rattle.sharc_top.specs.declared.status.Status.{Status}
+use Rattle.sharc_top.specs.{declared.status.Status.Status, declared.task.Task.Task, declared.ran.RunNumbers.RunNumbers, Answers.{Answers, faulty, program}, Reply.{Replies, IsReply, Replied}, Running.{Runs, not_run, ran}, Status.code_of, Verdict.{Checks, accepted, refused, Explains, explained, Does}}
 use Rattle.sharc_top.specs.declared.status.Status.TheVariants as status
-use Rattle.sharc_top.specs.declared.task.Task.{Task}
 use Rattle.sharc_top.specs.declared.task.Task.TheVariants as task
-use Rattle.sharc_top.specs.declared.ran.RunNumbers.{RunNumbers}
-use Rattle.sharc_top.specs.Answers.{Answers, faulty, program}
-use Rattle.sharc_top.specs.Reply.{Replies, IsReply, Replied}
-use Rattle.sharc_top.specs.Running.{Runs, not_run, ran}
-use Rattle.sharc_top.specs.Status.{code_of}
-use Rattle.sharc_top.specs.Verdict.{Checks, accepted, refused, Explains, explained, Does}
 use Rattle.sharc_top_laws.specs.Laws.{SourceLaws, IsAsked, IsAcceptance, IsExplanation, IsRunning}
 use Rattle.sharc_top_laws.proofs.Replying.{is_answer}
 

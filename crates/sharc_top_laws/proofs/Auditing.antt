@@ -2,17 +2,10 @@
 use Rattle.std.proofs.Common.{◌≡◌, ℕ, List, Option, Some, ap, ◌∙◌, subst}
 use Rattle.std.specs.Io.KnownBytes.{Appends}
 use Rattle.sharc_mode.specs.Moded.{Assignment}
-use Rattle.sharc_audit.specs.declared.audit.Verdict.{Verdict}
-use Rattle.sharc_audit.specs.declared.line.EventLine.{EventLine}
-use Rattle.sharc_audit.specs.Audited.{Audits}
-use Rattle.sharc_audit.specs.Texts.{verdict_line}
-use Rattle.sharc_top.specs.declared.status.Status.{Status}
-use Rattle.sharc_top.specs.EventFiles.{status_of}
-use Rattle.sharc_top.specs.Reply.{Replies, IsReply, Replied}
-use Rattle.sharc_top.specs.Status.{code_of}
+use Rattle.sharc_audit.specs.{declared.audit.Verdict.Verdict, declared.line.EventLine.EventLine, Audited.Audits, Texts.verdict_line}
+use Rattle.sharc_top.specs.{declared.status.Status.Status, EventFiles.status_of, Reply.{Replies, IsReply, Replied}, Status.code_of}
 use Rattle.sharc_top_laws.specs.AuditLaws.{IsAudited, IsVerdict}
-use Rattle.sharc_top_laws.proofs.Judged.{FileReplyLaws, file_only}
-use Rattle.sharc_top_laws.proofs.Replying.{is_file_reply}
+use Rattle.sharc_top_laws.proofs.{Judged.{FileReplyLaws, file_only}, Replying.is_file_reply}
 
 module _ (laws : FileReplyLaws) (words : List (List ℕ)) (input : List ℕ) (m : Assignment) (fuel : ℕ) (events : List EventLine) where
   pub audit_only : IsAudited words input m fuel events → (s : Status) (text : List ℕ) → IsReply words (Some input) s text → IsVerdict m fuel events s text

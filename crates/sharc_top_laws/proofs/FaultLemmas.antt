@@ -1,13 +1,8 @@
 -- The first fault of a program that is not typed is one.
-use Rattle.std.proofs.Common.{◌≡◌, inl, inr, ℕ, ◌≤◌, ◌==◌, false, ◌&&◌, ◌||◌, cond, List, [], ◌∷◌, refl, ap, sym, ◌∙◌, subst, arith, nat_lt, ltb-false, eq-eqb}
+use Rattle.std.proofs.{Common.{◌≡◌, inl, inr, ℕ, ◌≤◌, ◌==◌, false, ◌&&◌, ◌||◌, cond, List, [], ◌∷◌, refl, ap, sym, ◌∙◌, subst, arith, nat_lt, ltb-false, eq-eqb}, lemmas.Bool.{or_parts, and_cases, false≢true}}
 use Rattle.std.specs.List.{AllByRecursion}
-use Rattle.std.proofs.lemmas.Bool.{or_parts, and_cases, false≢true}
-use Rattle.sharc_tree.specs.declared.token.FaultAt.{FaultAt}
-use Rattle.sharc_tree.specs.declared.token.Tokens.{Tokens}
-use Rattle.sharc_names.specs.declared.fault.FaultCode.{FaultCode}
-use Rattle.sharc_names.specs.declared.fault.FaultCode.TheVariants.{UnknownName, DefinedTwice, TypeMismatch, ArgumentCount, NoLvalue, TypeNotAllowed, BadForm, NoMain, LimitPassed}
-use Rattle.sharc_names.specs.declared.fault.Fault.{Fault}
-use Rattle.sharc_names.specs.Notes.{digit, is_before, IsAmong, IsFirst}
+use Rattle.sharc_tree.specs.{declared.token.FaultAt.FaultAt, declared.token.Tokens.Tokens}
+use Rattle.sharc_names.specs.{declared.fault.FaultCode.FaultCode, declared.fault.FaultCode.TheVariants.{UnknownName, DefinedTwice, TypeMismatch, ArgumentCount, NoLvalue, TypeNotAllowed, BadForm, NoMain, LimitPassed}, declared.fault.Fault.Fault, Notes.{digit, is_before, IsAmong, IsFirst}}
 use Rattle.sharc_ctype.specs.Typings.{IsToldAt}
 
 -- the code with this digit

@@ -5,18 +5,11 @@ use Rattle.sharc_mode.specs.Moded.{Assignment}
 use Rattle.sharc_mode_laws.specs.Rules.{MeetsRules}
 use Rattle.sharc_check.specs.Laws.{CheckLaws}
 use Rattle.sharc_suggest.specs.Laws.{SuggestLaws}
-use Rattle.sharc_audit.specs.declared.line.EventLine.{EventLine}
-use Rattle.sharc_audit.specs.Audited.{OneVerdict}
-use Rattle.sharc_audit.specs.FileLaws.{FileLaws}
-use Rattle.sharc_audit.specs.Grammar.{text_lines, IsFirstBad, HasMany}
-use Rattle.sharc_audit.specs.Texts.{verdict_line, bad_line}
+use Rattle.sharc_audit.specs.{declared.line.EventLine.EventLine, Audited.OneVerdict, FileLaws.FileLaws, Grammar.{text_lines, IsFirstBad, HasMany}, Texts.{verdict_line, bad_line}}
 use Rattle.sharc_report.specs.Refusals.{refusal_line}
 use Rattle.sharc_sound.specs.Front.{IsFront}
-use Rattle.sharc_top.specs.declared.status.Status.{Status}
-use Rattle.sharc_top.specs.EventFiles.{status_of, Judges, not_judged, judged, JudgesSource, faulty_source, of_program, IsFewIn, FileReplies, long_file, no_file, many_events, long_source, source_judged}
-use Rattle.sharc_top.specs.Limits.{source_limit, file_limit}
-use Rattle.sharc_top_laws.specs.Laws.{WarningsAreOne, SourceLaws}
-use Rattle.sharc_top_laws.specs.AuditLaws.{IsVerdict}
+use Rattle.sharc_top.specs.{declared.status.Status.Status, EventFiles.{status_of, Judges, not_judged, judged, JudgesSource, faulty_source, of_program, IsFewIn, FileReplies, long_file, no_file, many_events, long_source, source_judged}, Limits.{source_limit, file_limit}}
+use Rattle.sharc_top_laws.specs.{Laws.{WarningsAreOne, SourceLaws}, AuditLaws.IsVerdict}
 use Rattle.sharc_top_laws.proofs.Verdicts.{one_refusal}
 
 pub record FileReplyLaws : Type 0 where

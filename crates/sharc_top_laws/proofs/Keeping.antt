@@ -2,25 +2,14 @@
 use Rattle.std.proofs.Common.{◌≡◌, ℕ, List, Option, Some, None, refl, ◌∙◌, ap}
 use Rattle.sharc_mode.specs.Moded.{Assignment}
 use Rattle.sharc_mode_laws.specs.Rules.{MeetsRules}
-use Rattle.sharc_code.specs.declared.code.Code.{Code}
-use Rattle.sharc_code.specs.declared.shape.Shape.{Shape}
-use Rattle.sharc_code.specs.Layout.{Fits}
-use Rattle.sharc_code.specs.Ranges.{NumbersFit}
-use Rattle.sharc_code.specs.Runs.{Turn}
-use Rattle.sharc_code.specs.Whole.{CheckedRun, place_after}
+use Rattle.sharc_code.specs.{declared.code.Code.Code, declared.shape.Shape.Shape, Layout.Fits, Ranges.NumbersFit, Runs.Turn, Whole.{CheckedRun, place_after}}
 use Rattle.sharc_history_laws.specs.History.{history_of}
-use Rattle.sharc_run.specs.declared.run.Ran.{Ran}
-use Rattle.sharc_run.specs.Run.{IsEnd}
+use Rattle.sharc_run.specs.{declared.run.Ran.Ran, Run.IsEnd}
 use Rattle.sharc_build.specs.Built.{IsBuilt}
-use Rattle.sharc_sound.specs.Compiled.{IsCompiled}
-use Rattle.sharc_sound.specs.Front.{IsFront}
-use Rattle.sharc_sound_laws.specs.BuiltSound.{BuiltIsSound}
-use Rattle.sharc_sound_laws.specs.Sound.{KeepsTo}
-use Rattle.sharc_top.specs.declared.ran.RunNumbers.{RunNumbers}
-use Rattle.sharc_top.specs.Running.{status_of, IsRunBy}
-use Rattle.sharc_top_laws.specs.Laws.{RunsAreOnly}
-use Rattle.sharc_top_laws.specs.RecordLaws.{RecordLaws}
-use Rattle.sharc_top_laws.specs.Kept.{IsKept, RunsKeep, ReplaysKeep, RecordsKeep, KeptLaws}
+use Rattle.sharc_sound.specs.{Compiled.IsCompiled, Front.IsFront}
+use Rattle.sharc_sound_laws.specs.{BuiltSound.BuiltIsSound, Sound.KeepsTo}
+use Rattle.sharc_top.specs.{declared.ran.RunNumbers.RunNumbers, Running.{status_of, IsRunBy}}
+use Rattle.sharc_top_laws.specs.{Laws.RunsAreOnly, RecordLaws.RecordLaws, Kept.{IsKept, RunsKeep, ReplaysKeep, RecordsKeep, KeptLaws}}
 
 -- the turns of a run that a seed draws, or of some run
 record HasTurns (code : Code) (s : Shape) (limit : ℕ) (ran : Ran) : Type 0 where

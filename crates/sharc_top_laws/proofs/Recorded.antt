@@ -1,43 +1,29 @@
 -- Which replies `record` and `replay` have where the source is a program with accepted modes.
-use Rattle.std.proofs.Common.{◌≡◌, ℕ, ◌<◌, ◌≤◌, Bool, true, false, List, length, Option, Some, None, is_some, refl, ap, sym, ◌∙◌, subst, arith}
-use Rattle.std.proofs.lemmas.Bool.{false≢true}
-use Rattle.sharc_tree.specs.declared.token.Tokens.{Tokens}
+use Rattle.std.proofs.{Common.{◌≡◌, ℕ, ◌<◌, ◌≤◌, Bool, true, false, List, length, Option, Some, None, is_some, refl, ap, sym, ◌∙◌, subst}, lemmas.Bool.false≢true}
 use Rattle.sharc_mode.specs.Moded.{Assignment}
 use Rattle.sharc_mode_laws.specs.Rules.{MeetsRules}
-use Rattle.sharc_code.specs.declared.code.Code.{Code}
-use Rattle.sharc_code.specs.declared.shape.Shape.{Shape}
-use Rattle.sharc_code.specs.Layout.{Fits}
-use Rattle.sharc_cli.specs.Bounds.{AreWithin}
-use Rattle.sharc_cli.specs.Commands.{commands}
-use Rattle.sharc_cli.specs.declared.command.Command.{Command}
-use Rattle.sharc_cli.specs.declared.command.Command.TheVariants.{Load, Record, Replay, Audit}
-use Rattle.sharc_recorded.specs.File.{FileView, IsFile, HoldsNoSchedule, lines_in, AreLinesOf, IsFault, written}
-use Rattle.sharc_recorded.specs.Laws.{FileLaws}
-use Rattle.sharc_replay.specs.Laws.{ReplayLaws}
-use Rattle.sharc_replay.specs.Run.{file_of, IsScheduledRun}
+use Rattle.sharc_code.specs.{declared.code.Code.Code, declared.shape.Shape.Shape, Layout.Fits}
+use Rattle.sharc_cli.specs.{Bounds.AreWithin, Commands.commands, declared.command.Command.Command, declared.command.Command.TheVariants.{Load, Record, Replay, Audit}}
+use Rattle.sharc_recorded.specs.{File.{FileView, IsFile, HoldsNoSchedule, written}, Laws.FileLaws}
+use Rattle.sharc_replay.specs.{Laws.ReplayLaws, Run.{file_of, IsScheduledRun}}
 use Rattle.sharc_run.specs.declared.run.Ran.{Ran}
 use Rattle.sharc_sound.specs.Front.{IsFront}
 use Rattle.sharc_source_laws.specs.Laws.{ProgramsHoldNoSchedule}
-use Rattle.sharc_top.specs.declared.status.Status.{Status}
-use Rattle.sharc_top.specs.declared.task.Task.{Task}
-use Rattle.sharc_top.specs.Limits.{source_limit, recording_limit}
-use Rattle.sharc_top.specs.Recording.{Records, Replays, GivesRun, not_made, made, GivesSource, at_fault, by_program, RecordReplies, long_input, ReplayReplies, long_recording, no_recording, long_source_in}
-use Rattle.sharc_top.specs.Recording.{recorded as was_recorded, replayed as was_replayed}
-use Rattle.sharc_top.specs.Reply.{task_in, Replies, usage, too_long, answered, loaded, recorded, replayed, audited, IsReply}
-use Rattle.sharc_top_laws.specs.Laws.{SourceLaws}
-use Rattle.sharc_top_laws.specs.RecordLaws.{SaysAgain, IsReplayable, IsRecorded, IsRecording, IsReplayed, IsReplaying}
+use Rattle.sharc_top.specs.{declared.status.Status.Status, declared.task.Task.Task, Limits.{source_limit, recording_limit}, Recording.{Records, Replays, GivesRun, not_made, made, GivesSource, at_fault, by_program, RecordReplies, long_input, ReplayReplies, long_recording, no_recording, long_source_in, recorded as was_recorded, replayed as was_replayed}, Reply.{task_in, Replies, usage, too_long, answered, loaded, recorded, replayed, audited, IsReply}}
+use Rattle.sharc_top_laws.specs.{Laws.SourceLaws, RecordLaws.{IsReplayable, IsRecorded, IsRecording, IsReplayed, IsReplaying}}
+use Rattle.sharc_lemmas.proofs.Numbers.{not_long}
 
 -- ---- the words
-command_or_none : (o : Option Command) (c : Command) → o ≡ Some c → o ≡ None → ⊥
+pub command_or_none : (o : Option Command) (c : Command) → o ≡ Some c → o ≡ None → ⊥
 command_or_none o c is not = cc
 
-task_or_none : (o : Option Task) (t : Task) → o ≡ Some t → o ≡ None → ⊥
+pub task_or_none : (o : Option Task) (t : Task) → o ≡ Some t → o ≡ None → ⊥
 task_or_none o t is not = cc
 
-no_reader : (o : Option Task) → o ≡ None → is_some o ≡ true → ⊥
+pub no_reader : (o : Option Task) → o ≡ None → is_some o ≡ true → ⊥
 no_reader o none reads = false≢true (sym (ap is_some none) ∙ reads)
 
-same_command : (o : Option Command) (a b : Command) → o ≡ Some a → o ≡ Some b → a ≡ b
+pub same_command : (o : Option Command) (a b : Command) → o ≡ Some a → o ≡ Some b → a ≡ b
 same_command o a b is also = cc
 
 abbrev is_record : Command → Bool
@@ -62,9 +48,6 @@ limit_in _ = 0
 
 no_task : (o : Option Command) (c : Command) → o ≡ Some c → task_in (Some c) ≡ None → task_in o ≡ None
 no_task o c is none = ap task_in is ∙ none
-
-not_long : (most n : ℕ) → most < n → n ≤ most → ⊥
-not_long most n long short = omega (arith, long, short)
 
 -- a reply to the words of `record` is what `record` writes
 of_record : (words : List (List ℕ)) (input : List ℕ) (workers heap limit : ℕ) (s : Status) (text : List ℕ) → commands words ≡ Some (Record workers heap limit) → Replies words input s text → RecordReplies heap limit input s text

@@ -1,23 +1,14 @@
 -- The reply to words and an input is one.
-use Rattle.std.proofs.Common.{◌≡◌, ℕ, ◌<◌, ◌≤◌, Bool, true, false, List, length, Option, Some, None, is_some, refl, ap, sym, ◌∙◌, subst, arith}
-use Rattle.std.proofs.lemmas.Bool.{false≢true}
+use Rattle.std.proofs.{Common.{◌≡◌, ℕ, ◌<◌, ◌≤◌, Bool, true, false, List, length, Option, Some, None, refl, ap, sym, ◌∙◌, subst, arith}, lemmas.Bool.false≢true}
 use Rattle.sharc_mode.specs.Moded.{Assignment}
 use Rattle.sharc_check.specs.Laws.{CheckLaws}
 use Rattle.sharc_suggest.specs.Laws.{SuggestLaws}
-use Rattle.sharc_cli.specs.Commands.{commands}
-use Rattle.sharc_cli.specs.declared.command.Command.{Command}
-use Rattle.sharc_cli.specs.declared.command.Command.TheVariants.{Check, Explain, Run, Load, Record, Replay, Audit}
+use Rattle.sharc_cli.specs.{Commands.commands, declared.command.Command.Command, declared.command.Command.TheVariants.{Check, Explain, Run, Load, Record, Replay, Audit}}
 use Rattle.sharc_report.specs.Refusals.{refusal_line}
-use Rattle.sharc_top.specs.declared.status.Status.{Status}
-use Rattle.sharc_top.specs.declared.task.Task.{Task}
-use Rattle.sharc_top.specs.Answers.{Answers, faulty, program}
-use Rattle.sharc_top.specs.EventFiles.{FileReplies}
-use Rattle.sharc_top.specs.Limits.{source_limit}
-use Rattle.sharc_top.specs.Reply.{task_in, task_of, Replies, usage, too_long, answered, loaded, recorded, replayed, audited, IsReply}
-use Rattle.sharc_top.specs.Verdict.{Does}
+use Rattle.sharc_top.specs.{declared.status.Status.Status, declared.task.Task.Task, Answers.{Answers, faulty, program}, EventFiles.FileReplies, Limits.source_limit, Reply.{task_in, Replies, usage, too_long, answered, loaded, recorded, replayed, audited, IsReply}, Verdict.Does}
 use Rattle.sharc_top.specs.declared.task.Task.TheVariants as task
 use Rattle.sharc_top_laws.specs.Laws.{WarningsAreOne, SourceLaws, RunsNothing, MakesRun, AnswersAreOne}
-use Rattle.sharc_top_laws.proofs.Verdicts.{one_done}
+use Rattle.sharc_top_laws.proofs.{Verdicts.one_done, Recorded.{no_reader, same_command, command_or_none, task_or_none}}
 
 pub one_answer : WarningsAreOne → SourceLaws → CheckLaws → SuggestLaws → AnswersAreOne
 one_answer warnings sources checks suggests t nothing source s z text other (faulty x is) (faulty y also) = (refl, ap refusal_line (sources.fault source x y is also))
@@ -28,17 +19,8 @@ one_answer warnings sources checks suggests t nothing source s z text other (pro
 
 -- ---- the words
 
-command_or_none : (o : Option Command) (c : Command) → o ≡ Some c → o ≡ None → ⊥
-command_or_none o c is not = cc
-
 same_task : (o : Option Task) (a b : Task) → o ≡ Some a → o ≡ Some b → a ≡ b
 same_task o a b is also = cc
-
-task_or_none : (o : Option Task) (t : Task) → o ≡ Some t → o ≡ None → ⊥
-task_or_none o t is not = cc
-
-no_reader : (o : Option Task) → o ≡ None → is_some o ≡ true → ⊥
-no_reader o none reads = false≢true (sym (ap is_some none) ∙ reads)
 
 -- the words are no command that reads a source
 of_usage : (words : List (List ℕ)) → commands words ≡ None → task_in (commands words) ≡ None
@@ -55,9 +37,6 @@ of_record words workers heap limit is = ap task_in is
 
 of_replay : (words : List (List ℕ)) → commands words ≡ Some Replay → task_in (commands words) ≡ None
 of_replay words is = ap task_in is
-
-same_command : (o : Option Command) (a b : Command) → o ≡ Some a → o ≡ Some b → a ≡ b
-same_command o a b is also = cc
 
 abbrev is_load : Command → Bool
 is_load (Load number workers) = true

@@ -1,26 +1,15 @@
 -- A source is one program, or has one first fault.
 use Rattle.std.proofs.Common.{◌≡◌, ℕ, List, [], Result, Ok, Err, refl, ap, sym, ◌∙◌, subst}
-use Rattle.sharc_tree.specs.declared.token.FaultAt.{FaultAt}
-use Rattle.sharc_tree.specs.declared.token.Tokens.{Tokens}
-use Rattle.sharc_tree.specs.Low.{IsLow}
-use Rattle.sharc_tree.specs.Placed.{IsPlaced}
-use Rattle.sharc_tree.specs.Tree.{Program}
-use Rattle.sharc_names.specs.declared.fault.Fault.{Fault}
-use Rattle.sharc_names.specs.declared.fault.FaultCode.{FaultCode}
-use Rattle.sharc_names.specs.declared.fault.Named.{Named}
-use Rattle.sharc_names.specs.Notes.{faults, IsFirst}
-use Rattle.sharc_lex.specs.declared.fault.Fault.{Fault as LexerFault}
-use Rattle.sharc_lex.specs.Grammar.{reading}
-use Rattle.sharc_grammar.specs.declared.fault.GrammarFault.{GrammarFault}
-use Rattle.sharc_grammar.specs.Places.{Reads}
+use Rattle.sharc_tree.specs.{declared.token.FaultAt.FaultAt, declared.token.Tokens.Tokens, Low.IsLow, Placed.IsPlaced, Tree.Program}
+use Rattle.sharc_names.specs.{declared.fault.Fault.Fault, declared.fault.FaultCode.FaultCode, declared.fault.Named.Named, Notes.{faults, IsFirst}}
+use Rattle.sharc_lex.specs.{declared.fault.Fault.{Fault as LexerFault}, Grammar.reading}
+use Rattle.sharc_grammar.specs.{declared.fault.GrammarFault.GrammarFault, Places.Reads}
 use Rattle.sharc_parse.specs.Programs as parser
-use Rattle.sharc_ctype.specs.Items.{named_in, notes_about}
-use Rattle.sharc_ctype.specs.Resolved.{Resolution}
+use Rattle.sharc_ctype.specs.{Items.{named_in, notes_about}, Resolved.Resolution}
 use Rattle.sharc_ctype.specs.Typings as typing
 use Rattle.sharc_mode.specs.Moded.{Assignment}
 use Rattle.sharc_infer_laws.specs.Laws.{IsTypedAtTokens, LeastIsOne}
-use Rattle.sharc_report.specs.declared.refusal.SourceFault.{SourceFault}
-use Rattle.sharc_report.specs.declared.refusal.SourceFault.TheVariants.{Lexer, Parser, Typing}
+use Rattle.sharc_report.specs.{declared.refusal.SourceFault.SourceFault, declared.refusal.SourceFault.TheVariants.{Lexer, Parser, Typing}}
 use Rattle.sharc_sound.specs.Front.{IsTypedFrom, IsFront, IsMisread, IsMistyped, IsSourceFault}
 use Rattle.sharc_top_laws.proofs.FaultLemmas.{one_first, one_told}
 

@@ -1,19 +1,11 @@
 -- What a command writes for a program with its modes is one.
 use Rattle.std.proofs.Common.{◌≡◌, ℕ, List, ◌++◌, Option, Some, None, refl, ap, sym, ◌∙◌, subst}
-use Rattle.sharc_mode.specs.declared.error.Cast.{Cast}
-use Rattle.sharc_mode.specs.declared.error.ModeError.{ModeError}
-use Rattle.sharc_mode.specs.declared.error.Warning.{Warning}
-use Rattle.sharc_mode.specs.Moded.{Assignment}
+use Rattle.sharc_mode.specs.{declared.error.Cast.Cast, declared.error.ModeError.ModeError, declared.error.Warning.Warning, Moded.Assignment}
 use Rattle.sharc_check.specs.Laws.{CheckLaws}
-use Rattle.sharc_suggest.specs.Casts.{AreSuggested, cast_for}
-use Rattle.sharc_suggest.specs.Laws.{SuggestLaws}
-use Rattle.sharc_report.specs.Explanations.{explain_text}
-use Rattle.sharc_report.specs.Verdicts.{accepted_text, check_text}
-use Rattle.sharc_top.specs.declared.status.Status.{Status}
-use Rattle.sharc_top.specs.declared.task.Task.{Task}
+use Rattle.sharc_suggest.specs.{Casts.{AreSuggested, cast_for}, Laws.SuggestLaws}
+use Rattle.sharc_report.specs.{Explanations.explain_text, Verdicts.{accepted_text, check_text}}
+use Rattle.sharc_top.specs.{declared.status.Status.Status, declared.task.Task.Task, Refused.IsModeRefusal, Verdict.{Checks, accepted, refused, Explains, explained, Does}}
 use Rattle.sharc_top.specs.declared.task.Task.TheVariants as task
-use Rattle.sharc_top.specs.Refused.{IsModeRefusal}
-use Rattle.sharc_top.specs.Verdict.{Checks, accepted, refused, Explains, explained, Does}
 use Rattle.sharc_top_laws.specs.Laws.{WarningsAreOne, RunsNothing}
 
 one_answer : (laws : SuggestLaws) (m : Assignment) (errors : List ModeError) (x y : List (Option Cast)) → AreSuggested m errors x → AreSuggested m errors y → x ≡ y

@@ -1,20 +1,13 @@
 -- Which reply `audit` has to an event file whose source is a program with accepted modes: that of its verdict, and no other.
-use Rattle.std.specs.Prelude.{◌≡◌, ℕ, ◌≤◌, List, length, Option, Some}
-use Rattle.std.specs.Io.KnownBytes.{Appends}
+use Rattle.std.specs.{Prelude.{◌≡◌, ℕ, ◌≤◌, List, length, Option, Some}, Io.KnownBytes.Appends}
 use Rattle.sharc_mode.specs.Moded.{Assignment}
 use Rattle.sharc_mode_laws.specs.Rules.{MeetsRules}
-use Rattle.sharc_audit.specs.declared.audit.Verdict.{Verdict}
-use Rattle.sharc_audit.specs.declared.line.EventLine.{EventLine}
-use Rattle.sharc_audit.specs.Audited.{Audits}
+use Rattle.sharc_audit.specs.{declared.audit.Verdict.Verdict, declared.line.EventLine.EventLine, Audited.Audits}
 use Rattle.sharc_audit.specs.Texts.{verdict_line}
-use Rattle.sharc_cli.specs.Commands.{commands}
-use Rattle.sharc_cli.specs.declared.command.Command.TheVariants.{Audit}
+use Rattle.sharc_cli.specs.{Commands.commands, declared.command.Command.TheVariants.Audit}
 use Rattle.sharc_sound.specs.Front.{IsFront}
-use Rattle.sharc_top.specs.declared.status.Status.{Status}
-use Rattle.sharc_top.specs.EventFiles.{IsFewIn, status_of}
-use Rattle.sharc_top.specs.Limits.{source_limit}
-use Rattle.sharc_top.specs.Reply.{IsReply, Replied}
-use Rattle.sharc_top.specs.Status.{code_of}
+use Rattle.sharc_top.specs.{declared.status.Status.Status, EventFiles.{IsFewIn, status_of}, Limits.source_limit}
+use Rattle.sharc_top.specs.{Reply.{IsReply, Replied}, Status.code_of}
 
 -- The words are those of `audit`; the input is an event file within the limits, and its source this program with these modes, which are accepted.
 pub record IsAudited (words : List (List ℕ)) (input : List ℕ) (m : Assignment) (fuel : ℕ) (events : List EventLine) : Type 0 where

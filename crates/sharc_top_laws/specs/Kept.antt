@@ -2,22 +2,16 @@
 use Rattle.std.specs.Prelude.{◌≡◌, ℕ, List, Some}
 use Rattle.sharc_mode.specs.Moded.{Assignment}
 use Rattle.sharc_mode_laws.specs.Rules.{MeetsRules}
-use Rattle.sharc_code.specs.declared.code.Code.{Code}
-use Rattle.sharc_code.specs.declared.shape.Shape.{Shape}
-use Rattle.sharc_code.specs.Runs.{Turn}
+use Rattle.sharc_code.specs.{declared.code.Code.Code, declared.shape.Shape.Shape, Runs.Turn}
 use Rattle.sharc_code.specs.Whole.{CheckedRun, place_after}
 use Rattle.sharc_history_laws.specs.History.{history_of}
-use Rattle.sharc_run.specs.declared.run.Ran.{Ran}
-use Rattle.sharc_run.specs.Run.{IsEnd}
+use Rattle.sharc_run.specs.{declared.run.Ran.Ran, Run.IsEnd}
 use Rattle.sharc_sound.specs.Compiled.{IsCompiled}
 use Rattle.sharc_sound_laws.specs.Sound.{KeepsTo}
-use Rattle.sharc_top.specs.declared.ran.RunNumbers.{RunNumbers}
-use Rattle.sharc_top.specs.declared.status.Status.{Status}
-use Rattle.sharc_top.specs.declared.task.Task.TheVariants as task
-use Rattle.sharc_top.specs.Reply.{IsReply}
+use Rattle.sharc_top.specs.{declared.ran.RunNumbers.RunNumbers, declared.status.Status.Status, Reply.IsReply}
 use Rattle.sharc_top.specs.Running.{status_of}
-use Rattle.sharc_top_laws.specs.Laws.{IsAsked}
-use Rattle.sharc_top_laws.specs.RecordLaws.{IsRecorded, IsReplayed}
+use Rattle.sharc_top.specs.declared.task.Task.TheVariants as task
+use Rattle.sharc_top_laws.specs.{Laws.IsAsked, RecordLaws.{IsRecorded, IsReplayed}}
 use Rattle.sharc_recorded.specs.File.{FileView}
 
 -- this is the end of an interleaving of the code of the program, with a heap of so many granules, whose source events are a run of the source that keeps the modes

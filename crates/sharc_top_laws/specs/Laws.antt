@@ -1,32 +1,22 @@
 -- What is one: the warnings of a program, what a source is, and the reply, where nothing is run; and which reply it is where the source is a
 -- program.
-use Rattle.std.specs.Prelude.{◌≡◌, ℕ, ◌≤◌, List, ◌++◌, length, Option, Some, None}
-use Rattle.std.specs.Io.KnownBytes.{Appends}
+use Rattle.std.specs.{Prelude.{◌≡◌, ℕ, ◌≤◌, List, ◌++◌, length, Option, Some, None}, Io.KnownBytes.Appends}
 use Rattle.sharc_ctype.specs.Resolved.{Resolution}
-use Rattle.sharc_mode.specs.declared.error.Warning.{Warning}
-use Rattle.sharc_mode.specs.Moded.{Assignment}
+use Rattle.sharc_mode.specs.{declared.error.Warning.Warning, Moded.Assignment}
 use Rattle.sharc_mode_laws.specs.Rules.{MeetsRules}
 use Rattle.sharc_live.specs.Uses.{AreWarnings}
-use Rattle.sharc_code.specs.declared.code.Code.{Code}
-use Rattle.sharc_code.specs.Ranges.{NumbersFit}
-use Rattle.sharc_cli.specs.Commands.{commands}
-use Rattle.sharc_cli.specs.declared.command.Command.{Command}
+use Rattle.sharc_code.specs.{declared.code.Code.Code, Ranges.NumbersFit}
+use Rattle.sharc_cli.specs.{Commands.commands, declared.command.Command.Command}
 use Rattle.sharc_cli.specs.declared.command.Command.TheVariants as command
-use Rattle.sharc_report.specs.Explanations.{explain_text}
-use Rattle.sharc_report.specs.Verdicts.{accepted_text}
+use Rattle.sharc_report.specs.{Explanations.explain_text, Verdicts.accepted_text}
 use Rattle.sharc_report.specs.declared.refusal.SourceFault.{SourceFault}
 use Rattle.sharc_run.specs.declared.run.Ran.{Ran}
-use Rattle.sharc_sound.specs.Compiled.{IsCompiled}
-use Rattle.sharc_sound.specs.Front.{IsFront, IsSourceFault}
-use Rattle.sharc_top.specs.declared.ran.RunNumbers.{RunNumbers}
-use Rattle.sharc_top.specs.declared.status.Status.{Status}
-use Rattle.sharc_top.specs.declared.status.Status.TheVariants as status
-use Rattle.sharc_top.specs.declared.task.Task.{Task}
-use Rattle.sharc_top.specs.declared.task.Task.TheVariants as task
-use Rattle.sharc_top.specs.Limits.{source_limit}
-use Rattle.sharc_top.specs.Answers.{Answers}
-use Rattle.sharc_top.specs.Reply.{task_in, Replies, IsReply, Replied}
+use Rattle.sharc_sound.specs.{Compiled.IsCompiled, Front.{IsFront, IsSourceFault}}
+use Rattle.sharc_top.specs.{declared.ran.RunNumbers.RunNumbers, declared.status.Status.Status, declared.task.Task.Task}
+use Rattle.sharc_top.specs.{Limits.source_limit, Answers.Answers, Reply.{task_in, Replies, IsReply, Replied}}
 use Rattle.sharc_top.specs.Running.{status_of, IsRun}
+use Rattle.sharc_top.specs.declared.status.Status.TheVariants as status
+use Rattle.sharc_top.specs.declared.task.Task.TheVariants as task
 
 abbrev pub WarningsAreOne : Type 0
 WarningsAreOne = (r : Resolution) (a b : List Warning) → AreWarnings r a → AreWarnings r b → a ≡ b

@@ -3,19 +3,13 @@
 use Rattle.std.specs.Prelude.{◌≡◌, ℕ, ◌≤◌, List, length, Some}
 use Rattle.sharc_mode.specs.Moded.{Assignment}
 use Rattle.sharc_mode_laws.specs.Rules.{MeetsRules}
-use Rattle.sharc_code.specs.declared.code.Code.{Code}
-use Rattle.sharc_cli.specs.Commands.{commands}
-use Rattle.sharc_cli.specs.declared.command.Command.TheVariants.{Record, Replay}
+use Rattle.sharc_code.specs.{declared.code.Code.Code, Ranges.NumbersFit}
+use Rattle.sharc_cli.specs.{Commands.commands, declared.command.Command.TheVariants.{Record, Replay}}
 use Rattle.sharc_recorded.specs.File.{FileView, IsFile, written}
 use Rattle.sharc_run.specs.declared.run.Ran.{Ran}
-use Rattle.sharc_code.specs.Ranges.{NumbersFit}
-use Rattle.sharc_sound.specs.Compiled.{IsCompiled}
-use Rattle.sharc_sound.specs.Front.{IsFront}
-use Rattle.sharc_top.specs.declared.status.Status.{Status}
-use Rattle.sharc_top.specs.Limits.{source_limit, recording_limit}
-use Rattle.sharc_top.specs.Recording.{Records, Replays}
-use Rattle.sharc_top.specs.Reply.{IsReply}
-use Rattle.sharc_top.specs.Running.{status_of}
+use Rattle.sharc_sound.specs.{Compiled.IsCompiled, Front.IsFront}
+use Rattle.sharc_top.specs.{declared.status.Status.Status, Limits.{source_limit, recording_limit}}
+use Rattle.sharc_top.specs.{Recording.{Records, Replays}, Reply.IsReply, Running.status_of}
 
 -- ---- `record`
 

@@ -1,11 +1,9 @@
 -- What is written is an event file of the run's first events, and audit answers that they obey.
 use Rattle.std.proofs.Common.{◌≡◌, ℕ, ◌≤◌, List, ◌++◌, length, refl, ap, sym, subst, ◌∙◌, append_assoc}
-use Rattle.std.specs.Prelude.{codes, decimal}
-use Rattle.std.specs.Io.KnownBytes.{Appends}
+use Rattle.std.specs.{Prelude.{codes, decimal}, Io.KnownBytes.Appends}
 use Rattle.sharc_mode.specs.Moded.{Assignment}
 use Rattle.sharc_audit.specs.declared.audit.Verdict.TheVariants as verdict
-use Rattle.sharc_audit.specs.declared.line.EventLine.{EventLine}
-use Rattle.sharc_audit.specs.Grammar.{IsEventFile, text_lines}
+use Rattle.sharc_audit.specs.{declared.line.EventLine.EventLine, Grammar.{IsEventFile, text_lines}}
 use Rattle.sharc_sound.specs.Front.{IsFront}
 use Rattle.sharc_source_laws.specs.Laws.{HoldsNoEvents, ProgramsHoldNoEvents}
 use Rattle.sharc_top_laws.specs.AuditLaws.{AuditLaws, IsAudited}

@@ -1,32 +1,17 @@
 -- The event file of a run of a program never ends before an event that is at fault.
-use Rattle.std.proofs.Common.{◌≡◌, ℕ, zero, suc, List, [], ◌∷◌, length, map, take, drop, refl, ap, sym, subst, ◌∙◌}
-use Rattle.std.proofs.lemmas.List.{take-append-drop}
+use Rattle.std.proofs.{Common.{◌≡◌, ℕ, List, [], ◌∷◌, length, map, take, drop, ap, sym, subst, ◌∙◌}, lemmas.List.take-append-drop}
 use Rattle.sharc_tree.specs.declared.event.SourceEvent.{SourceEvent}
 use Rattle.sharc_mode.specs.Moded.{Assignment}
-use Rattle.sharc_meaning.specs.Laws.{RunLaws}
-use Rattle.sharc_meaning.specs.Obeys.{Obeys, until_return}
-use Rattle.sharc_meaning.specs.Runs.{SourceRun}
+use Rattle.sharc_meaning.specs.{Laws.RunLaws, Obeys.{Obeys, until_return}, Runs.SourceRun}
 use Rattle.sharc_code.specs.declared.code.Code.{Code}
-use Rattle.sharc_audit.specs.declared.line.EventLine.{EventLine}
-use Rattle.sharc_audit.specs.Lines.{AreLines}
-use Rattle.sharc_audit.specs.Running.{RunsNeverFail}
+use Rattle.sharc_audit.specs.{declared.line.EventLine.EventLine, Lines.AreLines, Running.RunsNeverFail}
 use Rattle.sharc_build.specs.Laws.{FrontsAreTyped}
-use Rattle.sharc_sound_laws.specs.BuiltSound.{BuiltIsSound}
-use Rattle.sharc_event_file.specs.declared.cut.Cut.{Cut}
-use Rattle.sharc_event_file.specs.declared.cut.Cut.TheVariants.{Refused}
-use Rattle.sharc_event_file.specs.Cut.{IsEnd}
-use Rattle.sharc_event_file.specs.Laws.{LinesAreOfSources}
-use Rattle.sharc_event_file.specs.Writing.{AreLinesOf}
-use Rattle.sharc_said.specs.declared.event.Event.{Event}
-use Rattle.sharc_said.specs.Told.{told, told_of_event}
-use Rattle.sharc_sound_laws.specs.Sound.{KeepsTo}
+use Rattle.sharc_sound_laws.specs.{BuiltSound.BuiltIsSound, Sound.KeepsTo}
+use Rattle.sharc_event_file.specs.{declared.cut.Cut.Cut, declared.cut.Cut.TheVariants.Refused, Cut.IsEnd, Laws.LinesAreOfSources, Writing.AreLinesOf}
+use Rattle.sharc_said.specs.{declared.event.Event.Event, Told.{told, told_of_event}}
 use Rattle.sharc_traced.specs.Replies.{history}
 use Rattle.sharc_trace_laws.specs.Laws.{NoneIsAtFault}
-
-map_take : {A B : Type 0} (f : A → B) (n : ℕ) (xs : List A) → map f (take n xs) ≡ take n (map f xs)
-map_take f zero xs = refl
-map_take f (suc n) [] = refl
-map_take f (suc n) (x ∷ xs) = ap (λ z. f x ∷ z) (map_take f n xs)
+use Rattle.sharc_lemmas.proofs.Lists.{map_take}
 
 module _ (runs : RunLaws) (never : RunsNeverFail) (lines_are : LinesAreOfSources) (m : Assignment) (code : Code) where
   -- the first events of a run that keeps to the program

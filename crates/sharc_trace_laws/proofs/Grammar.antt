@@ -1,27 +1,15 @@
 -- The text of an event is a line of the grammar of event files.
-use Rattle.std.proofs.Common.{◌≡◌, inl, inr, ℕ, zero, suc, ◌≤◌, ◌^◌, true, List, ◌∷◌, ◌++◌, Some, refl, ap, sym, subst, ◌∙◌, arith}
-use Rattle.std.specs.Prelude.{ℤ, pos, negsuc, decimal, codes, FitsSigned}
-use Rattle.std.specs.Fmt.{signed_decimal}
-use Rattle.std.specs.Int.{w64}
-use Rattle.std.proofs.lemmas.Bool.{lt-ltb}
-use Rattle.std.proofs.lemmas.Fmt.{decimal_digit}
+use Rattle.std.proofs.{Common.{◌≡◌, inl, inr, ℕ, zero, suc, ◌≤◌, ◌^◌, true, List, ◌∷◌, ◌++◌, Some, refl, ap, sym, subst, ◌∙◌, arith}, lemmas.Bool.lt-ltb, lemmas.Fmt.decimal_digit}
+use Rattle.std.specs.{Prelude.{ℤ, pos, negsuc, decimal, codes, FitsSigned}, Fmt.signed_decimal, Int.w64}
 use Rattle.sharc_meaning.specs.Arithmetic.{is_held_by}
 use Rattle.sharc_ctype.specs.Resolved.{Resolution, function_at}
 use Rattle.sharc_code.specs.Says.{reference}
-use Rattle.sharc_audit.specs.declared.line.EventLine.{EventLine}
-use Rattle.sharc_audit.specs.declared.line.LineAct.{LineAct}
+use Rattle.sharc_audit.specs.{declared.line.EventLine.EventLine, declared.line.LineAct.LineAct, Grammar.{IsCell, IsPair, IsReference, IsValue, IsThread, IsAct, IsEventLine, thread_most}, Lines.spawned_by}
 use Rattle.sharc_audit.specs.declared.line.LineAct.TheVariants as line
-use Rattle.sharc_audit.specs.Grammar.{IsCell, IsPair, IsReference, IsValue, IsThread, IsAct, IsEventLine, thread_most}
-use Rattle.sharc_audit.specs.Lines.{spawned_by}
-use Rattle.sharc_said.specs.declared.cells.Where.{Where}
+use Rattle.sharc_said.specs.{declared.cells.Where.Where, declared.event.Deed.Deed, declared.event.Event.Event, declared.event.Reference.Reference, declared.event.Value.Value, Told.{at, numbered, valued, shown}}
 use Rattle.sharc_said.specs.declared.cells.Where.TheVariants as places
-use Rattle.sharc_said.specs.declared.event.Deed.{Deed}
 use Rattle.sharc_said.specs.declared.event.Deed.TheVariants as deeds
-use Rattle.sharc_said.specs.declared.event.Event.{Event}
-use Rattle.sharc_said.specs.declared.event.Reference.{Reference}
-use Rattle.sharc_said.specs.declared.event.Value.{Value}
 use Rattle.sharc_said.specs.declared.event.Value.TheVariants as values
-use Rattle.sharc_said.specs.Told.{at, numbered, valued, shown}
 use Rattle.sharc_event_file.specs.Writing.{IsFitCell, IsFitReference, IsFitValue, IsFunctionOf, Writable, line_of, IsLineOf, cell_text, reference_text, value_text, deed_text, event_text}
 use Rattle.sharc_trace_laws.proofs.Pieces.{null_text, pair_text, name_text}
 

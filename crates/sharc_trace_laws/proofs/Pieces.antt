@@ -1,22 +1,11 @@
 -- Parts of lines: none has a newline, and none is long.
-use Rattle.std.proofs.Common.{◌≡◌, inl, inr, ℕ, suc, ◌+◌, ◌<◌, ◌≤◌, ◌^◌, ◌||◌, Bool, true, false, List, [], ◌∷◌, ◌++◌, length, length-append, refl, ap, sym, subst, ◌∙◌, arith, rules, eq-eqb, ne_eqb}
-use Rattle.std.specs.Prelude.{ℤ, pos, negsuc, nat_eq, decimal, codes, FitsSigned, if◌then◌else◌}
-use Rattle.std.specs.Fmt.{signed_decimal}
-use Rattle.std.specs.Int.{w64}
-use Rattle.std.specs.List.{list_any, list_all}
-use Rattle.std.specs.Str.{all_ascii_digits}
-use Rattle.std.specs.Char.{is_ascii_digit}
-use Rattle.std.proofs.lemmas.Bool.{or_from, or_parts, and_parts, leb-true, eqb-true}
-use Rattle.std.proofs.lemmas.Fmt.{digits_decimal, length-decimal-le}
-use Rattle.std.proofs.lemmas.Str.Parse.{IsNumeralModel, numerals_by_fold}
+use Rattle.std.proofs.{Common.{◌≡◌, inl, inr, ℕ, suc, ◌+◌, ◌<◌, ◌≤◌, ◌^◌, ◌||◌, Bool, true, false, List, [], ◌∷◌, ◌++◌, length, length-append, refl, ap, sym, subst, ◌∙◌, arith, rules, eq-eqb, ne_eqb}, lemmas.Bool.{or_from, or_parts, and_parts, leb-true, eqb-true}, lemmas.Fmt.{digits_decimal, length-decimal-le}, lemmas.Str.Parse.{IsNumeralModel, numerals_by_fold}}
+use Rattle.std.specs.{Prelude.{ℤ, pos, negsuc, nat_eq, decimal, codes, FitsSigned, if◌then◌else◌}, Fmt.signed_decimal, Int.w64, List.{list_any, list_all}, Str.all_ascii_digits, Char.is_ascii_digit}
 use Rattle.sharc_ctype.specs.Resolved.{Resolution, function_at}
 use Rattle.sharc_audit.specs.Grammar.{read_on, is_digit, is_letter, IsName}
-use Rattle.sharc_said.specs.declared.cells.Where.{Where}
+use Rattle.sharc_said.specs.{declared.cells.Where.Where, declared.event.Deed.Deed, declared.event.Reference.Reference, declared.event.Value.Value}
 use Rattle.sharc_said.specs.declared.cells.Where.TheVariants as places
-use Rattle.sharc_said.specs.declared.event.Deed.{Deed}
 use Rattle.sharc_said.specs.declared.event.Deed.TheVariants as deeds
-use Rattle.sharc_said.specs.declared.event.Reference.{Reference}
-use Rattle.sharc_said.specs.declared.event.Value.{Value}
 use Rattle.sharc_said.specs.declared.event.Value.TheVariants as values
 use Rattle.sharc_event_file.specs.Writing.{IsFitCell, IsFitReference, IsFitPair, IsFitValue, IsFunctionOf, Writable, cell_text, reference_text, value_text, name_in, deed_text}
 

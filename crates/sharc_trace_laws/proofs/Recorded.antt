@@ -1,42 +1,28 @@
 -- The event file of what `record` wrote is of the events of the recorded run.
-use Rattle.std.proofs.Common.{◌≡◌, ℕ, ◌<◌, ◌≤◌, List, [], length, map, Some, None, ap, sym, subst, ◌∙◌, arith}
+use Rattle.std.proofs.Common.{◌≡◌, ℕ, ◌<◌, ◌≤◌, List, [], length, map, Some, None, ap, sym, subst, ◌∙◌}
 use Rattle.std.specs.Prelude.{reverse}
 use Rattle.sharc_tree.specs.declared.event.SourceEvent.{SourceEvent}
 use Rattle.sharc_mode.specs.Moded.{Assignment}
 use Rattle.sharc_mode_laws.specs.Rules.{MeetsRules}
-use Rattle.sharc_code.specs.declared.code.Code.{Code}
-use Rattle.sharc_code.specs.declared.shape.Shape.{Shape}
-use Rattle.sharc_code.specs.Layout.{Fits}
-use Rattle.sharc_code.specs.Runs.{Said, Turn}
-use Rattle.sharc_sound_laws.specs.Alike.{AreAlike}
-use Rattle.sharc_sound_laws.specs.AlikeLaws.{CompiledAreAlike, HistoriesAreAlike}
-use Rattle.sharc_build.specs.declared.building.Built.{Built}
-use Rattle.sharc_build.specs.Built.{IsBuilt}
+use Rattle.sharc_code.specs.{declared.code.Code.Code, declared.shape.Shape.Shape, Layout.Fits, Runs.{Said, Turn}}
+use Rattle.sharc_sound_laws.specs.{Alike.AreAlike, AlikeLaws.{CompiledAreAlike, HistoriesAreAlike}}
+use Rattle.sharc_build.specs.{declared.building.Built.Built, Built.IsBuilt}
 use Rattle.sharc_history.specs.Laws.{HistoryLaws}
 use Rattle.sharc_recorded.specs.File.{AreNumbers, FileView, IsFile, HoldsNoSchedule}
-use Rattle.sharc_replay.specs.Laws.{IsOneFile, ReplayLaws}
-use Rattle.sharc_replay.specs.Run.{IsRecord, file_of}
+use Rattle.sharc_replay.specs.{Laws.{IsOneFile, ReplayLaws}, Run.{IsRecord, file_of}}
 use Rattle.sharc_run.specs.declared.run.Ran.{Ran}
 use Rattle.sharc_schedule.specs.Schedule.{Stored}
 use Rattle.sharc_seq.specs.Run.{AreChosen}
-use Rattle.sharc_sound.specs.Compiled.{IsCompiled}
-use Rattle.sharc_sound.specs.Front.{IsFront}
+use Rattle.sharc_sound.specs.{Compiled.IsCompiled, Front.IsFront}
 use Rattle.sharc_source_laws.specs.Laws.{ProgramsHoldNoSchedule}
-use Rattle.sharc_top.specs.declared.status.Status.{Status}
-use Rattle.sharc_top.specs.Limits.{source_limit, recording_limit}
-use Rattle.sharc_top.specs.Refused.{Refuses, source_refused, modes_refused}
-use Rattle.sharc_top_laws.specs.Laws.{SourceLaws}
-use Rattle.sharc_top_laws.specs.RecordLaws.{IsRecording, RecordLaws}
-use Rattle.sharc_traced.specs.declared.reply.Reply.{Reply}
-use Rattle.sharc_traced.specs.declared.words.Form.{Form}
+use Rattle.sharc_top.specs.{declared.status.Status.Status, Limits.{source_limit, recording_limit}, Refused.{Refuses, source_refused, modes_refused}}
+use Rattle.sharc_top_laws.specs.{Laws.SourceLaws, RecordLaws.{IsRecording, RecordLaws}}
+use Rattle.sharc_traced.specs.{declared.reply.Reply.Reply, declared.words.Form.Form, Replies.{FileReplies, InputReplies, IsFileOf, IsRunOf, IsTraced, TraceReplies, form_of, history, long_recording, long_source, no_recording, read, recorded, refused, traced, usage}}
 use Rattle.sharc_traced.specs.declared.words.Form.TheVariants as form
-use Rattle.sharc_traced.specs.Replies.{FileReplies, InputReplies, IsFileOf, IsRunOf, IsTraced, TraceReplies, form_of, history, long_recording, long_source, no_recording, read, recorded, refused, traced, usage}
 use Rattle.sharc_trace_laws.specs.Laws.{IsOfRecorded, RecordingsAreTraced}
+use Rattle.sharc_lemmas.proofs.Numbers.{not_long as too_long}
 
 -- ---- the reply to a recorded file of a program
-too_long : (most n : ℕ) → most < n → n ≤ most → ⊥
-too_long most n long short = omega (arith, long, short)
-
 no_usage : form_of [] ≡ None → ⊥
 no_usage none = cc
 

@@ -3,27 +3,19 @@ use Rattle.std.specs.Prelude.{◌≡◌, ◌≢◌, ℕ, ◌≤◌, List, [], �
 use Rattle.std.specs.Io.KnownBytes.{Appends}
 use Rattle.sharc_tree.specs.declared.event.SourceEvent.{SourceEvent}
 use Rattle.sharc_mode.specs.Moded.{Assignment}
-use Rattle.sharc_code.specs.declared.code.Code.{Code}
-use Rattle.sharc_code.specs.declared.shape.Shape.{Shape}
-use Rattle.sharc_code.specs.Layout.{Fits}
-use Rattle.sharc_code.specs.Runs.{Turn}
+use Rattle.sharc_code.specs.{declared.code.Code.Code, declared.shape.Shape.Shape, Layout.Fits, Runs.Turn}
 use Rattle.sharc_audit.specs.declared.audit.EventFault.{EventFault}
-use Rattle.sharc_build.specs.declared.building.Built.{Built}
-use Rattle.sharc_build.specs.Built.{IsBuilt}
-use Rattle.sharc_cli.specs.Commands.{commands}
-use Rattle.sharc_cli.specs.declared.command.Command.TheVariants.{Audit}
+use Rattle.sharc_build.specs.{declared.building.Built.Built, Built.IsBuilt}
+use Rattle.sharc_cli.specs.{Commands.commands, declared.command.Command.TheVariants.Audit}
 use Rattle.sharc_event_file.specs.declared.cut.Cut.TheVariants.{Refused}
 use Rattle.sharc_recorded.specs.File.{FileView, written}
 use Rattle.sharc_replay.specs.Run.{IsRecordedRun, file_of}
 use Rattle.sharc_run.specs.declared.run.Ran.{Ran}
 use Rattle.sharc_sound.specs.Compiled.{IsCompiled}
-use Rattle.sharc_top.specs.declared.status.Status.{Status}
-use Rattle.sharc_top.specs.EventFiles.{IsFewIn}
-use Rattle.sharc_top.specs.Limits.{source_limit, recording_limit}
+use Rattle.sharc_top.specs.{declared.status.Status.Status, EventFiles.IsFewIn, Limits.{source_limit, recording_limit}}
 use Rattle.sharc_top.specs.Reply.{IsReply, Replied}
 use Rattle.sharc_top_laws.specs.RecordLaws.{IsRecorded}
-use Rattle.sharc_traced.specs.declared.reply.Reply.{Reply}
-use Rattle.sharc_traced.specs.Replies.{IsFileOf, IsRunOf, IsTraceReply, history}
+use Rattle.sharc_traced.specs.{declared.reply.Reply.Reply, Replies.{IsFileOf, IsRunOf, IsTraceReply, history}}
 
 -- ---- the event file
 -- of a program within the limit: its text is an event file, with the lines of the first events of the run

@@ -1,26 +1,15 @@
 -- What the call writes is the reply to its words and its input, and how it ends.
-use Rattle.std.proofs.Common.{◌≡◌, ℕ, ◌+◌, ◌<◌, ◌≤◌, List, [], length, replicate, take, Option, Some, None, IfSome, unwrap_or, refl, sym, subst, arith}
-use Rattle.std.specs.Prelude.{codes, IfOk, Result, Ok, Err}
-use Rattle.std.specs.Io.KnownBytes.{Appends}
-use Rattle.std.specs.declared.alloc.AllocError.{AllocError}
-use Rattle.std.proofs.lemmas.List.{length-replicate}
+use Rattle.std.proofs.{Common.{◌≡◌, ℕ, ◌+◌, ◌<◌, ◌≤◌, List, [], length, replicate, take, Option, Some, None, IfSome, unwrap_or, refl, sym, subst, arith}, lemmas.List.length-replicate}
+use Rattle.std.specs.{Prelude.{codes, IfOk, Result, Ok, Err}, Io.KnownBytes.Appends, declared.alloc.AllocError.AllocError}
 use Rattle.sharc_top.specs.declared.status.Status.TheVariants as answers
-use Rattle.sharc_top.specs.Limits.{recording_limit}
-use Rattle.sharc_top.specs.Text.{line}
-use Rattle.sharc_traced.specs.declared.reply.Reply.{Reply}
-use Rattle.sharc_traced.specs.declared.status.Status.{Status}
+use Rattle.sharc_top.specs.{Limits.recording_limit, Text.line}
+use Rattle.sharc_traced.specs.{declared.reply.Reply.Reply, declared.status.Status.Status, declared.words.Form.Form, Replies.{form_of, IsPlain, InputReplies, IsTraceReply, Replied, RepliedInPart, IsOfReply}}
 use Rattle.sharc_traced.specs.declared.status.Status.TheVariants as status
-use Rattle.sharc_traced.specs.declared.words.Form.{Form}
-use Rattle.sharc_traced.specs.Replies.{form_of, IsPlain, InputReplies, IsTraceReply, Replied, RepliedInPart, IsOfReply}
 use Rattle.sharc_traced.specs.Replies as replies
 use Rattle.sharc_traced.proofs.Replying.{of_input}
+use Rattle.sharc_lemmas.proofs.Lists.{told_left}
 
 -- ---- the reply to the words and an input
--- what a source has left, where it reports it
-told_left : (left : Option (List ℕ)) → IfSome left (λ bytes. unwrap_or left [] ≡ bytes)
-told_left None = tt
-told_left (Some bytes) = refl
-
 -- an input that is longer than a number, and what a source had left where it reports it
 record LongInput (left : Option (List ℕ)) (limit : ℕ) : Type 0 where
   input : List ℕ

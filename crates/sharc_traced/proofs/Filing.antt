@@ -1,21 +1,12 @@
 -- What is written of a run is of its events.
-use Rattle.std.proofs.Common.{◌≡◌, ℕ, zero, suc, List, [], ◌∷◌, map, take, refl, ap, sym, ◌∙◌}
+use Rattle.std.proofs.Common.{◌≡◌, ℕ, List, [], ◌∷◌, map, take, ap, sym, ◌∙◌}
 use Rattle.sharc_tree.specs.declared.event.SourceEvent.{SourceEvent}
 use Rattle.sharc_mode.specs.Moded.{Assignment}
 use Rattle.sharc_code.specs.declared.code.Code.{Code}
-use Rattle.sharc_said.specs.declared.event.Event.{Event}
-use Rattle.sharc_said.specs.Told.{told, told_of_event}
-use Rattle.sharc_traced.specs.declared.reply.Reply.{Reply}
-use Rattle.sharc_event_file.specs.declared.cut.Front.{Front}
-use Rattle.sharc_event_file.specs.Cut.{IsFront}
-use Rattle.sharc_traced.specs.Replies.{status_by, why_by, IsFileOf}
-use Rattle.sharc_event_file.specs.Writing.{file_text}
-use Rattle.sharc_event_file.specs.Laws.{LinesAreOfSources}
-
-map_take : {A B : Type 0} (f : A → B) (n : ℕ) (xs : List A) → map f (take n xs) ≡ take n (map f xs)
-map_take f zero xs = refl
-map_take f (suc n) [] = refl
-map_take f (suc n) (x ∷ xs) = ap (λ z. f x ∷ z) (map_take f n xs)
+use Rattle.sharc_said.specs.{declared.event.Event.Event, Told.{told, told_of_event}}
+use Rattle.sharc_traced.specs.{declared.reply.Reply.Reply, Replies.{status_by, why_by, IsFileOf}}
+use Rattle.sharc_event_file.specs.{declared.cut.Front.Front, Cut.IsFront, Writing.file_text, Laws.LinesAreOfSources}
+use Rattle.sharc_lemmas.proofs.Lists.{map_take}
 
 pub file_of : (law : LinesAreOfSources) (m : Assignment) (code : Code) (source : List ℕ) (history : List SourceEvent) (events : List Event) (front : Front) (reply : Reply) → map (told code) events ≡ map told_of_event history
     → IsFront m events front → reply.text.items ≡ file_text m.typed source (take front.count events) → reply.status ≡ status_by front.cut → reply.why ≡ why_by front.count front.cut → IsFileOf m code source history reply

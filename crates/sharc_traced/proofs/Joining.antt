@@ -1,16 +1,6 @@
 -- Texts that were added piece by piece.
-use Rattle.std.proofs.Common.{◌≡◌, ℕ, List, [], ◌∷◌, ◌++◌, ap, subst, ◌∙◌, append_assoc, cond, Result, Ok, Err, OnOk}
-use Rattle.std.specs.Result.{is_ok}
+use Rattle.std.proofs.Common.{◌≡◌, ℕ, List, [], ◌∷◌, ◌++◌, ap, ◌∙◌, append_assoc}
 use Rattle.sharc_traced.specs.Places.{columns}
-
--- a piece, and then the others
-pub onto : {T E : Type 0} (answer : Result T E) (old more new piece others : List ℕ) → more ≡ old ++ piece → OnOk answer (new ≡ more ++ others) → OnOk answer (new ≡ old ++ (piece ++ others))
-onto answer old more new piece others p last = subst (λ l. OnOk answer (new ≡ l)) (ap (λ l. l ++ others) p ∙ append_assoc old piece others) last
-
--- what a call that extends a text says of its success
-pub taken : {T E : Type 0} (answer : Result T E) (new a b : List ℕ) → new ≡ cond (is_ok answer) a b → OnOk answer (new ≡ a)
-taken (Ok x) new a b h = h
-taken (Err e) new a b h = tt
 
 -- a piece, and then the others, where no call can fail any more
 one : (old more new piece others : List ℕ) → more ≡ old ++ piece → new ≡ more ++ others → new ≡ old ++ (piece ++ others)

@@ -1,36 +1,14 @@
 -- How an event is named, and the lines of all.
-use Rattle.std.proofs.Common.{◌≡◌, ℕ, ◌+◌, ◌<◌, false, Some, List, [], ◌∷◌, ◌++◌, length, get_or, take, drop, refl, sym, ap, subst, ◌∙◌, arith, append_assoc}
-use Rattle.std.specs.Prelude.{reverse, if◌then◌else◌}
-use Rattle.std.proofs.lemmas.List.{reverse-append, take_more, drop_more}
+use Rattle.std.proofs.{Common.{◌≡◌, ℕ, ◌+◌, ◌<◌, Some, List, [], ◌∷◌, ◌++◌, length, get_or, take, drop, sym, ap, subst, ◌∙◌, append_assoc}, lemmas.List.{reverse-append, take_more, drop_more}}
+use Rattle.std.specs.{Prelude.{reverse, if◌then◌else◌}, HashMap.get}
 use Rattle.sharc_code.specs.declared.code.Code.{Code}
-use Rattle.std.specs.HashMap.{get}
-use Rattle.sharc_said.specs.declared.cells.Origin.{Origin}
-use Rattle.sharc_said.specs.declared.cells.Where.{Where}
+use Rattle.sharc_said.specs.{declared.cells.Origin.Origin, declared.cells.Where.Where, declared.event.Event.Event}
 use Rattle.sharc_said.specs.declared.cells.Where.TheVariants as places
-use Rattle.sharc_said.specs.declared.event.Event.{Event}
-use Rattle.sharc_traced.specs.declared.names.Names.{Names}
-use Rattle.sharc_traced.specs.Names.{same_pair, found, AreNames, IsNoted}
-use Rattle.sharc_traced.specs.Places.{is_same, names, last_named, or_named, event_line, event_lines}
+use Rattle.sharc_traced.specs.{declared.names.Names.Names, Names.{same_pair, found, AreNames, IsNoted}, Places.{is_same, event_line, event_lines}}
 
 -- ---- one event more
-pub noted : (old new : Names) (earlier : List Event) (e : Event) (at : Where) → ((cell : Where) → names e.deed cell ≡ is_same at cell) → IsNoted at e.origin old new → AreNames old earlier
-    → AreNames new (e ∷ earlier)
-noted old new earlier e at same is are = λ cell.
-    is cell
-    ∙ ap (λ o. if is_same at cell then Some e.origin else o) (are cell)
-    ∙ ap (λ b. if b then Some e.origin else last_named earlier cell) (sym (same cell))
-
-pub unnoted : (table : Names) (earlier : List Event) (e : Event) → ((cell : Where) → names e.deed cell ≡ false) → AreNames table earlier → AreNames table (e ∷ earlier)
-unnoted table earlier e none are = λ cell. are cell ∙ ap (λ b. if b then Some e.origin else last_named earlier cell) (sym (none cell))
 
 -- ---- an lvalue, or the name
-pub has_lvalue : (lvalue name : List ℕ) → 0 < length lvalue → lvalue ≡ or_named lvalue name
-has_lvalue [] name h = absurd (omega (arith, h))
-has_lvalue (byte ∷ lvalue) name h = refl
-
-pub has_none : (lvalue name : List ℕ) → length lvalue ≡ 0 → name ≡ or_named lvalue name
-has_none [] name h = refl
-has_none (byte ∷ lvalue) name h = absurd (omega (arith, h))
 
 -- ---- one line more
 pub one_more : (events : List Event) (i : ℕ) (d : Event) → i < length events → reverse (take (i + 1) events) ≡ get_or events i d ∷ reverse (take i events)

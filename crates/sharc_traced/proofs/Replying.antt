@@ -1,29 +1,19 @@
 -- What is written of a recorded file is its reply, and with which statuses that ends.
 use Rattle.std.proofs.Common.{◌≡◌, ℕ, ◌<◌, List, length, sym, subst}
-use Rattle.std.specs.Prelude.{codes, IfOk, Result, Ok, Err}
-use Rattle.std.specs.declared.alloc.AllocError.{AllocError}
-use Rattle.sharc_build.specs.declared.building.Built.{Built}
-use Rattle.sharc_build.specs.Built.{IsBuilt}
-use Rattle.sharc_code.specs.declared.shape.Shape.{Shape}
-use Rattle.sharc_code.specs.Layout.{Fits}
-use Rattle.sharc_code.specs.Runs.{Turn}
+use Rattle.std.specs.{Prelude.{codes, IfOk, Result, Ok, Err}, declared.alloc.AllocError.AllocError}
+use Rattle.sharc_build.specs.{declared.building.Built.Built, Built.IsBuilt}
+use Rattle.sharc_code.specs.{declared.shape.Shape.Shape, Layout.Fits, Runs.Turn}
 use Rattle.sharc_schedule.specs.Schedule.{Stored}
 use Rattle.sharc_seq.specs.Run.{AreChosen}
-use Rattle.sharc_history.specs.declared.history.History.{History}
-use Rattle.sharc_history.specs.History.{IsAccountOf, IsHistory}
+use Rattle.sharc_history.specs.{declared.history.History.History, History.{IsAccountOf, IsHistory}}
 use Rattle.sharc_event_file.specs.declared.cut.Cut.{Cut}
 use Rattle.sharc_event_file.specs.declared.cut.Cut.TheVariants as cuts
 use Rattle.sharc_recorded.specs.File.{FileView, IsFile}
-use Rattle.sharc_top.specs.declared.reply.Reply.{Reply as Answer}
+use Rattle.sharc_top.specs.{declared.reply.Reply.{Reply as Answer}, Limits.source_limit, Refused.IsBuiltOrRefused, Text.line}
 use Rattle.sharc_top.specs.declared.status.Status.TheVariants as answers
-use Rattle.sharc_top.specs.Limits.{source_limit}
-use Rattle.sharc_top.specs.Refused.{IsBuiltOrRefused}
-use Rattle.sharc_top.specs.Text.{line}
-use Rattle.sharc_traced.specs.declared.reply.Reply.{Reply}
+use Rattle.sharc_traced.specs.{declared.reply.Reply.Reply, declared.words.Form.Form, Replies.{status_by, history, IsFileOf, IsPlacesOf, IsRunOf, IsOfRun, IsTraced, IsPlain, FileReplies, InputReplies, IsOfReply}}
 use Rattle.sharc_traced.specs.declared.status.Status.TheVariants as status
-use Rattle.sharc_traced.specs.declared.words.Form.{Form}
 use Rattle.sharc_traced.specs.declared.words.Form.TheVariants as form
-use Rattle.sharc_traced.specs.Replies.{status_by, history, IsFileOf, IsPlacesOf, IsRunOf, IsOfRun, IsTraced, IsPlain, FileReplies, InputReplies, IsOfReply}
 use Rattle.sharc_traced.specs.Replies as replies
 
 of_cut : (c : Cut) → IsOfReply (status_by c)

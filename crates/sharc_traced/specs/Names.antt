@@ -1,12 +1,8 @@
 -- That a table has the last lock or wait of each cell.
-use Rattle.std.specs.Prelude.{ℕ, ◌≡◌, ◌&&◌, Bool, nat_eq, List, Option, Some, if◌then◌else◌}
-use Rattle.std.specs.HashMap.{get}
-use Rattle.sharc_said.specs.declared.cells.Origin.{Origin}
-use Rattle.sharc_said.specs.declared.cells.Where.{Where}
+use Rattle.std.specs.{Prelude.{ℕ, ◌≡◌, ◌&&◌, Bool, nat_eq, List, Option, Some, if◌then◌else◌}, HashMap.get}
+use Rattle.sharc_said.specs.{declared.cells.Origin.Origin, declared.cells.Where.Where, declared.event.Event.Event}
 use Rattle.sharc_said.specs.declared.cells.Where.TheVariants as places
-use Rattle.sharc_said.specs.declared.event.Event.{Event}
-use Rattle.sharc_traced.specs.declared.names.Names.{Names}
-use Rattle.sharc_traced.specs.Places.{is_same, last_named}
+use Rattle.sharc_traced.specs.{declared.names.Names.Names, Places.{is_same, last_named}}
 
 abbrev pub same_pair : ℕ × ℕ → ℕ × ℕ → Bool
 same_pair x y = nat_eq x.0 y.0 && nat_eq x.1 y.1

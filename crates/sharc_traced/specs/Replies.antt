@@ -1,45 +1,27 @@
 -- What the program writes for its words and its input, and with which status it ends.
 use Rattle.std.specs.Prelude.{◌≡◌, ℕ, suc, ◌<◌, ◌≤◌, false, List, [], ◌∷◌, length, map, reverse, take, codes, Option, Some, None, IfSome, if◌then◌else◌}
-use Rattle.std.specs.Io.KnownBytes.{Appends}
-use Rattle.std.specs.Str.{bytes_eq}
+use Rattle.std.specs.{Io.KnownBytes.Appends, Str.bytes_eq}
 use Rattle.sharc_tree.specs.declared.event.SourceEvent.{SourceEvent}
 use Rattle.sharc_mode.specs.Moded.{Assignment}
-use Rattle.sharc_code.specs.declared.code.Code.{Code}
-use Rattle.sharc_code.specs.declared.shape.Shape.{Shape}
-use Rattle.sharc_code.specs.Layout.{Fits}
-use Rattle.sharc_code.specs.Runs.{Turn}
+use Rattle.sharc_code.specs.{declared.code.Code.Code, declared.shape.Shape.Shape, Layout.Fits, Runs.Turn}
 use Rattle.sharc_code.specs.Whole.{CheckedRun, place_after}
 use Rattle.sharc_threads.specs.Ends.{is_enabled}
 use Rattle.sharc_seq.specs.Run.{AreChosen}
 use Rattle.sharc_recorded.specs.File.{FileView, lines_in, IsFile, IsFault}
 use Rattle.sharc_schedule.specs.Schedule.{Stored}
-use Rattle.sharc_build.specs.declared.building.Built.{Built}
-use Rattle.sharc_build.specs.Built.{IsBuilt}
+use Rattle.sharc_build.specs.{declared.building.Built.Built, Built.IsBuilt}
 use Rattle.sharc_audit.specs.Lines.{AreLines}
-use Rattle.sharc_said.specs.declared.event.Event.{Event}
-use Rattle.sharc_said.specs.Told.{told, told_of_event}
-use Rattle.sharc_history.specs.declared.history.History.{History}
-use Rattle.sharc_history.specs.History.{told_events, IsAccountOf}
-use Rattle.sharc_top.specs.declared.status.Status.{Status as Answer}
+use Rattle.sharc_said.specs.{declared.event.Event.Event, Told.{told, told_of_event}}
+use Rattle.sharc_history.specs.{declared.history.History.History, History.{told_events, IsAccountOf}}
+use Rattle.sharc_top.specs.{declared.status.Status.{Status as Answer}, Limits.{source_limit, recording_limit}}
+use Rattle.sharc_top.specs.{Recording.bad_file_line, Refused.Refuses, Status.{code_of as code_of_answer}, Text.line}
 use Rattle.sharc_top.specs.declared.status.Status.TheVariants as answers
-use Rattle.sharc_top.specs.Limits.{source_limit, recording_limit}
-use Rattle.sharc_top.specs.Recording.{bad_file_line}
-use Rattle.sharc_top.specs.Refused.{Refuses}
-use Rattle.sharc_top.specs.Status.{code_of as code_of_answer}
-use Rattle.sharc_top.specs.Text.{line}
-use Rattle.sharc_traced.specs.declared.call.Ended.{Ended}
-use Rattle.sharc_traced.specs.declared.reply.Reply.{Reply}
-use Rattle.sharc_traced.specs.declared.reply.Stopped.{Stopped}
-use Rattle.sharc_event_file.specs.declared.cut.Cut.{Cut}
-use Rattle.sharc_event_file.specs.declared.cut.Cut.TheVariants.{Whole as uncut}
-use Rattle.sharc_event_file.specs.declared.cut.Front.{Front}
-use Rattle.sharc_traced.specs.declared.status.Status.{Status}
+use Rattle.sharc_traced.specs.{declared.call.Ended.Ended, declared.reply.Reply.Reply, declared.reply.Stopped.Stopped}
+use Rattle.sharc_traced.specs.{declared.status.Status.Status, declared.words.Form.Form, Places.places_text}
+use Rattle.sharc_event_file.specs.{declared.cut.Cut.Cut, declared.cut.Cut.TheVariants.{Whole as uncut}}
+use Rattle.sharc_event_file.specs.{declared.cut.Front.Front, Cut.IsFront, Writing.file_text}
 use Rattle.sharc_traced.specs.declared.status.Status.TheVariants as status
-use Rattle.sharc_traced.specs.declared.words.Form.{Form}
 use Rattle.sharc_traced.specs.declared.words.Form.TheVariants as form
-use Rattle.sharc_event_file.specs.Cut.{IsFront}
-use Rattle.sharc_event_file.specs.Writing.{file_text}
-use Rattle.sharc_traced.specs.Places.{places_text}
 
 -- ---- words and statuses
 abbrev pub form_of : List (List ℕ) → Option Form

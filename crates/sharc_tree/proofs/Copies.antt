@@ -1,10 +1,6 @@
 -- Lists of children that are copied one by one.
-use Rattle.std.proofs.Common.{◌≡◌, ℕ, ◌+◌, ◌<◌, List, [], ◌∷◌, ◌++◌, length, take, get_or, ap, sym, ◌∙◌}
-use Rattle.std.proofs.lemmas.List.{take_more}
-use Rattle.sharc_tree.specs.declared.tree.expression.Expr.{Expr}
-use Rattle.sharc_tree.specs.declared.tree.statement.Stmt.{Stmt}
-use Rattle.sharc_tree.specs.View.{view_expr, view_arguments, view_stmt, view_statements}
-use Rattle.sharc_tree.specs.Children.{view_arguments-push, view_statements-push}
+use Rattle.std.proofs.{Common.{◌≡◌, ℕ, ◌+◌, ◌<◌, List, [], ◌∷◌, ◌++◌, length, take, get_or, ap, sym, ◌∙◌}, lemmas.List.take_more}
+use Rattle.sharc_tree.specs.{declared.tree.expression.Expr.Expr, declared.tree.statement.Stmt.Stmt, View.{view_expr, view_arguments, view_stmt, view_statements}, Children.{view_arguments-push, view_statements-push}}
 
 pub argument_copied : (done more list : List Expr) (i : ℕ) (a b : Expr) → i < length list → more ≡ done ++ a ∷ [] → b ≡ get_or list i b → view_expr a ≡ view_expr b → view_arguments done ≡ view_arguments (take i list) → view_arguments more ≡ view_arguments (take (i + 1) list)
 argument_copied done more list i a b below is item same before =

@@ -2,12 +2,11 @@
 use Rattle.std.proofs.Common.{◌≡◌, List, [], ◌∷◌, ◌++◌, refl, ap, ◌∙◌, Global}
 use Rattle.std.specs.Prelude.{Vec}
 use mathlib.Core.Former.{Count}
-use Rattle.sharc_tree.specs.declared.token.Span.{Span}
-use Rattle.sharc_tree.specs.declared.tree.declaration.Identifier.{Identifier}
+use Rattle.sharc_tree.specs.{declared.token.Span.Span, declared.tree.declaration.Identifier.Identifier}
 use Rattle.sharc_tree.specs.declared.tree.expression.Expr.{Expr, Call, Call', Row_of-Expr, end_of-Expr, more_of-Expr, items-the_row-Expr, items_hidden-the_row-Expr-0}
 use Rattle.sharc_tree.specs.declared.tree.statement.Stmt.{Stmt, Block, Block', Row_of-Stmt, end_of-Stmt, more_of-Stmt, items-the_row-Stmt, items_hidden-the_row-Stmt-0}
-use Rattle.sharc_tree.specs.Tree as tree
 use Rattle.sharc_tree.specs.View.{view_expr, view_row, view_arguments, view_stmt, view_stmt_row, view_statements}
+use Rattle.sharc_tree.specs.Tree as tree
 
 row_same : (n : _) (row : Row_of-Expr n) → view_row row ≡ view_arguments (items-the_row-Expr n row)
 row_same _ end_of-Expr = refl

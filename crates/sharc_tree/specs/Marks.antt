@@ -1,20 +1,14 @@
 -- The names and the casts of a tree, in the order in which they are written, and those among the tokens.
 use Rattle.std.specs.Prelude.{◌≡◌, ℕ, ◌+◌, ◌<◌, ◌≤◌, Bool, true, false, List, [], ◌∷◌, ◌++◌, length, HoldsAt, Option, Some, None}
-use Rattle.sharc_tree.specs.declared.ctype.Path.{Path}
-use Rattle.sharc_tree.specs.declared.ctype.Path.TheVariants.{One, Through}
-use Rattle.sharc_tree.specs.declared.ctype.Mode.{Mode}
-use Rattle.sharc_tree.specs.declared.ctype.Mode.TheVariants.{Locked}
-use Rattle.sharc_tree.specs.declared.ctype.Base.{Base}
-use Rattle.sharc_tree.specs.declared.ctype.Base.TheVariants.{Struct}
-use Rattle.sharc_tree.specs.declared.token.Keyword.{Keyword}
-use Rattle.sharc_tree.specs.declared.token.Keyword.TheVariants.{Scast}
-use Rattle.sharc_tree.specs.declared.token.Token.{Token}
-use Rattle.sharc_tree.specs.declared.token.TokenKind.{TokenKind}
-use Rattle.sharc_tree.specs.declared.token.TokenKind.TheVariants as kind
-use Rattle.sharc_tree.specs.declared.tree.declaration.Identifier.{Identifier}
+use Rattle.sharc_tree.specs.{declared.ctype.Path.Path, declared.ctype.Path.TheVariants.{One, Through}}
+use Rattle.sharc_tree.specs.{declared.ctype.Mode.Mode, declared.ctype.Mode.TheVariants.Locked, declared.ctype.Base.Base}
+use Rattle.sharc_tree.specs.{declared.ctype.Base.TheVariants.Struct, declared.token.Keyword.Keyword}
+use Rattle.sharc_tree.specs.{declared.token.Keyword.TheVariants.Scast, declared.token.Token.Token}
+use Rattle.sharc_tree.specs.{declared.token.TokenKind.TokenKind, declared.tree.declaration.Identifier.Identifier}
 use Rattle.sharc_tree.specs.declared.tree.declaration.WrittenType.{WrittenType}
 use Rattle.sharc_tree.specs.declared.tree.declaration.Declaration.{Declaration}
 use Rattle.sharc_tree.specs.Tree.{Expression, identifier, constant, parentheses, call, spawn, on_value, on_place, cast, index, field, unary, binary, Arguments, no_arguments, argument, Right, value, malloc, Simple, assign, does_call, Local, First, nothing, declares, does, Head, Statement, empty, block, declare, simple, jump, return, if_then, if_then_else, while, for, Statements, no_statements, statement, Item, structure, global, function}
+use Rattle.sharc_tree.specs.declared.token.TokenKind.TheVariants as kind
 
 -- a name with its text, or the word SCAST, each with the number of its token
 pub data Mark : Type 0 where

@@ -1,8 +1,6 @@
 -- A tree that lies at its tokens.
 use Rattle.std.specs.Prelude.{◌≡◌, ℕ, ◌+◌, ◌<◌, ◌≤◌, List, [], ◌∷◌, ◌++◌, length, slice_index_or, Option, Some, None, IfSome}
-use Rattle.sharc_tree.specs.declared.token.Site.{Site}
-use Rattle.sharc_tree.specs.declared.token.Span.{Span}
-use Rattle.sharc_tree.specs.declared.token.Token.{Token}
+use Rattle.sharc_tree.specs.{declared.token.Site.Site, declared.token.Span.Span, declared.token.Token.Token}
 use Rattle.sharc_tree.specs.declared.tree.declaration.WrittenType.{WrittenType}
 use Rattle.sharc_tree.specs.declared.tree.declaration.Declaration.{Declaration}
 use Rattle.sharc_tree.specs.declared.tree.item.GlobalForm.{GlobalForm}

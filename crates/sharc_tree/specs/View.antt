@@ -6,13 +6,11 @@ use Rattle.sharc_tree.specs.declared.tree.statement.Right.{Right}
 use Rattle.sharc_tree.specs.declared.tree.statement.Right.TheVariants.{Value, Malloc}
 use Rattle.sharc_tree.specs.declared.tree.statement.Simple.{Simple as RustSimple}
 use Rattle.sharc_tree.specs.declared.tree.statement.Simple.TheVariants.{Assign, Call}
-use Rattle.sharc_tree.specs.declared.tree.statement.Local.{Local}
-use Rattle.sharc_tree.specs.declared.tree.statement.ForFirst.{ForFirst}
+use Rattle.sharc_tree.specs.{declared.tree.statement.Local.Local, declared.tree.statement.ForFirst.ForFirst}
 use Rattle.sharc_tree.specs.declared.tree.statement.ForFirst.TheVariants.{Nothing, Declares, Does}
 use Rattle.sharc_tree.specs.declared.tree.statement.ForHead.{ForHead}
 use Rattle.sharc_tree.specs.declared.tree.statement.Stmt.{Stmt, Empty, Block', Declare, Simple, Jump, Return, If', IfElse', While', For', Row_of-Stmt, end_of-Stmt, more_of-Stmt}
-use Rattle.sharc_tree.specs.declared.tree.item.FunctionDefinition.{FunctionDefinition}
-use Rattle.sharc_tree.specs.declared.tree.item.Item.{Item}
+use Rattle.sharc_tree.specs.{declared.tree.item.FunctionDefinition.FunctionDefinition, declared.tree.item.Item.Item}
 use Rattle.sharc_tree.specs.declared.tree.item.Item.TheVariants.{Struct, Global, Function}
 use Rattle.sharc_tree.specs.declared.tree.item.Program.{Program}
 

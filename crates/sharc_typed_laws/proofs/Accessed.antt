@@ -1,33 +1,18 @@
 -- What an lvalue names is read, written and taken: after its base and its index are at hand.
-use Rattle.std.proofs.Common.{◌≡◌, ℕ, ◌+◌, ◌<◌, ◌≤◌, Bool, true, false, cond, List, [], ◌∷◌, ◌++◌, Option, Some, None, refl, sym, ◌∙◌, subst, ⊎_elim, arith}
-use Rattle.std.proofs.lemmas.Bool.{false≢true, cases_lt}
+use Rattle.std.proofs.{Common.{◌≡◌, ℕ, ◌+◌, ◌<◌, ◌≤◌, Bool, true, false, cond, List, [], ◌∷◌, ◌++◌, Option, Some, None, refl, sym, ◌∙◌, subst, ⊎_elim, arith}, lemmas.Bool.{false≢true, cases_lt}}
 use Rattle.sharc_tree.specs.declared.token.Site.{Site}
-use Rattle.sharc_code.specs.declared.code.Use.{Use}
+use Rattle.sharc_code.specs.{declared.code.Use.Use, declared.instr.Cell.Cell, declared.instr.Width.Width, Runs.put}
 use Rattle.sharc_code.specs.declared.code.Use.TheVariants as uses
-use Rattle.sharc_code.specs.declared.instr.Cell.{Cell}
 use Rattle.sharc_code.specs.declared.instr.Cell.TheVariants as cells
-use Rattle.sharc_code.specs.declared.instr.Width.{Width}
-use Rattle.sharc_code.specs.Runs.{put}
 use Rattle.sharc_code.proofs.Places.{put_same, put_other}
 use Rattle.sharc_mode.specs.Sharings.{Sharing}
-use Rattle.sharc_flat_form.specs.declared.op.Op.{Op}
+use Rattle.sharc_flat_form.specs.{declared.op.Op.Op, declared.op.Spot.Spot}
 use Rattle.sharc_flat_form.specs.declared.op.Op.TheVariants as op
-use Rattle.sharc_flat_form.specs.declared.op.Spot.{Spot}
-use Rattle.sharc_flat.specs.declared.slot.Lvalue.{Lvalue}
-use Rattle.sharc_flat.specs.Scope.{Context, int_count, ref_count}
-use Rattle.sharc_flat.specs.Places.{Target, variable, in_global, in_global_at, in_object, in_object_at, has_base, base_width, guard_width, index_width, cell_of, guard_cell, guard_field, guard_code, cell_value_code, cell_store_code, cell_take_code}
-use Rattle.sharc_flat.specs.Suits.{is_cell}
-use Rattle.sharc_invariant.specs.Types.{StaticType}
-use Rattle.sharc_invariant.specs.Labels.{Entry, Empty, Refers, Element, Number, Within, OfElement, Gate, Closed, Loaded, Label, LessNumber, HasBase, IsScoped, set_number, fill}
-use Rattle.sharc_invariant.specs.Typed.{ints_in, refs_in}
+use Rattle.sharc_flat.specs.{declared.slot.Lvalue.Lvalue, Scope.{Context, int_count, ref_count}, Places.{Target, variable, in_global, in_global_at, in_object, in_object_at, has_base, base_width, guard_width, index_width, cell_of, guard_cell, guard_field, guard_code, cell_value_code, cell_store_code, cell_take_code}, Suits.is_cell}
+use Rattle.sharc_invariant.specs.{Types.StaticType, Labels.{Entry, Empty, Refers, Element, Number, Within, OfElement, Gate, Closed, Loaded, Label, LessNumber, HasBase, IsScoped, set_number, fill}, Typed.{ints_in, refs_in}}
 use Rattle.sharc_invariant.proofs.Scoped.{less_refl, less_number_refl}
-use Rattle.sharc_typed_laws.specs.Stretches.{Mark, Setting, IsAtHand}
-use Rattle.sharc_typed_laws.proofs.Fitting.{fits_same}
-use Rattle.sharc_typed_laws.specs.Places.{IsNamed, mark}
-use Rattle.sharc_typed_laws.specs.Premises.{Typing, HoldsVariables, IsPointerCopy, Ground, HasNumbers, number_in_global, HasIndex, HasBaseAt, IsPlaced, ReachesInteger, ReachesReference, ThroughGuard, IntegerTyped, ReferenceTyped}
-use Rattle.sharc_typed_laws.proofs.Parts.{P, At, at_number, at_fill, then_do, pre, none, pop_at, with_number}
-use Rattle.sharc_typed_laws.proofs.Values.{over, guard_at, load_at, load_reference_at, take_at, store_at, store_reference_at}
-use Rattle.sharc_typed_laws.proofs.Variables.{settle_base_at}
+use Rattle.sharc_typed_laws.specs.{Stretches.{Mark, Setting, IsAtHand}, Places.{IsNamed, mark}, Premises.{Typing, HoldsVariables, IsPointerCopy, Ground, HasNumbers, number_in_global, HasIndex, HasBaseAt, IsPlaced, ReachesInteger, ReachesReference, ThroughGuard, IntegerTyped, ReferenceTyped}}
+use Rattle.sharc_typed_laws.proofs.{Fitting.fits_same, Parts.{P, At, at_number, at_fill, then_do, pre, none, pop_at, with_number}, Values.{over, guard_at, load_at, load_reference_at, take_at, store_at, store_reference_at}, Variables.settle_base_at}
 
 module _ (around : Setting) (f : ℕ) (D : (ℕ → Mark) → Type 0) (y : Typing) (c : Context) (low : (p : ℕ) → y.named c p ≡ true → p < ref_count c.scope) (from : ℕ) where
   abbrev named : ℕ → Bool

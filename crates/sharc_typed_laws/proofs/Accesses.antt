@@ -1,32 +1,17 @@
 -- Operations that access cells, each by itself: their checks are typed whether they are dropped or not.
-use Rattle.std.proofs.Common.{◌≡◌, ◌≢◌, ℕ, ◌+◌, ◌<◌, Bool, true, false, List, Some, refl, sym, ap, ◌∙◌, subst, ⊎_elim}
-use Rattle.std.proofs.lemmas.Bool.{false≢true, cases_eq}
-use Rattle.std.proofs.lemmas.Option.{same_Some, none-some}
+use Rattle.std.proofs.{Common.{◌≡◌, ◌≢◌, ℕ, ◌+◌, ◌<◌, Bool, true, false, List, Some, refl, sym, ap, ◌∙◌, subst, ⊎_elim}, lemmas.Bool.cases_eq, lemmas.Option.{same_Some, none-some}}
 use Rattle.sharc_shadow.specs.declared.shadow_word.Kind.TheVariants.{Read, Write}
-use Rattle.sharc_code.specs.declared.code.PlaceMode.{PlaceMode}
+use Rattle.sharc_code.specs.{declared.code.PlaceMode.PlaceMode, declared.instr.Cell.Cell, declared.instr.Width.Width, Runs.put}
 use Rattle.sharc_code.specs.declared.code.PlaceMode.TheVariants as modes
-use Rattle.sharc_code.specs.declared.instr.Cell.{Cell}
 use Rattle.sharc_code.specs.declared.instr.Cell.TheVariants as cells
-use Rattle.sharc_code.specs.declared.instr.Width.{Width}
-use Rattle.sharc_code.specs.Runs.{put}
 use Rattle.sharc_code.proofs.Places.{put_same, put_other, put_all}
-use Rattle.sharc_flat_form.specs.declared.op.Op.{Op}
+use Rattle.sharc_flat_form.specs.{declared.op.Op.Op, declared.op.Spot.Spot}
 use Rattle.sharc_flat_form.specs.declared.op.Op.TheVariants as op
-use Rattle.sharc_flat_form.specs.declared.op.Spot.{Spot}
 use Rattle.sharc_guard.specs.Known.{Access, access, Know, know_next, is_straight}
-use Rattle.sharc_invariant.specs.Types.{StaticType, Field, FieldType, FieldMode, Content, is_pointer, Mentions}
-use Rattle.sharc_invariant.specs.Types.FieldMode.{Private, Readonly, Racy, Dynamic, Under, Behind}
-use Rattle.sharc_invariant.specs.Types.Content.{Integer, Pointer}
-use Rattle.sharc_invariant.specs.Labels.{Empty, Refers, Within, Closed, Loaded, Pass, IsIn, Label, Less, LessEntry, IsScoped, IsFree, set_number, fill, empty, gated, without_base}
-use Rattle.sharc_invariant.specs.Typed.{IsVacant, IsOwn, Fits as FitsWidth, PointsTo, HasCell, ints_in, refs_in, knows_base}
-use Rattle.sharc_typed_laws.specs.Inside.{known_behind, lock_of, passed_behind}
-use Rattle.sharc_typed_laws.specs.Lines.{MayPass, PassesCheck}
-use Rattle.sharc_typed_laws.specs.Passes.{with_passes, with_all, IsPassed}
-use Rattle.sharc_typed_laws.proofs.TypedAlike.{same_reference, less_entry, has_field, has_cell, sibling, mutex_of, mode_is, place_is, points_to}
-use Rattle.sharc_typed_laws.proofs.Preorder.{less_through}
-use Rattle.sharc_typed_laws.specs.Stretches.{Mark, Setting, labels_by, Tells, Fits, IsTypedAt, IsAtHand, IsLine}
-use Rattle.sharc_typed_laws.specs.Places.{MayReach, mark}
-use Rattle.sharc_typed_laws.proofs.Rules.{free_too}
+use Rattle.sharc_invariant.specs.{Types.{StaticType, Field, FieldType, FieldMode, Content, is_pointer, Mentions}, Types.FieldMode.{Private, Readonly, Racy, Dynamic, Under, Behind}, Types.Content.{Integer, Pointer}, Labels.{Empty, Refers, Within, Closed, Loaded, Pass, IsIn, Label, Less, LessEntry, IsScoped, IsFree, set_number, fill, empty, gated, without_base}, Typed.{IsVacant, IsOwn, Fits as FitsWidth, PointsTo, HasCell, ints_in, refs_in, knows_base}}
+use Rattle.sharc_typed_laws.specs.{Inside.{known_behind, lock_of, passed_behind}, Lines.{MayPass, PassesCheck}, Passes.{with_passes, with_all, IsPassed}, Stretches.{Mark, Setting, labels_by, Tells, Fits, IsTypedAt, IsAtHand, IsLine}, Places.{MayReach, mark}}
+use Rattle.sharc_typed_laws.proofs.{TypedAlike.{same_reference, less_entry, has_field, has_cell, sibling, mutex_of, mode_is, place_is, points_to}, Preorder.less_through, Rules.free_too}
+use Rattle.sharc_lemmas.proofs.Bools.{false_true as never}
 
 -- ---- less, with checks that are remembered, and more of what is not NULL
 pub with_more : (a b : Label) (known : ℕ → Bool) (ps qs : List Pass) → Less a b → ((r : ℕ) → a.known r ≡ true → known r ≡ true) → ((p : Pass) → IsIn p qs → IsIn p ps) → Less (record a { known = known; passed = ps }) (with_passes b qs)
@@ -56,9 +41,6 @@ more_behind l spot modes.Readonly r e = e
 more_behind l spot modes.Racy r e = e
 more_behind l spot modes.Dynamic r e = e
 more_behind l spot modes.LockedLoaded r e = e
-
-pub never : {A : Type 0} → false ≡ true → A
-never z = absurd (false≢true z)
 
 cleared_too : (g k : ℕ → Bool) (r : ℕ) → ((q : ℕ) → g q ≡ true → k q ≡ true) → (q : ℕ) → put g r false q ≡ true → put k r false q ≡ true
 cleared_too g k r more q h = ⊎_elim (λ (z : q ≡ r). never (sym (ap (put g r false) z ∙ put_same g r false) ∙ h)) (λ (ne : q ≡ r → ⊥). put_other k r q false ne ∙ more q (sym (put_other g r q false ne) ∙ h)) (cases_eq q r)

@@ -1,18 +1,13 @@
 -- What a typed operation of a straight piece leaves: registers that it does not write hold what they held, and indexes of globals are past granule 0.
-use Rattle.std.proofs.Common.{◌≡◌, ◌≢◌, ℕ, ◌≤◌, Bool, true, false, cond, ◌||◌, Option, Some, refl, sym, ◌∙◌, subst, ⊎_elim}
+use Rattle.std.proofs.{Common.{◌≡◌, ◌≢◌, ℕ, ◌≤◌, Bool, true, false, cond, ◌||◌, Option, Some, refl, sym, ◌∙◌, subst, ⊎_elim}, lemmas.Bool.false≢true, lemmas.Option.none-some}
 use Rattle.std.specs.Prelude.{nat_eq}
-use Rattle.std.proofs.lemmas.Bool.{false≢true}
-use Rattle.std.proofs.lemmas.Option.{none-some}
-use Rattle.sharc_code.specs.declared.code.Code.{Code}
-use Rattle.sharc_code.specs.declared.instr.Width.TheVariants.{Char, Int, Long}
-use Rattle.sharc_code.specs.Runs.{put}
+use Rattle.sharc_code.specs.{declared.code.Code.Code, declared.instr.Width.TheVariants.{Char, Int, Long}, Runs.put}
 use Rattle.sharc_flat_form.specs.declared.op.Op.{Op}
 use Rattle.sharc_flat_form.specs.declared.op.Op.TheVariants as op
 use Rattle.sharc_guard.specs.Known.{is_straight, writes_ref, writes_int, number_given}
-use Rattle.sharc_invariant.specs.Types.{Targets, StaticType}
-use Rattle.sharc_invariant.specs.Labels.{Entry, Empty, Refers, Unknown, Number, Anything, Exactly, Within, Indexes, OfElement, OfGlobal, Closed, Label, Labels, LessEntry, LessNumber, Less, set_number, fill, empty, forgets, forgotten, without_index, some_names, gated}
-use Rattle.sharc_typed_laws.specs.Inside.{behind}
-use Rattle.sharc_typed_laws.specs.Lines.{TypedLine}
+use Rattle.sharc_invariant.specs.{Types.{Targets, StaticType}, Labels.{Entry, Empty, Refers, Unknown, Number, Anything, Exactly, Within, Indexes, OfElement, OfGlobal, Closed, Label, Labels, LessEntry, LessNumber, Less, set_number, fill, empty, forgets, forgotten, without_index, some_names, gated}}
+use Rattle.sharc_typed_laws.specs.{Inside.behind, Lines.TypedLine}
+use Rattle.sharc_lemmas.proofs.Bools.{or_first as not_left, or_second as not_right}
 
 -- the number of a cell of a global is none of granule 0
 abbrev pub IsPast : Number → Type 0
@@ -46,14 +41,6 @@ less_full : (a b : Label) → Less a b → (v : ℕ) → a.env v ≢ Empty → b
 less_full a b h v full e = full (subst (λ y. LessEntry a v (a.env v) y) e (h.env v))
 
 -- ---- one register
-not_left : (a b : Bool) → (a || b) ≡ false → a ≡ false
-not_left true b e = e
-not_left false b e = refl
-
-not_right : (a b : Bool) → (a || b) ≡ false → b ≡ false
-not_right true b e = absurd (false≢true (sym e))
-not_right false b e = e
-
 env_other : (env : ℕ → Entry) (r : ℕ) (e : Entry) (v : ℕ) → nat_eq v r ≡ false → env v ≢ Empty → put env r e v ≢ Empty
 env_other env r e v apart full = subst (λ b. cond b e (env v) ≢ Empty) (sym apart) full
 

@@ -1,35 +1,21 @@
 -- What is indexed as an array is a global of the program, so none of its cells is one of granule 0.
-use Rattle.std.proofs.Common.{◌≡◌, ℕ, zero, suc, ◌+◌, ◌<◌, ◌≤◌, Bool, true, false, cond, ◌||◌, List, [], ◌∷◌, ◌++◌, length, Option, Some, None, refl, arith}
-use Rattle.std.specs.Prelude.{slice_get, slice_index_or, Contains}
-use Rattle.std.specs.List.{AllByRecursion}
-use Rattle.std.proofs.lemmas.Bool.{false≢true}
-use Rattle.std.proofs.lemmas.List.Elements.{Contains-append_right}
-use Rattle.sharc_tree.specs.declared.token.NumberType.{NumberType}
+use Rattle.std.proofs.{Common.{◌≡◌, ℕ, zero, suc, ◌+◌, ◌<◌, ◌≤◌, Bool, true, false, cond, ◌||◌, List, [], ◌∷◌, ◌++◌, length, Option, Some, None, refl, arith}, lemmas.List.Elements.Contains-append_right}
+use Rattle.std.specs.{Prelude.{slice_get, slice_index_or, Contains}, List.AllByRecursion}
+use Rattle.sharc_tree.specs.{declared.token.NumberType.NumberType, declared.tree.declaration.Declaration.Declaration, declared.tree.item.GlobalDefinition.GlobalDefinition, declared.tree.expression.Access.TheVariants.{Dot, Arrow}, declared.tree.expression.Constant.Constant, declared.tree.expression.UnaryOperator.UnaryOperator, declared.tree.expression.UnaryOperator.TheVariants.{Negate, Not, Complement, Dereference}, Measures.{expressions, in_function}, Tree.{Expression, identifier, constant, parentheses, call, spawn, on_value, on_place, cast, index, field, unary, binary, Function}}
 use Rattle.sharc_tree.specs.declared.token.NumberType.TheVariants as width
-use Rattle.sharc_tree.specs.declared.tree.declaration.Declaration.{Declaration}
-use Rattle.sharc_tree.specs.declared.tree.item.GlobalDefinition.{GlobalDefinition}
-use Rattle.sharc_tree.specs.declared.tree.expression.Access.TheVariants.{Dot, Arrow}
-use Rattle.sharc_tree.specs.declared.tree.expression.Constant.{Constant}
 use Rattle.sharc_tree.specs.declared.tree.expression.Constant.TheVariants as constants
-use Rattle.sharc_tree.specs.declared.tree.expression.UnaryOperator.{UnaryOperator}
-use Rattle.sharc_tree.specs.declared.tree.expression.UnaryOperator.TheVariants.{Negate, Not, Complement, Dereference}
-use Rattle.sharc_tree.specs.Measures.{expressions, in_function}
-use Rattle.sharc_tree.specs.Tree.{Expression, identifier, constant, parentheses, call, spawn, on_value, on_place, cast, index, field, unary, binary, Function}
-use Rattle.sharc_names.specs.declared.fault.Named.{Named as Name}
+use Rattle.sharc_names.specs.{declared.fault.Named.{Named as Name}, Kinds.{Kind, object, array, null, function, int, long, is_array, element_kind, is_long}}
 use Rattle.sharc_names.specs.declared.fault.Named.TheVariants as named
-use Rattle.sharc_names.specs.Kinds.{Kind, object, array, null, function, int, long, is_array, element_kind, is_long}
 use Rattle.sharc_code.specs.Says.{no_global}
-use Rattle.sharc_ctype.specs.declared.expr.OperatorClass.{OperatorClass}
+use Rattle.sharc_ctype.specs.{declared.expr.OperatorClass.OperatorClass, Expressions.{class_of, number_kind, constant_kind, unary_result, binary_result}, Resolved.{Resolution, globals_in, named_at, function_at, declaration_at, variable_kind, result_kind_of, global_kind_of, named_kind, called_kind, kind_at}}
 use Rattle.sharc_ctype.specs.declared.expr.OperatorClass.TheVariants as classes
-use Rattle.sharc_ctype.specs.Expressions.{class_of, number_kind, constant_kind, unary_result, binary_result}
-use Rattle.sharc_ctype.specs.Resolved.{Resolution, globals_in, named_at, function_at, declaration_at, variable_kind, result_kind_of, global_kind_of, named_kind, called_kind, kind_at}
 use Rattle.sharc_mode.specs.Moded.{Assignment}
 use Rattle.sharc_mode_laws.specs.Constructs.{IsFunction}
 use Rattle.sharc_meaning.specs.Cells.{field_place_named}
 use Rattle.sharc_flat_form.specs.Machine.{first_cell}
-use Rattle.sharc_flat.specs.Places.{Target, variable, in_global, in_global_at, in_object, in_object_at, global_of, own_field, named_target, target}
-use Rattle.sharc_flat.specs.Tables.{granules_in, globals_from, globals_of}
+use Rattle.sharc_flat.specs.{Places.{Target, variable, in_global, in_global_at, in_object, in_object_at, global_of, own_field, named_target, target}, Tables.{granules_in, globals_from, globals_of}}
 use Rattle.sharc_typed_laws.specs.Programs.{AreGlobalsNamed}
+use Rattle.sharc_lemmas.proofs.Bools.{false_true as none_of}
 
 -- ---- the table of globals
 granule_is : (r : Resolution) (at : ℕ) (gs : List GlobalDefinition) → 1 ≤ at → (g : ℕ) → g < length gs → 1 ≤ (slice_index_or (globals_from r at gs) g no_global).granule
@@ -41,9 +27,6 @@ low_of : (r : Resolution) (g : ℕ) → g < length (globals_in r.program.items) 
 low_of r g lt = let le = granule_is r 1 (globals_in r.program.items) (omega arith) g lt in omega (arith, le)
 
 -- ---- only globals are arrays
-none_of : {A : Type 0} → false ≡ true → A
-none_of e = absurd (false≢true e)
-
 global_within : (gs : List GlobalDefinition) (n : ℕ) → is_array (global_kind_of (slice_get gs n)) ≡ true → n < length gs
 global_within [] n e = none_of e
 global_within (x ∷ gs) zero e = omega arith

@@ -1,26 +1,15 @@
 -- The functions of a program one after the other: what is said before each of their lines, and where they begin.
-use Rattle.std.proofs.Common.{◌≡◌, ℕ, zero, suc, ◌+◌, ◌-◌, ◌<◌, ◌≤◌, Bool, true, false, cond, List, [], ◌∷◌, ◌++◌, length, Some, refl, sym, ap, ◌∙◌, subst, arith, length-append}
+use Rattle.std.proofs.{Common.{◌≡◌, ℕ, zero, suc, ◌+◌, ◌-◌, ◌<◌, ◌≤◌, Bool, true, false, cond, List, [], ◌∷◌, ◌++◌, length, Some, refl, sym, ap, ◌∙◌, subst, arith, length-append}, lemmas.Bool.Decides.nat_tests, lemmas.Option.{same_Some, none-some}}
 use Rattle.std.specs.Prelude.{slice_get, slice_index_or, nat_lt}
-use Rattle.std.proofs.lemmas.Bool.Decides.{nat_tests}
-use Rattle.std.proofs.lemmas.Option.{same_Some, none-some}
 use Rattle.sharc_tree.specs.Tree.{Function}
-use Rattle.sharc_code.specs.declared.code.GlobalCells.{GlobalCells}
-use Rattle.sharc_code.specs.Machine.{no_function}
+use Rattle.sharc_code.specs.{declared.code.GlobalCells.GlobalCells, Machine.no_function}
 use Rattle.sharc_mode.specs.Moded.{Assignment}
 use Rattle.sharc_flat_form.specs.declared.op.Op.{Op}
 use Rattle.sharc_flat.specs.Flattened.{in_function, function_code, functions_code, rows_of}
-use Rattle.sharc_typed_laws.specs.Stretches.{Mark, Setting, Fits, IsLine, Agrees, AreLines, first}
-use Rattle.sharc_typed_laws.specs.Premises.{Typing}
-use Rattle.sharc_typed_laws.specs.Declared.{before}
-use Rattle.sharc_typed_laws.specs.Begun.{label_of}
-use Rattle.sharc_typed_laws.specs.Functions.{FunctionLines}
+use Rattle.sharc_typed_laws.specs.{Stretches.{Mark, Setting, Fits, IsLine, Agrees, AreLines, first}, Premises.Typing, Declared.before, Begun.label_of, Functions.FunctionLines}
+use Rattle.sharc_lemmas.proofs.Lists.{front_got as get_left}
 
 -- ---- lists
-get_left : {A : Type 0} (xs ys : List A) (j : ℕ) → j < length xs → slice_get (xs ++ ys) j ≡ slice_get xs j
-get_left [] ys j lt = absurd (omega (arith, lt))
-get_left (x ∷ xs) ys zero lt = refl
-get_left (x ∷ xs) ys (suc j) lt = get_left xs ys j (omega (arith, lt))
-
 get_right : {A : Type 0} (xs ys : List A) (j : ℕ) → slice_get (xs ++ ys) (length xs + j) ≡ slice_get ys j
 get_right [] ys j = let e : 0 + j ≡ j = omega arith in ap (slice_get ys) e
 get_right (x ∷ xs) ys j = let e : length (x ∷ xs) + j ≡ suc (length xs + j) = omega arith in ap (slice_get (x ∷ (xs ++ ys))) e ∙ get_right xs ys j

@@ -3,18 +3,11 @@ use Rattle.std.proofs.Common.{◌≡◌, ℕ, ◌+◌, List, [], ◌∷◌, ◌+
 use Rattle.sharc_flat_form.specs.declared.op.Op.{Op}
 use Rattle.sharc_flat_form.specs.declared.op.Op.TheVariants as op
 use Rattle.sharc_flat.specs.Scope.{Context, int_count, ref_count, pops}
-use Rattle.sharc_invariant.specs.Labels.{Label}
-use Rattle.sharc_invariant.specs.Typed.{ints_in, refs_in}
+use Rattle.sharc_invariant.specs.{Labels.Label, Typed.{ints_in, refs_in}}
 use Rattle.sharc_invariant.proofs.Scoped.{less_refl}
-use Rattle.sharc_typed_laws.specs.Stretches.{Mark, Setting, Way, AreOpen, LeadsAmong, LeadsFrom}
-use Rattle.sharc_typed_laws.specs.Places.{AreLow}
-use Rattle.sharc_typed_laws.specs.Premises.{Typing}
-use Rattle.sharc_typed_laws.specs.Declared.{StandsBefore, before}
-use Rattle.sharc_typed_laws.specs.Blocks.{BlocksAreTyped, AnywhereLeads, EnterLeads, BlockLeads}
+use Rattle.sharc_typed_laws.specs.{Stretches.{Mark, Setting, Way, AreOpen, LeadsAmong, LeadsFrom}, Places.AreLow, Premises.Typing, Declared.{StandsBefore, before}, Blocks.{BlocksAreTyped, AnywhereLeads, EnterLeads, BlockLeads}}
 use Rattle.sharc_typed_laws.proofs.Flow as flow
-use Rattle.sharc_typed_laws.proofs.Rules.{on_block_end}
-use Rattle.sharc_typed_laws.proofs.Parts.{At, keeps, enter_at, within_left, within_right}
-use Rattle.sharc_typed_laws.proofs.Ending.{ends_typed}
+use Rattle.sharc_typed_laws.proofs.{Rules.on_block_end, Parts.{At, keeps, enter_at, within_left, within_right}, Ending.ends_typed}
 
 module _ (z : Setting) (f : ℕ) (ways : List Way) (y : Typing) (c : Context) (low : AreLow (y.named c) (ref_count c.scope)) (l : Label) (here : StandsBefore y c f l) where
   abbrev fi : ℕ

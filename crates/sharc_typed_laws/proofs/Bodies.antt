@@ -1,6 +1,5 @@
 -- The code of a function whose types say what is asked is typed, wherever it is.
-use Rattle.std.proofs.Common.{◌≡◌, ℕ, ◌+◌, ◌≤◌, false, List, [], ◌∷◌, ◌++◌, length, Some, refl, sym, subst, arith, append_assoc, append-nil}
-use Rattle.std.proofs.lemmas.Bool.{false≢true}
+use Rattle.std.proofs.{Common.{◌≡◌, ℕ, ◌+◌, ◌≤◌, false, List, [], ◌∷◌, ◌++◌, length, Some, refl, sym, subst, arith, append_assoc, append-nil}, lemmas.Bool.false≢true}
 use Rattle.sharc_tree.specs.Tree.{Function}
 use Rattle.sharc_names.specs.Kinds.{Kind, declared_kind}
 use Rattle.sharc_meaning.specs.State.{is_reference}
@@ -8,18 +7,10 @@ use Rattle.sharc_code.specs.declared.code.GlobalCells.{GlobalCells}
 use Rattle.sharc_mode.specs.Moded.{Assignment}
 use Rattle.sharc_flat_form.specs.declared.op.Op.{Op}
 use Rattle.sharc_flat_form.specs.declared.op.Op.TheVariants as op
-use Rattle.sharc_flat.specs.Scope.{Context, int_count, ref_count, ends_from, at_site}
-use Rattle.sharc_flat.specs.Flattened.{zero_code, around_body, in_function, function_code, statements_code, behind_statements}
+use Rattle.sharc_flat.specs.{Scope.{Context, int_count, ref_count, ends_from, at_site}, Flattened.{zero_code, around_body, in_function, function_code, statements_code, behind_statements}}
 use Rattle.sharc_invariant.specs.Typed.{ints_in, refs_in}
-use Rattle.sharc_typed_laws.specs.Stretches.{Mark, Setting, AreWithin, LeadsFrom}
-use Rattle.sharc_typed_laws.specs.Premises.{Typing}
-use Rattle.sharc_typed_laws.specs.Declared.{before}
-use Rattle.sharc_typed_laws.specs.Begun.{label_of}
-use Rattle.sharc_typed_laws.specs.Functions.{IsLowTyping, FunctionTypable, FunctionLines, FunctionsAreTyped}
-use Rattle.sharc_typed_laws.proofs.Growing.{Extends, AreNamed, nested}
-use Rattle.sharc_typed_laws.proofs.StatementAlike.{scoped_in}
-use Rattle.sharc_typed_laws.proofs.Closing.{closes}
-use Rattle.sharc_typed_laws.proofs.Stating.{Below, Inside, all_typed}
+use Rattle.sharc_typed_laws.specs.{Stretches.{Mark, Setting, AreWithin, LeadsFrom}, Premises.Typing, Declared.before, Begun.label_of, Functions.{IsLowTyping, FunctionTypable, FunctionLines, FunctionsAreTyped}}
+use Rattle.sharc_typed_laws.proofs.{Growing.{Extends, AreNamed, nested}, StatementAlike.scoped_in, Closing.closes, Stating.{Below, Inside, all_typed}}
 
 -- the statements, the ends of the variables, the result, and back
 body_parts : (o : Op) (s e r t : List Op) → (o ∷ (s ++ ((e ++ []) ++ r))) ++ t ≡ o ∷ (s ++ (e ++ (r ++ t)))

@@ -1,28 +1,17 @@
 -- What was taken away is given a type, or freed, unless it is NULL.
-use Rattle.std.proofs.Common.{◌≡◌, ◌≢◌, ℕ, ◌+◌, ◌<◌, ◌≤◌, ◌⊎◌, Bool, true, false, cond, List, [], ◌∷◌, Some, refl, sym, ap, ◌∙◌, subst, inl, inr, ⊎_elim, arith}
+use Rattle.std.proofs.{Common.{◌≡◌, ◌≢◌, ℕ, ◌+◌, ◌<◌, ◌≤◌, ◌⊎◌, Bool, true, false, cond, List, [], ◌∷◌, Some, refl, sym, ap, ◌∙◌, subst, inl, inr, ⊎_elim, arith}, lemmas.Bool.{false≢true, cases_eq, cases_lt}}
 use Rattle.std.specs.Prelude.{nat_eq}
-use Rattle.std.proofs.lemmas.Bool.{false≢true, cases_eq, cases_lt}
 use Rattle.sharc_code.specs.Runs.{put}
-use Rattle.sharc_code.proofs.Places.{eq_refl, put_same, put_other, put_all}
-use Rattle.sharc_flat_form.specs.declared.op.Op.{Op}
+use Rattle.sharc_code.proofs.Places.{put_same, put_other, put_all}
+use Rattle.sharc_flat_form.specs.{declared.op.Op.Op, declared.op.Spot.Spot}
 use Rattle.sharc_flat_form.specs.declared.op.Op.TheVariants as op
-use Rattle.sharc_flat_form.specs.declared.op.Spot.{Spot}
 use Rattle.sharc_flat.specs.Scope.{Context, ref_count}
-use Rattle.sharc_invariant.specs.Types.{StaticType, Mentions, cells_of}
-use Rattle.sharc_invariant.specs.Labels.{Empty, Refers, Closed, Label, Less, LessNumber, LessEntry, LessGate, EntryMentions, IsScoped, IsFree, fill, empty, knows, without_copies, without_index}
-use Rattle.sharc_invariant.specs.Typed.{Recasts, IsLayout, moved_copy, ints_in, refs_in}
+use Rattle.sharc_invariant.specs.{Types.{StaticType, Mentions, cells_of}, Labels.{Empty, Refers, Closed, Label, Less, LessNumber, LessEntry, LessGate, EntryMentions, IsScoped, IsFree, fill, empty, knows, without_copies, without_index}, Typed.{Recasts, IsLayout, moved_copy, ints_in, refs_in}}
 use Rattle.sharc_invariant.proofs.Scoped.{less_entry_refl, less_number_refl, scoped_fill}
-use Rattle.sharc_typed_laws.specs.Passes.{IsNumberOf}
-use Rattle.sharc_typed_laws.specs.Stretches.{Mark, Setting, Fits}
-use Rattle.sharc_typed_laws.specs.Places.{IsNamed, mark}
-use Rattle.sharc_typed_laws.specs.Premises.{Typing}
-use Rattle.sharc_typed_laws.proofs.Fitting.{fits_by}
+use Rattle.sharc_typed_laws.specs.{Passes.IsNumberOf, Stretches.{Mark, Setting, Fits}, Places.{IsNamed, mark}, Premises.Typing}
+use Rattle.sharc_typed_laws.proofs.{Fitting.fits_by, Standing.{less_by, less_emptied, without_same, uncopied, scoped_frame, unnamed}, Losing.{with_copies, loses_taken, stands_lost}, Moves.{on_take_local, on_free, on_give}, Parts.{P, does, same_number}, Accessed.Frame}
 use Rattle.sharc_typed_laws.proofs.Flow as flow
-use Rattle.sharc_typed_laws.proofs.Standing.{less_by, less_emptied, without_same, uncopied, scoped_frame, unnamed}
-use Rattle.sharc_typed_laws.proofs.Losing.{with_copies, loses_taken, stands_lost}
-use Rattle.sharc_typed_laws.proofs.Moves.{on_take_local, on_free, on_give}
-use Rattle.sharc_typed_laws.proofs.Parts.{P, does, same_number}
-use Rattle.sharc_typed_laws.proofs.Accessed.{Frame}
+use Rattle.sharc_lemmas.proofs.Numbers.{eq_refl}
 
 module _ (around : Setting) (f : ℕ) (D : (ℕ → Mark) → Type 0) (y : Typing) (c : Context) (low : (p : ℕ) → y.named c p ≡ true → p < ref_count c.scope) (from : ℕ) where
   abbrev N : ℕ → Bool

@@ -1,31 +1,16 @@
 -- An access may be made behind its check, and the check is typed.
-use Rattle.std.proofs.Common.{◌≡◌, ℕ, ◌+◌, ◌-◌, ◌*◌, ◌≤◌, Bool, true, false, List, ◌∷◌, ◌++◌, Option, Some, None, refl, sym, ap, ◌∙◌, subst, inl, inr, arith}
+use Rattle.std.proofs.{Common.{◌≡◌, ℕ, ◌+◌, ◌-◌, ◌*◌, ◌≤◌, Bool, true, false, List, ◌∷◌, ◌++◌, Option, Some, None, refl, sym, ap, ◌∙◌, subst, inl, inr, arith}, lemmas.Bool.Decides.nat_tests, lemmas.Option.{same_Some, none-some}}
 use Rattle.std.specs.Prelude.{nat_lt, slice_index_or, map, if◌then◌else◌}
-use Rattle.std.proofs.lemmas.Bool.Decides.{nat_tests}
-use Rattle.std.proofs.lemmas.Option.{same_Some, none-some}
-use Rattle.sharc_code.specs.declared.code.Code.{Code}
-use Rattle.sharc_code.specs.declared.code.Function.{Function}
-use Rattle.sharc_code.specs.declared.code.PlaceMode.{PlaceMode}
+use Rattle.sharc_code.specs.{declared.code.Code.Code, declared.code.Function.Function, declared.code.PlaceMode.PlaceMode, declared.instr.Cell.Cell, declared.instr.Instr.Instr, declared.instr.Instr.TheVariants.{ChkRead, ChkWrite, ChkLock, ChkLockLoaded}, Says.place_at}
 use Rattle.sharc_code.specs.declared.code.PlaceMode.TheVariants as modes
-use Rattle.sharc_code.specs.declared.instr.Cell.{Cell}
 use Rattle.sharc_code.specs.declared.instr.Cell.TheVariants as cells
-use Rattle.sharc_code.specs.declared.instr.Instr.{Instr}
-use Rattle.sharc_code.specs.declared.instr.Instr.TheVariants.{ChkRead, ChkWrite, ChkLock, ChkLockLoaded}
-use Rattle.sharc_code.specs.Says.{place_at}
 use Rattle.sharc_code.proofs.Places.{put_same, put_all}
 use Rattle.sharc_flat_form.specs.declared.op.Spot.{Spot}
 use Rattle.sharc_gen.specs.Generated.{instr_of}
 use Rattle.sharc_guard.specs.Guard.{check_under}
-use Rattle.sharc_invariant.specs.Types.{Targets, Lock, Field, FieldLock, FieldMode, Content, cells_of}
-use Rattle.sharc_invariant.specs.Types.Lock.{Global, Through, Self}
-use Rattle.sharc_invariant.specs.Types.FieldLock.{OfType, OfGlobals, OfElement as OfSameElement}
-use Rattle.sharc_invariant.specs.Types.FieldMode.{Private, Readonly, Racy, Dynamic, Under, Behind}
-use Rattle.sharc_invariant.specs.Labels.{Entry, Empty, Refers, Unknown, Element, Named, Nth, Number, Anything, Exactly, Within, Indexes, OfElement, OfGlobal, Gate, Closed, Checked, Holds, HoldsLoaded, Pass, Label, Labels, Less, IsCopy, gated}
-use Rattle.sharc_invariant.specs.Typed.{HasField, HasBase, HasCell, IsPlace, IsOwn, Directly, Earlier, Covers, MayAccess, Accesses, IsNotSole, IsMode, IsLockMode, IsTypeMode, LeadsChecked, knows_base, no_lock}
+use Rattle.sharc_invariant.specs.{Types.{Targets, Lock, Field, FieldLock, FieldMode, Content, cells_of}, Types.Lock.{Global, Through, Self}, Types.FieldLock.{OfType, OfGlobals, OfElement as OfSameElement}, Types.FieldMode.{Private, Readonly, Racy, Dynamic, Under, Behind}, Labels.{Entry, Empty, Refers, Unknown, Element, Named, Nth, Number, Anything, Exactly, Within, Indexes, OfElement, OfGlobal, Gate, Closed, Checked, Holds, HoldsLoaded, Pass, Label, Labels, Less, IsCopy, gated}, Typed.{HasField, HasBase, HasCell, IsPlace, IsOwn, Directly, Earlier, Covers, MayAccess, Accesses, IsNotSole, IsMode, IsLockMode, IsTypeMode, LeadsChecked, knows_base, no_lock}}
 use Rattle.sharc_invariant.proofs.Scoped.{less_refl}
-use Rattle.sharc_typed_laws.specs.Steps.{all_at, Steps, Chain}
-use Rattle.sharc_typed_laws.specs.Inside.{lock_of, global_pass, global_element_pass, element_pass, pass_of, with_pass, held_gate, known_behind, gate_behind, passed_behind, behind, before_check}
-use Rattle.sharc_typed_laws.specs.Lines.{IsLockedBy, IsGuardedBy, MayPass, PassesCheck}
+use Rattle.sharc_typed_laws.specs.{Steps.{all_at, Steps, Chain}, Inside.{lock_of, global_pass, global_element_pass, element_pass, pass_of, with_pass, held_gate, known_behind, gate_behind, passed_behind, behind, before_check}, Lines.{IsLockedBy, IsGuardedBy, MayPass, PassesCheck}}
 use Rattle.sharc_typed_laws.proofs.TypedAlike.{has_field, has_cell, sibling, mutex_of, mode_is, place_is}
 
 -- ---- the check as one that is remembered

@@ -1,42 +1,21 @@
 -- A variable that is declared in a block.
-use Rattle.std.proofs.Common.{◌≡◌, ℕ, ◌+◌, ◌<◌, ◌≤◌, Bool, true, false, cond, ◌||◌, List, [], ◌∷◌, ◌++◌, Option, Some, None, refl, sym, ap, ◌∙◌, subst, ⊎_elim, arith, pos}
+use Rattle.std.proofs.{Common.{◌≡◌, ℕ, ◌+◌, ◌<◌, ◌≤◌, Bool, true, false, cond, ◌||◌, List, [], ◌∷◌, ◌++◌, Option, Some, None, refl, sym, ap, ◌∙◌, subst, ⊎_elim, arith, pos}, lemmas.Bool.{false≢true, cases_eq}}
 use Rattle.std.specs.Prelude.{nat_eq}
-use Rattle.std.proofs.lemmas.Bool.{false≢true, cases_eq}
-use Rattle.sharc_tree.specs.declared.tree.declaration.Declaration.{Declaration}
-use Rattle.sharc_tree.specs.Tree.{Right}
+use Rattle.sharc_tree.specs.{declared.tree.declaration.Declaration.Declaration, Tree.Right}
 use Rattle.sharc_names.specs.Kinds.{Kind, is_pointer, declared_kind}
-use Rattle.sharc_code.specs.Arithmetic.{holds}
-use Rattle.sharc_code.specs.declared.instr.Register.{Register}
+use Rattle.sharc_code.specs.{Arithmetic.holds, declared.instr.Register.Register, declared.instr.Width.Width, declared.instr.Width.TheVariants.{Char, Int, Long}, Runs.put}
 use Rattle.sharc_code.specs.declared.instr.Register.TheVariants as registers
-use Rattle.sharc_code.specs.declared.instr.Width.{Width}
-use Rattle.sharc_code.specs.declared.instr.Width.TheVariants.{Char, Int, Long}
-use Rattle.sharc_code.specs.Runs.{put}
-use Rattle.sharc_code.proofs.Places.{eq_refl, put_same, put_other, put_all}
+use Rattle.sharc_code.proofs.Places.{put_same, put_other, put_all}
 use Rattle.sharc_mode.specs.Sharings.{Sharing}
 use Rattle.sharc_meaning.specs.State.{is_reference}
 use Rattle.sharc_flat_form.specs.declared.op.Op.{Op}
 use Rattle.sharc_flat_form.specs.declared.op.Op.TheVariants as op
-use Rattle.sharc_flat.specs.declared.slot.Slot.{Slot}
-use Rattle.sharc_flat.specs.Scope.{Context, slot_of, slot_kind, int_count, ref_count, register_from, register_of}
-use Rattle.sharc_flat.specs.Places.{width_of, settle_code}
-use Rattle.sharc_flat.specs.Flattened.{with_variable, right_code, zero_code, initial_code, local_code}
-use Rattle.sharc_invariant.specs.Types.{StaticType}
-use Rattle.sharc_invariant.specs.Labels.{Refers, Number, Anything, Exactly, Within, Label, LessNumber, EntryMentions, fill, set_number}
-use Rattle.sharc_invariant.specs.Typed.{ints_in, refs_in}
+use Rattle.sharc_flat.specs.{declared.slot.Slot.Slot, Scope.{Context, slot_of, slot_kind, int_count, ref_count, register_from, register_of}, Places.{width_of, settle_code}, Flattened.{with_variable, right_code, zero_code, initial_code, local_code}}
+use Rattle.sharc_invariant.specs.{Types.StaticType, Labels.{Refers, Number, Anything, Exactly, Within, Label, LessNumber, EntryMentions, fill, set_number}, Typed.{ints_in, refs_in}}
 use Rattle.sharc_invariant.proofs.Scoped.{less_entry_refl, less_number_refl}
-use Rattle.sharc_typed_laws.specs.Stretches.{Mark, Setting, Way, AreOpen, LeadsAmong}
-use Rattle.sharc_typed_laws.specs.Places.{Stands, AreLow, mark}
-use Rattle.sharc_typed_laws.specs.Premises.{Typing}
-use Rattle.sharc_typed_laws.specs.Typable.{IsTypeIn}
-use Rattle.sharc_typed_laws.specs.Declared.{Keeps, BeginsReference, BeginsInteger, Begins, declared_label, InitialTypable, StandsBefore, before, LocalsAreTyped}
-use Rattle.sharc_typed_laws.proofs.Fitting.{fits_same, fits_by}
-use Rattle.sharc_typed_laws.proofs.Standing.{less_by, scoped_frame, stands_number, stands_fill}
-use Rattle.sharc_typed_laws.proofs.Parts.{At, then_do, post, none, constant_at}
-use Rattle.sharc_typed_laws.proofs.Accessed.{Frame}
-use Rattle.sharc_typed_laws.proofs.Variables.{assign_free_at}
-use Rattle.sharc_typed_laws.proofs.Expressing.{bare_frame, in_frame, null_at, bare_number}
-use Rattle.sharc_typed_laws.proofs.Simple.{reference_kept, Comes, rights, settled}
-use Rattle.sharc_typed_laws.proofs.Starting.{or_false}
+use Rattle.sharc_typed_laws.specs.{Stretches.{Mark, Setting, Way, AreOpen, LeadsAmong}, Places.{Stands, AreLow, mark}, Premises.Typing, Typable.IsTypeIn, Declared.{Keeps, BeginsReference, BeginsInteger, Begins, declared_label, InitialTypable, StandsBefore, before, LocalsAreTyped}}
+use Rattle.sharc_typed_laws.proofs.{Fitting.{fits_same, fits_by}, Standing.{less_by, scoped_frame, stands_number, stands_fill}, Parts.{At, then_do, post, none, constant_at}, Accessed.Frame, Variables.assign_free_at, Expressing.{bare_frame, in_frame, null_at, bare_number}, Simple.{reference_kept, Comes, rights, settled}}
+use Rattle.sharc_lemmas.proofs.{Bools.or_false, Numbers.eq_refl}
 
 pub zero_fits : (w : Width) → holds w (pos 0) ≡ true
 zero_fits Char = refl

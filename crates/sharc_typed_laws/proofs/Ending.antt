@@ -1,27 +1,15 @@
 -- The ends of blocks.
-use Rattle.std.proofs.Common.{◌≡◌, ◌≢◌, ℕ, ◌+◌, ◌<◌, ◌≤◌, ◌⊎◌, Bool, true, false, cond, ◌||◌, List, [], ◌∷◌, Some, refl, sym, ap, ◌∙◌, subst, inl, inr, ⊎_elim, arith}
-use Rattle.std.proofs.lemmas.Bool.Decides.{nat_tests}
-use Rattle.std.proofs.lemmas.Bool.{false≢true, cases_eq, cases_lt}
+use Rattle.std.proofs.{Common.{◌≡◌, ◌≢◌, ℕ, ◌+◌, ◌<◌, ◌≤◌, ◌⊎◌, Bool, true, false, cond, ◌||◌, List, [], ◌∷◌, Some, refl, sym, ap, ◌∙◌, subst, inl, inr, ⊎_elim, arith}, lemmas.Bool.Decides.nat_tests, lemmas.Bool.{false≢true, cases_eq, cases_lt}}
 use Rattle.sharc_code.specs.Runs.{put}
 use Rattle.sharc_code.proofs.Places.{put_other, put_all}
 use Rattle.sharc_flat_form.specs.declared.op.Op.{Op}
 use Rattle.sharc_flat_form.specs.declared.op.Op.TheVariants as op
-use Rattle.sharc_flat.specs.declared.slot.Slot.{Slot}
-use Rattle.sharc_flat.specs.Scope.{Context, int_count, ref_count, pops}
-use Rattle.sharc_invariant.specs.Types.{Lock, Mentions, Names, SomeNames}
-use Rattle.sharc_invariant.specs.Types.Lock.{Global, Through, Self}
-use Rattle.sharc_invariant.specs.Labels.{Entry, Empty, Refers, Unknown, Within, Closed, IsIn, Label, Less, LessEntry, LessNumber, LessGate, HasBase, EntryMentions, IsScoped, without_copies, without_index, names, some_names, forgotten, forgets, empty}
-use Rattle.sharc_invariant.specs.Typed.{ints_in, refs_in}
+use Rattle.sharc_flat.specs.{declared.slot.Slot.Slot, Scope.{Context, int_count, ref_count, pops}}
+use Rattle.sharc_invariant.specs.{Types.{Lock, Mentions, Names, SomeNames}, Types.Lock.{Global, Through, Self}, Labels.{Entry, Empty, Refers, Unknown, Within, Closed, IsIn, Label, Less, LessEntry, LessNumber, LessGate, HasBase, EntryMentions, IsScoped, without_copies, without_index, names, some_names, forgotten, forgets, empty}, Typed.{ints_in, refs_in}}
 use Rattle.sharc_invariant.proofs.Scoped.{less_entry_refl, less_number_refl}
-use Rattle.sharc_typed_laws.specs.Stretches.{Mark, Setting, Way, AreOpen, LeadsAmong}
-use Rattle.sharc_typed_laws.specs.Places.{AreLow, mark}
-use Rattle.sharc_typed_laws.specs.Premises.{Typing}
-use Rattle.sharc_typed_laws.specs.Declared.{StandsBefore, before}
-use Rattle.sharc_typed_laws.specs.Ended.{Grows, EndsAreTyped}
-use Rattle.sharc_typed_laws.proofs.Standing.{less_by, scoped_frame, without_same, uncopied}
-use Rattle.sharc_typed_laws.proofs.Telling.{told}
-use Rattle.sharc_typed_laws.proofs.Moves.{on_pop_named}
-use Rattle.sharc_typed_laws.proofs.Parts.{then_do, does, none, none_some}
+use Rattle.sharc_typed_laws.specs.{Stretches.{Mark, Setting, Way, AreOpen, LeadsAmong}, Places.{AreLow, mark}, Premises.Typing, Declared.{StandsBefore, before}, Ended.{Grows, EndsAreTyped}}
+use Rattle.sharc_typed_laws.proofs.{Standing.{less_by, scoped_frame, without_same, uncopied}, Telling.told, Moves.on_pop_named, Parts.{then_do, does, none}}
+use Rattle.sharc_lemmas.proofs.Options.{no_guard as none_some}
 
 -- ---- types that name a register are forgotten
 names_are : (n : ℕ) (lock : Lock) → names n lock ≡ true → Names n lock

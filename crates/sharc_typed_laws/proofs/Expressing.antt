@@ -1,71 +1,23 @@
 -- The code of an expression is typed, by what the types of the source say of it.
-use Rattle.std.proofs.Common.{◌≡◌, ℕ, ◌+◌, ◌<◌, ◌≤◌, ◌⊎◌, Bool, true, false, cond, List, [], ◌∷◌, ◌++◌, Option, Some, None, refl, sym, ap, ◌∙◌, subst, inl, inr, ⊎_elim, arith, append_assoc, drop, codes, bytes_eq}
-use Rattle.std.proofs.lemmas.Bool.{false≢true, cases_eq, cases_lt}
-use Rattle.sharc_tree.specs.declared.token.Site.{Site}
-use Rattle.sharc_tree.specs.declared.token.Span.{Span}
-use Rattle.sharc_tree.specs.declared.tree.declaration.Identifier.{Identifier}
-use Rattle.sharc_tree.specs.declared.tree.declaration.WrittenType.{WrittenType}
-use Rattle.sharc_tree.specs.declared.tree.expression.Access.TheVariants.{Dot, Arrow}
-use Rattle.sharc_tree.specs.declared.tree.expression.BinaryOperator.{BinaryOperator}
-use Rattle.sharc_tree.specs.declared.tree.expression.BinaryOperator.TheVariants.{LogicalOr, LogicalAnd, BitOr, BitXor, BitAnd, Equal, NotEqual, Less, Greater, LessOrEqual, GreaterOrEqual, ShiftLeft, ShiftRight, Add, Subtract, Multiply, Divide, Remainder}
-use Rattle.sharc_tree.specs.declared.tree.expression.Constant.{Constant}
-use Rattle.sharc_tree.specs.declared.tree.expression.PlaceCall.TheVariants.{Lock, Unlock, Free}
-use Rattle.sharc_tree.specs.declared.tree.expression.UnaryOperator.TheVariants.{Negate, Not, Complement, Dereference}
-use Rattle.sharc_tree.specs.declared.tree.expression.ValueCall.TheVariants.{Join, Print}
-use Rattle.sharc_tree.specs.Spans.{span_of}
-use Rattle.sharc_tree.specs.Tree.{Expression, identifier, constant, parentheses, call, spawn, on_value, on_place, cast, index, field, unary, binary, Arguments, no_arguments, argument}
-use Rattle.sharc_names.specs.declared.fault.Named.{Named}
+use Rattle.std.proofs.{Common.{◌≡◌, ℕ, ◌+◌, ◌<◌, ◌≤◌, ◌⊎◌, Bool, true, false, cond, List, [], ◌∷◌, ◌++◌, Option, Some, None, refl, sym, ap, ◌∙◌, subst, inl, inr, ⊎_elim, arith, append_assoc, drop, codes, bytes_eq}, lemmas.Bool.{false≢true, cases_eq, cases_lt}}
+use Rattle.sharc_tree.specs.{declared.token.Site.Site, declared.token.Span.Span, declared.tree.declaration.Identifier.Identifier, declared.tree.declaration.WrittenType.WrittenType, declared.tree.expression.Access.TheVariants.{Dot, Arrow}, declared.tree.expression.BinaryOperator.BinaryOperator, declared.tree.expression.BinaryOperator.TheVariants.{LogicalOr, LogicalAnd, BitOr, BitXor, BitAnd, Equal, NotEqual, Less, Greater, LessOrEqual, GreaterOrEqual, ShiftLeft, ShiftRight, Add, Subtract, Multiply, Divide, Remainder}, declared.tree.expression.Constant.Constant, declared.tree.expression.PlaceCall.TheVariants.{Lock, Unlock, Free}, declared.tree.expression.UnaryOperator.TheVariants.{Negate, Not, Complement, Dereference}, declared.tree.expression.ValueCall.TheVariants.{Join, Print}, Spans.span_of, Tree.{Expression, identifier, constant, parentheses, call, spawn, on_value, on_place, cast, index, field, unary, binary, Arguments, no_arguments, argument}}
+use Rattle.sharc_names.specs.{declared.fault.Named.Named, Kinds.{Kind, is_array, is_integer, element_kind, promoted, declared_kinds}}
 use Rattle.sharc_names.specs.declared.fault.Named.TheVariants as named
-use Rattle.sharc_names.specs.Kinds.{Kind, is_array, is_integer, element_kind, promoted, declared_kinds}
-use Rattle.sharc_code.specs.declared.code.Use.{Use}
+use Rattle.sharc_code.specs.{declared.code.Use.Use, declared.instr.Register.Register, declared.instr.Width.Width, declared.instr.Width.TheVariants.{Char, Int, Long}, Runs.put}
 use Rattle.sharc_code.specs.declared.code.Use.TheVariants as uses
-use Rattle.sharc_code.specs.declared.instr.Register.{Register}
 use Rattle.sharc_code.specs.declared.instr.Register.TheVariants as registers
-use Rattle.sharc_code.specs.declared.instr.Width.{Width}
-use Rattle.sharc_code.specs.declared.instr.Width.TheVariants.{Char, Int, Long}
-use Rattle.sharc_code.specs.Runs.{put}
 use Rattle.sharc_code.proofs.Places.{put_same, put_other, put_all}
-use Rattle.sharc_ctype.specs.Resolved.{global_at, structs_in}
-use Rattle.sharc_ctype.specs.Transfers.{parameters_named}
+use Rattle.sharc_ctype.specs.{Resolved.{global_at, structs_in}, Transfers.parameters_named}
 use Rattle.sharc_mode.specs.Sharings.{Sharing}
-use Rattle.sharc_meaning.specs.Cells.{element_cells, field_place_named, global_elements}
-use Rattle.sharc_meaning.specs.Expressions.{number_named}
-use Rattle.sharc_meaning.specs.Reference.{constant_value}
-use Rattle.sharc_meaning.specs.State.{is_reference}
-use Rattle.sharc_flat_form.specs.declared.op.Op.{Op}
+use Rattle.sharc_meaning.specs.{Cells.{element_cells, field_place_named, global_elements}, Expressions.number_named, Reference.constant_value, State.is_reference}
+use Rattle.sharc_flat_form.specs.{declared.op.Op.Op, declared.op.Spot.Spot, Machine.first_cell}
 use Rattle.sharc_flat_form.specs.declared.op.Op.TheVariants as op
-use Rattle.sharc_flat_form.specs.declared.op.Spot.{Spot}
-use Rattle.sharc_flat_form.specs.Machine.{first_cell}
-use Rattle.sharc_flat.specs.declared.slot.Lvalue.{Lvalue}
-use Rattle.sharc_flat.specs.Scope.{Context, ref_count, register_of, number_in, at_site}
-use Rattle.sharc_flat.specs.Places.{Target, variable, in_global, in_global_at, in_object, in_object_at, target, named_target, own_field, global_of, guard_width, copy_code, cell_value_code, cell_take_code, take_code, value_code, index_code, pointee_code, bounds_code, width_of}
-use Rattle.sharc_flat.specs.Flattened.{kind_of, is_ref, target_of, mode_of, what_names, lvalue_in, guard_of, constant_code, named_code, truth_code, compare_code, logical_code, either_code, behind_int, behind_ref, operator_of, first_cell_of, wait_code, with_words, argument_words, condition_code, called_code, passed_code, spawn_code, cast_code, layout_of, expression_code, arguments_code, place_code}
-use Rattle.sharc_flat.specs.Suits.{Either, is_cell}
-use Rattle.sharc_invariant.specs.Types.{StaticType, cells_of}
-use Rattle.sharc_invariant.specs.Types.Content.{MutexWord, Waiters}
-use Rattle.sharc_invariant.specs.Labels.{Entry, Empty, Refers, Element, Number, Anything, Nth, Exactly, Within, Indexes, OfElement, OfGlobal, Closed, Label, Less as LessLabel, Narrower, LessNumber, LessEntry, LessGate, HasBase, fill, set_number, without_copies}
-use Rattle.sharc_invariant.specs.Typed.{Passes, ints_in, refs_in}
-use Rattle.sharc_invariant.proofs.Frames.{wider}
-use Rattle.sharc_invariant.proofs.Scoped.{less_refl, less_entry_refl, less_number_refl, scoped_fill}
-use Rattle.sharc_typed_laws.specs.Stretches.{Mark, Setting, Way, AreOpen}
-use Rattle.sharc_typed_laws.specs.Places.{IsNamed, IsPlain, AreLow, no_type, mark}
-use Rattle.sharc_typed_laws.specs.Premises.{Typing, IsCopyIn, IsCopyNamed, IsCopyOf, IsPointerCopy, Ground, ReferenceTyped}
-use Rattle.sharc_typed_laws.specs.Typable.{IsBare, StandsIn, type_by, GoesTo, Widens, ints_behind, refs_behind, AreFree, IsTypeIn, IsVoid, IsNumber, IsPointer, ground_of, CellTyped, VariableTyped, NameTyped, ConstantTyped, UnaryTyped, result_of, ComparedTyped, HasType, AreFields, IndexTypable, ArgumentAt, ArgumentsAt, ResultTyped, CallTyped, HasNoWidth, Goes, Handed, SpawnTyped, FirstCell, IsOne, AreTwo, ConditionTyped, VariableTakes, Takes, TakeTyped, CastTyped, FreeTyped, CallTypable, IsTypable, AreTypable, IsPlaceTypable}
-use Rattle.sharc_typed_laws.proofs.Fitting.{fits_same}
-use Rattle.sharc_typed_laws.proofs.Losing.{with_copies, Loses, loses_none, loses_both, loses_taken, stands_lost, less_lost, holds_lost, below, loses_below, loses_there, small_there, lost_fill, copy_kept}
-use Rattle.sharc_typed_laws.proofs.Standing.{less_by}
-use Rattle.sharc_typed_laws.proofs.Telling.{told, other_than}
-use Rattle.sharc_typed_laws.proofs.Rules.{on_nothing}
-use Rattle.sharc_typed_laws.proofs.Parts.{P, at_number, at_fill, number_above, none_some, does, then_do, none, enter, constant_at, width_at, from_free, false_at, compute_at, negate_at, complement_at, number_dropped, truth_at, compare_at, logical_at, either_at, check_at, pointee_at, print_at, join_at, with_number}
-use Rattle.sharc_typed_laws.proofs.Variables.{local_at, move_at}
-use Rattle.sharc_typed_laws.proofs.Indexes.{element_of, fresh_name}
-use Rattle.sharc_typed_laws.proofs.Accessed.{Frame, placed, indexed, int_value, reference_value, taken_value, holds_over, wider_names}
-use Rattle.sharc_typed_laws.proofs.Casting.{take_variable_at, freed_at, given_at}
-use Rattle.sharc_typed_laws.proofs.Calling.{call_reference, call_number, call_nothing}
-use Rattle.sharc_typed_laws.proofs.Spawning.{spawn_number, spawn_reference}
-use Rattle.sharc_typed_laws.proofs.Waiting.{signalled, broadcasted, waited}
-use Rattle.sharc_typed_laws.proofs.Locking.{locked_at, unlocked_at}
-use Rattle.sharc_typed_laws.proofs.LabelsPlacing.{AreFew, which, bounds_at, finds_object, finds_global}
+use Rattle.sharc_flat.specs.{declared.slot.Lvalue.Lvalue, Scope.{Context, ref_count, register_of, number_in, at_site}, Places.{Target, variable, in_global, in_global_at, in_object, in_object_at, target, named_target, own_field, global_of, guard_width, copy_code, cell_value_code, cell_take_code, take_code, value_code, index_code, pointee_code, bounds_code, width_of}, Flattened.{kind_of, is_ref, target_of, mode_of, what_names, lvalue_in, guard_of, constant_code, named_code, truth_code, compare_code, logical_code, either_code, behind_int, behind_ref, operator_of, first_cell_of, wait_code, with_words, argument_words, condition_code, called_code, passed_code, spawn_code, cast_code, layout_of, expression_code, arguments_code, place_code}, Suits.{Either, is_cell}}
+use Rattle.sharc_invariant.specs.{Types.{StaticType, cells_of}, Types.Content.{MutexWord, Waiters}, Labels.{Entry, Empty, Refers, Element, Number, Anything, Nth, Exactly, Within, Indexes, OfElement, OfGlobal, Closed, Label, Less as LessLabel, Narrower, LessNumber, LessEntry, LessGate, HasBase, fill, set_number, without_copies}, Typed.{Passes, ints_in, refs_in}}
+use Rattle.sharc_invariant.proofs.{Frames.wider, Scoped.{less_refl, less_entry_refl, less_number_refl, scoped_fill}}
+use Rattle.sharc_typed_laws.specs.{Stretches.{Mark, Setting, Way, AreOpen}, Places.{IsNamed, IsPlain, AreLow, no_type, mark}, Premises.{Typing, IsCopyIn, IsCopyNamed, IsCopyOf, IsPointerCopy, Ground, ReferenceTyped}, Typable.{IsBare, StandsIn, type_by, GoesTo, Widens, ints_behind, refs_behind, AreFree, IsTypeIn, IsVoid, IsNumber, IsPointer, ground_of, CellTyped, VariableTyped, NameTyped, ConstantTyped, UnaryTyped, result_of, ComparedTyped, HasType, AreFields, IndexTypable, ArgumentAt, ArgumentsAt, ResultTyped, CallTyped, HasNoWidth, Goes, Handed, SpawnTyped, FirstCell, IsOne, AreTwo, ConditionTyped, VariableTakes, Takes, TakeTyped, CastTyped, FreeTyped, CallTypable, IsTypable, AreTypable, IsPlaceTypable}}
+use Rattle.sharc_typed_laws.proofs.{Fitting.fits_same, Losing.{with_copies, Loses, loses_none, loses_both, loses_taken, stands_lost, less_lost, holds_lost, below, loses_below, loses_there, small_there, lost_fill, copy_kept}, Standing.less_by, Telling.{told, other_than}, Rules.on_nothing, Parts.{P, at_number, at_fill, number_above, does, then_do, none, enter, constant_at, width_at, from_free, false_at, compute_at, negate_at, complement_at, number_dropped, truth_at, compare_at, logical_at, either_at, check_at, pointee_at, print_at, join_at, with_number}, Variables.{local_at, move_at}, Indexes.{element_of, fresh_name}, Accessed.{Frame, placed, indexed, int_value, reference_value, taken_value, holds_over, wider_names}, Casting.{take_variable_at, freed_at, given_at}, Calling.{call_reference, call_number, call_nothing}, Spawning.{spawn_number, spawn_reference}, Waiting.{signalled, broadcasted, waited}, Locking.{locked_at, unlocked_at}, LabelsPlacing.{AreFew, which, bounds_at, finds_object, finds_global}}
+use Rattle.sharc_lemmas.proofs.Options.{no_guard as none_some}
 
 pub no_element : (n : Number) (q : ℕ) → IsPlain n → HasBase n q → ⊥
 no_element Anything q plain h = h

@@ -1,13 +1,10 @@
 -- Stretches of flat code one after the other: tests, choices, loops.
-use Rattle.std.proofs.Common.{◌≡◌, ℕ, ◌+◌, ◌≤◌, List, [], ◌∷◌, ◌++◌, length, refl, ap, sym, ◌∙◌, subst, arith, length-append, Some, None}
+use Rattle.std.proofs.Common.{◌≡◌, ℕ, ◌+◌, ◌≤◌, List, [], ◌∷◌, ◌++◌, length, refl, ap, sym, ◌∙◌, subst, arith, length-append}
 use Rattle.sharc_flat_form.specs.declared.op.Op.{Op}
 use Rattle.sharc_flat_form.specs.declared.op.Op.TheVariants as op
 use Rattle.sharc_invariant.specs.Labels.{Less}
-use Rattle.sharc_typed_laws.proofs.Preorder.{less_through}
+use Rattle.sharc_typed_laws.proofs.{Preorder.less_through, Fitting.{fits_same, fits_through}, Rules.{Plain, PlainNull, cleared, noted, on_skip, on_zero, on_null}, Closing.agrees_left}
 use Rattle.sharc_typed_laws.specs.Stretches.{Mark, Setting, Fits, IsLine, Agrees, AreLines, first, Stretch}
-use Rattle.sharc_typed_laws.proofs.Fitting.{fits_same, fits_through}
-use Rattle.sharc_typed_laws.proofs.Rules.{Plain, PlainNull, cleared, noted, on_skip, on_zero, on_null}
-use Rattle.sharc_typed_laws.proofs.Closing.{agrees_left}
 
 agrees_at : (table : ℕ → Mark) (p q : ℕ) (list : List Mark) → p ≡ q → Agrees table p list → Agrees table q list
 agrees_at table p q list e h = subst (λ n. Agrees table n list) e h
@@ -15,9 +12,6 @@ agrees_at table p q list e h = subst (λ n. Agrees table n list) e h
 pub agrees_right : (table : ℕ → Mark) (pc : ℕ) (a b : List Mark) (n : ℕ) → length a ≡ n → Agrees table pc (a ++ b) → Agrees table (pc + n) b
 agrees_right table pc [] b n e h = agrees_at table pc (pc + n) b (omega (arith, e)) h
 agrees_right table pc (s ∷ rest) b n e h = agrees_at table (pc + 1 + length rest) (pc + n) b (omega (arith, e)) (agrees_right table (pc + 1) rest b (length rest) refl h.1)
-
-none_some : {A : Type 0} (x : A) → None ≡ Some x → ⊥
-none_some x h = cc
 
 module _ (around : Setting) (f : ℕ) where
   abbrev pub Fit : Mark → Mark → Type 0

@@ -1,16 +1,8 @@
 -- Contexts in which more variables stand, and blocks that are open one in the other.
-use Rattle.std.proofs.Common.{◌≡◌, ℕ, ◌+◌, ◌<◌, Bool, true, false, cond, List, [], ◌∷◌, ◌++◌, length, take, drop, refl, sym, ap, ◌∙◌, subst, arith, append_assoc, append-nil}
-use Rattle.std.proofs.lemmas.List.{take_all, take-append-le, drop_at}
-use Rattle.sharc_flat.specs.declared.slot.Slot.{Slot}
-use Rattle.sharc_flat.specs.Scope.{Context, int_count, ref_count, pops, ends_from}
+use Rattle.std.proofs.{Common.{◌≡◌, ℕ, ◌+◌, ◌<◌, Bool, true, false, cond, List, [], ◌∷◌, ◌++◌, length, take, drop, refl, sym, ap, ◌∙◌, subst, arith, append_assoc, append-nil}, lemmas.List.{take_all, take-append-le, drop_at}}
+use Rattle.sharc_flat.specs.{declared.slot.Slot.Slot, Scope.{Context, int_count, ref_count, pops, ends_from}}
 use Rattle.sharc_invariant.specs.Labels.{Label}
-use Rattle.sharc_typed_laws.specs.Places.{IsNamed, AreLow}
-use Rattle.sharc_typed_laws.specs.Premises.{Typing}
-use Rattle.sharc_typed_laws.specs.Declared.{StandsBefore}
-use Rattle.sharc_typed_laws.specs.Begun.{label_of, LabelsStand}
-use Rattle.sharc_typed_laws.specs.Ended.{Grows}
-use Rattle.sharc_typed_laws.specs.Left.{back, AreNested}
-use Rattle.sharc_typed_laws.specs.Functions.{IsLowTyping}
+use Rattle.sharc_typed_laws.specs.{Places.{IsNamed, AreLow}, Premises.Typing, Declared.StandsBefore, Begun.{label_of, LabelsStand}, Ended.Grows, Left.{back, AreNested}, Functions.IsLowTyping}
 
 -- ---- counts
 refs_both : (a b : List Slot) → ref_count (a ++ b) ≡ ref_count a + ref_count b

@@ -1,22 +1,14 @@
 -- Calls, returns and new threads, each by itself.
-use Rattle.std.proofs.Common.{◌≡◌, ◌≢◌, ℕ, ◌+◌, ◌<◌, ◌≤◌, true, false, List, length, refl, Some}
+use Rattle.std.proofs.{Common.{◌≡◌, ◌≢◌, ℕ, ◌+◌, ◌<◌, ◌≤◌, true, false, List, length, refl, Some}, lemmas.Option.none-some}
 use Rattle.std.specs.Prelude.{filter}
-use Rattle.std.proofs.lemmas.Option.{none-some}
-use Rattle.sharc_code.specs.declared.instr.Register.{Register}
+use Rattle.sharc_code.specs.{declared.instr.Register.Register, declared.instr.Width.TheVariants.Char}
 use Rattle.sharc_code.specs.declared.instr.Register.TheVariants as registers
-use Rattle.sharc_code.specs.declared.instr.Width.TheVariants.{Char}
 use Rattle.sharc_flat_form.specs.declared.op.Op.TheVariants as op
 use Rattle.sharc_flat_form.specs.declared.op.Spot.{Spot}
-use Rattle.sharc_invariant.specs.Types.{Lock}
-use Rattle.sharc_invariant.specs.Types.Lock.{Global, Through, Self}
-use Rattle.sharc_invariant.specs.Labels.{Entry, Empty, Refers, Unknown, Within, Closed, Pass, IsIn, Label, Less, SameReference, LessNumber, LessEntry, EntryMentions, set_number, empty, without_base}
-use Rattle.sharc_invariant.specs.Typed.{Passes, PassesLock, Hands, ints_in, refs_in, handed_label, called_label, below_pass}
-use Rattle.sharc_typed_laws.specs.Passes.{with_passes}
-use Rattle.sharc_typed_laws.proofs.TypedAlike.{all_same, same_reference, less_entry}
-use Rattle.sharc_typed_laws.proofs.Preorder.{less_through}
-use Rattle.sharc_typed_laws.specs.Stretches.{Mark, Setting, labels_by, Fits, IsLine}
-use Rattle.sharc_typed_laws.proofs.Rules.{with_less}
-use Rattle.sharc_typed_laws.proofs.Accesses.{InFrame, never}
+use Rattle.sharc_invariant.specs.{Types.Lock, Types.Lock.{Global, Through, Self}, Labels.{Entry, Empty, Refers, Unknown, Within, Closed, Pass, IsIn, Label, Less, SameReference, LessNumber, LessEntry, EntryMentions, set_number, empty, without_base}, Typed.{Passes, PassesLock, Hands, ints_in, refs_in, handed_label, called_label, below_pass}}
+use Rattle.sharc_typed_laws.specs.{Passes.with_passes, Stretches.{Mark, Setting, labels_by, Fits, IsLine}}
+use Rattle.sharc_typed_laws.proofs.{TypedAlike.{all_same, same_reference, less_entry}, Preorder.less_through, Rules.with_less, Accesses.InFrame}
+use Rattle.sharc_lemmas.proofs.Bools.{false_true as never}
 
 -- ---- what is passed, with checks that are remembered
 module _ (l : Label) (ps : List Pass) where

@@ -1,25 +1,16 @@
 -- Indexes: the number of a cell of an element, and beside it that of the mutex of the same element.
-use Rattle.std.proofs.Common.{◌≡◌, ◌≢◌, ℕ, zero, suc, ◌+◌, ◌*◌, ◌^◌, ◌<◌, ◌≤◌, Bool, true, false, cond, List, [], ◌∷◌, Option, Some, None, refl, sym, ap, ◌∙◌, subst, ⊎_elim, arith, pos, negsuc, max}
+use Rattle.std.proofs.{Common.{◌≡◌, ◌≢◌, ℕ, zero, suc, ◌+◌, ◌*◌, ◌^◌, ◌<◌, ◌≤◌, Bool, true, false, cond, List, [], ◌∷◌, Option, Some, None, refl, sym, ap, ◌∙◌, subst, ⊎_elim, arith, pos, negsuc, max}, lemmas.Bool.{false≢true, cases_eq, cases_lt}, lemmas.Option.same_Some}
 use Rattle.std.specs.Prelude.{nat_eq, nat_lt}
-use Rattle.std.proofs.lemmas.Bool.{false≢true, cases_eq, cases_lt}
-use Rattle.std.proofs.lemmas.Option.{same_Some}
 use Rattle.sharc_code.specs.Runs.{put}
 use Rattle.sharc_code.proofs.Places.{put_same, put_other, put_all}
-use Rattle.sharc_flat_form.specs.declared.op.Op.{Op}
+use Rattle.sharc_flat_form.specs.{declared.op.Op.Op, Framed.OpWrites}
 use Rattle.sharc_flat_form.specs.declared.op.Op.TheVariants as op
-use Rattle.sharc_flat_form.specs.Framed.{OpWrites}
 use Rattle.sharc_guard.specs.Known.{Know, know_next, writes_ref, writes_int, number_given, with_element}
-use Rattle.sharc_invariant.specs.Types.{Targets}
-use Rattle.sharc_invariant.specs.Labels.{Empty, Element, Named, Nth, Number, Anything, Exactly, Within, Indexes, OfElement, OfGlobal, Closed, Pass, Label, Less, LessNumber, HasBase, HasName, IsNamed as IsNameOf, Fresh, IsScoped, set_number}
-use Rattle.sharc_invariant.specs.Typed.{IsElement, ints_in, refs_in}
+use Rattle.sharc_invariant.specs.{Types.Targets, Labels.{Empty, Element, Named, Nth, Number, Anything, Exactly, Within, Indexes, OfElement, OfGlobal, Closed, Pass, Label, Less, LessNumber, HasBase, HasName, IsNamed as IsNameOf, Fresh, IsScoped, set_number}, Typed.{IsElement, ints_in, refs_in}}
 use Rattle.sharc_invariant.proofs.Scoped.{less_entry_refl, less_number_refl}
-use Rattle.sharc_typed_laws.specs.Passes.{with_passes, IsNumberOf}
-use Rattle.sharc_typed_laws.specs.Stretches.{Mark, Setting, Tells, Fits, IsLine}
-use Rattle.sharc_typed_laws.specs.Places.{IsPlain, mark}
-use Rattle.sharc_typed_laws.proofs.Standing.{less_by, scoped_frame, stands_number}
-use Rattle.sharc_typed_laws.proofs.Telling.{told, other_than, same_as}
-use Rattle.sharc_typed_laws.proofs.Rules.{Plain, on_move, on_move_named}
-use Rattle.sharc_typed_laws.proofs.Parts.{P, does, before, At, at_number, same_number, number_op, none_some, with_number}
+use Rattle.sharc_typed_laws.specs.{Passes.{with_passes, IsNumberOf}, Stretches.{Mark, Setting, Tells, Fits, IsLine}, Places.{IsPlain, mark}}
+use Rattle.sharc_typed_laws.proofs.{Standing.{less_by, scoped_frame, stands_number}, Telling.{told, other_than, same_as}, Rules.{Plain, on_move, on_move_named}, Parts.{P, does, before, At, at_number, same_number, number_op, with_number}}
+use Rattle.sharc_lemmas.proofs.Options.{no_guard as none_some}
 
 -- ---- a name that no number has
 name_after : Element → ℕ

@@ -3,19 +3,11 @@ use Rattle.std.proofs.Common.{ℕ, ◌+◌, Bool, true, false, List, ◌++◌, s
 use Rattle.sharc_tree.specs.Tree.{Expression}
 use Rattle.sharc_names.specs.Kinds.{is_integer}
 use Rattle.sharc_flat_form.specs.declared.op.Op.{Op}
-use Rattle.sharc_flat.specs.Scope.{Context, ref_count}
-use Rattle.sharc_flat.specs.Flattened.{kind_of, is_ref, truth_code, expression_code}
+use Rattle.sharc_flat.specs.{Scope.{Context, ref_count}, Flattened.{kind_of, is_ref, truth_code, expression_code}}
 use Rattle.sharc_invariant.specs.Labels.{Refers, Label, fill, set_number}
 use Rattle.sharc_invariant.proofs.Scoped.{less_refl}
-use Rattle.sharc_typed_laws.specs.Stretches.{Setting, Way, AreOpen, LeadsAmong}
-use Rattle.sharc_typed_laws.specs.Places.{AreLow, mark}
-use Rattle.sharc_typed_laws.specs.Premises.{Typing}
-use Rattle.sharc_typed_laws.specs.Typable.{IsBare}
-use Rattle.sharc_typed_laws.specs.LabelsLaws.{StretchesJoin, PartsAreTyped, ValueComes, ExpressionsAreTyped, SimplesAreTyped, TestsAreTyped}
-use Rattle.sharc_typed_laws.proofs.Expressing.{bare_frame, Value, expressions, truth_of}
-use Rattle.sharc_typed_laws.proofs.Losing.{kept}
-use Rattle.sharc_typed_laws.proofs.Simple.{simples, all_kept}
-use Rattle.sharc_typed_laws.proofs.Parts.{At, then_do, truth_at, pop_at, compare_at, logical_at, either_at, pointee_at}
+use Rattle.sharc_typed_laws.specs.{Stretches.{Setting, Way, AreOpen, LeadsAmong}, Places.{AreLow, mark}, Premises.Typing, Typable.IsBare, LabelsLaws.{StretchesJoin, PartsAreTyped, ValueComes, ExpressionsAreTyped, SimplesAreTyped, TestsAreTyped}}
+use Rattle.sharc_typed_laws.proofs.{Expressing.{bare_frame, Value, expressions, truth_of}, Losing.kept, Simple.{simples, all_kept}, Parts.{At, then_do, truth_at, pop_at, compare_at, logical_at, either_at, pointee_at}}
 
 pub stretches_join : StretchesJoin
 stretches_join z f ways s m e xs ys p q = then_do z f (AreOpen z ways) (λ q. false) 0 (λ p e. absurd (cc)) 0 s m e xs ys p q

@@ -3,18 +3,10 @@ use Rattle.std.proofs.Common.{◌≡◌, ℕ, ◌+◌, ◌≤◌, List, [], ◌�
 use Rattle.sharc_flat_form.specs.declared.op.Op.{Op}
 use Rattle.sharc_flat_form.specs.declared.op.Op.TheVariants as op
 use Rattle.sharc_flat.specs.Scope.{Context, int_count, ref_count, ends_from, leaves}
-use Rattle.sharc_invariant.specs.Labels.{Label, IsScoped}
-use Rattle.sharc_invariant.specs.Typed.{ints_in, refs_in}
-use Rattle.sharc_typed_laws.specs.Stretches.{Mark, Setting, Way, Fits, IsLine, AreOpen, LeadsAmong}
-use Rattle.sharc_typed_laws.specs.Places.{AreLow}
-use Rattle.sharc_typed_laws.specs.Premises.{Typing}
-use Rattle.sharc_typed_laws.specs.Declared.{StandsBefore, before}
-use Rattle.sharc_typed_laws.specs.Left.{back, AreNested, LeavesAreTyped, IsOpen, JumpsAreTyped}
-use Rattle.sharc_typed_laws.proofs.Fitting.{fits_same}
-use Rattle.sharc_typed_laws.proofs.Ending.{ends_typed}
+use Rattle.sharc_invariant.specs.{Labels.{Label, IsScoped}, Typed.{ints_in, refs_in}}
+use Rattle.sharc_typed_laws.specs.{Stretches.{Mark, Setting, Way, Fits, IsLine, AreOpen, LeadsAmong}, Places.AreLow, Premises.Typing, Declared.{StandsBefore, before}, Left.{back, AreNested, LeavesAreTyped, IsOpen, JumpsAreTyped}}
+use Rattle.sharc_typed_laws.proofs.{Fitting.fits_same, Ending.ends_typed, Rules.on_jump, Parts.{then_do, none, within_left}}
 use Rattle.sharc_typed_laws.proofs.Flow as flow
-use Rattle.sharc_typed_laws.proofs.Rules.{on_jump}
-use Rattle.sharc_typed_laws.proofs.Parts.{then_do, none, within_left}
 
 module _ (z : Setting) (f : ℕ) (ways : List Way) where
   abbrev fi : ℕ

@@ -1,15 +1,12 @@
 -- Lines that stand in a table of marks are typed whatever checks are remembered, and before each is said what is remembered of copies and numbers.
-use Rattle.std.proofs.Common.{◌≡◌, ℕ, zero, suc, ◌+◌, ◌<◌, Bool, true, false, cond, List, [], ◌∷◌, length, Some, refl, sym, subst, arith}
+use Rattle.std.proofs.{Common.{◌≡◌, ℕ, zero, suc, ◌+◌, ◌<◌, Bool, true, false, cond, List, [], ◌∷◌, length, Some, refl, sym, subst, arith}, lemmas.Option.none-some}
 use Rattle.std.specs.Prelude.{slice_get}
-use Rattle.std.proofs.lemmas.Option.{none-some}
 use Rattle.sharc_code.specs.declared.instr.Cell.{Cell}
 use Rattle.sharc_code.specs.declared.instr.Cell.TheVariants as cells
 use Rattle.sharc_flat_form.specs.declared.op.Op.{Op}
 use Rattle.sharc_guard.specs.Known.{is_straight, is_target, Know, nothing, know_next, know_after, known}
 use Rattle.sharc_invariant.specs.Types.{Targets}
-use Rattle.sharc_typed_laws.specs.Passes.{TypedAnyhow, Knows}
-use Rattle.sharc_typed_laws.specs.Stretches.{Mark, Tells, IsAtHand, IsLine, flat_labels}
-use Rattle.sharc_typed_laws.specs.LabelsLaws.{LinesAreTyped, LinesTell, LinesKnow}
+use Rattle.sharc_typed_laws.specs.{Passes.{TypedAnyhow, Knows}, Stretches.{Mark, Tells, IsAtHand, IsLine, flat_labels}, LabelsLaws.{LinesAreTyped, LinesTell, LinesKnow}}
 
 pub lines_typed : LinesAreTyped
 lines_typed z owner table flat size all n o at = subst (λ lines. TypedAnyhow z.targets z.code (flat_labels z table) lines n o) size (all n o at).typed

@@ -1,28 +1,15 @@
 -- Mutexes are taken and given back.
-use Rattle.std.proofs.Common.{◌≡◌, ℕ, ◌+◌, ◌<◌, ◌≤◌, Bool, true, false, List, [], ◌∷◌, ◌++◌, Some, None, refl, sym, ap, ◌∙◌, subst, inr, ⊎_elim, arith}
-use Rattle.std.proofs.lemmas.Bool.{false≢true, cases_eq, cases_lt}
-use Rattle.sharc_code.specs.declared.instr.Cell.{Cell}
+use Rattle.std.proofs.{Common.{◌≡◌, ℕ, ◌+◌, ◌<◌, ◌≤◌, Bool, true, false, List, [], ◌∷◌, ◌++◌, Some, None, refl, sym, ap, ◌∙◌, subst, inr, ⊎_elim, arith}, lemmas.Bool.{false≢true, cases_eq, cases_lt}}
+use Rattle.sharc_code.specs.{declared.instr.Cell.Cell, Runs.put}
 use Rattle.sharc_code.specs.declared.instr.Cell.TheVariants as cells
-use Rattle.sharc_code.specs.Runs.{put}
 use Rattle.sharc_code.proofs.Places.{put_same, put_other, put_all}
-use Rattle.sharc_flat_form.specs.declared.op.Op.{Op}
+use Rattle.sharc_flat_form.specs.{declared.op.Op.Op, declared.op.Spot.Spot}
 use Rattle.sharc_flat_form.specs.declared.op.Op.TheVariants as op
-use Rattle.sharc_flat_form.specs.declared.op.Spot.{Spot}
-use Rattle.sharc_flat.specs.Scope.{Context, ref_count}
-use Rattle.sharc_flat.specs.Places.{Target, variable, in_global, in_global_at, in_object, in_object_at, has_base, base_width, cell_of}
-use Rattle.sharc_flat.specs.Flattened.{unlocked_code}
-use Rattle.sharc_flat.specs.Suits.{is_cell}
-use Rattle.sharc_invariant.specs.Labels.{Empty, Refers, Element, Number, Anything, Gate, Closed, Holds, Label, Less, LessNumber, LessEntry, LessGate, EntryMentions, IsFree, fill, empty, without_index}
-use Rattle.sharc_invariant.specs.Typed.{IsBaseFree, ints_in, refs_in, without_base_of, unlocked_label}
+use Rattle.sharc_flat.specs.{Scope.{Context, ref_count}, Places.{Target, variable, in_global, in_global_at, in_object, in_object_at, has_base, base_width, cell_of}, Flattened.unlocked_code, Suits.is_cell}
+use Rattle.sharc_invariant.specs.{Labels.{Empty, Refers, Element, Number, Anything, Gate, Closed, Holds, Label, Less, LessNumber, LessEntry, LessGate, EntryMentions, IsFree, fill, empty, without_index}, Typed.{IsBaseFree, ints_in, refs_in, without_base_of, unlocked_label}}
 use Rattle.sharc_invariant.proofs.Scoped.{less_refl, less_entry_refl, less_number_refl, scoped_fill}
-use Rattle.sharc_typed_laws.specs.Stretches.{Mark, Setting}
-use Rattle.sharc_typed_laws.specs.Places.{IsNamed, mark}
-use Rattle.sharc_typed_laws.specs.Premises.{Typing, IsPointerCopy, HasBaseAt, HasMutex, Ground, MutexTyped}
-use Rattle.sharc_typed_laws.proofs.Standing.{less_by, less_emptied_over, without_same, scoped_frame, unnamed}
-use Rattle.sharc_typed_laws.proofs.Moves.{on_held, on_not_held, on_room, on_lock, on_unlock}
-use Rattle.sharc_typed_laws.proofs.Parts.{P, At, does, then_do, none, told_same, same_number, pop_at}
-use Rattle.sharc_typed_laws.proofs.Values.{over}
-use Rattle.sharc_typed_laws.proofs.Accessed.{Frame, IsInFrame, placed, ints_of, ints_below, at_base, placed_by, framed, copy_base, env_base, same_base, is_base}
+use Rattle.sharc_typed_laws.specs.{Stretches.{Mark, Setting}, Places.{IsNamed, mark}, Premises.{Typing, IsPointerCopy, HasBaseAt, HasMutex, Ground, MutexTyped}}
+use Rattle.sharc_typed_laws.proofs.{Standing.{less_by, less_emptied_over, without_same, scoped_frame, unnamed}, Moves.{on_held, on_not_held, on_room, on_lock, on_unlock}, Parts.{P, At, does, then_do, none, told_same, same_number, pop_at}, Values.over, Accessed.{Frame, IsInFrame, placed, ints_of, ints_below, at_base, placed_by, framed, copy_base, env_base, same_base, is_base}}
 
 module _ (around : Setting) (f : ℕ) (D : (ℕ → Mark) → Type 0) (y : Typing) (c : Context) (low : (p : ℕ) → y.named c p ≡ true → p < ref_count c.scope) (from : ℕ) where
   abbrev N : ℕ → Bool

@@ -1,21 +1,16 @@
 -- Labels where some registers are copies no more: of variables that are taken away, which no type names.
-use Rattle.std.proofs.Common.{◌≡◌, ℕ, ◌≤◌, ◌⊎◌, Bool, true, false, cond, Option, Some, None, refl, sym, ap, ◌∙◌, inl, inr, ⊎_elim, arith}
+use Rattle.std.proofs.{Common.{◌≡◌, ℕ, ◌≤◌, ◌⊎◌, Bool, true, false, cond, Option, Some, None, refl, sym, ap, ◌∙◌, inl, inr, ⊎_elim, arith}, lemmas.Bool.{false≢true, cases_eq}, lemmas.Bool.Decides.nat_tests}
 use Rattle.std.specs.Prelude.{nat_eq}
-use Rattle.std.proofs.lemmas.Bool.{false≢true, cases_eq}
-use Rattle.std.proofs.lemmas.Bool.Decides.{nat_tests}
 use mathlib.Core.Path.{fun_ext}
 use Rattle.sharc_tree.specs.Tree.{Expression, identifier}
 use Rattle.sharc_names.specs.declared.fault.Named.{Named}
 use Rattle.sharc_names.specs.declared.fault.Named.TheVariants as names
 use Rattle.sharc_code.specs.Runs.{put}
 use Rattle.sharc_code.proofs.Places.{put_same, put_other}
-use Rattle.sharc_flat.specs.Scope.{Context, number_in, register_of}
-use Rattle.sharc_flat.specs.Flattened.{what_names}
+use Rattle.sharc_flat.specs.{Scope.{Context, number_in, register_of}, Flattened.what_names}
 use Rattle.sharc_invariant.specs.Labels.{Entry, Label, Less, Itself, IsCopy, fill, without_copies}
 use Rattle.sharc_invariant.proofs.Scoped.{less_entry_refl, less_number_refl, less_gate_refl}
-use Rattle.sharc_typed_laws.specs.Places.{Stands}
-use Rattle.sharc_typed_laws.specs.Premises.{Typing, HoldsVariables, IsCopyIn, IsCopyNamed, IsCopyOf, IsPointerCopy}
-use Rattle.sharc_typed_laws.specs.Typable.{IsBare}
+use Rattle.sharc_typed_laws.specs.{Places.Stands, Premises.{Typing, HoldsVariables, IsCopyIn, IsCopyNamed, IsCopyOf, IsPointerCopy}, Typable.IsBare}
 
 -- the registers are copies of these
 abbrev pub with_copies : Label → (ℕ → ℕ) → Label

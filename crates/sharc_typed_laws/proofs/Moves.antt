@@ -1,24 +1,15 @@
 -- Operations that move references, and those of objects, locks, threads and calls, each by itself.
-use Rattle.std.proofs.Common.{◌≡◌, ◌≢◌, ℕ, ◌+◌, ◌<◌, ◌≤◌, ◌⊎◌, Bool, true, false, List, [], ◌∷◌, length, refl, inl, inr, ⊎_elim, cond}
+use Rattle.std.proofs.{Common.{◌≡◌, ◌≢◌, ℕ, ◌+◌, ◌<◌, ◌≤◌, ◌⊎◌, Bool, true, false, List, [], ◌∷◌, length, refl, inl, inr, ⊎_elim, cond}, lemmas.Option.none-some}
 use Rattle.std.specs.Prelude.{not, Some}
-use Rattle.std.proofs.lemmas.Option.{none-some}
 use Rattle.sharc_code.specs.declared.instr.Cell.{Cell}
 use Rattle.sharc_code.specs.declared.instr.Cell.TheVariants as cells
-use Rattle.sharc_flat_form.specs.declared.op.Op.{Op}
+use Rattle.sharc_flat_form.specs.{declared.op.Op.Op, declared.op.Spot.Spot}
 use Rattle.sharc_flat_form.specs.declared.op.Op.TheVariants as op
-use Rattle.sharc_flat_form.specs.declared.op.Spot.{Spot}
 use Rattle.sharc_guard.specs.Known.{Access, access, Know, know_next, is_straight}
-use Rattle.sharc_invariant.specs.Types.{StaticType, Field, Mentions, cells_of}
-use Rattle.sharc_invariant.specs.Labels.{Refers, Closed, Holds, Pass, IsIn, Label, Less, EntryMentions, IsFree, fill, empty, forgets, gated, is_base, without_base}
-use Rattle.sharc_invariant.specs.Typed.{IsVacant, HasCell, IsBaseFree, IsLayout, Recasts, ints_in, refs_in, moved_copy, without_base_of, unlocked_label}
-use Rattle.sharc_typed_laws.specs.Lines.{PointersMadeAt, moved}
-use Rattle.sharc_typed_laws.specs.Passes.{with_passes}
-use Rattle.sharc_typed_laws.proofs.TypedAlike.{has_cell, recasts}
-use Rattle.sharc_typed_laws.proofs.Preorder.{less_through}
-use Rattle.sharc_typed_laws.specs.Stretches.{Mark, Setting, Tells, Fits, IsTypedAt, IsAtHand, IsLine}
-use Rattle.sharc_typed_laws.specs.Premises.{HasMutex, HasWaiters}
-use Rattle.sharc_typed_laws.proofs.Rules.{with_less, free_too}
-use Rattle.sharc_typed_laws.proofs.Accesses.{InFrame, never}
+use Rattle.sharc_invariant.specs.{Types.{StaticType, Field, Mentions, cells_of}, Labels.{Refers, Closed, Holds, Pass, IsIn, Label, Less, EntryMentions, IsFree, fill, empty, forgets, gated, is_base, without_base}, Typed.{IsVacant, HasCell, IsBaseFree, IsLayout, Recasts, ints_in, refs_in, moved_copy, without_base_of, unlocked_label}}
+use Rattle.sharc_typed_laws.specs.{Lines.{PointersMadeAt, moved}, Passes.with_passes, Stretches.{Mark, Setting, Tells, Fits, IsTypedAt, IsAtHand, IsLine}, Premises.{HasMutex, HasWaiters}}
+use Rattle.sharc_typed_laws.proofs.{TypedAlike.{has_cell, recasts}, Preorder.less_through, Rules.{with_less, free_too}, Accesses.InFrame}
+use Rattle.sharc_lemmas.proofs.Bools.{false_true as never}
 
 without_less : (r : ℕ) (ps : List Pass) (p : Pass) → IsIn p (without_base r ps) → IsIn p ps
 without_less r [] p h = h

@@ -1,35 +1,19 @@
 -- The parts of the code of an expression that speak of no type of the source: tests, operators, what is given up, and the checks of places.
-use Rattle.std.proofs.Common.{◌≡◌, ◌≢◌, ℕ, ◌+◌, ◌<◌, ◌≤◌, ◌⊎◌, Bool, true, false, List, [], ◌∷◌, ◌++◌, length, Some, None, refl, sym, ap, ◌∙◌, subst, inl, inr, ⊎_elim, arith, length-append, append_assoc, ℤ}
+use Rattle.std.proofs.{Common.{◌≡◌, ◌≢◌, ℕ, ◌+◌, ◌<◌, ◌≤◌, ◌⊎◌, Bool, true, false, List, [], ◌∷◌, ◌++◌, length, Some, refl, sym, ap, ◌∙◌, subst, inl, inr, ⊎_elim, arith, length-append, append_assoc, ℤ}, lemmas.Bool.{false≢true, cases_eq, cases_lt}}
 use Rattle.std.specs.Prelude.{nat_eq}
-use Rattle.std.proofs.lemmas.Bool.{false≢true, cases_eq, cases_lt}
-use Rattle.sharc_tree.specs.declared.token.Site.{Site}
-use Rattle.sharc_tree.specs.declared.tree.expression.BinaryOperator.{BinaryOperator}
-use Rattle.sharc_tree.specs.declared.tree.expression.BinaryOperator.TheVariants.{NotEqual}
-use Rattle.sharc_code.specs.declared.instr.Operator.{Operator}
-use Rattle.sharc_code.specs.declared.instr.Width.{Width}
-use Rattle.sharc_code.specs.declared.instr.Width.TheVariants.{Char}
-use Rattle.sharc_code.specs.Runs.{put}
+use Rattle.sharc_tree.specs.{declared.token.Site.Site, declared.tree.expression.BinaryOperator.BinaryOperator, declared.tree.expression.BinaryOperator.TheVariants.NotEqual}
+use Rattle.sharc_code.specs.{declared.instr.Operator.Operator, declared.instr.Width.Width, declared.instr.Width.TheVariants.Char, Runs.put}
 use Rattle.sharc_code.proofs.Places.{put_same, put_other, put_all}
-use Rattle.sharc_flat_form.specs.declared.op.Op.{Op}
+use Rattle.sharc_flat_form.specs.{declared.op.Op.Op, declared.op.Spot.Spot, Framed.{IsWide, OpWrites}}
 use Rattle.sharc_flat_form.specs.declared.op.Op.TheVariants as op
-use Rattle.sharc_flat_form.specs.declared.op.Spot.{Spot}
-use Rattle.sharc_flat_form.specs.Framed.{IsWide, OpWrites}
-use Rattle.sharc_flat.specs.Scope.{at_site}
-use Rattle.sharc_flat.specs.Places.{pointee_code}
-use Rattle.sharc_flat.specs.Flattened.{differ_code, compare_code, logical_code, either_code}
+use Rattle.sharc_flat.specs.{Scope.at_site, Places.pointee_code, Flattened.{differ_code, compare_code, logical_code, either_code}}
 use Rattle.sharc_guard.specs.Known.{Know, know_next, writes_ref, writes_int, number_given}
-use Rattle.sharc_invariant.specs.Types.{StaticType, Mentions}
-use Rattle.sharc_invariant.specs.Labels.{Entry, Empty, Refers, Number, Anything, Exactly, Within, Indexes, OfElement, OfGlobal, Named, Nth, Gate, Closed, Label, Less, LessNumber, HasBase, EntryMentions, IsScoped, IsFree, set_number, fill, knows}
-use Rattle.sharc_invariant.specs.Typed.{is_shift, is_comparison, ints_in, refs_in}
+use Rattle.sharc_invariant.specs.{Types.{StaticType, Mentions}, Labels.{Entry, Empty, Refers, Number, Anything, Exactly, Within, Indexes, OfElement, OfGlobal, Named, Nth, Gate, Closed, Label, Less, LessNumber, HasBase, EntryMentions, IsScoped, IsFree, set_number, fill, knows}, Typed.{is_shift, is_comparison, ints_in, refs_in}}
 use Rattle.sharc_invariant.proofs.Scoped.{less_refl, less_entry_refl, less_number_refl, scoped_fill}
-use Rattle.sharc_typed_laws.specs.Passes.{IsNumberOf}
-use Rattle.sharc_typed_laws.specs.Stretches.{Mark, Setting, Tells, Fits, IsLine, AreWithin, LeadsWithin}
-use Rattle.sharc_typed_laws.specs.Places.{Stands, IsNamed, mark}
-use Rattle.sharc_typed_laws.proofs.Fitting.{fits_same, fits_by}
+use Rattle.sharc_typed_laws.specs.{Passes.IsNumberOf, Stretches.{Mark, Setting, Tells, Fits, IsLine, AreWithin, LeadsWithin}, Places.{Stands, IsNamed, mark}}
+use Rattle.sharc_typed_laws.proofs.{Fitting.{fits_same, fits_by}, Standing.{less_by, scoped_frame, unnamed, stands_number, less_number, stands_fill, less_emptied, less_lower}, Telling.{told, other_than, same_as, constant_number}, Rules.{Plain, on_enter, on_constant, on_compute, on_negate, on_complement, on_false, on_same, on_width, on_positive, on_print, on_join, on_nothing, on_pop, on_check}}
 use Rattle.sharc_typed_laws.proofs.Flow as flow
-use Rattle.sharc_typed_laws.proofs.Standing.{less_by, scoped_frame, unnamed, stands_number, less_number, stands_fill, less_emptied, less_lower}
-use Rattle.sharc_typed_laws.proofs.Telling.{told, other_than, same_as, constant_number}
-use Rattle.sharc_typed_laws.proofs.Rules.{Plain, on_enter, on_constant, on_compute, on_negate, on_complement, on_false, on_same, on_width, on_positive, on_print, on_join, on_nothing, on_pop, on_check}
+use Rattle.sharc_lemmas.proofs.Options.{no_guard as none_some}
 
 -- ---- operations within a frame
 pub within_left : (ints refs : ℕ) (xs ys : List Op) → AreWithin ints refs (xs ++ ys) → AreWithin ints refs xs
@@ -58,9 +42,6 @@ told_number o i refs ints around k s e given same low high there numbers h = tol
     let z : j ≡ i = same_as j i (sym (ints j) ∙ w) in
     subst (λ q. IsNumberOf around.targets e.label n (e.label.ints q)) (sym z) (given n (sym (ap (λ q. number_given o (k.number q)) z) ∙ is)))
     (λ j n a b w is. let ne : j ≡ i → ⊥ = other_than j i (sym (ints j) ∙ w) in let lt : j < i = omega (arith, ne, b, high) in numbers j n lt (h.numbers j n (omega (arith, low, a)) (omega (arith, lt, there)) is))
-
-pub none_some : (n : ℕ) → None ≡ Some n → ⊥
-none_some n z = cc
 
 module _ (around : Setting) (f : ℕ) (D : (ℕ → Mark) → Type 0) (named : ℕ → Bool) (top : ℕ) (low : (p : ℕ) → named p ≡ true → p < top) (from : ℕ) where
   abbrev fi : ℕ

@@ -1,25 +1,16 @@
 -- What is remembered before each line goes on to the next one, and a check that is dropped repeats one that is remembered.
-use Rattle.std.proofs.Common.{◌≡◌, ℕ, zero, suc, ◌+◌, ◌-◌, ◌*◌, ◌≤◌, Bool, true, false, cond, ◌&&◌, ◌||◌, List, [], ◌∷◌, ◌++◌, Option, Some, None, refl, sym, ap, ◌∙◌, subst, inl, inr, ⊎_elim, arith, ◌⊎◌}
+use Rattle.std.proofs.{Common.{◌≡◌, ℕ, zero, suc, ◌+◌, ◌-◌, ◌*◌, ◌≤◌, Bool, true, false, cond, ◌&&◌, ◌||◌, List, [], ◌∷◌, ◌++◌, Option, Some, None, refl, sym, ap, ◌∙◌, subst, inl, inr, ⊎_elim, arith, ◌⊎◌}, lemmas.Bool.Decides.nat_tests, lemmas.Option.{same_Some, none-some}}
 use Rattle.std.specs.Prelude.{slice_get, nat_lt, not, filter, if◌then◌else◌}
-use Rattle.std.proofs.lemmas.Bool.Decides.{nat_tests}
-use Rattle.std.proofs.lemmas.Option.{same_Some, none-some}
-use Rattle.sharc_shadow.specs.declared.shadow_word.Kind.{Kind}
-use Rattle.sharc_shadow.specs.declared.shadow_word.Kind.TheVariants.{Read, Write}
-use Rattle.sharc_code.specs.declared.code.Code.{Code}
-use Rattle.sharc_code.specs.declared.code.PlaceMode.{PlaceMode}
+use Rattle.sharc_shadow.specs.{declared.shadow_word.Kind.Kind, declared.shadow_word.Kind.TheVariants.{Read, Write}}
+use Rattle.sharc_code.specs.{declared.code.Code.Code, declared.code.PlaceMode.PlaceMode, declared.instr.Cell.Cell}
 use Rattle.sharc_code.specs.declared.code.PlaceMode.TheVariants as modes
-use Rattle.sharc_code.specs.declared.instr.Cell.{Cell}
 use Rattle.sharc_code.specs.declared.instr.Cell.TheVariants as cells
-use Rattle.sharc_flat_form.specs.declared.op.Op.{Op}
+use Rattle.sharc_flat_form.specs.{declared.op.Op.Op, declared.op.Spot.Spot, Machine.Flat}
 use Rattle.sharc_flat_form.specs.declared.op.Op.TheVariants as op
-use Rattle.sharc_flat_form.specs.declared.op.Spot.{Spot}
-use Rattle.sharc_flat_form.specs.Machine.{Flat}
 use Rattle.sharc_guard.specs.Known.{is_straight, is_target, is_dynamic, Place, in_variable, in_global, assigns, same_place, counts, Access, access, tells, Know, variable_place, global_place, is_at, place_of, passes_by, know_next, known, has_passed, drops}
-use Rattle.sharc_invariant.specs.Types.{Targets, Field, cells_of}
-use Rattle.sharc_invariant.specs.Labels.{Element, Named, Nth, Number, Anything, Exactly, Within, Indexes, OfElement, OfGlobal, Pass, IsIn, Label, is_base, without_base}
-use Rattle.sharc_invariant.specs.Typed.{HasField, Covers}
-use Rattle.sharc_typed_laws.specs.Inside.{global_pass, global_element_pass, element_pass, pass_of, with_pass, passed_behind}
-use Rattle.sharc_typed_laws.specs.Passes.{is_write, pass_at, pass_of_place, pass_by, stays, passes_next, passes_before, with_passes, remembered, IsNumberOf, Knows}
+use Rattle.sharc_invariant.specs.{Types.{Targets, Field, cells_of}, Labels.{Element, Named, Nth, Number, Anything, Exactly, Within, Indexes, OfElement, OfGlobal, Pass, IsIn, Label, is_base, without_base}, Typed.{HasField, Covers}}
+use Rattle.sharc_typed_laws.specs.{Inside.{global_pass, global_element_pass, element_pass, pass_of, with_pass, passed_behind}, Passes.{is_write, pass_at, pass_of_place, pass_by, stays, passes_next, passes_before, with_passes, remembered, IsNumberOf, Knows}}
+use Rattle.sharc_lemmas.proofs.Bools.{and_left, or_split as or_either, and_right, false_true as nothing_passed}
 
 -- ---- lists
 in_filter : (f : Pass → Bool) (ps : List Pass) (p : Pass) → IsIn p ps → f p ≡ true → IsIn p (filter f ps)
@@ -70,18 +61,6 @@ same_is (in_global g n) (in_global k m) h = let e : g ≡ k = grind (arith, nat_
 same_is (in_variable x n) (in_global g m) h = absurd (cc)
 same_is (in_global g n) (in_variable x m) h = absurd (cc)
 
-and_left : (a b : Bool) → (a && b) ≡ true → a ≡ true
-and_left true b e = refl
-and_left false b e = e
-
-pub and_right : (a b : Bool) → (a && b) ≡ true → b ≡ true
-and_right true b e = e
-and_right false b e = absurd (cc)
-
-or_either : (a b : Bool) → (a || b) ≡ true → (a ≡ true) ⊎ (b ≡ true)
-or_either true b e = inl refl
-or_either false b e = inr e
-
 not_left : (a b : Bool) → not (a || b) ≡ true → not a ≡ true
 not_left true b e = e
 not_left false b e = refl
@@ -130,9 +109,6 @@ module _ (o : Op) (k : Know) (passes : List Pass) (old : (kind : Kind) (place : 
       (λ h. by_access (drops k o) (access o) (λ a is d. drops_passed k o a is d) kind place h)
       (or_either (k.passed kind place) (passes_by (access o) k kind place) (and_left (k.passed kind place || passes_by (access o) k kind place) (not (assigns o place)) e)) in
       record { by = w.by; counted = w.counted; among = in_filter (λ p. stays o p.base) (News (drops k o) (access o) ++ passes) (pass_at w.by place) w.among (stays_at o w.by place stay) }
-
-nothing_passed : {A : Type 0} → false ≡ true → A
-nothing_passed e = absurd (cc)
 
 pub was_passed : (flat : Flat) (n : ℕ) (kind : Kind) (place : Place) → (known flat n).passed kind place ≡ true → WasPassed kind place (passes_before flat n)
 was_passed flat zero kind place = λ e. nothing_passed e

@@ -1,32 +1,17 @@
 -- The piece of guarded code that a line becomes is typed from what is known before the line to what may be known after it.
-use Rattle.std.proofs.Common.{◌≡◌, ◌≢◌, ℕ, Bool, true, false, List, [], ◌∷◌, ◌++◌, refl, sym, ap, ◌∙◌, subst, inl, inr, append_assoc}
+use Rattle.std.proofs.{Common.{◌≡◌, ◌≢◌, ℕ, Bool, true, false, List, [], ◌∷◌, ◌++◌, refl, sym, ap, ◌∙◌, subst, inl, inr, append_assoc}, lemmas.List.map-append}
 use Rattle.std.specs.Prelude.{map}
-use Rattle.std.proofs.lemmas.List.{map-append}
-use Rattle.sharc_code.specs.declared.code.Code.{Code}
-use Rattle.sharc_code.specs.declared.code.PlaceMode.TheVariants.{Readonly}
-use Rattle.sharc_code.specs.declared.code.SourcePlace.{SourcePlace}
-use Rattle.sharc_code.specs.declared.instr.Cell.{Cell}
-use Rattle.sharc_code.specs.declared.instr.Instr.{Instr}
+use Rattle.sharc_code.specs.{declared.code.Code.Code, declared.code.PlaceMode.TheVariants.Readonly, declared.code.SourcePlace.SourcePlace, declared.instr.Cell.Cell, declared.instr.Instr.Instr, Runs.put, Says.place_at}
 use Rattle.sharc_code.specs.declared.instr.Instr.TheVariants as instrs
-use Rattle.sharc_code.specs.Runs.{put}
-use Rattle.sharc_code.specs.Says.{place_at}
 use Rattle.sharc_code.proofs.Places.{put_same, put_other, put_all}
-use Rattle.sharc_flat_form.specs.declared.op.Op.{Op}
+use Rattle.sharc_flat_form.specs.{declared.op.Op.Op, declared.op.Spot.Spot}
 use Rattle.sharc_flat_form.specs.declared.op.Op.TheVariants as op
-use Rattle.sharc_flat_form.specs.declared.op.Spot.{Spot}
 use Rattle.sharc_gen.specs.Generated.{instr_of}
 use Rattle.sharc_guard.specs.Guard.{check_under, expand, source_of}
-use Rattle.sharc_invariant.specs.Types.{Targets, StaticType, Field}
-use Rattle.sharc_invariant.specs.Labels.{Empty, Refers, Loaded, Sole, Label, Labels, EntryMentions, IsFree, empty, gated}
-use Rattle.sharc_invariant.specs.Typed.{IsUnpassed, Accesses, MayAccess, IsNotSole, IsMode}
-use Rattle.sharc_invariant.proofs.Frames.{kept_pass}
-use Rattle.sharc_invariant.proofs.Scoped.{less_refl}
-use Rattle.sharc_typed_laws.specs.Steps.{all_at, Chain}
-use Rattle.sharc_typed_laws.specs.Inside.{known_behind, gate_behind, passed_behind, behind, before_check, tested, cleared, exchanged, inside}
-use Rattle.sharc_typed_laws.specs.TypedLaws.{LeadsOn}
-use Rattle.sharc_typed_laws.specs.Lines.{PassesCheck, Loads, Stores, LoadsReference, StoresReference, LoadsGuard, Settles, Makes, Gives, Frees, TypedLine}
-use Rattle.sharc_typed_laws.proofs.TypedAlike.{has_cell, less_entry, points_to, recasts}
-use Rattle.sharc_typed_laws.proofs.Checking.{passed, chain_check, accesses, dynamic}
+use Rattle.sharc_invariant.specs.{Types.{Targets, StaticType, Field}, Labels.{Empty, Refers, Loaded, Sole, Label, Labels, EntryMentions, IsFree, empty, gated}, Typed.{IsUnpassed, Accesses, MayAccess, IsNotSole, IsMode}}
+use Rattle.sharc_invariant.proofs.{Frames.kept_pass, Scoped.less_refl}
+use Rattle.sharc_typed_laws.specs.{Steps.{all_at, Chain}, Inside.{known_behind, gate_behind, passed_behind, behind, before_check, tested, cleared, exchanged, inside}, TypedLaws.LeadsOn, Lines.{PassesCheck, Loads, Stores, LoadsReference, StoresReference, LoadsGuard, Settles, Makes, Gives, Frees, TypedLine}}
+use Rattle.sharc_typed_laws.proofs.{TypedAlike.{has_cell, less_entry, points_to, recasts}, Checking.{passed, chain_check, accesses, dynamic}}
 
 mapped : {A B : Type 0} (f : A → B) (a b c : List A) → map f ((a ++ b) ++ c) ≡ map f a ++ map f (b ++ c)
 mapped f a b c = ap (map f) (append_assoc a b c) ∙ map-append f a (b ++ c)

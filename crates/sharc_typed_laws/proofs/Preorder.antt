@@ -1,10 +1,7 @@
 -- A label that says no more than one that says no more than a third says no more than that.
 use Rattle.std.proofs.Common.{◌≡◌, ℕ, true, List, [], ◌∷◌, sym, ◌∙◌, subst}
-use Rattle.sharc_code.specs.declared.instr.Width.{Width}
-use Rattle.sharc_code.specs.declared.instr.Width.TheVariants.{Char, Int, Long}
-use Rattle.sharc_invariant.specs.Types.{Lock}
-use Rattle.sharc_invariant.specs.Types.Lock.{Global, Through, Self}
-use Rattle.sharc_invariant.specs.Labels.{Entry, Empty, Refers, Unknown, Number, Anything, Exactly, Within, Indexes, OfElement, OfGlobal, Gate, Closed, Loaded, HoldsLoaded, Sole, Label, Less, SameReference, Itself, IsCopy, HasCopy, Copies, Chained, SameLock, AllSame, LessEntry, Narrower, LessNumber, LessGate}
+use Rattle.sharc_code.specs.{declared.instr.Width.Width, declared.instr.Width.TheVariants.{Char, Int, Long}}
+use Rattle.sharc_invariant.specs.{Types.Lock, Types.Lock.{Global, Through, Self}, Labels.{Entry, Empty, Refers, Unknown, Number, Anything, Exactly, Within, Indexes, OfElement, OfGlobal, Gate, Closed, Loaded, HoldsLoaded, Sole, Label, Less, SameReference, Itself, IsCopy, HasCopy, Copies, Chained, SameLock, AllSame, LessEntry, Narrower, LessNumber, LessGate}}
 use Rattle.sharc_invariant.proofs.Frames.{wider}
 
 pub turned : (l : Label) (p q : ℕ) → SameReference l p q → SameReference l q p

@@ -1,55 +1,21 @@
 -- The flat code of a typable program, with its texts laid out, is typed whatever checks are remembered.
-use Rattle.std.proofs.Common.{◌≡◌, ℕ, zero, suc, ◌+◌, ◌<◌, ◌≤◌, true, false, List, [], ◌∷◌, ◌++◌, length, map, max, Option, Some, None, refl, sym, ap, ◌∙◌, subst, arith}
+use Rattle.std.proofs.{Common.{◌≡◌, ℕ, zero, suc, ◌+◌, ◌<◌, ◌≤◌, true, false, List, [], ◌∷◌, ◌++◌, length, map, max, Option, Some, None, refl, sym, ap, ◌∙◌, subst, arith}, lemmas.Option.{same_Some, none-some, slice_get_within}}
 use Rattle.std.specs.Prelude.{slice_get, slice_index_or}
-use Rattle.std.proofs.lemmas.Option.{same_Some, none-some, slice_get_within}
 use Rattle.sharc_tree.specs.Tree.{Function}
 use Rattle.sharc_names.specs.Kinds.{declared_kind}
-use Rattle.sharc_code.specs.declared.code.Function.{Function as Row}
-use Rattle.sharc_code.specs.declared.code.GlobalCells.{GlobalCells}
-use Rattle.sharc_code.specs.declared.code.Text.{Text}
-use Rattle.sharc_code.specs.Machine.{no_function, function_of}
+use Rattle.sharc_code.specs.{declared.code.Function.{Function as Row}, declared.code.GlobalCells.GlobalCells, declared.code.Text.Text, Machine.{no_function, function_of}}
 use Rattle.sharc_ctype.specs.Resolved.{Resolution, functions_in, function_at}
 use Rattle.sharc_mode.specs.Moded.{Assignment}
-use Rattle.sharc_flat_form.specs.declared.flat.Flat.{Flat as FlatCode}
-use Rattle.sharc_flat_form.specs.declared.op.Op.{Op}
+use Rattle.sharc_flat_form.specs.{declared.flat.Flat.{Flat as FlatCode}, declared.op.Op.Op, Machine.{Flat, function_of as flat_function}, Made.flat_of}
 use Rattle.sharc_flat_form.specs.declared.op.Op.TheVariants as op
-use Rattle.sharc_flat_form.specs.Machine.{Flat, function_of as flat_function}
-use Rattle.sharc_flat_form.specs.Made.{flat_of}
-use Rattle.sharc_flat.specs.Flattened.{in_function, function_code, functions_code, rows_of, parameter_of, parameters_scope}
-use Rattle.sharc_flat.specs.Flattens.{Flattens, names_of}
-use Rattle.sharc_flat.specs.Frames.{ints_in as ints_needed, refs_in as refs_needed}
-use Rattle.sharc_flat.specs.Laid.{told_by, with_texts, AreLaid, AreNamed}
-use Rattle.sharc_flat.specs.Laws.{FitsMade}
-use Rattle.sharc_flat.specs.Scope.{int_count, ref_count}
-use Rattle.sharc_flat.specs.Tables.{globals_of}
-use Rattle.sharc_guard.specs.Guard.{place, entered_at}
-use Rattle.sharc_guard.specs.Known.{dropped}
-use Rattle.sharc_invariant.specs.Labels.{Less, Closed, IsScoped}
-use Rattle.sharc_invariant.specs.Typed.{IsPlain, MayStart, ints_in, refs_in, entry_label}
-use Rattle.sharc_typed_laws.specs.Inside.{FlatLabels, outside}
-use Rattle.sharc_typed_laws.specs.Lines.{To}
-use Rattle.sharc_typed_laws.specs.Passes.{IsTypedAnyhow}
-use Rattle.sharc_typed_laws.specs.Stretches.{Mark, Setting, IsLine, flat_labels, labels_by}
-use Rattle.sharc_typed_laws.specs.Places.{mark}
-use Rattle.sharc_typed_laws.specs.Premises.{Typing}
-use Rattle.sharc_typed_laws.specs.Begun.{label_of}
-use Rattle.sharc_typed_laws.specs.LabelsLaws.{AreAllLines, LinesAreTyped, LinesTell, LinesKnow}
-use Rattle.sharc_typed_laws.specs.Functions.{FunctionTypable, FunctionsAreTyped}
-use Rattle.sharc_typed_laws.specs.Programs.{AreGlobalsNamed, TypableProgram, IsSettingOf}
-use Rattle.sharc_typed_laws.proofs.After.{OpPast}
-use Rattle.sharc_typed_laws.proofs.Assembled.{table_of, agrees_self, past_marks, AllFunctions, all_marks, marks_many, owner_from, lines_are, begins_at}
-use Rattle.sharc_typed_laws.proofs.Framing.{AreFew, are_within}
-use Rattle.sharc_typed_laws.proofs.Past.{AllPast, functions_past}
-use Rattle.sharc_typed_laws.proofs.Remembered.{variables, low}
-use Rattle.sharc_typed_laws.proofs.Starting.{signature_plain, starts_by}
-use Rattle.sharc_typed_laws.proofs.Texts.{line_told}
+use Rattle.sharc_flat.specs.{Flattened.{in_function, function_code, functions_code, rows_of, parameter_of, parameters_scope}, Flattens.{Flattens, names_of}, Frames.{ints_in as ints_needed, refs_in as refs_needed}, Laid.{told_by, with_texts, AreLaid, AreNamed}, Laws.FitsMade, Scope.{int_count, ref_count}, Tables.globals_of}
+use Rattle.sharc_guard.specs.{Guard.{place, entered_at}, Known.dropped}
+use Rattle.sharc_invariant.specs.{Labels.{Less, Closed, IsScoped}, Typed.{IsPlain, MayStart, ints_in, refs_in, entry_label}}
+use Rattle.sharc_typed_laws.specs.{Inside.{FlatLabels, outside}, Lines.To, Passes.IsTypedAnyhow, Stretches.{Mark, Setting, IsLine, flat_labels, labels_by}, Places.mark, Premises.Typing, Begun.label_of, LabelsLaws.{AreAllLines, LinesAreTyped, LinesTell, LinesKnow}, Functions.{FunctionTypable, FunctionsAreTyped}, Programs.{AreGlobalsNamed, TypableProgram, IsSettingOf}}
+use Rattle.sharc_typed_laws.proofs.{After.OpPast, Assembled.{table_of, agrees_self, past_marks, AllFunctions, all_marks, marks_many, owner_from, lines_are, begins_at}, Framing.{AreFew, are_within}, Past.{AllPast, functions_past}, Remembered.{variables, low}, Starting.{signature_plain, starts_by}, Texts.line_told}
+use Rattle.sharc_lemmas.proofs.Lists.{some_there as found}
 
 -- ---- lists
-found : {A : Type 0} (xs : List A) (n : ℕ) → n < length xs → (x : A) × (slice_get xs n ≡ Some x)
-found [] n lt = absurd (omega (arith, lt))
-found (x ∷ xs) zero lt = (x, refl)
-found (x ∷ xs) (suc n) lt = found xs n (omega (arith, lt))
-
 get_left : (xs ys : List Op) (j : ℕ) (o : Op) → slice_get xs j ≡ Some o → slice_get (xs ++ ys) j ≡ Some o
 get_left [] ys j o e = absurd (none-some o e)
 get_left (x ∷ xs) ys zero o e = e

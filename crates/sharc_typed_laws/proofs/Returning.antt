@@ -1,49 +1,22 @@
 -- Returns: the variables are given up below the value, which then goes to the first register.
-use Rattle.std.proofs.Common.{◌≡◌, ◌≢◌, ℕ, ◌+◌, ◌<◌, ◌≤◌, ◌==◌, ◌⊎◌, Bool, true, false, cond, ◌&&◌, ◌||◌, List, [], ◌∷◌, ◌++◌, drop, Some, refl, sym, ap, ◌∙◌, subst, inl, inr, ⊎_elim, arith, append_assoc, eqb-true, pos}
+use Rattle.std.proofs.{Common.{◌≡◌, ◌≢◌, ℕ, ◌+◌, ◌<◌, ◌≤◌, ◌==◌, ◌⊎◌, Bool, true, false, cond, ◌&&◌, ◌||◌, List, [], ◌∷◌, ◌++◌, drop, Some, refl, sym, ap, ◌∙◌, subst, inl, inr, ⊎_elim, arith, append_assoc, eqb-true, pos}, lemmas.Bool.{false≢true, ltb-true, cases_eq, cases_lt, or_parts as either_false}}
 use Rattle.std.specs.Prelude.{nat_eq, nat_lt}
-use Rattle.std.proofs.lemmas.Bool.{false≢true, ltb-true, cases_eq, cases_lt}
-use Rattle.sharc_tree.specs.Spans.{span_of}
-use Rattle.sharc_tree.specs.Tree.{Expression, value}
+use Rattle.sharc_tree.specs.{Spans.span_of, Tree.{Expression, value}}
 use Rattle.sharc_names.specs.Kinds.{Kind, object, array, is_integer, is_integral}
 use Rattle.sharc_names.specs.Kinds as kinds
-use Rattle.sharc_code.specs.declared.instr.Width.{Width}
-use Rattle.sharc_code.specs.Runs.{put}
+use Rattle.sharc_code.specs.{declared.instr.Width.Width, Runs.put}
 use Rattle.sharc_code.proofs.Places.{put_same, put_other, put_all}
 use Rattle.sharc_mode.specs.Sharings.{private}
 use Rattle.sharc_meaning.specs.State.{is_reference}
-use Rattle.sharc_flat_form.specs.declared.op.Op.{Op}
+use Rattle.sharc_flat_form.specs.{declared.op.Op.Op, declared.op.Spot.Spot}
 use Rattle.sharc_flat_form.specs.declared.op.Op.TheVariants as op
-use Rattle.sharc_flat_form.specs.declared.op.Spot.{Spot}
-use Rattle.sharc_flat.specs.declared.slot.Slot.{Slot}
-use Rattle.sharc_flat.specs.Scope.{Context, int_count, ref_count, pops, ends_from, leaves}
-use Rattle.sharc_flat.specs.Places.{width_of, width_code}
-use Rattle.sharc_flat.specs.Flattened.{expression_code, zero_code, result_code}
+use Rattle.sharc_flat.specs.{declared.slot.Slot.Slot, Scope.{Context, int_count, ref_count, pops, ends_from, leaves}, Places.{width_of, width_code}, Flattened.{expression_code, zero_code, result_code}}
 use Rattle.sharc_guard.specs.Known.{Know, know_next}
-use Rattle.sharc_invariant.specs.Types.{StaticType, Mentions}
-use Rattle.sharc_invariant.specs.Labels.{Entry, Empty, Refers, Number, Anything, Exactly, Within, Closed, IsIn, Label, Less, Itself, LessEntry, LessNumber, LessGate, EntryMentions, HasBase, IsScoped, IsFree, set_number, fill, empty, forgets, forgotten, without_copies, without_index, without_base}
-use Rattle.sharc_invariant.specs.Typed.{ints_in, refs_in, moved_copy}
+use Rattle.sharc_invariant.specs.{Types.{StaticType, Mentions}, Labels.{Entry, Empty, Refers, Number, Anything, Exactly, Within, Closed, IsIn, Label, Less, Itself, LessEntry, LessNumber, LessGate, EntryMentions, HasBase, IsScoped, IsFree, set_number, fill, empty, forgets, forgotten, without_copies, without_index, without_base}, Typed.{ints_in, refs_in, moved_copy}}
 use Rattle.sharc_invariant.proofs.Scoped.{less_refl, less_entry_refl, less_number_refl, scoped_number}
-use Rattle.sharc_typed_laws.specs.Stretches.{Mark, Setting, Way, Tells, Fits, IsLine, AreOpen, LeadsAmong}
-use Rattle.sharc_typed_laws.specs.Places.{AreLow, mark}
-use Rattle.sharc_typed_laws.specs.Premises.{Typing}
-use Rattle.sharc_typed_laws.specs.Stated.{ValueGoes, RightTypable}
-use Rattle.sharc_typed_laws.specs.Declared.{StandsBefore, before}
-use Rattle.sharc_typed_laws.specs.Left.{back, AreNested}
-use Rattle.sharc_typed_laws.specs.Returned.{GivesBackBy, GivesBack, ReturnedBy, ReturnTypable, Returns, NothingReturns, ValuesReturn}
-use Rattle.sharc_typed_laws.proofs.Fitting.{fits_same}
-use Rattle.sharc_typed_laws.proofs.Standing.{without_same, uncopied}
-use Rattle.sharc_typed_laws.proofs.Telling.{told, other_than}
-use Rattle.sharc_typed_laws.proofs.Rules.{on_move}
-use Rattle.sharc_typed_laws.proofs.Moves.{on_pop_named, on_move_reference, on_stay}
-use Rattle.sharc_typed_laws.proofs.Handing.{on_return}
-use Rattle.sharc_typed_laws.proofs.Parts.{At, does, then_do, none, none_some, constant_at}
-use Rattle.sharc_typed_laws.proofs.Variables.{either_false}
-use Rattle.sharc_typed_laws.proofs.Accessed.{Frame}
-use Rattle.sharc_typed_laws.proofs.Expressing.{bare_frame, null_at}
-use Rattle.sharc_typed_laws.proofs.Simple.{Comes, reference_kept, number_kept, rights}
-use Rattle.sharc_typed_laws.proofs.Ending.{forgotten_same, forgotten_mentions, forgotten_none, forgotten_full}
-use Rattle.sharc_typed_laws.proofs.Declaring.{zero_fits}
-use Rattle.sharc_typed_laws.proofs.Leaving.{leaves_typed}
+use Rattle.sharc_typed_laws.specs.{Stretches.{Mark, Setting, Way, Tells, Fits, IsLine, AreOpen, LeadsAmong}, Places.{AreLow, mark}, Premises.Typing, Stated.{ValueGoes, RightTypable}, Declared.{StandsBefore, before}, Left.{back, AreNested}, Returned.{GivesBackBy, GivesBack, ReturnedBy, ReturnTypable, Returns, NothingReturns, ValuesReturn}}
+use Rattle.sharc_typed_laws.proofs.{Fitting.fits_same, Standing.{without_same, uncopied}, Telling.{told, other_than}, Rules.on_move, Moves.{on_pop_named, on_move_reference, on_stay}, Handing.on_return, Parts.{At, does, then_do, none, constant_at}, Accessed.Frame, Expressing.{bare_frame, null_at}, Simple.{Comes, reference_kept, number_kept, rights}, Ending.{forgotten_same, forgotten_mentions, forgotten_none, forgotten_full}, Declaring.zero_fits, Leaving.leaves_typed}
+use Rattle.sharc_lemmas.proofs.Options.{no_guard as none_some}
 
 -- what is a reference is no integer
 no_integer : (k : Kind) → is_reference k ≡ true → is_integer k ≡ false

@@ -1,25 +1,13 @@
 -- Each operation by itself: what is asked of what is said before its line, and what may be said before the next one.
-use Rattle.std.proofs.Common.{◌≡◌, ℕ, ◌+◌, ◌<◌, ◌≤◌, true, List, [], Some, subst, inl, inr, ℤ}
-use Rattle.std.proofs.lemmas.Bool.{false≢true}
-use Rattle.std.proofs.lemmas.Option.{none-some}
-use Rattle.sharc_code.specs.declared.instr.Operator.{Operator}
-use Rattle.sharc_code.specs.declared.instr.Width.{Width}
-use Rattle.sharc_code.specs.declared.instr.Width.TheVariants.{Char, Int, Long}
-use Rattle.sharc_code.specs.Runs.{put}
-use Rattle.sharc_code.proofs.Places.{eq_refl}
-use Rattle.sharc_flat_form.specs.declared.op.Op.{Op}
+use Rattle.std.proofs.{Common.{◌≡◌, ℕ, ◌+◌, ◌<◌, ◌≤◌, true, List, [], Some, subst, inl, inr, ℤ}, lemmas.Bool.false≢true, lemmas.Option.none-some}
+use Rattle.sharc_code.specs.{declared.instr.Operator.Operator, declared.instr.Width.Width, declared.instr.Width.TheVariants.{Char, Int, Long}, Runs.put}
+use Rattle.sharc_flat_form.specs.{declared.op.Op.Op, declared.op.Spot.Spot, Framed.{IsWide, OpWrites}}
 use Rattle.sharc_flat_form.specs.declared.op.Op.TheVariants as op
-use Rattle.sharc_flat_form.specs.declared.op.Spot.{Spot}
-use Rattle.sharc_flat_form.specs.Framed.{IsWide, OpWrites}
 use Rattle.sharc_guard.specs.Known.{Access, access, Know, know_next, is_straight}
-use Rattle.sharc_invariant.specs.Types.{StaticType, cells_of}
-use Rattle.sharc_invariant.specs.Labels.{Refers, Exactly, Within, Indexes, OfElement, OfGlobal, Element, Closed, Pass, IsIn, Label, Less, Fresh, IsScoped, IsFree, set_number, fill, empty, knows, without_base}
-use Rattle.sharc_invariant.specs.Typed.{IsVacant, Fits as FitsWidth, Operands, IsElement, ints_in, refs_in}
-use Rattle.sharc_typed_laws.specs.Passes.{with_passes}
-use Rattle.sharc_typed_laws.proofs.TypedAlike.{same_reference, less_entry}
-use Rattle.sharc_typed_laws.proofs.Preorder.{less_through}
-use Rattle.sharc_typed_laws.specs.Stretches.{Mark, Setting, Tells, Fits, IsTypedAt, IsAtHand, IsLine}
-use Rattle.sharc_typed_laws.proofs.Telling.{told}
+use Rattle.sharc_invariant.specs.{Types.{StaticType, cells_of}, Labels.{Refers, Exactly, Within, Indexes, OfElement, OfGlobal, Element, Closed, Pass, IsIn, Label, Less, Fresh, IsScoped, IsFree, set_number, fill, empty, knows, without_base}, Typed.{IsVacant, Fits as FitsWidth, Operands, IsElement, ints_in, refs_in}}
+use Rattle.sharc_typed_laws.specs.{Passes.with_passes, Stretches.{Mark, Setting, Tells, Fits, IsTypedAt, IsAtHand, IsLine}}
+use Rattle.sharc_typed_laws.proofs.{TypedAlike.{same_reference, less_entry}, Preorder.less_through, Telling.told}
+use Rattle.sharc_lemmas.proofs.Numbers.{eq_refl}
 
 -- ---- less, with checks that are remembered
 pub with_less : (a b : Label) (ps qs : List Pass) → Less a b → ((p : Pass) → IsIn p qs → IsIn p ps) → Less (with_passes a ps) (with_passes b qs)

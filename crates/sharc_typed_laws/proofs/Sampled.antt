@@ -1,30 +1,15 @@
 -- The sample is typed.
-use Rattle.std.proofs.Common.{◌⊎◌, ◌≡◌, ℕ, pos, zero, suc, ◌+◌, ◌*◌, ◌^◌, ◌<◌, ◌≤◌, Bool, true, false, List, [], ◌∷◌, length, Some, None, refl, sym, ap, ◌∙◌, subst, inl, inr, ⊎_elim, arith}
+use Rattle.std.proofs.{Common.{◌⊎◌, ◌≡◌, ℕ, pos, zero, suc, ◌+◌, ◌*◌, ◌^◌, ◌<◌, ◌≤◌, Bool, true, false, List, [], ◌∷◌, length, Some, None, refl, sym, ap, ◌∙◌, subst, inl, inr, ⊎_elim, arith}, lemmas.Bool.Decides.nat_tests, lemmas.Option.{same_Some, none-some}}
 use Rattle.std.specs.Prelude.{slice_get, slice_index, slice_index_or, nat_lt, nat_eq, if◌then◌else◌}
-use Rattle.std.proofs.lemmas.Bool.Decides.{nat_tests}
-use Rattle.std.proofs.lemmas.Option.{same_Some, none-some}
-use Rattle.sharc_code.specs.declared.code.Code.{Code}
-use Rattle.sharc_code.specs.declared.code.GlobalCells.{GlobalCells}
+use Rattle.sharc_code.specs.{declared.code.Code.Code, declared.code.GlobalCells.GlobalCells, declared.instr.Width.Width, declared.instr.Width.TheVariants.{Int, Long}, Machine.{function_of, no_function}, Says.no_global}
 use Rattle.sharc_code.specs.declared.instr.Cell.TheVariants as cells
-use Rattle.sharc_code.specs.declared.instr.Width.{Width}
-use Rattle.sharc_code.specs.declared.instr.Width.TheVariants.{Int, Long}
-use Rattle.sharc_code.specs.Machine.{function_of, no_function}
-use Rattle.sharc_code.specs.Says.{no_global}
-use Rattle.sharc_flat_form.specs.declared.op.Op.{Op}
+use Rattle.sharc_flat_form.specs.{declared.op.Op.Op, Machine.{function_of as flat_function}}
 use Rattle.sharc_flat_form.specs.declared.op.Op.TheVariants as op
 use Rattle.sharc_guard.specs.Known.{Place, in_global, Access, access, place_of, known}
-use Rattle.sharc_invariant.specs.Types.{AreTargets, StaticType, ObjectType, Field, CellMode, field_at, field_in, field_of_cell, global_field, mode_in, mode_at, type_in, is_private, is_pointer, is_mutex, no_field}
-use Rattle.sharc_invariant.specs.Types.FieldMode.{Racy, Dynamic}
-use Rattle.sharc_invariant.specs.Types.Content.{Integer, Pointer}
-use Rattle.sharc_invariant.specs.Labels.{Exactly, Closed, Pass, IsIn, Label, Labels, Less, IsScoped}
-use Rattle.sharc_invariant.specs.Typed.{AreGlobals, Initial, MayStart, IsInGlobal, refs_in, ints_in, entry_label}
+use Rattle.sharc_invariant.specs.{Types.{AreTargets, StaticType, ObjectType, Field, CellMode, field_at, field_in, field_of_cell, global_field, mode_in, mode_at, type_in, is_private, is_pointer, is_mutex, no_field}, Types.FieldMode.{Racy, Dynamic}, Types.Content.{Integer, Pointer}, Labels.{Exactly, Closed, Pass, IsIn, Label, Labels, Less, IsScoped}, Typed.{AreGlobals, Initial, MayStart, IsInGlobal, refs_in, ints_in, entry_label}}
 use Rattle.sharc_invariant.proofs.Scoped.{less_refl, scoped_number}
-use Rattle.sharc_typed_laws.specs.Inside.{passed_behind}
+use Rattle.sharc_typed_laws.specs.{Inside.passed_behind, Lines.{PassesCheck, TypedLine, MayPass, To}, Passes.{passes_in, passes_before, with_passes, with_all, remembered, IsPassed, RepeatsCheck, TypedAnyhow, Knows}, Sample.{the_spot, the_write, the_global, the_flat, the_field, the_targets, the_first, the_second, the_third, the_starts, the_labels, IsSampleCode, SampleStands}}
 use Rattle.sharc_code.specs.declared.code.Parameter.TheVariants as parameters
-use Rattle.sharc_flat_form.specs.Machine.{function_of as flat_function}
-use Rattle.sharc_typed_laws.specs.Lines.{PassesCheck, TypedLine, MayPass, To}
-use Rattle.sharc_typed_laws.specs.Passes.{passes_in, passes_before, with_passes, with_all, remembered, IsPassed, RepeatsCheck, TypedAnyhow, Knows}
-use Rattle.sharc_typed_laws.specs.Sample.{the_spot, the_write, the_global, the_flat, the_field, the_targets, the_first, the_second, the_third, the_starts, the_labels, IsSampleCode, SampleStands}
 
 -- ---- the table
 record Simple (f : Field) : Type 0 where

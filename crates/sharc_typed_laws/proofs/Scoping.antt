@@ -1,24 +1,15 @@
 -- What is known within a piece names registers of its frame that hold something.
-use Rattle.std.proofs.Common.{◌≡◌, ◌≢◌, ◌<◌, ◌+◌, ◌*◌, ℕ, Bool, true, false, List, ◌++◌, Option, Some, None, refl, sym, ap, ◌∙◌, subst, inl, ⊎_elim}
+use Rattle.std.proofs.{Common.{◌≡◌, ◌≢◌, ◌<◌, ◌+◌, ◌*◌, ℕ, Bool, true, false, List, ◌++◌, Option, Some, None, refl, sym, ap, ◌∙◌, subst, inl, ⊎_elim}, lemmas.Option.{same_Some, none-some}}
 use Rattle.std.specs.List.{AllByRecursion}
-use Rattle.std.proofs.lemmas.Option.{same_Some, none-some}
-use Rattle.sharc_code.specs.declared.code.Code.{Code}
-use Rattle.sharc_code.specs.declared.code.PlaceMode.{PlaceMode}
+use Rattle.sharc_code.specs.{declared.code.Code.Code, declared.code.PlaceMode.PlaceMode, declared.instr.Cell.Cell}
 use Rattle.sharc_code.specs.declared.code.PlaceMode.TheVariants as modes
-use Rattle.sharc_code.specs.declared.instr.Cell.{Cell}
 use Rattle.sharc_code.specs.declared.instr.Cell.TheVariants as cells
 use Rattle.sharc_code.proofs.Places.{put_all, put_other}
-use Rattle.sharc_flat_form.specs.declared.op.Op.{Op}
+use Rattle.sharc_flat_form.specs.{declared.op.Op.Op, declared.op.Spot.Spot}
 use Rattle.sharc_flat_form.specs.declared.op.Op.TheVariants as op
-use Rattle.sharc_flat_form.specs.declared.op.Spot.{Spot}
-use Rattle.sharc_invariant.specs.Types.{Targets, StaticType, Field, FieldMode, Mentions, cells_of}
-use Rattle.sharc_invariant.specs.Types.FieldMode.{Private, Readonly, Racy, Dynamic, Under, Behind}
-use Rattle.sharc_invariant.specs.Labels.{Entry, Empty, Refers, Unknown, Named, Nth, Number, Anything, Exactly, Within, Indexes, OfElement, OfGlobal, Gate, Loaded, Sole, Pass, IsIn, Label, Labels, IsScoped, EntryMentions, empty, without_base}
-use Rattle.sharc_invariant.specs.Typed.{HasField, IsMode, knows_base, ints_in, refs_in}
-use Rattle.sharc_invariant.proofs.Frames.{kept_pass}
-use Rattle.sharc_invariant.proofs.Scoped.{scoped_gate, scoped_fill, scoped_empty}
-use Rattle.sharc_typed_laws.specs.Inside.{global_pass, global_element_pass, element_pass, pass_of, with_pass, known_behind, passed_behind, behind, before_check, lock_of, exchanged, inside}
-use Rattle.sharc_typed_laws.specs.Lines.{PassesCheck, MayPass, TypedLine}
+use Rattle.sharc_invariant.specs.{Types.{Targets, StaticType, Field, FieldMode, Mentions, cells_of}, Types.FieldMode.{Private, Readonly, Racy, Dynamic, Under, Behind}, Labels.{Entry, Empty, Refers, Unknown, Named, Nth, Number, Anything, Exactly, Within, Indexes, OfElement, OfGlobal, Gate, Loaded, Sole, Pass, IsIn, Label, Labels, IsScoped, EntryMentions, empty, without_base}, Typed.{HasField, IsMode, knows_base, ints_in, refs_in}}
+use Rattle.sharc_invariant.proofs.{Frames.kept_pass, Scoped.{scoped_gate, scoped_fill, scoped_empty}}
+use Rattle.sharc_typed_laws.specs.{Inside.{global_pass, global_element_pass, element_pass, pass_of, with_pass, known_behind, passed_behind, behind, before_check, lock_of, exchanged, inside}, Lines.{PassesCheck, MayPass, TypedLine}}
 use Rattle.sharc_typed_laws.proofs.Checking.{global_is}
 
 -- other things are known of NULL and of checks

@@ -1,48 +1,20 @@
 -- Assignments, and calls whose value is dropped.
-use Rattle.std.proofs.Common.{◌≡◌, ℕ, ◌+◌, ◌<◌, ◌≤◌, ◌⊎◌, Bool, true, false, cond, List, [], ◌∷◌, ◌++◌, Option, Some, None, refl, sym, ap, ◌∙◌, subst, inl, ⊎_elim, arith, pos}
-use Rattle.std.proofs.lemmas.Bool.{false≢true, cases_eq}
-use Rattle.sharc_tree.specs.declared.token.Site.{Site}
-use Rattle.sharc_tree.specs.Spans.{span_of}
-use Rattle.sharc_tree.specs.Tree.{Expression, Right, value, malloc, Simple, assign, does_call}
+use Rattle.std.proofs.{Common.{◌≡◌, ℕ, ◌+◌, ◌<◌, ◌≤◌, ◌⊎◌, Bool, true, false, cond, List, [], ◌∷◌, ◌++◌, Option, Some, None, refl, sym, ap, ◌∙◌, subst, inl, ⊎_elim, arith, pos}, lemmas.Bool.{false≢true, cases_eq}}
+use Rattle.sharc_tree.specs.{declared.token.Site.Site, Spans.span_of, Tree.{Expression, Right, value, malloc, Simple, assign, does_call}}
 use Rattle.sharc_names.specs.Kinds.{Kind, is_integer, declared_kind}
-use Rattle.sharc_code.specs.declared.instr.Register.{Register}
-use Rattle.sharc_code.specs.declared.instr.Width.{Width}
+use Rattle.sharc_code.specs.{declared.instr.Register.Register, declared.instr.Width.Width, Runs.put}
 use Rattle.sharc_code.specs.declared.instr.Register.TheVariants as registers
-use Rattle.sharc_code.specs.Runs.{put}
 use Rattle.sharc_code.proofs.Places.{put_same, put_other, put_all}
-use Rattle.sharc_mode.specs.Cells.{pointed}
-use Rattle.sharc_mode.specs.Rows.{row_at}
-use Rattle.sharc_mode.specs.Sharings.{Sharing}
-use Rattle.sharc_meaning.specs.Cells.{element_cells}
-use Rattle.sharc_meaning.specs.State.{is_reference}
-use Rattle.sharc_flat_form.specs.declared.op.Op.{Op}
+use Rattle.sharc_mode.specs.{Cells.pointed, Rows.row_at, Sharings.Sharing}
+use Rattle.sharc_meaning.specs.{Cells.element_cells, State.is_reference}
+use Rattle.sharc_flat_form.specs.{declared.op.Op.Op, declared.op.Spot.Spot}
 use Rattle.sharc_flat_form.specs.declared.op.Op.TheVariants as op
-use Rattle.sharc_flat_form.specs.declared.op.Spot.{Spot}
-use Rattle.sharc_flat.specs.declared.slot.Lvalue.{Lvalue}
-use Rattle.sharc_flat.specs.Scope.{Context, int_count, ref_count, register_of, at_site}
-use Rattle.sharc_flat.specs.Places.{Target, variable, in_global, in_global_at, in_object, in_object_at, base_width, index_width, width_of, width_code, store_code, cell_store_code, settle_code}
-use Rattle.sharc_flat.specs.Flattened.{kind_of, is_ref, target_of, mode_of, lvalue_in, guard_of, expression_code, place_code, elements_code, right_code, simple_code, drop_code}
-use Rattle.sharc_flat.specs.Suits.{is_cell}
-use Rattle.sharc_invariant.specs.Types.{StaticType}
-use Rattle.sharc_invariant.specs.Labels.{Refers, Element, Number, Exactly, Within, OfElement, Closed, Label, LessNumber, fill, set_number}
-use Rattle.sharc_invariant.specs.Typed.{ints_in, refs_in}
+use Rattle.sharc_flat.specs.{declared.slot.Lvalue.Lvalue, Scope.{Context, int_count, ref_count, register_of, at_site}, Places.{Target, variable, in_global, in_global_at, in_object, in_object_at, base_width, index_width, width_of, width_code, store_code, cell_store_code, settle_code}, Flattened.{kind_of, is_ref, target_of, mode_of, lvalue_in, guard_of, expression_code, place_code, elements_code, right_code, simple_code, drop_code}, Suits.is_cell}
+use Rattle.sharc_invariant.specs.{Types.StaticType, Labels.{Refers, Element, Number, Exactly, Within, OfElement, Closed, Label, LessNumber, fill, set_number}, Typed.{ints_in, refs_in}}
 use Rattle.sharc_invariant.proofs.Scoped.{less_entry_refl, less_number_refl, scoped_fill}
-use Rattle.sharc_typed_laws.specs.Passes.{IsNumberOf}
-use Rattle.sharc_typed_laws.specs.Stretches.{Mark, Setting, Way, AreOpen}
-use Rattle.sharc_typed_laws.specs.Places.{IsNamed, IsPlain, AreLow, mark}
-use Rattle.sharc_typed_laws.specs.Premises.{Typing, IsPointerCopy, Ground, number_in_global}
-use Rattle.sharc_typed_laws.specs.Typable.{IsBare, IsTypeIn, ground_of, IsTypable}
-use Rattle.sharc_typed_laws.specs.Stated.{IsMade, CountTypable, ValueGoes, RightTypable, VariableAssigned, CellAssigned, Assigned, Dropped, SimpleTypable}
-use Rattle.sharc_typed_laws.proofs.Fitting.{fits_same}
-use Rattle.sharc_typed_laws.proofs.Losing.{with_copies, Loses, loses_none, loses_both, kept, below, loses_below, loses_there, small_there, lost_fill, pointer_kept}
-use Rattle.sharc_typed_laws.proofs.Standing.{less_by, scoped_frame}
-use Rattle.sharc_typed_laws.proofs.Telling.{told, other_than}
-use Rattle.sharc_typed_laws.proofs.Moves.{on_new}
-use Rattle.sharc_typed_laws.proofs.Parts.{P, does, then_do, none, enter, constant_at, positive_at, pop_at, same_number, none_some, number_dropped, width_at, with_number}
-use Rattle.sharc_typed_laws.proofs.Values.{over}
-use Rattle.sharc_typed_laws.proofs.Variables.{assign_at, assign_number_at}
-use Rattle.sharc_typed_laws.proofs.Accessed.{Frame, ints_of, placed, int_store, reference_store}
-use Rattle.sharc_typed_laws.proofs.Expressing.{Done, Value, PlaceValue, expressions, places, int_of, ref_of, in_frame, taken_number, lost_frame, frame_fill, frame_number, plain_frame}
+use Rattle.sharc_typed_laws.specs.{Passes.IsNumberOf, Stretches.{Mark, Setting, Way, AreOpen}, Places.{IsNamed, IsPlain, AreLow, mark}, Premises.{Typing, IsPointerCopy, Ground, number_in_global}, Typable.{IsBare, IsTypeIn, ground_of, IsTypable}, Stated.{IsMade, CountTypable, ValueGoes, RightTypable, VariableAssigned, CellAssigned, Assigned, Dropped, SimpleTypable}}
+use Rattle.sharc_typed_laws.proofs.{Fitting.fits_same, Losing.{with_copies, Loses, loses_none, loses_both, kept, below, loses_below, loses_there, small_there, lost_fill, pointer_kept}, Standing.{less_by, scoped_frame}, Telling.{told, other_than}, Moves.on_new, Parts.{P, does, then_do, none, enter, constant_at, positive_at, pop_at, same_number, number_dropped, width_at, with_number}, Values.over, Variables.{assign_at, assign_number_at}, Accessed.{Frame, ints_of, placed, int_store, reference_store}, Expressing.{Done, Value, PlaceValue, expressions, places, int_of, ref_of, in_frame, taken_number, lost_frame, frame_fill, frame_number, plain_frame}}
+use Rattle.sharc_lemmas.proofs.Options.{no_guard as none_some}
 
 module _ (around : Setting) (f : ℕ) (ways : List Way) (y : Typing) (c : Context) (low : AreLow (y.named c) (ref_count c.scope)) where
   abbrev D : (ℕ → Mark) → Type 0

@@ -1,29 +1,16 @@
 -- A thread is started, after what it is handed.
-use Rattle.std.proofs.Common.{◌≡◌, ℕ, ◌+◌, ◌<◌, ◌≤◌, Bool, true, false, List, [], ◌∷◌, length, Some, refl, sym, ap, ◌∙◌, subst, ⊎_elim, arith}
-use Rattle.std.proofs.lemmas.Bool.{cases_eq}
+use Rattle.std.proofs.{Common.{◌≡◌, ℕ, ◌+◌, ◌<◌, ◌≤◌, Bool, true, false, List, [], ◌∷◌, length, Some, refl, sym, ap, ◌∙◌, subst, ⊎_elim, arith}, lemmas.Bool.cases_eq}
 use Rattle.sharc_code.specs.declared.code.Parameter.TheVariants as parameters
 use Rattle.sharc_code.specs.declared.instr.Register.TheVariants as registers
-use Rattle.sharc_code.specs.declared.instr.Width.{Width}
-use Rattle.sharc_code.specs.declared.instr.Width.TheVariants.{Char}
-use Rattle.sharc_code.specs.Machine.{function_of}
-use Rattle.sharc_code.specs.Runs.{put}
+use Rattle.sharc_code.specs.{declared.instr.Width.Width, declared.instr.Width.TheVariants.Char, Machine.function_of, Runs.put}
 use Rattle.sharc_code.proofs.Places.{put_same, put_other, put_all}
-use Rattle.sharc_flat_form.specs.declared.op.Op.{Op}
+use Rattle.sharc_flat_form.specs.{declared.op.Op.Op, declared.op.Spot.Spot}
 use Rattle.sharc_flat_form.specs.declared.op.Op.TheVariants as op
-use Rattle.sharc_flat_form.specs.declared.op.Spot.{Spot}
 use Rattle.sharc_flat.specs.Scope.{Context, ref_count}
-use Rattle.sharc_invariant.specs.Types.{StaticType}
-use Rattle.sharc_invariant.specs.Labels.{Empty, Refers, Number, Anything, Within, Label, LessNumber, LessEntry, EntryMentions, HasBase, fill, empty, set_number, without_copies, without_index}
-use Rattle.sharc_invariant.specs.Typed.{Passes, IsShared, ints_in, refs_in}
+use Rattle.sharc_invariant.specs.{Types.StaticType, Labels.{Empty, Refers, Number, Anything, Within, Label, LessNumber, LessEntry, EntryMentions, HasBase, fill, empty, set_number, without_copies, without_index}, Typed.{Passes, IsShared, ints_in, refs_in}}
 use Rattle.sharc_invariant.proofs.Scoped.{less_entry_refl, less_number_refl}
-use Rattle.sharc_typed_laws.specs.Passes.{with_passes}
-use Rattle.sharc_typed_laws.specs.Stretches.{Mark, Setting}
-use Rattle.sharc_typed_laws.specs.Places.{IsNamed, mark}
-use Rattle.sharc_typed_laws.specs.Premises.{Typing}
-use Rattle.sharc_typed_laws.proofs.Standing.{less_by, without_same, uncopied, scoped_frame, unnamed, stands_number}
-use Rattle.sharc_typed_laws.proofs.Handing.{on_spawn}
-use Rattle.sharc_typed_laws.proofs.Parts.{P, does, with_number}
-use Rattle.sharc_typed_laws.proofs.Accessed.{Frame}
+use Rattle.sharc_typed_laws.specs.{Passes.with_passes, Stretches.{Mark, Setting}, Places.{IsNamed, mark}, Premises.Typing}
+use Rattle.sharc_typed_laws.proofs.{Standing.{less_by, without_same, uncopied, scoped_frame, unnamed, stands_number}, Handing.on_spawn, Parts.{P, does, with_number}, Accessed.Frame}
 
 module _ (around : Setting) (f : ℕ) (D : (ℕ → Mark) → Type 0) (y : Typing) (c : Context) (low : (p : ℕ) → y.named c p ≡ true → p < ref_count c.scope) (from : ℕ) where
   abbrev N : ℕ → Bool

@@ -1,12 +1,9 @@
 -- Labels of frames of which so many registers are taken: what they are after a register is filled, emptied or numbered.
-use Rattle.std.proofs.Common.{◌≡◌, ◌≢◌, ℕ, ◌+◌, ◌<◌, ◌≤◌, Bool, true, false, cond, [], refl, sym, ap, ◌∙◌, subst, inl, inr, ⊎_elim, arith}
+use Rattle.std.proofs.{Common.{◌≡◌, ◌≢◌, ℕ, ◌+◌, ◌<◌, ◌≤◌, Bool, true, false, cond, [], refl, sym, ap, ◌∙◌, subst, inl, inr, ⊎_elim, arith}, lemmas.Bool.{cases_eq, cases_lt}, lemmas.Bool.Decides.nat_tests}
 use Rattle.std.specs.Prelude.{nat_eq}
-use Rattle.std.proofs.lemmas.Bool.{cases_eq, cases_lt}
-use Rattle.std.proofs.lemmas.Bool.Decides.{nat_tests}
 use Rattle.sharc_code.specs.Runs.{put}
 use Rattle.sharc_code.proofs.Places.{put_same, put_other, put_all}
-use Rattle.sharc_invariant.specs.Types.{StaticType}
-use Rattle.sharc_invariant.specs.Labels.{Entry, Empty, Refers, Number, Anything, Exactly, Within, Indexes, OfElement, OfGlobal, Gate, Closed, IsIn, Label, Less, IsCopy, LessEntry, LessNumber, LessGate, EntryMentions, HasBase, IsScoped, IsFree, set_number, fill, empty, without_copies, without_index}
+use Rattle.sharc_invariant.specs.{Types.StaticType, Labels.{Entry, Empty, Refers, Number, Anything, Exactly, Within, Indexes, OfElement, OfGlobal, Gate, Closed, IsIn, Label, Less, IsCopy, LessEntry, LessNumber, LessGate, EntryMentions, HasBase, IsScoped, IsFree, set_number, fill, empty, without_copies, without_index}}
 use Rattle.sharc_invariant.proofs.Scoped.{less_entry_refl, less_number_refl, less_gate_refl}
 use Rattle.sharc_typed_laws.specs.Places.{Stands, IsNamed}
 

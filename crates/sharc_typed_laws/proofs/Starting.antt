@@ -1,28 +1,17 @@
 -- What the signature of a function says: it names no register of a frame, and a thread may begin with it where its parameters are few.
-use Rattle.std.proofs.Common.{◌≡◌, ◌≢◌, ℕ, ◌+◌, ◌<◌, ◌≤◌, Bool, true, false, cond, ◌||◌, List, [], ◌∷◌, length, map, refl, sym, ap, ◌∙◌, subst, arith}
+use Rattle.std.proofs.{Common.{◌≡◌, ◌≢◌, ℕ, ◌+◌, ◌<◌, ◌≤◌, Bool, true, false, cond, ◌||◌, List, [], ◌∷◌, length, map, refl, sym, ap, ◌∙◌, subst, arith}, lemmas.Bool.Decides.nat_tests}
 use Rattle.std.specs.Prelude.{nat_lt}
-use Rattle.std.proofs.lemmas.Bool.Decides.{nat_tests}
-use Rattle.sharc_tree.specs.declared.tree.declaration.Declaration.{Declaration}
-use Rattle.sharc_tree.specs.declared.tree.declaration.WrittenType.{WrittenType}
+use Rattle.sharc_tree.specs.{declared.tree.declaration.Declaration.Declaration, declared.tree.declaration.WrittenType.WrittenType}
 use Rattle.sharc_names.specs.Kinds.{Kind, is_pointer, declared_kind}
 use Rattle.sharc_code.specs.declared.code.Parameter.TheVariants as parameters
-use Rattle.sharc_code.specs.declared.instr.Width.{Width}
-use Rattle.sharc_code.specs.Machine.{function_of}
+use Rattle.sharc_code.specs.{declared.instr.Width.Width, Machine.function_of}
 use Rattle.sharc_meaning.specs.State.{is_reference}
-use Rattle.sharc_flat.specs.Scope.{slot_of, int_count, ref_count}
-use Rattle.sharc_flat.specs.Flattened.{parameter_of}
-use Rattle.sharc_invariant.specs.Types.{StaticType}
-use Rattle.sharc_invariant.specs.Labels.{Empty, Refers, Number, Anything, Within, Signature, Labels, EntryMentions, HasBase, HasName}
-use Rattle.sharc_invariant.specs.Typed.{IsPlain, MayStart}
-use Rattle.sharc_typed_laws.specs.Stretches.{Setting}
-use Rattle.sharc_typed_laws.specs.Premises.{Typing}
-use Rattle.sharc_typed_laws.specs.Returned.{GivesBackBy, GivesBack}
+use Rattle.sharc_flat.specs.{Scope.{slot_of, int_count, ref_count}, Flattened.parameter_of}
+use Rattle.sharc_invariant.specs.{Types.StaticType, Labels.{Empty, Refers, Number, Anything, Within, Signature, Labels, EntryMentions, HasBase, HasName}, Typed.{IsPlain, MayStart}}
+use Rattle.sharc_typed_laws.specs.{Stretches.Setting, Premises.Typing, Returned.{GivesBackBy, GivesBack}}
+use Rattle.sharc_lemmas.proofs.Bools.{or_false}
 
 -- ---- parameters
-pub or_false : (b : Bool) → (b || false) ≡ b
-or_false true = refl
-or_false false = refl
-
 declared_reference : (w : WrittenType) → is_reference (declared_kind w) ≡ is_pointer (declared_kind w)
 declared_reference w = or_false (is_pointer (declared_kind w))
 

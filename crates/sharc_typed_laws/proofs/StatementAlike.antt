@@ -1,14 +1,8 @@
 -- What is known before a statement is told by the types of the variables, so two labels there are the same; and where nothing is known but that, frames are large enough.
-use Rattle.std.proofs.Common.{◌≡◌, ℕ, ◌<◌, ◌≤◌, Bool, true, false, refl, sym, ◌∙◌, subst, inl, ⊎_elim, arith}
-use Rattle.std.proofs.lemmas.Bool.{cases_lt}
+use Rattle.std.proofs.{Common.{◌≡◌, ℕ, ◌<◌, ◌≤◌, sym, ◌∙◌, subst, inl, ⊎_elim, arith}, lemmas.Bool.{cases_lt, false_from_ne_true as never}}
 use Rattle.sharc_flat.specs.Scope.{Context, int_count, ref_count}
 use Rattle.sharc_invariant.specs.Labels.{IsIn, Label, IsScoped}
-use Rattle.sharc_typed_laws.specs.Premises.{Typing}
-use Rattle.sharc_typed_laws.specs.Declared.{StandsBefore}
-
-never : (b : Bool) → (b ≡ true → ⊥) → b ≡ false
-never true h = absurd (h refl)
-never false h = refl
+use Rattle.sharc_typed_laws.specs.{Premises.Typing, Declared.StandsBefore}
 
 module _ (y : Typing) (c : Context) (f : ℕ) where
   abbrev i : ℕ

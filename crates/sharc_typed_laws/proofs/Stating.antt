@@ -1,37 +1,14 @@
 -- Statements whose types say what is asked are typed code, by induction over their form.
-use Rattle.std.proofs.Common.{◌≡◌, ℕ, ◌+◌, ◌<◌, ◌≤◌, Bool, true, false, List, [], ◌∷◌, ◌++◌, length, Option, Some, None, refl, sym, ap, ◌∙◌, subst, inl, inr, ⊎_elim, arith, append_assoc}
-use Rattle.std.proofs.lemmas.Bool.{false≢true, cases_lt}
-use Rattle.sharc_tree.specs.declared.token.Site.{Site}
-use Rattle.sharc_tree.specs.Spans.{span_of}
-use Rattle.sharc_tree.specs.declared.tree.statement.Jump.TheVariants.{Break, Continue}
-use Rattle.sharc_tree.specs.Tree.{Expression, Simple, Local, First, nothing, declares, does, Statement, empty, block, declare, simple, jump, return, if_then, if_then_else, while, for, Statements, no_statements, statement}
+use Rattle.std.proofs.{Common.{◌≡◌, ℕ, ◌+◌, ◌<◌, ◌≤◌, Bool, true, false, List, [], ◌∷◌, ◌++◌, length, Option, Some, None, refl, sym, ap, ◌∙◌, subst, inl, inr, ⊎_elim, arith, append_assoc}, lemmas.Bool.{false≢true, cases_lt}}
+use Rattle.sharc_tree.specs.{declared.token.Site.Site, Spans.span_of, declared.tree.statement.Jump.TheVariants.{Break, Continue}, Tree.{Expression, Simple, Local, First, nothing, declares, does, Statement, empty, block, declare, simple, jump, return, if_then, if_then_else, while, for, Statements, no_statements, statement}}
 use Rattle.sharc_names.specs.Kinds.{declared_kind}
 use Rattle.sharc_meaning.specs.State.{is_reference}
-use Rattle.sharc_flat_form.specs.declared.op.Op.{Op}
+use Rattle.sharc_flat_form.specs.{declared.op.Op.Op, declared.op.Spot.Spot}
 use Rattle.sharc_flat_form.specs.declared.op.Op.TheVariants as op
-use Rattle.sharc_flat_form.specs.declared.op.Spot.{Spot}
-use Rattle.sharc_flat.specs.Places.{width_of, width_code}
-use Rattle.sharc_flat.specs.Scope.{Context, int_count, ref_count, leaves, ends_from, at_site, slot_of}
-use Rattle.sharc_flat.specs.Suits.{is_declaration}
-use Rattle.sharc_flat.specs.Flattened.{Around, opened, looping, expression_code, zero_code, result_code, return_code, test_code, turn_code, step_code, first_code, simple_code, local_code, loop_code, with_variable, behind_first, behind_statement, behind_statements, statement_code, statements_code}
+use Rattle.sharc_flat.specs.{Places.{width_of, width_code}, Scope.{Context, int_count, ref_count, leaves, ends_from, at_site, slot_of}, Suits.is_declaration, Flattened.{Around, opened, looping, expression_code, zero_code, result_code, return_code, test_code, turn_code, step_code, first_code, simple_code, local_code, loop_code, with_variable, behind_first, behind_statement, behind_statements, statement_code, statements_code}}
 use Rattle.sharc_invariant.specs.Types.{StaticType, Mentions}
-use Rattle.sharc_typed_laws.specs.Stretches.{Mark, Setting, Way, LeadsAmong, LeadsFrom}
-use Rattle.sharc_typed_laws.specs.Places.{IsNamed}
-use Rattle.sharc_typed_laws.specs.Premises.{Typing}
-use Rattle.sharc_typed_laws.specs.LabelsLaws.{SimplesAreTyped, TestsAreTyped}
-use Rattle.sharc_typed_laws.specs.Stated.{SimpleTypable}
-use Rattle.sharc_typed_laws.specs.Declared.{Begins, LocalTypable, StandsBefore, before, LocalsAreTyped}
-use Rattle.sharc_typed_laws.specs.Begun.{label_of, LabelsStand}
-use Rattle.sharc_typed_laws.specs.Blocks.{BlocksAreTyped, BlocksLead}
-use Rattle.sharc_typed_laws.specs.Decided.{loop_ways, DecisionsLead, DecisionsAreTyped}
-use Rattle.sharc_typed_laws.specs.Ended.{EndsAreTyped}
-use Rattle.sharc_typed_laws.specs.Left.{IsOpen, LeavesAreTyped, JumpsAreTyped}
-use Rattle.sharc_typed_laws.specs.Returned.{GivesBack, ReturnTypable, Returns, NothingReturns, ValuesReturn}
-use Rattle.sharc_typed_laws.specs.Statements.{TestTypable, StepTypable, DeclaredTypable, FirstTypable, StatementTypable, StatementsTypable}
-use Rattle.sharc_typed_laws.specs.Functions.{IsLowTyping}
-use Rattle.sharc_typed_laws.proofs.Growing.{Extends, AreNamed, Nest, extends_same, extends_through, grows_by, ends_are, nest_both, nest_named, nested}
-use Rattle.sharc_typed_laws.proofs.StatementAlike.{same_label}
-use Rattle.sharc_typed_laws.proofs.Closing.{last_line}
+use Rattle.sharc_typed_laws.specs.{Stretches.{Mark, Setting, Way, LeadsAmong, LeadsFrom}, Places.IsNamed, Premises.Typing, LabelsLaws.{SimplesAreTyped, TestsAreTyped}, Stated.SimpleTypable, Declared.{Begins, LocalTypable, StandsBefore, before, LocalsAreTyped}, Begun.{label_of, LabelsStand}, Blocks.{BlocksAreTyped, BlocksLead}, Decided.{loop_ways, DecisionsLead, DecisionsAreTyped}, Ended.EndsAreTyped, Left.{IsOpen, LeavesAreTyped, JumpsAreTyped}, Returned.{GivesBack, ReturnTypable, Returns, NothingReturns, ValuesReturn}, Statements.{TestTypable, StepTypable, DeclaredTypable, FirstTypable, StatementTypable, StatementsTypable}, Functions.IsLowTyping}
+use Rattle.sharc_typed_laws.proofs.{Growing.{Extends, AreNamed, Nest, extends_same, extends_through, grows_by, ends_are, nest_both, nest_named, nested}, StatementAlike.same_label, Closing.last_line}
 
 -- the laws that it stands on
 pub record Below : Type 0 where

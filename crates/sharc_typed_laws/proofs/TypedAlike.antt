@@ -1,17 +1,9 @@
 -- What a label says does not change by what is known of NULL, by the gate, or by the checks that are remembered.
 use Rattle.std.proofs.Common.{◌≡◌, ℕ, Bool, true, List, [], ◌∷◌, Option}
 use Rattle.std.specs.Prelude.{slice_index_or}
-use Rattle.sharc_code.specs.declared.code.Code.{Code}
-use Rattle.sharc_code.specs.declared.code.PlaceMode.{PlaceMode}
-use Rattle.sharc_code.specs.declared.instr.Cell.{Cell}
+use Rattle.sharc_code.specs.{declared.code.Code.Code, declared.code.PlaceMode.PlaceMode, declared.instr.Cell.Cell}
 use Rattle.sharc_code.specs.declared.instr.Cell.TheVariants as cells
-use Rattle.sharc_invariant.specs.Types.{Targets, Lock, StaticType, Field, FieldLock, FieldMode, Content}
-use Rattle.sharc_invariant.specs.Types.Lock.{Global, Through, Self}
-use Rattle.sharc_invariant.specs.Types.FieldLock.{OfType, OfGlobals, OfElement}
-use Rattle.sharc_invariant.specs.Types.FieldMode.{Private, Readonly, Racy, Dynamic, Under, Behind}
-use Rattle.sharc_invariant.specs.Types.Content.{Integer, MutexWord, Waiters, Pointer}
-use Rattle.sharc_invariant.specs.Labels.{Entry, Empty, Refers, Unknown, Gate, Pass, Label, SameReference, Itself, IsCopy, HasCopy, Copies, Chained, SameLock, AllSame, LessEntry}
-use Rattle.sharc_invariant.specs.Typed.{HasField, HasBase, HasCell, IsSibling, IsLockCell, IsTypeLock, IsMutexOf, IsLockMode, IsTypeMode, HasBefore, IsMode, IsFieldLock, IsAnyLock, AreFieldLocks, PointsTo, IsSameFieldLock, IsSameContent, Recasts, IsPlace, no_lock}
+use Rattle.sharc_invariant.specs.{Types.{Targets, Lock, StaticType, Field, FieldLock, FieldMode, Content}, Types.Lock.{Global, Through, Self}, Types.FieldLock.{OfType, OfGlobals, OfElement}, Types.FieldMode.{Private, Readonly, Racy, Dynamic, Under, Behind}, Types.Content.{Integer, MutexWord, Waiters, Pointer}, Labels.{Entry, Empty, Refers, Unknown, Gate, Pass, Label, SameReference, Itself, IsCopy, HasCopy, Copies, Chained, SameLock, AllSame, LessEntry}, Typed.{HasField, HasBase, HasCell, IsSibling, IsLockCell, IsTypeLock, IsMutexOf, IsLockMode, IsTypeMode, HasBefore, IsMode, IsFieldLock, IsAnyLock, AreFieldLocks, PointsTo, IsSameFieldLock, IsSameContent, Recasts, IsPlace, no_lock}}
 
 pub all_same : {A B : Type 0} (R S : A → B → Type 0) (each : (a : A) (b : B) → R a b → S a b) (xs : List A) (ys : List B) → AllSame R xs ys → AllSame S xs ys
 all_same R S each [] [] h = tt

@@ -1,33 +1,17 @@
 -- Labels of lines are those of the places where their pieces begin, and each piece is typed where it stands.
-use Rattle.std.proofs.Common.{◌≡◌, ℕ, zero, suc, ◌+◌, ◌≤◌, Bool, true, false, List, [], ◌∷◌, ◌++◌, length, map, Some, refl, sym, ap, ◌∙◌, subst, inl, inr, ⊎_elim, arith}
-use Rattle.std.specs.List.{AllByRecursion}
-use Rattle.std.specs.Prelude.{slice_get, slice_index_or}
-use Rattle.std.proofs.lemmas.List.{map-append, get_or-append-add}
-use Rattle.sharc_code.specs.declared.code.Code.{Code}
-use Rattle.sharc_code.specs.declared.code.PlaceMode.{PlaceMode}
+use Rattle.std.proofs.{Common.{◌≡◌, ℕ, zero, suc, ◌+◌, ◌≤◌, Bool, true, false, List, [], ◌∷◌, ◌++◌, length, map, Some, refl, sym, ap, ◌∙◌, subst, inl, inr, ⊎_elim, arith}, lemmas.List.{map-append, get_or-append-add}}
+use Rattle.std.specs.{List.AllByRecursion, Prelude.{slice_get, slice_index_or}}
+use Rattle.sharc_code.specs.{declared.code.Code.Code, declared.code.PlaceMode.PlaceMode, declared.instr.Cell.Cell, declared.instr.Instr.Instr, declared.instr.Instr.TheVariants.{Jump, JumpIfZero, JumpIfNull, Call, Return, Load, Store, LoadRef, Exchange, TakeCell, Exit}, Says.place_at}
 use Rattle.sharc_code.specs.declared.code.PlaceMode.TheVariants as modes
-use Rattle.sharc_code.specs.declared.instr.Cell.{Cell}
 use Rattle.sharc_code.specs.declared.instr.Cell.TheVariants as cells
-use Rattle.sharc_code.specs.declared.instr.Instr.{Instr}
-use Rattle.sharc_code.specs.declared.instr.Instr.TheVariants.{Jump, JumpIfZero, JumpIfNull, Call, Return, Load, Store, LoadRef, Exchange, TakeCell, Exit}
-use Rattle.sharc_code.specs.Says.{place_at}
-use Rattle.sharc_flat_form.specs.declared.op.Op.{Op}
+use Rattle.sharc_flat_form.specs.{declared.op.Op.Op, declared.op.Spot.Spot}
 use Rattle.sharc_flat_form.specs.declared.op.Op.TheVariants as op
-use Rattle.sharc_flat_form.specs.declared.op.Spot.{Spot}
 use Rattle.sharc_gen.specs.Generated.{instr_of}
 use Rattle.sharc_guard.specs.Guard.{check_under, expand, expanded, width, offset, place, source_of}
-use Rattle.sharc_invariant.specs.Types.{Targets, StaticType, Field, FieldMode, Content}
-use Rattle.sharc_invariant.specs.Types.FieldMode.{Private, Readonly, Racy, Dynamic, Under, Behind}
-use Rattle.sharc_invariant.specs.Labels.{Label, Labels, Less, IsScoped, IsFree, empty, knows}
-use Rattle.sharc_invariant.specs.Typed.{Fine, Calls, Accesses, MayAccess, ints_in, refs_in}
-use Rattle.sharc_typed_laws.specs.Steps.{all_at, Steps, Chain, first_or}
-use Rattle.sharc_typed_laws.specs.Inside.{FlatLabels, outside, inside, before_check, known_behind, gate_behind, passed_behind, labels_from}
-use Rattle.sharc_typed_laws.specs.Lines.{TypedLine, To}
+use Rattle.sharc_invariant.specs.{Types.{Targets, StaticType, Field, FieldMode, Content}, Types.FieldMode.{Private, Readonly, Racy, Dynamic, Under, Behind}, Labels.{Label, Labels, Less, IsScoped, IsFree, empty, knows}, Typed.{Fine, Calls, Accesses, MayAccess, ints_in, refs_in}}
+use Rattle.sharc_typed_laws.specs.{Steps.{all_at, Steps, Chain, first_or}, Inside.{FlatLabels, outside, inside, before_check, known_behind, gate_behind, passed_behind, labels_from}, Lines.{TypedLine, To}}
 use Rattle.sharc_invariant.proofs.Scoped.{less_refl}
-use Rattle.sharc_typed_laws.proofs.Pieces.{pieces}
-use Rattle.sharc_typed_laws.proofs.Preorder.{less_through}
-use Rattle.sharc_typed_laws.proofs.Weaker.{steps}
-use Rattle.sharc_typed_laws.proofs.Scoping.{scoped}
+use Rattle.sharc_typed_laws.proofs.{Pieces.pieces, Preorder.less_through, Weaker.steps, Scoping.scoped}
 
 -- ---- one statement at its place
 module _ (x : Targets) (code : Code) (ls : Labels) (at : ℕ → Label) (k : Label) where

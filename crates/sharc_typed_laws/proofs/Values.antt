@@ -1,27 +1,14 @@
 -- What is accessed, with the base and the index of its cell at hand: loads, stores and takes.
-use Rattle.std.proofs.Common.{◌≡◌, ℕ, ◌+◌, ◌<◌, ◌≤◌, Bool, true, false, List, [], ◌∷◌, Some, refl, sym, ap, ◌∙◌, subst, inl, ⊎_elim, arith}
-use Rattle.std.proofs.lemmas.Bool.{false≢true, cases_eq, cases_lt}
-use Rattle.sharc_code.specs.declared.instr.Cell.{Cell}
-use Rattle.sharc_code.specs.declared.instr.Width.{Width}
-use Rattle.sharc_code.specs.Runs.{put}
+use Rattle.std.proofs.{Common.{◌≡◌, ℕ, ◌+◌, ◌<◌, ◌≤◌, Bool, true, false, List, [], ◌∷◌, Some, refl, sym, ap, ◌∙◌, subst, inl, ⊎_elim, arith}, lemmas.Bool.{false≢true, cases_eq, cases_lt}}
+use Rattle.sharc_code.specs.{declared.instr.Cell.Cell, declared.instr.Width.Width, Runs.put}
 use Rattle.sharc_code.proofs.Places.{put_same, put_other, put_all}
-use Rattle.sharc_flat_form.specs.declared.op.Op.{Op}
+use Rattle.sharc_flat_form.specs.{declared.op.Op.Op, declared.op.Spot.Spot, Framed.OpWrites}
 use Rattle.sharc_flat_form.specs.declared.op.Op.TheVariants as op
-use Rattle.sharc_flat_form.specs.declared.op.Spot.{Spot}
-use Rattle.sharc_flat_form.specs.Framed.{OpWrites}
-use Rattle.sharc_invariant.specs.Types.{StaticType, Field, FieldType, Mentions}
-use Rattle.sharc_invariant.specs.Types.FieldMode.{Readonly}
-use Rattle.sharc_invariant.specs.Types.Content.{Integer, Pointer}
-use Rattle.sharc_invariant.specs.Labels.{Empty, Refers, Number, Anything, Within, Gate, Closed, Loaded, Label, Less, LessNumber, LessEntry, LessGate, EntryMentions, IsScoped, set_number, fill, empty, without_copies, without_index}
-use Rattle.sharc_invariant.specs.Typed.{IsVacant, PointsTo, HasCell, Fits as FitsWidth, ints_in, refs_in}
+use Rattle.sharc_invariant.specs.{Types.{StaticType, Field, FieldType, Mentions}, Types.FieldMode.Readonly, Types.Content.{Integer, Pointer}, Labels.{Empty, Refers, Number, Anything, Within, Gate, Closed, Loaded, Label, Less, LessNumber, LessEntry, LessGate, EntryMentions, IsScoped, set_number, fill, empty, without_copies, without_index}, Typed.{IsVacant, PointsTo, HasCell, Fits as FitsWidth, ints_in, refs_in}}
 use Rattle.sharc_invariant.proofs.Scoped.{less_refl, less_entry_refl, less_number_refl, scoped_fill}
-use Rattle.sharc_typed_laws.specs.Passes.{IsNumberOf}
-use Rattle.sharc_typed_laws.specs.Stretches.{Mark, Setting, Fits, IsAtHand, IsLine}
-use Rattle.sharc_typed_laws.specs.Places.{IsNamed, MayReach, mark}
-use Rattle.sharc_typed_laws.proofs.Standing.{less_by, without_same, uncopied, scoped_frame, unnamed, stands_number}
-use Rattle.sharc_typed_laws.proofs.Telling.{told, other_than}
-use Rattle.sharc_typed_laws.proofs.Accesses.{InFrame, on_load, on_store, on_load_reference, on_take_cell, on_store_reference, on_load_guard}
-use Rattle.sharc_typed_laws.proofs.Parts.{P, does, At, same_number, told_same, told_number, none_some, with_number}
+use Rattle.sharc_typed_laws.specs.{Passes.IsNumberOf, Stretches.{Mark, Setting, Fits, IsAtHand, IsLine}, Places.{IsNamed, MayReach, mark}}
+use Rattle.sharc_typed_laws.proofs.{Standing.{less_by, without_same, uncopied, scoped_frame, unnamed, stands_number}, Telling.{told, other_than}, Accesses.{InFrame, on_load, on_store, on_load_reference, on_take_cell, on_store_reference, on_load_guard}, Parts.{P, does, At, same_number, told_same, told_number, with_number}}
+use Rattle.sharc_lemmas.proofs.Options.{no_guard as none_some}
 
 -- the integer registers hold this, and this stands directly before
 abbrev pub over : Label → (ℕ → Number) → Gate → Label

@@ -1,30 +1,15 @@
 -- Variables: copies of them, and what is assigned to them; and a reference that takes the place of the base through which it was found.
-use Rattle.std.proofs.Common.{◌≡◌, ℕ, ◌+◌, ◌<◌, ◌≤◌, Bool, true, false, cond, ◌||◌, List, [], ◌∷◌, Some, None, refl, sym, ap, ◌∙◌, subst, inl, inr, ⊎_elim, arith}
+use Rattle.std.proofs.{Common.{◌≡◌, ℕ, ◌+◌, ◌<◌, ◌≤◌, Bool, true, false, cond, ◌||◌, List, [], ◌∷◌, Some, None, refl, sym, ap, ◌∙◌, subst, inl, inr, ⊎_elim, arith}, lemmas.Bool.{false≢true, cases_eq, or_parts as either_false}, lemmas.Option.same_Some}
 use Rattle.std.specs.Prelude.{nat_eq}
-use Rattle.std.proofs.lemmas.Bool.{false≢true, cases_eq}
-use Rattle.std.proofs.lemmas.Option.{same_Some}
-use Rattle.sharc_code.specs.declared.instr.Width.{Width}
-use Rattle.sharc_code.specs.Runs.{put}
-use Rattle.sharc_code.proofs.Places.{eq_refl, put_same, put_other, put_all}
-use Rattle.sharc_flat_form.specs.declared.op.Op.{Op}
+use Rattle.sharc_code.specs.{declared.instr.Width.Width, Runs.put}
+use Rattle.sharc_code.proofs.Places.{put_same, put_other, put_all}
+use Rattle.sharc_flat_form.specs.{declared.op.Op.Op, Framed.OpWrites}
 use Rattle.sharc_flat_form.specs.declared.op.Op.TheVariants as op
-use Rattle.sharc_flat_form.specs.Framed.{OpWrites}
-use Rattle.sharc_invariant.specs.Types.{StaticType, Mentions}
-use Rattle.sharc_invariant.specs.Labels.{Entry, Empty, Refers, Number, Within, Closed, IsIn, Label, Less, Itself, IsCopy, LessNumber, LessEntry, LessGate, HasBase, EntryMentions, IsScoped, IsFree, set_number, fill, empty, without_copies, without_index}
-use Rattle.sharc_invariant.specs.Typed.{ints_in, refs_in, moved_copy}
+use Rattle.sharc_invariant.specs.{Types.{StaticType, Mentions}, Labels.{Entry, Empty, Refers, Number, Within, Closed, IsIn, Label, Less, Itself, IsCopy, LessNumber, LessEntry, LessGate, HasBase, EntryMentions, IsScoped, IsFree, set_number, fill, empty, without_copies, without_index}, Typed.{ints_in, refs_in, moved_copy}}
 use Rattle.sharc_invariant.proofs.Scoped.{less_entry_refl, less_number_refl, scoped_fill}
-use Rattle.sharc_typed_laws.specs.Passes.{IsNumberOf}
-use Rattle.sharc_typed_laws.specs.Stretches.{Mark, Setting, Fits, IsLine}
-use Rattle.sharc_typed_laws.specs.Places.{IsNamed, mark}
-use Rattle.sharc_typed_laws.proofs.Standing.{less_by, without_same, uncopied, scoped_frame, unnamed}
-use Rattle.sharc_typed_laws.proofs.Telling.{told, other_than, same_as}
-use Rattle.sharc_typed_laws.proofs.Rules.{on_move, on_local}
-use Rattle.sharc_typed_laws.proofs.Moves.{on_settle}
-use Rattle.sharc_typed_laws.proofs.Parts.{P, does, At, same_number, number_op, none_some, with_reference, with_number, scoped_below, number_below, number_above}
-
-pub either_false : (a b : Bool) → (a || b) ≡ false → (a ≡ false) × (b ≡ false)
-either_false true b e = absurd (false≢true (sym e))
-either_false false b e = (refl, e)
+use Rattle.sharc_typed_laws.specs.{Passes.IsNumberOf, Stretches.{Mark, Setting, Fits, IsLine}, Places.{IsNamed, mark}}
+use Rattle.sharc_typed_laws.proofs.{Standing.{less_by, without_same, uncopied, scoped_frame, unnamed}, Telling.{told, other_than, same_as}, Rules.{on_move, on_local}, Moves.on_settle, Parts.{P, does, At, same_number, number_op, with_reference, with_number, scoped_below, number_below, number_above}}
+use Rattle.sharc_lemmas.proofs.{Options.{no_guard as none_some}, Numbers.eq_refl}
 
 entry_same : (l : Label) (q : ℕ) (a b : Entry) → a ≡ b → LessEntry l q a b
 entry_same l q a b e = subst (LessEntry l q a) e (less_entry_refl l q a)

@@ -1,28 +1,14 @@
 -- What is done with condition variables, after what is handed to it.
-use Rattle.std.proofs.Common.{◌≡◌, ◌≢◌, ℕ, ◌+◌, ◌<◌, ◌≤◌, ◌⊎◌, Bool, true, false, List, [], ◌∷◌, ◌++◌, Some, refl, sym, ap, ◌∙◌, subst, inr, ⊎_elim, arith}
-use Rattle.std.proofs.lemmas.Bool.{false≢true, cases_eq, cases_lt}
-use Rattle.sharc_code.specs.declared.instr.Cell.{Cell}
-use Rattle.sharc_code.specs.Runs.{put}
+use Rattle.std.proofs.{Common.{◌≡◌, ◌≢◌, ℕ, ◌+◌, ◌<◌, ◌≤◌, ◌⊎◌, Bool, true, false, List, [], ◌∷◌, ◌++◌, Some, refl, sym, ap, ◌∙◌, subst, inr, ⊎_elim, arith}, lemmas.Bool.{false≢true, cases_eq, cases_lt}}
+use Rattle.sharc_code.specs.{declared.instr.Cell.Cell, Runs.put}
 use Rattle.sharc_code.proofs.Places.{put_same, put_other, put_all}
-use Rattle.sharc_flat_form.specs.declared.op.Op.{Op}
+use Rattle.sharc_flat_form.specs.{declared.op.Op.Op, declared.op.Spot.Spot}
 use Rattle.sharc_flat_form.specs.declared.op.Op.TheVariants as op
-use Rattle.sharc_flat_form.specs.declared.op.Spot.{Spot}
-use Rattle.sharc_flat.specs.Scope.{Context, ref_count}
-use Rattle.sharc_flat.specs.Flattened.{first_cell_of, wait_code}
-use Rattle.sharc_invariant.specs.Types.{StaticType, field_at, cells_of}
-use Rattle.sharc_invariant.specs.Types.Content.{MutexWord, Waiters}
-use Rattle.sharc_invariant.specs.Labels.{Empty, Refers, Gate, Closed, Holds, Label, Less, LessNumber, LessEntry, EntryMentions, IsScoped, fill, gated, knows}
-use Rattle.sharc_invariant.specs.Typed.{HasCell, ints_in, refs_in}
+use Rattle.sharc_flat.specs.{Scope.{Context, ref_count}, Flattened.{first_cell_of, wait_code}}
+use Rattle.sharc_invariant.specs.{Types.{StaticType, field_at, cells_of}, Types.Content.{MutexWord, Waiters}, Labels.{Empty, Refers, Gate, Closed, Holds, Label, Less, LessNumber, LessEntry, EntryMentions, IsScoped, fill, gated, knows}, Typed.{HasCell, ints_in, refs_in}}
 use Rattle.sharc_invariant.proofs.Scoped.{less_refl, less_entry_refl, less_number_refl, scoped_fill}
-use Rattle.sharc_typed_laws.specs.Stretches.{Mark, Setting}
-use Rattle.sharc_typed_laws.specs.Places.{IsNamed, mark}
-use Rattle.sharc_typed_laws.specs.Premises.{Typing, HasMutex, HasWaiters}
-use Rattle.sharc_typed_laws.specs.Typable.{FirstCell}
-use Rattle.sharc_typed_laws.proofs.Standing.{less_by, less_emptied_over, without_same, scoped_frame, unnamed}
-use Rattle.sharc_typed_laws.proofs.Rules.{on_check}
-use Rattle.sharc_typed_laws.proofs.Moves.{on_held, on_lock, on_unlock, on_cond_enter, on_cond_wait, on_cond_signal, on_cond_broadcast}
-use Rattle.sharc_typed_laws.proofs.Parts.{P, At, at_fill, does, then_do, told_same, same_number, check_at, pop_at, pops_two}
-use Rattle.sharc_typed_laws.proofs.Accessed.{Frame}
+use Rattle.sharc_typed_laws.specs.{Stretches.{Mark, Setting}, Places.{IsNamed, mark}, Premises.{Typing, HasMutex, HasWaiters}, Typable.FirstCell}
+use Rattle.sharc_typed_laws.proofs.{Standing.{less_by, less_emptied_over, without_same, scoped_frame, unnamed}, Rules.on_check, Moves.{on_held, on_lock, on_unlock, on_cond_enter, on_cond_wait, on_cond_signal, on_cond_broadcast}, Parts.{P, At, at_fill, does, then_do, told_same, same_number, check_at, pop_at, pops_two}, Accessed.Frame}
 
 module _ (around : Setting) (f : ℕ) (D : (ℕ → Mark) → Type 0) (y : Typing) (c : Context) (low : (p : ℕ) → y.named c p ≡ true → p < ref_count c.scope) (from : ℕ) where
   abbrev N : ℕ → Bool

@@ -1,14 +1,8 @@
 -- A statement that is typed from a label to a label is typed to one that says no more.
 use Rattle.std.proofs.Common.{ℕ, Bool, inl, inr, ⊎_elim}
-use Rattle.sharc_code.specs.declared.code.Code.{Code}
-use Rattle.sharc_code.specs.declared.instr.Cell.{Cell}
+use Rattle.sharc_code.specs.{declared.code.Code.Code, declared.instr.Cell.Cell, declared.instr.Instr.Instr, declared.instr.Instr.TheVariants.{Constant, Move, MoveReference, Null, ComputeInt, ComputeLong, NegateInt, NegateLong, Complement, Not, SameReference as CompareReferences, ChkWidth, Jump, JumpIfZero, JumpIfNull, Call, Return, ChkNull, ChkHeld, ChkNotHeld, ChkPositive, ChkRoom, ChkLock, ChkLockLoaded, Bounds, GlobalBounds, ChkRead, ChkWrite, Load, Store, LoadRef, Exchange, Raise, RaiseLoaded, Lower, New, TakeCell, TakeLocal, TestSole, Clear, Give, Free, Lock, Unlock, Spawn, Join, Print, Start, Exit, CondEnter, CondWait, CondSignal, CondBroadcast}}
 use Rattle.sharc_code.specs.declared.instr.Cell.TheVariants as cells
-use Rattle.sharc_code.specs.declared.instr.Instr.{Instr}
-use Rattle.sharc_code.specs.declared.instr.Instr.TheVariants.{Constant, Move, MoveReference, Null, ComputeInt, ComputeLong, NegateInt, NegateLong, Complement, Not, SameReference as CompareReferences, ChkWidth, Jump, JumpIfZero, JumpIfNull, Call, Return, ChkNull, ChkHeld, ChkNotHeld, ChkPositive, ChkRoom, ChkLock, ChkLockLoaded, Bounds, GlobalBounds, ChkRead, ChkWrite, Load, Store, LoadRef, Exchange, Raise, RaiseLoaded, Lower, New, TakeCell, TakeLocal, TestSole, Clear, Give, Free, Lock, Unlock, Spawn, Join, Print, Start, Exit, CondEnter, CondWait, CondSignal, CondBroadcast}
-use Rattle.sharc_invariant.specs.Types.{Targets, Field, FieldMode, Content}
-use Rattle.sharc_invariant.specs.Types.FieldMode.{Private, Readonly, Racy, Dynamic, Under, Behind}
-use Rattle.sharc_invariant.specs.Labels.{Number, Label, Labels, Less}
-use Rattle.sharc_invariant.specs.Typed.{Numbers, Passes_on, LeadsChecked, Calls, Accesses, MayAccess}
+use Rattle.sharc_invariant.specs.{Types.{Targets, Field, FieldMode, Content}, Types.FieldMode.{Private, Readonly, Racy, Dynamic, Under, Behind}, Labels.{Number, Label, Labels, Less}, Typed.{Numbers, Passes_on, LeadsChecked, Calls, Accesses, MayAccess}}
 use Rattle.sharc_typed_laws.specs.Steps.{all_at, Steps}
 use Rattle.sharc_typed_laws.proofs.Preorder.{less_through}
 

@@ -1,27 +1,14 @@
 -- Code that is made of typed flat code is typed.
 use Rattle.std.proofs.Common.{◌≡◌, ℕ, zero, suc, ◌+◌, ◌<◌, ◌⊎◌, Bool, true, List, [], ◌∷◌, length, map, Some, None, refl, sym, ap, ◌∙◌, subst, inl, inr, arith}
-use Rattle.std.specs.List.{AllByRecursion}
-use Rattle.std.specs.Prelude.{slice_get, slice_index_or}
-use Rattle.sharc_code.specs.declared.code.Code.{Code}
-use Rattle.sharc_code.specs.declared.code.Function.{Function}
-use Rattle.sharc_code.specs.declared.instr.Instr.{Instr}
-use Rattle.sharc_code.specs.declared.instr.Instr.TheVariants.{Start, Exit}
-use Rattle.sharc_code.specs.Machine.{instr_at, function_of, no_function}
-use Rattle.sharc_code.specs.Says.{place_at, no_place}
+use Rattle.std.specs.{List.AllByRecursion, Prelude.{slice_get, slice_index_or}}
+use Rattle.sharc_code.specs.{declared.code.Code.Code, declared.code.Function.Function, declared.instr.Instr.Instr, declared.instr.Instr.TheVariants.{Start, Exit}, Machine.{instr_at, function_of, no_function}, Says.{place_at, no_place}}
 use Rattle.sharc_compile.specs.Made.{IsCodeOf}
-use Rattle.sharc_flat_form.specs.declared.flat.Flat.{Flat as FlatCode}
-use Rattle.sharc_flat_form.specs.declared.op.Op.{Op}
-use Rattle.sharc_flat_form.specs.Machine.{function_of as flat_function}
-use Rattle.sharc_flat_form.specs.Made.{flat_of}
+use Rattle.sharc_flat_form.specs.{declared.flat.Flat.{Flat as FlatCode}, declared.op.Op.Op, Machine.{function_of as flat_function}, Made.flat_of}
 use Rattle.sharc_gen.specs.Generated.{instr_of, generated}
-use Rattle.sharc_guard.specs.Guard.{expanded, place, source_of, entered_at}
-use Rattle.sharc_guard.specs.Known.{dropped}
-use Rattle.sharc_invariant.specs.Types.{Targets}
-use Rattle.sharc_invariant.specs.Labels.{Label, Labels, IsScoped, Leads}
-use Rattle.sharc_invariant.specs.Typed.{Fine, IsWellTyped, MayStart, ints_in, refs_in, entry_label}
+use Rattle.sharc_guard.specs.{Guard.{expanded, place, source_of, entered_at}, Known.dropped}
+use Rattle.sharc_invariant.specs.{Types.Targets, Labels.{Label, Labels, IsScoped, Leads}, Typed.{Fine, IsWellTyped, MayStart, ints_in, refs_in, entry_label}}
 use Rattle.sharc_invariant.proofs.Scoped.{less_refl}
-use Rattle.sharc_typed_laws.specs.Inside.{FlatLabels, outside, labels_from, labels_of}
-use Rattle.sharc_typed_laws.specs.Lines.{IsTypedFlat}
+use Rattle.sharc_typed_laws.specs.{Inside.{FlatLabels, outside, labels_from, labels_of}, Lines.IsTypedFlat}
 use Rattle.sharc_typed_laws.proofs.TypedPlacing.{IsPlaced, FineList, There, LineStands, AllStand, all_stand, all_places, fine_at, lines_fine, goes_to}
 
 -- ---- lists

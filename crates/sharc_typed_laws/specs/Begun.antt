@@ -2,9 +2,7 @@
 use Rattle.std.specs.Prelude.{ℕ, ◌<◌, false, nat_lt, if◌then◌else◌, [], Some}
 use Rattle.sharc_flat.specs.Scope.{Context, int_count, ref_count}
 use Rattle.sharc_invariant.specs.Labels.{Empty, Refers, Anything, Within, Closed, Label}
-use Rattle.sharc_typed_laws.specs.Places.{IsNamed}
-use Rattle.sharc_typed_laws.specs.Premises.{Typing}
-use Rattle.sharc_typed_laws.specs.Declared.{StandsBefore}
+use Rattle.sharc_typed_laws.specs.{Places.IsNamed, Premises.Typing, Declared.StandsBefore}
 
 abbrev pub label_of : Typing → Context → ℕ → Label
 label_of y c f = record {

@@ -2,14 +2,10 @@
 use Rattle.std.specs.Prelude.{ℕ, ◌+◌, List, [], ◌∷◌, ◌++◌}
 use Rattle.sharc_flat_form.specs.declared.op.Op.{Op}
 use Rattle.sharc_flat_form.specs.declared.op.Op.TheVariants as op
-use Rattle.sharc_flat.specs.declared.slot.Slot.{Slot}
-use Rattle.sharc_flat.specs.Scope.{Context, ref_count, pops}
+use Rattle.sharc_flat.specs.{declared.slot.Slot.Slot, Scope.{Context, ref_count, pops}}
 use Rattle.sharc_invariant.specs.Labels.{Label}
-use Rattle.sharc_typed_laws.specs.Stretches.{Mark, Setting, Way, LeadsAmong, LeadsFrom}
-use Rattle.sharc_typed_laws.specs.Places.{AreLow}
-use Rattle.sharc_typed_laws.specs.Premises.{Typing}
-use Rattle.sharc_typed_laws.specs.Declared.{StandsBefore, before}
-use Rattle.sharc_typed_laws.specs.Ended.{Grows}
+use Rattle.sharc_typed_laws.specs.{Stretches.{Mark, Setting, Way, LeadsAmong, LeadsFrom}, Places.AreLow}
+use Rattle.sharc_typed_laws.specs.{Premises.Typing, Declared.{StandsBefore, before}, Ended.Grows}
 
 module _ (z : Setting) (f : ℕ) (ways : List Way) (y : Typing) (c : Context) (l : Label) where
   -- code that is typed wherever it is

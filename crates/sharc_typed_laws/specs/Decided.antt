@@ -4,8 +4,7 @@ use Rattle.sharc_flat_form.specs.declared.op.Op.{Op}
 use Rattle.sharc_flat_form.specs.declared.op.Op.TheVariants as op
 use Rattle.sharc_flat.specs.Flattened.{if_code, choice_code, loop_code, body_at}
 use Rattle.sharc_invariant.specs.Labels.{Label}
-use Rattle.sharc_typed_laws.specs.Stretches.{Mark, Setting, Way, LeadsFrom}
-use Rattle.sharc_typed_laws.specs.Places.{Stands, mark}
+use Rattle.sharc_typed_laws.specs.{Stretches.{Mark, Setting, Way, LeadsFrom}, Places.{Stands, mark}}
 
 -- a test that leads over so many statements where it is not met
 abbrev pub turn_by : List Op → ℕ → ℕ → List Op

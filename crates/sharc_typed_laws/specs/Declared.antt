@@ -1,20 +1,14 @@
 -- What the types of a source have to say of a variable that is declared in a block, so that its code is typed.
 use Rattle.std.specs.Prelude.{ℕ, ◌+◌, ◌≡◌, ◌<◌, Bool, true, false, List, Option, Some, None}
-use Rattle.sharc_tree.specs.declared.tree.declaration.Declaration.{Declaration}
-use Rattle.sharc_tree.specs.Tree.{Right, Local}
+use Rattle.sharc_tree.specs.{declared.tree.declaration.Declaration.Declaration, Tree.{Right, Local}}
 use Rattle.sharc_names.specs.Kinds.{declared_kind}
 use Rattle.sharc_code.specs.declared.instr.Width.{Width}
 use Rattle.sharc_meaning.specs.State.{is_reference}
-use Rattle.sharc_flat.specs.Scope.{Context, slot_kind, int_count, ref_count}
-use Rattle.sharc_flat.specs.Places.{width_of}
+use Rattle.sharc_flat.specs.{Scope.{Context, slot_kind, int_count, ref_count}, Places.width_of}
 use Rattle.sharc_flat.specs.Flattened.{with_variable, local_code}
-use Rattle.sharc_invariant.specs.Types.{StaticType}
-use Rattle.sharc_invariant.specs.Labels.{Refers, Within, Label, fill, set_number}
-use Rattle.sharc_typed_laws.specs.Stretches.{Mark, Setting, Way, LeadsAmong}
-use Rattle.sharc_typed_laws.specs.Places.{AreLow, mark}
-use Rattle.sharc_typed_laws.specs.Premises.{Typing}
-use Rattle.sharc_typed_laws.specs.Typable.{IsBare, IsTypeIn, StandsIn}
-use Rattle.sharc_typed_laws.specs.Stated.{RightTypable}
+use Rattle.sharc_invariant.specs.{Types.StaticType, Labels.{Refers, Within, Label, fill, set_number}}
+use Rattle.sharc_typed_laws.specs.{Stretches.{Mark, Setting, Way, LeadsAmong}, Places.{AreLow, mark}, Premises.Typing}
+use Rattle.sharc_typed_laws.specs.{Typable.{IsBare, IsTypeIn, StandsIn}, Stated.RightTypable}
 
 -- the variables that stood have the types that they had, and types name those constants of them that they named
 pub record Keeps (y : Typing) (c d : Context) : Type 0 where

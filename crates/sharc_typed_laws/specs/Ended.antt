@@ -1,11 +1,8 @@
 -- The ends of blocks: their variables are given up, of what names those no type is known any more, and what is known behind them is what was known before them.
 use Rattle.std.specs.Prelude.{ℕ, ◌+◌, ◌≡◌, ◌<◌, ◌≤◌, List}
-use Rattle.sharc_flat.specs.declared.slot.Slot.{Slot}
-use Rattle.sharc_flat.specs.Scope.{Context, int_count, ref_count, pops}
+use Rattle.sharc_flat.specs.{declared.slot.Slot.Slot, Scope.{Context, int_count, ref_count, pops}}
 use Rattle.sharc_invariant.specs.Labels.{Label}
-use Rattle.sharc_typed_laws.specs.Stretches.{Setting, Way, LeadsAmong}
-use Rattle.sharc_typed_laws.specs.Places.{AreLow}
-use Rattle.sharc_typed_laws.specs.Premises.{Typing}
+use Rattle.sharc_typed_laws.specs.{Stretches.{Setting, Way, LeadsAmong}, Places.AreLow, Premises.Typing}
 use Rattle.sharc_typed_laws.specs.Declared.{StandsBefore, before}
 
 -- These variables more stand in the second scope.

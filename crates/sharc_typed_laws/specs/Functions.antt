@@ -6,16 +6,11 @@ use Rattle.sharc_code.specs.declared.code.GlobalCells.{GlobalCells}
 use Rattle.sharc_ctype.specs.Resolved.{function_at}
 use Rattle.sharc_mode.specs.Moded.{Assignment}
 use Rattle.sharc_flat_form.specs.declared.op.Op.{Op}
-use Rattle.sharc_flat.specs.Scope.{Context, int_count, ref_count}
-use Rattle.sharc_flat.specs.Flattened.{in_function, function_code}
+use Rattle.sharc_flat.specs.{Scope.{Context, int_count, ref_count}, Flattened.{in_function, function_code}}
 use Rattle.sharc_invariant.specs.Typed.{ints_in, refs_in}
 use Rattle.sharc_typed_laws.specs.Stretches.{Mark, Setting, Fits, Agrees, AreLines, AreWithin, first}
-use Rattle.sharc_typed_laws.specs.Places.{IsNamed, AreLow}
-use Rattle.sharc_typed_laws.specs.Premises.{Typing}
-use Rattle.sharc_typed_laws.specs.Declared.{before}
-use Rattle.sharc_typed_laws.specs.Begun.{label_of}
-use Rattle.sharc_typed_laws.specs.Returned.{GivesBack}
-use Rattle.sharc_typed_laws.specs.Statements.{StatementsTypable}
+use Rattle.sharc_typed_laws.specs.{Places.{IsNamed, AreLow}, Premises.Typing, Declared.before, Begun.label_of}
+use Rattle.sharc_typed_laws.specs.{Returned.GivesBack, Statements.StatementsTypable}
 
 -- constants have registers of variables
 abbrev pub IsLowTyping : Typing → Type 0

@@ -4,9 +4,8 @@ use Rattle.sharc_code.specs.declared.code.PlaceMode.{PlaceMode}
 use Rattle.sharc_code.specs.declared.code.PlaceMode.TheVariants.{Dynamic, LockedGlobal, LockedSibling, LockedThrough, LockedLoaded}
 use Rattle.sharc_code.specs.declared.instr.Cell.{Cell}
 use Rattle.sharc_code.specs.declared.instr.Cell.TheVariants as cells
-use Rattle.sharc_flat_form.specs.declared.op.Op.{Op}
+use Rattle.sharc_flat_form.specs.{declared.op.Op.Op, declared.op.Spot.Spot}
 use Rattle.sharc_flat_form.specs.declared.op.Op.TheVariants as op
-use Rattle.sharc_flat_form.specs.declared.op.Spot.{Spot}
 use Rattle.sharc_invariant.specs.Types.{Targets, StaticType, cells_of}
 use Rattle.sharc_invariant.specs.Labels.{Entry, Refers, Nth, Number, Anything, OfElement, OfGlobal, Gate, Closed, Checked, Holds, Loaded, HoldsLoaded, Sole, Pass, Label, Labels, Empty, fill, empty, gated, without_base}
 use Rattle.sharc_invariant.specs.Typed.{knows_base}

@@ -1,12 +1,10 @@
 -- The laws of flattened code: which stretches of it are typed, from what is said before them to what is said after them.
 use Rattle.std.specs.Prelude.{ℕ, ◌+◌, ◌≡◌, ◌<◌, ◌≤◌, ◌⊎◌, Bool, true, false, List, ◌++◌, length, slice_get, Some}
-use Rattle.sharc_tree.specs.declared.token.Site.{Site}
-use Rattle.sharc_tree.specs.declared.tree.expression.BinaryOperator.{BinaryOperator}
+use Rattle.sharc_tree.specs.{declared.token.Site.Site, declared.tree.expression.BinaryOperator.BinaryOperator}
 use Rattle.sharc_tree.specs.Tree.{Expression, Simple}
 use Rattle.sharc_names.specs.Kinds.{is_integer}
 use Rattle.sharc_code.specs.declared.instr.Width.TheVariants.{Char}
-use Rattle.sharc_flat_form.specs.declared.op.Op.{Op}
-use Rattle.sharc_flat_form.specs.Machine.{Flat}
+use Rattle.sharc_flat_form.specs.{declared.op.Op.Op, Machine.Flat}
 use Rattle.sharc_flat.specs.Places.{pointee_code, width_of}
 use Rattle.sharc_flat.specs.Flattened.{kind_of, is_ref, expression_code, simple_code, drop_code, truth_code, compare_code, logical_code, either_code}
 use Rattle.sharc_flat.specs.Scope.{Context, int_count, ref_count}
@@ -15,10 +13,8 @@ use Rattle.sharc_invariant.specs.Types.{StaticType}
 use Rattle.sharc_invariant.specs.Labels.{Refers, Number, Within, Label, LessNumber, set_number, fill}
 use Rattle.sharc_typed_laws.specs.Passes.{TypedAnyhow, Knows}
 use Rattle.sharc_typed_laws.specs.Stretches.{Mark, Setting, Tells, IsLine, flat_labels, Way, LeadsAmong}
-use Rattle.sharc_typed_laws.specs.Places.{Stands, IsNamed, IsPlain, AreLow, mark}
-use Rattle.sharc_typed_laws.specs.Premises.{Typing, IsCopyOf}
-use Rattle.sharc_typed_laws.specs.Typable.{IsBare, GoesTo, StandsIn, HasType, IsTypable}
-use Rattle.sharc_typed_laws.specs.Stated.{SimpleTypable}
+use Rattle.sharc_typed_laws.specs.{Places.{Stands, IsNamed, IsPlain, AreLow, mark}, Premises.{Typing, IsCopyOf}}
+use Rattle.sharc_typed_laws.specs.{Typable.{IsBare, GoesTo, StandsIn, HasType, IsTypable}, Stated.SimpleTypable}
 
 -- ---- lines
 -- each line of flat code is one of a function

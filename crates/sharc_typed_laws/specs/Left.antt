@@ -4,11 +4,8 @@ use Rattle.sharc_flat_form.specs.declared.op.Op.{Op}
 use Rattle.sharc_flat_form.specs.declared.op.Op.TheVariants as op
 use Rattle.sharc_flat.specs.Scope.{Context, ref_count, leaves}
 use Rattle.sharc_invariant.specs.Labels.{Label}
-use Rattle.sharc_typed_laws.specs.Stretches.{Mark, Setting, Way, LeadsAmong}
-use Rattle.sharc_typed_laws.specs.Places.{AreLow}
-use Rattle.sharc_typed_laws.specs.Premises.{Typing}
-use Rattle.sharc_typed_laws.specs.Declared.{StandsBefore, before}
-use Rattle.sharc_typed_laws.specs.Ended.{Grows}
+use Rattle.sharc_typed_laws.specs.{Stretches.{Mark, Setting, Way, LeadsAmong}, Places.AreLow, Premises.Typing}
+use Rattle.sharc_typed_laws.specs.{Declared.{StandsBefore, before}, Ended.Grows}
 
 -- what stands where a block began, of which so many variables stood before it
 abbrev pub back : Context → ℕ → Context

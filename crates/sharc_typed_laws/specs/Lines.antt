@@ -1,13 +1,10 @@
 -- Typed flat code: what each operation asks of what is known before its line, and what the next line, and those to which it leads, may then know.
 use Rattle.std.specs.Prelude.{ℕ, ◌+◌, ◌≡◌, ◌≢◌, ◌<◌, ◌≤◌, ◌^◌, ◌⊎◌, Bool, true, false, length, slice_get, Option, Some, None}
-use Rattle.sharc_code.specs.declared.code.Code.{Code}
-use Rattle.sharc_code.specs.declared.instr.Cell.{Cell}
-use Rattle.sharc_code.specs.declared.instr.Instr.{Instr}
+use Rattle.sharc_code.specs.{declared.code.Code.Code, declared.instr.Cell.Cell, declared.instr.Instr.Instr}
 use Rattle.sharc_code.specs.declared.instr.Width.{Width}
-use Rattle.sharc_flat_form.specs.declared.op.Op.{Op}
-use Rattle.sharc_flat_form.specs.declared.op.Op.TheVariants as op
-use Rattle.sharc_flat_form.specs.declared.op.Spot.{Spot}
+use Rattle.sharc_flat_form.specs.{declared.op.Op.Op, declared.op.Spot.Spot}
 use Rattle.sharc_flat_form.specs.Machine.{Flat, function_of as flat_function}
+use Rattle.sharc_flat_form.specs.declared.op.Op.TheVariants as op
 use Rattle.sharc_gen.specs.Generated.{instr_of}
 use Rattle.sharc_guard.specs.Guard.{body}
 use Rattle.sharc_invariant.specs.Types.{Targets, AreTargets, StaticType, Field, FieldType, FieldLock, FieldMode, Content, cells_of, field_of_cell, is_pointer, Mentions}
@@ -15,8 +12,7 @@ use Rattle.sharc_invariant.specs.Types.FieldMode.{Private, Readonly, Racy, Dynam
 use Rattle.sharc_invariant.specs.Types.Content.{Integer}
 use Rattle.sharc_invariant.specs.Labels.{Empty, Refers, Anything, Within, Closed, Loaded, Pass, IsIn, Label, Labels, Less, LessEntry, EntryMentions, IsScoped, set_number, fill, empty, gated, knows, IsFree}
 use Rattle.sharc_invariant.specs.Typed.{IsRef, IsInt, IsVacant, HasField, HasCell, IsMutex, IsMutexOf, IsPlace, Covers, IsOwn, PointsTo, PointsToMutex, IsSibling, IsMode, Fits, Recasts, IsLayout, AreGlobals, IsPlain, MayStart, moved_copy, ints_in, refs_in, entry_label}
-use Rattle.sharc_typed_laws.specs.Steps.{Steps}
-use Rattle.sharc_typed_laws.specs.Inside.{FlatLabels, lock_of, behind, outside, cleared, tested}
+use Rattle.sharc_typed_laws.specs.{Steps.Steps, Inside.{FlatLabels, lock_of, behind, outside, cleared, tested}}
 
 -- ---- accesses
 -- a check that is remembered is one of this cell, and the cell is an integer's

@@ -1,19 +1,15 @@
 -- The checks that are remembered before each line, by what sharc_guard knows there, and flat code that is typed whatever is remembered.
 use Rattle.std.specs.Prelude.{ℕ, zero, suc, pos, ◌+◌, ◌-◌, ◌*◌, ◌^◌, ◌≡◌, ◌≢◌, ◌<◌, ◌≤◌, Bool, true, false, not, List, [], ◌∷◌, ◌++◌, length, filter, nat_lt, slice_get, Option, Some, None, if◌then◌else◌}
-use Rattle.sharc_shadow.specs.declared.shadow_word.Kind.{Kind}
-use Rattle.sharc_shadow.specs.declared.shadow_word.Kind.TheVariants.{Read, Write}
-use Rattle.sharc_code.specs.declared.code.Code.{Code}
-use Rattle.sharc_code.specs.declared.instr.Cell.{Cell}
+use Rattle.sharc_shadow.specs.{declared.shadow_word.Kind.Kind, declared.shadow_word.Kind.TheVariants.{Read, Write}}
+use Rattle.sharc_code.specs.{declared.code.Code.Code, declared.instr.Cell.Cell}
 use Rattle.sharc_code.specs.declared.instr.Cell.TheVariants as cells
-use Rattle.sharc_flat_form.specs.declared.op.Op.{Op}
+use Rattle.sharc_flat_form.specs.{declared.op.Op.Op, Machine.{Flat, function_of as flat_function}}
 use Rattle.sharc_flat_form.specs.declared.op.Op.TheVariants as op
-use Rattle.sharc_flat_form.specs.Machine.{Flat, function_of as flat_function}
 use Rattle.sharc_guard.specs.Known.{is_straight, leads_to, is_target, writes_ref, Place, in_variable, in_global, Access, access, tells, Know, place_of, known, drops}
 use Rattle.sharc_invariant.specs.Types.{Targets, AreTargets, StaticType, cells_of}
 use Rattle.sharc_invariant.specs.Labels.{Refers, Empty, Nth, Number, Anything, Exactly, OfElement, OfGlobal, Pass, IsIn, Label, Labels, IsScoped, without_base}
 use Rattle.sharc_invariant.specs.Typed.{IsPlace, Covers, AreGlobals, IsPlain, MayStart, ints_in, refs_in, entry_label}
-use Rattle.sharc_typed_laws.specs.Inside.{FlatLabels, outside, passed_behind}
-use Rattle.sharc_typed_laws.specs.Lines.{TypedLine, To}
+use Rattle.sharc_typed_laws.specs.{Inside.{FlatLabels, outside, passed_behind}, Lines.{TypedLine, To}}
 
 -- ---- what is remembered before each line
 abbrev pub is_write : Kind → Bool

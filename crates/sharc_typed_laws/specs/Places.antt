@@ -5,9 +5,7 @@ use Rattle.sharc_flat_form.specs.declared.op.Spot.{Spot}
 use Rattle.sharc_invariant.specs.Types.{StaticType, Field, Mentions}
 use Rattle.sharc_invariant.specs.Labels.{Empty, Number, Anything, Exactly, Within, Indexes, OfElement, OfGlobal, Closed, Label, EntryMentions, HasBase}
 use Rattle.sharc_invariant.specs.Typed.{HasCell, IsMode}
-use Rattle.sharc_typed_laws.specs.Inside.{lock_of}
-use Rattle.sharc_typed_laws.specs.Lines.{MayPass}
-use Rattle.sharc_typed_laws.specs.Stretches.{Mark, Setting, labels_by}
+use Rattle.sharc_typed_laws.specs.{Inside.lock_of, Lines.MayPass, Stretches.{Mark, Setting, labels_by}}
 
 -- Integer registers are free from the first number on, reference registers from the second one on. Those below hold something, and what types name are constants,
 -- which stand among the first ones.

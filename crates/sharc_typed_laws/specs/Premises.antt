@@ -1,28 +1,21 @@
 -- What the types of a source have to say of its accesses, so that they are typed: of each label where the variables hold what their types say, and the registers of
 -- an lvalue its base and its index.
 use Rattle.std.specs.Prelude.{ℕ, ◌+◌, ◌≡◌, ◌<◌, ◌≤◌, Bool, true, List, Option, Some, None}
-use Rattle.sharc_tree.specs.declared.token.Site.{Site}
-use Rattle.sharc_tree.specs.Tree.{Expression, identifier}
+use Rattle.sharc_tree.specs.{declared.token.Site.Site, Tree.{Expression, identifier}}
 use Rattle.sharc_names.specs.declared.fault.Named.{Named}
 use Rattle.sharc_names.specs.declared.fault.Named.TheVariants as named
-use Rattle.sharc_code.specs.declared.code.GlobalCells.{GlobalCells}
-use Rattle.sharc_code.specs.declared.code.Use.{Use}
-use Rattle.sharc_code.specs.declared.instr.Cell.{Cell}
+use Rattle.sharc_code.specs.{declared.code.GlobalCells.GlobalCells, declared.code.Use.Use, declared.instr.Cell.Cell}
 use Rattle.sharc_code.specs.declared.instr.Width.{Width}
 use Rattle.sharc_mode.specs.Sharings.{Sharing}
-use Rattle.sharc_flat_form.specs.declared.op.Spot.{Spot}
-use Rattle.sharc_flat_form.specs.Machine.{first_cell}
-use Rattle.sharc_flat.specs.declared.slot.Lvalue.{Lvalue}
-use Rattle.sharc_flat.specs.Scope.{Context, int_count, ref_count, register_of, number_in}
+use Rattle.sharc_flat_form.specs.{declared.op.Spot.Spot, Machine.first_cell}
+use Rattle.sharc_flat.specs.{declared.slot.Lvalue.Lvalue, Scope.{Context, int_count, ref_count, register_of, number_in}}
 use Rattle.sharc_flat.specs.Places.{Target, in_global_at, in_object, in_object_at, has_base, cell_of, guard_cell, guard_field, spot_of}
 use Rattle.sharc_flat.specs.Flattened.{what_names}
-use Rattle.sharc_invariant.specs.Types.{StaticType, Field, FieldType}
-use Rattle.sharc_invariant.specs.Types.FieldMode.{Readonly}
+use Rattle.sharc_invariant.specs.{Types.{StaticType, Field, FieldType}, Types.FieldMode.Readonly}
 use Rattle.sharc_invariant.specs.Types.Content.{Integer, Waiters, Pointer}
 use Rattle.sharc_invariant.specs.Labels.{Entry, Refers, Element, Number, Within, OfElement, OfGlobal, Closed, Loaded, Label, gated}
 use Rattle.sharc_invariant.specs.Typed.{HasCell, IsMutex, PointsTo, refs_in}
-use Rattle.sharc_typed_laws.specs.Stretches.{Setting}
-use Rattle.sharc_typed_laws.specs.Places.{MayReach}
+use Rattle.sharc_typed_laws.specs.{Stretches.Setting, Places.MayReach}
 
 -- ---- the types of a source
 -- Of the value of an expression that is a reference; of the variables that stand, by their registers; and which registers of references are those of constants.

@@ -1,26 +1,16 @@
 -- What the types of a source have to say of a whole program, so that its code is typed.
 use Rattle.std.specs.Prelude.{ℕ, ◌^◌, ◌≡◌, ◌<◌, true, length, None}
-use Rattle.sharc_tree.specs.declared.token.Span.{Span}
-use Rattle.sharc_tree.specs.declared.tree.declaration.Identifier.{Identifier}
-use Rattle.sharc_tree.specs.Tree.{identifier}
+use Rattle.sharc_tree.specs.{declared.token.Span.Span, declared.tree.declaration.Identifier.Identifier, Tree.identifier}
 use Rattle.sharc_names.specs.declared.fault.Named.TheVariants as named
 use Rattle.sharc_ctype.specs.Resolved.{globals_in, named_at, function_at}
 use Rattle.sharc_mode.specs.Moded.{Assignment}
 use Rattle.sharc_mode_laws.specs.Constructs.{IsExpression}
-use Rattle.sharc_flat_form.specs.declared.flat.Flat.{Flat as FlatCode}
-use Rattle.sharc_flat_form.specs.Made.{flat_of}
-use Rattle.sharc_flat.specs.Correct.{MayStart}
-use Rattle.sharc_flat.specs.Flattens.{Flattens, IsMainOf}
-use Rattle.sharc_flat.specs.Laws.{FitsMade}
-use Rattle.sharc_flat.specs.Tables.{globals_of}
+use Rattle.sharc_flat_form.specs.{declared.flat.Flat.{Flat as FlatCode}, Made.flat_of}
+use Rattle.sharc_flat.specs.{Correct.MayStart, Flattens.{Flattens, IsMainOf}, Laws.FitsMade, Tables.globals_of}
 use Rattle.sharc_compile.specs.Made.{IsCodeOf}
-use Rattle.sharc_invariant.specs.Types.{AreTargets}
-use Rattle.sharc_invariant.specs.Labels.{Anything, Labels, EntryMentions}
+use Rattle.sharc_invariant.specs.{Types.AreTargets, Labels.{Anything, Labels, EntryMentions}}
 use Rattle.sharc_invariant.specs.Typed.{IsPlain, AreGlobals, IsWellTyped}
-use Rattle.sharc_typed_laws.specs.Inside.{FlatLabels}
-use Rattle.sharc_typed_laws.specs.Passes.{IsTypedAnyhow}
-use Rattle.sharc_typed_laws.specs.Stretches.{Setting}
-use Rattle.sharc_typed_laws.specs.Premises.{Typing}
+use Rattle.sharc_typed_laws.specs.{Inside.FlatLabels, Passes.IsTypedAnyhow, Stretches.Setting, Premises.Typing}
 use Rattle.sharc_typed_laws.specs.Functions.{IsLowTyping, ProgramTypable}
 
 -- what a function names as a global is one of the program

@@ -1,23 +1,16 @@
 -- What functions give back: returns, and the ends of functions. No variable stands there any more but the value.
 use Rattle.std.specs.Prelude.{ℕ, ◌≡◌, Bool, true, false, List, ◌++◌, Option, Some, None}
-use Rattle.sharc_tree.specs.Spans.{span_of}
-use Rattle.sharc_tree.specs.Tree.{Expression}
+use Rattle.sharc_tree.specs.{Spans.span_of, Tree.Expression}
 use Rattle.sharc_names.specs.Kinds.{Kind, is_integer}
 use Rattle.sharc_meaning.specs.State.{is_reference}
-use Rattle.sharc_flat_form.specs.declared.op.Op.{Op}
+use Rattle.sharc_flat_form.specs.{declared.op.Op.Op, declared.op.Spot.Spot}
 use Rattle.sharc_flat_form.specs.declared.op.Op.TheVariants as op
-use Rattle.sharc_flat_form.specs.declared.op.Spot.{Spot}
-use Rattle.sharc_flat.specs.Scope.{Context, int_count, ref_count, leaves}
-use Rattle.sharc_flat.specs.Places.{width_of, width_code}
+use Rattle.sharc_flat.specs.{Scope.{Context, int_count, ref_count, leaves}, Places.{width_of, width_code}}
 use Rattle.sharc_flat.specs.Flattened.{is_ref, expression_code, zero_code, result_code}
 use Rattle.sharc_invariant.specs.Types.{StaticType, Mentions}
-use Rattle.sharc_invariant.specs.Labels.{Empty, Refers, Anything, Within, Label, IsScoped}
-use Rattle.sharc_invariant.specs.Typed.{ints_in, refs_in}
-use Rattle.sharc_typed_laws.specs.Stretches.{Mark, Setting, Way, IsLine, LeadsAmong}
-use Rattle.sharc_typed_laws.specs.Places.{AreLow}
-use Rattle.sharc_typed_laws.specs.Premises.{Typing}
-use Rattle.sharc_typed_laws.specs.Typable.{GoesTo, IsNumber, IsTypable}
-use Rattle.sharc_typed_laws.specs.Declared.{StandsBefore, before}
+use Rattle.sharc_invariant.specs.{Labels.{Empty, Refers, Anything, Within, Label, IsScoped}, Typed.{ints_in, refs_in}}
+use Rattle.sharc_typed_laws.specs.{Stretches.{Mark, Setting, Way, IsLine, LeadsAmong}, Places.AreLow, Premises.Typing}
+use Rattle.sharc_typed_laws.specs.{Typable.{GoesTo, IsNumber, IsTypable}, Declared.{StandsBefore, before}}
 use Rattle.sharc_typed_laws.specs.Left.{AreNested}
 
 module _ (z : Setting) (f : ℕ) (y : Typing) where

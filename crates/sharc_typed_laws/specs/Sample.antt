@@ -2,26 +2,19 @@
 --     int dynamic g;
 --     int main(void) { g = 1; g = 1; return 0; }
 use Rattle.std.specs.Prelude.{ℕ, pos, zero, suc, ◌≡◌, Bool, true, false, List, [], ◌∷◌, Some, slice_index_or}
-use Rattle.sharc_code.specs.declared.code.Code.{Code}
-use Rattle.sharc_code.specs.declared.code.Function.{Function}
+use Rattle.sharc_code.specs.{declared.code.Code.Code, declared.code.Function.Function}
 use Rattle.sharc_code.specs.declared.code.GlobalCells.{GlobalCells}
 use Rattle.sharc_code.specs.declared.code.PlaceMode.TheVariants.{Dynamic as DynamicPlace}
+use Rattle.sharc_code.specs.{declared.instr.Width.TheVariants.Int, Machine.no_function, Says.no_site}
 use Rattle.sharc_code.specs.declared.code.Use.TheVariants as uses
 use Rattle.sharc_code.specs.declared.instr.Cell.TheVariants as cells
-use Rattle.sharc_code.specs.declared.instr.Width.TheVariants.{Int}
-use Rattle.sharc_code.specs.Machine.{no_function}
-use Rattle.sharc_code.specs.Says.{no_site}
-use Rattle.sharc_flat_form.specs.declared.op.Op.{Op}
+use Rattle.sharc_flat_form.specs.{declared.op.Op.Op, declared.op.Spot.Spot, Machine.Flat}
 use Rattle.sharc_flat_form.specs.declared.op.Op.TheVariants as op
-use Rattle.sharc_flat_form.specs.declared.op.Spot.{Spot}
-use Rattle.sharc_flat_form.specs.Machine.{Flat}
-use Rattle.sharc_invariant.specs.Types.{Targets, Field, no_target, no_field}
-use Rattle.sharc_invariant.specs.Types.FieldMode.{Dynamic}
+use Rattle.sharc_invariant.specs.{Types.{Targets, Field, no_target, no_field}, Types.FieldMode.Dynamic}
 use Rattle.sharc_invariant.specs.Types.Content.{Integer}
 use Rattle.sharc_invariant.specs.Labels.{Empty, Anything, Exactly, Label, Signature, set_number}
-use Rattle.sharc_typed_laws.specs.Inside.{FlatLabels, outside}
+use Rattle.sharc_typed_laws.specs.{Inside.{FlatLabels, outside}, Passes.IsTypedAnyhow}
 use Rattle.sharc_guard.specs.Known.{dropped}
-use Rattle.sharc_typed_laws.specs.Passes.{IsTypedAnyhow}
 
 abbrev pub the_spot : Spot
 the_spot = record {

@@ -1,19 +1,14 @@
 -- What the types of a source have to say of an assignment, so that its code is typed.
 use Rattle.std.specs.Prelude.{ℕ, ◌≡◌, ◌≢◌, ◌<◌, ◌≤◌, Bool, true, false, length, Option, Some, None}
-use Rattle.sharc_tree.specs.Spans.{span_of}
-use Rattle.sharc_tree.specs.Tree.{Expression, Right, value, malloc, Simple, assign, does_call}
+use Rattle.sharc_tree.specs.{Spans.span_of, Tree.{Expression, Right, value, malloc, Simple, assign, does_call}}
 use Rattle.sharc_names.specs.Kinds.{Kind, is_integer, declared_kind}
 use Rattle.sharc_code.specs.declared.code.Use.TheVariants as uses
-use Rattle.sharc_code.specs.declared.instr.Register.{Register}
-use Rattle.sharc_code.specs.declared.instr.Register.TheVariants.{Int, Reference}
-use Rattle.sharc_meaning.specs.Cells.{element_cells}
-use Rattle.sharc_meaning.specs.State.{is_reference}
-use Rattle.sharc_flat.specs.Scope.{Context, int_count, ref_count, register_of}
-use Rattle.sharc_flat.specs.Places.{Target, variable, width_of}
+use Rattle.sharc_code.specs.{declared.instr.Register.Register, declared.instr.Register.TheVariants.{Int, Reference}}
+use Rattle.sharc_meaning.specs.{Cells.element_cells, State.is_reference}
+use Rattle.sharc_flat.specs.{Scope.{Context, int_count, ref_count, register_of}, Places.{Target, variable, width_of}}
 use Rattle.sharc_flat.specs.Flattened.{kind_of, is_ref, target_of, mode_of, lvalue_in, guard_of}
 use Rattle.sharc_invariant.specs.Types.{StaticType, cells_of}
-use Rattle.sharc_typed_laws.specs.Lines.{PointersMadeAt}
-use Rattle.sharc_typed_laws.specs.Stretches.{Setting}
+use Rattle.sharc_typed_laws.specs.{Lines.PointersMadeAt, Stretches.Setting}
 use Rattle.sharc_typed_laws.specs.Premises.{Typing, IntegerTyped, ReferenceTyped}
 use Rattle.sharc_typed_laws.specs.Typable.{GoesTo, IsTypeIn, IsNumber, ground_of, IsTypable, IsPlaceTypable}
 

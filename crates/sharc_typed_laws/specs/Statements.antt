@@ -2,16 +2,10 @@
 use Rattle.std.specs.Prelude.{ℕ, ◌≡◌, Bool, true, false, Option, Some, None}
 use Rattle.sharc_tree.specs.Tree.{Expression, Simple, Local, First, nothing, declares, does, Statement, empty, block, declare, simple, jump, return, if_then, if_then_else, while, for, Statements, no_statements, statement}
 use Rattle.sharc_names.specs.Kinds.{Kind}
-use Rattle.sharc_flat.specs.Scope.{Context}
-use Rattle.sharc_flat.specs.Flattened.{behind_first, behind_statement}
-use Rattle.sharc_flat.specs.Suits.{is_declaration}
+use Rattle.sharc_flat.specs.{Scope.Context, Flattened.{behind_first, behind_statement}, Suits.is_declaration}
 use Rattle.sharc_invariant.specs.Types.{StaticType}
-use Rattle.sharc_typed_laws.specs.Stretches.{Setting}
-use Rattle.sharc_typed_laws.specs.Premises.{Typing}
-use Rattle.sharc_typed_laws.specs.Typable.{HasType, IsTypable}
-use Rattle.sharc_typed_laws.specs.Stated.{SimpleTypable}
-use Rattle.sharc_typed_laws.specs.Declared.{LocalTypable}
-use Rattle.sharc_typed_laws.specs.Returned.{ReturnTypable}
+use Rattle.sharc_typed_laws.specs.{Stretches.Setting, Premises.Typing, Typable.{HasType, IsTypable}}
+use Rattle.sharc_typed_laws.specs.{Stated.SimpleTypable, Declared.LocalTypable, Returned.ReturnTypable}
 
 module _ (z : Setting) (f : ℕ) (y : Typing) where
   -- ---- parts

@@ -1,11 +1,8 @@
 -- Statements that follow each other, typed from a label to a label.
 use Rattle.std.specs.Prelude.{List, [], ◌∷◌}
-use Rattle.sharc_code.specs.declared.code.Code.{Code}
-use Rattle.sharc_code.specs.declared.instr.Instr.{Instr}
+use Rattle.sharc_code.specs.{declared.code.Code.Code, declared.instr.Instr.Instr}
 use Rattle.sharc_code.specs.declared.instr.Instr.TheVariants.{Jump, JumpIfZero, JumpIfNull}
-use Rattle.sharc_invariant.specs.Types.{Targets}
-use Rattle.sharc_invariant.specs.Labels.{Label, Labels}
-use Rattle.sharc_invariant.specs.Typed.{Fine}
+use Rattle.sharc_invariant.specs.{Types.Targets, Labels.{Label, Labels}, Typed.Fine}
 
 -- each place has this label
 abbrev pub all_at : Labels → Label → Labels

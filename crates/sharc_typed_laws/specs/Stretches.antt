@@ -1,16 +1,13 @@
 -- Stretches of flat code, with what is said before each of their lines.
 use Rattle.std.specs.Prelude.{ℕ, ◌+◌, ◌≡◌, ◌<◌, ◌≤◌, Bool, true, List, [], ◌∷◌, length, Some}
-use Rattle.sharc_code.specs.declared.code.Code.{Code}
-use Rattle.sharc_code.specs.declared.instr.Cell.{Cell}
+use Rattle.sharc_code.specs.{declared.code.Code.Code, declared.instr.Cell.Cell}
 use Rattle.sharc_code.specs.declared.instr.Cell.TheVariants as cells
-use Rattle.sharc_flat_form.specs.declared.op.Op.{Op}
-use Rattle.sharc_flat_form.specs.Framed.{OpWrites}
+use Rattle.sharc_flat_form.specs.{declared.op.Op.Op, Framed.OpWrites}
 use Rattle.sharc_guard.specs.Known.{is_straight, leads_to, Access, access, Know, know_next}
 use Rattle.sharc_invariant.specs.Types.{Targets, StaticType}
 use Rattle.sharc_invariant.specs.Labels.{Pass, IsIn, Label, Signature, Labels, Less, IsScoped}
 use Rattle.sharc_invariant.specs.Typed.{ints_in, refs_in}
-use Rattle.sharc_typed_laws.specs.Inside.{FlatLabels}
-use Rattle.sharc_typed_laws.specs.Lines.{TypedLine}
+use Rattle.sharc_typed_laws.specs.{Inside.FlatLabels, Lines.TypedLine}
 use Rattle.sharc_typed_laws.specs.Passes.{with_passes, with_all, remembered, RepeatsCheck, IsNumberOf}
 
 -- ---- what is said before a line

@@ -1,45 +1,37 @@
 -- What the types of a source have to say of an expression, so that its code is typed: one clause for each form.
 use Rattle.std.specs.Prelude.{ℕ, ◌+◌, ◌≡◌, ◌<◌, ◌≤◌, ◌⊎◌, Bool, true, false, List, [], ◌∷◌, length, drop, Option, Some, None, codes, if◌then◌else◌}
 use Rattle.std.specs.Str.{bytes_eq}
-use Rattle.sharc_tree.specs.declared.token.Site.{Site}
-use Rattle.sharc_tree.specs.declared.tree.expression.Access.{Access}
+use Rattle.sharc_tree.specs.{declared.token.Site.Site, declared.tree.expression.Access.Access}
 use Rattle.sharc_tree.specs.declared.tree.expression.Access.TheVariants.{Dot, Arrow}
 use Rattle.sharc_tree.specs.declared.tree.expression.BinaryOperator.{BinaryOperator}
 use Rattle.sharc_tree.specs.declared.tree.expression.BinaryOperator.TheVariants.{LogicalOr, LogicalAnd}
-use Rattle.sharc_tree.specs.declared.tree.expression.Constant.{Constant}
-use Rattle.sharc_tree.specs.declared.tree.expression.PlaceCall.{PlaceCall}
+use Rattle.sharc_tree.specs.{declared.tree.expression.Constant.Constant, declared.tree.expression.PlaceCall.PlaceCall}
 use Rattle.sharc_tree.specs.declared.tree.expression.PlaceCall.TheVariants.{Lock, Unlock, Free}
 use Rattle.sharc_tree.specs.declared.tree.expression.UnaryOperator.{UnaryOperator}
 use Rattle.sharc_tree.specs.declared.tree.expression.UnaryOperator.TheVariants.{Negate, Not, Complement, Dereference}
 use Rattle.sharc_tree.specs.Spans.{span_of}
 use Rattle.sharc_tree.specs.Tree.{Expression, identifier, constant, parentheses, call, spawn, on_value, on_place, cast, index, field, unary, binary, Arguments, no_arguments, argument}
 use Rattle.sharc_names.specs.declared.fault.Named.{Named}
-use Rattle.sharc_names.specs.declared.fault.Named.TheVariants as named
 use Rattle.sharc_names.specs.Kinds.{Kind, is_array, is_integer, element_kind, promoted, declared_kinds}
+use Rattle.sharc_names.specs.declared.fault.Named.TheVariants as named
 use Rattle.sharc_code.specs.declared.code.Parameter.TheVariants as parameters
-use Rattle.sharc_code.specs.declared.code.Use.{Use}
-use Rattle.sharc_code.specs.declared.code.Use.TheVariants as uses
-use Rattle.sharc_code.specs.declared.instr.Register.{Register}
-use Rattle.sharc_code.specs.declared.instr.Register.TheVariants.{Int, Reference}
-use Rattle.sharc_code.specs.declared.instr.Width.{Width}
+use Rattle.sharc_code.specs.{declared.code.Use.Use, declared.instr.Register.Register}
+use Rattle.sharc_code.specs.{declared.instr.Register.TheVariants.{Int, Reference}, declared.instr.Width.Width}
 use Rattle.sharc_code.specs.Machine.{function_of}
-use Rattle.sharc_ctype.specs.Expressions.{class_of, binary_result}
-use Rattle.sharc_ctype.specs.Resolved.{global_at, structs_in}
+use Rattle.sharc_code.specs.declared.code.Use.TheVariants as uses
+use Rattle.sharc_ctype.specs.{Expressions.{class_of, binary_result}, Resolved.{global_at, structs_in}}
 use Rattle.sharc_ctype.specs.Transfers.{parameters_named}
-use Rattle.sharc_meaning.specs.Cells.{element_cells, field_place_named, global_elements}
-use Rattle.sharc_meaning.specs.Expressions.{number_named}
+use Rattle.sharc_meaning.specs.{Cells.{element_cells, field_place_named, global_elements}, Expressions.number_named}
 use Rattle.sharc_meaning.specs.Reference.{constant_value}
 use Rattle.sharc_flat.specs.Scope.{Context, int_count, ref_count, register_of}
 use Rattle.sharc_flat.specs.Places.{Target, variable, in_global, global_of, target, own_field, width_of}
 use Rattle.sharc_flat.specs.Flattened.{kind_of, is_ref, target_of, mode_of, lvalue_in, what_names, guard_of, behind_int, behind_ref, operator_of, layout_of}
 use Rattle.sharc_flat.specs.Suits.{Either, is_cell}
 use Rattle.sharc_flat_form.specs.Framed.{IsWide}
-use Rattle.sharc_invariant.specs.Types.{StaticType, Content, field_at, cells_of}
-use Rattle.sharc_invariant.specs.Types.Content.{MutexWord, Waiters}
+use Rattle.sharc_invariant.specs.{Types.{StaticType, Content, field_at, cells_of}, Types.Content.{MutexWord, Waiters}}
 use Rattle.sharc_invariant.specs.Labels.{Entry, Empty, Refers, Unknown, Anything, Exactly, Within, Label, LessNumber, EntryMentions, HasBase}
 use Rattle.sharc_invariant.specs.Typed.{is_shift, is_comparison, Passes, IsShared, Recasts, IsLayout}
-use Rattle.sharc_typed_laws.specs.Stretches.{Setting}
-use Rattle.sharc_typed_laws.specs.Places.{Stands, IsNamed, IsPlain, no_type}
+use Rattle.sharc_typed_laws.specs.{Stretches.Setting, Places.{Stands, IsNamed, IsPlain, no_type}}
 use Rattle.sharc_typed_laws.specs.Premises.{Typing, HoldsVariables, IsCopyOf, Ground, IntegerTyped, ReferenceTyped, MutexTyped}
 
 -- ---- types

@@ -1,36 +1,13 @@
 -- A count of 1 is that of the register that is tested.
-use Rattle.std.proofs.Common.{◌≡◌, ◌≢◌, ℕ, zero, suc, ◌+◌, ◌*◌, ◌/◌, ◌<◌, ◌≤◌, ⊎_elim, true, false, ◌&&◌, List, ◌∷◌, Option, Some, None, refl, sym, ap, ◌∙◌, subst, arith, cond, nat_lt, ltb-true}
+use Rattle.std.proofs.{Common.{◌≡◌, ◌≢◌, ℕ, zero, suc, ◌+◌, ◌*◌, ◌/◌, ◌<◌, ◌≤◌, ⊎_elim, true, false, ◌&&◌, List, ◌∷◌, Option, Some, None, refl, sym, ap, ◌∙◌, subst, arith, cond, nat_lt, ltb-true}, lemmas.Bool.{cases_Bool, cases_eq, cases_lt, and_parts}, lemmas.Bool.Decides.nat_tests}
 use Rattle.std.specs.Prelude.{slice_index, ◌==◌, nat_eq, if◌then◌else◌}
-use Rattle.std.proofs.lemmas.Bool.{cases_Bool, cases_eq, cases_lt, and_parts}
-use Rattle.std.proofs.lemmas.Bool.Decides.{nat_tests}
-use Rattle.sharc_word.specs.declared.step.TheConstants.{THREADS}
-use Rattle.sharc_word.specs.declared.step.WordEvent.{WordEvent}
-use Rattle.sharc_word.specs.declared.step.WordStep.{WordStep}
+use Rattle.sharc_word.specs.{declared.step.TheConstants.THREADS, declared.step.WordEvent.WordEvent, declared.step.WordStep.WordStep}
 use Rattle.sharc_count.specs.Count.{test_of}
-use Rattle.sharc_code.specs.declared.code.Code.{Code}
-use Rattle.sharc_code.specs.declared.instr.Instr.{Instr}
-use Rattle.sharc_code.specs.declared.instr.Instr.TheVariants.{TestSole}
-use Rattle.sharc_code.specs.declared.shape.Shape.{Shape}
-use Rattle.sharc_code.specs.declared.state.Stage.{Stage}
-use Rattle.sharc_code.specs.declared.state.TheConstants.{FRAMES}
-use Rattle.sharc_code.specs.Layout.{Fits, granules, granule_at, words_of, cell_of, cell_word, count_word, length_word}
-use Rattle.sharc_code.specs.Machine.{Machine, instr_at, act, ref}
-use Rattle.sharc_code.specs.Path.{turn, asked_by, most_refs}
-use Rattle.sharc_code.specs.Runs.{Answered, Global, IsRun, Turn, result_of, step_of}
-use Rattle.sharc_code.specs.Whole.{one_thread, bounds, place_after}
-use Rattle.sharc_invariant.specs.Granules.{one, sum_to}
-use Rattle.sharc_invariant.specs.Types.{Targets, cells_of, field_in, is_pointer}
-use Rattle.sharc_invariant.specs.Labels.{Label, Labels}
-use Rattle.sharc_invariant.specs.Typed.{Fine, IsWellTyped}
-use Rattle.sharc_invariant.specs.World.{ArgumentOf, In, RegisterOf, LogOf, Staged, World, ObjectState}
+use Rattle.sharc_code.specs.{declared.code.Code.Code, declared.instr.Instr.Instr, declared.instr.Instr.TheVariants.TestSole, declared.shape.Shape.Shape, declared.state.Stage.Stage, declared.state.TheConstants.FRAMES, Layout.{Fits, granules, granule_at, words_of, cell_of, cell_word, count_word, length_word}, Machine.{Machine, instr_at, act, ref}, Path.{turn, asked_by, most_refs}, Runs.{Answered, Global, IsRun, Turn, result_of, step_of}, Whole.{one_thread, bounds, place_after}}
+use Rattle.sharc_invariant.specs.{Granules.{one, sum_to}, Types.{Targets, cells_of, field_in, is_pointer}, Labels.{Label, Labels}, Typed.{Fine, IsWellTyped}, World.{ArgumentOf, In, RegisterOf, LogOf, Staged, World, ObjectState}, Words.{argument_of, is_freed}, State.{IsSmall, State, label_now}, Opened.first_place, MachineInvariant.{IsAlone, MachineInvariant, cells_now, is_pointer_now, cell_refers, register_refers, log_refers, hand_refers, references_to}, Reports.RunsTest, Laws.{RunsFromTheBeginning, RunsStand}}
 use Rattle.sharc_invariant.specs.Words as Words
-use Rattle.sharc_invariant.specs.Words.{argument_of, is_freed, register_of}
-use Rattle.sharc_invariant.specs.State.{IsSmall, State, label_now}
-use Rattle.sharc_invariant.specs.Opened.{first_place}
-use Rattle.sharc_invariant.specs.MachineInvariant.{IsAlone, MachineInvariant, cells_now, is_pointer_now, cell_refers, register_refers, log_refers, hand_refers, references_to}
-use Rattle.sharc_invariant.specs.Reports.{RunsTest}
-use Rattle.sharc_invariant.specs.Laws.{RunsFromTheBeginning, RunsStand}
 use Rattle.sharc_wants_laws.specs.Alone.{Passes, objects_there}
+use Rattle.sharc_lemmas.proofs.Numbers.{ne_zero as not_zero}
 
 -- ---- sums
 one_here : (a o : ℕ) → a ≡ o → one a o ≡ 1
@@ -66,9 +43,6 @@ found_is words (Some e) step q a = let same : e.step ≡ step = cc in a.result_i
 
 length_is : (s : Shape) (o : ℕ) → o < granules s → length_word s o ≡ Words.length_at s o
 length_is s o lt = let e : nat_lt o (granules s) ≡ true = grind (arith, nat_tests) in let q : granule_at s o ≡ o = rw e refl in omega arith
-
-not_zero : (n : ℕ) → (n ≡ 0 → ⊥) → (n == 0) ≡ false
-not_zero n ne = grind (arith, nat_tests)
 
 known_there : (l : Label) (i : Instr) (stage : Stage) (r site : ℕ) → i ≡ TestSole r site → label_now l i stage ≡ l
 known_there l i stage r site e = ap (λ i. label_now l i stage) e

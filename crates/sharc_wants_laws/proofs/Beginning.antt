@@ -1,21 +1,14 @@
 -- A thread of a checked run begins with the function that its name says, which is main or one that some function spawns.
 use Rattle.std.proofs.Common.{◌≡◌, ℕ, ◌<◌, ◌⊎◌, inl, inr, List, Option, refl, sym, ◌∙◌, subst, ⊎_elim}
-use Rattle.std.specs.Prelude.{IsTrue, codes, length}
-use Rattle.std.specs.Str.{bytes_eq}
+use Rattle.std.specs.{Prelude.{IsTrue, codes, length}, Str.bytes_eq}
 use Rattle.sharc_tree.specs.Tree.{Function}
-use Rattle.sharc_ctype.specs.Reaches.{Spawns}
-use Rattle.sharc_ctype.specs.Resolved.{function_at}
+use Rattle.sharc_ctype.specs.{Reaches.Spawns, Resolved.function_at}
 use Rattle.sharc_ctype_laws.specs.Declared.{NameThemselves}
 use Rattle.sharc_mode.specs.Moded.{Assignment}
-use Rattle.sharc_meaning.specs.Obeys.{History}
-use Rattle.sharc_meaning.specs.References.{Begun}
-use Rattle.sharc_meaning.specs.Runs.{IsFirst, IsNamedAt, IsSpawned, is_named_main}
-use Rattle.sharc_code.specs.declared.code.Code.{Code}
-use Rattle.sharc_code.specs.Machine.{function_of}
-use Rattle.sharc_flat.specs.Correct.{MayStart}
-use Rattle.sharc_flat.specs.Flattens.{IsMainOf}
-use Rattle.sharc_compile_laws.specs.Started.{HasThread}
-use Rattle.sharc_compile_laws.specs.Threads.{TellsIn}
+use Rattle.sharc_meaning.specs.{Obeys.History, References.Begun, Runs.{IsFirst, IsNamedAt, IsSpawned, is_named_main}}
+use Rattle.sharc_code.specs.{declared.code.Code.Code, Machine.function_of}
+use Rattle.sharc_flat.specs.{Correct.MayStart, Flattens.IsMainOf}
+use Rattle.sharc_compile_laws.specs.{Started.HasThread, Threads.TellsIn}
 use Rattle.sharc_history_laws.specs.Starts.{IsOfMain, IsSpawnedByCode, IsStartedBy}
 use Rattle.sharc_wants_laws.proofs.Seeing.{same_function}
 

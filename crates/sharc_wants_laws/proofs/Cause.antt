@@ -1,63 +1,22 @@
 -- The reference besides the one that was tested, by where the words tell of it.
-use Rattle.std.proofs.Common.{◌≡◌, ℕ, ◌+◌, ◌⊎◌, inl, inr, Bool, true, false, List, [], ◌∷◌, ◌++◌, if◌then◌else◌, refl, sym, ap, ◌∙◌, subst, arith, eq-eqb, eqb-true}
+use Rattle.std.proofs.{Common.{◌≡◌, ℕ, ◌+◌, ◌⊎◌, inl, inr, Bool, true, false, List, [], ◌∷◌, ◌++◌, if◌then◌else◌, refl, sym, ap, ◌∙◌, subst, arith, eq-eqb, eqb-true}, lemmas.Bool.false≢true, lemmas.List.Elements.Contains-append_right}
 use Rattle.std.specs.Prelude.{◌==◌, Some, Contains, slice_index}
-use Rattle.std.proofs.lemmas.Bool.{false≢true}
-use Rattle.std.proofs.lemmas.List.Elements.{Contains-append_right}
-use Rattle.sharc_tree.specs.declared.event.CellAt.{CellAt}
+use Rattle.sharc_tree.specs.{declared.event.CellAt.CellAt, declared.event.Object.TheVariants.{Global as GlobalNumber, Made}, declared.event.SourceEvent.SourceEvent}
 use Rattle.sharc_mode.specs.Moded.{Assignment}
-use Rattle.sharc_tree.specs.declared.event.Object.TheVariants.{Global as GlobalNumber, Made}
-use Rattle.sharc_tree.specs.declared.event.SourceEvent.{SourceEvent}
-use Rattle.sharc_meaning.specs.declared.given.GivenUp.{GivenUp}
-use Rattle.sharc_meaning.specs.declared.given.GivenUp.TheVariants.{Emptied}
-use Rattle.sharc_meaning.specs.Events.{events_of}
-use Rattle.sharc_meaning.specs.Meaning.{Asked}
-use Rattle.sharc_meaning.specs.Store.{is_live}
+use Rattle.sharc_meaning.specs.{declared.given.GivenUp.GivenUp, declared.given.GivenUp.TheVariants.Emptied, Events.events_of, Meaning.Asked, Store.is_live, References.{Begun, asked_with, in_argument, in_cell, in_mutex, in_thread, is_taken_to_free}}
 use Rattle.sharc_meaning_laws.specs.Freeing.{IsBeingTaken, TakenAreBeingTaken}
-use Rattle.sharc_code.specs.declared.instr.Instr.TheVariants.{Free, TestSole}
-use Rattle.sharc_code.specs.declared.state.Stage.{Stage}
-use Rattle.sharc_code.specs.declared.state.Stage.TheVariants.{Empties, Lowers, FreeLooks, FreeClears, Uncounts, Links}
-use Rattle.sharc_code.specs.Path.{begun}
-use Rattle.sharc_flat.specs.Correct.{MayStart}
-use Rattle.sharc_gen.specs.Consistent.{IsConsistent}
+use Rattle.sharc_code.specs.{declared.instr.Instr.TheVariants.{Free, TestSole}, declared.state.Stage.Stage, declared.state.Stage.TheVariants.{Empties, Lowers, FreeLooks, FreeClears, Uncounts, Links}, Path.begun, declared.code.Code.Code, declared.shape.Shape.Shape, declared.state.Stop.TheVariants.NotSole, Layout.Fits, Machine.{Machine, instr_at, ref}, Runs.{Global, Turn, turns_of}, Whole.{CheckedRun, place_after}}
+use Rattle.sharc_flat.specs.{Correct.MayStart, Flattens.Flattens}
+use Rattle.sharc_gen.specs.{Consistent.IsConsistent, OfRuns.{elements_before, founds_of}}
 use Rattle.sharc_guard.specs.Counted.{IsGivenAway}
-use Rattle.sharc_gen.specs.OfRuns.{elements_before, founds_of}
 use Rattle.sharc_accepted_laws.specs.Targets.{targets_of}
-use Rattle.sharc_invariant.specs.MachineInvariant.{cell_refers, hand_refers}
-use Rattle.sharc_invariant.specs.Words.{is_freed, register_of, staged_of}
-use Rattle.sharc_invariant.specs.World.{ObjectState}
-use Rattle.sharc_wants_laws.specs.Beginning.{ThreadsHaveBegun}
-use Rattle.sharc_wants_laws.specs.Cells.{CellsSee, IsSeenInCell, in_global, in_made, in_freed}
-use Rattle.sharc_wants_laws.specs.Emptying.{IsEmptying, is_emptying}
-use Rattle.sharc_wants_laws.specs.Hands.{FreesEmpty, HandsFly}
-use Rattle.sharc_wants_laws.specs.InFlight.{IsPastEvents}
-use Rattle.sharc_wants_laws.specs.Seeing.{TestersGive}
+use Rattle.sharc_invariant.specs.{MachineInvariant.{cell_refers, hand_refers}, Words.{is_freed, register_of, staged_of}, World.ObjectState, Labels.Labels, Typed.IsWellTyped, State.IsSmall, Opened.{first_world, first_place}, Objects.objects_after}
+use Rattle.sharc_wants_laws.specs.{Beginning.ThreadsHaveBegun, Cells.{CellsSee, IsSeenInCell, in_global, in_made, in_freed}, Emptying.{IsEmptying, is_emptying}, Hands.{FreesEmpty, HandsFly}, InFlight.IsPastEvents, Seeing.TestersGive, Elsewhere.{ArgumentsSee, LogsSee}, Silent.SilentHaveNothing, Cause.{NothingIsInFlight, ShowsReference}, Sole.{AreQuiet, HaveBegun, IsSeen, RegistersAreSeen}}
 use Rattle.sharc_wants_laws.proofs.Tables.{has_tables}
-use Rattle.sharc_meaning.specs.References.{Begun, asked_with, in_argument, in_cell, in_mutex, in_thread, is_taken_to_free}
-use Rattle.sharc_code.specs.declared.code.Code.{Code}
-use Rattle.sharc_code.specs.declared.shape.Shape.{Shape}
-use Rattle.sharc_code.specs.declared.state.Stop.TheVariants.{NotSole}
-use Rattle.sharc_code.specs.Layout.{Fits}
-use Rattle.sharc_code.specs.Machine.{Machine, instr_at, ref}
-use Rattle.sharc_code.specs.Runs.{Global, Turn, turns_of}
-use Rattle.sharc_code.specs.Whole.{CheckedRun, place_after}
-use Rattle.sharc_invariant.specs.Labels.{Labels}
-use Rattle.sharc_invariant.specs.Typed.{IsWellTyped}
-use Rattle.sharc_invariant.specs.State.{IsSmall}
-use Rattle.sharc_invariant.specs.Opened.{first_world, first_place}
-use Rattle.sharc_invariant.specs.Objects.{objects_after}
-use Rattle.sharc_history_laws.specs.History.{history_of}
-use Rattle.sharc_history_laws.specs.Paths.{PathsAreConsistent}
-use Rattle.sharc_history_laws.specs.Reports.{CastReportsShow, FindsOthers, OtherReference, InRegister, InArgument, InLog, InHand, InCell}
-use Rattle.sharc_history_laws.specs.Seen.{RunsBegin}
-use Rattle.sharc_history_laws.specs.SeenCells.{IsBeingFreed, is_clearing}
-use Rattle.sharc_wants_laws.specs.Elsewhere.{ArgumentsSee, LogsSee}
-use Rattle.sharc_wants_laws.specs.Silent.{SilentHaveNothing}
+use Rattle.sharc_history_laws.specs.{History.history_of, Paths.PathsAreConsistent, Reports.{CastReportsShow, FindsOthers, OtherReference, InRegister, InArgument, InLog, InHand, InCell}, Seen.RunsBegin, SeenCells.{IsBeingFreed, is_clearing}, Stores.BeginsWith}
 use Rattle.sharc_flat_form.specs.declared.flat.Flat.{Flat as FlatCode}
-use Rattle.sharc_flat.specs.Flattens.{Flattens}
 use Rattle.sharc_compile.specs.Made.{IsCodeOf}
-use Rattle.sharc_history_laws.specs.Stores.{BeginsWith}
-use Rattle.sharc_wants_laws.specs.Cause.{NothingIsInFlight, ShowsReference}
-use Rattle.sharc_wants_laws.specs.Sole.{AreQuiet, HaveBegun, IsSeen, RegistersAreSeen}
+use Rattle.sharc_lemmas.proofs.Bools.{yes}
 
 no_thread : (c : CellAt) (t i : ℕ) → in_mutex c ≡ in_thread t i → ⊥
 no_thread c t i h = cc
@@ -67,9 +26,6 @@ no_argument u t i h = cc
 
 no_cell : (c : CellAt) (t i : ℕ) → in_cell c ≡ in_thread t i → ⊥
 no_cell c t i h = cc
-
-yes : true ≡ false → ⊥
-yes e = cc
 
 pub no_free : (register site r layout at : ℕ) → TestSole register site ≡ Free r layout at → ⊥
 no_free register site r layout at h = cc

@@ -1,35 +1,17 @@
 -- The cells, modes and integers of a thread of guarded code are those of the machine that is where it is.
 use Rattle.std.proofs.Common.{◌≡◌, ℕ, ℤ, zero, suc, pos, ◌+◌, ◌-◌, ◌*◌, ◌^◌, ◌<◌, Bool, false, List, refl, sym, ap, ◌∙◌, subst, arith, slice_index_or, ◌==◌, Some}
-use Rattle.std.specs.Prelude.{nat_eq}
-use Rattle.std.proofs.lemmas.Bool.Decides.{nat_tests}
 use Rattle.sharc_tree.specs.declared.event.Object.TheVariants as objects
-use Rattle.sharc_tree.specs.declared.event.CellAt.{CellAt}
-use Rattle.sharc_tree.specs.declared.event.CellMode.{CellMode}
+use Rattle.sharc_tree.specs.{declared.event.CellAt.CellAt, declared.event.CellMode.CellMode}
 use Rattle.sharc_tree.specs.declared.event.CellMode.TheVariants as modes
-use Rattle.sharc_meaning.specs.Cells.{through}
-use Rattle.sharc_meaning.specs.Events.{Access}
-use Rattle.sharc_meaning.specs.Reference.{is_null, number_of}
-use Rattle.sharc_code.specs.declared.code.Code.{Code}
-use Rattle.sharc_code.specs.declared.code.GlobalCells.{GlobalCells}
-use Rattle.sharc_code.specs.declared.code.SourcePlace.{SourcePlace}
-use Rattle.sharc_code.specs.declared.code.PlaceMode.{PlaceMode}
-use Rattle.sharc_code.specs.declared.code.PlaceMode.TheVariants.{Private, Readonly, Racy, Dynamic, LockedGlobal, LockedSibling, LockedThrough, LockedLoaded}
-use Rattle.sharc_code.specs.declared.instr.Cell.{Cell}
-use Rattle.sharc_code.specs.declared.instr.Cell.TheVariants.{Global, GlobalAt, Object as InObject, ObjectAt}
-use Rattle.sharc_code.specs.declared.shape.Shape.{Shape}
-use Rattle.sharc_code.specs.Arithmetic.{word_of}
-use Rattle.sharc_code.specs.Machine.{Machine, int, ref}
-use Rattle.sharc_code.specs.Says.{cell_at, global_cell, mode_of, no_global, made_cell, place_at, reference, lock_through}
+use Rattle.sharc_meaning.specs.{Cells.through, Events.Access, Reference.{is_null, number_of}}
+use Rattle.sharc_code.specs.{declared.code.Code.Code, declared.code.GlobalCells.GlobalCells, declared.code.SourcePlace.SourcePlace, declared.code.PlaceMode.PlaceMode, declared.code.PlaceMode.TheVariants.{Private, Readonly, Racy, Dynamic, LockedGlobal, LockedSibling, LockedThrough, LockedLoaded}, declared.instr.Cell.Cell, declared.instr.Cell.TheVariants.{Global, GlobalAt, Object as InObject, ObjectAt}, declared.shape.Shape.Shape, Arithmetic.word_of, Machine.{Machine, int, ref}, Says.{cell_at, global_cell, mode_of, no_global, made_cell, place_at, reference, lock_through}}
 use Rattle.sharc_guarded_form.specs.Machine as Form
 use Rattle.sharc_guarded_form.specs.Machine.{Program, Thread, source_at}
-use Rattle.sharc_gen.specs.Consistent.{Elements, IsNumber}
-use Rattle.sharc_gen.specs.Related.{IsReference, Same}
+use Rattle.sharc_gen.specs.{Consistent.{Elements, IsNumber}, Related.{IsReference, Same}}
 use Rattle.sharc_wants_laws.specs.Wants.{access_at}
+use Rattle.sharc_lemmas.proofs.Numbers.{ne_eq}
 
 -- ---- references
-ne_eq : (m n : ℕ) → (m ≡ n → ⊥) → nat_eq m n ≡ false
-ne_eq m n ne = grind (arith, nat_tests)
-
 null_is : (n e : ℕ) → is_null (reference n e) ≡ (n == 0)
 null_is zero e = refl
 null_is (suc n) e = not_zero (suc n + 2 ^ 32 * e) (omega arith) ∙ sym (ne_eq (suc n) 0 (λ q. omega arith))

@@ -1,28 +1,14 @@
 -- Flat code that asks for nothing holds what it held before, and more turns change nothing once it has come to its next
 -- want, its stop or its end.
-use Rattle.std.proofs.Common.{◌≡◌, ℕ, zero, suc, ℤ, pos, negsuc, ◌+◌, ◌-◌, ◌*◌, ◌⊎◌, inl, inr, ⊎_elim, Bool, true, false, not, ◌==◌, List, [], ◌∷◌, length, refl, sym, ap, ◌∙◌, subst, arith, Some, None, Option, Ok, Err, Result, nat_lt, cond, slice_get}
-use Rattle.std.proofs.lemmas.Bool.{false≢true}
-use Rattle.sharc_tree.specs.declared.event.Act.{Act}
+use Rattle.std.proofs.{Common.{◌≡◌, ℕ, zero, suc, ℤ, pos, negsuc, ◌+◌, ◌-◌, ◌*◌, ◌⊎◌, inl, inr, ⊎_elim, Bool, true, false, not, ◌==◌, List, [], ◌∷◌, length, refl, sym, ap, ◌∙◌, subst, arith, Some, None, Option, Ok, Err, Result, nat_lt, cond, slice_get}, lemmas.Bool.false≢true}
+use Rattle.sharc_tree.specs.{declared.event.Act.Act, declared.event.CellAt.CellAt, declared.event.CellMode.CellMode, declared.trap.Trap.Trap}
 use Rattle.sharc_tree.specs.declared.event.Act.TheVariants as acts
-use Rattle.sharc_tree.specs.declared.event.CellAt.{CellAt}
-use Rattle.sharc_tree.specs.declared.event.CellMode.{CellMode}
 use Rattle.sharc_tree.specs.declared.event.Taken.TheVariants as taken
-use Rattle.sharc_tree.specs.declared.trap.Trap.{Trap}
 use Rattle.sharc_tree.specs.declared.trap.Trap.TheVariants as traps
-use Rattle.sharc_meaning.specs.declared.given.GivenUp.TheVariants.{Replaced}
-use Rattle.sharc_meaning.specs.Arithmetic.{is_zero}
-use Rattle.sharc_meaning.specs.Events.{held_mutexes, holds_mutex}
-use Rattle.sharc_meaning.specs.Reference.{is_null, elements_of}
-use Rattle.sharc_meaning.specs.References.{refers}
-use Rattle.sharc_meaning.specs.State.{spent}
-use Rattle.sharc_meaning.specs.Statements.{is_positive}
-use Rattle.sharc_code.specs.Arithmetic.{computed, negated, holds}
-use Rattle.sharc_code.specs.declared.code.GlobalCells.{GlobalCells}
-use Rattle.sharc_code.specs.declared.instr.Cell.{Cell}
-use Rattle.sharc_flat_form.specs.declared.op.Op.{Op}
+use Rattle.sharc_meaning.specs.{declared.given.GivenUp.TheVariants.Replaced, Arithmetic.is_zero, Events.{held_mutexes, holds_mutex}, Reference.{is_null, elements_of}, References.refers, State.spent, Statements.is_positive}
+use Rattle.sharc_code.specs.{Arithmetic.{computed, negated, holds}, declared.code.GlobalCells.GlobalCells, declared.instr.Cell.Cell}
+use Rattle.sharc_flat_form.specs.{declared.op.Op.Op, declared.op.Spot.Spot, Machine.{Flat, At, Caller, Turn, goes, asks, halts, put, int, ref, goes_on, next, over_lines, stops, asserts, with_result, set_int, set_ref, gives_up, kind_of, cell_at, mode_of, accessed, accesses, lock_is_null, indexed, takes_local, returned, called, op_turn, end_turn, line_turn, turn, on_turn, exec}}
 use Rattle.sharc_flat_form.specs.declared.op.Op.TheVariants as op
-use Rattle.sharc_flat_form.specs.declared.op.Spot.{Spot}
-use Rattle.sharc_flat_form.specs.Machine.{Flat, At, Caller, Turn, goes, asks, halts, put, int, ref, goes_on, next, over_lines, stops, asserts, with_result, set_int, set_ref, gives_up, kind_of, cell_at, mode_of, accessed, accesses, lock_is_null, indexed, takes_local, returned, called, op_turn, end_turn, line_turn, turn, on_turn, exec}
 use Rattle.sharc_guard.specs.Counted.{Quietly}
 
 -- ---- what registers hold

@@ -1,10 +1,7 @@
 -- As many registers refer to an object, as many references to it are held.
-use Rattle.std.proofs.Common.{◌≡◌, ℕ, zero, suc, pos, ◌+◌, ◌<◌, ◌≤◌, Bool, true, false, cond, List, [], ◌∷◌, refl, ap, sym, ◌∙◌, arith, get_or}
-use Rattle.std.proofs.lemmas.Bool.{false≢true}
-use Rattle.std.proofs.lemmas.List.Sums.{sum_by-cons}
+use Rattle.std.proofs.{Common.{◌≡◌, ℕ, zero, suc, pos, ◌+◌, ◌<◌, ◌≤◌, Bool, true, false, cond, List, [], ◌∷◌, refl, ap, sym, ◌∙◌, arith, get_or}, lemmas.Bool.false≢true, lemmas.List.Sums.sum_by-cons}
 use Rattle.std.specs.Prelude.{count_by, slice_index}
-use Rattle.sharc_meaning.specs.Meaning.{Asked}
-use Rattle.sharc_meaning.specs.References.{refers, held_count}
+use Rattle.sharc_meaning.specs.{Meaning.Asked, References.{refers, held_count}}
 use Rattle.sharc_code.specs.Machine.{Machine}
 use Rattle.sharc_wants_laws.specs.Holding.{IsTested}
 
@@ -30,10 +27,6 @@ module _ {X : Type 0} (p : X → Bool) (d : X) (none : p d ≡ false) where
   two_there (x ∷ xs) zero (suc k) apart one two = let e = counted_here x xs one in let more = one_there xs k two in omega (arith, e, more)
   two_there (x ∷ xs) (suc i) zero apart one two = let e = counted_here x xs two in let more = one_there xs i one in omega (arith, e, more)
   two_there (x ∷ xs) (suc i) (suc k) apart one two = let more = two_there xs i k (λ e. apart (ap suc e)) one two in let low = no_less x xs in omega (arith, more, low)
-
--- at a test
-pub once : (a : Asked) (at : Machine) (register : ℕ) → IsTested a at register → (k n : ℕ) → slice_index at.refs k ≡ n → 0 < n → 0 < held_count a n
-once a at register t k n is some = one_there (refers n) (pos 0) refl a.held k (t.registers k n is some)
 
 pub twice : (a : Asked) (at : Machine) (register : ℕ) → IsTested a at register → (i k n : ℕ) → (i ≡ k → ⊥) → slice_index at.refs i ≡ n → slice_index at.refs k ≡ n → 0 < n → 1 < held_count a n
 twice a at register t i k n apart first second some = two_there (refers n) (pos 0) refl a.held i k apart (t.registers i n first some) (t.registers k n second some)

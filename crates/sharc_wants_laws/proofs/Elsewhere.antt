@@ -1,33 +1,16 @@
 -- What an argument that is not read refers to, a Spawn has given.
-use Rattle.std.proofs.Common.{◌≡◌, ◌≢◌, ℕ, zero, suc, pos, ◌+◌, ◌^◌, ◌<◌, Bool, true, false, ◌&&◌, ◌||◌, length, List, [], ◌∷◌, map, if◌then◌else◌, refl, sym, ap, ◌∙◌, arith}
+use Rattle.std.proofs.{Common.{◌≡◌, ◌≢◌, ℕ, zero, suc, pos, ◌+◌, ◌^◌, ◌<◌, Bool, true, false, ◌&&◌, ◌||◌, length, List, [], ◌∷◌, map, if◌then◌else◌, refl, sym, ap, ◌∙◌, arith}, lemmas.Bool.false≢true, lemmas.Bool.Decides.nat_tests}
 use Rattle.std.specs.Prelude.{slice_index_or, slice_get}
-use Rattle.std.proofs.lemmas.Bool.{false≢true}
-use Rattle.std.proofs.lemmas.Bool.Decides.{nat_tests}
-use Rattle.sharc_tree.specs.declared.event.Act.TheVariants.{Spawn}
-use Rattle.sharc_tree.specs.declared.event.SourceEvent.{SourceEvent}
-use Rattle.sharc_tree.specs.declared.tree.declaration.Declaration.{Declaration}
-use Rattle.sharc_tree.specs.Tree.{Function}
+use Rattle.sharc_tree.specs.{declared.event.Act.TheVariants.Spawn, declared.event.SourceEvent.SourceEvent, declared.tree.declaration.Declaration.Declaration, Tree.Function}
 use Rattle.sharc_names.specs.Kinds.{declared_kind, is_pointer}
 use Rattle.sharc_ctype.specs.Resolved.{functions_in, function_at}
 use Rattle.sharc_mode.specs.Moded.{Assignment}
-use Rattle.sharc_meaning.specs.Obeys.{History}
-use Rattle.sharc_meaning.specs.Reference.{number_of}
-use Rattle.sharc_meaning.specs.References.{References, refers, has_pointer, takes_reference, passes, in_argument}
-use Rattle.sharc_meaning.specs.Store.{is_spawn, is_natural, spawns}
-use Rattle.sharc_code.specs.declared.code.Code.{Code}
-use Rattle.sharc_code.specs.declared.code.Function.{Function as Row}
+use Rattle.sharc_meaning.specs.{Obeys.History, Reference.number_of, References.{References, refers, has_pointer, takes_reference, passes, in_argument}, Store.{is_spawn, is_natural, spawns}}
+use Rattle.sharc_code.specs.{declared.code.Code.Code, declared.code.Function.{Function as Row}, Machine.{function_of, no_function}, Says.reference, declared.code.GlobalCells.GlobalCells}
 use Rattle.sharc_code.specs.declared.code.Parameter.TheVariants as parameters
-use Rattle.sharc_code.specs.Machine.{function_of, no_function}
-use Rattle.sharc_code.specs.Says.{reference}
-use Rattle.sharc_flat.specs.Flattened.{function_code, parameter_of, rows_of}
-use Rattle.sharc_flat.specs.Flattens.{names_of, Flattens}
-use Rattle.sharc_flat.specs.Laid.{AreNamed}
-use Rattle.sharc_flat.specs.Tables.{globals_of}
-use Rattle.sharc_flat_form.specs.declared.flat.Flat.{Flat as FlatCode}
-use Rattle.sharc_code.specs.declared.code.GlobalCells.{GlobalCells}
-use Rattle.sharc_flat_form.specs.Made.{flat_of}
-use Rattle.sharc_guard.specs.Guard.{entered_at, place}
-use Rattle.sharc_guard.specs.Known.{dropped}
+use Rattle.sharc_flat.specs.{Flattened.{function_code, parameter_of, rows_of}, Flattens.{names_of, Flattens}, Laid.AreNamed, Tables.globals_of}
+use Rattle.sharc_flat_form.specs.{declared.flat.Flat.{Flat as FlatCode}, Made.flat_of}
+use Rattle.sharc_guard.specs.{Guard.{entered_at, place}, Known.dropped}
 use Rattle.sharc_compile.specs.Made.{IsCodeOf}
 use Rattle.sharc_history_laws.specs.Seen.{IsGivenTo}
 

@@ -1,39 +1,17 @@
 -- Where the pointer cells of a freed object are emptied, flat code gives them up, and wants the Freed of the object.
-use Rattle.std.proofs.Common.{◌≡◌, ℕ, zero, suc, ℤ, pos, negsuc, ◌+◌, ◌-◌, ◌*◌, Bool, true, false, not, List, [], ◌∷◌, ◌++◌, length, refl, sym, ap, ◌∙◌, subst, Some, None, Option, Ok, Err, Result, nat_lt, cond, slice_get}
-use Rattle.std.proofs.lemmas.Bool.{false≢true}
+use Rattle.std.proofs.{Common.{◌≡◌, ℕ, zero, suc, ℤ, pos, negsuc, ◌+◌, ◌-◌, ◌*◌, Bool, true, false, not, List, [], ◌∷◌, ◌++◌, length, refl, sym, ap, ◌∙◌, subst, Some, None, Option, Ok, Err, Result, nat_lt, cond, slice_get}, lemmas.Bool.false≢true}
 use Rattle.std.specs.Prelude.{slice_index}
-use Rattle.sharc_tree.specs.declared.event.Act.{Act}
+use Rattle.sharc_tree.specs.{declared.event.Act.Act, declared.event.CellAt.CellAt, declared.event.CellMode.CellMode, declared.trap.Trap.Trap}
 use Rattle.sharc_tree.specs.declared.event.Act.TheVariants as acts
-use Rattle.sharc_tree.specs.declared.event.CellAt.{CellAt}
-use Rattle.sharc_tree.specs.declared.event.CellMode.{CellMode}
 use Rattle.sharc_tree.specs.declared.event.Taken.TheVariants as taken
-use Rattle.sharc_tree.specs.declared.trap.Trap.{Trap}
 use Rattle.sharc_tree.specs.declared.trap.Trap.TheVariants as traps
-use Rattle.sharc_meaning.specs.declared.given.GivenUp.TheVariants.{Emptied, Replaced}
-use Rattle.sharc_meaning.specs.Events.{held_mutexes, holds_mutex}
-use Rattle.sharc_meaning.specs.Meaning.{Asked}
-use Rattle.sharc_meaning.specs.Reference.{is_null, elements_of, number_of}
-use Rattle.sharc_meaning.specs.Statements.{is_positive}
-use Rattle.sharc_code.specs.Arithmetic.{computed, negated, holds}
-use Rattle.sharc_code.specs.declared.code.Code.{Code}
-use Rattle.sharc_code.specs.declared.code.GlobalCells.{GlobalCells}
-use Rattle.sharc_code.specs.declared.instr.Cell.{Cell}
-use Rattle.sharc_code.specs.declared.code.Function.{Function as Row}
-use Rattle.sharc_code.specs.declared.instr.Instr.{Instr}
-use Rattle.sharc_code.specs.declared.instr.Instr.TheVariants.{Free}
-use Rattle.sharc_code.specs.declared.shape.Shape.{Shape}
-use Rattle.sharc_code.specs.declared.state.Stage.{Stage}
-use Rattle.sharc_code.specs.declared.state.Stage.TheVariants.{Empties, Lowers, FreeLooks, FreeClears, Uncounts, Links}
-use Rattle.sharc_code.specs.Machine.{Machine, instr_at}
-use Rattle.sharc_flat_form.specs.declared.op.Op.{Op}
+use Rattle.sharc_meaning.specs.{declared.given.GivenUp.TheVariants.{Emptied, Replaced}, Events.{held_mutexes, holds_mutex}, Meaning.Asked, Reference.{is_null, elements_of, number_of}, Statements.is_positive}
+use Rattle.sharc_code.specs.{Arithmetic.{computed, negated, holds}, declared.code.Code.Code, declared.code.GlobalCells.GlobalCells, declared.instr.Cell.Cell, declared.code.Function.{Function as Row}, declared.instr.Instr.Instr, declared.instr.Instr.TheVariants.Free, declared.shape.Shape.Shape, declared.state.Stage.Stage, declared.state.Stage.TheVariants.{Empties, Lowers, FreeLooks, FreeClears, Uncounts, Links}, Machine.{Machine, instr_at}}
+use Rattle.sharc_flat_form.specs.{declared.op.Op.Op, declared.op.Spot.Spot, Machine.{Flat, At, Caller, Turn, goes, asks, halts, int, ref, goes_on, next, stops, asserts, with_result, set_int, set_ref, gives_up, kind_of, cell_at, mode_of, accessed, accesses, lock_is_null, indexed, takes_local, returned, called, op_turn, end_turn, line_turn, turn, on_turn, exec}}
 use Rattle.sharc_flat_form.specs.declared.op.Op.TheVariants as op
-use Rattle.sharc_flat_form.specs.declared.op.Spot.{Spot}
-use Rattle.sharc_flat_form.specs.Machine.{Flat, At, Caller, Turn, goes, asks, halts, int, ref, goes_on, next, stops, asserts, with_result, set_int, set_ref, gives_up, kind_of, cell_at, mode_of, accessed, accesses, lock_is_null, indexed, takes_local, returned, called, op_turn, end_turn, line_turn, turn, on_turn, exec}
 use Rattle.sharc_guarded_form.specs.Machine as Form
 use Rattle.sharc_guarded_form.specs.Machine.{Program, Thread, statement_at}
-use Rattle.sharc_gen.specs.Consistent.{Elements}
-use Rattle.sharc_gen.specs.Generated.{instr_of}
-use Rattle.sharc_gen.specs.Related.{IsAt, IsAtStage, IsInFree}
+use Rattle.sharc_gen.specs.{Consistent.Elements, Generated.instr_of, Related.{IsAt, IsAtStage, IsInFree}}
 use Rattle.sharc_guard.specs.Counted.{Tells}
 use Rattle.sharc_wants_laws.specs.Emptying.{IsEmptying, is_emptying}
 

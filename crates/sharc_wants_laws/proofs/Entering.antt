@@ -1,55 +1,19 @@
 -- In flat code each CondEnter is followed by an Unlock and a CondWait of the same cell.
 use Rattle.std.proofs.Common.{◌≡◌, ℕ, ◌+◌, Bool, true, false, List, [], ◌∷◌, ◌++◌, length, take, drop, Option, Some, None, if◌then◌else◌, refl, sym, ap, ◌∙◌, subst}
-use Rattle.std.specs.Prelude.{codes}
-use Rattle.std.specs.Str.{bytes_eq}
-use Rattle.sharc_tree.specs.declared.token.Site.{Site}
-use Rattle.sharc_tree.specs.declared.token.Span.{Span}
-use Rattle.sharc_tree.specs.declared.tree.declaration.Declaration.{Declaration}
-use Rattle.sharc_tree.specs.declared.tree.declaration.Identifier.{Identifier}
-use Rattle.sharc_tree.specs.declared.tree.expression.Access.{Access}
-use Rattle.sharc_tree.specs.declared.tree.expression.Access.TheVariants.{Dot, Arrow}
-use Rattle.sharc_tree.specs.declared.tree.expression.BinaryOperator.{BinaryOperator}
+use Rattle.std.specs.{Prelude.codes, Str.bytes_eq}
+use Rattle.sharc_tree.specs.{declared.token.Site.Site, declared.token.Span.Span, declared.tree.declaration.Declaration.Declaration, declared.tree.declaration.Identifier.Identifier, declared.tree.expression.Access.Access, declared.tree.expression.Access.TheVariants.{Dot, Arrow}, declared.tree.expression.BinaryOperator.BinaryOperator, declared.tree.expression.Constant.Constant, declared.tree.expression.PlaceCall.PlaceCall, declared.tree.expression.PlaceCall.TheVariants.{Lock, Unlock, Free}, declared.tree.expression.UnaryOperator.UnaryOperator, declared.tree.expression.UnaryOperator.TheVariants.{Negate, Not, Complement, Dereference}, declared.tree.expression.ValueCall.ValueCall, declared.tree.expression.ValueCall.TheVariants.{Join, Print}, declared.tree.statement.Jump.Jump, declared.tree.statement.Jump.TheVariants.{Break, Continue}, Spans.span_of, Tree.{Expression, identifier, constant, parentheses, call, spawn, on_value, on_place, cast, index, field, unary, binary, Arguments, no_arguments, argument, Right, value, malloc, Simple, assign, does_call, Local, First, nothing, declares, does, Statement, empty, block, declare, simple, jump, return, if_then, if_then_else, while, for, Statements, no_statements, statement, Function}}
 use Rattle.sharc_tree.specs.declared.tree.expression.BinaryOperator.TheVariants as bop
-use Rattle.sharc_tree.specs.declared.tree.expression.Constant.{Constant}
-use Rattle.sharc_tree.specs.declared.tree.expression.PlaceCall.{PlaceCall}
-use Rattle.sharc_tree.specs.declared.tree.expression.PlaceCall.TheVariants.{Lock, Unlock, Free}
-use Rattle.sharc_tree.specs.declared.tree.expression.UnaryOperator.{UnaryOperator}
-use Rattle.sharc_tree.specs.declared.tree.expression.UnaryOperator.TheVariants.{Negate, Not, Complement, Dereference}
-use Rattle.sharc_tree.specs.declared.tree.expression.ValueCall.{ValueCall}
-use Rattle.sharc_tree.specs.declared.tree.expression.ValueCall.TheVariants.{Join, Print}
-use Rattle.sharc_tree.specs.declared.tree.statement.Jump.{Jump}
-use Rattle.sharc_tree.specs.declared.tree.statement.Jump.TheVariants.{Break, Continue}
-use Rattle.sharc_tree.specs.Spans.{span_of}
-use Rattle.sharc_tree.specs.Tree.{Expression, identifier, constant, parentheses, call, spawn, on_value, on_place, cast, index, field, unary, binary, Arguments, no_arguments, argument, Right, value, malloc, Simple, assign, does_call, Local, First, nothing, declares, does, Statement, empty, block, declare, simple, jump, return, if_then, if_then_else, while, for, Statements, no_statements, statement, Function}
-use Rattle.sharc_names.specs.declared.fault.Named.{Named}
+use Rattle.sharc_names.specs.{declared.fault.Named.Named, Kinds.{Kind, is_integer, is_array, element_kind, declared_kind, declared_kinds}}
 use Rattle.sharc_names.specs.declared.fault.Named.TheVariants as named
-use Rattle.sharc_names.specs.Kinds.{Kind, is_integer, is_array, element_kind, declared_kind, declared_kinds}
-use Rattle.sharc_ctype.specs.Resolved.{Resolution, kind_at, global_at}
-use Rattle.sharc_ctype.specs.Transfers.{parameters_named}
-use Rattle.sharc_mode.specs.Moded.{Assignment}
-use Rattle.sharc_mode.specs.Cells.{pointed}
-use Rattle.sharc_mode.specs.Rows.{written, row_at, declared_row}
-use Rattle.sharc_mode.specs.Sharings.{Sharing, private}
-use Rattle.sharc_meaning.specs.State.{is_reference}
-use Rattle.sharc_meaning.specs.Cells.{element_cells, global_elements}
-use Rattle.sharc_meaning.specs.Expressions.{number_named}
-use Rattle.sharc_code.specs.declared.code.GlobalCells.{GlobalCells}
-use Rattle.sharc_code.specs.declared.code.Text.{Text}
-use Rattle.sharc_code.specs.declared.code.Use.{Use}
+use Rattle.sharc_ctype.specs.{Resolved.{Resolution, kind_at, global_at}, Transfers.parameters_named}
+use Rattle.sharc_mode.specs.{Moded.Assignment, Cells.pointed, Rows.{written, row_at, declared_row}, Sharings.{Sharing, private}}
+use Rattle.sharc_meaning.specs.{State.is_reference, Cells.{element_cells, global_elements}, Expressions.number_named}
+use Rattle.sharc_code.specs.{declared.code.GlobalCells.GlobalCells, declared.code.Text.Text, declared.code.Use.Use, declared.instr.Cell.Cell, declared.instr.Register.Register}
 use Rattle.sharc_code.specs.declared.code.Use.TheVariants as uses
-use Rattle.sharc_code.specs.declared.instr.Cell.{Cell}
-use Rattle.sharc_code.specs.declared.instr.Register.{Register}
 use Rattle.sharc_code.specs.declared.instr.Register.TheVariants as registers
-use Rattle.sharc_flat_form.specs.declared.op.Op.{Op}
+use Rattle.sharc_flat_form.specs.{declared.op.Op.Op, declared.op.Spot.Spot, Machine.first_cell}
 use Rattle.sharc_flat_form.specs.declared.op.Op.TheVariants as op
-use Rattle.sharc_flat_form.specs.declared.op.Spot.{Spot}
-use Rattle.sharc_flat_form.specs.Machine.{first_cell}
-use Rattle.sharc_flat.specs.declared.slot.Slot.{Slot}
-use Rattle.sharc_flat.specs.declared.slot.Lvalue.{Lvalue}
-use Rattle.sharc_flat.specs.Scope.{Context, at_site, pops, ends_from, leaves}
-use Rattle.sharc_flat.specs.Places.{Target, index_width, base_width, global_of, own_field, target, variable, in_global, has_base, index_code, pointee_code, guard_code, drop_base, settle_base, copy_code, cell_value_code, value_code, settle_code, cell_store_code, store_code, cell_take_code, take_code, width_code, bounds_code}
-use Rattle.sharc_flat.specs.Flattened.{kind_of, ints_of, refs_of, declared_lvalue, guard_of, lvalue_in, mode_of, is_ref, target_of, what_names, lvalue_code, constant_code, named_code, drop_code, truth_code, differ_code, compare_code, logical_code, either_code, unary_code, binary_code, wait_code, condition_code, called_code, passed_code, spawn_code, value_call_code, unlocked_code, place_call_code, cast_code, field_code, unary_place_code, expression_code, arguments_code, place_code, elements_code, right_code, simple_code, with_variable, zero_code, initial_code, local_code, first_code, behind_first, step_code, test_code, turn_code, Around, opened, looping, jump_code, result_code, return_code, if_code, choice_code, loop_code, behind_statement, statement_code, statements_code, behind_statements, in_function, around_body, function_code, functions_code}
-use Rattle.sharc_flat.specs.Laid.{told_by, with_texts, AreLaid}
+use Rattle.sharc_flat.specs.{declared.slot.Slot.Slot, declared.slot.Lvalue.Lvalue, Scope.{Context, at_site, pops, ends_from, leaves}, Places.{Target, index_width, base_width, global_of, own_field, target, variable, in_global, has_base, index_code, pointee_code, guard_code, drop_base, settle_base, copy_code, cell_value_code, value_code, settle_code, cell_store_code, store_code, cell_take_code, take_code, width_code, bounds_code}, Flattened.{kind_of, ints_of, refs_of, declared_lvalue, guard_of, lvalue_in, mode_of, is_ref, target_of, what_names, lvalue_code, constant_code, named_code, drop_code, truth_code, differ_code, compare_code, logical_code, either_code, unary_code, binary_code, wait_code, condition_code, called_code, passed_code, spawn_code, value_call_code, unlocked_code, place_call_code, cast_code, field_code, unary_place_code, expression_code, arguments_code, place_code, elements_code, right_code, simple_code, with_variable, zero_code, initial_code, local_code, first_code, behind_first, step_code, test_code, turn_code, Around, opened, looping, jump_code, result_code, return_code, if_code, choice_code, loop_code, behind_statement, statement_code, statements_code, behind_statements, in_function, around_body, function_code, functions_code}, Laid.{told_by, with_texts, AreLaid}}
 
 -- a mutex is unlocked, and then the thread waits at the cell
 pub record IsWaited (c : Cell) (os : List Op) : Type 0 where

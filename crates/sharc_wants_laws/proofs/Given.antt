@@ -1,24 +1,13 @@
 -- What a thread holds with some fuel and not with more it has given up between.
-use Rattle.std.proofs.Common.{◌≡◌, ℕ, ◌+◌, ◌<◌, ◌⊎◌, inl, inr, Bool, true, false, cond, List, [], ◌∷◌, ◌++◌, length, map, refl, sym, ap, ◌∙◌, arith, append_assoc, append-nil, ◌==◌, eqb-true}
-use Rattle.std.proofs.lemmas.List.{length-append, length-map}
-use Rattle.std.proofs.lemmas.List.Sums.{sum_by-append, sum_by-cons}
-use Rattle.sharc_tree.specs.Low.{IsLow}
-use Rattle.sharc_tree.specs.Placed.{IsPlaced}
-use Rattle.sharc_tree.specs.declared.event.SourceEvent.{SourceEvent}
+use Rattle.std.proofs.{Common.{◌≡◌, ℕ, ◌+◌, ◌<◌, ◌⊎◌, inl, inr, Bool, true, false, cond, List, [], ◌∷◌, ◌++◌, length, map, refl, sym, ap, ◌∙◌, arith, append_assoc, append-nil, ◌==◌, eqb-true}, lemmas.List.{length-append, length-map}, lemmas.List.Sums.{sum_by-append, sum_by-cons}}
+use Rattle.sharc_tree.specs.{Low.IsLow, Placed.IsPlaced, declared.event.SourceEvent.SourceEvent}
 use Rattle.sharc_ctype.specs.Resolved.{IsResolved}
 use Rattle.sharc_mode.specs.Moded.{Assignment}
-use Rattle.sharc_meaning.specs.declared.given.GivenUp.{GivenUp}
-use Rattle.sharc_meaning.specs.declared.given.GivenUp.TheVariants.{Emptied, Released, Replaced}
-use Rattle.sharc_meaning.specs.Events.{events_of}
-use Rattle.sharc_meaning.specs.Laws.{AskLaws}
-use Rattle.sharc_meaning.specs.References.{Begun, asked_with, held_count}
-use Rattle.sharc_meaning.specs.Runs.{answers_of, by}
+use Rattle.sharc_meaning.specs.{declared.given.GivenUp.GivenUp, declared.given.GivenUp.TheVariants.{Emptied, Released, Replaced}, Events.events_of, Laws.AskLaws, References.{Begun, asked_with, held_count}, Runs.{answers_of, by}}
 use Rattle.sharc_meaning_laws.specs.Held.{HeldAreHeldOn, released, releases}
-use Rattle.sharc_code.specs.declared.code.Code.{Code}
-use Rattle.sharc_code.specs.Machine.{Machine}
+use Rattle.sharc_code.specs.{declared.code.Code.Code, Machine.Machine}
 use Rattle.sharc_guard.specs.Counted.{IsReleased}
-use Rattle.sharc_wants_laws.specs.Holding.{IsLowered}
-use Rattle.sharc_wants_laws.specs.InFlight.{IsInFlight, IsPastEvents, is_given}
+use Rattle.sharc_wants_laws.specs.{Holding.IsLowered, InFlight.{IsInFlight, IsPastEvents, is_given}}
 
 -- ---- lists
 none_of : (A : Type 0) (xs : List A) → length xs ≡ 0 → xs ≡ []

@@ -1,41 +1,19 @@
 -- At a test that passed no cell is a reference to the object by the history, nor is anything else but the one that is tested.
-use Rattle.std.proofs.Common.{◌≡◌, ◌⊎◌, ⊎_elim, ℕ, pos, ◌+◌, ◌-◌, ◌<◌, ◌≤◌, true, false, List, ◌∷◌, length, Option, Some, None, refl, sym, ap, ◌∙◌, subst, arith}
+use Rattle.std.proofs.{Common.{◌≡◌, ◌⊎◌, ⊎_elim, ℕ, pos, ◌+◌, ◌-◌, ◌<◌, ◌≤◌, true, false, List, ◌∷◌, length, Option, Some, None, refl, sym, ap, ◌∙◌, subst, arith}, lemmas.Bool.cases_lt}
 use Rattle.std.specs.Prelude.{slice_index, slice_index_or}
-use Rattle.std.proofs.lemmas.Bool.{cases_lt}
-use Rattle.sharc_tree.specs.declared.event.Object.{Object}
+use Rattle.sharc_tree.specs.{declared.event.Object.Object, declared.event.SourceEvent.SourceEvent, declared.tree.item.GlobalForm.GlobalForm}
 use Rattle.sharc_tree.specs.declared.event.Object.TheVariants as objects
-use Rattle.sharc_tree.specs.declared.event.SourceEvent.{SourceEvent}
-use Rattle.sharc_tree.specs.declared.tree.item.GlobalForm.{GlobalForm}
 use Rattle.sharc_tree.specs.declared.tree.item.GlobalForm.TheVariants as forms
 use Rattle.sharc_mode.specs.Moded.{Assignment}
 use Rattle.sharc_ctype.specs.Globals.{elements_of}
-use Rattle.sharc_meaning.specs.Events.{latest, makes}
-use Rattle.sharc_meaning.specs.References.{Holder, References, in_argument, in_cell, in_mutex, in_thread, is_pointer_of, is_pointer_of_made, is_taken_to_free, refers}
-use Rattle.sharc_meaning.specs.Store.{form_value, global_value, initial_value, value_after}
-use Rattle.sharc_code.specs.declared.code.Code.{Code}
-use Rattle.sharc_code.specs.declared.shape.Shape.{Shape}
-use Rattle.sharc_code.specs.Arithmetic.{int_of}
-use Rattle.sharc_code.specs.Layout.{Fits}
-use Rattle.sharc_code.specs.Ranges.{IsInGlobal, first_place}
-use Rattle.sharc_code.specs.Runs.{Turn}
-use Rattle.sharc_code.specs.Says.{no_global}
-use Rattle.sharc_code.specs.Whole.{CheckedRun}
+use Rattle.sharc_meaning.specs.{Events.{latest, makes}, References.{Holder, References, in_argument, in_cell, in_mutex, in_thread, is_pointer_of, is_pointer_of_made, is_taken_to_free, refers}, Store.{form_value, global_value, initial_value, value_after}}
+use Rattle.sharc_code.specs.{declared.code.Code.Code, declared.shape.Shape.Shape, Arithmetic.int_of, Layout.Fits, Ranges.{IsInGlobal, first_place}, Runs.Turn, Says.no_global, Whole.CheckedRun}
 use Rattle.sharc_flat.specs.Tables.{globals_of}
-use Rattle.sharc_invariant.specs.Types.{Content, Integer, MutexWord, Waiters, Pointer, is_pointer, global_field}
-use Rattle.sharc_invariant.specs.Labels.{Labels}
-use Rattle.sharc_invariant.specs.Typed.{Initial, IsWellTyped}
-use Rattle.sharc_invariant.specs.State.{IsSmall}
-use Rattle.sharc_history_laws.specs.History.{history_of}
-use Rattle.sharc_history_laws.specs.Kept.{GlobalPointersAreKept, MadePointersAreKept, OthersAreInitial}
-use Rattle.sharc_history_laws.specs.Stores.{BeginsWith}
-use Rattle.sharc_accepted_laws.specs.Pointers.{GlobalsPoint, IsPointerInTable}
-use Rattle.sharc_accepted_laws.specs.TargetLaws.{HasTables}
-use Rattle.sharc_accepted_laws.specs.Targets.{targets_of}
-use Rattle.sharc_wants_laws.specs.Alone.{Passes, tested_object}
-use Rattle.sharc_wants_laws.specs.Only.{ArgumentsHoldNone, CellsHoldNone, FreedAreTaken, MutexesHoldNone, ThreadsHoldNone}
-
-yes : true ≡ false → ⊥
-yes e = cc
+use Rattle.sharc_invariant.specs.{Types.{Content, Integer, MutexWord, Waiters, Pointer, is_pointer, global_field}, Labels.Labels, Typed.{Initial, IsWellTyped}, State.IsSmall}
+use Rattle.sharc_history_laws.specs.{History.history_of, Kept.{GlobalPointersAreKept, MadePointersAreKept, OthersAreInitial}, Stores.BeginsWith}
+use Rattle.sharc_accepted_laws.specs.{Pointers.{GlobalsPoint, IsPointerInTable}, TargetLaws.HasTables, Targets.targets_of}
+use Rattle.sharc_wants_laws.specs.{Alone.{Passes, tested_object}, Only.{ArgumentsHoldNone, CellsHoldNone, FreedAreTaken, MutexesHoldNone, ThreadsHoldNone}}
+use Rattle.sharc_lemmas.proofs.Bools.{yes}
 
 -- a pointer begins as NULL
 null_word : (a : Content) (v : ℕ) → is_pointer a ≡ true → Initial a v → v ≡ 0

@@ -1,44 +1,20 @@
 -- From the registers of code to what the program holds that was asked by the answers of its own events.
-use Rattle.std.proofs.Common.{◌≡◌, ◌≢◌, ℕ, zero, suc, ℤ, pos, ◌+◌, ◌^◌, ◌<◌, ◌⊎◌, inl, inr, ⊎_elim, Bool, List, [], ◌∷◌, ◌++◌, length, map, refl, sym, ap, ◌∙◌, subst, arith, get_or, slice_get, append_assoc, append-nil, cond, ◌==◌, eq-eqb, true, false}
+use Rattle.std.proofs.{Common.{◌≡◌, ◌≢◌, ℕ, zero, suc, ℤ, pos, ◌+◌, ◌^◌, ◌<◌, ◌⊎◌, inl, inr, ⊎_elim, Bool, List, [], ◌∷◌, ◌++◌, length, map, refl, sym, ap, ◌∙◌, subst, arith, get_or, slice_get, append_assoc, append-nil, cond, ◌==◌, eq-eqb, true, false}, lemmas.Bool.false≢true, lemmas.List.{length-map, get_or-set_other}}
 use Rattle.std.specs.Prelude.{slice_index, slice_index_or, slice_set}
-use Rattle.std.proofs.lemmas.Bool.{false≢true}
-use Rattle.std.proofs.lemmas.List.{length-map, get_or-set_other}
-use Rattle.sharc_tree.specs.declared.event.CellAt.{CellAt}
-use Rattle.sharc_tree.specs.declared.event.SourceEvent.{SourceEvent}
+use Rattle.sharc_tree.specs.{declared.event.CellAt.CellAt, declared.event.SourceEvent.SourceEvent}
 use Rattle.sharc_mode.specs.Moded.{Assignment}
-use Rattle.sharc_meaning.specs.declared.given.GivenUp.{GivenUp}
-use Rattle.sharc_meaning.specs.declared.given.GivenUp.TheVariants.{Emptied, Released, Replaced}
+use Rattle.sharc_meaning.specs.{declared.given.GivenUp.GivenUp, declared.given.GivenUp.TheVariants.{Emptied, Released, Replaced}, Reference.number_of, Runs.{IsNamedAt, answers_of}}
 use Rattle.sharc_meaning.specs.Meaning as Meaning
-use Rattle.sharc_meaning.specs.Reference.{number_of}
-use Rattle.sharc_code.specs.declared.code.Code.{Code}
-use Rattle.sharc_code.specs.declared.instr.Instr.{Instr}
-use Rattle.sharc_code.specs.declared.instr.Instr.TheVariants.{Exit, TestSole, Free}
-use Rattle.sharc_code.specs.declared.shape.Shape.{Shape}
-use Rattle.sharc_code.specs.declared.code.Function.{Function}
-use Rattle.sharc_code.specs.Machine.{Machine, instr_at, no_function, function_of}
+use Rattle.sharc_code.specs.{declared.code.Code.Code, declared.instr.Instr.TheVariants.{Exit, TestSole, Free}, declared.shape.Shape.Shape, declared.code.Function.Function, Machine.{Machine, instr_at, no_function, function_of}, Says.reference}
 use Rattle.sharc_ctype.specs.Resolved.{function_at}
-use Rattle.sharc_meaning.specs.Runs.{IsNamedAt, answers_of}
-use Rattle.sharc_code.specs.Says.{reference}
-use Rattle.sharc_flat_form.specs.Machine.{Flat, At, Came, Turn, goes, asks, halts, turn, on_turn, exec, start}
-use Rattle.sharc_flat_form.specs.Path.{at_after, asked, PathsAreRuns}
+use Rattle.sharc_flat_form.specs.{Machine.{Flat, At, Came, Turn, goes, asks, halts, turn, on_turn, exec, start}, Path.{at_after, asked, PathsAreRuns}}
 use Rattle.sharc_flat.specs.Correct.{AsksTheSame, MayStart}
-use Rattle.sharc_guarded_form.specs.declared.guarded.Guarded.{Guarded}
-use Rattle.sharc_guarded_form.specs.Machine.{Program, Thread, statement_at}
-use Rattle.sharc_guarded_form.specs.Path.{started, thread_after}
-use Rattle.sharc_gen.specs.Consistent.{Elements, IsNumber}
-use Rattle.sharc_gen.specs.Correct.{by, begins, HasCome}
-use Rattle.sharc_gen.specs.Generated.{IsGenerated, instr_of, program_of}
-use Rattle.sharc_gen.specs.Related.{IsReference, IsAt, IsLinking}
-use Rattle.sharc_guard.specs.Correct.{Resolved}
-use Rattle.sharc_guard.specs.Counted.{AreLowered, GuardedCounts, IsReleased, IsReplaced, LocksStand, OnWay, Quietly}
-use Rattle.sharc_guard.specs.Guard.{entered_at, guarded, place}
-use Rattle.sharc_guard.specs.Level.{IsLevel}
+use Rattle.sharc_guarded_form.specs.{declared.guarded.Guarded.Guarded, Machine.{Program, Thread, statement_at}, Path.{started, thread_after}}
+use Rattle.sharc_gen.specs.{Consistent.{Elements, IsNumber}, Correct.{by, begins, HasCome}, Generated.{IsGenerated, instr_of, program_of}, Related.{IsReference, IsAt, IsLinking}}
+use Rattle.sharc_guard.specs.{Correct.Resolved, Counted.{AreLowered, GuardedCounts, IsReleased, IsReplaced, LocksStand, OnWay, Quietly}, Guard.{entered_at, guarded, place}, Level.IsLevel}
 use Rattle.sharc_invariant.specs.Words.{is_freed, register_of}
-use Rattle.sharc_wants_laws.specs.Holding.{IsAccounted, IsLowered, IsTested, IsHolding, IsHoldingThere}
-use Rattle.sharc_wants_laws.specs.Emptying.{IsEmptying}
-use Rattle.sharc_wants_laws.proofs.Emptying.{at_free, not_linking}
-use Rattle.sharc_wants_laws.proofs.Testing.{test_is, no_free, tested}
-use Rattle.sharc_wants_laws.proofs.SoleQuiet.{IsQuiet, line_quiet, same_given, given_in, given_same, given_path, are_own, beyond}
+use Rattle.sharc_wants_laws.specs.{Holding.{IsAccounted, IsLowered, IsTested, IsHolding, IsHoldingThere}, Emptying.IsEmptying}
+use Rattle.sharc_wants_laws.proofs.{Emptying.{at_free, not_linking}, Testing.{test_is, no_free, tested}, SoleQuiet.{IsQuiet, line_quiet, same_given, given_in, given_same, given_path, are_own, beyond}, Wanting.{mapped_at, answers_by}}
 
 -- ---- what flat code does without an answer
 pub record Way (flat : Flat) (m final : At) : Type 0 where
@@ -76,10 +52,6 @@ way flat (suc k) m = by_turn (turn flat m) refl (line_quiet flat (slice_get flat
     by_turn (halts o) e q rec = record { turns = 0; mid = m; quietly = refl; refs = refl; events = refl; same_events = refl; more = []; more_given = same_given m; extra = []; given = same_given m }
 
 -- ---- events
-pub answers_by : (t : ℕ) (es : List SourceEvent) → answers_of (map (by t) es) ≡ answers_of es
-answers_by t [] = refl
-answers_by t (e ∷ es) = ap (λ xs. e.answer ∷ xs) (answers_by t es)
-
 -- ---- numbers
 pub number_is : (n e : ℕ) → IsNumber n → number_of (reference n e) ≡ n
 number_is zero e h = refl
@@ -103,11 +75,6 @@ released_more (Replaced c ∷ gs) extra n h = released_more gs extra n h
 released_more (Emptied g ∷ gs) extra n h = released_more gs extra n h
 
 -- ---- instructions
-pub mapped_at : (f : Instr → Instr) (xs : List Instr) (n : ℕ) → f Exit ≡ Exit → slice_index_or (map f xs) n Exit ≡ f (slice_index_or xs n Exit)
-mapped_at f [] n e = sym e
-mapped_at f (x ∷ xs) zero e = refl
-mapped_at f (x ∷ xs) (suc n) e = mapped_at f xs n e
-
 module _ (runs : PathsAreRuns) (counts : GuardedCounts) (m : Assignment) (flat : Flat) (same : AsksTheSame m flat) (level : IsLevel flat) (locks : LocksStand flat) (dropped : ℕ → Bool) (g : Guarded) (code : Code)
     (made : program_of g ≡ guarded dropped flat) (is : IsGenerated g code) (named : (f : ℕ) → f < length code.functions.items → IsNamedAt (function_at m.typed f) (function_of code f).site) (s : Shape) (T : Elements) (thread : ℕ) (at : Machine) (said : List SourceEvent) (lowered : List ℕ) (paced : ℕ)
     (h0 : HasCome code s (program_of g) T thread at said lowered paced) where

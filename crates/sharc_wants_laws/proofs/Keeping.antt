@@ -4,15 +4,11 @@ use Rattle.sharc_tree.specs.declared.event.SourceEvent.{SourceEvent}
 use Rattle.sharc_ctype.specs.Resolved.{function_at}
 use Rattle.sharc_ctype_laws.specs.Declared.{NameThemselves}
 use Rattle.sharc_mode.specs.Moded.{Assignment}
-use Rattle.sharc_meaning.specs.Events.{events_of}
-use Rattle.sharc_meaning.specs.References.{Begun}
-use Rattle.sharc_meaning.specs.Runs.{IsNamedAt, by}
-use Rattle.sharc_code.specs.declared.code.Code.{Code}
-use Rattle.sharc_code.specs.Machine.{Machine}
+use Rattle.sharc_meaning.specs.{Events.events_of, References.Begun, Runs.{IsNamedAt, by}}
+use Rattle.sharc_code.specs.{declared.code.Code.Code, Machine.Machine}
 use Rattle.sharc_flat.specs.Correct.{MayStart}
 use Rattle.sharc_wants_laws.specs.Registered.{HoldsRegistered}
-use Rattle.sharc_wants_laws.proofs.Registering.{HoldsThere, StandsThere}
-use Rattle.sharc_wants_laws.proofs.Seeing.{first_event, no_first, same_argument, same_function, same_head, same_tail}
+use Rattle.sharc_wants_laws.proofs.{Registering.{HoldsThere, StandsThere}, Seeing.{first_event, no_first, same_argument, same_function, same_head, same_tail}}
 
 module _ (m : Assignment) (names : NameThemselves m.typed) (code : Code) (R : List SourceEvent) (thread : ℕ) (at : Machine) (said : List SourceEvent) (is : events_of thread R ≡ said) (b : Begun m R thread) (may : MayStart m b.own.function) where
   own_events : events_of thread R ≡ b.own.begins ∷ events_of thread b.own.after

@@ -1,22 +1,12 @@
 -- At a test that passed no argument, no held mutex and no pointer cell but of an object that is being freed refers to
 -- the object.
-use Rattle.std.proofs.Common.{◌≡◌, ◌≢◌, ℕ, ℤ, pos, negsuc, ◌+◌, true, List, refl, sym, ap, ◌∙◌, eqb-true}
+use Rattle.std.proofs.{Common.{◌≡◌, ◌≢◌, ℕ, ℤ, pos, negsuc, ◌+◌, true, List, refl, sym, ap, ◌∙◌, eqb-true}, lemmas.Bool.{and_parts, false≢true}}
 use Rattle.std.specs.Prelude.{Any}
-use Rattle.std.proofs.lemmas.Bool.{and_parts, false≢true}
-use Rattle.sharc_tree.specs.declared.event.Act.{Act}
-use Rattle.sharc_tree.specs.declared.event.Act.TheVariants.{Spawn}
-use Rattle.sharc_tree.specs.declared.event.SourceEvent.{SourceEvent}
+use Rattle.sharc_tree.specs.{declared.event.Act.Act, declared.event.Act.TheVariants.Spawn, declared.event.SourceEvent.SourceEvent}
 use Rattle.sharc_ctype.specs.Resolved.{Resolution, function_at}
-use Rattle.sharc_meaning.specs.References.{has_pointer, passes, refers}
-use Rattle.sharc_meaning.specs.Store.{is_natural, is_spawn, spawns}
-use Rattle.sharc_code.specs.declared.code.Code.{Code}
-use Rattle.sharc_code.specs.declared.instr.Instr.TheVariants.{TestSole}
-use Rattle.sharc_code.specs.declared.shape.Shape.{Shape}
-use Rattle.sharc_code.specs.Machine.{Machine, instr_at}
-use Rattle.sharc_code.specs.Runs.{Global}
-use Rattle.sharc_invariant.specs.Types.{Targets}
-use Rattle.sharc_invariant.specs.World.{ObjectState}
-use Rattle.sharc_invariant.specs.MachineInvariant.{IsAlone}
+use Rattle.sharc_meaning.specs.{References.{has_pointer, passes, refers}, Store.{is_natural, is_spawn, spawns}}
+use Rattle.sharc_code.specs.{declared.code.Code.Code, declared.instr.Instr.TheVariants.TestSole, declared.shape.Shape.Shape, Machine.{Machine, instr_at}, Runs.Global}
+use Rattle.sharc_invariant.specs.{Types.Targets, World.ObjectState, MachineInvariant.IsAlone}
 use Rattle.sharc_history_laws.specs.SeenCells.{IsBeingFreed}
 use Rattle.sharc_wants_laws.proofs.Cause.{no_free, register_there}
 

@@ -1,35 +1,16 @@
 -- A thread that holds a reference has a register that refers to its object, which is live, and at a test that passed there
 -- is only the one that is tested.
-use Rattle.std.proofs.Common.{◌≡◌, ℕ, zero, suc, pos, ◌+◌, ◌<◌, ◌≤◌, ⊎_elim, Bool, true, false, cond, List, [], ◌∷◌, refl, sym, ap, ◌∙◌, subst, arith, get_or}
+use Rattle.std.proofs.{Common.{◌≡◌, ℕ, zero, suc, pos, ◌+◌, ◌<◌, ◌≤◌, ⊎_elim, Bool, true, false, cond, List, [], ◌∷◌, refl, sym, ap, ◌∙◌, subst, arith, get_or}, lemmas.Bool.cases_eq, lemmas.List.Sums.sum_by-cons}
 use Rattle.std.specs.Prelude.{count_by, slice_index}
-use Rattle.std.proofs.lemmas.Bool.{cases_eq}
-use Rattle.std.proofs.lemmas.List.Sums.{sum_by-cons}
 use Rattle.sharc_tree.specs.declared.event.SourceEvent.{SourceEvent}
 use Rattle.sharc_mode.specs.Moded.{Assignment}
 use Rattle.sharc_ctype_laws.specs.Declared.{NameThemselves}
 use Rattle.sharc_ctype.specs.Resolved.{function_at}
-use Rattle.sharc_meaning.specs.Events.{events_of}
-use Rattle.sharc_meaning.specs.References.{Begun, asked_with, held_count, refers}
-use Rattle.sharc_meaning.specs.Runs.{IsNamedAt}
-use Rattle.sharc_code.specs.declared.code.Code.{Code}
-use Rattle.sharc_code.specs.declared.instr.Cell.{Cell}
-use Rattle.sharc_code.specs.declared.instr.Instr.{Instr}
-use Rattle.sharc_code.specs.declared.instr.Instr.TheVariants.{Free, RaiseLoaded, TestSole}
-use Rattle.sharc_code.specs.declared.shape.Shape.{Shape}
-use Rattle.sharc_code.specs.declared.state.Stage.{Stage}
-use Rattle.sharc_code.specs.Machine.{Machine, instr_at}
-use Rattle.sharc_code.specs.Path.{begun}
-use Rattle.sharc_code.specs.Runs.{Global}
+use Rattle.sharc_meaning.specs.{Events.events_of, References.{Begun, asked_with, held_count, refers}, Runs.IsNamedAt}
+use Rattle.sharc_code.specs.{declared.code.Code.Code, declared.instr.Cell.Cell, declared.instr.Instr.Instr, declared.instr.Instr.TheVariants.{Free, RaiseLoaded, TestSole}, declared.shape.Shape.Shape, declared.state.Stage.Stage, Machine.{Machine, instr_at}, Path.begun, Runs.Global}
 use Rattle.sharc_flat.specs.Correct.{MayStart}
-use Rattle.sharc_invariant.specs.Types.{Targets}
-use Rattle.sharc_invariant.specs.Labels.{Closed, Gate, Label, Labels, LessGate, Loaded}
-use Rattle.sharc_invariant.specs.Typed.{Fine, IsWellTyped}
-use Rattle.sharc_invariant.specs.World.{ObjectState}
-use Rattle.sharc_invariant.specs.Words.{is_freed}
-use Rattle.sharc_invariant.specs.State.{label_now, number_in, object_of_cell}
-use Rattle.sharc_invariant.specs.MachineInvariant.{IsAlone, MachineInvariant, WindowStands, cell_refers, label_of, register_refers}
-use Rattle.sharc_wants_laws.specs.Registered.{HoldsRegistered, IsLoadedHere, IsRegistered}
-use Rattle.sharc_wants_laws.specs.Sole.{HaveBegun}
+use Rattle.sharc_invariant.specs.{Types.Targets, Labels.{Closed, Gate, Label, Labels, LessGate, Loaded}, Typed.{Fine, IsWellTyped}, World.ObjectState, Words.is_freed, State.{label_now, number_in, object_of_cell}, MachineInvariant.{IsAlone, MachineInvariant, WindowStands, cell_refers, label_of, register_refers}}
+use Rattle.sharc_wants_laws.specs.{Registered.{HoldsRegistered, IsLoadedHere, IsRegistered}, Sole.HaveBegun}
 use Rattle.sharc_wants_laws.proofs.Seeing.{first_event, no_first, same_function, same_head}
 
 -- ---- which of a list

@@ -1,34 +1,17 @@
 -- Flat code by what its events answer: the same path by those answers.
-use Rattle.std.proofs.Common.{◌≡◌, ℕ, zero, suc, ℤ, pos, negsuc, ◌+◌, ◌-◌, ◌*◌, ◌≤◌, ◌⊎◌, inl, inr, Bool, true, false, not, List, [], ◌∷◌, ◌++◌, length, refl, sym, ap, ◌∙◌, subst, arith, Some, None, Option, Ok, Err, Result, nat_lt, cond, slice_get, append_assoc, append-nil}
-use Rattle.std.proofs.lemmas.List.{map-append}
-use Rattle.sharc_tree.specs.declared.event.Act.{Act}
+use Rattle.std.proofs.{Common.{◌≡◌, ℕ, zero, suc, ℤ, pos, negsuc, ◌+◌, ◌-◌, ◌*◌, ◌≤◌, ◌⊎◌, inl, inr, Bool, true, false, not, List, [], ◌∷◌, ◌++◌, length, refl, sym, ap, ◌∙◌, arith, Some, None, Option, Ok, Err, Result, nat_lt, cond, slice_get, append_assoc, append-nil}, lemmas.List.map-append}
+use Rattle.sharc_tree.specs.{declared.event.Act.Act, declared.event.CellAt.CellAt, declared.event.CellMode.CellMode, declared.event.SourceEvent.SourceEvent, declared.trap.Trap.Trap}
 use Rattle.sharc_tree.specs.declared.event.Act.TheVariants as acts
-use Rattle.sharc_tree.specs.declared.event.CellAt.{CellAt}
-use Rattle.sharc_tree.specs.declared.event.CellMode.{CellMode}
-use Rattle.sharc_tree.specs.declared.event.SourceEvent.{SourceEvent}
 use Rattle.sharc_tree.specs.declared.event.Taken.TheVariants as taken
-use Rattle.sharc_tree.specs.declared.trap.Trap.{Trap}
 use Rattle.sharc_tree.specs.declared.trap.Trap.TheVariants as traps
-use Rattle.sharc_meaning.specs.declared.given.GivenUp.TheVariants.{Replaced}
-use Rattle.sharc_meaning.specs.Arithmetic.{is_zero}
-use Rattle.sharc_meaning.specs.Events.{held_mutexes, holds_mutex}
-use Rattle.sharc_meaning.specs.Reference.{is_null, elements_of}
-use Rattle.sharc_meaning.specs.Runs.{answers_of}
-use Rattle.sharc_meaning.specs.State.{answer_of, event_of}
-use Rattle.sharc_meaning.specs.Statements.{is_positive}
-use Rattle.sharc_code.specs.Arithmetic.{computed, negated, holds}
-use Rattle.sharc_code.specs.declared.code.GlobalCells.{GlobalCells}
-use Rattle.sharc_code.specs.declared.code.Parameter.{Parameter}
+use Rattle.sharc_meaning.specs.{declared.given.GivenUp.TheVariants.Replaced, Arithmetic.is_zero, Events.{held_mutexes, holds_mutex}, Reference.{is_null, elements_of}, Runs.answers_of, State.{answer_of, event_of}, Statements.is_positive}
+use Rattle.sharc_code.specs.{Arithmetic.{computed, negated, holds}, declared.code.GlobalCells.GlobalCells, declared.instr.Cell.Cell}
 use Rattle.sharc_code.specs.declared.code.Parameter.TheVariants as parameters
-use Rattle.sharc_code.specs.declared.instr.Cell.{Cell}
 use Rattle.sharc_code.specs.declared.instr.Cell.TheVariants as cells
-use Rattle.sharc_code.specs.declared.instr.Register.{Register}
 use Rattle.sharc_code.specs.declared.instr.Register.TheVariants as registers
-use Rattle.sharc_flat_form.specs.declared.op.Op.{Op}
+use Rattle.sharc_flat_form.specs.{declared.op.Op.Op, declared.op.Spot.Spot, Machine.{Flat, At, Caller, Turn, goes, asks, halts, int, ref, goes_on, next, over_lines, stops, asserts, with_result, set_int, set_ref, gives_up, kind_of, cell_at, mode_of, accessed, accesses, lock_is_null, indexed, takes_local, returned, called, op_turn, end_turn, line_turn, turn, on_turn, exec, start, with_event}, Path.{after, at_after, asked, asked_by, IsPath, PathsAreRuns}}
 use Rattle.sharc_flat_form.specs.declared.op.Op.TheVariants as op
-use Rattle.sharc_flat_form.specs.declared.op.Spot.{Spot}
-use Rattle.sharc_flat_form.specs.Machine.{Flat, At, Caller, Turn, goes, asks, halts, int, ref, goes_on, next, over_lines, stops, asserts, with_result, set_int, set_ref, gives_up, kind_of, cell_at, mode_of, accessed, accesses, lock_is_null, indexed, takes_local, returned, called, op_turn, end_turn, line_turn, turn, on_turn, exec, start, begun, first_at, function_of, handed, with_event, without_base}
-use Rattle.sharc_flat_form.specs.Path.{after, at_after, may_go, asked, asked_by, IsPath, PathsAreRuns}
+use Rattle.sharc_wants_laws.proofs.SoleQuiet.{given_same, no_events, base_events, handed_events}
 
 -- ---- what reports no event
 -- a turn before it is answered; and what comes with the answer reports none besides
@@ -70,16 +53,6 @@ returned_quiet flat (c ∷ rest) spot m = refl
 takes_quiet : (r x : ℕ) (spot : Spot) (m : At) (b : Bool) → IsQuiet m (takes_local r x spot m b)
 takes_quiet r x spot m true = refl
 takes_quiet r x spot m false = (refl, λ v n. refl)
-
-base_events : (cell : Cell) (n : At) → (without_base cell n).events ≡ n.events
-base_events (cells.Global g place) n = refl
-base_events (cells.GlobalAt g i) n = refl
-base_events (cells.Object r k) n = refl
-base_events (cells.ObjectAt r i) n = refl
-
-handed_events : (from : Register) (n : At) → (handed from n).events ≡ n.events
-handed_events (registers.Int i) n = refl
-handed_events (registers.Reference r) n = refl
 
 op_quiet : (flat : Flat) (o : Op) (m : At) → IsQuiet m (op_turn flat o m)
 op_quiet flat (op.Compute width o i a b spot) m = result_quiet i spot m (computed width o (int m a) (int m b))
@@ -150,26 +123,6 @@ abbrev pub given_in : Flat → At → List ℤ → List ℤ
 given_in flat m [] = []
 given_in flat m (x ∷ earlier) = given_by (turn flat (at_after flat m earlier)) x ∷ given_in flat m earlier
 
-again : (held : ℤ) (act : Act) (x : ℤ) → answer_of (λ token. held) act (answer_of (λ token. held) act x) ≡ answer_of (λ token. held) act x
-again held (acts.Take (taken.Cell c mode) kind) x = refl
-again held (acts.Take (taken.Local token) kind) x = refl
-again held _ x = refl
-
-same_after : (m : At) (t : Turn) (x : ℤ) → after m t (given_by t x) ≡ after m t x
-same_after m (goes m2) x = refl
-same_after m (asks m2 site act held go) x = ap (λ a. go a (with_event (event_of site act a) m2)) (again held act x)
-same_after m (halts o) x = refl
-
-pub given_same : (flat : Flat) (m : At) (answers : List ℤ) → at_after flat m (given_in flat m answers) ≡ at_after flat m answers
-given_same flat m [] = refl
-given_same flat m (x ∷ earlier) =
-    let t = turn flat (at_after flat m earlier) in
-    ap (λ n. after n (turn flat n) (given_by t x)) (given_same flat m earlier) ∙ same_after (at_after flat m earlier) t x
-
-pub given_path : (flat : Flat) (m : At) (answers : List ℤ) → IsPath flat m answers → IsPath flat m (given_in flat m answers)
-given_path flat m [] path = tt
-given_path flat m (x ∷ earlier) path = (given_path flat m earlier path.0, subst (λ n. may_go (turn flat n) ≡ true) (sym (given_same flat m earlier)) path.1)
-
 -- each turn that asks reports one event, with this answer
 told_one : (t : Turn) (now : At) (x : ℤ) → IsQuiet now t → answers_of (after now t x).events ≡ answers_of now.events ++ asked_by t (given_by t x)
 told_one (goes m2) now x q = ap answers_of q ∙ sym (append-nil (answers_of now.events))
@@ -187,14 +140,6 @@ told_all flat m (x ∷ earlier) =
     told_one t now x (turn_quiet flat now) ∙ ap (λ xs. xs ++ asked_by t (given_by t x)) (told_all flat m earlier)
     ∙ append_assoc (answers_of m.events) (asked flat m (given_in flat m earlier)) (asked_by t (given_by t x))
     ∙ ap (λ n. answers_of m.events ++ (asked flat m (given_in flat m earlier) ++ asked_by (turn flat n) (given_by t x))) (sym (given_same flat m earlier))
-
-no_events : (flat : Flat) (f : ℕ) (v : ℤ) → (start flat f v).events ≡ []
-no_events flat f v = by (function_of flat f).parameter
-  where
-    by : (q : Parameter) → (begun q v (first_at flat f)).events ≡ []
-    by parameters.None = refl
-    by parameters.Int = refl
-    by parameters.Reference = refl
 
 -- the answers are those of the path's own events
 pub are_own : (flat : Flat) (f : ℕ) (v : ℤ) (answers : List ℤ) → asked flat (start flat f v) (given_in flat (start flat f v) answers) ≡ answers_of (at_after flat (start flat f v) answers).events

@@ -3,31 +3,19 @@ use Rattle.std.proofs.Common.{◌≡◌, ℕ, ◌+◌, ◌<◌, ◌⊎◌, inl, 
 use Rattle.std.specs.Prelude.{◌==◌, slice_index}
 use Rattle.sharc_tree.specs.declared.event.SourceEvent.{SourceEvent}
 use Rattle.sharc_mode.specs.Moded.{Assignment}
-use Rattle.sharc_meaning.specs.Events.{events_of}
-use Rattle.sharc_meaning.specs.References.{Begun, in_thread}
-use Rattle.sharc_code.specs.declared.code.Code.{Code}
-use Rattle.sharc_code.specs.declared.instr.Instr.TheVariants.{TestSole}
-use Rattle.sharc_code.specs.declared.shape.Shape.{Shape}
-use Rattle.sharc_code.specs.Machine.{Machine, instr_at, ref}
-use Rattle.sharc_code.specs.Path.{begun}
-use Rattle.sharc_code.specs.Runs.{Global, Turn, turns_of}
-use Rattle.sharc_code.specs.Whole.{CheckedRun, Erase, place_after}
+use Rattle.sharc_meaning.specs.{Events.events_of, References.{Begun, in_thread}}
+use Rattle.sharc_code.specs.{declared.code.Code.Code, declared.instr.Instr.TheVariants.TestSole, declared.shape.Shape.Shape, Machine.{Machine, instr_at, ref}, Path.begun, Runs.{Global, Turn, turns_of}, Whole.{CheckedRun, Erase, place_after}}
 use Rattle.sharc_flat.specs.Correct.{MayStart}
-use Rattle.sharc_gen.specs.Consistent.{IsConsistent}
-use Rattle.sharc_gen.specs.OfRuns.{elements_before, founds_of, told_in}
-use Rattle.sharc_invariant.specs.MachineInvariant.{register_refers}
-use Rattle.sharc_invariant.specs.Words.{is_freed, register_of}
-use Rattle.sharc_wants_laws.specs.Seeing.{CastersHold, ThreadsSee}
-use Rattle.sharc_wants_laws.specs.Sole.{AreQuiet, HaveBegun, IsSeen, NoneIsInFlight}
+use Rattle.sharc_gen.specs.{Consistent.IsConsistent, OfRuns.{elements_before, founds_of, told_in}}
+use Rattle.sharc_invariant.specs.{MachineInvariant.register_refers, Words.{is_freed, register_of}}
+use Rattle.sharc_wants_laws.specs.{Seeing.{CastersHold, ThreadsSee}, Sole.{AreQuiet, HaveBegun, IsSeen, NoneIsInFlight}}
+use Rattle.sharc_lemmas.proofs.Bools.{yes}
 
 same_thread : (u t i j : ℕ) → in_thread u i ≡ in_thread t j → u ≡ t
 same_thread u t i j h = cc
 
 same_which : (u t i j : ℕ) → in_thread u i ≡ in_thread t j → i ≡ j
 same_which u t i j h = cc
-
-yes : true ≡ false → ⊥
-yes e = cc
 
 at_test : (code : Code) (at : Machine) (register site i : ℕ) → instr_at code at.at.pc ≡ TestSole register site → register_of code at i ≡ slice_index at.refs i
 at_test code at register site i is = ap (λ j. if is_freed j at.own.stage at.at.refs i then 0 else slice_index at.refs i) is

@@ -1,51 +1,22 @@
 -- From what the program holds to the registers of the code, by the answers of its own events.
-use Rattle.std.proofs.Common.{◌≡◌, ℕ, zero, suc, ℤ, pos, ◌+◌, ◌<◌, ◌≤◌, ◌⊎◌, inl, inr, ⊎_elim, Bool, true, false, not, ◌==◌, List, [], ◌∷◌, length, map, refl, sym, ap, ◌∙◌, subst, arith, get_or, cond, eq-eqb, eqb-true, Option, Some, None}
+use Rattle.std.proofs.{Common.{◌≡◌, ℕ, zero, suc, ℤ, pos, ◌+◌, ◌<◌, ◌≤◌, ◌⊎◌, inl, inr, ⊎_elim, Bool, true, false, not, ◌==◌, List, [], ◌∷◌, length, map, refl, sym, ap, ◌∙◌, subst, arith, get_or, cond, eq-eqb, eqb-true, Option, Some, None}, lemmas.Bool.{false≢true, and_parts, false_from_ne_true as other_register}, lemmas.List.{get_or-set_other, length-map}}
 use Rattle.std.specs.Prelude.{slice_index, slice_index_or, slice_set, IsSomeAnd}
-use Rattle.std.proofs.lemmas.Bool.{false≢true, and_parts}
-use Rattle.std.proofs.lemmas.List.{get_or-set_other, length-map}
-use Rattle.sharc_tree.specs.declared.event.Act.TheVariants.{Started}
-use Rattle.sharc_tree.specs.declared.event.SourceEvent.{SourceEvent}
+use Rattle.sharc_tree.specs.{declared.event.Act.TheVariants.Started, declared.event.SourceEvent.SourceEvent}
 use Rattle.sharc_ctype.specs.Resolved.{function_at}
 use Rattle.sharc_mode.specs.Moded.{Assignment}
 use Rattle.sharc_meaning.specs.Meaning as Meaning
-use Rattle.sharc_meaning.specs.Reference.{is_null, number_of}
-use Rattle.sharc_meaning.specs.References.{refers}
-use Rattle.sharc_meaning.specs.Runs.{IsNamedAt, answers_of}
-use Rattle.sharc_meaning.specs.State.{Outcome, wants, ended, stopped, spent}
-use Rattle.sharc_code.specs.declared.code.Code.{Code}
-use Rattle.sharc_code.specs.declared.code.Function.{Function}
-use Rattle.sharc_code.specs.declared.instr.Instr.{Instr}
-use Rattle.sharc_code.specs.declared.instr.Instr.TheVariants.{Exit, Free, Lower, MoveReference, RaiseLoaded, TestSole}
-use Rattle.sharc_code.specs.declared.shape.Shape.{Shape}
-use Rattle.sharc_code.specs.declared.state.Stage.{Stage}
-use Rattle.sharc_code.specs.declared.state.Stage.TheVariants.{Links}
-use Rattle.sharc_code.specs.declared.state.State.{State}
-use Rattle.sharc_code.specs.declared.state.State.TheVariants.{Runs, Tries, Stopped, Ended}
-use Rattle.sharc_code.specs.declared.state.Stop.{Stop}
-use Rattle.sharc_code.specs.declared.state.Stop.TheVariants.{Conflict, NoLock, NotSole, Trap as Trapped}
-use Rattle.sharc_code.specs.Machine.{Machine, instr_at, no_function, function_of}
-use Rattle.sharc_code.specs.Path.{may_go}
-use Rattle.sharc_code.specs.Says.{reference}
-use Rattle.sharc_flat_form.specs.Machine.{Flat, At, Came, exec, start, turn}
-use Rattle.sharc_flat_form.specs.Path.{at_after, asked, PathsAreRuns}
+use Rattle.sharc_meaning.specs.{Reference.{is_null, number_of}, References.refers, Runs.{IsNamedAt, answers_of}, State.{Outcome, wants, ended, stopped, spent}}
+use Rattle.sharc_code.specs.{declared.code.Code.Code, declared.code.Function.Function, declared.instr.Instr.Instr, declared.instr.Instr.TheVariants.{Exit, Free, Lower, MoveReference, RaiseLoaded, TestSole}, declared.shape.Shape.Shape, declared.state.Stage.Stage, declared.state.Stage.TheVariants.Links, declared.state.State.State, declared.state.State.TheVariants.{Runs, Tries, Stopped, Ended}, declared.state.Stop.Stop, declared.state.Stop.TheVariants.{Conflict, NoLock, NotSole, Trap as Trapped}, Machine.{Machine, instr_at, no_function, function_of}, Path.may_go, Says.reference}
+use Rattle.sharc_flat_form.specs.{Machine.{Flat, At, Came, exec, start, turn}, Path.{at_after, asked, PathsAreRuns}}
 use Rattle.sharc_flat.specs.Correct.{AsksTheSame, MayStart, SameAs}
-use Rattle.sharc_guarded_form.specs.declared.guarded.Guarded.{Guarded}
+use Rattle.sharc_guarded_form.specs.{declared.guarded.Guarded.Guarded, Machine.{Program, Thread, statement_at}, Path.{started, thread_after}}
 use Rattle.sharc_guarded_form.specs.Machine as Form
-use Rattle.sharc_guarded_form.specs.Machine.{Program, Thread, statement_at}
-use Rattle.sharc_guarded_form.specs.Path.{started, thread_after}
-use Rattle.sharc_gen.specs.Consistent.{Elements, IsNumber}
-use Rattle.sharc_gen.specs.Correct.{by, begins, HasCome}
-use Rattle.sharc_gen.specs.Generated.{IsGenerated, instr_of, program_of}
-use Rattle.sharc_gen.specs.Related.{IsAt, IsAtStage, IsLinking, IsOver, Refuses, StopsAt}
-use Rattle.sharc_guard.specs.Counted.{GuardedCounts, HasCome as Comes, Held, IsSettling, LocksStand, Tells}
-use Rattle.sharc_guard.specs.Guard.{entered_at, guarded, place}
-use Rattle.sharc_guard.specs.Level.{IsLevel}
+use Rattle.sharc_gen.specs.{Consistent.{Elements, IsNumber}, Correct.{by, begins, HasCome}, Generated.{IsGenerated, instr_of, program_of}, Related.{IsAt, IsAtStage, IsLinking, IsOver, Refuses, StopsAt}}
+use Rattle.sharc_guard.specs.{Counted.{GuardedCounts, HasCome as Comes, Held, IsSettling, LocksStand, Tells}, Guard.{entered_at, guarded, place}, Level.IsLevel}
 use Rattle.sharc_invariant.specs.Words.{is_freed, register_of}
 use Rattle.sharc_wants_laws.specs.Registered.{IsLoadedHere, IsRegistered}
-use Rattle.sharc_wants_laws.proofs.Copying.{quietly_from, more_turns}
-use Rattle.sharc_wants_laws.proofs.Holding.{Way, way, answers_by, mapped_at, number_is}
-use Rattle.sharc_wants_laws.proofs.SoleQuiet.{given_in, given_same, given_path, are_own, beyond, IsBeyond}
-use Rattle.sharc_wants_laws.proofs.Testing.{Wants, test_is, no_free, stays, wants_it}
+use Rattle.sharc_wants_laws.proofs.{Copying.{quietly_from, more_turns}, Holding.{Way, way, number_is}, SoleQuiet.{given_in, given_same, given_path, are_own, beyond, IsBeyond}, Testing.{Wants, test_is, no_free, stays, wants_it}, Wanting.{mapped_at, answers_by}}
+use Rattle.sharc_lemmas.proofs.Lists.{set_null as set_none}
 
 -- ---- references and numbers
 -- what refers is the reference to an object
@@ -58,11 +29,6 @@ referred n (suc k) e small is =
 refers_as : (n : ℕ) (a b : ℤ) → a ≡ b → refers n a ≡ true → refers n b ≡ true
 refers_as n a b same is = subst (λ v. refers n v ≡ true) same is
 
-set_none : (xs : List ℕ) (i : ℕ) → slice_index (slice_set xs i 0) i ≡ 0
-set_none [] i = refl
-set_none (x ∷ xs) zero = refl
-set_none (x ∷ xs) (suc i) = set_none xs i
-
 -- ---- registers that are not freed
 not_linking : (i : Instr) (stage : Stage) (base k : ℕ) → ((e : ℕ) → stage ≡ Links e → ⊥) → is_freed i stage base k ≡ false
 not_linking (Free r layout site) (Links e) base k never = absurd (never e refl)
@@ -71,10 +37,6 @@ not_linking _ stage base k never = refl
 
 at_no_link : (m : Machine) (i : Instr) (stage : Stage) → IsAtStage m i stage → (e : ℕ) → stage ≡ Links e → ⊥
 at_no_link m i stage there e is = subst (IsAtStage m i) is there
-
-other_register : (b : Bool) → (b ≡ true → ⊥) → b ≡ false
-other_register true never = absurd (never refl)
-other_register false never = refl
 
 chosen : (b : Bool) (v n : ℕ) → b ≡ false → v ≡ n → cond b 0 v ≡ n
 chosen b v n none is = ap (λ b. cond b 0 v) none ∙ is

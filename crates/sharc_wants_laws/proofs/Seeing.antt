@@ -1,38 +1,19 @@
 -- From what a thread's registers have to the references of its history.
-use Rattle.std.proofs.Common.{◌≡◌, ℕ, zero, suc, ℤ, pos, negsuc, ◌+◌, ◌-◌, ◌<◌, ◌≤◌, ◌⊎◌, inl, inr, Bool, true, false, cond, List, [], ◌∷◌, ◌++◌, refl, sym, ap, ◌∙◌, subst, arith, eq-eqb, get_or, nat_lt, ltb-true, ltb-false, Option, Some, None}
+use Rattle.std.proofs.{Common.{◌≡◌, ℕ, zero, suc, ℤ, pos, negsuc, ◌+◌, ◌-◌, ◌<◌, ◌≤◌, ◌⊎◌, inl, inr, Bool, true, false, cond, List, [], ◌∷◌, ◌++◌, refl, sym, ap, ◌∙◌, subst, arith, eq-eqb, get_or, nat_lt, ltb-true, ltb-false, Option, Some, None}, lemmas.List.Elements.filter-append}
 use Rattle.std.specs.Prelude.{slice_index}
-use Rattle.std.proofs.lemmas.List.Elements.{filter-append}
-use Rattle.sharc_tree.specs.declared.event.Act.TheVariants.{Started}
-use Rattle.sharc_tree.specs.declared.event.SourceEvent.{SourceEvent}
-use Rattle.sharc_tree.specs.declared.token.Site.{Site}
+use Rattle.sharc_tree.specs.{declared.event.Act.TheVariants.Started, declared.event.SourceEvent.SourceEvent, declared.token.Site.Site, Low.IsLow, Placed.IsPlaced, Tree.Function}
 use Rattle.sharc_names.specs.declared.fault.Named.TheVariants as named
-use Rattle.sharc_tree.specs.Low.{IsLow}
-use Rattle.sharc_tree.specs.Placed.{IsPlaced}
-use Rattle.sharc_tree.specs.Tree.{Function}
 use Rattle.sharc_ctype.specs.Resolved.{IsResolved, Resolution, named_at, function_at}
 use Rattle.sharc_ctype_laws.specs.Declared.{NameThemselves}
 use Rattle.sharc_mode.specs.Moded.{Assignment}
-use Rattle.sharc_meaning.specs.Events.{events_of, is_of}
-use Rattle.sharc_meaning.specs.Laws.{AskLaws}
-use Rattle.sharc_meaning.specs.Meaning.{Asked}
-use Rattle.sharc_meaning.specs.State.{wants, spent}
-use Rattle.sharc_meaning.specs.Reference.{number_of}
-use Rattle.sharc_meaning.specs.References.{refers, Begun, asked_with, held_count, ThreadHolds}
-use Rattle.sharc_meaning.specs.Runs.{IsNamedAt, answers_of}
+use Rattle.sharc_meaning.specs.{Events.{events_of, is_of}, Laws.AskLaws, Meaning.Asked, State.{wants, spent}, Reference.number_of, References.{refers, Begun, asked_with, held_count, ThreadHolds}, Runs.{IsNamedAt, answers_of}}
 use Rattle.sharc_meaning_laws.specs.Held.{HeldAreHeldOn}
-use Rattle.sharc_code.specs.declared.code.Code.{Code}
-use Rattle.sharc_code.specs.declared.instr.Instr.TheVariants.{TestSole}
-use Rattle.sharc_code.specs.declared.state.Stage.{Stage}
-use Rattle.sharc_code.specs.declared.state.Stage.TheVariants.{Lowers}
-use Rattle.sharc_code.specs.Machine.{Machine, instr_at, ref}
+use Rattle.sharc_code.specs.{declared.code.Code.Code, declared.instr.Instr.TheVariants.TestSole, declared.state.Stage.Stage, declared.state.Stage.TheVariants.Lowers, Machine.{Machine, instr_at, ref}}
 use Rattle.sharc_flat.specs.Correct.{MayStart}
 use Rattle.sharc_guard.specs.Counted.{IsGivenAway}
 use Rattle.sharc_invariant.specs.Words.{register_of, staged_of}
-use Rattle.sharc_wants_laws.specs.Emptying.{IsEmptying, is_emptying}
-use Rattle.sharc_wants_laws.specs.Holding.{IsAccounted, IsHolding, IsHoldingIn, IsLowered}
-use Rattle.sharc_wants_laws.proofs.Counting.{one_there, twice}
-use Rattle.sharc_wants_laws.proofs.Given.{left_is_given}
-use Rattle.sharc_wants_laws.specs.InFlight.{IsInFlight, IsPastEvents, is_given, is_replaced, is_emptied}
+use Rattle.sharc_wants_laws.specs.{Emptying.{IsEmptying, is_emptying}, Holding.{IsAccounted, IsHolding, IsHoldingIn, IsLowered}, InFlight.{IsInFlight, IsPastEvents, is_given, is_replaced, is_emptied}}
+use Rattle.sharc_wants_laws.proofs.{Counting.{one_there, twice}, Given.left_is_given}
 
 -- ---- one of a list
 number_refers : (n : ℕ) (v : ℤ) → number_of v ≡ n → 0 < n → refers n v ≡ true

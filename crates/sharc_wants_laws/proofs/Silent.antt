@@ -1,22 +1,13 @@
 -- A thread of code tells nothing only before its Started, and has nothing then.
-use Rattle.std.proofs.Common.{◌≡◌, ℕ, zero, suc, ◌*◌, ◌⊎◌, inl, inr, Bool, true, false, cond, List, [], ◌∷◌, ◌++◌, length, Some, map, replicate, refl, sym, ap, ◌∙◌, subst, slice_get, slice_index, slice_index_or}
+use Rattle.std.proofs.Common.{◌≡◌, ℕ, ◌*◌, ◌⊎◌, inl, inr, Bool, true, false, cond, List, [], ◌∷◌, ◌++◌, length, Some, map, replicate, refl, sym, ap, ◌∙◌, subst, slice_get, slice_index, slice_index_or}
 use Rattle.std.specs.Prelude.{option_to_list}
 use Rattle.sharc_tree.specs.declared.event.SourceEvent.{SourceEvent}
-use Rattle.sharc_code.specs.declared.code.Code.{Code}
-use Rattle.sharc_code.specs.declared.instr.Instr.{Instr}
-use Rattle.sharc_code.specs.declared.instr.Instr.TheVariants.{Exit, Start}
-use Rattle.sharc_code.specs.declared.shape.Shape.{Shape}
-use Rattle.sharc_code.specs.declared.state.Stage.TheVariants.{Rests, Enters}
-use Rattle.sharc_code.specs.declared.state.TheConstants.{FRAMES}
-use Rattle.sharc_code.specs.Machine.{Machine, act, instr_at, start}
-use Rattle.sharc_code.specs.Path.{after, begun, machine_after, most_refs, turn}
-use Rattle.sharc_code.specs.Says.{in_start, said, speaks_of}
-use Rattle.sharc_gen.specs.Consistent.{Elements, said_in, said_now}
-use Rattle.sharc_gen.specs.Generated.{IsGenerated, instr_of, program_of}
-use Rattle.sharc_guarded_form.specs.declared.guarded.Guarded.{Guarded}
-use Rattle.sharc_guarded_form.specs.Form.{IsGuarded}
+use Rattle.sharc_code.specs.{declared.code.Code.Code, declared.instr.Instr.Instr, declared.instr.Instr.TheVariants.{Exit, Start}, declared.shape.Shape.Shape, declared.state.Stage.TheVariants.{Rests, Enters}, declared.state.TheConstants.FRAMES, Machine.{Machine, act, instr_at, start}, Path.{after, begun, machine_after, most_refs, turn}, Says.{in_start, said, speaks_of}}
+use Rattle.sharc_gen.specs.{Consistent.{Elements, said_in, said_now}, Generated.{IsGenerated, instr_of, program_of}}
+use Rattle.sharc_guarded_form.specs.{declared.guarded.Guarded.Guarded, Form.IsGuarded}
 use Rattle.sharc_invariant.specs.Words.{is_freed, staged_of}
 use Rattle.sharc_wants_laws.specs.Silent.{HasNothing}
+use Rattle.sharc_lemmas.proofs.Lists.{all_null as zero_at}
 
 left_empty : (xs ys : List SourceEvent) → xs ++ ys ≡ [] → xs ≡ []
 left_empty [] ys e = refl
@@ -28,11 +19,6 @@ right_empty (x ∷ xs) ys e = absurd (cc)
 
 some_told : (e : SourceEvent) → option_to_list (Some e) ≡ [] → ⊥
 some_told e h = cc
-
-zero_at : (n k : ℕ) → slice_index (replicate n 0) k ≡ 0
-zero_at zero k = refl
-zero_at (suc n) zero = refl
-zero_at (suc n) (suc k) = zero_at n k
 
 freed_or_zero : (b : Bool) (v : ℕ) → v ≡ 0 → cond b 0 v ≡ 0
 freed_or_zero true v e = refl

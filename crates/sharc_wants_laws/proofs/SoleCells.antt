@@ -1,20 +1,12 @@
 -- A cell that refers to an object is seen among the references of the history.
-use Rattle.std.proofs.Common.{◌≡◌, ◌+◌, ◌≢◌, ℕ, List, Some, true, refl, sym, ap, ◌∙◌, subst, ⊎_elim}
-use Rattle.std.proofs.lemmas.Bool.{cases_eq}
-use Rattle.sharc_tree.specs.declared.event.CellAt.{CellAt}
+use Rattle.std.proofs.{Common.{◌≡◌, ◌+◌, ◌≢◌, ℕ, List, Some, true, refl, sym, ap, ◌∙◌, subst, ⊎_elim}, lemmas.Bool.cases_eq}
+use Rattle.sharc_tree.specs.{declared.event.CellAt.CellAt, declared.event.SourceEvent.SourceEvent}
 use Rattle.sharc_tree.specs.declared.event.Object.TheVariants as objects
-use Rattle.sharc_tree.specs.declared.event.SourceEvent.{SourceEvent}
 use Rattle.sharc_mode.specs.Moded.{Assignment}
-use Rattle.sharc_code.specs.Ranges.{IsInGlobal, first_place as first_cell_of}
-use Rattle.sharc_code.specs.Whole.{place_after}
-use Rattle.sharc_meaning.specs.Events.{latest, makes}
-use Rattle.sharc_meaning.specs.References.{is_pointer_of, is_pointer_of_made, refers}
-use Rattle.sharc_meaning.specs.Store.{is_live, value_after}
-use Rattle.sharc_history_laws.specs.History.{history_of}
-use Rattle.sharc_history_laws.specs.Made.{PointersAreMade}
-use Rattle.sharc_history_laws.specs.SeenCells.{IsBeingFreed, CellsAreSeen}
-use Rattle.sharc_accepted_laws.specs.Pointers.{PointersAreOfGlobals}
-use Rattle.sharc_accepted_laws.specs.Targets.{targets_of}
+use Rattle.sharc_code.specs.{Ranges.{IsInGlobal, first_place as first_cell_of}, Whole.place_after}
+use Rattle.sharc_meaning.specs.{Events.{latest, makes}, References.{is_pointer_of, is_pointer_of_made, refers}, Store.{is_live, value_after}}
+use Rattle.sharc_history_laws.specs.{History.history_of, Made.PointersAreMade, SeenCells.{IsBeingFreed, CellsAreSeen}}
+use Rattle.sharc_accepted_laws.specs.{Pointers.PointersAreOfGlobals, Targets.targets_of}
 use Rattle.sharc_wants_laws.specs.Cells.{in_global, in_made, in_freed, CellsSee}
 
 -- a pointer cell of an object that is made is one by the type of the malloc

@@ -1,31 +1,17 @@
 -- Where the threads of a run are, among the events of all threads.
-use Rattle.std.proofs.Common.{◌≡◌, ℕ, inl, inr, ⊎_elim, ◌⊎◌, Bool, true, false, cond, List, [], ◌∷◌, ◌++◌, map, reverse, refl, sym, ap, ◌∙◌, subst, arith}
+use Rattle.std.proofs.{Common.{◌≡◌, ℕ, inl, inr, ⊎_elim, ◌⊎◌, Bool, true, false, cond, List, [], ◌∷◌, ◌++◌, map, reverse, refl, sym, ap, ◌∙◌, subst, arith}, lemmas.Bool.Decides.nat_tests, lemmas.List.{append-nil, reverse-reverse}, lemmas.List.Elements.filter-append}
 use Rattle.std.specs.Prelude.{◌==◌, nat_eq, filter}
-use Rattle.std.proofs.lemmas.Bool.Decides.{nat_tests}
-use Rattle.std.proofs.lemmas.List.{append-nil, reverse-append, reverse-reverse}
-use Rattle.std.proofs.lemmas.List.Elements.{filter-append}
 use Rattle.sharc_tree.specs.declared.event.SourceEvent.{SourceEvent}
 use Rattle.sharc_mode.specs.Moded.{Assignment}
-use Rattle.sharc_meaning.specs.Events.{events_of, is_of}
-use Rattle.sharc_meaning.specs.Runs.{by}
-use Rattle.sharc_code.specs.declared.code.Code.{Code}
-use Rattle.sharc_code.specs.Machine.{Machine}
-use Rattle.sharc_code.specs.Paced.{paced_in}
-use Rattle.sharc_code.specs.Path.{begun, machine_after}
-use Rattle.sharc_code.specs.declared.shape.Shape.{Shape}
-use Rattle.sharc_code.specs.Runs.{Said, Turn, said_by, turns_of}
-use Rattle.sharc_code.specs.Whole.{CheckedRun, Erase, place_after}
+use Rattle.sharc_meaning.specs.{Events.{events_of, is_of}, Runs.by}
+use Rattle.sharc_code.specs.{declared.code.Code.Code, Machine.Machine, Paced.paced_in, Path.{begun, machine_after}, declared.shape.Shape.Shape, Runs.{Said, Turn, said_by, turns_of}, Whole.{CheckedRun, Erase, place_after}}
 use Rattle.sharc_flat.specs.Correct.{MayStart}
-use Rattle.sharc_gen.specs.Consistent.{said_in, IsConsistent}
-use Rattle.sharc_gen.specs.Correct.{IsBeginning}
-use Rattle.sharc_gen.specs.OfRuns.{told_in, elements_before, founds_of, RunsHavePaths}
+use Rattle.sharc_gen.specs.{Consistent.{said_in, IsConsistent}, Correct.IsBeginning, OfRuns.{told_in, elements_before, founds_of, RunsHavePaths}}
 use Rattle.sharc_wants_laws.specs.Wants.{IsThere, IsThereIn, IsNotThere, IsWhere, PathsWant}
+use Rattle.sharc_lemmas.proofs.{Lists.reverse_cons, Numbers.same_test}
 
 -- ---- lists
-reverse_cons : {A : Type 0} (x : A) (xs : List A) → reverse (x ∷ xs) ≡ reverse xs ++ x ∷ []
-reverse_cons x xs = reverse-append (x ∷ []) xs
-
-filter_reverse : (f : SourceEvent → Bool) (xs : List SourceEvent) → filter f (reverse xs) ≡ reverse (filter f xs)
+pub filter_reverse : (f : SourceEvent → Bool) (xs : List SourceEvent) → filter f (reverse xs) ≡ reverse (filter f xs)
 filter_reverse f [] = refl
 filter_reverse f (x ∷ xs) =
     ap (filter f) (reverse_cons x xs) ∙ filter-append f (reverse xs) (x ∷ []) ∙ ap (λ ys. ys ++ filter f (x ∷ [])) (filter_reverse f xs) ∙ by_test (f x)
@@ -34,41 +20,20 @@ filter_reverse f (x ∷ xs) =
     by_test true = sym (reverse_cons x (filter f xs))
     by_test false = append-nil (reverse (filter f xs))
 
-same_test : (a b : ℕ) → (a == b) ≡ nat_eq b a
-same_test a b = by_tests (a == b) (nat_eq b a) refl refl
-  where
-    equal : (a == b) ≡ true → a ≡ b
-    equal e = grind (arith, nat_tests)
-
-    other : (a == b) ≡ false → a ≡ b → ⊥
-    other e q = grind (arith, nat_tests)
-
-    equal_too : nat_eq b a ≡ true → b ≡ a
-    equal_too e = grind (arith, nat_tests)
-
-    other_too : nat_eq b a ≡ false → b ≡ a → ⊥
-    other_too e q = grind (arith, nat_tests)
-
-    by_tests : (x y : Bool) → (a == b) ≡ x → nat_eq b a ≡ y → x ≡ y
-    by_tests true true p q = refl
-    by_tests false false p q = refl
-    by_tests true false p q = absurd (other_too q (sym (equal p)))
-    by_tests false true p q = absurd (other p (sym (equal_too q)))
-
 -- ---- whose events they are
 abbrev AreOf : ℕ → List SourceEvent → Type 0
 AreOf t [] = Unit {0}
 AreOf t (e ∷ es) = (e.thread ≡ t) × AreOf t es
 
-of_append : (t : ℕ) (xs ys : List SourceEvent) → AreOf t xs → AreOf t ys → AreOf t (xs ++ ys)
+pub of_append : (t : ℕ) (xs ys : List SourceEvent) → AreOf t xs → AreOf t ys → AreOf t (xs ++ ys)
 of_append t [] ys a b = b
 of_append t (x ∷ xs) ys a b = (a.0, of_append t xs ys a.1 b)
 
-of_reverse : (t : ℕ) (xs : List SourceEvent) → AreOf t xs → AreOf t (reverse xs)
+pub of_reverse : (t : ℕ) (xs : List SourceEvent) → AreOf t xs → AreOf t (reverse xs)
 of_reverse t [] h = tt
 of_reverse t (x ∷ xs) h = subst (AreOf t) (sym (reverse_cons x xs)) (of_append t (reverse xs) (x ∷ []) (of_reverse t xs h.1) (h.0, tt))
 
-of_map : (t : ℕ) (es : List SourceEvent) → AreOf t (map (by t) es)
+pub of_map : (t : ℕ) (es : List SourceEvent) → AreOf t (map (by t) es)
 of_map t [] = tt
 of_map t (e ∷ es) = (refl, of_map t es)
 
@@ -77,7 +42,7 @@ abbrev AreSaidByOwn : List (Said SourceEvent) → Type 0
 AreSaidByOwn [] = Unit {0}
 AreSaidByOwn (s ∷ says) = (s.told.thread ≡ s.thread) × AreSaidByOwn says
 
-all_own : (says : List (Said SourceEvent)) → ((t : ℕ) → AreOf t (told_in (said_by t says))) → AreSaidByOwn says
+pub all_own : (says : List (Said SourceEvent)) → ((t : ℕ) → AreOf t (told_in (said_by t says))) → AreSaidByOwn says
 all_own [] h = tt
 all_own (s ∷ says) h = (head, all_own says (λ t. drops t (nat_eq t s.thread) (h t)))
   where
@@ -91,7 +56,7 @@ all_own (s ∷ says) h = (head, all_own says (λ t. drops t (nat_eq t s.thread) 
     drops t true k = k.1
     drops t false k = k
 
-filtered : (t : ℕ) (says : List (Said SourceEvent)) → AreSaidByOwn says → filter (is_of t) (told_in says) ≡ told_in (said_by t says)
+pub filtered : (t : ℕ) (says : List (Said SourceEvent)) → AreSaidByOwn says → filter (is_of t) (told_in says) ≡ told_in (said_by t says)
 filtered t [] h = refl
 filtered t (s ∷ says) h =
     ap (λ b. cond b (s.told ∷ filter (is_of t) (told_in says)) (filter (is_of t) (told_in says))) (ap (λ n. n == t) h.0 ∙ same_test s.thread t)

@@ -1,18 +1,9 @@
 -- Where a reference is tested, flat code wants what comes after the test, and its registers are those of the code.
 use Rattle.std.proofs.Common.{◌≡◌, ℕ, zero, suc, ℤ, pos, negsuc, ◌+◌, ◌<◌, ⊎_elim, true, false, not, ◌&&◌, ◌==◌, List, [], refl, sym, ap, ◌∙◌, subst, arith, eq-eqb, get_or}
 use Rattle.std.specs.Prelude.{slice_index}
-use Rattle.sharc_tree.specs.declared.event.Act.{Act}
-use Rattle.sharc_tree.specs.declared.event.Act.TheVariants.{Freed, Give}
-use Rattle.sharc_tree.specs.declared.token.Site.{Site}
-use Rattle.sharc_meaning.specs.Arithmetic.{is_zero}
-use Rattle.sharc_meaning.specs.Meaning.{Asked}
-use Rattle.sharc_meaning.specs.Reference.{number_of}
-use Rattle.sharc_meaning.specs.References.{refers}
-use Rattle.sharc_meaning.specs.State.{event_of}
-use Rattle.sharc_code.specs.declared.code.Function.{Function as Row}
-use Rattle.sharc_code.specs.declared.instr.Instr.{Instr}
-use Rattle.sharc_code.specs.declared.instr.Instr.TheVariants.{Call, Free, TestSole}
-use Rattle.sharc_code.specs.Machine.{Machine, ref}
+use Rattle.sharc_tree.specs.{declared.event.Act.Act, declared.event.Act.TheVariants.{Freed, Give}, declared.token.Site.Site}
+use Rattle.sharc_meaning.specs.{Arithmetic.is_zero, Meaning.Asked, Reference.number_of, References.refers, State.event_of}
+use Rattle.sharc_code.specs.{declared.code.Function.{Function as Row}, declared.instr.Instr.Instr, declared.instr.Instr.TheVariants.{Call, Free, TestSole}, Machine.{Machine, ref}}
 use Rattle.sharc_flat_form.specs.Machine.{Flat, At, Turn, goes, asks, halts, turn, on_turn, exec}
 use Rattle.sharc_guarded_form.specs.Machine as Form
 use Rattle.sharc_guarded_form.specs.Machine.{Program, Thread, IsSole, statement_at}

@@ -1,60 +1,34 @@
 -- From the place of a thread of code to what the program wants.
 use Rattle.std.proofs.Common.{◌≡◌, ℕ, zero, suc, ℤ, pos, ◌+◌, ◌<◌, inl, inr, ⊎_elim, Bool, true, false, List, [], ◌∷◌, length, map, refl, sym, ap, ◌∙◌, Some, subst, arith}
 use Rattle.std.specs.Prelude.{IsSomeAnd, slice_index_or}
-use Rattle.sharc_tree.specs.declared.event.Act.{Act}
+use Rattle.sharc_tree.specs.{declared.event.Act.Act, declared.event.CellAt.CellAt, declared.event.CellMode.CellMode, declared.event.SourceEvent.SourceEvent, declared.token.Site.Site}
 use Rattle.sharc_tree.specs.declared.event.Act.TheVariants as acts
-use Rattle.sharc_tree.specs.declared.event.CellAt.{CellAt}
-use Rattle.sharc_tree.specs.declared.event.CellMode.{CellMode}
 use Rattle.sharc_tree.specs.declared.event.CellMode.TheVariants as modes
-use Rattle.sharc_tree.specs.declared.event.SourceEvent.{SourceEvent}
 use Rattle.sharc_tree.specs.declared.event.Taken.TheVariants as taken
-use Rattle.sharc_tree.specs.declared.token.Site.{Site}
 use Rattle.sharc_tree.specs.declared.trap.Trap.TheVariants as traps
 use Rattle.sharc_shadow.specs.declared.shadow_word.Kind.TheVariants as kinds
 use Rattle.sharc_ctype.specs.Resolved.{function_at}
 use Rattle.sharc_mode.specs.Moded.{Assignment}
-use Rattle.sharc_meaning.specs.Events.{Access, access_by, held_mutexes}
+use Rattle.sharc_meaning.specs.{Events.{Access, access_by, held_mutexes}, Runs.{IsNamedAt, answers_of}, Reference.{is_null, number_of}, State.{Outcome, wants, ended, stopped, event_of}}
 use Rattle.sharc_meaning.specs.Meaning as Meaning
-use Rattle.sharc_meaning.specs.Runs.{IsNamedAt, answers_of}
-use Rattle.sharc_meaning.specs.Reference.{is_null, number_of}
-use Rattle.sharc_meaning.specs.State.{Outcome, wants, ended, stopped, event_of}
-use Rattle.sharc_code.specs.declared.code.Code.{Code}
-use Rattle.sharc_code.specs.declared.code.Function.{Function}
-use Rattle.sharc_code.specs.declared.code.SourcePlace.{SourcePlace}
-use Rattle.sharc_code.specs.declared.instr.Cell.{Cell}
-use Rattle.sharc_code.specs.declared.instr.Instr.{Instr}
-use Rattle.sharc_code.specs.declared.instr.Instr.TheVariants.{Lock, Join, CondWait, Load, Store, LoadRef, Exchange, TakeCell, ChkRead, ChkWrite, ChkLock, ChkLockLoaded, Call, Exit}
-use Rattle.sharc_code.specs.declared.shape.Shape.{Shape}
-use Rattle.sharc_code.specs.declared.state.State.TheVariants.{Runs, Stopped, Ended}
-use Rattle.sharc_code.specs.declared.state.Stop.{Stop}
-use Rattle.sharc_code.specs.declared.state.Stop.TheVariants.{Conflict, NoLock, NotSole, Trap}
-use Rattle.sharc_code.specs.Machine.{Machine, int, instr_at, no_function, function_of}
-use Rattle.sharc_code.specs.Says.{cell_at, kind_of, made_cell, place_at, no_place}
-use Rattle.sharc_flat_form.specs.Machine.{Flat, At, Came, Turn, goes, asks, halts, turn, on_turn, exec, start}
-use Rattle.sharc_flat_form.specs.Path.{at_after, asked, PathsAreRuns}
+use Rattle.sharc_code.specs.{declared.code.Code.Code, declared.code.Function.Function, declared.code.SourcePlace.SourcePlace, declared.instr.Cell.Cell, declared.instr.Instr.Instr, declared.instr.Instr.TheVariants.{Lock, Join, CondWait, Load, Store, LoadRef, Exchange, TakeCell, ChkRead, ChkWrite, ChkLock, ChkLockLoaded, Call, Exit}, declared.shape.Shape.Shape, declared.state.State.TheVariants.{Runs, Stopped, Ended}, declared.state.Stop.Stop, declared.state.Stop.TheVariants.{Conflict, NoLock, NotSole, Trap}, Machine.{Machine, int, instr_at, no_function, function_of}, Says.{cell_at, kind_of, made_cell, place_at, no_place}}
+use Rattle.sharc_flat_form.specs.{Machine.{Flat, At, Came, Turn, goes, asks, halts, turn, on_turn, exec, start}, Path.{at_after, asked, PathsAreRuns}}
 use Rattle.sharc_flat.specs.Correct.{AsksTheSame, MayStart}
-use Rattle.sharc_guarded_form.specs.declared.guarded.Guarded.{Guarded}
+use Rattle.sharc_guarded_form.specs.{declared.guarded.Guarded.Guarded, Machine.{Program, Thread, Check, Accesses, Locks, IsSole, is_held, source_at, statement_at}, Path.{started, thread_after}}
 use Rattle.sharc_guarded_form.specs.Machine as Form
-use Rattle.sharc_guarded_form.specs.Machine.{Program, Thread, Check, Accesses, Locks, IsSole, is_held, source_at, statement_at}
-use Rattle.sharc_guarded_form.specs.Path.{started, thread_after}
-use Rattle.sharc_gen.specs.Consistent.{Elements}
-use Rattle.sharc_gen.specs.Correct.{by, begins, HasCome}
-use Rattle.sharc_gen.specs.Generated.{IsGenerated, instr_of, program_of}
-use Rattle.sharc_gen.specs.Related.{IsAt, IsLinking, IsOver, Same, StopsAt, ChecksNext}
-use Rattle.sharc_guard.specs.Counted.{Guards, IsAccess, IsOf, IsUnder, Tells}
-use Rattle.sharc_guard.specs.Logged.{LogsAreHeld}
+use Rattle.sharc_gen.specs.{Consistent.Elements, Correct.{by, begins, HasCome}, Generated.{IsGenerated, instr_of, program_of}, Related.{IsAt, IsLinking, IsOver, Same, StopsAt, ChecksNext}}
+use Rattle.sharc_guard.specs.{Counted.{Guards, IsAccess, IsOf, IsUnder, Tells}, Logged.LogsAreHeld}
 use Rattle.sharc_compile.specs.Refused.{IsRefused, IsReport, WantsRefused, site_of}
 use Rattle.sharc_wants_laws.specs.Wants.{WantsAct, WantsAccess, WantsBy, StopsOrWantsUnder, IsWhere, IsThere, access_at, access_tested}
-use Rattle.sharc_wants_laws.proofs.Quiet.{still, given_in, given_same, given_path, are_own, beyond}
-use Rattle.sharc_wants_laws.proofs.Cells.{int_is, cell_is, access_is, pending_number}
+use Rattle.sharc_wants_laws.proofs.{Quiet.{still, given_in, are_own, beyond}, Cells.{int_is, cell_is, access_is, pending_number}, SoleQuiet.{given_same, given_path}}
 
 -- ---- instructions
-mapped_at : (f : Instr → Instr) (xs : List Instr) (n : ℕ) → f Exit ≡ Exit → slice_index_or (map f xs) n Exit ≡ f (slice_index_or xs n Exit)
+pub mapped_at : (f : Instr → Instr) (xs : List Instr) (n : ℕ) → f Exit ≡ Exit → slice_index_or (map f xs) n Exit ≡ f (slice_index_or xs n Exit)
 mapped_at f [] n e = sym e
 mapped_at f (x ∷ xs) zero e = refl
 mapped_at f (x ∷ xs) (suc n) e = mapped_at f xs n e
 
-answers_by : (t : ℕ) (es : List SourceEvent) → answers_of (map (by t) es) ≡ answers_of es
+pub answers_by : (t : ℕ) (es : List SourceEvent) → answers_of (map (by t) es) ≡ answers_of es
 answers_by t [] = refl
 answers_by t (e ∷ es) = ap (λ xs. e.answer ∷ xs) (answers_by t es)
 

@@ -1,20 +1,10 @@
 -- Where a test of a reference found 1, no other reference to its object is anywhere.
 use Rattle.std.specs.Prelude.{ℕ, ◌≡◌, ◌+◌, List, ◌∷◌}
-use Rattle.sharc_code.specs.declared.code.Code.{Code}
-use Rattle.sharc_code.specs.declared.instr.Instr.TheVariants.{TestSole}
-use Rattle.sharc_code.specs.declared.shape.Shape.{Shape}
-use Rattle.sharc_code.specs.Layout.{Fits}
-use Rattle.sharc_code.specs.Machine.{instr_at, ref}
-use Rattle.sharc_code.specs.Runs.{Turn, result_of}
+use Rattle.sharc_code.specs.{declared.code.Code.Code, declared.instr.Instr.TheVariants.TestSole}
+use Rattle.sharc_code.specs.{declared.shape.Shape.Shape, Layout.Fits, Machine.{instr_at, ref}, Runs.{Turn, result_of}}
 use Rattle.sharc_code.specs.Whole.{CheckedRun, place_after}
-use Rattle.sharc_invariant.specs.Types.{Targets}
-use Rattle.sharc_invariant.specs.Labels.{Labels}
-use Rattle.sharc_invariant.specs.Typed.{IsWellTyped}
-use Rattle.sharc_invariant.specs.World.{ObjectState}
-use Rattle.sharc_invariant.specs.State.{IsSmall}
-use Rattle.sharc_invariant.specs.Opened.{first_world, first_place}
-use Rattle.sharc_invariant.specs.Objects.{objects_after}
-use Rattle.sharc_invariant.specs.MachineInvariant.{IsAlone}
+use Rattle.sharc_invariant.specs.{Types.Targets, Labels.Labels, Typed.IsWellTyped, World.ObjectState, State.IsSmall}
+use Rattle.sharc_invariant.specs.{Opened.{first_world, first_place}, Objects.objects_after, MachineInvariant.IsAlone}
 
 -- By this turn, which comes after those, its thread looks whether the reference in the register is the only one to its
 -- object, and finds that it is.

@@ -3,25 +3,14 @@ use Rattle.std.specs.Prelude.{ℕ, ◌≡◌, List, Some}
 use Rattle.sharc_tree.specs.declared.event.SourceEvent.{SourceEvent}
 use Rattle.sharc_mode.specs.Moded.{Assignment}
 use Rattle.sharc_meaning.specs.References.{Begun}
-use Rattle.sharc_code.specs.declared.code.Code.{Code}
-use Rattle.sharc_code.specs.declared.shape.Shape.{Shape}
-use Rattle.sharc_code.specs.declared.state.Stop.TheVariants.{NotSole}
-use Rattle.sharc_code.specs.Layout.{Fits}
-use Rattle.sharc_code.specs.Machine.{Machine, ref}
-use Rattle.sharc_code.specs.Runs.{Global, Turn}
-use Rattle.sharc_code.specs.Whole.{CheckedRun, place_after}
-use Rattle.sharc_invariant.specs.Labels.{Labels}
-use Rattle.sharc_invariant.specs.Typed.{IsWellTyped}
-use Rattle.sharc_invariant.specs.World.{ObjectState}
-use Rattle.sharc_invariant.specs.State.{IsSmall}
-use Rattle.sharc_invariant.specs.Opened.{first_world, first_place}
-use Rattle.sharc_invariant.specs.Objects.{objects_after}
-use Rattle.sharc_history_laws.specs.History.{history_of}
-use Rattle.sharc_history_laws.specs.Reports.{FindsOthers}
-use Rattle.sharc_history_laws.specs.Stores.{BeginsWith}
+use Rattle.sharc_code.specs.{declared.code.Code.Code, declared.shape.Shape.Shape}
+use Rattle.sharc_code.specs.{declared.state.Stop.TheVariants.NotSole, Layout.Fits, Machine.{Machine, ref}}
+use Rattle.sharc_code.specs.{Runs.{Global, Turn}, Whole.{CheckedRun, place_after}}
+use Rattle.sharc_invariant.specs.{Labels.Labels, Typed.IsWellTyped, World.ObjectState, State.IsSmall}
+use Rattle.sharc_invariant.specs.{Opened.{first_world, first_place}, Objects.objects_after}
+use Rattle.sharc_history_laws.specs.{History.history_of, Reports.FindsOthers, Stores.BeginsWith}
 use Rattle.sharc_accepted_laws.specs.Targets.{targets_of}
-use Rattle.sharc_wants_laws.specs.InFlight.{IsInFreed}
-use Rattle.sharc_wants_laws.specs.Sole.{IsSeen, NoneIsInFlight}
+use Rattle.sharc_wants_laws.specs.{InFlight.IsInFreed, Sole.{IsSeen, NoneIsInFlight}}
 
 -- no other thread than t is freeing an object that has a reference to the object of number n in a pointer cell
 abbrev pub NoneIsInFreed : (m : Assignment) → Shape → Global Machine → (ℕ → ObjectState) → List SourceEvent → ℕ → ℕ → Type 0

@@ -5,23 +5,12 @@ use Rattle.sharc_tree.specs.declared.event.SourceEvent.{SourceEvent}
 use Rattle.sharc_mode.specs.Moded.{Assignment}
 use Rattle.sharc_meaning.specs.References.{References, in_cell, refers, is_taken_to_free}
 use Rattle.sharc_meaning.specs.Store.{is_live, value_after}
-use Rattle.sharc_code.specs.declared.code.Code.{Code}
-use Rattle.sharc_code.specs.declared.shape.Shape.{Shape}
-use Rattle.sharc_code.specs.Layout.{Fits}
-use Rattle.sharc_code.specs.Machine.{Machine}
-use Rattle.sharc_code.specs.Runs.{Turn, Global}
-use Rattle.sharc_code.specs.Whole.{CheckedRun, place_after}
-use Rattle.sharc_invariant.specs.Labels.{Labels}
-use Rattle.sharc_invariant.specs.Typed.{IsWellTyped}
-use Rattle.sharc_invariant.specs.State.{IsSmall}
-use Rattle.sharc_invariant.specs.Opened.{first_world, first_place}
-use Rattle.sharc_invariant.specs.Objects.{objects_after}
-use Rattle.sharc_invariant.specs.MachineInvariant.{cell_refers}
-use Rattle.sharc_history_laws.specs.History.{history_of}
-use Rattle.sharc_history_laws.specs.SeenCells.{IsBeingFreed}
-use Rattle.sharc_history_laws.specs.Stores.{BeginsWith}
-use Rattle.sharc_accepted_laws.specs.TargetLaws.{HasTables}
-use Rattle.sharc_accepted_laws.specs.Targets.{targets_of}
+use Rattle.sharc_code.specs.{declared.code.Code.Code, declared.shape.Shape.Shape, Layout.Fits, Machine.Machine}
+use Rattle.sharc_code.specs.{Runs.{Turn, Global}, Whole.{CheckedRun, place_after}}
+use Rattle.sharc_invariant.specs.{Labels.Labels, Typed.IsWellTyped, State.IsSmall, Opened.{first_world, first_place}}
+use Rattle.sharc_invariant.specs.{Objects.objects_after, MachineInvariant.cell_refers}
+use Rattle.sharc_history_laws.specs.{History.history_of, SeenCells.IsBeingFreed, Stores.BeginsWith}
+use Rattle.sharc_accepted_laws.specs.{TargetLaws.HasTables, Targets.targets_of}
 
 -- Cell i of object p, which is made. By the events the object is live and the cell refers to object n; that is one of the references, if no `free` has taken the object or it is that object
 -- itself.

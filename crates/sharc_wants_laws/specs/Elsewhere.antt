@@ -3,22 +3,14 @@ use Rattle.std.specs.Prelude.{ℕ, ◌≢◌, ◌≡◌, List}
 use Rattle.sharc_tree.specs.declared.event.CellAt.{CellAt}
 use Rattle.sharc_mode.specs.Moded.{Assignment}
 use Rattle.sharc_meaning.specs.References.{References, in_argument, in_mutex}
-use Rattle.sharc_code.specs.declared.code.Code.{Code}
-use Rattle.sharc_code.specs.declared.shape.Shape.{Shape}
-use Rattle.sharc_code.specs.Layout.{Fits}
-use Rattle.sharc_code.specs.Runs.{Turn}
+use Rattle.sharc_code.specs.{declared.code.Code.Code, declared.shape.Shape.Shape, Layout.Fits, Runs.Turn}
 use Rattle.sharc_code.specs.Whole.{CheckedRun, place_after}
 use Rattle.sharc_flat.specs.Flattens.{Flattens}
 use Rattle.sharc_flat_form.specs.declared.flat.Flat.{Flat as FlatCode}
 use Rattle.sharc_compile.specs.Made.{IsCodeOf}
-use Rattle.sharc_invariant.specs.Types.{Targets}
-use Rattle.sharc_invariant.specs.Labels.{Labels}
-use Rattle.sharc_invariant.specs.Typed.{IsWellTyped}
-use Rattle.sharc_invariant.specs.Words.{argument_of}
-use Rattle.sharc_invariant.specs.State.{IsSmall}
+use Rattle.sharc_invariant.specs.{Types.Targets, Labels.Labels, Typed.IsWellTyped, Words.argument_of, State.IsSmall}
 use Rattle.sharc_invariant.specs.MachineInvariant.{log_refers}
-use Rattle.sharc_history_laws.specs.History.{history_of}
-use Rattle.sharc_history_laws.specs.Stores.{BeginsWith}
+use Rattle.sharc_history_laws.specs.{History.history_of, Stores.BeginsWith}
 
 abbrev pub ArgumentsSee : Type 0
 ArgumentsSee = (m : Assignment) (flat : FlatCode) → Flattens m flat → (code : Code) → IsCodeOf flat code

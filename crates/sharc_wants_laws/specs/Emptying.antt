@@ -1,11 +1,8 @@
 -- Where the pointer cells of a freed object are emptied, the program gives them up.
 use Rattle.std.specs.Prelude.{ℕ, Bool, true, false, ◌≡◌, ◌+◌, List, [], ◌∷◌, ◌++◌, slice_index}
-use Rattle.sharc_meaning.specs.declared.given.GivenUp.{GivenUp}
-use Rattle.sharc_meaning.specs.declared.given.GivenUp.TheVariants.{Emptied}
+use Rattle.sharc_meaning.specs.{declared.given.GivenUp.GivenUp, declared.given.GivenUp.TheVariants.Emptied}
 use Rattle.sharc_meaning.specs.Meaning.{Asked}
-use Rattle.sharc_code.specs.declared.code.Code.{Code}
-use Rattle.sharc_code.specs.declared.instr.Instr.TheVariants.{Free}
-use Rattle.sharc_code.specs.declared.state.Stage.{Stage}
+use Rattle.sharc_code.specs.{declared.code.Code.Code, declared.instr.Instr.TheVariants.Free, declared.state.Stage.Stage}
 use Rattle.sharc_code.specs.declared.state.Stage.TheVariants.{Empties, Lowers, FreeLooks, FreeClears, Uncounts}
 use Rattle.sharc_code.specs.Machine.{Machine, instr_at}
 

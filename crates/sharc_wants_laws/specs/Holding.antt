@@ -1,35 +1,22 @@
 -- What the registers of a thread refer to, by what the program holds that was asked by the answers of the thread's own events.
 use Rattle.std.specs.Prelude.{ℕ, ℤ, pos, ◌≡◌, ◌+◌, ◌⊎◌, ◌<◌, true, List, [], ◌∷◌, ◌++◌, map, get_or, reverse, slice_index}
-use Rattle.sharc_tree.specs.declared.event.Act.TheVariants.{Started}
-use Rattle.sharc_tree.specs.declared.event.CellAt.{CellAt}
+use Rattle.sharc_tree.specs.{declared.event.Act.TheVariants.Started, declared.event.CellAt.CellAt}
 use Rattle.sharc_tree.specs.declared.event.SourceEvent.{SourceEvent}
 use Rattle.sharc_ctype.specs.Resolved.{function_at}
 use Rattle.sharc_mode.specs.Moded.{Assignment}
-use Rattle.sharc_meaning.specs.declared.given.GivenUp.{GivenUp}
-use Rattle.sharc_meaning.specs.declared.given.GivenUp.TheVariants.{Replaced}
-use Rattle.sharc_meaning.specs.Events.{events_of}
-use Rattle.sharc_meaning.specs.Meaning.{Asked, asks}
-use Rattle.sharc_meaning.specs.Reference.{number_of}
-use Rattle.sharc_meaning.specs.References.{refers}
-use Rattle.sharc_meaning.specs.Runs.{IsNamedAt, answers_of, by}
-use Rattle.sharc_meaning.specs.State.{wants}
-use Rattle.sharc_code.specs.declared.code.Code.{Code}
-use Rattle.sharc_code.specs.declared.instr.Instr.TheVariants.{Lower, TestSole}
-use Rattle.sharc_code.specs.declared.shape.Shape.{Shape}
-use Rattle.sharc_code.specs.Machine.{Machine, instr_at, ref}
-use Rattle.sharc_code.specs.Paced.{paced_in}
-use Rattle.sharc_code.specs.Path.{begun, machine_after, CodePath}
-use Rattle.sharc_code.specs.Runs.{Turn, turns_of}
+use Rattle.sharc_meaning.specs.{declared.given.GivenUp.GivenUp, declared.given.GivenUp.TheVariants.Replaced}
+use Rattle.sharc_meaning.specs.{Events.events_of, Meaning.{Asked, asks}, Reference.number_of, References.refers}
+use Rattle.sharc_meaning.specs.{Runs.{IsNamedAt, answers_of, by}, State.wants}
+use Rattle.sharc_code.specs.{declared.code.Code.Code, declared.instr.Instr.TheVariants.{Lower, TestSole}}
+use Rattle.sharc_code.specs.{declared.shape.Shape.Shape, Machine.{Machine, instr_at, ref}, Paced.paced_in}
+use Rattle.sharc_code.specs.{Path.{begun, machine_after, CodePath}, Runs.{Turn, turns_of}}
 use Rattle.sharc_code.specs.Whole.{CheckedRun, Erase, place_after}
 use Rattle.sharc_flat.specs.Correct.{MayStart}
-use Rattle.sharc_gen.specs.Consistent.{Elements, said_in, IsConsistent}
-use Rattle.sharc_gen.specs.Correct.{IsBeginning}
-use Rattle.sharc_gen.specs.Lowered.{lowered_in}
-use Rattle.sharc_invariant.specs.Words.{register_of}
+use Rattle.sharc_gen.specs.{Consistent.{Elements, said_in, IsConsistent}, Correct.IsBeginning, Lowered.lowered_in}
 use Rattle.sharc_gen.specs.OfRuns.{elements_before, founds_of, told_in}
+use Rattle.sharc_invariant.specs.Words.{register_of}
 use Rattle.sharc_compile.specs.Held.{IsAmong, IsGivenUpLater}
-use Rattle.sharc_guard.specs.Correct.{Resolved}
-use Rattle.sharc_guard.specs.Counted.{IsGivenAway}
+use Rattle.sharc_guard.specs.{Correct.Resolved, Counted.IsGivenAway}
 use Rattle.sharc_compile_laws.specs.Threads.{TellsIn}
 use Rattle.sharc_wants_laws.specs.Emptying.{IsEmptying, is_emptying}
 

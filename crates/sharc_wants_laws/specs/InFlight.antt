@@ -2,21 +2,13 @@
 use Rattle.std.specs.Prelude.{ℕ, ◌≡◌, List, map, Contains}
 use Rattle.sharc_tree.specs.declared.event.SourceEvent.{SourceEvent}
 use Rattle.sharc_mode.specs.Moded.{Assignment}
-use Rattle.sharc_meaning.specs.declared.given.GivenUp.TheVariants.{Emptied}
-use Rattle.sharc_meaning.specs.Events.{events_of}
-use Rattle.sharc_meaning.specs.References.{Begun, asked_with}
-use Rattle.sharc_meaning.specs.Runs.{by}
-use Rattle.sharc_code.specs.declared.code.Code.{Code}
-use Rattle.sharc_code.specs.declared.shape.Shape.{Shape}
-use Rattle.sharc_code.specs.Machine.{Machine}
-use Rattle.sharc_code.specs.Runs.{Global}
-use Rattle.sharc_invariant.specs.MachineInvariant.{cell_refers}
-use Rattle.sharc_invariant.specs.Types.{Targets}
-use Rattle.sharc_invariant.specs.Words.{register_of, staged_of}
+use Rattle.sharc_meaning.specs.{declared.given.GivenUp.TheVariants.Emptied, Events.events_of}
+use Rattle.sharc_meaning.specs.{References.{Begun, asked_with}, Runs.by}
+use Rattle.sharc_code.specs.{declared.code.Code.Code, declared.shape.Shape.Shape, Machine.Machine, Runs.Global}
+use Rattle.sharc_invariant.specs.{MachineInvariant.cell_refers, Types.Targets, Words.{register_of, staged_of}}
 use Rattle.sharc_invariant.specs.World.{ObjectState}
 use Rattle.sharc_compile.specs.Held.{IsGivenUpLater}
-use Rattle.sharc_wants_laws.specs.Emptying.{IsEmptying}
-use Rattle.sharc_wants_laws.specs.Holding.{IsOldValue}
+use Rattle.sharc_wants_laws.specs.{Emptying.IsEmptying, Holding.IsOldValue}
 
 -- with this fuel the thread has asked for all events that are its own, so what it has given up then it has given up since its last event
 abbrev pub IsPastEvents : {m : Assignment} {R : List SourceEvent} {thread : ℕ} → Begun m R thread → ℕ → Type 0

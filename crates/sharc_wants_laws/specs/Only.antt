@@ -5,19 +5,11 @@ use Rattle.sharc_tree.specs.declared.event.CellAt.{CellAt}
 use Rattle.sharc_mode.specs.Moded.{Assignment}
 use Rattle.sharc_meaning.specs.References.{Holder, References, in_argument, in_cell, in_mutex, in_thread, is_taken_to_free}
 use Rattle.sharc_meaning_laws.specs.Freeing.{TakesLast}
-use Rattle.sharc_code.specs.declared.code.Code.{Code}
-use Rattle.sharc_code.specs.declared.shape.Shape.{Shape}
-use Rattle.sharc_code.specs.Layout.{Fits}
-use Rattle.sharc_code.specs.Runs.{Turn}
+use Rattle.sharc_code.specs.{declared.code.Code.Code, declared.shape.Shape.Shape, Layout.Fits, Runs.Turn}
 use Rattle.sharc_code.specs.Whole.{CheckedRun, place_after}
-use Rattle.sharc_invariant.specs.Types.{Targets}
-use Rattle.sharc_invariant.specs.Labels.{Labels}
-use Rattle.sharc_invariant.specs.Typed.{IsWellTyped}
-use Rattle.sharc_invariant.specs.State.{IsSmall}
+use Rattle.sharc_invariant.specs.{Types.Targets, Labels.Labels, Typed.IsWellTyped, State.IsSmall}
 use Rattle.sharc_invariant.specs.MachineInvariant.{is_pointer_now}
-use Rattle.sharc_history_laws.specs.History.{history_of}
-use Rattle.sharc_history_laws.specs.SeenCells.{IsBeingFreed, IsCellIn}
-use Rattle.sharc_history_laws.specs.Stores.{BeginsWith}
+use Rattle.sharc_history_laws.specs.{History.history_of, SeenCells.{IsBeingFreed, IsCellIn}, Stores.BeginsWith}
 use Rattle.sharc_accepted_laws.specs.Targets.{targets_of}
 use Rattle.sharc_wants_laws.specs.Alone.{Passes, objects_there, tested_object}
 

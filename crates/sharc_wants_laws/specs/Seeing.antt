@@ -2,23 +2,15 @@
 use Rattle.std.specs.Prelude.{ℕ, ℤ, ◌≡◌, ◌<◌, List, reverse, slice_index}
 use Rattle.sharc_tree.specs.declared.event.SourceEvent.{SourceEvent}
 use Rattle.sharc_mode.specs.Moded.{Assignment}
-use Rattle.sharc_meaning.specs.Reference.{number_of}
-use Rattle.sharc_meaning.specs.References.{Begun, References, asked_with, in_thread}
-use Rattle.sharc_meaning.specs.State.{wants}
-use Rattle.sharc_code.specs.declared.code.Code.{Code}
-use Rattle.sharc_code.specs.declared.shape.Shape.{Shape}
-use Rattle.sharc_code.specs.declared.instr.Instr.TheVariants.{TestSole}
-use Rattle.sharc_code.specs.Machine.{instr_at, ref}
-use Rattle.sharc_code.specs.Path.{begun}
-use Rattle.sharc_code.specs.Runs.{Turn, turns_of}
-use Rattle.sharc_code.specs.Whole.{CheckedRun, Erase, place_after}
+use Rattle.sharc_meaning.specs.{Reference.number_of, References.{Begun, References, asked_with, in_thread}, State.wants}
+use Rattle.sharc_code.specs.{declared.code.Code.Code, declared.shape.Shape.Shape}
+use Rattle.sharc_code.specs.{declared.instr.Instr.TheVariants.TestSole, Machine.{instr_at, ref}, Path.begun}
+use Rattle.sharc_code.specs.{Runs.{Turn, turns_of}, Whole.{CheckedRun, Erase, place_after}}
 use Rattle.sharc_flat.specs.Correct.{MayStart}
 use Rattle.sharc_guard.specs.Counted.{IsGivenAway}
-use Rattle.sharc_gen.specs.Consistent.{IsConsistent}
-use Rattle.sharc_gen.specs.OfRuns.{elements_before, founds_of, told_in}
+use Rattle.sharc_gen.specs.{Consistent.IsConsistent, OfRuns.{elements_before, founds_of, told_in}}
 use Rattle.sharc_invariant.specs.Words.{register_of}
-use Rattle.sharc_wants_laws.specs.Holding.{lowered_of}
-use Rattle.sharc_wants_laws.specs.InFlight.{IsInFlight}
+use Rattle.sharc_wants_laws.specs.{Holding.lowered_of, InFlight.IsInFlight}
 
 -- Of a register of a thread with a function that may be started: where no reference to its object is in flight, the thread holds one.
 abbrev pub ThreadsSee : Assignment → Code → Type 0

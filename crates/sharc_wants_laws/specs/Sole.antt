@@ -2,21 +2,14 @@
 use Rattle.std.specs.Prelude.{ℕ, ◌≡◌, ◌⊎◌, ◌+◌, ◌<◌, List, [], reverse}
 use Rattle.sharc_tree.specs.declared.event.SourceEvent.{SourceEvent}
 use Rattle.sharc_mode.specs.Moded.{Assignment}
-use Rattle.sharc_meaning.specs.Events.{events_of}
-use Rattle.sharc_meaning.specs.References.{Begun, Holder, References, in_thread}
-use Rattle.sharc_code.specs.declared.code.Code.{Code}
-use Rattle.sharc_code.specs.declared.shape.Shape.{Shape}
-use Rattle.sharc_code.specs.declared.instr.Instr.TheVariants.{TestSole}
-use Rattle.sharc_code.specs.Machine.{Machine, instr_at, ref}
-use Rattle.sharc_code.specs.Path.{begun}
-use Rattle.sharc_code.specs.Runs.{Global, Turn, turns_of}
-use Rattle.sharc_code.specs.Whole.{CheckedRun, Erase, place_after}
+use Rattle.sharc_meaning.specs.{Events.events_of, References.{Begun, Holder, References, in_thread}}
+use Rattle.sharc_code.specs.{declared.code.Code.Code, declared.shape.Shape.Shape}
+use Rattle.sharc_code.specs.{declared.instr.Instr.TheVariants.TestSole, Machine.{Machine, instr_at, ref}, Path.begun}
+use Rattle.sharc_code.specs.{Runs.{Global, Turn, turns_of}, Whole.{CheckedRun, Erase, place_after}}
 use Rattle.sharc_flat.specs.Correct.{MayStart}
-use Rattle.sharc_gen.specs.Consistent.{IsConsistent}
-use Rattle.sharc_gen.specs.OfRuns.{elements_before, founds_of, told_in}
+use Rattle.sharc_gen.specs.{Consistent.IsConsistent, OfRuns.{elements_before, founds_of, told_in}}
 use Rattle.sharc_invariant.specs.MachineInvariant.{hand_refers, register_refers}
-use Rattle.sharc_wants_laws.specs.Holding.{lowered_of}
-use Rattle.sharc_wants_laws.specs.InFlight.{IsInFlight}
+use Rattle.sharc_wants_laws.specs.{Holding.lowered_of, InFlight.IsInFlight}
 
 -- by the history something refers to the object of number n that is not the first reference of thread t
 pub record IsSeen (m : Assignment) (R : List SourceEvent) (t n : ℕ) : Type 0 where

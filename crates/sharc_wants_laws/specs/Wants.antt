@@ -1,33 +1,22 @@
 -- What the source wants of a thread of its code, by the place of that: what it waits for, the access that it makes or checks, and what it was refused.
 use Rattle.std.specs.Prelude.{ℕ, ℤ, pos, ◌≡◌, ◌⊎◌, Bool, true, false, List, [], ◌∷◌, map, reverse, Some}
-use Rattle.sharc_tree.specs.declared.event.Act.{Act}
-use Rattle.sharc_tree.specs.declared.event.Act.TheVariants as acts
-use Rattle.sharc_tree.specs.declared.event.CellAt.{CellAt}
-use Rattle.sharc_tree.specs.declared.event.CellMode.TheVariants as modes
+use Rattle.sharc_tree.specs.{declared.event.Act.Act, declared.event.CellAt.CellAt}
 use Rattle.sharc_tree.specs.declared.event.SourceEvent.{SourceEvent}
+use Rattle.sharc_tree.specs.declared.event.Act.TheVariants as acts
+use Rattle.sharc_tree.specs.declared.event.CellMode.TheVariants as modes
 use Rattle.sharc_tree.specs.declared.trap.Trap.TheVariants as traps
 use Rattle.sharc_ctype.specs.Resolved.{function_at}
 use Rattle.sharc_mode.specs.Moded.{Assignment}
-use Rattle.sharc_meaning.specs.Events.{Access, access_by, events_of}
-use Rattle.sharc_meaning.specs.Meaning.{asks}
-use Rattle.sharc_meaning.specs.Obeys.{History}
-use Rattle.sharc_meaning.specs.Runs.{IsNamedAt, answers_of, by}
-use Rattle.sharc_meaning.specs.State.{Outcome, wants, ended, stopped, event_of}
-use Rattle.sharc_code.specs.declared.code.Code.{Code}
-use Rattle.sharc_code.specs.declared.instr.Cell.{Cell}
-use Rattle.sharc_code.specs.declared.instr.Instr.{Instr}
+use Rattle.sharc_meaning.specs.{Events.{Access, access_by, events_of}, Meaning.asks, Obeys.History}
+use Rattle.sharc_meaning.specs.{Runs.{IsNamedAt, answers_of, by}, State.{Outcome, wants, ended, stopped, event_of}}
+use Rattle.sharc_code.specs.{declared.code.Code.Code, declared.instr.Cell.Cell, declared.instr.Instr.Instr}
 use Rattle.sharc_code.specs.declared.instr.Instr.TheVariants.{Lock, Join, CondWait, Load, Store, LoadRef, Exchange, TakeCell, ChkRead, ChkWrite, ChkLock, ChkLockLoaded}
-use Rattle.sharc_code.specs.declared.shape.Shape.{Shape}
-use Rattle.sharc_code.specs.declared.state.State.TheVariants.{Ended}
-use Rattle.sharc_code.specs.Machine.{Machine, int, instr_at}
-use Rattle.sharc_code.specs.Paced.{paced_in}
-use Rattle.sharc_code.specs.Path.{begun, machine_after, CodePath}
-use Rattle.sharc_code.specs.Runs.{Turn, turns_of}
-use Rattle.sharc_code.specs.Says.{cell_at, made_cell, mode_of, place_at}
+use Rattle.sharc_code.specs.{declared.shape.Shape.Shape, declared.state.State.TheVariants.Ended}
+use Rattle.sharc_code.specs.{Machine.{Machine, int, instr_at}, Paced.paced_in, Path.{begun, machine_after, CodePath}}
+use Rattle.sharc_code.specs.{Runs.{Turn, turns_of}, Says.{cell_at, made_cell, mode_of, place_at}}
 use Rattle.sharc_code.specs.Whole.{CheckedRun, Erase, place_after}
 use Rattle.sharc_flat.specs.Correct.{MayStart}
-use Rattle.sharc_gen.specs.Consistent.{Elements, said_in, IsConsistent}
-use Rattle.sharc_gen.specs.Correct.{IsBeginning}
+use Rattle.sharc_gen.specs.{Consistent.{Elements, said_in, IsConsistent}, Correct.IsBeginning}
 use Rattle.sharc_gen.specs.OfRuns.{elements_before, founds_of, told_in}
 use Rattle.sharc_guard.specs.Counted.{IsUnder}
 use Rattle.sharc_compile.specs.Refused.{WantsRefused}

@@ -1,19 +1,7 @@
 -- Histories begin with an event, come in parts, go on, and are determined by their steps.
-use Rattle.std.proofs.Common.{◌≡◌, ℕ, List, [], ◌∷◌, ◌++◌, length, slice_index, refl, sym, ap, ◌∙◌, subst}
+use Rattle.std.proofs.{Common.{◌≡◌, ℕ, List, [], ◌∷◌, ◌++◌, length, slice_index, refl, sym, ap, ◌∙◌, subst, arith, zero, suc, get_or, take, drop}, Math.Seq.drop-cons, lemmas.List.{take-append-drop, length-set}, lemmas.List.Elements.{All-set, All-take}, lemmas.Nat.{or_lt, and_le_l}, lemmas.List.Sums.fold-append}
 use Rattle.std.specs.Prelude.{map, All, ◌==◌, Bool, true, false, if◌then◌else◌}
-use Rattle.std.proofs.Common.{arith, zero, suc, get_or, take, drop}
-use Rattle.std.proofs.Math.Seq.{drop-cons}
-use Rattle.std.proofs.lemmas.List.{take-append-drop}
-use Rattle.std.proofs.lemmas.List.{length-set}
-use Rattle.std.proofs.lemmas.List.Elements.{All-set, All-take}
-use Rattle.std.proofs.lemmas.Nat.{or_lt, and_le_l}
-use Rattle.sharc_word.specs.declared.step.WordOp.{WordOp}
-use Rattle.sharc_word.specs.declared.step.WordOp.TheVariants.{Load, Swap, Add, Sub, Or, And, Cas}
-use Rattle.std.proofs.lemmas.List.Sums.{fold-append}
-use Rattle.sharc_word.specs.declared.step.WordStep.{WordStep}
-use Rattle.sharc_word.specs.declared.step.WordEvent.{WordEvent}
-use Rattle.sharc_word.specs.Words.{word_after, words_after_step, words_after, IsWord, IsOfWords}
-use Rattle.sharc_word.specs.History.{MayFollow, LegalHistory}
+use Rattle.sharc_word.specs.{declared.step.WordOp.WordOp, declared.step.WordOp.TheVariants.{Load, Swap, Add, Sub, Or, And, Cas}, declared.step.WordStep.WordStep, declared.step.WordEvent.WordEvent, Words.{word_after, words_after_step, words_after, IsWord, IsOfWords}, History.{MayFollow, LegalHistory}}
 
 pub length-words_after : (opening : List ℕ) (events : List WordEvent) → length (words_after opening events) ≡ length opening
 length-words_after opening [] = refl

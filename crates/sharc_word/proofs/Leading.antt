@@ -1,10 +1,6 @@
 -- Events lead ports from place to place in parts, and over words of one's own by a legal history.
-use Rattle.std.proofs.Common.{◌≡◌, List, [], ◌∷◌, ◌++◌, refl, sym, ap, ◌∙◌, subst, append_assoc}
-use Rattle.std.proofs.lemmas.List.{append-nil}
-use Rattle.sharc_word.specs.declared.step.WordEvent.{WordEvent}
-use Rattle.sharc_word.specs.Words.{words_after}
-use Rattle.sharc_word.specs.History.{LegalHistory}
-use Rattle.sharc_word.specs.Place.{Place, Leads, LeadsInWords, LeadsInEvents}
+use Rattle.std.proofs.{Common.{◌≡◌, List, [], ◌∷◌, ◌++◌, refl, sym, ap, ◌∙◌, subst, append_assoc}, lemmas.List.append-nil}
+use Rattle.sharc_word.specs.{declared.step.WordEvent.WordEvent, Words.words_after, History.LegalHistory, Place.{Place, Leads, LeadsInWords, LeadsInEvents}}
 use Rattle.sharc_word.proofs.Histories.{legal_none, legal_first, legal_rest, legal_cons}
 
 module _ (leads : Place → WordEvent → Place → Type 0) where

@@ -1,7 +1,6 @@
 -- Legal histories of words: what the steps of some words can have answered, one after the other.
 use Rattle.std.specs.Prelude.{ℕ, ◌≡◌, ◌<◌, ◌==◌, List, ◌∷◌, ◌++◌, length, filter, slice_index}
-use Rattle.sharc_word.specs.declared.step.WordEvent.{WordEvent}
-use Rattle.sharc_word.specs.Words.{words_after}
+use Rattle.sharc_word.specs.{declared.step.WordEvent.WordEvent, Words.words_after}
 
 -- the event can come next where the words are these: it is on one of them, and its result is what is there
 pub record MayFollow (words : List ℕ) (event : WordEvent) : Type 0 where

@@ -1,9 +1,7 @@
 -- Laws of histories and of ports, for the crates above.
 use Rattle.std.specs.Prelude.{ℕ, ◌≡◌, ◌↔◌, List, [], ◌∷◌, ◌++◌, length, map, All}
-use Rattle.sharc_word.specs.declared.step.WordEvent.{WordEvent}
-use Rattle.sharc_word.specs.Words.{words_after, IsWord, IsOfWords}
-use Rattle.sharc_word.specs.History.{LegalHistory, MayFollow}
-use Rattle.sharc_word.specs.Place.{Place, Leads, LeadsInWords, LeadsInEvents}
+use Rattle.sharc_word.specs.{declared.step.WordEvent.WordEvent, Words.{words_after, IsWord, IsOfWords}}
+use Rattle.sharc_word.specs.{History.{LegalHistory, MayFollow}, Place.{Place, Leads, LeadsInWords, LeadsInEvents}}
 
 -- a legal history goes on with an event exactly where that event can come next
 abbrev pub HistoryGoesOn : Type 0

@@ -1,8 +1,6 @@
 -- The places of ports, and the events that lead from one to another.
 use Rattle.std.specs.Prelude.{ℕ, ◌≡◌, List, [], ◌∷◌, ◌++◌}
-use Rattle.sharc_word.specs.declared.step.WordStep.{WordStep}
-use Rattle.sharc_word.specs.declared.step.WordEvent.{WordEvent}
-use Rattle.sharc_word.specs.Words.{words_after_step}
+use Rattle.sharc_word.specs.{declared.step.WordStep.WordStep, declared.step.WordEvent.WordEvent, Words.words_after_step}
 use Rattle.sharc_word.specs.History.{MayFollow}
 
 -- where a port is: the words that it has for itself, and the events that it has made

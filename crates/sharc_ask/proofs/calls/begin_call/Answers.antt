@@ -1,11 +1,9 @@
 use Rattle.std.proofs.Common.{◌≡◌, length, arith, sym, ap, ◌∙◌, subst}
 use Rattle.std.specs.Prelude.{List, [], ℤ}
-use Rattle.sharc_tree.specs.declared.tree.declaration.Declaration.{Declaration}
-use Rattle.sharc_tree.specs.View.{view_arguments}
+use Rattle.sharc_tree.specs.{declared.tree.declaration.Declaration.Declaration, View.view_arguments}
 use Rattle.sharc_ctype.specs.Transfers.{parameters_named}
 use Rattle.sharc_names.specs.Kinds.{declared_kinds}
-use Rattle.sharc_meaning.specs.Meaning.{calls}
-use Rattle.sharc_meaning.specs.State.{then_on}
+use Rattle.sharc_meaning.specs.{Meaning.calls, State.then_on}
 use Rattle.sharc_ask_steps.specs.View.{Known, view_state}
 use Rattle.sharc_ask.specs.Stack.{all_behind, stack_of, awaits, Moves, Reached}
 use Rattle.sharc_ask.proofs.calls.begin_call.Goals as goal

@@ -1,14 +1,10 @@
 use Rattle.std.proofs.Common.{◌≡◌, None, Some, sym, ap, ◌∙◌, subst}
-use Rattle.std.specs.Option.{option_map}
-use Rattle.std.specs.Prelude.{ℤ}
+use Rattle.std.specs.{Option.option_map, Prelude.ℤ}
 use Rattle.sharc_tree.specs.View.{view_function}
 use Rattle.sharc_ctype.specs.Resolved.{function_at}
-use Rattle.sharc_meaning.specs.Meaning.{calls}
-use Rattle.sharc_meaning.specs.State.{Run}
+use Rattle.sharc_meaning.specs.{Meaning.calls, State.Run}
 use Rattle.sharc_ask_steps.specs.View.{view_state}
-use Rattle.sharc_ask.specs.Values.{number, gives}
-use Rattle.sharc_ask.specs.Plans.{ends_above}
-use Rattle.sharc_ask.specs.Stack.{stack_of, Moves}
+use Rattle.sharc_ask.specs.{Values.{number, gives}, Plans.ends_above, Stack.{stack_of, Moves}}
 use Rattle.sharc_ask.proofs.Calling.{call_moves, call_none_is, call_stops_moves}
 use Rattle.sharc_ask.proofs.calls.call_function.Goals as goal
 

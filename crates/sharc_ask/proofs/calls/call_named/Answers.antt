@@ -1,14 +1,9 @@
 use Rattle.std.proofs.Common.{◌≡◌, Ok, Err, sym, ap, ◌∙◌, subst, rules}
 use Rattle.std.specs.Prelude.{ℤ, pos}
 use Rattle.sharc_names.specs.declared.fault.Named.{Named}
-use Rattle.sharc_meaning.specs.Expressions.{called}
-use Rattle.sharc_meaning.specs.Meaning.{calls}
-use Rattle.sharc_meaning.specs.State.{Run}
-use Rattle.sharc_meaning.specs.Waiting.{condition_call}
+use Rattle.sharc_meaning.specs.{Expressions.called, Meaning.calls, State.Run, Waiting.condition_call}
 use Rattle.sharc_ask_steps.specs.View.{view_state}
-use Rattle.sharc_ask.specs.Values.{number, gives}
-use Rattle.sharc_ask.specs.Plans.{ends_above, zero_behind}
-use Rattle.sharc_ask.specs.Stack.{stack_of, Moves}
+use Rattle.sharc_ask.specs.{Values.{number, gives}, Plans.{ends_above, zero_behind}, Stack.{stack_of, Moves}}
 use Rattle.sharc_ask.proofs.Stacking.{plan_moves, plan_ends}
 use Rattle.sharc_ask.proofs.calls.call_named.Goals as goal
 

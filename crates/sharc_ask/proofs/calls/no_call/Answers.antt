@@ -1,11 +1,8 @@
 use Rattle.std.proofs.Common.{◌≡◌, Ok, Err, refl, sym, subst, rules}
 use Rattle.std.specs.Prelude.{ℤ, pos}
-use Rattle.sharc_meaning.specs.Meaning.{calls}
-use Rattle.sharc_meaning.specs.State.{Run, give}
+use Rattle.sharc_meaning.specs.{Meaning.calls, State.{Run, give}}
 use Rattle.sharc_ask_steps.specs.View.{view_state, Does}
-use Rattle.sharc_ask.specs.Values.{number, gives}
-use Rattle.sharc_ask.specs.Plans.{ends_above}
-use Rattle.sharc_ask.specs.Stack.{Moves}
+use Rattle.sharc_ask.specs.{Values.{number, gives}, Plans.ends_above, Stack.Moves}
 use Rattle.sharc_ask.proofs.Stacking.{plan_moves, plan_ends}
 use Rattle.sharc_ask.proofs.calls.no_call.Goals as goal
 

@@ -1,19 +1,12 @@
-use Rattle.sharc_tree.specs.View.{view_expr}
+use Rattle.sharc_tree.specs.{View.{view_expr, view_arguments}, declared.tree.expression.Expr.Expr, Children.view_call, Tree.{index, field, spawn, cast}}
 use Rattle.std.proofs.Common.{◌≡◌, length, arith, refl, ap, sym, ◌∙◌}
 use Rattle.sharc_ask_steps.specs.View.{Known, view_state}
-use Rattle.sharc_tree.specs.declared.tree.expression.Expr.{Expr}
-use Rattle.sharc_tree.specs.Children.{view_call}
-use Rattle.sharc_tree.specs.Tree.{index, field, spawn, cast}
-use Rattle.sharc_tree.specs.View.{view_arguments}
 use Rattle.sharc_names.specs.declared.fault.Named.{Named}
 use Rattle.sharc_ctype.specs.Resolved.{named_at}
 use Rattle.sharc_mode.specs.Cells.{cell_at}
-use Rattle.sharc_meaning.specs.Expressions.{eval, place_of, named_value, place_value}
-use Rattle.sharc_meaning.specs.Places.{index_place, field_place}
-use Rattle.sharc_ask.specs.Values.{gives, number}
-use Rattle.sharc_ask.specs.Plans.{inside}
-use Rattle.sharc_ask.proofs.Expressing.{identifier_is, call_is, spawn_is, cast_is, place_is}
-use Rattle.sharc_ask.proofs.Outs.{same_plans}
+use Rattle.sharc_meaning.specs.{Expressions.{eval, place_of, named_value, place_value}, Places.{index_place, field_place}}
+use Rattle.sharc_ask.specs.{Values.{gives, number}, Plans.inside}
+use Rattle.sharc_ask.proofs.{Expressing.{identifier_is, call_is, spawn_is, cast_is, place_is}, Outs.same_plans}
 use Rattle.sharc_ask.proofs.expressions.eval_plan.Goals as goal
 
 pub returns-in-Identifier-clause-means : goal.returns-in-Identifier-clause-means

@@ -1,15 +1,11 @@
-use Rattle.sharc_tree.specs.View.{view_expr}
+use Rattle.sharc_tree.specs.{View.view_expr, declared.tree.expression.Expr.Expr, Tree.{Expression, index, field, unary}}
 use Rattle.std.proofs.Common.{◌≡◌, ap, sym, ◌∙◌, subst}
-use Rattle.sharc_tree.specs.declared.tree.expression.Expr.{Expr}
-use Rattle.sharc_tree.specs.Tree.{Expression, index, field, unary}
 use Rattle.sharc_names.specs.declared.fault.Named.{Named}
-use Rattle.sharc_meaning.specs.Expressions.{eval, place_of}
-use Rattle.sharc_meaning.specs.Places.{field_place}
+use Rattle.sharc_meaning.specs.{Expressions.{eval, place_of}, Places.field_place}
 use Rattle.sharc_ask.specs.declared.plan.Plan.TheVariants as plans
 use Rattle.sharc_ask.specs.declared.plan.Rest.TheVariants as rests
 use Rattle.sharc_ask.specs.declared.plan.Task.TheVariants as tasks
-use Rattle.sharc_ask.specs.Values.{gives, place}
-use Rattle.sharc_ask.specs.Plans.{plan_means, inside}
+use Rattle.sharc_ask.specs.{Values.{gives, place}, Plans.{plan_means, inside}}
 use Rattle.sharc_ask.proofs.Stating.{same_begins}
 use Rattle.sharc_ask.proofs.expressions.place_plan.Goals as goal
 

@@ -1,13 +1,10 @@
 use Rattle.std.proofs.Common.{◌≡◌, Ok, Err, refl, sym, ap, subst, rules}
 use Rattle.sharc_tree.specs.View.{view_stmt}
 use Rattle.sharc_names.specs.View.{view_kind}
-use Rattle.sharc_meaning.specs.State.{State, Run, then_on, ◌>>=◌, give}
-use Rattle.sharc_meaning.specs.Statements.{exec}
+use Rattle.sharc_meaning.specs.{State.{State, Run, then_on, ◌>>=◌, give}, Statements.exec}
 use Rattle.sharc_ask_steps.specs.View.{view_state}
-use Rattle.sharc_ask.specs.Values.{Value, flow, gives}
-use Rattle.sharc_ask.specs.Plans.{rest_means, Plans}
-use Rattle.sharc_ask.proofs.Outs.{entered_plans, entered_over}
-use Rattle.sharc_ask.proofs.Steps.{exec_over}
+use Rattle.sharc_ask.specs.{Values.{Value, flow, gives}, Plans.{rest_means, Plans}}
+use Rattle.sharc_ask.proofs.{Outs.{entered_plans, entered_over}, Steps.exec_over}
 use Rattle.sharc_ask.proofs.flows.begin_statement.Goals as goal
 
 pub returns-clause-means : goal.returns-clause-means

@@ -1,14 +1,10 @@
-use Rattle.std.proofs.Common.{◌≡◌, ◌+◌, ◌*◌, ◌≤◌, arith, sym, ap, ◌∙◌}
-use Rattle.std.proofs.lemmas.Result.{IfOk-weaker}
+use Rattle.std.proofs.{Common.{◌≡◌, ◌+◌, ◌*◌, ◌≤◌, arith, sym, ap, ◌∙◌}, lemmas.Result.IfOk-weaker}
 use Rattle.sharc_tree.specs.View.{view_stmt}
 use Rattle.sharc_names.specs.View.{view_kind}
 use Rattle.sharc_meaning.specs.Statements.{exec}
 use Rattle.sharc_ask_steps.specs.View.{view_state}
-use Rattle.sharc_ask.specs.View.{view_otherwise, other_done}
-use Rattle.sharc_ask.specs.Values.{flow, gives}
-use Rattle.sharc_ask.specs.Plans.{chosen_done, Begins, size}
-use Rattle.sharc_ask.proofs.Outs.{same_plans}
-use Rattle.sharc_ask.proofs.Stating.{out_given}
+use Rattle.sharc_ask.specs.{View.{view_otherwise, other_done}, Values.{flow, gives}, Plans.{chosen_done, Begins, size}}
+use Rattle.sharc_ask.proofs.{Outs.same_plans, Stating.out_given}
 use Rattle.sharc_ask.proofs.flows.behind_choice.Goals as goal
 
 pub returns-then-is_true-clause-means : goal.returns-then-is_true-clause-means

@@ -1,17 +1,10 @@
 use Rattle.std.proofs.Common.{◌≡◌, ℕ, arith, length, None, Some, sym, ap, ◌∙◌, subst, refl}
-use Rattle.sharc_tree.specs.Children.{view_block}
-use Rattle.sharc_tree.specs.Tree.{Statement, empty, block, declare, simple, jump, return, if_then, if_then_else, while, for}
-use Rattle.sharc_tree.specs.View.{view_expr, view_option, view_simple, view_local, view_first, view_head, view_stmt, view_statements}
+use Rattle.sharc_tree.specs.{Children.view_block, Tree.{Statement, empty, block, declare, simple, jump, return, if_then, if_then_else, while, for}, View.{view_expr, view_option, view_simple, view_local, view_first, view_head, view_stmt, view_statements}}
 use Rattle.sharc_names.specs.View.{view_kind}
-use Rattle.sharc_meaning.specs.Expressions.{tested, eval}
-use Rattle.sharc_meaning.specs.State.{State, go, Run, then_on, give}
-use Rattle.sharc_meaning.specs.Statements.{Flow, next, declared, done_simple, done_first, done_test, done_step, return_with, turns, loop, exec, exec_all}
+use Rattle.sharc_meaning.specs.{Expressions.{tested, eval}, State.{State, go, Run, then_on, give}, Statements.{Flow, next, declared, done_simple, done_first, done_test, done_step, return_with, turns, loop, exec, exec_all}}
 use Rattle.sharc_ask_steps.specs.View.{Known}
-use Rattle.sharc_ask.specs.View.{test_of_loop, step_of_loop, body_of_loop}
-use Rattle.sharc_ask.specs.Values.{Value, flow, gives, as_nothing}
-use Rattle.sharc_ask.specs.Plans.{inside, ends_block, chosen_done}
-use Rattle.sharc_ask.proofs.Flowing.{test_then, step_then, block_begins, for_begins}
-use Rattle.sharc_ask.proofs.Stating.{out_given}
+use Rattle.sharc_ask.specs.{View.{test_of_loop, step_of_loop, body_of_loop}, Values.{Value, flow, gives, as_nothing}, Plans.{inside, ends_block, chosen_done}}
+use Rattle.sharc_ask.proofs.{Flowing.{test_then, step_then, block_begins, for_begins}, Stating.out_given}
 use Rattle.sharc_ask.proofs.flows.entered_plan.Goals as goal
 
 pub returns-in-Empty-clause-means : goal.returns-in-Empty-clause-means

@@ -2,14 +2,10 @@ use Rattle.std.proofs.Common.{◌≡◌, Ok, sym, ap, ◌∙◌, subst, to_z, of
 use Rattle.std.specs.Prelude.{ℤ}
 use Rattle.sharc_tree.specs.View.{view_stmt}
 use Rattle.sharc_names.specs.View.{view_kind}
-use Rattle.sharc_meaning.specs.State.{go, Run, give}
-use Rattle.sharc_meaning.specs.Statements.{Flow}
+use Rattle.sharc_meaning.specs.{State.{go, Run, give}, Statements.Flow}
 use Rattle.sharc_ask_steps.specs.View.{Known, view_state, Does, DoesAs}
-use Rattle.sharc_ask.specs.View.{view_flow, view_otherwise, number_left}
-use Rattle.sharc_ask.specs.Values.{flow, number, flow_in, test_in, view_value, gives}
-use Rattle.sharc_ask.specs.Plans.{Plans, after_means, ends_above, ends_block, others_done, chosen_done, tested_done, left_body, turns_of}
-use Rattle.sharc_ask.proofs.Flowing.{ends_then}
-use Rattle.sharc_ask.proofs.Stating.{out_given}
+use Rattle.sharc_ask.specs.{View.{view_flow, view_otherwise, number_left}, Values.{flow, number, flow_in, test_in, view_value, gives}, Plans.{Plans, after_means, ends_above, ends_block, others_done, chosen_done, tested_done, left_body, turns_of}}
+use Rattle.sharc_ask.proofs.{Flowing.ends_then, Stating.out_given}
 use Rattle.sharc_ask.proofs.flows.with_after.Goals as goal
 
 pub returns-in-Simple-clause-means : goal.returns-in-Simple-clause-means

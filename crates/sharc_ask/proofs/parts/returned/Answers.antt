@@ -1,11 +1,9 @@
 use Rattle.std.proofs.Common.{◌≡◌, Err, ap, sym, ◌∙◌, subst, to_z-of_z, rules}
 use Rattle.sharc_tree.specs.View.{view_expr}
 use Rattle.sharc_names.specs.View.{view_kind}
-use Rattle.sharc_meaning.specs.Arithmetic.{fits}
-use Rattle.sharc_meaning.specs.Statements.{returned}
+use Rattle.sharc_meaning.specs.{Arithmetic.fits, Statements.returned}
 use Rattle.sharc_ask_steps.specs.View.{view_state, DoesAs}
-use Rattle.sharc_ask.specs.Plans.{returned_with}
-use Rattle.sharc_ask.specs.View.{view_flow}
+use Rattle.sharc_ask.specs.{Plans.returned_with, View.view_flow}
 use Rattle.sharc_ask.specs.declared.values.Flow.TheVariants as flows
 use Rattle.sharc_ask.proofs.Fitting.{returned_goes, returned_over}
 use Rattle.sharc_ask.proofs.parts.returned.Goals as goal

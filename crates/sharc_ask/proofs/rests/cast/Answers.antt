@@ -1,17 +1,10 @@
 use Rattle.std.proofs.Common.{◌≡◌, Err, sym, subst, to_z, of_z, w64, rules, if◌then◌else◌}
 use Rattle.std.specs.Prelude.{ℤ, Some}
-use Rattle.sharc_tree.specs.View.{view_expr}
-use Rattle.sharc_mode.specs.Cells.{cell_at, pointed}
-use Rattle.sharc_meaning.specs.State.{Run, give}
+use Rattle.sharc_tree.specs.{View.view_expr, declared.event.TakeKind.TheVariants.Cast, Spans.span_of}
+use Rattle.sharc_mode.specs.{Cells.{cell_at, pointed}, Rows.cast_row}
+use Rattle.sharc_meaning.specs.{State.{Run, give, ◌>>=◌}, Places.{taken_from, cast_to}, Reference.is_null}
 use Rattle.sharc_ask_steps.specs.View.{view_state, view_place, Does}
-use Rattle.sharc_ask.specs.Values.{gives, number}
-use Rattle.sharc_meaning.specs.State.{◌>>=◌}
-use Rattle.sharc_ask.specs.Plans.{ends_above, Plans}
-use Rattle.sharc_tree.specs.declared.event.TakeKind.TheVariants.{Cast}
-use Rattle.sharc_tree.specs.Spans.{span_of}
-use Rattle.sharc_mode.specs.Rows.{cast_row}
-use Rattle.sharc_meaning.specs.Places.{taken_from, cast_to}
-use Rattle.sharc_meaning.specs.Reference.{is_null}
+use Rattle.sharc_ask.specs.{Values.{gives, number}, Plans.{ends_above, Plans}}
 use Rattle.sharc_ask.proofs.Outs.{number_then, number_over}
 use Rattle.sharc_ask.proofs.rests.cast.Goals as goal
 

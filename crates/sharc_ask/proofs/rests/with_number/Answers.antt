@@ -1,11 +1,9 @@
 use Rattle.std.proofs.Common.{◌≡◌, sym, subst, to_z, of_z, w64, rules, to_z-of_z}
 use Rattle.std.specs.Prelude.{ℤ}
-use Rattle.sharc_meaning.specs.Places.{Place}
+use Rattle.sharc_meaning.specs.{Places.{Place, variable, stored}, State.{Run, give}}
 use Rattle.sharc_tree.specs.View.{view_expr}
 use Rattle.sharc_names.specs.Kinds.{declared_kind}
 use Rattle.sharc_mode.specs.Sharings.{private}
-use Rattle.sharc_meaning.specs.Places.{variable, stored}
-use Rattle.sharc_meaning.specs.State.{Run, give}
 use Rattle.sharc_ask_steps.specs.View.{view_state, view_place, DoesAs}
 use Rattle.sharc_ask.specs.Plans.{Plans, number_means, ends_above, element_in, element_behind, assigned_to}
 use Rattle.sharc_ask.proofs.rests.with_number.Goals as goal

@@ -1,22 +1,13 @@
 use Rattle.std.proofs.Common.{◌≡◌, ap, sym, ◌∙◌, subst, to_z, of_z, w64, rules, to_z-of_z, IfOk, ◌+◌, ◌<◌, ◌≤◌, arith}
 use Rattle.std.specs.Prelude.{ℤ, pos}
 use Rattle.sharc_tree.specs.View.{view_expr}
-use Rattle.sharc_names.specs.Kinds.{declared_kinds, promoted}
-use Rattle.sharc_names.specs.View.{view_kind}
+use Rattle.sharc_names.specs.{Kinds.{declared_kinds, promoted}, View.view_kind}
 use Rattle.sharc_ctype.specs.Resolved.{kind_at}
 use Rattle.sharc_mode.specs.View.{view_sharing}
-use Rattle.sharc_meaning.specs.Arithmetic.{bits_of, negated}
-use Rattle.sharc_meaning.specs.Expressions.{tested, passed, value_called, resulting, fitting, eval}
-use Rattle.sharc_meaning.specs.Places.{based, pointee_place}
-use Rattle.sharc_meaning.specs.State.{Run, ◌>>=◌, give, holds, drops}
-use Rattle.sharc_ask_steps.specs.View.{view_state, Does}
-use Rattle.sharc_ask_steps.specs.Width.{value_bits}
-use Rattle.sharc_ask.specs.View.{made}
-use Rattle.sharc_ask.specs.Values.{number, place, number_in, gives}
-use Rattle.sharc_ask.specs.Plans.{Fits, Starts, size, value_weight, Plans, value_means, ends_above, test_then, step_then, spawned_with, inverted_with, truth_with, returned_with, and_with, or_with, left_with, joined_with, element_behind, behind_pointer}
-use Rattle.sharc_ask.proofs.Outs.{same_plans}
-use Rattle.sharc_ask.proofs.Resuming.{and_goes, or_goes, left_goes, pointer_goes}
-use Rattle.sharc_ask.proofs.Weighing.{fits_start}
+use Rattle.sharc_meaning.specs.{Arithmetic.{bits_of, negated}, Expressions.{tested, passed, value_called, resulting, fitting, eval}, Places.{based, pointee_place}, State.{Run, ◌>>=◌, give, holds, drops}}
+use Rattle.sharc_ask_steps.specs.{View.{view_state, Does}, Width.value_bits}
+use Rattle.sharc_ask.specs.{View.made, Values.{number, place, number_in, gives}, Plans.{Fits, Starts, size, value_weight, Plans, value_means, ends_above, test_then, step_then, spawned_with, inverted_with, truth_with, returned_with, and_with, or_with, left_with, joined_with, element_behind, behind_pointer}}
+use Rattle.sharc_ask.proofs.{Outs.same_plans, Resuming.{and_goes, or_goes, left_goes, pointer_goes}, Weighing.fits_start}
 use Rattle.sharc_ask.proofs.rests.with_value.Goals as goal
 
 pub returns-in-Tested-clause-means : goal.returns-in-Tested-clause-means

@@ -1,14 +1,10 @@
 use Rattle.sharc_tree.specs.View.{view_option, view_right, view_local}
-use Rattle.std.proofs.Common.{◌+◌, ◌*◌, ◌<◌, ◌≤◌, arith}
+use Rattle.std.proofs.{Common.{◌+◌, ◌*◌, ◌<◌, ◌≤◌, arith}, lemmas.Result.IfOk-weaker}
 use Rattle.sharc_ask_steps.specs.View.{view_state}
 use Rattle.std.specs.Prelude.{pos}
-use Rattle.std.proofs.lemmas.Result.{IfOk-weaker}
-use Rattle.sharc_meaning.specs.State.{begins_with}
-use Rattle.sharc_meaning.specs.Statements.{declared, initialised}
-use Rattle.sharc_ask.specs.Values.{gives, as_nothing}
-use Rattle.sharc_ask.specs.Plans.{Fits, Begins, size, step_then, plan_means}
-use Rattle.sharc_ask.proofs.Outs.{same_plans}
-use Rattle.sharc_ask.proofs.Stating.{step_begins}
+use Rattle.sharc_meaning.specs.{State.begins_with, Statements.{declared, initialised}}
+use Rattle.sharc_ask.specs.{Values.{gives, as_nothing}, Plans.{Fits, Begins, size, step_then, plan_means}}
+use Rattle.sharc_ask.proofs.{Outs.same_plans, Stating.step_begins}
 use Rattle.sharc_ask.proofs.statements.begin_local.Goals as goal
 
 pub returns-clause-means : goal.returns-clause-means

@@ -1,6 +1,5 @@
 use Rattle.sharc_ask_steps.specs.View.{view_state}
-use Rattle.sharc_tree.specs.Tree.{malloc}
-use Rattle.sharc_tree.specs.View.{view_expr, view_option}
+use Rattle.sharc_tree.specs.{Tree.malloc, View.{view_expr, view_option}}
 use Rattle.sharc_mode.specs.View.{view_sharing}
 use Rattle.sharc_meaning.specs.Statements.{right_value}
 use Rattle.sharc_ask.specs.Values.{gives, number}

@@ -1,14 +1,8 @@
 use Rattle.sharc_tree.specs.View.{view_option, view_right}
 use Rattle.std.proofs.Common.{◌≡◌, ap, sym, ◌∙◌, Some}
-use Rattle.sharc_names.specs.Kinds.{declared_kind}
-use Rattle.sharc_mode.specs.Cells.{pointed}
-use Rattle.sharc_mode.specs.Rows.{written, declared_row}
-use Rattle.sharc_meaning.specs.Statements.{initialised, right_value}
-use Rattle.sharc_names.specs.View.{view_kind}
-use Rattle.sharc_mode.specs.Sharings.{private}
-use Rattle.sharc_mode.specs.View.{view_sharing}
-use Rattle.sharc_meaning.specs.Places.{variable, stored}
-use Rattle.sharc_meaning.specs.State.{Run, then_on}
+use Rattle.sharc_names.specs.{Kinds.declared_kind, View.view_kind}
+use Rattle.sharc_mode.specs.{Cells.pointed, Rows.{written, declared_row}, Sharings.private, View.view_sharing}
+use Rattle.sharc_meaning.specs.{Statements.{initialised, right_value}, Places.{variable, stored}, State.{Run, then_on}}
 use Rattle.sharc_ask.specs.Values.{Value, gives, number, number_in, as_nothing}
 use Rattle.sharc_ask.proofs.Stating.{initial_begins}
 use Rattle.sharc_ask.proofs.statements.initial_plan.Goals as goal

@@ -1,6 +1,5 @@
-use Rattle.sharc_tree.specs.View.{view_expr, view_option}
+use Rattle.sharc_tree.specs.{View.{view_expr, view_option}, declared.tree.expression.Expr.Expr}
 use Rattle.std.proofs.Common.{ap, sym, ◌∙◌, Some}
-use Rattle.sharc_tree.specs.declared.tree.expression.Expr.{Expr}
 use Rattle.sharc_names.specs.View.{view_kind}
 use Rattle.sharc_meaning.specs.Statements.{return_with}
 use Rattle.sharc_ask.specs.Values.{gives, flow}

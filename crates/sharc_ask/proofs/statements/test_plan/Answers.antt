@@ -1,8 +1,7 @@
 use Rattle.std.proofs.Common.{ap, ◌∙◌}
 use Rattle.sharc_meaning.specs.Statements.{done_test}
 use Rattle.sharc_ask.specs.declared.plan.Task.TheVariants as tasks
-use Rattle.sharc_ask.specs.View.{view_test}
-use Rattle.sharc_ask.specs.Values.{gives, test}
+use Rattle.sharc_ask.specs.{View.view_test, Values.{gives, test}}
 use Rattle.sharc_ask.proofs.Stating.{same_begins}
 use Rattle.sharc_ask.proofs.statements.test_plan.Goals as goal
 

@@ -1,8 +1,6 @@
-use Rattle.std.proofs.Common.{◌≡◌, ◌++◌, Err, w64, to_z, of_z, refl, ap, ◌∙◌, subst}
-use Rattle.std.proofs.lemmas.Int.{to_z-of_z}
+use Rattle.std.proofs.{Common.{◌≡◌, ◌++◌, Err, w64, to_z, of_z, refl, ap, ◌∙◌, subst}, lemmas.Int.to_z-of_z}
 use Rattle.sharc_ctype.specs.Resolved.{function_at}
-use Rattle.sharc_meaning.specs.Meaning.{run_thread, start}
-use Rattle.sharc_meaning.specs.State.{pointers_among}
+use Rattle.sharc_meaning.specs.{Meaning.{run_thread, start}, State.pointers_among}
 use Rattle.sharc_ask_steps.specs.declared.state.End.TheVariants as ends
 use Rattle.sharc_ask_steps.specs.View.{Known, known, view_state, Over, Does}
 use Rattle.sharc_ask.specs.declared.asked.Outcome.TheVariants.{Wants, StoppedX}

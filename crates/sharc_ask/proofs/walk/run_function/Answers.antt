@@ -3,10 +3,8 @@ use Rattle.std.specs.Prelude.{reverse}
 use Rattle.sharc_tree.specs.View.{view_function}
 use Rattle.sharc_meaning.specs.Meaning.{calls, run_function}
 use Rattle.sharc_ask_steps.specs.View.{view_state, Does}
-use Rattle.sharc_ask.specs.Values.{as_left, gives}
-use Rattle.sharc_ask.specs.Stack.{stack_of, Moves}
-use Rattle.sharc_ask.proofs.Returning.{left_over}
-use Rattle.sharc_ask.proofs.Stacking.{whole_does}
+use Rattle.sharc_ask.specs.{Values.{as_left, gives}, Stack.{stack_of, Moves}}
+use Rattle.sharc_ask.proofs.{Returning.left_over, Stacking.whole_does}
 use Rattle.sharc_ask.proofs.walk.run_function.Goals as goal
 
 pub returns : goal.returns

@@ -2,10 +2,8 @@ use Rattle.std.proofs.Common.{◌≡◌, List, [], ◌∷◌, ◌++◌, sym, ap,
 use Rattle.std.specs.Prelude.{reverse}
 use Rattle.sharc_meaning.specs.Meaning.{calls}
 use Rattle.sharc_ask_steps.specs.View.{view_state}
-use Rattle.sharc_ask.specs.declared.stack.Left.{Left}
-use Rattle.sharc_ask.specs.Plans.{plan_means}
-use Rattle.sharc_ask.specs.Stack.{stack_of, Steps, at_means}
-use Rattle.sharc_ask.proofs.Stacking.{on_top, whole_steps, popped_moves}
+use Rattle.sharc_ask.specs.{declared.stack.Left.Left, Plans.plan_means, Stack.{stack_of, Steps, at_means}}
+use Rattle.sharc_ask.proofs.Stacking.{on_top, popped_moves}
 use Rattle.sharc_ask.proofs.walk.step.Goals as goal
 
 pub returns-in-Goes-clause-steps : goal.returns-in-Goes-clause-steps

@@ -1,9 +1,6 @@
 use Rattle.std.specs.Prelude.{◌+◌, ◌*◌, Result}
-use Rattle.sharc_ask_steps.specs.declared.state.End.{End}
-use Rattle.sharc_ask_steps.specs.View.{Known, view_state}
-use Rattle.sharc_ask.specs.declared.plan.Value.{Value}
-use Rattle.sharc_ask.specs.Plans.{size}
-use Rattle.sharc_ask.specs.Stack.{stack_of, Comes, load}
+use Rattle.sharc_ask_steps.specs.{declared.state.End.End, View.{Known, view_state}}
+use Rattle.sharc_ask.specs.{declared.plan.Value.Value, Plans.size, Stack.{stack_of, Comes, load}}
 use Rattle.sharc_ask.proofs.walk.walk.Given as goal
 
 abbrev pub invariant-loop-stack : goal.invariant-loop-stack

@@ -1,5 +1,4 @@
-use Rattle.std.proofs.Common.{◌≡◌, length, arith}
-use Rattle.std.proofs.lemmas.Result.{err_from_is_err_and}
+use Rattle.std.proofs.{Common.{◌≡◌, length, arith}, lemmas.Result.err_from_is_err_and}
 use Rattle.sharc_ask_steps.specs.View.{view_state, view_place}
 use Rattle.sharc_ask_steps.proofs.Locks.{lock_of_too_many, lock_not_done, lock_goes}
 use Rattle.sharc_ask_steps.proofs.locking.lock_call.Goals as goal

@@ -1,8 +1,6 @@
 use Rattle.std.proofs.Common.{rules, ◌≡◌, ◌<◌, ◌++◌, List, [], ◌∷◌, pos, ℤ, length, drop, take, ◌-◌, slice_index_or, to_z, of_z, w64, refl, sym, subst}
-use Rattle.sharc_tree.specs.declared.event.CellAt.{CellAt}
-use Rattle.sharc_tree.specs.declared.event.SourceEvent.{SourceEvent}
-use Rattle.sharc_meaning.specs.declared.given.GivenUp.{GivenUp}
-use Rattle.sharc_meaning.specs.State.{answered, value_in, answer_of, event_of}
+use Rattle.sharc_tree.specs.{declared.event.CellAt.CellAt, declared.event.SourceEvent.SourceEvent}
+use Rattle.sharc_meaning.specs.{declared.given.GivenUp.GivenUp, State.{answered, value_in, answer_of, event_of}}
 use Rattle.sharc_ask_steps.specs.View.{Known, Went, view_state, held_after}
 use Rattle.sharc_ask_steps.proofs.NextAnswer.{event_does, all_left}
 use Rattle.sharc_ask_steps.proofs.state.ask_event.Goals as goal

@@ -1,7 +1,5 @@
-use Rattle.std.proofs.Common.{List, ap, ◌∙◌, refl, w64, arith}
-use Rattle.std.proofs.lemmas.Int.{to_z-of_z}
-use Rattle.sharc_meaning.specs.declared.variable.Variable.{Variable}
-use Rattle.sharc_meaning.specs.State.{with_value}
+use Rattle.std.proofs.{Common.{List, ap, ◌∙◌, refl, w64, arith}, lemmas.Int.to_z-of_z}
+use Rattle.sharc_meaning.specs.{declared.variable.Variable.Variable, State.with_value}
 use Rattle.sharc_ask_steps.specs.View.{Known, view_state, place_of}
 use Rattle.sharc_ask_steps.proofs.Variables.{set_like, set_none}
 use Rattle.sharc_ask_steps.proofs.state.set.Goals as goal

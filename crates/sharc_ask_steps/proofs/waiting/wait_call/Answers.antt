@@ -1,5 +1,4 @@
-use Rattle.std.proofs.Common.{to_z, of_z, w64, to_z-of_z}
-use Rattle.std.proofs.lemmas.Result.{err_from_is_err_and}
+use Rattle.std.proofs.{Common.{to_z, of_z, w64, to_z-of_z}, lemmas.Result.err_from_is_err_and}
 use Rattle.sharc_ask_steps.specs.View.{view_state}
 use Rattle.sharc_ask_steps.proofs.Waits.{wait_goes, wait_not_held, wait_of_null_mutex}
 use Rattle.sharc_ask_steps.proofs.waiting.wait_call.Goals as goal

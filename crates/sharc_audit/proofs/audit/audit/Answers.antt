@@ -1,16 +1,8 @@
-use Rattle.std.proofs.Common.{◌+◌, ◌-◌, suc, [], ◌∷◌, ◌++◌, length, drop, sym, subst, ◌∙◌, add-one, take}
-use Rattle.std.proofs.lemmas.Bool.{iff_false}
-use Rattle.sharc_audit.specs.Audited.{Audits}
+use Rattle.std.proofs.{Common.{◌+◌, ◌-◌, suc, [], ◌∷◌, ◌++◌, length, drop, sym, subst, ◌∙◌, add-one, take}, lemmas.Bool.iff_false}
+use Rattle.sharc_audit.specs.{Audited.Audits, Lines.IsLine, Known.{AreKnown, ArePlaces}, Breaking.{IsFault, IsPassed}, Mains.OneMain, Reported.AreTold}
 use Rattle.sharc_audit.specs.declared.audit.EventFault.TheVariants as fault
 use Rattle.sharc_audit.specs.declared.audit.Verdict.TheVariants as verdict
-use Rattle.sharc_audit.specs.Lines.{IsLine}
-use Rattle.sharc_audit.specs.Known.{AreKnown, ArePlaces}
-use Rattle.sharc_audit.specs.Breaking.{IsFault, IsPassed}
-use Rattle.sharc_audit.specs.Mains.{OneMain}
-use Rattle.sharc_audit.proofs.Auditing.{Standing, at_place, says_spent, says_nothing, says_other, says_fault, stands_on, nothing_stands, nothing_known, told_so, lines_behind}
-use Rattle.sharc_audit.specs.Reported.{AreTold}
-use Rattle.sharc_audit.proofs.Breaking.{unbroken_so}
-use Rattle.sharc_audit.proofs.Placing.{once_if_legal, parts_at, told_on}
+use Rattle.sharc_audit.proofs.{Auditing.{Standing, at_place, says_spent, says_nothing, says_other, says_fault, stands_on, nothing_stands, nothing_known, told_so, lines_behind}, Breaking.unbroken_so, Placing.{once_if_legal, parts_at, told_on}}
 use Rattle.sharc_audit.proofs.audit.audit.Goals as goal
 
 pub fault_of-requires : goal.fault_of-requires

@@ -1,8 +1,6 @@
-use Rattle.std.proofs.Common.{◌≡◌, ◌<◌, ◌-◌, ℕ, length, take, arith, refl, sym, ◌∙◌}
-use Rattle.std.proofs.lemmas.Bool.{eqb-true, both_ways, eq-eqb}
-use Rattle.sharc_audit.proofs.Filing.{heading_next, heading_end, heading_bad, heading_found}
+use Rattle.std.proofs.{Common.{◌≡◌, ◌<◌, ◌-◌, ℕ, length, take, arith, refl, sym, ◌∙◌}, lemmas.Bool.{eqb-true, both_ways, eq-eqb}}
+use Rattle.sharc_audit.proofs.{Filing.{heading_next, heading_end, heading_bad, heading_found}, file.head.Goals.{then-n-gt1+in-None, else-n-gt1}}
 use Rattle.sharc_audit.proofs.file.head.Goals as goal
-use Rattle.sharc_audit.proofs.file.head.Goals.{then-n-gt1+in-None, else-n-gt1}
 
 some : (n : ℕ) → (n ≡ 0 → ⊥) → 0 < n
 some n h = omega (arith, h)

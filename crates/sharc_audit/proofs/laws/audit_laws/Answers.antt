@@ -1,5 +1,4 @@
-use Rattle.sharc_audit.proofs.Auditing.{one_verdict}
-use Rattle.sharc_audit.proofs.Mains.{one_main}
+use Rattle.sharc_audit.proofs.{Auditing.one_verdict, Mains.one_main}
 use Rattle.sharc_audit.proofs.laws.audit_laws.Goals as goal
 
 pub returns : goal.returns

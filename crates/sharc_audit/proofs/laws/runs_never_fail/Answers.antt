@@ -1,5 +1,4 @@
-use Rattle.sharc_audit.proofs.Mains.{one_main}
-use Rattle.sharc_audit.proofs.Running.{never_fails}
+use Rattle.sharc_audit.proofs.{Mains.one_main, Running.never_fails}
 use Rattle.sharc_audit.proofs.laws.runs_never_fail.Goals as goal
 
 pub returns : goal.returns

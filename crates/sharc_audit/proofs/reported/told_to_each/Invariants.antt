@@ -1,6 +1,5 @@
 use Rattle.std.proofs.Common.{◌≡◌, ℕ, take}
-use Rattle.sharc_audit.specs.Lines.{told_to}
-use Rattle.sharc_audit.specs.Reported.{told_in}
+use Rattle.sharc_audit.specs.{Lines.told_to, Reported.told_in}
 use Rattle.sharc_audit.proofs.reported.told_to_each.Given as goal
 
 abbrev pub invariant-loop-line : goal.invariant-loop-line

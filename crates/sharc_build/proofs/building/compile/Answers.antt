@@ -1,8 +1,6 @@
 use Rattle.std.proofs.Common.{IfOk, Result, Ok, Err}
-use Rattle.sharc_code.specs.declared.code.Code.{Code}
-use Rattle.sharc_code.specs.Ranges.{NumbersFit}
-use Rattle.sharc_flat_form.specs.Framed.{IsFramed}
-use Rattle.sharc_flat_form.specs.Made.{flat_of}
+use Rattle.sharc_code.specs.{declared.code.Code.Code, Ranges.NumbersFit}
+use Rattle.sharc_flat_form.specs.{Framed.IsFramed, Made.flat_of}
 use Rattle.sharc_guard.specs.Tables.{FlatTablesFit}
 use Rattle.sharc_compile.specs.Made.{IsCodeOf}
 use Rattle.sharc_flat_laws.specs.Typed.{IsTypedProgram}

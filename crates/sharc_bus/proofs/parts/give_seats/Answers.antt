@@ -1,12 +1,8 @@
 -- Each turn leaves the seat of one port, and the rest has the parts of the later ones.
 use Rattle.std.proofs.Common.{◌≡◌, ◌≢◌, ℕ, suc, ◌+◌, ◌-◌, ◌<◌, List, [], ◌∷◌, ◌++◌, take, drop, refl, sym, ap, ◌∙◌, arith}
 use Rattle.atomic_table.specs.Table.{Me}
-use Rattle.sharc_bus.specs.declared.rule.Part.{Part}
-use Rattle.sharc_bus.specs.Rule.{IsAmong, unbegun, words_known, own_bit, first_number}
-use Rattle.sharc_bus.specs.Bus.{SeatView}
-use Rattle.sharc_bus.specs.Table.{seat_view, seats_with}
-use Rattle.sharc_bus.proofs.Seats.{among_unbegun, split_allowed}
-use Rattle.sharc_bus.proofs.Giving.{rest_is, given_more, next_bit}
+use Rattle.sharc_bus.specs.{declared.rule.Part.Part, Rule.{IsAmong, unbegun, words_known, own_bit, first_number}, Bus.SeatView, Table.{seat_view, seats_with}}
+use Rattle.sharc_bus.proofs.{Seats.{among_unbegun, split_allowed}, Giving.{rest_is, given_more, next_bit}}
 use Rattle.sharc_bus.proofs.parts.give_seats.Goals as goal
 
 abbrev M : Type 0

@@ -1,12 +1,8 @@
 -- The seat takes in the parts of those that are popped.
-use Rattle.std.proofs.Common.{◌≡◌, suc, ◌+◌, List, [], ◌∷◌, ◌++◌, All, length, refl, sym, ap, ◌∙◌, subst, arith, append_assoc, length-append}
-use Rattle.std.proofs.lemmas.List.{append-nil}
+use Rattle.std.proofs.{Common.{◌≡◌, suc, ◌+◌, List, [], ◌∷◌, ◌++◌, All, length, refl, sym, ap, ◌∙◌, subst, arith, append_assoc, length-append}, lemmas.List.append-nil}
 use Rattle.atomic_table.specs.Table.{Me}
-use Rattle.sharc_bus.specs.declared.rule.Part.{Part}
-use Rattle.sharc_bus.specs.Bus.{SeatView}
-use Rattle.sharc_bus.specs.Table.{HasAll}
-use Rattle.sharc_bus.proofs.Seats.{join_allowed}
-use Rattle.sharc_bus.proofs.Closing.{all_left, all_last, part_right, has_more}
+use Rattle.sharc_bus.specs.{declared.rule.Part.Part, Bus.SeatView, Table.HasAll}
+use Rattle.sharc_bus.proofs.{Seats.join_allowed, Closing.{all_left, all_last, part_right, has_more}}
 use Rattle.sharc_bus.proofs.parts.take_seats.Goals as goal
 
 abbrev M : Type 0

@@ -1,9 +1,7 @@
 -- Each operation of the table does what the operation of the step says.
 use Rattle.std.proofs.Common.{◌≡◌, ℕ, suc, ◌<◌, ◌==◌, Bool, true, false, length, arith, refl, if◌then◌else◌}
 use prog.Atomic.{either}
-use Rattle.sharc_word.specs.declared.step.WordOp.{WordOp}
-use Rattle.sharc_word.specs.declared.step.WordOp.TheVariants.{Load, Swap, Add, Sub, And, Cas}
-use Rattle.sharc_word.specs.Words.{word_after}
+use Rattle.sharc_word.specs.{declared.step.WordOp.WordOp, declared.step.WordOp.TheVariants.{Load, Swap, Add, Sub, And, Cas}, Words.word_after}
 use Rattle.sharc_bus.proofs.Steps.{step_allowed}
 use Rattle.sharc_bus.proofs.step.make_step.Goals as goal
 

@@ -1,11 +1,7 @@
 use Rattle.std.proofs.Common.{◌≡◌, ap, sym, ◌∙◌, subst, List}
-use Rattle.sharc_mode.specs.declared.error.ModeError.{ModeError}
-use Rattle.sharc_mode.specs.Notes.{errors_of}
-use Rattle.sharc_mode.specs.WellModed.{notes_about}
-use Rattle.sharc_check.specs.Orders.{IsInOrder}
-use Rattle.sharc_check.specs.Threads.{touched_by}
-use Rattle.sharc_check.proofs.NamedLemmas.{told_by}
-use Rattle.sharc_check.proofs.TouchedLemmas.{all_arise}
+use Rattle.sharc_mode.specs.{declared.error.ModeError.ModeError, Notes.errors_of, WellModed.notes_about}
+use Rattle.sharc_check.specs.{Orders.IsInOrder, Threads.touched_by}
+use Rattle.sharc_check.proofs.{NamedLemmas.told_by, TouchedLemmas.all_arise}
 use Rattle.sharc_check.proofs.answer.errors.Goals as goal
 
 pub returns : goal.returns

@@ -1,8 +1,6 @@
 use Rattle.std.proofs.Common.{◌≡◌, ap, ◌∙◌, subst, OnOk}
-use Rattle.sharc_tree.specs.Children.{view_call}
-use Rattle.sharc_tree.specs.View.{view_expr}
-use Rattle.sharc_ctype.specs.Resolved.{named_at}
-use Rattle.sharc_ctype.specs.Transfers.{parameters_named}
+use Rattle.sharc_tree.specs.{Children.view_call, View.view_expr}
+use Rattle.sharc_ctype.specs.{Resolved.named_at, Transfers.parameters_named}
 use Rattle.sharc_check.proofs.CallLemmas.{call_said}
 use Rattle.sharc_check.proofs.expr.+expr.Goals as goal
 

@@ -1,9 +1,6 @@
 use Rattle.std.proofs.Common.{◌≡◌, ◌+◌, ◌≤◌}
-use Rattle.sharc_mode.specs.Moded.{position_count}
+use Rattle.sharc_mode.specs.{Moded.position_count, Rows.modes_of, Sharings.is_sibling, View.view_row}
 use Rattle.std.specs.List.{list_any}
-use Rattle.sharc_mode.specs.Rows.{modes_of}
-use Rattle.sharc_mode.specs.Sharings.{is_sibling}
-use Rattle.sharc_mode.specs.View.{view_row}
 use Rattle.sharc_check.proofs.rules.any_sibling.Given as goal
 
 abbrev pub invariant-loop-left : goal.invariant-loop-left

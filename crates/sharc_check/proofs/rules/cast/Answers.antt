@@ -1,15 +1,8 @@
-use Rattle.std.proofs.Common.{◌≡◌, ◌+◌, ◌≤◌, ◌++◌, ◌∷◌, [], List, cond, length, ap, sym, ◌∙◌, subst, arith, OnOk, Some}
-use Rattle.std.proofs.lemmas.List.{append-nil}
-use Rattle.sharc_tree.specs.View.{view_expr}
-use Rattle.sharc_tree.specs.declared.ctype.Base.{Base}
+use Rattle.std.proofs.{Common.{◌≡◌, ◌+◌, ◌≤◌, ◌++◌, ◌∷◌, [], List, cond, length, ap, sym, ◌∙◌, subst, arith, OnOk, Some}, lemmas.List.append-nil}
+use Rattle.sharc_tree.specs.{View.view_expr, declared.ctype.Base.Base}
 use Rattle.sharc_names.specs.View.{view_root}
 use Rattle.sharc_ctype.specs.Resolved.{Resolution}
-use Rattle.sharc_mode.specs.declared.error.ErrorCode.TheVariants.{CastChangesInnerMode}
-use Rattle.sharc_mode.specs.declared.finding.Finding.{Finding}
-use Rattle.sharc_mode.specs.Moded.{position_count}
-use Rattle.sharc_mode.specs.Notes.{cast_notes, mismatch, shown}
-use Rattle.sharc_mode.specs.Rows.{modes_of, modes_at, row_at, cast_row}
-use Rattle.sharc_mode.specs.View.{view_row, view_rows}
+use Rattle.sharc_mode.specs.{declared.error.ErrorCode.TheVariants.CastChangesInnerMode, declared.finding.Finding.Finding, Moded.position_count, Notes.{cast_notes, mismatch, shown}, Rows.{modes_of, modes_at, row_at, cast_row}, View.{view_row, view_rows}}
 use Rattle.sharc_check.proofs.RowLemmas.{cast_said}
 use Rattle.sharc_check.proofs.rules.cast.Goals as goal
 

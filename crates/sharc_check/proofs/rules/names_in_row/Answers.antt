@@ -1,10 +1,7 @@
 use Rattle.std.proofs.Common.{◌+◌, ◌≤◌, ◌++◌, length, ap, ◌∙◌, arith}
-use Rattle.sharc_mode.specs.Moded.{position_count}
-use Rattle.sharc_mode.specs.Rows.{modes_of}
-use Rattle.sharc_mode.specs.View.{view_row, view_sharing}
+use Rattle.sharc_mode.specs.{Moded.position_count, Rows.modes_of, View.{view_row, view_sharing}, Notes.{names_in, names_in_all}}
 use Rattle.sharc_check.proofs.RowLemmas.{step_row, step_ends, said_one}
 use Rattle.sharc_check.proofs.rules.names_in_row.Goals as goal
-use Rattle.sharc_mode.specs.Notes.{names_in, names_in_all}
 
 pub loop-left-preserved : goal.loop-left-preserved
 loop-left-preserved c =

@@ -1,8 +1,5 @@
 use Rattle.std.proofs.Common.{◌≡◌, ◌+◌, ◌≤◌, ◌++◌}
-use Rattle.sharc_mode.specs.Moded.{position_count}
-use Rattle.sharc_mode.specs.Notes.{names_in_all}
-use Rattle.sharc_mode.specs.Rows.{modes_of}
-use Rattle.sharc_mode.specs.View.{view_row}
+use Rattle.sharc_mode.specs.{Moded.position_count, Notes.names_in_all, Rows.modes_of, View.view_row}
 use Rattle.sharc_check.proofs.rules.names_in_row.Given as goal
 
 abbrev pub invariant-loop-left : goal.invariant-loop-left

@@ -1,7 +1,6 @@
 use Rattle.std.proofs.Common.{◌≡◌, ◌++◌, drop}
 use Rattle.std.specs.List.{flat_map}
-use Rattle.sharc_mode.specs.Notes.{names_read}
-use Rattle.sharc_mode.specs.View.{view_reading}
+use Rattle.sharc_mode.specs.{Notes.names_read, View.view_reading}
 use Rattle.sharc_check.proofs.rules.names_read.Given as goal
 
 abbrev pub invariant-loop-level : goal.invariant-loop-level

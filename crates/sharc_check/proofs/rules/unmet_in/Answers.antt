@@ -1,11 +1,8 @@
 use Rattle.std.proofs.Common.{◌+◌, ◌≤◌, length, ap, ◌∙◌, arith}
-use Rattle.sharc_mode.specs.Moded.{position_count}
-use Rattle.sharc_mode.specs.Rows.{modes_of}
-use Rattle.sharc_mode.specs.View.{view_row, view_sharing}
+use Rattle.sharc_mode.specs.{Moded.position_count, Rows.modes_of, View.{view_row, view_sharing}, Notes.{unmet, unmet_in}}
 use Rattle.sharc_check.proofs.RowLemmas.{step_row, step_ends, unmet_one}
 use Rattle.sharc_check.proofs.rules.unmet_in.Goals as goal
 use Rattle.std.specs.Option.{option_or}
-use Rattle.sharc_mode.specs.Notes.{unmet, unmet_in}
 use Rattle.sharc_check.specs.Passed.{view_passed, view_locks}
 
 pub loop-left-preserved : goal.loop-left-preserved

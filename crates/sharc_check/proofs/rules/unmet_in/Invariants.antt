@@ -1,9 +1,6 @@
 use Rattle.std.proofs.Common.{◌≡◌, ◌+◌, ◌≤◌}
-use Rattle.sharc_mode.specs.Moded.{position_count}
+use Rattle.sharc_mode.specs.{Moded.position_count, Notes.unmet_in, Rows.modes_of, View.view_row}
 use Rattle.std.specs.Option.{option_or}
-use Rattle.sharc_mode.specs.Notes.{unmet_in}
-use Rattle.sharc_mode.specs.Rows.{modes_of}
-use Rattle.sharc_mode.specs.View.{view_row}
 use Rattle.sharc_check.specs.Passed.{view_passed, view_locks}
 use Rattle.sharc_check.proofs.rules.unmet_in.Given as goal
 

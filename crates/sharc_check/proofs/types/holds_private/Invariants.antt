@@ -1,6 +1,5 @@
 use Rattle.std.proofs.Common.{◌≡◌, drop}
-use Rattle.sharc_mode.specs.Notes.{levels_of, position_levels}
-use Rattle.sharc_mode.specs.WellFormed.{holds_private}
+use Rattle.sharc_mode.specs.{Notes.{levels_of, position_levels}, WellFormed.holds_private}
 use Rattle.sharc_check.specs.Levels.{holds_below}
 use Rattle.sharc_check.proofs.types.holds_private.Given as goal
 

@@ -1,9 +1,7 @@
 use Rattle.std.proofs.Common.{◌≡◌, ◌++◌, List, ap, ◌∙◌, OnOk, subst}
 use Rattle.std.specs.List.{flat_map}
 use Rattle.sharc_ctype.specs.Resolved.{Resolution}
-use Rattle.sharc_mode.specs.declared.finding.Finding.{Finding}
-use Rattle.sharc_mode.specs.Notes.{private_notes, path_notes, mode_notes, private_field_notes, names_in_level}
-use Rattle.sharc_mode.specs.WellFormed.{place_of, first_unfit_path, first_unfit_mode}
+use Rattle.sharc_mode.specs.{declared.finding.Finding.Finding, Notes.{private_notes, path_notes, mode_notes, private_field_notes, names_in_level}, WellFormed.{place_of, first_unfit_path, first_unfit_mode}}
 use Rattle.sharc_check.proofs.LevelLemmas.{five}
 use Rattle.sharc_check.proofs.types.type_said.Goals as goal
 

@@ -1,6 +1,5 @@
 use Rattle.std.proofs.Common.{◌∙◌, ap, sym}
-use Rattle.clap.specs.Matches.{found_of}
-use Rattle.clap.specs.Walk.{rows_of}
+use Rattle.clap.specs.{Matches.found_of, Walk.rows_of}
 use Rattle.sharc_cli.specs.Line.{command_in}
 use Rattle.sharc_cli.proofs.Arms.{met}
 use Rattle.sharc_cli.proofs.reader.command_in.Goals as goal

@@ -1,11 +1,6 @@
 use Rattle.std.proofs.Common.{arith}
-use Rattle.sharc_code.specs.Opening.{opening_words}
-use Rattle.sharc_code.specs.Whole.{one_thread, bounds}
-use Rattle.sharc_code.specs.Runs.{opening_of, made_now, state_now}
-use Rattle.sharc_code.proofs.Places.{put_same, put_other}
-use Rattle.sharc_code.proofs.ByTurns.{at_join, runs_join, runs_part, words_are, threads_are, started_are, made_are, checked_runs, runs_checked, room, erased, is_scheduled}
-use Rattle.sharc_code.proofs.Merged.{merge, round_checked, round_words, round_threads}
-use Rattle.sharc_code.proofs.Paths.{path_of}
+use Rattle.sharc_code.specs.{Opening.opening_words, Whole.{one_thread, bounds}, Runs.{opening_of, made_now, state_now}}
+use Rattle.sharc_code.proofs.{Places.{put_same, put_other}, ByTurns.{at_join, runs_join, runs_part, words_are, threads_are, started_are, made_are, checked_runs, runs_checked, room, erased, is_scheduled}, Merged.{merge, round_checked, round_words, round_threads}, Paths.path_of}
 use Rattle.sharc_code.proofs.laws.run_laws.Goals as goal
 
 pub returns : goal.returns

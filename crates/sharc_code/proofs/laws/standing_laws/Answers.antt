@@ -1,6 +1,5 @@
 use Rattle.sharc_code.specs.Whole.{place_after}
-use Rattle.sharc_code.proofs.Idling.{idles}
-use Rattle.sharc_code.proofs.Standing.{sound, started_stays, started_before, started_then}
+use Rattle.sharc_code.proofs.{Idling.idles, Standing.{sound, started_stays, started_before, started_then}}
 use Rattle.sharc_code.proofs.laws.standing_laws.Goals as goal
 
 pub returns : goal.returns

@@ -1,8 +1,5 @@
 use Rattle.sharc_code.specs.Machine.{instr_at}
-use Rattle.sharc_code.proofs.Failing.{failed_stays}
-use Rattle.sharc_code.proofs.Keeps.{keeps_turn}
-use Rattle.sharc_code.proofs.Settled.{same_turn}
-use Rattle.sharc_code.proofs.Trying.{trying, waits_where}
+use Rattle.sharc_code.proofs.{Failing.failed_stays, Keeps.keeps_turn, Settled.same_turn, Trying.{trying, waits_where}}
 use Rattle.sharc_code.proofs.laws.thread_laws.Goals as goal
 
 pub returns : goal.returns

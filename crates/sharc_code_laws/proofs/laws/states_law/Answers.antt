@@ -1,9 +1,6 @@
 use Rattle.std.proofs.Common.{◌≡◌, true, false, refl, sym, ap, ◌∙◌}
-use Rattle.sharc_code.specs.declared.state.State.{State}
-use Rattle.sharc_code.specs.declared.state.State.TheVariants.{Runs, Tries, Stopped, Ended}
-use Rattle.sharc_code.specs.Whole.{place_after}
-use Rattle.sharc_code_laws.proofs.Sorts.{is_ended}
-use Rattle.sharc_code_laws.proofs.Standing.{holds}
+use Rattle.sharc_code.specs.{declared.state.State.State, declared.state.State.TheVariants.{Runs, Tries, Stopped, Ended}, Whole.place_after}
+use Rattle.sharc_code_laws.proofs.{Sorts.is_ended, Standing.holds}
 use Rattle.sharc_code_laws.proofs.laws.states_law.Goals as goal
 
 ended_is : (state : State) → is_ended state ≡ true → state ≡ Ended

@@ -1,13 +1,8 @@
-use Rattle.std.proofs.Common.{inl, inr, ⊎_elim, sym, subst}
+use Rattle.std.proofs.Common.{inl, inr, ⊎_elim, sym, subst, length}
 use Rattle.sharc_guarded_form.specs.Form.{IsGuarded}
-use Rattle.sharc_code.specs.Path.{begun, machine_after}
-use Rattle.sharc_code.specs.Paced.{paced_in}
-use Rattle.sharc_gen.specs.Consistent.{said_in}
-use Rattle.sharc_gen.specs.Lowered.{lowered_in}
-use Rattle.sharc_gen.specs.Correct.{IsBeginning, HasCome}
-use Rattle.sharc_gen.specs.Generated.{program_of}
+use Rattle.sharc_code.specs.{Path.{begun, machine_after}, Paced.paced_in}
+use Rattle.sharc_gen.specs.{Consistent.said_in, Lowered.lowered_in, Correct.{IsBeginning, HasCome}, Generated.program_of}
 use Rattle.sharc_compile.proofs.Joined.{joined}
-use Rattle.std.proofs.Common.{length}
 use Rattle.sharc_compile.proofs.laws.coded_law.Goals as goal
 
 pub returns : goal.returns

@@ -1,16 +1,7 @@
-use Rattle.std.proofs.Common.{◌≡◌, ◌⊎◌, ◌∙◌, List, length, ap, reverse, subst, sym}
-use Rattle.std.proofs.lemmas.List.{reverse-reverse}
+use Rattle.std.proofs.{Common.{◌≡◌, ◌⊎◌, ◌∙◌, List, length, ap, reverse, subst, sym}, lemmas.List.reverse-reverse}
 use Rattle.sharc_tree.specs.declared.event.SourceEvent.{SourceEvent}
-use Rattle.sharc_code.specs.Machine.{Machine}
-use Rattle.sharc_code.specs.Paced.{paced_in}
-use Rattle.sharc_code.specs.Path.{begun, machine_after}
-use Rattle.sharc_code.specs.Runs.{turns_of, said_by}
-use Rattle.sharc_code.specs.Whole.{Erase}
-use Rattle.sharc_gen.specs.Consistent.{said_in}
-use Rattle.sharc_gen.specs.Correct.{IsBeginning}
-use Rattle.sharc_gen.specs.Generated.{program_of}
-use Rattle.sharc_gen.specs.Lowered.{lowered_in}
-use Rattle.sharc_gen.specs.OfRuns.{elements_before, founds_of, told_in}
+use Rattle.sharc_code.specs.{Machine.Machine, Paced.paced_in, Path.{begun, machine_after}, Runs.{turns_of, said_by}, Whole.Erase}
+use Rattle.sharc_gen.specs.{Consistent.said_in, Correct.IsBeginning, Generated.program_of, Lowered.lowered_in, OfRuns.{elements_before, founds_of, told_in}}
 use Rattle.sharc_compile.specs.Source.{FollowsSource}
 use Rattle.sharc_compile.proofs.laws.run_law.Goals as goal
 

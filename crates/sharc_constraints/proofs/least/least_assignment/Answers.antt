@@ -1,11 +1,8 @@
-use Rattle.std.proofs.Common.{◌≡◌, length, sym, ap, ◌∙◌, subst, arith}
+use Rattle.std.proofs.{Common.{◌≡◌, length, sym, ap, ◌∙◌, subst, arith}, lemmas.List.length-map, lemmas.Result.IfOk-weaker}
 use Rattle.std.specs.List.{All}
-use Rattle.std.proofs.lemmas.List.{length-map}
-use Rattle.std.proofs.lemmas.Result.{IfOk-weaker}
 use Rattle.sharc_graph.specs.Paths.{graph_of, IsWithin, AreFindings}
 use Rattle.sharc_constraints.specs.Flow.{flow_of, node_of, kept_edges, AreInferred}
-use Rattle.sharc_constraints.proofs.Edges.{kept_short, kept_within}
-use Rattle.sharc_constraints.proofs.SamePaths.{all_inferred}
+use Rattle.sharc_constraints.proofs.{Edges.{kept_short, kept_within}, SamePaths.all_inferred}
 use Rattle.sharc_constraints.proofs.least.least_assignment.Goals as goal
 
 pub find-requires-clause-few_edges : goal.find-requires-clause-few_edges

@@ -1,6 +1,5 @@
 use Rattle.std.proofs.Common.{◌≡◌, ℕ, suc, ◌-◌, ◌<◌, false, length, Some, sym, ap, ◌∙◌, subst, arith}
-use Rattle.sharc_constraints.specs.Flow.{flow_of, link_of, IsReason}
-use Rattle.sharc_constraints.specs.Rounds.{link_at}
+use Rattle.sharc_constraints.specs.{Flow.{flow_of, link_of, IsReason}, Rounds.link_at}
 use Rattle.sharc_constraints.proofs.RoundPaths.{none_leads, source_of, is_rank_of, reason_of}
 use Rattle.sharc_constraints.proofs.rounds.finding.Goals as goal
 

@@ -1,10 +1,7 @@
-use Rattle.std.proofs.Common.{◌<◌, false, length, sym, ◌∙◌, subst}
-use Rattle.std.proofs.lemmas.Bool.{false≢true}
-use Rattle.sharc_constraints.specs.Flow.{flow_of, link_of}
-use Rattle.sharc_constraints.specs.Rounds.{unranked}
-use Rattle.sharc_constraints.proofs.RoundSteps.{stepped, fewer_still}
+use Rattle.std.proofs.{Common.{◌<◌, false, length, sym, ◌∙◌, subst}, lemmas.Bool.false≢true}
+use Rattle.sharc_constraints.specs.{Flow.{flow_of, link_of}, Rounds.unranked}
+use Rattle.sharc_constraints.proofs.{RoundSteps.{stepped, fewer_still}, rounds.go_round.Goals.{then-follow, else-follow}}
 use Rattle.sharc_constraints.proofs.rounds.go_round.Goals as goal
-use Rattle.sharc_constraints.proofs.rounds.go_round.Goals.{then-follow, else-follow}
 
 pub loop-link-preserved : goal.loop-link-preserved
 loop-link-preserved c =

@@ -1,6 +1,5 @@
 use Rattle.std.proofs.Common.{◌≡◌, ◌<◌, true, false}
-use Rattle.sharc_constraints.specs.Flow.{flow_of}
-use Rattle.sharc_constraints.specs.Rounds.{AreRanks, unranked}
+use Rattle.sharc_constraints.specs.{Flow.flow_of, Rounds.{AreRanks, unranked}}
 use Rattle.sharc_constraints.proofs.rounds.go_round.Given as goal
 
 abbrev pub invariant-loop-link : goal.invariant-loop-link

@@ -1,6 +1,5 @@
 use Rattle.std.proofs.Common.{◌+◌, ◌≤◌, length}
-use Rattle.sharc_constraints.specs.Flow.{flow_of}
-use Rattle.sharc_constraints.specs.Rounds.{AreRanks, AreUpTo, unranked}
+use Rattle.sharc_constraints.specs.{Flow.flow_of, Rounds.{AreRanks, AreUpTo, unranked}}
 use Rattle.sharc_constraints.proofs.rounds.go_rounds.Given as goal
 
 abbrev pub invariant-loop-round : goal.invariant-loop-round

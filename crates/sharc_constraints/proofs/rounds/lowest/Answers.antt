@@ -1,8 +1,7 @@
 use Rattle.std.proofs.Common.{◌∙◌, sym}
 use Rattle.sharc_constraints.specs.Flow.{flow_of}
-use Rattle.sharc_constraints.proofs.RoundSteps.{lower, no_lower}
+use Rattle.sharc_constraints.proofs.{RoundSteps.{lower, no_lower}, rounds.lowest.Goals.{then-leads_at, else-leads_at}}
 use Rattle.sharc_constraints.proofs.rounds.lowest.Goals as goal
-use Rattle.sharc_constraints.proofs.rounds.lowest.Goals.{then-leads_at, else-leads_at}
 
 pub loop-link-preserved : goal.loop-link-preserved
 loop-link-preserved c =

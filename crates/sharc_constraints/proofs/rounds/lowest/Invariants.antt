@@ -1,5 +1,4 @@
-use Rattle.sharc_constraints.specs.Flow.{flow_of}
-use Rattle.sharc_constraints.specs.Rounds.{IsLowest, IsSome}
+use Rattle.sharc_constraints.specs.{Flow.flow_of, Rounds.{IsLowest, IsSome}}
 use Rattle.sharc_constraints.proofs.rounds.lowest.Given as goal
 
 abbrev pub invariant-loop-link : goal.invariant-loop-link

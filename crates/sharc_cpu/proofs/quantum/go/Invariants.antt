@@ -1,7 +1,6 @@
 use Rattle.std.proofs.Common.{◌≡◌, ◌-◌, true, vec_capacity}
 use Rattle.sharc_code.specs.Path.{may_go}
-use Rattle.sharc_cpu.specs.View.{machine_of, KeepsPort}
-use Rattle.sharc_cpu.specs.Quantum.{Advanced}
+use Rattle.sharc_cpu.specs.{View.{machine_of, KeepsPort}, Quantum.Advanced}
 use Rattle.sharc_cpu.proofs.quantum.go.Given as goal
 
 abbrev pub invariant-loop-turn : goal.invariant-loop-turn

@@ -1,8 +1,6 @@
 use Rattle.std.proofs.Common.{◌≡◌, ◌<◌, refl, sym, ◌∙◌, subst, arith}
 use Rattle.sharc_cpu.specs.View.{machine_of}
-use Rattle.sharc_cpu.proofs.Joined.{where_join}
-use Rattle.sharc_cpu.proofs.Paths.{goes_none}
-use Rattle.sharc_cpu.proofs.Turned.{some_turn}
+use Rattle.sharc_cpu.proofs.{Joined.where_join, Paths.goes_none, Turned.some_turn}
 use Rattle.sharc_cpu.proofs.quantum.go_on.Goals as goal
 
 pub tries-init : goal.tries-init

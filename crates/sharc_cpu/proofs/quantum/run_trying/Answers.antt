@@ -1,14 +1,8 @@
 use Rattle.std.proofs.Common.{◌≡◌, ◌+◌, ℕ, sym, ap, ◌∙◌, subst, arith}
-use Rattle.sharc_code.specs.declared.state.State.{State}
+use Rattle.sharc_code.specs.{declared.state.State.State, Machine.Machine, Waits.wait_of}
 use Rattle.sharc_code.specs.declared.state.State.TheVariants as states
-use Rattle.sharc_code.specs.Machine.{Machine}
-use Rattle.sharc_code.specs.Waits.{wait_of}
-use Rattle.sharc_cpu.specs.Thread.{ThreadView}
-use Rattle.sharc_cpu.specs.declared.parts.Parts.{Parts}
-use Rattle.sharc_cpu.specs.View.{machine_of, rest_of, IsWithin}
-use Rattle.sharc_cpu.specs.Quantum.{GoesWhere, pause_of}
-use Rattle.sharc_cpu.proofs.Paths.{goes_none}
-use Rattle.sharc_cpu.proofs.OnPath.{thread_within, goes_thread, stop_is_told}
+use Rattle.sharc_cpu.specs.{Thread.ThreadView, declared.parts.Parts.Parts, View.{machine_of, rest_of, IsWithin}, Quantum.{GoesWhere, pause_of}}
+use Rattle.sharc_cpu.proofs.{Paths.goes_none, OnPath.{thread_within, goes_thread, stop_is_told}}
 use Rattle.sharc_cpu.proofs.quantum.run_trying.Goals as goal
 
 pub returns-in-Stopped-clause-quantum : goal.returns-in-Stopped-clause-quantum

@@ -1,11 +1,9 @@
 use Rattle.std.proofs.Common.{◌≡◌, ◌++◌, ap, sym, ◌∙◌, ◌+◌, drop, OnOk, subst}
-use Rattle.sharc_tree.specs.Children.{view_call}
-use Rattle.sharc_tree.specs.Measures.{expressions, in_arguments}
-use Rattle.sharc_tree.specs.View.{view_expr, view_arguments}
+use Rattle.sharc_tree.specs.{Children.view_call, Measures.{expressions, in_arguments}, View.{view_expr, view_arguments}}
 use Rattle.sharc_ctype.specs.Entities.{casts}
 use Rattle.sharc_ctype.proofs.CastLemmas.{both_added, first_added}
-use Rattle.sharc_ctype.proofs.LocalLemmas.{first_of_rest}
 use Rattle.sharc_ctype.proofs.casts.+add_casts.Goals as goal
+use Rattle.sharc_lemmas.proofs.Lists.{first_of_rest}
 
 pub add_casts-returns-in-Call : goal.add_casts-returns-in-Call
 add_casts-returns-in-Call t c =

@@ -1,6 +1,5 @@
 use Rattle.std.proofs.Common.{◌≡◌, ◌++◌, drop}
-use Rattle.sharc_tree.specs.Measures.{in_arguments}
-use Rattle.sharc_tree.specs.View.{view_arguments}
+use Rattle.sharc_tree.specs.{Measures.in_arguments, View.view_arguments}
 use Rattle.sharc_ctype.specs.Entities.{casts}
 use Rattle.sharc_ctype.proofs.casts.+add_casts.Given as goal
 

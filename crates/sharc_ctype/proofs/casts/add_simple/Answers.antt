@@ -1,6 +1,5 @@
 use Rattle.std.proofs.Common.{◌≡◌, ◌++◌, sym, OnOk, subst}
-use Rattle.sharc_tree.specs.Measures.{expressions, in_right, in_simple}
-use Rattle.sharc_tree.specs.View.{view_expr, view_right, view_simple}
+use Rattle.sharc_tree.specs.{Measures.{expressions, in_right, in_simple}, View.{view_expr, view_right, view_simple}}
 use Rattle.sharc_ctype.specs.Entities.{casts}
 use Rattle.sharc_ctype.proofs.CastLemmas.{both_added}
 use Rattle.sharc_ctype.proofs.casts.add_simple.Goals as goal

@@ -1,12 +1,6 @@
 use Rattle.std.proofs.Common.{ap, sym, ◌∙◌, ◌+◌, ◌&&◌, drop, fold, is_some}
-use Rattle.sharc_tree.specs.Tree.{call}
-use Rattle.sharc_tree.specs.View.{view_expr, view_arguments}
-use Rattle.sharc_tree.specs.Children.{view_call}
-use Rattle.sharc_names.specs.declared.need.Need.TheVariants.{Value}
-use Rattle.sharc_names.specs.Names.{look_up}
-use Rattle.sharc_names.specs.Needs.{met, agreed, unagreed}
-use Rattle.sharc_names.specs.Notes.{noted}
-use Rattle.sharc_names.specs.View.{view_kinds, view_bounds, view_wanted}
+use Rattle.sharc_tree.specs.{Tree.call, View.{view_expr, view_arguments}, Children.view_call}
+use Rattle.sharc_names.specs.{declared.need.Need.TheVariants.Value, Names.look_up, Needs.{met, agreed, unagreed}, Notes.noted, View.{view_kinds, view_bounds, view_wanted}}
 use Rattle.sharc_ctype.specs.Expressions.{call_kind, are_fine, notes_of_all}
 use Rattle.sharc_ctype.proofs.CallLemmas.{call_typed, call_noted, one_fine, one_noted}
 use Rattle.sharc_ctype.proofs.expr.+expr.Goals as goal

@@ -1,7 +1,6 @@
 use Rattle.std.proofs.Common.{◌≡◌, drop, fold}
 use Rattle.sharc_names.specs.Notes.{noted}
-use Rattle.sharc_ctype.specs.Statements.{with_names}
-use Rattle.sharc_ctype.specs.Items.{parameters_notes, with_parameters}
+use Rattle.sharc_ctype.specs.{Statements.with_names, Items.{parameters_notes, with_parameters}}
 use Rattle.sharc_ctype.proofs.program.parameters.Given as goal
 
 abbrev pub invariant-loop-i : goal.invariant-loop-i

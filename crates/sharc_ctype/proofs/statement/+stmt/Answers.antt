@@ -1,9 +1,6 @@
 use Rattle.std.proofs.Common.{ℕ, ap, sym, ◌∙◌}
-use Rattle.sharc_tree.specs.Tree.{block}
-use Rattle.sharc_tree.specs.View.{view_stmt, view_statements}
-use Rattle.sharc_tree.specs.Children.{view_block}
-use Rattle.sharc_ctype.specs.Statements.{Around}
-use Rattle.sharc_ctype.specs.View.{view_around}
+use Rattle.sharc_tree.specs.{Tree.block, View.{view_stmt, view_statements}, Children.view_block}
+use Rattle.sharc_ctype.specs.{Statements.Around, View.view_around}
 use Rattle.sharc_ctype.proofs.StatementLemmas.{block_noted}
 use Rattle.sharc_ctype.proofs.statement.+stmt.Goals as goal
 

@@ -1,7 +1,5 @@
-use Rattle.std.proofs.Common.{subst, sym, ap, ◌∙◌}
-use Rattle.std.proofs.lemmas.List.{drop_all}
-use Rattle.sharc_dataflow.specs.Narrow.{narrowed, IsSame}
-use Rattle.sharc_dataflow.specs.Views.{view_piece, view_pieces, view_narrowing}
+use Rattle.std.proofs.{Common.{subst, sym, ap, ◌∙◌}, lemmas.List.drop_all}
+use Rattle.sharc_dataflow.specs.{Narrow.{narrowed, IsSame}, Views.{view_piece, view_pieces, view_narrowing}}
 use Rattle.sharc_dataflow.proofs.Narrows.{whole_same}
 use Rattle.sharc_dataflow.proofs.narrow.narrowed.Goals as goal
 

@@ -1,6 +1,5 @@
 use Rattle.std.proofs.Common.{◌≡◌, drop}
-use Rattle.sharc_dataflow.specs.Narrow.{narrowed, narrow_start}
-use Rattle.sharc_dataflow.specs.Views.{view_narrowing}
+use Rattle.sharc_dataflow.specs.{Narrow.{narrowed, narrow_start}, Views.view_narrowing}
 use Rattle.sharc_dataflow.proofs.narrow.narrowed.Given as goal
 
 abbrev pub invariant-loop-step : goal.invariant-loop-step

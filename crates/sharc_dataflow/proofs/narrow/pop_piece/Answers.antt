@@ -1,8 +1,5 @@
-use Rattle.std.proofs.Common.{[], ◌∷◌, sym, ap, ◌∙◌}
-use Rattle.std.proofs.lemmas.List.{map-append}
-use Rattle.sharc_dataflow.specs.Passes.{last_or, front}
-use Rattle.sharc_dataflow.specs.Narrow.{nothing_kept}
-use Rattle.sharc_dataflow.specs.Views.{view_piece, view_pieces}
+use Rattle.std.proofs.{Common.{[], ◌∷◌, sym, ap, ◌∙◌}, lemmas.List.map-append}
+use Rattle.sharc_dataflow.specs.{Passes.{last_or, front}, Narrow.nothing_kept, Views.{view_piece, view_pieces}}
 use Rattle.sharc_dataflow.proofs.Summed.{last_pushed, front_pushed}
 use Rattle.sharc_dataflow.proofs.narrow.pop_piece.Goals as goal
 

@@ -1,5 +1,4 @@
-use Rattle.std.proofs.Common.{◌++◌, ◌/◌, length, take, sym, ap, ◌∙◌}
-use Rattle.std.proofs.lemmas.List.{take-append-drop}
+use Rattle.std.proofs.{Common.{◌++◌, ◌/◌, length, take, sym, ap, ◌∙◌}, lemmas.List.take-append-drop}
 use Rattle.sharc_dataflow.proofs.Halved.{about_these, about_both}
 use Rattle.sharc_dataflow.proofs.uses.+about_all.Goals as goal
 

@@ -1,7 +1,4 @@
-use Rattle.std.proofs.Common.{sym, subst, Contains}
-use Rattle.std.proofs.lemmas.List.Filters.{dedup_is}
-use Rattle.std.proofs.lemmas.List.Kept.{Contains-dedup_nat}
-use Rattle.std.proofs.lemmas.List.Sorted.{Contains-permutation}
+use Rattle.std.proofs.{Common.{sym, subst, Contains}, lemmas.List.Filters.dedup_is, lemmas.List.Kept.Contains-dedup_nat, lemmas.List.Sorted.Contains-permutation}
 use Rattle.sharc_dataflow.proofs.uses.nulled.Goals as goal
 
 pub returns : goal.returns

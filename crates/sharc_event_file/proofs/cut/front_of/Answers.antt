@@ -1,12 +1,9 @@
 use Rattle.std.proofs.Common.{◌≡◌, List, ap, sym, subst, ◌∙◌}
 use Rattle.sharc_ctype.specs.Resolved.{Resolution}
 use Rattle.sharc_mode.specs.Moded.{Assignment}
-use Rattle.sharc_audit.specs.declared.audit.Verdict.{Verdict}
+use Rattle.sharc_audit.specs.{declared.audit.Verdict.Verdict, declared.line.EventLine.EventLine, Audited.Audits}
 use Rattle.sharc_audit.specs.declared.audit.Verdict.TheVariants as verdict
-use Rattle.sharc_audit.specs.declared.line.EventLine.{EventLine}
-use Rattle.sharc_audit.specs.Audited.{Audits}
-use Rattle.sharc_event_file.specs.declared.cut.Front.{Front}
-use Rattle.sharc_event_file.specs.Cut.{HasLines, IsFront}
+use Rattle.sharc_event_file.specs.{declared.cut.Front.Front, Cut.{HasLines, IsFront}}
 use Rattle.sharc_event_file.proofs.Cutting.{fuel_front, refused_front}
 use Rattle.sharc_event_file.proofs.cut.front_of.Goals as goal
 

@@ -1,6 +1,5 @@
-use Rattle.std.proofs.Common.{◌≡◌, ℤ, sym, subst, rules, FitsSigned, w64, to_z, of_z}
+use Rattle.std.proofs.{Common.{◌≡◌, ℤ, sym, subst, rules, FitsSigned, w64, to_z, of_z}, lemmas.Int.to_z-of_z}
 use Rattle.std.specs.Prelude.{MatchOption}
-use Rattle.std.proofs.lemmas.Int.{to_z-of_z}
 use Rattle.sharc_said.specs.declared.event.Deed.{Deed}
 use Rattle.sharc_said.specs.declared.event.Deed.TheVariants as deeds
 use Rattle.sharc_event_file.specs.Writing.{Writable, IsActOf}

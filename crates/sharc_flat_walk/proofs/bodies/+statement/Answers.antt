@@ -1,14 +1,10 @@
-use Rattle.std.proofs.Common.{◌≡◌, ℕ, ◌+◌, ◌-◌, ◌++◌, ◌∷◌, [], length, set, take, ap, ◌∙◌, arith}
+use Rattle.std.proofs.{Common.{◌≡◌, ℕ, ◌+◌, ◌-◌, ◌++◌, ◌∷◌, [], length, set, take, ap, ◌∙◌, arith}, lemmas.Result.on_ok_weaker}
 use Rattle.std.specs.Option.{option_map}
-use Rattle.std.proofs.lemmas.Result.{on_ok_weaker}
-use Rattle.sharc_tree.specs.Children.{view_block}
-use Rattle.sharc_tree.specs.Tree.{if_then_else}
-use Rattle.sharc_tree.specs.View.{view_expr, view_simple, view_stmt, view_statements}
+use Rattle.sharc_tree.specs.{Children.view_block, Tree.if_then_else, View.{view_expr, view_simple, view_stmt, view_statements}}
 use Rattle.sharc_flat_form.specs.declared.op.Op.TheVariants as op
 use Rattle.sharc_flat.specs.Flattened.{behind_statements, looping, statement_code}
 use Rattle.sharc_flat_walk.specs.View.{context, around_of, block_code, finished}
-use Rattle.sharc_flat_walk.proofs.BodyLemmas.{around_within, choice_lines, turns_lines, block_at, sides_at}
-use Rattle.sharc_flat_walk.proofs.StatementLemmas.{grown_all, kept}
+use Rattle.sharc_flat_walk.proofs.{BodyLemmas.{around_within, choice_lines, turns_lines, block_at, sides_at}, StatementLemmas.{grown_all, kept}}
 use Rattle.sharc_flat_walk.proofs.bodies.+statement.Goals as goal
 
 pub block-returns-clause-slots : goal.block-returns-clause-slots

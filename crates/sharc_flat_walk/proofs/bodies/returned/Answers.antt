@@ -1,14 +1,9 @@
-use Rattle.std.proofs.Common.{◌≡◌, ◌∙◌, ◌++◌, ◌∷◌, [], ap, sym}
-use Rattle.std.proofs.lemmas.Result.{on_ok_weaker}
-use Rattle.sharc_tree.specs.Spans.{span_of}
-use Rattle.sharc_tree.specs.View.{view_expr, view_option}
+use Rattle.std.proofs.{Common.{◌≡◌, ◌∙◌, ◌++◌, ◌∷◌, [], ap, sym}, lemmas.Result.on_ok_weaker}
+use Rattle.sharc_tree.specs.{Spans.span_of, View.{view_expr, view_option}}
 use Rattle.sharc_flat_form.specs.declared.op.Op.TheVariants as op
-use Rattle.sharc_flat.specs.Places.{width_code}
-use Rattle.sharc_flat.specs.Flattened.{expression_code, return_code}
-use Rattle.sharc_flat_walk.specs.View.{context, around_of}
-use Rattle.sharc_flat_walk.proofs.BodyLemmas.{returned_nothing, returned_value}
-use Rattle.sharc_flat_walk.proofs.ScopeLemmas.{innermost_all}
-use Rattle.sharc_flat_walk.specs.View.{innermost}
+use Rattle.sharc_flat.specs.{Places.width_code, Flattened.{expression_code, return_code}}
+use Rattle.sharc_flat_walk.specs.View.{context, around_of, innermost}
+use Rattle.sharc_flat_walk.proofs.{BodyLemmas.{returned_nothing, returned_value}, ScopeLemmas.innermost_all}
 use Rattle.sharc_flat_walk.proofs.bodies.returned.Goals as goal
 
 pub returns-in_ok-zero-in-None : goal.returns-in_ok-zero-in-None

@@ -1,15 +1,10 @@
-use Rattle.std.proofs.Common.{◌≡◌, ◌+◌, ◌++◌, ◌∷◌, [], length, ap, ◌∙◌, arith}
-use Rattle.std.proofs.lemmas.Result.{on_ok_weaker}
-use Rattle.sharc_tree.specs.Children.{view_call}
-use Rattle.sharc_tree.specs.Tree.{index, binary}
-use Rattle.sharc_tree.specs.View.{view_expr, view_arguments}
-use Rattle.sharc_ctype.specs.Resolved.{named_at}
-use Rattle.sharc_ctype.specs.Transfers.{parameters_named}
+use Rattle.std.proofs.{Common.{◌≡◌, ◌+◌, ◌++◌, ◌∷◌, [], length, ap, ◌∙◌, arith}, lemmas.Result.on_ok_weaker}
+use Rattle.sharc_tree.specs.{Children.view_call, Tree.{index, binary}, View.{view_expr, view_arguments}}
+use Rattle.sharc_ctype.specs.{Resolved.named_at, Transfers.parameters_named}
 use Rattle.sharc_flat_form.specs.declared.op.Op.TheVariants as op
 use Rattle.sharc_flat.specs.Flattened.{expression_code, truth_code, called_code, lvalue_code, binary_code}
 use Rattle.sharc_flat_walk.specs.View.{context}
-use Rattle.sharc_flat_walk.proofs.ExpressionLemmas.{call_at, index_at, binary_at}
-use Rattle.sharc_flat_walk.proofs.WalkLemmas.{decided as decided_lines}
+use Rattle.sharc_flat_walk.proofs.{ExpressionLemmas.{call_at, index_at, binary_at}, WalkLemmas.{decided as decided_lines}}
 use Rattle.sharc_flat_walk.proofs.expressions.+expression.Goals as goal
 
 pub decided-returns : goal.decided-returns

@@ -1,5 +1,4 @@
-use Rattle.std.proofs.Common.{arith}
-use Rattle.std.proofs.lemmas.Grind.{common_steps}
+use Rattle.std.proofs.{Common.arith, lemmas.Grind.common_steps}
 use Rattle.sharc_flat_walk.proofs.PlaceLemmas.{named_first}
 use Rattle.sharc_flat_walk.proofs.lookups.place_of_name.Goals as goal
 

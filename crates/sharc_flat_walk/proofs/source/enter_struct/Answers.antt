@@ -1,6 +1,5 @@
-use Rattle.std.proofs.Common.{◌≡◌, ◌+◌, length, cond, Some, ap, ◌∙◌, arith}
+use Rattle.std.proofs.{Common.{◌≡◌, ◌+◌, length, cond, Some, ap, ◌∙◌, arith}, lemmas.Map.Text.hash_map_updates_str}
 use Rattle.std.specs.Str.{bytes_eq}
-use Rattle.std.proofs.lemmas.Map.Text.{hash_map_updates_str}
 use Rattle.sharc_flat_walk.specs.Lookups.{row_at}
 use Rattle.sharc_flat_walk.proofs.StructLemmas.{row_of}
 use Rattle.sharc_flat_walk.proofs.source.enter_struct.Goals as goal

@@ -1,15 +1,9 @@
-use Rattle.std.proofs.Common.{◌≡◌, ℕ, [], ◌+◌, ◌<◌, ◌≤◌, ◌++◌, length, Some, refl, ap, sym, subst, ◌∙◌, arith}
-use Rattle.std.proofs.lemmas.List.{length-set, length-map}
-use Rattle.std.proofs.lemmas.Option.{slice_get-map}
-use Rattle.std.specs.Option.{option_map}
-use Rattle.std.specs.Prelude.{slice_get}
-use Rattle.sharc_tree.specs.Tree.{Function}
-use Rattle.sharc_tree.specs.View.{view_function}
+use Rattle.std.proofs.{Common.{◌≡◌, ℕ, [], ◌+◌, ◌<◌, ◌≤◌, ◌++◌, length, Some, refl, ap, sym, subst, ◌∙◌, arith}, lemmas.List.{length-set, length-map}, lemmas.Option.slice_get-map}
+use Rattle.std.specs.{Option.option_map, Prelude.slice_get}
+use Rattle.sharc_tree.specs.{Tree.Function, View.view_function}
 use Rattle.sharc_ctype.specs.Resolved.{functions_in}
 use Rattle.sharc_flat.specs.Flattens.{names_of}
-use Rattle.sharc_flatten.proofs.LineLemmas.{name_more, named_all}
-use Rattle.sharc_flatten.proofs.ListLemmas.{left_more}
-use Rattle.sharc_flatten.proofs.PlaceLemmas.{grows_by, grows_more, lies_at_end}
+use Rattle.sharc_flatten.proofs.{LineLemmas.{name_more, named_all}, ListLemmas.left_more, PlaceLemmas.{grows_by, grows_more, lies_at_end}}
 use Rattle.sharc_flatten.proofs.texts.lay_names.Goals as goal
 
 pub loop-number-preserved : goal.loop-number-preserved

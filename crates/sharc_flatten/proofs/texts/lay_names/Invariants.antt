@@ -1,7 +1,6 @@
 use Rattle.std.proofs.Common.{◌≡◌, ℕ, List, ◌++◌, length, take, drop}
 use Rattle.sharc_ctype.specs.Resolved.{functions_in}
-use Rattle.sharc_flat.specs.Flattens.{names_of}
-use Rattle.sharc_flat.specs.Laid.{AreNamed}
+use Rattle.sharc_flat.specs.{Flattens.names_of, Laid.AreNamed}
 use Rattle.sharc_flatten.specs.Places.{Grows}
 use Rattle.sharc_flatten.proofs.texts.lay_names.Given as goal
 

@@ -1,8 +1,4 @@
-use Rattle.sharc_granule.proofs.OneTurn.{asks_one_turn, heap_is_full_without_room, top_moves_by_one_block, own_list_ends, top_ends, made_is_its_block}
-use Rattle.sharc_granule.proofs.Aims.{steps_are_of_words, blocks_have_their_words, granules_stay, steps_are_own, steps_keep_top}
-use Rattle.sharc_granule.proofs.Least.{block_of_is_block, one_block}
-use Rattle.sharc_granule.proofs.Turns.{new_begins, new_goes_on, new_stays}
-use Rattle.sharc_granule.proofs.Handing.{top_hands_out_apart, cas_hands_out, handed_apart}
+use Rattle.sharc_granule.proofs.{OneTurn.{asks_one_turn, heap_is_full_without_room, top_moves_by_one_block, own_list_ends, top_ends, made_is_its_block}, Aims.{steps_are_of_words, blocks_have_their_words, granules_stay, steps_are_own, steps_keep_top}, Least.{block_of_is_block, one_block}, Turns.{new_begins, new_goes_on, new_stays}, Handing.{top_hands_out_apart, cas_hands_out, handed_apart}}
 use Rattle.sharc_granule.proofs.laws.new_laws.Goals as goal
 
 pub returns : goal.returns

@@ -1,7 +1,6 @@
 use Rattle.std.proofs.Common.{◌≡◌, ◌+◌, length, ◌∷◌, map, ap, ◌∙◌, refl}
 use Rattle.sharc_code.specs.declared.instr.Instr.TheVariants.{Start, Exit}
-use Rattle.sharc_guard.specs.Guard.{place, expanded, entered_at, source_of}
-use Rattle.sharc_guard.specs.Made.{among, marked, places}
+use Rattle.sharc_guard.specs.{Guard.{place, expanded, entered_at, source_of}, Made.{among, marked, places}}
 use Rattle.sharc_guard.proofs.Making.{among_is}
 use Rattle.sharc_guard.proofs.guarding.guard_marked.Goals as goal
 

@@ -1,5 +1,4 @@
-use Rattle.std.proofs.Common.{take, get_or, subst, sym}
-use Rattle.std.proofs.lemmas.List.{take_more}
+use Rattle.std.proofs.{Common.{take, get_or, subst, sym}, lemmas.List.take_more}
 use Rattle.sharc_code.specs.Machine.{no_function}
 use Rattle.sharc_guard.proofs.Targets.{AreEntered, none_entered, more_entered}
 use Rattle.sharc_guard.proofs.marks.mark_entries.Goals as goal

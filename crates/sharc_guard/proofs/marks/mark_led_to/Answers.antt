@@ -1,7 +1,6 @@
 use Rattle.std.proofs.Common.{get_or}
 use Rattle.sharc_flat_form.specs.declared.op.Op.TheVariants as op
-use Rattle.sharc_guard.proofs.Making.{got}
-use Rattle.sharc_guard.proofs.Targets.{none_led, more_led}
+use Rattle.sharc_guard.proofs.{Making.got, Targets.{none_led, more_led}}
 use Rattle.sharc_guard.proofs.marks.mark_led_to.Goals as goal
 
 pub loop-n-init : goal.loop-n-init

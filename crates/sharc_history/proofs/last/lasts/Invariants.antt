@@ -1,7 +1,5 @@
 use Rattle.std.proofs.Common.{List}
-use Rattle.sharc_code.specs.declared.shape.Shape.{Shape}
-use Rattle.sharc_code.specs.Runs.{Turn}
-use Rattle.sharc_code.specs.Whole.{place_after}
+use Rattle.sharc_code.specs.{declared.shape.Shape.Shape, Runs.Turn, Whole.place_after}
 use Rattle.sharc_seq.specs.Walk.{StandsAt}
 use Rattle.sharc_history.specs.Lasts.{AreLastsUpTo}
 use Rattle.sharc_history.proofs.last.lasts.Given as goal

@@ -1,5 +1,4 @@
-use Rattle.sharc_history_laws.proofs.Awaited.{awaited}
-use Rattle.sharc_history_laws.proofs.Ended.{not_went}
+use Rattle.sharc_history_laws.proofs.{Awaited.awaited, Ended.not_went}
 use Rattle.sharc_history_laws.proofs.laws.awaits_law.Goals as goal
 
 pub returns-clause-held : goal.returns-clause-held

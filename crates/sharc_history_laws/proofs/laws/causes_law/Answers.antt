@@ -1,7 +1,4 @@
-use Rattle.sharc_history_laws.proofs.Broken.{all_break}
-use Rattle.sharc_history_laws.proofs.Consists.{consists}
-use Rattle.sharc_history_laws.proofs.Ends.{all_causes, all_named}
-use Rattle.sharc_history_laws.proofs.Wholes.{TheLaws}
+use Rattle.sharc_history_laws.proofs.{Broken.all_break, Consists.consists, Ends.{all_causes, all_named}, Wholes.TheLaws}
 use Rattle.sharc_history_laws.proofs.laws.causes_law.Goals as goal
 
 pub returns-clause-causes : goal.returns-clause-causes

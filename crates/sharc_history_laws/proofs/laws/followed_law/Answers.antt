@@ -1,14 +1,7 @@
 use Rattle.std.proofs.Common.{List, [], ◌∷◌, ◌++◌, subst}
-use Rattle.sharc_code.specs.declared.code.Code.{Code}
-use Rattle.sharc_code.specs.declared.shape.Shape.{Shape}
-use Rattle.sharc_code.specs.Opening.{opening_words}
-use Rattle.sharc_code.specs.Runs.{Turn, IsRun, opening_of}
-use Rattle.sharc_code.specs.Whole.{one_thread, bounds, place_after}
+use Rattle.sharc_code.specs.{declared.code.Code.Code, declared.shape.Shape.Shape, Opening.opening_words, Runs.{Turn, IsRun, opening_of}, Whole.{one_thread, bounds, place_after}}
 use Rattle.sharc_history_laws.specs.History.{history_of}
-use Rattle.sharc_history_laws.proofs.Consists.{consists}
-use Rattle.sharc_history_laws.proofs.Followed.{of_check}
-use Rattle.sharc_history_laws.proofs.Logged.{lacking}
-use Rattle.sharc_history_laws.proofs.LockShown.{locks_named, shows_lock, breaks}
+use Rattle.sharc_history_laws.proofs.{Consists.consists, Followed.of_check, Logged.lacking, LockShown.{locks_named, shows_lock, breaks}}
 use Rattle.sharc_history_laws.proofs.laws.followed_law.Goals as goal
 
 -- an earlier part of a run is one

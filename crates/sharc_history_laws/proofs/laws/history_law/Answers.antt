@@ -1,9 +1,4 @@
-use Rattle.sharc_history_laws.proofs.Locking.{lock_runs}
-use Rattle.sharc_history_laws.proofs.ModesKept.{keeps_modes}
-use Rattle.sharc_history_laws.proofs.Rules.{newest, obeyed}
-use Rattle.sharc_history_laws.proofs.Sets.{clean_shares}
-use Rattle.sharc_history_laws.proofs.Shared.{shares}
-use Rattle.sharc_history_laws.proofs.Since.{one_mode}
+use Rattle.sharc_history_laws.proofs.{Locking.lock_runs, ModesKept.keeps_modes, Rules.{newest, obeyed}, Sets.clean_shares, Shared.shares, Since.one_mode}
 use Rattle.sharc_history_laws.specs.History.{history_of}
 use Rattle.sharc_history_laws.proofs.laws.history_law.Goals as goal
 

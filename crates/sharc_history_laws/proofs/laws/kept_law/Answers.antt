@@ -1,7 +1,4 @@
-use Rattle.sharc_history_laws.proofs.Kept.{locked_logged, spawned_given}
-use Rattle.sharc_history_laws.proofs.KeptCells.{cells_kept}
-use Rattle.sharc_history_laws.proofs.Started.{begun_runs}
-use Rattle.sharc_history_laws.proofs.Stored.{stored}
+use Rattle.sharc_history_laws.proofs.{Kept.{locked_logged, spawned_given}, KeptCells.cells_kept, Started.begun_runs, Stored.stored}
 use Rattle.sharc_history_laws.proofs.laws.kept_law.Goals as goal
 
 pub returns-clause-logs : goal.returns-clause-logs

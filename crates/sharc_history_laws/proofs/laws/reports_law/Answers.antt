@@ -1,8 +1,4 @@
-use Rattle.sharc_history_laws.proofs.Conflicting.{accesses_show}
-use Rattle.sharc_history_laws.proofs.Logged.{lacking}
-use Rattle.sharc_history_laws.proofs.Named.{named}
-use Rattle.sharc_history_laws.proofs.Noting.{notes_told}
-use Rattle.sharc_history_laws.proofs.Sole.{casts_show}
+use Rattle.sharc_history_laws.proofs.{Conflicting.accesses_show, Logged.lacking, Named.named, Noting.notes_told, Sole.casts_show}
 use Rattle.sharc_history_laws.proofs.laws.reports_law.Goals as goal
 
 pub returns-clause-locks : goal.returns-clause-locks

@@ -1,6 +1,4 @@
-use Rattle.sharc_history_laws.proofs.Seen.{runs_begin, logs_locked}
-use Rattle.sharc_history_laws.proofs.Stored.{stored}
-use Rattle.sharc_history_laws.proofs.Unread.{arguments_given}
+use Rattle.sharc_history_laws.proofs.{Seen.{runs_begin, logs_locked}, Stored.stored, Unread.arguments_given}
 use Rattle.sharc_history_laws.proofs.laws.seen_law.Goals as goal
 
 pub returns-clause-begins : goal.returns-clause-begins

@@ -1,6 +1,4 @@
-use Rattle.sharc_history_laws.proofs.Stored.{stored}
-use Rattle.sharc_history_laws.proofs.Stuck.{may_not_come}
-use Rattle.sharc_history_laws.proofs.Woken.{awaited}
+use Rattle.sharc_history_laws.proofs.{Stored.stored, Stuck.may_not_come, Woken.awaited}
 use Rattle.sharc_history_laws.proofs.laws.stuck_law.Goals as goal
 
 pub returns : goal.returns

@@ -1,5 +1,4 @@
-use Rattle.std.proofs.Common.{None, ap, ◌∙◌}
-use Rattle.std.proofs.lemmas.List.{get_or_default}
+use Rattle.std.proofs.{Common.{None, ap, ◌∙◌}, lemmas.List.get_or_default}
 use Rattle.sharc_graph.specs.Findings.{finding_at}
 use Rattle.sharc_tree.specs.declared.ctype.Mode.TheVariants.{Private}
 use Rattle.sharc_mode.specs.Flows.{mode_found}

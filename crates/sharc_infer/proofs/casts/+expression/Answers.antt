@@ -1,7 +1,5 @@
 use Rattle.std.proofs.Common.{◌≡◌, ◌++◌, ap, sym, ◌∙◌, OnOk, subst}
-use Rattle.sharc_tree.specs.Children.{view_call}
-use Rattle.sharc_tree.specs.Measures.{expressions, in_arguments}
-use Rattle.sharc_tree.specs.View.{view_expr, view_arguments}
+use Rattle.sharc_tree.specs.{Children.view_call, Measures.{expressions, in_arguments}, View.{view_expr, view_arguments}}
 use Rattle.sharc_infer.specs.Links.{casts_in}
 use Rattle.sharc_infer.proofs.casts.+expression.Goals as goal
 

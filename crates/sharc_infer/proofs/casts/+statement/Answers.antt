@@ -1,7 +1,5 @@
 use Rattle.std.proofs.Common.{◌≡◌, ◌++◌, ap, sym, ◌∙◌, OnOk, subst}
-use Rattle.sharc_tree.specs.Children.{view_block}
-use Rattle.sharc_tree.specs.Measures.{in_statement, in_statements}
-use Rattle.sharc_tree.specs.View.{view_stmt, view_statements}
+use Rattle.sharc_tree.specs.{Children.view_block, Measures.{in_statement, in_statements}, View.{view_stmt, view_statements}}
 use Rattle.sharc_infer.specs.Links.{casts_in}
 use Rattle.sharc_infer.proofs.casts.+statement.Goals as goal
 

@@ -1,6 +1,5 @@
 use Rattle.std.proofs.Common.{◌≡◌, ◌++◌, drop}
-use Rattle.sharc_tree.specs.Measures.{in_statements}
-use Rattle.sharc_tree.specs.View.{view_statements}
+use Rattle.sharc_tree.specs.{Measures.in_statements, View.view_statements}
 use Rattle.sharc_infer.specs.Links.{casts_in}
 use Rattle.sharc_infer.proofs.casts.+statement.Given as goal
 

@@ -1,7 +1,6 @@
 use Rattle.std.proofs.Common.{◌≡◌, ◌+◌, ◌++◌, map, drop, ap, sym, ◌∙◌, append_assoc}
 use Rattle.std.specs.List.{flat_map}
-use Rattle.sharc_tree.specs.Tree.{Program}
-use Rattle.sharc_tree.specs.View.{view_item}
+use Rattle.sharc_tree.specs.{Tree.Program, View.view_item}
 use Rattle.sharc_mode.specs.Flows.{item_links}
 use Rattle.sharc_infer.proofs.LinkLemmas.{from_mapped}
 use Rattle.sharc_infer.proofs.links.links.Goals as goal

@@ -1,5 +1,4 @@
-use Rattle.sharc_invariant.proofs.Emptied.{pointer_there}
-use Rattle.sharc_invariant.proofs.Located.{allowed, located}
+use Rattle.sharc_invariant.proofs.{Emptied.pointer_there, Located.{allowed, located}}
 use Rattle.sharc_invariant.proofs.laws.cells_are_there.Goals as goal
 
 pub returns-clause-cells : goal.returns-clause-cells

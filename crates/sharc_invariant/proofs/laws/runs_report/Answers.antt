@@ -1,5 +1,4 @@
-use Rattle.sharc_invariant.proofs.Conflicts.{runs_conflict}
-use Rattle.sharc_invariant.proofs.Tested.{runs_test}
+use Rattle.sharc_invariant.proofs.{Conflicts.runs_conflict, Tested.runs_test}
 use Rattle.sharc_invariant.proofs.laws.runs_report.Goals as goal
 
 pub returns-clause-conflicts : goal.returns-clause-conflicts

@@ -1,5 +1,4 @@
-use Rattle.std.proofs.Common.{arith, ◌-◌, ◌+◌}
-use Rattle.std.proofs.lemmas.Result.{err_from_is_err_and}
+use Rattle.std.proofs.{Common.{arith, ◌-◌, ◌+◌}, lemmas.Result.err_from_is_err_and}
 use Rattle.sharc_io.proofs.Parts.{takes_front_more, takes_at_most_more}
 use Rattle.sharc_io.proofs.reading.read_all.Goals as goal
 

@@ -1,7 +1,6 @@
-use Rattle.std.proofs.Common.{arith}
-use Rattle.std.proofs.lemmas.List.{take_rest}
-use Rattle.sharc_io.proofs.Parts.{appends_front_more}
+use Rattle.std.proofs.{Common.arith, lemmas.List.take_rest}
 use Rattle.sharc_io.proofs.writing.write_all.Goals as goal
+use Rattle.sharc_lemmas.proofs.Lists.{appends_front_more}
 
 pub loop-written-preserved : goal.loop-written-preserved
 loop-written-preserved g c =

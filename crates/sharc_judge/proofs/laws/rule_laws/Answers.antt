@@ -1,5 +1,4 @@
-use Rattle.sharc_judge.proofs.Lowest.{obeys_each}
-use Rattle.sharc_judge.proofs.Rules.{rule_is}
+use Rattle.sharc_judge.proofs.{Lowest.obeys_each, Rules.rule_is}
 use Rattle.sharc_judge.proofs.laws.rule_laws.Goals as goal
 
 pub returns : goal.returns

@@ -1,5 +1,4 @@
-use Rattle.std.proofs.Common.{◌≡◌, w64, to_z, of_z, sym, ◌∙◌}
-use Rattle.std.proofs.lemmas.Int.{to_z-of_z}
+use Rattle.std.proofs.{Common.{◌≡◌, w64, to_z, of_z, sym, ◌∙◌}, lemmas.Int.to_z-of_z}
 use Rattle.sharc_judge.proofs.Waiters.{signals_tells}
 use Rattle.sharc_judge.proofs.store.signals.Goals as goal
 

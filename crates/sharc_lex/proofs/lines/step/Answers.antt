@@ -1,8 +1,5 @@
-use Rattle.std.proofs.Common.{◌≡◌, ◌++◌, ◌∷◌, [], ◌-◌, false, length, get_or, take, drop, sym, ap, ◌∙◌, subst, arith, rules}
-use Rattle.std.proofs.lemmas.Grind.{common_steps}
-use Rattle.sharc_lex.specs.Bytes.{is_white_space}
-use Rattle.sharc_lex.specs.Grammar.{Steps}
-use Rattle.sharc_lex.specs.TokenAt.{token_at}
+use Rattle.std.proofs.{Common.{◌≡◌, ◌++◌, ◌∷◌, [], ◌-◌, false, length, get_or, take, drop, sym, ap, ◌∙◌, subst, arith, rules}, lemmas.Grind.common_steps}
+use Rattle.sharc_lex.specs.{Bytes.is_white_space, Grammar.Steps, TokenAt.token_at}
 use Rattle.sharc_lex.proofs.LineLemmas.{step_token}
 use Rattle.sharc_lex.proofs.lines.step.Goals as goal
 

@@ -1,6 +1,5 @@
 use Rattle.std.proofs.Common.{◌≡◌, ◌++◌, ap, sym, ◌∙◌, OnOk, subst}
-use Rattle.sharc_tree.specs.Children.{view_call}
-use Rattle.sharc_tree.specs.View.{view_expr, view_arguments}
+use Rattle.sharc_tree.specs.{Children.view_call, View.{view_expr, view_arguments}}
 use Rattle.sharc_dataflow.specs.Code.{listing}
 use Rattle.sharc_live.specs.Flows.{flow, flow_all}
 use Rattle.sharc_live.proofs.expression.+expression.Goals as goal

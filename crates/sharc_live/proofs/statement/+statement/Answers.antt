@@ -1,8 +1,6 @@
 use Rattle.std.proofs.Common.{◌≡◌, ◌++◌, ap, sym, ◌∙◌, OnOk, subst, rules, [], ◌∷◌}
-use Rattle.sharc_tree.specs.Children.{view_block}
-use Rattle.sharc_tree.specs.View.{view_head, view_stmt, view_statements}
-use Rattle.sharc_dataflow.specs.declared.step.Step.TheVariants.{Head, Caught}
-use Rattle.sharc_dataflow.specs.Code.{listing}
+use Rattle.sharc_tree.specs.{Children.view_block, View.{view_head, view_stmt, view_statements}}
+use Rattle.sharc_dataflow.specs.{declared.step.Step.TheVariants.{Head, Caught}, Code.listing}
 use Rattle.sharc_live.specs.Flows.{statement_flow, statements_flow}
 use Rattle.sharc_live.proofs.TurnLemmas.{for_whole}
 use Rattle.sharc_live.proofs.statement.+statement.Goals as goal

@@ -1,5 +1,4 @@
-use Rattle.sharc_meaning.proofs.Asking.{more_fuel, more_fuel_same, more_given_up, more_answers, more_answers_same, no_more_than_answers, wants_behind_answers, one_answer_more}
-use Rattle.sharc_meaning.proofs.Spending.{spent_is_none}
+use Rattle.sharc_meaning.proofs.{Asking.{more_fuel, more_fuel_same, more_given_up, more_answers, more_answers_same, no_more_than_answers, wants_behind_answers, one_answer_more}, Spending.spent_is_none}
 use Rattle.sharc_meaning.proofs.laws.ask_laws.Goals as goal
 
 pub returns : goal.returns

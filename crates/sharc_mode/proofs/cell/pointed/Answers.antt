@@ -1,7 +1,5 @@
 use Rattle.std.proofs.Common.{◌<◌, ap, sym, ◌∙◌, arith}
-use Rattle.sharc_mode.specs.Cells.{pointed}
-use Rattle.sharc_mode.specs.Rows.{read}
-use Rattle.sharc_mode.specs.View.{view_reading, view_row, view_rows, view_sharing}
+use Rattle.sharc_mode.specs.{Cells.pointed, Rows.read, View.{view_reading, view_row, view_rows, view_sharing}}
 use Rattle.sharc_mode.proofs.CellLemmas.{first_is}
 use Rattle.sharc_mode.proofs.cell.pointed.Goals as goal
 

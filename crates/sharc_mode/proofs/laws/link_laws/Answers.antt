@@ -1,7 +1,5 @@
 use Rattle.sharc_ctype.specs.Entities.{entities_in}
-use Rattle.sharc_mode.proofs.LeastLemmas.{settled_size, itself_enough, below_dynamic, equated_agree, least_of_all}
-use Rattle.sharc_mode.proofs.PairLemmas.{below_from, below_to, equal_from, equal_to}
-use Rattle.sharc_mode.proofs.WithinLemmas.{links_within}
+use Rattle.sharc_mode.proofs.{LeastLemmas.{settled_size, itself_enough, below_dynamic, equated_agree, least_of_all}, PairLemmas.{below_from, below_to, equal_from, equal_to}, WithinLemmas.links_within}
 use Rattle.sharc_mode.proofs.laws.link_laws.Goals as goal
 
 pub returns : goal.returns

@@ -1,12 +1,7 @@
 use Rattle.std.proofs.Common.{◌≡◌, ◌+◌, ◌<◌, ◌≤◌, length, subst, ap, sym, ◌∙◌, arith, rules, Some, false, nat_eq}
-use Rattle.sharc_mode.specs.Cells.{pointed}
-use Rattle.sharc_mode.specs.Moded.{position_count}
-use Rattle.sharc_mode.specs.Rows.{Targets, modes_of}
-use Rattle.sharc_mode.specs.Sharings.{same, same_all}
-use Rattle.sharc_mode.specs.View.{view_row, view_sharing}
-use Rattle.sharc_mode.proofs.ShownLemmas.{alike, second_ends, deeper_ends}
+use Rattle.sharc_mode.specs.{Cells.pointed, Moded.position_count, Rows.{Targets, modes_of}, Sharings.{same, same_all}, View.{view_row, view_sharing}}
+use Rattle.sharc_mode.proofs.{ShownLemmas.{alike, second_ends, deeper_ends}, shown.same_rows.Goals.{then-loop-a-test+else-b-gt0, else-loop-a-test}}
 use Rattle.sharc_mode.proofs.shown.same_rows.Goals as goal
-use Rattle.sharc_mode.proofs.shown.same_rows.Goals.{then-loop-a-test+else-b-gt0, else-loop-a-test}
 
 pub loop-a-preserved : goal.loop-a-preserved
 loop-a-preserved c =

@@ -1,8 +1,5 @@
 use Rattle.std.proofs.Common.{◌≡◌, ◌+◌, ◌≤◌}
-use Rattle.sharc_mode.specs.Moded.{position_count}
-use Rattle.sharc_mode.specs.Rows.{modes_of}
-use Rattle.sharc_mode.specs.Sharings.{same_all}
-use Rattle.sharc_mode.specs.View.{view_row}
+use Rattle.sharc_mode.specs.{Moded.position_count, Rows.modes_of, Sharings.same_all, View.view_row}
 use Rattle.sharc_mode.proofs.shown.same_rows.Given as goal
 
 abbrev pub invariant-loop-a : goal.invariant-loop-a

@@ -1,9 +1,6 @@
 use Rattle.std.proofs.Common.{◌+◌, ◌≤◌, ◌∷◌, length, map, Option, Some, None, ap, sym, ◌∙◌, subst, arith}
 use Rattle.sharc_tree.specs.declared.ctype.Mode.{Mode}
-use Rattle.sharc_mode.specs.Moded.{position_count}
-use Rattle.sharc_mode.specs.Rows.{Targets, modes_of}
-use Rattle.sharc_mode.specs.Sharings.{Sharing, mode_of}
-use Rattle.sharc_mode.specs.View.{view_row, view_sharing}
+use Rattle.sharc_mode.specs.{Moded.position_count, Rows.{Targets, modes_of}, Sharings.{Sharing, mode_of}, View.{view_row, view_sharing}}
 use Rattle.sharc_mode.proofs.ShownLemmas.{one_shown, deeper_ends}
 use Rattle.sharc_mode.proofs.shown.shown.Goals as goal
 

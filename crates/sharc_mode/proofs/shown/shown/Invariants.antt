@@ -1,8 +1,5 @@
 use Rattle.std.proofs.Common.{◌≡◌, ◌+◌, ◌≤◌, ◌∷◌, ◌++◌, map, Some, None}
-use Rattle.sharc_mode.specs.Moded.{position_count}
-use Rattle.sharc_mode.specs.Rows.{modes_of}
-use Rattle.sharc_mode.specs.Sharings.{mode_of}
-use Rattle.sharc_mode.specs.View.{view_row}
+use Rattle.sharc_mode.specs.{Moded.position_count, Rows.modes_of, Sharings.mode_of, View.view_row}
 use Rattle.sharc_mode.proofs.shown.shown.Given as goal
 
 abbrev pub invariant-loop-left : goal.invariant-loop-left

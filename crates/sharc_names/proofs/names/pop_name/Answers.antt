@@ -1,5 +1,4 @@
-use Rattle.std.proofs.Common.{◌≡◌, ◌-◌, [], ◌∷◌, ◌++◌, ap, sym, subst, ◌∙◌, Some, get_or}
-use Rattle.std.proofs.lemmas.Map.Text.{hash_map_updates_str}
+use Rattle.std.proofs.{Common.{◌≡◌, ◌-◌, [], ◌∷◌, ◌++◌, ap, sym, subst, ◌∙◌, Some, get_or}, lemmas.Map.Text.hash_map_updates_str}
 use Rattle.std.specs.Option.{option_to_list}
 use Rattle.sharc_names.specs.Table.{IsKept}
 use Rattle.sharc_names.proofs.TableLemmas.{kept_pop}

@@ -1,7 +1,5 @@
-use Rattle.std.proofs.Common.{◌≡◌, [], ◌∷◌, ◌++◌, ap, sym, subst, ◌∙◌}
-use Rattle.std.proofs.lemmas.Map.Text.{hash_map_updates_str}
-use Rattle.sharc_names.specs.declared.names.Shadow.{Shadow}
-use Rattle.sharc_names.specs.Table.{IsKept}
+use Rattle.std.proofs.{Common.{◌≡◌, [], ◌∷◌, ◌++◌, ap, sym, subst, ◌∙◌}, lemmas.Map.Text.hash_map_updates_str}
+use Rattle.sharc_names.specs.{declared.names.Shadow.Shadow, Table.IsKept}
 use Rattle.sharc_names.proofs.TableLemmas.{kept_push}
 use Rattle.sharc_names.proofs.names.push_name.Goals as goal
 

@@ -1,7 +1,5 @@
 use Rattle.std.proofs.Common.{◌≡◌, drop, fold}
-use Rattle.sharc_names.specs.Notes.{noted}
-use Rattle.sharc_names.specs.Seen.{siblings_seen}
-use Rattle.sharc_names.specs.Types.{modes_notes}
+use Rattle.sharc_names.specs.{Notes.noted, Seen.siblings_seen, Types.modes_notes}
 use Rattle.sharc_names.proofs.types.modes.Given as goal
 
 abbrev pub invariant-loop-level : goal.invariant-loop-level

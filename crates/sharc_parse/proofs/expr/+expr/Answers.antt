@@ -1,16 +1,9 @@
 use Rattle.std.proofs.Common.{◌≡◌, ◌+◌, sym, ap, ◌∙◌, subst, arith, ◌∷◌, [], rules, Result, Ok}
-use Rattle.sharc_grammar.specs.Grammar.{mark, name, access_mark}
-use Rattle.sharc_grammar.specs.Machine.{Want, Have, Called, At, right_of}
+use Rattle.sharc_grammar.specs.{Grammar.{mark, name, access_mark}, Machine.{Want, Have, Called, At, right_of}, Limits.reads_within, Places.{site_in, size, front_size}}
 use Rattle.sharc_grammar.specs.Machine as machine
-use Rattle.sharc_grammar.specs.Limits.{reads_within}
 use Rattle.sharc_grammar.specs.Limits as Limits
-use Rattle.sharc_grammar.specs.Places.{site_in, size, front_size}
 use Rattle.sharc_tree.specs.View.{view_expr}
-use Rattle.sharc_parse.specs.View.{bare, phrase_of, phrases_of}
-use Rattle.sharc_parse.specs.declared.token.Fault.{Fault}
-use Rattle.sharc_parse.specs.declared.token.Piece.{Piece}
-use Rattle.sharc_parse.specs.declared.expr.Front.{Front}
-use Rattle.sharc_parse.specs.Goes.{from, Builds, IsPlaced, bare_front, front_tree}
+use Rattle.sharc_parse.specs.{View.{bare, phrase_of, phrases_of}, declared.token.Fault.Fault, declared.token.Piece.Piece, declared.expr.Front.Front, Goes.{from, Builds, IsPlaced, bare_front, front_tree}}
 use Rattle.sharc_parse.proofs.Steps.{longer, last_argument, next_argument, binary_read, binary_stands, field_stands, field_goes, access_goes, front_placed}
 use Rattle.sharc_parse.proofs.expr.+expr.Goals as goal
 

@@ -1,14 +1,7 @@
 use Rattle.std.proofs.Common.{rules, ◌≡◌, sym, subst, Result, Ok, Err, Vec, Global}
-use Rattle.sharc_tree.specs.declared.token.Punctuator.TheVariants.{OpenBrace}
-use Rattle.sharc_tree.specs.declared.tree.declaration.Declaration.{Declaration}
-use Rattle.sharc_tree.specs.declared.tree.statement.Stmt.{Stmt}
+use Rattle.sharc_tree.specs.{declared.token.Punctuator.TheVariants.OpenBrace, declared.tree.declaration.Declaration.Declaration, declared.tree.statement.Stmt.Stmt}
 use Rattle.sharc_grammar.specs.Grammar.{mark}
-use Rattle.sharc_parse.specs.declared.token.Fault.{Fault}
-use Rattle.sharc_parse.specs.View.{bare_type}
-use Rattle.sharc_parse.specs.Goes.{from, Past}
-use Rattle.sharc_parse.specs.Nested.{ReadsStatements}
-use Rattle.sharc_parse.specs.Parameters.{ReadsParameters}
-use Rattle.sharc_parse.specs.Items.{ReadsFunction}
+use Rattle.sharc_parse.specs.{declared.token.Fault.Fault, View.bare_type, Goes.{from, Past}, Nested.ReadsStatements, Parameters.ReadsParameters, Items.ReadsFunction}
 use Rattle.sharc_parse.proofs.ItemSteps.{function_wrong, function_read}
 use Rattle.sharc_parse.proofs.item.rest_of_function.Goals as goal
 

@@ -1,6 +1,5 @@
 use Rattle.std.proofs.Common.{◌≡◌, ◌++◌, ap, sym, ◌∙◌, OnOk, subst}
-use Rattle.sharc_tree.specs.Children.{view_block}
-use Rattle.sharc_tree.specs.View.{view_stmt, view_statements}
+use Rattle.sharc_tree.specs.{Children.view_block, View.{view_stmt, view_statements}}
 use Rattle.sharc_reach.specs.Mentions.{statement_mentions, statements_mentions}
 use Rattle.sharc_reach.proofs.walk.+statement.Goals as goal
 

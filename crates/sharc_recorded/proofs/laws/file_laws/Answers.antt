@@ -1,10 +1,6 @@
 use Rattle.std.proofs.Common.{sym, ◌∙◌}
-use Rattle.sharc_recorded.specs.File.{lines_in}
-use Rattle.sharc_recorded.specs.Laws.{FilesSayOneThing}
-use Rattle.sharc_recorded.proofs.PlaceLines.{ok_is}
-use Rattle.sharc_recorded.proofs.SourceLines.{reads, reads_all, faults}
-use Rattle.sharc_recorded.proofs.Few.{few}
-use Rattle.sharc_recorded.proofs.Written.{again}
+use Rattle.sharc_recorded.specs.{File.lines_in, Laws.FilesSayOneThing}
+use Rattle.sharc_recorded.proofs.{PlaceLines.ok_is, SourceLines.{reads, reads_all, faults}, Few.few, Written.again}
 use Rattle.sharc_recorded.proofs.laws.file_laws.Goals as goal
 
 one_thing : FilesSayOneThing

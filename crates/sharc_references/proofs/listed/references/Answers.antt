@@ -1,7 +1,6 @@
 use Rattle.std.proofs.Common.{◌≡◌, ◌++◌, ap, sym, ◌∙◌, subst}
 use Rattle.sharc_ctype.specs.Resolved.{IsResolved}
-use Rattle.sharc_references.specs.Answered.{AreReferences}
-use Rattle.sharc_references.specs.Listed.{holders}
+use Rattle.sharc_references.specs.{Answered.AreReferences, Listed.holders}
 use Rattle.sharc_references.proofs.Answering.{answers}
 use Rattle.sharc_references.proofs.listed.references.Goals as goal
 

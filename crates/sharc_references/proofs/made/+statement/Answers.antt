@@ -1,6 +1,5 @@
 use Rattle.std.proofs.Common.{◌≡◌, ap, sym, ◌∙◌}
-use Rattle.sharc_tree.specs.Children.{view_block}
-use Rattle.sharc_tree.specs.View.{view_statements}
+use Rattle.sharc_tree.specs.{Children.view_block, View.view_statements}
 use Rattle.sharc_references.specs.Making.{statement_makes, statements_make}
 use Rattle.sharc_references.proofs.made.+statement.Goals as goal
 

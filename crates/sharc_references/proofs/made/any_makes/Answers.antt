@@ -1,6 +1,5 @@
 use Rattle.std.proofs.Common.{◌≡◌, ap, sym, ◌∙◌}
-use Rattle.sharc_tree.specs.View.{view_items}
-use Rattle.sharc_tree.specs.Tree.{Program}
+use Rattle.sharc_tree.specs.{View.view_items, Tree.Program}
 use Rattle.sharc_references.specs.Making.{items_make}
 use Rattle.sharc_references.proofs.Making.{items_are}
 use Rattle.sharc_references.proofs.made.any_makes.Goals as goal

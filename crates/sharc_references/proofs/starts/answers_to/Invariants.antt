@@ -1,6 +1,5 @@
 use Rattle.std.proofs.Common.{◌≡◌, take}
-use Rattle.sharc_meaning.specs.Events.{events_of}
-use Rattle.sharc_meaning.specs.Runs.{answers_of}
+use Rattle.sharc_meaning.specs.{Events.events_of, Runs.answers_of}
 use Rattle.sharc_references.proofs.starts.answers_to.Given as goal
 
 abbrev pub invariant-loop-e : goal.invariant-loop-e

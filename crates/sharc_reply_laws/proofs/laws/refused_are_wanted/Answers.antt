@@ -1,5 +1,4 @@
-use Rattle.sharc_reply_laws.proofs.Refused.{refused_wanted}
-use Rattle.sharc_reply_laws.proofs.Wanting.{first_is}
+use Rattle.sharc_reply_laws.proofs.{Refused.refused_wanted, Wanting.first_is}
 use Rattle.sharc_reply_laws.proofs.laws.refused_are_wanted.Goals as goal
 
 pub returns : goal.returns

@@ -1,6 +1,5 @@
 use Rattle.std.proofs.Common.{codes}
-use Rattle.sharc_report.specs.Places.{site_text, tokens_between}
-use Rattle.sharc_report.specs.Verdicts.{target_text}
+use Rattle.sharc_report.specs.{Places.{site_text, tokens_between}, Verdicts.target_text}
 use Rattle.sharc_report.proofs.TextLemmas.{six}
 use Rattle.sharc_report.proofs.refused.put_cast.Goals as goal
 

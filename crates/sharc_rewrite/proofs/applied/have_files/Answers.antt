@@ -1,6 +1,4 @@
-use Rattle.std.proofs.Common.{◌<◌, sym, subst, arith}
-use Rattle.std.proofs.lemmas.List.{take_all}
-use Rattle.std.proofs.lemmas.List.Elements.{All-more, All-same}
+use Rattle.std.proofs.{Common.{◌<◌, sym, subst, arith}, lemmas.List.take_all, lemmas.List.Elements.{All-more, All-same}}
 use Rattle.sharc_tree.specs.declared.token.Token.{Token}
 use Rattle.sharc_rewrite.proofs.applied.have_files.Goals as goal
 

@@ -1,11 +1,8 @@
 use Rattle.std.proofs.Common.{◌≡◌, ap, ◌∙◌, subst}
 use Rattle.std.specs.Prelude.{IfOk}
-use Rattle.sharc_tree.specs.Tree.{Program}
-use Rattle.sharc_tree.specs.View.{view_program}
-use Rattle.sharc_ctype.specs.Items.{named_in}
-use Rattle.sharc_ctype.specs.Resolved.{Resolution}
-use Rattle.sharc_rewrite.specs.Applied.{program_with}
-use Rattle.sharc_rewrite.specs.Recast.{program_with_cast}
+use Rattle.sharc_tree.specs.{Tree.Program, View.view_program}
+use Rattle.sharc_ctype.specs.{Items.named_in, Resolved.Resolution}
+use Rattle.sharc_rewrite.specs.{Applied.program_with, Recast.program_with_cast}
 use Rattle.sharc_rewrite.proofs.applied.typed_with.Goals as goal
 
 pub returns : goal.returns

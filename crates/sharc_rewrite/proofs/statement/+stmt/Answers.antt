@@ -1,6 +1,5 @@
 use Rattle.std.proofs.Common.{ap, ◌∙◌}
-use Rattle.sharc_tree.specs.Tree.{block}
-use Rattle.sharc_tree.specs.Children.{view_block}
+use Rattle.sharc_tree.specs.{Tree.block, Children.view_block}
 use Rattle.sharc_rewrite.proofs.WriteLemmas.{statement_written}
 use Rattle.sharc_rewrite.proofs.statement.+stmt.Goals as goal
 

@@ -1,7 +1,6 @@
 use Rattle.std.proofs.Common.{◌≡◌, ℕ, List, None, true, false, get_or, sym, ap, subst}
 use Rattle.sharc_code.specs.Whole.{place_after}
-use Rattle.sharc_threads.specs.Ends.{Standing}
-use Rattle.sharc_threads.specs.Seats.{may_turn_at}
+use Rattle.sharc_threads.specs.{Ends.Standing, Seats.may_turn_at}
 use Rattle.sharc_bus.specs.Bus.{RestView}
 use Rattle.sharc_rounds.proofs.Looking.{rounds_same}
 use Rattle.sharc_rounds.proofs.run.run_rounds.Goals as goal

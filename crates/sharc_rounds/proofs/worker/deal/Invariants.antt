@@ -1,10 +1,7 @@
 use Rattle.std.proofs.Common.{◌≡◌, ◌<◌, ◌≤◌, ◌%◌, ◌+◌, ℕ, length, Some, get_or}
 use Rattle.sharc_word.specs.declared.step.TheConstants.{THREADS}
 use Rattle.sharc_bus.specs.Bus.{SeatView}
-use Rattle.sharc_rounds.specs.Round.{Seat}
-use Rattle.sharc_rounds.specs.declared.hand.Hand.{Hand}
-use Rattle.sharc_rounds.specs.declared.worker.Worker.{Worker}
-use Rattle.sharc_rounds.specs.Round.{hand_at}
+use Rattle.sharc_rounds.specs.{Round.{Seat, hand_at}, declared.hand.Hand.Hand, declared.worker.Worker.Worker}
 use Rattle.sharc_rounds.proofs.worker.deal.Given as goal
 
 abbrev pub invariant-loop-seat : goal.invariant-loop-seat

@@ -1,15 +1,10 @@
-use Rattle.std.proofs.Common.{◌≡◌, ◌<◌, ◌%◌, length, Some, None, get_or, set, refl, sym, ap, ◌∙◌, arith}
-use Rattle.std.specs.Prelude.{is_some}
-use Rattle.std.specs.Vec.{with_item}
-use Rattle.std.proofs.lemmas.Nat.{mod_below}
-use Rattle.std.proofs.lemmas.List.{length-set}
+use Rattle.std.proofs.{Common.{◌≡◌, ◌<◌, ◌%◌, length, Some, None, get_or, set, refl, sym, ap, ◌∙◌, arith}, lemmas.Nat.mod_below, lemmas.List.length-set}
+use Rattle.std.specs.{Prelude.is_some, Vec.with_item}
 use Rattle.sharc_bus.specs.Bus.{SeatView}
-use Rattle.sharc_rounds.specs.Round.{Seat}
-use Rattle.sharc_rounds.proofs.Places.{any_default}
-use Rattle.sharc_rounds.specs.declared.worker.Worker.{Worker}
-use Rattle.sharc_rounds.specs.Round.{hand_at}
-use Rattle.sharc_rounds.proofs.Dealing.{some_within, put_other, pushed}
+use Rattle.sharc_rounds.specs.{Round.{Seat, hand_at}, declared.worker.Worker.Worker}
+use Rattle.sharc_rounds.proofs.Dealing.{put_other}
 use Rattle.sharc_rounds.proofs.worker.gather.Goals as goal
+use Rattle.sharc_lemmas.proofs.Lists.{any_default, some_within, pushed}
 
 pub index_mut-requires-in-loop-n : goal.index_mut-requires-in-loop-n
 index_mut-requires-in-loop-n c =

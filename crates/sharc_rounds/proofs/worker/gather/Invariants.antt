@@ -1,9 +1,7 @@
 use Rattle.std.proofs.Common.{◌≡◌, ℕ, ◌<◌, ◌≤◌, ◌%◌, Some, length, get_or}
 use Rattle.sharc_word.specs.declared.step.TheConstants.{THREADS}
 use Rattle.sharc_bus.specs.Bus.{SeatView}
-use Rattle.sharc_rounds.specs.Round.{Seat}
-use Rattle.sharc_rounds.specs.declared.worker.Worker.{Worker}
-use Rattle.sharc_rounds.specs.Round.{hand_at}
+use Rattle.sharc_rounds.specs.{Round.{Seat, hand_at}, declared.worker.Worker.Worker}
 use Rattle.sharc_rounds.proofs.worker.gather.Given as goal
 
 abbrev pub invariant-loop-n : goal.invariant-loop-n

@@ -1,9 +1,9 @@
 use Rattle.std.proofs.Common.{codes, decimal, ◌++◌, ap, ◌∙◌}
 use Rattle.sharc_code.specs.Says.{place_at}
-use Rattle.sharc_run_text.specs.Places.{lvalue_at}
-use Rattle.sharc_run_text.specs.RunText.{of_taking}
-use Rattle.sharc_run_text.proofs.Pieces.{five, taken}
+use Rattle.sharc_run_text.specs.{Places.lvalue_at, RunText.of_taking}
+use Rattle.sharc_run_text.proofs.Pieces.{five}
 use Rattle.sharc_run_text.proofs.line.put_not_sole.Goals as goal
+use Rattle.sharc_lemmas.proofs.Lists.{taken}
 
 pub returns : goal.returns
 returns c =

@@ -1,7 +1,5 @@
-use Rattle.std.proofs.Common.{rules, subst}
-use Rattle.std.proofs.lemmas.List.Sorted.{answers_always}
-use Rattle.std.specs.List.Sorted.{IsPermutation, IsStableByKey}
-use Rattle.std.specs.Ordering.{nat_cmp}
+use Rattle.std.proofs.{Common.{rules, subst}, lemmas.List.Sorted.answers_always}
+use Rattle.std.specs.{List.Sorted.{IsPermutation, IsStableByKey}, Ordering.nat_cmp}
 use Rattle.sharc_run_text.specs.RunText.{place_of}
 use Rattle.sharc_run_text.proofs.printed.prints_in_order.Goals as goal
 

@@ -1,11 +1,8 @@
 use Rattle.std.proofs.Common.{◌≡◌, ◌<◌, [], ◌++◌, List, length, refl, ap, ◌∙◌, subst, arith}
-use Rattle.sharc_word.specs.declared.step.TheConstants.{THREADS}
-use Rattle.sharc_word.specs.declared.step.WordEvent.{WordEvent}
+use Rattle.sharc_word.specs.{declared.step.TheConstants.THREADS, declared.step.WordEvent.WordEvent}
 use Rattle.sharc_code.specs.Runs.{Turn}
-use Rattle.sharc_schedule.specs.Going.{Followed, thread_at}
-use Rattle.sharc_schedule.specs.Schedule.{scheduled_turns, places_of, counted_together}
-use Rattle.sharc_schedule.proofs.Making.{all_made, journal_low}
-use Rattle.sharc_schedule.proofs.Stepping.{stepped, once_more}
+use Rattle.sharc_schedule.specs.{Going.{Followed, thread_at}, Schedule.{scheduled_turns, places_of, counted_together}}
+use Rattle.sharc_schedule.proofs.{Making.{all_made, journal_low}, Stepping.{stepped, once_more}}
 use Rattle.sharc_schedule.proofs.places.make_places.Goals as goal
 
 pub loop-i-init : goal.loop-i-init

@@ -1,7 +1,5 @@
 use Rattle.std.proofs.Common.{List, [], length}
-use Rattle.sharc_code.specs.Opening.{opening_words}
-use Rattle.sharc_code.specs.Runs.{Turn, IsRun, opening_of}
-use Rattle.sharc_code.specs.Whole.{one_thread, bounds}
+use Rattle.sharc_code.specs.{Opening.opening_words, Runs.{Turn, IsRun, opening_of}, Whole.{one_thread, bounds}}
 use Rattle.sharc_schedule.specs.Going.{AllCount, GoesAt, Followed, thread_at}
 use Rattle.sharc_schedule.proofs.places.make_places.Given as goal
 

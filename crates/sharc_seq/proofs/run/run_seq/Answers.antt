@@ -1,9 +1,7 @@
-use Rattle.std.proofs.Common.{[], ◌∙◌}
-use Rattle.std.proofs.lemmas.Result.{IfOk-weaker}
+use Rattle.std.proofs.{Common.{[], ◌∙◌}, lemmas.Result.IfOk-weaker}
 use Rattle.sharc_code.specs.Whole.{place_after}
 use Rattle.sharc_threads.specs.Ends.{Standing}
-use Rattle.sharc_seq.specs.Run.{IsSeqRun}
-use Rattle.sharc_seq.specs.Table.{IsOver, Ends}
+use Rattle.sharc_seq.specs.{Run.IsSeqRun, Table.{IsOver, Ends}}
 use Rattle.sharc_seq.proofs.run.run_seq.Goals as goal
 
 pub finish-requires : goal.finish-requires

@@ -1,5 +1,4 @@
-use Rattle.sharc_seq.specs.Walk.{events_left}
-use Rattle.sharc_seq.specs.Table.{IsTable}
+use Rattle.sharc_seq.specs.{Walk.events_left, Table.IsTable}
 use Rattle.sharc_seq.proofs.run.run_seq.Given as goal
 
 abbrev pub invariant-turns : goal.invariant-turns

@@ -1,6 +1,4 @@
-use Rattle.sharc_shadow.proofs.Sets.{word_is_its_sets, blank}
-use Rattle.sharc_shadow.proofs.Computed.{bits_are_of_access, or_adds_access, or_leaves_others, or_sets_own_bit, withdrawn_withdraws, withdrawn_leaves_others, cleared_clears}
-use Rattle.sharc_shadow.proofs.Lowest.{decides, first_in_is_first, no_first_without_conflict}
+use Rattle.sharc_shadow.proofs.{Sets.{word_is_its_sets, blank}, Computed.{bits_are_of_access, or_adds_access, or_leaves_others, or_sets_own_bit, withdrawn_withdraws, withdrawn_leaves_others, cleared_clears}, Lowest.{decides, first_in_is_first, no_first_without_conflict}}
 use Rattle.sharc_shadow.proofs.laws.shadow_laws.Goals as goal
 
 pub returns : goal.returns

@@ -1,7 +1,4 @@
-use Rattle.std.proofs.Common.{◌≡◌, ◌+◌, ◌*◌, ◌^◌, ◌%◌, ap, ◌∙◌, sym, arith}
-use Rattle.std.proofs.Math.Nat.{mod-eq_of_lt}
-use Rattle.std.proofs.Math.Pow.{pow-lt}
-use Rattle.std.proofs.lemmas.Nat.{pow-add}
+use Rattle.std.proofs.{Common.{◌≡◌, ◌+◌, ◌*◌, ◌^◌, ◌%◌, ap, ◌∙◌, sym, arith}, Math.Nat.mod-eq_of_lt, Math.Pow.pow-lt, lemmas.Nat.pow-add}
 use Rattle.sharc_shadow.proofs.shadow_word.bit_of.Goals as goal
 
 pub returns : goal.returns

@@ -1,6 +1,5 @@
 use Rattle.std.proofs.Common.{refl, sym}
-use Rattle.sharc_shadow.proofs.Conflict.{lowest_of_conflict}
-use Rattle.sharc_shadow.proofs.Lowest.{first_found, first_none}
+use Rattle.sharc_shadow.proofs.{Conflict.lowest_of_conflict, Lowest.{first_found, first_none}}
 use Rattle.sharc_shadow.proofs.shadow_word.first.Goals as goal
 
 pub overflow_sub-result : goal.overflow_sub-result

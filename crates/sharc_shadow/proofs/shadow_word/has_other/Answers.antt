@@ -1,9 +1,7 @@
-use Rattle.std.proofs.Common.{◌-◌, w64}
+use Rattle.std.proofs.Common.{◌-◌, w64, not, ◌==◌, IsTrue, ◌↔◌}
 use Rattle.std.specs.Int.{trailing_zeros}
-use Rattle.sharc_shadow.proofs.Conflict.{first_other, some_of_other, test_of_some, some_of_test}
-use Rattle.std.proofs.Common.{not, ◌==◌, IsTrue, ◌↔◌}
+use Rattle.sharc_shadow.proofs.{Conflict.{first_other, some_of_other, test_of_some, some_of_test}, Lowest.has_other_is}
 use Rattle.sharc_shadow.specs.ShadowWord.{HasOther}
-use Rattle.sharc_shadow.proofs.Lowest.{has_other_is}
 use Rattle.sharc_shadow.proofs.shadow_word.has_other.Goals as goal
 
 pub returns : goal.returns

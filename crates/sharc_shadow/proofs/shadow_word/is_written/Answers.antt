@@ -1,6 +1,5 @@
-use Rattle.std.proofs.Common.{◌≡◌, ap, ◌∙◌, sym, ◌==◌, ◌*◌, arith}
+use Rattle.std.proofs.{Common.{◌≡◌, ap, ◌∙◌, sym, ◌==◌, ◌*◌, arith}, lemmas.Nat.Bits.and_pow}
 use Rattle.std.specs.Int.{bit_at}
-use Rattle.std.proofs.lemmas.Nat.Bits.{and_pow}
 use Rattle.sharc_shadow.proofs.Sets.{written_is}
 use Rattle.sharc_shadow.proofs.shadow_word.is_written.Goals as goal
 

@@ -1,6 +1,5 @@
 use Rattle.std.proofs.Common.{◌+◌, arith}
-use Rattle.sharc_shadow.proofs.OneBit.{without_bit}
-use Rattle.sharc_shadow.proofs.Conflict.{are_others}
+use Rattle.sharc_shadow.proofs.{OneBit.without_bit, Conflict.are_others}
 use Rattle.sharc_shadow.proofs.shadow_word.others.Goals as goal
 
 pub returns : goal.returns

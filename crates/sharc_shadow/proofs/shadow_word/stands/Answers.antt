@@ -1,5 +1,4 @@
-use Rattle.std.proofs.Common.{◌+◌, ap, ◌∙◌, sym, ◌==◌, arith}
-use Rattle.std.proofs.lemmas.Nat.Bits.{shr_and_one}
+use Rattle.std.proofs.{Common.{◌+◌, ap, ◌∙◌, sym, ◌==◌, arith}, lemmas.Nat.Bits.shr_and_one}
 use Rattle.sharc_shadow.proofs.Sets.{stands_below}
 use Rattle.sharc_shadow.proofs.shadow_word.stands.Goals as goal
 

@@ -1,7 +1,5 @@
 use Rattle.std.proofs.Common.{ℕ, ◌-◌, ◌+◌, ◌∙◌, ap, bit_and, sym, refl, arith}
-use Rattle.sharc_shadow.proofs.OneBit.{without_bit, and_fits}
-use Rattle.sharc_shadow.proofs.Sets.{withdraws_reader, withdraws_writer}
-use Rattle.sharc_shadow.proofs.Computed.{withdrawn_writer, withdrawn_reader}
+use Rattle.sharc_shadow.proofs.{OneBit.{without_bit, and_fits}, Sets.{withdraws_reader, withdraws_writer}, Computed.{withdrawn_writer, withdrawn_reader}}
 use Rattle.sharc_shadow.proofs.shadow_word.withdrawn.Goals as goal
 
 pub returns-then-is_of_epoch-clause-withdraws : goal.returns-then-is_of_epoch-clause-withdraws

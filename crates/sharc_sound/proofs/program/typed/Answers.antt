@@ -1,5 +1,4 @@
-use Rattle.std.proofs.Common.{◌≡◌, Err, sym, ap, arith, length, subst}
-use Rattle.std.proofs.lemmas.List.{length-map}
+use Rattle.std.proofs.{Common.{◌≡◌, Err, sym, ap, arith, length, subst}, lemmas.List.length-map}
 use Rattle.sharc_tree.specs.View.{view_item, view_program}
 use Rattle.sharc_lex.specs.Grammar.{reading}
 use Rattle.sharc_sound.proofs.Typing.{few_items}

@@ -1,13 +1,7 @@
 use Rattle.std.proofs.Common.{◌≡◌, ℕ, Some, List, ◌∷◌, ◌++◌, refl, subst}
-use Rattle.sharc_code.specs.declared.state.ConflictAt.{ConflictAt}
-use Rattle.sharc_code.specs.declared.state.Stop.{Stop}
-use Rattle.sharc_code.specs.declared.state.Stop.TheVariants.{Conflict, NoLock, NotSole, Trap}
-use Rattle.sharc_code.specs.Opening.{opening_words}
-use Rattle.sharc_code.specs.Runs.{IsRun, Turn, opening_of}
-use Rattle.sharc_code.specs.Whole.{CheckedRun, bounds, one_thread, place_after}
+use Rattle.sharc_code.specs.{declared.state.ConflictAt.ConflictAt, declared.state.Stop.Stop, declared.state.Stop.TheVariants.{Conflict, NoLock, NotSole, Trap}, Opening.opening_words, Runs.{IsRun, Turn, opening_of}, Whole.{CheckedRun, bounds, one_thread, place_after}}
 use Rattle.sharc_sound_laws.specs.Obeying.{IsAccessReport}
-use Rattle.sharc_sound_laws.proofs.Starts.{first_is}
-use Rattle.sharc_sound_laws.proofs.Unreported.{unbroken, unlocked}
+use Rattle.sharc_sound_laws.proofs.{Starts.first_is, Unreported.{unbroken, unlocked}}
 use Rattle.sharc_sound_laws.proofs.sound.obeying_is_unreported_if_typed.Goals as goal
 
 pub returns : goal.returns

@@ -1,8 +1,6 @@
 use Rattle.std.proofs.Common.{ℕ, List}
-use Rattle.sharc_code.specs.Runs.{Turn}
-use Rattle.sharc_code.specs.Whole.{CheckedRun}
-use Rattle.sharc_sound_laws.proofs.Reported.{reported}
-use Rattle.sharc_sound_laws.proofs.Starts.{first_is}
+use Rattle.sharc_code.specs.{Runs.Turn, Whole.CheckedRun}
+use Rattle.sharc_sound_laws.proofs.{Reported.reported, Starts.first_is}
 use Rattle.sharc_sound_laws.proofs.sound.reports_show_if_typed.Goals as goal
 
 pub returns : goal.returns

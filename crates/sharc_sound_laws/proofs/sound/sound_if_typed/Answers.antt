@@ -1,6 +1,5 @@
 use Rattle.std.proofs.Common.{◌≡◌, ℕ, ◌⊎◌, inl, inr, ap, ◌∙◌, ⊎_elim, []}
-use Rattle.sharc_meaning.specs.Events.{events_of}
-use Rattle.sharc_meaning.specs.Runs.{Follows}
+use Rattle.sharc_meaning.specs.{Events.events_of, Runs.Follows}
 use Rattle.sharc_compile_laws.specs.Threads.{TellsIn}
 use Rattle.sharc_history_laws.specs.History.{history_of}
 use Rattle.sharc_sound_laws.proofs.Following.{follows}

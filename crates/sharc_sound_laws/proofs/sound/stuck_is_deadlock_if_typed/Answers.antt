@@ -1,5 +1,4 @@
-use Rattle.sharc_sound_laws.proofs.Deadlocked.{deadlocked}
-use Rattle.sharc_sound_laws.proofs.Starts.{first_is}
+use Rattle.sharc_sound_laws.proofs.{Deadlocked.deadlocked, Starts.first_is}
 use Rattle.sharc_sound_laws.proofs.sound.stuck_is_deadlock_if_typed.Goals as goal
 
 pub returns : goal.returns

@@ -2,8 +2,7 @@ use Rattle.std.proofs.Common.{ℕ, inl, inr, ap, ◌∙◌, ⊎_elim}
 use Rattle.sharc_ctype.specs.Reaches.{Spawns}
 use Rattle.sharc_meaning.specs.Events.{events_of}
 use Rattle.sharc_code.specs.Whole.{place_after}
-use Rattle.sharc_history_laws.specs.History.{history_of}
-use Rattle.sharc_history_laws.specs.Starts.{IsSpawnedByCode}
+use Rattle.sharc_history_laws.specs.{History.history_of, Starts.IsSpawnedByCode}
 use Rattle.sharc_wants_laws.specs.Wants.{IsNotThere, IsThereIn}
 use Rattle.sharc_sound_laws.proofs.Following.{may, placed}
 use Rattle.sharc_sound_laws.proofs.sound.threads_stand_if_typed.Goals as goal

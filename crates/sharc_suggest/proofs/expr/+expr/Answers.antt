@@ -1,6 +1,5 @@
 use Rattle.std.proofs.Common.{◌≡◌, ◌++◌, subst, OnOk}
-use Rattle.sharc_tree.specs.Children.{view_call}
-use Rattle.sharc_tree.specs.View.{view_expr}
+use Rattle.sharc_tree.specs.{Children.view_call, View.view_expr}
 use Rattle.sharc_suggest.specs.Repairs.{told}
 use Rattle.sharc_suggest.proofs.CallLemmas.{call_suggested}
 use Rattle.sharc_suggest.proofs.expr.+expr.Goals as goal

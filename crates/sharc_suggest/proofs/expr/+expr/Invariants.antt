@@ -1,8 +1,6 @@
 use Rattle.std.proofs.Common.{◌≡◌, zero, ◌++◌, drop}
 use Rattle.sharc_tree.specs.View.{view_arguments}
-use Rattle.sharc_suggest.specs.Casts.{suggested_in}
-use Rattle.sharc_suggest.specs.Givings.{beyond, all_givings}
-use Rattle.sharc_suggest.specs.Repairs.{told}
+use Rattle.sharc_suggest.specs.{Casts.suggested_in, Givings.{beyond, all_givings}, Repairs.told}
 use Rattle.sharc_suggest.proofs.expr.+expr.Given as goal
 
 abbrev pub invariant-arguments-loop-expr : goal.invariant-arguments-loop-expr

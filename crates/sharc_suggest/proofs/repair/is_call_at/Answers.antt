@@ -1,7 +1,5 @@
-use Rattle.std.proofs.Common.{◌≡◌, ◌<◌, ◌-◌, false, List, length, Option, Some, None, slice_get, ap, ap₂, sym, refl, ◌∙◌, arith}
-use Rattle.std.proofs.lemmas.Option.{slice_get_read, slice_get_past}
-use Rattle.sharc_tree.specs.declared.token.Token.{Token}
-use Rattle.sharc_tree.specs.Tree.{Program}
+use Rattle.std.proofs.{Common.{◌≡◌, ◌<◌, ◌-◌, false, List, length, Option, Some, None, slice_get, ap, ap₂, sym, refl, ◌∙◌, arith}, lemmas.Option.{slice_get_read, slice_get_past}}
+use Rattle.sharc_tree.specs.{declared.token.Token.Token, Tree.Program}
 use Rattle.sharc_suggest.specs.Repairs.{begins_call, is_call_at}
 use Rattle.sharc_suggest.proofs.repair.is_call_at.Goals as goal
 

@@ -1,7 +1,5 @@
 use Rattle.std.proofs.Common.{◌+◌, ◌≤◌, length, ap, sym, ◌∙◌, arith}
-use Rattle.sharc_mode.specs.Moded.{position_count}
-use Rattle.sharc_mode.specs.Rows.{modes_of}
-use Rattle.sharc_mode.specs.View.{view_row, view_sharing}
+use Rattle.sharc_mode.specs.{Moded.position_count, Rows.modes_of, View.{view_row, view_sharing}}
 use Rattle.sharc_suggest.specs.Repairs.{keeps, keeps_all}
 use Rattle.sharc_suggest.proofs.RowLemmas.{step_row, step_ends, kept_one}
 use Rattle.sharc_suggest.proofs.repair.keeps_all.Goals as goal

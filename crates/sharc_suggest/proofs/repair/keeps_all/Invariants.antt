@@ -1,7 +1,5 @@
 use Rattle.std.proofs.Common.{◌≡◌, ◌+◌, ◌≤◌}
-use Rattle.sharc_mode.specs.Moded.{position_count}
-use Rattle.sharc_mode.specs.Rows.{modes_of}
-use Rattle.sharc_mode.specs.View.{view_row}
+use Rattle.sharc_mode.specs.{Moded.position_count, Rows.modes_of, View.view_row}
 use Rattle.sharc_suggest.specs.Repairs.{keeps_all}
 use Rattle.sharc_suggest.proofs.repair.keeps_all.Given as goal
 

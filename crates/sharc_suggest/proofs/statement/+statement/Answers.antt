@@ -1,9 +1,6 @@
 use Rattle.std.proofs.Common.{◌≡◌, ◌++◌, ap, sym, ◌∙◌}
-use Rattle.sharc_tree.specs.Children.{view_block}
-use Rattle.sharc_tree.specs.View.{view_stmt, view_statements}
-use Rattle.sharc_suggest.specs.Casts.{suggested_in}
-use Rattle.sharc_suggest.specs.Givings.{givings_in, givings_in_all}
-use Rattle.sharc_suggest.specs.Repairs.{told}
+use Rattle.sharc_tree.specs.{Children.view_block, View.{view_stmt, view_statements}}
+use Rattle.sharc_suggest.specs.{Casts.suggested_in, Givings.{givings_in, givings_in_all}, Repairs.told}
 use Rattle.sharc_suggest.proofs.statement.+statement.Goals as goal
 
 pub statement-returns-in_ok-leave-in-Block-clause-casts : goal.statement-returns-in_ok-leave-in-Block-clause-casts

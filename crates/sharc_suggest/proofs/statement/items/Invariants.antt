@@ -1,8 +1,6 @@
 use Rattle.std.proofs.Common.{◌≡◌, ◌++◌, drop}
 use Rattle.sharc_tree.specs.View.{view_items}
-use Rattle.sharc_suggest.specs.Casts.{suggested_in}
-use Rattle.sharc_suggest.specs.Givings.{items_givings}
-use Rattle.sharc_suggest.specs.Repairs.{told}
+use Rattle.sharc_suggest.specs.{Casts.suggested_in, Givings.items_givings, Repairs.told}
 use Rattle.sharc_suggest.proofs.statement.items.Given as goal
 
 abbrev pub invariant-loop-one : goal.invariant-loop-one

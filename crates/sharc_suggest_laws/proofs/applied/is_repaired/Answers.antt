@@ -1,6 +1,5 @@
 use Rattle.std.proofs.Common.{◌≡◌, ap, sym, subst}
-use Rattle.sharc_ctype.specs.Items.{IsTyped}
-use Rattle.sharc_ctype.specs.Resolved.{Resolution, IsResolved}
+use Rattle.sharc_ctype.specs.{Items.IsTyped, Resolved.{Resolution, IsResolved}}
 use Rattle.sharc_mode.specs.Moded.{Assignment}
 use Rattle.sharc_rewrite.specs.Applied.{resolution_with, program_with}
 use Rattle.sharc_suggest_laws.specs.Gone.{IsGone}

@@ -1,6 +1,4 @@
-use Rattle.sharc_threads.proofs.Beginning.{table_begins, as_many_left, same_started}
-use Rattle.sharc_threads.proofs.Listing.{are_started}
-use Rattle.sharc_threads.proofs.Sitting.{numbers, enabled_is, there}
+use Rattle.sharc_threads.proofs.{Beginning.{table_begins, as_many_left, same_started}, Listing.are_started, Sitting.{numbers, enabled_is, there}}
 use Rattle.sharc_threads.proofs.laws.table_laws.Goals as goal
 
 pub returns : goal.returns

@@ -1,7 +1,6 @@
 use Rattle.sharc_code.specs.Whole.{place_after}
 use Rattle.sharc_told_laws.specs.Prints.{events_in, printed_in}
-use Rattle.sharc_told_laws.proofs.Logged.{holds, logged}
-use Rattle.sharc_told_laws.proofs.Ordered.{places_are, values_are}
+use Rattle.sharc_told_laws.proofs.{Logged.{holds, logged}, Ordered.{places_are, values_are}}
 use Rattle.sharc_told_laws.proofs.laws.prints_law.Goals as goal
 
 pub returns : goal.returns

@@ -1,7 +1,6 @@
 use Rattle.std.proofs.Common.{◌≡◌, List, [], ◌∷◌, ◌++◌, map, refl, ap, ◌∙◌}
 use Rattle.std.specs.Prelude.{flat_map}
-use Rattle.sharc_code.specs.declared.state.Print.{Print}
-use Rattle.sharc_code.specs.Whole.{place_after}
+use Rattle.sharc_code.specs.{declared.state.Print.Print, Whole.place_after}
 use Rattle.sharc_run_text.specs.RunText.{print_line, thread_line}
 use Rattle.sharc_told_laws.specs.Prints.{value_line}
 use Rattle.sharc_told_laws.proofs.laws.texts_begin_with_prints.Goals as goal

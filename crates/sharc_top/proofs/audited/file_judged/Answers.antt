@@ -1,5 +1,4 @@
-use Rattle.std.proofs.Common.{arith}
-use Rattle.std.proofs.lemmas.Result.{IfOk-weaker}
+use Rattle.std.proofs.{Common.arith, lemmas.Result.IfOk-weaker}
 use Rattle.sharc_top.proofs.Judging.{replies_long_source, replies_judged}
 use Rattle.sharc_top.proofs.audited.file_judged.Goals as goal
 

@@ -1,9 +1,6 @@
-use Rattle.std.proofs.Common.{sym, subst, IfOk}
-use Rattle.std.proofs.lemmas.Result.{IfOk-weaker}
-use Rattle.sharc_check.specs.Checks.{IsRefused}
-use Rattle.sharc_check.specs.Named.{TellNamed}
-use Rattle.sharc_top.specs.EventFiles.{Judges}
-use Rattle.sharc_top.specs.Refused.{IsModeRefusal}
+use Rattle.std.proofs.{Common.{sym, subst, IfOk}, lemmas.Result.IfOk-weaker}
+use Rattle.sharc_check.specs.{Checks.IsRefused, Named.TellNamed}
+use Rattle.sharc_top.specs.{EventFiles.Judges, Refused.IsModeRefusal}
 use Rattle.sharc_top.proofs.Judging.{judges_refused}
 use Rattle.sharc_top.proofs.audited.judged_with.Goals as goal
 

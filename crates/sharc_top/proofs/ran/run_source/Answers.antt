@@ -1,6 +1,5 @@
 use Rattle.std.proofs.lemmas.Result.{IfOk-weaker}
-use Rattle.sharc_top.proofs.Building.{answers_refused}
-use Rattle.sharc_top.proofs.Verdicts.{answers_program}
+use Rattle.sharc_top.proofs.{Building.answers_refused, Verdicts.answers_program}
 use Rattle.sharc_top.proofs.ran.run_source.Goals as goal
 
 pub returns-in-Ok : goal.returns-in-Ok

@@ -1,5 +1,4 @@
-use Rattle.std.proofs.Common.{rules, map, string_bytes, sym, ◌∙◌, ap, Some}
-use Rattle.std.proofs.lemmas.Result.{IfOk-weaker}
+use Rattle.std.proofs.{Common.{rules, map, string_bytes, sym, ◌∙◌, ap, Some}, lemmas.Result.IfOk-weaker}
 use Rattle.sharc_top.proofs.Replies.{reply_of, reply_recorded}
 use Rattle.sharc_top.proofs.top.sharc_top.Goals as goal
 

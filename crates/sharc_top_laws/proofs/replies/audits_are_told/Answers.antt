@@ -1,5 +1,4 @@
-use Rattle.sharc_top_laws.proofs.Judged.{FileReplyLaws}
-use Rattle.sharc_top_laws.proofs.Auditing.{audit_only, audit_told}
+use Rattle.sharc_top_laws.proofs.{Judged.FileReplyLaws, Auditing.{audit_only, audit_told}}
 use Rattle.sharc_top_laws.proofs.replies.audits_are_told.Goals as goal
 
 pub returns : goal.returns

@@ -1,6 +1,5 @@
 use Rattle.sharc_top_laws.specs.Laws.{AnswersAreOne}
-use Rattle.sharc_top_laws.proofs.Judged.{one_file_reply}
-use Rattle.sharc_top_laws.proofs.Replying.{FileRepliesAreOne, one_answer, one_reply, one_told}
+use Rattle.sharc_top_laws.proofs.{Judged.one_file_reply, Replying.{FileRepliesAreOne, one_answer, one_reply, one_told}}
 use Rattle.sharc_top_laws.proofs.replies.replies_are_one.Goals as goal
 
 pub returns : goal.returns

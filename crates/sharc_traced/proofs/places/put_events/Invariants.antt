@@ -1,7 +1,6 @@
 use Rattle.std.proofs.Common.{◌≡◌, [], ◌++◌, take, drop}
 use Rattle.std.specs.Prelude.{reverse}
-use Rattle.sharc_traced.specs.Names.{AreNames}
-use Rattle.sharc_traced.specs.Places.{event_lines}
+use Rattle.sharc_traced.specs.{Names.AreNames, Places.event_lines}
 use Rattle.sharc_traced.proofs.places.put_events.Given as goal
 
 abbrev pub invariant-loop-i : goal.invariant-loop-i

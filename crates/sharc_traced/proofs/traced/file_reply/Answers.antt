@@ -1,6 +1,5 @@
 use Rattle.std.proofs.Common.{List, take, ap, subst, ◌∙◌}
-use Rattle.sharc_event_file.specs.Cut.{IsFront}
-use Rattle.sharc_event_file.specs.Writing.{file_text}
+use Rattle.sharc_event_file.specs.{Cut.IsFront, Writing.file_text}
 use Rattle.sharc_mode.specs.Moded.{Assignment}
 use Rattle.sharc_said.specs.declared.event.Event.{Event}
 use Rattle.sharc_traced.specs.Replies.{history}

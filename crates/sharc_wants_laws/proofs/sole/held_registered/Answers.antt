@@ -1,25 +1,12 @@
 use Rattle.std.proofs.Common.{◌≡◌, ℕ, length, ⊎_elim, subst, sym}
 use Rattle.std.specs.Prelude.{Bool, reverse}
-use Rattle.sharc_code.specs.Paced.{paced_in}
-use Rattle.sharc_code.specs.Path.{begun, machine_after}
-use Rattle.sharc_code.specs.Runs.{turns_of}
-use Rattle.sharc_code.specs.Whole.{Erase}
-use Rattle.sharc_flat_form.specs.declared.flat.Flat.{Flat as FlatCode}
-use Rattle.sharc_flat_form.specs.Made.{flat_of}
-use Rattle.sharc_gen.specs.Consistent.{said_in}
-use Rattle.sharc_gen.specs.Correct.{IsBeginning, HasCome}
-use Rattle.sharc_gen.specs.Generated.{program_of}
-use Rattle.sharc_gen.specs.Lowered.{lowered_in}
-use Rattle.sharc_gen.specs.OfRuns.{elements_before, founds_of, told_in}
-use Rattle.sharc_guard.specs.Guard.{guarded}
-use Rattle.sharc_guard.specs.Known.{dropped}
-use Rattle.sharc_guard.specs.Made.{IsMade}
-use Rattle.sharc_guarded_form.specs.declared.guarded.Guarded.{Guarded}
-use Rattle.sharc_guarded_form.specs.Form.{IsGuarded}
+use Rattle.sharc_code.specs.{Paced.paced_in, Path.{begun, machine_after}, Runs.turns_of, Whole.Erase}
+use Rattle.sharc_flat_form.specs.{declared.flat.Flat.{Flat as FlatCode}, Made.flat_of}
+use Rattle.sharc_gen.specs.{Consistent.said_in, Correct.{IsBeginning, HasCome}, Generated.program_of, Lowered.lowered_in, OfRuns.{elements_before, founds_of, told_in}}
+use Rattle.sharc_guard.specs.{Guard.guarded, Known.dropped, Made.IsMade}
+use Rattle.sharc_guarded_form.specs.{declared.guarded.Guarded.Guarded, Form.IsGuarded}
 use Rattle.sharc_wants_laws.specs.Registered.{HoldsRegistered}
-use Rattle.sharc_wants_laws.proofs.Keeping.{not_silent, registered}
-use Rattle.sharc_wants_laws.proofs.Registering.{registered_there}
-use Rattle.sharc_wants_laws.proofs.SoleTelling.{events_are, place_is}
+use Rattle.sharc_wants_laws.proofs.{Keeping.{not_silent, registered}, Registering.registered_there, SoleTelling.{events_are, place_is}}
 use Rattle.sharc_wants_laws.proofs.sole.held_registered.Goals as goal
 
 -- guarded code that was made, as a program

@@ -1,11 +1,6 @@
 use Rattle.std.proofs.Common.{◌≡◌, ◌≢◌, ◌⊎◌, ⊎_elim, ℕ, ◌+◌, ◌==◌, true, not, ◌&&◌, List, [], ◌∷◌, ◌++◌, sym, ap, ◌∙◌, arith, eq-eqb, get_or, pos}
 use Rattle.sharc_tree.specs.declared.event.SourceEvent.{SourceEvent}
-use Rattle.sharc_meaning.specs.Events.{events_of}
-use Rattle.sharc_meaning.specs.Meaning.{Asked}
-use Rattle.sharc_meaning.specs.Reference.{number_of}
-use Rattle.sharc_meaning.specs.References.{Begun, asked_with, refers}
-use Rattle.sharc_meaning.specs.Runs.{answers_of}
-use Rattle.sharc_meaning.specs.State.{Outcome, spent, wants}
+use Rattle.sharc_meaning.specs.{Events.events_of, Meaning.Asked, Reference.number_of, References.{Begun, asked_with, refers}, Runs.answers_of, State.{Outcome, spent, wants}}
 use Rattle.sharc_code.specs.Whole.{place_after}
 use Rattle.sharc_flat.specs.Correct.{MayStart}
 use Rattle.sharc_history_laws.specs.History.{history_of}

@@ -1,6 +1,5 @@
 use Rattle.std.specs.Prelude.{◌∷◌, []}
-use Rattle.sharc_wants_laws.proofs.Holders.{only}
-use Rattle.sharc_wants_laws.proofs.Tables.{has_tables}
+use Rattle.sharc_wants_laws.proofs.{Holders.only, Tables.has_tables}
 use Rattle.sharc_wants_laws.proofs.sole.tested_are_only.Goals as goal
 
 pub returns : goal.returns

@@ -1,8 +1,6 @@
 -- No part has begun, so the word is the one of which the parts know.
 use Rattle.std.proofs.Common.{◌≡◌, suc, List, ap, ◌∙◌}
-use Rattle.sharc_bus.specs.declared.rule.Part.{Part}
-use Rattle.sharc_bus.specs.Rule.{unbegun, words_known}
-use Rattle.sharc_bus.specs.Bus.{RestView}
+use Rattle.sharc_bus.specs.{declared.rule.Part.Part, Rule.{unbegun, words_known}, Bus.RestView}
 use Rattle.sharc_bus.proofs.Settling.{look_allowed}
 use Rattle.sharc_bus.proofs.rest.BusRest.look.Goals as goal
 

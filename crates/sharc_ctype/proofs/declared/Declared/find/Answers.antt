@@ -1,8 +1,6 @@
-use Rattle.std.proofs.Common.{◌≡◌, ap, refl, sym, ◌∙◌, length, arith, Some, None}
-use Rattle.std.proofs.lemmas.Option.{slice_get_read}
+use Rattle.std.proofs.{Common.{◌≡◌, ap, refl, sym, ◌∙◌, length, arith, Some, None}, lemmas.Option.slice_get_read}
 use Rattle.std.specs.Option.{option_copied}
-use Rattle.sharc_ctype.specs.Resolved.{declared_at}
-use Rattle.sharc_ctype.specs.FirstPlaces.{place_of}
+use Rattle.sharc_ctype.specs.{Resolved.declared_at, FirstPlaces.place_of}
 use Rattle.sharc_ctype.proofs.DeclaredLemmas.{place_within, found_at, none_at}
 use Rattle.sharc_ctype.proofs.declared.Declared.find.Goals as goal
 

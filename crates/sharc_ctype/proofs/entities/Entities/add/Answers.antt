@@ -1,6 +1,5 @@
 use Rattle.std.proofs.Common.{◌≡◌, ◌+◌, sym, subst, arith}
-use Rattle.sharc_ctype.specs.Entities.{positions_of}
-use Rattle.sharc_ctype.specs.FirstEntities.{AreNumbered}
+use Rattle.sharc_ctype.specs.{Entities.positions_of, FirstEntities.AreNumbered}
 use Rattle.sharc_ctype.proofs.EntityLemmas.{numbered_pushed}
 use Rattle.sharc_ctype.proofs.entities.Entities.add.Goals as goal
 

@@ -1,8 +1,6 @@
-use Rattle.std.proofs.Common.{◌≡◌, ap, refl, sym, ◌∙◌, length, arith, Some, None}
-use Rattle.std.proofs.lemmas.Option.{slice_get_read}
+use Rattle.std.proofs.{Common.{◌≡◌, ap, refl, sym, ◌∙◌, length, arith, Some, None}, lemmas.Option.slice_get_read}
 use Rattle.std.specs.Option.{option_copied}
-use Rattle.sharc_ctype.specs.Entities.{numbered_at}
-use Rattle.sharc_ctype.specs.FirstEntities.{entity_place}
+use Rattle.sharc_ctype.specs.{Entities.numbered_at, FirstEntities.entity_place}
 use Rattle.sharc_ctype.proofs.EntityLemmas.{entity_within, entity_found, no_entity}
 use Rattle.sharc_ctype.proofs.entities.Entities.find.Goals as goal
 

@@ -1,6 +1,5 @@
 use Rattle.std.proofs.Common.{ap, sym, ◌∙◌, Some, None}
-use Rattle.std.specs.List.{slice_get}
-use Rattle.std.specs.Option.{option_copied, option_and_then}
+use Rattle.std.specs.{List.slice_get, Option.{option_copied, option_and_then}}
 use Rattle.sharc_ctype.specs.Resolved.{Resolution, function_at}
 use Rattle.sharc_ctype.proofs.PlaceLemmas.{to_function}
 use Rattle.sharc_ctype.proofs.typed.Typed.function_at.Goals as goal

@@ -1,10 +1,8 @@
 use Rattle.std.proofs.Common.{◌≡◌, ap, sym, ◌∙◌, Some, None}
-use Rattle.std.specs.List.{slice_get}
-use Rattle.std.specs.Option.{option_copied, option_and_then}
+use Rattle.std.specs.{List.slice_get, Option.{option_copied, option_and_then}}
 use Rattle.sharc_tree.specs.View.{view_program, view_items}
 use Rattle.sharc_ctype.specs.Resolved.{Resolution, struct_at, structs_in}
-use Rattle.sharc_ctype.proofs.LimitLemmas.{found_is_few}
-use Rattle.sharc_ctype.proofs.PlaceLemmas.{to_struct}
+use Rattle.sharc_ctype.proofs.{LimitLemmas.found_is_few, PlaceLemmas.to_struct}
 use Rattle.sharc_ctype.proofs.typed.Typed.struct_at.Goals as goal
 
 pub returns-in-None-clause-definition : goal.returns-in-None-clause-definition

@@ -1,9 +1,6 @@
-use Rattle.std.proofs.Common.{◌<◌, length, ◌∙◌, arith}
-use Rattle.std.proofs.lemmas.List.{length-set}
+use Rattle.std.proofs.{Common.{◌<◌, length, ◌∙◌, arith}, lemmas.List.length-set}
 use Rattle.sharc_tree.specs.Texts.{tokens_text}
-use Rattle.sharc_flatten.proofs.LineLemmas.{lay_more}
-use Rattle.sharc_flatten.proofs.ListLemmas.{left_more}
-use Rattle.sharc_flatten.proofs.PlaceLemmas.{grows_more}
+use Rattle.sharc_flatten.proofs.{LineLemmas.lay_more, ListLemmas.left_more, PlaceLemmas.grows_more}
 use Rattle.sharc_flatten.proofs.texts.Words.lay.Goals as goal
 
 pub loop-line-preserved : goal.loop-line-preserved

@@ -1,8 +1,6 @@
 use Rattle.std.proofs.Common.{◌≡◌, ◌+◌, ◌∙◌, ap, sym, cond, subst, Some}
-use Rattle.sharc_guard.specs.Known.{know_after, know_next, nothing}
-use Rattle.sharc_guard.specs.Marked.{notes_of, know_of, AreBefore}
-use Rattle.sharc_guard.proofs.Marking.{ended, ended_before}
-use Rattle.sharc_guard.proofs.Noting.{on_ok}
+use Rattle.sharc_guard.specs.{Known.{know_after, know_next, nothing}, Marked.{notes_of, know_of, AreBefore}}
+use Rattle.sharc_guard.proofs.{Marking.{ended, ended_before}, Noting.on_ok}
 use Rattle.sharc_guard.proofs.marks.Knowledge.step.Goals as goal
 
 pub returns-then-enters-clause-known : goal.returns-then-enters-clause-known

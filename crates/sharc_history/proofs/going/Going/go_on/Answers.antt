@@ -4,8 +4,9 @@ use Rattle.sharc_code.specs.Whole.{place_after}
 use Rattle.sharc_schedule.specs.Schedule.{Stored}
 use Rattle.sharc_seq.specs.Run.{enabled, IsChosen}
 use Rattle.sharc_threads.specs.Ends.{Standing}
-use Rattle.sharc_history.proofs.Choosing.{nothing, chose}
+use Rattle.sharc_history.proofs.Choosing.{chose}
 use Rattle.sharc_history.proofs.going.Going.go_on.Goals as goal
+use Rattle.sharc_lemmas.proofs.Lists.{nothing}
 
 pub list_enabled-requires : goal.list_enabled-requires
 list_enabled-requires c = (c.args.code.now, c.args.shape.now, (c.requires.traced.turns, c.requires.traced.goes.stands))

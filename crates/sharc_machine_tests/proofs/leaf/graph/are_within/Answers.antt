@@ -1,6 +1,4 @@
-use Rattle.std.proofs.Common.{sym, arith}
-use Rattle.std.proofs.lemmas.List.{take_all}
-use Rattle.std.proofs.lemmas.List.Elements.{All-more, All-same}
+use Rattle.std.proofs.{Common.{sym, arith}, lemmas.List.take_all, lemmas.List.Elements.{All-more, All-same}}
 use Rattle.sharc_graph.specs.Paths.{edge_of, IsWithin}
 use Rattle.sharc_machine_tests.proofs.leaf.graph.are_within.Goals as goal
 

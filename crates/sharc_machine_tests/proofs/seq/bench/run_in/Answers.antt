@@ -1,7 +1,5 @@
-use Rattle.std.proofs.Common.{ℕ, List, length, ap, ◌∙◌, rules}
-use Rattle.std.proofs.lemmas.List.FromFn.{length-map-range_with_len}
-use Rattle.sharc_code.specs.Layout.{words_of}
-use Rattle.sharc_code.specs.Opening.{opens_with}
+use Rattle.std.proofs.{Common.{ℕ, List, length, ap, ◌∙◌, rules}, lemmas.List.FromFn.length-map-range_with_len}
+use Rattle.sharc_code.specs.{Layout.words_of, Opening.opens_with}
 use Rattle.sharc_machine_tests.proofs.seq.bench.run_in.Goals as goal
 
 pub loop-turn-init : goal.loop-turn-init

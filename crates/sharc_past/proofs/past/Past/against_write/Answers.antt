@@ -1,8 +1,6 @@
 use Rattle.std.proofs.Common.{ap, sym, ◌∙◌}
-use Rattle.sharc_past.specs.declared.keys.GranuleKey.{GranuleKey}
+use Rattle.sharc_past.specs.{declared.keys.GranuleKey.GranuleKey, Latest.latest_about, Reads.against_noted}
 use Rattle.sharc_past.specs.declared.topics.Topic.TheVariants as topic
-use Rattle.sharc_past.specs.Latest.{latest_about}
-use Rattle.sharc_past.specs.Reads.{against_noted}
 use Rattle.sharc_past.proofs.past.Past.against_write.Goals as goal
 
 pub returns-in-None : goal.returns-in-None

@@ -1,14 +1,12 @@
-use Rattle.std.proofs.Common.{◌≡◌, ◌&&◌, true, false, ap, sym, ◌∙◌}
-use Rattle.std.proofs.lemmas.Bool.{and_parts}
+use Rattle.std.proofs.{Common.{◌≡◌, ◌&&◌, true, false, ap, sym, ◌∙◌}, lemmas.Bool.and_parts}
 use Rattle.sharc_meaning.specs.Events.{access_by}
 use Rattle.sharc_judge.specs.declared.rule.Rule.TheVariants as rule
 use Rattle.sharc_judge.specs.Deciding.{disagrees, view_access}
-use Rattle.sharc_past.specs.declared.keys.CellKey.{CellKey}
+use Rattle.sharc_past.specs.{declared.keys.CellKey.CellKey, Latest.{latest_about, last_period, is_behind}}
 use Rattle.sharc_past.specs.declared.topics.Topic.TheVariants as topic
-use Rattle.sharc_past.specs.Latest.{latest_about, last_period, is_behind}
-use Rattle.sharc_past.proofs.About.{and_all}
 use Rattle.sharc_past.proofs.Moding.{other_mode, mode_is}
 use Rattle.sharc_past.proofs.past.Past.had_other_mode.Goals as goal
+use Rattle.sharc_lemmas.proofs.Bools.{and_true as and_all}
 
 pub returns-in-None : goal.returns-in-None
 returns-in-None c =

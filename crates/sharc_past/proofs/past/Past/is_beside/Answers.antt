@@ -1,5 +1,4 @@
-use Rattle.std.proofs.Common.{◌≡◌, false, ◌&&◌, ◌||◌, ap, sym, ◌∙◌}
-use Rattle.std.proofs.lemmas.Bool.{or_left}
+use Rattle.std.proofs.{Common.{◌≡◌, false, ◌&&◌, ◌||◌, ap, sym, ◌∙◌}, lemmas.Bool.or_left}
 use Rattle.sharc_judge.specs.declared.rule.Rule.TheVariants as rule
 use Rattle.sharc_past.specs.Reads.{against_write, against_reads}
 use Rattle.sharc_past.proofs.Sharing.{beside_is}

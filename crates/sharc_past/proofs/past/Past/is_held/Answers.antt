@@ -1,10 +1,8 @@
 use Rattle.std.proofs.Common.{ap, sym, ◌∙◌}
 use Rattle.sharc_meaning.specs.Events.{locks}
-use Rattle.sharc_past.specs.declared.keys.CellKey.{CellKey}
+use Rattle.sharc_past.specs.{declared.keys.CellKey.CellKey, Latest.latest_about}
 use Rattle.sharc_past.specs.declared.topics.Topic.TheVariants as topic
-use Rattle.sharc_past.specs.Latest.{latest_about}
-use Rattle.sharc_past.proofs.Storing.{meets_noted}
-use Rattle.sharc_past.proofs.Holding.{held_is}
+use Rattle.sharc_past.proofs.{Storing.meets_noted, Holding.held_is}
 use Rattle.sharc_past.proofs.past.Past.is_held.Goals as goal
 
 pub returns-in-None : goal.returns-in-None

@@ -1,7 +1,6 @@
 use Rattle.std.proofs.Common.{ap, sym, ◌∙◌}
 use Rattle.sharc_tree.specs.declared.event.Object.TheVariants.{Made}
-use Rattle.sharc_meaning.specs.Events.{makes}
-use Rattle.sharc_meaning.specs.Store.{is_live}
+use Rattle.sharc_meaning.specs.{Events.makes, Store.is_live}
 use Rattle.sharc_past.proofs.Storing.{meets_noted, live_is}
 use Rattle.sharc_past.proofs.past.Past.is_live.Goals as goal
 

@@ -1,8 +1,7 @@
 use Rattle.std.proofs.Common.{ap, sym, ◌∙◌}
 use Rattle.sharc_meaning.specs.Events.{locks}
-use Rattle.sharc_past.specs.declared.keys.CellKey.{CellKey}
+use Rattle.sharc_past.specs.{declared.keys.CellKey.CellKey, Latest.latest_about}
 use Rattle.sharc_past.specs.declared.topics.Topic.TheVariants as topic
-use Rattle.sharc_past.specs.Latest.{latest_about}
 use Rattle.sharc_past.proofs.Storing.{meets_noted, locked_is}
 use Rattle.sharc_past.proofs.past.Past.is_locked.Goals as goal
 

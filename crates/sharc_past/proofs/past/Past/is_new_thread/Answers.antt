@@ -1,6 +1,5 @@
-use Rattle.std.proofs.Common.{◌≡◌, true, ap, sym, subst, ◌∙◌, to_z, of_z, w64}
+use Rattle.std.proofs.{Common.{◌≡◌, true, ap, sym, subst, ◌∙◌, to_z, of_z, w64}, lemmas.Int.to_z-of_z}
 use Rattle.std.specs.Prelude.{ℤ, pos, int_lt, is_some}
-use Rattle.std.proofs.lemmas.Int.{to_z-of_z}
 use Rattle.sharc_past.specs.declared.topics.Topic.TheVariants as topic
 use Rattle.sharc_past.specs.Latest.{latest_about}
 use Rattle.sharc_past.proofs.Storing.{new_thread}

@@ -1,10 +1,8 @@
-use Rattle.std.proofs.Common.{◌≡◌, ap, sym, ◌∙◌, to_z, w64, arith}
+use Rattle.std.proofs.{Common.{◌≡◌, ap, sym, ◌∙◌, to_z, w64, arith}, lemmas.Int.ints}
 use Rattle.std.specs.Prelude.{ℤ, pos}
-use Rattle.std.proofs.lemmas.Int.{ints}
 use Rattle.sharc_past.specs.declared.topics.Topic.TheVariants as topic
 use Rattle.sharc_past.specs.Latest.{latest_about}
-use Rattle.sharc_past.proofs.Latest.{event_of}
-use Rattle.sharc_past.proofs.Storing.{spawn_is}
+use Rattle.sharc_past.proofs.{Latest.event_of, Storing.spawn_is}
 use Rattle.sharc_past.proofs.past.Past.spawn_of.Goals as goal
 
 pub returns-in-None : goal.returns-in-None

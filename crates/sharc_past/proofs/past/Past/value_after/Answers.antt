@@ -2,12 +2,10 @@ use Rattle.std.proofs.Common.{◌≡◌, true, ap, sym, ◌∙◌, to_z, of_z, w
 use Rattle.std.specs.Prelude.{if◌then◌else◌}
 use mir.Syntax.{w128}
 use Rattle.sharc_meaning.specs.Store.{initial_value, value_left, value_after}
-use Rattle.sharc_past.specs.declared.keys.CellKey.{CellKey}
+use Rattle.sharc_past.specs.{declared.keys.CellKey.CellKey, Latest.{latest_about, last_make, is_behind}}
 use Rattle.sharc_past.specs.declared.topics.Topic.TheVariants as topic
-use Rattle.sharc_past.specs.Latest.{latest_about, last_make, is_behind}
-use Rattle.sharc_past.proofs.Storing.{value_of, value_is}
+use Rattle.sharc_past.proofs.{Storing.{value_of, value_is}, past.Past.value_after.Goals.{in_default-via-in-Some+else-is_behind, in_default-via-in_default}}
 use Rattle.sharc_past.proofs.past.Past.value_after.Goals as goal
-use Rattle.sharc_past.proofs.past.Past.value_after.Goals.{in_default-via-in-Some+else-is_behind, in_default-via-in_default}
 
 pub returns-in-Some : goal.returns-in-Some
 returns-in-Some c =

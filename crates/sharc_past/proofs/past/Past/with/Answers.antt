@@ -1,14 +1,8 @@
 use Rattle.std.proofs.Common.{◌≡◌, ℕ, ◌+◌, ◌==◌, [], ◌∷◌, ◌++◌, length, Some, ap, sym, ◌∙◌}
-use Rattle.std.specs.Prelude.{List, if◌then◌else◌}
-use Rattle.std.specs.List.{list_any}
+use Rattle.std.specs.{Prelude.{List, if◌then◌else◌}, List.list_any}
 use Rattle.sharc_meaning.specs.Events.{events_of}
-use Rattle.sharc_past.specs.declared.topics.Topic.{Topic}
-use Rattle.sharc_past.specs.Latest.{latest_about}
-use Rattle.sharc_past.specs.Reads.{with_read, reads_of}
-use Rattle.sharc_past.specs.Topics.{same_topic, is_about, found}
-use Rattle.sharc_past.proofs.Latest.{latest_more}
-use Rattle.sharc_past.proofs.Counting.{count_more}
-use Rattle.sharc_past.proofs.Reading.{reads_more}
+use Rattle.sharc_past.specs.{declared.topics.Topic.Topic, Latest.latest_about, Reads.{with_read, reads_of}, Topics.{same_topic, is_about, found}}
+use Rattle.sharc_past.proofs.{Latest.latest_more, Counting.count_more, Reading.reads_more}
 use Rattle.sharc_past.proofs.past.Past.with.Goals as goal
 
 pub invariant_of-result : goal.invariant_of-result

@@ -1,6 +1,5 @@
 use Rattle.std.proofs.Common.{◌++◌, ℕ, ◌<◌, List, None, get_or, sym, ap, ◌∙◌, subst}
-use Rattle.sharc_word.specs.declared.step.TheConstants.{THREADS}
-use Rattle.sharc_word.specs.declared.step.WordEvent.{WordEvent}
+use Rattle.sharc_word.specs.{declared.step.TheConstants.THREADS, declared.step.WordEvent.WordEvent}
 use Rattle.sharc_code.specs.Runs.{word_events}
 use Rattle.sharc_threads.specs.Seats.{HasBegun}
 use Rattle.sharc_rounds.specs.Laws.{GoneOn}

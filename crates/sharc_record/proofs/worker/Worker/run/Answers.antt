@@ -1,9 +1,8 @@
 use Rattle.std.proofs.Common.{◌≡◌, ◌<◌, List, length, Option, None, get_or, set, sym, ap, ◌∙◌, subst, arith}
-use Rattle.sharc_record.proofs.Places.{any_default}
-use Rattle.sharc_record.specs.declared.hand.Hand.{Hand}
-use Rattle.sharc_record.specs.Round.{MayRunAt, HasRunAt}
+use Rattle.sharc_record.specs.{declared.hand.Hand.Hand, Round.{MayRunAt, HasRunAt}}
 use Rattle.sharc_record.proofs.Dealing.{done_more, left_less, same_length}
 use Rattle.sharc_record.proofs.worker.Worker.run.Goals as goal
+use Rattle.sharc_lemmas.proofs.Lists.{any_default}
 
 pub run_at-requires-clause-may : goal.run_at-requires-clause-may
 run_at-requires-clause-may g c =

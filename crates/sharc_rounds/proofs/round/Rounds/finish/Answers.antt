@@ -1,8 +1,7 @@
 use Rattle.std.proofs.Common.{List, sym, ◌∙◌, subst}
 use Rattle.sharc_cpu.specs.Thread.{ThreadView}
 use Rattle.sharc_code.specs.Whole.{place_after}
-use Rattle.sharc_threads.specs.Ends.{Standing, AreStarted}
-use Rattle.sharc_threads.specs.Seats.{AreOf}
+use Rattle.sharc_threads.specs.{Ends.{Standing, AreStarted}, Seats.AreOf}
 use Rattle.sharc_rounds.proofs.round.Rounds.finish.Goals as goal
 
 pub end-end-requires : goal.end-end-requires

@@ -1,9 +1,7 @@
 use Rattle.std.proofs.Common.{◌≡◌, ◌<◌, ℕ, List, refl, ap, subst, arith}
 use Rattle.sharc_bus.specs.Bus.{SeatView, RestView, OneHistory, lists_of}
-use Rattle.sharc_rounds.proofs.Places.{at_place}
+use Rattle.sharc_rounds.proofs.{Places.at_place, Dealing.may_at, Rounding.{fit, are_back, round_made, has_hand, through}}
 use Rattle.sharc_rounds.specs.Round.{Seat, hand_at}
-use Rattle.sharc_rounds.proofs.Dealing.{may_at}
-use Rattle.sharc_rounds.proofs.Rounding.{fit, are_back, round_made, has_hand, through}
 use Rattle.sharc_rounds.proofs.round.Rounds.make.Goals as goal
 
 pub run_all-requires-clause-may : goal.run_all-requires-clause-may

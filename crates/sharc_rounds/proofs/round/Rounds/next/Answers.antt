@@ -2,10 +2,7 @@ use Rattle.std.proofs.Common.{◌++◌, ℕ, ◌<◌, List, None, length, get_or
 use Rattle.sharc_word.specs.declared.step.TheConstants.{THREADS}
 use Rattle.sharc_threads.specs.Seats.{HasBegun}
 use Rattle.sharc_bus.specs.Bus.{RestView}
-use Rattle.sharc_rounds.specs.declared.round.Rounds.{Rounds}
-use Rattle.sharc_rounds.specs.declared.words.Words.{Words}
-use Rattle.sharc_rounds.specs.Round.{AreWords}
-use Rattle.sharc_rounds.specs.Laws.{GoneOn}
+use Rattle.sharc_rounds.specs.{declared.round.Rounds.Rounds, declared.words.Words.Words, Round.AreWords, Laws.GoneOn}
 use Rattle.sharc_rounds.proofs.Looking.{begun_same, are_kept, are_same}
 use Rattle.sharc_rounds.proofs.round.Rounds.next.Goals as goal
 

@@ -3,9 +3,9 @@ use Rattle.sharc_word.specs.declared.step.TheConstants.{THREADS}
 use Rattle.sharc_code.specs.Whole.{place_after}
 use Rattle.sharc_threads.specs.Ends.{Standing}
 use Rattle.sharc_seq.specs.Run.{enabled, IsChosen}
-use Rattle.sharc_seq.proofs.Choosing.{none_enabled, nothing}
-use Rattle.sharc_seq.proofs.Grown.{chose, as_many, one_later}
+use Rattle.sharc_seq.proofs.{Choosing.none_enabled, Grown.{chose, as_many, one_later}}
 use Rattle.sharc_seq.proofs.table.Table.turn.Goals as goal
+use Rattle.sharc_lemmas.proofs.Lists.{nothing}
 
 pub list_enabled-requires : goal.list_enabled-requires
 list_enabled-requires g c = (c.args.code.now, c.args.shape.now, (c.requires.table.turns, c.requires.table.stands))

@@ -3,10 +3,8 @@ use Rattle.std.specs.Prelude.{is_some, slice_index}
 use Rattle.sharc_word.specs.declared.step.TheConstants.{THREADS}
 use Rattle.sharc_code.specs.Whole.{place_after}
 use Rattle.sharc_cpu.specs.Thread.{ThreadView}
-use Rattle.sharc_threads.specs.Ends.{Standing}
-use Rattle.sharc_threads.specs.Seats.{AreOf, may_turn_at}
-use Rattle.sharc_seq.proofs.Choosing.{listed}
-use Rattle.sharc_seq.proofs.Grown.{enabled_are}
+use Rattle.sharc_threads.specs.{Ends.Standing, Seats.{AreOf, may_turn_at}}
+use Rattle.sharc_seq.proofs.{Choosing.listed, Grown.enabled_are}
 use Rattle.sharc_seq.proofs.walk.Walk.list_enabled.Goals as goal
 
 pub collect-requires-clause-numbers : goal.collect-requires-clause-numbers

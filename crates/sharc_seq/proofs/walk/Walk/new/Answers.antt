@@ -1,10 +1,5 @@
-use Rattle.std.proofs.Common.{◌≡◌, ℕ, List, length, ap, ◌∙◌, subst}
-use Rattle.std.proofs.lemmas.List.FromFn.{length-map-range_with_len}
-use Rattle.sharc_code.specs.Layout.{words_of}
-use Rattle.sharc_code.specs.Opening.{opens_with, opening_words}
-use Rattle.sharc_code.specs.Path.{begun}
-use Rattle.sharc_code.specs.Runs.{is_started}
-use Rattle.sharc_code.specs.Whole.{bounds}
+use Rattle.std.proofs.{Common.{◌≡◌, ℕ, List, length, ap, ◌∙◌, subst}, lemmas.List.FromFn.length-map-range_with_len}
+use Rattle.sharc_code.specs.{Layout.words_of, Opening.{opens_with, opening_words}, Path.begun, Runs.is_started, Whole.bounds}
 use Rattle.sharc_threads.specs.Seats.{AreSeats}
 use Rattle.sharc_seq.proofs.walk.Walk.new.Goals as goal
 

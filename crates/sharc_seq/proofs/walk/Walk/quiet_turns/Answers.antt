@@ -1,13 +1,11 @@
-use Rattle.std.proofs.Common.{◌≡◌, ℕ, ◌<◌, List, Option, None, length, get_or, set, refl, sym, ◌∙◌, subst, arith}
-use Rattle.std.proofs.lemmas.Result.{IfOk-weaker}
+use Rattle.std.proofs.{Common.{◌≡◌, ℕ, ◌<◌, List, Option, None, get_or, refl, sym, ◌∙◌}, lemmas.Result.IfOk-weaker}
 use Rattle.std.specs.Vec.{with_item}
 use Rattle.sharc_code.specs.Whole.{place_after}
 use Rattle.sharc_cpu.specs.Thread.{ThreadView}
 use Rattle.sharc_seq.specs.declared.walk.Walk.{Walk}
-use Rattle.sharc_seq.proofs.Choosing.{any_default}
-use Rattle.sharc_seq.proofs.Grown.{sits, enabled_too}
-use Rattle.sharc_seq.proofs.Quieting.{hurried}
+use Rattle.sharc_seq.proofs.{Grown.{sits, enabled_too}, Quieting.hurried}
 use Rattle.sharc_seq.proofs.walk.Walk.quiet_turns.Goals as goal
+use Rattle.sharc_lemmas.proofs.Lists.{any_default}
 
 pub quiet_turns_at-requires-clause-thread : goal.quiet_turns_at-requires-clause-thread
 quiet_turns_at-requires-clause-thread c =

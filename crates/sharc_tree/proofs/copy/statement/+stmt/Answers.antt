@@ -1,7 +1,6 @@
 use Rattle.std.proofs.Common.{ap, ◌∙◌}
-use Rattle.sharc_tree.specs.Tree.{block}
+use Rattle.sharc_tree.specs.{Tree.block, Children.view_block}
 use Rattle.sharc_tree.proofs.Copies.{statement_copied}
-use Rattle.sharc_tree.specs.Children.{view_block}
 use Rattle.sharc_tree.proofs.copy.statement.+stmt.Goals as goal
 
 pub copy_statements-loop-stmt-preserved : goal.copy_statements-loop-stmt-preserved
