@@ -12,15 +12,15 @@ use Rattle.sharc_history_laws.specs.{Causes.ShowsCause, Conflicts.IsCheck, Follo
 use Rattle.sharc_accepted_laws.specs.Targets.{targets_of}
 use Rattle.sharc_wants_laws.specs.Cause.{ShowsReference}
 use Rattle.sharc_sound_laws.specs.{Reports.{IsReportOf, WantsReported}, StandStands.Stands}
-use Rattle.sharc_reply_laws.specs.Reports.{ReportTells, WantsAccess, WantsRefusedAccess, WantsUnder, access_refused, object_tested}
+use Rattle.sharc_reply_laws.specs.Reports.{ReportTells, ThreadWantsAccess, WantsRefusedAccess, ThreadWantsMutex, access_refused, object_tested}
 
 module _ (begins : RunsBegin) (m : Assignment) (code : Code) (s : Shape) (ls : Labels) (run : List Turn) (checked : CheckedRun code s run) (stands : Stands m (targets_of m) code s ls run)
     (wanted : (before : List Turn) → CheckedRun code s before → (check : Turn) (kind : Kind) (granule site : ℕ) → IsCheck code s before check check.thread kind granule site false
-    → (a : Access) → access_checked code ((place_after code s before).threads check.thread) ≡ Some a → WantsAccess m code (history_of code s before) check.thread site a)
+    → (a : Access) → access_checked code ((place_after code s before).threads check.thread) ≡ Some a → ThreadWantsAccess m code (history_of code s before) check.thread site a)
     (refused : (t : ℕ) (c : ConflictAt) → ((place_after code s run).threads t).at.state ≡ Stopped → ((place_after code s run).threads t).own.stop ≡ Some (Conflict c)
     → (j : ℕ) (kind : Kind) (site : ℕ) → (shown : ShowsCause code s run t c j kind site) → WantsRefusedAccess m code s run t c (access_refused shown))
     (under : (t site word : ℕ) → ((place_after code s run).threads t).at.state ≡ Stopped → ((place_after code s run).threads t).own.stop ≡ Some (NoLock site word)
-    → (shows : ShowsLock code (history_of code s run) t ((place_after code s run).threads t) site) → WantsUnder m code s run t site word shows)
+    → (shows : ShowsLock code (history_of code s run) t ((place_after code s run).threads t) site) → ThreadWantsMutex m code s run t site word shows)
     (reports : (t : ℕ) (stop : Stop) → ((place_after code s run).threads t).at.state ≡ Stopped → ((place_after code s run).threads t).own.stop ≡ Some stop → IsReport stop → IsReportOf m (targets_of m) code s ls run t stop)
     (casts : (t site count : ℕ) → ((place_after code s run).threads t).own.stop ≡ Some (NotSole site count) → ShowsReference m code s ls run t site count)
     (given : (t site count : ℕ) → (wants_it : WantsReported m code (history_of code s run) t (NotSole site count)) → (finds : FindsOthers (targets_of m) code s ls run t site count)
@@ -38,7 +38,7 @@ module _ (begins : RunsBegin) (m : Assignment) (code : Code) (s : Shape) (ls : L
       record {
         cause = record { names = names; all = st.causes };
         wants_it = ended.wants_it;
-        is_that = record { at_check = subst (λ u. WantsAccess m code (history_of code s shown.before) u c.site cause.refused.access) shown.thread w; at_end = ended.same };
+        is_that = record { at_check = subst (λ u. ThreadWantsAccess m code (history_of code s shown.before) u c.site cause.refused.access) shown.thread w; at_end = ended.same };
       }
   reported (NoLock site word) stopped is report =
       let shows = (stands.locks t site word is).shows in

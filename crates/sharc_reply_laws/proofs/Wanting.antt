@@ -13,7 +13,7 @@ use Rattle.sharc_compile.specs.Made.{IsCodeOf}
 use Rattle.sharc_history_laws.specs.{Conflicts.site_of_check, Followed.{Accesses, IsFollowed, ShowsLock, access_of, access_to}, History.history_of, Reports.IsLockCheck}
 use Rattle.sharc_wants_laws.specs.Wants.{IsNotThere, StopsOrWantsUnder, WantsAct, WantsBy, access_tested}
 use Rattle.sharc_sound_laws.specs.Standing.{IsPlaced}
-use Rattle.sharc_reply_laws.specs.Reports.{WantsAccess, WantsUnder}
+use Rattle.sharc_reply_laws.specs.Reports.{ThreadWantsAccess, ThreadWantsMutex}
 
 -- ---- the first instruction
 pub first_is : (flat : FlatCode) (code : Code) → IsCodeOf flat code → instr_at code 0 ≡ Start 0
@@ -65,10 +65,10 @@ module _ (code : Code) (m : Machine) where
 
 module _ (m : Assignment) (code : Code) (starts : instr_at code 0 ≡ Start 0) (R : History) (thread : ℕ) (at : Machine) (placed : IsNotThere R thread at ⊎ IsPlaced m code R thread at) where
   pub wants_access : (site : ℕ) → site_of_check (instr_at code at.at.pc) ≡ Some site → IsFollowed code (instr_at code at.at.pc) (instr_at code (at.at.pc + 1))
-      → (a : Access) → access_of code at (instr_at code (at.at.pc + 1)) ≡ Some a → WantsAccess m code R thread site a
+      → (a : Access) → access_of code at (instr_at code (at.at.pc + 1)) ≡ Some a → ThreadWantsAccess m code R thread site a
   wants_access site is follows a e = by placed
     where
-      by : IsNotThere R thread at ⊎ IsPlaced m code R thread at → WantsAccess m code R thread site a
+      by : IsNotThere R thread at ⊎ IsPlaced m code R thread at → ThreadWantsAccess m code R thread site a
       by (inl n) = absurd (no_site code at site (sym (ap site_of_check (ap (instr_at code) n.first ∙ starts)) ∙ is))
       by (inr p) =
           let w = by_check code at p.come.outcome (instr_at code at.at.pc) (instr_at code (at.at.pc + 1)) site is follows p.next a e in
@@ -101,7 +101,7 @@ module _ (m : Assignment) (code : Code) (starts : instr_at code 0 ≡ Start 0) (
   abbrev at : Machine
   at = (place_after code s run).threads t
 
-  by_place : IsNotThere (history_of code s run) t at ⊎ IsPlaced m code (history_of code s run) t at → WantsUnder m code s run t site word shows
+  by_place : IsNotThere (history_of code s run) t at ⊎ IsPlaced m code (history_of code s run) t at → ThreadWantsMutex m code s run t site word shows
   by_place (inl n) = absurd (subst (λ i. IsLockCheck code at i site shows.mutex) (ap (instr_at code) n.first ∙ starts) shows.check)
   by_place (inr p) =
       let r = p.refused stopped_is (NoLock site word) is tt in
@@ -110,5 +110,5 @@ module _ (m : Assignment) (code : Code) (starts : instr_at code 0 ≡ Start 0) (
         same = by_lock code at p.come.outcome (instr_at code at.at.pc) site site shows.mutex r.0 shows.check r.1 p.next;
       }
 
-  pub lock_wanted : WantsUnder m code s run t site word shows
+  pub lock_wanted : ThreadWantsMutex m code s run t site word shows
   lock_wanted = by_place placed

@@ -19,7 +19,7 @@ use Rattle.sharc_sound_laws.specs.{CauseLaws.NamesCause, Reports.WantsReported, 
 use Rattle.sharc_wants_laws.specs.Cause.{ShowsReference}
 
 -- by these events the thread of the source wants this access next, at a site of the code
-pub record WantsAccess (m : Assignment) (code : Code) (R : History) (thread site : ℕ) (access : Access) : Type 0 where
+pub record ThreadWantsAccess (m : Assignment) (code : Code) (R : History) (thread site : ℕ) (access : Access) : Type 0 where
   pub come : Asked
   pub stands : StandsAt m R thread come
   pub act : Act
@@ -52,7 +52,7 @@ access_refused shown = shown.cause.refused.access
 -- The source wants that access: at the place of the check, and by the events of the whole run.
 pub record IsThatAccess (m : Assignment) (code : Code) (s : Shape) (run : List Turn) (t : ℕ) (c : ConflictAt) (j : ℕ) (kind : Kind) (site : ℕ) (shown : ShowsCause code s run t c j kind site)
     (wants_it : WantsReported m code (history_of code s run) t (Conflict c)) : Type 0 where
-  pub at_check : WantsAccess m code (history_of code s shown.before) t c.site (access_refused shown)
+  pub at_check : ThreadWantsAccess m code (history_of code s shown.before) t c.site (access_refused shown)
   pub at_end : access_by wants_it.act ≡ Some (access_refused shown)
 
 -- It is what the source wants. A1 and A2: the access that was refused. A3: an access under that mutex. A4: that reference is given or freed.
@@ -75,7 +75,7 @@ pub record ReportTells (m : Assignment) (code : Code) (s : Shape) (ls : Labels) 
 abbrev pub AccessesAreWanted : Assignment → Code → Type 0
 AccessesAreWanted m code = (x : Targets) (s : Shape) (ls : Labels) → IsWellTyped x code ls → Fits code s → IsSmall code s → (before : List Turn) → CheckedRun code s before
     → (check : Turn) (kind : Kind) (granule site : ℕ) (passed : Bool) → IsCheck code s before check check.thread kind granule site passed
-    → (a : Access) → access_checked code ((place_after code s before).threads check.thread) ≡ Some a → WantsAccess m code (history_of code s before) check.thread site a
+    → (a : Access) → access_checked code ((place_after code s before).threads check.thread) ≡ Some a → ThreadWantsAccess m code (history_of code s before) check.thread site a
 
 abbrev pub TypedAccessesAreWanted : Type 0
 TypedAccessesAreWanted = OfTyped AccessesAreWanted
@@ -94,14 +94,14 @@ abbrev pub TypedRefusedAreWanted : Type 0
 TypedRefusedAreWanted = OfTyped RefusedAreWanted
 
 -- and of the mutex that a refused lock check looks for
-pub record WantsUnder (m : Assignment) (code : Code) (s : Shape) (run : List Turn) (t site word : ℕ) (shows : ShowsLock code (history_of code s run) t ((place_after code s run).threads t) site) : Type 0 where
+pub record ThreadWantsMutex (m : Assignment) (code : Code) (s : Shape) (run : List Turn) (t site word : ℕ) (shows : ShowsLock code (history_of code s run) t ((place_after code s run).threads t) site) : Type 0 where
   pub wants_it : WantsReported m code (history_of code s run) t (NoLock site word)
   pub same : IsUnder shows.mutex wants_it.act
 
 abbrev pub LocksAreWanted : Assignment → Code → Type 0
 LocksAreWanted m code = (x : Targets) (s : Shape) (ls : Labels) → IsWellTyped x code ls → Fits code s → IsSmall code s → (run : List Turn) → CheckedRun code s run
     → (t site word : ℕ) → ((place_after code s run).threads t).at.state ≡ Stopped → ((place_after code s run).threads t).own.stop ≡ Some (NoLock site word)
-    → (shows : ShowsLock code (history_of code s run) t ((place_after code s run).threads t) site) → WantsUnder m code s run t site word shows
+    → (shows : ShowsLock code (history_of code s run) t ((place_after code s run).threads t) site) → ThreadWantsMutex m code s run t site word shows
 
 abbrev pub TypedLocksAreWanted : Type 0
 TypedLocksAreWanted = OfTyped LocksAreWanted
