@@ -11,6 +11,7 @@ use Rattle.sharc_guarded_form.specs.Machine as Form
 use Rattle.sharc_gen.specs.{Generated.{instr_of, program_over}, Consistent.{Elements, MayFind, IsMutex, IsLock}, Related.{Same, IsAtStage, IsInClear, IsInFree, IsInSpawn, IsInExit, IsInSignal, IsInNew, phase_of, phase_at, IsCell}}
 use Rattle.sharc_gen.proofs.{Registers.{no_reference, elements_are}, Logs.log_length, Sames.{all_ints, all_refs, int_is, ref_is, null_at, pending_null, pending_number, set_ref_same, null_same, pending_same, null_cell, cell_is, mode_is}, Turns.Turned}
 use Rattle.sharc_gen.proofs.Inside as Inner
+use Rattle.sharc_lemmas.proofs.Numbers.{times_low as times_le}
 use Rattle.sharc_gen.proofs.Single as Single
 use Rattle.sharc_gen.proofs.Calls as Calling
 use Rattle.sharc_gen.proofs.Asking as Asking
@@ -134,7 +135,7 @@ module _ (code : Code) (s : Shape) (statements : List Instr) (good : IsGuarded (
     call_ints : (n : ℕ) → n ≤ fi → a.ints_from + n < 2 ^ 32
     call_ints n le =
         let k = Inner.ints_most p good (good.owner a.pc) in
-        let l = Inner.times_le (length a.frames) 256 (Inner.most p good) w.few in
+        let l = times_le (length a.frames) 256 (Inner.most p good) w.few in
         let q = w.ints_in in
         let z = good.frames.ints in
         omega arith
@@ -142,7 +143,7 @@ module _ (code : Code) (s : Shape) (statements : List Instr) (good : IsGuarded (
     call_refs : (n : ℕ) → n ≤ fr → a.refs_from + n < 2 ^ 32
     call_refs n le =
         let k = Inner.refs_most p good (good.owner a.pc) in
-        let l = Inner.times_le (length a.frames) 256 (Inner.most_of_refs p good) w.few in
+        let l = times_le (length a.frames) 256 (Inner.most_of_refs p good) w.few in
         let q = w.refs_in in
         let z = good.frames.refs in
         omega arith

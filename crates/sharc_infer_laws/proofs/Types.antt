@@ -81,7 +81,7 @@ settled_size : (b : Base) (o : Option Mode) (l : List (Option Mode)) → length 
 settled_size b o [] = refl
 settled_size b o (x ∷ l) = ap suc (settled_size b o l)
 
-modes_size : (e : Entity) → length (settled_modes e) ≡ positions_of e
+pub modes_size : (e : Entity) → length (settled_modes e) ≡ positions_of e
 modes_size e = settled_size e.written.ctype.base (otherwise_of e.role e.written.ctype.levels) (written_modes e)
 
 of_entity : (ms : List Mode) (k : ℕ) (es : List Entity) → Agrees (settled_in es) (known (drop k ms)) → (n : Numbered) (i : ℕ) → i < length (numbered_from k es) → get_or (numbered_from k es) i n ≡ n

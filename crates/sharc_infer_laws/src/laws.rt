@@ -1,6 +1,7 @@
 // The laws, each the contract of a function that does nothing.
 
 ghost use Rattle.sharc_infer_laws.specs.Laws.{FindingsAreOne, RootsAreOne, LeastIsOne};
+ghost use Rattle.sharc_infer_laws.specs.Locks.{LeastHasWrittenLocks};
 ghost use Rattle.sharc_infer_laws.specs.Types.{TypesAreTold};
 
 use sharc_ctype_laws::laws::each_names_itself;
@@ -31,5 +32,13 @@ pub fn types_are_told()
     ensures { TypesAreTold }
 {
     mode_laws();
+    link_laws();
+}
+
+/// The lock paths among the least modes of a type are those that are written in it: what is inferred is private or
+/// dynamic.
+pub fn least_has_written_locks()
+    ensures { LeastHasWrittenLocks }
+{
     link_laws();
 }

@@ -67,10 +67,6 @@ module _ {X : Type 0} (all xs ys : List X) (n : ℕ) (x : X) (is : xs ≡ x ∷ 
   pub drawn_length : (most : ℕ) → n + length xs ≡ most → n + 1 + length ys ≡ most
   drawn_length most e = let f : length xs ≡ suc (length ys) = ap (λ zs. length zs) is in omega (arith, e, f)
 
--- ---- a list that is changed one element after the other
-module _ {X : Type 0} (R : X → X → Type 0) (first now : List X) (n : ℕ) (old new : X) (low : n < length now) (is : old ≡ get_or now n old)
-    (left : (m : ℕ) (a : X) → n ≤ m → get_or now m a ≡ get_or first m a) where
-
 -- ---- what may run, and what has run
 pub may_at : (code : Code) (s : Shape) (limit : ℕ) (bus : BusView) (x : Option Hand) → ((hand : Hand) → x ≡ Some hand → MayRun code s limit bus hand) → MayRunAt code s limit bus x
 may_at code s limit bus None h = tt

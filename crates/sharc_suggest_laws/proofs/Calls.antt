@@ -24,15 +24,15 @@ KnowsCalls file = ((text : List ℕ) × (e : Entry) × (look_up file.names text 
 
 -- what a program defines is none of these
 
-abbrev NoCall : List Entry → Type 0
+abbrev pub NoCall : List Entry → Type 0
 NoCall names = (text : List ℕ) (e : Entry) → look_up names text ≡ Some e → named_of e.meaning ≡ named.Known → ⊥
 
-abbrev NoStruct : StructTable → Type 0
+abbrev pub NoStruct : StructTable → Type 0
 NoStruct structs = (name : List ℕ) → struct_of structs name ≡ Some meaning.known → ⊥
 
-record IsDefined (file : Scope) : Type 0 where
-  names : NoCall file.names
-  structs : NoStruct file.structs
+pub record IsDefined (file : Scope) : Type 0 where
+  pub names : NoCall file.names
+  pub structs : NoStruct file.structs
 
 entry_defined : (scope : List Entry) (x : Entry) → (named_of x.meaning ≡ named.Known → ⊥) → NoCall scope → NoCall (with_entry x scope)
 entry_defined scope x other none text e found known = by (is_some (look_up scope x.name)) found
@@ -73,11 +73,11 @@ item_defined h (structure s) all = record { names = all.names; structs = struct_
 item_defined h (global g) all = record { names = entry_defined h.scope.names (global_entry h.globals g) (no_global h.globals) all.names; structs = all.structs }
 item_defined h (function f) all = record { names = entry_defined h.scope.names (function_entry h.functions f) (no_function h.functions) all.names; structs = all.structs }
 
-items_defined : (h : Heading) (items : List Item) → IsDefined h.scope → IsDefined (behind_all h items).scope
+pub items_defined : (h : Heading) (items : List Item) → IsDefined h.scope → IsDefined (behind_all h items).scope
 items_defined h [] all = all
 items_defined h (i ∷ rest) all = items_defined (behind h i) rest (item_defined h i all)
 
-none_defined : IsDefined no_heads.scope
+pub none_defined : IsDefined no_heads.scope
 none_defined = record { names = λ text e found known. no_entry e found; structs = λ name found. no_struct found }
   where
     no_entry : (e : Entry) → None ≡ Some e → ⊥
@@ -86,7 +86,7 @@ none_defined = record { names = λ text e found known. no_entry e found; structs
     no_struct : None ≡ Some meaning.known → ⊥
     no_struct h = cc
 
-not_known : (file : Scope) → IsDefined file → KnowsCalls file → ⊥
+pub not_known : (file : Scope) → IsDefined file → KnowsCalls file → ⊥
 not_known file all (inl there) = all.names there.0 there.1 there.2 there.3
 not_known file all (inr there) = all.structs there.0 there.1
 

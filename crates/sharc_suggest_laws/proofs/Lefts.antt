@@ -108,7 +108,7 @@ plain_option r now f scope (Some e) = plain r now f scope e
 in_value : (r now : Resolution) (f : ℕ) (scope : List Entry) (to : Receiver) (e : Expression) → Receives r now f to e → AreReceived r now f (value_givings scope to e)
 in_value r now f scope to e h = joint (IsReceived r now f) (givings scope e) (one_giving scope to e) (plain r now f scope e) (h, tt)
 
-unplaced : (r : Resolution) (scope : Scope) (list : List Expression) → AllByRecursion (λ (p : Placing). IsTypedIn r p.scope p.expression) (at scope list) → AllByRecursion (IsTypedIn r scope) list
+pub unplaced : (r : Resolution) (scope : Scope) (list : List Expression) → AllByRecursion (λ (p : Placing). IsTypedIn r p.scope p.expression) (at scope list) → AllByRecursion (IsTypedIn r scope) list
 unplaced r scope [] h = tt
 unplaced r scope (e ∷ rest) h = (h.0, unplaced r scope rest h.1)
 

@@ -1,2 +1,1 @@
 -- What holds of each element of a list.
-use Rattle.std.proofs.Common.{[], ◌∷◌, ◌++◌}

@@ -36,7 +36,7 @@ variable_is x (named.Field f) is = absurd (false≢true is)
 variable_is x named.Known is = absurd (false≢true is)
 
 -- what it names at the cast is what it names where it is written
-named_there : (r : Resolution) (file names : List Entry) (token : ℕ) → IsSpelled r file → (v : Named) → named_at r token ≡ v → (c : Option Entry) → keeps_named (is_call_at r token) v c ≡ true
+pub named_there : (r : Resolution) (file names : List Entry) (token : ℕ) → IsSpelled r file → (v : Named) → named_at r token ≡ v → (c : Option Entry) → keeps_named (is_call_at r token) v c ≡ true
     → IsFoundAs c (look_up names (text_at r token)) (look_up file (text_at r token)) → (e : Entry) → look_up names (text_at r token) ≡ Some e → named_at r token ≡ named_of e.meaning
 named_there r file names token spelled (named.Struct n) is None kept found e at = absurd (false≢true kept)
 named_there r file names token spelled (named.Struct n) is (Some x) kept found e at = absurd (false≢true kept)

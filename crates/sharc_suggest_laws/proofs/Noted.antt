@@ -1,5 +1,5 @@
 -- Notes with others among them, faults apart: what a cast adds to what is to be said of a program.
-use Rattle.std.proofs.Common.{◌≡◌, ◌⊎◌, ℕ, ◌==◌, Bool, true, false, not, ◌||◌, cond, List, [], ◌∷◌, ◌++◌, Option, Some, None, refl}
+use Rattle.std.proofs.Common.{◌≡◌, ◌∙◌, ◌⊎◌, ℕ, ◌==◌, Bool, true, false, not, ◌||◌, cond, List, [], ◌∷◌, ◌++◌, Option, Some, None, refl}
 use Rattle.std.specs.List.{AllByRecursion}
 use Rattle.sharc_tree.specs.{declared.ctype.Base.Base, declared.ctype.Mode.Mode, declared.ctype.Mode.TheVariants.{Private, Readonly, Locked, Racy, Dynamic}, declared.ctype.Path.Path, declared.ctype.Path.TheVariants.{One, Through}, declared.tree.declaration.WrittenType.WrittenType, declared.tree.declaration.Declaration.Declaration, declared.tree.expression.PlaceCall.PlaceCall, Tree.Expression}
 use Rattle.sharc_tree.specs.declared.ctype.Base.TheVariants as base
@@ -61,6 +61,38 @@ well false place code h = absurd (no_fault place code [] h)
 pub not_wrong : (b : Bool) (place : ℕ) (code : FaultCode) → Clean (fault_where b place code) → b ≡ false
 not_wrong true place code h = absurd (no_fault place code [] h)
 not_wrong false place code h = refl
+
+pub none : Clean []
+unfolding Clean
+none = tt
+
+pub joined : (a b : List Note) → Clean a → Clean b → Clean (a ++ b)
+unfolding Clean
+joined [] b h k = k
+joined (fault place code ∷ rest) b h k = h
+joined (refers token what ∷ rest) b h k = joined rest b h k
+joined (yields token what ∷ rest) b h k = joined rest b h k
+
+pub faultless : (l : List Note) → Clean l → faults l ≡ []
+unfolding Clean
+faultless [] h = refl
+faultless (fault place code ∷ rest) h = absurd h
+faultless (refers token what ∷ rest) h = faultless rest h
+faultless (yields token what ∷ rest) h = faultless rest h
+
+pub unless : (b : Bool) (place : ℕ) (code : FaultCode) → b ≡ true → Clean (fault_unless b place code)
+unless true place code is = none
+unless false place code is = absurd (no is)
+  where
+    no : false ≡ true → ⊥
+    no h = cc
+
+pub moved : (a b : Bool) (place at : ℕ) (code : FaultCode) → b ≡ a → Clean (fault_unless a place code) → Clean (fault_unless b at code)
+moved a b place at code same h = unless b at code (same ∙ well a place code h)
+
+pub referring : (token : ℕ) (what : Named) (rest : List Note) → Clean rest → Clean (refers token what ∷ rest)
+unfolding Clean
+referring token what rest h = h
 
 -- ---- notes with others among them: these name what their tokens name, or are of tokens that name no variable, global or function, and say none; what yields is a field,
 -- at no known call's token

@@ -9,8 +9,8 @@ use Rattle.sharc_mode.specs.{declared.error.Cast.Cast, declared.error.ModeError.
 use Rattle.sharc_check.specs.Named.{said_of_paths}
 use Rattle.sharc_ctype_laws.specs.Laws.{EachNameOnce, OnlyNames, NamesInTypes, SameKinds}
 use Rattle.sharc_suggest.specs.{Casts.IsSuggested, Repairs.{differ_first, may_be_cast, is_free, keeps_all}, Givings.{Receiver, of_declared, of_left, of_parameter, Giving, items_givings, beyond, wanted, wanted_of}}
-use Rattle.sharc_suggest_laws.specs.{Givings.receiver_with, Repaired.Repairs, Values.{count_of, met_by, met_in_items, begins_at}}
-use Rattle.sharc_suggest_laws.proofs.{Added.{suggested_is_added_once, at_tokens}, Arguments.{IsGivenTo, in_items as arguments_in}, CallNames.{IsSaid, calls_said}, Calls.call_stays, Clear.all_clear, Counted.{counted, counted_append, in_items as items_counted}, Few.{at_most_one, begins_once}, Gone.gone_again, Lefts.{IsBehind, Stands, in_items as lefts_in}, Folded.IsOwnAt, Noted.{Clean, clean_from, Noted}, Owned.all_own, RowsStay.{Frame, now, first_at}, Site.{IsFor, has_site}, Spines.spine, Stands.first_fits, Stay.{notes_grown, names_stay, keeps_expected}, Strong.{IsStrong, AreStrong, all_strong}, Types.types_stay, Wants.{left_wanted, IsCall, parameters_same, parameters_clear, beyond_clear, beyond_named, parameter_wanted}}
+use Rattle.sharc_suggest_laws.specs.{Givings.receiver_with, Repaired.RepairsWhereTyped, Values.{count_of, met_by, met_in_items, begins_at}}
+use Rattle.sharc_suggest_laws.proofs.{Added.{suggested_is_added_once, at_tokens}, Arguments.{IsGivenTo, in_items as arguments_in}, CallNames.{IsSaid, calls_said}, Calls.call_stays, Clear.all_clear, Counted.{counted, counted_append, in_items as items_counted}, Few.{at_most_one, begins_once}, Gone.gone_again, Lefts.{IsBehind, Stands, in_items as lefts_in}, Folded.IsOwnAt, Noted.{Clean, clean_from, Noted}, Owned.all_own, RowsStay.{Frame, now, first_at}, Site.{IsFor, has_site}, Spines.spine, Stands.first_fits, Stay.{notes_grown, names_stay_where_typed, keeps_expected}, Strong.{IsStrong, AreStrong, all_strong}, Types.types_stay, Wants.{left_wanted, IsCall, parameters_same, parameters_clear, beyond_clear, beyond_named, parameter_wanted}}
 use Rattle.sharc_lemmas.proofs.Lists.{front, back}
 
 -- of the giving that the cast was suggested for
@@ -83,8 +83,8 @@ wanted_again m e c says setup (of_parameter f all k) stands said given wants =
 
 -- ---- so
 
-pub repairs : EachNameOnce → OnlyNames → NamesInTypes → SameKinds → Repairs
-repairs once only in_types same_kinds m e c resolved placed low whole says typed =
+pub repairs_where_typed : EachNameOnce → OnlyNames → NamesInTypes → SameKinds → RepairsWhereTyped
+repairs_where_typed once only in_types same_kinds m e c resolved placed low whole says typed =
     let r : Resolution = m.typed in
     let rc : Recast = recast_of r c in
     let tells : ℕ → Bool = says.are.named in
@@ -92,7 +92,7 @@ repairs once only in_types same_kinds m e c resolved placed low whole says typed
     let file : Scope = file_scope items in
     let site : IsFor m tells c (items_givings items) = (has_site m e c says).for in
     let g : Giving = site.giving in
-    let kept = names_stay once only in_types m e c resolved placed low says typed in
+    let kept = names_stay_where_typed once only in_types m e c resolved placed low says typed in
     let said_again : Noted r (notes_about r.program) (notes_about (now m c).program) = notes_grown once only in_types m e c resolved placed low says typed in
     let own : (t : ℕ) → AllByRecursion (IsOwnAt t (named_at r t)) (notes_about r.program) = λ t. all_own r t (only r resolved placed low t) (once r resolved placed low t) in
     let frame : Frame m c = record {

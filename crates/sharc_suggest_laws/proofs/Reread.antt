@@ -109,7 +109,7 @@ heads_same c h (i ∷ rest) =
 
 -- ---- functions and items
 
-parameters_scoped : (file : List Entry) (s : Scope) (scope : List Entry) → Scoped file s.names scope → (block before : ℕ) (ds : List Declaration) → Clean (parameters_notes block before s ds)
+pub parameters_scoped : (file : List Entry) (s : Scope) (scope : List Entry) → Scoped file s.names scope → (block before : ℕ) (ds : List Declaration) → Clean (parameters_notes block before s ds)
     → Scoped file (with_parameters block s.names ds) (scopes.with_parameters scope ds)
 parameters_scoped file s scope scoped block before [] clean = scoped
 parameters_scoped file s scope scoped block before (d ∷ rest) clean =
@@ -144,10 +144,10 @@ in_items w (i ∷ rest) mild clean =
 abbrev pub setting_of : Resolution → Recast → Setting
 setting_of r c = record { resolution = r; recast = c; file = file_scope r.program.items }
 
-abbrev said_with : ℕ → Scope → List Item → List Note → List Note
+abbrev pub said_with : ℕ → Scope → List Item → List Note → List Note
 said_with tokens file items heads = heads ++ items_notes file items ++ sizes_notes file.structs 0 items ++ main_missing tokens file.names
 
-said_same : (c : Recast) (tokens : ℕ) (items : List Item) → program_notes tokens (map (item_with_cast c) items) ≡ said_with tokens (file_scope items) (map (item_with_cast c) items) (heads_notes no_heads items)
+pub said_same : (c : Recast) (tokens : ℕ) (items : List Item) → program_notes tokens (map (item_with_cast c) items) ≡ said_with tokens (file_scope items) (map (item_with_cast c) items) (heads_notes no_heads items)
 said_same c tokens items = ap₂ (λ (file : Scope) (heads : List Note). said_with tokens file (map (item_with_cast c) items) heads) (file_same c items) (heads_same c no_heads items)
 
 pub in_program : (r : Resolution) (c : Recast) → AreMild (setting_of r c) (items_givings r.program.items) → Clean (notes_about (program_with_cast c r.program)) → Noted r (notes_about r.program) (notes_about (program_with_cast c r.program))

@@ -43,7 +43,7 @@ known_by : (token : ℕ) (o : Option StructMeaning) → Clean (struct_note token
 known_by token None h = absurd (no_fault _ _ _ h)
 known_by token (Some m) h = refl
 
-base_known : (structs : StructTable) (token : ℕ) (b : Base) → Clean (base_notes structs token b) → is_known structs b ≡ true
+pub base_known : (structs : StructTable) (token : ℕ) (b : Base) → Clean (base_notes structs token b) → is_known structs b ≡ true
 base_known structs token Int h = refl
 base_known structs token Char h = refl
 base_known structs token Long h = refl
@@ -51,7 +51,7 @@ base_known structs token Mutex h = refl
 base_known structs token Void h = refl
 base_known structs token (Struct name) h = known_by token (struct_of structs name) h
 
-cast_fine : (scope : Scope) (t : WrittenType) → Clean (type_notes scope [] role.Cast t) → is_fine scope.structs role.Cast t ≡ true
+pub cast_fine : (scope : Scope) (t : WrittenType) → Clean (type_notes scope [] role.Cast t) → is_fine scope.structs role.Cast t ≡ true
 cast_fine scope t h =
     ap (λ b. b && allowed_there role.Cast t) (base_known scope.structs t.base.token t.ctype.base (left _ _ (left _ _ h)))
     ∙ well (allowed_there role.Cast t) t.span.first.token TypeNotAllowed (right _ _ (left _ _ h))
@@ -143,7 +143,7 @@ lvalue_same c (binary s o at a b) = refl
 pub place_same : (c : Recast) (names : List Entry) (e : Expression) → is_place names (with_cast c e) ≡ is_place names e
 place_same c names e = ap₂ (λ (b f : Bool). b && not f) (lvalue_same c e) (bare_same c names e)
 
-count_same : (c : Recast) (all : Arguments) → count (all_with_cast c all) ≡ count all
+pub count_same : (c : Recast) (all : Arguments) → count (all_with_cast c all) ≡ count all
 count_same c no_arguments = refl
 count_same c (argument a rest) = ap (λ (n : ℕ). n + 1) (count_same c rest)
 
@@ -167,7 +167,7 @@ record AreSame (w : Setting) (names : List Entry) (all : Arguments) : Type 0 whe
   fine : (kinds : List Kind) → are_fine (with_names w.file names) kinds (all_with_cast w.recast all) ≡ are_fine (with_names w.file names) kinds all
   noted : (old new : List Kind) → Noted w.resolution (notes_of_all (with_names w.file names) old all) (notes_of_all (with_names w.file names) new (all_with_cast w.recast all))
 
-fine_both : (scope : Scope) (kinds : List Kind) (a new : Option Kind) (rest more : Bool) → new ≡ a → more ≡ rest
+pub fine_both : (scope : Scope) (kinds : List Kind) (a new : Option Kind) (rest more : Bool) → new ≡ a → more ≡ rest
     → ((is_some (met Value new) && agreed (first_wanted kinds) (met Value new)) && more) ≡ ((is_some (met Value a) && agreed (first_wanted kinds) (met Value a)) && rest)
 fine_both scope kinds a new rest more same also = ap₂ (λ (k : Option Kind) (b : Bool). (is_some (met Value k) && agreed (first_wanted kinds) (met Value k)) && b) same also
 

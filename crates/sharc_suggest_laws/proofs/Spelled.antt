@@ -171,11 +171,11 @@ mode_spelt r file scope over siblings (Some (Locked path)) marks = path_spelt r 
 mode_spelt r file scope over siblings (Some Racy) marks = tt
 mode_spelt r file scope over siblings (Some Dynamic) marks = tt
 
-front_marks : (all : List Token) (a b : List Mark) → AreMarks all (a ++ b) → AreMarks all a
+pub front_marks : (all : List Token) (a b : List Mark) → AreMarks all (a ++ b) → AreMarks all a
 front_marks all [] b h = tt
 front_marks all (m ∷ rest) b h = (h.0, front_marks all rest b h.1)
 
-back_marks : (all : List Token) (a b : List Mark) → AreMarks all (a ++ b) → AreMarks all b
+pub back_marks : (all : List Token) (a b : List Mark) → AreMarks all (a ++ b) → AreMarks all b
 back_marks all [] b h = h
 back_marks all (m ∷ rest) b h = back_marks all rest b h.1
 

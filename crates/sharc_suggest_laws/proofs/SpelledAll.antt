@@ -232,7 +232,7 @@ heads_spelt r file h (i ∷ rest) placed known clean =
 
 -- ---- of all that is said, so of each token
 
-in_program : (r : Resolution) → IsPlaced r.program → Clean (notes_about r.program) → AreSpelt r (file_scope r.program.items) (notes_about r.program)
+pub in_program : (r : Resolution) → IsPlaced r.program → Clean (notes_about r.program) → AreSpelt r (file_scope r.program.items) (notes_about r.program)
 in_program r placed clean =
     let items : List Item = r.program.items in
     let file : Scope = file_scope items in
@@ -252,7 +252,7 @@ field_not_filed r file t (named.Variable y) f = not_filed r file t (named.Variab
 field_not_filed r file t (named.Field y) f = not_filed r file t (named.Field y) refl
 field_not_filed r file t named.Known f = not_filed r file t named.Known refl
 
-seen_spelt : (r : Resolution) (file : Scope) (t : ℕ) (l : List Note) (x : Named) → AreSpelt r file l → IsFiledAs r file.names t x → IsFiledAs r file.names t (seen t l x)
+pub seen_spelt : (r : Resolution) (file : Scope) (t : ℕ) (l : List Note) (x : Named) → AreSpelt r file l → IsFiledAs r file.names t x → IsFiledAs r file.names t (seen t l x)
 seen_spelt r file t [] x all is = is
 seen_spelt r file t (fault place code ∷ rest) x all is = seen_spelt r file t rest x all.1 is
 seen_spelt r file t (refers n w ∷ rest) x all is =
@@ -267,7 +267,7 @@ known_by r file t (fault place code) said tells = absurd tells
 known_by r file t (refers k w) said tells = said.1 tells.1
 known_by r file t (yields k w) said tells = absurd (false≢true (ap is_field (sym tells.1) ∙ said))
 
-known_said : (r : Resolution) (file : Scope) (t : ℕ) → AreSpelt r file (notes_about r.program) → IsToldOnce r t → named_at r t ≡ named.Known → KnowsCalls file
+pub known_said : (r : Resolution) (file : Scope) (t : ℕ) → AreSpelt r file (notes_about r.program) → IsToldOnce r t → named_at r t ≡ named.Known → KnowsCalls file
 known_said r file t all told known =
     let said : IsSpelt r file told.note = (back (IsSpelt r file) told.before (told.note ∷ told.after) (subst (AreSpelt r file) told.notes all)).0 in
     known_by r file t told.note said (subst (Tells told.note t) (sym told.named ∙ known) told.tells)

@@ -1,5 +1,5 @@
 -- Each token names what it named, where the program with a suggested cast is typed.
-use Rattle.sharc_tree.specs.{Low.IsLow, declared.token.Span.Span, declared.tree.declaration.WrittenType.WrittenType, Measures.expressions, Placed.IsPlaced, Spans.span_of}
+use Rattle.sharc_tree.specs.{Low.IsLow, declared.token.Span.Span, declared.tree.declaration.WrittenType.WrittenType, Measures.expressions, Placed.IsPlaced, Spans.span_of, Tree.Expression}
 use Rattle.sharc_suggest.specs.{Casts.IsSuggested, Repairs.{differ_first, may_be_cast, keeps_all}, Givings.{Giving, items_givings}}
 use Rattle.sharc_mode.specs.{declared.error.ModeError.ModeError, declared.error.Cast.Cast, Moded.Assignment}
 use Rattle.std.proofs.{Common.{Some, ◌≡◌, ℕ, ◌+◌, ◌≤◌, ◌==◌, ◌&&◌, Bool, true, List, [], ◌∷◌, length, refl, ap, sym, subst, ◌∙◌, eq-eqb, arith}, lemmas.Bool.{and_parts, and_from}}
@@ -7,28 +7,28 @@ use Rattle.std.specs.List.{AllByRecursion}
 use Rattle.sharc_rewrite.specs.{declared.written.Recast.Recast, Recast.{type_at, is_there, program_with_cast}, Applied.{recast_of, base_site, program_with}}
 use Rattle.sharc_ctype.specs.{declared.entity.Entity.Entity, Entities.{entities_in, numbered}, Items.{file_scope, notes_about, IsTyped}, Resolved.{Resolution, IsResolved}}
 use Rattle.sharc_ctype_laws.specs.{Laws.{EachNameOnce, OnlyNames, NamesInTypes}, WrittenTypes.IsNamedType}
-use Rattle.sharc_suggest_laws.specs.{Names.NamesStay, Values.{count_of, met_by, met_in_items}}
+use Rattle.sharc_suggest_laws.specs.{Names.NamesStayWhereTyped, Values.{count_of, met_by, met_in_items}}
 use Rattle.sharc_suggest_laws.proofs.{Added.at_tokens, Bases.{Have, HaveCasts, of_items, in_all, IsGiven}, Counted.{counted, counted_append, in_items as items_counted}, Few.{at_most_one, begins_once}, Folded.keeps, Mild.{IsSpelled, NamesBase, type_mild}, Noted.{Clean, clean_from, Noted}, Owned.all_own, Renamed.{HasBase, each_has, base_named, given_based}, Reread.{setting_of, in_program}, Retyped.{Setting, IsMild, AreMild}, Site.{IsFor, HasSite, has_site}, SpelledAll.spelled}
 use Rattle.sharc_lemmas.proofs.Lists.{back, both as joint}
 
 -- ---- the cast is at one giving alone
 
-none_there : (w : Setting) (gs : List Giving) → counted (is_there w.recast) gs ≡ 0 → AreMild w gs
-none_there w [] none = tt
-none_there w (g ∷ rest) none =
-    let sum : met_by (is_there w.recast) g.given + counted (is_there w.recast) rest ≡ 0 = none in (
-      (λ there names scoped s clean.
-          let one : met_by (is_there w.recast) g.given ≡ 1 = ap count_of there in
-          absurd (omega (arith, sum, one))),
-      none_there w rest (omega (arith, sum)),
+pub none_there : (test : Expression → Bool) (P : Giving → Type 0) → ((g : Giving) → (test g.given ≡ true → ⊥) → P g) → (gs : List Giving) → counted test gs ≡ 0 → AllByRecursion P gs
+none_there test P absent [] none = tt
+none_there test P absent (g ∷ rest) none =
+    let sum : met_by test g.given + counted test rest ≡ 0 = none in (
+      absent g (λ there.
+          let one : met_by test g.given ≡ 1 = ap count_of there in
+          omega (arith, sum, one)),
+      none_there test P absent rest (omega (arith, sum)),
     )
 
 -- what lies on either side of it is not there
-record IsAlone (m : Assignment) (c : Cast) (before behind : List Giving) : Type 0 where
-  before_none : counted (is_there (recast_of m.typed c)) before ≡ 0
-  behind_none : counted (is_there (recast_of m.typed c)) behind ≡ 0
+pub record IsAlone (m : Assignment) (c : Cast) (before behind : List Giving) : Type 0 where
+  pub before_none : counted (is_there (recast_of m.typed c)) before ≡ 0
+  pub behind_none : counted (is_there (recast_of m.typed c)) behind ≡ 0
 
-alone : (m : Assignment) (c : Cast) (named : ℕ → Bool) → IsPlaced m.typed.program → (site : IsFor m named c (items_givings m.typed.program.items)) → IsAlone m c site.before site.behind
+pub alone : (m : Assignment) (c : Cast) (named : ℕ → Bool) → IsPlaced m.typed.program → (site : IsFor m named c (items_givings m.typed.program.items)) → IsAlone m c site.before site.behind
 alone m c named placed site =
     let r : Recast = recast_of m.typed c in
     let test = is_there r in
@@ -70,7 +70,10 @@ mild m c named placed types spelt site =
     let w : Setting = setting_of m.typed (recast_of m.typed c) in
     let one : IsAlone m c site.before site.behind = alone m c named placed site in
     subst (AreMild w) (sym site.split)
-    (joint (IsMild w) site.before (site.giving ∷ site.behind) (none_there w site.before one.before_none) (site_mild m c named types spelt site, none_there w site.behind one.behind_none))
+    (joint (IsMild w) site.before (site.giving ∷ site.behind) (elsewhere site.before one.before_none) (site_mild m c named types spelt site, elsewhere site.behind one.behind_none))
+  where
+    elsewhere : (gs : List Giving) → counted (is_there (recast_of m.typed c)) gs ≡ 0 → AreMild (setting_of m.typed (recast_of m.typed c)) gs
+    elsewhere gs none = none_there (is_there (recast_of m.typed c)) (IsMild (setting_of m.typed (recast_of m.typed c))) (λ g never there. absurd (never there)) gs none
 
 -- ---- so
 
@@ -86,7 +89,7 @@ notes_grown once only in_types m e c resolved placed low says typed =
     let types : Have (IsNamedType r) (entities_in r.program.items) = of_items (IsNamedType r) r.program.items (in_types r resolved placed low) in
     in_program r rc (mild m c says.are.named placed types (spelled r resolved placed old (only r resolved placed low) (once r resolved placed low)) site.for) new
 
-pub names_stay : EachNameOnce → OnlyNames → NamesInTypes → NamesStay
-names_stay once only in_types m e c resolved placed low says typed token =
+pub names_stay_where_typed : EachNameOnce → OnlyNames → NamesInTypes → NamesStayWhereTyped
+names_stay_where_typed once only in_types m e c resolved placed low says typed token =
     let r : Resolution = m.typed in
     keeps r (program_with c r) token resolved refl (all_own r token (only r resolved placed low token) (once r resolved placed low token)) (notes_grown once only in_types m e c resolved placed low says typed)

@@ -6,4 +6,5 @@ pub mod Mismatches
 pub mod Names
 pub mod Once
 pub mod Repaired
+pub mod Typed
 pub mod Values

@@ -7,7 +7,7 @@ ghost use Rattle.sharc_rewrite.specs.Applied.{assignment_with};
 ghost use Rattle.sharc_suggest.specs.Casts.{IsSuggested};
 ghost use Rattle.sharc_suggest_laws.specs.Gone.{IsGone};
 
-use crate::laws::repairs;
+use crate::laws::repairs_where_typed;
 use sharc_mode::error::{Cast, ModeError};
 use sharc_mode::moded::Moded;
 
@@ -15,7 +15,7 @@ use sharc_mode::moded::Moded;
 pub fn is_repaired(program: &Moded, error: &ModeError, cast: &Cast, repaired: &Moded)
     ensures { IsPlaced program.now.typed.program → IsLow program.now.typed.program → IsSuggested program.now error.now (Some cast.now) → repaired.now ≡ assignment_with cast.now program.now → IsGone repaired.now error.now.site.token }
 {
-    repairs();
+    repairs_where_typed();
     program.typed().program();
     program.position_count();
     repaired.typed().program();

@@ -4,12 +4,17 @@ ghost use Rattle.sharc_suggest_laws.specs.Expected.{CastHasExpected};
 ghost use Rattle.sharc_suggest_laws.specs.Gone.{GoneWhereExpected};
 ghost use Rattle.sharc_suggest_laws.specs.Kept.{DeclarationsStay, PositionsStay, TypesStay};
 ghost use Rattle.sharc_suggest_laws.specs.Mismatches.{OneMismatch};
-ghost use Rattle.sharc_suggest_laws.specs.Names.{NamesStay};
+ghost use Rattle.sharc_suggest_laws.specs.Names.{NamesStayWhereTyped, NamesStay};
 ghost use Rattle.sharc_suggest_laws.specs.Once.{SuggestedIsAddedOnce};
-ghost use Rattle.sharc_suggest_laws.specs.Repaired.{Repairs};
+ghost use Rattle.sharc_suggest_laws.specs.Repaired.{RepairsWhereTyped, Repairs, LeastIsRepaired};
+ghost use Rattle.sharc_suggest_laws.specs.Typed.{StaysTyped};
 ghost use Rattle.sharc_suggest_laws.specs.Values.{ValuesBeginApart};
 
-use sharc_ctype_laws::laws::{each_name_once, names_in_types, only_names, same_kinds};
+use sharc_ctype_laws::laws::{
+    all_fair, each_name_once, each_names_itself, each_type_found, meets_constraints,
+    names_in_types, one_type, only_names, same_kinds,
+};
+use sharc_infer_laws::laws::least_has_written_locks;
 
 /// The structs, the globals and all that is declared are as they were, and functions have their bodies with the cast.
 pub fn declarations_stay()
@@ -52,20 +57,60 @@ pub fn gone_where_expected()
 {}
 
 /// Where the program with a suggested cast is typed, each token that named a variable, a global or a function names it still, and one that named a field names one.
-pub fn names_stay()
-    ensures { NamesStay }
+pub fn names_stay_where_typed()
+    ensures { NamesStayWhereTyped }
 {
     each_name_once();
     only_names();
     names_in_types();
 }
 
-/// A cast that is suggested repairs its mismatch: where the program with the cast is typed, no M1 is at its place.
-pub fn repairs()
-    ensures { Repairs }
+/// Where the program with a suggested cast is typed, no M1 is at the place of the error.
+pub fn repairs_where_typed()
+    ensures { RepairsWhereTyped }
 {
     each_name_once();
     only_names();
     names_in_types();
     same_kinds();
+}
+
+/// The program with a suggested cast is typed, where each lock path among the modes of a type is written in that type.
+pub fn stays_typed()
+    ensures { StaysTyped }
+{
+    same_kinds();
+    each_name_once();
+    only_names();
+    each_names_itself();
+    each_type_found();
+    meets_constraints();
+    one_type();
+    all_fair();
+}
+
+/// So each token names there what it named.
+pub fn names_stay()
+    ensures { NamesStay }
+{
+    stays_typed();
+    names_stay_where_typed();
+}
+
+/// And a cast that is suggested repairs its mismatch: no M1 is at its place.
+pub fn repairs()
+    ensures { Repairs }
+{
+    stays_typed();
+    repairs_where_typed();
+}
+
+/// Under the least assignment of a program that was read: with a suggested cast it is typed, and no M1 is at the place
+/// of the error.
+pub fn least_is_repaired()
+    ensures { LeastIsRepaired }
+{
+    stays_typed();
+    repairs();
+    least_has_written_locks();
 }

@@ -45,7 +45,7 @@ only_refused task.Explain m s text ill does = explain_refused m s text ill does
 only_refused (task.Run n) m s text ill does = run_refused n m s text ill does
 
 module _ (laws : SourceLaws) (words : List (List ℕ)) (input : List ℕ) (m : Assignment) where
-  does_reply : (t : Task) → IsAsked words t input m → (s : Status) (text : List ℕ) → IsReply words (Some input) s text → Does t m s text
+  pub does_reply : (t : Task) → IsAsked words t input m → (s : Status) (text : List ℕ) → IsReply words (Some input) s text → Does t m s text
   does_reply t is s text reply =
       does_of laws t input m s text is.front
       (is_answer words input t s text is.asked is.within (subst (λ (l : List ℕ). Replies words l s text) reply.told reply.reply))

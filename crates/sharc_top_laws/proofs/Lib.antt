@@ -7,5 +7,6 @@ pub mod Keeping
 pub mod Recorded
 pub mod Replying
 pub mod Sources
+pub mod Suggested
 pub mod Verdicts
 pub mod Warned

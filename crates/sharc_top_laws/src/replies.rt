@@ -3,6 +3,7 @@
 ghost use Rattle.sharc_top_laws.specs.AuditLaws.{AuditLaws};
 ghost use Rattle.sharc_top_laws.specs.Laws.{WarningsAreOne, SourceLaws, ReplyLaws, VerdictLaws};
 ghost use Rattle.sharc_top_laws.specs.RecordLaws.{RecordLaws};
+ghost use Rattle.sharc_top_laws.specs.Suggestions.{SuggestionLaws};
 
 use sharc_audit::laws::{audit_laws, file_laws};
 use sharc_check::laws::check_laws;
@@ -15,6 +16,7 @@ use sharc_replay::replay_laws;
 use sharc_sound_laws::{compiled_are_alike, runs_are_alike};
 use sharc_source_laws::laws::programs_hold_no_schedule;
 use sharc_suggest::laws::suggest_laws;
+use sharc_suggest_laws::laws::least_is_repaired;
 
 /// A program has one list of warnings.
 pub fn warnings_are_one()
@@ -52,6 +54,17 @@ pub fn verdicts_are_told()
     ensures { VerdictLaws }
 {
     sources_are_one();
+}
+
+/// Of a source that is a program with refused modes: beside each error that is written is no cast, or one with which the
+/// program is typed and has no M1 at the place of that error; and each reply to `check` is such a text, with status 1.
+pub fn suggestions_repair()
+    ensures { SuggestionLaws }
+{
+    sources_are_one();
+    programs_are_low();
+    programs_are_placed();
+    least_is_repaired();
 }
 
 /// Of an event file whose source is a program with accepted modes: the reply to `audit` is the line of the verdict of its events, with the status of that verdict, and no other.

@@ -15,4 +15,4 @@ returns c = λ placed low suggested answered.
     let same : c.args.repaired.now.typed ≡ resolution_with c.args.cast.now m.typed = ap (λ (a : Assignment). a.typed) answered in
     let typed : IsTyped (program_with c.args.cast.now m.typed) = subst (λ (r : Resolution). IsTyped r.program) same again.typed in
     subst (λ (a : Assignment). IsGone a e.site.token) (sym answered)
-    (c.repairs.ensures m e c.args.cast.now resolved placed low c.position_count.ensures.whole suggested typed)
+    (c.repairs_where_typed.ensures m e c.args.cast.now resolved placed low c.position_count.ensures.whole suggested typed)

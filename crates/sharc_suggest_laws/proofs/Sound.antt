@@ -1,0 +1,290 @@
+-- Types that are written in a typed program, and those of its expressions, have known structs, and no pointer leads to
+-- `void`.
+use Rattle.std.proofs.{Common.{◌≡◌, ℕ, zero, suc, slice_get, ◌+◌, ◌-◌, ◌==◌, Bool, true, false, cond, List, [], ◌∷◌, ◌++◌, length, Option, Some, None, refl, eqb-true, arith}, lemmas.Bool.{and_parts}}
+use Rattle.std.specs.List.{AllByRecursion}
+use Rattle.sharc_tree.specs.{declared.ctype.Base.Base, declared.tree.declaration.Declaration.Declaration, declared.tree.declaration.WrittenType.WrittenType, declared.token.NumberType.NumberType, declared.tree.item.GlobalDefinition.GlobalDefinition, declared.tree.item.GlobalForm.GlobalForm, declared.tree.item.GlobalForm.TheVariants.{Plain, Array, Initial}, declared.tree.expression.Constant.Constant, declared.tree.expression.Constant.TheVariants.{Number, Character, Null}, declared.tree.expression.UnaryOperator.UnaryOperator, declared.tree.expression.UnaryOperator.TheVariants.{Negate, Not, Complement, Dereference}, Measures.expressions, Tree.{Function, Expression, identifier, constant, parentheses, call, spawn, on_value, on_place, cast, index, field, unary, binary, Arguments, no_arguments, argument, Right, value, malloc, Simple, assign, does_call, Local, First, nothing, declares, does, Head, Statement, Statements, no_statements, statement, Item, structure, global, function}}
+use Rattle.sharc_tree.specs.Tree as tree
+use Rattle.sharc_tree.specs.declared.ctype.Base.TheVariants as base
+use Rattle.sharc_names.specs.{declared.fault.FaultCode.TheVariants.TypeNotAllowed, declared.fault.Named.Named, declared.scope.Scope.Scope, declared.types.Role.Role, Kinds.{Kind, object, array, null, int, long, is_long, stars_of, declared_kind, element_kind}, Names.{global_kind, StructTable, look_up}, Types.{is_known, holds_void, is_allowed, allowed_there, type_notes}}
+use Rattle.sharc_tree.specs.declared.token.NumberType.TheVariants as width
+use Rattle.sharc_names.specs.declared.fault.Named.TheVariants as named
+use Rattle.sharc_names.specs.declared.types.Role.TheVariants as role
+use Rattle.sharc_names.specs.Kinds as kinds
+use Rattle.sharc_ctype.specs.{declared.expr.OperatorClass.OperatorClass, declared.expr.OperatorClass.TheVariants.{Logical, Equality, Relation, Shift, Arithmetic}, declared.expr.Standing.Standing, declared.expr.Standing.TheVariants.{AsValue, AsLvalue}, Expressions.{number_kind, constant_kind, unary_result, class_of, binary_result, count, notes_at, notes_of_all, wanted}, Globals.{sizes_notes}, Heads.{heads_notes, no_heads}, Items.{fields_notes, parameters_notes, item_notes, items_notes, in_body, main_missing, file_scope, notes_about}, Resolved.{Resolution, named_at, globals_in, functions_in, declarations_in, declared_at, variable_kind, global_kind_of, result_kind_of, named_kind, called_kind, kind_at}, Statements.{Around, opened, looping, with_names, declared, count_notes, right_notes, simple_notes, initial_notes, local_notes, return_notes, first_notes, behind_first, in_head, tests_notes, step_notes, head_notes, after, notes_in, notes_in_all}}
+use Rattle.sharc_ctype_laws.specs.WrittenTypes.{types_in, types_in_arguments, types_in_option, types_in_right, types_in_simple, types_in_local, types_in_first, types_in_head, types_in_statement, types_in_statements, types_in_declarations, types_in_item, types_in_items}
+use Rattle.sharc_mode.specs.Notes.{base_of}
+use Rattle.sharc_suggest.specs.Givings.{Giving, items_givings}
+use Rattle.sharc_suggest_laws.proofs.{Bases.{HaveCasts, HoldInAll, in_all, of_items, AreDeclared, IsGiven, first_casts}, Noted.{Clean, left, right, well}, Retyped.base_known}
+use Rattle.sharc_lemmas.proofs.Lists.{both as joint, each}
+
+-- ---- a type whose struct is known, and that is no pointer to `void`
+
+abbrev pub stars_in : Kind → ℕ
+stars_in (object b n) = n
+stars_in (array b n) = n
+stars_in null = 0
+stars_in kinds.function = 0
+
+abbrev pub IsBare : Base → ℕ → Type 0
+IsBare base.Void stars = stars ≡ 0
+IsBare _ stars = Unit {0}
+
+pub record IsSound (structs : StructTable) (k : Kind) : Type 0 where
+  pub known : is_known structs (base_of k) ≡ true
+  pub bare : IsBare (base_of k) (stars_in k)
+
+abbrev pub IsSoundType : StructTable → WrittenType → Type 0
+IsSoundType structs w = IsSound structs (declared_kind w)
+
+abbrev AreSound : StructTable → List WrittenType → Type 0
+AreSound structs l = AllByRecursion (IsSoundType structs) l
+
+bare_by : (what : Role) (b : Base) (stars : ℕ) → is_allowed what b stars ≡ true → IsBare b stars
+bare_by what base.Int stars h = tt
+bare_by what base.Char stars h = tt
+bare_by what base.Long stars h = tt
+bare_by what base.Mutex stars h = tt
+bare_by what base.Void stars h = eqb-true stars 0 (and_parts (stars == 0) (holds_void what) h).0
+bare_by what (base.Struct name) stars h = tt
+
+type_sound : (scope : Scope) (siblings : List Declaration) (what : Role) (w : WrittenType) → Clean (type_notes scope siblings what w) → IsSoundType scope.structs w
+type_sound scope siblings what w h = record {
+  known = base_known scope.structs w.base.token w.ctype.base (left _ _ (left _ _ h));
+  bare = bare_by what w.ctype.base (stars_of w) (well (allowed_there what w) w.span.first.token TypeNotAllowed (right _ _ (left _ _ h)));
+}
+
+-- ---- what is written in a program without a fault
+
+two : (structs : StructTable) (a b : List WrittenType) → AreSound structs a → AreSound structs b → AreSound structs (a ++ b)
+two structs a b f g = joint (IsSoundType structs) a b f g
+
+mutual
+  in_expression : (σ : Scope) (stands : Standing) (e : Expression) → Clean (notes_at stands σ e) → AreSound σ.structs (types_in e)
+  in_expression σ stands (identifier s i) h = tt
+  in_expression σ stands (constant s k) h = tt
+  in_expression σ stands (parentheses s a) h = in_expression σ stands a h
+  in_expression σ stands (call s f all) h = in_arguments σ (wanted (count all) (look_up σ.names f.text)) all (right _ _ h)
+  in_expression σ stands (spawn s f a) h = in_expression σ AsValue a (left _ _ (left _ _ (left _ _ h)))
+  in_expression σ stands (on_value s w a) h = in_expression σ AsValue a (left _ _ h)
+  in_expression σ stands (on_place s w a) h = in_expression σ AsLvalue a (left _ _ (left _ _ h))
+  in_expression σ stands (cast s t a) h =
+      let heads = left _ _ (left _ _ h) in
+      (type_sound σ [] role.Cast t (left (type_notes σ [] role.Cast t) _ heads), in_expression σ AsLvalue a (right (type_notes σ [] role.Cast t) _ heads))
+  in_expression σ stands (index s a i) h =
+      two σ.structs (types_in a) (types_in i) (in_expression σ AsValue a (left _ _ (left _ _ (left _ _ h)))) (in_expression σ AsValue i (right _ _ (left _ _ h)))
+  in_expression σ stands (field s a w n) h = in_expression σ AsValue a (left _ _ (left _ _ h))
+  in_expression σ stands (unary s o a) h = in_expression σ AsValue a (left _ _ h)
+  in_expression σ stands (binary s o at a b) h =
+      two σ.structs (types_in a) (types_in b) (in_expression σ AsValue a (left _ _ (left _ _ (left _ _ (left _ _ h))))) (in_expression σ AsValue b (right _ _ (left _ _ (left _ _ h))))
+
+  in_arguments : (σ : Scope) (wanting : List Kind) (all : Arguments) → Clean (notes_of_all σ wanting all) → AreSound σ.structs (types_in_arguments all)
+  in_arguments σ wanting no_arguments h = tt
+  in_arguments σ wanting (argument a rest) h =
+      two σ.structs (types_in a) (types_in_arguments rest) (in_expression σ AsValue a (left _ _ (left _ _ (left _ _ h)))) (in_arguments σ _ rest (right _ _ h))
+
+in_count : (σ : Scope) (e : Option Expression) → Clean (count_notes σ e) → AreSound σ.structs (types_in_option types_in e)
+in_count σ None h = tt
+in_count σ (Some e) h = in_expression σ AsValue e (left _ _ h)
+
+in_right : (σ : Scope) (want : Option Kind) (x : Right) → Clean (right_notes σ want x) → AreSound σ.structs (types_in_right x)
+in_right σ want (value e) h = in_expression σ AsValue e (left _ _ (left _ _ h))
+in_right σ want (malloc s n t) h = two σ.structs (types_in_option types_in n) (t ∷ []) (in_count σ n (left _ _ (left _ _ h))) (type_sound σ [] role.Made t (right _ _ (left _ _ h)), tt)
+
+in_simple : (σ : Scope) (x : Simple) → Clean (simple_notes σ x) → AreSound σ.structs (types_in_simple x)
+in_simple σ (assign s u x) h = two σ.structs (types_in u) (types_in_right x) (in_expression σ AsLvalue u (left _ _ (left _ _ (left _ _ h)))) (in_right σ _ x (right _ _ h))
+in_simple σ (does_call e) h = in_expression σ AsValue e h
+
+in_initial : (σ : Scope) (d : Declaration) (x : Option Right) → Clean (initial_notes σ d x) → AreSound σ.structs (types_in_option types_in_right x)
+in_initial σ d None h = tt
+in_initial σ d (Some x) h = in_right σ _ x (right _ _ h)
+
+in_local : (surroundings : Around) (σ : Scope) (l : Local) → Clean (local_notes surroundings σ l) → AreSound σ.structs (types_in_local l)
+in_local surroundings σ l h = (
+  type_sound σ [] role.Local l.declaration.written (left _ _ (left _ _ h)),
+  in_initial (with_names σ (declared surroundings.block l.declaration σ.names)) l.declaration l.initial (right _ _ h),
+)
+
+in_first : (surroundings : Around) (σ : Scope) (f : First) → Clean (first_notes surroundings σ f) → AreSound σ.structs (types_in_first f)
+in_first surroundings σ nothing h = tt
+in_first surroundings σ (declares l) h = in_local surroundings σ l h
+in_first surroundings σ (does x) h = in_simple σ x h
+
+in_tests : (σ : Scope) (e : Option Expression) → Clean (tests_notes σ e) → AreSound σ.structs (types_in_option types_in e)
+in_tests σ None h = tt
+in_tests σ (Some e) h = in_expression σ AsValue e (left _ _ h)
+
+in_step : (σ : Scope) (x : Option Simple) → Clean (step_notes σ x) → AreSound σ.structs (types_in_option types_in_simple x)
+in_step σ None h = tt
+in_step σ (Some x) h = in_simple σ x h
+
+in_for_head : (surroundings : Around) (σ : Scope) (x : Head) → Clean (head_notes surroundings σ x) → AreSound σ.structs (types_in_head x)
+in_for_head surroundings σ x h =
+    let inner : Scope = in_head surroundings σ x in
+    two σ.structs (types_in_first x.first ++ types_in_option types_in x.test) (types_in_option types_in_simple x.step)
+    (two σ.structs (types_in_first x.first) (types_in_option types_in x.test) (in_first surroundings σ x.first (left _ _ (left _ _ h))) (in_tests inner x.test (right _ _ (left _ _ h))))
+    (in_step inner x.step (right _ _ h))
+
+in_returned : (surroundings : Around) (σ : Scope) (word : ℕ) (e : Option Expression) → Clean (return_notes surroundings σ word e) → AreSound σ.structs (types_in_option types_in e)
+in_returned surroundings σ word None h = tt
+in_returned surroundings σ word (Some e) h = in_expression σ AsValue e (right _ _ (left _ _ (left _ _ h)))
+
+mutual
+  in_statement : (surroundings : Around) (σ : Scope) (s : Statement) → Clean (notes_in surroundings σ s) → AreSound σ.structs (types_in_statement s)
+  in_statement surroundings σ (tree.empty s) h = tt
+  in_statement surroundings σ (tree.block s all) h = in_statements (opened surroundings σ.names) σ all h
+  in_statement surroundings σ (tree.declare s l) h = in_local surroundings σ l h
+  in_statement surroundings σ (tree.simple s x) h = in_simple σ x h
+  in_statement surroundings σ (tree.jump s j) h = tt
+  in_statement surroundings σ (tree.return s e) h = in_returned surroundings σ s.first.token e h
+  in_statement surroundings σ (tree.if_then s e a) h =
+      two σ.structs (types_in e) (types_in_statement a) (in_expression σ AsValue e (left _ _ (left _ _ h))) (in_statement (opened surroundings σ.names) σ a (right _ _ h))
+  in_statement surroundings σ (tree.if_then_else s e a b) h =
+      two σ.structs (types_in e ++ types_in_statement a) (types_in_statement b)
+      (two σ.structs (types_in e) (types_in_statement a) (in_expression σ AsValue e (left _ _ (left _ _ (left _ _ h)))) (in_statement (opened surroundings σ.names) σ a (right _ _ (left _ _ h))))
+      (in_statement (opened surroundings σ.names) σ b (right _ _ h))
+  in_statement surroundings σ (tree.while s e a) h =
+      two σ.structs (types_in e) (types_in_statement a) (in_expression σ AsValue e (left _ _ (left _ _ h))) (in_statement (looping (opened surroundings σ.names)) σ a (right _ _ h))
+  in_statement surroundings σ (tree.for s x a) h =
+      let outer : Around = opened surroundings σ.names in
+      two σ.structs (types_in_head x) (types_in_statement a) (in_for_head outer σ x (left _ _ h))
+      (in_statement (looping (opened outer (behind_first outer σ.names x.first))) (in_head outer σ x) a (right _ _ h))
+
+  in_statements : (surroundings : Around) (σ : Scope) (all : Statements) → Clean (notes_in_all surroundings σ all) → AreSound σ.structs (types_in_statements all)
+  in_statements surroundings σ no_statements h = tt
+  in_statements surroundings σ (statement a rest) h =
+      two σ.structs (types_in_statement a) (types_in_statements rest) (in_statement surroundings σ a (left _ _ h)) (in_statements surroundings (with_names σ (after surroundings σ.names a)) rest (right _ _ h))
+
+in_fields : (σ : Scope) (all earlier ds : List Declaration) → Clean (fields_notes σ all earlier ds) → AreSound σ.structs (types_in_declarations ds)
+in_fields σ all earlier [] h = tt
+in_fields σ all earlier (d ∷ rest) h = (type_sound σ all role.Field d.written (left _ _ (left _ _ h)), in_fields σ all (earlier ++ d ∷ []) rest (right _ _ h))
+
+in_parameters : (block before : ℕ) (σ : Scope) (ds : List Declaration) → Clean (parameters_notes block before σ ds) → AreSound σ.structs (types_in_declarations ds)
+in_parameters block before σ [] h = tt
+in_parameters block before σ (d ∷ rest) h =
+    (type_sound σ [] role.Parameter d.written (left _ _ (left _ _ (left _ _ h))), in_parameters block (before + 1) (with_names σ (declared block d σ.names)) rest (right _ _ h))
+
+in_item : (file : Scope) (i : Item) → Clean (item_notes file i) → AreSound file.structs (types_in_item i)
+in_item file (structure s) h = in_fields file s.fields [] s.fields h
+in_item file (global g) h = (type_sound file [] role.Global g.declaration.written (left _ _ (left _ _ h)), tt)
+in_item file (function f) h = (
+  type_sound file [] role.Result f.result (left _ _ (left _ _ (left _ _ h))),
+  two file.structs (types_in_declarations f.parameters) (types_in_statements f.statements) (in_parameters (length file.names) 0 file f.parameters (right _ _ (left _ _ (left _ _ h))))
+      (in_statements (record { result = declared_kind f.result; in_loop = false; block = length file.names }) (in_body file f) f.statements (right _ _ (left _ _ h))),
+)
+
+in_items : (file : Scope) (items : List Item) → Clean (items_notes file items) → AreSound file.structs (types_in_items items)
+in_items file [] h = tt
+in_items file (i ∷ rest) h = two file.structs (types_in_item i) (types_in_items rest) (in_item file i (left _ _ h)) (in_items file rest (right _ _ h))
+
+types_sound : (r : Resolution) → Clean (notes_about r.program) → AllByRecursion (IsSoundType (file_scope r.program.items).structs) (types_in_items r.program.items)
+types_sound r clean =
+    let file : Scope = file_scope r.program.items in
+    in_items file r.program.items (right (heads_notes no_heads r.program.items) (items_notes file r.program.items) (left _ (sizes_notes file.structs 0 r.program.items) (left _ (main_missing (length r.program.tokens.list) file.names) clean)))
+
+-- ---- the type of an expression
+
+of_declaration : (structs : StructTable) (ds : List Declaration) (token : ℕ) → AreDeclared (IsSoundType structs) ds → IsSound structs (variable_kind (declared_at ds token))
+of_declaration structs [] token all = record { known = refl; bare = refl }
+of_declaration structs (d ∷ rest) token all = by (d.name.site.token == token) (of_declaration structs rest token all.1)
+  where
+    by : (b : Bool) → IsSound structs (variable_kind (declared_at rest token)) → IsSound structs (variable_kind (cond b (Some d) (declared_at rest token)))
+    by true more = all.0
+    by false more = more
+
+array_sound : (structs : StructTable) (k : Kind) (f : GlobalForm) → IsSound structs k → IsSound structs (global_kind f k)
+array_sound structs k Plain h = h
+array_sound structs (object b n) (Array at count) h = record { known = h.known; bare = h.bare }
+array_sound structs (array b n) (Array at count) h = h
+array_sound structs null (Array at count) h = h
+array_sound structs kinds.function (Array at count) h = h
+array_sound structs k (Initial at minus c) h = h
+
+of_global : (structs : StructTable) (gs : List GlobalDefinition) (n : ℕ) → AllByRecursion (λ (g : GlobalDefinition). IsSoundType structs g.declaration.written) gs → IsSound structs (global_kind_of (slice_get gs n))
+of_global structs [] n all = record { known = refl; bare = refl }
+of_global structs (g ∷ rest) zero all = array_sound structs (declared_kind g.declaration.written) g.form all.0
+of_global structs (g ∷ rest) (suc n) all = of_global structs rest n all.1
+
+of_result : (structs : StructTable) (fs : List Function) (n : ℕ) → AllByRecursion (λ (f : Function). IsSoundType structs f.result) fs → IsSound structs (result_kind_of (slice_get fs n))
+of_result structs [] n all = record { known = refl; bare = refl }
+of_result structs (f ∷ rest) zero all = all.0
+of_result structs (f ∷ rest) (suc n) all = of_result structs rest n all.1
+
+name_sound : (structs : StructTable) (r : Resolution) → HoldInAll (IsSoundType structs) r.program.items → (n : Named) → IsSound structs (named_kind r n)
+name_sound structs r all (named.Struct n) = record { known = refl; bare = refl }
+name_sound structs r all (named.Global n) = of_global structs (globals_in r.program.items) n all.globals
+name_sound structs r all (named.Function n) = record { known = refl; bare = refl }
+name_sound structs r all (named.Variable token) = of_declaration structs (declarations_in r.program.items) token all.declarations
+name_sound structs r all (named.Field token) = of_declaration structs (declarations_in r.program.items) token all.declarations
+name_sound structs r all named.Known = record { known = refl; bare = refl }
+
+called_sound : (structs : StructTable) (r : Resolution) → HoldInAll (IsSoundType structs) r.program.items → (n : Named) → IsSound structs (called_kind r n)
+called_sound structs r all (named.Struct n) = record { known = refl; bare = refl }
+called_sound structs r all (named.Global n) = record { known = refl; bare = refl }
+called_sound structs r all (named.Function n) = of_result structs (functions_in r.program.items) n all.results
+called_sound structs r all (named.Variable token) = record { known = refl; bare = refl }
+called_sound structs r all (named.Field token) = record { known = refl; bare = refl }
+called_sound structs r all named.Known = record { known = refl; bare = refl }
+
+either_sound : (structs : StructTable) (b : Bool) → IsSound structs (cond b long int)
+either_sound structs true = record { known = refl; bare = tt }
+either_sound structs false = record { known = refl; bare = tt }
+
+number_sound : (structs : StructTable) (w : NumberType) → IsSound structs (number_kind w)
+number_sound structs width.Int = record { known = refl; bare = tt }
+number_sound structs width.Long = record { known = refl; bare = tt }
+
+constant_sound : (structs : StructTable) (c : Constant) → IsSound structs (constant_kind c)
+constant_sound structs (Number n) = number_sound structs n.number_type
+constant_sound structs (Character byte) = record { known = refl; bare = tt }
+constant_sound structs Null = record { known = refl; bare = refl }
+
+bare_below : (b : Base) (n : ℕ) → IsBare b n → IsBare b (n - 1)
+bare_below base.Int n h = tt
+bare_below base.Char n h = tt
+bare_below base.Long n h = tt
+bare_below base.Mutex n h = tt
+bare_below base.Void n h = omega (arith, h)
+bare_below (base.Struct name) n h = tt
+
+element_sound : (structs : StructTable) (k : Kind) → IsSound structs k → IsSound structs (element_kind k)
+element_sound structs (object b n) h = record { known = h.known; bare = bare_below b n h.bare }
+element_sound structs (array b n) h = record { known = h.known; bare = h.bare }
+element_sound structs null h = h
+element_sound structs kinds.function h = h
+
+unary_sound : (structs : StructTable) (o : UnaryOperator) (k : Kind) → IsSound structs k → IsSound structs (unary_result o k)
+unary_sound structs Negate k h = either_sound structs (is_long k)
+unary_sound structs Not k h = record { known = refl; bare = tt }
+unary_sound structs Complement k h = either_sound structs (is_long k)
+unary_sound structs Dereference k h = element_sound structs k h
+
+binary_sound : (structs : StructTable) (o : OperatorClass) (j k : Kind) → IsSound structs (binary_result o j k)
+binary_sound structs Logical j k = record { known = refl; bare = tt }
+binary_sound structs Equality j k = record { known = refl; bare = tt }
+binary_sound structs Relation j k = record { known = refl; bare = tt }
+binary_sound structs Shift j k = either_sound structs (is_long j)
+binary_sound structs Arithmetic j k = either_sound structs _
+
+kind_sound : (structs : StructTable) (r : Resolution) → HoldInAll (IsSoundType structs) r.program.items → (e : Expression) → HaveCasts (IsSoundType structs) (expressions e) → IsSound structs (kind_at r e)
+kind_sound structs r all (identifier s i) h = name_sound structs r all (named_at r i.site.token)
+kind_sound structs r all (constant s c) h = constant_sound structs c
+kind_sound structs r all (parentheses s a) h = kind_sound structs r all a h
+kind_sound structs r all (call s f args) h = called_sound structs r all (named_at r f.site.token)
+kind_sound structs r all (spawn s f a) h = record { known = refl; bare = tt }
+kind_sound structs r all (on_value s w a) h = record { known = refl; bare = refl }
+kind_sound structs r all (on_place s w a) h = record { known = refl; bare = refl }
+kind_sound structs r all (cast s t a) h = h.0
+kind_sound structs r all (index s a i) h = element_sound structs (kind_at r a) (kind_sound structs r all a (first_casts (IsSoundType structs) (expressions a) (expressions i) h))
+kind_sound structs r all (field s a w n) h = name_sound structs r all (named_at r n.site.token)
+kind_sound structs r all (unary s o a) h = unary_sound structs o (kind_at r a) (kind_sound structs r all a h)
+kind_sound structs r all (binary s o at a b) h = binary_sound structs (class_of o) (kind_at r a) (kind_at r b)
+
+-- what is given in a typed program has such a type
+abbrev pub IsGivenSound : Resolution → Giving → Type 0
+IsGivenSound r g = IsSound (file_scope r.program.items).structs (kind_at r g.given)
+
+pub given_sound : (r : Resolution) → Clean (notes_about r.program) → AllByRecursion (IsGivenSound r) (items_givings r.program.items)
+given_sound r clean =
+    let structs : StructTable = (file_scope r.program.items).structs in
+    let all : HoldInAll (IsSoundType structs) r.program.items = in_all (IsSoundType structs) r.program.items (of_items (IsSoundType structs) r.program.items (types_sound r clean)) in
+    each (IsGiven (IsSoundType structs)) (IsGivenSound r) (λ g h. kind_sound structs r all g.given h) (items_givings r.program.items) all.given
