@@ -2,8 +2,9 @@
 
 ghost use Rattle.std.specs.Prelude.{◌≡◌, ◌≤◌, ◌+◌, ◌*◌, IfOk};
 ghost use Rattle.sharc_tree.specs.declared.token.Span.{Span};
-ghost use Rattle.sharc_tree.specs.Tree.{on_place, unary, binary};
-ghost use Rattle.sharc_tree.specs.View.{view_expr};
+ghost use Rattle.sharc_tree.specs.declared.tree.declaration.WrittenType.{WrittenType};
+ghost use Rattle.sharc_tree.specs.Tree.{call, spawn, on_place, cast, unary, binary};
+ghost use Rattle.sharc_tree.specs.View.{view_expr, view_arguments};
 ghost use Rattle.sharc_mode.specs.Moded.{Assignment};
 ghost use Rattle.sharc_meaning.specs.Expressions.{Calls, eval, place_of};
 ghost use Rattle.sharc_meaning.specs.Places.{index_place, pointee_place, field_place, unary_place};
@@ -21,7 +22,7 @@ use sharc_mode::moded::Moded;
 use sharc_names::fault::Named;
 use sharc_names::kind::is_array;
 use sharc_tree::token::{Site, Span};
-use sharc_tree::tree::{Access, BinaryOperator, Expr, PlaceCall, UnaryOperator};
+use sharc_tree::tree::{Access, BinaryOperator, Expr, Identifier, PlaceCall, UnaryOperator};
 
 fn on_place_plan<'a>(
     expr: &'a Expr,
@@ -116,6 +117,55 @@ fn binary_plan<'a>(
     }
 }
 
+fn call_plan<'a>(
+    program: &'a Moded,
+    expr: &'a Expr,
+    span: Span,
+    name: &'a Identifier,
+    arguments: &'a [Expr],
+) -> Plan<'a>
+    requires form { view_expr expr.now ≡ call span name.now (view_arguments arguments.now) }
+    ensures means { (on_call : Calls)
+        → Leads on_call program.now (inside (gives number (eval on_call program.now (view_expr expr.now)))) result }
+    ensures fits { Fits 15 result }
+{
+    Plan::Calls(Call {
+        site: span.first,
+        named: named(program, name.site.token),
+        name: name.text.as_slice(),
+        arguments,
+    })
+}
+
+fn spawn_plan<'a>(
+    program: &'a Moded,
+    expr: &'a Expr,
+    span: Span,
+    name: &Identifier,
+    argument: &'a Expr,
+    st: &State,
+) -> Plan<'a>
+    requires form { view_expr expr.now ≡ spawn span name.now (view_expr argument.now) }
+    ensures means { (on_call : Calls) → LeadsFrom on_call program.now (view_state st.now)
+        (inside (gives number (eval on_call program.now (view_expr expr.now)))) result }
+    ensures fits { Fits 15 result }
+{
+    let mark = st.frame.temporaries.len();
+    let rest = WithValue::Spawned(span.first, named(program, name.site.token), mark);
+    Plan::Goes(Task::Eval(argument), Rest::Value(argument, rest))
+}
+
+fn cast_plan<'a>(expr: &'a Expr, span: Span, source: &'a Expr, st: &State) -> Plan<'a>
+    requires form { (to : WrittenType) × (view_expr expr.now ≡ cast span to (view_expr source.now)) }
+    ensures means { (on_call : Calls) (m : Assignment) → LeadsFrom on_call m (view_state st.now)
+        (inside (gives number (eval on_call m (view_expr expr.now)))) result }
+    ensures fits { Fits 15 result }
+{
+    let mark = st.frame.temporaries.len();
+    let place = Task::PlaceOf(source.span().first, source);
+    Plan::Goes(place, Rest::Place(source, WithPlace::Casts(span, mark)))
+}
+
 fn eval_plan<'a>(program: &'a Moded, expr: &'a Expr, st: &mut State) -> Result<Plan<'a>, End>
     ensures means { (on_call : Calls) → Plans on_call program.now (view_state st.old) result (view_state st.new) (inside (gives number (eval on_call program.now (view_expr expr.now)))) }
     ensures fits { IfOk result (Fits 15) }
@@ -128,27 +178,14 @@ fn eval_plan<'a>(program: &'a Moded, expr: &'a Expr, st: &mut State) -> Result<P
         }
         Expr::Constant(_, constant) => { Ok(Plan::Done(Value::Number(constant_value(constant)))) }
         Expr::Parentheses(_, inner) => Ok(Plan::Goes(Task::Eval(inner), Rest::Same)),
-        Expr::Call(span, name, all) => Ok(Plan::Calls(Call {
-            site: span.first,
-            named: named(program, name.site.token),
-            name: name.text.as_slice(),
-            arguments: all.as_slice(),
-        })),
-        Expr::Spawn(span, name, a) => {
-            let a: &'a Expr = a;
-            let rest = WithValue::Spawned(span.first, named(program, name.site.token), mark);
-            Ok(Plan::Goes(Task::Eval(a), Rest::Value(a, rest)))
-        }
+        Expr::Call(span, name, all) => Ok(call_plan(program, expr, *span, name, all.as_slice())),
+        Expr::Spawn(span, name, a) => Ok(spawn_plan(program, expr, *span, name, a, st)),
         Expr::OnValue(span, word, a) => Ok(Plan::Goes(
             Task::Eval(a),
             Rest::Value(a, WithValue::Performs(span.first, *word)),
         )),
         Expr::OnPlace(span, word, a) => Ok(on_place_plan(expr, *span, *word, a, st)),
-        Expr::Cast(span, _, a) => {
-            let a: &'a Expr = a;
-            let place = Task::PlaceOf(a.span().first, a);
-            Ok(Plan::Goes(place, Rest::Place(a, WithPlace::Casts(*span, mark))))
-        }
+        Expr::Cast(span, _, a) => Ok(cast_plan(expr, *span, a, st)),
         Expr::Index(span, a, i) => Ok(Plan::Goes(
             Task::Index(span.first, a, i),
             Rest::Place(expr, WithPlace::Fetched(mark)),

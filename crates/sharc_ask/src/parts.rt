@@ -2,10 +2,12 @@
 
 ghost use Rattle.std.specs.Prelude.{◌≡◌, ◌≤◌, ℕ, ℤ, Bool, IfOk};
 ghost use Rattle.sharc_tree.specs.View.{view_expr};
-ghost use Rattle.sharc_names.specs.Kinds.{declared_kinds, declared_kind};
+ghost use Rattle.sharc_names.specs.Kinds.{declared_kinds, declared_kind, promoted};
 ghost use Rattle.sharc_names.specs.View.{view_kind};
+ghost use Rattle.sharc_ctype.specs.Resolved.{kind_at};
 ghost use Rattle.sharc_mode.specs.Sharings.{private};
-ghost use Rattle.sharc_meaning.specs.Expressions.{tested, operand, fitting, passed, value_called};
+ghost use Rattle.sharc_meaning.specs.Arithmetic.{bits_of, negated};
+ghost use Rattle.sharc_meaning.specs.Expressions.{tested, operand, fitting, passed, resulting, value_called};
 ghost use Rattle.sharc_meaning.specs.Places.{variable, pointee_place, stored};
 ghost use Rattle.sharc_meaning.specs.State.{Run, Step, give};
 ghost use Rattle.sharc_meaning.specs.Statements.{Flow as LeftBy};
@@ -22,7 +24,7 @@ use crate::values::{
     Flow, based, cells_of, freed_unless_null, held, kind_of, let_go, number_named,
     parameters_named, resulting, value_act,
 };
-use sharc_ask_steps::arithmetic::{fits, is_zero, operated, truth};
+use sharc_ask_steps::arithmetic::{fits, is_zero, negated, operated, truth, width_of};
 use sharc_ask_steps::cells::{elements_of, number_of};
 use sharc_ask_steps::places::{Place, element, element_of_array, pointee, stored};
 use sharc_ask_steps::state::{End, State, ask_event, moves, perform, unless};
@@ -30,7 +32,7 @@ use sharc_mode::cell::cell_of;
 use sharc_mode::moded::Moded;
 use sharc_mode::sharing::Sharing;
 use sharc_names::fault::Named;
-use sharc_names::kind::{Kind, declared_kind};
+use sharc_names::kind::{Kind, declared_kind, promoted};
 use sharc_tree::event::{Act, Object};
 use sharc_tree::token::Site;
 use sharc_tree::trap::Trap;
@@ -94,6 +96,21 @@ pub fn inverted(program: &Moded, expr: &Expr, value: i64, st: &mut State) -> Res
 {
     let is_true = tested_value(program, expr, value, st)?;
     Ok(truth(!is_true))
+}
+
+/// The negative in the type of `-a`.
+pub fn negative(
+    program: &Moded,
+    site: Site,
+    expr: &Expr,
+    value: i64,
+    st: &State,
+) -> Result<i64, End>
+    ensures { Does (view_state st.now) result (view_state st.now)
+        (resulting site (negated (bits_of (promoted (kind_at program.now.typed (view_expr expr.now)))) value)) }
+{
+    let width = width_of(promoted(kind_of(program, expr)));
+    resulting(site, negated(width, value), st)
 }
 
 /// A value that is held in a temporary.

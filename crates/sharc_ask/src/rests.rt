@@ -4,26 +4,27 @@ ghost use Rattle.std.specs.Prelude.{◌≡◌, ◌≤◌, IfOk};
 ghost use Rattle.sharc_tree.specs.Spans.{span_of};
 ghost use Rattle.sharc_tree.specs.View.{view_expr};
 ghost use Rattle.sharc_mode.specs.Cells.{cell_at};
-ghost use Rattle.sharc_meaning.specs.Expressions.{Calls};
+ghost use Rattle.sharc_meaning.specs.Expressions.{Calls, eval};
 ghost use Rattle.sharc_meaning.specs.Places.{taken_from};
 ghost use Rattle.sharc_ask_steps.specs.View.{view_state, view_place, Does};
+ghost use Rattle.sharc_ask_steps.specs.Width.{value_bits};
 ghost use Rattle.sharc_ask.specs.View.{view_flow};
 ghost use Rattle.sharc_ask.specs.declared.plan.WithPlace.TheVariants.{Frees, Casts};
-ghost use Rattle.sharc_ask.specs.Values.{view_value};
-ghost use Rattle.sharc_ask.specs.Plans.{ends_above, value_means, number_means, place_means, rest_means, Plans, Fits, Starts, Begins, value_weight, place_weight, weight};
+ghost use Rattle.sharc_ask.specs.Values.{number, place, view_value, gives};
+ghost use Rattle.sharc_ask.specs.Plans.{ends_above, left_with, behind_pointer, value_means, number_means, place_means, rest_means, Plans, Fits, Starts, Begins, value_weight, place_weight, weight};
 
 use crate::flows::with_after;
 use crate::parts::{
     element_behind, element_in, end_above, end_step, first_behind, fitted, freed_with, initialised,
-    inverted, joined, passed_value, returned, spawned, stored_at, tested_value, truth_of,
+    inverted, joined, negative, passed_value, returned, spawned, stored_at, tested_value, truth_of,
     value_called, zero_behind,
 };
-use crate::plan::{Plan, Rest, Task, Value, WithNumber, WithPlace, WithValue, number_in, place_in};
-use crate::plans::{by_truth, done_flow, done_number, done_place, done_step, done_test, then};
-use crate::values::{
-    Flow, based, cast_unless_null, held, kind_of, let_go, made, place_fetched, resulting,
+use crate::plan::{
+    Operation, Plan, Rest, Task, Value, WithNumber, WithPlace, WithValue, number_in, place_in,
 };
-use sharc_ask_steps::arithmetic::{complement, negated, width_of};
+use crate::plans::{by_truth, done_flow, done_number, done_place, done_step, done_test, then};
+use crate::values::{Flow, based, cast_unless_null, held, kind_of, let_go, made, place_fetched};
+use sharc_ask_steps::arithmetic::complement;
 use sharc_ask_steps::cells::field_place_named;
 use sharc_ask_steps::locking::{lock_call, unlock_call};
 use sharc_ask_steps::places::{Place, field_in, taken_from};
@@ -31,10 +32,50 @@ use sharc_ask_steps::state::{End, State};
 use sharc_mode::cell::{cell_of, pointed};
 use sharc_mode::moded::Moded;
 use sharc_mode::row::row_of;
-use sharc_names::kind::promoted;
 use sharc_tree::event::TakeKind;
-use sharc_tree::token::Span;
+use sharc_tree::token::{Site, Span};
 use sharc_tree::tree::Expr;
+
+// The left operand is held, and the right one comes next.
+fn by_left<'a>(
+    program: &'a Moded,
+    expr: &'a Expr,
+    operation: Operation,
+    right: &'a Expr,
+    x: i64,
+    st: &mut State,
+) -> Result<Plan<'a>, End>
+    ensures means { (on_call : Calls) → let m = program.now in let a = view_expr expr.now in
+        let b = view_expr right.now in let bits = value_bits operation.width in
+        Plans on_call m (view_state st.old) result (view_state st.new) (gives number (ends_above operation.mark
+        (left_with m.typed bits operation.site operation.operator a b (eval on_call m b) x))) }
+    ensures fits { IfOk result (Fits 2) }
+    ensures fuel { st.new.fuel ≤ st.old.fuel }
+{
+    let rest = WithValue::RightOperand(operation, x);
+    let next = Plan::Goes(Task::Eval(right), Rest::Value(right, rest));
+    then(held(program, expr, x, st), next)
+}
+
+// The pointer is held, and its index comes next.
+fn by_pointer<'a>(
+    program: &'a Moded,
+    site: Site,
+    expr: &'a Expr,
+    index: &'a Expr,
+    x: i64,
+    st: &mut State,
+) -> Result<Plan<'a>, End>
+    ensures means { (on_call : Calls) → let m = program.now in
+        Plans on_call m (view_state st.old) result (view_state st.new)
+        (gives place (behind_pointer m.typed site (view_expr expr.now) x (eval on_call m (view_expr index.now)))) }
+    ensures fits { IfOk result (Fits 2) }
+    ensures fuel { st.new.fuel ≤ st.old.fuel }
+{
+    let rest = Rest::Number(WithNumber::PointerElement(site, expr, x));
+    let next = Plan::Goes(Task::Eval(index), rest);
+    then(based(program, site, expr, x, st), next)
+}
 
 fn with_value<'a>(
     program: &'a Moded,
@@ -49,18 +90,12 @@ fn with_value<'a>(
 {
     match rest {
         WithValue::Tested => done_test(tested_value(program, expr, x, st)),
-        WithValue::Passed(parameters) => done_number(passed_value(
-            program, parameters, expr, x, st,
-        )),
+        WithValue::Passed(declared) => done_number(passed_value(program, declared, expr, x, st)),
         WithValue::Spawned(site, named, mark) => {
             done_number(spawned(program, site, named, expr, x, mark, st))
         }
         WithValue::Performs(site, word) => done_number(value_called(site, word, x, st)),
-        WithValue::Negated(site) => done_number(resulting(
-            site,
-            negated(width_of(promoted(kind_of(program, expr))), x),
-            st,
-        )),
+        WithValue::Negated(site) => done_number(negative(program, site, expr, x, st)),
         WithValue::Inverted => done_number(inverted(program, expr, x, st)),
         WithValue::Complemented => Ok(Plan::Done(Value::Number(complement(x)))),
         WithValue::AndLeft(right) => by_truth(
@@ -74,13 +109,9 @@ fn with_value<'a>(
             Plan::Goes(Task::Eval(right), Rest::Value(right, WithValue::TruthOf)),
         ),
         WithValue::TruthOf => done_number(truth_of(program, expr, x, st)),
-        WithValue::LeftOperand(operation, right) => then(
-            held(program, expr, x, st),
-            Plan::Goes(
-                Task::Eval(right),
-                Rest::Value(right, WithValue::RightOperand(operation, x)),
-            ),
-        ),
+        WithValue::LeftOperand(operation, right) => {
+            by_left(program, expr, operation, right, x, st)
+        }
         WithValue::RightOperand(operation, left) => {
             done_number(joined(program, operation, left, expr, x, st))
         }
@@ -88,13 +119,7 @@ fn with_value<'a>(
         WithValue::Made(site, target, written) => {
             done_number(made(program, site, target, x, written, st))
         }
-        WithValue::PointerBase(site, index) => then(
-            based(program, site, expr, x, st),
-            Plan::Goes(
-                Task::Eval(index),
-                Rest::Number(WithNumber::PointerElement(site, expr, x)),
-            ),
-        ),
+        WithValue::PointerBase(site, index) => by_pointer(program, site, expr, index, x, st),
         WithValue::Based(site) => done_place(first_behind(program, site, expr, x, st)),
         WithValue::Dropped => done_step(let_go(program, expr, x, st)),
         WithValue::Returns(kind, site) => done_flow(returned(kind, site, expr, x, st)),

@@ -2,7 +2,6 @@
 use Rattle.std.proofs.{Common.{◌≡◌, ℕ, zero, suc, ◌+◌, ◌<◌, ◌≤◌, Bool, true, false, ◌&&◌, ◌||◌, not, List, [], ◌∷◌, ◌++◌, length, take, drop, map, Option, Some, get_or, refl, ap, sym, ◌∙◌, subst, add-one, drop-cons, append_assoc, arith}, lemmas.List.{get_or-drop, get_or-take, length-map, length-drop, length-take-le}, Math.ListN.get_or-map}
 use Rattle.std.specs.Prelude.{slice_index_or}
 use Rattle.sharc_tree.specs.{declared.ctype.Mode.Mode, declared.ctype.Mode.TheVariants.Private}
-use Rattle.sharc_names.specs.declared.types.Role.TheVariants as role
 use Rattle.sharc_ctype.specs.{declared.entity.Entity.Entity, declared.entity.Numbered.Numbered, Entities.{entities_in, numbered, numbered_from, positions_of, positions_in}, Resolved.Resolution}
 use Rattle.sharc_mode.specs.{Moded.{Assignment, position_count}, Notes.position_levels, WellFormed.is_private_mode}
 use Rattle.sharc_check.specs.Levels.{holds_below}

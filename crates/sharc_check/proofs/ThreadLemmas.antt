@@ -1,5 +1,5 @@
 -- Functions and globals, one by one.
-use Rattle.std.proofs.Common.{◌≡◌, ℕ, zero, suc, ◌+◌, ◌<◌, ◌≤◌, Bool, List, [], ◌∷◌, ◌++◌, length, drop, Some, refl, ap, sym, ◌∙◌, add-one, append_assoc, cond, arith}
+use Rattle.std.proofs.Common.{◌≡◌, ℕ, zero, suc, ◌+◌, ◌<◌, Bool, List, [], ◌∷◌, ◌++◌, length, drop, Some, refl, ap, sym, ◌∙◌, add-one, append_assoc, cond, arith}
 use Rattle.std.specs.List.{slice_get, flat_map}
 use Rattle.sharc_tree.specs.{declared.tree.item.GlobalDefinition.GlobalDefinition, Tree.Function}
 use Rattle.sharc_mode.specs.{declared.finding.Finding.Finding, Moded.Assignment, WellModed.{is_spawned, parameter_notes, spawned_notes, touched_notes}}

@@ -1,5 +1,5 @@
 -- Which globals are touched can be determined for every number, from what is answered of those that there are.
-use Rattle.std.proofs.{Common.{◌≡◌, ◌⊎◌, inl, inr, ℕ, zero, suc, ◌+◌, ◌<◌, ◌≤◌, ◌==◌, Bool, true, false, ◌||◌, ◌&&◌, List, [], ◌∷◌, ◌++◌, length, get_or, Option, Some, None, is_some, refl, ap, sym, ◌∙◌, subst, arith}, lemmas.Option.slice_get_within}
+use Rattle.std.proofs.{Common.{◌≡◌, inl, inr, ℕ, zero, suc, ◌+◌, ◌<◌, ◌≤◌, ◌==◌, Bool, true, false, ◌||◌, ◌&&◌, List, [], ◌∷◌, ◌++◌, length, get_or, Option, Some, None, is_some, refl, ap, sym, ◌∙◌, subst, arith}, lemmas.Option.slice_get_within}
 use Rattle.std.specs.{Prelude.{IfSome, unwrap_or}, List.{slice_get, list_any, flat_map}}
 use Rattle.sharc_tree.specs.{declared.tree.item.GlobalDefinition.GlobalDefinition, Tree.Function}
 use Rattle.sharc_names.specs.declared.fault.Named.{Named}

@@ -1,8 +1,12 @@
 // What is said of expressions.
 
 ghost use Rattle.std.specs.Prelude.{◌≡◌, ◌++◌, OnOk};
+ghost use Rattle.sharc_tree.specs.Tree.{argument, no_arguments};
 ghost use Rattle.sharc_tree.specs.View.{view_expr, view_arguments};
-ghost use Rattle.sharc_mode.specs.Expressions.{notes_of, notes_of_all};
+ghost use Rattle.sharc_ctype.specs.Resolved.{named_at};
+ghost use Rattle.sharc_ctype.specs.Transfers.{parameters_named};
+ghost use Rattle.sharc_mode.specs.Expressions.{expected, notes_of, notes_of_all};
+ghost use Rattle.sharc_mode.specs.Notes.{agree_notes, call_notes};
 
 use crate::passing::{Passed, Passing, without_first};
 use crate::rules::{agree, call, cast, expected, field, place, source};
@@ -10,8 +14,35 @@ use sharc_ctype::typed::parameters_named;
 use sharc_mode::finding::Finding;
 use sharc_mode::moded::Moded;
 use sharc_mode::row::{Reading, base_use, named_row};
-use sharc_tree::tree::{Declaration, Expr};
+use sharc_tree::token::Span;
+use sharc_tree::tree::{Declaration, Expr, Identifier};
 use std::alloc::{AllocError, Global};
+
+// What is said of a spawn, beside what is said of what it passes.
+fn spawned(
+    alloc: Global,
+    program: &Moded,
+    span: Span,
+    name: &Identifier,
+    value: &Expr,
+    notes: &mut Vec<Finding>,
+) -> Result<(), AllocError>
+    ensures { let ds = parameters_named program.now.typed (named_at program.now.typed name.now.site.token) in
+        let all = argument (view_expr value.now) no_arguments in
+        OnOk result (notes.new.items ≡ notes.old.items
+        ++ agree_notes program.now (expected program.now ds all ds) (view_expr value.now)
+        ++ call_notes program.now span ds all) }
+{
+    let typed = program.typed();
+    let parameters = parameters_named(typed, typed.named(name.site.token));
+    let passing = Passing {
+        parameters,
+        passed: Passed::One(value),
+    };
+    let wanted = expected(program, passing, parameters);
+    agree(alloc, program, wanted, value, notes)?;
+    call(alloc, program, span, passing, notes)
+}
 
 /// Says what is to be said of an expression.
 #[cycle(expr)]
@@ -23,36 +54,13 @@ pub(crate) fn expression(
 ) -> Result<(), AllocError>
     ensures { OnOk result (notes.new.items ≡ notes.old.items ++ notes_of program.now (view_expr expr.now)) }
 {
-    let typed = program.typed();
     match expr {
-        Expr::Identifier(_, _) => Ok(()),
-        Expr::Constant(_, _) => Ok(()),
+        Expr::Identifier(_, _) | Expr::Constant(_, _) => Ok(()),
         Expr::Parentheses(_, inner) => expression(alloc, program, inner, notes),
-        Expr::Call(span, name, list) => {
-            let parameters = parameters_named(typed, typed.named(name.site.token));
-            let list = list.as_slice();
-            let passing = Passing {
-                parameters,
-                passed: Passed::All(list),
-            };
-            arguments(alloc, program, parameters, list, notes)?;
-            call(alloc, program, *span, passing, notes)
-        }
+        Expr::Call(span, name, list) => called(alloc, program, *span, name, list.as_slice(), notes),
         Expr::Spawn(span, name, value) => {
-            let parameters = parameters_named(typed, typed.named(name.site.token));
-            let passing = Passing {
-                parameters,
-                passed: Passed::One(value),
-            };
             expression(alloc, program, value, notes)?;
-            agree(
-                alloc,
-                program,
-                expected(program, passing, parameters),
-                value,
-                notes,
-            )?;
-            call(alloc, program, *span, passing, notes)
+            spawned(alloc, program, *span, name, value, notes)
         }
         Expr::OnValue(_, _, value) => expression(alloc, program, value, notes),
         Expr::OnPlace(_, what, inner) => {
@@ -64,10 +72,6 @@ pub(crate) fn expression(
             source(alloc, program, from, notes)?;
             cast(alloc, program, *span, to, from, notes)
         }
-        Expr::Index(_, base, index) => {
-            expression(alloc, program, base, notes)?;
-            expression(alloc, program, index, notes)
-        }
         Expr::Field {
             span,
             base,
@@ -75,29 +79,36 @@ pub(crate) fn expression(
             name,
         } => {
             expression(alloc, program, base, notes)?;
+            let typed = program.typed();
             let targets = named_row(typed, Reading::Written, typed.named(name.site.token));
             let through = base_use(typed, *access, base);
             field(alloc, program, *span, through, targets, notes)
         }
         Expr::Unary(_, _, operand) => expression(alloc, program, operand, notes),
-        Expr::Binary { left, right, .. } => {
+        Expr::Index(_, left, right) | Expr::Binary { left, right, .. } => {
             expression(alloc, program, left, notes)?;
             expression(alloc, program, right, notes)
         }
     }
 }
 
-/// Says what is to be said of the arguments of a call.
+/// Says what is to be said of a call, and of its arguments.
 #[cycle(expr)]
-fn arguments(
+fn called(
     alloc: Global,
     program: &Moded,
-    parameters: &[Declaration],
+    span: Span,
+    name: &Identifier,
     list: &[Expr],
     notes: &mut Vec<Finding>,
 ) -> Result<(), AllocError>
-    ensures { OnOk result (notes.new.items ≡ notes.old.items ++ notes_of_all program.now parameters.now (view_arguments list.now) parameters.now (view_arguments list.now)) }
+    ensures { let ds = parameters_named program.now.typed (named_at program.now.typed name.now.site.token) in
+        let all = view_arguments list.now in
+        OnOk result (notes.new.items ≡ notes.old.items
+        ++ notes_of_all program.now ds all ds all ++ call_notes program.now span ds all) }
 {
+    let typed = program.typed();
+    let parameters = parameters_named(typed, typed.named(name.site.token));
     let passing = Passing {
         parameters,
         passed: Passed::All(list),
@@ -105,14 +116,9 @@ fn arguments(
     let mut left = parameters;
     for expr in list {
         expression(alloc, program, expr, notes)?;
-        agree(
-            alloc,
-            program,
-            expected(program, passing, left),
-            expr,
-            notes,
-        )?;
+        let wanted = expected(program, passing, left);
+        agree(alloc, program, wanted, expr, notes)?;
         left = without_first(left);
     }
-    Ok(())
+    call(alloc, program, span, passing, notes)
 }

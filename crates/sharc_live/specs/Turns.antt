@@ -1,7 +1,10 @@
--- The steps of a turn of a loop, before its body and after its step. It retraces the code.
+-- The steps after an `if`, and of a turn of a loop before its body and after its step. It retraces the code.
 use Rattle.std.specs.Prelude.{List, [], ◌∷◌, ◌++◌, Option, Some, None}
 use Rattle.sharc_dataflow.specs.{declared.step.Step.Step, Code.{Code, listing}}
 use Rattle.sharc_dataflow.specs.declared.step.Step.TheVariants as steps
+
+abbrev pub if_ends : List Step
+if_ends = steps.Other ∷ (steps.Join ∷ [])
 
 abbrev pub body_begins : List Step
 body_begins = steps.Fork ∷ (steps.Break ∷ (steps.Other ∷ (steps.Catch ∷ [])))

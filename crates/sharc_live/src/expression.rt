@@ -5,7 +5,7 @@ ghost use Rattle.sharc_tree.specs.View.{view_expr, view_arguments};
 ghost use Rattle.sharc_dataflow.specs.Code.{listing};
 ghost use Rattle.sharc_live.specs.Flows.{goes_on, nulls, variable_of, of_operands, of_place_call, of_base, flow, flow_all, place_flow};
 
-use crate::variable::{nulls, reads, through, variable_named, variable_of};
+use crate::variable::{nulls, reads, variable_of};
 use sharc_ctype::typed::Typed;
 use sharc_dataflow::step::Step;
 use sharc_tree::tree::{Access, BinaryOperator, Expr, PlaceCall, UnaryOperator};
@@ -38,15 +38,11 @@ pub(crate) fn expression(
     ensures { OnOk result (steps.new.items ≡ steps.old.items ++ listing (flow typed.now (view_expr expr.now))) }
 {
     match expr {
-        Expr::Identifier(_, name) => {
-            let token = name.site.token;
-            reads(variable_named(typed.named(token)), token, steps)
-        }
+        Expr::Identifier(_, name) => reads(variable_of(typed, expr), name.site.token, steps),
         Expr::Constant(_, _) => Ok(()),
-        Expr::Parentheses(_, inner) => expression(typed, inner, steps),
+        Expr::Parentheses(_, inner) | Expr::Unary(_, _, inner) => expression(typed, inner, steps),
         Expr::Call(_, _, all) => arguments(typed, all.as_slice(), steps),
-        Expr::Spawn(_, _, value) => expression(typed, value, steps),
-        Expr::OnValue(_, _, value) => expression(typed, value, steps),
+        Expr::Spawn(_, _, value) | Expr::OnValue(_, _, value) => expression(typed, value, steps),
         Expr::OnPlace(span, call, source) => {
             place(typed, source, steps)?;
             on_place(typed, span.first.token, *call, source, steps)
@@ -66,13 +62,8 @@ pub(crate) fn expression(
             ..
         } => {
             field_base(typed, *access, base, steps)?;
-            reads(
-                through(*access, variable_of(typed, base)),
-                span.first.token,
-                steps,
-            )
+            reads(variable_of(typed, expr), span.first.token, steps)
         }
-        Expr::Unary(_, _, operand) => expression(typed, operand, steps),
         Expr::Binary {
             operator,
             left,

@@ -4,7 +4,7 @@ ghost use Rattle.std.specs.Prelude.{◌≡◌, ◌++◌, OnOk, IfOk};
 ghost use Rattle.sharc_tree.specs.View.{view_expr, view_option, view_right, view_simple, view_local, view_first, view_head, view_stmt, view_statements, view_function};
 ghost use Rattle.sharc_dataflow.specs.Code.{goes_to, first_then, listing};
 ghost use Rattle.sharc_dataflow.specs.Flow.{Ends};
-ghost use Rattle.sharc_live.specs.Turns.{body_begins, tested_loop_ends, turn_begins, turn_ends};
+ghost use Rattle.sharc_live.specs.Turns.{if_ends, body_begins, tested_loop_ends, turn_begins, turn_ends};
 ghost use Rattle.sharc_live.specs.Flows.{of_option, flow, right_flow, simple_flow, declares_flow, local_flow, first_flow, turn_flow, test_flow, jump_flow, for_flow, statement_flow, statements_flow, parameters_flow, function_flow};
 
 use crate::expression::{expression, place};
@@ -163,6 +163,15 @@ fn jump(jump: Jump, steps: &mut Vec<Step>) -> Result<(), AllocError>
     Ok(())
 }
 
+/// Ends an `if` without `else`: its other way does nothing.
+fn ends_if(steps: &mut Vec<Step>) -> Result<(), AllocError>
+    ensures { OnOk result (steps.new.items ≡ steps.old.items ++ if_ends) }
+{
+    steps.push(Step::Other)?;
+    steps.push(Step::Join)?;
+    Ok(())
+}
+
 #[cycle(statement)]
 fn statement(typed: &Typed, stmt: &Stmt, steps: &mut Vec<Step>) -> Result<(), AllocError>
     ensures { OnOk result (steps.new.items ≡ steps.old.items ++ listing (statement_flow typed.now (view_stmt stmt.now))) }
@@ -178,9 +187,7 @@ fn statement(typed: &Typed, stmt: &Stmt, steps: &mut Vec<Step>) -> Result<(), Al
             expression(typed, test, steps)?;
             steps.push(Step::Fork)?;
             statement(typed, then, steps)?;
-            steps.push(Step::Other)?;
-            steps.push(Step::Join)?;
-            Ok(())
+            ends_if(steps)
         }
         Stmt::IfElse {
             test,

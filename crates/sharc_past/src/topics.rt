@@ -1,7 +1,7 @@
 // What an event is about. Of each topic only the last event is looked for.
 
 ghost use Rattle.std.specs.Prelude.{◌≡◌, IfOk};
-ghost use Rattle.sharc_past.specs.Topics.{topics_of, changing};
+ghost use Rattle.sharc_past.specs.Topics.{topics_of, changing, made};
 
 use crate::keys::{CellKey, GranuleKey, cell_key, granule_key};
 use sharc_judge::access::number_of;
@@ -54,6 +54,18 @@ fn changing(alloc: Global, cell: CellAt, mode: CellMode) -> Result<Vec<Topic>, A
     }
 }
 
+// Of the making of an object.
+fn made(alloc: Global, object: u32) -> Result<Vec<Topic>, AllocError>
+    ensures { IfOk result (λ topics. topics.items ≡ made object) }
+{
+    Ok(vec![in alloc;
+        Topic::Make(object),
+        Topic::Life(object),
+        Topic::Begin(object),
+        Topic::Period(object),
+    ]?)
+}
+
 /// What the event is about.
 pub(crate) fn topics_of(alloc: Global, event: &SourceEvent) -> Result<Vec<Topic>, AllocError>
     ensures { IfOk result (λ topics. topics.items ≡ topics_of event.now) }
@@ -63,15 +75,7 @@ pub(crate) fn topics_of(alloc: Global, event: &SourceEvent) -> Result<Vec<Topic>
         Act::Read(c, _) => Ok(vec![in alloc; Topic::Access(cell_key(c))]?),
         Act::Write(c, mode, _) => changing(alloc, c, mode),
         Act::Take(Taken::Cell(c, mode), _) => changing(alloc, c, mode),
-        Act::New(_, _, _) => {
-            let n = number_of(event.answer);
-            Ok(vec![in alloc;
-                Topic::Make(n),
-                Topic::Life(n),
-                Topic::Begin(n),
-                Topic::Period(n),
-            ]?)
-        }
+        Act::New(_, _, _) => made(alloc, number_of(event.answer)),
         Act::Give(reference, _) => {
             let n = number_of(reference);
             Ok(vec![in alloc; Topic::Begin(n), Topic::Period(n)]?)

@@ -152,12 +152,10 @@ pub(crate) fn expression(alloc: Global, c: &Recast, expr: &Expr) -> Result<Expr,
         Expr::Constant(span, constant) => Ok(Expr::Constant(*span, *constant)),
         Expr::Parentheses(span, inner) => Ok(Expr::Parentheses(*span, boxed(alloc, c, inner)?)),
         Expr::Call(span, name, list) => call_of(alloc, *span, name, arguments(alloc, c, list)?),
-        Expr::Spawn(span, name, value) => spawn_of(
-            alloc,
-            *span,
-            name,
-            boxed_value(alloc, c, value)?,
-        ),
+        Expr::Spawn(span, name, value) => {
+            let value = boxed_value(alloc, c, value)?;
+            spawn_of(alloc, *span, name, value)
+        }
         Expr::OnValue(span, word, expr) => Ok(Expr::OnValue(*span, *word, boxed(alloc, c, expr)?)),
         Expr::OnPlace(span, word, expr) => Ok(Expr::OnPlace(*span, *word, boxed(alloc, c, expr)?)),
         Expr::Cast(span, to, source) => old_cast(alloc, *span, to, boxed(alloc, c, source)?),

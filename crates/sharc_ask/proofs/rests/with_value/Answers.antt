@@ -1,13 +1,13 @@
-use Rattle.std.proofs.Common.{◌≡◌, ap, sym, ◌∙◌, subst, to_z, of_z, w64, rules, to_z-of_z, IfOk, ◌+◌, ◌<◌, ◌≤◌, arith}
+use Rattle.std.proofs.Common.{◌≡◌, sym, subst, to_z, of_z, w64, rules, to_z-of_z, IfOk, arith}
 use Rattle.std.specs.Prelude.{ℤ, pos}
 use Rattle.sharc_tree.specs.View.{view_expr}
 use Rattle.sharc_names.specs.{Kinds.{declared_kinds, promoted}, View.view_kind}
 use Rattle.sharc_ctype.specs.Resolved.{kind_at}
 use Rattle.sharc_mode.specs.View.{view_sharing}
-use Rattle.sharc_meaning.specs.{Arithmetic.{bits_of, negated}, Expressions.{tested, passed, value_called, resulting, fitting, eval}, Places.{based, pointee_place}, State.{Run, ◌>>=◌, give, holds, drops}}
+use Rattle.sharc_meaning.specs.{Arithmetic.{bits_of, negated}, Expressions.{tested, passed, value_called, resulting, fitting, eval}, Places.{pointee_place}, State.{Run, ◌>>=◌, give, drops}}
 use Rattle.sharc_ask_steps.specs.{View.{view_state, Does}, Width.value_bits}
-use Rattle.sharc_ask.specs.{View.made, Values.{number, place, number_in, gives}, Plans.{Fits, Starts, size, value_weight, Plans, value_means, ends_above, test_then, step_then, spawned_with, inverted_with, truth_with, returned_with, and_with, or_with, left_with, joined_with, element_behind, behind_pointer}}
-use Rattle.sharc_ask.proofs.{Outs.same_plans, Resuming.{and_goes, or_goes, left_goes, pointer_goes}, Weighing.fits_start}
+use Rattle.sharc_ask.specs.{View.made, Values.{number, number_in, gives}, Plans.{Starts, value_weight, Plans, value_means, ends_above, test_then, spawned_with, inverted_with, truth_with, returned_with, and_with, or_with, joined_with}}
+use Rattle.sharc_ask.proofs.{Outs.same_plans, Resuming.{and_goes, or_goes}, Weighing.fits_start}
 use Rattle.sharc_ask.proofs.rests.with_value.Goals as goal
 
 pub returns-in-Tested-clause-means : goal.returns-in-Tested-clause-means
@@ -30,7 +30,7 @@ returns-in-Passed-clause-means c = λ on_call.
     let k1 = view_state c.passed_value.new.st in
     let fits = c.ranges.x in
     let w = c.in-Passed in
-    subst (λ z. Plans on_call m k c.done_number.result k1 (value_means on_call m e z x)) (sym w.is) (c.done_number.ensures.means on_call m k k1 (passed m.typed (declared_kinds w.parameters.now) e (give x)) (simp to_z-of_z at c.passed_value.ensures.does))
+    subst (λ z. Plans on_call m k c.done_number.result k1 (value_means on_call m e z x)) (sym w.is) (c.done_number.ensures.means on_call m k k1 (passed m.typed (declared_kinds w.declared.now) e (give x)) (simp to_z-of_z at c.passed_value.ensures.does))
 
 pub returns-in-Spawned-clause-means : goal.returns-in-Spawned-clause-means
 returns-in-Spawned-clause-means c = λ on_call.
@@ -137,13 +137,11 @@ returns-in-Negated-clause-means c = λ on_call.
     let e = view_expr c.args.expr.now in
     let x = c.args.x in
     let k = view_state c.args.st.now in
-    let k1 = k in
     let fits = c.ranges.x in
     let w = c.in-Negated in
-    subst (λ z. Plans on_call m k c.done_number-in-Negated.result k1 (value_means on_call m e z x)) (sym w.is) (let bits = bits_of (promoted (kind_at m.typed e)) in
-    let width : value_bits c.width_of.result ≡ bits = c.width_of.ensures ∙ ap bits_of (c.promoted.ensures ∙ ap promoted c.kind_of.ensures) in
-    let same : c.negated.result ≡ negated bits x = c.negated.ensures ∙ ap (λ b. negated b (to_z w64 (of_z w64 x))) width ∙ ap (negated bits) (to_z-of_z fits) in
-    c.done_number-in-Negated.ensures.means on_call m k k1 (resulting w.site (negated (bits_of (promoted (kind_at m.typed e))) x)) (subst (λ z. Does k c.resulting.result k (resulting w.site z)) same c.resulting.ensures))
+    let run = resulting w.site (negated (bits_of (promoted (kind_at m.typed e))) x) in
+    subst (λ z. Plans on_call m k c.done_number-in-Negated.result k (value_means on_call m e z x)) (sym w.is)
+    (c.done_number-in-Negated.ensures.means on_call m k k run (simp to_z-of_z at c.negative.ensures))
 
 pub returns-in-AndLeft-clause-means : goal.returns-in-AndLeft-clause-means
 returns-in-AndLeft-clause-means c = λ on_call.
@@ -177,14 +175,11 @@ returns-in-LeftOperand-clause-means c = λ on_call.
     let e = view_expr c.args.expr.now in
     let x = c.args.x in
     let k = view_state c.args.st.now in
-    let k1 = view_state c.held.new.st in
+    let k1 = view_state c.by_left.new.st in
     let fits = c.ranges.x in
     let w = c.in-LeftOperand in
-    subst (λ z. Plans on_call m k c.then.result k1 (value_means on_call m e z x)) (sym w.is) (let b = view_expr w.right.now in
-    let o = w.operation in
-    let bits = value_bits o.width in
-    same_plans on_call m k k1 c.then.result (gives number (ends_above o.mark (left_with m.typed bits o.site o.operator e b (eval on_call m b) x))) (step_then (holds (kind_at m.typed e) x) (gives number (eval on_call m b) >>= (λ v. gives number (ends_above o.mark (joined_with m.typed bits o.site o.operator b x (give (number_in v)))))))
-    (λ s is. left_goes m.typed bits o.site o.operator e b (eval on_call m b) x o.mark s) (simp to_z-of_z at (c.then.ensures.means on_call m k k1 (holds (kind_at m.typed e) x) (simp to_z-of_z at c.held.ensures.does))))
+    subst (λ z. Plans on_call m k c.by_left.result k1 (value_means on_call m e z x)) (sym w.is)
+    (simp to_z-of_z at (c.by_left.ensures.means on_call))
 
 pub returns-in-PointerBase-clause-means : goal.returns-in-PointerBase-clause-means
 returns-in-PointerBase-clause-means c = λ on_call.
@@ -192,12 +187,11 @@ returns-in-PointerBase-clause-means c = λ on_call.
     let e = view_expr c.args.expr.now in
     let x = c.args.x in
     let k = view_state c.args.st.now in
-    let k1 = view_state c.based.new.st in
+    let k1 = view_state c.by_pointer.new.st in
     let fits = c.ranges.x in
     let w = c.in-PointerBase in
-    subst (λ z. Plans on_call m k c.then-in-PointerBase.result k1 (value_means on_call m e z x)) (sym w.is) (let i = eval on_call m (view_expr w.index.now) in
-    same_plans on_call m k k1 c.then-in-PointerBase.result (gives place (behind_pointer m.typed w.site e x i)) (step_then (based w.site (kind_at m.typed e) x) (gives number i >>= (λ v. gives place (element_behind m.typed w.site e x (number_in v)))))
-    (λ s is. pointer_goes m.typed w.site e i x s) (simp to_z-of_z at (c.then-in-PointerBase.ensures.means on_call m k k1 (based w.site (kind_at m.typed e) x) (simp to_z-of_z at c.based.ensures.does))))
+    subst (λ z. Plans on_call m k c.by_pointer.result k1 (value_means on_call m e z x)) (sym w.is)
+    (simp to_z-of_z at (c.by_pointer.ensures.means on_call))
 
 pub returns-in-RightOperand-clause-means : goal.returns-in-RightOperand-clause-means
 returns-in-RightOperand-clause-means c = λ on_call.
@@ -226,10 +220,10 @@ returns-in-OrLeft-clause-fits c =
 
 pub returns-in-LeftOperand-clause-fits : goal.returns-in-LeftOperand-clause-fits
 returns-in-LeftOperand-clause-fits c =
-    let r = c.then.result in
-    subst (λ w. IfOk r (Starts (value_weight w))) (sym c.in-LeftOperand.is) (fits_start 2 3 r (omega arith) (c.then.ensures.fits 2 (record { within = omega arith })))
+    let r = c.by_left.result in
+    subst (λ w. IfOk r (Starts (value_weight w))) (sym c.in-LeftOperand.is) (fits_start 2 3 r (omega arith) c.by_left.ensures.fits)
 
 pub returns-in-PointerBase-clause-fits : goal.returns-in-PointerBase-clause-fits
 returns-in-PointerBase-clause-fits c =
-    let r = c.then-in-PointerBase.result in
-    subst (λ w. IfOk r (Starts (value_weight w))) (sym c.in-PointerBase.is) (fits_start 2 3 r (omega arith) (c.then-in-PointerBase.ensures.fits 2 (record { within = omega arith })))
+    let r = c.by_pointer.result in
+    subst (λ w. IfOk r (Starts (value_weight w))) (sym c.in-PointerBase.is) (fits_start 2 3 r (omega arith) c.by_pointer.ensures.fits)

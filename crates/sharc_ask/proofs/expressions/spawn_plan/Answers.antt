@@ -1,0 +1,12 @@
+use Rattle.sharc_tree.specs.View.{view_expr}
+use Rattle.std.proofs.Common.{◌≡◌, length, arith, ap, ◌∙◌}
+use Rattle.sharc_ask_steps.specs.View.{Known}
+use Rattle.sharc_ask.proofs.Expressing.{spawn_is}
+use Rattle.sharc_ask.proofs.expressions.spawn_plan.Goals as goal
+
+pub returns-clause-means : goal.returns-clause-means
+returns-clause-means c = λ on_call s is.
+    let many : length s.frame.temporaries ≡ c.len-mark.result =
+    ap (λ (z : Known). length z.temporaries) is ∙ omega (arith, c.len-mark.ensures) in
+    spawn_is on_call c.args.program.now (view_expr c.args.expr.now) c.args.span c.args.name.now
+    (view_expr c.args.argument.now) c.named.result c.len-mark.result c.requires.form c.named.ensures s many

@@ -1,0 +1,19 @@
+use Rattle.std.proofs.Common.{◌≡◌, ap, ◌∙◌, subst, to_z, of_z, w64, to_z-of_z}
+use Rattle.sharc_tree.specs.View.{view_expr}
+use Rattle.sharc_names.specs.Kinds.{promoted}
+use Rattle.sharc_ctype.specs.Resolved.{kind_at}
+use Rattle.sharc_meaning.specs.{Arithmetic.{bits_of, negated}, Expressions.resulting}
+use Rattle.sharc_ask_steps.specs.{View.{view_state, Does}, Width.value_bits}
+use Rattle.sharc_ask.proofs.parts.negative.Goals as goal
+
+pub returns : goal.returns
+returns c =
+    let x = c.args.value in
+    let k = view_state c.args.st.now in
+    let e = view_expr c.args.expr.now in
+    let bits = bits_of (promoted (kind_at c.args.program.now.typed e)) in
+    let width : value_bits c.width_of-width.result ≡ bits =
+    c.width_of-width.ensures ∙ ap bits_of (c.promoted.ensures ∙ ap promoted c.kind_of.ensures) in
+    let same : c.negated.result ≡ negated bits x =
+    c.negated.ensures ∙ ap (λ b. negated b (to_z w64 (of_z w64 x))) width ∙ ap (negated bits) (to_z-of_z c.ranges.value) in
+    subst (λ z. Does k c.resulting.result k (resulting c.args.site z)) same c.resulting.ensures

@@ -1,0 +1,27 @@
+use Rattle.std.proofs.Common.{to_z-of_z, arith}
+use Rattle.sharc_tree.specs.View.{view_expr}
+use Rattle.sharc_ctype.specs.Resolved.{kind_at}
+use Rattle.sharc_meaning.specs.{Expressions.eval, Places.based, State.{◌>>=◌}}
+use Rattle.sharc_ask_steps.specs.View.{view_state}
+use Rattle.sharc_ask.specs.{Values.{number, place, number_in, gives}, Plans.{step_then, element_behind, behind_pointer}}
+use Rattle.sharc_ask.proofs.{Outs.same_plans, Resuming.pointer_goes}
+use Rattle.sharc_ask.proofs.rests.by_pointer.Goals as goal
+
+pub returns-clause-means : goal.returns-clause-means
+returns-clause-means c = λ on_call.
+    let m = c.args.program.now in
+    let e = view_expr c.args.expr.now in
+    let x = c.args.x in
+    let k = view_state c.args.st.now in
+    let k1 = view_state c.based.new.st in
+    let fits = c.ranges.x in
+    let site = c.args.site in
+    let i = eval on_call m (view_expr c.args.index.now) in
+    same_plans on_call m k k1 c.then.result (gives place (behind_pointer m.typed site e x i))
+    (step_then (based site (kind_at m.typed e) x)
+    (gives number i >>= (λ v. gives place (element_behind m.typed site e x (number_in v)))))
+    (λ s is. pointer_goes m.typed site e i x s)
+    (simp to_z-of_z at (c.then.ensures.means on_call m k k1 (based site (kind_at m.typed e) x) (simp to_z-of_z at c.based.ensures.does)))
+
+pub returns-clause-fits : goal.returns-clause-fits
+returns-clause-fits c = c.then.ensures.fits 2 (record { within = omega arith })
