@@ -60,7 +60,40 @@ operand_text (Fits width) = width_text width
 abbrev pub line : List ℕ → List Operand → List ℕ
 line word operands = word ++ flat_map operand_text operands ++ codes "\n"
 
--- the operands are written as in the instruction
+-- the operands are written as in the instruction: first those of cells, counts, objects, mutexes, threads and conditions
+abbrev pub shared_line_of : Instr → List ℕ
+shared_line_of (Bounds a b c d e) = line (codes "bounds") (Index a ∷ Index b ∷ Index c ∷ Index d ∷ Index e ∷ [])
+shared_line_of (GlobalBounds a b c d e) = line (codes "global_bounds") (Index a ∷ Index b ∷ Index c ∷ Index d ∷ Index e ∷ [])
+shared_line_of (ChkRead a b) = line (codes "chk_read") (InCell a ∷ Index b ∷ [])
+shared_line_of (ChkWrite a b) = line (codes "chk_write") (InCell a ∷ Index b ∷ [])
+shared_line_of (Load a b c) = line (codes "load") (Index a ∷ InCell b ∷ Index c ∷ [])
+shared_line_of (Store a b c) = line (codes "store") (Index a ∷ InCell b ∷ Index c ∷ [])
+shared_line_of (LoadRef a b) = line (codes "load_ref") (InCell a ∷ Index b ∷ [])
+shared_line_of (Exchange a b c) = line (codes "exchange") (Index a ∷ InCell b ∷ Index c ∷ [])
+shared_line_of (Raise a b) = line (codes "raise") (Index a ∷ Index b ∷ [])
+shared_line_of (RaiseLoaded a) = line (codes "raise_loaded") (Index a ∷ [])
+shared_line_of (Lower a) = line (codes "lower") (Index a ∷ [])
+shared_line_of (New a b c d) = line (codes "new") (Index a ∷ Index b ∷ Index c ∷ Index d ∷ [])
+shared_line_of (TakeCell a b c) = line (codes "take_cell") (Index a ∷ InCell b ∷ Index c ∷ [])
+shared_line_of (TakeLocal a b c) = line (codes "take_local") (Index a ∷ Index b ∷ Index c ∷ [])
+shared_line_of (TestSole a b) = line (codes "test_sole") (Index a ∷ Index b ∷ [])
+shared_line_of (Clear a b) = line (codes "clear") (Index a ∷ Index b ∷ [])
+shared_line_of (Give a b) = line (codes "give") (Index a ∷ Index b ∷ [])
+shared_line_of (Free a b c) = line (codes "free") (Index a ∷ Index b ∷ Index c ∷ [])
+shared_line_of (Lock a b) = line (codes "lock") (InCell a ∷ Index b ∷ [])
+shared_line_of (Unlock a b c) = line (codes "unlock") (Index a ∷ InCell b ∷ Index c ∷ [])
+shared_line_of (Spawn a b c d) = line (codes "spawn") (Index a ∷ Index b ∷ OfRegister c ∷ Index d ∷ [])
+shared_line_of (Join a b) = line (codes "join") (Index a ∷ Index b ∷ [])
+shared_line_of (Print a b) = line (codes "print") (Index a ∷ Index b ∷ [])
+shared_line_of (Start a) = line (codes "start") (Index a ∷ [])
+shared_line_of Exit = line (codes "exit") ([])
+shared_line_of (CondEnter a b) = line (codes "cond_enter") (InCell a ∷ Index b ∷ [])
+shared_line_of (CondWait a b) = line (codes "cond_wait") (InCell a ∷ Index b ∷ [])
+shared_line_of (CondSignal a b) = line (codes "cond_signal") (InCell a ∷ Index b ∷ [])
+shared_line_of (CondBroadcast a b) = line (codes "cond_broadcast") (InCell a ∷ Index b ∷ [])
+shared_line_of _ = []
+
+-- those of registers alone, and the others
 abbrev pub line_of : Instr → List ℕ
 line_of (Constant a b) = line (codes "constant") (Index a ∷ Value b ∷ [])
 line_of (Move a b) = line (codes "move") (Index a ∷ Index b ∷ [])
@@ -86,35 +119,7 @@ line_of (ChkPositive a b) = line (codes "chk_positive") (Index a ∷ Index b ∷
 line_of (ChkRoom a) = line (codes "chk_room") (Index a ∷ [])
 line_of (ChkLock a b) = line (codes "chk_lock") (InCell a ∷ Index b ∷ [])
 line_of (ChkLockLoaded a) = line (codes "chk_lock_loaded") (Index a ∷ [])
-line_of (Bounds a b c d e) = line (codes "bounds") (Index a ∷ Index b ∷ Index c ∷ Index d ∷ Index e ∷ [])
-line_of (GlobalBounds a b c d e) = line (codes "global_bounds") (Index a ∷ Index b ∷ Index c ∷ Index d ∷ Index e ∷ [])
-line_of (ChkRead a b) = line (codes "chk_read") (InCell a ∷ Index b ∷ [])
-line_of (ChkWrite a b) = line (codes "chk_write") (InCell a ∷ Index b ∷ [])
-line_of (Load a b c) = line (codes "load") (Index a ∷ InCell b ∷ Index c ∷ [])
-line_of (Store a b c) = line (codes "store") (Index a ∷ InCell b ∷ Index c ∷ [])
-line_of (LoadRef a b) = line (codes "load_ref") (InCell a ∷ Index b ∷ [])
-line_of (Exchange a b c) = line (codes "exchange") (Index a ∷ InCell b ∷ Index c ∷ [])
-line_of (Raise a b) = line (codes "raise") (Index a ∷ Index b ∷ [])
-line_of (RaiseLoaded a) = line (codes "raise_loaded") (Index a ∷ [])
-line_of (Lower a) = line (codes "lower") (Index a ∷ [])
-line_of (New a b c d) = line (codes "new") (Index a ∷ Index b ∷ Index c ∷ Index d ∷ [])
-line_of (TakeCell a b c) = line (codes "take_cell") (Index a ∷ InCell b ∷ Index c ∷ [])
-line_of (TakeLocal a b c) = line (codes "take_local") (Index a ∷ Index b ∷ Index c ∷ [])
-line_of (TestSole a b) = line (codes "test_sole") (Index a ∷ Index b ∷ [])
-line_of (Clear a b) = line (codes "clear") (Index a ∷ Index b ∷ [])
-line_of (Give a b) = line (codes "give") (Index a ∷ Index b ∷ [])
-line_of (Free a b c) = line (codes "free") (Index a ∷ Index b ∷ Index c ∷ [])
-line_of (Lock a b) = line (codes "lock") (InCell a ∷ Index b ∷ [])
-line_of (Unlock a b c) = line (codes "unlock") (Index a ∷ InCell b ∷ Index c ∷ [])
-line_of (Spawn a b c d) = line (codes "spawn") (Index a ∷ Index b ∷ OfRegister c ∷ Index d ∷ [])
-line_of (Join a b) = line (codes "join") (Index a ∷ Index b ∷ [])
-line_of (Print a b) = line (codes "print") (Index a ∷ Index b ∷ [])
-line_of (Start a) = line (codes "start") (Index a ∷ [])
-line_of Exit = line (codes "exit") ([])
-line_of (CondEnter a b) = line (codes "cond_enter") (InCell a ∷ Index b ∷ [])
-line_of (CondWait a b) = line (codes "cond_wait") (InCell a ∷ Index b ∷ [])
-line_of (CondSignal a b) = line (codes "cond_signal") (InCell a ∷ Index b ∷ [])
-line_of (CondBroadcast a b) = line (codes "cond_broadcast") (InCell a ∷ Index b ∷ [])
+line_of instr = shared_line_of instr
 
 abbrev pub listing_of : Code → List ℕ
 listing_of code = flat_map line_of code.instrs.items

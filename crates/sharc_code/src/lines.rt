@@ -1,11 +1,14 @@
 //! The text of code.
 
 ghost use Rattle.std.specs.Prelude.{◌≡◌, ◌++◌, IfOk, OnOk, decimal, codes};
+ghost use Rattle.std.specs.List.{flat_map};
 ghost use Rattle.std.specs.Fmt.{signed_decimal};
-ghost use Rattle.sharc_code.specs.Listing.{operator_text, width_text, pair_text, cell_text, register_text, operand_text, line, line_of, listing_of};
+ghost use Rattle.sharc_code.specs.Listing.{operator_text, width_text, pair_text, cell_text, register_text, operand_text, line, line_of, shared_line_of, listing_of};
+ghost use Rattle.sharc_code.specs.declared.lines.Operand.TheVariants.{Index};
 
 use crate::code::Code;
 use crate::instr::{Cell, Instr, Operator, Register, Width};
+use Operand::{By, Fits, InCell, Index, OfRegister, Value};
 use itoa::Buffer;
 use std::alloc::{AllocError, Global};
 
@@ -40,6 +43,17 @@ fn put_line(text: &mut Vec<u8>, word: &[u8], operands: &[Operand]) -> Result<(),
     text.extend_from_slice(word)?;
     for operand in operands {
         put_operand(text, *operand)?;
+    }
+    text.extend_from_slice(b"\n")
+}
+
+// The same where each operand is an index.
+fn put_indices(text: &mut Vec<u8>, word: &[u8], indices: &[u32]) -> Result<(), AllocError>
+    ensures { OnOk result (text.new.items ≡ text.old.items ++ (word.now ++ flat_map (λ n. operand_text (Index n)) indices.now ++ codes "\n")) }
+{
+    text.extend_from_slice(word)?;
+    for index in indices {
+        put_number(text, *index)?;
     }
     text.extend_from_slice(b"\n")
 }
@@ -145,241 +159,80 @@ fn put_instr(text: &mut Vec<u8>, instr: Instr) -> Result<(), AllocError>
     ensures { OnOk result (text.new.items ≡ text.old.items ++ line_of instr) }
 {
     match instr {
-        Instr::Constant(a, b) => put_line(
-            text,
-            b"constant",
-            &[Operand::Index(a), Operand::Value(b)],
-        ),
-        Instr::Move(a, b) => put_line(text, b"move", &[Operand::Index(a), Operand::Index(b)]),
-        Instr::MoveReference(a, b) => put_line(
-            text,
-            b"move_reference",
-            &[Operand::Index(a), Operand::Index(b)],
-        ),
-        Instr::Null(a) => put_line(text, b"null", &[Operand::Index(a)]),
+        Instr::Constant(a, b) => put_line(text, b"constant", &[Index(a), Value(b)]),
+        Instr::Move(a, b) => put_indices(text, b"move", &[a, b]),
+        Instr::MoveReference(a, b) => put_indices(text, b"move_reference", &[a, b]),
+        Instr::Null(a) => put_indices(text, b"null", &[a]),
         Instr::ComputeInt(a, b, c, d, e) => put_line(
             text,
             b"compute_int",
-            &[
-                Operand::By(a),
-                Operand::Index(b),
-                Operand::Index(c),
-                Operand::Index(d),
-                Operand::Index(e),
-            ],
+            &[By(a), Index(b), Index(c), Index(d), Index(e)],
         ),
         Instr::ComputeLong(a, b, c, d, e) => put_line(
             text,
             b"compute_long",
-            &[
-                Operand::By(a),
-                Operand::Index(b),
-                Operand::Index(c),
-                Operand::Index(d),
-                Operand::Index(e),
-            ],
+            &[By(a), Index(b), Index(c), Index(d), Index(e)],
         ),
-        Instr::NegateInt(a, b, c) => put_line(
-            text,
-            b"negate_int",
-            &[Operand::Index(a), Operand::Index(b), Operand::Index(c)],
-        ),
-        Instr::NegateLong(a, b, c) => put_line(
-            text,
-            b"negate_long",
-            &[Operand::Index(a), Operand::Index(b), Operand::Index(c)],
-        ),
-        Instr::Complement(a, b) => put_line(
-            text,
-            b"complement",
-            &[Operand::Index(a), Operand::Index(b)],
-        ),
-        Instr::Not(a, b) => put_line(text, b"not", &[Operand::Index(a), Operand::Index(b)]),
-        Instr::SameReference(a, b, c) => put_line(
-            text,
-            b"same_reference",
-            &[Operand::Index(a), Operand::Index(b), Operand::Index(c)],
-        ),
-        Instr::ChkWidth(a, b, c) => put_line(
-            text,
-            b"chk_width",
-            &[Operand::Fits(a), Operand::Index(b), Operand::Index(c)],
-        ),
-        Instr::Jump(a) => put_line(text, b"jump", &[Operand::Index(a)]),
-        Instr::JumpIfZero(a, b) => put_line(
-            text,
-            b"jump_if_zero",
-            &[Operand::Index(a), Operand::Index(b)],
-        ),
-        Instr::JumpIfNull(a, b) => put_line(
-            text,
-            b"jump_if_null",
-            &[Operand::Index(a), Operand::Index(b)],
-        ),
-        Instr::Call(a, b, c, d) => put_line(
-            text,
-            b"call",
-            &[
-                Operand::Index(a),
-                Operand::Index(b),
-                Operand::Index(c),
-                Operand::Index(d),
-            ],
-        ),
-        Instr::Return(a) => put_line(text, b"return", &[Operand::Index(a)]),
-        Instr::ChkNull(a, b) => put_line(
-            text,
-            b"chk_null",
-            &[Operand::Index(a), Operand::Index(b)],
-        ),
-        Instr::ChkHeld(a, b) => put_line(
-            text,
-            b"chk_held",
-            &[Operand::InCell(a), Operand::Index(b)],
-        ),
-        Instr::ChkNotHeld(a, b) => put_line(
-            text,
-            b"chk_not_held",
-            &[Operand::InCell(a), Operand::Index(b)],
-        ),
-        Instr::ChkPositive(a, b) => put_line(
-            text,
-            b"chk_positive",
-            &[Operand::Index(a), Operand::Index(b)],
-        ),
-        Instr::ChkRoom(a) => put_line(text, b"chk_room", &[Operand::Index(a)]),
-        Instr::ChkLock(a, b) => put_line(
-            text,
-            b"chk_lock",
-            &[Operand::InCell(a), Operand::Index(b)],
-        ),
-        Instr::ChkLockLoaded(a) => put_line(text, b"chk_lock_loaded", &[Operand::Index(a)]),
-        Instr::Bounds(a, b, c, d, e) => put_line(
-            text,
-            b"bounds",
-            &[
-                Operand::Index(a),
-                Operand::Index(b),
-                Operand::Index(c),
-                Operand::Index(d),
-                Operand::Index(e),
-            ],
-        ),
-        Instr::GlobalBounds(a, b, c, d, e) => put_line(
-            text,
-            b"global_bounds",
-            &[
-                Operand::Index(a),
-                Operand::Index(b),
-                Operand::Index(c),
-                Operand::Index(d),
-                Operand::Index(e),
-            ],
-        ),
-        Instr::ChkRead(a, b) => put_line(
-            text,
-            b"chk_read",
-            &[Operand::InCell(a), Operand::Index(b)],
-        ),
-        Instr::ChkWrite(a, b) => put_line(
-            text,
-            b"chk_write",
-            &[Operand::InCell(a), Operand::Index(b)],
-        ),
-        Instr::Load(a, b, c) => put_line(
-            text,
-            b"load",
-            &[Operand::Index(a), Operand::InCell(b), Operand::Index(c)],
-        ),
-        Instr::Store(a, b, c) => put_line(
-            text,
-            b"store",
-            &[Operand::Index(a), Operand::InCell(b), Operand::Index(c)],
-        ),
-        Instr::LoadRef(a, b) => put_line(
-            text,
-            b"load_ref",
-            &[Operand::InCell(a), Operand::Index(b)],
-        ),
-        Instr::Exchange(a, b, c) => put_line(
-            text,
-            b"exchange",
-            &[Operand::Index(a), Operand::InCell(b), Operand::Index(c)],
-        ),
-        Instr::Raise(a, b) => put_line(text, b"raise", &[Operand::Index(a), Operand::Index(b)]),
-        Instr::RaiseLoaded(a) => put_line(text, b"raise_loaded", &[Operand::Index(a)]),
-        Instr::Lower(a) => put_line(text, b"lower", &[Operand::Index(a)]),
-        Instr::New(a, b, c, d) => put_line(
-            text,
-            b"new",
-            &[
-                Operand::Index(a),
-                Operand::Index(b),
-                Operand::Index(c),
-                Operand::Index(d),
-            ],
-        ),
-        Instr::TakeCell(a, b, c) => put_line(
-            text,
-            b"take_cell",
-            &[Operand::Index(a), Operand::InCell(b), Operand::Index(c)],
-        ),
-        Instr::TakeLocal(a, b, c) => put_line(
-            text,
-            b"take_local",
-            &[Operand::Index(a), Operand::Index(b), Operand::Index(c)],
-        ),
-        Instr::TestSole(a, b) => put_line(
-            text,
-            b"test_sole",
-            &[Operand::Index(a), Operand::Index(b)],
-        ),
-        Instr::Clear(a, b) => put_line(text, b"clear", &[Operand::Index(a), Operand::Index(b)]),
-        Instr::Give(a, b) => put_line(text, b"give", &[Operand::Index(a), Operand::Index(b)]),
-        Instr::Free(a, b, c) => put_line(
-            text,
-            b"free",
-            &[Operand::Index(a), Operand::Index(b), Operand::Index(c)],
-        ),
-        Instr::Lock(a, b) => put_line(text, b"lock", &[Operand::InCell(a), Operand::Index(b)]),
-        Instr::Unlock(a, b, c) => put_line(
-            text,
-            b"unlock",
-            &[Operand::Index(a), Operand::InCell(b), Operand::Index(c)],
-        ),
+        Instr::NegateInt(a, b, c) => put_indices(text, b"negate_int", &[a, b, c]),
+        Instr::NegateLong(a, b, c) => put_indices(text, b"negate_long", &[a, b, c]),
+        Instr::Complement(a, b) => put_indices(text, b"complement", &[a, b]),
+        Instr::Not(a, b) => put_indices(text, b"not", &[a, b]),
+        Instr::SameReference(a, b, c) => put_indices(text, b"same_reference", &[a, b, c]),
+        Instr::ChkWidth(a, b, c) => put_line(text, b"chk_width", &[Fits(a), Index(b), Index(c)]),
+        Instr::Jump(a) => put_indices(text, b"jump", &[a]),
+        Instr::JumpIfZero(a, b) => put_indices(text, b"jump_if_zero", &[a, b]),
+        Instr::JumpIfNull(a, b) => put_indices(text, b"jump_if_null", &[a, b]),
+        Instr::Call(a, b, c, d) => put_indices(text, b"call", &[a, b, c, d]),
+        Instr::Return(a) => put_indices(text, b"return", &[a]),
+        Instr::ChkNull(a, b) => put_indices(text, b"chk_null", &[a, b]),
+        Instr::ChkHeld(a, b) => put_line(text, b"chk_held", &[InCell(a), Index(b)]),
+        Instr::ChkNotHeld(a, b) => put_line(text, b"chk_not_held", &[InCell(a), Index(b)]),
+        Instr::ChkPositive(a, b) => put_indices(text, b"chk_positive", &[a, b]),
+        Instr::ChkRoom(a) => put_indices(text, b"chk_room", &[a]),
+        Instr::ChkLock(a, b) => put_line(text, b"chk_lock", &[InCell(a), Index(b)]),
+        Instr::ChkLockLoaded(a) => put_indices(text, b"chk_lock_loaded", &[a]),
+        _ => put_shared(text, instr),
+    }
+}
+
+// The line of an instruction of more than registers; nothing for one of registers alone.
+fn put_shared(text: &mut Vec<u8>, instr: Instr) -> Result<(), AllocError>
+    ensures { OnOk result (text.new.items ≡ text.old.items ++ shared_line_of instr) }
+{
+    match instr {
+        Instr::Bounds(a, b, c, d, e) => put_indices(text, b"bounds", &[a, b, c, d, e]),
+        Instr::GlobalBounds(a, b, c, d, e) => put_indices(text, b"global_bounds", &[a, b, c, d, e]),
+        Instr::ChkRead(a, b) => put_line(text, b"chk_read", &[InCell(a), Index(b)]),
+        Instr::ChkWrite(a, b) => put_line(text, b"chk_write", &[InCell(a), Index(b)]),
+        Instr::Load(a, b, c) => put_line(text, b"load", &[Index(a), InCell(b), Index(c)]),
+        Instr::Store(a, b, c) => put_line(text, b"store", &[Index(a), InCell(b), Index(c)]),
+        Instr::LoadRef(a, b) => put_line(text, b"load_ref", &[InCell(a), Index(b)]),
+        Instr::Exchange(a, b, c) => put_line(text, b"exchange", &[Index(a), InCell(b), Index(c)]),
+        Instr::Raise(a, b) => put_indices(text, b"raise", &[a, b]),
+        Instr::RaiseLoaded(a) => put_indices(text, b"raise_loaded", &[a]),
+        Instr::Lower(a) => put_indices(text, b"lower", &[a]),
+        Instr::New(a, b, c, d) => put_indices(text, b"new", &[a, b, c, d]),
+        Instr::TakeCell(a, b, c) => put_line(text, b"take_cell", &[Index(a), InCell(b), Index(c)]),
+        Instr::TakeLocal(a, b, c) => put_indices(text, b"take_local", &[a, b, c]),
+        Instr::TestSole(a, b) => put_indices(text, b"test_sole", &[a, b]),
+        Instr::Clear(a, b) => put_indices(text, b"clear", &[a, b]),
+        Instr::Give(a, b) => put_indices(text, b"give", &[a, b]),
+        Instr::Free(a, b, c) => put_indices(text, b"free", &[a, b, c]),
+        Instr::Lock(a, b) => put_line(text, b"lock", &[InCell(a), Index(b)]),
+        Instr::Unlock(a, b, c) => put_line(text, b"unlock", &[Index(a), InCell(b), Index(c)]),
         Instr::Spawn(a, b, c, d) => put_line(
             text,
             b"spawn",
-            &[
-                Operand::Index(a),
-                Operand::Index(b),
-                Operand::OfRegister(c),
-                Operand::Index(d),
-            ],
+            &[Index(a), Index(b), OfRegister(c), Index(d)],
         ),
-        Instr::Join(a, b) => put_line(text, b"join", &[Operand::Index(a), Operand::Index(b)]),
-        Instr::Print(a, b) => put_line(text, b"print", &[Operand::Index(a), Operand::Index(b)]),
-        Instr::Start(a) => put_line(text, b"start", &[Operand::Index(a)]),
+        Instr::Join(a, b) => put_indices(text, b"join", &[a, b]),
+        Instr::Print(a, b) => put_indices(text, b"print", &[a, b]),
+        Instr::Start(a) => put_indices(text, b"start", &[a]),
         Instr::Exit => put_line(text, b"exit", &[]),
-        Instr::CondEnter(a, b) => put_line(
-            text,
-            b"cond_enter",
-            &[Operand::InCell(a), Operand::Index(b)],
-        ),
-        Instr::CondWait(a, b) => put_line(
-            text,
-            b"cond_wait",
-            &[Operand::InCell(a), Operand::Index(b)],
-        ),
-        Instr::CondSignal(a, b) => put_line(
-            text,
-            b"cond_signal",
-            &[Operand::InCell(a), Operand::Index(b)],
-        ),
-        Instr::CondBroadcast(a, b) => put_line(
-            text,
-            b"cond_broadcast",
-            &[Operand::InCell(a), Operand::Index(b)],
-        ),
+        Instr::CondEnter(a, b) => put_line(text, b"cond_enter", &[InCell(a), Index(b)]),
+        Instr::CondWait(a, b) => put_line(text, b"cond_wait", &[InCell(a), Index(b)]),
+        Instr::CondSignal(a, b) => put_line(text, b"cond_signal", &[InCell(a), Index(b)]),
+        Instr::CondBroadcast(a, b) => put_line(text, b"cond_broadcast", &[InCell(a), Index(b)]),
+        _ => Ok(()),
     }
 }

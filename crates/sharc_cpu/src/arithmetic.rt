@@ -1,6 +1,6 @@
 //! What operators make of integers, and integers as words.
 
-ghost use Rattle.std.specs.Prelude.{◌≡◌, ◌<◌, ◌+◌, ◌^◌, ◌*ℤ◌, pos};
+ghost use Rattle.std.specs.Prelude.{◌≡◌, ◌==◌, ◌<◌, ◌+◌, ◌^◌, ◌*ℤ◌, pos};
 ghost use Rattle.sharc_cpu.specs.Shifts.{is_count};
 ghost use Rattle.sharc_code.specs.declared.instr.Operator.TheVariants as operators;
 ghost use Rattle.sharc_code.specs.Arithmetic.{word_of, int_of, holds, is_zero, truth, in_range, computed, negated, complement, value_bits};
@@ -31,12 +31,28 @@ pub(crate) fn is_zero(value: i64) -> bool
     value == 0
 }
 
-/// A truth as an integer.
+// A truth as an integer.
 #[inline(always)]
-pub(crate) fn truth(is: bool) -> i64
+fn truth(is: bool) -> i64
     ensures { result ≡ truth is }
 {
     if is { 1 } else { 0 }
+}
+
+/// 1 for 0, else 0.
+#[inline(always)]
+pub(crate) fn logical_not(value: i64) -> i64
+    ensures { result ≡ truth (is_zero value) }
+{
+    truth(is_zero(value))
+}
+
+/// 1 where two references are the same, else 0.
+#[inline(always)]
+pub(crate) fn same(left: u64, right: u64) -> i64
+    ensures { result ≡ truth (left == right) }
+{
+    truth(left == right)
 }
 
 /// All bits turned.

@@ -25,6 +25,14 @@ pub(crate) fn ask<P: Port>(port: &mut P, step: WordStep) -> u64
     port.step(step)
 }
 
+/// A step of a thread on a word.
+#[inline(always)]
+pub(crate) fn step_of(word: u32, op: WordOp) -> WordStep
+    ensures { result ≡ step_of word op }
+{
+    WordStep { word, op }
+}
+
 // The number of a cell, counted from the first cell of granule 0, or the largest number where it is larger.
 #[inline(always)]
 fn place(at: At, parts: &Parts, cell: Cell) -> u64

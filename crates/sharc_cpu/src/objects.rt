@@ -8,15 +8,15 @@ ghost use Rattle.sharc_code.specs.Layout.{IsShape, granules, first_cell, granule
 ghost use Rattle.sharc_code.specs.Machine.{size_of, elements_of, all_cells, made, goes_on_new, asks_new, new, data_granules, data_granule, looks, clear, layout_at, pointer_cell, fields, free_looks, empties, emptied, free_size, free_head, freed, free, ref, int};
 ghost use Rattle.sharc_cpu.specs.View.{rest_of, machine_of, IsWithin, Makes, KeepsPort};
 
-use crate::cells::ask;
+use crate::cells::{ask, step_of};
 use crate::parts::Parts;
-use crate::places::{Done, local};
+use crate::places::{Done, after_step, local};
 use crate::turns::{at_stage, field_of, rests, trapped};
 use sharc_code::{At, Code, Layout, Shape, Stage, cell_of};
 use sharc_granule::{NewState, NewTurn, block};
 use sharc_shadow::cleared;
 use sharc_tree::trap::Trap;
-use sharc_word::{Port, WordOp, WordStep};
+use sharc_word::{Port, WordOp};
 
 // ---- new objects
 
@@ -330,38 +330,18 @@ pub(crate) fn clear<P: Port>(
     let header = parts.reference(at, register);
     match parts.stage {
         Stage::Looks(done, all) => {
-            let word = data_word(shape, header, done);
-            let found = ask(
-                port,
-                WordStep {
-                    word,
-                    op: WordOp::Load,
-                },
-            );
+            let found = ask(port, step_of(data_word(shape, header, done), WordOp::Load));
             let at = at_stage(at, parts, Stage::Clears(done, all, found));
             Done { at, found }
         }
         Stage::Clears(done, all, seen) => {
             let word = data_word(shape, header, done);
-            let found = ask(
-                port,
-                WordStep {
-                    word,
-                    op: WordOp::Swap(cleared(seen)),
-                },
-            );
+            let found = ask(port, step_of(word, WordOp::Swap(cleared(seen))));
             let at = looks_on(at, parts, done, all);
             Done { at, found }
         }
         _ => {
-            let word = shape.length_word(header);
-            let found = ask(
-                port,
-                WordStep {
-                    word,
-                    op: WordOp::Load,
-                },
-            );
+            let found = ask(port, step_of(shape.length_word(header), WordOp::Load));
             let at = looks(at, parts, 0, data_granules(found, cells));
             Done { at, found }
         }
@@ -391,82 +371,36 @@ pub(crate) fn free<P: Port>(
     match parts.stage {
         Stage::Empties(i, elements) => {
             let cell = cell_of(header, pointer_cell(code, layout, i));
-            let word = shape.cell_word(cell);
-            let found = ask(
-                port,
-                WordStep {
-                    word,
-                    op: WordOp::Swap(0),
-                },
-            );
-            let at = emptied(at, parts, layout, i, elements, found);
-            Done { at, found }
+            let found = ask(port, step_of(shape.cell_word(cell), WordOp::Swap(0)));
+            after_step(emptied(at, parts, layout, i, elements, found), found)
         }
         Stage::Lowers(i, elements, of) => {
             let found = ask(port, sharc_count::lower(shape.count_word(of)));
-            let at = empties_on(at, parts, layout, i, elements);
-            Done { at, found }
+            after_step(empties_on(at, parts, layout, i, elements), found)
         }
         Stage::FreeLooks(done, elements) => {
-            let word = data_word(shape, header, done);
-            let found = ask(
-                port,
-                WordStep {
-                    word,
-                    op: WordOp::Load,
-                },
-            );
-            let at = at_stage(at, parts, Stage::FreeClears(done, elements, found));
-            Done { at, found }
+            let found = ask(port, step_of(data_word(shape, header, done), WordOp::Load));
+            let looked = Stage::FreeClears(done, elements, found);
+            after_step(at_stage(at, parts, looked), found)
         }
         Stage::FreeClears(done, elements, seen) => {
             let word = data_word(shape, header, done);
-            let found = ask(
-                port,
-                WordStep {
-                    word,
-                    op: WordOp::Swap(cleared(seen)),
-                },
-            );
-            let at = free_looks_on(at, parts, layout, done, elements);
-            Done { at, found }
+            let found = ask(port, step_of(word, WordOp::Swap(cleared(seen))));
+            after_step(free_looks_on(at, parts, layout, done, elements), found)
         }
         Stage::Uncounts(elements) => {
-            let word = shape.count_word(header);
-            let found = ask(
-                port,
-                WordStep {
-                    word,
-                    op: WordOp::Swap(0),
-                },
-            );
-            let at = at_stage(at, parts, Stage::Links(elements));
-            Done { at, found }
+            let found = ask(port, step_of(shape.count_word(header), WordOp::Swap(0)));
+            after_step(at_stage(at, parts, Stage::Links(elements)), found)
         }
         Stage::Links(elements) => {
             let word = shape.length_word(header);
             let head = parts.head(free_size(layout, elements));
-            let found = ask(
-                port,
-                WordStep {
-                    word,
-                    op: WordOp::Swap(head),
-                },
-            );
-            let at = freed(at, parts, register, layout, elements);
-            Done { at, found }
+            let found = ask(port, step_of(word, WordOp::Swap(head)));
+            after_step(freed(at, parts, register, layout, elements), found)
         }
         _ => {
-            let word = shape.length_word(header);
-            let found = ask(
-                port,
-                WordStep {
-                    word,
-                    op: WordOp::Load,
-                },
-            );
-            let at = empties(at, parts, layout, 0, found);
-            Done { at, found }
+            let found = ask(port, step_of(shape.length_word(header), WordOp::Load));
+            after_step(empties(at, parts, layout, 0, found), found)
         }
     }
 }

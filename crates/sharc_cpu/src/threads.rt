@@ -9,7 +9,7 @@ ghost use Rattle.sharc_code.specs.Machine.{Asks, step_of, int, argument, handed,
 ghost use Rattle.sharc_cpu.specs.View.{rest_of, machine_of, IsWithin, Makes, KeepsPort};
 
 use crate::arithmetic::{int_of, word_of};
-use crate::cells::ask;
+use crate::cells::{ask, step_of};
 use crate::checks::wrote;
 use crate::parts::Parts;
 use crate::places::{Done, ends, local, next, settle, tries};
@@ -20,7 +20,7 @@ use sharc_code::{
 };
 use sharc_shadow::withdrawn;
 use sharc_tree::trap::Trap;
-use sharc_word::{Port, THREADS, WordOp, WordStep};
+use sharc_word::{Port, THREADS, WordOp};
 
 // ---- spawn
 
@@ -229,50 +229,27 @@ pub(crate) fn spawn<P: Port>(
 {
     match parts.stage {
         Stage::Names(n) => {
-            let word = function_word(n);
-            let found = ask(
-                port,
-                WordStep {
-                    word,
-                    op: WordOp::Swap(u64::from(function)),
-                },
-            );
+            let name = WordOp::Swap(u64::from(function));
+            let found = ask(port, step_of(function_word(n), name));
             let at = at_stage(at, parts, Stage::Hands(n));
             Done { at, found }
         }
         Stage::Hands(n) => {
             let word = argument_word(n);
             let argument = argument(at, parts, from);
-            let found = ask(
-                port,
-                WordStep {
-                    word,
-                    op: WordOp::Swap(argument),
-                },
-            );
+            let found = ask(port, step_of(word, WordOp::Swap(argument)));
             let at = at_stage(at, parts, Stage::Begins(n));
             Done { at, found }
         }
         Stage::Begins(n) => {
-            let word = state_word(n);
-            let found = ask(
-                port,
-                WordStep {
-                    word,
-                    op: WordOp::Swap(1),
-                },
-            );
+            let found = ask(port, step_of(state_word(n), WordOp::Swap(1)));
             hand(at, parts, from);
             parts.set_int(at, register, i64::from(n));
             let at = rests(at, parts);
             Done { at, found }
         }
         _ => {
-            let step = WordStep {
-                word: NEXT_THREAD,
-                op: WordOp::Add(1),
-            };
-            let found = ask(port, step);
+            let found = ask(port, step_of(NEXT_THREAD, WordOp::Add(1)));
             let at = numbered(at, parts, site, found);
             Done { at, found }
         }
@@ -300,14 +277,7 @@ pub(crate) fn join<P: Port>(
     if number < 0 || number >= i64::from(THREADS) {
         return local(trapped(at, parts, Trap::NoSuchThread, site));
     }
-    let word = state_word(number as u32);
-    let found = ask(
-        port,
-        WordStep {
-            word,
-            op: WordOp::Load,
-        },
-    );
+    let found = ask(port, step_of(state_word(number as u32), WordOp::Load));
     let at = joined(at, parts, site, found);
     Done { at, found }
 }
@@ -330,11 +300,7 @@ pub(crate) fn print<P: Port>(
     ensures room { vec_capacity parts.new.prints ≡ vec_capacity parts.old.prints }
 {
     let value = parts.int(at, register);
-    let step = WordStep {
-        word: PRINTS,
-        op: WordOp::Add(1),
-    };
-    let found = ask(port, step);
+    let found = ask(port, step_of(PRINTS, WordOp::Add(1)));
     parts.print(found, value);
     Done {
         at: next(at),
@@ -362,26 +328,12 @@ pub(crate) fn start<P: Port>(
 {
     match parts.stage {
         Stage::Enters(function) => {
-            let word = argument_word(parts.number);
-            let found = ask(
-                port,
-                WordStep {
-                    word,
-                    op: WordOp::Load,
-                },
-            );
+            let found = ask(port, step_of(argument_word(parts.number), WordOp::Load));
             let at = entered(code, at, parts, function, site, found);
             Done { at, found }
         }
         _ => {
-            let word = function_word(parts.number);
-            let found = ask(
-                port,
-                WordStep {
-                    word,
-                    op: WordOp::Load,
-                },
-            );
+            let found = ask(port, step_of(function_word(parts.number), WordOp::Load));
             let function = function_at(code, found);
             let at = at_stage(at, parts, Stage::Enters(function));
             Done { at, found }
@@ -402,50 +354,24 @@ pub(crate) fn exit<P: Port>(shape: Shape, at: At, parts: &mut Parts, port: &mut 
     match parts.stage {
         Stage::Withdraws(row) => {
             let word = shape.shadow_word(u64::from(row_of(parts, row)));
-            let found = ask(
-                port,
-                WordStep {
-                    word,
-                    op: WordOp::Load,
-                },
-            );
+            let found = ask(port, step_of(word, WordOp::Load));
             let at = at_stage(at, parts, Stage::WithdrawsFrom(row, found));
             Done { at, found }
         }
         Stage::WithdrawsFrom(row, seen) => {
             let word = shape.shadow_word(u64::from(row_of(parts, row)));
             let without = without_own(shape, at, parts, row, seen);
-            let found = ask(
-                port,
-                WordStep {
-                    word,
-                    op: WordOp::Cas(seen, without),
-                },
-            );
+            let found = ask(port, step_of(word, WordOp::Cas(seen, without)));
             let at = withdrew(at, parts, row, seen, found);
             Done { at, found }
         }
         Stage::Leaves => {
-            let word = state_word(parts.number);
-            let found = ask(
-                port,
-                WordStep {
-                    word,
-                    op: WordOp::Swap(3),
-                },
-            );
+            let found = ask(port, step_of(state_word(parts.number), WordOp::Swap(3)));
             let at = leaves(at, parts);
             Done { at, found }
         }
         _ => {
-            let word = state_word(parts.number);
-            let found = ask(
-                port,
-                WordStep {
-                    word,
-                    op: WordOp::Swap(2),
-                },
-            );
+            let found = ask(port, step_of(state_word(parts.number), WordOp::Swap(2)));
             let at = withdraws(at, parts, 0);
             Done { at, found }
         }

@@ -1,13 +1,14 @@
 //! What turns make of a thread beside its words: how it goes on, stops, calls and returns.
 
-ghost use Rattle.std.specs.Prelude.{◌≡◌, ◌<◌, ◌+◌, ◌^◌, vec_capacity};
-ghost use Rattle.sharc_code.specs.Machine.{asserts, with_result, at_stage, rests, stopped, trapped, called, returned, has_room, holds_none, indexed, int, field_of};
+ghost use Rattle.std.specs.Prelude.{◌≡◌, ◌==◌, ◌<◌, ◌+◌, ◌^◌, vec_capacity};
+ghost use Rattle.sharc_code.specs.Arithmetic.{complement, negated, truth};
+ghost use Rattle.sharc_code.specs.Machine.{with_result, at_stage, rests, stopped, trapped, called, returned, goes, has_room, holds_none, indexed, int, ref, set_int, field_of};
 ghost use Rattle.sharc_cpu.specs.View.{machine_of};
 
-use crate::arithmetic::int_of;
+use crate::arithmetic::{complement, int_of, negated, same};
 use crate::parts::Parts;
 use crate::places::{jumps, next, stays, stops};
-use sharc_code::{At, Code, Frame, Stage, State, Stop};
+use sharc_code::{At, Code, Frame, Stage, State, Stop, Width};
 use sharc_tree::trap::Trap;
 
 /// Stops.
@@ -27,20 +28,6 @@ pub(crate) fn trapped(at: At, parts: &mut Parts, trap: Trap, site: u32) -> At
     ensures room { vec_capacity parts.new.prints ≡ vec_capacity parts.old.prints }
 {
     stopped(at, parts, Stop::Trap(trap, site))
-}
-
-/// Stops with this trap where this does not hold.
-#[inline(always)]
-pub(crate) fn asserts(at: At, parts: &mut Parts, holds: bool, trap: Trap, site: u32) -> At
-    requires place { at.pc + 1 < 2 ^ 64 }
-    ensures turn { machine_of result parts.new ≡ asserts (machine_of at parts.old) holds trap site }
-    ensures room { vec_capacity parts.new.prints ≡ vec_capacity parts.old.prints }
-{
-    if holds {
-        next(at)
-    } else {
-        trapped(at, parts, trap, site)
-    }
 }
 
 /// Keeps the value, or stops with the trap.
@@ -63,6 +50,41 @@ pub(crate) fn keep(
         }
         Err(trap) => trapped(at, parts, trap, site),
     }
+}
+
+/// To the first integer register, the negative of the second in this width.
+#[inline(always)]
+pub(crate) fn negates(at: At, parts: &mut Parts, width: Width, to: u32, from: u32, site: u32) -> At
+    requires place { at.pc + 1 < 2 ^ 64 }
+    ensures turn { machine_of result parts.new ≡ with_result (machine_of at parts.old) to site (negated width (int (machine_of at parts.old) from)) }
+    ensures room { vec_capacity parts.new.prints ≡ vec_capacity parts.old.prints }
+{
+    let value = negated(width, parts.int(at, from));
+    keep(at, parts, to, site, value)
+}
+
+/// To the first integer register, all bits of the second turned.
+#[inline(always)]
+pub(crate) fn complements(at: At, parts: &mut Parts, to: u32, from: u32) -> At
+    requires place { at.pc + 1 < 2 ^ 64 }
+    ensures turn { machine_of result parts.new ≡ goes (set_int (machine_of at parts.old) to (complement (int (machine_of at parts.old) from))) }
+    ensures room { vec_capacity parts.new.prints ≡ vec_capacity parts.old.prints }
+{
+    let value = complement(parts.int(at, from));
+    parts.set_int(at, to, value);
+    next(at)
+}
+
+/// To this integer register, whether two reference registers are the same.
+#[inline(always)]
+pub(crate) fn compares(at: At, parts: &mut Parts, to: u32, left: u32, right: u32) -> At
+    requires place { at.pc + 1 < 2 ^ 64 }
+    ensures turn { machine_of result parts.new ≡ goes (set_int (machine_of at parts.old) to (truth (ref (machine_of at parts.old) left == ref (machine_of at parts.old) right))) }
+    ensures room { vec_capacity parts.new.prints ≡ vec_capacity parts.old.prints }
+{
+    let value = same(parts.reference(at, left), parts.reference(at, right));
+    parts.set_int(at, to, value);
+    next(at)
 }
 
 /// The instruction has another turn.
