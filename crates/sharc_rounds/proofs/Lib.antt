@@ -2,6 +2,7 @@ pub mod Dealing
 pub mod Going
 pub mod Growing
 pub mod Looking
+pub mod Needing
 pub mod Places
 pub mod Rounding
 pub mod Running

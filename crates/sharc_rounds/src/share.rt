@@ -1,6 +1,7 @@
 //! How many events a thread may come to in a round.
 
-ghost use Rattle.std.specs.Prelude.{◌≤◌, ◌<◌};
+ghost use Rattle.std.specs.Prelude.{◌≡◌, ◌≤◌, ◌<◌};
+ghost use Rattle.sharc_rounds.specs.Shares.{share_until};
 
 // A round gives a thread a part of the events that are left to it: this one, and at least so many.
 const PARTS: u64 = 16;
@@ -11,6 +12,7 @@ const LEAST: u64 = 1_000;
 /// only looks again and again leaves the others many rounds to come forward in before it has made all its events.
 pub fn most_events(made: u64, limit: u64) -> u64
     requires { made ≤ limit }
+    ensures is { result ≡ share_until made limit }
     ensures from { made ≤ result }
     ensures within { result ≤ limit }
     ensures more { made < limit → made < result }

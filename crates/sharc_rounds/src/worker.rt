@@ -1,6 +1,6 @@
 //! The workers of a round: which threads each has, and what they do.
 
-ghost use Rattle.std.specs.Prelude.{◌≡◌, ◌<◌, ◌≤◌, ◌%◌, ◌^◌, ℕ, length, Option, Some, None, IfOk, slice_index_or};
+ghost use Rattle.std.specs.Prelude.{◌≡◌, ◌<◌, ◌≤◌, ◌%◌, ◌^◌, ℕ, IsSome, length, Option, Some, None, IfOk, slice_index_or};
 ghost use Rattle.sharc_word.specs.declared.step.TheConstants.{THREADS as threads};
 ghost use Rattle.sharc_code.specs.Layout.{Fits, words_of};
 ghost use Rattle.sharc_bus.specs.Bus.{SeatView};
@@ -8,6 +8,7 @@ ghost use Rattle.sharc_cpu.specs.Rows.{IsPlan};
 ghost use Rattle.sharc_rounds.specs.declared.hand.Hand.{Hand};
 ghost use Rattle.sharc_rounds.specs.declared.worker.Worker.{Worker};
 ghost use Rattle.sharc_rounds.specs.Round.{MayRunAt, HasRunAt, MayAllRun, HaveAllRun, Seat, hand_at};
+ghost use Rattle.sharc_rounds.specs.Shares.{needed};
 
 use crate::busy::Busy;
 use crate::gate::Gate;
@@ -26,19 +27,25 @@ pub(crate) struct Worker {
     pub(crate) hands: Vec<Option<Hand>>,
 }
 
-/// How many of these workers have a thread that was started, up to the last that has one: for the numbers of the threads that are there
-/// `n % workers` is the same. The others would have nothing to do.
+/// How many of these workers there are up to the last that has a thread, where thread `n` is at worker `n % workers`; at least one. The others
+/// would have nothing to do, and without them each thread has the same worker.
 pub fn workers_needed(seats: &[Option<Thread>], workers: u32) -> u32
     requires { 0 < workers }
-    ensures { 0 < result }
+    ensures is { result ≡ needed seats.now workers }
+    ensures some { 0 < result }
+    ensures same { (n : ℕ) → IsSome (slice_index_or seats.now n None) → n % result ≡ n % workers }
 {
-    let mut count = 1;
-    for n in 0..THREADS {
-        if let Some(Some(_)) = seats.get(n as usize) {
-            count = n + 1;
+    let mut behind = 0;
+    for n in 0..seats.len() {
+        if seats[n].is_some() {
+            behind = n + 1;
         }
     }
-    workers.min(count)
+    if behind < workers as usize {
+        (behind as u32).max(1)
+    } else {
+        workers
+    }
 }
 
 // One quantum of the thread at a place, if there is one.

@@ -21,7 +21,7 @@ pub gather-requires-clause-each : goal.gather-requires-clause-each
 gather-requires-clause-each g c = λ n d low.
     let a : Seat = (at_place c.reserve.new.seats.items n (omega (arith, low, c.reserve.ensures.count, c.requires.seats.count))).one in
     let p : SeatView = (at_place c.in_ok-shared.ports.items n (omega (arith, low, c.in_ok-shared.ensures.seats.all, c.in_ok-shared.ensures.shared.1))).one in
-    let some : 0 < c.workers_needed-count.result = c.workers_needed-count.ensures in
+    let some : 0 < c.workers_needed-count.result = c.workers_needed-count.ensures.some in
     has_hand c.args.code.now c.args.shape.now c.args.limit c.workers_needed-count.result c.in_ok-workers.workers.items c.run_all.new.workers.items c.reserve.new.seats.items c.in_ok-shared.ports.items
     some c.in_ok-workers.ensures.count c.run_all.ensures.count c.in_ok-workers.ensures.each c.run_all.ensures.each n d a p low
 
@@ -29,7 +29,7 @@ pub close-port-requires : goal.close-port-requires
 close-port-requires g c =
     let code = c.args.code.now in
     let s = c.args.shape.now in
-    let some : 0 < c.workers_needed-count.result = c.workers_needed-count.ensures in
+    let some : 0 < c.workers_needed-count.result = c.workers_needed-count.ensures.some in
     let ran = through code s c.args.limit c.workers_needed-count.result c.in_ok-workers.workers.items c.run_all.new.workers.items c.reserve.new.seats.items c.in_ok-shared.ports.items
     some c.in_ok-workers.ensures.count c.run_all.ensures.count c.in_ok-workers.ensures.each c.run_all.ensures.each c.in_ok-seats.seats.items c.in_ok-seats.ports.items c.in_ok-seats.ensures.each in
     are_back code s c.args.limit c.in_ok-shared.shared c.args.self.threads.seats.items c.reserve.new.seats.items c.in_ok-shared.ports.items c.requires.seats c.reserve.ensures.count c.in_ok-reserve.ensures.each
@@ -39,7 +39,7 @@ pub returns : goal.returns
 returns g c =
     let code = c.args.code.now in
     let s = c.args.shape.now in
-    let some : 0 < c.workers_needed-count.result = c.workers_needed-count.ensures in
+    let some : 0 < c.workers_needed-count.result = c.workers_needed-count.ensures.some in
     let ran = through code s c.args.limit c.workers_needed-count.result c.in_ok-workers.workers.items c.run_all.new.workers.items c.reserve.new.seats.items c.in_ok-shared.ports.items
     some c.in_ok-workers.ensures.count c.run_all.ensures.count c.in_ok-workers.ensures.each c.run_all.ensures.each c.in_ok-seats.seats.items c.in_ok-seats.ports.items c.in_ok-seats.ensures.each in
     let lists = lists_of c.in_ok-seats.ports.items in
