@@ -39,7 +39,7 @@ fn edges(alloc: Global, places: &[Place], links: &[Link]) -> Result<Vec<Edge>, A
 {
     let mut edges = Vec::new(alloc);
     for link in links {
-        if places[link.edge.from as usize].leads(link.below) {
+        if places[link.edge.from as usize].leads(link) {
             edges.push(link.edge)?;
         }
     }

@@ -54,13 +54,13 @@ impl Place {
     }
 
     /// Whether a path may go on from it by such a link.
-    pub(crate) fn leads(self, below: bool) -> bool
-        ensures { result ≡ leads self below }
+    pub(crate) fn leads(self, link: &Link) -> bool
+        ensures { result ≡ leads self link.now.below }
     {
         match self {
             Place::Root | Place::Unwritten | Place::Dynamic => true,
             Place::Private => false,
-            Place::Other => below,
+            Place::Other => link.below,
         }
     }
 }

@@ -129,6 +129,13 @@ in_head around scope h = with_names scope (behind_first around scope.names h.fir
 abbrev pub head_notes : Around → Scope → Head → List Note
 head_notes around scope h = first_notes around scope h.first ++ tests_notes (in_head around scope h) h.test ++ step_notes (in_head around scope h) h.step
 
+-- of a statement that has no other in it and declares nothing
+abbrev pub plain_notes : Around → Scope → Statement → List Note
+plain_notes around scope (simple s x) = simple_notes scope x
+plain_notes around scope (jump s j) = fault_unless around.in_loop s.first.token BadForm
+plain_notes around scope (return s e) = return_notes around scope s.first.token e
+plain_notes around scope _ = []
+
 -- the names in scope after a statement
 abbrev pub after : Around → List Entry → Statement → List Entry
 after around scope (empty s) = scope

@@ -1,12 +1,15 @@
 // The types of expressions, and the faults in them.
 
-ghost use Rattle.std.specs.Prelude.{◌≡◌, ◌&&◌, fold, is_some};
+ghost use Rattle.std.specs.Prelude.{◌≡◌, ◌&&◌, ◌++◌, fold, is_some};
+ghost use Rattle.sharc_tree.specs.Tree.{call, spawn, cast, field};
 ghost use Rattle.sharc_tree.specs.View.{view_expr, view_arguments};
 ghost use Rattle.sharc_names.specs.Names.{look_up};
+ghost use Rattle.sharc_names.specs.Needs.{met, unmet};
 ghost use Rattle.sharc_names.specs.Notes.{noted};
-ghost use Rattle.sharc_names.specs.Types.{is_fine};
+ghost use Rattle.sharc_names.specs.Types.{is_fine, name_kind, name_notes};
 ghost use Rattle.sharc_names.specs.View.{view_kind, view_kinds, view_bound, view_bounds, view_meaning, view_wanted, view_wanteds};
-ghost use Rattle.sharc_ctype.specs.Expressions.{constant_kind, number_kind, access_need, element_of, operand_need, unary_result, unary_kind, class_of, operands_need, binary_result, may_join, binary_kind, binary_notes, is_function_name, names_function, is_place, place_kind, place_notes, suits, place_call_kind, place_call_notes, value_call_kind, keeps_kind, cast_kind, cast_notes, can_spawn, spawn_notes, may_spawn, spawn_kind, spawn_wanted, takes, uncalled_notes, count_notes, callee_notes, wanted_if, wanted, call_result, call_kind, type_of, are_fine, notes_at, notes_of_all};
+ghost use Rattle.sharc_ctype.specs.declared.expr.Standing.TheVariants.{AsLvalue};
+ghost use Rattle.sharc_ctype.specs.Expressions.{constant_kind, number_kind, access_need, element_of, operand_need, unary_result, unary_kind, class_of, operands_need, binary_result, may_join, binary_kind, binary_notes, is_function_name, names_function, is_place, place_kind, place_notes, suits, place_call_kind, place_call_notes, value_call_kind, keeps_kind, cast_kind, cast_notes, can_spawn, spawn_notes, may_spawn, spawn_kind, spawn_wanted, takes, uncalled_notes, count_notes, callee_notes, wanted_if, wanted, call_result, call_kind, type_of, are_fine, notes_at, notes_of, notes_of_all};
 
 use sharc_names::fault::{FaultCode, Found};
 use sharc_names::kind::{
@@ -22,9 +25,9 @@ use sharc_names::types::{
     Role, field_in, field_kind, field_use, main_use, name_kind, name_use, written_type,
 };
 use sharc_names::wanted::{Wanted, count_of, first_wanted, rest_wanted};
-use sharc_tree::token::NumberType;
+use sharc_tree::token::{NumberType, Span};
 use sharc_tree::tree::{
-    Access, BinaryOperator, Constant, Expr, PlaceCall, UnaryOperator, WrittenType,
+    Access, BinaryOperator, Constant, Expr, Identifier, PlaceCall, UnaryOperator, WrittenType,
 };
 
 /// What an expression stands for.
@@ -214,7 +217,7 @@ fn is_place(names: &Names<'_>, expr: &Expr) -> bool
 }
 
 /// The type of an lvalue; takes note where the expression is not one.
-pub(crate) fn lvalue<'a>(
+fn place_kind<'a>(
     names: &Names<'_>,
     expr: &Expr,
     kind: Option<Kind<'a>>,
@@ -451,6 +454,17 @@ fn call_kind(kind: Option<Kind<'_>>, fine: bool) -> Option<Kind<'_>>
     if fine { kind } else { None }
 }
 
+/// The type of what a name names, and the faults of its use.
+fn name_of<'a>(scope: &Scope<'a>, name: &Identifier, found: &mut Found) -> Option<Kind<'a>>
+    ensures kind { view_kinds result ≡ name_kind (look_up scope.now.names name.now.text) }
+    ensures found { found.new ≡ fold noted found.old
+        (name_notes name.now.site.token (look_up scope.now.names name.now.text)) }
+{
+    let bound = scope.names.find(name.text.as_slice());
+    name_use(name.site.token, bound, found);
+    name_kind(bound)
+}
+
 /// The type of an expression, or none where there is a fault in it. Takes note of its faults, and of what its names name.
 #[cycle(expr)]
 pub(crate) fn expression<'a>(
@@ -463,67 +477,29 @@ pub(crate) fn expression<'a>(
     ensures found { found.new ≡ fold noted found.old (notes_at standing scope.now (view_expr expr.now)) }
 {
     match expr {
-        Expr::Identifier(_, name) => {
-            let bound = scope.names.find(name.text.as_slice());
-            name_use(name.site.token, bound, found);
-            name_kind(bound)
-        }
+        Expr::Identifier(_, name) => name_of(scope, name, found),
         Expr::Constant(_, constant) => Some(constant_kind(*constant)),
         Expr::Parentheses(_, inner) => expression(scope, standing, inner, found),
-        Expr::Call(_, name, all) => {
-            let bound = scope.names.find(name.text.as_slice());
-            let count = all.len();
-            callee(standing, name.site.token, count, bound, found);
-            let fine = arguments(scope, wanted(count, bound), all, found);
-            call_kind(call_result(count, bound), fine)
+        Expr::Call(span, name, all) => call(scope, standing, *span, name, all, found),
+        Expr::Spawn(span, name, value) => spawn(scope, *span, name, value, found),
+        Expr::OnValue(_, _, value) => value_call_kind(met(scope, Need::Integer, value, found)),
+        Expr::OnPlace(span, word, operand) => {
+            let kind = lvalue(scope, operand, found);
+            place_call_kind(span.first.token, *word, kind, found)
         }
-        Expr::Spawn(span, name, argument) => {
-            let bound = scope.names.find(name.text.as_slice());
-            let kind = expression(scope, Standing::AsValue, argument, found);
-            let kind = meet(Need::Value, argument, kind, found);
-            spawned(span.first.token, name.site.token, bound, found);
-            let agreed = agree(first_wanted(wanted(1, bound)), argument, kind, found);
-            spawn_kind(may_spawn(bound), agreed, kind)
-        }
-        Expr::OnValue(_, _, argument) => {
-            let kind = expression(scope, Standing::AsValue, argument, found);
-            value_call_kind(meet(Need::Integer, argument, kind, found))
-        }
-        Expr::OnPlace(span, call, argument) => {
-            let kind = expression(scope, Standing::AsLvalue, argument, found);
-            let kind = lvalue(&scope.names, argument, kind, found);
-            place_call_kind(span.first.token, *call, kind, found)
-        }
-        Expr::Cast(span, to, source) => {
-            let fine = written_type(scope, None, Role::Cast, to, found);
-            let kind = expression(scope, Standing::AsLvalue, source, found);
-            let kind = lvalue(&scope.names, source, kind, found);
-            cast_kind(span.first.token, fine, to, source, kind, found)
-        }
+        Expr::Cast(span, to, source) => cast(scope, *span, to, source, found),
         Expr::Index(_, base, index) => {
-            let kind = expression(scope, Standing::AsValue, base, found);
-            let element = meet(Need::Indexed, base, kind, found);
-            let kind = expression(scope, Standing::AsValue, index, found);
-            element_of(element, meet(Need::Integer, index, kind, found))
+            let element = met(scope, Need::Indexed, base, found);
+            element_of(element, met(scope, Need::Integer, index, found))
         }
         Expr::Field {
+            span,
             base,
             access,
             name,
-            ..
-        } => {
-            let kind = expression(scope, Standing::AsValue, base, found);
-            let of = meet(access_need(*access), base, kind, found);
-            let field = field_in(&scope.structs, name.text.as_slice(), of);
-            field_use(name.site.token as usize, field, found);
-            field_kind(field)
-        }
-        Expr::Unary(_, operator, operand) => {
-            let kind = expression(scope, Standing::AsValue, operand, found);
-            unary_kind(
-                *operator,
-                meet(operand_need(*operator), operand, kind, found),
-            )
+        } => field(scope, *span, base, *access, name, found),
+        Expr::Unary(_, operator, value) => {
+            unary_kind(*operator, met(scope, operand_need(*operator), value, found))
         }
         Expr::Binary {
             operator,
@@ -532,14 +508,118 @@ pub(crate) fn expression<'a>(
             ..
         } => {
             let class = class_of(*operator);
-            let need = operands_need(class);
-            let kind = expression(scope, Standing::AsValue, left, found);
-            let a = meet(need, left, kind, found);
-            let kind = expression(scope, Standing::AsValue, right, found);
-            let b = meet(need, right, kind, found);
+            let a = met(scope, operands_need(class), left, found);
+            let b = met(scope, operands_need(class), right, found);
             binary_kind(class, right, a, b, found)
         }
     }
+}
+
+/// The type of a value where it meets the need; takes note of its faults, and where it does not.
+#[cycle(expr)]
+pub(crate) fn met<'a>(
+    scope: &Scope<'a>,
+    need: Need,
+    expr: &'a Expr,
+    found: &mut Found,
+) -> Option<Kind<'a>>
+    ensures kind { view_kinds result ≡ met need (type_of scope.now (view_expr expr.now)) }
+    ensures found { let e = view_expr expr.now in
+        found.new ≡ fold noted found.old (notes_of scope.now e ++ unmet need e (type_of scope.now e)) }
+{
+    let kind = expression(scope, Standing::AsValue, expr, found);
+    meet(need, expr, kind, found)
+}
+
+/// The type of an lvalue; takes note of its faults, and where it is not one.
+#[cycle(expr)]
+pub(crate) fn lvalue<'a>(scope: &Scope<'a>, expr: &'a Expr, found: &mut Found) -> Option<Kind<'a>>
+    ensures kind { let e = view_expr expr.now in
+        view_kinds result ≡ place_kind scope.now.names e (type_of scope.now e) }
+    ensures found { let e = view_expr expr.now in
+        found.new ≡ fold noted found.old (notes_at AsLvalue scope.now e ++ place_notes scope.now.names e) }
+{
+    let kind = expression(scope, Standing::AsLvalue, expr, found);
+    place_kind(&scope.names, expr, kind, found)
+}
+
+/// The type of a call, and the faults in it.
+#[cycle(expr)]
+fn call<'a>(
+    scope: &Scope<'a>,
+    standing: Standing,
+    span: Span,
+    name: &Identifier,
+    list: &'a [Expr],
+    found: &mut Found,
+) -> Option<Kind<'a>>
+    ensures kind { view_kinds result ≡ type_of scope.now (call span name.now (view_arguments list.now)) }
+    ensures found { found.new ≡ fold noted found.old
+        (notes_at standing scope.now (call span name.now (view_arguments list.now))) }
+{
+    let bound = scope.names.find(name.text.as_slice());
+    let count = list.len();
+    callee(standing, name.site.token, count, bound, found);
+    let fine = arguments(scope, wanted(count, bound), list, found);
+    call_kind(call_result(count, bound), fine)
+}
+
+/// The type of a spawn, and the faults in it.
+#[cycle(expr)]
+fn spawn<'a>(
+    scope: &Scope<'a>,
+    span: Span,
+    name: &Identifier,
+    argument: &'a Expr,
+    found: &mut Found,
+) -> Option<Kind<'a>>
+    ensures kind { view_kinds result ≡ type_of scope.now (spawn span name.now (view_expr argument.now)) }
+    ensures found { found.new ≡ fold noted found.old
+        (notes_of scope.now (spawn span name.now (view_expr argument.now))) }
+{
+    let bound = scope.names.find(name.text.as_slice());
+    let kind = met(scope, Need::Value, argument, found);
+    spawned(span.first.token, name.site.token, bound, found);
+    let agreed = agree(first_wanted(wanted(1, bound)), argument, kind, found);
+    spawn_kind(may_spawn(bound), agreed, kind)
+}
+
+/// The type of a field, and the faults in what it is a field of.
+#[cycle(expr)]
+fn field<'a>(
+    scope: &Scope<'a>,
+    span: Span,
+    base: &'a Expr,
+    access: Access,
+    name: &Identifier,
+    found: &mut Found,
+) -> Option<Kind<'a>>
+    ensures kind { view_kinds result ≡ type_of scope.now (field span (view_expr base.now) access name.now) }
+    ensures found { found.new ≡ fold noted found.old
+        (notes_of scope.now (field span (view_expr base.now) access name.now)) }
+{
+    let of = met(scope, access_need(access), base, found);
+    let field = field_in(&scope.structs, name.text.as_slice(), of);
+    field_use(name.site.token as usize, field, found);
+    field_kind(field)
+}
+
+/// The type of a sharing cast, and the faults in it.
+#[cycle(expr)]
+fn cast<'a>(
+    scope: &Scope<'a>,
+    span: Span,
+    to: &'a WrittenType,
+    source: &'a Expr,
+    found: &mut Found,
+) -> Option<Kind<'a>>
+    ensures kind { view_kinds result ≡ type_of scope.now (cast span to.now (view_expr source.now)) }
+    ensures found { found.new ≡ fold noted found.old
+        (notes_of scope.now (cast span to.now (view_expr source.now))) }
+{
+    let fine = written_type(scope, None, Role::Cast, to, found);
+    let kind = lvalue(scope, source, found);
+    cast_kind(span.first.token, fine, to, source, kind, found)
 }
 
 /// Takes note of the faults of the arguments of a call; answers whether each has a type that agrees with its parameter.

@@ -27,13 +27,6 @@ pub(crate) struct Heads<'a> {
     pub(crate) functions: u32,
 }
 
-/// Takes note of a name that is defined a second time.
-pub(crate) fn twice(known: bool, token: u32, found: &mut Found)
-    ensures { found.new ≡ fold noted found.old (twice known token) }
-{
-    found.fault_where(known, token, FaultCode::DefinedTwice);
-}
-
 /// Takes note of a name before which there are as many as there may be.
 pub(crate) fn within(most: usize, before: usize, token: u32, found: &mut Found)
     ensures { found.new ≡ fold noted found.old (within most before token) }
@@ -52,7 +45,7 @@ fn enter<'a>(
     ensures found { OnOk result (found.new ≡ fold noted found.old (twice (is_some (look_up scope.old.names bound.entry.name.now)) token)) }
 {
     let known = scope.names.find(bound.name).is_some();
-    twice(known, token, found);
+    found.fault_where(known, token, FaultCode::DefinedTwice);
     if known {
         return Ok(());
     }
@@ -72,7 +65,8 @@ fn enter_struct<'a>(
 {
     let name = definition.name.text.as_slice();
     let known = scope.structs.find(name).is_some();
-    twice(known, definition.name.site.token, found);
+    let token = definition.name.site.token;
+    found.fault_where(known, token, FaultCode::DefinedTwice);
     if known {
         return Ok(());
     }

@@ -13,7 +13,7 @@ ghost use Rattle.sharc_ctype.specs.Statements.{with_names};
 
 use crate::condition::known_in;
 use crate::global::{global, sizes};
-use crate::head::{Heads, all_heads, twice, within};
+use crate::head::{Heads, all_heads, within};
 use crate::locals::all_locals;
 use crate::statement::{Around, declare, statements};
 use sharc_names::fault::{Fault, FaultCode, Found, Named};
@@ -43,7 +43,7 @@ fn field<'a>(
     written_type(scope, Some(all), Role::Field, &field.written, found);
     found.name(token, Named::Field(token));
     let known = earlier.find(field.name.text.as_slice()).is_some();
-    twice(known, token, found);
+    found.fault_where(known, token, FaultCode::DefinedTwice);
     within(256, earlier.len(), token, found);
     earlier.add(field)
 }

@@ -6,10 +6,10 @@ ghost use Rattle.sharc_names.specs.Kinds.{stars_of};
 ghost use Rattle.sharc_names.specs.Notes.{noted};
 ghost use Rattle.sharc_names.specs.Types.{is_fine};
 ghost use Rattle.sharc_names.specs.View.{view_kind, view_kinds, view_bounds};
-ghost use Rattle.sharc_ctype.specs.Statements.{is_here, in_block, declared, declared_notes, with_names, test_notes, count_notes, is_made, right_notes, simple_notes, is_aggregate, wanted_by, initial_notes, local_notes, returned_as, return_notes, first_notes, behind_first, tests_notes, step_notes, in_head, head_notes, after, after_all, notes_in, notes_in_all};
+ghost use Rattle.sharc_ctype.specs.Statements.{is_here, in_block, declared, declared_notes, with_names, test_notes, count_notes, is_made, right_notes, simple_notes, is_aggregate, wanted_by, initial_notes, local_notes, returned_as, return_notes, first_notes, behind_first, tests_notes, step_notes, in_head, head_notes, plain_notes, after, after_all, notes_in, notes_in_all};
 ghost use Rattle.sharc_ctype.specs.View.{view_around};
 
-use crate::expr::{Standing, expression, lvalue};
+use crate::expr::{Standing, expression, lvalue, met};
 use sharc_names::fault::{FaultCode, Found, Named};
 use sharc_names::kind::{Kind, declared_kind, is_struct_behind, root_of, same_kind};
 use sharc_names::meaning::{Bound, Meaning};
@@ -70,8 +70,7 @@ pub(crate) fn declare<'a>(
 fn test<'a>(scope: &Scope<'a>, expr: &'a Expr, found: &mut Found)
     ensures { found.new ≡ fold noted found.old (test_notes scope.now (view_expr expr.now)) }
 {
-    let kind = expression(scope, Standing::AsValue, expr, found);
-    meet(Need::Value, expr, kind, found);
+    met(scope, Need::Value, expr, found);
 }
 
 /// The faults of the number that `malloc` takes.
@@ -79,8 +78,7 @@ fn count<'a>(scope: &Scope<'a>, expr: &'a Option<Expr>, found: &mut Found)
     ensures { found.new ≡ fold noted found.old (count_notes scope.now (view_option view_expr expr.now)) }
 {
     if let Some(expr) = expr {
-        let kind = expression(scope, Standing::AsValue, expr, found);
-        meet(Need::Integer, expr, kind, found);
+        met(scope, Need::Integer, expr, found);
     }
 }
 
@@ -107,8 +105,7 @@ fn right<'a>(scope: &Scope<'a>, want: Option<Kind<'_>>, right: &'a Right, found:
 {
     match right {
         Right::Value(expr) => {
-            let kind = expression(scope, Standing::AsValue, expr, found);
-            let kind = meet(Need::Value, expr, kind, found);
+            let kind = met(scope, Need::Value, expr, found);
             agree(want, expr, kind, found);
         }
         Right::Malloc(span, n, written) => {
@@ -126,8 +123,7 @@ fn simple<'a>(scope: &Scope<'a>, simple: &'a Simple, found: &mut Found)
 {
     match simple {
         Simple::Assign(_, place, value) => {
-            let kind = expression(scope, Standing::AsLvalue, place, found);
-            let kind = lvalue(&scope.names, place, kind, found);
+            let kind = lvalue(scope, place, found);
             let want = meet(Need::Value, place, kind, found);
             right(scope, want, value, found);
         }
@@ -212,8 +208,7 @@ fn returned<'a>(
         None => found.fault_unless(void, word, FaultCode::BadForm),
         Some(expr) => {
             found.fault_where(void, word, FaultCode::BadForm);
-            let kind = expression(scope, Standing::AsValue, expr, found);
-            let kind = meet(Need::Value, expr, kind, found);
+            let kind = met(scope, Need::Value, expr, found);
             agree(returned_as(around.result), expr, kind, found);
         }
     }
@@ -292,6 +287,21 @@ fn looping<'a>(around: Around<'a>, block: usize) -> Around<'a>
     }
 }
 
+/// The faults of a statement that has no other in it and declares nothing; of every other, none.
+fn plain<'a>(scope: &Scope<'a>, around: Around<'a>, stmt: &'a Stmt, found: &mut Found)
+    ensures { found.new ≡ fold noted found.old
+        (plain_notes (view_around around.entry) scope.now (view_stmt stmt.now)) }
+{
+    match stmt {
+        Stmt::Simple(_, x) => simple(scope, x, found),
+        Stmt::Jump(span, _) => {
+            found.fault_unless(around.in_loop, span.first.token, FaultCode::BadForm);
+        }
+        Stmt::Return(span, value) => returned(scope, around, span.first.token, value, found),
+        _ => {}
+    }
+}
+
 /// The faults of a statement; the names that it declares are in scope afterwards.
 #[cycle(stmt)]
 #[tactic(auto, using(crate::proofs::ScopeLemmas::left_first, crate::proofs::ScopeLemmas::longer_first, crate::proofs::ScopeLemmas::left_after, crate::proofs::ScopeLemmas::left_all, crate::proofs::ScopeLemmas::longer_after, crate::proofs::ScopeLemmas::longer_all))]
@@ -306,29 +316,19 @@ pub(crate) fn statement<'a>(
 {
     let mark = scope.names.len();
     match stmt {
-        Stmt::Empty(_) => Ok(()),
         Stmt::Block(_, list) => {
             statements(scope, opened(around, mark), list, found)?;
             scope.names.leave(mark)?;
             Ok(())
         }
         Stmt::Declare(_, declared) => local(scope, around, declared, found),
-        Stmt::Simple(_, x) => {
-            simple(scope, x, found);
-            Ok(())
-        }
-        Stmt::Jump(span, _) => {
-            found.fault_unless(around.in_loop, span.first.token, FaultCode::BadForm);
-            Ok(())
-        }
-        Stmt::Return(span, value) => {
-            returned(scope, around, span.first.token, value, found);
+        Stmt::Empty(_) | Stmt::Simple(_, _) | Stmt::Jump(_, _) | Stmt::Return(_, _) => {
+            plain(scope, around, stmt, found);
             Ok(())
         }
         Stmt::If(_, condition, then) => {
             test(scope, condition, found);
-            statement(scope, opened(around, mark), then, found)?;
-            scope.names.leave(mark)
+            nested(scope, opened(around, mark), then, found)
         }
         Stmt::IfElse {
             test: condition,
@@ -338,13 +338,11 @@ pub(crate) fn statement<'a>(
         } => {
             test(scope, condition, found);
             nested(scope, opened(around, mark), then, found)?;
-            nested(scope, opened(around, mark), otherwise, found)?;
-            Ok(())
+            nested(scope, opened(around, mark), otherwise, found)
         }
         Stmt::While(_, condition, body) => {
             test(scope, condition, found);
-            statement(scope, looping(around, mark), body, found)?;
-            scope.names.leave(mark)
+            nested(scope, looping(around, mark), body, found)
         }
         Stmt::For(_, parts, body) => {
             head(scope, opened(around, mark), parts, found)?;

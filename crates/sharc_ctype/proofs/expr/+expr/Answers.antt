@@ -1,27 +1,39 @@
-use Rattle.std.proofs.Common.{ap, sym, ◌∙◌, ◌+◌, ◌&&◌, drop, fold, is_some}
+use Rattle.std.proofs.Common.{refl, ap, sym, ◌∙◌, ◌+◌, ◌&&◌, length, drop, fold, is_some}
 use Rattle.sharc_tree.specs.{Tree.call, View.{view_expr, view_arguments}, Children.view_call}
 use Rattle.sharc_names.specs.{declared.need.Need.TheVariants.Value, Names.look_up, Needs.{met, agreed, unagreed}, Notes.noted, View.{view_kinds, view_bounds, view_wanted}}
-use Rattle.sharc_ctype.specs.Expressions.{call_kind, are_fine, notes_of_all}
+use Rattle.sharc_ctype.specs.Expressions.{call_kind, type_of, are_fine, notes_at, notes_of_all}
 use Rattle.sharc_ctype.proofs.CallLemmas.{call_typed, call_noted, one_fine, one_noted}
 use Rattle.sharc_ctype.proofs.expr.+expr.Goals as goal
 
 pub expression-returns-in-Call-clause-kind : goal.expression-returns-in-Call-clause-kind
 expression-returns-in-Call-clause-kind t c =
+    let w = c.in-Call in
     let list = c.deref-in-Call.result.now in
-    call_typed c.args.scope.now (view_expr c.args.expr.now) c.in-Call.field-0 c.in-Call.name list c.len-count.result (view_bounds c.find-bound-in-Call.result) (view_wanted c.wanted.result) _ c.arguments-fine.result
-    (view_call c.args.expr.now c.in-Call.field-0 c.in-Call.name c.in-Call.all c.in-Call.is ∙ ap (λ l. call c.in-Call.field-0 c.in-Call.name (view_arguments l)) (sym c.deref-in-Call.ensures.value))
-    (c.len-count.ensures ∙ sym c.deref-in-Call.ensures.len)
-    (c.find-bound-in-Call.ensures ∙ ap (look_up c.args.scope.now.names) c.as_slice-in-Call.ensures)
-    c.wanted.ensures c.arguments-fine.ensures.fine
-    (c.call_kind.ensures ∙ ap (λ k. call_kind k c.arguments-fine.result) c.call_result.ensures)
+    c.call.ensures.kind ∙ sym (ap (type_of c.args.scope.now)
+    (view_call c.args.expr.now w.span w.name w.all w.is ∙ ap (λ l. call w.span w.name (view_arguments l)) (sym c.deref-in-Call.ensures.value)))
 
 pub expression-returns-in-Call-clause-found : goal.expression-returns-in-Call-clause-found
 expression-returns-in-Call-clause-found t c =
-    let list = c.deref-in-Call.result.now in
-    call_noted c.args.standing c.args.scope.now (view_expr c.args.expr.now) c.in-Call.field-0 c.in-Call.name list c.len-count.result (view_bounds c.find-bound-in-Call.result) (view_wanted c.wanted.result) c.args.found.now c.callee.new.found c.arguments-fine.new.found
-    (view_call c.args.expr.now c.in-Call.field-0 c.in-Call.name c.in-Call.all c.in-Call.is ∙ ap (λ l. call c.in-Call.field-0 c.in-Call.name (view_arguments l)) (sym c.deref-in-Call.ensures.value))
-    (c.len-count.ensures ∙ sym c.deref-in-Call.ensures.len)
-    (c.find-bound-in-Call.ensures ∙ ap (look_up c.args.scope.now.names) c.as_slice-in-Call.ensures)
+    let w = c.in-Call in
+    c.call.ensures.found ∙ sym (ap (λ e. fold noted c.args.found.now (notes_at c.args.standing c.args.scope.now e))
+    (view_call c.args.expr.now w.span w.name w.all w.is ∙ ap (λ l. call w.span w.name (view_arguments l)) (sym c.deref-in-Call.ensures.value)))
+
+pub call-returns-clause-kind : goal.call-returns-clause-kind
+call-returns-clause-kind t c =
+    let list = c.args.list.now in
+    let f = c.args.name.now in
+    call_typed c.args.scope.now (call c.args.span f (view_arguments list)) c.args.span f list (length list)
+    (view_bounds c.find-bound.result) (view_wanted c.wanted.result) _ c.arguments-fine.result refl refl
+    (c.find-bound.ensures ∙ ap (look_up c.args.scope.now.names) c.as_slice.ensures) c.wanted.ensures c.arguments-fine.ensures.fine
+    (c.call_kind.ensures ∙ ap (λ k. call_kind k c.arguments-fine.result) c.call_result.ensures)
+
+pub call-returns-clause-found : goal.call-returns-clause-found
+call-returns-clause-found t c =
+    let list = c.args.list.now in
+    let f = c.args.name.now in
+    call_noted c.args.standing c.args.scope.now (call c.args.span f (view_arguments list)) c.args.span f list (length list)
+    (view_bounds c.find-bound.result) (view_wanted c.wanted.result) c.args.found.now c.callee.new.found c.arguments-fine.new.found
+    refl refl (c.find-bound.ensures ∙ ap (look_up c.args.scope.now.names) c.as_slice.ensures)
     c.wanted.ensures c.callee.ensures c.arguments-fine.ensures.found
 
 pub arguments-loop-expr-preserved : goal.arguments-loop-expr-preserved
