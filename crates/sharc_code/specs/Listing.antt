@@ -60,10 +60,12 @@ operand_text (Fits width) = width_text width
 abbrev pub line : List ℕ → List Operand → List ℕ
 line word operands = word ++ flat_map operand_text operands ++ codes "\n"
 
--- the operands are written as in the instruction: first those of cells, counts, objects, mutexes, threads and conditions
+-- the operands are written as in the instruction: first those of cells, counts, objects, mutexes, threads and
+-- conditions
 abbrev pub shared_line_of : Instr → List ℕ
 shared_line_of (Bounds a b c d e) = line (codes "bounds") (Index a ∷ Index b ∷ Index c ∷ Index d ∷ Index e ∷ [])
-shared_line_of (GlobalBounds a b c d e) = line (codes "global_bounds") (Index a ∷ Index b ∷ Index c ∷ Index d ∷ Index e ∷ [])
+shared_line_of (GlobalBounds a b c d e) =
+    line (codes "global_bounds") (Index a ∷ Index b ∷ Index c ∷ Index d ∷ Index e ∷ [])
 shared_line_of (ChkRead a b) = line (codes "chk_read") (InCell a ∷ Index b ∷ [])
 shared_line_of (ChkWrite a b) = line (codes "chk_write") (InCell a ∷ Index b ∷ [])
 shared_line_of (Load a b c) = line (codes "load") (Index a ∷ InCell b ∷ Index c ∷ [])

@@ -3,7 +3,8 @@
 ghost use Rattle.std.specs.Prelude.{◌≡◌, ◌++◌, IfOk, OnOk, decimal, codes};
 ghost use Rattle.std.specs.List.{flat_map};
 ghost use Rattle.std.specs.Fmt.{signed_decimal};
-ghost use Rattle.sharc_code.specs.Listing.{operator_text, width_text, pair_text, cell_text, register_text, operand_text, line, line_of, shared_line_of, listing_of};
+ghost use Rattle.sharc_code.specs.Listing.{operator_text, width_text, pair_text, cell_text, register_text};
+ghost use Rattle.sharc_code.specs.Listing.{operand_text, line, line_of, shared_line_of, listing_of};
 ghost use Rattle.sharc_code.specs.declared.lines.Operand.TheVariants.{Index};
 
 use crate::code::Code;
@@ -49,7 +50,8 @@ fn put_line(text: &mut Vec<u8>, word: &[u8], operands: &[Operand]) -> Result<(),
 
 // The same where each operand is an index.
 fn put_indices(text: &mut Vec<u8>, word: &[u8], indices: &[u32]) -> Result<(), AllocError>
-    ensures { OnOk result (text.new.items ≡ text.old.items ++ (word.now ++ flat_map (λ n. operand_text (Index n)) indices.now ++ codes "\n")) }
+    ensures { OnOk result (text.new.items
+        ≡ text.old.items ++ (word.now ++ flat_map (λ n. operand_text (Index n)) indices.now ++ codes "\n")) }
 {
     text.extend_from_slice(word)?;
     for index in indices {

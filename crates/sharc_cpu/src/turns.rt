@@ -2,7 +2,8 @@
 
 ghost use Rattle.std.specs.Prelude.{◌≡◌, ◌==◌, ◌<◌, ◌+◌, ◌^◌, vec_capacity};
 ghost use Rattle.sharc_code.specs.Arithmetic.{complement, negated, truth};
-ghost use Rattle.sharc_code.specs.Machine.{with_result, at_stage, rests, stopped, trapped, called, returned, goes, has_room, holds_none, indexed, int, ref, set_int, field_of};
+ghost use Rattle.sharc_code.specs.Machine.{with_result, at_stage, rests, stopped, trapped, called, returned, goes};
+ghost use Rattle.sharc_code.specs.Machine.{has_room, holds_none, indexed, int, ref, set_int, field_of};
 ghost use Rattle.sharc_cpu.specs.View.{machine_of};
 
 use crate::arithmetic::{complement, int_of, negated, same};
@@ -56,7 +57,8 @@ pub(crate) fn keep(
 #[inline(always)]
 pub(crate) fn negates(at: At, parts: &mut Parts, width: Width, to: u32, from: u32, site: u32) -> At
     requires place { at.pc + 1 < 2 ^ 64 }
-    ensures turn { machine_of result parts.new ≡ with_result (machine_of at parts.old) to site (negated width (int (machine_of at parts.old) from)) }
+    ensures turn { machine_of result parts.new
+        ≡ with_result (machine_of at parts.old) to site (negated width (int (machine_of at parts.old) from)) }
     ensures room { vec_capacity parts.new.prints ≡ vec_capacity parts.old.prints }
 {
     let value = negated(width, parts.int(at, from));
@@ -67,7 +69,8 @@ pub(crate) fn negates(at: At, parts: &mut Parts, width: Width, to: u32, from: u3
 #[inline(always)]
 pub(crate) fn complements(at: At, parts: &mut Parts, to: u32, from: u32) -> At
     requires place { at.pc + 1 < 2 ^ 64 }
-    ensures turn { machine_of result parts.new ≡ goes (set_int (machine_of at parts.old) to (complement (int (machine_of at parts.old) from))) }
+    ensures turn { machine_of result parts.new
+        ≡ goes (set_int (machine_of at parts.old) to (complement (int (machine_of at parts.old) from))) }
     ensures room { vec_capacity parts.new.prints ≡ vec_capacity parts.old.prints }
 {
     let value = complement(parts.int(at, from));
@@ -79,7 +82,8 @@ pub(crate) fn complements(at: At, parts: &mut Parts, to: u32, from: u32) -> At
 #[inline(always)]
 pub(crate) fn compares(at: At, parts: &mut Parts, to: u32, left: u32, right: u32) -> At
     requires place { at.pc + 1 < 2 ^ 64 }
-    ensures turn { machine_of result parts.new ≡ goes (set_int (machine_of at parts.old) to (truth (ref (machine_of at parts.old) left == ref (machine_of at parts.old) right))) }
+    ensures turn { machine_of result parts.new ≡ goes (set_int (machine_of at parts.old) to
+        (truth (ref (machine_of at parts.old) left == ref (machine_of at parts.old) right))) }
     ensures room { vec_capacity parts.new.prints ≡ vec_capacity parts.old.prints }
 {
     let value = same(parts.reference(at, left), parts.reference(at, right));

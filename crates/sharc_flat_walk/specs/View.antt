@@ -1,10 +1,12 @@
 -- What the values of the walk are in the definitions.
-use Rattle.std.specs.Prelude.{ℕ, ◌+◌, ◌-◌, false, List, [], ◌∷◌, ◌++◌, length, reverse, take, drop, slice_set, Option, None, Some, if◌then◌else◌}
+use Rattle.std.specs.Prelude.{ℕ, ◌+◌, ◌-◌, Bool, true, false, List, [], ◌∷◌, ◌++◌, length, reverse, take, drop}
+use Rattle.std.specs.Prelude.{slice_set, Option, None, Some, if◌then◌else◌}
 use Rattle.sharc_names.specs.{View.view_kind, Kinds.{is_array, element_kind}}
 use Rattle.sharc_flat_walk.specs.{declared.bodies.Around.{Around as RustAround}, declared.spots.SpotAccess.SpotAccess}
 use Rattle.sharc_flat_walk.specs.declared.operations.Evaluation.{Evaluation}
 use Rattle.sharc_flat_walk.specs.{declared.operations.Evaluation.TheVariants.{And, Or, Both}, declared.patch.Hole.Hole}
 use Rattle.sharc_flat_walk.specs.{declared.places.Bound.Bound, declared.places.Taking.Taking}
+use Rattle.sharc_flat_walk.specs.{declared.registers.Bank.Bank, declared.registers.Bank.TheVariants.{Int, Reference}}
 use Rattle.sharc_flat_walk.specs.{declared.places.Taking.TheVariants.{Cast, Free}, declared.source.Source.Source}
 use Rattle.sharc_flat_walk.specs.declared.target.Target.{Target as RustTarget}
 use Rattle.sharc_flat_walk.specs.declared.target.Target.TheVariants.{Variable, InGlobal, InGlobalAt, InObject, InObjectAt}
@@ -13,9 +15,13 @@ use Rattle.sharc_tree.specs.declared.tree.expression.BinaryOperator.{BinaryOpera
 use Rattle.sharc_tree.specs.declared.tree.expression.BinaryOperator.TheVariants.{LogicalAnd, LogicalOr}
 use Rattle.sharc_tree.specs.Tree as tree
 use Rattle.sharc_mode.specs.declared.sharing.Sharing.TheVariants.{Private}
-use Rattle.sharc_flat.specs.Flattened.{Around, first_cell_of, opened, looping, simple_code, ints_of, refs_of, first_code, behind_first, step_code, turn_code, if_code, loop_code, statement_code, statements_code, behind_statements}
+use Rattle.sharc_flat.specs.Flattened.{Around, expression_code, place_code, binary_code, field_code, lvalue_code}
+use Rattle.sharc_flat.specs.Flattened.{guard_of, first_cell_of, opened, looping, simple_code, ints_of, refs_of}
+use Rattle.sharc_flat.specs.Flattened.{first_code, behind_first, step_code, turn_code, if_code, loop_code}
+use Rattle.sharc_flat.specs.Flattened.{statement_code, statements_code, behind_statements}
 use Rattle.sharc_flat.specs.declared.slot.Slot.{Slot}
-use Rattle.sharc_flat.specs.Places.{Target, bounds_code, global_of, own_field, target, variable, in_global, in_global_at, in_object, in_object_at}
+use Rattle.sharc_flat.specs.Places.{Target, bounds_code, index_code, global_of, own_field, target, variable, in_global}
+use Rattle.sharc_flat.specs.Places.{in_global_at, in_object, in_object_at}
 use Rattle.sharc_flat.specs.Scope.{Context, at_site, ends_from}
 use Rattle.sharc_code.specs.declared.code.Use.{Use}
 use Rattle.sharc_code.specs.declared.code.Use.TheVariants as uses
@@ -31,6 +37,11 @@ view_target (InGlobal g f) = in_global g f
 view_target (InGlobalAt g f) = in_global_at g f
 view_target (InObject f) = in_object f
 view_target (InObjectAt f) = in_object_at f
+
+-- whether a bank is that of references
+abbrev pub holds_references : Bank → Bool
+holds_references Int = false
+holds_references Reference = true
 
 -- the context of an expression, by the variables in scope
 abbrev pub context : Source → List Slot → Context
@@ -71,6 +82,19 @@ element_code c i r site f guard a =
     else bounds_code
     (λ i n. op.Bounds i r (element_cells c.program.typed (element_kind (kind_at c.program.typed a))) n (at_site site))
     i (own_field f 0) guard
+
+-- an element, a field or an operator with two operands, after its Enter
+abbrev pub operation_code : Context → ℕ → ℕ → tree.Expression → List Op
+operation_code c i r (tree.index s a n) =
+    index_code c i r s.first None (guard_of c (tree.index s a n)) a (place_code c i r s.first None None a)
+    (expression_code c i r a) (λ d. expression_code c i d n)
+    ++ lvalue_code c i r (tree.index s a n)
+operation_code c i r (tree.field s a w n) =
+    field_code c r s.first None w n (λ f. place_code c i r s.first f (guard_of c (tree.field s a w n)) a)
+    (expression_code c i r a) ++ lvalue_code c i r (tree.field s a w n)
+operation_code c i r (tree.binary s o at a b) =
+    binary_code c i r at o a b (expression_code c i r a) (λ j q. expression_code c j q b)
+operation_code c i r _ = []
 
 -- which operands are evaluated
 abbrev pub evaluation_of : BinaryOperator → Evaluation

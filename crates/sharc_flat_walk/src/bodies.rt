@@ -10,14 +10,15 @@ ghost use Rattle.sharc_tree.specs.View.{view_head};
 ghost use Rattle.std.specs.Option.{ForSome};
 ghost use Rattle.std.specs.Prelude.{◌<◌, ◌-◌, slice_set};
 ghost use Rattle.sharc_flat.specs.Flattened.{ints_of};
-ghost use Rattle.sharc_flat_walk.specs.View.{context, around_of, own_access, assign_code, simple_at, block_code, if_in, loop_in, for_in, hole_at, hole_of, finished};
+ghost use Rattle.sharc_flat_walk.specs.View.{context, around_of, own_access, assign_code, simple_at, block_code, if_in};
+ghost use Rattle.sharc_flat_walk.specs.View.{loop_in, for_in, hole_at, hole_of, finished, holds_references};
 
-use crate::expressions::{access_of, expression, guard_of, is_ref, place};
+use crate::expressions::{access_of, bank, expression, guard_of, place};
 use crate::lookups::element_cells;
-use crate::operations::{drop_value, is_reference, narrow, truth, zero};
+use crate::operations::{bank_of, drop_value, narrow, truth, zero};
 use crate::patch::{Hole, fill, line_at, skip, skip_if_zero};
 use crate::places::{emit, store};
-use crate::registers::Registers;
+use crate::registers::{Bank, Registers};
 use crate::scope::{end_block, free, leave, slot_of};
 use crate::source::Source;
 use crate::spots::{SpotAccess, at_site, no_text, object_spot};
@@ -106,7 +107,7 @@ fn assign(
     place(source, scope, at, access.site, None, guard, to, lines)?;
     let mode = pointed(source.m, row_of(t, to));
     right(source, scope, from, t.kind_at(to), mode, value, lines)?;
-    store(source, scope, at, from, access, is_ref(source, to), lines)
+    store(source, scope, at, from, access, bank(source, to), lines)
 }
 
 fn simple(
@@ -122,7 +123,7 @@ fn simple(
         Simple::Assign(_, to, value) => assign(source, scope, at, to, value, lines),
         Simple::Call(call) => {
             expression(source, scope, at, call, lines)?;
-            drop_value(is_ref(source, call), at.reference, lines)
+            drop_value(bank(source, call), at.reference, lines)
         }
     }
 }
@@ -163,7 +164,7 @@ fn initial(
                 none,
                 at,
                 own_access(site),
-                is_reference(kind),
+                bank_of(kind),
                 lines,
             )
         }
@@ -201,7 +202,7 @@ fn local(
 {
     let at = free(slots.as_slice())?;
     let declaration = &local.declaration;
-    zero(is_reference(declared_kind(&declaration.written)), at, lines)?;
+    zero(bank_of(declared_kind(&declaration.written)), at, lines)?;
     slots.push(slot_of(declaration))?;
     initial(source, slots.as_slice(), declaration, &local.initial, lines)
 }
@@ -252,7 +253,7 @@ fn turn(
 {
     let at = free(scope)?;
     expression(source, scope, at, test, lines)?;
-    truth(is_ref(source, test), at, lines)?;
+    truth(bank(source, test), at, lines)?;
     let line = lines.len();
     emit(Op::SkipIfZero(at.int, 0), lines)?;
     Ok(Hole {
@@ -279,13 +280,13 @@ fn jump(
 }
 
 /// A value goes to the first register of the frame.
-fn give(is_ref: bool, at: Registers, lines: &mut Vec<Op>) -> Result<(), AllocError>
-    ensures { OnOk result (lines.new.items ≡ lines.old.items ++ result_code is_ref at.int at.reference) }
+fn give(bank: Bank, at: Registers, lines: &mut Vec<Op>) -> Result<(), AllocError>
+    ensures { OnOk result (lines.new.items
+        ≡ lines.old.items ++ result_code (holds_references bank) at.int at.reference) }
 {
-    if is_ref {
-        emit(Op::MoveReference(0, at.reference), lines)
-    } else {
-        emit(Op::Move(0, at.int), lines)
+    match bank {
+        Bank::Int => emit(Op::Move(0, at.int), lines),
+        Bank::Reference => emit(Op::MoveReference(0, at.reference), lines),
     }
 }
 
@@ -302,7 +303,7 @@ fn returned(
     requires { around.outer ≤ length marks.now }
     ensures { OnOk result (lines.new.items ≡ lines.old.items ++ return_code (context source.now scope.now) (around_of around.entry marks.now) site (view_option (λ b. view_expr b.value) value.now)) }
 {
-    let gives_reference = is_reference(around.result);
+    let bank = bank_of(around.result);
     let first = Registers {
         int: 0,
         reference: 0,
@@ -310,7 +311,7 @@ fn returned(
     match value {
         None => {
             leave(scope, marks, 0, lines)?;
-            zero(gives_reference, first, lines)?;
+            zero(bank, first, lines)?;
             emit(Op::Return(at_site(site)), lines)
         }
         Some(expr) => {
@@ -318,7 +319,7 @@ fn returned(
             expression(source, scope, at, expr, lines)?;
             narrow(at.int, around.result, expr.span().first, lines)?;
             leave(scope, marks, 0, lines)?;
-            give(gives_reference, at, lines)?;
+            give(bank, at, lines)?;
             emit(Op::Return(at_site(site)), lines)
         }
     }
@@ -545,25 +546,14 @@ fn statement(
         Stmt::Block(_, all) => block(source, slots, marks, around, all.as_slice(), lines),
         Stmt::Declare(_, declared) => local(source, slots, declared, lines),
         Stmt::Simple(_, x) => simple(source, slots.as_slice(), x, lines),
-        Stmt::Jump(_, of) => jump(
-            source,
-            slots.as_slice(),
-            marks.as_slice(),
-            around,
-            *of,
-            lines,
-        ),
+        Stmt::Jump(_, of) => {
+            let scope = slots.as_slice();
+            jump(source, scope, marks.as_slice(), around, *of, lines)
+        }
         Stmt::Return(span, value) => {
             let scope = slots.as_slice();
-            returned(
-                source,
-                scope,
-                marks.as_slice(),
-                around,
-                span.first,
-                value,
-                lines,
-            )
+            let open = marks.as_slice();
+            returned(source, scope, open, around, span.first, value, lines)
         }
         Stmt::If(_, test, then) => choice(source, slots, marks, around, then, test, lines),
         Stmt::IfElse {

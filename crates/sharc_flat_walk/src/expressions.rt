@@ -5,12 +5,18 @@ ghost use Rattle.sharc_tree.specs.Spans.{span_of};
 ghost use Rattle.sharc_tree.specs.View.{view_expr, view_arguments};
 ghost use Rattle.sharc_names.specs.Kinds.{declared_kinds};
 ghost use Rattle.sharc_ctype.specs.Resolved.{kind_at, named_at};
+ghost use Rattle.sharc_ctype.specs.Transfers.{parameters_named};
+ghost use Rattle.sharc_meaning.specs.Expressions.{number_named};
 ghost use Rattle.sharc_mode.specs.Cells.{cell_at};
 ghost use Rattle.sharc_mode.specs.View.{view_sharing};
 ghost use Rattle.sharc_flat.specs.Places.{lvalue_of, target};
-ghost use Rattle.sharc_flat.specs.Flattened.{is_ref, expression_code, arguments_code, place_code, named_code, lvalue_code, guard_of, taken_guard, place_call_code, cast_code, field_code, unary_code, binary_code, compare_code, operator_of, truth_code, passed_code};
+ghost use Rattle.sharc_flat.specs.Flattened.{is_ref, expression_code, arguments_code, place_code, named_code};
+ghost use Rattle.sharc_flat.specs.Flattened.{lvalue_code, guard_of, taken_guard, place_call_code, cast_code};
+ghost use Rattle.sharc_flat.specs.Flattened.{field_code, unary_code, binary_code, compare_code, operator_of};
+ghost use Rattle.sharc_flat.specs.Flattened.{truth_code, passed_code, spawn_code};
 ghost use Rattle.sharc_flat.specs.Scope.{at_site};
-ghost use Rattle.sharc_flat_walk.specs.View.{context, view_target, decided_code, indexed_code, index_register, element_code};
+ghost use Rattle.sharc_flat_walk.specs.View.{context, view_target, decided_code, indexed_code, index_register};
+ghost use Rattle.sharc_flat_walk.specs.View.{element_code, holds_references, operation_code};
 ghost use Rattle.sharc_ctype.specs.Resolved.{global_at};
 ghost use Rattle.sharc_meaning.specs.Cells.{global_elements};
 ghost use Rattle.sharc_flat_form.specs.Machine.{first_cell};
@@ -20,12 +26,12 @@ ghost use Rattle.sharc_flat.specs.Places.{width_of};
 
 use crate::lookups::{element_cells, field_named, first_cell, global_elements, layout_of};
 use crate::operations::{
-    Evaluation, called, compare, constant, evaluation_of, is_reference, narrow, number_named,
-    on_value, operator_of, spawned, truth, width_of,
+    Evaluation, bank_of, called, compare, constant, evaluation_of, narrow, number_named, on_value,
+    operator_of, spawned, truth, width_of,
 };
 use crate::patch::{Hole, skip_if_zero};
 use crate::places::{Bound, Taking, emit, index_bounds, pointee, take, value};
-use crate::registers::Registers;
+use crate::registers::{Bank, Registers};
 use crate::source::Source;
 use crate::spots::{SpotAccess, at_site, at_words, beside_field, cell_of, object_spot, tokens_in};
 use crate::target::{Target, global_of, lvalue_of, own_field, target_of};
@@ -68,11 +74,11 @@ fn access_at<'a>(source: &'a Source<'_>, site: Site, expr: &'a Expr) -> SpotAcce
     }
 }
 
-/// Whether the value of an expression is a reference.
-pub fn is_ref(source: &Source<'_>, expr: &Expr) -> bool
-    ensures { result ≡ is_ref (context source.now []) (view_expr expr.now) }
+/// The bank of the value of an expression.
+pub fn bank(source: &Source<'_>, expr: &Expr) -> Bank
+    ensures { holds_references result ≡ is_ref (context source.now []) (view_expr expr.now) }
 {
-    is_reference(source.m.typed().kind_at(expr))
+    bank_of(source.m.typed().kind_at(expr))
 }
 
 /// The field with the mutex beside the cell that an lvalue names, or with the pointer to it.
@@ -97,7 +103,7 @@ fn lvalue(
         scope,
         at,
         access_of(source, expr),
-        is_ref(source, expr),
+        bank(source, expr),
         lines,
     )
 }
@@ -117,11 +123,11 @@ fn name(
     match source.m.typed().named(name.site.token) {
         Named::Variable(token) => {
             access.target = Target::Variable(token);
-            value(source, scope, at, access, is_ref(source, expr), lines)
+            value(source, scope, at, access, bank(source, expr), lines)
         }
         Named::Global(number) => {
             access.target = Target::InGlobal(number, 0);
-            value(source, scope, at, access, is_ref(source, expr), lines)
+            value(source, scope, at, access, bank(source, expr), lines)
         }
         Named::Struct(_) => Ok(()),
         Named::Function(_) => Ok(()),
@@ -153,6 +159,31 @@ fn after_first(parameters: &[Declaration]) -> &[Declaration]
         [] => parameters,
         [_, rest @ ..] => rest,
     }
+}
+
+/// `spawn` of this function, after its argument.
+fn spawn(
+    source: &Source<'_>,
+    at: Registers,
+    site: Site,
+    of: &Identifier,
+    argument: &Expr,
+    lines: &mut Vec<Op>,
+) -> Result<(), AllocError>
+    ensures { OnOk result (lines.new.items ≡ lines.old.items ++ (passed_code at.int
+        (declared_kinds (parameters_named source.now.m.now.typed (named_at source.now.m.now.typed of.now.site.token)))
+        (span_of (view_expr argument.now)).first ++ spawn_code (is_ref (context source.now []) (view_expr argument.now))
+        at.int at.reference (number_named (named_at source.now.m.now.typed of.now.site.token)) (at_site site))) }
+{
+    let t = source.m.typed();
+    let named = t.named(of.site.token);
+    passed(
+        at.int,
+        parameters_named(t, named),
+        argument.span().first,
+        lines,
+    )?;
+    spawned(bank(source, argument), at, number_named(named), site, lines)
 }
 
 /// `lock`, after the code that finds the mutex.
@@ -293,7 +324,7 @@ fn unary(
             )
         }
         UnaryOperator::Not => {
-            truth(is_ref(source, operand), at, lines)?;
+            truth(bank(source, operand), at, lines)?;
             emit(Op::IsFalse(at.int, at.int), lines)
         }
         UnaryOperator::Complement => emit(Op::Complement(at.int, at.int), lines),
@@ -304,7 +335,7 @@ fn unary(
                 scope,
                 at,
                 access_at(source, span.first, expr),
-                is_ref(source, expr),
+                bank(source, expr),
                 lines,
             )
         }
@@ -317,20 +348,23 @@ fn computed(
     operator: BinaryOperator,
     site: Site,
     width: Width,
-    is_ref: bool,
+    bank: Bank,
     lines: &mut Vec<Op>,
 ) -> Result<(), AllocError>
-    ensures { OnOk result (lines.new.items ≡ lines.old.items ++ (if is_ref then compare_code operator at.int at.reference else Op.Compute width (operator_of operator) at.int at.int (at.int + 1) (at_site site) ∷ [])) }
+    ensures { OnOk result (lines.new.items
+        ≡ lines.old.items ++ (if holds_references bank then compare_code operator at.int at.reference
+        else Op.Compute width (operator_of operator) at.int at.int (at.int + 1) (at_site site) ∷ [])) }
 {
-    if is_ref {
-        compare(operator, at, lines)
-    } else {
-        let of = operator_of(operator);
-        let spot = at_site(site);
-        emit(
-            Op::Compute(width, of, at.int, at.int, at.int + 1, spot),
-            lines,
-        )
+    match bank {
+        Bank::Int => {
+            let of = operator_of(operator);
+            let spot = at_site(site);
+            emit(
+                Op::Compute(width, of, at.int, at.int, at.int + 1, spot),
+                lines,
+            )
+        }
+        Bank::Reference => compare(operator, at, lines),
     }
 }
 
@@ -386,36 +420,19 @@ pub fn expression(
     ensures { OnOk result (lines.new.items ≡ lines.old.items ++ expression_code (context source.now scope.now) at.int at.reference (view_expr expr.now)) }
 {
     emit(Op::Enter, lines)?;
-    let t = source.m.typed();
     match expr {
         Expr::Identifier(_, of) => name(source, scope, at, expr, of, lines),
-        Expr::Constant(_, of) => constant(is_ref(source, expr), at, *of, lines),
+        Expr::Constant(_, of) => constant(bank(source, expr), at, *of, lines),
         Expr::Parentheses(_, inner) => expression(source, scope, at, inner, lines),
         Expr::Call(span, of, all) => {
-            let named = t.named(of.site.token);
-            arguments(
-                source,
-                scope,
-                at,
-                parameters_named(t, named),
-                all.as_slice(),
-                lines,
-            )?;
-            let text = of.text.as_slice();
-            called(at, at_site(span.first), named, text, all.as_slice(), lines)
+            let named = source.m.typed().named(of.site.token);
+            let parameters = parameters_named(source.m.typed(), named);
+            arguments(source, scope, at, parameters, all.as_slice(), lines)?;
+            called(at, at_site(span.first), named, of, all.as_slice(), lines)
         }
         Expr::Spawn(span, of, argument) => {
-            let named = t.named(of.site.token);
             expression(source, scope, at, argument, lines)?;
-            let site = argument.span().first;
-            passed(at.int, parameters_named(t, named), site, lines)?;
-            spawned(
-                is_ref(source, argument),
-                at,
-                number_named(named),
-                span.first,
-                lines,
-            )
+            spawn(source, at, span.first, of, argument, lines)
         }
         Expr::OnValue(span, call, argument) => {
             expression(source, scope, at, argument, lines)?;
@@ -427,18 +444,34 @@ pub fn expression(
             on_place(source, scope, at, *span, *call, of, lines)
         }
         Expr::Cast(span, _, of) => {
-            place(
-                source,
-                scope,
-                at,
-                of.span().first,
-                None,
-                guard_of(source, of),
-                of,
-                lines,
-            )?;
+            let guard = guard_of(source, of);
+            place(source, scope, at, of.span().first, None, guard, of, lines)?;
             cast(source, scope, at, *span, of, lines)
         }
+        Expr::Unary(span, operator, operand) => {
+            expression(source, scope, at, operand, lines)?;
+            unary(source, scope, at, expr, *span, *operator, operand, lines)
+        }
+        Expr::Index(_, _, _) => operation(source, scope, at, expr, lines),
+        Expr::Field { .. } => operation(source, scope, at, expr, lines),
+        Expr::Binary { .. } => operation(source, scope, at, expr, lines),
+    }
+}
+
+/// The value of an element, of a field or of an operator with two operands, after its Enter; nothing for any other
+/// expression.
+#[cycle(expression)]
+fn operation(
+    source: &Source<'_>,
+    scope: &[Slot],
+    at: Registers,
+    expr: &Expr,
+    lines: &mut Vec<Op>,
+) -> Result<(), AllocError>
+    ensures { OnOk result (lines.new.items
+        ≡ lines.old.items ++ operation_code (context source.now scope.now) at.int at.reference (view_expr expr.now)) }
+{
+    match expr {
         Expr::Index(span, base, number) => {
             let guard = guard_of(source, expr);
             let next = indexed(source, scope, at, span.first, base, lines)?;
@@ -458,10 +491,6 @@ pub fn expression(
             )?;
             lvalue(source, scope, at, expr, lines)
         }
-        Expr::Unary(span, operator, operand) => {
-            expression(source, scope, at, operand, lines)?;
-            unary(source, scope, at, expr, *span, *operator, operand, lines)
-        }
         Expr::Binary {
             operator,
             site,
@@ -469,12 +498,13 @@ pub fn expression(
             right,
             ..
         } => {
-            let width = width_of(t.kind_at(expr));
+            let width = width_of(source.m.typed().kind_at(expr));
             expression(source, scope, at, left, lines)?;
             binary(
                 source, scope, at, *operator, *site, width, right, left, lines,
             )
         }
+        _ => Ok(()),
     }
 }
 
@@ -494,20 +524,20 @@ fn binary(
     requires { width ≡ width_of (binary_result (class_of operator) (kind_at source.now.m.now.typed (view_expr left.now)) (kind_at source.now.m.now.typed (view_expr right.now))) }
     ensures { OnOk result (lines.new.items ≡ lines.old.items ++ binary_code (context source.now scope.now) at.int at.reference site operator (view_expr left.now) (view_expr right.now) [] (λ i r. expression_code (context source.now scope.now) i r (view_expr right.now))) }
 {
-    let is_ref = is_ref(source, left);
+    let bank = bank(source, left);
     match evaluation_of(operator) {
         Evaluation::And => {
-            truth(is_ref, at, lines)?;
+            truth(bank, at, lines)?;
             decided(source, scope, at, right, 0, lines)
         }
         Evaluation::Or => {
-            truth(is_ref, at, lines)?;
+            truth(bank, at, lines)?;
             emit(Op::IsFalse(at.int, at.int), lines)?;
             decided(source, scope, at, right, 1, lines)
         }
         Evaluation::Both => {
-            expression(source, scope, at.behind(is_ref)?, right, lines)?;
-            computed(at, operator, site, width, is_ref, lines)
+            expression(source, scope, at.behind(bank)?, right, lines)?;
+            computed(at, operator, site, width, bank, lines)
         }
     }
 }
@@ -530,7 +560,7 @@ fn decided(
     };
     emit(Op::SkipIfZero(at.int, 0), lines)?;
     expression(source, scope, at, right, lines)?;
-    truth(is_ref(source, right), at, lines)?;
+    truth(bank(source, right), at, lines)?;
     skip_if_zero(hole, more, lines)?;
     emit(Op::IsFalse(at.int, at.int), lines)?;
     emit(Op::IsFalse(at.int, at.int), lines)
@@ -555,7 +585,7 @@ fn arguments(
         let here = Registers::of(int, reference)?;
         expression(source, scope, here, argument, lines)?;
         passed(int, left, argument.span().first, lines)?;
-        let next = here.behind(is_ref(source, argument))?;
+        let next = here.behind(bank(source, argument))?;
         int = next.int;
         reference = next.reference;
         left = after_first(left);

@@ -9,24 +9,28 @@ ghost use Rattle.sharc_meaning.specs.Expressions.{number_named};
 ghost use Rattle.sharc_flat.specs.Places.{width_of, base_as_width, width_code};
 ghost use Rattle.sharc_flat.specs.Flattened.{constant_code, truth_code, drop_code, zero_code, operator_of, differ_code, compare_code, first_cell_of, wait_code, with_words, argument_words, condition_code, called_code, spawn_code, value_call_code};
 ghost use Rattle.sharc_flat.specs.Scope.{at_site, no_text};
-ghost use Rattle.sharc_flat_walk.specs.View.{wait_begin, evaluation_of};
+ghost use Rattle.sharc_flat_walk.specs.View.{wait_begin, evaluation_of, holds_references};
 
 use crate::places::emit;
-use crate::registers::Registers;
+use crate::registers::{Bank, Registers};
 use crate::spots::{at_site, no_text, tokens_in};
 use sharc_code::{Cell, Operator, Register, Text, Width};
 use sharc_flat_form::{Op, Spot};
 use sharc_names::fault::Named;
 use sharc_names::kind::{Kind, Root, is_integer, is_null, is_pointer};
 use sharc_tree::token::Site;
-use sharc_tree::tree::{BinaryOperator, Constant, Expr, ValueCall};
+use sharc_tree::tree::{BinaryOperator, Constant, Expr, Identifier, ValueCall};
 use std::alloc::AllocError;
 
-/// Whether a value is a reference.
-pub fn is_reference(kind: Kind<'_>) -> bool
-    ensures { result ≡ is_reference (view_kind kind.entry) }
+/// The bank of a value of this type.
+pub fn bank_of(kind: Kind<'_>) -> Bank
+    ensures { holds_references result ≡ is_reference (view_kind kind.entry) }
 {
-    is_pointer(kind) || is_null(kind)
+    if is_pointer(kind) || is_null(kind) {
+        Bank::Reference
+    } else {
+        Bank::Int
+    }
 }
 
 fn root_width(root: Root<'_>) -> Width
@@ -83,54 +87,55 @@ pub(crate) fn constant_value(constant: Constant) -> i64
 
 /// A constant.
 pub(crate) fn constant(
-    is_ref: bool,
+    bank: Bank,
     at: Registers,
     constant: Constant,
     lines: &mut Vec<Op>,
 ) -> Result<(), AllocError>
-    ensures { OnOk result (lines.new.items ≡ lines.old.items ++ constant_code is_ref at.int at.reference constant) }
+    ensures { OnOk result (lines.new.items
+        ≡ lines.old.items ++ constant_code (holds_references bank) at.int at.reference constant) }
 {
-    if is_ref {
-        emit(Op::Null(at.reference), lines)
-    } else {
-        emit(Op::Constant(at.int, constant_value(constant)), lines)
+    match bank {
+        Bank::Int => emit(Op::Constant(at.int, constant_value(constant)), lines),
+        Bank::Reference => emit(Op::Null(at.reference), lines),
     }
 }
 
 /// 0 or NULL.
-pub(crate) fn zero(is_ref: bool, at: Registers, lines: &mut Vec<Op>) -> Result<(), AllocError>
-    ensures { OnOk result (lines.new.items ≡ lines.old.items ++ zero_code is_ref at.int at.reference) }
+pub(crate) fn zero(bank: Bank, at: Registers, lines: &mut Vec<Op>) -> Result<(), AllocError>
+    ensures { OnOk result (lines.new.items ≡ lines.old.items ++ zero_code (holds_references bank) at.int at.reference) }
 {
-    if is_ref {
-        emit(Op::Null(at.reference), lines)
-    } else {
-        emit(Op::Constant(at.int, 0), lines)
+    match bank {
+        Bank::Int => emit(Op::Constant(at.int, 0), lines),
+        Bank::Reference => emit(Op::Null(at.reference), lines),
     }
 }
 
 /// A value that is not used ends.
-pub(crate) fn drop_value(is_ref: bool, register: u32, lines: &mut Vec<Op>) -> Result<(), AllocError>
-    ensures { OnOk result (lines.new.items ≡ lines.old.items ++ drop_code is_ref register) }
+pub(crate) fn drop_value(bank: Bank, register: u32, lines: &mut Vec<Op>) -> Result<(), AllocError>
+    ensures { OnOk result (lines.new.items ≡ lines.old.items ++ drop_code (holds_references bank) register) }
 {
-    if is_ref {
-        emit(Op::Pop(register), lines)
-    } else {
-        Ok(())
+    match bank {
+        Bank::Int => Ok(()),
+        Bank::Reference => emit(Op::Pop(register), lines),
     }
 }
 
 /// A value becomes an integer that is 0 exactly where it was 0 or NULL.
-pub(crate) fn truth(is_ref: bool, at: Registers, lines: &mut Vec<Op>) -> Result<(), AllocError>
-    ensures { OnOk result (lines.new.items ≡ lines.old.items ++ truth_code is_ref at.int at.reference) }
+pub(crate) fn truth(bank: Bank, at: Registers, lines: &mut Vec<Op>) -> Result<(), AllocError>
+    ensures { OnOk result (lines.new.items
+        ≡ lines.old.items ++ truth_code (holds_references bank) at.int at.reference) }
 {
-    if !is_ref {
-        return Ok(());
+    match bank {
+        Bank::Int => Ok(()),
+        Bank::Reference => {
+            let other = at.reference + 1;
+            emit(Op::Null(other), lines)?;
+            emit(Op::SameReference(at.int, at.reference, other), lines)?;
+            emit(Op::Pop(at.reference), lines)?;
+            emit(Op::IsFalse(at.int, at.int), lines)
+        }
     }
-    let other = at.reference + 1;
-    emit(Op::Null(other), lines)?;
-    emit(Op::SameReference(at.int, at.reference, other), lines)?;
-    emit(Op::Pop(at.reference), lines)?;
-    emit(Op::IsFalse(at.int, at.int), lines)
 }
 
 /// The operation of an operator.
@@ -291,15 +296,16 @@ pub(crate) fn called(
     at: Registers,
     spot: Spot,
     named: Named,
-    name: &[u8],
+    of: &Identifier,
     arguments: &[Expr],
     lines: &mut Vec<Op>,
 ) -> Result<(), AllocError>
-    ensures { OnOk result (lines.new.items ≡ lines.old.items ++ called_code at.int at.reference spot named name.now (view_arguments arguments.now)) }
+    ensures { OnOk result (lines.new.items
+        ≡ lines.old.items ++ called_code at.int at.reference spot named of.now.text (view_arguments arguments.now)) }
 {
     match named {
         Named::Function(number) => emit(Op::Call(number, at.int, at.reference, spot), lines),
-        Named::Known => condition(at.reference, spot, name, arguments, lines),
+        Named::Known => condition(at.reference, spot, of.text.as_slice(), arguments, lines),
         Named::Struct(_) => Ok(()),
         Named::Global(_) => Ok(()),
         Named::Variable(_) => Ok(()),
@@ -319,18 +325,18 @@ pub(crate) fn number_named(named: Named) -> u32
 
 /// `spawn`, after its argument.
 pub(crate) fn spawned(
-    is_ref: bool,
+    bank: Bank,
     at: Registers,
     function: u32,
     site: Site,
     lines: &mut Vec<Op>,
 ) -> Result<(), AllocError>
-    ensures { OnOk result (lines.new.items ≡ lines.old.items ++ spawn_code is_ref at.int at.reference function (at_site site)) }
+    ensures { OnOk result (lines.new.items
+        ≡ lines.old.items ++ spawn_code (holds_references bank) at.int at.reference function (at_site site)) }
 {
-    let from = if is_ref {
-        Register::Reference(at.reference)
-    } else {
-        Register::Int(at.int)
+    let from = match bank {
+        Bank::Int => Register::Int(at.int),
+        Bank::Reference => Register::Reference(at.reference),
     };
     emit(Op::Spawn(at.int, function, from, at_site(site)), lines)
 }

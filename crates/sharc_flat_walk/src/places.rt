@@ -8,9 +8,9 @@ ghost use Rattle.sharc_flat.specs.Scope.{register_of, number_in, at_site};
 ghost use Rattle.sharc_code.specs.declared.code.Use.TheVariants as uses;
 ghost use Rattle.sharc_flat.specs.Scope.{at_words};
 ghost use Rattle.sharc_flat.specs.Places.{guard_field};
-ghost use Rattle.sharc_flat_walk.specs.View.{context, view_target, use_of, bounds_by};
+ghost use Rattle.sharc_flat_walk.specs.View.{context, view_target, use_of, bounds_by, holds_references};
 
-use crate::registers::Registers;
+use crate::registers::{Bank, Registers};
 use crate::scope::{number_in, register_of};
 use crate::source::Source;
 use crate::spots::{SpotAccess, at_site, at_words, cell_of, guard_cell, guard_field, spot_of};
@@ -92,21 +92,26 @@ fn cell_value(
     scope: &[Slot],
     at: Registers,
     access: SpotAccess<'_>,
-    is_ref: bool,
+    bank: Bank,
     lines: &mut Vec<Op>,
 ) -> Result<(), AllocError>
-    ensures { OnOk result (lines.new.items ≡ lines.old.items ++ cell_value_code (context source.now scope.now) at.int at.reference access.entry.site access.entry.lvalue (view_sharing access.entry.mode) is_ref (view_target access.entry.target)) }
+    ensures { OnOk result (lines.new.items ≡ lines.old.items
+        ++ cell_value_code (context source.now scope.now) at.int at.reference access.entry.site access.entry.lvalue
+        (view_sharing access.entry.mode) (holds_references bank) (view_target access.entry.target)) }
 {
     guard(source, at, access, lines)?;
     let cell = cell_of(source, at, access.target)?;
     let spot = spot_of(source, scope, at, access, Use::Read)?;
-    if is_ref {
-        let to = at.behind_base(access.target)?;
-        emit(Op::LoadRef(to.reference, cell, spot), lines)?;
-        settle_base(at, access.target, lines)
-    } else {
-        emit(Op::Load(at.int, cell, spot), lines)?;
-        drop_base(at.reference, access.target, lines)
+    match bank {
+        Bank::Int => {
+            emit(Op::Load(at.int, cell, spot), lines)?;
+            drop_base(at.reference, access.target, lines)
+        }
+        Bank::Reference => {
+            let to = at.behind_base(access.target)?;
+            emit(Op::LoadRef(to.reference, cell, spot), lines)?;
+            settle_base(at, access.target, lines)
+        }
     }
 }
 
@@ -116,17 +121,19 @@ pub fn value(
     scope: &[Slot],
     at: Registers,
     access: SpotAccess<'_>,
-    is_ref: bool,
+    bank: Bank,
     lines: &mut Vec<Op>,
 ) -> Result<(), AllocError>
-    ensures { OnOk result (lines.new.items ≡ lines.old.items ++ value_code (context source.now scope.now) at.int at.reference access.entry.site access.entry.lvalue (view_sharing access.entry.mode) is_ref (view_target access.entry.target)) }
+    ensures { OnOk result (lines.new.items ≡ lines.old.items
+        ++ value_code (context source.now scope.now) at.int at.reference access.entry.site access.entry.lvalue
+        (view_sharing access.entry.mode) (holds_references bank) (view_target access.entry.target)) }
 {
     match access.target {
         Target::Variable(token) => copy(at, register_of(scope, token)?, lines),
-        Target::InGlobal(_, _) => cell_value(source, scope, at, access, is_ref, lines),
-        Target::InGlobalAt(_, _) => cell_value(source, scope, at, access, is_ref, lines),
-        Target::InObject(_) => cell_value(source, scope, at, access, is_ref, lines),
-        Target::InObjectAt(_) => cell_value(source, scope, at, access, is_ref, lines),
+        Target::InGlobal(_, _) => cell_value(source, scope, at, access, bank, lines),
+        Target::InGlobalAt(_, _) => cell_value(source, scope, at, access, bank, lines),
+        Target::InObject(_) => cell_value(source, scope, at, access, bank, lines),
+        Target::InObjectAt(_) => cell_value(source, scope, at, access, bank, lines),
     }
 }
 
@@ -146,18 +153,19 @@ fn cell_store(
     at: Registers,
     from: Registers,
     access: SpotAccess<'_>,
-    is_ref: bool,
+    bank: Bank,
     lines: &mut Vec<Op>,
 ) -> Result<(), AllocError>
-    ensures { OnOk result (lines.new.items ≡ lines.old.items ++ cell_store_code (context source.now scope.now) at.int at.reference from.int from.reference access.entry.site access.entry.lvalue (view_sharing access.entry.mode) is_ref (view_target access.entry.target)) }
+    ensures { OnOk result (lines.new.items ≡ lines.old.items ++ cell_store_code
+        (context source.now scope.now) at.int at.reference from.int from.reference access.entry.site access.entry.lvalue
+        (view_sharing access.entry.mode) (holds_references bank) (view_target access.entry.target)) }
 {
     guard(source, at, access, lines)?;
     let cell = cell_of(source, at, access.target)?;
     let spot = spot_of(source, scope, at, access, Use::Write)?;
-    if is_ref {
-        emit(Op::StoreRef(from.reference, cell, spot), lines)?;
-    } else {
-        emit(Op::Store(from.int, cell, spot), lines)?;
+    match bank {
+        Bank::Int => emit(Op::Store(from.int, cell, spot), lines)?,
+        Bank::Reference => emit(Op::StoreRef(from.reference, cell, spot), lines)?,
     }
     drop_base(at.reference, access.target, lines)
 }
@@ -169,17 +177,19 @@ pub fn store(
     at: Registers,
     from: Registers,
     access: SpotAccess<'_>,
-    is_ref: bool,
+    bank: Bank,
     lines: &mut Vec<Op>,
 ) -> Result<(), AllocError>
-    ensures { OnOk result (lines.new.items ≡ lines.old.items ++ store_code (context source.now scope.now) at.int at.reference from.int from.reference access.entry.site access.entry.lvalue (view_sharing access.entry.mode) is_ref (view_target access.entry.target)) }
+    ensures { OnOk result (lines.new.items ≡ lines.old.items ++ store_code
+        (context source.now scope.now) at.int at.reference from.int from.reference access.entry.site access.entry.lvalue
+        (view_sharing access.entry.mode) (holds_references bank) (view_target access.entry.target)) }
 {
     match access.target {
         Target::Variable(token) => settle(from, register_of(scope, token)?, lines),
-        Target::InGlobal(_, _) => cell_store(source, scope, at, from, access, is_ref, lines),
-        Target::InGlobalAt(_, _) => cell_store(source, scope, at, from, access, is_ref, lines),
-        Target::InObject(_) => cell_store(source, scope, at, from, access, is_ref, lines),
-        Target::InObjectAt(_) => cell_store(source, scope, at, from, access, is_ref, lines),
+        Target::InGlobal(_, _) => cell_store(source, scope, at, from, access, bank, lines),
+        Target::InGlobalAt(_, _) => cell_store(source, scope, at, from, access, bank, lines),
+        Target::InObject(_) => cell_store(source, scope, at, from, access, bank, lines),
+        Target::InObjectAt(_) => cell_store(source, scope, at, from, access, bank, lines),
     }
 }
 

@@ -5,6 +5,13 @@ ghost use Rattle.std.specs.Prelude.{◌≡◌, ◌+◌, ◌<◌, ◌^◌, IfOk};
 use crate::target::Target;
 use std::alloc::AllocError;
 
+/// The bank of a register that holds a value.
+#[derive(Clone, Copy)]
+pub enum Bank {
+    Int,
+    Reference,
+}
+
 /// The first free registers of the two banks.
 #[derive(Clone, Copy)]
 pub struct Registers {
@@ -40,7 +47,7 @@ impl Registers {
     ghost use Rattle.std.specs.Prelude.{◌≡◌, ◌+◌, IfOk};
     ghost use Rattle.sharc_flat.specs.Places.{base_width, guard_width, index_width};
     ghost use Rattle.sharc_flat.specs.Flattened.{behind_int, behind_ref};
-    ghost use Rattle.sharc_flat_walk.specs.View.{view_target};
+    ghost use Rattle.sharc_flat_walk.specs.View.{view_target, holds_references};
 
     /// These two, if they are few.
     pub fn of(int: u32, reference: u32) -> Result<Registers, AllocError>
@@ -76,14 +83,13 @@ impl Registers {
     }
 
     /// Those after a value.
-    pub fn behind(self, is_ref: bool) -> Result<Registers, AllocError>
-        ensures int { IfOk result (λ r. r.int ≡ behind_int is_ref self.int) }
-        ensures reference { IfOk result (λ r. r.reference ≡ behind_ref is_ref self.reference) }
+    pub fn behind(self, bank: Bank) -> Result<Registers, AllocError>
+        ensures int { IfOk result (λ r. r.int ≡ behind_int (holds_references bank) self.int) }
+        ensures reference { IfOk result (λ r. r.reference ≡ behind_ref (holds_references bank) self.reference) }
     {
-        if is_ref {
-            self.behind_reference()
-        } else {
-            self.behind_int()
+        match bank {
+            Bank::Int => self.behind_int(),
+            Bank::Reference => self.behind_reference(),
         }
     }
 

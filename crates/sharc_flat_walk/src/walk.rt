@@ -6,7 +6,7 @@ ghost use Rattle.sharc_flat.specs.Flattened.{function_code, parameters_scope};
 ghost use Rattle.sharc_flat.specs.Scope.{int_count, ref_count};
 
 use crate::bodies::{Around, statements};
-use crate::operations::{is_reference, zero};
+use crate::operations::{bank_of, zero};
 use crate::places::emit;
 use crate::registers::Registers;
 use crate::scope::{end_block, free, slot_of};
@@ -87,7 +87,7 @@ pub fn function_lines(
         int: 0,
         reference: 0,
     };
-    zero(is_reference(around.result), at, lines)?;
+    zero(bank_of(around.result), at, lines)?;
     emit(Op::Return(at_site(of.body.last)), lines)
 }
 

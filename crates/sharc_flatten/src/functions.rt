@@ -12,7 +12,8 @@ use crate::need::{ints_in, refs_in};
 use sharc_code::{Function, Parameter};
 use sharc_flat_form::Op;
 use sharc_flat_walk::lookups::small;
-use sharc_flat_walk::operations::is_reference;
+use sharc_flat_walk::operations::bank_of;
+use sharc_flat_walk::registers::Bank;
 use sharc_flat_walk::source::Source;
 use sharc_flat_walk::spots::no_text;
 use sharc_flat_walk::walk::{Walk, function_lines, parameters_free};
@@ -23,10 +24,9 @@ use std::alloc::{AllocError, Global};
 fn parameter_in(kind: Kind<'_>) -> Parameter
     ensures { result ≡ parameter_in (view_kind kind.entry) }
 {
-    if is_reference(kind) {
-        Parameter::Reference
-    } else {
-        Parameter::Int
+    match bank_of(kind) {
+        Bank::Int => Parameter::Int,
+        Bank::Reference => Parameter::Reference,
     }
 }
 

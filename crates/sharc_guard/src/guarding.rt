@@ -1,11 +1,11 @@
 //! Guarded code from flat code: a pass for the places, one for the statements.
 
-ghost use Rattle.std.specs.Prelude.{◌≡◌, ◌≤◌, ◌<◌, ◌+◌, ◌*◌, ◌^◌, ℕ, ◌++◌, ◌∷◌, [], IfOk, OnOk, length, map};
+ghost use Rattle.std.specs.Prelude.{true, ◌≡◌, ◌≤◌, ◌<◌, ◌+◌, ◌*◌, ◌^◌, ℕ, ◌++◌, ◌∷◌, [], IfOk, OnOk, length, map};
 ghost use Rattle.sharc_code.specs.declared.instr.Instr.TheVariants.{Start, Exit};
 ghost use Rattle.sharc_code.specs.Says.{no_place};
 ghost use Rattle.sharc_flat_form.specs.Made.{flat_of};
 ghost use Rattle.sharc_guard.specs.Guard.{source_at_spot, source_of, check_under, head, compute, negate, body, tail, own, expand, expanded, width, entered_at};
-ghost use Rattle.sharc_guard.specs.Known.{dropped};
+ghost use Rattle.sharc_guard.specs.Known.{dropped, is_straight};
 ghost use Rattle.sharc_guard.specs.Made.{IsMade, among, places, marked};
 
 use crate::marks::marks_of;
@@ -282,56 +282,54 @@ fn source_of(op: Op) -> SourcePlace
     ensures { result ≡ source_of op }
 {
     match op {
-        Op::Compute(_, _, _, _, _, spot) => source_at_spot(spot),
-        Op::Negate(_, _, _, spot) => source_at_spot(spot),
-        Op::ChkWidth(_, _, spot) => source_at_spot(spot),
-        Op::Call(_, _, _, spot) => source_at_spot(spot),
-        Op::Return(spot) => source_at_spot(spot),
-        Op::ChkNull(_, spot) => source_at_spot(spot),
-        Op::ChkPositive(_, spot) => source_at_spot(spot),
-        Op::ChkHeld(_, spot) => source_at_spot(spot),
-        Op::ChkNotHeld(_, spot) => source_at_spot(spot),
-        Op::ChkRoom(spot) => source_at_spot(spot),
-        Op::Bounds(_, _, _, _, spot) => source_at_spot(spot),
-        Op::GlobalBounds(_, _, _, _, spot) => source_at_spot(spot),
-        Op::Load(_, _, spot) => source_at_spot(spot),
-        Op::Store(_, _, spot) => source_at_spot(spot),
-        Op::LoadRef(_, _, spot) => source_at_spot(spot),
-        Op::StoreRef(_, _, spot) => source_at_spot(spot),
-        Op::New(_, _, _, spot) => source_at_spot(spot),
-        Op::TakeCell(_, _, spot) => source_at_spot(spot),
-        Op::TakeLocal(_, _, spot) => source_at_spot(spot),
-        Op::Give(_, _, spot) => source_at_spot(spot),
-        Op::Free(_, _, spot) => source_at_spot(spot),
-        Op::Lock(_, spot) => source_at_spot(spot),
-        Op::Unlock(_, _, spot) => source_at_spot(spot),
-        Op::CondEnter(_, spot) => source_at_spot(spot),
-        Op::CondWait(_, spot) => source_at_spot(spot),
-        Op::CondSignal(_, spot) => source_at_spot(spot),
-        Op::CondBroadcast(_, spot) => source_at_spot(spot),
-        Op::Spawn(_, _, _, spot) => source_at_spot(spot),
-        Op::Join(_, spot) => source_at_spot(spot),
-        Op::Print(_, spot) => source_at_spot(spot),
+        Op::Call(_, _, _, spot)
+        | Op::Return(spot)
+        | Op::TakeCell(_, _, spot)
+        | Op::TakeLocal(_, _, spot)
+        | Op::Give(_, _, spot)
+        | Op::Free(_, _, spot)
+        | Op::Lock(_, spot)
+        | Op::Unlock(_, _, spot)
+        | Op::CondEnter(_, spot)
+        | Op::CondWait(_, spot)
+        | Op::Spawn(_, _, _, spot)
+        | Op::Join(_, spot) => source_at_spot(spot),
+        Op::Skip(_) | Op::SkipIfZero(_, _) | Op::SkipIfNull(_, _) | Op::Jump(_) | Op::BlockEnd => {
+            no_place()
+        }
+        _ => straight_source(op),
+    }
+}
+
+// The same of an operation that ends no straight piece.
+fn straight_source(op: Op) -> SourcePlace
+    requires straight { is_straight op ≡ true }
+    ensures { result ≡ source_of op }
+{
+    match op {
+        Op::Compute(_, _, _, _, _, spot)
+        | Op::Negate(_, _, _, spot)
+        | Op::ChkWidth(_, _, spot)
+        | Op::ChkNull(_, spot)
+        | Op::ChkPositive(_, spot)
+        | Op::ChkHeld(_, spot)
+        | Op::ChkNotHeld(_, spot)
+        | Op::ChkRoom(spot)
+        | Op::Bounds(_, _, _, _, spot)
+        | Op::GlobalBounds(_, _, _, _, spot)
+        | Op::Load(_, _, spot)
+        | Op::Store(_, _, spot)
+        | Op::LoadRef(_, _, spot)
+        | Op::StoreRef(_, _, spot)
+        | Op::New(_, _, _, spot)
+        | Op::CondSignal(_, spot)
+        | Op::CondBroadcast(_, spot)
+        | Op::Print(_, spot) => source_at_spot(spot),
         Op::LoadGuard(_, spot) => SourcePlace {
             mode: PlaceMode::Readonly,
             ..source_at_spot(spot)
         },
-        Op::Enter => no_place(),
-        Op::BlockEnd => no_place(),
-        Op::Constant(_, _) => no_place(),
-        Op::Move(_, _) => no_place(),
-        Op::Complement(_, _) => no_place(),
-        Op::IsFalse(_, _) => no_place(),
-        Op::SameReference(_, _, _) => no_place(),
-        Op::Skip(_) => no_place(),
-        Op::SkipIfZero(_, _) => no_place(),
-        Op::SkipIfNull(_, _) => no_place(),
-        Op::Jump(_) => no_place(),
-        Op::Null(_) => no_place(),
-        Op::Local(_, _) => no_place(),
-        Op::MoveReference(_, _) => no_place(),
-        Op::Pop(_) => no_place(),
-        Op::Settle(_, _) => no_place(),
+        _ => no_place(),
     }
 }
 
@@ -341,8 +339,34 @@ fn own_statement(starts: &[u32], n: u32, op: Op) -> Option<Instr>
     ensures { result ≡ body (among starts.now) n op }
 {
     match op {
-        Op::Enter => None,
         Op::BlockEnd => None,
+        Op::Skip(k) => Some(Instr::Jump(over(starts, n, k))),
+        Op::SkipIfZero(i, k) => Some(Instr::JumpIfZero(i, over(starts, n, k))),
+        Op::SkipIfNull(r, k) => Some(Instr::JumpIfNull(r, over(starts, n, k))),
+        Op::Jump(to) => Some(Instr::Jump(place_of(starts, to as usize))),
+        Op::Call(f, ints, refs, _) => Some(Instr::Call(f, ints, refs, n)),
+        Op::Return(_) => Some(Instr::Return(n)),
+        Op::TakeCell(r, cell, _) => Some(Instr::TakeCell(r, cell, n)),
+        Op::TakeLocal(r, x, _) => Some(Instr::TakeLocal(r, x, n)),
+        Op::Give(r, _, _) => Some(Instr::Give(r, n)),
+        Op::Free(r, layout, _) => Some(Instr::Free(r, layout, n)),
+        Op::Lock(cell, _) => Some(Instr::Lock(cell, n)),
+        Op::Unlock(r, cell, _) => Some(Instr::Unlock(r, cell, n)),
+        Op::CondEnter(cell, _) => Some(Instr::CondEnter(cell, n)),
+        Op::CondWait(cell, _) => Some(Instr::CondWait(cell, n)),
+        Op::Spawn(i, f, from, _) => Some(Instr::Spawn(i, f, from, n)),
+        Op::Join(i, _) => Some(Instr::Join(i, n)),
+        _ => straight_statement(n, op),
+    }
+}
+
+// The same of an operation that ends no straight piece, for which it does not matter where the lines go.
+fn straight_statement(n: u32, op: Op) -> Option<Instr>
+    requires straight { is_straight op ≡ true }
+    ensures { (places : ℕ → ℕ) → result ≡ body places n op }
+{
+    match op {
+        Op::Enter => None,
         Op::Constant(i, v) => Some(Instr::Constant(i, v)),
         Op::Move(i, from) => Some(Instr::Move(i, from)),
         Op::Compute(width, operator, i, a, b, _) => Some(compute(width, operator, i, a, b, n)),
@@ -351,17 +375,10 @@ fn own_statement(starts: &[u32], n: u32, op: Op) -> Option<Instr>
         Op::IsFalse(i, a) => Some(Instr::Not(i, a)),
         Op::SameReference(i, a, b) => Some(Instr::SameReference(i, a, b)),
         Op::ChkWidth(width, i, _) => Some(Instr::ChkWidth(width, i, n)),
-        Op::Skip(k) => Some(Instr::Jump(over(starts, n, k))),
-        Op::SkipIfZero(i, k) => Some(Instr::JumpIfZero(i, over(starts, n, k))),
-        Op::SkipIfNull(r, k) => Some(Instr::JumpIfNull(r, over(starts, n, k))),
-        Op::Jump(to) => Some(Instr::Jump(place_of(starts, to as usize))),
-        Op::Call(f, ints, refs, _) => Some(Instr::Call(f, ints, refs, n)),
-        Op::Return(_) => Some(Instr::Return(n)),
         Op::Null(r) => Some(Instr::Null(r)),
         Op::Local(r, x) => Some(Instr::Raise(r, x)),
         Op::MoveReference(r, from) => Some(Instr::MoveReference(r, from)),
-        Op::Pop(r) => Some(Instr::Lower(r)),
-        Op::Settle(x, _) => Some(Instr::Lower(x)),
+        Op::Pop(r) | Op::Settle(r, _) => Some(Instr::Lower(r)),
         Op::ChkNull(r, _) => Some(Instr::ChkNull(r, n)),
         Op::ChkPositive(i, _) => Some(Instr::ChkPositive(i, n)),
         Op::ChkHeld(cell, _) => Some(Instr::ChkHeld(cell, n)),
@@ -373,23 +390,13 @@ fn own_statement(starts: &[u32], n: u32, op: Op) -> Option<Instr>
         )),
         Op::Load(i, cell, _) => Some(Instr::Load(i, cell, n)),
         Op::Store(i, cell, _) => Some(Instr::Store(i, cell, n)),
-        Op::LoadRef(_, cell, _) => Some(Instr::LoadRef(cell, n)),
+        Op::LoadRef(_, cell, _) | Op::LoadGuard(cell, _) => Some(Instr::LoadRef(cell, n)),
         Op::StoreRef(r, cell, _) => Some(Instr::Exchange(r, cell, n)),
-        Op::LoadGuard(cell, _) => Some(Instr::LoadRef(cell, n)),
         Op::New(r, count, cells, _) => Some(Instr::New(r, count, cells, n)),
-        Op::TakeCell(r, cell, _) => Some(Instr::TakeCell(r, cell, n)),
-        Op::TakeLocal(r, x, _) => Some(Instr::TakeLocal(r, x, n)),
-        Op::Give(r, _, _) => Some(Instr::Give(r, n)),
-        Op::Free(r, layout, _) => Some(Instr::Free(r, layout, n)),
-        Op::Lock(cell, _) => Some(Instr::Lock(cell, n)),
-        Op::Unlock(r, cell, _) => Some(Instr::Unlock(r, cell, n)),
-        Op::CondEnter(cell, _) => Some(Instr::CondEnter(cell, n)),
-        Op::CondWait(cell, _) => Some(Instr::CondWait(cell, n)),
         Op::CondSignal(cell, _) => Some(Instr::CondSignal(cell, n)),
         Op::CondBroadcast(cell, _) => Some(Instr::CondBroadcast(cell, n)),
-        Op::Spawn(i, f, from, _) => Some(Instr::Spawn(i, f, from, n)),
-        Op::Join(i, _) => Some(Instr::Join(i, n)),
         Op::Print(i, _) => Some(Instr::Print(i, n)),
+        _ => unreachable!(),
     }
 }
 
