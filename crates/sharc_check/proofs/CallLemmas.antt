@@ -7,7 +7,7 @@ use Rattle.sharc_mode.specs.{declared.finding.Finding.Finding, Expressions.{note
 pub call_said : (m : Assignment) (e : Expression) (s : Span) (f : Identifier) (list slice : List Expr) (n : List Finding)
     → e ≡ call s f (view_arguments list) → slice ≡ list
     → let ds = parameters_named m.typed (named_at m.typed f.site.token) in let all = view_arguments slice in
-      (n ++ notes_of_all m ds all ds all) ++ call_notes m s ds all ≡ n ++ notes_of m e
+    (n ++ notes_of_all m ds all ds all) ++ call_notes m s ds all ≡ n ++ notes_of m e
 call_said m e s f list slice n is slice_is =
     let ds = parameters_named m.typed (named_at m.typed f.site.token) in
     let A = λ (l : List Expr). notes_of_all m ds (view_arguments l) ds (view_arguments l) in

@@ -7,5 +7,5 @@ mod long;
 mod outcome;
 mod refused;
 mod streams;
-pub(crate) mod texts;
+mod texts;
 mod values;
