@@ -1,6 +1,6 @@
 -- Rounds go on: the run grows by a round, and the events that are left become fewer.
 use Rattle.std.proofs.{Common.{◌≡◌, ◌≢◌, [], ◌<◌, ◌≤◌, ◌++◌, ⊎_elim, true, false, ℕ, List, None, length, get_or, refl, sym, ap, ◌∙◌, subst, arith}, lemmas.Bool.cases_lt}
-use Rattle.std.specs.Prelude.{◌&&◌, ◌||◌, nat_lt}
+use Rattle.std.specs.Prelude.{◌||◌, nat_lt}
 use Rattle.sharc_word.specs.{declared.step.TheConstants.THREADS, Laws.HistoryLaws}
 use Rattle.sharc_code.specs.{declared.code.Code.Code, declared.shape.Shape.Shape, Laws.RunLaws, Opening.opening_words, Path.may_go, Runs.{Turn, IsRun, at, opening_of, is_started, turns_of, word_events}, StandingLaws.StandingLaws, Waits.waits_now, Whole.{one_thread, bounds, place_after}}
 use Rattle.sharc_threads.specs.{Ends.{Standing, is_enabled}, Laws.TableLaws, Seats.{AreSeats, HasBegun, left, may_turn_at}}

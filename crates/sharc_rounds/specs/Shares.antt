@@ -13,10 +13,12 @@ behind_last [] = zero
 behind_last (Some thread ∷ seats) = suc (behind_last seats)
 behind_last (None ∷ seats) = one_before (behind_last seats)
 
--- the workers up to the last one that has a thread, where thread n is at worker n modulo their number; one where there is no thread
+-- the workers up to the last one that has a thread, where thread n is at worker n modulo their number; one where there
+-- is no thread
 abbrev pub needed : List (Option ThreadView) → ℕ → ℕ
 needed seats workers = min workers (max 1 (behind_last seats))
 
--- a sixteenth of the events that are left to a thread, but at least 1,000, on top of those that it has made, and none above its limit
+-- a sixteenth of the events that are left to a thread, but at least 1,000, on top of those that it has made, and none
+-- above its limit
 abbrev pub share_until : ℕ → ℕ → ℕ
 share_until made limit = min limit (made + max 1000 ((limit - made) / 16))

@@ -27,8 +27,8 @@ pub(crate) struct Worker {
     pub(crate) hands: Vec<Option<Hand>>,
 }
 
-/// How many of these workers there are up to the last that has a thread, where thread `n` is at worker `n % workers`; at least one. The others
-/// would have nothing to do, and without them each thread has the same worker.
+/// How many of these workers there are up to the last that has a thread, where thread `n` is at worker `n % workers`;
+/// at least one. The others would have nothing to do, and without them each thread has the same worker.
 pub fn workers_needed(seats: &[Option<Thread>], workers: u32) -> u32
     requires { 0 < workers }
     ensures is { result ≡ needed seats.now workers }

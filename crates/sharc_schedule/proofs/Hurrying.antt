@@ -1,9 +1,9 @@
 -- Several turns of the run that makes a schedule at once, none of which has a word operation.
-use Rattle.std.proofs.{Common.{◌≡◌, ℕ, suc, ◌≤◌, true, false, List, [], ◌∷◌, ◌++◌, length, replicate, refl, sym, ap, ◌∙◌, subst, append_assoc}, lemmas.List.append-nil}
+use Rattle.std.proofs.{Common.{◌≡◌, ℕ, Bool, true, List, [], ◌∷◌, ◌++◌, length, replicate, refl, sym, ap, ◌∙◌, subst, append_assoc, arith}, lemmas.List.append-nil}
 use Rattle.sharc_code.specs.{declared.code.Code.Code, declared.shape.Shape.Shape, Laws.RunLaws, Runs.{Turn, Owns}, ThreadLaws.ThreadLaws, Whole.place_after}
 use Rattle.sharc_threads.specs.{Ends.is_enabled, Laws.TableLaws}
-use Rattle.sharc_seq.specs.{Run.enabled, Walk.{StandsAt, AreQuietTurns, WentQuietly}}
-use Rattle.sharc_schedule.specs.{declared.places.Going.Going, Schedule.{place_in, places_of, counted_together}, Going.{AllCount, GoesAt, Hurried, Quiet, Walked}}
+use Rattle.sharc_seq.specs.{Run.enabled, Walk.{StandsAt, IsQuietTurn, AreQuietTurns, WentQuietly}}
+use Rattle.sharc_schedule.specs.{declared.places.Going.Going, Schedule.{place_in, places_of, counted_together}, Going.{AllCount, GoesAt, Hurried, HurriedOn, Quiet, Walked}}
 use Rattle.sharc_schedule.proofs.{Lasts.one_after, Placing.{enabled_kept, enabled_there}, Replaying.Few, Turning.few_after}
 
 owns_both : (t : ℕ) (more before : List Turn) → Owns t more → Owns t before → Owns t (more ++ before)
@@ -48,9 +48,10 @@ module _ (laws : RunLaws) (threads : ThreadLaws) (code : Code) (s : Shape) (limi
   pub hurried : (turns : List Turn) (old new : Going) (made place : ℕ) → GoesAt code s limit turns old → (went : WentQuietly code s limit t turns made new.walk)
       → is_enabled code s limit (place_after code s turns) t ≡ true → place ≡ place_in t (enabled code s limit (place_after code s turns))
       → ((before : List ℕ) → old.places.items ≡ counted_together before → new.places.items ≡ counted_together (before ++ replicate made place))
-      → Hurried code s limit t turns new
+      → Hurried code s limit t turns made new
   hurried turns old new made place h went was is places = record {
     more = went.more;
+    many = went.many;
     quiet = went.quiet;
     goes = record {
       stands = went.stands;
@@ -63,13 +64,46 @@ module _ (laws : RunLaws) (threads : ThreadLaws) (code : Code) (s : Shape) (limi
     };
   }
 
-  -- turns that go on so
-  pub walked_hurried : (turns : List Turn) (old new : Going) → (w : Walked code s limit t turns old) → Hurried code s limit t (w.more ++ turns) new → Walked code s limit t turns new
-  walked_hurried turns old new w h = record {
+  both_quiet : (turns before more : List Turn) → AreQuietTurns code s limit t turns before → AreQuietTurns code s limit t (before ++ turns) more → AreQuietTurns code s limit t turns (more ++ before)
+  both_quiet turns before [] h low = h
+  both_quiet turns before (one ∷ more) h low =
+      (both_quiet turns before more h low.0, subst (λ (ts : List Turn). IsQuietTurn code s limit t ts one) (sym (append_assoc more before turns)) low.1)
+
+  -- such turns, and then more of them
+  pub hurried_on : (turns : List Turn) (made : ℕ) (was on : Bool) (old new : Going) → (w : HurriedOn code s limit t turns was old) → (h : Hurried code s limit t (w.more ++ turns) made new)
+      → on ≡ is_enabled code s limit (place_after code s (h.more ++ (w.more ++ turns))) t → HurriedOn code s limit t turns on new
+  hurried_on turns made was on old new w h is = record {
     more = h.more ++ w.more;
-    own = owns_both t h.more w.more (owned (w.more ++ turns) h.more h.quiet) w.own;
+    quiet = both_quiet turns w.more h.more w.quiet h.quiet;
     goes = subst (λ (ts : List Turn). GoesAt code s limit ts new) (sym (append_assoc h.more w.more turns)) h.goes;
-    quiet = quiet_both h.more w.more (all_quiet (w.more ++ turns) h.more h.quiet) w.quiet;
+    on_is = is ∙ ap (λ (ts : List Turn). is_enabled code s limit (place_after code s ts) t) (sym (append_assoc h.more w.more turns));
+  }
+
+  -- and then none
+  none_more : (more : List Turn) → length more ≡ 0 → more ≡ []
+  none_more [] e = refl
+  none_more (one ∷ more) e = absurd (omega (arith, e))
+
+  pub hurried_none : (turns : List Turn) (made : ℕ) (on : Bool) (old new : Going) → (w : HurriedOn code s limit t turns on old) → Hurried code s limit t (w.more ++ turns) made new → made ≡ 0
+      → HurriedOn code s limit t turns on new
+  hurried_none turns made on old new w h e =
+      let none : h.more ≡ [] = none_more h.more (h.many ∙ e) in
+      hurried_on turns made on on old new w h (w.on_is ∙ ap (λ (ts : List Turn). is_enabled code s limit (place_after code s (ts ++ (w.more ++ turns))) t) (sym none))
+
+  -- turns that go on so
+  pub record WalkedOn (turns : List Turn) (on : Bool) (going : Going) : Type 0 where
+    pub walked : Walked code s limit t turns going
+    pub on_is : on ≡ is_enabled code s limit (place_after code s (walked.more ++ turns)) t
+
+  pub walked_hurried : (turns : List Turn) (on : Bool) (old new : Going) → (w : Walked code s limit t turns old) → HurriedOn code s limit t (w.more ++ turns) on new → WalkedOn turns on new
+  walked_hurried turns on old new w h = record {
+    walked = record {
+      more = h.more ++ w.more;
+      own = owns_both t h.more w.more (owned (w.more ++ turns) h.more h.quiet) w.own;
+      goes = subst (λ (ts : List Turn). GoesAt code s limit ts new) (sym (append_assoc h.more w.more turns)) h.goes;
+      quiet = quiet_both h.more w.more (all_quiet (w.more ++ turns) h.more h.quiet) w.quiet;
+    };
+    on_is = h.on_is ∙ ap (λ (ts : List Turn). is_enabled code s limit (place_after code s ts) t) (sym (append_assoc h.more w.more turns));
   }
 
   -- the place stays the same
@@ -80,3 +114,10 @@ module _ (laws : RunLaws) (threads : ThreadLaws) (code : Code) (s : Shape) (limi
       let kept = enabled_kept laws threads code s limit t w.more first w.quiet w.own was still in
       let same = enabled_there tables code s limit turns (w.more ++ first) going.walk h w.goes.stands in
       is ∙ ap (λ (xs : List ℕ). place_in t xs) (sym (same ∙ kept))
+
+  pub place_still : (tables : TableLaws) (first : List Turn) (place : ℕ) → is_enabled code s limit (place_after code s first) t ≡ true → place ≡ place_in t (enabled code s limit (place_after code s first))
+      → (going : Going) → HurriedOn code s limit t first true going
+      → (turns : List Turn) → StandsAt code s turns going.walk → place ≡ place_in t (enabled code s limit (place_after code s turns))
+  place_still tables first place was is going h turns stands =
+      let w : Walked code s limit t first going = record { more = h.more; own = owned first h.more h.quiet; goes = h.goes; quiet = all_quiet first h.more h.quiet } in
+      place_kept tables first place was is going w (sym h.on_is) turns stands

@@ -1,5 +1,5 @@
 -- From run to run.
-use Rattle.std.proofs.Common.{◌≡◌, ℕ, suc, ◌+◌, ◌<◌, List, ◌++◌, refl, ◌∙◌, subst, arith}
+use Rattle.std.proofs.Common.{◌≡◌, ℕ, suc, ◌+◌, List, ◌++◌, refl, subst, arith}
 use Rattle.sharc_code.specs.{declared.code.Code.Code, declared.shape.Shape.Shape, Runs.Turn}
 use Rattle.sharc_schedule.specs.{declared.places.Going.Going, Going.{Reached, Stepped, Followed}}
 

@@ -1,5 +1,6 @@
 -- What the proof of the call that makes a schedule needs: where its run is, and by which turns it goes on.
-use Rattle.std.specs.Prelude.{ℕ, zero, suc, ◌≡◌, ◌≤◌, ◌⊎◌, Bool, true, false, List, [], ◌∷◌, ◌++◌, slice_index_or}
+use Rattle.std.specs.Prelude.{ℕ, zero, suc, ◌≡◌, ◌≤◌, ◌⊎◌, Bool, true, false, List, [], ◌∷◌, ◌++◌, length}
+use Rattle.std.specs.Prelude.{slice_index_or}
 use Rattle.sharc_word.specs.{declared.step.WordEvent.WordEvent, declared.step.WordOp.TheVariants.Load}
 use Rattle.sharc_code.specs.{declared.code.Code.Code, declared.shape.Shape.Shape, Path.counted}
 use Rattle.sharc_code.specs.{Runs.{Turn, Owns, state_now}, Whole.{one_thread, place_after}}
@@ -39,11 +40,20 @@ abbrev pub Loud : List Turn → Type 0
 Loud [] = ⊥
 Loud (one ∷ earlier) = Quiet earlier × (has_event one.event ≡ true)
 
--- more turns of this thread without a word operation, which was enabled before each
-pub record Hurried (code : Code) (s : Shape) (limit t : ℕ) (turns : List Turn) (going : Going) : Type 0 where
+-- so many more turns of this thread without a word operation, which was enabled before each
+pub record Hurried (code : Code) (s : Shape) (limit t : ℕ) (turns : List Turn) (made : ℕ) (going : Going) : Type 0 where
+  pub more : List Turn
+  pub many : length more ≡ made
+  pub quiet : AreQuietTurns code s limit t turns more
+  pub goes : GoesAt code s limit (more ++ turns) going
+
+-- some more, and it is known whether it is enabled behind them
+pub record HurriedOn (code : Code) (s : Shape) (limit t : ℕ) (turns : List Turn) (on : Bool) (going : Going)
+    : Type 0 where
   pub more : List Turn
   pub quiet : AreQuietTurns code s limit t turns more
   pub goes : GoesAt code s limit (more ++ turns) going
+  pub on_is : on ≡ is_enabled code s limit (place_after code s (more ++ turns)) t
 
 -- more turns of this thread, all without a word operation
 pub record Walked (code : Code) (s : Shape) (limit t : ℕ) (turns : List Turn) (going : Going) : Type 0 where

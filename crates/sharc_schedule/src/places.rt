@@ -1,6 +1,6 @@
 //! The schedule of a run, made from its word events.
 
-ghost use Rattle.std.specs.Prelude.{◌≡◌, ◌<◌, ◌≤◌, ℕ, true, List, IfOk, OnOk, if◌then◌else◌};
+ghost use Rattle.std.specs.Prelude.{◌≡◌, ◌<◌, ◌≤◌, ◌+◌, ℕ, true, List, IfOk, OnOk, if◌then◌else◌};
 ghost use Rattle.sharc_word.specs.declared.step.TheConstants.{THREADS as threads};
 ghost use Rattle.sharc_code.specs.Layout.{Fits};
 ghost use Rattle.sharc_code.specs.Runs.{Turn};
@@ -12,7 +12,7 @@ ghost use Rattle.sharc_threads.specs.Ends.{is_enabled};
 ghost use Rattle.sharc_seq.specs.Quiet.{IsQuiet};
 ghost use Rattle.sharc_seq.specs.Run.{enabled};
 ghost use Rattle.sharc_seq.specs.Walk.{IsWalk, MayGoOn, StandsAt, events_left};
-ghost use Rattle.sharc_schedule.specs.Going.{GoesAt, Hurried, IsGoing, OneMore, Reached};
+ghost use Rattle.sharc_schedule.specs.Going.{GoesAt, Hurried, HurriedOn, IsGoing, OneMore, Reached};
 ghost use Rattle.sharc_schedule.specs.Journal.{IsJournalOf};
 ghost use Rattle.sharc_schedule.specs.Schedule.{place_in, schedule_of};
 
@@ -82,7 +82,8 @@ impl Going {
         Ok(told)
     }
 
-    // Makes the turns of the thread, which is enabled and has this place, that are known to have no word operation, and writes their places.
+    // Makes turns of the thread, which is enabled and has this place, that are known to have no word operation, writes
+    // their places, and answers how many.
     fn hurry(
         &mut self,
         code: &Code,
@@ -92,7 +93,7 @@ impl Going {
         limit: u64,
         t: u8,
         place: u32,
-    ) -> Result<(), AllocError>
+    ) -> Result<u64, AllocError>
         requires plan { IsPlan code.now plan.now }
         requires quiet { IsQuiet code.now quiet.now }
         requires fits { Fits code.now shape.now }
@@ -100,18 +101,56 @@ impl Going {
         requires going { IsGoing code.now shape.now limit self.old }
         requires may { MayGoOn code.now shape.now limit t self.old.walk }
         requires place { (turns : List Turn) → StandsAt code.now shape.now turns self.old.walk → place ≡ place_in t (enabled code.now shape.now limit (place_after code.now shape.now turns)) }
-        ensures went { OnOk result ((turns : List Turn) → GoesAt code.now shape.now limit turns self.old → Hurried code.now shape.now limit t turns self.new) }
-        ensures left { OnOk result (events_left limit self.new.walk ≤ events_left limit self.old.walk) }
+        ensures went { IfOk result (λ made. (turns : List Turn) → GoesAt code.now shape.now limit turns self.old → Hurried code.now shape.now limit t turns made self.new) }
+        ensures left { IfOk result (λ made. events_left limit self.new.walk + made ≤ events_left limit self.old.walk) }
     {
         fits_law(code, shape);
         run_laws();
         thread_laws();
         table_laws();
-        let made = self.walk.quiet_turns(code, plan, quiet, shape, t, limit)?;
+        let made = self.walk.quiet_turns(code, plan, quiet, shape, t, limit);
         if made > 0 {
             count(&mut self.places, place, made as u32)?;
         }
-        Ok(())
+        Ok(made)
+    }
+
+    // Makes such turns as long as some are known and the thread is enabled, and answers whether it is enabled then.
+    fn hurry_on(
+        &mut self,
+        code: &Code,
+        plan: &Plan,
+        quiet: &Quiet,
+        shape: &Shape,
+        limit: u64,
+        t: u8,
+        place: u32,
+    ) -> Result<bool, AllocError>
+        requires plan { IsPlan code.now plan.now }
+        requires quiet { IsQuiet code.now quiet.now }
+        requires fits { Fits code.now shape.now }
+        requires limit { limit ≤ 100000000 }
+        requires going { IsGoing code.now shape.now limit self.old }
+        requires low { t < threads }
+        requires may { MayGoOn code.now shape.now limit t self.old.walk }
+        requires place { (turns : List Turn) → StandsAt code.now shape.now turns self.old.walk → place ≡ place_in t (enabled code.now shape.now limit (place_after code.now shape.now turns)) }
+        ensures went { IfOk result (λ on. (turns : List Turn) → GoesAt code.now shape.now limit turns self.old → HurriedOn code.now shape.now limit t turns on self.new) }
+        ensures left { IfOk result (λ on. events_left limit self.new.walk ≤ events_left limit self.old.walk) }
+    {
+        fits_law(code, shape);
+        run_laws();
+        thread_laws();
+        table_laws();
+        'turns: loop {
+            let made = self.hurry(code, plan, quiet, shape, limit, t, place)?;
+            if made == 0 {
+                return Ok(true);
+            }
+            let on = self.walk.may_turn(t, limit);
+            if !on {
+                return Ok(false);
+            }
+        }
     }
 
     // Makes turns of the thread until one has made a word operation, or until the thread is not enabled. Its place stays the same up to
@@ -144,8 +183,7 @@ impl Going {
         }
         let place = place_of(&self.walk, limit, t);
         'turns: loop {
-            self.hurry(code, plan, quiet, shape, limit, t, place)?;
-            let on = self.walk.may_turn(t, limit);
+            let on = self.hurry_on(code, plan, quiet, shape, limit, t, place)?;
             if !on {
                 return Ok(());
             }

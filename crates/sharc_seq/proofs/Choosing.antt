@@ -5,7 +5,7 @@ use Rattle.sharc_word.specs.declared.step.TheConstants.{THREADS}
 use Rattle.sharc_code.specs.{declared.code.Code.Code, declared.shape.Shape.Shape, Path.may_go, Waits.waits_now}
 use Rattle.sharc_threads.specs.Ends.{Standing, is_enabled}
 use Rattle.sharc_seq.specs.Run.{enabled}
-use Rattle.sharc_lemmas.proofs.Lists.{any_default, fails, passes, nothing, up_to}
+use Rattle.sharc_lemmas.proofs.Lists.{any_default, fails, passes, up_to}
 
 -- ---- the list of those that are
 

@@ -4,3 +4,4 @@ pub mod Made
 pub mod Telling
 pub mod Quiets
 pub mod Quieting
+pub mod Rowing

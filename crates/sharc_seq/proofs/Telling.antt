@@ -1,8 +1,8 @@
--- A quantum of one turn over a port that reports whether it made a step, and what that found.
-use Rattle.std.proofs.Common.{◌≡◌, ℕ, ◌+◌, Bool, true, false, List, [], ◌∷◌, length, refl, sym, ap, ◌∙◌, subst, arith}
+-- One turn over a port that reports whether it made a step, and what that found.
+use Rattle.std.proofs.Common.{◌≡◌, ℕ, suc, Bool, true, false, List, [], ◌∷◌, length, refl, sym, ap, ◌∙◌, subst, arith}
 use Rattle.sharc_word.specs.{declared.step.WordEvent.WordEvent, Place.{Place, Leads, LeadsInWords, place_of_words}}
-use Rattle.sharc_code.specs.{declared.code.Code.Code, declared.shape.Shape.Shape, Machine.{Turn, Local, Asks}, Path.{turn, asked_by, events_of_turn, events_of_path, made_in}, ThreadLaws.found_now}
-use Rattle.sharc_cpu.specs.{Thread.ThreadView, Quantum.IsQuantum, declared.quantum.Pause.Pause}
+use Rattle.sharc_code.specs.{declared.code.Code.Code, declared.shape.Shape.Shape, Machine.{Machine, Turn, Local, Asks}, Path.{turn, asked_by, counted, events_of_turn, events_of_path}, ThreadLaws.found_now}
+use Rattle.sharc_cpu.specs.Quantum.{GoesWhere}
 use Rattle.sharc_seq.specs.{Told.{as_number, place_told, told_in, found_in, words_in, LeadsTold}, Walk.has_step}
 
 leads_words : (events : List WordEvent) (from to : Place) → Leads LeadsTold from events to → Leads LeadsInWords (place_of_words (words_in from.words)) events (place_of_words (words_in to.words))
@@ -24,47 +24,38 @@ turn_found : (t : ℕ) (a : Turn) (result : ℕ) (told : Bool) (found : ℕ) (wo
 turn_found t (Local m) result told found words now h = sym (ap (λ (p : Place). found_in p.words) h)
 turn_found t (Asks step go) result told found words now h = sym (ap (λ (p : Place). found_in p.words) h.2) ∙ h.1.found ∙ h.1.leads.may_follow.result_is
 
-module _ (code : Code) (s : Shape) (limit : ℕ) (words now : List ℕ) (told : Bool) (found : ℕ) (old new : ThreadView) (pause : Pause)
-    (q : IsQuantum (λ thread. Unit {0}) LeadsTold code s 1 limit old new (place_told false 0 words) (place_told told found now) pause) where
+module _ (code : Code) (s : Shape) (words now : List ℕ) (told : Bool) (found : ℕ) (old new : Machine)
+    (q : GoesWhere (Unit {0}) LeadsTold code s old new (place_told false 0 words) (place_told told found now) 1 (counted new.at.state)) where
   -- it is one over the words alone
-  pub in_words : IsQuantum (λ thread. Unit {0}) LeadsInWords code s 1 limit old new (place_of_words words) (place_of_words now) pause
+  pub in_words : GoesWhere (Unit {0}) LeadsInWords code s old new (place_of_words words) (place_of_words now) 1 (counted new.at.state)
   in_words = record {
-    turns = q.turns;
-    events = q.events;
-    few = q.few;
-    goes = record {
-      founds = q.goes.founds;
-      path = q.goes.path;
-      machine = q.goes.machine;
-      led = λ u. leads_words (events_of_path code s old.machine q.goes.founds) (place_told false 0 words) (place_told told found now) (q.goes.led u);
-      turns_are = q.goes.turns_are;
-      made_are = q.goes.made_are;
-    };
-    made = q.made;
-    within = q.within;
-    pause_is = q.pause_is;
-    ran = q.ran;
+    founds = q.founds;
+    path = q.path;
+    machine = q.machine;
+    led = λ u. leads_words (events_of_path code s old q.founds) (place_told false 0 words) (place_told told found now) (q.led u);
+    turns_are = q.turns_are;
+    made_are = q.made_are;
   }
 
   record Tells : Type 0 where
-    step : told ≡ has_step (asked_by (turn code s old.machine))
-    finds : found ≡ found_now words (turn code s old.machine)
+    step : told ≡ has_step (asked_by (turn code s old))
+    finds : found ≡ found_now words (turn code s old)
 
-  by_founds : (founds : List ℕ) → q.goes.founds ≡ founds → new.made ≡ old.made + 1 → Tells
-  by_founds [] e more = absurd (omega (arith, q.made, more, q.goes.made_are ∙ ap (made_in code s old.machine) e))
-  by_founds (result ∷ []) e more =
-      let led = subst (λ (xs : List ℕ). Leads LeadsTold (place_told false 0 words) (events_of_path code s old.machine xs) (place_told told found now)) e (q.goes.led tt) in
+  by_founds : (founds : List ℕ) → q.founds ≡ founds → Tells
+  by_founds [] e = absurd (let none : 1 ≡ 0 = q.turns_are ∙ ap (λ (xs : List ℕ). length xs) e in omega (arith, none))
+  by_founds (result ∷ []) e =
+      let led = subst (λ (xs : List ℕ). Leads LeadsTold (place_told false 0 words) (events_of_path code s old xs) (place_told told found now)) e (q.led tt) in
       record {
-        step = turn_told old.machine.own.number (turn code s old.machine) result told found words now led;
-        finds = turn_found old.machine.own.number (turn code s old.machine) result told found words now led;
+        step = turn_told old.own.number (turn code s old) result told found words now led;
+        finds = turn_found old.own.number (turn code s old) result told found words now led;
       }
-  by_founds (one ∷ other ∷ rest) e more =
-      absurd (omega (arith, q.few, q.goes.turns_are ∙ ap (λ (xs : List ℕ). length xs) e))
+  by_founds (one ∷ other ∷ rest) e =
+      absurd (let many : 1 ≡ suc (suc (length rest)) = q.turns_are ∙ ap (λ (xs : List ℕ). length xs) e in omega (arith, many))
 
   -- it reports whether the turn asked for a step
-  pub tells : new.made ≡ old.made + 1 → told ≡ has_step (asked_by (turn code s old.machine))
-  tells more = (by_founds q.goes.founds refl more).step
+  pub tells : told ≡ has_step (asked_by (turn code s old))
+  tells = (by_founds q.founds refl).step
 
   -- and what that found
-  pub finds : new.made ≡ old.made + 1 → found ≡ found_now words (turn code s old.machine)
-  finds more = (by_founds q.goes.founds refl more).finds
+  pub finds : found ≡ found_now words (turn code s old)
+  finds = (by_founds q.founds refl).finds

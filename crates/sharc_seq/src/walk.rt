@@ -215,9 +215,8 @@ impl Walk {
         Ok(self.port.told)
     }
 
-    /// Makes the turns of the thread of this number, which is enabled, that are known to have no word operation, and answers how many.
-    ///
-    /// An `Err` says that memory was not found.
+    /// Makes turns of the thread of this number, which is enabled, that are known to have no word operation, and
+    /// answers how many.
     pub fn quiet_turns(
         &mut self,
         code: &Code,
@@ -226,15 +225,15 @@ impl Walk {
         shape: &Shape,
         number: u8,
         limit: u64,
-    ) -> Result<u64, AllocError>
+    ) -> u64
         requires plan { IsPlan code.now plan.now }
         requires quiet { IsQuiet code.now quiet.now }
         requires fits { Fits code.now shape.now }
         requires limit { limit ≤ 100000000 }
         requires may { MayGoOn code.now shape.now limit number self.old }
-        ensures went { IfOk result (λ made. (turns : List Turn) → StandsAt code.now shape.now turns self.old → WentQuietly code.now shape.now limit number turns made self.new) }
-        ensures few { IfOk result (λ made. made ≤ limit) }
-        ensures left { IfOk result (λ made. events_left limit self.new + made ≤ events_left limit self.old) }
+        ensures went { (turns : List Turn) → StandsAt code.now shape.now turns self.old → WentQuietly code.now shape.now limit number turns result self.new }
+        ensures few { result ≤ limit }
+        ensures left { events_left limit self.new + result ≤ events_left limit self.old }
     {
         fits_law(code, shape);
         standing_laws();

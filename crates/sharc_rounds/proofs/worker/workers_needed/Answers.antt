@@ -1,5 +1,4 @@
-use Rattle.std.proofs.Common.{◌≡◌, ◌<◌, ℕ, List, Option, Bool, true, false, length, get_or, sym, ◌∙◌, arith}
-use Rattle.std.specs.Prelude.{is_some}
+use Rattle.std.proofs.Common.{◌≡◌, ◌<◌, List, Option, true, false, length, sym, ◌∙◌, arith}
 use Rattle.sharc_cpu.specs.Thread.{ThreadView}
 use Rattle.sharc_rounds.proofs.{Needing.{gone_over, behind_all, below_behind, same_worker}, worker.workers_needed.Goals.{then-is_some, else-is_some}}
 use Rattle.sharc_rounds.proofs.worker.workers_needed.Goals as goal

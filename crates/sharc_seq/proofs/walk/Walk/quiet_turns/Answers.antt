@@ -1,4 +1,4 @@
-use Rattle.std.proofs.{Common.{◌≡◌, ℕ, ◌<◌, List, Option, None, get_or, refl, sym, ◌∙◌}, lemmas.Result.IfOk-weaker}
+use Rattle.std.proofs.Common.{◌≡◌, ℕ, List, Option, None, get_or, refl, sym, ◌∙◌}
 use Rattle.std.specs.Vec.{with_item}
 use Rattle.sharc_code.specs.Whole.{place_after}
 use Rattle.sharc_cpu.specs.Thread.{ThreadView}
@@ -46,9 +46,9 @@ returns-clause-went c =
     let is : x ≡ get_or seats number None = c.index_mut.ensures.value ∙ any_default seats number x None low in
     let y : Option ThreadView = c.quiet_turns_at.new.seat in
     let new : Walk = record { threads = record { seats = with_item walk.threads.seats number y }; started = walk.started; port = c.quiet_turns_at.new.port } in
-    IfOk-weaker c.quiet_turns_at.result _ _ (λ made h. λ turns stands.
+    λ turns stands.
     (hurried c.standing_laws.ensures c.thread_laws.ensures code s c.args.limit c.requires.limit turns walk new number stands
-    (enabled_too c.table_laws.ensures code s c.args.limit m.0 turns walk number m.1 stands m.2) refl x y made (sym is) h refl).went) c.quiet_turns_at.ensures
+    (enabled_too c.table_laws.ensures code s c.args.limit m.0 turns walk number m.1 stands m.2) refl x y c.quiet_turns_at.result (sym is) c.quiet_turns_at.ensures refl).went
 
 pub returns-clause-few : goal.returns-clause-few
 returns-clause-few c =
@@ -63,8 +63,7 @@ returns-clause-few c =
     let is : x ≡ get_or seats number None = c.index_mut.ensures.value ∙ any_default seats number x None low in
     let y : Option ThreadView = c.quiet_turns_at.new.seat in
     let new : Walk = record { threads = record { seats = with_item walk.threads.seats number y }; started = walk.started; port = c.quiet_turns_at.new.port } in
-    IfOk-weaker c.quiet_turns_at.result _ _ (λ made h.
-    (hurried c.standing_laws.ensures c.thread_laws.ensures code s c.args.limit c.requires.limit m.0 walk new number m.1 m.2 refl x y made (sym is) h refl).few_are) c.quiet_turns_at.ensures
+    (hurried c.standing_laws.ensures c.thread_laws.ensures code s c.args.limit c.requires.limit m.0 walk new number m.1 m.2 refl x y c.quiet_turns_at.result (sym is) c.quiet_turns_at.ensures refl).few_are
 
 pub returns-clause-left : goal.returns-clause-left
 returns-clause-left c =
@@ -79,5 +78,4 @@ returns-clause-left c =
     let is : x ≡ get_or seats number None = c.index_mut.ensures.value ∙ any_default seats number x None low in
     let y : Option ThreadView = c.quiet_turns_at.new.seat in
     let new : Walk = record { threads = record { seats = with_item walk.threads.seats number y }; started = walk.started; port = c.quiet_turns_at.new.port } in
-    IfOk-weaker c.quiet_turns_at.result _ _ (λ made h.
-    (hurried c.standing_laws.ensures c.thread_laws.ensures code s c.args.limit c.requires.limit m.0 walk new number m.1 m.2 refl x y made (sym is) h refl).left_is) c.quiet_turns_at.ensures
+    (hurried c.standing_laws.ensures c.thread_laws.ensures code s c.args.limit c.requires.limit m.0 walk new number m.1 m.2 refl x y c.quiet_turns_at.result (sym is) c.quiet_turns_at.ensures refl).left_is
