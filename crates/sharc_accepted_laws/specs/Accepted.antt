@@ -15,7 +15,9 @@ abbrev pub GlobalsAreNamed : Type 0
 GlobalsAreNamed = (m : Assignment) → IsAccepted m → AreGlobalsNamed m
 
 -- ---- the code
--- By the targets of the program. Its constants are held by their types and its numbers have no sign, as those of each program that a source is.
+-- By the targets of the program. Its constants are held by their types and its numbers have no sign, as those of each
+-- program that a source is.
 abbrev pub AcceptedIsTyped : Type 0
-AcceptedIsTyped = (m : Assignment) → IsAccepted m → ConstantsHold m → AreUnsigned m.typed → (flat : FlatCode) → Flattens m flat → FitsMade (flat_of flat) → (code : Code) → IsCodeOf flat code
+AcceptedIsTyped = (m : Assignment) → IsAccepted m → ConstantsHold m → AreUnsigned m.typed
+    → (flat : FlatCode) → Flattens m flat → FitsMade (flat_of flat) → (code : Code) → IsCodeOf flat code
     → (ls : Labels) × IsWellTyped (targets_of m) code ls

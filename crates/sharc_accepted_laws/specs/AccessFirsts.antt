@@ -25,8 +25,11 @@ KnowsCondition m = struct_named (structs_in m.typed.program.items) (codes "cond"
 
 module _ (z : Setting) (c : Context) where
   pub record HasFirstCells : Type 0 where
-    pub mutex : (e : Expression) → IsExpression c.program e → kind_at c.program.typed e ≡ mutex_pointer → (s : StaticType) → entry_of c e ≡ Refers s → FirstCell z s MutexWord
-    pub condition : KnowsCondition c.program → (e : Expression) → IsExpression c.program e → kind_at c.program.typed e ≡ condition_pointer → (s : StaticType) → entry_of c e ≡ Refers s → FirstCell z s Waiters
+    pub mutex : (e : Expression) → IsExpression c.program e → kind_at c.program.typed e ≡ mutex_pointer
+        → (s : StaticType) → entry_of c e ≡ Refers s → FirstCell z s MutexWord
+    pub condition : KnowsCondition c.program
+        → (e : Expression) → IsExpression c.program e → kind_at c.program.typed e ≡ condition_pointer
+        → (s : StaticType) → entry_of c e ≡ Refers s → FirstCell z s Waiters
     pub no_mutex : FirstCell z (type_of_mutex c.program) MutexWord
     pub no_condition : KnowsCondition c.program → FirstCell z (type_of_condition c.program) Waiters
 

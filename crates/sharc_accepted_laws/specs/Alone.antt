@@ -21,7 +21,8 @@ pub record AreAlone (m : Assignment) (alone : ℕ → Bool) : Type 0 where
   -- what calls or spawns one of them is one of them
   pub caller : (n k : ℕ) → Runs m.typed n k → alone k ≡ true → alone n ≡ true
   -- what names a private cell of a global is one of them
-  pub own : (n : ℕ) (f : Function) → function_at m.typed n ≡ Some f → (e : Expression) → AllByRecursion (λ x. Contains (in_function f) x) (expressions e)
+  pub own : (n : ℕ) (f : Function) → function_at m.typed n ≡ Some f
+      → (e : Expression) → AllByRecursion (λ x. Contains (in_function f) x) (expressions e)
       → (g : ℕ) → IsInside (target m.typed None e) g → cell_at m e ≡ private → alone n ≡ true
 
 abbrev pub SomeAreAlone : Type 0

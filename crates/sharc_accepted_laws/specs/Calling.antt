@@ -1,4 +1,5 @@
--- What is passed at a call: the arguments, in registers one behind the other, go to the parameters of the callee's frame.
+-- What is passed at a call: the arguments, in registers one behind the other, go to the parameters of the callee's
+-- frame.
 use Rattle.std.specs.Prelude.{ℕ, ◌+◌, ◌<◌, List, slice_get, Option, Some, None}
 use Rattle.sharc_tree.specs.{declared.tree.declaration.Declaration.Declaration, Tree.{Arguments, Function}}
 use Rattle.sharc_names.specs.Kinds.{declared_kinds}
@@ -19,14 +20,17 @@ wants_of c ds all n = type_for c ds all (slice_get ds n)
 
 -- each reference that is passed is as the callee's first registers have it
 abbrev pub CallsPass : Type 0
-CallsPass = (z : Setting) (f : ℕ) (c : Context) → IsAccepted c.program → (g : Function) → IsFunction c.program g → (all : Arguments) → IsCall c.program g.parameters all
+CallsPass = (z : Setting) (f : ℕ) (c : Context) → IsAccepted c.program → (g : Function) → IsFunction c.program g
+    → (all : Arguments) → IsCall c.program g.parameters all
     → ArgumentsSuit c (declared_kinds g.parameters) all → (i r : ℕ) (l : Label)
     → ArgumentsAt z f typing c (declared_kinds g.parameters) (wants_of c g.parameters all) all i r l
-    → (p : ℕ) → p < ref_count (parameters_scope g.parameters) → Passes l r (r + p) (l.env (r + p)) (variable_entry (at_entry c g.parameters) p)
+    → (p : ℕ) → p < ref_count (parameters_scope g.parameters)
+    → Passes l r (r + p) (l.env (r + p)) (variable_entry (at_entry c g.parameters) p)
 
 -- the arguments that are constant variables stand
 abbrev pub ArgumentsStand : Type 0
-ArgumentsStand = (c : Context) → IsAccepted c.program → (g : Function) → IsFunction c.program g → (all : Arguments) → ArgumentsSuit c (declared_kinds g.parameters) all → AreStanding c g.parameters all
+ArgumentsStand = (c : Context) → IsAccepted c.program → (g : Function) → IsFunction c.program g
+    → (all : Arguments) → ArgumentsSuit c (declared_kinds g.parameters) all → AreStanding c g.parameters all
 
 pub record CallingLaws : Type 0 where
   pub stand : ArgumentsStand

@@ -12,5 +12,8 @@ use Rattle.sharc_accepted_laws.specs.{StaticLaws.IsAccepted, Static.static_of, T
 
 -- a cast to a type from one that has, from its second target on, the same modes
 abbrev pub CastsRecast : Type 0
-CastsRecast = (c : Context) → IsAccepted c.program → (s : Span) (t : WrittenType) (a : Expression) (found : List Sharing) → IsExpression c.program (cast s t a) → IsExpression c.program a → modes_at c.program a ≡ Some found
-    → (l : Label) (r : ℕ) → Recasts (targets_of c.program) l r (static_of c (kind_at c.program.typed a) found) (static_of c (declared_kind t) (modes_of c.program (cast_row c.program.typed s)))
+CastsRecast = (c : Context) → IsAccepted c.program
+    → (s : Span) (t : WrittenType) (a : Expression) (found : List Sharing) → IsExpression c.program (cast s t a)
+    → IsExpression c.program a → modes_at c.program a ≡ Some found
+    → (l : Label) (r : ℕ) → Recasts (targets_of c.program) l r (static_of c (kind_at c.program.typed a) found)
+    (static_of c (declared_kind t) (modes_of c.program (cast_row c.program.typed s)))

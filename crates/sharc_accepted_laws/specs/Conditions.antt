@@ -11,4 +11,6 @@ use Rattle.sharc_accepted_laws.specs.StaticLaws.{IsAccepted}
 
 -- the program defines no such struct if it calls what it does not define
 abbrev pub KnownCalls : Type 0
-KnownCalls = (m : Assignment) → IsAccepted m → (s : Span) (f : Identifier) (all : Arguments) → IsExpression m (call s f all) → named_at m.typed f.site.token ≡ named.Known → struct_named (structs_in m.typed.program.items) (codes "cond") ≡ None
+KnownCalls = (m : Assignment) → IsAccepted m → (s : Span) (f : Identifier) (all : Arguments)
+    → IsExpression m (call s f all) → named_at m.typed f.site.token ≡ named.Known
+    → struct_named (structs_in m.typed.program.items) (codes "cond") ≡ None

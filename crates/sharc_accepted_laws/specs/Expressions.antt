@@ -21,17 +21,21 @@ HasFirst z content = (s : StaticType) × (s.locks ≡ []) × FirstCell z s conte
 
 -- pointers to condition variables and to mutexes refer to such, and there are types of them, as which NULL is passed
 pub record ConditionsTyped (z : Setting) (c : Context) (n : ℕ) (g : Function) : Type 0 where
-  pub conditions : (e : Expression) → IsOf c n g e → kind_of c e ≡ condition_pointer → FirstCell z (type_by (entry_of c e)) Waiters
-  pub mutexes : (e : Expression) → IsOf c n g e → kind_of c e ≡ mutex_pointer → FirstCell z (type_by (entry_of c e)) MutexWord
+  pub conditions : (e : Expression) → IsOf c n g e → kind_of c e ≡ condition_pointer
+      → FirstCell z (type_by (entry_of c e)) Waiters
+  pub mutexes : (e : Expression) → IsOf c n g e → kind_of c e ≡ mutex_pointer
+      → FirstCell z (type_by (entry_of c e)) MutexWord
   pub no_condition : HasFirst z Waiters
   pub no_mutex : HasFirst z MutexWord
 
--- What is asked where these variables stand, in function n with definition g: cells are accessed as their types say, lock paths lead to mutexes, and what `wait`, `signal` and
--- `broadcast` are passed is of their types.
+-- What is asked where these variables stand, in function n with definition g: cells are accessed as their types say,
+-- lock paths lead to mutexes, and what `wait`, `signal` and `broadcast` are passed is of their types.
 pub record CellsTyped (z : Setting) (c : Context) (n : ℕ) (g : Function) : Type 0 where
-  pub lvalues : (e : Expression) → IsOf c n g e → BaseStands c e → is_cell (target_of c e) ≡ true → LvalueTyped z typing c n e
+  pub lvalues : (e : Expression) → IsOf c n g e → BaseStands c e → is_cell (target_of c e) ≡ true
+      → LvalueTyped z typing c n e
   pub paths : (e : Expression) → IsOf c n g e → PathLeads c e
-  pub known : (s : Span) (i : Identifier) (all : Arguments) → IsOf c n g (call s i all) → named_at c.program.typed i.site.token ≡ named.Known → ConditionsTyped z c n g
+  pub known : (s : Span) (i : Identifier) (all : Arguments) → IsOf c n g (call s i all)
+      → named_at c.program.typed i.site.token ≡ named.Known → ConditionsTyped z c n g
 
 -- ---- what is then so
 module _ (c : Context) (code : Code) (alone : ℕ → Bool) (lines n : ℕ) (g : Function) where
@@ -49,8 +53,10 @@ module _ (c : Context) (code : Code) (alone : ℕ → Bool) (lines n : ℕ) (g :
 
   pub record ExpressionsTypable : Type 0 where
     pub values : (e : Expression) → IsOf c n g e → Suits c e → IsValue e → IsTypable here n typing c e
-    pub places : (u : Expression) → IsOf c n g u → PlaceSuits c u → is_struct_behind 0 (kind_of c u) ≡ false → is_array (kind_of c u) ≡ false → PlaceTypable u
+    pub places : (u : Expression) → IsOf c n g u → PlaceSuits c u → is_struct_behind 0 (kind_of c u) ≡ false
+        → is_array (kind_of c u) ≡ false → PlaceTypable u
 
 abbrev pub ExpressionsAreTypable : Type 0
-ExpressionsAreTypable = (c : Context) (code : Code) (alone : ℕ → Bool) (lines : ℕ) → IsSet c.program c.globals code alone → (n : ℕ) (g : Function)
+ExpressionsAreTypable = (c : Context) (code : Code) (alone : ℕ → Bool) (lines : ℕ)
+    → IsSet c.program c.globals code alone → (n : ℕ) (g : Function)
     → CellsTyped (setting_of c.program c.globals code alone lines) c n g → ExpressionsTypable c code alone lines n g

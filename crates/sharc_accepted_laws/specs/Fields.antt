@@ -7,4 +7,5 @@ use Rattle.sharc_meaning.specs.Cells.{field_place}
 
 -- the place of a field is that at which it stands in its struct
 abbrev pub FieldsPlaced : Type 0
-FieldsPlaced = (r : Resolution) → IsPlaced r.program → (s : StructDefinition) (k : ℕ) (d : Declaration) → Contains (structs_in r.program.items) s → slice_get s.fields k ≡ Some d → field_place r d.name.site.token ≡ k
+FieldsPlaced = (r : Resolution) → IsPlaced r.program → (s : StructDefinition) (k : ℕ) (d : Declaration)
+    → Contains (structs_in r.program.items) s → slice_get s.fields k ≡ Some d → field_place r d.name.site.token ≡ k

@@ -6,4 +6,5 @@ use Rattle.sharc_flat.specs.Tables.{all_granules}
 
 -- no more than the limits let a program have cells
 abbrev pub GranulesAreFew : Type 0
-GranulesAreFew = (r : Resolution) → IsResolved r → IsPlaced r.program → IsLow r.program → all_granules r (globals_in r.program.items) ≤ 65536
+GranulesAreFew = (r : Resolution) → IsResolved r → IsPlaced r.program → IsLow r.program
+    → all_granules r (globals_in r.program.items) ≤ 65536

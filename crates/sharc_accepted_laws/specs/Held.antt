@@ -1,5 +1,7 @@
--- Variables that keep their references: constant ones, of which no SCAST and no `free` takes the reference. Lock paths lead through no other.
-use Rattle.std.specs.Prelude.{◌≡◌, ℕ, ◌<◌, Bool, true, false, ◌&&◌, not, List, [], slice_get, option_to_list, Option, Some, None}
+-- Variables that keep their references: constant ones, of which no SCAST and no `free` takes the reference. Lock paths
+-- lead through no other.
+use Rattle.std.specs.Prelude.{◌≡◌, ℕ, ◌<◌, Bool, true, false, ◌&&◌, not, List, [], slice_get, option_to_list, Option}
+use Rattle.std.specs.Prelude.{Some, None}
 use Rattle.std.specs.List.{AllByRecursion, list_any}
 use Rattle.sharc_tree.specs.{declared.token.Span.Span, declared.tree.declaration.Identifier.Identifier}
 use Rattle.sharc_tree.specs.{declared.tree.expression.PlaceCall.TheVariants.Free, Forms.without_parentheses}
@@ -44,25 +46,32 @@ AllHeld m modes = AllByRecursion (IsHeldPath m) modes
 
 -- in the type of an expression
 abbrev pub ExpressionsAreHeld : Type 0
-ExpressionsAreHeld = (m : Assignment) → IsAccepted m → (e : Expression) (modes : List Sharing) → AllByRecursion (IsExpression m) (expressions e) → modes_at m e ≡ Some modes → AllHeld m modes
+ExpressionsAreHeld = (m : Assignment) → IsAccepted m → (e : Expression) (modes : List Sharing)
+    → AllByRecursion (IsExpression m) (expressions e) → modes_at m e ≡ Some modes → AllHeld m modes
 
 -- and in that of what a token declares
 abbrev pub DeclaredAreHeld : Type 0
-DeclaredAreHeld = (m : Assignment) → IsAccepted m → (token : ℕ) → AllHeld m (modes_of m (declared_row m.typed written token))
+DeclaredAreHeld = (m : Assignment) → IsAccepted m
+    → (token : ℕ) → AllHeld m (modes_of m (declared_row m.typed written token))
 
 -- so a type names registers of variables that are held
 abbrev pub TypesNameHeld : Type 0
-TypesNameHeld = (c : Context) (kind : Kind) (modes : List Sharing) (p : ℕ) → AllHeld c.program modes → AllStand c.program c.scope modes → Mentions (static_of c kind modes) p → (p < ref_count c.scope) × (held_at c p ≡ true)
+TypesNameHeld = (c : Context) (kind : Kind) (modes : List Sharing) (p : ℕ) → AllHeld c.program modes
+    → AllStand c.program c.scope modes → Mentions (static_of c kind modes) p
+    → (p < ref_count c.scope) × (held_at c p ≡ true)
 
 -- ---- what is not held
 -- a variable to which something is assigned
 abbrev pub AssignedIsNotHeld : Type 0
-AssignedIsNotHeld = (c : Context) (u : Expression) (from : Right) (s : Span) (i : Identifier) (x : ℕ) → IsAssigned c.program u from → without_parentheses u ≡ identifier s i → named_at c.program.typed i.site.token ≡ named.Variable x
+AssignedIsNotHeld = (c : Context) (u : Expression) (from : Right) (s : Span) (i : Identifier) (x : ℕ)
+    → IsAssigned c.program u from → without_parentheses u ≡ identifier s i
+    → named_at c.program.typed i.site.token ≡ named.Variable x
     → slot_kind c.scope x ≡ Some true → held_at c (register c x) ≡ false
 
 -- one that is taken
 abbrev pub TakenIsNotHeld : Type 0
-TakenIsNotHeld = (c : Context) (a : Expression) (s : Span) (i : Identifier) (x : ℕ) → IsTaken c.program a → without_parentheses a ≡ identifier s i → named_at c.program.typed i.site.token ≡ named.Variable x
+TakenIsNotHeld = (c : Context) (a : Expression) (s : Span) (i : Identifier) (x : ℕ) → IsTaken c.program a
+    → without_parentheses a ≡ identifier s i → named_at c.program.typed i.site.token ≡ named.Variable x
     → slot_kind c.scope x ≡ Some true → held_at c (register c x) ≡ false
 
 pub record HeldLaws : Type 0 where

@@ -24,4 +24,5 @@ pub record HasOwn (r : Resolution) (f : Function) : Type 0 where
   pub cast_types : AllByRecursion (IsCastFound r) (in_function f)
 
 abbrev pub OwnAreFound : Type 0
-OwnAreFound = (r : Resolution) → IsResolved r → IsPlaced r.program → IsLow r.program → AllByRecursion (HasOwn r) (functions_in r.program.items)
+OwnAreFound = (r : Resolution) → IsResolved r → IsPlaced r.program → IsLow r.program
+    → AllByRecursion (HasOwn r) (functions_in r.program.items)

@@ -1,4 +1,5 @@
--- The locks of what a cell refers to: those of the table of targets name the same mutexes as those of the type that the source gives to the cell's value.
+-- The locks of what a cell refers to: those of the table of targets name the same mutexes as those of the type that the
+-- source gives to the cell's value.
 use Rattle.std.specs.Prelude.{◌≡◌, ℕ, true, List, [], ◌∷◌, map, Option, Some, None, if◌then◌else◌}
 use Rattle.std.specs.List.{AllByRecursion}
 use Rattle.sharc_tree.specs.declared.tree.expression.Access.TheVariants.{Dot, Arrow}
@@ -35,17 +36,20 @@ abbrev pub content_locks : Assignment → Expression → List FieldLock
 content_locks m (identifier s i) = declared_locks m 0 (named_at m.typed i.site.token)
 content_locks m (parentheses s a) = content_locks m a
 content_locks m (index s a i) = if is_array (kind_at m.typed a) then content_locks m a else pointee_locks (modes_at m a)
-content_locks m (field s a w n) = declared_locks m (field_place_named m.typed (named_at m.typed n.site.token)) (named_at m.typed n.site.token)
+content_locks m (field s a w n) =
+    declared_locks m (field_place_named m.typed (named_at m.typed n.site.token)) (named_at m.typed n.site.token)
 content_locks m (unary s Dereference a) = pointee_locks (modes_at m a)
 content_locks m _ = []
 
 -- ---- the base of a cell
--- The register has the value of this pointer. Where that is a constant variable that keeps its reference, it has a copy of it.
+-- The register has the value of this pointer. Where that is a constant variable that keeps its reference, it has a copy
+-- of it.
 pub record BaseIs (c : Context) (l : Label) (r : ℕ) (a : Expression) : Type 0 where
   pub modes : List Sharing
   pub is : modes_at c.program a ≡ Some modes
   pub entry : l.env r ≡ Refers (static_of c (kind_at c.program.typed a) modes)
-  pub copy : (token x : ℕ) → constant_use c.program.typed a ≡ Some token → named_at c.program.typed token ≡ named.Variable x → is_held c.program.typed x ≡ true → SameReference l r (register c x)
+  pub copy : (token x : ℕ) → constant_use c.program.typed a ≡ Some token → named_at c.program.typed token
+      ≡ named.Variable x → is_held c.program.typed x ≡ true → SameReference l r (register c x)
 
 -- the register has the base of what an lvalue names, if there is one
 abbrev pub IsBased : Context → Label → ℕ → Expression → Type 0
@@ -58,6 +62,9 @@ IsBased c l r _ = Unit {0}
 
 -- What the cell of an lvalue refers to has, in the table, the locks that the source gives it.
 abbrev pub PlacesPoint : Type 0
-PlacesPoint = (c : Context) → IsAccepted c.program → c.globals ≡ globals_of c.program.typed → (l : Label) (i r : ℕ) (e : Expression) (modes : List Sharing)
-    → AllByRecursion (IsExpression c.program) (expressions e) → modes_at c.program e ≡ Some modes → is_cell (target c.program.typed None e) ≡ true → IsBased c l r e
-    → AreFieldLocks l (cell_of c.globals i r (target c.program.typed None e)) (locks_at c modes) (content_locks c.program e)
+PlacesPoint = (c : Context) → IsAccepted c.program → c.globals ≡ globals_of c.program.typed
+    → (l : Label) (i r : ℕ) (e : Expression) (modes : List Sharing)
+    → AllByRecursion (IsExpression c.program) (expressions e) → modes_at c.program e ≡ Some modes
+    → is_cell (target c.program.typed None e) ≡ true → IsBased c l r e
+    → AreFieldLocks l (cell_of c.globals i r (target c.program.typed None e)) (locks_at c modes)
+    (content_locks c.program e)

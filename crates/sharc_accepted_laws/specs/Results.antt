@@ -15,15 +15,19 @@ where_stand c scope = record c { scope = scope }
 
 -- whatever variables stand
 abbrev pub ResultsStay : Type 0
-ResultsStay = (c : Context) → IsAccepted c.program → (f : Function) → IsFunction c.program f → (one other : List Slot) → result_type (where_stand c one) f ≡ result_type (where_stand c other) f
+ResultsStay = (c : Context) → IsAccepted c.program → (f : Function) → IsFunction c.program f
+    → (one other : List Slot) → result_type (where_stand c one) f ≡ result_type (where_stand c other) f
 
 -- and no register is named
 abbrev pub ResultsNameNone : Type 0
-ResultsNameNone = (c : Context) → IsAccepted c.program → (f : Function) → IsFunction c.program f → (p : ℕ) → Mentions (result_type c f) p → ⊥
+ResultsNameNone = (c : Context) → IsAccepted c.program → (f : Function) → IsFunction c.program f
+    → (p : ℕ) → Mentions (result_type c f) p → ⊥
 
 -- a call has the type of what the function gives
 abbrev pub CallsGive : Type 0
-CallsGive = (c : Context) (s : Span) (i : Identifier) (all : Arguments) (n : ℕ) (f : Function) → named_at c.program.typed i.site.token ≡ named.Function n → function_at c.program.typed n ≡ Some f → entry_of c (call s i all) ≡ Refers (result_type c f)
+CallsGive = (c : Context) (s : Span) (i : Identifier) (all : Arguments) (n : ℕ) (f : Function)
+    → named_at c.program.typed i.site.token ≡ named.Function n → function_at c.program.typed n ≡ Some f
+    → entry_of c (call s i all) ≡ Refers (result_type c f)
 
 pub record ResultLaws : Type 0 where
   pub stay : ResultsStay

@@ -1,5 +1,7 @@
--- The code of an accepted program, as its types have it: the targets of its references, the signatures of its functions, and with which of them a thread begins.
-use Rattle.std.specs.Prelude.{ℕ, ◌≡◌, ◌<◌, ◌==◌, Bool, true, false, ◌||◌, nat_lt, List, length, Option, Some, None, codes, if◌then◌else◌}
+-- The code of an accepted program, as its types have it: the targets of its references, the signatures of its
+-- functions, and with which of them a thread begins.
+use Rattle.std.specs.Prelude.{ℕ, ◌≡◌, ◌<◌, ◌==◌, Bool, true, false, ◌||◌, nat_lt, List, length, Option, Some, None}
+use Rattle.std.specs.Prelude.{codes, if◌then◌else◌}
 use Rattle.std.specs.{List.list_any, Str.bytes_eq}
 use Rattle.sharc_tree.specs.{Measures.{in_function as expressions_of}, Tree.{constant, Function}}
 use Rattle.sharc_tree.specs.{declared.token.Span.Span, declared.tree.expression.Constant.Constant}
@@ -20,7 +22,8 @@ use Rattle.sharc_accepted_laws.specs.{Alone.AreAlone, StaticLaws.IsAccepted, Sta
 use Rattle.sharc_accepted_laws.specs.{TargetLaws.HasTables, Targets.targets_of, Typing.typing}
 
 -- ---- signatures
--- Of a function with these parameters in scope: it takes what its parameters hold, and gives a reference of its result's type, or an integer that its result's type holds.
+-- Of a function with these parameters in scope: it takes what its parameters hold, and gives a reference of its
+-- result's type, or an integer that its result's type holds.
 abbrev pub function_signature : Context → Bool → Function → Signature
 function_signature c alone g = record {
   takes = variable_entry c;
@@ -32,7 +35,8 @@ function_signature c alone g = record {
 
 -- there is no function of this number
 abbrev pub no_signature : Bool → Signature
-no_signature alone = record { takes = λ q. Empty; takes_ints = λ j. Anything; result = Empty; result_int = Anything; alone = alone }
+no_signature alone =
+    record { takes = λ q. Empty; takes_ints = λ j. Anything; result = Empty; result_int = Anything; alone = alone }
 
 abbrev pub signature_by : Assignment → List GlobalCells → Bool → Option Function → Signature
 signature_by m globals alone None = no_signature alone
@@ -45,7 +49,8 @@ is_numbered n _ = false
 
 -- some function spawns it
 abbrev pub is_spawned : Resolution → ℕ → Bool
-is_spawned r n = list_any (λ f. list_any (λ token. is_numbered n (named_at r token)) (of_all spawns (expressions_of f))) (functions_in r.program.items)
+is_spawned r n = list_any (λ f. list_any (λ token. is_numbered n (named_at r token)) (of_all spawns (expressions_of f)))
+    (functions_in r.program.items)
 
 abbrev pub is_main : Option Function → Bool
 is_main None = false
@@ -72,9 +77,11 @@ pub record HasRow (code : Code) (n : ℕ) (g : Function) : Type 0 where
 
 -- a number or a character of the source is one that its type holds
 abbrev pub ConstantsHold : Assignment → Type 0
-ConstantsHold m = (s : Span) (k : Constant) → IsExpression m (constant s k) → is_reference (constant_kind k) ≡ false → holds (width_of (constant_kind k)) (constant_value k) ≡ true
+ConstantsHold m = (s : Span) (k : Constant) → IsExpression m (constant s k) → is_reference (constant_kind k) ≡ false
+    → holds (width_of (constant_kind k)) (constant_value k) ≡ true
 
--- Code with the tables of an accepted program, and such a test. That constants are held is so of each program that a source is (`constants_are_held` of sharc_source_laws).
+-- Code with the tables of an accepted program, and such a test. That constants are held is so of each program that a
+-- source is (`constants_are_held` of sharc_source_laws).
 pub record IsSet (m : Assignment) (globals : List GlobalCells) (code : Code) (alone : ℕ → Bool) : Type 0 where
   pub accepted : IsAccepted m
   pub globals_are : globals ≡ globals_of m.typed

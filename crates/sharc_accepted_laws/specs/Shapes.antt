@@ -1,6 +1,7 @@
--- Shapes: what an element is and what its pointers lead to in turn, with the kinds of the modes and without the locks that they name. The table of targets
--- has a row for each shape.
-use Rattle.std.specs.Prelude.{ℕ, ◌+◌, ◌-◌, Bool, true, false, ◌&&◌, List, [], ◌∷◌, ◌++◌, length, map, Some, if◌then◌else◌, codes}
+-- Shapes: what an element is and what its pointers lead to in turn, with the kinds of the modes and without the locks
+-- that they name. The table of targets has a row for each shape.
+use Rattle.std.specs.Prelude.{ℕ, ◌+◌, ◌-◌, Bool, true, false, ◌&&◌, List, [], ◌∷◌, ◌++◌, length, map, Some}
+use Rattle.std.specs.Prelude.{if◌then◌else◌, codes}
 use Rattle.sharc_tree.specs.{declared.ctype.Base.Base, Tree.Expression}
 use Rattle.sharc_tree.specs.declared.ctype.Base.TheVariants as base
 use Rattle.sharc_names.specs.Kinds.{Kind, object, array, null, function, same_base}
@@ -23,7 +24,8 @@ form_of (locked l) = locked_form
 form_of racy = racy_form
 form_of dynamic = dynamic_form
 
--- an element of this base: the first form is that of its own mode, the others are those of what it points to in turn, of which the last has the base
+-- an element of this base: the first form is that of its own mode, the others are those of what it points to in turn,
+-- of which the last has the base
 pub record Shape : Type 0 where
   pub base : Base
   pub forms : List Form

@@ -22,4 +22,6 @@ pub record BeginsAlone (m : Assignment) (globals : List GlobalCells) (f : Functi
 
 -- one that is spawned anywhere
 abbrev pub SpawnedBegin : Type 0
-SpawnedBegin = (m : Assignment) → IsAccepted m → (globals : List GlobalCells) (n k : ℕ) (f : Function) → Spawns m.typed n k → function_at m.typed k ≡ Some f → IsClosedScope m (parameters_scope f.parameters) → BeginsAlone m globals f
+SpawnedBegin = (m : Assignment) → IsAccepted m
+    → (globals : List GlobalCells) (n k : ℕ) (f : Function) → Spawns m.typed n k → function_at m.typed k ≡ Some f
+    → IsClosedScope m (parameters_scope f.parameters) → BeginsAlone m globals f

@@ -26,7 +26,10 @@ pub record IsThere (g : Function) (c : Context) (e : Expression) : Type 0 where
 -- ---- what is asked of expressions
 -- they are typable, and so are the cells to which something is assigned
 pub record AreExpressionsTypable (z : Setting) (alone : ℕ → Bool) (n : ℕ) (g : Function) : Type 0 where
-  pub value : (c : Context) → IsPlaceIn z alone n g c → (e : Expression) → IsThere g c e → Suits c e → (is_lvalue e ≡ true → IsScalar (kind_of c e)) → IsTypable z n typing c e
-  pub place : (c : Context) → IsPlaceIn z alone n g c → (u : Expression) → IsThere g c u → PlaceSuits c u → is_lvalue u ≡ true → IsHeld (kind_of c u) → IsPlaceTypable z n typing c None (guard_of c u) u
-  pub written : (c : Context) → IsPlaceIn z alone n g c → (u : Expression) (x : Right) → IsThere g c u → PlaceSuits c u → IsAssigned c.program u x → IsHeld (kind_of c u) → is_cell (target_of c u) ≡ true
+  pub value : (c : Context) → IsPlaceIn z alone n g c → (e : Expression) → IsThere g c e → Suits c e
+      → (is_lvalue e ≡ true → IsScalar (kind_of c e)) → IsTypable z n typing c e
+  pub place : (c : Context) → IsPlaceIn z alone n g c → (u : Expression) → IsThere g c u → PlaceSuits c u
+      → is_lvalue u ≡ true → IsHeld (kind_of c u) → IsPlaceTypable z n typing c None (guard_of c u) u
+  pub written : (c : Context) → IsPlaceIn z alone n g c → (u : Expression) (x : Right) → IsThere g c u → PlaceSuits c u
+      → IsAssigned c.program u x → IsHeld (kind_of c u) → is_cell (target_of c u) ≡ true
       → CellAssigned z n typing c u (type_by (entry_of c u)) (target_of c u) (is_ref c u)

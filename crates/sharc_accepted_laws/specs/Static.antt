@@ -1,4 +1,5 @@
--- The types of references at a place of the source, as the flat code there has them: which target, and by which registers and cells its lock paths lead to mutexes.
+-- The types of references at a place of the source, as the flat code there has them: which target, and by which
+-- registers and cells its lock paths lead to mutexes.
 use Rattle.std.specs.Prelude.{◌≡◌, ◌⊎◌, ℕ, ◌-◌, List, [], ◌∷◌, slice_get, Option, Some, None, if◌then◌else◌}
 use Rattle.sharc_names.specs.{declared.fault.Named.Named, Kinds.{Kind, declared_kind}}
 use Rattle.sharc_names.specs.declared.fault.Named.TheVariants as named
@@ -18,8 +19,8 @@ use Rattle.sharc_invariant.specs.Labels.{Entry, Empty, Refers}
 abbrev pub register : Context → ℕ → ℕ
 register c x = number_in (register_of c.scope x)
 
--- Of a path by what its first name names: the first cell of a global, counted from granule 1 on, or the mutex of what a variable refers to. No other path stands in the
--- type of an expression.
+-- Of a path by what its first name names: the first cell of a global, counted from granule 1 on, or the mutex of what a
+-- variable refers to. No other path stands in the type of an expression.
 abbrev pub lock_named : Context → Named → Option (List ℕ) → TypeLock
 lock_named c (named.Global g) m = Global (first_cell c.globals g - 2)
 lock_named c (named.Variable x) (Some m) = Through (register c x) (field_place_behind c.program.typed x m)
@@ -44,11 +45,13 @@ static_of c kind modes = record { target = number c.program (shape_of (base_of k
 
 -- of the variable that this token declares
 abbrev pub variable_type : Context → ℕ → StaticType
-variable_type c x = static_of c (variable_kind (declaration_at c.program.typed x)) (modes_of c.program (declared_row c.program.typed written x))
+variable_type c x = static_of c (variable_kind (declaration_at c.program.typed x))
+    (modes_of c.program (declared_row c.program.typed written x))
 
 -- of a function's result
 abbrev pub result_type : Context → Function → StaticType
-result_type c f = static_of c (declared_kind f.result) (modes_of c.program (declared_row c.program.typed written f.name.site.token))
+result_type c f =
+    static_of c (declared_kind f.result) (modes_of c.program (declared_row c.program.typed written f.name.site.token))
 
 -- what a register holds with a value: NULL, of which there are no modes, or a reference of this type
 abbrev pub entry_by : Context → Kind → Option (List Sharing) → Entry

@@ -21,17 +21,22 @@ pub record IsAccepted (m : Assignment) : Type 0 where
 
 -- a pointer that is assigned
 abbrev pub AssignedGoes : Type 0
-AssignedGoes = (c : Context) → IsAccepted c.program → (u e : Expression) (modes : List Sharing) → IsAssigned c.program u (value e) → modes_at c.program u ≡ Some modes
-    → is_pointer (kind_at c.program.typed u) ≡ true → GoesTo (entry_of c e) (static_of c (kind_at c.program.typed u) modes)
+AssignedGoes = (c : Context) → IsAccepted c.program
+    → (u e : Expression) (modes : List Sharing) → IsAssigned c.program u (value e) → modes_at c.program u ≡ Some modes
+    → is_pointer (kind_at c.program.typed u) ≡ true
+    → GoesTo (entry_of c e) (static_of c (kind_at c.program.typed u) modes)
 
 -- one with which a local begins
 abbrev pub BegunGoes : Type 0
-BegunGoes = (c : Context) → IsAccepted c.program → (f : Function) (l : Local) (e : Expression) → IsFunction c.program f → Contains (locals_in_all f.statements) l → l.initial ≡ Some (value e)
-    → is_pointer (declared_kind l.declaration.written) ≡ true → GoesTo (entry_of c e) (variable_type c l.declaration.name.site.token)
+BegunGoes = (c : Context) → IsAccepted c.program → (f : Function) (l : Local) (e : Expression) → IsFunction c.program f
+    → Contains (locals_in_all f.statements) l → l.initial ≡ Some (value e)
+    → is_pointer (declared_kind l.declaration.written) ≡ true
+    → GoesTo (entry_of c e) (variable_type c l.declaration.name.site.token)
 
 -- one that is returned
 abbrev pub ReturnedGoes : Type 0
-ReturnedGoes = (c : Context) → IsAccepted c.program → (f : Function) (e : Expression) → IsFunction c.program f → Contains (function_transfers c.program.typed f) record { receiver = result f.result; source = value e }
+ReturnedGoes = (c : Context) → IsAccepted c.program → (f : Function) (e : Expression) → IsFunction c.program f
+    → Contains (function_transfers c.program.typed f) record { receiver = result f.result; source = value e }
     → is_pointer (declared_kind f.result) ≡ true → GoesTo (entry_of c e) (result_type c f)
 
 pub record GivenLaws : Type 0 where

@@ -1,4 +1,5 @@
--- What lock paths name is not taken away: so nothing names the register of a variable whose reference SCAST or `free` takes.
+-- What lock paths name is not taken away: so nothing names the register of a variable whose reference SCAST or `free`
+-- takes.
 use Rattle.std.specs.{Prelude.{◌≡◌, ℕ, true, List, Some}, List.AllByRecursion}
 use Rattle.sharc_tree.specs.{declared.token.Span.Span, declared.tree.declaration.Identifier.Identifier}
 use Rattle.sharc_tree.specs.{Forms.without_parentheses, Measures.expressions, Tree.{Expression, identifier}}
@@ -21,16 +22,21 @@ AllNamed m modes = AllByRecursion (IsNamed m) modes
 
 -- so are those of the modes that an expression has
 abbrev pub ExpressionsAreNamed : Type 0
-ExpressionsAreNamed = (m : Assignment) → IsAccepted m → (e : Expression) (modes : List Sharing) → AllByRecursion (IsExpression m) (expressions e) → modes_at m e ≡ Some modes → AllNamed m modes
+ExpressionsAreNamed = (m : Assignment) → IsAccepted m → (e : Expression) (modes : List Sharing)
+    → AllByRecursion (IsExpression m) (expressions e) → modes_at m e ≡ Some modes → AllNamed m modes
 
 -- and that what a token declares has
 abbrev pub DeclaredAreNamed : Type 0
-DeclaredAreNamed = (m : Assignment) → IsAccepted m → (token : ℕ) → AllNamed m (modes_of m (declared_row m.typed written token))
+DeclaredAreNamed = (m : Assignment) → IsAccepted m
+    → (token : ℕ) → AllNamed m (modes_of m (declared_row m.typed written token))
 
 -- no type with such modes names the register of a variable that is taken
 abbrev pub TakenIsFree : Type 0
-TakenIsFree = (c : Context) → IsAccepted c.program → (a : Expression) (s : Span) (i : Identifier) (x : ℕ) → IsTaken c.program a → without_parentheses a ≡ identifier s i → named_at c.program.typed i.site.token ≡ named.Variable x
-    → slot_kind c.scope x ≡ Some true → (kind : Kind) (modes : List Sharing) → AllNamed c.program modes → AllStand c.program c.scope modes → Mentions (static_of c kind modes) (register c x) → ⊥
+TakenIsFree = (c : Context) → IsAccepted c.program
+    → (a : Expression) (s : Span) (i : Identifier) (x : ℕ) → IsTaken c.program a
+    → without_parentheses a ≡ identifier s i → named_at c.program.typed i.site.token ≡ named.Variable x
+    → slot_kind c.scope x ≡ Some true → (kind : Kind) (modes : List Sharing) → AllNamed c.program modes
+    → AllStand c.program c.scope modes → Mentions (static_of c kind modes) (register c x) → ⊥
 
 pub record TakenLaws : Type 0 where
   pub expressions : ExpressionsAreNamed

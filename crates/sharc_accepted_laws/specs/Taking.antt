@@ -16,17 +16,23 @@ use Rattle.sharc_typed_laws.specs.{Stretches.Setting, Typable.{type_by, Takes, C
 
 -- a variable that is taken is no constant, and has the type of the expression
 abbrev pub VariablesAreTaken : Type 0
-VariablesAreTaken = (z : Setting) (f : ℕ) (c : Context) (a : Expression) (s : Span) (i : Identifier) (x : ℕ) → IsTaken c.program a → without_parentheses a ≡ identifier s i → named_at c.program.typed i.site.token ≡ named.Variable x
-    → slot_kind c.scope x ≡ Some true → (use_made : Use) → Takes z f typing c a use_made (type_by (entry_of c a)) (target_of c a)
+VariablesAreTaken = (z : Setting) (f : ℕ) (c : Context) (a : Expression) (s : Span) (i : Identifier) (x : ℕ)
+    → IsTaken c.program a → without_parentheses a ≡ identifier s i
+    → named_at c.program.typed i.site.token ≡ named.Variable x
+    → slot_kind c.scope x ≡ Some true
+    → (use_made : Use) → Takes z f typing c a use_made (type_by (entry_of c a)) (target_of c a)
 
 -- what is taken is given the type of the cast
 abbrev pub CastsAreTyped : Type 0
-CastsAreTyped = (z : Setting) (f : ℕ) (c : Context) → IsAccepted c.program → z.targets ≡ targets_of c.program → (s : Span) (t : WrittenType) (a : Expression) → IsAt c (cast s t a) → ExpressionStands c a
-    → Takes z f typing c a (uses.Cast None) (type_by (entry_of c a)) (target_of c a) → CastTyped z f typing c (cast s t a) a
+CastsAreTyped = (z : Setting) (f : ℕ) (c : Context) → IsAccepted c.program → z.targets ≡ targets_of c.program
+    → (s : Span) (t : WrittenType) (a : Expression) → IsAt c (cast s t a) → ExpressionStands c a
+    → Takes z f typing c a (uses.Cast None) (type_by (entry_of c a)) (target_of c a)
+    → CastTyped z f typing c (cast s t a) a
 
 -- or is freed, by its layout
 abbrev pub FreesAreTyped : Type 0
-FreesAreTyped = (z : Setting) (f : ℕ) (c : Context) → IsAccepted c.program → z.targets ≡ targets_of c.program → HasTables c.program z.code → (a : Expression) → IsAt c a → is_pointer (kind_of c a) ≡ true
+FreesAreTyped = (z : Setting) (f : ℕ) (c : Context) → IsAccepted c.program → z.targets ≡ targets_of c.program
+    → HasTables c.program z.code → (a : Expression) → IsAt c a → is_pointer (kind_of c a) ≡ true
     → Takes z f typing c a (uses.Free None) (type_by (entry_of c a)) (target_of c a) → FreeTyped z f typing c a
 
 pub record TakingLaws : Type 0 where

@@ -14,11 +14,13 @@ pub record FirstFits (m : Assignment) (s : Shape) (content : Content) : Type 0 w
   pub holds : (field_at (targets_of m) (number m s) 0).holds ≡ content
 
 abbrev pub MutexesFirst : Type 0
-MutexesFirst = (m : Assignment) (f : Form) → Contains (shapes m) (record { base = base.Mutex; forms = f ∷ [] }) → FirstFits m (record { base = base.Mutex; forms = f ∷ [] }) MutexWord
+MutexesFirst = (m : Assignment) (f : Form) → Contains (shapes m) (record { base = base.Mutex; forms = f ∷ [] })
+    → FirstFits m (record { base = base.Mutex; forms = f ∷ [] }) MutexWord
 
 -- where the program does not define that struct itself
 abbrev pub WaitersFirst : Type 0
-WaitersFirst = (m : Assignment) (f : Form) → struct_named (structs_in m.typed.program.items) (codes "cond") ≡ None → Contains (shapes m) (record { base = base.Struct (codes "cond"); forms = f ∷ [] })
+WaitersFirst = (m : Assignment) (f : Form) → struct_named (structs_in m.typed.program.items) (codes "cond") ≡ None
+    → Contains (shapes m) (record { base = base.Struct (codes "cond"); forms = f ∷ [] })
     → FirstFits m (record { base = base.Struct (codes "cond"); forms = f ∷ [] }) Waiters
 
 pub record FirstLaws : Type 0 where

@@ -1,5 +1,6 @@
 -- The table of targets of a program: a row for each shape, and the cells of its globals.
-use Rattle.std.specs.Prelude.{ℕ, zero, suc, ◌+◌, ◌-◌, ◌*◌, Bool, true, false, List, [], ◌∷◌, ◌++◌, map, replicate, Option, None, Some, if◌then◌else◌}
+use Rattle.std.specs.Prelude.{ℕ, zero, suc, ◌+◌, ◌-◌, ◌*◌, Bool, true, false, List, [], ◌∷◌, ◌++◌, map, replicate}
+use Rattle.std.specs.Prelude.{Option, None, Some, if◌then◌else◌}
 use Rattle.std.specs.{List.list_any, Str.bytes_eq}
 use Rattle.sharc_tree.specs.{declared.ctype.Base.Base, declared.ctype.Mode.Mode}
 use Rattle.sharc_tree.specs.declared.tree.declaration.Declaration.{Declaration}
@@ -18,13 +19,16 @@ use Rattle.sharc_mode.specs.Sharings.{Lock, Sharing, private, readonly, locked, 
 use Rattle.sharc_meaning.specs.{Cells.{field_place, field_place_named}, References.{is_pointer_in, types_made}}
 use Rattle.sharc_flat_form.specs.Machine.{first_cell}
 use Rattle.sharc_flat.specs.{Places.base_as_width, Tables.{cells_in, granules_in, globals_of}}
-use Rattle.sharc_invariant.specs.Types.{FieldLock, OfType, OfGlobals, OfElement, FieldMode, Under, Content, Integer, MutexWord, Waiters, Pointer, Field, Target, Targets, no_field, no_target, FieldMode as own}
-use Rattle.sharc_accepted_laws.specs.Shapes.{Form, private_form, readonly_form, locked_form, racy_form, dynamic_form, Shape, shape_of, shapes, number}
+use Rattle.sharc_invariant.specs.Types.{FieldLock, OfType, OfGlobals, OfElement, FieldMode, Under, Content, Integer}
+use Rattle.sharc_invariant.specs.Types.{MutexWord, Waiters, Pointer, Field, Target, Targets, no_field, no_target}
+use Rattle.sharc_invariant.specs.Types.{FieldMode as own}
+use Rattle.sharc_accepted_laws.specs.Shapes.{Form, private_form, readonly_form, locked_form, racy_form, dynamic_form}
+use Rattle.sharc_accepted_laws.specs.Shapes.{Shape, shape_of, shapes, number}
 
 -- ---- locks and modes
 
--- the lock that a path names in the type of this field of an element: the mutex of a sibling or of a global, which is counted from the first cell of
--- granule 1. No other path may stand there
+-- the lock that a path names in the type of this field of an element: the mutex of a sibling or of a global, which is
+-- counted from the first cell of granule 1. No other path may stand there
 abbrev pub lock_named : Resolution → ℕ → Named → FieldLock
 lock_named r n (named.Field token) = OfElement n (field_place r token)
 lock_named r n (named.Global g) = OfGlobals (first_cell (globals_of r) g - 2)
@@ -104,7 +108,8 @@ base_content b = Integer (base_as_width b)
 
 -- a pointer to this base, whose targets have these modes, in this field
 abbrev pub pointer_content : Assignment → ℕ → Base → List Sharing → Content
-pointer_content m n b modes = Pointer (record { target = number m (shape_of b modes); locks = field_locks m.typed n modes })
+pointer_content m n b modes =
+    Pointer (record { target = number m (shape_of b modes); locks = field_locks m.typed n modes })
 
 -- what is declared in a struct or in the file
 abbrev pub declared_content : Assignment → ℕ → Declaration → Content
@@ -115,7 +120,8 @@ declared_content m n d =
 
 -- ---- elements
 
--- an element of one cell that is no pointer; the cell of a condition variable is racy as a mutex is, since no mode is asked for it
+-- an element of one cell that is no pointer; the cell of a condition variable is racy as a mutex is, since no mode is
+-- asked for it
 abbrev pub single : FieldMode → Base → Field
 single q base.Mutex = record { mode = own.Racy; holds = MutexWord }
 single q (base.Struct name) = record { mode = own.Racy; holds = Waiters }
@@ -131,7 +137,8 @@ members m q n (d ∷ rest) = member m q n d ∷ members m q (n + 1) rest
 
 abbrev pub struct_fields : Assignment → FieldMode → List StructDefinition → List ℕ → List Field
 struct_fields m q [] name = single q (base.Struct name) ∷ []
-struct_fields m q (s ∷ rest) name = if bytes_eq s.name.text name then members m q 0 s.fields else struct_fields m q rest name
+struct_fields m q (s ∷ rest) name =
+    if bytes_eq s.name.text name then members m q 0 s.fields else struct_fields m q rest name
 
 -- an element of mode q that is no pointer
 abbrev pub base_fields : Assignment → FieldMode → Base → List Field
@@ -144,7 +151,13 @@ abbrev pub shape_fields : Assignment → Base → List Form → List Field
 shape_fields m b [] = []
 shape_fields m b (f ∷ []) = base_fields m (own_mode f) b
 shape_fields m b (f ∷ g ∷ below) =
-    record { mode = own_mode f; holds = Pointer (record { target = number m (record { base = b; forms = g ∷ below }); locks = type_locks (lock_count f) (g ∷ below) }) } ∷ []
+    record {
+      mode = own_mode f;
+      holds = Pointer (record {
+        target = number m (record { base = b; forms = g ∷ below });
+        locks = type_locks (lock_count f) (g ∷ below);
+      });
+    } ∷ []
 
 abbrev pub starts_private : List Form → Bool
 starts_private [] = false
@@ -157,7 +170,8 @@ shape_row m s = record { fields = shape_fields m s.base s.forms; is_private = st
 
 -- the mode of its top
 abbrev pub top_mode : Assignment → GlobalDefinition → FieldMode
-top_mode m g = global_mode m.typed (first_mode m (entity_at m.typed g.declaration.name.site.token g.declaration.name.site.token))
+top_mode m g =
+    global_mode m.typed (first_mode m (entity_at m.typed g.declaration.name.site.token g.declaration.name.site.token))
 
 -- one element of a global
 abbrev pub global_element : Assignment → GlobalDefinition → List Field
@@ -172,7 +186,8 @@ repeated (suc n) fields = fields ++ repeated n fields
 
 -- a global has whole granules, of two cells
 abbrev pub global_fields : Assignment → GlobalDefinition → List Field
-global_fields m g = repeated (elements_of g.form) (global_element m g) ++ replicate (2 * granules_in m.typed g - cells_in m.typed g) no_field
+global_fields m g = repeated (elements_of g.form) (global_element m g)
+    ++ replicate (2 * granules_in m.typed g - cells_in m.typed g) no_field
 
 abbrev pub all_global_fields : Assignment → List GlobalDefinition → List Field
 all_global_fields m [] = []

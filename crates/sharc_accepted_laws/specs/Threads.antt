@@ -12,6 +12,9 @@ use Rattle.sharc_accepted_laws.specs.Static.{variable_entry}
 
 -- with the argument of a spawn
 abbrev pub ThreadsPass : Type 0
-ThreadsPass = (c : Context) → IsAccepted c.program → (n k : ℕ) (g : Function) → Spawns c.program.typed n k → function_at c.program.typed k ≡ Some g → IsClosedScope c.program (parameters_scope g.parameters)
-    → (d : Declaration) → g.parameters ≡ d ∷ [] → (a : Expression) → IsCall c.program g.parameters (argument a no_arguments) → is_pointer (declared_kind d.written) ≡ true
-    → (l : Label) (r q : ℕ) → Passes l r q (Refers (argument_type c g.parameters (argument a no_arguments) d)) (variable_entry (in_function c.program c.globals g) 0)
+ThreadsPass = (c : Context) → IsAccepted c.program → (n k : ℕ) (g : Function) → Spawns c.program.typed n k
+    → function_at c.program.typed k ≡ Some g → IsClosedScope c.program (parameters_scope g.parameters)
+    → (d : Declaration) → g.parameters ≡ d ∷ [] → (a : Expression)
+    → IsCall c.program g.parameters (argument a no_arguments) → is_pointer (declared_kind d.written) ≡ true
+    → (l : Label) (r q : ℕ) → Passes l r q (Refers (argument_type c g.parameters (argument a no_arguments) d))
+    (variable_entry (in_function c.program c.globals g) 0)

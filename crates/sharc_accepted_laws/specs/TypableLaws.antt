@@ -1,4 +1,5 @@
--- Expressions of accepted programs are typable, as far as they access no cell: what their values are, and those of variables, constants and operators.
+-- Expressions of accepted programs are typable, as far as they access no cell: what their values are, and those of
+-- variables, constants and operators.
 use Rattle.std.specs.{Prelude.{◌≡◌, ℕ, true, false, Some}, List.AllByRecursion}
 use Rattle.sharc_tree.specs.{declared.token.Site.Site, declared.token.Span.Span}
 use Rattle.sharc_tree.specs.declared.tree.declaration.Identifier.{Identifier}
@@ -27,21 +28,26 @@ pub record IsAt (c : Context) (e : Expression) : Type 0 where
 -- ---- values
 -- a value is an integer, or NULL or a reference of a type that names variables that stand and keep their references
 abbrev pub ValuesHaveTypes : Type 0
-ValuesHaveTypes = (z : Setting) (f : ℕ) (c : Context) → IsAccepted c.program → (e : Expression) → IsAt c e → IsScalar (kind_of c e) → HasType z f typing c e
+ValuesHaveTypes = (z : Setting) (f : ℕ) (c : Context) → IsAccepted c.program
+    → (e : Expression) → IsAt c e → IsScalar (kind_of c e) → HasType z f typing c e
 
 -- what is a pointer by its C type is no NULL
 abbrev pub PointersAreTyped : Type 0
-PointersAreTyped = (z : Setting) (f : ℕ) (c : Context) → IsAccepted c.program → (e : Expression) → IsAt c e → is_pointer (kind_of c e) ≡ true → IsPointer z f typing c e
+PointersAreTyped = (z : Setting) (f : ℕ) (c : Context) → IsAccepted c.program
+    → (e : Expression) → IsAt c e → is_pointer (kind_of c e) ≡ true → IsPointer z f typing c e
 
 -- ---- by their forms
 -- a variable that stands has what its register holds
 abbrev pub VariablesAreTyped : Type 0
-VariablesAreTyped = (z : Setting) (f : ℕ) (c : Context) → IsAccepted c.program → (s : Span) (i : Identifier) (x : ℕ) → IsAt c (identifier s i) → named_at c.program.typed i.site.token ≡ named.Variable x
-    → slot_kind c.scope x ≡ Some (is_ref c (identifier s i)) → IsScalar (kind_of c (identifier s i)) → VariableTyped z f typing c (identifier s i) (register_of c.scope x)
+VariablesAreTyped = (z : Setting) (f : ℕ) (c : Context) → IsAccepted c.program → (s : Span) (i : Identifier) (x : ℕ)
+    → IsAt c (identifier s i) → named_at c.program.typed i.site.token ≡ named.Variable x
+    → slot_kind c.scope x ≡ Some (is_ref c (identifier s i)) → IsScalar (kind_of c (identifier s i))
+    → VariableTyped z f typing c (identifier s i) (register_of c.scope x)
 
 -- a number that its type holds
 abbrev pub ConstantsAreTyped : Type 0
-ConstantsAreTyped = (z : Setting) (f : ℕ) (c : Context) (s : Span) (k : Constant) → (is_reference (constant_kind k) ≡ false → holds (width_of (constant_kind k)) (constant_value k) ≡ true)
+ConstantsAreTyped = (z : Setting) (f : ℕ) (c : Context) (s : Span) (k : Constant)
+    → (is_reference (constant_kind k) ≡ false → holds (width_of (constant_kind k)) (constant_value k) ≡ true)
     → ConstantTyped z f typing c (constant s k) k (is_ref c (constant s k))
 
 -- what an operator takes (6.5.3.2 and 6.5.3.3)
@@ -52,10 +58,13 @@ OperandSuits Complement kind = is_integer kind ≡ true
 OperandSuits Dereference kind = is_pointer kind ≡ true
 
 abbrev pub UnariesAreTyped : Type 0
-UnariesAreTyped = (z : Setting) (f : ℕ) (c : Context) → IsAccepted c.program → (s : Span) (o : UnaryOperator) (a : Expression) → IsAt c a → OperandSuits o (kind_of c a) → UnaryTyped z f typing c (unary s o a) o a
+UnariesAreTyped = (z : Setting) (f : ℕ) (c : Context) → IsAccepted c.program
+    → (s : Span) (o : UnaryOperator) (a : Expression) → IsAt c a → OperandSuits o (kind_of c a)
+    → UnaryTyped z f typing c (unary s o a) o a
 
 abbrev pub BinariesAreTyped : Type 0
-BinariesAreTyped = (z : Setting) (f : ℕ) (c : Context) (s : Span) (o : BinaryOperator) (at : Site) (a b : Expression) → OperandsSuit o (kind_of c a) (kind_of c b) → BinaryTyped z f typing c (binary s o at a b) o a b
+BinariesAreTyped = (z : Setting) (f : ℕ) (c : Context) (s : Span) (o : BinaryOperator) (at : Site) (a b : Expression)
+    → OperandsSuit o (kind_of c a) (kind_of c b) → BinaryTyped z f typing c (binary s o at a b) o a b
 
 pub record ValueLaws : Type 0 where
   pub values : ValuesHaveTypes

@@ -1,4 +1,5 @@
--- The lvalues of an accepted program are typed: their cells are read in their modes, and written where they are assigned or their references are taken.
+-- The lvalues of an accepted program are typed: their cells are read in their modes, and written where they are
+-- assigned or their references are taken.
 use Rattle.std.specs.{Prelude.{◌≡◌, ℕ, Bool, true, false, List, Some, None, Contains}, List.AllByRecursion}
 use Rattle.sharc_tree.specs.{declared.token.Site.Site, Measures.{expressions, in_function}}
 use Rattle.sharc_tree.specs.Tree.{Expression, Right, Function}
@@ -22,11 +23,16 @@ pub record IsOf (c : Context) (n : ℕ) (f : Function) (e : Expression) : Type 0
   pub stand : ExpressionsStand c (expressions e)
 
 module _ (z : Setting) (y : Typing) (c : Context) (n : ℕ) (e : Expression) where
-  -- the cell is read or written wherever the lvalue is placed: an integer of the lvalue's type, or a reference of the type that the source gives it
+  -- the cell is read or written wherever the lvalue is placed: an integer of the lvalue's type, or a reference of the
+  -- type that the source gives it
   pub record CellTyped (write : Bool) : Type 0 where
-    pub integer : is_integer (kind_of c e) ≡ true → (site : Site) (use_made : Use) → IntegerTyped z y c n (target_of c e) (guard_of c e) (ground_of z n y c e) site (lvalue_in c e) (mode_of c e) write use_made (width_of (kind_of c e))
-    pub reference : is_pointer (kind_of c e) ≡ true → (modes : List Sharing) → modes_at c.program e ≡ Some modes → (site : Site) (use_made : Use)
-        → ReferenceTyped z y c n (target_of c e) (guard_of c e) (ground_of z n y c e) site (lvalue_in c e) (mode_of c e) write use_made (static_of c (kind_of c e) modes)
+    pub integer : is_integer (kind_of c e) ≡ true
+        → (site : Site) (use_made : Use) → IntegerTyped z y c n (target_of c e) (guard_of c e)
+        (ground_of z n y c e) site (lvalue_in c e) (mode_of c e) write use_made (width_of (kind_of c e))
+    pub reference : is_pointer (kind_of c e) ≡ true → (modes : List Sharing) → modes_at c.program e ≡ Some modes
+        → (site : Site) (use_made : Use)
+        → ReferenceTyped z y c n (target_of c e) (guard_of c e) (ground_of z n y c e) site (lvalue_in c e)
+        (mode_of c e) write use_made (static_of c (kind_of c e) modes)
 
   pub record LvalueTyped : Type 0 where
     pub read : CellTyped false
@@ -39,7 +45,11 @@ pub record BasesStand : Type 0 where
   pub values : (c : Context) (e : Expression) → Suits c e → BaseStands c e
   pub places : (c : Context) (e : Expression) → PlaceSuits c e → BaseStands c e
 
--- of each lvalue that names a cell, by what the source says of expressions and variables, where it is told which functions thread 0 alone runs
+-- of each lvalue that names a cell, by what the source says of expressions and variables, where it is told which
+-- functions thread 0 alone runs
 abbrev pub LvaluesAreTyped : Type 0
-LvaluesAreTyped = (c : Context) (code : Code) → IsCodeOf c code → (signature : ℕ → Signature) (starts : ℕ → Bool) (lines : ℕ) → AreAlone c.program (λ k. (signature k).alone) → (y : Typing) → IsTypingOf y c → ((p : Expression) → y.entry c p ≡ entry_of c p)
-    → (n : ℕ) (f : Function) (e : Expression) → IsOf c n f e → BaseStands c e → is_cell (target_of c e) ≡ true → LvalueTyped (setting c code signature starts lines) y c n e
+LvaluesAreTyped = (c : Context) (code : Code) → IsCodeOf c code
+    → (signature : ℕ → Signature) (starts : ℕ → Bool) (lines : ℕ) → AreAlone c.program (λ k. (signature k).alone)
+    → (y : Typing) → IsTypingOf y c → ((p : Expression) → y.entry c p ≡ entry_of c p)
+    → (n : ℕ) (f : Function) (e : Expression) → IsOf c n f e → BaseStands c e → is_cell (target_of c e) ≡ true
+    → LvalueTyped (setting c code signature starts lines) y c n e

@@ -23,7 +23,8 @@ use sharc_ctype_laws::laws::{
 use sharc_flat_laws::laws::{made_tables_fit, typed_suits};
 use sharc_typed_laws::statements::code_typed_law;
 
-/// Each expression and each lvalue of a function of an accepted program is typable, where its cells are accessed as their types say.
+/// Each expression and each lvalue of a function of an accepted program is typable, where its cells are accessed as
+/// their types say.
 pub fn expressions_law()
     ensures { ExpressionsAreTypable }
 {

@@ -15,7 +15,8 @@ use crate::targets::{
 use sharc_ctype_laws::laws::meets_globals;
 use sharc_mode_laws::laws::rules_are_met;
 
-/// Where the registers have what an lvalue names, its cell is there, with what the lvalue's type says in it, under its mode.
+/// Where the registers have what an lvalue names, its cell is there, with what the lvalue's type says in it, under its
+/// mode.
 pub fn cells_stand()
     ensures { CellsStand }
 {

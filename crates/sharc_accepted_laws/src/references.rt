@@ -168,7 +168,8 @@ pub fn expressions_lead()
     each_names_own();
 }
 
-/// Where a call names `wait`, `signal` or `broadcast` as the program does not define them, it does not define `struct cond`.
+/// Where a call names `wait`, `signal` or `broadcast` as the program does not define them, it does not define `struct
+/// cond`.
 pub fn known_calls()
     ensures { KnownCalls }
 {

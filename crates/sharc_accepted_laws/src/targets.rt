@@ -4,7 +4,9 @@ ghost use Rattle.sharc_accepted_laws.specs.Beside.{LocksStandBeside};
 ghost use Rattle.sharc_accepted_laws.specs.Fields.{FieldsPlaced};
 ghost use Rattle.sharc_accepted_laws.specs.TargetFirsts.{FirstLaws};
 ghost use Rattle.sharc_accepted_laws.specs.Granules.{GranulesAreFew};
-ghost use Rattle.sharc_accepted_laws.specs.TargetLaws.{NumbersFound, ShapesClosed, CellsAre, TargetsAre, ExpressionsFound, VariablesFound, ResultsFound, MembersAre, GlobalsAre, GlobalsEnd, GlobalsBegin, GlobalsHold, LayoutsAre};
+ghost use Rattle.sharc_accepted_laws.specs.TargetLaws.{NumbersFound, ShapesClosed, CellsAre, TargetsAre};
+ghost use Rattle.sharc_accepted_laws.specs.TargetLaws.{ExpressionsFound, VariablesFound, ResultsFound, MembersAre};
+ghost use Rattle.sharc_accepted_laws.specs.TargetLaws.{GlobalsAre, GlobalsEnd, GlobalsBegin, GlobalsHold, LayoutsAre};
 ghost use Rattle.sharc_accepted_laws.specs.Lvalues.{LvaluesFit, ArraysFit};
 ghost use Rattle.sharc_accepted_laws.specs.Own.{OwnAreFound};
 ghost use Rattle.sharc_accepted_laws.specs.Pointers.{GlobalsPoint, PointeesPoint, PointersAreOfGlobals};
@@ -42,7 +44,8 @@ pub fn targets_are()
     rules_are_met();
 }
 
-/// An expression of a function that has a row has a target for each star, and the shape of the first is one of the program.
+/// An expression of a function that has a row has a target for each star, and the shape of the first is one of the
+/// program.
 pub fn expressions_found()
     ensures { ExpressionsFound }
 {
@@ -80,7 +83,8 @@ pub fn globals_end()
     ensures { GlobalsEnd }
 {}
 
-/// What the cells of globals hold at first is a value of the type that the table has for them, where no number in their forms is below 0.
+/// What the cells of globals hold at first is a value of the type that the table has for them, where no number in their
+/// forms is below 0.
 pub fn globals_begin()
     ensures { GlobalsBegin }
 {
@@ -94,7 +98,8 @@ pub fn layouts_are()
     within_limits();
 }
 
-/// Each lvalue of a function that is no struct names a variable, or a cell that the table has with what it holds and with its mode.
+/// Each lvalue of a function that is no struct names a variable, or a cell that the table has with what it holds and
+/// with its mode.
 pub fn lvalues_fit()
     ensures { LvaluesFit }
 {

@@ -1,11 +1,13 @@
 -- The walk in steps: what tasks mean, and what goes on with their values.
-use Rattle.std.specs.Prelude.{◌≡◌, ℕ, suc, ℤ, pos, not, ◌+◌, ◌*◌, ◌<◌, ◌≤◌, Bool, true, false, List, Option, Some, Result, Ok, Err, if◌then◌else◌}
+use Rattle.std.specs.Prelude.{◌≡◌, ℕ, suc, ℤ, pos, not, ◌+◌, ◌*◌, ◌<◌, ◌≤◌, Bool, true, false, List, Option, Some}
+use Rattle.std.specs.Prelude.{Result, Ok, Err, if◌then◌else◌}
 use Rattle.sharc_tree.specs.declared.event.Act.TheVariants as acts
 use Rattle.sharc_tree.specs.declared.event.Object.TheVariants.{Made}
 use Rattle.sharc_tree.specs.{declared.event.TakeKind.TheVariants.{Cast, Free as ToFree}, declared.token.Site.Site}
 use Rattle.sharc_tree.specs.{declared.tree.expression.BinaryOperator.BinaryOperator, Spans.span_of}
 use Rattle.sharc_tree.specs.{declared.tree.statement.Stmt.Stmt, Tree.{Expression, Statement}}
-use Rattle.sharc_tree.specs.View.{view_expr, view_arguments, view_option, view_right, view_simple, view_local, view_first, view_stmt, view_statements}
+use Rattle.sharc_tree.specs.View.{view_expr, view_arguments, view_option, view_right, view_simple, view_local}
+use Rattle.sharc_tree.specs.View.{view_first, view_stmt, view_statements}
 use Rattle.sharc_names.specs.declared.fault.Named.{Named}
 use Rattle.sharc_names.specs.{Kinds.{Kind, declared_kind, declared_kinds, element_kind, promoted}, View.view_kind}
 use Rattle.sharc_ctype.specs.{Resolved.{Resolution, kind_at}, Transfers.parameters_named}
@@ -13,19 +15,25 @@ use Rattle.sharc_mode.specs.{Cells.{cell_at, pointed}, Moded.Assignment, Rows.{r
 use Rattle.sharc_mode.specs.View.{view_sharing}
 use Rattle.sharc_meaning.specs.Arithmetic.{bits_of, truth, operated, negated, complement}
 use Rattle.sharc_meaning.specs.Cells.{element_cells, field_place_named}
-use Rattle.sharc_meaning.specs.Expressions.{Calls, resulting, tested, operand, fitting, passed, number_named, value_called, eval, place_of}
-use Rattle.sharc_meaning.specs.Places.{Place, variable, field_in, based, element, element_of_array, index_place, pointee_place, field_place, stored, taken_from, cast_to, freed}
+use Rattle.sharc_meaning.specs.Expressions.{Calls, resulting, tested, operand, fitting, passed, number_named}
+use Rattle.sharc_meaning.specs.Expressions.{value_called, eval, place_of}
+use Rattle.sharc_meaning.specs.Places.{Place, variable, field_in, based, element, element_of_array, index_place}
+use Rattle.sharc_meaning.specs.Places.{pointee_place, field_place, stored, taken_from, cast_to, freed}
 use Rattle.sharc_meaning.specs.Reference.{is_null, number_of, elements_of}
-use Rattle.sharc_meaning.specs.State.{State, Out, Run, Step, ◌>>=◌, ◌>>◌, give, done, answered, drops, moves, ends_temporaries, ends_variables}
-use Rattle.sharc_meaning.specs.Statements.{Flow, next, returned, on_next, on_turn, turns, loop, exec, exec_all, right_value, done_simple, declared, done_first, done_test, return_with}
+use Rattle.sharc_meaning.specs.State.{State, Out, Run, Step, ◌>>=◌, ◌>>◌, give, done, answered, drops, moves}
+use Rattle.sharc_meaning.specs.State.{ends_temporaries, ends_variables}
+use Rattle.sharc_meaning.specs.Statements.{Flow, next, returned, on_next, on_turn, turns, loop, exec, exec_all}
+use Rattle.sharc_meaning.specs.Statements.{right_value, done_simple, declared, done_first, done_test, return_with}
 use Rattle.sharc_meaning.specs.Waiting.{lock_call, unlock_call}
 use Rattle.sharc_ask_steps.specs.{declared.state.End.End, View.{Known, known, view_place, Over}, Width.value_bits}
 use Rattle.sharc_ask_steps.specs.declared.state.End.TheVariants as ends
 use Rattle.sharc_ask.specs.{declared.plan.After.After, declared.plan.Loop.Loop, declared.plan.Plan.Plan}
 use Rattle.sharc_ask.specs.{declared.plan.Rest.Rest, declared.plan.Task.Task, declared.plan.WithNumber.WithNumber}
 use Rattle.sharc_ask.specs.{declared.plan.WithValue.WithValue, declared.plan.WithPlace.WithPlace}
-use Rattle.sharc_ask.specs.Values.{Value, number, test, place, flow, number_in, test_in, place_in, flow_in, view_value, gives, as_nothing}
-use Rattle.sharc_ask.specs.View.{view_test, view_otherwise, loop_test, loop_step, loop_body, other_done, number_left, place_fetched, calling, made}
+use Rattle.sharc_ask.specs.Values.{Value, number, test, place, flow, number_in, test_in, place_in, flow_in, view_value}
+use Rattle.sharc_ask.specs.Values.{gives, as_nothing}
+use Rattle.sharc_ask.specs.View.{view_test, view_otherwise, loop_test, loop_step, loop_body, other_done, number_left}
+use Rattle.sharc_ask.specs.View.{place_fetched, calling, made}
 use Rattle.sharc_ask.specs.declared.plan.After.TheVariants as afters
 use Rattle.sharc_ask.specs.declared.plan.Plan.TheVariants as plans
 use Rattle.sharc_ask.specs.declared.plan.Rest.TheVariants as rests
@@ -115,7 +123,8 @@ left_with r bits at o a b of_b x0 = do
   joined_with r bits at o b x of_b
 
 abbrev pub element_behind : Resolution → Site → Expression → ℤ → ℤ → Run Place
-element_behind r site a p n = element site (Made (number_of p)) (element_cells r (element_kind (kind_at r a))) (elements_of p) n
+element_behind r site a p n =
+    element site (Made (number_of p)) (element_cells r (element_kind (kind_at r a))) (elements_of p) n
 
 abbrev pub behind_pointer : Resolution → Site → Expression → ℤ → Run ℤ → Run Place
 behind_pointer r site a p i = do
@@ -159,17 +168,23 @@ inside m s = m (record s { fuel = suc s.fuel })
 abbrev pub task_means : Calls → Assignment → Task → Run Value
 task_means on_call m (tasks.Eval e) = gives number (eval on_call m (view_expr e.now))
 task_means on_call m (tasks.Test e) = gives test (tested m.typed (view_expr e.now) (eval on_call m (view_expr e.now)))
-task_means on_call m (tasks.Argument parameters e) = gives number (passed m.typed (declared_kinds parameters.now) (view_expr e.now) (eval on_call m (view_expr e.now)))
+task_means on_call m (tasks.Argument parameters e) =
+    gives number (passed m.typed (declared_kinds parameters.now) (view_expr e.now) (eval on_call m (view_expr e.now)))
 task_means on_call m (tasks.PlaceOf site e) = gives place (place_of on_call m site (view_expr e.now))
-task_means on_call m (tasks.Index site a i) = gives place (index_place m.typed site (view_expr a.now) (place_of on_call m site (view_expr a.now)) (eval on_call m (view_expr a.now)) (eval on_call m (view_expr i.now)))
-task_means on_call m (tasks.Pointee site a) = gives place (pointee_place m.typed site (view_expr a.now) (eval on_call m (view_expr a.now)))
-task_means on_call m (tasks.Field site a w n) = gives place (field_place m.typed site (view_expr a.now) w n (place_of on_call m site (view_expr a.now)) (eval on_call m (view_expr a.now)))
-task_means on_call m (tasks.Right kind target x) = gives number (right_value on_call m (view_kind kind) (view_sharing target) (view_right x.now))
+task_means on_call m (tasks.Index site a i) = gives place (index_place m.typed site (view_expr a.now)
+    (place_of on_call m site (view_expr a.now)) (eval on_call m (view_expr a.now)) (eval on_call m (view_expr i.now)))
+task_means on_call m (tasks.Pointee site a) =
+    gives place (pointee_place m.typed site (view_expr a.now) (eval on_call m (view_expr a.now)))
+task_means on_call m (tasks.Field site a w n) = gives place (field_place m.typed site (view_expr a.now) w n
+    (place_of on_call m site (view_expr a.now)) (eval on_call m (view_expr a.now)))
+task_means on_call m (tasks.Right kind target x) =
+    gives number (right_value on_call m (view_kind kind) (view_sharing target) (view_right x.now))
 task_means on_call m (tasks.Simple x) = gives as_nothing (done_simple on_call m (view_simple x.now))
 task_means on_call m (tasks.Declare l) = gives as_nothing (declared on_call m (view_local l.now))
 task_means on_call m (tasks.First h) = gives as_nothing (done_first on_call m (view_first h.now.value.first))
 task_means on_call m (tasks.LoopTest e) = gives test (done_test on_call m (view_test e))
-task_means on_call m (tasks.Return kind site e) = gives flow (return_with on_call m (view_kind kind) site (view_option (λ b. view_expr b.value) e.now))
+task_means on_call m (tasks.Return kind site e) =
+    gives flow (return_with on_call m (view_kind kind) site (view_option (λ b. view_expr b.value) e.now))
 task_means on_call m (tasks.Entered kind a) = inside (gives flow (exec on_call m (view_kind kind) (view_stmt a.now)))
 task_means on_call m (tasks.All kind l) = gives flow (exec_all on_call m (view_kind kind) (view_statements l.now))
 task_means on_call m (tasks.Turns n l) = gives flow (turns_of on_call m l n)
@@ -184,28 +199,39 @@ assigned_to m u p right = do
 -- with the value x of the expression e
 abbrev pub value_means : Calls → Assignment → Expression → WithValue → ℤ → Run Value
 value_means on_call m e with_values.Tested x = gives test (tested m.typed e (give x))
-value_means on_call m e (with_values.Passed parameters) x = gives number (passed m.typed (declared_kinds parameters.now) e (give x))
-value_means on_call m e (with_values.Spawned site f mark) x = gives number (ends_above mark (spawned_with m.typed site f e x))
+value_means on_call m e (with_values.Passed parameters) x =
+    gives number (passed m.typed (declared_kinds parameters.now) e (give x))
+value_means on_call m e (with_values.Spawned site f mark) x =
+    gives number (ends_above mark (spawned_with m.typed site f e x))
 value_means on_call m e (with_values.Performs site w) x = gives number (value_called site w (give x))
-value_means on_call m e (with_values.Negated site) x = gives number (resulting site (negated (bits_of (promoted (kind_at m.typed e))) x))
+value_means on_call m e (with_values.Negated site) x =
+    gives number (resulting site (negated (bits_of (promoted (kind_at m.typed e))) x))
 value_means on_call m e with_values.Inverted x = gives number (inverted_with m.typed e x)
 value_means on_call m e with_values.Complemented x = gives number (give (complement x))
-value_means on_call m e (with_values.AndLeft b) x = gives number (and_with m.typed e (view_expr b.now) (eval on_call m (view_expr b.now)) x)
-value_means on_call m e (with_values.OrLeft b) x = gives number (or_with m.typed e (view_expr b.now) (eval on_call m (view_expr b.now)) x)
+value_means on_call m e (with_values.AndLeft b) x =
+    gives number (and_with m.typed e (view_expr b.now) (eval on_call m (view_expr b.now)) x)
+value_means on_call m e (with_values.OrLeft b) x =
+    gives number (or_with m.typed e (view_expr b.now) (eval on_call m (view_expr b.now)) x)
 value_means on_call m e with_values.TruthOf x = gives number (truth_with m.typed e x)
-value_means on_call m e (with_values.LeftOperand o b) x = gives number (ends_above o.mark (left_with m.typed (value_bits o.width) o.site o.operator e (view_expr b.now) (eval on_call m (view_expr b.now)) x))
-value_means on_call m e (with_values.RightOperand o x) y = gives number (ends_above o.mark (joined_with m.typed (value_bits o.width) o.site o.operator e x (give y)))
+value_means on_call m e (with_values.LeftOperand o b) x = gives number (ends_above o.mark
+    (left_with m.typed (value_bits o.width) o.site o.operator e (view_expr b.now) (eval on_call m (view_expr b.now)) x))
+value_means on_call m e (with_values.RightOperand o x) y =
+    gives number (ends_above o.mark (joined_with m.typed (value_bits o.width) o.site o.operator e x (give y)))
 value_means on_call m e (with_values.Fitted kind) x = gives number (fitting (view_kind kind) e (give x))
-value_means on_call m e (with_values.Made site target w) x = gives number (made m.typed site (view_sharing target) x w.now)
-value_means on_call m e (with_values.PointerBase site i) p = gives place (behind_pointer m.typed site e p (eval on_call m (view_expr i.now)))
+value_means on_call m e (with_values.Made site target w) x =
+    gives number (made m.typed site (view_sharing target) x w.now)
+value_means on_call m e (with_values.PointerBase site i) p =
+    gives place (behind_pointer m.typed site e p (eval on_call m (view_expr i.now)))
 value_means on_call m e (with_values.Based site) p = gives place (pointee_place m.typed site e (give p))
 value_means on_call m e with_values.Dropped x = gives as_nothing (drops (kind_at m.typed e) x)
 value_means on_call m e (with_values.Returns kind site) x = gives flow (returned_with (view_kind kind) site e x)
 
 -- with the place p of the expression e, or of what it is read from
 abbrev pub place_means : Calls → Assignment → Expression → WithPlace → Place → Run Value
-place_means on_call m e (with_places.Locks site mark) p = gives number (zero_behind (ends_above mark (lock_call site p)))
-place_means on_call m e (with_places.Unlocks site mark) p = gives number (zero_behind (ends_above mark (unlock_call site p)))
+place_means on_call m e (with_places.Locks site mark) p =
+    gives number (zero_behind (ends_above mark (lock_call site p)))
+place_means on_call m e (with_places.Unlocks site mark) p =
+    gives number (zero_behind (ends_above mark (unlock_call site p)))
 place_means on_call m e (with_places.Frees s mark) p = gives number (do
   x ← ends_above mark (taken_from m.typed s.first (span_of e).first (cell_at m e) ToFree p)
   free_unless_null (span_of e).first x)
@@ -217,22 +243,28 @@ place_means on_call m e (with_places.ArrayBase site i) p = gives place (do
   n ← eval on_call m (view_expr i.now)
   element_in m.typed site e p n)
 place_means on_call m e (with_places.FieldIn f) p = gives place (give (field_in (field_place_named m.typed f) p))
-place_means on_call m e (with_places.Assigned x mark) p = gives as_nothing (ends_above mark (assigned_to m e p (right_value on_call m (kind_at m.typed e) (pointed m (row_at m.typed e)) (view_right x.now))))
+place_means on_call m e (with_places.Assigned x mark) p = gives as_nothing (ends_above mark
+    (assigned_to m e p (right_value on_call m (kind_at m.typed e) (pointed m (row_at m.typed e)) (view_right x.now))))
 
 -- with an index, or a value that goes somewhere
 abbrev pub number_means : Assignment → WithNumber → ℤ → Run Value
-number_means m (numbers.ArrayElement site a base) n = gives place (element_in m.typed site (view_expr a.now) (view_place base) n)
+number_means m (numbers.ArrayElement site a base) n =
+    gives place (element_in m.typed site (view_expr a.now) (view_place base) n)
 number_means m (numbers.PointerElement site a p) n = gives place (element_behind m.typed site (view_expr a.now) p n)
-number_means m (numbers.Stored u p mark) x = gives as_nothing (ends_above mark (assigned_to m (view_expr u.now) (view_place p) (give x)))
-number_means m (numbers.Initialised d) x = gives as_nothing (stored m.typed d.now.name.site (declared_kind d.now.written) private (variable d.now.name.site.token) x)
+number_means m (numbers.Stored u p mark) x =
+    gives as_nothing (ends_above mark (assigned_to m (view_expr u.now) (view_place p) (give x)))
+number_means m (numbers.Initialised d) x = gives as_nothing
+    (stored m.typed d.now.name.site (declared_kind d.now.written) private (variable d.now.name.site.token) x)
 
 -- behind a part of a statement, or of a call, with what it came to
 abbrev pub after_means : Calls → Assignment → After → Value → Run Value
 after_means on_call m afters.Simple v = give (flow next)
 after_means on_call m (afters.Block mark) v = gives flow (ends_block mark (give (flow_in v)))
 after_means on_call m (afters.Listed kind l) v = gives flow (others_done on_call m (view_kind kind) l.now (flow_in v))
-after_means on_call m (afters.Choice kind a b) v = gives flow (chosen_done on_call m (view_kind kind) (view_stmt a.now) (view_otherwise b) (test_in v))
-after_means on_call m (afters.Head l mark) v = gives flow (ends_block mark (loop (loop_test on_call m l) (loop_step on_call m l) (loop_body on_call m l)))
+after_means on_call m (afters.Choice kind a b) v =
+    gives flow (chosen_done on_call m (view_kind kind) (view_stmt a.now) (view_otherwise b) (test_in v))
+after_means on_call m (afters.Head l mark) v =
+    gives flow (ends_block mark (loop (loop_test on_call m l) (loop_step on_call m l) (loop_body on_call m l)))
 after_means on_call m (afters.Test n l) v = gives flow (tested_done on_call m l n (test_in v))
 after_means on_call m (afters.Body n l) v = gives flow (left_body on_call m l n (flow_in v))
 after_means on_call m (afters.Step n l) v = gives flow (turns_of on_call m l n)
@@ -248,7 +280,8 @@ rest_means on_call m (rests.After w) v = after_means on_call m w v
 abbrev pub plan_means : Calls → Assignment → Plan → Run Value
 plan_means on_call m (plans.Done v) = give (view_value v)
 plan_means on_call m (plans.Goes t w) = task_means on_call m t >>= rest_means on_call m w
-plan_means on_call m (plans.Calls c) = gives number (calling on_call m c.site c.named c.name.now (view_arguments c.arguments.now))
+plan_means on_call m (plans.Calls c) =
+    gives number (calling on_call m c.site c.named c.name.now (view_arguments c.arguments.now))
 
 -- a run, and what goes on with its value
 abbrev pub goes_on : Calls → Assignment → Run Value → Rest → Run Value

@@ -51,7 +51,8 @@ pub record IsCaller (c : Caller) (f : Behind) : Type 0 where
 
 abbrev pub IsBehind : Assignment → ℕ → Later → Behind → Type 0
 IsBehind m n (laters.Rest w) f = f ≡ rest_means (calls m n) m w
-IsBehind m n (laters.Passes p) f = f ≡ (λ v. awaits (calls m n) m p.call p.mark (declared_kinds p.parameters.now) (view_arguments p.arguments.now) (p.values.items ++ number_in v ∷ []))
+IsBehind m n (laters.Passes p) f = f ≡ (λ v. awaits (calls m n) m p.call p.mark (declared_kinds p.parameters.now)
+    (view_arguments p.arguments.now) (p.values.items ++ number_in v ∷ []))
 IsBehind m n (laters.Returns c) f = IsCaller c f
 
 abbrev pub AreBehind : Assignment → List Left → List Behind → Type 0
@@ -80,7 +81,8 @@ Reached m (Err e) stack k out = Over e k out
 
 -- from whatever state looks so, and whatever is left to do
 abbrev pub Moves : Assignment → Known → List Left → Result At End → Known → List Left → Run Value → Type 0
-Moves m before stack result after stack1 run = (s : State) (behind : List Behind) → known s ≡ before → AreBehind m stack behind → Reached m result stack1 after (then_on (run s) (all_behind behind))
+Moves m before stack result after stack1 run = (s : State) (behind : List Behind) → known s ≡ before
+    → AreBehind m stack behind → Reached m result stack1 after (then_on (run s) (all_behind behind))
 
 abbrev pub StepEnds : Assignment → Result Stepped End → List Left → Known → Out Value → Type 0
 StepEnds m (Ok (stepped.Whole v)) stack k out = Went (view_value v) k out
@@ -89,15 +91,18 @@ StepEnds m (Err ends.Memory) stack k out = Unit {0}
 StepEnds m (Err e) stack k out = Over e k out
 
 abbrev pub Steps : Assignment → Known → List Left → Result Stepped End → Known → List Left → Run Value → Type 0
-Steps m before stack result after stack1 run = (s : State) (behind : List Behind) → known s ≡ before → AreBehind m stack behind → StepEnds m result stack1 after (then_on (run s) (all_behind behind))
+Steps m before stack result after stack1 run = (s : State) (behind : List Behind) → known s ≡ before
+    → AreBehind m stack behind → StepEnds m result stack1 after (then_on (run s) (all_behind behind))
 
 -- what is left to do with the value of the thing that was next
 abbrev pub GoesOnWith : Assignment → Known → Left → RustValue → List Left → Result At End → Known → List Left → Type 0
-GoesOnWith m before l v stack result after stack1 = (f : Behind) → IsBehind m l.frames l.later f → Moves m before stack result after stack1 (f (view_value v))
+GoesOnWith m before l v stack result after stack1 = (f : Behind) → IsBehind m l.frames l.later f
+    → Moves m before stack result after stack1 (f (view_value v))
 
 -- the whole comes to this
 abbrev pub Comes : Assignment → At → List Left → Known → Result RustValue End → Known → Type 0
-Comes m at stack before result after = (s : State) (behind : List Behind) → known s ≡ before → AreBehind m stack behind → EndsAs view_value result after (then_on (at_means m at s) (all_behind behind))
+Comes m at stack before result after = (s : State) (behind : List Behind) → known s ≡ before → AreBehind m stack behind
+    → EndsAs view_value result after (then_on (at_means m at s) (all_behind behind))
 
 -- ---- that the walk ends
 

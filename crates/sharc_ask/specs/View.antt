@@ -1,5 +1,6 @@
 -- How far a thread came, as the code reports it, and parts of runs, as the code's functions have them.
-use Rattle.std.specs.Prelude.{◌≡◌, ℕ, ℤ, pos, Bool, true, false, Option, Some, None, take, drop, ◌-◌, unsigned_abs, length, List, [], ◌++◌, if◌then◌else◌}
+use Rattle.std.specs.Prelude.{◌≡◌, ℕ, ℤ, pos, Bool, true, false, Option, Some, None, take, drop, ◌-◌, unsigned_abs}
+use Rattle.std.specs.Prelude.{length, List, [], ◌++◌, if◌then◌else◌}
 use Rattle.std.specs.{Borrow.Bor, Option.option_map}
 use Rattle.sharc_tree.specs.declared.event.Act.TheVariants as acts
 use Rattle.sharc_tree.specs.{declared.token.Site.Site, declared.tree.declaration.WrittenType.WrittenType}
@@ -21,8 +22,11 @@ use Rattle.sharc_meaning.specs.{declared.variable.Variable.Variable, Arithmetic.
 use Rattle.sharc_meaning.specs.Cells.{element_cells, instance_mode}
 use Rattle.sharc_meaning.specs.Expressions.{Calls, called, resulting, tested, operand, binary_value, eval, eval_all}
 use Rattle.sharc_meaning.specs.{Meaning.{Asked, parameters_begin, left_at}, Places.{Place, fetched}}
-use Rattle.sharc_meaning.specs.State.{Outcome, wants, ended, stopped, spent, Run, Step, ◌>>=◌, ◌>>◌, give, unless_stop, answered, performs, looks_at, temporarily, in_block, entered, value_of, all_released, pointers_among}
-use Rattle.sharc_meaning.specs.Statements.{Flow, next, broken, continued, returned, is_positive, loop, done_first, done_step, done_test, exec, exec_all}
+use Rattle.sharc_meaning.specs.State.{Outcome, wants, ended, stopped, spent, Run, Step, ◌>>=◌, ◌>>◌, give, unless_stop}
+use Rattle.sharc_meaning.specs.State.{answered, performs, looks_at, temporarily, in_block, entered, value_of}
+use Rattle.sharc_meaning.specs.State.{all_released, pointers_among}
+use Rattle.sharc_meaning.specs.Statements.{Flow, next, broken, continued, returned, is_positive, loop, done_first}
+use Rattle.sharc_meaning.specs.Statements.{done_step, done_test, exec, exec_all}
 use Rattle.sharc_ask_steps.specs.View.{Known}
 use Rattle.sharc_ask.specs.declared.values.Flow.TheVariants as flows
 
@@ -79,7 +83,8 @@ logic_of LogicalAnd = Some true
 logic_of LogicalOr = Some false
 logic_of _ = None
 
-abbrev pub binary_by : Option Bool → Resolution → ℕ → Site → BinaryOperator → Expression → Expression → Run ℤ → Run ℤ → Run ℤ
+abbrev pub binary_by : Option Bool → Resolution → ℕ → Site → BinaryOperator → Expression → Expression → Run ℤ → Run ℤ
+    → Run ℤ
 binary_by None r bits at o a b of_a of_b = joined r bits at o a b of_a of_b
 binary_by (Some true) r bits at o a b of_a of_b = binary_value r at LogicalAnd a b of_a of_b
 binary_by (Some false) r bits at o a b of_a of_b = binary_value r at LogicalOr a b of_a of_b
@@ -135,14 +140,21 @@ leaves name = do
 -- temporaries, or variables, past this number end, and what they hold is given up
 
 abbrev pub temporaries_ended : ℕ → Known → Known
-temporaries_ended n k = record k { temporaries = take n k.temporaries; given_up = k.given_up ++ all_released (drop n k.temporaries) }
+temporaries_ended n k =
+    record k { temporaries = take n k.temporaries; given_up = k.given_up ++ all_released (drop n k.temporaries) }
 
 abbrev pub variables_ended : ℕ → Known → Known
-variables_ended n k = record k { variables = take n k.variables; given_up = k.given_up ++ all_released (pointers_among (drop n k.variables)) }
+variables_ended n k = record k {
+  variables = take n k.variables;
+  given_up = k.given_up ++ all_released (pointers_among (drop n k.variables));
+}
 
--- a caller's variables, its temporaries but the last, and what is held below it; after that the frame is a new one, with all that below it
+-- a caller's variables, its temporaries but the last, and what is held below it; after that the frame is a new one,
+-- with all that below it
 abbrev pub WasKept : ℕ → Known → Known → Option (List Variable × List ℤ × List ℤ) → Type 0
 WasKept moved before after None = Unit {0}
 WasKept moved before after (Some (variables, temporaries, below)) =
-    (variables ≡ before.variables) × (temporaries ≡ take (length before.temporaries - moved) before.temporaries) × (below ≡ before.below)
-    × (after ≡ record before { variables = []; temporaries = []; below = below ++ (pointers_among variables ++ temporaries) })
+    (variables ≡ before.variables) × (temporaries ≡ take (length before.temporaries - moved) before.temporaries)
+    × (below ≡ before.below)
+    × (after
+    ≡ record before { variables = []; temporaries = []; below = below ++ (pointers_among variables ++ temporaries) })

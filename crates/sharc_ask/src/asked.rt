@@ -5,8 +5,8 @@ use sharc_tree::event::{SourceEvent, SourceEvents};
 use sharc_tree::listed::Listed;
 use sharc_tree::token::Site;
 
-/// The pointers that frames and temporaries hold, those of the thread's function first: of each frame its variables in the order of their declarations,
-/// then its temporaries. NULL is 0.
+/// The pointers that frames and temporaries hold, those of the thread's function first: of each frame its variables in
+/// the order of their declarations, then its temporaries. NULL is 0.
 pub type Holds = Listed<i64>;
 
 /// What is given up, in its order.

@@ -39,8 +39,10 @@ pub fn enter_function<'a>(
     stack: &mut Vec<Left<'a>>,
     st: &mut State,
 ) -> Result<At<'a>, End>
-    ensures moves { (m : Assignment) → Moves m (view_state st.old) (stack_of stack.old) result (view_state st.new) (stack_of stack.new) (gives as_left (run_function (calls m frames) m (view_function function.now) values.now)) }
-    ensures ends { IfOk result (λ at. 64 * st.new.fuel + size at.plan + load (stack_of stack.new) + 61 ≤ 64 * st.old.fuel + load (stack_of stack.old)) }
+    ensures moves { (m : Assignment) → Moves m (view_state st.old) (stack_of stack.old) result (view_state st.new)
+        (stack_of stack.new) (gives as_left (run_function (calls m frames) m (view_function function.now) values.now)) }
+    ensures ends { IfOk result (λ at. 64 * st.new.fuel + size at.plan + load (stack_of stack.new) + 61
+        ≤ 64 * st.old.fuel + load (stack_of stack.old)) }
 {
     match push_frame(pointers_passed(function.parameters.as_slice()), st) {
         None => Err(End::Memory),
@@ -62,7 +64,8 @@ pub fn return_to<'a>(
     flow: Flow,
     st: &mut State,
 ) -> Result<At<'a>, End>
-    ensures moves { (m : Assignment) (stack : List Kept) (f : Behind) (v : Meant) → IsCaller caller.entry f → flow_in v ≡ view_flow flow → Moves m (view_state st.old) stack result (view_state st.new) stack (f v) }
+    ensures moves { (m : Assignment) (stack : List Kept) (f : Behind) (v : Meant) → IsCaller caller.entry f
+        → flow_in v ≡ view_flow flow → Moves m (view_state st.old) stack result (view_state st.new) stack (f v) }
     ensures ends { IfOk result (λ at. 64 * st.new.fuel + size at.plan ≤ 64 * st.old.fuel) }
 {
     let left = left_at(caller.function, flow);
@@ -79,7 +82,8 @@ pub fn return_to<'a>(
 
 // A call of what is no function is 0.
 fn no_call<'a>(frames: u32, mark: usize, st: &mut State) -> Result<At<'a>, End>
-    ensures moves { (m : Assignment) (stack : List Kept) → Moves m (view_state st.old) stack result (view_state st.new) stack (gives number (ends_above mark (give (pos 0)))) }
+    ensures moves { (m : Assignment) (stack : List Kept) → Moves m (view_state st.old) stack result
+        (view_state st.new) stack (gives number (ends_above mark (give (pos 0)))) }
     ensures ends { IfOk result (λ at. 64 * st.new.fuel + size at.plan ≤ 64 * st.old.fuel) }
 {
     let plan = done_number(end_above(Ok(0), mark, st))?;
@@ -96,8 +100,10 @@ fn call_function<'a>(
     stack: &mut Vec<Left<'a>>,
     st: &mut State,
 ) -> Result<At<'a>, End>
-    ensures moves { Moves program.now (view_state st.old) (stack_of stack.old) result (view_state st.new) (stack_of stack.new) (gives number (ends_above mark (calls program.now frames called site values.now))) }
-    ensures ends { IfOk result (λ at. 64 * st.new.fuel + size at.plan + load (stack_of stack.new) < 64 * st.old.fuel + 1 + load (stack_of stack.old)) }
+    ensures moves { Moves program.now (view_state st.old) (stack_of stack.old) result (view_state st.new)
+        (stack_of stack.new) (gives number (ends_above mark (calls program.now frames called site values.now))) }
+    ensures ends { IfOk result (λ at. 64 * st.new.fuel + size at.plan + load (stack_of stack.new)
+        < 64 * st.old.fuel + 1 + load (stack_of stack.old)) }
 {
     if frames == 0 {
         return Err(End::Stopped(Trap::CallDepth, site));
@@ -120,8 +126,11 @@ fn call_named<'a>(
     stack: &mut Vec<Left<'a>>,
     st: &mut State,
 ) -> Result<At<'a>, End>
-    ensures moves { Moves program.now (view_state st.old) (stack_of stack.old) result (view_state st.new) (stack_of stack.new) (gives number (ends_above mark (called (calls program.now frames) call.entry.site call.entry.named call.entry.name.now values.now))) }
-    ensures ends { IfOk result (λ at. 64 * st.new.fuel + size at.plan + load (stack_of stack.new) < 64 * st.old.fuel + 1 + load (stack_of stack.old)) }
+    ensures moves { Moves program.now (view_state st.old) (stack_of stack.old) result (view_state st.new)
+        (stack_of stack.new) (gives number (ends_above mark
+        (called (calls program.now frames) call.entry.site call.entry.named call.entry.name.now values.now))) }
+    ensures ends { IfOk result (λ at. 64 * st.new.fuel + size at.plan + load (stack_of stack.new)
+        < 64 * st.old.fuel + 1 + load (stack_of stack.old)) }
 {
     match call.named {
         Named::Function(number) => {
@@ -147,8 +156,11 @@ fn pass<'a>(
     stack: &mut Vec<Left<'a>>,
     st: &mut State,
 ) -> Result<At<'a>, End>
-    ensures moves { let p = passing.entry in Moves program.now (view_state st.old) (stack_of stack.old) result (view_state st.new) (stack_of stack.new) (awaits (calls program.now frames) program.now p.call p.mark (declared_kinds p.parameters.now) (view_arguments p.arguments.now) p.values.items) }
-    ensures ends { IfOk result (λ at. 64 * st.new.fuel + size at.plan + load (stack_of stack.new) < 64 * st.old.fuel + 1 + load (stack_of stack.old)) }
+    ensures moves { let p = passing.entry in Moves program.now (view_state st.old) (stack_of stack.old) result
+        (view_state st.new) (stack_of stack.new) (awaits (calls program.now frames) program.now p.call p.mark
+        (declared_kinds p.parameters.now) (view_arguments p.arguments.now) p.values.items) }
+    ensures ends { IfOk result (λ at. 64 * st.new.fuel + size at.plan + load (stack_of stack.new)
+        < 64 * st.old.fuel + 1 + load (stack_of stack.old)) }
 {
     match passing.arguments {
         [] => {
@@ -189,8 +201,11 @@ pub fn pass_value<'a>(
     stack: &mut Vec<Left<'a>>,
     st: &mut State,
 ) -> Result<At<'a>, End>
-    ensures moves { let p = passing.entry in Moves program.now (view_state st.old) (stack_of stack.old) result (view_state st.new) (stack_of stack.new) (awaits (calls program.now frames) program.now p.call p.mark (declared_kinds p.parameters.now) (view_arguments p.arguments.now) (p.values.items ++ value ∷ [])) }
-    ensures ends { IfOk result (λ at. 64 * st.new.fuel + size at.plan + load (stack_of stack.new) < 64 * st.old.fuel + 1 + load (stack_of stack.old)) }
+    ensures moves { let p = passing.entry in Moves program.now (view_state st.old) (stack_of stack.old) result
+        (view_state st.new) (stack_of stack.new) (awaits (calls program.now frames) program.now p.call p.mark
+        (declared_kinds p.parameters.now) (view_arguments p.arguments.now) (p.values.items ++ value ∷ [])) }
+    ensures ends { IfOk result (λ at. 64 * st.new.fuel + size at.plan + load (stack_of stack.new)
+        < 64 * st.old.fuel + 1 + load (stack_of stack.old)) }
 {
     let mut values = passing.values;
     match values.push(value) {
@@ -216,8 +231,11 @@ pub fn begin_call<'a>(
     stack: &mut Vec<Left<'a>>,
     st: &mut State,
 ) -> Result<At<'a>, End>
-    ensures moves { Moves program.now (view_state st.old) (stack_of stack.old) result (view_state st.new) (stack_of stack.new) (gives number (calling (calls program.now frames) program.now call.entry.site call.entry.named call.entry.name.now (view_arguments call.entry.arguments.now))) }
-    ensures ends { IfOk result (λ at. 64 * st.new.fuel + size at.plan + load (stack_of stack.new) < 64 * st.old.fuel + 1 + load (stack_of stack.old)) }
+    ensures moves { Moves program.now (view_state st.old) (stack_of stack.old) result (view_state st.new)
+        (stack_of stack.new) (gives number (calling (calls program.now frames) program.now call.entry.site
+        call.entry.named call.entry.name.now (view_arguments call.entry.arguments.now))) }
+    ensures ends { IfOk result (λ at. 64 * st.new.fuel + size at.plan + load (stack_of stack.new)
+        < 64 * st.old.fuel + 1 + load (stack_of stack.old)) }
 {
     let passing = Passing {
         call,

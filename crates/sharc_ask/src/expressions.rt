@@ -32,7 +32,8 @@ fn on_place_plan<'a>(
     st: &State,
 ) -> Plan<'a>
     requires form { view_expr expr.now ≡ on_place span word (view_expr operand.now) }
-    ensures means { (on_call : Calls) (m : Assignment) → LeadsFrom on_call m (view_state st.now) (inside (gives number (eval on_call m (view_expr expr.now)))) result }
+    ensures means { (on_call : Calls) (m : Assignment)
+        → LeadsFrom on_call m (view_state st.now) (inside (gives number (eval on_call m (view_expr expr.now)))) result }
     ensures fits { Fits 15 result }
 {
     let mark = st.frame.temporaries.len();
@@ -58,7 +59,8 @@ fn unary_plan<'a>(
     st: &State,
 ) -> Plan<'a>
     requires form { view_expr expr.now ≡ unary span operator (view_expr operand.now) }
-    ensures means { (on_call : Calls) (m : Assignment) → LeadsFrom on_call m (view_state st.now) (inside (gives number (eval on_call m (view_expr expr.now)))) result }
+    ensures means { (on_call : Calls) (m : Assignment)
+        → LeadsFrom on_call m (view_state st.now) (inside (gives number (eval on_call m (view_expr expr.now)))) result }
     ensures fits { Fits 15 result }
 {
     let mark = st.frame.temporaries.len();
@@ -88,8 +90,10 @@ fn binary_plan<'a>(
     right: &'a Expr,
     st: &State,
 ) -> Plan<'a>
-    requires form { (s : Span) × (view_expr expr.now ≡ binary s operator site (view_expr left.now) (view_expr right.now)) }
-    ensures means { (on_call : Calls) → LeadsFrom on_call program.now (view_state st.now) (inside (gives number (eval on_call program.now (view_expr expr.now)))) result }
+    requires form { (s : Span)
+        × (view_expr expr.now ≡ binary s operator site (view_expr left.now) (view_expr right.now)) }
+    ensures means { (on_call : Calls) → LeadsFrom on_call program.now (view_state st.now)
+        (inside (gives number (eval on_call program.now (view_expr expr.now)))) result }
     ensures fits { Fits 15 result }
 {
     let mark = st.frame.temporaries.len();
@@ -167,7 +171,8 @@ fn cast_plan<'a>(expr: &'a Expr, span: Span, source: &'a Expr, st: &State) -> Pl
 }
 
 fn eval_plan<'a>(program: &'a Moded, expr: &'a Expr, st: &mut State) -> Result<Plan<'a>, End>
-    ensures means { (on_call : Calls) → Plans on_call program.now (view_state st.old) result (view_state st.new) (inside (gives number (eval on_call program.now (view_expr expr.now)))) }
+    ensures means { (on_call : Calls) → Plans on_call program.now (view_state st.old) result (view_state st.new)
+        (inside (gives number (eval on_call program.now (view_expr expr.now)))) }
     ensures fits { IfOk result (Fits 15) }
     ensures fuel { st.new.fuel ≤ st.old.fuel }
 {
@@ -212,7 +217,8 @@ fn eval_plan<'a>(program: &'a Moded, expr: &'a Expr, st: &mut State) -> Result<P
 
 /// The value of an expression.
 pub fn begin_eval<'a>(program: &'a Moded, expr: &'a Expr, st: &mut State) -> Result<Plan<'a>, End>
-    ensures means { (on_call : Calls) → Plans on_call program.now (view_state st.old) result (view_state st.new) (gives number (eval on_call program.now (view_expr expr.now))) }
+    ensures means { (on_call : Calls) → Plans on_call program.now (view_state st.old) result (view_state st.new)
+        (gives number (eval on_call program.now (view_expr expr.now))) }
     ensures begins { IfOk result (Begins 1 st.old.fuel st.new.fuel) }
     ensures spends { IfOk result (λ p. 64 * st.new.fuel + size p + 49 ≤ 64 * st.old.fuel) }
 {
@@ -221,7 +227,8 @@ pub fn begin_eval<'a>(program: &'a Moded, expr: &'a Expr, st: &mut State) -> Res
 }
 
 fn unary_place_plan<'a>(site: Site, operator: UnaryOperator, operand: &'a Expr) -> Plan<'a>
-    ensures means { (on_call : Calls) (m : Assignment) → Leads on_call m (gives place (unary_place m.typed site operator (view_expr operand.now) (eval on_call m (view_expr operand.now)))) result }
+    ensures means { (on_call : Calls) (m : Assignment) → Leads on_call m (gives place
+        (unary_place m.typed site operator (view_expr operand.now) (eval on_call m (view_expr operand.now)))) result }
     ensures fits { Fits 15 result }
 {
     match operator {
@@ -233,7 +240,8 @@ fn unary_place_plan<'a>(site: Site, operator: UnaryOperator, operand: &'a Expr) 
 }
 
 fn place_plan<'a>(program: &'a Moded, site: Site, expr: &'a Expr) -> Plan<'a>
-    ensures means { (on_call : Calls) → Leads on_call program.now (inside (gives place (place_of on_call program.now site (view_expr expr.now)))) result }
+    ensures means { (on_call : Calls) → Leads on_call program.now
+        (inside (gives place (place_of on_call program.now site (view_expr expr.now)))) result }
     ensures fits { Fits 15 result }
 {
     match expr {
@@ -269,7 +277,8 @@ pub fn begin_place<'a>(
     expr: &'a Expr,
     st: &mut State,
 ) -> Result<Plan<'a>, End>
-    ensures means { (on_call : Calls) → Plans on_call program.now (view_state st.old) result (view_state st.new) (gives place (place_of on_call program.now site (view_expr expr.now))) }
+    ensures means { (on_call : Calls) → Plans on_call program.now (view_state st.old) result (view_state st.new)
+        (gives place (place_of on_call program.now site (view_expr expr.now))) }
     ensures begins { IfOk result (Begins 1 st.old.fuel st.new.fuel) }
 {
     enter(st)?;
@@ -278,7 +287,9 @@ pub fn begin_place<'a>(
 
 /// `a[i]`
 pub fn index_plan<'a>(program: &'a Moded, site: Site, base: &'a Expr, index: &'a Expr) -> Plan<'a>
-    ensures means { (on_call : Calls) → Leads on_call program.now (gives place (index_place program.now.typed site (view_expr base.now) (place_of on_call program.now site (view_expr base.now)) (eval on_call program.now (view_expr base.now)) (eval on_call program.now (view_expr index.now)))) result }
+    ensures means { (on_call : Calls) → Leads on_call program.now (gives place (index_place program.now.typed site
+        (view_expr base.now) (place_of on_call program.now site (view_expr base.now))
+        (eval on_call program.now (view_expr base.now)) (eval on_call program.now (view_expr index.now)))) result }
     ensures starts { Starts 5 result }
 {
     if is_array(kind_of(program, base)) {
@@ -296,7 +307,9 @@ pub fn index_plan<'a>(program: &'a Moded, site: Site, base: &'a Expr, index: &'a
 
 /// `a.n` and `a->n`
 pub fn field_plan<'a>(site: Site, base: &'a Expr, access: Access, named: Named) -> Plan<'a>
-    ensures means { (on_call : Calls) (m : Assignment) → Leads on_call m (gives place (field_place m.typed site (view_expr base.now) access named (place_of on_call m site (view_expr base.now)) (eval on_call m (view_expr base.now)))) result }
+    ensures means { (on_call : Calls) (m : Assignment)
+        → Leads on_call m (gives place (field_place m.typed site (view_expr base.now) access named
+        (place_of on_call m site (view_expr base.now)) (eval on_call m (view_expr base.now)))) result }
     ensures starts { Starts 5 result }
 {
     let rest = Rest::Place(base, WithPlace::FieldIn(named));
@@ -308,7 +321,8 @@ pub fn field_plan<'a>(site: Site, base: &'a Expr, access: Access, named: Named) 
 
 /// `*a`
 pub fn pointee_plan<'a>(site: Site, base: &'a Expr) -> Plan<'a>
-    ensures means { (on_call : Calls) (m : Assignment) → Leads on_call m (gives place (pointee_place m.typed site (view_expr base.now) (eval on_call m (view_expr base.now)))) result }
+    ensures means { (on_call : Calls) (m : Assignment) → Leads on_call m
+        (gives place (pointee_place m.typed site (view_expr base.now) (eval on_call m (view_expr base.now)))) result }
     ensures starts { Starts 3 result }
 {
     Plan::Goes(Task::Eval(base), Rest::Value(base, WithValue::Based(site)))

@@ -9,7 +9,9 @@ ghost use Rattle.sharc_meaning.specs.Statements.{exec, exec_all};
 ghost use Rattle.sharc_ask_steps.specs.View.{Known, view_state};
 ghost use Rattle.sharc_ask.specs.View.{view_flow, view_otherwise};
 ghost use Rattle.sharc_ask.specs.Values.{flow, view_value, gives};
-ghost use Rattle.sharc_ask.specs.Plans.{inside, goes_on, after_means, others_done, chosen_done, tested_done, left_body, next_turn, turns_of, Leads, LeadsFrom, Plans, Fits, Starts, Begins, weight, after_weight, size};
+ghost use Rattle.sharc_ask.specs.Plans.{inside, goes_on, after_means, others_done, chosen_done, tested_done, left_body};
+ghost use Rattle.sharc_ask.specs.Plans.{next_turn, turns_of, Leads, LeadsFrom, Plans, Fits, Starts, Begins, weight};
+ghost use Rattle.sharc_ask.specs.Plans.{after_weight, size};
 
 use crate::parts::{end_above, end_block};
 use crate::plan::{After, Loop, Plan, Rest, Task, Value, flow_in, test_in};
@@ -21,7 +23,8 @@ use sharc_tree::tree::Stmt;
 
 /// A statement that is entered already.
 pub fn entered_plan<'a>(kind: Kind<'a>, statement: &'a Stmt, st: &State) -> Plan<'a>
-    ensures means { (on_call : Calls) (m : Assignment) → LeadsFrom on_call m (view_state st.now) (inside (gives flow (exec on_call m (view_kind kind.entry) (view_stmt statement.now)))) result }
+    ensures means { (on_call : Calls) (m : Assignment) → LeadsFrom on_call m (view_state st.now)
+        (inside (gives flow (exec on_call m (view_kind kind.entry) (view_stmt statement.now)))) result }
     ensures fits { Fits 18 result }
 {
     let mark = st.frame.variables.len();
@@ -68,7 +71,8 @@ fn begin_statement<'a>(
     rest: Rest<'a>,
     st: &mut State,
 ) -> Result<Plan<'a>, End>
-    ensures means { (on_call : Calls) (m : Assignment) → Plans on_call m (view_state st.old) result (view_state st.new) (goes_on on_call m (gives flow (exec on_call m (view_kind kind.entry) (view_stmt statement.now))) rest.entry) }
+    ensures means { (on_call : Calls) (m : Assignment) → Plans on_call m (view_state st.old) result (view_state st.new)
+        (goes_on on_call m (gives flow (exec on_call m (view_kind kind.entry) (view_stmt statement.now))) rest.entry) }
     ensures begins { IfOk result (λ p. 64 * st.new.fuel + size p + 45 ≤ 64 * st.old.fuel + weight rest.entry) }
 {
     enter(st)?;
@@ -77,7 +81,8 @@ fn begin_statement<'a>(
 
 /// The statements of a list.
 pub fn begin_all<'a>(kind: Kind<'a>, all: &'a [Stmt], st: &mut State) -> Result<Plan<'a>, End>
-    ensures means { (on_call : Calls) (m : Assignment) → Plans on_call m (view_state st.old) result (view_state st.new) (gives flow (exec_all on_call m (view_kind kind.entry) (view_statements all.now))) }
+    ensures means { (on_call : Calls) (m : Assignment) → Plans on_call m (view_state st.old) result (view_state st.new)
+        (gives flow (exec_all on_call m (view_kind kind.entry) (view_statements all.now))) }
     ensures begins { IfOk result (Begins 1 st.old.fuel st.new.fuel) }
 {
     match all {
@@ -90,7 +95,8 @@ pub fn begin_all<'a>(kind: Kind<'a>, all: &'a [Stmt], st: &mut State) -> Result<
 
 /// At most so many turns of a loop.
 pub fn turns_plan<'a>(number: u64, l: Loop<'a>, st: &State) -> Result<Plan<'a>, End>
-    ensures means { (on_call : Calls) (m : Assignment) → Plans on_call m (view_state st.now) result (view_state st.now) (gives flow (turns_of on_call m l.entry number)) }
+    ensures means { (on_call : Calls) (m : Assignment) → Plans on_call m (view_state st.now) result (view_state st.now)
+        (gives flow (turns_of on_call m l.entry number)) }
     ensures starts { IfOk result (Starts 7) }
 {
     if number == 0 {
@@ -101,7 +107,8 @@ pub fn turns_plan<'a>(number: u64, l: Loop<'a>, st: &State) -> Result<Plan<'a>, 
 }
 
 fn next_turn<'a>(number: u64, l: Loop<'a>) -> Plan<'a>
-    ensures means { (on_call : Calls) (m : Assignment) → Leads on_call m (gives flow (next_turn on_call m l.entry number)) result }
+    ensures means { (on_call : Calls) (m : Assignment)
+        → Leads on_call m (gives flow (next_turn on_call m l.entry number)) result }
     ensures fits { Fits 16 result }
 {
     match step_of(l.statement) {
@@ -111,7 +118,8 @@ fn next_turn<'a>(number: u64, l: Loop<'a>) -> Plan<'a>
 }
 
 fn behind_body<'a>(number: u64, l: Loop<'a>, left: Flow) -> Plan<'a>
-    ensures means { (on_call : Calls) (m : Assignment) → Leads on_call m (gives flow (left_body on_call m l.entry number (view_flow left))) result }
+    ensures means { (on_call : Calls) (m : Assignment)
+        → Leads on_call m (gives flow (left_body on_call m l.entry number (view_flow left))) result }
     ensures fits { Fits 16 result }
 {
     match left {
@@ -123,7 +131,8 @@ fn behind_body<'a>(number: u64, l: Loop<'a>, left: Flow) -> Plan<'a>
 }
 
 fn behind_test<'a>(number: u64, l: Loop<'a>, goes_on: bool, st: &mut State) -> Result<Plan<'a>, End>
-    ensures means { (on_call : Calls) (m : Assignment) → Plans on_call m (view_state st.old) result (view_state st.new) (gives flow (tested_done on_call m l.entry number goes_on)) }
+    ensures means { (on_call : Calls) (m : Assignment) → Plans on_call m (view_state st.old) result (view_state st.new)
+        (gives flow (tested_done on_call m l.entry number goes_on)) }
     ensures begins { IfOk result (Begins 1 st.old.fuel st.new.fuel) }
 {
     if goes_on {
@@ -145,7 +154,9 @@ fn behind_choice<'a>(
     is_true: bool,
     st: &mut State,
 ) -> Result<Plan<'a>, End>
-    ensures means { (on_call : Calls) (m : Assignment) → Plans on_call m (view_state st.old) result (view_state st.new) (gives flow (chosen_done on_call m (view_kind kind.entry) (view_stmt body.now) (view_otherwise otherwise.entry) is_true)) }
+    ensures means { (on_call : Calls) (m : Assignment)
+        → Plans on_call m (view_state st.old) result (view_state st.new) (gives flow
+        (chosen_done on_call m (view_kind kind.entry) (view_stmt body.now) (view_otherwise otherwise.entry) is_true)) }
     ensures begins { IfOk result (Begins 1 st.old.fuel st.new.fuel) }
 {
     if is_true {
@@ -158,7 +169,8 @@ fn behind_choice<'a>(
 }
 
 fn behind_listed<'a>(kind: Kind<'a>, rest: &'a [Stmt], left: Flow) -> Plan<'a>
-    ensures means { (on_call : Calls) (m : Assignment) → Leads on_call m (gives flow (others_done on_call m (view_kind kind.entry) rest.now (view_flow left))) result }
+    ensures means { (on_call : Calls) (m : Assignment)
+        → Leads on_call m (gives flow (others_done on_call m (view_kind kind.entry) rest.now (view_flow left))) result }
     ensures fits { Fits 2 result }
 {
     match left {
@@ -171,7 +183,8 @@ fn behind_listed<'a>(kind: Kind<'a>, rest: &'a [Stmt], left: Flow) -> Plan<'a>
 
 /// What goes on behind a part of a statement that came to this value.
 pub fn with_after<'a>(after: After<'a>, value: Value, st: &mut State) -> Result<Plan<'a>, End>
-    ensures means { (on_call : Calls) (m : Assignment) → Plans on_call m (view_state st.old) result (view_state st.new) (after_means on_call m after.entry (view_value value)) }
+    ensures means { (on_call : Calls) (m : Assignment) → Plans on_call m (view_state st.old) result (view_state st.new)
+        (after_means on_call m after.entry (view_value value)) }
     ensures begins { IfOk result (Begins (after_weight after.entry) st.old.fuel st.new.fuel) }
 {
     match after {

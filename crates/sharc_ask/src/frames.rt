@@ -76,7 +76,8 @@ pub struct Kept {
 }
 
 pub fn held_by(alloc: Global, below: &[i64], frame: &Frame) -> Option<Vec<i64>>
-    ensures { IfSome result (λ all. all.items ≡ below.now ++ (pointers_among frame.now.variables.items ++ frame.now.temporaries.items)) }
+    ensures { IfSome result (λ all. all.items
+        ≡ below.now ++ (pointers_among frame.now.variables.items ++ frame.now.temporaries.items)) }
 {
     match Vec::from_slice(alloc, below) {
         Err(_) => None,
@@ -114,7 +115,8 @@ fn push_all(values: &[i64], list: &mut Vec<i64>) -> bool
 
 // A new frame, in place of the one which keeps all but the last temporaries.
 pub fn push_frame(moved: usize, st: &mut State) -> Option<Kept>
-    ensures kept { WasKept moved (view_state st.old) (view_state st.new) (option_map (λ k. (k.frame.variables.items, k.frame.temporaries.items, k.below.items)) result) }
+    ensures kept { WasKept moved (view_state st.old) (view_state st.new)
+        (option_map (λ k. (k.frame.variables.items, k.frame.temporaries.items, k.below.items)) result) }
     ensures fuel { st.new.fuel ≤ st.old.fuel }
 {
     let len = st.frame.temporaries.len();

@@ -16,7 +16,9 @@ ghost use Rattle.sharc_ask_steps.specs.Width.{value_bits};
 ghost use Rattle.sharc_ask.specs.View.{view_flow};
 ghost use Rattle.sharc_tree.specs.declared.token.Site.{Site as Where};
 ghost use Rattle.sharc_ask.specs.Values.{view_value, as_left, left_of, gives};
-ghost use Rattle.sharc_ask.specs.Plans.{ends_above, ends_block, zero_behind, truth_with, inverted_with, returned_with, spawned_with, free_unless_null, joined_with, element_behind, element_in, assigned_to};
+ghost use Rattle.sharc_ask.specs.Plans.{ends_above, ends_block, zero_behind, truth_with, inverted_with, returned_with};
+ghost use Rattle.sharc_ask.specs.Plans.{spawned_with, free_unless_null, joined_with, element_behind, element_in};
+ghost use Rattle.sharc_ask.specs.Plans.{assigned_to};
 
 use crate::endings::{end_temporaries, end_variables};
 use crate::plan::{Operation, Value, flow_in};
@@ -40,7 +42,8 @@ use sharc_tree::tree::{Declaration, Expr, ValueCall};
 
 /// The temporaries after the mark end, where a number came.
 pub fn end_above(answer: Result<i64, End>, mark: usize, st: &mut State) -> Result<i64, End>
-    ensures does { (before : Known) (run : Run ℤ) → Does before answer (view_state st.old) run → Does before result (view_state st.new) (ends_above mark run) }
+    ensures does { (before : Known) (run : Run ℤ) → Does before answer (view_state st.old) run
+        → Does before result (view_state st.new) (ends_above mark run) }
     ensures fuel { st.new.fuel ≤ st.old.fuel }
     ensures kept { (n m : ℕ) → IfOk answer (λ _. n ≤ m) → IfOk result (λ _. n ≤ m) }
 {
@@ -53,7 +56,8 @@ pub fn end_above(answer: Result<i64, End>, mark: usize, st: &mut State) -> Resul
 
 /// Likewise, of a step.
 pub fn end_step(answer: Result<(), End>, mark: usize, st: &mut State) -> Result<(), End>
-    ensures does { (before : Known) (run : Step) → Does before answer (view_state st.old) run → Does before result (view_state st.new) (ends_above mark run) }
+    ensures does { (before : Known) (run : Step) → Does before answer (view_state st.old) run
+        → Does before result (view_state st.new) (ends_above mark run) }
     ensures fuel { st.new.fuel ≤ st.old.fuel }
     ensures kept { (n m : ℕ) → IfOk answer (λ _. n ≤ m) → IfOk result (λ _. n ≤ m) }
 {
@@ -66,7 +70,8 @@ pub fn end_step(answer: Result<(), End>, mark: usize, st: &mut State) -> Result<
 
 /// A step, and then 0.
 pub fn zero_behind(answer: Result<(), End>) -> Result<i64, End>
-    ensures does { (before after : Known) (run : Step) → Does before answer after run → Does before result after (zero_behind run) }
+    ensures does { (before after : Known) (run : Step) → Does before answer after run
+        → Does before result after (zero_behind run) }
     ensures kept { (n m : ℕ) → IfOk answer (λ _. n ≤ m) → IfOk result (λ _. n ≤ m) }
 {
     answer?;
@@ -75,7 +80,8 @@ pub fn zero_behind(answer: Result<(), End>) -> Result<i64, End>
 
 /// Whether a value is neither 0 nor NULL.
 pub fn tested_value(program: &Moded, expr: &Expr, value: i64, st: &mut State) -> Result<bool, End>
-    ensures does { Does (view_state st.old) result (view_state st.new) (tested program.now.typed (view_expr expr.now) (give value)) }
+    ensures does { Does (view_state st.old) result (view_state st.new)
+        (tested program.now.typed (view_expr expr.now) (give value)) }
     ensures fuel { st.new.fuel ≤ st.old.fuel }
 {
     let_go(program, expr, value, st)?;
@@ -83,7 +89,8 @@ pub fn tested_value(program: &Moded, expr: &Expr, value: i64, st: &mut State) ->
 }
 
 pub fn truth_of(program: &Moded, expr: &Expr, value: i64, st: &mut State) -> Result<i64, End>
-    ensures does { Does (view_state st.old) result (view_state st.new) (truth_with program.now.typed (view_expr expr.now) value) }
+    ensures does { Does (view_state st.old) result (view_state st.new)
+        (truth_with program.now.typed (view_expr expr.now) value) }
     ensures fuel { st.new.fuel ≤ st.old.fuel }
 {
     let is_true = tested_value(program, expr, value, st)?;
@@ -91,7 +98,8 @@ pub fn truth_of(program: &Moded, expr: &Expr, value: i64, st: &mut State) -> Res
 }
 
 pub fn inverted(program: &Moded, expr: &Expr, value: i64, st: &mut State) -> Result<i64, End>
-    ensures does { Does (view_state st.old) result (view_state st.new) (inverted_with program.now.typed (view_expr expr.now) value) }
+    ensures does { Does (view_state st.old) result (view_state st.new)
+        (inverted_with program.now.typed (view_expr expr.now) value) }
     ensures fuel { st.new.fuel ≤ st.old.fuel }
 {
     let is_true = tested_value(program, expr, value, st)?;
@@ -115,7 +123,8 @@ pub fn negative(
 
 /// A value that is held in a temporary.
 pub fn operand_value(program: &Moded, expr: &Expr, value: i64, st: &mut State) -> Result<i64, End>
-    ensures does { Does (view_state st.old) result (view_state st.new) (operand program.now.typed (view_expr expr.now) (give value)) }
+    ensures does { Does (view_state st.old) result (view_state st.new)
+        (operand program.now.typed (view_expr expr.now) (give value)) }
     ensures fuel { st.new.fuel ≤ st.old.fuel }
 {
     held(program, expr, value, st)?;
@@ -124,7 +133,8 @@ pub fn operand_value(program: &Moded, expr: &Expr, value: i64, st: &mut State) -
 
 /// A value that what it goes to has to hold.
 pub fn fitted(kind: Kind<'_>, expr: &Expr, value: i64, st: &State) -> Result<i64, End>
-    ensures { Does (view_state st.now) result (view_state st.now) (fitting (view_kind kind.entry) (view_expr expr.now) (give value)) }
+    ensures { Does (view_state st.now) result (view_state st.now)
+        (fitting (view_kind kind.entry) (view_expr expr.now) (give value)) }
 {
     unless(fits(kind, value), Trap::OutOfRange, expr.span().first, st)?;
     Ok(value)
@@ -137,7 +147,8 @@ pub fn returned(
     value: i64,
     st: &State,
 ) -> Result<Flow, End>
-    ensures { DoesAs view_flow (view_state st.now) result (view_state st.now) (returned_with (view_kind kind.entry) site (view_expr expr.now) value) }
+    ensures { DoesAs view_flow (view_state st.now) result (view_state st.now)
+        (returned_with (view_kind kind.entry) site (view_expr expr.now) value) }
 {
     unless(fits(kind, value), Trap::OutOfRange, expr.span().first, st)?;
     Ok(Flow::Returned(site, value))
@@ -150,7 +161,8 @@ fn fitted_operand(
     value: i64,
     st: &mut State,
 ) -> Result<i64, End>
-    ensures does { Does (view_state st.old) result (view_state st.new) (operand program.now.typed (view_expr expr.now) (fitting (view_kind kind.entry) (view_expr expr.now) (give value))) }
+    ensures does { Does (view_state st.old) result (view_state st.new) (operand program.now.typed (view_expr expr.now)
+        (fitting (view_kind kind.entry) (view_expr expr.now) (give value))) }
     ensures fuel { st.new.fuel ≤ st.old.fuel }
 {
     unless(fits(kind, value), Trap::OutOfRange, expr.span().first, st)?;
@@ -165,7 +177,8 @@ pub fn passed_value(
     value: i64,
     st: &mut State,
 ) -> Result<i64, End>
-    ensures does { Does (view_state st.old) result (view_state st.new) (passed program.now.typed (declared_kinds parameters.now) (view_expr expr.now) (give value)) }
+    ensures does { Does (view_state st.old) result (view_state st.new)
+        (passed program.now.typed (declared_kinds parameters.now) (view_expr expr.now) (give value)) }
     ensures fuel { st.new.fuel ≤ st.old.fuel }
 {
     match parameters {
@@ -188,7 +201,8 @@ fn spawned_value(
     value: i64,
     st: &mut State,
 ) -> Result<i64, End>
-    ensures does { Does (view_state st.old) result (view_state st.new) (spawned_with program.now.typed site named (view_expr expr.now) value) }
+    ensures does { Does (view_state st.old) result (view_state st.new)
+        (spawned_with program.now.typed site named (view_expr expr.now) value) }
     ensures fuel { st.new.fuel ≤ st.old.fuel }
 {
     let value = passed_value(program, parameters_named(program, named), expr, value, st)?;
@@ -207,7 +221,8 @@ pub fn spawned(
     mark: usize,
     st: &mut State,
 ) -> Result<i64, End>
-    ensures does { Does (view_state st.old) result (view_state st.new) (ends_above mark (spawned_with program.now.typed site named (view_expr expr.now) value)) }
+    ensures does { Does (view_state st.old) result (view_state st.new)
+        (ends_above mark (spawned_with program.now.typed site named (view_expr expr.now) value)) }
     ensures fuel { st.new.fuel ≤ st.old.fuel }
 {
     end_above(
@@ -241,7 +256,8 @@ fn joined_value(
     right: i64,
     st: &mut State,
 ) -> Result<i64, End>
-    ensures does { Does (view_state st.old) result (view_state st.new) (joined_with program.now.typed (value_bits operation.width) operation.site operation.operator (view_expr expr.now) left (give right)) }
+    ensures does { Does (view_state st.old) result (view_state st.new) (joined_with program.now.typed
+        (value_bits operation.width) operation.site operation.operator (view_expr expr.now) left (give right)) }
     ensures fuel { st.new.fuel ≤ st.old.fuel }
 {
     let right = operand_value(program, expr, right, st)?;
@@ -261,7 +277,9 @@ pub fn joined(
     right: i64,
     st: &mut State,
 ) -> Result<i64, End>
-    ensures does { Does (view_state st.old) result (view_state st.new) (ends_above operation.mark (joined_with program.now.typed (value_bits operation.width) operation.site operation.operator (view_expr expr.now) left (give right))) }
+    ensures does { Does (view_state st.old) result (view_state st.new)
+        (ends_above operation.mark (joined_with program.now.typed
+        (value_bits operation.width) operation.site operation.operator (view_expr expr.now) left (give right))) }
     ensures fuel { st.new.fuel ≤ st.old.fuel }
 {
     end_above(
@@ -280,7 +298,8 @@ pub fn element_in(
     number: i64,
     st: &State,
 ) -> Result<Place, End>
-    ensures { DoesAs view_place (view_state st.now) result (view_state st.now) (element_in program.now.typed site (view_expr array.now) (view_place base) number) }
+    ensures { DoesAs view_place (view_state st.now) result (view_state st.now)
+        (element_in program.now.typed site (view_expr array.now) (view_place base) number) }
 {
     element_of_array(program, site, cells_of(program, array), base, number, st)
 }
@@ -294,7 +313,8 @@ pub fn element_behind(
     number: i64,
     st: &State,
 ) -> Result<Place, End>
-    ensures { DoesAs view_place (view_state st.now) result (view_state st.now) (element_behind program.now.typed site (view_expr pointed.now) pointer number) }
+    ensures { DoesAs view_place (view_state st.now) result (view_state st.now)
+        (element_behind program.now.typed site (view_expr pointed.now) pointer number) }
 {
     element(
         site,
@@ -314,7 +334,8 @@ pub fn first_behind(
     pointer: i64,
     st: &mut State,
 ) -> Result<Place, End>
-    ensures does { DoesAs view_place (view_state st.old) result (view_state st.new) (pointee_place program.now.typed site (view_expr pointed.now) (give pointer)) }
+    ensures does { DoesAs view_place (view_state st.old) result (view_state st.new)
+        (pointee_place program.now.typed site (view_expr pointed.now) (give pointer)) }
     ensures fuel { st.new.fuel ≤ st.old.fuel }
 {
     based(program, site, pointed, pointer, st)?;
@@ -330,7 +351,8 @@ pub fn stored_at(
     mark: usize,
     st: &mut State,
 ) -> Result<(), End>
-    ensures does { Does (view_state st.old) result (view_state st.new) (ends_above mark (assigned_to program.now (view_expr expr.now) (view_place place) (give value))) }
+    ensures does { Does (view_state st.old) result (view_state st.new)
+        (ends_above mark (assigned_to program.now (view_expr expr.now) (view_place place) (give value))) }
     ensures fuel { st.new.fuel ≤ st.old.fuel }
 {
     let site = expr.span().first;
@@ -356,7 +378,9 @@ pub fn initialised(
     value: i64,
     st: &mut State,
 ) -> Result<(), End>
-    ensures does { Does (view_state st.old) result (view_state st.new) (stored program.now.typed declaration.now.name.site (declared_kind declaration.now.written) private (variable declaration.now.name.site.token) value) }
+    ensures does { Does (view_state st.old) result (view_state st.new)
+        (stored program.now.typed declaration.now.name.site (declared_kind declaration.now.written) private
+        (variable declaration.now.name.site.token) value) }
     ensures fuel { st.new.fuel ≤ st.old.fuel }
 {
     let site = declaration.name.site;
@@ -373,7 +397,8 @@ pub fn initialised(
 
 /// The variables after the mark end with a block.
 pub fn end_block(answer: Result<Flow, End>, mark: usize, st: &mut State) -> Result<Flow, End>
-    ensures does { (before : Known) (run : Run LeftBy) → DoesAs view_flow before answer (view_state st.old) run → DoesAs view_flow before result (view_state st.new) (ends_block mark run) }
+    ensures does { (before : Known) (run : Run LeftBy) → DoesAs view_flow before answer (view_state st.old) run
+        → DoesAs view_flow before result (view_state st.new) (ends_block mark run) }
     ensures fuel { st.new.fuel ≤ st.old.fuel }
     ensures kept { (n m : ℕ) → IfOk answer (λ _. n ≤ m) → IfOk result (λ _. n ≤ m) }
 {
@@ -402,7 +427,8 @@ fn left_of(flow: Flow) -> (Site, i64)
 
 /// Where a function is left, and its result.
 pub fn left_behind(answer: Result<Value, End>) -> Result<(Site, i64), End>
-    ensures does { (before after : Known) (run : Run (Where × ℤ)) → DoesAs view_value before answer after (gives as_left run) → Does before result after run }
+    ensures does { (before after : Known) (run : Run (Where × ℤ))
+        → DoesAs view_value before answer after (gives as_left run) → Does before result after run }
 {
     let value = answer?;
     Ok(left_of(flow_in(value)))

@@ -18,7 +18,8 @@ use sharc_ask_steps::state::End;
 
 /// A number came.
 pub fn done_number<'a>(answer: Result<i64, End>) -> Result<Plan<'a>, End>
-    ensures means { (on_call : Calls) (m : Assignment) (before after : Known) (run : Run ℤ) → Does before answer after run → Plans on_call m before result after (gives number run) }
+    ensures means { (on_call : Calls) (m : Assignment) (before after : Known) (run : Run ℤ)
+        → Does before answer after run → Plans on_call m before result after (gives number run) }
     ensures fits { IfOk result (Fits 0) }
 {
     let number = answer?;
@@ -27,7 +28,8 @@ pub fn done_number<'a>(answer: Result<i64, End>) -> Result<Plan<'a>, End>
 
 /// A place came.
 pub fn done_place<'a>(answer: Result<Place, End>) -> Result<Plan<'a>, End>
-    ensures means { (on_call : Calls) (m : Assignment) (before after : Known) (run : Run NamedPlace) → DoesAs view_place before answer after run → Plans on_call m before result after (gives place run) }
+    ensures means { (on_call : Calls) (m : Assignment) (before after : Known) (run : Run NamedPlace)
+        → DoesAs view_place before answer after run → Plans on_call m before result after (gives place run) }
     ensures fits { IfOk result (Fits 0) }
 {
     let place = answer?;
@@ -36,7 +38,8 @@ pub fn done_place<'a>(answer: Result<Place, End>) -> Result<Plan<'a>, End>
 
 /// A test was made.
 pub fn done_test<'a>(answer: Result<bool, End>) -> Result<Plan<'a>, End>
-    ensures means { (on_call : Calls) (m : Assignment) (before after : Known) (run : Run Bool) → Does before answer after run → Plans on_call m before result after (gives test run) }
+    ensures means { (on_call : Calls) (m : Assignment) (before after : Known) (run : Run Bool)
+        → Does before answer after run → Plans on_call m before result after (gives test run) }
     ensures fits { IfOk result (Fits 0) }
 {
     let is_true = answer?;
@@ -45,7 +48,8 @@ pub fn done_test<'a>(answer: Result<bool, End>) -> Result<Plan<'a>, End>
 
 /// A statement was left.
 pub fn done_flow<'a>(answer: Result<Flow, End>) -> Result<Plan<'a>, End>
-    ensures means { (on_call : Calls) (m : Assignment) (before after : Known) (run : Run LeftBy) → DoesAs view_flow before answer after run → Plans on_call m before result after (gives flow run) }
+    ensures means { (on_call : Calls) (m : Assignment) (before after : Known) (run : Run LeftBy)
+        → DoesAs view_flow before answer after run → Plans on_call m before result after (gives flow run) }
     ensures fits { IfOk result (Fits 0) }
 {
     let flow = answer?;
@@ -54,7 +58,8 @@ pub fn done_flow<'a>(answer: Result<Flow, End>) -> Result<Plan<'a>, End>
 
 /// A step was done.
 pub fn done_step<'a>(answer: Result<(), End>) -> Result<Plan<'a>, End>
-    ensures means { (on_call : Calls) (m : Assignment) (before after : Known) (run : Step) → Does before answer after run → Plans on_call m before result after (gives as_nothing run) }
+    ensures means { (on_call : Calls) (m : Assignment) (before after : Known) (run : Step)
+        → Does before answer after run → Plans on_call m before result after (gives as_nothing run) }
     ensures fits { IfOk result (Fits 0) }
 {
     answer?;
@@ -63,7 +68,9 @@ pub fn done_step<'a>(answer: Result<(), End>) -> Result<Plan<'a>, End>
 
 /// A step was done, and it goes on.
 pub fn then<'a>(answer: Result<(), End>, plan: Plan<'a>) -> Result<Plan<'a>, End>
-    ensures means { (on_call : Calls) (m : Assignment) (before after : Known) (run : Step) → Does before answer after run → Plans on_call m before result after (step_then run (plan_means on_call m plan.entry)) }
+    ensures means { (on_call : Calls) (m : Assignment) (before after : Known) (run : Step)
+        → Does before answer after run
+        → Plans on_call m before result after (step_then run (plan_means on_call m plan.entry)) }
     ensures fits { (n : ℕ) → Fits n plan.entry → IfOk result (Fits n) }
 {
     answer?;
@@ -72,7 +79,9 @@ pub fn then<'a>(answer: Result<(), End>, plan: Plan<'a>) -> Result<Plan<'a>, End
 
 /// A test was made, and it goes on by its truth.
 pub fn by_truth<'a>(answer: Result<bool, End>, yes: Plan<'a>, no: Plan<'a>) -> Result<Plan<'a>, End>
-    ensures means { (on_call : Calls) (m : Assignment) (before after : Known) (run : Run Bool) → Does before answer after run → Plans on_call m before result after (test_then run (plan_means on_call m yes.entry) (plan_means on_call m no.entry)) }
+    ensures means { (on_call : Calls) (m : Assignment) (before after : Known) (run : Run Bool)
+        → Does before answer after run → Plans on_call m before result after
+        (test_then run (plan_means on_call m yes.entry) (plan_means on_call m no.entry)) }
     ensures fits { (n : ℕ) → Fits n yes.entry → Fits n no.entry → IfOk result (Fits n) }
 {
     let is_true = answer?;

@@ -11,7 +11,8 @@ ghost use Rattle.sharc_ask_steps.specs.Width.{value_bits};
 ghost use Rattle.sharc_ask.specs.View.{view_flow};
 ghost use Rattle.sharc_ask.specs.declared.plan.WithPlace.TheVariants.{Frees, Casts};
 ghost use Rattle.sharc_ask.specs.Values.{number, place, view_value, gives};
-ghost use Rattle.sharc_ask.specs.Plans.{ends_above, left_with, behind_pointer, value_means, number_means, place_means, rest_means, Plans, Fits, Starts, Begins, value_weight, place_weight, weight};
+ghost use Rattle.sharc_ask.specs.Plans.{ends_above, left_with, behind_pointer, value_means, number_means, place_means};
+ghost use Rattle.sharc_ask.specs.Plans.{rest_means, Plans, Fits, Starts, Begins, value_weight, place_weight, weight};
 
 use crate::flows::with_after;
 use crate::parts::{
@@ -84,7 +85,8 @@ fn with_value<'a>(
     x: i64,
     st: &mut State,
 ) -> Result<Plan<'a>, End>
-    ensures means { (on_call : Calls) → Plans on_call program.now (view_state st.old) result (view_state st.new) (value_means on_call program.now (view_expr expr.now) rest.entry x) }
+    ensures means { (on_call : Calls) → Plans on_call program.now (view_state st.old) result (view_state st.new)
+        (value_means on_call program.now (view_expr expr.now) rest.entry x) }
     ensures fits { IfOk result (Starts (value_weight rest.entry)) }
     ensures fuel { st.new.fuel ≤ st.old.fuel }
 {
@@ -132,7 +134,8 @@ fn with_number<'a>(
     x: i64,
     st: &mut State,
 ) -> Result<Plan<'a>, End>
-    ensures means { (on_call : Calls) → Plans on_call program.now (view_state st.old) result (view_state st.new) (number_means program.now rest.entry x) }
+    ensures means { (on_call : Calls) → Plans on_call program.now (view_state st.old) result (view_state st.new)
+        (number_means program.now rest.entry x) }
     ensures fits { IfOk result (Fits 0) }
     ensures fuel { st.new.fuel ≤ st.old.fuel }
 {
@@ -159,7 +162,9 @@ fn taken(
     mark: usize,
     st: &mut State,
 ) -> Result<i64, End>
-    ensures does { Does (view_state st.old) result (view_state st.new) (ends_above mark (taken_from program.now.typed span.first (span_of (view_expr expr.now)).first (cell_at program.now (view_expr expr.now)) kind (view_place place))) }
+    ensures does { Does (view_state st.old) result (view_state st.new)
+        (ends_above mark (taken_from program.now.typed span.first (span_of (view_expr expr.now)).first
+        (cell_at program.now (view_expr expr.now)) kind (view_place place))) }
     ensures fuel { st.new.fuel ≤ st.old.fuel }
 {
     let site = expr.span().first;
@@ -186,7 +191,8 @@ fn freed<'a>(
     mark: usize,
     st: &mut State,
 ) -> Result<Plan<'a>, End>
-    ensures means { (on_call : Calls) → Plans on_call program.now (view_state st.old) result (view_state st.new) (place_means on_call program.now (view_expr expr.now) (Frees span mark) (view_place place)) }
+    ensures means { (on_call : Calls) → Plans on_call program.now (view_state st.old) result (view_state st.new)
+        (place_means on_call program.now (view_expr expr.now) (Frees span mark) (view_place place)) }
     ensures fits { IfOk result (Fits 0) }
     ensures fuel { st.new.fuel ≤ st.old.fuel }
 {
@@ -202,7 +208,8 @@ fn cast<'a>(
     mark: usize,
     st: &mut State,
 ) -> Result<Plan<'a>, End>
-    ensures means { (on_call : Calls) → Plans on_call program.now (view_state st.old) result (view_state st.new) (place_means on_call program.now (view_expr expr.now) (Casts span mark) (view_place place)) }
+    ensures means { (on_call : Calls) → Plans on_call program.now (view_state st.old) result (view_state st.new)
+        (place_means on_call program.now (view_expr expr.now) (Casts span mark) (view_place place)) }
     ensures fits { IfOk result (Fits 0) }
     ensures fuel { st.new.fuel ≤ st.old.fuel }
 {
@@ -217,7 +224,8 @@ fn with_place<'a>(
     place: Place,
     st: &mut State,
 ) -> Result<Plan<'a>, End>
-    ensures means { (on_call : Calls) → Plans on_call program.now (view_state st.old) result (view_state st.new) (place_means on_call program.now (view_expr expr.now) rest.entry (view_place place)) }
+    ensures means { (on_call : Calls) → Plans on_call program.now (view_state st.old) result (view_state st.new)
+        (place_means on_call program.now (view_expr expr.now) rest.entry (view_place place)) }
     ensures fits { IfOk result (Starts (place_weight rest.entry)) }
     ensures fuel { st.new.fuel ≤ st.old.fuel }
 {
@@ -258,7 +266,8 @@ pub fn resume<'a>(
     value: Value,
     st: &mut State,
 ) -> Result<Plan<'a>, End>
-    ensures means { (on_call : Calls) → Plans on_call program.now (view_state st.old) result (view_state st.new) (rest_means on_call program.now rest.entry (view_value value)) }
+    ensures means { (on_call : Calls) → Plans on_call program.now (view_state st.old) result (view_state st.new)
+        (rest_means on_call program.now rest.entry (view_value value)) }
     ensures begins { IfOk result (Begins (weight rest.entry) st.old.fuel st.new.fuel) }
 {
     match rest {

@@ -53,7 +53,8 @@ pub struct At<'a> {
 
 /// One more thing is left to do, before all others.
 pub fn push<'a>(frames: u32, later: Later<'a>, stack: &mut Vec<Left<'a>>) -> Result<(), End>
-    ensures pushed { OnOk result (stack_of stack.new ≡ record { frames = frames; later = later.entry } ∷ stack_of stack.old) }
+    ensures pushed { OnOk result (stack_of stack.new
+        ≡ record { frames = frames; later = later.entry } ∷ stack_of stack.old) }
     ensures memory { IfErr result (λ e. e ≡ Memory) }
 {
     match stack.push(Left { frames, later }) {

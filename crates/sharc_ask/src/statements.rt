@@ -8,7 +8,8 @@ ghost use Rattle.sharc_names.specs.View.{view_kind};
 ghost use Rattle.sharc_mode.specs.Moded.{Assignment};
 ghost use Rattle.sharc_mode.specs.View.{view_sharing};
 ghost use Rattle.sharc_meaning.specs.Expressions.{Calls};
-ghost use Rattle.sharc_meaning.specs.Statements.{right_value, done_simple, initialised, declared, done_first, done_test, return_with};
+ghost use Rattle.sharc_meaning.specs.Statements.{right_value, done_simple, initialised, declared, done_first};
+ghost use Rattle.sharc_meaning.specs.Statements.{done_test, return_with};
 ghost use Rattle.sharc_ask_steps.specs.View.{view_state};
 ghost use Rattle.sharc_ask.specs.View.{view_test};
 ghost use Rattle.sharc_ask.specs.Values.{number, test, flow, gives, as_nothing};
@@ -34,7 +35,9 @@ fn counted<'a>(
     written: &'a WrittenType,
     st: &mut State,
 ) -> Result<Plan<'a>, End>
-    ensures means { (on_call : Calls) (kind : KindMeant) → Plans on_call program.now (view_state st.old) result (view_state st.new) (inside (gives number (right_value on_call program.now kind (view_sharing target.entry) (malloc span (view_option view_expr count.now) written.now)))) }
+    ensures means { (on_call : Calls) (kind : KindMeant) → Plans on_call program.now (view_state st.old) result
+        (view_state st.new) (inside (gives number (right_value on_call program.now kind (view_sharing target.entry)
+        (malloc span (view_option view_expr count.now) written.now)))) }
     ensures fits { IfOk result (Fits 15) }
     ensures fuel { st.new.fuel ≤ st.old.fuel }
 {
@@ -55,7 +58,9 @@ fn begin_malloc<'a>(
     written: &'a WrittenType,
     st: &mut State,
 ) -> Result<Plan<'a>, End>
-    ensures means { (on_call : Calls) (kind : KindMeant) → Plans on_call program.now (view_state st.old) result (view_state st.new) (gives number (right_value on_call program.now kind (view_sharing target.entry) (malloc span (view_option view_expr count.now) written.now))) }
+    ensures means { (on_call : Calls) (kind : KindMeant)
+        → Plans on_call program.now (view_state st.old) result (view_state st.new) (gives number (right_value on_call
+        program.now kind (view_sharing target.entry) (malloc span (view_option view_expr count.now) written.now))) }
     ensures begins { IfOk result (Begins 3 st.old.fuel st.new.fuel) }
 {
     enter(st)?;
@@ -70,7 +75,9 @@ pub fn begin_right<'a>(
     right: &'a Right,
     st: &mut State,
 ) -> Result<Plan<'a>, End>
-    ensures means { (on_call : Calls) → Plans on_call program.now (view_state st.old) result (view_state st.new) (gives number (right_value on_call program.now (view_kind kind.entry) (view_sharing target.entry) (view_right right.now))) }
+    ensures means { (on_call : Calls)
+        → Plans on_call program.now (view_state st.old) result (view_state st.new) (gives number
+        (right_value on_call program.now (view_kind kind.entry) (view_sharing target.entry) (view_right right.now))) }
     ensures begins { IfOk result (Begins 3 st.old.fuel st.new.fuel) }
 {
     match right {
@@ -83,7 +90,8 @@ pub fn begin_right<'a>(
 
 /// An assignment or a call.
 pub fn simple_plan<'a>(simple: &'a Simple, st: &State) -> Plan<'a>
-    ensures means { (on_call : Calls) (m : Assignment) → LeadsFrom on_call m (view_state st.now) (gives as_nothing (done_simple on_call m (view_simple simple.now))) result }
+    ensures means { (on_call : Calls) (m : Assignment) → LeadsFrom on_call m (view_state st.now)
+        (gives as_nothing (done_simple on_call m (view_simple simple.now))) result }
     ensures starts { Starts 7 result }
 {
     let mark = st.frame.temporaries.len();
@@ -101,7 +109,8 @@ fn initial_plan<'a>(
     declaration: &'a Declaration,
     initial: &'a Option<Right>,
 ) -> Plan<'a>
-    ensures means { (on_call : Calls) → Leads on_call program.now (gives as_nothing (initialised on_call program.now declaration.now (view_option view_right initial.now))) result }
+    ensures means { (on_call : Calls) → Leads on_call program.now (gives as_nothing
+        (initialised on_call program.now declaration.now (view_option view_right initial.now))) result }
     ensures fits { Fits 4 result }
 {
     match initial {
@@ -130,7 +139,8 @@ pub fn begin_local<'a>(
     local: &'a Local,
     st: &mut State,
 ) -> Result<Plan<'a>, End>
-    ensures means { (on_call : Calls) → Plans on_call program.now (view_state st.old) result (view_state st.new) (gives as_nothing (declared on_call program.now (view_local local.now))) }
+    ensures means { (on_call : Calls) → Plans on_call program.now (view_state st.old) result (view_state st.new)
+        (gives as_nothing (declared on_call program.now (view_local local.now))) }
     ensures begins { IfOk result (Begins 5 st.old.fuel st.new.fuel) }
 {
     then(
@@ -141,7 +151,8 @@ pub fn begin_local<'a>(
 
 /// What comes first in the head of a `for`.
 pub fn begin_first<'a>(first: &'a ForFirst, st: &mut State) -> Result<Plan<'a>, End>
-    ensures means { (on_call : Calls) (m : Assignment) → Plans on_call m (view_state st.old) result (view_state st.new) (gives as_nothing (done_first on_call m (view_first first.now))) }
+    ensures means { (on_call : Calls) (m : Assignment) → Plans on_call m (view_state st.old) result (view_state st.new)
+        (gives as_nothing (done_first on_call m (view_first first.now))) }
     ensures begins { IfOk result (Begins 9 st.old.fuel st.new.fuel) }
 {
     match first {
@@ -156,7 +167,8 @@ pub fn begin_first<'a>(first: &'a ForFirst, st: &mut State) -> Result<Plan<'a>, 
 
 /// The test of a loop.
 pub fn test_plan<'a>(condition: Option<&'a Expr>) -> Plan<'a>
-    ensures means { (on_call : Calls) (m : Assignment) → Leads on_call m (gives test (done_test on_call m (view_test condition.entry))) result }
+    ensures means { (on_call : Calls) (m : Assignment)
+        → Leads on_call m (gives test (done_test on_call m (view_test condition.entry))) result }
     ensures starts { Starts 5 result }
 {
     match condition {
@@ -167,7 +179,8 @@ pub fn test_plan<'a>(condition: Option<&'a Expr>) -> Plan<'a>
 
 /// A `return`.
 pub fn return_plan<'a>(kind: Kind<'a>, site: Site, value: &'a Option<Box<Expr>>) -> Plan<'a>
-    ensures means { (on_call : Calls) (m : Assignment) → Leads on_call m (gives flow (return_with on_call m (view_kind kind.entry) site (view_option (λ b. view_expr b.value) value.now))) result }
+    ensures means { (on_call : Calls) (m : Assignment) → Leads on_call m (gives flow
+        (return_with on_call m (view_kind kind.entry) site (view_option (λ b. view_expr b.value) value.now))) result }
     ensures starts { Starts 3 result }
 {
     match value {

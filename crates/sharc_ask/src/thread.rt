@@ -35,7 +35,8 @@ fn goes_away(name: Site, site: Site, st: &mut State) -> Result<(), End>
 }
 
 fn run_thread(program: &Moded, number: u32, argument: i64, st: &mut State) -> Result<(), End>
-    ensures { Does (view_state st.old) result (view_state st.new) (run_thread program.now (function_at program.now.typed number) argument) }
+    ensures { Does (view_state st.old) result (view_state st.new)
+        (run_thread program.now (function_at program.now.typed number) argument) }
 {
     match program.typed().function_at(number) {
         None => Ok(()),
@@ -46,8 +47,9 @@ fn run_thread(program: &Moded, number: u32, argument: i64, st: &mut State) -> Re
     }
 }
 
-/// What a thread of the function with this number asks for, given its argument and the answers of its events, with this much fuel. A thread of a function
-/// that does not exist asks for nothing and is over. Its only fault is being out of memory.
+/// What a thread of the function with this number asks for, given its argument and the answers of its events, with this
+/// much fuel. A thread of a function that does not exist asks for nothing and is over. Its only fault is being out of
+/// memory.
 pub fn ask(
     alloc: Global,
     program: &Moded,
@@ -123,8 +125,8 @@ fn held_in(alloc: Global, st: State) -> Result<Holds, AllocError>
     }
 }
 
-/// The pointers that the frames and temporaries of such a thread hold as far as it comes: at the event that it wants, at its stop or its end, or where its fuel
-/// is spent. Its only fault is being out of memory.
+/// The pointers that the frames and temporaries of such a thread hold as far as it comes: at the event that it wants,
+/// at its stop or its end, or where its fuel is spent. Its only fault is being out of memory.
 pub fn held(
     alloc: Global,
     program: &Moded,

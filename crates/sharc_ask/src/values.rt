@@ -17,7 +17,8 @@ ghost use Rattle.sharc_meaning.specs.Reference.{is_null, constant_value};
 ghost use Rattle.sharc_meaning.specs.State.{give, done, drops, holds};
 ghost use Rattle.sharc_meaning.specs.Statements.{left_by};
 ghost use Rattle.sharc_ask_steps.specs.View.{view_state, view_place, Does};
-ghost use Rattle.sharc_ask.specs.View.{view_flow, view_test, view_step, test_of_loop, step_of_loop, body_of_loop, number_left, logic_of, made, place_fetched};
+ghost use Rattle.sharc_ask.specs.View.{view_flow, view_test, view_step, test_of_loop, step_of_loop, body_of_loop};
+ghost use Rattle.sharc_ask.specs.View.{number_left, logic_of, made, place_fetched};
 
 use sharc_ask_steps::arithmetic::{is_positive, is_zero};
 use sharc_ask_steps::cells::{element_cells, instance_mode};
@@ -92,14 +93,16 @@ pub fn rest_of(parameters: &[Declaration]) -> &[Declaration]
 
 // A value that a temporary holds, if it is a pointer.
 pub fn held(program: &Moded, expr: &Expr, value: i64, st: &mut State) -> Result<(), End>
-    ensures does { Does (view_state st.old) result (view_state st.new) (holds (kind_at program.now.typed (view_expr expr.now)) value) }
+    ensures does { Does (view_state st.old) result (view_state st.new)
+        (holds (kind_at program.now.typed (view_expr expr.now)) value) }
     ensures fuel { st.new.fuel ≤ st.old.fuel }
 {
     hold(kind_of(program, expr), value, st)
 }
 
 pub fn let_go(program: &Moded, expr: &Expr, value: i64, st: &mut State) -> Result<(), End>
-    ensures does { Does (view_state st.old) result (view_state st.new) (drops (kind_at program.now.typed (view_expr expr.now)) value) }
+    ensures does { Does (view_state st.old) result (view_state st.new)
+        (drops (kind_at program.now.typed (view_expr expr.now)) value) }
     ensures fuel { st.new.fuel ≤ st.old.fuel }
 {
     dropped(kind_of(program, expr), value, st)
@@ -112,7 +115,8 @@ pub fn based(
     pointer: i64,
     st: &mut State,
 ) -> Result<(), End>
-    ensures does { Does (view_state st.old) result (view_state st.new) (based site (kind_at program.now.typed (view_expr expr.now)) pointer) }
+    ensures does { Does (view_state st.old) result (view_state st.new)
+        (based site (kind_at program.now.typed (view_expr expr.now)) pointer) }
     ensures fuel { st.new.fuel ≤ st.old.fuel }
 {
     base(site, kind_of(program, expr), pointer, st)
@@ -129,7 +133,8 @@ pub fn resulting(site: Site, value: Result<i64, Trap>, st: &State) -> Result<i64
 
 // The value in the place that an expression names.
 pub fn place_fetched(program: &Moded, expr: &Expr, place: Place, st: &mut State) -> Result<i64, End>
-    ensures does { Does (view_state st.old) result (view_state st.new) (place_fetched program.now (view_expr expr.now) (view_place place)) }
+    ensures does { Does (view_state st.old) result (view_state st.new)
+        (place_fetched program.now (view_expr expr.now) (view_place place)) }
     ensures fuel { st.new.fuel ≤ st.old.fuel }
 {
     fetched(
@@ -148,7 +153,8 @@ pub fn named_value(
     token: u32,
     st: &mut State,
 ) -> Result<i64, End>
-    ensures does { Does (view_state st.old) result (view_state st.new) (named_value program.now.typed (cell_at program.now (view_expr expr.now)) site (named_at program.now.typed token)) }
+    ensures does { Does (view_state st.old) result (view_state st.new) (named_value program.now.typed
+        (cell_at program.now (view_expr expr.now)) site (named_at program.now.typed token)) }
     ensures fuel { st.new.fuel ≤ st.old.fuel }
 {
     match named(program, token) {
@@ -198,7 +204,8 @@ pub fn value_act(word: ValueCall, value: i64) -> Act
 }
 
 pub fn freed_unless_null(site: Site, value: i64, st: &mut State) -> Result<(), End>
-    ensures does { Does (view_state st.old) result (view_state st.new) (if is_null value then done else freed site value) }
+    ensures does { Does (view_state st.old) result (view_state st.new) (if is_null value then done
+        else freed site value) }
     ensures fuel { st.new.fuel ≤ st.old.fuel }
 {
     if is_zero(value) {
@@ -215,7 +222,9 @@ pub fn cast_unless_null(
     value: i64,
     st: &mut State,
 ) -> Result<i64, End>
-    ensures does { Does (view_state st.old) result (view_state st.new) (if is_null value then give value else cast_to program.now.typed (span_of (view_expr expr.now)).first (pointed program.now (Some (cast_row program.now.typed span))) value) }
+    ensures does { Does (view_state st.old) result (view_state st.new) (if is_null value then give value
+        else cast_to program.now.typed (span_of (view_expr expr.now)).first
+        (pointed program.now (Some (cast_row program.now.typed span))) value) }
     ensures fuel { st.new.fuel ≤ st.old.fuel }
 {
     if is_zero(value) {
@@ -264,7 +273,8 @@ pub fn made(
     written: &WrittenType,
     st: &mut State,
 ) -> Result<i64, End>
-    ensures does { Does (view_state st.old) result (view_state st.new) (made program.now.typed site (view_sharing target.entry) elements written.now) }
+    ensures does { Does (view_state st.old) result (view_state st.new)
+        (made program.now.typed site (view_sharing target.entry) elements written.now) }
     ensures fuel { st.new.fuel ≤ st.old.fuel }
 {
     unless(is_positive(elements), Trap::SizeNotPositive, site, st)?;

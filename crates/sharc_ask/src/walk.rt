@@ -10,7 +10,8 @@ ghost use Rattle.sharc_meaning.specs.Expressions.{Calls};
 ghost use Rattle.sharc_meaning.specs.Meaning.{calls, run_function};
 ghost use Rattle.sharc_ask_steps.specs.View.{Known, view_state, Does};
 ghost use Rattle.sharc_ask.specs.Plans.{task_means, goes_on, Plans, Begins, rank, weight, size};
-ghost use Rattle.sharc_ask.specs.Stack.{stack_of, at_means, Moves, GoesOnWith, Steps, Comes, later_weight, GoesDown, load};
+ghost use Rattle.sharc_ask.specs.Stack.{stack_of, at_means, Moves, GoesOnWith, Steps, Comes, later_weight, GoesDown};
+ghost use Rattle.sharc_ask.specs.Stack.{load};
 
 use crate::calls::{begin_call, enter_function, pass_value, return_to};
 use crate::expressions::{begin_eval, begin_place, field_plan, index_plan, pointee_plan};
@@ -28,7 +29,8 @@ use sharc_tree::token::Site;
 use sharc_tree::tree::FunctionDefinition;
 
 fn begin<'a>(program: &'a Moded, task: Task<'a>, st: &mut State) -> Result<Plan<'a>, End>
-    ensures means { (on_call : Calls) → Plans on_call program.now (view_state st.old) result (view_state st.new) (task_means on_call program.now task.entry) }
+    ensures means { (on_call : Calls) → Plans on_call program.now (view_state st.old) result (view_state st.new)
+        (task_means on_call program.now task.entry) }
     ensures begins { IfOk result (Begins (rank task.entry) st.old.fuel st.new.fuel) }
 {
     match task {
@@ -63,8 +65,11 @@ fn go<'a>(
     stack: &mut Vec<Left<'a>>,
     st: &mut State,
 ) -> Result<At<'a>, End>
-    ensures moves { Moves program.now (view_state st.old) (stack_of stack.old) result (view_state st.new) (stack_of stack.new) (goes_on (calls program.now frames) program.now (task_means (calls program.now frames) program.now task.entry) rest.entry) }
-    ensures ends { IfOk result (λ at. 64 * st.new.fuel + size at.plan + load (stack_of stack.new) < 64 * st.old.fuel + (rank task.entry + weight rest.entry) + load (stack_of stack.old)) }
+    ensures moves { Moves program.now (view_state st.old) (stack_of stack.old) result (view_state st.new)
+        (stack_of stack.new) (goes_on (calls program.now frames) program.now
+        (task_means (calls program.now frames) program.now task.entry) rest.entry) }
+    ensures ends { IfOk result (λ at. 64 * st.new.fuel + size at.plan + load (stack_of stack.new)
+        < 64 * st.old.fuel + (rank task.entry + weight rest.entry) + load (stack_of stack.old)) }
 {
     push_rest(frames, rest, stack)?;
     let plan = begin(program, task, st)?;
@@ -79,8 +84,10 @@ fn go_on<'a>(
     stack: &mut Vec<Left<'a>>,
     st: &mut State,
 ) -> Result<At<'a>, End>
-    ensures moves { GoesOnWith program.now (view_state st.old) left.entry value (stack_of stack.old) result (view_state st.new) (stack_of stack.new) }
-    ensures ends { IfOk result (λ at. 64 * st.new.fuel + size at.plan + load (stack_of stack.new) < 64 * st.old.fuel + (later_weight left.entry.later + load (stack_of stack.old))) }
+    ensures moves { GoesOnWith program.now (view_state st.old) left.entry value (stack_of stack.old) result
+        (view_state st.new) (stack_of stack.new) }
+    ensures ends { IfOk result (λ at. 64 * st.new.fuel + size at.plan + load (stack_of stack.new)
+        < 64 * st.old.fuel + (later_weight left.entry.later + load (stack_of stack.old))) }
 {
     let frames = left.frames;
     match left.later {
@@ -101,8 +108,10 @@ enum Stepped<'a> {
 }
 
 fn further<'a>(answer: Result<At<'a>, End>) -> Result<Stepped<'a>, End>
-    ensures steps { (m : Assignment) (before after : Known) (stack stack1 : List Kept) (run : Run Meant) → Moves m before stack answer.entry after stack1 run → Steps m before stack result after stack1 run }
-    ensures ends { (before after : ℕ) → IfOk answer.entry (λ at. after + size at.plan < before) → IfOk result (λ next. GoesDown next before after) }
+    ensures steps { (m : Assignment) (before after : Known) (stack stack1 : List Kept) (run : Run Meant)
+        → Moves m before stack answer.entry after stack1 run → Steps m before stack result after stack1 run }
+    ensures ends { (before after : ℕ) → IfOk answer.entry (λ at. after + size at.plan < before)
+        → IfOk result (λ next. GoesDown next before after) }
 {
     let at = answer?;
     Ok(Stepped::Goes(at))
@@ -114,8 +123,10 @@ fn step<'a>(
     stack: &mut Vec<Left<'a>>,
     st: &mut State,
 ) -> Result<Stepped<'a>, End>
-    ensures steps { Steps program.now (view_state st.old) (stack_of stack.old) result (view_state st.new) (stack_of stack.new) (at_means program.now at.entry) }
-    ensures ends { IfOk result (λ next. GoesDown next (64 * st.old.fuel + size at.entry.plan + load (stack_of stack.old)) (64 * st.new.fuel + load (stack_of stack.new))) }
+    ensures steps { Steps program.now (view_state st.old) (stack_of stack.old) result (view_state st.new)
+        (stack_of stack.new) (at_means program.now at.entry) }
+    ensures ends { IfOk result (λ next. GoesDown next (64 * st.old.fuel + size at.entry.plan
+        + load (stack_of stack.old)) (64 * st.new.fuel + load (stack_of stack.new))) }
 {
     match at.plan {
         Plan::Done(value) => match stack.pop() {
@@ -153,7 +164,8 @@ pub fn run_function<'a>(
     values: &[i64],
     st: &mut State,
 ) -> Result<(Site, i64), End>
-    ensures { Does (view_state st.old) result (view_state st.new) (run_function (calls program.now frames) program.now (view_function function.now) values.now) }
+    ensures { Does (view_state st.old) result (view_state st.new)
+        (run_function (calls program.now frames) program.now (view_function function.now) values.now) }
 {
     let mut stack = Vec::new(st.alloc);
     let at = enter_function(frames, function, values, &mut stack, st)?;

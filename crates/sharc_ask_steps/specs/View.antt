@@ -1,5 +1,6 @@
 -- What the code's values stand for, and what it is that the code does a run.
-use Rattle.std.specs.Prelude.{◌≡◌, ℕ, ℤ, not, List, [], ◌∷◌, ◌++◌, ◌+◌, ◌==◌, filter, reverse, flat_map, Result, Ok, Err, if◌then◌else◌}
+use Rattle.std.specs.Prelude.{◌≡◌, ℕ, ℤ, not, List, [], ◌∷◌, ◌++◌, ◌+◌, ◌==◌, filter, reverse, flat_map, Result, Ok}
+use Rattle.std.specs.Prelude.{Err, if◌then◌else◌}
 use Rattle.sharc_tree.specs.{declared.event.Act.Act, declared.event.Act.TheVariants.{Write, Lock, Unlock}}
 use Rattle.sharc_tree.specs.{declared.event.CellAt.CellAt, declared.event.CellMode.CellMode}
 use Rattle.sharc_tree.specs.{declared.event.SourceEvent.SourceEvent, declared.token.Site.Site}
@@ -7,7 +8,8 @@ use Rattle.sharc_names.specs.Kinds.{Kind, is_pointer}
 use Rattle.sharc_meaning.specs.{declared.given.GivenUp.GivenUp, declared.given.GivenUp.TheVariants.Replaced}
 use Rattle.sharc_meaning.specs.{declared.variable.Variable.Variable, Cells.{Guard, mutex, behind, nothing}}
 use Rattle.sharc_meaning.specs.{Events.{same_cell, held_mutexes}, Places.{Place, variable, cell}}
-use Rattle.sharc_meaning.specs.State.{Frame, State, Outcome, wants, stopped, spent, Out, go, over, Run, Step, ◌>>◌, performs, moves, gives_up, done, held_by_frame}
+use Rattle.sharc_meaning.specs.State.{Frame, State, Outcome, wants, stopped, spent, Out, go, over, Run, Step, ◌>>◌}
+use Rattle.sharc_meaning.specs.State.{performs, moves, gives_up, done, held_by_frame}
 use Rattle.sharc_ask_steps.specs.{declared.cells.Guard.{Guard as RustGuard}, declared.places.Place.{Place as RustPlace}}
 use Rattle.sharc_ask_steps.specs.{declared.state.End.End, declared.state.State.{State as RustState}}
 use Rattle.sharc_ask_steps.specs.declared.cells.Guard.TheVariants as guards
@@ -30,10 +32,28 @@ abbrev pub held_below : List Frame → List ℤ
 held_below callers = flat_map held_by_frame (reverse callers)
 
 abbrev pub known : State → Known
-known s = record { variables = s.frame.variables; temporaries = s.frame.temporaries; below = held_below s.callers; answers = s.answers; events = s.events; held = held_mutexes s.events; fuel = s.fuel; given_up = s.given_up }
+known s = record {
+  variables = s.frame.variables;
+  temporaries = s.frame.temporaries;
+  below = held_below s.callers;
+  answers = s.answers;
+  events = s.events;
+  held = held_mutexes s.events;
+  fuel = s.fuel;
+  given_up = s.given_up;
+}
 
 abbrev pub view_state : RustState → Known
-view_state s = record { variables = s.frame.variables.items; temporaries = s.frame.temporaries.items; below = s.below.items; answers = s.answers.now; events = s.events.items; held = s.held.items; fuel = s.fuel; given_up = s.given_up.items }
+view_state s = record {
+  variables = s.frame.variables.items;
+  temporaries = s.frame.temporaries.items;
+  below = s.below.items;
+  answers = s.answers.now;
+  events = s.events.items;
+  held = s.held.items;
+  fuel = s.fuel;
+  given_up = s.given_up.items;
+}
 
 -- an end of a run is the outcome that the code reports
 abbrev pub IsEnd : End → Outcome → Type 0

@@ -19,7 +19,8 @@ stops_where_held c site = do
   own ← looks_at (λ s. s.events)
   unless_stop (not (holds_mutex own c)) traps.MutexAlreadyHeld site
 
--- from the Unlock of a wait on the thread holds one more reference to the object of the mutex, until it has locked it again
+-- from the Unlock of a wait on the thread holds one more reference to the object of the mutex, until it has locked it
+-- again
 abbrev pub awakes : Site → ℤ → ℤ → Step
 awakes site c m = do
   holds_reference m

@@ -9,7 +9,9 @@ ghost use Rattle.sharc_ctype.specs.Globals.{elements_of as elements_of_form};
 ghost use Rattle.sharc_ctype.specs.Resolved.{global_at, structs_in};
 ghost use Rattle.sharc_mode.specs.Cells.{is_behind_pointer};
 ghost use Rattle.sharc_mode.specs.View.{view_lock, view_name, view_sharing};
-ghost use Rattle.sharc_meaning.specs.Cells.{struct_cells, base_cells, element_cells, global_elements, field_place_in, field_place, field_place_named, field_place_behind, through, mutex_named, guard_beside, guard_by, guard_named, guard_of, instance_mode};
+ghost use Rattle.sharc_meaning.specs.Cells.{struct_cells, base_cells, element_cells, global_elements, field_place_in};
+ghost use Rattle.sharc_meaning.specs.Cells.{field_place, field_place_named, field_place_behind, through, mutex_named};
+ghost use Rattle.sharc_meaning.specs.Cells.{guard_beside, guard_by, guard_named, guard_of, instance_mode};
 ghost use Rattle.sharc_meaning.specs.Reference.{number_of, elements_of};
 ghost use Rattle.sharc_meaning.specs.State.{value_in};
 ghost use Rattle.sharc_ask_steps.specs.View.{view_guard};
@@ -277,7 +279,8 @@ fn guard_sibling(
     lock: Lock<'_>,
     token: u32,
 ) -> Option<Guard>
-    ensures { IfSome result (λ g. view_guard g ≡ guard_beside (is_behind_pointer typed.now (view_lock lock.entry)) (record { object = object; cell = first + field_place typed.now token })) }
+    ensures { IfSome result (λ g. view_guard g ≡ guard_beside (is_behind_pointer typed.now (view_lock lock.entry))
+        (record { object = object; cell = first + field_place typed.now token })) }
 {
     match first.checked_add(field_place(typed, token)) {
         None => None,
@@ -285,7 +288,8 @@ fn guard_sibling(
     }
 }
 
-/// What guards a cell in the element that begins at this cell of this object. None only where the cell of a sibling has no number of 64 bits.
+/// What guards a cell in the element that begins at this cell of this object. None only where the cell of a sibling has
+/// no number of 64 bits.
 pub fn guard_of(
     typed: &Typed,
     variables: &[Variable],
@@ -293,7 +297,8 @@ pub fn guard_of(
     first: u64,
     lock: Lock<'_>,
 ) -> Option<Guard>
-    ensures { IfSome result (λ g. view_guard g ≡ guard_of typed.now (value_in variables.now) object first (view_lock lock.entry)) }
+    ensures { IfSome result (λ g. view_guard g
+        ≡ guard_of typed.now (value_in variables.now) object first (view_lock lock.entry)) }
 {
     match typed.named(lock.first) {
         Named::Field(token) => guard_sibling(typed, object, first, lock, token),

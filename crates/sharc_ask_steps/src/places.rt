@@ -9,7 +9,8 @@ ghost use Rattle.sharc_ctype.specs.Resolved.{global_at};
 ghost use Rattle.sharc_mode.specs.Sharings.{locked};
 ghost use Rattle.sharc_mode.specs.View.{view_lock, view_sharing};
 ghost use Rattle.sharc_meaning.specs.Cells.{guard_of, instance_mode, global_elements};
-ghost use Rattle.sharc_meaning.specs.Places.{based, element, element_of_array, field_in, place_named, pointee, guarding, access_mode, fetched, stored, taken_from, cast_to, freed};
+ghost use Rattle.sharc_meaning.specs.Places.{based, element, element_of_array, field_in, place_named, pointee};
+ghost use Rattle.sharc_meaning.specs.Places.{guarding, access_mode, fetched, stored, taken_from, cast_to, freed};
 ghost use Rattle.sharc_meaning.specs.Reference.{is_null};
 ghost use Rattle.sharc_meaning.specs.declared.given.GivenUp.TheVariants.{Replaced};
 ghost use Rattle.sharc_meaning.specs.State.{give, answered, gives_up, done};
@@ -55,9 +56,11 @@ pub fn pointee(pointer: i64) -> Place
     Place::Cell(Object::Made(number_of(pointer)), 0, 0)
 }
 
-/// The place of the field this many cells after the element's first. A cell that has no number of 64 bits is answered as out of memory.
+/// The place of the field this many cells after the element's first. A cell that has no number of 64 bits is answered
+/// as out of memory.
 pub fn field_in(number: u64, place: Place, st: &State) -> Result<Place, End>
-    ensures { DoesAs view_place (view_state st.now) result (view_state st.now) (give (field_in number (view_place place))) }
+    ensures { DoesAs view_place (view_state st.now) result (view_state st.now)
+        (give (field_in number (view_place place))) }
 {
     match place {
         Place::Variable(token) => Ok(Place::Variable(token)),
@@ -86,7 +89,8 @@ pub fn element(
     index: i64,
     st: &State,
 ) -> Result<Place, End>
-    ensures { DoesAs view_place (view_state st.now) result (view_state st.now) (element site object cells elements index) }
+    ensures { DoesAs view_place (view_state st.now) result (view_state st.now)
+        (element site object cells elements index) }
 {
     if index < 0 {
         return Err(End::Stopped(Trap::IndexOutOfBounds, site));
@@ -110,7 +114,8 @@ pub fn element_of_array(
     index: i64,
     st: &State,
 ) -> Result<Place, End>
-    ensures { DoesAs view_place (view_state st.now) result (view_state st.now) (element_of_array program.now.typed site cells (view_place array) index) }
+    ensures { DoesAs view_place (view_state st.now) result (view_state st.now)
+        (element_of_array program.now.typed site cells (view_place array) index) }
 {
     match array {
         Place::Cell(Object::Global(number), _, _) => element(
@@ -153,7 +158,8 @@ fn locked_mode(
     first: u64,
     st: &mut State,
 ) -> Result<CellMode, End>
-    ensures does { Does (view_state st.old) result (view_state st.new) (access_mode program.now.typed site (locked (view_lock lock.entry)) object first) }
+    ensures does { Does (view_state st.old) result (view_state st.new)
+        (access_mode program.now.typed site (locked (view_lock lock.entry)) object first) }
     ensures fuel { st.new.fuel ≤ st.old.fuel }
 {
     match guard_of(
@@ -180,7 +186,8 @@ pub fn access_mode(
     first: u64,
     st: &mut State,
 ) -> Result<CellMode, End>
-    ensures does { Does (view_state st.old) result (view_state st.new) (access_mode program.now.typed site (view_sharing mode.entry) object first) }
+    ensures does { Does (view_state st.old) result (view_state st.new)
+        (access_mode program.now.typed site (view_sharing mode.entry) object first) }
     ensures fuel { st.new.fuel ≤ st.old.fuel }
 {
     match mode {
@@ -200,7 +207,8 @@ pub fn fetched(
     place: Place,
     st: &mut State,
 ) -> Result<i64, End>
-    ensures does { Does (view_state st.old) result (view_state st.new) (fetched program.now.typed site (view_sharing mode.entry) (view_place place)) }
+    ensures does { Does (view_state st.old) result (view_state st.new)
+        (fetched program.now.typed site (view_sharing mode.entry) (view_place place)) }
     ensures fuel { st.new.fuel ≤ st.old.fuel }
 {
     match place {
@@ -214,7 +222,8 @@ pub fn fetched(
 
 /// A cell of this type was written: if it is a pointer, what it held before is given up.
 fn replaced_in(kind: Kind<'_>, cell: CellAt, st: &mut State) -> Result<(), End>
-    ensures does { Does (view_state st.old) result (view_state st.new) (if is_pointer (view_kind kind.entry) then gives_up (Replaced cell ∷ []) else done) }
+    ensures does { Does (view_state st.old) result (view_state st.new) (if is_pointer (view_kind kind.entry)
+        then gives_up (Replaced cell ∷ []) else done) }
     ensures fuel { st.new.fuel ≤ st.old.fuel }
 {
     if is_pointer(kind) {
@@ -232,7 +241,8 @@ fn stored_in_cell(
     value: i64,
     st: &mut State,
 ) -> Result<(), End>
-    ensures does { Does (view_state st.old) result (view_state st.new) (stored_in_cell site (view_kind kind.entry) cell under value) }
+    ensures does { Does (view_state st.old) result (view_state st.new)
+        (stored_in_cell site (view_kind kind.entry) cell under value) }
     ensures fuel { st.new.fuel ≤ st.old.fuel }
 {
     perform(site, Act::Write(cell, under, value), st)?;
@@ -250,7 +260,8 @@ pub fn stored(
     value: i64,
     st: &mut State,
 ) -> Result<(), End>
-    ensures does { Does (view_state st.old) result (view_state st.new) (stored program.now.typed site (view_kind kind.entry) (view_sharing mode.entry) (view_place place) value) }
+    ensures does { Does (view_state st.old) result (view_state st.new)
+        (stored program.now.typed site (view_kind kind.entry) (view_sharing mode.entry) (view_place place) value) }
     ensures fuel { st.new.fuel ≤ st.old.fuel }
 {
     match place {
@@ -274,7 +285,8 @@ fn taken_of_local(
     value: i64,
     st: &mut State,
 ) -> Result<i64, End>
-    ensures does { Does (view_state st.old) result (view_state st.new) (if is_null value then give value else answered site (acts.Take (taken.Local token) kind)) }
+    ensures does { Does (view_state st.old) result (view_state st.new) (if is_null value then give value
+        else answered site (acts.Take (taken.Local token) kind)) }
     ensures fuel { st.new.fuel ≤ st.old.fuel }
 {
     if is_zero(value) {
@@ -294,7 +306,8 @@ pub fn taken_from(
     place: Place,
     st: &mut State,
 ) -> Result<i64, End>
-    ensures does { Does (view_state st.old) result (view_state st.new) (taken_from program.now.typed token_site site (view_sharing mode.entry) kind (view_place place)) }
+    ensures does { Does (view_state st.old) result (view_state st.new)
+        (taken_from program.now.typed token_site site (view_sharing mode.entry) kind (view_place place)) }
     ensures fuel { st.new.fuel ≤ st.old.fuel }
 {
     match place {
@@ -323,7 +336,8 @@ pub fn cast_to(
     value: i64,
     st: &mut State,
 ) -> Result<i64, End>
-    ensures does { Does (view_state st.old) result (view_state st.new) (cast_to program.now.typed site (view_sharing mode.entry) value) }
+    ensures does { Does (view_state st.old) result (view_state st.new)
+        (cast_to program.now.typed site (view_sharing mode.entry) value) }
     ensures fuel { st.new.fuel ≤ st.old.fuel }
 {
     hold_reference(value, st)?;

@@ -1,4 +1,5 @@
--- What is answered of a list of event lines: whether they are a run at this fuel that obeys the modes until threads return, else the first line that is not accepted, and why.
+-- What is answered of a list of event lines: whether they are a run at this fuel that obeys the modes until threads
+-- return, else the first line that is not accepted, and why.
 use Rattle.std.specs.Prelude.{◌≡◌, ℕ, suc, List, [], ◌∷◌, ◌++◌, length, take, slice_get, Some}
 use Rattle.sharc_tree.specs.declared.event.SourceEvent.{SourceEvent}
 use Rattle.sharc_ctype.specs.Resolved.{IsResolved}
@@ -18,7 +19,8 @@ pub record Accepted (m : Assignment) (fuel : ℕ) (lines : List EventLine) : Typ
   pub obeys : Obeys events until_return
 
 -- the line with this place from 0 is the first that is not accepted
-pub record IsFirstRefused (m : Assignment) (fuel : ℕ) (lines : List EventLine) (place : ℕ) (l : EventLine) : Type 0 where
+pub record IsFirstRefused (m : Assignment) (fuel : ℕ) (lines : List EventLine) (place : ℕ)
+    (l : EventLine) : Type 0 where
   pub stands : slice_get lines place ≡ Some l
   pub before : Accepted m fuel (take place lines)
   pub refused : Accepted m fuel (take (suc place) lines) → ⊥
@@ -58,9 +60,12 @@ pub record Refused (m : Assignment) (fuel : ℕ) (lines : List EventLine) (n : �
 
 abbrev pub Audits : Assignment → ℕ → List EventLine → Verdict → Type 0
 Audits m fuel lines (verdict.Obeys n) = (n ≡ length lines) × Accepted m fuel lines
-Audits m fuel lines (verdict.Fails n why) = (h : Refused m fuel lines n) × FailsBy m fuel h.first.before.events h.line_at why
-Audits m fuel lines (verdict.Fuel n) = (h : Refused m fuel lines n) × IsSpent m fuel h.first.before.events h.line_at.thread
+Audits m fuel lines (verdict.Fails n why) =
+    (h : Refused m fuel lines n) × FailsBy m fuel h.first.before.events h.line_at why
+Audits m fuel lines (verdict.Fuel n) =
+    (h : Refused m fuel lines n) × IsSpent m fuel h.first.before.events h.line_at.thread
 
 -- no other verdict
 abbrev pub OneVerdict : Type 0
-OneVerdict = (m : Assignment) (fuel : ℕ) (lines : List EventLine) (v w : Verdict) → IsResolved m.typed → Audits m fuel lines v → Audits m fuel lines w → v ≡ w
+OneVerdict = (m : Assignment) (fuel : ℕ) (lines : List EventLine) (v w : Verdict) → IsResolved m.typed
+    → Audits m fuel lines v → Audits m fuel lines w → v ≡ w

@@ -4,11 +4,13 @@ use Rattle.sharc_audit.specs.{declared.line.EventLine.EventLine, Grammar.{Text, 
 
 abbrev pub FilesAreOne : Type 0
 FilesAreOne =
-    (texts : List Text) (source other : Text) (fuel more : ℕ) (events others : List EventLine) → IsEventFile texts source fuel events → IsEventFile texts other more others
+    (texts : List Text) (source other : Text) (fuel more : ℕ) (events others : List EventLine)
+    → IsEventFile texts source fuel events → IsEventFile texts other more others
     → (source ≡ other) × (fuel ≡ more) × (events ≡ others)
 
 abbrev pub FilesHaveNoFault : Type 0
-FilesHaveNoFault = (texts : List Text) (source : Text) (fuel : ℕ) (events : List EventLine) (n : ℕ) → IsEventFile texts source fuel events → IsFirstBad texts n → ⊥
+FilesHaveNoFault = (texts : List Text) (source : Text) (fuel : ℕ) (events : List EventLine) (n : ℕ)
+    → IsEventFile texts source fuel events → IsFirstBad texts n → ⊥
 
 abbrev pub FaultsAreOne : Type 0
 FaultsAreOne = (texts : List Text) (n m : ℕ) → IsFirstBad texts n → IsFirstBad texts m → n ≡ m

@@ -10,5 +10,6 @@ use Rattle.sharc_audit.specs.declared.audit.Verdict.TheVariants as verdict
 
 -- the lines of a source run that obeys never fail: with each fuel they obey, or the fuel of a thread is spent
 abbrev pub RunsNeverFail : Type 0
-RunsNeverFail = (m : Assignment) (fuel : ℕ) (R : List SourceEvent) (lines : List EventLine) (n : ℕ) (why : EventFault) → IsResolved m.typed → SourceRun m R → Obeys R until_return → AreLines m.typed lines R
+RunsNeverFail = (m : Assignment) (fuel : ℕ) (R : List SourceEvent) (lines : List EventLine) (n : ℕ) (why : EventFault)
+    → IsResolved m.typed → SourceRun m R → Obeys R until_return → AreLines m.typed lines R
     → Audits m fuel lines (verdict.Fails n why) → ⊥

@@ -17,7 +17,8 @@ fault_words (fault.Rule rule) = codes "E3 rule " ++ decimal (number rule)
 abbrev pub verdict_words : ℕ → Verdict → List ℕ
 verdict_words fuel (verdict.Obeys n) = codes "obeys " ++ decimal n ++ codes " events"
 verdict_words fuel (verdict.Fails n why) = codes "event " ++ decimal n ++ codes ": " ++ fault_words why
-verdict_words fuel (verdict.Fuel n) = codes "event " ++ decimal n ++ codes ": U1 fuel " ++ decimal fuel ++ codes " spent"
+verdict_words fuel (verdict.Fuel n) =
+    codes "event " ++ decimal n ++ codes ": U1 fuel " ++ decimal fuel ++ codes " spent"
 
 abbrev pub verdict_line : ℕ → Verdict → List ℕ
 verdict_line fuel v = verdict_words fuel v ++ codes "\n"

@@ -44,7 +44,8 @@ pub enum Verdict {
 /// Why the event, which is asked for, is not accepted after these, none of which breaks a rule.
 fn fault_of(program: &Moded, past: &Past, e: &SourceEvent) -> Option<EventFault>
     requires { AreUnbroken past.now }
-    ensures { MatchOption result (IsPassed program.now past.now e.now) (λ fault. IsFault program.now past.now e.now fault) }
+    ensures { MatchOption result (IsPassed program.now past.now e.now)
+        (λ fault. IsFault program.now past.now e.now fault) }
 {
     if !past.may_come(program.typed(), e) {
         return Some(EventFault::NotLegal);

@@ -92,7 +92,8 @@ fn head(bytes: &[u8]) -> Result<(&[u8], u64, &[u8], u32), u32>
     Err(n)
 }
 
-/// The fault of a text after more events than are audited, whose first line has this number: its first line that is no event, else that there are too many.
+/// The fault of a text after more events than are audited, whose first line has this number: its first line that is no
+/// event, else that there are too many.
 fn too_many(alloc: Global, bytes: &[u8], first: u32) -> FileFault
     requires { first + length bytes.now ≤ 16777219 }
     ensures { IsEventsFault 0 (text_lines bytes.now) first result }
@@ -112,7 +113,8 @@ fn too_many(alloc: Global, bytes: &[u8], first: u32) -> FileFault
     FileFault::Many
 }
 
-/// The events of these lines, the first of which has this number. Events after the last that is audited are read and not kept.
+/// The events of these lines, the first of which has this number. Events after the last that is audited are read and
+/// not kept.
 fn events_of(alloc: Global, bytes: &[u8], first: u32) -> Result<Vec<EventLine>, FileFault>
     requires { first + length bytes.now ≤ 16777219 }
     ensures few { IfOk result (λ events. length events.items ≤ 4096) }
@@ -143,7 +145,8 @@ fn events_of(alloc: Global, bytes: &[u8], first: u32) -> Result<Vec<EventLine>, 
 
 /// Reads an event file: its source, up to the first newline that `%%events ` follows, its fuel and its events.
 ///
-/// `Many` comes only of a file of the grammar; a line that continues no file comes first, wherever it is. The file has at most 16,777,216 bytes.
+/// `Many` comes only of a file of the grammar; a line that continues no file comes first, wherever it is. The file has
+/// at most 16,777,216 bytes.
 pub fn read_events(alloc: Global, bytes: &[u8]) -> Result<EventFile, FileFault>
     requires { length bytes.now ≤ 16777216 }
     ensures few { IfOk result (λ f. length f.events ≤ 4096) }

@@ -14,7 +14,8 @@ pub(crate) type Reported = HashMap<u32, Vec<i64>>;
 
 // One answer more to a thread.
 fn add(alloc: Global, all: &mut Reported, thread: u32, answer: i64) -> Result<(), AllocError>
-    ensures { OnOk result ((t : ℕ) → told_in all.new t ≡ (if thread == t then told_in all.old t ++ answer ∷ [] else told_in all.old t)) }
+    ensures { OnOk result ((t : ℕ)
+        → told_in all.new t ≡ (if thread == t then told_in all.old t ++ answer ∷ [] else told_in all.old t)) }
 {
     let mut own = match all.remove(&thread) {
         None => Vec::new(alloc),

@@ -59,7 +59,8 @@ pub(crate) fn first_fuel(fuel: u64) -> u64
     if fuel < 64 { fuel } else { 64 }
 }
 
-/// The fuel of the next walk: four times as much, so that all walks of a thread together are a small multiple of the last.
+/// The fuel of the next walk: four times as much, so that all walks of a thread together are a small multiple of the
+/// last.
 fn more_fuel(walked: u64, fuel: u64) -> u64
     requires { walked < fuel }
     ensures more { walked < result }
@@ -90,7 +91,8 @@ pub(crate) fn walk_to(
     requires walk { IsWalk program.now run.old.function run.old.argument run.old.answers.items run.old.walk }
     requires within { run.old.walk.fuel ≤ fuel }
     ensures same { run.new ≡ record run.old { walk = run.new.walk } }
-    ensures walk { OnOk result (IsWalk program.now run.old.function run.old.argument run.old.answers.items run.new.walk) }
+    ensures walk { OnOk result
+        (IsWalk program.now run.old.function run.old.argument run.old.answers.items run.new.walk) }
     ensures within { OnOk result (run.new.walk.fuel ≤ fuel) }
     ensures far { OnOk result (needs_more place fuel run.new.walk ≡ false) }
 {

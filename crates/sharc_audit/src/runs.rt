@@ -45,7 +45,8 @@ impl Runs {
     /// The place of the run of the thread, where it has begun.
     pub(crate) fn place_of(&self, thread: u32) -> Option<usize>
         requires { ArePlaces self.now.places self.now.runs.items }
-        ensures { MatchOption result (list_any (λ run. run.thread == thread) self.now.runs.items ≡ false) (IsPlaceOf thread self.now.runs.items) }
+        ensures { MatchOption result (list_any (λ run. run.thread == thread) self.now.runs.items ≡ false)
+            (IsPlaceOf thread self.now.runs.items) }
     {
         self.places.get(&thread).copied()
     }

@@ -80,7 +80,8 @@ pub fn verdict_text(alloc: Global, verdict: Verdict, fuel: u64) -> Result<Vec<u8
     Ok(text)
 }
 
-/// The line of a text that is no event file, or that has too many events, with its newline. Being out of memory has none, and is passed on.
+/// The line of a text that is no event file, or that has too many events, with its newline. Being out of memory has
+/// none, and is passed on.
 pub fn file_fault_text(alloc: Global, fault: FileFault) -> Result<Vec<u8>, AllocError>
     ensures { IfOk result (λ text. file_fault_line fault ≡ Some text.items) }
 {

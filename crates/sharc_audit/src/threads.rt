@@ -1,12 +1,14 @@
 // What threads ask for: each is asked with all that the lines report to it, and walked no further than its lines need.
 
-ghost use Rattle.std.specs.Prelude.{◌≡◌, ◌+◌, ◌-◌, ◌<◌, ◌≤◌, ◌==◌, ◌∷◌, ◌++◌, [], IfOk, OnOk, length, drop, find, MatchOption, IsTrue, true, false, slice_get, Some};
+ghost use Rattle.std.specs.Prelude.{◌≡◌, ◌+◌, ◌-◌, ◌<◌, ◌≤◌, ◌==◌, ◌∷◌, ◌++◌, [], IfOk, OnOk, length, drop, find};
+ghost use Rattle.std.specs.Prelude.{MatchOption, IsTrue, true, false, slice_get, Some};
 ghost use Rattle.std.specs.List.{list_any};
 ghost use Rattle.sharc_meaning.specs.Events.{is_of, events_of};
 ghost use Rattle.sharc_meaning.specs.Meaning.{asks};
 ghost use Rattle.sharc_meaning.specs.Store.{spawns};
 ghost use Rattle.sharc_ctype.specs.Resolved.{Resolution, function_at};
-ghost use Rattle.sharc_audit.specs.Judging.{main_of, entry, has_begun, start_of, start_at, next_asked, next_in, own_answers, event_at};
+ghost use Rattle.sharc_audit.specs.Judging.{main_of, entry, has_begun, start_of, start_at, next_asked, next_in};
+ghost use Rattle.sharc_audit.specs.Judging.{own_answers, event_at};
 ghost use Rattle.sharc_audit.specs.Known.{AreKnown, ArePlaces};
 ghost use Rattle.sharc_audit.specs.Reported.{AreTold, told_in};
 ghost use Rattle.sharc_past.specs.Kept.{IsSpawnedOnce};
@@ -130,9 +132,11 @@ fn next_of(
     requires walk { IsWalk program.now run.old.function run.old.argument run.old.answers.items run.old.walk }
     requires within { run.old.walk.fuel ≤ fuel }
     ensures same { run.new ≡ record run.old { walk = run.new.walk } }
-    ensures walk { OnOk result (IsWalk program.now run.old.function run.old.argument run.old.answers.items run.new.walk) }
+    ensures walk { OnOk result
+        (IsWalk program.now run.old.function run.old.argument run.old.answers.items run.new.walk) }
     ensures within { OnOk result (run.new.walk.fuel ≤ fuel) }
-    ensures next { IfOk result (λ next. next ≡ next_in run.old.thread place (asks program.now run.old.function run.old.argument run.old.answers.items fuel)) }
+    ensures next { IfOk result (λ next. next ≡ next_in run.old.thread place
+        (asks program.now run.old.function run.old.argument run.old.answers.items fuel)) }
 {
     ask_laws();
     walk_to(alloc, program, place, fuel, run)?;
@@ -222,7 +226,9 @@ pub(crate) fn accept(
     requires places { ArePlaces runs.old.places runs.old.runs.items }
     requires told { AreTold all.now past.now (line.now ∷ rest.now) }
     requires once { IsSpawnedOnce past.now }
-    ensures known { OnOk result ((e : SourceEvent) → next_asked program.now fuel past.now line.now ≡ Wants e → line.now.thread ≡ e.thread → told line.now ≡ e.answer → AreKnown program.now fuel (past.now ++ e ∷ []) rest.now runs.new.runs.items) }
+    ensures known { OnOk result ((e : SourceEvent) → next_asked program.now fuel past.now line.now ≡ Wants e
+        → line.now.thread ≡ e.thread → told line.now ≡ e.answer
+        → AreKnown program.now fuel (past.now ++ e ∷ []) rest.now runs.new.runs.items) }
     ensures places { OnOk result (ArePlaces runs.new.places runs.new.runs.items) }
 {
     match runs.place_of(line.thread) {

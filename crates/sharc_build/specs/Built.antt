@@ -8,9 +8,9 @@ use Rattle.sharc_sound.specs.{Compiled.IsCompiled, Front.{IsFront, IsSourceFault
 use Rattle.sharc_build.specs.{declared.building.Built.Built, declared.building.BuildFault.BuildFault}
 use Rattle.sharc_build.specs.declared.building.BuildFault.TheVariants.{Source, Modes, Memory}
 
--- It is this program, with its least modes, which meet the rules M1 to M11; and this is its code, whose numbers are in the
--- ranges that the machine asks for. So the code is faithful to the program (`built_is_faithful` of sharc_sound_laws), and
--- what every interleaving of it keeps is said by the laws of sharc_sound_laws.
+-- It is this program, with its least modes, which meet the rules M1 to M11; and this is its code, whose numbers are in
+-- the ranges that the machine asks for. So the code is faithful to the program (`built_is_faithful` of
+-- sharc_sound_laws), and what every interleaving of it keeps is said by the laws of sharc_sound_laws.
 pub record IsBuilt (source : List ℕ) (built : Built) : Type 0 where
   pub front : IsFront source built.checked
   pub accepted : MeetsRules built.checked

@@ -41,13 +41,15 @@ impl Drop for Built {
 pub enum BuildFault {
     /// The first fault of the first stage that has one.
     Source(SourceFault),
-    /// The program, all cases of M1 to M11 that arise in it, by place and then by code, and which variables and globals lock paths name.
+    /// The program, all cases of M1 to M11 that arise in it, by place and then by code, and which variables and globals
+    /// lock paths name.
     Modes(Moded, ModeErrors, NamedVariables),
     /// There was not enough memory. It is the answer, too, where a number of the code would be too large.
     Memory,
 }
 
-/// The checked code of a program with its modes. Its numbers are in their ranges, if the program is typed and well-moded.
+/// The checked code of a program with its modes. Its numbers are in their ranges, if the program is typed and
+/// well-moded.
 ///
 /// An `Err` says that memory was not found, or that a number of the code would be too large.
 fn compile(alloc: Global, program: &Moded) -> Result<Code, AllocError>
@@ -85,8 +87,8 @@ fn accepted(alloc: Global, program: Moded, reached: &Reached) -> Result<Built, B
     }
 }
 
-/// The checked code of the program that a source is, with its least modes; or the first fault of the first stage that has one, or, if its
-/// modes are refused, all the cases that arise.
+/// The checked code of the program that a source is, with its least modes; or the first fault of the first stage that
+/// has one, or, if its modes are refused, all the cases that arise.
 pub fn build(alloc: Global, source: &[u8]) -> Result<Built, BuildFault>
     requires { length source.now ≤ 1_048_576 }
     ensures { Builds source.now result }

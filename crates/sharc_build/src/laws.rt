@@ -5,7 +5,8 @@ ghost use Rattle.sharc_build.specs.Laws.{FrontsAreTyped};
 use sharc_grammar::laws::{programs_are_low, programs_are_placed};
 use sharc_mode_laws::laws::rules_are_met;
 
-/// The program that a source is lies at its tokens, is within the limits, typed and, if its modes are accepted, well-moded.
+/// The program that a source is lies at its tokens, is within the limits, typed and, if its modes are accepted,
+/// well-moded.
 pub fn fronts_are_typed()
     ensures { FrontsAreTyped }
 {

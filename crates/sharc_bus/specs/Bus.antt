@@ -51,7 +51,8 @@ pub record OneHistory (opening : List ℕ) (lists : List (List WordEvent)) (word
 
 -- what distinguishes a port from others, as numbers
 abbrev pub name_of : SeatView → List ℕ
-name_of seat = seat.number ∷ seat.bus.words ∷ seat.bus.slots ∷ seat.bus.views_name ∷ seat.bus.atom ∷ seat.bus.block ∷ seat.bus.offset ∷ seat.bus.slot_names
+name_of seat = seat.number ∷ seat.bus.words ∷ seat.bus.slots ∷ seat.bus.views_name ∷ seat.bus.atom ∷ seat.bus.block
+    ∷ seat.bus.offset ∷ seat.bus.slot_names
 
 -- a seat with the name of another is of the same bus, and has its number
 abbrev pub NamesTell : Type 0

@@ -1,5 +1,6 @@
 -- The rule of a bus, over the words and over what each seat knows: its parts of the history of this round.
-use Rattle.std.specs.Prelude.{ℕ, zero, suc, ◌+◌, ◌%◌, ◌^◌, ◌≡◌, ◌<◌, ◌≤◌, ◌==◌, ◌⊎◌, List, [], ◌∷◌, ◌++◌, length, slice_index, bit_or, if◌then◌else◌}
+use Rattle.std.specs.Prelude.{ℕ, zero, suc, ◌+◌, ◌%◌, ◌^◌, ◌≡◌, ◌<◌, ◌≤◌, ◌==◌, ◌⊎◌, List, [], ◌∷◌, ◌++◌, length}
+use Rattle.std.specs.Prelude.{slice_index, bit_or, if◌then◌else◌}
 use mathlib.Core.Option.{some}
 use lib.ListN.{get_elem?}
 use Rattle.atomic_table.specs.Table.{State, Me, Step}
@@ -13,14 +14,15 @@ abbrev pub IsAmong : Part → List Part → Type 0
 IsAmong part [] = ⊥
 IsAmong part (p ∷ ps) = (part ≡ p) ⊎ IsAmong part ps
 
--- the parts of this many numbers from the first on, none of which has made a step in a round that began with these words
+-- the parts of this many numbers from the first on, none of which has made a step in a round that began with these
+-- words
 abbrev pub unbegun : List ℕ → ℕ → ℕ → List Part
 unbegun words first zero = []
 unbegun words first (suc more) = record { number = first; words = words; events = [] } ∷ unbegun words (suc first) more
 
--- There is one legal history of this round, which leaves the words as they are. Each part that a seat has knows the words at the
--- beginning of the round and is that number's part of the history, and no other seat has a part of that number. No number but these
--- has made a step
+-- There is one legal history of this round, which leaves the words as they are. Each part that a seat has knows the
+-- words at the beginning of the round and is that number's part of the history, and no other seat has a part of that
+-- number. No number but these has made a step
 pub record BusRule (opening : List ℕ) (numbers : ℕ) (state : State (Unit {0}) (List Part)) : Type 0 where
   pub base : List ℕ
   pub as_many : length base ≡ length opening
@@ -28,17 +30,21 @@ pub record BusRule (opening : List ℕ) (numbers : ℕ) (state : State (Unit {0}
   pub legal : LegalHistory base history
   pub words_are : state.words ≡ words_after base history
   pub owner : ℕ → ℕ
-  pub parts_are : (seat : ℕ) (parts : List Part) (part : Part) → get_elem? state.views seat ≡ some parts → IsAmong part parts
-      → (part.events ≡ events_of part.number history) × (owner part.number ≡ seat) × (part.number < numbers) × (part.words ≡ base)
+  pub parts_are : (seat : ℕ) (parts : List Part) (part : Part) → get_elem? state.views seat ≡ some parts
+      → IsAmong part parts
+      → (part.events ≡ events_of part.number history) × (owner part.number ≡ seat) × (part.number < numbers)
+      × (part.words ≡ base)
   pub no_others : (number : ℕ) → numbers ≤ number → events_of number history ≡ []
 
 -- the parts after a step of the first
 abbrev pub with_step : List Part → WordStep → ℕ → List Part
 with_step [] step found = []
-with_step (p ∷ ps) step found = record { number = p.number; words = p.words; events = p.events ++ event_of p.number step found ∷ [] } ∷ ps
+with_step (p ∷ ps) step found =
+    record { number = p.number; words = p.words; events = p.events ++ event_of p.number step found ∷ [] } ∷ ps
 
 -- a step of this operation reports to its seat that its event was appended, with the word found as its result
-abbrev pub Appends : (ℕ → ℕ → WordOp) → Step (Unit {0}) → Me (Unit {0}) (List Part) → ℕ → Me (Unit {0}) (List Part) → Type 0
+abbrev pub Appends : (ℕ → ℕ → WordOp) → Step (Unit {0}) → Me (Unit {0}) (List Part) → ℕ → Me (Unit {0}) (List Part)
+    → Type 0
 Appends op step before found after =
     after ≡ (with_step before.0 record { word = step.word; op = op step.first step.second } found, before.1)
 
@@ -55,8 +61,10 @@ abbrev pub first_number : List Part → ℕ
 first_number [] = 0
 first_number (p ∷ ps) = p.number
 
--- a load reports to its seat that an Or of its bits was appended where the word found has them, and else that nothing was
-abbrev pub AppendsStanding : (ℕ → ℕ) → Step (Unit {0}) → Me (Unit {0}) (List Part) → ℕ → Me (Unit {0}) (List Part) → Type 0
+-- a load reports to its seat that an Or of its bits was appended where the word found has them, and else that nothing
+-- was
+abbrev pub AppendsStanding : (ℕ → ℕ) → Step (Unit {0}) → Me (Unit {0}) (List Part) → ℕ → Me (Unit {0}) (List Part)
+    → Type 0
 AppendsStanding bits step before found after =
     after ≡ (if bit_or found (bits (first_number before.0)) == found then with_step before.0 record { word = step.word; op = Or (bits (first_number before.0)) } found else before.0, before.1)
 
@@ -66,8 +74,8 @@ abbrev pub words_known : List Part → List ℕ
 words_known [] = []
 words_known (p ∷ ps) = p.words
 
--- These parts are those of one legal history from the words of which they know, and no other number has a part of it. The new ones
--- know of the words that it leaves, and none of them has begun
+-- These parts are those of one legal history from the words of which they know, and no other number has a part of it.
+-- The new ones know of the words that it leaves, and none of them has begun
 pub record Settled (parts new : List Part) : Type 0 where
   pub history : List WordEvent
   pub now : List ℕ

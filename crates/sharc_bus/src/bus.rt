@@ -28,9 +28,14 @@ impl<A: Allocator> Model for Bus<A> {
 
     ghost Value = { BusView };
 
-    ghost view = { λ b. record { id = b.table.shared.table_id; opening = b.table.shared.key.words.items; ports = b.table.shared.key.ports } };
+    ghost view = { λ b. record {
+      id = b.table.shared.table_id;
+      opening = b.table.shared.key.words.items;
+      ports = b.table.shared.key.ports;
+    } };
 
-    ghost invariant = { λ b. IsBusTable b.table.shared.table_id b.table.shared.key.words.items b.table.shared.key.ports × (b.ports ≡ b.table.shared.key.ports) };
+    ghost invariant = { λ b. IsBusTable b.table.shared.table_id b.table.shared.key.words.items b.table.shared.key.ports
+        × (b.ports ≡ b.table.shared.key.ports) };
 }
 
 impl<A: Allocator> Bus<A> {

@@ -66,8 +66,11 @@ impl<'a, A: Allocator> Port for BusPort<'a, A> {
         requires { step.word < length self.old.bus.opening }
         ensures bus { self.new.bus ≡ self.old.bus }
         ensures serves { (thread : ℕ) → thread ≡ self.old.seat.number → thread ≡ self.new.seat.number }
-        ensures leads { (thread : ℕ) → thread ≡ self.old.seat.number → LeadsInEvents (place_of_events self.old.seat.events) (event_of thread step result) (place_of_events self.new.seat.events) }
-        ensures seat { self.new.seat ≡ record self.old.seat { events = self.old.seat.events ++ event_of self.old.seat.number step result ∷ [] } }
+        ensures leads { (thread : ℕ) → thread ≡ self.old.seat.number
+            → LeadsInEvents (place_of_events self.old.seat.events) (event_of thread step result)
+            (place_of_events self.new.seat.events) }
+        ensures seat { self.new.seat
+            ≡ record self.old.seat { events = self.old.seat.events ++ event_of self.old.seat.number step result ∷ [] } }
     {
         self.seat.step(self.bus, step)
     }

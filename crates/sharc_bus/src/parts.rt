@@ -23,7 +23,8 @@ pub(crate) fn give_seats<A: Allocator>(
     requires parts { first.me ≡ (unbegun (words_known first.me.0) 0 (suc ports), []) }
     requires words { 0 < table.now.shared.table_id.words }
     requires none { seats.old.items ≡ [] }
-    ensures seats { IfOk result (λ _. seats.new.items ≡ seats_with table.now.shared.table_id (unbegun (words_known first.me.0) 0 ports)) }
+    ensures seats { IfOk result (λ _. seats.new.items
+        ≡ seats_with table.now.shared.table_id (unbegun (words_known first.me.0) 0 ports)) }
     ensures own { IfOk result (λ rest. rest.table_id ≡ table.now.shared.table_id) }
     ensures rest { IfOk result (λ rest. rest.me ≡ (unbegun (words_known first.me.0) ports 1, [])) }
 {

@@ -8,7 +8,8 @@ use atomic_table::{Seat, Shared};
 use std::alloc::Allocator;
 use std::marker::Model;
 
-/// A bus between two rounds: no port has a seat, so the words stay as they are. Contracts see it as a `RestView`, with these words.
+/// A bus between two rounds: no port has a seat, so the words stay as they are. Contracts see it as a `RestView`, with
+/// these words.
 #[derive(Drop)]
 pub struct BusRest {
     seat: Seat<(), Parts>,

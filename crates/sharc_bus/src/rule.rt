@@ -5,8 +5,8 @@ use sharc_word::WordEvent;
 use std::alloc::Allocator;
 use std::collections::LinkedList;
 
-/// The events that one port has made in this round, oldest first, and the words at its beginning. No value of it is made: it occurs in
-/// proofs alone.
+/// The events that one port has made in this round, oldest first, and the words at its beginning. No value of it is
+/// made: it occurs in proofs alone.
 pub struct Part {
     pub number: u64,
     pub words: LinkedList<u64>,

@@ -10,7 +10,8 @@ use sharc_word::WordStep;
 use std::alloc::Allocator;
 use std::marker::Model;
 
-/// The right to make the steps of one port of a bus in a round, with the events that this port has made in it, which take no memory.
+/// The right to make the steps of one port of a bus in a round, with the events that this port has made in it, which
+/// take no memory.
 ///
 /// Contracts see it as a `SeatView`.
 #[derive(Drop)]
@@ -30,7 +31,8 @@ impl Model for BusSeat {
 
     ghost view = { λ s. seat_view s.seat.table_id s.seat.me.0 };
 
-    ghost invariant = { λ s. ((part : Part) × (s.seat.me.0 ≡ part ∷ [])) × (s.seat.me.1 ≡ []) × (s.bit ≡ own_bit (first_number s.seat.me.0)) };
+    ghost invariant = { λ s. ((part : Part) × (s.seat.me.0 ≡ part ∷ [])) × (s.seat.me.1 ≡ [])
+        × (s.bit ≡ own_bit (first_number s.seat.me.0)) };
 }
 
 impl BusSeat {

@@ -14,8 +14,8 @@ use std::alloc::Allocator;
 
 type Words<A> = Shared<(), Parts, Opening<A>, BusLaw>;
 
-// An Or. One of the bits that the checks of this seat's port set leaves the word as it is where they stand, and then it is made as a load:
-// so threads that check the same granule again and again do not write its word.
+// An Or. One of the bits that the checks of this seat's port set leaves the word as it is where they stand, and then it
+// is made as a load: so threads that check the same granule again and again do not write its word.
 #[inline(always)]
 fn make_or<A: Allocator>(
     words: &Words<A>,
@@ -30,7 +30,8 @@ fn make_or<A: Allocator>(
     requires opening { words.now.table_id.words ≡ length words.now.key.words.items }
     requires word { word < words.now.table_id.words }
     ensures own { seat.new.table_id ≡ seat.old.table_id }
-    ensures appended { seat.new.me ≡ (with_step seat.old.me.0 record { word = word; op = Or bits } result, seat.old.me.1) }
+    ensures appended { seat.new.me
+        ≡ (with_step seat.old.me.0 record { word = word; op = Or bits } result, seat.old.me.1) }
 {
     // For the proof that each operation keeps the rule.
     history_laws();
@@ -48,8 +49,8 @@ fn make_or<A: Allocator>(
     words.fetch_or::<Ors>(seat, word as usize, bits)
 }
 
-// One atomic step on a word, which its seat then has at the end of its part. It answers the word that it found. `own` is the bit of the
-// seat's port.
+// One atomic step on a word, which its seat then has at the end of its part. It answers the word that it found. `own`
+// is the bit of the seat's port.
 #[inline(always)]
 pub(crate) fn make_step<A: Allocator>(
     words: &Words<A>,

@@ -18,7 +18,8 @@ pub record IsRefused (m : Assignment) (errors : List ModeError) : Type 0 where
   pub some : ¬ (errors ≡ [])
   pub breaks_rules : ¬ (MeetsRules m)
 
--- it is accepted or refused as it is, and in any case handed back; with the errors comes which variables and globals lock paths name
+-- it is accepted or refused as it is, and in any case handed back; with the errors comes which variables and globals
+-- lock paths name
 abbrev pub Checks : Assignment → Result Assignment CheckFault → Type 0
 Checks m (Ok c) = (c ≡ m) × MeetsRules m
 Checks m (Err (Modes back errors named)) = (back ≡ m) × IsRefused m errors × TellNamed m named

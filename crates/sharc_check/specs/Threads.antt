@@ -12,7 +12,8 @@ function_notes m spawned (Some f) = if spawned then flat_map (parameter_notes m 
 
 abbrev pub global_notes : Bool → Option GlobalDefinition → List Finding
 global_notes touched None = []
-global_notes touched (Some g) = error_where (touched && is_private_level (top_of g.declaration.written.ctype.levels)) PrivateReachesThread g.declaration.written.span g.declaration.name.text
+global_notes touched (Some g) = error_where (touched && is_private_level (top_of g.declaration.written.ctype.levels))
+    PrivateReachesThread g.declaration.written.span g.declaration.name.text
 
 abbrev pub touched_by : Reaching → ℕ → Bool
 touched_by a g = is_some (first_of a g)

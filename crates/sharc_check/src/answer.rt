@@ -50,7 +50,8 @@ impl Model for Checked {
 pub enum CheckFault {
     /// All the cases that arise, by place and then by code, and which variables and globals lock paths name.
     Modes(Moded, ModeErrors, NamedVariables),
-    /// There was not enough memory. It is the answer, too, where there are more functions or globals than a number of 32 bits counts.
+    /// There was not enough memory. It is the answer, too, where there are more functions or globals than a number of
+    /// 32 bits counts.
     Memory(Moded),
 }
 
@@ -95,8 +96,9 @@ fn errors(
     Ok((Listed::of(errors), named))
 }
 
-/// Accepts a program with modes exactly where it meets the rules M1 to M11; else reports all the cases that arise, each once, by place (the first token of
-/// what it is about), then by code, those of one place and code in the order of the constructs. `reached` is what `reach` answers for the program.
+/// Accepts a program with modes exactly where it meets the rules M1 to M11; else reports all the cases that arise, each
+/// once, by place (the first token of what it is about), then by code, those of one place and code in the order of the
+/// constructs. `reached` is what `reach` answers for the program.
 pub fn check(alloc: Global, program: Moded, reached: &Reached) -> Result<Checked, CheckFault>
     requires { AreReached program.typed reached.now }
     ensures { Checks program result }

@@ -1,7 +1,8 @@
-//! The mode checker: one pass that says of each construct what is wrong with its modes, and the cases that arise in order.
+//! The mode checker: one pass that says of each construct what is wrong with its modes, and the cases that arise in
+//! order.
 //!
-//! The layer above may use `check`, `Checked`, `CheckFault` and `NamedVariables`, and, to go over calls and casts as the checker does, `passing` and
-//! `rules`. What is answered is `Checks` of specs/Checks.antt.
+//! The layer above may use `check`, `Checked`, `CheckFault` and `NamedVariables`, and, to go over calls and casts as
+//! the checker does, `passing` and `rules`. What is answered is `Checks` of specs/Checks.antt.
 #![tactic(auto)]
 
 mod answer;

@@ -4,8 +4,8 @@ ghost use Rattle.std.specs.Prelude.{◌≡◌, false, slice_index_or};
 
 use std::marker::Model;
 
-/// Which variables and globals the lock paths of a program name. A contract sees it as a flag for each token that may declare one; there are none for
-/// the tokens past the last that is named.
+/// Which variables and globals the lock paths of a program name. A contract sees it as a flag for each token that may
+/// declare one; there are none for the tokens past the last that is named.
 #[derive(Drop)]
 pub struct NamedVariables {
     flags: Vec<bool>,

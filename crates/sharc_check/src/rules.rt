@@ -9,7 +9,11 @@ ghost use Rattle.sharc_names.specs.View.{view_root};
 ghost use Rattle.sharc_mode.specs.Cells.{cell_at};
 ghost use Rattle.sharc_mode.specs.Expressions.{expected, place_notes};
 ghost use Rattle.sharc_mode.specs.Moded.{position_count};
-ghost use Rattle.sharc_mode.specs.Notes.{error, error_where, mismatch, shown, no_type, span_text, agree_notes, write_notes, cast_notes, taken_variable, takes, source_notes, names_of, names_in, names_in_all, sibling_notes, field_notes, unmet, unmet_in, unmet_level, unmet_written, unmet_parameter, first_unmet, unmet_notes, names_read, parameter_names, names_at_call, call_notes};
+ghost use Rattle.sharc_mode.specs.Notes.{error, error_where, mismatch, shown, no_type, span_text, agree_notes};
+ghost use Rattle.sharc_mode.specs.Notes.{write_notes, cast_notes, taken_variable, takes, source_notes, names_of};
+ghost use Rattle.sharc_mode.specs.Notes.{names_in, names_in_all, sibling_notes, field_notes, unmet, unmet_in};
+ghost use Rattle.sharc_mode.specs.Notes.{unmet_level, unmet_written, unmet_parameter, first_unmet, unmet_notes};
+ghost use Rattle.sharc_mode.specs.Notes.{names_read, parameter_names, names_at_call, call_notes};
 ghost use Rattle.sharc_mode.specs.Rows.{at_call, modes_of, modes_at, cast_row};
 ghost use Rattle.sharc_mode.specs.Sharings.{is_readonly, is_sibling};
 ghost use Rattle.sharc_mode.specs.View.{view_reading, view_row, view_rows, view_sharing, EndsWithin};
@@ -90,7 +94,9 @@ fn differ(
 ) -> Result<(), AllocError>
     requires expected { rows.0.first + rows.0.count ≤ position_count program.now.typed }
     requires found { rows.1.first + rows.1.count ≤ position_count program.now.typed }
-    ensures { OnOk result (notes.new.items ≡ notes.old.items ++ mismatch code span (shown program.now.typed (view_root root.entry) (modes_of program.now (view_row rows.entry.0))) (shown program.now.typed (view_root root.entry) (modes_of program.now (view_row rows.entry.1))) ∷ []) }
+    ensures { OnOk result (notes.new.items ≡ notes.old.items ++ mismatch code span
+        (shown program.now.typed (view_root root.entry) (modes_of program.now (view_row rows.entry.0)))
+        (shown program.now.typed (view_root root.entry) (modes_of program.now (view_row rows.entry.1))) ∷ []) }
 {
     let (expected, found) = rows;
     let expected = shown(alloc, program, root, expected)?;
@@ -108,7 +114,8 @@ pub(crate) fn agree(
     notes: &mut Vec<Finding>,
 ) -> Result<(), AllocError>
     requires { EndsWithin program.now.typed expected }
-    ensures { OnOk result (notes.new.items ≡ notes.old.items ++ agree_notes program.now (option_map (modes_of program.now) (view_rows expected.entry)) (view_expr expr.now)) }
+    ensures { OnOk result (notes.new.items ≡ notes.old.items ++ agree_notes program.now
+        (option_map (modes_of program.now) (view_rows expected.entry)) (view_expr expr.now)) }
 {
     let typed = program.typed();
     match (expected, row_of(typed, expr)) {
@@ -140,7 +147,9 @@ fn readonly(
     place: &Expr,
     notes: &mut Vec<Finding>,
 ) -> Result<(), AllocError>
-    ensures { OnOk result (notes.new.items ≡ notes.old.items ++ error_where (is_readonly (cell_at program.now (view_expr place.now))) code (span_of (view_expr place.now)) (span_text program.now.typed (span_of (view_expr place.now)))) }
+    ensures { OnOk result (notes.new.items
+        ≡ notes.old.items ++ error_where (is_readonly (cell_at program.now (view_expr place.now))) code
+        (span_of (view_expr place.now)) (span_text program.now.typed (span_of (view_expr place.now)))) }
 {
     if is_readonly(cell_of(program, place)) {
         let span = place.span();
@@ -171,7 +180,9 @@ pub(crate) fn cast(
     from: &Expr,
     notes: &mut Vec<Finding>,
 ) -> Result<(), AllocError>
-    ensures { OnOk result (notes.new.items ≡ notes.old.items ++ cast_notes program.now.typed to.now.span to.now.ctype.base (modes_of program.now (cast_row program.now.typed span)) (modes_at program.now (view_expr from.now))) }
+    ensures { OnOk result (notes.new.items
+        ≡ notes.old.items ++ cast_notes program.now.typed to.now.span to.now.ctype.base
+        (modes_of program.now (cast_row program.now.typed span)) (modes_at program.now (view_expr from.now))) }
 {
     let typed = program.typed();
     let _all = program.position_count();
@@ -281,7 +292,8 @@ fn names_in_row(
     notes: &mut Vec<Finding>,
 ) -> Result<(), AllocError>
     requires { row.first + row.count ≤ position_count program.now.typed }
-    ensures { OnOk result (notes.new.items ≡ notes.old.items ++ names_in_all program.now.typed (modes_of program.now (view_row row.entry))) }
+    ensures { OnOk result (notes.new.items
+        ≡ notes.old.items ++ names_in_all program.now.typed (modes_of program.now (view_row row.entry))) }
 {
     let typed = program.typed();
     let _all = program.position_count();
@@ -341,7 +353,8 @@ pub(crate) fn field(
     notes: &mut Vec<Finding>,
 ) -> Result<(), AllocError>
     requires { targets.first + targets.count ≤ position_count program.now.typed }
-    ensures { OnOk result (notes.new.items ≡ notes.old.items ++ field_notes program.now.typed span base (modes_of program.now (view_row targets.entry))) }
+    ensures { OnOk result (notes.new.items
+        ≡ notes.old.items ++ field_notes program.now.typed span base (modes_of program.now (view_row targets.entry))) }
 {
     if any_sibling(program, targets) {
         sibling(alloc, program.typed(), span, base, notes)
@@ -352,7 +365,8 @@ pub(crate) fn field(
 
 /// A path whose argument is no constant variable.
 fn unmet<'a>(typed: &Typed, passing: Passing<'_>, s: Sharing<'a>) -> Option<Lock<'a>>
-    ensures { view_locks result ≡ unmet typed.now passing.entry.parameters.now (view_passed passing.entry.passed) (view_sharing s.entry) }
+    ensures { view_locks result
+        ≡ unmet typed.now passing.entry.parameters.now (view_passed passing.entry.passed) (view_sharing s.entry) }
 {
     match s {
         Sharing::Locked(lock) => match path_variable(typed, lock) {
@@ -381,7 +395,8 @@ fn or_else<'a>(first: Option<Lock<'a>>, second: Option<Lock<'a>>) -> Option<Lock
 /// The first of them in the source, where the deepest target comes first.
 fn unmet_in<'a>(program: &'a Moded, passing: Passing<'_>, row: Targets<'a>) -> Option<Lock<'a>>
     requires { row.first + row.count ≤ position_count program.now.typed }
-    ensures { view_locks result ≡ unmet_in program.now.typed passing.entry.parameters.now (view_passed passing.entry.passed) (modes_of program.now (view_row row.entry)) }
+    ensures { view_locks result ≡ unmet_in program.now.typed passing.entry.parameters.now
+        (view_passed passing.entry.passed) (modes_of program.now (view_row row.entry)) }
 {
     let typed = program.typed();
     let _all = program.position_count();
@@ -396,7 +411,8 @@ fn unmet_in<'a>(program: &'a Moded, passing: Passing<'_>, row: Targets<'a>) -> O
 }
 
 fn unmet_level<'a>(typed: &Typed, passing: Passing<'_>, level: &'a Option<Mode>) -> Option<Lock<'a>>
-    ensures { view_locks result ≡ unmet_level typed.now passing.entry.parameters.now (view_passed passing.entry.passed) level.now }
+    ensures { view_locks result
+        ≡ unmet_level typed.now passing.entry.parameters.now (view_passed passing.entry.passed) level.now }
 {
     match level {
         None => None,
@@ -410,7 +426,8 @@ fn unmet_written<'a>(
     passing: Passing<'_>,
     levels: &'a [Option<Mode>],
 ) -> Option<Lock<'a>>
-    ensures { view_locks result ≡ unmet_written typed.now passing.entry.parameters.now (view_passed passing.entry.passed) levels.now }
+    ensures { view_locks result
+        ≡ unmet_written typed.now passing.entry.parameters.now (view_passed passing.entry.passed) levels.now }
 {
     match levels {
         [] => None,
@@ -427,7 +444,8 @@ fn unmet_parameter<'a>(
     passing: Passing<'_>,
     parameter: &'a Declaration,
 ) -> Option<Lock<'a>>
-    ensures { view_locks result ≡ unmet_parameter program.now passing.entry.parameters.now (view_passed passing.entry.passed) parameter.now }
+    ensures { view_locks result
+        ≡ unmet_parameter program.now passing.entry.parameters.now (view_passed passing.entry.passed) parameter.now }
 {
     let typed = program.typed();
     let row = declared_row(typed, Reading::Written, parameter.name.site.token);
@@ -439,7 +457,8 @@ fn unmet_parameter<'a>(
 }
 
 fn first_unmet<'a>(program: &'a Moded, passing: Passing<'a>) -> Option<Lock<'a>>
-    ensures { view_locks result ≡ first_unmet program.now passing.entry.parameters.now (view_passed passing.entry.passed) passing.entry.parameters.now }
+    ensures { view_locks result ≡ first_unmet program.now passing.entry.parameters.now
+        (view_passed passing.entry.passed) passing.entry.parameters.now }
 {
     for parameter in passing.parameters {
         let lock = unmet_parameter(program, passing, parameter);
@@ -473,7 +492,8 @@ fn name_read(
     level: &Option<Mode>,
     notes: &mut Vec<Finding>,
 ) -> Result<(), AllocError>
-    ensures { OnOk result (notes.new.items ≡ notes.old.items ++ names_read typed.now (view_reading reading.entry) level.now) }
+    ensures { OnOk result (notes.new.items
+        ≡ notes.old.items ++ names_read typed.now (view_reading reading.entry) level.now) }
 {
     match level {
         None => Ok(()),
@@ -488,7 +508,8 @@ fn names_read(
     levels: &[Option<Mode>],
     notes: &mut Vec<Finding>,
 ) -> Result<(), AllocError>
-    ensures { OnOk result (notes.new.items ≡ notes.old.items ++ flat_map (names_read typed.now (view_reading reading.entry)) levels.now) }
+    ensures { OnOk result (notes.new.items
+        ≡ notes.old.items ++ flat_map (names_read typed.now (view_reading reading.entry)) levels.now) }
 {
     for level in levels {
         name_read(typed, reading, level, notes)?;
@@ -503,7 +524,8 @@ fn parameter_names(
     parameter: &Declaration,
     notes: &mut Vec<Finding>,
 ) -> Result<(), AllocError>
-    ensures { OnOk result (notes.new.items ≡ notes.old.items ++ parameter_names program.now (at_call passing.entry.parameters.now (view_passed passing.entry.passed)) parameter.now) }
+    ensures { OnOk result (notes.new.items ≡ notes.old.items ++ parameter_names program.now
+        (at_call passing.entry.parameters.now (view_passed passing.entry.passed)) parameter.now) }
 {
     let typed = program.typed();
     let row = declared_row(typed, passing.reading(), parameter.name.site.token);
@@ -518,7 +540,8 @@ fn names_at_call(
     passing: Passing<'_>,
     notes: &mut Vec<Finding>,
 ) -> Result<(), AllocError>
-    ensures { OnOk result (notes.new.items ≡ notes.old.items ++ names_at_call program.now passing.entry.parameters.now (view_passed passing.entry.passed) passing.entry.parameters.now) }
+    ensures { OnOk result (notes.new.items ≡ notes.old.items ++ names_at_call program.now passing.entry.parameters.now
+        (view_passed passing.entry.passed) passing.entry.parameters.now) }
 {
     for parameter in passing.parameters {
         parameter_names(program, passing, parameter, notes)?;
@@ -534,7 +557,8 @@ pub(crate) fn call(
     passing: Passing<'_>,
     notes: &mut Vec<Finding>,
 ) -> Result<(), AllocError>
-    ensures { OnOk result (notes.new.items ≡ notes.old.items ++ call_notes program.now span passing.entry.parameters.now (view_passed passing.entry.passed)) }
+    ensures { OnOk result (notes.new.items ≡ notes.old.items
+        ++ call_notes program.now span passing.entry.parameters.now (view_passed passing.entry.passed)) }
 {
     said_unmet(
         alloc,
@@ -552,7 +576,8 @@ pub fn expected<'a>(
     passing: Passing<'a>,
     left: &[Declaration],
 ) -> Option<Targets<'a>>
-    ensures row { option_map (modes_of program.now) (view_rows result) ≡ expected program.now passing.entry.parameters.now (view_passed passing.entry.passed) left.now }
+    ensures row { option_map (modes_of program.now) (view_rows result)
+        ≡ expected program.now passing.entry.parameters.now (view_passed passing.entry.passed) left.now }
     ensures within { EndsWithin program.now.typed result }
 {
     match left {

@@ -2,8 +2,11 @@
 
 ghost use Rattle.std.specs.Prelude.{◌≡◌, ◌++◌, OnOk};
 ghost use Rattle.std.specs.Option.{option_map};
-ghost use Rattle.sharc_tree.specs.View.{view_expr, view_option, view_right, view_simple, view_local, view_first, view_head, view_stmt, view_statements, view_item, view_items};
-ghost use Rattle.sharc_mode.specs.Expressions.{notes_of, option_notes, right_notes, simple_notes, local_notes, return_notes, first_notes, head_notes, notes_in, notes_in_all, item_notes, items_notes};
+ghost use Rattle.sharc_tree.specs.View.{view_expr, view_option, view_right, view_simple, view_local, view_first};
+ghost use Rattle.sharc_tree.specs.View.{view_head, view_stmt, view_statements, view_item, view_items};
+ghost use Rattle.sharc_mode.specs.Expressions.{notes_of, option_notes, right_notes, simple_notes, local_notes};
+ghost use Rattle.sharc_mode.specs.Expressions.{return_notes, first_notes, head_notes, notes_in, notes_in_all};
+ghost use Rattle.sharc_mode.specs.Expressions.{item_notes, items_notes};
 ghost use Rattle.sharc_mode.specs.Rows.{modes_of};
 ghost use Rattle.sharc_mode.specs.View.{view_rows, EndsWithin};
 
@@ -21,7 +24,8 @@ fn optional(
     expr: &Option<Expr>,
     notes: &mut Vec<Finding>,
 ) -> Result<(), AllocError>
-    ensures { OnOk result (notes.new.items ≡ notes.old.items ++ option_notes (notes_of program.now) (view_option view_expr expr.now)) }
+    ensures { OnOk result (notes.new.items
+        ≡ notes.old.items ++ option_notes (notes_of program.now) (view_option view_expr expr.now)) }
 {
     match expr {
         None => Ok(()),
@@ -38,7 +42,8 @@ fn right(
     notes: &mut Vec<Finding>,
 ) -> Result<(), AllocError>
     requires { EndsWithin program.now.typed want }
-    ensures { OnOk result (notes.new.items ≡ notes.old.items ++ right_notes program.now (option_map (modes_of program.now) (view_rows want.entry)) (view_right right.now)) }
+    ensures { OnOk result (notes.new.items ≡ notes.old.items
+        ++ right_notes program.now (option_map (modes_of program.now) (view_rows want.entry)) (view_right right.now)) }
 {
     match right {
         Right::Value(expr) => {
@@ -75,7 +80,8 @@ fn initial(
     notes: &mut Vec<Finding>,
 ) -> Result<(), AllocError>
     requires { EndsWithin program.now.typed want }
-    ensures { OnOk result (notes.new.items ≡ notes.old.items ++ option_notes (right_notes program.now (option_map (modes_of program.now) (view_rows want.entry))) (view_option view_right value.now)) }
+    ensures { OnOk result (notes.new.items ≡ notes.old.items ++ option_notes (right_notes program.now
+        (option_map (modes_of program.now) (view_rows want.entry))) (view_option view_right value.now)) }
 {
     match value {
         None => Ok(()),
@@ -117,7 +123,8 @@ fn step(
     step: &Option<Simple>,
     notes: &mut Vec<Finding>,
 ) -> Result<(), AllocError>
-    ensures { OnOk result (notes.new.items ≡ notes.old.items ++ option_notes (simple_notes program.now) (view_option view_simple step.now)) }
+    ensures { OnOk result (notes.new.items
+        ≡ notes.old.items ++ option_notes (simple_notes program.now) (view_option view_simple step.now)) }
 {
     match step {
         None => Ok(()),
@@ -146,7 +153,8 @@ fn returned(
     value: &Option<Box<Expr>>,
     notes: &mut Vec<Finding>,
 ) -> Result<(), AllocError>
-    ensures { OnOk result (notes.new.items ≡ notes.old.items ++ option_notes (return_notes program.now function) (view_option (λ b. view_expr b.value) value.now)) }
+    ensures { OnOk result (notes.new.items ≡ notes.old.items
+        ++ option_notes (return_notes program.now function) (view_option (λ b. view_expr b.value) value.now)) }
 {
     match value {
         None => Ok(()),
@@ -210,7 +218,8 @@ fn statements(
     all: &[Stmt],
     notes: &mut Vec<Finding>,
 ) -> Result<(), AllocError>
-    ensures { OnOk result (notes.new.items ≡ notes.old.items ++ notes_in_all program.now function (view_statements all.now)) }
+    ensures { OnOk result (notes.new.items
+        ≡ notes.old.items ++ notes_in_all program.now function (view_statements all.now)) }
 {
     for stmt in all {
         statement(alloc, program, function, stmt, notes)?;

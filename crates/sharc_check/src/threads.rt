@@ -66,7 +66,8 @@ fn parameters(
     all: &[Declaration],
     notes: &mut Vec<Finding>,
 ) -> Result<(), AllocError>
-    ensures { OnOk result (notes.new.items ≡ notes.old.items ++ flat_map (parameter_notes program.now name.now) all.now) }
+    ensures { OnOk result (notes.new.items
+        ≡ notes.old.items ++ flat_map (parameter_notes program.now name.now) all.now) }
 {
     for of in all {
         parameter(alloc, program, name, of, notes)?;
@@ -81,7 +82,8 @@ fn function(
     of: Option<&FunctionDefinition>,
     notes: &mut Vec<Finding>,
 ) -> Result<(), AllocError>
-    ensures { OnOk result (notes.new.items ≡ notes.old.items ++ function_notes program.now spawned (option_map (λ f. view_function f.now) of.entry)) }
+    ensures { OnOk result (notes.new.items
+        ≡ notes.old.items ++ function_notes program.now spawned (option_map (λ f. view_function f.now) of.entry)) }
 {
     match of {
         None => Ok(()),
@@ -109,7 +111,8 @@ pub(crate) fn spawned(
     notes: &mut Vec<Finding>,
 ) -> Result<(), AllocError>
     requires { AreReached program.now.typed reached.now }
-    ensures { OnOk result (notes.new.items ≡ notes.old.items ++ spawned_notes program.now 0 (functions_in program.now.typed.program.items)) }
+    ensures { OnOk result (notes.new.items
+        ≡ notes.old.items ++ spawned_notes program.now 0 (functions_in program.now.typed.program.items)) }
 {
     spawned_are_told();
     let typed = program.typed();
@@ -168,7 +171,8 @@ pub(crate) fn touched(
     notes: &mut Vec<Finding>,
 ) -> Result<(), AllocError>
     requires { length reached.now.firsts ≡ length (globals_in program.now.typed.program.items) }
-    ensures { OnOk result (notes.new.items ≡ notes.old.items ++ touched_notes (touched_by reached.now) 0 (globals_in program.now.typed.program.items)) }
+    ensures { OnOk result (notes.new.items
+        ≡ notes.old.items ++ touched_notes (touched_by reached.now) 0 (globals_in program.now.typed.program.items)) }
 {
     let typed = program.typed();
     let count = typed.global_count();

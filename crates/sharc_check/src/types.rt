@@ -4,7 +4,8 @@ ghost use Rattle.std.specs.Prelude.{◌≡◌, ◌+◌, ◌≤◌, ◌++◌, OnO
 ghost use Rattle.std.specs.List.{flat_map, list_any};
 ghost use Rattle.sharc_ctype.specs.Entities.{entities_in, numbered, positions_of};
 ghost use Rattle.sharc_mode.specs.Moded.{position_count};
-ghost use Rattle.sharc_mode.specs.Notes.{levels_of, private_notes, path_notes, mode_notes, is_private_level, is_field_role, private_field_notes, names_in_level, type_notes};
+ghost use Rattle.sharc_mode.specs.Notes.{levels_of, private_notes, path_notes, mode_notes, is_private_level};
+ghost use Rattle.sharc_mode.specs.Notes.{is_field_role, private_field_notes, names_in_level, type_notes};
 ghost use Rattle.sharc_mode.specs.WellFormed.{place_of, holds_private, first_unfit_path, first_unfit_mode};
 ghost use Rattle.sharc_check.specs.Levels.{is_shared_top, holds_below};
 
@@ -94,7 +95,9 @@ fn path(
     numbered: &Numbered,
     notes: &mut Vec<Finding>,
 ) -> Result<(), AllocError>
-    ensures { OnOk result (notes.new.items ≡ notes.old.items ++ path_notes numbered.now.entity.written.span (first_unfit_path typed.now (place_of numbered.now.entity.role) numbered.now.entity.written.ctype.base numbered.now.entity.written.ctype.levels)) }
+    ensures { OnOk result (notes.new.items ≡ notes.old.items
+        ++ path_notes numbered.now.entity.written.span (first_unfit_path typed.now (place_of numbered.now.entity.role)
+        numbered.now.entity.written.ctype.base numbered.now.entity.written.ctype.levels)) }
 {
     let place = place_of(numbered.entity.role);
     let written = &numbered.entity.written;
@@ -111,7 +114,9 @@ fn path(
 
 /// M5
 fn mode(alloc: Global, numbered: &Numbered, notes: &mut Vec<Finding>) -> Result<(), AllocError>
-    ensures { OnOk result (notes.new.items ≡ notes.old.items ++ mode_notes numbered.now.entity.written.span (first_unfit_mode (place_of numbered.now.entity.role) numbered.now.entity.written.ctype.base numbered.now.entity.written.ctype.levels)) }
+    ensures { OnOk result (notes.new.items ≡ notes.old.items
+        ++ mode_notes numbered.now.entity.written.span (first_unfit_mode (place_of numbered.now.entity.role)
+        numbered.now.entity.written.ctype.base numbered.now.entity.written.ctype.levels)) }
 {
     let place = place_of(numbered.entity.role);
     let written = &numbered.entity.written;
@@ -224,7 +229,8 @@ pub(crate) fn types(
     program: &Moded,
     notes: &mut Vec<Finding>,
 ) -> Result<(), AllocError>
-    ensures { OnOk result (notes.new.items ≡ notes.old.items ++ flat_map (type_notes program.now) (numbered (entities_in program.now.typed.program.items))) }
+    ensures { OnOk result (notes.new.items ≡ notes.old.items
+        ++ flat_map (type_notes program.now) (numbered (entities_in program.now.typed.program.items))) }
 {
     let typed = program.typed();
     for numbered in typed.entities() {

@@ -1,5 +1,6 @@
 -- Which lists of words are a command.
-use Rattle.std.specs.Prelude.{ℕ, Bool, true, false, ◌&&◌, ◌==◌, nat_le, if◌then◌else◌, List, [], ◌∷◌, ◌++◌, length, fold, find, codes, Option, Some, None, option_map, option_and_then}
+use Rattle.std.specs.Prelude.{ℕ, Bool, true, false, ◌&&◌, ◌==◌, nat_le, if◌then◌else◌, List, [], ◌∷◌, ◌++◌, length}
+use Rattle.std.specs.Prelude.{fold, find, codes, Option, Some, None, option_map, option_and_then}
 use Rattle.std.specs.{List.{list_any, before_first, after_first}, Str.{bytes_eq, all_ascii_digits}}
 use Rattle.std.specs.Str.Parse.{digits_value}
 use Rattle.sharc_cli.specs.declared.command.Command.{Command}
@@ -16,7 +17,9 @@ is_number w = nat_le 1 (length w) && (nat_le (length w) 20 && all_ascii_digits w
 
 -- the number that the word writes, where it lies within the bounds
 abbrev pub number_in : ℕ → ℕ → Word → Option ℕ
-number_in low high w = if is_number w && (nat_le low (digits_value 10 w) && nat_le (digits_value 10 w) high) then Some (digits_value 10 w) else None
+number_in low high w =
+    if is_number w && (nat_le low (digits_value 10 w) && nat_le (digits_value 10 w) high) then Some (digits_value 10 w)
+    else None
 
 -- the number of an option, which may be left out
 abbrev pub number_or : ℕ → ℕ → ℕ → Option Word → Option ℕ
@@ -38,7 +41,8 @@ abbrev pub is_equals : ℕ → Bool
 is_equals x = x == 61
 
 abbrev pub name_and_value : Word → Word × Option Word
-name_and_value text = (before_first is_equals text, if list_any is_equals text then Some (after_first is_equals text) else None)
+name_and_value text =
+    (before_first is_equals text, if list_any is_equals text then Some (after_first is_equals text) else None)
 
 -- `--name` or `--name=value`: the name, and the value where there is one
 abbrev pub option_of : Word → Option (Word × Option Word)
@@ -112,9 +116,17 @@ abbrev pub forms : List Form
 forms =
     record { name = codes "check"; options = []; has_number = false }
     ∷ record { name = codes "explain"; options = []; has_number = false }
-    ∷ record { name = codes "run"; options = codes "workers" ∷ codes "granules" ∷ codes "events" ∷ codes "seed" ∷ []; has_number = false }
+    ∷ record {
+      name = codes "run";
+      options = codes "workers" ∷ codes "granules" ∷ codes "events" ∷ codes "seed" ∷ [];
+      has_number = false;
+    }
     ∷ record { name = codes "load"; options = codes "workers" ∷ []; has_number = true }
-    ∷ record { name = codes "record"; options = codes "workers" ∷ codes "granules" ∷ codes "events" ∷ []; has_number = false }
+    ∷ record {
+      name = codes "record";
+      options = codes "workers" ∷ codes "granules" ∷ codes "events" ∷ [];
+      has_number = false;
+    }
     ∷ record { name = codes "replay"; options = []; has_number = false }
     ∷ record { name = codes "audit"; options = []; has_number = false }
     ∷ []

@@ -1,5 +1,6 @@
 -- The command line as clap's command.
-use Rattle.std.specs.Prelude.{◌≡◌, option_and_then, option_map, Option, Bool, true, false, ◌&&◌, ◌==◌, nat_lt, length, slice_index, if◌then◌else◌, List, [], ◌∷◌, ◌++◌, map, codes, Some, None}
+use Rattle.std.specs.Prelude.{◌≡◌, option_and_then, option_map, Option, Bool, true, false, ◌&&◌, ◌==◌, nat_lt, length}
+use Rattle.std.specs.Prelude.{slice_index, if◌then◌else◌, List, [], ◌∷◌, ◌++◌, map, codes, Some, None}
 use Rattle.std.specs.Borrow.{Bor}
 use Rattle.clap.specs.declared.builder.command.Command.{Command as ClapCommand}
 use Rattle.clap.specs.declared.builder.command.Command.TheViews.{out-Command as fields_of}
@@ -24,7 +25,12 @@ is_plain w = if nat_lt 0 (length w) && slice_index w 0 == 45 then nat_lt 2 (leng
 -- no help and no version
 abbrev pub bare_line : App
 bare_line = record (new_app (codes "sharc")) {
-  top = record (new_shape (codes "sharc")) { no_binary_name = true; disable_help_flag = true; disable_help_subcommand = true; disable_version_flag = true };
+  top = record (new_shape (codes "sharc")) {
+    no_binary_name = true;
+    disable_help_flag = true;
+    disable_help_subcommand = true;
+    disable_version_flag = true;
+  };
 }
 
 -- with seven subcommands
@@ -56,7 +62,8 @@ pub record IsSubcommand (c : ClapCommand) (name : Text) (number : Option Text) (
 -- ---- what is read from the matches
 
 -- the values behind references
-abbrev pub seen : Option (Bor Text) → Option (Bor Text) → Option (Bor Text) → Option (Bor Text) → Option (Bor Text) → Values
+abbrev pub seen : Option (Bor Text) → Option (Bor Text) → Option (Bor Text) → Option (Bor Text) → Option (Bor Text)
+    → Values
 seen number workers granules events seed = record {
   number = option_map (λ s. s.now) number;
   workers = option_map (λ s. s.now) workers;

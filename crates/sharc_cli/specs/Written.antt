@@ -1,6 +1,8 @@
--- The commands once more, by how they are written: a command's name, and after it its arguments in any order, each once.
+-- The commands once more, by how they are written: a command's name, and after it its arguments in any order, each
+-- once.
 use Rattle.std.specs.{Prelude.{◌≡◌, true, false, List, [], ◌∷◌, ◌++◌, map, find, codes, Option, Some}, Str.bytes_eq}
-use Rattle.sharc_cli.specs.Commands.{Word, Form, Entry, forms, number, has, has_hyphen, is_option, command_of, values_of}
+use Rattle.sharc_cli.specs.Commands.{Word, Form, Entry, forms, number, has, has_hyphen, is_option, command_of}
+use Rattle.sharc_cli.specs.Commands.{values_of}
 use Rattle.sharc_cli.specs.declared.command.Command.{Command}
 
 -- the number of a command by itself, `--name value`, or `--name=value`
@@ -24,7 +26,8 @@ entry_of (alone value) = (number, value)
 entry_of (apart name value) = (name, value)
 entry_of (joined name value) = (name, value)
 
--- A command takes its options, and a number by itself if it has one. A value that is a word of its own does not begin with a hyphen.
+-- A command takes its options, and a number by itself if it has one. A value that is a word of its own does not begin
+-- with a hyphen.
 abbrev pub Takes : Form → Argument → Type 0
 Takes f (alone value) = (f.has_number ≡ true) × (has_hyphen value ≡ false)
 Takes f (apart name value) = (is_option f name ≡ true) × (has_hyphen value ≡ false)

@@ -6,7 +6,8 @@ ghost use Rattle.sharc_cli.specs.Commands.{Word, commands};
 ghost use Rattle.sharc_cli.specs.Written.{IsCommand};
 ghost use Rattle.sharc_cli.specs.declared.command.Command.{Command};
 
-/// Words are a command exactly where they are its name and, after it, the words of its arguments in some order, each once.
+/// Words are a command exactly where they are its name and, after it, the words of its arguments in some order, each
+/// once.
 pub fn commands_are_written()
     ensures { (words : List Word) → (command : Command) → (commands words ≡ Some command) ↔ IsCommand words command }
 {}

@@ -58,7 +58,8 @@ fn subcommand<'a>(
     number: Option<&'a str>,
     options: &[&'a str],
 ) -> Result<clap::Command<'a>, AllocError>
-    ensures { IfOk result (λ c. IsSubcommand c name.entry.now (option_map (λ n. n.now) number.entry) (map (λ s. s.now) options.now)) }
+    ensures { IfOk result
+        (λ c. IsSubcommand c name.entry.now (option_map (λ n. n.now) number.entry) (map (λ s. s.now) options.now)) }
 {
     let mut command = opened(alloc, name, number)?;
     for option in options {
@@ -75,7 +76,8 @@ fn with_subcommand<'a>(
     number: Option<&'a str>,
     options: &[&'a str],
 ) -> Result<clap::Command<'a>, AllocError>
-    ensures { IfOk result (λ c. app_of c ≡ with_form (app_of line.entry) name.entry.now (option_map (λ n. n.now) number.entry) (map (λ s. s.now) options.now)) }
+    ensures { IfOk result (λ c. app_of c ≡ with_form (app_of line.entry) name.entry.now
+        (option_map (λ n. n.now) number.entry) (map (λ s. s.now) options.now)) }
 {
     line.subcommand(subcommand(alloc, name, number, options)?)
 }

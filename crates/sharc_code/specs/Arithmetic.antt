@@ -1,11 +1,14 @@
 -- What operators make of integers, and where they stop.
-use Rattle.std.specs.Prelude.{ℕ, ℤ, pos, negsuc, zero, suc, ◌+◌, ◌^◌, ◌+ℤ◌, ◌-ℤ◌, ◌*ℤ◌, neg_ℤ, Bool, true, false, not, ◌&&◌, Result, Ok, Err, nat_lt, int_lt, int_le, int_div, int_rem, if◌then◌else◌}
+use Rattle.std.specs.Prelude.{ℕ, ℤ, pos, negsuc, zero, suc, ◌+◌, ◌^◌, ◌+ℤ◌, ◌-ℤ◌, ◌*ℤ◌, neg_ℤ, Bool, true, false, not}
+use Rattle.std.specs.Prelude.{◌&&◌, Result, Ok, Err, nat_lt, int_lt, int_le, int_div, int_rem, if◌then◌else◌}
 use Rattle.std.specs.Int.{w64, cast_unsigned, cast_signed, int_bit_and, int_bit_or, int_bit_xor, int_bit_not, int_shr}
 use Rattle.sharc_tree.specs.declared.trap.Trap.{Trap}
 use Rattle.sharc_tree.specs.declared.trap.Trap.TheVariants as traps
 use Rattle.sharc_code.specs.{declared.instr.Width.Width, declared.instr.Width.TheVariants.{Char, Int, Long}}
 use Rattle.sharc_code.specs.declared.instr.Operator.{Operator}
-use Rattle.sharc_code.specs.declared.instr.Operator.TheVariants.{Add, Subtract, Multiply, Divide, Remainder, ShiftLeft, ShiftRight, And, Or, Xor, Equal, NotEqual, Less, Greater, AtMost, AtLeast}
+use Rattle.sharc_code.specs.declared.instr.Operator.TheVariants.{Add, Subtract, Multiply, Divide, Remainder, ShiftLeft}
+use Rattle.sharc_code.specs.declared.instr.Operator.TheVariants.{ShiftRight, And, Or, Xor, Equal, NotEqual, Less}
+use Rattle.sharc_code.specs.declared.instr.Operator.TheVariants.{Greater, AtMost, AtLeast}
 
 -- an integer as a word, and a word as an integer
 abbrev pub word_of : ℤ → ℕ
@@ -41,7 +44,9 @@ in_range width z = if holds width z then Ok z else Err traps.OutOfRange
 
 -- a trap where the divisor is 0, or the type does not hold the quotient
 abbrev pub divided : Width → ℤ → ℤ → ℤ → Result ℤ Trap
-divided width a b result = if is_zero b then Err traps.DivisionByZero else (if holds width (int_div a b) then Ok result else Err traps.OutOfRange)
+divided width a b result =
+    if is_zero b then Err traps.DivisionByZero
+    else (if holds width (int_div a b) then Ok result else Err traps.OutOfRange)
 
 -- a trap where the count is none of the bits of the type
 abbrev pub shifted : Width → ℤ → (ℕ → Result ℤ Trap) → Result ℤ Trap

@@ -3,12 +3,23 @@ use Rattle.std.specs.{Prelude.{ℕ, List, [], ◌∷◌, ◌++◌, codes, decima
 use Rattle.sharc_code.specs.{declared.code.Code.Code, declared.instr.Width.Width}
 use Rattle.sharc_code.specs.declared.instr.Width.TheVariants.{Char, Int as IntWidth, Long}
 use Rattle.sharc_code.specs.declared.instr.Operator.{Operator}
-use Rattle.sharc_code.specs.declared.instr.Operator.TheVariants.{Add, Subtract, Multiply, Divide, Remainder, ShiftLeft, ShiftRight, And, Or, Xor, Equal, NotEqual, Less, Greater, AtMost, AtLeast}
+use Rattle.sharc_code.specs.declared.instr.Operator.TheVariants.{Add, Subtract, Multiply, Divide, Remainder, ShiftLeft}
+use Rattle.sharc_code.specs.declared.instr.Operator.TheVariants.{ShiftRight, And, Or, Xor, Equal, NotEqual, Less}
+use Rattle.sharc_code.specs.declared.instr.Operator.TheVariants.{Greater, AtMost, AtLeast}
 use Rattle.sharc_code.specs.declared.instr.Cell.{Cell}
 use Rattle.sharc_code.specs.declared.instr.Cell.TheVariants.{Global, GlobalAt, Object, ObjectAt}
 use Rattle.sharc_code.specs.{declared.instr.Register.Register, declared.instr.Register.TheVariants.{Int, Reference}}
 use Rattle.sharc_code.specs.declared.instr.Instr.{Instr}
-use Rattle.sharc_code.specs.declared.instr.Instr.TheVariants.{Constant, Move, MoveReference, Null, ComputeInt, ComputeLong, NegateInt, NegateLong, Complement, Not, SameReference, ChkWidth, Jump, JumpIfZero, JumpIfNull, Call, Return, ChkNull, ChkHeld, ChkNotHeld, ChkPositive, ChkRoom, ChkLock, ChkLockLoaded, Bounds, GlobalBounds, ChkRead, ChkWrite, Load, Store, LoadRef, Exchange, Raise, RaiseLoaded, Lower, New, TakeCell, TakeLocal, TestSole, Clear, Give, Free, Lock, Unlock, Spawn, Join, Print, Start, Exit, CondEnter, CondWait, CondSignal, CondBroadcast}
+use Rattle.sharc_code.specs.declared.instr.Instr.TheVariants.{Constant, Move, MoveReference, Null, ComputeInt}
+use Rattle.sharc_code.specs.declared.instr.Instr.TheVariants.{ComputeLong, NegateInt, NegateLong, Complement, Not}
+use Rattle.sharc_code.specs.declared.instr.Instr.TheVariants.{SameReference, ChkWidth, Jump, JumpIfZero, JumpIfNull}
+use Rattle.sharc_code.specs.declared.instr.Instr.TheVariants.{Call, Return, ChkNull, ChkHeld, ChkNotHeld, ChkPositive}
+use Rattle.sharc_code.specs.declared.instr.Instr.TheVariants.{ChkRoom, ChkLock, ChkLockLoaded, Bounds, GlobalBounds}
+use Rattle.sharc_code.specs.declared.instr.Instr.TheVariants.{ChkRead, ChkWrite, Load, Store, LoadRef, Exchange, Raise}
+use Rattle.sharc_code.specs.declared.instr.Instr.TheVariants.{RaiseLoaded, Lower, New, TakeCell, TakeLocal, TestSole}
+use Rattle.sharc_code.specs.declared.instr.Instr.TheVariants.{Clear, Give, Free, Lock, Unlock, Spawn, Join, Print}
+use Rattle.sharc_code.specs.declared.instr.Instr.TheVariants.{Start, Exit, CondEnter, CondWait, CondSignal}
+use Rattle.sharc_code.specs.declared.instr.Instr.TheVariants.{CondBroadcast}
 use Rattle.sharc_code.specs.declared.lines.Operand.{Operand}
 use Rattle.sharc_code.specs.declared.lines.Operand.TheVariants.{Index, Value, InCell, OfRegister, By, Fits}
 

@@ -13,9 +13,11 @@ first_heap s = first_global s + 2 * s.globals
 
 abbrev pub opening_cell : Code → Shape → ℕ → ℕ
 opening_cell code s word =
-    if nat_le (first_global s) word && nat_lt word (first_heap s) then slice_index code.initial.items (word - first_global s) else 0
+    if nat_le (first_global s) word && nat_lt word (first_heap s)
+    then slice_index code.initial.items (word - first_global s) else 0
 
--- what a word holds at first: the top, the next thread, the state and the function of thread 0, the globals' cells, and else 0
+-- what a word holds at first: the top, the next thread, the state and the function of thread 0, the globals' cells, and
+-- else 0
 abbrev pub opens_with : Code → Shape → ℕ → ℕ
 opens_with code s word =
     if word == top_word then 1 + s.globals

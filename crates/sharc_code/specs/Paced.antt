@@ -6,7 +6,8 @@ use Rattle.sharc_granule.specs.{declared.stage.Stage.{Stage as NewStage}, declar
 use Rattle.sharc_granule.specs.State.{turn_of}
 use Rattle.sharc_code.specs.{declared.code.Code.Code, declared.shape.Shape.Shape, declared.state.State.State}
 use Rattle.sharc_code.specs.{declared.state.State.TheVariants.Tries, declared.state.Stage.Stage}
-use Rattle.sharc_code.specs.declared.state.Stage.TheVariants.{Looks, Clears, Makes, Empties, Lowers, FreeLooks, FreeClears, Withdraws, WithdrawsFrom, Wakes}
+use Rattle.sharc_code.specs.declared.state.Stage.TheVariants.{Looks, Clears, Makes, Empties, Lowers, FreeLooks}
+use Rattle.sharc_code.specs.declared.state.Stage.TheVariants.{FreeClears, Withdraws, WithdrawsFrom, Wakes}
 use Rattle.sharc_code.specs.{Machine.Machine, Path.{turn, after, machine_after}}
 
 abbrev pub is_failed_try : State → Bool
@@ -27,7 +28,8 @@ abbrev pub clears_cell : NewStage → Bool
 clears_cell (Cell cell) = true
 clears_cell _ = false
 
--- a failed Cas of a New or of a CondSignal, or one repetition of a New, Clear, Free or Exit over cells or granules, with the failed Cas of Exit
+-- a failed Cas of a New or of a CondSignal, or one repetition of a New, Clear, Free or Exit over cells or granules,
+-- with the failed Cas of Exit
 abbrev pub repeats : Stage → ℕ → Bool
 repeats (Makes state) found = clears_cell state.stage || fails_in_new (turn_of state) found
 repeats (Wakes seen) found = not (found == seen)

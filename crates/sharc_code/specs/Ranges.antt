@@ -35,8 +35,8 @@ pub record GlobalsFit (globals : List GlobalCells) (granules : ℕ) : Type 0 whe
   pub apart : (g h : ℕ) → g < h → h < length globals → end_place globals g ≤ first_place globals h
 
 -- ---- a code
--- its frames and globals fit, its numbers name what there is, what its globals hold at first are words, and no index into a global
--- passes what a register holds
+-- its frames and globals fit, its numbers name what there is, what its globals hold at first are words, and no index
+-- into a global passes what a register holds
 pub record NumbersFit (code : Code) : Type 0 where
   pub frames : FramesFit code.functions.items
   pub functions : length code.functions.items < 2 ^ 32
@@ -44,8 +44,10 @@ pub record NumbersFit (code : Code) : Type 0 where
   pub few : code.granules ≤ 65536
   pub globals : GlobalsFit code.globals.items code.granules
   pub words : (j : ℕ) → slice_index code.initial.items j < 2 ^ 64
-  pub spawned : (pc to function site : ℕ) (from : Register) → instr_at code pc ≡ Spawn to function from site → function < length code.functions.items
-  pub indexes : (pc of elements cells field site : ℕ) → instr_at code pc ≡ GlobalBounds of elements cells field site → elements * cells + field < 2 ^ 63
+  pub spawned : (pc to function site : ℕ) (from : Register) → instr_at code pc ≡ Spawn to function from site
+      → function < length code.functions.items
+  pub indexes : (pc of elements cells field site : ℕ) → instr_at code pc ≡ GlobalBounds of elements cells field site
+      → elements * cells + field < 2 ^ 63
 
 -- ---- laws
 -- no cell is one of two globals
@@ -53,9 +55,11 @@ abbrev pub GlobalsShareNoCell : Type 0
 GlobalsShareNoCell = (globals : List GlobalCells) (granules g h place : ℕ) → GlobalsFit globals granules
     → IsInGlobal globals g place → IsInGlobal globals h place → g ≡ h
 
--- the most references that there may be at a time: in registers, as arguments, for mutexes that are held, in hand, and in cells
+-- the most references that there may be at a time: in registers, as arguments, for mutexes that are held, in hand, and
+-- in cells
 abbrev pub most_references : Code → Shape → ℕ
-most_references code s = THREADS * (FRAMES * most_refs code.functions.items) + (THREADS + (THREADS * words_of s + (THREADS + granules s * (2 * granules s))))
+most_references code s = THREADS * (FRAMES * most_refs code.functions.items)
+    + (THREADS + (THREADS * words_of s + (THREADS + granules s * (2 * granules s))))
 
 -- so no count passes a word
 abbrev pub CountsFit : Type 0

@@ -1,6 +1,7 @@
--- Runs of several threads: lists of turns, the newest first, and the machine that makes one turn at a time. S is the state of one
--- thread, and E what a turn reports of the source.
-use Rattle.std.specs.Prelude.{ℕ, ◌+◌, ◌≡◌, ◌≢◌, ◌≤◌, Bool, true, ◌&&◌, ◌||◌, nat_eq, nat_lt, List, [], ◌∷◌, ◌++◌, slice_index, Option, Some, None, if◌then◌else◌}
+-- Runs of several threads: lists of turns, the newest first, and the machine that makes one turn at a time. S is the
+-- state of one thread, and E what a turn reports of the source.
+use Rattle.std.specs.Prelude.{ℕ, ◌+◌, ◌≡◌, ◌≢◌, ◌≤◌, Bool, true, ◌&&◌, ◌||◌, nat_eq, nat_lt, List, [], ◌∷◌, ◌++◌}
+use Rattle.std.specs.Prelude.{slice_index, Option, Some, None, if◌then◌else◌}
 use Rattle.sharc_word.specs.{declared.step.WordStep.WordStep, declared.step.WordEvent.WordEvent}
 use Rattle.sharc_word.specs.{Words.{words_after_step, words_after}, Place.event_of}
 use Rattle.sharc_word.specs.History.{MayFollow, LegalHistory, events_of}
@@ -15,9 +16,10 @@ abbrev pub with_told : {E : Type 0} → ℕ → Option E → List (Said E) → L
 with_told t None says = says
 with_told t (Some e) says = record { thread = t; told = e } ∷ says
 
--- what one thread does: where it starts, whether it makes a turn, the word step that its turn asks for, where a turn with
--- this result leads (0 where it asked for no step), whether the turn that led to a state counts as an event, and what a turn reports of
--- the source. A result that is a reference is paired with a number that the earlier events of all threads give
+-- what one thread does: where it starts, whether it makes a turn, the word step that its turn asks for, where a turn
+-- with this result leads (0 where it asked for no step), whether the turn that led to a state counts as an event, and
+-- what a turn reports of the source. A result that is a reference is paired with a number that the earlier events of
+-- all threads give
 pub record OneThread (S E : Type 0) : Type 0 where
   pub start : ℕ → S
   pub runs : S → Bool
@@ -106,12 +108,15 @@ opening_of b m opening = record { words = opening; threads = m.start; started = 
 -- it was started at the place, or its state word was 1 since
 abbrev pub was_started : {S : Type 0} → Bounds → Global S → ℕ → List Turn → Bool
 was_started b from t [] = from.started t
-was_started b from t (turn ∷ earlier) = is_started b (words_after from.words (word_events (turn ∷ earlier))) t || was_started b from t earlier
+was_started b from t (turn ∷ earlier) =
+    is_started b (words_after from.words (word_events (turn ∷ earlier))) t || was_started b from t earlier
 
-pub record CheckedFrom {S E : Type 0} (b : Bounds) (m : OneThread S E) (from : Global S) (turns : List Turn) : Type 0 where
+pub record CheckedFrom {S E : Type 0} (b : Bounds) (m : OneThread S E) (from : Global S)
+    (turns : List Turn) : Type 0 where
   pub legal : LegalHistory from.words (word_events turns)
   pub paths : (t : ℕ) → IsPath m (from.threads t) (turns_of t turns)
-  pub begun : (later earlier : List Turn) (turn : Turn) → turns ≡ later ++ turn ∷ earlier → was_started b from turn.thread earlier ≡ true
+  pub begun : (later earlier : List Turn) (turn : Turn) → turns ≡ later ++ turn ∷ earlier
+      → was_started b from turn.thread earlier ≡ true
   pub few : (t : ℕ) → from.made t + made_in m (from.threads t) (turns_of t turns) ≤ b.limit
 
 abbrev pub CheckedRunOf : {S E : Type 0} → Bounds → OneThread S E → List ℕ → List Turn → Type 0
@@ -169,7 +174,8 @@ told_by m says g turn = m.says (g.threads turn.thread) (result_of turn.event) (p
 
 abbrev pub erase : {S E : Type 0} → Bounds → OneThread S E → Global S → List Turn → List (Said E)
 erase b m from [] = []
-erase b m from (turn ∷ earlier) = with_told turn.thread (told_by m (erase b m from earlier) (at b m from earlier) turn) (erase b m from earlier)
+erase b m from (turn ∷ earlier) =
+    with_told turn.thread (told_by m (erase b m from earlier) (at b m from earlier) turn) (erase b m from earlier)
 
 abbrev pub said_by : {E : Type 0} → ℕ → List (Said E) → List (Said E)
 said_by t [] = []
@@ -179,13 +185,15 @@ said_by t (said ∷ earlier) = if nat_eq t said.thread then said ∷ said_by t e
 abbrev pub pairs_of : {S E : Type 0} → Bounds → OneThread S E → Global S → ℕ → List Turn → List ℕ
 pairs_of b m from t [] = []
 pairs_of b m from t (turn ∷ earlier) =
-    if nat_eq t turn.thread then paired m (erase b m from earlier) (at b m from earlier) turn ∷ pairs_of b m from t earlier else pairs_of b m from t earlier
+    if nat_eq t turn.thread then paired m (erase b m from earlier) (at b m from earlier) turn
+    ∷ pairs_of b m from t earlier else pairs_of b m from t earlier
 
 -- the events of a path, given what its turns are paired with
 abbrev pub path_says : {S E : Type 0} → OneThread S E → ℕ → S → List Turn → List ℕ → List (Said E)
 path_says m t s [] ps = []
 path_says m t s (turn ∷ earlier) [] = []
-path_says m t s (turn ∷ earlier) (p ∷ ps) = with_told t (m.says (state_after m s earlier) (result_of turn.event) p) (path_says m t s earlier ps)
+path_says m t s (turn ∷ earlier) (p ∷ ps) =
+    with_told t (m.says (state_after m s earlier) (result_of turn.event) p) (path_says m t s earlier ps)
 
 -- ---- the turn of a thread is determined by the place
 abbrev pub made_event : ℕ → List ℕ → Option WordStep → Option WordEvent
@@ -215,7 +223,8 @@ pub record Parts (n : ℕ) (paths : ℕ → List Turn) (history : List WordEvent
   pub own : (t : ℕ) → Owns t (paths t)
 
 -- threads that are started go on from a place, their events being parts of one legal history from the words there
-pub record Round {S E : Type 0} (b : Bounds) (m : OneThread S E) (from : Global S) (paths : ℕ → List Turn) (history : List WordEvent) : Type 0 where
+pub record Round {S E : Type 0} (b : Bounds) (m : OneThread S E) (from : Global S) (paths : ℕ → List Turn)
+    (history : List WordEvent) : Type 0 where
   pub legal : LegalHistory from.words history
   pub goes : (t : ℕ) → IsPath m (from.threads t) (paths t)
   pub started : (t : ℕ) → paths t ≢ [] → from.started t ≡ true

@@ -1,5 +1,6 @@
 -- Which event of the source a turn is.
-use Rattle.std.specs.Prelude.{ℕ, ℤ, pos, negsuc, zero, suc, ◌+◌, ◌-◌, ◌*◌, ◌%◌, ◌^◌, ◌==◌, ◌||◌, Option, Some, None, List, [], ◌∷◌, slice_index_or, if◌then◌else◌}
+use Rattle.std.specs.Prelude.{ℕ, ℤ, pos, negsuc, zero, suc, ◌+◌, ◌-◌, ◌*◌, ◌%◌, ◌^◌, ◌==◌, ◌||◌, Option, Some, None}
+use Rattle.std.specs.Prelude.{List, [], ◌∷◌, slice_index_or, if◌then◌else◌}
 use Rattle.sharc_tree.specs.{declared.token.Site.Site, declared.event.CellAt.CellAt, declared.event.CellMode.CellMode}
 use Rattle.sharc_tree.specs.{declared.event.TakeKind.TakeKind, declared.event.Act.Act}
 use Rattle.sharc_tree.specs.declared.event.SourceEvent.{SourceEvent}
@@ -13,13 +14,17 @@ use Rattle.sharc_granule.specs.declared.stage.Stage.TheVariants.{Length}
 use Rattle.sharc_cond.specs.Waiters.{waits_in, lowest_of}
 use Rattle.sharc_code.specs.{declared.code.Code.Code, declared.code.GlobalCells.GlobalCells}
 use Rattle.sharc_code.specs.{declared.code.Parameter.Parameter, declared.code.PlaceMode.PlaceMode}
-use Rattle.sharc_code.specs.declared.code.PlaceMode.TheVariants.{Private, Readonly, Racy, Dynamic, LockedGlobal, LockedSibling, LockedThrough, LockedLoaded}
+use Rattle.sharc_code.specs.declared.code.PlaceMode.TheVariants.{Private, Readonly, Racy, Dynamic, LockedGlobal}
+use Rattle.sharc_code.specs.declared.code.PlaceMode.TheVariants.{LockedSibling, LockedThrough, LockedLoaded}
 use Rattle.sharc_code.specs.{declared.code.Use.Use, declared.code.SourcePlace.SourcePlace, declared.instr.Cell.Cell}
 use Rattle.sharc_code.specs.declared.instr.Cell.TheVariants.{Global, GlobalAt, Object as InObject, ObjectAt}
 use Rattle.sharc_code.specs.{declared.instr.Register.Register, declared.instr.Instr.Instr}
-use Rattle.sharc_code.specs.declared.instr.Instr.TheVariants.{Load, Store, LoadRef, Exchange, New, TakeCell, TakeLocal, Give, Free, Lock, Unlock, Spawn, Join, Print, Start, Exit, CondEnter, CondWait, CondSignal, CondBroadcast}
+use Rattle.sharc_code.specs.declared.instr.Instr.TheVariants.{Load, Store, LoadRef, Exchange, New, TakeCell, TakeLocal}
+use Rattle.sharc_code.specs.declared.instr.Instr.TheVariants.{Give, Free, Lock, Unlock, Spawn, Join, Print, Start, Exit}
+use Rattle.sharc_code.specs.declared.instr.Instr.TheVariants.{CondEnter, CondWait, CondSignal, CondBroadcast}
 use Rattle.sharc_code.specs.declared.state.Stage.{Stage}
-use Rattle.sharc_code.specs.declared.state.Stage.TheVariants.{Makes, Uncounts, Begins, Enters, Withdraws, WithdrawsFrom, Leaves, Wakes}
+use Rattle.sharc_code.specs.declared.state.Stage.TheVariants.{Makes, Uncounts, Begins, Enters, Withdraws, WithdrawsFrom}
+use Rattle.sharc_code.specs.declared.state.Stage.TheVariants.{Leaves, Wakes}
 use Rattle.sharc_code.specs.{Arithmetic.{word_of, int_of}, Machine.{Machine, int, ref, function_of, instr_at}}
 use Rattle.sharc_code.specs.declared.code.Parameter.TheVariants as parameters
 use Rattle.sharc_code.specs.declared.code.Use.TheVariants as uses
@@ -30,7 +35,13 @@ abbrev pub no_site : Site
 no_site = record { file = 0; line = 0; token = 0 }
 
 abbrev pub no_place : SourcePlace
-no_place = record { site = no_site; lvalue = record { from = 0; until = 0 }; lock = record { from = 0; until = 0 }; mode = Racy; at = uses.Other }
+no_place = record {
+  site = no_site;
+  lvalue = record { from = 0; until = 0 };
+  lock = record { from = 0; until = 0 };
+  mode = Racy;
+  at = uses.Other;
+}
 
 abbrev pub place_at : Code → ℕ → SourcePlace
 place_at code site = slice_index_or code.sites.items site no_place
@@ -42,7 +53,10 @@ no_global = record { granule = 0; cells = 0 }
 -- a cell of a global that has this number, counted from the first cell of granule 0
 abbrev pub global_cell : Code → ℕ → ℕ → CellAt
 global_cell code global place =
-    record { object = objects.Global global; cell = place - 2 * (slice_index_or code.globals.items global no_global).granule }
+    record {
+      object = objects.Global global;
+      cell = place - 2 * (slice_index_or code.globals.items global no_global).granule;
+    }
 
 abbrev pub made_cell : ℕ → ℕ → CellAt
 made_cell number cell = record { object = objects.Made number; cell = cell }
@@ -65,7 +79,8 @@ mode_of code m cell Readonly = modes.Readonly
 mode_of code m cell Racy = modes.Racy
 mode_of code m cell Dynamic = modes.Dynamic
 mode_of code m cell (LockedGlobal global place) = modes.Locked (Some (global_cell code global place))
-mode_of code m cell (LockedSibling field mutex) = modes.Locked (Some record { object = cell.object; cell = cell.cell - field + mutex })
+mode_of code m cell (LockedSibling field mutex) =
+    modes.Locked (Some record { object = cell.object; cell = cell.cell - field + mutex })
 mode_of code m cell (LockedThrough r place) = modes.Locked (lock_through (ref m r) place)
 mode_of code m cell LockedLoaded = modes.Locked (lock_through m.pending 0)
 
@@ -113,12 +128,14 @@ own_event code m act = event m (function_of code m.own.function).site (pos 0) ac
 abbrev pub take_local : Code → Machine → ℕ → ℕ → ℕ → Option SourceEvent
 take_local code m site zero elements = None
 take_local code m site (suc number) elements =
-    event_at code m site (reference (suc number) elements) (acts.Take (takens.Local (variable_of (place_at code site).at)) (kind_of (place_at code site).at))
+    event_at code m site (reference (suc number) elements)
+    (acts.Take (takens.Local (variable_of (place_at code site).at)) (kind_of (place_at code site).at))
 
 -- the Swap of the length
 abbrev pub new_event : Code → Machine → ℕ → ℕ → NewView → NewStage → Option SourceEvent
 new_event code m site cells state (Length header) =
-    event_at code m site (reference header state.arguments.elements) (acts.New cells state.arguments.elements (mode_of code m (made_cell 0 0) (place_at code site).mode))
+    event_at code m site (reference header state.arguments.elements)
+    (acts.New cells state.arguments.elements (mode_of code m (made_cell 0 0) (place_at code site).mode))
 new_event code m site cells state _ = None
 
 abbrev pub in_new : Code → Machine → ℕ → ℕ → Stage → Option SourceEvent
@@ -132,13 +149,15 @@ in_free code m r site elements _ = None
 
 -- the Swap of the state to 1
 abbrev pub in_spawn : Code → Machine → ℕ → Register → ℕ → ℕ → Stage → Option SourceEvent
-in_spawn code m function from site elements (Begins n) = event_at code m site (pos n) (acts.Spawn function (argument_of m from elements))
+in_spawn code m function from site elements (Begins n) =
+    event_at code m site (pos n) (acts.Spawn function (argument_of m from elements))
 in_spawn code m function from site elements _ = None
 
 -- the Load of the argument
 abbrev pub in_start : Code → Machine → ℕ → ℕ → Stage → Option SourceEvent
 in_start code m found elements (Enters function) =
-    event m (function_of code function).site (pos 0) (acts.Started (started_with (function_of code function).parameter found elements))
+    event m (function_of code function).site (pos 0)
+    (acts.Started (started_with (function_of code function).parameter found elements))
 in_start code m found elements _ = None
 
 -- the Swaps of the state to 2 and to 3
@@ -162,20 +181,26 @@ in_signal code m cell site found _ = nobody code m cell site found
 -- the turn of this instruction, where its step found this; the reference of which it speaks has this many elements
 abbrev pub said : Code → Instr → Machine → ℕ → ℕ → Option SourceEvent
 said code (Load r cell site) m found elements = access code m site cell (int_of found) acts.Read
-said code (Store r cell site) m found elements = access code m site cell (pos 0) (λ at mode. acts.Write at mode (int m r))
+said code (Store r cell site) m found elements =
+    access code m site cell (pos 0) (λ at mode. acts.Write at mode (int m r))
 said code (LoadRef cell site) m found elements = access code m site cell (reference found elements) acts.Read
-said code (Exchange r cell site) m found elements = access code m site cell (pos 0) (λ at mode. acts.Write at mode (reference (ref m r) elements))
+said code (Exchange r cell site) m found elements =
+    access code m site cell (pos 0) (λ at mode. acts.Write at mode (reference (ref m r) elements))
 said code (TakeCell r cell site) m found elements =
-    access code m site cell (reference found elements) (λ at mode. acts.Take (takens.Cell at mode) (kind_of (place_at code site).at))
+    access code m site cell (reference found elements)
+    (λ at mode. acts.Take (takens.Cell at mode) (kind_of (place_at code site).at))
 said code (TakeLocal r from site) m found elements = take_local code m site (ref m from) elements
 said code (Give r site) m found elements =
-    event_at code m site (pos 0) (acts.Give (reference (ref m r) elements) (mode_of code m (made_cell 0 0) (place_at code site).mode))
+    event_at code m site (pos 0)
+    (acts.Give (reference (ref m r) elements) (mode_of code m (made_cell 0 0) (place_at code site).mode))
 said code (New r count cells site) m found elements = in_new code m site cells m.own.stage
 said code (Free r layout site) m found elements = in_free code m r site elements m.own.stage
-said code (Lock cell site) m found elements = if found == 0 then event_at code m site (pos 0) (acts.Lock (cell_at code m cell)) else None
+said code (Lock cell site) m found elements =
+    if found == 0 then event_at code m site (pos 0) (acts.Lock (cell_at code m cell)) else None
 said code (Unlock r cell site) m found elements = event_at code m site (pos 0) (acts.Unlock (cell_at code m cell))
 said code (Spawn r function from site) m found elements = in_spawn code m function from site elements m.own.stage
-said code (Join r site) m found elements = if found == 0 || (found == 1 || found == 2) then None else event_at code m site (pos 0) (acts.Join (int m r))
+said code (Join r site) m found elements =
+    if found == 0 || (found == 1 || found == 2) then None else event_at code m site (pos 0) (acts.Join (int m r))
 said code (Print r site) m found elements = event_at code m site (pos 0) (acts.Print (int m r))
 said code (Start site) m found elements = in_start code m found elements m.own.stage
 said code Exit m found elements = in_exit code m m.own.stage
@@ -183,7 +208,8 @@ said code (CondEnter cell site) m found elements = event_at code m site (pos 0) 
 said code (CondWait cell site) m found elements =
     if waits_in found m.own.number then None else event_at code m site (pos 0) (acts.Woken (cell_at code m cell))
 said code (CondSignal cell site) m found elements = in_signal code m cell site found m.own.stage
-said code (CondBroadcast cell site) m found elements = event_at code m site (pos 0) (acts.Broadcast (cell_at code m cell))
+said code (CondBroadcast cell site) m found elements =
+    event_at code m site (pos 0) (acts.Broadcast (cell_at code m cell))
 said code _ m found elements = None
 
 abbrev pub says : Code → Machine → ℕ → ℕ → Option SourceEvent
@@ -212,7 +238,8 @@ number_of (negsuc n) = 0
 
 -- the elements of the last New of this number, the newest event first
 abbrev pub elements_after : SourceEvent → Act → ℕ → ℕ → ℕ
-elements_after e (acts.New cells elements mode) number earlier = if number_of e.answer == number then elements else earlier
+elements_after e (acts.New cells elements mode) number earlier =
+    if number_of e.answer == number then elements else earlier
 elements_after e _ number earlier = earlier
 
 abbrev pub elements_in : List SourceEvent → ℕ → ℕ

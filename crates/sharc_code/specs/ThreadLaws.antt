@@ -17,11 +17,13 @@ behind code s words m = after (turn code s m) (found_now words (turn code s m))
 
 -- no turn changes the thread's number
 abbrev pub NumberStays : Type 0
-NumberStays = (code : Code) (s : Shape) (m : Machine) (found : ℕ) → (after (turn code s m) found).own.number ≡ m.own.number
+NumberStays = (code : Code) (s : Shape) (m : Machine) (found : ℕ)
+    → (after (turn code s m) found).own.number ≡ m.own.number
 
 -- a failed try changes nothing else
 abbrev pub TriesChangeNothing : Type 0
-TriesChangeNothing = (code : Code) (s : Shape) (m : Machine) (found : ℕ) → (after (turn code s m) found).at.state ≡ Tries → after (turn code s m) found ≡ fails m
+TriesChangeNothing = (code : Code) (s : Shape) (m : Machine) (found : ℕ)
+    → (after (turn code s m) found).at.state ≡ Tries → after (turn code s m) found ≡ fails m
 
 -- a thread that waits would make a failed try, and where its next turn would be one it waits
 abbrev pub WaitsWhereItFails : Type 0
@@ -31,7 +33,8 @@ WaitsWhereItFails = (code : Code) (s : Shape) (words : List ℕ) (m : Machine) �
 -- a failed try leaves the words as they are
 abbrev pub TriesLeaveWords : Type 0
 TriesLeaveWords = (code : Code) (s : Shape) (words : List ℕ) (m : Machine) (event : Option WordEvent)
-    → step_of event ≡ asked_by (turn code s m) → Answered words event → (after (turn code s m) (result_of event)).at.state ≡ Tries → words_now words event ≡ words
+    → step_of event ≡ asked_by (turn code s m) → Answered words event
+    → (after (turn code s m) (result_of event)).at.state ≡ Tries → words_now words event ≡ words
 
 -- a thread of which it is forgotten whether its last turn was a failed try
 abbrev pub settle : State → State
@@ -47,8 +50,8 @@ settled m = record m { at = record m.at { state = settle m.at.state } }
 abbrev pub TurnsForgetTries : Type 0
 TurnsForgetTries = (code : Code) (s : Shape) (m : Machine) → turn code s (settled m) ≡ turn code s m
 
--- what a turn keeps of what a thread has for itself: a row for each granule, its number, all its prints and at most one more, and
--- what holds of its stage
+-- what a turn keeps of what a thread has for itself: a row for each granule, its number, all its prints and at most one
+-- more, and what holds of its stage
 pub record Keeps (P : Stage → Type 0) (own new : Own) : Type 0 where
   pub rows : length new.table.notes ≡ length own.table.notes
   pub number : new.number ≡ own.number
@@ -57,7 +60,8 @@ pub record Keeps (P : Stage → Type 0) (own new : Own) : Type 0 where
 
 -- every turn keeps that, and that the stage is one of the shape
 abbrev pub TurnsKeep : Type 0
-TurnsKeep = (code : Code) (s : Shape) (m : Machine) (found : ℕ) → Keeps (IsStageOf s) m.own (after (turn code s m) found).own
+TurnsKeep = (code : Code) (s : Shape) (m : Machine) (found : ℕ)
+    → Keeps (IsStageOf s) m.own (after (turn code s m) found).own
 
 -- the laws of a turn together
 pub record ThreadLaws : Type 0 where

@@ -1,5 +1,6 @@
 -- What a thread waits for.
-use Rattle.std.specs.Prelude.{ℕ, ℤ, pos, negsuc, ◌==◌, ◌||◌, Bool, false, not, List, Option, Some, None, nat_lt, slice_index, if◌then◌else◌}
+use Rattle.std.specs.Prelude.{ℕ, ℤ, pos, negsuc, ◌==◌, ◌||◌, Bool, false, not, List, Option, Some, None, nat_lt}
+use Rattle.std.specs.Prelude.{slice_index, if◌then◌else◌}
 use Rattle.sharc_word.specs.declared.step.TheConstants.{THREADS}
 use Rattle.sharc_cond.specs.Waiters.{waits_in}
 use Rattle.sharc_code.specs.{declared.code.Code.Code, declared.shape.Shape.Shape, declared.instr.Instr.Instr}
@@ -25,7 +26,8 @@ wait_of code s m = if may_go m.at.state then asks_for s (instr_at code m.at.pc) 
 -- the mutex is held, the thread is not gone, its own bit is set
 abbrev pub is_held_up : List ℕ → ℕ → Wait → Bool
 is_held_up words number (waits.Mutex word site) = not (slice_index words word == 0)
-is_held_up words number (waits.Join n site) = slice_index words (state_word n) == 1 || slice_index words (state_word n) == 2
+is_held_up words number (waits.Join n site) =
+    slice_index words (state_word n) == 1 || slice_index words (state_word n) == 2
 is_held_up words number (waits.Cond word site) = waits_in (slice_index words word) number
 
 abbrev pub held_up : List ℕ → ℕ → Option Wait → Bool

@@ -30,11 +30,13 @@ CheckedRun code s turns = CheckedRunOf bounds (one_thread code s) (opening_words
 
 -- where it is
 abbrev pub place_after : Code → Shape → List Turn → Global Machine
-place_after code s turns = at bounds (one_thread code s) (opening_of bounds (one_thread code s) (opening_words code s)) turns
+place_after code s turns =
+    at bounds (one_thread code s) (opening_of bounds (one_thread code s) (opening_words code s)) turns
 
 -- its source events, the newest first
 abbrev pub Erase : Code → Shape → List Turn → List (Said SourceEvent)
-Erase code s turns = erase bounds (one_thread code s) (opening_of bounds (one_thread code s) (opening_words code s)) turns
+Erase code s turns =
+    erase bounds (one_thread code s) (opening_of bounds (one_thread code s) (opening_words code s)) turns
 
 -- ---- waiting
 abbrev pub Waits : Code → Shape → Global Machine → ℕ → Type 0

@@ -21,8 +21,8 @@ pub enum Parameter {
     Reference,
 }
 
-/// A function: its first place, how many registers of each bank its frame has, and what a thread of it is handed. The site is that of a
-/// thread's first and last events.
+/// A function: its first place, how many registers of each bank its frame has, and what a thread of it is handed. The
+/// site is that of a thread's first and last events.
 #[derive(Clone, Copy)]
 pub struct Function {
     pub entry: u32,
@@ -40,7 +40,8 @@ pub struct GlobalCells {
     pub cells: u32,
 }
 
-/// An element of an object: its cells, and which of the code's pointer fields are its own, from the first number up to the second.
+/// An element of an object: its cells, and which of the code's pointer fields are its own, from the first number up to
+/// the second.
 #[derive(Clone, Copy)]
 pub struct Layout {
     pub cells: u32,
@@ -80,7 +81,8 @@ pub enum Use {
     Other,
 }
 
-/// What a site of the code is in the source: the place, how its lvalue and the lock of its mode are written, its mode, and its use.
+/// What a site of the code is in the source: the place, how its lvalue and the lock of its mode are written, its mode,
+/// and its use.
 #[derive(Clone, Copy)]
 pub struct SourcePlace {
     pub site: Site,

@@ -83,7 +83,8 @@ pub enum Instr {
     JumpIfZero(u32, u32),
     /// To the place where this reference register is NULL.
     JumpIfNull(u32, u32),
-    /// To this place, with frames that begin at these registers of the two banks: it stops with X10 where there are 256 frames.
+    /// To this place, with frames that begin at these registers of the two banks: it stops with X10 where there are 256
+    /// frames.
     Call(u32, u32, u32, u32),
     /// Back to the caller: at the thread's last return it stops with X11 where a mutex is held.
     Return(u32),
@@ -102,8 +103,8 @@ pub enum Instr {
     /// The same of the mutex in the first cell of the object whose reference was loaded last.
     ChkLockLoaded(u32),
     // ---- cells
-    /// This integer register holds an index of the object in that reference register, whose elements have this many cells; it becomes the
-    /// number of this field of the element: it stops with X2 where there is no such element.
+    /// This integer register holds an index of the object in that reference register, whose elements have this many
+    /// cells; it becomes the number of this field of the element: it stops with X2 where there is no such element.
     Bounds(u32, u32, u32, u32, u32),
     /// The same for a global of this many elements; the field is counted from the first cell of granule 0.
     GlobalBounds(u32, u32, u32, u32, u32),
@@ -127,7 +128,8 @@ pub enum Instr {
     /// The reference of this register is counted once less, and the register is NULL.
     Lower(u32),
     // ---- objects
-    /// To this reference register, a new object of as many elements as this integer register has, each of this many cells: it stops with X9.
+    /// To this reference register, a new object of as many elements as this integer register has, each of this many
+    /// cells: it stops with X9.
     New(u32, u32, u32, u32),
     /// To this reference register, the reference of the cell, which is then NULL.
     TakeCell(u32, Cell, u32),
@@ -147,7 +149,8 @@ pub enum Instr {
     /// Gives the mutex in the cell back; to this reference register, the reference of the held log.
     Unlock(u32, Cell, u32),
     // ---- threads
-    /// To this integer register, the number of a new thread of this function with the argument in that register: it stops with X8.
+    /// To this integer register, the number of a new thread of this function with the argument in that register: it
+    /// stops with X8.
     Spawn(u32, u32, Register, u32),
     /// Waits for the thread of the number in this integer register: it stops with X7.
     Join(u32, u32),

@@ -2,7 +2,9 @@
 
 ghost use Rattle.std.specs.Prelude.{◌≡◌, ◌+◌, ◌<◌, ◌↔◌, IsTrue, min, ◌^◌, ◌-◌};
 ghost use Rattle.sharc_word.specs.declared.step.TheConstants.{THREADS as threads};
-ghost use Rattle.sharc_code.specs.Layout.{Fits, IsShape, granules, first_cell, words_of, granule_at, word_at, function_at, state_word, function_word, argument_word, shadow_word, count_word, length_word, cell_word, cell_of, granule_of};
+ghost use Rattle.sharc_code.specs.Layout.{Fits, IsShape, granules, first_cell, words_of, granule_at, word_at};
+ghost use Rattle.sharc_code.specs.Layout.{function_at, state_word, function_word, argument_word, shadow_word};
+ghost use Rattle.sharc_code.specs.Layout.{count_word, length_word, cell_word, cell_of, granule_of};
 
 use crate::code::Code;
 use crate::shape::Shape;
@@ -149,8 +151,8 @@ pub fn argument_word(thread: u32) -> u32
     6 + 3 * thread
 }
 
-/// The number of cell `j` of the object with this header granule, counted from the first cell of granule 0: the largest number where it
-/// is larger.
+/// The number of cell `j` of the object with this header granule, counted from the first cell of granule 0: the largest
+/// number where it is larger.
 #[inline(always)]
 pub fn cell_of(header: u64, index: u64) -> u64
     ensures { result ≡ min (cell_of header index) (2 ^ 64 - 1) }

@@ -1,9 +1,9 @@
 //! The instructions of checked code, and what a thread's turns make of its state.
 //!
-//! `specs/Machine.antt` says what one turn does: it changes the thread's own state alone, or asks for one step of a word and goes
-//! on with its result. `specs/Path.antt` strings turns together, `specs/Says.antt` says which events of the source they are, and
-//! `specs/Runs.antt` what a run of all threads is. A machine is total: a register that is not within its bank reads as 0, a
-//! write of it changes nothing, and past the code there is `Exit`.
+//! `specs/Machine.antt` says what one turn does: it changes the thread's own state alone, or asks for one step of a
+//! word and goes on with its result. `specs/Path.antt` strings turns together, `specs/Says.antt` says which events of
+//! the source they are, and `specs/Runs.antt` what a run of all threads is. A machine is total: a register that is not
+//! within its bank reads as 0, a write of it changes nothing, and past the code there is `Exit`.
 #![tactic(auto)]
 
 mod code;

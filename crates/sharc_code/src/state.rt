@@ -20,7 +20,8 @@ pub enum State {
     Ended,
 }
 
-/// Where a thread is: the place in the code, the first register of its frame in each bank, and how many frames there are.
+/// Where a thread is: the place in the code, the first register of its frame in each bank, and how many frames there
+/// are.
 #[derive(Clone, Copy)]
 pub struct At {
     pub pc: usize,

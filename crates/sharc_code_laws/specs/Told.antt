@@ -17,7 +17,8 @@ pub record TellsState (g : Global Machine) (t : ℕ) : Type 0 where
 
 -- of each thread that there may be, wherever a run is
 abbrev pub StatesAreTold : Type 0
-StatesAreTold = (code : Code) (s : Shape) (turns : List Turn) → CheckedRun code s turns → (t : ℕ) → t < THREADS → TellsState (place_after code s turns) t
+StatesAreTold = (code : Code) (s : Shape) (turns : List Turn) → CheckedRun code s turns
+    → (t : ℕ) → t < THREADS → TellsState (place_after code s turns) t
 
 -- the number that a Spawn has drawn is that of a thread that was not started, and no other Spawn has drawn it
 pub record IsNew (g : Global Machine) (t n : ℕ) : Type 0 where
@@ -27,5 +28,6 @@ pub record IsNew (g : Global Machine) (t n : ℕ) : Type 0 where
   pub one : (u : ℕ) → drawn_of (g.threads u).own.stage ≡ Some n → u ≡ t
 
 abbrev pub SpawnsAreNew : Type 0
-SpawnsAreNew = (code : Code) (s : Shape) (turns : List Turn) → CheckedRun code s turns → (t n : ℕ) → drawn_of ((place_after code s turns).threads t).own.stage ≡ Some n
+SpawnsAreNew = (code : Code) (s : Shape) (turns : List Turn) → CheckedRun code s turns
+    → (t n : ℕ) → drawn_of ((place_after code s turns).threads t).own.stage ≡ Some n
     → IsNew (place_after code s turns) t n

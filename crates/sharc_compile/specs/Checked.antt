@@ -1,7 +1,9 @@
--- Each access of a dynamic or locked cell in code of flat code is no jump target; it comes directly after its check, but where that repeats one and is dropped.
+-- Each access of a dynamic or locked cell in code of flat code is no jump target; it comes directly after its check,
+-- but where that repeats one and is dropped.
 use Rattle.std.specs.Prelude.{ℕ, ◌+◌, ◌≡◌, ◌<◌, ◌⊎◌, Bool, true, length, slice_get, slice_index_or, Some}
 use Rattle.sharc_code.specs.{declared.code.Code.Code, declared.code.PlaceMode.PlaceMode}
-use Rattle.sharc_code.specs.declared.code.PlaceMode.TheVariants.{Private, Readonly, Racy, Dynamic, LockedGlobal, LockedSibling, LockedThrough, LockedLoaded}
+use Rattle.sharc_code.specs.declared.code.PlaceMode.TheVariants.{Private, Readonly, Racy, Dynamic, LockedGlobal}
+use Rattle.sharc_code.specs.declared.code.PlaceMode.TheVariants.{LockedSibling, LockedThrough, LockedLoaded}
 use Rattle.sharc_code.specs.declared.instr.Instr.{Instr}
 use Rattle.sharc_code.specs.{declared.instr.Instr.TheVariants.{Jump, JumpIfZero, JumpIfNull, Call}, Machine.no_function}
 use Rattle.sharc_code.specs.Says.{place_at}
@@ -20,7 +22,8 @@ LeadsTo _ pc = ⊥
 -- no jump, no call and no start of a thread leads there
 pub record IsNoTarget (code : Code) (pc : ℕ) : Type 0 where
   pub jumps : (q : ℕ) (i : Instr) → slice_get code.instrs.items q ≡ Some i → LeadsTo i pc → ⊥
-  pub entries : (f : ℕ) → f < length code.functions.items → (slice_index_or code.functions.items f no_function).entry ≡ pc → ⊥
+  pub entries : (f : ℕ) → f < length code.functions.items
+      → (slice_index_or code.functions.items f no_function).entry ≡ pc → ⊥
 
 pub record IsAfterCheck (code : Code) (pc : ℕ) (mode : PlaceMode) (a : Access) : Type 0 where
   pub before : ℕ
@@ -42,4 +45,5 @@ IsCheckedAt dropped code pc LockedLoaded a = IsAfterCheck code pc LockedLoaded a
 
 abbrev pub CodeIsChecked : Type 0
 CodeIsChecked = (flat : FlatCode) (code : Code) → IsCodeOf flat code
-    → (pc : ℕ) (i : Instr) (a : Access) → slice_get code.instrs.items pc ≡ Some i → access_of i ≡ Some a → IsCheckedAt (dropped (flat_of flat)) code pc (place_at code a.site).mode a
+    → (pc : ℕ) (i : Instr) (a : Access) → slice_get code.instrs.items pc ≡ Some i → access_of i ≡ Some a
+    → IsCheckedAt (dropped (flat_of flat)) code pc (place_at code a.site).mode a

@@ -30,7 +30,8 @@ IsRefusal trap = (trap ≡ traps.NoSuchThread) ⊎ ((trap ≡ traps.ThreadLimit)
 
 -- why a thread of code stopped is a stop of flat code, or comes at the event that flat code wants
 abbrev pub StopsFor : Code → Flat.Flat → Flat.At → Stop → Type 0
-StopsFor code flat m (Trapped trap site) = (Flat.turn flat m ≡ Flat.halts (stopped trap (place_at code site).site)) ⊎ (IsRefusal trap × WantsAt flat m (place_at code site).site)
+StopsFor code flat m (Trapped trap site) = (Flat.turn flat m ≡ Flat.halts (stopped trap (place_at code site).site))
+    ⊎ (IsRefusal trap × WantsAt flat m (place_at code site).site)
 StopsFor code flat m (Conflict c) = WantsAt flat m (place_at code c.site).site
 StopsFor code flat m (NoLock site mutex) = WantsAt flat m (place_at code site).site
 StopsFor code flat m (NotSole site count) = WantsAt flat m (place_at code site).site
@@ -42,22 +43,27 @@ IsOverFor code flat m Stopped stop = IsSomeAnd stop (StopsFor code flat m)
 IsOverFor code flat m Ended stop = Flat.turn flat m ≡ Flat.halts ended
 
 -- with some answers flat code comes to where the code is
-pub record FollowsFlat (code : Code) (g : Guarded) (flat : Flat.Flat) (thread : ℕ) (m : Machine) (said : List SourceEvent) (lowered : List ℕ) (paced : ℕ) : Type 0 where
+pub record FollowsFlat (code : Code) (g : Guarded) (flat : Flat.Flat) (thread : ℕ) (m : Machine)
+    (said : List SourceEvent) (lowered : List ℕ) (paced : ℕ) : Type 0 where
   pub function : ℕ
   pub known : function < length flat.functions
   pub argument : ℤ
   pub answers : List ℤ
   pub path : Flow.IsPath flat (Flat.start flat function argument) answers
-  pub events : said ≡ by thread (begins (program_of g) function argument) ∷ map (by thread) (Flow.at_after flat (Flat.start flat function argument) answers).events
+  pub events : said ≡ by thread (begins (program_of g) function argument)
+      ∷ map (by thread) (Flow.at_after flat (Flat.start flat function argument) answers).events
   pub over : IsOverFor code flat (Flow.at_after flat (Flat.start flat function argument) answers) m.at.state m.own.stop
   -- what it lowered since its last event is a first part of what flat code gave up since
-  pub given : (more : List ℕ) × Resolved (Flow.at_after flat (Flat.start flat function argument) answers).given (lowered ++ more)
+  pub given : (more : List ℕ)
+      × Resolved (Flow.at_after flat (Flat.start flat function argument) answers).given (lowered ++ more)
   -- five counted turns for each line of flat code, and eight
   pub pace : paced ≤ 5 * length answers + 8
 
 abbrev pub CodeFollowsFlat : Type 0
-CodeFollowsFlat = (flat : Flat.Flat) (dropped : ℕ → Bool) (g : Guarded) (code : Code) → IsFlat flat → IsFramed flat → program_of g ≡ guarded dropped flat → IsGenerated g code
-    → (s : Shape) (thread : ℕ) (elements : ℕ → Elements) (founds : List ℕ) → CodePath code s thread founds → IsConsistent code s (begun code s thread) elements founds
+CodeFollowsFlat = (flat : Flat.Flat) (dropped : ℕ → Bool) (g : Guarded) (code : Code) → IsFlat flat → IsFramed flat
+    → program_of g ≡ guarded dropped flat → IsGenerated g code
+    → (s : Shape) (thread : ℕ) (elements : ℕ → Elements) (founds : List ℕ) → CodePath code s thread founds
+    → IsConsistent code s (begun code s thread) elements founds
     → let m = machine_after code s (begun code s thread) founds in
     let said = said_in code s (begun code s thread) elements founds in
     let lowered = lowered_in code s (begun code s thread) elements founds in

@@ -1,4 +1,5 @@
--- The references that a thread of the code counts in its registers, the program holds, or gives up before it asks for anything more.
+-- The references that a thread of the code counts in its registers, the program holds, or gives up before it asks for
+-- anything more.
 use Rattle.std.specs.Prelude.{ℕ, ℤ, pos, ◌≡◌, ◌+◌, ◌<◌, ◌⊎◌, List, [], ◌∷◌, ◌++◌, length, map, get_or, slice_index}
 use Rattle.sharc_tree.specs.{declared.event.CellAt.CellAt, declared.event.SourceEvent.SourceEvent}
 use Rattle.sharc_mode.specs.Moded.{Assignment}
@@ -39,17 +40,22 @@ pub record IsOldValue (code : Code) (at : Machine) (given : List GivenUp) (lower
 
 -- what the register k of the thread's bank has, of the object of number n
 abbrev pub IsAccountedFor : Code → Machine → List ℕ → Asked → ℕ → ℕ → Type 0
-IsAccountedFor code at lowered a k n = IsAmong a.held n ⊎ (IsGivenUpLater a.given_up lowered n ⊎ IsOldValue code at a.given_up lowered k)
+IsAccountedFor code at lowered a k n = IsAmong a.held n
+    ⊎ (IsGivenUpLater a.given_up lowered n ⊎ IsOldValue code at a.given_up lowered k)
 
--- At its next want, its stop or its end with this fuel the program has reported the same; each register of the thread is accounted for, but while the block of a freed
--- object is linked; and where the thread was refused by A1 to A4, the program wants what was refused.
-pub record HoldsBy (m : Assignment) (code : Code) (p : Program) (thread f : ℕ) (argument : ℤ) (answers : List ℤ) (at : Machine) (said : List SourceEvent) (lowered : List ℕ) : Type 0 where
+-- At its next want, its stop or its end with this fuel the program has reported the same; each register of the thread
+-- is accounted for, but while the block of a freed object is linked; and where the thread was refused by A1 to A4, the
+-- program wants what was refused.
+pub record HoldsBy (m : Assignment) (code : Code) (p : Program) (thread f : ℕ) (argument : ℤ) (answers : List ℤ)
+    (at : Machine) (said : List SourceEvent) (lowered : List ℕ) : Type 0 where
   pub fuel : ℕ
   pub events : said ≡ by thread (begins p f argument) ∷ map (by thread) (asks m f argument answers fuel).events
-  pub registers : ((elements : ℕ) → at.own.stage ≡ Links elements → ⊥) → (k n : ℕ) → slice_index at.refs k ≡ n → 0 < n → IsAccountedFor code at lowered (asks m f argument answers fuel) k n
+  pub registers : ((elements : ℕ) → at.own.stage ≡ Links elements → ⊥) → (k n : ℕ) → slice_index at.refs k ≡ n → 0 < n
+      → IsAccountedFor code at lowered (asks m f argument answers fuel) k n
   pub refused : WantsRefused code at (asks m f argument answers fuel)
 
-pub record HoldsWhatIsCounted (m : Assignment) (code : Code) (p : Program) (functions thread : ℕ) (at : Machine) (said : List SourceEvent) (lowered : List ℕ) : Type 0 where
+pub record HoldsWhatIsCounted (m : Assignment) (code : Code) (p : Program) (functions thread : ℕ) (at : Machine)
+    (said : List SourceEvent) (lowered : List ℕ) : Type 0 where
   pub function : ℕ
   pub known : function < functions
   pub argument : ℤ
@@ -58,10 +64,13 @@ pub record HoldsWhatIsCounted (m : Assignment) (code : Code) (p : Program) (func
 
 -- of code of flat code that overwrites no reference and names the mutexes of its locks
 abbrev pub CodeCounts : Type 0
-CodeCounts = (m : Assignment) (flat : FlatCode) (code : Code) → AsksTheSame m (flat_of flat) → IsFramed (flat_of flat) → IsLevel (flat_of flat) → LocksStand (flat_of flat) → (is : IsCodeOf flat code)
-    → (s : Shape) (thread : ℕ) (elements : ℕ → Elements) (founds : List ℕ) → CodePath code s thread founds → IsConsistent code s (begun code s thread) elements founds
+CodeCounts = (m : Assignment) (flat : FlatCode) (code : Code) → AsksTheSame m (flat_of flat) → IsFramed (flat_of flat)
+    → IsLevel (flat_of flat) → LocksStand (flat_of flat) → (is : IsCodeOf flat code)
+    → (s : Shape) (thread : ℕ) (elements : ℕ → Elements) (founds : List ℕ) → CodePath code s thread founds
+    → IsConsistent code s (begun code s thread) elements founds
     → let at = machine_after code s (begun code s thread) founds in
     let said = said_in code s (begun code s thread) elements founds in
     let lowered = lowered_in code s (begun code s thread) elements founds in
     let paced = paced_in code s (begun code s thread) founds in
-    IsBeginning at said paced ⊎ HoldsWhatIsCounted m code (program_of is.g) (length flat.functions.items) thread at said lowered
+    IsBeginning at said paced
+    ⊎ HoldsWhatIsCounted m code (program_of is.g) (length flat.functions.items) thread at said lowered

@@ -16,8 +16,10 @@ pub record IsCodeOf (flat : FlatCode) (code : Code) : Type 0 where
   pub generated : IsGenerated g code
 
 abbrev pub MadeCodeFollows : Type 0
-MadeCodeFollows = (flat : FlatCode) (code : Code) → IsFlat (flat_of flat) → IsFramed (flat_of flat) → (is : IsCodeOf flat code)
-    → (s : Shape) (thread : ℕ) (elements : ℕ → Elements) (founds : List ℕ) → CodePath code s thread founds → IsConsistent code s (begun code s thread) elements founds
+MadeCodeFollows = (flat : FlatCode) (code : Code) → IsFlat (flat_of flat) → IsFramed (flat_of flat)
+    → (is : IsCodeOf flat code)
+    → (s : Shape) (thread : ℕ) (elements : ℕ → Elements) (founds : List ℕ) → CodePath code s thread founds
+    → IsConsistent code s (begun code s thread) elements founds
     → let m = machine_after code s (begun code s thread) founds in
     let said = said_in code s (begun code s thread) elements founds in
     let lowered = lowered_in code s (begun code s thread) elements founds in

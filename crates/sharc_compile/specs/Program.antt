@@ -11,10 +11,13 @@ use Rattle.sharc_compile.specs.{Made.IsCodeOf, Source.FollowsSource}
 
 -- of what flattening makes, whose frames have numbers of 32 bits
 abbrev pub ProgramCodeFollows : Type 0
-ProgramCodeFollows = (m : Assignment) → ProgramSuits m → (flat : FlatCode) → Flattens m flat → FitsMade (flat_of flat) → (code : Code) → (is : IsCodeOf flat code)
-    → (s : Shape) (thread : ℕ) (elements : ℕ → Elements) (founds : List ℕ) → CodePath code s thread founds → IsConsistent code s (begun code s thread) elements founds
+ProgramCodeFollows = (m : Assignment) → ProgramSuits m → (flat : FlatCode) → Flattens m flat → FitsMade (flat_of flat)
+    → (code : Code) → (is : IsCodeOf flat code)
+    → (s : Shape) (thread : ℕ) (elements : ℕ → Elements) (founds : List ℕ) → CodePath code s thread founds
+    → IsConsistent code s (begun code s thread) elements founds
     → let at = machine_after code s (begun code s thread) founds in
     let said = said_in code s (begun code s thread) elements founds in
     let lowered = lowered_in code s (begun code s thread) elements founds in
     let paced = paced_in code s (begun code s thread) founds in
-    IsBeginning at said paced ⊎ FollowsSource m code (program_of is.g) (length flat.functions.items) thread at said lowered paced
+    IsBeginning at said paced
+    ⊎ FollowsSource m code (program_of is.g) (length flat.functions.items) thread at said lowered paced

@@ -9,7 +9,8 @@ use Rattle.sharc_code.specs.{declared.state.Stop.TheVariants.{Conflict, NoLock, 
 use Rattle.sharc_code.specs.Says.{place_at}
 use Rattle.sharc_guard.specs.Counted.{IsAccess, IsGivenAway, IsUnder}
 
--- A1 and A2: an access of that kind in mode dynamic. A3: an access under a mutex that the thread does not hold by its events. A4: a reference is given or freed.
+-- A1 and A2: an access of that kind in mode dynamic. A3: an access under a mutex that the thread does not hold by its
+-- events. A4: a reference is given or freed.
 abbrev pub IsRefused : Stop → Act → List SourceEvent → Type 0
 IsRefused (Conflict c) act events = (cell : CellAt) × IsAccess c.kind cell act
 IsRefused (NoLock site mutex) act events = (cell : CellAt) × IsUnder cell act × (holds_mutex events cell ≡ false)
@@ -29,4 +30,5 @@ IsReport _ = Unit {0}
 -- after these events the program wants what was refused, at the site of the report
 abbrev pub WantsRefused : Code → Machine → Asked → Type 0
 WantsRefused code at a = at.at.state ≡ Stopped → (stop : Stop) → at.own.stop ≡ Some stop → IsReport stop
-    → (act : Act) × (a.outcome ≡ wants (event_of (place_at code (site_of stop)).site act (pos 0))) × IsRefused stop act a.events
+    → (act : Act) × (a.outcome ≡ wants (event_of (place_at code (site_of stop)).site act (pos 0)))
+    × IsRefused stop act a.events

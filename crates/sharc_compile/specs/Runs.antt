@@ -11,11 +11,14 @@ use Rattle.sharc_compile.specs.{Made.IsCodeOf, Source.FollowsSource}
 
 -- where the results of its path are consistent with the elements of the run
 abbrev pub RunsFollowSource : Type 0
-RunsFollowSource = (m : Assignment) → ProgramSuits m → (flat : FlatCode) → Flattens m flat → FitsMade (flat_of flat) → (code : Code) → (is : IsCodeOf flat code)
-    → (s : Shape) (thread : ℕ) (run : List Turn) → CheckedRun code s run → let founds = founds_of (turns_of thread run) in let elements = elements_before code s thread run in
+RunsFollowSource = (m : Assignment) → ProgramSuits m → (flat : FlatCode) → Flattens m flat → FitsMade (flat_of flat)
+    → (code : Code) → (is : IsCodeOf flat code)
+    → (s : Shape) (thread : ℕ) (run : List Turn) → CheckedRun code s run
+    → let founds = founds_of (turns_of thread run) in let elements = elements_before code s thread run in
     IsConsistent code s (begun code s thread) elements founds
     → let at = (place_after code s run).threads thread in
     let told = reverse (told_in (said_by thread (Erase code s run))) in
     let lowered = lowered_in code s (begun code s thread) elements founds in
     let paced = paced_in code s (begun code s thread) founds in
-    IsBeginning at told paced ⊎ FollowsSource m code (program_of is.g) (length flat.functions.items) thread at told lowered paced
+    IsBeginning at told paced
+    ⊎ FollowsSource m code (program_of is.g) (length flat.functions.items) thread at told lowered paced

@@ -13,8 +13,8 @@ use sharc_flat_form::laws::paths_are_runs;
 use sharc_gen::{paths_law, run_paths_law};
 use sharc_guard::{checked_law, counted_law, framed_law, guarded_law, log_law};
 
-/// The paths of code with consistent results are those of the flat code that it was made of, whichever checks are dropped: the same
-/// events, the same stops, at most five counted turns for each line.
+/// The paths of code with consistent results are those of the flat code that it was made of, whichever checks are
+/// dropped: the same events, the same stops, at most five counted turns for each line.
 pub fn coded_law()
     ensures { CodeFollowsFlat }
 {
@@ -30,9 +30,10 @@ pub fn made_law()
     coded_law();
 }
 
-/// Where the flat code asks for what a program asks for, a thread of its code reports what the program reports by the answers of these events,
-/// is over as the program is, has lowered of the references that the program has given up since its last event the first ones, and makes
-/// at most 64 counted turns for each statement and expression that the program entered, and 64 more.
+/// Where the flat code asks for what a program asks for, a thread of its code reports what the program reports by the
+/// answers of these events, is over as the program is, has lowered of the references that the program has given up
+/// since its last event the first ones, and makes at most 64 counted turns for each statement and expression that the
+/// program entered, and 64 more.
 pub fn source_law()
     ensures { CodeFollowsSource }
 {
@@ -49,8 +50,8 @@ pub fn program_law()
     made_is_framed();
 }
 
-/// So what a thread has reported in a checked run of that code, in any interleaving, the program reports, where the results of the thread's path
-/// are consistent with the objects that the run has made.
+/// So what a thread has reported in a checked run of that code, in any interleaving, the program reports, where the
+/// results of the thread's path are consistent with the objects that the run has made.
 pub fn run_law()
     ensures { RunsFollowSource }
 {
@@ -58,17 +59,18 @@ pub fn run_law()
     run_paths_law();
 }
 
-/// Each access of a dynamic or locked cell in that code is no jump target, and comes directly after its check, but where the check repeats
-/// one and is dropped.
+/// Each access of a dynamic or locked cell in that code is no jump target, and comes directly after its check, but
+/// where the check repeats one and is dropped.
 pub fn checks_law()
     ensures { CodeIsChecked }
 {
     checked_law();
 }
 
-/// What a thread of that code counts in its registers, the program holds at its next want, its stop or its end, or it gives that up on the
-/// way there, after all that the code has lowered; and where the thread was refused by A1 to A4, the program wants what was refused: by A3 an
-/// access under a mutex that it does not hold. This is so where the flat code overwrites no reference and names the mutexes of its locks.
+/// What a thread of that code counts in its registers, the program holds at its next want, its stop or its end, or it
+/// gives that up on the way there, after all that the code has lowered; and where the thread was refused by A1 to A4,
+/// the program wants what was refused: by A3 an access under a mutex that it does not hold. This is so where the flat
+/// code overwrites no reference and names the mutexes of its locks.
 pub fn held_law()
     ensures { CodeCounts }
 {

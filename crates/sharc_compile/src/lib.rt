@@ -1,9 +1,10 @@
 //! Code from flat code, and what all steps to it keep.
 //!
-//! `code_of` makes the code (specs/Made.antt has what it is). `program_law` leads from a path of the code of a program to the program
-//! (specs/Program.antt), and `run_law` from what a thread reports in a run (specs/Runs.antt). `source_law` does so of any flat code that asks
-//! for what the program asks for (specs/Source.antt), and `made_law` leads to the flat code (specs/Coded.antt); `checks_law` says which
-//! accesses come after their checks (specs/Checked.antt), `held_law` whose the references are that registers have (specs/Held.antt).
+//! `code_of` makes the code (specs/Made.antt has what it is). `program_law` leads from a path of the code of a program
+//! to the program (specs/Program.antt), and `run_law` from what a thread reports in a run (specs/Runs.antt).
+//! `source_law` does so of any flat code that asks for what the program asks for (specs/Source.antt), and `made_law`
+//! leads to the flat code (specs/Coded.antt); `checks_law` says which accesses come after their checks
+//! (specs/Checked.antt), `held_law` whose the references are that registers have (specs/Held.antt).
 #![tactic(auto)]
 
 mod laws;

@@ -13,8 +13,8 @@ use sharc_gen::generate;
 use sharc_guard::{framed_law, guard, tables_law};
 use std::alloc::{AllocError, Global};
 
-/// The code of flat code, without the checks that repeat one. It takes over the tables. Its numbers are in the ranges that the machine asks
-/// for, where those of the flat code are.
+/// The code of flat code, without the checks that repeat one. It takes over the tables. Its numbers are in the ranges
+/// that the machine asks for, where those of the flat code are.
 ///
 /// An `Err` says that memory was not found, or that the code is too long for the numbers of its places.
 pub fn code_of(alloc: Global, flat: Flat) -> Result<Code, AllocError>

@@ -1,4 +1,5 @@
--- The functions of the code of a program are its functions: each has the place of its name, and the first one is `main`.
+-- The functions of the code of a program are its functions: each has the place of its name, and the first one is
+-- `main`.
 use Rattle.std.specs.Prelude.{◌<◌, ℕ, length}
 use Rattle.sharc_ctype.specs.Resolved.{function_at}
 use Rattle.sharc_mode.specs.Moded.{Assignment}
@@ -14,4 +15,5 @@ FunctionsAreNamed = (m : Assignment) (flat : FlatCode) → Flattens m flat → (
     → (f : ℕ) → f < length code.functions.items → IsNamedAt (function_at m.typed f) (function_of code f).site
 
 abbrev pub CodeHasMain : Type 0
-CodeHasMain = (m : Assignment) (flat : FlatCode) → Flattens m flat → (code : Code) → IsCodeOf flat code → IsMainOf m code.main
+CodeHasMain = (m : Assignment) (flat : FlatCode) → Flattens m flat
+    → (code : Code) → IsCodeOf flat code → IsMainOf m code.main

@@ -1,4 +1,5 @@
--- What a path of a thread of the code of a program reports, whatever words it finds: what the program asks for by the answers of the events that are reported.
+-- What a path of a thread of the code of a program reports, whatever words it finds: what the program asks for by the
+-- answers of the events that are reported.
 use Rattle.std.specs.Prelude.{ℕ, ℤ, pos, ◌+◌, ◌*◌, ◌≡◌, ◌<◌, ◌⊎◌, List, ◌∷◌, ◌++◌, map, reverse}
 use Rattle.sharc_tree.specs.{declared.event.Act.TheVariants.Started, declared.event.SourceEvent.SourceEvent}
 use Rattle.sharc_ctype.specs.Resolved.{function_at}
@@ -15,12 +16,14 @@ use Rattle.sharc_gen.specs.OfRuns.{elements_before, founds_of, told_in}
 use Rattle.sharc_compile.specs.{Made.IsCodeOf, Source.IsOverAs}
 use Rattle.sharc_flat_laws.specs.Typed.{IsTypedProgram}
 
--- The thread has reported exactly these events after its Started. With some fuel the program asks for just them, by their
--- answers, and is over as the code is: ended, or stopped at the same site by the same X, or, where the code was refused by
--- X7, X8, X9 or A1 to A4, at the event that it wants next. What the code has lowered since the last event are the first of
--- the references that the program has given up since. The turns that count are at most 64 for each statement and
--- expression that the program has entered, and 64 more: with fuel for fewer it is spent before it is there.
-pub record IsAskedFor (m : Assignment) (code : Code) (thread function : ℕ) (argument : ℤ) (told : List SourceEvent) (at : Machine) (lowered : List ℕ) (paced : ℕ) : Type 0 where
+-- The thread has reported exactly these events after its Started. With some fuel the program asks for just them, by
+-- their answers, and is over as the code is: ended, or stopped at the same site by the same X, or, where the code was
+-- refused by X7, X8, X9 or A1 to A4, at the event that it wants next. What the code has lowered since the last event
+-- are the first of the references that the program has given up since. The turns that count are at most 64 for each
+-- statement and expression that the program has entered, and 64 more: with fuel for fewer it is spent before it is
+-- there.
+pub record IsAskedFor (m : Assignment) (code : Code) (thread function : ℕ) (argument : ℤ) (told : List SourceEvent)
+    (at : Machine) (lowered : List ℕ) (paced : ℕ) : Type 0 where
   pub fuel : ℕ
   pub events : map (by thread) (asks m function argument (answers_of told) fuel).events ≡ told
   pub over : IsOverAs code (asks m function argument (answers_of told) fuel).outcome at.at.state at.own.stop
@@ -28,7 +31,8 @@ pub record IsAskedFor (m : Assignment) (code : Code) (thread function : ℕ) (ar
   pub pace : (few : ℕ) → 64 * few + 64 < paced → (asks m function argument (answers_of told) few).outcome ≡ spent
 
 -- It begins with the Started of a function, at the name of that; the rest is asked for, if the function may be started.
-pub record TellsProgram (m : Assignment) (code : Code) (thread : ℕ) (at : Machine) (said : List SourceEvent) (lowered : List ℕ) (paced : ℕ) : Type 0 where
+pub record TellsProgram (m : Assignment) (code : Code) (thread : ℕ) (at : Machine) (said : List SourceEvent)
+    (lowered : List ℕ) (paced : ℕ) : Type 0 where
   pub function : ℕ
   pub argument : ℤ
   pub begins : SourceEvent
@@ -42,7 +46,8 @@ pub record TellsProgram (m : Assignment) (code : Code) (thread : ℕ) (at : Mach
 
 -- So it is of each path, once it has begun, whose results are consistent.
 abbrev pub PathsTell : Assignment → Code → Type 0
-PathsTell m code = (s : Shape) (thread : ℕ) (elements : ℕ → Elements) (founds : List ℕ) → CodePath code s thread founds → IsConsistent code s (begun code s thread) elements founds
+PathsTell m code = (s : Shape) (thread : ℕ) (elements : ℕ → Elements) (founds : List ℕ) → CodePath code s thread founds
+    → IsConsistent code s (begun code s thread) elements founds
     → let at = machine_after code s (begun code s thread) founds in
     let said = said_in code s (begun code s thread) elements founds in
     let lowered = lowered_in code s (begun code s thread) elements founds in
@@ -52,7 +57,8 @@ PathsTell m code = (s : Shape) (thread : ℕ) (elements : ℕ → Elements) (fou
 -- And of each thread of a checked run, in any interleaving, whose path has results that are consistent with the objects
 -- that the run has made.
 abbrev pub ThreadsTellInRuns : Assignment → Code → Type 0
-ThreadsTellInRuns m code = (s : Shape) (thread : ℕ) (run : List Turn) → CheckedRun code s run → let founds = founds_of (turns_of thread run) in let elements = elements_before code s thread run in
+ThreadsTellInRuns m code = (s : Shape) (thread : ℕ) (run : List Turn) → CheckedRun code s run
+    → let founds = founds_of (turns_of thread run) in let elements = elements_before code s thread run in
     IsConsistent code s (begun code s thread) elements founds
     → let at = (place_after code s run).threads thread in
     let said = reverse (told_in (said_by thread (Erase code s run))) in
@@ -62,4 +68,5 @@ ThreadsTellInRuns m code = (s : Shape) (thread : ℕ) (run : List Turn) → Chec
 
 -- of the code of a typed, well-moded program
 abbrev pub OfTyped : (Assignment → Code → Type 0) → Type 0
-OfTyped Tells = (m : Assignment) → IsTypedProgram m → (flat : FlatCode) → Flattens m flat → FitsMade (flat_of flat) → (code : Code) → IsCodeOf flat code → Tells m code
+OfTyped Tells = (m : Assignment) → IsTypedProgram m → (flat : FlatCode) → Flattens m flat → FitsMade (flat_of flat)
+    → (code : Code) → IsCodeOf flat code → Tells m code

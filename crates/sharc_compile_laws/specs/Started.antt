@@ -14,9 +14,12 @@ HasThread m f = IsMainOf m f ⊎ ((n : ℕ) × Spawns m.typed n f)
 
 -- in a typed program
 abbrev pub ThreadsMayStart : Type 0
-ThreadsMayStart = (m : Assignment) → IsResolved m.typed → IsPlaced m.typed.program → IsLow m.typed.program → (f : ℕ) → HasThread m f → MayStart m f
+ThreadsMayStart = (m : Assignment) → IsResolved m.typed → IsPlaced m.typed.program → IsLow m.typed.program
+    → (f : ℕ) → HasThread m f → MayStart m f
 
 -- An instruction of the code of a typed program spawns what some function of the program spawns.
 abbrev pub SpawnedAreThreads : Type 0
-SpawnedAreThreads = (m : Assignment) → IsResolved m.typed → IsPlaced m.typed.program → IsLow m.typed.program → (flat : FlatCode) → Flattens m flat → (code : Code) → IsCodeOf flat code
-    → (pc to function site : ℕ) (from : Register) → instr_at code pc ≡ Spawn to function from site → (n : ℕ) × Spawns m.typed n function
+SpawnedAreThreads = (m : Assignment) → IsResolved m.typed → IsPlaced m.typed.program → IsLow m.typed.program
+    → (flat : FlatCode) → Flattens m flat → (code : Code) → IsCodeOf flat code
+    → (pc to function site : ℕ) (from : Register) → instr_at code pc ≡ Spawn to function from site
+    → (n : ℕ) × Spawns m.typed n function

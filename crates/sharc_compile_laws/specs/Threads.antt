@@ -1,4 +1,5 @@
--- What a thread reports in a checked run of the code of a program, in any interleaving, is what the program asks for by the answers of these events.
+-- What a thread reports in a checked run of the code of a program, in any interleaving, is what the program asks for by
+-- the answers of these events.
 use Rattle.std.specs.Prelude.{ℕ, ℤ, pos, ◌≡◌, ◌⊎◌, List, [], map, reverse}
 use Rattle.sharc_tree.specs.{declared.event.Act.TheVariants.Started, declared.event.SourceEvent.SourceEvent}
 use Rattle.sharc_ctype.specs.Resolved.{function_at}
@@ -11,8 +12,8 @@ use Rattle.sharc_flat.specs.{Correct.{MayStart, ProgramSuits}, Flattens.Flattens
 use Rattle.sharc_gen.specs.{Consistent.IsConsistent, OfRuns.{elements_before, founds_of, told_in}}
 use Rattle.sharc_compile.specs.Made.{IsCodeOf}
 
--- It begins with the Started of a function, at the name of that; and with some fuel the program asks for exactly the events after it, if the function may be started.
--- Nothing is said of who started it.
+-- It begins with the Started of a function, at the name of that; and with some fuel the program asks for exactly the
+-- events after it, if the function may be started. Nothing is said of who started it.
 pub record TellsIn (m : Assignment) (R : List SourceEvent) (thread : ℕ) : Type 0 where
   pub function : ℕ
   pub argument : ℤ
@@ -25,13 +26,17 @@ pub record TellsIn (m : Assignment) (R : List SourceEvent) (thread : ℕ) : Type
   pub act : begins.act ≡ Started argument
   pub answer : begins.answer ≡ pos 0
   pub site : IsNamedAt (function_at m.typed function) begins.site
-  pub asked : MayStart m function → (fuel : ℕ) × (map (by thread) (asks m function argument (answers_of (events_of thread after)) fuel).events ≡ events_of thread after)
+  pub asked : MayStart m function
+      → (fuel : ℕ) × (map (by thread) (asks m function argument (answers_of (events_of thread after)) fuel).events
+      ≡ events_of thread after)
 
 -- a thread reports nothing, or this; where the results of the paths of all threads are consistent
 abbrev pub RunsTell : Assignment → Code → Type 0
 RunsTell m code = (s : Shape) (run : List Turn) → CheckedRun code s run
-    → ((thread : ℕ) → IsConsistent code s (begun code s thread) (elements_before code s thread run) (founds_of (turns_of thread run)))
+    → ((thread : ℕ)
+    → IsConsistent code s (begun code s thread) (elements_before code s thread run) (founds_of (turns_of thread run)))
     → (thread : ℕ) → let R = reverse (told_in (Erase code s run)) in (events_of thread R ≡ []) ⊎ TellsIn m R thread
 
 abbrev pub ThreadsTell : Type 0
-ThreadsTell = (m : Assignment) → ProgramSuits m → (flat : FlatCode) → Flattens m flat → FitsMade (flat_of flat) → (code : Code) → IsCodeOf flat code → RunsTell m code
+ThreadsTell = (m : Assignment) → ProgramSuits m → (flat : FlatCode) → Flattens m flat → FitsMade (flat_of flat)
+    → (code : Code) → IsCodeOf flat code → RunsTell m code

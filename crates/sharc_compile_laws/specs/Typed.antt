@@ -13,14 +13,19 @@ use Rattle.sharc_compile_laws.specs.Threads.{RunsTell}
 
 -- the threads of its runs report what it asks for
 abbrev pub TypedThreadsTell : Type 0
-TypedThreadsTell = (m : Assignment) → IsTypedProgram m → (flat : FlatCode) → Flattens m flat → FitsMade (flat_of flat) → (code : Code) → IsCodeOf flat code → RunsTell m code
+TypedThreadsTell = (m : Assignment) → IsTypedProgram m → (flat : FlatCode) → Flattens m flat → FitsMade (flat_of flat)
+    → (code : Code) → IsCodeOf flat code → RunsTell m code
 
--- what the registers of a thread of its code have, it holds or gives up before it asks for more; and it wants what A1 to A4 refuse
+-- what the registers of a thread of its code have, it holds or gives up before it asks for more; and it wants what A1
+-- to A4 refuse
 abbrev pub TypedCodeCounts : Type 0
-TypedCodeCounts = (m : Assignment) → IsTypedProgram m → (flat : FlatCode) → Flattens m flat → FitsMade (flat_of flat) → (code : Code) → (is : IsCodeOf flat code)
-    → (s : Shape) (thread : ℕ) (elements : ℕ → Elements) (founds : List ℕ) → CodePath code s thread founds → IsConsistent code s (begun code s thread) elements founds
+TypedCodeCounts = (m : Assignment) → IsTypedProgram m → (flat : FlatCode) → Flattens m flat → FitsMade (flat_of flat)
+    → (code : Code) → (is : IsCodeOf flat code)
+    → (s : Shape) (thread : ℕ) (elements : ℕ → Elements) (founds : List ℕ) → CodePath code s thread founds
+    → IsConsistent code s (begun code s thread) elements founds
     → let at = machine_after code s (begun code s thread) founds in
     let said = said_in code s (begun code s thread) elements founds in
     let lowered = lowered_in code s (begun code s thread) elements founds in
     let paced = paced_in code s (begun code s thread) founds in
-    IsBeginning at said paced ⊎ HoldsWhatIsCounted m code (program_of is.g) (length flat.functions.items) thread at said lowered
+    IsBeginning at said paced
+    ⊎ HoldsWhatIsCounted m code (program_of is.g) (length flat.functions.items) thread at said lowered

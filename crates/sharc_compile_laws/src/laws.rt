@@ -11,8 +11,9 @@ use sharc_ctype_laws::laws::{has_main, one_function_of_name, spawns_threads};
 use sharc_flat_laws::laws::{made_spawns, typed_asks_the_same, typed_is_framed, typed_suits};
 use sharc_guard_laws::laws::{made_locks_stand, typed_is_level};
 
-/// What a thread reports in a checked run of the code of a program, in any interleaving, is what the program asks for by the answers of these
-/// events, after the Started of a function at its name; where the results of the paths of all threads are consistent.
+/// What a thread reports in a checked run of the code of a program, in any interleaving, is what the program asks for
+/// by the answers of these events, after the Started of a function at its name; where the results of the paths of all
+/// threads are consistent.
 pub fn threads_tell()
     ensures { ThreadsTell }
 {
@@ -27,8 +28,8 @@ pub fn typed_threads_tell()
     threads_tell();
 }
 
-/// And each path of a thread of that code whose results are consistent reports what the program asks for, is over as the program is, and keeps
-/// the pace; so does each thread of a checked run whose path is such a one.
+/// And each path of a thread of that code whose results are consistent reports what the program asks for, is over as
+/// the program is, and keeps the pace; so does each thread of a checked run whose path is such a one.
 pub fn typed_paths_tell()
     ensures paths { OfTyped PathsTell }
     ensures threads { OfTyped ThreadsTellInRuns }
@@ -47,8 +48,8 @@ pub fn threads_may_start()
     spawns_threads();
 }
 
-/// What the registers of a thread of that code have, the program holds or gives up before it asks for more; and it wants what A1 to A4
-/// refuse.
+/// What the registers of a thread of that code have, the program holds or gives up before it asks for more; and it
+/// wants what A1 to A4 refuse.
 pub fn typed_code_counts()
     ensures { TypedCodeCounts }
 {

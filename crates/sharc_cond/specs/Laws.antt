@@ -21,7 +21,8 @@ OrWaits = (word thread : ℕ) → thread < THREADS → waits_in (word_after (Or 
 
 -- and all others wait as before
 abbrev pub OrLeavesOthers : Type 0
-OrLeavesOthers = (word thread other : ℕ) → thread < THREADS → other ≢ thread → waits_in (word_after (Or (2 ^ thread)) word) other ≡ waits_in word other
+OrLeavesOthers = (word thread other : ℕ) → thread < THREADS → other ≢ thread
+    → waits_in (word_after (Or (2 ^ thread)) word) other ≡ waits_in word other
 
 -- a word that is not 0 has a lowest-numbered waiter, which is taken away alone
 abbrev pub LowestIsTakenAway : Type 0

@@ -2,8 +2,8 @@
 
 ghost use Rattle.sharc_cond.specs.Laws.{WaitersLaws};
 
-/// What holds of every word of waiters: it is determined by the threads that wait; the Or of `enter` adds one; and where it is not 0
-/// there is a lowest-numbered waiter, which `wake` takes away alone.
+/// What holds of every word of waiters: it is determined by the threads that wait; the Or of `enter` adds one; and
+/// where it is not 0 there is a lowest-numbered waiter, which `wake` takes away alone.
 #[inline(always)]
 pub fn waiters_laws()
     ensures { WaitersLaws }

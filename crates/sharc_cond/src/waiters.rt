@@ -23,8 +23,8 @@ pub fn waits(word: u64, thread: u32) -> bool
     (word >> thread) & 1 == 1
 }
 
-/// The lowest-numbered waiter, and the word without it. `None` comes exactly where the word is 0, which says that nobody
-/// waits.
+/// The lowest-numbered waiter, and the word without it. `None` comes exactly where the word is 0, which says that
+/// nobody waits.
 pub fn wake(word: u64) -> Option<(u32, u64)>
     ensures nobody { IsNone result ↔ (word ≡ 0) }
     ensures first { IfSome result (λ found. TakesAwayFirst word found.1 found.0) }

@@ -1,5 +1,6 @@
 -- The least assignment: which unwritten positions are dynamic, their ranks and reasons.
-use Rattle.std.specs.Prelude.{◌≡◌, ℕ, zero, suc, ◌+◌, ◌≤◌, ◌⊎◌, Bool, true, false, List, [], ◌∷◌, length, slice_index_or, if◌then◌else◌}
+use Rattle.std.specs.Prelude.{◌≡◌, ℕ, zero, suc, ◌+◌, ◌≤◌, ◌⊎◌, Bool, true, false, List, [], ◌∷◌, length}
+use Rattle.std.specs.Prelude.{slice_index_or, if◌then◌else◌}
 use Rattle.std.specs.List.{Contains}
 use Rattle.sharc_graph.specs.{declared.graph.Node.Node, declared.graph.Edge.Edge, declared.graph.Finding.Finding}
 use Rattle.sharc_graph.specs.{declared.graph.Finding.TheVariants.{Apart, Source, Behind}, Findings.finding_at}
@@ -65,7 +66,8 @@ abbrev pub IsFirstFor : Flow → ℕ → ℕ → Type 0
 IsFirstFor f from to = (IsSource f from × HasEdge f from to) ⊎ (IsOther f from × LeadsDown f from to)
 
 -- ---- paths
--- each of these has no written mode, and an edge leads to it from the one before; to the first of them from this position
+-- each of these has no written mode, and an edge leads to it from the one before; to the first of them from this
+-- position
 abbrev pub Follow : Flow → ℕ → List ℕ → Type 0
 Follow f position [] = Unit {0}
 Follow f position (next ∷ rest) = HasEdge f position next × IsUnwritten f next × Follow f next rest
@@ -131,4 +133,6 @@ leads Other below = below
 -- the edges by which a path may go on
 abbrev pub kept_edges : List Place → List Link → List Edge
 kept_edges places [] = []
-kept_edges places (link ∷ rest) = if leads (place_at places link.edge.from) link.below then link.edge ∷ kept_edges places rest else kept_edges places rest
+kept_edges places (link ∷ rest) =
+    if leads (place_at places link.edge.from) link.below then link.edge ∷ kept_edges places rest
+    else kept_edges places rest

@@ -2,7 +2,8 @@
 use Rattle.std.specs.Prelude.{◌≡◌, ℕ, Bool, true, List}
 use Rattle.sharc_graph.specs.{declared.graph.Finding.Finding, declared.graph.Finding.TheVariants.Apart}
 use Rattle.sharc_graph.specs.Findings.{finding_at}
-use Rattle.sharc_constraints.specs.Flow.{Flow, IsUnwritten, IsSource, IsFirstFor, HasEdge, IsEqual, LeadsTo, AreInferred}
+use Rattle.sharc_constraints.specs.Flow.{Flow, IsUnwritten, IsSource, IsFirstFor, HasEdge, IsEqual, LeadsTo}
+use Rattle.sharc_constraints.specs.Flow.{AreInferred}
 
 -- a position is inferred dynamic where no mode is written there and a path leads to it
 pub record IsDynamic (f : Flow) (position : ℕ) : Type 0 where
@@ -11,7 +12,8 @@ pub record IsDynamic (f : Flow) (position : ℕ) : Type 0 where
   pub rest : List ℕ
   pub path : LeadsTo f first rest position
 
--- these positions without a written mode are enough: the roots are among them, what a written position leads to, and what one of them leads to
+-- these positions without a written mode are enough: the roots are among them, what a written position leads to, and
+-- what one of them leads to
 pub record IsClosed (f : Flow) (Among : ℕ → Type 0) : Type 0 where
   pub roots : (position : ℕ) → IsSource f position → IsUnwritten f position → Among position
   pub written : (from to : ℕ) → IsFirstFor f from to → IsUnwritten f to → Among to
@@ -23,16 +25,19 @@ AreEnough = (f : Flow) → IsClosed f (IsDynamic f)
 
 -- and any assignment of dynamic that is enough has them
 abbrev pub AreLeast : Type 0
-AreLeast = (f : Flow) (dynamic : ℕ → Bool) → IsClosed f (λ position. dynamic position ≡ true) → (position : ℕ) → IsDynamic f position → dynamic position ≡ true
+AreLeast = (f : Flow) (dynamic : ℕ → Bool) → IsClosed f (λ position. dynamic position ≡ true)
+    → (position : ℕ) → IsDynamic f position → dynamic position ≡ true
 
 -- two positions without a written mode that are equal in both directions are both dynamic or neither is
 abbrev pub EqualsAgree : Type 0
-EqualsAgree = (f : Flow) (a b : ℕ) → IsEqual f a b → IsEqual f b a → IsUnwritten f a → IsUnwritten f b → (IsDynamic f a → IsDynamic f b) × (IsDynamic f b → IsDynamic f a)
+EqualsAgree = (f : Flow) (a b : ℕ) → IsEqual f a b → IsEqual f b a → IsUnwritten f a → IsUnwritten f b
+    → (IsDynamic f a → IsDynamic f b) × (IsDynamic f b → IsDynamic f a)
 
 -- what is found shows them: a position without a written mode is dynamic where it is not apart
 abbrev pub AreTold : Type 0
 AreTold = (f : Flow) (findings : List Finding) → AreInferred f findings → (position : ℕ) → IsUnwritten f position
-    → (finding_at findings position ≡ Apart → IsDynamic f position → ⊥) × ((finding_at findings position ≡ Apart → ⊥) → IsDynamic f position)
+    → (finding_at findings position ≡ Apart → IsDynamic f position → ⊥)
+    × ((finding_at findings position ≡ Apart → ⊥) → IsDynamic f position)
 
 pub record FlowLaws : Type 0 where
   pub enough : AreEnough

@@ -1,5 +1,6 @@
 -- Ranks as rounds over all links find them.
-use Rattle.std.specs.Prelude.{◌≡◌, ℕ, zero, suc, ◌+◌, ◌<◌, ◌≤◌, ◌⊎◌, Bool, true, false, ◌&&◌, List, length, slice_index_or, slice_set, count_by, if◌then◌else◌, Option, Some, None, nat_eq}
+use Rattle.std.specs.Prelude.{◌≡◌, ℕ, zero, suc, ◌+◌, ◌<◌, ◌≤◌, ◌⊎◌, Bool, true, false, ◌&&◌, List, length}
+use Rattle.std.specs.Prelude.{slice_index_or, slice_set, count_by, if◌then◌else◌, Option, Some, None, nat_eq}
 use Rattle.sharc_constraints.specs.declared.place.Place.{Place}
 use Rattle.sharc_constraints.specs.declared.place.Place.TheVariants.{Root, Unwritten, Dynamic, Private, Other}
 use Rattle.sharc_constraints.specs.{declared.place.Link.Link, Flow.{Flow, place_at, link_of, is_unwritten}}
@@ -43,10 +44,12 @@ is_rank (Some rank) wanted = nat_eq rank wanted
 -- ---- one link
 -- the link leads from a position of this rank to one without a written mode that has none yet
 abbrev pub is_next : List Place → Ranks → Link → ℕ → Bool
-is_next places ranks link rank = is_rank (rank_for places ranks link) rank && (is_unwritten (place_at places link.edge.to) && is_none (rank_at ranks link.edge.to))
+is_next places ranks link rank = is_rank (rank_for places ranks link) rank
+    && (is_unwritten (place_at places link.edge.to) && is_none (rank_at ranks link.edge.to))
 
 abbrev pub ranks_behind : List Place → Ranks → Link → ℕ → Ranks
-ranks_behind places ranks link rank = if is_next places ranks link rank then slice_set ranks link.edge.to (Some (rank + 1)) else ranks
+ranks_behind places ranks link rank =
+    if is_next places ranks link rank then slice_set ranks link.edge.to (Some (rank + 1)) else ranks
 
 -- ---- the ranks so far
 -- one of the links leads to the position, from one that is of this rank for it
@@ -58,14 +61,16 @@ pub record IsBehind (f : Flow) (ranks : Ranks) (position below : ℕ) : Type 0 w
 
 abbrev pub IsFound : Flow → Ranks → ℕ → ℕ → Type 0
 IsFound f ranks position zero = place_at f.places position ≡ Root
-IsFound f ranks position (suc below) = (is_unwritten (place_at f.places position) ≡ true) × IsBehind f ranks position below
+IsFound f ranks position (suc below) =
+    (is_unwritten (place_at f.places position) ≡ true) × IsBehind f ranks position below
 
 abbrev pub HasRank : Ranks → ℕ → ℕ → Type 0
 HasRank ranks position most = (rank : ℕ) × (rank_at ranks position ≡ Some rank) × (rank ≤ most)
 
 -- what the link leads to is of at most one rank more
 abbrev pub IsServed : Flow → Ranks → Link → ℕ → Type 0
-IsServed f ranks link rank = rank_for f.places ranks link ≡ Some rank → is_unwritten (place_at f.places link.edge.to) ≡ true → HasRank ranks link.edge.to (rank + 1)
+IsServed f ranks link rank = rank_for f.places ranks link ≡ Some rank
+    → is_unwritten (place_at f.places link.edge.to) ≡ true → HasRank ranks link.edge.to (rank + 1)
 
 -- this many of the links have been gone over in this round, and all of them in those before
 pub record AreRanks (f : Flow) (ranks : Ranks) (round links : ℕ) : Type 0 where
@@ -95,9 +100,11 @@ pub record AreFinal (f : Flow) (ranks : Ranks) : Type 0 where
 -- no position is lower that is of this rank for a link to this one
 abbrev pub IsLowest : Flow → Ranks → ℕ → (position below lowest : ℕ) → Type 0
 IsLowest f ranks links position below lowest =
-    (i : ℕ) → i < links → (link_at f.links i).edge.to ≡ position → rank_for f.places ranks (link_at f.links i) ≡ Some below → lowest ≤ (link_at f.links i).edge.from
+    (i : ℕ) → i < links → (link_at f.links i).edge.to ≡ position
+    → rank_for f.places ranks (link_at f.links i) ≡ Some below → lowest ≤ (link_at f.links i).edge.from
 
 -- it is such a position, or stands for none
 abbrev pub IsSome : Flow → Ranks → ℕ → (position below lowest none : ℕ) → Type 0
 IsSome f ranks links position below lowest none =
-    (lowest ≡ none) ⊎ ((i : ℕ) × (i < links) × ((link_at f.links i).edge.to ≡ position) × (rank_for f.places ranks (link_at f.links i) ≡ Some below) × ((link_at f.links i).edge.from ≡ lowest))
+    (lowest ≡ none) ⊎ ((i : ℕ) × (i < links) × ((link_at f.links i).edge.to ≡ position)
+    × (rank_for f.places ranks (link_at f.links i) ≡ Some below) × ((link_at f.links i).edge.from ≡ lowest))

@@ -2,7 +2,8 @@
 
 ghost use Rattle.sharc_constraints.specs.Laws.{FlowLaws};
 
-/// The inferred positions have all that the roots, the written modes and the links ask for, and are among any others that have it; equal positions agree; and what is found shows them.
+/// The inferred positions have all that the roots, the written modes and the links ask for, and are among any others
+/// that have it; equal positions agree; and what is found shows them.
 pub fn flow_laws()
     ensures { FlowLaws }
 {}

@@ -8,7 +8,8 @@ use crate::place::Link;
 use sharc_graph::Edge;
 use std::alloc::AllocError;
 
-/// Makes this many positions from the first on equal to those from the second on, depth by depth and in both directions.
+/// Makes this many positions from the first on equal to those from the second on, depth by depth and in both
+/// directions.
 pub fn make_equal(
     links: &mut Vec<Link>,
     first: u32,

@@ -4,14 +4,16 @@ ghost use Rattle.std.specs.Prelude.{◌≡◌, ◌+◌, ◌^◌, ◌<◌, ◌&&�
 ghost use Rattle.std.specs.List.{All};
 ghost use Rattle.sharc_graph.specs.Paths.{IsWithin};
 ghost use Rattle.sharc_constraints.specs.Flow.{flow_of, place_at, is_unwritten, AreInferred, IsInferred};
-ghost use Rattle.sharc_constraints.specs.Rounds.{first_rank, rank_by, rank_for, is_rank, is_next, ranks_behind, unranked, AreRanks, AreUpTo, AreFinal, IsLowest, IsSome};
+ghost use Rattle.sharc_constraints.specs.Rounds.{first_rank, rank_by, rank_for, is_rank, is_next, ranks_behind};
+ghost use Rattle.sharc_constraints.specs.Rounds.{unranked, AreRanks, AreUpTo, AreFinal, IsLowest, IsSome};
 
 use crate::place::{Link, Place};
 use sharc_graph::Finding;
 use std::alloc::{AllocError, Global};
 
-/// What `least_assignment` answers of the positions without a written mode, by a plain program: rounds over all links until one finds nothing, and one
-/// look at all links for each reason. A position with a written mode is answered Apart.
+/// What `least_assignment` answers of the positions without a written mode, by a plain program: rounds over all links
+/// until one finds nothing, and one look at all links for each reason. A position with a written mode is answered
+/// Apart.
 pub fn least_by_rounds(
     alloc: Global,
     places: &[Place],
@@ -82,7 +84,8 @@ fn is_unwritten(place: Place) -> bool
     matches!(place, Place::Root | Place::Unwritten)
 }
 
-// What the link leads to is of one rank more, where it comes from a position of this rank. Whether it was of none before.
+// What the link leads to is of one rank more, where it comes from a position of this rank. Whether it was of none
+// before.
 fn follow(places: &[Place], link: &Link, rank: usize, ranks: &mut Vec<Option<usize>>) -> bool
     requires within { IsWithin (length places.now) link.now.edge }
     requires size { length ranks.old.items ≡ length places.now }
@@ -164,7 +167,8 @@ fn finding(places: &[Place], links: &[Link], ranks: &[Option<usize>], position: 
     requires within { All (λ link. IsWithin (length places.now) link.edge) links.now }
     requires ranks { AreFinal (flow_of places.now links.now) ranks.now }
     requires position { position < length places.now }
-    ensures { is_unwritten (place_at places.now position) ≡ true → IsInferred (flow_of places.now links.now) position result }
+    ensures { is_unwritten (place_at places.now position) ≡ true
+        → IsInferred (flow_of places.now links.now) position result }
 {
     match ranks[position as usize] {
         None => Finding::Apart,

@@ -3,7 +3,8 @@
 ghost use Rattle.std.specs.Prelude.{◌≡◌, ◌==◌, ◌<◌, ◌+◌, ◌^◌, ◌*ℤ◌, pos};
 ghost use Rattle.sharc_cpu.specs.Shifts.{is_count};
 ghost use Rattle.sharc_code.specs.declared.instr.Operator.TheVariants as operators;
-ghost use Rattle.sharc_code.specs.Arithmetic.{word_of, int_of, holds, is_zero, truth, in_range, computed, negated, complement, value_bits};
+ghost use Rattle.sharc_code.specs.Arithmetic.{word_of, int_of, holds, is_zero, truth, in_range, computed, negated};
+ghost use Rattle.sharc_code.specs.Arithmetic.{complement, value_bits};
 
 use sharc_code::{Operator, Width};
 use sharc_tree::trap::Trap;

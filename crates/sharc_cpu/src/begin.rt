@@ -37,7 +37,8 @@ fn most_refs(code: &Code) -> u32
     most
 }
 
-/// A thread of this number that made no turn: 256 frames, each with the registers of the largest function, and a row for each granule.
+/// A thread of this number that made no turn: 256 frames, each with the registers of the largest function, and a row
+/// for each granule.
 ///
 /// An `Err` says that memory was not found.
 pub(crate) fn begun(

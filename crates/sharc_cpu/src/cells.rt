@@ -5,7 +5,8 @@ ghost use Rattle.sharc_word.specs.Place.{event_of};
 ghost use Rattle.sharc_word.specs.declared.step.WordOp.TheVariants as ops;
 ghost use Rattle.sharc_code.specs.Layout.{IsShape, granules, words_of, granule_at, granule_of, length_word};
 ghost use Rattle.sharc_code.specs.Arithmetic.{word_of, int_of};
-ghost use Rattle.sharc_code.specs.Machine.{Asks, step_of, int, ref, set_int, set_ref, goes, accessed, place, word, is_of_null, object, without_base, indexed, largest};
+ghost use Rattle.sharc_code.specs.Machine.{Asks, step_of, int, ref, set_int, set_ref, goes, accessed, place, word};
+ghost use Rattle.sharc_code.specs.Machine.{is_of_null, object, without_base, indexed, largest};
 ghost use Rattle.sharc_cpu.specs.View.{machine_of, Makes, KeepsPort};
 
 use crate::arithmetic::{int_of, word_of};
@@ -19,7 +20,8 @@ use sharc_word::{Port, WordOp, WordStep};
 #[inline(always)]
 pub(crate) fn ask<P: Port>(port: &mut P, step: WordStep) -> u64
     requires { step.word < P.count port.old }
-    ensures leads { (thread : _) → P.serves port.old thread → P.leads (P.place port.old) (event_of thread step result) (P.place port.new) }
+    ensures leads { (thread : _) → P.serves port.old thread
+        → P.leads (P.place port.old) (event_of thread step result) (P.place port.new) }
     ensures port { KeepsPort P.count P.name P.serves port.old port.new }
 {
     port.step(step)
@@ -139,7 +141,9 @@ pub(crate) fn load_word<P: Port>(
 ) -> u64
     requires place { at.old.pc + 1 < 2 ^ 64 }
     requires word { word < P.count port.old }
-    ensures turn { Makes (P.serves port.old) P.leads (Asks (step_of word ops.Load) (λ found. goes (accessed (set_int (machine_of at.old parts.old) register (int_of found))))) parts.old.number (machine_of at.new parts.new) result (P.place port.old) (P.place port.new) }
+    ensures turn { Makes (P.serves port.old) P.leads (Asks (step_of word ops.Load)
+        (λ found. goes (accessed (set_int (machine_of at.old parts.old) register (int_of found))))) parts.old.number
+        (machine_of at.new parts.new) result (P.place port.old) (P.place port.new) }
     ensures port { KeepsPort P.count P.name P.serves port.old port.new }
     ensures room { vec_capacity parts.new.prints ≡ vec_capacity parts.old.prints }
 {
@@ -169,7 +173,10 @@ pub(crate) fn load<P: Port>(
     requires shape { IsShape shape }
     requires place { at.old.pc + 1 < 2 ^ 64 }
     requires words { P.count port.old ≡ words_of shape }
-    ensures turn { Makes (P.serves port.old) P.leads (Asks (step_of (word shape (machine_of at.old parts.old) cell) ops.Load) (λ found. goes (accessed (set_int (machine_of at.old parts.old) register (int_of found))))) parts.old.number (machine_of at.new parts.new) result (P.place port.old) (P.place port.new) }
+    ensures turn { Makes (P.serves port.old) P.leads
+        (Asks (step_of (word shape (machine_of at.old parts.old) cell) ops.Load)
+        (λ found. goes (accessed (set_int (machine_of at.old parts.old) register (int_of found))))) parts.old.number
+        (machine_of at.new parts.new) result (P.place port.old) (P.place port.new) }
     ensures port { KeepsPort P.count P.name P.serves port.old port.new }
     ensures room { vec_capacity parts.new.prints ≡ vec_capacity parts.old.prints }
 {
@@ -188,7 +195,10 @@ pub(crate) fn store_word<P: Port>(
 ) -> u64
     requires place { at.old.pc + 1 < 2 ^ 64 }
     requires word { word < P.count port.old }
-    ensures turn { Makes (P.serves port.old) P.leads (Asks (step_of word (ops.Swap (word_of (int (machine_of at.old parts.old) register)))) (λ found. goes (accessed (machine_of at.old parts.old)))) parts.old.number (machine_of at.new parts.new) result (P.place port.old) (P.place port.new) }
+    ensures turn { Makes (P.serves port.old) P.leads
+        (Asks (step_of word (ops.Swap (word_of (int (machine_of at.old parts.old) register))))
+        (λ found. goes (accessed (machine_of at.old parts.old)))) parts.old.number (machine_of at.new parts.new) result
+        (P.place port.old) (P.place port.new) }
     ensures port { KeepsPort P.count P.name P.serves port.old port.new }
     ensures room { vec_capacity parts.new.prints ≡ vec_capacity parts.old.prints }
 {
@@ -218,7 +228,10 @@ pub(crate) fn store<P: Port>(
     requires shape { IsShape shape }
     requires place { at.old.pc + 1 < 2 ^ 64 }
     requires words { P.count port.old ≡ words_of shape }
-    ensures turn { Makes (P.serves port.old) P.leads (Asks (step_of (word shape (machine_of at.old parts.old) cell) (ops.Swap (word_of (int (machine_of at.old parts.old) register)))) (λ found. goes (accessed (machine_of at.old parts.old)))) parts.old.number (machine_of at.new parts.new) result (P.place port.old) (P.place port.new) }
+    ensures turn { Makes (P.serves port.old) P.leads
+        (Asks (step_of (word shape (machine_of at.old parts.old) cell) (ops.Swap (word_of
+        (int (machine_of at.old parts.old) register)))) (λ found. goes (accessed (machine_of at.old parts.old))))
+        parts.old.number (machine_of at.new parts.new) result (P.place port.old) (P.place port.new) }
     ensures port { KeepsPort P.count P.name P.serves port.old port.new }
     ensures room { vec_capacity parts.new.prints ≡ vec_capacity parts.old.prints }
 {
@@ -238,7 +251,10 @@ pub(crate) fn load_reference<P: Port>(
     requires shape { IsShape shape }
     requires place { at.pc + 1 < 2 ^ 64 }
     requires words { P.count port.old ≡ words_of shape }
-    ensures turn { Makes (P.serves port.old) P.leads (Asks (step_of (word shape (machine_of at parts.old) cell) ops.Load) (λ found. goes (record (machine_of at parts.old) { pending = found }))) parts.old.number (machine_of result.at parts.new) result.found (P.place port.old) (P.place port.new) }
+    ensures turn { Makes (P.serves port.old) P.leads
+        (Asks (step_of (word shape (machine_of at parts.old) cell) ops.Load)
+        (λ found. goes (record (machine_of at parts.old) { pending = found }))) parts.old.number
+        (machine_of result.at parts.new) result.found (P.place port.old) (P.place port.new) }
     ensures port { KeepsPort P.count P.name P.serves port.old port.new }
     ensures room { vec_capacity parts.new.prints ≡ vec_capacity parts.old.prints }
 {
@@ -270,7 +286,10 @@ pub(crate) fn exchange<P: Port>(
     requires shape { IsShape shape }
     requires place { at.pc + 1 < 2 ^ 64 }
     requires words { P.count port.old ≡ words_of shape }
-    ensures turn { Makes (P.serves port.old) P.leads (Asks (step_of (word shape (machine_of at parts.old) cell) (ops.Swap (ref (machine_of at parts.old) register))) (λ found. goes (accessed (set_ref (machine_of at parts.old) register found)))) parts.old.number (machine_of result.at parts.new) result.found (P.place port.old) (P.place port.new) }
+    ensures turn { Makes (P.serves port.old) P.leads
+        (Asks (step_of (word shape (machine_of at parts.old) cell) (ops.Swap (ref (machine_of at parts.old) register)))
+        (λ found. goes (accessed (set_ref (machine_of at parts.old) register found)))) parts.old.number
+        (machine_of result.at parts.new) result.found (P.place port.old) (P.place port.new) }
     ensures port { KeepsPort P.count P.name P.serves port.old port.new }
     ensures room { vec_capacity parts.new.prints ≡ vec_capacity parts.old.prints }
 {
@@ -304,7 +323,9 @@ pub(crate) fn take_cell<P: Port>(
     requires shape { IsShape shape }
     requires place { at.pc + 1 < 2 ^ 64 }
     requires words { P.count port.old ≡ words_of shape }
-    ensures turn { Makes (P.serves port.old) P.leads (Asks (step_of (word shape (machine_of at parts.old) cell) (ops.Swap 0)) (λ found. goes (accessed (set_ref (machine_of at parts.old) register found)))) parts.old.number (machine_of result.at parts.new) result.found (P.place port.old) (P.place port.new) }
+    ensures turn { Makes (P.serves port.old) P.leads (Asks (step_of (word shape (machine_of at parts.old) cell)
+        (ops.Swap 0)) (λ found. goes (accessed (set_ref (machine_of at parts.old) register found)))) parts.old.number
+        (machine_of result.at parts.new) result.found (P.place port.old) (P.place port.new) }
     ensures port { KeepsPort P.count P.name P.serves port.old port.new }
     ensures room { vec_capacity parts.new.prints ≡ vec_capacity parts.old.prints }
 {
@@ -340,7 +361,10 @@ pub(crate) fn bounds<P: Port>(
     requires shape { IsShape shape }
     requires place { at.pc + 1 < 2 ^ 64 }
     requires words { P.count port.old ≡ words_of shape }
-    ensures turn { Makes (P.serves port.old) P.leads (Asks (step_of (length_word shape (ref (machine_of at parts.old) base)) ops.Load) (indexed (machine_of at parts.old) register (int (machine_of at parts.old) register) cells field site)) parts.old.number (machine_of result.at parts.new) result.found (P.place port.old) (P.place port.new) }
+    ensures turn { Makes (P.serves port.old) P.leads
+        (Asks (step_of (length_word shape (ref (machine_of at parts.old) base)) ops.Load)
+        (indexed (machine_of at parts.old) register (int (machine_of at parts.old) register) cells field site))
+        parts.old.number (machine_of result.at parts.new) result.found (P.place port.old) (P.place port.new) }
     ensures port { KeepsPort P.count P.name P.serves port.old port.new }
     ensures room { vec_capacity parts.new.prints ≡ vec_capacity parts.old.prints }
 {

@@ -40,7 +40,9 @@ pub(crate) fn raise<P: Port>(
     requires shape { IsShape shape }
     requires place { at.pc + 1 < 2 ^ 64 }
     requires words { P.count port.old ≡ words_of shape }
-    ensures turn { Makes (P.serves port.old) P.leads (raise shape (ref (machine_of at parts.old) from) (goes (set_ref (machine_of at parts.old) register (ref (machine_of at parts.old) from)))) parts.old.number (machine_of result.at parts.new) result.found (P.place port.old) (P.place port.new) }
+    ensures turn { Makes (P.serves port.old) P.leads (raise shape (ref (machine_of at parts.old) from)
+        (goes (set_ref (machine_of at parts.old) register (ref (machine_of at parts.old) from)))) parts.old.number
+        (machine_of result.at parts.new) result.found (P.place port.old) (P.place port.new) }
     ensures port { KeepsPort P.count P.name P.serves port.old port.new }
     ensures room { vec_capacity parts.new.prints ≡ vec_capacity parts.old.prints }
 {
@@ -68,7 +70,9 @@ pub(crate) fn raise_loaded<P: Port>(
     requires shape { IsShape shape }
     requires place { at.pc + 1 < 2 ^ 64 }
     requires words { P.count port.old ≡ words_of shape }
-    ensures turn { Makes (P.serves port.old) P.leads (raise shape (machine_of at parts.old).pending (goes (accessed (set_ref (machine_of at parts.old) register (machine_of at parts.old).pending)))) parts.old.number (machine_of result.at parts.new) result.found (P.place port.old) (P.place port.new) }
+    ensures turn { Makes (P.serves port.old) P.leads (raise shape (machine_of at parts.old).pending
+        (goes (accessed (set_ref (machine_of at parts.old) register (machine_of at parts.old).pending))))
+        parts.old.number (machine_of result.at parts.new) result.found (P.place port.old) (P.place port.new) }
     ensures port { KeepsPort P.count P.name P.serves port.old port.new }
     ensures room { vec_capacity parts.new.prints ≡ vec_capacity parts.old.prints }
 {
@@ -97,7 +101,9 @@ pub(crate) fn lower<P: Port>(
     requires shape { IsShape shape }
     requires place { at.pc + 1 < 2 ^ 64 }
     requires words { P.count port.old ≡ words_of shape }
-    ensures turn { Makes (P.serves port.old) P.leads (lower shape (ref (machine_of at parts.old) register) (goes (set_ref (machine_of at parts.old) register 0))) parts.old.number (machine_of result.at parts.new) result.found (P.place port.old) (P.place port.new) }
+    ensures turn { Makes (P.serves port.old) P.leads
+        (lower shape (ref (machine_of at parts.old) register) (goes (set_ref (machine_of at parts.old) register 0)))
+        parts.old.number (machine_of result.at parts.new) result.found (P.place port.old) (P.place port.new) }
     ensures port { KeepsPort P.count P.name P.serves port.old port.new }
     ensures room { vec_capacity parts.new.prints ≡ vec_capacity parts.old.prints }
 {
@@ -126,7 +132,9 @@ pub(crate) fn take_local<P: Port>(
     requires shape { IsShape shape }
     requires place { at.pc + 1 < 2 ^ 64 }
     requires words { P.count port.old ≡ words_of shape }
-    ensures turn { Makes (P.serves port.old) P.leads (test shape (ref (machine_of at parts.old) from) (goes (move_ref (machine_of at parts.old) register from))) parts.old.number (machine_of result.at parts.new) result.found (P.place port.old) (P.place port.new) }
+    ensures turn { Makes (P.serves port.old) P.leads
+        (test shape (ref (machine_of at parts.old) from) (goes (move_ref (machine_of at parts.old) register from)))
+        parts.old.number (machine_of result.at parts.new) result.found (P.place port.old) (P.place port.new) }
     ensures port { KeepsPort P.count P.name P.serves port.old port.new }
     ensures room { vec_capacity parts.new.prints ≡ vec_capacity parts.old.prints }
 {
@@ -156,7 +164,9 @@ pub(crate) fn test_sole<P: Port>(
     requires shape { IsShape shape }
     requires place { at.pc + 1 < 2 ^ 64 }
     requires words { P.count port.old ≡ words_of shape }
-    ensures turn { Makes (P.serves port.old) P.leads (Asks (test_of (count_word shape (ref (machine_of at parts.old) register))) (tested (machine_of at parts.old) site)) parts.old.number (machine_of result.at parts.new) result.found (P.place port.old) (P.place port.new) }
+    ensures turn { Makes (P.serves port.old) P.leads (Asks
+        (test_of (count_word shape (ref (machine_of at parts.old) register))) (tested (machine_of at parts.old) site))
+        parts.old.number (machine_of result.at parts.new) result.found (P.place port.old) (P.place port.new) }
     ensures port { KeepsPort P.count P.name P.serves port.old port.new }
     ensures room { vec_capacity parts.new.prints ≡ vec_capacity parts.old.prints }
 {
@@ -178,7 +188,9 @@ pub(crate) fn give<P: Port>(
     requires shape { IsShape shape }
     requires place { at.pc + 1 < 2 ^ 64 }
     requires words { P.count port.old ≡ words_of shape }
-    ensures turn { Makes (P.serves port.old) P.leads (Asks (test_of (count_word shape (ref (machine_of at parts.old) register))) (λ found. goes (machine_of at parts.old))) parts.old.number (machine_of result.at parts.new) result.found (P.place port.old) (P.place port.new) }
+    ensures turn { Makes (P.serves port.old) P.leads (Asks
+        (test_of (count_word shape (ref (machine_of at parts.old) register))) (λ found. goes (machine_of at parts.old)))
+        parts.old.number (machine_of result.at parts.new) result.found (P.place port.old) (P.place port.new) }
     ensures port { KeepsPort P.count P.name P.serves port.old port.new }
     ensures room { vec_capacity parts.new.prints ≡ vec_capacity parts.old.prints }
 {

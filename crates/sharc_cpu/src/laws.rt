@@ -18,8 +18,8 @@ pub fn path_laws<P: Port>()
     ensures { PathsJoin P.leads }
 {}
 
-/// A thread has one of the numbers of threads, a row for each granule, a stage of the shape, and a stop exactly where its last turn was
-/// one.
+/// A thread has one of the numbers of threads, a row for each granule, a stage of the shape, and a stop exactly where
+/// its last turn was one.
 #[inline(always)]
 pub fn thread_law(code: &Code, shape: &Shape, thread: &Thread)
     requires { IsThread code.now shape.now thread.now }

@@ -5,7 +5,8 @@ ghost use Rattle.sharc_word.specs.declared.step.WordOp.TheVariants as ops;
 ghost use Rattle.sharc_word.specs.declared.step.TheConstants.{THREADS as threads};
 ghost use Rattle.sharc_code.specs.Layout.{IsShape, words_of};
 ghost use Rattle.sharc_cond.specs.Waiters.{without_lowest};
-ghost use Rattle.sharc_code.specs.Machine.{Asks, step_of, word, goes, taken, locked, unlocked, rests, woken, wakes, signal};
+ghost use Rattle.sharc_code.specs.Machine.{Asks, step_of, word, goes, taken, locked, unlocked, rests, woken, wakes};
+ghost use Rattle.sharc_code.specs.Machine.{signal};
 ghost use Rattle.sharc_cpu.specs.View.{rest_of, machine_of, IsWithin, Makes, KeepsPort};
 
 use crate::cells::{ask, give_up_base, object, word};
@@ -27,7 +28,8 @@ pub(crate) fn has_room(parts: &Parts) -> bool
 // The log has the mutex as well.
 #[inline(always)]
 fn taken(at: At, parts: &mut Parts, mutex: u32, object: u64)
-    ensures rest { rest_of parts.new ≡ record (rest_of parts.old) { own = record (rest_of parts.old).own { held = taken (machine_of at parts.old) mutex object } } }
+    ensures rest { rest_of parts.new ≡ record (rest_of
+        parts.old) { own = record (rest_of parts.old).own { held = taken (machine_of at parts.old) mutex object } } }
     ensures room { vec_capacity parts.new.prints ≡ vec_capacity parts.old.prints }
 {
     if !is_held(parts, mutex) {
@@ -102,7 +104,8 @@ fn without_lowest(waiters: u64) -> u64
 // The waiter that was seen is taken away, or the word is another now.
 fn signalled(at: At, parts: &mut Parts, seen: u64, found: u64) -> At
     requires place { at.pc + 1 < 2 ^ 64 }
-    ensures turn { machine_of result parts.new ≡ (if found == seen then rests (machine_of at parts.old) else wakes (machine_of at parts.old) found) }
+    ensures turn { machine_of result parts.new ≡ (if found == seen then rests (machine_of at parts.old)
+        else wakes (machine_of at parts.old) found) }
     ensures room { vec_capacity parts.new.prints ≡ vec_capacity parts.old.prints }
 {
     if found == seen {
@@ -124,7 +127,10 @@ pub(crate) fn lock<P: Port>(
     requires shape { IsShape shape }
     requires place { at.pc + 1 < 2 ^ 64 }
     requires words { P.count port.old ≡ words_of shape }
-    ensures turn { Makes (P.serves port.old) P.leads (Asks (step_of (word shape (machine_of at parts.old) cell) (ops.Cas 0 (parts.old.number + 1))) (locked (machine_of at parts.old) cell (word shape (machine_of at parts.old) cell))) parts.old.number (machine_of result.at parts.new) result.found (P.place port.old) (P.place port.new) }
+    ensures turn { Makes (P.serves port.old) P.leads
+        (Asks (step_of (word shape (machine_of at parts.old) cell) (ops.Cas 0 (parts.old.number + 1)))
+        (locked (machine_of at parts.old) cell (word shape (machine_of at parts.old) cell))) parts.old.number
+        (machine_of result.at parts.new) result.found (P.place port.old) (P.place port.new) }
     ensures port { KeepsPort P.count P.name P.serves port.old port.new }
     ensures room { vec_capacity parts.new.prints ≡ vec_capacity parts.old.prints }
 {
@@ -154,7 +160,10 @@ pub(crate) fn unlock<P: Port>(
     requires shape { IsShape shape }
     requires place { at.pc + 1 < 2 ^ 64 }
     requires words { P.count port.old ≡ words_of shape }
-    ensures turn { Makes (P.serves port.old) P.leads (Asks (step_of (word shape (machine_of at parts.old) cell) (ops.Swap 0)) (λ found. unlocked (machine_of at parts.old) register (word shape (machine_of at parts.old) cell))) parts.old.number (machine_of result.at parts.new) result.found (P.place port.old) (P.place port.new) }
+    ensures turn { Makes (P.serves port.old) P.leads
+        (Asks (step_of (word shape (machine_of at parts.old) cell) (ops.Swap 0)) (λ found.
+        unlocked (machine_of at parts.old) register (word shape (machine_of at parts.old) cell))) parts.old.number
+        (machine_of result.at parts.new) result.found (P.place port.old) (P.place port.new) }
     ensures port { KeepsPort P.count P.name P.serves port.old port.new }
     ensures room { vec_capacity parts.new.prints ≡ vec_capacity parts.old.prints }
 {
@@ -183,7 +192,9 @@ pub(crate) fn enter<P: Port>(
     requires place { at.pc + 1 < 2 ^ 64 }
     requires within { IsWithin shape (rest_of parts.old).own }
     requires words { P.count port.old ≡ words_of shape }
-    ensures turn { Makes (P.serves port.old) P.leads (Asks (step_of (word shape (machine_of at parts.old) cell) (ops.Or (2 ^ parts.old.number))) (λ found. goes (machine_of at parts.old))) parts.old.number (machine_of result.at parts.new) result.found (P.place port.old) (P.place port.new) }
+    ensures turn { Makes (P.serves port.old) P.leads (Asks (step_of (word shape (machine_of at parts.old) cell)
+        (ops.Or (2 ^ parts.old.number))) (λ found. goes (machine_of at parts.old))) parts.old.number
+        (machine_of result.at parts.new) result.found (P.place port.old) (P.place port.new) }
     ensures port { KeepsPort P.count P.name P.serves port.old port.new }
     ensures room { vec_capacity parts.new.prints ≡ vec_capacity parts.old.prints }
 {
@@ -209,7 +220,9 @@ pub(crate) fn wait<P: Port>(
     requires place { at.pc + 1 < 2 ^ 64 }
     requires within { IsWithin shape (rest_of parts.old).own }
     requires words { P.count port.old ≡ words_of shape }
-    ensures turn { Makes (P.serves port.old) P.leads (Asks (step_of (word shape (machine_of at parts.old) cell) ops.Load) (woken (machine_of at parts.old))) parts.old.number (machine_of result.at parts.new) result.found (P.place port.old) (P.place port.new) }
+    ensures turn { Makes (P.serves port.old) P.leads
+        (Asks (step_of (word shape (machine_of at parts.old) cell) ops.Load) (woken (machine_of at parts.old)))
+        parts.old.number (machine_of result.at parts.new) result.found (P.place port.old) (P.place port.new) }
     ensures port { KeepsPort P.count P.name P.serves port.old port.new }
     ensures room { vec_capacity parts.new.prints ≡ vec_capacity parts.old.prints }
 {
@@ -237,7 +250,9 @@ pub(crate) fn signal<P: Port>(
     requires shape { IsShape shape }
     requires place { at.pc + 1 < 2 ^ 64 }
     requires words { P.count port.old ≡ words_of shape }
-    ensures turn { Makes (P.serves port.old) P.leads (signal (machine_of at parts.old) (word shape (machine_of at parts.old) cell) parts.old.stage) parts.old.number (machine_of result.at parts.new) result.found (P.place port.old) (P.place port.new) }
+    ensures turn { Makes (P.serves port.old) P.leads
+        (signal (machine_of at parts.old) (word shape (machine_of at parts.old) cell) parts.old.stage) parts.old.number
+        (machine_of result.at parts.new) result.found (P.place port.old) (P.place port.new) }
     ensures port { KeepsPort P.count P.name P.serves port.old port.new }
     ensures room { vec_capacity parts.new.prints ≡ vec_capacity parts.old.prints }
 {
@@ -275,7 +290,9 @@ pub(crate) fn broadcast<P: Port>(
     requires shape { IsShape shape }
     requires place { at.pc + 1 < 2 ^ 64 }
     requires words { P.count port.old ≡ words_of shape }
-    ensures turn { Makes (P.serves port.old) P.leads (Asks (step_of (word shape (machine_of at parts.old) cell) (ops.Swap 0)) (λ found. goes (machine_of at parts.old))) parts.old.number (machine_of result.at parts.new) result.found (P.place port.old) (P.place port.new) }
+    ensures turn { Makes (P.serves port.old) P.leads (Asks
+        (step_of (word shape (machine_of at parts.old) cell) (ops.Swap 0)) (λ found. goes (machine_of at parts.old)))
+        parts.old.number (machine_of result.at parts.new) result.found (P.place port.old) (P.place port.new) }
     ensures port { KeepsPort P.count P.name P.serves port.old port.new }
     ensures room { vec_capacity parts.new.prints ≡ vec_capacity parts.old.prints }
 {

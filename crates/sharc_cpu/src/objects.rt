@@ -4,8 +4,11 @@ ghost use Rattle.std.specs.Prelude.{◌≡◌, ◌<◌, ◌≤◌, ◌+◌, ◌*
 ghost use Rattle.sharc_word.specs.declared.step.WordOp.TheVariants as ops;
 ghost use Rattle.sharc_granule.specs.State.{begun, told, turn_of};
 ghost use Rattle.sharc_granule.specs.Block.{block_of};
-ghost use Rattle.sharc_code.specs.Layout.{IsShape, granules, first_cell, granule_at, words_of, shadow_word, cell_word, cell_of};
-ghost use Rattle.sharc_code.specs.Machine.{size_of, elements_of, all_cells, made, goes_on_new, asks_new, new, data_granules, data_granule, looks, clear, layout_at, pointer_cell, fields, free_looks, empties, emptied, free_size, free_head, freed, free, ref, int};
+ghost use Rattle.sharc_code.specs.Layout.{IsShape, granules, first_cell, granule_at, words_of, shadow_word, cell_word};
+ghost use Rattle.sharc_code.specs.Layout.{cell_of};
+ghost use Rattle.sharc_code.specs.Machine.{size_of, elements_of, all_cells, made, goes_on_new, asks_new, new};
+ghost use Rattle.sharc_code.specs.Machine.{data_granules, data_granule, looks, clear, layout_at, pointer_cell, fields};
+ghost use Rattle.sharc_code.specs.Machine.{free_looks, empties, emptied, free_size, free_head, freed, free, ref, int};
 ghost use Rattle.sharc_cpu.specs.View.{rest_of, machine_of, IsWithin, Makes, KeepsPort};
 
 use crate::cells::{ask, step_of};
@@ -51,7 +54,14 @@ fn size_of(block: u64) -> u32
 fn opened(shape: Shape, parts: &Parts, elements: u64, cells: u32) -> NewState
     requires shape { IsShape shape }
     requires some { 1 ≤ elements }
-    ensures is { let all = all_cells elements cells in result ≡ told (begun record { elements = elements; cells = all; end = granules shape; first = first_cell shape; head = granule_at shape (slice_index parts.now.heads.items (size_of (block_of all))); block = block_of all }) 0 }
+    ensures is { let all = all_cells elements cells in result ≡ told (begun record {
+      elements = elements;
+      cells = all;
+      end = granules shape;
+      first = first_cell shape;
+      head = granule_at shape (slice_index parts.now.heads.items (size_of (block_of all)));
+      block = block_of all;
+    }) 0 }
     ensures arena { result.arguments.first + 2 * result.arguments.end ≡ words_of shape }
 {
     let all = all_cells(elements, cells);
@@ -105,7 +115,9 @@ fn asks_new<P: Port>(
     requires place { at.pc + 1 < 2 ^ 64 }
     requires arena { state.arguments.first + 2 * state.arguments.end ≡ words_of shape }
     requires words { P.count port.old ≡ words_of shape }
-    ensures turn { Makes (P.serves port.old) P.leads (asks_new (machine_of at parts.old) register site state (turn_of state)) parts.old.number (machine_of result.at parts.new) result.found (P.place port.old) (P.place port.new) }
+    ensures turn { Makes (P.serves port.old) P.leads
+        (asks_new (machine_of at parts.old) register site state (turn_of state)) parts.old.number
+        (machine_of result.at parts.new) result.found (P.place port.old) (P.place port.new) }
     ensures port { KeepsPort P.count P.name P.serves port.old port.new }
     ensures room { vec_capacity parts.new.prints ≡ vec_capacity parts.old.prints }
 {
@@ -298,7 +310,9 @@ pub(crate) fn new<P: Port>(
     requires place { at.pc + 1 < 2 ^ 64 }
     requires within { IsWithin shape (rest_of parts.old).own }
     requires words { P.count port.old ≡ words_of shape }
-    ensures turn { Makes (P.serves port.old) P.leads (new shape (machine_of at parts.old) register (elements_of (int (machine_of at parts.old) count)) cells site parts.old.stage) parts.old.number (machine_of result.at parts.new) result.found (P.place port.old) (P.place port.new) }
+    ensures turn { Makes (P.serves port.old) P.leads (new shape (machine_of at parts.old) register
+        (elements_of (int (machine_of at parts.old) count)) cells site parts.old.stage) parts.old.number
+        (machine_of result.at parts.new) result.found (P.place port.old) (P.place port.new) }
     ensures port { KeepsPort P.count P.name P.serves port.old port.new }
     ensures room { vec_capacity parts.new.prints ≡ vec_capacity parts.old.prints }
 {
@@ -323,7 +337,9 @@ pub(crate) fn clear<P: Port>(
     requires shape { IsShape shape }
     requires place { at.pc + 1 < 2 ^ 64 }
     requires words { P.count port.old ≡ words_of shape }
-    ensures turn { Makes (P.serves port.old) P.leads (clear shape (machine_of at parts.old) (ref (machine_of at parts.old) register) cells parts.old.stage) parts.old.number (machine_of result.at parts.new) result.found (P.place port.old) (P.place port.new) }
+    ensures turn { Makes (P.serves port.old) P.leads
+        (clear shape (machine_of at parts.old) (ref (machine_of at parts.old) register) cells parts.old.stage)
+        parts.old.number (machine_of result.at parts.new) result.found (P.place port.old) (P.place port.new) }
     ensures port { KeepsPort P.count P.name P.serves port.old port.new }
     ensures room { vec_capacity parts.new.prints ≡ vec_capacity parts.old.prints }
 {
@@ -362,7 +378,9 @@ pub(crate) fn free<P: Port>(
     requires shape { IsShape shape }
     requires place { at.pc + 1 < 2 ^ 64 }
     requires words { P.count port.old ≡ words_of shape }
-    ensures turn { Makes (P.serves port.old) P.leads (free code.now shape (machine_of at parts.old) register (layout_at code.now layout) parts.old.stage) parts.old.number (machine_of result.at parts.new) result.found (P.place port.old) (P.place port.new) }
+    ensures turn { Makes (P.serves port.old) P.leads
+        (free code.now shape (machine_of at parts.old) register (layout_at code.now layout) parts.old.stage)
+        parts.old.number (machine_of result.at parts.new) result.found (P.place port.old) (P.place port.new) }
     ensures port { KeepsPort P.count P.name P.serves port.old port.new }
     ensures room { vec_capacity parts.new.prints ≡ vec_capacity parts.old.prints }
 {

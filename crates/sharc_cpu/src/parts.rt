@@ -22,7 +22,8 @@ pub struct Parts {
 }
 
 impl Parts {
-    ghost use Rattle.std.specs.Prelude.{◌≡◌, ◌<◌, ◌+◌, ◌++◌, [], ◌∷◌, Some, pos, slice_index, slice_index_or, slice_set, vec_len, vec_capacity};
+    ghost use Rattle.std.specs.Prelude.{◌≡◌, ◌<◌, ◌+◌, ◌++◌, [], ◌∷◌, Some, pos, slice_index, slice_index_or};
+    ghost use Rattle.std.specs.Prelude.{slice_set, vec_len, vec_capacity};
     ghost use Rattle.sharc_code.specs.declared.state.Print.{Print};
     ghost use Rattle.sharc_code.specs.Machine.{no_frame};
     ghost use Rattle.sharc_cpu.specs.View.{rest_of};
@@ -39,7 +40,8 @@ impl Parts {
 
     #[inline(always)]
     pub(crate) fn set_int(&mut self, at: At, register: u32, value: i64)
-        ensures rest { rest_of self.new ≡ record (rest_of self.old) { ints = slice_set self.old.ints.items (at.ints + register) value } }
+        ensures rest { rest_of self.new
+            ≡ record (rest_of self.old) { ints = slice_set self.old.ints.items (at.ints + register) value } }
         ensures room { vec_capacity self.new.prints ≡ vec_capacity self.old.prints }
     {
         let place = at.ints as usize + register as usize;
@@ -60,7 +62,8 @@ impl Parts {
 
     #[inline(always)]
     pub(crate) fn set_reference(&mut self, at: At, register: u32, value: u64)
-        ensures rest { rest_of self.new ≡ record (rest_of self.old) { refs = slice_set self.old.refs.items (at.refs + register) value } }
+        ensures rest { rest_of self.new
+            ≡ record (rest_of self.old) { refs = slice_set self.old.refs.items (at.refs + register) value } }
         ensures room { vec_capacity self.new.prints ≡ vec_capacity self.old.prints }
     {
         let place = at.refs as usize + register as usize;
@@ -88,7 +91,8 @@ impl Parts {
 
     #[inline(always)]
     pub(crate) fn set_frame(&mut self, place: usize, frame: Frame)
-        ensures rest { rest_of self.new ≡ record (rest_of self.old) { frames = slice_set self.old.frames.items place frame } }
+        ensures rest { rest_of self.new
+            ≡ record (rest_of self.old) { frames = slice_set self.old.frames.items place frame } }
         ensures room { vec_capacity self.new.prints ≡ vec_capacity self.old.prints }
     {
         if place < self.frames.len() {
@@ -109,7 +113,8 @@ impl Parts {
     }
 
     pub(crate) fn set_head(&mut self, size: u32, head: u64)
-        ensures rest { rest_of self.new ≡ record (rest_of self.old) { own = record (rest_of self.old).own { heads = slice_set self.old.heads.items size head } } }
+        ensures rest { rest_of self.new ≡ record (rest_of
+            self.old) { own = record (rest_of self.old).own { heads = slice_set self.old.heads.items size head } } }
         ensures room { vec_capacity self.new.prints ≡ vec_capacity self.old.prints }
     {
         if (size as usize) < self.heads.len() {
@@ -121,7 +126,10 @@ impl Parts {
     #[inline(always)]
     pub(crate) fn print(&mut self, place: u64, value: i64)
         requires { vec_len self.old.prints < vec_capacity self.old.prints }
-        ensures rest { rest_of self.new ≡ record (rest_of self.old) { own = record (rest_of self.old).own { prints = self.old.prints.items ++ record { place = place; value = value } ∷ [] } } }
+        ensures rest { rest_of self.new ≡ record (rest_of self.old) {
+          own = record (rest_of
+              self.old).own { prints = self.old.prints.items ++ record { place = place; value = value } ∷ [] };
+        } }
         ensures room { vec_capacity self.new.prints ≡ vec_capacity self.old.prints }
     {
         self.prints.push_reserved(Print { place, value });
@@ -137,7 +145,8 @@ impl Parts {
 
     #[inline(always)]
     pub(crate) fn set_stage(&mut self, stage: Stage)
-        ensures rest { rest_of self.new ≡ record (rest_of self.old) { own = record (rest_of self.old).own { stage = stage } } }
+        ensures rest { rest_of self.new
+            ≡ record (rest_of self.old) { own = record (rest_of self.old).own { stage = stage } } }
         ensures room { vec_capacity self.new.prints ≡ vec_capacity self.old.prints }
     {
         self.stage = stage;
@@ -145,7 +154,8 @@ impl Parts {
 
     #[inline(always)]
     pub(crate) fn set_function(&mut self, function: u64)
-        ensures rest { rest_of self.new ≡ record (rest_of self.old) { own = record (rest_of self.old).own { function = function } } }
+        ensures rest { rest_of self.new
+            ≡ record (rest_of self.old) { own = record (rest_of self.old).own { function = function } } }
         ensures room { vec_capacity self.new.prints ≡ vec_capacity self.old.prints }
     {
         self.function = function;
@@ -154,7 +164,8 @@ impl Parts {
     #[cold]
     #[inline(never)]
     pub(crate) fn set_stop(&mut self, stop: Stop)
-        ensures rest { rest_of self.new ≡ record (rest_of self.old) { own = record (rest_of self.old).own { stop = Some stop } } }
+        ensures rest { rest_of self.new
+            ≡ record (rest_of self.old) { own = record (rest_of self.old).own { stop = Some stop } } }
         ensures room { vec_capacity self.new.prints ≡ vec_capacity self.old.prints }
     {
         self.stop = Some(stop);

@@ -24,7 +24,12 @@ impl Model for Thread {
 
     ghost Value = { ThreadView };
 
-    ghost view = { λ t. record { machine = machine_of t.at t.parts.value; made = t.made; wait = t.wait; room = vec_capacity t.parts.value.prints - vec_len t.parts.value.prints } };
+    ghost view = { λ t. record {
+      machine = machine_of t.at t.parts.value;
+      made = t.made;
+      wait = t.wait;
+      room = vec_capacity t.parts.value.prints - vec_len t.parts.value.prints;
+    } };
 }
 
 impl Thread {
@@ -151,7 +156,8 @@ impl Thread {
         self.parts.stop
     }
 
-    /// What its next turn asks for that it may have to wait for: `None` where it asks for nothing such, or makes no turn.
+    /// What its next turn asks for that it may have to wait for: `None` where it asks for nothing such, or makes no
+    /// turn.
     pub fn wait(&self) -> Option<Wait>
         ensures { result ≡ self.now.wait }
     {

@@ -5,7 +5,9 @@ ghost use Rattle.sharc_word.specs.declared.step.WordOp.TheVariants as ops;
 ghost use Rattle.sharc_word.specs.declared.step.TheConstants.{THREADS as threads};
 ghost use Rattle.sharc_code.specs.Layout.{IsShape, granules, words_of, function_at, prints_word};
 ghost use Rattle.sharc_code.specs.declared.state.Stage.TheVariants.{Rests};
-ghost use Rattle.sharc_code.specs.Machine.{Asks, step_of, int, argument, handed, numbered, spawn, joined, join, printed, function_of, with_parameter, entered, start, row_of, without_own, withdraws, withdrew, ends, exit};
+ghost use Rattle.sharc_code.specs.Machine.{Asks, step_of, int, argument, handed, numbered, spawn, joined, join};
+ghost use Rattle.sharc_code.specs.Machine.{printed, function_of, with_parameter, entered, start, row_of, without_own};
+ghost use Rattle.sharc_code.specs.Machine.{withdraws, withdrew, ends, exit};
 ghost use Rattle.sharc_cpu.specs.View.{rest_of, machine_of, IsWithin, Makes, KeepsPort};
 
 use crate::arithmetic::{int_of, word_of};
@@ -200,7 +202,8 @@ fn withdrew(at: At, parts: &mut Parts, row: u32, seen: u64, found: u64) -> At
 
 // The last event.
 fn leaves(at: At, parts: &mut Parts) -> At
-    ensures turn { machine_of result parts.new ≡ record (machine_of at parts.old) { at = ends at; own = record (rest_of parts.old).own { stage = Rests } } }
+    ensures turn { machine_of result parts.new
+        ≡ record (machine_of at parts.old) { at = ends at; own = record (rest_of parts.old).own { stage = Rests } } }
     ensures room { vec_capacity parts.new.prints ≡ vec_capacity parts.old.prints }
 {
     parts.set_stage(Stage::Rests);
@@ -223,7 +226,9 @@ pub(crate) fn spawn<P: Port>(
     requires place { at.pc + 1 < 2 ^ 64 }
     requires within { IsWithin shape (rest_of parts.old).own }
     requires words { P.count port.old ≡ words_of shape }
-    ensures turn { Makes (P.serves port.old) P.leads (spawn (machine_of at parts.old) register function from site parts.old.stage) parts.old.number (machine_of result.at parts.new) result.found (P.place port.old) (P.place port.new) }
+    ensures turn { Makes (P.serves port.old) P.leads
+        (spawn (machine_of at parts.old) register function from site parts.old.stage) parts.old.number
+        (machine_of result.at parts.new) result.found (P.place port.old) (P.place port.new) }
     ensures port { KeepsPort P.count P.name P.serves port.old port.new }
     ensures room { vec_capacity parts.new.prints ≡ vec_capacity parts.old.prints }
 {
@@ -269,7 +274,9 @@ pub(crate) fn join<P: Port>(
     requires shape { IsShape shape }
     requires place { at.pc + 1 < 2 ^ 64 }
     requires words { P.count port.old ≡ words_of shape }
-    ensures turn { Makes (P.serves port.old) P.leads (join (machine_of at parts.old) (int (machine_of at parts.old) register) site) parts.old.number (machine_of result.at parts.new) result.found (P.place port.old) (P.place port.new) }
+    ensures turn { Makes (P.serves port.old) P.leads
+        (join (machine_of at parts.old) (int (machine_of at parts.old) register) site) parts.old.number
+        (machine_of result.at parts.new) result.found (P.place port.old) (P.place port.new) }
     ensures port { KeepsPort P.count P.name P.serves port.old port.new }
     ensures room { vec_capacity parts.new.prints ≡ vec_capacity parts.old.prints }
 {
@@ -295,7 +302,9 @@ pub(crate) fn print<P: Port>(
     requires place { at.pc + 1 < 2 ^ 64 }
     requires room { vec_len parts.old.prints < vec_capacity parts.old.prints }
     requires words { P.count port.old ≡ words_of shape }
-    ensures turn { Makes (P.serves port.old) P.leads (Asks (step_of prints_word (ops.Add 1)) (printed (machine_of at parts.old) (int (machine_of at parts.old) register))) parts.old.number (machine_of result.at parts.new) result.found (P.place port.old) (P.place port.new) }
+    ensures turn { Makes (P.serves port.old) P.leads (Asks (step_of prints_word (ops.Add 1))
+        (printed (machine_of at parts.old) (int (machine_of at parts.old) register))) parts.old.number
+        (machine_of result.at parts.new) result.found (P.place port.old) (P.place port.new) }
     ensures port { KeepsPort P.count P.name P.serves port.old port.new }
     ensures room { vec_capacity parts.new.prints ≡ vec_capacity parts.old.prints }
 {
@@ -322,7 +331,8 @@ pub(crate) fn start<P: Port>(
     requires place { at.pc + 1 < 2 ^ 64 }
     requires within { IsWithin shape (rest_of parts.old).own }
     requires words { P.count port.old ≡ words_of shape }
-    ensures turn { Makes (P.serves port.old) P.leads (start code.now (machine_of at parts.old) site parts.old.stage) parts.old.number (machine_of result.at parts.new) result.found (P.place port.old) (P.place port.new) }
+    ensures turn { Makes (P.serves port.old) P.leads (start code.now (machine_of at parts.old) site parts.old.stage)
+        parts.old.number (machine_of result.at parts.new) result.found (P.place port.old) (P.place port.new) }
     ensures port { KeepsPort P.count P.name P.serves port.old port.new }
     ensures room { vec_capacity parts.new.prints ≡ vec_capacity parts.old.prints }
 {
@@ -347,7 +357,8 @@ pub(crate) fn exit<P: Port>(shape: Shape, at: At, parts: &mut Parts, port: &mut 
     requires shape { IsShape shape }
     requires within { IsWithin shape (rest_of parts.old).own }
     requires words { P.count port.old ≡ words_of shape }
-    ensures turn { Makes (P.serves port.old) P.leads (exit shape (machine_of at parts.old) parts.old.stage) parts.old.number (machine_of result.at parts.new) result.found (P.place port.old) (P.place port.new) }
+    ensures turn { Makes (P.serves port.old) P.leads (exit shape (machine_of at parts.old) parts.old.stage)
+        parts.old.number (machine_of result.at parts.new) result.found (P.place port.old) (P.place port.new) }
     ensures port { KeepsPort P.count P.name P.serves port.old port.new }
     ensures room { vec_capacity parts.new.prints ≡ vec_capacity parts.old.prints }
 {
@@ -384,7 +395,8 @@ pub(crate) fn leave<P: Port>(shape: Shape, at: &mut At, parts: &mut Parts, port:
     requires shape { IsShape shape }
     requires within { IsWithin shape (rest_of parts.old).own }
     requires words { P.count port.old ≡ words_of shape }
-    ensures turn { Makes (P.serves port.old) P.leads (exit shape (machine_of at.old parts.old) parts.old.stage) parts.old.number (machine_of at.new parts.new) result (P.place port.old) (P.place port.new) }
+    ensures turn { Makes (P.serves port.old) P.leads (exit shape (machine_of at.old parts.old) parts.old.stage)
+        parts.old.number (machine_of at.new parts.new) result (P.place port.old) (P.place port.new) }
     ensures port { KeepsPort P.count P.name P.serves port.old port.new }
     ensures room { vec_capacity parts.new.prints ≡ vec_capacity parts.old.prints }
 {

@@ -182,7 +182,8 @@ pub(crate) fn returned(code: &Code, at: At, parts: &mut Parts, site: u32) -> At
     }
 }
 
-/// The register, which holds an index of this many elements, becomes the number of a field of that element; X2 where there is no such element.
+/// The register, which holds an index of this many elements, becomes the number of a field of that element; X2 where
+/// there is no such element.
 #[inline(always)]
 pub(crate) fn indexed(
     at: At,
@@ -194,7 +195,8 @@ pub(crate) fn indexed(
     elements: u64,
 ) -> At
     requires place { at.pc + 1 < 2 ^ 64 }
-    ensures turn { machine_of result parts.new ≡ indexed (machine_of at parts.old) register (int (machine_of at parts.old) register) cells field site elements }
+    ensures turn { machine_of result parts.new ≡ indexed (machine_of at parts.old) register
+        (int (machine_of at parts.old) register) cells field site elements }
     ensures room { vec_capacity parts.new.prints ≡ vec_capacity parts.old.prints }
 {
     let index = parts.int(at, register);

@@ -1,4 +1,5 @@
--- How the logic stores a program: its expressions and statements as trees of two children a node, each with what is at the node itself.
+-- How the logic stores a program: its expressions and statements as trees of two children a node, each with what is at
+-- the node itself.
 use Rattle.std.specs.{Prelude.{◌≡◌, [], Option, refl}, Coded.{Coded, code_by}}
 use base.Stored.{Gv, gnil, gnum, gcons}
 use mathlib.Core.Path.{ap, subst, sym}
@@ -9,7 +10,10 @@ use Rattle.sharc_tree.specs.declared.tree.expression.BinaryOperator.{BinaryOpera
 use Rattle.sharc_tree.specs.declared.tree.expression.UnaryOperator.{UnaryOperator}
 use Rattle.sharc_tree.specs.{declared.tree.expression.PlaceCall.PlaceCall, declared.tree.expression.ValueCall.ValueCall}
 use Rattle.sharc_tree.specs.{declared.tree.expression.Constant.Constant, declared.tree.statement.Jump.Jump}
-use Rattle.sharc_tree.specs.Tree.{Expression, identifier, constant, parentheses, call, spawn, on_value, on_place, cast, index, field, unary, binary, Arguments, no_arguments, argument, Local, Simple, Head, Statement, empty, block, declare, simple, jump, return, if_then, if_then_else, while, for, Statements, no_statements, statement}
+use Rattle.sharc_tree.specs.Tree.{Expression, identifier, constant, parentheses, call, spawn, on_value, on_place, cast}
+use Rattle.sharc_tree.specs.Tree.{index, field, unary, binary, Arguments, no_arguments, argument, Local, Simple, Head}
+use Rattle.sharc_tree.specs.Tree.{Statement, empty, block, declare, simple, jump, return, if_then, if_then_else, while}
+use Rattle.sharc_tree.specs.Tree.{for, Statements, no_statements, statement}
 
 pub data Bush (L : Type 0) : Type 0 where
   bare : Bush L
@@ -37,7 +41,8 @@ module _ {L : Type 0} (c : Coded L) where
 
   pub inj_bush : (x y : Bush L) → code_bush x ≡ code_bush y → x ≡ y
   inj_bush bare bare p = refl
-  inj_bush (bush l a b) (bush m u v) p = λ i. bush (c.inj l m (ap head p) i) (inj_bush a u (ap (λ g. head (tail g)) p) i) (inj_bush b v (ap (λ g. tail (tail g)) p) i)
+  inj_bush (bush l a b) (bush m u v) p = λ i. bush (c.inj l m (ap head p) i)
+      (inj_bush a u (ap (λ g. head (tail g)) p) i) (inj_bush b v (ap (λ g. tail (tail g)) p) i)
   inj_bush bare (bush m u v) p = absurd (subst IsCons (sym p) tt)
   inj_bush (bush l a b) bare p = absurd (subst IsCons p tt)
 
@@ -173,7 +178,8 @@ statement_by statement_at a b = empty no_span
 
 abbrev pub from_bush_in : Bush StatementLabel → Statement × Statements
 from_bush_in bare = (empty no_span, no_statements)
-from_bush_in (bush l a b) = (statement_by l (from_bush_in a) (from_bush_in b).0, statement (from_bush_in a).0 (from_bush_in b).1)
+from_bush_in (bush l a b) =
+    (statement_by l (from_bush_in a) (from_bush_in b).0, statement (from_bush_in a).0 (from_bush_in b).1)
 
 mutual
   pub statement_back : (a : Statement) → (from_bush_in (bush_in a)).0 ≡ a

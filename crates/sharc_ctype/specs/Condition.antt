@@ -15,7 +15,8 @@ call_entry name call = record { name = name; block = 0; meaning = condition call
 abbrev pub with_conditions : Scope → Scope
 with_conditions file = record {
   structs = file.structs ++ (codes "cond", known) ∷ [];
-  names = call_entry (codes "broadcast") Broadcast ∷ (call_entry (codes "signal") Signal ∷ (call_entry (codes "wait") Wait ∷ file.names));
+  names = call_entry (codes "broadcast") Broadcast
+      ∷ (call_entry (codes "signal") Signal ∷ (call_entry (codes "wait") Wait ∷ file.names));
 }
 
 -- all four are known exactly where the file defines none of them

@@ -30,4 +30,5 @@ is_constant r token = is_among token (all_with_value r.program.items) && not (is
 
 -- a table of the variables that begin with a value and are not assigned
 abbrev pub HasConstants : List Named → List Item → List ℕ → Type 0
-HasConstants names items tokens = (token : ℕ) → is_among token tokens ≡ (is_among token (all_with_value items) && not (is_among token (all_assigned names items)))
+HasConstants names items tokens = (token : ℕ)
+    → is_among token tokens ≡ (is_among token (all_with_value items) && not (is_among token (all_assigned names items)))

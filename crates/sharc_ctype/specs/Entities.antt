@@ -1,10 +1,13 @@
--- What has a type with modes: fields, globals, results, parameters, locals and casts, in source order; and the positions of their types.
+-- What has a type with modes: fields, globals, results, parameters, locals and casts, in source order; and the
+-- positions of their types.
 use Rattle.std.specs.{Prelude.{ℕ, ◌+◌, ◌==◌, Bool, ◌&&◌, List, [], ◌∷◌, ◌++◌, drop, length, map, Option}, List.find}
 use Rattle.sharc_tree.specs.{declared.ctype.Mode.Mode, declared.token.Span.Span}
 use Rattle.sharc_tree.specs.declared.tree.declaration.WrittenType.{WrittenType}
 use Rattle.sharc_tree.specs.declared.tree.declaration.Declaration.{Declaration}
 use Rattle.sharc_tree.specs.Measures.{expressions, in_option, in_simple, in_local}
-use Rattle.sharc_tree.specs.Tree.{Expression, cast, Local, First, nothing, declares, does, Head, Statement, empty, block, declare, simple, jump, return, if_then, if_then_else, while, for, Statements, no_statements, statement, Function, Item, structure, global, function}
+use Rattle.sharc_tree.specs.Tree.{Expression, cast, Local, First, nothing, declares, does, Head, Statement, empty}
+use Rattle.sharc_tree.specs.Tree.{block, declare, simple, jump, return, if_then, if_then_else, while, for, Statements}
+use Rattle.sharc_tree.specs.Tree.{no_statements, statement, Function, Item, structure, global, function}
 use Rattle.sharc_names.specs.declared.types.Role.{Role}
 use Rattle.sharc_names.specs.declared.types.Role.TheVariants as role
 use Rattle.sharc_ctype.specs.{Resolved.Resolution, declared.entity.Entity.Entity, declared.entity.Numbered.Numbered}
@@ -67,7 +70,8 @@ abbrev pub entities_in : List Item → List Entity
 entities_in [] = []
 entities_in (i ∷ rest) = item_entities i ++ entities_in rest
 
--- A position is a target of a type, at any depth from 1 on, or the top of a global, at depth 0. The levels of a type go from the top down.
+-- A position is a target of a type, at any depth from 1 on, or the top of a global, at depth 0. The levels of a type go
+-- from the top down.
 
 abbrev pub first_depth : Role → ℕ
 first_depth role.Global = 0

@@ -1,9 +1,14 @@
 -- The types of expressions, and the faults in them (C11 6.5), one clause for each form.
-use Rattle.std.specs.Prelude.{ℕ, ◌+◌, ◌==◌, Bool, true, false, not, ◌&&◌, ◌||◌, List, [], ◌∷◌, ◌++◌, length, drop, Option, Some, None, is_some, if◌then◌else◌}
+use Rattle.std.specs.Prelude.{ℕ, ◌+◌, ◌==◌, Bool, true, false, not, ◌&&◌, ◌||◌, List, [], ◌∷◌, ◌++◌, length, drop}
+use Rattle.std.specs.Prelude.{Option, Some, None, is_some, if◌then◌else◌}
 use Rattle.sharc_tree.specs.{declared.token.NumberType.NumberType, declared.tree.expression.Access.Access}
 use Rattle.sharc_tree.specs.declared.tree.expression.Access.TheVariants.{Dot, Arrow}
 use Rattle.sharc_tree.specs.declared.tree.expression.BinaryOperator.{BinaryOperator}
-use Rattle.sharc_tree.specs.declared.tree.expression.BinaryOperator.TheVariants.{LogicalOr, LogicalAnd, BitOr, BitXor, BitAnd, Equal, NotEqual, Less, Greater, LessOrEqual, GreaterOrEqual, ShiftLeft, ShiftRight, Add, Subtract, Multiply, Divide, Remainder}
+use Rattle.sharc_tree.specs.declared.tree.expression.BinaryOperator.TheVariants.{LogicalOr, LogicalAnd, BitOr, BitXor}
+use Rattle.sharc_tree.specs.declared.tree.expression.BinaryOperator.TheVariants.{BitAnd, Equal, NotEqual, Less, Greater}
+use Rattle.sharc_tree.specs.declared.tree.expression.BinaryOperator.TheVariants.{LessOrEqual, GreaterOrEqual, ShiftLeft}
+use Rattle.sharc_tree.specs.declared.tree.expression.BinaryOperator.TheVariants.{ShiftRight, Add, Subtract, Multiply}
+use Rattle.sharc_tree.specs.declared.tree.expression.BinaryOperator.TheVariants.{Divide, Remainder}
 use Rattle.sharc_tree.specs.declared.tree.expression.UnaryOperator.{UnaryOperator}
 use Rattle.sharc_tree.specs.declared.tree.expression.UnaryOperator.TheVariants.{Negate, Not, Complement, Dereference}
 use Rattle.sharc_tree.specs.declared.tree.expression.PlaceCall.{PlaceCall}
@@ -11,16 +16,21 @@ use Rattle.sharc_tree.specs.declared.tree.expression.PlaceCall.TheVariants.{Lock
 use Rattle.sharc_tree.specs.declared.tree.expression.Constant.{Constant}
 use Rattle.sharc_tree.specs.declared.tree.expression.Constant.TheVariants.{Number, Character, Null}
 use Rattle.sharc_tree.specs.{declared.tree.declaration.WrittenType.WrittenType, Forms.{without_parentheses, is_lvalue}}
-use Rattle.sharc_tree.specs.Tree.{Expression, identifier, constant, parentheses, call, spawn, on_value, on_place, cast, index, field, unary, binary, Arguments, no_arguments, argument}
+use Rattle.sharc_tree.specs.Tree.{Expression, identifier, constant, parentheses, call, spawn, on_value, on_place, cast}
+use Rattle.sharc_tree.specs.Tree.{index, field, unary, binary, Arguments, no_arguments, argument}
 use Rattle.sharc_tree.specs.declared.token.NumberType.TheVariants as width
 use Rattle.sharc_names.specs.declared.need.Need.{Need}
 use Rattle.sharc_names.specs.declared.need.Need.TheVariants.{Value, Integer, Pointer, Indexed, Struct, StructPointer}
-use Rattle.sharc_names.specs.declared.fault.FaultCode.TheVariants.{UnknownName, TypeMismatch, ArgumentCount, NoLvalue, BadForm}
+use Rattle.sharc_names.specs.declared.fault.FaultCode.TheVariants.{UnknownName, TypeMismatch, ArgumentCount, NoLvalue}
+use Rattle.sharc_names.specs.declared.fault.FaultCode.TheVariants.{BadForm}
 use Rattle.sharc_names.specs.{declared.types.Role.TheVariants.Cast, declared.scope.Scope.Scope}
-use Rattle.sharc_names.specs.Kinds.{Kind, null, int, long, void, mutex, is_pointer, same_kind, comparable, declared_kind, element_kind, promoted, common}
-use Rattle.sharc_names.specs.Names.{Entry, Meaning, variable, global, function, condition, look_up, named_of, is_function, is_main, parameters_of, result_of}
+use Rattle.sharc_names.specs.Kinds.{Kind, null, int, long, void, mutex, is_pointer, same_kind, comparable}
+use Rattle.sharc_names.specs.Kinds.{declared_kind, element_kind, promoted, common}
+use Rattle.sharc_names.specs.Names.{Entry, Meaning, variable, global, function, condition, look_up, named_of}
+use Rattle.sharc_names.specs.Names.{is_function, is_main, parameters_of, result_of}
 use Rattle.sharc_names.specs.{Needs.{place, met, unmet, agreed, unagreed}, Notes.{Note, fault, refers, fault_unless}}
-use Rattle.sharc_names.specs.Types.{name_kind, main_notes, name_notes, field_in, field_kind, field_notes, type_notes, is_fine}
+use Rattle.sharc_names.specs.Types.{name_kind, main_notes, name_notes, field_in, field_kind, field_notes, type_notes}
+use Rattle.sharc_names.specs.Types.{is_fine}
 use Rattle.sharc_names.specs.Wants.{first_wanted}
 use Rattle.sharc_ctype.specs.{declared.expr.Standing.Standing, declared.expr.Standing.TheVariants.{AsValue, AsLvalue}}
 use Rattle.sharc_ctype.specs.declared.expr.OperatorClass.{OperatorClass}
@@ -123,7 +133,8 @@ binary_notes o e None b = []
 binary_notes o e (Some a) None = []
 binary_notes o e (Some a) (Some b) = fault_unless (may_join o a b) (place e) TypeMismatch
 
--- 6.3.2.1: an lvalue is a variable, `e[i]`, `*e`, `e.f` or `e->f`; parentheses do not matter. An unknown name may be a variable
+-- 6.3.2.1: an lvalue is a variable, `e[i]`, `*e`, `e.f` or `e->f`; parentheses do not matter. An unknown name may be a
+-- variable
 
 abbrev pub is_function_name : Option Entry → Bool
 is_function_name None = false
@@ -172,9 +183,12 @@ cast_kind fine w (Some k) = if is_pointer k && keeps_kind fine w k then Some (de
 
 abbrev pub cast_notes : ℕ → Bool → WrittenType → Expression → Option Kind → List Note
 cast_notes word fine w e None = []
-cast_notes word fine w e (Some k) = if is_pointer k then fault_unless (keeps_kind fine w k || not fine) (place e) TypeMismatch else fault word BadForm ∷ []
+cast_notes word fine w e (Some k) =
+    if is_pointer k then fault_unless (keeps_kind fine w k || not fine) (place e) TypeMismatch
+    else fault word BadForm ∷ []
 
--- 6.5.2.2: what is called is a function and takes as many arguments as it has parameters, and each agrees with its parameter. `main` is not called
+-- 6.5.2.2: what is called is a function and takes as many arguments as it has parameters, and each agrees with its
+-- parameter. `main` is not called
 
 abbrev pub count : Arguments → ℕ
 count no_arguments = 0
@@ -195,7 +209,8 @@ count_notes stands token n (Some parameters) = fault_unless (length parameters =
 
 abbrev pub callee_notes : Standing → ℕ → ℕ → Option Entry → List Note
 callee_notes stands token n None = fault token UnknownName ∷ []
-callee_notes stands token n (Some e) = refers token (named_of e.meaning) ∷ (main_notes token e.meaning ++ count_notes stands token n (parameters_of e.meaning))
+callee_notes stands token n (Some e) = refers token (named_of e.meaning)
+    ∷ (main_notes token e.meaning ++ count_notes stands token n (parameters_of e.meaning))
 
 -- what this many arguments have to agree with: nothing where their number is wrong
 abbrev pub wanted_if : Bool → Option (List Kind) → List Kind
@@ -208,7 +223,8 @@ wanted n (Some e) = wanted_if (takes n (parameters_of e.meaning)) (parameters_of
 
 abbrev pub call_result : ℕ → Option Entry → Option Kind
 call_result n None = None
-call_result n (Some e) = if takes n (parameters_of e.meaning) && not (is_main e.meaning) then Some (result_of e.meaning) else None
+call_result n (Some e) =
+    if takes n (parameters_of e.meaning) && not (is_main e.meaning) then Some (result_of e.meaning) else None
 
 abbrev pub call_kind : Option Kind → Bool → Option Kind
 call_kind result fine = if fine then result else None
@@ -218,12 +234,14 @@ call_kind result fine = if fine then result else None
 abbrev pub can_spawn : Meaning → Bool
 can_spawn (variable d) = false
 can_spawn (global number g) = false
-can_spawn (function number f) = same_kind (declared_kind f.result) void && (length f.parameters == 1 && not (is_main (function number f)))
+can_spawn (function number f) =
+    same_kind (declared_kind f.result) void && (length f.parameters == 1 && not (is_main (function number f)))
 can_spawn (condition c) = false
 
 abbrev pub spawn_notes : ℕ → ℕ → Option Entry → List Note
 spawn_notes word token None = fault token UnknownName ∷ []
-spawn_notes word token (Some e) = refers token (named_of e.meaning) ∷ (main_notes token e.meaning ++ fault_unless (can_spawn e.meaning) word BadForm)
+spawn_notes word token (Some e) =
+    refers token (named_of e.meaning) ∷ (main_notes token e.meaning ++ fault_unless (can_spawn e.meaning) word BadForm)
 
 abbrev pub may_spawn : Option Entry → Bool
 may_spawn None = false
@@ -242,20 +260,25 @@ abbrev mutual
   type_of scope (identifier s i) = name_kind (look_up scope.names i.text)
   type_of scope (constant s c) = Some (constant_kind c)
   type_of scope (parentheses s a) = type_of scope a
-  type_of scope (call s f all) = call_kind (call_result (count all) (look_up scope.names f.text)) (are_fine scope (wanted (count all) (look_up scope.names f.text)) all)
-  type_of scope (spawn s f a) = spawn_kind (may_spawn (look_up scope.names f.text)) (agreed (spawn_wanted (look_up scope.names f.text)) (met Value (type_of scope a))) (met Value (type_of scope a))
+  type_of scope (call s f all) = call_kind (call_result (count all) (look_up scope.names f.text))
+      (are_fine scope (wanted (count all) (look_up scope.names f.text)) all)
+  type_of scope (spawn s f a) = spawn_kind (may_spawn (look_up scope.names f.text))
+      (agreed (spawn_wanted (look_up scope.names f.text)) (met Value (type_of scope a))) (met Value (type_of scope a))
   type_of scope (on_value s w a) = value_call_kind (met Integer (type_of scope a))
   type_of scope (on_place s w a) = place_call_kind w (place_kind scope.names a (type_of scope a))
   type_of scope (cast s t a) = cast_kind (is_fine scope.structs Cast t) t (place_kind scope.names a (type_of scope a))
   type_of scope (index s a i) = element_of (met Indexed (type_of scope a)) (met Integer (type_of scope i))
   type_of scope (field s a w n) = field_kind (field_in scope.structs n.text (met (access_need w) (type_of scope a)))
   type_of scope (unary s o a) = unary_kind o (met (operand_need o) (type_of scope a))
-  type_of scope (binary s o at a b) = binary_kind (class_of o) (met (operands_need (class_of o)) (type_of scope a)) (met (operands_need (class_of o)) (type_of scope b))
+  type_of scope (binary s o at a b) = binary_kind (class_of o) (met (operands_need (class_of o)) (type_of scope a))
+      (met (operands_need (class_of o)) (type_of scope b))
 
   -- whether each argument has a type that agrees with its parameter
   pub are_fine : Scope → List Kind → Arguments → Bool
   are_fine scope wanted no_arguments = true
-  are_fine scope wanted (argument a rest) = (is_some (met Value (type_of scope a)) && agreed (first_wanted wanted) (met Value (type_of scope a))) && are_fine scope (drop 1 wanted) rest
+  are_fine scope wanted (argument a rest) =
+      (is_some (met Value (type_of scope a)) && agreed (first_wanted wanted) (met Value (type_of scope a)))
+      && are_fine scope (drop 1 wanted) rest
 
 -- the faults that are in an expression, where its value or an lvalue is needed, and what its names name
 abbrev mutual
@@ -263,20 +286,27 @@ abbrev mutual
   notes_at stands scope (identifier s i) = name_notes i.site.token (look_up scope.names i.text)
   notes_at stands scope (constant s c) = []
   notes_at stands scope (parentheses s a) = notes_at stands scope a
-  notes_at stands scope (call s f all) = callee_notes stands f.site.token (count all) (look_up scope.names f.text) ++ notes_of_all scope (wanted (count all) (look_up scope.names f.text)) all
-  notes_at stands scope (spawn s f a) = notes_at AsValue scope a ++ unmet Value a (type_of scope a) ++ spawn_notes s.first.token f.site.token (look_up scope.names f.text)
+  notes_at stands scope (call s f all) = callee_notes stands f.site.token (count all) (look_up scope.names f.text)
+      ++ notes_of_all scope (wanted (count all) (look_up scope.names f.text)) all
+  notes_at stands scope (spawn s f a) = notes_at AsValue scope a ++ unmet Value a (type_of scope a)
+      ++ spawn_notes s.first.token f.site.token (look_up scope.names f.text)
       ++ unagreed (spawn_wanted (look_up scope.names f.text)) a (met Value (type_of scope a))
   notes_at stands scope (on_value s w a) = notes_at AsValue scope a ++ unmet Integer a (type_of scope a)
-  notes_at stands scope (on_place s w a) = notes_at AsLvalue scope a ++ place_notes scope.names a ++ place_call_notes s.first.token w (place_kind scope.names a (type_of scope a))
-  notes_at stands scope (cast s t a) = type_notes scope [] Cast t ++ notes_at AsLvalue scope a ++ place_notes scope.names a
+  notes_at stands scope (on_place s w a) = notes_at AsLvalue scope a ++ place_notes scope.names a
+      ++ place_call_notes s.first.token w (place_kind scope.names a (type_of scope a))
+  notes_at stands scope (cast s t a) =
+      type_notes scope [] Cast t ++ notes_at AsLvalue scope a ++ place_notes scope.names a
       ++ cast_notes s.first.token (is_fine scope.structs Cast t) t a (place_kind scope.names a (type_of scope a))
-  notes_at stands scope (index s a i) = notes_at AsValue scope a ++ unmet Indexed a (type_of scope a) ++ notes_at AsValue scope i ++ unmet Integer i (type_of scope i)
+  notes_at stands scope (index s a i) = notes_at AsValue scope a ++ unmet Indexed a (type_of scope a)
+      ++ notes_at AsValue scope i ++ unmet Integer i (type_of scope i)
   notes_at stands scope (field s a w n) = notes_at AsValue scope a ++ unmet (access_need w) a (type_of scope a)
       ++ field_notes n.site.token (field_in scope.structs n.text (met (access_need w) (type_of scope a)))
   notes_at stands scope (unary s o a) = notes_at AsValue scope a ++ unmet (operand_need o) a (type_of scope a)
-  notes_at stands scope (binary s o at a b) = notes_at AsValue scope a ++ unmet (operands_need (class_of o)) a (type_of scope a)
+  notes_at stands scope (binary s o at a b) =
+      notes_at AsValue scope a ++ unmet (operands_need (class_of o)) a (type_of scope a)
       ++ notes_at AsValue scope b ++ unmet (operands_need (class_of o)) b (type_of scope b)
-      ++ binary_notes (class_of o) b (met (operands_need (class_of o)) (type_of scope a)) (met (operands_need (class_of o)) (type_of scope b))
+      ++ binary_notes (class_of o) b (met (operands_need (class_of o)) (type_of scope a))
+      (met (operands_need (class_of o)) (type_of scope b))
 
   pub notes_of_all : Scope → List Kind → Arguments → List Note
   notes_of_all scope wanted no_arguments = []

@@ -16,7 +16,8 @@ row_at rows token last = lookup (λ k. token == k.0 && last == k.1) rows
 
 -- rows that have that place too, unless its tokens have one
 abbrev pub HasEntityPlace : ℕ → ℕ → ℕ → EntityRows → EntityRows → Type 0
-HasEntityPlace token last place old new = (q p : ℕ) → row_at new q p ≡ option_or (row_at old q p) (if token == q && last == p then Some place else None)
+HasEntityPlace token last place old new = (q p : ℕ)
+    → row_at new q p ≡ option_or (row_at old q p) (if token == q && last == p then Some place else None)
 
 -- the rows have the place of the first entity of each two tokens
 abbrev pub HasFirstEntities : List Numbered → EntityRows → Type 0

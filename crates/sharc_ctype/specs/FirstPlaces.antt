@@ -15,7 +15,8 @@ place_at rows token = lookup (λ k. token == k) rows
 
 -- rows that have that place too, unless its token has one
 abbrev pub HasPlace : ℕ → ℕ → PlaceRows → PlaceRows → Type 0
-HasPlace token place old new = (q : ℕ) → place_at new q ≡ option_or (place_at old q) (if token == q then Some place else None)
+HasPlace token place old new = (q : ℕ)
+    → place_at new q ≡ option_or (place_at old q) (if token == q then Some place else None)
 
 -- the rows have the place of the first declaration of each token
 abbrev pub HasFirstPlaces : List Declaration → PlaceRows → Type 0

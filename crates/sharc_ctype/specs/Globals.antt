@@ -1,5 +1,6 @@
 -- Globals: their lengths, their cells and their initial values.
-use Rattle.std.specs.Prelude.{ℕ, ◌+◌, ◌*◌, ◌^◌, ◌==◌, nat_le, nat_lt, Bool, true, false, ◌&&◌, List, [], ◌∷◌, ◌++◌, Option, Some, None, if◌then◌else◌, unsigned_abs}
+use Rattle.std.specs.Prelude.{ℕ, ◌+◌, ◌*◌, ◌^◌, ◌==◌, nat_le, nat_lt, Bool, true, false, ◌&&◌, List, [], ◌∷◌, ◌++◌}
+use Rattle.std.specs.Prelude.{Option, Some, None, if◌then◌else◌, unsigned_abs}
 use Rattle.sharc_tree.specs.declared.ctype.Base.{Base}
 use Rattle.sharc_tree.specs.declared.ctype.Base.TheVariants.{Int, Char, Long, Mutex, Void, Struct}
 use Rattle.sharc_tree.specs.declared.tree.declaration.WrittenType.{WrittenType}
@@ -86,11 +87,13 @@ initial_notes g (Initial span minus c) =
 
 -- the faults of a global but for its size
 abbrev pub global_notes : Scope → GlobalDefinition → List Note
-global_notes scope g = type_notes scope [] role.Global g.declaration.written ++ length_notes g.form ++ initial_notes g g.form
+global_notes scope g =
+    type_notes scope [] role.Global g.declaration.written ++ length_notes g.form ++ initial_notes g g.form
 
 -- at most 65,536 elements of one array, and 65,536 cells of all globals up to this one and with it
 abbrev pub size_notes : ℕ → GlobalDefinition → List Note
-size_notes cells g = fault_unless (nat_le (elements_of g.form) 65536 && nat_le cells 65536) g.declaration.name.site.token LimitPassed
+size_notes cells g =
+    fault_unless (nat_le (elements_of g.form) 65536 && nat_le cells 65536) g.declaration.name.site.token LimitPassed
 
 abbrev pub item_cells : StructTable → Item → ℕ
 item_cells structs (structure s) = 0
@@ -109,4 +112,5 @@ item_size_notes structs before (function f) = []
 -- the globals among items, after others that have this many cells
 abbrev pub sizes_notes : StructTable → ℕ → List Item → List Note
 sizes_notes structs before [] = []
-sizes_notes structs before (i ∷ rest) = item_size_notes structs before i ++ sizes_notes structs (before + item_cells structs i) rest
+sizes_notes structs before (i ∷ rest) =
+    item_size_notes structs before i ++ sizes_notes structs (before + item_cells structs i) rest

@@ -1,5 +1,6 @@
 -- The faults of a program, what its names name, and which programs are typed.
-use Rattle.std.specs.Prelude.{◌≡◌, ℕ, ◌+◌, ◌-◌, ◌==◌, Bool, false, ◌&&◌, List, [], ◌∷◌, ◌++◌, length, fold, replicate, Option, Some, None, is_some, codes}
+use Rattle.std.specs.Prelude.{◌≡◌, ℕ, ◌+◌, ◌-◌, ◌==◌, Bool, false, ◌&&◌, List, [], ◌∷◌, ◌++◌, length, fold, replicate}
+use Rattle.std.specs.Prelude.{Option, Some, None, is_some, codes}
 use Rattle.sharc_tree.specs.declared.tree.declaration.Declaration.{Declaration}
 use Rattle.sharc_tree.specs.Tree.{Function, Item, structure, global, function, Program}
 use Rattle.sharc_names.specs.{declared.fault.FaultCode.TheVariants.{NoMain, LimitPassed}, declared.fault.Named.Named}
@@ -14,19 +15,25 @@ use Rattle.sharc_ctype.specs.Statements.{with_names, declared, declared_notes, n
 use Rattle.sharc_ctype.specs.Globals.{global_notes, sizes_notes}
 use Rattle.sharc_ctype.specs.{Heads.{twice, within, behind_all, heads_notes, no_heads}, Condition.known_in}
 
--- 6.7.2.1: a field of a struct, after others of it: at most 256, no two of one name. Its type sees all fields of the struct
+-- 6.7.2.1: a field of a struct, after others of it: at most 256, no two of one name. Its type sees all fields of the
+-- struct
 abbrev pub field_notes : Scope → List Declaration → List Declaration → Declaration → List Note
-field_notes scope all earlier d = type_notes scope all role.Field d.written ++ refers d.name.site.token (named.Field d.name.site.token)
-    ∷ (twice (is_some (field_of earlier d.name.text)) d.name.site.token ++ within 256 (length earlier) d.name.site.token)
+field_notes scope all earlier d =
+    type_notes scope all role.Field d.written ++ refers d.name.site.token (named.Field d.name.site.token)
+    ∷ (twice (is_some (field_of earlier d.name.text)) d.name.site.token
+    ++ within 256 (length earlier) d.name.site.token)
 
 abbrev pub fields_notes : Scope → List Declaration → List Declaration → List Declaration → List Note
 fields_notes scope all earlier [] = []
-fields_notes scope all earlier (d ∷ rest) = field_notes scope all earlier d ++ fields_notes scope all (earlier ++ d ∷ []) rest
+fields_notes scope all earlier (d ∷ rest) =
+    field_notes scope all earlier d ++ fields_notes scope all (earlier ++ d ∷ []) rest
 
--- 6.9.1: the parameters of a function, after this many others: at most 16. They and the locals of the outermost block are one scope
+-- 6.9.1: the parameters of a function, after this many others: at most 16. They and the locals of the outermost block
+-- are one scope
 abbrev pub parameters_notes : ℕ → ℕ → Scope → List Declaration → List Note
 parameters_notes block before scope [] = []
-parameters_notes block before scope (d ∷ rest) = type_notes scope [] role.Parameter d.written ++ declared_notes block d scope.names ++ within 16 before d.name.site.token
+parameters_notes block before scope (d ∷ rest) = type_notes scope [] role.Parameter d.written
+    ++ declared_notes block d scope.names ++ within 16 before d.name.site.token
     ++ parameters_notes block (before + 1) (with_names scope (declared block d scope.names)) rest
 
 abbrev pub with_parameters : ℕ → List Entry → List Declaration → List Entry
@@ -44,8 +51,10 @@ in_body file f = with_names file (with_parameters (length file.names) file.names
 
 -- the type of the result sees the names of the file
 abbrev pub function_notes : Scope → Function → List Note
-function_notes file f = type_notes file [] role.Result f.result ++ parameters_notes (length file.names) 0 file f.parameters
-    ++ notes_in_all (record { result = declared_kind f.result; in_loop = false; block = length file.names }) (in_body file f) f.statements
+function_notes file f =
+    type_notes file [] role.Result f.result ++ parameters_notes (length file.names) 0 file f.parameters
+    ++ notes_in_all (record { result = declared_kind f.result; in_loop = false; block = length file.names })
+    (in_body file f) f.statements
     ++ beyond 200 (locals_in_all f.statements)
 
 abbrev pub item_notes : Scope → Item → List Note
@@ -79,7 +88,8 @@ file_scope items = known_in (behind_all no_heads items).scope
 
 -- all that is to be said of a program of this many tokens
 abbrev pub program_notes : ℕ → List Item → List Note
-program_notes tokens items = heads_notes no_heads items ++ items_notes (file_scope items) items ++ sizes_notes (file_scope items).structs 0 items
+program_notes tokens items =
+    heads_notes no_heads items ++ items_notes (file_scope items) items ++ sizes_notes (file_scope items).structs 0 items
     ++ main_missing tokens (file_scope items).names
 
 abbrev pub nothing_found : ℕ → Findings

@@ -10,7 +10,8 @@ pointer_cells = map (λ d. is_pointer (declared_kind d.written))
 
 -- the bits of a word say which of the cells from one on are pointers
 abbrev pub IsWord : List Declaration → ℕ → ℕ → Type 0
-IsWord fields from word = (b : ℕ) → b < 64 → (bit_at word b == 1) ≡ slice_index_or (pointer_cells fields) (from + b) false
+IsWord fields from word = (b : ℕ) → b < 64
+    → (bit_at word b == 1) ≡ slice_index_or (pointer_cells fields) (from + b) false
 
 -- bit j mod 64 of word j / 64 is set exactly where cell j is a pointer
 pub record IsLayout (fields : List Declaration) (c : StructCells) : Type 0 where

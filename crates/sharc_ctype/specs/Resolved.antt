@@ -1,9 +1,12 @@
 -- The resolved program: what crates above see of a typed program in place of scopes.
-use Rattle.std.specs.Prelude.{◌≡◌, ℕ, ◌==◌, List, [], ◌∷◌, ◌++◌, slice_index_or, slice_get, Option, Some, None, if◌then◌else◌}
+use Rattle.std.specs.Prelude.{◌≡◌, ℕ, ◌==◌, List, [], ◌∷◌, ◌++◌, slice_index_or, slice_get, Option, Some, None}
+use Rattle.std.specs.Prelude.{if◌then◌else◌}
 use Rattle.sharc_tree.specs.declared.tree.declaration.Declaration.{Declaration}
 use Rattle.sharc_tree.specs.declared.tree.item.StructDefinition.{StructDefinition}
 use Rattle.sharc_tree.specs.declared.tree.item.GlobalDefinition.{GlobalDefinition}
-use Rattle.sharc_tree.specs.Tree.{Function, Item, structure, global, function, Program, Expression, identifier, constant, parentheses, call, spawn, on_value, on_place, cast, index, field, unary, binary}
+use Rattle.sharc_tree.specs.Tree.{Function, Item, structure, global, function, Program, Expression, identifier}
+use Rattle.sharc_tree.specs.Tree.{constant, parentheses, call, spawn, on_value, on_place, cast, index, field, unary}
+use Rattle.sharc_tree.specs.Tree.{binary}
 use Rattle.sharc_names.specs.{declared.fault.Named.Named, Kinds.{Kind, int, void, declared_kind, element_kind}}
 use Rattle.sharc_names.specs.Names.{global_kind}
 use Rattle.sharc_names.specs.declared.fault.Named.TheVariants as named
@@ -70,7 +73,8 @@ function_at r n = slice_get (functions_in r.program.items) n
 abbrev pub declaration_at : Resolution → ℕ → Option Declaration
 declaration_at r token = declared_at (declarations_in r.program.items) token
 
--- The type of an expression, from what its name tokens name alone. It is total: what names nothing has the kind of a function's name.
+-- The type of an expression, from what its name tokens name alone. It is total: what names nothing has the kind of a
+-- function's name.
 
 abbrev pub variable_kind : Option Declaration → Kind
 variable_kind None = kinds.function

@@ -1,8 +1,11 @@
 -- The faults of statements (C11 6.8), and the names that a block declares (6.2.1).
-use Rattle.std.specs.Prelude.{ℕ, ◌+◌, ◌==◌, Bool, true, false, not, ◌||◌, List, [], ◌∷◌, ◌++◌, length, Option, Some, None, if◌then◌else◌}
+use Rattle.std.specs.Prelude.{ℕ, ◌+◌, ◌==◌, Bool, true, false, not, ◌||◌, List, [], ◌∷◌, ◌++◌, length, Option, Some}
+use Rattle.std.specs.Prelude.{None, if◌then◌else◌}
 use Rattle.sharc_tree.specs.declared.tree.declaration.Declaration.{Declaration}
 use Rattle.sharc_tree.specs.declared.tree.declaration.WrittenType.{WrittenType}
-use Rattle.sharc_tree.specs.Tree.{Expression, Right, value, malloc, Simple, assign, does_call, Local, First, nothing, declares, does, Head, Statement, empty, block, declare, simple, jump, return, if_then, if_then_else, while, for, Statements, no_statements, statement}
+use Rattle.sharc_tree.specs.Tree.{Expression, Right, value, malloc, Simple, assign, does_call, Local, First, nothing}
+use Rattle.sharc_tree.specs.Tree.{declares, does, Head, Statement, empty, block, declare, simple, jump, return, if_then}
+use Rattle.sharc_tree.specs.Tree.{if_then_else, while, for, Statements, no_statements, statement}
 use Rattle.sharc_names.specs.declared.need.Need.TheVariants.{Value, Integer}
 use Rattle.sharc_names.specs.declared.fault.FaultCode.TheVariants.{DefinedTwice, TypeMismatch, BadForm}
 use Rattle.sharc_names.specs.{declared.fault.Named.TheVariants.Variable, declared.scope.Scope.Scope}
@@ -13,7 +16,8 @@ use Rattle.sharc_names.specs.declared.types.Role.TheVariants as role
 use Rattle.sharc_ctype.specs.declared.expr.Standing.TheVariants.{AsLvalue}
 use Rattle.sharc_ctype.specs.Expressions.{type_of, notes_at, notes_of, place_kind, place_notes}
 
--- where a statement is: the function's result, whether a loop is around it, and how many names were in scope where the block begins
+-- where a statement is: the function's result, whether a loop is around it, and how many names were in scope where the
+-- block begins
 pub record Around : Type 0 where
   pub result : Kind
   pub in_loop : Bool
@@ -39,11 +43,13 @@ is_here from scope d = in_block from (look_up scope d.name.text)
 
 -- the names with a variable more; of two in one block the first stays
 abbrev pub declared : ℕ → Declaration → List Entry → List Entry
-declared from d scope = if is_here from scope d then scope else record { name = d.name.text; block = from; meaning = variable d } ∷ scope
+declared from d scope =
+    if is_here from scope d then scope else record { name = d.name.text; block = from; meaning = variable d } ∷ scope
 
 -- 6.7p3
 abbrev pub declared_notes : ℕ → Declaration → List Entry → List Note
-declared_notes from d scope = refers d.name.site.token (Variable d.name.site.token) ∷ fault_where (is_here from scope d) d.name.site.token DefinedTwice
+declared_notes from d scope = refers d.name.site.token (Variable d.name.site.token)
+    ∷ fault_where (is_here from scope d) d.name.site.token DefinedTwice
 
 -- 6.8.4.1p1 and 6.8.5p2: a condition
 abbrev pub test_notes : Scope → Expression → List Note
@@ -63,9 +69,11 @@ abbrev pub is_made : Option Kind → WrittenType → Bool
 is_made None w = true
 is_made (Some want) w = same_kind want (made w)
 
--- 6.5.16.1: the right side of `=`, where the left side wants a kind, if it has one. What `malloc` gives is determined by its type alone, whatever its count is
+-- 6.5.16.1: the right side of `=`, where the left side wants a kind, if it has one. What `malloc` gives is determined
+-- by its type alone, whatever its count is
 abbrev pub right_notes : Scope → Option Kind → Right → List Note
-right_notes scope want (value e) = notes_of scope e ++ unmet Value e (type_of scope e) ++ unagreed want e (met Value (type_of scope e))
+right_notes scope want (value e) =
+    notes_of scope e ++ unmet Value e (type_of scope e) ++ unagreed want e (met Value (type_of scope e))
 right_notes scope want (malloc s n w) = count_notes scope n ++ type_notes scope [] role.Made w
     ++ fault_unless (is_made want w || not (is_fine scope.structs role.Made w)) s.first.token TypeMismatch
 
@@ -91,7 +99,8 @@ initial_notes scope d (Some r) = fault_where (is_aggregate (declared_kind d.writ
 
 -- 6.2.1p7: a local is in scope after its declarator, in its initialiser too
 abbrev pub local_notes : Around → Scope → Local → List Note
-local_notes around scope l = type_notes scope [] role.Local l.declaration.written ++ declared_notes around.block l.declaration scope.names
+local_notes around scope l =
+    type_notes scope [] role.Local l.declaration.written ++ declared_notes around.block l.declaration scope.names
     ++ initial_notes (with_names scope (declared around.block l.declaration scope.names)) l.declaration l.initial
 
 -- 6.8.6.4: a function returns a value exactly where its result is not void
@@ -101,7 +110,8 @@ returned_as result = if same_kind result void then None else Some result
 abbrev pub return_notes : Around → Scope → ℕ → Option Expression → List Note
 return_notes around scope word None = fault_unless (same_kind around.result void) word BadForm
 return_notes around scope word (Some e) = fault_where (same_kind around.result void) word BadForm
-    ++ notes_of scope e ++ unmet Value e (type_of scope e) ++ unagreed (returned_as around.result) e (met Value (type_of scope e))
+    ++ notes_of scope e ++ unmet Value e (type_of scope e)
+    ++ unagreed (returned_as around.result) e (met Value (type_of scope e))
 
 -- 6.8.5.3: the head of a `for`. What it declares is in scope in the rest of the head and in the body
 
@@ -127,7 +137,8 @@ abbrev pub in_head : Around → Scope → Head → Scope
 in_head around scope h = with_names scope (behind_first around scope.names h.first)
 
 abbrev pub head_notes : Around → Scope → Head → List Note
-head_notes around scope h = first_notes around scope h.first ++ tests_notes (in_head around scope h) h.test ++ step_notes (in_head around scope h) h.step
+head_notes around scope h = first_notes around scope h.first ++ tests_notes (in_head around scope h) h.test
+    ++ step_notes (in_head around scope h) h.step
 
 -- of a statement that has no other in it and declares nothing
 abbrev pub plain_notes : Around → Scope → Statement → List Note
@@ -163,14 +174,17 @@ abbrev mutual
   notes_in around scope (jump s j) = fault_unless around.in_loop s.first.token BadForm
   notes_in around scope (return s e) = return_notes around scope s.first.token e
   notes_in around scope (if_then s e a) = test_notes scope e ++ notes_in (opened around scope.names) scope a
-  notes_in around scope (if_then_else s e a b) = test_notes scope e ++ notes_in (opened around scope.names) scope a ++ notes_in (opened around scope.names) scope b
+  notes_in around scope (if_then_else s e a b) =
+      test_notes scope e ++ notes_in (opened around scope.names) scope a ++ notes_in (opened around scope.names) scope b
   notes_in around scope (while s e a) = test_notes scope e ++ notes_in (looping (opened around scope.names)) scope a
   notes_in around scope (for s h a) = head_notes (opened around scope.names) scope h
-      ++ notes_in (looping (opened around (behind_first (opened around scope.names) scope.names h.first))) (in_head (opened around scope.names) scope h) a
+      ++ notes_in (looping (opened around (behind_first (opened around scope.names) scope.names h.first)))
+      (in_head (opened around scope.names) scope h) a
 
   pub notes_in_all : Around → Scope → Statements → List Note
   notes_in_all around scope no_statements = []
-  notes_in_all around scope (statement a rest) = notes_in around scope a ++ notes_in_all around (with_names scope (after around scope.names a)) rest
+  notes_in_all around scope (statement a rest) =
+      notes_in around scope a ++ notes_in_all around (with_names scope (after around scope.names a)) rest
 
 -- the locals that a function declares, in the order in which they are written
 abbrev pub first_locals : First → List Declaration

@@ -1,5 +1,5 @@
--- The tables of a typed program: where its structs, globals and functions are among its items, all other declarations, what has a type with modes,
--- and the constant variables.
+-- The tables of a typed program: where its structs, globals and functions are among its items, all other declarations,
+-- what has a type with modes, and the constant variables.
 use Rattle.std.specs.Prelude.{◌≡◌, ℕ, ◌+◌, Bool, true, false, List, [], ◌∷◌, Option, Some, None, if◌then◌else◌}
 use Rattle.sharc_tree.specs.declared.tree.item.StructDefinition.{StructDefinition}
 use Rattle.sharc_tree.specs.declared.tree.item.GlobalDefinition.{GlobalDefinition}
@@ -18,7 +18,8 @@ has_form _ _ = false
 -- the places of the items of one form, where the first item has such a place
 abbrev pub places_of : ItemForm → ℕ → List Item → List ℕ
 places_of form first [] = []
-places_of form first (i ∷ rest) = if has_form form i then first ∷ places_of form (first + 1) rest else places_of form (first + 1) rest
+places_of form first (i ∷ rest) =
+    if has_form form i then first ∷ places_of form (first + 1) rest else places_of form (first + 1) rest
 
 abbrev pub as_structure : Item → Option StructDefinition
 as_structure (structure s) = Some s

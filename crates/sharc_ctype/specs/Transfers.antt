@@ -2,7 +2,11 @@
 use Rattle.std.specs.Prelude.{IsTrue, List, [], ◌∷◌, ◌++◌, Option, Some, None}
 use Rattle.sharc_tree.specs.declared.tree.declaration.WrittenType.{WrittenType}
 use Rattle.sharc_tree.specs.declared.tree.declaration.Declaration.{Declaration}
-use Rattle.sharc_tree.specs.Tree.{Expression, identifier, constant, parentheses, call, spawn, on_value, on_place, cast, index, field, unary, binary, Arguments, no_arguments, argument, Right, value, malloc, Simple, assign, does_call, Local, First, nothing, declares, does, Statement, empty, block, declare, simple, jump, return, if_then, if_then_else, while, for, Statements, no_statements, statement, Function}
+use Rattle.sharc_tree.specs.Tree.{Expression, identifier, constant, parentheses, call, spawn, on_value, on_place, cast}
+use Rattle.sharc_tree.specs.Tree.{index, field, unary, binary, Arguments, no_arguments, argument, Right, value, malloc}
+use Rattle.sharc_tree.specs.Tree.{Simple, assign, does_call, Local, First, nothing, declares, does, Statement, empty}
+use Rattle.sharc_tree.specs.Tree.{block, declare, simple, jump, return, if_then, if_then_else, while, for, Statements}
+use Rattle.sharc_tree.specs.Tree.{no_statements, statement, Function}
 use Rattle.sharc_names.specs.{declared.fault.Named.Named, Kinds.{Kind, agrees, same_kind, declared_kind}}
 use Rattle.sharc_names.specs.declared.fault.Named.TheVariants as named
 use Rattle.sharc_ctype.specs.{Statements.made, Resolved.{Resolution, named_at, function_at, kind_at}}
@@ -46,7 +50,8 @@ abbrev mutual
   transfers r (constant s c) = []
   transfers r (parentheses s a) = transfers r a
   transfers r (call s f all) = passed (parameters_named r (named_at r f.site.token)) all ++ argument_transfers r all
-  transfers r (spawn s f a) = passed (parameters_named r (named_at r f.site.token)) (argument a no_arguments) ++ transfers r a
+  transfers r (spawn s f a) =
+      passed (parameters_named r (named_at r f.site.token)) (argument a no_arguments) ++ transfers r a
   transfers r (on_value s w a) = transfers r a
   transfers r (on_place s w a) = transfers r a
   transfers r (cast s t a) = transfers r a
@@ -88,9 +93,11 @@ abbrev mutual
   statement_transfers r w (jump s j) = []
   statement_transfers r w (return s e) = in_option (λ x. gives (result w) (value x) ++ transfers r x) e
   statement_transfers r w (if_then s e a) = transfers r e ++ statement_transfers r w a
-  statement_transfers r w (if_then_else s e a b) = transfers r e ++ statement_transfers r w a ++ statement_transfers r w b
+  statement_transfers r w (if_then_else s e a b) =
+      transfers r e ++ statement_transfers r w a ++ statement_transfers r w b
   statement_transfers r w (while s e a) = transfers r e ++ statement_transfers r w a
-  statement_transfers r w (for s h a) = first_transfers r h.first ++ in_option (transfers r) h.test ++ in_option (simple_transfers r) h.step ++ statement_transfers r w a
+  statement_transfers r w (for s h a) = first_transfers r h.first ++ in_option (transfers r) h.test
+      ++ in_option (simple_transfers r) h.step ++ statement_transfers r w a
 
   pub statements_transfers : Resolution → WrittenType → Statements → List Transfer
   statements_transfers r w no_statements = []

@@ -1,9 +1,12 @@
 -- What typing a program answers.
-use Rattle.std.specs.Prelude.{◌≡◌, ℕ, Bool, true, false, List, [], ◌∷◌, drop, slice_index_or, if◌then◌else◌, Result, Ok, Err}
+use Rattle.std.specs.Prelude.{◌≡◌, ℕ, Bool, true, false, List, [], ◌∷◌, drop, slice_index_or, if◌then◌else◌, Result, Ok}
+use Rattle.std.specs.Prelude.{Err}
 use Rattle.sharc_tree.specs.{declared.token.Site.Site, declared.token.Token.Token, declared.token.Tokens.Tokens}
 use Rattle.sharc_tree.specs.{declared.token.FaultAt.FaultAt, Tree.Program}
 use Rattle.sharc_names.specs.declared.fault.FaultCode.{FaultCode}
-use Rattle.sharc_names.specs.declared.fault.FaultCode.TheVariants.{UnknownName, DefinedTwice, TypeMismatch, ArgumentCount, NoLvalue, TypeNotAllowed, BadForm, NoMain, LimitPassed}
+use Rattle.sharc_names.specs.declared.fault.FaultCode.TheVariants.{UnknownName, DefinedTwice, TypeMismatch}
+use Rattle.sharc_names.specs.declared.fault.FaultCode.TheVariants.{ArgumentCount, NoLvalue, TypeNotAllowed, BadForm}
+use Rattle.sharc_names.specs.declared.fault.FaultCode.TheVariants.{NoMain, LimitPassed}
 use Rattle.sharc_names.specs.{declared.fault.Fault.Fault, Notes.{faults, IsFirst}}
 use Rattle.sharc_ctype.specs.{declared.typed.Typed.Typed, declared.typed.TypeFault.TypeFault}
 use Rattle.sharc_ctype.specs.{declared.typed.TypeFault.TheVariants.{At, Memory}, Items.notes_about}

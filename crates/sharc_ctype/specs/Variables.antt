@@ -1,7 +1,10 @@
--- The variables of a program that begin with a value, and those that are assigned, in source order. Each is known by the token that declares it.
+-- The variables of a program that begin with a value, and those that are assigned, in source order. Each is known by
+-- the token that declares it.
 use Rattle.std.specs.Prelude.{ℕ, List, [], ◌∷◌, ◌++◌, map, slice_index_or, Option, Some, None, is_some, if◌then◌else◌}
 use Rattle.sharc_tree.specs.Forms.{without_parentheses}
-use Rattle.sharc_tree.specs.Tree.{Expression, identifier, Simple, assign, does_call, Local, First, nothing, declares, does, Statement, empty, block, declare, simple, jump, return, if_then, if_then_else, while, for, Statements, no_statements, statement, Item, structure, global, function}
+use Rattle.sharc_tree.specs.Tree.{Expression, identifier, Simple, assign, does_call, Local, First, nothing, declares}
+use Rattle.sharc_tree.specs.Tree.{does, Statement, empty, block, declare, simple, jump, return, if_then, if_then_else}
+use Rattle.sharc_tree.specs.Tree.{while, for, Statements, no_statements, statement, Item, structure, global, function}
 use Rattle.sharc_names.specs.declared.fault.Named.{Named}
 use Rattle.sharc_names.specs.declared.fault.Named.TheVariants as named
 
@@ -32,7 +35,8 @@ abbrev mutual
   initialised_in_all no_statements = []
   initialised_in_all (statement a rest) = initialised_in a ++ initialised_in_all rest
 
--- `x = ..` assigns `x`, where parentheses around `x` do not count. SCAST and free of a variable are no assignment of it.
+-- `x = ..` assigns `x`, where parentheses around `x` do not count. SCAST and free of a variable are no assignment of
+-- it.
 
 abbrev pub variable : Named → List ℕ
 variable (named.Struct n) = []

@@ -3,8 +3,11 @@
 ghost use Rattle.std.specs.Prelude.{◌≡◌, ◌++◌, map, IfOk, OnOk};
 ghost use Rattle.sharc_names.specs.declared.types.Role.TheVariants as role;
 ghost use Rattle.sharc_tree.specs.Measures.{expressions, in_option, in_simple, in_local};
-ghost use Rattle.sharc_tree.specs.View.{view_expr, view_first, view_function, view_head, view_item, view_items, view_local, view_option, view_simple, view_stmt, view_statements};
-ghost use Rattle.sharc_ctype.specs.Entities.{declared, casts, local_entities, first_entities, head_entities, statement_entities, statements_entities, result_of, function_entities, item_entities, entities_in};
+ghost use Rattle.sharc_tree.specs.View.{view_expr, view_first, view_function, view_head, view_item, view_items};
+ghost use Rattle.sharc_tree.specs.View.{view_local, view_option, view_simple, view_stmt, view_statements};
+ghost use Rattle.sharc_ctype.specs.Entities.{declared, casts, local_entities, first_entities, head_entities};
+ghost use Rattle.sharc_ctype.specs.Entities.{statement_entities, statements_entities, result_of, function_entities};
+ghost use Rattle.sharc_ctype.specs.Entities.{item_entities, entities_in};
 
 use crate::casts::{add_casts, add_right, add_simple};
 use crate::entities::Entities;
@@ -57,7 +60,8 @@ fn add_local(alloc: Global, local: &Local, entities: &mut Entities) -> Result<()
 
 /// Adds the casts of an expression, if there is one.
 fn add_option(alloc: Global, expr: &Option<Expr>, entities: &mut Entities) -> Result<(), AllocError>
-    ensures { OnOk result (entities.new ≡ entities.old ++ casts (in_option expressions (view_option view_expr expr.now))) }
+    ensures { OnOk result (entities.new
+        ≡ entities.old ++ casts (in_option expressions (view_option view_expr expr.now))) }
 {
     match expr {
         None => Ok(()),
@@ -67,7 +71,8 @@ fn add_option(alloc: Global, expr: &Option<Expr>, entities: &mut Entities) -> Re
 
 /// Adds the casts of the step of a `for`.
 fn add_step(alloc: Global, step: &Option<Simple>, entities: &mut Entities) -> Result<(), AllocError>
-    ensures { OnOk result (entities.new ≡ entities.old ++ casts (in_option in_simple (view_option view_simple step.now))) }
+    ensures { OnOk result (entities.new
+        ≡ entities.old ++ casts (in_option in_simple (view_option view_simple step.now))) }
 {
     match step {
         None => Ok(()),
@@ -81,7 +86,8 @@ fn add_returned(
     value: &Option<Box<Expr>>,
     entities: &mut Entities,
 ) -> Result<(), AllocError>
-    ensures { OnOk result (entities.new ≡ entities.old ++ casts (in_option expressions (view_option (λ b. view_expr b.value) value.now))) }
+    ensures { OnOk result (entities.new
+        ≡ entities.old ++ casts (in_option expressions (view_option (λ b. view_expr b.value) value.now))) }
 {
     match value {
         None => Ok(()),

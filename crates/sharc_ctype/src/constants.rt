@@ -27,7 +27,8 @@ fn set_without(
     tokens: &[u32],
     others: &IndexSet<u32>,
 ) -> Result<IndexSet<u32>, AllocError>
-    ensures { IfOk result (λ set. (q : ℕ) → is_among q set.keys ≡ (is_among q tokens.now && not (is_among q others.now.keys))) }
+    ensures { IfOk result (λ set. (q : ℕ)
+        → is_among q set.keys ≡ (is_among q tokens.now && not (is_among q others.now.keys))) }
 {
     let mut set = IndexSet::new(alloc);
     for token in tokens {

@@ -30,7 +30,8 @@ impl Model for Entities {
     ghost invariant = { λ e. AreNumbered e.list.items e.positions × HasFirstEntities e.list.items e.first.entries };
 }
 
-/// The number of positions after this many more; out of memory where it does not fit, since a list of them could not be kept.
+/// The number of positions after this many more; out of memory where it does not fit, since a list of them could not be
+/// kept.
 fn raised(positions: u32, more: usize) -> Result<u32, AllocError>
     ensures more { IfOk result (λ n. n ≡ positions + more) }
     ensures err { OnErr result (2 ^ 32 ≤ positions + more) }

@@ -10,7 +10,8 @@ use sharc_tree::tree::WrittenType;
 #[derive(Drop)]
 pub struct Entity {
     pub role: Role,
-    /// The token of the declared name; of a cast the token `SCAST`, or the first token of the expression that the cast was put around.
+    /// The token of the declared name; of a cast the token `SCAST`, or the first token of the expression that the cast
+    /// was put around.
     pub token: u32,
     /// The last token of a cast, else the same token.
     pub last: u32,
@@ -24,8 +25,8 @@ pub struct Numbered {
     pub first: u32,
 }
 
-/// The depth of the first position: the top of a global is one, of any other type the target is the first. The position at a depth from there on has
-/// the number of the first and as many more as it lies deeper.
+/// The depth of the first position: the top of a global is one, of any other type the target is the first. The position
+/// at a depth from there on has the number of the first and as many more as it lies deeper.
 pub fn first_depth(role: Role) -> usize
     ensures { result ≡ first_depth role }
 {

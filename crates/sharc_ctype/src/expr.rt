@@ -7,9 +7,18 @@ ghost use Rattle.sharc_names.specs.Names.{look_up};
 ghost use Rattle.sharc_names.specs.Needs.{met, unmet};
 ghost use Rattle.sharc_names.specs.Notes.{noted};
 ghost use Rattle.sharc_names.specs.Types.{is_fine, name_kind, name_notes};
-ghost use Rattle.sharc_names.specs.View.{view_kind, view_kinds, view_bound, view_bounds, view_meaning, view_wanted, view_wanteds};
+ghost use Rattle.sharc_names.specs.View.{view_kind, view_kinds, view_bound, view_bounds, view_meaning, view_wanted};
+ghost use Rattle.sharc_names.specs.View.{view_wanteds};
 ghost use Rattle.sharc_ctype.specs.declared.expr.Standing.TheVariants.{AsLvalue};
-ghost use Rattle.sharc_ctype.specs.Expressions.{constant_kind, number_kind, access_need, element_of, operand_need, unary_result, unary_kind, class_of, operands_need, binary_result, may_join, binary_kind, binary_notes, is_function_name, names_function, is_place, place_kind, place_notes, suits, place_call_kind, place_call_notes, value_call_kind, keeps_kind, cast_kind, cast_notes, can_spawn, spawn_notes, may_spawn, spawn_kind, spawn_wanted, takes, uncalled_notes, count_notes, callee_notes, wanted_if, wanted, call_result, call_kind, type_of, are_fine, notes_at, notes_of, notes_of_all};
+ghost use Rattle.sharc_ctype.specs.Expressions.{constant_kind, number_kind, access_need, element_of, operand_need};
+ghost use Rattle.sharc_ctype.specs.Expressions.{unary_result, unary_kind, class_of, operands_need, binary_result};
+ghost use Rattle.sharc_ctype.specs.Expressions.{may_join, binary_kind, binary_notes, is_function_name, names_function};
+ghost use Rattle.sharc_ctype.specs.Expressions.{is_place, place_kind, place_notes, suits, place_call_kind};
+ghost use Rattle.sharc_ctype.specs.Expressions.{place_call_notes, value_call_kind, keeps_kind, cast_kind, cast_notes};
+ghost use Rattle.sharc_ctype.specs.Expressions.{can_spawn, spawn_notes, may_spawn, spawn_kind, spawn_wanted, takes};
+ghost use Rattle.sharc_ctype.specs.Expressions.{uncalled_notes, count_notes, callee_notes, wanted_if, wanted};
+ghost use Rattle.sharc_ctype.specs.Expressions.{call_result, call_kind, type_of, are_fine, notes_at, notes_of};
+ghost use Rattle.sharc_ctype.specs.Expressions.{notes_of_all};
 
 use sharc_names::fault::{FaultCode, Found};
 use sharc_names::kind::{
@@ -117,7 +126,8 @@ fn binary_kind<'a>(
     found: &mut Found,
 ) -> Option<Kind<'a>>
     ensures kind { view_kinds result ≡ binary_kind class (view_kinds a.entry) (view_kinds b.entry) }
-    ensures found { found.new ≡ fold noted found.old (binary_notes class (view_expr right.now) (view_kinds a.entry) (view_kinds b.entry)) }
+    ensures found { found.new
+        ≡ fold noted found.old (binary_notes class (view_expr right.now) (view_kinds a.entry) (view_kinds b.entry)) }
 {
     let (Some(a), Some(b)) = (a, b) else {
         return None;
@@ -289,7 +299,8 @@ fn cast_kind<'a>(
     found: &mut Found,
 ) -> Option<Kind<'a>>
     ensures kind { view_kinds result ≡ cast_kind fine written.now (view_kinds kind.entry) }
-    ensures found { found.new ≡ fold noted found.old (cast_notes word fine written.now (view_expr source.now) (view_kinds kind.entry)) }
+    ensures found { found.new
+        ≡ fold noted found.old (cast_notes word fine written.now (view_expr source.now) (view_kinds kind.entry)) }
 {
     match kind {
         None => None,
@@ -465,7 +476,8 @@ fn name_of<'a>(scope: &Scope<'a>, name: &Identifier, found: &mut Found) -> Optio
     name_kind(bound)
 }
 
-/// The type of an expression, or none where there is a fault in it. Takes note of its faults, and of what its names name.
+/// The type of an expression, or none where there is a fault in it. Takes note of its faults, and of what its names
+/// name.
 #[cycle(expr)]
 pub(crate) fn expression<'a>(
     scope: &Scope<'a>,
@@ -626,7 +638,8 @@ fn cast<'a>(
 #[cycle(expr)]
 fn arguments<'a>(scope: &Scope<'a>, wanted: Wanted<'a>, list: &'a [Expr], found: &mut Found) -> bool
     ensures fine { result ≡ are_fine scope.now (view_wanted wanted.entry) (view_arguments list.now) }
-    ensures found { found.new ≡ fold noted found.old (notes_of_all scope.now (view_wanted wanted.entry) (view_arguments list.now)) }
+    ensures found { found.new
+        ≡ fold noted found.old (notes_of_all scope.now (view_wanted wanted.entry) (view_arguments list.now)) }
 {
     let mut fine = true;
     let mut left = wanted;

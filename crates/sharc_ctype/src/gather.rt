@@ -75,7 +75,8 @@ fn add_function(
     function: &FunctionDefinition,
     declared: &mut Declared,
 ) -> Result<(), AllocError>
-    ensures { OnOk result (declared.new ≡ declared.old ++ (function.now.parameters ++ locals_in_all (view_statements function.now.statements.items))) }
+    ensures { OnOk result (declared.new
+        ≡ declared.old ++ (function.now.parameters ++ locals_in_all (view_statements function.now.statements.items))) }
 {
     add_all(alloc, function.parameters.as_slice(), declared)?;
     add_all_locals(function.statements.as_slice(), alloc, declared)

@@ -4,7 +4,10 @@ ghost use Rattle.std.specs.Prelude.{◌≡◌, ℕ, ◌≤◌, ◌+◌, min, fol
 ghost use Rattle.sharc_tree.specs.View.{view_item, view_items};
 ghost use Rattle.sharc_names.specs.Notes.{noted};
 ghost use Rattle.sharc_names.specs.View.{found_struct};
-ghost use Rattle.sharc_ctype.specs.Globals.{elements_of, struct_cells, base_cells, type_cells, global_cells, length_notes, holds, holds_constant, is_null_constant, base_initial_notes, initial_notes, global_notes, size_notes, item_cells, item_size_notes, sizes_notes};
+ghost use Rattle.sharc_ctype.specs.Globals.{elements_of, struct_cells, base_cells, type_cells, global_cells};
+ghost use Rattle.sharc_ctype.specs.Globals.{length_notes, holds, holds_constant, is_null_constant, base_initial_notes};
+ghost use Rattle.sharc_ctype.specs.Globals.{initial_notes, global_notes, size_notes, item_cells, item_size_notes};
+ghost use Rattle.sharc_ctype.specs.Globals.{sizes_notes};
 
 use sharc_names::fault::{FaultCode, Found};
 use sharc_names::kind::stars_of;
@@ -169,12 +172,14 @@ pub(crate) fn global<'a>(scope: &Scope<'a>, global: &'a GlobalDefinition, found:
     initial(global, found);
 }
 
-/// Takes note where a global passes a limit after others with this many cells; answers the number of cells with it. In both, 65,537 stands for more
-/// than 65,536.
+/// Takes note where a global passes a limit after others with this many cells; answers the number of cells with it. In
+/// both, 65,537 stands for more than 65,536.
 fn size(structs: &Structs<'_>, cells: u64, global: &GlobalDefinition, found: &mut Found) -> u64
     requires { cells ≤ 65537 }
-    ensures cells { (before : ℕ) → cells ≡ min 65537 before → result ≡ min 65537 (before + global_cells structs.now global.now) }
-    ensures found { (before : ℕ) → cells ≡ min 65537 before → found.new ≡ fold noted found.old (size_notes (before + global_cells structs.now global.now) global.now) }
+    ensures cells { (before : ℕ) → cells ≡ min 65537 before
+        → result ≡ min 65537 (before + global_cells structs.now global.now) }
+    ensures found { (before : ℕ) → cells ≡ min 65537 before
+        → found.new ≡ fold noted found.old (size_notes (before + global_cells structs.now global.now) global.now) }
 {
     let all = (cells + global_cells(structs, global)).min(65537);
     let few = elements_of(global.form) <= 65536 && all <= 65536;
@@ -188,8 +193,10 @@ fn size(structs: &Structs<'_>, cells: u64, global: &GlobalDefinition, found: &mu
 
 fn item_size(structs: &Structs<'_>, cells: u64, item: &Item, found: &mut Found) -> u64
     requires { cells ≤ 65537 }
-    ensures cells { (before : ℕ) → cells ≡ min 65537 before → result ≡ min 65537 (before + item_cells structs.now (view_item item.now)) }
-    ensures found { (before : ℕ) → cells ≡ min 65537 before → found.new ≡ fold noted found.old (item_size_notes structs.now before (view_item item.now)) }
+    ensures cells { (before : ℕ) → cells ≡ min 65537 before
+        → result ≡ min 65537 (before + item_cells structs.now (view_item item.now)) }
+    ensures found { (before : ℕ) → cells ≡ min 65537 before
+        → found.new ≡ fold noted found.old (item_size_notes structs.now before (view_item item.now)) }
 {
     match item {
         Item::Global(definition) => size(structs, cells, definition, found),

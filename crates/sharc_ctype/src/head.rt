@@ -6,7 +6,8 @@ ghost use Rattle.sharc_tree.specs.Tree.{structure, global, function};
 ghost use Rattle.sharc_names.specs.Names.{look_up, struct_of};
 ghost use Rattle.sharc_names.specs.Notes.{noted};
 ghost use Rattle.sharc_names.specs.View.{view_bound, view_signature};
-ghost use Rattle.sharc_ctype.specs.Heads.{with_struct, with_entry, signature_of, behind, behind_all, twice, within, head_notes, heads_notes};
+ghost use Rattle.sharc_ctype.specs.Heads.{with_struct, with_entry, signature_of, behind, behind_all, twice, within};
+ghost use Rattle.sharc_ctype.specs.Heads.{head_notes, heads_notes};
 ghost use Rattle.sharc_ctype.specs.Statements.{with_names};
 
 use sharc_names::fault::{FaultCode, Found, Named};
@@ -41,8 +42,10 @@ fn enter<'a>(
     token: u32,
     found: &mut Found,
 ) -> Result<(), AllocError>
-    ensures scope { OnOk result (scope.new ≡ with_names scope.old (with_entry (view_bound bound.entry) scope.old.names)) }
-    ensures found { OnOk result (found.new ≡ fold noted found.old (twice (is_some (look_up scope.old.names bound.entry.name.now)) token)) }
+    ensures scope { OnOk result (scope.new
+        ≡ with_names scope.old (with_entry (view_bound bound.entry) scope.old.names)) }
+    ensures found { OnOk result (found.new
+        ≡ fold noted found.old (twice (is_some (look_up scope.old.names bound.entry.name.now)) token)) }
 {
     let known = scope.names.find(bound.name).is_some();
     found.fault_where(known, token, FaultCode::DefinedTwice);
@@ -61,7 +64,8 @@ fn enter_struct<'a>(
 ) -> Result<(), AllocError>
     ensures structs { OnOk result (scope.new.structs ≡ with_struct scope.old.structs number definition.now) }
     ensures names { scope.new.names ≡ scope.old.names }
-    ensures found { OnOk result (found.new ≡ fold noted found.old (twice (is_some (struct_of scope.old.structs definition.now.name.text)) definition.now.name.site.token)) }
+    ensures found { OnOk result (found.new ≡ fold noted found.old
+        (twice (is_some (struct_of scope.old.structs definition.now.name.text)) definition.now.name.site.token)) }
 {
     let name = definition.name.text.as_slice();
     let known = scope.structs.find(name).is_some();
@@ -135,7 +139,8 @@ fn function_head<'a>(
 ) -> Result<(), AllocError>
     requires { heads.old.functions + 1 < 2 ^ 32 }
     ensures heads { OnOk result (heads.new ≡ behind heads.old (function (view_function definition.now))) }
-    ensures found { OnOk result (found.new ≡ fold noted found.old (head_notes heads.old (function (view_function definition.now)))) }
+    ensures found { OnOk result (found.new
+        ≡ fold noted found.old (head_notes heads.old (function (view_function definition.now)))) }
 {
     let name = &definition.name;
     let number = heads.functions;

@@ -8,7 +8,9 @@ ghost use Rattle.sharc_names.specs.View.{view_bounds};
 ghost use Rattle.sharc_ctype.specs.Condition.{known_in};
 ghost use Rattle.sharc_ctype.specs.Globals.{global_notes, sizes_notes};
 ghost use Rattle.sharc_ctype.specs.Heads.{behind_all, heads_notes, no_heads};
-ghost use Rattle.sharc_ctype.specs.Items.{field_notes, fields_notes, parameters_notes, with_parameters, beyond, function_notes, item_notes, items_notes, has_main, main_missing, program_notes, nothing_found};
+ghost use Rattle.sharc_ctype.specs.Items.{field_notes, fields_notes, parameters_notes, with_parameters, beyond};
+ghost use Rattle.sharc_ctype.specs.Items.{function_notes, item_notes, items_notes, has_main, main_missing};
+ghost use Rattle.sharc_ctype.specs.Items.{program_notes, nothing_found};
 ghost use Rattle.sharc_ctype.specs.Statements.{with_names};
 
 use crate::condition::known_in;
@@ -37,7 +39,8 @@ fn field<'a>(
     found: &mut Found,
 ) -> Result<(), AllocError>
     ensures earlier { OnOk result (earlier.new ≡ earlier.old ++ field.now ∷ []) }
-    ensures found { OnOk result (found.new ≡ fold noted found.old (field_notes scope.now all.now earlier.old field.now)) }
+    ensures found { OnOk result (found.new
+        ≡ fold noted found.old (field_notes scope.now all.now earlier.old field.now)) }
 {
     let token = field.name.site.token;
     written_type(scope, Some(all), Role::Field, &field.written, found);
@@ -92,7 +95,8 @@ fn function<'a>(
     found: &mut Found,
 ) -> Result<(), AllocError>
     ensures scope { OnOk result (scope.new ≡ scope.old) }
-    ensures found { OnOk result (found.new ≡ fold noted found.old (function_notes scope.old (view_function function.now))) }
+    ensures found { OnOk result (found.new
+        ≡ fold noted found.old (function_notes scope.old (view_function function.now))) }
 {
     let block = scope.names.len();
     written_type(scope, None, Role::Result, &function.result, found);
@@ -193,7 +197,9 @@ fn behind_heads<'a>(
     list: &'a [Item],
     found: &mut Found,
 ) -> Result<(), AllocError>
-    ensures { OnOk result (found.new ≡ fold noted found.old (items_notes (known_in scope.old) (view_items list.now) ++ sizes_notes (known_in scope.old).structs 0 (view_items list.now) ++ main_missing tokens (known_in scope.old).names)) }
+    ensures { OnOk result (found.new
+        ≡ fold noted found.old (items_notes (known_in scope.old) (view_items list.now) ++ sizes_notes
+        (known_in scope.old).structs 0 (view_items list.now) ++ main_missing tokens (known_in scope.old).names)) }
 {
     known_in(scope)?;
     items(alloc, scope, list, found)?;

@@ -1,12 +1,17 @@
 // The faults of statements.
 
 ghost use Rattle.std.specs.Prelude.{◌≡◌, ◌+◌, true, fold, length, OnOk};
-ghost use Rattle.sharc_tree.specs.View.{view_expr, view_option, view_right, view_simple, view_local, view_first, view_head, view_stmt, view_statements};
+ghost use Rattle.sharc_tree.specs.View.{view_expr, view_option, view_right, view_simple, view_local, view_first};
+ghost use Rattle.sharc_tree.specs.View.{view_head, view_stmt, view_statements};
 ghost use Rattle.sharc_names.specs.Kinds.{stars_of};
 ghost use Rattle.sharc_names.specs.Notes.{noted};
 ghost use Rattle.sharc_names.specs.Types.{is_fine};
 ghost use Rattle.sharc_names.specs.View.{view_kind, view_kinds, view_bounds};
-ghost use Rattle.sharc_ctype.specs.Statements.{is_here, in_block, declared, declared_notes, with_names, test_notes, count_notes, is_made, right_notes, simple_notes, is_aggregate, wanted_by, initial_notes, local_notes, returned_as, return_notes, first_notes, behind_first, tests_notes, step_notes, in_head, head_notes, plain_notes, after, after_all, notes_in, notes_in_all};
+ghost use Rattle.sharc_ctype.specs.Statements.{is_here, in_block, declared, declared_notes, with_names, test_notes};
+ghost use Rattle.sharc_ctype.specs.Statements.{count_notes, is_made, right_notes, simple_notes, is_aggregate};
+ghost use Rattle.sharc_ctype.specs.Statements.{wanted_by, initial_notes, local_notes, returned_as, return_notes};
+ghost use Rattle.sharc_ctype.specs.Statements.{first_notes, behind_first, tests_notes, step_notes, in_head, head_notes};
+ghost use Rattle.sharc_ctype.specs.Statements.{plain_notes, after, after_all, notes_in, notes_in_all};
 ghost use Rattle.sharc_ctype.specs.View.{view_around};
 
 use crate::expr::{Standing, expression, lvalue, met};
@@ -49,7 +54,8 @@ pub(crate) fn declare<'a>(
     found: &mut Found,
 ) -> Result<(), AllocError>
     ensures scope { OnOk result (scope.new ≡ with_names scope.old (declared block declaration.now scope.old.names)) }
-    ensures found { OnOk result (found.new ≡ fold noted found.old (declared_notes block declaration.now scope.old.names)) }
+    ensures found { OnOk result (found.new
+        ≡ fold noted found.old (declared_notes block declaration.now scope.old.names)) }
 {
     let token = declaration.name.site.token;
     let name = declaration.name.text.as_slice();
@@ -157,7 +163,8 @@ fn initial<'a>(
     found: &mut Found,
 )
     requires { fine ≡ is_fine scope.now.structs Role.Local declaration.now.written }
-    ensures { found.new ≡ fold noted found.old (initial_notes scope.now declaration.now (view_option view_right initial.now)) }
+    ensures { found.new
+        ≡ fold noted found.old (initial_notes scope.now declaration.now (view_option view_right initial.now)) }
 {
     if let Some(value) = initial {
         let token = declaration.name.site.token;
@@ -174,8 +181,10 @@ fn local<'a>(
     local: &'a Local,
     found: &mut Found,
 ) -> Result<(), AllocError>
-    ensures scope { OnOk result (scope.new ≡ with_names scope.old (declared around.entry.block (view_local local.now).declaration scope.old.names)) }
-    ensures found { OnOk result (found.new ≡ fold noted found.old (local_notes (view_around around.entry) scope.old (view_local local.now))) }
+    ensures scope { OnOk result (scope.new
+        ≡ with_names scope.old (declared around.entry.block (view_local local.now).declaration scope.old.names)) }
+    ensures found { OnOk result (found.new
+        ≡ fold noted found.old (local_notes (view_around around.entry) scope.old (view_local local.now))) }
 {
     let fine = written_type(scope, None, Role::Local, &local.declaration.written, found);
     declare(scope, around.block, &local.declaration, found)?;
@@ -201,7 +210,8 @@ fn returned<'a>(
     value: &'a Option<Box<Expr>>,
     found: &mut Found,
 )
-    ensures { found.new ≡ fold noted found.old (return_notes (view_around around.entry) scope.now word (view_option (λ b. view_expr b.value) value.now)) }
+    ensures { found.new ≡ fold noted found.old
+        (return_notes (view_around around.entry) scope.now word (view_option (λ b. view_expr b.value) value.now)) }
 {
     let void = same_kind(around.result, Kind::void());
     match value {
@@ -221,8 +231,10 @@ fn first<'a>(
     first: &'a ForFirst,
     found: &mut Found,
 ) -> Result<(), AllocError>
-    ensures scope { OnOk result (scope.new ≡ with_names scope.old (behind_first (view_around around.entry) scope.old.names (view_first first.now))) }
-    ensures found { OnOk result (found.new ≡ fold noted found.old (first_notes (view_around around.entry) scope.old (view_first first.now))) }
+    ensures scope { OnOk result (scope.new
+        ≡ with_names scope.old (behind_first (view_around around.entry) scope.old.names (view_first first.now))) }
+    ensures found { OnOk result (found.new
+        ≡ fold noted found.old (first_notes (view_around around.entry) scope.old (view_first first.now))) }
 {
     match first {
         ForFirst::Nothing => Ok(()),
@@ -258,7 +270,8 @@ fn head<'a>(
     found: &mut Found,
 ) -> Result<(), AllocError>
     ensures scope { OnOk result (scope.new ≡ in_head (view_around around.entry) scope.old (view_head head.now)) }
-    ensures found { OnOk result (found.new ≡ fold noted found.old (head_notes (view_around around.entry) scope.old (view_head head.now))) }
+    ensures found { OnOk result (found.new
+        ≡ fold noted found.old (head_notes (view_around around.entry) scope.old (view_head head.now))) }
 {
     first(scope, around, &head.first, found)?;
     optional_test(scope, &head.test, found);
@@ -311,8 +324,10 @@ pub(crate) fn statement<'a>(
     stmt: &'a Stmt,
     found: &mut Found,
 ) -> Result<(), AllocError>
-    ensures scope { OnOk result (scope.new ≡ with_names scope.old (after (view_around around.entry) scope.old.names (view_stmt stmt.now))) }
-    ensures found { OnOk result (found.new ≡ fold noted found.old (notes_in (view_around around.entry) scope.old (view_stmt stmt.now))) }
+    ensures scope { OnOk result (scope.new
+        ≡ with_names scope.old (after (view_around around.entry) scope.old.names (view_stmt stmt.now))) }
+    ensures found { OnOk result (found.new
+        ≡ fold noted found.old (notes_in (view_around around.entry) scope.old (view_stmt stmt.now))) }
 {
     let mark = scope.names.len();
     match stmt {
@@ -363,7 +378,8 @@ fn nested<'a>(
     found: &mut Found,
 ) -> Result<(), AllocError>
     ensures scope { OnOk result (scope.new ≡ scope.old) }
-    ensures found { OnOk result (found.new ≡ fold noted found.old (notes_in (view_around around.entry) scope.old (view_stmt stmt.now))) }
+    ensures found { OnOk result (found.new
+        ≡ fold noted found.old (notes_in (view_around around.entry) scope.old (view_stmt stmt.now))) }
 {
     let mark = scope.names.len();
     statement(scope, around, stmt, found)?;
@@ -379,8 +395,10 @@ pub(crate) fn statements<'a>(
     list: &'a [Stmt],
     found: &mut Found,
 ) -> Result<(), AllocError>
-    ensures scope { OnOk result (scope.new ≡ with_names scope.old (after_all (view_around around.entry) scope.old.names (view_statements list.now))) }
-    ensures found { OnOk result (found.new ≡ fold noted found.old (notes_in_all (view_around around.entry) scope.old (view_statements list.now))) }
+    ensures scope { OnOk result (scope.new
+        ≡ with_names scope.old (after_all (view_around around.entry) scope.old.names (view_statements list.now))) }
+    ensures found { OnOk result (found.new
+        ≡ fold noted found.old (notes_in_all (view_around around.entry) scope.old (view_statements list.now))) }
 {
     for stmt in list {
         statement(scope, around, stmt, found)?;

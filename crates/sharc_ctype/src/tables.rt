@@ -23,8 +23,8 @@ pub(crate) enum ItemForm {
     Function,
 }
 
-/// Where the structs, globals and functions are among the items, each at its number; all other declarations; what has a type with modes; and the
-/// tokens that declare constant variables.
+/// Where the structs, globals and functions are among the items, each at its number; all other declarations; what has a
+/// type with modes; and the tokens that declare constant variables.
 #[derive(Drop)]
 pub(crate) struct Tables {
     pub(crate) structs: Vec<usize>,

@@ -8,7 +8,8 @@ ghost use Rattle.sharc_ctype.specs.Constants.{is_constant};
 ghost use Rattle.sharc_ctype.specs.Entities.{entities_in, entity_at, numbered, positions_in};
 ghost use Rattle.sharc_ctype.specs.Items.{nothing_found, notes_about};
 ghost use Rattle.sharc_ctype.specs.Layouts.{IsLayout};
-ghost use Rattle.sharc_ctype.specs.Resolved.{IsResolved, named_at, struct_at, global_at, function_at, declaration_at, structs_in, globals_in, functions_in, declarations_in};
+ghost use Rattle.sharc_ctype.specs.Resolved.{IsResolved, named_at, struct_at, global_at, function_at, declaration_at};
+ghost use Rattle.sharc_ctype.specs.Resolved.{structs_in, globals_in, functions_in, declarations_in};
 ghost use Rattle.sharc_ctype.specs.Transfers.{parameters_named};
 ghost use Rattle.sharc_ctype.specs.Typings.{Types};
 
@@ -25,14 +26,16 @@ use sharc_tree::tree::{
 use std::alloc::{AllocError, Global};
 use std::marker::Model;
 
-/// A typed program, and what each of its name tokens names. A contract sees it as these two, of a program that is typed. Each look-up takes one step.
+/// A typed program, and what each of its name tokens names. A contract sees it as these two, of a program that is
+/// typed. Each look-up takes one step.
 pub struct Typed {
     program: Program,
     named: Vec<Named>,
     tables: Tables,
 }
 
-/// A drop that is written out is proved here once; one that is derived is proved in each crate that drops a typed program.
+/// A drop that is written out is proved here once; one that is derived is proved in each crate that drops a typed
+/// program.
 impl Drop for Typed {
     fn drop(self) {
         let Typed {
@@ -59,7 +62,8 @@ impl Model for Typed {
 
     ghost view = { λ t. record { program = view_program t.program; named = t.named.items } };
 
-    ghost invariant = { λ t. IsResolved (record { program = view_program t.program; named = t.named.items }) × AreTables (view_items t.program.items) t.named.items t.tables };
+    ghost invariant = { λ t. IsResolved (record { program = view_program t.program; named = t.named.items })
+        × AreTables (view_items t.program.items) t.named.items t.tables };
 }
 
 /// Why a program is not typed.
@@ -67,8 +71,8 @@ impl Model for Typed {
 pub enum TypeFault {
     /// The first fault.
     At(FaultAt<FaultCode>),
-    /// There was not enough memory. It is the answer, too, where the program has so many positions that their numbers pass 2^32 - 1, since a list of
-    /// that many could not be kept.
+    /// There was not enough memory. It is the answer, too, where the program has so many positions that their numbers
+    /// pass 2^32 - 1, since a list of that many could not be kept.
     Memory,
 }
 
@@ -179,8 +183,8 @@ impl Typed {
         self.tables.entities.as_slice()
     }
 
-    /// The first of them that begins at this token and ends at that one: a cast by its first token and its last, any other by the token of its name
-    /// twice.
+    /// The first of them that begins at this token and ends at that one: a cast by its first token and its last, any
+    /// other by the token of its name twice.
     pub fn entity_at(&self, token: u32, last: u32) -> Option<&Numbered>
         ensures { option_copied result ≡ entity_at self.now token last }
     {
@@ -194,7 +198,8 @@ impl Typed {
         self.tables.entities.positions()
     }
 
-    /// Whether the variable that the token with this number declares is constant: a parameter or an initialised local that is never assigned.
+    /// Whether the variable that the token with this number declares is constant: a parameter or an initialised local
+    /// that is never assigned.
     pub fn is_constant(&self, token: u32) -> bool
         ensures { result ≡ is_constant self.now token }
     {
@@ -252,18 +257,21 @@ fn with_tables(alloc: Global, program: Program, named: Vec<Named>) -> Result<Typ
 
 /// A program of which everything was found and no fault among it, as a typed one.
 fn resolved(alloc: Global, program: Program, found: Found) -> Result<Typed, AllocError>
-    requires found { found ≡ fold noted (nothing_found (length program.tokens.list)) (notes_about (view_program program)) }
+    requires found { found
+        ≡ fold noted (nothing_found (length program.tokens.list)) (notes_about (view_program program)) }
     requires none { faults (notes_about (view_program program)) ≡ [] }
     ensures { IfOk result (λ t. t.program ≡ view_program program) }
 {
     with_tables(alloc, program, found.into_named())
 }
 
-/// The program with what its names name, exactly where there is no fault in it; else its first fault, by place, then by code.
+/// The program with what its names name, exactly where there is no fault in it; else its first fault, by place, then by
+/// code.
 ///
-/// The place of C1 is the name, of C2 the later of the two, of C3 the first token of the expression that has the wrong type (of the second of two
-/// operands that disagree), of C4 the called name, of C5 the first token of the expression, of C6 the first token of the type or expression or the
-/// length of the array, of C7 the word that it names, of C8 the end of input, of C9 the name that passes the limit.
+/// The place of C1 is the name, of C2 the later of the two, of C3 the first token of the expression that has the wrong
+/// type (of the second of two operands that disagree), of C4 the called name, of C5 the first token of the expression,
+/// of C6 the first token of the type or expression or the length of the array, of C7 the word that it names, of C8 the
+/// end of input, of C9 the name that passes the limit.
 pub fn type_program(alloc: Global, program: Program) -> Result<Typed, TypeFault>
     requires few { length program.tokens.list ≤ 2 ^ 20 }
     requires few_items { length program.items + 1 < 2 ^ 32 }

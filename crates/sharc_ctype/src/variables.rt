@@ -2,8 +2,11 @@
 
 ghost use Rattle.std.specs.Prelude.{◌≡◌, ◌++◌, map, slice_index_or, IfOk, OnOk};
 ghost use Rattle.sharc_names.specs.declared.fault.Named.TheVariants.{Known};
-ghost use Rattle.sharc_tree.specs.View.{view_first, view_item, view_items, view_local, view_option, view_simple, view_stmt, view_statements};
-ghost use Rattle.sharc_ctype.specs.Variables.{variable, initialised, initialised_first, initialised_in, initialised_in_all, assigned, assigned_first, assigned_step, assigned_in, assigned_in_all, with_value, assigned_by, all_with_value, all_assigned};
+ghost use Rattle.sharc_tree.specs.View.{view_first, view_item, view_items, view_local, view_option, view_simple};
+ghost use Rattle.sharc_tree.specs.View.{view_stmt, view_statements};
+ghost use Rattle.sharc_ctype.specs.Variables.{variable, initialised, initialised_first, initialised_in};
+ghost use Rattle.sharc_ctype.specs.Variables.{initialised_in_all, assigned, assigned_first, assigned_step, assigned_in};
+ghost use Rattle.sharc_ctype.specs.Variables.{assigned_in_all, with_value, assigned_by, all_with_value, all_assigned};
 
 use sharc_names::fault::Named;
 use sharc_tree::tree::{Declaration, Expr, ForFirst, Item, Local, Simple, Stmt};
@@ -71,8 +74,10 @@ fn add_assigned(names: &[Named], simple: &Simple, tokens: &mut Vec<u32>) -> Resu
 
 /// Adds the variables of what comes first in the head of a `for`.
 fn add_first(names: &[Named], first: &ForFirst, variables: &mut Variables) -> Result<(), AllocError>
-    ensures initialised { OnOk result (variables.new.initialised.items ≡ variables.old.initialised.items ++ initialised_first (view_first first.now)) }
-    ensures assigned { OnOk result (variables.new.assigned.items ≡ variables.old.assigned.items ++ assigned_first names.now (view_first first.now)) }
+    ensures initialised { OnOk result (variables.new.initialised.items
+        ≡ variables.old.initialised.items ++ initialised_first (view_first first.now)) }
+    ensures assigned { OnOk result (variables.new.assigned.items
+        ≡ variables.old.assigned.items ++ assigned_first names.now (view_first first.now)) }
 {
     match first {
         ForFirst::Nothing => Ok(()),
@@ -83,7 +88,8 @@ fn add_first(names: &[Named], first: &ForFirst, variables: &mut Variables) -> Re
 
 /// Adds the variables that the step of a `for` assigns.
 fn add_step(names: &[Named], step: &Option<Simple>, tokens: &mut Vec<u32>) -> Result<(), AllocError>
-    ensures { OnOk result (tokens.new.items ≡ tokens.old.items ++ assigned_step names.now (view_option view_simple step.now)) }
+    ensures { OnOk result (tokens.new.items
+        ≡ tokens.old.items ++ assigned_step names.now (view_option view_simple step.now)) }
 {
     match step {
         None => Ok(()),
@@ -94,8 +100,10 @@ fn add_step(names: &[Named], step: &Option<Simple>, tokens: &mut Vec<u32>) -> Re
 /// Adds the variables of a statement.
 #[cycle(add_variables)]
 fn add_variables(stmt: &Stmt, names: &[Named], variables: &mut Variables) -> Result<(), AllocError>
-    ensures initialised { OnOk result (variables.new.initialised.items ≡ variables.old.initialised.items ++ initialised_in (view_stmt stmt.now)) }
-    ensures assigned { OnOk result (variables.new.assigned.items ≡ variables.old.assigned.items ++ assigned_in names.now (view_stmt stmt.now)) }
+    ensures initialised { OnOk result (variables.new.initialised.items
+        ≡ variables.old.initialised.items ++ initialised_in (view_stmt stmt.now)) }
+    ensures assigned { OnOk result (variables.new.assigned.items
+        ≡ variables.old.assigned.items ++ assigned_in names.now (view_stmt stmt.now)) }
 {
     match stmt {
         Stmt::Block(_, list) => add_all_variables(list.as_slice(), names, variables),
@@ -129,8 +137,10 @@ fn add_all_variables(
     names: &[Named],
     variables: &mut Variables,
 ) -> Result<(), AllocError>
-    ensures initialised { OnOk result (variables.new.initialised.items ≡ variables.old.initialised.items ++ initialised_in_all (view_statements list.now)) }
-    ensures assigned { OnOk result (variables.new.assigned.items ≡ variables.old.assigned.items ++ assigned_in_all names.now (view_statements list.now)) }
+    ensures initialised { OnOk result (variables.new.initialised.items
+        ≡ variables.old.initialised.items ++ initialised_in_all (view_statements list.now)) }
+    ensures assigned { OnOk result (variables.new.assigned.items
+        ≡ variables.old.assigned.items ++ assigned_in_all names.now (view_statements list.now)) }
 {
     for stmt in list {
         add_variables(stmt, names, variables)?;
@@ -140,8 +150,10 @@ fn add_all_variables(
 
 /// Adds the variables of an item.
 fn add_item(names: &[Named], item: &Item, variables: &mut Variables) -> Result<(), AllocError>
-    ensures initialised { OnOk result (variables.new.initialised.items ≡ variables.old.initialised.items ++ with_value (view_item item.now)) }
-    ensures assigned { OnOk result (variables.new.assigned.items ≡ variables.old.assigned.items ++ assigned_by names.now (view_item item.now)) }
+    ensures initialised { OnOk result (variables.new.initialised.items
+        ≡ variables.old.initialised.items ++ with_value (view_item item.now)) }
+    ensures assigned { OnOk result (variables.new.assigned.items
+        ≡ variables.old.assigned.items ++ assigned_by names.now (view_item item.now)) }
 {
     let Item::Function(function) = item else {
         return Ok(());

@@ -13,4 +13,5 @@ pub record IsFound (r : Resolution) (e : Entity) : Type 0 where
   pub named : IsNamedType r e.written
 
 abbrev pub EachTypeFound : Type 0
-EachTypeFound = (r : Resolution) → IsResolved r → IsPlaced r.program → IsLow r.program → AllByRecursion (IsFound r) (entities_in r.program.items)
+EachTypeFound = (r : Resolution) → IsResolved r → IsPlaced r.program → IsLow r.program
+    → AllByRecursion (IsFound r) (entities_in r.program.items)

@@ -31,11 +31,14 @@ number_of (Number n) = Some (unsigned_abs n.value)
 number_of (Character byte) = Some byte
 number_of Null = None
 
--- 6.7.9p11 (own: it is not converted): an integer begins at a number that it holds, a pointer at NULL, and nothing else has an initial value
+-- 6.7.9p11 (own: it is not converted): an integer begins at a number that it holds, a pointer at NULL, and nothing else
+-- has an initial value
 abbrev pub MeetsInitial : WrittenType → GlobalForm → Type 0
 MeetsInitial w Plain = Unit {0}
 MeetsInitial w (Array at count) = Unit {0}
-MeetsInitial w (Initial span minus c) = (IsInteger (declared_kind w) × (n : ℕ) × (number_of c ≡ Some n) × IsHeldBy w.ctype.base minus n) ⊎ (IsPointer (declared_kind w) × (c ≡ Null))
+MeetsInitial w (Initial span minus c) =
+    (IsInteger (declared_kind w) × (n : ℕ) × (number_of c ≡ Some n) × IsHeldBy w.ctype.base minus n)
+    ⊎ (IsPointer (declared_kind w) × (c ≡ Null))
 
 -- 6.7.6.2p1: an array has an element at least
 pub record MeetsGlobal (g : GlobalDefinition) : Type 0 where

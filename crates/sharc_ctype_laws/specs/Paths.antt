@@ -1,11 +1,13 @@
--- What the lock paths of types name: variables in scope where the type is read, which stay in scope as long as what has the type.
+-- What the lock paths of types name: variables in scope where the type is read, which stay in scope as long as what has
+-- the type.
 use Rattle.std.specs.Prelude.{◌≡◌, ◌⊎◌, ℕ, false, List, [], ◌∷◌, ◌++◌, length, map, Option, Some, None}
 use Rattle.std.specs.List.{AllByRecursion}
 use Rattle.sharc_tree.specs.declared.ctype.Mode.{Mode}
 use Rattle.sharc_tree.specs.declared.ctype.Mode.TheVariants.{Private, Readonly, Locked, Racy, Dynamic}
 use Rattle.sharc_tree.specs.{declared.ctype.Path.Path, declared.ctype.Path.TheVariants.{One, Through}}
 use Rattle.sharc_tree.specs.declared.tree.declaration.WrittenType.{WrittenType}
-use Rattle.sharc_tree.specs.Tree.{Expression, First, nothing, declares, does, Statement, Statements, no_statements, statement, Function, Item, structure, global, function}
+use Rattle.sharc_tree.specs.Tree.{Expression, First, nothing, declares, does, Statement, Statements, no_statements}
+use Rattle.sharc_tree.specs.Tree.{statement, Function, Item, structure, global, function}
 use Rattle.sharc_tree.specs.Tree as tree
 use Rattle.sharc_names.specs.{declared.fault.Named.Named, declared.scope.Scope.Scope, Kinds.declared_kind}
 use Rattle.sharc_names.specs.Names.{Entry, Meaning}
@@ -81,14 +83,17 @@ abbrev mutual
   LocalsStand r around names (tree.jump s j) = Unit {0}
   LocalsStand r around names (tree.return s e) = Unit {0}
   LocalsStand r around names (tree.if_then s e a) = LocalsStand r (opened around names) names a
-  LocalsStand r around names (tree.if_then_else s e a b) = LocalsStand r (opened around names) names a × LocalsStand r (opened around names) names b
+  LocalsStand r around names (tree.if_then_else s e a b) =
+      LocalsStand r (opened around names) names a × LocalsStand r (opened around names) names b
   LocalsStand r around names (tree.while s e a) = LocalsStand r (looping (opened around names)) names a
   LocalsStand r around names (tree.for s h a) = FirstStands r names h.first
-      × LocalsStand r (looping (opened around (behind_first (opened around names) names h.first))) (behind_first (opened around names) names h.first) a
+      × LocalsStand r (looping (opened around (behind_first (opened around names) names h.first)))
+      (behind_first (opened around names) names h.first) a
 
   pub AllLocalsStand : Resolution → Around → List Entry → Statements → Type 0
   AllLocalsStand r around names no_statements = Unit {0}
-  AllLocalsStand r around names (statement a rest) = LocalsStand r around names a × AllLocalsStand r around (after around names a) rest
+  AllLocalsStand r around names (statement a rest) =
+      LocalsStand r around names a × AllLocalsStand r around (after around names a) rest
 
 abbrev pub around_in : Scope → Function → Around
 around_in file f = record { result = declared_kind f.result; in_loop = false; block = length file.names }

@@ -1,7 +1,9 @@
 -- The constraints of C11 6.8 as a relation: what the statements of a function ask of the expressions in them.
 use Rattle.std.specs.Prelude.{◌≡◌, ◌⊎◌, IsTrue, Bool, true, false, Option, Some, None, IfSome}
 use Rattle.sharc_tree.specs.{declared.tree.declaration.WrittenType.WrittenType, Forms.is_lvalue}
-use Rattle.sharc_tree.specs.Tree.{Expression, Right, value, malloc, Simple, assign, does_call, Local, First, nothing, declares, does, Head, Statement, empty, block, declare, simple, jump, return, if_then, if_then_else, while, for, Statements, no_statements, statement, Function}
+use Rattle.sharc_tree.specs.Tree.{Expression, Right, value, malloc, Simple, assign, does_call, Local, First, nothing}
+use Rattle.sharc_tree.specs.Tree.{declares, does, Head, Statement, empty, block, declare, simple, jump, return, if_then}
+use Rattle.sharc_tree.specs.Tree.{if_then_else, while, for, Statements, no_statements, statement, Function}
 use Rattle.sharc_names.specs.Kinds.{Kind, void, declared_kind}
 use Rattle.sharc_ctype.specs.Resolved.{Resolution, kind_at}
 use Rattle.sharc_ctype_laws.specs.Constraints.{IsInteger, IsPointer, IsScalar}

@@ -22,7 +22,8 @@ base_size structs (base.Struct name) = struct_size (struct_named structs name)
 
 -- a pointer has one
 abbrev pub global_size : List StructDefinition → GlobalDefinition → ℕ
-global_size structs g = elements_of g.form * (if stars_of g.declaration.written == 0 then base_size structs g.declaration.written.ctype.base else 1)
+global_size structs g = elements_of g.form * (if stars_of g.declaration.written == 0
+    then base_size structs g.declaration.written.ctype.base else 1)
 
 abbrev pub all_sizes : List StructDefinition → List GlobalDefinition → ℕ
 all_sizes structs [] = 0
@@ -30,4 +31,5 @@ all_sizes structs (g ∷ rest) = global_size structs g + all_sizes structs rest
 
 -- those of a typed program are few
 abbrev pub CellsAreFew : Type 0
-CellsAreFew = (r : Resolution) → IsResolved r → IsPlaced r.program → IsLow r.program → all_sizes (structs_in r.program.items) (globals_in r.program.items) ≤ 65536
+CellsAreFew = (r : Resolution) → IsResolved r → IsPlaced r.program → IsLow r.program
+    → all_sizes (structs_in r.program.items) (globals_in r.program.items) ≤ 65536

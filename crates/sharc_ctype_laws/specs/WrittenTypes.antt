@@ -8,13 +8,18 @@ use Rattle.sharc_tree.specs.declared.tree.declaration.WrittenType.{WrittenType}
 use Rattle.sharc_tree.specs.declared.tree.declaration.Declaration.{Declaration}
 use Rattle.sharc_tree.specs.declared.tree.item.StructDefinition.{StructDefinition}
 use Rattle.sharc_tree.specs.declared.tree.item.GlobalDefinition.{GlobalDefinition}
-use Rattle.sharc_tree.specs.Tree.{Expression, identifier, constant, parentheses, call, spawn, on_value, on_place, cast, index, field, unary, binary, Arguments, no_arguments, argument, Right, value, malloc, Simple, assign, does_call, Local, First, nothing, declares, does, Head, Statement, empty, block, declare, simple, jump, return, if_then, if_then_else, while, for, Statements, no_statements, statement, Function, Item, structure, global, function}
+use Rattle.sharc_tree.specs.Tree.{Expression, identifier, constant, parentheses, call, spawn, on_value, on_place, cast}
+use Rattle.sharc_tree.specs.Tree.{index, field, unary, binary, Arguments, no_arguments, argument, Right, value, malloc}
+use Rattle.sharc_tree.specs.Tree.{Simple, assign, does_call, Local, First, nothing, declares, does, Head, Statement}
+use Rattle.sharc_tree.specs.Tree.{empty, block, declare, simple, jump, return, if_then, if_then_else, while, for}
+use Rattle.sharc_tree.specs.Tree.{Statements, no_statements, statement, Function, Item, structure, global, function}
 use Rattle.sharc_tree.specs.declared.ctype.Base.TheVariants as base
 use Rattle.sharc_names.specs.declared.fault.Named.TheVariants as named
 use Rattle.sharc_names.specs.{declared.meaning.ConditionCall.ConditionCall, Kinds.{Kind, object, declared_kind}}
 use Rattle.sharc_names.specs.Names.{global_kind}
 use Rattle.sharc_names.specs.Kinds as kinds
-use Rattle.sharc_ctype.specs.Resolved.{Resolution, structs_in, struct_at, named_at, declaration_at, global_at, function_at}
+use Rattle.sharc_ctype.specs.Resolved.{Resolution, structs_in, struct_at, named_at, declaration_at, global_at}
+use Rattle.sharc_ctype.specs.Resolved.{function_at}
 use Rattle.sharc_ctype_laws.specs.Constraints.{struct_named, IsMemberOf, name_of}
 
 -- in source order
@@ -92,7 +97,8 @@ types_in_items (i ∷ rest) = types_in_item i ++ types_in_items rest
 
 -- 6.7.2.3: the struct of that name, given by its number, or the known `struct cond`
 abbrev pub NamesStruct : Resolution → ℕ → List ℕ → Type 0
-NamesStruct r token name = ((n : ℕ) × (s : StructDefinition) × (named_at r token ≡ named.Struct n) × (struct_at r n ≡ Some s) × (struct_named (structs_in r.program.items) name ≡ Some s))
+NamesStruct r token name = ((n : ℕ) × (s : StructDefinition) × (named_at r token ≡ named.Struct n)
+    × (struct_at r n ≡ Some s) × (struct_named (structs_in r.program.items) name ≡ Some s))
     ⊎ ((named_at r token ≡ named.Known) × (name ≡ codes "cond"))
 
 abbrev pub IsNamedBase : Resolution → ℕ → Base → Type 0
@@ -105,17 +111,24 @@ IsNamedBase r token (base.Struct name) = NamesStruct r token name
 
 -- what the first name of a lock path may be (SharC's own rule), and of which type: something of that name
 pub data FirstNames (r : Resolution) (token : ℕ) (text : List ℕ) : Kind → Type 0 where
-  a_field : {t : ℕ} {d : Declaration} → named_at r token ≡ named.Field t → declaration_at r t ≡ Some d → d.name.text ≡ text → FirstNames r token text (declared_kind d.written)
-  a_variable : {t : ℕ} {d : Declaration} → named_at r token ≡ named.Variable t → declaration_at r t ≡ Some d → d.name.text ≡ text → FirstNames r token text (declared_kind d.written)
+  a_field : {t : ℕ} {d : Declaration} → named_at r token ≡ named.Field t → declaration_at r t ≡ Some d
+      → d.name.text ≡ text → FirstNames r token text (declared_kind d.written)
+  a_variable : {t : ℕ} {d : Declaration} → named_at r token ≡ named.Variable t → declaration_at r t ≡ Some d
+      → d.name.text ≡ text → FirstNames r token text (declared_kind d.written)
   a_global : {n : ℕ} {g : GlobalDefinition}
-      → named_at r token ≡ named.Global n → global_at r n ≡ Some g → g.declaration.name.text ≡ text → FirstNames r token text (global_kind g.form (declared_kind g.declaration.written))
-  a_function : {n : ℕ} {f : Function} → named_at r token ≡ named.Function n → function_at r n ≡ Some f → f.name.text ≡ text → (text ≡ codes "main" → ⊥) → FirstNames r token text kinds.function
-  a_known_call : (c : ConditionCall) → named_at r token ≡ named.Known → text ≡ name_of c → FirstNames r token text kinds.function
+      → named_at r token ≡ named.Global n → global_at r n ≡ Some g → g.declaration.name.text ≡ text
+      → FirstNames r token text (global_kind g.form (declared_kind g.declaration.written))
+  a_function : {n : ℕ} {f : Function} → named_at r token ≡ named.Function n → function_at r n ≡ Some f
+      → f.name.text ≡ text → (text ≡ codes "main" → ⊥) → FirstNames r token text kinds.function
+  a_known_call : (c : ConditionCall) → named_at r token ≡ named.Known → text ≡ name_of c
+      → FirstNames r token text kinds.function
 
 -- the second name is a member of the struct that the first one points to
 abbrev pub IsNamedPath : Resolution → Path → Type 0
 IsNamedPath r (One m token) = (k : Kind) × FirstNames r token m k
-IsNamedPath r (Through x token m) = (struct : List ℕ) × (d : Declaration) × FirstNames r token x (object (base.Struct struct) 1) × IsMemberOf r struct m d × (named_at r (token + 2) ≡ named.Field d.name.site.token)
+IsNamedPath r (Through x token m) =
+    (struct : List ℕ) × (d : Declaration) × FirstNames r token x (object (base.Struct struct) 1)
+    × IsMemberOf r struct m d × (named_at r (token + 2) ≡ named.Field d.name.site.token)
 
 abbrev pub IsNamedLevel : Resolution → Option Mode → Type 0
 IsNamedLevel r None = Unit {0}

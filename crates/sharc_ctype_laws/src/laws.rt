@@ -2,7 +2,11 @@
 
 ghost use Rattle.sharc_ctype_laws.specs.Found.{EachTypeFound};
 ghost use Rattle.sharc_ctype_laws.specs.Sizes.{CellsAreFew};
-ghost use Rattle.sharc_ctype_laws.specs.Laws.{EachNameOnce, OnlyNames, EachNamesItself, EachNamesOwn, EachNamesFound, EachPathFound, ArePlain, NamesInTypes, SameKinds, MeetsConstraints, OneType, MeetsStatements, AllFair, MeetsGlobals, WithinLimits, HasMain, OneFunctionOfName, SpawnsNameFunctions, SpawnsThreads, ReachesFunctions, SomeTyped};
+ghost use Rattle.sharc_ctype_laws.specs.Laws.{EachNameOnce, OnlyNames, EachNamesItself, EachNamesOwn, EachNamesFound};
+ghost use Rattle.sharc_ctype_laws.specs.Laws.{EachPathFound, ArePlain, NamesInTypes, SameKinds, MeetsConstraints};
+ghost use Rattle.sharc_ctype_laws.specs.Laws.{OneType, MeetsStatements, AllFair, MeetsGlobals, WithinLimits, HasMain};
+ghost use Rattle.sharc_ctype_laws.specs.Laws.{OneFunctionOfName, SpawnsNameFunctions, SpawnsThreads, ReachesFunctions};
+ghost use Rattle.sharc_ctype_laws.specs.Laws.{SomeTyped};
 
 /// In a typed program at its tokens each name is referred to once.
 pub fn each_name_once()

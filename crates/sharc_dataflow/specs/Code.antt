@@ -1,11 +1,12 @@
 -- Pieces of code, the paths through each, and how it is written down.
 use Rattle.std.specs.Prelude.{List, [], ◌∷◌, ◌++◌}
 use Rattle.sharc_dataflow.specs.declared.step.Step.{Step}
-use Rattle.sharc_dataflow.specs.Flow.{Act, Reads, Nulls, Writes, To, Next, Broken, Continued, Ends, Piece, Goes, Does, Then, Either, Caught, Loop}
+use Rattle.sharc_dataflow.specs.Flow.{Act, Reads, Nulls, Writes, To, Next, Broken, Continued, Ends, Piece, Goes, Does}
+use Rattle.sharc_dataflow.specs.Flow.{Then, Either, Caught, Loop}
 use Rattle.sharc_dataflow.specs.declared.step.Step.TheVariants as steps
 
--- Code goes somewhere, or does one thing; or it is a piece and then another, one of two, a piece whose continue leads to its end, or a piece that is gone
--- through again and again until a break.
+-- Code goes somewhere, or does one thing; or it is a piece and then another, one of two, a piece whose continue leads
+-- to its end, or a piece that is gone through again and again until a break.
 pub data Code : Type 0 where
   goes_to : To → Code
   acts : Act → Code

@@ -12,7 +12,8 @@ pub data From : Type 0 where
   Start : From
   Inside : From
 
--- It leads to what comes next, to what follows the loop, or to the loop's next turn; or it ends in the piece, by a return or anywhere.
+-- It leads to what comes next, to what follows the loop, or to the loop's next turn; or it ends in the piece, by a
+-- return or anywhere.
 pub data To : Type 0 where
   Next : To
   Broken : To

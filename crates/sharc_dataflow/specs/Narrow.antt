@@ -92,7 +92,8 @@ unless_none [] around e = kept [] e
 unless_none (s ∷ l) around e = kept around (exits_to Next)
 
 abbrev pub either_kept : Kept → Kept → Kept
-either_kept a b = unless_none (a.steps ++ b.steps) (steps.Fork ∷ (whole a ++ steps.Other ∷ (whole b ++ steps.Join ∷ []))) (either_exits a.behind b.behind)
+either_kept a b = unless_none (a.steps ++ b.steps)
+    (steps.Fork ∷ (whole a ++ steps.Other ∷ (whole b ++ steps.Join ∷ []))) (either_exits a.behind b.behind)
 
 abbrev pub caught_kept : Kept → Kept
 caught_kept a = unless_none a.steps (steps.Catch ∷ (whole a ++ steps.Caught ∷ [])) (caught_exits a.behind)
@@ -123,7 +124,9 @@ abbrev pub opens : AllKept → AllKept
 opens s = all_kept nothing_kept (s.waiting ++ s.now ∷ [])
 
 abbrev pub joins : AllKept → AllKept
-joins s = all_kept (then_kept (last_or nothing_kept (front s.waiting)) (either_kept (last_or nothing_kept s.waiting) s.now)) (front (front s.waiting))
+joins s =
+    all_kept (then_kept (last_or nothing_kept (front s.waiting)) (either_kept (last_or nothing_kept s.waiting) s.now))
+    (front (front s.waiting))
 
 abbrev pub closes : Kept → AllKept → AllKept
 closes k s = all_kept (then_kept (last_or nothing_kept s.waiting) k) (front s.waiting)

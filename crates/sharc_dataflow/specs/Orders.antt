@@ -1,4 +1,5 @@
--- Warnings in order, and the first of each read, as they are found. It retraces the code: what is answered is AreFirsts of Uses.
+-- Warnings in order, and the first of each read, as they are found. It retraces the code: what is answered is AreFirsts
+-- of Uses.
 use Rattle.std.specs.Prelude.{ℕ, ◌==◌, Bool, false, List, [], ◌∷◌, Option, Some, None, if◌then◌else◌}
 use Rattle.std.specs.{Ordering.{nat_cmp, ordering_then}, declared.cmp.Ordering.Ordering}
 use Rattle.std.specs.List.Sorted.{IsPermutation, IsSortedByKey}

@@ -1,9 +1,11 @@
--- Two passes over the steps of code, for one variable: back over them for what holds at the end of a loop's turn, then forward for the warnings. It retraces the code.
+-- Two passes over the steps of code, for one variable: back over them for what holds at the end of a loop's turn, then
+-- forward for the warnings. It retraces the code.
 use Rattle.std.specs.Prelude.{ℕ, List, [], ◌∷◌, ◌++◌, Option, None, nat_eq}
 use Rattle.sharc_dataflow.specs.{declared.step.Step.Step, declared.way.Ways.Ways, declared.way.Standing.Standing}
 use Rattle.sharc_dataflow.specs.{declared.way.FlowWarning.FlowWarning, Flow.{Broken, Continued, Ends}}
 use Rattle.sharc_dataflow.specs.Code.{Code, goes_to, acts, first_then, one_of, catches, repeats}
-use Rattle.sharc_dataflow.specs.Sums.{lower, behind, free, only, goes_of, then_of, either_of, caught_of, loop_of, nulled, written, ways, warn_read}
+use Rattle.sharc_dataflow.specs.Sums.{lower, behind, free, only, goes_of, then_of, either_of, caught_of, loop_of}
+use Rattle.sharc_dataflow.specs.Sums.{nulled, written, ways, warn_read}
 use Rattle.sharc_dataflow.specs.declared.step.Step.TheVariants as steps
 
 -- the last of a list, and the others
@@ -28,7 +30,8 @@ heads x (repeats a) = heads x a ++ (ways x a).next.least ∷ []
 
 -- ---- back
 
--- what the steps from here to the end of the innermost open piece do, what those after the open pieces do, and what holds at the end of turns
+-- what the steps from here to the end of the innermost open piece do, what those after the open pieces do, and what
+-- holds at the end of turns
 pub record Summing : Type 0 where
   pub now : Ways
   pub waiting : List Ways
@@ -47,13 +50,22 @@ abbrev pub ends_piece : Summing → Summing
 ends_piece s = record { now = nothing; waiting = s.waiting ++ s.now ∷ []; heads = s.heads }
 
 abbrev pub begins_either : Summing → Summing
-begins_either s = record { now = then_of (either_of s.now (last_or nothing s.waiting)) (last_or nothing (front s.waiting)); waiting = front (front s.waiting); heads = s.heads }
+begins_either s = record {
+  now = then_of (either_of s.now (last_or nothing s.waiting)) (last_or nothing (front s.waiting));
+  waiting = front (front s.waiting);
+  heads = s.heads;
+}
 
 abbrev pub begins_caught : Summing → Summing
-begins_caught s = record { now = then_of (caught_of s.now) (last_or nothing s.waiting); waiting = front s.waiting; heads = s.heads }
+begins_caught s =
+    record { now = then_of (caught_of s.now) (last_or nothing s.waiting); waiting = front s.waiting; heads = s.heads }
 
 abbrev pub begins_loop : Summing → Summing
-begins_loop s = record { now = then_of (loop_of s.now) (last_or nothing s.waiting); waiting = front s.waiting; heads = s.heads ++ s.now.next.least ∷ [] }
+begins_loop s = record {
+  now = then_of (loop_of s.now) (last_or nothing s.waiting);
+  waiting = front s.waiting;
+  heads = s.heads ++ s.now.next.least ∷ [];
+}
 
 abbrev pub back : ℕ → Step → Summing → Summing
 back x (steps.Read y r) s = s
@@ -79,8 +91,8 @@ sum_start = record { now = nothing; waiting = []; heads = [] }
 
 -- ---- forth
 
--- what holds here and at the exits, what held at the exits and beginnings of the open pieces, what holds at the end of the turns of the loops to come,
--- and the warnings
+-- what holds here and at the exits, what held at the exits and beginnings of the open pieces, what holds at the end of
+-- the turns of the loops to come, and the warnings
 pub record Telling : Type 0 where
   pub stand : Standing
   pub waiting : List (Option ℕ)
@@ -109,22 +121,66 @@ abbrev pub turning : Option ℕ → Standing → Standing
 turning least s = record { next = lower s.next least; broken = None; continued = None }
 
 abbrev pub leaves_loop : List (Option ℕ) → Standing → Standing
-leaves_loop waiting s = record { next = s.broken; broken = last_or None (front waiting); continued = last_or None waiting }
+leaves_loop waiting s =
+    record { next = s.broken; broken = last_or None (front waiting); continued = last_or None waiting }
 
 abbrev pub forth : ℕ → Step → Telling → Telling
-forth x (steps.Read y r) t = record { stand = t.stand; waiting = t.waiting; heads = t.heads; found = t.found ++ warn_read (nat_eq y x) r t.stand.next }
-forth x (steps.Null y k) t = record { stand = stands_at (behind (nulled (nat_eq y x) k) t.stand.next) t.stand; waiting = t.waiting; heads = t.heads; found = t.found }
-forth x (steps.Write y) t = record { stand = stands_at (behind (written (nat_eq y x)) t.stand.next) t.stand; waiting = t.waiting; heads = t.heads; found = t.found }
+forth x (steps.Read y r) t = record {
+  stand = t.stand;
+  waiting = t.waiting;
+  heads = t.heads;
+  found = t.found ++ warn_read (nat_eq y x) r t.stand.next;
+}
+forth x (steps.Null y k) t = record {
+  stand = stands_at (behind (nulled (nat_eq y x) k) t.stand.next) t.stand;
+  waiting = t.waiting;
+  heads = t.heads;
+  found = t.found;
+}
+forth x (steps.Write y) t = record {
+  stand = stands_at (behind (written (nat_eq y x)) t.stand.next) t.stand;
+  waiting = t.waiting;
+  heads = t.heads;
+  found = t.found;
+}
 forth x steps.Break t = record { stand = breaks t.stand; waiting = t.waiting; heads = t.heads; found = t.found }
 forth x steps.Continue t = record { stand = continues t.stand; waiting = t.waiting; heads = t.heads; found = t.found }
-forth x steps.Return t = record { stand = stands_at None t.stand; waiting = t.waiting; heads = t.heads; found = t.found }
-forth x steps.Fork t = record { stand = t.stand; waiting = t.waiting ++ t.stand.next ∷ []; heads = t.heads; found = t.found }
-forth x steps.Other t = record { stand = stands_at (last_or None t.waiting) t.stand; waiting = front t.waiting ++ t.stand.next ∷ []; heads = t.heads; found = t.found }
-forth x steps.Join t = record { stand = stands_at (lower (last_or None t.waiting) t.stand.next) t.stand; waiting = front t.waiting; heads = t.heads; found = t.found }
-forth x steps.Catch t = record { stand = catching t.stand; waiting = t.waiting ++ t.stand.continued ∷ []; heads = t.heads; found = t.found }
-forth x steps.Caught t = record { stand = is_caught (last_or None t.waiting) t.stand; waiting = front t.waiting; heads = t.heads; found = t.found }
-forth x steps.Head t = record { stand = turning (last_or None t.heads) t.stand; waiting = (t.waiting ++ t.stand.broken ∷ []) ++ t.stand.continued ∷ []; heads = front t.heads; found = t.found }
-forth x steps.Again t = record { stand = leaves_loop t.waiting t.stand; waiting = front (front t.waiting); heads = t.heads; found = t.found }
+forth x steps.Return t =
+    record { stand = stands_at None t.stand; waiting = t.waiting; heads = t.heads; found = t.found }
+forth x steps.Fork t =
+    record { stand = t.stand; waiting = t.waiting ++ t.stand.next ∷ []; heads = t.heads; found = t.found }
+forth x steps.Other t = record {
+  stand = stands_at (last_or None t.waiting) t.stand;
+  waiting = front t.waiting ++ t.stand.next ∷ [];
+  heads = t.heads;
+  found = t.found;
+}
+forth x steps.Join t = record {
+  stand = stands_at (lower (last_or None t.waiting) t.stand.next) t.stand;
+  waiting = front t.waiting;
+  heads = t.heads;
+  found = t.found;
+}
+forth x steps.Catch t =
+    record { stand = catching t.stand; waiting = t.waiting ++ t.stand.continued ∷ []; heads = t.heads; found = t.found }
+forth x steps.Caught t = record {
+  stand = is_caught (last_or None t.waiting) t.stand;
+  waiting = front t.waiting;
+  heads = t.heads;
+  found = t.found;
+}
+forth x steps.Head t = record {
+  stand = turning (last_or None t.heads) t.stand;
+  waiting = (t.waiting ++ t.stand.broken ∷ []) ++ t.stand.continued ∷ [];
+  heads = front t.heads;
+  found = t.found;
+}
+forth x steps.Again t = record {
+  stand = leaves_loop t.waiting t.stand;
+  waiting = front (front t.waiting);
+  heads = t.heads;
+  found = t.found;
+}
 
 abbrev pub told : ℕ → List Step → Telling → Telling
 told x [] t = t

@@ -1,4 +1,5 @@
--- What a piece of code does to one variable, computed. It retraces the code: what is answered is said by paths, in Flow and Uses.
+-- What a piece of code does to one variable, computed. It retraces the code: what is answered is said by paths, in Flow
+-- and Uses.
 use Rattle.std.specs.Prelude.{ℕ, List, [], ◌∷◌, ◌++◌, Option, Some, None, Bool, true, false, min, nat_eq, ◌&&◌, ◌||◌}
 use Rattle.sharc_dataflow.specs.{declared.way.Way.Way, declared.way.Ways.Ways, declared.way.FlowWarning.FlowWarning}
 use Rattle.sharc_dataflow.specs.Flow.{Act, Reads, Nulls, Writes, To, Next, Broken, Continued, Ends}
@@ -48,10 +49,18 @@ goes_of Continued = record { next = closed; broken = closed; continued = free }
 goes_of Ends = only closed
 
 abbrev pub then_of : Ways → Ways → Ways
-then_of a b = record { next = follow a.next b.next; broken = either a.broken (follow a.next b.broken); continued = either a.continued (follow a.next b.continued) }
+then_of a b = record {
+  next = follow a.next b.next;
+  broken = either a.broken (follow a.next b.broken);
+  continued = either a.continued (follow a.next b.continued);
+}
 
 abbrev pub either_of : Ways → Ways → Ways
-either_of a b = record { next = either a.next b.next; broken = either a.broken b.broken; continued = either a.continued b.continued }
+either_of a b = record {
+  next = either a.next b.next;
+  broken = either a.broken b.broken;
+  continued = either a.continued b.continued;
+}
 
 abbrev pub caught_of : Ways → Ways
 caught_of a = record { next = either a.next a.continued; broken = a.broken; continued = a.continued }

@@ -16,8 +16,9 @@ pub record IsUse (c : Code) (k r : ℕ) : Type 0 where
   pub variable : ℕ
   pub reaches : Reaches (paths c) variable k r
 
--- The warnings of the code are added to those before: each names a nulling from which a path leads to its read, with no write between; and each read to
--- which such a path leads from some nulling has a warning that names this one or an earlier one.
+-- The warnings of the code are added to those before: each names a nulling from which a path leads to its read, with no
+-- write between; and each read to which such a path leads from some nulling has a warning that names this one or an
+-- earlier one.
 pub record AddsUses (c : Code) (before after : List FlowWarning) : Type 0 where
   pub kept : (w : FlowWarning) → Contains before w → Contains after w
   pub only : (k r : ℕ) → Contains after (warning r k) → Contains before (warning r k) ⊎ IsUse c k r

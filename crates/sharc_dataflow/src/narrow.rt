@@ -1,11 +1,14 @@
-// The steps that matter to some variables. Pieces in which none is left are left out whole: where they lead is kept in their place.
+// The steps that matter to some variables. Pieces in which none is left are left out whole: where they lead is kept in
+// their place.
 
 ghost use Rattle.std.specs.Prelude.{◌≡◌, ◌∷◌, ◌++◌, [], map, IfOk, OnOk};
 ghost use Rattle.sharc_dataflow.specs.declared.step.Step.TheVariants.{Caught, Again};
 ghost use Rattle.sharc_dataflow.specs.Flow.{Next};
 ghost use Rattle.sharc_dataflow.specs.Code.{Code, listing};
 ghost use Rattle.sharc_dataflow.specs.Passes.{last_or, front};
-ghost use Rattle.sharc_dataflow.specs.Narrow.{IsSame, exits_to, kept as kept_of, whole, nothing_kept, then_kept, either_kept, caught_kept, loop_kept, goes_behind, is_between, acts_if, opens, joins, closes, narrows};
+ghost use Rattle.sharc_dataflow.specs.Narrow.{IsSame, exits_to, kept as kept_of, whole, nothing_kept, then_kept};
+ghost use Rattle.sharc_dataflow.specs.Narrow.{either_kept, caught_kept, loop_kept, goes_behind, is_between, acts_if};
+ghost use Rattle.sharc_dataflow.specs.Narrow.{opens, joins, closes, narrows};
 ghost use Rattle.sharc_dataflow.specs.Views.{view_piece, view_pieces, view_narrowing};
 
 use crate::exits::Exits;
@@ -154,7 +157,8 @@ fn pop_piece(alloc: Global, list: &mut Vec<Piece>) -> Piece
     }
 }
 
-/// What is kept when the steps before are gone over: of the innermost open piece, and of those around it, the innermost last.
+/// What is kept when the steps before are gone over: of the innermost open piece, and of those around it, the innermost
+/// last.
 #[derive(Drop)]
 pub struct Narrowing {
     now: Piece,
@@ -234,7 +238,8 @@ impl Narrowing {
 
     /// Goes on over a step.
     fn step(self, alloc: Global, variables: Variables, step: Step) -> Result<Narrowing, AllocError>
-        ensures { IfOk result (λ n. view_narrowing n ≡ narrows variables.first variables.last step (view_narrowing self)) }
+        ensures { IfOk result (λ n. view_narrowing n
+            ≡ narrows variables.first variables.last step (view_narrowing self)) }
     {
         match step {
             Step::Read(x, _) | Step::Null(x, _) | Step::Write(x) => {
@@ -251,7 +256,8 @@ impl Narrowing {
     }
 }
 
-/// Steps of code that is the same for these variables: it does the same to each, and the same reads of it are warned of.
+/// Steps of code that is the same for these variables: it does the same to each, and the same reads of it are warned
+/// of.
 pub(crate) fn narrowed(
     alloc: Global,
     variables: Variables,

@@ -38,7 +38,8 @@ fn first_each(alloc: Global, sorted: &[FlowWarning]) -> Result<Vec<FlowWarning>,
     Ok(firsts)
 }
 
-/// Of each read the warning that names the first nulling, in the order of the reads. It is refused only where memory runs out.
+/// Of each read the warning that names the first nulling, in the order of the reads. It is refused only where memory
+/// runs out.
 pub fn firsts(alloc: Global, found: Vec<FlowWarning>) -> Result<Vec<FlowWarning>, AllocError>
     ensures { IfOk result (λ v. AreFirsts found.items v.items) }
 {

@@ -1,6 +1,7 @@
 // Code, written down step by step.
 
-/// What is done with a variable, where control goes, or how pieces are put together. A variable is a number; a read and a nulling have their token.
+/// What is done with a variable, where control goes, or how pieces are put together. A variable is a number; a read and
+/// a nulling have their token.
 #[derive(Clone, Copy, Drop)]
 pub enum Step {
     /// The variable is read at the token.

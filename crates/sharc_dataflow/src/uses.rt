@@ -78,7 +78,8 @@ fn all_between(list: &[u32]) -> Variables
     Variables { first, last }
 }
 
-/// Adds the warnings about some variables: of one by two passes over the steps, of more by halves, each by the steps that matter to it.
+/// Adds the warnings about some variables: of one by two passes over the steps, of more by halves, each by the steps
+/// that matter to it.
 fn about_all(
     alloc: Global,
     list: &[u32],
@@ -102,8 +103,8 @@ fn about_all(
     }
 }
 
-/// Adds the reads of nulled variables in code that is written down as these steps, in any order. It goes over the steps as often as the variables that they
-/// null can be halved. It is refused only where memory runs out.
+/// Adds the reads of nulled variables in code that is written down as these steps, in any order. It goes over the steps
+/// as often as the variables that they null can be halved. It is refused only where memory runs out.
 pub fn nulled_reads(
     alloc: Global,
     steps: &[Step],

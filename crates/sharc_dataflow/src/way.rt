@@ -1,10 +1,11 @@
 // What a piece of code does to one variable, on all the paths through it.
 
 ghost use Rattle.std.specs.Prelude.{◌≡◌};
-ghost use Rattle.sharc_dataflow.specs.Sums.{lower as lower_of, free, closed, follow as followed, either as joined, only, then_of, either_of, caught_of, loop_of};
+ghost use Rattle.sharc_dataflow.specs.Sums.{lower as lower_of, free, closed, follow as followed, either as joined};
+ghost use Rattle.sharc_dataflow.specs.Sums.{only, then_of, either_of, caught_of, loop_of};
 
-/// The paths through a piece of code to one of its exits: the least token of a nulling in it that holds there, and whether a path from the start
-/// comes there with no write.
+/// The paths through a piece of code to one of its exits: the least token of a nulling in it that holds there, and
+/// whether a path from the start comes there with no write.
 #[derive(Clone, Copy, Drop)]
 pub struct Way {
     pub least: Option<u32>,

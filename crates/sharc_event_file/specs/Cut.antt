@@ -26,8 +26,10 @@ pub record HasLines (r : Resolution) (events : List Event) (lines : List EventLi
 -- These are lines of the first events, which audit accepts. The next event is none, has no line or would be one too
 -- many; or audit refuses the lines with its
 abbrev pub IsEnd : Assignment → List Event → List EventLine → Cut → Type 0
-IsEnd m events lines cut.Fuel = (more : List EventLine) × AreLinesOf m.typed more (take (length more) events) × Audits m 65536 more (verdict.Fuel (suc (length lines)))
-IsEnd m events lines (cut.Refused fault) = (more : List EventLine) × AreLinesOf m.typed more (take (length more) events) × Audits m 65536 more (verdict.Fails (suc (length lines)) fault)
+IsEnd m events lines cut.Fuel = (more : List EventLine) × AreLinesOf m.typed more (take (length more) events)
+    × Audits m 65536 more (verdict.Fuel (suc (length lines)))
+IsEnd m events lines (cut.Refused fault) = (more : List EventLine) × AreLinesOf m.typed more (take (length more) events)
+    × Audits m 65536 more (verdict.Fails (suc (length lines)) fault)
 IsEnd m events lines why = EndsBy m.typed events (length lines) why
 
 pub record IsFront (m : Assignment) (events : List Event) (front : Front) : Type 0 where

@@ -9,5 +9,6 @@ use Rattle.sharc_event_file.specs.Writing.{AreLinesOf}
 
 -- where events are computed as these source events, but for the modes of cells
 abbrev pub LinesAreOfSources : Type 0
-LinesAreOfSources = (r : Resolution) (code : Code) (lines : List EventLine) (events : List Event) (sources : List SourceEvent) → AreLinesOf r lines events → map (told code) events ≡ map told_of_event sources
+LinesAreOfSources = (r : Resolution) (code : Code) (lines : List EventLine) (events : List Event)
+    (sources : List SourceEvent) → AreLinesOf r lines events → map (told code) events ≡ map told_of_event sources
     → AreLines r lines sources

@@ -1,5 +1,6 @@
 -- What an event file says of an event, and the texts of its lines.
-use Rattle.std.specs.Prelude.{◌≡◌, ◌⊎◌, ℕ, ℤ, FitsSigned, pos, ◌==◌, ◌<◌, ◌≤◌, ◌^◌, List, [], ◌∷◌, ◌++◌, Option, Some, None, codes, decimal, if◌then◌else◌}
+use Rattle.std.specs.Prelude.{◌≡◌, ◌⊎◌, ℕ, ℤ, FitsSigned, pos, ◌==◌, ◌<◌, ◌≤◌, ◌^◌, List, [], ◌∷◌, ◌++◌, Option, Some}
+use Rattle.std.specs.Prelude.{None, codes, decimal, if◌then◌else◌}
 use Rattle.std.specs.{Fmt.signed_decimal, Int.w64}
 use Rattle.sharc_tree.specs.Tree.{Function}
 use Rattle.sharc_ctype.specs.Resolved.{Resolution, function_at}
@@ -127,7 +128,8 @@ deed_text r (deeds.Gives x) = codes "give " ++ reference_text x
 deed_text r (deeds.Frees x) = codes "freed " ++ reference_text x
 deed_text r (deeds.Locks c) = codes "lock " ++ cell_text c
 deed_text r (deeds.Unlocks c) = codes "unlock " ++ cell_text c
-deed_text r (deeds.Spawns f v n) = codes "spawn " ++ (name_in (function_at r f) ++ 32 ∷ (value_text v ++ 32 ∷ decimal n))
+deed_text r (deeds.Spawns f v n) =
+    codes "spawn " ++ (name_in (function_at r f) ++ 32 ∷ (value_text v ++ 32 ∷ decimal n))
 deed_text r (deeds.Starts v) = codes "started " ++ value_text v
 deed_text r (deeds.Joins v) = codes "join " ++ signed_decimal v
 deed_text r (deeds.Prints v) = codes "print " ++ signed_decimal v

@@ -3,7 +3,8 @@
 ghost use Rattle.std.specs.Prelude.{◌≡◌, ◌++◌, ◌∷◌, IfOk};
 ghost use Rattle.std.specs.Fmt.{signed_decimal};
 ghost use Rattle.sharc_tree.specs.Texts.{Appends};
-ghost use Rattle.sharc_event_file.specs.Writing.{cell_text, reference_text, value_text, deed_text, event_text, events_text, file_text};
+ghost use Rattle.sharc_event_file.specs.Writing.{cell_text, reference_text, value_text, deed_text, event_text};
+ghost use Rattle.sharc_event_file.specs.Writing.{events_text, file_text};
 
 use crate::pieces::{put_cell, put_name, put_number, put_reference, put_signed, put_value};
 use sharc_ctype::typed::Typed;

@@ -5,7 +5,8 @@ ghost use Rattle.sharc_audit.specs.Grammar.{thread_most};
 ghost use Rattle.sharc_ctype.specs.Resolved.{Resolution};
 ghost use Rattle.sharc_audit.specs.declared.line.LineAct.TheVariants as line;
 ghost use Rattle.sharc_said.specs.Told.{at, numbered, valued};
-ghost use Rattle.sharc_event_file.specs.Writing.{IsFitCell, IsFitReference, IsFitValue, IsFunctionOf, Writable, IsActOf, IsLineOf};
+ghost use Rattle.sharc_event_file.specs.Writing.{IsFitCell, IsFitReference, IsFitValue, IsFunctionOf, Writable};
+ghost use Rattle.sharc_event_file.specs.Writing.{IsActOf, IsLineOf};
 
 use sharc_audit::is_name;
 use sharc_audit::line::{EventLine, LineAct};
@@ -45,7 +46,8 @@ fn cell_of(cell: Where) -> Option<CellAt>
 
 // The number that a reference is to the source, if a line can say it.
 fn reference_of(reference: Reference) -> Option<i64>
-    ensures { MatchOption result (¬ (IsFitReference reference)) (λ v. IsFitReference reference × (v ≡ numbered reference)) }
+    ensures { MatchOption result (¬ (IsFitReference reference)) (λ v. IsFitReference reference
+        × (v ≡ numbered reference)) }
 {
     if reference.number == 0 {
         return Some(0);
@@ -71,7 +73,8 @@ fn value_of(value: Value) -> Option<i64>
 
 // The name of the function of this number, if there is one and a line can say it.
 fn name_of(typed: &Typed, function: u32) -> Option<&Name>
-    ensures { MatchOption result ((text : _) → ¬ (IsFunctionOf typed.now function text)) (λ name. IsFunctionOf typed.now function name.now) }
+    ensures { MatchOption result ((text : _) → ¬ (IsFunctionOf typed.now function text))
+        (λ name. IsFunctionOf typed.now function name.now) }
 {
     match typed.function_at(function) {
         Some(definition) => {
@@ -86,7 +89,8 @@ fn name_of(typed: &Typed, function: u32) -> Option<&Name>
 }
 
 fn read_act(at: Where, value: Value) -> Option<LineAct>
-    ensures { (r : Resolution) → MatchOption result (¬ (Writable r (Deed.Reads at value))) (IsActOf r (Deed.Reads at value)) }
+    ensures { (r : Resolution)
+        → MatchOption result (¬ (Writable r (Deed.Reads at value))) (IsActOf r (Deed.Reads at value)) }
 {
     match cell_of(at) {
         Some(cell) => match value_of(value) {
@@ -98,7 +102,8 @@ fn read_act(at: Where, value: Value) -> Option<LineAct>
 }
 
 fn write_act(at: Where, value: Value) -> Option<LineAct>
-    ensures { (r : Resolution) → MatchOption result (¬ (Writable r (Deed.Writes at value))) (IsActOf r (Deed.Writes at value)) }
+    ensures { (r : Resolution)
+        → MatchOption result (¬ (Writable r (Deed.Writes at value))) (IsActOf r (Deed.Writes at value)) }
 {
     match cell_of(at) {
         Some(cell) => match value_of(value) {
@@ -110,7 +115,8 @@ fn write_act(at: Where, value: Value) -> Option<LineAct>
 }
 
 fn new_act(reference: Reference) -> Option<LineAct>
-    ensures { (r : Resolution) → MatchOption result (¬ (Writable r (Deed.Makes reference))) (IsActOf r (Deed.Makes reference)) }
+    ensures { (r : Resolution)
+        → MatchOption result (¬ (Writable r (Deed.Makes reference))) (IsActOf r (Deed.Makes reference)) }
 {
     match reference_of(reference) {
         Some(reference) => Some(LineAct::New(reference)),
@@ -119,7 +125,8 @@ fn new_act(reference: Reference) -> Option<LineAct>
 }
 
 fn take_act(reference: Reference) -> Option<LineAct>
-    ensures { (r : Resolution) → MatchOption result (¬ (Writable r (Deed.Takes reference))) (IsActOf r (Deed.Takes reference)) }
+    ensures { (r : Resolution)
+        → MatchOption result (¬ (Writable r (Deed.Takes reference))) (IsActOf r (Deed.Takes reference)) }
 {
     match reference_of(reference) {
         Some(reference) => Some(LineAct::Take(reference)),
@@ -128,7 +135,8 @@ fn take_act(reference: Reference) -> Option<LineAct>
 }
 
 fn give_act(reference: Reference) -> Option<LineAct>
-    ensures { (r : Resolution) → MatchOption result (¬ (Writable r (Deed.Gives reference))) (IsActOf r (Deed.Gives reference)) }
+    ensures { (r : Resolution)
+        → MatchOption result (¬ (Writable r (Deed.Gives reference))) (IsActOf r (Deed.Gives reference)) }
 {
     match reference_of(reference) {
         Some(reference) => Some(LineAct::Give(reference)),
@@ -137,7 +145,8 @@ fn give_act(reference: Reference) -> Option<LineAct>
 }
 
 fn freed_act(reference: Reference) -> Option<LineAct>
-    ensures { (r : Resolution) → MatchOption result (¬ (Writable r (Deed.Frees reference))) (IsActOf r (Deed.Frees reference)) }
+    ensures { (r : Resolution)
+        → MatchOption result (¬ (Writable r (Deed.Frees reference))) (IsActOf r (Deed.Frees reference)) }
 {
     match reference_of(reference) {
         Some(reference) => Some(LineAct::Freed(reference)),
@@ -164,7 +173,8 @@ fn unlock_act(at: Where) -> Option<LineAct>
 }
 
 fn started_act(value: Value) -> Option<LineAct>
-    ensures { (r : Resolution) → MatchOption result (¬ (Writable r (Deed.Starts value))) (IsActOf r (Deed.Starts value)) }
+    ensures { (r : Resolution)
+        → MatchOption result (¬ (Writable r (Deed.Starts value))) (IsActOf r (Deed.Starts value)) }
 {
     match value_of(value) {
         Some(value) => Some(LineAct::Started(value)),
@@ -174,7 +184,8 @@ fn started_act(value: Value) -> Option<LineAct>
 
 // The thread's number is that of one that was started.
 fn join_act(thread: i64) -> Option<LineAct>
-    ensures { (r : Resolution) → MatchOption result (¬ (Writable r (Deed.Joins thread))) (IsActOf r (Deed.Joins thread)) }
+    ensures { (r : Resolution)
+        → MatchOption result (¬ (Writable r (Deed.Joins thread))) (IsActOf r (Deed.Joins thread)) }
 {
     if 0 <= thread && thread <= 4294967295 {
         Some(LineAct::Join(thread))
@@ -190,7 +201,8 @@ fn spawn_act(
     value: Value,
     thread: u32,
 ) -> Result<Option<LineAct>, AllocError>
-    ensures { IfOk result (λ act. MatchOption act (¬ (Writable typed.now (Deed.Spawns function value thread))) (IsActOf typed.now (Deed.Spawns function value thread))) }
+    ensures { IfOk result (λ act. MatchOption act (¬ (Writable typed.now (Deed.Spawns function value thread)))
+        (IsActOf typed.now (Deed.Spawns function value thread))) }
 {
     match name_of(typed, function) {
         Some(name) => match value_of(value) {
@@ -242,7 +254,8 @@ pub(crate) fn line_of(
     typed: &Typed,
     event: &Event,
 ) -> Result<Option<EventLine>, AllocError>
-    ensures { IfOk result (λ line. MatchOption line (¬ (Writable typed.now event.now.deed)) (λ l. IsLineOf typed.now l event.now)) }
+    ensures { IfOk result
+        (λ line. MatchOption line (¬ (Writable typed.now event.now.deed)) (λ l. IsLineOf typed.now l event.now)) }
 {
     let thread = in_range(event.thread);
     match act_of(alloc, typed, event.deed)? {

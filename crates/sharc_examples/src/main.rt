@@ -1,7 +1,9 @@
-//! What the program writes of each example of the documents and of examples/: a program that runs the top call on them all.
+//! What the program writes of each example of the documents and of examples/: a program that runs the top call on them
+//! all.
 //!
-//! No crate depends on this one. The examples lie in `data/examples.txt`, which tools/gate_examples makes of the pages: of each a line
-//! `%%%% COMMAND STATUS PAGE`, the source, a line `%%%% writes`, and the text that is wanted. The words of a command are separated by commas.
+//! No crate depends on this one. The examples lie in `data/examples.txt`, which tools/gate_examples makes of the pages:
+//! of each a line `%%%% COMMAND STATUS PAGE`, the source, a line `%%%% writes`, and the text that is wanted. The words
+//! of a command are separated by commas.
 #![tactic(auto)]
 
 use sharc_io::{SureSink, SureSource};

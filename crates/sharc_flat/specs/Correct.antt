@@ -9,8 +9,8 @@ use Rattle.sharc_flat_form.specs.Machine.{Flat, Came, exec, start}
 use Rattle.sharc_flat.specs.{Flattened.in_function, Suits.StatementsSuit}
 use Rattle.sharc_code.specs.declared.code.GlobalCells.{GlobalCells}
 
--- The same events and answers, the same end or want, the same references given up since the last event; and each reference register of the thread has what lies at
--- its place among what the source holds, or NULL after all of it.
+-- The same events and answers, the same end or want, the same references given up since the last event; and each
+-- reference register of the thread has what lies at its place among what the source holds, or NULL after all of it.
 pub record SameAs (c : Came) (a : Asked) : Type 0 where
   pub events : c.at.events ≡ a.events
   pub outcome : c.outcome ≡ a.outcome
@@ -19,7 +19,8 @@ pub record SameAs (c : Came) (a : Asked) : Type 0 where
 
 -- every function of the program is one that flattening knows
 abbrev pub ProgramSuits : Assignment → Type 0
-ProgramSuits m = (globals : List GlobalCells) (f : ℕ) (fn : Function) → function_at m.typed f ≡ Some fn → StatementsSuit (in_function m globals fn) (declared_kind fn.result) false fn.statements
+ProgramSuits m = (globals : List GlobalCells) (f : ℕ) (fn : Function) → function_at m.typed f ≡ Some fn
+    → StatementsSuit (in_function m globals fn) (declared_kind fn.result) false fn.statements
 
 -- what may be started: it has one parameter at most, and its result is no reference
 pub record MayStart (m : Assignment) (f : ℕ) : Type 0 where
@@ -28,8 +29,8 @@ pub record MayStart (m : Assignment) (f : ℕ) : Type 0 where
   pub parameters : length function.parameters ≤ 1
   pub result : is_reference (declared_kind function.result) ≡ false
 
--- What a thread asks for with this fuel, flat code asks for after this many turns: at least one for each statement and expression that was entered, at most eight for
--- each, and eight more.
+-- What a thread asks for with this fuel, flat code asks for after this many turns: at least one for each statement and
+-- expression that was entered, at most eight for each, and eight more.
 pub record Forth (m : Assignment) (flat : Flat) (f : ℕ) (argument : ℤ) (answers : List ℤ) (fuel : ℕ) : Type 0 where
   pub turns : ℕ
   pub entered : ℕ
@@ -39,13 +40,17 @@ pub record Forth (m : Assignment) (flat : Flat) (f : ℕ) (argument : ℤ) (answ
   pub low : entered ≤ turns
   pub high : turns ≤ 8 * entered + 8
 
--- What flat code has come to after this many turns lies on the way to what a thread asks for with some fuel, or is that.
+-- What flat code has come to after this many turns lies on the way to what a thread asks for with some fuel, or is
+-- that.
 pub record Back (m : Assignment) (flat : Flat) (f : ℕ) (argument : ℤ) (answers : List ℤ) (turns : ℕ) : Type 0 where
   pub fuel : ℕ
   pub later : ℕ
   pub same : SameAs (exec flat later answers (start flat f argument)) (asks m f argument answers fuel)
-  pub reached : (turns ≤ later) ⊎ (exec flat turns answers (start flat f argument) ≡ exec flat later answers (start flat f argument))
+  pub reached : (turns ≤ later)
+      ⊎ (exec flat turns answers (start flat f argument) ≡ exec flat later answers (start flat f argument))
 
 pub record AsksTheSame (m : Assignment) (flat : Flat) : Type 0 where
-  pub forth : (f : ℕ) → MayStart m f → (argument : ℤ) (answers : List ℤ) (fuel : ℕ) → Forth m flat f argument answers fuel
-  pub back : (f : ℕ) → MayStart m f → (argument : ℤ) (answers : List ℤ) (turns : ℕ) → Back m flat f argument answers turns
+  pub forth : (f : ℕ) → MayStart m f
+      → (argument : ℤ) (answers : List ℤ) (fuel : ℕ) → Forth m flat f argument answers fuel
+  pub back : (f : ℕ) → MayStart m f
+      → (argument : ℤ) (answers : List ℤ) (turns : ℕ) → Back m flat f argument answers turns

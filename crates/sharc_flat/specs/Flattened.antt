@@ -1,5 +1,7 @@
--- The flat code of a program: one clause for each form. The value of an expression goes to the first free register of the bank of its type.
-use Rattle.std.specs.Prelude.{◌≡◌, ℕ, zero, suc, pos, ◌+◌, Bool, false, List, [], ◌∷◌, ◌++◌, length, drop, map, max, Option, Some, None, codes, if◌then◌else◌}
+-- The flat code of a program: one clause for each form. The value of an expression goes to the first free register of
+-- the bank of its type.
+use Rattle.std.specs.Prelude.{◌≡◌, ℕ, zero, suc, pos, ◌+◌, Bool, false, List, [], ◌∷◌, ◌++◌, length, drop, map, max}
+use Rattle.std.specs.Prelude.{Option, Some, None, codes, if◌then◌else◌}
 use Rattle.std.specs.Str.{bytes_eq}
 use Rattle.sharc_tree.specs.{declared.ctype.Base.Base, declared.token.Site.Site, declared.token.Span.Span}
 use Rattle.sharc_tree.specs.declared.tree.declaration.Declaration.{Declaration}
@@ -8,7 +10,11 @@ use Rattle.sharc_tree.specs.declared.tree.item.StructDefinition.{StructDefinitio
 use Rattle.sharc_tree.specs.declared.tree.expression.Access.{Access}
 use Rattle.sharc_tree.specs.declared.tree.expression.Access.TheVariants.{Dot, Arrow}
 use Rattle.sharc_tree.specs.declared.tree.expression.BinaryOperator.{BinaryOperator}
-use Rattle.sharc_tree.specs.declared.tree.expression.BinaryOperator.TheVariants.{LogicalOr, LogicalAnd, BitOr, BitXor, BitAnd, Equal, NotEqual, Less, Greater, LessOrEqual, GreaterOrEqual, ShiftLeft, ShiftRight, Add, Subtract, Multiply, Divide, Remainder}
+use Rattle.sharc_tree.specs.declared.tree.expression.BinaryOperator.TheVariants.{LogicalOr, LogicalAnd, BitOr, BitXor}
+use Rattle.sharc_tree.specs.declared.tree.expression.BinaryOperator.TheVariants.{BitAnd, Equal, NotEqual, Less, Greater}
+use Rattle.sharc_tree.specs.declared.tree.expression.BinaryOperator.TheVariants.{LessOrEqual, GreaterOrEqual, ShiftLeft}
+use Rattle.sharc_tree.specs.declared.tree.expression.BinaryOperator.TheVariants.{ShiftRight, Add, Subtract, Multiply}
+use Rattle.sharc_tree.specs.declared.tree.expression.BinaryOperator.TheVariants.{Divide, Remainder}
 use Rattle.sharc_tree.specs.{declared.tree.expression.Constant.Constant, declared.tree.expression.PlaceCall.PlaceCall}
 use Rattle.sharc_tree.specs.declared.tree.expression.PlaceCall.TheVariants.{Lock, Unlock, Free}
 use Rattle.sharc_tree.specs.declared.tree.expression.UnaryOperator.{UnaryOperator}
@@ -17,7 +23,11 @@ use Rattle.sharc_tree.specs.declared.tree.expression.ValueCall.{ValueCall}
 use Rattle.sharc_tree.specs.declared.tree.expression.ValueCall.TheVariants.{Join, Print}
 use Rattle.sharc_tree.specs.declared.tree.statement.Jump.{Jump}
 use Rattle.sharc_tree.specs.{declared.tree.statement.Jump.TheVariants.{Break, Continue}, Spans.span_of}
-use Rattle.sharc_tree.specs.Tree.{Expression, identifier, constant, parentheses, call, spawn, on_value, on_place, cast, index, field, unary, binary, Arguments, no_arguments, argument, Right, value, malloc, Simple, assign, does_call, Local, First, nothing, declares, does, Statement, empty, block, declare, simple, jump, return, if_then, if_then_else, while, for, Statements, no_statements, statement, Function}
+use Rattle.sharc_tree.specs.Tree.{Expression, identifier, constant, parentheses, call, spawn, on_value, on_place, cast}
+use Rattle.sharc_tree.specs.Tree.{index, field, unary, binary, Arguments, no_arguments, argument, Right, value, malloc}
+use Rattle.sharc_tree.specs.Tree.{Simple, assign, does_call, Local, First, nothing, declares, does, Statement, empty}
+use Rattle.sharc_tree.specs.Tree.{block, declare, simple, jump, return, if_then, if_then_else, while, for, Statements}
+use Rattle.sharc_tree.specs.Tree.{no_statements, statement, Function}
 use Rattle.sharc_tree.specs.declared.ctype.Base.TheVariants as base
 use Rattle.sharc_names.specs.declared.fault.Named.{Named}
 use Rattle.sharc_names.specs.Kinds.{Kind, object, element_kind, declared_kind, declared_kinds, promoted}
@@ -39,9 +49,12 @@ use Rattle.sharc_meaning.specs.{Reference.constant_value, State.is_reference}
 use Rattle.sharc_flat_form.specs.{declared.op.Op.Op, declared.op.Spot.Spot, Machine.Flat}
 use Rattle.sharc_flat_form.specs.declared.op.Op.TheVariants as op
 use Rattle.sharc_flat.specs.Frames.{ints_in, refs_in}
-use Rattle.sharc_flat.specs.Scope.{slot_of, int_count, ref_count, Context, no_text, tokens_in, at_site, at_words, ends_from, leaves}
+use Rattle.sharc_flat.specs.Scope.{slot_of, int_count, ref_count, Context, no_text, tokens_in, at_site, at_words}
+use Rattle.sharc_flat.specs.Scope.{ends_from, leaves}
 use Rattle.sharc_flat.specs.declared.slot.Slot.{Slot}
-use Rattle.sharc_flat.specs.Places.{Target, lvalue_of, take_use, variable, in_global, has_base, base_width, index_width, target, own_field, cell_of, beside_field, object_spot, index_code, pointee_code, value_code, store_code, take_code, width_of, width_code}
+use Rattle.sharc_flat.specs.Places.{Target, lvalue_of, take_use, variable, in_global, has_base, base_width, index_width}
+use Rattle.sharc_flat.specs.Places.{target, own_field, cell_of, beside_field, object_spot, index_code, pointee_code}
+use Rattle.sharc_flat.specs.Places.{value_code, store_code, take_code, width_of, width_code}
 use Rattle.sharc_flat.specs.declared.slot.Lvalue.{Lvalue}
 
 abbrev pub kind_of : Context → Expression → Kind
@@ -77,7 +90,8 @@ drop_code is_ref r = if is_ref then op.Pop r ∷ [] else []
 
 -- a value in an integer register that is 0 exactly where the value is 0 or NULL
 abbrev pub truth_code : Bool → ℕ → ℕ → List Op
-truth_code is_ref i r = if is_ref then op.Null (r + 1) ∷ op.SameReference i r (r + 1) ∷ op.Pop r ∷ op.IsFalse i i ∷ [] else []
+truth_code is_ref i r =
+    if is_ref then op.Null (r + 1) ∷ op.SameReference i r (r + 1) ∷ op.Pop r ∷ op.IsFalse i i ∷ [] else []
 
 -- ---- operators
 abbrev pub operator_of : BinaryOperator → Operator
@@ -112,14 +126,16 @@ abbrev pub logical_code : ℕ → List Op → List Op → List Op
 logical_code i a b = a ++ (op.SkipIfZero i (length b) ∷ (b ++ (op.IsFalse i i ∷ op.IsFalse i i ∷ [])))
 
 abbrev pub either_code : ℕ → List Op → List Op → List Op
-either_code i a b = a ++ (op.IsFalse i i ∷ op.SkipIfZero i (length b + 1) ∷ (b ++ (op.IsFalse i i ∷ op.IsFalse i i ∷ [])))
+either_code i a b =
+    a ++ (op.IsFalse i i ∷ op.SkipIfZero i (length b + 1) ∷ (b ++ (op.IsFalse i i ∷ op.IsFalse i i ∷ [])))
 
 abbrev pub unary_code : Context → ℕ → ℕ → Span → UnaryOperator → Expression → List Op → List Op
 unary_code c i r s Negate a code = code ++ op.Negate (width_of (promoted (kind_of c a))) i i (at_site s.first) ∷ []
 unary_code c i r s Not a code = code ++ (truth_code (is_ref c a) i r ++ op.IsFalse i i ∷ [])
 unary_code c i r s Complement a code = code ++ op.Complement i i ∷ []
 unary_code c i r s Dereference a code =
-    pointee_code r s.first code ++ value_code c i r s.first (lvalue_in c (unary s Dereference a)) (mode_of c (unary s Dereference a)) (is_ref c (unary s Dereference a)) (target_of c (unary s Dereference a))
+    pointee_code r s.first code ++ value_code c i r s.first (lvalue_in c (unary s Dereference a))
+    (mode_of c (unary s Dereference a)) (is_ref c (unary s Dereference a)) (target_of c (unary s Dereference a))
 
 -- the registers after a value
 abbrev pub behind_int : Bool → ℕ → ℕ
@@ -128,12 +144,16 @@ behind_int is_ref i = if is_ref then i else i + 1
 abbrev pub behind_ref : Bool → ℕ → ℕ
 behind_ref is_ref r = if is_ref then r + 1 else r
 
-abbrev pub binary_code : Context → ℕ → ℕ → Site → BinaryOperator → Expression → Expression → List Op → (ℕ → ℕ → List Op) → List Op
-binary_code c i r at LogicalAnd a b of_a of_b = logical_code i (of_a ++ truth_code (is_ref c a) i r) (of_b i r ++ truth_code (is_ref c b) i r)
-binary_code c i r at LogicalOr a b of_a of_b = either_code i (of_a ++ truth_code (is_ref c a) i r) (of_b i r ++ truth_code (is_ref c b) i r)
+abbrev pub binary_code : Context → ℕ → ℕ → Site → BinaryOperator → Expression → Expression → List Op → (ℕ → ℕ → List Op)
+    → List Op
+binary_code c i r at LogicalAnd a b of_a of_b =
+    logical_code i (of_a ++ truth_code (is_ref c a) i r) (of_b i r ++ truth_code (is_ref c b) i r)
+binary_code c i r at LogicalOr a b of_a of_b =
+    either_code i (of_a ++ truth_code (is_ref c a) i r) (of_b i r ++ truth_code (is_ref c b) i r)
 binary_code c i r at o a b of_a of_b = of_a ++ (of_b (behind_int (is_ref c a) i) (behind_ref (is_ref c a) r)
     ++ (if is_ref c a then compare_code o i r
-    else op.Compute (width_of (binary_result (class_of o) (kind_of c a) (kind_of c b))) (operator_of o) i i (i + 1) (at_site at) ∷ []))
+    else op.Compute (width_of (binary_result (class_of o) (kind_of c a) (kind_of c b))) (operator_of o) i i
+    (i + 1) (at_site at) ∷ []))
 
 -- ---- calls
 -- the first cell of the object in this register
@@ -158,7 +178,8 @@ argument_words (suc n) (argument a rest) = argument_words n rest
 
 abbrev pub condition_code : ℕ → Spot → List ℕ → Arguments → List Op
 condition_code r spot name all =
-    if bytes_eq name (codes "wait") then wait_code r spot (with_words spot (argument_words 0 all)) (with_words spot (argument_words 1 all))
+    if bytes_eq name (codes "wait")
+    then wait_code r spot (with_words spot (argument_words 0 all)) (with_words spot (argument_words 1 all))
     else if bytes_eq name (codes "signal") then op.ChkNull r spot ∷ op.CondSignal (first_cell_of r) spot ∷ op.Pop r ∷ []
     else op.ChkNull r spot ∷ op.CondBroadcast (first_cell_of r) spot ∷ op.Pop r ∷ []
 
@@ -198,17 +219,23 @@ abbrev pub unlocked_code : ℕ → Target → List Op
 unlocked_code r t = if has_base t then op.Pop (r + 1) ∷ op.Pop r ∷ [] else []
 
 abbrev pub place_call_code : Context → ℕ → ℕ → Span → PlaceCall → Expression → List Op → List Op
-place_call_code c i r s Lock a place = place ++ (op.ChkNotHeld (cell_of c.globals i r (target_of c a)) (at_site s.first) ∷ op.ChkRoom (at_site s.first)
+place_call_code c i r s Lock a place =
+    place ++ (op.ChkNotHeld (cell_of c.globals i r (target_of c a)) (at_site s.first) ∷ op.ChkRoom (at_site s.first)
     ∷ op.Lock (cell_of c.globals i r (target_of c a)) (at_words s.first (span_of a) uses.Other) ∷ [])
 place_call_code c i r s Unlock a place = place ++ (op.ChkHeld (cell_of c.globals i r (target_of c a)) (at_site s.first)
     ∷ op.Unlock (r + base_width (target_of c a)) (cell_of c.globals i r (target_of c a)) (at_site s.first)
     ∷ unlocked_code r (target_of c a))
-place_call_code c i r s Free a place = place ++ (take_code c i r (span_of a).first (lvalue_in c a) (mode_of c a) uses.Free (target_of c a)
-    ++ (op.SkipIfNull r 1 ∷ op.Free r (layout_of (structs_in c.program.typed.program.items) (element_kind (kind_of c a))) (at_words (span_of a).first (span_of a) (take_use uses.Free (target_of c a))) ∷ []))
+place_call_code c i r s Free a place =
+    place ++ (take_code c i r (span_of a).first (lvalue_in c a) (mode_of c a) uses.Free (target_of c a)
+    ++ (op.SkipIfNull r 1 ∷ op.Free r (layout_of (structs_in c.program.typed.program.items)
+    (element_kind (kind_of c a))) (at_words (span_of a).first (span_of a) (take_use uses.Free (target_of c a))) ∷ []))
 
 abbrev pub cast_code : Context → ℕ → ℕ → Span → Expression → List Op → List Op
-cast_code c i r s a place = place ++ (take_code c i r (span_of a).first (lvalue_in c a) (mode_of c a) uses.Cast (target_of c a)
-    ++ (op.SkipIfNull r 1 ∷ op.Give r (element_cells c.program.typed (element_kind (kind_of c a))) (object_spot c (span_of a).first (tokens_in (span_of a)) (take_use uses.Cast (target_of c a)) (pointed c.program (Some (cast_row c.program.typed s)))) ∷ []))
+cast_code c i r s a place =
+    place ++ (take_code c i r (span_of a).first (lvalue_in c a) (mode_of c a) uses.Cast (target_of c a)
+    ++ (op.SkipIfNull r 1 ∷ op.Give r (element_cells c.program.typed (element_kind (kind_of c a)))
+    (object_spot c (span_of a).first (tokens_in (span_of a)) (take_use uses.Cast (target_of c a))
+    (pointed c.program (Some (cast_row c.program.typed s)))) ∷ []))
 
 -- the guard of what an lvalue names
 abbrev pub guard_of : Context → Expression → Option ℕ
@@ -222,7 +249,8 @@ taken_guard c Free a = guard_of c a
 
 -- `a.n` and `a->n`
 abbrev pub field_code : Context → ℕ → Site → Option ℕ → Access → Identifier → (Option ℕ → List Op) → List Op → List Op
-field_code c r site f Dot n place pointer = place (Some (own_field f (field_place_named c.program.typed (what_names c n.site.token))))
+field_code c r site f Dot n place pointer =
+    place (Some (own_field f (field_place_named c.program.typed (what_names c n.site.token))))
 field_code c r site f Arrow n place pointer = pointee_code r site pointer
 
 abbrev pub unary_place_code : ℕ → Site → UnaryOperator → List Op → List Op
@@ -235,36 +263,48 @@ lvalue_code c i r e = value_code c i r (span_of e).first (lvalue_in c e) (mode_o
 abbrev mutual
   -- the value, if there is one, goes to the register i or r
   pub expression_code : Context → ℕ → ℕ → Expression → List Op
-  expression_code c i r (identifier s x) = op.Enter ∷ named_code c i r x.site (lvalue_in c (identifier s x)) (mode_of c (identifier s x)) (is_ref c (identifier s x)) (what_names c x.site.token)
+  expression_code c i r (identifier s x) = op.Enter ∷ named_code c i r x.site (lvalue_in c (identifier s x))
+      (mode_of c (identifier s x)) (is_ref c (identifier s x)) (what_names c x.site.token)
   expression_code c i r (constant s k) = op.Enter ∷ constant_code (is_ref c (constant s k)) i r k
   expression_code c i r (parentheses s a) = op.Enter ∷ expression_code c i r a
-  expression_code c i r (call s f all) = op.Enter ∷ (arguments_code c i r (declared_kinds (parameters_named c.program.typed (what_names c f.site.token))) all
+  expression_code c i r (call s f all) = op.Enter
+      ∷ (arguments_code c i r (declared_kinds (parameters_named c.program.typed (what_names c f.site.token))) all
       ++ called_code i r (at_site s.first) (what_names c f.site.token) f.text all)
   expression_code c i r (spawn s f a) = op.Enter ∷ (expression_code c i r a
-      ++ (passed_code i (declared_kinds (parameters_named c.program.typed (what_names c f.site.token))) (span_of a).first
+      ++ (passed_code i
+      (declared_kinds (parameters_named c.program.typed (what_names c f.site.token))) (span_of a).first
       ++ spawn_code (is_ref c a) i r (number_named (what_names c f.site.token)) (at_site s.first)))
   expression_code c i r (on_value s w a) = op.Enter ∷ (expression_code c i r a ++ value_call_code w i (at_site s.first))
-  expression_code c i r (on_place s w a) = op.Enter ∷ place_call_code c i r s w a (place_code c i r (span_of a).first None (taken_guard c w a) a)
-  expression_code c i r (cast s t a) = op.Enter ∷ cast_code c i r s a (place_code c i r (span_of a).first None (guard_of c a) a)
-  expression_code c i r (index s a n) = op.Enter ∷ (index_code c i r s.first None (guard_of c (index s a n)) a (place_code c i r s.first None None a) (expression_code c i r a) (λ d. expression_code c i d n)
+  expression_code c i r (on_place s w a) =
+      op.Enter ∷ place_call_code c i r s w a (place_code c i r (span_of a).first None (taken_guard c w a) a)
+  expression_code c i r (cast s t a) =
+      op.Enter ∷ cast_code c i r s a (place_code c i r (span_of a).first None (guard_of c a) a)
+  expression_code c i r (index s a n) = op.Enter ∷ (index_code c i r s.first None (guard_of c (index s a n)) a
+      (place_code c i r s.first None None a) (expression_code c i r a) (λ d. expression_code c i d n)
       ++ lvalue_code c i r (index s a n))
-  expression_code c i r (field s a w n) = op.Enter ∷ (field_code c r s.first None w n (λ f. place_code c i r s.first f (guard_of c (field s a w n)) a) (expression_code c i r a)
+  expression_code c i r (field s a w n) = op.Enter ∷ (field_code c r s.first None w n
+      (λ f. place_code c i r s.first f (guard_of c (field s a w n)) a) (expression_code c i r a)
       ++ lvalue_code c i r (field s a w n))
   expression_code c i r (unary s o a) = op.Enter ∷ unary_code c i r s o a (expression_code c i r a)
-  expression_code c i r (binary s o at a b) = op.Enter ∷ binary_code c i r at o a b (expression_code c i r a) (λ i2 r2. expression_code c i2 r2 b)
+  expression_code c i r (binary s o at a b) =
+      op.Enter ∷ binary_code c i r at o a b (expression_code c i r a) (λ i2 r2. expression_code c i2 r2 b)
 
   -- each argument in the registers after those before it
   pub arguments_code : Context → ℕ → ℕ → List Kind → Arguments → List Op
   arguments_code c i r kinds no_arguments = []
   arguments_code c i r kinds (argument a rest) = expression_code c i r a
-      ++ (passed_code i kinds (span_of a).first ++ arguments_code c (behind_int (is_ref c a) i) (behind_ref (is_ref c a) r) (drop 1 kinds) rest)
+      ++ (passed_code i kinds (span_of a).first
+      ++ arguments_code c (behind_int (is_ref c a) i) (behind_ref (is_ref c a) r) (drop 1 kinds) rest)
 
-  -- what an lvalue names, for this field of it if one is given, and with the pointer to a mutex in that field of the same element
+  -- what an lvalue names, for this field of it if one is given, and with the pointer to a mutex in that field of the
+  -- same element
   pub place_code : Context → ℕ → ℕ → Site → Option ℕ → Option ℕ → Expression → List Op
   place_code c i r site f guard (identifier s x) = op.Enter ∷ []
   place_code c i r site f guard (parentheses s a) = op.Enter ∷ place_code c i r site f guard a
-  place_code c i r site f guard (index s a n) = op.Enter ∷ index_code c i r site f guard a (place_code c i r site None None a) (expression_code c i r a) (λ d. expression_code c i d n)
-  place_code c i r site f guard (field s a w n) = op.Enter ∷ field_code c r site f w n (λ g. place_code c i r site g guard a) (expression_code c i r a)
+  place_code c i r site f guard (index s a n) = op.Enter ∷ index_code c i r site f guard a
+      (place_code c i r site None None a) (expression_code c i r a) (λ d. expression_code c i d n)
+  place_code c i r site f guard (field s a w n) =
+      op.Enter ∷ field_code c r site f w n (λ g. place_code c i r site g guard a) (expression_code c i r a)
   place_code c i r site f guard (unary s o a) = op.Enter ∷ unary_place_code r site o (expression_code c i r a)
   place_code c i r site f guard _ = op.Enter ∷ []
 
@@ -277,12 +317,15 @@ elements_code c i r (Some n) = expression_code c i r n
 abbrev pub right_code : Context → ℕ → ℕ → Kind → Sharing → Right → List Op
 right_code c i r kind mode (value e) = expression_code c i r e ++ width_code i kind (span_of e).first
 right_code c i r kind mode (malloc s n w) = op.Enter ∷ (elements_code c i r n
-    ++ (op.ChkPositive i (at_site s.first) ∷ op.New r i (element_cells c.program.typed (declared_kind w)) (object_spot c s.first no_text uses.Other mode) ∷ []))
+    ++ (op.ChkPositive i (at_site s.first) ∷ op.New r i (element_cells c.program.typed (declared_kind w))
+    (object_spot c s.first no_text uses.Other mode) ∷ []))
 
 abbrev pub simple_code : Context → ℕ → ℕ → Simple → List Op
 simple_code c i r (assign s u x) = place_code c i r (span_of u).first None (guard_of c u) u
-    ++ (right_code c (i + index_width (target_of c u) (guard_of c u)) (r + base_width (target_of c u)) (kind_of c u) (pointed c.program (row_at c.program.typed u)) x
-    ++ store_code c i r (i + index_width (target_of c u) (guard_of c u)) (r + base_width (target_of c u)) (span_of u).first (lvalue_in c u) (mode_of c u) (is_ref c u) (target_of c u))
+    ++ (right_code c (i + index_width (target_of c u) (guard_of c u)) (r + base_width (target_of c u)) (kind_of c u)
+    (pointed c.program (row_at c.program.typed u)) x
+    ++ store_code c i r (i + index_width (target_of c u) (guard_of c u)) (r + base_width (target_of c u))
+    (span_of u).first (lvalue_in c u) (mode_of c u) (is_ref c u) (target_of c u))
 simple_code c i r (does_call e) = expression_code c i r e ++ drop_code (is_ref c e) r
 
 -- a variable that begins, as the last one in scope
@@ -299,16 +342,20 @@ abbrev pub zero_code : Bool → ℕ → ℕ → List Op
 zero_code is_ref i r = if is_ref then op.Null r ∷ [] else op.Constant i (pos 0) ∷ []
 
 abbrev pub declared_lvalue : Declaration → Lvalue
-declared_lvalue d = record { words = record { first = d.name.site; last = d.name.site }; bare = d.name.site.token; is_simple = false }
+declared_lvalue d =
+    record { words = record { first = d.name.site; last = d.name.site }; bare = d.name.site.token; is_simple = false }
 
 -- after its declaration
 abbrev pub initial_code : Context → Declaration → Option Right → List Op
 initial_code c d None = []
-initial_code c d (Some x) = right_code c (ints_of c) (refs_of c) (declared_kind d.written) (pointed c.program (Some (declared_row c.program.typed written d.name.site.token))) x
-    ++ store_code c 0 0 (ints_of c) (refs_of c) d.name.site (declared_lvalue d) private (is_reference (declared_kind d.written)) (variable d.name.site.token)
+initial_code c d (Some x) = right_code c (ints_of c) (refs_of c) (declared_kind d.written)
+    (pointed c.program (Some (declared_row c.program.typed written d.name.site.token))) x
+    ++ store_code c 0 0 (ints_of c) (refs_of c) d.name.site (declared_lvalue d) private
+    (is_reference (declared_kind d.written)) (variable d.name.site.token)
 
 abbrev pub local_code : Context → Local → List Op
-local_code c l = zero_code (is_reference (declared_kind l.declaration.written)) (ints_of c) (refs_of c) ++ initial_code (with_variable c l.declaration) l.declaration l.initial
+local_code c l = zero_code (is_reference (declared_kind l.declaration.written)) (ints_of c) (refs_of c)
+    ++ initial_code (with_variable c l.declaration) l.declaration l.initial
 
 abbrev pub first_code : Context → First → List Op
 first_code c nothing = []
@@ -333,8 +380,9 @@ abbrev pub turn_code : Context → Option Expression → ℕ → List Op
 turn_code c None over = []
 turn_code c (Some e) over = test_code c e ++ op.SkipIfZero (ints_of c) over ∷ []
 
--- Where a statement is in its function: the type of the function's result, the places of the innermost loop to which break and continue lead, and how many
--- variables there were where each open block begins, within that loop and around it, the innermost first.
+-- Where a statement is in its function: the type of the function's result, the places of the innermost loop to which
+-- break and continue lead, and how many variables there were where each open block begins, within that loop and around
+-- it, the innermost first.
 pub record Around : Type 0 where
   pub result : Kind
   pub broken : ℕ
@@ -346,7 +394,8 @@ abbrev pub opened : Context → Around → Around
 opened c a = record a { inside = length c.scope ∷ a.inside }
 
 abbrev pub looping : Around → ℕ → ℕ → Around
-looping a broken continued = record { result = a.result; broken = broken; continued = continued; inside = []; outside = a.inside ++ a.outside }
+looping a broken continued =
+    record { result = a.result; broken = broken; continued = continued; inside = []; outside = a.inside ++ a.outside }
 
 abbrev pub jump_code : Context → Around → Jump → List Op
 jump_code c a Break = leaves c.scope a.inside ++ op.Jump a.broken ∷ []
@@ -357,23 +406,28 @@ abbrev pub result_code : Bool → ℕ → ℕ → List Op
 result_code is_ref i r = if is_ref then op.MoveReference 0 r ∷ [] else op.Move 0 i ∷ []
 
 abbrev pub return_code : Context → Around → Site → Option Expression → List Op
-return_code c a site None = leaves c.scope (a.inside ++ a.outside) ++ (zero_code (is_reference a.result) 0 0 ++ op.Return (at_site site) ∷ [])
-return_code c a site (Some e) = expression_code c (ints_of c) (refs_of c) e ++ (width_code (ints_of c) a.result (span_of e).first
-    ++ (leaves c.scope (a.inside ++ a.outside) ++ (result_code (is_reference a.result) (ints_of c) (refs_of c) ++ op.Return (at_site site) ∷ [])))
+return_code c a site None =
+    leaves c.scope (a.inside ++ a.outside) ++ (zero_code (is_reference a.result) 0 0 ++ op.Return (at_site site) ∷ [])
+return_code c a site (Some e) =
+    expression_code c (ints_of c) (refs_of c) e ++ (width_code (ints_of c) a.result (span_of e).first
+    ++ (leaves c.scope (a.inside ++ a.outside)
+    ++ (result_code (is_reference a.result) (ints_of c) (refs_of c) ++ op.Return (at_site site) ∷ [])))
 
--- What is done where a test is met, at this place. The parts are given by where they lie, and what decides by the number of statements that it leads over.
+-- What is done where a test is met, at this place. The parts are given by where they lie, and what decides by the
+-- number of statements that it leads over.
 abbrev pub if_code : ℕ → (ℕ → List Op) → (ℕ → List Op) → List Op
 if_code pc turn body = turn (length (body (pc + length (turn 0)))) ++ body (pc + length (turn 0))
 
 -- a choice: what decides, the first side, over the second side, the second side
 abbrev pub sides_code : ℕ → (ℕ → List Op) → List Op → (ℕ → List Op) → List Op
-sides_code pc turn first second = turn (length first + 1) ++ (first ++ (op.Skip (length (second (pc + length (turn 0) + length first + 1))) ∷ second (pc + length (turn 0) + length first + 1)))
+sides_code pc turn first second = turn (length first + 1) ++ (first ++ (op.Skip
+    (length (second (pc + length (turn 0) + length first + 1))) ∷ second (pc + length (turn 0) + length first + 1)))
 
 abbrev pub choice_code : ℕ → (ℕ → List Op) → (ℕ → List Op) → (ℕ → List Op) → List Op
 choice_code pc turn first second = sides_code pc turn (first (pc + length (turn 0))) second
 
--- A loop at this place: over the two ways, the way out, the way to the step, what decides, the body, the step, and back to what decides. The body is given by where
--- it lies, and what decides by the length of what it leads over.
+-- A loop at this place: over the two ways, the way out, the way to the step, what decides, the body, the step, and back
+-- to what decides. The body is given by where it lies, and what decides by the length of what it leads over.
 abbrev pub turns_code : ℕ → List Op → List Op → List Op → List Op
 turns_code pc step turn body =
     op.Skip 2 ∷ op.Skip (length turn + length body + length step + 2) ∷ op.Skip (length turn + length body)
@@ -383,7 +437,8 @@ abbrev pub body_at : ℕ → (ℕ → List Op) → ℕ
 body_at pc turn = pc + 3 + length (turn 0)
 
 abbrev pub loop_code : ℕ → List Op → (ℕ → List Op) → (ℕ → List Op) → List Op
-loop_code pc step turn body = turns_code pc step (turn (length (body (body_at pc turn)) + length step + 1)) (body (body_at pc turn))
+loop_code pc step turn body =
+    turns_code pc step (turn (length (body (body_at pc turn)) + length step + 1)) (body (body_at pc turn))
 
 abbrev pub behind_statement : Context → Statement → Context
 behind_statement c (declare s l) = with_variable c l.declaration
@@ -393,22 +448,29 @@ abbrev mutual
   -- at this place
   pub statement_code : Context → Around → ℕ → Statement → List Op
   statement_code c a pc (empty s) = op.Enter ∷ []
-  statement_code c a pc (block s all) = op.Enter ∷ ((statements_code c (opened c a) (pc + 1) all ++ ends_from (behind_statements c all).scope (length c.scope)) ++ op.BlockEnd ∷ [])
+  statement_code c a pc (block s all) = op.Enter ∷ ((statements_code c (opened c a) (pc + 1) all
+      ++ ends_from (behind_statements c all).scope (length c.scope)) ++ op.BlockEnd ∷ [])
   statement_code c a pc (declare s l) = op.Enter ∷ local_code c l
   statement_code c a pc (simple s x) = op.Enter ∷ simple_code c (ints_of c) (refs_of c) x
   statement_code c a pc (jump s j) = op.Enter ∷ jump_code c a j
   statement_code c a pc (return s e) = op.Enter ∷ return_code c a s.first e
-  statement_code c a pc (if_then s e x) = op.Enter ∷ if_code (pc + 1) (turn_code c (Some e)) (λ at. statement_code c a at x)
-  statement_code c a pc (if_then_else s e x y) = op.Enter ∷ choice_code (pc + 1) (turn_code c (Some e)) (λ at. statement_code c a at x) (λ at. statement_code c a at y)
-  statement_code c a pc (while s e x) = op.Enter ∷ loop_code (pc + 1) [] (turn_code c (Some e)) (λ at. statement_code c (looping a (pc + 1 + 1) (pc + 1 + 2)) at x)
+  statement_code c a pc (if_then s e x) =
+      op.Enter ∷ if_code (pc + 1) (turn_code c (Some e)) (λ at. statement_code c a at x)
+  statement_code c a pc (if_then_else s e x y) = op.Enter
+      ∷ choice_code (pc + 1) (turn_code c (Some e)) (λ at. statement_code c a at x) (λ at. statement_code c a at y)
+  statement_code c a pc (while s e x) = op.Enter
+      ∷ loop_code (pc + 1) [] (turn_code c (Some e)) (λ at. statement_code c (looping a (pc + 1 + 1) (pc + 1 + 2)) at x)
   statement_code c a pc (for s h x) = op.Enter ∷ ((first_code c h.first
-      ++ loop_code (pc + 1 + length (first_code c h.first)) (step_code (behind_first c h.first) h.step) (turn_code (behind_first c h.first) h.test)
-      (λ at. statement_code (behind_first c h.first) (looping (opened c a) (pc + 1 + length (first_code c h.first) + 1) (pc + 1 + length (first_code c h.first) + 2)) at x))
+      ++ loop_code (pc + 1 + length (first_code c h.first)) (step_code (behind_first c h.first) h.step)
+      (turn_code (behind_first c h.first) h.test)
+      (λ at. statement_code (behind_first c h.first) (looping (opened c a) (pc + 1 + length (first_code c h.first) + 1)
+      (pc + 1 + length (first_code c h.first) + 2)) at x))
       ++ ends_from (behind_first c h.first).scope (length c.scope))
 
   pub statements_code : Context → Around → ℕ → Statements → List Op
   statements_code c a pc no_statements = []
-  statements_code c a pc (statement x rest) = statement_code c a pc x ++ statements_code (behind_statement c x) a (pc + length (statement_code c a pc x)) rest
+  statements_code c a pc (statement x rest) =
+      statement_code c a pc x ++ statements_code (behind_statement c x) a (pc + length (statement_code c a pc x)) rest
 
   pub behind_statements : Context → Statements → Context
   behind_statements c no_statements = c
@@ -426,14 +488,16 @@ around_body f = record { result = declared_kind f.result; broken = 0; continued 
 
 -- at its end a function gives 0 or NULL
 abbrev pub function_code : Assignment → (List GlobalCells) → ℕ → Function → List Op
-function_code m globals pc f = op.Enter ∷ (statements_code (in_function m globals f) (around_body f) (pc + 1) f.statements
+function_code m globals pc f =
+    op.Enter ∷ (statements_code (in_function m globals f) (around_body f) (pc + 1) f.statements
     ++ (ends_from (behind_statements (in_function m globals f) f.statements).scope 0
     ++ (zero_code (is_reference (declared_kind f.result)) 0 0 ++ op.Return (at_site f.body.last) ∷ [])))
 
 -- the functions from this place on
 abbrev pub functions_code : Assignment → (List GlobalCells) → ℕ → List Function → List Op
 functions_code m globals pc [] = []
-functions_code m globals pc (f ∷ rest) = function_code m globals pc f ++ functions_code m globals (pc + length (function_code m globals pc f)) rest
+functions_code m globals pc (f ∷ rest) =
+    function_code m globals pc f ++ functions_code m globals (pc + length (function_code m globals pc f)) rest
 
 -- ---- the program
 -- what a thread of the function is handed
@@ -444,7 +508,8 @@ abbrev pub parameter_of : List Declaration → Parameter
 parameter_of [] = parameters.None
 parameter_of (d ∷ rest) = parameter_in (declared_kind d.written)
 
--- a row of the table is that of a function whose code begins at this place; its frame has the parameters' registers and those that the code needs
+-- a row of the table is that of a function whose code begins at this place; its frame has the parameters' registers and
+-- those that the code needs
 pub record IsRow (m : Assignment) (globals : List GlobalCells) (pc : ℕ) (f : Function) (row : Row) : Type 0 where
   pub entry : row.entry ≡ pc
   pub parameter : row.parameter ≡ parameter_of f.parameters
@@ -455,7 +520,8 @@ pub record IsRow (m : Assignment) (globals : List GlobalCells) (pc : ℕ) (f : F
 abbrev pub AreRows : Assignment → (List GlobalCells) → ℕ → List Function → List Row → Type 0
 AreRows m globals pc [] rows = rows ≡ []
 AreRows m globals pc (f ∷ rest) [] = ⊥
-AreRows m globals pc (f ∷ rest) (row ∷ rows) = IsRow m globals pc f row × AreRows m globals (pc + length (function_code m globals pc f)) rest rows
+AreRows m globals pc (f ∷ rest) (row ∷ rows) =
+    IsRow m globals pc f row × AreRows m globals (pc + length (function_code m globals pc f)) rest rows
 
 -- flat code is that of a program, with texts that are given by tokens
 pub record IsFlattened (m : Assignment) (flat : Flat) : Type 0 where
@@ -475,7 +541,8 @@ row_of m globals pc f = record {
 
 abbrev pub rows_of : Assignment → List GlobalCells → ℕ → List Function → List Row
 rows_of m globals pc [] = []
-rows_of m globals pc (f ∷ rest) = row_of m globals pc f ∷ rows_of m globals (pc + length (function_code m globals pc f)) rest
+rows_of m globals pc (f ∷ rest) =
+    row_of m globals pc f ∷ rows_of m globals (pc + length (function_code m globals pc f)) rest
 
 abbrev pub flattened : Assignment → List GlobalCells → Flat
 flattened m globals = record {

@@ -16,7 +16,8 @@ IsMainOf m n = (f : Function) × (function_at m.typed n ≡ Some f) × (f.name.t
 
 -- its lines and functions with their texts laid out, and the tables beside them
 pub record Flattens (m : Assignment) (code : FlatCode) : Type 0 where
-  pub lays : Lays m.typed code.texts.items (names_of (functions_in m.typed.program.items)) (flattened m (globals_of m.typed)) (flat_of code)
+  pub lays : Lays m.typed code.texts.items (names_of (functions_in m.typed.program.items))
+      (flattened m (globals_of m.typed)) (flat_of code)
   pub main : IsMainOf m code.main
   pub granules : code.granules ≡ all_granules m.typed (globals_in m.typed.program.items)
   pub initial : code.initial.items ≡ all_first_words m.typed (globals_in m.typed.program.items)

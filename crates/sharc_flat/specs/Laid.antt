@@ -1,8 +1,10 @@
 -- Texts where they lie: the same code, with the places of its texts among the bytes of all texts.
-use Rattle.std.specs.Prelude.{◌≡◌, ℕ, ◌+◌, ◌-◌, ◌<◌, ◌≤◌, List, [], ◌∷◌, ◌++◌, length, slice_get, slice_range, Option, Some, None, codes}
+use Rattle.std.specs.Prelude.{◌≡◌, ℕ, ◌+◌, ◌-◌, ◌<◌, ◌≤◌, List, [], ◌∷◌, ◌++◌, length, slice_get, slice_range, Option}
+use Rattle.std.specs.Prelude.{Some, None, codes}
 use Rattle.sharc_tree.specs.{declared.tree.declaration.Declaration.Declaration, Texts.tokens_text}
 use Rattle.sharc_code.specs.{declared.code.Function.{Function as Row}, declared.code.PlaceMode.PlaceMode}
-use Rattle.sharc_code.specs.declared.code.PlaceMode.TheVariants.{LockedGlobal, LockedSibling, LockedThrough, LockedLoaded}
+use Rattle.sharc_code.specs.declared.code.PlaceMode.TheVariants.{LockedGlobal, LockedSibling, LockedThrough}
+use Rattle.sharc_code.specs.declared.code.PlaceMode.TheVariants.{LockedLoaded}
 use Rattle.sharc_code.specs.declared.code.Text.{Text}
 use Rattle.sharc_names.specs.declared.fault.Named.{Named}
 use Rattle.sharc_names.specs.declared.fault.Named.TheVariants as named
@@ -43,7 +45,8 @@ with_texts lv lk (op.ChkHeld cell spot) = op.ChkHeld cell (told_by lv lk spot)
 with_texts lv lk (op.ChkNotHeld cell spot) = op.ChkNotHeld cell (told_by lv lk spot)
 with_texts lv lk (op.ChkRoom spot) = op.ChkRoom (told_by lv lk spot)
 with_texts lv lk (op.Bounds i r cells field spot) = op.Bounds i r cells field (told_by lv lk spot)
-with_texts lv lk (op.GlobalBounds i elements cells field spot) = op.GlobalBounds i elements cells field (told_by lv lk spot)
+with_texts lv lk (op.GlobalBounds i elements cells field spot) =
+    op.GlobalBounds i elements cells field (told_by lv lk spot)
 with_texts lv lk (op.Load i cell spot) = op.Load i cell (told_by lv lk spot)
 with_texts lv lk (op.Store i cell spot) = op.Store i cell (told_by lv lk spot)
 with_texts lv lk (op.LoadRef r cell spot) = op.LoadRef r cell (told_by lv lk spot)
@@ -127,15 +130,17 @@ abbrev pub field_behind : Resolution → Named → ℕ → List ℕ
 field_behind r (named.Variable x) n = name_of (slice_get (fields_behind r (declaration_at r x)) n)
 field_behind r _ n = []
 
--- The path of a lock, as reports print it: its names where it is one of the global or through a variable; where it is that of a sibling, the lvalue without the
--- parentheses around it, with its last token replaced by the mutex's name; and with a `*` before, where that is a pointer to the mutex. The lock is given by the
--- first token of that lvalue and by the token of the path's first name.
+-- The path of a lock, as reports print it: its names where it is one of the global or through a variable; where it is
+-- that of a sibling, the lvalue without the parentheses around it, with its last token replaced by the mutex's name;
+-- and with a `*` before, where that is a pointer to the mutex. The lock is given by the first token of that lvalue and
+-- by the token of the path's first name.
 abbrev pub beside_words : Resolution → Text → Text → List ℕ
 beside_words r lvalue lock = words_of r lock.from (lvalue.until - 1 - (lock.from - lvalue.from)) ++ text_at r lock.until
 
 abbrev pub lock_text_of : Resolution → PlaceMode → Text → Text → List ℕ
 lock_text_of r (LockedGlobal g place) lvalue lock = text_at r lock.until
-lock_text_of r (LockedThrough register place) lvalue lock = text_at r lock.until ++ (codes "->" ++ field_behind r (named_at r lock.until) place)
+lock_text_of r (LockedThrough register place) lvalue lock =
+    text_at r lock.until ++ (codes "->" ++ field_behind r (named_at r lock.until) place)
 lock_text_of r (LockedSibling field mutex) lvalue lock = beside_words r lvalue lock
 lock_text_of r LockedLoaded lvalue lock = codes "*" ++ beside_words r lvalue lock
 lock_text_of r _ lvalue lock = []

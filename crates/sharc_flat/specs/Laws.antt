@@ -17,18 +17,22 @@ pub record FitsFrames (flat : Flat) : Type 0 where
   pub few_ints : 256 * most_ints flat.functions < 2 ^ 32
   pub few_refs : 256 * most_refs flat.functions < 2 ^ 32
   pub apart : (g h place : ℕ) → IsInGlobal flat.globals g place → IsInGlobal flat.globals h place → g ≡ h
-  pub few_cells : (n i elements cells field : ℕ) (spot : Spot) → slice_get flat.lines n ≡ Some (op.GlobalBounds i elements cells field spot) → elements * cells + field < 2 ^ 63
+  pub few_cells : (n i elements cells field : ℕ) (spot : Spot)
+      → slice_get flat.lines n ≡ Some (op.GlobalBounds i elements cells field spot) → elements * cells + field < 2 ^ 63
 
 abbrev pub FlattenedIsFramed : Type 0
-FlattenedIsFramed = (m : Assignment) → ProgramSuits m → (flat : Flat) → IsFlattened m flat → FitsFrames flat → IsFlat flat × IsFramed flat
+FlattenedIsFramed = (m : Assignment) → ProgramSuits m
+    → (flat : Flat) → IsFlattened m flat → FitsFrames flat → IsFlat flat × IsFramed flat
 
 -- there is flat code of every program, whatever the places of its globals
 abbrev pub IsThereCode : Type 0
-IsThereCode = (m : Assignment) (globals : List GlobalCells) → (flat : Flat) × IsFlattened m flat × (flat.globals ≡ globals)
+IsThereCode = (m : Assignment) (globals : List GlobalCells)
+    → (flat : Flat) × IsFlattened m flat × (flat.globals ≡ globals)
 
 -- what is said of code whose texts are given holds of code with its texts where they lie
 abbrev pub LaidAsksTheSame : Type 0
-LaidAsksTheSame = (m : Assignment) (bytes : List ℕ) (names : List (List ℕ)) (told made : Flat) → Lays m.typed bytes names told made → AsksTheSame m told → AsksTheSame m made
+LaidAsksTheSame = (m : Assignment) (bytes : List ℕ) (names : List (List ℕ)) (told made : Flat)
+    → Lays m.typed bytes names told made → AsksTheSame m told → AsksTheSame m made
 
 -- what flattening makes asks for what the source asks for
 abbrev pub MadeAsksTheSame : Type 0
@@ -36,14 +40,17 @@ MadeAsksTheSame = (m : Assignment) → ProgramSuits m → (code : FlatCode) → 
 
 -- no place is one of two globals
 abbrev pub GlobalsLieApart : Type 0
-GlobalsLieApart = (r : Resolution) (g h place : ℕ) → IsInGlobal (globals_of r) g place → IsInGlobal (globals_of r) h place → g ≡ h
+GlobalsLieApart = (r : Resolution) (g h place : ℕ) → IsInGlobal (globals_of r) g place
+    → IsInGlobal (globals_of r) h place → g ≡ h
 
 -- what is asked of the sizes of what flattening makes
 pub record FitsMade (flat : Flat) : Type 0 where
   pub few_ints : 256 * most_ints flat.functions < 2 ^ 32
   pub few_refs : 256 * most_refs flat.functions < 2 ^ 32
-  pub few_cells : (n i elements cells field : ℕ) (spot : Spot) → slice_get flat.lines n ≡ Some (op.GlobalBounds i elements cells field spot) → elements * cells + field < 2 ^ 63
+  pub few_cells : (n i elements cells field : ℕ) (spot : Spot)
+      → slice_get flat.lines n ≡ Some (op.GlobalBounds i elements cells field spot) → elements * cells + field < 2 ^ 63
 
 -- it stays within its frames
 abbrev pub MadeIsFramed : Type 0
-MadeIsFramed = (m : Assignment) → ProgramSuits m → (code : FlatCode) → Flattens m code → FitsMade (flat_of code) → IsFlat (flat_of code) × IsFramed (flat_of code)
+MadeIsFramed = (m : Assignment) → ProgramSuits m
+    → (code : FlatCode) → Flattens m code → FitsMade (flat_of code) → IsFlat (flat_of code) × IsFramed (flat_of code)

@@ -1,7 +1,8 @@
--- What an lvalue names in flat code, and the accesses of what it names. The base of a cell of an object is in the first free reference register, and the number
--- of a cell that is found by an index in the first free integer register. Where the mutex of an element is read behind a pointer, the number of that pointer's cell
--- is in the next one.
-use Rattle.std.specs.Prelude.{ℕ, ◌+◌, Bool, true, false, ◌&&◌, ◌||◌, List, [], ◌∷◌, ◌++◌, Option, Some, None, if◌then◌else◌}
+-- What an lvalue names in flat code, and the accesses of what it names. The base of a cell of an object is in the first
+-- free reference register, and the number of a cell that is found by an index in the first free integer register. Where
+-- the mutex of an element is read behind a pointer, the number of that pointer's cell is in the next one.
+use Rattle.std.specs.Prelude.{ℕ, ◌+◌, Bool, true, false, ◌&&◌, ◌||◌, List, [], ◌∷◌, ◌++◌, Option, Some, None}
+use Rattle.std.specs.Prelude.{if◌then◌else◌}
 use Rattle.sharc_tree.specs.{declared.ctype.Base.Base, declared.token.Site.Site, declared.token.Span.Span}
 use Rattle.sharc_tree.specs.declared.tree.expression.Access.TheVariants.{Dot, Arrow}
 use Rattle.sharc_tree.specs.declared.tree.expression.Constant.{Constant}
@@ -13,7 +14,8 @@ use Rattle.sharc_names.specs.declared.fault.Named.{Named}
 use Rattle.sharc_names.specs.Kinds.{Kind, object, array, null, function, is_array, is_integer, element_kind}
 use Rattle.sharc_names.specs.declared.fault.Named.TheVariants as named
 use Rattle.sharc_code.specs.{declared.code.GlobalCells.GlobalCells, declared.code.PlaceMode.PlaceMode}
-use Rattle.sharc_code.specs.declared.code.PlaceMode.TheVariants.{Private, Readonly, Racy, Dynamic, LockedGlobal, LockedSibling, LockedThrough, LockedLoaded}
+use Rattle.sharc_code.specs.declared.code.PlaceMode.TheVariants.{Private, Readonly, Racy, Dynamic, LockedGlobal}
+use Rattle.sharc_code.specs.declared.code.PlaceMode.TheVariants.{LockedSibling, LockedThrough, LockedLoaded}
 use Rattle.sharc_code.specs.{declared.code.Text.Text, declared.code.Use.Use, declared.instr.Cell.Cell}
 use Rattle.sharc_code.specs.{declared.instr.Register.Register, declared.instr.Register.TheVariants.{Int, Reference}}
 use Rattle.sharc_code.specs.declared.instr.Width.{Width}
@@ -23,13 +25,15 @@ use Rattle.sharc_code.specs.declared.instr.Width.TheVariants as widths
 use Rattle.sharc_ctype.specs.Resolved.{Resolution, named_at, kind_at, global_at}
 use Rattle.sharc_mode.specs.Cells.{is_behind_pointer}
 use Rattle.sharc_mode.specs.Sharings.{Lock, Sharing, private, readonly, locked, racy, dynamic}
-use Rattle.sharc_meaning.specs.Cells.{field_place as place_of_field, field_place_named, field_place_behind, global_elements, element_cells}
+use Rattle.sharc_meaning.specs.Cells.{field_place as place_of_field, field_place_named, field_place_behind}
+use Rattle.sharc_meaning.specs.Cells.{global_elements, element_cells}
 use Rattle.sharc_flat_form.specs.{declared.op.Op.Op, declared.op.Spot.Spot, Machine.first_cell}
 use Rattle.sharc_flat_form.specs.declared.op.Op.TheVariants as op
 use Rattle.sharc_flat.specs.declared.slot.Lvalue.{Lvalue}
 use Rattle.sharc_flat.specs.Scope.{Context, register_of, number_in, no_text, tokens_in, no_cell, at_site, at_words}
 
--- what an lvalue names: a variable; a field of a global, or of an element of one; a field of the first element of an object, or of another one
+-- what an lvalue names: a variable; a field of a global, or of an element of one; a field of the first element of an
+-- object, or of another one
 pub data Target : Type 0 where
   variable : ℕ → Target
   in_global : ℕ → ℕ → Target
@@ -55,7 +59,9 @@ named_target _ f = variable 0
 abbrev pub target : Resolution → Option ℕ → Expression → Target
 target r f (identifier s i) = named_target (named_at r i.site.token) (own_field f 0)
 target r f (parentheses s a) = target r f a
-target r f (index s a i) = if is_array (kind_at r a) then in_global_at (global_of (target r None a)) (own_field f 0) else in_object_at (own_field f 0)
+target r f (index s a i) =
+    if is_array (kind_at r a) then in_global_at (global_of (target r None a)) (own_field f 0)
+    else in_object_at (own_field f 0)
 target r f (field s a Dot n) = target r (Some (own_field f (field_place_named r (named_at r n.site.token)))) a
 target r f (field s a Arrow n) = in_object (own_field f (field_place_named r (named_at r n.site.token)))
 target r f (unary s Dereference a) = in_object (own_field f 0)
@@ -129,11 +135,12 @@ is_number_token _ = false
 
 -- `x[c]`, with `x` a pointer variable or a global that is no pointer
 abbrev pub is_simple_element : Resolution → Expression → Bool
-is_simple_element r (index s a i) = (names_variable r a || (names_global r a && is_array (kind_at r a))) && is_number_token i
+is_simple_element r (index s a i) =
+    (names_variable r a || (names_global r a && is_array (kind_at r a))) && is_number_token i
 is_simple_element r _ = false
 
--- A simple place is a cell that is named by `x->f`, `*x`, `x[c]` or `x[c].f` with `x` a pointer variable and `c` a number, or by a global `g`, or by `g.f`, `g[c]` or
--- `g[c].f` with `g` a global that is no pointer.
+-- A simple place is a cell that is named by `x->f`, `*x`, `x[c]` or `x[c].f` with `x` a pointer variable and `c` a
+-- number, or by a global `g`, or by `g.f`, `g[c]` or `g[c].f` with `g` a global that is no pointer.
 abbrev pub is_simple_place : Resolution → Expression → Bool
 is_simple_place r (identifier s i) = is_global (named_at r i.site.token)
 is_simple_place r (index s a i) = is_simple_element r (index s a i)
@@ -149,7 +156,8 @@ bare_token e = (span_of e).first.token
 abbrev pub lvalue_of : Resolution → Expression → Lvalue
 lvalue_of r e = record { words = span_of e; bare = bare_token e; is_simple = is_simple_place r e }
 
--- Until it is laid out, the text of a lock is given by two tokens: that of the lvalue without the parentheses around it, and that of its first name.
+-- Until it is laid out, the text of a lock is given by two tokens: that of the lvalue without the parentheses around
+-- it, and that of its first name.
 abbrev pub lock_words : Lvalue → Sharing → Text
 lock_words lvalue (locked l) = record { from = lvalue.bare; until = l.first }
 lock_words lvalue _ = no_text
@@ -179,9 +187,11 @@ mode_beside is_pointer n mutex = if is_pointer then LockedLoaded else LockedSibl
 
 -- a path that names no mutex is one through NULL
 abbrev pub mode_named : Context → ℕ → Lock → Named → Option (List ℕ) → PlaceMode
-mode_named c n l (named.Field token) m = mode_beside (is_behind_pointer c.program.typed l) n (place_of_field c.program.typed token)
+mode_named c n l (named.Field token) m =
+    mode_beside (is_behind_pointer c.program.typed l) n (place_of_field c.program.typed token)
 mode_named c n l (named.Global g) m = LockedGlobal g (first_cell c.globals g)
-mode_named c n l (named.Variable x) (Some m) = LockedThrough (number_in (register_of c.scope x)) (field_place_behind c.program.typed x m)
+mode_named c n l (named.Variable x) (Some m) =
+    LockedThrough (number_in (register_of c.scope x)) (field_place_behind c.program.typed x m)
 mode_named c n l _ m = LockedLoaded
 
 -- of an access to this field of an element
@@ -194,7 +204,8 @@ place_mode c n dynamic = Dynamic
 
 abbrev pub object_mode_named : Context → Named → Option (List ℕ) → PlaceMode
 object_mode_named c (named.Global g) m = LockedGlobal g (first_cell c.globals g)
-object_mode_named c (named.Variable x) (Some m) = LockedThrough (number_in (register_of c.scope x)) (field_place_behind c.program.typed x m)
+object_mode_named c (named.Variable x) (Some m) =
+    LockedThrough (number_in (register_of c.scope x)) (field_place_behind c.program.typed x m)
 object_mode_named c _ m = LockedLoaded
 
 -- of an object that is made or given
@@ -227,7 +238,8 @@ spot_of c i r site lvalue use_made mode t = record {
 
 -- where an object is made or given
 abbrev pub object_spot : Context → Site → Text → Use → Sharing → Spot
-object_spot c site words use_made mode = record (at_site site) { lvalue = words; mode = object_mode c mode; at = use_made }
+object_spot c site words use_made mode =
+    record (at_site site) { lvalue = words; mode = object_mode c mode; at = use_made }
 
 -- ---- places
 abbrev pub bounds_code : (ℕ → ℕ → Op) → ℕ → ℕ → Option ℕ → List Op
@@ -235,11 +247,13 @@ bounds_code bounds i n None = bounds i n ∷ []
 bounds_code bounds i n (Some mutex) = op.Move (i + 1) i ∷ bounds i n ∷ bounds (i + 1) mutex ∷ []
 
 -- `a[i]`, by the code of `a` as an array and as a pointer, and that of `i` after them
-abbrev pub index_code : Context → ℕ → ℕ → Site → Option ℕ → Option ℕ → Expression → List Op → List Op → (ℕ → List Op) → List Op
+abbrev pub index_code : Context → ℕ → ℕ → Site → Option ℕ → Option ℕ → Expression → List Op → List Op → (ℕ → List Op)
+    → List Op
 index_code c i r site f guard a of_array of_pointer number =
     if is_array (kind_at c.program.typed a)
     then of_array ++ (number r ++ bounds_code
-    (λ i n. op.GlobalBounds i (global_elements (global_at c.program.typed (global_of (target c.program.typed None a)))) (element_cells c.program.typed (element_kind (kind_at c.program.typed a)))
+    (λ i n. op.GlobalBounds i (global_elements (global_at c.program.typed (global_of (target c.program.typed None a))))
+    (element_cells c.program.typed (element_kind (kind_at c.program.typed a)))
     (first_cell c.globals (global_of (target c.program.typed None a)) + n) (at_site site))
     i (own_field f 0) guard)
     else of_pointer ++ (op.ChkNull r (at_site site) ∷ (number (r + 1) ++ bounds_code
@@ -253,7 +267,8 @@ pointee_code r site pointer = pointer ++ op.ChkNull r (at_site site) ∷ []
 abbrev pub guard_code : Context → ℕ → ℕ → Site → Lvalue → Target → Option ℕ → List Op
 guard_code c i r site lvalue t None = []
 guard_code c i r site lvalue t (Some mutex) =
-    op.LoadGuard (guard_cell c.globals mutex i r t) (record (at_words site lvalue.words uses.Read) { mode = Readonly }) ∷ []
+    op.LoadGuard (guard_cell c.globals mutex i r t) (record (at_words site lvalue.words uses.Read) { mode = Readonly })
+    ∷ []
 
 abbrev pub drop_base : ℕ → Target → List Op
 drop_base r t = if has_base t then op.Pop r ∷ [] else []
@@ -270,7 +285,8 @@ abbrev pub cell_value_code : Context → ℕ → ℕ → Site → Lvalue → Sha
 cell_value_code c i r site lvalue mode is_ref t =
     guard_code c i r site lvalue t (guard_field c.program.typed mode)
     ++ (if is_ref
-    then op.LoadRef (r + base_width t) (cell_of c.globals i r t) (spot_of c i r site lvalue uses.Read mode t) ∷ settle_base r t
+    then op.LoadRef (r + base_width t) (cell_of c.globals i r t) (spot_of c i r site lvalue uses.Read mode t)
+    ∷ settle_base r t
     else op.Load i (cell_of c.globals i r t) (spot_of c i r site lvalue uses.Read mode t) ∷ drop_base r t)
 
 -- the value of what it names
@@ -302,10 +318,12 @@ take_use form _ = form None
 abbrev pub cell_take_code : Context → ℕ → ℕ → Site → Lvalue → Sharing → (Option ℕ → Use) → Target → List Op
 cell_take_code c i r site lvalue mode form t =
     guard_code c i r site lvalue t (guard_field c.program.typed mode)
-    ++ (op.TakeCell (r + base_width t) (cell_of c.globals i r t) (spot_of c i r site lvalue (form None) mode t) ∷ settle_base r t)
+    ++ (op.TakeCell (r + base_width t) (cell_of c.globals i r t)
+    (spot_of c i r site lvalue (form None) mode t) ∷ settle_base r t)
 
 abbrev pub take_code : Context → ℕ → ℕ → Site → Lvalue → Sharing → (Option ℕ → Use) → Target → List Op
-take_code c i r site lvalue mode form (variable x) = op.TakeLocal r (number_in (register_of c.scope x)) (spot_of c 0 0 site lvalue (form (Some x)) mode (variable x)) ∷ []
+take_code c i r site lvalue mode form (variable x) = op.TakeLocal r (number_in (register_of c.scope x))
+    (spot_of c 0 0 site lvalue (form (Some x)) mode (variable x)) ∷ []
 take_code c i r site lvalue mode form t = cell_take_code c i r site lvalue mode form t
 
 -- ---- widths and layouts

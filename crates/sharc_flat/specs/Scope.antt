@@ -1,5 +1,7 @@
--- Which registers hold the variables in scope: those of a frame are its first ones, in the order of their declarations, each in the bank of its type.
-use Rattle.std.specs.Prelude.{ℕ, ◌+◌, ◌==◌, Bool, false, List, [], ◌∷◌, ◌++◌, take, drop, Option, Some, None, if◌then◌else◌}
+-- Which registers hold the variables in scope: those of a frame are its first ones, in the order of their declarations,
+-- each in the bank of its type.
+use Rattle.std.specs.Prelude.{ℕ, ◌+◌, ◌==◌, Bool, false, List, [], ◌∷◌, ◌++◌, take, drop, Option, Some, None}
+use Rattle.std.specs.Prelude.{if◌then◌else◌}
 use Rattle.sharc_tree.specs.{declared.token.Site.Site, declared.token.Span.Span}
 use Rattle.sharc_tree.specs.declared.tree.declaration.Declaration.{Declaration}
 use Rattle.sharc_code.specs.{declared.code.PlaceMode.TheVariants.Racy, declared.code.GlobalCells.GlobalCells}
@@ -61,13 +63,22 @@ no_cell = Global 0 0
 
 -- a place of the source at which no cell is used
 abbrev pub at_site : Site → Spot
-at_site site = record { site = site; lvalue = no_text; lock_text = no_text; mode = Racy; at = Other; lock = no_cell; is_simple = false }
+at_site site = record {
+  site = site;
+  lvalue = no_text;
+  lock_text = no_text;
+  mode = Racy;
+  at = Other;
+  lock = no_cell;
+  is_simple = false;
+}
 
 -- the same, of an lvalue or an expression that is given with it
 abbrev pub at_words : Site → Span → Use → Spot
 at_words site words use_made = record (at_site site) { lvalue = tokens_in words; at = use_made }
 
--- at the end of a block its pointers are given up, in the order of their declarations: the first of them has this register
+-- at the end of a block its pointers are given up, in the order of their declarations: the first of them has this
+-- register
 abbrev pub pops : ℕ → List Slot → List Op
 pops r [] = []
 pops r (x ∷ rest) = if x.is_pointer then op.Pop r ∷ pops (r + 1) rest else pops r rest

@@ -1,6 +1,7 @@
 //! Laws of flattened code.
 
-ghost use Rattle.sharc_flat.specs.Laws.{FlattenedAsksTheSame, FlattenedIsFramed, GlobalsLieApart, IsThereCode, LaidAsksTheSame, MadeAsksTheSame, MadeIsFramed};
+ghost use Rattle.sharc_flat.specs.Laws.{FlattenedAsksTheSame, FlattenedIsFramed, GlobalsLieApart, IsThereCode};
+ghost use Rattle.sharc_flat.specs.Laws.{LaidAsksTheSame, MadeAsksTheSame, MadeIsFramed};
 
 use sharc_meaning::laws::ask_laws;
 

@@ -9,7 +9,8 @@ pub struct Slot {
     pub is_pointer: bool,
 }
 
-/// How an lvalue is written: its tokens, the first of them that is no parenthesis around it, and whether it is a simple place.
+/// How an lvalue is written: its tokens, the first of them that is no parenthesis around it, and whether it is a simple
+/// place.
 #[derive(Clone, Copy)]
 pub struct Lvalue {
     pub words: Span,

@@ -31,7 +31,8 @@ pub record IsInGlobal (globals : List GlobalCells) (g place : ℕ) : Type 0 wher
   pub low : 2 * (slice_index_or globals g no_global).granule ≤ place
   pub high : place < 2 * (slice_index_or globals g no_global).granule + (slice_index_or globals g no_global).cells
 
--- what an operation writes is in a frame of this many registers of each bank; so is what a call gives back, of either kind
+-- what an operation writes is in a frame of this many registers of each bank; so is what a call gives back, of either
+-- kind
 abbrev pub OpWrites : ℕ → ℕ → Op → Type 0
 OpWrites ints refs (op.Constant i v) = i < ints
 OpWrites ints refs (op.Move i from) = i < ints
@@ -81,13 +82,15 @@ pub record IsFramedAt (flat : Flat) (owner : ℕ → ℕ) (n : ℕ) (o : Op) : T
 pub record IsFramed (flat : Flat) : Type 0 where
   -- the function of each line
   pub owner : ℕ → ℕ
-  pub entries : (f : ℕ) → f < length flat.functions → InLine flat owner f (function_of flat f).entry × HasParameter (function_of flat f) (function_of flat f).parameter
+  pub entries : (f : ℕ) → f < length flat.functions → InLine flat owner f (function_of flat f).entry
+      × HasParameter (function_of flat f) (function_of flat f).parameter
   pub each : (n : ℕ) (o : Op) → slice_get flat.lines n ≡ Some o → IsFramedAt flat owner n o
   pub few_ints : 256 * most_ints flat.functions < 2 ^ 32
   pub few_refs : 256 * most_refs flat.functions < 2 ^ 32
   pub apart : (g h place : ℕ) → IsInGlobal flat.globals g place → IsInGlobal flat.globals h place → g ≡ h
 
--- ---- well-formed flat code: no line leads past the last one, nothing is computed in a `char`, and nothing settles in itself
+-- ---- well-formed flat code: no line leads past the last one, nothing is computed in a `char`, and nothing settles in
+-- itself
 abbrev pub IsWide : Width → Type 0
 IsWide Char = ⊥
 IsWide Int = Unit {0}

@@ -1,5 +1,7 @@
 -- What flat code does: what a turn leads to, and what a thread asks for by a list of answers.
-use Rattle.std.specs.Prelude.{ℕ, zero, suc, ℤ, pos, negsuc, ◌+◌, ◌-◌, ◌*◌, ◌==◌, Bool, true, false, not, List, [], ◌∷◌, ◌++◌, length, slice_get, slice_index_or, Option, Some, None, Result, Ok, Err, nat_lt, if◌then◌else◌}
+use Rattle.std.specs.Prelude.{ℕ, zero, suc, ℤ, pos, negsuc, ◌+◌, ◌-◌, ◌*◌, ◌==◌, Bool, true, false, not, List, [], ◌∷◌}
+use Rattle.std.specs.Prelude.{◌++◌, length, slice_get, slice_index_or, Option, Some, None, Result, Ok, Err, nat_lt}
+use Rattle.std.specs.Prelude.{if◌then◌else◌}
 use Rattle.sharc_tree.specs.{declared.event.Act.Act, declared.event.CellAt.CellAt, declared.event.CellMode.CellMode}
 use Rattle.sharc_tree.specs.{declared.event.SourceEvent.SourceEvent, declared.event.TakeKind.TakeKind}
 use Rattle.sharc_tree.specs.{declared.token.Site.Site, declared.trap.Trap.Trap}
@@ -11,7 +13,8 @@ use Rattle.sharc_tree.specs.declared.event.TakeKind.TheVariants as kinds
 use Rattle.sharc_tree.specs.declared.trap.Trap.TheVariants as traps
 use Rattle.sharc_code.specs.{declared.code.Function.Function, declared.code.GlobalCells.GlobalCells}
 use Rattle.sharc_code.specs.declared.code.PlaceMode.{PlaceMode}
-use Rattle.sharc_code.specs.declared.code.PlaceMode.TheVariants.{Private, Readonly, Racy, Dynamic, LockedGlobal, LockedSibling, LockedThrough, LockedLoaded}
+use Rattle.sharc_code.specs.declared.code.PlaceMode.TheVariants.{Private, Readonly, Racy, Dynamic, LockedGlobal}
+use Rattle.sharc_code.specs.declared.code.PlaceMode.TheVariants.{LockedSibling, LockedThrough, LockedLoaded}
 use Rattle.sharc_code.specs.{declared.code.Parameter.Parameter, declared.code.Use.Use, declared.instr.Cell.Cell}
 use Rattle.sharc_code.specs.declared.instr.Register.{Register}
 use Rattle.sharc_code.specs.{Arithmetic.{word_of, computed, negated, complement, holds, truth}, Says.no_global}
@@ -41,8 +44,9 @@ pub record Caller : Type 0 where
   pub ints : ℕ
   pub refs : ℕ
 
--- A thread between two turns: its place, the frame's first registers, the thread's two banks, the callers, the pointer to a mutex that was read last, its function,
--- its events so far, and what it gave up since the last one. A reference is the source's: an object's number with its elements.
+-- A thread between two turns: its place, the frame's first registers, the thread's two banks, the callers, the pointer
+-- to a mutex that was read last, its function, its events so far, and what it gave up since the last one. A reference
+-- is the source's: an object's number with its elements.
 pub record At : Type 0 where
   pub pc : ℕ
   pub int_base : ℕ
@@ -55,7 +59,8 @@ pub record At : Type 0 where
   pub events : List SourceEvent
   pub given : List GivenUp
 
--- A turn goes on, or asks for an event, at this place with what the named local holds, and goes on with the answer from where the event has come, or it is the end.
+-- A turn goes on, or asks for an event, at this place with what the named local holds, and goes on with the answer from
+-- where the event has come, or it is the end.
 pub data Turn : Type 0 where
   goes : At → Turn
   asks : At → Site → Act → ℤ → (ℤ → At → At) → Turn
@@ -159,7 +164,8 @@ mode_of globals m c Readonly = modes.Readonly
 mode_of globals m c Racy = modes.Racy
 mode_of globals m c Dynamic = modes.Dynamic
 mode_of globals m c (LockedGlobal g place) = modes.Locked (Some (global_cell globals g place))
-mode_of globals m c (LockedSibling field mutex) = modes.Locked (Some record { object = c.object; cell = c.cell - field + mutex })
+mode_of globals m c (LockedSibling field mutex) =
+    modes.Locked (Some record { object = c.object; cell = c.cell - field + mutex })
 mode_of globals m c (LockedThrough r place) = modes.Locked (through (ref m r) place)
 mode_of globals m c LockedLoaded = modes.Locked (through m.pending 0)
 
@@ -175,7 +181,8 @@ accessed m = record m { pending = pos 0 }
 abbrev pub accesses : List GlobalCells → Cell → Spot → (CellAt → CellMode → Act) → (CellAt → ℤ → At → At) → At → Turn
 accesses globals cell spot act then_ m =
     if lock_is_null m spot spot.mode then stops traps.NullPointer spot
-    else asks m spot.site (act (cell_at globals m cell) (mode_of globals m (cell_at globals m cell) spot.mode)) (pos 0) (λ v n. accessed (next (then_ (cell_at globals m cell) v n)))
+    else asks m spot.site (act (cell_at globals m cell) (mode_of globals m (cell_at globals m cell) spot.mode)) (pos 0)
+    (λ v n. accessed (next (then_ (cell_at globals m cell) v n)))
 
 -- what asks for an event of no cell's access
 abbrev pub event : Spot → Act → (ℤ → At → At) → At → Turn
@@ -183,7 +190,8 @@ event spot act then_ m = asks m spot.site act (pos 0) (λ v n. next (then_ v n))
 
 -- ---- indexes
 abbrev pub indexed : ℕ → ℕ → ℕ → ℤ → ℕ → Spot → At → Turn
-indexed i cells field (pos n) elements spot m = if nat_lt n elements then goes_on (set_int i (pos (n * cells + field)) m) else stops traps.IndexOutOfBounds spot
+indexed i cells field (pos n) elements spot m =
+    if nat_lt n elements then goes_on (set_int i (pos (n * cells + field)) m) else stops traps.IndexOutOfBounds spot
 indexed i cells field (negsuc n) elements spot m = stops traps.IndexOutOfBounds spot
 
 -- ---- what is taken
@@ -202,7 +210,8 @@ variable_of _ = 0
 -- NULL asks for nothing
 abbrev pub takes_local : ℕ → ℕ → Spot → At → Bool → Turn
 takes_local r x spot m true = goes_on (moved r x m)
-takes_local r x spot m false = asks m spot.site (acts.Take (taken.Local (variable_of spot.at)) (kind_of spot.at)) (ref m x) (λ v n. next (moved r x n))
+takes_local r x spot m false = asks m spot.site (acts.Take (taken.Local (variable_of spot.at)) (kind_of spot.at))
+    (ref m x) (λ v n. next (moved r x n))
 
 -- ---- calls
 abbrev pub function_of : Flat → ℕ → Function
@@ -218,7 +227,9 @@ called flat f ints refs m = record m {
 
 -- Back to the caller. A thread that holds no mutex goes past the last line: there it returns, and is then gone.
 abbrev pub returned : Flat → List Caller → Spot → At → Turn
-returned flat [] spot m = if not (nat_lt 0 (length (held_mutexes m.events))) then goes (record m { pc = length flat.lines }) else stops traps.ReturnWithLockHeld spot
+returned flat [] spot m =
+    if not (nat_lt 0 (length (held_mutexes m.events))) then goes (record m { pc = length flat.lines })
+    else stops traps.ReturnWithLockHeld spot
 returned flat (c ∷ rest) spot m = goes (record m { pc = c.pc; int_base = c.ints; ref_base = c.refs; frames = rest })
 
 -- ---- threads
@@ -245,7 +256,8 @@ op_turn flat (op.Skip n) m = goes (over_lines n m)
 op_turn flat (op.SkipIfZero i n) m = goes (if is_zero (int m i) then over_lines n m else next m)
 op_turn flat (op.SkipIfNull r n) m = goes (if is_null (ref m r) then over_lines n m else next m)
 op_turn flat (op.Jump to) m = goes (record m { pc = to })
-op_turn flat (op.Call f ints refs spot) m = if nat_lt (length m.frames) 255 then goes (called flat f ints refs m) else stops traps.CallDepth spot
+op_turn flat (op.Call f ints refs spot) m =
+    if nat_lt (length m.frames) 255 then goes (called flat f ints refs m) else stops traps.CallDepth spot
 op_turn flat (op.Return spot) m = returned flat m.frames spot m
 op_turn flat op.BlockEnd m = goes_on m
 op_turn flat (op.Null r) m = goes_on (set_ref r (pos 0) m)
@@ -255,28 +267,39 @@ op_turn flat (op.Pop r) m = goes_on (popped r m)
 op_turn flat (op.Settle x from) m = goes_on (settled x from m)
 op_turn flat (op.ChkNull r spot) m = asserts (not (is_null (ref m r))) traps.NullPointer spot m
 op_turn flat (op.ChkPositive i spot) m = asserts (is_positive (int m i)) traps.SizeNotPositive spot m
-op_turn flat (op.ChkHeld cell spot) m = asserts (holds_mutex m.events (cell_at flat.globals m cell)) traps.MutexNotHeld spot m
-op_turn flat (op.ChkNotHeld cell spot) m = asserts (not (holds_mutex m.events (cell_at flat.globals m cell))) traps.MutexAlreadyHeld spot m
+op_turn flat (op.ChkHeld cell spot) m =
+    asserts (holds_mutex m.events (cell_at flat.globals m cell)) traps.MutexNotHeld spot m
+op_turn flat (op.ChkNotHeld cell spot) m =
+    asserts (not (holds_mutex m.events (cell_at flat.globals m cell))) traps.MutexAlreadyHeld spot m
 op_turn flat (op.ChkRoom spot) m = asserts (nat_lt (length (held_mutexes m.events)) 16) traps.TooManyLocks spot m
 op_turn flat (op.Bounds i r cells field spot) m = indexed i cells field (int m i) (elements_of (ref m r)) spot m
 op_turn flat (op.GlobalBounds i elements cells field spot) m = indexed i cells field (int m i) elements spot m
 op_turn flat (op.Load i cell spot) m = accesses flat.globals cell spot acts.Read (λ c v. set_int i v) m
-op_turn flat (op.Store i cell spot) m = accesses flat.globals cell spot (λ c mode. acts.Write c mode (int m i)) (λ c v n. n) m
+op_turn flat (op.Store i cell spot) m =
+    accesses flat.globals cell spot (λ c mode. acts.Write c mode (int m i)) (λ c v n. n) m
 op_turn flat (op.LoadRef r cell spot) m = accesses flat.globals cell spot acts.Read (λ c v. set_ref r v) m
-op_turn flat (op.StoreRef r cell spot) m = accesses flat.globals cell spot (λ c mode. acts.Write c mode (ref m r)) (λ c v n. gives_up (Replaced c) (set_ref r (pos 0) n)) m
-op_turn flat (op.LoadGuard cell spot) m = event spot (acts.Read (cell_at flat.globals m cell) modes.Readonly) (λ v n. record n { pending = v }) m
-op_turn flat (op.New r count cells spot) m = event spot (acts.New cells (elements_made (int m count)) (instance_mode flat.globals m spot.mode)) (set_ref r) m
-op_turn flat (op.TakeCell r cell spot) m = accesses flat.globals cell spot (λ c mode. acts.Take (taken.Cell c mode) (kind_of spot.at)) (λ c v. set_ref r v) m
+op_turn flat (op.StoreRef r cell spot) m = accesses flat.globals cell spot (λ c mode. acts.Write c mode (ref m r))
+    (λ c v n. gives_up (Replaced c) (set_ref r (pos 0) n)) m
+op_turn flat (op.LoadGuard cell spot) m =
+    event spot (acts.Read (cell_at flat.globals m cell) modes.Readonly) (λ v n. record n { pending = v }) m
+op_turn flat (op.New r count cells spot) m =
+    event spot (acts.New cells (elements_made (int m count)) (instance_mode flat.globals m spot.mode)) (set_ref r) m
+op_turn flat (op.TakeCell r cell spot) m =
+    accesses flat.globals cell spot (λ c mode. acts.Take (taken.Cell c mode) (kind_of spot.at)) (λ c v. set_ref r v) m
 op_turn flat (op.TakeLocal r x spot) m = takes_local r x spot m (is_null (ref m x))
-op_turn flat (op.Give r cells spot) m = event spot (acts.Give (ref m r) (instance_mode flat.globals m spot.mode)) (λ v n. n) m
-op_turn flat (op.Free r layout spot) m = event spot (acts.Freed (ref m r)) (λ v. set_ref r (pos 0)) (gives_up (Emptied (number_of (ref m r))) m)
+op_turn flat (op.Give r cells spot) m =
+    event spot (acts.Give (ref m r) (instance_mode flat.globals m spot.mode)) (λ v n. n) m
+op_turn flat (op.Free r layout spot) m =
+    event spot (acts.Freed (ref m r)) (λ v. set_ref r (pos 0)) (gives_up (Emptied (number_of (ref m r))) m)
 op_turn flat (op.Lock cell spot) m = event spot (acts.Lock (cell_at flat.globals m cell)) (λ v. without_base cell) m
-op_turn flat (op.Unlock r cell spot) m = event spot (acts.Unlock (cell_at flat.globals m cell)) (λ v n. set_ref r (base_of n cell) n) m
+op_turn flat (op.Unlock r cell spot) m =
+    event spot (acts.Unlock (cell_at flat.globals m cell)) (λ v n. set_ref r (base_of n cell) n) m
 op_turn flat (op.CondEnter cell spot) m = event spot (acts.Enter (cell_at flat.globals m cell)) (λ v n. n) m
 op_turn flat (op.CondWait cell spot) m = event spot (acts.Woken (cell_at flat.globals m cell)) (λ v n. n) m
 op_turn flat (op.CondSignal cell spot) m = event spot (acts.Signal (cell_at flat.globals m cell)) (λ v n. n) m
 op_turn flat (op.CondBroadcast cell spot) m = event spot (acts.Broadcast (cell_at flat.globals m cell)) (λ v n. n) m
-op_turn flat (op.Spawn i f from spot) m = event spot (acts.Spawn f (argument m from)) (λ v n. set_int i v (handed from n)) m
+op_turn flat (op.Spawn i f from spot) m =
+    event spot (acts.Spawn f (argument m from)) (λ v n. set_int i v (handed from n)) m
 op_turn flat (op.Join i spot) m = event spot (acts.Join (int m i)) (λ v n. n) m
 op_turn flat (op.Print i spot) m = event spot (acts.Print (int m i)) (λ v n. n) m
 

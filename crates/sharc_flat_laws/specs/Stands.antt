@@ -1,12 +1,15 @@
--- What holds where an expression is: the variables that it names and those of the lock paths that it uses are in the flat scope.
+-- What holds where an expression is: the variables that it names and those of the lock paths that it uses are in the
+-- flat scope.
 use Rattle.std.specs.{Prelude.{◌≡◌, ℕ, false, true, List, Option, Some, None}, List.AllByRecursion}
 use Rattle.sharc_tree.specs.{declared.tree.declaration.Declaration.Declaration, Low.IsLow, Placed.IsPlaced}
-use Rattle.sharc_tree.specs.Tree.{Expression, identifier, First, nothing, declares, does, Statement, Statements, no_statements, statement}
+use Rattle.sharc_tree.specs.Tree.{Expression, identifier, First, nothing, declares, does, Statement, Statements}
+use Rattle.sharc_tree.specs.Tree.{no_statements, statement}
 use Rattle.sharc_tree.specs.Tree as tree
 use Rattle.sharc_names.specs.{declared.fault.Named.Named, Kinds.is_pointer, Names.Entry}
 use Rattle.sharc_names.specs.declared.fault.Named.TheVariants as named
 use Rattle.sharc_ctype.specs.Items.{file_scope, in_body}
-use Rattle.sharc_ctype.specs.Resolved.{Resolution, IsResolved, functions_in, declaration_at, global_at, kind_at, named_at, variable_kind}
+use Rattle.sharc_ctype.specs.Resolved.{Resolution, IsResolved, functions_in, declaration_at, global_at, kind_at}
+use Rattle.sharc_ctype.specs.Resolved.{named_at, variable_kind}
 use Rattle.sharc_ctype.specs.Statements.{Around, is_aggregate, opened, looping, declared, behind_first, after}
 use Rattle.sharc_ctype.specs.{declared.entity.Entity.Entity, Entities.entities_in}
 use Rattle.sharc_mode.specs.{Cells.{cell_at, global_cell, pointed}, Flows.IsLeastAssignment, WellModed.WellModed}
@@ -24,7 +27,8 @@ pub record IsHere (c : Context) (token : ℕ) : Type 0 where
   pub held : is_aggregate (variable_kind (declaration_at c.program.typed token)) ≡ false
 
 abbrev pub NameStands : Context → Expression → Type 0
-NameStands c (identifier s i) = (token : ℕ) → named_at c.program.typed i.site.token ≡ named.Variable token → IsHere c token
+NameStands c (identifier s i) = (token : ℕ) → named_at c.program.typed i.site.token ≡ named.Variable token
+    → IsHere c token
 NameStands c _ = Unit {0}
 
 pub record AtPlace (c : Context) (e : Expression) : Type 0 where
@@ -40,7 +44,8 @@ GlobalsUnguarded m = (g : ℕ) → guard_field m.typed (global_cell m (global_at
 -- ---- what is asked of lock paths: the variable that such a path names is a pointer in scope where the mode is used
 
 abbrev pub PathNamedIn : Resolution → List Entry → Named → Option (List ℕ) → Type 0
-PathNamedIn r names (named.Variable x) (Some m) = IsVariableIn names x × (is_pointer (variable_kind (declaration_at r x)) ≡ true)
+PathNamedIn r names (named.Variable x) (Some m) =
+    IsVariableIn names x × (is_pointer (variable_kind (declaration_at r x)) ≡ true)
 PathNamedIn r names _ m = Unit {0}
 
 abbrev pub PathIn : Resolution → List Entry → Sharing → Type 0
@@ -70,33 +75,42 @@ abbrev mutual
   LocalLocks m around names (tree.jump s j) = Unit {0}
   LocalLocks m around names (tree.return s e) = Unit {0}
   LocalLocks m around names (tree.if_then s e a) = LocalLocks m (opened around names) names a
-  LocalLocks m around names (tree.if_then_else s e a b) = LocalLocks m (opened around names) names a × LocalLocks m (opened around names) names b
+  LocalLocks m around names (tree.if_then_else s e a b) =
+      LocalLocks m (opened around names) names a × LocalLocks m (opened around names) names b
   LocalLocks m around names (tree.while s e a) = LocalLocks m (looping (opened around names)) names a
   LocalLocks m around names (tree.for s h a) = FirstLocks m (opened around names) names h.first
-      × LocalLocks m (looping (opened around (behind_first (opened around names) names h.first))) (behind_first (opened around names) names h.first) a
+      × LocalLocks m (looping (opened around (behind_first (opened around names) names h.first)))
+      (behind_first (opened around names) names h.first) a
 
   pub AllLocalLocks : Assignment → Around → List Entry → Statements → Type 0
   AllLocalLocks m around names no_statements = Unit {0}
-  AllLocalLocks m around names (statement a rest) = LocalLocks m around names a × AllLocalLocks m around (after around names a) rest
+  AllLocalLocks m around names (statement a rest) =
+      LocalLocks m around names a × AllLocalLocks m around (after around names a) rest
 
 pub record LocksFound (m : Assignment) : Type 0 where
-  pub places : AllByRecursion (LocksAt m) (places_of_all (file_scope m.typed.program.items) (functions_in m.typed.program.items))
-  pub locals : AllByRecursion (λ f. AllLocalLocks m (around_in (file_scope m.typed.program.items) f) (in_body (file_scope m.typed.program.items) f).names f.statements) (functions_in m.typed.program.items)
+  pub places :
+      AllByRecursion (LocksAt m) (places_of_all (file_scope m.typed.program.items) (functions_in m.typed.program.items))
+  pub locals : AllByRecursion (λ f. AllLocalLocks m (around_in (file_scope m.typed.program.items) f)
+      (in_body (file_scope m.typed.program.items) f).names f.statements) (functions_in m.typed.program.items)
 
 -- In a typed program with its least assignment they are.
 abbrev pub LocksAreFound : Type 0
-LocksAreFound = (m : Assignment) → IsResolved m.typed → IsPlaced m.typed.program → IsLow m.typed.program → IsLeastAssignment m → LocksFound m
+LocksAreFound = (m : Assignment) → IsResolved m.typed → IsPlaced m.typed.program → IsLow m.typed.program
+    → IsLeastAssignment m → LocksFound m
 
 -- A typed, well-moded program suits flat code.
 abbrev pub TypedSuits : Type 0
-TypedSuits = (m : Assignment) → IsResolved m.typed → IsPlaced m.typed.program → IsLow m.typed.program → IsLeastAssignment m → WellModed m → ProgramSuits m
+TypedSuits = (m : Assignment) → IsResolved m.typed → IsPlaced m.typed.program → IsLow m.typed.program
+    → IsLeastAssignment m → WellModed m → ProgramSuits m
 
 -- So what flattening makes of it asks for what it asks for, and stays within its frames.
 abbrev pub TypedAsksTheSame : Type 0
-TypedAsksTheSame = (m : Assignment) → IsResolved m.typed → IsPlaced m.typed.program → IsLow m.typed.program → IsLeastAssignment m → WellModed m → (code : FlatCode) → Flattens m code → AsksTheSame m (flat_of code)
+TypedAsksTheSame = (m : Assignment) → IsResolved m.typed → IsPlaced m.typed.program → IsLow m.typed.program
+    → IsLeastAssignment m → WellModed m → (code : FlatCode) → Flattens m code → AsksTheSame m (flat_of code)
 
 abbrev pub TypedIsFramed : Type 0
-TypedIsFramed = (m : Assignment) → IsResolved m.typed → IsPlaced m.typed.program → IsLow m.typed.program → IsLeastAssignment m → WellModed m
+TypedIsFramed = (m : Assignment) → IsResolved m.typed → IsPlaced m.typed.program → IsLow m.typed.program
+    → IsLeastAssignment m → WellModed m
     → (code : FlatCode) → Flattens m code → FitsMade (flat_of code) → IsFlat (flat_of code) × IsFramed (flat_of code)
 
 -- the lock paths of a type are of the allowed forms, as those of a well-moded program are (M4)
@@ -105,4 +119,5 @@ IsFit r e = first_unfit_path r (place_of e.role) e.written.ctype.base e.written.
 
 -- In a program whose paths are, no global is locked behind a sibling pointer.
 abbrev pub FitAreUnguarded : Type 0
-FitAreUnguarded = (m : Assignment) → IsLeastAssignment m → AllByRecursion (IsFit m.typed) (entities_in m.typed.program.items) → GlobalsUnguarded m
+FitAreUnguarded = (m : Assignment) → IsLeastAssignment m
+    → AllByRecursion (IsFit m.typed) (entities_in m.typed.program.items) → GlobalsUnguarded m

@@ -18,7 +18,9 @@ abbrev pub IsSpawned : Resolution → ℕ → Type 0
 IsSpawned r function = (f : ℕ) × Spawns r f function
 
 abbrev pub MadeSpawns : Type 0
-MadeSpawns = (m : Assignment) → IsResolved m.typed → IsPlaced m.typed.program → IsLow m.typed.program → (code : FlatCode) → Flattens m code → AllByRecursion (SpawnMeets (IsSpawned m.typed)) code.lines.items
+MadeSpawns = (m : Assignment) → IsResolved m.typed → IsPlaced m.typed.program → IsLow m.typed.program
+    → (code : FlatCode) → Flattens m code → AllByRecursion (SpawnMeets (IsSpawned m.typed)) code.lines.items
 
 abbrev pub MadeTablesFit : Type 0
-MadeTablesFit = (m : Assignment) → IsResolved m.typed → IsPlaced m.typed.program → IsLow m.typed.program → (code : FlatCode) → Flattens m code → FlatTablesFit code
+MadeTablesFit = (m : Assignment) → IsResolved m.typed → IsPlaced m.typed.program → IsLow m.typed.program
+    → (code : FlatCode) → Flattens m code → FlatTablesFit code

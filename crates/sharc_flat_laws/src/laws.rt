@@ -1,6 +1,7 @@
 // The laws, each the contract of a function that does nothing.
 
-ghost use Rattle.sharc_flat_laws.specs.Stands.{FitAreUnguarded, LocksAreFound, TypedAsksTheSame, TypedIsFramed, TypedSuits};
+ghost use Rattle.sharc_flat_laws.specs.Stands.{FitAreUnguarded, LocksAreFound, TypedAsksTheSame, TypedIsFramed};
+ghost use Rattle.sharc_flat_laws.specs.Stands.{TypedSuits};
 ghost use Rattle.sharc_flat_laws.specs.Tables.{MadeSpawns, MadeTablesFit};
 
 use sharc_ctype_laws::laws::{
@@ -58,8 +59,8 @@ pub fn made_spawns()
     spawns_name_functions();
 }
 
-/// Its tables are in their ranges: its functions are few, `main` and what it spawns are among them, its globals lie one after the other within
-/// their granules, and what they hold at first are words.
+/// Its tables are in their ranges: its functions are few, `main` and what it spawns are among them, its globals lie one
+/// after the other within their granules, and what they hold at first are words.
 pub fn made_tables_fit()
     ensures { MadeTablesFit }
 {

@@ -28,7 +28,8 @@ HasCells structs rows = (name : List ℕ) → cells_at rows name ≡ struct_cell
 
 -- the layout of the first of these structs has this number
 abbrev pub HasLayouts : ℕ → ℕ → List StructDefinition → Rows → Type 0
-HasLayouts first otherwise structs rows = (name : List ℕ) → layout_at otherwise rows name ≡ struct_layout first structs name
+HasLayouts first otherwise structs rows = (name : List ℕ)
+    → layout_at otherwise rows name ≡ struct_layout first structs name
 
 -- one struct more, in place of any other of its name
 abbrev pub HasRow : List ℕ → StructRow → Rows → Rows → Type 0
@@ -46,4 +47,5 @@ HasFields structs places = (token : ℕ) → place_found places token ≡ field_
 
 -- the places of a struct's fields, in place of any others of their tokens
 abbrev pub HasPlaces : List Declaration → Places → Places → Type 0
-HasPlaces fields old new = (token : ℕ) → place_found new token ≡ unwrap_or (place_in fields token) (place_found old token)
+HasPlaces fields old new = (token : ℕ)
+    → place_found new token ≡ unwrap_or (place_in fields token) (place_found old token)

@@ -9,7 +9,8 @@ use Rattle.sharc_flat_walk.specs.{declared.places.Bound.Bound, declared.places.T
 use Rattle.sharc_flat_walk.specs.{declared.registers.Bank.Bank, declared.registers.Bank.TheVariants.{Int, Reference}}
 use Rattle.sharc_flat_walk.specs.{declared.places.Taking.TheVariants.{Cast, Free}, declared.source.Source.Source}
 use Rattle.sharc_flat_walk.specs.declared.target.Target.{Target as RustTarget}
-use Rattle.sharc_flat_walk.specs.declared.target.Target.TheVariants.{Variable, InGlobal, InGlobalAt, InObject, InObjectAt}
+use Rattle.sharc_flat_walk.specs.declared.target.Target.TheVariants.{Variable, InGlobal, InGlobalAt, InObject}
+use Rattle.sharc_flat_walk.specs.declared.target.Target.TheVariants.{InObjectAt}
 use Rattle.sharc_tree.specs.{Spans.span_of, declared.token.Site.Site}
 use Rattle.sharc_tree.specs.declared.tree.expression.BinaryOperator.{BinaryOperator}
 use Rattle.sharc_tree.specs.declared.tree.expression.BinaryOperator.TheVariants.{LogicalAnd, LogicalOr}
@@ -67,7 +68,8 @@ decided_code i more b = op.SkipIfZero i (length b + more) ∷ (b ++ (op.IsFalse 
 -- ---- `a[i]`, by its parts: what is indexed, the first reference register for the index, and how the index becomes
 -- the number of a cell
 abbrev pub indexed_code : Context → ℕ → Site → tree.Expression → List Op → List Op → List Op
-indexed_code c r site a of_array of_pointer = if is_array (kind_at c.program.typed a) then of_array else of_pointer ++ op.ChkNull r (at_site site) ∷ []
+indexed_code c r site a of_array of_pointer =
+    if is_array (kind_at c.program.typed a) then of_array else of_pointer ++ op.ChkNull r (at_site site) ∷ []
 
 abbrev pub index_register : Context → ℕ → tree.Expression → ℕ
 index_register c r a = if is_array (kind_at c.program.typed a) then r else r + 1
@@ -76,7 +78,8 @@ abbrev pub element_code : Context → ℕ → ℕ → Site → Option ℕ → Op
 element_code c i r site f guard a =
     if is_array (kind_at c.program.typed a)
     then bounds_code
-    (λ i n. op.GlobalBounds i (global_elements (global_at c.program.typed (global_of (target c.program.typed None a)))) (element_cells c.program.typed (element_kind (kind_at c.program.typed a)))
+    (λ i n. op.GlobalBounds i (global_elements (global_at c.program.typed (global_of (target c.program.typed None a))))
+    (element_cells c.program.typed (element_kind (kind_at c.program.typed a)))
     (first_cell c.globals (global_of (target c.program.typed None a)) + n) (at_site site))
     i (own_field f 0) guard
     else bounds_code
@@ -112,7 +115,13 @@ outermost outer marks = reverse (take outer marks)
 
 -- the surroundings of a statement
 abbrev pub around_of : RustAround → List ℕ → Around
-around_of a marks = record { result = view_kind a.result; broken = a.broken; continued = a.continued; inside = innermost a.outer marks; outside = outermost a.outer marks }
+around_of a marks = record {
+  result = view_kind a.result;
+  broken = a.broken;
+  continued = a.continued;
+  inside = innermost a.outer marks;
+  outside = outermost a.outer marks;
+}
 
 abbrev pub own_access : Site → SpotAccess
 own_access site = record {
@@ -131,17 +140,21 @@ simple_at c x = simple_code c (ints_of c) (refs_of c) x
 
 -- a block at this place, after its Enter
 abbrev pub block_code : Context → Around → ℕ → tree.Statements → List Op
-block_code c a pc all = (statements_code c (opened c a) pc all ++ ends_from (behind_statements c all).scope (length c.scope)) ++ op.BlockEnd ∷ []
+block_code c a pc all =
+    (statements_code c (opened c a) pc all ++ ends_from (behind_statements c all).scope (length c.scope)) ++ op.BlockEnd
+    ∷ []
 
 abbrev pub if_in : Context → Around → ℕ → tree.Expression → tree.Statement → List Op
 if_in c a pc e x = if_code pc (turn_code c (Some e)) (λ at. statement_code c a at x)
 
 abbrev pub loop_in : Context → Around → ℕ → Option tree.Expression → Option tree.Simple → tree.Statement → List Op
-loop_in c a pc test step x = loop_code pc (step_code c step) (turn_code c test) (λ at. statement_code c (looping a (pc + 1) (pc + 2)) at x)
+loop_in c a pc test step x =
+    loop_code pc (step_code c step) (turn_code c test) (λ at. statement_code c (looping a (pc + 1) (pc + 2)) at x)
 
 abbrev pub for_in : Context → Around → ℕ → tree.Head → tree.Statement → List Op
 for_in c a pc h x = (first_code c h.first
-    ++ loop_in (behind_first c h.first) (opened c a) (pc + length (first_code c h.first)) h.test h.step x) ++ ends_from (behind_first c h.first).scope (length c.scope)
+    ++ loop_in (behind_first c h.first) (opened c a) (pc + length (first_code c h.first)) h.test h.step x)
+    ++ ends_from (behind_first c h.first).scope (length c.scope)
 
 -- the last of this many lines leads over a turn, where a test is written
 abbrev pub hole_at : Context → ℕ → Hole

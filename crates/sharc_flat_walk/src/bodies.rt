@@ -1,11 +1,15 @@
 // The operations of statements.
 
 ghost use Rattle.std.specs.Prelude.{◌≡◌, ◌+◌, ◌++◌, ◌≤◌, [], ◌∷◌, length, None, Some, IfOk, OnOk, vec_len, option_map};
-ghost use Rattle.sharc_tree.specs.View.{view_expr, view_option, view_right, view_simple, view_local, view_first, view_stmt, view_statements};
+ghost use Rattle.sharc_tree.specs.View.{view_expr, view_option, view_right, view_simple, view_local, view_first};
+ghost use Rattle.sharc_tree.specs.View.{view_stmt, view_statements};
 ghost use Rattle.sharc_names.specs.View.{view_kind};
 ghost use Rattle.sharc_mode.specs.View.{view_sharing};
 ghost use Rattle.sharc_flat.specs.Scope.{slot_of};
-ghost use Rattle.sharc_flat.specs.Flattened.{elements_code, right_code, simple_code, initial_code, local_code, first_code, behind_first, step_code, test_code, turn_code, jump_code, result_code, return_code, loop_code, statement_code, statements_code, behind_statement, behind_statements};
+ghost use Rattle.sharc_flat.specs.Flattened.{elements_code, right_code, simple_code, initial_code, local_code};
+ghost use Rattle.sharc_flat.specs.Flattened.{first_code, behind_first, step_code, test_code, turn_code, jump_code};
+ghost use Rattle.sharc_flat.specs.Flattened.{result_code, return_code, loop_code, statement_code, statements_code};
+ghost use Rattle.sharc_flat.specs.Flattened.{behind_statement, behind_statements};
 ghost use Rattle.sharc_tree.specs.View.{view_head};
 ghost use Rattle.std.specs.Option.{ForSome};
 ghost use Rattle.std.specs.Prelude.{◌<◌, ◌-◌, slice_set};
@@ -52,7 +56,8 @@ fn elements(
     count: &Option<Expr>,
     lines: &mut Vec<Op>,
 ) -> Result<(), AllocError>
-    ensures { OnOk result (lines.new.items ≡ lines.old.items ++ elements_code (context source.now scope.now) at.int at.reference (view_option view_expr count.now)) }
+    ensures { OnOk result (lines.new.items ≡ lines.old.items
+        ++ elements_code (context source.now scope.now) at.int at.reference (view_option view_expr count.now)) }
 {
     match count {
         None => emit(Op::Constant(at.int, 1), lines),
@@ -70,7 +75,8 @@ fn right(
     right: &Right,
     lines: &mut Vec<Op>,
 ) -> Result<(), AllocError>
-    ensures { OnOk result (lines.new.items ≡ lines.old.items ++ right_code (context source.now scope.now) at.int at.reference (view_kind kind.entry) (view_sharing mode.entry) (view_right right.now)) }
+    ensures { OnOk result (lines.new.items ≡ lines.old.items ++ right_code (context source.now scope.now) at.int
+        at.reference (view_kind kind.entry) (view_sharing mode.entry) (view_right right.now)) }
 {
     match right {
         Right::Value(expr) => {
@@ -96,7 +102,8 @@ fn assign(
     value: &Right,
     lines: &mut Vec<Op>,
 ) -> Result<(), AllocError>
-    ensures { OnOk result (lines.new.items ≡ lines.old.items ++ assign_code (context source.now scope.now) at.int at.reference (view_expr to.now) (view_right value.now)) }
+    ensures { OnOk result (lines.new.items ≡ lines.old.items
+        ++ assign_code (context source.now scope.now) at.int at.reference (view_expr to.now) (view_right value.now)) }
 {
     let t = source.m.typed();
     let access = access_of(source, to);
@@ -116,7 +123,8 @@ fn simple(
     simple: &Simple,
     lines: &mut Vec<Op>,
 ) -> Result<(), AllocError>
-    ensures { OnOk result (lines.new.items ≡ lines.old.items ++ simple_at (context source.now scope.now) (view_simple simple.now)) }
+    ensures { OnOk result (lines.new.items
+        ≡ lines.old.items ++ simple_at (context source.now scope.now) (view_simple simple.now)) }
 {
     let at = free(scope)?;
     match simple {
@@ -136,7 +144,8 @@ fn initial(
     value: &Option<Right>,
     lines: &mut Vec<Op>,
 ) -> Result<(), AllocError>
-    ensures { OnOk result (lines.new.items ≡ lines.old.items ++ initial_code (context source.now scope.now) declaration.now (view_option view_right value.now)) }
+    ensures { OnOk result (lines.new.items ≡ lines.old.items
+        ++ initial_code (context source.now scope.now) declaration.now (view_option view_right value.now)) }
 {
     match value {
         None => Ok(()),
@@ -197,7 +206,8 @@ fn local(
     local: &Local,
     lines: &mut Vec<Op>,
 ) -> Result<(), AllocError>
-    ensures code { OnOk result (lines.new.items ≡ lines.old.items ++ local_code (context source.now slots.old.items) (view_local local.now)) }
+    ensures code { OnOk result (lines.new.items
+        ≡ lines.old.items ++ local_code (context source.now slots.old.items) (view_local local.now)) }
     ensures slots { OnOk result (slots.new.items ≡ slots.old.items ++ slot_of local.now.declaration ∷ []) }
 {
     let at = free(slots.as_slice())?;
@@ -214,8 +224,10 @@ fn first(
     first: &ForFirst,
     lines: &mut Vec<Op>,
 ) -> Result<(), AllocError>
-    ensures code { OnOk result (lines.new.items ≡ lines.old.items ++ first_code (context source.now slots.old.items) (view_first first.now)) }
-    ensures slots { OnOk result (slots.new.items ≡ (behind_first (context source.now slots.old.items) (view_first first.now)).scope) }
+    ensures code { OnOk result (lines.new.items
+        ≡ lines.old.items ++ first_code (context source.now slots.old.items) (view_first first.now)) }
+    ensures slots { OnOk result (slots.new.items
+        ≡ (behind_first (context source.now slots.old.items) (view_first first.now)).scope) }
 {
     match first {
         ForFirst::Nothing => Ok(()),
@@ -233,7 +245,8 @@ fn step(
     step: Option<&Simple>,
     lines: &mut Vec<Op>,
 ) -> Result<(), AllocError>
-    ensures { OnOk result (lines.new.items ≡ lines.old.items ++ step_code (context source.now scope.now) (option_map (λ x. view_simple x.now) step.entry)) }
+    ensures { OnOk result (lines.new.items ≡ lines.old.items
+        ++ step_code (context source.now scope.now) (option_map (λ x. view_simple x.now) step.entry)) }
 {
     match step {
         None => Ok(()),
@@ -248,7 +261,8 @@ fn turn(
     test: &Expr,
     lines: &mut Vec<Op>,
 ) -> Result<Hole, AllocError>
-    ensures code { OnOk result (lines.new.items ≡ lines.old.items ++ turn_code (context source.now scope.now) (Some (view_expr test.now)) 0) }
+    ensures code { OnOk result (lines.new.items
+        ≡ lines.old.items ++ turn_code (context source.now scope.now) (Some (view_expr test.now)) 0) }
     ensures hole { IfOk result (λ h. h ≡ hole_at (context source.now scope.now) (length lines.new.items)) }
 {
     let at = free(scope)?;
@@ -270,7 +284,8 @@ fn jump(
     jump: Jump,
     lines: &mut Vec<Op>,
 ) -> Result<(), AllocError>
-    ensures { OnOk result (lines.new.items ≡ lines.old.items ++ jump_code (context source.now scope.now) (around_of around.entry marks.now) jump) }
+    ensures { OnOk result (lines.new.items
+        ≡ lines.old.items ++ jump_code (context source.now scope.now) (around_of around.entry marks.now) jump) }
 {
     leave(scope, marks, around.outer, lines)?;
     match jump {
@@ -301,7 +316,8 @@ fn returned(
     lines: &mut Vec<Op>,
 ) -> Result<(), AllocError>
     requires { around.outer ≤ length marks.now }
-    ensures { OnOk result (lines.new.items ≡ lines.old.items ++ return_code (context source.now scope.now) (around_of around.entry marks.now) site (view_option (λ b. view_expr b.value) value.now)) }
+    ensures { OnOk result (lines.new.items ≡ lines.old.items ++ return_code (context source.now scope.now)
+        (around_of around.entry marks.now) site (view_option (λ b. view_expr b.value) value.now)) }
 {
     let bank = bank_of(around.result);
     let first = Registers {
@@ -329,7 +345,8 @@ fn returned(
 /// first side over the second.
 fn other_side(hole: Hole, lines: &mut Vec<Op>) -> Result<usize, AllocError>
     requires { hole.line < vec_len lines.old }
-    ensures code { OnOk result (lines.new.items ≡ slice_set lines.old.items hole.line (Op.SkipIfZero hole.register (length lines.old.items - hole.line - 1 + 1)) ++ Op.Skip 0 ∷ []) }
+    ensures code { OnOk result (lines.new.items ≡ slice_set lines.old.items hole.line
+        (Op.SkipIfZero hole.register (length lines.old.items - hole.line - 1 + 1)) ++ Op.Skip 0 ∷ []) }
     ensures line { IfOk result (λ n. n ≡ length lines.old.items) }
 {
     skip_if_zero(hole, 1, lines)?;
@@ -349,7 +366,8 @@ fn inner(
     lines: &mut Vec<Op>,
 ) -> Result<(), AllocError>
     requires { around.outer ≤ vec_len marks.old }
-    ensures code { OnOk result (lines.new.items ≡ lines.old.items ++ statement_code (context source.now slots.old.items) (around_of around.entry marks.old.items) (length lines.old.items) (view_stmt stmt.now)) }
+    ensures code { OnOk result (lines.new.items ≡ lines.old.items ++ statement_code (context source.now slots.old.items)
+        (around_of around.entry marks.old.items) (length lines.old.items) (view_stmt stmt.now)) }
     ensures slots { OnOk result (slots.new.items ≡ slots.old.items) }
     ensures marks { OnOk result (marks.new.items ≡ marks.old.items) }
 {
@@ -370,8 +388,11 @@ pub fn statements(
     lines: &mut Vec<Op>,
 ) -> Result<(), AllocError>
     requires { around.outer ≤ vec_len marks.old }
-    ensures code { OnOk result (lines.new.items ≡ lines.old.items ++ statements_code (context source.now slots.old.items) (around_of around.entry marks.old.items) (length lines.old.items) (view_statements all.now)) }
-    ensures slots { OnOk result (slots.new.items ≡ (behind_statements (context source.now slots.old.items) (view_statements all.now)).scope) }
+    ensures code { OnOk result (lines.new.items
+        ≡ lines.old.items ++ statements_code (context source.now slots.old.items)
+        (around_of around.entry marks.old.items) (length lines.old.items) (view_statements all.now)) }
+    ensures slots { OnOk result (slots.new.items
+        ≡ (behind_statements (context source.now slots.old.items) (view_statements all.now)).scope) }
     ensures marks { OnOk result (marks.new.items ≡ marks.old.items) }
 {
     for stmt in all {
@@ -391,7 +412,8 @@ fn block(
     lines: &mut Vec<Op>,
 ) -> Result<(), AllocError>
     requires { around.outer ≤ vec_len marks.old }
-    ensures code { OnOk result (lines.new.items ≡ lines.old.items ++ block_code (context source.now slots.old.items) (around_of around.entry marks.old.items) (length lines.old.items) (view_statements all.now)) }
+    ensures code { OnOk result (lines.new.items ≡ lines.old.items ++ block_code (context source.now slots.old.items)
+        (around_of around.entry marks.old.items) (length lines.old.items) (view_statements all.now)) }
     ensures slots { OnOk result (slots.new.items ≡ slots.old.items) }
     ensures marks { OnOk result (marks.new.items ≡ marks.old.items) }
 {
@@ -417,7 +439,8 @@ fn choice(
     lines: &mut Vec<Op>,
 ) -> Result<(), AllocError>
     requires { around.outer ≤ vec_len marks.old }
-    ensures code { OnOk result (lines.new.items ≡ lines.old.items ++ if_in (context source.now slots.old.items) (around_of around.entry marks.old.items) (length lines.old.items) (view_expr test.now) (view_stmt then.now)) }
+    ensures code { OnOk result (lines.new.items ≡ lines.old.items ++ if_in (context source.now slots.old.items)
+        (around_of around.entry marks.old.items) (length lines.old.items) (view_expr test.now) (view_stmt then.now)) }
     ensures slots { OnOk result (slots.new.items ≡ slots.old.items) }
     ensures marks { OnOk result (marks.new.items ≡ marks.old.items) }
 {
@@ -433,8 +456,10 @@ fn decision(
     test: Option<&Expr>,
     lines: &mut Vec<Op>,
 ) -> Result<Option<Hole>, AllocError>
-    ensures code { OnOk result (lines.new.items ≡ lines.old.items ++ turn_code (context source.now scope.now) (option_map (λ e. view_expr e.now) test.entry) 0) }
-    ensures hole { IfOk result (λ hole. hole ≡ hole_of (context source.now scope.now) (option_map (λ e. view_expr e.now) test.entry) (length lines.new.items)) }
+    ensures code { OnOk result (lines.new.items ≡ lines.old.items
+        ++ turn_code (context source.now scope.now) (option_map (λ e. view_expr e.now) test.entry) 0) }
+    ensures hole { IfOk result (λ hole. hole ≡ hole_of (context source.now scope.now)
+        (option_map (λ e. view_expr e.now) test.entry) (length lines.new.items)) }
 {
     match test {
         None => Ok(None),
@@ -467,7 +492,9 @@ fn turns(
     lines: &mut Vec<Op>,
 ) -> Result<(), AllocError>
     requires { around.outer ≤ vec_len marks.old }
-    ensures code { OnOk result (lines.new.items ≡ lines.old.items ++ loop_in (context source.now slots.old.items) (around_of around.entry marks.old.items) (length lines.old.items) (option_map (λ e. view_expr e.now) test.entry) (option_map (λ x. view_simple x.now) after.entry) (view_stmt body.now)) }
+    ensures code { OnOk result (lines.new.items ≡ lines.old.items ++ loop_in (context source.now slots.old.items)
+        (around_of around.entry marks.old.items) (length lines.old.items) (option_map (λ e. view_expr e.now) test.entry)
+        (option_map (λ x. view_simple x.now) after.entry) (view_stmt body.now)) }
     ensures slots { OnOk result (slots.new.items ≡ slots.old.items) }
     ensures marks { OnOk result (marks.new.items ≡ marks.old.items) }
 {
@@ -500,7 +527,8 @@ fn counted(
     lines: &mut Vec<Op>,
 ) -> Result<(), AllocError>
     requires { around.outer ≤ vec_len marks.old }
-    ensures code { OnOk result (lines.new.items ≡ lines.old.items ++ for_in (context source.now slots.old.items) (around_of around.entry marks.old.items) (length lines.old.items) (view_head head.now) (view_stmt body.now)) }
+    ensures code { OnOk result (lines.new.items ≡ lines.old.items ++ for_in (context source.now slots.old.items)
+        (around_of around.entry marks.old.items) (length lines.old.items) (view_head head.now) (view_stmt body.now)) }
     ensures slots { OnOk result (slots.new.items ≡ slots.old.items) }
     ensures marks { OnOk result (marks.new.items ≡ marks.old.items) }
 {
@@ -536,8 +564,10 @@ fn statement(
     lines: &mut Vec<Op>,
 ) -> Result<(), AllocError>
     requires { around.outer ≤ vec_len marks.old }
-    ensures code { OnOk result (lines.new.items ≡ lines.old.items ++ statement_code (context source.now slots.old.items) (around_of around.entry marks.old.items) (length lines.old.items) (view_stmt stmt.now)) }
-    ensures slots { OnOk result (slots.new.items ≡ (behind_statement (context source.now slots.old.items) (view_stmt stmt.now)).scope) }
+    ensures code { OnOk result (lines.new.items ≡ lines.old.items ++ statement_code (context source.now slots.old.items)
+        (around_of around.entry marks.old.items) (length lines.old.items) (view_stmt stmt.now)) }
+    ensures slots { OnOk result (slots.new.items
+        ≡ (behind_statement (context source.now slots.old.items) (view_stmt stmt.now)).scope) }
     ensures marks { OnOk result (marks.new.items ≡ marks.old.items) }
 {
     emit(Op::Enter, lines)?;

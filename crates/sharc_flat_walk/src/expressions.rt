@@ -96,7 +96,8 @@ fn lvalue(
     expr: &Expr,
     lines: &mut Vec<Op>,
 ) -> Result<(), AllocError>
-    ensures { OnOk result (lines.new.items ≡ lines.old.items ++ lvalue_code (context source.now scope.now) at.int at.reference (view_expr expr.now)) }
+    ensures { OnOk result (lines.new.items
+        ≡ lines.old.items ++ lvalue_code (context source.now scope.now) at.int at.reference (view_expr expr.now)) }
 {
     value(
         source,
@@ -117,7 +118,10 @@ fn name(
     name: &Identifier,
     lines: &mut Vec<Op>,
 ) -> Result<(), AllocError>
-    ensures { OnOk result (lines.new.items ≡ lines.old.items ++ named_code (context source.now scope.now) at.int at.reference name.now.site (lvalue_of source.now.m.now.typed (view_expr expr.now)) (cell_at source.now.m.now (view_expr expr.now)) (is_ref (context source.now scope.now) (view_expr expr.now)) (named_at source.now.m.now.typed name.now.site.token)) }
+    ensures { OnOk result (lines.new.items ≡ lines.old.items ++ named_code (context source.now scope.now) at.int
+        at.reference name.now.site (lvalue_of source.now.m.now.typed (view_expr expr.now))
+        (cell_at source.now.m.now (view_expr expr.now)) (is_ref (context source.now scope.now) (view_expr expr.now))
+        (named_at source.now.m.now.typed name.now.site.token)) }
 {
     let mut access = access_at(source, name.site, expr);
     match source.m.typed().named(name.site.token) {
@@ -143,7 +147,8 @@ fn passed(
     site: Site,
     lines: &mut Vec<Op>,
 ) -> Result<(), AllocError>
-    ensures { OnOk result (lines.new.items ≡ lines.old.items ++ passed_code register (declared_kinds parameters.now) site) }
+    ensures { OnOk result (lines.new.items
+        ≡ lines.old.items ++ passed_code register (declared_kinds parameters.now) site) }
 {
     match parameters {
         [] => Ok(()),
@@ -194,7 +199,8 @@ fn lock(
     place: &Expr,
     lines: &mut Vec<Op>,
 ) -> Result<(), AllocError>
-    ensures { OnOk result (lines.new.items ≡ lines.old.items ++ place_call_code (context source.now []) at.int at.reference span PlaceCall.Lock (view_expr place.now) []) }
+    ensures { OnOk result (lines.new.items ≡ lines.old.items
+        ++ place_call_code (context source.now []) at.int at.reference span PlaceCall.Lock (view_expr place.now) []) }
 {
     let site = span.first;
     let cell = cell_of(source, at, target_of(source, None, place))?;
@@ -212,7 +218,8 @@ fn unlock(
     place: &Expr,
     lines: &mut Vec<Op>,
 ) -> Result<(), AllocError>
-    ensures { OnOk result (lines.new.items ≡ lines.old.items ++ place_call_code (context source.now []) at.int at.reference span PlaceCall.Unlock (view_expr place.now) []) }
+    ensures { OnOk result (lines.new.items ≡ lines.old.items
+        ++ place_call_code (context source.now []) at.int at.reference span PlaceCall.Unlock (view_expr place.now) []) }
 {
     let site = span.first;
     let target = target_of(source, None, place);
@@ -237,7 +244,8 @@ fn free(
     place: &Expr,
     lines: &mut Vec<Op>,
 ) -> Result<(), AllocError>
-    ensures { OnOk result (lines.new.items ≡ lines.old.items ++ place_call_code (context source.now scope.now) at.int at.reference span PlaceCall.Free (view_expr place.now) []) }
+    ensures { OnOk result (lines.new.items ≡ lines.old.items ++ place_call_code
+        (context source.now scope.now) at.int at.reference span PlaceCall.Free (view_expr place.now) []) }
 {
     let access = access_of(source, place);
     let use_made = Taking::Free.use_of(access.target);
@@ -269,7 +277,8 @@ fn on_place(
     place: &Expr,
     lines: &mut Vec<Op>,
 ) -> Result<(), AllocError>
-    ensures { OnOk result (lines.new.items ≡ lines.old.items ++ place_call_code (context source.now scope.now) at.int at.reference span call (view_expr place.now) []) }
+    ensures { OnOk result (lines.new.items ≡ lines.old.items
+        ++ place_call_code (context source.now scope.now) at.int at.reference span call (view_expr place.now) []) }
 {
     match call {
         PlaceCall::Lock => lock(source, at, span, place, lines),
@@ -287,7 +296,8 @@ fn cast(
     place: &Expr,
     lines: &mut Vec<Op>,
 ) -> Result<(), AllocError>
-    ensures { OnOk result (lines.new.items ≡ lines.old.items ++ cast_code (context source.now scope.now) at.int at.reference span (view_expr place.now) []) }
+    ensures { OnOk result (lines.new.items ≡ lines.old.items
+        ++ cast_code (context source.now scope.now) at.int at.reference span (view_expr place.now) []) }
 {
     let t = source.m.typed();
     let access = access_of(source, place);
@@ -313,7 +323,8 @@ fn unary(
     lines: &mut Vec<Op>,
 ) -> Result<(), AllocError>
     requires { view_expr expr.now ≡ of_unary span operator (view_expr operand.now) }
-    ensures { OnOk result (lines.new.items ≡ lines.old.items ++ unary_code (context source.now scope.now) at.int at.reference span operator (view_expr operand.now) []) }
+    ensures { OnOk result (lines.new.items ≡ lines.old.items
+        ++ unary_code (context source.now scope.now) at.int at.reference span operator (view_expr operand.now) []) }
 {
     match operator {
         UnaryOperator::Negate => {
@@ -370,7 +381,8 @@ fn computed(
 
 /// The elements of a global that is indexed.
 fn global_bound(source: &Source<'_>, global: u32, cells: u32) -> Result<Bound, AllocError>
-    ensures { IfOk result (λ b. b ≡ Bound.Global (global_elements (global_at source.now.m.now.typed global)) cells (first_cell source.now.globals.items global)) }
+    ensures { IfOk result (λ b. b ≡ Bound.Global (global_elements (global_at source.now.m.now.typed global)) cells
+        (first_cell source.now.globals.items global)) }
 {
     let elements = global_elements(source.m.typed(), global)?;
     let first = first_cell(source, global)?;
@@ -391,7 +403,8 @@ fn element(
     base: &Expr,
     lines: &mut Vec<Op>,
 ) -> Result<(), AllocError>
-    ensures { OnOk result (lines.new.items ≡ lines.old.items ++ element_code (context source.now []) at.int at.reference site of guard (view_expr base.now)) }
+    ensures { OnOk result (lines.new.items ≡ lines.old.items
+        ++ element_code (context source.now []) at.int at.reference site of guard (view_expr base.now)) }
 {
     let kind = source.m.typed().kind_at(base);
     let cells = element_cells(source, element_kind(kind));
@@ -417,7 +430,8 @@ pub fn expression(
     expr: &Expr,
     lines: &mut Vec<Op>,
 ) -> Result<(), AllocError>
-    ensures { OnOk result (lines.new.items ≡ lines.old.items ++ expression_code (context source.now scope.now) at.int at.reference (view_expr expr.now)) }
+    ensures { OnOk result (lines.new.items
+        ≡ lines.old.items ++ expression_code (context source.now scope.now) at.int at.reference (view_expr expr.now)) }
 {
     emit(Op::Enter, lines)?;
     match expr {
@@ -521,8 +535,11 @@ fn binary(
     left: &Expr,
     lines: &mut Vec<Op>,
 ) -> Result<(), AllocError>
-    requires { width ≡ width_of (binary_result (class_of operator) (kind_at source.now.m.now.typed (view_expr left.now)) (kind_at source.now.m.now.typed (view_expr right.now))) }
-    ensures { OnOk result (lines.new.items ≡ lines.old.items ++ binary_code (context source.now scope.now) at.int at.reference site operator (view_expr left.now) (view_expr right.now) [] (λ i r. expression_code (context source.now scope.now) i r (view_expr right.now))) }
+    requires { width ≡ width_of (binary_result (class_of operator) (kind_at source.now.m.now.typed (view_expr left.now))
+        (kind_at source.now.m.now.typed (view_expr right.now))) }
+    ensures { OnOk result (lines.new.items ≡ lines.old.items
+        ++ binary_code (context source.now scope.now) at.int at.reference site operator (view_expr left.now)
+        (view_expr right.now) [] (λ i r. expression_code (context source.now scope.now) i r (view_expr right.now))) }
 {
     let bank = bank(source, left);
     match evaluation_of(operator) {
@@ -542,7 +559,8 @@ fn binary(
     }
 }
 
-/// The right operand of `&&` or `||`: where the register is 0, the code leads over it, and this many operations after it.
+/// The right operand of `&&` or `||`: where the register is 0, the code leads over it, and this many operations after
+/// it.
 #[cycle(expression)]
 fn decided(
     source: &Source<'_>,
@@ -552,7 +570,9 @@ fn decided(
     more: usize,
     lines: &mut Vec<Op>,
 ) -> Result<(), AllocError>
-    ensures { OnOk result (lines.new.items ≡ lines.old.items ++ decided_code at.int more (expression_code (context source.now scope.now) at.int at.reference (view_expr right.now) ++ truth_code (is_ref (context source.now []) (view_expr right.now)) at.int at.reference)) }
+    ensures { OnOk result (lines.new.items ≡ lines.old.items ++ decided_code at.int more
+        (expression_code (context source.now scope.now) at.int at.reference (view_expr right.now)
+        ++ truth_code (is_ref (context source.now []) (view_expr right.now)) at.int at.reference)) }
 {
     let hole = Hole {
         line: lines.len(),
@@ -576,7 +596,8 @@ fn arguments(
     arguments: &[Expr],
     lines: &mut Vec<Op>,
 ) -> Result<(), AllocError>
-    ensures { OnOk result (lines.new.items ≡ lines.old.items ++ arguments_code (context source.now scope.now) at.int at.reference (declared_kinds parameters.now) (view_arguments arguments.now)) }
+    ensures { OnOk result (lines.new.items ≡ lines.old.items ++ arguments_code (context source.now scope.now) at.int
+        at.reference (declared_kinds parameters.now) (view_arguments arguments.now)) }
 {
     let mut int = at.int;
     let mut reference = at.reference;
@@ -606,7 +627,8 @@ pub fn place(
     expr: &Expr,
     lines: &mut Vec<Op>,
 ) -> Result<(), AllocError>
-    ensures { OnOk result (lines.new.items ≡ lines.old.items ++ place_code (context source.now scope.now) at.int at.reference site of guard (view_expr expr.now)) }
+    ensures { OnOk result (lines.new.items ≡ lines.old.items
+        ++ place_code (context source.now scope.now) at.int at.reference site of guard (view_expr expr.now)) }
 {
     emit(Op::Enter, lines)?;
     match expr {
@@ -650,9 +672,13 @@ fn indexed(
     base: &Expr,
     lines: &mut Vec<Op>,
 ) -> Result<Registers, AllocError>
-    ensures code { OnOk result (lines.new.items ≡ lines.old.items ++ indexed_code (context source.now scope.now) at.reference site (view_expr base.now) (place_code (context source.now scope.now) at.int at.reference site None None (view_expr base.now)) (expression_code (context source.now scope.now) at.int at.reference (view_expr base.now))) }
+    ensures code { OnOk result (lines.new.items
+        ≡ lines.old.items ++ indexed_code (context source.now scope.now) at.reference site (view_expr base.now)
+        (place_code (context source.now scope.now) at.int at.reference site None None (view_expr base.now))
+        (expression_code (context source.now scope.now) at.int at.reference (view_expr base.now))) }
     ensures int { IfOk result (λ next. next.int ≡ at.int) }
-    ensures reference { IfOk result (λ next. next.reference ≡ index_register (context source.now scope.now) at.reference (view_expr base.now)) }
+    ensures reference { IfOk result (λ next. next.reference
+        ≡ index_register (context source.now scope.now) at.reference (view_expr base.now)) }
 {
     if is_array(source.m.typed().kind_at(base)) {
         place(source, scope, at, site, None, None, base, lines)?;
@@ -678,7 +704,10 @@ fn field(
     name: &Identifier,
     lines: &mut Vec<Op>,
 ) -> Result<(), AllocError>
-    ensures { OnOk result (lines.new.items ≡ lines.old.items ++ field_code (context source.now scope.now) at.reference site of access name.now (λ f. place_code (context source.now scope.now) at.int at.reference site f guard (view_expr base.now)) (expression_code (context source.now scope.now) at.int at.reference (view_expr base.now))) }
+    ensures { OnOk result (lines.new.items
+        ≡ lines.old.items ++ field_code (context source.now scope.now) at.reference site of access name.now
+        (λ f. place_code (context source.now scope.now) at.int at.reference site f guard (view_expr base.now))
+        (expression_code (context source.now scope.now) at.int at.reference (view_expr base.now))) }
 {
     match access {
         Access::Dot => {

@@ -6,7 +6,8 @@ ghost use Rattle.sharc_names.specs.View.{view_kind, view_root};
 ghost use Rattle.sharc_ctype.specs.Resolved.{global_at, declaration_at, structs_in};
 ghost use Rattle.sharc_mode.specs.View.{view_lock};
 ghost use Rattle.sharc_mode.specs.Cells.{is_behind_pointer};
-ghost use Rattle.sharc_meaning.specs.Cells.{struct_cells, base_cells, element_cells, global_elements, field_place, field_place_named, field_place_behind};
+ghost use Rattle.sharc_meaning.specs.Cells.{struct_cells, base_cells, element_cells, global_elements, field_place};
+ghost use Rattle.sharc_meaning.specs.Cells.{field_place_named, field_place_behind};
 ghost use Rattle.sharc_ctype.specs.Globals.{elements_of as elements_of_form};
 ghost use Rattle.sharc_flat.specs.Flattened.{struct_layout, base_layout, layout_of};
 ghost use Rattle.sharc_flat_form.specs.Machine.{first_cell};
@@ -198,7 +199,8 @@ fn struct_layout(source: &Source<'_>, name: &[u8]) -> Result<u32, AllocError>
 }
 
 fn base_layout(source: &Source<'_>, root: Root<'_>) -> Result<u32, AllocError>
-    ensures { IfOk result (λ n. n ≡ base_layout (structs_in source.now.m.now.typed.program.items) (view_root root.entry)) }
+    ensures { IfOk result (λ n. n
+        ≡ base_layout (structs_in source.now.m.now.typed.program.items) (view_root root.entry)) }
 {
     match root {
         Root::Struct(name) => struct_layout(source, name),
@@ -212,7 +214,8 @@ fn base_layout(source: &Source<'_>, root: Root<'_>) -> Result<u32, AllocError>
 
 /// The number of the layout of an element.
 pub(crate) fn layout_of(source: &Source<'_>, kind: Kind<'_>) -> Result<u32, AllocError>
-    ensures { IfOk result (λ n. n ≡ layout_of (structs_in source.now.m.now.typed.program.items) (view_kind kind.entry)) }
+    ensures { IfOk result (λ n. n
+        ≡ layout_of (structs_in source.now.m.now.typed.program.items) (view_kind kind.entry)) }
 {
     match kind {
         Kind::Object(root, 0) => base_layout(source, root),

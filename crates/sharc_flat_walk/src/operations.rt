@@ -7,7 +7,9 @@ ghost use Rattle.sharc_meaning.specs.Reference.{constant_value};
 ghost use Rattle.sharc_meaning.specs.State.{is_reference};
 ghost use Rattle.sharc_meaning.specs.Expressions.{number_named};
 ghost use Rattle.sharc_flat.specs.Places.{width_of, base_as_width, width_code};
-ghost use Rattle.sharc_flat.specs.Flattened.{constant_code, truth_code, drop_code, zero_code, operator_of, differ_code, compare_code, first_cell_of, wait_code, with_words, argument_words, condition_code, called_code, spawn_code, value_call_code};
+ghost use Rattle.sharc_flat.specs.Flattened.{constant_code, truth_code, drop_code, zero_code, operator_of, differ_code};
+ghost use Rattle.sharc_flat.specs.Flattened.{compare_code, first_cell_of, wait_code, with_words, argument_words};
+ghost use Rattle.sharc_flat.specs.Flattened.{condition_code, called_code, spawn_code, value_call_code};
 ghost use Rattle.sharc_flat.specs.Scope.{at_site, no_text};
 ghost use Rattle.sharc_flat_walk.specs.View.{wait_begin, evaluation_of, holds_references};
 
@@ -257,7 +259,9 @@ fn wait(
     lines: &mut Vec<Op>,
 ) -> Result<(), AllocError>
     requires { register < 2 ^ 31 }
-    ensures { OnOk result (lines.new.items ≡ lines.old.items ++ wait_code register spot (with_words spot (argument_words 0 (view_arguments arguments.now))) (with_words spot (argument_words 1 (view_arguments arguments.now)))) }
+    ensures { OnOk result (lines.new.items
+        ≡ lines.old.items ++ wait_code register spot (with_words spot (argument_words 0 (view_arguments arguments.now)))
+        (with_words spot (argument_words 1 (view_arguments arguments.now)))) }
 {
     let of_condition = with_words(spot, first_words(arguments)?);
     let of_mutex = with_words(spot, second_words(arguments)?);
@@ -276,7 +280,8 @@ fn condition(
     lines: &mut Vec<Op>,
 ) -> Result<(), AllocError>
     requires { register < 2 ^ 31 }
-    ensures { OnOk result (lines.new.items ≡ lines.old.items ++ condition_code register spot name.now (view_arguments arguments.now)) }
+    ensures { OnOk result (lines.new.items
+        ≡ lines.old.items ++ condition_code register spot name.now (view_arguments arguments.now)) }
 {
     if name == b"wait".as_slice() {
         return wait(register, spot, arguments, lines);

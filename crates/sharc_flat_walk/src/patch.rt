@@ -36,7 +36,8 @@ fn over(lines: &[Op], line: usize, more: usize) -> Result<u32, AllocError>
 /// The operation on this line leads over those after it, and this many more, where its register is 0.
 pub fn skip_if_zero(hole: Hole, more: usize, lines: &mut Vec<Op>) -> Result<(), AllocError>
     requires { hole.line < vec_len lines.old }
-    ensures { OnOk result (lines.new.items ≡ slice_set lines.old.items hole.line (Op.SkipIfZero hole.register (length lines.old.items - hole.line - 1 + more))) }
+    ensures { OnOk result (lines.new.items ≡ slice_set lines.old.items hole.line
+        (Op.SkipIfZero hole.register (length lines.old.items - hole.line - 1 + more))) }
 {
     let over = over(lines.as_slice(), hole.line, more)?;
     lines[hole.line] = Op::SkipIfZero(hole.register, over);
@@ -46,7 +47,8 @@ pub fn skip_if_zero(hole: Hole, more: usize, lines: &mut Vec<Op>) -> Result<(), 
 /// The operation on this line leads over those after it.
 pub fn skip(line: usize, lines: &mut Vec<Op>) -> Result<(), AllocError>
     requires { line < vec_len lines.old }
-    ensures { OnOk result (lines.new.items ≡ slice_set lines.old.items line (Op.Skip (length lines.old.items - line - 1 + 0))) }
+    ensures { OnOk result (lines.new.items
+        ≡ slice_set lines.old.items line (Op.Skip (length lines.old.items - line - 1 + 0))) }
 {
     let over = over(lines.as_slice(), line, 0)?;
     lines[line] = Op::Skip(over);

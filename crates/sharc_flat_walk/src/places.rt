@@ -2,7 +2,9 @@
 
 ghost use Rattle.std.specs.Prelude.{◌≡◌, ◌+◌, ◌++◌, [], ◌∷◌, IfOk, OnOk, if◌then◌else◌, IsTrue};
 ghost use Rattle.sharc_mode.specs.View.{view_sharing};
-ghost use Rattle.sharc_flat.specs.Places.{base_width, guard_width, index_width, bounds_code, pointee_code, guard_code, drop_base, settle_base, copy_code, cell_value_code, value_code, settle_code, cell_store_code, store_code, take_use, cell_take_code, take_code};
+ghost use Rattle.sharc_flat.specs.Places.{base_width, guard_width, index_width, bounds_code, pointee_code, guard_code};
+ghost use Rattle.sharc_flat.specs.Places.{drop_base, settle_base, copy_code, cell_value_code, value_code, settle_code};
+ghost use Rattle.sharc_flat.specs.Places.{cell_store_code, store_code, take_use, cell_take_code, take_code};
 ghost use Rattle.sharc_flat.specs.Flattened.{behind_int, behind_ref};
 ghost use Rattle.sharc_flat.specs.Scope.{register_of, number_in, at_site};
 ghost use Rattle.sharc_code.specs.declared.code.Use.TheVariants as uses;
@@ -30,7 +32,8 @@ pub fn emit(op: Op, lines: &mut Vec<Op>) -> Result<(), AllocError>
 }
 
 fn guard_spot(access: SpotAccess<'_>) -> Result<Spot, AllocError>
-    ensures { IfOk result (λ spot. spot ≡ record (at_words access.entry.site access.entry.lvalue.words uses.Read) { mode = PlaceMode.Readonly }) }
+    ensures { IfOk result (λ spot. spot
+        ≡ record (at_words access.entry.site access.entry.lvalue.words uses.Read) { mode = PlaceMode.Readonly }) }
 {
     let mut spot = at_words(access.site, access.lvalue.words, Use::Read)?;
     spot.mode = PlaceMode::Readonly;
@@ -44,7 +47,9 @@ fn guard(
     access: SpotAccess<'_>,
     lines: &mut Vec<Op>,
 ) -> Result<(), AllocError>
-    ensures { OnOk result (lines.new.items ≡ lines.old.items ++ guard_code (context source.now []) at.int at.reference access.entry.site access.entry.lvalue (view_target access.entry.target) (guard_field source.now.m.now.typed (view_sharing access.entry.mode))) }
+    ensures { OnOk result (lines.new.items ≡ lines.old.items
+        ++ guard_code (context source.now []) at.int at.reference access.entry.site access.entry.lvalue
+        (view_target access.entry.target) (guard_field source.now.m.now.typed (view_sharing access.entry.mode))) }
 {
     match guard_field(source, access.mode) {
         None => Ok(()),
@@ -236,7 +241,9 @@ fn cell_take(
     taking: Taking,
     lines: &mut Vec<Op>,
 ) -> Result<(), AllocError>
-    ensures { OnOk result (lines.new.items ≡ lines.old.items ++ cell_take_code (context source.now scope.now) at.int at.reference access.entry.site access.entry.lvalue (view_sharing access.entry.mode) (use_of taking) (view_target access.entry.target)) }
+    ensures { OnOk result (lines.new.items ≡ lines.old.items
+        ++ cell_take_code (context source.now scope.now) at.int at.reference access.entry.site access.entry.lvalue
+        (view_sharing access.entry.mode) (use_of taking) (view_target access.entry.target)) }
 {
     guard(source, at, access, lines)?;
     let cell = cell_of(source, at, access.target)?;
@@ -255,7 +262,9 @@ pub fn take(
     taking: Taking,
     lines: &mut Vec<Op>,
 ) -> Result<(), AllocError>
-    ensures { OnOk result (lines.new.items ≡ lines.old.items ++ take_code (context source.now scope.now) at.int at.reference access.entry.site access.entry.lvalue (view_sharing access.entry.mode) (use_of taking) (view_target access.entry.target)) }
+    ensures { OnOk result (lines.new.items ≡ lines.old.items
+        ++ take_code (context source.now scope.now) at.int at.reference access.entry.site access.entry.lvalue
+        (view_sharing access.entry.mode) (use_of taking) (view_target access.entry.target)) }
 {
     match access.target {
         Target::Variable(token) => {

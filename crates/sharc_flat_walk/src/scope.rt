@@ -1,7 +1,8 @@
 // The registers of variables, and how blocks end.
 
 ghost use Rattle.std.specs.Prelude.{◌≡◌, ◌+◌, ◌++◌, ◌≤◌, [], ◌∷◌, length, take, drop, IfOk, OnOk};
-ghost use Rattle.sharc_flat.specs.Scope.{slot_of, register_from, register_of, number_in, int_count, ref_count, pops, ends_from, leaves};
+ghost use Rattle.sharc_flat.specs.Scope.{slot_of, register_from, register_of, number_in, int_count, ref_count, pops};
+ghost use Rattle.sharc_flat.specs.Scope.{ends_from, leaves};
 ghost use Rattle.sharc_flat_walk.specs.View.{innermost};
 
 use crate::registers::Registers;

@@ -22,7 +22,8 @@ pub struct Source<'a> {
     pub(crate) structs: IndexMap<&'a [u8], StructRow>,
     pub(crate) fields: IndexMap<u32, u32>,
     ghost has_cells: { HasCells (structs_in m.now.typed.program.items) structs },
-    ghost has_layouts: { HasLayouts 2 (length (structs_in m.now.typed.program.items) + 2) (structs_in m.now.typed.program.items) structs },
+    ghost has_layouts: { HasLayouts 2 (length (structs_in m.now.typed.program.items) + 2)
+        (structs_in m.now.typed.program.items) structs },
     ghost has_fields: { HasFields (structs_in m.now.typed.program.items) fields },
 }
 
@@ -32,7 +33,8 @@ fn enter_struct<'a>(
     definition: &'a StructDefinition,
     structs: &mut IndexMap<&'a [u8], StructRow>,
 ) -> Result<(), AllocError>
-    ensures { OnOk result (HasRow definition.now.name.text (record { layout = number + 2; cells = length definition.now.fields }) structs.old structs.new) }
+    ensures { OnOk result (HasRow definition.now.name.text
+        (record { layout = number + 2; cells = length definition.now.fields }) structs.old structs.new) }
 {
     let cells = small(definition.fields.len())?;
     let layout = match number.checked_add(2) {
@@ -49,7 +51,8 @@ fn structs_of<'a>(
     typed: &'a Typed,
 ) -> Result<IndexMap<&'a [u8], StructRow>, AllocError>
     ensures cells { IfOk result (λ rows. HasCells (structs_in typed.now.program.items) rows) }
-    ensures layouts { IfOk result (λ rows. HasLayouts 2 (length (structs_in typed.now.program.items) + 2) (structs_in typed.now.program.items) rows) }
+    ensures layouts { IfOk result (λ rows.
+        HasLayouts 2 (length (structs_in typed.now.program.items) + 2) (structs_in typed.now.program.items) rows) }
 {
     let mut structs = IndexMap::new(alloc);
     let mut left = small(typed.struct_count())?;

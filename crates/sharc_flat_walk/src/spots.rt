@@ -6,7 +6,9 @@ ghost use Rattle.sharc_code.specs.declared.code.Use.TheVariants as uses;
 ghost use Rattle.sharc_ctype.specs.Resolved.{named_at};
 ghost use Rattle.sharc_mode.specs.View.{view_lock, view_name, view_sharing};
 ghost use Rattle.sharc_meaning.specs.Cells.{field_place_behind};
-ghost use Rattle.sharc_flat.specs.Places.{guard_named, guard_field, beside_named, beside_field, mode_beside, mode_named, place_mode, object_mode_named, object_mode, cell_of, guard_cell, lock_beside, lock_cell, lock_words, spot_of, object_spot, take_use};
+ghost use Rattle.sharc_flat.specs.Places.{guard_named, guard_field, beside_named, beside_field, mode_beside};
+ghost use Rattle.sharc_flat.specs.Places.{mode_named, place_mode, object_mode_named, object_mode, cell_of, guard_cell};
+ghost use Rattle.sharc_flat.specs.Places.{lock_beside, lock_cell, lock_words, spot_of, object_spot, take_use};
 ghost use Rattle.sharc_flat.specs.Scope.{register_of, number_in, no_text, tokens_in, no_cell, at_site, at_words};
 ghost use Rattle.sharc_flat_walk.specs.View.{context, view_target};
 
@@ -50,7 +52,8 @@ pub(crate) fn guard_cell(
     at: Registers,
     target: Target,
 ) -> Result<Cell, AllocError>
-    ensures { IfOk result (λ cell. cell ≡ guard_cell source.now.globals.items mutex at.int at.reference (view_target target)) }
+    ensures { IfOk result (λ cell. cell
+        ≡ guard_cell source.now.globals.items mutex at.int at.reference (view_target target)) }
 {
     match target {
         Target::Variable(_) => Ok(Cell::Global(0, 0)),
@@ -126,7 +129,8 @@ fn through(
     variable: u32,
     name: &[u8],
 ) -> Result<PlaceMode, AllocError>
-    ensures { IfOk result (λ mode. mode ≡ PlaceMode.LockedThrough (number_in (register_of scope.now variable)) (field_place_behind source.now.m.now.typed variable name.now)) }
+    ensures { IfOk result (λ mode. mode ≡ PlaceMode.LockedThrough (number_in (register_of scope.now variable))
+        (field_place_behind source.now.m.now.typed variable name.now)) }
 {
     let register = number_in(register_of(scope, variable)?);
     let place = field_place_behind(source.m.typed(), variable, name)?;
@@ -140,7 +144,8 @@ fn object_mode_named(
     named: Named,
     second: Option<&[u8]>,
 ) -> Result<PlaceMode, AllocError>
-    ensures { IfOk result (λ mode. mode ≡ object_mode_named (context source.now scope.now) named (view_name second.entry)) }
+    ensures { IfOk result (λ mode. mode
+        ≡ object_mode_named (context source.now scope.now) named (view_name second.entry)) }
 {
     match named {
         Named::Global(number) => Ok(PlaceMode::LockedGlobal(number, first_cell(source, number)?)),
@@ -171,7 +176,8 @@ fn locked_mode(
     field: u32,
     lock: Lock<'_>,
 ) -> Result<PlaceMode, AllocError>
-    ensures { IfOk result (λ mode. mode ≡ mode_named (context source.now scope.now) field (view_lock lock.entry) (named_at source.now.m.now.typed lock.entry.first) (view_name lock.entry.second)) }
+    ensures { IfOk result (λ mode. mode ≡ mode_named (context source.now scope.now) field (view_lock lock.entry)
+        (named_at source.now.m.now.typed lock.entry.first) (view_name lock.entry.second)) }
 {
     let t = source.m.typed();
     match t.named(lock.first) {
@@ -233,7 +239,8 @@ fn lock_cell(
     target: Target,
     mode: Sharing<'_>,
 ) -> Result<Cell, AllocError>
-    ensures { IfOk result (λ cell. cell ≡ lock_beside source.now.globals.items at.int at.reference (view_target target) (beside_field source.now.m.now.typed (view_sharing mode.entry))) }
+    ensures { IfOk result (λ cell. cell ≡ lock_beside source.now.globals.items at.int at.reference (view_target target)
+        (beside_field source.now.m.now.typed (view_sharing mode.entry))) }
 {
     match beside_field(source, mode) {
         None => Ok(Cell::Global(0, 0)),
@@ -310,7 +317,8 @@ pub(crate) fn object_spot(
     at: Use,
     mode: Sharing<'_>,
 ) -> Result<Spot, AllocError>
-    ensures { IfOk result (λ spot. spot ≡ object_spot (context source.now scope.now) site words at (view_sharing mode.entry)) }
+    ensures { IfOk result (λ spot. spot
+        ≡ object_spot (context source.now scope.now) site words at (view_sharing mode.entry)) }
 {
     let mut spot = at_site(site);
     spot.lvalue = words;
@@ -336,7 +344,8 @@ pub(crate) fn spot_of(
     access: SpotAccess<'_>,
     at: Use,
 ) -> Result<Spot, AllocError>
-    ensures { IfOk result (λ spot. spot ≡ spot_of (context source.now scope.now) registers.int registers.reference access.entry.site access.entry.lvalue at (view_sharing access.entry.mode) (view_target access.entry.target)) }
+    ensures { IfOk result (λ spot. spot ≡ spot_of (context source.now scope.now) registers.int registers.reference
+        access.entry.site access.entry.lvalue at (view_sharing access.entry.mode) (view_target access.entry.target)) }
 {
     let lvalue = tokens_in(access.lvalue.words)?;
     let mode = place_mode(source, scope, access.target.field(), access.mode)?;

@@ -3,7 +3,9 @@
 ghost use Rattle.std.specs.Prelude.{◌≡◌, ◌+◌};
 ghost use Rattle.sharc_tree.specs.View.{view_expr};
 ghost use Rattle.sharc_names.specs.View.{view_kind};
-ghost use Rattle.sharc_flat.specs.Places.{own_field, named_target, target, global_of, has_base, field_of, is_simple_element, is_simple_place, names_variable, names_global, is_number_token, bare_token, lvalue_of};
+ghost use Rattle.sharc_flat.specs.Places.{own_field, named_target, target, global_of, has_base, field_of};
+ghost use Rattle.sharc_flat.specs.Places.{is_simple_element, is_simple_place, names_variable, names_global};
+ghost use Rattle.sharc_flat.specs.Places.{is_number_token, bare_token, lvalue_of};
 ghost use Rattle.sharc_flat_walk.specs.View.{view_target};
 
 use crate::lookups::field_named;

@@ -62,7 +62,8 @@ pub fn function_lines(
     of: &FunctionDefinition,
     lines: &mut Vec<Op>,
 ) -> Result<(), AllocError>
-    ensures { OnOk result (lines.new.items ≡ lines.old.items ++ function_code source.now.m.now source.now.globals.items (length lines.old.items) (view_function of.now)) }
+    ensures { OnOk result (lines.new.items ≡ lines.old.items
+        ++ function_code source.now.m.now source.now.globals.items (length lines.old.items) (view_function of.now)) }
 {
     let around = Around {
         result: declared_kind(&of.result),

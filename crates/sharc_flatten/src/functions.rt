@@ -89,7 +89,8 @@ pub fn functions(
     ensures rows { IfOk result (λ rows. rows.items
         ≡ rows_of source.now.m.now source.now.globals.items 0 (functions_in source.now.m.now.typed.program.items)) }
     ensures code { OnOk result (lines.new.items
-        ≡ functions_code source.now.m.now source.now.globals.items 0 (functions_in source.now.m.now.typed.program.items)) }
+        ≡ functions_code source.now.m.now source.now.globals.items 0
+        (functions_in source.now.m.now.typed.program.items)) }
 {
     let t = source.m.typed();
     let mut rows = Vec::with_capacity(alloc, t.function_count())?;

@@ -1,7 +1,8 @@
-//! Tables of sources, and what the front end makes of them: tests alone, over the lexer, the parser and C typing as they work together.
+//! Tables of sources, and what the front end makes of them: tests alone, over the lexer, the parser and C typing as
+//! they work together.
 //!
-//! No crate depends on this one, and it has no code of its own. A table that needs the lexer to write what a later stage of the
-//! front end is given is here too, so that a change of the top call proves none of them again.
+//! No crate depends on this one, and it has no code of its own. A table that needs the lexer to write what a later
+//! stage of the front end is given is here too, so that a change of the top call proves none of them again.
 #![tactic(auto)]
 
 #[cfg(test)]

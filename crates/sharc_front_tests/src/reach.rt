@@ -141,9 +141,10 @@ fn reached_functions(rt: HostRuntime) -> Result<(), Fail> {
     assert_answers(&rt, REACHED)
 }
 
-/// Sources, which of their functions are reached, and the first of these that touches each global. In order: two spawned functions share a global, or a
-/// reached one that comes before them names it, too; functions that are not reached name it; each global for itself; a local or a parameter of the
-/// name hides it; a field of the name is another thing.
+/// Sources, which of their functions are reached, and the first of these that touches each global. In order: two
+/// spawned functions share a global, or a reached one that comes before them names it, too; functions that are not
+/// reached name it; each global for itself; a local or a parameter of the name hides it; a field of the name is another
+/// thing.
 const TOUCHED: &str =
     "int g; void f(int n) { g = n; } void h(int n) { g = n; } int main(void) { spawn(h, 1); spawn(f, 1); return 0; } => 110 0
 int g; void k(void) { g = 0; } void f(int n) { g = n; k(); } int main(void) { spawn(f, 1); return 0; } => 110 0
@@ -161,9 +162,9 @@ fn touched_globals(rt: HostRuntime) -> Result<(), Fail> {
     assert_answers(&rt, TOUCHED)
 }
 
-/// The same, with globals in the paths of locks. In order: in the type of a cast, a parameter, a local, the local of a `for`, and the result of a function
-/// that is called; at each level, and before the base; the second name of a path, which is a field, and the first, which may be a global; in a function
-/// that is not reached, and in a struct.
+/// The same, with globals in the paths of locks. In order: in the type of a cast, a parameter, a local, the local of a
+/// `for`, and the result of a function that is called; at each level, and before the base; the second name of a path,
+/// which is a field, and the first, which may be a global; in a function that is not reached, and in a struct.
 const IN_PATHS: &str =
     "mutex m; void f(int * x) { x = SCAST(int locked(m) *, x); } int main(void) { int * x = NULL; spawn(f, x); return 0; } => 10 0
 mutex m; void f(int locked(m) * x) { } int main(void) { int * x = NULL; spawn(f, x); return 0; } => 10 0

@@ -76,7 +76,8 @@ fn text_of(
     Ok(print_span(rt.alloc(), program, from, to)?)
 }
 
-/// The texts of a program's names and types, and after them that of each node, with the file and the line of its first token.
+/// The texts of a program's names and types, and after them that of each node, with the file and the line of its first
+/// token.
 fn texts(rt: &(impl Abort + AllocGlobal), program: &Program) -> Result<Vec<u8>, Fail> {
     let Met { spans, mut texts } = all_met(rt.alloc(), program)?;
     for span in spans.as_slice() {

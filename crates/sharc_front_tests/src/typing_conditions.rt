@@ -35,7 +35,8 @@ fn condition_variables_are_known(rt: HostRuntime) -> Result<(), Fail> {
     Ok(())
 }
 
-/// Programs that define none of the four: fields, parameters and locals of these names are no definitions, nor is `struct wait`, nor `cond`.
+/// Programs that define none of the four: fields, parameters and locals of these names are no definitions, nor is
+/// `struct wait`, nor `cond`.
 static NOT_DEFINED: [&str; 9] = [
     "struct cond c; struct cond a[3]; struct k { struct cond * c; }; int main(void) { }",
     "struct k { struct cond * wait; mutex * signal; int broadcast; int cond; }; void r(struct k * j) { wait(j->wait, j->signal); } int main(void) { }",

@@ -34,7 +34,8 @@ struct Counted {
     most: usize,
 }
 
-/// Structs, fields, globals, functions after `main`, parameters after a first one, and locals in every place that a statement has.
+/// Structs, fields, globals, functions after `main`, parameters after a first one, and locals in every place that a
+/// statement has.
 static COUNTED: [Counted; 13] = [
     Counted {
         opening: "",

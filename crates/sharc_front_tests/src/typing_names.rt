@@ -198,7 +198,8 @@ fn many_fields(
     Ok(text)
 }
 
-/// How many fields there are before, between and at the end, of which those between are pointers, and the bits of these.
+/// How many fields there are before, between and at the end, of which those between are pointers, and the bits of
+/// these.
 static POINTERS: [(usize, usize, usize, [u64; 4]); 6] = [
     (0, 256, 256, [u64::MAX, u64::MAX, u64::MAX, u64::MAX]),
     (0, 0, 256, [0, 0, 0, 0]),

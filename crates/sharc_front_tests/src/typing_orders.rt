@@ -5,7 +5,8 @@ use crate::typing_limits::add_numbered;
 use std::process::Abort;
 use std::test::Fail;
 
-/// Items with one fault each, and its code and name. The pass meets names of the file and sizes at other times than what is in the items.
+/// Items with one fault each, and its code and name. The pass meets names of the file and sizes at other times than
+/// what is in the items.
 static FAULTY: [(&str, &str); 22] = [
     ("struct nope * c1;", "C1 nope"),
     ("int locked(nope) c2;", "C1 nope"),

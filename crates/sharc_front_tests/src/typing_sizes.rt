@@ -140,7 +140,8 @@ fn uses_of_many_names_are_typed(rt: HostRuntime) -> Result<(), Fail> {
     Ok(())
 }
 
-/// A function with 200 locals: eleven, and three names declared at 63 depths, used this many times at the deepest and at each on the way out.
+/// A function with 200 locals: eleven, and three names declared at 63 depths, used this many times at the deepest and
+/// at each on the way out.
 fn shadowing(alloc: Global, name: &str, times: usize) -> Result<String, AllocError> {
     let mut text = format!(in alloc; "int {name}(void){{")?;
     add_numbered(alloc, &mut text, "int k", 0, 11, ";")?;

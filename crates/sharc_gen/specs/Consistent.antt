@@ -1,6 +1,8 @@
--- Paths of code whose results are those of a store: references are numbers, Bounds answers the elements of its object, the elements of an object
--- do not change while the thread has a reference to it, and a mutex that the thread looks at shares its word with none of another object that it holds.
-use Rattle.std.specs.Prelude.{ℕ, ◌≡◌, ◌+◌, ◌*◌, ◌^◌, ◌<◌, ◌⊎◌, true, false, List, [], ◌∷◌, ◌++◌, length, All, Option, Some, None, slice_index}
+-- Paths of code whose results are those of a store: references are numbers, Bounds answers the elements of its object,
+-- the elements of an object do not change while the thread has a reference to it, and a mutex that the thread looks at
+-- shares its word with none of another object that it holds.
+use Rattle.std.specs.Prelude.{ℕ, ◌≡◌, ◌+◌, ◌*◌, ◌^◌, ◌<◌, ◌⊎◌, true, false, List, [], ◌∷◌, ◌++◌, length, All, Option}
+use Rattle.std.specs.Prelude.{Some, None, slice_index}
 use Rattle.std.specs.Option.{option_to_list}
 use Rattle.sharc_tree.specs.declared.event.SourceEvent.{SourceEvent}
 use Rattle.sharc_granule.specs.{declared.stage.Stage.{Stage as NewStage}, declared.stage.Stage.TheVariants.Length}
@@ -8,7 +10,8 @@ use Rattle.sharc_locks.specs.declared.held_log.HeldMutex.{HeldMutex}
 use Rattle.sharc_code.specs.{declared.code.Code.Code, declared.code.Parameter.Parameter, declared.instr.Cell.Cell}
 use Rattle.sharc_code.specs.declared.instr.Cell.TheVariants.{Global, GlobalAt, Object as InObject, ObjectAt}
 use Rattle.sharc_code.specs.declared.instr.Instr.{Instr}
-use Rattle.sharc_code.specs.declared.instr.Instr.TheVariants.{ChkHeld, ChkNotHeld, ChkLock, ChkLockLoaded, Bounds, LoadRef, Exchange, New, TakeCell, Lock, Unlock, Start}
+use Rattle.sharc_code.specs.declared.instr.Instr.TheVariants.{ChkHeld, ChkNotHeld, ChkLock, ChkLockLoaded, Bounds}
+use Rattle.sharc_code.specs.declared.instr.Instr.TheVariants.{LoadRef, Exchange, New, TakeCell, Lock, Unlock, Start}
 use Rattle.sharc_code.specs.{declared.shape.Shape.Shape, declared.state.Stage.Stage}
 use Rattle.sharc_code.specs.{declared.state.Stage.TheVariants.{Makes, Enters}, Arithmetic.word_of}
 use Rattle.sharc_code.specs.Layout.{first_cell, words_of, cell_of}
@@ -18,8 +21,8 @@ use Rattle.sharc_code.specs.Ranges.{IsInGlobal}
 use Rattle.sharc_code.specs.declared.code.Parameter.TheVariants as parameters
 
 -- ---- what a path reports of the source
--- The elements of the objects by their numbers, at each turn of a path: those of the last New of the number among the events of all threads before
--- the turn.
+-- The elements of the objects by their numbers, at each turn of a path: those of the last New of the number among the
+-- events of all threads before the turn.
 abbrev pub Elements : Type 0
 Elements = ℕ → ℕ
 
@@ -36,7 +39,8 @@ said_now code T m found = says code m found (T (speaks_of (instr_at code m.at.pc
 abbrev pub said_in : Code → Shape → Machine → (ℕ → Elements) → List ℕ → List SourceEvent
 said_in code s m elements [] = []
 said_in code s m elements (found ∷ earlier) =
-    said_in code s m elements earlier ++ option_to_list (said_now code (elements (length earlier)) (machine_after code s m earlier) found)
+    said_in code s m elements earlier
+    ++ option_to_list (said_now code (elements (length earlier)) (machine_after code s m earlier) found)
 
 -- ---- references
 -- a reference is a number of 32 bits
@@ -133,11 +137,13 @@ pub record IsConsistentTurn (code : Code) (s : Shape) (T later : Elements) (m : 
   -- a turn that asks for no step finds 0
   pub quiet : asked_by (turn code s m) ≡ None → found ≡ 0
   -- no other thread makes an object anew to which this one has a reference
-  pub kept : (n : ℕ) → 0 < n → Has (after (turn code s m) found) n → later n ≡ elements_told (said_now code T m found) T n
+  pub kept : (n : ℕ) → 0 < n → Has (after (turn code s m) found) n
+      → later n ≡ elements_told (said_now code T m found) T n
 
 -- a path, the last turn first
 abbrev pub IsConsistent : Code → Shape → Machine → (ℕ → Elements) → List ℕ → Type 0
 IsConsistent code s m elements [] = Unit {0}
 IsConsistent code s m elements (found ∷ earlier) =
     IsConsistent code s m elements earlier
-    × IsConsistentTurn code s (elements (length earlier)) (elements (length earlier + 1)) (machine_after code s m earlier) found
+    × IsConsistentTurn code s (elements (length earlier)) (elements (length earlier + 1))
+    (machine_after code s m earlier) found

@@ -20,4 +20,5 @@ abbrev pub lowered_in : Code → Shape → Machine → (ℕ → Elements) → Li
 lowered_in code s m elements [] = []
 lowered_in code s m elements (found ∷ earlier) =
     let now = machine_after code s m earlier in
-    unless_told (said_now code (elements (length earlier)) now found) (lowered_in code s m elements earlier ++ lowered_by now (instr_at code now.at.pc))
+    unless_told (said_now code (elements (length earlier)) now found) (lowered_in code s m elements earlier
+    ++ lowered_by now (instr_at code now.at.pc))

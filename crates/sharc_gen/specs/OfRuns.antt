@@ -21,18 +21,22 @@ table_of code s turns n = elements_in (told_in (Erase code s turns)) n
 -- those before turn k of a thread: at the longest first part of the run with k of its turns
 abbrev pub elements_before : Code → Shape → ℕ → List Turn → ℕ → Elements
 elements_before code s t [] k = table_of code s []
-elements_before code s t (turn ∷ earlier) k = if nat_le (length (turns_of t (turn ∷ earlier))) k then table_of code s (turn ∷ earlier) else elements_before code s t earlier k
+elements_before code s t (turn ∷ earlier) k =
+    if nat_le (length (turns_of t (turn ∷ earlier))) k then table_of code s (turn ∷ earlier)
+    else elements_before code s t earlier k
 
 -- a turn that asks for no step finds 0
 abbrev pub AreQuiet : Code → Shape → Machine → List ℕ → Type 0
 AreQuiet code s m [] = Unit {0}
-AreQuiet code s m (found ∷ earlier) = AreQuiet code s m earlier × (asked_by (turn code s (machine_after code s m earlier)) ≡ None → found ≡ 0)
+AreQuiet code s m (found ∷ earlier) =
+    AreQuiet code s m earlier × (asked_by (turn code s (machine_after code s m earlier)) ≡ None → found ≡ 0)
 
 pub record IsPathIn (code : Code) (s : Shape) (t : ℕ) (run : List Turn) : Type 0 where
   pub path : CodePath code s t (founds_of (turns_of t run))
   pub machine : (place_after code s run).threads t ≡ machine_after code s (begun code s t) (founds_of (turns_of t run))
   -- what the run reports of the thread is what its path says with the elements of the run
-  pub said : told_in (said_by t (Erase code s run)) ≡ reverse (said_in code s (begun code s t) (elements_before code s t run) (founds_of (turns_of t run)))
+  pub said : told_in (said_by t (Erase code s run))
+      ≡ reverse (said_in code s (begun code s t) (elements_before code s t run) (founds_of (turns_of t run)))
   pub quiet : AreQuiet code s (begun code s t) (founds_of (turns_of t run))
 
 -- each thread of a checked run

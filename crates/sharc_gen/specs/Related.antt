@@ -1,5 +1,6 @@
 -- How a thread of code and one of guarded code are related where both are at one statement.
-use Rattle.std.specs.Prelude.{ℕ, ℤ, pos, ◌≡◌, ◌+◌, ◌*◌, ◌<◌, ◌⊎◌, false, List, [], ◌∷◌, length, Option, IsSomeAnd, slice_index, slice_index_or}
+use Rattle.std.specs.Prelude.{ℕ, ℤ, pos, ◌≡◌, ◌+◌, ◌*◌, ◌<◌, ◌⊎◌, false, List, [], ◌∷◌, length, Option, IsSomeAnd}
+use Rattle.std.specs.Prelude.{slice_index, slice_index_or}
 use Rattle.sharc_tree.specs.{declared.event.Object.Object, declared.event.CellAt.CellAt, declared.trap.Trap.Trap}
 use Rattle.sharc_tree.specs.declared.event.Object.TheVariants as objects
 use Rattle.sharc_tree.specs.declared.trap.Trap.TheVariants as traps
@@ -10,14 +11,17 @@ use Rattle.sharc_code.specs.{declared.code.Code.Code, declared.code.GlobalCells.
 use Rattle.sharc_code.specs.declared.instr.Instr.TheVariants.{New, Clear, Free, Spawn, Join, Exit, CondSignal}
 use Rattle.sharc_code.specs.{declared.shape.Shape.Shape, declared.state.Frame.Frame, declared.state.State.State}
 use Rattle.sharc_code.specs.{declared.state.State.TheVariants.{Runs, Tries, Stopped, Ended}, declared.state.Stage.Stage}
-use Rattle.sharc_code.specs.declared.state.Stage.TheVariants.{Rests, Looks, Clears, Makes, Empties, Lowers, FreeLooks, FreeClears, Uncounts, Links, Names, Hands, Begins, Enters, Withdraws, WithdrawsFrom, Leaves, Wakes}
+use Rattle.sharc_code.specs.declared.state.Stage.TheVariants.{Rests, Looks, Clears, Makes, Empties, Lowers, FreeLooks}
+use Rattle.sharc_code.specs.declared.state.Stage.TheVariants.{FreeClears, Uncounts, Links, Names, Hands, Begins, Enters}
+use Rattle.sharc_code.specs.declared.state.Stage.TheVariants.{Withdraws, WithdrawsFrom, Leaves, Wakes}
 use Rattle.sharc_code.specs.declared.state.Stop.{Stop}
 use Rattle.sharc_code.specs.declared.state.Stop.TheVariants.{Conflict, NoLock, NotSole, Trap as Trapped}
 use Rattle.sharc_code.specs.{declared.state.TheConstants.FRAMES, Layout.{first_cell, cell_of}}
 use Rattle.sharc_code.specs.Machine.{Machine, int, no_frame, elements_of, freed, layout_at}
 use Rattle.sharc_code.specs.{Path.{most_ints, most_refs}, Says.{no_global, reference}, Ranges.IsInGlobal}
 use Rattle.sharc_guarded_form.specs.Machine as Form
-use Rattle.sharc_guarded_form.specs.Machine.{Program, Thread, Phase, Running, Leaving, Left, Check, Accesses, Locks, IsSole, statement_at, turn, is_held}
+use Rattle.sharc_guarded_form.specs.Machine.{Program, Thread, Phase, Running, Leaving, Left, Check, Accesses, Locks}
+use Rattle.sharc_guarded_form.specs.Machine.{IsSole, statement_at, turn, is_held}
 use Rattle.sharc_gen.specs.Consistent.{Elements, IsNumber}
 
 -- ---- registers
@@ -36,7 +40,8 @@ pub record AreRefs (T : Elements) (xs : List ℕ) (many : ℕ) (refs : ℕ → �
 -- ---- frames: the nearest caller's is the last one below the depth
 abbrev pub AreFrames : List Frame → ℕ → List Frame → Type 0
 AreFrames [] depth slots = depth ≡ 0
-AreFrames (f ∷ fs) depth slots = (depth ≡ length fs + 1) × (slice_index_or slots (length fs) no_frame ≡ f) × AreFrames fs (length fs) slots
+AreFrames (f ∷ fs) depth slots =
+    (depth ≡ length fs + 1) × (slice_index_or slots (length fs) no_frame ≡ f) × AreFrames fs (length fs) slots
 
 -- ---- the log
 -- the number of a cell, counted from the first cell of granule 0, and that of its object
@@ -71,8 +76,10 @@ AreHeld globals first (c ∷ cs) (e ∷ es) = IsHeldAs globals first c e × AreH
 
 -- ---- all but the place
 pub record AreSame (globals : List GlobalCells) (first most_int most_ref : ℕ) (T : Elements)
-    (ints_from refs_from depth : ℕ) (ints : List ℤ) (refs : List ℕ) (pending : ℕ) (slots : List Frame) (log : List HeldMutex) (function : ℕ)
-    (ints_from' refs_from' : ℕ) (ints' refs' : ℕ → ℤ) (pending' : ℤ) (frames : List Frame) (log' : List CellAt) (function' : ℕ) : Type 0 where
+    (ints_from refs_from depth : ℕ) (ints : List ℤ) (refs : List ℕ) (pending : ℕ) (slots : List Frame)
+    (log : List HeldMutex) (function : ℕ)
+    (ints_from' refs_from' : ℕ) (ints' refs' : ℕ → ℤ) (pending' : ℤ) (frames : List Frame) (log' : List CellAt)
+    (function' : ℕ) : Type 0 where
   pub from_ints : ints_from' ≡ ints_from
   pub from_refs : refs_from' ≡ refs_from
   pub in_ints : AreInts ints most_int ints'
@@ -84,7 +91,8 @@ pub record AreSame (globals : List GlobalCells) (first most_int most_ref : ℕ) 
   pub function_is : function' ≡ function
 
 abbrev pub Same : Code → Shape → Elements → Machine → Thread → Type 0
-Same code s T m a = AreSame code.globals.items (first_cell s) (FRAMES * most_ints code.functions.items) (FRAMES * most_refs code.functions.items) T
+Same code s T m a = AreSame code.globals.items (first_cell s) (FRAMES * most_ints code.functions.items)
+    (FRAMES * most_refs code.functions.items) T
     m.at.ints m.at.refs m.at.depth m.ints m.refs m.pending m.frames m.own.held m.own.function
     a.ints_from a.refs_from a.ints a.refs a.pending a.frames a.held a.function
 
@@ -95,7 +103,8 @@ IsGoing (Made header) = ⊥
 IsGoing _ = Unit {0}
 
 abbrev pub IsInNew : Machine → Stage → Instr → Type 0
-IsInNew m (Makes state) (New r count cells site) = (state.arguments.elements ≡ elements_of (int m count)) × IsGoing state.stage
+IsInNew m (Makes state) (New r count cells site) =
+    (state.arguments.elements ≡ elements_of (int m count)) × IsGoing state.stage
 IsInNew m _ _ = ⊥
 
 abbrev pub IsInClear : Instr → Type 0
@@ -169,7 +178,8 @@ abbrev pub StopsAt : Program → Thread → Stop → Type 0
 StopsAt p a (Conflict c) = (cell : CellAt) × ChecksNext p a (Accesses c.kind cell) c.site
 StopsAt p a (NoLock site mutex) = (cell : CellAt) × ChecksNext p a (Locks cell) site × (is_held a.held cell ≡ false)
 StopsAt p a (NotSole site count) = (v : ℤ) × ChecksNext p a (IsSole v) site
-StopsAt p a (Trapped trap site) = (turn p a ≡ Form.Halts (Form.Stopped trap site)) ⊎ Refuses (statement_at p a.pc) trap site
+StopsAt p a (Trapped trap site) = (turn p a ≡ Form.Halts (Form.Stopped trap site))
+    ⊎ Refuses (statement_at p a.pc) trap site
 
 -- where the machine is over, guarded code is
 abbrev pub IsOver : Program → Thread → State → Option Stop → Type 0

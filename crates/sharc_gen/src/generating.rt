@@ -11,8 +11,8 @@ use sharc_code::{Code, Function, Instr};
 use sharc_guarded_form::Guarded;
 use std::alloc::{AllocError, Global};
 
-/// The code of guarded code. It takes over the tables. Its numbers are in the ranges that the machine asks for, where those of the
-/// guarded code are.
+/// The code of guarded code. It takes over the tables. Its numbers are in the ranges that the machine asks for, where
+/// those of the guarded code are.
 ///
 /// An `Err` says that memory was not found.
 pub fn generate(alloc: Global, guarded: Guarded) -> Result<Code, AllocError>

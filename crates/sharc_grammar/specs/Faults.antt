@@ -15,8 +15,10 @@ abbrev pub wrong_code : List Word → GrammarFault
 wrong_code (left_out ∷ rest) = LeftOut
 wrong_code _ = Unexpected
 
--- The first n words begin a program within the limits. With the next word they begin no program at all (P1, or P3), or one but none within the limits (P2).
+-- The first n words begin a program within the limits. With the next word they begin no program at all (P1, or P3), or
+-- one but none within the limits (P2).
 pub record IsFault (all : List Word) (code : GrammarFault) (n : ℕ) : Type 0 where
   pub there : n ≤ length all
   pub begins : BeginsWithin (take n all)
-  pub ends : ((code ≡ wrong_code (drop n all)) × EndsAt (take n all) (drop n all)) ⊎ ((code ≡ Deep) × Exceeds (take n all) (drop n all))
+  pub ends : ((code ≡ wrong_code (drop n all)) × EndsAt (take n all) (drop n all))
+      ⊎ ((code ≡ Deep) × Exceeds (take n all) (drop n all))

@@ -1,7 +1,13 @@
 -- The grammar of programs: phrases, and the words of each.
 use Rattle.std.specs.Prelude.{◌≡◌, ℕ, Bool, true, false, ◌≤◌, ◌<◌, List, [], ◌∷◌, ◌++◌, Option, Some, None}
 use Rattle.sharc_tree.specs.{declared.token.Keyword.Keyword, declared.token.Punctuator.Punctuator}
-use Rattle.sharc_tree.specs.declared.token.Punctuator.TheVariants.{OpenParenthesis, CloseParenthesis, OpenBrace, CloseBrace, OpenBracket, CloseBracket, Semicolon, Comma, Dot, Arrow, Assign, Equal, NotEqual, Less, Greater, LessOrEqual, GreaterOrEqual, ShiftLeft, ShiftRight, Plus, Minus, Star, Slash, Percent, Ampersand, AndAnd, Bar, OrOr, Caret, Exclamation, Tilde}
+use Rattle.sharc_tree.specs.declared.token.Punctuator.TheVariants.{OpenParenthesis, CloseParenthesis, OpenBrace}
+use Rattle.sharc_tree.specs.declared.token.Punctuator.TheVariants.{CloseBrace, OpenBracket, CloseBracket, Semicolon}
+use Rattle.sharc_tree.specs.declared.token.Punctuator.TheVariants.{Comma, Dot, Arrow, Assign, Equal, NotEqual, Less}
+use Rattle.sharc_tree.specs.declared.token.Punctuator.TheVariants.{Greater, LessOrEqual, GreaterOrEqual, ShiftLeft}
+use Rattle.sharc_tree.specs.declared.token.Punctuator.TheVariants.{ShiftRight, Plus, Minus, Star, Slash, Percent}
+use Rattle.sharc_tree.specs.declared.token.Punctuator.TheVariants.{Ampersand, AndAnd, Bar, OrOr, Caret, Exclamation}
+use Rattle.sharc_tree.specs.declared.token.Punctuator.TheVariants.{Tilde}
 use Rattle.sharc_tree.specs.{declared.token.Number.Number, declared.ctype.Base.Base}
 use Rattle.sharc_tree.specs.declared.tree.expression.BinaryOperator.{BinaryOperator}
 use Rattle.sharc_tree.specs.declared.tree.expression.UnaryOperator.{UnaryOperator}
@@ -53,7 +59,8 @@ sharing_words readonly y = keyword key.Readonly ∷ y
 sharing_words racy y = keyword key.Racy ∷ y
 sharing_words dynamic y = keyword key.Dynamic ∷ y
 sharing_words (locked m) y = keyword key.Locked ∷ (mark OpenParenthesis ∷ (name m ∷ (mark CloseParenthesis ∷ y)))
-sharing_words (locked_through x m) y = keyword key.Locked ∷ (mark OpenParenthesis ∷ (name x ∷ (mark Arrow ∷ (name m ∷ (mark CloseParenthesis ∷ y)))))
+sharing_words (locked_through x m) y =
+    keyword key.Locked ∷ (mark OpenParenthesis ∷ (name x ∷ (mark Arrow ∷ (name m ∷ (mark CloseParenthesis ∷ y)))))
 
 abbrev pub level_words : Option Sharing → List Word → List Word
 level_words None y = y
@@ -310,7 +317,8 @@ count_words (Some e) y = words e (mark Star ∷ y)
 
 abbrev pub value_words : Value → List Word → List Word
 value_words (value e) y = words e y
-value_words (malloc n t) y = keyword key.Malloc ∷ (mark OpenParenthesis ∷ count_words n (keyword key.Sizeof ∷ (mark OpenParenthesis ∷ type_words t (mark CloseParenthesis ∷ (mark CloseParenthesis ∷ y)))))
+value_words (malloc n t) y = keyword key.Malloc ∷ (mark OpenParenthesis ∷ count_words n (keyword key.Sizeof
+    ∷ (mark OpenParenthesis ∷ type_words t (mark CloseParenthesis ∷ (mark CloseParenthesis ∷ y)))))
 
 abbrev pub doing_words : Doing → List Word → List Word
 doing_words (assign u r) y = words u (mark Assign ∷ value_words r y)
@@ -330,7 +338,8 @@ step_words None y = y
 step_words (Some x) y = doing_words x y
 
 abbrev pub loop_words : Loop → List Word → List Word
-loop_words h y = keyword key.For ∷ (mark OpenParenthesis ∷ line_words h.first (option_words h.test (mark Semicolon ∷ step_words h.step (mark CloseParenthesis ∷ y))))
+loop_words h y = keyword key.For ∷ (mark OpenParenthesis
+    ∷ line_words h.first (option_words h.test (mark Semicolon ∷ step_words h.step (mark CloseParenthesis ∷ y))))
 
 abbrev pub jump_word : Jump → Word
 jump_word jumps.Break = keyword key.Break
@@ -351,7 +360,8 @@ abbrev mutual
 
   pub opening_words : Opening → List Word → List Word
   opening_words (if_of e) y = keyword key.If ∷ (mark OpenParenthesis ∷ words e (mark CloseParenthesis ∷ y))
-  opening_words (else_of e s) y = keyword key.If ∷ (mark OpenParenthesis ∷ words e (mark CloseParenthesis ∷ written s (keyword key.Else ∷ y)))
+  opening_words (else_of e s) y =
+      keyword key.If ∷ (mark OpenParenthesis ∷ words e (mark CloseParenthesis ∷ written s (keyword key.Else ∷ y)))
   opening_words (while_of e) y = keyword key.While ∷ (mark OpenParenthesis ∷ words e (mark CloseParenthesis ∷ y))
   opening_words (for_of h) y = loop_words h y
 
@@ -467,9 +477,11 @@ parameters_words [] y = keyword key.Void ∷ y
 parameters_words (d ∷ rest) y = declaring_words d (further_words rest y)
 
 abbrev pub part_words : Part → List Word → List Word
-part_words (structure n fields) y = keyword key.Struct ∷ (name n ∷ (mark OpenBrace ∷ fields_words fields (mark CloseBrace ∷ (mark Semicolon ∷ y))))
+part_words (structure n fields) y =
+    keyword key.Struct ∷ (name n ∷ (mark OpenBrace ∷ fields_words fields (mark CloseBrace ∷ (mark Semicolon ∷ y))))
 part_words (global d form) y = declaring_words d (form_words form (mark Semicolon ∷ y))
-part_words (function f) y = type_words f.result (name f.named ∷ (mark OpenParenthesis ∷ parameters_words f.parameters (mark CloseParenthesis ∷ (mark OpenBrace ∷ written_all f.body (mark CloseBrace ∷ y)))))
+part_words (function f) y = type_words f.result (name f.named ∷ (mark OpenParenthesis ∷ parameters_words f.parameters
+    (mark CloseParenthesis ∷ (mark OpenBrace ∷ written_all f.body (mark CloseBrace ∷ y)))))
 
 abbrev pub program_words : List Part → List Word → List Word
 program_words [] y = y

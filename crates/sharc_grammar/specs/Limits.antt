@@ -1,7 +1,17 @@
 -- The limits on height, stars and nesting, and the machine within them.
-use Rattle.std.specs.Prelude.{◌≡◌, ℕ, ◌+◌, ◌≤◌, max, List, [], ◌∷◌, ◌++◌, length, Option, Some, None, Bool, true, false, nat_le, cond}
-use Rattle.sharc_grammar.specs.Grammar.{Word, Sharing, Typing, Declaring, Front, of_cast, Phrase, identifier, constant, enclosed, call, index, field, unary, binary, Phrases, none, more, Value, value, malloc, Doing, assign, invoke, Line, nothing, does, declares, Sentence, line, jump, return, block, under, Sentences, no_more, sentence, Opening, if_of, else_of, while_of, for_of, Part, structure, global, function, program_words, IsProgram, Begins, EndsAt}
-use Rattle.sharc_grammar.specs.Machine.{Outer, body, items, inside, LinePlace, as_statement, as_first, DoingPlace, in_line, as_step, Place, condition, subject, Cont, part, beneath, right_of, fronted, indexing, arguments, TypePlace, casting, Core, Want, Have, Called, Dotted, Spawning, Start, Done, Returning, ForOpen, TypeWant, Typed, State, At, fields, step, Outcome, Read, Stuck, finish}
+use Rattle.std.specs.Prelude.{◌≡◌, ℕ, ◌+◌, ◌≤◌, max, List, [], ◌∷◌, ◌++◌, length, Option, Some, None, Bool, true, false}
+use Rattle.std.specs.Prelude.{nat_le, cond}
+use Rattle.sharc_grammar.specs.Grammar.{Word, Sharing, Typing, Declaring, Front, of_cast, Phrase, identifier, constant}
+use Rattle.sharc_grammar.specs.Grammar.{enclosed, call, index, field, unary, binary, Phrases, none, more, Value, value}
+use Rattle.sharc_grammar.specs.Grammar.{malloc, Doing, assign, invoke, Line, nothing, does, declares, Sentence, line}
+use Rattle.sharc_grammar.specs.Grammar.{jump, return, block, under, Sentences, no_more, sentence, Opening, if_of}
+use Rattle.sharc_grammar.specs.Grammar.{else_of, while_of, for_of, Part, structure, global, function, program_words}
+use Rattle.sharc_grammar.specs.Grammar.{IsProgram, Begins, EndsAt}
+use Rattle.sharc_grammar.specs.Machine.{Outer, body, items, inside, LinePlace, as_statement, as_first, DoingPlace}
+use Rattle.sharc_grammar.specs.Machine.{in_line, as_step, Place, condition, subject, Cont, part, beneath, right_of}
+use Rattle.sharc_grammar.specs.Machine.{fronted, indexing, arguments, TypePlace, casting, Core, Want, Have, Called}
+use Rattle.sharc_grammar.specs.Machine.{Dotted, Spawning, Start, Done, Returning, ForOpen, TypeWant, Typed, State, At}
+use Rattle.sharc_grammar.specs.Machine.{fields, step, Outcome, Read, Stuck, finish}
 
 -- operators, indexes, fields, calls, casts and parentheses on the longest way down
 abbrev mutual
@@ -136,7 +146,8 @@ LowProgram (p ∷ rest) = LowPart p × LowProgram rest
 
 -- these words begin a program within the limits
 abbrev pub BeginsWithin : List Word → Type 0
-BeginsWithin before = (p : List Part) × IsProgram p × LowProgram p × (rest : List Word) × (program_words p [] ≡ before ++ rest)
+BeginsWithin before =
+    (p : List Part) × IsProgram p × LowProgram p × (rest : List Word) × (program_words p [] ≡ before ++ rest)
 
 -- the words before it begin a program within the limits, and with it they begin none at all
 pub record FirstWrong (all rest : List Word) : Type 0 where

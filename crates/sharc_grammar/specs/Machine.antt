@@ -1,7 +1,13 @@
 -- Reading word by word: what is still open, and what comes next.
 use Rattle.std.specs.Prelude.{ℕ, suc, List, [], ◌∷◌, ◌++◌, Option, Some, None, Bool, true, false, nat_le, cond}
 use Rattle.sharc_tree.specs.declared.token.Keyword.TheVariants as key
-use Rattle.sharc_tree.specs.declared.token.Punctuator.TheVariants.{OpenParenthesis, CloseParenthesis, OpenBrace, CloseBrace, OpenBracket, CloseBracket, Semicolon, Comma, Dot, Arrow, Assign, Equal, NotEqual, Less, Greater, LessOrEqual, GreaterOrEqual, ShiftLeft, ShiftRight, Plus, Minus, Star, Slash, Percent, Ampersand, AndAnd, Bar, OrOr, Caret, Exclamation, Tilde}
+use Rattle.sharc_tree.specs.declared.token.Punctuator.TheVariants.{OpenParenthesis, CloseParenthesis, OpenBrace}
+use Rattle.sharc_tree.specs.declared.token.Punctuator.TheVariants.{CloseBrace, OpenBracket, CloseBracket, Semicolon}
+use Rattle.sharc_tree.specs.declared.token.Punctuator.TheVariants.{Comma, Dot, Arrow, Assign, Equal, NotEqual, Less}
+use Rattle.sharc_tree.specs.declared.token.Punctuator.TheVariants.{Greater, LessOrEqual, GreaterOrEqual, ShiftLeft}
+use Rattle.sharc_tree.specs.declared.token.Punctuator.TheVariants.{ShiftRight, Plus, Minus, Star, Slash, Percent}
+use Rattle.sharc_tree.specs.declared.token.Punctuator.TheVariants.{Ampersand, AndAnd, Bar, OrOr, Caret, Exclamation}
+use Rattle.sharc_tree.specs.declared.token.Punctuator.TheVariants.{Tilde}
 use Rattle.sharc_tree.specs.{declared.ctype.Base.Base, declared.tree.expression.BinaryOperator.BinaryOperator}
 use Rattle.sharc_tree.specs.declared.tree.expression.UnaryOperator.{UnaryOperator}
 use Rattle.sharc_tree.specs.declared.tree.expression.UnaryOperator.TheVariants.{Negate, Not, Complement, Dereference}
@@ -13,7 +19,14 @@ use Rattle.sharc_tree.specs.declared.tree.expression.ValueCall.TheVariants as va
 use Rattle.sharc_tree.specs.declared.tree.expression.PlaceCall.TheVariants as place_call
 use Rattle.sharc_tree.specs.declared.tree.statement.Jump.TheVariants as jumps
 use Rattle.sharc_tree.specs.declared.tree.expression.Constant.TheVariants as constants
-use Rattle.sharc_grammar.specs.Grammar.{Word, name, keyword, mark, number, character, Sharing, private, readonly, racy, dynamic, locked, locked_through, Typing, Declaring, Front, parenthesis, of_spawn, of_value, of_place, of_cast, Phrase, identifier, constant, enclosed, call, index, field, unary, binary, Phrases, none, more, strength, front_level, Value, value, malloc, Doing, assign, invoke, Line, nothing, does, declares, Sentence, line, jump, return, block, under, Sentences, no_more, sentence, Opening, if_of, else_of, while_of, for_of, is_call, single, array, initially, Part, structure, global, function}
+use Rattle.sharc_grammar.specs.Grammar.{Word, name, keyword, mark, number, character, Sharing, private, readonly, racy}
+use Rattle.sharc_grammar.specs.Grammar.{dynamic, locked, locked_through, Typing, Declaring, Front, parenthesis}
+use Rattle.sharc_grammar.specs.Grammar.{of_spawn, of_value, of_place, of_cast, Phrase, identifier, constant, enclosed}
+use Rattle.sharc_grammar.specs.Grammar.{call, index, field, unary, binary, Phrases, none, more, strength, front_level}
+use Rattle.sharc_grammar.specs.Grammar.{Value, value, malloc, Doing, assign, invoke, Line, nothing, does, declares}
+use Rattle.sharc_grammar.specs.Grammar.{Sentence, line, jump, return, block, under, Sentences, no_more, sentence}
+use Rattle.sharc_grammar.specs.Grammar.{Opening, if_of, else_of, while_of, for_of, is_call, single, array, initially}
+use Rattle.sharc_grammar.specs.Grammar.{Part, structure, global, function}
 
 -- what is around a statement, from the inside out
 pub data Outer : Type 0 where
@@ -401,7 +414,8 @@ comma_step _ ty = None
 
 abbrev pub close_type : TypePlace → Bool → Base → Option Sharing → List (Option Sharing) → Option State
 close_type (sizing v n o) first b m below = Some (At (a_close ∷ []) (Valued v (malloc n (typing_of first b m below)) o))
-close_type (naming (parameter_of all r f [])) false base.Void None [] = Some (At (a_brace ∷ []) (Start (body all r f [] no_more)))
+close_type (naming (parameter_of all r f [])) false base.Void None [] =
+    Some (At (a_brace ∷ []) (Start (body all r f [] no_more)))
 close_type _ _ _ _ _ = None
 
 abbrev pub open_type : TypePlace → Bool → Base → Option Sharing → List (Option Sharing) → Option State
@@ -453,7 +467,8 @@ named_field all s fields d _ = None
 
 abbrev pub named_parameter : List Part → Typing → List ℕ → List Declaring → Declaring → Word → Option State
 named_parameter all r f before d (mark Comma) = to (TypeWant (naming (parameter_of all r f (with_declaring before d))))
-named_parameter all r f before d (mark CloseParenthesis) = Some (At (a_brace ∷ []) (Start (body all r f (with_declaring before d) no_more)))
+named_parameter all r f before d (mark CloseParenthesis) =
+    Some (At (a_brace ∷ []) (Start (body all r f (with_declaring before d) no_more)))
 named_parameter all r f before d _ = None
 
 abbrev pub named_local : LinePlace → Outer → Declaring → Word → Option State
@@ -514,7 +529,8 @@ may_declare as_statement o = holds_items o
 
 abbrev pub line_start : LinePlace → Outer → Word → Option State
 line_start p o (mark Semicolon) = Some (lined p nothing o)
-line_start p o t = or_else (cond (may_declare p o) (begin_type (naming (local p o)) t) None) (want (part (subject (in_line p)) o) t)
+line_start p o t =
+    or_else (cond (may_declare p o) (begin_type (naming (local p o)) t) None) (want (part (subject (in_line p)) o) t)
 
 abbrev pub start : Outer → Word → Option State
 start o (mark CloseBrace) = close_block o

@@ -13,7 +13,15 @@ use Rattle.sharc_tree.specs.declared.token.TokenKind.TheVariants as kind
 use Rattle.sharc_tree.specs.declared.ctype.Mode.TheVariants as mode
 use Rattle.sharc_tree.specs.declared.ctype.Base.TheVariants as base
 use Rattle.sharc_tree.specs.declared.tree.expression.PlaceCall.TheVariants as place_call
-use Rattle.sharc_grammar.specs.Grammar.{Word, name, keyword, mark, number, character, left_out, Sharing, private, readonly, racy, dynamic, locked, locked_through, Typing, Declaring, Front, parenthesis, of_spawn, of_value, of_place, of_cast, Phrase, identifier, constant, enclosed, call, index, field, unary, binary, Phrases, none, more, Value, value, malloc, Doing, assign, invoke, Declared, Line, nothing, does, declares, Loop, Sentence, line, jump, return, block, under, Sentences, no_more, sentence, Opening, if_of, else_of, while_of, for_of, Form, single, array, initially, Callable, Part, structure, global, function, program_words, IsProgram}
+use Rattle.sharc_grammar.specs.Grammar.{Word, name, keyword, mark, number, character, left_out, Sharing, private}
+use Rattle.sharc_grammar.specs.Grammar.{readonly, racy, dynamic, locked, locked_through, Typing, Declaring, Front}
+use Rattle.sharc_grammar.specs.Grammar.{parenthesis, of_spawn, of_value, of_place, of_cast, Phrase, identifier}
+use Rattle.sharc_grammar.specs.Grammar.{constant, enclosed, call, index, field, unary, binary, Phrases, none, more}
+use Rattle.sharc_grammar.specs.Grammar.{Value, value, malloc, Doing, assign, invoke, Declared, Line, nothing, does}
+use Rattle.sharc_grammar.specs.Grammar.{declares, Loop, Sentence, line, jump, return, block, under, Sentences, no_more}
+use Rattle.sharc_grammar.specs.Grammar.{sentence, Opening, if_of, else_of, while_of, for_of, Form, single, array}
+use Rattle.sharc_grammar.specs.Grammar.{initially, Callable, Part, structure, global, function, program_words}
+use Rattle.sharc_grammar.specs.Grammar.{IsProgram}
 use Rattle.sharc_grammar.specs.Limits.{LowProgram}
 
 -- the word of a token
@@ -196,7 +204,8 @@ bottom_at s n false b m = level_at s (n + base_size b) m
 abbrev pub levels_at : (ℕ → Site) → ℕ → Bool → Base → List (Option Sharing) → List (Option Mode)
 levels_at s n first b [] = []
 levels_at s n first b (m ∷ []) = bottom_at s n first b m ∷ []
-levels_at s n first b (m ∷ (k ∷ below)) = level_at s (n + levels_size b (k ∷ below) + 1) m ∷ levels_at s n first b (k ∷ below)
+levels_at s n first b (m ∷ (k ∷ below)) =
+    level_at s (n + levels_size b (k ∷ below) + 1) m ∷ levels_at s n first b (k ∷ below)
 
 -- the token that names the base: its keyword, or the name of the struct
 abbrev pub base_name : Base → ℕ → ℕ
@@ -210,10 +219,19 @@ base_place false b (m ∷ []) n = base_name b n
 base_place first b (m ∷ (k ∷ below)) n = base_place first b (k ∷ below) n
 
 abbrev pub type_at : (ℕ → Site) → ℕ → Typing → WrittenType
-type_at s n t = record { span = span_at s n (type_size t); mode_first = t.mode_first; base = s (base_place t.mode_first t.base t.levels n); ctype = record { base = t.base; levels = levels_at s n t.mode_first t.base t.levels } }
+type_at s n t = record {
+  span = span_at s n (type_size t);
+  mode_first = t.mode_first;
+  base = s (base_place t.mode_first t.base t.levels n);
+  ctype = record { base = t.base; levels = levels_at s n t.mode_first t.base t.levels };
+}
 
 abbrev pub declaration_at : (ℕ → Site) → ℕ → Declaring → Declaration
-declaration_at s n d = record { span = span_at s n (declaring_size d); written = type_at s n d.typing; name = name_at s (n + type_size d.typing) d.named }
+declaration_at s n d = record {
+  span = span_at s n (declaring_size d);
+  written = type_at s n d.typing;
+  name = name_at s (n + type_size d.typing) d.named;
+}
 
 -- the tree of an expression that a `)` ends
 abbrev pub front_at : (ℕ → Site) → ℕ → Span → Front → tree.Expression → tree.Expression
@@ -227,12 +245,17 @@ abbrev mutual
   pub expression_at : (ℕ → Site) → ℕ → Phrase → tree.Expression
   expression_at s n (identifier x) = tree.identifier (span_at s n 1) (name_at s n x)
   expression_at s n (constant c) = tree.constant (span_at s n 1) c
-  expression_at s n (enclosed f a) = front_at s n (span_at s n (size (enclosed f a))) f (expression_at s (n + front_size f) a)
-  expression_at s n (call f all) = tree.call (span_at s n (size (call f all))) (name_at s n f) (arguments_at s (n + 2) all)
-  expression_at s n (index a i) = tree.index (span_at s n (size (index a i))) (expression_at s n a) (expression_at s (n + size a + 1) i)
-  expression_at s n (field a w x) = tree.field (span_at s n (size (field a w x))) (expression_at s n a) w (name_at s (n + size a + 1) x)
+  expression_at s n (enclosed f a) =
+      front_at s n (span_at s n (size (enclosed f a))) f (expression_at s (n + front_size f) a)
+  expression_at s n (call f all) =
+      tree.call (span_at s n (size (call f all))) (name_at s n f) (arguments_at s (n + 2) all)
+  expression_at s n (index a i) =
+      tree.index (span_at s n (size (index a i))) (expression_at s n a) (expression_at s (n + size a + 1) i)
+  expression_at s n (field a w x) =
+      tree.field (span_at s n (size (field a w x))) (expression_at s n a) w (name_at s (n + size a + 1) x)
   expression_at s n (unary o a) = tree.unary (span_at s n (size (unary o a))) o (expression_at s (n + 1) a)
-  expression_at s n (binary o a b) = tree.binary (span_at s n (size (binary o a b))) o (s (n + size a)) (expression_at s n a) (expression_at s (n + size a + 1) b)
+  expression_at s n (binary o a b) = tree.binary (span_at s n (size (binary o a b))) o (s (n + size a))
+      (expression_at s n a) (expression_at s (n + size a + 1) b)
 
   pub arguments_at : (ℕ → Site) → ℕ → Phrases → tree.Arguments
   arguments_at s n none = tree.no_arguments
@@ -244,10 +267,12 @@ option_at s n (Some e) = Some (expression_at s n e)
 
 abbrev pub value_at : (ℕ → Site) → ℕ → Value → tree.Right
 value_at s n (value e) = tree.value (expression_at s n e)
-value_at s n (malloc c t) = tree.malloc (span_at s n (value_size (malloc c t))) (option_at s (n + 2) c) (type_at s (n + count_size c + 4) t)
+value_at s n (malloc c t) =
+    tree.malloc (span_at s n (value_size (malloc c t))) (option_at s (n + 2) c) (type_at s (n + count_size c + 4) t)
 
 abbrev pub doing_at : (ℕ → Site) → ℕ → Doing → tree.Simple
-doing_at s n (assign u r) = tree.assign (span_at s n (doing_size (assign u r))) (expression_at s n u) (value_at s (n + size u + 1) r)
+doing_at s n (assign u r) =
+    tree.assign (span_at s n (doing_size (assign u r))) (expression_at s n u) (value_at s (n + size u + 1) r)
 doing_at s n (invoke e) = tree.does_call (expression_at s n e)
 
 abbrev pub initial_at : (ℕ → Site) → ℕ → Option Value → Option tree.Right
@@ -255,7 +280,11 @@ initial_at s n None = None
 initial_at s n (Some r) = Some (value_at s (n + 1) r)
 
 abbrev pub local_at : (ℕ → Site) → ℕ → Declared → tree.Local
-local_at s n l = record { span = span_at s n (local_size l); declaration = declaration_at s n l.declaring; initial = initial_at s (n + declaring_size l.declaring) l.initial }
+local_at s n l = record {
+  span = span_at s n (local_size l);
+  declaration = declaration_at s n l.declaring;
+  initial = initial_at s (n + declaring_size l.declaring) l.initial;
+}
 
 abbrev pub first_at : (ℕ → Site) → ℕ → Line → tree.First
 first_at s n nothing = tree.nothing
@@ -267,7 +296,11 @@ step_at s n None = None
 step_at s n (Some x) = Some (doing_at s n x)
 
 abbrev pub head_at : (ℕ → Site) → ℕ → Loop → tree.Head
-head_at s n l = record { first = first_at s (n + 2) l.first; test = option_at s (n + line_size l.first + 2) l.test; step = step_at s (n + line_size l.first + option_size l.test + 3) l.step }
+head_at s n l = record {
+  first = first_at s (n + 2) l.first;
+  test = option_at s (n + line_size l.first + 2) l.test;
+  step = step_at s (n + line_size l.first + option_size l.test + 3) l.step;
+}
 
 abbrev pub line_at : (ℕ → Site) → ℕ → Line → tree.Statement
 line_at s n nothing = tree.empty (span_at s n 1)
@@ -280,7 +313,8 @@ abbrev mutual
   statement_at s n (jump j) = tree.jump (span_at s n 2) j
   statement_at s n (return e) = tree.return (span_at s n (option_size e + 2)) (option_at s (n + 1) e)
   statement_at s n (block all) = tree.block (span_at s n (all_size all + 2)) (statements_at s (n + 1) all)
-  statement_at s n (under w a) = under_at s n w (span_at s n (opening_size w + sentence_size a)) (statement_at s (n + opening_size w) a)
+  statement_at s n (under w a) =
+      under_at s n w (span_at s n (opening_size w + sentence_size a)) (statement_at s (n + opening_size w) a)
 
   pub statements_at : (ℕ → Site) → ℕ → Sentences → tree.Statements
   statements_at s n no_more = tree.no_statements
@@ -288,7 +322,8 @@ abbrev mutual
 
   pub under_at : (ℕ → Site) → ℕ → Opening → Span → tree.Statement → tree.Statement
   under_at s n (if_of e) span a = tree.if_then span (expression_at s (n + 2) e) a
-  under_at s n (else_of e b) span a = tree.if_then_else span (expression_at s (n + 2) e) (statement_at s (n + size e + 3) b) a
+  under_at s n (else_of e b) span a =
+      tree.if_then_else span (expression_at s (n + 2) e) (statement_at s (n + size e + 3) b) a
   under_at s n (while_of e) span a = tree.while span (expression_at s (n + 2) e) a
   under_at s n (for_of l) span a = tree.for span (head_at s n l) a
 
@@ -316,15 +351,24 @@ function_at s n f =
     }
 
 abbrev pub item_at : (ℕ → Site) → ℕ → Part → tree.Item
-item_at s n (structure x fields) = tree.structure (record { span = span_at s n (part_size (structure x fields)); name = name_at s (n + 1) x; fields = declarations_at s (n + 3) fields })
-item_at s n (global d form) = tree.global (record { span = span_at s n (part_size (global d form)); declaration = declaration_at s n d; form = form_at s (n + declaring_size d) form })
+item_at s n (structure x fields) = tree.structure (record {
+  span = span_at s n (part_size (structure x fields));
+  name = name_at s (n + 1) x;
+  fields = declarations_at s (n + 3) fields;
+})
+item_at s n (global d form) = tree.global (record {
+  span = span_at s n (part_size (global d form));
+  declaration = declaration_at s n d;
+  form = form_at s (n + declaring_size d) form;
+})
 item_at s n (function f) = tree.function (function_at s n f)
 
 abbrev pub items_at : (ℕ → Site) → ℕ → List Part → List tree.Item
 items_at s n [] = []
 items_at s n (p ∷ rest) = item_at s n p ∷ items_at s (n + part_size p) rest
 
--- The program is read from these tokens: its tree is that of phrases of the grammar, within the limits, with just these words, each node at its tokens.
+-- The program is read from these tokens: its tree is that of phrases of the grammar, within the limits, with just these
+-- words, each node at its tokens.
 pub record Reads (tokens : Tokens) (p : tree.Program) : Type 0 where
   pub phrases : List Part
   pub is_program : IsProgram phrases

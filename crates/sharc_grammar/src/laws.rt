@@ -1,6 +1,7 @@
 // The laws, each the contract of a function that does nothing.
 
-ghost use Rattle.std.specs.Prelude.{◌≡◌, ℕ, ◌+◌, ◌-◌, ◌<◌, ◌≤◌, Bool, false, List, [], length, slice_index_or, AllPairs, Contains};
+ghost use Rattle.std.specs.Prelude.{◌≡◌, ℕ, ◌+◌, ◌-◌, ◌<◌, ◌≤◌, Bool, false, List, [], length, slice_index_or};
+ghost use Rattle.std.specs.Prelude.{AllPairs, Contains};
 ghost use Rattle.sharc_tree.specs.Tree.{Expression, cast, Statement, Program};
 ghost use Rattle.sharc_tree.specs.Measures.{height as height_of, nesting_of};
 ghost use Rattle.sharc_tree.specs.Low.{is_cast, low_height, IsLow};
@@ -14,7 +15,8 @@ ghost use Rattle.sharc_tree.specs.declared.token.TokenKind.TheVariants.{Identifi
 ghost use Rattle.sharc_tree.specs.declared.token.Tokens.{Tokens};
 ghost use Rattle.sharc_tree.specs.declared.tree.declaration.WrittenType.{WrittenType};
 ghost use Rattle.sharc_grammar.specs.Grammar.{Word, Phrase, Callable, Part, IsProgram, program_words, FirstFault};
-ghost use Rattle.sharc_grammar.specs.Limits.{height, deepest, LowProgram, ReadWithin, StuckAt, Over, reads_within, FirstWrong, FirstExcess};
+ghost use Rattle.sharc_grammar.specs.Limits.{height, deepest, LowProgram, ReadWithin, StuckAt, Over, reads_within};
+ghost use Rattle.sharc_grammar.specs.Limits.{FirstWrong, FirstExcess};
 ghost use Rattle.sharc_grammar.specs.Machine.{Read, Stuck, reads, first_state};
 ghost use Rattle.sharc_grammar.specs.Places.{Reads, expression_at, function_at};
 ghost use Rattle.sharc_grammar.specs.Faults.{IsFault, wrong_code};
@@ -27,7 +29,8 @@ pub fn reads_each_program()
 
 /// What the machine reads is a program of the grammar with these words.
 pub fn reads_only_programs()
-    ensures { (all : List Word) → (p : List Part) → reads all first_state ≡ Read p → IsProgram p × (program_words p [] ≡ all) }
+    ensures { (all : List Word) → (p : List Part) → reads all first_state ≡ Read p
+        → IsProgram p × (program_words p [] ≡ all) }
 {}
 
 /// Where the machine stops, the words before it begin a program, and with the next word they begin none.
@@ -37,20 +40,25 @@ pub fn stops_at_first_fault()
 
 /// The machine that tests the limits reads each program within them.
 pub fn reads_each_within()
-    ensures { (p : List Part) → IsProgram p → LowProgram p → reads_within (program_words p []) first_state ≡ ReadWithin p }
+    ensures { (p : List Part) → IsProgram p → LowProgram p
+        → reads_within (program_words p []) first_state ≡ ReadWithin p }
 {}
 
 /// What it reads is a program within the limits with these words.
 pub fn reads_only_within()
-    ensures { (all : List Word) → (p : List Part) → reads_within all first_state ≡ ReadWithin p → IsProgram p × LowProgram p × (program_words p [] ≡ all) }
+    ensures { (all : List Word) → (p : List Part) → reads_within all first_state ≡ ReadWithin p
+        → IsProgram p × LowProgram p × (program_words p [] ≡ all) }
 {}
 
-/// Where it is stuck, the words before it begin a program within the limits, and with the next word they begin none at all.
+/// Where it is stuck, the words before it begin a program within the limits, and with the next word they begin none at
+/// all.
 pub fn stuck_at_first_wrong()
-    ensures { (all : List Word) → (rest : List Word) → reads_within all first_state ≡ StuckAt rest → FirstWrong all rest }
+    ensures { (all : List Word) → (rest : List Word) → reads_within all first_state ≡ StuckAt rest
+        → FirstWrong all rest }
 {}
 
-/// Where it is over a limit, the words before it begin a program within the limits; with the next word they begin a program, but none within them.
+/// Where it is over a limit, the words before it begin a program within the limits; with the next word they begin a
+/// program, but none within them.
 pub fn over_at_first_excess()
     ensures { (all : List Word) → (rest : List Word) → reads_within all first_state ≡ Over rest → FirstExcess all rest }
 {}
@@ -67,17 +75,21 @@ pub fn height_is_of_tree()
 
 /// The nesting that is limited is that of the tree's function.
 pub fn nesting_is_of_tree()
-    ensures { (sites : (ℕ → Site)) → (n : ℕ) → (f : Callable) → nesting_of (function_at sites n f) ≡ deepest f.body + 1 }
+    ensures { (sites : (ℕ → Site)) → (n : ℕ)
+        → (f : Callable) → nesting_of (function_at sites n f) ≡ deepest f.body + 1 }
 {}
 
-/// Where the machine that tests the limits is stuck after n words, n is the first fault: P3 at a word that is left out, else P1.
+/// Where the machine that tests the limits is stuck after n words, n is the first fault: P3 at a word that is left out,
+/// else P1.
 pub fn stuck_at_fault()
-    ensures { (all : List Word) → (rest : List Word) → (n : ℕ) → n ≡ length all - length rest → reads_within all first_state ≡ StuckAt rest → IsFault all (wrong_code rest) n }
+    ensures { (all : List Word) → (rest : List Word) → (n : ℕ) → n ≡ length all - length rest
+        → reads_within all first_state ≡ StuckAt rest → IsFault all (wrong_code rest) n }
 {}
 
 /// Where it is over a limit after n words, n is the first fault, and P2.
 pub fn over_at_fault()
-    ensures { (all : List Word) → (rest : List Word) → (n : ℕ) → n ≡ length all - length rest → reads_within all first_state ≡ Over rest → IsFault all Deep n }
+    ensures { (all : List Word) → (rest : List Word) → (n : ℕ) → n ≡ length all - length rest
+        → reads_within all first_state ≡ Over rest → IsFault all Deep n }
 {}
 
 /// A program that is read is within the limits, and in the forms of the grammar.
@@ -87,7 +99,8 @@ pub fn programs_are_low()
 
 /// A cast around an expression that is not one leaves the height that is limited as it was.
 pub fn casts_add_no_height()
-    ensures { (s : Span) → (t : WrittenType) → (a : Expression) → is_cast a ≡ false → low_height (cast s t a) ≡ low_height a }
+    ensures { (s : Span) → (t : WrittenType) → (a : Expression) → is_cast a ≡ false
+        → low_height (cast s t a) ≡ low_height a }
 {}
 
 /// A program that is read lies at its tokens.
@@ -107,20 +120,26 @@ pub fn names_have_tokens_of_their_own()
 
 /// In a program that lies at its tokens no name is left out.
 pub fn each_name_token_is_named()
-    ensures { (p : Program) → IsPlaced p → (n : ℕ) → (t : Token) → n < length p.tokens.list → (slice_index_or p.tokens.list n t).kind ≡ IdentifierKind → Contains (items_marks p.items) (a_name n (slice_index_or p.tokens.list n t).text) }
+    ensures { (p : Program) → IsPlaced p
+        → (n : ℕ) → (t : Token) → n < length p.tokens.list → (slice_index_or p.tokens.list n t).kind ≡ IdentifierKind
+        → Contains (items_marks p.items) (a_name n (slice_index_or p.tokens.list n t).text) }
 {}
 
 /// A span of tokens is what `print_span` takes.
 pub fn spans_can_be_printed()
-    ensures { (all : List Token) → (s : Span) → IsSpan all s → (s.first.token ≤ s.last.token) × (s.last.token < length all) }
+    ensures { (all : List Token) → (s : Span) → IsSpan all s
+        → (s.first.token ≤ s.last.token) × (s.last.token < length all) }
 {}
 
 /// So is that of an expression that lies at its tokens.
 pub fn expressions_can_be_printed()
-    ensures { (all : List Token) → (e : Expression) → Placed all e → ((span_of e).first.token ≤ (span_of e).last.token) × ((span_of e).last.token < length all) }
+    ensures { (all : List Token) → (e : Expression) → Placed all e
+        → ((span_of e).first.token ≤ (span_of e).last.token) × ((span_of e).last.token < length all) }
 {}
 
 /// And that of a statement.
 pub fn statements_can_be_printed()
-    ensures { (all : List Token) → (a : Statement) → PlacedStatement all a → ((span_of_statement a).first.token ≤ (span_of_statement a).last.token) × ((span_of_statement a).last.token < length all) }
+    ensures { (all : List Token) → (a : Statement) → PlacedStatement all a
+        → ((span_of_statement a).first.token ≤ (span_of_statement a).last.token)
+        × ((span_of_statement a).last.token < length all) }
 {}

@@ -1,5 +1,6 @@
 -- What a New asks for, by what it was given and what it found so far.
-use Rattle.std.specs.Prelude.{◌≡◌, ◌≢◌, ℕ, ◌+◌, ◌*◌, ◌^◌, ◌<◌, ◌≤◌, ◌++◌, ◌∷◌, [], List, length, map, drop, nat_lt, nat_eq, if◌then◌else◌}
+use Rattle.std.specs.Prelude.{◌≡◌, ◌≢◌, ℕ, ◌+◌, ◌*◌, ◌^◌, ◌<◌, ◌≤◌, ◌++◌, ◌∷◌, [], List, length, map, drop, nat_lt}
+use Rattle.std.specs.Prelude.{nat_eq, if◌then◌else◌}
 use Rattle.std.specs.List.{range_with_len}
 use Rattle.sharc_word.specs.{declared.step.WordStep.WordStep, declared.step.WordOp.WordOp}
 use Rattle.sharc_word.specs.declared.step.WordOp.TheVariants.{Load, Swap, Cas}
@@ -43,7 +44,8 @@ abbrev pub last_steps : NewArguments → ℕ → List WordStep
 last_steps a header =
     step_of (count_word a header) (Swap 1) ∷ step_of (length_word a header) (Swap a.elements) ∷ []
 
--- the steps that take the first block of the own list: its link is read, each cell of the object is cleared, and then the last two
+-- the steps that take the first block of the own list: its link is read, each cell of the object is cleared, and then
+-- the last two
 abbrev pub own_steps : NewArguments → List WordStep
 own_steps a =
     step_of (length_word a a.head) Load
@@ -61,7 +63,8 @@ NoneTwice [] last = Unit {0}
 NoneTwice (x ∷ []) last = x ≢ last
 NoneTwice (x ∷ y ∷ rest) last = (x ≢ y) × NoneTwice (y ∷ rest) last
 
--- these tops were found one after another, the last one last: each Cas found another top than the one that it was to replace
+-- these tops were found one after another, the last one last: each Cas found another top than the one that it was to
+-- replace
 pub record AreTops (results : List ℕ) (top : ℕ) : Type 0 where
   pub earlier : List ℕ
   pub tops : results ≡ earlier ++ top ∷ []
@@ -81,11 +84,14 @@ pub data Asks (a : NewArguments) (results : List ℕ) (turn : NewTurn) : Type 0 
   -- from the top, where the own list is empty: the top is read first
   ReadsTop : a.head ≡ 0 → results ≡ [] → turn ≡ Do (step_of top_word Load) → Asks a results turn
   -- it is moved on by one block from the value seen last
-  MovesTop : a.head ≡ 0 → (top : ℕ) → AreTops results top → top + a.block ≤ a.end → turn ≡ Do (step_of top_word (Cas top (top + a.block))) → Asks a results turn
+  MovesTop : a.head ≡ 0 → (top : ℕ) → AreTops results top → top + a.block ≤ a.end
+      → turn ≡ Do (step_of top_word (Cas top (top + a.block))) → Asks a results turn
   -- there is no room for the block there
-  FindsNoRoom : a.head ≡ 0 → (top : ℕ) → AreTops results top → a.end < top + a.block → turn ≡ HeapFull → Asks a results turn
+  FindsNoRoom : a.head ≡ 0
+      → (top : ℕ) → AreTops results top → a.end < top + a.block → turn ≡ HeapFull → Asks a results turn
   -- the block begins where the top was, and the last two steps follow
-  TakesTop : a.head ≡ 0 → (top : ℕ) (since : List ℕ) → HasMoved results top since → top + a.block ≤ a.end → turn ≡ turn_at (drop (length since) (last_steps a top)) top → Asks a results turn
+  TakesTop : a.head ≡ 0 → (top : ℕ) (since : List ℕ) → HasMoved results top since → top + a.block ≤ a.end
+      → turn ≡ turn_at (drop (length since) (last_steps a top)) top → Asks a results turn
 
 -- the head of the own list after these results: after a block that was taken comes its link
 abbrev pub head_after : NewArguments → List ℕ → ℕ

@@ -3,9 +3,11 @@ use Rattle.std.specs.Prelude.{◌≡◌, ◌≢◌, ℕ, ◌+◌, ◌<◌, ◌�
 use Rattle.sharc_word.specs.declared.step.WordOp.TheVariants.{Load, Swap, Cas}
 use Rattle.sharc_granule.specs.{declared.stage.NewTurn.NewTurn, declared.stage.NewTurn.TheVariants.{Do, Made, HeapFull}}
 use Rattle.sharc_granule.specs.declared.stage.Stage.{Stage}
-use Rattle.sharc_granule.specs.declared.stage.Stage.TheVariants.{Begins, Link, Cell, Top, Move, Count, Length, Made as Finished, Full}
+use Rattle.sharc_granule.specs.declared.stage.Stage.TheVariants.{Begins, Link, Cell, Top, Move, Count, Length}
+use Rattle.sharc_granule.specs.declared.stage.Stage.TheVariants.{Made as Finished, Full}
 use Rattle.sharc_granule.specs.declared.arguments.NewArguments.{NewArguments}
-use Rattle.sharc_granule.specs.Asks.{length_word, cell_word, count_word, top_word, step_of, granule_number, AreTops, HasMoved}
+use Rattle.sharc_granule.specs.Asks.{length_word, cell_word, count_word, top_word, step_of, granule_number, AreTops}
+use Rattle.sharc_granule.specs.Asks.{HasMoved}
 
 -- what a stage asks for; before the first turn nothing is asked for
 abbrev pub turn_of_stage : NewArguments → Stage → NewTurn
@@ -47,7 +49,8 @@ next_head a _ head found = head
 -- the block was found, and as many of the last two steps were made
 pub data HasBlock (a : NewArguments) (results : List ℕ) (header made : ℕ) : Type 0 where
   OfOwn : a.head ≢ 0 → header ≡ a.head → length results ≡ 1 + a.cells + made → HasBlock a results header made
-  OfTop : a.head ≡ 0 → (since : List ℕ) → HasMoved results header since → header + a.block ≤ a.end → length since ≡ made → HasBlock a results header made
+  OfTop : a.head ≡ 0 → (since : List ℕ) → HasMoved results header since → header + a.block ≤ a.end → length since ≡ made
+      → HasBlock a results header made
 
 -- the results that were found up to a stage
 pub record IsInCell (a : NewArguments) (results : List ℕ) (cell : ℕ) : Type 0 where

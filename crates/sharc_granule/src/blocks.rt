@@ -3,8 +3,8 @@
 ghost use Rattle.std.specs.Prelude.{◌≡◌, ◌≤◌, ◌^◌};
 ghost use Rattle.sharc_granule.specs.Block.{IsBlock, block_of};
 
-/// How many granules the block of an object with this many cells has: the least power of two in which its header granule and
-/// its data granules of two cells each have room.
+/// How many granules the block of an object with this many cells has: the least power of two in which its header
+/// granule and its data granules of two cells each have room.
 pub fn block(cells: u64) -> u64
     requires least { 1 ≤ cells }
     requires most { cells ≤ 2 ^ 32 }

@@ -33,16 +33,23 @@ impl NewState {
     ghost use Rattle.sharc_granule.specs.Block.{block_of};
     ghost use Rattle.sharc_granule.specs.State.{begun, told, turn_of, sized};
 
-    /// A New of this many elements with this many cells in all, in the arena that ends before granule `end`, where `first` is
-    /// the number of the word of the first cell of granule 0, and `head` the first freed block of this size on the thread's
-    /// own list, or 0.
+    /// A New of this many elements with this many cells in all, in the arena that ends before granule `end`, where
+    /// `first` is the number of the word of the first cell of granule 0, and `head` the first freed block of this size
+    /// on the thread's own list, or 0.
     pub fn new(elements: u64, cells: u64, end: u64, first: u32, head: u64) -> Self
         requires some { 1 ≤ elements }
         requires least { 1 ≤ cells }
         requires most { cells ≤ 2 ^ 32 }
         requires words { first + 2 * end < 2 ^ 32 }
         requires head { head < end }
-        ensures { result ≡ begun record { elements = elements; cells = cells; end = end; first = first; head = head; block = block_of cells } }
+        ensures { result ≡ begun record {
+          elements = elements;
+          cells = cells;
+          end = end;
+          first = first;
+          head = head;
+          block = block_of cells;
+        } }
     {
         NewState {
             arguments: NewArguments {
@@ -72,7 +79,8 @@ impl NewState {
         self.arguments.block
     }
 
-    /// The header of the block whose length the New asked to write last, with the elements of the object, if that is what it asked for.
+    /// The header of the block whose length the New asked to write last, with the elements of the object, if that is
+    /// what it asked for.
     pub fn sized(&self) -> Option<(u64, u64)>
         ensures { result ≡ sized self.now.arguments self.now.stage }
     {
@@ -90,8 +98,8 @@ impl NewState {
         stage.turn(&self.arguments)
     }
 
-    /// What the New asks for next, where `last` is the result of the step that it asked for before; the first call does not
-    /// look at it. Once the answer is no step, it stays.
+    /// What the New asks for next, where `last` is the result of the step that it asked for before; the first call does
+    /// not look at it. Once the answer is no step, it stays.
     pub fn next(&mut self, last: u64) -> NewTurn
         ensures turn { result ≡ turn_of self.new }
         ensures state { self.new ≡ told self.old last }

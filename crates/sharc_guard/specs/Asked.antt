@@ -1,4 +1,5 @@
--- The answers that were asked for on a path of guarded code, and how many turns of a path of flat code have a statement.
+-- The answers that were asked for on a path of guarded code, and how many turns of a path of flat code have a
+-- statement.
 use Rattle.std.specs.Prelude.{ℕ, ℤ, ◌+◌, List, [], ◌∷◌, ◌++◌, slice_get, Option, Some}
 use Rattle.sharc_flat_form.specs.{declared.op.Op.Op, Machine.{Flat, At}, Path.at_after}
 use Rattle.sharc_flat_form.specs.declared.op.Op.TheVariants as op
@@ -14,7 +15,8 @@ guarded_asked_by (Form.Halts o) x = []
 
 abbrev pub guarded_asked : Program → Thread → List ℤ → List ℤ
 guarded_asked p a [] = []
-guarded_asked p a (x ∷ earlier) = guarded_asked p a earlier ++ guarded_asked_by (Form.turn p (thread_after p a earlier)) x
+guarded_asked p a (x ∷ earlier) =
+    guarded_asked p a earlier ++ guarded_asked_by (Form.turn p (thread_after p a earlier)) x
 
 -- how many turns of a path of flat code have a statement of their own
 abbrev pub is_enter : Option Op → ℕ

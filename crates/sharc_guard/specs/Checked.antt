@@ -1,10 +1,13 @@
 -- Each access of a dynamic or locked cell comes directly after its check, and nothing leads there but the check.
-use Rattle.std.specs.Prelude.{ℕ, ◌+◌, ◌≡◌, ◌<◌, ◌⊎◌, Bool, true, false, length, slice_get, Option, Some, None, if◌then◌else◌}
+use Rattle.std.specs.Prelude.{ℕ, ◌+◌, ◌≡◌, ◌<◌, ◌⊎◌, Bool, true, false, length, slice_get, Option, Some, None}
+use Rattle.std.specs.Prelude.{if◌then◌else◌}
 use Rattle.sharc_code.specs.declared.code.PlaceMode.{PlaceMode}
-use Rattle.sharc_code.specs.declared.code.PlaceMode.TheVariants.{Private, Readonly, Racy, Dynamic, LockedGlobal, LockedSibling, LockedThrough, LockedLoaded}
+use Rattle.sharc_code.specs.declared.code.PlaceMode.TheVariants.{Private, Readonly, Racy, Dynamic, LockedGlobal}
+use Rattle.sharc_code.specs.declared.code.PlaceMode.TheVariants.{LockedSibling, LockedThrough, LockedLoaded}
 use Rattle.sharc_code.specs.{declared.instr.Cell.Cell, declared.instr.Cell.TheVariants.{Global, Object}}
 use Rattle.sharc_code.specs.declared.instr.Instr.{Instr}
-use Rattle.sharc_code.specs.declared.instr.Instr.TheVariants.{Jump, JumpIfZero, JumpIfNull, ChkRead, ChkWrite, ChkLock, ChkLockLoaded, Load, Store, LoadRef, Exchange, TakeCell}
+use Rattle.sharc_code.specs.declared.instr.Instr.TheVariants.{Jump, JumpIfZero, JumpIfNull, ChkRead, ChkWrite, ChkLock}
+use Rattle.sharc_code.specs.declared.instr.Instr.TheVariants.{ChkLockLoaded, Load, Store, LoadRef, Exchange, TakeCell}
 use Rattle.sharc_flat_form.specs.Machine.{Flat}
 use Rattle.sharc_guarded_form.specs.Machine.{Program, function_at, source_at}
 use Rattle.sharc_guard.specs.Guard.{guarded}
@@ -64,5 +67,6 @@ IsCheckedAt dropped p pc LockedLoaded a = IsAfterCheck p pc LockedLoaded a
 
 -- a site is a line of flat code, so `dropped` applies to sites as well
 abbrev pub AccessesAreChecked : Type 0
-AccessesAreChecked = (flat : Flat) (dropped : ℕ → Bool) (pc : ℕ) (i : Instr) (a : Access) → let p = guarded dropped flat in
+AccessesAreChecked = (flat : Flat) (dropped : ℕ → Bool) (pc : ℕ) (i : Instr) (a : Access)
+    → let p = guarded dropped flat in
     slice_get p.statements pc ≡ Some i → access_of i ≡ Some a → IsCheckedAt dropped p pc (source_at p a.site).mode a

@@ -6,13 +6,15 @@ use Rattle.sharc_meaning.specs.declared.given.GivenUp.{GivenUp}
 use Rattle.sharc_meaning.specs.{declared.given.GivenUp.TheVariants.{Released, Replaced, Emptied}, Events.held_mutexes}
 use Rattle.sharc_meaning.specs.State.{stopped, ended}
 use Rattle.sharc_flat_form.specs.Machine as Flat
-use Rattle.sharc_guarded_form.specs.Machine.{Program, Thread, Running, Check, Turn, Goes, Asks, Checks, Halts, Stopped, Ended, turn, source_at}
+use Rattle.sharc_guarded_form.specs.Machine.{Program, Thread, Running, Check, Turn, Goes, Asks, Checks, Halts, Stopped}
+use Rattle.sharc_guarded_form.specs.Machine.{Ended, turn, source_at}
 use Rattle.sharc_guarded_form.specs.Path.{started, thread_after, IsPath, weight_in}
 use Rattle.sharc_guard.specs.Guard.{guarded, place}
 use Rattle.sharc_flat_form.specs.Path as Flow
 use Rattle.sharc_flat_form.specs.Framed.{IsFlat}
 
--- what flat code gave up, and the numbers that guarded code lowered for it: for the old value of a cell whatever it held
+-- what flat code gave up, and the numbers that guarded code lowered for it: for the old value of a cell whatever it
+-- held
 abbrev pub Resolved : List GivenUp → List ℕ → Type 0
 Resolved [] [] = Unit {0}
 Resolved [] (k ∷ ks) = ⊥
@@ -47,13 +49,16 @@ image pl m q lowered = record {
 
 -- what guarded code is about to do, flat code is
 pub record Wants (flat : Flat.Flat) (p : Program) (m : Flat.At) (t : Turn) : Type 0 where
-  pub halts : (trap : Trap) (site : ℕ) → t ≡ Halts (Stopped trap site) → Flat.turn flat m ≡ Flat.halts (stopped trap (source_at p site).site)
+  pub halts : (trap : Trap) (site : ℕ) → t ≡ Halts (Stopped trap site)
+      → Flat.turn flat m ≡ Flat.halts (stopped trap (source_at p site).site)
   pub ends : t ≡ Halts Ended → Flat.turn flat m ≡ Flat.halts ended
-  pub asks : (site : Site) (act : Act) (go : ℤ → Thread) → t ≡ Asks site act go → (m2 : Flat.At) × (held : ℤ) × (f : ℤ → Flat.At → Flat.At) × (Flat.turn flat m ≡ Flat.asks m2 site act held f)
-  pub checks : (check : Check) (site : ℕ) (b : Thread) → t ≡ Checks check site b → (m2 : Flat.At) × (act : Act) × (held : ℤ) × (f : ℤ → Flat.At → Flat.At) × (Flat.turn flat m ≡ Flat.asks m2 (source_at p site).site act held f)
+  pub asks : (site : Site) (act : Act) (go : ℤ → Thread) → t ≡ Asks site act go
+      → (m2 : Flat.At) × (held : ℤ) × (f : ℤ → Flat.At → Flat.At) × (Flat.turn flat m ≡ Flat.asks m2 site act held f)
+  pub checks : (check : Check) (site : ℕ) (b : Thread) → t ≡ Checks check site b → (m2 : Flat.At) × (act : Act)
+      × (held : ℤ) × (f : ℤ → Flat.At → Flat.At) × (Flat.turn flat m ≡ Flat.asks m2 (source_at p site).site act held f)
 
--- The registers, the log and the frames are those of flat code, or the next turn, which only settles the counts, makes them so; after the last return nothing
--- but the phase is left.
+-- The registers, the log and the frames are those of flat code, or the next turn, which only settles the counts, makes
+-- them so; after the last return nothing but the phase is left.
 pub record IsImage (pl : ℕ → ℕ) (m : Flat.At) (a : Thread) : Type 0 where
   pub lowered : List ℕ
   pub is : a ≡ image pl m a.pc lowered
@@ -68,11 +73,14 @@ pub record IsLeaving (flat : Flat.Flat) (m : Flat.At) (a : Thread) : Type 0 wher
   pub function_is : a.function ≡ m.function
 
 -- a path of flat code to where guarded code is
-pub record IsBeside (pl : ℕ → ℕ) (flat : Flat.Flat) (p : Program) (f : ℕ) (v : ℤ) (a : Thread) (turns weight : ℕ) : Type 0 where
+pub record IsBeside (pl : ℕ → ℕ) (flat : Flat.Flat) (p : Program) (f : ℕ) (v : ℤ) (a : Thread)
+    (turns weight : ℕ) : Type 0 where
   pub answers : List ℤ
   pub path : Flow.IsPath flat (Flat.start flat f v) answers
   pub events : a.events ≡ (Flow.at_after flat (Flat.start flat f v) answers).events
-  pub image_is : IsImage pl (Flow.at_after flat (Flat.start flat f v) answers) a ⊎ (IsSettling p pl (Flow.at_after flat (Flat.start flat f v) answers) a ⊎ IsLeaving flat (Flow.at_after flat (Flat.start flat f v) answers) a)
+  pub image_is : IsImage pl (Flow.at_after flat (Flat.start flat f v) answers) a
+      ⊎ (IsSettling p pl (Flow.at_after flat (Flat.start flat f v) answers) a
+      ⊎ IsLeaving flat (Flow.at_after flat (Flat.start flat f v) answers) a)
   -- what was lowered is a first part of what flat code gave up
   pub given : (more : List ℕ) × Resolved (Flow.at_after flat (Flat.start flat f v) answers).given (a.lowered ++ more)
   pub wants : Wants flat p (Flow.at_after flat (Flat.start flat f v) answers) (turn p a)
@@ -83,4 +91,5 @@ pub record IsBeside (pl : ℕ → ℕ) (flat : Flat.Flat) (p : Program) (f : ℕ
 abbrev pub GuardedKeepsPaths : Type 0
 GuardedKeepsPaths = (flat : Flat.Flat) (dropped : ℕ → Bool) → IsFlat flat → let p = guarded dropped flat in
     (f : ℕ) (v : ℤ) (answers : List ℤ) → f < length flat.functions → IsPath p (started p f v) answers
-    → IsBeside (place dropped flat.lines) flat p f v (thread_after p (started p f v) answers) (length answers) (weight_in p (started p f v) answers)
+    → IsBeside (place dropped flat.lines) flat p f v (thread_after p (started p f v) answers) (length answers)
+    (weight_in p (started p f v) answers)

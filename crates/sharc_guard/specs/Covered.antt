@@ -19,8 +19,8 @@ abbrev pub RefersTo : Object → ℤ → Type 0
 RefersTo (objects.Global g) v = Unit {0}
 RefersTo (objects.Made n) v = number_of v ≡ n
 
--- On this path (the last answer first) such an access was made after its check, earlier in the same straight piece, and since then this register has referred to its
--- object.
+-- On this path (the last answer first) such an access was made after its check, earlier in the same straight piece, and
+-- since then this register has referred to its object.
 abbrev pub Since : Flat → At → List ℤ → Kind → CellAt → ℕ → Type 0
 Since flat from [] kind cell j = ⊥
 Since flat from (x ∷ earlier) kind cell j = let now = at_after flat from earlier in
@@ -28,10 +28,13 @@ Since flat from (x ∷ earlier) kind cell j = let now = at_after flat from earli
     × IsStraight (slice_get flat.lines now.pc) × RefersTo cell.object ((at_after flat from (x ∷ earlier)).refs j)
 
 abbrev pub IsCovered : Flat → At → List ℤ → Option Op → Type 0
-IsCovered flat from answers (Some (op.Load i cell spot)) = (j : ℕ) × Since flat from answers Read (cell_at flat.globals (at_after flat from answers) cell) j
-IsCovered flat from answers (Some (op.Store i cell spot)) = (j : ℕ) × Since flat from answers Write (cell_at flat.globals (at_after flat from answers) cell) j
+IsCovered flat from answers (Some (op.Load i cell spot)) =
+    (j : ℕ) × Since flat from answers Read (cell_at flat.globals (at_after flat from answers) cell) j
+IsCovered flat from answers (Some (op.Store i cell spot)) =
+    (j : ℕ) × Since flat from answers Write (cell_at flat.globals (at_after flat from answers) cell) j
 IsCovered flat from answers _ = ⊥
 
 abbrev pub DroppedIsCovered : Type 0
-DroppedIsCovered = (flat : Flat) (f : ℕ) (v : ℤ) → f < length flat.functions → (answers : List ℤ) → IsPath flat (start flat f v) answers → let m = at_after flat (start flat f v) answers in
+DroppedIsCovered = (flat : Flat) (f : ℕ) (v : ℤ) → f < length flat.functions
+    → (answers : List ℤ) → IsPath flat (start flat f v) answers → let m = at_after flat (start flat f v) answers in
     dropped flat m.pc ≡ true → IsCovered flat (start flat f v) answers (slice_get flat.lines m.pc)

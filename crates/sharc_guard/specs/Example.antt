@@ -12,13 +12,29 @@ use Rattle.sharc_guarded_form.specs.Form.{IsGuarded}
 use Rattle.sharc_guard.specs.Guard.{guarded}
 
 abbrev pub there : Spot
-there = record { site = no_site; lvalue = record { from = 0; until = 1 }; lock_text = record { from = 0; until = 0 }; mode = modes.Dynamic; at = uses.Other; lock = Global 0 0; is_simple = true }
+there = record {
+  site = no_site;
+  lvalue = record { from = 0; until = 1 };
+  lock_text = record { from = 0; until = 0 };
+  mode = modes.Dynamic;
+  at = uses.Other;
+  lock = Global 0 0;
+  is_simple = true;
+}
 
 abbrev pub main : Function
-main = record { entry = 0; ints = 1; refs = 0; parameter = parameters.None; site = no_site; name = record { from = 0; until = 0 } }
+main = record {
+  entry = 0;
+  ints = 1;
+  refs = 0;
+  parameter = parameters.None;
+  site = no_site;
+  name = record { from = 0; until = 0 };
+}
 
 abbrev pub lines : List Op
-lines = op.Enter ∷ op.Constant 0 (pos 7) ∷ op.Store 0 (Global 0 0) there ∷ op.Enter ∷ op.Load 0 (Global 0 0) there ∷ op.Print 0 there ∷ op.Return there ∷ []
+lines = op.Enter ∷ op.Constant 0 (pos 7) ∷ op.Store 0 (Global 0 0) there ∷ op.Enter ∷ op.Load 0 (Global 0 0) there
+    ∷ op.Print 0 there ∷ op.Return there ∷ []
 
 abbrev pub example : Flat
 example = record { lines = lines; functions = main ∷ []; globals = record { granule = 0; cells = 1 } ∷ [] }
@@ -30,7 +46,8 @@ drops n = nat_eq n 4
 -- the statements that it becomes
 abbrev pub statements : List Instr
 statements =
-    instr.Start 0 ∷ instr.Exit ∷ instr.Constant 0 (pos 7) ∷ instr.ChkWrite (Global 0 0) 2 ∷ instr.Store 0 (Global 0 0) 2 ∷ instr.Load 0 (Global 0 0) 4 ∷ instr.Print 0 5 ∷ instr.Return 6
+    instr.Start 0 ∷ instr.Exit ∷ instr.Constant 0 (pos 7) ∷ instr.ChkWrite (Global 0 0) 2 ∷ instr.Store 0 (Global 0 0) 2
+    ∷ instr.Load 0 (Global 0 0) 4 ∷ instr.Print 0 5 ∷ instr.Return 6
     ∷ []
 
 pub record HasExample : Type 0 where

@@ -1,6 +1,8 @@
--- What is known of checks at each line, and which checks are dropped by it: within a straight piece, which reference registers are copies of a variable's, which integer
--- registers hold a number of the source, and which simple places were checked.
-use Rattle.std.specs.Prelude.{ℕ, zero, suc, ℤ, pos, negsuc, ◌+◌, ◌*◌, ◌^◌, ◌==◌, Bool, true, false, not, ◌&&◌, ◌||◌, List, [], ◌∷◌, length, Option, Some, None, nat_lt, slice_get, if◌then◌else◌}
+-- What is known of checks at each line, and which checks are dropped by it: within a straight piece, which reference
+-- registers are copies of a variable's, which integer registers hold a number of the source, and which simple places
+-- were checked.
+use Rattle.std.specs.Prelude.{ℕ, zero, suc, ℤ, pos, negsuc, ◌+◌, ◌*◌, ◌^◌, ◌==◌, Bool, true, false, not, ◌&&◌, ◌||◌}
+use Rattle.std.specs.Prelude.{List, [], ◌∷◌, length, Option, Some, None, nat_lt, slice_get, if◌then◌else◌}
 use Rattle.sharc_shadow.specs.{declared.shadow_word.Kind.Kind, declared.shadow_word.Kind.TheVariants.{Read, Write}}
 use Rattle.sharc_code.specs.{declared.code.Function.Function, declared.code.PlaceMode.PlaceMode}
 use Rattle.sharc_code.specs.{declared.code.PlaceMode.TheVariants.Dynamic, declared.instr.Cell.Cell}
@@ -9,7 +11,8 @@ use Rattle.sharc_flat_form.specs.{declared.op.Spot.Spot, declared.op.Op.Op, Mach
 use Rattle.sharc_flat_form.specs.declared.op.Op.TheVariants as op
 
 -- ---- straight pieces
--- A jump, a call, a return, the end of a block, a cast, a free, and what starts or waits for threads or takes or gives back a mutex end a piece.
+-- A jump, a call, a return, the end of a block, a cast, a free, and what starts or waits for threads or takes or gives
+-- back a mutex end a piece.
 abbrev pub is_straight : Op → Bool
 is_straight (op.Skip n) = false
 is_straight (op.SkipIfZero i n) = false

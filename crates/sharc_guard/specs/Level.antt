@@ -1,6 +1,7 @@
--- Flat code that overwrites no reference: what the reference registers of a frame hold at each line, NULL or anything, and that a register which gets a reference is
--- NULL before, or gives up its own.
-use Rattle.std.specs.Prelude.{◌≡◌, ◌≢◌, ℕ, ◌+◌, ◌<◌, ◌==◌, ◌⊎◌, Bool, true, false, length, slice_get, Some, if◌then◌else◌}
+-- Flat code that overwrites no reference: what the reference registers of a frame hold at each line, NULL or anything,
+-- and that a register which gets a reference is NULL before, or gives up its own.
+use Rattle.std.specs.Prelude.{◌≡◌, ◌≢◌, ℕ, ◌+◌, ◌<◌, ◌==◌, ◌⊎◌, Bool, true, false, length, slice_get, Some}
+use Rattle.std.specs.Prelude.{if◌then◌else◌}
 use Rattle.sharc_code.specs.{declared.code.Parameter.Parameter, declared.instr.Cell.Cell}
 use Rattle.sharc_code.specs.declared.instr.Register.{Register}
 use Rattle.sharc_code.specs.declared.code.Parameter.TheVariants as parameters
@@ -88,7 +89,8 @@ module _ (flat : Flat) (owner : ℕ → ℕ) (gives : ℕ → Bool) (slots : ℕ
   Level pc f s (op.Return spot) = Leaves f s
   Level pc f s (op.Null r) = (s r ≡ free) × Enters f s (pc + 1)
   Level pc f s (op.Local r x) = (s r ≡ free) × Enters f (with_slot s r (s x)) (pc + 1)
-  Level pc f s (op.MoveReference r from) = ((r ≡ from) × Enters f s (pc + 1)) ⊎ ((s r ≡ free) × (r ≢ from) × Enters f (with_moved s r from) (pc + 1))
+  Level pc f s (op.MoveReference r from) = ((r ≡ from) × Enters f s (pc + 1))
+      ⊎ ((s r ≡ free) × (r ≢ from) × Enters f (with_moved s r from) (pc + 1))
   Level pc f s (op.Pop r) = Enters f (with_slot s r free) (pc + 1)
   Level pc f s (op.Settle x from) = (x ≢ from) × Enters f (with_moved s x from) (pc + 1)
   Level pc f s (op.LoadRef r cell spot) = (s r ≡ free) × Enters f (with_slot s r full) (pc + 1)
@@ -119,4 +121,5 @@ pub record IsLevel (flat : Flat) : Type 0 where
   pub gives : ℕ → Bool
   pub slots : ℕ → Slots
   pub entries : (f : ℕ) → f < length flat.functions → IsEntry flat owner gives slots f
-  pub each : (pc : ℕ) (o : Op) → slice_get flat.lines pc ≡ Some o → Level flat owner gives slots pc (owner pc) (slots pc) o
+  pub each : (pc : ℕ) (o : Op) → slice_get flat.lines pc ≡ Some o
+      → Level flat owner gives slots pc (owner pc) (slots pc) o

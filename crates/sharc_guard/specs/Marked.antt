@@ -1,6 +1,7 @@
--- What the pass that marks repeated checks keeps: when registers were written and places checked. A time is the number of a line, plus 1; what was noted at a time up to the
--- floor is void.
-use Rattle.std.specs.Prelude.{◌≡◌, ℕ, ◌+◌, ◌==◌, ◌<◌, Bool, true, false, ◌&&◌, ◌||◌, List, length, Option, Some, None, nat_lt, nat_le, get_or, if◌then◌else◌}
+-- What the pass that marks repeated checks keeps: when registers were written and places checked. A time is the number
+-- of a line, plus 1; what was noted at a time up to the floor is void.
+use Rattle.std.specs.Prelude.{◌≡◌, ℕ, ◌+◌, ◌==◌, ◌<◌, Bool, true, false, ◌&&◌, ◌||◌, List, length, Option, Some, None}
+use Rattle.std.specs.Prelude.{nat_lt, nat_le, get_or, if◌then◌else◌}
 use Rattle.std.specs.Map.{lookup}
 use Rattle.sharc_shadow.specs.{declared.shadow_word.Kind.Kind, declared.shadow_word.Kind.TheVariants.Write}
 use Rattle.sharc_code.specs.declared.code.Function.{Function}
@@ -10,7 +11,8 @@ use Rattle.sharc_guard.specs.{declared.marks.Copied.Copied, declared.marks.Numbe
 use Rattle.sharc_guard.specs.{declared.marks.Passed.Passed, declared.marks.Place.{Place as PlaceNoted}}
 use Rattle.sharc_guard.specs.{declared.marks.Knowledge.Knowledge, declared.operations.CellAccess.CellAccess}
 use Rattle.sharc_guard.specs.{declared.operations.Copying.Copying, declared.operations.Written.Written}
-use Rattle.sharc_guard.specs.Known.{is_led_to, is_entry, Place, in_variable, in_global, counts, Access, tells, Know, of_constant, with_element, place_of, has_passed, dropped}
+use Rattle.sharc_guard.specs.Known.{is_led_to, is_entry, Place, in_variable, in_global, counts, Access, tells, Know}
+use Rattle.sharc_guard.specs.Known.{of_constant, with_element, place_of, has_passed, dropped}
 use Rattle.sharc_guard.specs.Made.{marked}
 use Rattle.sharc_guard.specs.declared.marks.Place.TheVariants as noted
 use Rattle.sharc_guard.specs.declared.operations.Written.TheVariants as written
@@ -50,7 +52,14 @@ pub record Notes : Type 0 where
   pub in_globals : ℕ → ℕ → Option Passed
 
 abbrev pub no_notes : Notes
-no_notes = record { floor = 0; written = λ k. None; copies = λ k. None; numbers = λ k. None; in_variables = λ x n. None; in_globals = λ g n. None }
+no_notes = record {
+  floor = 0;
+  written = λ k. None;
+  copies = λ k. None;
+  numbers = λ k. None;
+  in_variables = λ x n. None;
+  in_globals = λ g n. None;
+}
 
 abbrev pub of_register : {A : Type 0} → List (ℕ × A) → ℕ → Option A
 of_register rows r = lookup (λ k. r == k) rows
@@ -75,7 +84,9 @@ or_never (Some t) = t
 -- ---- what they say
 abbrev pub copy_by : ℕ → (ℕ → Option ℕ) → ℕ → Option Copied → Option ℕ
 copy_by floor written last None = None
-copy_by floor written last (Some c) = if nat_lt floor c.made && (nat_le last c.made && nat_lt (or_never (written c.variable)) c.made) then Some c.variable else None
+copy_by floor written last (Some c) =
+    if nat_lt floor c.made && (nat_le last c.made && nat_lt (or_never (written c.variable)) c.made) then Some c.variable
+    else None
 
 abbrev pub number_by : ℕ → Option Numbered → Option ℕ
 number_by floor None = None
@@ -126,10 +137,12 @@ with_written registers t s = record s { written = λ k. if registers k then Some
 
 abbrev pub with_copy : Option Copying → ℕ → Notes → Notes
 with_copy None t s = s
-with_copy (Some c) t s = record s { copies = λ k. if k == c.register then Some record { variable = c.variable; made = t } else s.copies k }
+with_copy (Some c) t s =
+    record s { copies = λ k. if k == c.register then Some record { variable = c.variable; made = t } else s.copies k }
 
 abbrev pub with_number : (ℕ → Bool) → Option ℕ → ℕ → Notes → Notes
-with_number registers v t s = record s { numbers = λ k. if registers k then Some record { number = v; made = t } else s.numbers k }
+with_number registers v t s =
+    record s { numbers = λ k. if registers k then Some record { number = v; made = t } else s.numbers k }
 
 -- a check of kind Write stays one
 abbrev pub stronger : Bool → Kind → Kind
@@ -139,9 +152,16 @@ stronger false kind = kind
 abbrev pub with_place : Kind → Option Place → ℕ → Notes → Notes
 with_place kind None t s = s
 with_place kind (Some (in_variable x n)) t s =
-    record s { in_variables = λ y k. if x == y && n == k then Some record { kind = stronger (passed_at s Write (in_variable x n)) kind; made = t } else s.in_variables y k }
+    record s {
+      in_variables = λ y k. if x == y && n == k
+          then Some record { kind = stronger (passed_at s Write (in_variable x n)) kind; made = t }
+          else s.in_variables y k;
+    }
 with_place kind (Some (in_global g n)) t s =
-    record s { in_globals = λ h k. if g == h && n == k then Some record { kind = stronger (passed_at s Write (in_global g n)) kind; made = t } else s.in_globals h k }
+    record s {
+      in_globals = λ h k. if g == h && n == k
+          then Some record { kind = stronger (passed_at s Write (in_global g n)) kind; made = t } else s.in_globals h k;
+    }
 
 abbrev pub with_noted : Kind → Option PlaceNoted → ℕ → Notes → Notes
 with_noted kind None t s = s
@@ -176,7 +196,8 @@ pub record AreBefore (t : ℕ) (s : Notes) : Type 0 where
 -- a line, or the one after the last, is led to, or begins a function
 pub record AreTargets (lines : List Op) (functions : List Function) (targets : List Bool) : Type 0 where
   pub count : length targets ≡ length lines + 1
-  pub are : (to : ℕ) → to < length targets → get_or targets to false ≡ (is_led_to lines (length lines) to || is_entry functions to)
+  pub are : (to : ℕ) → to < length targets
+      → get_or targets to false ≡ (is_led_to lines (length lines) to || is_entry functions to)
 
 -- each mark says whether the check of its line is dropped
 pub record AreMarks (flat : Flat) (marks : List Bool) : Type 0 where

@@ -1,11 +1,13 @@
 -- Which accesses repeat a check of their straight piece.
-use Rattle.std.specs.Prelude.{◌≡◌, ◌≢◌, ℕ, pos, ◌+◌, ◌*◌, ◌^◌, ◌<◌, ◌≤◌, ◌↔◌, Bool, true, false, Option, Some, None, slice_get}
+use Rattle.std.specs.Prelude.{◌≡◌, ◌≢◌, ℕ, pos, ◌+◌, ◌*◌, ◌^◌, ◌<◌, ◌≤◌, ◌↔◌, Bool, true, false, Option, Some, None}
+use Rattle.std.specs.Prelude.{slice_get}
 use Rattle.sharc_shadow.specs.declared.shadow_word.Kind.{Kind}
 use Rattle.sharc_code.specs.{declared.code.PlaceMode.TheVariants.Dynamic, declared.instr.Cell.Cell}
 use Rattle.sharc_code.specs.declared.instr.Cell.TheVariants as cells
 use Rattle.sharc_flat_form.specs.{declared.op.Spot.Spot, declared.op.Op.Op, Machine.Flat}
 use Rattle.sharc_flat_form.specs.declared.op.Op.TheVariants as op
-use Rattle.sharc_guard.specs.Known.{is_straight, is_target, writes_ref, writes_int, Place, in_variable, in_global, assigns, counts, Access, access, dropped}
+use Rattle.sharc_guard.specs.Known.{is_straight, is_target, writes_ref, writes_int, Place, in_variable, in_global}
+use Rattle.sharc_guard.specs.Known.{assigns, counts, Access, access, dropped}
 
 abbrev pub IsStraight : Option Op → Type 0
 IsStraight None = ⊥
@@ -40,10 +42,13 @@ module _ (flat : Flat) where
 
   -- at this line the register has a number of the source, or that of a field of the element of this number
   pub data IsNumber : ℕ → ℕ → ℕ → Type 0 where
-    constant : (i v n at : ℕ) → at < n → IsLine at (op.Constant i (pos v)) → v < 2 ^ 32 → IsPiece at n → AllKeep (λ o. writes_int o i) (at + 1) n → IsNumber i v n
-    of_object : (i v n at u r cells field : ℕ) (spot : Spot) → at < n → IsLine at (op.Bounds i r cells field spot) → IsNumber i u at → u < 2 ^ 32 → v ≡ u * cells + field
+    constant : (i v n at : ℕ) → at < n → IsLine at (op.Constant i (pos v)) → v < 2 ^ 32 → IsPiece at n
+        → AllKeep (λ o. writes_int o i) (at + 1) n → IsNumber i v n
+    of_object : (i v n at u r cells field : ℕ) (spot : Spot) → at < n → IsLine at (op.Bounds i r cells field spot)
+        → IsNumber i u at → u < 2 ^ 32 → v ≡ u * cells + field
         → IsPiece at n → AllKeep (λ o. writes_int o i) (at + 1) n → IsNumber i v n
-    of_global : (i v n at u elements cells field : ℕ) (spot : Spot) → at < n → IsLine at (op.GlobalBounds i elements cells field spot) → IsNumber i u at → u < 2 ^ 32 → v ≡ u * cells + field
+    of_global : (i v n at u elements cells field : ℕ) (spot : Spot) → at < n
+        → IsLine at (op.GlobalBounds i elements cells field spot) → IsNumber i u at → u < 2 ^ 32 → v ≡ u * cells + field
         → IsPiece at n → AllKeep (λ o. writes_int o i) (at + 1) n → IsNumber i v n
 
   -- the place that a cell names at a line
@@ -51,7 +56,8 @@ module _ (flat : Flat) where
   IsPlaceAt (cells.Global g n) place line = place ≡ in_global g n
   IsPlaceAt (cells.GlobalAt g i) place line = (n : ℕ) × IsNumber i n line × (place ≡ in_global g n)
   IsPlaceAt (cells.Object r n) place line = (x : ℕ) × IsCopy r x line × (place ≡ in_variable x n)
-  IsPlaceAt (cells.ObjectAt r i) place line = (x : ℕ) × (n : ℕ) × IsCopy r x line × IsNumber i n line × (place ≡ in_variable x n)
+  IsPlaceAt (cells.ObjectAt r i) place line =
+      (x : ℕ) × (n : ℕ) × IsCopy r x line × IsNumber i n line × (place ≡ in_variable x n)
 
   -- at this line there is an access of a simple place of mode dynamic
   pub record IsSimple (n : ℕ) (kind : Kind) (place : Place) : Type 0 where
@@ -98,4 +104,5 @@ pub record ItsCheckStands (flat : Flat) (n : ℕ) (kind : Kind) (place : Place) 
   pub stands : dropped flat checked.at ≡ false
 
 abbrev pub RepeatedCheckStands : Type 0
-RepeatedCheckStands = (flat : Flat) (n : ℕ) (kind : Kind) (place : Place) → IsChecked flat n kind place → ItsCheckStands flat n kind place
+RepeatedCheckStands = (flat : Flat) (n : ℕ) (kind : Kind) (place : Place) → IsChecked flat n kind place
+    → ItsCheckStands flat n kind place

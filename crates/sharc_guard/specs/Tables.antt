@@ -6,13 +6,15 @@ use Rattle.sharc_flat_form.specs.declared.op.Op.TheVariants as op
 use Rattle.sharc_guarded_form.specs.{declared.guarded.Guarded.Guarded, Tables.TablesFit}
 use Rattle.sharc_guard.specs.Made.{IsMade}
 
--- `main` and each function that is spawned are functions, the globals lie one after the other within their granules, and what they hold at first are words
+-- `main` and each function that is spawned are functions, the globals lie one after the other within their granules,
+-- and what they hold at first are words
 pub record FlatTablesFit (f : FlatCode) : Type 0 where
   pub functions : length f.functions.items < 2 ^ 32
   pub main : f.main < length f.functions.items
   pub globals : GlobalsFit f.globals.items f.granules
   pub words : (j : ℕ) → slice_index f.initial.items j < 2 ^ 64
-  pub spawned : (n to function : ℕ) (from : Register) (spot : Spot) → slice_get f.lines.items n ≡ Some (op.Spawn to function from spot) → function < length f.functions.items
+  pub spawned : (n to function : ℕ) (from : Register) (spot : Spot)
+      → slice_get f.lines.items n ≡ Some (op.Spawn to function from spot) → function < length f.functions.items
 
 abbrev pub TablesStay : Type 0
 TablesStay = (dropped : ℕ → Bool) (f : FlatCode) (g : Guarded) → IsMade dropped f g → FlatTablesFit f → TablesFit g

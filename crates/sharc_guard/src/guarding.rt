@@ -4,7 +4,8 @@ ghost use Rattle.std.specs.Prelude.{true, ◌≡◌, ◌≤◌, ◌<◌, ◌+◌
 ghost use Rattle.sharc_code.specs.declared.instr.Instr.TheVariants.{Start, Exit};
 ghost use Rattle.sharc_code.specs.Says.{no_place};
 ghost use Rattle.sharc_flat_form.specs.Made.{flat_of};
-ghost use Rattle.sharc_guard.specs.Guard.{source_at_spot, source_of, check_under, head, compute, negate, body, tail, own, expand, expanded, width, entered_at};
+ghost use Rattle.sharc_guard.specs.Guard.{source_at_spot, source_of, check_under, head, compute, negate, body, tail};
+ghost use Rattle.sharc_guard.specs.Guard.{own, expand, expanded, width, entered_at};
 ghost use Rattle.sharc_guard.specs.Known.{dropped, is_straight};
 ghost use Rattle.sharc_guard.specs.Made.{IsMade, among, places, marked};
 
@@ -91,7 +92,8 @@ fn statements_of(
     requires few { length lines.now < 2 ^ 29 }
     requires marks { length dropped.now ≡ length lines.now }
     requires starts { 0 < length starts.now }
-    ensures { IfOk result (λ statements. statements.items ≡ Start 0 ∷ Exit ∷ expanded (among starts.now) (marked dropped.now) 0 lines.now) }
+    ensures { IfOk result (λ statements. statements.items
+        ≡ Start 0 ∷ Exit ∷ expanded (among starts.now) (marked dropped.now) 0 lines.now) }
 {
     let mut statements = Vec::with_capacity(alloc, lines.len() + 2)?;
     statements.push(Instr::Start(0))?;

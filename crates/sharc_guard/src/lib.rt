@@ -1,10 +1,11 @@
 //! From the flat form to guarded code: checks and counts.
 //!
-//! `guard` makes it (specs/Made.antt). specs/Guard.antt has the guarded code of flat code, whichever checks are dropped, and
-//! specs/Known.antt which ones are: those that specs/Repeated.antt says in words. The laws say what holds of it: `guarded_law` and
-//! `counted_law` that its paths are those of the flat code and that it counts what flat code holds (specs/Correct.antt,
-//! specs/Counted.antt), `framed_law` and `tables_law` that it is well formed, `checked_law`, `repeated_law` and `covered_law` that its
-//! accesses are checked (specs/Checked.antt, specs/Untargeted.antt, specs/Covered.antt).
+//! `guard` makes it (specs/Made.antt). specs/Guard.antt has the guarded code of flat code, whichever checks are
+//! dropped, and specs/Known.antt which ones are: those that specs/Repeated.antt says in words. The laws say what holds
+//! of it: `guarded_law` and `counted_law` that its paths are those of the flat code and that it counts what flat code
+//! holds (specs/Correct.antt, specs/Counted.antt), `framed_law` and `tables_law` that it is well formed, `checked_law`,
+//! `repeated_law` and `covered_law` that its accesses are checked (specs/Checked.antt, specs/Untargeted.antt,
+//! specs/Covered.antt).
 #![tactic(auto)]
 
 mod guarding;

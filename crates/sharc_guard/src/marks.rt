@@ -1,11 +1,16 @@
 //! Which checks of flat code repeat one of their straight piece: found in one pass over the lines.
 
-ghost use Rattle.std.specs.Prelude.{◌≡◌, ℕ, ◌+◌, ◌<◌, ◌^◌, ◌==◌, ◌||◌, false, [], Some, IfOk, OnOk, length, get_or, if◌then◌else◌};
+ghost use Rattle.std.specs.Prelude.{◌≡◌, ℕ, ◌+◌, ◌<◌, ◌^◌, ◌==◌, ◌||◌, false, [], Some, IfOk, OnOk, length, get_or};
+ghost use Rattle.std.specs.Prelude.{if◌then◌else◌};
 ghost use Rattle.std.specs.Option.{option_copied};
 ghost use Rattle.sharc_shadow.specs.declared.shadow_word.Kind.TheVariants.{Write};
 ghost use Rattle.sharc_flat_form.specs.Made.{flat_of};
-ghost use Rattle.sharc_guard.specs.Known.{counts, drops, global_place, is_entry, is_led_to, know_after, know_next, nothing, of_constant, place_of, variable_place, with_element};
-ghost use Rattle.sharc_guard.specs.Marked.{AreBefore, AreMarks, AreTargets, is_one, is_written, know_of, no_notes, noted_place, notes_of, number_of_line, or_never, passed_at, passed_by, passed_there, place_from, repeats, stronger, with_access, with_copy, with_floor, with_noted, with_number, with_place, with_written};
+ghost use Rattle.sharc_guard.specs.Known.{counts, drops, global_place, is_entry, is_led_to, know_after, know_next};
+ghost use Rattle.sharc_guard.specs.Known.{nothing, of_constant, place_of, variable_place, with_element};
+ghost use Rattle.sharc_guard.specs.Marked.{AreBefore, AreMarks, AreTargets, is_one, is_written, know_of, no_notes};
+ghost use Rattle.sharc_guard.specs.Marked.{noted_place, notes_of, number_of_line, or_never, passed_at, passed_by};
+ghost use Rattle.sharc_guard.specs.Marked.{passed_there, place_from, repeats, stronger, with_access, with_copy};
+ghost use Rattle.sharc_guard.specs.Marked.{with_floor, with_noted, with_number, with_place, with_written};
 
 use crate::operations::{
     CellAccess, Copying, Written, access, copy_made, is_straight, led_to, written_integer,
@@ -113,7 +118,8 @@ fn targets_of(alloc: Global, lines: &[Op], functions: &[Function]) -> Result<Vec
 fn mark_led_to(targets: &mut [bool], lines: &[Op])
     requires few { length lines.now < 2 ^ 29 }
     ensures count { length targets.new ≡ length targets.old }
-    ensures are { (to : ℕ) → to < length targets.old → get_or targets.new to false ≡ (get_or targets.old to false || is_led_to lines.now (length lines.now) to) }
+    ensures are { (to : ℕ) → to < length targets.old
+        → get_or targets.new to false ≡ (get_or targets.old to false || is_led_to lines.now (length lines.now) to) }
 {
     for n in 0..lines.len() {
         mark(targets, led_to(lines[n], n));
@@ -122,7 +128,8 @@ fn mark_led_to(targets: &mut [bool], lines: &[Op])
 
 fn mark_entries(targets: &mut [bool], functions: &[Function])
     ensures count { length targets.new ≡ length targets.old }
-    ensures are { (to : ℕ) → to < length targets.old → get_or targets.new to false ≡ (get_or targets.old to false || is_entry functions.now to) }
+    ensures are { (to : ℕ) → to < length targets.old
+        → get_or targets.new to false ≡ (get_or targets.old to false || is_entry functions.now to) }
 {
     for function in functions {
         mark(targets, Some(function.entry as usize));
@@ -132,7 +139,8 @@ fn mark_entries(targets: &mut [bool], functions: &[Function])
 // Marks a line, if there is one and it is in the list.
 fn mark(targets: &mut [bool], to: Option<usize>)
     ensures count { length targets.new ≡ length targets.old }
-    ensures are { (k : ℕ) → k < length targets.old → get_or targets.new k false ≡ (get_or targets.old k false || is_one to k) }
+    ensures are { (k : ℕ) → k < length targets.old
+        → get_or targets.new k false ≡ (get_or targets.old k false || is_one to k) }
 {
     if let Some(to) = to {
         if to < targets.len() {
@@ -189,7 +197,8 @@ impl Knowledge {
     /// What is known after an operation at this time, and before the next line, which is a target or not.
     fn step(&mut self, op: Op, time: u32, enters: bool) -> Result<(), AllocError>
         requires before { AreBefore time (notes_of self.old) }
-        ensures known { OnOk result (know_of (notes_of self.new) ≡ (if enters then nothing else know_after (Some op) (know_of (notes_of self.old)))) }
+        ensures known { OnOk result (know_of (notes_of self.new) ≡ (if enters then nothing
+            else know_after (Some op) (know_of (notes_of self.old)))) }
         ensures before { OnOk result (AreBefore (time + 1) (notes_of self.new)) }
     {
         if enters {

@@ -17,7 +17,8 @@ MadeIsLevel = (m : Assignment) → ProgramSuits m → (code : FlatCode) → Flat
 
 -- and so what flattening makes of a typed, well-moded program with its least assignment
 abbrev pub TypedIsLevel : Type 0
-TypedIsLevel = (m : Assignment) → IsResolved m.typed → IsPlaced m.typed.program → IsLow m.typed.program → IsLeastAssignment m → WellModed m → (code : FlatCode) → Flattens m code → IsLevel (flat_of code)
+TypedIsLevel = (m : Assignment) → IsResolved m.typed → IsPlaced m.typed.program → IsLow m.typed.program
+    → IsLeastAssignment m → WellModed m → (code : FlatCode) → Flattens m code → IsLevel (flat_of code)
 
 -- it names the mutexes of its locks, of any program
 abbrev pub FlattenedLocksStand : Type 0
@@ -28,5 +29,6 @@ MadeLocksStand = (m : Assignment) (code : FlatCode) → Flattens m code → Lock
 
 -- so the guarded code of what flattening makes of such a program counts what that holds, whichever checks are dropped
 abbrev pub TypedCounts : Type 0
-TypedCounts = (m : Assignment) → IsResolved m.typed → IsPlaced m.typed.program → IsLow m.typed.program → IsLeastAssignment m → WellModed m → (code : FlatCode) → Flattens m code → (dropped : ℕ → Bool)
+TypedCounts = (m : Assignment) → IsResolved m.typed → IsPlaced m.typed.program → IsLow m.typed.program
+    → IsLeastAssignment m → WellModed m → (code : FlatCode) → Flattens m code → (dropped : ℕ → Bool)
     → Guards dropped (flat_of code) (guarded dropped (flat_of code))

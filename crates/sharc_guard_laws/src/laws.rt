@@ -1,6 +1,7 @@
 // The laws, each the contract of a function that does nothing.
 
-ghost use Rattle.sharc_guard_laws.specs.Laws.{FlattenedIsLevel, FlattenedLocksStand, MadeIsLevel, MadeLocksStand, TypedCounts, TypedIsLevel};
+ghost use Rattle.sharc_guard_laws.specs.Laws.{FlattenedIsLevel, FlattenedLocksStand, MadeIsLevel, MadeLocksStand};
+ghost use Rattle.sharc_guard_laws.specs.Laws.{TypedCounts, TypedIsLevel};
 
 use sharc_flat_laws::laws::typed_suits;
 use sharc_guard::counted_law;
@@ -33,8 +34,8 @@ pub fn made_locks_stand()
     ensures { MadeLocksStand }
 {}
 
-/// The guarded code of what flattening makes of a typed, well-moded program counts what that holds: sharc_guard's law, with its
-/// premises met.
+/// The guarded code of what flattening makes of a typed, well-moded program counts what that holds: sharc_guard's law,
+/// with its premises met.
 pub fn typed_counts()
     ensures { TypedCounts }
 {

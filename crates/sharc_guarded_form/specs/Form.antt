@@ -1,10 +1,16 @@
--- Which guarded code is well formed: its statements lead to places of the same function, and write registers of its frame.
+-- Which guarded code is well formed: its statements lead to places of the same function, and write registers of its
+-- frame.
 use Rattle.std.specs.Prelude.{ℕ, ◌+◌, ◌*◌, ◌^◌, ◌≡◌, ◌<◌, ◌≤◌, length, slice_get, Some}
 use Rattle.sharc_code.specs.{declared.code.Function.Function, declared.code.Parameter.Parameter}
 use Rattle.sharc_code.specs.declared.instr.Cell.{Cell}
 use Rattle.sharc_code.specs.declared.instr.Cell.TheVariants.{Global, GlobalAt, Object as InObject, ObjectAt}
 use Rattle.sharc_code.specs.{declared.instr.Register.Register, declared.instr.Instr.Instr}
-use Rattle.sharc_code.specs.declared.instr.Instr.TheVariants.{Constant, Move, MoveReference, Null, ComputeInt, ComputeLong, NegateInt, NegateLong, Complement, Not, SameReference, Jump, JumpIfZero, JumpIfNull, Call, Return, Bounds, GlobalBounds, Load, Exchange, Raise, RaiseLoaded, Lower, New, TakeCell, TakeLocal, Free, Lock, Unlock, Spawn, Start, Exit}
+use Rattle.sharc_code.specs.declared.instr.Instr.TheVariants.{Constant, Move, MoveReference, Null, ComputeInt}
+use Rattle.sharc_code.specs.declared.instr.Instr.TheVariants.{ComputeLong, NegateInt, NegateLong, Complement, Not}
+use Rattle.sharc_code.specs.declared.instr.Instr.TheVariants.{SameReference, Jump, JumpIfZero, JumpIfNull, Call, Return}
+use Rattle.sharc_code.specs.declared.instr.Instr.TheVariants.{Bounds, GlobalBounds, Load, Exchange, Raise, RaiseLoaded}
+use Rattle.sharc_code.specs.declared.instr.Instr.TheVariants.{Lower, New, TakeCell, TakeLocal, Free, Lock, Unlock}
+use Rattle.sharc_code.specs.declared.instr.Instr.TheVariants.{Spawn, Start, Exit}
 use Rattle.sharc_code.specs.Ranges.{FramesFit, IsInGlobal}
 use Rattle.sharc_code.specs.declared.code.Parameter.TheVariants as parameters
 use Rattle.sharc_code.specs.declared.instr.Register.TheVariants as registers

@@ -1,6 +1,7 @@
 -- What one turn of a thread of guarded code does, in the words of the source: no word, no shadow and no count appears.
 use Rattle.std.specs.List.{list_any}
-use Rattle.std.specs.Prelude.{ℕ, ℤ, pos, negsuc, ◌+◌, ◌-◌, ◌*◌, ◌&&◌, Bool, true, false, not, List, [], ◌∷◌, ◌++◌, Some, length, filter, nat_lt, int_le, slice_index_or, Result, Ok, Err, if◌then◌else◌}
+use Rattle.std.specs.Prelude.{ℕ, ℤ, pos, negsuc, ◌+◌, ◌-◌, ◌*◌, ◌&&◌, Bool, true, false, not, List, [], ◌∷◌, ◌++◌, Some}
+use Rattle.std.specs.Prelude.{length, filter, nat_lt, int_le, slice_index_or, Result, Ok, Err, if◌then◌else◌}
 use Rattle.sharc_tree.specs.{declared.token.Site.Site, declared.event.CellAt.CellAt, declared.event.CellMode.CellMode}
 use Rattle.sharc_tree.specs.{declared.event.Act.Act, declared.event.SourceEvent.SourceEvent, declared.trap.Trap.Trap}
 use Rattle.sharc_tree.specs.declared.event.Object.TheVariants as objects
@@ -12,12 +13,22 @@ use Rattle.sharc_shadow.specs.declared.shadow_word.Kind.{Kind}
 use Rattle.sharc_shadow.specs.declared.shadow_word.Kind.TheVariants as kinds
 use Rattle.sharc_code.specs.{declared.code.Function.Function, declared.code.GlobalCells.GlobalCells}
 use Rattle.sharc_code.specs.declared.code.PlaceMode.{PlaceMode}
-use Rattle.sharc_code.specs.declared.code.PlaceMode.TheVariants.{Private, Readonly, Racy, Dynamic, LockedGlobal, LockedSibling, LockedThrough, LockedLoaded}
+use Rattle.sharc_code.specs.declared.code.PlaceMode.TheVariants.{Private, Readonly, Racy, Dynamic, LockedGlobal}
+use Rattle.sharc_code.specs.declared.code.PlaceMode.TheVariants.{LockedSibling, LockedThrough, LockedLoaded}
 use Rattle.sharc_code.specs.{declared.code.SourcePlace.SourcePlace, declared.instr.Width.TheVariants.{Int, Long}}
 use Rattle.sharc_code.specs.declared.instr.Cell.{Cell}
 use Rattle.sharc_code.specs.declared.instr.Cell.TheVariants.{Global, GlobalAt, Object as InObject, ObjectAt}
 use Rattle.sharc_code.specs.{declared.instr.Register.Register, declared.instr.Instr.Instr}
-use Rattle.sharc_code.specs.declared.instr.Instr.TheVariants.{Constant, Move, MoveReference, Null, ComputeInt, ComputeLong, NegateInt, NegateLong, Complement, Not, SameReference, ChkWidth, Jump, JumpIfZero, JumpIfNull, Call, Return, ChkNull, ChkHeld, ChkNotHeld, ChkPositive, ChkRoom, ChkLock, ChkLockLoaded, Bounds, GlobalBounds, ChkRead, ChkWrite, Load, Store, LoadRef, Exchange, Raise, RaiseLoaded, Lower, New, TakeCell, TakeLocal, TestSole, Clear, Give, Free, Lock, Unlock, Spawn, Join, Print, Start, Exit, CondEnter, CondWait, CondSignal, CondBroadcast}
+use Rattle.sharc_code.specs.declared.instr.Instr.TheVariants.{Constant, Move, MoveReference, Null, ComputeInt}
+use Rattle.sharc_code.specs.declared.instr.Instr.TheVariants.{ComputeLong, NegateInt, NegateLong, Complement, Not}
+use Rattle.sharc_code.specs.declared.instr.Instr.TheVariants.{SameReference, ChkWidth, Jump, JumpIfZero, JumpIfNull}
+use Rattle.sharc_code.specs.declared.instr.Instr.TheVariants.{Call, Return, ChkNull, ChkHeld, ChkNotHeld, ChkPositive}
+use Rattle.sharc_code.specs.declared.instr.Instr.TheVariants.{ChkRoom, ChkLock, ChkLockLoaded, Bounds, GlobalBounds}
+use Rattle.sharc_code.specs.declared.instr.Instr.TheVariants.{ChkRead, ChkWrite, Load, Store, LoadRef, Exchange, Raise}
+use Rattle.sharc_code.specs.declared.instr.Instr.TheVariants.{RaiseLoaded, Lower, New, TakeCell, TakeLocal, TestSole}
+use Rattle.sharc_code.specs.declared.instr.Instr.TheVariants.{Clear, Give, Free, Lock, Unlock, Spawn, Join, Print}
+use Rattle.sharc_code.specs.declared.instr.Instr.TheVariants.{Start, Exit, CondEnter, CondWait, CondSignal}
+use Rattle.sharc_code.specs.declared.instr.Instr.TheVariants.{CondBroadcast}
 use Rattle.sharc_code.specs.declared.state.Frame.{Frame}
 use Rattle.sharc_code.specs.Arithmetic.{word_of, holds, is_zero, truth, computed, negated, complement}
 use Rattle.sharc_code.specs.{Machine.{is_positive, elements_of as elements_made, no_function}, Runs.put}
@@ -38,9 +49,10 @@ pub data Phase : Type 0 where
   Leaving : Phase
   Left : Phase
 
--- a thread between two turns: its place, the first registers of its frame, both banks, the reference that was loaded last and is not
--- counted, the callers' frames, the nearest first, the mutexes that it holds, in the order of their Locks, its function, the numbers of the references that it lowered
--- since its last event, and its events after its Started, the first one first
+-- a thread between two turns: its place, the first registers of its frame, both banks, the reference that was loaded
+-- last and is not counted, the callers' frames, the nearest first, the mutexes that it holds, in the order of their
+-- Locks, its function, the numbers of the references that it lowered since its last event, and its events after its
+-- Started, the first one first
 pub record Thread : Type 0 where
   pub pc : ℕ
   pub ints_from : ℕ
@@ -66,7 +78,8 @@ pub data Outcome : Type 0 where
   Ended : Outcome
   Stopped : Trap → ℕ → Outcome
 
--- a turn goes on; asks for an event and goes on with what it is answered; checks, at this site, and goes on where nothing is reported; or halts
+-- a turn goes on; asks for an event and goes on with what it is answered; checks, at this site, and goes on where
+-- nothing is reported; or halts
 pub data Turn : Type 0 where
   Goes : Thread → Turn
   Asks : Site → Act → (ℤ → Thread) → Turn
@@ -125,7 +138,8 @@ source_at p site = slice_index_or p.sites site no_place
 
 -- ---- cells and modes
 abbrev pub global_at : Program → ℕ → ℕ → CellAt
-global_at p global place = record { object = objects.Global global; cell = place - 2 * (slice_index_or p.globals global no_global).granule }
+global_at p global place =
+    record { object = objects.Global global; cell = place - 2 * (slice_index_or p.globals global no_global).granule }
 
 abbrev pub cell_at : Program → Thread → Cell → CellAt
 cell_at p a (Global global cell) = global_at p global cell
@@ -158,7 +172,8 @@ mode_of p a cell Readonly = modes.Readonly
 mode_of p a cell Racy = modes.Racy
 mode_of p a cell Dynamic = modes.Dynamic
 mode_of p a cell (LockedGlobal global place) = modes.Locked (Some (global_at p global place))
-mode_of p a cell (LockedSibling field mutex) = modes.Locked (Some record { object = cell.object; cell = cell.cell - field + mutex })
+mode_of p a cell (LockedSibling field mutex) =
+    modes.Locked (Some record { object = cell.object; cell = cell.cell - field + mutex })
 mode_of p a cell (LockedThrough r place) = modes.Locked (through (ref a r) place)
 mode_of p a cell LockedLoaded = modes.Locked (through a.pending 0)
 
@@ -195,7 +210,8 @@ abbrev pub nothing : ℤ → ℤ
 nothing x = pos 0
 
 abbrev pub access : Program → Thread → ℕ → Cell → (CellAt → CellMode → Act) → (ℤ → ℤ) → (ℤ → Thread → Thread) → Turn
-access p a site cell of answer go = let at = cell_at p a cell in asks_at p a site (of at (mode_of p a at (source_at p site).mode)) answer go
+access p a site cell of answer go =
+    let at = cell_at p a cell in asks_at p a site (of at (mode_of p a at (source_at p site).mode)) answer go
 
 -- an event that answers nothing and changes nothing
 abbrev pub tells : Program → Thread → ℕ → Act → Turn
@@ -203,7 +219,9 @@ tells p a site act = asks_at p a site act nothing (λ x b. next b)
 
 -- ---- indexes: the number of a field of an element
 abbrev pub indexed : Thread → ℕ → ℤ → ℕ → ℕ → ℕ → ℕ → Turn
-indexed a r (pos i) cells field site elements = if nat_lt i elements then goes (set_int a r (pos (i * cells + field))) else Halts (Stopped traps.IndexOutOfBounds site)
+indexed a r (pos i) cells field site elements =
+    if nat_lt i elements then goes (set_int a r (pos (i * cells + field)))
+    else Halts (Stopped traps.IndexOutOfBounds site)
 indexed a r (negsuc i) cells field site elements = Halts (Stopped traps.IndexOutOfBounds site)
 
 -- ---- calls: there are at most 256 frames
@@ -224,7 +242,8 @@ back_to a f frames = record a { pc = f.pc; ints_from = f.ints; refs_from = f.ref
 -- where there is no frame, past the statements
 abbrev pub returned : Program → Thread → ℕ → List Frame → Turn
 returned p a site [] = Goes (to a (length p.statements))
-returned p a site (f ∷ []) = if nat_lt 0 (length a.held) then Halts (Stopped traps.ReturnWithLockHeld site) else Goes (back_to a f [])
+returned p a site (f ∷ []) =
+    if nat_lt 0 (length a.held) then Halts (Stopped traps.ReturnWithLockHeld site) else Goes (back_to a f [])
 returned p a site (f ∷ g ∷ frames) = Goes (back_to a f (g ∷ frames))
 
 -- ---- checks
@@ -236,7 +255,8 @@ lock_checked a false mutex site = Checks (Locks mutex) site (next a)
 abbrev pub taken_local : Program → Thread → ℕ → ℕ → ℕ → Turn
 taken_local p a r from site =
     if is_null (ref a from) then goes (move_ref a r from)
-    else asks_at p a site (acts.Take (takens.Local (variable_of (source_at p site).at)) (kind_of (source_at p site).at)) (λ x. ref a from) (λ x b. next (move_ref b r from))
+    else asks_at p a site (acts.Take (takens.Local (variable_of (source_at p site).at)) (kind_of (source_at p site).at))
+    (λ x. ref a from) (λ x b. next (move_ref b r from))
 
 -- ---- threads
 abbrev pub argument : Thread → Register → ℤ
@@ -287,24 +307,32 @@ step p (GlobalBounds r elements cells field site) a = indexed a r (int a r) cell
 step p (ChkRead cell site) a = Checks (Accesses kinds.Read (cell_at p a cell)) site (next a)
 step p (ChkWrite cell site) a = Checks (Accesses kinds.Write (cell_at p a cell)) site (next a)
 step p (Load r cell site) a = access p a site cell acts.Read given (λ x b. next (accessed (set_int b r x)))
-step p (Store r cell site) a = access p a site cell (λ at mode. acts.Write at mode (int a r)) nothing (λ x b. next (accessed b))
+step p (Store r cell site) a =
+    access p a site cell (λ at mode. acts.Write at mode (int a r)) nothing (λ x b. next (accessed b))
 step p (LoadRef cell site) a = access p a site cell acts.Read given (λ x b. next (record b { pending = x }))
-step p (Exchange r cell site) a = access p a site cell (λ at mode. acts.Write at mode (ref a r)) nothing (λ x b. next (accessed (set_ref b r x)))
+step p (Exchange r cell site) a =
+    access p a site cell (λ at mode. acts.Write at mode (ref a r)) nothing (λ x b. next (accessed (set_ref b r x)))
 step p (Raise r from) a = goes (set_ref a r (ref a from))
 step p (RaiseLoaded r) a = goes (accessed (set_ref a r a.pending))
 step p (Lower r) a = goes (lowered a r)
-step p (New r count cells site) a = asks_at p a site (acts.New cells (elements_made (int a count)) (object_mode p a site)) given (λ x b. next (set_ref b r x))
-step p (TakeCell r cell site) a = access p a site cell (λ at mode. acts.Take (takens.Cell at mode) (kind_of (source_at p site).at)) given (λ x b. next (accessed (set_ref b r x)))
+step p (New r count cells site) a = asks_at p a site
+    (acts.New cells (elements_made (int a count)) (object_mode p a site)) given (λ x b. next (set_ref b r x))
+step p (TakeCell r cell site) a =
+    access p a site cell (λ at mode. acts.Take (takens.Cell at mode) (kind_of (source_at p site).at)) given
+    (λ x b. next (accessed (set_ref b r x)))
 step p (TakeLocal r from site) a = taken_local p a r from site
 step p (TestSole r site) a = Checks (IsSole (ref a r)) site (next a)
 step p (Clear r cells) a = goes a
 step p (Give r site) a = tells p a site (acts.Give (ref a r) (object_mode p a site))
 step p (Free r layout site) a = asks_at p a site (acts.Freed (ref a r)) nothing (λ x b. next (set_ref b r NULL))
 step p (Lock cell site) a =
-    asks_at p a site (acts.Lock (cell_at p a cell)) nothing (λ x b. next (record (without_base b cell) { held = a.held ++ cell_at p a cell ∷ [] }))
+    asks_at p a site (acts.Lock (cell_at p a cell)) nothing
+    (λ x b. next (record (without_base b cell) { held = a.held ++ cell_at p a cell ∷ [] }))
 step p (Unlock r cell site) a =
-    asks_at p a site (acts.Unlock (cell_at p a cell)) nothing (λ x b. next (record (set_ref b r (base_of a cell)) { held = without_mutex a.held (cell_at p a cell) }))
-step p (Spawn r function from site) a = asks_at p a site (acts.Spawn function (argument a from)) given (λ x b. next (set_int (handed b from) r x))
+    asks_at p a site (acts.Unlock (cell_at p a cell)) nothing
+    (λ x b. next (record (set_ref b r (base_of a cell)) { held = without_mutex a.held (cell_at p a cell) }))
+step p (Spawn r function from site) a =
+    asks_at p a site (acts.Spawn function (argument a from)) given (λ x b. next (set_int (handed b from) r x))
 step p (Join r site) a = tells p a site (acts.Join (int a r))
 step p (Print r site) a = tells p a site (acts.Print (int a r))
 step p (Start site) a = Halts Ended

@@ -4,7 +4,8 @@ use Rattle.sharc_code.specs.{declared.code.Parameter.Parameter, declared.instr.I
 use Rattle.sharc_code.specs.declared.instr.Instr.TheVariants.{Free, New, Spawn, CondSignal}
 use Rattle.sharc_code.specs.declared.code.Parameter.TheVariants as parameters
 use Rattle.sharc_meaning.specs.Reference.{NULL}
-use Rattle.sharc_guarded_form.specs.Machine.{Program, Thread, Turn, Goes, Asks, Checks, Halts, Running, set_int, set_ref, function_at, statement_at, turn}
+use Rattle.sharc_guarded_form.specs.Machine.{Program, Thread, Turn, Goes, Asks, Checks, Halts, Running, set_int}
+use Rattle.sharc_guarded_form.specs.Machine.{set_ref, function_at, statement_at, turn}
 
 -- ---- the beginning: a thread of this function, after its Started with this argument
 abbrev pub with_parameter : Thread → Parameter → ℤ → Thread
@@ -46,7 +47,8 @@ may_go (Checks check site b) = true
 may_go (Halts outcome) = false
 
 -- ---- paths
--- The answers of a path, the last one first, one for each turn, also where a turn asked for nothing. Its events are those of the thread after it.
+-- The answers of a path, the last one first, one for each turn, also where a turn asked for nothing. Its events are
+-- those of the thread after it.
 abbrev pub thread_after : Program → Thread → List ℤ → Thread
 thread_after p a [] = a
 thread_after p a (x ∷ earlier) = let now = thread_after p a earlier in after now (turn p now) x
@@ -56,7 +58,8 @@ abbrev pub IsPath : Program → Thread → List ℤ → Type 0
 IsPath p a [] = Unit {0}
 IsPath p a (x ∷ earlier) = IsPath p a earlier × (may_go (turn p (thread_after p a earlier)) ≡ true)
 
--- how many turns of code a turn of this statement may be at most, without those that a bound on the length of a path leaves out
+-- how many turns of code a turn of this statement may be at most, without those that a bound on the length of a path
+-- leaves out
 abbrev pub weight : Instr → ℕ
 weight (New r count cells site) = 4
 weight (Spawn r function from site) = 4

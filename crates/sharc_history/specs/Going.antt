@@ -25,7 +25,8 @@ IsGoing code s going = (turns : List Turn) × GoesAt code s turns going
 -- this is what is coming of a thread there
 pub record AwaitsAt (code : Code) (s : Shape) (turns : List Turn) (t : ℕ) (coming : Coming) : Type 0 where
   pub number : ((place_after code s turns).threads t).own.number ≡ t
-  pub is : IsComing code (instr_at code ((place_after code s turns).threads t).at.pc) ((place_after code s turns).threads t) coming
+  pub is : IsComing code (instr_at code ((place_after code s turns).threads t).at.pc)
+      ((place_after code s turns).threads t) coming
   pub origin : coming.origin ≡ origin_at code ((place_after code s turns).threads t)
 
 -- an event more, and what it makes of the elements of objects
@@ -42,7 +43,8 @@ pub record Tells (t : ℕ) (coming : Coming) (found : ℕ) (old new : Going) : T
   pub walk : new.walk ≡ old.walk
   pub schedule : new.schedule ≡ old.schedule
   pub event : Option Event
-  pub is : (code : Code) → option_map (told code) event ≡ comes code t coming found (elements_of old.made (spoken coming.next found))
+  pub is : (code : Code)
+      → option_map (told code) event ≡ comes code t coming found (elements_of old.made (spoken coming.next found))
   pub origin : IfSome event (λ e. e.origin ≡ coming.origin)
   pub events : new.events.items ≡ with_event event old.events.items
   pub elements : (number : ℕ) → elements_of new.made number ≡ elements_by event number (elements_of old.made number)

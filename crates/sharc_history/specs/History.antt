@@ -1,5 +1,6 @@
 -- The source events of a run by a schedule.
-use Rattle.std.specs.Prelude.{ℕ, ◌≡◌, ◌==◌, false, List, [], ◌∷◌, map, reverse, nat_eq, Option, Some, None, if◌then◌else◌}
+use Rattle.std.specs.Prelude.{ℕ, ◌≡◌, ◌==◌, false, List, [], ◌∷◌, map, reverse, nat_eq, Option, Some, None}
+use Rattle.std.specs.Prelude.{if◌then◌else◌}
 use Rattle.std.specs.{HashMap.{get, HashMap}, Option.unwrap_or}
 use Rattle.sharc_tree.specs.declared.event.SourceEvent.{SourceEvent}
 use Rattle.sharc_code.specs.{declared.code.Code.Code, declared.shape.Shape.Shape, Runs.{Turn, told_by}, Says.number_of}
@@ -33,7 +34,8 @@ with_origin (Some e) origin earlier = origin ∷ earlier
 abbrev pub origins_of : Code → Shape → List Turn → List Origin
 origins_of code s [] = []
 origins_of code s (one ∷ turns) =
-    with_origin (told_by (one_thread code s) (Erase code s turns) (place_after code s turns) one) (origin_at code ((place_after code s turns).threads one.thread)) (origins_of code s turns)
+    with_origin (told_by (one_thread code s) (Erase code s turns) (place_after code s turns) one)
+    (origin_at code ((place_after code s turns).threads one.thread)) (origins_of code s turns)
 
 -- ---- what is computed of a run
 -- its events in their order, where in the source each of them is, and the threads that wait or were stopped at its end

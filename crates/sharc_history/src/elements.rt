@@ -17,7 +17,8 @@ pub(crate) fn elements_of(made: &HashMap<u64, u64>, number: u64) -> u64
 
 /// Notes the object that the event makes, if it makes one. The numbers of objects have 32 bits.
 pub(crate) fn note(made: &mut HashMap<u64, u64>, event: &Event) -> Result<(), AllocError>
-    ensures { OnOk result ((number : ℕ) → elements_of made.new number ≡ elements_behind (shown event.now.deed) number (elements_of made.old number)) }
+    ensures { OnOk result ((number : ℕ)
+        → elements_of made.new number ≡ elements_behind (shown event.now.deed) number (elements_of made.old number)) }
 {
     match event.deed {
         Deed::Makes(reference) => {

@@ -45,7 +45,8 @@ impl Going {
     fn coming(&self, code: &Code, shape: &Shape, limit: u64, number: u8) -> Coming
         requires low { number < threads }
         requires may { MayGoOn code.now shape.now limit number self.now.walk }
-        ensures { (turns : List Turn) → GoesAt code.now shape.now turns self.now → AwaitsAt code.now shape.now turns number result }
+        ensures { (turns : List Turn) → GoesAt code.now shape.now turns self.now
+            → AwaitsAt code.now shape.now turns number result }
     {
         match self.walk.thread(number) {
             Some(thread) => next_of(code, thread),
@@ -83,7 +84,8 @@ impl Going {
         requires low { number < threads }
         requires going { IsGoing code.now shape.now self.old }
         requires may { MayGoOn code.now shape.now limit number self.old.walk }
-        ensures went { OnOk result ((turns : List Turn) → GoesAt code.now shape.now turns self.old → OneMore code.now shape.now number turns self.new) }
+        ensures went { OnOk result ((turns : List Turn) → GoesAt code.now shape.now turns self.old
+            → OneMore code.now shape.now number turns self.new) }
         ensures less { OnOk result (events_left limit self.new.walk < events_left limit self.old.walk) }
     {
         let coming = self.coming(code, shape, limit, number);
@@ -113,7 +115,8 @@ impl Going {
         requires each { (k : ℕ) → k < length places.now → get_or ends.now k 0 ≡ total (take (k + 1) places.now) }
         requires traced { IsTraced code.now shape.now places.now limit self.old }
         ensures traced { IfOk result (λ more. more ≡ true → IsTraced code.now shape.now places.now limit self.new) }
-        ensures less { IfOk result (λ more. more ≡ true → events_left limit self.new.walk < events_left limit self.old.walk) }
+        ensures less { IfOk result (λ more. more ≡ true
+            → events_left limit self.new.walk < events_left limit self.old.walk) }
         ensures over { IfOk result (λ more. more ≡ false → IsOver code.now shape.now places.now limit self.new) }
     {
         fits_law(code, shape);

@@ -40,7 +40,9 @@ const NO_LIMIT: u64 = 100_000_001;
 fn is_held(walk: &Walk, thread: &Thread, number: u8) -> bool
     requires number { number < threads }
     requires walk { (code : Code) × (s : Shape) × IsWalk code s walk.now }
-    ensures { (code : Code) (s : Shape) (turns : List Turn) → StandsAt code s turns walk.now → IsThreadThere code s turns number (Some thread.now) → result ≡ is_held code s (place_after code s turns) number }
+    ensures { (code : Code) (s : Shape) (turns : List Turn) → StandsAt code s turns walk.now
+        → IsThreadThere code s turns number (Some thread.now)
+        → result ≡ is_held code s (place_after code s turns) number }
 {
     run_laws();
     match thread.state() {
@@ -53,7 +55,10 @@ fn is_held(walk: &Walk, thread: &Thread, number: u8) -> bool
 fn halt_of(code: &Code, walk: &Walk, thread: &Thread, number: u8) -> Option<Halt>
     requires number { number < threads }
     requires walk { (s : Shape) × IsWalk code.now s walk.now }
-    ensures { (s : Shape) (turns : List Turn) → StandsAt code.now s turns walk.now → IsThreadThere code.now s turns number (Some thread.now) → MatchOption result (is_last code.now s (place_after code.now s turns) number ≡ false) (IsHaltAt code.now s (place_after code.now s turns) number) }
+    ensures { (s : Shape) (turns : List Turn) → StandsAt code.now s turns walk.now
+        → IsThreadThere code.now s turns number (Some thread.now)
+        → MatchOption result (is_last code.now s (place_after code.now s turns) number ≡ false)
+        (IsHaltAt code.now s (place_after code.now s turns) number) }
 {
     match thread.stop() {
         Some(stop) => Some(Halt::Stopped(stop, refused_at(code, thread))),
@@ -71,7 +76,9 @@ fn halt_of(code: &Code, walk: &Walk, thread: &Thread, number: u8) -> Option<Halt
 fn halt_at(code: &Code, walk: &Walk, number: u8) -> Option<Halt>
     requires number { number < threads }
     requires walk { (s : Shape) × IsWalk code.now s walk.now }
-    ensures { (s : Shape) (turns : List Turn) → StandsAt code.now s turns walk.now → MatchOption result (is_last code.now s (place_after code.now s turns) number ≡ false) (IsHaltAt code.now s (place_after code.now s turns) number) }
+    ensures { (s : Shape) (turns : List Turn) → StandsAt code.now s turns walk.now
+        → MatchOption result (is_last code.now s (place_after code.now s turns) number ≡ false)
+        (IsHaltAt code.now s (place_after code.now s turns) number) }
 {
     match walk.thread(number) {
         Some(thread) => halt_of(code, walk, thread, number),
@@ -83,7 +90,9 @@ fn halt_at(code: &Code, walk: &Walk, number: u8) -> Option<Halt>
 fn list(lasts: &mut Vec<Last>, code: &Code, walk: &Walk, number: u8) -> Result<(), AllocError>
     requires number { number < threads }
     requires walk { (s : Shape) × IsWalk code.now s walk.now }
-    ensures { OnOk result ((s : Shape) (turns : List Turn) → StandsAt code.now s turns walk.now → AreLastsUpTo code.now s (place_after code.now s turns) number lasts.old.items → AreLastsUpTo code.now s (place_after code.now s turns) (number + 1) lasts.new.items) }
+    ensures { OnOk result ((s : Shape) (turns : List Turn) → StandsAt code.now s turns walk.now
+        → AreLastsUpTo code.now s (place_after code.now s turns) number lasts.old.items
+        → AreLastsUpTo code.now s (place_after code.now s turns) (number + 1) lasts.new.items) }
 {
     match halt_at(code, walk, number) {
         Some(halt) => {
@@ -102,7 +111,8 @@ fn list(lasts: &mut Vec<Last>, code: &Code, walk: &Walk, number: u8) -> Result<(
 /// An `Err` says that memory was not found.
 pub(crate) fn lasts(alloc: Global, code: &Code, walk: &Walk) -> Result<Vec<Last>, AllocError>
     requires { (s : Shape) × IsWalk code.now s walk.now }
-    ensures { IfOk result (λ lasts. (s : Shape) (turns : List Turn) → StandsAt code.now s turns walk.now → AreLasts code.now s (place_after code.now s turns) lasts.items) }
+    ensures { IfOk result (λ lasts. (s : Shape) (turns : List Turn) → StandsAt code.now s turns walk.now
+        → AreLasts code.now s (place_after code.now s turns) lasts.items) }
 {
     let mut lasts = Vec::new(alloc);
     for number in 0..THREADS {

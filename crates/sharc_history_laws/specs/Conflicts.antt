@@ -17,8 +17,10 @@ site_of_check (ChkRead c site) = Some site
 site_of_check (ChkWrite c site) = Some site
 site_of_check _ = None
 
--- the turn after these is a check that thread j makes at this site, of this kind and granule, which passed or was refused
-pub record IsCheck (code : Code) (s : Shape) (earlier : List Turn) (check : Turn) (j : ℕ) (kind : Kind) (granule site : ℕ) (passed : Bool) : Type 0 where
+-- the turn after these is a check that thread j makes at this site, of this kind and granule, which passed or was
+-- refused
+pub record IsCheck (code : Code) (s : Shape) (earlier : List Turn) (check : Turn) (j : ℕ) (kind : Kind)
+    (granule site : ℕ) (passed : Bool) : Type 0 where
   pub thread : check.thread ≡ j
   pub touch : touch_at code s (place_after code s earlier) check ≡ CheckOf kind granule passed
   pub site_is : site_of_check (instr_at code ((place_after code s earlier).threads check.thread).at.pc) ≡ Some site
@@ -30,8 +32,8 @@ Past (CheckOf kind q passed) u j p = Unit {0}
 Past (ClearOf q) u j p = p ≢ q
 Past (WithdrawOf q) u j p = p ≡ q → u ≢ j
 
--- thread j made a check of this kind of the granule, and since then the granule was not cleared, as it is before each Give and Free of its object, and the
--- thread did not withdraw from it, as it does when it has returned
+-- thread j made a check of this kind of the granule, and since then the granule was not cleared, as it is before each
+-- Give and Free of its object, and the thread did not withdraw from it, as it does when it has returned
 abbrev pub MadeSince : Code → Shape → List Turn → (j p : ℕ) → Kind → Type 0
 MadeSince code s [] j p kind = ⊥
 MadeSince code s (one ∷ earlier) j p kind =
@@ -48,8 +50,9 @@ pub record Opposes (code : Code) (s : Shape) (earlier : List Turn) (t word granu
   pub made : MadeSince code s earlier other granule other_kind
   pub write : (kind ≡ Write) ⊎ (other_kind ≡ Write)
 
--- the turn of the check that was refused, and what was in its way: each thread whose bit stood in the word that it found had made a check of the granule,
--- and there is such a thread besides this one where one of the two checks is of kind Write
+-- the turn of the check that was refused, and what was in its way: each thread whose bit stood in the word that it
+-- found had made a check of the granule, and there is such a thread besides this one where one of the two checks is of
+-- kind Write
 pub record ShowsConflict (code : Code) (s : Shape) (run : List Turn) (t : ℕ) (c : ConflictAt) : Type 0 where
   pub later : List Turn
   pub check : Turn
@@ -63,12 +66,15 @@ pub record ShowsConflict (code : Code) (s : Shape) (run : List Turn) (t : ℕ) (
 
 -- so it is of each thread that has stopped at the check of an access
 abbrev pub AccessReportsShow : Type 0
-AccessReportsShow = (x : Targets) (code : Code) (s : Shape) (ls : Labels) → IsWellTyped x code ls → Fits code s → IsSmall code s
-    → (run : List Turn) → CheckedRun code s run → (t : ℕ) (c : ConflictAt) → ((place_after code s run).threads t).own.stop ≡ Some (Conflict c)
+AccessReportsShow = (x : Targets) (code : Code) (s : Shape) (ls : Labels) → IsWellTyped x code ls → Fits code s
+    → IsSmall code s
+    → (run : List Turn) → CheckedRun code s run
+    → (t : ℕ) (c : ConflictAt) → ((place_after code s run).threads t).own.stop ≡ Some (Conflict c)
     → ShowsConflict code s run t c
 
 -- ---- notes
--- thread j made a check of this kind of the granule that passed, at the site of the note, where the word had the note's epoch
+-- thread j made a check of this kind of the granule that passed, at the site of the note, where the word had the note's
+-- epoch
 pub record IsNoted (code : Code) (s : Shape) (run : List Turn) (j p : ℕ) (kind : Kind) (note : Note) : Type 0 where
   pub later : List Turn
   pub check : Turn
@@ -79,18 +85,23 @@ pub record IsNoted (code : Code) (s : Shape) (run : List Turn) (j p : ℕ) (kind
 
 -- so it is of each note in a table of a thread
 abbrev pub NotesAreOfChecks : Type 0
-NotesAreOfChecks = (x : Targets) (code : Code) (s : Shape) (ls : Labels) → IsWellTyped x code ls → Fits code s → IsSmall code s
-    → (run : List Turn) → CheckedRun code s run → (j p : ℕ) (kind : Kind) (note : Note) → note_of ((place_after code s run).threads j).own.table p kind ≡ Some note
+NotesAreOfChecks = (x : Targets) (code : Code) (s : Shape) (ls : Labels) → IsWellTyped x code ls → Fits code s
+    → IsSmall code s
+    → (run : List Turn) → CheckedRun code s run
+    → (j p : ℕ) (kind : Kind) (note : Note) → note_of ((place_after code s run).threads j).own.table p kind ≡ Some note
     → IsNoted code s run j p kind note
 
 -- ---- the other access of a report
--- by its table or by its own stop, the thread of this machine made a check of this kind at this site, of the granule of a conflict and in its epoch
+-- by its table or by its own stop, the thread of this machine made a check of this kind at this site, of the granule of
+-- a conflict and in its epoch
 pub data Names (m : Machine) (c : ConflictAt) (kind : Kind) (site : ℕ) : Type 0 where
   ByNote : site_at (note_of m.own.table c.granule kind) c.epoch ≡ Some site → Names m c kind site
-  ByStop : (d : ConflictAt) → m.own.stop ≡ Some (Conflict d) → d.granule ≡ c.granule → d.epoch ≡ c.epoch → d.kind ≡ kind → d.site ≡ site → Names m c kind site
+  ByStop : (d : ConflictAt) → m.own.stop ≡ Some (Conflict d) → d.granule ≡ c.granule → d.epoch ≡ c.epoch → d.kind ≡ kind
+      → d.site ≡ site → Names m c kind site
 
 -- thread j made that check in the run, and the word had that epoch
-pub record CheckedThere (code : Code) (s : Shape) (run : List Turn) (j p epoch : ℕ) (kind : Kind) (site : ℕ) : Type 0 where
+pub record CheckedThere (code : Code) (s : Shape) (run : List Turn) (j p epoch : ℕ) (kind : Kind)
+    (site : ℕ) : Type 0 where
   pub later : List Turn
   pub check : Turn
   pub earlier : List Turn
@@ -100,6 +111,8 @@ pub record CheckedThere (code : Code) (s : Shape) (run : List Turn) (j p epoch :
   pub epoch_is : epoch_of (slice_index (place_after code s earlier).words (shadow_word s p)) ≡ epoch
 
 abbrev pub NamedAreChecked : Type 0
-NamedAreChecked = (x : Targets) (code : Code) (s : Shape) (ls : Labels) → IsWellTyped x code ls → Fits code s → IsSmall code s
-    → (run : List Turn) → CheckedRun code s run → (j : ℕ) (c : ConflictAt) (kind : Kind) (site : ℕ) → Names ((place_after code s run).threads j) c kind site
+NamedAreChecked = (x : Targets) (code : Code) (s : Shape) (ls : Labels) → IsWellTyped x code ls → Fits code s
+    → IsSmall code s
+    → (run : List Turn) → CheckedRun code s run
+    → (j : ℕ) (c : ConflictAt) (kind : Kind) (site : ℕ) → Names ((place_after code s run).threads j) c kind site
     → CheckedThere code s run j c.granule c.epoch kind site

@@ -4,9 +4,11 @@ use Rattle.sharc_tree.specs.{declared.event.CellAt.CellAt, declared.event.Source
 use Rattle.sharc_tree.specs.declared.event.CellMode.TheVariants as modes
 use Rattle.sharc_shadow.specs.declared.shadow_word.Kind.{Kind}
 use Rattle.sharc_code.specs.{declared.code.Code.Code, declared.code.PlaceMode.PlaceMode}
-use Rattle.sharc_code.specs.declared.code.PlaceMode.TheVariants.{Dynamic, LockedGlobal, LockedSibling, LockedThrough, LockedLoaded}
+use Rattle.sharc_code.specs.declared.code.PlaceMode.TheVariants.{Dynamic, LockedGlobal, LockedSibling, LockedThrough}
+use Rattle.sharc_code.specs.declared.code.PlaceMode.TheVariants.{LockedLoaded}
 use Rattle.sharc_code.specs.{declared.instr.Cell.Cell, declared.instr.Instr.Instr}
-use Rattle.sharc_code.specs.declared.instr.Instr.TheVariants.{ChkRead, ChkWrite, ChkLock, ChkLockLoaded, Load, Store, LoadRef, Exchange, TakeCell}
+use Rattle.sharc_code.specs.declared.instr.Instr.TheVariants.{ChkRead, ChkWrite, ChkLock, ChkLockLoaded, Load, Store}
+use Rattle.sharc_code.specs.declared.instr.Instr.TheVariants.{LoadRef, Exchange, TakeCell}
 use Rattle.sharc_code.specs.{declared.shape.Shape.Shape, declared.state.Stop.TheVariants.NoLock, Layout.Fits}
 use Rattle.sharc_code.specs.{Machine.{Machine, instr_at}, Path.may_go, Runs.{Turn, told_by, turns_of}}
 use Rattle.sharc_code.specs.{Says.{cell_at, mode_of, place_at}, Whole.{CheckedRun, Erase, one_thread, place_after}}
@@ -35,8 +37,10 @@ IsLocked mode = ⊥
 abbrev pub IsFollowed : Code → Instr → Instr → Type 0
 IsFollowed code (ChkRead c site) i = ((place_at code site).mode ≡ Dynamic) × Accesses false c site i
 IsFollowed code (ChkWrite c site) i = ((place_at code site).mode ≡ Dynamic) × Accesses true c site i
-IsFollowed code (ChkLock m site) i = IsLocked (place_at code site).mode × ((write : Bool) × (c : Cell) × Accesses write c site i)
-IsFollowed code (ChkLockLoaded site) i = ((place_at code site).mode ≡ LockedLoaded) × ((write : Bool) × (c : Cell) × Accesses write c site i)
+IsFollowed code (ChkLock m site) i =
+    IsLocked (place_at code site).mode × ((write : Bool) × (c : Cell) × Accesses write c site i)
+IsFollowed code (ChkLockLoaded site) i =
+    ((place_at code site).mode ≡ LockedLoaded) × ((write : Bool) × (c : Cell) × Accesses write c site i)
 IsFollowed code check i = Unit {0}
 
 abbrev pub ChecksAreFollowed : Code → Type 0
@@ -44,7 +48,11 @@ ChecksAreFollowed code = (pc : ℕ) → IsFollowed code (instr_at code pc) (inst
 
 -- ---- accesses of a run
 abbrev pub access_to : Code → Machine → Cell → (site : ℕ) → (write : Bool) → Access
-access_to code m c site write = record { cell = cell_at code m c; mode = mode_of code m (cell_at code m c) (place_at code site).mode; is_write = write }
+access_to code m c site write = record {
+  cell = cell_at code m c;
+  mode = mode_of code m (cell_at code m c) (place_at code site).mode;
+  is_write = write;
+}
 
 -- the access that a thread of this machine makes by this instruction
 abbrev pub access_of : Code → Machine → Instr → Option Access
@@ -60,23 +68,29 @@ abbrev pub access_checked : Code → Machine → Option Access
 access_checked code m = access_of code m (instr_at code (m.at.pc + 1))
 
 -- the turn after these tells this access, at this site
-pub record TellsAccess (code : Code) (s : Shape) (before : List Turn) (turn : Turn) (site : ℕ) (a : Access) : Type 0 where
+pub record TellsAccess (code : Code) (s : Shape) (before : List Turn) (turn : Turn) (site : ℕ)
+    (a : Access) : Type 0 where
   pub event : SourceEvent
   pub told : told_by (one_thread code s) (Erase code s before) (place_after code s before) turn ≡ Some event
   pub thread : event.thread ≡ turn.thread
   pub at : event.site ≡ (place_at code site).site
   pub is : access_by event.act ≡ Some a
 
--- After a check of thread j, and these turns: the thread is next to make the access, or it has made it, by its first turn of these.
-pub data Follows (code : Code) (s : Shape) (later : List Turn) (check : Turn) (earlier : List Turn) (j site : ℕ) (a : Access) : Type 0 where
+-- After a check of thread j, and these turns: the thread is next to make the access, or it has made it, by its first
+-- turn of these.
+pub data Follows (code : Code) (s : Shape) (later : List Turn) (check : Turn) (earlier : List Turn) (j site : ℕ)
+    (a : Access) : Type 0 where
   IsNext : turns_of j later ≡ [] → may_go ((place_after code s (later ++ check ∷ earlier)).threads j).at.state ≡ true
-      → access_of code ((place_after code s (later ++ check ∷ earlier)).threads j) (instr_at code ((place_after code s (later ++ check ∷ earlier)).threads j).at.pc) ≡ Some a
+      → access_of code ((place_after code s (later ++ check ∷ earlier)).threads j)
+      (instr_at code ((place_after code s (later ++ check ∷ earlier)).threads j).at.pc) ≡ Some a
       → Follows code s later check earlier j site a
-  IsMade : (after : List Turn) (turn : Turn) (between : List Turn) → later ≡ after ++ turn ∷ between → turn.thread ≡ j → turns_of j between ≡ []
+  IsMade : (after : List Turn) (turn : Turn) (between : List Turn) → later ≡ after ++ turn ∷ between → turn.thread ≡ j
+      → turns_of j between ≡ []
       → TellsAccess code s (between ++ check ∷ earlier) turn site a → Follows code s later check earlier j site a
 
 -- the access that a check is of, which then follows where the check passed
-pub record IsOfAccess (code : Code) (s : Shape) (later : List Turn) (check : Turn) (earlier : List Turn) (j site : ℕ) (passed : Bool) : Type 0 where
+pub record IsOfAccess (code : Code) (s : Shape) (later : List Turn) (check : Turn) (earlier : List Turn) (j site : ℕ)
+    (passed : Bool) : Type 0 where
   pub access : Access
   pub is : access_checked code ((place_after code s earlier).threads j) ≡ Some access
   pub dynamic : access.mode ≡ modes.Dynamic
@@ -84,12 +98,16 @@ pub record IsOfAccess (code : Code) (s : Shape) (later : List Turn) (check : Tur
 
 -- so it is of each check of a dynamic access
 abbrev pub AccessesFollow : Type 0
-AccessesFollow = (x : Targets) (code : Code) (s : Shape) (ls : Labels) → IsWellTyped x code ls → Fits code s → IsSmall code s → ChecksAreFollowed code
-    → (run later : List Turn) (check : Turn) (earlier : List Turn) → CheckedRun code s run → run ≡ later ++ check ∷ earlier
-    → (j : ℕ) (kind : Kind) (granule site : ℕ) (passed : Bool) → IsCheck code s earlier check j kind granule site passed → IsOfAccess code s later check earlier j site passed
+AccessesFollow = (x : Targets) (code : Code) (s : Shape) (ls : Labels) → IsWellTyped x code ls → Fits code s
+    → IsSmall code s → ChecksAreFollowed code
+    → (run later : List Turn) (check : Turn) (earlier : List Turn) → CheckedRun code s run
+    → run ≡ later ++ check ∷ earlier
+    → (j : ℕ) (kind : Kind) (granule site : ℕ) (passed : Bool) → IsCheck code s earlier check j kind granule site passed
+    → IsOfAccess code s later check earlier j site passed
 
 -- ---- reports of locks
--- The mode of the access that was refused names the mutex that the check looks for, and the thread does not hold it by its events.
+-- The mode of the access that was refused names the mutex that the check looks for, and the thread does not hold it by
+-- its events.
 pub record ShowsLock (code : Code) (R : History) (thread : ℕ) (m : Machine) (site : ℕ) : Type 0 where
   pub mutex : CellAt
   pub check : IsLockCheck code m (instr_at code m.at.pc) site mutex
@@ -100,13 +118,17 @@ pub record ShowsLock (code : Code) (R : History) (thread : ℕ) (m : Machine) (s
 
 -- so it is of each thread that has stopped at a lock check
 abbrev pub LockReportsShowAccess : Type 0
-LockReportsShowAccess = (x : Targets) (code : Code) (s : Shape) (ls : Labels) → IsWellTyped x code ls → Fits code s → IsSmall code s → ChecksAreFollowed code
-    → (run : List Turn) → CheckedRun code s run → (t site word : ℕ) → ((place_after code s run).threads t).own.stop ≡ Some (NoLock site word)
+LockReportsShowAccess = (x : Targets) (code : Code) (s : Shape) (ls : Labels) → IsWellTyped x code ls → Fits code s
+    → IsSmall code s → ChecksAreFollowed code
+    → (run : List Turn) → CheckedRun code s run
+    → (t site word : ℕ) → ((place_after code s run).threads t).own.stop ≡ Some (NoLock site word)
     → ShowsLock code (history_of code s run) t ((place_after code s run).threads t) site
 
 -- so no history that keeps the rules goes on with that access
 abbrev pub LockReportsBreakRules : Type 0
-LockReportsBreakRules = (x : Targets) (code : Code) (s : Shape) (ls : Labels) → IsWellTyped x code ls → Fits code s → IsSmall code s → ChecksAreFollowed code
-    → (run : List Turn) → CheckedRun code s run → (t site word : ℕ) → ((place_after code s run).threads t).own.stop ≡ Some (NoLock site word)
+LockReportsBreakRules = (x : Targets) (code : Code) (s : Shape) (ls : Labels) → IsWellTyped x code ls → Fits code s
+    → IsSmall code s → ChecksAreFollowed code
+    → (run : List Turn) → CheckedRun code s run
+    → (t site word : ℕ) → ((place_after code s run).threads t).own.stop ≡ Some (NoLock site word)
     → (e : SourceEvent) → e.thread ≡ t → access_by e.act ≡ access_checked code ((place_after code s run).threads t)
     → (until : Until) → Obeys (history_of code s run ++ e ∷ []) until → ⊥

@@ -12,5 +12,6 @@ history_of code s run = reverse (told_in (Erase code s run))
 
 -- they keep all rules of the modes, where an access counts in its access set until its thread returns
 abbrev pub HistoriesObey : Type 0
-HistoriesObey = (x : Targets) (code : Code) (s : Shape) (ls : Labels) → IsWellTyped x code ls → Fits code s → IsSmall code s
+HistoriesObey = (x : Targets) (code : Code) (s : Shape) (ls : Labels) → IsWellTyped x code ls → Fits code s
+    → IsSmall code s
     → (run : List Turn) → CheckedRun code s run → Obeys (history_of code s run) until_return

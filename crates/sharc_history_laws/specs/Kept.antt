@@ -19,46 +19,64 @@ use Rattle.sharc_history_laws.specs.{History.history_of, SeenCells.{IsBeingFreed
 
 -- where a mutex of an object is locked by the events, the held log of a thread refers to the object
 abbrev pub LockedAreLogged : Type 0
-LockedAreLogged = (x : Targets) (code : Code) (s : Shape) (ls : Labels) → IsWellTyped x code ls → Fits code s → IsSmall code s → (r : Resolution) → BeginsWith r code
-    → (run : List Turn) → CheckedRun code s run → (c : CellAt) (o : ℕ) → c.object ≡ Made o → is_locked (history_of code s run) c ≡ true
+LockedAreLogged = (x : Targets) (code : Code) (s : Shape) (ls : Labels) → IsWellTyped x code ls → Fits code s
+    → IsSmall code s → (r : Resolution) → BeginsWith r code
+    → (run : List Turn) → CheckedRun code s run
+    → (c : CellAt) (o : ℕ) → c.object ≡ Made o → is_locked (history_of code s run) c ≡ true
     → (u : ℕ) × (word : ℕ) × (log_refers (place_after code s run) u word ≡ o)
 
 -- where a thread has had no event, and a Spawn has answered its number that gave it a reference, its argument refers to
 -- the object
 abbrev pub SpawnedAreGiven : Type 0
-SpawnedAreGiven = (x : Targets) (code : Code) (s : Shape) (ls : Labels) → IsWellTyped x code ls → Fits code s → IsSmall code s → (r : Resolution) → BeginsWith r code
+SpawnedAreGiven = (x : Targets) (code : Code) (s : Shape) (ls : Labels) → IsWellTyped x code ls → Fits code s
+    → IsSmall code s → (r : Resolution) → BeginsWith r code
     → (run : List Turn) → CheckedRun code s run → (u f o : ℕ) (v : ℤ) → events_of u (history_of code s run) ≡ []
-    → Any (λ e. (e.act ≡ Spawn f v) × (e.answer ≡ pos u)) (history_of code s run) → (function_of code f).parameter ≡ Reference → refers o v ≡ true
+    → Any (λ e. (e.act ≡ Spawn f v) × (e.answer ≡ pos u)) (history_of code s run)
+    → (function_of code f).parameter ≡ Reference → refers o v ≡ true
     → argument_of code (place_after code s run) u ≡ o
 
 -- where by the events a pointer cell of a live object refers to an object, it does so by the words, but while a Free
 -- empties the cell's object
 abbrev pub CellsAreKept : Type 0
-CellsAreKept = (x : Targets) (code : Code) (s : Shape) (ls : Labels) → IsWellTyped x code ls → Fits code s → IsSmall code s → (r : Resolution) → BeginsWith r code
+CellsAreKept = (x : Targets) (code : Code) (s : Shape) (ls : Labels) → IsWellTyped x code ls → Fits code s
+    → IsSmall code s → (r : Resolution) → BeginsWith r code
     → (run : List Turn) → CheckedRun code s run → (p i o : ℕ) (c : CellAt) → IsCellIn code c.object c.cell p i
-    → let g = place_after code s run in let obj = objects_after code s ls (first_place code s) (first_world x).obj run in is_pointer_now x s g obj p i ≡ true
-    → refers o (value_after r (history_of code s run) c) ≡ true → (cell_refers x s g obj p i ≡ o) ⊎ IsBeingFreed code g p
+    → let g = place_after code s run in let obj = objects_after code s ls (first_place code s)
+    (first_world x).obj run in is_pointer_now x s g obj p i ≡ true
+    → refers o (value_after r (history_of code s run) c) ≡ true
+    → (cell_refers x s g obj p i ≡ o) ⊎ IsBeingFreed code g p
 
 -- ---- which cells are pointers
--- where by the events a cell of an object that is made and live refers to an object, and it is one of the pointers of what is
--- made at the token of the object's last New, it is one by the table, of an object of this number that has it
+-- where by the events a cell of an object that is made and live refers to an object, and it is one of the pointers of
+-- what is made at the token of the object's last New, it is one by the table, of an object of this number that has it
 abbrev pub MadePointersAreKept : Type 0
-MadePointersAreKept = (x : Targets) (code : Code) (s : Shape) (ls : Labels) → IsWellTyped x code ls → Fits code s → IsSmall code s → (r : Resolution) → BeginsWith r code
-    → (run : List Turn) → CheckedRun code s run → (p i o : ℕ) → let R = history_of code s run in is_live R (Made p) ≡ true
-    → (e : SourceEvent) → latest (makes (Made p)) R ≡ Some e → x.is_made_pointer e.site.token i ≡ true → refers o (value_after r R (record { object = Made p; cell = i })) ≡ true
-    → (p ≢ 0) × (is_pointer_now x s (place_after code s run) (objects_after code s ls (first_place code s) (first_world x).obj run) p i ≡ true)
+MadePointersAreKept = (x : Targets) (code : Code) (s : Shape) (ls : Labels) → IsWellTyped x code ls → Fits code s
+    → IsSmall code s → (r : Resolution) → BeginsWith r code
+    → (run : List Turn) → CheckedRun code s run
+    → (p i o : ℕ) → let R = history_of code s run in is_live R (Made p) ≡ true
+    → (e : SourceEvent) → latest (makes (Made p)) R ≡ Some e → x.is_made_pointer e.site.token i ≡ true
+    → refers o (value_after r R (record { object = Made p; cell = i })) ≡ true
+    → (p ≢ 0) × (is_pointer_now x s (place_after code s run)
+    (objects_after code s ls (first_place code s) (first_world x).obj run) p i ≡ true)
 
 -- so it is of each cell of a global that the table has as a pointer
 abbrev pub GlobalPointersAreKept : Type 0
-GlobalPointersAreKept = (x : Targets) (code : Code) (s : Shape) (ls : Labels) → IsWellTyped x code ls → Fits code s → IsSmall code s
-    → (run : List Turn) → CheckedRun code s run → (k cell : ℕ) → let place = first_cell_of code.globals.items k + cell in IsInGlobal code.globals.items k place → is_pointer (global_field x (place - 2)).holds ≡ true
-    → is_pointer_now x s (place_after code s run) (objects_after code s ls (first_place code s) (first_world x).obj run) 0 (place - 2) ≡ true
+GlobalPointersAreKept = (x : Targets) (code : Code) (s : Shape) (ls : Labels) → IsWellTyped x code ls → Fits code s
+    → IsSmall code s
+    → (run : List Turn) → CheckedRun code s run
+    → (k cell : ℕ) → let place = first_cell_of code.globals.items k + cell in IsInGlobal code.globals.items k place
+    → is_pointer (global_field x (place - 2)).holds ≡ true
+    → is_pointer_now x s (place_after code s run)
+    (objects_after code s ls (first_place code s) (first_world x).obj run) 0 (place - 2) ≡ true
 
 -- a cell that a global does not have is written by no event
 abbrev pub OthersAreInitial : Type 0
-OthersAreInitial = (x : Targets) (code : Code) (s : Shape) (ls : Labels) → IsWellTyped x code ls → Fits code s → IsSmall code s → (r : Resolution) → BeginsWith r code
-    → (run : List Turn) → CheckedRun code s run → (k cell : ℕ) → (IsInGlobal code.globals.items k (first_cell_of code.globals.items k + cell) → ⊥)
-    → value_after r (history_of code s run) (record { object = GlobalNumber k; cell = cell }) ≡ initial_value r (GlobalNumber k)
+OthersAreInitial = (x : Targets) (code : Code) (s : Shape) (ls : Labels) → IsWellTyped x code ls → Fits code s
+    → IsSmall code s → (r : Resolution) → BeginsWith r code
+    → (run : List Turn) → CheckedRun code s run
+    → (k cell : ℕ) → (IsInGlobal code.globals.items k (first_cell_of code.globals.items k + cell) → ⊥)
+    → value_after r (history_of code s run) (record { object = GlobalNumber k; cell = cell })
+    ≡ initial_value r (GlobalNumber k)
 
 -- ---- one event
 -- the turn has this event, and an object that it makes was not there before
@@ -69,6 +87,8 @@ pub record Grows (code : Code) (s : Shape) (obj : ℕ → ObjectState) (one : Tu
 
 -- a turn has no event, or one
 abbrev pub HistoriesGrow : Type 0
-HistoriesGrow = (x : Targets) (code : Code) (s : Shape) (ls : Labels) → IsWellTyped x code ls → Fits code s → IsSmall code s
+HistoriesGrow = (x : Targets) (code : Code) (s : Shape) (ls : Labels) → IsWellTyped x code ls → Fits code s
+    → IsSmall code s
     → (one : Turn) (earlier : List Turn) → CheckedRun code s (one ∷ earlier)
-    → (history_of code s (one ∷ earlier) ≡ history_of code s earlier) ⊎ Grows code s (objects_after code s ls (first_place code s) (first_world x).obj earlier) one earlier
+    → (history_of code s (one ∷ earlier) ≡ history_of code s earlier)
+    ⊎ Grows code s (objects_after code s ls (first_place code s) (first_world x).obj earlier) one earlier

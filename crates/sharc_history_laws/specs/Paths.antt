@@ -6,5 +6,7 @@ use Rattle.sharc_gen.specs.{Consistent.IsConsistent, OfRuns.{founds_of, elements
 use Rattle.sharc_invariant.specs.{Types.Targets, Labels.Labels, Typed.IsWellTyped, State.IsSmall}
 
 abbrev pub PathsAreConsistent : Type 0
-PathsAreConsistent = (x : Targets) (code : Code) (s : Shape) (ls : Labels) → IsWellTyped x code ls → Fits code s → IsSmall code s
-    → (run : List Turn) → CheckedRun code s run → (t : ℕ) → IsConsistent code s (begun code s t) (elements_before code s t run) (founds_of (turns_of t run))
+PathsAreConsistent = (x : Targets) (code : Code) (s : Shape) (ls : Labels) → IsWellTyped x code ls → Fits code s
+    → IsSmall code s
+    → (run : List Turn) → CheckedRun code s run
+    → (t : ℕ) → IsConsistent code s (begun code s t) (elements_before code s t run) (founds_of (turns_of t run))

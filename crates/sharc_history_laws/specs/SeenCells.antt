@@ -15,10 +15,12 @@ use Rattle.sharc_invariant.specs.{World.ObjectState, State.IsSmall, Opened.{firs
 use Rattle.sharc_invariant.specs.{Objects.objects_after, MachineInvariant.cell_refers}
 use Rattle.sharc_history_laws.specs.{History.history_of, Stores.BeginsWith}
 
--- the cell of the source is number i of object p of the machine: object 0 has the cells of all globals, from granule 1 on
+-- the cell of the source is number i of object p of the machine: object 0 has the cells of all globals, from granule 1
+-- on
 abbrev pub IsCellIn : Code → Object → ℕ → ℕ → ℕ → Type 0
 IsCellIn code (Made n) cell p i = (n ≡ p) × (p ≢ 0) × (cell ≡ i)
-IsCellIn code (GlobalNumber g) cell p i = (p ≡ 0) × IsInGlobal code.globals.items g (i + 2) × (i + 2 ≡ first_cell_of code.globals.items g + cell)
+IsCellIn code (GlobalNumber g) cell p i =
+    (p ≡ 0) × IsInGlobal code.globals.items g (i + 2) × (i + 2 ≡ first_cell_of code.globals.items g + cell)
 
 abbrev pub IsLiveBy : History → Object → Type 0
 IsLiveBy R (Made n) = is_live R (Made n) ≡ true
@@ -46,20 +48,26 @@ pub record IsBeingFreed (code : Code) (g : Global Machine) (p : ℕ) : Type 0 wh
   pub object : ref (g.threads thread) register ≡ p
   pub clearing : is_clearing (g.threads thread).own.stage ≡ true
 
--- by the events the cell is one of a live object and refers to object o; but they do not tell that a Free empties the cells of its object
-pub record RefersBy (r : Resolution) (code : Code) (g : Global Machine) (R : History) (c : CellAt) (p o : ℕ) : Type 0 where
+-- by the events the cell is one of a live object and refers to object o; but they do not tell that a Free empties the
+-- cells of its object
+pub record RefersBy (r : Resolution) (code : Code) (g : Global Machine) (R : History) (c : CellAt)
+    (p o : ℕ) : Type 0 where
   pub live : IsLiveBy R c.object
   pub refers_there : (refers o (value_after r R c) ≡ true) ⊎ IsBeingFreed code g p
 
 -- the cell is a pointer by the table, and so it is with the cell of the source
-pub record CellIsSeen (r : Resolution) (x : Targets) (code : Code) (g : Global Machine) (obj : ℕ → ObjectState) (R : History) (p i o : ℕ) : Type 0 where
+pub record CellIsSeen (r : Resolution) (x : Targets) (code : Code) (g : Global Machine) (obj : ℕ → ObjectState)
+    (R : History) (p i o : ℕ) : Type 0 where
   pub pointer : is_pointer (field_in x (obj p).ty i).holds ≡ true
   pub global : p ≡ 0 → is_pointer (global_field x i).holds ≡ true
   pub by_events : (c : CellAt) → IsCellIn code c.object c.cell p i → RefersBy r code g R c p o
 
 -- so it is of each cell that refers to an object by the words
 abbrev pub CellsAreSeen : Type 0
-CellsAreSeen = (x : Targets) (code : Code) (s : Shape) (ls : Labels) → IsWellTyped x code ls → Fits code s → IsSmall code s → (r : Resolution) → BeginsWith r code
+CellsAreSeen = (x : Targets) (code : Code) (s : Shape) (ls : Labels) → IsWellTyped x code ls → Fits code s
+    → IsSmall code s → (r : Resolution) → BeginsWith r code
     → (run : List Turn) → CheckedRun code s run → (p i o : ℕ) → o ≢ 0
-    → cell_refers x s (place_after code s run) (objects_after code s ls (first_place code s) (first_world x).obj run) p i ≡ o
-    → CellIsSeen r x code (place_after code s run) (objects_after code s ls (first_place code s) (first_world x).obj run) (history_of code s run) p i o
+    → cell_refers x s (place_after code s run)
+    (objects_after code s ls (first_place code s) (first_world x).obj run) p i ≡ o
+    → CellIsSeen r x code (place_after code s run)
+    (objects_after code s ls (first_place code s) (first_world x).obj run) (history_of code s run) p i o

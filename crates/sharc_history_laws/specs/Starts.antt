@@ -16,9 +16,11 @@ pub record IsOfMain (code : Code) (thread f : ℕ) (argument : ℤ) : Type 0 whe
 
 -- an instruction of the code spawns this function
 abbrev pub IsSpawnedByCode : Code → ℕ → Type 0
-IsSpawnedByCode code f = (pc : ℕ) × (to : ℕ) × (from : Register) × (site : ℕ) × (instr_at code pc ≡ Spawn to f from site)
+IsSpawnedByCode code f =
+    (pc : ℕ) × (to : ℕ) × (from : Register) × (site : ℕ) × (instr_at code pc ≡ Spawn to f from site)
 
--- a Started at the name of a function, which thread 0 has, or which an earlier Spawn gave to the thread with this argument
+-- a Started at the name of a function, which thread 0 has, or which an earlier Spawn gave to the thread with this
+-- argument
 pub record IsStartedBy (code : Code) (before : History) (e : SourceEvent) (argument : ℤ) : Type 0 where
   pub function : ℕ
   pub known : function < length code.functions.items
@@ -28,6 +30,8 @@ pub record IsStartedBy (code : Code) (before : History) (e : SourceEvent) (argum
 
 -- so is the first event of each thread
 abbrev pub StartsAreSpawned : Type 0
-StartsAreSpawned = (x : Targets) (code : Code) (s : Shape) (ls : Labels) → IsWellTyped x code ls → Fits code s → IsSmall code s → (run : List Turn) → CheckedRun code s run
-    → (before : History) (e : SourceEvent) (after : History) → Stands (history_of code s run) before e after → events_of e.thread before ≡ []
+StartsAreSpawned = (x : Targets) (code : Code) (s : Shape) (ls : Labels) → IsWellTyped x code ls → Fits code s
+    → IsSmall code s → (run : List Turn) → CheckedRun code s run
+    → (before : History) (e : SourceEvent) (after : History) → Stands (history_of code s run) before e after
+    → events_of e.thread before ≡ []
     → (argument : ℤ) → e.act ≡ Started argument → IsStartedBy code before e argument

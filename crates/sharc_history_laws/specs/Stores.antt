@@ -1,4 +1,5 @@
--- The source events of each checked run of typed code may come one after the other: each finds what those before it left.
+-- The source events of each checked run of typed code may come one after the other: each finds what those before it
+-- left.
 use Rattle.std.specs.Prelude.{◌≡◌, ℕ, ◌-◌, Bool, true, false, List, slice_index}
 use Rattle.sharc_tree.specs.{declared.event.Act.Act, declared.event.Act.TheVariants.{Woken, Signal}}
 use Rattle.sharc_tree.specs.{declared.event.Object.TheVariants.Global, declared.event.SourceEvent.SourceEvent}
@@ -11,7 +12,8 @@ use Rattle.sharc_history_laws.specs.History.{history_of}
 
 -- the cells of the code's globals hold at first what the definitions of the program's globals say
 abbrev pub BeginsWith : Resolution → Code → Type 0
-BeginsWith r code = (g place : ℕ) → IsInGlobal code.globals.items g place → int_of (slice_index code.initial.items (place - 2)) ≡ initial_value r (Global g)
+BeginsWith r code = (g place : ℕ) → IsInGlobal code.globals.items g place
+    → int_of (slice_index code.initial.items (place - 2)) ≡ initial_value r (Global g)
 
 -- the event tells who waits at a condition
 abbrev pub is_about_waiters : Act → Bool
@@ -21,6 +23,8 @@ is_about_waiters _ = false
 
 -- each event may come after those before it, if it does not tell who waits
 abbrev pub StoresAreLegal : Type 0
-StoresAreLegal = (x : Targets) (code : Code) (s : Shape) (ls : Labels) → IsWellTyped x code ls → Fits code s → IsSmall code s → (r : Resolution) → BeginsWith r code
-    → (run : List Turn) → CheckedRun code s run → (before : History) (e : SourceEvent) (after : History) → Stands (history_of code s run) before e after
+StoresAreLegal = (x : Targets) (code : Code) (s : Shape) (ls : Labels) → IsWellTyped x code ls → Fits code s
+    → IsSmall code s → (r : Resolution) → BeginsWith r code
+    → (run : List Turn) → CheckedRun code s run
+    → (before : History) (e : SourceEvent) (after : History) → Stands (history_of code s run) before e after
     → is_about_waiters e.act ≡ false → MayCome r before e e.act

@@ -20,7 +20,11 @@ act_awaited code m _ = None
 
 -- of a thread that waits at the end of a checked run of typed code it may not come after the source events of the run
 abbrev pub AwaitedMayNotCome : Type 0
-AwaitedMayNotCome = (x : Targets) (code : Code) (s : Shape) (ls : Labels) → IsWellTyped x code ls → Fits code s → IsSmall code s → WaitsFollow code → (r : Resolution) → BeginsWith r code
-    → (run : List Turn) → CheckedRun code s run → (t : ℕ) → IsOn (place_after code s run) t → Waits code s (place_after code s run) t
-    → (e : SourceEvent) → e.thread ≡ t → act_awaited code ((place_after code s run).threads t) (instr_at code ((place_after code s run).threads t).at.pc) ≡ Some e.act
+AwaitedMayNotCome = (x : Targets) (code : Code) (s : Shape) (ls : Labels) → IsWellTyped x code ls → Fits code s
+    → IsSmall code s → WaitsFollow code → (r : Resolution) → BeginsWith r code
+    → (run : List Turn) → CheckedRun code s run
+    → (t : ℕ) → IsOn (place_after code s run) t → Waits code s (place_after code s run) t
+    → (e : SourceEvent) → e.thread ≡ t
+    → act_awaited code ((place_after code s run).threads t) (instr_at code ((place_after code s run).threads t).at.pc)
+    ≡ Some e.act
     → MayCome r (history_of code s run) e e.act → ⊥

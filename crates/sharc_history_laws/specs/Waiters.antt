@@ -24,5 +24,7 @@ WaitsFollow code = (pc site : ℕ) (c : Cell) → instr_at code pc ≡ CondEnter
 
 -- then each source event of a checked run of typed code may come after those before it
 abbrev pub EventsMayCome : Type 0
-EventsMayCome = (x : Targets) (code : Code) (s : Shape) (ls : Labels) → IsWellTyped x code ls → Fits code s → IsSmall code s → WaitsFollow code → (r : Resolution) → BeginsWith r code
-    → (run : List Turn) → CheckedRun code s run → (before : History) (e : SourceEvent) (after : History) → Stands (history_of code s run) before e after → MayCome r before e e.act
+EventsMayCome = (x : Targets) (code : Code) (s : Shape) (ls : Labels) → IsWellTyped x code ls → Fits code s
+    → IsSmall code s → WaitsFollow code → (r : Resolution) → BeginsWith r code
+    → (run : List Turn) → CheckedRun code s run → (before : History) (e : SourceEvent) (after : History)
+    → Stands (history_of code s run) before e after → MayCome r before e e.act

@@ -1,5 +1,5 @@
-//! Checked runs of typed code: the paths of their threads have consistent results, their source events keep the rules of the modes and may come one after
-//! the other, and their reports show causes.
+//! Checked runs of typed code: the paths of their threads have consistent results, their source events keep the rules
+//! of the modes and may come one after the other, and their reports show causes.
 //!
 //! The layer above may call the laws of src/laws.rt, each the contract of a function that does nothing.
 #![tactic(auto)]

@@ -31,14 +31,19 @@ settled_of settled position = slice_index_or settled position None
 abbrev pub root_of : List (Option Reason) → ℕ → Option Reason
 root_of roots position = slice_index_or roots position None
 
-pub record ArePlacesOf (settled : List (Option Mode)) (roots : List (Option Reason)) (places : List Place) : Type 0 where
+pub record ArePlacesOf (settled : List (Option Mode)) (roots : List (Option Reason))
+    (places : List Place) : Type 0 where
   pub size : length places ≡ length settled
-  pub each : (position : ℕ) → position < length settled → place_at places position ≡ place_of (settled_of settled position) (root_of roots position)
+  pub each : (position : ℕ) → position < length settled
+      → place_at places position ≡ place_of (settled_of settled position) (root_of roots position)
 
 pub record AreModesOf (settled : List (Option Mode)) (findings : List Finding) (modes : List Mode) : Type 0 where
   pub size : length modes ≡ length settled
-  pub each : (position : ℕ) → position < length settled → slice_index_or modes position Private ≡ mode_found (settled_of settled position) (finding_at findings position)
+  pub each : (position : ℕ) → position < length settled
+      → slice_index_or modes position Private ≡ mode_found (settled_of settled position) (finding_at findings position)
 
-pub record AreReasonsOf (settled : List (Option Mode)) (findings : List Finding) (roots : List (Option Reason)) (reasons : List (Option Reason)) : Type 0 where
+pub record AreReasonsOf (settled : List (Option Mode)) (findings : List Finding) (roots : List (Option Reason))
+    (reasons : List (Option Reason)) : Type 0 where
   pub size : length reasons ≡ length settled
-  pub each : (position : ℕ) → position < length settled → root_of reasons position ≡ reason_of (settled_of settled position) (finding_at findings position) (root_of roots position)
+  pub each : (position : ℕ) → position < length settled → root_of reasons position
+      ≡ reason_of (settled_of settled position) (finding_at findings position) (root_of roots position)

@@ -1,5 +1,6 @@
 -- Why each position is a root, name by name: the list that the roots are written into.
-use Rattle.std.specs.Prelude.{ℕ, zero, suc, nat_lt, Bool, true, false, List, [], ◌∷◌, length, Option, Some, None, replicate, slice_set, if◌then◌else◌}
+use Rattle.std.specs.Prelude.{ℕ, zero, suc, nat_lt, Bool, true, false, List, [], ◌∷◌, length, Option, Some, None}
+use Rattle.std.specs.Prelude.{replicate, slice_set, if◌then◌else◌}
 use Rattle.sharc_tree.specs.declared.tree.declaration.Declaration.{Declaration}
 use Rattle.sharc_tree.specs.{declared.tree.item.GlobalDefinition.GlobalDefinition, Tree.Function}
 use Rattle.sharc_ctype.specs.{declared.entity.Numbered.Numbered, Entities.{entity_at, positions_of}}
@@ -47,4 +48,5 @@ passed_below r a zero roots = roots
 passed_below r a (suc n) roots = pass r n (function_at r n) (is_chosen a.spawned n) (passed_below r a n roots)
 
 abbrev pub roots_of : Resolution → Reaching → Roots
-roots_of r a = passed_below r a (length (functions_in r.program.items)) (touched_below r a (length (globals_in r.program.items)) (replicate (position_count r) None))
+roots_of r a = passed_below r a (length (functions_in r.program.items))
+    (touched_below r a (length (globals_in r.program.items)) (replicate (position_count r) None))

@@ -42,10 +42,10 @@ fn assignment(
     Ok((Listed::of(modes), Listed::of(reasons)))
 }
 
-/// The program with the least assignment of modes: a position without a written mode is dynamic exactly where a path of links leads to it from a
-/// root, from a dynamic position or from below another mode that is not private, and then has a reason. `reached` is what `reach` answers for the
-/// program. Being out of memory hands the program back and is the only refusal; more links, globals or functions than a number of 32 bits counts are
-/// answered so, too.
+/// The program with the least assignment of modes: a position without a written mode is dynamic exactly where a path of
+/// links leads to it from a root, from a dynamic position or from below another mode that is not private, and then has
+/// a reason. `reached` is what `reach` answers for the program. Being out of memory hands the program back and is the
+/// only refusal; more links, globals or functions than a number of 32 bits counts are answered so, too.
 pub fn infer(alloc: Global, typed: Typed, reached: &Reached) -> Result<Moded, Typed>
     requires { AreReached typed reached.now }
     ensures least { IfOk result (λ m. IsLeastAssignment m) }

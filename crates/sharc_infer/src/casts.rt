@@ -1,8 +1,10 @@
 // The links of the casts of expressions, statements and functions: one walk over a program.
 
 ghost use Rattle.std.specs.Prelude.{◌≡◌, ◌++◌, OnOk};
-ghost use Rattle.sharc_tree.specs.Measures.{expressions, in_arguments, in_option, in_right, in_simple, in_local, in_first, in_head, in_statement, in_statements};
-ghost use Rattle.sharc_tree.specs.View.{view_expr, view_arguments, view_option, view_right, view_simple, view_local, view_first, view_head, view_stmt, view_statements};
+ghost use Rattle.sharc_tree.specs.Measures.{expressions, in_arguments, in_option, in_right, in_simple, in_local};
+ghost use Rattle.sharc_tree.specs.Measures.{in_first, in_head, in_statement, in_statements};
+ghost use Rattle.sharc_tree.specs.View.{view_expr, view_arguments, view_option, view_right, view_simple, view_local};
+ghost use Rattle.sharc_tree.specs.View.{view_first, view_head, view_stmt, view_statements};
 ghost use Rattle.sharc_infer.specs.Links.{casts_in};
 
 use crate::links::equate_cast;
@@ -46,7 +48,8 @@ fn expression(expr: &Expr, typed: &Typed, links: &mut Vec<Link>) -> Result<(), A
 #[cycle(expression)]
 #[tactic(auto, using(crate::proofs::LinkLemmas::casts_both))]
 fn arguments(all: &[Expr], typed: &Typed, links: &mut Vec<Link>) -> Result<(), AllocError>
-    ensures { OnOk result (links.new.items ≡ links.old.items ++ casts_in typed.now (in_arguments (view_arguments all.now))) }
+    ensures { OnOk result (links.new.items
+        ≡ links.old.items ++ casts_in typed.now (in_arguments (view_arguments all.now))) }
 {
     for expr in all {
         expression(expr, typed, links)?;
@@ -55,7 +58,8 @@ fn arguments(all: &[Expr], typed: &Typed, links: &mut Vec<Link>) -> Result<(), A
 }
 
 fn optional(expr: &Option<Expr>, typed: &Typed, links: &mut Vec<Link>) -> Result<(), AllocError>
-    ensures { OnOk result (links.new.items ≡ links.old.items ++ casts_in typed.now (in_option expressions (view_option view_expr expr.now))) }
+    ensures { OnOk result (links.new.items
+        ≡ links.old.items ++ casts_in typed.now (in_option expressions (view_option view_expr expr.now))) }
 {
     match expr {
         None => Ok(()),
@@ -74,7 +78,8 @@ fn right(right: &Right, typed: &Typed, links: &mut Vec<Link>) -> Result<(), Allo
 
 #[tactic(auto, using(crate::proofs::LinkLemmas::casts_both))]
 fn simple(simple: &Simple, typed: &Typed, links: &mut Vec<Link>) -> Result<(), AllocError>
-    ensures { OnOk result (links.new.items ≡ links.old.items ++ casts_in typed.now (in_simple (view_simple simple.now))) }
+    ensures { OnOk result (links.new.items
+        ≡ links.old.items ++ casts_in typed.now (in_simple (view_simple simple.now))) }
 {
     match simple {
         Simple::Assign(_, place, value) => {
@@ -105,7 +110,8 @@ fn first(first: &ForFirst, typed: &Typed, links: &mut Vec<Link>) -> Result<(), A
 }
 
 fn step(step: &Option<Simple>, typed: &Typed, links: &mut Vec<Link>) -> Result<(), AllocError>
-    ensures { OnOk result (links.new.items ≡ links.old.items ++ casts_in typed.now (in_option in_simple (view_option view_simple step.now))) }
+    ensures { OnOk result (links.new.items
+        ≡ links.old.items ++ casts_in typed.now (in_option in_simple (view_option view_simple step.now))) }
 {
     match step {
         None => Ok(()),
@@ -127,7 +133,8 @@ fn returned(
     typed: &Typed,
     links: &mut Vec<Link>,
 ) -> Result<(), AllocError>
-    ensures { OnOk result (links.new.items ≡ links.old.items ++ casts_in typed.now (in_option expressions (view_option (λ b. view_expr b.value) value.now))) }
+    ensures { OnOk result (links.new.items ≡ links.old.items
+        ++ casts_in typed.now (in_option expressions (view_option (λ b. view_expr b.value) value.now))) }
 {
     match value {
         None => Ok(()),
@@ -139,7 +146,8 @@ fn returned(
 #[cycle(statement)]
 #[tactic(auto, using(crate::proofs::LinkLemmas::casts_both))]
 fn statement(stmt: &Stmt, typed: &Typed, links: &mut Vec<Link>) -> Result<(), AllocError>
-    ensures { OnOk result (links.new.items ≡ links.old.items ++ casts_in typed.now (in_statement (view_stmt stmt.now))) }
+    ensures { OnOk result (links.new.items
+        ≡ links.old.items ++ casts_in typed.now (in_statement (view_stmt stmt.now))) }
 {
     match stmt {
         Stmt::Empty(_) => Ok(()),
@@ -181,7 +189,8 @@ pub(crate) fn statements(
     typed: &Typed,
     links: &mut Vec<Link>,
 ) -> Result<(), AllocError>
-    ensures { OnOk result (links.new.items ≡ links.old.items ++ casts_in typed.now (in_statements (view_statements all.now))) }
+    ensures { OnOk result (links.new.items
+        ≡ links.old.items ++ casts_in typed.now (in_statements (view_statements all.now))) }
 {
     for stmt in all {
         statement(stmt, typed, links)?;

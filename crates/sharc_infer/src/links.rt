@@ -56,7 +56,8 @@ pub(crate) fn equate_cast(
     source: &Expr,
     links: &mut Vec<Link>,
 ) -> Result<(), AllocError>
-    ensures { OnOk result (links.new.items ≡ links.old.items ++ equal_rows (behind (Some (cast_row typed.now span))) (behind (row_at typed.now (view_expr source.now)))) }
+    ensures { OnOk result (links.new.items ≡ links.old.items
+        ++ equal_rows (behind (Some (cast_row typed.now span))) (behind (row_at typed.now (view_expr source.now)))) }
 {
     let to = behind(typed, Some(cast_row(typed, span)));
     let from = behind(typed, row_of(typed, source));
@@ -77,7 +78,8 @@ fn add_levels(numbered: &Numbered, links: &mut Vec<Link>) -> Result<(), AllocErr
 
 /// The links of the levels of all types.
 pub(crate) fn all_levels(alloc: Global, typed: &Typed) -> Result<Vec<Link>, AllocError>
-    ensures { IfOk result (λ links. links.items ≡ flat_map levels_down (numbered (entities_in typed.now.program.items))) }
+    ensures { IfOk result (λ links. links.items
+        ≡ flat_map levels_down (numbered (entities_in typed.now.program.items))) }
 {
     let _all = typed.position_count();
     let mut links = Vec::new(alloc);

@@ -40,7 +40,8 @@ fn root(typed: &Typed, token: u32, reason: Reason, roots: &mut Vec<Option<Reason
 /// Makes the top of a global a root, where a function touches it.
 fn touch(typed: &Typed, reached: &Reached, global: u32, roots: &mut Vec<Option<Reason>>)
     requires { global < length reached.now.firsts }
-    ensures { roots.new.items ≡ touch typed.now (global_at typed.now global) (first_of reached.now global) roots.old.items }
+    ensures { roots.new.items
+        ≡ touch typed.now (global_at typed.now global) (first_of reached.now global) roots.old.items }
 {
     if let Some(definition) = typed.global_at(global) {
         if let Some(function) = reached.touched(global) {
@@ -68,7 +69,8 @@ fn mark_all(
 /// Makes the targets of the parameters of a function roots, where it is spawned.
 fn pass(typed: &Typed, reached: &Reached, function: u32, roots: &mut Vec<Option<Reason>>)
     requires { function < length reached.now.spawned }
-    ensures { roots.new.items ≡ pass typed.now function (function_at typed.now function) (is_chosen reached.now.spawned function) roots.old.items }
+    ensures { roots.new.items ≡ pass typed.now function (function_at typed.now function)
+        (is_chosen reached.now.spawned function) roots.old.items }
 {
     if reached.spawned(function) {
         if let Some(definition) = typed.function_at(function) {
@@ -97,7 +99,8 @@ fn pass_all(typed: &Typed, reached: &Reached, functions: u32, roots: &mut Vec<Op
     }
 }
 
-/// Why each position is a root; none of any other. More globals or functions than a number of 32 bits counts are answered as out of memory.
+/// Why each position is a root; none of any other. More globals or functions than a number of 32 bits counts are
+/// answered as out of memory.
 pub(crate) fn roots(
     alloc: Global,
     typed: &Typed,

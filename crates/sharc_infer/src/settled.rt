@@ -51,7 +51,8 @@ fn level(
     written: &Option<Mode>,
     below: &[Option<Mode>],
 ) -> Result<Option<Mode>, AllocError>
-    ensures { IfOk result (λ m. m ≡ (if is_mutex base.now below.now then Some RacyMode else option_or written.now otherwise.now)) }
+    ensures { IfOk result (λ m. m ≡ (if is_mutex base.now below.now then Some RacyMode
+        else option_or written.now otherwise.now)) }
 {
     if is_mutex(base, below) {
         return Ok(Some(Mode::Racy));

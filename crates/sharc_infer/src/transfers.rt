@@ -2,8 +2,12 @@
 
 ghost use Rattle.std.specs.Prelude.{◌≡◌, ◌++◌, Some, OnOk};
 ghost use Rattle.sharc_tree.specs.Tree.{value, argument, no_arguments};
-ghost use Rattle.sharc_tree.specs.View.{view_expr, view_arguments, view_option, view_right, view_simple, view_local, view_first, view_head, view_stmt, view_statements};
-ghost use Rattle.sharc_ctype.specs.Transfers.{parameters_named, passed, transfers, argument_transfers, in_option, right_transfers, simple_transfers, local_transfers, first_transfers, statement_transfers, statements_transfers, gives, result as result_receiver};
+ghost use Rattle.sharc_tree.specs.View.{view_expr, view_arguments, view_option, view_right, view_simple, view_local};
+ghost use Rattle.sharc_tree.specs.View.{view_first, view_head, view_stmt, view_statements};
+ghost use Rattle.sharc_ctype.specs.Transfers.{parameters_named, passed, transfers, argument_transfers, in_option};
+ghost use Rattle.sharc_ctype.specs.Transfers.{right_transfers, simple_transfers, local_transfers, first_transfers};
+ghost use Rattle.sharc_ctype.specs.Transfers.{statement_transfers, statements_transfers, gives};
+ghost use Rattle.sharc_ctype.specs.Transfers.{result as result_receiver};
 ghost use Rattle.sharc_mode.specs.Flows.{equal_rows, source_row};
 ghost use Rattle.sharc_mode.specs.Rows.{written, declared_row, row_at};
 ghost use Rattle.sharc_mode.specs.View.{view_rows, EndsWithin};
@@ -25,7 +29,8 @@ fn pass(
     typed: &Typed,
     links: &mut Vec<Link>,
 ) -> Result<(), AllocError>
-    ensures { OnOk result (links.new.items ≡ links.old.items ++ equal_rows (Some (declared_row typed.now written to.now.name.site.token)) (row_at typed.now (view_expr argument.now))) }
+    ensures { OnOk result (links.new.items ≡ links.old.items ++ equal_rows
+        (Some (declared_row typed.now written to.now.name.site.token)) (row_at typed.now (view_expr argument.now))) }
 {
     let row = declared_row(typed, Reading::Written, to.name.site.token);
     equate(typed, Some(row), row_of(typed, argument), links)
@@ -39,7 +44,8 @@ fn pass_all(
     typed: &Typed,
     links: &mut Vec<Link>,
 ) -> Result<(), AllocError>
-    ensures { OnOk result (links.new.items ≡ links.old.items ++ given typed.now function (passed parameters.now (view_arguments all.now))) }
+    ensures { OnOk result (links.new.items
+        ≡ links.old.items ++ given typed.now function (passed parameters.now (view_arguments all.now))) }
 {
     for i in 0..parameters.len().min(all.len()) {
         pass(&parameters[i], &all[i], typed, links)?;
@@ -55,7 +61,8 @@ fn pass_one(
     typed: &Typed,
     links: &mut Vec<Link>,
 ) -> Result<(), AllocError>
-    ensures { OnOk result (links.new.items ≡ links.old.items ++ given typed.now function (passed parameters.now (argument (view_expr source.now) no_arguments))) }
+    ensures { OnOk result (links.new.items ≡ links.old.items
+        ++ given typed.now function (passed parameters.now (argument (view_expr source.now) no_arguments))) }
 {
     match parameters {
         [] => Ok(()),
@@ -72,7 +79,8 @@ fn expression(
     typed: &Typed,
     links: &mut Vec<Link>,
 ) -> Result<(), AllocError>
-    ensures { OnOk result (links.new.items ≡ links.old.items ++ given typed.now function (transfers typed.now (view_expr expr.now))) }
+    ensures { OnOk result (links.new.items
+        ≡ links.old.items ++ given typed.now function (transfers typed.now (view_expr expr.now))) }
 {
     match expr {
         Expr::Identifier(_, _) => Ok(()),
@@ -113,7 +121,8 @@ fn arguments(
     typed: &Typed,
     links: &mut Vec<Link>,
 ) -> Result<(), AllocError>
-    ensures { OnOk result (links.new.items ≡ links.old.items ++ given typed.now function (argument_transfers typed.now (view_arguments all.now))) }
+    ensures { OnOk result (links.new.items
+        ≡ links.old.items ++ given typed.now function (argument_transfers typed.now (view_arguments all.now))) }
 {
     for expr in all {
         expression(expr, function, typed, links)?;
@@ -127,7 +136,8 @@ fn optional(
     typed: &Typed,
     links: &mut Vec<Link>,
 ) -> Result<(), AllocError>
-    ensures { OnOk result (links.new.items ≡ links.old.items ++ given typed.now function (in_option (transfers typed.now) (view_option view_expr expr.now))) }
+    ensures { OnOk result (links.new.items ≡ links.old.items
+        ++ given typed.now function (in_option (transfers typed.now) (view_option view_expr expr.now))) }
 {
     match expr {
         None => Ok(()),
@@ -141,7 +151,8 @@ fn right(
     typed: &Typed,
     links: &mut Vec<Link>,
 ) -> Result<(), AllocError>
-    ensures { OnOk result (links.new.items ≡ links.old.items ++ given typed.now function (right_transfers typed.now (view_right right.now))) }
+    ensures { OnOk result (links.new.items
+        ≡ links.old.items ++ given typed.now function (right_transfers typed.now (view_right right.now))) }
 {
     match right {
         Right::Value(expr) => expression(expr, function, typed, links),
@@ -156,7 +167,8 @@ fn simple(
     typed: &Typed,
     links: &mut Vec<Link>,
 ) -> Result<(), AllocError>
-    ensures { OnOk result (links.new.items ≡ links.old.items ++ given typed.now function (simple_transfers typed.now (view_simple simple.now))) }
+    ensures { OnOk result (links.new.items
+        ≡ links.old.items ++ given typed.now function (simple_transfers typed.now (view_simple simple.now))) }
 {
     match simple {
         Simple::Assign(_, place, value) => {
@@ -176,7 +188,8 @@ fn local(
     typed: &Typed,
     links: &mut Vec<Link>,
 ) -> Result<(), AllocError>
-    ensures { OnOk result (links.new.items ≡ links.old.items ++ given typed.now function (local_transfers typed.now (view_local local.now))) }
+    ensures { OnOk result (links.new.items
+        ≡ links.old.items ++ given typed.now function (local_transfers typed.now (view_local local.now))) }
 {
     match &local.initial {
         None => Ok(()),
@@ -194,7 +207,8 @@ fn first(
     typed: &Typed,
     links: &mut Vec<Link>,
 ) -> Result<(), AllocError>
-    ensures { OnOk result (links.new.items ≡ links.old.items ++ given typed.now function (first_transfers typed.now (view_first first.now))) }
+    ensures { OnOk result (links.new.items
+        ≡ links.old.items ++ given typed.now function (first_transfers typed.now (view_first first.now))) }
 {
     match first {
         ForFirst::Nothing => Ok(()),
@@ -209,7 +223,8 @@ fn step(
     typed: &Typed,
     links: &mut Vec<Link>,
 ) -> Result<(), AllocError>
-    ensures { OnOk result (links.new.items ≡ links.old.items ++ given typed.now function (in_option (simple_transfers typed.now) (view_option view_simple step.now))) }
+    ensures { OnOk result (links.new.items ≡ links.old.items
+        ++ given typed.now function (in_option (simple_transfers typed.now) (view_option view_simple step.now))) }
 {
     match step {
         None => Ok(()),
@@ -226,7 +241,9 @@ fn returned(
     typed: &Typed,
     links: &mut Vec<Link>,
 ) -> Result<(), AllocError>
-    ensures { OnOk result (links.new.items ≡ links.old.items ++ given typed.now function (in_option (λ x. gives (result_receiver returns.now) (value x) ++ transfers typed.now x) (view_option (λ b. view_expr b.value) expr.now))) }
+    ensures { OnOk result (links.new.items ≡ links.old.items ++ given typed.now function
+        (in_option (λ x. gives (result_receiver returns.now) (value x) ++ transfers typed.now x)
+        (view_option (λ b. view_expr b.value) expr.now))) }
 {
     match expr {
         None => Ok(()),
@@ -246,7 +263,9 @@ fn head(
     typed: &Typed,
     links: &mut Vec<Link>,
 ) -> Result<(), AllocError>
-    ensures { OnOk result (links.new.items ≡ links.old.items ++ given typed.now function (first_transfers typed.now (view_head head.now).first ++ in_option (transfers typed.now) (view_head head.now).test ++ in_option (simple_transfers typed.now) (view_head head.now).step)) }
+    ensures { OnOk result (links.new.items ≡ links.old.items ++ given typed.now function (first_transfers typed.now
+        (view_head head.now).first ++ in_option (transfers typed.now) (view_head head.now).test
+        ++ in_option (simple_transfers typed.now) (view_head head.now).step)) }
 {
     first(&head.first, function, typed, links)?;
     optional(&head.test, function, typed, links)?;
@@ -263,7 +282,8 @@ fn statement(
     typed: &Typed,
     links: &mut Vec<Link>,
 ) -> Result<(), AllocError>
-    ensures { OnOk result (links.new.items ≡ links.old.items ++ given typed.now function (statement_transfers typed.now returns.now (view_stmt stmt.now))) }
+    ensures { OnOk result (links.new.items ≡ links.old.items
+        ++ given typed.now function (statement_transfers typed.now returns.now (view_stmt stmt.now))) }
 {
     match stmt {
         Stmt::Empty(_) => Ok(()),
@@ -307,7 +327,8 @@ pub(crate) fn statements(
     typed: &Typed,
     links: &mut Vec<Link>,
 ) -> Result<(), AllocError>
-    ensures { OnOk result (links.new.items ≡ links.old.items ++ given typed.now function (statements_transfers typed.now returns.now (view_statements all.now))) }
+    ensures { OnOk result (links.new.items ≡ links.old.items
+        ++ given typed.now function (statements_transfers typed.now returns.now (view_statements all.now))) }
 {
     for stmt in all {
         statement(stmt, function, returns, typed, links)?;

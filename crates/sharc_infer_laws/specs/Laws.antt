@@ -14,9 +14,11 @@ pub record IsTypedAtTokens (r : Resolution) : Type 0 where
 
 -- of a position without a written mode one thing is found
 abbrev pub FindingsAreOne : Type 0
-FindingsAreOne = (f : Flow) (a b : List Finding) → AreInferred f a → AreInferred f b → (position : ℕ) → IsUnwritten f position → finding_at a position ≡ finding_at b position
+FindingsAreOne = (f : Flow) (a b : List Finding) → AreInferred f a → AreInferred f b
+    → (position : ℕ) → IsUnwritten f position → finding_at a position ≡ finding_at b position
 
--- a position is the top of one global that one function is named for, or the target of a parameter of one function, and never both
+-- a position is the top of one global that one function is named for, or the target of a parameter of one function, and
+-- never both
 pub record IsOneRoot (r : Resolution) (position : ℕ) : Type 0 where
   pub touched : (f g : ℕ) → IsTouchedIn r position f → IsTouchedIn r position g → f ≡ g
   pub passed : (f g : ℕ) → IsPassedTo r position f → IsPassedTo r position g → f ≡ g
@@ -27,4 +29,5 @@ RootsAreOne = (r : Resolution) → IsTypedAtTokens r → (position : ℕ) → Is
 
 -- and a program has one least assignment
 abbrev pub LeastIsOne : Type 0
-LeastIsOne = (a b : Assignment) → IsTypedAtTokens a.typed → IsLeastAssignment a → IsLeastAssignment b → a.typed ≡ b.typed → a ≡ b
+LeastIsOne = (a b : Assignment) → IsTypedAtTokens a.typed → IsLeastAssignment a → IsLeastAssignment b
+    → a.typed ≡ b.typed → a ≡ b

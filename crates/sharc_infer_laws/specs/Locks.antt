@@ -14,7 +14,8 @@ IsWrittenLock levels Dynamic = Unit {0}
 
 -- at each position of each type
 abbrev pub HasWrittenLocks : Assignment → Type 0
-HasWrittenLocks m = (n : Numbered) → Contains (numbered (entities_in m.typed.program.items)) n → (k : ℕ) → k < positions_of n.entity
+HasWrittenLocks m = (n : Numbered) → Contains (numbered (entities_in m.typed.program.items)) n
+    → (k : ℕ) → k < positions_of n.entity
     → IsWrittenLock n.entity.written.ctype.levels (slice_index_or m.modes (n.first + k) Private)
 
 -- of the least assignment

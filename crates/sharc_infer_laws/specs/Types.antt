@@ -18,12 +18,13 @@ pub record IsTold (m : Assignment) (n : Numbered) (code : ErrorCode) : Type 0 wh
   pub coded : error.code ≡ code
   pub placed : error.site ≡ n.entity.written.span.first
 
--- Under the least assignment the error of the code that `well_formed` answers is reported. Where it answers none, no M4 and no M5 is; an M3 may be, of a level
--- without a mode that was inferred to be dynamic.
+-- Under the least assignment the error of the code that `well_formed` answers is reported. Where it answers none, no M4
+-- and no M5 is; an M3 may be, of a level without a mode that was inferred to be dynamic.
 pub record IsToldOf (m : Assignment) (n : Numbered) : Type 0 where
   pub told : (code : ErrorCode) → code_of m n ≡ Some code → IsTold m n code
   pub no_path : code_of m n ≡ None → IsTold m n LockPathNotConstant → ⊥
   pub no_mode : code_of m n ≡ None → IsTold m n ModeNotAllowed → ⊥
 
 abbrev pub TypesAreTold : Type 0
-TypesAreTold = (m : Assignment) → IsLeastAssignment m → (n : Numbered) → Contains (numbered (entities_in m.typed.program.items)) n → IsToldOf m n
+TypesAreTold = (m : Assignment) → IsLeastAssignment m
+    → (n : Numbered) → Contains (numbered (entities_in m.typed.program.items)) n → IsToldOf m n

@@ -27,7 +27,8 @@ pub fn least_is_one()
     roots_are_one();
 }
 
-/// Under the least assignment the M3, M4 or M5 that `well_formed` of sharc_mode answers of a type is reported of it, and where it answers none neither an M4 nor an M5 is.
+/// Under the least assignment the M3, M4 or M5 that `well_formed` of sharc_mode answers of a type is reported of it,
+/// and where it answers none neither an M4 nor an M5 is.
 pub fn types_are_told()
     ensures { TypesAreTold }
 {

@@ -1,4 +1,5 @@
--- That there are what laws of runs ask for: a program that always obeys, a run that is stuck, and a report where nothing is in flight.
+-- That there are what laws of runs ask for: a program that always obeys, a run that is stuck, and a report where
+-- nothing is in flight.
 use Rattle.std.specs.{Prelude.{◌≡◌, ℕ, List, Some}, Global.Global}
 use Rattle.sharc_mode.specs.Moded.{Assignment}
 use Rattle.sharc_mode_laws.specs.Rules.{MeetsRules}
@@ -29,7 +30,8 @@ pub record GetsStuck (source : List ℕ) : Type 0 where
   pub checked : CheckedRun built.code shape run
   pub stuck : Stuck built.code shape run
 
--- a thread of a checked run of its code has stopped at a cast or `free`, and wherever in the run it tested a reference nothing is in flight to the object
+-- a thread of a checked run of its code has stopped at a cast or `free`, and wherever in the run it tested a reference
+-- nothing is in flight to the object
 pub record ReportsAlone (source : List ℕ) : Type 0 where
   pub built : Built
   pub is : IsBuilt source built
@@ -42,7 +44,8 @@ pub record ReportsAlone (source : List ℕ) : Type 0 where
   pub count : ℕ
   pub stop : ((place_after built.code shape run).threads thread).own.stop ≡ Some (NotSole site count)
   pub nothing : (ls : Labels) (finds : FindsOthers (targets_of built.checked) built.code shape ls run thread site count)
-      → NothingIsInFlight built.checked built.code shape ls finds.earlier thread (ref ((place_after built.code shape finds.earlier).threads thread) finds.register)
+      → NothingIsInFlight built.checked built.code shape ls finds.earlier thread
+      (ref ((place_after built.code shape finds.earlier).threads thread) finds.register)
 
 -- ---- the laws: whatever hands out memory
 abbrev pub SomeAlwaysObey : Type 0

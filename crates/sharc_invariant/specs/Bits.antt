@@ -1,4 +1,5 @@
--- What was done to the shadow word of each granule since its last Clear, told by the turns of a run, and what stands of its bits.
+-- What was done to the shadow word of each granule since its last Clear, told by the turns of a run, and what stands of
+-- its bits.
 use Rattle.std.specs.Prelude.{ℕ, ◌≡◌, ◌<◌, ◌==◌, ◌||◌, Bool, true, false, List, [], ◌∷◌, slice_index, if◌then◌else◌}
 use Rattle.sharc_shadow.specs.{declared.shadow_word.Kind.Kind, declared.shadow_word.Kind.TheVariants.{Read, Write}}
 use Rattle.sharc_shadow.specs.ShadowWord.{is_written, stands}
@@ -29,20 +30,24 @@ freed_by s h (FreeClears done elements seen) = ClearOf (granule_at s (data_granu
 freed_by s h _ = Untouched
 
 abbrev pub withdrawn_by : Shape → Machine → ℕ → Stage → Touch
-withdrawn_by s m found (WithdrawsFrom row seen) = if found == seen then WithdrawOf (granule_at s (row_of m row)) else Untouched
+withdrawn_by s m found (WithdrawsFrom row seen) =
+    if found == seen then WithdrawOf (granule_at s (row_of m row)) else Untouched
 withdrawn_by s m found _ = Untouched
 
--- what the turn of this instruction is, which found this and led from the first machine to the second; a check that is refused stops the thread
+-- what the turn of this instruction is, which found this and led from the first machine to the second; a check that is
+-- refused stops the thread
 abbrev pub touch_of : Shape → Instr → Machine → ℕ → Machine → Touch
 touch_of s (ChkRead cell site) m found m' = CheckOf Read (granule_at s (granule_of (place m cell))) (may_go m'.at.state)
-touch_of s (ChkWrite cell site) m found m' = CheckOf Write (granule_at s (granule_of (place m cell))) (may_go m'.at.state)
+touch_of s (ChkWrite cell site) m found m' =
+    CheckOf Write (granule_at s (granule_of (place m cell))) (may_go m'.at.state)
 touch_of s (Clear r cells) m found m' = cleared_by s (ref m r) m.own.stage
 touch_of s (Free r layout site) m found m' = freed_by s (ref m r) m.own.stage
 touch_of s Exit m found m' = withdrawn_by s m found m.own.stage
 touch_of s _ m found m' = Untouched
 
 -- ---- what they come to
--- by thread, since the last Clear of a granule and the thread's last withdrawal: it made a check, one of kind Write, passed one, one of kind Write
+-- by thread, since the last Clear of a granule and the thread's last withdrawal: it made a check, one of kind Write,
+-- passed one, one of kind Write
 pub record Marks : Type 0 where
   pub made : ℕ → Bool
   pub writes : ℕ → Bool
@@ -62,7 +67,12 @@ with_check Write ok t f = record {
 }
 
 abbrev pub without_thread : ℕ → Marks → Marks
-without_thread t f = record { made = put f.made t false; writes = put f.writes t false; passed = put f.passed t false; passed_write = put f.passed_write t false }
+without_thread t f = record {
+  made = put f.made t false;
+  writes = put f.writes t false;
+  passed = put f.passed t false;
+  passed_write = put f.passed_write t false;
+}
 
 abbrev pub marks_by : Touch → ℕ → (ℕ → Marks) → ℕ → Marks
 marks_by Untouched t f = f
@@ -73,11 +83,13 @@ marks_by (WithdrawOf p) t f = put f p (without_thread t (f p))
 -- behind one turn of a run, and behind all
 abbrev pub marks_now : Code → Shape → Global Machine → Turn → (ℕ → Marks) → ℕ → Marks
 marks_now code s g tr f =
-    marks_by (touch_of s (instr_at code (g.threads tr.thread).at.pc) (g.threads tr.thread) (result_of tr.event) ((after_turn bounds (one_thread code s) g tr).threads tr.thread)) tr.thread f
+    marks_by (touch_of s (instr_at code (g.threads tr.thread).at.pc) (g.threads tr.thread) (result_of tr.event)
+    ((after_turn bounds (one_thread code s) g tr).threads tr.thread)) tr.thread f
 
 abbrev pub marks_after : Code → Shape → Global Machine → List Turn → ℕ → Marks
 marks_after code s from [] = λ p. no_marks
-marks_after code s from (tr ∷ earlier) = marks_now code s (at bounds (one_thread code s) from earlier) tr (marks_after code s from earlier)
+marks_after code s from (tr ∷ earlier) =
+    marks_now code s (at bounds (one_thread code s) from earlier) tr (marks_after code s from earlier)
 
 -- ---- what stands of one shadow word
 pub record BitsStand (word : ℕ) (marks : Marks) : Type 0 where

@@ -1,11 +1,12 @@
--- Blocks of granules and the lists of freed ones, which are threaded through the length words. Blocks are never split or joined: a
--- block keeps its place and its size from the moment that the top moves over it, and only its state changes.
+-- Blocks of granules and the lists of freed ones, which are threaded through the length words. Blocks are never split
+-- or joined: a block keeps its place and its size from the moment that the top moves over it, and only its state
+-- changes.
 use Rattle.std.specs.Prelude.{ℕ, suc, ◌+◌, ◌*◌, ◌≡◌, ◌<◌, ◌≤◌, ◌≢◌, ◌⊎◌}
 use Rattle.sharc_code.specs.Runs.{put}
 use Rattle.sharc_invariant.specs.World.{put2}
 
--- what a granule is the header of: no block, a live object, a block that a thread builds or takes down, or a freed block on the
--- thread's list of its size, with so many blocks on it from this one on
+-- what a granule is the header of: no block, a live object, a block that a thread builds or takes down, or a freed
+-- block on the thread's list of its size, with so many blocks on it from this one on
 pub data State : Type 0 where
   Unused : State
   Live : State
@@ -17,7 +18,8 @@ pub record Arena : Type 0 where
   pub first : ℕ
   pub words : ℕ
 
--- the words and the top are the machine's, heads the threads' own, by thread and size; size, state and deep are the proof's
+-- the words and the top are the machine's, heads the threads' own, by thread and size; size, state and deep are the
+-- proof's
 pub record Heap : Type 0 where
   pub words : ℕ → ℕ
   pub top : ℕ
@@ -40,9 +42,11 @@ pub record Blocks (a : Arena) (top : ℕ) (size : ℕ → ℕ) (state : ℕ → 
   pub known : (h : ℕ) → size h ≡ 0 → state h ≡ Unused
   pub low : a.first ≤ top
 
-pub record Lists (a : Arena) (words : ℕ → ℕ) (heads : ℕ → ℕ → ℕ) (size : ℕ → ℕ) (state : ℕ → State) (deep : ℕ → ℕ → ℕ) : Type 0 where
+pub record Lists (a : Arena) (words : ℕ → ℕ) (heads : ℕ → ℕ → ℕ) (size : ℕ → ℕ) (state : ℕ → State)
+    (deep : ℕ → ℕ → ℕ) : Type 0 where
   pub head : (t s : ℕ) → Begins size state t s (deep t s) (heads t s)
-  pub link : (h t d : ℕ) → state h ≡ Listed t d → (e : ℕ) × ((d ≡ suc e) × Begins size state t (size h) e (words (length_at a h)))
+  pub link : (h t d : ℕ) → state h ≡ Listed t d
+      → (e : ℕ) × ((d ≡ suc e) × Begins size state t (size h) e (words (length_at a h)))
   pub low : (h t d : ℕ) → state h ≡ Listed t d → d ≤ deep t (size h)
   pub one : (h p t d : ℕ) → state h ≡ Listed t d → state p ≡ Listed t d → size h ≡ size p → h ≡ p
 

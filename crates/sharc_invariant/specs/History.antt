@@ -1,4 +1,5 @@
--- What the source can see of a run, the last first, with objects, cells and modes as the world has them; and what it obeys.
+-- What the source can see of a run, the last first, with objects, cells and modes as the world has them; and what it
+-- obeys.
 use Rattle.std.specs.Prelude.{ℕ, suc, ◌≡◌, ◌⊎◌, ◌≢◌, Bool, true, false, List, [], ◌∷◌}
 use Rattle.sharc_code.specs.Runs.{put}
 use Rattle.sharc_invariant.specs.{Granules.Passed, Types.{ObjectType, nothing, CellMode}}
@@ -37,7 +38,8 @@ mutex_of (Return t ∷ rest) = mutex_of rest
 -- access sets
 abbrev pub IsInAccessSet : TypeRules → List Event → (o g t : ℕ) → Bool → Type 0
 IsInAccessSet l [] o g t k = ⊥
-IsInAccessSet l (Access u p i j m ∷ rest) o g t k = ((m ≡ Dynamic) × (p ≡ o) × (l.granule i ≡ g) × (u ≡ t) × (j ≡ k)) ⊎ IsInAccessSet l rest o g t k
+IsInAccessSet l (Access u p i j m ∷ rest) o g t k = ((m ≡ Dynamic) × (p ≡ o) × (l.granule i ≡ g) × (u ≡ t) × (j ≡ k))
+    ⊎ IsInAccessSet l rest o g t k
 IsInAccessSet l (New p ty u ∷ rest) o g t k = (o ≢ p) × IsInAccessSet l rest o g t k
 IsInAccessSet l (Give p ty u ∷ rest) o g t k = (o ≢ p) × IsInAccessSet l rest o g t k
 IsInAccessSet l (Return u ∷ rest) o g t k = (t ≢ u) × IsInAccessSet l rest o g t k
@@ -51,7 +53,8 @@ Held mutex t o (Locked p j) = mutex p j ≡ suc t
 Held mutex t o (Sibling j) = mutex o j ≡ suc t
 Held mutex t o _ = Unit {0}
 
-pub record Ok (l : TypeRules) (obj : ℕ → ObjectState) (mutex : ℕ → ℕ → ℕ) (t o i : ℕ) (k : Bool) (m : CellMode) : Type 0 where
+pub record Ok (l : TypeRules) (obj : ℕ → ObjectState) (mutex : ℕ → ℕ → ℕ) (t o i : ℕ) (k : Bool)
+    (m : CellMode) : Type 0 where
   pub live : (obj o).live ≡ true
   pub mode : m ≡ l.mode (obj o).ty i
   pub own : m ≡ Private → (obj o).owner ≡ t
@@ -63,7 +66,8 @@ pub record NoConflict (l : TypeRules) (log : List Event) : Type 0 where
 
 abbrev pub Obeys : TypeRules → (ℕ → ObjectState) → List Event → Type 0
 Obeys l f [] = Unit {0}
-Obeys l f (Access t o i k m ∷ rest) = Ok l (obj_of f rest) (mutex_of rest) t o i k m × NoConflict l (Access t o i k m ∷ rest) × Obeys l f rest
+Obeys l f (Access t o i k m ∷ rest) =
+    Ok l (obj_of f rest) (mutex_of rest) t o i k m × NoConflict l (Access t o i k m ∷ rest) × Obeys l f rest
 Obeys l f (e ∷ rest) = Obeys l f rest
 
 -- an object that a thread has alone

@@ -1,4 +1,5 @@
--- What stands of counts and of references at a place of a run, by its words and registers alone and by which objects there are.
+-- What stands of counts and of references at a place of a run, by its words and registers alone and by which objects
+-- there are.
 use Rattle.std.specs.Prelude.{ℕ, ◌+◌, ◌*◌, ◌≡◌, ◌≢◌, ◌==◌, ◌&&◌, Bool, true, slice_index, nat_lt, if◌then◌else◌}
 use Rattle.sharc_word.specs.declared.step.TheConstants.{THREADS}
 use Rattle.sharc_code.specs.{declared.state.TheConstants.FRAMES, declared.code.Code.Code, declared.instr.Cell.Cell}
@@ -7,25 +8,30 @@ use Rattle.sharc_code.specs.Layout.{granules, words_of, count_word, length_word,
 use Rattle.sharc_code.specs.{Machine.{Machine, instr_at, ref}, Path.{may_go, most_refs}, Runs.Global}
 use Rattle.sharc_code.specs.declared.instr.Cell.TheVariants as cells
 use Rattle.sharc_invariant.specs.Granules.{one, sum_to}
-use Rattle.sharc_invariant.specs.Types.{Targets, CellMode, field_in, mode_at, type_at, type_of, cells_of, is_pointer, is_private}
-use Rattle.sharc_invariant.specs.Labels.{Gate, Checked, Loaded, HoldsLoaded, Sole, Entry, Empty, Refers, Unknown, Label, Labels}
+use Rattle.sharc_invariant.specs.Types.{Targets, CellMode, field_in, mode_at, type_at, type_of, cells_of, is_pointer}
+use Rattle.sharc_invariant.specs.Types.{is_private}
+use Rattle.sharc_invariant.specs.Labels.{Gate, Checked, Loaded, HoldsLoaded, Sole, Entry, Empty, Refers, Unknown, Label}
+use Rattle.sharc_invariant.specs.Labels.{Labels}
 use Rattle.sharc_invariant.specs.{World.ObjectState, Words.{register_of, argument_of, logged, staged_of}}
 use Rattle.sharc_invariant.specs.State.{label_now, object_of_cell, number_in}
 
 -- ---- references
 -- the cells of an object: of the globals all, of another as many elements as its length word says
 abbrev pub cells_now : Targets → Shape → Global Machine → (ℕ → ObjectState) → ℕ → ℕ
-cells_now x s g obj o = if o == 0 then 2 * s.globals else slice_index g.words (length_word s o) * cells_of x (obj o).ty.target
+cells_now x s g obj o =
+    if o == 0 then 2 * s.globals else slice_index g.words (length_word s o) * cells_of x (obj o).ty.target
 
 -- it is a pointer cell of a live object
 abbrev pub is_pointer_now : Targets → Shape → Global Machine → (ℕ → ObjectState) → ℕ → ℕ → Bool
-is_pointer_now x s g obj o i = (obj o).live && (nat_lt i (cells_now x s g obj o) && is_pointer (field_in x (obj o).ty i).holds)
+is_pointer_now x s g obj o i =
+    (obj o).live && (nat_lt i (cells_now x s g obj o) && is_pointer (field_in x (obj o).ty i).holds)
 
 -- what it refers to
 abbrev pub cell_refers : Targets → Shape → Global Machine → (ℕ → ObjectState) → ℕ → ℕ → ℕ
 cell_refers x s g obj o i = if is_pointer_now x s g obj o i then slice_index g.words (cell_word s (cell_of o i)) else 0
 
--- what register i of thread t refers to, counted from the first of the thread. A Free whose object is gone has no reference left
+-- what register i of thread t refers to, counted from the first of the thread. A Free whose object is gone has no
+-- reference left
 abbrev pub register_refers : Code → Global Machine → ℕ → ℕ → ℕ
 register_refers code g t = register_of code (g.threads t)
 
@@ -52,7 +58,8 @@ pub record Has (x : Targets) (obj : ℕ → ObjectState) (t o : ℕ) : Type 0 wh
   pub live : (obj o).live ≡ true
   pub own : is_private x (obj o).ty ≡ true → (obj o).owner ≡ t
 
--- what cell i of object p refers to is live and of the type that the cell's type says, and it is private only where the cell is, with one owner
+-- what cell i of object p refers to is live and of the type that the cell's type says, and it is private only where the
+-- cell is, with one owner
 pub record IsTyped (x : Targets) (obj : ℕ → ObjectState) (p i o : ℕ) : Type 0 where
   pub live : (obj o).live ≡ true
   pub type : (obj o).ty ≡ type_at x (obj p).ty p i
@@ -72,7 +79,8 @@ abbrev pub HoldsStill : Targets → Shape → Global Machine → (ℕ → Object
 HoldsStill x s g obj m c = cell_refers x s g obj (object_of_cell m c) (number_in m c) ≡ m.pending
 
 -- no other reference to it is anywhere, and its count is 1
-pub record IsAlone (x : Targets) (code : Code) (s : Shape) (g : Global Machine) (obj : ℕ → ObjectState) (t k o : ℕ) : Type 0 where
+pub record IsAlone (x : Targets) (code : Code) (s : Shape) (g : Global Machine) (obj : ℕ → ObjectState)
+    (t k o : ℕ) : Type 0 where
   pub some : o ≢ 0
   pub live : (obj o).live ≡ true
   pub count : slice_index g.words (count_word s o) ≡ 1
@@ -112,10 +120,13 @@ HasType obj refs o (Refers s) = (obj o).ty ≡ type_of refs o s
 HasType obj refs o Unknown = Unit {0}
 HasType obj refs o Empty = ⊥
 
-pub record MachineInvariant (x : Targets) (code : Code) (s : Shape) (ls : Labels) (g : Global Machine) (obj : ℕ → ObjectState) : Type 0 where
+pub record MachineInvariant (x : Targets) (code : Code) (s : Shape) (ls : Labels) (g : Global Machine)
+    (obj : ℕ → ObjectState) : Type 0 where
   -- the count word of each live object is the number of references to it
-  pub counts : (o : ℕ) → o ≢ 0 → (obj o).live ≡ true → slice_index g.words (count_word s o) ≡ references_to x code s g obj o
-  -- each reference is to a live object; a private object is referred to by its owner's registers, held mutexes and private cells alone
+  pub counts : (o : ℕ) → o ≢ 0 → (obj o).live ≡ true
+      → slice_index g.words (count_word s o) ≡ references_to x code s g obj o
+  -- each reference is to a live object; a private object is referred to by its owner's registers, held mutexes and
+  -- private cells alone
   pub registers : (t i : ℕ) → register_refers code g t i ≢ 0 → Has x obj t (register_refers code g t i)
   pub arguments : (t : ℕ) → argument_of code g t ≢ 0 → Has x obj t (argument_of code g t)
   pub logs : (t word : ℕ) → log_refers g t word ≢ 0 → Has x obj t (log_refers g t word)
@@ -123,8 +134,11 @@ pub record MachineInvariant (x : Targets) (code : Code) (s : Shape) (ls : Labels
   pub cells : (p i : ℕ) → cell_refers x s g obj p i ≢ 0 → IsTyped x obj p i (cell_refers x s g obj p i)
   -- a register of the frame on top refers to an object of the type that its place says
   pub typed : (t r : ℕ) → IsOn g t → register_refers code g t ((g.threads t).at.refs + r) ≢ 0
-      → HasType obj (λ q. register_refers code g t ((g.threads t).at.refs + q)) (register_refers code g t ((g.threads t).at.refs + r)) ((label_of code ls (g.threads t)).env r)
-  -- what stands between a check and its access, a load and its raise, and a test of a sole reference and its Give or Free
+      → HasType obj (λ q. register_refers code g t ((g.threads t).at.refs + q))
+      (register_refers code g t ((g.threads t).at.refs + r)) ((label_of code ls (g.threads t)).env r)
+  -- what stands between a check and its access, a load and its raise, and a test of a sole reference and its Give or
+  -- Free
   pub windows : (t : ℕ) → IsOn g t → WindowStands x code s g obj t (g.threads t) (label_of code ls (g.threads t)).gate
   -- no thread has loaded a reference to an object that another has alone
-  pub unloaded : (t u r : ℕ) → IsOn g t → IsOn g u → IsSole (label_of code ls (g.threads t)).gate r → WasLoaded (label_of code ls (g.threads u)).gate → (g.threads u).pending ≢ ref (g.threads t) r
+  pub unloaded : (t u r : ℕ) → IsOn g t → IsOn g u → IsSole (label_of code ls (g.threads t)).gate r
+      → WasLoaded (label_of code ls (g.threads u)).gate → (g.threads u).pending ≢ ref (g.threads t) r

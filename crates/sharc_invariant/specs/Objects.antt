@@ -1,5 +1,5 @@
--- Which objects there are behind the turns of a run: each comes with the last turn of its New, has another type from its Give on, and is gone
--- from the turn of its Free that sets the count to 0.
+-- Which objects there are behind the turns of a run: each comes with the last turn of its New, has another type from
+-- its Give on, and is gone from the turn of its Free that sets the count to 0.
 use Rattle.std.specs.Prelude.{ℕ, Bool, true, false, List, [], ◌∷◌}
 use Rattle.sharc_granule.specs.{declared.stage.Stage.{Stage as NewStage}, declared.stage.Stage.TheVariants.Length}
 use Rattle.sharc_code.specs.{declared.code.Code.Code, declared.instr.Instr.Instr}
@@ -69,9 +69,11 @@ objects_behind ls t _ m m' f = f
 -- behind one turn of a run
 abbrev pub objects_now : Code → Shape → Labels → Global Machine → Turn → (ℕ → ObjectState) → ℕ → ObjectState
 objects_now code s ls g tr f =
-    objects_behind ls tr.thread (instr_at code (g.threads tr.thread).at.pc) (g.threads tr.thread) ((after_turn bounds (one_thread code s) g tr).threads tr.thread) f
+    objects_behind ls tr.thread (instr_at code (g.threads tr.thread).at.pc) (g.threads tr.thread)
+    ((after_turn bounds (one_thread code s) g tr).threads tr.thread) f
 
 -- behind the turns of a run from a place where the objects are these
 abbrev pub objects_after : Code → Shape → Labels → Global Machine → (ℕ → ObjectState) → List Turn → ℕ → ObjectState
 objects_after code s ls from f [] = f
-objects_after code s ls from f (tr ∷ earlier) = objects_now code s ls (at bounds (one_thread code s) from earlier) tr (objects_after code s ls from f earlier)
+objects_after code s ls from f (tr ∷ earlier) =
+    objects_now code s ls (at bounds (one_thread code s) from earlier) tr (objects_after code s ls from f earlier)

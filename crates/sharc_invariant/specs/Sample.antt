@@ -1,24 +1,31 @@
--- A code with its labels: a thread is handed an object that was cast to dynamic, writes a dynamic field, and a field under a lock of the same element.
+-- A code with its labels: a thread is handed an object that was cast to dynamic, writes a dynamic field, and a field
+-- under a lock of the same element.
 --     struct s { mutex m; int locked(m) n; int d; };
 --     void w(struct s dynamic * p) { p->d = 1; lock(&p->m); p->n = 2; unlock(&p->m); }
 --     int main(void) { struct s private * x = malloc(sizeof(struct s)); struct s dynamic * y = SCAST(struct s dynamic *, x); spawn(w, y); return 0; }
-use Rattle.std.specs.Prelude.{ℕ, pos, Bool, true, false, List, [], ◌∷◌, Some, None, zero, suc, ◌≡◌, length, slice_index, slice_index_or}
+use Rattle.std.specs.Prelude.{ℕ, pos, Bool, true, false, List, [], ◌∷◌, Some, None, zero, suc, ◌≡◌, length, slice_index}
+use Rattle.std.specs.Prelude.{slice_index_or}
 use Rattle.sharc_code.specs.declared.code.Parameter.TheVariants as parameters
 use Rattle.sharc_code.specs.declared.code.PlaceMode.TheVariants as modes
 use Rattle.sharc_code.specs.declared.instr.Cell.TheVariants as cells
 use Rattle.sharc_code.specs.declared.instr.Instr.{Instr}
-use Rattle.sharc_code.specs.declared.instr.Instr.TheVariants.{Constant, MoveReference, JumpIfNull, Return, ChkNull, ChkHeld, ChkNotHeld, ChkRoom, ChkLock, ChkWrite, Store, Raise, Lower, New, TakeLocal, TestSole, Clear, Give, Lock, Unlock, Spawn, Start, Exit}
+use Rattle.sharc_code.specs.declared.instr.Instr.TheVariants.{Constant, MoveReference, JumpIfNull, Return, ChkNull}
+use Rattle.sharc_code.specs.declared.instr.Instr.TheVariants.{ChkHeld, ChkNotHeld, ChkRoom, ChkLock, ChkWrite, Store}
+use Rattle.sharc_code.specs.declared.instr.Instr.TheVariants.{Raise, Lower, New, TakeLocal, TestSole, Clear, Give, Lock}
+use Rattle.sharc_code.specs.declared.instr.Instr.TheVariants.{Unlock, Spawn, Start, Exit}
 use Rattle.sharc_code.specs.{declared.instr.Width.TheVariants.{Char, Int}, declared.code.Code.Code, Machine.function_of}
 use Rattle.sharc_code.specs.{Says.place_at, Runs.put}
 use Rattle.sharc_code.specs.declared.instr.Register.TheVariants as registers
 use Rattle.sharc_invariant.specs.{Types.{Targets, Field, StaticType}, Types.FieldLock.OfElement}
 use Rattle.sharc_invariant.specs.{Types.FieldMode.{Private, Racy, Dynamic, Under}, Types.Content.{Integer, MutexWord}}
-use Rattle.sharc_invariant.specs.Labels.{Empty, Refers, Anything, Exactly, Within, Closed, Checked, Holds, Sole, Label, Labels, Signature, fill, empty, gated, knows, set_number, without_base}
+use Rattle.sharc_invariant.specs.Labels.{Empty, Refers, Anything, Exactly, Within, Closed, Checked, Holds, Sole, Label}
+use Rattle.sharc_invariant.specs.Labels.{Labels, Signature, fill, empty, gated, knows, set_number, without_base}
 use Rattle.sharc_invariant.specs.Typed.{moved_copy, unlocked_label}
 
 -- ---- types: row 1 is the private struct, row 2 the dynamic one; neither has a pointer
 abbrev pub fields_in : Field → List Field
-fields_in d = record { mode = Racy; holds = MutexWord } ∷ record { mode = Under (OfElement 1 0); holds = Integer Int } ∷ d ∷ []
+fields_in d =
+    record { mode = Racy; holds = MutexWord } ∷ record { mode = Under (OfElement 1 0); holds = Integer Int } ∷ d ∷ []
 
 abbrev pub the_targets : Targets
 the_targets = record {
@@ -42,9 +49,11 @@ abbrev pub the_instrs : List Instr
 the_instrs =
     Start 0 ∷ Exit
     -- w
-    ∷ Raise 1 0 ∷ ChkNull 1 0 ∷ Constant 0 (pos 1) ∷ ChkWrite (cells.Object 1 2) 1 ∷ Store 0 (cells.Object 1 2) 1 ∷ Lower 1
+    ∷ Raise 1 0 ∷ ChkNull 1 0 ∷ Constant 0 (pos 1) ∷ ChkWrite (cells.Object 1 2) 1 ∷ Store 0 (cells.Object 1 2) 1
+    ∷ Lower 1
     ∷ Raise 1 0 ∷ ChkNull 1 0 ∷ ChkNotHeld (cells.Object 1 0) 0 ∷ ChkRoom 0 ∷ Lock (cells.Object 1 0) 0
-    ∷ Raise 1 0 ∷ ChkNull 1 0 ∷ Constant 0 (pos 2) ∷ ChkLock (cells.Object 1 0) 2 ∷ Store 0 (cells.Object 1 1) 2 ∷ Lower 1
+    ∷ Raise 1 0 ∷ ChkNull 1 0 ∷ Constant 0 (pos 2) ∷ ChkLock (cells.Object 1 0) 2 ∷ Store 0 (cells.Object 1 1) 2
+    ∷ Lower 1
     ∷ Raise 1 0 ∷ ChkNull 1 0 ∷ ChkHeld (cells.Object 1 0) 0 ∷ Unlock 2 (cells.Object 1 0) 0 ∷ Lower 2 ∷ Lower 1
     ∷ Lower 0 ∷ Return 0
     -- main
@@ -56,13 +65,24 @@ the_instrs =
 
 -- ---- the labels
 abbrev pub outside : Label
-outside = record { function = None; env = λ r. Empty; same = λ r. r; known = λ r. false; ints = λ i. Anything; gate = Closed; passed = []; room = false }
+outside = record {
+  function = None;
+  env = λ r. Empty;
+  same = λ r. r;
+  known = λ r. false;
+  ints = λ i. Anything;
+  gate = Closed;
+  passed = [];
+  room = false;
+}
 
 abbrev pub plain_signature : Bool → Signature
-plain_signature alone = record { takes = λ r. Empty; takes_ints = λ i. Anything; result = Empty; result_int = Anything; alone = alone }
+plain_signature alone =
+    record { takes = λ r. Empty; takes_ints = λ i. Anything; result = Empty; result_int = Anything; alone = alone }
 
 abbrev pub the_signatures : List Signature
-the_signatures = plain_signature true ∷ record (plain_signature false) { takes = put (λ r. Empty) 0 (Refers the_dynamic) } ∷ []
+the_signatures =
+    plain_signature true ∷ record (plain_signature false) { takes = put (λ r. Empty) 0 (Refers the_dynamic) } ∷ []
 
 -- behind an instruction, what its rule lets be known
 abbrev pub raised : Label → ℕ → ℕ → Label
@@ -170,7 +190,8 @@ m41 = set_number m40 0 (Exactly (pos 0))
 abbrev pub the_labels_list : List Label
 the_labels_list =
     outside ∷ outside
-    ∷ w2 ∷ raised w2 1 0 ∷ w4 ∷ w5 ∷ gated w5 (Checked true (cells.Object 1 2)) ∷ gated (gated w5 (Checked true (cells.Object 1 2))) Closed
+    ∷ w2 ∷ raised w2 1 0 ∷ w4 ∷ w5 ∷ gated w5 (Checked true (cells.Object 1 2))
+    ∷ gated (gated w5 (Checked true (cells.Object 1 2))) Closed
     ∷ w8 ∷ raised w8 1 0 ∷ w10 ∷ w10 ∷ record w10 { room = true }
     ∷ w13 ∷ raised w13 1 0 ∷ w15 ∷ w16 ∷ w17 ∷ gated w17 Closed
     ∷ w19 ∷ raised w19 1 0 ∷ w21 ∷ w22 ∷ w23 ∷ w24 ∷ w25 ∷ w26
@@ -192,9 +213,12 @@ the_labels = record {
 -- the code of these: its functions are main and w, and it has no globals
 pub record IsSample (code : Code) : Type 0 where
   pub instrs : code.instrs.items ≡ the_instrs
-  pub functions : (f : ℕ) → ((function_of code f).entry ≡ slice_index (27 ∷ 2 ∷ []) f) × ((function_of code f).ints ≡ slice_index (2 ∷ 1 ∷ []) f) × ((function_of code f).refs ≡ slice_index (3 ∷ 3 ∷ []) f)
+  pub functions : (f : ℕ) → ((function_of code f).entry ≡ slice_index (27 ∷ 2 ∷ []) f)
+      × ((function_of code f).ints ≡ slice_index (2 ∷ 1 ∷ []) f)
+      × ((function_of code f).refs ≡ slice_index (3 ∷ 3 ∷ []) f)
   pub number : length code.functions.items ≡ 2
-  pub parameters : ((function_of code 0).parameter ≡ parameters.None) × ((function_of code 1).parameter ≡ parameters.Reference)
+  pub parameters : ((function_of code 0).parameter ≡ parameters.None)
+      × ((function_of code 1).parameter ≡ parameters.Reference)
   pub main : code.main ≡ 0
   pub globals : code.globals.items ≡ []
   pub granules : code.granules ≡ 0

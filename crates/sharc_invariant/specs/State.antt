@@ -1,5 +1,7 @@
--- The invariant of a place of a checked run of typed code: a world that is the machine's, and each thread at a place whose label it stands to.
-use Rattle.std.specs.Prelude.{ℕ, ℤ, pos, zero, suc, ◌+◌, ◌-◌, ◌*◌, ◌/◌, ◌^◌, ◌≡◌, ◌≢◌, ◌<◌, ◌≤◌, ◌↔◌, min, max, true, false, List, [], length, Option, Some, None, Contains, slice_index, slice_index_or}
+-- The invariant of a place of a checked run of typed code: a world that is the machine's, and each thread at a place
+-- whose label it stands to.
+use Rattle.std.specs.Prelude.{ℕ, ℤ, pos, zero, suc, ◌+◌, ◌-◌, ◌*◌, ◌/◌, ◌^◌, ◌≡◌, ◌≢◌, ◌<◌, ◌≤◌, ◌↔◌, min, max, true}
+use Rattle.std.specs.Prelude.{false, List, [], length, Option, Some, None, Contains, slice_index, slice_index_or}
 use Rattle.sharc_word.specs.declared.step.TheConstants.{THREADS}
 use Rattle.sharc_granule.specs.{State.NewView, Block.block_of, declared.stage.Stage.{Stage as NewStage}}
 use Rattle.sharc_granule.specs.declared.stage.Stage.TheVariants as news
@@ -10,22 +12,32 @@ use Rattle.sharc_code.specs.declared.instr.Instr.{Instr}
 use Rattle.sharc_code.specs.declared.instr.Instr.TheVariants.{Call, New, Clear, Free, Spawn, Start, Exit, CondSignal}
 use Rattle.sharc_code.specs.{declared.instr.Register.Register, declared.shape.Shape.Shape, declared.state.Frame.Frame}
 use Rattle.sharc_code.specs.declared.state.Stage.{Stage}
-use Rattle.sharc_code.specs.declared.state.Stage.TheVariants.{Rests, Looks, Clears, Makes, Empties, Lowers, FreeLooks, FreeClears, Uncounts, Links, Names, Hands, Begins, Enters, Withdraws, WithdrawsFrom, Leaves, Wakes}
+use Rattle.sharc_code.specs.declared.state.Stage.TheVariants.{Rests, Looks, Clears, Makes, Empties, Lowers, FreeLooks}
+use Rattle.sharc_code.specs.declared.state.Stage.TheVariants.{FreeClears, Uncounts, Links, Names, Hands, Begins, Enters}
+use Rattle.sharc_code.specs.declared.state.Stage.TheVariants.{Withdraws, WithdrawsFrom, Leaves, Wakes}
 use Rattle.sharc_code.specs.Arithmetic.{holds, int_of}
-use Rattle.sharc_code.specs.Layout.{words_of, top_word, next_thread_word, state_word, function_word, argument_word, granules, first_cell, cell_of, cell_word}
-use Rattle.sharc_code.specs.Machine.{Machine, argument, instr_at, layout_at, no_frame, int, ref, place, word, is_held, pointer_cell, fields, data_granules, new_state, elements_of}
+use Rattle.sharc_code.specs.Layout.{words_of, top_word, next_thread_word, state_word, function_word, argument_word}
+use Rattle.sharc_code.specs.Layout.{granules, first_cell, cell_of, cell_word}
+use Rattle.sharc_code.specs.Machine.{Machine, argument, instr_at, layout_at, no_frame, int, ref, place, word, is_held}
+use Rattle.sharc_code.specs.Machine.{pointer_cell, fields, data_granules, new_state, elements_of}
 use Rattle.sharc_code.specs.{Path.{begun, may_go, most_ints, most_refs}, Runs.Global}
 use Rattle.sharc_code.specs.declared.instr.Cell.TheVariants as cells
 use Rattle.sharc_invariant.specs.Granules.{GranuleState, sum_to, Passed}
-use Rattle.sharc_invariant.specs.Types.{Targets, ObjectType, nothing, cells_of, field_in, globals_target, is_mutex, type_of}
-use Rattle.sharc_invariant.specs.Labels.{Entry, Empty, Refers, Unknown, Element, Named, Nth, Number, Anything, Exactly, Within, Indexes, OfElement, OfGlobal, Gate, Closed, Checked, Holds, Loaded, HoldsLoaded, Sole, Pass, IsIn, Label, Labels, Leads, empty}
+use Rattle.sharc_invariant.specs.Types.{Targets, ObjectType, nothing, cells_of, field_in, globals_target, is_mutex}
+use Rattle.sharc_invariant.specs.Types.{type_of}
+use Rattle.sharc_invariant.specs.Labels.{Entry, Empty, Refers, Unknown, Element, Named, Nth, Number, Anything, Exactly}
+use Rattle.sharc_invariant.specs.Labels.{Within, Indexes, OfElement, OfGlobal, Gate, Closed, Checked, Holds, Loaded}
+use Rattle.sharc_invariant.specs.Labels.{HoldsLoaded, Sole, Pass, IsIn, Label, Labels, Leads, empty}
 use Rattle.sharc_invariant.specs.Typed.{Calls, called_label}
-use Rattle.sharc_invariant.specs.World.{RegisterOf, ArgumentOf, In, Cell as CellOf, ObjectState, Base, By, Global as OfGlobals, Shut, May, Loaded as IsLoaded, Sole as IsSole, World, Size, WorldInvariant, in_ref}
+use Rattle.sharc_invariant.specs.World.{RegisterOf, ArgumentOf, In, Cell as CellOf, ObjectState, Base, By}
+use Rattle.sharc_invariant.specs.World.{Global as OfGlobals, Shut, May, Loaded as IsLoaded, Sole as IsSole, World, Size}
+use Rattle.sharc_invariant.specs.World.{WorldInvariant, in_ref}
 use Rattle.sharc_invariant.specs.Words.{lang_of, conc_of, head_of, is_unread, Apart, Shows, cell_at}
 use Rattle.sharc_invariant.specs.Blocks.{Heap, Kept, Live, Built}
 
 -- ---- a frame
--- what a thread sees: its registers of both banks with the types of what they refer to, the granules of objects, and their elements
+-- what a thread sees: its registers of both banks with the types of what they refer to, the granules of objects, and
+-- their elements
 pub record View : Type 0 where
   pub refs : ℕ → ℕ
   pub types : ℕ → ObjectType
@@ -65,20 +77,25 @@ NumberStands x elements refs types names v Anything = Unit {0}
 NumberStands x elements refs types names v (Exactly z) = v ≡ z
 NumberStands x elements refs types names v (Within w) = holds w v ≡ true
 NumberStands x elements refs types names v (Indexes name) = v ≡ names name
-NumberStands x elements refs types names v (OfElement b field e) = (n : ℕ) × (n < elements (refs b)) × (v ≡ pos (n * cells_of x (types b).target + field)) × ElementStands names n e
-NumberStands x elements refs types names v (OfGlobal first count all e) = (n : ℕ) × (n < all) × (v ≡ pos (first + n * count)) × ElementStands names n e
+NumberStands x elements refs types names v (OfElement b field e) =
+    (n : ℕ) × (n < elements (refs b)) × (v ≡ pos (n * cells_of x (types b).target + field)) × ElementStands names n e
+NumberStands x elements refs types names v (OfGlobal first count all e) =
+    (n : ℕ) × (n < all) × (v ≡ pos (first + n * count)) × ElementStands names n e
 
 -- a check is remembered
 abbrev pub PassStands : (ℕ → ℕ → GranuleState) → ℕ → (ℕ → ℕ) → Pass → Option ℕ → Type 0
 PassStands gran t refs p None = Passed (gran 0 (p.cell / 2)) t p.write
 PassStands gran t refs p (Some b) = refs b ≢ 0 → Passed (gran (refs b) (p.cell / 2)) t p.write
 
--- the first n reference registers and the first k integers of a frame that begins at these registers are as the label says
-pub record FrameStands (x : Targets) (t : ℕ) (v : View) (base ints : ℕ) (names : ℕ → ℤ) (l : Label) (n k : ℕ) : Type 0 where
+-- the first n reference registers and the first k integers of a frame that begins at these registers are as the label
+-- says
+pub record FrameStands (x : Targets) (t : ℕ) (v : View) (base ints : ℕ) (names : ℕ → ℤ) (l : Label)
+    (n k : ℕ) : Type 0 where
   pub env : (r : ℕ) → r < n → EntryStands (refs_at v base) (types_at v base) r (l.env r)
   pub same : (r : ℕ) → r < n → refs_at v base (l.same r) ≡ refs_at v base r
   pub known : (r : ℕ) → r < n → l.known r ≡ true → refs_at v base r ≢ 0
-  pub numbers : (i : ℕ) → i < k → NumberStands x v.elements (refs_at v base) (types_at v base) names (v.vals (ints + i)) (l.ints i)
+  pub numbers : (i : ℕ) → i < k
+      → NumberStands x v.elements (refs_at v base) (types_at v base) names (v.vals (ints + i)) (l.ints i)
   pub passed : (p : Pass) → IsIn p l.passed → PassStands v.gran t (refs_at v base) p p.base
 
 -- the frame on top, with all registers from its beginning on
@@ -88,8 +105,10 @@ TopStands x t v base ints names l = (n k : ℕ) → FrameStands x t v base ints 
 abbrev pub frame_at : List Frame → ℕ → Frame
 frame_at frames d = slice_index_or frames d no_frame
 
--- so many callers stand below a frame that begins at these registers and is one of function f; the lowest is that of the thread's Start
-pub record CallerStands (x : Targets) (code : Code) (ls : Labels) (t : ℕ) (v : View) (fr : Frame) (base ints : ℕ) (f g : ℕ) : Type 0 where
+-- so many callers stand below a frame that begins at these registers and is one of function f; the lowest is that of
+-- the thread's Start
+pub record CallerStands (x : Targets) (code : Code) (ls : Labels) (t : ℕ) (v : View) (fr : Frame) (base ints : ℕ)
+    (f g : ℕ) : Type 0 where
   pub call : ℕ
   pub refs : ℕ
   pub first : ℕ
@@ -115,14 +134,17 @@ pub record StartStands (fr : Frame) (base ints : ℕ) : Type 0 where
 
 abbrev pub BelowStands : Targets → Code → Labels → ℕ → View → List Frame → ℕ → ℕ → ℕ → ℕ → Type 0
 BelowStands x code ls t v frames zero base ints f = ⊥
-BelowStands x code ls t v frames (suc zero) base ints f = StartStands (frame_at frames 0) base ints × (ls.starts f ≡ true)
-BelowStands x code ls t v frames (suc (suc d)) base ints f = (g : ℕ) × CallerStands x code ls t v (frame_at frames (suc d)) base ints f g
+BelowStands x code ls t v frames (suc zero) base ints f =
+    StartStands (frame_at frames 0) base ints × (ls.starts f ≡ true)
+BelowStands x code ls t v frames (suc (suc d)) base ints f =
+    (g : ℕ) × CallerStands x code ls t v (frame_at frames (suc d)) base ints f g
     × BelowStands x code ls t v frames (suc d) (frame_at frames (suc d)).refs (frame_at frames (suc d)).ints g
 
 -- a function's code has its callers below; no frame stands where a thread begins and ends
 abbrev pub FramesStand : Targets → Code → Labels → ℕ → View → Machine → Option ℕ → Type 0
 FramesStand x code ls t v m None = (m.at.depth ≡ 0) × (m.at.refs ≡ 0) × (m.at.ints ≡ 0)
-FramesStand x code ls t v m (Some f) = BelowStands x code ls t v m.frames m.at.depth m.at.refs m.at.ints f × (m.at.depth ≤ FRAMES) × ((ls.signature f).alone ≡ true → t ≡ 0)
+FramesStand x code ls t v m (Some f) = BelowStands x code ls t v m.frames m.at.depth m.at.refs m.at.ints f
+    × (m.at.depth ≤ FRAMES) × ((ls.signature f).alone ≡ true → t ≡ 0)
 
 -- ---- what stands directly before
 abbrev pub base_of_cell : Machine → Cell → Base
@@ -146,7 +168,8 @@ GateStands s w t m Closed = w.win t ≡ Shut
 GateStands s w t m (Checked write c) = w.win t ≡ May write (base_of_cell m c) (number_in m c)
 GateStands s w t m (Holds c) = (w.win t ≡ Shut) × (is_held m (word s m c) ≡ true)
 GateStands s w t m (Loaded c) = w.win t ≡ IsLoaded (base_of_cell m c) (number_in m c) m.pending
-GateStands s w t m (HoldsLoaded c) = (w.win t ≡ IsLoaded (base_of_cell m c) (number_in m c) m.pending) × (m.pending ≢ 0) × (is_held m (cell_word s (cell_of m.pending 0)) ≡ true)
+GateStands s w t m (HoldsLoaded c) = (w.win t ≡ IsLoaded (base_of_cell m c) (number_in m c) m.pending) × (m.pending ≢ 0)
+    × (is_held m (cell_word s (cell_of m.pending 0)) ≡ true)
 GateStands s w t m (Sole r cleared) = w.win t ≡ IsSole (m.at.refs + r)
 
 -- the window of a thread that has stopped: shut, or the one in which it had loaded a reference
@@ -158,7 +181,8 @@ StopStands w t m gate = w.win t ≡ Shut
 -- ---- instructions of several turns
 -- the pointer cells of the first i pointers of an object that a Free empties
 abbrev pub AreEmpty : Code → World → ℕ → ℕ → ℕ → Type 0
-AreEmpty code w layout o i = (j : ℕ) → j < i → (w.slots (CellOf o (pointer_cell code (layout_at code layout) j))).reference ≡ 0
+AreEmpty code w layout o i = (j : ℕ) → j < i
+    → (w.slots (CellOf o (pointer_cell code (layout_at code layout) j))).reference ≡ 0
 
 abbrev pub all_pointers : Code → ℕ → ℕ → ℕ
 all_pointers code layout elements = elements * fields (layout_at code layout)
@@ -176,11 +200,17 @@ block_for cells = block_of (min (max 1 cells) (2 ^ 32))
 
 -- a New: its block is found, built by the thread, and so many cells of it are cleared
 abbrev pub BuildsAt : List ℕ → Heap → ℕ → NewView → NewStage → Type 0
-BuildsAt words heap t v (news.Cell cell) = (2 + v.arguments.cells ≤ 2 * v.arguments.block) × (heap.state v.arguments.head ≡ Built t) × (heap.size v.arguments.head ≡ v.arguments.block) × (cell < v.arguments.cells)
+BuildsAt words heap t v (news.Cell cell) =
+    (2 + v.arguments.cells ≤ 2 * v.arguments.block) × (heap.state v.arguments.head ≡ Built t)
+    × (heap.size v.arguments.head ≡ v.arguments.block) × (cell < v.arguments.cells)
     × ((i : ℕ) → i < cell → slice_index words (v.arguments.first + 2 * v.arguments.head + 2 + i) ≡ 0)
 BuildsAt words heap t v (news.Move top moved) = (moved ≡ top + v.arguments.block) × (moved ≤ v.arguments.end)
-BuildsAt words heap t v (news.Count h) = (2 + v.arguments.cells ≤ 2 * v.arguments.block) × (heap.state h ≡ Built t) × (heap.size h ≡ v.arguments.block) × ((i : ℕ) → i < v.arguments.cells → slice_index words (v.arguments.first + 2 * h + 2 + i) ≡ 0)
-BuildsAt words heap t v (news.Length h) = (2 + v.arguments.cells ≤ 2 * v.arguments.block) × (heap.state h ≡ Built t) × (heap.size h ≡ v.arguments.block) × ((i : ℕ) → i < v.arguments.cells → slice_index words (v.arguments.first + 2 * h + 2 + i) ≡ 0)
+BuildsAt words heap t v (news.Count h) =
+    (2 + v.arguments.cells ≤ 2 * v.arguments.block) × (heap.state h ≡ Built t) × (heap.size h ≡ v.arguments.block)
+    × ((i : ℕ) → i < v.arguments.cells → slice_index words (v.arguments.first + 2 * h + 2 + i) ≡ 0)
+BuildsAt words heap t v (news.Length h) =
+    (2 + v.arguments.cells ≤ 2 * v.arguments.block) × (heap.state h ≡ Built t) × (heap.size h ≡ v.arguments.block)
+    × ((i : ℕ) → i < v.arguments.cells → slice_index words (v.arguments.first + 2 * h + 2 + i) ≡ 0)
     × (slice_index words (v.arguments.first + 2 * h) ≡ 1)
 BuildsAt words heap t v _ = ⊥
 
@@ -229,26 +259,38 @@ granules_freed code layout all = data_granules all (layout_at code layout).cells
 
 -- a Free has emptied the first i pointers of its object, all but what it has found in the last
 abbrev pub Emptying : Code → (ℕ → ℕ) → World → ℕ → ℕ → ℕ → ℕ → Type 0
-Emptying code elements w o layout all i = (all ≡ elements o) × (i ≤ all_pointers code layout all) × AreEmpty code w layout o i
+Emptying code elements w o layout all i =
+    (all ≡ elements o) × (i ≤ all_pointers code layout all) × AreEmpty code w layout o i
 
 abbrev pub StageStands : Code → Shape → (ℕ → ℕ) → World → Heap → List ℕ → ℕ → Machine → Instr → Stage → Type 0
 StageStands code s elements w heap words t m i Rests = Unit {0}
-StageStands code s elements w heap words t m i (Looks done all) = OnClear (λ r count. (all ≡ data_granules (elements (ref m r)) count) × Clearing w (ref m r) done all) i
-StageStands code s elements w heap words t m i (Clears done all seen) = OnClear (λ r count. (all ≡ data_granules (elements (ref m r)) count) × Swapping w (ref m r) done all seen) i
+StageStands code s elements w heap words t m i (Looks done all) =
+    OnClear (λ r count. (all ≡ data_granules (elements (ref m r)) count) × Clearing w (ref m r) done all) i
+StageStands code s elements w heap words t m i (Clears done all seen) =
+    OnClear (λ r count. (all ≡ data_granules (elements (ref m r)) count) × Swapping w (ref m r) done all seen) i
 StageStands code s elements w heap words t m i (Makes v) =
-    OnNew (λ r count cells. (v.arguments ≡ (new_state s m (elements_of (int m count)) cells).arguments) × BuildsAt words heap t v v.stage) i
-StageStands code s elements w heap words t m i (Empties j all) = OnFree (λ r layout. Emptying code elements w (ref m r) layout all j × (j < all_pointers code layout all)) i
-StageStands code s elements w heap words t m i (Lowers j all found) = OnFree (λ r layout. Emptying code elements w (ref m r) layout all (j + 1) × (found ≢ 0)) i
+    OnNew (λ r count cells. (v.arguments ≡ (new_state s m (elements_of (int m count)) cells).arguments)
+    × BuildsAt words heap t v v.stage) i
+StageStands code s elements w heap words t m i (Empties j all) =
+    OnFree (λ r layout. Emptying code elements w (ref m r) layout all j × (j < all_pointers code layout all)) i
+StageStands code s elements w heap words t m i (Lowers j all found) =
+    OnFree (λ r layout. Emptying code elements w (ref m r) layout all (j + 1) × (found ≢ 0)) i
 StageStands code s elements w heap words t m i (FreeLooks done all) =
-    OnFree (λ r layout. Emptying code elements w (ref m r) layout all (all_pointers code layout all) × Clearing w (ref m r) done (granules_freed code layout all)) i
+    OnFree (λ r layout. Emptying code elements w (ref m r) layout all (all_pointers code layout all)
+    × Clearing w (ref m r) done (granules_freed code layout all)) i
 StageStands code s elements w heap words t m i (FreeClears done all seen) =
-    OnFree (λ r layout. Emptying code elements w (ref m r) layout all (all_pointers code layout all) × Swapping w (ref m r) done (granules_freed code layout all) seen) i
+    OnFree (λ r layout. Emptying code elements w (ref m r) layout all (all_pointers code layout all)
+    × Swapping w (ref m r) done (granules_freed code layout all) seen) i
 StageStands code s elements w heap words t m i (Uncounts all) =
-    OnFree (λ r layout. Emptying code elements w (ref m r) layout all (all_pointers code layout all) × AreCleared w (ref m r) (granules_freed code layout all)) i
-StageStands code s elements w heap words t m i (Links all) = OnFree (λ r layout. (heap.state (ref m r) ≡ Built t) × (ref m r ≢ 0) × (heap.size (ref m r) ≡ block_for (all * (layout_at code layout).cells))) i
+    OnFree (λ r layout. Emptying code elements w (ref m r) layout all (all_pointers code layout all)
+    × AreCleared w (ref m r) (granules_freed code layout all)) i
+StageStands code s elements w heap words t m i (Links all) = OnFree (λ r layout. (heap.state (ref m r) ≡ Built t)
+    × (ref m r ≢ 0) × (heap.size (ref m r) ≡ block_for (all * (layout_at code layout).cells))) i
 StageStands code s elements w heap words t m i (Names n) = OnSpawn (λ f from. Reserves words t n) i
-StageStands code s elements w heap words t m i (Hands n) = OnSpawn (λ f from. Reserves words t n × (slice_index words (function_word n) ≡ f)) i
-StageStands code s elements w heap words t m i (Begins n) = OnSpawn (λ f from. Reserves words t n × (slice_index words (function_word n) ≡ f) × (slice_index words (argument_word n) ≡ argument m from)) i
+StageStands code s elements w heap words t m i (Hands n) =
+    OnSpawn (λ f from. Reserves words t n × (slice_index words (function_word n) ≡ f)) i
+StageStands code s elements w heap words t m i (Begins n) = OnSpawn (λ f from. Reserves words t n
+    × (slice_index words (function_word n) ≡ f) × (slice_index words (argument_word n) ≡ argument m from)) i
 StageStands code s elements w heap words t m i (Enters f) = OnStart (slice_index words (function_word t) ≡ f) i
 StageStands code s elements w heap words t m i (Withdraws row) = OnExit (row < length m.own.table.order) i
 StageStands code s elements w heap words t m i (WithdrawsFrom row seen) = OnExit (row < length m.own.table.order) i
@@ -267,9 +309,11 @@ label_now l (Free r layout site) (Links all) = empty l r
 label_now l i stage = l
 
 -- a thread that may go on
-pub record Runs (x : Targets) (code : Code) (s : Shape) (ls : Labels) (elements : ℕ → ℕ) (w : World) (heap : Heap) (g : Global Machine) (t : ℕ) (m : Machine) : Type 0 where
+pub record Runs (x : Targets) (code : Code) (s : Shape) (ls : Labels) (elements : ℕ → ℕ) (w : World) (heap : Heap)
+    (g : Global Machine) (t : ℕ) (m : Machine) : Type 0 where
   pub names : ℕ → ℤ
-  pub top : TopStands x t (view_of elements w t m) m.at.refs m.at.ints names (label_now (ls.at m.at.pc) (instr_at code m.at.pc) m.own.stage)
+  pub top : TopStands x t (view_of elements w t m) m.at.refs m.at.ints names
+      (label_now (ls.at m.at.pc) (instr_at code m.at.pc) m.own.stage)
   pub below : FramesStand x code ls t (view_of elements w t m) m (ls.at m.at.pc).function
   pub gate : GateStands s w t m (label_now (ls.at m.at.pc) (instr_at code m.at.pc) m.own.stage).gate
   pub stage : StageStands code s elements w heap g.words t m (instr_at code m.at.pc) m.own.stage
@@ -286,9 +330,11 @@ pub record IsThread (code : Code) (s : Shape) (t : ℕ) (m : Machine) : Type 0 w
   pub notes : length m.own.table.notes ≡ granules s
   pub table : ListsNoted m.own.table
 
-pub record ThreadStands (x : Targets) (code : Code) (s : Shape) (ls : Labels) (elements : ℕ → ℕ) (w : World) (heap : Heap) (g : Global Machine) (t : ℕ) : Type 0 where
+pub record ThreadStands (x : Targets) (code : Code) (s : Shape) (ls : Labels) (elements : ℕ → ℕ) (w : World)
+    (heap : Heap) (g : Global Machine) (t : ℕ) : Type 0 where
   pub has : IsThread code s t (g.threads t)
-  pub runs : g.started t ≡ true → may_go (g.threads t).at.state ≡ true → Runs x code s ls elements w heap g t (g.threads t)
+  pub runs : g.started t ≡ true → may_go (g.threads t).at.state ≡ true
+      → Runs x code s ls elements w heap g t (g.threads t)
   pub off : g.started t ≡ false → w.win t ≡ Shut
   pub stopped : may_go (g.threads t).at.state ≡ false → StopStands w t (g.threads t) (ls.at (g.threads t).at.pc).gate
   pub waits : g.started t ≡ false → g.threads t ≡ begun code s t
@@ -306,17 +352,23 @@ pub record Threads (code : Code) (ls : Labels) (w : World) (g : Global Machine) 
   pub started : (t : ℕ) → t < THREADS → slice_index g.words (state_word t) ≡ 0 ↔ (g.started t ≡ false)
   pub given : (t : ℕ) → t < THREADS → slice_index g.words (state_word t) ≢ 0 → t < slice_index g.words next_thread_word
   -- one that is to read its argument begins with a function that may, and with what that takes
-  pub function : (t : ℕ) → t < THREADS → slice_index g.words (state_word t) ≡ 1 → ls.starts (slice_index g.words (function_word t)) ≡ true
-  pub argument : (t : ℕ) → t < THREADS → EntryStands (λ r. in_ref w (ArgumentOf t)) (λ r. (w.slots (In (ArgumentOf t))).ty) 0 ((ls.signature (slice_index g.words (function_word t))).takes 0)
+  pub function : (t : ℕ) → t < THREADS → slice_index g.words (state_word t) ≡ 1
+      → ls.starts (slice_index g.words (function_word t)) ≡ true
+  pub argument : (t : ℕ) → t < THREADS → EntryStands (λ r. in_ref w (ArgumentOf t))
+      (λ r. (w.slots (In (ArgumentOf t))).ty) 0 ((ls.signature (slice_index g.words (function_word t))).takes 0)
   -- no two threads spawn one
   pub one : (t u n : ℕ) → SpawnsNow (g.threads t).own.stage n → SpawnsNow (g.threads u).own.stage n → t ≡ u
 
--- one that is to read its argument has not said that it returned; thread 0's functions are not those of others, and a number is as it is taken
+-- one that is to read its argument has not said that it returned; thread 0's functions are not those of others, and a
+-- number is as it is taken
 pub record Firsts (x : Targets) (ls : Labels) (g : Global Machine) : Type 0 where
-  pub unread : (t : ℕ) → t < THREADS → g.started t ≡ true → is_unread (g.threads t) ≡ true → slice_index g.words (state_word t) ≡ 1
-  pub alone : (t : ℕ) → t < THREADS → slice_index g.words (state_word t) ≡ 1 → (ls.signature (slice_index g.words (function_word t))).alone ≡ true → t ≡ 0
+  pub unread : (t : ℕ) → t < THREADS → g.started t ≡ true → is_unread (g.threads t) ≡ true
+      → slice_index g.words (state_word t) ≡ 1
+  pub alone : (t : ℕ) → t < THREADS → slice_index g.words (state_word t) ≡ 1
+      → (ls.signature (slice_index g.words (function_word t))).alone ≡ true → t ≡ 0
   pub number : (t : ℕ) → t < THREADS → slice_index g.words (state_word t) ≡ 1
-      → NumberStands x (λ o. 0) (λ r. 0) (λ r. nothing) (λ n. pos 0) (int_of (slice_index g.words (argument_word t))) ((ls.signature (slice_index g.words (function_word t))).takes_ints 0)
+      → NumberStands x (λ o. 0) (λ r. 0) (λ r. nothing) (λ n. pos 0) (int_of (slice_index g.words (argument_word t)))
+      ((ls.signature (slice_index g.words (function_word t))).takes_ints 0)
   -- a number that a thread spawns was given out, and few were
   pub spawns : (t n : ℕ) → SpawnsNow (g.threads t).own.stage n → n < slice_index g.words next_thread_word
   pub few : slice_index g.words next_thread_word ≤ 1 + sum_to THREADS g.made
@@ -324,15 +376,19 @@ pub record Firsts (x : Targets) (ls : Labels) (g : Global Machine) : Type 0 wher
 -- ---- mutexes
 -- a mutex of a live object or of the globals is held by the thread whose log has it, and by no other
 pub record Locks (x : Targets) (s : Shape) (cells : ℕ → ℕ) (w : World) (g : Global Machine) : Type 0 where
-  pub held : (t o j : ℕ) → t < THREADS → (w.obj o).live ≡ true → j < cells o → is_mutex (field_in x (w.obj o).ty j).holds ≡ true
+  pub held : (t o j : ℕ) → t < THREADS → (w.obj o).live ≡ true → j < cells o
+      → is_mutex (field_in x (w.obj o).ty j).holds ≡ true
       → (w.mutex o j ≡ suc t) ↔ (is_held (g.threads t) (cell_at s o j) ≡ true)
   pub logged : (t : ℕ) (h : HeldMutex) → Contains (g.threads t).own.held h
-      → (j : ℕ) × ((h.word ≡ cell_at s h.object j) × ((w.obj h.object).live ≡ true) × (j < cells h.object) × (is_mutex (field_in x (w.obj h.object).ty j).holds ≡ true))
+      → (j : ℕ) × ((h.word ≡ cell_at s h.object j) × ((w.obj h.object).live ≡ true) × (j < cells h.object)
+      × (is_mutex (field_in x (w.obj h.object).ty j).holds ≡ true))
   pub few : (o j t : ℕ) → w.mutex o j ≡ suc t → t < THREADS
-  pub only : (o j : ℕ) → w.mutex o j ≢ 0 → ((w.obj o).live ≡ true) × (j < cells o) × (is_mutex (field_in x (w.obj o).ty j).holds ≡ true)
+  pub only : (o j : ℕ) → w.mutex o j ≢ 0
+      → ((w.obj o).live ≡ true) × (j < cells o) × (is_mutex (field_in x (w.obj o).ty j).holds ≡ true)
 
 -- ---- the heap
-pub record HeapStands (s : Shape) (cells : ℕ → ℕ) (g : Global Machine) (obj : ℕ → ObjectState) (heap : Heap) : Type 0 where
+pub record HeapStands (s : Shape) (cells : ℕ → ℕ) (g : Global Machine) (obj : ℕ → ObjectState)
+    (heap : Heap) : Type 0 where
   pub kept : Kept record { first = 1 + s.globals; words = first_cell s } heap
   pub words : (i : ℕ) → heap.words i ≡ slice_index g.words i
   pub top : heap.top ≡ slice_index g.words top_word
@@ -366,10 +422,13 @@ pub record State (x : Targets) (code : Code) (s : Shape) (ls : Labels) (g : Glob
   pub begins : Threads code ls w g
   pub firsts : Firsts x ls g
   -- object 0 is that of the globals, and it is thread 0's; every other object has a row's type and whole elements of it
-  pub globals : w.obj 0 ≡ record { live = true; global = true; ty = record { target = globals_target x; locks = [] }; owner = 0 }
+  pub globals : w.obj 0
+      ≡ record { live = true; global = true; ty = record { target = globals_target x; locks = [] }; owner = 0 }
   pub globals_cells : cells 0 ≡ 2 * s.globals
-  pub rows : (o : ℕ) → o ≢ 0 → (w.obj o).live ≡ true → ((w.obj o).global ≡ false) × ((w.obj o).ty.target < length x.rows)
-  pub whole : (o : ℕ) → o ≢ 0 → (w.obj o).live ≡ true → (1 ≤ elements o) × (cells o ≡ elements o * cells_of x (w.obj o).ty.target)
+  pub rows : (o : ℕ) → o ≢ 0 → (w.obj o).live ≡ true
+      → ((w.obj o).global ≡ false) × ((w.obj o).ty.target < length x.rows)
+  pub whole : (o : ℕ) → o ≢ 0 → (w.obj o).live ≡ true
+      → (1 ≤ elements o) × (cells o ≡ elements o * cells_of x (w.obj o).ty.target)
   -- words are as many as there are to be, and each is one
   pub length_is : length g.words ≡ words_of s
   pub are_words : (i : ℕ) → slice_index g.words i < 2 ^ 64

@@ -34,10 +34,17 @@ pub record KeepsOthers (s : Shape) (w w' : World) (heap heap' : Heap) (words wor
   pub regs : (u : ℕ) → u ≢ t → (r : ℕ) → w'.slots (In (RegisterOf u r)) ≡ w.slots (In (RegisterOf u r))
   pub win : (u : ℕ) → u ≢ t → w'.win u ≡ w.win u
   -- their passed checks of the globals, and of objects that a register of theirs holds
-  pub passed : (u : ℕ) → u ≢ t → (o g : ℕ) (k : Bool) → (o ≡ 0) ⊎ ((r : ℕ) × ((in_ref w (RegisterOf u r) ≡ o) × (o ≢ 0))) → Passed (w.gran o g) u k → Passed (w'.gran o g) u k
+  pub passed : (u : ℕ) → u ≢ t → (o g : ℕ) (k : Bool) → (o ≡ 0)
+      ⊎ ((r : ℕ) × ((in_ref w (RegisterOf u r) ≡ o) × (o ≢ 0))) → Passed (w.gran o g) u k → Passed (w'.gran o g) u k
   -- what they have alone
-  pub sole : (u : ℕ) → u ≢ t → (r : ℕ) → w.win u ≡ Sole r → (g : ℕ) → OnlyLoses (w.gran (in_ref w (RegisterOf u r)) g) (w'.gran (in_ref w (RegisterOf u r)) g)
-  pub cells : (u : ℕ) → u ≢ t → (r : ℕ) → w.win u ≡ Sole r → (i : ℕ) → (w'.slots (Cell (in_ref w (RegisterOf u r)) i)).reference ≡ (w.slots (Cell (in_ref w (RegisterOf u r)) i)).reference
+  pub sole : (u : ℕ) → u ≢ t → (r : ℕ) → w.win u ≡ Sole r
+      → (g : ℕ) → OnlyLoses (w.gran (in_ref w (RegisterOf u r)) g) (w'.gran (in_ref w (RegisterOf u r)) g)
+  pub cells : (u : ℕ) → u ≢ t → (r : ℕ) → w.win u ≡ Sole r
+      → (i : ℕ) → (w'.slots (Cell (in_ref w (RegisterOf u r)) i)).reference
+      ≡ (w.slots (Cell (in_ref w (RegisterOf u r)) i)).reference
   -- the blocks that they build, and their words
-  pub built : (u : ℕ) → u ≢ t → (h : ℕ) → heap.state h ≡ Built u → (heap'.state h ≡ Built u) × (heap'.size h ≡ heap.size h)
-  pub within : (u : ℕ) → u ≢ t → (h : ℕ) → heap.state h ≡ Built u → (j : ℕ) → InBlock record { first = 1 + s.globals; words = first_cell s } heap h j → slice_index words' j ≡ slice_index words j
+  pub built : (u : ℕ) → u ≢ t
+      → (h : ℕ) → heap.state h ≡ Built u → (heap'.state h ≡ Built u) × (heap'.size h ≡ heap.size h)
+  pub within : (u : ℕ) → u ≢ t → (h : ℕ) → heap.state h ≡ Built u
+      → (j : ℕ) → InBlock record { first = 1 + s.globals; words = first_cell s } heap h j
+      → slice_index words' j ≡ slice_index words j

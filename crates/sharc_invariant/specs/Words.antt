@@ -1,5 +1,6 @@
 -- The words, registers and notes of the running machine, and when a world of the proof is theirs.
-use Rattle.std.specs.Prelude.{ℕ, suc, ◌+◌, ◌*◌, ◌/◌, ◌≡◌, ◌<◌, ◌≤◌, ◌≢◌, ◌==◌, ◌&&◌, ◌||◌, Bool, true, false, List, take, Option, Some, None, slice_index, nat_lt, if◌then◌else◌}
+use Rattle.std.specs.Prelude.{ℕ, suc, ◌+◌, ◌*◌, ◌/◌, ◌≡◌, ◌<◌, ◌≤◌, ◌≢◌, ◌==◌, ◌&&◌, ◌||◌, Bool, true, false, List}
+use Rattle.std.specs.Prelude.{take, Option, Some, None, slice_index, nat_lt, if◌then◌else◌}
 use Rattle.std.specs.List.{list_any}
 use Rattle.sharc_word.specs.declared.step.TheConstants.{THREADS}
 use Rattle.sharc_shadow.specs.{declared.shadow_word.Kind.Kind, declared.shadow_word.Kind.TheVariants.{Read, Write}}
@@ -10,7 +11,8 @@ use Rattle.sharc_locks.specs.HeldLog.{object_of}
 use Rattle.sharc_code.specs.{declared.code.Code.Code, declared.code.Parameter.Parameter, declared.instr.Instr.Instr}
 use Rattle.sharc_code.specs.{declared.shape.Shape.Shape, declared.state.State.State}
 use Rattle.sharc_code.specs.{declared.state.State.TheVariants.Ended, declared.state.Stage.Stage}
-use Rattle.sharc_code.specs.declared.state.Stage.TheVariants.{Rests, Makes, Lowers, Links, Withdraws, WithdrawsFrom, Leaves, Enters}
+use Rattle.sharc_code.specs.declared.state.Stage.TheVariants.{Rests, Makes, Lowers, Links, Withdraws, WithdrawsFrom}
+use Rattle.sharc_code.specs.declared.state.Stage.TheVariants.{Leaves, Enters}
 use Rattle.sharc_code.specs.Layout.{granules, first_shadow, state_word, function_word, argument_word}
 use Rattle.sharc_code.specs.Arithmetic.{holds, int_of}
 use Rattle.sharc_code.specs.{Machine.{Machine, instr_at, function_of, reference_of, size_of}, Runs.{Global, put}}
@@ -19,7 +21,8 @@ use Rattle.sharc_code.specs.declared.instr.Instr.TheVariants as instrs
 use Rattle.sharc_invariant.specs.Granules.{GranuleState}
 use Rattle.sharc_invariant.specs.Types.{Targets, Content, mode_at, type_at, field_in, is_private, is_mutex, is_pointer}
 use Rattle.sharc_invariant.specs.Types.Content.{Integer}
-use Rattle.sharc_invariant.specs.World.{TypeRules, RegisterOf, ArgumentOf, LogOf, Staged, Cell, ObjectState, World, put2, in_ref}
+use Rattle.sharc_invariant.specs.World.{TypeRules, RegisterOf, ArgumentOf, LogOf, Staged, Cell, ObjectState, World}
+use Rattle.sharc_invariant.specs.World.{put2, in_ref}
 
 -- what the table of targets says of types
 abbrev pub lang_of : Targets → TypeRules
@@ -68,10 +71,12 @@ has_withdrawn Leaves order ended g = true
 has_withdrawn _ order ended g = ended
 
 abbrev pub noted_by : Machine → Kind → ℕ → ℕ
-noted_by m kind g = if has_withdrawn m.own.stage m.own.table.order (is_ended m.at.state) g then 0 else note_number (note_of m.own.table g kind)
+noted_by m kind g =
+    if has_withdrawn m.own.stage m.own.table.order (is_ended m.at.state) g then 0
+    else note_number (note_of m.own.table g kind)
 
--- a New that has taken a block from a list of its thread leaves the list at what the block linked to; the thread writes it down when the object
--- is made
+-- a New that has taken a block from a list of its thread leaves the list at what the block linked to; the thread writes
+-- it down when the object is made
 abbrev pub making_of : Stage → Option NewView
 making_of (Makes v) = Some v
 making_of _ = None
@@ -102,7 +107,8 @@ if_reference _ v = 0
 abbrev pub argument_of : Code → Global Machine → ℕ → ℕ
 argument_of code g t =
     if (nat_lt t THREADS && (slice_index g.words (state_word t) == 1)) && is_unread (g.threads t)
-    then if_reference (function_of code (slice_index g.words (function_word t))).parameter (slice_index g.words (argument_word t))
+    then if_reference (function_of code (slice_index g.words (function_word t))).parameter
+    (slice_index g.words (argument_word t))
     else 0
 
 -- ---- the whole machine
@@ -181,13 +187,18 @@ pub record Shows (x : Targets) (s : Shape) (cells elements : ℕ → ℕ) (c : M
   pub args : (t : ℕ) → in_ref w (ArgumentOf t) ≡ c.args t
   pub logs : (t word : ℕ) → in_ref w (LogOf t word) ≡ c.logs t word
   pub staged : (t : ℕ) → in_ref w (Staged t) ≡ c.staged t
-  pub pointers : (o i : ℕ) → (w.obj o).live ≡ true → i < cells o → is_pointer (field_in x (w.obj o).ty i).holds ≡ true → (w.slots (Cell o i)).reference ≡ c.words (cell_at s o i)
-  pub others : (o i : ℕ) → (w.slots (Cell o i)).reference ≢ 0 → (i < cells o) × (is_pointer (field_in x (w.obj o).ty i).holds ≡ true)
-  pub integers : (o i : ℕ) → (w.obj o).live ≡ true → i < cells o → FitsContent (field_in x (w.obj o).ty i).holds (c.words (cell_at s o i))
+  pub pointers : (o i : ℕ) → (w.obj o).live ≡ true → i < cells o → is_pointer (field_in x (w.obj o).ty i).holds ≡ true
+      → (w.slots (Cell o i)).reference ≡ c.words (cell_at s o i)
+  pub others : (o i : ℕ) → (w.slots (Cell o i)).reference ≢ 0
+      → (i < cells o) × (is_pointer (field_in x (w.obj o).ty i).holds ≡ true)
+  pub integers : (o i : ℕ) → (w.obj o).live ≡ true → i < cells o
+      → FitsContent (field_in x (w.obj o).ty i).holds (c.words (cell_at s o i))
   pub counts : (o : ℕ) → o ≢ 0 → (w.obj o).live ≡ true → w.count o ≡ c.words (count_at s o)
   pub lengths : (o : ℕ) → o ≢ 0 → (w.obj o).live ≡ true → elements o ≡ c.words (length_at s o)
-  pub mutexes : (o j : ℕ) → (w.obj o).live ≡ true → j < cells o → is_mutex (field_in x (w.obj o).ty j).holds ≡ true → w.mutex o j ≡ c.words (cell_at s o j)
-  pub shadows : (o g : ℕ) → (w.obj o).live ≡ true → 2 * g < cells o → Reads (c.words (shadow_at s (o + 1 + g))) c.read_notes c.write_notes (o + 1 + g) (w.gran o g)
+  pub mutexes : (o j : ℕ) → (w.obj o).live ≡ true → j < cells o → is_mutex (field_in x (w.obj o).ty j).holds ≡ true
+      → w.mutex o j ≡ c.words (cell_at s o j)
+  pub shadows : (o g : ℕ) → (w.obj o).live ≡ true → 2 * g < cells o
+      → Reads (c.words (shadow_at s (o + 1 + g))) c.read_notes c.write_notes (o + 1 + g) (w.gran o g)
   pub stale : AreStale s w.obj cells c.words c.read_notes c.write_notes
 
 -- what the machine does

@@ -1,12 +1,14 @@
--- The world of the proof: what refers to which object, the counts, the objects with their types and owners, granules, mutexes, and by thread
--- what it is in the middle of; the invariant over it, and what each effect of a turn makes of it.
+-- The world of the proof: what refers to which object, the counts, the objects with their types and owners, granules,
+-- mutexes, and by thread what it is in the middle of; the invariant over it, and what each effect of a turn makes of
+-- it.
 use Rattle.std.specs.Prelude.{ℕ, suc, ◌+◌, ◌-◌, ◌≡◌, ◌<◌, ◌≢◌, Bool, true, false, ◌&&◌, nat_eq, if◌then◌else◌}
 use Rattle.sharc_code.specs.Runs.{put}
 use Rattle.sharc_invariant.specs.Granules.{GranuleState, Bits, one, sum_to, Passed}
 use Rattle.sharc_invariant.specs.Types.{ObjectType, nothing, CellMode}
 use Rattle.sharc_invariant.specs.Types.CellMode.{Private, Readonly, Racy, Dynamic, Locked, Sibling, Behind}
 
--- what a table of targets says of a type: whether an object of it is private, the modes of its cells, and what they refer to
+-- what a table of targets says of a type: whether an object of it is private, the modes of its cells, and what they
+-- refer to
 pub record TypeRules : Type 0 where
   pub private : ObjectType → Bool
   pub mode : ObjectType → ℕ → CellMode
@@ -175,7 +177,8 @@ abbrev pub Fits : TypeRules → (ℕ → ObjectState) → ℕ → TypedReference
 Fits l obj u h = h.reference ≢ 0 → Refers l obj u h.ty h.reference
 
 -- the invariant, but for the windows
-pub record Words (z : Size) (l : TypeRules) (slots : Slot → TypedReference) (count : ℕ → ℕ) (obj : ℕ → ObjectState) : Type 0 where
+pub record Words (z : Size) (l : TypeRules) (slots : Slot → TypedReference) (count : ℕ → ℕ)
+    (obj : ℕ → ObjectState) : Type 0 where
   pub counts : (o : ℕ) → o ≢ 0 → (obj o).live ≡ true → (obj o).global ≡ false → count o ≡ total z slots o
   pub inside : (s : Slot) → (slots s).reference ≢ 0 → Inside z s
   pub fits : (s : Slot) → Fits l obj (who obj s) (slots s)
@@ -234,7 +237,8 @@ give w t r ty = record w {
 -- the cells of a new object
 abbrev pub retype : (Slot → TypedReference) → ℕ → (ℕ → ObjectType) → Slot → TypedReference
 retype f o ty (In a) = f (In a)
-retype f o ty (Cell p i) = put {A = ℕ → TypedReference} (λ p i. f (Cell p i)) o (λ i. record { ty = ty i; reference = 0 }) p i
+retype f o ty (Cell p i) =
+    put {A = ℕ → TypedReference} (λ p i. f (Cell p i)) o (λ i. record { ty = ty i; reference = 0 }) p i
 
 -- with its granules as they were found
 abbrev pub make : TypeRules → World → Holder → ℕ → ObjectType → (ℕ → GranuleState) → World

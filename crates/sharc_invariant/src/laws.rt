@@ -1,6 +1,8 @@
 //! Laws of the invariant.
 
-ghost use Rattle.sharc_invariant.specs.Laws.{Begins, Keeps, EventsObey, RunsStay, RunsFromTheBeginning, RunsStand, RunsBits, StateStands, CellsAreThere, PointersAreThere, AccessesAreAllowed, NothingYet, SampleIsTyped};
+ghost use Rattle.sharc_invariant.specs.Laws.{Begins, Keeps, EventsObey, RunsStay, RunsFromTheBeginning, RunsStand};
+ghost use Rattle.sharc_invariant.specs.Laws.{RunsBits, StateStands, CellsAreThere, PointersAreThere};
+ghost use Rattle.sharc_invariant.specs.Laws.{AccessesAreAllowed, NothingYet, SampleIsTyped};
 ghost use Rattle.sharc_invariant.specs.Reports.{RunsConflict, RunsTest};
 
 use sharc_granule::new_laws;
@@ -36,8 +38,8 @@ pub fn state_stands()
     ensures { StateStands }
 {}
 
-/// In the invariant a cell that an instruction names is one of a live object, of the type that its place says, and an access that typed code makes is one
-/// that its thread has a right to.
+/// In the invariant a cell that an instruction names is one of a live object, of the type that its place says, and an
+/// access that typed code makes is one that its thread has a right to.
 pub fn cells_are_there()
     ensures cells { CellsAreThere }
     ensures pointers { PointersAreThere }
@@ -60,7 +62,8 @@ pub fn runs_bits()
     runs_stay();
 }
 
-/// A check is refused exactly where another thread's check is in its way, and a test of a sole reference finds how many references there are.
+/// A check is refused exactly where another thread's check is in its way, and a test of a sole reference finds how many
+/// references there are.
 pub fn runs_report()
     ensures conflicts { RunsConflict }
     ensures tests { RunsTest }

@@ -11,7 +11,8 @@ Rose before now = one_more before ≤ now
 
 -- one of the two counts of a sink rose: that of its faults, or that of its stalls
 abbrev pub EitherRose : ℕ → ℕ → ℕ → ℕ → Type 0
-EitherRose faults_before faults_now stalls_before stalls_now = Rose faults_before faults_now ⊎ Rose stalls_before stalls_now
+EitherRose faults_before faults_now stalls_before stalls_now = Rose faults_before faults_now
+    ⊎ Rose stalls_before stalls_now
 
 -- a count of faults never falls, and a call fails only where it rose
 pub record HasCause {T E : Type 0} (before now : ℕ) (result : Result T E) : Type 0 where

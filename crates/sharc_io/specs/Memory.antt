@@ -2,7 +2,8 @@
 use Rattle.std.specs.Prelude.{ℕ, ◌≡◌, ◌↔◌, ◌≤◌, ◌&&◌, ◌==◌, nat_lt, List, length, Bool, if◌then◌else◌, IsTrue, Contains}
 use Rattle.sharc_io.specs.Causes.{one_more}
 
--- The calls of an object in memory: the numbers of those that fail, the number of the next one, and how many have failed.
+-- The calls of an object in memory: the numbers of those that fail, the number of the next one, and how many have
+-- failed.
 pub record Plan : Type 0 where
   pub fails : List ℕ
   pub call : ℕ
@@ -22,7 +23,8 @@ pub record Holding : Type 0 where
   pub room : ℕ
   pub stalls : ℕ
 
--- the count of stalls after this many bytes of a piece were taken: one more where none was, of a piece that is not empty
+-- the count of stalls after this many bytes of a piece were taken: one more where none was, of a piece that is not
+-- empty
 abbrev pub stalls_after : ℕ → ℕ → List ℕ → ℕ
 stalls_after stalls count piece = if count == 0 && nat_lt 0 (length piece) then one_more stalls else stalls
 

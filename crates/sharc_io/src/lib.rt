@@ -1,8 +1,9 @@
 //! The outside: where bytes come from and where they go, with every failure counted.
 //!
-//! A [`Source`] has bytes left and a count of faults; a [`Sink`] holds bytes and has a count of faults and one of stalls.
-//! A call answers a failure only where a count rose (`Rose` of specs/Causes.antt), so code that is generic over the two
-//! cannot give up by itself. The layer above uses [`read_all`] and [`write_all`]; README.md says which clause carries what.
+//! A [`Source`] has bytes left and a count of faults; a [`Sink`] holds bytes and has a count of faults and one of
+//! stalls. A call answers a failure only where a count rose (`Rose` of specs/Causes.antt), so code that is generic over
+//! the two cannot give up by itself. The layer above uses [`read_all`] and [`write_all`]; README.md says which clause
+//! carries what.
 #![tactic(auto)]
 
 mod memory;

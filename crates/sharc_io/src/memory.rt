@@ -123,8 +123,10 @@ impl Sink for MemSink {
 
         // It fails exactly where the number of the call is listed, and else takes as much as there is room for.
         ensures call { MakesCall self.old.plan self.new.plan (is_err result) }
-        ensures count { IfOk result (λ count. count ≡ min (length piece.now) (self.old.holding.room - length self.old.holding.held)) }
-        ensures stalls { IfOk result (λ count. self.new.holding.stalls ≡ stalls_after self.old.holding.stalls count piece.now) }
+        ensures count { IfOk result (λ count. count
+            ≡ min (length piece.now) (self.old.holding.room - length self.old.holding.held)) }
+        ensures stalls { IfOk result (λ count. self.new.holding.stalls
+            ≡ stalls_after self.old.holding.stalls count piece.now) }
         ensures room { self.new.holding.room ≡ self.old.holding.room }
         ensures within { length self.new.holding.held ≤ self.new.holding.room }
         ensures unchanged { OnErr result (self.new.holding ≡ self.old.holding) }

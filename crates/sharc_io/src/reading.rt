@@ -1,6 +1,7 @@
 //! Reading all that a source has left.
 
-ghost use Rattle.std.specs.Prelude.{◌≡◌, ◌<◌, ◌≤◌, ◌+◌, ◌++◌, length, vec_len, take, OnOk, OnErr, IfOk, IfSome, IsErrOf};
+ghost use Rattle.std.specs.Prelude.{◌≡◌, ◌<◌, ◌≤◌, ◌+◌, ◌++◌, length, vec_len, take, OnOk, OnErr, IfOk, IfSome};
+ghost use Rattle.std.specs.Prelude.{IsErrOf};
 ghost use Rattle.std.specs.Io.KnownBytes.{Consumes, IsAtEnd};
 ghost use Rattle.sharc_io.specs.Causes.{Rose};
 ghost use Rattle.sharc_io.specs.Reading.{TakesFront, TakesAtMost};
@@ -41,10 +42,13 @@ pub fn read_all<S: Source>(
     ensures within { IfOk result (λ bytes. vec_len bytes ≤ limit) }
 
     // `TooLong` comes exactly where one byte more than the limit came: with no other answer did as many come.
-    ensures too_long { IsErrOf result ReadError.TooLong → TakesFront (S.left source.old) (S.left source.new) (limit + 1) }
+    ensures too_long { IsErrOf result ReadError.TooLong
+        → TakesFront (S.left source.old) (S.left source.new) (limit + 1) }
     ensures longer { IsErrOf result ReadError.TooLong → IfSome (S.left source.old) (λ left. limit < length left) }
-    ensures fault_in_limit { IsErrOf result ReadError.ReadFault → TakesAtMost (S.left source.old) (S.left source.new) limit }
-    ensures memory_in_limit { IsErrOf result ReadError.Memory → TakesAtMost (S.left source.old) (S.left source.new) limit }
+    ensures fault_in_limit { IsErrOf result ReadError.ReadFault
+        → TakesAtMost (S.left source.old) (S.left source.new) limit }
+    ensures memory_in_limit { IsErrOf result ReadError.Memory
+        → TakesAtMost (S.left source.old) (S.left source.new) limit }
 
     // `ReadFault` comes only where the source's count of faults rose in this call.
     ensures fault { IsErrOf result ReadError.ReadFault → Rose (S.faults source.old) (S.faults source.new) }
@@ -61,8 +65,8 @@ pub fn read_all<S: Source>(
     }
 }
 
-// One read, by a buffer of at most one byte more than `room`. Appends the bytes that came and answers how many they are,
-// 0 only at the end of input. More than `room` are too many.
+// One read, by a buffer of at most one byte more than `room`. Appends the bytes that came and answers how many they
+// are, 0 only at the end of input. More than `room` are too many.
 fn append_some<S: Source>(
     source: &mut S,
     bytes: &mut Vec<u8>,
@@ -76,9 +80,11 @@ fn append_some<S: Source>(
     ensures in_buf { IfOk result (λ count. count ≤ length buf.new) }
     ensures in_room { IfOk result (λ count. count ≤ room) }
     ensures end { IfOk result (λ count. count ≡ 0 → IsAtEnd (S.left source.new)) }
-    ensures too_long { IsErrOf result ReadError.TooLong → TakesFront (S.left source.old) (S.left source.new) (room + 1) }
+    ensures too_long { IsErrOf result ReadError.TooLong
+        → TakesFront (S.left source.old) (S.left source.new) (room + 1) }
     ensures fault_in_room { IsErrOf result ReadError.ReadFault → TakesAtMost (S.left source.old) (S.left source.new) 0 }
-    ensures memory_in_room { IsErrOf result ReadError.Memory → TakesAtMost (S.left source.old) (S.left source.new) room }
+    ensures memory_in_room { IsErrOf result ReadError.Memory
+        → TakesAtMost (S.left source.old) (S.left source.new) room }
     ensures fault { IsErrOf result ReadError.ReadFault → Rose (S.faults source.old) (S.faults source.new) }
     ensures counted { S.faults source.old ≤ S.faults source.new }
 {

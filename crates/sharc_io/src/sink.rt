@@ -16,7 +16,8 @@ pub trait Sink {
     /// How often it has failed. The count never falls, and stays where it reaches 2^64 - 1.
     ghost faults: { Self → ℕ };
 
-    /// How often it has taken none of a piece that was not empty. The count never falls, and stays where it reaches 2^64 - 1.
+    /// How often it has taken none of a piece that was not empty. The count never falls, and stays where it reaches
+    /// 2^64 - 1.
     ghost stalls: { Self → ℕ };
 
     /// Appends a front part of the piece to what is held, and answers how many bytes it took.

@@ -100,7 +100,8 @@ impl Sink for StdSink {
         ensures cause { HasCause self.old.faults self.new.faults result }
         ensures stall { HasStallCause self.old.stalls self.new.stalls result piece.now }
         ensures faults { self.new.faults ≡ (if is_err result then one_more self.old.faults else self.old.faults) }
-        ensures stalls { MatchResult result (λ count. self.new.stalls ≡ stalls_after self.old.stalls count piece.now) (λ _. self.new.stalls ≡ self.old.stalls) }
+        ensures stalls { MatchResult result (λ count. self.new.stalls ≡ stalls_after self.old.stalls count piece.now)
+            (λ _. self.new.stalls ≡ self.old.stalls) }
     {
         let Ok(count) = write_and_flush(&mut self.output, piece) else {
             self.faults = self.faults.saturating_add(1);

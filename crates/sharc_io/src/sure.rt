@@ -102,7 +102,8 @@ impl Sink for SureSink {
         ensures stall { HasStallCause self.old.stalls self.new.stalls result piece.now }
 
         // It takes as much as there is room for.
-        ensures count { IsOkAnd result (λ count. count ≡ min (length piece.now) (self.old.room - length self.old.held)) }
+        ensures count { IsOkAnd result (λ count. count
+            ≡ min (length piece.now) (self.old.room - length self.old.held)) }
         ensures stalls { IfOk result (λ count. self.new.stalls ≡ stalls_after self.old.stalls count piece.now) }
         ensures room { self.new.room ≡ self.old.room }
         ensures within { length self.new.held ≤ self.new.room }

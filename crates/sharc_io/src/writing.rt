@@ -22,7 +22,8 @@ pub fn write_all<O: Sink>(sink: &mut O, bytes: &[u8]) -> Result<(), WriteFault>
     ensures short { IfErr result (λ fault. fault.written < length bytes.now) }
 
     // It gives up only where one of the sink's two counts rose in this call.
-    ensures cause { OnErr result (EitherRose (O.faults sink.old) (O.faults sink.new) (O.stalls sink.old) (O.stalls sink.new)) }
+    ensures cause { OnErr result
+        (EitherRose (O.faults sink.old) (O.faults sink.new) (O.stalls sink.old) (O.stalls sink.new)) }
     ensures faults { O.faults sink.old ≤ O.faults sink.new }
     ensures stalls { O.stalls sink.old ≤ O.stalls sink.new }
 {

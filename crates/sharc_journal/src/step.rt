@@ -41,7 +41,8 @@ fn look(words: &Words, seat: &mut Seat<Option<Journal>, View>, ticket: u64) -> b
     requires waits { (part : Part) × (seat.old.me ≡ waiting part ticket) }
     ensures own { seat.new.table_id ≡ seat.old.table_id }
     ensures none { result ≡ false → seat.new.me ≡ seat.old.me }
-    ensures turn { result ≡ true → (part : Part) → seat.old.me ≡ waiting part ticket → (journal : Journal) × (length journal.words ≡ part.count) × (seat.new.me ≡ having part journal (Some journal)) }
+    ensures turn { result ≡ true → (part : Part) → seat.old.me ≡ waiting part ticket → (journal : Journal)
+        × (length journal.words ≡ part.count) × (seat.new.me ≡ having part journal (Some journal)) }
 {
     // For the proof that the journal has as many words as it had.
     history_laws();
@@ -54,7 +55,8 @@ fn wait<R: Wait>(rt: &R, words: &Words, seat: &mut Seat<Option<Journal>, View>, 
     requires table { IsJournalTable words.now.table_id }
     requires waits { (part : Part) × (seat.old.me ≡ waiting part ticket) }
     ensures own { seat.new.table_id ≡ seat.old.table_id }
-    ensures turn { (part : Part) → seat.old.me ≡ waiting part ticket → (journal : Journal) × (length journal.words ≡ part.count) × (seat.new.me ≡ having part journal (Some journal)) }
+    ensures turn { (part : Part) → seat.old.me ≡ waiting part ticket → (journal : Journal)
+        × (length journal.words ≡ part.count) × (seat.new.me ≡ having part journal (Some journal)) }
 {
     for _ in rt.forever() {
         if look(words, seat, ticket) {
@@ -84,9 +86,11 @@ fn write<R: Wait>(
     step: WordStep,
 ) -> u64
     requires own { seat.old.table_id ≡ words.now.table_id }
-    requires turn { (part : Part) × (journal : Journal) × (step.word < part.count) × (length journal.words ≡ part.count) × (seat.old.me ≡ having part journal (Some journal)) }
+    requires turn { (part : Part) × (journal : Journal) × (step.word < part.count) × (length journal.words ≡ part.count)
+        × (seat.old.me ≡ having part journal (Some journal)) }
     ensures own { seat.new.table_id ≡ seat.old.table_id }
-    ensures made { (part : Part) (journal : Journal) → seat.old.me ≡ having part journal (Some journal) → (now : Journal) × Made journal thread step result now × (seat.new.me ≡ having part journal (Some now)) }
+    ensures made { (part : Part) (journal : Journal) → seat.old.me ≡ having part journal (Some journal)
+        → (now : Journal) × Made journal thread step result now × (seat.new.me ≡ having part journal (Some now)) }
 {
     let mut journal = words.exchange(seat, SLOT, None).unwrap();
     if !journal.has_room() {
@@ -103,7 +107,9 @@ fn pass_on(words: &Words, seat: &mut Seat<Option<Journal>, View>)
     requires table { IsJournalTable words.now.table_id }
     requires made { MadeStep seat.old.me }
     ensures own { seat.new.table_id ≡ seat.old.table_id }
-    ensures passed { (part : Part) (old now : Journal) (step : WordStep) (found : ℕ) → seat.old.me ≡ having part old (Some now) → Made old part.number step found now → seat.new.me ≡ idle (stepped part step found) }
+    ensures passed { (part : Part) (old now : Journal) (step : WordStep) (found : ℕ)
+        → seat.old.me ≡ having part old (Some now) → Made old part.number step found now
+        → seat.new.me ≡ idle (stepped part step found) }
 {
     // For the proof that the journal is right after the step.
     history_laws();

@@ -1,12 +1,15 @@
 -- Tests of events, and of pairs of events, as Bool: what the private functions say.
-use Rattle.std.specs.Prelude.{ℕ, ℤ, pos, ◌+◌, ◌==◌, Bool, true, false, not, ◌&&◌, ◌||◌, List, [], ◌∷◌, ◌++◌, Option, Some, None, nat_lt, if◌then◌else◌}
+use Rattle.std.specs.Prelude.{ℕ, ℤ, pos, ◌+◌, ◌==◌, Bool, true, false, not, ◌&&◌, ◌||◌, List, [], ◌∷◌, ◌++◌, Option}
+use Rattle.std.specs.Prelude.{Some, None, nat_lt, if◌then◌else◌}
 use Rattle.std.specs.List.{list_any}
 use Rattle.sharc_tree.specs.{declared.event.Act.Act, declared.event.CellAt.CellAt, declared.event.CellMode.CellMode}
 use Rattle.sharc_tree.specs.declared.event.CellMode.TheVariants.{Private, Readonly, Locked, Racy, Dynamic}
 use Rattle.sharc_tree.specs.{declared.event.Object.Object, declared.event.Object.TheVariants.{Global, Made}}
 use Rattle.sharc_tree.specs.declared.event.SourceEvent.{SourceEvent}
-use Rattle.sharc_meaning.specs.Events.{same_object, same_cell, granule_of, Access, access_by, makes, frees, begins, locks, unlocks, latest}
-use Rattle.sharc_meaning.specs.Store.{changes, is_live, meets, is_natural, spawns, is_gone, enters, takes_away, is_waiter}
+use Rattle.sharc_meaning.specs.Events.{same_object, same_cell, granule_of, Access, access_by, makes, frees, begins}
+use Rattle.sharc_meaning.specs.Events.{locks, unlocks, latest}
+use Rattle.sharc_meaning.specs.Store.{changes, is_live, meets, is_natural, spawns, is_gone, enters, takes_away}
+use Rattle.sharc_meaning.specs.Store.{is_waiter}
 use Rattle.sharc_meaning.specs.Obeys as obeys
 use Rattle.sharc_judge.specs.{declared.access.CellAccess.CellAccess, declared.history.Test.Test}
 use Rattle.sharc_judge.specs.{declared.pair.Pair.Pair, declared.pair.Until.Until, declared.rule.Rule.Rule}
@@ -81,13 +84,17 @@ disagrees b (Some a) = same_cell a.cell b.cell && not (same_mode a.mode b.mode)
 -- the granule is the same, and one of them is a write
 abbrev pub conflicts : Access → Option Access → Bool
 conflicts b None = false
-conflicts b (Some a) = is_dynamic a.mode && (same_object a.cell.object b.cell.object && (granule_of a.cell == granule_of b.cell && (a.is_write || b.is_write)))
+conflicts b (Some a) = is_dynamic a.mode && (same_object a.cell.object b.cell.object
+    && (granule_of a.cell == granule_of b.cell && (a.is_write || b.is_write)))
 
 abbrev pub pair_of : Pair → SourceEvent → List SourceEvent → Bool
-pair_of (pair.Holds c thread) d between = ((d.thread == thread) && locks c d) && not (list_any (test_of (test.Unlocks c thread)) between)
-pair_of (pair.OtherMode b) d between = disagrees (view_access b) (access_by d.act) && not (list_any (test_of (test.BeginsOrFrees b.cell.object)) between)
+pair_of (pair.Holds c thread) d between =
+    ((d.thread == thread) && locks c d) && not (list_any (test_of (test.Unlocks c thread)) between)
+pair_of (pair.OtherMode b) d between =
+    disagrees (view_access b) (access_by d.act) && not (list_any (test_of (test.BeginsOrFrees b.cell.object)) between)
 pair_of (pair.Conflicts u thread b) d between =
-    (not (d.thread == thread) && conflicts (view_access b) (access_by d.act)) && (not (list_any (test_of (test.Begins b.cell.object)) between) && not (list_any (test_of (test.Ends u d.thread)) between))
+    (not (d.thread == thread) && conflicts (view_access b) (access_by d.act)) && (not
+    (list_any (test_of (test.Begins b.cell.object)) between) && not (list_any (test_of (test.Ends u d.thread)) between))
 
 -- ---- tests of an event and those before it
 

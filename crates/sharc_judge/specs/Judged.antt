@@ -5,7 +5,8 @@ use Rattle.sharc_ctype.specs.Resolved.{Resolution}
 use Rattle.sharc_meaning.specs.Obeys.{Until, ToLive, UnderOneMode, ByOwner, Unwritten, UnderLock, ReadSharedOrOwn}
 use Rattle.sharc_meaning.specs.Store.{LegalStore}
 use Rattle.sharc_judge.specs.declared.rule.Rule.{Rule}
-use Rattle.sharc_judge.specs.declared.rule.Rule.TheVariants.{Live, OneMode, Owner, NotWritten, UnderItsLock, ReadSharedOrOneThread}
+use Rattle.sharc_judge.specs.declared.rule.Rule.TheVariants.{Live, OneMode, Owner, NotWritten, UnderItsLock}
+use Rattle.sharc_judge.specs.declared.rule.Rule.TheVariants.{ReadSharedOrOneThread}
 
 -- the events before it are a legal store, and with it they are not
 pub record IsFirstIllegal (r : Resolution) (R : List SourceEvent) (i : ℕ) : Type 0 where

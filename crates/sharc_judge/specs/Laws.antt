@@ -11,7 +11,8 @@ use Rattle.sharc_judge.specs.{Deciding.{view_until, same_mode, of_access, breaks
 
 -- no access at any place breaks the rule
 abbrev pub Unbroken : Rule → Until → List SourceEvent → Type 0
-Unbroken rule u R = (before : List SourceEvent) (e : SourceEvent) (after : List SourceEvent) (a : Access) → Stands R before e after → IsAccess e a → breaks rule u before e.thread (of_access a) ≡ false
+Unbroken rule u R = (before : List SourceEvent) (e : SourceEvent) (after : List SourceEvent) (a : Access)
+    → Stands R before e after → IsAccess e a → breaks rule u before e.thread (of_access a) ≡ false
 
 -- a rule holds exactly where no access breaks it
 abbrev pub HoldsUnbroken : Type 0

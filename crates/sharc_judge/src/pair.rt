@@ -25,7 +25,8 @@ pub enum Pair {
     Holds(CellAt, u32),
     /// It is an access of the same cell under another mode, and the object was not made, given or freed since.
     OtherMode(CellAccess),
-    /// It is an access by another thread than this, which still counts and must not be made beside the one that is given.
+    /// It is an access by another thread than this, which still counts and must not be made beside the one that is
+    /// given.
     Conflicts(Until, u32, CellAccess),
 }
 

@@ -17,7 +17,8 @@ use sharc_tree::event::{CellMode, Object, SourceEvent};
 pub enum Rule {
     /// Each access is to a global or to a live object.
     Live,
-    /// From a New or Give of an object to its next Give or Freed each cell is accessed under one mode, and a cell of a global always.
+    /// From a New or Give of an object to its next Give or Freed each cell is accessed under one mode, and a cell of a
+    /// global always.
     OneMode,
     /// A private cell is accessed by its owner alone.
     Owner,
@@ -105,7 +106,8 @@ fn holds(rule: Rule, until: Until, events: &[SourceEvent]) -> bool
 
 /// The lowest rule that does not hold, where accesses count so long; none where all hold.
 pub fn lowest_broken(events: &[SourceEvent], until: Until) -> Option<Rule>
-    ensures { MatchOption result (Obeys events.now (view_until until)) (λ rule. IsLowestBroken events.now (view_until until) rule) }
+    ensures { MatchOption result (Obeys events.now (view_until until))
+        (λ rule. IsLowestBroken events.now (view_until until) rule) }
 {
     if !holds(Rule::Live, until, events) {
         Some(Rule::Live)

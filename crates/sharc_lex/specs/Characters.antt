@@ -34,4 +34,5 @@ constant len b = record { len = len; kind = kind.Character b }
 -- what follows the first quote: a backslash with what is escaped, or one byte
 abbrev pub character : List ℕ → Option Lexeme
 character [] = None
-character (b ∷ bytes) = if b == 92 then option_map (constant 4) (behind_backslash bytes) else option_map (constant 3) (plain (b ∷ bytes))
+character (b ∷ bytes) =
+    if b == 92 then option_map (constant 4) (behind_backslash bytes) else option_map (constant 3) (plain (b ∷ bytes))

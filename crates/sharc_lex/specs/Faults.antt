@@ -36,7 +36,8 @@ abbrev pub Tells : LexFault → FaultAt Fault → Type 0
 Tells (lex.At found) told = found ≡ told
 Tells lex.Memory told = Unit {0}
 
--- What a call answers is what the grammar says: what it read, or the first fault. Only running out of memory is left open.
+-- What a call answers is what the grammar says: what it read, or the first fault. Only running out of memory is left
+-- open.
 abbrev pub Gives : {A : Type 0} → Result A LexFault → Result A (FaultAt Fault) → Type 0
 Gives (Ok made) read = read ≡ Ok made
 Gives (Err refused) read = Refuses refused read

@@ -1,6 +1,8 @@
--- The grammar of tokens. A source is lines. A line whose first byte that is no blank is a `#` is a line marker, which gives the place of
--- the next line; every other line is white space and tokens, each the longest that is there, with their places.
-use Rattle.std.specs.Prelude.{◌≡◌, ℕ, ◌+◌, ◌-◌, ◌^◌, ◌<◌, ◌≤◌, ◌==◌, List, [], ◌∷◌, ◌++◌, length, take, drop, slice_index_or, Result, Ok, Err, ok_or, if◌then◌else◌, zero, suc, codes}
+-- The grammar of tokens. A source is lines. A line whose first byte that is no blank is a `#` is a line marker, which
+-- gives the place of the next line; every other line is white space and tokens, each the longest that is there, with
+-- their places.
+use Rattle.std.specs.Prelude.{◌≡◌, ℕ, ◌+◌, ◌-◌, ◌^◌, ◌<◌, ◌≤◌, ◌==◌, List, [], ◌∷◌, ◌++◌, length, take, drop}
+use Rattle.std.specs.Prelude.{slice_index_or, Result, Ok, Err, ok_or, if◌then◌else◌, zero, suc, codes}
 use Rattle.std.specs.List.{prefix_len}
 use Rattle.sharc_tree.specs.{declared.token.FaultAt.FaultAt, declared.token.Token.Token, declared.token.Tokens.Tokens}
 use Rattle.sharc_lex.specs.{declared.fault.Fault.Fault, declared.fault.Place.Place, declared.fault.LineFault.LineFault}
@@ -13,7 +15,8 @@ abbrev pub ◌>>=◌ : {A B E : Type 0} → Result A E → (A → Result B E) �
 (Ok x) >>= f = f x
 (Err e) >>= f = Err e
 
--- The lines of a source, without the newlines between them. After the last newline there is a line too, which may be empty.
+-- The lines of a source, without the newlines between them. After the last newline there is a line too, which may be
+-- empty.
 abbrev pub in_front : ℕ → List (List ℕ) → List (List ℕ)
 in_front b [] = (b ∷ []) ∷ []
 in_front b (line ∷ lines) = (b ∷ line) ∷ lines
@@ -38,7 +41,8 @@ token place offset bytes found = record {
   line = place.line;
 }
 
--- The tokens of a line's bytes, of which the first lies at an offset. This many bytes at the front belong to the token before them.
+-- The tokens of a line's bytes, of which the first lies at an offset. This many bytes at the front belong to the token
+-- before them.
 abbrev pub tokens_of : Place → ℕ → ℕ → List ℕ → Result (List Token) LineFault
 tokens_of place taken offset [] = Ok []
 tokens_of place (suc taken) offset (b ∷ bytes) = tokens_of place taken (offset + 1) bytes
@@ -58,10 +62,11 @@ behind_tokens before (Err found) = Err found
 pub record Steps (old new : List Token) (place : Place) (offset : ℕ) (bytes : List ℕ) (len : ℕ) : Type 0 where
   pub some : 0 < len
   pub within : len ≤ length bytes
-  pub read : behind_tokens old (tokens_of place 0 offset bytes) ≡ behind_tokens new (tokens_of place 0 (offset + len) (drop len bytes))
+  pub read : behind_tokens old (tokens_of place 0 offset bytes)
+      ≡ behind_tokens new (tokens_of place 0 (offset + len) (drop len bytes))
 
--- What lines have said: their tokens, the files that they name in the order of first appearance, the place of the last of them,
--- and the place of the line after them.
+-- What lines have said: their tokens, the files that they name in the order of first appearance, the place of the last
+-- of them, and the place of the line after them.
 pub record Read : Type 0 where
   pub tokens : List Token
   pub files : List (List ℕ)
@@ -98,10 +103,12 @@ with_tokens read tokens = record {
 abbrev pub marker_line : Read → ℕ → List ℕ → Result Read LineFault
 marker_line read offset line =
     let start = prefix_len is_blank line in
-    ok_or (marker (drop (start + 1) line)) (record { offset = offset + start; fault = fault.Marker }) >>= λ found. Ok (marked read found)
+    ok_or (marker (drop (start + 1) line))
+    (record { offset = offset + start; fault = fault.Marker }) >>= λ found. Ok (marked read found)
 
 abbrev pub text_line : Read → ℕ → List ℕ → Result Read LineFault
-text_line read offset line = behind_tokens read.tokens (tokens_of read.next 0 offset line) >>= λ tokens. Ok (with_tokens read tokens)
+text_line read offset line =
+    behind_tokens read.tokens (tokens_of read.next 0 offset line) >>= λ tokens. Ok (with_tokens read tokens)
 
 abbrev pub line_read : Read → ℕ → List ℕ → Result Read LineFault
 line_read read offset line = if is_marker_line line then marker_line read offset line else text_line read offset line
@@ -123,7 +130,8 @@ with_place read (Err found) = Err (fault_at read.files read.next found)
 -- lines, of which the first begins at an offset, after what was read before them
 abbrev pub lines_read : Read → ℕ → List (List ℕ) → Result Read (FaultAt Fault)
 lines_read read offset [] = Ok read
-lines_read read offset (line ∷ lines) = with_place read (line_read read offset line) >>= λ more. lines_read more (offset + length line + 1) lines
+lines_read read offset (line ∷ lines) =
+    with_place read (line_read read offset line) >>= λ more. lines_read more (offset + length line + 1) lines
 
 -- the end of input is on the last line, and has the number of tokens
 abbrev pub tokens_read : Read → Tokens
@@ -137,7 +145,8 @@ tokens_read read = record {
 unfoldable pub reading : List ℕ → Result Tokens (FaultAt Fault)
 reading source = lines_read opening 0 (lines_of source) >>= λ read. Ok (tokens_read read)
 
--- What stays within the limits, up to an offset: each line has a byte and a newline at least, and names one file at most.
+-- What stays within the limits, up to an offset: each line has a byte and a newline at least, and names one file at
+-- most.
 pub record IsWithin (offset : ℕ) (read : Read) : Type 0 where
   pub tokens : length read.tokens ≤ offset
   pub files : length read.files ≤ offset + 1

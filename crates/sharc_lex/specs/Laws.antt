@@ -1,6 +1,8 @@
--- What holds of the tokens of a source: they are in order, each the slice of its span and the longest token there, with white space and line
--- markers alone between them, and each is in the file and the line that line markers and newlines give it.
-use Rattle.std.specs.Prelude.{◌≡◌, ℕ, ◌+◌, ◌-◌, ◌<◌, ◌≤◌, ◌⊎◌, Bool, true, List, [], ◌∷◌, length, take, slice_index, slice_index_or, slice_range, All, Contains, Some, Result, Ok}
+-- What holds of the tokens of a source: they are in order, each the slice of its span and the longest token there, with
+-- white space and line markers alone between them, and each is in the file and the line that line markers and newlines
+-- give it.
+use Rattle.std.specs.Prelude.{◌≡◌, ℕ, ◌+◌, ◌-◌, ◌<◌, ◌≤◌, ◌⊎◌, Bool, true, List, [], ◌∷◌, length, take, slice_index}
+use Rattle.std.specs.Prelude.{slice_index_or, slice_range, All, Contains, Some, Result, Ok}
 use Rattle.sharc_tree.specs.{declared.token.FaultAt.FaultAt, declared.token.Token.Token, declared.token.Tokens.Tokens}
 use Rattle.sharc_tree.specs.declared.token.TokenKind.{TokenKind}
 use Rattle.sharc_lex.specs.{declared.fault.Fault.Fault, declared.fault.LexFault.LexFault}
@@ -12,15 +14,18 @@ use Rattle.sharc_lex.specs.declared.fault.LexFault.TheVariants as lex
 -- a text that is a word, a number or a character constant as a whole, and what it is
 abbrev pub IsRun : (ℕ → Bool) → (List ℕ → Result Lexeme Fault) → List ℕ → TokenKind → Type 0
 IsRun begins read [] kind = ⊥
-IsRun begins read (b ∷ bytes) kind = (begins b ≡ true) × (read (b ∷ bytes) ≡ Ok (record { len = length (b ∷ bytes); kind = kind }))
+IsRun begins read (b ∷ bytes) kind =
+    (begins b ≡ true) × (read (b ∷ bytes) ≡ Ok (record { len = length (b ∷ bytes); kind = kind }))
 
 abbrev pub IsConstant : List ℕ → TokenKind → Type 0
 IsConstant [] kind = ⊥
 IsConstant (b ∷ bytes) kind = (b ≡ 39) × (character bytes ≡ Some (record { len = length (b ∷ bytes); kind = kind }))
 
--- The texts that are tokens: keywords, left-out words and names; numbers; character constants; and the punctuators of the tables.
+-- The texts that are tokens: keywords, left-out words and names; numbers; character constants; and the punctuators of
+-- the tables.
 abbrev pub IsToken : List ℕ → TokenKind → Type 0
-IsToken text kind = IsRun is_letter word_at text kind ⊎ (IsRun is_digit number_at text kind ⊎ (IsConstant text kind ⊎ Contains punctuators (text, kind)))
+IsToken text kind = IsRun is_letter word_at text kind
+    ⊎ (IsRun is_digit number_at text kind ⊎ (IsConstant text kind ⊎ Contains punctuators (text, kind)))
 
 -- a token at the front of the bytes, with no longer one there
 pub record IsLongest (bytes : List ℕ) (found : Lexeme) : Type 0 where

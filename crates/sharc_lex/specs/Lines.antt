@@ -1,5 +1,6 @@
 -- Lines of a source, and the file and the line in which an offset of it lies.
-use Rattle.std.specs.Prelude.{◌≡◌, ℕ, ◌+◌, ◌-◌, ◌<◌, ◌≤◌, ◌==◌, ◌⊎◌, false, List, length, take, drop, slice_index, slice_range, Option, Some, None, if◌then◌else◌, codes}
+use Rattle.std.specs.Prelude.{◌≡◌, ℕ, ◌+◌, ◌-◌, ◌<◌, ◌≤◌, ◌==◌, ◌⊎◌, false, List, length, take, drop, slice_index}
+use Rattle.std.specs.Prelude.{slice_range, Option, Some, None, if◌then◌else◌, codes}
 use Rattle.std.specs.List.{prefix_len, position_or_len, count_by}
 use Rattle.sharc_lex.specs.{Bytes.is_blank, Markers.{is_marker_line, marker}}
 
@@ -21,7 +22,8 @@ marker_of line = if is_marker_line line then marker (drop (prefix_len is_blank l
 
 -- no line marker that begins at `start` or later ends before an offset
 abbrev pub NoMarker : List ℕ → ℕ → ℕ → Type 0
-NoMarker source start k = (s : ℕ) → start ≤ s → BeginsLine source s → s + length (line_at source s) < k → is_marker_line (line_at source s) ≡ false
+NoMarker source start k = (s : ℕ) → start ≤ s → BeginsLine source s → s + length (line_at source s) < k
+    → is_marker_line (line_at source s) ≡ false
 
 -- before the first line marker the file is `input`, and its lines are counted from 1
 pub record IsUnmarked (source : List ℕ) (k : ℕ) (file : List ℕ) (line : ℕ) : Type 0 where
@@ -29,7 +31,8 @@ pub record IsUnmarked (source : List ℕ) (k : ℕ) (file : List ℕ) (line : �
   pub opening : file ≡ codes "input"
   pub counted : line ≡ 1 + newlines source 0 k
 
--- After a line marker the file is the one that it names. The line after it has the number that it gives, and each newline since then counts one.
+-- After a line marker the file is the one that it names. The line after it has the number that it gives, and each
+-- newline since then counts one.
 pub record IsMarked (source : List ℕ) (k : ℕ) (file : List ℕ) (line : ℕ) : Type 0 where
   pub start : ℕ
   pub number : ℕ

@@ -1,5 +1,6 @@
 -- Numbers, in octal, decimal and hexadecimal digits.
-use Rattle.std.specs.Prelude.{ℕ, ◌+◌, ◌-◌, ◌*◌, ◌^◌, Bool, ◌==◌, ◌&&◌, ◌||◌, nat_le, nat_lt, List, [], ◌∷◌, length, take, slice_index, Option, Some, None, option_map, if◌then◌else◌, pos}
+use Rattle.std.specs.Prelude.{ℕ, ◌+◌, ◌-◌, ◌*◌, ◌^◌, Bool, ◌==◌, ◌&&◌, ◌||◌, nat_le, nat_lt, List, [], ◌∷◌, length}
+use Rattle.std.specs.Prelude.{take, slice_index, Option, Some, None, option_map, if◌then◌else◌, pos}
 use Rattle.sharc_tree.specs.{declared.token.Number.Number, declared.token.NumberType.TheVariants.{Int, Long}}
 use Rattle.sharc_lex.specs.Bytes.{is_digit}
 
@@ -14,11 +15,15 @@ digit_value b =
 -- the value of digits of a base that come after a higher part
 abbrev pub value_behind : ℕ → ℕ → List ℕ → Option ℕ
 value_behind base high [] = Some high
-value_behind base high (d ∷ ds) = if nat_lt (digit_value d) base then value_behind base (high * base + digit_value d) ds else None
+value_behind base high (d ∷ ds) =
+    if nat_lt (digit_value d) base then value_behind base (high * base + digit_value d) ds else None
 
 -- the same number with one digit more, where it is one and the number is at most 2^63 - 1
 abbrev pub with_digit : ℕ → ℕ → ℕ → Option ℕ
-with_digit base high d = if nat_lt (digit_value d) base && nat_lt (high * base + digit_value d) (2 ^ 63) then Some (high * base + digit_value d) else None
+with_digit base high d =
+    if nat_lt (digit_value d) base && nat_lt (high * base + digit_value d) (2 ^ 63)
+    then Some (high * base + digit_value d)
+    else None
 
 -- the suffix says that the number is a long
 abbrev pub has_suffix : List ℕ → Bool

@@ -1,5 +1,6 @@
 -- What token is where a byte begins it: the longest that is one.
-use Rattle.std.specs.Prelude.{ℕ, ◌==◌, ◌<◌, ◌≤◌, length, List, ◌∷◌, take, Result, Ok, Err, ok_or, option_map, if◌then◌else◌}
+use Rattle.std.specs.Prelude.{ℕ, ◌==◌, ◌<◌, ◌≤◌, length, List, ◌∷◌, take, Result, Ok, Err, ok_or, option_map}
+use Rattle.std.specs.Prelude.{if◌then◌else◌}
 use Rattle.std.specs.List.{prefix_len}
 use Rattle.sharc_tree.specs.declared.token.TokenKind.{TokenKind}
 use Rattle.sharc_tree.specs.declared.token.TokenKind.TheVariants as kind
@@ -18,9 +19,11 @@ abbrev pub word_at : List ℕ → Result Lexeme Fault
 word_at bytes = let len = prefix_len is_word_byte bytes in of_len len (word (take len bytes))
 
 abbrev pub number_at : List ℕ → Result Lexeme Fault
-number_at bytes = let len = prefix_len is_word_byte bytes in of_len len (ok_or (option_map kind.Number (number (take len bytes))) fault.Number)
+number_at bytes = let len = prefix_len is_word_byte bytes in of_len len
+    (ok_or (option_map kind.Number (number (take len bytes))) fault.Number)
 
--- A letter begins a word, and a digit a number. A quote begins a character constant. Every other byte begins a punctuator, or no token.
+-- A letter begins a word, and a digit a number. A quote begins a character constant. Every other byte begins a
+-- punctuator, or no token.
 abbrev pub token_at : ℕ → List ℕ → Result Lexeme Fault
 token_at b bytes =
     if is_letter b then word_at (b ∷ bytes)

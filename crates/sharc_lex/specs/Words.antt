@@ -1,5 +1,6 @@
 -- Words: keywords, left-out keywords and identifiers.
-use Rattle.std.specs.Prelude.{ℕ, Bool, List, [], ◌∷◌, Option, Some, None, is_some, Result, Ok, Err, unwrap_or, if◌then◌else◌, nat_le, length, codes}
+use Rattle.std.specs.Prelude.{ℕ, Bool, List, [], ◌∷◌, Option, Some, None, is_some, Result, Ok, Err, unwrap_or}
+use Rattle.std.specs.Prelude.{if◌then◌else◌, nat_le, length, codes}
 use Rattle.std.specs.Str.{bytes_eq}
 use Rattle.sharc_tree.specs.declared.token.TokenKind.{TokenKind}
 use Rattle.sharc_tree.specs.declared.token.TokenKind.TheVariants as kind
@@ -82,4 +83,5 @@ is_keyword text = is_some (entry_at keywords text)
 
 -- a word is a keyword where the table has it, and else an identifier, of at most 64 bytes
 abbrev pub word : List ℕ → Result TokenKind Fault
-word text = if nat_le (length text) 64 then Ok (unwrap_or (entry_at keywords text) kind.Identifier) else Err fault.Identifier
+word text =
+    if nat_le (length text) 64 then Ok (unwrap_or (entry_at keywords text) kind.Identifier) else Err fault.Identifier

@@ -70,7 +70,8 @@ pub fn read_tokens(
     line: &[u8],
 ) -> Result<(), Failure>
     requires { offset + length line.now ≤ 2 ^ 20 }
-    ensures read { OnOk result (behind_tokens tokens.old.items (tokens_of place 0 offset line.now) ≡ Ok tokens.new.items) }
+    ensures read { OnOk result (behind_tokens tokens.old.items (tokens_of place 0 offset line.now)
+        ≡ Ok tokens.new.items) }
     ensures failed { IfErr result (λ e. Fails e (tokens_of place 0 offset line.now)) }
 {
     let mut at = 0;

@@ -3,7 +3,8 @@
 ghost use Rattle.std.specs.Prelude.{◌≡◌, ◌≤◌, length, option_map, if◌then◌else◌};
 ghost use Rattle.std.specs.List.{prefix_len, list_all};
 ghost use Rattle.sharc_lex.specs.Bytes.{is_blank, is_digit, behind};
-ghost use Rattle.sharc_lex.specs.Markers.{is_name_byte, is_flag, line_number, closed_name, file_name, is_marker_line, marker};
+ghost use Rattle.sharc_lex.specs.Markers.{is_name_byte, is_flag, line_number, closed_name, file_name, is_marker_line};
+ghost use Rattle.sharc_lex.specs.Markers.{marker};
 
 use crate::bytes::{is_blank, is_digit, is_printable};
 use crate::numbers::digits;

@@ -1,7 +1,8 @@
 //! Numbers (C11 6.4.4.1), decimal, octal and hexadecimal, with the suffix `l` or `L` or none.
 
 ghost use Rattle.std.specs.Prelude.{◌≡◌, ℕ, ◌^◌, ◌<◌, ◌≤◌, length, nat_lt, if◌then◌else◌, option_and_then, IfSome};
-ghost use Rattle.sharc_lex.specs.Numbers.{digit_value, value_behind, with_digit, small_value, has_suffix, without_suffix, hexadecimal, behind_zero, value, number};
+ghost use Rattle.sharc_lex.specs.Numbers.{digit_value, value_behind, with_digit, small_value, has_suffix};
+ghost use Rattle.sharc_lex.specs.Numbers.{without_suffix, hexadecimal, behind_zero, value, number};
 
 use sharc_tree::token::{Number, NumberType};
 

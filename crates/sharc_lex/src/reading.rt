@@ -5,7 +5,8 @@ ghost use Rattle.std.specs.List.{prefix_len, position_or_len};
 ghost use Rattle.sharc_lex.specs.Bytes.{is_blank};
 ghost use Rattle.sharc_lex.specs.Faults.{Fails, Tells, Refuses, Gives};
 ghost use Rattle.sharc_lex.specs.Laws.{AreTokensOf, TellsPlace};
-ghost use Rattle.sharc_lex.specs.Grammar.{IsWithin, opening, text_line, marker_line, line_read, with_place, fault_at, tokens_read, reading};
+ghost use Rattle.sharc_lex.specs.Grammar.{IsWithin, opening, text_line, marker_line, line_read, with_place, fault_at};
+ghost use Rattle.sharc_lex.specs.Grammar.{tokens_read, reading};
 
 use crate::fault::{Failure, Fault, LexFault, LineFault, Place};
 use crate::files::Files;
@@ -121,8 +122,10 @@ impl<'a> Reading<'a> {
     fn line(&mut self, alloc: Global, offset: usize, line: &'a [u8]) -> Result<(), LexFault>
         requires fits { offset + length line.now ≤ 2 ^ 20 }
         requires within { IsWithin offset (read_of self.old) }
-        ensures read { OnOk result (with_place (read_of self.old) (line_read (read_of self.old) offset line.now) ≡ Ok (read_of self.new)) }
-        ensures failed { IfErr result (λ e. Refuses e (with_place (read_of self.old) (line_read (read_of self.old) offset line.now))) }
+        ensures read { OnOk result (with_place (read_of self.old) (line_read (read_of self.old) offset line.now)
+            ≡ Ok (read_of self.new)) }
+        ensures failed { IfErr result
+            (λ e. Refuses e (with_place (read_of self.old) (line_read (read_of self.old) offset line.now))) }
     {
         let place = self.next;
         match self.either_line(alloc, offset, line) {
@@ -177,7 +180,8 @@ pub fn lex(alloc: Global, source: &[u8]) -> Result<Tokens, LexFault>
     requires { length source.now ≤ 1_048_576 }
     // The answer is the grammar's: the one reading, or the first fault. Only running out of memory is left open.
     ensures exact { Gives result (reading source.now) }
-    // What the layers above ask of tokens: each is the longest that is there, and has the file and the line of its place.
+    // What the layers above ask of tokens: each is the longest that is there, and has the file and the line of its
+    // place.
     ensures tokens { IfOk result (AreTokensOf source.now) }
     // A fault has the file and the line of its offset.
     ensures place { IfErr result (TellsPlace source.now) }

@@ -10,7 +10,11 @@ use Rattle.sharc_tree.specs.declared.tree.expression.UnaryOperator.{UnaryOperato
 use Rattle.sharc_tree.specs.declared.tree.expression.UnaryOperator.TheVariants.{Dereference}
 use Rattle.sharc_tree.specs.declared.tree.statement.Jump.{Jump}
 use Rattle.sharc_tree.specs.declared.tree.statement.Jump.TheVariants.{Break, Continue}
-use Rattle.sharc_tree.specs.Tree.{Expression, identifier, constant, parentheses, call, spawn, on_value, on_place, cast, index, field, unary, binary, Arguments, no_arguments, argument, Right, value, malloc, Simple, assign, does_call, Local, First, nothing, declares, does, Head, Statement, empty, block, declare, simple, jump, return, if_then, if_then_else, while, for, Statements, no_statements, statement, Function}
+use Rattle.sharc_tree.specs.Tree.{Expression, identifier, constant, parentheses, call, spawn, on_value, on_place, cast}
+use Rattle.sharc_tree.specs.Tree.{index, field, unary, binary, Arguments, no_arguments, argument, Right, value, malloc}
+use Rattle.sharc_tree.specs.Tree.{Simple, assign, does_call, Local, First, nothing, declares, does, Head, Statement}
+use Rattle.sharc_tree.specs.Tree.{empty, block, declare, simple, jump, return, if_then, if_then_else, while, for}
+use Rattle.sharc_tree.specs.Tree.{Statements, no_statements, statement, Function}
 use Rattle.sharc_names.specs.declared.fault.Named.{Named}
 use Rattle.sharc_names.specs.declared.fault.Named.TheVariants as named
 use Rattle.sharc_ctype.specs.Resolved.{Resolution, named_at}
@@ -83,7 +87,8 @@ abbrev mutual
   flow r (on_place s w a) = of_place_call w (place_flow r a) (nulls (variable_of r a) s.first.token)
   flow r (cast s t a) = first_then (place_flow r a) (nulls (variable_of r a) s.first.token)
   flow r (index s a i) = first_then (flow r a) (flow r i)
-  flow r (field s a w n) = first_then (of_base w (place_flow r a) (flow r a)) (reads (through w (variable_of r a)) s.first.token)
+  flow r (field s a w n) =
+      first_then (of_base w (place_flow r a) (flow r a)) (reads (through w (variable_of r a)) s.first.token)
   flow r (unary s o a) = flow r a
   flow r (binary s o at a b) = of_operands o (flow r a) (flow r b)
 
@@ -120,14 +125,16 @@ declares_flow d = acts (Writes d.name.site.token)
 
 -- a declaration is a write both before and after its initialiser
 abbrev pub local_flow : Resolution → Local → Code
-local_flow r l = first_then (declares_flow l.declaration) (first_then (of_option (right_flow r) l.initial) (declares_flow l.declaration))
+local_flow r l = first_then (declares_flow l.declaration)
+    (first_then (of_option (right_flow r) l.initial) (declares_flow l.declaration))
 
 abbrev pub first_flow : Resolution → First → Code
 first_flow r nothing = goes_on
 first_flow r (declares l) = local_flow r l
 first_flow r (does x) = simple_flow r x
 
--- a turn of a loop: the test leads past the loop, or on to the body and then the step; without a test there is no way out but a break
+-- a turn of a loop: the test leads past the loop, or on to the body and then the step; without a test there is no way
+-- out but a break
 abbrev pub turn_flow : Option Code → Code → Code → Code
 turn_flow None body step = first_then (catches body) step
 turn_flow (Some test) body step = first_then test (one_of (goes_to Broken) (first_then (catches body) step))
@@ -141,7 +148,8 @@ jump_flow Break = goes_to Broken
 jump_flow Continue = goes_to Continued
 
 abbrev pub for_flow : Resolution → Head → Code → Code
-for_flow r h body = first_then (first_flow r h.first) (repeats (turn_flow (test_flow r h.test) body (of_option (simple_flow r) h.step)))
+for_flow r h body =
+    first_then (first_flow r h.first) (repeats (turn_flow (test_flow r h.test) body (of_option (simple_flow r) h.step)))
 
 abbrev mutual
   -- both ways of a test are open

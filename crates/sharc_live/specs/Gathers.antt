@@ -8,5 +8,6 @@ use Rattle.sharc_live.specs.Uses.{IsUseAmong}
 -- the warnings of these functions are added
 pub record AddsAll (r : Resolution) (functions : List Function) (before after : List FlowWarning) : Type 0 where
   pub kept : (w : FlowWarning) → Contains before w → Contains after w
-  pub only : (k read : ℕ) → Contains after (warning read k) → Contains before (warning read k) ⊎ IsUseAmong r functions k read
+  pub only : (k read : ℕ) → Contains after (warning read k)
+      → Contains before (warning read k) ⊎ IsUseAmong r functions k read
   pub all : (k read : ℕ) → IsUseAmong r functions k read → HasWarning after k read

@@ -46,7 +46,8 @@ pub record IsWarning (r : Resolution) (w : Warning) : Type 0 where
   pub is : w ≡ warning_at r (record { read = w.read.token; since = w.nulled.token })
   pub is_use : IsUseIn r w.nulled.token w.read.token
 
--- Each read to which such a path leads has one warning, and there are no others. It names the first nulling, in source order, from which such a path leads.
+-- Each read to which such a path leads has one warning, and there are no others. It names the first nulling, in source
+-- order, from which such a path leads.
 pub record AreWarnings (r : Resolution) (list : List Warning) : Type 0 where
   pub ordered : InOrder list
   pub only : (w : Warning) → Contains list w → IsWarning r w

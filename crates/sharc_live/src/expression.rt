@@ -3,7 +3,8 @@
 ghost use Rattle.std.specs.Prelude.{◌≡◌, ◌++◌, OnOk};
 ghost use Rattle.sharc_tree.specs.View.{view_expr, view_arguments};
 ghost use Rattle.sharc_dataflow.specs.Code.{listing};
-ghost use Rattle.sharc_live.specs.Flows.{goes_on, nulls, variable_of, of_operands, of_place_call, of_base, flow, flow_all, place_flow};
+ghost use Rattle.sharc_live.specs.Flows.{goes_on, nulls, variable_of, of_operands, of_place_call, of_base, flow};
+ghost use Rattle.sharc_live.specs.Flows.{flow_all, place_flow};
 
 use crate::variable::{nulls, reads, variable_of};
 use sharc_ctype::typed::Typed;
@@ -19,7 +20,8 @@ fn on_place(
     source: &Expr,
     steps: &mut Vec<Step>,
 ) -> Result<(), AllocError>
-    ensures { OnOk result (steps.new.items ≡ steps.old.items ++ listing (of_place_call call goes_on (nulls (variable_of typed.now (view_expr source.now)) token))) }
+    ensures { OnOk result (steps.new.items ≡ steps.old.items
+        ++ listing (of_place_call call goes_on (nulls (variable_of typed.now (view_expr source.now)) token))) }
 {
     match call {
         PlaceCall::Free => nulls(variable_of(typed, source), token, steps),
@@ -94,7 +96,8 @@ fn right_operand(
     operand: &Expr,
     steps: &mut Vec<Step>,
 ) -> Result<(), AllocError>
-    ensures { OnOk result (steps.new.items ≡ steps.old.items ++ listing (of_operands operator goes_on (flow typed.now (view_expr operand.now)))) }
+    ensures { OnOk result (steps.new.items
+        ≡ steps.old.items ++ listing (of_operands operator goes_on (flow typed.now (view_expr operand.now)))) }
 {
     match operator {
         BinaryOperator::LogicalAnd | BinaryOperator::LogicalOr => {
@@ -116,7 +119,8 @@ fn field_base(
     base: &Expr,
     steps: &mut Vec<Step>,
 ) -> Result<(), AllocError>
-    ensures { OnOk result (steps.new.items ≡ steps.old.items ++ listing (of_base access (place_flow typed.now (view_expr base.now)) (flow typed.now (view_expr base.now)))) }
+    ensures { OnOk result (steps.new.items ≡ steps.old.items
+        ++ listing (of_base access (place_flow typed.now (view_expr base.now)) (flow typed.now (view_expr base.now)))) }
 {
     match access {
         Access::Dot => place(typed, base, steps),

@@ -1,11 +1,14 @@
 // The steps of statements and functions.
 
 ghost use Rattle.std.specs.Prelude.{◌≡◌, ◌++◌, OnOk, IfOk};
-ghost use Rattle.sharc_tree.specs.View.{view_expr, view_option, view_right, view_simple, view_local, view_first, view_head, view_stmt, view_statements, view_function};
+ghost use Rattle.sharc_tree.specs.View.{view_expr, view_option, view_right, view_simple, view_local, view_first};
+ghost use Rattle.sharc_tree.specs.View.{view_head, view_stmt, view_statements, view_function};
 ghost use Rattle.sharc_dataflow.specs.Code.{goes_to, first_then, listing};
 ghost use Rattle.sharc_dataflow.specs.Flow.{Ends};
 ghost use Rattle.sharc_live.specs.Turns.{if_ends, body_begins, tested_loop_ends, turn_begins, turn_ends};
-ghost use Rattle.sharc_live.specs.Flows.{of_option, flow, right_flow, simple_flow, declares_flow, local_flow, first_flow, turn_flow, test_flow, jump_flow, for_flow, statement_flow, statements_flow, parameters_flow, function_flow};
+ghost use Rattle.sharc_live.specs.Flows.{of_option, flow, right_flow, simple_flow, declares_flow, local_flow};
+ghost use Rattle.sharc_live.specs.Flows.{first_flow, turn_flow, test_flow, jump_flow, for_flow, statement_flow};
+ghost use Rattle.sharc_live.specs.Flows.{statements_flow, parameters_flow, function_flow};
 
 use crate::expression::{expression, place};
 use crate::variable::{variable_of, writes};
@@ -17,7 +20,8 @@ use sharc_tree::tree::{
 use std::alloc::{AllocError, Global};
 
 fn optional(typed: &Typed, expr: &Option<Expr>, steps: &mut Vec<Step>) -> Result<(), AllocError>
-    ensures { OnOk result (steps.new.items ≡ steps.old.items ++ listing (of_option (flow typed.now) (view_option view_expr expr.now))) }
+    ensures { OnOk result (steps.new.items
+        ≡ steps.old.items ++ listing (of_option (flow typed.now) (view_option view_expr expr.now))) }
 {
     match expr {
         None => Ok(()),
@@ -35,7 +39,8 @@ fn right(typed: &Typed, right: &Right, steps: &mut Vec<Step>) -> Result<(), Allo
 }
 
 fn simple(typed: &Typed, simple: &Simple, steps: &mut Vec<Step>) -> Result<(), AllocError>
-    ensures { OnOk result (steps.new.items ≡ steps.old.items ++ listing (simple_flow typed.now (view_simple simple.now))) }
+    ensures { OnOk result (steps.new.items
+        ≡ steps.old.items ++ listing (simple_flow typed.now (view_simple simple.now))) }
 {
     match simple {
         Simple::Assign(_, left, value) => {
@@ -55,7 +60,8 @@ fn declares(of: &Declaration, steps: &mut Vec<Step>) -> Result<(), AllocError>
 }
 
 fn initial(typed: &Typed, value: &Option<Right>, steps: &mut Vec<Step>) -> Result<(), AllocError>
-    ensures { OnOk result (steps.new.items ≡ steps.old.items ++ listing (of_option (right_flow typed.now) (view_option view_right value.now))) }
+    ensures { OnOk result (steps.new.items
+        ≡ steps.old.items ++ listing (of_option (right_flow typed.now) (view_option view_right value.now))) }
 {
     match value {
         None => Ok(()),
@@ -82,7 +88,8 @@ fn first(typed: &Typed, first: &ForFirst, steps: &mut Vec<Step>) -> Result<(), A
 }
 
 fn step(typed: &Typed, step: &Option<Simple>, steps: &mut Vec<Step>) -> Result<(), AllocError>
-    ensures { OnOk result (steps.new.items ≡ steps.old.items ++ listing (of_option (simple_flow typed.now) (view_option view_simple step.now))) }
+    ensures { OnOk result (steps.new.items
+        ≡ steps.old.items ++ listing (of_option (simple_flow typed.now) (view_option view_simple step.now))) }
 {
     match step {
         None => Ok(()),
@@ -95,7 +102,8 @@ fn returned(
     value: &Option<Box<Expr>>,
     steps: &mut Vec<Step>,
 ) -> Result<(), AllocError>
-    ensures { OnOk result (steps.new.items ≡ steps.old.items ++ listing (first_then (of_option (flow typed.now) (view_option (λ b. view_expr b.value) value.now)) (goes_to Ends))) }
+    ensures { OnOk result (steps.new.items ≡ steps.old.items ++ listing
+        (first_then (of_option (flow typed.now) (view_option (λ b. view_expr b.value) value.now)) (goes_to Ends))) }
 {
     if let Some(expr) = value {
         expression(typed, expr, steps)?;
@@ -126,7 +134,8 @@ fn ends_loop(steps: &mut Vec<Step>) -> Result<(), AllocError>
 
 /// Begins a turn, with its test if there is one.
 fn begins_turn(typed: &Typed, test: &Option<Expr>, steps: &mut Vec<Step>) -> Result<(), AllocError>
-    ensures { OnOk result (steps.new.items ≡ steps.old.items ++ turn_begins (test_flow typed.now (view_option view_expr test.now))) }
+    ensures { OnOk result (steps.new.items
+        ≡ steps.old.items ++ turn_begins (test_flow typed.now (view_option view_expr test.now))) }
 {
     match test {
         None => {
@@ -174,7 +183,8 @@ fn ends_if(steps: &mut Vec<Step>) -> Result<(), AllocError>
 
 #[cycle(statement)]
 fn statement(typed: &Typed, stmt: &Stmt, steps: &mut Vec<Step>) -> Result<(), AllocError>
-    ensures { OnOk result (steps.new.items ≡ steps.old.items ++ listing (statement_flow typed.now (view_stmt stmt.now))) }
+    ensures { OnOk result (steps.new.items
+        ≡ steps.old.items ++ listing (statement_flow typed.now (view_stmt stmt.now))) }
 {
     match stmt {
         Stmt::Empty(_) => Ok(()),
@@ -222,7 +232,8 @@ fn for_loop(
     body: &Stmt,
     steps: &mut Vec<Step>,
 ) -> Result<(), AllocError>
-    ensures { OnOk result (steps.new.items ≡ steps.old.items ++ listing (for_flow typed.now (view_head head.now) (statement_flow typed.now (view_stmt body.now)))) }
+    ensures { OnOk result (steps.new.items ≡ steps.old.items
+        ++ listing (for_flow typed.now (view_head head.now) (statement_flow typed.now (view_stmt body.now)))) }
 {
     first(typed, &head.first, steps)?;
     steps.push(Step::Head)?;
@@ -236,7 +247,8 @@ fn for_loop(
 
 #[cycle(statement)]
 fn statements(typed: &Typed, all: &[Stmt], steps: &mut Vec<Step>) -> Result<(), AllocError>
-    ensures { OnOk result (steps.new.items ≡ steps.old.items ++ listing (statements_flow typed.now (view_statements all.now))) }
+    ensures { OnOk result (steps.new.items
+        ≡ steps.old.items ++ listing (statements_flow typed.now (view_statements all.now))) }
 {
     for stmt in all {
         statement(typed, stmt, steps)?;

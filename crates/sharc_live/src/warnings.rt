@@ -107,9 +107,10 @@ fn told(alloc: Global, typed: &Typed, found: &[FlowWarning]) -> Result<Vec<Warni
     Ok(list)
 }
 
-/// A warning for each read of a local to which some path in its function leads from a sharing cast or a `free` of that local with no write of it between, in the
-/// order of the reads; it names the first such cast or `free` of the source. Both ways of each test are open, and a declaration is a write both before and
-/// after its initialiser. It is refused only when out of memory.
+/// A warning for each read of a local to which some path in its function leads from a sharing cast or a `free` of that
+/// local with no write of it between, in the order of the reads; it names the first such cast or `free` of the source.
+/// Both ways of each test are open, and a declaration is a write both before and after its initialiser. It is refused
+/// only when out of memory.
 pub fn nulled_uses(alloc: Global, checked: &Checked) -> Result<Warnings, AllocError>
     ensures { IfOk result (λ w. AreWarnings checked.now.typed w) }
 {

@@ -13,8 +13,8 @@ traced u x site call = record { use_made = u; variable = x; site = site; call = 
 abbrev pub Untouched : ℕ → ℕ → Traced → Type 0
 Untouched call x t = t.call ≡ call → t.variable ≡ x → t.use_made ≡ reads
 
--- A trace has a read of a local in some call; of the earlier writes and nullings of it in that call the last is a nulling. A variable is given by the
--- token that declares it, which is never the first of a program.
+-- A trace has a read of a local in some call; of the earlier writes and nullings of it in that call the last is a
+-- nulling. A variable is given by the token that declares it, which is never the first of a program.
 pub record ReadsNulled (trace : List Traced) (nulling read : ℕ) : Type 0 where
   pub variable : ℕ
   pub is_local : variable ≢ 0
@@ -27,14 +27,19 @@ pub record ReadsNulled (trace : List Traced) (nulling read : ℕ) : Type 0 where
   pub between : List Traced
   pub later : List Traced
   pub untouched : All (Untouched call variable) between
-  pub is : trace ≡ earlier ++ traced nulls variable null_site call ∷ (between ++ traced reads variable read_site call ∷ later)
+  pub is : trace
+      ≡ earlier ++ traced nulls variable null_site call ∷ (between ++ traced reads variable read_site call ∷ later)
 
 -- each such read has a warning, which names this nulling or an earlier one of the source
 abbrev pub SilentReadsAreSafe : Type 0
-SilentReadsAreSafe = (m : Assignment) (f : ℕ) (argument : ℤ) (answers : List ℤ) (fuel : ℕ) (list : List Warning) (nulling read : ℕ)
-    → AreWarnings m.typed list → ReadsNulled (asks m f argument answers fuel).trace nulling read → IsWarned list nulling read
+SilentReadsAreSafe =
+    (m : Assignment) (f : ℕ) (argument : ℤ) (answers : List ℤ) (fuel : ℕ) (list : List Warning) (nulling read : ℕ)
+    → AreWarnings m.typed list → ReadsNulled (asks m f argument answers fuel).trace nulling read
+    → IsWarned list nulling read
 
 -- so it is in a source run: whatever a thread of it does by the answers that it got there, with whatever fuel
 abbrev pub SilentReadsInRunsAreSafe : Type 0
-SilentReadsInRunsAreSafe = (m : Assignment) (R : List SourceEvent) (fuel thread : ℕ) (own : Follows m R fuel thread) (further : ℕ) (list : List Warning) (nulling read : ℕ) → AreWarnings m.typed list
-    → ReadsNulled (asks m own.function own.argument (answers_of (events_of thread own.after)) further).trace nulling read → IsWarned list nulling read
+SilentReadsInRunsAreSafe = (m : Assignment) (R : List SourceEvent) (fuel thread : ℕ) (own : Follows m R fuel thread)
+    (further : ℕ) (list : List Warning) (nulling read : ℕ) → AreWarnings m.typed list
+    → ReadsNulled (asks m own.function own.argument (answers_of (events_of thread own.after)) further).trace nulling
+    read → IsWarned list nulling read

@@ -6,8 +6,8 @@ ghost use Rattle.sharc_load.specs.Source.{source_of, text_of, step_line, call_li
 
 use std::alloc::{AllocError, Allocator};
 
-/// The program with this number of functions, `step0`, `step1`, .. after its globals: each of eight threads runs its number through all
-/// of them under no lock, and adds what comes out to a total under one.
+/// The program with this number of functions, `step0`, `step1`, .. after its globals: each of eight threads runs its
+/// number through all of them under no lock, and adds what comes out to a total under one.
 ///
 /// An `Err` says that memory was not found.
 pub fn make<A: Allocator>(alloc: A, functions: u32) -> Result<Vec<u8, A>, AllocError>
@@ -29,7 +29,8 @@ pub fn make<A: Allocator>(alloc: A, functions: u32) -> Result<Vec<u8, A>, AllocE
 
 // The definitions of the functions.
 fn write_steps<A: Allocator>(text: &mut String<A>, n: u32) -> Result<(), AllocError>
-    ensures { OnOk result (string_bytes text.new ≡ string_bytes text.old ++ text_of (map step_line (range_with_len 0 n))) }
+    ensures { OnOk result (string_bytes text.new
+        ≡ string_bytes text.old ++ text_of (map step_line (range_with_len 0 n))) }
 {
     for i in 0..n {
         writeln!(text, "int step{i}(int v) {{ return v + {i}; }}")?;
@@ -39,7 +40,8 @@ fn write_steps<A: Allocator>(text: &mut String<A>, n: u32) -> Result<(), AllocEr
 
 // The worker's calls of the functions.
 fn write_calls<A: Allocator>(text: &mut String<A>, n: u32) -> Result<(), AllocError>
-    ensures { OnOk result (string_bytes text.new ≡ string_bytes text.old ++ text_of (map call_line (range_with_len 0 n))) }
+    ensures { OnOk result (string_bytes text.new
+        ≡ string_bytes text.old ++ text_of (map call_line (range_with_len 0 n))) }
 {
     for i in 0..n {
         writeln!(text, "v = step{i}(v);")?;
@@ -49,7 +51,8 @@ fn write_calls<A: Allocator>(text: &mut String<A>, n: u32) -> Result<(), AllocEr
 
 // The spawns of the threads, numbered from 1.
 fn write_spawns<A: Allocator>(text: &mut String<A>) -> Result<(), AllocError>
-    ensures { OnOk result (string_bytes text.new ≡ string_bytes text.old ++ text_of (map spawn_line (range_with_len 1 8))) }
+    ensures { OnOk result (string_bytes text.new
+        ≡ string_bytes text.old ++ text_of (map spawn_line (range_with_len 1 8))) }
 {
     for k in 1..9u32 {
         writeln!(text, "int t{k} = spawn(work, {k});")?;
@@ -59,7 +62,8 @@ fn write_spawns<A: Allocator>(text: &mut String<A>) -> Result<(), AllocError>
 
 // The joins of the threads.
 fn write_joins<A: Allocator>(text: &mut String<A>) -> Result<(), AllocError>
-    ensures { OnOk result (string_bytes text.new ≡ string_bytes text.old ++ text_of (map join_line (range_with_len 1 8))) }
+    ensures { OnOk result (string_bytes text.new
+        ≡ string_bytes text.old ++ text_of (map join_line (range_with_len 1 8))) }
 {
     for k in 1..9u32 {
         writeln!(text, "join(t{k});")?;

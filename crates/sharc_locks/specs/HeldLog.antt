@@ -1,5 +1,6 @@
 -- The held log of a thread: which mutexes it holds, and what taking one and giving one up make of it.
-use Rattle.std.specs.Prelude.{◌≡◌, ◌≢◌, ℕ, ◌≤◌, ◌==◌, not, List, [], ◌∷◌, ◌++◌, Option, Some, None, length, filter, nat_lt, Any, AllPairs, if◌then◌else◌}
+use Rattle.std.specs.Prelude.{◌≡◌, ◌≢◌, ℕ, ◌≤◌, ◌==◌, not, List, [], ◌∷◌, ◌++◌, Option, Some, None, length, filter}
+use Rattle.std.specs.Prelude.{nat_lt, Any, AllPairs, if◌then◌else◌}
 use Rattle.sharc_locks.specs.declared.held_log.HeldMutex.{HeldMutex}
 
 -- some entry is of the mutex at this word

@@ -1,4 +1,5 @@
-//! Steps of several threads at one journal, and code written by hand that workers run over a journal and that is run again by its
+//! Steps of several threads at one journal, and code written by hand that workers run over a journal and that is run
+//! again by its
 
 mod bench;
 mod gates;

@@ -1,10 +1,16 @@
--- What operators make of integers, and where they stop (C11 6.5.3.3 and 6.5.5 to 6.5.12). What C leaves undefined stops (SharC's own rule).
-use Rattle.std.specs.Prelude.{ℕ, ℤ, pos, negsuc, zero, suc, ◌+◌, ◌^◌, ◌+ℤ◌, ◌-ℤ◌, ◌*ℤ◌, neg_ℤ, Bool, true, false, not, ◌&&◌, ◌||◌, Result, Ok, Err, nat_lt, int_lt, int_le, int_div, int_rem, if◌then◌else◌}
+-- What operators make of integers, and where they stop (C11 6.5.3.3 and 6.5.5 to 6.5.12). What C leaves undefined stops
+-- (SharC's own rule).
+use Rattle.std.specs.Prelude.{ℕ, ℤ, pos, negsuc, zero, suc, ◌+◌, ◌^◌, ◌+ℤ◌, ◌-ℤ◌, ◌*ℤ◌, neg_ℤ, Bool, true, false, not}
+use Rattle.std.specs.Prelude.{◌&&◌, ◌||◌, Result, Ok, Err, nat_lt, int_lt, int_le, int_div, int_rem, if◌then◌else◌}
 use Rattle.std.specs.Int.{w64, int_bit_and, int_bit_or, int_bit_xor, int_bit_not, int_shr}
 use Rattle.sharc_tree.specs.declared.ctype.Base.{Base}
 use Rattle.sharc_tree.specs.declared.ctype.Base.TheVariants.{Int, Char, Long, Mutex, Void, Struct}
 use Rattle.sharc_tree.specs.declared.tree.expression.BinaryOperator.{BinaryOperator}
-use Rattle.sharc_tree.specs.declared.tree.expression.BinaryOperator.TheVariants.{LogicalOr, LogicalAnd, BitOr, BitXor, BitAnd, Equal, NotEqual, Less, Greater, LessOrEqual, GreaterOrEqual, ShiftLeft, ShiftRight, Add, Subtract, Multiply, Divide, Remainder}
+use Rattle.sharc_tree.specs.declared.tree.expression.BinaryOperator.TheVariants.{LogicalOr, LogicalAnd, BitOr, BitXor}
+use Rattle.sharc_tree.specs.declared.tree.expression.BinaryOperator.TheVariants.{BitAnd, Equal, NotEqual, Less, Greater}
+use Rattle.sharc_tree.specs.declared.tree.expression.BinaryOperator.TheVariants.{LessOrEqual, GreaterOrEqual, ShiftLeft}
+use Rattle.sharc_tree.specs.declared.tree.expression.BinaryOperator.TheVariants.{ShiftRight, Add, Subtract, Multiply}
+use Rattle.sharc_tree.specs.declared.tree.expression.BinaryOperator.TheVariants.{Divide, Remainder}
 use Rattle.sharc_tree.specs.declared.trap.Trap.{Trap}
 use Rattle.sharc_tree.specs.declared.trap.Trap.TheVariants as traps
 use Rattle.sharc_names.specs.Kinds.{Kind, object, array, null, function, is_integer}
@@ -48,9 +54,13 @@ truth false = pos 0
 abbrev pub in_range : ℕ → ℤ → Result ℤ Trap
 in_range bits v = if is_held_by bits v then Ok v else Err traps.OutOfRange
 
--- 6.5.5p5: where the divisor is 0, or the type does not hold the quotient, `/` and `%` stop both: the least value is not divided by -1
+-- 6.5.5p5: where the divisor is 0, or the type does not hold the quotient, `/` and `%` stop both: the least value is
+-- not divided by -1
 abbrev pub divided : ℕ → ℤ → ℤ → ℤ → Result ℤ Trap
-divided bits a b result = if is_zero b then Err traps.DivisionByZero else if is_held_by bits (int_div a b) then Ok result else Err traps.OutOfRange
+divided bits a b result =
+    if is_zero b then Err traps.DivisionByZero
+    else if is_held_by bits (int_div a b) then Ok result
+    else Err traps.OutOfRange
 
 -- 6.5.7p3: the count is one of the bits of the type
 abbrev pub shifted : ℕ → ℤ → (ℕ → Result ℤ Trap) → Result ℤ Trap
@@ -60,8 +70,8 @@ shifted bits (negsuc n) by = Err traps.OutOfRange
 abbrev pub is_equal : ℤ → ℤ → Bool
 is_equal a b = int_le a b && int_le b a
 
--- An operator in a type with this many bits beside the sign. Division rounds toward zero (6.5.5p6), and `>>` of a negative number downward. `&&` and `||`
--- are here what they make of two values that are both looked at.
+-- An operator in a type with this many bits beside the sign. Division rounds toward zero (6.5.5p6), and `>>` of a
+-- negative number downward. `&&` and `||` are here what they make of two values that are both looked at.
 abbrev pub operated : ℕ → BinaryOperator → ℤ → ℤ → Result ℤ Trap
 operated bits LogicalOr a b = Ok (truth (not (is_zero a) || not (is_zero b)))
 operated bits LogicalAnd a b = Ok (truth (not (is_zero a) && not (is_zero b)))

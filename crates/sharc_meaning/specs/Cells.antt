@@ -1,5 +1,6 @@
 -- Objects and their cells: where an element and a field lie, and which mutex a lock path names.
-use Rattle.std.specs.Prelude.{ℕ, ℤ, ◌+◌, ◌==◌, Bool, List, [], ◌∷◌, length, position, Option, Some, None, unwrap_or, if◌then◌else◌}
+use Rattle.std.specs.Prelude.{ℕ, ℤ, ◌+◌, ◌==◌, Bool, List, [], ◌∷◌, length, position, Option, Some, None, unwrap_or}
+use Rattle.std.specs.Prelude.{if◌then◌else◌}
 use Rattle.std.specs.Str.{bytes_eq}
 use Rattle.sharc_tree.specs.{declared.ctype.Base.Base, declared.event.CellAt.CellAt, declared.event.CellMode.CellMode}
 use Rattle.sharc_tree.specs.declared.event.CellMode.TheVariants.{Private, Readonly, Locked, Racy, Dynamic}
@@ -65,12 +66,13 @@ field_place_named r _ = 0
 
 -- the place of the field with this name behind the variable that this token declares
 abbrev pub field_place_behind : Resolution → ℕ → List ℕ → ℕ
-field_place_behind r x name = unwrap_or (position (λ d. bytes_eq d.name.text name) (fields_behind r (declaration_at r x))) 0
+field_place_behind r x name =
+    unwrap_or (position (λ d. bytes_eq d.name.text name) (fields_behind r (declaration_at r x))) 0
 
 -- ---- lock paths
 
--- Without siblings: the name of a global mutex names its first cell, and `x->m` the mutex `m` of the first element of what `x` refers to. Where `x` is
--- NULL the path names no mutex.
+-- Without siblings: the name of a global mutex names its first cell, and `x->m` the mutex `m` of the first element of
+-- what `x` refers to. Where `x` is NULL the path names no mutex.
 
 abbrev pub through : ℤ → ℕ → Option CellAt
 through x place = if is_null x then None else Some (cell_of (Made (number_of x)) place)
@@ -81,7 +83,8 @@ mutex_named r held (named.Global n) m = Some (cell_of (Global n) 0)
 mutex_named r held (named.Variable x) (Some m) = through (held x) (field_place_behind r x m)
 mutex_named r held _ m = None
 
--- what guards a cell: a mutex, the mutex to which this pointer cell refers (its first), or nothing, where the path leads through NULL
+-- what guards a cell: a mutex, the mutex to which this pointer cell refers (its first), or nothing, where the path
+-- leads through NULL
 pub data Guard : Type 0 where
   mutex : CellAt → Guard
   behind : CellAt → Guard
@@ -97,7 +100,8 @@ guard_beside is_pointer c = if is_pointer then behind c else mutex c
 
 -- of a cell in the element that begins at this cell of this object
 abbrev pub guard_named : Resolution → (ℕ → ℤ) → Object → ℕ → Lock → Named → Guard
-guard_named r held o element l (named.Field token) = guard_beside (is_behind_pointer r l) (cell_of o (element + field_place r token))
+guard_named r held o element l (named.Field token) =
+    guard_beside (is_behind_pointer r l) (cell_of o (element + field_place r token))
 guard_named r held o element l what = guard_by (mutex_named r held what l.second)
 
 abbrev pub guard_of : Resolution → (ℕ → ℤ) → Object → ℕ → Lock → Guard

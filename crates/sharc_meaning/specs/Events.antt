@@ -1,5 +1,7 @@
--- What source events are about: cells, mutexes, objects and threads; and which of a list of events is the last of its kind.
-use Rattle.std.specs.Prelude.{◌≡◌, ℕ, ◌==◌, ◌/◌, Bool, true, false, ◌&&◌, ◌||◌, List, [], ◌∷◌, ◌++◌, filter, find, reverse, Option, Some, None, if◌then◌else◌}
+-- What source events are about: cells, mutexes, objects and threads; and which of a list of events is the last of its
+-- kind.
+use Rattle.std.specs.Prelude.{◌≡◌, ℕ, ◌==◌, ◌/◌, Bool, true, false, ◌&&◌, ◌||◌, List, [], ◌∷◌, ◌++◌, filter, find}
+use Rattle.std.specs.Prelude.{reverse, Option, Some, None, if◌then◌else◌}
 use Rattle.std.specs.List.{list_any}
 use Rattle.sharc_tree.specs.declared.event.Act.{Act}
 use Rattle.sharc_tree.specs.declared.event.Act.TheVariants.{Read, Write, New, Take, Give, Freed, Lock, Unlock}

@@ -1,5 +1,6 @@
 -- The values of expressions: one clause for each form.
-use Rattle.std.specs.Prelude.{ℕ, ℤ, pos, Bool, true, false, not, List, [], ◌∷◌, drop, Some, Result, Ok, Err, if◌then◌else◌}
+use Rattle.std.specs.Prelude.{ℕ, ℤ, pos, Bool, true, false, not, List, [], ◌∷◌, drop, Some, Result, Ok, Err}
+use Rattle.std.specs.Prelude.{if◌then◌else◌}
 use Rattle.sharc_tree.specs.{declared.event.Act.Act, declared.event.Object.TheVariants.Global}
 use Rattle.sharc_tree.specs.declared.event.TakeKind.{TakeKind}
 use Rattle.sharc_tree.specs.{declared.event.TakeKind.TheVariants.{Cast, Free as ToFree}, declared.token.Site.Site}
@@ -12,7 +13,8 @@ use Rattle.sharc_tree.specs.declared.tree.expression.UnaryOperator.TheVariants.{
 use Rattle.sharc_tree.specs.declared.tree.expression.ValueCall.{ValueCall}
 use Rattle.sharc_tree.specs.{declared.tree.expression.ValueCall.TheVariants.{Join, Print}, declared.trap.Trap.Trap}
 use Rattle.sharc_tree.specs.Spans.{span_of}
-use Rattle.sharc_tree.specs.Tree.{Expression, identifier, constant, parentheses, call, spawn, on_value, on_place, cast, index, field, unary, binary, Arguments, no_arguments, argument}
+use Rattle.sharc_tree.specs.Tree.{Expression, identifier, constant, parentheses, call, spawn, on_value, on_place, cast}
+use Rattle.sharc_tree.specs.Tree.{index, field, unary, binary, Arguments, no_arguments, argument}
 use Rattle.sharc_tree.specs.declared.event.Act.TheVariants as acts
 use Rattle.sharc_tree.specs.declared.trap.Trap.TheVariants as traps
 use Rattle.sharc_names.specs.{declared.fault.Named.Named, Kinds.{Kind, declared_kinds, promoted}}
@@ -22,8 +24,10 @@ use Rattle.sharc_ctype.specs.Transfers.{parameters_named}
 use Rattle.sharc_mode.specs.{Cells.{cell_at, pointed}, Moded.Assignment, Rows.cast_row, Sharings.Sharing}
 use Rattle.sharc_meaning.specs.Arithmetic.{bits_of, fits, is_zero, truth, operated, negated, complement}
 use Rattle.sharc_meaning.specs.Reference.{is_null, constant_value}
-use Rattle.sharc_meaning.specs.State.{Run, Step, ◌>>=◌, ◌>>◌, give, done, stop, unless_stop, entered, answered, performs, drops, holds, moves, temporarily, reads_variable}
-use Rattle.sharc_meaning.specs.Places.{Place, cell, no_place, place_named, index_place, pointee_place, field_place, unary_place, fetched, taken_from, cast_to, freed}
+use Rattle.sharc_meaning.specs.State.{Run, Step, ◌>>=◌, ◌>>◌, give, done, stop, unless_stop, entered, answered}
+use Rattle.sharc_meaning.specs.State.{performs, drops, holds, moves, temporarily, reads_variable}
+use Rattle.sharc_meaning.specs.Places.{Place, cell, no_place, place_named, index_place, pointee_place, field_place}
+use Rattle.sharc_meaning.specs.Places.{unary_place, fetched, taken_from, cast_to, freed}
 use Rattle.sharc_meaning.specs.Waiting.{lock_call, unlock_call, condition_call}
 
 -- a call of the function of this number, from this place, with these arguments
@@ -153,7 +157,8 @@ binary_value r at o a b of_a of_b = temporarily (do
 abbrev mutual
   -- the value of an expression, 0 where it has none
   pub eval : Calls → Assignment → Expression → Run ℤ
-  eval on_call m (identifier s i) = entered (named_value m.typed (cell_at m (identifier s i)) i.site (named_at m.typed i.site.token))
+  eval on_call m (identifier s i) =
+      entered (named_value m.typed (cell_at m (identifier s i)) i.site (named_at m.typed i.site.token))
   eval on_call m (constant s c) = entered (give (constant_value c))
   eval on_call m (parentheses s a) = entered (eval on_call m a)
   eval on_call m (call s f all) = entered (temporarily (do
@@ -165,8 +170,10 @@ abbrev mutual
     place_called m s w a (place_of on_call m (span_of a).first a)
     give (pos 0))
   eval on_call m (cast s t a) = entered (cast_value m s a (place_of on_call m (span_of a).first a))
-  eval on_call m (index s a i) = entered (place_value m (index s a i) (index_place m.typed s.first a (place_of on_call m s.first a) (eval on_call m a) (eval on_call m i)))
-  eval on_call m (field s a w n) = entered (place_value m (field s a w n) (field_place m.typed s.first a w (named_at m.typed n.site.token) (place_of on_call m s.first a) (eval on_call m a)))
+  eval on_call m (index s a i) = entered (place_value m (index s a i)
+      (index_place m.typed s.first a (place_of on_call m s.first a) (eval on_call m a) (eval on_call m i)))
+  eval on_call m (field s a w n) = entered (place_value m (field s a w n) (field_place m.typed s.first a w
+      (named_at m.typed n.site.token) (place_of on_call m s.first a) (eval on_call m a)))
   eval on_call m (unary s o a) = entered (unary_value m s o a (eval on_call m a))
   eval on_call m (binary s o at a b) = entered (binary_value m.typed at o a b (eval on_call m a) (eval on_call m b))
 
@@ -182,7 +189,9 @@ abbrev mutual
   pub place_of : Calls → Assignment → Site → Expression → Run Place
   place_of on_call m site (identifier s i) = entered (give (place_named (named_at m.typed i.site.token)))
   place_of on_call m site (parentheses s a) = entered (place_of on_call m site a)
-  place_of on_call m site (index s a i) = entered (index_place m.typed site a (place_of on_call m site a) (eval on_call m a) (eval on_call m i))
-  place_of on_call m site (field s a w n) = entered (field_place m.typed site a w (named_at m.typed n.site.token) (place_of on_call m site a) (eval on_call m a))
+  place_of on_call m site (index s a i) =
+      entered (index_place m.typed site a (place_of on_call m site a) (eval on_call m a) (eval on_call m i))
+  place_of on_call m site (field s a w n) = entered
+      (field_place m.typed site a w (named_at m.typed n.site.token) (place_of on_call m site a) (eval on_call m a))
   place_of on_call m site (unary s o a) = entered (unary_place m.typed site o a (eval on_call m a))
   place_of on_call m site _ = entered (give no_place)

@@ -1,5 +1,6 @@
 -- What the text of a function means: the events that a thread of it asks for.
-use Rattle.std.specs.Prelude.{ℕ, ℤ, zero, suc, pos, ◌+◌, nat_lt, not, List, [], ◌∷◌, length, count_by, Option, Some, None}
+use Rattle.std.specs.Prelude.{ℕ, ℤ, zero, suc, pos, ◌+◌, nat_lt, not, List, [], ◌∷◌, length, count_by, Option, Some}
+use Rattle.std.specs.Prelude.{None}
 use Rattle.sharc_tree.specs.declared.event.Act.TheVariants as acts
 use Rattle.sharc_tree.specs.{declared.event.SourceEvent.SourceEvent, declared.token.Site.Site}
 use Rattle.sharc_tree.specs.{declared.tree.declaration.Declaration.Declaration, Tree.Function}
@@ -8,7 +9,9 @@ use Rattle.sharc_names.specs.Kinds.{is_pointer, declared_kind}
 use Rattle.sharc_ctype.specs.Resolved.{function_at}
 use Rattle.sharc_mode.specs.Moded.{Assignment}
 use Rattle.sharc_meaning.specs.{declared.given.GivenUp.GivenUp, Events.held_mutexes}
-use Rattle.sharc_meaning.specs.State.{Frame, Traced, State, Outcome, ended, Out, go, over, Run, Step, ◌>>=◌, ◌>>◌, give, done, stop, unless_stop, entered, performs, without_temporaries, looks_at, begins_with, in_block, held_references}
+use Rattle.sharc_meaning.specs.State.{Frame, Traced, State, Outcome, ended, Out, go, over, Run, Step, ◌>>=◌, ◌>>◌, give}
+use Rattle.sharc_meaning.specs.State.{done, stop, unless_stop, entered, performs, without_temporaries, looks_at}
+use Rattle.sharc_meaning.specs.State.{begins_with, in_block, held_references}
 use Rattle.sharc_meaning.specs.{Expressions.Calls, Statements.{Flow, returned, exec_all}}
 
 -- ---- calls and threads
@@ -66,7 +69,8 @@ abbrev pub calls : Assignment → ℕ → Calls
 calls m zero f site vs = stop traps.CallDepth site
 calls m (suc n) f site vs = call_value (calls m n) m (function_at m.typed f) vs
 
--- A thread returns where it holds no mutex, and is then gone: both are at the name of its function, and the stop where the body was left.
+-- A thread returns where it holds no mutex, and is then gone: both are at the name of its function, and the stop where
+-- the body was left.
 abbrev pub goes_away : Site → Site → Step
 goes_away name site = do
   own ← looks_at (λ s. s.events)
@@ -83,7 +87,8 @@ run_thread m (Some f) v = do
 
 -- ---- what a thread asks for
 
--- its events after Started, how far it came, what it holds there, what it gave up since its last event, and what it did with variables
+-- its events after Started, how far it came, what it holds there, what it gave up since its last event, and what it did
+-- with variables
 pub record Asked : Type 0 where
   pub events : List SourceEvent
   pub outcome : Outcome
@@ -92,7 +97,8 @@ pub record Asked : Type 0 where
   pub trace : List Traced
 
 abbrev pub asked_at : Outcome → State → Asked
-asked_at o s = record { events = s.events; outcome = o; held = held_references s; given_up = s.given_up; trace = s.trace }
+asked_at o s =
+    record { events = s.events; outcome = o; held = held_references s; given_up = s.given_up; trace = s.trace }
 
 abbrev pub asked_by : {A : Type 0} → Out A → Asked
 asked_by (go x s) = asked_at ended s
@@ -102,7 +108,16 @@ abbrev pub no_frame : Frame
 no_frame = record { call = 0; variables = []; temporaries = [] }
 
 abbrev pub start : List ℤ → ℕ → State
-start answers fuel = record { frame = no_frame; callers = []; answers = answers; events = []; fuel = fuel; calls = 0; given_up = []; trace = [] }
+start answers fuel = record {
+  frame = no_frame;
+  callers = [];
+  answers = answers;
+  events = [];
+  fuel = fuel;
+  calls = 0;
+  given_up = [];
+  trace = [];
+}
 
 -- of a thread with this function and argument, by these answers and with this fuel
 abbrev pub asks : Assignment → ℕ → ℤ → List ℤ → ℕ → Asked

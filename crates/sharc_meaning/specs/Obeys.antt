@@ -6,7 +6,8 @@ use Rattle.sharc_tree.specs.declared.event.CellMode.TheVariants.{Private, Readon
 use Rattle.sharc_tree.specs.{declared.event.Object.Object, declared.event.Object.TheVariants.{Global, Made}}
 use Rattle.sharc_tree.specs.declared.event.SourceEvent.{SourceEvent}
 use Rattle.sharc_mode.specs.Moded.{Assignment}
-use Rattle.sharc_meaning.specs.Events.{granule_of, Access, access_by, begins, frees, Stands, events_of, latest, holds_mutex}
+use Rattle.sharc_meaning.specs.Events.{granule_of, Access, access_by, begins, frees, Stands, events_of, latest}
+use Rattle.sharc_meaning.specs.Events.{holds_mutex}
 use Rattle.sharc_meaning.specs.{Runs.SourceRun, Store.{is_live, meets}}
 
 abbrev pub History : Type 0
@@ -28,9 +29,10 @@ ends until_return Return = true
 ends until_gone Gone = true
 ends _ _ = false
 
--- The access is in the access set of a granule of an object, after these events: it is of mode dynamic, the object had no New and no Give since,
--- and neither had its thread the end that is given.
-pub record AccessSet (R : History) (o : Object) (granule : ℕ) (until : Until) (e : SourceEvent) (a : Access) : Type 0 where
+-- The access is in the access set of a granule of an object, after these events: it is of mode dynamic, the object had
+-- no New and no Give since, and neither had its thread the end that is given.
+pub record AccessSet (R : History) (o : Object) (granule : ℕ) (until : Until) (e : SourceEvent)
+    (a : Access) : Type 0 where
   pub before : History
   pub after : History
   pub stands : Stands R before e after
@@ -50,11 +52,14 @@ IsThere before (Made n) = is_live before (Made n) ≡ true
 
 -- 1: each access is to a global or to a live object
 abbrev pub ToLive : History → Type 0
-ToLive R = (before : History) (e : SourceEvent) (after : History) (a : Access) → Stands R before e after → IsAccess e a → IsThere before a.cell.object
+ToLive R = (before : History) (e : SourceEvent) (after : History) (a : Access) → Stands R before e after → IsAccess e a
+    → IsThere before a.cell.object
 
--- 2: from a New or Give of an object to its next Give or Freed each cell is accessed under one mode, and a cell of a global always
+-- 2: from a New or Give of an object to its next Give or Freed each cell is accessed under one mode, and a cell of a
+-- global always
 abbrev pub UnderOneMode : History → Type 0
-UnderOneMode R = (before : History) (d : SourceEvent) (between : History) (e : SourceEvent) (after : History) (a b : Access)
+UnderOneMode R =
+    (before : History) (d : SourceEvent) (between : History) (e : SourceEvent) (after : History) (a b : Access)
     → R ≡ before ++ d ∷ (between ++ e ∷ after) → IsAccess d a → IsAccess e b → a.cell ≡ b.cell
     → list_any (λ x. begins a.cell.object x || frees a.cell.object x) between ≡ false → a.mode ≡ b.mode
 
@@ -65,22 +70,27 @@ is_owner before (Made n) thread = meets (λ e. e.thread == thread) (latest (begi
 
 -- 3: a private cell is accessed by its owner alone
 abbrev pub ByOwner : History → Type 0
-ByOwner R = (before : History) (e : SourceEvent) (after : History) (a : Access) → Stands R before e after → IsAccess e a → a.mode ≡ Private
+ByOwner R = (before : History) (e : SourceEvent) (after : History) (a : Access) → Stands R before e after → IsAccess e a
+    → a.mode ≡ Private
     → is_owner before a.cell.object e.thread ≡ true
 
 -- 4: no write is made under mode readonly
 abbrev pub Unwritten : History → Type 0
-Unwritten R = (before : History) (e : SourceEvent) (after : History) (a : Access) → Stands R before e after → IsAccess e a → a.mode ≡ Readonly → a.is_write ≡ false
+Unwritten R = (before : History) (e : SourceEvent) (after : History) (a : Access) → Stands R before e after
+    → IsAccess e a → a.mode ≡ Readonly → a.is_write ≡ false
 
 -- 5: at an access under a lock the thread holds that mutex
 abbrev pub UnderLock : History → Type 0
-UnderLock R = (before : History) (e : SourceEvent) (after : History) (a : Access) (mutex : CellAt) → Stands R before e after → IsAccess e a → a.mode ≡ Locked (Some mutex)
+UnderLock R = (before : History) (e : SourceEvent) (after : History) (a : Access) (mutex : CellAt)
+    → Stands R before e after → IsAccess e a → a.mode ≡ Locked (Some mutex)
     → holds_mutex (events_of e.thread before) mutex ≡ true
 
 -- 6: at no place does an access set hold accesses by two threads of which one is a write
 abbrev pub ReadSharedOrOwn : History → Until → Type 0
-ReadSharedOrOwn R until = (earlier later : History) (o : Object) (granule : ℕ) (d e : SourceEvent) (a b : Access) → R ≡ earlier ++ later
-    → AccessSet earlier o granule until d a → AccessSet earlier o granule until e b → d.thread ≢ e.thread → (a.is_write || b.is_write) ≡ false
+ReadSharedOrOwn R until = (earlier later : History) (o : Object) (granule : ℕ) (d e : SourceEvent) (a b : Access)
+    → R ≡ earlier ++ later
+    → AccessSet earlier o granule until d a → AccessSet earlier o granule until e b → d.thread ≢ e.thread
+    → (a.is_write || b.is_write) ≡ false
 
 pub record Obeys (R : History) (until : Until) : Type 0 where
   pub live : ToLive R

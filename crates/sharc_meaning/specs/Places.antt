@@ -15,10 +15,13 @@ use Rattle.sharc_names.specs.{declared.fault.Named.Named, Kinds.{Kind, is_array,
 use Rattle.sharc_names.specs.declared.fault.Named.TheVariants as named
 use Rattle.sharc_ctype.specs.Resolved.{Resolution, global_at, kind_at}
 use Rattle.sharc_mode.specs.Sharings.{Sharing, private, readonly, locked, racy, dynamic}
-use Rattle.sharc_meaning.specs.Cells.{cell_of, element_cells, global_elements, field_place_named, Guard, mutex, behind, nothing as no_mutex, guard_of, instance_mode}
+use Rattle.sharc_meaning.specs.Cells.{cell_of, element_cells, global_elements, field_place_named, Guard, mutex, behind}
+use Rattle.sharc_meaning.specs.Cells.{nothing as no_mutex, guard_of, instance_mode}
 use Rattle.sharc_meaning.specs.Reference.{NULL, is_null, number_of, elements_of}
 use Rattle.sharc_meaning.specs.declared.given.GivenUp.TheVariants.{Replaced, Emptied}
-use Rattle.sharc_meaning.specs.State.{nulls, Run, Step, ◌>>=◌, ◌>>◌, give, done, stop, unless_stop, answered, performs, gives_up, drops, holds, holds_reference, moves, moves_on, value_of, looks_at, traces, sets, reads_variable, writes_variable}
+use Rattle.sharc_meaning.specs.State.{nulls, Run, Step, ◌>>=◌, ◌>>◌, give, done, stop, unless_stop, answered, performs}
+use Rattle.sharc_meaning.specs.State.{gives_up, drops, holds, holds_reference, moves, moves_on, value_of, looks_at}
+use Rattle.sharc_meaning.specs.State.{traces, sets, reads_variable, writes_variable}
 
 -- ---- places
 
@@ -51,11 +54,13 @@ based site kind p = do
 
 -- an element with this many cells, of this many elements; an index outside stops
 abbrev pub element : Site → Object → ℕ → ℕ → ℤ → Run Place
-element site o cells elements (pos n) = if nat_lt n elements then give (cell o (n * cells) (n * cells)) else stop traps.IndexOutOfBounds site
+element site o cells elements (pos n) =
+    if nat_lt n elements then give (cell o (n * cells) (n * cells)) else stop traps.IndexOutOfBounds site
 element site o cells elements (negsuc n) = stop traps.IndexOutOfBounds site
 
 abbrev pub element_of_array : Resolution → Site → ℕ → Place → ℤ → Run Place
-element_of_array r site cells (cell (Global g) first c) i = element site (Global g) cells (global_elements (global_at r g)) i
+element_of_array r site cells (cell (Global g) first c) i =
+    element site (Global g) cells (global_elements (global_at r g)) i
 element_of_array r site cells _ i = give no_place
 
 -- `a[i]`: of a global array, or of what a pointer refers to; the base is looked at before the index
@@ -94,8 +99,8 @@ unary_place r site _ a pointer = give no_place
 
 -- ---- accesses
 
--- A mutex to which a pointer cell refers is found by a Read of that cell, the last event before the access. Where a path leads through NULL the access
--- stops.
+-- A mutex to which a pointer cell refers is found by a Read of that cell, the last event before the access. Where a
+-- path leads through NULL the access stops.
 abbrev pub guarding : Site → Guard → Run CellAt
 guarding site (mutex c) = give c
 guarding site (behind c) = do
@@ -135,8 +140,8 @@ stored r site kind mode (cell o first c) v = do
   moves kind
   if is_pointer kind then gives_up (Replaced (cell_of o c) ∷ []) else done
 
--- What a sharing cast or `free` takes away; the place is NULL from then on. A variable that is NULL asks for nothing, and the answer of its Take is the
--- reference that it holds. The nulling is placed at the token of the construct.
+-- What a sharing cast or `free` takes away; the place is NULL from then on. A variable that is NULL asks for nothing,
+-- and the answer of its Take is the reference that it holds. The nulling is placed at the token of the construct.
 abbrev pub nulled : Site → ℕ → Step
 nulled token x = do
   traces nulls x token

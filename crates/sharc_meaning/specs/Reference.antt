@@ -1,4 +1,5 @@
--- Values: integers, and references: NULL, or the number of an object with its number of elements. A reference is one integer too, and NULL is 0.
+-- Values: integers, and references: NULL, or the number of an object with its number of elements. A reference is one
+-- integer too, and NULL is 0.
 use Rattle.std.specs.Prelude.{ℕ, ℤ, pos, ◌+◌, ◌*◌, ◌/◌, ◌%◌, ◌^◌, Bool, unsigned_abs}
 use Rattle.sharc_tree.specs.declared.tree.expression.Constant.{Constant}
 use Rattle.sharc_tree.specs.declared.tree.expression.Constant.TheVariants.{Number, Character, Null}

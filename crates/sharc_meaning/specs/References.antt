@@ -1,5 +1,7 @@
 -- The references to an object: what holds one after a list of events, by a scan of the whole state.
-use Rattle.std.specs.Prelude.{◌≡◌, ◌⊎◌, ℕ, ℤ, ◌≤◌, ◌<◌, ◌==◌, ◌%◌, Bool, true, false, not, ◌&&◌, ◌||◌, List, [], ◌∷◌, length, count_by, filter_map, flat_map, Any, slice_index_or, Option, Some, None, if◌then◌else◌}
+use Rattle.std.specs.Prelude.{◌≡◌, ◌⊎◌, ℕ, ℤ, ◌≤◌, ◌<◌, ◌==◌, ◌%◌, Bool, true, false, not, ◌&&◌, ◌||◌, List, [], ◌∷◌}
+use Rattle.std.specs.Prelude.{length, count_by, filter_map, flat_map, Any, slice_index_or, Option, Some, None}
+use Rattle.std.specs.Prelude.{if◌then◌else◌}
 use Rattle.std.specs.{List.list_any, Str.bytes_eq}
 use Rattle.sharc_tree.specs.{declared.ctype.Base.Base, declared.ctype.Base.TheVariants.Struct, declared.event.Act.Act}
 use Rattle.sharc_tree.specs.{declared.event.Act.TheVariants.{Take, Spawn}, declared.event.CellAt.CellAt}
@@ -46,7 +48,8 @@ made_at token (malloc s n w) = if s.first.token == token then Some w else None
 
 -- the types of the objects that the malloc at this token makes
 abbrev pub types_made : Resolution → ℕ → List WrittenType
-types_made r token = filter_map (λ t. made_at token t.source) (flat_map (function_transfers r) (functions_in r.program.items))
+types_made r token =
+    filter_map (λ t. made_at token t.source) (flat_map (function_transfers r) (functions_in r.program.items))
 
 abbrev pub is_pointer_of_global : Resolution → Option GlobalDefinition → ℕ → Bool
 is_pointer_of_global r None cell = false
@@ -79,8 +82,8 @@ takes_to_free (Made n) e = taken_to_free e.act && refers n e.answer
 abbrev pub is_taken_to_free : List SourceEvent → ℕ → Bool
 is_taken_to_free R n = meets (takes_to_free (Made n)) (latest (λ e. makes (Made n) e || takes_to_free (Made n) e) R)
 
--- The cells of this object count among the references to the object of this number: it is a global, or it is live. The cells of an object that a `free` has
--- taken are left out, but for those that refer to itself.
+-- The cells of this object count among the references to the object of this number: it is a global, or it is live. The
+-- cells of an object that a `free` has taken are left out, but for those that refer to itself.
 abbrev pub Counts : List SourceEvent → ℕ → Object → Type 0
 Counts R n (Global g) = Unit {0}
 Counts R n (Made k) = (is_live R (Made k) ≡ true) × ((k ≡ n) ⊎ (is_taken_to_free R k ≡ false))
@@ -93,14 +96,16 @@ pub record Begun (m : Assignment) (R : List SourceEvent) (thread : ℕ) : Type 0
   pub own : Follows m R fuel thread
 
 abbrev pub asked_with : {m : Assignment} {R : List SourceEvent} {thread : ℕ} → Begun m R thread → ℕ → Asked
-asked_with {m} {R} {thread} b fuel = asks m b.own.function b.own.argument (answers_of (events_of thread b.own.after)) fuel
+asked_with {m} {R} {thread} b fuel =
+    asks m b.own.function b.own.argument (answers_of (events_of thread b.own.after)) fuel
 
 -- how many of the pointers that it holds refer to the object
 abbrev pub held_count : Asked → ℕ → ℕ
 held_count a n = count_by (refers n) a.held
 
--- It holds more than `which` references to the object where there is a fuel from which on it holds more than `which`, at every fuel. At its next want, its
--- stop or its end more fuel changes nothing, so these are the references that it holds there; and a thread that comes to none of these holds what it never gives up.
+-- It holds more than `which` references to the object where there is a fuel from which on it holds more than `which`,
+-- at every fuel. At its next want, its stop or its end more fuel changes nothing, so these are the references that it
+-- holds there; and a thread that comes to none of these holds what it never gives up.
 pub record ThreadHolds (m : Assignment) (R : List SourceEvent) (thread which n : ℕ) : Type 0 where
   pub begun : Begun m R thread
   pub from : ℕ
@@ -108,8 +113,8 @@ pub record ThreadHolds (m : Assignment) (R : List SourceEvent) (thread which n :
 
 -- ---- the references
 
--- what may hold a reference: a pointer cell, the argument of a thread that is not started, a mutex that is held, and a thread, which may hold several: these are
--- counted from 0
+-- what may hold a reference: a pointer cell, the argument of a thread that is not started, a mutex that is held, and a
+-- thread, which may hold several: these are counted from 0
 pub data Holder : Type 0 where
   in_cell : CellAt → Holder
   in_argument : ℕ → Holder

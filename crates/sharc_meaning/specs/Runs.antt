@@ -1,5 +1,6 @@
 -- Source runs: legal stores in which each thread asks for the events that are its own. Nothing is checked in them.
-use Rattle.std.specs.Prelude.{◌≡◌, ◌≢◌, ◌⊎◌, IsTrue, ℕ, ℤ, pos, Bool, false, List, [], map, Any, Option, Some, None, codes}
+use Rattle.std.specs.Prelude.{◌≡◌, ◌≢◌, ◌⊎◌, IsTrue, ℕ, ℤ, pos, Bool, false, List, [], map, Any, Option, Some, None}
+use Rattle.std.specs.Prelude.{codes}
 use Rattle.std.specs.Str.{bytes_eq}
 use Rattle.sharc_tree.specs.{declared.event.Act.TheVariants.{Spawn, Started}, declared.event.SourceEvent.SourceEvent}
 use Rattle.sharc_tree.specs.{declared.token.Site.Site, Tree.Function}
@@ -33,8 +34,8 @@ abbrev pub IsNamedAt : Option Function → Site → Type 0
 IsNamedAt None site = ⊥
 IsNamedAt (Some f) site = site ≡ f.name.site
 
--- With this fuel a thread that was started asks for exactly the events that it has after its Started, by their answers. Its Started is at the name of
--- its function.
+-- With this fuel a thread that was started asks for exactly the events that it has after its Started, by their answers.
+-- Its Started is at the name of its function.
 pub record Follows (m : Assignment) (R : List SourceEvent) (fuel thread : ℕ) : Type 0 where
   pub function : ℕ
   pub argument : ℤ
@@ -48,7 +49,8 @@ pub record Follows (m : Assignment) (R : List SourceEvent) (fuel thread : ℕ) :
   pub answer : begins.answer ≡ pos 0
   pub site : IsNamedAt (function_at m.typed function) begins.site
   pub by_right : IsFirst m.typed thread function argument ⊎ IsSpawned before thread function argument
-  pub asked : map (by thread) (asks m function argument (answers_of (events_of thread after)) fuel).events ≡ events_of thread after
+  pub asked : map (by thread) (asks m function argument (answers_of (events_of thread after)) fuel).events
+      ≡ events_of thread after
 
 -- a thread has no event, or there is a fuel with which it asks for what it has
 pub record SourceRun (m : Assignment) (R : List SourceEvent) : Type 0 where

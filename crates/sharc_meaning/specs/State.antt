@@ -1,5 +1,6 @@
 -- A thread on its way through its text: what it has, and the few things that it does, of which its meaning is made.
-use Rattle.std.specs.Prelude.{ℕ, zero, suc, ℤ, pos, ◌==◌, ◌-◌, Bool, true, false, ◌||◌, List, [], ◌∷◌, ◌++◌, length, take, drop, map, reverse, flat_map, if◌then◌else◌}
+use Rattle.std.specs.Prelude.{ℕ, zero, suc, ℤ, pos, ◌==◌, ◌-◌, Bool, true, false, ◌||◌, List, [], ◌∷◌, ◌++◌, length}
+use Rattle.std.specs.Prelude.{take, drop, map, reverse, flat_map, if◌then◌else◌}
 use Rattle.sharc_tree.specs.{declared.event.Act.Act, declared.event.Act.TheVariants.{Read, New, Take, Spawn, Signal}}
 use Rattle.sharc_tree.specs.{declared.event.Taken.TheVariants.{Cell, Local}, declared.event.CellAt.CellAt}
 use Rattle.sharc_tree.specs.{declared.event.SourceEvent.SourceEvent, declared.token.Site.Site}
@@ -10,7 +11,8 @@ use Rattle.sharc_meaning.specs.{declared.variable.Variable.Variable, Reference.n
 
 -- ---- what it has
 
--- the frame of a call: the number of the call, the variables that exist, in the order of their declarations, and the pointers that temporaries hold
+-- the frame of a call: the number of the call, the variables that exist, in the order of their declarations, and the
+-- pointers that temporaries hold
 pub record Frame : Type 0 where
   pub call : ℕ
   pub variables : List Variable
@@ -31,8 +33,9 @@ pub record Traced : Type 0 where
   pub site : Site
   pub call : ℕ
 
--- The frame of the innermost call, and those of its callers, the nearest first; the answers that are left, the events so far, and how many statements and
--- expressions may still be entered; how many calls were made; what was given up since the last event; and what was done with variables.
+-- The frame of the innermost call, and those of its callers, the nearest first; the answers that are left, the events
+-- so far, and how many statements and expressions may still be entered; how many calls were made; what was given up
+-- since the last event; and what was done with variables.
 pub record State : Type 0 where
   pub frame : Frame
   pub callers : List Frame
@@ -45,7 +48,8 @@ pub record State : Type 0 where
 
 -- ---- runs
 
--- how it comes to an end: it wants an event for which there is no answer, it is gone, it is stopped by a trap, or the fuel is spent
+-- how it comes to an end: it wants an event for which there is no answer, it is gone, it is stopped by a trap, or the
+-- fuel is spent
 pub data Outcome : Type 0 where
   wants : SourceEvent → Outcome
   ended : Outcome
@@ -115,8 +119,8 @@ value_in (x ∷ rest) token = if x.token == token then x.value else value_in res
 abbrev pub event_of : Site → Act → ℤ → SourceEvent
 event_of site act answer = record { thread = 0; site = site; answer = answer; act = act }
 
--- What an event answers, by what the list says and what the variables hold: a Read, a New, a Take of a cell, a Spawn and a Signal what the list says, a Take
--- of a local the reference that it holds, and every other event 0.
+-- What an event answers, by what the list says and what the variables hold: a Read, a New, a Take of a cell, a Spawn
+-- and a Signal what the list says, a Take of a local the reference that it holds, and every other event 0.
 abbrev pub answer_of : (ℕ → ℤ) → Act → ℤ → ℤ
 answer_of held (Read c mode) x = x
 answer_of held (New cells elements mode) x = x
@@ -208,7 +212,8 @@ abbrev pub looks_at : {A : Type 0} → (State → A) → Run A
 looks_at f s = go (f s) s
 
 abbrev pub traces : Use → ℕ → Site → Step
-traces u token site s = go tt (record s { trace = s.trace ++ record { use_made = u; variable = token; site = site; call = s.frame.call } ∷ [] })
+traces u token site s = go tt
+    (record s { trace = s.trace ++ record { use_made = u; variable = token; site = site; call = s.frame.call } ∷ [] })
 
 abbrev pub sets : ℕ → ℤ → Step
 sets token v s = go tt (record s { frame = record s.frame { variables = with_value s.frame.variables token v } })

@@ -1,17 +1,21 @@
 -- What statements do, and how they are left: one clause for each form.
-use Rattle.std.specs.Prelude.{ℕ, ℤ, zero, suc, pos, negsuc, Bool, true, false, Option, Some, None, unsigned_abs, if◌then◌else◌}
+use Rattle.std.specs.Prelude.{ℕ, ℤ, zero, suc, pos, negsuc, Bool, true, false, Option, Some, None, unsigned_abs}
+use Rattle.std.specs.Prelude.{if◌then◌else◌}
 use Rattle.sharc_tree.specs.declared.event.Act.TheVariants as acts
 use Rattle.sharc_tree.specs.{declared.token.Site.Site, declared.tree.declaration.Declaration.Declaration}
 use Rattle.sharc_tree.specs.declared.tree.statement.Jump.{Jump}
 use Rattle.sharc_tree.specs.{declared.tree.statement.Jump.TheVariants.{Break, Continue}, Spans.span_of}
-use Rattle.sharc_tree.specs.Tree.{Expression, Right, value, malloc, Simple, assign, does_call, Local, First, nothing, declares, does, Statement, empty, block, declare, simple, jump, return, if_then, if_then_else, while, for, Statements, no_statements, statement}
+use Rattle.sharc_tree.specs.Tree.{Expression, Right, value, malloc, Simple, assign, does_call, Local, First, nothing}
+use Rattle.sharc_tree.specs.Tree.{declares, does, Statement, empty, block, declare, simple, jump, return, if_then}
+use Rattle.sharc_tree.specs.Tree.{if_then_else, while, for, Statements, no_statements, statement}
 use Rattle.sharc_tree.specs.declared.trap.Trap.TheVariants as traps
 use Rattle.sharc_names.specs.Kinds.{Kind, declared_kind}
 use Rattle.sharc_ctype.specs.Resolved.{kind_at}
 use Rattle.sharc_mode.specs.{Cells.{cell_at, pointed}, Moded.Assignment, Rows.{written, row_at, declared_row}}
 use Rattle.sharc_mode.specs.Sharings.{Sharing, private}
 use Rattle.sharc_meaning.specs.Cells.{element_cells, instance_mode}
-use Rattle.sharc_meaning.specs.State.{spent, over, Run, Step, ◌>>=◌, ◌>>◌, give, done, unless_stop, entered, answered, drops, temporarily, value_of, looks_at, begins_with, in_block}
+use Rattle.sharc_meaning.specs.State.{spent, over, Run, Step, ◌>>=◌, ◌>>◌, give, done, unless_stop, entered, answered}
+use Rattle.sharc_meaning.specs.State.{drops, temporarily, value_of, looks_at, begins_with, in_block}
 use Rattle.sharc_meaning.specs.{Places.{variable, stored}, Expressions.{Calls, tested, fitting, eval, place_of}}
 
 -- how a statement is left
@@ -33,7 +37,8 @@ on_turn continued again = again
 on_turn broken again = give next
 on_turn (returned site v) again = give (returned site v)
 
--- At most n turns of a loop. Each turn enters its body, so no loop performs more turns than there is fuel at its beginning.
+-- At most n turns of a loop. Each turn enters its body, so no loop performs more turns than there is fuel at its
+-- beginning.
 abbrev pub turns : ℕ → Run Bool → Step → Run Flow → Run Flow
 turns zero test step body s = over spent s
 turns (suc n) test step body s = (do
@@ -65,7 +70,8 @@ right_value on_call m kind target (malloc s n w) = entered (do
   elements ← elements_made on_call m n
   unless_stop (is_positive elements) traps.SizeNotPositive s.first
   held ← looks_at value_of
-  answered s.first (acts.New (element_cells m.typed (declared_kind w)) (unsigned_abs elements) (instance_mode m.typed held target)))
+  answered s.first
+      (acts.New (element_cells m.typed (declared_kind w)) (unsigned_abs elements) (instance_mode m.typed held target)))
 
 abbrev pub done_simple : Calls → Assignment → Simple → Step
 done_simple on_call m (assign s u x) = temporarily (do
@@ -80,7 +86,8 @@ done_simple on_call m (does_call e) = do
 abbrev pub initialised : Calls → Assignment → Declaration → Option Right → Step
 initialised on_call m d None = done
 initialised on_call m d (Some x) = do
-  v ← right_value on_call m (declared_kind d.written) (pointed m (Some (declared_row m.typed written d.name.site.token))) x
+  v ← right_value on_call m (declared_kind d.written)
+      (pointed m (Some (declared_row m.typed written d.name.site.token))) x
   stored m.typed d.name.site (declared_kind d.written) private (variable d.name.site.token) v
 
 abbrev pub declared : Calls → Assignment → Local → Step

@@ -1,8 +1,11 @@
 -- Legal stores: lists of source events in which each event finds what those before it left.
-use Rattle.std.specs.Prelude.{◌≡◌, ◌≢◌, ◌⊎◌, ℕ, ℤ, pos, neg_ℤ, ◌+◌, ◌^◌, ◌<◌, ◌==◌, Bool, true, false, ◌&&◌, ◌||◌, List, Option, Some, None, if◌then◌else◌}
+use Rattle.std.specs.Prelude.{◌≡◌, ◌≢◌, ◌⊎◌, ℕ, ℤ, pos, neg_ℤ, ◌+◌, ◌^◌, ◌<◌, ◌==◌, Bool, true, false, ◌&&◌, ◌||◌, List}
+use Rattle.std.specs.Prelude.{Option, Some, None, if◌then◌else◌}
 use Rattle.std.specs.List.{list_any}
 use Rattle.sharc_tree.specs.declared.event.Act.{Act}
-use Rattle.sharc_tree.specs.declared.event.Act.TheVariants.{Read, Write, New, Take, Give, Freed, Lock, Unlock, Spawn, Started, Join, Print, Return, Gone, Enter, Woken, Signal, Broadcast}
+use Rattle.sharc_tree.specs.declared.event.Act.TheVariants.{Read, Write, New, Take, Give, Freed, Lock, Unlock, Spawn}
+use Rattle.sharc_tree.specs.declared.event.Act.TheVariants.{Started, Join, Print, Return, Gone, Enter, Woken, Signal}
+use Rattle.sharc_tree.specs.declared.event.Act.TheVariants.{Broadcast}
 use Rattle.sharc_tree.specs.{declared.event.CellAt.CellAt, declared.event.Object.Object}
 use Rattle.sharc_tree.specs.{declared.event.Object.TheVariants.{Global, Made}, declared.event.SourceEvent.SourceEvent}
 use Rattle.sharc_tree.specs.declared.event.Taken.TheVariants.{Cell, Local}
@@ -110,7 +113,8 @@ abbrev pub enters : CellAt → ℕ → SourceEvent → Bool
 enters c thread e = is_cell c (entered e.act) && e.thread == thread
 
 abbrev pub takes_away : CellAt → ℕ → SourceEvent → Bool
-takes_away c thread e = (is_cell c (signalled e.act) && is_natural (thread + 1) e.answer) || is_cell c (broadcast_on e.act)
+takes_away c thread e =
+    (is_cell c (signalled e.act) && is_natural (thread + 1) e.answer) || is_cell c (broadcast_on e.act)
 
 -- a thread waits at a cell where it made Enter on it and was not taken away since
 abbrev pub is_waiter : List SourceEvent → CellAt → ℕ → Bool
@@ -169,4 +173,5 @@ MayCome r before e (Broadcast c) = Unit {0}
 
 -- each event may come after those before it
 abbrev pub LegalStore : Resolution → List SourceEvent → Type 0
-LegalStore r R = (before : List SourceEvent) (e : SourceEvent) (after : List SourceEvent) → Stands R before e after → MayCome r before e e.act
+LegalStore r R = (before : List SourceEvent) (e : SourceEvent) (after : List SourceEvent) → Stands R before e after
+    → MayCome r before e e.act

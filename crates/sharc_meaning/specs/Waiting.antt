@@ -7,7 +7,8 @@ use Rattle.sharc_tree.specs.declared.token.Site.{Site}
 use Rattle.sharc_tree.specs.declared.trap.Trap.TheVariants as traps
 use Rattle.sharc_meaning.specs.{Cells.cell_of, Events.{held_mutexes, holds_mutex}, Reference.{NULL, is_null}}
 use Rattle.sharc_meaning.specs.declared.given.GivenUp.TheVariants.{Released}
-use Rattle.sharc_meaning.specs.State.{Step, ◌>>=◌, ◌>>◌, done, unless_stop, answered, performs, gives_up, holds_reference, moves_on, looks_at}
+use Rattle.sharc_meaning.specs.State.{Step, ◌>>=◌, ◌>>◌, done, unless_stop, answered, performs, gives_up}
+use Rattle.sharc_meaning.specs.State.{holds_reference, moves_on, looks_at}
 use Rattle.sharc_meaning.specs.Places.{Place, variable, cell, pointee}
 
 abbrev pub cell_at_place : Place → CellAt
@@ -40,7 +41,8 @@ unlock_call site p = do
   performs site (acts.Unlock (cell_at_place p))
   gives_up_base p
 
--- `wait(c, m)`: `c` is looked at before `m`, and NULL stops before a mutex that is not held. From its Unlock to its Lock the thread holds one more reference to the object of the mutex.
+-- `wait(c, m)`: `c` is looked at before `m`, and NULL stops before a mutex that is not held. From its Unlock to its
+-- Lock the thread holds one more reference to the object of the mutex.
 abbrev pub wait_call : Site → ℤ → ℤ → Step
 wait_call site c m = do
   unless_stop (not (is_null c)) traps.NullPointer site

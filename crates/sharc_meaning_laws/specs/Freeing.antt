@@ -14,7 +14,8 @@ use Rattle.sharc_meaning.specs.{State.wants, Store.is_live}
 abbrev pub takes_something : SourceEvent → Bool
 takes_something e = taken_to_free e.act && not (is_null e.answer)
 
--- The event that it wants frees the object of this number, which it holds, and the references in the cells of that are given up already, last of all.
+-- The event that it wants frees the object of this number, which it holds, and the references in the cells of that are
+-- given up already, last of all.
 pub record EmptiesAtNext (a : Asked) (n : ℕ) : Type 0 where
   pub before : List GivenUp
   pub given_is : a.given_up ≡ before ++ Emptied n ∷ []
@@ -26,14 +27,18 @@ pub record EmptiesAtNext (a : Asked) (n : ℕ) : Type 0 where
   pub some : is_null reference ≡ false
   pub held : (k : ℕ) × (get_or a.held k (pos 0) ≡ reference)
 
--- Each event that takes something to free it is followed by the one that frees it, or is the last: then that one is wanted.
+-- Each event that takes something to free it is followed by the one that frees it, or is the last: then that one is
+-- wanted.
 pub record FreesFollowIn (a : Asked) : Type 0 where
-  pub followed : (before : List SourceEvent) (e d : SourceEvent) (after : List SourceEvent) → Stands a.events before e (d ∷ after) → takes_something e ≡ true → d.act ≡ Freed e.answer
-  pub last : (before : List SourceEvent) (e : SourceEvent) → Stands a.events before e [] → takes_something e ≡ true → EmptiesAtNext a (number_of e.answer)
+  pub followed : (before : List SourceEvent) (e d : SourceEvent) (after : List SourceEvent)
+      → Stands a.events before e (d ∷ after) → takes_something e ≡ true → d.act ≡ Freed e.answer
+  pub last : (before : List SourceEvent) (e : SourceEvent) → Stands a.events before e [] → takes_something e ≡ true
+      → EmptiesAtNext a (number_of e.answer)
 
 -- of each program, function, argument, list of answers and fuel
 abbrev pub FreesFollow : Type 0
-FreesFollow = (m : Assignment) (f : ℕ) (argument : ℤ) (answers : List ℤ) (fuel : ℕ) → FreesFollowIn (asks m f argument answers fuel)
+FreesFollow = (m : Assignment) (f : ℕ) (argument : ℤ) (answers : List ℤ) (fuel : ℕ)
+    → FreesFollowIn (asks m f argument answers fuel)
 
 -- its last event takes the object of this number to free it
 pub record WasTaken (a : Asked) (n : ℕ) : Type 0 where
@@ -45,12 +50,14 @@ pub record WasTaken (a : Asked) (n : ℕ) : Type 0 where
 
 -- so it is where the cells of the object are given up last of all
 abbrev pub EmptiedWereTaken : Type 0
-EmptiedWereTaken = (m : Assignment) (f : ℕ) (argument : ℤ) (answers : List ℤ) (fuel : ℕ) (before : List GivenUp) (n : ℕ) →
+EmptiedWereTaken = (m : Assignment) (f : ℕ) (argument : ℤ) (answers : List ℤ) (fuel : ℕ) (before : List GivenUp) (n : ℕ)
+    →
     let a = asks m f argument answers fuel in a.given_up ≡ before ++ Emptied n ∷ [] → WasTaken a n
 
 -- ---- histories
 
--- This thread has taken the object to free it. Where it follows the program, that is its last event, and it wants to free the object.
+-- This thread has taken the object to free it. Where it follows the program, that is its last event, and it wants to
+-- free the object.
 pub record IsBeingTaken (m : Assignment) (R : List SourceEvent) (n : ℕ) : Type 0 where
   pub thread : ℕ
   pub has_events : events_of thread R ≡ [] → ⊥
@@ -62,7 +69,8 @@ pub record IsBeingTaken (m : Assignment) (R : List SourceEvent) (n : ℕ) : Type
 
 -- A live object that a `free` has taken is being taken. No more is asked of the history.
 abbrev pub TakenAreBeingTaken : Type 0
-TakenAreBeingTaken = (m : Assignment) (R : List SourceEvent) (n : ℕ) → is_live R (Made n) ≡ true → is_taken_to_free R n ≡ true → IsBeingTaken m R n
+TakenAreBeingTaken = (m : Assignment) (R : List SourceEvent) (n : ℕ) → is_live R (Made n) ≡ true
+    → is_taken_to_free R n ≡ true → IsBeingTaken m R n
 
 -- The last event of this thread takes the object to free it.
 pub record TakesLast (R : List SourceEvent) (thread n : ℕ) : Type 0 where
@@ -74,9 +82,12 @@ pub record TakesLast (R : List SourceEvent) (thread n : ℕ) : Type 0 where
 
 -- Then it wants to free the object, and holds it.
 abbrev pub LastTakersFree : Type 0
-LastTakersFree = (m : Assignment) (R : List SourceEvent) (thread n : ℕ) → TakesLast R thread n → (b : Begun m R thread) → EmptiesAtNext (asked_with b b.fuel) n
+LastTakersFree = (m : Assignment) (R : List SourceEvent) (thread n : ℕ) → TakesLast R thread n
+    → (b : Begun m R thread) → EmptiesAtNext (asked_with b b.fuel) n
 
--- So it is of a thread that has asked for its events, with some fuel, and has given up the cells of the object last of all.
+-- So it is of a thread that has asked for its events, with some fuel, and has given up the cells of the object last of
+-- all.
 abbrev pub EmptiersTookLast : Type 0
-EmptiersTookLast = (m : Assignment) (R : List SourceEvent) (thread : ℕ) (b : Begun m R thread) (fuel : ℕ) → map (by thread) (asked_with b fuel).events ≡ events_of thread b.own.after
+EmptiersTookLast = (m : Assignment) (R : List SourceEvent) (thread : ℕ) (b : Begun m R thread) (fuel : ℕ)
+    → map (by thread) (asked_with b fuel).events ≡ events_of thread b.own.after
     → (before : List GivenUp) (n : ℕ) → (asked_with b fuel).given_up ≡ before ++ Emptied n ∷ [] → TakesLast R thread n

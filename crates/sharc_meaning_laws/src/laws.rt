@@ -1,6 +1,7 @@
 // The laws, each the contract of a function that does nothing.
 
-ghost use Rattle.sharc_meaning_laws.specs.Freeing.{EmptiedWereTaken, EmptiersTookLast, FreesFollow, LastTakersFree, TakenAreBeingTaken};
+ghost use Rattle.sharc_meaning_laws.specs.Freeing.{EmptiedWereTaken, EmptiersTookLast, FreesFollow, LastTakersFree};
+ghost use Rattle.sharc_meaning_laws.specs.Freeing.{TakenAreBeingTaken};
 ghost use Rattle.sharc_meaning_laws.specs.Held.{HeldAreHeldOn};
 
 use sharc_ctype_laws::laws::{
@@ -18,13 +19,14 @@ pub fn held_are_held_on()
     are_plain();
 }
 
-/// What a thread takes to free it, it frees by its next event. Where it wants that event, it has given up what the pointer cells of that hold. This goes for every
-/// program.
+/// What a thread takes to free it, it frees by its next event. Where it wants that event, it has given up what the
+/// pointer cells of that hold. This goes for every program.
 pub fn frees_follow()
     ensures { FreesFollow }
 {}
 
-/// A live object that a `free` has taken is being taken: where the thread that took it follows the program, it has no later event, and wants to free the object.
+/// A live object that a `free` has taken is being taken: where the thread that took it follows the program, it has no
+/// later event, and wants to free the object.
 pub fn taken_are_being_taken()
     ensures { TakenAreBeingTaken }
 {}

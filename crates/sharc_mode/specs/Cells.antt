@@ -9,14 +9,16 @@ use Rattle.sharc_tree.specs.declared.tree.expression.Access.{Access}
 use Rattle.sharc_tree.specs.declared.tree.expression.Access.TheVariants.{Dot, Arrow}
 use Rattle.sharc_tree.specs.declared.tree.expression.UnaryOperator.{UnaryOperator}
 use Rattle.sharc_tree.specs.declared.tree.expression.UnaryOperator.TheVariants.{Negate, Not, Complement, Dereference}
-use Rattle.sharc_tree.specs.Tree.{Expression, identifier, constant, parentheses, call, spawn, on_value, on_place, cast, index, field, unary, binary}
+use Rattle.sharc_tree.specs.Tree.{Expression, identifier, constant, parentheses, call, spawn, on_value, on_place, cast}
+use Rattle.sharc_tree.specs.Tree.{index, field, unary, binary}
 use Rattle.sharc_tree.specs.declared.ctype.Base.TheVariants as base
 use Rattle.sharc_names.specs.{declared.fault.Named.Named, Kinds.{Kind, object, is_array, is_pointer, declared_kind}}
 use Rattle.sharc_names.specs.declared.fault.Named.TheVariants as named
 use Rattle.sharc_ctype.specs.Resolved.{Resolution, named_at, global_at, declaration_at, named_kind, kind_at}
 use Rattle.sharc_ctype.specs.{declared.entity.Numbered.Numbered, Entities.entity_at}
 use Rattle.sharc_mode.specs.{Moded.{Assignment, mode_at}, Rows.{Targets, modes_of, row_at}}
-use Rattle.sharc_mode.specs.Sharings.{Lock, Sharing, private, readonly, locked, racy, dynamic, lock_of, is_private, is_sibling_lock}
+use Rattle.sharc_mode.specs.Sharings.{Lock, Sharing, private, readonly, locked, racy, dynamic, lock_of, is_private}
+use Rattle.sharc_mode.specs.Sharings.{is_sibling_lock}
 
 -- an object of C type mutex
 abbrev pub is_mutex_kind : Kind → Bool
@@ -31,7 +33,8 @@ is_behind_pointer r l = is_sibling_lock r l && is_pointer (named_kind r (named_a
 abbrev pub written_cell : Resolution → Sharing → Option Mode → Sharing
 written_cell r q None = q
 written_cell r q (Some Readonly) = if is_private q then private else readonly
-written_cell r q (Some (Locked path)) = if is_behind_pointer r (lock_of path) && is_private q then private else locked (lock_of path)
+written_cell r q (Some (Locked path)) =
+    if is_behind_pointer r (lock_of path) && is_private q then private else locked (lock_of path)
 written_cell r q (Some Private) = private
 written_cell r q (Some Racy) = racy
 written_cell r q (Some Dynamic) = dynamic
@@ -98,6 +101,7 @@ cell_at m (on_value s w a) = private
 cell_at m (on_place s w a) = private
 cell_at m (cast s t a) = private
 cell_at m (index s a i) = if is_array (kind_at m.typed a) then cell_at m a else pointed m (row_at m.typed a)
-cell_at m (field s a w n) = field_named m.typed (instance w (cell_at m a) (pointed m (row_at m.typed a))) (named_at m.typed n.site.token)
+cell_at m (field s a w n) =
+    field_named m.typed (instance w (cell_at m a) (pointed m (row_at m.typed a))) (named_at m.typed n.site.token)
 cell_at m (unary s o a) = unary_cell o (pointed m (row_at m.typed a))
 cell_at m (binary s o at a b) = private

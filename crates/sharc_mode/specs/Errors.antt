@@ -1,7 +1,10 @@
 -- The cases M1 to M11.
 use Rattle.std.specs.Prelude.{ℕ, Bool, true, false}
 use Rattle.sharc_mode.specs.declared.error.ErrorCode.{ErrorCode}
-use Rattle.sharc_mode.specs.declared.error.ErrorCode.TheVariants.{ModeMismatch, ReadonlyWrite, PrivateTarget, LockPathNotConstant, ModeNotAllowed, PrivateField, PrivateReachesThread, CastChangesInnerMode, ReadonlySource, NamedByLockPath, NeedsConstantBase}
+use Rattle.sharc_mode.specs.declared.error.ErrorCode.TheVariants.{ModeMismatch, ReadonlyWrite, PrivateTarget}
+use Rattle.sharc_mode.specs.declared.error.ErrorCode.TheVariants.{LockPathNotConstant, ModeNotAllowed, PrivateField}
+use Rattle.sharc_mode.specs.declared.error.ErrorCode.TheVariants.{PrivateReachesThread, CastChangesInnerMode}
+use Rattle.sharc_mode.specs.declared.error.ErrorCode.TheVariants.{ReadonlySource, NamedByLockPath, NeedsConstantBase}
 
 -- the number after the M
 abbrev pub number_of : ErrorCode → ℕ

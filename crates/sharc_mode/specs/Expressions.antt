@@ -3,7 +3,10 @@ use Rattle.std.specs.{Prelude.{ℕ, List, [], ◌∷◌, ◌++◌, drop, Option,
 use Rattle.sharc_tree.specs.declared.tree.declaration.Declaration.{Declaration}
 use Rattle.sharc_tree.specs.declared.tree.expression.PlaceCall.{PlaceCall}
 use Rattle.sharc_tree.specs.declared.tree.expression.PlaceCall.TheVariants.{Lock, Unlock, Free}
-use Rattle.sharc_tree.specs.Tree.{Expression, identifier, constant, parentheses, call, spawn, on_value, on_place, cast, index, field, unary, binary, Arguments, no_arguments, argument, Right, value, malloc, Simple, assign, does_call, Local, First, nothing, declares, does, Head, Statement, Statements, no_statements, statement, Function, Item, structure, global, function}
+use Rattle.sharc_tree.specs.Tree.{Expression, identifier, constant, parentheses, call, spawn, on_value, on_place, cast}
+use Rattle.sharc_tree.specs.Tree.{index, field, unary, binary, Arguments, no_arguments, argument, Right, value, malloc}
+use Rattle.sharc_tree.specs.Tree.{Simple, assign, does_call, Local, First, nothing, declares, does, Head, Statement}
+use Rattle.sharc_tree.specs.Tree.{Statements, no_statements, statement, Function, Item, structure, global, function}
 use Rattle.sharc_tree.specs.Tree as tree
 use Rattle.sharc_ctype.specs.{Resolved.named_at, Transfers.parameters_named}
 use Rattle.sharc_mode.specs.{declared.finding.Finding.Finding, Moded.Assignment}
@@ -26,23 +29,28 @@ abbrev mutual
   notes_of m (identifier s i) = []
   notes_of m (constant s c) = []
   notes_of m (parentheses s a) = notes_of m a
-  notes_of m (call s f all) = notes_of_all m (parameters_named m.typed (named_at m.typed f.site.token)) all (parameters_named m.typed (named_at m.typed f.site.token)) all
+  notes_of m (call s f all) = notes_of_all m (parameters_named m.typed (named_at m.typed f.site.token)) all
+      (parameters_named m.typed (named_at m.typed f.site.token)) all
       ++ call_notes m s (parameters_named m.typed (named_at m.typed f.site.token)) all
   notes_of m (spawn s f a) = notes_of m a
-      ++ agree_notes m (expected m (parameters_named m.typed (named_at m.typed f.site.token)) (argument a no_arguments) (parameters_named m.typed (named_at m.typed f.site.token))) a
+      ++ agree_notes m (expected m (parameters_named m.typed (named_at m.typed f.site.token)) (argument a no_arguments)
+      (parameters_named m.typed (named_at m.typed f.site.token))) a
       ++ call_notes m s (parameters_named m.typed (named_at m.typed f.site.token)) (argument a no_arguments)
   notes_of m (on_value s w a) = notes_of m a
   notes_of m (on_place s w a) = notes_of m a ++ place_notes m w a
-  notes_of m (cast s t a) = notes_of m a ++ source_notes m a ++ cast_notes m.typed t.span t.ctype.base (modes_of m (cast_row m.typed s)) (modes_at m a)
+  notes_of m (cast s t a) = notes_of m a ++ source_notes m a
+      ++ cast_notes m.typed t.span t.ctype.base (modes_of m (cast_row m.typed s)) (modes_at m a)
   notes_of m (index s a i) = notes_of m a ++ notes_of m i
-  notes_of m (field s a w n) = notes_of m a ++ field_notes m.typed s (base_use m.typed w a) (modes_of m (named_row m.typed written (named_at m.typed n.site.token)))
+  notes_of m (field s a w n) = notes_of m a ++ field_notes m.typed s (base_use m.typed w a)
+      (modes_of m (named_row m.typed written (named_at m.typed n.site.token)))
   notes_of m (unary s o a) = notes_of m a
   notes_of m (binary s o at a b) = notes_of m a ++ notes_of m b
 
   -- of the arguments that are left, beside the parameters that are left
   pub notes_of_all : Assignment → List Declaration → Arguments → List Declaration → Arguments → List Finding
   notes_of_all m ds all left no_arguments = []
-  notes_of_all m ds all left (argument a rest) = notes_of m a ++ agree_notes m (expected m ds all left) a ++ notes_of_all m ds all (drop 1 left) rest
+  notes_of_all m ds all left (argument a rest) =
+      notes_of m a ++ agree_notes m (expected m ds all left) a ++ notes_of_all m ds all (drop 1 left) rest
 
 abbrev pub option_notes : {A : Type 0} → (A → List Finding) → Option A → List Finding
 option_notes f None = []
@@ -58,7 +66,8 @@ simple_notes m (assign s u x) = notes_of m u ++ write_notes m u ++ right_notes m
 simple_notes m (does_call e) = notes_of m e
 
 abbrev pub local_notes : Assignment → Local → List Finding
-local_notes m l = option_notes (right_notes m (Some (modes_of m (declared_row m.typed written l.declaration.name.site.token)))) l.initial
+local_notes m l = option_notes
+    (right_notes m (Some (modes_of m (declared_row m.typed written l.declaration.name.site.token)))) l.initial
 
 -- in the function whose name is this token
 abbrev pub return_notes : Assignment → ℕ → Expression → List Finding

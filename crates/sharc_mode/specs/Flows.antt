@@ -1,5 +1,6 @@
 -- The places and links of a typed program, and the least assignment: which unwritten positions are dynamic.
-use Rattle.std.specs.Prelude.{◌≡◌, ◌⊎◌, ℕ, ◌-◌, ◌<◌, ◌≤◌, min, List, [], ◌++◌, length, slice_index_or, Option, Some, None, IsSomeAnd, Contains}
+use Rattle.std.specs.Prelude.{◌≡◌, ◌⊎◌, ℕ, ◌-◌, ◌<◌, ◌≤◌, min, List, [], ◌++◌, length, slice_index_or, Option, Some}
+use Rattle.std.specs.Prelude.{None, IsSomeAnd, Contains}
 use Rattle.std.specs.List.{flat_map}
 use Rattle.sharc_tree.specs.declared.ctype.Mode.{Mode}
 use Rattle.sharc_tree.specs.declared.ctype.Mode.TheVariants.{Private, Readonly, Locked, Racy, Dynamic}
@@ -39,7 +40,8 @@ pub record IsTouchedIn (r : Resolution) (position f : ℕ) : Type 0 where
 pub record IsPassedTo (r : Resolution) (position f : ℕ) : Type 0 where
   pub spawner : ℕ
   pub spawned : Spawns r spawner f
-  pub parameter : IsSomeAnd (function_at r f) (λ d. (p : Declaration) × Contains d.parameters p × IsFirst r p.name.site.token position)
+  pub parameter : IsSomeAnd (function_at r f) (λ d. (p : Declaration) × Contains d.parameters p
+      × IsFirst r p.name.site.token position)
 
 abbrev pub IsRoot : Resolution → ℕ → Type 0
 IsRoot r position = (f : ℕ) × (IsTouchedIn r position f ⊎ IsPassedTo r position f)
@@ -144,6 +146,8 @@ pub record IsLeastAssignment (m : Assignment) : Type 0 where
   pub findings : List Finding
   pub are_inferred : AreInferred (flow_of places (links_of m.typed)) findings
   pub modes : length m.modes ≡ position_count m.typed
-  pub mode : (position : ℕ) → position < position_count m.typed → slice_index_or m.modes position Private ≡ mode_found (settled_at m.typed position) (finding_at findings position)
+  pub mode : (position : ℕ) → position < position_count m.typed → slice_index_or m.modes position Private
+      ≡ mode_found (settled_at m.typed position) (finding_at findings position)
   pub reasons : length m.reasons ≡ position_count m.typed
-  pub reason : (position : ℕ) → position < position_count m.typed → IsReasonFor m.typed position (settled_at m.typed position) (finding_at findings position) (reason_at m position)
+  pub reason : (position : ℕ) → position < position_count m.typed
+      → IsReasonFor m.typed position (settled_at m.typed position) (finding_at findings position) (reason_at m position)

@@ -1,5 +1,6 @@
 -- What is to be said of each construct: the cases M1 to M11, and which variables and globals lock paths name.
-use Rattle.std.specs.Prelude.{ℕ, ◌+◌, ◌==◌, Bool, true, false, ◌||◌, List, [], ◌∷◌, ◌++◌, drop, take, map, slice_range, Option, Some, None, if◌then◌else◌}
+use Rattle.std.specs.Prelude.{ℕ, ◌+◌, ◌==◌, Bool, true, false, ◌||◌, List, [], ◌∷◌, ◌++◌, drop, take, map, slice_range}
+use Rattle.std.specs.Prelude.{Option, Some, None, if◌then◌else◌}
 use Rattle.std.specs.{List.{flat_map, list_any}, Option.option_or}
 use Rattle.sharc_tree.specs.{declared.ctype.Base.Base, declared.ctype.CType.CType, declared.ctype.Path.Path}
 use Rattle.sharc_tree.specs.{declared.ctype.Mode.Mode, declared.ctype.Mode.TheVariants.Private}
@@ -12,12 +13,18 @@ use Rattle.sharc_names.specs.declared.types.Role.TheVariants as role
 use Rattle.sharc_ctype.specs.{Resolved.{Resolution, named_at, kind_at}, declared.entity.Numbered.Numbered}
 use Rattle.sharc_ctype.specs.Entities.{positions_of}
 use Rattle.sharc_mode.specs.declared.error.ErrorCode.{ErrorCode}
-use Rattle.sharc_mode.specs.declared.error.ErrorCode.TheVariants.{ModeMismatch, ReadonlyWrite, PrivateTarget, LockPathNotConstant, ModeNotAllowed, PrivateField, CastChangesInnerMode, ReadonlySource, NamedByLockPath, NeedsConstantBase}
+use Rattle.sharc_mode.specs.declared.error.ErrorCode.TheVariants.{ModeMismatch, ReadonlyWrite, PrivateTarget}
+use Rattle.sharc_mode.specs.declared.error.ErrorCode.TheVariants.{LockPathNotConstant, ModeNotAllowed, PrivateField}
+use Rattle.sharc_mode.specs.declared.error.ErrorCode.TheVariants.{CastChangesInnerMode, ReadonlySource, NamedByLockPath}
+use Rattle.sharc_mode.specs.declared.error.ErrorCode.TheVariants.{NeedsConstantBase}
 use Rattle.sharc_mode.specs.{declared.error.ModeError.ModeError, declared.finding.Finding.Finding}
 use Rattle.sharc_mode.specs.{declared.finding.Finding.TheVariants.{Wrong, Names, Takes}, Cells.{cell_at, top_of}}
 use Rattle.sharc_mode.specs.Moded.{Assignment}
-use Rattle.sharc_mode.specs.Rows.{Reading, written, at_call, read, modes_of, modes_at, declared_row, argument_use, path_variable}
-use Rattle.sharc_mode.specs.Sharings.{Lock, Sharing, private, readonly, locked, racy, dynamic, sharing_of, path_of, mode_of, text_at, same_all, is_readonly, is_sibling, variable_named, object_named, object_of}
+use Rattle.sharc_mode.specs.Rows.{Reading, written, at_call, read, modes_of, modes_at, declared_row, argument_use}
+use Rattle.sharc_mode.specs.Rows.{path_variable}
+use Rattle.sharc_mode.specs.Sharings.{Lock, Sharing, private, readonly, locked, racy, dynamic, sharing_of, path_of}
+use Rattle.sharc_mode.specs.Sharings.{mode_of, text_at, same_all, is_readonly, is_sibling, variable_named, object_named}
+use Rattle.sharc_mode.specs.Sharings.{object_of}
 use Rattle.sharc_mode.specs.WellFormed.{place_of, holds_private, first_unfit_path, first_unfit_mode, is_private_mode}
 
 -- ---- what a case reports
@@ -31,11 +38,13 @@ no_type = record { base = base.Void; levels = [] }
 
 -- a case that shows no types
 abbrev pub error : ErrorCode → Span → List ℕ → Finding
-error code s subject = Wrong (record { code = code; site = s.first; expected = no_type; found = no_type; subject = subject })
+error code s subject =
+    Wrong (record { code = code; site = s.first; expected = no_type; found = no_type; subject = subject })
 
 -- a case that shows two
 abbrev pub mismatch : ErrorCode → Span → CType → CType → Finding
-mismatch code s expected found = Wrong (record { code = code; site = s.first; expected = expected; found = found; subject = [] })
+mismatch code s expected found =
+    Wrong (record { code = code; site = s.first; expected = expected; found = found; subject = [] })
 
 -- a type with these modes of its targets, without that of its top
 abbrev pub shown : Resolution → Base → List Sharing → CType
@@ -47,10 +56,12 @@ base_of (array b stars) = b
 base_of null = base.Void
 base_of function = base.Void
 
--- ---- M1: in an assignment, initialiser, argument, spawn argument or return the two types differ in the mode of some target
+-- ---- M1: in an assignment, initialiser, argument, spawn argument or return the two types differ in the mode of some
+-- target
 
 abbrev pub unless_same : Resolution → ErrorCode → Span → Base → List Sharing → List Sharing → List Finding
-unless_same r code s b expected found = if same_all r expected found then [] else mismatch code s (shown r b expected) (shown r b found) ∷ []
+unless_same r code s b expected found =
+    if same_all r expected found then [] else mismatch code s (shown r b expected) (shown r b found) ∷ []
 
 -- NULL agrees with every pointer type; and nothing is expected where there is no parameter
 abbrev pub agree : Resolution → Span → Base → Option (List Sharing) → Option (List Sharing) → List Finding
@@ -71,7 +82,8 @@ write_notes m u = error_where (is_readonly (cell_at m u)) ReadonlyWrite (span_of
 
 -- ---- M3 to M6 of a type, and the variables and globals that its paths name
 
--- its modes by depth: of the top what is written, a local's and a parameter's else private; a global's top is a position
+-- its modes by depth: of the top what is written, a local's and a parameter's else private; a global's top is a
+-- position
 
 abbrev pub top_levels : Role → List (Option Mode) → List (Option Mode)
 top_levels role.Global levels = []
@@ -96,11 +108,17 @@ printed_top role.Cast levels = None ∷ []
 printed_top other levels = top_levels other levels
 
 abbrev pub printed_type : Assignment → Numbered → CType
-printed_type m n = record { base = n.entity.written.ctype.base; levels = printed_top n.entity.role n.entity.written.ctype.levels ++ position_levels m n }
+printed_type m n = record {
+  base = n.entity.written.ctype.base;
+  levels = printed_top n.entity.role n.entity.written.ctype.levels ++ position_levels m n;
+}
 
 -- M3: a non-private level is directly above a private target
 abbrev pub private_notes : Assignment → Numbered → List Finding
-private_notes m n = if holds_private (levels_of m n) then mismatch PrivateTarget n.entity.written.span (printed_type m n) (printed_type m n) ∷ [] else []
+private_notes m n =
+    if holds_private (levels_of m n)
+    then mismatch PrivateTarget n.entity.written.span (printed_type m n) (printed_type m n) ∷ []
+    else []
 
 -- M4: a lock path is none of the allowed forms; the first of them in the source is reported
 abbrev pub path_notes : Span → Option Path → List Finding
@@ -122,7 +140,10 @@ is_field_role role.Field = true
 is_field_role _ = false
 
 abbrev pub private_field_notes : Resolution → Numbered → List Finding
-private_field_notes r n = if is_field_role n.entity.role then error_where (list_any is_private_level n.entity.written.ctype.levels) PrivateField n.entity.written.span (text_at r n.entity.token) else []
+private_field_notes r n =
+    if is_field_role n.entity.role then error_where (list_any is_private_level n.entity.written.ctype.levels)
+    PrivateField n.entity.written.span (text_at r n.entity.token)
+    else []
 
 -- the variables and globals that paths name, whether or not they are allowed
 
@@ -146,8 +167,10 @@ names_in_level r (Some m) = names_in r (sharing_of m)
 
 abbrev pub type_notes : Assignment → Numbered → List Finding
 type_notes m n = private_notes m n
-    ++ path_notes n.entity.written.span (first_unfit_path m.typed (place_of n.entity.role) n.entity.written.ctype.base n.entity.written.ctype.levels)
-    ++ mode_notes n.entity.written.span (first_unfit_mode (place_of n.entity.role) n.entity.written.ctype.base n.entity.written.ctype.levels)
+    ++ path_notes n.entity.written.span
+    (first_unfit_path m.typed (place_of n.entity.role) n.entity.written.ctype.base n.entity.written.ctype.levels)
+    ++ mode_notes n.entity.written.span
+    (first_unfit_mode (place_of n.entity.role) n.entity.written.ctype.base n.entity.written.ctype.levels)
     ++ private_field_notes m.typed n
     ++ flat_map (names_in_level m.typed) n.entity.written.ctype.levels
 
@@ -185,7 +208,8 @@ unmet_written r ds all (level ∷ below) = option_or (unmet_written r ds all bel
 
 -- of a parameter: what is written in its type, and the modes of its targets
 abbrev pub unmet_parameter : Assignment → List Declaration → Arguments → Declaration → Option Lock
-unmet_parameter m ds all d = option_or (unmet_written m.typed ds all d.written.ctype.levels) (unmet_in m.typed ds all (modes_of m (declared_row m.typed written d.name.site.token)))
+unmet_parameter m ds all d = option_or (unmet_written m.typed ds all d.written.ctype.levels)
+    (unmet_in m.typed ds all (modes_of m (declared_row m.typed written d.name.site.token)))
 
 abbrev pub first_unmet : Assignment → List Declaration → Arguments → List Declaration → Option Lock
 first_unmet m ds all [] = None
@@ -202,7 +226,8 @@ names_read r how None = []
 names_read r how (Some mode) = names_in r (read r how (sharing_of mode))
 
 abbrev pub parameter_names : Assignment → Reading → Declaration → List Finding
-parameter_names m how d = names_in_all m.typed (modes_of m (declared_row m.typed how d.name.site.token)) ++ flat_map (names_read m.typed how) d.written.ctype.levels
+parameter_names m how d = names_in_all m.typed (modes_of m (declared_row m.typed how d.name.site.token))
+    ++ flat_map (names_read m.typed how) d.written.ctype.levels
 
 abbrev pub names_at_call : Assignment → List Declaration → Arguments → List Declaration → List Finding
 names_at_call m ds all = flat_map (parameter_names m (at_call ds all))
@@ -214,9 +239,12 @@ call_notes m s ds all = unmet_notes m.typed s (first_unmet m ds all ds) ++ names
 
 abbrev pub cast_notes : Resolution → Span → Base → List Sharing → Option (List Sharing) → List Finding
 cast_notes r s b to None = []
-cast_notes r s b to (Some from) = if same_all r (drop 1 to) (drop 1 from) then [] else mismatch CastChangesInnerMode s (shown r b to) (shown r b from) ∷ []
+cast_notes r s b to (Some from) =
+    if same_all r (drop 1 to) (drop 1 from) then []
+    else mismatch CastChangesInnerMode s (shown r b to) (shown r b from) ∷ []
 
--- ---- M9: the source of SCAST or `free` is a cell of mode readonly. A variable or a global may be one that some lock path names (M10)
+-- ---- M9: the source of SCAST or `free` is a cell of mode readonly. A variable or a global may be one that some lock
+-- path names (M10)
 
 abbrev pub taken_variable : Resolution → Expression → Option ℕ
 taken_variable r (identifier s i) = object_named r (named_at r i.site.token)
@@ -230,7 +258,8 @@ abbrev pub source_notes : Assignment → Expression → List Finding
 source_notes m a = error_where (is_readonly (cell_at m a)) ReadonlySource (span_of a) (span_text m.typed (span_of a))
     ++ takes (span_of a) (taken_variable m.typed (without_parentheses a))
 
--- ---- M11: a field whose target is locked by a sibling is used in another form than `x->f` with `x` a constant variable
+-- ---- M11: a field whose target is locked by a sibling is used in another form than `x->f` with `x` a constant
+-- variable
 
 abbrev pub sibling_notes : Resolution → Span → Option ℕ → List Finding
 sibling_notes r s None = error NeedsConstantBase s (span_text r s) ∷ []

@@ -8,7 +8,8 @@ use Rattle.sharc_ctype.specs.{Transfers.{Transfer, function_transfers}, declared
 use Rattle.sharc_mode.specs.{Flows.{IsRoot, receiver_row, source_row}, Rows.{Targets, cast_row, row_at, behind}}
 use Rattle.sharc_mode.specs.Settled.{settled_at}
 
--- the targets of the types of what is assigned, initialised, passed, spawned with or returned and of what it is given, from depth 1 on
+-- the targets of the types of what is assigned, initialised, passed, spawned with or returned and of what it is given,
+-- from depth 1 on
 pub record AreGiven (r : Resolution) (a b : Targets) : Type 0 where
   pub owner : Function
   pub stands : Contains r.program.items (function owner)

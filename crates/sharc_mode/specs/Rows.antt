@@ -1,5 +1,6 @@
 -- What an expression points to: positions of some declared type, and how their lock paths are read where it is used.
-use Rattle.std.specs.Prelude.{ℕ, ◌+◌, ◌-◌, ◌==◌, Bool, false, List, [], ◌∷◌, take, drop, map, option_map, Option, Some, None, is_some, if◌then◌else◌}
+use Rattle.std.specs.Prelude.{ℕ, ◌+◌, ◌-◌, ◌==◌, Bool, false, List, [], ◌∷◌, take, drop, map, option_map, Option, Some}
+use Rattle.std.specs.Prelude.{None, is_some, if◌then◌else◌}
 use Rattle.sharc_tree.specs.{declared.token.Span.Span, declared.tree.declaration.Declaration.Declaration}
 use Rattle.sharc_tree.specs.declared.tree.item.GlobalDefinition.{GlobalDefinition}
 use Rattle.sharc_tree.specs.declared.tree.expression.Access.{Access}
@@ -8,7 +9,8 @@ use Rattle.sharc_tree.specs.declared.tree.expression.UnaryOperator.{UnaryOperato
 use Rattle.sharc_tree.specs.declared.tree.expression.UnaryOperator.TheVariants.{Negate, Not, Complement, Dereference}
 use Rattle.sharc_tree.specs.declared.tree.expression.Constant.{Constant}
 use Rattle.sharc_tree.specs.declared.tree.expression.Constant.TheVariants.{Number, Character, Null}
-use Rattle.sharc_tree.specs.Tree.{Expression, identifier, constant, parentheses, call, spawn, on_value, on_place, cast, index, field, unary, binary, Arguments, no_arguments, argument, Function}
+use Rattle.sharc_tree.specs.Tree.{Expression, identifier, constant, parentheses, call, spawn, on_value, on_place, cast}
+use Rattle.sharc_tree.specs.Tree.{index, field, unary, binary, Arguments, no_arguments, argument, Function}
 use Rattle.sharc_names.specs.{declared.fault.Named.Named, declared.types.Role.Role, Kinds.is_array}
 use Rattle.sharc_names.specs.declared.fault.Named.TheVariants as named
 use Rattle.sharc_names.specs.declared.types.Role.TheVariants as role
@@ -16,9 +18,11 @@ use Rattle.sharc_ctype.specs.Resolved.{Resolution, named_at, global_at, function
 use Rattle.sharc_ctype.specs.{declared.entity.Numbered.Numbered, Entities.{entity_at, positions_of}}
 use Rattle.sharc_ctype.specs.Constants.{is_constant}
 use Rattle.sharc_mode.specs.Moded.{Assignment}
-use Rattle.sharc_mode.specs.Sharings.{Lock, Sharing, private, readonly, locked, racy, dynamic, sharing_of, text_at, is_sibling_lock, variable_of}
+use Rattle.sharc_mode.specs.Sharings.{Lock, Sharing, private, readonly, locked, racy, dynamic, sharing_of, text_at}
+use Rattle.sharc_mode.specs.Sharings.{is_sibling_lock, variable_of}
 
--- as they are written; through `x->f` with `x` a constant variable, which is at this token; at a call with these parameters and arguments
+-- as they are written; through `x->f` with `x` a constant variable, which is at this token; at a call with these
+-- parameters and arguments
 pub data Reading : Type 0 where
   written : Reading
   through : ℕ → Reading
@@ -50,7 +54,8 @@ base_use r Arrow a = constant_use r a
 abbrev pub argument_use : Resolution → List Declaration → Arguments → ℕ → Option ℕ
 argument_use r [] all x = None
 argument_use r (d ∷ rest) no_arguments x = None
-argument_use r (d ∷ rest) (argument a more) x = if d.name.site.token == x then constant_use r a else argument_use r rest more x
+argument_use r (d ∷ rest) (argument a more) x =
+    if d.name.site.token == x then constant_use r a else argument_use r rest more x
 
 -- Lock paths as they are read.
 
@@ -91,7 +96,8 @@ no_row = record { first = 0; count = 0; reading = written }
 
 -- what it points to in turn
 abbrev pub deeper : Targets → Targets
-deeper row = if row.count == 0 then row else record { first = row.first + 1; count = row.count - 1; reading = row.reading }
+deeper row =
+    if row.count == 0 then row else record { first = row.first + 1; count = row.count - 1; reading = row.reading }
 
 -- the first position of a global is its top, of any other the first target
 abbrev pub targets_from : Role → Targets → Targets
@@ -100,7 +106,8 @@ targets_from _ row = row
 
 abbrev pub entity_row : Reading → Option Numbered → Targets
 entity_row how None = no_row
-entity_row how (Some n) = targets_from n.entity.role (record { first = n.first; count = positions_of n.entity; reading = how })
+entity_row how (Some n) =
+    targets_from n.entity.role (record { first = n.first; count = positions_of n.entity; reading = how })
 
 -- of the type of what this token declares
 abbrev pub declared_row : Resolution → Reading → ℕ → Targets

@@ -1,5 +1,6 @@
 -- What is settled of a position before any inference: what is written there, and what is meant where nothing is.
-use Rattle.std.specs.Prelude.{ℕ, Bool, true, false, List, [], ◌∷◌, ◌++◌, slice_index_or, Option, Some, None, if◌then◌else◌}
+use Rattle.std.specs.Prelude.{ℕ, Bool, true, false, List, [], ◌∷◌, ◌++◌, slice_index_or, Option, Some, None}
+use Rattle.std.specs.Prelude.{if◌then◌else◌}
 use Rattle.std.specs.Option.{option_or}
 use Rattle.sharc_tree.specs.{declared.ctype.Base.Base, declared.ctype.Mode.Mode}
 use Rattle.sharc_tree.specs.declared.ctype.Mode.TheVariants.{Private, Racy, Dynamic}
@@ -16,7 +17,8 @@ is_mutex _ _ = false
 -- a mutex is racy, whatever is written; else what is written, or else what is meant where nothing is
 abbrev pub settled : Base → Option Mode → List (Option Mode) → List (Option Mode)
 settled b otherwise [] = []
-settled b otherwise (level ∷ below) = (if is_mutex b below then Some Racy else option_or level otherwise) ∷ settled b otherwise below
+settled b otherwise (level ∷ below) =
+    (if is_mutex b below then Some Racy else option_or level otherwise) ∷ settled b otherwise below
 
 -- a field's target without a mode has the field's own top mode if that is written, else dynamic
 abbrev pub field_target : List (Option Mode) → Mode

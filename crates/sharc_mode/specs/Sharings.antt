@@ -57,9 +57,9 @@ mode_of r (locked l) = Locked (path_of r l)
 mode_of r racy = Racy
 mode_of r dynamic = Dynamic
 
--- Two paths are equal where they name the same global, or the same variable and the same field; a field's own paths where they name the same sibling.
--- A path that names what no path may name is equal to one that names the same. The fields behind one variable, and what the program does not define, are
--- determined by their names.
+-- Two paths are equal where they name the same global, or the same variable and the same field; a field's own paths
+-- where they name the same sibling. A path that names what no path may name is equal to one that names the same. The
+-- fields behind one variable, and what the program does not define, are determined by their names.
 
 abbrev pub same_named : Named → Named → Bool
 same_named (named.Struct n) (named.Struct k) = n == k

@@ -1,5 +1,6 @@
 -- Types in which modes are not placed as they may be: M3, M4 and M5.
-use Rattle.std.specs.Prelude.{ℕ, Bool, true, false, ◌&&◌, ◌||◌, ◌==◌, not, List, [], ◌∷◌, Option, Some, None, is_some, if◌then◌else◌}
+use Rattle.std.specs.Prelude.{ℕ, Bool, true, false, ◌&&◌, ◌||◌, ◌==◌, not, List, [], ◌∷◌, Option, Some, None, is_some}
+use Rattle.std.specs.Prelude.{if◌then◌else◌}
 use Rattle.std.specs.Option.{option_or}
 use Rattle.sharc_tree.specs.{declared.ctype.Base.Base, declared.ctype.CType.CType, declared.ctype.Path.Path}
 use Rattle.sharc_tree.specs.declared.ctype.Mode.{Mode}
@@ -47,7 +48,8 @@ holds_private [] = false
 holds_private (None ∷ below) = holds_private below
 holds_private (Some m ∷ below) = (not (is_private_mode m) && begins_private below) || holds_private below
 
--- the modes that are meant: a mutex is racy, and a field's target without a mode has that of the field's top, or is dynamic
+-- the modes that are meant: a mutex is racy, and a field's target without a mode has that of the field's top, or is
+-- dynamic
 abbrev pub target_otherwise : Place → List (Option Mode) → Option Mode
 target_otherwise Field levels = Some (field_target levels)
 target_otherwise _ levels = None
@@ -86,7 +88,8 @@ is_readonly_top _ = false
 -- `mutex racy * readonly`: the mutex is racy whatever is written there
 abbrev pub is_readonly_lock : Option Declaration → Bool
 is_readonly_lock None = false
-is_readonly_lock (Some d) = is_mutex_pointer (declared_kind d.written) && is_readonly_top (top_of d.written.ctype.levels)
+is_readonly_lock (Some d) =
+    is_mutex_pointer (declared_kind d.written) && is_readonly_top (top_of d.written.ctype.levels)
 
 -- the name of a sibling field whose type is that
 abbrev pub names_sibling_pointer : Resolution → Named → Bool
@@ -112,7 +115,8 @@ is_mutex_field (Some d) = is_mutex_kind (declared_kind d.written)
 
 -- `x->m` with `x` a constant variable and `m` a mutex field
 abbrev pub is_through_constant : Resolution → Named → List ℕ → Bool
-is_through_constant r (named.Variable x) m = is_constant r x && is_mutex_field (field_of (fields_behind r (declaration_at r x)) m)
+is_through_constant r (named.Variable x) m =
+    is_constant r x && is_mutex_field (field_of (fields_behind r (declaration_at r x)) m)
 is_through_constant r _ m = false
 
 -- results and globals name global mutexes alone; siblings are named in fields, `x->m` in a function
@@ -163,7 +167,8 @@ abbrev pub first_unfit_path : Resolution → Place → Base → List (Option Mod
 first_unfit_path r place b [] = None
 first_unfit_path r place b (top ∷ below) = option_or (unfit_path_in r place below) (unfit_top_path r place b below top)
 
--- ---- M5: `racy` on a pointer or a struct, another mode than racy on a mutex, another mode than private on the top of a local, parameter, result or cast
+-- ---- M5: `racy` on a pointer or a struct, another mode than racy on a mutex, another mode than private on the top of
+-- a local, parameter, result or cast
 
 abbrev pub is_racy_mode : Mode → Bool
 is_racy_mode Racy = true
@@ -208,7 +213,12 @@ first_unfit_mode place b (top ∷ below) = option_or (unfit_mode_in b below) (un
 -- ---- the lowest code that holds
 
 abbrev pub lowest : Bool → Bool → Bool → Option ErrorCode
-lowest third fourth fifth = if third then Some PrivateTarget else if fourth then Some LockPathNotConstant else if fifth then Some ModeNotAllowed else None
+lowest third fourth fifth =
+    if third then Some PrivateTarget
+    else if fourth then Some LockPathNotConstant
+    else if fifth then Some ModeNotAllowed
+    else None
 
 abbrev pub type_code : Resolution → Place → CType → Option ErrorCode
-type_code r place c = lowest (holds_private (meant place c.base c.levels)) (is_some (first_unfit_path r place c.base c.levels)) (is_some (first_unfit_mode place c.base c.levels))
+type_code r place c = lowest (holds_private (meant place c.base c.levels))
+    (is_some (first_unfit_path r place c.base c.levels)) (is_some (first_unfit_mode place c.base c.levels))

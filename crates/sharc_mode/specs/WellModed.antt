@@ -33,16 +33,22 @@ has_private_target [] = false
 has_private_target (s ∷ below) = is_private s
 
 abbrev pub parameter_notes : Assignment → List ℕ → Declaration → List Finding
-parameter_notes m name d = error_where (has_private_target (modes_of m (declared_row m.typed written d.name.site.token))) PrivateReachesThread d.written.span name
+parameter_notes m name d =
+    error_where (has_private_target (modes_of m (declared_row m.typed written d.name.site.token)))
+    PrivateReachesThread d.written.span name
 
 abbrev pub spawned_notes : Assignment → ℕ → List Function → List Finding
 spawned_notes m n [] = []
-spawned_notes m n (f ∷ rest) = (if is_spawned m.typed n then flat_map (parameter_notes m f.name.text) f.parameters else []) ++ spawned_notes m (n + 1) rest
+spawned_notes m n (f ∷ rest) =
+    (if is_spawned m.typed n then flat_map (parameter_notes m f.name.text) f.parameters else [])
+    ++ spawned_notes m (n + 1) rest
 
 -- by a test of which globals are touched
 abbrev pub touched_notes : (ℕ → Bool) → ℕ → List GlobalDefinition → List Finding
 touched_notes touched n [] = []
-touched_notes touched n (g ∷ rest) = error_where (touched n && is_private_level (top_of g.declaration.written.ctype.levels)) PrivateReachesThread g.declaration.written.span g.declaration.name.text
+touched_notes touched n (g ∷ rest) =
+    error_where (touched n && is_private_level (top_of g.declaration.written.ctype.levels)) PrivateReachesThread
+    g.declaration.written.span g.declaration.name.text
     ++ touched_notes touched (n + 1) rest
 
 -- of all types, of what threads get, and of all expressions and statements

@@ -6,7 +6,8 @@ ghost use Rattle.sharc_tree.specs.View.{view_expr};
 ghost use Rattle.sharc_names.specs.View.{view_kind};
 ghost use Rattle.sharc_ctype.specs.Entities.{entity_at};
 ghost use Rattle.sharc_ctype.specs.Resolved.{named_kind};
-ghost use Rattle.sharc_mode.specs.Cells.{is_mutex_kind, is_behind_pointer, written_cell, top_of, field_cell, field_named, first_mode, named_cell, pointed, cell_at};
+ghost use Rattle.sharc_mode.specs.Cells.{is_mutex_kind, is_behind_pointer, written_cell, top_of, field_cell};
+ghost use Rattle.sharc_mode.specs.Cells.{field_named, first_mode, named_cell, pointed, cell_at};
 ghost use Rattle.sharc_mode.specs.View.{view_lock, view_sharing, view_rows};
 
 use crate::moded::Moded;
@@ -160,7 +161,8 @@ pub fn pointed<'a>(program: &'a Moded, row: Option<Targets<'a>>) -> Sharing<'a>
     }
 }
 
-/// The mode of the cell that an expression of the program names; private where it names none. It looks at no argument of a call and no index.
+/// The mode of the cell that an expression of the program names; private where it names none. It looks at no argument
+/// of a call and no index.
 pub fn cell_of<'a>(program: &'a Moded, expr: &'a Expr) -> Sharing<'a>
     ensures { view_sharing result ≡ cell_at program.now (view_expr expr.now) }
 {

@@ -10,6 +10,7 @@ pub enum Finding {
     Wrong(ModeError),
     /// A lock path names the variable or the global that this token declares.
     Names(u32),
-    /// A cast or `free` takes what the variable or the global refers to that the token declares. The span is that of its lvalue.
+    /// A cast or `free` takes what the variable or the global refers to that the token declares. The span is that of
+    /// its lvalue.
     Takes(Span, u32),
 }

@@ -1,4 +1,5 @@
-//! Sharing modes: positions, what lock paths name, which modes expressions have, the least assignment of modes, and what is wrong with the modes of a program.
+//! Sharing modes: positions, what lock paths name, which modes expressions have, the least assignment of modes, and
+//! what is wrong with the modes of a program.
 #![tactic(auto)]
 
 pub mod cell;

@@ -13,14 +13,16 @@ use sharc_tree::listed::Listed;
 use std::alloc::{AllocError, Global};
 use std::marker::Model;
 
-/// A typed program with a mode for each position, and a reason for each that was inferred to be dynamic. A contract sees it as these.
+/// A typed program with a mode for each position, and a reason for each that was inferred to be dynamic. A contract
+/// sees it as these.
 pub struct Moded {
     typed: Typed,
     modes: Modes,
     reasons: Reasons,
 }
 
-/// A drop that is written out is proved here once; one that is derived is proved in each crate that drops a program with its modes.
+/// A drop that is written out is proved here once; one that is derived is proved in each crate that drops a program
+/// with its modes.
 impl Drop for Moded {
     fn drop(self) {
         let Moded {

@@ -3,7 +3,8 @@
 use sharc_tree::ctype::Mode;
 use sharc_tree::listed::Listed;
 
-/// A level of the type of a local, parameter, result, global, cast or field: a pointer's target, or the top of a global.
+/// A level of the type of a local, parameter, result, global, cast or field: a pointer's target, or the top of a
+/// global.
 #[derive(Clone, Copy)]
 pub struct Position {
     /// The token of the declared name, of a cast the token `SCAST`.

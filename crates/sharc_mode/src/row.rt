@@ -6,7 +6,9 @@ ghost use Rattle.sharc_tree.specs.View.{view_expr, view_arguments, view_function
 ghost use Rattle.sharc_ctype.specs.Constants.{is_constant};
 ghost use Rattle.sharc_ctype.specs.Entities.{entity_at, positions_of};
 ghost use Rattle.sharc_mode.specs.Moded.{position_count};
-ghost use Rattle.sharc_mode.specs.Rows.{is_constant_named, constant_use, base_use, argument_use, targets_from, deeper, entity_row, declared_row, cast_row, global_row, named_row, result_row, called_row, behind, no_row, constant_row, reading_through, unary_row, row_at};
+ghost use Rattle.sharc_mode.specs.Rows.{is_constant_named, constant_use, base_use, argument_use, targets_from, deeper};
+ghost use Rattle.sharc_mode.specs.Rows.{entity_row, declared_row, cast_row, global_row, named_row, result_row};
+ghost use Rattle.sharc_mode.specs.Rows.{called_row, behind, no_row, constant_row, reading_through, unary_row, row_at};
 ghost use Rattle.sharc_mode.specs.View.{view_reading, view_row, view_rows, EndsWithin};
 
 use sharc_ctype::entity::Numbered;
@@ -26,7 +28,8 @@ pub enum Reading<'a> {
     Written,
     /// Through `x->f` with `x` a constant variable, which is at this token: a sibling's name `m` becomes `x->m`.
     Through(u32),
-    /// At a call with these parameters and arguments: `x->m` becomes `y->m` where the argument for `x` is the constant variable `y`.
+    /// At a call with these parameters and arguments: `x->m` becomes `y->m` where the argument for `x` is the constant
+    /// variable `y`.
     Call(&'a [Declaration], &'a [Expr]),
     /// At a spawn with these parameters and this argument, likewise.
     Spawn(&'a [Declaration], &'a Expr),
@@ -250,8 +253,8 @@ fn reading_through<'a>(base: Option<u32>) -> Reading<'a>
     }
 }
 
-/// What an expression of the program points to, from its first target on; none for NULL, which agrees with every pointer type. It looks at no
-/// argument of a call and no index.
+/// What an expression of the program points to, from its first target on; none for NULL, which agrees with every
+/// pointer type. It looks at no argument of a call and no index.
 pub fn row_of<'a>(typed: &Typed, expr: &Expr) -> Option<Targets<'a>>
     ensures row { view_rows result ≡ row_at typed.now (view_expr expr.now) }
     ensures within { EndsWithin typed.now result }
@@ -295,7 +298,8 @@ pub fn row_of<'a>(typed: &Typed, expr: &Expr) -> Option<Targets<'a>>
     }
 }
 
-/// Whether the variable that the token with this number declares is constant: a parameter or an initialised local that is never assigned.
+/// Whether the variable that the token with this number declares is constant: a parameter or an initialised local that
+/// is never assigned.
 pub fn constant_var(typed: &Typed, variable: u32) -> bool
     ensures { result ≡ is_constant typed.now variable }
 {

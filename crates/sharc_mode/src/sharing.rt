@@ -2,7 +2,10 @@
 
 ghost use Rattle.std.specs.Prelude.{◌≡◌};
 ghost use Rattle.std.specs.Option.{option_copied};
-ghost use Rattle.sharc_mode.specs.Sharings.{lock_of, sharing_of, same_named, same_text, same_first, same_second, same_lock, same, same_level, same_levels, is_private, is_readonly, is_field, is_sibling_lock, is_sibling, variable_named, variable_of, global_token, object_named, object_of};
+ghost use Rattle.sharc_mode.specs.Sharings.{lock_of, sharing_of, same_named, same_text, same_first, same_second};
+ghost use Rattle.sharc_mode.specs.Sharings.{same_lock, same, same_level, same_levels, is_private, is_readonly};
+ghost use Rattle.sharc_mode.specs.Sharings.{is_field, is_sibling_lock, is_sibling, variable_named, variable_of};
+ghost use Rattle.sharc_mode.specs.Sharings.{global_token, object_named, object_of};
 ghost use Rattle.sharc_mode.specs.View.{view_name, view_lock, view_sharing};
 
 use crate::text::text_at;
@@ -145,8 +148,8 @@ fn same_levels(typed: &Typed, a: &[Option<Mode>], b: &[Option<Mode>]) -> bool
     true
 }
 
-/// Whether two types have the same modes, level by level. Two paths are equal where they name the same, as the same global, or the same variable and the
-/// same field; modes that are not known are the same.
+/// Whether two types have the same modes, level by level. Two paths are equal where they name the same, as the same
+/// global, or the same variable and the same field; modes that are not known are the same.
 pub fn same_modes(typed: &Typed, a: &CType, b: &CType) -> bool
     ensures { result ≡ same_levels typed.now a.now.levels b.now.levels }
 {

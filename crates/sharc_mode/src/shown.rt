@@ -92,7 +92,8 @@ pub fn shown(
     row: Targets<'_>,
 ) -> Result<CType, AllocError>
     requires { row.first + row.count ≤ position_count program.now.typed }
-    ensures { IfOk result (λ c. c ≡ shown program.now.typed (view_root root.entry) (modes_of program.now (view_row row.entry))) }
+    ensures { IfOk result (λ c. c
+        ≡ shown program.now.typed (view_root root.entry) (modes_of program.now (view_row row.entry))) }
 {
     let t = program.typed();
     let _all = program.position_count();
@@ -115,7 +116,8 @@ pub fn shown(
 pub fn same_rows(program: &Moded, a: Targets<'_>, b: Targets<'_>) -> bool
     requires a { a.first + a.count ≤ position_count program.now.typed }
     requires b { b.first + b.count ≤ position_count program.now.typed }
-    ensures { result ≡ same_all program.now.typed (modes_of program.now (view_row a.entry)) (modes_of program.now (view_row b.entry)) }
+    ensures { result ≡ same_all program.now.typed (modes_of program.now (view_row a.entry))
+        (modes_of program.now (view_row b.entry)) }
 {
     let t = program.typed();
     let _all = program.position_count();

@@ -64,7 +64,8 @@ pub fn mode_text(alloc: Global, mode: &Mode) -> Result<Name, AllocError>
     }
 }
 
-/// The text of the tokens of a construct, with a blank only between two tokens that are both words or numbers. Tokens past the last one have none.
+/// The text of the tokens of a construct, with a blank only between two tokens that are both words or numbers. Tokens
+/// past the last one have none.
 pub fn span_text(alloc: Global, typed: &Typed, span: Span) -> Result<Name, AllocError>
     ensures { IfOk result (λ n. n ≡ span_text typed.now span) }
 {

@@ -4,7 +4,14 @@ ghost use Rattle.std.specs.Prelude.{◌≡◌, Some, None, is_some, if◌then◌
 ghost use Rattle.std.specs.Option.{option_copied, option_or};
 ghost use Rattle.sharc_tree.specs.declared.ctype.Mode.TheVariants.{Racy as RacyMode, Dynamic as DynamicMode};
 ghost use Rattle.sharc_mode.specs.Settled.{is_mutex, settled, field_target};
-ghost use Rattle.sharc_mode.specs.WellFormed.{is_private_mode, begins_private, holds_private, target_otherwise, with_top, below_top, meant, names_global_mutex, names_sibling_mutex, is_mutex_pointer, is_readonly_top, is_readonly_lock, names_sibling_pointer, fields_named, fields_behind, is_mutex_field, is_through_constant, allows_path, leaves_open, allows_pointer, path_fits, top_path_fits, unfit_path, unfit_top_path, unfit_path_in, first_unfit_path, is_racy_mode, base_allows, level_allows, top_allows, unfit_mode, unfit_top, unfit_mode_in, first_unfit_mode, type_code};
+ghost use Rattle.sharc_mode.specs.WellFormed.{is_private_mode, begins_private, holds_private, target_otherwise};
+ghost use Rattle.sharc_mode.specs.WellFormed.{with_top, below_top, meant, names_global_mutex, names_sibling_mutex};
+ghost use Rattle.sharc_mode.specs.WellFormed.{is_mutex_pointer, is_readonly_top, is_readonly_lock};
+ghost use Rattle.sharc_mode.specs.WellFormed.{names_sibling_pointer, fields_named, fields_behind, is_mutex_field};
+ghost use Rattle.sharc_mode.specs.WellFormed.{is_through_constant, allows_path, leaves_open, allows_pointer, path_fits};
+ghost use Rattle.sharc_mode.specs.WellFormed.{top_path_fits, unfit_path, unfit_top_path, unfit_path_in};
+ghost use Rattle.sharc_mode.specs.WellFormed.{first_unfit_path, is_racy_mode, base_allows, level_allows, top_allows};
+ghost use Rattle.sharc_mode.specs.WellFormed.{unfit_mode, unfit_top, unfit_mode_in, first_unfit_mode, type_code};
 ghost use Rattle.sharc_names.specs.Names.{field_of};
 ghost use Rattle.sharc_names.specs.View.{view_kind};
 ghost use Rattle.sharc_mode.specs.View.{view_lock, view_name};
@@ -411,7 +418,8 @@ fn settled_level<'a>(
     below: &[Option<Mode>],
 ) -> Option<&'a Mode>
     requires { racy.now ≡ RacyMode }
-    ensures { option_copied result ≡ (if is_mutex base.now below.now then Some RacyMode else option_or level.now (option_copied otherwise.entry)) }
+    ensures { option_copied result ≡ (if is_mutex base.now below.now then Some RacyMode
+        else option_or level.now (option_copied otherwise.entry)) }
 {
     if is_mutex(base, below) {
         return Some(racy);
@@ -495,7 +503,8 @@ fn holds_private_from<'a>(
     levels: &'a [Option<Mode>],
 ) -> bool
     requires { racy.now ≡ RacyMode }
-    ensures { result ≡ holds_private (with_top (settled base.now None levels.now) (settled base.now (option_copied otherwise.entry) (below_top levels.now))) }
+    ensures { result ≡ holds_private (with_top (settled base.now None levels.now)
+        (settled base.now (option_copied otherwise.entry) (below_top levels.now))) }
 {
     match levels {
         [] => false,
@@ -532,8 +541,9 @@ pub fn holds_private(place: Place, base: &Base, levels: &[Option<Mode>]) -> bool
     holds_private_with(place, base, &Mode::Racy, &Mode::Dynamic, levels)
 }
 
-/// The lowest of M3, M4 and M5 that holds of a type at that place: M3, a level that is not private is directly above a private target; M4, a lock
-/// path is none of the allowed forms; M5, a mode is where it is not allowed. None where none of them holds.
+/// The lowest of M3, M4 and M5 that holds of a type at that place: M3, a level that is not private is directly above a
+/// private target; M4, a lock path is none of the allowed forms; M5, a mode is where it is not allowed. None where none
+/// of them holds.
 pub fn well_formed(typed: &Typed, ctype: &CType, place: Place) -> Option<ErrorCode>
     ensures { result ≡ type_code typed.now place ctype.now }
 {

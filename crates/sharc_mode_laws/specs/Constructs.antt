@@ -1,11 +1,15 @@
--- The constructs of a program that the rules of modes speak of: what is given to what, what is called, taken and written.
+-- The constructs of a program that the rules of modes speak of: what is given to what, what is called, taken and
+-- written.
 use Rattle.std.specs.Prelude.{◌≡◌, ℕ, List, [], ◌∷◌, ◌++◌, Some, slice_get, Contains}
 use Rattle.sharc_tree.specs.{declared.ctype.Mode.Mode, declared.token.Span.Span}
 use Rattle.sharc_tree.specs.declared.tree.declaration.Declaration.{Declaration}
 use Rattle.sharc_tree.specs.declared.tree.declaration.Identifier.{Identifier}
 use Rattle.sharc_tree.specs.declared.tree.declaration.WrittenType.{WrittenType}
 use Rattle.sharc_tree.specs.{declared.tree.expression.PlaceCall.TheVariants.Free, Measures.in_function}
-use Rattle.sharc_tree.specs.Tree.{Expression, call, spawn, on_place, cast, Arguments, no_arguments, argument, Right, value, Local, First, nothing, declares, does, Statement, empty, block, declare, simple, jump, return, if_then, if_then_else, while, for, Statements, no_statements, statement, Function}
+use Rattle.sharc_tree.specs.Tree.{Expression, call, spawn, on_place, cast, Arguments, no_arguments, argument, Right}
+use Rattle.sharc_tree.specs.Tree.{value, Local, First, nothing, declares, does, Statement, empty, block, declare}
+use Rattle.sharc_tree.specs.Tree.{simple, jump, return, if_then, if_then_else, while, for, Statements, no_statements}
+use Rattle.sharc_tree.specs.Tree.{statement, Function}
 use Rattle.sharc_ctype.specs.{declared.entity.Entity.Entity, declared.entity.Numbered.Numbered}
 use Rattle.sharc_ctype.specs.{Entities.{entities_in, numbered}, Resolved.{functions_in, named_at}}
 use Rattle.sharc_ctype.specs.Transfers.{lvalue, variable, result, function_transfers, parameters_named, passed}
@@ -21,11 +25,13 @@ pub record IsExpression (m : Assignment) (e : Expression) : Type 0 where
   pub stands : IsFunction m owner
   pub inside : Contains (in_function owner) e
 
--- a function with these parameters is called or spawned with these arguments; the calls of condition variables have none
--- that a program declares
+-- a function with these parameters is called or spawned with these arguments; the calls of condition variables have
+-- none that a program declares
 pub data IsCall (m : Assignment) : List Declaration → Arguments → Type 0 where
-  called : {s : Span} {f : Identifier} {all : Arguments} → IsExpression m (call s f all) → IsCall m (parameters_named m.typed (named_at m.typed f.site.token)) all
-  spawned : {s : Span} {f : Identifier} {a : Expression} → IsExpression m (spawn s f a) → IsCall m (parameters_named m.typed (named_at m.typed f.site.token)) (argument a no_arguments)
+  called : {s : Span} {f : Identifier} {all : Arguments} → IsExpression m (call s f all)
+      → IsCall m (parameters_named m.typed (named_at m.typed f.site.token)) all
+  spawned : {s : Span} {f : Identifier} {a : Expression} → IsExpression m (spawn s f a)
+      → IsCall m (parameters_named m.typed (named_at m.typed f.site.token)) (argument a no_arguments)
 
 -- the lvalue whose reference SCAST or `free` takes
 pub data IsTaken (m : Assignment) : Expression → Type 0 where
@@ -64,15 +70,20 @@ pub record IsAssigned (m : Assignment) (to : Expression) (from : Right) : Type 0
   pub does : Contains (function_transfers m.typed owner) record { receiver = lvalue to; source = from }
 
 -- an expression, and the modes that the targets of what it is given to have, from depth 1 on. Of a parameter they are
--- those of its type at the call, where each path `x->m` of another parameter `x` is read as `y->m`, with `y` the argument
--- for it
+-- those of its type at the call, where each path `x->m` of another parameter `x` is read as `y->m`, with `y` the
+-- argument for it
 pub data IsGiven (m : Assignment) : List Sharing → Expression → Type 0 where
-  assigned : {u e : Expression} {modes : List Sharing} → IsAssigned m u (value e) → modes_at m u ≡ Some modes → IsGiven m modes e
-  initial : {f : Function} {l : Local} {e : Expression} → IsFunction m f → Contains (locals_in_all f.statements) l → l.initial ≡ Some (value e) → IsGiven m (modes_of m (declared_row m.typed written l.declaration.name.site.token)) e
+  assigned : {u e : Expression} {modes : List Sharing} → IsAssigned m u (value e) → modes_at m u ≡ Some modes
+      → IsGiven m modes e
+  initial : {f : Function} {l : Local} {e : Expression} → IsFunction m f → Contains (locals_in_all f.statements) l
+      → l.initial ≡ Some (value e)
+      → IsGiven m (modes_of m (declared_row m.typed written l.declaration.name.site.token)) e
   an_argument : {parameters : List Declaration} {all : Arguments} {d : Declaration} {e : Expression}
-      → IsCall m parameters all → Contains (passed parameters all) record { receiver = variable d; source = value e } → IsGiven m (modes_of m (declared_row m.typed (at_call parameters all) d.name.site.token)) e
+      → IsCall m parameters all → Contains (passed parameters all) record { receiver = variable d; source = value e }
+      → IsGiven m (modes_of m (declared_row m.typed (at_call parameters all) d.name.site.token)) e
   returned : {f : Function} {w : WrittenType} {e : Expression}
-      → IsFunction m f → Contains (function_transfers m.typed f) record { receiver = result w; source = value e } → IsGiven m (modes_of m (declared_row m.typed written f.name.site.token)) e
+      → IsFunction m f → Contains (function_transfers m.typed f) record { receiver = result w; source = value e }
+      → IsGiven m (modes_of m (declared_row m.typed written f.name.site.token)) e
 
 -- ---- types
 

@@ -45,29 +45,37 @@ pub record IsLockPointer (r : Resolution) (f : ℕ) : Type 0 where
 
 -- no target of a field takes its mode from the field's top: each that is no mutex has a mode of its own
 abbrev pub AreTargetsWritten : Entity → Type 0
-AreTargetsWritten e = (depth : ℕ) → 0 < depth → slice_get e.written.ctype.levels depth ≡ Some None → (e.written.ctype.base ≡ base.Mutex) × IsBase e depth
+AreTargetsWritten e = (depth : ℕ) → 0 < depth → slice_get e.written.ctype.levels depth ≡ Some None
+    → (e.written.ctype.base ≡ base.Mutex) × IsBase e depth
 
 -- the path is allowed at this depth of a type
 pub data IsAllowed (r : Resolution) (e : Entity) (depth : ℕ) : Path → Type 0 where
   -- `m`, a global mutex
-  global_mutex : {text : List ℕ} {token g : ℕ} → named_at r token ≡ named.Global g → named_kind r (named.Global g) ≡ mutex → IsAllowed r e depth (One text token)
+  global_mutex : {text : List ℕ} {token g : ℕ} → named_at r token ≡ named.Global g
+      → named_kind r (named.Global g) ≡ mutex → IsAllowed r e depth (One text token)
   -- in a field `m`, a sibling of type mutex
-  sibling_mutex : {text : List ℕ} {token f : ℕ} → place_of e.role ≡ place.Field → named_at r token ≡ named.Field f → named_kind r (named.Field f) ≡ mutex → IsAllowed r e depth (One text token)
+  sibling_mutex : {text : List ℕ} {token f : ℕ} → place_of e.role ≡ place.Field → named_at r token ≡ named.Field f
+      → named_kind r (named.Field f) ≡ mutex → IsAllowed r e depth (One text token)
   -- on the top of a field alone `m`, a sibling of type `mutex racy * readonly`
-  sibling_pointer : {text : List ℕ} {token f : ℕ} → place_of e.role ≡ place.Field → depth ≡ 0 → named_at r token ≡ named.Field f → IsLockPointer r f → AreTargetsWritten e → IsAllowed r e depth (One text token)
+  sibling_pointer : {text : List ℕ} {token f : ℕ} → place_of e.role ≡ place.Field → depth ≡ 0 → named_at r token
+      ≡ named.Field f → IsLockPointer r f → AreTargetsWritten e → IsAllowed r e depth (One text token)
   -- in a function `x->m`, with `x` a constant variable and `m` a mutex field of what it points to
-  through_constant : {text m : List ℕ} {token x : ℕ} → place_of e.role ≡ place.Local → named_at r token ≡ named.Variable x → IsTrue (is_constant r x) → IsMutexBehind r x m → IsAllowed r e depth (Through text token m)
+  through_constant : {text m : List ℕ} {token x : ℕ} → place_of e.role ≡ place.Local → named_at r token
+      ≡ named.Variable x → IsTrue (is_constant r x) → IsMutexBehind r x m → IsAllowed r e depth (Through text token m)
 
 -- ---- the paths of a program
 
 -- a lock path in the type of a declaration, as it is read here: of a target's mode, or of what is written at some level
 pub data HasPath (m : Assignment) (how : Reading) (d : Declaration) : Lock → Type 0 where
-  at_target : {l : Lock} → Contains (modes_of m (declared_row m.typed how d.name.site.token)) (locked l) → HasPath m how d l
-  at_level : {path : Path} → Contains d.written.ctype.levels (Some (Locked path)) → HasPath m how d (read_lock m.typed how (lock_of path))
+  at_target : {l : Lock} → Contains (modes_of m (declared_row m.typed how d.name.site.token)) (locked l)
+      → HasPath m how d l
+  at_level : {path : Path} → Contains d.written.ctype.levels (Some (Locked path))
+      → HasPath m how d (read_lock m.typed how (lock_of path))
 
 -- the use `x->f` of a field, with `x` a constant variable
 pub data IsThroughConstant (r : Resolution) : Access → Expression → ℕ → Type 0 where
-  through : {s : Span} {i : Identifier} {x : ℕ} → named_at r i.site.token ≡ named.Variable x → IsTrue (is_constant r x) → IsThroughConstant r Arrow (identifier s i) x
+  through : {s : Span} {i : Identifier} {x : ℕ} → named_at r i.site.token ≡ named.Variable x → IsTrue (is_constant r x)
+      → IsThroughConstant r Arrow (identifier s i) x
 
 -- the use of a field of which some target is locked by a sibling
 pub record IsSiblingUse (m : Assignment) (a : Expression) (w : Access) : Type 0 where
@@ -81,7 +89,9 @@ pub record IsSiblingUse (m : Assignment) (a : Expression) (w : Access) : Type 0 
 -- the variable or the global that this token declares is named by some lock path: a written one, one that a call reads,
 -- or one that the use of a field makes
 pub data IsNamedByPath (m : Assignment) (x : ℕ) : Type 0 where
-  is_written : {n : Numbered} {path : Path} → IsEntity m n → Contains n.entity.written.ctype.levels (Some (Locked path)) → object_of m.typed (lock_of path) ≡ Some x → IsNamedByPath m x
+  is_written : {n : Numbered} {path : Path} → IsEntity m n → Contains n.entity.written.ctype.levels (Some (Locked path))
+      → object_of m.typed (lock_of path) ≡ Some x → IsNamedByPath m x
   is_substituted : {parameters : List Declaration} {all : Arguments} {d : Declaration} {l : Lock}
-      → IsCall m parameters all → Contains parameters d → HasPath m (at_call parameters all) d l → object_of m.typed l ≡ Some x → IsNamedByPath m x
+      → IsCall m parameters all → Contains parameters d → HasPath m (at_call parameters all) d l
+      → object_of m.typed l ≡ Some x → IsNamedByPath m x
   is_made : {a : Expression} {w : Access} → IsSiblingUse m a w → IsThroughConstant m.typed w a x → IsNamedByPath m x

@@ -21,7 +21,8 @@ use Rattle.sharc_mode_laws.specs.Paths.{IsBase, IsAllowed, HasPath, IsThroughCon
 -- M1: what is assigned, begun with, passed, spawned with or returned has, in each target, the mode of what it is
 -- given to. NULL has no modes and agrees with every pointer type, and so does malloc
 abbrev pub GivenAgree : Assignment → Type 0
-GivenAgree m = (to found : List Sharing) (e : Expression) → IsGiven m to e → modes_at m e ≡ Some found → IsTrue (same_all m.typed to found)
+GivenAgree m = (to found : List Sharing) (e : Expression) → IsGiven m to e → modes_at m e ≡ Some found
+    → IsTrue (same_all m.typed to found)
 
 -- M2: no assignment writes a readonly cell
 abbrev pub NoneReadonlyAssigned : Assignment → Type 0
@@ -30,15 +31,19 @@ NoneReadonlyAssigned m = (u : Expression) (x : Right) → IsAssigned m u x → c
 -- M3: no level that is not private is directly above a private target. The top of a global is a position; that of any
 -- other type counts where it is written
 pub record NoneAbovePrivate (m : Assignment) : Type 0 where
-  pub positions : (x y : ℕ) (mode : Mode) → IsBelow m.typed x y → slice_get m.modes x ≡ Some mode → slice_get m.modes y ≡ Some Private → mode ≡ Private
-  pub tops : (n : Numbered) (mode : Mode) → IsEntity m n → (n.entity.role ≡ role.Global → ⊥) → IsWritten n.entity 0 mode → 0 < positions_of n.entity → slice_get m.modes n.first ≡ Some Private → mode ≡ Private
+  pub positions : (x y : ℕ) (mode : Mode) → IsBelow m.typed x y → slice_get m.modes x ≡ Some mode
+      → slice_get m.modes y ≡ Some Private → mode ≡ Private
+  pub tops : (n : Numbered) (mode : Mode) → IsEntity m n → (n.entity.role ≡ role.Global → ⊥) → IsWritten n.entity 0 mode
+      → 0 < positions_of n.entity → slice_get m.modes n.first ≡ Some Private → mode ≡ Private
 
 -- M4: each lock path is of a form that is allowed there; and where the type of a parameter needs another one `x` for a
 -- path `x->m`, the argument for `x` is a constant variable
 pub record ArePathsAllowed (m : Assignment) : Type 0 where
-  pub forms : (n : Numbered) (depth : ℕ) (path : Path) → IsEntity m n → IsWritten n.entity depth (Locked path) → IsAllowed m.typed n.entity depth path
+  pub forms : (n : Numbered) (depth : ℕ) (path : Path) → IsEntity m n → IsWritten n.entity depth (Locked path)
+      → IsAllowed m.typed n.entity depth path
   pub arguments : (parameters : List Declaration) (all : Arguments) (d : Declaration) (l : Lock) (x : ℕ)
-      → IsCall m parameters all → Contains parameters d → HasPath m written d l → path_variable m.typed l ≡ Some x → (y : ℕ) × (argument_use m.typed parameters all x ≡ Some y)
+      → IsCall m parameters all → Contains parameters d → HasPath m written d l → path_variable m.typed l ≡ Some x
+      → (y : ℕ) × (argument_use m.typed parameters all x ≡ Some y)
 
 -- the top of a local, a parameter, a result or a cast
 pub data HasPrivateTop : Place → Type 0 where
@@ -54,22 +59,27 @@ pub record IsModeAllowed (e : Entity) (depth : ℕ) (mode : Mode) : Type 0 where
   pub top : HasPrivateTop (place_of e.role) → depth ≡ 0 → mode ≡ Private
 
 abbrev pub AreModesAllowed : Assignment → Type 0
-AreModesAllowed m = (n : Numbered) (depth : ℕ) (mode : Mode) → IsEntity m n → IsWritten n.entity depth mode → IsModeAllowed n.entity depth mode
+AreModesAllowed m = (n : Numbered) (depth : ℕ) (mode : Mode) → IsEntity m n → IsWritten n.entity depth mode
+    → IsModeAllowed n.entity depth mode
 
 -- M6: `private` is not written in a field
 abbrev pub NoFieldPrivate : Assignment → Type 0
-NoFieldPrivate m = (n : Numbered) (depth : ℕ) → IsEntity m n → n.entity.role ≡ role.Field → IsWritten n.entity depth Private → ⊥
+NoFieldPrivate m = (n : Numbered) (depth : ℕ) → IsEntity m n → n.entity.role ≡ role.Field
+    → IsWritten n.entity depth Private → ⊥
 
 -- M7: no function that is spawned has a parameter with a private target, and no global that threads touch has `private`
 -- written on its top
 pub record NoneShared (m : Assignment) : Type 0 where
   pub parameters : (n k : ℕ) (f : Function) (d : Declaration) (below : List Sharing)
-      → Spawns m.typed n k → function_at m.typed k ≡ Some f → Contains f.parameters d → modes_of m (declared_row m.typed written d.name.site.token) ≡ private ∷ below → ⊥
-  pub globals : (n : ℕ) (g : GlobalDefinition) → IsTouched m.typed n → global_at m.typed n ≡ Some g → top_of g.declaration.written.ctype.levels ≡ Some Private → ⊥
+      → Spawns m.typed n k → function_at m.typed k ≡ Some f → Contains f.parameters d
+      → modes_of m (declared_row m.typed written d.name.site.token) ≡ private ∷ below → ⊥
+  pub globals : (n : ℕ) (g : GlobalDefinition) → IsTouched m.typed n → global_at m.typed n ≡ Some g
+      → top_of g.declaration.written.ctype.levels ≡ Some Private → ⊥
 
 -- M8: the type of a cast has, in each target from depth 2 on, the mode of its source's
 abbrev pub CastsKeepDeeper : Assignment → Type 0
-CastsKeepDeeper m = (s : Span) (t : WrittenType) (a : Expression) (found : List Sharing) → IsExpression m (cast s t a) → modes_at m a ≡ Some found → IsTrue (same_all m.typed (drop 1 (modes_of m (cast_row m.typed s))) (drop 1 found))
+CastsKeepDeeper m = (s : Span) (t : WrittenType) (a : Expression) (found : List Sharing) → IsExpression m (cast s t a)
+    → modes_at m a ≡ Some found → IsTrue (same_all m.typed (drop 1 (modes_of m (cast_row m.typed s))) (drop 1 found))
 
 -- M9: SCAST and `free` take nothing from a readonly cell
 abbrev pub NoneReadonlyTaken : Assignment → Type 0
@@ -77,11 +87,13 @@ NoneReadonlyTaken m = (a : Expression) → IsTaken m a → cell_at m a ≡ reado
 
 -- M10: nor from a variable or a global that a lock path names
 abbrev pub NoneNamedTaken : Assignment → Type 0
-NoneNamedTaken m = (a : Expression) (s : Span) (i : Identifier) (x : ℕ) → IsTaken m a → without_parentheses a ≡ identifier s i → object_named m.typed (named_at m.typed i.site.token) ≡ Some x → IsNamedByPath m x → ⊥
+NoneNamedTaken m = (a : Expression) (s : Span) (i : Identifier) (x : ℕ) → IsTaken m a → without_parentheses a
+    ≡ identifier s i → object_named m.typed (named_at m.typed i.site.token) ≡ Some x → IsNamedByPath m x → ⊥
 
 -- M11: a field of which a target is locked by a sibling is used as `x->f` alone, with `x` a constant variable
 abbrev pub SiblingsThroughConstants : Assignment → Type 0
-SiblingsThroughConstants m = (a : Expression) (w : Access) → IsSiblingUse m a w → (x : ℕ) × IsThroughConstant m.typed w a x
+SiblingsThroughConstants m = (a : Expression) (w : Access) → IsSiblingUse m a w
+    → (x : ℕ) × IsThroughConstant m.typed w a x
 
 pub record MeetsRules (m : Assignment) : Type 0 where
   pub m1 : GivenAgree m

@@ -1,4 +1,5 @@
-//! What `check` and `explain` write: tables of sources as tests, over the front end, the checker and the texts as they are together.
+//! What `check` and `explain` write: tables of sources as tests, over the front end, the checker and the texts as they
+//! are together.
 
 mod explained;
 mod mismatches;

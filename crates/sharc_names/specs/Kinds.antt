@@ -1,12 +1,14 @@
 -- What expressions are: C types without modes.
-use Rattle.std.specs.Prelude.{ℕ, ◌==◌, ◌-◌, Bool, true, false, ◌&&◌, ◌||◌, nat_lt, List, map, length, if◌then◌else◌, codes}
+use Rattle.std.specs.Prelude.{ℕ, ◌==◌, ◌-◌, Bool, true, false, ◌&&◌, ◌||◌, nat_lt, List, map, length, if◌then◌else◌}
+use Rattle.std.specs.Prelude.{codes}
 use Rattle.std.specs.Str.{bytes_eq}
 use Rattle.sharc_tree.specs.declared.ctype.Base.{Base}
 use Rattle.sharc_tree.specs.declared.ctype.Base.TheVariants.{Int, Char, Long, Mutex, Void, Struct}
 use Rattle.sharc_tree.specs.declared.tree.declaration.WrittenType.{WrittenType}
 use Rattle.sharc_tree.specs.declared.tree.declaration.Declaration.{Declaration}
 
--- an object or a value of a base with this many stars, a global array of such objects, `NULL`, or the name of a function
+-- an object or a value of a base with this many stars, a global array of such objects, `NULL`, or the name of a
+-- function
 pub data Kind : Type 0 where
   object : Base → ℕ → Kind
   array : Base → ℕ → Kind
@@ -25,7 +27,8 @@ void = object Void 0
 abbrev pub mutex : Kind
 mutex = object Mutex 0
 
--- what `lock` is handed, and what `wait`, `signal` and `broadcast` are: a pointer to a mutex, and one to a condition variable
+-- what `lock` is handed, and what `wait`, `signal` and `broadcast` are: a pointer to a mutex, and one to a condition
+-- variable
 abbrev pub mutex_pointer : Kind
 mutex_pointer = object Mutex 1
 
@@ -98,13 +101,18 @@ abbrev pub same_kind : Kind → Kind → Bool
 same_kind (object a m) (object b n) = same_base a b && m == n
 same_kind _ _ = false
 
--- 6.5.16.1: what may be assigned, passed or returned: any integer as an integer, NULL as any pointer, a pointer as one of the same C type
+-- 6.5.16.1: what may be assigned, passed or returned: any integer as an integer, NULL as any pointer, a pointer as one
+-- of the same C type
 abbrev pub agrees : Kind → Kind → Bool
-agrees want kind = if is_null kind then is_pointer want else if is_integer kind then is_integer want else same_kind want kind
+agrees want kind =
+    if is_null kind then is_pointer want else if is_integer kind then is_integer want else same_kind want kind
 
 -- 6.5.9p2: what `==` compares: integers, pointers of one C type, a pointer and NULL
 abbrev pub comparable : Kind → Kind → Bool
-comparable a b = if is_null a || is_null b then is_pointer a || is_pointer b else if is_integer a && is_integer b then true else same_kind a b
+comparable a b =
+    if is_null a || is_null b then is_pointer a || is_pointer b
+    else if is_integer a && is_integer b then true
+    else same_kind a b
 
 -- the stars of a written type: a type with n stars has n + 1 levels
 abbrev pub stars_of : WrittenType → ℕ

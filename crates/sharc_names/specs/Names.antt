@@ -9,7 +9,8 @@ use Rattle.sharc_tree.specs.declared.tree.item.GlobalForm.{GlobalForm}
 use Rattle.sharc_tree.specs.declared.tree.item.GlobalForm.TheVariants.{Plain, Array, Initial}
 use Rattle.sharc_names.specs.{declared.fault.Named.Named, declared.meaning.ConditionCall.ConditionCall}
 use Rattle.sharc_names.specs.declared.meaning.ConditionCall.TheVariants.{Wait, Signal, Broadcast}
-use Rattle.sharc_names.specs.Kinds.{Kind, object, array, void, condition_pointer, mutex_pointer, declared_kind, declared_kinds}
+use Rattle.sharc_names.specs.Kinds.{Kind, object, array, void, condition_pointer, mutex_pointer, declared_kind}
+use Rattle.sharc_names.specs.Kinds.{declared_kinds}
 use Rattle.sharc_names.specs.declared.fault.Named.TheVariants as named
 use Rattle.sharc_names.specs.Kinds as kinds
 
@@ -19,7 +20,8 @@ pub record Signature : Type 0 where
   pub result : WrittenType
   pub parameters : List Declaration
 
--- a parameter or a local, a global with its number, a function with its number, a call of condition variables that the program does not define
+-- a parameter or a local, a global with its number, a function with its number, a call of condition variables that the
+-- program does not define
 pub data Meaning : Type 0 where
   variable : Declaration → Meaning
   global : ℕ → GlobalDefinition → Meaning

@@ -1,13 +1,15 @@
 -- What the place of an expression needs of it.
 use Rattle.std.specs.Prelude.{ℕ, ◌==◌, Bool, true, ◌||◌, List, [], ◌∷◌, Option, Some, None, if◌then◌else◌}
 use Rattle.sharc_tree.specs.declared.ctype.Base.{Base}
-use Rattle.sharc_tree.specs.Tree.{Expression, identifier, constant, parentheses, call, spawn, on_value, on_place, cast, index, field, unary, binary}
+use Rattle.sharc_tree.specs.Tree.{Expression, identifier, constant, parentheses, call, spawn, on_value, on_place, cast}
+use Rattle.sharc_tree.specs.Tree.{index, field, unary, binary}
 use Rattle.sharc_tree.specs.{Forms.without_parentheses, Spans.span_of}
 use Rattle.sharc_tree.specs.declared.ctype.Base.TheVariants as base
 use Rattle.sharc_names.specs.declared.need.Need.{Need}
 use Rattle.sharc_names.specs.declared.need.Need.TheVariants.{Value, Integer, Pointer, Indexed, Struct, StructPointer}
 use Rattle.sharc_names.specs.declared.fault.FaultCode.TheVariants.{TypeMismatch, TypeNotAllowed, BadForm}
-use Rattle.sharc_names.specs.Kinds.{Kind, object, array, null, function, is_integer, is_pointer, is_null, is_array, is_struct_behind, agrees}
+use Rattle.sharc_names.specs.Kinds.{Kind, object, array, null, function, is_integer, is_pointer, is_null, is_array}
+use Rattle.sharc_names.specs.Kinds.{is_struct_behind, agrees}
 use Rattle.sharc_names.specs.Notes.{Note, fault, fault_unless}
 
 -- the first token of an expression
@@ -29,7 +31,8 @@ called (field s a w n) = None
 called (unary s o a) = None
 called (binary s o at a b) = None
 
--- which kinds fit there: an integer or a pointer or NULL; an integer; a pointer; a pointer or an array; a struct; a pointer to a struct
+-- which kinds fit there: an integer or a pointer or NULL; an integer; a pointer; a pointer or an array; a struct; a
+-- pointer to a struct
 abbrev pub fits : Need → Kind → Bool
 fits Value k = is_integer k || is_pointer k || is_null k
 fits Integer k = is_integer k
@@ -54,7 +57,8 @@ misfit_of base.Mutex e = mismatch e
 misfit_of base.Void e = used_call (called e)
 misfit_of (base.Struct name) e = fault (place e) TypeNotAllowed ∷ []
 
--- the fault of an expression of another kind: a void call, a struct as a value, or else the type. For a function's name it is at the name
+-- the fault of an expression of another kind: a void call, a struct as a value, or else the type. For a function's name
+-- it is at the name
 abbrev pub misfit : Kind → Expression → List Note
 misfit (object b stars) e = if stars == 0 then misfit_of b e else mismatch e
 misfit (array b stars) e = mismatch e

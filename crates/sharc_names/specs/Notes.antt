@@ -1,13 +1,16 @@
 -- What is to be said of a program: its faults, and what its name tokens name.
-use Rattle.std.specs.Prelude.{◌≡◌, ◌⊎◌, ℕ, Bool, true, false, ◌&&◌, ◌||◌, ◌==◌, nat_lt, List, [], ◌∷◌, Option, Some, None, if◌then◌else◌, slice_set, slice_index_or}
+use Rattle.std.specs.Prelude.{◌≡◌, ◌⊎◌, ℕ, Bool, true, false, ◌&&◌, ◌||◌, ◌==◌, nat_lt, List, [], ◌∷◌, Option, Some}
+use Rattle.std.specs.Prelude.{None, if◌then◌else◌, slice_set, slice_index_or}
 use Rattle.std.specs.List.{AllByRecursion}
 use Rattle.sharc_names.specs.declared.fault.FaultCode.{FaultCode}
-use Rattle.sharc_names.specs.declared.fault.FaultCode.TheVariants.{UnknownName, DefinedTwice, TypeMismatch, ArgumentCount, NoLvalue, TypeNotAllowed, BadForm, NoMain, LimitPassed}
+use Rattle.sharc_names.specs.declared.fault.FaultCode.TheVariants.{UnknownName, DefinedTwice, TypeMismatch}
+use Rattle.sharc_names.specs.declared.fault.FaultCode.TheVariants.{ArgumentCount, NoLvalue, TypeNotAllowed, BadForm}
+use Rattle.sharc_names.specs.declared.fault.FaultCode.TheVariants.{NoMain, LimitPassed}
 use Rattle.sharc_names.specs.{declared.fault.Fault.Fault, declared.fault.Named.Named}
 use Rattle.sharc_names.specs.declared.fault.Named.TheVariants as named
 
--- A fault at a token; what a name token names; and what a token names as the second name of a lock path. A path may be one that is nowhere in the source: then
--- another name is at that token, and that one is what it names.
+-- A fault at a token; what a name token names; and what a token names as the second name of a lock path. A path may be
+-- one that is nowhere in the source: then another name is at that token, and that one is what it names.
 pub data Note : Type 0 where
   fault : ℕ → FaultCode → Note
   refers : ℕ → Named → Note
@@ -47,7 +50,8 @@ abbrev pub set_if_free : List Named → ℕ → Named → List Named
 set_if_free all token what = if is_free (slice_index_or all token named.Known) then slice_set all token what else all
 
 abbrev pub noted : Findings → Note → Findings
-noted f (fault place code) = record { first = first_of f.first (record { place = place; code = code }); named = f.named }
+noted f (fault place code) =
+    record { first = first_of f.first (record { place = place; code = code }); named = f.named }
 noted f (refers token what) = record { first = f.first; named = slice_set f.named token what }
 noted f (yields token what) = record { first = f.first; named = set_if_free f.named token what }
 

@@ -29,7 +29,8 @@ field_at rows name = found_field (lookup (λ k. bytes_eq name k.now) rows)
 
 -- a table that has one field more, unless its name was known
 abbrev pub HasAlso : Bool → Declaration → FieldRows → FieldRows → Type 0
-HasAlso known d old new = (name : List ℕ) → field_at new name ≡ cond known (field_at old name) (cond (bytes_eq d.name.text name) (Some d) (field_at old name))
+HasAlso known d old new = (name : List ℕ)
+    → field_at new name ≡ cond known (field_at old name) (cond (bytes_eq d.name.text name) (Some d) (field_at old name))
 
 -- the table has the first field of each name
 abbrev pub HasFirstFields : List (Bor Declaration) → FieldRows → Type 0

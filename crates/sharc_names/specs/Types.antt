@@ -1,5 +1,6 @@
 -- Written types: which structs and locks they name, and which may be written where.
-use Rattle.std.specs.Prelude.{ℕ, ◌+◌, ◌==◌, nat_lt, Bool, true, false, ◌&&◌, ◌||◌, List, [], ◌∷◌, ◌++◌, Option, Some, None, is_some, if◌then◌else◌}
+use Rattle.std.specs.Prelude.{ℕ, ◌+◌, ◌==◌, nat_lt, Bool, true, false, ◌&&◌, ◌||◌, List, [], ◌∷◌, ◌++◌, Option, Some}
+use Rattle.std.specs.Prelude.{None, is_some, if◌then◌else◌}
 use Rattle.sharc_tree.specs.declared.ctype.Base.{Base}
 use Rattle.sharc_tree.specs.declared.ctype.Base.TheVariants.{Int, Char, Long, Mutex, Void, Struct}
 use Rattle.sharc_tree.specs.{declared.ctype.Path.Path, declared.ctype.Path.TheVariants.{One, Through}}
@@ -12,7 +13,8 @@ use Rattle.sharc_names.specs.declared.types.Role.TheVariants.{Field, Global, Loc
 use Rattle.sharc_names.specs.declared.fault.FaultCode.TheVariants.{UnknownName, TypeNotAllowed, BadForm}
 use Rattle.sharc_names.specs.declared.scope.Scope.{Scope}
 use Rattle.sharc_names.specs.Kinds.{Kind, object, declared_kind, stars_of, is_struct_behind}
-use Rattle.sharc_names.specs.Names.{Entry, Meaning, look_up, StructTable, StructMeaning, struct_of, fields_of, field_of, named_struct, kind_of, named_of, is_main}
+use Rattle.sharc_names.specs.Names.{Entry, Meaning, look_up, StructTable, StructMeaning, struct_of, fields_of, field_of}
+use Rattle.sharc_names.specs.Names.{named_struct, kind_of, named_of, is_main}
 use Rattle.sharc_names.specs.Notes.{Note, fault, refers, yields, fault_unless, fault_where}
 use Rattle.sharc_names.specs.declared.fault.Named.TheVariants as named
 
@@ -31,7 +33,8 @@ name_notes token (Some e) = refers token (named_of e.meaning) ∷ main_notes tok
 
 -- A use of a field (6.5.2.3p1).
 
--- the field of that name in the struct that a kind has at its bottom; no answer where the struct is not known, since then the fault is elsewhere
+-- the field of that name in the struct that a kind has at its bottom; no answer where the struct is not known, since
+-- then the fault is elsewhere
 abbrev pub field_among : List ℕ → Option StructMeaning → Option (Option Declaration)
 field_among name None = None
 field_among name (Some s) = Some (field_of (fields_of s) name)
@@ -51,7 +54,8 @@ field_notes token None = []
 field_notes token (Some None) = fault token UnknownName ∷ []
 field_notes token (Some (Some d)) = refers token (named.Field d.name.site.token) ∷ []
 
--- Lock paths (SharC's own rule). In the type of a field a first name is looked for among the fields of the same struct, in any order, and then in the file.
+-- Lock paths (SharC's own rule). In the type of a field a first name is looked for among the fields of the same struct,
+-- in any order, and then in the file.
 
 abbrev pub first_kind : Option Declaration → Option Entry → Option Kind
 first_kind (Some sibling) entry = Some (declared_kind sibling.written)
@@ -61,7 +65,8 @@ abbrev pub first_notes : ℕ → Option Declaration → Option Entry → List No
 first_notes token (Some sibling) entry = refers token (named.Field sibling.name.site.token) ∷ []
 first_notes token None entry = name_notes token entry
 
--- the second name is a field of the struct that the first one points to; where the first is no pointer to a struct, there is no such field
+-- the second name is a field of the struct that the first one points to; where the first is no pointer to a struct,
+-- there is no such field
 abbrev pub second_among : StructTable → List ℕ → Kind → Option (Option Declaration)
 second_among structs name k = if is_struct_behind 1 k then field_in structs name (Some k) else Some None
 
@@ -115,7 +120,8 @@ base_notes structs token Mutex = []
 base_notes structs token Void = []
 base_notes structs token (Struct name) = struct_note token (struct_of structs name)
 
--- Where a struct, a mutex or `void` may be without a star. A cast to one of them is a cast to another C type than its source has.
+-- Where a struct, a mutex or `void` may be without a star. A cast to one of them is a cast to another C type than its
+-- source has.
 
 abbrev pub holds_struct : Role → Bool
 holds_struct Field = false

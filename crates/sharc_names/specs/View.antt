@@ -9,7 +9,8 @@ use Rattle.sharc_names.specs.declared.wanted.Wanted.{Wanted}
 use Rattle.sharc_names.specs.declared.wanted.Wanted.TheVariants.{Parameters, Condition, MutexPointer}
 use Rattle.sharc_names.specs.declared.structs.StructMeaning.{StructMeaning as RustStruct}
 use Rattle.sharc_names.specs.Kinds.{Kind, object, array, null, function, mutex_pointer, declared_kinds}
-use Rattle.sharc_names.specs.Names.{Meaning, Signature, Entry, variable, global, condition, condition_parameters, StructMeaning, StructTable, defined, known}
+use Rattle.sharc_names.specs.Names.{Meaning, Signature, Entry, variable, global, condition, condition_parameters}
+use Rattle.sharc_names.specs.Names.{StructMeaning, StructTable, defined, known}
 use Rattle.sharc_names.specs.declared.kind.Root.TheVariants as root
 use Rattle.sharc_names.specs.declared.kind.Kind.TheVariants as kind
 use Rattle.sharc_names.specs.declared.meaning.Meaning.TheVariants as meaning

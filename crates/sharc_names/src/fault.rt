@@ -2,7 +2,8 @@
 
 ghost use Rattle.std.specs.Prelude.{◌≡◌, replicate, fold, IfOk};
 ghost use Rattle.sharc_names.specs.declared.fault.Named.TheVariants.{Known};
-ghost use Rattle.sharc_names.specs.Notes.{fault, refers, yields, noted, first_of, is_before, is_free, digit, fault_unless, fault_where};
+ghost use Rattle.sharc_names.specs.Notes.{fault, refers, yields, noted, first_of, is_before, is_free, digit};
+ghost use Rattle.sharc_names.specs.Notes.{fault_unless, fault_where};
 
 use std::alloc::{AllocError, Global};
 use std::marker::Model;
@@ -50,7 +51,8 @@ pub enum Named {
     Variable(u32),
     /// The field that the token with this number declares.
     Field(u32),
-    /// `struct cond`, `wait`, `signal` or `broadcast`, where the program defines none of them. Tokens that are no names have this, too.
+    /// `struct cond`, `wait`, `signal` or `broadcast`, where the program defines none of them. Tokens that are no names
+    /// have this, too.
     Known,
 }
 

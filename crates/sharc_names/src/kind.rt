@@ -1,7 +1,9 @@
 // What expressions are: C types without modes.
 
 ghost use Rattle.std.specs.Prelude.{◌≡◌};
-ghost use Rattle.sharc_names.specs.Kinds.{is_integral, is_struct_base, same_base, is_integer, is_pointer, is_null, is_array, is_struct_behind, is_long, same_kind, agrees, comparable, declared_kind, stars_of, element_kind, promoted, common};
+ghost use Rattle.sharc_names.specs.Kinds.{is_integral, is_struct_base, same_base, is_integer, is_pointer, is_null};
+ghost use Rattle.sharc_names.specs.Kinds.{is_array, is_struct_behind, is_long, same_kind, agrees, comparable};
+ghost use Rattle.sharc_names.specs.Kinds.{declared_kind, stars_of, element_kind, promoted, common};
 ghost use Rattle.sharc_names.specs.View.{view_root, view_kind};
 
 use sharc_tree::ctype::Base;

@@ -1,7 +1,8 @@
 // What a name means.
 
 ghost use Rattle.std.specs.Prelude.{◌≡◌};
-ghost use Rattle.sharc_names.specs.Names.{kind_of, named_of, is_function, is_main, global_kind, parameters_of, result_of};
+ghost use Rattle.sharc_names.specs.Names.{kind_of, named_of, is_function, is_main, global_kind, parameters_of};
+ghost use Rattle.sharc_names.specs.Names.{result_of};
 ghost use Rattle.sharc_names.specs.View.{view_kind, view_meaning, view_wanteds};
 
 use crate::fault::Named;

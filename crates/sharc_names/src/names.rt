@@ -17,8 +17,8 @@ struct Shadow<'a> {
     hidden: Option<Bound<'a>>,
 }
 
-/// The names in scope. A contract sees the list of them, the last declared first. A look-up takes one step: a table has the newest of
-/// each name, and a log what to put back at the end of a block.
+/// The names in scope. A contract sees the list of them, the last declared first. A look-up takes one step: a table has
+/// the newest of each name, and a log what to put back at the end of a block.
 #[derive(Drop)]
 pub struct Names<'a> {
     log: Vec<Shadow<'a>>,

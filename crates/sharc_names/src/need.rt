@@ -122,7 +122,8 @@ pub fn meet<'a>(
 /// Whether what is assigned, passed or returned agrees with what is wanted; takes note of the fault where not.
 pub fn agree(want: Option<Kind<'_>>, expr: &Expr, kind: Option<Kind<'_>>, found: &mut Found) -> bool
     ensures agreed { result ≡ agreed (view_kinds want.entry) (view_kinds kind.entry) }
-    ensures found { found.new ≡ fold noted found.old (unagreed (view_kinds want.entry) (view_expr expr.now) (view_kinds kind.entry)) }
+    ensures found { found.new
+        ≡ fold noted found.old (unagreed (view_kinds want.entry) (view_expr expr.now) (view_kinds kind.entry)) }
 {
     let agreed = match (want, kind) {
         (Some(want), Some(kind)) => agrees(want, kind),

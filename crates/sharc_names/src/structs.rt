@@ -51,7 +51,8 @@ pub fn named_struct(of: &StructMeaning<'_>) -> Named
     }
 }
 
-/// The first definitions of all struct names. A contract sees them with their names, in source order; a look-up takes one step.
+/// The first definitions of all struct names. A contract sees them with their names, in source order; a look-up takes
+/// one step.
 #[derive(Drop)]
 pub struct Structs<'a> {
     by_name: IndexMap<&'a [u8], StructMeaning<'a>>,

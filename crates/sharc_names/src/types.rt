@@ -4,7 +4,10 @@ ghost use Rattle.std.specs.Prelude.{◌≡◌, ◌+◌, fold};
 ghost use Rattle.sharc_names.specs.Names.{look_up, field_of};
 ghost use Rattle.sharc_names.specs.Notes.{noted};
 ghost use Rattle.sharc_names.specs.Seen.{found_field, found_field_in, siblings_seen};
-ghost use Rattle.sharc_names.specs.Types.{name_kind, name_notes, main_notes, field_in, field_kind, field_notes, first_kind, first_notes, second_in, second_notes, path_notes, mode_notes, modes_notes, is_known, base_notes, holds_struct, holds_mutex, holds_void, is_allowed, allowed_there, type_notes, is_fine};
+ghost use Rattle.sharc_names.specs.Types.{name_kind, name_notes, main_notes, field_in, field_kind, field_notes};
+ghost use Rattle.sharc_names.specs.Types.{first_kind, first_notes, second_in, second_notes, path_notes, mode_notes};
+ghost use Rattle.sharc_names.specs.Types.{modes_notes, is_known, base_notes, holds_struct, holds_mutex, holds_void};
+ghost use Rattle.sharc_names.specs.Types.{is_allowed, allowed_there, type_notes, is_fine};
 ghost use Rattle.sharc_names.specs.View.{view_kinds, view_bounds, view_meaning};
 
 use crate::fault::{FaultCode, Found, Named};
@@ -118,7 +121,8 @@ fn first_kind<'a>(sibling: Option<&'a Declaration>, bound: Option<Bound<'a>>) ->
 
 /// Takes note of the first name of a lock path.
 fn first_use(token: u32, sibling: Option<&Declaration>, bound: Option<Bound<'_>>, found: &mut Found)
-    ensures { found.new ≡ fold noted found.old (first_notes token (found_field sibling.entry) (view_bounds bound.entry)) }
+    ensures { found.new
+        ≡ fold noted found.old (first_notes token (found_field sibling.entry) (view_bounds bound.entry)) }
 {
     match sibling {
         Some(sibling) => found.name(token, Named::Field(sibling.name.site.token)),
@@ -293,7 +297,8 @@ fn allowed_there(role: Role, written: &WrittenType) -> bool
     is_allowed(role, &written.ctype.base, stars_of(written))
 }
 
-/// Takes note of the faults of a type and of what it names; answers whether its C type has no fault. The type of a field sees the fields of its struct.
+/// Takes note of the faults of a type and of what it names; answers whether its C type has no fault. The type of a
+/// field sees the fields of its struct.
 pub fn written_type<'a>(
     scope: &Scope<'a>,
     siblings: Option<&Fields<'a>>,
@@ -302,7 +307,8 @@ pub fn written_type<'a>(
     found: &mut Found,
 ) -> bool
     ensures fine { result ≡ is_fine scope.now.structs role written.now }
-    ensures found { found.new ≡ fold noted found.old (type_notes scope.now (siblings_seen siblings.entry) role written.now) }
+    ensures found { found.new
+        ≡ fold noted found.old (type_notes scope.now (siblings_seen siblings.entry) role written.now) }
 {
     let known = base(
         &scope.structs,

@@ -11,7 +11,11 @@ declared list = map bare_declaration list
 
 -- the fields, and the `}`
 abbrev pub ReadsFields : {A : Type 0} → (A → List Declaration) → Result A Fault → List Word → List Word → Type 0
-ReadsFields list result old new = (all : List Part) (s : List ℕ) → Goes (λ v. declared (list v)) result (reads_within old (At [] (TypeWant (naming (field_of all s []))))) (λ f. reads_within new (At (a_semicolon ∷ []) (Top (with_part all (structure s f))))) new
+ReadsFields list result old new = (all : List Part) (s : List ℕ)
+    → Goes (λ v. declared (list v)) result (reads_within old (At [] (TypeWant (naming (field_of all s [])))))
+    (λ f. reads_within new (At (a_semicolon ∷ []) (Top (with_part all (structure s f))))) new
 
 abbrev pub AreFieldsPlaced : {A : Type 0} → (A → List Declaration) → Result A Fault → List Token → ℕ → ℕ → Type 0
-AreFieldsPlaced list result tokens old new = IfOk result (λ v. (list v ≡ declarations_at (site_in tokens) old (declared (list v))) × (new ≡ old + fields_size (declared (list v)) + 1))
+AreFieldsPlaced list result tokens old new =
+    IfOk result (λ v. (list v ≡ declarations_at (site_in tokens) old (declared (list v)))
+    × (new ≡ old + fields_size (declared (list v)) + 1))

@@ -5,8 +5,10 @@ use Rattle.sharc_tree.specs.declared.token.Punctuator.TheVariants.{OpenParenthes
 use Rattle.sharc_tree.specs.{declared.tree.expression.Constant.Constant, declared.tree.item.GlobalForm.GlobalForm}
 use Rattle.sharc_tree.specs.declared.tree.item.GlobalForm.TheVariants.{Plain, Array, Initial}
 use Rattle.sharc_tree.specs.declared.tree.expression.Constant.TheVariants as constants
-use Rattle.sharc_grammar.specs.Grammar.{Word, mark, number, character, constant_word, Typing, Declaring, Form, single, array, initially, Part, global}
-use Rattle.sharc_grammar.specs.Machine.{on_top, Named, ArrayWant, InitialWant, Top, a_semicolon, At, declaring_of, with_part}
+use Rattle.sharc_grammar.specs.Grammar.{Word, mark, number, character, constant_word, Typing, Declaring, Form, single}
+use Rattle.sharc_grammar.specs.Grammar.{array, initially, Part, global}
+use Rattle.sharc_grammar.specs.Machine.{on_top, Named, ArrayWant, InitialWant, Top, a_semicolon, At, declaring_of}
+use Rattle.sharc_grammar.specs.Machine.{with_part}
 use Rattle.sharc_grammar.specs.{Limits.reads_within, Places.{site_in, form_size, form_at}}
 use Rattle.sharc_parse.specs.{declared.token.Fault.Fault, Goes.{from, Past, NotAt, Goes}}
 
@@ -42,19 +44,27 @@ with_form all d f = with_part all (global d f)
 
 -- `number ]` after a `[`
 abbrev pub ReadsArray : Result GlobalForm Fault → List Word → List Word → Type 0
-ReadsArray result old new = (all : List Part) (d : Declaring) → Goes form_of result (reads_within old (At [] (ArrayWant all d))) (λ f. reads_within new (At (a_semicolon ∷ []) (Top (with_form all d f)))) new
+ReadsArray result old new = (all : List Part) (d : Declaring)
+    → Goes form_of result (reads_within old (At [] (ArrayWant all d)))
+    (λ f. reads_within new (At (a_semicolon ∷ []) (Top (with_form all d f)))) new
 
 -- a constant after a `=`
 abbrev pub ReadsConstant : Result GlobalForm Fault → List Word → List Word → Type 0
-ReadsConstant result old new = (all : List Part) (d : Declaring) → Goes form_of result (reads_within old (At [] (InitialWant all d))) (λ f. reads_within new (At (a_semicolon ∷ []) (Top (with_form all d f)))) new
+ReadsConstant result old new = (all : List Part) (d : Declaring)
+    → Goes form_of result (reads_within old (At [] (InitialWant all d)))
+    (λ f. reads_within new (At (a_semicolon ∷ []) (Top (with_form all d f)))) new
 
 -- the first token of the form has the number before the old place
 abbrev pub IsBehindPlaced : Result GlobalForm Fault → List Token → ℕ → ℕ → Type 0
-IsBehindPlaced result tokens old new = IfOk result (λ f. (n : ℕ) → n + 1 ≡ old → (f ≡ form_at (site_in tokens) n (form_of f)) × (new ≡ n + form_size (form_of f)))
+IsBehindPlaced result tokens old new = IfOk result (λ f. (n : ℕ) → n + 1 ≡ old
+    → (f ≡ form_at (site_in tokens) n (form_of f)) × (new ≡ n + form_size (form_of f)))
 
 -- a function begins with a `(` there
 abbrev pub ReadsForm : Result GlobalForm Fault → List Word → List Word → Type 0
-ReadsForm result old new = (all : List Part) (t : Typing) (n : List ℕ) → NotAt (mark OpenParenthesis) old → Goes form_of result (reads_within old (At [] (Named (on_top all) t n))) (λ f. reads_within new (At [] (Top (with_form all (declaring_of t n) f)))) new
+ReadsForm result old new = (all : List Part) (t : Typing) (n : List ℕ) → NotAt (mark OpenParenthesis) old
+    → Goes form_of result (reads_within old (At [] (Named (on_top all) t n)))
+    (λ f. reads_within new (At [] (Top (with_form all (declaring_of t n) f)))) new
 
 abbrev pub IsFormPlaced : Result GlobalForm Fault → List Token → ℕ → ℕ → Type 0
-IsFormPlaced result tokens old new = IfOk result (λ f. (f ≡ form_at (site_in tokens) old (form_of f)) × (new ≡ old + form_size (form_of f) + 1))
+IsFormPlaced result tokens old new =
+    IfOk result (λ f. (f ≡ form_at (site_in tokens) old (form_of f)) × (new ≡ old + form_size (form_of f) + 1))

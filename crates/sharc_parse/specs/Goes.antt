@@ -1,5 +1,6 @@
 -- What the functions of the parser promise: they go the machine's way.
-use Rattle.std.specs.Prelude.{◌≡◌, ℕ, ◌+◌, ◌≤◌, ◌<◌, Bool, true, false, List, [], ◌∷◌, length, drop, Option, Some, None, Result, Ok, Err, IfOk}
+use Rattle.std.specs.Prelude.{◌≡◌, ℕ, ◌+◌, ◌≤◌, ◌<◌, Bool, true, false, List, [], ◌∷◌, length, drop, Option, Some, None}
+use Rattle.std.specs.Prelude.{Result, Ok, Err, IfOk}
 use Rattle.sharc_tree.specs.{View.view_expr, declared.token.Token.Token, declared.token.Span.Span}
 use Rattle.sharc_tree.specs.declared.token.Punctuator.{Punctuator}
 use Rattle.sharc_tree.specs.declared.token.Punctuator.TheVariants.{OpenParenthesis}
@@ -8,15 +9,19 @@ use Rattle.sharc_tree.specs.declared.tree.expression.Constant.{Constant}
 use Rattle.sharc_tree.specs.declared.tree.expression.BinaryOperator.{BinaryOperator}
 use Rattle.sharc_tree.specs.declared.tree.expression.UnaryOperator.{UnaryOperator}
 use Rattle.sharc_tree.specs.declared.tree.expression.Access.{Access}
-use Rattle.sharc_grammar.specs.Grammar.{Word, name, keyword, mark, number, character, left_out, Phrase, identifier, constant, constant_word, unary_mark, operator_mark, access_mark, strength}
-use Rattle.sharc_grammar.specs.Machine.{Cont, Want, Have, State, At, floor, grip, grip_of, role, TypeWant, an_open, fronted, part, valued, an_ampersand, Spawning, casting}
+use Rattle.sharc_grammar.specs.Grammar.{Word, name, keyword, mark, number, character, left_out, Phrase, identifier}
+use Rattle.sharc_grammar.specs.Grammar.{constant, constant_word, unary_mark, operator_mark, access_mark, strength}
+use Rattle.sharc_grammar.specs.Machine.{Cont, Want, Have, State, At, floor, grip, grip_of, role, TypeWant, an_open}
+use Rattle.sharc_grammar.specs.Machine.{fronted, part, valued, an_ampersand, Spawning, casting}
 use Rattle.sharc_grammar.specs.Limits.{Limited, StuckAt, Over, reads_within, depth, crowded, height}
 use Rattle.sharc_grammar.specs.Places.{words_of, site_in, size, expression_at, front_size, type_at}
 use Rattle.sharc_parse.specs.{declared.token.Fault.Fault, declared.token.Fault.TheVariants.{Memory, Wrong, Deep}}
 use Rattle.sharc_parse.specs.declared.token.FrontWord.{FrontWord}
 use Rattle.sharc_parse.specs.declared.token.FrontWord.TheVariants.{Parenthesis, Spawn, Value, Place, Cast}
 use Rattle.sharc_parse.specs.{declared.token.Piece.Piece, declared.expr.Front.Front}
-use Rattle.sharc_parse.specs.declared.expr.Front.TheVariants.{Parenthesis as FrontParenthesis, Spawn as FrontSpawn, Value as FrontValue, Place as FrontPlace, Cast as FrontCast}
+use Rattle.sharc_parse.specs.declared.expr.Front.TheVariants.{Parenthesis as FrontParenthesis, Spawn as FrontSpawn}
+use Rattle.sharc_parse.specs.declared.expr.Front.TheVariants.{Value as FrontValue, Place as FrontPlace}
+use Rattle.sharc_parse.specs.declared.expr.Front.TheVariants.{Cast as FrontCast}
 use Rattle.sharc_parse.specs.View.{phrase_of, bare_type}
 use Rattle.sharc_tree.specs.declared.token.Keyword.TheVariants as key
 use Rattle.sharc_tree.specs.declared.tree.expression.ValueCall.TheVariants as value_call
@@ -83,7 +88,8 @@ NoUnary (t ∷ rest) = (u : UnaryOperator) → t ≡ mark (unary_mark u) → ⊥
 abbrev pub EntersUnary : Result (Option UnaryOperator) Fault → ℕ → List Token → ℕ → ℕ → Type 0
 EntersUnary (Ok (Some u)) room tokens old new = Past (mark (unary_mark u)) tokens old new × (0 < room)
 EntersUnary (Ok None) room tokens old new = (new ≡ old) × NoUnary (from tokens new)
-EntersUnary (Err Deep) room tokens old new = (new ≡ old) × ((u : UnaryOperator) × IsAt (mark (unary_mark u)) (from tokens new)) × (room ≡ 0)
+EntersUnary (Err Deep) room tokens old new =
+    (new ≡ old) × ((u : UnaryOperator) × IsAt (mark (unary_mark u)) (from tokens new)) × (room ≡ 0)
 EntersUnary (Err _) room tokens old new = ⊥
 
 abbrev pub IsOperator : Option BinaryOperator → Punctuator → Type 0
@@ -91,9 +97,12 @@ IsOperator (Some o) p = p ≡ operator_mark o
 IsOperator None p = grip_of (role (mark p)) ≤ 11 → grip_of (role (mark p)) < 1
 
 abbrev pub EntersOperator : Result (Option BinaryOperator) Fault → ℕ → ℕ → List Token → ℕ → ℕ → Type 0
-EntersOperator (Ok (Some o)) least room tokens old new = Past (mark (operator_mark o)) tokens old new × (least ≤ strength o) × (0 < room)
-EntersOperator (Ok None) least room tokens old new = (new ≡ old) × (grip (from tokens new) ≤ 11 → grip (from tokens new) < least)
-EntersOperator (Err Deep) least room tokens old new = (new ≡ old) × ((o : BinaryOperator) × IsAt (mark (operator_mark o)) (from tokens new) × (least ≤ strength o)) × (room ≡ 0)
+EntersOperator (Ok (Some o)) least room tokens old new =
+    Past (mark (operator_mark o)) tokens old new × (least ≤ strength o) × (0 < room)
+EntersOperator (Ok None) least room tokens old new =
+    (new ≡ old) × (grip (from tokens new) ≤ 11 → grip (from tokens new) < least)
+EntersOperator (Err Deep) least room tokens old new = (new ≡ old)
+    × ((o : BinaryOperator) × IsAt (mark (operator_mark o)) (from tokens new) × (least ≤ strength o)) × (room ≡ 0)
 EntersOperator (Err _) least room tokens old new = ⊥
 
 -- What the machine made of the old words: it goes on with what was read, or is stuck where the parser is.
@@ -110,11 +119,15 @@ NoMalloc _ all = Unit {0}
 
 -- an operand that holds together as tightly as that, and is no higher than there is room
 abbrev pub ReadsFrom : ℕ → ℕ → Result Piece Fault → List Word → List Word → Type 0
-ReadsFrom least room result old new = (k : Cont) → floor k ≤ least → depth k + room ≡ 64 → crowded k ≡ false → NoMalloc k old → Goes (λ r. phrase_of r.expr) result (reads_within old (At [] (Want k))) (λ x. reads_within new (At [] (Have x k))) new
+ReadsFrom least room result old new = (k : Cont) → floor k ≤ least → depth k + room ≡ 64 → crowded k ≡ false
+    → NoMalloc k old → Goes (λ r. phrase_of r.expr) result (reads_within old (At [] (Want k)))
+    (λ x. reads_within new (At [] (Have x k))) new
 
 -- what begins with the name that was read just before
 abbrev pub ReadsBehindName : List ℕ → ℕ → Result Piece Fault → List Word → List Word → Type 0
-ReadsBehindName n room result old new = (k : Cont) → depth k + room ≡ 64 → crowded k ≡ false → Goes (λ r. phrase_of r.expr) result (reads_within old (At [] (Have (identifier n) k))) (λ x. reads_within new (At [] (Have x k))) new
+ReadsBehindName n room result old new = (k : Cont) → depth k + room ≡ 64 → crowded k ≡ false
+    → Goes (λ r. phrase_of r.expr) result (reads_within old (At [] (Have (identifier n) k)))
+    (λ x. reads_within new (At [] (Have x k))) new
 
 abbrev pub IsHigh : ℕ → Result Piece Fault → Type 0
 IsHigh room result = IfOk result (λ r. (r.height ≡ height (phrase_of r.expr)) × (r.height ≤ room))
@@ -148,7 +161,8 @@ NoFront (t ∷ rest) = (w : FrontWord) → t ≡ front_word w → ⊥
 abbrev pub EntersFront : Result (Option FrontWord) Fault → ℕ → List Token → ℕ → ℕ → Type 0
 EntersFront (Ok (Some w)) room tokens old new = Past (front_word w) tokens old new × (0 < room)
 EntersFront (Ok None) room tokens old new = (new ≡ old) × NoFront (from tokens new)
-EntersFront (Err Deep) room tokens old new = (new ≡ old) × ((w : FrontWord) × IsAt (front_word w) (from tokens new)) × (room ≡ 0)
+EntersFront (Err Deep) room tokens old new =
+    (new ≡ old) × ((w : FrontWord) × IsAt (front_word w) (from tokens new)) × (room ≡ 0)
 EntersFront (Err _) room tokens old new = ⊥
 
 abbrev pub bare_front : Front → grammar.Front
@@ -162,14 +176,17 @@ abbrev pub after_front : FrontWord → Cont → State
 after_front Parenthesis k = At [] (Want (fronted grammar.parenthesis k))
 after_front Spawn k = At (an_open ∷ []) (Spawning k)
 after_front (Value w) k = At (an_open ∷ []) (Want (fronted (grammar.of_value w) k))
-after_front (Place place_call.Lock) k = At (an_open ∷ an_ampersand ∷ []) (Want (fronted (grammar.of_place place_call.Lock) k))
-after_front (Place place_call.Unlock) k = At (an_open ∷ an_ampersand ∷ []) (Want (fronted (grammar.of_place place_call.Unlock) k))
+after_front (Place place_call.Lock) k =
+    At (an_open ∷ an_ampersand ∷ []) (Want (fronted (grammar.of_place place_call.Lock) k))
+after_front (Place place_call.Unlock) k =
+    At (an_open ∷ an_ampersand ∷ []) (Want (fronted (grammar.of_place place_call.Unlock) k))
 after_front (Place place_call.Free) k = At (an_open ∷ []) (Want (fronted (grammar.of_place place_call.Free) k))
 after_front Cast k = At (an_open ∷ []) (TypeWant (casting k))
 
 -- the rest of what an expression that a `)` ends begins with
 abbrev pub ReadsFront : Result Front Fault → FrontWord → List Word → List Word → Type 0
-ReadsFront result w old new = (k : Cont) → depth k < 64 → crowded k ≡ false → Goes bare_front result (reads_within old (after_front w k)) (λ f. reads_within new (At [] (Want (fronted f k)))) new
+ReadsFront result w old new = (k : Cont) → depth k < 64 → crowded k ≡ false → Goes bare_front result
+    (reads_within old (after_front w k)) (λ f. reads_within new (At [] (Want (fronted f k)))) new
 
 abbrev pub StandsFront : Front → List Token → ℕ → Type 0
 StandsFront (FrontSpawn f) tokens n = f.site ≡ site_in tokens (n + 2)
@@ -178,7 +195,8 @@ StandsFront _ tokens n = Unit {0}
 
 -- its first word has the number before the old place
 abbrev pub IsFrontPlaced : Result Front Fault → List Token → ℕ → ℕ → Type 0
-IsFrontPlaced result tokens old new = IfOk result (λ f. (n : ℕ) → n + 1 ≡ old → StandsFront f tokens n × (new ≡ n + front_size (bare_front f)))
+IsFrontPlaced result tokens old new =
+    IfOk result (λ f. (n : ℕ) → n + 1 ≡ old → StandsFront f tokens n × (new ≡ n + front_size (bare_front f)))
 
 abbrev pub front_tree : Span → Front → tree.Expression → tree.Expression
 front_tree s FrontParenthesis a = tree.parentheses s a
@@ -203,5 +221,6 @@ NoAccess (t ∷ rest) = (a : Access) → t ≡ mark (access_mark a) → ⊥
 abbrev pub EntersAccess : Result (Option Access) Fault → ℕ → List Token → ℕ → ℕ → Type 0
 EntersAccess (Ok (Some a)) room tokens old new = Past (mark (access_mark a)) tokens old new × (0 < room)
 EntersAccess (Ok None) room tokens old new = (new ≡ old) × NoAccess (from tokens new)
-EntersAccess (Err Deep) room tokens old new = (new ≡ old) × ((a : Access) × IsAt (mark (access_mark a)) (from tokens new)) × (room ≡ 0)
+EntersAccess (Err Deep) room tokens old new =
+    (new ≡ old) × ((a : Access) × IsAt (mark (access_mark a)) (from tokens new)) × (room ≡ 0)
 EntersAccess (Err _) room tokens old new = ⊥

@@ -2,11 +2,13 @@
 use Rattle.std.specs.Prelude.{◌≡◌, ℕ, ◌+◌, ◌⊎◌, Bool, true, false, List, [], ◌∷◌, Result, IfOk}
 use Rattle.sharc_tree.specs.Tree as tree
 use Rattle.sharc_tree.specs.{View.view_first, declared.token.Token.Token}
-use Rattle.sharc_tree.specs.declared.token.Punctuator.TheVariants.{Semicolon, Minus, Exclamation, Tilde, Star, OpenParenthesis}
+use Rattle.sharc_tree.specs.declared.token.Punctuator.TheVariants.{Semicolon, Minus, Exclamation, Tilde, Star}
+use Rattle.sharc_tree.specs.declared.token.Punctuator.TheVariants.{OpenParenthesis}
 use Rattle.sharc_tree.specs.declared.tree.statement.ForFirst.{ForFirst}
 use Rattle.sharc_tree.specs.declared.token.Keyword.TheVariants as key
 use Rattle.sharc_grammar.specs.Grammar.{Word, name, keyword, mark, number, character, Line, nothing, does, declares}
-use Rattle.sharc_grammar.specs.Machine.{Outer, LinePlace, in_line, local, naming, part, subject, Want, TypeWant, At, lined, line_start, may_declare}
+use Rattle.sharc_grammar.specs.Machine.{Outer, LinePlace, in_line, local, naming, part, subject, Want, TypeWant, At}
+use Rattle.sharc_grammar.specs.Machine.{lined, line_start, may_declare}
 use Rattle.sharc_grammar.specs.Limits.{Limited, StuckAt, next_within, reads_within, crowded_line}
 use Rattle.sharc_grammar.specs.Places.{site_in, line_size, first_at}
 use Rattle.sharc_parse.specs.{declared.token.Fault.Fault, declared.types.BaseWord.BaseWord}
@@ -67,16 +69,20 @@ line_within p o [] = StuckAt []
 line_within p o (t ∷ y) = next_within (line_start p o t) (λ n. reads_within y n) (t ∷ y)
 
 abbrev pub ReadsDeclaredLine : Result ForFirst Fault → List Word → List Word → Type 0
-ReadsDeclaredLine result old new = (p : LinePlace) (o : Outer) → Goes line_of result (reads_within old (At [] (TypeWant (naming (local p o))))) (λ l. reads_within new (lined p l o)) new
+ReadsDeclaredLine result old new = (p : LinePlace) (o : Outer) → Goes line_of result
+    (reads_within old (At [] (TypeWant (naming (local p o))))) (λ l. reads_within new (lined p l o)) new
 
 abbrev pub ReadsSimpleLine : Result ForFirst Fault → List Word → List Word → Type 0
-ReadsSimpleLine result old new = (p : LinePlace) (o : Outer) → crowded_line p o ≡ false → Goes line_of result (reads_within old (At [] (Want (part (subject (in_line p)) o)))) (λ l. reads_within new (lined p l o)) new
+ReadsSimpleLine result old new = (p : LinePlace) (o : Outer) → crowded_line p o ≡ false → Goes line_of result
+    (reads_within old (At [] (Want (part (subject (in_line p)) o)))) (λ l. reads_within new (lined p l o)) new
 
 abbrev pub ReadsLine : Bool → Bool → Result ForFirst Fault → List Word → List Word → Type 0
-ReadsLine may full result old new = (p : LinePlace) (o : Outer) → may_declare p o ≡ may → crowded_line p o ≡ full → Goes line_of result (line_within p o old) (λ l. reads_within new (lined p l o)) new
+ReadsLine may full result old new = (p : LinePlace) (o : Outer) → may_declare p o ≡ may → crowded_line p o ≡ full
+    → Goes line_of result (line_within p o old) (λ l. reads_within new (lined p l o)) new
 
 abbrev pub IsLinePlaced : Result ForFirst Fault → List Token → ℕ → ℕ → Type 0
-IsLinePlaced result tokens old new = IfOk result (λ l. (view_first l ≡ first_at (site_in tokens) old (line_of l)) × (new ≡ old + line_size (line_of l)))
+IsLinePlaced result tokens old new =
+    IfOk result (λ l. (view_first l ≡ first_at (site_in tokens) old (line_of l)) × (new ≡ old + line_size (line_of l)))
 
 -- whether a line that is no declaration begins there
 abbrev pub starts_line : List Word → Bool

@@ -43,7 +43,8 @@ pub record IsToldAt (tokens : Tokens) (fault : FaultAt GrammarFault) (n : ℕ) :
   pub offset : fault.offset ≡ 0
   pub text : fault.text ≡ told_of fault.code (drop n tokens.list)
 
--- The fault is the first of the source: a token, counted from 0, or the end of input, with its code, its file, its line and its text.
+-- The fault is the first of the source: a token, counted from 0, or the end of input, with its code, its file, its line
+-- and its text.
 pub record IsFaultOf (tokens : Tokens) (fault : FaultAt GrammarFault) : Type 0 where
   pub number : ℕ
   pub is : IsFault (words_of tokens.list) fault.code number
@@ -60,19 +61,23 @@ abbrev pub parts_of : List Item → List Part
 parts_of = map part_of
 
 abbrev pub ReadsItems : {A : Type 0} → (A → List Item) → Result A Fault → List Token → ℕ → Type 0
-ReadsItems list result tokens new = Goes (λ v. parts_of (list v)) result (reads_within (words_of tokens) first_state) ReadWithin (from tokens new)
+ReadsItems list result tokens new =
+    Goes (λ v. parts_of (list v)) result (reads_within (words_of tokens) first_state) ReadWithin (from tokens new)
 
 abbrev pub AreItemsPlaced : {A : Type 0} → (A → List Item) → Result A Fault → List Token → Type 0
-AreItemsPlaced list result tokens = IfOk result (λ v. view_items (list v) ≡ items_at (site_in tokens) 0 (parts_of (list v)))
+AreItemsPlaced list result tokens =
+    IfOk result (λ v. view_items (list v) ≡ items_at (site_in tokens) 0 (parts_of (list v)))
 
 -- a refusal at that token
 abbrev pub Refuses : Result Program ParseFault → Tokens → ℕ → Refusal → Type 0
 Refuses (Ok p) tokens n refusal = ⊥
-Refuses (Err (FaultOf fault back)) tokens n refusal = IsToldAt tokens fault n × (fault.code ≡ code_of refusal (from tokens.list n)) × (back ≡ tokens)
+Refuses (Err (FaultOf fault back)) tokens n refusal =
+    IsToldAt tokens fault n × (fault.code ≡ code_of refusal (from tokens.list n)) × (back ≡ tokens)
 Refuses (Err Memory) tokens n refusal = Unit {0}
 
 -- the program of these items
 abbrev pub Completes : Result Program ParseFault → Tokens → List Item → Type 0
-Completes (Ok p) tokens items = view_program p ≡ record { files = tokens.files; items = view_items items; tokens = tokens }
+Completes (Ok p) tokens items =
+    view_program p ≡ record { files = tokens.files; items = view_items items; tokens = tokens }
 Completes (Err (FaultOf fault back)) tokens items = ⊥
 Completes (Err Memory) tokens items = Unit {0}

@@ -4,7 +4,8 @@ use Rattle.sharc_tree.specs.Tree as tree
 use Rattle.sharc_tree.specs.{View.view_simple, declared.token.Token.Token, declared.token.Punctuator.TheVariants.Assign}
 use Rattle.sharc_tree.specs.declared.tree.statement.Simple.{Simple}
 use Rattle.sharc_grammar.specs.Grammar.{Word, mark, Doing, assign, invoke, is_call}
-use Rattle.sharc_grammar.specs.Machine.{Outer, DoingPlace, of_doing, part, subject, Want, Have, State, At, grip, doing_end}
+use Rattle.sharc_grammar.specs.Machine.{Outer, DoingPlace, of_doing, part, subject, Want, Have, State, At, grip}
+use Rattle.sharc_grammar.specs.Machine.{doing_end}
 use Rattle.sharc_grammar.specs.Limits.{Limited, StuckAt, next_within, reads_within, crowded_doing}
 use Rattle.sharc_grammar.specs.Places.{site_in, doing_size, doing_at}
 use Rattle.sharc_parse.specs.{declared.token.Fault.Fault, declared.token.Fault.TheVariants.Wrong, View.bare}
@@ -23,7 +24,8 @@ doing_state d o (assign u r) = valued_state (of_doing d u) o r
 doing_state d o (invoke e) = At [] (Have e (part (subject d) o))
 
 abbrev pub ReadsSimple : Result Simple Fault → List Word → List Word → Type 0
-ReadsSimple result old new = (d : DoingPlace) (o : Outer) → crowded_doing d o ≡ false → Goes doing_of result (reads_within old (At [] (Want (part (subject d) o)))) (λ x. reads_within new (doing_state d o x)) new
+ReadsSimple result old new = (d : DoingPlace) (o : Outer) → crowded_doing d o ≡ false → Goes doing_of result
+    (reads_within old (At [] (Want (part (subject d) o)))) (λ x. reads_within new (doing_state d o x)) new
 
 -- it goes on no further
 abbrev pub EndsDoing : Doing → List Word → Type 0
@@ -40,7 +42,8 @@ IsCallOf (Err Wrong) e = is_call (bare e) ≡ false
 IsCallOf (Err _) e = ⊥
 
 abbrev pub IsSimplePlaced : Result Simple Fault → List Token → ℕ → ℕ → Type 0
-IsSimplePlaced result tokens old new = IfOk result (λ x. (view_simple x ≡ doing_at (site_in tokens) old (doing_of x)) × (new ≡ old + doing_size (doing_of x)))
+IsSimplePlaced result tokens old new = IfOk result (λ x. (view_simple x ≡ doing_at (site_in tokens) old (doing_of x))
+    × (new ≡ old + doing_size (doing_of x)))
 
 -- the words read where it ends
 abbrev pub doing_within : DoingPlace → Doing → Outer → List Word → Limited

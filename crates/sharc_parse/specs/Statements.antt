@@ -4,7 +4,8 @@ use Rattle.sharc_tree.specs.Tree as tree
 use Rattle.sharc_tree.specs.{View.{view_stmt, view_statements}, declared.token.Token.Token, declared.token.Span.Span}
 use Rattle.sharc_tree.specs.{declared.tree.statement.Jump.Jump, declared.tree.statement.Stmt.Stmt}
 use Rattle.sharc_tree.specs.declared.token.Keyword.TheVariants as key
-use Rattle.sharc_grammar.specs.Grammar.{Word, keyword, Sentence, line, jump, return, block, under, Sentences, no_more, sentence, if_of, else_of, while_of, for_of, nothing, does, declares, takes_else}
+use Rattle.sharc_grammar.specs.Grammar.{Word, keyword, Sentence, line, jump, return, block, under, Sentences, no_more}
+use Rattle.sharc_grammar.specs.Grammar.{sentence, if_of, else_of, while_of, for_of, nothing, does, declares, takes_else}
 use Rattle.sharc_grammar.specs.Machine.{Outer, as_statement, Start, Done, Returning, a_semicolon, At, holds_items}
 use Rattle.sharc_grammar.specs.{Limits.{reads_within, around_it}, Places.{site_in, sentence_size, statement_at}}
 use Rattle.sharc_parse.specs.{declared.token.Fault.Fault, declared.token.Fault.TheVariants.Memory, View.bare}
@@ -36,7 +37,8 @@ sentences_of list = bare_statements (view_statements list)
 
 -- a statement, where there is room for that many, one inside the other
 abbrev pub ReadsStatement : Bool → ℕ → Result Stmt Fault → List Word → List Word → Type 0
-ReadsStatement may room result old new = (o : Outer) → holds_items o ≡ may → around_it o + room ≡ 64 → Goes sentence_of result (reads_within old (At [] (Start o))) (λ s. reads_within new (At [] (Done s o))) new
+ReadsStatement may room result old new = (o : Outer) → holds_items o ≡ may → around_it o + room ≡ 64
+    → Goes sentence_of result (reads_within old (At [] (Start o))) (λ s. reads_within new (At [] (Done s o))) new
 
 -- an `else` after it was taken
 abbrev pub EndsSentence : Sentence → List Word → Type 0
@@ -46,23 +48,29 @@ abbrev pub EndsStatement : Result Stmt Fault → List Word → Type 0
 EndsStatement result new = IfOk result (λ s. EndsSentence (sentence_of s) new)
 
 abbrev pub IsStatementPlaced : Result Stmt Fault → List Token → ℕ → ℕ → Type 0
-IsStatementPlaced result tokens old new = IfOk result (λ s. (view_stmt s ≡ statement_at (site_in tokens) old (sentence_of s)) × (new ≡ old + sentence_size (sentence_of s)))
+IsStatementPlaced result tokens old new =
+    IfOk result (λ s. (view_stmt s ≡ statement_at (site_in tokens) old (sentence_of s))
+    × (new ≡ old + sentence_size (sentence_of s)))
 
 -- a line, as a statement
 abbrev pub ReadsLineStatement : Bool → ℕ → Result Stmt Fault → List Word → List Word → Type 0
-ReadsLineStatement may room result old new = (o : Outer) → holds_items o ≡ may → around_it o + room ≡ 64 → Goes sentence_of result (line_within as_statement o old) (λ s. reads_within new (At [] (Done s o))) new
+ReadsLineStatement may room result old new = (o : Outer) → holds_items o ≡ may → around_it o + room ≡ 64
+    → Goes sentence_of result (line_within as_statement o old) (λ s. reads_within new (At [] (Done s o))) new
 
 -- what follows the word `return`
 abbrev pub ReadsReturn : Result Stmt Fault → List Word → List Word → Type 0
-ReadsReturn result old new = (o : Outer) → Goes sentence_of result (reads_within old (At [] (Returning o))) (λ s. reads_within new (At [] (Done s o))) new
+ReadsReturn result old new = (o : Outer)
+    → Goes sentence_of result (reads_within old (At [] (Returning o))) (λ s. reads_within new (At [] (Done s o))) new
 
 -- what follows the word `break` or `continue`
 abbrev pub ReadsJump : Jump → Result Stmt Fault → List Word → List Word → Type 0
-ReadsJump j result old new = (o : Outer) → around_it o < 64 → Goes sentence_of result (reads_within old (At (a_semicolon ∷ []) (Done (jump j) o))) (λ s. reads_within new (At [] (Done s o))) new
+ReadsJump j result old new = (o : Outer) → around_it o < 64 → Goes sentence_of result
+    (reads_within old (At (a_semicolon ∷ []) (Done (jump j) o))) (λ s. reads_within new (At [] (Done s o))) new
 
 -- its first word has the number before the old place
 abbrev pub IsRestPlaced : Result Stmt Fault → List Token → ℕ → ℕ → Type 0
-IsRestPlaced result tokens old new = IfOk result (λ s. (n : ℕ) → n + 1 ≡ old → (view_stmt s ≡ statement_at (site_in tokens) n (sentence_of s)) × (new ≡ n + sentence_size (sentence_of s)))
+IsRestPlaced result tokens old new = IfOk result (λ s. (n : ℕ) → n + 1 ≡ old
+    → (view_stmt s ≡ statement_at (site_in tokens) n (sentence_of s)) × (new ≡ n + sentence_size (sentence_of s)))
 
 abbrev pub line_statement : Span → tree.First → tree.Statement
 line_statement s tree.nothing = tree.empty s

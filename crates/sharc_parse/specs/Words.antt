@@ -4,7 +4,8 @@ use Rattle.sharc_tree.specs.{View.view_expr, declared.token.Token.Token, declare
 use Rattle.sharc_tree.specs.declared.token.Keyword.TheVariants as key
 use Rattle.sharc_tree.specs.declared.tree.statement.Jump.TheVariants as jumps
 use Rattle.sharc_grammar.specs.Grammar.{Word, keyword, jump}
-use Rattle.sharc_grammar.specs.Machine.{Outer, inside, Asked, by_if, by_while, condition, part, Want, Start, Done, Returning, ForOpen, an_open, a_semicolon, State, At, asked}
+use Rattle.sharc_grammar.specs.Machine.{Outer, inside, Asked, by_if, by_while, condition, part, Want, Start, Done}
+use Rattle.sharc_grammar.specs.Machine.{Returning, ForOpen, an_open, a_semicolon, State, At, asked}
 use Rattle.sharc_grammar.specs.{Limits.{reads_within, around_it}, Places.{site_in, size, expression_at}}
 use Rattle.sharc_parse.specs.{declared.token.Fault.Fault, declared.token.Fault.TheVariants.Deep}
 use Rattle.sharc_parse.specs.declared.word.StatementWord.{StatementWord}
@@ -34,7 +35,8 @@ NoStatement (t ∷ rest) = (w : StatementWord) → t ≡ statement_word w → �
 abbrev pub EntersStatement : Result (Option StatementWord) Fault → ℕ → List Token → ℕ → ℕ → Type 0
 EntersStatement (Ok (Some w)) room tokens old new = Past (statement_word w) tokens old new × (room_of w ≤ room)
 EntersStatement (Ok None) room tokens old new = (new ≡ old) × NoStatement (from tokens new)
-EntersStatement (Err Deep) room tokens old new = (new ≡ old) × ((w : StatementWord) × IsAt (statement_word w) (from tokens new) × (room < room_of w))
+EntersStatement (Err Deep) room tokens old new =
+    (new ≡ old) × ((w : StatementWord) × IsAt (statement_word w) (from tokens new) × (room < room_of w))
 EntersStatement (Err _) room tokens old new = ⊥
 
 abbrev pub after_word : StatementWord → Outer → State
@@ -47,7 +49,10 @@ after_word Continue o = At (a_semicolon ∷ []) (Done (jump jumps.Continue) o)
 
 -- the condition of an `if` or a `while` with its parentheses
 abbrev pub ReadsCondition : Result Expr Fault → List Word → List Word → Type 0
-ReadsCondition result old new = (q : Asked) (o : Outer) → around_it o < 63 → Goes phrase_of result (reads_within old (At (an_open ∷ []) (Want (part (condition q) o)))) (λ e. reads_within new (At [] (Start (inside (asked q e) o)))) new
+ReadsCondition result old new = (q : Asked) (o : Outer) → around_it o < 63
+    → Goes phrase_of result (reads_within old (At (an_open ∷ []) (Want (part (condition q) o))))
+    (λ e. reads_within new (At [] (Start (inside (asked q e) o)))) new
 
 abbrev pub IsConditionPlaced : Result Expr Fault → List Token → ℕ → ℕ → Type 0
-IsConditionPlaced result tokens old new = IfOk result (λ e. (view_expr e ≡ expression_at (site_in tokens) (old + 1) (phrase_of e)) × (new ≡ old + size (phrase_of e) + 2))
+IsConditionPlaced result tokens old new = IfOk result
+    (λ e. (view_expr e ≡ expression_at (site_in tokens) (old + 1) (phrase_of e)) × (new ≡ old + size (phrase_of e) + 2))

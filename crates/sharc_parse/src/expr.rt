@@ -10,7 +10,8 @@ ghost use Rattle.sharc_grammar.specs.Limits.{reads_within, depth, crowded, highe
 ghost use Rattle.sharc_grammar.specs.Places.{sizes, site_in, span_at, arguments_at};
 ghost use Rattle.sharc_parse.specs.View.{phrase_of, phrases_of};
 ghost use Rattle.sharc_parse.specs.declared.token.FrontWord.TheVariants.{Spawn, Place};
-ghost use Rattle.sharc_parse.specs.Goes.{from, Goes, ReadsFrom, ReadsBehindName, IsHigh, IsPlaced, ReadsFront, IsFrontPlaced, NoUnary, NoCall, Builds, front_tree, bare_front};
+ghost use Rattle.sharc_parse.specs.Goes.{from, Goes, ReadsFrom, ReadsBehindName, IsHigh, IsPlaced, ReadsFront};
+ghost use Rattle.sharc_parse.specs.Goes.{IsFrontPlaced, NoUnary, NoCall, Builds, front_tree, bare_front};
 
 use crate::held::{box_beside, boxes, expect_behind};
 use crate::token::{
@@ -115,7 +116,8 @@ fn binary_of(
 ) -> Result<Piece, Fault>
     requires left { left.height < 64 }
     requires right { right.height < 64 }
-    ensures { Builds result (binary span operator site (view_expr left.expr) (view_expr right.expr)) (max left.height right.height + 1) }
+    ensures { Builds result (binary span operator site (view_expr left.expr) (view_expr right.expr))
+        (max left.height right.height + 1) }
 {
     let height = left.height.max(right.height) + 1;
     let (left, right) = boxes(alloc, left.expr, right.expr)?;
@@ -132,7 +134,8 @@ fn binary_of(
 fn index_of(alloc: Global, span: Span, base: Piece, index: Piece) -> Result<Piece, Fault>
     requires base { base.height < 64 }
     requires index { index.height < 64 }
-    ensures { Builds result (tree.index span (view_expr base.expr) (view_expr index.expr)) (max base.height index.height + 1) }
+    ensures { Builds result (tree.index span (view_expr base.expr) (view_expr index.expr))
+        (max base.height index.height + 1) }
 {
     let height = base.height.max(index.height) + 1;
     let (base, index) = boxes(alloc, base.expr, index.expr)?;
@@ -390,9 +393,13 @@ fn arguments(
     requires room { room < 64 }
     requires few { length tokens.now ≤ 2 ^ 20 }
     requires there { at.old ≤ length tokens.now }
-    ensures reads { (f : List ℕ) (k : Cont) → depth k + room + 1 ≡ 64 → crowded k ≡ false → Goes (λ r. phrases_of r.0.items) result (reads_within (from tokens.now at.old) (At [] (Called f k))) (λ v. reads_within (from tokens.now at.new) (At [] (Have (call f v) k))) (from tokens.now at.new) }
+    ensures reads { (f : List ℕ) (k : Cont) → depth k + room + 1 ≡ 64 → crowded k ≡ false
+        → Goes (λ r. phrases_of r.0.items) result (reads_within (from tokens.now at.old) (At [] (Called f k)))
+        (λ v. reads_within (from tokens.now at.new) (At [] (Have (call f v) k))) (from tokens.now at.new) }
     ensures height { IfOk result (λ r. (r.1 ≡ highest (phrases_of r.0.items)) × (r.1 ≤ room)) }
-    ensures placed { IfOk result (λ r. (view_arguments r.0.items ≡ arguments_at (site_in tokens.now) at.old (phrases_of r.0.items)) × (at.new ≡ at.old + sizes (phrases_of r.0.items) + 1)) }
+    ensures placed { IfOk result
+        (λ r. (view_arguments r.0.items ≡ arguments_at (site_in tokens.now) at.old (phrases_of r.0.items))
+        × (at.new ≡ at.old + sizes (phrases_of r.0.items) + 1)) }
     ensures onward { at.old ≤ at.new }
     ensures within { at.new ≤ length tokens.now }
 {

@@ -2,7 +2,8 @@
 
 ghost use Rattle.std.specs.Prelude.{◌≤◌, ◌^◌, length};
 ghost use Rattle.sharc_parse.specs.Goes.{from};
-ghost use Rattle.sharc_parse.specs.Forms.{TakesNumber, TakesSigned, ReadsArray, ReadsConstant, IsBehindPlaced, ReadsForm, IsFormPlaced};
+ghost use Rattle.sharc_parse.specs.Forms.{TakesNumber, TakesSigned, ReadsArray, ReadsConstant, IsBehindPlaced};
+ghost use Rattle.sharc_parse.specs.Forms.{ReadsForm, IsFormPlaced};
 
 use crate::token::{Fault, constant, expect, site, span, take};
 use sharc_tree::token::{Number, Punctuator, Token, TokenKind};

@@ -1,6 +1,7 @@
 // Values that are held while more is read.
 //
-// Where a function returns early, what it holds is dropped, and its proof goes through each part of that. Here this is proved once, for any value.
+// Where a function returns early, what it holds is dropped, and its proof goes through each part of that. Here this is
+// proved once, for any value.
 
 ghost use Rattle.std.specs.Prelude.{◌≡◌, Ok, IfOk, IfErr};
 ghost use Rattle.sharc_grammar.specs.Grammar.{mark};

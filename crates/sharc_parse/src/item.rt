@@ -4,7 +4,8 @@ ghost use Rattle.std.specs.Prelude.{◌≡◌, ◌+◌, ◌<◌, ◌≤◌, ◌^
 ghost use Rattle.sharc_grammar.specs.Places.{site_in};
 ghost use Rattle.sharc_parse.specs.Goes.{from};
 ghost use Rattle.sharc_parse.specs.View.{bare_type};
-ghost use Rattle.sharc_parse.specs.Items.{OpensStruct, ReadsStruct, IsStructPlaced, ReadsFunction, IsFunctionPlaced, ReadsNamed, IsNamedPlaced, ReadsItem, IsItemPlaced};
+ghost use Rattle.sharc_parse.specs.Items.{OpensStruct, ReadsStruct, IsStructPlaced, ReadsFunction, IsFunctionPlaced};
+ghost use Rattle.sharc_parse.specs.Items.{ReadsNamed, IsNamedPlaced, ReadsItem, IsItemPlaced};
 
 use crate::field::fields;
 use crate::form::form;

@@ -10,10 +10,12 @@ ghost use Rattle.sharc_parse.specs.Programs.{IsFaultOf};
 
 /// Tokens that are a program have no fault.
 pub fn programs_have_no_fault()
-    ensures { (tokens : Tokens) → (p : Program) → (fault : FaultAt GrammarFault) → Reads tokens p → IsFaultOf tokens fault → ⊥ }
+    ensures { (tokens : Tokens) → (p : Program) → (fault : FaultAt GrammarFault) → Reads tokens p
+        → IsFaultOf tokens fault → ⊥ }
 {}
 
 /// Tokens have one fault at most: its code, its place and what it reports are determined.
 pub fn one_fault()
-    ensures { (tokens : Tokens) → (a : FaultAt GrammarFault) → (b : FaultAt GrammarFault) → IsFaultOf tokens a → IsFaultOf tokens b → a ≡ b }
+    ensures { (tokens : Tokens) → (a : FaultAt GrammarFault) → (b : FaultAt GrammarFault) → IsFaultOf tokens a
+        → IsFaultOf tokens b → a ≡ b }
 {}

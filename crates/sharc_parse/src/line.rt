@@ -2,7 +2,8 @@
 
 ghost use Rattle.std.specs.Prelude.{◌≡◌, ◌==◌, ◌≤◌, ◌^◌, length};
 ghost use Rattle.sharc_parse.specs.Goes.{from};
-ghost use Rattle.sharc_parse.specs.Lines.{is_yes, MeetsType, MeetsLocal, starts_line, ReadsDeclaredLine, ReadsSimpleLine, ReadsLine, IsLinePlaced};
+ghost use Rattle.sharc_parse.specs.Lines.{is_yes, MeetsType, MeetsLocal, starts_line, ReadsDeclaredLine};
+ghost use Rattle.sharc_parse.specs.Lines.{ReadsSimpleLine, ReadsLine, IsLinePlaced};
 
 use crate::held::expect_behind;
 use crate::local::local;

@@ -2,7 +2,9 @@
 
 ghost use Rattle.std.specs.Prelude.{◌≤◌, ◌^◌, length};
 ghost use Rattle.sharc_parse.specs.Goes.{from};
-ghost use Rattle.sharc_parse.specs.Locals.{ReadsName, IsNamePlaced, ReadsDeclaration, IsDeclarationPlaced, ReadsInitial, EndsInitially, IsInitialPlaced, ReadsLocal, EndsLocal, IsLocalPlaced};
+ghost use Rattle.sharc_parse.specs.Locals.{ReadsName, IsNamePlaced, ReadsDeclaration, IsDeclarationPlaced};
+ghost use Rattle.sharc_parse.specs.Locals.{ReadsInitial, EndsInitially, IsInitialPlaced, ReadsLocal, EndsLocal};
+ghost use Rattle.sharc_parse.specs.Locals.{IsLocalPlaced};
 
 use crate::right::right;
 use crate::token::{Fault, name, span, take};

@@ -3,7 +3,8 @@
 ghost use Rattle.std.specs.Prelude.{◌≤◌, ◌^◌, length};
 ghost use Rattle.sharc_parse.specs.Goes.{from};
 ghost use Rattle.sharc_parse.specs.View.{bare_type};
-ghost use Rattle.sharc_parse.specs.Parameters.{ClosesVoid, ReadsFirst, IsFirstPlaced, ReadsParameters, AreParametersPlaced};
+ghost use Rattle.sharc_parse.specs.Parameters.{ClosesVoid, ReadsFirst, IsFirstPlaced, ReadsParameters};
+ghost use Rattle.sharc_parse.specs.Parameters.{AreParametersPlaced};
 
 use crate::local::{declaration, name_there};
 use crate::token::{Fault, expect, span, take};

@@ -5,7 +5,8 @@ ghost use Rattle.sharc_parse.specs.Goes.{from};
 ghost use Rattle.sharc_tree.specs.Tree.{return};
 ghost use Rattle.sharc_tree.specs.View.{view_expr, view_option, view_first};
 ghost use Rattle.sharc_parse.specs.Lines.{is_yes};
-ghost use Rattle.sharc_parse.specs.Statements.{ReadsLineStatement, BuildsStatement, line_statement, ReadsReturn, ReadsJump, EndsStatement, IsStatementPlaced, IsRestPlaced};
+ghost use Rattle.sharc_parse.specs.Statements.{ReadsLineStatement, BuildsStatement, line_statement, ReadsReturn};
+ghost use Rattle.sharc_parse.specs.Statements.{ReadsJump, EndsStatement, IsStatementPlaced, IsRestPlaced};
 
 use crate::head::tail;
 use crate::line::{MayDeclare, line};

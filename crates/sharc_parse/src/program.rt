@@ -2,7 +2,8 @@
 
 ghost use Rattle.std.specs.Prelude.{◌≡◌, ◌<◌, ◌≤◌, ◌^◌, All, length, drop, IfOk};
 ghost use Rattle.sharc_parse.specs.Goes.{from};
-ghost use Rattle.sharc_parse.specs.Programs.{Parses, ReadsItems, AreItemsPlaced, told_of, code_of, IsToldAt, Refuses, Completes};
+ghost use Rattle.sharc_parse.specs.Programs.{Parses, ReadsItems, AreItemsPlaced, told_of, code_of, IsToldAt, Refuses};
+ghost use Rattle.sharc_parse.specs.Programs.{Completes};
 
 use crate::item::item;
 use crate::token::Fault;
@@ -100,7 +101,8 @@ fn fault_at(
 ) -> Result<FaultAt<GrammarFault>, AllocError>
     requires files { All (λ t. t.file < length tokens.now.files) tokens.now.list }
     requires end_file { tokens.now.end.file < length tokens.now.files }
-    ensures { IfOk result (λ fault. IsToldAt tokens.now fault at × (fault.code ≡ code_of refusal (from tokens.now.list at))) }
+    ensures { IfOk result (λ fault. IsToldAt tokens.now fault at
+        × (fault.code ≡ code_of refusal (from tokens.now.list at))) }
 {
     let list = tokens.list.as_slice();
     let code = code_at(list, at, refusal);
@@ -143,12 +145,12 @@ fn complete(alloc: Global, tokens: Tokens, items: Vec<Item>) -> Result<Program, 
     })
 }
 
-/// The program that the tokens are, exactly where the grammar reads all of them within the limits: 64 statements one inside the other, expressions
-/// of height 64, and 8 stars in a type.
+/// The program that the tokens are, exactly where the grammar reads all of them within the limits: 64 statements one
+/// inside the other, expressions of height 64, and 8 stars in a type.
 ///
-/// Else the fault is at the first token with which the tokens begin no such program. It is P1 where they begin no program at all, or end too
-/// early, and P3 where that is so and the token is a word that C11 has and the language leaves out. It is P2 where they begin a program, but none
-/// within the limits. The tokens are handed back with it.
+/// Else the fault is at the first token with which the tokens begin no such program. It is P1 where they begin no
+/// program at all, or end too early, and P3 where that is so and the token is a word that C11 has and the language
+/// leaves out. It is P2 where they begin a program, but none within the limits. The tokens are handed back with it.
 #[tactic(auto, using(crate::proofs::ProgramSteps::stuck_there, crate::proofs::ProgramSteps::over_there, crate::proofs::ProgramSteps::parses_refused, crate::proofs::ProgramSteps::parses_complete))]
 pub fn parse(alloc: Global, tokens: Tokens) -> Result<Program, ParseFault>
     requires few { length tokens.list ≤ 2 ^ 20 }

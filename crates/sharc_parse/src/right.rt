@@ -2,7 +2,8 @@
 
 ghost use Rattle.std.specs.Prelude.{◌≤◌, ◌^◌, length};
 ghost use Rattle.sharc_parse.specs.Goes.{from};
-ghost use Rattle.sharc_parse.specs.Rights.{ReadsCount, IsCountPlaced, ReadsSized, IsSizedPlaced, ReadsRight, EndsRight, IsRightPlaced};
+ghost use Rattle.sharc_parse.specs.Rights.{ReadsCount, IsCountPlaced, ReadsSized, IsSizedPlaced, ReadsRight, EndsRight};
+ghost use Rattle.sharc_parse.specs.Rights.{IsRightPlaced};
 
 use crate::expr::{binary, unary};
 use crate::held::expect_behind;

@@ -7,7 +7,8 @@ ghost use Rattle.sharc_parse.specs.declared.word.StatementWord.TheVariants.{If, 
 ghost use Rattle.sharc_parse.specs.Goes.{from};
 ghost use Rattle.sharc_parse.specs.Words.{room_of};
 ghost use Rattle.sharc_parse.specs.Lines.{is_yes};
-ghost use Rattle.sharc_parse.specs.Statements.{BuildsStatement, ReadsStatement, EndsStatement, IsStatementPlaced, IsRestPlaced};
+ghost use Rattle.sharc_parse.specs.Statements.{BuildsStatement, ReadsStatement, EndsStatement, IsStatementPlaced};
+ghost use Rattle.sharc_parse.specs.Statements.{IsRestPlaced};
 ghost use Rattle.sharc_parse.specs.Nested.{IsOpen, ReadsRest, ReadsStatements, AreStatementsPlaced};
 
 use crate::head::head;

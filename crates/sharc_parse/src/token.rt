@@ -4,7 +4,8 @@ ghost use Rattle.std.specs.Prelude.{◌≡◌, ℕ, ◌+◌, ◌<◌, ◌≤◌,
 ghost use Rattle.sharc_grammar.specs.Grammar.{mark, keyword, strength};
 ghost use Rattle.sharc_grammar.specs.Places.{site_in, span_at};
 ghost use Rattle.sharc_parse.specs.declared.token.Fault.TheVariants.{Memory};
-ghost use Rattle.sharc_parse.specs.Goes.{Takes, Expects, TakesName, TakesConstant, from, Meets, EntersAccess, Enters, EntersUnary, EntersFront, IsOperator, EntersOperator};
+ghost use Rattle.sharc_parse.specs.Goes.{Takes, Expects, TakesName, TakesConstant, from, Meets, EntersAccess, Enters};
+ghost use Rattle.sharc_parse.specs.Goes.{EntersUnary, EntersFront, IsOperator, EntersOperator};
 
 use sharc_tree::token::{Keyword, Punctuator, Site, Span, Token, TokenKind};
 use sharc_tree::tree::{

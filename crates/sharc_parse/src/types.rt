@@ -3,7 +3,10 @@
 ghost use Rattle.std.specs.Prelude.{◌≤◌, ◌<◌, ◌^◌, length, IfOk};
 ghost use Rattle.sharc_parse.specs.Goes.{from};
 ghost use Rattle.sharc_parse.specs.View.{bare_type};
-ghost use Rattle.sharc_parse.specs.Types.{may_stand, TakesMode, ReadsPath, IsPathPlaced, ReadsModeRest, IsModeRestPlaced, ReadsMode, IsModePlaced, ReadsLevel, TakesBase, ReadsBase, IsBasePlaced, ReadsBottom, IsBottomPlaced, EndsBottom, ReadsType, IsTypePlaced, EndsType, IsBare, ReadsCast, IsCastPlaced};
+ghost use Rattle.sharc_parse.specs.Types.{may_stand, TakesMode, ReadsPath, IsPathPlaced, ReadsModeRest};
+ghost use Rattle.sharc_parse.specs.Types.{IsModeRestPlaced, ReadsMode, IsModePlaced, ReadsLevel, TakesBase, ReadsBase};
+ghost use Rattle.sharc_parse.specs.Types.{IsBasePlaced, ReadsBottom, IsBottomPlaced, EndsBottom, ReadsType};
+ghost use Rattle.sharc_parse.specs.Types.{IsTypePlaced, EndsType, IsBare, ReadsCast, IsCastPlaced};
 
 use crate::held::expect_behind;
 use crate::token::{Fault, enter, expect, name, site, span, take};

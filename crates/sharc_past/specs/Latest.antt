@@ -8,7 +8,8 @@ use Rattle.sharc_past.specs.declared.topics.Topic.TheVariants as topic
 -- with this one before them, where their places begin with n
 abbrev pub latest_from : (SourceEvent → Bool) → ℕ → Option Noted → List SourceEvent → Option Noted
 latest_from test n found [] = found
-latest_from test n found (e ∷ rest) = latest_from test (n + 1) (if test e then Some (record { place = n; event = e }) else found) rest
+latest_from test n found (e ∷ rest) =
+    latest_from test (n + 1) (if test e then Some (record { place = n; event = e }) else found) rest
 
 abbrev pub latest_at : (SourceEvent → Bool) → List SourceEvent → Option Noted
 latest_at test = latest_from test 0 None

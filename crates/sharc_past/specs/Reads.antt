@@ -29,7 +29,9 @@ with_shared false noted reads = reads ++ noted ∷ []
 
 -- an event more: a write ends the list, a read is added
 abbrev pub with_read : GranuleKey → Noted → List Noted → List Noted
-with_read q noted reads = if is_shared q (access_by noted.event.act) then with_shared (is_write (access_by noted.event.act)) noted reads else reads
+with_read q noted reads =
+    if is_shared q (access_by noted.event.act) then with_shared (is_write (access_by noted.event.act)) noted reads
+    else reads
 
 abbrev pub reads_from : GranuleKey → ℕ → List Noted → List SourceEvent → List Noted
 reads_from q n reads [] = reads
@@ -51,7 +53,8 @@ reads_in table q = reads_found (get same_granule table q)
 abbrev pub is_against : ℕ → CellAccess → List SourceEvent → Noted → Bool
 is_against thread a R noted =
     pair_of (pair.Conflicts Return thread a) noted.event []
-    && (is_behind noted.place (last_begin a.cell.object R) && is_behind noted.place (latest_about (topic.Return noted.event.thread) R))
+    && (is_behind noted.place (last_begin a.cell.object R)
+    && is_behind noted.place (latest_about (topic.Return noted.event.thread) R))
 
 abbrev pub against_noted : ℕ → CellAccess → List SourceEvent → Option Noted → Bool
 against_noted thread a R None = false

@@ -11,7 +11,8 @@ pub(crate) type Counts = HashMap<u32, usize>;
 
 /// One event more of the thread. Out of memory is answered also where a number of 64 bits cannot count them.
 pub(crate) fn add_one(counts: &mut Counts, thread: u32) -> Result<(), AllocError>
-    ensures { OnOk result ((q : ℕ) → count_in counts.new q ≡ (if thread == q then count_in counts.old q + 1 else count_in counts.old q)) }
+    ensures { OnOk result ((q : ℕ)
+        → count_in counts.new q ≡ (if thread == q then count_in counts.old q + 1 else count_in counts.old q)) }
 {
     let count = counts.get(&thread).copied().unwrap_or(0);
     match count.checked_add(1) {

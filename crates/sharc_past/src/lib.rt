@@ -1,7 +1,8 @@
 //! The events of a run so far, so that what the next one asks of them is looked up.
 //!
-//! The layer above may use `Past`: a contract sees the list of its events. `may_come` says whether an event may come after them, and `broken_by` the lowest rule
-//! of the modes that it breaks, as sharc_judge does of plain lists. Each takes a few looks into tables, however many events there are.
+//! The layer above may use `Past`: a contract sees the list of its events. `may_come` says whether an event may come
+//! after them, and `broken_by` the lowest rule of the modes that it breaks, as sharc_judge does of plain lists. Each
+//! takes a few looks into tables, however many events there are.
 #![tactic(auto)]
 
 pub mod counts;

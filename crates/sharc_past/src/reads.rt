@@ -21,7 +21,8 @@ fn add(
     granule: GranuleKey,
     noted: Noted,
 ) -> Result<(), AllocError>
-    ensures { OnOk result ((q : GranuleKey) → reads_in reads.new q ≡ (if same_granule granule q then reads_in reads.old q ++ noted ∷ [] else reads_in reads.old q)) }
+    ensures { OnOk result ((q : GranuleKey) → reads_in reads.new q
+        ≡ (if same_granule granule q then reads_in reads.old q ++ noted ∷ [] else reads_in reads.old q)) }
 {
     let mut all = match reads.remove(&granule) {
         None => Vec::new(alloc),

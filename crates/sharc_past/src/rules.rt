@@ -73,7 +73,8 @@ impl Past {
         }
     }
 
-    /// Whether the cell was accessed under another mode, and its object was not made, given or freed since. Since no access so far was, the last one tells.
+    /// Whether the cell was accessed under another mode, and its object was not made, given or freed since. Since no
+    /// access so far was, the last one tells.
     fn had_other_mode(&self, a: CellAccess) -> bool
         requires { AreUnbroken self.now }
         ensures { result ≡ any_pair (pair_of (pair.OtherMode a)) self.now }
@@ -119,8 +120,8 @@ impl Past {
         false
     }
 
-    /// Whether an access by another thread still counts, and must not be made beside this one. Since no two so far conflict, the last write tells, and where
-    /// this one is a write, the reads since.
+    /// Whether an access by another thread still counts, and must not be made beside this one. Since no two so far
+    /// conflict, the last write tells, and where this one is a write, the reads since.
     fn is_beside(&self, thread: u32, a: CellAccess) -> bool
         requires { AreUnbroken self.now }
         ensures { result ≡ any_pair (pair_of (pair.Conflicts Return thread a)) self.now }

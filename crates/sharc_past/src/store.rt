@@ -1,7 +1,8 @@
 // Whether an event may come after those before it.
 
 ghost use Rattle.std.specs.Prelude.{◌≡◌, IsTrue, ◌↔◌, false, true, find};
-ghost use Rattle.sharc_meaning.specs.Store.{value_after, is_live, is_locked, was_locked_by, spawns, went, MayCome, IsFresh, IsNewThread};
+ghost use Rattle.sharc_meaning.specs.Store.{value_after, is_live, is_locked, was_locked_by, spawns, went, MayCome};
+ghost use Rattle.sharc_meaning.specs.Store.{IsFresh, IsNewThread};
 ghost use Rattle.sharc_past.specs.Kept.{IsSpawnedOnce};
 ghost use Rattle.sharc_past.specs.Latest.{last_make};
 
@@ -114,7 +115,8 @@ impl Past {
         self.latest(Topic::Gone(thread)).is_some()
     }
 
-    /// Whether the event may come after these. Of an event of a condition variable all of them are looked at: no line of an event file is one.
+    /// Whether the event may come after these. Of an event of a condition variable all of them are looked at: no line
+    /// of an event file is one.
     pub fn may_come(&self, typed: &Typed, event: &SourceEvent) -> bool
         ensures { IsTrue result ↔ MayCome typed.now self.now event.now event.now.act }
     {

@@ -23,7 +23,8 @@ pub(crate) type Table = HashMap<Topic, Noted>;
 
 /// Notes an event that is about these topics: four at most.
 pub(crate) fn note(table: &mut Table, topics: &[Topic], noted: Noted) -> Result<(), AllocError>
-    ensures { OnOk result ((q : Topic) → found table.new q ≡ (if list_any (λ x. same_topic x q) topics.now then Some noted else found table.old q)) }
+    ensures { OnOk result ((q : Topic)
+        → found table.new q ≡ (if list_any (λ x. same_topic x q) topics.now then Some noted else found table.old q)) }
 {
     match topics {
         [] => Ok(()),

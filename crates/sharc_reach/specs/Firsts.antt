@@ -27,4 +27,5 @@ named_by true None function firsts = firsts
 named_by true (Some global) function firsts = lowered global function firsts
 
 abbrev pub lowered_by : Resolution → List Bool → List (Option ℕ) → Mention → List (Option ℕ)
-lowered_by r chosen firsts m = named_by (is_chosen chosen m.function) (global_named (named_at r m.token)) m.function firsts
+lowered_by r chosen firsts m =
+    named_by (is_chosen chosen m.function) (global_named (named_at r m.token)) m.function firsts

@@ -1,5 +1,6 @@
 -- The graph of the functions: each name that is called or spawned is an edge, and each that is spawned makes a source.
-use Rattle.std.specs.Prelude.{ℕ, Bool, true, false, not, ◌&&◌, nat_lt, List, Option, None, Some, slice_set, if◌then◌else◌}
+use Rattle.std.specs.Prelude.{ℕ, Bool, true, false, not, ◌&&◌, nat_lt, List, Option, None, Some, slice_set}
+use Rattle.std.specs.Prelude.{if◌then◌else◌}
 use Rattle.sharc_graph.specs.{declared.graph.Node.Node, declared.graph.Edge.Edge, declared.graph.Finding.Finding}
 use Rattle.sharc_graph.specs.{declared.graph.Finding.TheVariants.{Apart, Source, Behind}, Findings.is_apart}
 use Rattle.sharc_graph.specs.Paths.{edge_of}

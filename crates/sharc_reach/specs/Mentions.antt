@@ -1,8 +1,13 @@
 -- The names in a function, in the order in which they are written, each with what the function does with it.
 use Rattle.std.specs.Prelude.{ℕ, zero, suc, Bool, true, false, List, [], ◌∷◌, ◌++◌, Option, Some, None}
 use Rattle.sharc_tree.specs.{declared.ctype.Mode.Mode, declared.tree.declaration.WrittenType.WrittenType}
-use Rattle.sharc_tree.specs.Marks.{Mark, a_name, a_cast, level_marks, base_marks, type_marks, name_marks, declaration_marks, declarations_marks}
-use Rattle.sharc_tree.specs.Tree.{Expression, identifier, constant, parentheses, call, spawn, on_value, on_place, cast, index, field, unary, binary, Arguments, no_arguments, argument, Right, value, malloc, Simple, assign, does_call, Local, First, nothing, declares, does, Head, Statement, empty, block, declare, simple, jump, return, if_then, if_then_else, while, for, Statements, no_statements, statement, Function}
+use Rattle.sharc_tree.specs.Marks.{Mark, a_name, a_cast, level_marks, base_marks, type_marks, name_marks}
+use Rattle.sharc_tree.specs.Marks.{declaration_marks, declarations_marks}
+use Rattle.sharc_tree.specs.Tree.{Expression, identifier, constant, parentheses, call, spawn, on_value, on_place, cast}
+use Rattle.sharc_tree.specs.Tree.{index, field, unary, binary, Arguments, no_arguments, argument, Right, value, malloc}
+use Rattle.sharc_tree.specs.Tree.{Simple, assign, does_call, Local, First, nothing, declares, does, Head, Statement}
+use Rattle.sharc_tree.specs.Tree.{empty, block, declare, simple, jump, return, if_then, if_then_else, while, for}
+use Rattle.sharc_tree.specs.Tree.{Statements, no_statements, statement, Function}
 use Rattle.sharc_ctype.specs.Resolved.{Resolution, function_at}
 use Rattle.sharc_reach.specs.{declared.mention.Mention.Mention, declared.mention.Role.Role}
 use Rattle.sharc_reach.specs.declared.mention.Role.TheVariants.{Named, Called, Spawned}
@@ -65,7 +70,8 @@ first_mentions n (declares l) = local_mentions n l
 first_mentions n (does x) = simple_mentions n x
 
 abbrev pub head_mentions : ℕ → Head → List Mention
-head_mentions n h = first_mentions n h.first ++ option_mentions (mentions n) h.test ++ option_mentions (simple_mentions n) h.step
+head_mentions n h =
+    first_mentions n h.first ++ option_mentions (mentions n) h.test ++ option_mentions (simple_mentions n) h.step
 
 abbrev mutual
   pub statement_mentions : ℕ → Statement → List Mention
@@ -85,7 +91,8 @@ abbrev mutual
   statements_mentions n (statement a rest) = statement_mentions n a ++ statements_mentions n rest
 
 abbrev pub function_mentions : ℕ → Function → List Mention
-function_mentions n f = names n (type_marks f.result) ++ names n (name_marks f.name) ++ names n (declarations_marks f.parameters) ++ statements_mentions n f.statements
+function_mentions n f = names n (type_marks f.result) ++ names n (name_marks f.name)
+    ++ names n (declarations_marks f.parameters) ++ statements_mentions n f.statements
 
 abbrev pub mentions_in : ℕ → Option Function → List Mention
 mentions_in n None = []

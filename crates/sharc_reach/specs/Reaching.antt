@@ -1,5 +1,6 @@
 -- What is answered: which functions are reached, which are spawned, and which reached function first names each global.
-use Rattle.std.specs.Prelude.{◌≡◌, ◌↔◌, ℕ, ◌<◌, ◌≤◌, Bool, true, false, List, length, Option, None, Some, slice_index_or}
+use Rattle.std.specs.Prelude.{◌≡◌, ◌↔◌, ℕ, ◌<◌, ◌≤◌, Bool, true, false, List, length, Option, None, Some}
+use Rattle.std.specs.Prelude.{slice_index_or}
 use Rattle.sharc_ctype.specs.Resolved.{Resolution, functions_in, globals_in}
 use Rattle.sharc_ctype.specs.Reaches.{Spawns, IsReached, NamesGlobal, IsTouched}
 

@@ -13,8 +13,8 @@ use sharc_graph::{Finding, find};
 use std::alloc::{AllocError, Global};
 use std::marker::Model;
 
-/// The reached functions, those that are spawned, and for each global the first reached function in source order that names it. A contract sees it as
-/// these three lists, by number.
+/// The reached functions, those that are spawned, and for each global the first reached function in source order that
+/// names it. A contract sees it as these three lists, by number.
 #[derive(Drop)]
 pub struct Reached {
     functions: Vec<bool>,
@@ -31,8 +31,8 @@ impl Model for Reached {
 }
 
 impl Reached {
-    /// Whether the function with this number is reached: it is spawned anywhere, or called or spawned in a reached function. It takes no memory
-    /// and one step.
+    /// Whether the function with this number is reached: it is spawned anywhere, or called or spawned in a reached
+    /// function. It takes no memory and one step.
     pub fn function(&self, function: u32) -> bool
         requires { function < length self.now.functions }
         ensures { result ≡ is_chosen self.now.functions function }
@@ -48,8 +48,8 @@ impl Reached {
         self.spawned[function as usize]
     }
 
-    /// The first reached function in source order that names the global with this number, in a lock path too; none where no reached function
-    /// does. It takes no memory and one step.
+    /// The first reached function in source order that names the global with this number, in a lock path too; none
+    /// where no reached function does. It takes no memory and one step.
     pub fn touched(&self, global: u32) -> Option<u32>
         requires { global < length self.now.firsts }
         ensures { result ≡ first_of self.now global }
@@ -88,8 +88,8 @@ fn is_source(finding: Finding) -> bool
     }
 }
 
-/// What is reached and touched in a program. Running out of memory is the only error; more functions or calls than a number of 32 bits counts are answered
-/// so, too.
+/// What is reached and touched in a program. Running out of memory is the only error; more functions or calls than a
+/// number of 32 bits counts are answered so, too.
 pub fn reach(alloc: Global, typed: &Typed) -> Result<Reached, AllocError>
     ensures { IfOk result (λ reached. AreReached typed.now reached) }
 {

@@ -76,7 +76,8 @@ pub(crate) fn firsts(
     globals: usize,
     mentions: &[Mention],
 ) -> Result<Vec<Option<u32>>, AllocError>
-    ensures { IfOk result (λ firsts. firsts.items ≡ fold (lowered_by typed.now chosen.now) (replicate globals Nothing) mentions.now) }
+    ensures { IfOk result (λ firsts. firsts.items
+        ≡ fold (lowered_by typed.now chosen.now) (replicate globals Nothing) mentions.now) }
 {
     let mut firsts = vec![in alloc; None; globals]?;
     for mention in mentions {

@@ -1,7 +1,8 @@
 // The names in types and declarations.
 
 ghost use Rattle.std.specs.Prelude.{◌≡◌, [], ◌∷◌, ◌++◌, OnOk};
-ghost use Rattle.sharc_tree.specs.Marks.{path_marks, mode_marks, level_marks, base_marks, type_marks, declaration_marks, declarations_marks};
+ghost use Rattle.sharc_tree.specs.Marks.{path_marks, mode_marks, level_marks, base_marks, type_marks};
+ghost use Rattle.sharc_tree.specs.Marks.{declaration_marks, declarations_marks};
 ghost use Rattle.sharc_reach.specs.Mentions.{mention, names, bottom_marks};
 
 use crate::mention::{Mention, Role};

@@ -43,7 +43,8 @@ pub(crate) fn nodes(
     count: u32,
     mentions: &[Mention],
 ) -> Result<Vec<Node>, AllocError>
-    ensures { IfOk result (λ nodes. nodes.items ≡ fold (marked_by typed.now) (replicate count quiet_node) mentions.now) }
+    ensures { IfOk result (λ nodes. nodes.items
+        ≡ fold (marked_by typed.now) (replicate count quiet_node) mentions.now) }
 {
     let quiet = Node {
         source: false,

@@ -1,9 +1,13 @@
 // The names in expressions, statements and functions: one walk over a program.
 
 ghost use Rattle.std.specs.Prelude.{◌≡◌, ◌++◌, IfOk, OnOk};
-ghost use Rattle.sharc_tree.specs.View.{view_expr, view_arguments, view_option, view_right, view_simple, view_local, view_first, view_head, view_stmt, view_statements, view_function};
+ghost use Rattle.sharc_tree.specs.View.{view_expr, view_arguments, view_option, view_right, view_simple, view_local};
+ghost use Rattle.sharc_tree.specs.View.{view_first, view_head, view_stmt, view_statements, view_function};
 ghost use Rattle.sharc_ctype.specs.Resolved.{function_at};
-ghost use Rattle.sharc_reach.specs.Mentions.{mentions, mentions_of_all, option_mentions, right_mentions, simple_mentions, local_mentions, first_mentions, head_mentions, statement_mentions, statements_mentions, function_mentions, mentions_in, mentions_below};
+ghost use Rattle.sharc_reach.specs.Mentions.{mentions, mentions_of_all, option_mentions, right_mentions};
+ghost use Rattle.sharc_reach.specs.Mentions.{simple_mentions, local_mentions, first_mentions, head_mentions};
+ghost use Rattle.sharc_reach.specs.Mentions.{statement_mentions, statements_mentions, function_mentions, mentions_in};
+ghost use Rattle.sharc_reach.specs.Mentions.{mentions_below};
 
 use crate::mention::{Mention, Role};
 use crate::names::{add, declaration, declarations, type_names};
@@ -62,7 +66,8 @@ fn arguments(all: &[Expr], function: u32, list: &mut Vec<Mention>) -> Result<(),
 }
 
 fn optional(expr: &Option<Expr>, function: u32, list: &mut Vec<Mention>) -> Result<(), AllocError>
-    ensures { OnOk result (list.new.items ≡ list.old.items ++ option_mentions (mentions function) (view_option view_expr expr.now)) }
+    ensures { OnOk result (list.new.items
+        ≡ list.old.items ++ option_mentions (mentions function) (view_option view_expr expr.now)) }
 {
     match expr {
         None => Ok(()),
@@ -95,7 +100,8 @@ fn simple(simple: &Simple, function: u32, list: &mut Vec<Mention>) -> Result<(),
 }
 
 fn initial(value: &Option<Right>, function: u32, list: &mut Vec<Mention>) -> Result<(), AllocError>
-    ensures { OnOk result (list.new.items ≡ list.old.items ++ option_mentions (right_mentions function) (view_option view_right value.now)) }
+    ensures { OnOk result (list.new.items
+        ≡ list.old.items ++ option_mentions (right_mentions function) (view_option view_right value.now)) }
 {
     match value {
         None => Ok(()),
@@ -121,7 +127,8 @@ fn first(first: &ForFirst, function: u32, list: &mut Vec<Mention>) -> Result<(),
 }
 
 fn step(step: &Option<Simple>, function: u32, list: &mut Vec<Mention>) -> Result<(), AllocError>
-    ensures { OnOk result (list.new.items ≡ list.old.items ++ option_mentions (simple_mentions function) (view_option view_simple step.now)) }
+    ensures { OnOk result (list.new.items
+        ≡ list.old.items ++ option_mentions (simple_mentions function) (view_option view_simple step.now)) }
 {
     match step {
         None => Ok(()),
@@ -142,7 +149,8 @@ fn returned(
     function: u32,
     list: &mut Vec<Mention>,
 ) -> Result<(), AllocError>
-    ensures { OnOk result (list.new.items ≡ list.old.items ++ option_mentions (mentions function) (view_option (λ b. view_expr b.value) value.now)) }
+    ensures { OnOk result (list.new.items
+        ≡ list.old.items ++ option_mentions (mentions function) (view_option (λ b. view_expr b.value) value.now)) }
 {
     match value {
         None => Ok(()),

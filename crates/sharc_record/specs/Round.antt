@@ -54,7 +54,8 @@ abbrev pub MayAllRun : Code → Shape → ℕ → SharedView → Worker → Type
 MayAllRun code s limit shared worker = (n : ℕ) → MayRunAt code s limit shared (slice_index_or worker.hands.items n None)
 
 abbrev pub HaveAllRun : Code → Shape → ℕ → Worker → Worker → Type 0
-HaveAllRun code s limit old new = (n : ℕ) → HasRunAt code s limit (slice_index_or old.hands.items n None) (slice_index_or new.hands.items n None)
+HaveAllRun code s limit old new = (n : ℕ)
+    → HasRunAt code s limit (slice_index_or old.hands.items n None) (slice_index_or new.hands.items n None)
 
 -- the hand of this number at this worker
 abbrev pub hand_at : List Worker → ℕ → ℕ → Worker → Option Hand
@@ -62,7 +63,8 @@ hand_at workers w n d = slice_index_or (slice_index_or workers w d).hands.items 
 
 -- ---- a round
 -- it was made, and its events were appended to these
-pub record RecordedRound (code : Code) (s : Shape) (limit : ℕ) (words now : List ℕ) (old new : List Seat) (before after : List WordEvent) : Type 0 where
+pub record RecordedRound (code : Code) (s : Shape) (limit : ℕ) (words now : List ℕ) (old new : List Seat)
+    (before after : List WordEvent) : Type 0 where
   pub round : MadeRound code s limit words now old new
   pub appended : after ≡ before ++ round.history.history
 
@@ -88,4 +90,5 @@ pub record AreRounds (code : Code) (s : Shape) (limit : ℕ) (rounds : Rounds) :
   pub few : (t : ℕ) → (place_after code s turns).made t ≤ limit
   pub words : rounds.port ≡ (place_after code s turns).words
   pub journal : word_events turns ≡ rounds.events.items
-  pub seats : AreSeats code s (place_after code s turns).threads (place_after code s turns).made (place_after code s turns).started rounds.threads.seats.items
+  pub seats : AreSeats code s (place_after code s turns).threads (place_after code s turns).made
+      (place_after code s turns).started rounds.threads.seats.items

@@ -5,8 +5,8 @@ use Rattle.sharc_threads.specs.Ends.{AreStarted, EndIs}
 use Rattle.sharc_schedule.specs.{Journal.IsJournalOf, Schedule.schedule_of}
 use Rattle.sharc_record.specs.declared.run.Recorded.{Recorded}
 
--- A checked run, in which no thread makes more events than this, and which ends where no thread is enabled. Its word events are the
--- journal, its schedule the places
+-- A checked run, in which no thread makes more events than this, and which ends where no thread is enabled. Its word
+-- events are the journal, its schedule the places
 pub record IsRecorded (code : Code) (s : Shape) (limit : ℕ) (run : Recorded) : Type 0 where
   pub turns : List Turn
   pub journal_is : IsJournalOf code s limit run.journal.items turns

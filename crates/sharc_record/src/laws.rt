@@ -5,7 +5,8 @@ ghost use Rattle.sharc_record.specs.Laws.{RecordsReplay};
 use sharc_recorded::file_laws;
 use sharc_schedule::schedule_laws;
 
-/// What is written of a recorded run is one recorded file, and the run by the schedule that it says shows what the recorded run does.
+/// What is written of a recorded run is one recorded file, and the run by the schedule that it says shows what the
+/// recorded run does.
 pub fn record_laws()
     ensures { RecordsReplay }
 {

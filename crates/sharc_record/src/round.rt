@@ -48,7 +48,8 @@ fn make_room_at(seat: &mut Option<Thread>) -> Result<(), AllocError>
 // Makes room in each thread.
 fn reserve(seats: &mut Vec<Option<Thread>>) -> Result<(), AllocError>
     ensures count { length seats.new.items ≡ length seats.old.items }
-    ensures each { OnOk result ((n : ℕ) → n < length seats.old.items → HasRoomAt (slice_index_or seats.old.items n None) (slice_index_or seats.new.items n None)) }
+    ensures each { OnOk result ((n : ℕ) → n < length seats.old.items
+        → HasRoomAt (slice_index_or seats.old.items n None) (slice_index_or seats.new.items n None)) }
 {
     for n in 0..seats.len() {
         make_room_at(&mut seats[n])?;
@@ -76,7 +77,8 @@ impl Rounds {
         requires workers { 0 < workers }
         requires words { length self.port ≡ words_of shape.now }
         requires seats { MayBegin code.now shape.now limit self.threads.seats.items }
-        ensures { IfOk result (λ r. RecordedRound code.now shape.now limit self.port r.port self.threads.seats.items r.threads.seats.items self.events.items r.events.items) }
+        ensures { IfOk result (λ r. RecordedRound code.now shape.now limit self.port r.port self.threads.seats.items
+            r.threads.seats.items self.events.items r.events.items) }
     {
         let Rounds {
             threads,

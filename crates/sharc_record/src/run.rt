@@ -19,8 +19,8 @@ use std::alloc::{AllocError, Global};
 use std::sync::Wait;
 use std::thread::Threads;
 
-/// A run that has ended: its word events, its schedule, the words, the threads that were started in rising order of their numbers, and
-/// how it ended.
+/// A run that has ended: its word events, its schedule, the words, the threads that were started in rising order of
+/// their numbers, and how it ended.
 #[derive(Drop)]
 pub struct Recorded {
     pub journal: Vec<WordEvent>,
@@ -119,9 +119,9 @@ impl Rounds {
     }
 }
 
-/// Runs the code in rounds over a journal: in each, worker `w` gives every started thread whose number is `w` modulo `workers` one
-/// quantum of turns, and asks the gate before each step. A thread that is spawned in a round begins in the next. The run ends where no
-/// thread is enabled.
+/// Runs the code in rounds over a journal: in each, worker `w` gives every started thread whose number is `w` modulo
+/// `workers` one quantum of turns, and asks the gate before each step. A thread that is spawned in a round begins in
+/// the next. The run ends where no thread is enabled.
 ///
 /// An `Err` says that memory was not found.
 pub fn record_run<R: Threads + Wait + Sync, G: Gate + Sync>(

@@ -1,6 +1,7 @@
--- The grammar of recorded files: a source, a newline, the line of the schedule with the number of heap granules and the limit of events,
--- a line for each place with its number of turns, the line of the text, and any bytes.
-use Rattle.std.specs.Prelude.{ℕ, ◌≡◌, ◌≢◌, ◌≤◌, ◌+◌, ◌-◌, ◌==◌, List, [], ◌∷◌, ◌++◌, map, codes, decimal, length, take, if◌then◌else◌}
+-- The grammar of recorded files: a source, a newline, the line of the schedule with the number of heap granules and the
+-- limit of events, a line for each place with its number of turns, the line of the text, and any bytes.
+use Rattle.std.specs.Prelude.{ℕ, ◌≡◌, ◌≢◌, ◌≤◌, ◌+◌, ◌-◌, ◌==◌, List, [], ◌∷◌, ◌++◌, map, codes, decimal, length, take}
+use Rattle.std.specs.Prelude.{if◌then◌else◌}
 
 -- the lines of bytes; one that the end cuts is a whole line
 abbrev pub begin_with : ℕ → List (List ℕ) → List (List ℕ)
@@ -59,12 +60,14 @@ pub record AreNumbers (heap limit : ℕ) : Type 0 where
   pub few : limit ≤ 200000
 
 -- ---- a file
--- these lines are those of a file that says this. The source has a line at least, and no line after its first begins a schedule
+-- these lines are those of a file that says this. The source has a line at least, and no line after its first begins a
+-- schedule
 pub record AreLinesOf (lines : List (List ℕ)) (file : FileView) : Type 0 where
   pub first : List ℕ
   pub others : List (List ℕ)
   pub text : List (List ℕ)
-  pub lines_are : lines ≡ (first ∷ others) ++ schedule_line file.heap file.limit ∷ (map place_line file.places ++ text_line ∷ text)
+  pub lines_are : lines
+      ≡ (first ∷ others) ++ schedule_line file.heap file.limit ∷ (map place_line file.places ++ text_line ∷ text)
   pub source_is : file.source ≡ joined_by first others
   pub others_are : NoneBegins others
   pub numbers : AreNumbers file.heap file.limit
@@ -96,4 +99,5 @@ places_text [] = []
 places_text (place ∷ places) = place_line place ++ 10 ∷ places_text places
 
 abbrev pub written : FileView → List ℕ → List ℕ
-written file text = file.source ++ 10 ∷ (schedule_line file.heap file.limit ++ 10 ∷ (places_text file.places ++ (text_line ++ 10 ∷ text)))
+written file text = file.source ++ 10
+    ∷ (schedule_line file.heap file.limit ++ 10 ∷ (places_text file.places ++ (text_line ++ 10 ∷ text)))

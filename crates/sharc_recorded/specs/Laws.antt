@@ -1,6 +1,7 @@
 -- Laws of recorded files, for the crates above.
 use Rattle.std.specs.Prelude.{ℕ, ◌≡◌, ◌≤◌, List, length, Ok, Err}
-use Rattle.sharc_recorded.specs.File.{FileView, AreLinesOf, IsFile, IsFault, AreNumbers, ArePlaces, HoldsNoSchedule, written}
+use Rattle.sharc_recorded.specs.File.{FileView, AreLinesOf, IsFile, IsFault, AreNumbers, ArePlaces, HoldsNoSchedule}
+use Rattle.sharc_recorded.specs.File.{written}
 use Rattle.sharc_recorded.specs.Reading.{read_lines}
 
 -- the reader answers what the lines say
@@ -20,7 +21,8 @@ FilesSayOneThing = (bytes : List ℕ) (one other : FileView) → IsFile bytes on
 
 -- what was written is read
 abbrev pub WrittenIsRead : Type 0
-WrittenIsRead = (file : FileView) (text : List ℕ) → HoldsNoSchedule file.source → AreNumbers file.heap file.limit → ArePlaces file.places → IsFile (written file text) file
+WrittenIsRead = (file : FileView) (text : List ℕ) → HoldsNoSchedule file.source → AreNumbers file.heap file.limit
+    → ArePlaces file.places → IsFile (written file text) file
 
 -- a file has no more places than bytes
 abbrev pub PlacesAreFew : Type 0

@@ -1,11 +1,15 @@
 -- A plain reader of lines.
-use Rattle.std.specs.Prelude.{ℕ, ◌+◌, ◌==◌, ◌&&◌, nat_le, List, [], ◌∷◌, ◌++◌, decimal, Option, Some, None, Result, Ok, Err, if◌then◌else◌}
+use Rattle.std.specs.Prelude.{ℕ, ◌+◌, ◌==◌, ◌&&◌, nat_le, List, [], ◌∷◌, ◌++◌, decimal, Option, Some, None, Result, Ok}
+use Rattle.std.specs.Prelude.{Err, if◌then◌else◌}
 use Rattle.std.specs.{Str.bytes_eq, Str.Parse.digits_value}
 use Rattle.sharc_recorded.specs.File.{FileView, schedule_word, text_line}
 
 -- a decimal number in this range, without a leading zero
 abbrev pub number_in : ℕ → ℕ → List ℕ → Option ℕ
-number_in low high word = if bytes_eq (decimal (digits_value 10 word)) word && (nat_le low (digits_value 10 word) && nat_le (digits_value 10 word) high) then Some (digits_value 10 word) else None
+number_in low high word =
+    if bytes_eq (decimal (digits_value 10 word)) word
+    && (nat_le low (digits_value 10 word) && nat_le (digits_value 10 word) high) then Some (digits_value 10 word)
+    else None
 
 abbrev pub pair_of : Option ℕ → Option ℕ → Option (ℕ × ℕ)
 pair_of (Some a) (Some b) = Some (a, b)
@@ -41,21 +45,25 @@ with_place (Some place) n (Err fault) = Err fault
 -- the places from line n on
 abbrev pub read_places : List (List ℕ) → ℕ → Result (List (ℕ × ℕ)) ℕ
 read_places [] n = Err n
-read_places (line ∷ lines) n = if bytes_eq line text_line then Ok [] else with_place (place_in line) n (read_places lines (n + 1))
+read_places (line ∷ lines) n =
+    if bytes_eq line text_line then Ok [] else with_place (place_in line) n (read_places lines (n + 1))
 
 abbrev pub with_places : List ℕ → Option (ℕ × ℕ) → ℕ → Result (List (ℕ × ℕ)) ℕ → Result FileView ℕ
 with_places source None n rest = Err n
-with_places source (Some numbers) n (Ok places) = Ok record { source = source; heap = numbers.0; limit = numbers.1; places = places }
+with_places source (Some numbers) n (Ok places) =
+    Ok record { source = source; heap = numbers.0; limit = numbers.1; places = places }
 with_places source (Some numbers) n (Err fault) = Err fault
 
 abbrev pub at_schedule : Option (List ℕ) → List ℕ → List (List ℕ) → ℕ → Result FileView ℕ → Result FileView ℕ
 at_schedule None source lines n rest = rest
-at_schedule (Some rest_after) source lines n rest = with_places source (numbers_in rest_after) n (read_places lines (n + 1))
+at_schedule (Some rest_after) source lines n rest =
+    with_places source (numbers_in rest_after) n (read_places lines (n + 1))
 
 -- the source so far, and the lines from line n on
 abbrev pub read_source : List ℕ → List (List ℕ) → ℕ → Result FileView ℕ
 read_source source [] n = Err n
-read_source source (line ∷ lines) n = at_schedule (rest_after schedule_word line) source lines n (read_source (source ++ 10 ∷ line) lines (n + 1))
+read_source source (line ∷ lines) n =
+    at_schedule (rest_after schedule_word line) source lines n (read_source (source ++ 10 ∷ line) lines (n + 1))
 
 abbrev pub read_lines : List (List ℕ) → Result FileView ℕ
 read_lines [] = Err 1

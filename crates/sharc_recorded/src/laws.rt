@@ -2,7 +2,8 @@
 
 ghost use Rattle.sharc_recorded.specs.Laws.{FileLaws};
 
-/// What holds of recorded files: lines are read in one way, what was written is read again, and there are no more places than bytes.
+/// What holds of recorded files: lines are read in one way, what was written is read again, and there are no more
+/// places than bytes.
 #[inline(always)]
 pub fn file_laws()
     ensures { FileLaws }

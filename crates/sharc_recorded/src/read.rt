@@ -1,9 +1,12 @@
 //! Recorded files, read.
 
-ghost use Rattle.std.specs.Prelude.{◌≡◌, ◌≢◌, ◌<◌, ◌≤◌, ◌+◌, ◌-◌, ◌++◌, ◌∷◌, ℕ, List, [], decimal, take, drop, length, IfOk, IfErr, IfSome, IfNone, true, false, get_or, Option, Some, None, Result, Ok, Err};
+ghost use Rattle.std.specs.Prelude.{◌≡◌, ◌≢◌, ◌<◌, ◌≤◌, ◌+◌, ◌-◌, ◌++◌, ◌∷◌, ℕ, List, [], decimal, take, drop, length};
+ghost use Rattle.std.specs.Prelude.{IfOk, IfErr, IfSome, IfNone, true, false, get_or, Option, Some, None, Result, Ok};
+ghost use Rattle.std.specs.Prelude.{Err};
 ghost use Rattle.std.specs.Str.Parse.{digits_value};
 ghost use Rattle.sharc_recorded.specs.File.{FileView, IsFile, lines_in, schedule_word, text_line};
-ghost use Rattle.sharc_recorded.specs.Reading.{number_in, pair_of, word_of, after_word, rest_after, numbers_in, read_places, with_places};
+ghost use Rattle.sharc_recorded.specs.Reading.{number_in, pair_of, word_of, after_word, rest_after, numbers_in};
+ghost use Rattle.sharc_recorded.specs.Reading.{read_places, with_places};
 ghost use Rattle.sharc_recorded.specs.Shown.{PlacesShow, FileShows, FaultIs, view_of};
 
 use crate::file::{FileFault, Places, RecordFile};
@@ -77,7 +80,8 @@ fn line_end(bytes: &[u8], start: usize) -> usize
     ensures order { start ≤ result }
     ensures within { result ≤ length bytes.now }
     ensures newline { result < length bytes.now → get_or bytes.now result 0 ≡ 10 }
-    ensures line { lines_in (drop start bytes.now) ≡ take (result - start) (drop start bytes.now) ∷ lines_in (drop (result + 1) bytes.now) }
+    ensures line { lines_in (drop start bytes.now)
+        ≡ take (result - start) (drop start bytes.now) ∷ lines_in (drop (result + 1) bytes.now) }
 {
     let mut end = start;
     while end < bytes.len() && bytes[end] != b'\n' {
@@ -169,8 +173,12 @@ fn read_schedule(
     requires next { next ≤ length bytes.now }
     requires word { end + 12 ≤ next }
     requires line { line ≤ end + 2 }
-    ensures ok { IfOk result (λ f. with_places (take end bytes.now) (numbers_in (drop 11 (take (next - (end + 1)) (drop (end + 1) bytes.now)))) line (read_places (lines_in (drop (next + 1) bytes.now)) (line + 1)) ≡ Ok (view_of f)) }
-    ensures err { IfErr result (FileShows (with_places (take end bytes.now) (numbers_in (drop 11 (take (next - (end + 1)) (drop (end + 1) bytes.now)))) line (read_places (lines_in (drop (next + 1) bytes.now)) (line + 1)))) }
+    ensures ok { IfOk result (λ f. with_places (take end bytes.now)
+        (numbers_in (drop 11 (take (next - (end + 1)) (drop (end + 1) bytes.now)))) line
+        (read_places (lines_in (drop (next + 1) bytes.now)) (line + 1)) ≡ Ok (view_of f)) }
+    ensures err { IfErr result (FileShows
+        (with_places (take end bytes.now) (numbers_in (drop 11 (take (next - (end + 1)) (drop (end + 1) bytes.now))))
+        line (read_places (lines_in (drop (next + 1) bytes.now)) (line + 1)))) }
 {
     let text = &bytes[end + 1..next];
     let Some((heap, limit)) = pair_in(&text[11..], 16, 65536, 1, 200000) else {

@@ -1,5 +1,6 @@
 -- The holders of references, each at one place of a list of events: at the last event by which it became one.
-use Rattle.std.specs.Prelude.{ℕ, ℤ, pos, negsuc, zero, suc, ◌==◌, Bool, true, false, not, ◌&&◌, ◌||◌, List, [], ◌∷◌, ◌++◌, map, Option, Some, None, if◌then◌else◌}
+use Rattle.std.specs.Prelude.{ℕ, ℤ, pos, negsuc, zero, suc, ◌==◌, Bool, true, false, not, ◌&&◌, ◌||◌, List, [], ◌∷◌}
+use Rattle.std.specs.Prelude.{◌++◌, map, Option, Some, None, if◌then◌else◌}
 use Rattle.std.specs.List.{list_any}
 use Rattle.sharc_tree.specs.{declared.event.Act.Act, declared.event.CellAt.CellAt, declared.event.Object.Object}
 use Rattle.sharc_tree.specs.{declared.event.Object.TheVariants.{Global, Made}, declared.event.SourceEvent.SourceEvent}
@@ -33,7 +34,8 @@ cell_at r R n c after = if not (list_any (changes c) after) && cell_refers r R n
 -- ---- mutexes, at their last Lock
 
 abbrev pub mutex_at : ℕ → CellAt → List SourceEvent → List Holder
-mutex_at n c after = if same_object c.object (Made n) && not (list_any (λ e. locks c e || unlocks c e) after) then InMutex c ∷ [] else []
+mutex_at n c after =
+    if same_object c.object (Made n) && not (list_any (λ e. locks c e || unlocks c e) after) then InMutex c ∷ [] else []
 
 -- ---- arguments, at the last Spawn that passes the reference
 
@@ -41,7 +43,10 @@ abbrev pub is_passed : Resolution → ℕ → ℕ → SourceEvent → Bool
 is_passed r n thread e = spawns thread e && passes r n e.act
 
 abbrev pub argument_at : Resolution → List SourceEvent → ℕ → SourceEvent → List SourceEvent → ℤ → List Holder
-argument_at r R n e after (pos thread) = if (passes r n e.act && not (list_any (is_of thread) R)) && not (list_any (is_passed r n thread) after) then InArgument thread ∷ [] else []
+argument_at r R n e after (pos thread) =
+    if (passes r n e.act && not (list_any (is_of thread) R)) && not (list_any (is_passed r n thread) after)
+    then InArgument thread ∷ []
+    else []
 argument_at r R n e after (negsuc k) = []
 
 -- ---- threads, at their last event
@@ -52,7 +57,8 @@ in_thread_all thread zero = []
 in_thread_all thread (suc k) = in_thread_all thread k ++ InThread thread k ∷ []
 
 abbrev pub thread_at : ℕ → Assignment → List SourceEvent → ℕ → ℕ → List SourceEvent → List Holder
-thread_at fuel m R n thread after = if list_any (is_of thread) after then [] else in_thread_all thread (thread_count fuel m R thread n)
+thread_at fuel m R n thread after =
+    if list_any (is_of thread) after then [] else in_thread_all thread (thread_count fuel m R thread n)
 
 -- ---- all
 

@@ -1,6 +1,9 @@
 -- Whether a `malloc` at a token makes objects with a pointer in a cell, by the form of what it is in.
 use Rattle.std.specs.{Prelude.{ℕ, ◌==◌, Bool, false, ◌&&◌, ◌||◌, List, Option, Some, None}, List.list_any}
-use Rattle.sharc_tree.specs.Tree.{Right, value, malloc, Simple, assign, does_call, Local, First, nothing, declares, does, Head, Statement, empty, block, declare, simple, jump, return, if_then, if_then_else, while, for, Statements, no_statements, statement, Item, structure, global, function}
+use Rattle.sharc_tree.specs.Tree.{Right, value, malloc, Simple, assign, does_call, Local, First, nothing, declares}
+use Rattle.sharc_tree.specs.Tree.{does, Head, Statement, empty, block, declare, simple, jump, return, if_then}
+use Rattle.sharc_tree.specs.Tree.{if_then_else, while, for, Statements, no_statements, statement, Item, structure}
+use Rattle.sharc_tree.specs.Tree.{global, function}
 use Rattle.sharc_ctype.specs.Resolved.{Resolution}
 use Rattle.sharc_meaning.specs.References.{is_pointer_in}
 

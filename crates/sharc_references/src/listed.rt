@@ -7,7 +7,8 @@ ghost use Rattle.sharc_meaning.specs.Events.{is_of};
 ghost use Rattle.sharc_meaning.specs.References.{takes_to_free, is_taken_to_free, takes_reference, has_pointer, passes};
 ghost use Rattle.sharc_meaning.specs.Runs.{SourceRun};
 ghost use Rattle.sharc_references.specs.Answered.{AreReferences};
-ghost use Rattle.sharc_references.specs.Listed.{at_places, counts, cell_refers, cell_at, mutex_at, is_passed, argument_at, in_thread_all, thread_at, by_act, holders_at, holders};
+ghost use Rattle.sharc_references.specs.Listed.{at_places, counts, cell_refers, cell_at, mutex_at, is_passed};
+ghost use Rattle.sharc_references.specs.Listed.{argument_at, in_thread_all, thread_at, by_act, holders_at, holders};
 ghost use Rattle.sharc_references.specs.Starting.{main_of};
 ghost use Rattle.sharc_tree.specs.declared.event.Object.TheVariants.{Made};
 
@@ -168,7 +169,8 @@ fn add_argument(
     after: &[SourceEvent],
     list: &mut Vec<Holder>,
 ) -> Result<(), AllocError>
-    ensures { OnOk result (list.new.items ≡ list.old.items ++ argument_at typed.now events.now number e.now after.now e.now.answer) }
+    ensures { OnOk result (list.new.items
+        ≡ list.old.items ++ argument_at typed.now events.now number e.now after.now e.now.answer) }
 {
     if e.answer < 0 {
         return Ok(());
@@ -191,7 +193,8 @@ fn add_by_act(
     after: &[SourceEvent],
     list: &mut Vec<Holder>,
 ) -> Result<(), AllocError>
-    ensures { OnOk result (list.new.items ≡ list.old.items ++ by_act typed.now events.now number e.now after.now e.now.act) }
+    ensures { OnOk result (list.new.items
+        ≡ list.old.items ++ by_act typed.now events.now number e.now after.now e.now.act) }
 {
     match e.act {
         Act::Write(c, _, _) => add_cell(typed, events, number, c, after, list),
@@ -228,7 +231,8 @@ fn add_thread(
     list: &mut Vec<Holder>,
 ) -> Result<(), AllocError>
     requires { threads.main ≡ main_of threads.m.now.typed }
-    ensures { OnOk result (list.new.items ≡ list.old.items ++ thread_at threads.entry.fuel threads.entry.m.now events.now number thread after.now) }
+    ensures { OnOk result (list.new.items
+        ≡ list.old.items ++ thread_at threads.entry.fuel threads.entry.m.now events.now number thread after.now) }
 {
     if has_events(thread as u64, after) {
         return Ok(());
@@ -254,7 +258,8 @@ fn add_all(
     list: &mut Vec<Holder>,
 ) -> Result<(), AllocError>
     requires { threads.main ≡ main_of threads.m.now.typed }
-    ensures { OnOk result (list.new.items ≡ list.old.items ++ at_places (holders_at threads.entry.fuel threads.entry.m.now events.now number) rest.now) }
+    ensures { OnOk result (list.new.items
+        ≡ list.old.items ++ at_places (holders_at threads.entry.fuel threads.entry.m.now events.now number) rest.now) }
 {
     match rest {
         [] => Ok(()),
@@ -266,8 +271,9 @@ fn add_all(
     }
 }
 
-/// The references to the made object of this number after the events, where threads have come as far as they do with this fuel: each once. The events are those
-/// of a source run; of any other list nothing is said. Out of memory is answered, too, where there are more functions than a number of 32 bits counts.
+/// The references to the made object of this number after the events, where threads have come as far as they do with
+/// this fuel: each once. The events are those of a source run; of any other list nothing is said. Out of memory is
+/// answered, too, where there are more functions than a number of 32 bits counts.
 pub fn references(
     alloc: Global,
     program: &Moded,
@@ -275,7 +281,8 @@ pub fn references(
     number: u32,
     fuel: u64,
 ) -> Result<Vec<Holder>, AllocError>
-    ensures { IfOk result (λ all. SourceRun program.now events.now → AreReferences fuel program.now events.now number all.items) }
+    ensures { IfOk result (λ all. SourceRun program.now events.now
+        → AreReferences fuel program.now events.now number all.items) }
 {
     meets_globals();
     one_function_of_name();

@@ -2,9 +2,11 @@
 
 ghost use Rattle.std.specs.Prelude.{◌≡◌};
 ghost use Rattle.std.specs.List.{list_any};
-ghost use Rattle.sharc_tree.specs.View.{view_right, view_simple, view_first, view_head, view_stmt, view_statements, view_option, view_item, view_items};
+ghost use Rattle.sharc_tree.specs.View.{view_right, view_simple, view_first, view_head, view_stmt, view_statements};
+ghost use Rattle.sharc_tree.specs.View.{view_option, view_item, view_items};
 ghost use Rattle.sharc_meaning.specs.References.{is_pointer_in, types_made};
-ghost use Rattle.sharc_references.specs.Making.{right_makes, simple_makes, initial_makes, first_makes, step_makes, head_makes, statement_makes, statements_make, item_makes, items_make};
+ghost use Rattle.sharc_references.specs.Making.{right_makes, simple_makes, initial_makes, first_makes, step_makes};
+ghost use Rattle.sharc_references.specs.Making.{head_makes, statement_makes, statements_make, item_makes, items_make};
 
 use crate::pointers::is_pointer_in;
 use sharc_ctype::typed::Typed;

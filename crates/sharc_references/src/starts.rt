@@ -23,7 +23,8 @@ pub(crate) fn refers(number: u32, value: i128) -> bool
     value != 0 && value.unsigned_abs() % 4294967296 == number as u128
 }
 
-/// The number of `main`. Out of memory is answered, too, where there are more functions than a number of 32 bits counts.
+/// The number of `main`. Out of memory is answered, too, where there are more functions than a number of 32 bits
+/// counts.
 pub(crate) fn main_of(typed: &Typed) -> Result<Option<u32>, AllocError>
     ensures { IfOk result (λ f. f ≡ main_of typed.now) }
 {

@@ -8,8 +8,8 @@ use Rattle.sharc_recorded.specs.File.{FileView, written}
 use Rattle.sharc_schedule.specs.Schedule.{schedule_of, Stored}
 use Rattle.sharc_run.specs.{declared.run.Ran.Ran, Run.IsEnd}
 
--- a checked run, in which no thread makes more events than this, and which ends where no thread may make a turn. These places are its
--- schedule
+-- a checked run, in which no thread makes more events than this, and which ends where no thread may make a turn. These
+-- places are its schedule
 pub record IsRecordedRun (code : Code) (s : Shape) (limit : ℕ) (places : List (ℕ × ℕ)) (ran : Ran) : Type 0 where
   pub turns : List Turn
   pub checked : CheckedRun code s turns
@@ -30,8 +30,8 @@ pub record IsRecord (source : List ℕ) (code : Code) (s : Shape) (limit : ℕ) 
   pub file : made.text.items ≡ written (file_of source s limit places) ran.text.items
   pub outcome : made.outcome ≡ ran.outcome
 
--- a checked run each of whose turns is made by the thread at the place that is written for it among those that may make one, if there is
--- such a place, and else by the first; it ends where no thread may make a turn
+-- a checked run each of whose turns is made by the thread at the place that is written for it among those that may make
+-- one, if there is such a place, and else by the first; it ends where no thread may make a turn
 pub record IsScheduledRun (code : Code) (s : Shape) (places : List (ℕ × ℕ)) (limit : ℕ) (ran : Ran) : Type 0 where
   pub turns : List Turn
   pub checked : CheckedRun code s turns

@@ -7,8 +7,8 @@ use sharc_run::outcome_is_told;
 use sharc_run_text::text_is_one;
 use sharc_schedule::schedule_laws;
 
-/// What is written of a recorded run is one recorded file. The run by the schedule that it says makes the turns of the recorded run, and has
-/// the text that the file says and the outcome of that run.
+/// What is written of a recorded run is one recorded file. The run by the schedule that it says makes the turns of the
+/// recorded run, and has the text that the file says and the outcome of that run.
 pub fn replay_laws()
     ensures { ReplayLaws }
 {

@@ -13,8 +13,9 @@ use std::alloc::{AllocError, Global};
 use std::sync::Wait;
 use std::thread::Threads;
 
-/// Runs the code of a source in rounds that this many workers make over a journal, no thread making more than `limit` events; the gate is
-/// asked before each step. Answers the file of the source, the schedule and the text of the run, and how the run ended.
+/// Runs the code of a source in rounds that this many workers make over a journal, no thread making more than `limit`
+/// events; the gate is asked before each step. Answers the file of the source, the schedule and the text of the run,
+/// and how the run ended.
 ///
 /// An `Err` says that memory was not found.
 pub fn record_by_workers<R: Threads + Wait + Sync, G: Gate + Sync>(

@@ -9,8 +9,9 @@ use sharc_run::{Ran, told};
 use sharc_schedule::run_schedule;
 use std::alloc::{AllocError, Global};
 
-/// Runs the code by these places: turn `i` is made by the thread at the place that is written for it, if there is one and it is below
-/// the number of threads that may make a turn, and else by the first. No thread makes more than `limit` events.
+/// Runs the code by these places: turn `i` is made by the thread at the place that is written for it, if there is one
+/// and it is below the number of threads that may make a turn, and else by the first. No thread makes more than `limit`
+/// events.
 ///
 /// An `Err` says that memory was not found.
 pub fn run_by_schedule(

@@ -46,15 +46,31 @@ pub record Order : Type 0 where
 abbrev pub written_of : Order → Form → Code → Shape → List Turn → List ℕ → List ℕ
 written_of o Alone code s turns text = text
 written_of o (Behind lines) code s turns text = lines ++ text
-written_of o InFile code s turns text = written (record { source = o.source; heap = o.heap; limit = o.limit; places = schedule_of code s o.limit turns }) text
+written_of o InFile code s turns text = written
+    (record { source = o.source; heap = o.heap; limit = o.limit; places = schedule_of code s o.limit turns }) text
 
 -- ---- which words ask for it
 pub data Asks (words : List (List ℕ)) (input : List ℕ) : Order → Type 0 where
-  by_run : (workers heap limit : ℕ) (seed : Option ℕ) → commands words ≡ Some (Run workers heap limit seed) → length input ≤ source_limit
+  by_run : (workers heap limit : ℕ) (seed : Option ℕ) → commands words ≡ Some (Run workers heap limit seed)
+      → length input ≤ source_limit
       → Asks words input (record { source = input; heap = heap; limit = limit; choice = choice_of seed; form = Alone })
-  by_load : (number workers : ℕ) → commands words ≡ Some (Load number workers) → length (source_of number) ≤ source_limit
-      → Asks words input (record { source = source_of number; heap = 4096; limit = 1000000; choice = Any; form = Behind (size_lines (length (source_of number)) (number + 2)) })
+  by_load : (number workers : ℕ) → commands words ≡ Some (Load number workers)
+      → length (source_of number) ≤ source_limit
+      → Asks words input (record {
+        source = source_of number;
+        heap = 4096;
+        limit = 1000000;
+        choice = Any;
+        form = Behind (size_lines (length (source_of number)) (number + 2));
+      })
   by_record : (workers heap limit : ℕ) → commands words ≡ Some (Record workers heap limit) → length input ≤ source_limit
       → Asks words input (record { source = input; heap = heap; limit = limit; choice = Any; form = InFile })
-  by_replay : (file : FileView) → commands words ≡ Some Replay → length input ≤ recording_limit → IsFile input file → length file.source ≤ source_limit
-      → Asks words input (record { source = file.source; heap = file.heap; limit = file.limit; choice = Scheduled file.places; form = Alone })
+  by_replay : (file : FileView) → commands words ≡ Some Replay → length input ≤ recording_limit → IsFile input file
+      → length file.source ≤ source_limit
+      → Asks words input (record {
+        source = file.source;
+        heap = file.heap;
+        limit = file.limit;
+        choice = Scheduled file.places;
+        form = Alone;
+      })

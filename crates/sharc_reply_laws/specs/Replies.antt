@@ -24,8 +24,10 @@ use Rattle.sharc_top.specs.declared.status.Status.TheVariants as status
 use Rattle.sharc_reply_laws.specs.{Orders.{AreTurnsBy, Asks, Order, written_of}, Reports.ReportTells, Runs.RunTells}
 use Rattle.sharc_reply_laws.specs.Threads.{ThreadTells}
 
--- Of a thread of a run whose line says why it was stopped: it is among those of the run, was stopped there for that, and tells this.
-pub record LineTells (m : Assignment) (code : Code) (s : Shape) (ls : Labels) (run : List Turn) (threads : List ThreadView) (t : ThreadView) (stop : Stop) : Type 0 where
+-- Of a thread of a run whose line says why it was stopped: it is among those of the run, was stopped there for that,
+-- and tells this.
+pub record LineTells (m : Assignment) (code : Code) (s : Shape) (ls : Labels) (run : List Turn)
+    (threads : List ThreadView) (t : ThreadView) (stop : Stop) : Type 0 where
   pub number : ℕ
   pub is : t.machine.own.number ≡ number
   pub stopped : ((place_after code s run).threads number).at.state ≡ Stopped
@@ -41,8 +43,9 @@ pub record ReplyTells (o : Order) (m : Assignment) (s : Status) (reply : List �
   pub shape : Shape
   pub fits : Fits code shape
   pub heap_is : shape.heap ≡ o.heap
-  -- and a checked run, in which no thread makes more events than the limit, whose turns are chosen as the order says, and at whose end no thread may make one: each that was started is
-  -- gone, was stopped, waits or has made all its events
+  -- and a checked run, in which no thread makes more events than the limit, whose turns are chosen as the order says,
+  -- and at whose end no thread may make one: each that was started is gone, was stopped, waits or has made all its
+  -- events
   pub turns : List Turn
   pub checked : CheckedRun code shape turns
   pub few : (t : ℕ) → (place_after code shape turns).made t ≤ o.limit
@@ -57,21 +60,26 @@ pub record ReplyTells (o : Order) (m : Assignment) (s : Status) (reply : List �
   pub outcome_is : HasOutcome code shape o.limit (place_after code shape turns) threads outcome
   pub status_is : s ≡ status_of outcome
   pub reply_is : reply ≡ written_of o o.form code shape turns text
-  -- it begins with a line for each Print event of the source run, in the order of these, and goes on with a line for each thread that is not gone
-  pub prints : text ≡ flat_map value_line (printed_in (history_of code shape turns)) ++ flat_map (thread_line code (place_after code shape turns).words threads) threads
+  -- it begins with a line for each Print event of the source run, in the order of these, and goes on with a line for
+  -- each thread that is not gone
+  pub prints : text ≡ flat_map value_line (printed_in (history_of code shape turns))
+      ++ flat_map (thread_line code (place_after code shape turns).words threads) threads
   -- what every checked run tells of the source
   pub ls : Labels
   pub typed : IsWellTyped (targets_of m) code ls
   pub tells : RunTells m code shape ls turns
-  -- so does each line that says why a thread was stopped: A1 to A4 show their cause, and X1 to X13 are stops of the source, or come where it wants its next event
-  pub lines : (t : ThreadView) → Contains threads t → (stop : Stop) → t.machine.own.stop ≡ Some stop → LineTells m code shape ls turns threads t stop
+  -- so does each line that says why a thread was stopped: A1 to A4 show their cause, and X1 to X13 are stops of the
+  -- source, or come where it wants its next event
+  pub lines : (t : ThreadView) → Contains threads t
+      → (stop : Stop) → t.machine.own.stop ≡ Some stop → LineTells m code shape ls turns threads t stop
   -- with status 5 the source is in a deadlock there
   pub deadlock : s ≡ status.Stuck → IsDeadlock m code shape turns
 
 -- ---- the laws
 -- nothing is asked beside what the words and the input are, and that the modes of the source are accepted
 abbrev pub RepliesTell : Type 0
-RepliesTell = (words : List (List ℕ)) (input : List ℕ) (o : Order) → Asks words input o → (m : Assignment) → IsFront o.source m → MeetsRules m
+RepliesTell = (words : List (List ℕ)) (input : List ℕ) (o : Order) → Asks words input o
+    → (m : Assignment) → IsFront o.source m → MeetsRules m
     → (s : Status) (reply : List ℕ) → Replies words input s reply → ReplyTells o m s reply
 
 -- ---- what arrives
@@ -84,7 +92,8 @@ pub record TellsWhole (o : Order) (m : Assignment) (old new : Option (List ℕ))
   pub written : Appends old new reply
 
 abbrev pub WholeRepliesTell : Type 0
-WholeRepliesTell = (words : List (List ℕ)) (input : List ℕ) (o : Order) → Asks words input o → (m : Assignment) → IsFront o.source m → MeetsRules m
+WholeRepliesTell = (words : List (List ℕ)) (input : List ℕ) (o : Order) → Asks words input o
+    → (m : Assignment) → IsFront o.source m → MeetsRules m
     → (old new : Option (List ℕ)) (code : ℕ) → Replied words (Some input) old new code → TellsWhole o m old new code
 
 -- or, with exit status 10, the beginning of one
@@ -97,5 +106,6 @@ pub record TellsFront (o : Order) (m : Assignment) (old new : Option (List ℕ))
   pub written : Appends old new (take count reply)
 
 abbrev pub CutRepliesTell : Type 0
-CutRepliesTell = (words : List (List ℕ)) (input : List ℕ) (o : Order) → Asks words input o → (m : Assignment) → IsFront o.source m → MeetsRules m
+CutRepliesTell = (words : List (List ℕ)) (input : List ℕ) (o : Order) → Asks words input o
+    → (m : Assignment) → IsFront o.source m → MeetsRules m
     → (old new : Option (List ℕ)) → RepliedInPart words (Some input) old new → TellsFront o m old new

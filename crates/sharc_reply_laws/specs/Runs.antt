@@ -19,30 +19,39 @@ use Rattle.sharc_sound_laws.specs.{StandStands.PlaceStands, Deadlock.IsDeadlock,
 use Rattle.sharc_build.specs.{declared.building.Built.Built, Built.IsBuilt}
 use Rattle.sharc_reply_laws.specs.{Reports.ReportTells, Threads.ThreadTells}
 
--- The turns, the last one first, are of threads in any order, of the code of this program, which is typed by these labels.
+-- The turns, the last one first, are of threads in any order, of the code of this program, which is typed by these
+-- labels.
 pub record RunTells (m : Assignment) (code : Code) (s : Shape) (ls : Labels) (run : List Turn) : Type 0 where
   -- its events are a run of the source without checks, and keep the rules of the modes
   pub source : SourceRun m (history_of code s run)
   pub obeys : Obeys (history_of code s run) until_return
   -- what its threads print are the Print events of that source run, in the order of these
-  pub prints : (threads : List ThreadView) → AreStarted code s (place_after code s run) threads → (prints : List Print) → AreInOrder threads prints → ArePrintsOf (history_of code s run) prints
+  pub prints : (threads : List ThreadView) → AreStarted code s (place_after code s run) threads
+      → (prints : List Print) → AreInOrder threads prints → ArePrintsOf (history_of code s run) prints
   -- each thread is where the source is by the thread's events, is over as the source is, and keeps the pace
   pub threads : (thread : ℕ) → ThreadTells m code s run thread
-  -- a thread that has a stop was stopped; and each report A1 to A4 shows its cause, and is about what the source wants next
+  -- a thread that has a stop was stopped; and each report A1 to A4 shows its cause, and is about what the source wants
+  -- next
   pub reports : (threads : List ThreadView) → AreStarted code s (place_after code s run) threads → (t : ℕ) (stop : Stop)
-      → ((place_after code s run).threads t).own.stop ≡ Some stop → IsReport stop → ReportTells m code s ls run threads t stop
+      → ((place_after code s run).threads t).own.stop ≡ Some stop → IsReport stop
+      → ReportTells m code s ls run threads t stop
   -- where every run of the source obeys there is none of A1 to A3
   pub unreported : AlwaysObeys m → NoAccessReport code s run
   -- where it is stuck the source is in a deadlock
   pub deadlock : Stuck code s run → IsDeadlock m code s run
-  -- where a cast or a `free` passed its test, by the events up to there the reference that it took is the only one to its object
-  pub sole : (later : List Turn) (test : Turn) (earlier : List Turn) → run ≡ later ++ test ∷ earlier → (register : ℕ) → Passes code s test earlier register
-      → (holder : Holder) → References m (history_of code s earlier) (tested_object code s test earlier register) holder → holder ≡ in_thread test.thread 0
-  -- at its end and at each place before, the counts, the bits of the shadow words and the windows are as the machine's invariant says
+  -- where a cast or a `free` passed its test, by the events up to there the reference that it took is the only one to
+  -- its object
+  pub sole : (later : List Turn) (test : Turn) (earlier : List Turn) → run ≡ later ++ test ∷ earlier
+      → (register : ℕ) → Passes code s test earlier register
+      → (holder : Holder) → References m (history_of code s earlier) (tested_object code s test earlier register) holder
+      → holder ≡ in_thread test.thread 0
+  -- at its end and at each place before, the counts, the bits of the shadow words and the windows are as the machine's
+  -- invariant says
   pub places : (later earlier : List Turn) → run ≡ later ++ earlier → PlaceStands (targets_of m) code s ls earlier
   -- each check is one of the access that follows it, where it passed
   pub checks : (later : List Turn) (check : Turn) (earlier : List Turn) → run ≡ later ++ check ∷ earlier
-      → (j : ℕ) (kind : Kind) (granule site : ℕ) (passed : Bool) → IsCheck code s earlier check j kind granule site passed → IsOfAccess code s later check earlier j site passed
+      → (j : ℕ) (kind : Kind) (granule site : ℕ) (passed : Bool)
+      → IsCheck code s earlier check j kind granule site passed → IsOfAccess code s later check earlier j site passed
 
 -- ---- the law
 -- the code is typed by some labels, and each of its checked runs, with each shape that fits it, tells this

@@ -25,8 +25,10 @@ pub record HasNotBegun (R : History) (thread : ℕ) (at : Machine) (turns : ℕ)
   pub first : at.at.pc ≡ 0
   pub pace : turns ≤ 1
 
--- With some fuel it has asked for exactly its events of the run. There it has ended where the thread has, and is stopped by the same X at the same site, or, of X7 to X9 and A1 to A4, wants its
--- next event at the site of the stop. And it keeps the pace: with fuel for fewer statements and expressions than a 64th of the turns that count, but 64, it has not come so far.
+-- With some fuel it has asked for exactly its events of the run. There it has ended where the thread has, and is
+-- stopped by the same X at the same site, or, of X7 to X9 and A1 to A4, wants its next event at the site of the stop.
+-- And it keeps the pace: with fuel for fewer statements and expressions than a 64th of the turns that count, but 64, it
+-- has not come so far.
 pub record HasBegun (m : Assignment) (code : Code) (R : History) (thread : ℕ) (at : Machine) (turns : ℕ) : Type 0 where
   pub fuel : ℕ
   pub own : Follows m R fuel thread
@@ -35,12 +37,14 @@ pub record HasBegun (m : Assignment) (code : Code) (R : History) (thread : ℕ) 
 
 abbrev pub ThreadTells : Assignment → Code → Shape → List Turn → ℕ → Type 0
 ThreadTells m code s run thread =
-    let R = history_of code s run in let at = (place_after code s run).threads thread in let turns = counted_turns code s run thread in
+    let R = history_of code s run in let at = (place_after code s run).threads thread
+    in let turns = counted_turns code s run thread in
     HasNotBegun R thread at turns ⊎ HasBegun m code R thread at turns
 
 -- so it is of each thread of each checked run of the code of a typed, well-moded program, where that code is typed
 abbrev pub ThreadsTell : Assignment → Code → Type 0
-ThreadsTell m code = (x : Targets) (s : Shape) (ls : Labels) → IsWellTyped x code ls → Fits code s → IsSmall code s → (run : List Turn) → CheckedRun code s run
+ThreadsTell m code = (x : Targets) (s : Shape) (ls : Labels) → IsWellTyped x code ls → Fits code s → IsSmall code s
+    → (run : List Turn) → CheckedRun code s run
     → (thread : ℕ) → ThreadTells m code s run thread
 
 abbrev pub TypedThreadsTell : Type 0

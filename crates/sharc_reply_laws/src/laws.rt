@@ -78,7 +78,8 @@ pub fn locks_are_wanted()
     threads_stand_if_typed();
 }
 
-/// Where a test of a sole reference was refused, what the source wants to give or to free is the object that was tested.
+/// Where a test of a sole reference was refused, what the source wants to give or to free is the object that was
+/// tested.
 pub fn given_are_tested()
     ensures { TypedGivenAreTested }
 {

@@ -1,5 +1,6 @@
 -- What `explain` writes: what has a type with modes, and why its inferred positions are dynamic.
-use Rattle.std.specs.Prelude.{ℕ, zero, suc, ◌+◌, ◌-◌, nat_lt, Bool, true, false, List, [], ◌++◌, codes, decimal, replicate, slice_get, Option, Some, None, if◌then◌else◌}
+use Rattle.std.specs.Prelude.{ℕ, zero, suc, ◌+◌, ◌-◌, nat_lt, Bool, true, false, List, [], ◌++◌, codes, decimal}
+use Rattle.std.specs.Prelude.{replicate, slice_get, Option, Some, None, if◌then◌else◌}
 use Rattle.std.specs.List.{flat_map}
 use Rattle.sharc_tree.specs.{Texts.type_text, Tree.Function}
 use Rattle.sharc_names.specs.declared.types.Role.{Role}
@@ -14,10 +15,12 @@ use Rattle.sharc_report.specs.Places.{token_place, tokens_between}
 
 -- ---- KIND NAME
 
--- The lvalue of a cast: after the comma that follows the type, and before the closing parenthesis. A cast that was put around an expression has no such tokens
--- of its own, and its type is where it ends: then it is all of them.
+-- The lvalue of a cast: after the comma that follows the type, and before the closing parenthesis. A cast that was put
+-- around an expression has no such tokens of its own, and its type is where it ends: then it is all of them.
 abbrev pub source_text : Resolution → Entity → List ℕ
-source_text r e = if nat_lt (e.written.span.last.token + 2) e.last then tokens_between r (e.written.span.last.token + 2) (e.last - 1) else tokens_between r e.token e.last
+source_text r e =
+    if nat_lt (e.written.span.last.token + 2) e.last then tokens_between r (e.written.span.last.token + 2) (e.last - 1)
+    else tokens_between r e.token e.last
 
 -- the type in a `malloc` has no position, and is no entity
 abbrev pub named_as : Role → Resolution → Entity → List ℕ
@@ -53,7 +56,8 @@ owner_at r position = slice_get (owners (numbered (entities_in r.program.items))
 -- F:N KIND NAME depth E
 abbrev pub position_text : Resolution → ℕ → Option Numbered → List ℕ
 position_text r position None = []
-position_text r position (Some n) = entity_text r (codes " ") n.entity ++ codes " depth " ++ decimal (first_depth n.entity.role + (position - n.first))
+position_text r position (Some n) =
+    entity_text r (codes " ") n.entity ++ codes " depth " ++ decimal (first_depth n.entity.role + (position - n.first))
 
 abbrev pub reason_text : Resolution → Reason → List ℕ
 reason_text r (Touched f) = codes "touched in " ++ function_name r f
@@ -63,12 +67,14 @@ reason_text r (From position) = codes "from " ++ position_text r position (owner
 -- a line for a position that was inferred to be dynamic, and none for any other
 abbrev pub reason_line : Resolution → ℕ → Option Reason → List ℕ
 reason_line r depth None = []
-reason_line r depth (Some reason) = codes "  depth " ++ decimal depth ++ codes ": " ++ reason_text r reason ++ codes "\n"
+reason_line r depth (Some reason) =
+    codes "  depth " ++ decimal depth ++ codes ": " ++ reason_text r reason ++ codes "\n"
 
 -- those of its positions below this number, by depth
 abbrev pub reason_lines : Assignment → Numbered → ℕ → List ℕ
 reason_lines m n zero = []
-reason_lines m n (suc i) = reason_lines m n i ++ reason_line m.typed (first_depth n.entity.role + i) (reason_at m (n.first + i))
+reason_lines m n (suc i) =
+    reason_lines m n i ++ reason_line m.typed (first_depth n.entity.role + i) (reason_at m (n.first + i))
 
 -- ---- the lines
 
@@ -87,7 +93,10 @@ abbrev pub entity_line : Assignment → Numbered → List ℕ
 entity_line m n = entity_text m.typed (codes ": ") n.entity ++ codes ": " ++ type_text (printed_type m n) ++ codes "\n"
 
 abbrev pub explanation : Assignment → Numbered → List ℕ
-explanation m n = if is_explained n.entity.role (positions_of n.entity) then entity_line m n ++ reason_lines m n (positions_of n.entity) else []
+explanation m n =
+    if is_explained n.entity.role (positions_of n.entity)
+    then entity_line m n ++ reason_lines m n (positions_of n.entity)
+    else []
 
 -- all of them in the order of the source
 abbrev pub explain_text : Assignment → List ℕ

@@ -1,5 +1,6 @@
 -- The texts of places and of tokens of a typed program.
-use Rattle.std.specs.Prelude.{ℕ, ◌+◌, List, [], ◌++◌, codes, decimal, slice_get, slice_index_or, slice_range, Option, Some, None}
+use Rattle.std.specs.Prelude.{ℕ, ◌+◌, List, [], ◌++◌, codes, decimal, slice_get, slice_index_or, slice_range, Option}
+use Rattle.std.specs.Prelude.{Some, None}
 use Rattle.sharc_tree.specs.{declared.token.Site.Site, declared.token.Token.Token, Texts.tokens_text}
 use Rattle.sharc_ctype.specs.Resolved.{Resolution}
 

@@ -7,7 +7,9 @@ use Rattle.sharc_grammar.specs.declared.fault.GrammarFault.{GrammarFault}
 use Rattle.sharc_grammar.specs.declared.fault.GrammarFault.TheVariants.{Unexpected, Deep, LeftOut}
 use Rattle.sharc_grammar.specs.Faults as parser
 use Rattle.sharc_names.specs.declared.fault.FaultCode.{FaultCode}
-use Rattle.sharc_names.specs.declared.fault.FaultCode.TheVariants.{UnknownName, DefinedTwice, TypeMismatch, ArgumentCount, NoLvalue, TypeNotAllowed, BadForm, NoMain, LimitPassed}
+use Rattle.sharc_names.specs.declared.fault.FaultCode.TheVariants.{UnknownName, DefinedTwice, TypeMismatch}
+use Rattle.sharc_names.specs.declared.fault.FaultCode.TheVariants.{ArgumentCount, NoLvalue, TypeNotAllowed, BadForm}
+use Rattle.sharc_names.specs.declared.fault.FaultCode.TheVariants.{NoMain, LimitPassed}
 use Rattle.sharc_names.specs.Notes as typing
 use Rattle.sharc_report.specs.declared.refusal.SourceFault.{SourceFault}
 use Rattle.sharc_report.specs.declared.refusal.SourceFault.TheVariants.{Lexer, Parser, Typing}
@@ -55,6 +57,9 @@ head_of file line letter digit = file ++ codes ":" ++ decimal line ++ codes ": "
 
 -- file:line: code message
 abbrev pub refusal_line : SourceFault → List ℕ
-refusal_line (Lexer at) = head_of at.file at.line (codes "L") (lexer.digit_of at.code) ++ lexer_message at.code at.offset ++ codes "\n"
-refusal_line (Parser at) = head_of at.file at.line (codes "P") (parser.digit_of at.code) ++ parser_message at.code at.text ++ codes "\n"
-refusal_line (Typing at) = head_of at.file at.line (codes "C") (typing.digit at.code) ++ typing_message at.code at.text ++ codes "\n"
+refusal_line (Lexer at) =
+    head_of at.file at.line (codes "L") (lexer.digit_of at.code) ++ lexer_message at.code at.offset ++ codes "\n"
+refusal_line (Parser at) =
+    head_of at.file at.line (codes "P") (parser.digit_of at.code) ++ parser_message at.code at.text ++ codes "\n"
+refusal_line (Typing at) =
+    head_of at.file at.line (codes "C") (typing.digit at.code) ++ typing_message at.code at.text ++ codes "\n"

@@ -5,7 +5,10 @@ use Rattle.sharc_tree.specs.{declared.ctype.CType.CType, Texts.type_text}
 use Rattle.sharc_ctype.specs.Resolved.{Resolution}
 use Rattle.sharc_mode.specs.{declared.error.Cast.Cast, declared.error.ModeError.ModeError}
 use Rattle.sharc_mode.specs.{declared.error.Warning.Warning, declared.error.ErrorCode.ErrorCode}
-use Rattle.sharc_mode.specs.declared.error.ErrorCode.TheVariants.{ModeMismatch, ReadonlyWrite, PrivateTarget, LockPathNotConstant, ModeNotAllowed, PrivateField, PrivateReachesThread, CastChangesInnerMode, ReadonlySource, NamedByLockPath, NeedsConstantBase}
+use Rattle.sharc_mode.specs.declared.error.ErrorCode.TheVariants.{ModeMismatch, ReadonlyWrite, PrivateTarget}
+use Rattle.sharc_mode.specs.declared.error.ErrorCode.TheVariants.{LockPathNotConstant, ModeNotAllowed, PrivateField}
+use Rattle.sharc_mode.specs.declared.error.ErrorCode.TheVariants.{PrivateReachesThread, CastChangesInnerMode}
+use Rattle.sharc_mode.specs.declared.error.ErrorCode.TheVariants.{ReadonlySource, NamedByLockPath, NeedsConstantBase}
 use Rattle.sharc_mode.specs.Errors.{number_of}
 use Rattle.sharc_report.specs.Places.{site_text, tokens_between}
 
@@ -39,12 +42,14 @@ error_message e = message_of e.code e
 
 -- F:N: CODE text
 abbrev pub error_line : Resolution → ModeError → List ℕ
-error_line r e = site_text r e.site ++ codes ": M" ++ decimal (number_of e.code) ++ codes " " ++ error_message e ++ codes "\n"
+error_line r e =
+    site_text r e.site ++ codes ": M" ++ decimal (number_of e.code) ++ codes " " ++ error_message e ++ codes "\n"
 
 -- F:N: suggest SCAST(TYPE, LV)
 abbrev pub suggestion : Resolution → Option Cast → List ℕ
 suggestion r None = []
-suggestion r (Some c) = site_text r c.site ++ codes ": suggest SCAST(" ++ target_text c.to ++ codes ", " ++ tokens_between r c.from c.until ++ codes ")\n"
+suggestion r (Some c) = site_text r c.site ++ codes ": suggest SCAST(" ++ target_text c.to ++ codes ", "
+    ++ tokens_between r c.from c.until ++ codes ")\n"
 
 abbrev pub refusal : Resolution → ModeError → Option Cast → List ℕ
 refusal r e c = error_line r e ++ suggestion r c

@@ -5,7 +5,9 @@ ghost use Rattle.std.specs.Option.{option_copied};
 ghost use Rattle.sharc_tree.specs.Texts.{Appends};
 ghost use Rattle.sharc_ctype.specs.Entities.{entities_in, first_depth, numbered, positions_of};
 ghost use Rattle.sharc_mode.specs.Moded.{position_count, reason_at};
-ghost use Rattle.sharc_report.specs.Explanations.{source_text, named_as, entity_text, function_name, owners, owner_at, position_text, reason_text, reason_line, reason_lines, is_explained, entity_line, explanation, explain_text};
+ghost use Rattle.sharc_report.specs.Explanations.{source_text, named_as, entity_text, function_name, owners, owner_at};
+ghost use Rattle.sharc_report.specs.Explanations.{position_text, reason_text, reason_line, reason_lines, is_explained};
+ghost use Rattle.sharc_report.specs.Explanations.{entity_line, explanation, explain_text};
 
 use crate::owners::owners;
 use crate::put::{put_number, put_three, put_token_place, put_tokens, put_two};
@@ -98,7 +100,8 @@ fn put_position(
     position: u32,
     owner: Option<&Numbered>,
 ) -> Result<(), AllocError>
-    ensures { Appends result (position_text typed.now position (option_copied owner.entry)) text.old.items text.new.items }
+    ensures { Appends result
+        (position_text typed.now position (option_copied owner.entry)) text.old.items text.new.items }
 {
     match owner {
         None => Ok(()),
@@ -169,7 +172,8 @@ fn put_lines(
 ) -> Result<(), AllocError>
     requires all { map (λ o. o.now) all.now ≡ owners (numbered (entities_in program.now.typed.program.items)) }
     requires within { n.now.first + positions_of n.now.entity ≤ position_count program.now.typed }
-    ensures { Appends result (reason_lines program.now n.now (positions_of n.now.entity)) text.old.items text.new.items }
+    ensures { Appends result
+        (reason_lines program.now n.now (positions_of n.now.entity)) text.old.items text.new.items }
 {
     let _all = program.position_count();
     let first = first_depth(n.entity.role);
@@ -224,8 +228,8 @@ fn put_explanation(
     put_lines(alloc, text, program, all, n)
 }
 
-/// A line for each global, parameter, local, pointer result and cast, by place, `file:line: kind name: type`, and after it for each of its positions
-/// that was inferred to be dynamic, by depth, the reason.
+/// A line for each global, parameter, local, pointer result and cast, by place, `file:line: kind name: type`, and after
+/// it for each of its positions that was inferred to be dynamic, by depth, the reason.
 pub fn explain_text(alloc: Global, program: &Moded) -> Result<Vec<u8>, AllocError>
     ensures { IfOk result (λ text. text.items ≡ explain_text program.now) }
 {

@@ -1,7 +1,7 @@
 //! The texts that the program writes.
 //!
-//! The layer above uses [`fault_text`], the line of `refusal_line` of specs/Refusals.antt; [`check_text`] and [`accepted_text`], the texts of
-//! specs/Verdicts.antt; and [`explain_text`], that of specs/Explanations.antt.
+//! The layer above uses [`fault_text`], the line of `refusal_line` of specs/Refusals.antt; [`check_text`] and
+//! [`accepted_text`], the texts of specs/Verdicts.antt; and [`explain_text`], that of specs/Explanations.antt.
 #![tactic(auto)]
 
 mod accepted;

@@ -8,7 +8,8 @@ use sharc_ctype::entity::Numbered;
 use std::alloc::{AllocError, Global};
 
 fn add_owner<'a>(owners: &mut Vec<&'a Numbered>, n: &'a Numbered) -> Result<(), AllocError>
-    ensures { OnOk result (map (λ o. o.now) owners.new.items ≡ map (λ o. o.now) owners.old.items ++ replicate (positions_of n.now.entity) n.now) }
+    ensures { OnOk result (map (λ o. o.now) owners.new.items
+        ≡ map (λ o. o.now) owners.old.items ++ replicate (positions_of n.now.entity) n.now) }
 {
     for _position in 0..n.entity.positions() {
         owners.push(n)?;

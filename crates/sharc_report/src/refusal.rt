@@ -4,7 +4,8 @@ ghost use Rattle.std.specs.Prelude.{◌≡◌, ◌++◌, [], codes, decimal, IfO
 ghost use Rattle.sharc_lex.specs.Faults as lexer;
 ghost use Rattle.sharc_grammar.specs.Faults as parser;
 ghost use Rattle.sharc_names.specs.Notes as typing;
-ghost use Rattle.sharc_report.specs.Refusals.{lexer_message, parser_message, typing_message, at_offset, unexpected, quoted, head_of, refusal_line};
+ghost use Rattle.sharc_report.specs.Refusals.{lexer_message, parser_message, typing_message, at_offset, unexpected};
+ghost use Rattle.sharc_report.specs.Refusals.{quoted, head_of, refusal_line};
 
 use crate::put::{put_number, put_two};
 use sharc_grammar::fault::GrammarFault;
@@ -57,21 +58,24 @@ fn put_head(
 }
 
 fn put_lexer_fault(text: &mut Vec<u8>, at: &FaultAt<LexerFault>) -> Result<(), AllocError>
-    ensures { OnOk result (text.new.items ≡ text.old.items ++ (head_of at.now.file at.now.line (codes "L") (lexer.digit_of at.now.code) ++ lexer_message at.now.code at.now.offset)) }
+    ensures { OnOk result (text.new.items ≡ text.old.items ++ (head_of at.now.file at.now.line (codes "L")
+        (lexer.digit_of at.now.code) ++ lexer_message at.now.code at.now.offset)) }
 {
     put_head(text, at.file.as_slice(), at.line, b"L", at.code.digit())?;
     put_lexer_message(text, at.code, at.offset)
 }
 
 fn put_parser_fault(text: &mut Vec<u8>, at: &FaultAt<GrammarFault>) -> Result<(), AllocError>
-    ensures { OnOk result (text.new.items ≡ text.old.items ++ (head_of at.now.file at.now.line (codes "P") (parser.digit_of at.now.code) ++ parser_message at.now.code at.now.text)) }
+    ensures { OnOk result (text.new.items ≡ text.old.items ++ (head_of at.now.file at.now.line (codes "P")
+        (parser.digit_of at.now.code) ++ parser_message at.now.code at.now.text)) }
 {
     put_head(text, at.file.as_slice(), at.line, b"P", at.code.digit())?;
     put_parser_message(text, at.code, at.text.as_slice())
 }
 
 fn put_typing_fault(text: &mut Vec<u8>, at: &FaultAt<FaultCode>) -> Result<(), AllocError>
-    ensures { OnOk result (text.new.items ≡ text.old.items ++ (head_of at.now.file at.now.line (codes "C") (typing.digit at.now.code) ++ typing_message at.now.code at.now.text)) }
+    ensures { OnOk result (text.new.items ≡ text.old.items ++ (head_of at.now.file at.now.line (codes "C")
+        (typing.digit at.now.code) ++ typing_message at.now.code at.now.text)) }
 {
     put_head(text, at.file.as_slice(), at.line, b"C", at.code.digit())?;
     put_typing_message(text, at.code, at.text.as_slice())

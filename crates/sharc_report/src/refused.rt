@@ -3,7 +3,8 @@
 ghost use Rattle.std.specs.Prelude.{◌≡◌, ◌++◌, codes, drop, Some, IfOk};
 ghost use Rattle.sharc_tree.specs.Texts.{type_text, Appends};
 ghost use Rattle.sharc_report.specs.Places.{tokens_between};
-ghost use Rattle.sharc_report.specs.Verdicts.{without_top, target_text, expected_found, error_message, error_line, suggestion, beside, refusal, check_text};
+ghost use Rattle.sharc_report.specs.Verdicts.{without_top, target_text, expected_found, error_message, error_line};
+ghost use Rattle.sharc_report.specs.Verdicts.{suggestion, beside, refusal, check_text};
 
 use crate::put::{put_number, put_place, put_three, put_tokens, put_two};
 use sharc_ctype::typed::Typed;
@@ -120,7 +121,8 @@ fn put_error(
 }
 
 fn put_lvalue(alloc: Global, text: &mut Vec<u8>, typed: &Typed, c: &Cast) -> Result<(), AllocError>
-    ensures { Appends result (codes ", " ++ tokens_between typed.now c.now.from c.now.until ++ codes ")\n") text.old.items text.new.items }
+    ensures { Appends result
+        (codes ", " ++ tokens_between typed.now c.now.from c.now.until ++ codes ")\n") text.old.items text.new.items }
 {
     text.extend_from_slice(b", ")?;
     put_tokens(alloc, text, typed, c.from, c.until)?;
@@ -188,7 +190,8 @@ fn behind_first(casts: &[Option<Cast>]) -> &[Option<Cast>]
     }
 }
 
-/// The errors of a program's modes, a line each, `file:line: code message`, and after each the cast beside it, if there is one.
+/// The errors of a program's modes, a line each, `file:line: code message`, and after each the cast beside it, if there
+/// is one.
 pub fn check_text(
     alloc: Global,
     program: &Moded,

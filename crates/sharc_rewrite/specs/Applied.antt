@@ -1,5 +1,6 @@
 -- The program with a cast written in it, and its modes.
-use Rattle.std.specs.Prelude.{ℕ, ◌+◌, nat_lt, Bool, false, List, [], ◌∷◌, ◌++◌, drop, take, map, replicate, length, Option, Some, None, if◌then◌else◌}
+use Rattle.std.specs.Prelude.{ℕ, ◌+◌, nat_lt, Bool, false, List, [], ◌∷◌, ◌++◌, drop, take, map, replicate, length}
+use Rattle.std.specs.Prelude.{Option, Some, None, if◌then◌else◌}
 use Rattle.std.specs.Str.{bytes_eq}
 use Rattle.sharc_tree.specs.{declared.ctype.Base.Base, declared.ctype.Base.TheVariants.Struct, declared.ctype.Mode.Mode}
 use Rattle.sharc_tree.specs.{declared.ctype.Mode.TheVariants.Private, declared.token.Site.Site, Tree.Program}
@@ -9,7 +10,8 @@ use Rattle.sharc_mode.specs.{declared.error.Cast.Cast, declared.position.Reason.
 use Rattle.sharc_mode.specs.{declared.position.Reason.TheVariants.{Touched, Spawned, From}, Moded.Assignment}
 use Rattle.sharc_rewrite.specs.{declared.written.Recast.Recast, Recast.program_with_cast}
 
--- ---- the program: the cast is around the expression of its tokens, wherever that is passed, assigned or returned, or initialises a local
+-- ---- the program: the cast is around the expression of its tokens, wherever that is passed, assigned or returned, or
+-- initialises a local
 
 abbrev pub names_struct : Base → Base → Bool
 names_struct (Struct a) (Struct b) = bytes_eq a b
@@ -18,10 +20,16 @@ names_struct _ _ = false
 -- where the struct of the type is named: as in the first type of the program that names it
 abbrev pub base_site : List Numbered → Base → Site → Site
 base_site [] base site = site
-base_site (n ∷ rest) base site = if names_struct n.entity.written.ctype.base base then n.entity.written.base else base_site rest base site
+base_site (n ∷ rest) base site =
+    if names_struct n.entity.written.ctype.base base then n.entity.written.base else base_site rest base site
 
 abbrev pub recast_of : Resolution → Cast → Recast
-recast_of r c = record { from = c.from; until = c.until; base = base_site (numbered (entities_in r.program.items)) c.to.base c.site; to = c.to }
+recast_of r c = record {
+  from = c.from;
+  until = c.until;
+  base = base_site (numbered (entities_in r.program.items)) c.to.base c.site;
+  to = c.to;
+}
 
 abbrev pub program_with : Cast → Resolution → Program
 program_with c r = program_with_cast (recast_of r c) r.program
@@ -62,5 +70,6 @@ abbrev pub assignment_with : Cast → Assignment → Assignment
 assignment_with c m = record {
   typed = resolution_with c m.typed;
   modes = inserted (first_new c m.typed) (targets c.to.levels) m.modes;
-  reasons = map (moved (first_new c m.typed) (length (targets c.to.levels))) (inserted (first_new c m.typed) (replicate (length (targets c.to.levels)) None) m.reasons);
+  reasons = map (moved (first_new c m.typed) (length (targets c.to.levels)))
+      (inserted (first_new c m.typed) (replicate (length (targets c.to.levels)) None) m.reasons);
 }

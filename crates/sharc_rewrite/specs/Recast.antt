@@ -1,7 +1,11 @@
 -- A program with a cast written round an expression.
 use Rattle.std.specs.Prelude.{◌==◌, Bool, false, ◌&&◌, map, if◌then◌else◌, option_map}
 use Rattle.sharc_tree.specs.{declared.token.Span.Span, declared.tree.declaration.WrittenType.WrittenType, Spans.span_of}
-use Rattle.sharc_tree.specs.Tree.{Expression, identifier, constant, parentheses, call, spawn, on_value, on_place, cast, index, field, unary, binary, Arguments, no_arguments, argument, Right, value, malloc, Simple, assign, does_call, Local, First, nothing, declares, does, Head, Statement, Statements, no_statements, statement, Function, Item, structure, global, function, Program}
+use Rattle.sharc_tree.specs.Tree.{Expression, identifier, constant, parentheses, call, spawn, on_value, on_place, cast}
+use Rattle.sharc_tree.specs.Tree.{index, field, unary, binary, Arguments, no_arguments, argument, Right, value, malloc}
+use Rattle.sharc_tree.specs.Tree.{Simple, assign, does_call, Local, First, nothing, declares, does, Head, Statement}
+use Rattle.sharc_tree.specs.Tree.{Statements, no_statements, statement, Function, Item, structure, global, function}
+use Rattle.sharc_tree.specs.Tree.{Program}
 use Rattle.sharc_tree.specs.Tree as tree
 use Rattle.sharc_rewrite.specs.declared.written.Recast.{Recast}
 
@@ -47,7 +51,8 @@ simple_with_cast c (assign s u x) = assign s (with_cast c u) (right_with_cast c 
 simple_with_cast c (does_call e) = does_call (with_cast c e)
 
 abbrev pub local_with_cast : Recast → Local → Local
-local_with_cast c l = record { span = l.span; declaration = l.declaration; initial = option_map (right_with_cast c) l.initial }
+local_with_cast c l =
+    record { span = l.span; declaration = l.declaration; initial = option_map (right_with_cast c) l.initial }
 
 abbrev pub first_with_cast : Recast → First → First
 first_with_cast c nothing = nothing
@@ -55,7 +60,11 @@ first_with_cast c (declares l) = declares (local_with_cast c l)
 first_with_cast c (does x) = does (simple_with_cast c x)
 
 abbrev pub head_with_cast : Recast → Head → Head
-head_with_cast c h = record { first = first_with_cast c h.first; test = option_map (with_cast c) h.test; step = option_map (simple_with_cast c) h.step }
+head_with_cast c h = record {
+  first = first_with_cast c h.first;
+  test = option_map (with_cast c) h.test;
+  step = option_map (simple_with_cast c) h.step;
+}
 
 abbrev mutual
   pub statement_with_cast : Recast → Statement → Statement
@@ -66,7 +75,8 @@ abbrev mutual
   statement_with_cast c (tree.jump s j) = tree.jump s j
   statement_with_cast c (tree.return s e) = tree.return s (option_map (λ a. around c (with_cast c a)) e)
   statement_with_cast c (tree.if_then s e a) = tree.if_then s (with_cast c e) (statement_with_cast c a)
-  statement_with_cast c (tree.if_then_else s e a b) = tree.if_then_else s (with_cast c e) (statement_with_cast c a) (statement_with_cast c b)
+  statement_with_cast c (tree.if_then_else s e a b) =
+      tree.if_then_else s (with_cast c e) (statement_with_cast c a) (statement_with_cast c b)
   statement_with_cast c (tree.while s e a) = tree.while s (with_cast c e) (statement_with_cast c a)
   statement_with_cast c (tree.for s h a) = tree.for s (head_with_cast c h) (statement_with_cast c a)
 
@@ -75,7 +85,14 @@ abbrev mutual
   statements_with_cast c (statement a rest) = statement (statement_with_cast c a) (statements_with_cast c rest)
 
 abbrev pub function_with_cast : Recast → Function → Function
-function_with_cast c f = record { span = f.span; result = f.result; name = f.name; parameters = f.parameters; body = f.body; statements = statements_with_cast c f.statements }
+function_with_cast c f = record {
+  span = f.span;
+  result = f.result;
+  name = f.name;
+  parameters = f.parameters;
+  body = f.body;
+  statements = statements_with_cast c f.statements;
+}
 
 abbrev pub item_with_cast : Recast → Item → Item
 item_with_cast c (structure s) = structure s

@@ -4,7 +4,8 @@ ghost use Rattle.std.specs.Prelude.{◌≡◌, ◌+◌, ◌<◌, ◌≤◌, ◌^
 ghost use Rattle.sharc_tree.specs.View.{view_program};
 ghost use Rattle.sharc_ctype.specs.Entities.{entity_at};
 ghost use Rattle.sharc_ctype.specs.Items.{named_in};
-ghost use Rattle.sharc_rewrite.specs.Applied.{names_struct, base_site, recast_of, targets, inserted, moved, resolution_with, first_of, assignment_with};
+ghost use Rattle.sharc_rewrite.specs.Applied.{names_struct, base_site, recast_of, targets, inserted, moved};
+ghost use Rattle.sharc_rewrite.specs.Applied.{resolution_with, first_of, assignment_with};
 
 use crate::modes::{below, modes_with, reasons_with};
 use crate::written::Recast;
@@ -81,7 +82,8 @@ fn fits(program: &Program) -> bool
 
 /// A program typed again.
 fn typed_again(alloc: Global, program: Program) -> Result<Typed, AllocError>
-    ensures { IfOk result (λ t. t ≡ record { program = view_program program; named = named_in (view_program program) }) }
+    ensures { IfOk result (λ t. t
+        ≡ record { program = view_program program; named = named_in (view_program program) }) }
 {
     if !fits(&program) {
         return Err(AllocError);
@@ -165,7 +167,8 @@ fn new_reasons(
     first: u32,
     count: u32,
 ) -> Result<Vec<Option<Reason>>, AllocError>
-    ensures { IfOk result (λ list. list.items ≡ map (moved first count) (inserted first (replicate count None) program.now.reasons)) }
+    ensures { IfOk result (λ list. list.items
+        ≡ map (moved first count) (inserted first (replicate count None) program.now.reasons)) }
 {
     let reasons = reasons_of(alloc, program)?;
     if first as usize > reasons.len() {
@@ -198,7 +201,8 @@ fn parts(
     first: u32,
 ) -> Result<(Vec<Mode>, Vec<Option<Reason>>), AllocError>
     ensures modes { IfOk result (λ p. p.0.items ≡ inserted first (targets cast.now.to.levels) program.now.modes) }
-    ensures reasons { IfOk result (λ p. p.1.items ≡ map (moved first (length (targets cast.now.to.levels))) (inserted first (replicate (length (targets cast.now.to.levels)) None) program.now.reasons)) }
+    ensures reasons { IfOk result (λ p. p.1.items ≡ map (moved first (length (targets cast.now.to.levels)))
+        (inserted first (replicate (length (targets cast.now.to.levels)) None) program.now.reasons)) }
 {
     let count = below(cast.to.levels.as_slice()).len();
     if count > u32::MAX as usize {
@@ -223,9 +227,10 @@ fn moded_with(
     assigned(typed, modes, reasons)
 }
 
-/// The program with the cast written round the expression that has its tokens, wherever that is passed, assigned or returned, or initialises a local. The modes of all old
-/// positions are kept, and those of the new cast are the modes of its type. No token is added. Nothing is asked of the cast. Where it is not one that is suggested, the program
-/// may be one that is not typed: then out of memory is the answer, too.
+/// The program with the cast written round the expression that has its tokens, wherever that is passed, assigned or
+/// returned, or initialises a local. The modes of all old positions are kept, and those of the new cast are the modes
+/// of its type. No token is added. Nothing is asked of the cast. Where it is not one that is suggested, the program may
+/// be one that is not typed: then out of memory is the answer, too.
 pub fn apply(alloc: Global, program: &Moded, cast: &Cast) -> Result<Moded, AllocError>
     ensures { IfOk result (λ new. new ≡ assignment_with cast.now program.now) }
 {

@@ -56,7 +56,8 @@ fn items(alloc: Global, c: &Recast, list: &[Item]) -> Result<Vec<Item>, AllocErr
 }
 
 impl Recast {
-    /// A program with the cast written where an expression of its tokens is passed, assigned or returned, or initialises a local.
+    /// A program with the cast written where an expression of its tokens is passed, assigned or returned, or
+    /// initialises a local.
     pub fn program(&self, alloc: Global, program: &Program) -> Result<Program, AllocError>
         ensures { IfOk result (λ p. view_program p ≡ program_with_cast self.now (view_program program.now)) }
     {

@@ -129,7 +129,8 @@ pub(crate) fn reasons_with(
     reasons: &[Option<Reason>],
 ) -> Result<Vec<Option<Reason>>, AllocError>
     requires { first ≤ length reasons.now }
-    ensures { IfOk result (λ list. list.items ≡ map (moved first count) (inserted first (replicate count None) reasons.now)) }
+    ensures { IfOk result (λ list. list.items
+        ≡ map (moved first count) (inserted first (replicate count None) reasons.now)) }
 {
     let mut list = Vec::new(alloc);
     add_reasons(&reasons[..first as usize], &mut list)?;

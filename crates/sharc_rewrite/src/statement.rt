@@ -2,8 +2,11 @@
 
 ghost use Rattle.std.specs.Prelude.{◌≡◌, IfOk, option_map};
 ghost use Rattle.sharc_tree.specs.Tree.{declare, simple, return, if_then, if_then_else, while, for};
-ghost use Rattle.sharc_tree.specs.View.{view_expr, view_option, view_right, view_simple, view_local, view_first, view_head, view_stmt, view_statements};
-ghost use Rattle.sharc_rewrite.specs.Recast.{around, with_cast, right_with_cast, simple_with_cast, local_with_cast, first_with_cast, head_with_cast, statement_with_cast, statements_with_cast};
+ghost use Rattle.sharc_tree.specs.View.{view_expr, view_option, view_right, view_simple, view_local, view_first};
+ghost use Rattle.sharc_tree.specs.View.{view_head, view_stmt, view_statements};
+ghost use Rattle.sharc_rewrite.specs.Recast.{around, with_cast, right_with_cast, simple_with_cast, local_with_cast};
+ghost use Rattle.sharc_rewrite.specs.Recast.{first_with_cast, head_with_cast, statement_with_cast};
+ghost use Rattle.sharc_rewrite.specs.Recast.{statements_with_cast};
 
 use crate::expression::{boxed, boxed_value, expression, value};
 use crate::written::Recast;
@@ -13,7 +16,8 @@ use sharc_tree::tree::{Expr, ForFirst, ForHead, Local, Right, Simple, Stmt};
 use std::alloc::{AllocError, Global};
 
 fn optional(alloc: Global, c: &Recast, expr: &Option<Expr>) -> Result<Option<Expr>, AllocError>
-    ensures { IfOk result (λ e. view_option view_expr e ≡ option_map (with_cast c.now) (view_option view_expr expr.now)) }
+    ensures { IfOk result (λ e. view_option view_expr e
+        ≡ option_map (with_cast c.now) (view_option view_expr expr.now)) }
 {
     match expr {
         None => Ok(None),
@@ -48,7 +52,8 @@ fn simple_of(alloc: Global, c: &Recast, simple: &Simple) -> Result<Simple, Alloc
 }
 
 fn initial(alloc: Global, c: &Recast, initial: &Option<Right>) -> Result<Option<Right>, AllocError>
-    ensures { IfOk result (λ r. view_option view_right r ≡ option_map (right_with_cast c.now) (view_option view_right initial.now)) }
+    ensures { IfOk result (λ r. view_option view_right r
+        ≡ option_map (right_with_cast c.now) (view_option view_right initial.now)) }
 {
     match initial {
         None => Ok(None),
@@ -79,7 +84,8 @@ fn first(alloc: Global, c: &Recast, first: &ForFirst) -> Result<ForFirst, AllocE
 }
 
 fn step(alloc: Global, c: &Recast, step: &Option<Simple>) -> Result<Option<Simple>, AllocError>
-    ensures { IfOk result (λ s. view_option view_simple s ≡ option_map (simple_with_cast c.now) (view_option view_simple step.now)) }
+    ensures { IfOk result (λ s. view_option view_simple s
+        ≡ option_map (simple_with_cast c.now) (view_option view_simple step.now)) }
 {
     match step {
         None => Ok(None),
@@ -92,8 +98,10 @@ fn test_and_step(
     c: &Recast,
     head: &ForHead,
 ) -> Result<(Option<Expr>, Option<Simple>), AllocError>
-    ensures test { IfOk result (λ r. view_option view_expr r.0 ≡ option_map (with_cast c.now) (view_option view_expr head.now.test)) }
-    ensures step { IfOk result (λ r. view_option view_simple r.1 ≡ option_map (simple_with_cast c.now) (view_option view_simple head.now.step)) }
+    ensures test { IfOk result (λ r. view_option view_expr r.0
+        ≡ option_map (with_cast c.now) (view_option view_expr head.now.test)) }
+    ensures step { IfOk result (λ r. view_option view_simple r.1
+        ≡ option_map (simple_with_cast c.now) (view_option view_simple head.now.step)) }
 {
     let test = optional(alloc, c, &head.test)?;
     both(test, step(alloc, c, &head.step))
@@ -132,7 +140,8 @@ fn return_of(
     span: Span,
     returned: &Option<Box<Expr>>,
 ) -> Result<Stmt, AllocError>
-    ensures { IfOk result (λ s. view_stmt s ≡ return span (option_map (λ a. around c.now (with_cast c.now a)) (view_option (λ b. view_expr b.value) returned.now))) }
+    ensures { IfOk result (λ s. view_stmt s ≡ return span
+        (option_map (λ a. around c.now (with_cast c.now a)) (view_option (λ b. view_expr b.value) returned.now))) }
 {
     match returned {
         None => Ok(Stmt::Return(span, None)),
@@ -147,7 +156,8 @@ fn if_of(
     test: &Expr,
     then: Box<Stmt>,
 ) -> Result<Stmt, AllocError>
-    ensures { IfOk result (λ s. view_stmt s ≡ if_then span (with_cast c.now (view_expr test.now)) (view_stmt then.value)) }
+    ensures { IfOk result (λ s. view_stmt s
+        ≡ if_then span (with_cast c.now (view_expr test.now)) (view_stmt then.value)) }
 {
     let (then, test) = both(then, boxed(alloc, c, test))?;
     Ok(Stmt::If(span, test, then))
@@ -161,7 +171,8 @@ fn if_else_of(
     then: Box<Stmt>,
     otherwise: Box<Stmt>,
 ) -> Result<Stmt, AllocError>
-    ensures { IfOk result (λ s. view_stmt s ≡ if_then_else span (with_cast c.now (view_expr test.now)) (view_stmt then.value) (view_stmt otherwise.value)) }
+    ensures { IfOk result (λ s. view_stmt s
+        ≡ if_then_else span (with_cast c.now (view_expr test.now)) (view_stmt then.value) (view_stmt otherwise.value)) }
 {
     let ((then, otherwise), test) = both((then, otherwise), boxed(alloc, c, test))?;
     Ok(Stmt::IfElse {
@@ -179,7 +190,8 @@ fn while_of(
     test: &Expr,
     body: Box<Stmt>,
 ) -> Result<Stmt, AllocError>
-    ensures { IfOk result (λ s. view_stmt s ≡ while span (with_cast c.now (view_expr test.now)) (view_stmt body.value)) }
+    ensures { IfOk result (λ s. view_stmt s
+        ≡ while span (with_cast c.now (view_expr test.now)) (view_stmt body.value)) }
 {
     let (body, test) = both(body, boxed(alloc, c, test))?;
     Ok(Stmt::While(span, test, body))
@@ -199,7 +211,8 @@ fn for_of(
     head: &ForHead,
     body: Box<Stmt>,
 ) -> Result<Stmt, AllocError>
-    ensures { IfOk result (λ s. view_stmt s ≡ for span (head_with_cast c.now (view_head head.now)) (view_stmt body.value)) }
+    ensures { IfOk result (λ s. view_stmt s
+        ≡ for span (head_with_cast c.now (view_head head.now)) (view_stmt body.value)) }
 {
     let (body, head) = both(body, boxed_head(alloc, c, head))?;
     Ok(Stmt::For(span, head, body))

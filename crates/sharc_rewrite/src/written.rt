@@ -3,8 +3,8 @@
 use sharc_tree::ctype::CType;
 use sharc_tree::token::Site;
 
-/// A sharing cast that is to be written round the expression whose first and last token have these numbers. No token is added: the cast and its type have the tokens of
-/// that expression.
+/// A sharing cast that is to be written round the expression whose first and last token have these numbers. No token is
+/// added: the cast and its type have the tokens of that expression.
 #[derive(Drop)]
 pub struct Recast {
     /// The number of the first token.

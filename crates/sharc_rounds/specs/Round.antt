@@ -1,5 +1,6 @@
 -- What a round makes of the threads and of the words.
-use Rattle.std.specs.Prelude.{ℕ, ◌≡◌, ◌≢◌, ◌<◌, ◌≤◌, ◌+◌, ◌++◌, true, List, [], length, Option, Some, None, slice_index_or}
+use Rattle.std.specs.Prelude.{ℕ, ◌≡◌, ◌≢◌, ◌<◌, ◌≤◌, ◌+◌, ◌++◌, true, List, [], length, Option, Some, None}
+use Rattle.std.specs.Prelude.{slice_index_or}
 use Rattle.sharc_word.specs.{declared.step.WordEvent.WordEvent, declared.step.TheConstants.THREADS}
 use Rattle.sharc_code.specs.{declared.code.Code.Code, declared.shape.Shape.Shape, declared.state.Wait.Wait}
 use Rattle.sharc_code.specs.Layout.{words_of, state_word}
@@ -18,8 +19,10 @@ abbrev pub Seat : Type 0
 Seat = Option ThreadView
 
 -- ---- one thread
--- it went on by a path with these word events. One that is gone or stopped made no turn; another that was below the limit made one
-pub record MadeQuantum (code : Code) (s : Shape) (limit : ℕ) (old new : ThreadView) (events : List WordEvent) : Type 0 where
+-- it went on by a path with these word events. One that is gone or stopped made no turn; another that was below the
+-- limit made one
+pub record MadeQuantum (code : Code) (s : Shape) (limit : ℕ) (old new : ThreadView)
+    (events : List WordEvent) : Type 0 where
   pub thread : IsThread code s new
   pub founds : List ℕ
   pub path : IsPath code s old.machine founds
@@ -77,20 +80,23 @@ abbrev pub MayAllRun : Code → Shape → ℕ → BusView → Worker → Type 0
 MayAllRun code s limit bus worker = (n : ℕ) → MayRunAt code s limit bus (slice_index_or worker.hands.items n None)
 
 abbrev pub HaveAllRun : Code → Shape → ℕ → Worker → Worker → Type 0
-HaveAllRun code s limit old new = (n : ℕ) → HasRunAt code s limit (slice_index_or old.hands.items n None) (slice_index_or new.hands.items n None)
+HaveAllRun code s limit old new = (n : ℕ)
+    → HasRunAt code s limit (slice_index_or old.hands.items n None) (slice_index_or new.hands.items n None)
 
 -- the hand of this number at this worker
 abbrev pub hand_at : List Worker → ℕ → ℕ → Worker → Option Hand
 hand_at workers w n d = slice_index_or (slice_index_or workers w d).hands.items n None
 
 -- ---- a round
--- each thread made a quantum, and their word events are the parts of one legal history, which leads from these words to those
+-- each thread made a quantum, and their word events are the parts of one legal history, which leads from these words to
+-- those
 pub record MadeRound (code : Code) (s : Shape) (limit : ℕ) (words now : List ℕ) (old new : List Seat) : Type 0 where
   pub count : length new ≡ length old
   pub lists : List (List WordEvent)
   pub as_many : length lists ≡ length old
   pub history : OneHistory words lists now
-  pub each : (n : ℕ) → n < length old → MadeQuantumAt code s limit (slice_index_or old n None) (slice_index_or new n None) (slice_index_or lists n [])
+  pub each : (n : ℕ) → n < length old
+      → MadeQuantumAt code s limit (slice_index_or old n None) (slice_index_or new n None) (slice_index_or lists n [])
 
 -- a thread of this number, which has made no more events than it may
 pub record MayBeginAs (code : Code) (s : Shape) (limit n : ℕ) (thread : ThreadView) : Type 0 where
@@ -154,4 +160,5 @@ pub record AreRounds (code : Code) (s : Shape) (limit : ℕ) (rounds : Rounds) :
   pub run : IsRun bounds (one_thread code s) (opening_of bounds (one_thread code s) (opening_words code s)) turns
   pub few : (t : ℕ) → (place_after code s turns).made t ≤ limit
   pub words : rounds.words.rest.words ≡ (place_after code s turns).words
-  pub seats : AreSeats code s (place_after code s turns).threads (place_after code s turns).made (place_after code s turns).started rounds.threads.seats.items
+  pub seats : AreSeats code s (place_after code s turns).threads (place_after code s turns).made
+      (place_after code s turns).started rounds.threads.seats.items

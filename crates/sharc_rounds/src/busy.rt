@@ -2,8 +2,8 @@
 
 ghost use Rattle.std.specs.Prelude.{◌≡◌, ◌≢◌, ◌<◌, true, false};
 
-/// The failed tries in a row that a thread makes behind the first one, where workers work at the same time: whom it waits for may go on
-/// meanwhile.
+/// The failed tries in a row that a thread makes behind the first one, where workers work at the same time: whom it
+/// waits for may go on meanwhile.
 pub const TRIES: u32 = 64;
 
 /// How many workers have a thread that is enabled.
@@ -37,7 +37,8 @@ impl Busy {
         }
     }
 
-    /// The failed tries that a thread makes behind the first one. Where one thread does all the work, nobody goes on meanwhile.
+    /// The failed tries that a thread makes behind the first one. Where one thread does all the work, nobody goes on
+    /// meanwhile.
     pub(crate) fn tries(self) -> u32 {
         match self {
             Busy::Several => TRIES,

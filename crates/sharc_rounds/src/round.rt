@@ -46,7 +46,8 @@ fn make_room_at(seat: &mut Option<Thread>) -> Result<(), AllocError>
 // Makes room in each thread.
 fn reserve(seats: &mut Vec<Option<Thread>>) -> Result<(), AllocError>
     ensures count { length seats.new.items ≡ length seats.old.items }
-    ensures each { OnOk result ((n : ℕ) → n < length seats.old.items → HasRoomAt (slice_index_or seats.old.items n None) (slice_index_or seats.new.items n None)) }
+    ensures each { OnOk result ((n : ℕ) → n < length seats.old.items
+        → HasRoomAt (slice_index_or seats.old.items n None) (slice_index_or seats.new.items n None)) }
 {
     for n in 0..seats.len() {
         make_room_at(&mut seats[n])?;
@@ -77,7 +78,8 @@ impl Rounds {
         requires count { length self.words.rest.words ≡ words_of shape.now }
         requires seats { MayBegin code.now shape.now limit self.threads.seats.items }
         ensures kept { IfOk result (λ r. KeptBus self.words r.words) }
-        ensures made { IfOk result (λ r. MadeRound code.now shape.now limit self.words.rest.words r.words.rest.words self.threads.seats.items r.threads.seats.items) }
+        ensures made { IfOk result (λ r. MadeRound code.now shape.now limit self.words.rest.words r.words.rest.words
+            self.threads.seats.items r.threads.seats.items) }
     {
         let Rounds { threads, words } = self;
         let Words { bus, rest, seen } = words;

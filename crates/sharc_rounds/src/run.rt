@@ -55,7 +55,8 @@ impl Rounds {
         requires workers { 0 < workers }
         requires limit { limit ≤ 100000000 }
         requires rounds { AreRounds code.now shape.now limit self }
-        requires one { (t : ℕ) × (may_turn_at self.words.rest.words limit (slice_index_or self.threads.seats.items t None) ≡ true) }
+        requires one { (t : ℕ)
+            × (may_turn_at self.words.rest.words limit (slice_index_or self.threads.seats.items t None) ≡ true) }
         ensures rounds { IfOk result (AreRounds code.now shape.now limit) }
         ensures less { IfOk result (λ r. left limit r.threads.seats.items < left limit self.threads.seats.items) }
     {
@@ -80,7 +81,8 @@ impl Rounds {
     ) -> Result<RoundsRun, AllocError>
         requires fits { Fits code.now shape.now }
         requires rounds { AreRounds code.now shape.now limit self }
-        requires none { (t : ℕ) → may_turn_at self.words.rest.words limit (slice_index_or self.threads.seats.items t None) ≡ false }
+        requires none { (t : ℕ)
+            → may_turn_at self.words.rest.words limit (slice_index_or self.threads.seats.items t None) ≡ false }
         ensures { IfOk result (IsRoundsRun code.now shape.now limit) }
     {
         fits_law(code, shape);
@@ -97,8 +99,9 @@ impl Rounds {
     }
 }
 
-/// Runs the code in rounds: in each, worker `w` gives every started thread whose number is `w` modulo `workers` one quantum of turns,
-/// and asks the gate before each step. A thread that is spawned in a round begins in the next. The run ends where no thread is enabled.
+/// Runs the code in rounds: in each, worker `w` gives every started thread whose number is `w` modulo `workers` one
+/// quantum of turns, and asks the gate before each step. A thread that is spawned in a round begins in the next. The
+/// run ends where no thread is enabled.
 ///
 /// An `Err` says that memory was not found.
 pub fn run_rounds<R: Threads + Sync, G: Gate + Sync>(

@@ -8,8 +8,9 @@ const PARTS: u64 = 16;
 
 const LEAST: u64 = 1_000;
 
-/// The events up to which a thread that has made so many may come in one round. Near its limit a thread has shorter quanta, so one that
-/// only looks again and again leaves the others many rounds to come forward in before it has made all its events.
+/// The events up to which a thread that has made so many may come in one round. Near its limit a thread has shorter
+/// quanta, so one that only looks again and again leaves the others many rounds to come forward in before it has made
+/// all its events.
 pub fn most_events(made: u64, limit: u64) -> u64
     requires { made ≤ limit }
     ensures is { result ≡ share_until made limit }

@@ -1,6 +1,7 @@
 //! The words between two rounds.
 
-ghost use Rattle.std.specs.Prelude.{◌≡◌, ◌≢◌, ◌<◌, ℕ, None, true, false, length, slice_index, slice_index_or, vec_len, IfOk};
+ghost use Rattle.std.specs.Prelude.{◌≡◌, ◌≢◌, ◌<◌, ℕ, None, true, false, length, slice_index, slice_index_or, vec_len};
+ghost use Rattle.std.specs.Prelude.{IfOk};
 ghost use Rattle.sharc_word.specs.declared.step.TheConstants.{THREADS as threads};
 ghost use Rattle.sharc_code.specs.Layout.{state_word};
 ghost use Rattle.sharc_code.specs.Waits.{held_up};
@@ -14,8 +15,8 @@ use sharc_threads::{ThreadTable, may_turn_at};
 use sharc_word::THREADS;
 use std::alloc::{AllocError, Global};
 
-/// The words between two rounds. They lie on one bus through the whole run, so none is copied; `seen` has those that were looked at since
-/// the round, and the others as they were seen last.
+/// The words between two rounds. They lie on one bus through the whole run, so none is copied; `seen` has those that
+/// were looked at since the round, and the others as they were seen last.
 #[derive(Drop)]
 pub(crate) struct Words {
     pub(crate) bus: Bus,
@@ -73,7 +74,8 @@ impl Words {
     pub(crate) fn look_at_states(&mut self)
         requires { AreWords self.old }
         ensures same { SameWords self.old self.new }
-        ensures states { (t : ℕ) → t < threads → slice_index self.new.seen.items (state_word t) ≡ slice_index self.old.rest.words (state_word t) }
+        ensures states { (t : ℕ) → t < threads
+            → slice_index self.new.seen.items (state_word t) ≡ slice_index self.old.rest.words (state_word t) }
     {
         for n in 0..THREADS as usize {
             self.look(4 + 3 * n);
@@ -84,7 +86,8 @@ impl Words {
     fn look_for(&mut self, thread: &Thread)
         requires { AreWords self.old }
         ensures same { SameWords self.old self.new }
-        ensures held { held_up self.new.seen.items thread.now.machine.own.number thread.now.wait ≡ held_up self.old.rest.words thread.now.machine.own.number thread.now.wait }
+        ensures held { held_up self.new.seen.items thread.now.machine.own.number thread.now.wait
+            ≡ held_up self.old.rest.words thread.now.machine.own.number thread.now.wait }
     {
         match thread.wait() {
             None => (),
@@ -112,8 +115,10 @@ impl Words {
         requires workers { 0 < workers }
         requires numbers { (t : ℕ) → has_number (slice_index_or threads.now.seats.items t None) }
         ensures same { SameWords self.old self.new }
-        ensures none { result ≡ Busy.Nobody → (t : ℕ) → may_turn_at self.old.rest.words limit (slice_index_or threads.now.seats.items t None) ≡ false }
-        ensures some { result ≢ Busy.Nobody → (t : ℕ) × (may_turn_at self.old.rest.words limit (slice_index_or threads.now.seats.items t None) ≡ true) }
+        ensures none { result ≡ Busy.Nobody
+            → (t : ℕ) → may_turn_at self.old.rest.words limit (slice_index_or threads.now.seats.items t None) ≡ false }
+        ensures some { result ≢ Busy.Nobody
+            → (t : ℕ) × (may_turn_at self.old.rest.words limit (slice_index_or threads.now.seats.items t None) ≡ true) }
     {
         let mut first = None;
         for n in 0..threads.seats.len() {

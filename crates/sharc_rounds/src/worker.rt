@@ -1,6 +1,7 @@
 //! The workers of a round: which threads each has, and what they do.
 
-ghost use Rattle.std.specs.Prelude.{◌≡◌, ◌<◌, ◌≤◌, ◌%◌, ◌^◌, ℕ, IsSome, length, Option, Some, None, IfOk, slice_index_or};
+ghost use Rattle.std.specs.Prelude.{◌≡◌, ◌<◌, ◌≤◌, ◌%◌, ◌^◌, ℕ, IsSome, length, Option, Some, None, IfOk};
+ghost use Rattle.std.specs.Prelude.{slice_index_or};
 ghost use Rattle.sharc_word.specs.declared.step.TheConstants.{THREADS as threads};
 ghost use Rattle.sharc_code.specs.Layout.{Fits, words_of};
 ghost use Rattle.sharc_bus.specs.Bus.{SeatView};
@@ -75,7 +76,8 @@ fn run_at<G: Gate>(
 impl Worker {
     // A worker with no thread.
     fn new(alloc: Global) -> Result<Worker, AllocError>
-        ensures { IfOk result (λ w. (length w.hands.items ≡ threads) × ((n : ℕ) → slice_index_or w.hands.items n None ≡ None)) }
+        ensures { IfOk result (λ w. (length w.hands.items ≡ threads)
+            × ((n : ℕ) → slice_index_or w.hands.items n None ≡ None)) }
     {
         let mut hands = Vec::with_capacity(alloc, THREADS as usize)?;
         for _ in 0..THREADS {
@@ -112,7 +114,8 @@ impl Worker {
 // This many workers with no thread.
 fn idle(alloc: Global, count: u32) -> Result<Vec<Worker>, AllocError>
     ensures count { IfOk result (λ all. length all.items ≡ count) }
-    ensures each { IfOk result (λ all. (w : ℕ) (d : Worker) → w < count → length (slice_index_or all.items w d).hands.items ≡ threads) }
+    ensures each { IfOk result (λ all. (w : ℕ) (d : Worker) → w < count
+        → length (slice_index_or all.items w d).hands.items ≡ threads) }
     ensures none { IfOk result (λ all. (w n : ℕ) (d : Worker) → w < count → hand_at all.items w n d ≡ None) }
 {
     let mut workers = Vec::new(alloc);
@@ -135,8 +138,12 @@ pub(crate) fn deal(
     requires seats { length seats.items ≡ threads }
     requires ports { length ports.items ≡ threads }
     ensures count { IfOk result (λ all. length all.items ≡ count) }
-    ensures each { IfOk result (λ all. (n : ℕ) (d : Worker) (a : Seat) (p : SeatView) → n < threads → hand_at all.items (n % count) n d ≡ Some record { seat = slice_index_or seats.items n a; port = slice_index_or ports.items n p }) }
-    ensures only { IfOk result (λ all. (w n : ℕ) (d : Worker) (hand : Hand) → w < count → hand_at all.items w n d ≡ Some hand → (n < threads) × (hand ≡ record { seat = slice_index_or seats.items n hand.seat; port = slice_index_or ports.items n hand.port })) }
+    ensures each { IfOk result (λ all. (n : ℕ) (d : Worker) (a : Seat) (p : SeatView) → n < threads
+        → hand_at all.items (n % count) n d
+        ≡ Some record { seat = slice_index_or seats.items n a; port = slice_index_or ports.items n p }) }
+    ensures only { IfOk result (λ all. (w n : ℕ) (d : Worker) (hand : Hand) → w < count
+        → hand_at all.items w n d ≡ Some hand → (n < threads) × (hand
+        ≡ record { seat = slice_index_or seats.items n hand.seat; port = slice_index_or ports.items n hand.port })) }
 {
     let mut workers = idle(alloc, count)?;
     let mut n = 0;
@@ -147,7 +154,8 @@ pub(crate) fn deal(
     Ok(workers)
 }
 
-/// Every worker gives each of its threads one quantum. A worker that cannot be started, or need not be, has its work done by another.
+/// Every worker gives each of its threads one quantum. A worker that cannot be started, or need not be, has its work
+/// done by another.
 pub(crate) fn run_all<R: Threads + Sync, G: Gate + Sync>(
     rt: &R,
     code: &Code,
@@ -164,9 +172,11 @@ pub(crate) fn run_all<R: Threads + Sync, G: Gate + Sync>(
     requires words { length bus.now.opening ≡ words_of shape.now }
     requires some { 0 < length workers.old.items }
     requires few { length workers.old.items < 2 ^ 32 }
-    requires may { (w : ℕ) (d : Worker) → w < length workers.old.items → MayAllRun code.now shape.now limit bus.now (slice_index_or workers.old.items w d) }
+    requires may { (w : ℕ) (d : Worker) → w < length workers.old.items
+        → MayAllRun code.now shape.now limit bus.now (slice_index_or workers.old.items w d) }
     ensures count { length workers.new.items ≡ length workers.old.items }
-    ensures each { (w : ℕ) (d : Worker) → w < length workers.old.items → HaveAllRun code.now shape.now limit (slice_index_or workers.old.items w d) (slice_index_or workers.new.items w d) }
+    ensures each { (w : ℕ) (d : Worker) → w < length workers.old.items → HaveAllRun code.now shape.now limit
+        (slice_index_or workers.old.items w d) (slice_index_or workers.new.items w d) }
 {
     let count = busy.threads(workers.len());
     let tries = busy.tries();
@@ -193,10 +203,13 @@ pub(crate) fn gather(
     mut workers: Vec<Worker>,
 ) -> Result<(Vec<Option<Thread>>, Vec<BusSeat>), AllocError>
     requires some { 0 < length workers.items }
-    requires each { (n : ℕ) (d : Worker) → n < threads → (hand : Hand) × (hand_at workers.items (n % length workers.items) n d ≡ Some hand) }
+    requires each { (n : ℕ) (d : Worker) → n < threads
+        → (hand : Hand) × (hand_at workers.items (n % length workers.items) n d ≡ Some hand) }
     ensures seats { IfOk result (λ r. length r.0.items ≡ threads) }
     ensures ports { IfOk result (λ r. length r.1.items ≡ threads) }
-    ensures each { IfOk result (λ r. (n : ℕ) (d : Worker) (a : Seat) (p : SeatView) → n < threads → hand_at workers.items (n % length workers.items) n d ≡ Some record { seat = slice_index_or r.0.items n a; port = slice_index_or r.1.items n p }) }
+    ensures each { IfOk result (λ r. (n : ℕ) (d : Worker) (a : Seat) (p : SeatView) → n < threads
+        → hand_at workers.items (n % length workers.items) n d
+        ≡ Some record { seat = slice_index_or r.0.items n a; port = slice_index_or r.1.items n p }) }
 {
     let mut seats = Vec::with_capacity(alloc, THREADS as usize)?;
     let mut ports = Vec::with_capacity(alloc, THREADS as usize)?;

@@ -28,6 +28,8 @@ outcome_told words threads =
 
 -- a run with these threads has no other outcome. So it has one
 abbrev pub OutcomeIsTold : Type 0
-OutcomeIsTold = (code : Code) (s : Shape) (limit : ℕ) (turns : List Turn) (threads : List ThreadView) (outcome : Outcome) → s.threads ≡ THREADS
-    → AreStarted code s (place_after code s turns) threads → HasOutcome code s limit (place_after code s turns) threads outcome
+OutcomeIsTold = (code : Code) (s : Shape) (limit : ℕ) (turns : List Turn) (threads : List ThreadView)
+    (outcome : Outcome) → s.threads ≡ THREADS
+    → AreStarted code s (place_after code s turns) threads
+    → HasOutcome code s limit (place_after code s turns) threads outcome
     → outcome ≡ outcome_told (place_after code s turns).words threads

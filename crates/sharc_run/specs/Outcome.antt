@@ -38,11 +38,14 @@ pub record NoneStopped (threads : List ThreadView) : Type 0 where
   pub unreported : list_any has_reported threads ≡ false
   pub unstopped : list_any was_stopped threads ≡ false
 
-pub data HasOutcome (code : Code) (s : Shape) (limit : ℕ) (g : Standing) (threads : List ThreadView) : Outcome → Type 0 where
+pub data HasOutcome (code : Code) (s : Shape) (limit : ℕ) (g : Standing) (threads : List ThreadView) : Outcome
+    → Type 0 where
   reported : list_any has_reported threads ≡ true → HasOutcome code s limit g threads Reported
-  stopped : list_any has_reported threads ≡ false → list_any was_stopped threads ≡ true → HasOutcome code s limit g threads Stopped
+  stopped : list_any has_reported threads ≡ false → list_any was_stopped threads ≡ true
+      → HasOutcome code s limit g threads Stopped
   stuck : NoneStopped threads → IsStuck code s g → HasOutcome code s limit g threads Stuck
-  limited : NoneStopped threads → ¬ IsStuck code s g → Any (IsSpent limit) threads → HasOutcome code s limit g threads Limit
+  limited : NoneStopped threads → ¬ IsStuck code s g → Any (IsSpent limit) threads
+      → HasOutcome code s limit g threads Limit
   done : NoneStopped threads → All (λ t. is_gone t ≡ true) threads → HasOutcome code s limit g threads Done
 
 -- ---- which one the code answers, by how the run ended

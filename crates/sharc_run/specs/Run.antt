@@ -16,7 +16,8 @@ pub record IsEnd (code : Code) (s : Shape) (limit : ℕ) (g : Standing) (ran : R
   pub outcome : HasOutcome code s limit g threads ran.outcome
 
 -- a run of these turns ended where no thread may make a turn, with these words and started threads, and so
-pub record HasEnded (code : Code) (s : Shape) (limit : ℕ) (words : List ℕ) (threads : List ThreadView) (end : End) (turns : List Turn) : Type 0 where
+pub record HasEnded (code : Code) (s : Shape) (limit : ℕ) (words : List ℕ) (threads : List ThreadView) (end : End)
+    (turns : List Turn) : Type 0 where
   pub over : (t : ℕ) → is_enabled code s limit (place_after code s turns) t ≡ false
   pub words_are : words ≡ (place_after code s turns).words
   pub started : AreStarted code s (place_after code s turns) threads

@@ -1,10 +1,11 @@
 //! Whole runs of checked code, with what they write and how they ended.
 //!
-//! `run_by_seed` has one chooser choose each turn by a number, `run_by_workers` has workers make the turns in rounds. Both answer the text of
-//! the run and its outcome by causes: `IsSeededRun` and `IsWorkersRun` of `specs/Run.antt` say that there is such a checked run of the code
-//! and that these are its text and outcome, `specs/Outcome.antt` what each outcome means. `told` answers both for a run that was made
-//! elsewhere. `shape_of` is the shape of a code with this many granules of heap. The law that a run has one outcome is the contract of
-//! `outcome_is_told`, which does nothing (`specs/Laws.antt`).
+//! `run_by_seed` has one chooser choose each turn by a number, `run_by_workers` has workers make the turns in rounds.
+//! Both answer the text of the run and its outcome by causes: `IsSeededRun` and `IsWorkersRun` of `specs/Run.antt` say
+//! that there is such a checked run of the code and that these are its text and outcome, `specs/Outcome.antt` what each
+//! outcome means. `told` answers both for a run that was made elsewhere. `shape_of` is the shape of a code with this
+//! many granules of heap. The law that a run has one outcome is the contract of `outcome_is_told`, which does nothing
+//! (`specs/Laws.antt`).
 #![tactic(auto)]
 
 mod gate;

@@ -41,7 +41,9 @@ pub fn told(
     requires { AreAllowed threads.now }
     ensures text { IfOk result (λ ran. IsRunText code.now words.now threads.now ran.text.items) }
     ensures outcome { IfOk result (λ ran. ran.outcome ≡ outcome_of threads.now end) }
-    ensures ends { (s : Shape) (limit : ℕ) (turns : List Turn) → Fits code.now s → HasEnded code.now s limit words.now threads.now end turns → IfOk result (IsEnd code.now s limit (place_after code.now s turns)) }
+    ensures ends { (s : Shape) (limit : ℕ) (turns : List Turn) → Fits code.now s
+        → HasEnded code.now s limit words.now threads.now end turns
+        → IfOk result (IsEnd code.now s limit (place_after code.now s turns)) }
 {
     let text = run_text(alloc, code, words, threads)?;
     Ok(Ran {
@@ -50,8 +52,8 @@ pub fn told(
     })
 }
 
-/// Runs the code with each turn made by the thread that `seed` draws among those that may make one, no thread making more than `limit`
-/// events.
+/// Runs the code with each turn made by the thread that `seed` draws among those that may make one, no thread making
+/// more than `limit` events.
 ///
 /// An `Err` says that memory was not found.
 pub fn run_by_seed(
@@ -76,7 +78,8 @@ pub fn run_by_seed(
     told(alloc, code, &run.words, &run.threads, run.end)
 }
 
-/// Runs the code in rounds that this many workers make, no thread making more than `limit` events; the gate is asked before each step.
+/// Runs the code in rounds that this many workers make, no thread making more than `limit` events; the gate is asked
+/// before each step.
 ///
 /// An `Err` says that memory was not found.
 pub fn run_by_workers<R: Threads + Sync, G: Gate + Sync>(

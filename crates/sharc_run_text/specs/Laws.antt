@@ -6,8 +6,8 @@ use Rattle.sharc_code.specs.declared.state.Wait.{Wait}
 use Rattle.sharc_cpu.specs.Thread.{ThreadView}
 use Rattle.sharc_run_text.specs.{Others.number_of, RunText.{prints_of, is_gone, IsRunText}}
 
--- what a text says of a thread: whether it is gone, its number, why it was stopped, what it waits for, how many events it has made, and
--- what it printed and accessed
+-- what a text says of a thread: whether it is gone, its number, why it was stopped, what it waits for, how many events
+-- it has made, and what it printed and accessed
 pub record Shown : Type 0 where
   pub gone : Bool
   pub number : ℕ
@@ -30,5 +30,6 @@ shown t = record {
 
 -- the text of these words, and of threads of which it says the same, is one
 abbrev pub TextIsOne : Type 0
-TextIsOne = (code : Code) (words : List ℕ) (threads others : List ThreadView) (text other : List ℕ) → map shown threads ≡ map shown others
+TextIsOne = (code : Code) (words : List ℕ) (threads others : List ThreadView) (text other : List ℕ)
+    → map shown threads ≡ map shown others
     → IsRunText code words threads text → IsRunText code words others other → text ≡ other

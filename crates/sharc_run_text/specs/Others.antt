@@ -1,5 +1,6 @@
 -- The other access of a conflict: which one a report names.
-use Rattle.std.specs.Prelude.{ℕ, ◌<◌, ◌==◌, ◌&&◌, Bool, true, false, not, List, All, find, Option, Some, None, is_some, if◌then◌else◌}
+use Rattle.std.specs.Prelude.{ℕ, ◌<◌, ◌==◌, ◌&&◌, Bool, true, false, not, List, All, find, Option, Some, None, is_some}
+use Rattle.std.specs.Prelude.{if◌then◌else◌}
 use Rattle.sharc_word.specs.declared.step.TheConstants.{THREADS}
 use Rattle.sharc_shadow.specs.{declared.shadow_word.Kind.Kind, declared.shadow_word.Kind.TheVariants.{Read, Write}}
 use Rattle.sharc_shadow.specs.{Accesses.{note_of, site_at}, Functions.lowest_other, ShadowWord.{stands, is_written}}
@@ -68,7 +69,8 @@ access_of_number c threads (Some n) = access_of_any c (find (has_number n) threa
 abbrev pub against_write : ConflictAt → List ThreadView → ℕ → Option Access
 against_write c threads thread = access_of_number c threads (lowest_other c.old thread)
 
--- ---- of a refused read: the write of the lowest-numbered other thread whose bit was set and which has one, else the write that was
+-- ---- of a refused read: the write of the lowest-numbered other thread whose bit was set and which has one, else the
+-- write that was
 -- refused where the written bit was not set
 abbrev pub wrote_before : ConflictAt → ℕ → ThreadView → Bool
 wrote_before c thread t = not (number_of t == thread) && (stands c.old (number_of t) && has_written c t)

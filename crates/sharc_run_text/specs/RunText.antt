@@ -1,5 +1,6 @@
 -- The text of a run that has ended.
-use Rattle.std.specs.Prelude.{◌≡◌, ℕ, ◌-◌, ◌==◌, Bool, true, false, List, [], ◌++◌, codes, decimal, slice_index, Option, Some, None, if◌then◌else◌}
+use Rattle.std.specs.Prelude.{◌≡◌, ℕ, ◌-◌, ◌==◌, Bool, true, false, List, [], ◌++◌, codes, decimal, slice_index, Option}
+use Rattle.std.specs.Prelude.{Some, None, if◌then◌else◌}
 use Rattle.std.specs.{Fmt.signed_decimal, List.flat_map, Ordering.nat_cmp}
 use Rattle.std.specs.List.Sorted.{IsPermutation, IsSortedByKey, IsStableByKey}
 use Rattle.sharc_tree.specs.{declared.trap.Trap.Trap, Traps.trap_number}
@@ -23,7 +24,8 @@ place_of p = p.place
 abbrev pub prints_of : ThreadView → List Print
 prints_of t = t.machine.own.prints
 
--- all prints of these threads, in the order of their places. Those of one place, which no run has, are in the order of the threads
+-- all prints of these threads, in the order of their places. Those of one place, which no run has, are in the order of
+-- the threads
 pub record AreInOrder (threads : List ThreadView) (prints : List Print) : Type 0 where
   pub all : IsPermutation (flat_map prints_of threads) prints
   pub in_order : IsSortedByKey place_of nat_cmp prints
@@ -47,11 +49,13 @@ code_of Write = codes "A2 "
 
 abbrev pub other_text : Code → Option Access → List ℕ
 other_text code None = []
-other_text code (Some a) = codes " conflicts with " ++ access_text code a.kind a.site ++ codes " by thread " ++ decimal a.thread
+other_text code (Some a) =
+    codes " conflicts with " ++ access_text code a.kind a.site ++ codes " by thread " ++ decimal a.thread
 
 -- A1 and A2: with the other access
 abbrev pub conflict_text : Code → List ThreadView → ℕ → ConflictAt → List ℕ
-conflict_text code threads thread c = code_of c.kind ++ access_text code c.kind c.site ++ other_text code (other_access c threads thread)
+conflict_text code threads thread c =
+    code_of c.kind ++ access_text code c.kind c.site ++ other_text code (other_access c threads thread)
 
 -- a cast and a free look at their source as a write does
 abbrev pub of_use : Use → List ℕ
@@ -63,7 +67,8 @@ of_use uses.Other = codes "read of "
 
 -- A3 read of LV at F:N without lock PATH
 abbrev pub no_lock_text : Code → ℕ → List ℕ
-no_lock_text code site = codes "A3 " ++ of_use (place_at code site).at ++ lvalue_at code site ++ codes " without lock " ++ lock_path code site
+no_lock_text code site = codes "A3 " ++ of_use (place_at code site).at ++ lvalue_at code site ++ codes " without lock "
+    ++ lock_path code site
 
 abbrev pub of_taking : Use → List ℕ
 of_taking (uses.Free variable) = codes "A4 free of "
@@ -71,7 +76,8 @@ of_taking _ = codes "A4 cast of "
 
 -- A4 cast of LV at F:N with C references
 abbrev pub not_sole_text : Code → ℕ → ℕ → List ℕ
-not_sole_text code site count = of_taking (place_at code site).at ++ lvalue_at code site ++ codes " with " ++ decimal count ++ codes " references"
+not_sole_text code site count =
+    of_taking (place_at code site).at ++ lvalue_at code site ++ codes " with " ++ decimal count ++ codes " references"
 
 -- ---- stops
 abbrev pub trap_words : Trap → List ℕ
@@ -112,7 +118,8 @@ made_text made = codes "made " ++ decimal made ++ codes " events"
 
 abbrev pub unstopped_text : Code → List ℕ → ThreadView → Option Wait → List ℕ
 unstopped_text code words t None = made_text t.made
-unstopped_text code words t (Some wait) = if is_held_up words (number_of t) wait then wait_text code words wait else made_text t.made
+unstopped_text code words t (Some wait) =
+    if is_held_up words (number_of t) wait then wait_text code words wait else made_text t.made
 
 -- why it is not gone
 abbrev pub why_text : Code → List ℕ → List ThreadView → ThreadView → Option Stop → List ℕ
@@ -129,7 +136,8 @@ is_gone Ended = true
 abbrev pub thread_line : Code → List ℕ → List ThreadView → ThreadView → List ℕ
 thread_line code words threads t =
     if is_gone t.machine.at.state then []
-    else codes "thread " ++ decimal (number_of t) ++ codes ": " ++ why_text code words threads t t.machine.own.stop ++ codes "\n"
+    else codes "thread " ++ decimal (number_of t) ++ codes ": " ++ why_text code words threads t t.machine.own.stop
+    ++ codes "\n"
 
 -- ---- the whole: the prints, and then a line for each of these threads that is not gone, in their order
 pub record IsRunText (code : Code) (words : List ℕ) (threads : List ThreadView) (text : List ℕ) : Type 0 where

@@ -4,7 +4,10 @@ ghost use Rattle.std.specs.Prelude.{◌≡◌, ◌++◌, ◌<◌, codes, decimal
 ghost use Rattle.sharc_tree.specs.Texts.{Appends};
 ghost use Rattle.sharc_run_text.specs.Places.{at_site, lvalue_at};
 ghost use Rattle.sharc_run_text.specs.Others.{IsAllowed, AreAllowed};
-ghost use Rattle.sharc_run_text.specs.RunText.{of_kind, access_text, code_of, other_text, conflict_text, of_use, no_lock_text, of_taking, not_sole_text, trap_words, trap_text, stop_text, wait_text, made_text, unstopped_text, why_text, is_gone, thread_line};
+ghost use Rattle.sharc_run_text.specs.RunText.{of_kind, access_text, code_of, other_text, conflict_text, of_use};
+ghost use Rattle.sharc_run_text.specs.RunText.{no_lock_text, of_taking, not_sole_text, trap_words, trap_text};
+ghost use Rattle.sharc_run_text.specs.RunText.{stop_text, wait_text, made_text, unstopped_text, why_text, is_gone};
+ghost use Rattle.sharc_run_text.specs.RunText.{thread_line};
 ghost use Rattle.sharc_code.specs.Waits.{is_held_up};
 
 use crate::other::{Access, other_access};
@@ -182,7 +185,8 @@ fn is_held_up(words: &[u64], number: u32, wait: Wait) -> bool
 }
 
 fn put_held_mutex(text: &mut Vec<u8>, code: &Code, site: u32, holder: u64) -> Result<(), AllocError>
-    ensures { Appends result (codes "waits for mutex " ++ lvalue_at code.now site ++ codes " held by thread " ++ decimal holder) text.old.items text.new.items }
+    ensures { Appends result (codes "waits for mutex " ++ lvalue_at code.now site ++ codes " held by thread "
+        ++ decimal holder) text.old.items text.new.items }
 {
     text.extend_from_slice(b"waits for mutex ")?;
     put_lvalue_at(text, code, site)?;
@@ -191,7 +195,8 @@ fn put_held_mutex(text: &mut Vec<u8>, code: &Code, site: u32, holder: u64) -> Re
 }
 
 fn put_joined(text: &mut Vec<u8>, code: &Code, thread: u32, site: u32) -> Result<(), AllocError>
-    ensures { Appends result (codes "waits for thread " ++ decimal thread ++ at_site code.now site) text.old.items text.new.items }
+    ensures { Appends result
+        (codes "waits for thread " ++ decimal thread ++ at_site code.now site) text.old.items text.new.items }
 {
     text.extend_from_slice(b"waits for thread ")?;
     put_number(text, u64::from(thread))?;
@@ -252,7 +257,8 @@ fn put_why(
 ) -> Result<(), AllocError>
     requires thread { IsAllowed t.now }
     requires threads { AreAllowed threads.now }
-    ensures { Appends result (why_text code.now words.now threads.now t.now t.now.machine.own.stop) text.old.items text.new.items }
+    ensures { Appends result
+        (why_text code.now words.now threads.now t.now t.now.machine.own.stop) text.old.items text.new.items }
 {
     match t.stop() {
         Some(stop) => put_stop(text, code, threads, t.number(), stop),

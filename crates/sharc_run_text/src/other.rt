@@ -2,7 +2,9 @@
 
 ghost use Rattle.std.specs.Prelude.{◌≡◌, ◌<◌, find};
 ghost use Rattle.std.specs.Option.{option_copied};
-ghost use Rattle.sharc_run_text.specs.Others.{noted, has_written, is_same_place, refused, check_by, access_of, has_number, is_write, wrote_before, was_refused_first, or_refused, against_write, against_read, other_access, IsAllowed, AreAllowed};
+ghost use Rattle.sharc_run_text.specs.Others.{noted, has_written, is_same_place, refused, check_by, access_of};
+ghost use Rattle.sharc_run_text.specs.Others.{has_number, is_write, wrote_before, was_refused_first, or_refused};
+ghost use Rattle.sharc_run_text.specs.Others.{against_write, against_read, other_access, IsAllowed, AreAllowed};
 
 use sharc_code::{ConflictAt, Stop};
 use sharc_cpu::Thread;
@@ -173,7 +175,8 @@ fn against_read(c: ConflictAt, threads: &[Thread], thread: u32) -> Option<Access
     }
 }
 
-/// The other access of a conflict of the thread of this number, among these threads, which are in the order of their numbers.
+/// The other access of a conflict of the thread of this number, among these threads, which are in the order of their
+/// numbers.
 pub(crate) fn other_access(c: ConflictAt, threads: &[Thread], thread: u32) -> Option<Access>
     requires thread { thread < THREADS }
     requires threads { AreAllowed threads.now }

@@ -28,7 +28,8 @@ fn put_threads(
     threads: &[Thread],
 ) -> Result<(), AllocError>
     requires { AreAllowed threads.now }
-    ensures { Appends result (flat_map (thread_line code.now words.now threads.now) threads.now) text.old.items text.new.items }
+    ensures { Appends result
+        (flat_map (thread_line code.now words.now threads.now) threads.now) text.old.items text.new.items }
 {
     for t in threads {
         put_thread(text, code, words, threads, t)?;
@@ -36,9 +37,10 @@ fn put_threads(
     Ok(())
 }
 
-/// The text of a run of this code that has ended with these words and these threads, which are in the order of their numbers: each print
-/// as a decimal number on a line, in the order in which all were made, and then a line for each thread that is not gone, which says why: its
-/// report (A1 to A4), its stop (X1 to X13), what it waits for, or how many events it has made (the texts are own).
+/// The text of a run of this code that has ended with these words and these threads, which are in the order of their
+/// numbers: each print as a decimal number on a line, in the order in which all were made, and then a line for each
+/// thread that is not gone, which says why: its report (A1 to A4), its stop (X1 to X13), what it waits for, or how many
+/// events it has made (the texts are own).
 ///
 /// An `Err` says that memory was not found.
 pub fn run_text(

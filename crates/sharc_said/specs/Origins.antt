@@ -1,13 +1,17 @@
 -- Where in the source a turn is.
 use Rattle.std.specs.Prelude.{ℕ, ◌+◌, ◌%◌, ◌^◌}
 use Rattle.sharc_code.specs.{declared.code.Code.Code, declared.instr.Instr.Instr}
-use Rattle.sharc_code.specs.declared.instr.Instr.TheVariants.{Load, Store, LoadRef, Exchange, New, TakeCell, TakeLocal, Give, Free, Lock, Unlock, Spawn, Join, Print, Start, Exit, ChkLockLoaded, CondEnter, CondWait, CondSignal, CondBroadcast}
+use Rattle.sharc_code.specs.declared.instr.Instr.TheVariants.{Load, Store, LoadRef, Exchange, New, TakeCell, TakeLocal}
+use Rattle.sharc_code.specs.declared.instr.Instr.TheVariants.{Give, Free, Lock, Unlock, Spawn, Join, Print, Start, Exit}
+use Rattle.sharc_code.specs.declared.instr.Instr.TheVariants.{ChkLockLoaded, CondEnter, CondWait, CondSignal}
+use Rattle.sharc_code.specs.declared.instr.Instr.TheVariants.{CondBroadcast}
 use Rattle.sharc_code.specs.{declared.state.Stage.Stage, declared.state.Stage.TheVariants.Enters}
 use Rattle.sharc_code.specs.Machine.{Machine, instr_at}
 use Rattle.sharc_said.specs.declared.cells.Origin.{Origin}
 use Rattle.sharc_said.specs.declared.cells.Origin.TheVariants as origins
 
--- a reference is loaded for itself, or for the lock that the mode of another site names: then the check of that lock is behind it
+-- a reference is loaded for itself, or for the lock that the mode of another site names: then the check of that lock is
+-- behind it
 abbrev pub loads_at : ℕ → Instr → Origin
 loads_at site (ChkLockLoaded lock) = origins.Lock site lock
 loads_at site _ = origins.Site site

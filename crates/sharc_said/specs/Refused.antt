@@ -2,7 +2,8 @@
 use Rattle.std.specs.Prelude.{ℕ, ◌+◌, ◌%◌, ◌^◌, Option, Some, None}
 use Rattle.sharc_tree.specs.declared.event.CellAt.{CellAt}
 use Rattle.sharc_code.specs.{declared.code.Code.Code, declared.instr.Instr.Instr}
-use Rattle.sharc_code.specs.declared.instr.Instr.TheVariants.{Load, Store, LoadRef, Exchange, TakeCell, ChkRead, ChkWrite, ChkLock, ChkLockLoaded, TestSole}
+use Rattle.sharc_code.specs.declared.instr.Instr.TheVariants.{Load, Store, LoadRef, Exchange, TakeCell, ChkRead}
+use Rattle.sharc_code.specs.declared.instr.Instr.TheVariants.{ChkWrite, ChkLock, ChkLockLoaded, TestSole}
 use Rattle.sharc_code.specs.{Machine.{Machine, instr_at, ref}, Says.{cell_at, made_cell}}
 
 -- the cell that an instruction accesses

@@ -1,5 +1,6 @@
 -- The event of a turn by what is known of it before its step, and by what the step found. It has no modes of cells.
-use Rattle.std.specs.Prelude.{◌≡◌, ℕ, ℤ, pos, zero, suc, ◌-◌, ◌*◌, ◌+◌, ◌==◌, ◌||◌, Option, Some, None, slice_index_or, if◌then◌else◌}
+use Rattle.std.specs.Prelude.{◌≡◌, ℕ, ℤ, pos, zero, suc, ◌-◌, ◌*◌, ◌+◌, ◌==◌, ◌||◌, Option, Some, None, slice_index_or}
+use Rattle.std.specs.Prelude.{if◌then◌else◌}
 use Rattle.sharc_tree.specs.{declared.token.Site.Site, declared.event.CellAt.CellAt, declared.event.Act.Act}
 use Rattle.sharc_tree.specs.declared.event.SourceEvent.{SourceEvent}
 use Rattle.sharc_tree.specs.declared.event.Object.TheVariants as objects
@@ -22,7 +23,8 @@ use Rattle.sharc_said.specs.declared.next.Next.TheVariants as nexts
 
 -- ---- places
 abbrev pub in_global : Code → ℕ → ℕ → Where
-in_global code global place = places.Global global (place - 2 * (slice_index_or code.globals.items global no_global).granule)
+in_global code global place =
+    places.Global global (place - 2 * (slice_index_or code.globals.items global no_global).granule)
 
 abbrev pub at : Where → CellAt
 at (places.Global global cell) = record { object = objects.Global global; cell = cell }
@@ -205,4 +207,5 @@ comes code n c found elements = placed n (site_of code c.origin) (told_of n c.ne
 -- this is what is coming of a machine at this instruction: it tells what the turn says, whatever its step finds
 abbrev pub IsComing : Code → Instr → Machine → Coming → Type 0
 IsComing code instr m c = (found : ℕ) (elements : ℕ → ℕ)
-    → comes code m.own.number c found (elements (spoken c.next found)) ≡ bare_of (said code instr m found (elements (speaks_of instr m found)))
+    → comes code m.own.number c found (elements (spoken c.next found))
+    ≡ bare_of (said code instr m found (elements (speaks_of instr m found)))

@@ -4,7 +4,8 @@ ghost use Rattle.std.specs.Prelude.{◌≡◌, ◌<◌, IfSome};
 ghost use Rattle.std.specs.Option.{option_map};
 ghost use Rattle.sharc_code.specs.declared.code.Code.{Code};
 ghost use Rattle.sharc_code.specs.Says.{started_with};
-ghost use Rattle.sharc_said.specs.Told.{shown, valued, value_of, new_told, nobody_told, seen_told, taken, tried, told_of, told, comes, spoken};
+ghost use Rattle.sharc_said.specs.Told.{shown, valued, value_of, new_told, nobody_told, seen_told, taken, tried};
+ghost use Rattle.sharc_said.specs.Told.{told_of, told, comes, spoken};
 
 use crate::cells::{Origin, Where};
 use crate::next::{Argument, Coming, Next};

@@ -11,7 +11,8 @@ use Rattle.sharc_schedule.specs.{Schedule.{places_of, counted_together}, declare
 -- no turn is a failed try
 abbrev pub AllCount : Code → Shape → List Turn → Type 0
 AllCount code s [] = Unit {0}
-AllCount code s (one ∷ earlier) = AllCount code s earlier × (counted (state_now (one_thread code s) (place_after code s earlier) one).at.state ≡ 1)
+AllCount code s (one ∷ earlier) =
+    AllCount code s earlier × (counted (state_now (one_thread code s) (place_after code s earlier) one).at.state ≡ 1)
 
 -- the run is there, and these are the places of its turns
 pub record GoesAt (code : Code) (s : Shape) (limit : ℕ) (turns : List Turn) (going : Going) : Type 0 where
@@ -24,7 +25,8 @@ abbrev pub IsGoing : Code → Shape → ℕ → Going → Type 0
 IsGoing code s limit going = (turns : List Turn) × GoesAt code s limit turns going
 
 -- one more turn, of this thread
-pub record OneMore (code : Code) (s : Shape) (limit t : ℕ) (turns : List Turn) (told : Bool) (going : Going) : Type 0 where
+pub record OneMore (code : Code) (s : Shape) (limit t : ℕ) (turns : List Turn) (told : Bool)
+    (going : Going) : Type 0 where
   pub one : Turn
   pub own : one.thread ≡ t
   pub told_is : told ≡ has_event one.event
@@ -79,8 +81,10 @@ pub record Stepped (code : Code) (s : Shape) (limit t : ℕ) (before turns : Lis
 -- this many times, the threads being these
 abbrev pub Followed : Code → Shape → ℕ → (ℕ → ℕ) → List Turn → ℕ → List Turn → Type 0
 Followed code s limit pick first zero turns = turns ≡ first
-Followed code s limit pick first (suc n) turns = (before : List Turn) × Followed code s limit pick first n before × Stepped code s limit (pick n) before turns
+Followed code s limit pick first (suc n) turns =
+    (before : List Turn) × Followed code s limit pick first n before × Stepped code s limit (pick n) before turns
 
 -- the thread of the event at a place of a journal
 abbrev pub thread_at : List WordEvent → ℕ → ℕ
-thread_at journal i = (slice_index_or journal i record { thread = 0; step = record { word = 0; op = Load }; result = 0 }).thread
+thread_at journal i =
+    (slice_index_or journal i record { thread = 0; step = record { word = 0; op = Load }; result = 0 }).thread

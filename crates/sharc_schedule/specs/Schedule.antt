@@ -1,5 +1,7 @@
--- The schedule of a run: its turns in the order of its word operations, without failed tries, each as a place among the enabled threads.
-use Rattle.std.specs.Prelude.{ℕ, zero, suc, ◌≡◌, Bool, true, false, nat_eq, nat_lt, List, [], ◌∷◌, ◌++◌, Option, Some, None, replicate, slice_index, if◌then◌else◌}
+-- The schedule of a run: its turns in the order of its word operations, without failed tries, each as a place among the
+-- enabled threads.
+use Rattle.std.specs.Prelude.{ℕ, zero, suc, ◌≡◌, Bool, true, false, nat_eq, nat_lt, List, [], ◌∷◌, ◌++◌, Option, Some}
+use Rattle.std.specs.Prelude.{None, replicate, slice_index, if◌then◌else◌}
 use Rattle.sharc_word.specs.{declared.step.WordEvent.WordEvent, declared.step.TheConstants.THREADS}
 use Rattle.sharc_code.specs.{declared.code.Code.Code, declared.shape.Shape.Shape, declared.state.State.State}
 use Rattle.sharc_code.specs.{declared.state.State.TheVariants.{Runs, Tries, Stopped, Ended}, Runs.{Turn, state_now}}
@@ -20,7 +22,8 @@ abbrev pub firm_by : Option WordEvent → Turn → List Turn → List Turn → L
 firm_by None turn before rest = rest
 firm_by (Some event) turn before rest = turn ∷ (before ++ rest)
 
--- the word operations of the run in their order, directly before each the turns that its thread made since its word operation before
+-- the word operations of the run in their order, directly before each the turns that its thread made since its word
+-- operation before
 abbrev pub firm : List Turn → List Turn
 firm [] = []
 firm (turn ∷ earlier) = firm_by turn.event turn (loose turn.thread earlier) (firm earlier)
@@ -44,7 +47,8 @@ is_try Ended = false
 abbrev pub without_tries : Code → Shape → List Turn → List Turn
 without_tries code s [] = []
 without_tries code s (turn ∷ earlier) =
-    if is_try (state_now (one_thread code s) (place_after code s earlier) turn).at.state then without_tries code s earlier
+    if is_try (state_now (one_thread code s) (place_after code s earlier) turn).at.state
+    then without_tries code s earlier
     else turn ∷ without_tries code s earlier
 
 -- the turns of a schedule, the newest first
@@ -60,12 +64,14 @@ place_in t (other ∷ more) = if nat_eq t other then 0 else suc (place_in t more
 -- the place of the thread of each turn among those that were enabled, the earliest turn first
 abbrev pub places_of : Code → Shape → ℕ → List Turn → List ℕ
 places_of code s limit [] = []
-places_of code s limit (turn ∷ earlier) = places_of code s limit earlier ++ place_in turn.thread (enabled code s limit (place_after code s earlier)) ∷ []
+places_of code s limit (turn ∷ earlier) =
+    places_of code s limit earlier ++ place_in turn.thread (enabled code s limit (place_after code s earlier)) ∷ []
 
 -- equal neighbours counted together
 abbrev pub counted_in : ℕ → List (ℕ × ℕ) → List (ℕ × ℕ)
 counted_in place [] = (place, 1) ∷ []
-counted_in place (first ∷ more) = if nat_eq place first.0 then (first.0, suc first.1) ∷ more else (place, 1) ∷ first ∷ more
+counted_in place (first ∷ more) =
+    if nat_eq place first.0 then (first.0, suc first.1) ∷ more else (place, 1) ∷ first ∷ more
 
 abbrev pub counted_together : List ℕ → List (ℕ × ℕ)
 counted_together [] = []

@@ -10,8 +10,10 @@ use std::alloc::AllocError;
 /// An `Err` says that memory was not found.
 pub(crate) fn count(places: &mut Vec<(u32, u32)>, place: u32, turns: u32) -> Result<(), AllocError>
     requires some { 0 < turns }
-    requires room { (i : ℕ) (d : ℕ × ℕ) → i < length places.old.items → (slice_index_or places.old.items i d).1 + turns < 4294967296 }
-    ensures { OnOk result ((before : List ℕ) → places.old.items ≡ counted_together before → places.new.items ≡ counted_together (before ++ replicate turns place)) }
+    requires room { (i : ℕ) (d : ℕ × ℕ) → i < length places.old.items
+        → (slice_index_or places.old.items i d).1 + turns < 4294967296 }
+    ensures { OnOk result ((before : List ℕ) → places.old.items ≡ counted_together before
+        → places.new.items ≡ counted_together (before ++ replicate turns place)) }
 {
     let n = places.len();
     if n > 0 && places[n - 1].0 == place {

@@ -43,7 +43,9 @@ fn one_if(enabled: bool) -> u32
 fn place_of(walk: &Walk, limit: u64, t: u8) -> u32
     requires low { t < threads }
     requires walk { (code : Code) × (s : Shape) × IsWalk code s walk.now }
-    ensures { (code : Code) (s : Shape) (turns : List Turn) → s.threads ≡ threads → StandsAt code s turns walk.now → is_enabled code s limit (place_after code s turns) t ≡ true → result ≡ place_in t (enabled code s limit (place_after code s turns)) }
+    ensures { (code : Code) (s : Shape) (turns : List Turn) → s.threads ≡ threads → StandsAt code s turns walk.now
+        → is_enabled code s limit (place_after code s turns) t ≡ true
+        → result ≡ place_in t (enabled code s limit (place_after code s turns)) }
 {
     let mut place = 0;
     for n in 0..t {
@@ -55,7 +57,8 @@ fn place_of(walk: &Walk, limit: u64, t: u8) -> u32
 }
 
 impl Going {
-    // Makes one turn of the thread, which is enabled and has this place, writes the place, and answers whether it made a word operation.
+    // Makes one turn of the thread, which is enabled and has this place, writes the place, and answers whether it made
+    // a word operation.
     fn turn(
         &mut self,
         alloc: Global,
@@ -69,8 +72,10 @@ impl Going {
         requires limit { limit ≤ 100000000 }
         requires going { IsGoing code.now shape.now limit self.old }
         requires may { MayGoOn code.now shape.now limit t self.old.walk }
-        requires place { (turns : List Turn) → StandsAt code.now shape.now turns self.old.walk → place ≡ place_in t (enabled code.now shape.now limit (place_after code.now shape.now turns)) }
-        ensures went { IfOk result (λ told. (turns : List Turn) → GoesAt code.now shape.now limit turns self.old → OneMore code.now shape.now limit t turns told self.new) }
+        requires place { (turns : List Turn) → StandsAt code.now shape.now turns self.old.walk
+            → place ≡ place_in t (enabled code.now shape.now limit (place_after code.now shape.now turns)) }
+        ensures went { IfOk result (λ told. (turns : List Turn) → GoesAt code.now shape.now limit turns self.old
+            → OneMore code.now shape.now limit t turns told self.new) }
         ensures less { IfOk result (λ told. events_left limit self.new.walk < events_left limit self.old.walk) }
     {
         fits_law(code, shape);
@@ -100,8 +105,10 @@ impl Going {
         requires limit { limit ≤ 100000000 }
         requires going { IsGoing code.now shape.now limit self.old }
         requires may { MayGoOn code.now shape.now limit t self.old.walk }
-        requires place { (turns : List Turn) → StandsAt code.now shape.now turns self.old.walk → place ≡ place_in t (enabled code.now shape.now limit (place_after code.now shape.now turns)) }
-        ensures went { IfOk result (λ made. (turns : List Turn) → GoesAt code.now shape.now limit turns self.old → Hurried code.now shape.now limit t turns made self.new) }
+        requires place { (turns : List Turn) → StandsAt code.now shape.now turns self.old.walk
+            → place ≡ place_in t (enabled code.now shape.now limit (place_after code.now shape.now turns)) }
+        ensures went { IfOk result (λ made. (turns : List Turn) → GoesAt code.now shape.now limit turns self.old
+            → Hurried code.now shape.now limit t turns made self.new) }
         ensures left { IfOk result (λ made. events_left limit self.new.walk + made ≤ events_left limit self.old.walk) }
     {
         fits_law(code, shape);
@@ -133,8 +140,10 @@ impl Going {
         requires going { IsGoing code.now shape.now limit self.old }
         requires low { t < threads }
         requires may { MayGoOn code.now shape.now limit t self.old.walk }
-        requires place { (turns : List Turn) → StandsAt code.now shape.now turns self.old.walk → place ≡ place_in t (enabled code.now shape.now limit (place_after code.now shape.now turns)) }
-        ensures went { IfOk result (λ on. (turns : List Turn) → GoesAt code.now shape.now limit turns self.old → HurriedOn code.now shape.now limit t turns on self.new) }
+        requires place { (turns : List Turn) → StandsAt code.now shape.now turns self.old.walk
+            → place ≡ place_in t (enabled code.now shape.now limit (place_after code.now shape.now turns)) }
+        ensures went { IfOk result (λ on. (turns : List Turn) → GoesAt code.now shape.now limit turns self.old
+            → HurriedOn code.now shape.now limit t turns on self.new) }
         ensures left { IfOk result (λ on. events_left limit self.new.walk ≤ events_left limit self.old.walk) }
     {
         fits_law(code, shape);
@@ -153,8 +162,8 @@ impl Going {
         }
     }
 
-    // Makes turns of the thread until one has made a word operation, or until the thread is not enabled. Its place stays the same up to
-    // there, since only a word operation changes who else is enabled.
+    // Makes turns of the thread until one has made a word operation, or until the thread is not enabled. Its place
+    // stays the same up to there, since only a word operation changes who else is enabled.
     fn reach(
         &mut self,
         alloc: Global,
@@ -171,7 +180,8 @@ impl Going {
         requires limit { limit ≤ 100000000 }
         requires going { IsGoing code.now shape.now limit self.old }
         requires low { t < threads }
-        ensures { OnOk result ((turns : List Turn) → GoesAt code.now shape.now limit turns self.old → Reached code.now shape.now limit t turns self.new) }
+        ensures { OnOk result ((turns : List Turn) → GoesAt code.now shape.now limit turns self.old
+            → Reached code.now shape.now limit t turns self.new) }
     {
         fits_law(code, shape);
         run_laws();
@@ -199,8 +209,8 @@ impl Going {
     }
 }
 
-/// The schedule of the run whose word events these are: for each event the thread that made it makes turns until one has made a word
-/// operation, or until it waits, and then each thread makes those that are left to it.
+/// The schedule of the run whose word events these are: for each event the thread that made it makes turns until one
+/// has made a word operation, or until it waits, and then each thread makes those that are left to it.
 ///
 /// An `Err` says that memory was not found.
 pub fn make_places(
@@ -215,7 +225,8 @@ pub fn make_places(
     requires fits { Fits code.now shape.now }
     requires limit { limit ≤ 100000000 }
     requires run { (turns : List Turn) × IsJournalOf code.now shape.now limit journal.now turns }
-    ensures { IfOk result (λ places. (turns : List Turn) → IsJournalOf code.now shape.now limit journal.now turns → places ≡ schedule_of code.now shape.now limit turns) }
+    ensures { IfOk result (λ places. (turns : List Turn) → IsJournalOf code.now shape.now limit journal.now turns
+        → places ≡ schedule_of code.now shape.now limit turns) }
 {
     fits_law(code, shape);
     run_laws();

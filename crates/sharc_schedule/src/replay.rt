@@ -16,7 +16,8 @@ use std::alloc::{AllocError, Global};
 pub fn ends_of(alloc: Global, places: &[(u32, u32)]) -> Result<Vec<u64>, AllocError>
     requires { length places.now ≤ 1073741824 }
     ensures count { IfOk result (λ ends. length ends.items ≡ length places.now) }
-    ensures each { IfOk result (λ ends. (k : ℕ) → k < length places.now → get_or ends.items k 0 ≡ total (take (k + 1) places.now)) }
+    ensures each { IfOk result (λ ends. (k : ℕ) → k < length places.now
+        → get_or ends.items k 0 ≡ total (take (k + 1) places.now)) }
 {
     let mut ends = Vec::with_capacity(alloc, places.len())?;
     let mut end = 0u64;
@@ -51,8 +52,8 @@ pub fn place_at(places: &[(u32, u32)], ends: &[u64], turn: u64, count: u64) -> u
     }
 }
 
-/// Runs the code by a schedule: turn `i` is made by the thread at the place that is written for it, if there is one and it is below the
-/// number of threads that are enabled, and else by the first.
+/// Runs the code by a schedule: turn `i` is made by the thread at the place that is written for it, if there is one and
+/// it is below the number of threads that are enabled, and else by the first.
 ///
 /// An `Err` says that memory was not found.
 pub fn run_schedule(

@@ -7,7 +7,8 @@ use Rattle.sharc_seq.specs.Run.{enabled}
 
 -- where none is listed none is enabled
 abbrev pub NoneIsEnabled : Type 0
-NoneIsEnabled = (code : Code) (s : Shape) (limit : ℕ) (g : Standing) → s.threads ≡ THREADS → ((t : ℕ) → g.started t ≡ true → t < THREADS) → enabled code s limit g ≡ []
+NoneIsEnabled = (code : Code) (s : Shape) (limit : ℕ) (g : Standing) → s.threads ≡ THREADS
+    → ((t : ℕ) → g.started t ≡ true → t < THREADS) → enabled code s limit g ≡ []
     → (t : ℕ) → is_enabled code s limit g t ≡ false
 
 -- each that is listed is enabled, and has a number that threads have
@@ -16,7 +17,8 @@ pub record IsEnabledThread (code : Code) (s : Shape) (limit : ℕ) (g : Standing
   pub yes : is_enabled code s limit g t ≡ true
 
 abbrev pub ListedAreEnabled : Type 0
-ListedAreEnabled = (code : Code) (s : Shape) (limit : ℕ) (g : Standing) (place : ℕ) → place < length (enabled code s limit g)
+ListedAreEnabled = (code : Code) (s : Shape) (limit : ℕ) (g : Standing) (place : ℕ)
+    → place < length (enabled code s limit g)
     → IsEnabledThread code s limit g (slice_index (enabled code s limit g) place)
 
 pub record EnabledLaws : Type 0 where

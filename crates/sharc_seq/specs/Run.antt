@@ -22,7 +22,8 @@ pub record IsChosen (answers : ℕ → ℕ → ℕ → Type 0) (number : ℕ) (a
 abbrev pub AreChosen : (ℕ → ℕ → ℕ → Type 0) → Code → Shape → ℕ → List Turn → Type 0
 AreChosen answers code s limit [] = Unit {0}
 AreChosen answers code s limit (turn ∷ earlier) =
-    AreChosen answers code s limit earlier × IsChosen answers (length earlier) (enabled code s limit (place_after code s earlier)) turn.thread
+    AreChosen answers code s limit earlier
+    × IsChosen answers (length earlier) (enabled code s limit (place_after code s earlier)) turn.thread
 
 -- ---- a whole run
 -- a checked run whose turns were chosen, and which ends where no thread is enabled

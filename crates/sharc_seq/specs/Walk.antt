@@ -1,5 +1,6 @@
 -- Runs of which the caller picks each turn: where such a run is, and what one more turn makes of it.
-use Rattle.std.specs.Prelude.{ℕ, ◌≡◌, ◌<◌, ◌≤◌, ◌+◌, Bool, true, false, List, [], ◌∷◌, ◌++◌, length, filter, is_some, Option, Some, None, slice_index_or}
+use Rattle.std.specs.Prelude.{ℕ, ◌≡◌, ◌<◌, ◌≤◌, ◌+◌, Bool, true, false, List, [], ◌∷◌, ◌++◌, length, filter, is_some}
+use Rattle.std.specs.Prelude.{Option, Some, None, slice_index_or}
 use Rattle.std.specs.List.{range_with_len}
 use Rattle.sharc_word.specs.{Place.{LeadsInWords, place_of_words}, declared.step.WordEvent.WordEvent}
 use Rattle.sharc_word.specs.{declared.step.WordStep.WordStep, declared.step.TheConstants.THREADS}
@@ -18,7 +19,8 @@ pub record MadeTurn (code : Code) (s : Shape) (words now : List ℕ) (old new : 
   pub found : ℕ
   pub machine : new.machine ≡ after (turn code s old.machine) found
   pub number : new.machine.own.number ≡ old.machine.own.number
-  pub led : TurnLeads LeadsInWords old.machine.own.number (turn code s old.machine) found (place_of_words words) (place_of_words now)
+  pub led : TurnLeads LeadsInWords old.machine.own.number (turn code s old.machine) found
+      (place_of_words words) (place_of_words now)
   pub count : length now ≡ length words
   pub event : counted new.machine.at.state ≡ 1
   pub made : new.made ≡ old.made + 1
@@ -38,7 +40,8 @@ IsThreadAt code s None = Unit {0}
 IsThreadAt code s (Some thread) = IsThread code s thread
 
 abbrev pub MadeTurnAt : Code → Shape → List ℕ → List ℕ → Option ThreadView → Option ThreadView → Option ℕ → Type 0
-MadeTurnAt code s words now (Some old) (Some new) begins = MadeTurn code s words now old new × (begins ≡ begins_of old.machine.own.stage)
+MadeTurnAt code s words now (Some old) (Some new) begins =
+    MadeTurn code s words now old new × (begins ≡ begins_of old.machine.own.stage)
 MadeTurnAt code s words now (Some old) None begins = ⊥
 MadeTurnAt code s words now None new begins = ⊥
 
@@ -56,13 +59,15 @@ FoundAt code s words None found = ⊥
 abbrev pub numbers_of : List (Option ThreadView) → List ℕ
 numbers_of seats = filter (λ t. is_some (slice_index_or seats t None)) (range_with_len 0 THREADS)
 
-pub record HaveBegun (code : Code) (s : Shape) (words : List ℕ) (old new : List (Option ThreadView)) (started : List ℕ) : Type 0 where
+pub record HaveBegun (code : Code) (s : Shape) (words : List ℕ) (old new : List (Option ThreadView))
+    (started : List ℕ) : Type 0 where
   pub count : length new ≡ length old
   pub each : (t : ℕ) → t < THREADS → HasBegun code s words t (slice_index_or old t None) (slice_index_or new t None)
   pub numbers : started ≡ numbers_of new
 
 -- where the turn starts no thread all is as it was; else the threads whose state words are 1 are there from now on
-abbrev pub Began : Code → Shape → List ℕ → Option ℕ → List (Option ThreadView) → List (Option ThreadView) → List ℕ → List ℕ → Type 0
+abbrev pub Began : Code → Shape → List ℕ → Option ℕ → List (Option ThreadView) → List (Option ThreadView) → List ℕ
+    → List ℕ → Type 0
 Began code s words None old new before started = (new ≡ old) × (started ≡ before)
 Began code s words (Some n) old new before started = HaveBegun code s words old new started
 
@@ -72,7 +77,8 @@ pub record StandsAt (code : Code) (s : Shape) (turns : List Turn) (walk : Walk) 
   pub count : length walk.port.port ≡ words_of s
   pub run : IsRun bounds (one_thread code s) (opening_of bounds (one_thread code s) (opening_words code s)) turns
   pub words : walk.port.port ≡ (place_after code s turns).words
-  pub seats : AreSeats code s (place_after code s turns).threads (place_after code s turns).made (place_after code s turns).started walk.threads.seats.items
+  pub seats : AreSeats code s (place_after code s turns).threads (place_after code s turns).made
+      (place_after code s turns).started walk.threads.seats.items
   pub numbers : walk.started.items ≡ numbers_of walk.threads.seats.items
 
 abbrev pub IsWalk : Code → Shape → Walk → Type 0
@@ -80,13 +86,16 @@ IsWalk code s walk = (turns : List Turn) × StandsAt code s turns walk
 
 -- the thread of this number is there as this, if it was started
 abbrev pub IsThreadThere : Code → Shape → List Turn → ℕ → Option ThreadView → Type 0
-IsThreadThere code s turns t seat = IsSeat code s (place_after code s turns).threads (place_after code s turns).made (place_after code s turns).started t seat
+IsThreadThere code s turns t seat = IsSeat code s (place_after code s turns).threads (place_after code s turns).made
+    (place_after code s turns).started t seat
 
 -- and this thread is enabled there
 abbrev pub MayGoOn : Code → Shape → ℕ → ℕ → Walk → Type 0
-MayGoOn code s limit t walk = (turns : List Turn) × StandsAt code s turns walk × (is_enabled code s limit (place_after code s turns) t ≡ true)
+MayGoOn code s limit t walk =
+    (turns : List Turn) × StandsAt code s turns walk × (is_enabled code s limit (place_after code s turns) t ≡ true)
 
--- the run has one more turn, of this thread. It is no failed try, and it is known whether it has a word operation, and what that found, else 0
+-- the run has one more turn, of this thread. It is no failed try, and it is known whether it has a word operation, and
+-- what that found, else 0
 pub record WentOn (code : Code) (s : Shape) (t : ℕ) (turns : List Turn) (told : Bool) (walk : Walk) : Type 0 where
   pub one : Turn
   pub own : one.thread ≡ t
@@ -97,7 +106,8 @@ pub record WentOn (code : Code) (s : Shape) (t : ℕ) (turns : List Turn) (told 
 
 -- ---- turns without a word operation
 -- a thread made so many, and the words are as they were
-pub record MadeQuietly (code : Code) (s : Shape) (limit : ℕ) (words now : List ℕ) (old new : ThreadView) (made : ℕ) : Type 0 where
+pub record MadeQuietly (code : Code) (s : Shape) (limit : ℕ) (words now : List ℕ) (old new : ThreadView)
+    (made : ℕ) : Type 0 where
   pub thread : IsThread code s new
   pub quiet : MakesQuietly code s old.machine made
   pub founds : List ℕ
@@ -124,10 +134,12 @@ pub record IsQuietTurn (code : Code) (s : Shape) (limit t : ℕ) (turns : List T
 
 abbrev pub AreQuietTurns : Code → Shape → ℕ → ℕ → List Turn → List Turn → Type 0
 AreQuietTurns code s limit t turns [] = Unit {0}
-AreQuietTurns code s limit t turns (one ∷ more) = AreQuietTurns code s limit t turns more × IsQuietTurn code s limit t (more ++ turns) one
+AreQuietTurns code s limit t turns (one ∷ more) =
+    AreQuietTurns code s limit t turns more × IsQuietTurn code s limit t (more ++ turns) one
 
 -- the run has so many such turns more
-pub record WentQuietly (code : Code) (s : Shape) (limit t : ℕ) (turns : List Turn) (made : ℕ) (walk : Walk) : Type 0 where
+pub record WentQuietly (code : Code) (s : Shape) (limit t : ℕ) (turns : List Turn) (made : ℕ)
+    (walk : Walk) : Type 0 where
   pub more : List Turn
   pub many : length more ≡ made
   pub quiet : AreQuietTurns code s limit t turns more

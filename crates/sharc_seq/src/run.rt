@@ -21,8 +21,8 @@ use sharc_threads::{End, table_laws};
 use sharc_word::THREADS;
 use std::alloc::{AllocError, Global};
 
-/// A run that has ended: for each turn the number of the thread that made it, the words, the threads that were started in rising order
-/// of their numbers, and how it ended.
+/// A run that has ended: for each turn the number of the thread that made it, the words, the threads that were started
+/// in rising order of their numbers, and how it ended.
 #[derive(Drop)]
 pub struct SeqRun {
     pub schedule: Vec<u8>,
@@ -34,7 +34,8 @@ pub struct SeqRun {
 // The run that ended there.
 fn finish(alloc: Global, table: Table) -> Result<SeqRun, AllocError>
     requires { (t : ℕ) → has_number (slice_index_or table.walk.threads.seats.items t None) }
-    ensures { IfOk result (λ run. (code : Code) (s : Shape) (g : Standing) → s.threads ≡ threads → AreOf code s g table.walk.port.port table.walk.threads.seats.items → Ends code s g table.schedule.items run) }
+    ensures { IfOk result (λ run. (code : Code) (s : Shape) (g : Standing) → s.threads ≡ threads
+        → AreOf code s g table.walk.port.port table.walk.threads.seats.items → Ends code s g table.schedule.items run) }
 {
     table_laws();
     let Table { walk, schedule } = table;
@@ -53,9 +54,9 @@ fn finish(alloc: Global, table: Table) -> Result<SeqRun, AllocError>
     })
 }
 
-/// Runs the code: each turn is made by the thread at the place that the chooser answers for the number of the turn and for how many
-/// threads are enabled, these in rising order; a thread is enabled where it was started, is neither gone nor stopped, has made fewer events
-/// than `limit`, and does not wait. The run ends where none is.
+/// Runs the code: each turn is made by the thread at the place that the chooser answers for the number of the turn and
+/// for how many threads are enabled, these in rising order; a thread is enabled where it was started, is neither gone
+/// nor stopped, has made fewer events than `limit`, and does not wait. The run ends where none is.
 ///
 /// An `Err` says that memory was not found.
 pub fn run_seq<F: Fn(u64, u64) -> u64>(

@@ -48,9 +48,12 @@ impl Table {
         requires chooses { Chooses F.pre F.post chooser.now.f }
         requires limit { limit ≤ 100000000 }
         requires table { IsTable (F.post chooser.now.f) code.now shape.now limit self.old }
-        ensures table { IfOk result (λ more. more ≡ true → IsTable (F.post chooser.now.f) code.now shape.now limit self.new) }
-        ensures less { IfOk result (λ more. more ≡ true → events_left limit self.new.walk < events_left limit self.old.walk) }
-        ensures over { IfOk result (λ more. more ≡ false → IsOver (F.post chooser.now.f) code.now shape.now limit self.new) }
+        ensures table { IfOk result (λ more. more ≡ true
+            → IsTable (F.post chooser.now.f) code.now shape.now limit self.new) }
+        ensures less { IfOk result (λ more. more ≡ true
+            → events_left limit self.new.walk < events_left limit self.old.walk) }
+        ensures over { IfOk result (λ more. more ≡ false
+            → IsOver (F.post chooser.now.f) code.now shape.now limit self.new) }
     {
         fits_law(code, shape);
         self.walk.list_enabled(limit, among)?;

@@ -4,7 +4,8 @@ ghost use Rattle.std.specs.Prelude.{◌≡◌, ◌<◌, length};
 
 use sharc_word::{MemPort, Port, WordStep};
 
-/// Words for which one thread at a time makes steps, whether a step was made since this was last forgotten, and what the last one found, or 0.
+/// Words for which one thread at a time makes steps, whether a step was made since this was last forgotten, and what
+/// the last one found, or 0.
 #[derive(Drop)]
 pub(crate) struct ToldPort {
     pub(crate) port: MemPort,
@@ -32,7 +33,8 @@ impl Port for ToldPort {
     fn step(&mut self, step: WordStep) -> u64
         requires { step.word < length self.old.port }
         ensures count { length self.new.port ≡ length self.old.port }
-        ensures leads { (thread : ℕ) → Unit {0} → LeadsTold (place_told self.old.told self.old.found self.old.port) (event_of thread step result) (place_told self.new.told self.new.found self.new.port) }
+        ensures leads { (thread : ℕ) → Unit {0} → LeadsTold (place_told self.old.told self.old.found self.old.port)
+            (event_of thread step result) (place_told self.new.told self.new.found self.new.port) }
     {
         self.told = true;
         self.found = self.port.step(step);

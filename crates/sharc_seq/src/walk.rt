@@ -1,6 +1,7 @@
 //! A run whose turns the caller picks.
 
-ghost use Rattle.std.specs.Prelude.{◌≡◌, ◌<◌, ◌≤◌, ◌+◌, ℕ, [], None, true, List, length, filter, is_some, IfOk, OnOk, slice_index, slice_index_or};
+ghost use Rattle.std.specs.Prelude.{◌≡◌, ◌<◌, ◌≤◌, ◌+◌, ℕ, [], None, true, List, length, filter, is_some, IfOk, OnOk};
+ghost use Rattle.std.specs.Prelude.{slice_index, slice_index_or};
 ghost use Rattle.std.specs.Option.{option_copied};
 ghost use Rattle.std.specs.List.{range_with_len};
 ghost use Rattle.sharc_word.specs.declared.step.TheConstants.{THREADS as threads};
@@ -14,7 +15,8 @@ ghost use Rattle.sharc_threads.specs.Ends.{is_enabled};
 ghost use Rattle.sharc_threads.specs.Seats.{has_number, may_turn_at};
 ghost use Rattle.sharc_seq.specs.Run.{enabled};
 ghost use Rattle.sharc_seq.specs.Quiet.{IsQuiet};
-ghost use Rattle.sharc_seq.specs.Walk.{Began, HaveBegun, StandsAt, IsWalk, IsThreadThere, MayGoOn, WentOn, WentQuietly, events_left};
+ghost use Rattle.sharc_seq.specs.Walk.{Began, HaveBegun, StandsAt, IsWalk, IsThreadThere, MayGoOn, WentOn, WentQuietly};
+ghost use Rattle.sharc_seq.specs.Walk.{events_left};
 
 use crate::quiet::Quiet;
 use crate::told::ToldPort;
@@ -25,7 +27,8 @@ use sharc_threads::{ThreadTable, may_turn_at, table_laws};
 use sharc_word::{MemPort, THREADS};
 use std::alloc::{AllocError, Global};
 
-/// A run of which the caller picks each turn: its threads, the numbers of those that were started in rising order, and the words.
+/// A run of which the caller picks each turn: its threads, the numbers of those that were started in rising order, and
+/// the words.
 #[derive(Drop)]
 pub struct Walk {
     pub(crate) threads: ThreadTable,
@@ -36,7 +39,8 @@ pub struct Walk {
 // Lists the numbers of the threads that were started, in rising order.
 fn list_started(table: &ThreadTable, started: &mut Vec<u8>) -> Result<(), AllocError>
     requires { length table.now.seats.items ≡ threads }
-    ensures { OnOk result (started.new.items ≡ filter (λ t. is_some (slice_index_or table.now.seats.items t None)) (range_with_len 0 threads)) }
+    ensures { OnOk result (started.new.items
+        ≡ filter (λ t. is_some (slice_index_or table.now.seats.items t None)) (range_with_len 0 threads)) }
 {
     started.clear();
     for number in 0..table.seats.len() {
@@ -56,8 +60,10 @@ fn collect(
     among: &mut Vec<u8>,
 ) -> Result<(), AllocError>
     requires numbers { (t : ℕ) → has_number (slice_index_or table.now.seats.items t None) }
-    requires within { (i : ℕ) → i < length started.now.items → slice_index started.now.items i < length table.now.seats.items }
-    ensures { OnOk result (among.new.items ≡ filter (λ t. may_turn_at words.now limit (slice_index_or table.now.seats.items t None)) started.now.items) }
+    requires within { (i : ℕ) → i < length started.now.items
+        → slice_index started.now.items i < length table.now.seats.items }
+    ensures { OnOk result (among.new.items
+        ≡ filter (λ t. may_turn_at words.now limit (slice_index_or table.now.seats.items t None)) started.now.items) }
 {
     among.clear();
     for index in 0..started.len() {
@@ -80,7 +86,8 @@ fn begin_all(
 ) -> Result<(), AllocError>
     requires fits { Fits code.now shape.now }
     requires count { length table.old.seats.items ≡ threads }
-    ensures { OnOk result (HaveBegun code.now shape.now words.now table.old.seats.items table.new.seats.items started.new.items) }
+    ensures { OnOk result
+        (HaveBegun code.now shape.now words.now table.old.seats.items table.new.seats.items started.new.items) }
 {
     table.begin(alloc, code, shape, words)?;
     list_started(table, started)?;
@@ -99,7 +106,8 @@ fn begin(
 ) -> Result<(), AllocError>
     requires fits { Fits code.now shape.now }
     requires count { length table.old.seats.items ≡ threads }
-    ensures { OnOk result (Began code.now shape.now words.now begins table.old.seats.items table.new.seats.items started.old.items started.new.items) }
+    ensures { OnOk result (Began code.now shape.now words.now begins table.old.seats.items table.new.seats.items
+        started.old.items started.new.items) }
 {
     match begins {
         None => Ok(()),
@@ -136,7 +144,8 @@ impl Walk {
     pub fn thread(&self, number: u8) -> Option<&Thread>
         requires number { number < threads }
         requires walk { (code : Code) × (s : Shape) × IsWalk code s self.now }
-        ensures { (code : Code) (s : Shape) (turns : List Turn) → StandsAt code s turns self.now → IsThreadThere code s turns number (option_copied result) }
+        ensures { (code : Code) (s : Shape) (turns : List Turn) → StandsAt code s turns self.now
+            → IsThreadThere code s turns number (option_copied result) }
     {
         self.threads.seats[number as usize].as_ref()
     }
@@ -152,7 +161,8 @@ impl Walk {
     pub fn may_turn(&self, number: u8, limit: u64) -> bool
         requires number { number < threads }
         requires walk { (code : Code) × (s : Shape) × IsWalk code s self.now }
-        ensures { (code : Code) (s : Shape) (turns : List Turn) → StandsAt code s turns self.now → result ≡ is_enabled code s limit (place_after code s turns) number }
+        ensures { (code : Code) (s : Shape) (turns : List Turn) → StandsAt code s turns self.now
+            → result ≡ is_enabled code s limit (place_after code s turns) number }
     {
         table_laws();
         may_turn_at(
@@ -167,7 +177,8 @@ impl Walk {
     /// An `Err` says that memory was not found.
     pub fn list_enabled(&self, limit: u64, among: &mut Vec<u8>) -> Result<(), AllocError>
         requires { (code : Code) × (s : Shape) × IsWalk code s self.now }
-        ensures { OnOk result ((code : Code) (s : Shape) (turns : List Turn) → s.threads ≡ threads → StandsAt code s turns self.now → among.new.items ≡ enabled code s limit (place_after code s turns)) }
+        ensures { OnOk result ((code : Code) (s : Shape) (turns : List Turn) → s.threads ≡ threads
+            → StandsAt code s turns self.now → among.new.items ≡ enabled code s limit (place_after code s turns)) }
     {
         table_laws();
         let words = self.port.port.words();
@@ -189,7 +200,8 @@ impl Walk {
         requires fits { Fits code.now shape.now }
         requires limit { limit ≤ 100000000 }
         requires may { MayGoOn code.now shape.now limit number self.old }
-        ensures went { IfOk result (λ told. (turns : List Turn) → StandsAt code.now shape.now turns self.old → WentOn code.now shape.now number turns told self.new) }
+        ensures went { IfOk result (λ told. (turns : List Turn) → StandsAt code.now shape.now turns self.old
+            → WentOn code.now shape.now number turns told self.new) }
         ensures less { IfOk result (λ told. events_left limit self.new < events_left limit self.old) }
     {
         fits_law(code, shape);
@@ -231,7 +243,8 @@ impl Walk {
         requires fits { Fits code.now shape.now }
         requires limit { limit ≤ 100000000 }
         requires may { MayGoOn code.now shape.now limit number self.old }
-        ensures went { (turns : List Turn) → StandsAt code.now shape.now turns self.old → WentQuietly code.now shape.now limit number turns result self.new }
+        ensures went { (turns : List Turn) → StandsAt code.now shape.now turns self.old
+            → WentQuietly code.now shape.now limit number turns result self.new }
         ensures few { result ≤ limit }
         ensures left { events_left limit self.new + result ≤ events_left limit self.old }
     {

@@ -1,5 +1,6 @@
 -- A table of notes by granule and kind, with the granules in the order of their first notes.
-use Rattle.std.specs.Prelude.{◌≡◌, ◌≢◌, ℕ, ◌^◌, ◌<◌, ◌≤◌, ◌==◌, ◌++◌, [], ◌∷◌, Bool, true, List, Option, Some, None, length, slice_index_or, Contains, AllPairs, count_by, if◌then◌else◌}
+use Rattle.std.specs.Prelude.{◌≡◌, ◌≢◌, ℕ, ◌^◌, ◌<◌, ◌≤◌, ◌==◌, ◌++◌, [], ◌∷◌, Bool, true, List, Option, Some, None}
+use Rattle.std.specs.Prelude.{length, slice_index_or, Contains, AllPairs, count_by, if◌then◌else◌}
 use Rattle.sharc_shadow.specs.{declared.shadow_word.Kind.Kind, declared.access_table.Note.Note}
 use Rattle.sharc_shadow.specs.{declared.access_table.GranuleNotes.GranuleNotes, Notes.{blank, of_kind, has_note}}
 
@@ -21,7 +22,8 @@ abbrev pub site_at : Option Note → ℕ → Option ℕ
 site_at None epoch = None
 site_at (Some note) epoch = if note.epoch == epoch then Some note.site else None
 
--- the granule and kind have this note, everything else stays, and a granule with no earlier note comes last in the order
+-- the granule and kind have this note, everything else stays, and a granule with no earlier note comes last in the
+-- order
 pub record NotesAccess (old new : Accesses) (granule : ℕ) (kind : Kind) (note : Note) : Type 0 where
   pub at : note_of new granule kind ≡ Some note
   pub other_kind : (k : Kind) → k ≢ kind → note_of new granule k ≡ note_of old granule k

@@ -1,5 +1,6 @@
 -- A shadow word by what it holds: the set of the threads whose bit is set, the written bit and the epoch.
-use Rattle.std.specs.Prelude.{◌≡◌, ◌≢◌, ℕ, ◌+◌, ◌/◌, ◌%◌, ◌^◌, ◌<◌, ◌==◌, ◌||◌, ◌&&◌, Bool, true, false, not, nat_lt, Option, Some, None}
+use Rattle.std.specs.Prelude.{◌≡◌, ◌≢◌, ℕ, ◌+◌, ◌/◌, ◌%◌, ◌^◌, ◌<◌, ◌==◌, ◌||◌, ◌&&◌, Bool, true, false, not, nat_lt}
+use Rattle.std.specs.Prelude.{Option, Some, None}
 use Rattle.std.specs.Int.{bit_at}
 use Rattle.sharc_word.specs.declared.step.TheConstants.{THREADS}
 use Rattle.sharc_shadow.specs.{declared.shadow_word.Kind.Kind, declared.shadow_word.Kind.TheVariants.{Read, Write}}
@@ -45,7 +46,8 @@ pub record IsOther (word thread other : ℕ) : Type 0 where
 abbrev pub HasOther : ℕ → ℕ → Type 0
 HasOther word thread = (other : ℕ) × IsOther word thread other
 
--- a write conflicts with every other thread; a read does where the word is written, and not by this thread in this epoch
+-- a write conflicts with every other thread; a read does where the word is written, and not by this thread in this
+-- epoch
 abbrev pub Conflicts : ℕ → ℕ → Kind → Option ℕ → Type 0
 Conflicts old thread Write wrote = HasOther old thread
 Conflicts old thread Read wrote = HasOther old thread × (is_written old ≡ true) × (is_of wrote (epoch_of old) ≡ false)

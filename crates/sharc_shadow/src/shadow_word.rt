@@ -1,8 +1,9 @@
-//! The shadow word of a granule: bit 0 is the written bit, bit `1 + k` that of thread `k`, and the bits from 32 on are the
-//! epoch.
+//! The shadow word of a granule: bit 0 is the written bit, bit `1 + k` that of thread `k`, and the bits from 32 on are
+//! the epoch.
 
 ghost use Rattle.std.specs.Prelude.{◌≡◌, ℕ, ◌+◌, ◌^◌, ◌<◌, ◌==◌, ◌↔◌, IsTrue, IfSome, IfNone, IsNone, is_some, bit_or};
-ghost use Rattle.sharc_shadow.specs.ShadowWord.{epoch_of, is_written, stands, HasOther, AddsAccess, HasBits, Conflicts, IsFirstOther, Clears, Withdraws, is_of};
+ghost use Rattle.sharc_shadow.specs.ShadowWord.{epoch_of, is_written, stands, HasOther, AddsAccess, HasBits, Conflicts};
+ghost use Rattle.sharc_shadow.specs.ShadowWord.{IsFirstOther, Clears, Withdraws, is_of};
 ghost use Rattle.sharc_shadow.specs.Functions.{bits_of, cleared_of, withdrawn_of, lowest_other, conflicts_in, first_in};
 ghost use Rattle.sharc_shadow.specs.Others.{AreOthers};
 
@@ -20,8 +21,8 @@ const WRITTEN: u64 = 1;
 
 const ALL_THREADS: u64 = 0xffff_fffe;
 
-/// The bits that a check of this kind by this thread sets: that of the thread, and for a write the written bit too. An `Or`
-/// of them adds exactly that.
+/// The bits that a check of this kind by this thread sets: that of the thread, and for a write the written bit too. An
+/// `Or` of them adds exactly that.
 #[tactic(auto, unfolding(crate::specs::Functions::bits_of))]
 pub fn bits(thread: u32, kind: Kind) -> u64
     requires { thread < THREADS }
@@ -42,9 +43,9 @@ pub fn epoch(old: u64) -> u32
     (old >> 32) as u32
 }
 
-/// Whether a check conflicts with the accesses that the word shows, where the check found `old`, and `wrote` is the epoch of
-/// the thread's own note of kind write on the granule (the SharC paper; SharC's own in that a thread which wrote in this epoch may
-/// read, since every other bit that is set is then that of a refused check).
+/// Whether a check conflicts with the accesses that the word shows, where the check found `old`, and `wrote` is the
+/// epoch of the thread's own note of kind write on the granule (the SharC paper; SharC's own in that a thread which
+/// wrote in this epoch may read, since every other bit that is set is then that of a refused check).
 #[tactic(auto, unfolding(crate::specs::Functions::conflicts_in))]
 pub fn conflicts(old: u64, thread: u32, kind: Kind, wrote: Option<u32>) -> bool
     requires { thread < THREADS }
@@ -79,8 +80,8 @@ pub fn cleared(old: u64) -> u64
     u64::from(epoch(old).wrapping_add(1)) << 32
 }
 
-/// The word after a thread has withdrawn: without its bit, and without the written bit too where the thread wrote in this
-/// epoch, that is, where `wrote` is the epoch of the word.
+/// The word after a thread has withdrawn: without its bit, and without the written bit too where the thread wrote in
+/// this epoch, that is, where `wrote` is the epoch of the word.
 pub fn withdrawn(old: u64, thread: u32, wrote: Option<u32>) -> u64
     requires { thread < THREADS }
     ensures withdraws { Withdraws old result thread wrote }

@@ -1,4 +1,5 @@
--- What the front end makes of a source: the program that it is, with the least assignment of modes, or the reason why it is refused.
+-- What the front end makes of a source: the program that it is, with the least assignment of modes, or the reason why
+-- it is refused.
 use Rattle.std.specs.Prelude.{◌≡◌, ℕ, List, Result, Ok, Err}
 use Rattle.sharc_tree.specs.{declared.token.FaultAt.FaultAt, declared.token.Tokens.Tokens, Tree.Program}
 use Rattle.sharc_lex.specs.Grammar.{reading}

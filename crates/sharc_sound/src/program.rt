@@ -55,8 +55,8 @@ fn typed(alloc: Global, source: &[u8]) -> Result<Typed, Refusal>
     }
 }
 
-/// The program that a source is, with the least assignment of modes and with what threads reach in it, or the first fault of the first stage that has
-/// one.
+/// The program that a source is, with the least assignment of modes and with what threads reach in it, or the first
+/// fault of the first stage that has one.
 pub fn front(alloc: Global, source: &[u8]) -> Result<ReachedProgram, Refusal>
     requires { length source.now ≤ 1_048_576 }
     ensures { Fronts source.now result }

@@ -1,4 +1,5 @@
--- Codes that are the same to the machine, and whose globals and sites say the same in the same words, wherever their texts are.
+-- Codes that are the same to the machine, and whose globals and sites say the same in the same words, wherever their
+-- texts are.
 use Rattle.std.specs.Prelude.{ℕ, ◌≡◌, map}
 use Rattle.sharc_code.specs.{declared.code.Code.Code, declared.code.Function.Function}
 use Rattle.sharc_code.specs.{declared.code.SourcePlace.SourcePlace, Says.place_at}

@@ -14,7 +14,8 @@ use Rattle.sharc_sound_laws.specs.Alike.{AreAlike}
 
 -- a run by a schedule of one is a run of the other, with the same text and outcome
 abbrev pub RunsAreAlike : Type 0
-RunsAreAlike = (a b : Code) → AreAlike a b → (s : Shape) (places : List (ℕ × ℕ)) (limit : ℕ) (ran : Ran) → IsScheduledRun a s places limit ran → IsScheduledRun b s places limit ran
+RunsAreAlike = (a b : Code) → AreAlike a b → (s : Shape) (places : List (ℕ × ℕ)) (limit : ℕ) (ran : Ran)
+    → IsScheduledRun a s places limit ran → IsScheduledRun b s places limit ran
 
 -- these turns are such a run of the other, which tells the same source events
 pub record TellsTheSame (a b : Code) (s : Shape) (places : List (ℕ × ℕ)) (limit : ℕ) (turns : List Turn) : Type 0 where
@@ -25,7 +26,8 @@ pub record TellsTheSame (a b : Code) (s : Shape) (places : List (ℕ × ℕ)) (l
 
 -- so it is of each run by a schedule of one
 abbrev pub HistoriesAreAlike : Type 0
-HistoriesAreAlike = (a b : Code) → AreAlike a b → (s : Shape) (places : List (ℕ × ℕ)) (limit : ℕ) (turns : List Turn) → CheckedRun a s turns → AreChosen (Stored places) a s limit turns
+HistoriesAreAlike = (a b : Code) → AreAlike a b → (s : Shape) (places : List (ℕ × ℕ)) (limit : ℕ) (turns : List Turn)
+    → CheckedRun a s turns → AreChosen (Stored places) a s limit turns
     → ((t : ℕ) → is_enabled a s limit (place_after a s turns) t ≡ false) → TellsTheSame a b s places limit turns
 
 -- All codes to which a typed program is compiled are alike.

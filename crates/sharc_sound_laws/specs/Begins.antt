@@ -14,7 +14,9 @@ use Rattle.sharc_history_laws.specs.Stores.{BeginsWith}
 
 -- a number in a token has no sign, so no global begins at one that has
 abbrev pub AreUnsigned : Resolution → Type 0
-AreUnsigned r = (g : ℕ) (d : GlobalDefinition) → global_at r g ≡ Some d → (span : Span) (minus : Bool) (k : Number) → d.form ≡ Initial span minus (constants.Number k) → (n : ℕ) × (k.value ≡ pos n)
+AreUnsigned r = (g : ℕ) (d : GlobalDefinition) → global_at r g ≡ Some d → (span : Span) (minus : Bool) (k : Number)
+    → d.form ≡ Initial span minus (constants.Number k) → (n : ℕ) × (k.value ≡ pos n)
 
 abbrev pub MadeCodeBegins : Type 0
-MadeCodeBegins = (m : Assignment) → IsResolved m.typed → AreUnsigned m.typed → (flat : FlatCode) → Flattens m flat → (code : Code) → IsCodeOf flat code → BeginsWith m.typed code
+MadeCodeBegins = (m : Assignment) → IsResolved m.typed → AreUnsigned m.typed → (flat : FlatCode) → Flattens m flat
+    → (code : Code) → IsCodeOf flat code → BeginsWith m.typed code

@@ -8,5 +8,7 @@ use Rattle.sharc_sound_laws.specs.Sound.{KeepsTo}
 
 -- every checked run, by threads in any order, keeps to the program that the source is
 abbrev pub BuiltIsSoundIfTyped : Type 0
-BuiltIsSoundIfTyped = (source : List ℕ) (built : Built) → IsBuilt source built → (x : Targets) (ls : Labels) → IsWellTyped x built.code ls
-    → (s : Shape) → Fits built.code s → (run : List Turn) → CheckedRun built.code s run → KeepsTo built.checked (history_of built.code s run)
+BuiltIsSoundIfTyped = (source : List ℕ) (built : Built) → IsBuilt source built
+    → (x : Targets) (ls : Labels) → IsWellTyped x built.code ls
+    → (s : Shape) → Fits built.code s
+    → (run : List Turn) → CheckedRun built.code s run → KeepsTo built.checked (history_of built.code s run)

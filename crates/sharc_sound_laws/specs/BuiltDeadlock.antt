@@ -6,4 +6,6 @@ use Rattle.sharc_sound_laws.specs.Deadlock.{IsDeadlock}
 
 -- no event of a thread that was not stopped extends its events to a source run
 abbrev pub BuiltStuckIsDeadlock : Type 0
-BuiltStuckIsDeadlock = (source : List ℕ) (built : Built) → IsBuilt source built → (s : Shape) → Fits built.code s → (run : List Turn) → CheckedRun built.code s run → Stuck built.code s run → IsDeadlock built.checked built.code s run
+BuiltStuckIsDeadlock = (source : List ℕ) (built : Built) → IsBuilt source built → (s : Shape) → Fits built.code s
+    → (run : List Turn) → CheckedRun built.code s run → Stuck built.code s run
+    → IsDeadlock built.checked built.code s run

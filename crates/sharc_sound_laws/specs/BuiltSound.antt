@@ -7,4 +7,5 @@ use Rattle.sharc_sound_laws.specs.Sound.{KeepsTo}
 
 -- every checked run, by threads in any order, keeps to the program that the source is
 abbrev pub BuiltIsSound : Type 0
-BuiltIsSound = (source : List ℕ) (built : Built) → IsBuilt source built → (s : Shape) → Fits built.code s → (run : List Turn) → CheckedRun built.code s run → KeepsTo built.checked (history_of built.code s run)
+BuiltIsSound = (source : List ℕ) (built : Built) → IsBuilt source built → (s : Shape) → Fits built.code s
+    → (run : List Turn) → CheckedRun built.code s run → KeepsTo built.checked (history_of built.code s run)

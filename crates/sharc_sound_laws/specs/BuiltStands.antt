@@ -8,5 +8,7 @@ use Rattle.sharc_sound_laws.specs.StandStands.{Stands}
 
 -- the code is typed, and so it is of every checked run, by threads in any order
 abbrev pub BuiltRunsStand : Type 0
-BuiltRunsStand = (source : List ℕ) (built : Built) → IsBuilt source built → (ls : Labels) × IsWellTyped (targets_of built.checked) built.code ls
-    × ((s : Shape) → Fits built.code s → (run : List Turn) → CheckedRun built.code s run → Stands built.checked (targets_of built.checked) built.code s ls run)
+BuiltRunsStand = (source : List ℕ) (built : Built) → IsBuilt source built
+    → (ls : Labels) × IsWellTyped (targets_of built.checked) built.code ls
+    × ((s : Shape) → Fits built.code s → (run : List Turn) → CheckedRun built.code s run
+    → Stands built.checked (targets_of built.checked) built.code s ls run)

@@ -10,13 +10,18 @@ use Rattle.sharc_history_laws.specs.{Causes.ShowsCause, Followed.ChecksAreFollow
 use Rattle.sharc_run_text.specs.{declared.other.Access.Access, Others.other_access}
 
 -- the report names another access, and that one is the cause
-pub record NamesCause (code : Code) (s : Shape) (run : List Turn) (threads : List ThreadView) (t : ℕ) (c : ConflictAt) : Type 0 where
+pub record NamesCause (code : Code) (s : Shape) (run : List Turn) (threads : List ThreadView) (t : ℕ)
+    (c : ConflictAt) : Type 0 where
   pub other : Access
   pub is : other_access c threads t ≡ Some other
   pub cause : ShowsCause code s run t c other.thread other.kind other.site
 
--- Of each thread that has stopped at the check of an access, and the started threads as they stand at the end of the run.
+-- Of each thread that has stopped at the check of an access, and the started threads as they stand at the end of the
+-- run.
 abbrev pub OthersAreCauses : Type 0
-OthersAreCauses = (x : Targets) (code : Code) (s : Shape) (ls : Labels) → IsWellTyped x code ls → Fits code s → IsSmall code s → ChecksAreFollowed code
-    → (run : List Turn) → CheckedRun code s run → (threads : List ThreadView) → AreStarted code s (place_after code s run) threads
-    → (t : ℕ) (c : ConflictAt) → ((place_after code s run).threads t).own.stop ≡ Some (Conflict c) → NamesCause code s run threads t c
+OthersAreCauses = (x : Targets) (code : Code) (s : Shape) (ls : Labels) → IsWellTyped x code ls → Fits code s
+    → IsSmall code s → ChecksAreFollowed code
+    → (run : List Turn) → CheckedRun code s run
+    → (threads : List ThreadView) → AreStarted code s (place_after code s run) threads
+    → (t : ℕ) (c : ConflictAt) → ((place_after code s run).threads t).own.stop ≡ Some (Conflict c)
+    → NamesCause code s run threads t c

@@ -17,13 +17,18 @@ use Rattle.sharc_sound_laws.specs.Begins.{AreUnsigned}
 
 -- no event of a thread that was not stopped extends the events of the run to a source run
 abbrev pub IsDeadlock : Assignment → Code → Shape → List Turn → Type 0
-IsDeadlock m code s run = (e : SourceEvent) → ((place_after code s run).threads e.thread).at.state ≢ Stopped → SourceRun m (history_of code s run ++ e ∷ []) → ⊥
+IsDeadlock m code s run = (e : SourceEvent) → ((place_after code s run).threads e.thread).at.state ≢ Stopped
+    → SourceRun m (history_of code s run ++ e ∷ []) → ⊥
 
 abbrev pub StuckIsDeadlockIfTyped : Type 0
-StuckIsDeadlockIfTyped = (m : Assignment) → IsTypedProgram m → AreUnsigned m.typed → (flat : FlatCode) → Flattens m flat → FitsMade (flat_of flat) → (code : Code) → IsCodeOf flat code
-    → (x : Targets) (ls : Labels) → IsWellTyped x code ls → (s : Shape) → Fits code s → IsSmall code s → (run : List Turn) → CheckedRun code s run → Stuck code s run → IsDeadlock m code s run
+StuckIsDeadlockIfTyped = (m : Assignment) → IsTypedProgram m → AreUnsigned m.typed
+    → (flat : FlatCode) → Flattens m flat → FitsMade (flat_of flat) → (code : Code) → IsCodeOf flat code
+    → (x : Targets) (ls : Labels) → IsWellTyped x code ls → (s : Shape) → Fits code s → IsSmall code s
+    → (run : List Turn) → CheckedRun code s run → Stuck code s run → IsDeadlock m code s run
 
 -- so it is of the code that is built of a source
 abbrev pub BuiltStuckIsDeadlockIfTyped : Type 0
-BuiltStuckIsDeadlockIfTyped = (source : List ℕ) (built : Built) → IsBuilt source built → (x : Targets) (ls : Labels) → IsWellTyped x built.code ls
-    → (s : Shape) → Fits built.code s → (run : List Turn) → CheckedRun built.code s run → Stuck built.code s run → IsDeadlock built.checked built.code s run
+BuiltStuckIsDeadlockIfTyped = (source : List ℕ) (built : Built) → IsBuilt source built
+    → (x : Targets) (ls : Labels) → IsWellTyped x built.code ls
+    → (s : Shape) → Fits built.code s → (run : List Turn) → CheckedRun built.code s run → Stuck built.code s run
+    → IsDeadlock built.checked built.code s run

@@ -8,10 +8,10 @@ use Rattle.sharc_compile_laws.specs.{Paths.{PathsTell, ThreadsTellInRuns}, Start
 use Rattle.sharc_sound.specs.{Compiled.IsCompiled, Front.IsFront}
 use Rattle.sharc_build.specs.{declared.building.Built.Built, Built.IsBuilt}
 
--- Where the results of a path of a thread are consistent, the thread reports what the program asks for, stops where that
--- stops, or wants what is refused, at its site, and keeps the pace; so does each thread of a checked run, in any
--- interleaving. Where those of all threads of a run are, the events of each thread among those of all are what the program
--- asks for. All of this is said of a function that may be started, as `main` and what is spawned are.
+-- Where the results of a path of a thread are consistent, the thread reports what the program asks for, stops where
+-- that stops, or wants what is refused, at its site, and keeps the pace; so does each thread of a checked run, in any
+-- interleaving. Where those of all threads of a run are, the events of each thread among those of all are what the
+-- program asks for. All of this is said of a function that may be started, as `main` and what is spawned are.
 pub record IsFaithful (m : Assignment) (code : Code) : Type 0 where
   pub paths : PathsTell m code
   pub threads : ThreadsTellInRuns m code
@@ -20,7 +20,8 @@ pub record IsFaithful (m : Assignment) (code : Code) : Type 0 where
 
 -- So is the code that a source is compiled to, if its modes are accepted,
 abbrev pub CompiledIsFaithful : Type 0
-CompiledIsFaithful = (source : List ℕ) (m : Assignment) (code : Code) → IsFront source m → MeetsRules m → IsCompiled m code → IsFaithful m code
+CompiledIsFaithful = (source : List ℕ) (m : Assignment) (code : Code) → IsFront source m → MeetsRules m
+    → IsCompiled m code → IsFaithful m code
 
 -- as what `build` answers is.
 abbrev pub BuiltIsFaithful : Type 0

@@ -11,6 +11,8 @@ pub record IsSameAsked (w e : SourceEvent) : Type 0 where
 
 -- behind as many events as there are answers before it
 abbrev pub OneIsNext : Type 0
-OneIsNext = (m : Assignment) (f : ℕ) (argument : ℤ) (answers : List ℤ) (a b : ℤ) (fuel more : ℕ) (told other : List SourceEvent) (w e : SourceEvent)
+OneIsNext = (m : Assignment) (f : ℕ) (argument : ℤ) (answers : List ℤ) (a b : ℤ) (fuel more : ℕ)
+    (told other : List SourceEvent) (w e : SourceEvent)
     → (asks m f argument (answers ++ a ∷ []) fuel).events ≡ told ++ w ∷ [] → length told ≡ length answers
-    → (asks m f argument (answers ++ b ∷ []) more).events ≡ other ++ e ∷ [] → length other ≡ length answers → IsSameAsked w e
+    → (asks m f argument (answers ++ b ∷ []) more).events ≡ other ++ e ∷ [] → length other ≡ length answers
+    → IsSameAsked w e

@@ -21,14 +21,19 @@ IsAccessReport _ = ⊥
 
 -- no thread has stopped so
 abbrev pub NoAccessReport : Code → Shape → List Turn → Type 0
-NoAccessReport code s run = (t : ℕ) (stop : Stop) → ((place_after code s run).threads t).own.stop ≡ Some stop → IsAccessReport stop → ⊥
+NoAccessReport code s run = (t : ℕ) (stop : Stop) → ((place_after code s run).threads t).own.stop ≡ Some stop
+    → IsAccessReport stop → ⊥
 
 -- in no checked run, by threads in any order, of the code of a program whose source runs all obey
 abbrev pub ObeyingIsUnreportedIfTyped : Type 0
-ObeyingIsUnreportedIfTyped = (m : Assignment) → IsTypedProgram m → AreUnsigned m.typed → (flat : FlatCode) → Flattens m flat → FitsMade (flat_of flat) → (code : Code) → IsCodeOf flat code
-    → (x : Targets) (ls : Labels) → IsWellTyped x code ls → AlwaysObeys m → (s : Shape) → Fits code s → IsSmall code s → (run : List Turn) → CheckedRun code s run → NoAccessReport code s run
+ObeyingIsUnreportedIfTyped = (m : Assignment) → IsTypedProgram m → AreUnsigned m.typed
+    → (flat : FlatCode) → Flattens m flat → FitsMade (flat_of flat) → (code : Code) → IsCodeOf flat code
+    → (x : Targets) (ls : Labels) → IsWellTyped x code ls → AlwaysObeys m → (s : Shape) → Fits code s → IsSmall code s
+    → (run : List Turn) → CheckedRun code s run → NoAccessReport code s run
 
 -- nor of the code that is built of a source
 abbrev pub BuiltObeyingIsUnreportedIfTyped : Type 0
-BuiltObeyingIsUnreportedIfTyped = (source : List ℕ) (built : Built) → IsBuilt source built → (x : Targets) (ls : Labels) → IsWellTyped x built.code ls → AlwaysObeys built.checked
-    → (s : Shape) → Fits built.code s → (run : List Turn) → CheckedRun built.code s run → NoAccessReport built.code s run
+BuiltObeyingIsUnreportedIfTyped = (source : List ℕ) (built : Built) → IsBuilt source built
+    → (x : Targets) (ls : Labels) → IsWellTyped x built.code ls → AlwaysObeys built.checked
+    → (s : Shape) → Fits built.code s
+    → (run : List Turn) → CheckedRun built.code s run → NoAccessReport built.code s run

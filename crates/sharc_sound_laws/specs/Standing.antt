@@ -21,8 +21,8 @@ pub record StandsAt (m : Assignment) (R : History) (thread : ℕ) (come : Asked)
   pub own : Follows m R fuel thread
   pub is : asks m own.function own.argument (answers_of (events_of thread own.after)) fuel ≡ come
 
--- There it wants what the instruction at the thread's place in the code is about, and what A1 to A4 refused, and has ended where the thread has; and it holds the
--- mutexes that the thread holds by its events of the run.
+-- There it wants what the instruction at the thread's place in the code is about, and what A1 to A4 refused, and has
+-- ended where the thread has; and it holds the mutexes that the thread holds by its events of the run.
 pub record IsPlaced (m : Assignment) (code : Code) (R : History) (thread : ℕ) (at : Machine) : Type 0 where
   pub come : Asked
   pub stands : StandsAt m R thread come
@@ -31,9 +31,12 @@ pub record IsPlaced (m : Assignment) (code : Code) (R : History) (thread : ℕ) 
   pub gone : at.at.state ≡ Ended → come.outcome ≡ ended
   pub mutexes : (mutex : CellAt) → holds_mutex (events_of thread R) mutex ≡ holds_mutex come.events mutex
 
--- so it is of each thread of every checked run of the code of a typed, well-moded program, if that code is typed; or the thread has made no event and is at the
--- code's first instruction
+-- so it is of each thread of every checked run of the code of a typed, well-moded program, if that code is typed; or
+-- the thread has made no event and is at the code's first instruction
 abbrev pub ThreadsStandIfTyped : Type 0
-ThreadsStandIfTyped = (m : Assignment) → IsTypedProgram m → (flat : FlatCode) → Flattens m flat → FitsMade (flat_of flat) → (code : Code) → IsCodeOf flat code
-    → (x : Targets) (ls : Labels) → IsWellTyped x code ls → (s : Shape) → Fits code s → IsSmall code s → (run : List Turn) → CheckedRun code s run → (thread : ℕ)
-    → let at = (place_after code s run).threads thread in IsNotThere (history_of code s run) thread at ⊎ IsPlaced m code (history_of code s run) thread at
+ThreadsStandIfTyped = (m : Assignment) → IsTypedProgram m
+    → (flat : FlatCode) → Flattens m flat → FitsMade (flat_of flat) → (code : Code) → IsCodeOf flat code
+    → (x : Targets) (ls : Labels) → IsWellTyped x code ls → (s : Shape) → Fits code s → IsSmall code s
+    → (run : List Turn) → CheckedRun code s run → (thread : ℕ)
+    → let at = (place_after code s run).threads thread in IsNotThere (history_of code s run) thread at
+    ⊎ IsPlaced m code (history_of code s run) thread at

@@ -5,4 +5,5 @@ use Rattle.sharc_accepted_laws.specs.Targets.{targets_of}
 use Rattle.sharc_build.specs.{declared.building.Built.Built, Built.IsBuilt}
 
 abbrev pub BuiltIsTyped : Type 0
-BuiltIsTyped = (source : List ℕ) (built : Built) → IsBuilt source built → (ls : Labels) × IsWellTyped (targets_of built.checked) built.code ls
+BuiltIsTyped = (source : List ℕ) (built : Built) → IsBuilt source built
+    → (ls : Labels) × IsWellTyped (targets_of built.checked) built.code ls

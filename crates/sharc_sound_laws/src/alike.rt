@@ -4,7 +4,8 @@ ghost use Rattle.sharc_sound_laws.specs.AlikeLaws.{RunsAreAlike, HistoriesAreAli
 
 use sharc_ctype_laws::laws::one_function_of_name;
 
-/// The run by a schedule of a code is that of each code that differs from it in nothing but where its texts are, with the same text and the same outcome.
+/// The run by a schedule of a code is that of each code that differs from it in nothing but where its texts are, with
+/// the same text and the same outcome.
 pub fn runs_are_alike()
     ensures { RunsAreAlike }
 {}

@@ -27,7 +27,8 @@ pub fn built_is_typed()
     accepted_law();
 }
 
-/// Every checked run of that code, by threads in any order, performs a run of the source without checks that keeps the rules of the modes.
+/// Every checked run of that code, by threads in any order, performs a run of the source without checks that keeps the
+/// rules of the modes.
 pub fn built_is_sound()
     ensures { BuiltIsSound }
 {
@@ -35,8 +36,8 @@ pub fn built_is_sound()
     built_is_sound_if_typed();
 }
 
-/// Where such a run is stuck the source is in a deadlock: no event of a thread that was not stopped extends the events of the run to a
-/// source run.
+/// Where such a run is stuck the source is in a deadlock: no event of a thread that was not stopped extends the events
+/// of the run to a source run.
 pub fn built_stuck_is_deadlock()
     ensures { BuiltStuckIsDeadlock }
 {
@@ -60,7 +61,8 @@ pub fn built_reports_show()
     built_reports_show_if_typed();
 }
 
-/// Where a cast or `free` was refused, and no other thread has a reference to its object in flight, the references of the history have another one than that which was tested.
+/// Where a cast or `free` was refused, and no other thread has a reference to its object in flight, the references of
+/// the history have another one than that which was tested.
 pub fn built_casts_show()
     ensures { BuiltCastsShow }
 {
@@ -72,8 +74,8 @@ pub fn built_casts_show()
     reports_show_cause();
 }
 
-/// And what stands of each such run beside: its threads tell what the program asks for and keep the pace, the machine invariant holds at each of its places, and
-/// what it reports is so.
+/// And what stands of each such run beside: its threads tell what the program asks for and keep the pace, the machine
+/// invariant holds at each of its places, and what it reports is so.
 pub fn built_runs_stand()
     ensures { BuiltRunsStand }
 {

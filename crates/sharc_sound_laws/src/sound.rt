@@ -42,16 +42,18 @@ pub fn built_is_faithful()
     compiled_is_faithful();
 }
 
-/// The globals of the code of a typed program hold at first what their definitions say, if the numbers at which they begin have no sign of their own.
+/// The globals of the code of a typed program hold at first what their definitions say, if the numbers at which they
+/// begin have no sign of their own.
 pub fn made_code_begins()
     ensures { MadeCodeBegins }
 {
     meets_globals();
 }
 
-/// The source events of every checked run of the code of a typed, well-moded program with its least assignment, if that code is typed, are a run of the source
-/// without checks: each thread asks for the events that are its own, after the Started with which main or an earlier Spawn began it, and each event may come
-/// after those before it. And they keep the rules of the modes.
+/// The source events of every checked run of the code of a typed, well-moded program with its least assignment, if that
+/// code is typed, are a run of the source without checks: each thread asks for the events that are its own, after the
+/// Started with which main or an earlier Spawn began it, and each event may come after those before it. And they keep
+/// the rules of the modes.
 pub fn sound_if_typed()
     ensures { SoundIfTyped }
 {
@@ -68,8 +70,9 @@ pub fn sound_if_typed()
     waiters_law();
 }
 
-/// Every checked run of the code that is built of a source, by threads in any order, if that code is typed, performs a run of the source without checks that
-/// keeps the rules of the modes: nothing else is asked of the source, the code or the run, and the shape is any that fits the code.
+/// Every checked run of the code that is built of a source, by threads in any order, if that code is typed, performs a
+/// run of the source without checks that keeps the rules of the modes: nothing else is asked of the source, the code or
+/// the run, and the shape is any that fits the code.
 pub fn built_is_sound_if_typed()
     ensures { BuiltIsSoundIfTyped }
 {
@@ -79,15 +82,17 @@ pub fn built_is_sound_if_typed()
     sound_if_typed();
 }
 
-/// What a thread of a program asks for next, behind as many events as it has answers, is one act at one place: neither the answer nor the fuel changes it.
+/// What a thread of a program asks for next, behind as many events as it has answers, is one act at one place: neither
+/// the answer nor the fuel changes it.
 pub fn one_is_next()
     ensures { OneIsNext }
 {
     ask_laws();
 }
 
-/// Each thread of every checked run of such code, if it is typed, has made no event and is at the code's first instruction, or stands in the source run: by its
-/// events it wants next what the instruction at its place is about, and what A1 to A4 refused, and has ended where the thread has.
+/// Each thread of every checked run of such code, if it is typed, has made no event and is at the code's first
+/// instruction, or stands in the source run: by its events it wants next what the instruction at its place is about,
+/// and what A1 to A4 refused, and has ended where the thread has.
 pub fn threads_stand_if_typed()
     ensures { ThreadsStandIfTyped }
 {
@@ -100,8 +105,9 @@ pub fn threads_stand_if_typed()
     thread_wants();
 }
 
-/// Where a checked run of such code is stuck, if the code is typed, the source is in a deadlock: no event of a thread that was not stopped extends the events of
-/// the run to a source run. What a thread waits for is what the source wants of it, and may not come; one that has ended or was not started asks for nothing.
+/// Where a checked run of such code is stuck, if the code is typed, the source is in a deadlock: no event of a thread
+/// that was not stopped extends the events of the run to a source run. What a thread waits for is what the source wants
+/// of it, and may not come; one that has ended or was not started asks for nothing.
 pub fn stuck_is_deadlock_if_typed()
     ensures { StuckIsDeadlockIfTyped }
 {
@@ -124,8 +130,9 @@ pub fn built_stuck_is_deadlock_if_typed()
     stuck_is_deadlock_if_typed();
 }
 
-/// Where every source run of the program obeys, an access counting until its thread is gone, no checked run of its code, by threads in any order, if that code is
-/// typed, has a report A1, A2 or A3: with the access that was refused, behind the other one where that is next, the source run would go on and not obey.
+/// Where every source run of the program obeys, an access counting until its thread is gone, no checked run of its
+/// code, by threads in any order, if that code is typed, has a report A1, A2 or A3: with the access that was refused,
+/// behind the other one where that is next, the source run would go on and not obey.
 pub fn obeying_is_unreported_if_typed()
     ensures { ObeyingIsUnreportedIfTyped }
 {
@@ -150,9 +157,10 @@ pub fn built_obeying_is_unreported_if_typed()
     obeying_is_unreported_if_typed();
 }
 
-/// Each report of every checked run of such code, by threads in any order, if the code is typed, shows its cause: A1 and A2 the other access, A3 that the thread
-/// does not hold the mutex which the mode of the access names, A4 that another reference is there; and by the events of the run the thread of the source wants
-/// next what was refused, at the site of the report.
+/// Each report of every checked run of such code, by threads in any order, if the code is typed, shows its cause: A1
+/// and A2 the other access, A3 that the thread does not hold the mutex which the mode of the access names, A4 that
+/// another reference is there; and by the events of the run the thread of the source wants next what was refused, at
+/// the site of the report.
 pub fn reports_show_if_typed()
     ensures { ReportsShowIfTyped }
 {

@@ -16,8 +16,9 @@ pub fn made_is_followed()
     sharc_wants_laws::followed_law();
 }
 
-/// Of each checked run of the code of a typed, well-moded program with its least assignment, if that code is typed: each thread tells what the program asks for and keeps the
-/// pace; the machine invariant holds at each place that the run comes to; and what A1 to A4 report is so, and has its cause.
+/// Of each checked run of the code of a typed, well-moded program with its least assignment, if that code is typed:
+/// each thread tells what the program asks for and keeps the pace; the machine invariant holds at each place that the
+/// run comes to; and what A1 to A4 report is so, and has its cause.
 pub fn typed_runs_stand()
     ensures { TypedRunsStand }
 {

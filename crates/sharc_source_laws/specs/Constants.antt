@@ -2,7 +2,11 @@
 use Rattle.std.specs.Prelude.{◌≡◌, ℕ, true, false, List, Option, Some, None, Ok, slice_get, Contains}
 use Rattle.sharc_tree.specs.{declared.token.Span.Span, declared.token.Tokens.Tokens}
 use Rattle.sharc_tree.specs.{declared.tree.expression.Constant.Constant, Measures.in_function}
-use Rattle.sharc_tree.specs.Tree.{Program, Expression, identifier, constant, parentheses, call, spawn, on_value, on_place, cast, index, field, unary, binary, Arguments, no_arguments, argument, Right, value, malloc, Simple, assign, does_call, First, nothing, declares, does, Head, Statement, empty, block, declare, simple, jump, return, if_then, if_then_else, while, for, Statements, no_statements, statement, Function}
+use Rattle.sharc_tree.specs.Tree.{Program, Expression, identifier, constant, parentheses, call, spawn, on_value}
+use Rattle.sharc_tree.specs.Tree.{on_place, cast, index, field, unary, binary, Arguments, no_arguments, argument, Right}
+use Rattle.sharc_tree.specs.Tree.{value, malloc, Simple, assign, does_call, First, nothing, declares, does, Head}
+use Rattle.sharc_tree.specs.Tree.{Statement, empty, block, declare, simple, jump, return, if_then, if_then_else, while}
+use Rattle.sharc_tree.specs.Tree.{for, Statements, no_statements, statement, Function}
 use Rattle.sharc_lex.specs.Grammar.{reading}
 use Rattle.sharc_grammar.specs.Places.{Reads}
 use Rattle.sharc_ctype.specs.{Expressions.constant_kind, Resolved.functions_in}
@@ -80,8 +84,11 @@ abbrev mutual
 
 -- as the lexer types numbers and characters (C11 6.4.4.1, 6.4.4.4)
 abbrev pub ConstantsAreHeld : Type 0
-ConstantsAreHeld = (source : List ℕ) (tokens : Tokens) (p : Program) → reading source ≡ Ok tokens → Reads tokens p → (n : ℕ) (f : Function) → slice_get (functions_in p.items) n ≡ Some f → HeldInStatements f.statements
+ConstantsAreHeld = (source : List ℕ) (tokens : Tokens) (p : Program) → reading source ≡ Ok tokens → Reads tokens p
+    → (n : ℕ) (f : Function) → slice_get (functions_in p.items) n ≡ Some f → HeldInStatements f.statements
 
 -- each of them among the expressions of a function
 abbrev pub EachConstantIsHeld : Type 0
-EachConstantIsHeld = (source : List ℕ) (tokens : Tokens) (p : Program) → reading source ≡ Ok tokens → Reads tokens p → (f : Function) → Contains (functions_in p.items) f → (s : Span) (k : Constant) → Contains (in_function f) (constant s k) → IsHeld k
+EachConstantIsHeld = (source : List ℕ) (tokens : Tokens) (p : Program) → reading source ≡ Ok tokens → Reads tokens p
+    → (f : Function) → Contains (functions_in p.items) f
+    → (s : Span) (k : Constant) → Contains (in_function f) (constant s k) → IsHeld k

@@ -11,7 +11,8 @@ use Rattle.sharc_recorded.specs.File.{HoldsNoSchedule}
 
 -- no newline of a program is followed by the word that begins the schedule in a recorded file
 abbrev pub ProgramsHoldNoSchedule : Type 0
-ProgramsHoldNoSchedule = (source : List ℕ) (tokens : Tokens) (p : Program) → reading source ≡ Ok tokens → Reads tokens p → HoldsNoSchedule source
+ProgramsHoldNoSchedule = (source : List ℕ) (tokens : Tokens) (p : Program) → reading source ≡ Ok tokens → Reads tokens p
+    → HoldsNoSchedule source
 
 -- no newline of the source is followed by the word that begins the events in an event file
 abbrev pub HoldsNoEvents : List ℕ → Type 0
@@ -19,9 +20,12 @@ HoldsNoEvents source = (before after : List ℕ) → source ≢ before ++ 10 ∷
 
 -- nor is any of a program
 abbrev pub ProgramsHoldNoEvents : Type 0
-ProgramsHoldNoEvents = (source : List ℕ) (tokens : Tokens) (p : Program) → reading source ≡ Ok tokens → Reads tokens p → HoldsNoEvents source
+ProgramsHoldNoEvents = (source : List ℕ) (tokens : Tokens) (p : Program) → reading source ≡ Ok tokens → Reads tokens p
+    → HoldsNoEvents source
 
 -- a number in a token has no sign of its own, so none at which a global of a program begins has one
 abbrev pub NumbersHaveNoSign : Type 0
 NumbersHaveNoSign = (source : List ℕ) (tokens : Tokens) (p : Program) → reading source ≡ Ok tokens → Reads tokens p
-    → (g : ℕ) (d : GlobalDefinition) → slice_get (globals_in p.items) g ≡ Some d → (span : Span) (minus : Bool) (k : Number) → d.form ≡ Initial span minus (constants.Number k) → (n : ℕ) × (k.value ≡ pos n)
+    → (g : ℕ) (d : GlobalDefinition) → slice_get (globals_in p.items) g ≡ Some d
+    → (span : Span) (minus : Bool) (k : Number) → d.form ≡ Initial span minus (constants.Number k)
+    → (n : ℕ) × (k.value ≡ pos n)

@@ -3,7 +3,8 @@
 ghost use Rattle.sharc_source_laws.specs.Constants.{ConstantsAreHeld, EachConstantIsHeld};
 ghost use Rattle.sharc_source_laws.specs.Laws.{NumbersHaveNoSign, ProgramsHoldNoEvents, ProgramsHoldNoSchedule};
 
-/// No newline of a program is followed by `%%schedule `: so a recorded file of a program ends it where the schedule begins.
+/// No newline of a program is followed by `%%schedule `: so a recorded file of a program ends it where the schedule
+/// begins.
 pub fn programs_hold_no_schedule()
     ensures { ProgramsHoldNoSchedule }
 {}
@@ -13,12 +14,14 @@ pub fn programs_hold_no_events()
     ensures { ProgramsHoldNoEvents }
 {}
 
-/// No number at which a global of a program begins has a sign of its own: its minus, if there is one, is a token before it.
+/// No number at which a global of a program begins has a sign of its own: its minus, if there is one, is a token before
+/// it.
 pub fn numbers_have_no_sign()
     ensures { NumbersHaveNoSign }
 {}
 
-/// The type of each number and of each character in the functions of a program holds its value, as the lexer types them (C11 6.4.4.1, 6.4.4.4).
+/// The type of each number and of each character in the functions of a program holds its value, as the lexer types them
+/// (C11 6.4.4.1, 6.4.4.4).
 pub fn constants_are_held()
     ensures { ConstantsAreHeld }
 {}

@@ -1,7 +1,10 @@
 -- What is given to what: each value that is passed, assigned or returned, or initialises a local, in source order.
 use Rattle.std.specs.Prelude.{ℕ, zero, suc, List, [], ◌∷◌, ◌++◌, drop, Option, Some, None}
 use Rattle.sharc_tree.specs.declared.tree.declaration.Declaration.{Declaration}
-use Rattle.sharc_tree.specs.Tree.{Expression, identifier, constant, parentheses, call, spawn, on_value, on_place, cast, index, field, unary, binary, Arguments, no_arguments, argument, Right, value, malloc, Simple, assign, does_call, Local, First, nothing, declares, does, Head, Statement, Statements, no_statements, statement, Item, structure, global, function}
+use Rattle.sharc_tree.specs.Tree.{Expression, identifier, constant, parentheses, call, spawn, on_value, on_place, cast}
+use Rattle.sharc_tree.specs.Tree.{index, field, unary, binary, Arguments, no_arguments, argument, Right, value, malloc}
+use Rattle.sharc_tree.specs.Tree.{Simple, assign, does_call, Local, First, nothing, declares, does, Head, Statement}
+use Rattle.sharc_tree.specs.Tree.{Statements, no_statements, statement, Item, structure, global, function}
 use Rattle.sharc_tree.specs.Tree as tree
 use Rattle.sharc_names.specs.Names.{Entry}
 use Rattle.sharc_ctype.specs.{Resolved.named_at, Transfers.parameters_named}
@@ -9,8 +12,8 @@ use Rattle.sharc_mode.specs.{Expressions.expected, Moded.Assignment, Rows.{writt
 use Rattle.sharc_mode.specs.Sharings.{Sharing}
 use Rattle.sharc_suggest.specs.Repairs.{entry_of}
 
--- what receives it: a local or the result of a function, given by the token of its name; a left side; or, at a call of the function that a token names, with these arguments, the
--- parameter of this number
+-- what receives it: a local or the result of a function, given by the token of its name; a left side; or, at a call of
+-- the function that a token names, with these arguments, the parameter of this number
 pub data Receiver : Type 0 where
   of_declared : ℕ → Receiver
   of_left : Expression → Receiver
@@ -78,7 +81,8 @@ abbrev mutual
   givings scope (constant s k) = []
   givings scope (parentheses s a) = givings scope a
   givings scope (call s f all) = all_givings scope f.site.token all zero all
-  givings scope (spawn s f a) = givings scope a ++ one_giving scope (of_parameter f.site.token (argument a no_arguments) zero) a
+  givings scope (spawn s f a) =
+      givings scope a ++ one_giving scope (of_parameter f.site.token (argument a no_arguments) zero) a
   givings scope (on_value s w a) = givings scope a
   givings scope (on_place s w a) = givings scope a
   givings scope (cast s t a) = givings scope a
@@ -90,7 +94,8 @@ abbrev mutual
   -- of the arguments that are left, the first of which has this number
   pub all_givings : List Entry → ℕ → Arguments → ℕ → Arguments → List Giving
   all_givings scope f all k no_arguments = []
-  all_givings scope f all k (argument a rest) = givings scope a ++ one_giving scope (of_parameter f all k) a ++ all_givings scope f all (suc k) rest
+  all_givings scope f all k (argument a rest) =
+      givings scope a ++ one_giving scope (of_parameter f all k) a ++ all_givings scope f all (suc k) rest
 
 abbrev pub option_givings : {A : Type 0} → (A → List Giving) → Option A → List Giving
 option_givings f None = []
@@ -108,7 +113,8 @@ simple_givings scope (assign s u x) = givings scope u ++ right_givings scope (of
 simple_givings scope (does_call e) = givings scope e
 
 abbrev pub local_givings : List Entry → Local → List Giving
-local_givings scope l = option_givings (right_givings (entry_of l.declaration ∷ scope) (of_declared l.declaration.name.site.token)) l.initial
+local_givings scope l = option_givings
+    (right_givings (entry_of l.declaration ∷ scope) (of_declared l.declaration.name.site.token)) l.initial
 
 abbrev pub first_givings : List Entry → First → List Giving
 first_givings scope nothing = []
@@ -116,7 +122,8 @@ first_givings scope (declares l) = local_givings scope l
 first_givings scope (does x) = simple_givings scope x
 
 abbrev pub head_givings : List Entry → Head → List Giving
-head_givings scope h = first_givings scope h.first ++ option_givings (givings (behind_first scope h.first)) h.test ++ option_givings (simple_givings (behind_first scope h.first)) h.step
+head_givings scope h = first_givings scope h.first ++ option_givings (givings (behind_first scope h.first)) h.test
+    ++ option_givings (simple_givings (behind_first scope h.first)) h.step
 
 -- in the function whose name is this token
 abbrev mutual

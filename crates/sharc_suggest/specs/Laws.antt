@@ -9,7 +9,8 @@ OneAnswer = (m : Assignment) (e : ModeError) (a b : Option Cast) → IsSuggested
 
 -- and what is suggested for a list is what is suggested for each
 abbrev pub EachAnswered : Type 0
-EachAnswered = (m : Assignment) (errors : List ModeError) (answer : List (Option Cast)) (each : ModeError → Option Cast) → ((e : ModeError) → IsSuggested m e (each e)) → AreSuggested m errors answer
+EachAnswered = (m : Assignment) (errors : List ModeError) (answer : List (Option Cast)) (each : ModeError → Option Cast)
+    → ((e : ModeError) → IsSuggested m e (each e)) → AreSuggested m errors answer
     → answer ≡ map each errors
 
 pub record SuggestLaws : Type 0 where

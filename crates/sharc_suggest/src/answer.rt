@@ -89,8 +89,8 @@ fn all_found(
     Ok(answer)
 }
 
-/// Beside each of the errors of a program the cast that would repair it, if one is suggested. It takes one pass over the program. `named` is what `check`
-/// answers beside the errors.
+/// Beside each of the errors of a program the cast that would repair it, if one is suggested. It takes one pass over
+/// the program. `named` is what `check` answers beside the errors.
 pub fn suggest_all(
     alloc: Global,
     program: &Moded,

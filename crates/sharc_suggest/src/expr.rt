@@ -29,7 +29,8 @@ pub(crate) fn expression(
     expr: &Expr,
     casts: &mut Vec<Cast>,
 ) -> Result<(), AllocError>
-    ensures { OnOk result (casts.new.items ≡ casts.old.items ++ suggested_in known.entry.moded.now (told known.entry.named.now) (givings scope.now (view_expr expr.now))) }
+    ensures { OnOk result (casts.new.items ≡ casts.old.items
+        ++ suggested_in known.entry.moded.now (told known.entry.named.now) (givings scope.now (view_expr expr.now))) }
 {
     match expr {
         Expr::Identifier(_, _) => Ok(()),
@@ -75,7 +76,10 @@ pub(crate) fn value(
     casts: &mut Vec<Cast>,
 ) -> Result<(), AllocError>
     requires { EndsWithin known.moded.now.typed want }
-    ensures { (r : Receiver) → wanted known.entry.moded.now r ≡ option_map (modes_of known.entry.moded.now) (view_rows want.entry) → OnOk result (casts.new.items ≡ casts.old.items ++ suggested_in known.entry.moded.now (told known.entry.named.now) (value_givings scope.now r (view_expr expr.now))) }
+    ensures { (r : Receiver)
+        → wanted known.entry.moded.now r ≡ option_map (modes_of known.entry.moded.now) (view_rows want.entry)
+        → OnOk result (casts.new.items ≡ casts.old.items ++ suggested_in known.entry.moded.now
+        (told known.entry.named.now) (value_givings scope.now r (view_expr expr.now))) }
 {
     expression(alloc, known, scope, expr, casts)?;
     repair(alloc, known, scope, want, expr, casts)
@@ -91,7 +95,9 @@ fn arguments(
     list: &[Expr],
     casts: &mut Vec<Cast>,
 ) -> Result<(), AllocError>
-    ensures { OnOk result (casts.new.items ≡ casts.old.items ++ suggested_in known.entry.moded.now (told known.entry.named.now) (all_givings scope.now function (view_arguments list.now) zero (view_arguments list.now))) }
+    ensures { OnOk result (casts.new.items
+        ≡ casts.old.items ++ suggested_in known.entry.moded.now (told known.entry.named.now)
+        (all_givings scope.now function (view_arguments list.now) zero (view_arguments list.now))) }
 {
     let typed = known.moded.typed();
     let parameters = parameters_named(typed, typed.named(function));

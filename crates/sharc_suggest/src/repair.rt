@@ -6,7 +6,9 @@ ghost use Rattle.sharc_tree.specs.View.{view_expr};
 ghost use Rattle.sharc_mode.specs.Moded.{position_count};
 ghost use Rattle.sharc_mode.specs.Rows.{modes_of};
 ghost use Rattle.sharc_mode.specs.View.{view_row, view_rows, view_sharing, EndsWithin};
-ghost use Rattle.sharc_suggest.specs.Repairs.{differ_first, is_free, may_be_cast, told, is_call_name, begins_call, is_call_at, keeps_first, keeps, keeps_all, cast_to, is_repairable, repair};
+ghost use Rattle.sharc_suggest.specs.Repairs.{differ_first, is_free, may_be_cast, told, is_call_name, begins_call};
+ghost use Rattle.sharc_suggest.specs.Repairs.{is_call_at, keeps_first, keeps, keeps_all, cast_to, is_repairable};
+ghost use Rattle.sharc_suggest.specs.Repairs.{repair};
 
 use sharc_check::named::NamedVariables;
 use sharc_check::rules::taken_variable;
@@ -36,7 +38,8 @@ pub(crate) struct Known<'a> {
 fn differ_first(program: &Moded, expected: Targets<'_>, found: Targets<'_>) -> bool
     requires expected { expected.first + expected.count ≤ position_count program.now.typed }
     requires found { found.first + found.count ≤ position_count program.now.typed }
-    ensures { result ≡ differ_first program.now.typed (modes_of program.now (view_row expected.entry)) (modes_of program.now (view_row found.entry)) }
+    ensures { result ≡ differ_first program.now.typed (modes_of program.now (view_row expected.entry))
+        (modes_of program.now (view_row found.entry)) }
 {
     row_laws();
     let _all = program.position_count();
@@ -64,7 +67,8 @@ fn is_call_name(text: &[u8]) -> bool
     b"wait".as_slice() == text || b"signal".as_slice() == text || b"broadcast".as_slice() == text
 }
 
-/// Whether two words, with one between them, are those of a path that begins with such a call: `locked`, `(` and its name.
+/// Whether two words, with one between them, are those of a path that begins with such a call: `locked`, `(` and its
+/// name.
 fn begins_call(before: &Token, name: &Token) -> bool
     ensures { result ≡ begins_call (Some before.now) (Some name.now) }
 {
@@ -90,8 +94,9 @@ fn is_call_at(typed: &Typed, token: u32) -> bool
     }
 }
 
-/// Whether the first name of a path means the same, if anything, where these variables are in scope. What names nothing that the program defines is
-/// determined by its words: a path that begins with it begins with a call of condition variables.
+/// Whether the first name of a path means the same, if anything, where these variables are in scope. What names nothing
+/// that the program defines is determined by its words: a path that begins with it begins with a call of condition
+/// variables.
 fn keeps_first(typed: &Typed, scope: &Names<'_>, token: u32) -> bool
     ensures { result ≡ keeps_first typed.now scope.now token }
 {
@@ -138,8 +143,8 @@ fn keeps_all(program: &Moded, scope: &Names<'_>, row: Targets<'_>) -> bool
     true
 }
 
-/// Whether a cast of the expression raises neither C5, nor M9, nor M10: it is an lvalue, no cell of mode readonly, and no variable or global that a
-/// lock path names.
+/// Whether a cast of the expression raises neither C5, nor M9, nor M10: it is an lvalue, no cell of mode readonly, and
+/// no variable or global that a lock path names.
 fn may_be_cast(known: Known<'_>, expr: &Expr) -> bool
     ensures { result ≡ may_be_cast known.entry.moded.now (told known.entry.named.now) (view_expr expr.now) }
 {
@@ -161,7 +166,9 @@ fn is_repairable(
 ) -> bool
     requires expected { expected.first + expected.count ≤ position_count known.moded.now.typed }
     requires found { found.first + found.count ≤ position_count known.moded.now.typed }
-    ensures { result ≡ is_repairable known.entry.moded.now (told known.entry.named.now) scope.now (view_expr expr.now) (modes_of known.entry.moded.now (view_row expected.entry)) (modes_of known.entry.moded.now (view_row found.entry)) }
+    ensures { result ≡ is_repairable known.entry.moded.now (told known.entry.named.now) scope.now (view_expr expr.now)
+        (modes_of known.entry.moded.now (view_row expected.entry))
+        (modes_of known.entry.moded.now (view_row found.entry)) }
 {
     let program = known.moded;
     differ_first(program, expected, found)
@@ -177,7 +184,8 @@ fn cast_to(
     expected: Targets<'_>,
 ) -> Result<Cast, AllocError>
     requires { expected.first + expected.count ≤ position_count program.now.typed }
-    ensures { IfOk result (λ c. c ≡ cast_to program.now (view_expr expr.now) (modes_of program.now (view_row expected.entry))) }
+    ensures { IfOk result (λ c. c
+        ≡ cast_to program.now (view_expr expr.now) (modes_of program.now (view_row expected.entry))) }
 {
     let root = root_of_kind(program.typed().kind_at(expr));
     let span = expr.span();
@@ -200,7 +208,9 @@ pub(crate) fn repair(
     casts: &mut Vec<Cast>,
 ) -> Result<(), AllocError>
     requires { EndsWithin known.moded.now.typed expected }
-    ensures { OnOk result (casts.new.items ≡ casts.old.items ++ repair known.entry.moded.now (told known.entry.named.now) scope.now (option_map (modes_of known.entry.moded.now) (view_rows expected.entry)) (view_expr expr.now)) }
+    ensures { OnOk result (casts.new.items
+        ≡ casts.old.items ++ repair known.entry.moded.now (told known.entry.named.now) scope.now
+        (option_map (modes_of known.entry.moded.now) (view_rows expected.entry)) (view_expr expr.now)) }
 {
     let program = known.moded;
     match (expected, row_of(program.typed(), expr)) {

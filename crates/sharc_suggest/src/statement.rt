@@ -2,11 +2,15 @@
 
 ghost use Rattle.std.specs.Prelude.{◌≡◌, ◌∷◌, ◌++◌, [], length, OnOk};
 ghost use Rattle.std.specs.Option.{option_map};
-ghost use Rattle.sharc_tree.specs.View.{view_expr, view_option, view_right, view_simple, view_local, view_first, view_head, view_stmt, view_statements, view_item, view_items};
+ghost use Rattle.sharc_tree.specs.View.{view_expr, view_option, view_right, view_simple, view_local, view_first};
+ghost use Rattle.sharc_tree.specs.View.{view_head, view_stmt, view_statements, view_item, view_items};
 ghost use Rattle.sharc_mode.specs.Rows.{modes_of};
 ghost use Rattle.sharc_mode.specs.View.{view_rows, EndsWithin};
 ghost use Rattle.sharc_suggest.specs.Casts.{suggested_in};
-ghost use Rattle.sharc_suggest.specs.Givings.{Receiver, of_declared, wanted, behind_first, after, after_all, with_parameters, givings, option_givings, value_givings, right_givings, simple_givings, local_givings, first_givings, head_givings, givings_in, givings_in_all, item_givings, items_givings};
+ghost use Rattle.sharc_suggest.specs.Givings.{Receiver, of_declared, wanted, behind_first, after, after_all};
+ghost use Rattle.sharc_suggest.specs.Givings.{with_parameters, givings, option_givings, value_givings, right_givings};
+ghost use Rattle.sharc_suggest.specs.Givings.{simple_givings, local_givings, first_givings, head_givings, givings_in};
+ghost use Rattle.sharc_suggest.specs.Givings.{givings_in_all, item_givings, items_givings};
 ghost use Rattle.sharc_suggest.specs.Repairs.{entry_of, told};
 
 use crate::expr::{expression, value};
@@ -36,7 +40,8 @@ fn optional(
     expr: &Option<Expr>,
     casts: &mut Vec<Cast>,
 ) -> Result<(), AllocError>
-    ensures { OnOk result (casts.new.items ≡ casts.old.items ++ suggested_in known.entry.moded.now (told known.entry.named.now) (option_givings (givings scope.now) (view_option view_expr expr.now))) }
+    ensures { OnOk result (casts.new.items ≡ casts.old.items ++ suggested_in known.entry.moded.now
+        (told known.entry.named.now) (option_givings (givings scope.now) (view_option view_expr expr.now))) }
 {
     match expr {
         None => Ok(()),
@@ -54,7 +59,10 @@ fn right(
     casts: &mut Vec<Cast>,
 ) -> Result<(), AllocError>
     requires { EndsWithin known.moded.now.typed want }
-    ensures { (r : Receiver) → wanted known.entry.moded.now r ≡ option_map (modes_of known.entry.moded.now) (view_rows want.entry) → OnOk result (casts.new.items ≡ casts.old.items ++ suggested_in known.entry.moded.now (told known.entry.named.now) (right_givings scope.now r (view_right right.now))) }
+    ensures { (r : Receiver)
+        → wanted known.entry.moded.now r ≡ option_map (modes_of known.entry.moded.now) (view_rows want.entry)
+        → OnOk result (casts.new.items ≡ casts.old.items ++ suggested_in known.entry.moded.now
+        (told known.entry.named.now) (right_givings scope.now r (view_right right.now))) }
 {
     match right {
         Right::Value(expr) => value(alloc, known, scope, want, expr, casts),
@@ -69,7 +77,8 @@ fn simple(
     simple: &Simple,
     casts: &mut Vec<Cast>,
 ) -> Result<(), AllocError>
-    ensures { OnOk result (casts.new.items ≡ casts.old.items ++ suggested_in known.entry.moded.now (told known.entry.named.now) (simple_givings scope.now (view_simple simple.now))) }
+    ensures { OnOk result (casts.new.items ≡ casts.old.items ++ suggested_in known.entry.moded.now
+        (told known.entry.named.now) (simple_givings scope.now (view_simple simple.now))) }
 {
     match simple {
         Simple::Assign(_, place, value) => {
@@ -90,7 +99,10 @@ fn initial(
     casts: &mut Vec<Cast>,
 ) -> Result<(), AllocError>
     requires { EndsWithin known.moded.now.typed want }
-    ensures { (r : Receiver) → wanted known.entry.moded.now r ≡ option_map (modes_of known.entry.moded.now) (view_rows want.entry) → OnOk result (casts.new.items ≡ casts.old.items ++ suggested_in known.entry.moded.now (told known.entry.named.now) (option_givings (right_givings scope.now r) (view_option view_right value.now))) }
+    ensures { (r : Receiver)
+        → wanted known.entry.moded.now r ≡ option_map (modes_of known.entry.moded.now) (view_rows want.entry)
+        → OnOk result (casts.new.items ≡ casts.old.items ++ suggested_in known.entry.moded.now
+        (told known.entry.named.now) (option_givings (right_givings scope.now r) (view_option view_right value.now))) }
 {
     match value {
         None => Ok(()),
@@ -107,7 +119,8 @@ fn local<'a>(
     casts: &mut Vec<Cast>,
 ) -> Result<(), AllocError>
     ensures scope { OnOk result (scope.new ≡ entry_of (view_local local.now).declaration ∷ scope.old) }
-    ensures casts { OnOk result (casts.new.items ≡ casts.old.items ++ suggested_in known.entry.moded.now (told known.entry.named.now) (local_givings scope.old (view_local local.now))) }
+    ensures casts { OnOk result (casts.new.items ≡ casts.old.items ++ suggested_in known.entry.moded.now
+        (told known.entry.named.now) (local_givings scope.old (view_local local.now))) }
 {
     let token = local.declaration.name.site.token;
     let want = declared_row(known.moded.typed(), Reading::Written, token);
@@ -124,7 +137,8 @@ fn first<'a>(
     casts: &mut Vec<Cast>,
 ) -> Result<(), AllocError>
     ensures scope { OnOk result (scope.new ≡ behind_first scope.old (view_first first.now)) }
-    ensures casts { OnOk result (casts.new.items ≡ casts.old.items ++ suggested_in known.entry.moded.now (told known.entry.named.now) (first_givings scope.old (view_first first.now))) }
+    ensures casts { OnOk result (casts.new.items ≡ casts.old.items ++ suggested_in known.entry.moded.now
+        (told known.entry.named.now) (first_givings scope.old (view_first first.now))) }
 {
     match first {
         ForFirst::Nothing => Ok(()),
@@ -140,7 +154,8 @@ fn step(
     step: &Option<Simple>,
     casts: &mut Vec<Cast>,
 ) -> Result<(), AllocError>
-    ensures { OnOk result (casts.new.items ≡ casts.old.items ++ suggested_in known.entry.moded.now (told known.entry.named.now) (option_givings (simple_givings scope.now) (view_option view_simple step.now))) }
+    ensures { OnOk result (casts.new.items ≡ casts.old.items ++ suggested_in known.entry.moded.now
+        (told known.entry.named.now) (option_givings (simple_givings scope.now) (view_option view_simple step.now))) }
 {
     match step {
         None => Ok(()),
@@ -158,7 +173,8 @@ fn head<'a>(
     casts: &mut Vec<Cast>,
 ) -> Result<(), AllocError>
     ensures scope { OnOk result (scope.new ≡ behind_first scope.old (view_head head.now).first) }
-    ensures casts { OnOk result (casts.new.items ≡ casts.old.items ++ suggested_in known.entry.moded.now (told known.entry.named.now) (head_givings scope.old (view_head head.now))) }
+    ensures casts { OnOk result (casts.new.items ≡ casts.old.items ++ suggested_in known.entry.moded.now
+        (told known.entry.named.now) (head_givings scope.old (view_head head.now))) }
 {
     first(alloc, known, scope, &head.first, casts)?;
     optional(alloc, known, scope, &head.test, casts)?;
@@ -174,7 +190,9 @@ fn returned(
     returned: &Option<Box<Expr>>,
     casts: &mut Vec<Cast>,
 ) -> Result<(), AllocError>
-    ensures { OnOk result (casts.new.items ≡ casts.old.items ++ suggested_in known.entry.moded.now (told known.entry.named.now) (option_givings (value_givings scope.now (of_declared function)) (view_option (λ b. view_expr b.value) returned.now))) }
+    ensures { OnOk result (casts.new.items
+        ≡ casts.old.items ++ suggested_in known.entry.moded.now (told known.entry.named.now) (option_givings
+        (value_givings scope.now (of_declared function)) (view_option (λ b. view_expr b.value) returned.now))) }
 {
     match returned {
         None => Ok(()),
@@ -197,7 +215,8 @@ fn statement<'a>(
     casts: &mut Vec<Cast>,
 ) -> Result<(), AllocError>
     ensures scope { OnOk result (scope.new ≡ after scope.old (view_stmt stmt.now)) }
-    ensures casts { OnOk result (casts.new.items ≡ casts.old.items ++ suggested_in known.entry.moded.now (told known.entry.named.now) (givings_in scope.old function (view_stmt stmt.now))) }
+    ensures casts { OnOk result (casts.new.items ≡ casts.old.items ++ suggested_in known.entry.moded.now
+        (told known.entry.named.now) (givings_in scope.old function (view_stmt stmt.now))) }
 {
     match stmt {
         Stmt::Empty(_) => Ok(()),
@@ -250,7 +269,8 @@ fn nested<'a>(
     casts: &mut Vec<Cast>,
 ) -> Result<(), AllocError>
     ensures scope { OnOk result (scope.new ≡ scope.old) }
-    ensures casts { OnOk result (casts.new.items ≡ casts.old.items ++ suggested_in known.entry.moded.now (told known.entry.named.now) (givings_in scope.old function (view_stmt stmt.now))) }
+    ensures casts { OnOk result (casts.new.items ≡ casts.old.items ++ suggested_in known.entry.moded.now
+        (told known.entry.named.now) (givings_in scope.old function (view_stmt stmt.now))) }
 {
     let mark = scope.len();
     statement(alloc, known, scope, function, stmt, casts)?;
@@ -269,7 +289,8 @@ fn statements<'a>(
     casts: &mut Vec<Cast>,
 ) -> Result<(), AllocError>
     ensures scope { OnOk result (scope.new ≡ after_all scope.old (view_statements all.now)) }
-    ensures casts { OnOk result (casts.new.items ≡ casts.old.items ++ suggested_in known.entry.moded.now (told known.entry.named.now) (givings_in_all scope.old function (view_statements all.now))) }
+    ensures casts { OnOk result (casts.new.items ≡ casts.old.items ++ suggested_in known.entry.moded.now
+        (told known.entry.named.now) (givings_in_all scope.old function (view_statements all.now))) }
 {
     for stmt in all {
         statement(alloc, known, scope, function, stmt, casts)?;
@@ -293,7 +314,8 @@ fn item(
     item: &Item,
     casts: &mut Vec<Cast>,
 ) -> Result<(), AllocError>
-    ensures { OnOk result (casts.new.items ≡ casts.old.items ++ suggested_in known.entry.moded.now (told known.entry.named.now) (item_givings (view_item item.now))) }
+    ensures { OnOk result (casts.new.items ≡ casts.old.items
+        ++ suggested_in known.entry.moded.now (told known.entry.named.now) (item_givings (view_item item.now))) }
 {
     match item {
         Item::Struct(_) => Ok(()),
@@ -316,7 +338,8 @@ pub(crate) fn items(
     items: &[Item],
     casts: &mut Vec<Cast>,
 ) -> Result<(), AllocError>
-    ensures { OnOk result (casts.new.items ≡ casts.old.items ++ suggested_in known.entry.moded.now (told known.entry.named.now) (items_givings (view_items items.now))) }
+    ensures { OnOk result (casts.new.items ≡ casts.old.items
+        ++ suggested_in known.entry.moded.now (told known.entry.named.now) (items_givings (view_items items.now))) }
 {
     for one in items {
         item(alloc, known, one, casts)?;

@@ -8,4 +8,5 @@ receiver_with c (of_left u) = of_left (with_cast c u)
 receiver_with c (of_parameter f all k) = of_parameter f (all_with_cast c all) k
 
 abbrev pub giving_with : Recast → Giving → Giving
-giving_with c g = record { scope = g.scope; receiver = receiver_with c g.receiver; given = around c (with_cast c g.given) }
+giving_with c g =
+    record { scope = g.scope; receiver = receiver_with c g.receiver; given = around c (with_cast c g.given) }

@@ -21,9 +21,12 @@ pub record IsSuggestedFor (m : Assignment) (c : Cast) (g : Giving) (expected : L
 
 -- the same modes are expected of it with the cast written
 abbrev pub IsExpectedAgain : Assignment → Cast → Giving → List Sharing → Type 0
-IsExpectedAgain m c g expected = wanted (assignment_with c m) (receiver_with (recast_of m.typed c) g.receiver) ≡ Some expected
+IsExpectedAgain m c g expected =
+    wanted (assignment_with c m) (receiver_with (recast_of m.typed c) g.receiver) ≡ Some expected
 
 -- so it is gone where the same is expected
 abbrev pub GoneWhereExpected : Type 0
-GoneWhereExpected = (m : Assignment) (e : ModeError) (c : Cast) → IsWhole m → IsPlaced m.typed.program → IsSuggested m e (Some c)
-    → (g : Giving) × (expected : List Sharing) × IsSuggestedFor m c g expected × (IsExpectedAgain m c g expected → IsGone (assignment_with c m) e.site.token)
+GoneWhereExpected = (m : Assignment) (e : ModeError) (c : Cast) → IsWhole m → IsPlaced m.typed.program
+    → IsSuggested m e (Some c)
+    → (g : Giving) × (expected : List Sharing) × IsSuggestedFor m c g expected
+    × (IsExpectedAgain m c g expected → IsGone (assignment_with c m) e.site.token)

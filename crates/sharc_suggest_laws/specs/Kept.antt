@@ -9,7 +9,8 @@ use Rattle.sharc_mode.specs.{Moded.{Assignment, IsWhole, mode_at, reason_at}, Ro
 use Rattle.sharc_mode.specs.Sharings.{Sharing, sharing_of}
 use Rattle.sharc_suggest.specs.Casts.{IsSuggested}
 
--- ---- the structs, the globals, and the fields, parameters and locals are the same; the functions have their bodies with the cast
+-- ---- the structs, the globals, and the fields, parameters and locals are the same; the functions have their bodies
+-- with the cast
 
 pub record DeclaresTheSame (c : Recast) (p : Program) : Type 0 where
   pub structs : structs_in (program_with_cast c p).items ≡ structs_in p.items
@@ -26,10 +27,14 @@ abbrev pub renumbered : ℕ → ℕ → ℕ → ℕ
 renumbered first count position = if nat_lt position first then position else position + count
 
 pub record KeepsPositions (m : Assignment) (c : Cast) : Type 0 where
-  pub modes : (position : ℕ) → mode_at (assignment_with c m) (renumbered (first_new c m.typed) (length (targets c.to.levels)) position) ≡ mode_at m position
-  pub reasons : (position : ℕ) → reason_at (assignment_with c m) (renumbered (first_new c m.typed) (length (targets c.to.levels)) position)
+  pub modes : (position : ℕ) → mode_at (assignment_with c m)
+      (renumbered (first_new c m.typed) (length (targets c.to.levels)) position) ≡ mode_at m position
+  pub reasons : (position : ℕ)
+      → reason_at (assignment_with c m) (renumbered (first_new c m.typed) (length (targets c.to.levels)) position)
       ≡ moved (first_new c m.typed) (length (targets c.to.levels)) (reason_at m position)
-  pub added : (depth : ℕ) → depth < length (targets c.to.levels) → mode_at (assignment_with c m) (first_new c m.typed + depth) ≡ sharing_of (slice_index_or (targets c.to.levels) depth Private)
+  pub added : (depth : ℕ) → depth < length (targets c.to.levels)
+      → mode_at (assignment_with c m) (first_new c m.typed + depth)
+      ≡ sharing_of (slice_index_or (targets c.to.levels) depth Private)
 
 -- whatever the cast is, of a program at its tokens with a mode and a reason for each position
 abbrev pub PositionsStay : Type 0
@@ -42,5 +47,7 @@ abbrev pub modes_told_by : Assignment → ℕ → ℕ → List Sharing
 modes_told_by m token last = modes_of m (entity_row written (entity_at m.typed token last))
 
 abbrev pub TypesStay : Type 0
-TypesStay = (m : Assignment) (e : ModeError) (c : Cast) → IsWhole m → IsPlaced m.typed.program → IsSuggested m e (Some c)
-    → (token last : ℕ) → (token ≡ c.from → last ≡ c.until → ⊥) → modes_told_by (assignment_with c m) token last ≡ modes_told_by m token last
+TypesStay = (m : Assignment) (e : ModeError) (c : Cast) → IsWhole m → IsPlaced m.typed.program
+    → IsSuggested m e (Some c)
+    → (token last : ℕ) → (token ≡ c.from → last ≡ c.until → ⊥)
+    → modes_told_by (assignment_with c m) token last ≡ modes_told_by m token last

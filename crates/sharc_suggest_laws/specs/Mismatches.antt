@@ -10,4 +10,5 @@ is_mismatch_at token e = is_mismatch e.code && e.site.token == token
 
 -- of a program at its tokens: so an M1 is determined by its place, and a cast is suggested for one M1 alone
 abbrev pub OneMismatch : Type 0
-OneMismatch = (m : Assignment) (errors : List ModeError) → IsPlaced m.typed.program → AreModeErrors m errors → (token : ℕ) → length (filter (is_mismatch_at token) errors) ≤ 1
+OneMismatch = (m : Assignment) (errors : List ModeError) → IsPlaced m.typed.program → AreModeErrors m errors
+    → (token : ℕ) → length (filter (is_mismatch_at token) errors) ≤ 1

@@ -21,14 +21,17 @@ is_dull named.Known = true
 
 -- what named a variable, a global or a function names it still; what did not does not, and what named a field names one
 abbrev pub KeepsName : Named → Named → Type 0
-KeepsName old new = (old ≡ new) ⊎ ((is_dull old ≡ true) × (is_dull new ≡ true) × (is_field old ≡ true → is_field new ≡ true))
+KeepsName old new = (old ≡ new)
+    ⊎ ((is_dull old ≡ true) × (is_dull new ≡ true) × (is_field old ≡ true → is_field new ≡ true))
 
 -- where the program with the cast is typed
 abbrev pub NamesStayWhereTyped : Type 0
-NamesStayWhereTyped = (m : Assignment) (e : ModeError) (c : Cast) → IsResolved m.typed → IsPlaced m.typed.program → IsLow m.typed.program → IsSuggested m e (Some c) → IsTyped (program_with c m.typed)
+NamesStayWhereTyped = (m : Assignment) (e : ModeError) (c : Cast) → IsResolved m.typed → IsPlaced m.typed.program
+    → IsLow m.typed.program → IsSuggested m e (Some c) → IsTyped (program_with c m.typed)
     → (token : ℕ) → KeepsName (named_at m.typed token) (named_at (resolution_with c m.typed) token)
 
 -- as it is where the lock paths of the modes are written ones
 abbrev pub NamesStay : Type 0
-NamesStay = (m : Assignment) (e : ModeError) (c : Cast) → IsResolved m.typed → IsPlaced m.typed.program → IsLow m.typed.program → IsWhole m → HasWrittenLocks m → IsSuggested m e (Some c)
+NamesStay = (m : Assignment) (e : ModeError) (c : Cast) → IsResolved m.typed → IsPlaced m.typed.program
+    → IsLow m.typed.program → IsWhole m → HasWrittenLocks m → IsSuggested m e (Some c)
     → (token : ℕ) → KeepsName (named_at m.typed token) (named_at (resolution_with c m.typed) token)

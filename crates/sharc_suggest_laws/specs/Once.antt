@@ -6,7 +6,8 @@ use Rattle.sharc_ctype.specs.{declared.entity.Entity.Entity, Entities.{cast_enti
 use Rattle.sharc_mode.specs.{declared.error.Cast.Cast, declared.error.ModeError.ModeError, Moded.Assignment}
 use Rattle.sharc_suggest.specs.Casts.{IsSuggested}
 
--- what has a type now is what had one, in its order, and among it the cast at its tokens; all that is listed before it begins before it
+-- what has a type now is what had one, in its order, and among it the cast at its tokens; all that is listed before it
+-- begins before it
 pub record IsAddedOnce (c : Recast) (old new : List Entity) : Type 0 where
   pub before : List Entity
   pub behind : List Entity

@@ -8,14 +8,17 @@ use Rattle.sharc_rewrite.specs.Applied.{program_with, assignment_with}
 use Rattle.sharc_suggest.specs.Casts.{IsSuggested}
 use Rattle.sharc_suggest_laws.specs.Gone.{IsGone}
 
--- of a program that was read and resolved, with a mode and a reason for each position: with the cast written in it, where that is typed, no M1 is at the place of the error
+-- of a program that was read and resolved, with a mode and a reason for each position: with the cast written in it,
+-- where that is typed, no M1 is at the place of the error
 abbrev pub RepairsWhereTyped : Type 0
-RepairsWhereTyped = (m : Assignment) (e : ModeError) (c : Cast) → IsResolved m.typed → IsPlaced m.typed.program → IsLow m.typed.program → IsWhole m → IsSuggested m e (Some c) → IsTyped (program_with c m.typed)
+RepairsWhereTyped = (m : Assignment) (e : ModeError) (c : Cast) → IsResolved m.typed → IsPlaced m.typed.program
+    → IsLow m.typed.program → IsWhole m → IsSuggested m e (Some c) → IsTyped (program_with c m.typed)
     → IsGone (assignment_with c m) e.site.token
 
 -- as it is where the lock paths of the modes are written ones
 abbrev pub Repairs : Type 0
-Repairs = (m : Assignment) (e : ModeError) (c : Cast) → IsResolved m.typed → IsPlaced m.typed.program → IsLow m.typed.program → IsWhole m → HasWrittenLocks m → IsSuggested m e (Some c)
+Repairs = (m : Assignment) (e : ModeError) (c : Cast) → IsResolved m.typed → IsPlaced m.typed.program
+    → IsLow m.typed.program → IsWhole m → HasWrittenLocks m → IsSuggested m e (Some c)
     → IsGone (assignment_with c m) e.site.token
 
 -- ---- of the program that a source is, under the least assignment
@@ -27,4 +30,5 @@ pub record IsRepair (m : Assignment) (e : ModeError) (c : Cast) : Type 0 where
 
 -- so it is of each cast that is suggested
 abbrev pub LeastIsRepaired : Type 0
-LeastIsRepaired = (m : Assignment) (e : ModeError) (c : Cast) → IsTypedAtTokens m.typed → IsLeastAssignment m → IsSuggested m e (Some c) → IsRepair m e c
+LeastIsRepaired = (m : Assignment) (e : ModeError) (c : Cast) → IsTypedAtTokens m.typed → IsLeastAssignment m
+    → IsSuggested m e (Some c) → IsRepair m e c

@@ -7,8 +7,9 @@ use Rattle.sharc_infer_laws.specs.Locks.{HasWrittenLocks}
 use Rattle.sharc_rewrite.specs.Applied.{program_with}
 use Rattle.sharc_suggest.specs.Casts.{IsSuggested}
 
--- of a program that was read and resolved, with a mode and a reason for each position, where the lock paths of the modes
--- are written ones
+-- of a program that was read and resolved, with a mode and a reason for each position, where the lock paths of the
+-- modes are written ones
 abbrev pub StaysTyped : Type 0
-StaysTyped = (m : Assignment) (e : ModeError) (c : Cast) → IsResolved m.typed → IsPlaced m.typed.program → IsLow m.typed.program → IsWhole m → HasWrittenLocks m → IsSuggested m e (Some c)
+StaysTyped = (m : Assignment) (e : ModeError) (c : Cast) → IsResolved m.typed → IsPlaced m.typed.program
+    → IsLow m.typed.program → IsWhole m → HasWrittenLocks m → IsSuggested m e (Some c)
     → IsTyped (program_with c m.typed)

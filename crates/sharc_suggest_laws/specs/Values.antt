@@ -1,7 +1,11 @@
--- How many of the expressions that are passed, assigned or returned, or initialise a local, meet a test: one clause for each production.
+-- How many of the expressions that are passed, assigned or returned, or initialise a local, meet a test: one clause for
+-- each production.
 use Rattle.std.specs.Prelude.{ℕ, ◌+◌, ◌==◌, ◌≤◌, Bool, true, false, List, [], ◌∷◌, Option, Some, None}
 use Rattle.sharc_tree.specs.{Placed.IsPlaced, Spans.span_of}
-use Rattle.sharc_tree.specs.Tree.{Expression, identifier, constant, parentheses, call, spawn, on_value, on_place, cast, index, field, unary, binary, Arguments, no_arguments, argument, Right, value, malloc, Simple, assign, does_call, Local, First, nothing, declares, does, Head, Statement, Statements, no_statements, statement, Item, structure, global, function, Program}
+use Rattle.sharc_tree.specs.Tree.{Expression, identifier, constant, parentheses, call, spawn, on_value, on_place, cast}
+use Rattle.sharc_tree.specs.Tree.{index, field, unary, binary, Arguments, no_arguments, argument, Right, value, malloc}
+use Rattle.sharc_tree.specs.Tree.{Simple, assign, does_call, Local, First, nothing, declares, does, Head, Statement}
+use Rattle.sharc_tree.specs.Tree.{Statements, no_statements, statement, Item, structure, global, function, Program}
 use Rattle.sharc_tree.specs.Tree as tree
 
 abbrev pub count_of : Bool → ℕ
@@ -57,7 +61,8 @@ met_in_first test (declares l) = met_in_local test l
 met_in_first test (does x) = met_in_simple test x
 
 abbrev pub met_in_head : (Expression → Bool) → Head → ℕ
-met_in_head test h = met_in_first test h.first + of_option (met_inside test) h.test + of_option (met_in_simple test) h.step
+met_in_head test h =
+    met_in_first test h.first + of_option (met_inside test) h.test + of_option (met_in_simple test) h.step
 
 abbrev mutual
   pub met_in_statement : (Expression → Bool) → Statement → ℕ
@@ -68,7 +73,8 @@ abbrev mutual
   met_in_statement test (tree.jump s j) = 0
   met_in_statement test (tree.return s e) = of_option (met_at test) e
   met_in_statement test (tree.if_then s e a) = met_inside test e + met_in_statement test a
-  met_in_statement test (tree.if_then_else s e a b) = met_inside test e + met_in_statement test a + met_in_statement test b
+  met_in_statement test (tree.if_then_else s e a b) =
+      met_inside test e + met_in_statement test a + met_in_statement test b
   met_in_statement test (tree.while s e a) = met_inside test e + met_in_statement test a
   met_in_statement test (tree.for s h a) = met_in_head test h + met_in_statement test a
 

@@ -26,7 +26,8 @@ pub fn positions_stay()
     ensures { PositionsStay }
 {}
 
-/// In a program at its tokens no two of what is passed, assigned or returned, or initialises a local, begin at one token.
+/// In a program at its tokens no two of what is passed, assigned or returned, or initialises a local, begin at one
+/// token.
 pub fn values_begin_apart()
     ensures { ValuesBeginApart }
 {}
@@ -56,7 +57,8 @@ pub fn gone_where_expected()
     ensures { GoneWhereExpected }
 {}
 
-/// Where the program with a suggested cast is typed, each token that named a variable, a global or a function names it still, and one that named a field names one.
+/// Where the program with a suggested cast is typed, each token that named a variable, a global or a function names it
+/// still, and one that named a field names one.
 pub fn names_stay_where_typed()
     ensures { NamesStayWhereTyped }
 {

@@ -12,7 +12,8 @@ Standing = Global Machine
 
 -- a thread that was started, is neither gone nor stopped, has made fewer events than it may, and does not wait
 abbrev pub is_enabled : Code → Shape → ℕ → Standing → ℕ → Bool
-is_enabled code s limit g t = g.started t && (may_go (g.threads t).at.state && (nat_lt (g.made t) limit && not (waits_now code s g.words (g.threads t))))
+is_enabled code s limit g t = g.started t
+    && (may_go (g.threads t).at.state && (nat_lt (g.made t) limit && not (waits_now code s g.words (g.threads t))))
 
 -- ---- the end
 -- each thread that was started is gone or stopped

@@ -9,35 +9,44 @@ use Rattle.sharc_threads.specs.Seats.{AreSeats, AreOf, HasBegun, has_number, may
 
 -- each number is one that threads have
 abbrev pub SeatsHaveNumbers : Type 0
-SeatsHaveNumbers = (code : Code) (s : Shape) (threads : ℕ → Machine) (made : ℕ → ℕ) (started : ℕ → Bool) (seats : List (Option ThreadView))
+SeatsHaveNumbers = (code : Code) (s : Shape) (threads : ℕ → Machine) (made : ℕ → ℕ) (started : ℕ → Bool)
+    (seats : List (Option ThreadView))
     → AreSeats code s threads made started seats → (t : ℕ) → has_number (slice_index_or seats t None)
 
 -- a thread is enabled exactly where its place has one that may make a turn
 abbrev pub EnabledIsTold : Type 0
 EnabledIsTold = (code : Code) (s : Shape) (limit : ℕ) (g : Standing) (words : List ℕ) (seats : List (Option ThreadView))
-    → AreOf code s g words seats → (t : ℕ) → may_turn_at words limit (slice_index_or seats t None) ≡ is_enabled code s limit g t
+    → AreOf code s g words seats
+    → (t : ℕ) → may_turn_at words limit (slice_index_or seats t None) ≡ is_enabled code s limit g t
 
 -- the threads of a table are those that were started
 abbrev pub PresentAreStarted : Type 0
-PresentAreStarted = (code : Code) (s : Shape) (g : Standing) (words : List ℕ) (seats : List (Option ThreadView)) → s.threads ≡ THREADS
+PresentAreStarted = (code : Code) (s : Shape) (g : Standing) (words : List ℕ) (seats : List (Option ThreadView))
+    → s.threads ≡ THREADS
     → AreOf code s g words seats → AreStarted code s g (present seats)
 
--- where threads begin whose state words are 1, the table is that of the place where they were started too, and as many events are left
+-- where threads begin whose state words are 1, the table is that of the place where they were started too, and as many
+-- events are left
 abbrev pub TablesBegin : Type 0
-TablesBegin = (code : Code) (s : Shape) (threads : ℕ → Machine) (made : ℕ → ℕ) (started : ℕ → Bool) (words : List ℕ) (old new : List (Option ThreadView))
+TablesBegin = (code : Code) (s : Shape) (threads : ℕ → Machine) (made : ℕ → ℕ) (started : ℕ → Bool) (words : List ℕ)
+    (old new : List (Option ThreadView))
     → AreSeats code s threads made started old → length new ≡ length old
     → ((t : ℕ) → t < THREADS → HasBegun code s words t (slice_index_or old t None) (slice_index_or new t None))
-    → AreSeats code s threads made (λ t. is_started bounds words t || started t) new × ((limit : ℕ) → left limit new ≡ left limit old)
+    → AreSeats code s threads made (λ t. is_started bounds words t || started t) new
+    × ((limit : ℕ) → left limit new ≡ left limit old)
 
 -- a thread is there exactly where it was started
 abbrev pub StartedAreThere : Type 0
-StartedAreThere = (code : Code) (s : Shape) (threads : ℕ → Machine) (made : ℕ → ℕ) (started : ℕ → Bool) (seats : List (Option ThreadView))
+StartedAreThere = (code : Code) (s : Shape) (threads : ℕ → Machine) (made : ℕ → ℕ) (started : ℕ → Bool)
+    (seats : List (Option ThreadView))
     → AreSeats code s threads made started seats → (t : ℕ) → is_some (slice_index_or seats t None) ≡ started t
 
 -- it does not matter by which function it is determined who was started
 abbrev pub TablesAgree : Type 0
-TablesAgree = (code : Code) (s : Shape) (threads : ℕ → Machine) (made : ℕ → ℕ) (started other : ℕ → Bool) (seats : List (Option ThreadView))
-    → ((t : ℕ) → started t ≡ other t) → AreSeats code s threads made started seats → AreSeats code s threads made other seats
+TablesAgree = (code : Code) (s : Shape) (threads : ℕ → Machine) (made : ℕ → ℕ) (started other : ℕ → Bool)
+    (seats : List (Option ThreadView))
+    → ((t : ℕ) → started t ≡ other t) → AreSeats code s threads made started seats
+    → AreSeats code s threads made other seats
 
 -- the laws of tables together
 pub record TableLaws : Type 0 where

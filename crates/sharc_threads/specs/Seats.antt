@@ -1,5 +1,6 @@
 -- The threads of a run by their numbers, and that this is where the run is.
-use Rattle.std.specs.Prelude.{ℕ, ◌≡◌, ◌<◌, ◌-◌, ◌&&◌, nat_lt, not, Bool, true, false, List, [], ◌∷◌, length, Option, Some, None, slice_index_or}
+use Rattle.std.specs.Prelude.{ℕ, ◌≡◌, ◌<◌, ◌-◌, ◌&&◌, nat_lt, not, Bool, true, false, List, [], ◌∷◌, length, Option}
+use Rattle.std.specs.Prelude.{Some, None, slice_index_or}
 use Rattle.std.specs.List.{sum_by}
 use Rattle.sharc_word.specs.declared.step.TheConstants.{THREADS}
 use Rattle.sharc_code.specs.{declared.code.Code.Code, declared.shape.Shape.Shape, declared.state.State.State}
@@ -58,7 +59,8 @@ present (Some thread ∷ seats) = thread ∷ present seats
 
 -- ---- where a run is
 -- the thread of this number, where the run has these threads
-pub record Sits (code : Code) (s : Shape) (threads : ℕ → Machine) (made : ℕ → ℕ) (t : ℕ) (thread : ThreadView) : Type 0 where
+pub record Sits (code : Code) (s : Shape) (threads : ℕ → Machine) (made : ℕ → ℕ) (t : ℕ)
+    (thread : ThreadView) : Type 0 where
   pub thread_is : IsThread code s thread
   pub number : thread.machine.own.number ≡ t
   pub machine : thread.machine ≡ threads t
@@ -69,13 +71,15 @@ abbrev pub IsSeat : Code → Shape → (ℕ → Machine) → (ℕ → ℕ) → (
 IsSeat code s threads made started t (Some thread) = (started t ≡ true) × Sits code s threads made t thread
 IsSeat code s threads made started t None = (started t ≡ false) × (threads t ≡ begun code s t) × (made t ≡ 0)
 
-pub record AreSeats (code : Code) (s : Shape) (threads : ℕ → Machine) (made : ℕ → ℕ) (started : ℕ → Bool) (seats : List (Option ThreadView)) : Type 0 where
+pub record AreSeats (code : Code) (s : Shape) (threads : ℕ → Machine) (made : ℕ → ℕ) (started : ℕ → Bool)
+    (seats : List (Option ThreadView)) : Type 0 where
   pub count : length seats ≡ THREADS
   pub few : (t : ℕ) → started t ≡ true → t < THREADS
   pub each : (t : ℕ) → t < THREADS → IsSeat code s threads made started t (slice_index_or seats t None)
 
 -- the table of this place, which has these words
-pub record AreOf (code : Code) (s : Shape) (g : Standing) (words : List ℕ) (seats : List (Option ThreadView)) : Type 0 where
+pub record AreOf (code : Code) (s : Shape) (g : Standing) (words : List ℕ)
+    (seats : List (Option ThreadView)) : Type 0 where
   pub words_are : words ≡ g.words
   pub are : AreSeats code s g.threads g.made g.started seats
 

@@ -67,7 +67,8 @@ pub fn waits(thread: &Thread, words: &[u64]) -> bool
     }
 }
 
-/// Whether a thread that was started is enabled where the words are these and no thread may make more events than `limit`.
+/// Whether a thread that was started is enabled where the words are these and no thread may make more events than
+/// `limit`.
 pub fn may_turn(thread: &Thread, words: &[u64], limit: u64) -> bool
     requires { thread.now.machine.own.number < threads }
     ensures { result ≡ may_turn words.now limit thread.now }

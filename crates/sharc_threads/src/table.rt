@@ -1,6 +1,7 @@
 //! The threads of a run by their numbers.
 
-ghost use Rattle.std.specs.Prelude.{◌≡◌, ◌<◌, ◌++◌, [], ◌∷◌, ℕ, Option, Some, None, true, false, length, IfOk, OnOk, slice_index_or};
+ghost use Rattle.std.specs.Prelude.{◌≡◌, ◌<◌, ◌++◌, [], ◌∷◌, ℕ, Option, Some, None, true, false, length, IfOk, OnOk};
+ghost use Rattle.std.specs.Prelude.{slice_index_or};
 ghost use Rattle.sharc_word.specs.declared.step.TheConstants.{THREADS as threads};
 ghost use Rattle.sharc_code.specs.declared.code.Code.{Code};
 ghost use Rattle.sharc_code.specs.declared.shape.Shape.{Shape};
@@ -10,7 +11,8 @@ ghost use Rattle.sharc_code.specs.Path.{begun};
 ghost use Rattle.sharc_code.specs.Runs.{is_started};
 ghost use Rattle.sharc_code.specs.Whole.{bounds};
 ghost use Rattle.sharc_threads.specs.Ends.{Standing, is_enabled, AreStarted, EndIs};
-ghost use Rattle.sharc_threads.specs.Seats.{AreSeats, AreOf, HasBegun, has_number, is_on_at, waits_at, may_turn_at, present};
+ghost use Rattle.sharc_threads.specs.Seats.{AreSeats, AreOf, HasBegun, has_number, is_on_at, waits_at, may_turn_at};
+ghost use Rattle.sharc_threads.specs.Seats.{present};
 
 use crate::end::End;
 use crate::state::{is_on, may_turn, waits, word};
@@ -119,7 +121,8 @@ impl ThreadTable {
         words: &[u64],
     ) -> Result<ThreadTable, AllocError>
         requires { Fits code.now shape.now }
-        ensures { IfOk result (λ table. AreSeats code.now shape.now (begun code.now shape.now) (λ t. 0) (is_started bounds words.now) table.seats.items) }
+        ensures { IfOk result (λ table. AreSeats code.now shape.now (begun code.now shape.now) (λ t. 0)
+            (is_started bounds words.now) table.seats.items) }
     {
         let mut table = ThreadTable {
             seats: empty(alloc)?,
@@ -141,7 +144,8 @@ impl ThreadTable {
         requires fits { Fits code.now shape.now }
         requires count { length self.old.seats.items ≡ threads }
         ensures count { length self.new.seats.items ≡ length self.old.seats.items }
-        ensures each { OnOk result ((t : ℕ) → t < threads → HasBegun code.now shape.now words.now t (slice_index_or self.old.seats.items t None) (slice_index_or self.new.seats.items t None)) }
+        ensures each { OnOk result ((t : ℕ) → t < threads → HasBegun code.now shape.now words.now t
+            (slice_index_or self.old.seats.items t None) (slice_index_or self.new.seats.items t None)) }
     {
         for number in 0..self.seats.len() {
             begin_at(
@@ -172,8 +176,10 @@ impl ThreadTable {
     // Whether each thread that goes on waits.
     fn all_wait(&self, words: &[u64]) -> bool
         requires { (t : ℕ) → has_number (slice_index_or self.now.seats.items t None) }
-        ensures wait { result ≡ true → (t : ℕ) → is_on_at (slice_index_or self.now.seats.items t None) ≡ true → waits_at words.now (slice_index_or self.now.seats.items t None) ≡ true }
-        ensures goes { result ≡ false → (t : ℕ) × (is_on_at (slice_index_or self.now.seats.items t None) ≡ true) × (waits_at words.now (slice_index_or self.now.seats.items t None) ≡ false) }
+        ensures wait { result ≡ true → (t : ℕ) → is_on_at (slice_index_or self.now.seats.items t None) ≡ true
+            → waits_at words.now (slice_index_or self.now.seats.items t None) ≡ true }
+        ensures goes { result ≡ false → (t : ℕ) × (is_on_at (slice_index_or self.now.seats.items t None) ≡ true)
+            × (waits_at words.now (slice_index_or self.now.seats.items t None) ≡ false) }
     {
         for seat in &self.seats {
             if is_on_at(seat) && !waits_at(seat, words) {
@@ -186,7 +192,8 @@ impl ThreadTable {
     /// How a run that is at this place ended.
     pub fn end(&self, words: &[u64]) -> End
         requires { (t : ℕ) → has_number (slice_index_or self.now.seats.items t None) }
-        ensures { (code : Code) (s : Shape) (g : Standing) → AreOf code s g words.now self.now.seats.items → EndIs code s g result }
+        ensures { (code : Code) (s : Shape) (g : Standing) → AreOf code s g words.now self.now.seats.items
+            → EndIs code s g result }
     {
         if self.all_done() {
             End::AllDone
@@ -200,8 +207,10 @@ impl ThreadTable {
     /// Whether some thread is enabled there.
     pub fn any_may_turn(&self, words: &[u64], limit: u64) -> bool
         requires { (t : ℕ) → has_number (slice_index_or self.now.seats.items t None) }
-        ensures none { result ≡ false → (t : ℕ) → may_turn_at words.now limit (slice_index_or self.now.seats.items t None) ≡ false }
-        ensures one { result ≡ true → (t : ℕ) × (may_turn_at words.now limit (slice_index_or self.now.seats.items t None) ≡ true) }
+        ensures none { result ≡ false
+            → (t : ℕ) → may_turn_at words.now limit (slice_index_or self.now.seats.items t None) ≡ false }
+        ensures one { result ≡ true
+            → (t : ℕ) × (may_turn_at words.now limit (slice_index_or self.now.seats.items t None) ≡ true) }
     {
         for seat in &self.seats {
             if may_turn_at(seat, words, limit) {

@@ -5,4 +5,5 @@ use Rattle.sharc_told_laws.specs.Prints.{events_in}
 
 -- so those of a thread, among the events of all, are what its own turns tell
 abbrev pub TurnsTellOwn : Type 0
-TurnsTellOwn = (code : Code) (s : Shape) (run : List Turn) (thread : ℕ) → filter (λ e. e.thread == thread) (events_in code s run) ≡ reverse (map (λ said. said.told) (said_by thread (Erase code s run)))
+TurnsTellOwn = (code : Code) (s : Shape) (run : List Turn) (thread : ℕ) → filter (λ e. e.thread == thread)
+    (events_in code s run) ≡ reverse (map (λ said. said.told) (said_by thread (Erase code s run)))

@@ -1,5 +1,6 @@
 -- What a run prints: the Print events of its source events, in their order.
-use Rattle.std.specs.Prelude.{◌≡◌, ℕ, ℤ, List, ◌++◌, codes, filter_map, flat_map, length, map, reverse, Option, Some, None}
+use Rattle.std.specs.Prelude.{◌≡◌, ℕ, ℤ, List, ◌++◌, codes, filter_map, flat_map, length, map, reverse, Option, Some}
+use Rattle.std.specs.Prelude.{None}
 use Rattle.std.specs.{Fmt.signed_decimal, List.range_with_len}
 use Rattle.sharc_tree.specs.{declared.event.Act.Act, declared.event.Act.TheVariants.{Print as Prints}}
 use Rattle.sharc_tree.specs.declared.event.SourceEvent.{SourceEvent}
@@ -34,11 +35,15 @@ pub record ArePrintsOf (R : List SourceEvent) (prints : List Print) : Type 0 whe
 
 -- all prints of the threads of a checked run, in the order of their places
 abbrev pub PrintsAreTold : Type 0
-PrintsAreTold = (code : Code) (s : Shape) → Fits code s → (run : List Turn) → CheckedRun code s run → (threads : List ThreadView) → AreStarted code s (place_after code s run) threads
+PrintsAreTold = (code : Code) (s : Shape) → Fits code s → (run : List Turn) → CheckedRun code s run
+    → (threads : List ThreadView) → AreStarted code s (place_after code s run) threads
     → (prints : List Print) → AreInOrder threads prints → ArePrintsOf (events_in code s run) prints
 
--- what is written of a run: a line for each Print event, in the order of these, and then a line for each thread that is not gone
+-- what is written of a run: a line for each Print event, in the order of these, and then a line for each thread that is
+-- not gone
 abbrev pub TextsBeginWithPrints : Type 0
-TextsBeginWithPrints = (code : Code) (s : Shape) → Fits code s → (run : List Turn) → CheckedRun code s run → (threads : List ThreadView) → AreStarted code s (place_after code s run) threads
+TextsBeginWithPrints = (code : Code) (s : Shape) → Fits code s → (run : List Turn) → CheckedRun code s run
+    → (threads : List ThreadView) → AreStarted code s (place_after code s run) threads
     → (text : List ℕ) → IsRunText code (place_after code s run).words threads text
-    → text ≡ flat_map value_line (printed_in (events_in code s run)) ++ flat_map (thread_line code (place_after code s run).words threads) threads
+    → text ≡ flat_map value_line (printed_in (events_in code s run))
+    ++ flat_map (thread_line code (place_after code s run).words threads) threads

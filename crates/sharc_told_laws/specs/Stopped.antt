@@ -7,4 +7,5 @@ use Rattle.sharc_code.specs.Whole.{CheckedRun, place_after}
 -- so the line of each thread that says why it was stopped is of a thread that was
 abbrev pub StopsAreStopped : Type 0
 StopsAreStopped = (code : Code) (s : Shape) (run : List Turn) → CheckedRun code s run → (t : ℕ) (stop : Stop)
-    → ((place_after code s run).threads t).own.stop ≡ Some stop → ((place_after code s run).threads t).at.state ≡ Stopped
+    → ((place_after code s run).threads t).own.stop ≡ Some stop
+    → ((place_after code s run).threads t).at.state ≡ Stopped

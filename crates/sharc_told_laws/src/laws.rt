@@ -21,8 +21,8 @@ pub fn stops_law()
     run_laws();
 }
 
-/// A thread that is stopped by the check of an access, or whose test of a sole reference did not find the count 1, stands
-/// there: nothing else of it changes to the end of the run.
+/// A thread that is stopped by the check of an access, or whose test of a sole reference did not find the count 1,
+/// stands there: nothing else of it changes to the end of the run.
 pub fn refused_stay()
     ensures checks { ChecksStay }
     ensures tests { TestsStay }

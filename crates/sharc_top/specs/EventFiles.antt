@@ -20,12 +20,16 @@ status_of (verdict.Fuel n) = status.FuelSpent
 -- of events of a program with its modes: what `check` writes where these are refused, else the verdict
 pub data Judges (m : Assignment) (fuel : ℕ) (events : List EventLine) : Status → List ℕ → Type 0 where
   not_judged : (text : List ℕ) → IsModeRefusal m text → Judges m fuel events status.ModesRefused text
-  judged : (v : Verdict) → MeetsRules m → Audits m fuel events v → Judges m fuel events (status_of v) (verdict_line fuel v)
+  judged : (v : Verdict) → MeetsRules m → Audits m fuel events v
+      → Judges m fuel events (status_of v) (verdict_line fuel v)
 
--- of events of a source within the limit: its first fault, else what becomes of the program that it is, with the least modes
+-- of events of a source within the limit: its first fault, else what becomes of the program that it is, with the least
+-- modes
 pub data JudgesSource (source : List ℕ) (fuel : ℕ) (events : List EventLine) : Status → List ℕ → Type 0 where
-  faulty_source : (fault : SourceFault) → IsSourceFault source fault → JudgesSource source fuel events status.SourceRefused (refusal_line fault)
-  of_program : (m : Assignment) (s : Status) (text : List ℕ) → IsFront source m → Judges m fuel events s text → JudgesSource source fuel events s text
+  faulty_source : (fault : SourceFault) → IsSourceFault source fault
+      → JudgesSource source fuel events status.SourceRefused (refusal_line fault)
+  of_program : (m : Assignment) (s : Status) (text : List ℕ) → IsFront source m → Judges m fuel events s text
+      → JudgesSource source fuel events s text
 
 -- an event file within the limit, with so few events that they are audited
 pub record IsFewIn (input source : List ℕ) (fuel : ℕ) (events : List EventLine) : Type 0 where
@@ -35,11 +39,16 @@ pub record IsFewIn (input source : List ℕ) (fuel : ℕ) (events : List EventLi
 
 -- of an input
 pub data FileReplies (input : List ℕ) : Status → List ℕ → Type 0 where
-  long_file : file_limit < length input → FileReplies input status.SourceRefused (line (codes "file over 16777216 bytes"))
-  no_file : (n : ℕ) → length input ≤ file_limit → IsFirstBad (text_lines input) n → FileReplies input status.SourceRefused (bad_line n)
-  many_events : length input ≤ file_limit → HasMany (text_lines input) → FileReplies input status.SourceRefused many_line
-  long_source : (source : List ℕ) (fuel : ℕ) (events : List EventLine) → IsFewIn input source fuel events → source_limit < length source → FileReplies input status.SourceRefused (line (codes "source over 1048576 bytes"))
-  source_judged : (source : List ℕ) (fuel : ℕ) (events : List EventLine) → IsFewIn input source fuel events → length source ≤ source_limit
+  long_file : file_limit < length input
+      → FileReplies input status.SourceRefused (line (codes "file over 16777216 bytes"))
+  no_file : (n : ℕ) → length input ≤ file_limit → IsFirstBad (text_lines input) n
+      → FileReplies input status.SourceRefused (bad_line n)
+  many_events : length input ≤ file_limit → HasMany (text_lines input)
+      → FileReplies input status.SourceRefused many_line
+  long_source : (source : List ℕ) (fuel : ℕ) (events : List EventLine) → IsFewIn input source fuel events
+      → source_limit < length source → FileReplies input status.SourceRefused (line (codes "source over 1048576 bytes"))
+  source_judged : (source : List ℕ) (fuel : ℕ) (events : List EventLine) → IsFewIn input source fuel events
+      → length source ≤ source_limit
       → (s : Status) (text : List ℕ) → JudgesSource source fuel events s text → FileReplies input s text
 
 -- of what a source of bytes had left; of one that does not report its bytes it is the reply to some input

@@ -5,4 +5,5 @@ use Rattle.sharc_top.specs.{declared.reply.Reply.Reply, declared.status.Status.T
 -- all that a source had left, which is within the limit; or the line that says that it is over it, where it is
 abbrev pub IsInput : Option (List ℕ) → ℕ → List ℕ → Result (Vec ℕ Global) Reply → Type 0
 IsInput left limit over (Ok bytes) = IfSome left (λ all. bytes.items ≡ all) × (length bytes.items ≤ limit)
-IsInput left limit over (Err reply) = IfSome left (λ all. limit < length all) × (reply.status ≡ SourceRefused) × (reply.text.items ≡ line over)
+IsInput left limit over (Err reply) =
+    IfSome left (λ all. limit < length all) × (reply.status ≡ SourceRefused) × (reply.text.items ≡ line over)

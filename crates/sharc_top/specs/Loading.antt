@@ -16,6 +16,8 @@ load_numbers workers = record { workers = workers; granules = 4096; events = 100
 
 -- the size of the source of this number, and then what `run` writes for it
 pub data LoadReplies (number workers : ℕ) : Status → List ℕ → Type 0 where
-  long : source_limit < length (source_of number) → LoadReplies number workers status.SourceRefused (line (codes "source over 1048576 bytes"))
-  loaded : (s : Status) (text : List ℕ) → length (source_of number) ≤ source_limit → Answers (task.Run (load_numbers workers)) (source_of number) s text
+  long : source_limit < length (source_of number)
+      → LoadReplies number workers status.SourceRefused (line (codes "source over 1048576 bytes"))
+  loaded : (s : Status) (text : List ℕ) → length (source_of number) ≤ source_limit
+      → Answers (task.Run (load_numbers workers)) (source_of number) s text
       → LoadReplies number workers s (size_lines (length (source_of number)) (number + 2) ++ text)

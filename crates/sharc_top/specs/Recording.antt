@@ -21,7 +21,8 @@ pub record AreRecordNumbers (n : RecordNumbers) : Type 0 where
   pub most : n.granules ≤ 65536
   pub few_events : n.events ≤ 200000
 
--- a recorded run of the code of a source, with a heap of this many granules, in which no thread makes more events than this
+-- a recorded run of the code of a source, with a heap of this many granules, in which no thread makes more events than
+-- this
 pub record Records (source : List ℕ) (heap limit : ℕ) (code : Code) (made : Ran) : Type 0 where
   pub shape : Shape
   pub fits : Fits code shape
@@ -38,19 +39,24 @@ pub record Replays (file : FileView) (code : Code) (ran : Ran) : Type 0 where
 -- what `check` writes where the modes are refused, else what is made of the program's code
 pub data GivesRun (m : Assignment) (Makes : Code → Ran → Type 0) : Status → List ℕ → Type 0 where
   not_made : (text : List ℕ) → IsModeRefusal m text → GivesRun m Makes status.ModesRefused text
-  made : (code : Code) (run : Ran) → MeetsRules m → IsCompiled m code → NumbersFit code → Makes code run → GivesRun m Makes (status_of run.outcome) run.text.items
+  made : (code : Code) (run : Ran) → MeetsRules m → IsCompiled m code → NumbersFit code → Makes code run
+      → GivesRun m Makes (status_of run.outcome) run.text.items
 
 -- of a source within the limit: its first fault, else what becomes of the program that it is, with the least modes
 pub data GivesSource (source : List ℕ) (Makes : Code → Ran → Type 0) : Status → List ℕ → Type 0 where
-  at_fault : (fault : SourceFault) → IsSourceFault source fault → GivesSource source Makes status.SourceRefused (refusal_line fault)
-  by_program : (m : Assignment) (s : Status) (text : List ℕ) → IsFront source m → GivesRun m Makes s text → GivesSource source Makes s text
+  at_fault : (fault : SourceFault) → IsSourceFault source fault
+      → GivesSource source Makes status.SourceRefused (refusal_line fault)
+  by_program : (m : Assignment) (s : Status) (text : List ℕ) → IsFront source m → GivesRun m Makes s text
+      → GivesSource source Makes s text
 
 -- ---- `record`
 
 -- of an input
 pub data RecordReplies (heap limit : ℕ) (input : List ℕ) : Status → List ℕ → Type 0 where
-  long_input : source_limit < length input → RecordReplies heap limit input status.SourceRefused (line (codes "source over 1048576 bytes"))
-  recorded : length input ≤ source_limit → (s : Status) (text : List ℕ) → GivesSource input (Records input heap limit) s text → RecordReplies heap limit input s text
+  long_input : source_limit < length input
+      → RecordReplies heap limit input status.SourceRefused (line (codes "source over 1048576 bytes"))
+  recorded : length input ≤ source_limit → (s : Status) (text : List ℕ)
+      → GivesSource input (Records input heap limit) s text → RecordReplies heap limit input s text
 
 -- of what a source of bytes had left; of one that does not report its bytes it is the reply to some input
 pub record IsRecordReply (heap limit : ℕ) (left : Option (List ℕ)) (s : Status) (text : List ℕ) : Type 0 where
@@ -70,9 +76,13 @@ pub record IsWithinFile (file : FileView) : Type 0 where
 
 -- of an input; what follows the line of the text changes nothing
 pub data ReplayReplies (input : List ℕ) : Status → List ℕ → Type 0 where
-  long_recording : recording_limit < length input → ReplayReplies input status.SourceRefused (line (codes "file over 1073741824 bytes"))
-  no_recording : (n : ℕ) → length input ≤ recording_limit → IsFault (lines_in input) n → ReplayReplies input status.SourceRefused (bad_file_line n)
-  long_source_in : (file : FileView) → length input ≤ recording_limit → IsFile input file → source_limit < length file.source → ReplayReplies input status.SourceRefused (line (codes "source over 1048576 bytes"))
+  long_recording : recording_limit < length input
+      → ReplayReplies input status.SourceRefused (line (codes "file over 1073741824 bytes"))
+  no_recording : (n : ℕ) → length input ≤ recording_limit → IsFault (lines_in input) n
+      → ReplayReplies input status.SourceRefused (bad_file_line n)
+  long_source_in : (file : FileView) → length input ≤ recording_limit → IsFile input file
+      → source_limit < length file.source
+      → ReplayReplies input status.SourceRefused (line (codes "source over 1048576 bytes"))
   replayed : (file : FileView) → length input ≤ recording_limit → IsFile input file → length file.source ≤ source_limit
       → (s : Status) (text : List ℕ) → GivesSource file.source (Replays file) s text → ReplayReplies input s text
 

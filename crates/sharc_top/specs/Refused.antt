@@ -21,8 +21,10 @@ pub record IsModeRefusal (m : Assignment) (text : List ℕ) : Type 0 where
 
 -- what is written for a source of which no code is built: its first fault, or the errors of the program that it is
 pub data Refuses (source : List ℕ) : Status → List ℕ → Type 0 where
-  source_refused : (fault : SourceFault) → IsSourceFault source fault → Refuses source status.SourceRefused (refusal_line fault)
-  modes_refused : (m : Assignment) (text : List ℕ) → IsFront source m → IsModeRefusal m text → Refuses source status.ModesRefused text
+  source_refused : (fault : SourceFault) → IsSourceFault source fault
+      → Refuses source status.SourceRefused (refusal_line fault)
+  modes_refused : (m : Assignment) (text : List ℕ) → IsFront source m → IsModeRefusal m text
+      → Refuses source status.ModesRefused text
 
 -- its code, or that
 abbrev pub IsBuiltOrRefused : List ℕ → Result Built Reply → Type 0

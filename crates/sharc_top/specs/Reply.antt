@@ -1,5 +1,6 @@
 -- What the program writes for its words and its input, and with which status it ends.
-use Rattle.std.specs.Prelude.{◌≡◌, ◌⊎◌, Bool, true, false, ℕ, ◌<◌, ◌≤◌, List, length, take, codes, Option, Some, None, IfSome, IsSome}
+use Rattle.std.specs.Prelude.{◌≡◌, ◌⊎◌, Bool, true, false, ℕ, ◌<◌, ◌≤◌, List, length, take, codes, Option, Some, None}
+use Rattle.std.specs.Prelude.{IfSome, IsSome}
 use Rattle.std.specs.Io.KnownBytes.{Appends}
 use Rattle.sharc_cli.specs.{Commands.commands, declared.command.Command.Command}
 use Rattle.sharc_cli.specs.declared.command.Command.TheVariants as command
@@ -15,7 +16,8 @@ use Rattle.sharc_top.specs.declared.task.Task.TheVariants as task
 abbrev pub task_of : Command → Option Task
 task_of command.Check = Some task.Check
 task_of command.Explain = Some task.Explain
-task_of (command.Run workers granules events seed) = Some (task.Run (record { workers = workers; granules = granules; events = events; seed = seed }))
+task_of (command.Run workers granules events seed) =
+    Some (task.Run (record { workers = workers; granules = granules; events = events; seed = seed }))
 task_of _ = None
 
 abbrev pub task_in : Option Command → Option Task
@@ -44,14 +46,21 @@ usage_text = codes "usage: check | explain | run [--workers N] [--granules N] [-
 -- what is written for the words and the input, and the status
 pub data Replies (words : List (List ℕ)) (input : List ℕ) : Status → List ℕ → Type 0 where
   usage : commands words ≡ None → Replies words input status.Usage (line usage_text)
-  too_long : ReadsSource words → source_limit < length input → Replies words input status.SourceRefused (line (codes "source over 1048576 bytes"))
-  answered : (t : Task) (s : Status) (text : List ℕ) → task_in (commands words) ≡ Some t → length input ≤ source_limit → Answers t input s text → Replies words input s text
-  loaded : (number workers : ℕ) (s : Status) (text : List ℕ) → commands words ≡ Some (command.Load number workers) → LoadReplies number workers s text → Replies words input s text
-  recorded : (workers heap limit : ℕ) (s : Status) (text : List ℕ) → commands words ≡ Some (command.Record workers heap limit) → RecordReplies heap limit input s text → Replies words input s text
-  replayed : (s : Status) (text : List ℕ) → commands words ≡ Some command.Replay → ReplayReplies input s text → Replies words input s text
-  audited : (s : Status) (text : List ℕ) → commands words ≡ Some command.Audit → FileReplies input s text → Replies words input s text
+  too_long : ReadsSource words → source_limit < length input
+      → Replies words input status.SourceRefused (line (codes "source over 1048576 bytes"))
+  answered : (t : Task) (s : Status) (text : List ℕ) → task_in (commands words) ≡ Some t → length input ≤ source_limit
+      → Answers t input s text → Replies words input s text
+  loaded : (number workers : ℕ) (s : Status) (text : List ℕ) → commands words ≡ Some (command.Load number workers)
+      → LoadReplies number workers s text → Replies words input s text
+  recorded : (workers heap limit : ℕ) (s : Status) (text : List ℕ) → commands words
+      ≡ Some (command.Record workers heap limit) → RecordReplies heap limit input s text → Replies words input s text
+  replayed : (s : Status) (text : List ℕ) → commands words ≡ Some command.Replay → ReplayReplies input s text
+      → Replies words input s text
+  audited : (s : Status) (text : List ℕ) → commands words ≡ Some command.Audit → FileReplies input s text
+      → Replies words input s text
 
--- The reply to the words and to what the source had left. Of a source that does not report its bytes it is the reply to some input.
+-- The reply to the words and to what the source had left. Of a source that does not report its bytes it is the reply to
+-- some input.
 pub record IsReply (words : List (List ℕ)) (left : Option (List ℕ)) (s : Status) (text : List ℕ) : Type 0 where
   pub input : List ℕ
   pub told : IfSome left (λ bytes. input ≡ bytes)

@@ -37,8 +37,9 @@ pub record IsRun (n : RunNumbers) (code : Code) (ran : Ran) : Type 0 where
   pub heap : shape.heap ≡ n.granules
   pub run : IsRunBy n.seed n code shape ran
 
--- what `check` writes where the modes are refused, else what a run of the program's code writes, whose numbers are in the ranges that the
--- machine asks for
+-- what `check` writes where the modes are refused, else what a run of the program's code writes, whose numbers are in
+-- the ranges that the machine asks for
 pub data Runs (n : RunNumbers) (m : Assignment) : Status → List ℕ → Type 0 where
   not_run : (text : List ℕ) → IsModeRefusal m text → Runs n m status.ModesRefused text
-  ran : (code : Code) (run : Ran) → MeetsRules m → IsCompiled m code → NumbersFit code → IsRun n code run → Runs n m (status_of run.outcome) run.text.items
+  ran : (code : Code) (run : Ran) → MeetsRules m → IsCompiled m code → NumbersFit code → IsRun n code run
+      → Runs n m (status_of run.outcome) run.text.items

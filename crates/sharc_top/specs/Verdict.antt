@@ -11,7 +11,8 @@ use Rattle.sharc_top.specs.declared.task.Task.TheVariants as task
 
 -- what `check` writes; of modes that are accepted, the reads of locals that a sharing cast or `free` may have nulled
 pub data Checks (m : Assignment) : Status → List ℕ → Type 0 where
-  accepted : (warnings : List Warning) → MeetsRules m → AreWarnings m.typed warnings → Checks m status.Done (accepted_text m.typed warnings)
+  accepted : (warnings : List Warning) → MeetsRules m → AreWarnings m.typed warnings
+      → Checks m status.Done (accepted_text m.typed warnings)
   refused : (text : List ℕ) → IsModeRefusal m text → Checks m status.ModesRefused text
 
 -- `explain` writes each variable's type with its modes and reasons, then what `check` writes

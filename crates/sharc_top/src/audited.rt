@@ -75,7 +75,8 @@ fn judged_with(
 fn source_judged(alloc: Global, file: &EventFile) -> Result<Reply, AllocError>
     requires few { length file.now.events ≤ 4096 }
     requires short { length file.now.source.items ≤ SOURCE_LIMIT }
-    ensures { IfOk result (λ reply. JudgesSource file.now.source.items file.now.fuel file.now.events reply.status reply.text.items) }
+    ensures { IfOk result
+        (λ reply. JudgesSource file.now.source.items file.now.fuel file.now.events reply.status reply.text.items) }
 {
     match front(alloc, &file.source) {
         Ok(ReachedProgram { program, reached }) => judged_with(alloc, program, &reached, file),

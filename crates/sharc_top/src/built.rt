@@ -9,7 +9,8 @@ use crate::verdict::mode_refusal;
 use sharc_build::{BuildFault, Built, build};
 use std::alloc::{AllocError, Global};
 
-/// The program that a source within the limit is, with its code; or what is written where the source has a fault or its modes are refused.
+/// The program that a source within the limit is, with its code; or what is written where the source has a fault or its
+/// modes are refused.
 pub fn built(alloc: Global, source: &[u8]) -> Result<Result<Built, Reply>, AllocError>
     requires { length source.now ≤ SOURCE_LIMIT }
     ensures { IfOk result (IsBuiltOrRefused source.now) }

@@ -17,7 +17,8 @@ pub(crate) fn ended<O: Sink>(reply: Result<Reply, Failure>, out: &mut O) -> u8
     ensures status { IsOfReply result ⊎ (result ≡ 10) ⊎ IsOfSilence result }
     ensures whole { IsOfReply result → WritesAll reply (O.held out.old) (O.held out.new) result }
     ensures cut_short { result ≡ 10 → WritesPart reply (O.held out.old) (O.held out.new) }
-    ensures sink_failed { result ≡ 10 → EitherRose (O.faults out.old) (O.faults out.new) (O.stalls out.old) (O.stalls out.new) }
+    ensures sink_failed { result ≡ 10
+        → EitherRose (O.faults out.old) (O.faults out.new) (O.stalls out.old) (O.stalls out.new) }
     ensures source_failed { result ≡ 9 → reply ≡ Err Failure.Source }
     ensures silent { IsOfSilence result → O.held out.new ≡ O.held out.old }
     ensures sink_faults { O.faults out.old ≤ O.faults out.new }

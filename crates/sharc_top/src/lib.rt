@@ -1,7 +1,7 @@
 //! The command line and the top call.
 //!
-//! The program calls [`sharc_top`]; `Replies` of specs/Reply.antt says what it writes and with which status it ends. A program beside it
-//! may use `built::built`, with the replies and statuses of a source that is refused.
+//! The program calls [`sharc_top`]; `Replies` of specs/Reply.antt says what it writes and with which status it ends. A
+//! program beside it may use `built::built`, with the replies and statuses of a source that is refused.
 #![tactic(auto)]
 
 mod audited;

@@ -26,7 +26,8 @@ fn size_text(alloc: Global, bytes: usize, functions: u32) -> Result<Vec<u8>, All
     Ok(text.into_bytes())
 }
 
-/// What is written of a source with this many functions beside `main` and `work`: its size, and then what `run` writes for it.
+/// What is written of a source with this many functions beside `main` and `work`: its size, and then what `run` writes
+/// for it.
 pub(crate) fn loaded<R: Threads + Sync, G: Gate + Sync>(
     rt: &R,
     gate: &G,

@@ -81,7 +81,8 @@ fn run_reply<R: Threads + Sync, G: Gate + Sync>(
     numbers: RunNumbers,
 ) -> Result<Reply, AllocError>
     requires { AreNumbers numbers }
-    ensures { IfOk result (λ reply. (m : Assignment) → MeetsRules m → IsCompiled m code.now → NumbersFit code.now → Runs numbers m reply.status reply.text.items) }
+    ensures { IfOk result (λ reply. (m : Assignment) → MeetsRules m → IsCompiled m code.now → NumbersFit code.now
+        → Runs numbers m reply.status reply.text.items) }
 {
     let ran = ran(rt, gate, alloc, code, numbers)?;
     Ok(Reply {

@@ -7,7 +7,8 @@ ghost use Rattle.sharc_mode_laws.specs.Rules.{MeetsRules};
 ghost use Rattle.sharc_code.specs.Ranges.{NumbersFit};
 ghost use Rattle.sharc_sound.specs.Compiled.{IsCompiled};
 ghost use Rattle.sharc_cli.specs.Bounds.{IsWithin};
-ghost use Rattle.sharc_top.specs.Recording.{Records, GivesRun, GivesSource, RecordReplies, IsRecordReply, AreRecordNumbers};
+ghost use Rattle.sharc_top.specs.Recording.{Records, GivesRun, GivesSource, RecordReplies, IsRecordReply};
+ghost use Rattle.sharc_top.specs.Recording.{AreRecordNumbers};
 
 use crate::built::built;
 use crate::input::input_within;
@@ -45,7 +46,8 @@ fn file_of_run<R: Threads + Wait + Sync, G: Gate + Sync>(
     numbers: RecordNumbers,
 ) -> Result<Reply, AllocError>
     requires { AreRecordNumbers numbers }
-    ensures { IfOk result (λ reply. (m : Assignment) → MeetsRules m → IsCompiled m code.now → NumbersFit code.now → GivesRun m (Records source.now numbers.granules numbers.events) reply.status reply.text.items) }
+    ensures { IfOk result (λ reply. (m : Assignment) → MeetsRules m → IsCompiled m code.now → NumbersFit code.now
+        → GivesRun m (Records source.now numbers.granules numbers.events) reply.status reply.text.items) }
 {
     let shape = shape_of(code, numbers.granules);
     let ran = record_by_workers(
@@ -74,7 +76,8 @@ fn source_recorded<R: Threads + Wait + Sync, G: Gate + Sync>(
 ) -> Result<Reply, AllocError>
     requires numbers { AreRecordNumbers numbers }
     requires short { length source.now ≤ SOURCE_LIMIT }
-    ensures { IfOk result (λ reply. GivesSource source.now (Records source.now numbers.granules numbers.events) reply.status reply.text.items) }
+    ensures { IfOk result (λ reply.
+        GivesSource source.now (Records source.now numbers.granules numbers.events) reply.status reply.text.items) }
 {
     match built(alloc, source)? {
         Ok(built) => {
@@ -99,7 +102,8 @@ pub(crate) fn recorded<R: Threads + Wait + Sync, G: Gate + Sync, S: Source>(
     requires workers { IsWithin 1 16 workers }
     requires granules { IsWithin 16 65536 granules }
     requires events { IsWithin 1 200000 events }
-    ensures reply { IfOk result (λ reply. IsRecordReply granules events (S.left input.old) reply.status reply.text.items) }
+    ensures reply { IfOk result
+        (λ reply. IsRecordReply granules events (S.left input.old) reply.status reply.text.items) }
     ensures fault { IsErrOf result Failure.Source → Rose (S.faults input.old) (S.faults input.new) }
     ensures counted { S.faults input.old ≤ S.faults input.new }
 {

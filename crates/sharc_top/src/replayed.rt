@@ -8,7 +8,8 @@ ghost use Rattle.sharc_code.specs.Ranges.{NumbersFit};
 ghost use Rattle.sharc_sound.specs.Compiled.{IsCompiled};
 ghost use Rattle.sharc_recorded.specs.File.{IsFile, AreNumbers};
 ghost use Rattle.sharc_recorded.specs.Shown.{FaultIs, view_of};
-ghost use Rattle.sharc_top.specs.Recording.{Replays, GivesRun, GivesSource, ReplayReplies, IsReplayReply, bad_file_line, IsWithinFile};
+ghost use Rattle.sharc_top.specs.Recording.{Replays, GivesRun, GivesSource, ReplayReplies, IsReplayReply};
+ghost use Rattle.sharc_top.specs.Recording.{bad_file_line, IsWithinFile};
 
 use crate::built::built;
 use crate::input::input_within;
@@ -30,7 +31,8 @@ const FILE_LIMIT: usize = 1_073_741_824;
 /// The run of this code by the schedule of a file.
 fn run_of_file(alloc: Global, code: &Code, file: &RecordFile) -> Result<Reply, AllocError>
     requires { IsWithinFile (view_of file.now) }
-    ensures { IfOk result (λ reply. (m : Assignment) → MeetsRules m → IsCompiled m code.now → NumbersFit code.now → GivesRun m (Replays (view_of file.now)) reply.status reply.text.items) }
+    ensures { IfOk result (λ reply. (m : Assignment) → MeetsRules m → IsCompiled m code.now → NumbersFit code.now
+        → GivesRun m (Replays (view_of file.now)) reply.status reply.text.items) }
 {
     let shape = shape_of(code, file.heap);
     let ran = run_by_schedule(alloc, code, &shape, file.places.as_slice(), file.limit)?;
@@ -44,7 +46,8 @@ fn run_of_file(alloc: Global, code: &Code, file: &RecordFile) -> Result<Reply, A
 fn source_replayed(alloc: Global, file: &RecordFile) -> Result<Reply, AllocError>
     requires file { IsWithinFile (view_of file.now) }
     requires short { length file.now.source.items ≤ SOURCE_LIMIT }
-    ensures { IfOk result (λ reply. GivesSource file.now.source.items (Replays (view_of file.now)) reply.status reply.text.items) }
+    ensures { IfOk result
+        (λ reply. GivesSource file.now.source.items (Replays (view_of file.now)) reply.status reply.text.items) }
 {
     match built(alloc, &file.source)? {
         Ok(built) => {

@@ -1,6 +1,7 @@
 //! Text that is written: its lines, and writing it line by line.
 
-ghost use Rattle.std.specs.Prelude.{◌≡◌, ◌+◌, ◌∷◌, ◌++◌, ◌<◌, ◌≤◌, [], ℕ, List, length, take, drop, decimal, flat_map, IfOk, IfErr, OnOk, OnErr};
+ghost use Rattle.std.specs.Prelude.{◌≡◌, ◌+◌, ◌∷◌, ◌++◌, ◌<◌, ◌≤◌, [], ℕ, List, length, take, drop, decimal, flat_map};
+ghost use Rattle.std.specs.Prelude.{IfOk, IfErr, OnOk, OnErr};
 ghost use Rattle.std.specs.Io.KnownBytes.{Appends};
 ghost use Rattle.sharc_io.specs.Causes.{EitherRose};
 ghost use Rattle.sharc_top.specs.Text.{line};
@@ -28,7 +29,8 @@ pub fn write_lines<O: Sink>(out: &mut O, text: &[u8]) -> Result<(), WriteFault>
     ensures all { OnOk result (Appends (O.held out.old) (O.held out.new) text.now) }
     ensures part { IfErr result (λ fault. Appends (O.held out.old) (O.held out.new) (take fault.written text.now)) }
     ensures short { IfErr result (λ fault. fault.written < length text.now) }
-    ensures cause { OnErr result (EitherRose (O.faults out.old) (O.faults out.new) (O.stalls out.old) (O.stalls out.new)) }
+    ensures cause { OnErr result
+        (EitherRose (O.faults out.old) (O.faults out.new) (O.stalls out.old) (O.stalls out.new)) }
     ensures faults { O.faults out.old ≤ O.faults out.new }
     ensures stalls { O.stalls out.old ≤ O.stalls out.new }
 {

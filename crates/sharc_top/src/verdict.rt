@@ -1,7 +1,7 @@
 //! What `check` and `explain` make of a program with its modes.
 //!
-//! Where `check` has its text the program is not taken apart, which would take a fifth of the time of `check`: the process ends then, and the system takes
-//! back its memory.
+//! Where `check` has its text the program is not taken apart, which would take a fifth of the time of `check`: the
+//! process ends then, and the system takes back its memory.
 
 ghost use Rattle.std.specs.Prelude.{◌≡◌, ◌++◌, IfOk};
 ghost use Rattle.sharc_reach.specs.Reaching.{AreReached};

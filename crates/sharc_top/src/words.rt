@@ -83,7 +83,8 @@ fn answered<R: Threads + Sync, G: Gate + Sync, S: Source>(
     input: &mut S,
 ) -> Result<Reply, Failure>
     requires { IsTask task }
-    ensures reply { IfOk result (λ reply. (words : List (List ℕ)) → task_in (commands words) ≡ Some task → IsReply words (S.left input.old) reply.status reply.text.items) }
+    ensures reply { IfOk result (λ reply. (words : List (List ℕ)) → task_in (commands words) ≡ Some task
+        → IsReply words (S.left input.old) reply.status reply.text.items) }
     ensures fault { IsErrOf result Failure.Source → Rose (S.faults input.old) (S.faults input.new) }
     ensures counted { S.faults input.old ≤ S.faults input.new }
 {
@@ -96,8 +97,8 @@ fn answered<R: Threads + Sync, G: Gate + Sync, S: Source>(
     }
 }
 
-/// The reply to a command other than `record`, or to words that are no command, and to the input. The input is read only where there is a command, and
-/// not `load`.
+/// The reply to a command other than `record`, or to words that are no command, and to the input. The input is read
+/// only where there is a command, and not `load`.
 pub fn reply_to<R: Threads + Sync, G: Gate + Sync, S: Source>(
     rt: &R,
     gate: &G,
@@ -107,11 +108,14 @@ pub fn reply_to<R: Threads + Sync, G: Gate + Sync, S: Source>(
 ) -> Result<Reply, Failure>
     requires asked { IsAsked command }
     requires returns { may_wait command ≡ false }
-    ensures reply { IfOk result (λ reply. (words : List (List ℕ)) → commands words ≡ command → IsReply words (S.left input.old) reply.status reply.text.items) }
-    ensures command { IsErrOf result Failure.Source → (words : List (List ℕ)) → commands words ≡ command → ReadsInput words }
+    ensures reply { IfOk result (λ reply. (words : List (List ℕ)) → commands words ≡ command
+        → IsReply words (S.left input.old) reply.status reply.text.items) }
+    ensures command { IsErrOf result Failure.Source
+        → (words : List (List ℕ)) → commands words ≡ command → ReadsInput words }
     ensures fault { IsErrOf result Failure.Source → Rose (S.faults input.old) (S.faults input.new) }
     ensures counted { S.faults input.old ≤ S.faults input.new }
-    ensures unread { (words : List (List ℕ)) → commands words ≡ command → ¬ (ReadsInput words) → (S.left input.new ≡ S.left input.old) × (S.faults input.new ≡ S.faults input.old) }
+    ensures unread { (words : List (List ℕ)) → commands words ≡ command → ¬ (ReadsInput words)
+        → (S.left input.new ≡ S.left input.old) × (S.faults input.new ≡ S.faults input.old) }
 {
     numbers_are_within();
     let Some(command) = command else {

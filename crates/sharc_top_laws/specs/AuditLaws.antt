@@ -1,4 +1,5 @@
--- Which reply `audit` has to an event file whose source is a program with accepted modes: that of its verdict, and no other.
+-- Which reply `audit` has to an event file whose source is a program with accepted modes: that of its verdict, and no
+-- other.
 use Rattle.std.specs.{Prelude.{◌≡◌, ℕ, ◌≤◌, List, length, Option, Some}, Io.KnownBytes.Appends}
 use Rattle.sharc_mode.specs.Moded.{Assignment}
 use Rattle.sharc_mode_laws.specs.Rules.{MeetsRules}
@@ -9,8 +10,10 @@ use Rattle.sharc_sound.specs.Front.{IsFront}
 use Rattle.sharc_top.specs.{declared.status.Status.Status, EventFiles.{IsFewIn, status_of}, Limits.source_limit}
 use Rattle.sharc_top.specs.{Reply.{IsReply, Replied}, Status.code_of}
 
--- The words are those of `audit`; the input is an event file within the limits, and its source this program with these modes, which are accepted.
-pub record IsAudited (words : List (List ℕ)) (input : List ℕ) (m : Assignment) (fuel : ℕ) (events : List EventLine) : Type 0 where
+-- The words are those of `audit`; the input is an event file within the limits, and its source this program with these
+-- modes, which are accepted.
+pub record IsAudited (words : List (List ℕ)) (input : List ℕ) (m : Assignment) (fuel : ℕ)
+    (events : List EventLine) : Type 0 where
   pub asked : commands words ≡ Some Audit
   pub source : List ℕ
   pub file : IsFewIn input source fuel events
@@ -27,13 +30,17 @@ pub record IsVerdict (m : Assignment) (fuel : ℕ) (events : List EventLine) (s 
 
 abbrev pub AuditsAreOnly : Type 0
 AuditsAreOnly =
-    (words : List (List ℕ)) (input : List ℕ) (m : Assignment) (fuel : ℕ) (events : List EventLine) → IsAudited words input m fuel events → (s : Status) (text : List ℕ) → IsReply words (Some input) s text → IsVerdict m fuel events s text
+    (words : List (List ℕ)) (input : List ℕ) (m : Assignment) (fuel : ℕ) (events : List EventLine)
+    → IsAudited words input m fuel events
+    → (s : Status) (text : List ℕ) → IsReply words (Some input) s text → IsVerdict m fuel events s text
 
 -- the verdict of its events is shown by its line and its status
 abbrev pub AuditsAreTold : Type 0
 AuditsAreTold =
-    (words : List (List ℕ)) (input : List ℕ) (m : Assignment) (fuel : ℕ) (events : List EventLine) → IsAudited words input m fuel events → (v : Verdict) → Audits m fuel events v
-    → (old new : Option (List ℕ)) (code : ℕ) → Replied words (Some input) old new code → (code ≡ code_of (status_of v)) × Appends old new (verdict_line fuel v)
+    (words : List (List ℕ)) (input : List ℕ) (m : Assignment) (fuel : ℕ) (events : List EventLine)
+    → IsAudited words input m fuel events → (v : Verdict) → Audits m fuel events v
+    → (old new : Option (List ℕ)) (code : ℕ) → Replied words (Some input) old new code
+    → (code ≡ code_of (status_of v)) × Appends old new (verdict_line fuel v)
 
 pub record AuditLaws : Type 0 where
   pub only : AuditsAreOnly

@@ -1,4 +1,5 @@
--- What is written of runs of a source whose modes are accepted: the text of an interleaving of its code that performs a run of the source without checks, and keeps the modes.
+-- What is written of runs of a source whose modes are accepted: the text of an interleaving of its code that performs a
+-- run of the source without checks, and keeps the modes.
 use Rattle.std.specs.Prelude.{◌≡◌, ℕ, List, Some}
 use Rattle.sharc_mode.specs.Moded.{Assignment}
 use Rattle.sharc_mode_laws.specs.Rules.{MeetsRules}
@@ -14,7 +15,8 @@ use Rattle.sharc_top.specs.declared.task.Task.TheVariants as task
 use Rattle.sharc_top_laws.specs.{Laws.IsAsked, RecordLaws.{IsRecorded, IsReplayed}}
 use Rattle.sharc_recorded.specs.File.{FileView}
 
--- this is the end of an interleaving of the code of the program, with a heap of so many granules, whose source events are a run of the source that keeps the modes
+-- this is the end of an interleaving of the code of the program, with a heap of so many granules, whose source events
+-- are a run of the source that keeps the modes
 pub record IsKept (m : Assignment) (heap limit : ℕ) (ran : Ran) : Type 0 where
   pub code : Code
   pub compiled : IsCompiled m code
@@ -35,13 +37,16 @@ pub record IsTextOfKept (m : Assignment) (heap limit : ℕ) (s : Status) (text :
 
 -- where the modes of a source are accepted, no reply to `run` is another
 abbrev pub RunsKeep : Type 0
-RunsKeep = (words : List (List ℕ)) (n : RunNumbers) (input : List ℕ) (m : Assignment) → IsAsked words (task.Run n) input m → MeetsRules m → (s : Status) (text : List ℕ) → IsReply words (Some input) s text
+RunsKeep = (words : List (List ℕ)) (n : RunNumbers) (input : List ℕ) (m : Assignment)
+    → IsAsked words (task.Run n) input m → MeetsRules m
+    → (s : Status) (text : List ℕ) → IsReply words (Some input) s text
     → IsTextOfKept m n.granules n.events s text
 
 -- ---- `replay`
 -- nor to `replay` of a file whose source is such a program
 abbrev pub ReplaysKeep : Type 0
-ReplaysKeep = (words : List (List ℕ)) (input : List ℕ) (file : FileView) (m : Assignment) → IsReplayed words input file m → (s : Status) (text : List ℕ) → IsReply words (Some input) s text
+ReplaysKeep = (words : List (List ℕ)) (input : List ℕ) (file : FileView) (m : Assignment)
+    → IsReplayed words input file m → (s : Status) (text : List ℕ) → IsReply words (Some input) s text
     → IsTextOfKept m file.heap file.limit s text
 
 -- ---- `record`
@@ -52,7 +57,8 @@ pub record IsFileOfKept (m : Assignment) (heap limit : ℕ) (s : Status) : Type 
   pub ends : s ≡ status_of ran.outcome
 
 abbrev pub RecordsKeep : Type 0
-RecordsKeep = (words : List (List ℕ)) (heap limit : ℕ) (source : List ℕ) (m : Assignment) → IsRecorded words heap limit source m → (s : Status) (text : List ℕ) → IsReply words (Some source) s text
+RecordsKeep = (words : List (List ℕ)) (heap limit : ℕ) (source : List ℕ) (m : Assignment)
+    → IsRecorded words heap limit source m → (s : Status) (text : List ℕ) → IsReply words (Some source) s text
     → IsFileOfKept m heap limit s
 
 pub record KeptLaws : Type 0 where

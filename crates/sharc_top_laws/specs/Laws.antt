@@ -1,5 +1,5 @@
--- What is one: the warnings of a program, what a source is, and the reply, where nothing is run; and which reply it is where the source is a
--- program.
+-- What is one: the warnings of a program, what a source is, and the reply, where nothing is run; and which reply it is
+-- where the source is a program.
 use Rattle.std.specs.{Prelude.{◌≡◌, ℕ, ◌≤◌, List, ◌++◌, length, Option, Some, None}, Io.KnownBytes.Appends}
 use Rattle.sharc_ctype.specs.Resolved.{Resolution}
 use Rattle.sharc_mode.specs.{declared.error.Warning.Warning, Moded.Assignment}
@@ -29,7 +29,8 @@ ProgramsAreOne = (source : List ℕ) (a b : Assignment) → IsFront source a →
 
 -- and then has no fault
 abbrev pub ProgramsHaveNoFault : Type 0
-ProgramsHaveNoFault = (source : List ℕ) (m : Assignment) → IsFront source m → (fault : SourceFault) → IsSourceFault source fault → ⊥
+ProgramsHaveNoFault = (source : List ℕ) (m : Assignment) → IsFront source m
+    → (fault : SourceFault) → IsSourceFault source fault → ⊥
 
 -- its first fault is one
 abbrev pub FaultsAreOne : Type 0
@@ -57,15 +58,20 @@ MakesRun _ = ⊥
 
 -- what is written for a source within the limit, and the status
 abbrev pub AnswersAreOne : Type 0
-AnswersAreOne = (t : Task) → RunsNothing t → (source : List ℕ) (s z : Status) (text other : List ℕ) → Answers t source s text → Answers t source z other → (s ≡ z) × (text ≡ other)
+AnswersAreOne = (t : Task) → RunsNothing t → (source : List ℕ) (s z : Status) (text other : List ℕ)
+    → Answers t source s text → Answers t source z other → (s ≡ z) × (text ≡ other)
 
 -- for any words that run nothing and any input
 abbrev pub RepliesAreOne : Type 0
-RepliesAreOne = (words : List (List ℕ)) → ¬ (MakesRun (commands words)) → (input : List ℕ) (s z : Status) (text other : List ℕ) → Replies words input s text → Replies words input z other → (s ≡ z) × (text ≡ other)
+RepliesAreOne = (words : List (List ℕ)) → ¬ (MakesRun (commands words))
+    → (input : List ℕ) (s z : Status) (text other : List ℕ) → Replies words input s text → Replies words input z other
+    → (s ≡ z) × (text ≡ other)
 
 -- and for a source that reports its bytes
 abbrev pub ReplyIsOne : Type 0
-ReplyIsOne = (words : List (List ℕ)) → ¬ (MakesRun (commands words)) → (bytes : List ℕ) (s z : Status) (text other : List ℕ) → IsReply words (Some bytes) s text → IsReply words (Some bytes) z other → (s ≡ z) × (text ≡ other)
+ReplyIsOne = (words : List (List ℕ)) → ¬ (MakesRun (commands words))
+    → (bytes : List ℕ) (s z : Status) (text other : List ℕ) → IsReply words (Some bytes) s text
+    → IsReply words (Some bytes) z other → (s ≡ z) × (text ≡ other)
 
 pub record ReplyLaws : Type 0 where
   pub answers : AnswersAreOne
@@ -95,13 +101,16 @@ pub record IsExplanation (m : Assignment) (text : List ℕ) : Type 0 where
 -- where the modes are accepted no reply is another, whether it is written whole or in part
 abbrev pub ChecksAreOnly : Type 0
 ChecksAreOnly =
-    (words : List (List ℕ)) (input : List ℕ) (m : Assignment) → IsAsked words task.Check input m → MeetsRules m → (s : Status) (text : List ℕ) → IsReply words (Some input) s text → (s ≡ status.Done) × IsAcceptance m text
+    (words : List (List ℕ)) (input : List ℕ) (m : Assignment) → IsAsked words task.Check input m → MeetsRules m
+    → (s : Status) (text : List ℕ) → IsReply words (Some input) s text → (s ≡ status.Done) × IsAcceptance m text
 
 abbrev pub ExplainsAreOnly : Type 0
 ExplainsAreOnly =
-    (words : List (List ℕ)) (input : List ℕ) (m : Assignment) → IsAsked words task.Explain input m → MeetsRules m → (s : Status) (text : List ℕ) → IsReply words (Some input) s text → (s ≡ status.Done) × IsExplanation m text
+    (words : List (List ℕ)) (input : List ℕ) (m : Assignment) → IsAsked words task.Explain input m → MeetsRules m
+    → (s : Status) (text : List ℕ) → IsReply words (Some input) s text → (s ≡ status.Done) × IsExplanation m text
 
--- what `run` writes where the modes are accepted: the text of a run of the program's code, with these numbers, with the status of that run
+-- what `run` writes where the modes are accepted: the text of a run of the program's code, with these numbers, with the
+-- status of that run
 pub record IsRunning (n : RunNumbers) (m : Assignment) (s : Status) (text : List ℕ) : Type 0 where
   pub code : Code
   pub compiled : IsCompiled m code
@@ -113,23 +122,27 @@ pub record IsRunning (n : RunNumbers) (m : Assignment) (s : Status) (text : List
 
 abbrev pub RunsAreOnly : Type 0
 RunsAreOnly =
-    (words : List (List ℕ)) (n : RunNumbers) (input : List ℕ) (m : Assignment) → IsAsked words (task.Run n) input m → MeetsRules m → (s : Status) (text : List ℕ) → IsReply words (Some input) s text → IsRunning n m s text
+    (words : List (List ℕ)) (n : RunNumbers) (input : List ℕ) (m : Assignment) → IsAsked words (task.Run n) input m
+    → MeetsRules m → (s : Status) (text : List ℕ) → IsReply words (Some input) s text → IsRunning n m s text
 
 -- so where it is written whole the exit status is 0
 abbrev pub ChecksAreTold : Type 0
 ChecksAreTold =
-    (words : List (List ℕ)) (input : List ℕ) (m : Assignment) → IsAsked words task.Check input m → MeetsRules m → (old new : Option (List ℕ)) (code : ℕ) → Replied words (Some input) old new code
+    (words : List (List ℕ)) (input : List ℕ) (m : Assignment) → IsAsked words task.Check input m → MeetsRules m
+    → (old new : Option (List ℕ)) (code : ℕ) → Replied words (Some input) old new code
     → (code ≡ 0) × (text : List ℕ) × IsAcceptance m text × Appends old new text
 
 abbrev pub ExplainsAreTold : Type 0
 ExplainsAreTold =
-    (words : List (List ℕ)) (input : List ℕ) (m : Assignment) → IsAsked words task.Explain input m → MeetsRules m → (old new : Option (List ℕ)) (code : ℕ) → Replied words (Some input) old new code
+    (words : List (List ℕ)) (input : List ℕ) (m : Assignment) → IsAsked words task.Explain input m → MeetsRules m
+    → (old new : Option (List ℕ)) (code : ℕ) → Replied words (Some input) old new code
     → (code ≡ 0) × (text : List ℕ) × IsExplanation m text × Appends old new text
 
 -- and where they are not it is 1, for `run` too
 abbrev pub OthersAreRefused : Type 0
 OthersAreRefused =
-    (words : List (List ℕ)) (t : Task) (input : List ℕ) (m : Assignment) → IsAsked words t input m → ¬ (MeetsRules m) → (old new : Option (List ℕ)) (code : ℕ) → Replied words (Some input) old new code → code ≡ 1
+    (words : List (List ℕ)) (t : Task) (input : List ℕ) (m : Assignment) → IsAsked words t input m → ¬ (MeetsRules m)
+    → (old new : Option (List ℕ)) (code : ℕ) → Replied words (Some input) old new code → code ≡ 1
 
 pub record VerdictLaws : Type 0 where
   pub check_only : ChecksAreOnly

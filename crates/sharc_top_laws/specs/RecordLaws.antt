@@ -1,5 +1,5 @@
--- Which replies `record` and `replay` have where the source is a program with accepted modes, and what `replay` makes of the file that
--- `record` wrote.
+-- Which replies `record` and `replay` have where the source is a program with accepted modes, and what `replay` makes
+-- of the file that `record` wrote.
 use Rattle.std.specs.Prelude.{◌≡◌, ℕ, ◌≤◌, List, length, Some}
 use Rattle.sharc_mode.specs.Moded.{Assignment}
 use Rattle.sharc_mode_laws.specs.Rules.{MeetsRules}
@@ -18,7 +18,8 @@ pub record SaysAgain (file : FileView) (made again : Ran) : Type 0 where
   pub text : made.text.items ≡ written file again.text.items
   pub outcome : made.outcome ≡ again.outcome
 
--- what was written is one recorded file, which says the source, the heap and the limit, and a schedule by which the same code runs so
+-- what was written is one recorded file, which says the source, the heap and the limit, and a schedule by which the
+-- same code runs so
 pub record IsReplayable (source : List ℕ) (heap limit : ℕ) (code : Code) (made : Ran) : Type 0 where
   pub file : FileView
   pub is : IsFile made.text.items file
@@ -28,7 +29,8 @@ pub record IsReplayable (source : List ℕ) (heap limit : ℕ) (code : Code) (ma
   pub limit_is : file.limit ≡ limit
   pub again : (ran : Ran) → Replays file code ran → SaysAgain file made ran
 
--- the words are those of `record` with these numbers; the source is within the limit, and this program with these modes, which are accepted
+-- the words are those of `record` with these numbers; the source is within the limit, and this program with these
+-- modes, which are accepted
 pub record IsRecorded (words : List (List ℕ)) (heap limit : ℕ) (source : List ℕ) (m : Assignment) : Type 0 where
   pub workers : ℕ
   pub asked : commands words ≡ Some (Record workers heap limit)
@@ -49,12 +51,13 @@ pub record IsRecording (source : List ℕ) (heap limit : ℕ) (m : Assignment) (
 
 abbrev pub RecordsAreOnly : Type 0
 RecordsAreOnly =
-    (words : List (List ℕ)) (heap limit : ℕ) (source : List ℕ) (m : Assignment) → IsRecorded words heap limit source m → (s : Status) (text : List ℕ) → IsReply words (Some source) s text → IsRecording source heap limit m s text
+    (words : List (List ℕ)) (heap limit : ℕ) (source : List ℕ) (m : Assignment) → IsRecorded words heap limit source m
+    → (s : Status) (text : List ℕ) → IsReply words (Some source) s text → IsRecording source heap limit m s text
 
 -- ---- `replay`
 
--- the words are those of `replay`; the input is a recorded file within the limits, whose source is this program with these modes, which
--- are accepted
+-- the words are those of `replay`; the input is a recorded file within the limits, whose source is this program with
+-- these modes, which are accepted
 pub record IsReplayed (words : List (List ℕ)) (input : List ℕ) (file : FileView) (m : Assignment) : Type 0 where
   pub asked : commands words ≡ Some Replay
   pub short : length input ≤ recording_limit
@@ -63,7 +66,8 @@ pub record IsReplayed (words : List (List ℕ)) (input : List ℕ) (file : FileV
   pub front : IsFront file.source m
   pub meets : MeetsRules m
 
--- a reply is the text of the run of the code of the program that the file's schedule chooses, with the status of that run
+-- a reply is the text of the run of the code of the program that the file's schedule chooses, with the status of that
+-- run
 pub record IsReplaying (file : FileView) (m : Assignment) (s : Status) (text : List ℕ) : Type 0 where
   pub code : Code
   pub compiled : IsCompiled m code
@@ -75,7 +79,8 @@ pub record IsReplaying (file : FileView) (m : Assignment) (s : Status) (text : L
 
 abbrev pub ReplaysAreOnly : Type 0
 ReplaysAreOnly =
-    (words : List (List ℕ)) (input : List ℕ) (file : FileView) (m : Assignment) → IsReplayed words input file m → (s : Status) (text : List ℕ) → IsReply words (Some input) s text → IsReplaying file m s text
+    (words : List (List ℕ)) (input : List ℕ) (file : FileView) (m : Assignment) → IsReplayed words input file m
+    → (s : Status) (text : List ℕ) → IsReply words (Some input) s text → IsReplaying file m s text
 
 -- ---- `replay` of what `record` wrote
 
@@ -89,8 +94,10 @@ pub record SaysTheSame (text : List ℕ) (s : Status) (again : List ℕ) (t : St
 -- whichever code each of them made
 abbrev pub ReplaysSayAgain : Type 0
 ReplaysSayAgain =
-    (words : List (List ℕ)) (heap limit : ℕ) (source : List ℕ) (m : Assignment) → IsRecorded words heap limit source m → (s : Status) (text : List ℕ) → IsReply words (Some source) s text
-    → length text ≤ recording_limit → (other : List (List ℕ)) → commands other ≡ Some Replay → (t : Status) (again : List ℕ) → IsReply other (Some text) t again → SaysTheSame text s again t
+    (words : List (List ℕ)) (heap limit : ℕ) (source : List ℕ) (m : Assignment) → IsRecorded words heap limit source m
+    → (s : Status) (text : List ℕ) → IsReply words (Some source) s text
+    → length text ≤ recording_limit → (other : List (List ℕ)) → commands other ≡ Some Replay
+    → (t : Status) (again : List ℕ) → IsReply other (Some text) t again → SaysTheSame text s again t
 
 pub record RecordLaws : Type 0 where
   pub records : RecordsAreOnly

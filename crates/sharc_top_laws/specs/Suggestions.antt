@@ -28,11 +28,13 @@ pub record IsRepairing (m : Assignment) (text : List ℕ) : Type 0 where
 
 -- of the program that a source is
 abbrev pub RefusalsRepair : Type 0
-RefusalsRepair = (source : List ℕ) (m : Assignment) → IsFront source m → (text : List ℕ) (refusal : IsModeRefusal m text) → EachRepairs m refusal.errors refusal.casts
+RefusalsRepair = (source : List ℕ) (m : Assignment) → IsFront source m
+    → (text : List ℕ) (refusal : IsModeRefusal m text) → EachRepairs m refusal.errors refusal.casts
 
 -- so where it has refused modes each reply to `check` is such a text
 abbrev pub ChecksRepair : Type 0
-ChecksRepair = (words : List (List ℕ)) (input : List ℕ) (m : Assignment) → IsAsked words task.Check input m → ¬ (MeetsRules m) → (s : Status) (text : List ℕ) → IsReply words (Some input) s text
+ChecksRepair = (words : List (List ℕ)) (input : List ℕ) (m : Assignment) → IsAsked words task.Check input m
+    → ¬ (MeetsRules m) → (s : Status) (text : List ℕ) → IsReply words (Some input) s text
     → (s ≡ status.ModesRefused) × IsRepairing m text
 
 pub record SuggestionLaws : Type 0 where

@@ -5,8 +5,9 @@ ghost use Rattle.sharc_top_laws.specs.Kept.{KeptLaws};
 use crate::replies::{records_are_told, verdicts_are_told};
 use sharc_sound_laws::built::built_is_sound;
 
-/// Where the modes of a source are accepted, each reply to `run` and to `replay` is the text of an interleaving of its code that performs a run of the source without checks
-/// and keeps the rules of the modes, with the status of its outcome; and each reply to `record` is the file of one.
+/// Where the modes of a source are accepted, each reply to `run` and to `replay` is the text of an interleaving of its
+/// code that performs a run of the source without checks and keeps the rules of the modes, with the status of its
+/// outcome; and each reply to `record` is the file of one.
 pub fn kept_laws()
     ensures { KeptLaws }
 {

@@ -47,17 +47,18 @@ pub fn replies_are_one()
     audit_laws();
 }
 
-/// Of a source that is a program: where its modes are accepted, no reply to `check` and `explain` is another than their full text with status 0, and each reply to `run` is
-/// the text of a run of the program's code with the status of that run; where they are not, the status
-/// of `check`, `explain` and `run` is 1.
+/// Of a source that is a program: where its modes are accepted, no reply to `check` and `explain` is another than their
+/// full text with status 0, and each reply to `run` is the text of a run of the program's code with the status of that
+/// run; where they are not, the status of `check`, `explain` and `run` is 1.
 pub fn verdicts_are_told()
     ensures { VerdictLaws }
 {
     sources_are_one();
 }
 
-/// Of a source that is a program with refused modes: beside each error that is written is no cast, or one with which the
-/// program is typed and has no M1 at the place of that error; and each reply to `check` is such a text, with status 1.
+/// Of a source that is a program with refused modes: beside each error that is written is no cast, or one with which
+/// the program is typed and has no M1 at the place of that error; and each reply to `check` is such a text, with status
+/// 1.
 pub fn suggestions_repair()
     ensures { SuggestionLaws }
 {
@@ -67,7 +68,8 @@ pub fn suggestions_repair()
     least_is_repaired();
 }
 
-/// Of an event file whose source is a program with accepted modes: the reply to `audit` is the line of the verdict of its events, with the status of that verdict, and no other.
+/// Of an event file whose source is a program with accepted modes: the reply to `audit` is the line of the verdict of
+/// its events, with the status of that verdict, and no other.
 pub fn audits_are_told()
     ensures { AuditLaws }
 {
@@ -79,10 +81,12 @@ pub fn audits_are_told()
     audit_laws();
 }
 
-/// Of a source that is a program with accepted modes: the reply to `record` is one recorded file, with the status of a run of its code; it says the source, the heap, the limit
-/// and a schedule by which the same code has the text that follows in the file, and ends alike. And of such a file, the reply to `replay` is the text of the run of the code by
-/// the file's schedule, with the status of that run, whatever follows the schedule. So the reply to `replay` of what `record` wrote, if that is within the limit of a recorded
-/// file, is what follows the schedule in it, with the same status.
+/// Of a source that is a program with accepted modes: the reply to `record` is one recorded file, with the status of a
+/// run of its code; it says the source, the heap, the limit and a schedule by which the same code has the text that
+/// follows in the file, and ends alike. And of such a file, the reply to `replay` is the text of the run of the code by
+/// the file's schedule, with the status of that run, whatever follows the schedule. So the reply to `replay` of what
+/// `record` wrote, if that is within the limit of a recorded file, is what follows the schedule in it, with the same
+/// status.
 pub fn records_are_told()
     ensures { RecordLaws }
 {

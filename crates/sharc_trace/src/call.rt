@@ -19,11 +19,15 @@ pub fn traced<S: Source, O: Sink>(
     out: &mut O,
 ) -> Ended
     ensures status { IsOfReply result.status ⊎ (result.status ≡ Status.WriteFault) ⊎ IsOfSilence result.status }
-    ensures replied { IfOk words (λ words. IsOfReply result.status → Replied (map string_bytes words.items) (S.left input.old) (O.held out.old) (O.held out.new) result) }
-    ensures cut_short { IfOk words (λ words. result.status ≡ Status.WriteFault → RepliedInPart (map string_bytes words.items) (S.left input.old) (O.held out.old) (O.held out.new)) }
-    ensures sink_failed { result.status ≡ Status.WriteFault → EitherRose (O.faults out.old) (O.faults out.new) (O.stalls out.old) (O.stalls out.new) }
+    ensures replied { IfOk words (λ words. IsOfReply result.status
+        → Replied (map string_bytes words.items) (S.left input.old) (O.held out.old) (O.held out.new) result) }
+    ensures cut_short { IfOk words (λ words. result.status ≡ Status.WriteFault
+        → RepliedInPart (map string_bytes words.items) (S.left input.old) (O.held out.old) (O.held out.new)) }
+    ensures sink_failed { result.status ≡ Status.WriteFault
+        → EitherRose (O.faults out.old) (O.faults out.new) (O.stalls out.old) (O.stalls out.new) }
     ensures source_failed { result.status ≡ Status.ReadFault → Rose (S.faults input.old) (S.faults input.new) }
-    ensures unread { IfOk words (λ words. form_of (map string_bytes words.items) ≡ None → (S.left input.new ≡ S.left input.old) × (S.faults input.new ≡ S.faults input.old)) }
+    ensures unread { IfOk words (λ words. form_of (map string_bytes words.items) ≡ None
+        → (S.left input.new ≡ S.left input.old) × (S.faults input.new ≡ S.faults input.old)) }
     ensures silent { IsOfSilence result.status → O.held out.new ≡ O.held out.old }
     ensures no_words { OnErr words ((result.status ≡ Status.NoMemory) × (S.left input.new ≡ S.left input.old)) }
 {

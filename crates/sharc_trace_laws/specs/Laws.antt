@@ -20,25 +20,32 @@ use Rattle.sharc_traced.specs.{declared.reply.Reply.Reply, Replies.{IsFileOf, Is
 -- ---- the event file
 -- of a program within the limit: its text is an event file, with the lines of the first events of the run
 abbrev pub FilesAreEventFiles : Type 0
-FilesAreEventFiles = (source : List ℕ) (built : Built) → IsBuilt source built → length source ≤ source_limit → (history : List SourceEvent) (reply : Reply)
-    → (is : IsFileOf built.checked built.code source history reply) → IsFewIn reply.text.items source 65536 is.is_front.lines
+FilesAreEventFiles = (source : List ℕ) (built : Built) → IsBuilt source built → length source ≤ source_limit
+    → (history : List SourceEvent) (reply : Reply)
+    → (is : IsFileOf built.checked built.code source history reply)
+    → IsFewIn reply.text.items source 65536 is.is_front.lines
 
 -- and audit, which is given that text, writes that these events obey
 abbrev pub FilesAreAudited : Type 0
-FilesAreAudited = (source : List ℕ) (built : Built) → IsBuilt source built → length source ≤ source_limit → (history : List SourceEvent) (reply : Reply)
-    → (is : IsFileOf built.checked built.code source history reply) → (words : List (List ℕ)) → commands words ≡ Some Audit
+FilesAreAudited = (source : List ℕ) (built : Built) → IsBuilt source built → length source ≤ source_limit
+    → (history : List SourceEvent) (reply : Reply)
+    → (is : IsFileOf built.checked built.code source history reply)
+    → (words : List (List ℕ)) → commands words ≡ Some Audit
     → (old new : Option (List ℕ)) (code : ℕ) → Replied words (Some reply.text.items) old new code
     → (code ≡ 0) × Appends old new (codes "obeys " ++ decimal is.front.count ++ codes " events\n")
 
 -- ---- where it ends
 -- never before an event that audit finds to be at fault
 abbrev pub NoneIsAtFault : Type 0
-NoneIsAtFault = (source : List ℕ) (built : Built) → IsBuilt source built → (file : FileView) (shape : Shape) (turns : List Turn) → IsRunOf file built.code shape turns
-    → (reply : Reply) (is : IsFileOf built.checked built.code source (history built.code shape turns) reply) → (fault : EventFault) → is.front.cut ≢ Refused fault
+NoneIsAtFault = (source : List ℕ) (built : Built) → IsBuilt source built
+    → (file : FileView) (shape : Shape) (turns : List Turn) → IsRunOf file built.code shape turns
+    → (reply : Reply) (is : IsFileOf built.checked built.code source (history built.code shape turns) reply)
+    → (fault : EventFault) → is.front.cut ≢ Refused fault
 
 -- ---- of the file that `record` wrote
 -- its text is that of a recorded run, and the event file is of the events of that run
-pub record IsOfRecorded (source : List ℕ) (heap limit : ℕ) (m : Assignment) (text : List ℕ) (reply : Reply) : Type 0 where
+pub record IsOfRecorded (source : List ℕ) (heap limit : ℕ) (m : Assignment) (text : List ℕ)
+    (reply : Reply) : Type 0 where
   pub code : Code
   pub compiled : IsCompiled m code
   pub shape : Shape
@@ -55,5 +62,7 @@ pub record IsOfRecorded (source : List ℕ) (heap limit : ℕ) (m : Assignment) 
 
 -- where the source is a program with accepted modes, and the file is within the limit
 abbrev pub RecordingsAreTraced : Type 0
-RecordingsAreTraced = (words : List (List ℕ)) (heap limit : ℕ) (source : List ℕ) (m : Assignment) → IsRecorded words heap limit source m → (s : Status) (text : List ℕ) → IsReply words (Some source) s text → length text ≤ recording_limit
+RecordingsAreTraced = (words : List (List ℕ)) (heap limit : ℕ) (source : List ℕ) (m : Assignment)
+    → IsRecorded words heap limit source m
+    → (s : Status) (text : List ℕ) → IsReply words (Some source) s text → length text ≤ recording_limit
     → (reply : Reply) → IsTraceReply [] (Some text) reply → IsOfRecorded source heap limit m text reply

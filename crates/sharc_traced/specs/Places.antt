@@ -1,5 +1,7 @@
--- The lines of a run in the words of its source: one for each event, and then one for each thread that waits or was stopped.
-use Rattle.std.specs.Prelude.{ℕ, ◌==◌, ◌&&◌, Bool, false, List, [], ◌∷◌, ◌++◌, Option, Some, None, codes, decimal, drop, slice_index, slice_index_or, slice_range, if◌then◌else◌}
+-- The lines of a run in the words of its source: one for each event, and then one for each thread that waits or was
+-- stopped.
+use Rattle.std.specs.Prelude.{ℕ, ◌==◌, ◌&&◌, Bool, false, List, [], ◌∷◌, ◌++◌, Option, Some, None, codes, decimal, drop}
+use Rattle.std.specs.Prelude.{slice_index, slice_index_or, slice_range, if◌then◌else◌}
 use Rattle.std.specs.{Fmt.signed_decimal, List.flat_map}
 use Rattle.sharc_tree.specs.{declared.token.Site.Site, Traps.trap_number}
 use Rattle.sharc_shadow.specs.declared.shadow_word.Kind.{Kind}
@@ -77,11 +79,13 @@ name_of code earlier e = or_named (lvalue_of code e.origin) (named_by code earli
 -- ---- pieces
 -- `THREAD FILE:LINE` and a tab
 abbrev pub place_text : Code → ℕ → Site → List ℕ
-place_text code thread site = decimal thread ++ 32 ∷ (slice_index_or code.files site.file [] ++ 58 ∷ (decimal site.line ++ 9 ∷ []))
+place_text code thread site =
+    decimal thread ++ 32 ∷ (slice_index_or code.files site.file [] ++ 58 ∷ (decimal site.line ++ 9 ∷ []))
 
 -- `NULL`, or an object with its elements, `oH[E]`
 abbrev pub object_text : Reference → List ℕ
-object_text r = if r.number == 0 then codes "NULL" else codes "o" ++ (decimal r.number ++ 91 ∷ (decimal r.elements ++ 93 ∷ []))
+object_text r =
+    if r.number == 0 then codes "NULL" else codes "o" ++ (decimal r.number ++ 91 ∷ (decimal r.elements ++ 93 ∷ []))
 
 abbrev pub seen_text : Value → List ℕ
 seen_text (values.Int v) = signed_decimal v
@@ -122,7 +126,8 @@ deed_words code origin lvalue (deeds.Gives r) = worded (codes "given") (object_t
 deed_words code origin lvalue (deeds.Frees r) = worded (codes "freed") (object_text r)
 deed_words code origin lvalue (deeds.Locks c) = worded (codes "lock") lvalue
 deed_words code origin lvalue (deeds.Unlocks c) = worded (codes "unlock") lvalue
-deed_words code origin lvalue (deeds.Spawns f v n) = worded (codes "spawn") (worded (text_of code (function_of code f).name) (seen_text v ++ (codes " as " ++ decimal n)))
+deed_words code origin lvalue (deeds.Spawns f v n) = worded (codes "spawn")
+    (worded (text_of code (function_of code f).name) (seen_text v ++ (codes " as " ++ decimal n)))
 deed_words code origin lvalue (deeds.Starts v) = worded (codes "start") (worded lvalue (seen_text v))
 deed_words code origin lvalue (deeds.Joins v) = worded (codes "join") (signed_decimal v)
 deed_words code origin lvalue (deeds.Prints v) = worded (codes "print") (signed_decimal v)
@@ -170,7 +175,8 @@ columns words object mode = words ++ 9 ∷ (object ++ 9 ∷ (mode ++ 10 ∷ []))
 
 abbrev pub event_line : Code → List Event → Event → List ℕ
 event_line code earlier e =
-    place_text code e.thread (site_of code e.origin) ++ columns (deed_words code e.origin (name_of code earlier e) e.deed) (object_of e.deed) (mode_of code e.origin e.deed)
+    place_text code e.thread (site_of code e.origin) ++ columns
+    (deed_words code e.origin (name_of code earlier e) e.deed) (object_of e.deed) (mode_of code e.origin e.deed)
 
 -- of all these events, before which there were those, the newest first
 abbrev pub event_lines : Code → List Event → List Event → List ℕ
@@ -190,7 +196,8 @@ next_cell (nexts.Wakes c) = cell_text c
 next_cell _ = []
 
 abbrev pub waiting_line : Code → ℕ → Coming → List ℕ
-waiting_line code thread c = place_text code thread (site_of code c.origin) ++ columns (next_words code c.origin c.next) (next_cell c.next) []
+waiting_line code thread c =
+    place_text code thread (site_of code c.origin) ++ columns (next_words code c.origin c.next) (next_cell c.next) []
 
 -- ---- a thread that was stopped
 abbrev pub refused_by : Use → List ℕ
@@ -202,7 +209,8 @@ refused_by uses.Other = codes "refused read"
 
 -- the act at this site, with the code of the report
 abbrev pub refused : Code → ℕ → List ℕ → List ℕ
-refused code site report = worded (refused_by (place_at code site).at) (worded (text_of code (place_at code site).lvalue) report)
+refused code site report =
+    worded (refused_by (place_at code site).at) (worded (text_of code (place_at code site).lvalue) report)
 
 abbrev pub conflict_code : Kind → List ℕ
 conflict_code kinds.Read = codes "A1"
@@ -234,7 +242,8 @@ refused_mode mode (stops.Trap trap site) = []
 
 abbrev pub stopped_line : Code → ℕ → Stop → Option Where → List ℕ
 stopped_line code thread stop cell =
-    place_text code thread (place_at code (stop_site stop)).site ++ columns (stop_words code stop) (looked_at cell) (refused_mode (place_at code (stop_site stop)).mode stop)
+    place_text code thread (place_at code (stop_site stop)).site
+    ++ columns (stop_words code stop) (looked_at cell) (refused_mode (place_at code (stop_site stop)).mode stop)
 
 abbrev pub halt_line : Code → ℕ → Halt → List ℕ
 halt_line code thread (halts.Waits coming) = waiting_line code thread coming

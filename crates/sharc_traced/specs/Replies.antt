@@ -1,5 +1,6 @@
 -- What the program writes for its words and its input, and with which status it ends.
-use Rattle.std.specs.Prelude.{◌≡◌, ℕ, suc, ◌<◌, ◌≤◌, false, List, [], ◌∷◌, length, map, reverse, take, codes, Option, Some, None, IfSome, if◌then◌else◌}
+use Rattle.std.specs.Prelude.{◌≡◌, ℕ, suc, ◌<◌, ◌≤◌, false, List, [], ◌∷◌, length, map, reverse, take, codes, Option}
+use Rattle.std.specs.Prelude.{Some, None, IfSome, if◌then◌else◌}
 use Rattle.std.specs.{Io.KnownBytes.Appends, Str.bytes_eq}
 use Rattle.sharc_tree.specs.declared.event.SourceEvent.{SourceEvent}
 use Rattle.sharc_mode.specs.Moded.{Assignment}
@@ -61,7 +62,8 @@ why_by count uncut = None
 why_by count cut = Some record { event = suc count; cut = cut }
 
 -- The lines are those of the first events of the run, as many as have lines, as a file may have, and as audit accepts
-pub record IsFileOf (m : Assignment) (code : Code) (source : List ℕ) (history : List SourceEvent) (reply : Reply) : Type 0 where
+pub record IsFileOf (m : Assignment) (code : Code) (source : List ℕ) (history : List SourceEvent)
+    (reply : Reply) : Type 0 where
   pub events : List Event
   pub told_are : map (told code) events ≡ map told_of_event history
   pub front : Front
@@ -81,7 +83,8 @@ pub record IsPlacesOf (code : Code) (s : Shape) (turns : List Turn) (reply : Rep
   pub why : reply.why ≡ None
 
 abbrev pub IsOfRun : Form → FileView → Built → Shape → List Turn → Reply → Type 0
-IsOfRun form.File file built s turns reply = IsFileOf built.checked built.code file.source (history built.code s turns) reply
+IsOfRun form.File file built s turns reply =
+    IsFileOf built.checked built.code file.source (history built.code s turns) reply
 IsOfRun form.Places file built s turns reply = IsPlacesOf built.code s turns reply
 
 pub record IsTraced (f : Form) (file : FileView) (built : Built) (reply : Reply) : Type 0 where
@@ -99,20 +102,28 @@ pub record IsPlain (reply : Reply) (s : Status) (text : List ℕ) : Type 0 where
 
 -- of a recorded file
 pub data FileReplies (f : Form) (file : FileView) (reply : Reply) : Type 0 where
-  long_source : source_limit < length file.source → IsPlain reply (status.Refused answers.SourceRefused) (line (codes "source over 1048576 bytes")) → FileReplies f file reply
-  refused : (s : Answer) (text : List ℕ) → Refuses file.source s text → IsPlain reply (status.Refused s) text → FileReplies f file reply
+  long_source : source_limit < length file.source
+      → IsPlain reply (status.Refused answers.SourceRefused) (line (codes "source over 1048576 bytes"))
+      → FileReplies f file reply
+  refused : (s : Answer) (text : List ℕ) → Refuses file.source s text → IsPlain reply (status.Refused s) text
+      → FileReplies f file reply
   traced : (built : Built) → IsBuilt file.source built → IsTraced f file built reply → FileReplies f file reply
 
 -- of an input within the limit
 pub data InputReplies (f : Form) (input : List ℕ) (reply : Reply) : Type 0 where
-  no_recording : (n : ℕ) → IsFault (lines_in input) n → IsPlain reply (status.Refused answers.SourceRefused) (bad_file_line n) → InputReplies f input reply
+  no_recording : (n : ℕ) → IsFault (lines_in input) n
+      → IsPlain reply (status.Refused answers.SourceRefused) (bad_file_line n) → InputReplies f input reply
   recorded : (file : FileView) → IsFile input file → FileReplies f file reply → InputReplies f input reply
 
 -- of the words and an input
 pub data TraceReplies (words : List (List ℕ)) (input : List ℕ) (reply : Reply) : Type 0 where
-  usage : form_of words ≡ None → IsPlain reply status.Usage (line (codes "usage: [--places]")) → TraceReplies words input reply
-  long_recording : (f : Form) → form_of words ≡ Some f → recording_limit < length input → IsPlain reply (status.Refused answers.SourceRefused) (line (codes "file over 1073741824 bytes")) → TraceReplies words input reply
-  read : (f : Form) → form_of words ≡ Some f → length input ≤ recording_limit → InputReplies f input reply → TraceReplies words input reply
+  usage : form_of words ≡ None → IsPlain reply status.Usage (line (codes "usage: [--places]"))
+      → TraceReplies words input reply
+  long_recording : (f : Form) → form_of words ≡ Some f → recording_limit < length input
+      → IsPlain reply (status.Refused answers.SourceRefused) (line (codes "file over 1073741824 bytes"))
+      → TraceReplies words input reply
+  read : (f : Form) → form_of words ≡ Some f → length input ≤ recording_limit → InputReplies f input reply
+      → TraceReplies words input reply
 
 -- of what a source of bytes had left; of one that does not report its bytes it is the reply to some input
 pub record IsTraceReply (words : List (List ℕ)) (left : Option (List ℕ)) (reply : Reply) : Type 0 where

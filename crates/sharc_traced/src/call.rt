@@ -3,7 +3,8 @@
 ghost use Rattle.std.specs.Prelude.{◌≡◌, None, ◌⊎◌, map, string_bytes, codes, IfOk, IfErr};
 ghost use Rattle.sharc_io.specs.Causes.{Rose, EitherRose};
 ghost use Rattle.sharc_top.specs.Text.{line};
-ghost use Rattle.sharc_traced.specs.Replies.{form_of, IsPlain, IsTraceReply, Replied, RepliedInPart, IsOfReply, IsOfSilence};
+ghost use Rattle.sharc_traced.specs.Replies.{form_of, IsPlain, IsTraceReply, Replied, RepliedInPart, IsOfReply};
+ghost use Rattle.sharc_traced.specs.Replies.{IsOfSilence};
 
 use crate::reply::{Reply, Stopped, too_long};
 use crate::status::Status;
@@ -34,17 +35,21 @@ pub fn sharc_trace<S: Source, O: Sink>(
     out: &mut O,
 ) -> Ended
     ensures status { IsOfReply result.status ⊎ (result.status ≡ Status.WriteFault) ⊎ IsOfSilence result.status }
-    ensures replied { IsOfReply result.status → Replied (map string_bytes words.now) (S.left input.old) (O.held out.old) (O.held out.new) result }
+    ensures replied { IsOfReply result.status
+        → Replied (map string_bytes words.now) (S.left input.old) (O.held out.old) (O.held out.new) result }
 
     // The sink gave up, in the midst of a reply.
-    ensures cut_short { result.status ≡ Status.WriteFault → RepliedInPart (map string_bytes words.now) (S.left input.old) (O.held out.old) (O.held out.new) }
-    ensures sink_failed { result.status ≡ Status.WriteFault → EitherRose (O.faults out.old) (O.faults out.new) (O.stalls out.old) (O.stalls out.new) }
+    ensures cut_short { result.status ≡ Status.WriteFault
+        → RepliedInPart (map string_bytes words.now) (S.left input.old) (O.held out.old) (O.held out.new) }
+    ensures sink_failed { result.status ≡ Status.WriteFault
+        → EitherRose (O.faults out.old) (O.faults out.new) (O.stalls out.old) (O.stalls out.new) }
 
     ensures source_failed { result.status ≡ Status.ReadFault → Rose (S.faults input.old) (S.faults input.new) }
     ensures silent { IsOfSilence result.status → O.held out.new ≡ O.held out.old }
 
     // Where the words are not of this program, nothing is read.
-    ensures unread { form_of (map string_bytes words.now) ≡ None → (S.left input.new ≡ S.left input.old) × (S.faults input.new ≡ S.faults input.old) }
+    ensures unread { form_of (map string_bytes words.now) ≡ None
+        → (S.left input.new ≡ S.left input.old) × (S.faults input.new ≡ S.faults input.old) }
 {
     match reply_to(alloc, words, input) {
         Ok(reply) => match write_all(out, &reply.text) {
@@ -69,8 +74,10 @@ fn reply_to<S: Source>(alloc: Global, words: &[String], input: &mut S) -> Result
     ensures reply { IfOk result (IsTraceReply (map string_bytes words.now) (S.left input.old)) }
     ensures written { IfOk result (λ reply. IsOfReply reply.status) }
     ensures none { IfErr result IsOfSilence }
-    ensures fault { IfErr result (λ status. status ≡ Status.ReadFault → Rose (S.faults input.old) (S.faults input.new)) }
-    ensures unread { form_of (map string_bytes words.now) ≡ None → (S.left input.new ≡ S.left input.old) × (S.faults input.new ≡ S.faults input.old) }
+    ensures fault { IfErr result (λ status. status ≡ Status.ReadFault
+        → Rose (S.faults input.old) (S.faults input.new)) }
+    ensures unread { form_of (map string_bytes words.now) ≡ None
+        → (S.left input.new ≡ S.left input.old) × (S.faults input.new ≡ S.faults input.old) }
 {
     let Some(form) = form_of(words) else {
         return usage(alloc);

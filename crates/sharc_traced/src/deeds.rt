@@ -5,7 +5,8 @@ ghost use Rattle.std.specs.Fmt.{signed_decimal};
 ghost use Rattle.sharc_tree.specs.Texts.{Appends};
 ghost use Rattle.sharc_said.specs.declared.event.Event.{Event};
 ghost use Rattle.sharc_traced.specs.Names.{AreNames};
-ghost use Rattle.sharc_traced.specs.Places.{seen_text, object_text, worded, taking, woken_text, deed_words, object_of, mode_of, event_line};
+ghost use Rattle.sharc_traced.specs.Places.{seen_text, object_text, worded, taking, woken_text, deed_words, object_of};
+ghost use Rattle.sharc_traced.specs.Places.{mode_of, event_line};
 
 use crate::lvalues::site_of;
 use crate::names::Names;
@@ -89,7 +90,8 @@ fn put_signal(text: &mut Vec<u8>, lvalue: &[u8], woken: Option<u32>) -> Result<(
 }
 
 fn put_spawn(text: &mut Vec<u8>, name: &[u8], value: Value, thread: u32) -> Result<(), AllocError>
-    ensures { Appends result (worded (codes "spawn") (worded name.now (seen_text value ++ (codes " as " ++ decimal thread)))) text.old.items text.new.items }
+    ensures { Appends result (worded (codes "spawn")
+        (worded name.now (seen_text value ++ (codes " as " ++ decimal thread)))) text.old.items text.new.items }
 {
     put_access(text, b"spawn", name, value)?;
     text.extend_from_slice(b" as ")?;
@@ -166,7 +168,8 @@ pub(crate) fn put_event(
     names: &Names,
     event: &Event,
 ) -> Result<(), AllocError>
-    ensures { (earlier : List Event) → AreNames names.now earlier → Appends result (event_line code.now earlier event.now) text.old.items text.new.items }
+    ensures { (earlier : List Event) → AreNames names.now earlier
+        → Appends result (event_line code.now earlier event.now) text.old.items text.new.items }
 {
     let lvalue = names.name_of(code, event);
     put_place(text, code, event.thread, site_of(code, event.origin))?;

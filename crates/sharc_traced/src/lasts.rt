@@ -2,7 +2,8 @@
 
 ghost use Rattle.std.specs.Prelude.{◌≡◌};
 ghost use Rattle.sharc_tree.specs.Texts.{Appends};
-ghost use Rattle.sharc_traced.specs.Places.{next_words, next_cell, waiting_line, refused_by, refused, conflict_code, stop_words, stop_site, looked_at, refused_mode, stopped_line, last_line};
+ghost use Rattle.sharc_traced.specs.Places.{next_words, next_cell, waiting_line, refused_by, refused, conflict_code};
+ghost use Rattle.sharc_traced.specs.Places.{stop_words, stop_site, looked_at, refused_mode, stopped_line, last_line};
 
 use crate::lvalues::{lvalue_of, site_of};
 use crate::pieces::{bytes_of, mode_word, put_place, put_word};

@@ -57,7 +57,8 @@ impl Names {
 
     /// Notes the event, if it is a lock or a wait.
     pub(crate) fn note(&mut self, event: &Event) -> Result<(), AllocError>
-        ensures { OnOk result ((earlier : List Event) → AreNames self.old earlier → AreNames self.new (event.now ∷ earlier)) }
+        ensures { OnOk result ((earlier : List Event) → AreNames self.old earlier
+            → AreNames self.new (event.now ∷ earlier)) }
     {
         match event.deed {
             Deed::Locks(cell) | Deed::Enters(cell) => self.put(cell, event.origin),
@@ -67,7 +68,8 @@ impl Names {
 
     // What the cell is called; nothing where it was neither locked nor waited at.
     fn called<'a>(&self, code: &'a Code, cell: Where) -> &'a [u8]
-        ensures { (earlier : List Event) → AreNames self.now earlier → result.now ≡ called code.now (last_named earlier cell) }
+        ensures { (earlier : List Event) → AreNames self.now earlier
+            → result.now ≡ called code.now (last_named earlier cell) }
     {
         match self.find(cell) {
             Some(origin) => lvalue_of(code, origin),

@@ -36,7 +36,8 @@ fn file_reply(
     source: &[u8],
     run: &History,
 ) -> Result<Reply, AllocError>
-    ensures { IfOk result (λ reply. (s : Shape) (turns : List Turn) → IsAccountOf built.now.code s turns run.now → IsFileOf built.now.checked built.now.code source.now (history built.now.code s turns) reply) }
+    ensures { IfOk result (λ reply. (s : Shape) (turns : List Turn) → IsAccountOf built.now.code s turns run.now
+        → IsFileOf built.now.checked built.now.code source.now (history built.now.code s turns) reply) }
 {
     lines_are_of_sources();
     let events = run.events.as_slice();
@@ -52,7 +53,8 @@ fn file_reply(
 
 // The lines of a run in the words of its source.
 fn places_reply(alloc: Global, code: &Code, run: &History) -> Result<Reply, AllocError>
-    ensures { IfOk result (λ reply. (s : Shape) (turns : List Turn) → IsAccountOf code.now s turns run.now → IsPlacesOf code.now s turns reply) }
+    ensures { IfOk result (λ reply. (s : Shape) (turns : List Turn) → IsAccountOf code.now s turns run.now
+        → IsPlacesOf code.now s turns reply) }
 {
     let text = places_text(alloc, code, run)?;
     Ok(Reply {

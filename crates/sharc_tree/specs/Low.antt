@@ -1,10 +1,15 @@
 -- Trees within the limits on height, stars and nesting, and in the forms that the grammar has.
-use Rattle.std.specs.Prelude.{◌≡◌, ℕ, ◌+◌, ◌<◌, ◌≤◌, max, Bool, true, false, cond, List, [], ◌∷◌, length, Option, Some, None, IfSome}
+use Rattle.std.specs.Prelude.{◌≡◌, ℕ, ◌+◌, ◌<◌, ◌≤◌, max, Bool, true, false, cond, List, [], ◌∷◌, length, Option, Some}
+use Rattle.std.specs.Prelude.{None, IfSome}
 use Rattle.sharc_tree.specs.{declared.ctype.Mode.Mode, declared.tree.declaration.WrittenType.WrittenType}
 use Rattle.sharc_tree.specs.declared.tree.declaration.Declaration.{Declaration}
 use Rattle.sharc_tree.specs.declared.tree.item.GlobalForm.{GlobalForm}
 use Rattle.sharc_tree.specs.declared.tree.item.GlobalForm.TheVariants.{Initial}
-use Rattle.sharc_tree.specs.Tree.{Expression, identifier, constant, parentheses, call, spawn, on_value, on_place, cast, index, field, unary, binary, Arguments, no_arguments, argument, Right, value, malloc, Simple, assign, does_call, Local, First, nothing, declares, does, Head, Statement, empty, block, declare, simple, jump, return, if_then, if_then_else, while, for, Statements, no_statements, statement, Item, structure, global, function, Program}
+use Rattle.sharc_tree.specs.Tree.{Expression, identifier, constant, parentheses, call, spawn, on_value, on_place, cast}
+use Rattle.sharc_tree.specs.Tree.{index, field, unary, binary, Arguments, no_arguments, argument, Right, value, malloc}
+use Rattle.sharc_tree.specs.Tree.{Simple, assign, does_call, Local, First, nothing, declares, does, Head, Statement}
+use Rattle.sharc_tree.specs.Tree.{empty, block, declare, simple, jump, return, if_then, if_then_else, while, for}
+use Rattle.sharc_tree.specs.Tree.{Statements, no_statements, statement, Item, structure, global, function, Program}
 use Rattle.sharc_tree.specs.Measures.{nesting_of}
 use Rattle.sharc_tree.specs.declared.tree.expression.Constant.TheVariants as constants
 
@@ -24,8 +29,8 @@ abbrev pub is_unary : Expression → Bool
 is_unary (binary s o at a b) = false
 is_unary _ = true
 
--- The height that is limited. It is that of specs/Measures, but a cast counts only where its source is itself a cast: so where a cast is written
--- around an expression that is not one, the tree is as high as before.
+-- The height that is limited. It is that of specs/Measures, but a cast counts only where its source is itself a cast:
+-- so where a cast is written around an expression that is not one, the tree is as high as before.
 abbrev mutual
   pub low_height : Expression → ℕ
   low_height (identifier s i) = 0
@@ -85,7 +90,8 @@ LowExpression e = (low_height e ≤ 64) × LowTypes e
 -- the count of a malloc begins at height 0, and its type has no modes
 abbrev pub LowRight : Right → Type 0
 LowRight (value e) = LowExpression e
-LowRight (malloc s n t) = IfSome n (λ e. (is_unary e ≡ true) × LowExpression e) × LowType t × (t.mode_first ≡ false) × NoModes t.ctype.levels
+LowRight (malloc s n t) =
+    IfSome n (λ e. (is_unary e ≡ true) × LowExpression e) × LowType t × (t.mode_first ≡ false) × NoModes t.ctype.levels
 
 abbrev pub LowSimple : Simple → Type 0
 LowSimple (assign s u r) = (is_unary u ≡ true) × LowExpression u × LowRight r
@@ -116,7 +122,8 @@ abbrev mutual
   LowStatement (jump s j) = Unit {0}
   LowStatement (return s e) = IfSome e LowExpression
   LowStatement (if_then s e a) = LowExpression e × (is_statement a ≡ true) × LowStatement a
-  LowStatement (if_then_else s e a b) = LowExpression e × (is_statement a ≡ true) × LowStatement a × (is_statement b ≡ true) × LowStatement b
+  LowStatement (if_then_else s e a b) =
+      LowExpression e × (is_statement a ≡ true) × LowStatement a × (is_statement b ≡ true) × LowStatement b
   LowStatement (while s e a) = LowExpression e × (is_statement a ≡ true) × LowStatement a
   LowStatement (for s h a) = LowHead h × (is_statement a ≡ true) × LowStatement a
 
@@ -137,7 +144,8 @@ LowForm _ = Unit {0}
 abbrev pub LowItem : Item → Type 0
 LowItem (structure s) = (0 < length s.fields) × LowDeclarations s.fields
 LowItem (global g) = LowType g.declaration.written × LowForm g.form
-LowItem (function f) = LowType f.result × LowDeclarations f.parameters × LowStatements f.statements × (nesting_of f ≤ 64)
+LowItem (function f) =
+    LowType f.result × LowDeclarations f.parameters × LowStatements f.statements × (nesting_of f ≤ 64)
 
 abbrev pub LowItems : List Item → Type 0
 LowItems [] = Unit {0}

@@ -1,5 +1,6 @@
 -- The names and the casts of a tree, in the order in which they are written, and those among the tokens.
-use Rattle.std.specs.Prelude.{◌≡◌, ℕ, ◌+◌, ◌<◌, ◌≤◌, Bool, true, false, List, [], ◌∷◌, ◌++◌, length, HoldsAt, Option, Some, None}
+use Rattle.std.specs.Prelude.{◌≡◌, ℕ, ◌+◌, ◌<◌, ◌≤◌, Bool, true, false, List, [], ◌∷◌, ◌++◌, length, HoldsAt, Option}
+use Rattle.std.specs.Prelude.{Some, None}
 use Rattle.sharc_tree.specs.{declared.ctype.Path.Path, declared.ctype.Path.TheVariants.{One, Through}}
 use Rattle.sharc_tree.specs.{declared.ctype.Mode.Mode, declared.ctype.Mode.TheVariants.Locked, declared.ctype.Base.Base}
 use Rattle.sharc_tree.specs.{declared.ctype.Base.TheVariants.Struct, declared.token.Keyword.Keyword}
@@ -7,7 +8,11 @@ use Rattle.sharc_tree.specs.{declared.token.Keyword.TheVariants.Scast, declared.
 use Rattle.sharc_tree.specs.{declared.token.TokenKind.TokenKind, declared.tree.declaration.Identifier.Identifier}
 use Rattle.sharc_tree.specs.declared.tree.declaration.WrittenType.{WrittenType}
 use Rattle.sharc_tree.specs.declared.tree.declaration.Declaration.{Declaration}
-use Rattle.sharc_tree.specs.Tree.{Expression, identifier, constant, parentheses, call, spawn, on_value, on_place, cast, index, field, unary, binary, Arguments, no_arguments, argument, Right, value, malloc, Simple, assign, does_call, Local, First, nothing, declares, does, Head, Statement, empty, block, declare, simple, jump, return, if_then, if_then_else, while, for, Statements, no_statements, statement, Item, structure, global, function}
+use Rattle.sharc_tree.specs.Tree.{Expression, identifier, constant, parentheses, call, spawn, on_value, on_place, cast}
+use Rattle.sharc_tree.specs.Tree.{index, field, unary, binary, Arguments, no_arguments, argument, Right, value, malloc}
+use Rattle.sharc_tree.specs.Tree.{Simple, assign, does_call, Local, First, nothing, declares, does, Head, Statement}
+use Rattle.sharc_tree.specs.Tree.{empty, block, declare, simple, jump, return, if_then, if_then_else, while, for}
+use Rattle.sharc_tree.specs.Tree.{Statements, no_statements, statement, Item, structure, global, function}
 use Rattle.sharc_tree.specs.declared.token.TokenKind.TheVariants as kind
 
 -- a name with its text, or the word SCAST, each with the number of its token
@@ -135,7 +140,8 @@ abbrev mutual
 abbrev pub item_marks : Item → List Mark
 item_marks (structure s) = name_marks s.name ++ declarations_marks s.fields
 item_marks (global g) = declaration_marks g.declaration
-item_marks (function f) = type_marks f.result ++ name_marks f.name ++ declarations_marks f.parameters ++ statements_marks f.statements
+item_marks (function f) =
+    type_marks f.result ++ name_marks f.name ++ declarations_marks f.parameters ++ statements_marks f.statements
 
 abbrev pub items_marks : List Item → List Mark
 items_marks [] = []

@@ -1,6 +1,9 @@
 -- Where things are: the tokens of each node.
 use Rattle.sharc_tree.specs.declared.token.Span.{Span}
-use Rattle.sharc_tree.specs.Tree.{Expression, identifier, constant, parentheses, call, spawn, on_value, on_place, cast, index, field, unary, binary, Right, value, malloc, Simple, assign, does_call, Item, structure, global, function, Statement, empty, block, declare, simple, jump, return, if_then, if_then_else, while, for}
+use Rattle.sharc_tree.specs.Tree.{Expression, identifier, constant, parentheses, call, spawn, on_value, on_place, cast}
+use Rattle.sharc_tree.specs.Tree.{index, field, unary, binary, Right, value, malloc, Simple, assign, does_call, Item}
+use Rattle.sharc_tree.specs.Tree.{structure, global, function, Statement, empty, block, declare, simple, jump, return}
+use Rattle.sharc_tree.specs.Tree.{if_then, if_then_else, while, for}
 
 abbrev pub span_of : Expression → Span
 span_of (identifier s _) = s

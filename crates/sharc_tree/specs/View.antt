@@ -1,7 +1,9 @@
 -- What the program's trees stand for.
 use Rattle.std.specs.Prelude.{List, [], ◌∷◌, map, Option, Some, None}
 use Rattle.sharc_tree.specs.Tree as tree
-use Rattle.sharc_tree.specs.declared.tree.expression.Expr.{Expr, Identifier, Constant, Parentheses', Call', Spawn', OnValue', OnPlace', Cast', Index', Field', Unary', Binary', Row_of-Expr, end_of-Expr, more_of-Expr}
+use Rattle.sharc_tree.specs.declared.tree.expression.Expr.{Expr, Identifier, Constant, Parentheses', Call', Spawn'}
+use Rattle.sharc_tree.specs.declared.tree.expression.Expr.{OnValue', OnPlace', Cast', Index', Field', Unary', Binary'}
+use Rattle.sharc_tree.specs.declared.tree.expression.Expr.{Row_of-Expr, end_of-Expr, more_of-Expr}
 use Rattle.sharc_tree.specs.declared.tree.statement.Right.{Right}
 use Rattle.sharc_tree.specs.declared.tree.statement.Right.TheVariants.{Value, Malloc}
 use Rattle.sharc_tree.specs.declared.tree.statement.Simple.{Simple as RustSimple}
@@ -9,7 +11,8 @@ use Rattle.sharc_tree.specs.declared.tree.statement.Simple.TheVariants.{Assign, 
 use Rattle.sharc_tree.specs.{declared.tree.statement.Local.Local, declared.tree.statement.ForFirst.ForFirst}
 use Rattle.sharc_tree.specs.declared.tree.statement.ForFirst.TheVariants.{Nothing, Declares, Does}
 use Rattle.sharc_tree.specs.declared.tree.statement.ForHead.{ForHead}
-use Rattle.sharc_tree.specs.declared.tree.statement.Stmt.{Stmt, Empty, Block', Declare, Simple, Jump, Return, If', IfElse', While', For', Row_of-Stmt, end_of-Stmt, more_of-Stmt}
+use Rattle.sharc_tree.specs.declared.tree.statement.Stmt.{Stmt, Empty, Block', Declare, Simple, Jump, Return, If'}
+use Rattle.sharc_tree.specs.declared.tree.statement.Stmt.{IfElse', While', For', Row_of-Stmt, end_of-Stmt, more_of-Stmt}
 use Rattle.sharc_tree.specs.{declared.tree.item.FunctionDefinition.FunctionDefinition, declared.tree.item.Item.Item}
 use Rattle.sharc_tree.specs.declared.tree.item.Item.TheVariants.{Struct, Global, Function}
 use Rattle.sharc_tree.specs.declared.tree.item.Program.{Program}
@@ -59,7 +62,8 @@ view_first (Declares l) = tree.declares (view_local l)
 view_first (Does x) = tree.does (view_simple x)
 
 abbrev pub view_head : ForHead → tree.Head
-view_head h = record { first = view_first h.first; test = view_option view_expr h.test; step = view_option view_simple h.step }
+view_head h =
+    record { first = view_first h.first; test = view_option view_expr h.test; step = view_option view_simple h.step }
 
 abbrev mutual
   pub view_stmt : Stmt → tree.Statement
@@ -83,7 +87,14 @@ view_statements [] = tree.no_statements
 view_statements (a ∷ rest) = tree.statement (view_stmt a) (view_statements rest)
 
 abbrev pub view_function : FunctionDefinition → tree.Function
-view_function f = record { span = f.span; result = f.result; name = f.name; parameters = f.parameters; body = f.body; statements = view_statements f.statements.items }
+view_function f = record {
+  span = f.span;
+  result = f.result;
+  name = f.name;
+  parameters = f.parameters;
+  body = f.body;
+  statements = view_statements f.statements.items;
+}
 
 abbrev pub view_item : Item → tree.Item
 view_item (Struct s) = tree.structure s

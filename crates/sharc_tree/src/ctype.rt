@@ -177,7 +177,8 @@ fn copy_level(alloc: Global, level: &Option<Mode>) -> Result<Option<Mode>, Alloc
     }
 }
 
-/// The modes of a type's levels where they are known, from the top down to the base: a type with n stars has n + 1 levels.
+/// The modes of a type's levels where they are known, from the top down to the base: a type with n stars has n + 1
+/// levels.
 pub type Levels = Listed<Option<Mode>>;
 
 impl Listed<Option<Mode>> {

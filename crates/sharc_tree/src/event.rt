@@ -46,7 +46,8 @@ pub enum TakeKind {
     Free,
 }
 
-/// What an event does. A reference is written as its object's number plus 2^32 times its number of elements, and NULL as 0.
+/// What an event does. A reference is written as its object's number plus 2^32 times its number of elements, and NULL
+/// as 0.
 #[derive(Clone, Copy, PartialEq, Eq)]
 pub enum Act {
     /// Reads the cell; answers the value.

@@ -1,6 +1,7 @@
 // Values that are held while others are made.
 //
-// Where a function returns early, what it holds is dropped, and its proof goes through each part of that. Here this is proved once, for any value.
+// Where a function returns early, what it holds is dropped, and its proof goes through each part of that. Here this is
+// proved once, for any value.
 
 ghost use Rattle.std.specs.Prelude.{◌≡◌, Ok, Err, IfOk, IfErr};
 

@@ -1,7 +1,8 @@
 // The texts of types and of spans of tokens.
 
 ghost use Rattle.std.specs.Prelude.{◌≡◌, ◌++◌, ◌<◌, ◌≤◌, ◌+◌, length, IfOk, OnOk, Bool, slice_range, IsTrue};
-ghost use Rattle.sharc_tree.specs.Texts.{base_text, path_text, mode_text, level_text, levels_text, type_text, is_word, blank_between, tokens_text, Appends};
+ghost use Rattle.sharc_tree.specs.Texts.{base_text, path_text, mode_text, level_text, levels_text, type_text, is_word};
+ghost use Rattle.sharc_tree.specs.Texts.{blank_between, tokens_text, Appends};
 
 use crate::ctype::{Base, CType, Mode, Path};
 use crate::name::Name;
@@ -80,7 +81,8 @@ fn add_levels(levels: &[Option<Mode>], text: &mut Vec<u8>) -> Result<(), AllocEr
     Ok(())
 }
 
-/// The text of a type: the base and its mode where it is known, then for each star ` *` and its mode, with a blank before each mode.
+/// The text of a type: the base and its mode where it is known, then for each star ` *` and its mode, with a blank
+/// before each mode.
 pub fn print_type(alloc: Global, ctype: &CType) -> Result<Vec<u8>, AllocError>
     ensures { IfOk result (λ v. v.items ≡ type_text ctype.now) }
 {
@@ -127,7 +129,8 @@ fn add_tokens(tokens: &[Token], text: &mut Vec<u8>) -> Result<(), AllocError>
     Ok(())
 }
 
-/// The text of the tokens from number `from` to number `to`, both included, with a blank only between two tokens that are both words or numbers.
+/// The text of the tokens from number `from` to number `to`, both included, with a blank only between two tokens that
+/// are both words or numbers.
 pub fn print_span(
     alloc: Global,
     program: &Program,

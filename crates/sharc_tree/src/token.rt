@@ -126,7 +126,8 @@ pub enum Punctuator {
     Tilde,
 }
 
-/// The type of a number, by C11 6.4.4.1 as the subset has it (own for octal and hexadecimal numbers that C makes unsigned).
+/// The type of a number, by C11 6.4.4.1 as the subset has it (own for octal and hexadecimal numbers that C makes
+/// unsigned).
 #[derive(Clone, Copy, PartialEq, Eq, Debug)]
 pub enum NumberType {
     /// No suffix, and at most 2147483647.
@@ -259,7 +260,8 @@ impl Tokens {
     }
 }
 
-/// Where and why a source is refused. What is wrong is a fault of the lexer (L), of the grammar (P) or of C typing (C), which are types of their own.
+/// Where and why a source is refused. What is wrong is a fault of the lexer (L), of the grammar (P) or of C typing (C),
+/// which are types of their own.
 #[derive(Debug)]
 pub struct FaultAt<C> {
     /// What is wrong.
@@ -269,7 +271,8 @@ pub struct FaultAt<C> {
     pub line: u32,
     /// The offset of a fault of the lexer, else 0.
     pub offset: u64,
-    /// The byte of L1, the token of P1 and P3 (empty at the end of input), the name that C1, C2, C4, C7 and C9 print, else empty.
+    /// The byte of L1, the token of P1 and P3 (empty at the end of input), the name that C1, C2, C4, C7 and C9 print,
+    /// else empty.
     pub text: Name,
 }
 

@@ -1,4 +1,5 @@
--- What is known where a function begins, and before each of its statements: what the types of the variables that stand say.
+-- What is known where a function begins, and before each of its statements: what the types of the variables that stand
+-- say.
 use Rattle.std.specs.Prelude.{ℕ, ◌<◌, false, nat_lt, if◌then◌else◌, [], Some}
 use Rattle.sharc_flat.specs.Scope.{Context, int_count, ref_count}
 use Rattle.sharc_invariant.specs.Labels.{Empty, Refers, Anything, Within, Closed, Label}
@@ -18,4 +19,6 @@ label_of y c f = record {
 
 -- The types of the variables name constants that stand.
 abbrev pub LabelsStand : Type 0
-LabelsStand = (y : Typing) (c : Context) (f : ℕ) → ((q : ℕ) → q < ref_count c.scope → IsNamed (y.named c) (ref_count c.scope) (y.pointer c q)) → StandsBefore y c f (label_of y c f)
+LabelsStand = (y : Typing) (c : Context) (f : ℕ)
+    → ((q : ℕ) → q < ref_count c.scope → IsNamed (y.named c) (ref_count c.scope) (y.pointer c q))
+    → StandsBefore y c f (label_of y c f)

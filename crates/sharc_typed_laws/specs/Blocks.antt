@@ -14,12 +14,15 @@ module _ (z : Setting) (f : ℕ) (ways : List Way) (y : Typing) (c : Context) (l
 
   -- a statement begins
   abbrev pub EnterLeads : Type 0
-  EnterLeads = (pc : ℕ) (e : Mark) (os : List Op) → LeadsFrom z f ways (pc + 1) (before c l) os e → LeadsFrom z f ways pc (before c l) (op.Enter ∷ os) e
+  EnterLeads = (pc : ℕ) (e : Mark) (os : List Op) → LeadsFrom z f ways (pc + 1) (before c l) os e
+      → LeadsFrom z f ways pc (before c l) (op.Enter ∷ os) e
 
   -- a block, with the variables that it declares
   abbrev pub BlockLeads : Type 0
-  BlockLeads = (pc : ℕ) (d : Context) (slots : List Slot) → Grows y c d slots → (k : Label) → StandsBefore y d f k → (os : List Op) → LeadsFrom z f ways (pc + 1) (before c l) os (before d k)
-      → LeadsFrom z f ways pc (before c l) (op.Enter ∷ ((os ++ pops (ref_count c.scope) slots) ++ op.BlockEnd ∷ [])) (before c l)
+  BlockLeads = (pc : ℕ) (d : Context) (slots : List Slot) → Grows y c d slots → (k : Label) → StandsBefore y d f k
+      → (os : List Op) → LeadsFrom z f ways (pc + 1) (before c l) os (before d k)
+      → LeadsFrom z f ways pc (before c l)
+      (op.Enter ∷ ((os ++ pops (ref_count c.scope) slots) ++ op.BlockEnd ∷ [])) (before c l)
 
   pub record BlocksLead : Type 0 where
     pub anywhere : AnywhereLeads
@@ -27,4 +30,5 @@ module _ (z : Setting) (f : ℕ) (ways : List Way) (y : Typing) (c : Context) (l
     pub block : BlockLeads
 
 abbrev pub BlocksAreTyped : Type 0
-BlocksAreTyped = (z : Setting) (f : ℕ) (ways : List Way) (y : Typing) (c : Context) → AreLow (y.named c) (ref_count c.scope) → (l : Label) → StandsBefore y c f l → BlocksLead z f ways y c l
+BlocksAreTyped = (z : Setting) (f : ℕ) (ways : List Way) (y : Typing) (c : Context)
+    → AreLow (y.named c) (ref_count c.scope) → (l : Label) → StandsBefore y c f l → BlocksLead z f ways y c l

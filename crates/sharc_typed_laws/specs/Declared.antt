@@ -46,12 +46,14 @@ module _ (z : Setting) (f : ℕ) (y : Typing) where
   pub record LocalTypable (c : Context) (l : Local) (s : StaticType) : Type 0 where
     pub fresh : slot_kind c.scope l.declaration.name.site.token ≡ None
     pub keeps : Keeps y c (with_variable c l.declaration)
-    pub begins : Begins y c (with_variable c l.declaration) s (width_of (declared_kind l.declaration.written)) (is_reference (declared_kind l.declaration.written))
+    pub begins : Begins y c (with_variable c l.declaration) s (width_of (declared_kind l.declaration.written))
+        (is_reference (declared_kind l.declaration.written))
     pub type : IsTypeIn z f y c s
     pub again : IsTypeIn z f y (with_variable c l.declaration) s
     pub initial : InitialTypable (with_variable c l.declaration) l.declaration s l.initial
 
--- Before a statement the registers of the variables are taken, and no other; so it is behind a declaration, with one more.
+-- Before a statement the registers of the variables are taken, and no other; so it is behind a declaration, with one
+-- more.
 pub record StandsBefore (y : Typing) (c : Context) (f : ℕ) (l : Label) : Type 0 where
   pub stands : StandsIn y c f (int_count c.scope) (int_count c.scope) (ref_count c.scope) l
   pub bare : IsBare l
@@ -59,12 +61,16 @@ pub record StandsBefore (y : Typing) (c : Context) (f : ℕ) (l : Label) : Type 
 abbrev pub before : Context → Label → Mark
 before c l = mark l (int_count c.scope) (int_count c.scope)
 
-module _ (z : Setting) (f : ℕ) (ways : List Way) (y : Typing) (c : Context) (l : Label) (local : Local) (k : Label) where
+module _ (z : Setting) (f : ℕ) (ways : List Way) (y : Typing) (c : Context) (l : Label) (local : Local)
+    (k : Label) where
   pub record LocalLeads : Type 0 where
     pub stands : StandsBefore y (with_variable c local.declaration) f k
     pub leads : LeadsAmong z f ways (before c l) (local_code c local) (before (with_variable c local.declaration) k)
 
 abbrev pub LocalsAreTyped : Type 0
-LocalsAreTyped = (z : Setting) (f : ℕ) (ways : List Way) (y : Typing) (c : Context) → AreLow (y.named c) (ref_count c.scope) → (l : Label) → StandsBefore y c f l → (local : Local) (s : StaticType)
-    → AreLow (y.named (with_variable c local.declaration)) (ref_count (with_variable c local.declaration).scope) → LocalTypable z f y c local s
-    → LocalLeads z f ways y c l local (declared_label c l s (width_of (declared_kind local.declaration.written)) (is_reference (declared_kind local.declaration.written)))
+LocalsAreTyped = (z : Setting) (f : ℕ) (ways : List Way) (y : Typing) (c : Context)
+    → AreLow (y.named c) (ref_count c.scope) → (l : Label) → StandsBefore y c f l → (local : Local) (s : StaticType)
+    → AreLow (y.named (with_variable c local.declaration)) (ref_count (with_variable c local.declaration).scope)
+    → LocalTypable z f y c local s
+    → LocalLeads z f ways y c l local (declared_label c l s (width_of (declared_kind local.declaration.written))
+    (is_reference (declared_kind local.declaration.written)))

@@ -25,9 +25,11 @@ pub record FunctionTypable (z : Setting) (n : ℕ) (y : Typing) (c : Context) (g
   pub statements : StatementsTypable z n y c (declared_kind g.result) false g.statements
 
 abbrev pub ProgramTypable : Setting → Typing → Assignment → List GlobalCells → Type 0
-ProgramTypable z y m globals = (n : ℕ) (g : Function) → function_at m.typed n ≡ Some g → FunctionTypable z n y (in_function m globals g) g
+ProgramTypable z y m globals = (n : ℕ) (g : Function) → function_at m.typed n ≡ Some g
+    → FunctionTypable z n y (in_function m globals g) g
 
--- Lines of a function that begin at this one, before the first of which this is known; nothing leads on from the last of them.
+-- Lines of a function that begin at this one, before the first of which this is known; nothing leads on from the last
+-- of them.
 pub record FunctionLines (z : Setting) (n pc : ℕ) (s : Mark) (os : List Op) : Type 0 where
   pub marks : List Mark
   pub many : length marks ≡ length os
@@ -36,7 +38,10 @@ pub record FunctionLines (z : Setting) (n pc : ℕ) (s : Mark) (os : List Op) : 
 
 -- The code of a typable function is typed, wherever it is.
 abbrev pub FunctionsAreTyped : Type 0
-FunctionsAreTyped = (z : Setting) (n : ℕ) (y : Typing) → IsLowTyping y → (m : Assignment) (globals : List GlobalCells) (g : Function) → FunctionTypable z n y (in_function m globals g) g
-    → int_count (in_function m globals g).scope ≤ ints_in z.code (Some n) → ref_count (in_function m globals g).scope ≤ refs_in z.code (Some n)
+FunctionsAreTyped = (z : Setting) (n : ℕ) (y : Typing) → IsLowTyping y
+    → (m : Assignment) (globals : List GlobalCells) (g : Function) → FunctionTypable z n y (in_function m globals g) g
+    → int_count (in_function m globals g).scope ≤ ints_in z.code (Some n)
+    → ref_count (in_function m globals g).scope ≤ refs_in z.code (Some n)
     → (pc : ℕ) → AreWithin (ints_in z.code (Some n)) (refs_in z.code (Some n)) (function_code m globals pc g)
-    → FunctionLines z n pc (before (in_function m globals g) (label_of y (in_function m globals g) n)) (function_code m globals pc g)
+    → FunctionLines z n pc (before (in_function m globals g) (label_of y (in_function m globals g) n))
+    (function_code m globals pc g)

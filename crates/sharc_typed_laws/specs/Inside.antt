@@ -1,13 +1,18 @@
--- What is known at the places within the piece of guarded code that a line of flat code becomes, by what is known before the line.
-use Rattle.std.specs.Prelude.{ℕ, ◌+◌, ◌-◌, ◌*◌, Bool, true, false, List, [], ◌∷◌, ◌++◌, Option, Some, None, nat_lt, slice_index_or, if◌then◌else◌}
+-- What is known at the places within the piece of guarded code that a line of flat code becomes, by what is known
+-- before the line.
+use Rattle.std.specs.Prelude.{ℕ, ◌+◌, ◌-◌, ◌*◌, Bool, true, false, List, [], ◌∷◌, ◌++◌, Option, Some, None, nat_lt}
+use Rattle.std.specs.Prelude.{slice_index_or, if◌then◌else◌}
 use Rattle.sharc_code.specs.declared.code.PlaceMode.{PlaceMode}
-use Rattle.sharc_code.specs.declared.code.PlaceMode.TheVariants.{Dynamic, LockedGlobal, LockedSibling, LockedThrough, LockedLoaded}
+use Rattle.sharc_code.specs.declared.code.PlaceMode.TheVariants.{Dynamic, LockedGlobal, LockedSibling, LockedThrough}
+use Rattle.sharc_code.specs.declared.code.PlaceMode.TheVariants.{LockedLoaded}
 use Rattle.sharc_code.specs.declared.instr.Cell.{Cell}
 use Rattle.sharc_code.specs.declared.instr.Cell.TheVariants as cells
 use Rattle.sharc_flat_form.specs.{declared.op.Op.Op, declared.op.Spot.Spot}
 use Rattle.sharc_flat_form.specs.declared.op.Op.TheVariants as op
 use Rattle.sharc_invariant.specs.Types.{Targets, StaticType, cells_of}
-use Rattle.sharc_invariant.specs.Labels.{Entry, Refers, Nth, Number, Anything, OfElement, OfGlobal, Gate, Closed, Checked, Holds, Loaded, HoldsLoaded, Sole, Pass, Label, Labels, Empty, fill, empty, gated, without_base}
+use Rattle.sharc_invariant.specs.Labels.{Entry, Refers, Nth, Number, Anything, OfElement, OfGlobal, Gate, Closed}
+use Rattle.sharc_invariant.specs.Labels.{Checked, Holds, Loaded, HoldsLoaded, Sole, Pass, Label, Labels, Empty, fill}
+use Rattle.sharc_invariant.specs.Labels.{empty, gated, without_base}
 use Rattle.sharc_invariant.specs.Typed.{knows_base}
 
 -- ---- labels of flat code
@@ -19,7 +24,16 @@ pub record FlatLabels : Type 0 where
 
 -- where no frame stands: a thread begins or ends there
 abbrev pub outside : Label
-outside = record { function = None; env = λ r. Empty; same = λ r. r; known = λ r. false; ints = λ i. Anything; gate = Closed; passed = []; room = false }
+outside = record {
+  function = None;
+  env = λ r. Empty;
+  same = λ r. r;
+  known = λ r. false;
+  ints = λ i. Anything;
+  gate = Closed;
+  passed = [];
+  room = false;
+}
 
 -- ---- after a check
 -- the cell of the mutex that the check of an access under a lock looks at
@@ -28,8 +42,8 @@ lock_of spot (LockedGlobal g place) = cells.Global g place
 lock_of spot (LockedThrough r place) = cells.Object r place
 lock_of spot mode = spot.lock
 
--- The check as one that is remembered: of a cell of the globals or of what a register refers to, where its number is known. That of a copy is one of the
--- register that it is a copy of.
+-- The check as one that is remembered: of a cell of the globals or of what a register refers to, where its number is
+-- known. That of a copy is one of the register that it is a copy of.
 abbrev pub global_pass : Bool → ℕ → Option Pass
 global_pass write place = if nat_lt place 2 then None else Some record { write = write; base = None; cell = place - 2 }
 
@@ -38,7 +52,8 @@ global_element_pass write (OfGlobal first count elements (Nth e)) = global_pass 
 global_element_pass write n = None
 
 abbrev pub element_pass : Targets → Label → Bool → ℕ → Entry → Number → Option Pass
-element_pass x l write r (Refers s) (OfElement base field (Nth e)) = Some record { write = write; base = Some (l.same r); cell = e * cells_of x s.target + field }
+element_pass x l write r (Refers s) (OfElement base field (Nth e)) =
+    Some record { write = write; base = Some (l.same r); cell = e * cells_of x s.target + field }
 element_pass x l write r entry n = None
 
 abbrev pub pass_of : Targets → Label → Bool → Cell → Option Pass
@@ -107,11 +122,16 @@ abbrev pub inside : Targets → Bool → StaticType → Op → Label → List La
 inside x dropped s op.Enter l = []
 inside x dropped s op.BlockEnd l = []
 inside x dropped s (op.Settle to from) l = l ∷ empty l to ∷ []
-inside x dropped s (op.Load i cell spot) l = before_check dropped l spot.mode ++ (behind x dropped l false cell spot ∷ [])
-inside x dropped s (op.Store i cell spot) l = before_check dropped l spot.mode ++ (behind x dropped l true cell spot ∷ [])
-inside x dropped s (op.LoadRef r cell spot) l = before_check false l spot.mode ++ (behind x false l false cell spot ∷ gated (behind x false l false cell spot) (Loaded cell) ∷ [])
-inside x dropped s (op.StoreRef r cell spot) l = before_check false l spot.mode ++ (behind x false l true cell spot ∷ exchanged (behind x false l true cell spot) r s ∷ [])
-inside x dropped s (op.TakeCell r cell spot) l = before_check false l spot.mode ++ (behind x false l true cell spot ∷ [])
+inside x dropped s (op.Load i cell spot) l =
+    before_check dropped l spot.mode ++ (behind x dropped l false cell spot ∷ [])
+inside x dropped s (op.Store i cell spot) l =
+    before_check dropped l spot.mode ++ (behind x dropped l true cell spot ∷ [])
+inside x dropped s (op.LoadRef r cell spot) l = before_check false l spot.mode
+    ++ (behind x false l false cell spot ∷ gated (behind x false l false cell spot) (Loaded cell) ∷ [])
+inside x dropped s (op.StoreRef r cell spot) l = before_check false l spot.mode
+    ++ (behind x false l true cell spot ∷ exchanged (behind x false l true cell spot) r s ∷ [])
+inside x dropped s (op.TakeCell r cell spot) l =
+    before_check false l spot.mode ++ (behind x false l true cell spot ∷ [])
 inside x dropped s (op.Give r cells spot) l = l ∷ tested l r ∷ cleared l r ∷ []
 inside x dropped s (op.Free r layout spot) l = l ∷ tested l r ∷ []
 inside x dropped s o l = l ∷ []
@@ -119,8 +139,10 @@ inside x dropped s o l = l ∷ []
 -- the lines from this one on
 abbrev pub labels_from : Targets → (ℕ → Bool) → FlatLabels → ℕ → List Op → List Label
 labels_from x dropped fl n [] = []
-labels_from x dropped fl n (o ∷ os) = inside x (dropped n) (fl.replaced n) o (fl.lines.at n) ++ labels_from x dropped fl (n + 1) os
+labels_from x dropped fl n (o ∷ os) =
+    inside x (dropped n) (fl.replaced n) o (fl.lines.at n) ++ labels_from x dropped fl (n + 1) os
 
 -- what is known at each place of the code that is made
 abbrev pub labels_of : Targets → (ℕ → Bool) → FlatLabels → List Op → Labels
-labels_of x dropped fl lines = record fl.lines { at = λ pc. slice_index_or (outside ∷ outside ∷ labels_from x dropped fl 0 lines) pc outside }
+labels_of x dropped fl lines =
+    record fl.lines { at = λ pc. slice_index_or (outside ∷ outside ∷ labels_from x dropped fl 0 lines) pc outside }

@@ -1,5 +1,7 @@
--- Typed flat code: what each operation asks of what is known before its line, and what the next line, and those to which it leads, may then know.
-use Rattle.std.specs.Prelude.{ℕ, ◌+◌, ◌≡◌, ◌≢◌, ◌<◌, ◌≤◌, ◌^◌, ◌⊎◌, Bool, true, false, length, slice_get, Option, Some, None}
+-- Typed flat code: what each operation asks of what is known before its line, and what the next line, and those to
+-- which it leads, may then know.
+use Rattle.std.specs.Prelude.{ℕ, ◌+◌, ◌≡◌, ◌≢◌, ◌<◌, ◌≤◌, ◌^◌, ◌⊎◌, Bool, true, false, length, slice_get, Option, Some}
+use Rattle.std.specs.Prelude.{None}
 use Rattle.sharc_code.specs.{declared.code.Code.Code, declared.instr.Cell.Cell, declared.instr.Instr.Instr}
 use Rattle.sharc_code.specs.declared.instr.Width.{Width}
 use Rattle.sharc_flat_form.specs.{declared.op.Op.Op, declared.op.Spot.Spot}
@@ -7,11 +9,16 @@ use Rattle.sharc_flat_form.specs.Machine.{Flat, function_of as flat_function}
 use Rattle.sharc_flat_form.specs.declared.op.Op.TheVariants as op
 use Rattle.sharc_gen.specs.Generated.{instr_of}
 use Rattle.sharc_guard.specs.Guard.{body}
-use Rattle.sharc_invariant.specs.Types.{Targets, AreTargets, StaticType, Field, FieldType, FieldLock, FieldMode, Content, cells_of, field_of_cell, is_pointer, Mentions}
+use Rattle.sharc_invariant.specs.Types.{Targets, AreTargets, StaticType, Field, FieldType, FieldLock, FieldMode}
+use Rattle.sharc_invariant.specs.Types.{Content, cells_of, field_of_cell, is_pointer, Mentions}
 use Rattle.sharc_invariant.specs.Types.FieldMode.{Private, Readonly, Racy, Dynamic, Under, Behind}
 use Rattle.sharc_invariant.specs.Types.Content.{Integer}
-use Rattle.sharc_invariant.specs.Labels.{Empty, Refers, Anything, Within, Closed, Loaded, Pass, IsIn, Label, Labels, Less, LessEntry, EntryMentions, IsScoped, set_number, fill, empty, gated, knows, IsFree}
-use Rattle.sharc_invariant.specs.Typed.{IsRef, IsInt, IsVacant, HasField, HasCell, IsMutex, IsMutexOf, IsPlace, Covers, IsOwn, PointsTo, PointsToMutex, IsSibling, IsMode, Fits, Recasts, IsLayout, AreGlobals, IsPlain, MayStart, moved_copy, ints_in, refs_in, entry_label}
+use Rattle.sharc_invariant.specs.Labels.{Empty, Refers, Anything, Within, Closed, Loaded, Pass, IsIn, Label, Labels}
+use Rattle.sharc_invariant.specs.Labels.{Less, LessEntry, EntryMentions, IsScoped, set_number, fill, empty, gated}
+use Rattle.sharc_invariant.specs.Labels.{knows, IsFree}
+use Rattle.sharc_invariant.specs.Typed.{IsRef, IsInt, IsVacant, HasField, HasCell, IsMutex, IsMutexOf, IsPlace, Covers}
+use Rattle.sharc_invariant.specs.Typed.{IsOwn, PointsTo, PointsToMutex, IsSibling, IsMode, Fits, Recasts, IsLayout}
+use Rattle.sharc_invariant.specs.Typed.{AreGlobals, IsPlain, MayStart, moved_copy, ints_in, refs_in, entry_label}
 use Rattle.sharc_typed_laws.specs.{Steps.Steps, Inside.{FlatLabels, lock_of, behind, outside, cleared, tested}}
 
 -- ---- accesses
@@ -39,8 +46,10 @@ pub record IsGuardedBy (x : Targets) (code : Code) (l : Label) (field pointer : 
   pub points : PointsToMutex x of
   pub sibling : IsSibling l field pointer c cell
 
--- What an access in a mode asks for before its check, where the check is dropped or not. That of a locked cell looks at this mutex.
-abbrev pub MayPass : Targets → Code → Labels → Bool → Label → Bool → Cell → (mutex : Cell) → Content → FieldMode → Type 0
+-- What an access in a mode asks for before its check, where the check is dropped or not. That of a locked cell looks at
+-- this mutex.
+abbrev pub MayPass : Targets → Code → Labels → Bool → Label → Bool → Cell
+    → (mutex : Cell) → Content → FieldMode → Type 0
 MayPass x code ls dropped l write c mutex holds Private = (l.gate ≡ Closed) × IsOwn ls l c
 MayPass x code ls dropped l write c mutex holds Readonly = (l.gate ≡ Closed) × (write ≡ false)
 MayPass x code ls dropped l write c mutex holds Racy = l.gate ≡ Closed
@@ -50,12 +59,14 @@ MayPass x code ls dropped l write c mutex holds (Under lock) = (l.gate ≡ Close
 MayPass x code ls dropped l write c mutex holds (Behind field pointer) = IsGuardedBy x code l field pointer c
 
 -- an access to a cell, of this field
-pub record PassesCheck (x : Targets) (code : Code) (ls : Labels) (dropped : Bool) (l : Label) (write : Bool) (c : Cell) (spot : Spot) (f : Field) : Type 0 where
+pub record PassesCheck (x : Targets) (code : Code) (ls : Labels) (dropped : Bool) (l : Label) (write : Bool) (c : Cell)
+    (spot : Spot) (f : Field) : Type 0 where
   pub cell : HasCell x code l c f
   pub mode : IsMode code l c f.mode spot.mode
   pub may : MayPass x code ls dropped l write c (lock_of spot spot.mode) f.holds f.mode
 
-pub record Loads (x : Targets) (code : Code) (ls : Labels) (dropped : Bool) (l k : Label) (i : ℕ) (c : Cell) (spot : Spot) : Type 0 where
+pub record Loads (x : Targets) (code : Code) (ls : Labels) (dropped : Bool) (l k : Label) (i : ℕ) (c : Cell)
+    (spot : Spot) : Type 0 where
   pub field : Field
   pub width : Width
   pub register : IsInt code l i
@@ -63,7 +74,8 @@ pub record Loads (x : Targets) (code : Code) (ls : Labels) (dropped : Bool) (l k
   pub holds : field.holds ≡ Integer width
   pub next : Less (set_number (behind x dropped l false c spot) i (Within width)) k
 
-pub record Stores (x : Targets) (code : Code) (ls : Labels) (dropped : Bool) (l k : Label) (i : ℕ) (c : Cell) (spot : Spot) : Type 0 where
+pub record Stores (x : Targets) (code : Code) (ls : Labels) (dropped : Bool) (l k : Label) (i : ℕ) (c : Cell)
+    (spot : Spot) : Type 0 where
   pub field : Field
   pub width : Width
   pub access : PassesCheck x code ls dropped l true c spot field
@@ -72,7 +84,8 @@ pub record Stores (x : Targets) (code : Code) (ls : Labels) (dropped : Bool) (l 
   pub next : Less (gated (behind x dropped l true c spot) Closed) k
 
 -- the reference of a cell comes to a register, and stays in the cell or not
-pub record LoadsReference (x : Targets) (code : Code) (ls : Labels) (write : Bool) (l k : Label) (r : ℕ) (c : Cell) (spot : Spot) : Type 0 where
+pub record LoadsReference (x : Targets) (code : Code) (ls : Labels) (write : Bool) (l k : Label) (r : ℕ) (c : Cell)
+    (spot : Spot) : Type 0 where
   pub field : Field
   pub type : StaticType
   pub register : IsVacant code l r
@@ -82,7 +95,8 @@ pub record LoadsReference (x : Targets) (code : Code) (ls : Labels) (write : Boo
   pub next : Less (fill (behind x false l write c spot) r (Refers type) r false) k
 
 -- a reference goes to a cell, which has one of this type
-pub record StoresReference (x : Targets) (code : Code) (ls : Labels) (type : StaticType) (l k : Label) (r : ℕ) (c : Cell) (spot : Spot) : Type 0 where
+pub record StoresReference (x : Targets) (code : Code) (ls : Labels) (type : StaticType) (l k : Label) (r : ℕ)
+    (c : Cell) (spot : Spot) : Type 0 where
   pub field : Field
   pub register : IsRef code l r
   pub access : PassesCheck x code ls false l true c spot field
@@ -172,9 +186,11 @@ abbrev pub TypedLine : Targets → Code → Labels → ℕ → Bool → StaticTy
 TypedLine x code ls lines dropped type n l k op.Enter = Less l k
 TypedLine x code ls lines dropped type n l k op.BlockEnd = Less l k
 TypedLine x code ls lines dropped type n l k (op.Skip over) = (l.gate ≡ Closed) × To ls lines (n + 1 + over) l
-TypedLine x code ls lines dropped type n l k (op.SkipIfZero i over) = (l.gate ≡ Closed) × To ls lines (n + 1 + over) l × Less l k
+TypedLine x code ls lines dropped type n l k (op.SkipIfZero i over) =
+    (l.gate ≡ Closed) × To ls lines (n + 1 + over) l × Less l k
 TypedLine x code ls lines dropped type n l k (op.SkipIfNull r over) =
-    (l.gate ≡ Closed) × (To ls lines (n + 1 + over) l ⊎ (IsFree l r × To ls lines (n + 1 + over) (empty l r))) × Less (knows l r) k
+    (l.gate ≡ Closed) × (To ls lines (n + 1 + over) l ⊎ (IsFree l r × To ls lines (n + 1 + over) (empty l r)))
+    × Less (knows l r) k
 TypedLine x code ls lines dropped type n l k (op.Jump to) = (l.gate ≡ Closed) × To ls lines to l
 TypedLine x code ls lines dropped type n l k (op.Settle to from) = Settles code l k to from
 TypedLine x code ls lines dropped type n l k (op.Load i cell spot) = Loads x code ls dropped l k i cell spot
@@ -194,12 +210,15 @@ TypedLine x code ls lines dropped type n l k o = StepsBy x code ls l k (body (λ
 pub record IsTypedFlat (x : Targets) (code : Code) (dropped : ℕ → Bool) (fl : FlatLabels) (flat : Flat) : Type 0 where
   pub targets : AreTargets x
   pub globals : AreGlobals x code
-  pub lines : (n : ℕ) (o : Op) → slice_get flat.lines n ≡ Some o → TypedLine x code fl.lines (length flat.lines) (dropped n) (fl.replaced n) n (fl.lines.at n) (fl.lines.at (n + 1)) o
+  pub lines : (n : ℕ) (o : Op) → slice_get flat.lines n ≡ Some o → TypedLine x code fl.lines (length flat.lines)
+      (dropped n) (fl.replaced n) n (fl.lines.at n) (fl.lines.at (n + 1)) o
   -- nothing is known where no line is, so no line leads there
   pub end : fl.lines.at (length flat.lines) ≡ outside
   pub owned : (n : ℕ) → n < length flat.lines → (f : ℕ) × ((fl.lines.at n).function ≡ Some f)
-  pub scoped : (n : ℕ) → n < length flat.lines → IsScoped (ints_in code (fl.lines.at n).function) (refs_in code (fl.lines.at n).function) (fl.lines.at n)
-  pub entries : (f : ℕ) → f < length flat.functions → To fl.lines (length flat.lines) (flat_function flat f).entry (entry_label fl.lines f)
+  pub scoped : (n : ℕ) → n < length flat.lines
+      → IsScoped (ints_in code (fl.lines.at n).function) (refs_in code (fl.lines.at n).function) (fl.lines.at n)
+  pub entries : (f : ℕ) → f < length flat.functions
+      → To fl.lines (length flat.lines) (flat_function flat f).entry (entry_label fl.lines f)
   pub plain : (f : ℕ) → IsPlain (fl.lines.signature f)
   pub starts : (f : ℕ) → fl.lines.starts f ≡ true → MayStart code fl.lines f
   pub main : fl.lines.starts code.main ≡ true

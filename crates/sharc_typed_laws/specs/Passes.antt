@@ -1,13 +1,17 @@
--- The checks that are remembered before each line, by what sharc_guard knows there, and flat code that is typed whatever is remembered.
-use Rattle.std.specs.Prelude.{ℕ, zero, suc, pos, ◌+◌, ◌-◌, ◌*◌, ◌^◌, ◌≡◌, ◌≢◌, ◌<◌, ◌≤◌, Bool, true, false, not, List, [], ◌∷◌, ◌++◌, length, filter, nat_lt, slice_get, Option, Some, None, if◌then◌else◌}
+-- The checks that are remembered before each line, by what sharc_guard knows there, and flat code that is typed
+-- whatever is remembered.
+use Rattle.std.specs.Prelude.{ℕ, zero, suc, pos, ◌+◌, ◌-◌, ◌*◌, ◌^◌, ◌≡◌, ◌≢◌, ◌<◌, ◌≤◌, Bool, true, false, not, List}
+use Rattle.std.specs.Prelude.{[], ◌∷◌, ◌++◌, length, filter, nat_lt, slice_get, Option, Some, None, if◌then◌else◌}
 use Rattle.sharc_shadow.specs.{declared.shadow_word.Kind.Kind, declared.shadow_word.Kind.TheVariants.{Read, Write}}
 use Rattle.sharc_code.specs.{declared.code.Code.Code, declared.instr.Cell.Cell}
 use Rattle.sharc_code.specs.declared.instr.Cell.TheVariants as cells
 use Rattle.sharc_flat_form.specs.{declared.op.Op.Op, Machine.{Flat, function_of as flat_function}}
 use Rattle.sharc_flat_form.specs.declared.op.Op.TheVariants as op
-use Rattle.sharc_guard.specs.Known.{is_straight, leads_to, is_target, writes_ref, Place, in_variable, in_global, Access, access, tells, Know, place_of, known, drops}
+use Rattle.sharc_guard.specs.Known.{is_straight, leads_to, is_target, writes_ref, Place, in_variable, in_global, Access}
+use Rattle.sharc_guard.specs.Known.{access, tells, Know, place_of, known, drops}
 use Rattle.sharc_invariant.specs.Types.{Targets, AreTargets, StaticType, cells_of}
-use Rattle.sharc_invariant.specs.Labels.{Refers, Empty, Nth, Number, Anything, Exactly, OfElement, OfGlobal, Pass, IsIn, Label, Labels, IsScoped, without_base}
+use Rattle.sharc_invariant.specs.Labels.{Refers, Empty, Nth, Number, Anything, Exactly, OfElement, OfGlobal, Pass, IsIn}
+use Rattle.sharc_invariant.specs.Labels.{Label, Labels, IsScoped, without_base}
 use Rattle.sharc_invariant.specs.Typed.{IsPlace, Covers, AreGlobals, IsPlain, MayStart, ints_in, refs_in, entry_label}
 use Rattle.sharc_typed_laws.specs.{Inside.{FlatLabels, outside, passed_behind}, Lines.{TypedLine, To}}
 
@@ -35,7 +39,9 @@ stays o None = true
 stays o (Some x) = not (writes_ref o x)
 
 abbrev pub passes_next : Op → Know → List Pass → List Pass
-passes_next o k passes = if is_straight o then filter (λ p. stays o p.base) ((if drops k o then [] else pass_by k (access o)) ++ passes) else []
+passes_next o k passes =
+    if is_straight o then filter (λ p. stays o p.base) ((if drops k o then [] else pass_by k (access o)) ++ passes)
+    else []
 
 abbrev pub passes_after : Option Op → Know → List Pass → List Pass
 passes_after None k passes = []
@@ -43,7 +49,8 @@ passes_after (Some o) k passes = passes_next o k passes
 
 abbrev pub passes_before : Flat → ℕ → List Pass
 passes_before flat zero = []
-passes_before flat (suc n) = if is_target flat (suc n) then [] else passes_after (slice_get flat.lines n) (known flat n) (passes_before flat n)
+passes_before flat (suc n) =
+    if is_target flat (suc n) then [] else passes_after (slice_get flat.lines n) (known flat n) (passes_before flat n)
 
 abbrev pub passes_in : Flat → ℕ → List Pass
 passes_in flat n = if nat_lt n (length flat.lines) then passes_before flat n else []
@@ -66,7 +73,8 @@ remembered x dropped l (op.Settle to from) passes = without_base from (without_b
 remembered x dropped l (op.Load i c spot) passes = passed_behind x dropped (with_passes l passes) false c spot.mode
 remembered x dropped l (op.Store i c spot) passes = passed_behind x dropped (with_passes l passes) true c spot.mode
 remembered x dropped l (op.LoadRef r c spot) passes = passed_behind x false (with_passes l passes) false c spot.mode
-remembered x dropped l (op.StoreRef r c spot) passes = without_base r (without_base r (passed_behind x false (with_passes l passes) true c spot.mode))
+remembered x dropped l (op.StoreRef r c spot) passes =
+    without_base r (without_base r (passed_behind x false (with_passes l passes) true c spot.mode))
 remembered x dropped l o passes = if is_straight o then passes else []
 
 -- a check of this cell is among them
@@ -82,16 +90,20 @@ RepeatsCheck x l passes (op.Store i c spot) = IsPassed x l passes true c
 RepeatsCheck x l passes o = ⊥
 
 -- ---- lines that are typed whatever is remembered
--- where a check is dropped one is remembered; nothing is where a jump leads; and no more is after the line than what it leaves
+-- where a check is dropped one is remembered; nothing is where a jump leads; and no more is after the line than what it
+-- leaves
 abbrev pub TypedAnyhow : Targets → Code → FlatLabels → ℕ → ℕ → Op → Type 0
-TypedAnyhow x code fl lines n o = (dropped : Bool) (passes : ℕ → List Pass) → (dropped ≡ true → RepeatsCheck x (fl.lines.at n) (passes n) o) → ((t : ℕ) → leads_to n o t ≡ true → passes t ≡ [])
+TypedAnyhow x code fl lines n o = (dropped : Bool) (passes : ℕ → List Pass)
+    → (dropped ≡ true → RepeatsCheck x (fl.lines.at n) (passes n) o) → ((t : ℕ) → leads_to n o t ≡ true → passes t ≡ [])
     → ((p : Pass) → IsIn p (passes (n + 1)) → IsIn p (remembered x dropped (fl.lines.at n) o (passes n)))
-    → TypedLine x code (with_all fl.lines passes) lines dropped (fl.replaced n) n (with_passes (fl.lines.at n) (passes n)) (with_passes (fl.lines.at (n + 1)) (passes (n + 1))) o
+    → TypedLine x code (with_all fl.lines passes) lines dropped (fl.replaced n) n
+    (with_passes (fl.lines.at n) (passes n)) (with_passes (fl.lines.at (n + 1)) (passes (n + 1))) o
 
 -- the number that is known of an integer register is that of the label
 abbrev pub IsNumberOf : Targets → Label → ℕ → Number → Type 0
 IsNumberOf x l n (Exactly z) = z ≡ pos n
-IsNumberOf x l n (OfElement r field (Nth e)) = (s : StaticType) × (l.env r ≡ Refers s) × (n ≡ e * cells_of x s.target + field)
+IsNumberOf x l n (OfElement r field (Nth e)) =
+    (s : StaticType) × (l.env r ≡ Refers s) × (n ≡ e * cells_of x s.target + field)
 IsNumberOf x l n (OfGlobal first count elements (Nth e)) = n ≡ first + e * count
 IsNumberOf x l n number = ⊥
 
@@ -113,15 +125,20 @@ pub record IsTypedAnyhow (x : Targets) (code : Code) (fl : FlatLabels) (flat : F
   pub targets : AreTargets x
   pub globals : AreGlobals x code
   pub lines : (n : ℕ) (o : Op) → slice_get flat.lines n ≡ Some o → TypedAnyhow x code fl (length flat.lines) n o
-  pub knows : (n : ℕ) (o : Op) (a : Access) → slice_get flat.lines n ≡ Some o → access o ≡ Some a → Knows x (known flat n) (fl.lines.at n) a.cell
+  pub knows : (n : ℕ) (o : Op) (a : Access) → slice_get flat.lines n ≡ Some o → access o ≡ Some a
+      → Knows x (known flat n) (fl.lines.at n) a.cell
   -- a check is remembered of a variable that stands
-  pub variables : (n : ℕ) (p : Pass) (v : ℕ) → IsIn p (passes_in flat n) → p.base ≡ Some v → (fl.lines.at n).env v ≢ Empty
+  pub variables : (n : ℕ) (p : Pass) (v : ℕ) → IsIn p (passes_in flat n) → p.base ≡ Some v
+      → (fl.lines.at n).env v ≢ Empty
   -- the cells of globals that are accessed are none of granule 0
-  pub low : (n : ℕ) (o : Op) (a : Access) (g place : ℕ) → slice_get flat.lines n ≡ Some o → access o ≡ Some a → place_of (known flat n) a.cell ≡ Some (in_global g place) → 2 ≤ place
+  pub low : (n : ℕ) (o : Op) (a : Access) (g place : ℕ) → slice_get flat.lines n ≡ Some o → access o ≡ Some a
+      → place_of (known flat n) a.cell ≡ Some (in_global g place) → 2 ≤ place
   pub end : fl.lines.at (length flat.lines) ≡ outside
   pub owned : (n : ℕ) → n < length flat.lines → (f : ℕ) × ((fl.lines.at n).function ≡ Some f)
-  pub scoped : (n : ℕ) → n < length flat.lines → IsScoped (ints_in code (fl.lines.at n).function) (refs_in code (fl.lines.at n).function) (fl.lines.at n)
-  pub entries : (f : ℕ) → f < length flat.functions → To fl.lines (length flat.lines) (flat_function flat f).entry (entry_label fl.lines f)
+  pub scoped : (n : ℕ) → n < length flat.lines
+      → IsScoped (ints_in code (fl.lines.at n).function) (refs_in code (fl.lines.at n).function) (fl.lines.at n)
+  pub entries : (f : ℕ) → f < length flat.functions
+      → To fl.lines (length flat.lines) (flat_function flat f).entry (entry_label fl.lines f)
   pub plain : (f : ℕ) → IsPlain (fl.lines.signature f)
   pub starts : (f : ℕ) → fl.lines.starts f ≡ true → MayStart code fl.lines f
   pub main : fl.lines.starts code.main ≡ true

@@ -3,12 +3,13 @@ use Rattle.std.specs.Prelude.{ℕ, ◌≡◌, ◌≢◌, ◌<◌, ◌≤◌, Boo
 use Rattle.sharc_code.specs.declared.instr.Cell.{Cell}
 use Rattle.sharc_flat_form.specs.declared.op.Spot.{Spot}
 use Rattle.sharc_invariant.specs.Types.{StaticType, Field, Mentions}
-use Rattle.sharc_invariant.specs.Labels.{Empty, Number, Anything, Exactly, Within, Indexes, OfElement, OfGlobal, Closed, Label, EntryMentions, HasBase}
+use Rattle.sharc_invariant.specs.Labels.{Empty, Number, Anything, Exactly, Within, Indexes, OfElement, OfGlobal, Closed}
+use Rattle.sharc_invariant.specs.Labels.{Label, EntryMentions, HasBase}
 use Rattle.sharc_invariant.specs.Typed.{HasCell, IsMode}
 use Rattle.sharc_typed_laws.specs.{Inside.lock_of, Lines.MayPass, Stretches.{Mark, Setting, labels_by}}
 
--- Integer registers are free from the first number on, reference registers from the second one on. Those below hold something, and what types name are constants,
--- which stand among the first ones.
+-- Integer registers are free from the first number on, reference registers from the second one on. Those below hold
+-- something, and what types name are constants, which stand among the first ones.
 pub record Stands (named : ℕ → Bool) (ints refs : ℕ) (l : Label) : Type 0 where
   pub closed : l.gate ≡ Closed
   pub free : (q : ℕ) → refs ≤ q → l.env q ≡ Empty
@@ -51,4 +52,5 @@ mark l from until = record { label = l; replaced = no_type; from = from; until =
 pub record MayReach (z : Setting) (l : Label) (write : Bool) (c : Cell) (spot : Spot) (f : Field) : Type 0 where
   pub cell : HasCell z.targets z.code l c f
   pub mode : IsMode z.code l c f.mode spot.mode
-  pub may : MayPass z.targets z.code (labels_by z (λ n. mark l 0 0)) false l write c (lock_of spot spot.mode) f.holds f.mode
+  pub may :
+      MayPass z.targets z.code (labels_by z (λ n. mark l 0 0)) false l write c (lock_of spot spot.mode) f.holds f.mode

@@ -1,5 +1,5 @@
--- What the types of a source have to say of its accesses, so that they are typed: of each label where the variables hold what their types say, and the registers of
--- an lvalue its base and its index.
+-- What the types of a source have to say of its accesses, so that they are typed: of each label where the variables
+-- hold what their types say, and the registers of an lvalue its base and its index.
 use Rattle.std.specs.Prelude.{ℕ, ◌+◌, ◌≡◌, ◌<◌, ◌≤◌, Bool, true, List, Option, Some, None}
 use Rattle.sharc_tree.specs.{declared.token.Site.Site, Tree.{Expression, identifier}}
 use Rattle.sharc_names.specs.declared.fault.Named.{Named}
@@ -9,16 +9,19 @@ use Rattle.sharc_code.specs.declared.instr.Width.{Width}
 use Rattle.sharc_mode.specs.Sharings.{Sharing}
 use Rattle.sharc_flat_form.specs.{declared.op.Spot.Spot, Machine.first_cell}
 use Rattle.sharc_flat.specs.{declared.slot.Lvalue.Lvalue, Scope.{Context, int_count, ref_count, register_of, number_in}}
-use Rattle.sharc_flat.specs.Places.{Target, in_global_at, in_object, in_object_at, has_base, cell_of, guard_cell, guard_field, spot_of}
+use Rattle.sharc_flat.specs.Places.{Target, in_global_at, in_object, in_object_at, has_base, cell_of, guard_cell}
+use Rattle.sharc_flat.specs.Places.{guard_field, spot_of}
 use Rattle.sharc_flat.specs.Flattened.{what_names}
 use Rattle.sharc_invariant.specs.{Types.{StaticType, Field, FieldType}, Types.FieldMode.Readonly}
 use Rattle.sharc_invariant.specs.Types.Content.{Integer, Waiters, Pointer}
-use Rattle.sharc_invariant.specs.Labels.{Entry, Refers, Element, Number, Within, OfElement, OfGlobal, Closed, Loaded, Label, gated}
+use Rattle.sharc_invariant.specs.Labels.{Entry, Refers, Element, Number, Within, OfElement, OfGlobal, Closed, Loaded}
+use Rattle.sharc_invariant.specs.Labels.{Label, gated}
 use Rattle.sharc_invariant.specs.Typed.{HasCell, IsMutex, PointsTo, refs_in}
 use Rattle.sharc_typed_laws.specs.{Stretches.Setting, Places.MayReach}
 
 -- ---- the types of a source
--- Of the value of an expression that is a reference; of the variables that stand, by their registers; and which registers of references are those of constants.
+-- Of the value of an expression that is a reference; of the variables that stand, by their registers; and which
+-- registers of references are those of constants.
 pub record Typing : Type 0 where
   pub entry : Context → Expression → Entry
   pub pointer : Context → ℕ → StaticType
@@ -49,7 +52,8 @@ IsPointerCopy y c None copy = Unit {0}
 IsPointerCopy y c (Some p) copy = IsCopyOf y c p copy
 
 -- ---- what an lvalue names
--- the type of its base, the pointer that this is the value of, the cells of an element, and how many elements a global has
+-- the type of its base, the pointer that this is the value of, the cells of an element, and how many elements a global
+-- has
 pub record Ground : Type 0 where
   pub base : StaticType
   pub pointer : Option Expression
@@ -75,7 +79,8 @@ HasBaseAt (in_object_at n) ground r q = (q.env r ≡ Refers ground.base) × (q.k
 HasBaseAt t ground r q = Unit {0}
 
 -- its registers are these, and those of the variables and of its base are some of the frame
-pub record IsPlaced (z : Setting) (y : Typing) (c : Context) (f : ℕ) (t : Target) (guard : Option ℕ) (ground : Ground) (e : Element) (i r : ℕ) (q : Label) : Type 0 where
+pub record IsPlaced (z : Setting) (y : Typing) (c : Context) (f : ℕ) (t : Target) (guard : Option ℕ) (ground : Ground)
+    (e : Element) (i r : ℕ) (q : Label) : Type 0 where
   pub variables : HoldsVariables y c q
   pub variables_in : ref_count c.scope ≤ refs_in z.code (Some f)
   pub owned : q.function ≡ Some f
@@ -95,12 +100,14 @@ pub record ReadsGuard (z : Setting) (q : Label) (cell : Cell) : Type 0 where
   pub holds : field.holds ≡ Pointer to
 
 -- an integer of this width, and a reference of this type, may be read or written
-pub record ReachesInteger (z : Setting) (q : Label) (write : Bool) (cell : Cell) (spot : Spot) (w : Width) : Type 0 where
+pub record ReachesInteger (z : Setting) (q : Label) (write : Bool) (cell : Cell) (spot : Spot)
+    (w : Width) : Type 0 where
   pub field : Field
   pub may : MayReach z q write cell spot field
   pub holds : field.holds ≡ Integer w
 
-pub record ReachesReference (z : Setting) (q : Label) (write : Bool) (cell : Cell) (spot : Spot) (s : StaticType) : Type 0 where
+pub record ReachesReference (z : Setting) (q : Label) (write : Bool) (cell : Cell) (spot : Spot)
+    (s : StaticType) : Type 0 where
   pub field : Field
   pub may : MayReach z q write cell spot field
   pub points : PointsTo q cell field s
@@ -119,17 +126,22 @@ pub record HasWaiters (z : Setting) (q : Label) (cell : Cell) : Type 0 where
 -- after the pointer to the mutex was read, where there is one
 abbrev pub ThroughGuard : Setting → Context → Target → ℕ → ℕ → Option ℕ → (Label → Type 0) → Label → Type 0
 ThroughGuard z c t i r None Holds q = Holds q
-ThroughGuard z c t i r (Some mutex) Holds q = ReadsGuard z q (guard_cell c.globals mutex i r t) × Holds (gated q (Loaded (guard_cell c.globals mutex i r t)))
+ThroughGuard z c t i r (Some mutex) Holds q =
+    ReadsGuard z q (guard_cell c.globals mutex i r t) × Holds (gated q (Loaded (guard_cell c.globals mutex i r t)))
 
 -- what is named is a mutex
 abbrev pub MutexTyped : Setting → Typing → Context → ℕ → Target → Option ℕ → Ground → Type 0
-MutexTyped z y c f t guard ground = (e : Element) (i r : ℕ) (q : Label) → IsPlaced z y c f t guard ground e i r q → HasMutex z q (cell_of c.globals i r t)
+MutexTyped z y c f t guard ground = (e : Element) (i r : ℕ) (q : Label) → IsPlaced z y c f t guard ground e i r q
+    → HasMutex z q (cell_of c.globals i r t)
 
-module _ (z : Setting) (y : Typing) (c : Context) (f : ℕ) (t : Target) (guard : Option ℕ) (ground : Ground) (site : Site) (lvalue : Lvalue) (mode : Sharing) (write : Bool) (use_made : Use) where
+module _ (z : Setting) (y : Typing) (c : Context) (f : ℕ) (t : Target) (guard : Option ℕ) (ground : Ground)
+    (site : Site) (lvalue : Lvalue) (mode : Sharing) (write : Bool) (use_made : Use) where
   abbrev pub IntegerTyped : Width → Type 0
   IntegerTyped w = (e : Element) (i r : ℕ) (q : Label) → IsPlaced z y c f t guard ground e i r q
-      → ThroughGuard z c t i r (guard_field c.program.typed mode) (λ k. ReachesInteger z k write (cell_of c.globals i r t) (spot_of c i r site lvalue use_made mode t) w) q
+      → ThroughGuard z c t i r (guard_field c.program.typed mode)
+      (λ k. ReachesInteger z k write (cell_of c.globals i r t) (spot_of c i r site lvalue use_made mode t) w) q
 
   abbrev pub ReferenceTyped : StaticType → Type 0
   ReferenceTyped s = (e : Element) (i r : ℕ) (q : Label) → IsPlaced z y c f t guard ground e i r q
-      → ThroughGuard z c t i r (guard_field c.program.typed mode) (λ k. ReachesReference z k write (cell_of c.globals i r t) (spot_of c i r site lvalue use_made mode t) s) q
+      → ThroughGuard z c t i r (guard_field c.program.typed mode)
+      (λ k. ReachesReference z k write (cell_of c.globals i r t) (spot_of c i r site lvalue use_made mode t) s) q

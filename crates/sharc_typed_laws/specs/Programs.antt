@@ -15,9 +15,11 @@ use Rattle.sharc_typed_laws.specs.Functions.{IsLowTyping, ProgramTypable}
 
 -- what a function names as a global is one of the program
 abbrev pub AreGlobalsNamed : Assignment → Type 0
-AreGlobalsNamed m = (s : Span) (i : Identifier) → IsExpression m (identifier s i) → (g : ℕ) → named_at m.typed i.site.token ≡ named.Global g → g < length (globals_in m.typed.program.items)
+AreGlobalsNamed m = (s : Span) (i : Identifier) → IsExpression m (identifier s i)
+    → (g : ℕ) → named_at m.typed i.site.token ≡ named.Global g → g < length (globals_in m.typed.program.items)
 
--- a function with which a thread may begin is handed one argument at most, whose type names no register, and gives no reference back
+-- a function with which a thread may begin is handed one argument at most, whose type names no register, and gives no
+-- reference back
 pub record StartTypable (z : Setting) (m : Assignment) (n : ℕ) : Type 0 where
   pub may : MayStart m n
   pub closed : (q : ℕ) → EntryMentions ((z.signature n).takes 0) q → ⊥
@@ -46,9 +48,12 @@ pub record IsSettingOf (z : Setting) (flat : FlatCode) : Type 0 where
 
 -- The flat code of such a program is typed whatever checks are remembered.
 abbrev pub ProgramsAreTyped : Type 0
-ProgramsAreTyped = (m : Assignment) (flat : FlatCode) → Flattens m flat → FitsMade (flat_of flat) → AreGlobalsNamed m → (z : Setting) → IsSettingOf z flat → (y : Typing) → TypableProgram z y m
+ProgramsAreTyped = (m : Assignment) (flat : FlatCode) → Flattens m flat → FitsMade (flat_of flat) → AreGlobalsNamed m
+    → (z : Setting) → IsSettingOf z flat → (y : Typing) → TypableProgram z y m
     → (fl : FlatLabels) × IsTypedAnyhow z.targets z.code fl (flat_of flat)
 
 -- So its code is typed.
 abbrev pub CodeIsWellTyped : Type 0
-CodeIsWellTyped = (m : Assignment) (flat : FlatCode) → Flattens m flat → FitsMade (flat_of flat) → AreGlobalsNamed m → (z : Setting) → IsSettingOf z flat → (y : Typing) → TypableProgram z y m → (ls : Labels) × IsWellTyped z.targets z.code ls
+CodeIsWellTyped = (m : Assignment) (flat : FlatCode) → Flattens m flat → FitsMade (flat_of flat) → AreGlobalsNamed m
+    → (z : Setting) → IsSettingOf z flat → (y : Typing) → TypableProgram z y m
+    → (ls : Labels) × IsWellTyped z.targets z.code ls

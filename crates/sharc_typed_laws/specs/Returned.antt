@@ -16,7 +16,8 @@ use Rattle.sharc_typed_laws.specs.Left.{AreNested}
 module _ (z : Setting) (f : ℕ) (y : Typing) where
   -- a reference of a type that names no register, or an integer
   abbrev pub GivesBackBy : Kind → Bool → Type 0
-  GivesBackBy kind true = (s : StaticType) × ((p : ℕ) → Mentions s p → ⊥) × ((z.signature f).result ≡ Refers s) × ((z.signature f).result_int ≡ Anything)
+  GivesBackBy kind true = (s : StaticType) × ((p : ℕ) → Mentions s p → ⊥) × ((z.signature f).result ≡ Refers s)
+      × ((z.signature f).result_int ≡ Anything)
   GivesBackBy kind false = ((z.signature f).result ≡ Empty) × ((z.signature f).result_int ≡ Within (width_of kind))
 
   abbrev pub GivesBack : Kind → Type 0
@@ -24,7 +25,8 @@ module _ (z : Setting) (f : ℕ) (y : Typing) where
 
   -- the value of a return goes to the result's type
   abbrev pub ReturnedBy : Context → Kind → Expression → Bool → Type 0
-  ReturnedBy c kind e true = (is_ref c e ≡ true) × ((s : StaticType) × GoesTo (y.entry c e) s × ((z.signature f).result ≡ Refers s))
+  ReturnedBy c kind e true =
+      (is_ref c e ≡ true) × ((s : StaticType) × GoesTo (y.entry c e) s × ((z.signature f).result ≡ Refers s))
   ReturnedBy c kind e false = IsNumber z f y c e × (is_integer kind ≡ true)
 
   abbrev pub ReturnTypable : Context → Kind → Option Expression → Type 0
@@ -35,16 +37,23 @@ module _ (z : Setting) (f : ℕ) (y : Typing) where
 pub record Returns (z : Setting) (f : ℕ) (ways : List Way) (s : Mark) (os : List Op) (spot : Spot) : Type 0 where
   pub mark : Mark
   pub leads : LeadsAmong z f ways s os mark
-  pub returns : IsScoped (ints_in z.code (Some f)) (refs_in z.code (Some f)) mark.label → (table : ℕ → Mark) (pc : ℕ) → IsLine z f table pc mark (op.Return spot)
+  pub returns : IsScoped (ints_in z.code (Some f)) (refs_in z.code (Some f)) mark.label
+      → (table : ℕ → Mark) (pc : ℕ) → IsLine z f table pc mark (op.Return spot)
 
 -- Where blocks are open up to a context without variables, NULL or 0 is given back,
 abbrev pub NothingReturns : Type 0
-NothingReturns = (z : Setting) (f : ℕ) (ways : List Way) (y : Typing) (c d : Context) (l k : Label) → AreLow (y.named c) (ref_count c.scope) → StandsBefore y c f l → (inside : List ℕ) → AreNested y f c l inside d k
-    → int_count d.scope ≡ 0 → ref_count d.scope ≡ 0 → (kind : Kind) → GivesBack z f y kind → (spot : Spot) → Returns z f ways (before c l) (leaves c.scope inside ++ zero_code (is_reference kind) 0 0) spot
+NothingReturns = (z : Setting) (f : ℕ) (ways : List Way) (y : Typing) (c d : Context) (l k : Label)
+    → AreLow (y.named c) (ref_count c.scope) → StandsBefore y c f l → (inside : List ℕ) → AreNested y f c l inside d k
+    → int_count d.scope ≡ 0 → ref_count d.scope ≡ 0 → (kind : Kind) → GivesBack z f y kind
+    → (spot : Spot) → Returns z f ways (before c l) (leaves c.scope inside ++ zero_code (is_reference kind) 0 0) spot
 
 -- or a value, below which the variables are given up.
 abbrev pub ValuesReturn : Type 0
-ValuesReturn = (z : Setting) (f : ℕ) (ways : List Way) (y : Typing) (c d : Context) (l k : Label) → AreLow (y.named c) (ref_count c.scope) → StandsBefore y c f l → (inside : List ℕ) → AreNested y f c l inside d k
-    → int_count d.scope ≡ 0 → ref_count d.scope ≡ 0 → (kind : Kind) → GivesBack z f y kind → (e : Expression) → ReturnTypable z f y c kind (Some e) → (spot : Spot)
+ValuesReturn = (z : Setting) (f : ℕ) (ways : List Way) (y : Typing) (c d : Context) (l k : Label)
+    → AreLow (y.named c) (ref_count c.scope) → StandsBefore y c f l → (inside : List ℕ) → AreNested y f c l inside d k
+    → int_count d.scope ≡ 0 → ref_count d.scope ≡ 0 → (kind : Kind) → GivesBack z f y kind
+    → (e : Expression) → ReturnTypable z f y c kind (Some e) → (spot : Spot)
     → Returns z f ways (before c l)
-    (expression_code c (int_count c.scope) (ref_count c.scope) e ++ (width_code (int_count c.scope) kind (span_of e).first ++ (leaves c.scope inside ++ result_code (is_reference kind) (int_count c.scope) (ref_count c.scope)))) spot
+    (expression_code c (int_count c.scope) (ref_count c.scope) e
+    ++ (width_code (int_count c.scope) kind (span_of e).first
+    ++ (leaves c.scope inside ++ result_code (is_reference kind) (int_count c.scope) (ref_count c.scope)))) spot

@@ -62,7 +62,8 @@ abbrev pub the_list : List Label
 the_list = the_first ∷ the_first ∷ the_second ∷ the_second ∷ the_second ∷ the_third ∷ []
 
 abbrev pub the_signature : Signature
-the_signature = record { takes = λ r. Empty; takes_ints = λ i. Anything; result = Empty; result_int = Anything; alone = true }
+the_signature =
+    record { takes = λ r. Empty; takes_ints = λ i. Anything; result = Empty; result_int = Anything; alone = true }
 
 abbrev pub the_starts : ℕ → Bool
 the_starts zero = true

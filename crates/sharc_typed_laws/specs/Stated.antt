@@ -27,21 +27,27 @@ module _ (z : Setting) (f : ℕ) (y : Typing) where
 
   -- a value goes to something of this kind, and, if that is a pointer, of this type
   abbrev pub ValueGoes : Context → Kind → StaticType → Expression → Bool → Type 0
-  ValueGoes c kind s e true = IsTypable z f y c e × (is_ref c e ≡ true) × (is_integer kind ≡ false) × GoesTo (y.entry c e) s × IsTypeIn z f y c s
+  ValueGoes c kind s e true = IsTypable z f y c e × (is_ref c e ≡ true) × (is_integer kind ≡ false)
+      × GoesTo (y.entry c e) s × IsTypeIn z f y c s
   ValueGoes c kind s e false = IsTypable z f y c e × IsNumber z f y c e × (is_integer kind ≡ true)
 
   abbrev pub RightTypable : Context → Kind → StaticType → Right → Type 0
   RightTypable c kind s (value e) = ValueGoes c kind s e (is_reference kind)
-  RightTypable c kind s (malloc span n w) = (is_reference kind ≡ true) × IsTypeIn z f y c s × IsMade s span.first.token (element_cells c.program.typed (declared_kind w)) × CountTypable c n
+  RightTypable c kind s (malloc span n w) = (is_reference kind ≡ true) × IsTypeIn z f y c s
+      × IsMade s span.first.token (element_cells c.program.typed (declared_kind w)) × CountTypable c n
 
   -- what is assigned to, of this kind and of this type
   abbrev pub VariableAssigned : Context → Kind → StaticType → Register → Type 0
-  VariableAssigned c kind s (Int j) = (is_reference kind ≡ false) × (j < int_count c.scope) × (y.width c j ≡ width_of kind)
-  VariableAssigned c kind s (Reference q) = (is_reference kind ≡ true) × (q < ref_count c.scope) × (y.pointer c q ≡ s) × (y.named c q ≡ false)
+  VariableAssigned c kind s (Int j) =
+      (is_reference kind ≡ false) × (j < int_count c.scope) × (y.width c j ≡ width_of kind)
+  VariableAssigned c kind s (Reference q) =
+      (is_reference kind ≡ true) × (q < ref_count c.scope) × (y.pointer c q ≡ s) × (y.named c q ≡ false)
 
   abbrev pub CellAssigned : Context → Expression → StaticType → Target → Bool → Type 0
-  CellAssigned c u s t true = ReferenceTyped z y c f t (guard_of c u) (ground_of z f y c u) (span_of u).first (lvalue_in c u) (mode_of c u) true uses.Write s
-  CellAssigned c u s t false = IntegerTyped z y c f t (guard_of c u) (ground_of z f y c u) (span_of u).first (lvalue_in c u) (mode_of c u) true uses.Write (width_of (kind_of c u))
+  CellAssigned c u s t true = ReferenceTyped z y c f t (guard_of c u) (ground_of z f y c u) (span_of u).first
+      (lvalue_in c u) (mode_of c u) true uses.Write s
+  CellAssigned c u s t false = IntegerTyped z y c f t (guard_of c u) (ground_of z f y c u) (span_of u).first
+      (lvalue_in c u) (mode_of c u) true uses.Write (width_of (kind_of c u))
 
   abbrev pub Assigned : Context → Expression → StaticType → Target → Type 0
   Assigned c u s (variable x) = VariableAssigned c (kind_of c u) s (register_of c.scope x)
@@ -53,5 +59,6 @@ module _ (z : Setting) (f : ℕ) (y : Typing) where
   Dropped c e false = Unit {0}
 
   abbrev pub SimpleTypable : Context → Simple → Type 0
-  SimpleTypable c (assign span u x) = IsPlaceTypable z f y c None (guard_of c u) u × ((s : StaticType) × IsTypeIn z f y c s × Assigned c u s (target_of c u) × RightTypable c (kind_of c u) s x)
+  SimpleTypable c (assign span u x) = IsPlaceTypable z f y c None (guard_of c u) u
+      × ((s : StaticType) × IsTypeIn z f y c s × Assigned c u s (target_of c u) × RightTypable c (kind_of c u) s x)
   SimpleTypable c (does_call e) = IsTypable z f y c e × Dropped c e (is_ref c e)

@@ -1,6 +1,8 @@
 -- What the types of a source have to say of its statements, so that their code is typed: one clause for each form.
 use Rattle.std.specs.Prelude.{ℕ, ◌≡◌, Bool, true, false, Option, Some, None}
-use Rattle.sharc_tree.specs.Tree.{Expression, Simple, Local, First, nothing, declares, does, Statement, empty, block, declare, simple, jump, return, if_then, if_then_else, while, for, Statements, no_statements, statement}
+use Rattle.sharc_tree.specs.Tree.{Expression, Simple, Local, First, nothing, declares, does, Statement, empty, block}
+use Rattle.sharc_tree.specs.Tree.{declare, simple, jump, return, if_then, if_then_else, while, for, Statements}
+use Rattle.sharc_tree.specs.Tree.{no_statements, statement}
 use Rattle.sharc_names.specs.Kinds.{Kind}
 use Rattle.sharc_flat.specs.{Scope.Context, Flattened.{behind_first, behind_statement}, Suits.is_declaration}
 use Rattle.sharc_invariant.specs.Types.{StaticType}
@@ -26,7 +28,8 @@ module _ (z : Setting) (f : ℕ) (y : Typing) where
   FirstTypable c (does x) = SimpleTypable z f y c x
 
   -- ---- statements
-  -- in a function with a result of this type, and in a loop or not; what is chosen and what is done again declares no variable
+  -- in a function with a result of this type, and in a loop or not; what is chosen and what is done again declares no
+  -- variable
   abbrev mutual
     pub StatementTypable : Context → Kind → Bool → Statement → Type 0
     StatementTypable c kind looped (empty s) = Unit {0}
@@ -35,11 +38,17 @@ module _ (z : Setting) (f : ℕ) (y : Typing) where
     StatementTypable c kind looped (simple s x) = SimpleTypable z f y c x
     StatementTypable c kind looped (jump s j) = looped ≡ true
     StatementTypable c kind looped (return s e) = ReturnTypable z f y c kind e
-    StatementTypable c kind looped (if_then s e a) = TestTypable c (Some e) × StatementTypable c kind looped a × (is_declaration a ≡ false)
-    StatementTypable c kind looped (if_then_else s e a b) = TestTypable c (Some e) × StatementTypable c kind looped a × (is_declaration a ≡ false) × StatementTypable c kind looped b × (is_declaration b ≡ false)
-    StatementTypable c kind looped (while s e a) = TestTypable c (Some e) × StatementTypable c kind true a × (is_declaration a ≡ false)
-    StatementTypable c kind looped (for s h a) = FirstTypable c h.first × TestTypable (behind_first c h.first) h.test × StepTypable (behind_first c h.first) h.step × StatementTypable (behind_first c h.first) kind true a × (is_declaration a ≡ false)
+    StatementTypable c kind looped (if_then s e a) =
+        TestTypable c (Some e) × StatementTypable c kind looped a × (is_declaration a ≡ false)
+    StatementTypable c kind looped (if_then_else s e a b) = TestTypable c (Some e) × StatementTypable c kind looped a
+        × (is_declaration a ≡ false) × StatementTypable c kind looped b × (is_declaration b ≡ false)
+    StatementTypable c kind looped (while s e a) =
+        TestTypable c (Some e) × StatementTypable c kind true a × (is_declaration a ≡ false)
+    StatementTypable c kind looped (for s h a) = FirstTypable c h.first × TestTypable (behind_first c h.first) h.test
+        × StepTypable (behind_first c h.first) h.step × StatementTypable (behind_first c h.first) kind true a
+        × (is_declaration a ≡ false)
 
     pub StatementsTypable : Context → Kind → Bool → Statements → Type 0
     StatementsTypable c kind looped no_statements = Unit {0}
-    StatementsTypable c kind looped (statement a rest) = StatementTypable c kind looped a × StatementsTypable (behind_statement c a) kind looped rest
+    StatementsTypable c kind looped (statement a rest) =
+        StatementTypable c kind looped a × StatementsTypable (behind_statement c a) kind looped rest

@@ -8,7 +8,8 @@ use Rattle.sharc_invariant.specs.{Types.Targets, Labels.{Label, Labels}, Typed.F
 abbrev pub all_at : Labels → Label → Labels
 all_at ls k = record ls { at = λ pc. k }
 
--- A statement that leads to the next place alone is typed, where the first label is known before it and the second one at the next place.
+-- A statement that leads to the next place alone is typed, where the first label is known before it and the second one
+-- at the next place.
 abbrev pub Steps : Targets → Code → Labels → Label → Label → Instr → Type 0
 Steps x code ls l k (Jump to) = ⊥
 Steps x code ls l k (JumpIfZero r to) = ⊥

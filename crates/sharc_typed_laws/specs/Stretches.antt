@@ -11,15 +11,16 @@ use Rattle.sharc_typed_laws.specs.{Inside.FlatLabels, Lines.TypedLine}
 use Rattle.sharc_typed_laws.specs.Passes.{with_passes, with_all, remembered, RepeatsCheck, IsNumberOf}
 
 -- ---- what is said before a line
--- What is known there, and what the cell refers to in which the line stores a reference. Numbers that are remembered are told of the integer registers from the
--- first one up to the second.
+-- What is known there, and what the cell refers to in which the line stores a reference. Numbers that are remembered
+-- are told of the integer registers from the first one up to the second.
 pub record Mark : Type 0 where
   pub label : Label
   pub replaced : StaticType
   pub from : ℕ
   pub until : ℕ
 
--- the code around: its tables, the signatures of its functions, with which of them a thread may begin, and how many lines it has
+-- the code around: its tables, the signatures of its functions, with which of them a thread may begin, and how many
+-- lines it has
 pub record Setting : Type 0 where
   pub targets : Targets
   pub code : Code
@@ -46,9 +47,12 @@ pub record Fits (x : Targets) (s t : Mark) : Type 0 where
 -- ---- a line
 -- it is typed whatever checks are remembered
 abbrev pub IsTypedAt : Setting → (ℕ → Mark) → ℕ → Mark → Op → Type 0
-IsTypedAt z table pc s o = (dropped : Bool) (passes : ℕ → List Pass) → (dropped ≡ true → RepeatsCheck z.targets s.label (passes pc) o) → ((t : ℕ) → leads_to pc o t ≡ true → passes t ≡ [])
+IsTypedAt z table pc s o = (dropped : Bool) (passes : ℕ → List Pass)
+    → (dropped ≡ true → RepeatsCheck z.targets s.label (passes pc) o)
+    → ((t : ℕ) → leads_to pc o t ≡ true → passes t ≡ [])
     → ((p : Pass) → IsIn p (passes (pc + 1)) → IsIn p (remembered z.targets dropped s.label o (passes pc)))
-    → TypedLine z.targets z.code (with_all (labels_by z table) passes) z.lines dropped s.replaced pc (with_passes s.label (passes pc)) (with_passes (table (pc + 1)).label (passes (pc + 1))) o
+    → TypedLine z.targets z.code (with_all (labels_by z table) passes) z.lines dropped s.replaced pc
+    (with_passes s.label (passes pc)) (with_passes (table (pc + 1)).label (passes (pc + 1))) o
 
 -- the number of the cell that is accessed is at hand, where it is found by an index
 abbrev pub IsAtHand : Mark → Cell → Type 0
@@ -78,12 +82,15 @@ abbrev pub first : List Mark → Mark → Mark
 first [] e = e
 first (s ∷ rest) e = s
 
--- A stretch of function f that begins at this line: what is said before each of its lines, in code of whose labels this is known, and with no more said after it.
-pub record Stretch (z : Setting) (f : ℕ) (known : (ℕ → Mark) → Type 0) (s : Mark) (pc : ℕ) (os : List Op) (e : Mark) : Type 0 where
+-- A stretch of function f that begins at this line: what is said before each of its lines, in code of whose labels this
+-- is known, and with no more said after it.
+pub record Stretch (z : Setting) (f : ℕ) (known : (ℕ → Mark) → Type 0) (s : Mark) (pc : ℕ) (os : List Op)
+    (e : Mark) : Type 0 where
   pub marks : List Mark
   pub many : length marks ≡ length os
   pub begins : Fits z.targets s (first marks e)
-  pub runs : (table : ℕ → Mark) → known table → pc + length os ≤ z.lines → Agrees table pc marks → Fits z.targets e (table (pc + length os)) → AreLines z f table pc os
+  pub runs : (table : ℕ → Mark) → known table → pc + length os ≤ z.lines → Agrees table pc marks
+      → Fits z.targets e (table (pc + length os)) → AreLines z f table pc os
 
 -- what the operations write is in the frame
 abbrev pub AreWithin : ℕ → ℕ → List Op → Type 0
@@ -97,7 +104,8 @@ pub record Leads (z : Setting) (f : ℕ) (known : (ℕ → Mark) → Type 0) (s 
 
 -- in a frame that is large enough
 abbrev pub LeadsWithin : Setting → ℕ → ((ℕ → Mark) → Type 0) → Mark → List Op → Mark → Type 0
-LeadsWithin z f known s os e = AreWithin (ints_in z.code (Some f)) (refs_in z.code (Some f)) os → IsScoped (ints_in z.code (Some f)) (refs_in z.code (Some f)) s.label → Leads z f known s os e
+LeadsWithin z f known s os e = AreWithin (ints_in z.code (Some f)) (refs_in z.code (Some f)) os
+    → IsScoped (ints_in z.code (Some f)) (refs_in z.code (Some f)) s.label → Leads z f known s os e
 
 -- ---- what is known of the code around
 -- a line to which the code may lead, where no more than this is said
@@ -119,4 +127,5 @@ pub record LeadsAt (z : Setting) (f : ℕ) (ways : List Way) (pc : ℕ) (s : Mar
   pub scoped : IsScoped (ints_in z.code (Some f)) (refs_in z.code (Some f)) e.label
 
 abbrev pub LeadsFrom : Setting → ℕ → List Way → ℕ → Mark → List Op → Mark → Type 0
-LeadsFrom z f ways pc s os e = AreWithin (ints_in z.code (Some f)) (refs_in z.code (Some f)) os → IsScoped (ints_in z.code (Some f)) (refs_in z.code (Some f)) s.label → LeadsAt z f ways pc s os e
+LeadsFrom z f ways pc s os e = AreWithin (ints_in z.code (Some f)) (refs_in z.code (Some f)) os
+    → IsScoped (ints_in z.code (Some f)) (refs_in z.code (Some f)) s.label → LeadsAt z f ways pc s os e

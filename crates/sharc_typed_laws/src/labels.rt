@@ -7,7 +7,8 @@ ghost use Rattle.sharc_typed_laws.specs.Declared.{LocalsAreTyped};
 ghost use Rattle.sharc_typed_laws.specs.Ended.{EndsAreTyped};
 ghost use Rattle.sharc_typed_laws.specs.Left.{JumpsAreTyped, LeavesAreTyped};
 ghost use Rattle.sharc_typed_laws.specs.Returned.{NothingReturns, ValuesReturn};
-ghost use Rattle.sharc_typed_laws.specs.LabelsLaws.{ExpressionsAreTyped, LinesAreTyped, LinesKnow, LinesTell, PartsAreTyped, SimplesAreTyped, StretchesJoin, TestsAreTyped};
+ghost use Rattle.sharc_typed_laws.specs.LabelsLaws.{ExpressionsAreTyped, LinesAreTyped, LinesKnow, LinesTell};
+ghost use Rattle.sharc_typed_laws.specs.LabelsLaws.{PartsAreTyped, SimplesAreTyped, StretchesJoin, TestsAreTyped};
 
 /// Lines that stand in a table of marks are typed whatever checks are remembered.
 pub fn lines_law()

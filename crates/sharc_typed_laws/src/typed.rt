@@ -1,9 +1,11 @@
 //! Laws of code that is made of typed flat code.
 
-ghost use Rattle.sharc_typed_laws.specs.TypedLaws.{PiecesAreTyped, PiecesAreScoped, TypedFlatIsTyped, AnyhowIsTyped, CodeIsTyped};
+ghost use Rattle.sharc_typed_laws.specs.TypedLaws.{PiecesAreTyped, PiecesAreScoped, TypedFlatIsTyped, AnyhowIsTyped};
+ghost use Rattle.sharc_typed_laws.specs.TypedLaws.{CodeIsTyped};
 ghost use Rattle.sharc_typed_laws.specs.Sample.{SampleIsTyped};
 
-/// The statements that an operation becomes are typed one after the other, from what is known before its line to what may be known after it.
+/// The statements that an operation becomes are typed one after the other, from what is known before its line to what
+/// may be known after it.
 pub fn pieces_law()
     ensures { PiecesAreTyped }
 {}
@@ -18,7 +20,8 @@ pub fn typed_law()
     ensures { TypedFlatIsTyped }
 {}
 
-/// Flat code that is typed whatever checks are remembered is typed with those that are, and without the checks that repeat one.
+/// Flat code that is typed whatever checks are remembered is typed with those that are, and without the checks that
+/// repeat one.
 pub fn anyhow_law()
     ensures { AnyhowIsTyped }
 {}

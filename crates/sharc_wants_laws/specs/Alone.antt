@@ -23,7 +23,10 @@ objects_there x code s ls run = objects_after code s ls (first_place code s) (fi
 
 -- at the place of each such turn of a checked run of typed code, the register has the only reference
 abbrev pub PassedAreAlone : Type 0
-PassedAreAlone = (x : Targets) (code : Code) (s : Shape) (ls : Labels) → IsWellTyped x code ls → Fits code s → IsSmall code s
-    → (test : Turn) (earlier : List Turn) → CheckedRun code s (test ∷ earlier) → (register : ℕ) → Passes code s test earlier register
+PassedAreAlone = (x : Targets) (code : Code) (s : Shape) (ls : Labels) → IsWellTyped x code ls → Fits code s
+    → IsSmall code s
+    → (test : Turn) (earlier : List Turn) → CheckedRun code s (test ∷ earlier)
+    → (register : ℕ) → Passes code s test earlier register
     → let g = place_after code s earlier in
-    IsAlone x code s g (objects_there x code s ls earlier) test.thread ((g.threads test.thread).at.refs + register) (tested_object code s test earlier register)
+    IsAlone x code s g (objects_there x code s ls earlier) test.thread ((g.threads test.thread).at.refs + register)
+    (tested_object code s test earlier register)

@@ -10,5 +10,7 @@ use Rattle.sharc_history_laws.specs.History.{history_of}
 
 -- of typed code
 abbrev pub ThreadsHaveBegun : Assignment → Code → Type 0
-ThreadsHaveBegun m code = (x : Targets) (s : Shape) (ls : Labels) → IsWellTyped x code ls → Fits code s → IsSmall code s → (run : List Turn) → CheckedRun code s run
-    → (thread : ℕ) → let R = history_of code s run in (events_of thread R ≡ []) ⊎ ((b : Begun m R thread) × MayStart m b.own.function)
+ThreadsHaveBegun m code = (x : Targets) (s : Shape) (ls : Labels) → IsWellTyped x code ls → Fits code s → IsSmall code s
+    → (run : List Turn) → CheckedRun code s run
+    → (thread : ℕ) → let R = history_of code s run in (events_of thread R ≡ [])
+    ⊎ ((b : Begun m R thread) × MayStart m b.own.function)

@@ -14,7 +14,8 @@ use Rattle.sharc_invariant.specs.Words.{register_of}
 -- the instruction that raises it: the one at the thread's place, or the next one where the block of a freed object is
 -- linked
 abbrev pub IsPlaceOf : Code → Machine → ℕ → Type 0
-IsPlaceOf code at place = (place ≡ at.at.pc) ⊎ ((place ≡ at.at.pc + 1) × ((register : ℕ) × (layout : ℕ) × (site : ℕ) × (instr_at code at.at.pc ≡ Free register layout site)))
+IsPlaceOf code at place = (place ≡ at.at.pc) ⊎ ((place ≡ at.at.pc + 1)
+    × ((register : ℕ) × (layout : ℕ) × (site : ℕ) × (instr_at code at.at.pc ≡ Free register layout site)))
 
 -- the thread goes on, and has loaded a reference to the object of number n that the instruction raises
 pub record IsLoadedHere (code : Code) (at : Machine) (n : ℕ) : Type 0 where
@@ -30,15 +31,20 @@ IsRegistered code at n = ((k : ℕ) × (register_of code at k ≡ n)) ⊎ IsLoad
 
 -- So it is with every fuel from some fuel on. Where the thread looks whether a reference is the only one to its object,
 -- each is in the register of its own place.
-pub record HoldsRegistered (code : Code) (at : Machine) {m : Assignment} {R : List SourceEvent} {thread : ℕ} (b : Begun m R thread) : Type 0 where
+pub record HoldsRegistered (code : Code) (at : Machine) {m : Assignment} {R : List SourceEvent} {thread : ℕ}
+    (b : Begun m R thread) : Type 0 where
   pub fuel : ℕ
-  pub held : (later : ℕ) → fuel ≤ later → (k n : ℕ) → refers n (get_or (asked_with b later).held k (pos 0)) ≡ true → IsRegistered code at n
+  pub held : (later : ℕ) → fuel ≤ later
+      → (k n : ℕ) → refers n (get_or (asked_with b later).held k (pos 0)) ≡ true → IsRegistered code at n
   pub tested : (register site : ℕ) → instr_at code at.at.pc ≡ TestSole register site
-      → (later : ℕ) → fuel ≤ later → (k n : ℕ) → refers n (get_or (asked_with b later).held k (pos 0)) ≡ true → slice_index at.refs k ≡ n
+      → (later : ℕ) → fuel ≤ later
+      → (k n : ℕ) → refers n (get_or (asked_with b later).held k (pos 0)) ≡ true → slice_index at.refs k ≡ n
 
 -- so it is of each thread with a function that may be started, of a checked run by threads in any order, where the
 -- results of the paths of all are consistent
 abbrev pub HeldAreRegistered : Assignment → Code → Type 0
 HeldAreRegistered m code = (s : Shape) (run : List Turn) → CheckedRun code s run
-    → ((thread : ℕ) → IsConsistent code s (begun code s thread) (elements_before code s thread run) (founds_of (turns_of thread run)))
-    → (thread : ℕ) → let R = reverse (told_in (Erase code s run)) in (b : Begun m R thread) → MayStart m b.own.function → HoldsRegistered code ((place_after code s run).threads thread) b
+    → ((thread : ℕ)
+    → IsConsistent code s (begun code s thread) (elements_before code s thread run) (founds_of (turns_of thread run)))
+    → (thread : ℕ) → let R = reverse (told_in (Erase code s run)) in (b : Begun m R thread) → MayStart m b.own.function
+    → HoldsRegistered code ((place_after code s run).threads thread) b

@@ -13,5 +13,7 @@ pub record HasNothing (code : Code) (at : Machine) : Type 0 where
 
 abbrev pub SilentHaveNothing : Assignment → Code → Type 0
 SilentHaveNothing m code = (s : Shape) (run : List Turn) → CheckedRun code s run
-    → ((thread : ℕ) → IsConsistent code s (begun code s thread) (elements_before code s thread run) (founds_of (turns_of thread run)))
-    → (thread : ℕ) → events_of thread (reverse (told_in (Erase code s run))) ≡ [] → HasNothing code ((place_after code s run).threads thread)
+    → ((thread : ℕ)
+    → IsConsistent code s (begun code s thread) (elements_before code s thread run) (founds_of (turns_of thread run)))
+    → (thread : ℕ) → events_of thread (reverse (told_in (Erase code s run))) ≡ []
+    → HasNothing code ((place_after code s run).threads thread)

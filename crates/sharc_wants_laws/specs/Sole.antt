@@ -1,4 +1,5 @@
--- Where a thread looks whether a reference is the only one to its object: another one that a register has is among the references of the history.
+-- Where a thread looks whether a reference is the only one to its object: another one that a register has is among the
+-- references of the history.
 use Rattle.std.specs.Prelude.{ℕ, ◌≡◌, ◌⊎◌, ◌+◌, ◌<◌, List, [], reverse}
 use Rattle.sharc_tree.specs.declared.event.SourceEvent.{SourceEvent}
 use Rattle.sharc_mode.specs.Moded.{Assignment}
@@ -28,12 +29,17 @@ HaveBegun m R = (thread : ℕ) → (events_of thread R ≡ []) ⊎ ((b : Begun m
 
 -- no other thread than t has a reference to the object in flight
 abbrev pub NoneIsInFlight : (m : Assignment) → Code → Shape → List Turn → List SourceEvent → ℕ → ℕ → Type 0
-NoneIsInFlight m code s run R t n = (u : ℕ) → (u ≡ t → ⊥) → (b : Begun m R u) → IsInFlight code ((place_after code s run).threads u) (lowered_of code s run u) b n → ⊥
+NoneIsInFlight m code s run R t n = (u : ℕ) → (u ≡ t → ⊥)
+    → (b : Begun m R u) → IsInFlight code ((place_after code s run).threads u) (lowered_of code s run u) b n → ⊥
 
 -- so it is of each other register with the reference that thread t tests, where no other thread has one in flight
 abbrev pub RegistersAreSeen : Assignment → Code → Type 0
 RegistersAreSeen m code = (s : Shape) (run : List Turn) → CheckedRun code s run
-    → ((thread : ℕ) → IsConsistent code s (begun code s thread) (elements_before code s thread run) (founds_of (turns_of thread run)))
-    → let R = reverse (told_in (Erase code s run)) in let g = place_after code s run in HaveBegun m R → AreQuiet code R g
-    → (t register site : ℕ) → instr_at code (g.threads t).at.pc ≡ TestSole register site → (n : ℕ) → ref (g.threads t) register ≡ n → 0 < n → NoneIsInFlight m code s run R t n
-    → (u i : ℕ) → ((u ≡ t) × (i ≡ (g.threads t).at.refs + register) → ⊥) → register_refers code g u i ≡ n → IsSeen m R t n
+    → ((thread : ℕ)
+    → IsConsistent code s (begun code s thread) (elements_before code s thread run) (founds_of (turns_of thread run)))
+    → let R = reverse (told_in (Erase code s run)) in let g = place_after code s run in HaveBegun m R
+    → AreQuiet code R g
+    → (t register site : ℕ) → instr_at code (g.threads t).at.pc ≡ TestSole register site
+    → (n : ℕ) → ref (g.threads t) register ≡ n → 0 < n → NoneIsInFlight m code s run R t n
+    → (u i : ℕ) → ((u ≡ t) × (i ≡ (g.threads t).at.refs + register) → ⊥) → register_refers code g u i ≡ n
+    → IsSeen m R t n

@@ -1,4 +1,5 @@
--- What the source wants of a thread of its code, by the place of that: what it waits for, the access that it makes or checks, and what it was refused.
+-- What the source wants of a thread of its code, by the place of that: what it waits for, the access that it makes or
+-- checks, and what it was refused.
 use Rattle.std.specs.Prelude.{ℕ, ℤ, pos, ◌≡◌, ◌⊎◌, Bool, true, false, List, [], ◌∷◌, map, reverse, Some}
 use Rattle.sharc_tree.specs.{declared.event.Act.Act, declared.event.CellAt.CellAt}
 use Rattle.sharc_tree.specs.declared.event.SourceEvent.{SourceEvent}
@@ -10,7 +11,8 @@ use Rattle.sharc_mode.specs.Moded.{Assignment}
 use Rattle.sharc_meaning.specs.{Events.{Access, access_by, events_of}, Meaning.asks, Obeys.History}
 use Rattle.sharc_meaning.specs.{Runs.{IsNamedAt, answers_of, by}, State.{Outcome, wants, ended, stopped, event_of}}
 use Rattle.sharc_code.specs.{declared.code.Code.Code, declared.instr.Cell.Cell, declared.instr.Instr.Instr}
-use Rattle.sharc_code.specs.declared.instr.Instr.TheVariants.{Lock, Join, CondWait, Load, Store, LoadRef, Exchange, TakeCell, ChkRead, ChkWrite, ChkLock, ChkLockLoaded}
+use Rattle.sharc_code.specs.declared.instr.Instr.TheVariants.{Lock, Join, CondWait, Load, Store, LoadRef, Exchange}
+use Rattle.sharc_code.specs.declared.instr.Instr.TheVariants.{TakeCell, ChkRead, ChkWrite, ChkLock, ChkLockLoaded}
 use Rattle.sharc_code.specs.{declared.shape.Shape.Shape, declared.state.State.TheVariants.Ended}
 use Rattle.sharc_code.specs.{Machine.{Machine, int, instr_at}, Paced.paced_in, Path.{begun, machine_after, CodePath}}
 use Rattle.sharc_code.specs.{Runs.{Turn, turns_of}, Says.{cell_at, made_cell, mode_of, place_at}}
@@ -37,18 +39,23 @@ WantsUnder code o site mutex = (act : Act) × WantsAct code o site act × IsUnde
 
 -- or it is stopped there by X1, since the path of the mutex leads through NULL
 abbrev pub StopsOrWantsUnder : Code → Outcome → (site : ℕ) → CellAt → Type 0
-StopsOrWantsUnder code o site mutex = (o ≡ stopped traps.NullPointer (place_at code site).site) ⊎ WantsUnder code o site mutex
+StopsOrWantsUnder code o site mutex = (o ≡ stopped traps.NullPointer (place_at code site).site)
+    ⊎ WantsUnder code o site mutex
 
 -- the access of a cell that is made at a site, in the mode of the site
 abbrev pub access_at : Code → Machine → Cell → (site : ℕ) → (write : Bool) → Access
-access_at code at c site write = record { cell = cell_at code at c; mode = mode_of code at (cell_at code at c) (place_at code site).mode; is_write = write }
+access_at code at c site write = record {
+  cell = cell_at code at c;
+  mode = mode_of code at (cell_at code at c) (place_at code site).mode;
+  is_write = write;
+}
 
 -- the access of which a check of a dynamic cell is
 abbrev pub access_tested : Code → Machine → Cell → (write : Bool) → Access
 access_tested code at c write = record { cell = cell_at code at c; mode = modes.Dynamic; is_write = write }
 
--- What a thread that is at this instruction wants: the Lock, the Join or the Woken for which it waits, the access that it makes, or the one that it checks, of
--- this cell or under this mutex.
+-- What a thread that is at this instruction wants: the Lock, the Join or the Woken for which it waits, the access that
+-- it makes, or the one that it checks, of this cell or under this mutex.
 abbrev pub WantsBy : Code → Machine → Outcome → Instr → Type 0
 WantsBy code at o (Lock c site) = WantsAct code o site (acts.Lock (cell_at code at c))
 WantsBy code at o (Join r site) = WantsAct code o site (acts.Join (int at r))
@@ -65,16 +72,19 @@ WantsBy code at o (ChkLockLoaded site) = StopsOrWantsUnder code o site (made_cel
 WantsBy code at o _ = Unit {0}
 
 -- ---- by the place of a thread
--- With some fuel a thread of the program asks for exactly these events, by their answers. Then it wants what the instruction at the place of the code is about,
--- also where the code was stopped there by a check; and it has ended where the code has.
-pub record IsWhere (m : Assignment) (code : Code) (thread f : ℕ) (argument : ℤ) (told : List SourceEvent) (at : Machine) : Type 0 where
+-- With some fuel a thread of the program asks for exactly these events, by their answers. Then it wants what the
+-- instruction at the place of the code is about, also where the code was stopped there by a check; and it has ended
+-- where the code has.
+pub record IsWhere (m : Assignment) (code : Code) (thread f : ℕ) (argument : ℤ) (told : List SourceEvent)
+    (at : Machine) : Type 0 where
   pub fuel : ℕ
   pub events : map (by thread) (asks m f argument (answers_of told) fuel).events ≡ told
   pub next : WantsBy code at (asks m f argument (answers_of told) fuel).outcome (instr_at code at.at.pc)
   pub refused : WantsRefused code at (asks m f argument (answers_of told) fuel)
   pub gone : at.at.state ≡ Ended → (asks m f argument (answers_of told) fuel).outcome ≡ ended
 
--- the thread begins with the Started of a function, at the name of that, and then is where the function is, if that may be started
+-- the thread begins with the Started of a function, at the name of that, and then is where the function is, if that may
+-- be started
 pub record IsThere (m : Assignment) (code : Code) (thread : ℕ) (at : Machine) (said : List SourceEvent) : Type 0 where
   pub function : ℕ
   pub argument : ℤ
@@ -89,7 +99,8 @@ pub record IsThere (m : Assignment) (code : Code) (thread : ℕ) (at : Machine) 
 
 -- so it is of each path whose results are consistent, once it has begun
 abbrev pub PathsWant : Assignment → Code → Type 0
-PathsWant m code = (s : Shape) (thread : ℕ) (elements : ℕ → Elements) (founds : List ℕ) → CodePath code s thread founds → IsConsistent code s (begun code s thread) elements founds
+PathsWant m code = (s : Shape) (thread : ℕ) (elements : ℕ → Elements) (founds : List ℕ) → CodePath code s thread founds
+    → IsConsistent code s (begun code s thread) elements founds
     → let at = machine_after code s (begun code s thread) founds in
     let said = said_in code s (begun code s thread) elements founds in
     let paced = paced_in code s (begun code s thread) founds in
@@ -99,7 +110,8 @@ PathsWant m code = (s : Shape) (thread : ℕ) (elements : ℕ → Elements) (fou
 -- the thread is where the source is that has asked for its events of this history
 pub record IsThereIn (m : Assignment) (code : Code) (R : History) (thread : ℕ) (at : Machine) : Type 0 where
   pub tells : TellsIn m R thread
-  pub stands : MayStart m tells.function → IsWhere m code thread tells.function tells.argument (events_of thread tells.after) at
+  pub stands : MayStart m tells.function
+      → IsWhere m code thread tells.function tells.argument (events_of thread tells.after) at
 
 -- it has no event and is at the code's first instruction
 pub record IsNotThere (R : History) (thread : ℕ) (at : Machine) : Type 0 where
@@ -109,5 +121,8 @@ pub record IsNotThere (R : History) (thread : ℕ) (at : Machine) : Type 0 where
 -- of each thread of a checked run, by threads in any order, where the results of the paths of all are consistent
 abbrev pub ThreadsWant : Assignment → Code → Type 0
 ThreadsWant m code = (s : Shape) (run : List Turn) → CheckedRun code s run
-    → ((thread : ℕ) → IsConsistent code s (begun code s thread) (elements_before code s thread run) (founds_of (turns_of thread run)))
-    → (thread : ℕ) → let R = reverse (told_in (Erase code s run)) in let at = (place_after code s run).threads thread in IsNotThere R thread at ⊎ IsThereIn m code R thread at
+    → ((thread : ℕ)
+    → IsConsistent code s (begun code s thread) (elements_before code s thread run) (founds_of (turns_of thread run)))
+    → (thread : ℕ) → let R =
+    reverse (told_in (Erase code s run)) in let at = (place_after code s run).threads thread in IsNotThere R thread at
+    ⊎ IsThereIn m code R thread at

@@ -41,8 +41,8 @@ use sharc_invariant::laws::{runs_report, runs_stand, runs_stay};
 use sharc_meaning::laws::ask_laws;
 use sharc_meaning_laws::laws::{held_are_held_on, last_takers, taken_are_being_taken};
 
-/// What the registers of a thread of the code of a typed, well-moded program refer to, on each path whose results are consistent, the program holds or has given up that was
-/// asked by the answers of the thread's own events.
+/// What the registers of a thread of the code of a typed, well-moded program refer to, on each path whose results are
+/// consistent, the program holds or has given up that was asked by the answers of the thread's own events.
 pub fn path_holds()
     ensures { OfTyped PathsHold }
 {
@@ -57,7 +57,8 @@ pub fn path_holds()
     paths_are_runs();
 }
 
-/// So it is of each thread of a checked run of that code, by threads in any order, where the results of the paths of all are consistent.
+/// So it is of each thread of a checked run of that code, by threads in any order, where the results of the paths of
+/// all are consistent.
 pub fn thread_holds()
     ensures { OfTyped ThreadsHold }
 {
@@ -65,7 +66,8 @@ pub fn thread_holds()
     run_paths_law();
 }
 
-/// So what the registers of a thread refer to is among the references of its history, where no reference to it is in flight.
+/// So what the registers of a thread refer to is among the references of its history, where no reference to it is in
+/// flight.
 pub fn threads_see()
     ensures { OfTyped ThreadsSee }
 {
@@ -95,7 +97,8 @@ pub fn held_registered()
     paths_are_runs();
 }
 
-/// And where a thread looks whether a reference is the only one, and two of its registers refer to the object, it holds two references to it.
+/// And where a thread looks whether a reference is the only one, and two of its registers refer to the object, it holds
+/// two references to it.
 pub fn casters_hold()
     ensures { OfTyped CastersHold }
 {
@@ -129,8 +132,9 @@ pub fn frees_empty()
     each_names_itself();
 }
 
-/// What a cell refers to at a place of a checked run of code that is typed by the program's targets: a cell of a global is among the references of the history, and so is one of an
-/// object that is made, if no `free` has taken that or the cell refers to it; but while a Free empties the object.
+/// What a cell refers to at a place of a checked run of code that is typed by the program's targets: a cell of a global
+/// is among the references of the history, and so is one of an object that is made, if no `free` has taken that or the
+/// cell refers to it; but while a Free empties the object.
 pub fn cells_see()
     ensures { CellsSee }
 {
@@ -139,8 +143,9 @@ pub fn cells_see()
     global_pointers_are();
 }
 
-/// Where a thread looks whether a reference is the only one to its object, another register with one is another thread's that the history shows, or shows that the
-/// thread holds two: if each thread has begun or has nothing, and no other thread has one in flight.
+/// Where a thread looks whether a reference is the only one to its object, another register with one is another
+/// thread's that the history shows, or shows that the thread holds two: if each thread has begun or has nothing, and no
+/// other thread has one in flight.
 pub fn registers_seen()
     ensures { OfTyped RegistersAreSeen }
 {
@@ -171,7 +176,8 @@ pub fn silent_have_nothing()
     framed_law();
 }
 
-/// Where the argument of a thread that has not read it refers to an object, the argument is among the references of the history.
+/// Where the argument of a thread that has not read it refers to an object, the argument is among the references of the
+/// history.
 pub fn arguments_see()
     ensures { ArgumentsSee }
 {
@@ -185,8 +191,8 @@ pub fn logs_see()
     seen_law();
 }
 
-/// What the report of a refused cast shows: the number was found where the thread tested a reference, and at that place the references of the history have another one, if
-/// no other thread has one in flight.
+/// What the report of a refused cast shows: the number was found where the thread tested a reference, and at that place
+/// the references of the history have another one, if no other thread has one in flight.
 pub fn reports_show_cause()
     ensures { OfTyped CastReportsShowCause }
 {

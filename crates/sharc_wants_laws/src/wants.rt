@@ -10,9 +10,10 @@ use sharc_gen::{paths_law, run_paths_law};
 use sharc_guard::{counted_law, framed_law, log_law};
 use sharc_guard_laws::laws::{made_locks_stand, typed_is_level};
 
-/// Each path of a thread of the code of a typed, well-moded program, whose results are consistent, has not begun, or is where the program is
-/// that was asked by the answers of its events: that wants next the Lock, the Join or the Woken for which the thread waits, the access that
-/// it makes or that it checks, and what A1 to A4 refused; and it has ended where the thread has.
+/// Each path of a thread of the code of a typed, well-moded program, whose results are consistent, has not begun, or is
+/// where the program is that was asked by the answers of its events: that wants next the Lock, the Join or the Woken
+/// for which the thread waits, the access that it makes or that it checks, and what A1 to A4 refused; and it has ended
+/// where the thread has.
 pub fn path_wants()
     ensures { OfTyped PathsWant }
 {
@@ -28,7 +29,8 @@ pub fn path_wants()
     paths_are_runs();
 }
 
-/// So it is of each thread of a checked run of that code, by threads in any order, where the results of the paths of all are consistent.
+/// So it is of each thread of a checked run of that code, by threads in any order, where the results of the paths of
+/// all are consistent.
 pub fn thread_wants()
     ensures { OfTyped ThreadsWant }
 {

@@ -9,7 +9,8 @@ pub record MayFollow (words : List ℕ) (event : WordEvent) : Type 0 where
 
 -- each event can come next where the words are those that the earlier events leave of the opening words
 pub record LegalHistory (opening : List ℕ) (events : List WordEvent) : Type 0 where
-  pub each : (earlier later : List WordEvent) (event : WordEvent) → events ≡ earlier ++ event ∷ later → MayFollow (words_after opening earlier) event
+  pub each : (earlier later : List WordEvent) (event : WordEvent) → events ≡ earlier ++ event ∷ later
+      → MayFollow (words_after opening earlier) event
 
 -- the events of one thread, in their order
 abbrev pub events_of : ℕ → List WordEvent → List WordEvent

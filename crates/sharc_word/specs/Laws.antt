@@ -6,12 +6,15 @@ use Rattle.sharc_word.specs.{History.{LegalHistory, MayFollow}, Place.{Place, Le
 -- a legal history goes on with an event exactly where that event can come next
 abbrev pub HistoryGoesOn : Type 0
 HistoryGoesOn = (opening : List ℕ) (events : List WordEvent) (event : WordEvent)
-    → LegalHistory opening (events ++ event ∷ []) ↔ (LegalHistory opening events × MayFollow (words_after opening events) event)
+    → LegalHistory opening (events ++ event ∷ [])
+    ↔ (LegalHistory opening events × MayFollow (words_after opening events) event)
 
--- a history in two parts is legal exactly where the first part is, and the second is from the words that the first leaves
+-- a history in two parts is legal exactly where the first part is, and the second is from the words that the first
+-- leaves
 abbrev pub HistoriesJoin : Type 0
 HistoriesJoin = (opening : List ℕ) (earlier later : List WordEvent)
-    → LegalHistory opening (earlier ++ later) ↔ (LegalHistory opening earlier × LegalHistory (words_after opening earlier) later)
+    → LegalHistory opening (earlier ++ later)
+    ↔ (LegalHistory opening earlier × LegalHistory (words_after opening earlier) later)
 
 -- no event is a legal history
 abbrev pub NothingIsLegal : Type 0
@@ -25,11 +28,13 @@ HistoryIsDetermined = (opening : List ℕ) (one other : List WordEvent)
 
 -- no event changes the number of the words
 abbrev pub WordsKeepTheirNumber : Type 0
-WordsKeepTheirNumber = (opening : List ℕ) (events : List WordEvent) → length (words_after opening events) ≡ length opening
+WordsKeepTheirNumber = (opening : List ℕ) (events : List WordEvent)
+    → length (words_after opening events) ≡ length opening
 
 -- the words after events in two parts are those that the second part leaves of the words that the first leaves
 abbrev pub WordsComeInParts : Type 0
-WordsComeInParts = (opening : List ℕ) (earlier later : List WordEvent) → words_after opening (earlier ++ later) ≡ words_after (words_after opening earlier) later
+WordsComeInParts = (opening : List ℕ) (earlier later : List WordEvent)
+    → words_after opening (earlier ++ later) ≡ words_after (words_after opening earlier) later
 
 -- events on words leave words
 abbrev pub WordsStayWords : Type 0
@@ -39,7 +44,8 @@ WordsStayWords = (opening : List ℕ) (events : List WordEvent)
 -- each result of a legal history on words is a word
 abbrev pub ResultsAreWords : Type 0
 ResultsAreWords = (opening : List ℕ) (events : List WordEvent)
-    → All IsWord opening → All (λ e. IsOfWords e.step.op) events → LegalHistory opening events → All (λ e. IsWord e.result) events
+    → All IsWord opening → All (λ e. IsOfWords e.step.op) events → LegalHistory opening events
+    → All (λ e. IsWord e.result) events
 
 -- the laws of histories together: a proof above has them where its function calls `history_laws`
 pub record HistoryLaws : Type 0 where
@@ -52,15 +58,19 @@ pub record HistoryLaws : Type 0 where
   pub words : WordsStayWords
   pub results : ResultsAreWords
 
--- events in two parts lead from one place to another exactly where the first part leads to some place, and the second on from there
+-- events in two parts lead from one place to another exactly where the first part leads to some place, and the second
+-- on from there
 abbrev pub LeadsJoin : (Place → WordEvent → Place → Type 0) → Type 0
 LeadsJoin leads = (from to : Place) (earlier later : List WordEvent)
-    → Leads leads from (earlier ++ later) to ↔ ((between : Place) × Leads leads from earlier between × Leads leads between later to)
+    → Leads leads from (earlier ++ later) to
+    ↔ ((between : Place) × Leads leads from earlier between × Leads leads between later to)
 
--- the events of a port that has its words for itself are a legal history from these words, and leave the last words in their place
+-- the events of a port that has its words for itself are a legal history from these words, and leave the last words in
+-- their place
 abbrev pub WordsLeadByHistory : Type 0
 WordsLeadByHistory = (from to : Place) (events : List WordEvent)
-    → Leads LeadsInWords from events to ↔ (LegalHistory from.words events × (to ≡ record { words = words_after from.words events; events = from.events }))
+    → Leads LeadsInWords from events to
+    ↔ (LegalHistory from.words events × (to ≡ record { words = words_after from.words events; events = from.events }))
 
 -- the events of a port that shares its words are added to those that it has made
 abbrev pub EventsLeadByAppending : Type 0

@@ -2,8 +2,8 @@
 
 use crate::step::WordStep;
 
-/// A way to some words, by which a thread makes its steps. A step takes no memory. Whether it waits for the steps of others,
-/// each port says.
+/// A way to some words, by which a thread makes its steps. A step takes no memory. Whether it waits for the steps of
+/// others, each port says.
 pub trait Port {
     ghost use Rattle.std.specs.Prelude.{ℕ, ◌≡◌, ◌<◌, List};
     ghost use Rattle.sharc_word.specs.declared.step.WordEvent.{WordEvent};
@@ -30,7 +30,8 @@ pub trait Port {
         ensures count { count self.new ≡ count self.old }
         ensures name { name self.new ≡ name self.old }
         ensures serves { (thread : ℕ) → serves self.old thread → serves self.new thread }
-        ensures leads { (thread : ℕ) → serves self.old thread → leads (place self.old) (event_of thread step result) (place self.new) };
+        ensures leads { (thread : ℕ) → serves self.old thread
+            → leads (place self.old) (event_of thread step result) (place self.new) };
 
     // No port is without a thread.
     ghost serves_some: { (port : Self) → (thread : ℕ) × serves port thread };

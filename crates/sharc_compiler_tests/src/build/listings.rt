@@ -1,4 +1,5 @@
-//! The code of small sources, worked out by hand from the definitions of flat code, of its checks and counts, and of the listing.
+//! The code of small sources, worked out by hand from the definitions of flat code, of its checks and counts, and of
+//! the listing.
 
 use sharc_build::build;
 use sharc_code::listing;
@@ -190,8 +191,8 @@ fn listed(rt: &(impl Abort + AllocGlobal), source: &str) -> Result<String, Fail>
     }
 }
 
-/// Code without checks that repeat one, a check in each turn of a loop, a cast, a base that is counted while what is assigned is made, and a
-/// locked element of an array.
+/// Code without checks that repeat one, a check in each turn of a loop, a cast, a base that is counted while what is
+/// assigned is made, and a locked element of an array.
 #[test]
 fn code_of_small_sources(rt: HostRuntime) -> Result<(), Fail> {
     for case in LISTINGS.split("==\n") {

@@ -32,7 +32,8 @@ pub enum Then {
     Ends,
 }
 
-/// A few instructions and the turns that are made of them: the registers before them, the steps that they ask for, and what comes of them.
+/// A few instructions and the turns that are made of them: the registers before them, the steps that they ask for, and
+/// what comes of them.
 #[derive(Clone, Copy)]
 pub struct Row<'a> {
     pub body: &'a [Instr],
@@ -64,9 +65,9 @@ fn instrs(alloc: Global, body: &[Instr]) -> Result<Vec<Instr>, AllocError> {
     Ok(instrs)
 }
 
-/// What is looked at after the turns: whether each step was the expected one, how many turns made the last event that they might, whether
-/// a thread at its limit made no turn, the last answer, the events, the stop, what is waited for, the registers, and the sites of the checks
-/// of granule 4 in epoch 0, of reads and of writes.
+/// What is looked at after the turns: whether each step was the expected one, how many turns made the last event that
+/// they might, whether a thread at its limit made no turn, the last answer, the events, the stop, what is waited for,
+/// the registers, and the sites of the checks of granule 4 in epoch 0, of reads and of writes.
 #[derive(Clone, Copy)]
 pub struct Seen {
     pub asked: usize,
@@ -79,7 +80,8 @@ pub struct Seen {
     pub noted: (Option<u32>, Option<u32>),
 }
 
-/// How many turns were answered by Spent, whether each quantum at the limit was so and asked for nothing, and the last answer.
+/// How many turns were answered by Spent, whether each quantum at the limit was so and asked for nothing, and the last
+/// answer.
 #[derive(Clone, Copy)]
 pub struct Went {
     pub spent: u32,
@@ -234,8 +236,8 @@ fn counts(turns: u32, then: Then) -> (u32, u64) {
     }
 }
 
-/// Makes the turns of each row. Each turn is made by a quantum that may make one event; before it, one that may make none is answered by Spent
-/// and asks for nothing.
+/// Makes the turns of each row. Each turn is made by a quantum that may make one event; before it, one that may make
+/// none is answered by Spent and asks for nothing.
 pub fn walk(rt: &impl Abort, alloc: Global, rows: &[Row]) -> Result<(), Fail> {
     for (place, row) in rows.iter().enumerate() {
         let seen = run(alloc, row)?;

@@ -13,8 +13,8 @@ use std::alloc::{AllocError, Global};
 use std::process::Abort;
 use std::test::Fail;
 
-/// After this many turns of the instruction another thread makes this step. How many turns the instruction has then, and what this word holds
-/// after them.
+/// After this many turns of the instruction another thread makes this step. How many turns the instruction has then,
+/// and what this word holds after them.
 type Row = (u32, (u32, WordOp), u32, (u32, u64));
 
 // This many turns, and the last answer.
@@ -50,8 +50,8 @@ fn word(shape: &Shape, port: &mut MemPort, step: (u32, WordOp)) -> u64
     }
 }
 
-/// What is looked at: the word after the turns of the instruction, how many events they were, and the thread's state and last answer after
-/// one turn more, which is the first one of the thread's end.
+/// What is looked at: the word after the turns of the instruction, how many events they were, and the thread's state
+/// and last answer after one turn more, which is the first one of the thread's end.
 #[derive(Clone, Copy)]
 struct Seen {
     word: u64,
@@ -109,8 +109,8 @@ fn run(
     look(&code, &shape, &mut thread, &mut port, before, row)
 }
 
-// The instruction has all its turns, and no more: a turn after them is the first of the thread's end, which changes its state from 0 to 2,
-// or there is none.
+// The instruction has all its turns, and no more: a turn after them is the first of the thread's end, which changes its
+// state from 0 to 2, or there is none.
 fn is_over(seen: &Seen) -> bool {
     match seen.last {
         Pause::Ran => seen.state == (0, 2),
@@ -141,8 +141,8 @@ fn walk(
 /// A word of epoch 1.
 const E: u64 = 4294967296;
 
-/// The object of granule 11 has two elements of two cells, so its data granules have the shadow words 109 and 110. A Load of its length, and
-/// of each a Load and a Swap.
+/// The object of granule 11 has two elements of two cells, so its data granules have the shadow words 109 and 110. A
+/// Load of its length, and of each a Load and a Swap.
 static CLEARED: [Row; 16] = [
     // A reader's bit stays where it is set after the Swap, and is lost between the Load and the Swap.
     (0, (109, Or(2)), 5, (109, E)),
@@ -175,7 +175,8 @@ fn clears(rt: HostRuntime) -> Result<(), Fail> {
     walk(&rt, rt.alloc(), &body, 5, &CLEARED)
 }
 
-/// A block of two granules from the top, which is 11 at first: a Load and a Cas of the top, a Swap of the count and one of the length.
+/// A block of two granules from the top, which is 11 at first: a Load and a Cas of the top, a Swap of the count and one
+/// of the length.
 static FROM_THE_TOP: [Row; 19] = [
     // Another takes a block of four: before the Load, between the Load and the Cas, which is tried again, and after it.
     (0, (1, Add(4)), 4, (1, 17)),
@@ -207,9 +208,9 @@ fn from_the_top(rt: HostRuntime) -> Result<(), Fail> {
     walk(&rt, rt.alloc(), &body, 1, &FROM_THE_TOP)
 }
 
-/// Two objects of two cells: the first from the own list, whose one block is that of granule 11, and the second from the list where the link
-/// that the first found leads on, else from the top, which is 13. A Load of the link, a Swap of each cell, one of the count and one of the
-/// length; and from the top four turns.
+/// Two objects of two cells: the first from the own list, whose one block is that of granule 11, and the second from
+/// the list where the link that the first found leads on, else from the top, which is 13. A Load of the link, a Swap of
+/// each cell, one of the count and one of the length; and from the top four turns.
 static FROM_THE_LIST: [Row; 16] = [
     // The link is changed before it is loaded: the next block is that of granule 20.
     (0, (195, Swap(20)), 10, (212, 1)),
@@ -245,9 +246,9 @@ fn from_the_own_list(rt: HostRuntime) -> Result<(), Fail> {
     walk(&rt, rt.alloc(), &body, 10, &FROM_THE_LIST)
 }
 
-/// The object of granule 13 has one element of three cells, of which the first refers to the object of granule 11, with count 194, and the last
-/// is NULL. A Load of the length; a Swap of the first cell and a Lower; a Swap of the last; of the shadow words 111 and 112 a Load and a Swap
-/// each; a Swap of the count and one of the length.
+/// The object of granule 13 has one element of three cells, of which the first refers to the object of granule 11, with
+/// count 194, and the last is NULL. A Load of the length; a Swap of the first cell and a Lower; a Swap of the last; of
+/// the shadow words 111 and 112 a Load and a Swap each; a Swap of the count and one of the length.
 static FREED: [Row; 25] = [
     // The length counts where it is loaded, at first.
     (0, (199, Swap(0)), 3, (194, 1)),
@@ -295,8 +296,8 @@ fn frees(rt: HostRuntime) -> Result<(), Fail> {
     walk(&rt, rt.alloc(), &body, 10, &FREED)
 }
 
-/// Thread 3 has read granule 4, with the shadow word 101, and written granule 5, with 102. A Swap of the state; of each granule a Load and a
-/// Cas; and a Swap of the state.
+/// Thread 3 has read granule 4, with the shadow word 101, and written granule 5, with 102. A Swap of the state; of each
+/// granule a Load and a Cas; and a Swap of the state.
 static GONE: [Row; 18] = [
     // A reader's bit stays, whenever it came; between the Load and the Cas it makes the Cas be tried again.
     (0, (101, Or(2)), 6, (101, 2)),

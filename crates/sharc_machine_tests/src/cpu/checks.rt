@@ -10,7 +10,8 @@ use sharc_word::WordOp::{Add, Cas, Load, Or, Sub, Swap};
 use std::process::Abort;
 use std::test::Fail;
 
-/// The first cell of granule 4: its word is 180, and the shadow word 101. Thread 3 has bit 4 there, thread 0 bit 1, thread 30 bit 31.
+/// The first cell of granule 4: its word is 180, and the shadow word 101. Thread 3 has bit 4 there, thread 0 bit 1,
+/// thread 30 bit 31.
 const G: Cell = Cell::Global(0, 8);
 
 /// Checks of reads and writes by thread 3.
@@ -139,7 +140,8 @@ fn accesses(rt: HostRuntime) -> Result<(), Fail> {
     walk(&rt, rt.alloc(), &CHECKS)
 }
 
-/// Checks, and the sites that are noted of reads and of writes: a check is noted where it passes, and not again in the same epoch.
+/// Checks, and the sites that are noted of reads and of writes: a check is noted where it passes, and not again in the
+/// same epoch.
 static NOTED: [(&[Instr], &[Ask], (Option<u32>, Option<u32>)); 6] = [
     (
         &[Instr::ChkRead(G, 7), Instr::ChkRead(G, 8)],

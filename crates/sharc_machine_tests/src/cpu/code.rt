@@ -13,7 +13,8 @@ use std::alloc::{AllocError, Global};
 /// The granules of the globals: cells 2 to 21, counted from the first cell of granule 0.
 const GLOBALS: u32 = 10;
 
-/// A shape of 75 granules. The shadow words begin at word 97, the cells at word 172, and there are 322 words; the heap begins at granule 11.
+/// A shape of 75 granules. The shadow words begin at word 97, the cells at word 172, and there are 322 words; the heap
+/// begins at granule 11.
 pub fn shape() -> Shape
     ensures threads { result.threads ≡ threads }
     ensures globals { result.globals ≡ 10 }

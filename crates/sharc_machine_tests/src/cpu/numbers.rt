@@ -31,7 +31,8 @@ fn steps(
     walk(rt, alloc, &[row])
 }
 
-/// A granule of the 75, with the words of its count, of its length and of the first cell after it; a number of no granule is taken as 0.
+/// A granule of the 75, with the words of its count, of its length and of the first cell after it; a number of no
+/// granule is taken as 0.
 static HEADERS: [(u64, u32, u32, u32); 7] = [
     (0, 172, 173, 174),
     (11, 194, 195, 196),

@@ -207,7 +207,8 @@ fn integers(rt: HostRuntime) -> Result<(), Fail> {
     Ok(())
 }
 
-/// References, jumps, and calls with frames that begin at the second integer and the third reference. There is no frame at first.
+/// References, jumps, and calls with frames that begin at the second integer and the third reference. There is no frame
+/// at first.
 static MOVED: [Row; 17] = [
     Row {
         body: &[Instr::MoveReference(1, 0)],

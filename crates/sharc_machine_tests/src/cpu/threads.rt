@@ -152,7 +152,8 @@ fn joins(rt: HostRuntime) -> Result<(), Fail> {
     walk(&rt, rt.alloc(), &JOINED)
 }
 
-/// Starts of thread 3: function 0 is `main`, function 1 has an integer as its parameter and function 2, the last, a reference.
+/// Starts of thread 3: function 0 is `main`, function 1 has an integer as its parameter and function 2, the last, a
+/// reference.
 static STARTED: [Row<'static>; 5] = [
     Row {
         body: &[Instr::Start(7)],

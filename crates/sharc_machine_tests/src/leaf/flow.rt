@@ -31,8 +31,8 @@ fn link(from: u32, to: u32, below: bool) -> Link {
 #[test]
 fn kinds_of_sources(rt: HostRuntime) -> Result<(), Fail> {
     let alloc = rt.alloc();
-    // 0 is written readonly above 1, and equal to 2; 3 is written dynamic and equal to 4; 5 is written private above 6; 7 is a
-    // root above 8, which is equal to 1.
+    // 0 is written readonly above 1, and equal to 2; 3 is written dynamic and equal to 4; 5 is written private above 6;
+    // 7 is a root above 8, which is equal to 1.
     let places = vec![in alloc;
         Place::Other,
         Place::Unwritten,

@@ -28,7 +28,8 @@ fn least_blocks(rt: HostRuntime) {
 
 #[test]
 fn takes_the_last_room(rt: HostRuntime) {
-    // Granules 1 to 8, room for two blocks of four; the cells of granule 0 are words 100 and 101. Another thread takes the first block.
+    // Granules 1 to 8, room for two blocks of four; the cells of granule 0 are words 100 and 101. Another thread takes
+    // the first block.
     let mut state = NewState::new(3, 3, 9, 100, 0);
     assert_eq!(rt; state.next(77), asked(1, WordOp::Load));
     assert_eq!(rt; state.next(1), asked(1, WordOp::Cas(1, 5)));

@@ -15,8 +15,8 @@ use std::thread::Threads;
 // A gate looks this many times, and then gives up.
 const LOOKS: u64 = 100_000_000;
 
-// Holds the first step of thread 1 until this many steps of thread 2 were asked for, and the other way round. It counts how often it gave up, and
-// how often a worker came with a thread that is not its own.
+// Holds the first step of thread 1 until this many steps of thread 2 were asked for, and the other way round. It counts
+// how often it gave up, and how often a worker came with a thread that is not its own.
 #[derive(Drop)]
 struct Holds {
     workers: u32,
@@ -69,8 +69,8 @@ impl Gate for Holds {
     }
 }
 
-// `main` starts two threads, which are handed 1 and 2 and write that to the value; then it joins both and prints the value. A thread makes
-// five steps, of which the third writes.
+// `main` starts two threads, which are handed 1 and 2 and write that to the value; then it joins both and prints the
+// value. A thread makes five steps, of which the third writes.
 const WRITES: [Instr; 12] = [
     Instr::Constant(0, 1),
     Instr::Spawn(1, 1, Register::Int(0), 3),
@@ -87,7 +87,8 @@ const WRITES: [Instr; 12] = [
     Instr::Exit,
 ];
 
-// What was seen of the run, how many steps each thread asked for, how often the gate gave up, and how often a worker was strange.
+// What was seen of the run, how many steps each thread asked for, how often the gate gave up, and how often a worker
+// was strange.
 fn held<R: Threads + Wait + Sync>(
     rt: &R,
     alloc: Global,
@@ -143,7 +144,8 @@ fn the_held_thread_writes_last(rt: HostRuntime) -> Result<(), Fail> {
     Ok(())
 }
 
-// One worker takes the threads in rising order, so the second writes last, and each worker comes with its own threads alone.
+// One worker takes the threads in rising order, so the second writes last, and each worker comes with its own threads
+// alone.
 #[test]
 fn each_worker_has_its_own_threads(rt: HostRuntime) -> Result<(), Fail> {
     let (ran, counts) = held(&rt, rt.alloc(), 1, 0, 0)?;

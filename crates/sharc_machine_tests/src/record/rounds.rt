@@ -95,7 +95,8 @@ fn locked_increments(rt: HostRuntime) -> Result<(), Fail> {
     Ok(())
 }
 
-// There is a round in which both quanta end Blocked: `main` waits for the mutex, and the thread then gives it back and waits for `main`.
+// There is a round in which both quanta end Blocked: `main` waits for the mutex, and the thread then gives it back and
+// waits for `main`.
 #[test]
 fn blocked_quanta_are_no_deadlock(rt: HostRuntime) -> Result<(), Fail> {
     let body = [

@@ -40,7 +40,8 @@ pub fn function(entry: u32, parameter: Parameter) -> Function {
     }
 }
 
-// The code of these instructions after a Start and an Exit, so that the first of them is at place 2, where `main` begins.
+// The code of these instructions after a Start and an Exit, so that the first of them is at place 2, where `main`
+// begins.
 fn code(alloc: Global, body: &[Instr], others: &[Function]) -> Result<Code, AllocError>
     ensures { IfOk result (λ code. code.granules ≡ 10) }
 {
@@ -74,8 +75,8 @@ impl Gate for Open {
     fn step(&self, _worker: u32, _thread: u32) {}
 }
 
-/// What is looked at of a run: how it ended, what was printed, how many threads there were, the first X, and the value. It holds nothing,
-/// so a test that ends early drops nothing.
+/// What is looked at of a run: how it ended, what was printed, how many threads there were, the first X, and the value.
+/// It holds nothing, so a test that ends early drops nothing.
 #[derive(Clone, Copy)]
 pub struct Worked {
     pub end: End,

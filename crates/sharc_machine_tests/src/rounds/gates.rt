@@ -12,8 +12,8 @@ use std::test::Fail;
 // A gate looks this many times, and then gives up.
 const LOOKS: u64 = 100_000_000;
 
-// Holds the first step of thread 1 until this many steps of thread 2 were asked for, and the other way round. It counts how often it gave up, and
-// how often a worker came with a thread that is not its own.
+// Holds the first step of thread 1 until this many steps of thread 2 were asked for, and the other way round. It counts
+// how often it gave up, and how often a worker came with a thread that is not its own.
 #[derive(Drop)]
 struct Holds {
     workers: u32,
@@ -66,8 +66,8 @@ impl Gate for Holds {
     }
 }
 
-// `main` starts two threads, which are handed 1 and 2 and write that to the value; then it joins both and prints the value. A thread makes
-// five steps, of which the third writes.
+// `main` starts two threads, which are handed 1 and 2 and write that to the value; then it joins both and prints the
+// value. A thread makes five steps, of which the third writes.
 const WRITES: [Instr; 12] = [
     Instr::Constant(0, 1),
     Instr::Spawn(1, 1, Register::Int(0), 3),
@@ -84,7 +84,8 @@ const WRITES: [Instr; 12] = [
     Instr::Exit,
 ];
 
-// What was seen of the run, how many steps each thread asked for, how often the gate gave up, and how often a worker was strange.
+// What was seen of the run, how many steps each thread asked for, how often the gate gave up, and how often a worker
+// was strange.
 fn held<R: std::thread::Threads + Sync>(
     rt: &R,
     alloc: std::alloc::Global,
@@ -137,7 +138,8 @@ fn the_held_thread_writes_last(rt: HostRuntime) -> Result<(), Fail> {
     Ok(())
 }
 
-// One worker takes the threads in rising order, so the second writes last, and each worker comes with its own threads alone.
+// One worker takes the threads in rising order, so the second writes last, and each worker comes with its own threads
+// alone.
 #[test]
 fn each_worker_has_its_own_threads(rt: HostRuntime) -> Result<(), Fail> {
     let (ran, counts) = held(&rt, rt.alloc(), 1, 0, 0)?;
@@ -151,8 +153,8 @@ fn each_worker_has_its_own_threads(rt: HostRuntime) -> Result<(), Fail> {
     Ok(())
 }
 
-// Holds thread 2 until thread 1 has the mutex and is about to make its next step, and thread 1 there until thread 2 has asked for it so
-// often; then it looks on for a while, in case that more tries come.
+// Holds thread 2 until thread 1 has the mutex and is about to make its next step, and thread 1 there until thread 2 has
+// asked for it so often; then it looks on for a while, in case that more tries come.
 #[derive(Drop)]
 struct HoldsMutex {
     tries: u64,
@@ -196,7 +198,8 @@ impl Gate for HoldsMutex {
     }
 }
 
-// A thread that finds the mutex held tries 64 times more before it is out of the round, where another works at the same time.
+// A thread that finds the mutex held tries 64 times more before it is out of the round, where another works at the same
+// time.
 #[test]
 fn a_thread_tries_again(rt: HostRuntime) -> Result<(), Fail> {
     let body = [

@@ -10,10 +10,12 @@ use std::process::Abort;
 use std::sync::atomic::{AtomicU64, Ordering};
 use std::test::Fail;
 
-// A place of the table has a line of the cache: what a thread has is in a box, and is not moved with it. In the place it would be ten times as much.
+// A place of the table has a line of the cache: what a thread has is in a box, and is not moved with it. In the place
+// it would be ten times as much.
 const _: () = prove!(size_of::<Option<Thread>>() <= 64);
 
-// Keeps the numbers of the first threads of the system that come, 0 where fewer came, and counts the steps whose thread is not known.
+// Keeps the numbers of the first threads of the system that come, 0 where fewer came, and counts the steps whose thread
+// is not known.
 #[derive(Drop)]
 struct Callers<'a> {
     rt: &'a HostRuntime,
@@ -99,7 +101,8 @@ const BOTH: [Instr; 7] = [
     Instr::Exit,
 ];
 
-// Where one worker alone has an enabled thread, the caller makes all steps, whichever worker it is; where two have, another thread is started.
+// Where one worker alone has an enabled thread, the caller makes all steps, whichever worker it is; where two have,
+// another thread is started.
 #[test]
 fn workers_are_started_where_two_are_busy(rt: HostRuntime) -> Result<(), Fail> {
     let others = [function(7, Parameter::None)];

@@ -105,7 +105,8 @@ fn functions(alloc: Global, others: &[u32]) -> Result<Vec<Function>, AllocError>
     Ok(functions)
 }
 
-/// The code of these instructions, of which the first is at place 2, where `main` begins; other functions begin at these places.
+/// The code of these instructions, of which the first is at place 2, where `main` begins; other functions begin at
+/// these places.
 fn code(alloc: Global, body: &[Instr], others: &[u32]) -> Result<Code, AllocError>
     ensures { IfOk result (λ code. code.granules ≡ 4) }
 {

@@ -21,7 +21,8 @@ thread 1: A1 read of g at input:14 conflicts with write of g at input:10 by thre
     assert_text(&rt, &body, &[7], text)
 }
 
-// Threads 1 and 2 do nothing else than this: 1 has read, so 2 may not write; and 3, which comes last, may not read for the write of 2.
+// Threads 1 and 2 do nothing else than this: 1 has read, so 2 may not write; and 3, which comes last, may not read for
+// the write of 2.
 #[test]
 fn a_refused_check_is_named(rt: HostRuntime) -> Result<(), Fail> {
     let body = [

@@ -4,7 +4,8 @@ use crate::run_text::bench::{COND, MUTEX, assert_text};
 use sharc_code::{Instr, Register};
 use std::test::Fail;
 
-// The thread prints before and after its `join` of `main` is refused a turn, `main` between; then both are gone but for the wait.
+// The thread prints before and after its `join` of `main` is refused a turn, `main` between; then both are gone but for
+// the wait.
 #[test]
 fn prints_have_one_order(rt: HostRuntime) -> Result<(), Fail> {
     let body = [

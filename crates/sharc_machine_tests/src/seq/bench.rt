@@ -35,8 +35,9 @@ pub fn function(entry: u32, parameter: Parameter) -> Function {
     }
 }
 
-/// The code of these instructions after a Start and an Exit, so that the first of them is at place 2, where `main` begins. The elements
-/// of layout 0 have one cell, those of layout 1 three, of which the first and the last are pointers.
+/// The code of these instructions after a Start and an Exit, so that the first of them is at place 2, where `main`
+/// begins. The elements of layout 0 have one cell, those of layout 1 three, of which the first and the last are
+/// pointers.
 pub fn code(alloc: Global, body: &[Instr], others: &[Function]) -> Result<Code, AllocError>
     ensures { IfOk result (λ code. code.granules ≡ 10) }
 {
@@ -113,8 +114,9 @@ pub fn trap_of(stop: Option<Stop>) -> Option<(Trap, u32)> {
     }
 }
 
-/// What is looked at of a run: what was printed, where both threads stopped, the last answer of each, what thread 0 waits for and how many
-/// events it made, and the top of the heap. It holds nothing, so a test that ends early drops nothing.
+/// What is looked at of a run: what was printed, where both threads stopped, the last answer of each, what thread 0
+/// waits for and how many events it made, and the top of the heap. It holds nothing, so a test that ends early drops
+/// nothing.
 #[derive(Clone, Copy)]
 pub struct Seen {
     pub printed: Printed,
@@ -157,7 +159,8 @@ fn turn(
     Ok(run_quantum(code, shape, thread, port, 1, limit))
 }
 
-/// This many turns of thread 0 and, once it is started, of thread 1, a turn of each in turn. Each makes at most `limit` events.
+/// This many turns of thread 0 and, once it is started, of thread 1, a turn of each in turn. Each makes at most `limit`
+/// events.
 pub fn run(
     alloc: Global,
     body: &[Instr],

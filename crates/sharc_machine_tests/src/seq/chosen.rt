@@ -19,8 +19,8 @@ enum Choice {
     Drawn(u64),
 }
 
-// What is looked at of a run: how it ended, what was printed, how many threads there were, the first X, and whether the schedule is the
-// one that was expected, a digit for each turn.
+// What is looked at of a run: how it ended, what was printed, how many threads there were, the first X, and whether the
+// schedule is the one that was expected, a digit for each turn.
 #[derive(Clone, Copy)]
 struct Chosen {
     end: End,
@@ -141,7 +141,8 @@ fn draws(rt: HostRuntime) {
     }
 }
 
-// `main` starts a thread by its sixth turn, and then both jump for ever, up to twenty events of each. The schedules were computed apart.
+// `main` starts a thread by its sixth turn, and then both jump for ever, up to twenty events of each. The schedules
+// were computed apart.
 #[test]
 fn seeded_schedules(rt: HostRuntime) -> Result<(), Fail> {
     let body = [
@@ -220,7 +221,8 @@ fn ends(rt: HostRuntime) -> Result<(), Fail> {
     Ok(())
 }
 
-// `main` starts two threads, joins both and prints; each adds 1 to the value under one mutex. However they are chosen, 2 is printed.
+// `main` starts two threads, joins both and prints; each adds 1 to the value under one mutex. However they are chosen,
+// 2 is printed.
 #[test]
 fn one_lock(rt: HostRuntime) -> Result<(), Fail> {
     let body = [
@@ -258,7 +260,8 @@ fn one_lock(rt: HostRuntime) -> Result<(), Fail> {
         assert_eq!(rt; ran.end, End::AllDone);
         assert_eq!(rt; ran.printed, [Some(2), None, None]);
         assert_eq!(rt; ran.threads, 3);
-        // Start, two Spawns, two Joins, three more and Exit: seventeen; and of each thread eleven. No turn is a failed try.
+        // Start, two Spawns, two Joins, three more and Exit: seventeen; and of each thread eleven. No turn is a failed
+        // try.
         assert_eq!(rt; ran.turns, 39);
     }
     Ok(())

@@ -8,8 +8,8 @@ use std::alloc::{AllocError, Global};
 use std::process::Abort;
 use std::test::Fail;
 
-// Register 0 has an object of one cell, register 1 one of two elements of three cells. The first cell of the second object refers to the
-// first object too, so its count is 2.
+// Register 0 has an object of one cell, register 1 one of two elements of three cells. The first cell of the second
+// object refers to the first object too, so its count is 2.
 const BOTH: [Instr; 6] = [
     Instr::Constant(0, 1),
     Instr::New(0, 0, 1, 2),
@@ -45,7 +45,8 @@ fn loads_and_raises(rt: HostRuntime) -> Result<(), Fail> {
     Ok(())
 }
 
-// A Take of a cell leaves NULL there and moves the reference; a Take of a local moves it too. Then it is the only one, and given.
+// A Take of a cell leaves NULL there and moves the reference; a Take of a local moves it too. Then it is the only one,
+// and given.
 #[test]
 fn takes_and_gives(rt: HostRuntime) -> Result<(), Fail> {
     let rest = [
@@ -88,8 +89,8 @@ fn takes_null(rt: HostRuntime) -> Result<(), Fail> {
     Ok(())
 }
 
-// The Free gives up the references of the pointer cells, the first and the last of each element, and of no other: an integer cell holds
-// the number of the first object too.
+// The Free gives up the references of the pointer cells, the first and the last of each element, and of no other: an
+// integer cell holds the number of the first object too.
 #[test]
 fn free_walks(rt: HostRuntime) -> Result<(), Fail> {
     let rest = [

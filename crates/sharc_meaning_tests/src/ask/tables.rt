@@ -1,5 +1,6 @@
-//! Tables of sources with what their threads ask for, as one text: a source, a line `--`, and lines of a question, ` = ` and what is wanted; a line `==` is
-//! between two cases. What begins with `..` is the end of what is wanted, and what follows `gives up` is what is given up after the last event.
+//! Tables of sources with what their threads ask for, as one text: a source, a line `--`, and lines of a question, ` =
+//! ` and what is wanted; a line `==` is between two cases. What begins with `..` is the end of what is wanted, and what
+//! follows `gives up` is what is given up after the last event.
 
 use crate::ask::question::question_of;
 use crate::ask::told::{asked_text, given_up_text};

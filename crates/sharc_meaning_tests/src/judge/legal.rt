@@ -47,8 +47,8 @@ const THREE: i64 = 3 * 4294967296 + 1;
 
 const ONE: i64 = 4294967296 + 1;
 
-/// Every kind of event, each where it may come: the value that was there first, written and taken; an object made, freed and made again under its number; a thread that
-/// waits, is woken and goes; a mutex locked again.
+/// Every kind of event, each where it may come: the value that was there first, written and taken; an object made,
+/// freed and made again under its number; a thread that waits, is woken and goes; a mutex locked again.
 static LEGAL: [Row; 33] = [
     (0, Act::Started(0), 0),
     (0, Act::Read(G, CellMode::Dynamic), -5),

@@ -63,8 +63,8 @@ const UNDER: CellMode = CellMode::Locked(Some(MUTEX));
 
 const NO_MUTEX: CellMode = CellMode::Locked(None);
 
-/// A private object of thread 0; a dynamic one that it writes before it returns, and thread 1 reads; a global under a mutex; another that is readonly; then the private one is given to
-/// thread 1, and freed.
+/// A private object of thread 0; a dynamic one that it writes before it returns, and thread 1 reads; a global under a
+/// mutex; another that is readonly; then the private one is given to thread 1, and freed.
 static OBEYING: [Row; 16] = [
     (0, Act::New(2, 1, CellMode::Private), FIRST),
     (0, Act::Write(OWN, CellMode::Private, 1), 0),
@@ -84,7 +84,8 @@ static OBEYING: [Row; 16] = [
     (1, Act::Freed(FIRST), 0),
 ];
 
-/// How many of these events come before, an event, and the rule that it breaks where accesses count until their thread returns.
+/// How many of these events come before, an event, and the rule that it breaks where accesses count until their thread
+/// returns.
 static BROKEN: [(usize, Row, Rule); 17] = [
     // An object that was not made, and one that was freed.
     (

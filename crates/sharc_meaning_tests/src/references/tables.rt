@@ -1,5 +1,5 @@
-//! Tables of sources as one text: a source, a line `--`, and lines with the digits of the threads in the order of their events, the fuel, the number of the object,
-//! ` = ` and the references; a line `==` separates two cases.
+//! Tables of sources as one text: a source, a line `--`, and lines with the digits of the threads in the order of their
+//! events, the fuel, the number of the object, ` = ` and the references; a line `==` separates two cases.
 
 use crate::references::threads::next_event;
 use crate::sources::inferred;
@@ -20,7 +20,8 @@ fn cell_text(alloc: Global, c: CellAt) -> Result<String, AllocError> {
     }
 }
 
-/// A cell, `m` and a mutex, `a` and a thread's number for its argument, `t` and a thread's number with which of its references it is.
+/// A cell, `m` and a mutex, `a` and a thread's number for its argument, `t` and a thread's number with which of its
+/// references it is.
 fn holder_text(alloc: Global, holder: Holder) -> Result<String, AllocError> {
     match holder {
         Holder::InCell(c) => cell_text(alloc, c),

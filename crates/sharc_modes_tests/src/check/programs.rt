@@ -4,7 +4,8 @@ use crate::check::tables::assert_table;
 use crate::check::told::Telling;
 use std::test::Fail;
 
-/// A buffer goes from stage to stage by sharing casts; a mutex is reached behind a pointer; the names of condition variables.
+/// A buffer goes from stage to stage by sharing casts; a mutex is reached behind a pointer; the names of condition
+/// variables.
 const PROGRAMS: &str = "# 1 \"pipe.c\"
 struct buf { int n; };
 struct stage {

@@ -1,4 +1,5 @@
-//! Tables of sources with what is reported of them, as one text: a source, a line `--`, and what is wanted; a line `==` separates two cases.
+//! Tables of sources with what is reported of them, as one text: a source, a line `--`, and what is wanted; a line `==`
+//! separates two cases.
 
 use crate::check::told::{Telling, Untold, told};
 use sharc_report::fault_text;

@@ -1,6 +1,7 @@
 //! What `check` and `explain` write of a source.
 //!
-//! What is large is let go of by `drop`, which is proved once for any value: a value that goes out of scope is proved to be dropped part by part.
+//! What is large is let go of by `drop`, which is proved once for any value: a value that goes out of scope is proved
+//! to be dropped part by part.
 
 ghost use Rattle.sharc_reach.specs.Reaching.{AreReached};
 ghost use Rattle.sharc_check.specs.Named.{TellNamed};

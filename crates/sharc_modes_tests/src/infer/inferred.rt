@@ -95,8 +95,8 @@ fn modes_text(alloc: Global, m: &Moded) -> Result<Vec<u8>, AllocError> {
     Ok(text)
 }
 
-/// Sources with the modes of all their positions in source order: the name and the depth of each, and its mode or, where it was inferred to be dynamic,
-/// the reason. What is expected was worked out by hand.
+/// Sources with the modes of all their positions in source order: the name and the depth of each, and its mode or,
+/// where it was inferred to be dynamic, the reason. What is expected was worked out by hand.
 static INFERRED: [(&str, &str); 13] = [
     (
         "int g; void w(int * p) { int * q = p; g = *q; } int main(void) { int * x = malloc(sizeof(int)); int t = spawn(w, x); join(t); return 0; }",

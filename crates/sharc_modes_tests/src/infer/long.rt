@@ -15,8 +15,8 @@ fn add_number(text: &mut String, number: u32) -> Result<(), AllocError> {
     Ok(())
 }
 
-/// This many functions of which each initialises nine locals, one by the other, and passes the last of them to the function before; the last function
-/// is spawned.
+/// This many functions of which each initialises nine locals, one by the other, and passes the last of them to the
+/// function before; the last function is spawned.
 fn long_chain(alloc: Global, functions: u32) -> Result<String, AllocError> {
     let mut text = String::new(alloc);
     text.push_str("void kaaa(int*a){}")?;

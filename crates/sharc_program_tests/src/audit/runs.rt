@@ -1,4 +1,5 @@
-//! Event files that obey, and such whose fuel is spent, with the status and the line of each, from a reference program of its own.
+//! Event files that obey, and such whose fuel is spent, with the status and the line of each, from a reference program
+//! of its own.
 
 /// Cases, separated by lines of equal signs, each of a file, a line of hyphens, and the status and the line.
 pub(crate) const RUNS: &str = r##"int dynamic g2;

@@ -123,8 +123,8 @@ fn programs_with_one_part_more_are_refused(rt: HostRuntime) -> Result<(), Fail> 
     Ok(())
 }
 
-/// Cells of globals, heaps, mutexes and events at their limits: words, a source of one line, and the status and the line
-/// of the reply.
+/// Cells of globals, heaps, mutexes and events at their limits: words, a source of one line, and the status and the
+/// line of the reply.
 const EDGES: &str = "run
 int a[65536]; int main(void) { a[65535] = 7; print(a[65535] + a[0]); return 0; }
 0 7

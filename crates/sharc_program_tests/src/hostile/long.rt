@@ -8,8 +8,8 @@ use std::test::Fail;
 /// How many bytes a source may have.
 const MOST: usize = 1_048_576;
 
-/// Cases, separated by tildes, of sources that are no programs: words, what a source begins with, what is repeated in it,
-/// what it ends with, and the status and the text of the reply, separated by bars.
+/// Cases, separated by tildes, of sources that are no programs: words, what a source begins with, what is repeated in
+/// it, what it ends with, and the status and the text of the reply, separated by bars.
 const REFUSED: &str = "check|| ||2 input:1: C8 no int main(void)\n\
 ~run||\n||2 input:1048577: C8 no int main(void)\n\
 ~check||@||2 input:1: L1 byte 64 at offset 0\n\

@@ -21,7 +21,8 @@ fn a_hundred_thousand_prints_are_written(rt: HostRuntime) -> Result<(), Fail> {
 const USAGE: &str =
     "usage: check | explain | run [--workers N] [--granules N] [--events N] [--seed N] | load N [--workers N] | record [--workers N] [--granules N] [--events N] | replay | audit\n";
 
-/// Words, separated by bars: six that are no command, two that are `run`, and `replay`, to which the program is no recorded run.
+/// Words, separated by bars: six that are no command, two that are `run`, and `replay`, to which the program is no
+/// recorded run.
 const COMMANDS: &str =
     "help|run run|Run||run --workers 17|load|run|run --seed=7 --workers 2|replay";
 

@@ -12,7 +12,8 @@ use std::thread::Threads;
 /// A gate looks this many times, and then gives up.
 const LOOKS: u64 = 100_000_000;
 
-/// Holds the first step of thread 1 until this many steps of thread 2 were asked for, and the other way round, and counts how often it gave up.
+/// Holds the first step of thread 1 until this many steps of thread 2 were asked for, and the other way round, and
+/// counts how often it gave up.
 #[derive(Drop)]
 pub(crate) struct Holds {
     for_1: u64,

@@ -7,7 +7,8 @@ use std::sync::Wait;
 use std::test::Fail;
 use std::thread::Threads;
 
-/// Cases, separated by tildes, each of options of `run`, a source, and the status and the text that answer it, separated by bars.
+/// Cases, separated by tildes, each of options of `run`, a source, and the status and the text that answer it,
+/// separated by bars.
 pub(crate) const RUNS: &str = "|int main(void) { print(6 * 7); return 0; }|0 42
 ~|int main(void) { print(2147483647 + 1); return 0; }|4 thread 0: X4 out of range at input:1
 ~|int main(void) { print(1); print(2147483647 * 2); return 0; }|4 1

@@ -2,7 +2,8 @@
 
 ghost use Rattle.std.specs.Prelude.{◌≡◌, IfOk};
 ghost use Rattle.sharc_tree.specs.Tree.{declare, simple, return, if_then, if_then_else, while, for};
-ghost use Rattle.sharc_tree.specs.View.{view_expr, view_option, view_right, view_simple, view_local, view_first, view_head, view_stmt, view_statements};
+ghost use Rattle.sharc_tree.specs.View.{view_expr, view_option, view_right, view_simple, view_local, view_first};
+ghost use Rattle.sharc_tree.specs.View.{view_head, view_stmt, view_statements};
 
 use crate::copy::expression::{copy_box, copy_expr};
 use crate::held::{both, in_box};
@@ -145,7 +146,8 @@ fn copy_if_else(
     then: Box<Stmt>,
     otherwise: Box<Stmt>,
 ) -> Result<Stmt, AllocError>
-    ensures { IfOk result (λ s. view_stmt s ≡ if_then_else span (view_expr test.now) (view_stmt then.value) (view_stmt otherwise.value)) }
+    ensures { IfOk result (λ s. view_stmt s
+        ≡ if_then_else span (view_expr test.now) (view_stmt then.value) (view_stmt otherwise.value)) }
 {
     let ((then, otherwise), test) = both((then, otherwise), copy_box(alloc, test))?;
     Ok(Stmt::IfElse {

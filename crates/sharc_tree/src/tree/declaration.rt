@@ -35,8 +35,8 @@ pub struct WrittenType {
     pub mode_first: bool,
     /// The token that names the base: its keyword, or the name of the struct.
     pub base: Site,
-    /// The type, each level with the mode that is written there or none. A lock path has the number of the token of its first name, and its second
-    /// name is known by its text alone; a struct is known by its name.
+    /// The type, each level with the mode that is written there or none. A lock path has the number of the token of its
+    /// first name, and its second name is known by its text alone; a struct is known by its name.
     pub ctype: CType,
 }
 

@@ -171,7 +171,8 @@ impl Expr {
         }
     }
 
-    /// Whether the expression has the form of an lvalue: a name, `e[i]`, `e.f`, `e->f`, `*e`, or one of these in parentheses (C11 6.3.2.1).
+    /// Whether the expression has the form of an lvalue: a name, `e[i]`, `e.f`, `e->f`, `*e`, or one of these in
+    /// parentheses (C11 6.3.2.1).
     pub fn is_lvalue(&self) -> bool
         ensures { result ≡ is_lvalue (view_expr self.now) }
     {
