@@ -7,5 +7,5 @@ mod long;
 mod outcome;
 mod refused;
 mod streams;
-mod texts;
+pub(crate) mod texts;
 mod values;

@@ -150,3 +150,64 @@ pub(crate) const SHARED_PLACES: &str = "0 input:2\tstart main 0\t\t
 0 input:5\tfree q o1[1]\t1:1\t
 0 input:5\trefused free q A4\to1.0\t
 ";
+
+/// 4,200 writes of one global, one behind the other.
+pub(crate) const WRITES: &str = "int g;
+int main(void) {
+  for (int i = 0; i < 4200; i = i + 1) g = 7;
+  return 0;
+}
+%%schedule 4096 100000
+%%text
+";
+
+pub(crate) const WRITES_SOURCE: &str = "int g;
+int main(void) {
+  for (int i = 0; i < 4200; i = i + 1) g = 7;
+  return 0;
+}
+%%events 65536
+0 started 0
+";
+
+/// What is written of one of them.
+pub(crate) const WRITE: &str = "0 write g0.0 7\n";
+
+/// Between the start and the first write are more steps than the fuel suffices for.
+pub(crate) const LONG: &str = "int g;
+int main(void) {
+  for (int i = 0; i < 12000; i = i + 1) ;
+  g = 1;
+  return 0;
+}
+%%schedule 4096 200000
+%%text
+";
+
+pub(crate) const LONG_EVENTS: &str = "int g;
+int main(void) {
+  for (int i = 0; i < 12000; i = i + 1) ;
+  g = 1;
+  return 0;
+}
+%%events 65536
+0 started 0
+";
+
+pub(crate) const LONG_PLACES: &str = "0 input:2\tstart main 0\t\t
+0 input:4\twrite g 1\tg0.0\tprivate
+0 input:2\treturn main\t\t
+0 input:2\tgone main\t\t
+";
+
+/// A source that is refused for its modes.
+pub(crate) const REFUSED: &str =
+    "int main(void) { int private * p = NULL; int dynamic * d = p; return 0; }
+%%schedule 4096 1000
+%%text
+";
+
+pub(crate) const REFUSAL: &str =
+    "input:1: M1 mode mismatch: expected int dynamic *, found int private *
+input:1: suggest SCAST(int dynamic *, p)
+";
