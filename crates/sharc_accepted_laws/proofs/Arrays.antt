@@ -1,7 +1,7 @@
 -- Arrays are globals that are named.
 use Rattle.std.proofs.{Common.{◌≡◌, ℕ, Bool, true, false, cond, refl, ap, sym, ◌∙◌, Option, Some, None}, lemmas.Bool.false≢true}
 use Rattle.std.specs.List.{AllByRecursion}
-use Rattle.sharc_tree.specs.{declared.token.NumberType.NumberType, declared.token.Span.Span, declared.tree.declaration.Declaration.Declaration, declared.tree.declaration.Identifier.Identifier, declared.tree.expression.Access.Access, declared.tree.expression.UnaryOperator.TheVariants.{Negate, Not, Complement, Dereference}, Measures.expressions, Tree.{Expression, Function}}
+use Rattle.sharc_tree.specs.{declared.token.NumberType.NumberType, declared.token.Span.Span, declared.tree.declaration.Declaration.Declaration, declared.tree.declaration.Identifier.Identifier, declared.tree.expression.FieldOperator.FieldOperator, declared.tree.expression.UnaryOperator.TheVariants.{Negate, Not, Complement, Dereference}, Measures.expressions, Tree.{Expression, Function}}
 use Rattle.sharc_tree.specs.declared.token.NumberType.TheVariants as width
 use Rattle.sharc_tree.specs.declared.tree.expression.Constant.TheVariants as constants
 use Rattle.sharc_tree.specs.Tree as tree
@@ -62,7 +62,7 @@ module _ (r : Resolution) where
   name_array (named.Field t) h = absurd (no_variable (declaration_at r t) h)
   name_array named.Known h = absurd (false≢true h)
 
-  field_name : (s : Span) (e : Expression) (v : Access) (n : Identifier) (k : Kind) → HasType r (tree.field s e v n) k → (t : ℕ) × (named_at r n.site.token ≡ named.Field t)
+  field_name : (s : Span) (e : Expression) (v : FieldOperator) (n : Identifier) (k : Kind) → HasType r (tree.field s e v n) k → (t : ℕ) × (named_at r n.site.token ≡ named.Field t)
   field_name s e _ n _ (a_field {d = d} t h is) = (d.name.site.token, is)
   field_name s e _ n _ (a_field_behind {d = d} t h is) = (d.name.site.token, is)
 

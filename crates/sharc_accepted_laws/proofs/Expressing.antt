@@ -1,7 +1,7 @@
 -- The rows of expressions and of what is declared: how many targets they have, and that the first one's shape is one of the program.
 use Rattle.std.proofs.{Common.{◌≡◌, ℕ, zero, suc, ◌+◌, ◌-◌, ◌<◌, ◌≤◌, ◌==◌, eqb-true, Bool, true, false, cond, List, [], ◌∷◌, length, map, take, drop, refl, ap, sym, ◌∙◌, subst, arith, Option, Some, None, Contains, bytes_eq}, lemmas.Bool.eqb-false}
 use Rattle.std.specs.List.{AllByRecursion}
-use Rattle.sharc_tree.specs.{declared.ctype.Base.Base, declared.ctype.Mode.Mode, declared.tree.declaration.Declaration.Declaration, declared.tree.declaration.WrittenType.WrittenType, declared.tree.declaration.Identifier.Identifier, declared.tree.expression.Access.TheVariants.{Dot, Arrow}, declared.tree.expression.Constant.Constant, declared.tree.expression.Constant.TheVariants.{Number, Character, Null}, declared.token.NumberType.NumberType, declared.tree.item.GlobalDefinition.GlobalDefinition, declared.tree.item.GlobalForm.GlobalForm, declared.tree.item.GlobalForm.TheVariants.{Plain, Array, Initial}, declared.tree.item.StructDefinition.StructDefinition, Measures.{expressions, in_function}, Tree.{Expression, Function}}
+use Rattle.sharc_tree.specs.{declared.ctype.Base.Base, declared.ctype.Mode.Mode, declared.tree.declaration.Declaration.Declaration, declared.tree.declaration.WrittenType.WrittenType, declared.tree.declaration.Identifier.Identifier, declared.tree.expression.FieldOperator.TheVariants.{Dot, Arrow}, declared.tree.expression.Constant.Constant, declared.tree.expression.Constant.TheVariants.{Number, Character, Null}, declared.token.NumberType.NumberType, declared.tree.item.GlobalDefinition.GlobalDefinition, declared.tree.item.GlobalForm.GlobalForm, declared.tree.item.GlobalForm.TheVariants.{Plain, Array, Initial}, declared.tree.item.StructDefinition.StructDefinition, Measures.{expressions, in_function}, Tree.{Expression, Function}}
 use Rattle.sharc_tree.specs.declared.token.NumberType.TheVariants as number_type
 use Rattle.sharc_names.specs.declared.fault.Named.TheVariants as named
 use Rattle.sharc_names.specs.{declared.types.Role.Role, Kinds.{Kind, object, array, is_array, declared_kind, int}, Names.{global_kind, field_of}}
@@ -10,7 +10,7 @@ use Rattle.sharc_names.specs.Kinds as kinds
 use Rattle.sharc_ctype.specs.{declared.entity.Entity.Entity, declared.entity.Numbered.Numbered, Entities.{declared, cast_entity, result_of, entities_in, entity_at, positions_of, first_depth}, Expressions.{constant_kind, number_kind}, Resolved.{Resolution, named_at, declaration_at, globals_in, functions_in, structs_in, kind_at}}
 use Rattle.sharc_ctype_laws.specs.{Constraints.{Callee, of_program, of_conditions, Common, both_shorter, left_long, right_long, HasType, struct_named, IsMemberOf}, Found.{IsFound, EachTypeFound}, Laws.{MeetsConstraints, OneType}}
 use Rattle.sharc_ctype_laws.specs.Constraints as typing
-use Rattle.sharc_mode.specs.{Moded.{Assignment, position_count}, Notes.base_of, Rows.{Reading, written, Targets, no_row, deeper, targets_from, entity_row, declared_row, global_row, named_row, result_row, called_row, behind, constant_row, reading_through, base_use, row_at, modes_of}}
+use Rattle.sharc_mode.specs.{Moded.{Assignment, position_count}, Notes.base_of, Rows.{PathReading, written, Targets, no_row, deeper, targets_from, entity_row, declared_row, global_row, named_row, result_row, called_row, behind, constant_row, reading_through, base_use, row_at, modes_of}}
 use Rattle.sharc_mode_laws.specs.Constructs.{IsEntity}
 use Rattle.sharc_accepted_laws.specs.{TargetLaws.{IsRowOf, ExpressionsFound, VariablesFound, ResultsFound}, Shapes.{Form, form_of, row_shape, shapes, stars_in}}
 use Rattle.sharc_accepted_laws.proofs.{Fits.entity_there, TargetForms.{mode_form, row_forms, row_length, same_forms}, Found.{IsThere, is_there, field_found, global_found}, TargetLists.place_there, Numbers.shapes_closed, Settling.{positioned, dropped_length}, TargetWalk.{CastFound, declaration_found, function_casts, function_closed, result_found}}
@@ -28,10 +28,10 @@ closed_at m b f [] some has = absurd (omega (arith, some))
 closed_at m b f (g ∷ below) some has = shapes_closed m b f g below has
 
 module _ (m : Assignment) where
-  abbrev made : ℕ → ℕ → Reading → Targets
+  abbrev made : ℕ → ℕ → PathReading → Targets
   made first count how = record { first = first; count = count; reading = how }
 
-  deeper_by : (b : Base) (n first count : ℕ) (how : Reading) → count ≡ n + 1 → IsRowOf m (object b (n + 1)) (made first count how) → IsRowOf m (object b n) (made (first + 1) (count - 1) how)
+  deeper_by : (b : Base) (n first count : ℕ) (how : PathReading) → count ≡ n + 1 → IsRowOf m (object b (n + 1)) (made first count how) → IsRowOf m (object b n) (made (first + 1) (count - 1) how)
   deeper_by b n first count how many w =
       let ends = w.ends in
       record {
@@ -69,7 +69,7 @@ module _ (m : Assignment) where
   record IsPart (n : Numbered) : Type 0 where
     first : ℕ
     count : ℕ
-    is : (how : Reading) → entity_row how (Some n) ≡ record { first = first; count = count; reading = how }
+    is : (how : PathReading) → entity_row how (Some n) ≡ record { first = first; count = count; reading = how }
     ends : first + count ≤ length m.modes
     many : count ≡ length n.entity.written.ctype.levels - 1
 
@@ -82,7 +82,7 @@ module _ (m : Assignment) where
       counted : positions_of n.entity ≡ length n.entity.written.ctype.levels - first_depth n.entity.role
       counted = dropped_length (first_depth n.entity.role) n.entity.written.ctype.levels
 
-      plain : (w : Role) → n.entity.role ≡ w → first_depth w ≡ 1 → ((how : Reading) → targets_from w (made n.first (positions_of n.entity) how) ≡ made n.first (positions_of n.entity) how) → IsPart n
+      plain : (w : Role) → n.entity.role ≡ w → first_depth w ≡ 1 → ((how : PathReading) → targets_from w (made n.first (positions_of n.entity) how) ≡ made n.first (positions_of n.entity) how) → IsPart n
       plain w e depth is =
           let size = counted in
           let same : first_depth n.entity.role ≡ 1 = ap first_depth e ∙ depth in
@@ -126,7 +126,7 @@ module _ (m : Assignment) where
     abbrev r : Resolution
     r = m.typed
 
-    entity_row_of : (n : Numbered) → IsEntity m n → (how : Reading) → IsRowOf m (declared_kind n.entity.written) (entity_row how (Some n))
+    entity_row_of : (n : Numbered) → IsEntity m n → (how : PathReading) → IsRowOf m (declared_kind n.entity.written) (entity_row how (Some n))
     entity_row_of n is_entity how = subst (IsRowOf m (declared_kind n.entity.written)) (sym (p.is how)) (record { ends = p.ends; count = p.many; there = there })
       where
         p : IsPart n
@@ -142,13 +142,13 @@ module _ (m : Assignment) where
             subst (λ fs. Contains (shapes m) (record { base = n.entity.written.ctype.base; forms = fs })) (ap (λ row. map form_of (modes_of m row)) (p.is written) ∙ same_forms m p.first p.count written how)
             (entity_there m n is_entity (many some))
 
-    there_row : (e : Entity) → IsThere m e → (how : Reading) → IsRowOf m (declared_kind e.written) (entity_row how (entity_at r e.token e.last))
+    there_row : (e : Entity) → IsThere m e → (how : PathReading) → IsRowOf m (declared_kind e.written) (entity_row how (entity_at r e.token e.last))
     there_row e t how =
         subst (λ o. IsRowOf m (declared_kind e.written) (entity_row how o)) (sym t.found)
         (subst (λ (w : WrittenType). IsRowOf m (declared_kind w) (entity_row how (Some t.numbered))) t.written (entity_row_of t.numbered t.is_entity how))
 
     -- ---- what is declared
-    pub variable_row : (token : ℕ) (d : Declaration) → declaration_at r token ≡ Some d → (how : Reading) → IsRowOf m (declared_kind d.written) (declared_row r how token)
+    pub variable_row : (token : ℕ) (d : Declaration) → declaration_at r token ≡ Some d → (how : PathReading) → IsRowOf m (declared_kind d.written) (declared_row r how token)
     variable_row token d is how =
         let w = declaration_found r all token d is in
         subst (λ t. IsRowOf m (declared_kind d.written) (declared_row r how t)) w.token_is
@@ -157,7 +157,7 @@ module _ (m : Assignment) where
     pub function_row : (f : Function) → Contains (functions_in r.program.items) f → IsRowOf m (declared_kind f.result) (declared_row r written f.name.site.token)
     function_row f has = there_row (result_of f) (is_there m (result_of f) (result_found r all f has)) written
 
-    global_row_of : (g : GlobalDefinition) → Contains (globals_in r.program.items) g → (how : Reading) → IsRowOf m (global_kind g.form (declared_kind g.declaration.written)) (declared_row r how g.declaration.name.site.token)
+    global_row_of : (g : GlobalDefinition) → Contains (globals_in r.program.items) g → (how : PathReading) → IsRowOf m (global_kind g.form (declared_kind g.declaration.written)) (declared_row r how g.declaration.name.site.token)
     global_row_of g has how = by g.form
       where
         plain : IsRowOf m (declared_kind g.declaration.written) (declared_row r how g.declaration.name.site.token)
@@ -185,7 +185,7 @@ module _ (m : Assignment) where
         by true is more = subst (λ z. Contains (x ∷ rest) z) (same_some x d is) (head_there x rest)
         by false is more = tail_there x d rest (more is)
 
-    member_row : (x name : List ℕ) (d : Declaration) (token : ℕ) (how : Reading) → IsMemberOf r x name d → named_at r token ≡ named.Field d.name.site.token → IsRowOf m (declared_kind d.written) (named_row r how (named_at r token))
+    member_row : (x name : List ℕ) (d : Declaration) (token : ℕ) (how : PathReading) → IsMemberOf r x name d → named_at r token ≡ named.Field d.name.site.token → IsRowOf m (declared_kind d.written) (named_row r how (named_at r token))
     member_row x name d token how (s, is_struct, is_field) names =
         subst (λ w. IsRowOf m (declared_kind d.written) (named_row r how w)) (sym names)
         (there_row (declared role.Field d) (field_found m all s d (struct_there (structs_in r.program.items) x s is_struct) (member_there s.fields name d is_field)) how)

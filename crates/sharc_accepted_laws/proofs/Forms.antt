@@ -1,6 +1,6 @@
 -- What the types of C11 say of the parts of an expression.
 use Rattle.std.proofs.{Common.{◌≡◌, ℕ, zero, suc, ◌+◌, ◌==◌, ◌||◌, ◌&&◌, Bool, true, false, List, [], ◌∷◌, refl, ap, sym, ◌∙◌, arith, lt-ltb, eqb-true, Some}, lemmas.Bool.{false≢true, and_parts, or_left}}
-use Rattle.sharc_tree.specs.{declared.ctype.Base.Base, declared.token.Span.Span, declared.tree.declaration.Identifier.Identifier, declared.tree.declaration.WrittenType.WrittenType, declared.tree.expression.Access.TheVariants.Arrow, declared.tree.expression.PlaceCall.TheVariants.{Lock, Unlock, Free}, declared.tree.expression.UnaryOperator.TheVariants.Dereference, declared.tree.item.GlobalForm.GlobalForm, Forms.is_lvalue, Tree.{Expression, call, spawn, on_place, cast, index, field, unary, Arguments, no_arguments, argument, Function}}
+use Rattle.sharc_tree.specs.{declared.ctype.Base.Base, declared.token.Span.Span, declared.tree.declaration.Identifier.Identifier, declared.tree.declaration.WrittenType.WrittenType, declared.tree.expression.FieldOperator.TheVariants.Arrow, declared.tree.expression.PlaceCall.TheVariants.{Lock, Unlock, Free}, declared.tree.expression.UnaryOperator.TheVariants.Dereference, declared.tree.item.GlobalForm.GlobalForm, Forms.is_lvalue, Tree.{Expression, call, spawn, on_place, cast, index, field, unary, Arguments, no_arguments, argument, Function}}
 use Rattle.sharc_tree.specs.declared.ctype.Base.TheVariants as base
 use Rattle.sharc_tree.specs.declared.tree.item.GlobalForm.TheVariants as forms
 use Rattle.sharc_names.specs.declared.fault.Named.TheVariants as named

@@ -1,7 +1,7 @@
 -- Lock paths lead through variables that are held: constant ones, by M4, of which nothing takes the reference, by M10.
 use Rattle.std.proofs.{Common.{◌≡◌, inl, inr, ℕ, ◌<◌, ◌==◌, Bool, true, false, cond, ◌&&◌, ◌||◌, not, List, [], ◌∷◌, refl, ap, sym, ◌∙◌, subst, option_to_list, eqb-true, Option, Some, None, is_some, Contains}, lemmas.Bool.{false≢true, and_from, and_left as constant_not}}
 use Rattle.std.specs.List.{AllByRecursion, list_any}
-use Rattle.sharc_tree.specs.{declared.ctype.Mode.TheVariants.Locked, declared.ctype.Path.Path, declared.token.Span.Span, declared.tree.declaration.Identifier.Identifier, declared.tree.expression.Access.Access, declared.tree.expression.PlaceCall.TheVariants.{Lock as LockCall, Unlock, Free}, Forms.without_parentheses, Measures.{expressions, in_function}, Tree.{Expression, Right, Function}}
+use Rattle.sharc_tree.specs.{declared.ctype.Mode.TheVariants.Locked, declared.ctype.Path.Path, declared.token.Span.Span, declared.tree.declaration.Identifier.Identifier, declared.tree.expression.FieldOperator.FieldOperator, declared.tree.expression.PlaceCall.TheVariants.{Lock as LockCall, Unlock, Free}, Forms.without_parentheses, Measures.{expressions, in_function}, Tree.{Expression, Right, Function}}
 use Rattle.sharc_tree.specs.Tree as tree
 use Rattle.sharc_names.specs.declared.fault.Named.{Named}
 use Rattle.sharc_names.specs.declared.fault.Named.TheVariants as named
@@ -104,10 +104,10 @@ module _ (rules : RulesAreMet) (m : Assignment) (a : IsAccepted m) where
       let at = place_of_element n.entity.written.ctype.levels (Some (Locked path)) has in
       held_by x (allowed n.entity at.0 path (((rules m).0 a.well).m4.forms n at.0 path is at.1) x h) (is_written is has (object (lock_of path) x h))
 
-  use_constant : (w : Access) (e : Expression) (x : ℕ) → IsThroughConstant m.typed w e x → is_constant m.typed x ≡ true
+  use_constant : (w : FieldOperator) (e : Expression) (x : ℕ) → IsThroughConstant m.typed w e x → is_constant m.typed x ≡ true
   use_constant _ _ x (through names constant) = constant
 
-  makes : (e : Expression) (w : Access) (at : ℕ) (used : IsSiblingUse m e w) → base_use m.typed w e ≡ Some at → HeldBy (record { first = at; second = Some (text_at m.typed used.lock.first) })
+  makes : (e : Expression) (w : FieldOperator) (at : ℕ) (used : IsSiblingUse m e w) → base_use m.typed w e ≡ Some at → HeldBy (record { first = at; second = Some (text_at m.typed used.lock.first) })
   makes e w at used is x h =
       let t = is_use m.typed w e at x is (object (record { first = at; second = Some (text_at m.typed used.lock.first) }) x h) in
       held_by x (use_constant w e x t) (is_made used t)

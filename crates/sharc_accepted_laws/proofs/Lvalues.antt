@@ -1,7 +1,7 @@
 -- Each lvalue that is no struct names a variable, or a cell that the table has with its content and its mode.
 use Rattle.std.proofs.{Common.{◌≡◌, inl, inr, ℕ, zero, suc, ◌+◌, ◌-◌, ◌<◌, ◌≤◌, true, false, cond, ◌&&◌, eq-eqb, List, [], ◌∷◌, ◌++◌, length, map, take, drop, slice_index_or, refl, ap, sym, ◌∙◌, subst, arith, Option, Some, None, Contains}, lemmas.Bool.{true≢false, lt-ltb, ne_eqb}}
 use Rattle.std.specs.Prelude.{option_map}
-use Rattle.sharc_tree.specs.{declared.ctype.Base.Base, declared.ctype.Mode.Mode, declared.ctype.Path.Path, declared.tree.declaration.Declaration.Declaration, declared.tree.declaration.Identifier.Identifier, declared.tree.expression.Access.TheVariants.{Dot, Arrow}, declared.tree.expression.Constant.TheVariants.{Number, Character, Null}, declared.tree.expression.UnaryOperator.TheVariants.Dereference, declared.tree.item.GlobalDefinition.GlobalDefinition, declared.tree.item.GlobalForm.GlobalForm, declared.tree.item.StructDefinition.StructDefinition, Measures.{expressions, in_arguments}, Tree.Expression}
+use Rattle.sharc_tree.specs.{declared.ctype.Base.Base, declared.ctype.Mode.Mode, declared.ctype.Path.Path, declared.tree.declaration.Declaration.Declaration, declared.tree.declaration.Identifier.Identifier, declared.tree.expression.FieldOperator.TheVariants.{Dot, Arrow}, declared.tree.expression.Constant.TheVariants.{Number, Character, Null}, declared.tree.expression.UnaryOperator.TheVariants.Dereference, declared.tree.item.GlobalDefinition.GlobalDefinition, declared.tree.item.GlobalForm.GlobalForm, declared.tree.item.StructDefinition.StructDefinition, Measures.{expressions, in_arguments}, Tree.Expression}
 use Rattle.sharc_tree.specs.declared.ctype.Base.TheVariants as base
 use Rattle.sharc_tree.specs.declared.ctype.Mode.TheVariants as mode
 use Rattle.sharc_tree.specs.declared.token.NumberType.TheVariants as number_type
@@ -13,7 +13,7 @@ use Rattle.sharc_names.specs.Kinds as kinds
 use Rattle.sharc_ctype.specs.{Expressions.{constant_kind, number_kind}, Resolved.{Resolution, named_at, named_kind, declaration_at, global_at, kind_at, structs_in}}
 use Rattle.sharc_ctype_laws.specs.Constraints.{HasType, Common, both_shorter, left_long, right_long, struct_named, IsMemberOf, Callee, of_program, of_conditions}
 use Rattle.sharc_ctype_laws.specs.Constraints as typing
-use Rattle.sharc_mode.specs.{Cells.{is_mutex_kind, top_of, field_cell, first_of, pointed, named_cell, global_cell, declared_cell, field_named, cell_at}, Moded.Assignment, Notes.base_of, Rows.{Reading, written, Targets, constant_row, deeper, declared_row, global_row, named_row, reading_through, base_use, behind, row_at, read, modes_of, modes_at}, Sharings.{Lock, Sharing, locked, lock_of, sharing_of}}
+use Rattle.sharc_mode.specs.{Cells.{is_mutex_kind, top_of, field_cell, first_of, pointed, named_cell, global_cell, declared_cell, field_named, cell_at}, Moded.Assignment, Notes.base_of, Rows.{PathReading, written, Targets, constant_row, deeper, declared_row, global_row, named_row, reading_through, base_use, behind, row_at, read, modes_of, modes_at}, Sharings.{Lock, Sharing, locked, lock_of, sharing_of}}
 use Rattle.sharc_mode.specs.Sharings as sharings
 use Rattle.sharc_mode_laws.specs.Constructs.{IsExpression}
 use Rattle.sharc_meaning.specs.Cells.{field_place, field_place_named}
@@ -56,7 +56,7 @@ record IsRow (m : Assignment) (row : Targets) : Type 0 where
   modes : modes_of m row ≡ first ∷ below
   deep : modes_of m (deeper row) ≡ below
 
-row_by : (m : Assignment) (first count n : ℕ) (how : Reading) → count ≡ suc n → first + count ≤ length m.modes → IsRow m (record { first = first; count = count; reading = how })
+row_by : (m : Assignment) (first count n : ℕ) (how : PathReading) → count ≡ suc n → first + count ≤ length m.modes → IsRow m (record { first = first; count = count; reading = how })
 row_by m first count n how many ends =
     let f : Mode → Sharing = λ x. read m.typed how (sharing_of x) in
     let w = tail_of f n first m.modes (omega (arith, many, ends)) in
@@ -120,7 +120,7 @@ pub record AreReady (m : Assignment) : Type 0 where
   pub field_itself : (s : StructDefinition) (d : Declaration) → Contains (structs_in m.typed.program.items) s → Contains s.fields d → declaration_at m.typed d.name.site.token ≡ Some d
   pub field_path : (s : StructDefinition) (d : Declaration) → Contains (structs_in m.typed.program.items) s → Contains s.fields d → (path : Path) → top_of d.written.ctype.levels ≡ Some (mode.Locked path) → PathNames m.typed (lock_of path)
   pub field_plain : (s : StructDefinition) (d : Declaration) → Contains (structs_in m.typed.program.items) s → Contains s.fields d → is_struct_behind 0 (declared_kind d.written) ≡ false
-  pub field_forms : (how : Reading) (token : ℕ) → map form_of (modes_of m (declared_row m.typed how token)) ≡ map form_of (modes_of m (declared_row m.typed written token))
+  pub field_forms : (how : PathReading) (token : ℕ) → map form_of (modes_of m (declared_row m.typed how token)) ≡ map form_of (modes_of m (declared_row m.typed written token))
   pub global_path : (g : ℕ) (d : GlobalDefinition) → global_at m.typed g ≡ Some d → (l : Lock) → global_cell m (Some d) ≡ locked l → (k : ℕ) × (named_at m.typed l.first ≡ named.Global k) × (named_kind m.typed (named.Global k) ≡ kinds.mutex)
 
 module _ (m : Assignment) (ready : AreReady m) where
@@ -315,7 +315,7 @@ module _ (m : Assignment) (ready : AreReady m) where
           })
 
   -- ---- a field
-  member_fits : (e : Expression) (n : ℕ) (modes : List Sharing) (q : Sharing) (Q : FieldMode) (s : StructDefinition) (d : Declaration) (how : Reading) → Contains (structs_in r.program.items) s → Contains s.fields d
+  member_fits : (e : Expression) (n : ℕ) (modes : List Sharing) (q : Sharing) (Q : FieldMode) (s : StructDefinition) (d : Declaration) (how : PathReading) → Contains (structs_in r.program.items) s → Contains s.fields d
       → kind_at r e ≡ declared_kind d.written → row_at r e ≡ Some (declared_row r how d.name.site.token) → cell_at m e ≡ field_cell r q d.written → ModeFits r n modes q Q → is_private_mode Q ≡ sharings.is_private q
       → cell_locks m e ≡ field_locks r n (modes_of m (declared_row r written d.name.site.token)) → FieldFits m e n modes (member m Q n d)
   member_fits e n modes q Q s d how is_struct is_member kind row cell fit both told = record {
@@ -345,7 +345,7 @@ module _ (m : Assignment) (ready : AreReady m) where
   no_targets b first (y ∷ rest) none = absurd (omega (arith, none))
 
   -- behind a pointer
-  behind_member : (e p : Expression) (x : List ℕ) (s : StructDefinition) (d : Declaration) (how : Reading) → pointer_of r e ≡ Some p → IsExpression m p → (w : IsPointee p (base.Struct x) 0) → struct_named (structs_in r.program.items) x ≡ Some s → Contains s.fields d
+  behind_member : (e p : Expression) (x : List ℕ) (s : StructDefinition) (d : Declaration) (how : PathReading) → pointer_of r e ≡ Some p → IsExpression m p → (w : IsPointee p (base.Struct x) 0) → struct_named (structs_in r.program.items) x ≡ Some s → Contains s.fields d
       → kind_at r e ≡ declared_kind d.written → row_at r e ≡ Some (declared_row r how d.name.site.token) → cell_at m e ≡ field_cell r (pointed m (Some w.row)) d.written
       → cell_locks m e ≡ field_locks r (field_place r d.name.site.token) (modes_of m (declared_row r written d.name.site.token)) → IsBehindPointer m e (field_place r d.name.site.token)
   behind_member e p x s d how leads stands w struct member_is kind row cell told =
@@ -368,7 +368,7 @@ module _ (m : Assignment) (ready : AreReady m) where
       }
 
   -- of an element of a global
-  file_member : (e : Expression) (g : ℕ) (f : GlobalDefinition) (x : List ℕ) (s : StructDefinition) (d : Declaration) (how : Reading) → global_at r g ≡ Some f → declared_kind f.declaration.written ≡ object (base.Struct x) 0 → struct_named (structs_in r.program.items) x ≡ Some s
+  file_member : (e : Expression) (g : ℕ) (f : GlobalDefinition) (x : List ℕ) (s : StructDefinition) (d : Declaration) (how : PathReading) → global_at r g ≡ Some f → declared_kind f.declaration.written ≡ object (base.Struct x) 0 → struct_named (structs_in r.program.items) x ≡ Some s
       → Contains s.fields d → kind_at r e ≡ declared_kind d.written → row_at r e ≡ Some (declared_row r how d.name.site.token) → cell_at m e ≡ field_cell r (global_cell m (Some f)) d.written
       → cell_locks m e ≡ field_locks r (field_place r d.name.site.token) (modes_of m (declared_row r written d.name.site.token)) → IsInFile m e g (field_place r d.name.site.token)
   file_member e g f x s d how found declared_is struct member_is kind row cell told =

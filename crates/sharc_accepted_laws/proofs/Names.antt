@@ -1,7 +1,7 @@
 -- The lock paths of the types of expressions and declarations are ones that the program names.
 use Rattle.std.proofs.Common.{◌≡◌, inl, inr, ℕ, true, List, [], ◌∷◌, refl, ap, subst, Option, Some, None, Contains}
 use Rattle.std.specs.List.{AllByRecursion}
-use Rattle.sharc_tree.specs.{declared.ctype.Mode.TheVariants.Locked, declared.ctype.Path.Path, declared.token.Span.Span, declared.tree.declaration.Identifier.Identifier, declared.tree.expression.Access.Access, Forms.without_parentheses, Tree.{Expression, Function}}
+use Rattle.sharc_tree.specs.{declared.ctype.Mode.TheVariants.Locked, declared.ctype.Path.Path, declared.token.Span.Span, declared.tree.declaration.Identifier.Identifier, declared.tree.expression.FieldOperator.FieldOperator, Forms.without_parentheses, Tree.{Expression, Function}}
 use Rattle.sharc_tree.specs.Tree as tree
 use Rattle.sharc_names.specs.declared.fault.Named.{Named}
 use Rattle.sharc_names.specs.declared.fault.Named.TheVariants as named
@@ -23,7 +23,7 @@ module _ (m : Assignment) where
   writes : (n : Numbered) → IsEntity m n → (path : Path) → Contains n.entity.written.ctype.levels (Some (Locked path)) → NamedBy (lock_of path)
   writes n is path has x o = is_written is has o
 
-  makes : (a : Expression) (w : Access) (at : ℕ) (used : IsSiblingUse m a w) → base_use m.typed w a ≡ Some at → NamedBy (record { first = at; second = Some (text_at m.typed used.lock.first) })
+  makes : (a : Expression) (w : FieldOperator) (at : ℕ) (used : IsSiblingUse m a w) → base_use m.typed w a ≡ Some at → NamedBy (record { first = at; second = Some (text_at m.typed used.lock.first) })
   makes a w at used is x o = is_made used (is_use m.typed w a at x is o)
 
   turned : (modes : List Sharing) → AllByRecursion (Of m NamedBy writes makes) modes → AllNamed m modes

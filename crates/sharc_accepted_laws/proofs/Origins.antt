@@ -1,14 +1,14 @@
 -- Where the lock paths of the types of expressions and declarations come from: what is written, and uses of fields through constant variables.
 use Rattle.std.proofs.{Common.{◌≡◌, ⊎_elim, ℕ, ◌+◌, ◌-◌, ◌==◌, Bool, true, false, cond, List, [], ◌∷◌, map, refl, ap, sym, ◌∙◌, subst, option_map, Option, Some, None, Contains}, lemmas.Bool.false≢true}
 use Rattle.std.specs.List.{AllByRecursion}
-use Rattle.sharc_tree.specs.{declared.ctype.Mode.Mode, declared.ctype.Mode.TheVariants.{Private, Readonly, Locked, Racy, Dynamic}, declared.ctype.Path.Path, declared.token.Span.Span, declared.tree.declaration.Identifier.Identifier, declared.tree.expression.Access.Access, declared.tree.expression.Access.TheVariants.{Dot, Arrow}, declared.tree.expression.UnaryOperator.TheVariants.{Negate, Not, Complement, Dereference}, declared.tree.item.GlobalDefinition.GlobalDefinition, Measures.expressions, Tree.{Expression, Function}}
+use Rattle.sharc_tree.specs.{declared.ctype.Mode.Mode, declared.ctype.Mode.TheVariants.{Private, Readonly, Locked, Racy, Dynamic}, declared.ctype.Path.Path, declared.token.Span.Span, declared.tree.declaration.Identifier.Identifier, declared.tree.expression.FieldOperator.FieldOperator, declared.tree.expression.FieldOperator.TheVariants.{Dot, Arrow}, declared.tree.expression.UnaryOperator.TheVariants.{Negate, Not, Complement, Dereference}, declared.tree.item.GlobalDefinition.GlobalDefinition, Measures.expressions, Tree.{Expression, Function}}
 use Rattle.sharc_tree.specs.declared.tree.expression.Constant.TheVariants as constants
 use Rattle.sharc_tree.specs.Tree as tree
 use Rattle.sharc_names.specs.{declared.fault.Named.Named, declared.types.Role.Role, Kinds.is_array}
 use Rattle.sharc_names.specs.declared.fault.Named.TheVariants as named
 use Rattle.sharc_names.specs.declared.types.Role.TheVariants as role
 use Rattle.sharc_ctype.specs.{declared.entity.Numbered.Numbered, Entities.{entities_in, numbered, is_told_by, entity_at}, Constants.is_constant, Resolved.{Resolution, named_at, global_at, function_at, kind_at}}
-use Rattle.sharc_mode.specs.{Flows.IsLeastAssignment, Moded.Assignment, Rows.{Reading, written, through, Targets, is_constant_named, base_use, read, deeper, targets_from, entity_row, global_row, named_row, result_row, called_row, behind, reading_through, row_at, modes_of, modes_at}, Sharings.{Lock, Sharing, private, readonly, locked, racy, dynamic, lock_of, sharing_of, text_at, is_sibling_lock, object_named}}
+use Rattle.sharc_mode.specs.{Flows.IsLeastAssignment, Moded.Assignment, Rows.{PathReading, written, through, Targets, is_constant_named, base_use, read, deeper, targets_from, entity_row, global_row, named_row, result_row, called_row, behind, reading_through, row_at, modes_of, modes_at}, Sharings.{Lock, Sharing, private, readonly, locked, racy, dynamic, lock_of, sharing_of, text_at, is_sibling_lock, object_named}}
 use Rattle.sharc_mode_laws.specs.{Constructs.{IsExpression, IsEntity}, Paths.{IsThroughConstant, through as through_constant, IsSiblingUse}}
 use Rattle.sharc_accepted_laws.proofs.Written.{raw, deeper_raw, row_good, found_there}
 use Rattle.sharc_lemmas.proofs.{Options.{same_some, none_some}, Lists.{front, head_there, head_or_tail, to_each, tail_there}, Equal.none_there}
@@ -38,7 +38,7 @@ level_written : (n : Numbered) (level : Option Mode) → Contains n.entity.writt
 level_written n None has = tt
 level_written n (Some mode) has = λ path is. subst (λ z. Contains n.entity.written.ctype.levels (Some z)) is has
 
-row_written : (m : Assignment) → IsLeastAssignment m → (how : Reading) (n : Numbered) → IsEntity m n → AllByRecursion (WrittenIn n) (raw m (entity_row how (Some n)))
+row_written : (m : Assignment) → IsLeastAssignment m → (how : PathReading) (n : Numbered) → IsEntity m n → AllByRecursion (WrittenIn n) (raw m (entity_row how (Some n)))
 row_written m least how n is =
     row_good (WrittenIn n) (no_path n Private private_path) (no_path n Racy racy_path) (no_path n Dynamic dynamic_path) m least how n is
     (to_each (LevelWritten n) n.entity.written.ctype.levels (level_written n))
@@ -60,7 +60,7 @@ reading_kept role.Result row = refl
 reading_kept role.Cast row = refl
 reading_kept role.Made row = refl
 
-pub same_raw : (m : Assignment) (one other : Reading) (where_ : Role) (first count : ℕ)
+pub same_raw : (m : Assignment) (one other : PathReading) (where_ : Role) (first count : ℕ)
     → raw m (targets_from where_ (record { first = first; count = count; reading = one })) ≡ raw m (targets_from where_ (record { first = first; count = count; reading = other }))
 same_raw m one other role.Field first count = refl
 same_raw m one other role.Local first count = refl
@@ -84,7 +84,7 @@ pub both_hold : {A : Type 0} (P Q : A → Type 0) (list : List A) → AllByRecur
 both_hold P Q [] h k = tt
 both_hold P Q (x ∷ rest) h k = ((h.0, k.0), both_hold P Q rest h.1 k.1)
 
-deeper_modes : (m : Assignment) (P : Sharing → Type 0) (how : Reading) (list other : List Mode) → ((Q : Mode → Type 0) → AllByRecursion Q list → AllByRecursion Q other) → AllByRecursion P (map (λ mode. read m.typed how (sharing_of mode)) list) → AllByRecursion P (map (λ mode. read m.typed how (sharing_of mode)) other)
+deeper_modes : (m : Assignment) (P : Sharing → Type 0) (how : PathReading) (list other : List Mode) → ((Q : Mode → Type 0) → AllByRecursion Q list → AllByRecursion Q other) → AllByRecursion P (map (λ mode. read m.typed how (sharing_of mode)) list) → AllByRecursion P (map (λ mode. read m.typed how (sharing_of mode)) other)
 deeper_modes m P how list other less h = to other (less (λ mode. P (read m.typed how (sharing_of mode))) (from list h))
   where
     from : (xs : List Mode) → AllByRecursion P (map (λ mode. read m.typed how (sharing_of mode)) xs) → AllByRecursion (λ mode. P (read m.typed how (sharing_of mode))) xs
@@ -131,14 +131,14 @@ use_of r s i at x true is h o = by (named_at r i.site.token) refl is (ap (λ z. 
     by (named.Field n) names constant k = absurd (false≢true constant)
     by named.Known names constant k = absurd (false≢true constant)
 
-pub is_use : (r : Resolution) (w : Access) (a : Expression) (at x : ℕ) → base_use r w a ≡ Some at → object_named r (named_at r at) ≡ Some x → IsThroughConstant r w a x
+pub is_use : (r : Resolution) (w : FieldOperator) (a : Expression) (at x : ℕ) → base_use r w a ≡ Some at → object_named r (named_at r at) ≡ Some x → IsThroughConstant r w a x
 is_use r Dot a at x h o = absurd (none_some at h)
 is_use r Arrow (tree.identifier s i) at x h o = use_of r s i at x (is_constant_named r (named_at r i.site.token)) refl h o
 is_use r Arrow _ at x h o = absurd (none_some at h)
 
 -- What holds of the paths that are written in types, and of those that the uses of fields make, holds of those of the types of expressions and declarations.
 module _ (m : Assignment) (Q : Lock → Type 0) (writes : (n : Numbered) → IsEntity m n → (path : Path) → Contains n.entity.written.ctype.levels (Some (Locked path)) → Q (lock_of path))
-    (makes : (a : Expression) (w : Access) (at : ℕ) (used : IsSiblingUse m a w) → base_use m.typed w a ≡ Some at → Q record { first = at; second = Some (text_at m.typed used.lock.first) }) where
+    (makes : (a : Expression) (w : FieldOperator) (at : ℕ) (used : IsSiblingUse m a w) → base_use m.typed w a ≡ Some at → Q record { first = at; second = Some (text_at m.typed used.lock.first) }) where
   abbrev pub Of : Sharing → Type 0
   Of s = (l : Lock) → s ≡ locked l → Q l
 
@@ -159,11 +159,11 @@ module _ (m : Assignment) (Q : Lock → Type 0) (writes : (n : Numbered) → IsE
   mapped f P each [] h = tt
   mapped f P each (x ∷ rest) h = (each x h.0, mapped f P each rest h.1)
 
-  abbrev shown : Reading → Mode → Sharing
+  abbrev shown : PathReading → Mode → Sharing
   shown how mode = read r how (sharing_of mode)
 
   -- by the modes as they are written
-  by_raw : (P : Mode → Type 0) (how : Reading) → ((mode : Mode) → P mode → Of (shown how mode)) → (row : Targets) → row.reading ≡ how → AllByRecursion P (raw m row) → AllOf (modes_of m row)
+  by_raw : (P : Mode → Type 0) (how : PathReading) → ((mode : Mode) → P mode → Of (shown how mode)) → (row : Targets) → row.reading ≡ how → AllByRecursion P (raw m row) → AllOf (modes_of m row)
   by_raw P how each row is h = subst (λ z. AllOf (map (shown z) (raw m row))) (sym is) (mapped (shown how) P each (raw m row) h)
 
   entity_named : IsLeastAssignment m → (o : Option Numbered) → ((n : Numbered) → o ≡ Some n → IsEntity m n) → AllOf (modes_of m (entity_row written o))
@@ -252,7 +252,7 @@ module _ (m : Assignment) (Q : Lock → Type 0) (writes : (n : Numbered) → IsE
     name_through at (named.Field t) used = found_through least at t t used
     name_through at named.Known used = tt
 
-    field_named : (s : Span) (a : Expression) (w : Access) (name : Identifier) → IsExpression m (tree.field s a w name) → (o : Option ℕ) → base_use r w a ≡ o
+    field_named : (s : Span) (a : Expression) (w : FieldOperator) (name : Identifier) → IsExpression m (tree.field s a w name) → (o : Option ℕ) → base_use r w a ≡ o
         → AllOf (modes_of m (named_row r (reading_through o) (named_at r name.site.token)))
     field_named s a w name stands None is = name_named (named_at r name.site.token)
     field_named s a w name stands (Some at) is =

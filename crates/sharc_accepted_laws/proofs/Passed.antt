@@ -9,7 +9,7 @@ use Rattle.sharc_names.specs.declared.fault.Named.TheVariants as named
 use Rattle.sharc_ctype.specs.{declared.entity.Entity.Entity, declared.entity.Numbered.Numbered, Entities.{entities_in, numbered, numbered_from, positions_of, is_told_by, entity_at}, Resolved.{Resolution, IsResolved, named_at, function_at, functions_in, declaration_at, variable_kind, named_kind, kind_at}, Transfers.{Transfer, variable, passed, parameters_of, parameters_named, function_transfers, IsFair}, Constants.is_constant}
 use Rattle.sharc_ctype_laws.specs.{Found.{IsFound, EachTypeFound}, Laws.{EachNamesItself, AllFair}, WrittenTypes.{FirstNames, a_field, a_variable, a_global, a_function, a_known_call, IsNamedLevel}}
 use Rattle.sharc_meaning.specs.Cells.{field_place_behind}
-use Rattle.sharc_mode.specs.{Moded.Assignment, Notes.base_of, Rows.{Reading, written, at_call, Targets, is_constant_named, constant_use, argument_use, with_base, path_variable, lock_for, read, entity_row, declared_row, modes_of, modes_at}, Sharings.{Lock, Sharing, private, readonly, locked, racy, dynamic, lock_of, sharing_of, variable_named, variable_of, same_all}}
+use Rattle.sharc_mode.specs.{Moded.Assignment, Notes.base_of, Rows.{PathReading, written, at_call, Targets, is_constant_named, constant_use, argument_use, with_base, path_variable, lock_for, read, entity_row, declared_row, modes_of, modes_at}, Sharings.{Lock, Sharing, private, readonly, locked, racy, dynamic, lock_of, sharing_of, variable_named, variable_of, same_all}}
 use Rattle.sharc_mode_laws.specs.{Constructs.{IsEntity, IsExpression, IsCall, called, spawned, an_argument}, Laws.RulesAreMet, Paths.{at_target, is_substituted}}
 use Rattle.sharc_flat.specs.{Scope.{Context, slot_kind}, Suits.{PathNamed, PathStands}}
 use Rattle.sharc_invariant.specs.{Types.{Lock as TypeLock}, Types.Lock.{Global, Through as InRegister}, Labels.{Refers, Label, AllSame}, Typed.{PassesLock, Passes}}
@@ -156,21 +156,21 @@ entity_there s (e ∷ rest) n has =
     ⊎_elim (λ is. subst (λ (z : Numbered). Contains (e ∷ rest) z.entity) is (head_there e rest)) (λ more. tail_there e n.entity rest (entity_there (s + positions_of e) rest n more))
     (head_or_tail record { entity = e; first = s } n (numbered_from (s + positions_of e) rest) has)
 
-row_points : (found : EachTypeFound) (m : Assignment) → IsAccepted m → (how : Reading) (n : Numbered) → IsEntity m n → AllByRecursion (ModePoints m.typed) (raw m (entity_row how (Some n)))
+row_points : (found : EachTypeFound) (m : Assignment) → IsAccepted m → (how : PathReading) (n : Numbered) → IsEntity m n → AllByRecursion (ModePoints m.typed) (raw m (entity_row how (Some n)))
 row_points found m a how n is =
     let f : IsFound m.typed n.entity = of_each (IsFound m.typed) (entities_in m.typed.program.items) n.entity (found m.typed a.resolved a.placed a.low) (entity_there 0 (entities_in m.typed.program.items) n is) in
     row_good (ModePoints m.typed) (λ path e. absurd (private_path path e)) (λ path e. absurd (racy_path path e)) (λ path e. absurd (dynamic_path path e)) m a.least how n is
     (each (IsNamedLevel m.typed) (LevelPoints m.typed) (points m.typed) n.entity.written.ctype.levels f.named.levels)
 
 -- ---- forms
-form_read : (r : Resolution) (how : Reading) (s : Sharing) → form_of (read r how s) ≡ form_of s
+form_read : (r : Resolution) (how : PathReading) (s : Sharing) → form_of (read r how s) ≡ form_of s
 form_read r how private = refl
 form_read r how readonly = refl
 form_read r how (locked l) = refl
 form_read r how racy = refl
 form_read r how dynamic = refl
 
-forms_read : (r : Resolution) (one other : Reading) (list : List Mode) → map form_of (map (λ mode. read r one (sharing_of mode)) list) ≡ map form_of (map (λ mode. read r other (sharing_of mode)) list)
+forms_read : (r : Resolution) (one other : PathReading) (list : List Mode) → map form_of (map (λ mode. read r one (sharing_of mode)) list) ≡ map form_of (map (λ mode. read r other (sharing_of mode)) list)
 forms_read r one other [] = refl
 forms_read r one other (x ∷ rest) =
     ap (λ f. f ∷ map form_of (map (λ mode. read r one (sharing_of mode)) rest)) (form_read r one (sharing_of x) ∙ sym (form_read r other (sharing_of x)))

@@ -2,7 +2,7 @@
 use Rattle.std.proofs.{Common.{◌≡◌, ◌⊎◌, inl, inr, ℕ, zero, suc, Bool, true, false, cond, List, [], ◌∷◌, map, refl, ap, sym, ◌∙◌, subst, arith, lt-ltb, slice_get, option_map, bytes_eq, Option, Some, None}, lemmas.Bool.false≢true}
 use Rattle.std.specs.List.{AllByRecursion}
 use Rattle.sharc_tree.specs.declared.ctype.Base.TheVariants as base
-use Rattle.sharc_tree.specs.{declared.ctype.Mode.Mode, declared.ctype.Mode.TheVariants.{Private, Readonly, Locked, Racy, Dynamic}, declared.ctype.Path.Path, declared.ctype.Path.TheVariants.{One, Through}, declared.token.Span.Span, declared.tree.declaration.Declaration.Declaration, declared.tree.declaration.Identifier.Identifier, declared.tree.expression.Access.Access, declared.tree.expression.UnaryOperator.TheVariants.{Negate, Not, Complement, Dereference}, declared.tree.item.GlobalDefinition.GlobalDefinition, declared.tree.item.StructDefinition.StructDefinition, Measures.{expressions, in_arguments}, Tree.{Expression, Arguments, no_arguments, argument, Function, Item, structure, global, function}}
+use Rattle.sharc_tree.specs.{declared.ctype.Mode.Mode, declared.ctype.Mode.TheVariants.{Private, Readonly, Locked, Racy, Dynamic}, declared.ctype.Path.Path, declared.ctype.Path.TheVariants.{One, Through}, declared.token.Span.Span, declared.tree.declaration.Declaration.Declaration, declared.tree.declaration.Identifier.Identifier, declared.tree.expression.FieldOperator.FieldOperator, declared.tree.expression.UnaryOperator.TheVariants.{Negate, Not, Complement, Dereference}, declared.tree.item.GlobalDefinition.GlobalDefinition, declared.tree.item.StructDefinition.StructDefinition, Measures.{expressions, in_arguments}, Tree.{Expression, Arguments, no_arguments, argument, Function, Item, structure, global, function}}
 use Rattle.sharc_tree.specs.declared.tree.expression.Constant.TheVariants as constants
 use Rattle.sharc_tree.specs.Tree as tree
 use Rattle.sharc_names.specs.{declared.fault.Named.Named, declared.scope.Scope.Scope, Kinds.{Kind, object, is_array, is_pointer}, Names.{Entry, Meaning, field_of, look_up, named_of}}
@@ -11,7 +11,7 @@ use Rattle.sharc_names.specs.declared.types.Role.TheVariants as role
 use Rattle.sharc_names.specs.Names as meaning
 use Rattle.sharc_ctype.specs.{declared.entity.Entity.Entity, declared.entity.Numbered.Numbered, Entities.{declared, cast_entity, casts, result_of, function_entities, entities_in, numbered, is_told_by, entity_at}, Resolved.{Resolution, named_at, declaration_at, global_at, function_at, globals_in, functions_in, structs_in, kind_at, variable_kind}}
 use Rattle.sharc_ctype_laws.specs.{Constraints.{HasType, IsMemberOf, struct_named, a_variable, a_global, a_function, a_field, a_field_behind}, Found.IsFound, Laws.NamesFound, Paths.{meaning_token, IsVariableIn, IsAmong, LevelStands, TypeStands, CastStands, file_types}, Places.{Placing, at}, WrittenTypes.{IsNamedLevel, IsNamedType}}
-use Rattle.sharc_mode.specs.{Flows.IsLeastAssignment, Moded.Assignment, Rows.{Reading, written, through, Targets, is_constant_named, constant_use, base_use, read, entity_row, global_row, named_row, result_row, called_row, behind, reading_through, row_at, modes_of}, Sharings.{locked, lock_of, sharing_of, text_at, is_sibling_lock}}
+use Rattle.sharc_mode.specs.{Flows.IsLeastAssignment, Moded.Assignment, Rows.{PathReading, written, through, Targets, is_constant_named, constant_use, base_use, read, entity_row, global_row, named_row, result_row, called_row, behind, reading_through, row_at, modes_of}, Sharings.{locked, lock_of, sharing_of, text_at, is_sibling_lock}}
 use Rattle.sharc_mode_laws.specs.Constructs.{IsEntity}
 use Rattle.sharc_flat.specs.{Scope.{Context, slot_kind}, Suits.{PathNamed, PathStands, IfThere}}
 use Rattle.sharc_accepted_laws.specs.{Scopes.{AllStand, DeclaredStands}, Standing.{ExpressionStands, ExpressionsStand}}
@@ -92,7 +92,7 @@ module _ (c : Context) where
   levels_here names slots (x ∷ rest) stands is = (level_here names slots x stands.0 is.0, levels_here names slots rest stands.1 is.1)
 
   -- what a reading of a mode leads through stands
-  abbrev Reads : Reading → Type 0
+  abbrev Reads : PathReading → Type 0
   Reads how = (path : Path) → PathHere path → PathStands r c.scope (read r how (locked (lock_of path)))
 
   pub reads_written : Reads written
@@ -105,27 +105,27 @@ module _ (c : Context) where
       by true = variable (text_at r (lock_of path).first)
       by false = h
 
-  one_stands : (how : Reading) → Reads how → (mode : Mode) → ModeHere mode → PathStands r c.scope (read r how (sharing_of mode))
+  one_stands : (how : PathReading) → Reads how → (mode : Mode) → ModeHere mode → PathStands r c.scope (read r how (sharing_of mode))
   one_stands how reads Private h = tt
   one_stands how reads Readonly h = tt
   one_stands how reads (Locked path) h = reads path (h path refl)
   one_stands how reads Racy h = tt
   one_stands how reads Dynamic h = tt
 
-  list_stands : (how : Reading) → Reads how → (list : List Mode) → AllByRecursion ModeHere list → AllStand m c.scope (map (λ mode. read r how (sharing_of mode)) list)
+  list_stands : (how : PathReading) → Reads how → (list : List Mode) → AllByRecursion ModeHere list → AllStand m c.scope (map (λ mode. read r how (sharing_of mode)) list)
   list_stands how reads [] h = tt
   list_stands how reads (x ∷ rest) h = (one_stands how reads x h.0, list_stands how reads rest h.1)
 
   module _ (least : IsLeastAssignment m) where
     -- of a type whose paths stand
-    entity_stands : (names : List Entry) → Slots names → (how : Reading) → Reads how → (n : Numbered) → IsEntity m n → TypeStands r names n.entity.written → IsNamedType r n.entity.written → AllStand m c.scope (modes_of m (entity_row how (Some n)))
+    entity_stands : (names : List Entry) → Slots names → (how : PathReading) → Reads how → (n : Numbered) → IsEntity m n → TypeStands r names n.entity.written → IsNamedType r n.entity.written → AllStand m c.scope (modes_of m (entity_row how (Some n)))
     entity_stands names slots how reads n is stands named_type =
         subst (λ z. AllStand m c.scope (map (λ mode. read r z (sharing_of mode)) (raw m (entity_row how (Some n))))) (sym (reading_kept n.entity.role _))
         (list_stands how reads (raw m (entity_row how (Some n)))
         (row_good ModeHere (λ path e. absurd (private_path path e)) (λ path e. absurd (racy_path path e)) (λ path e. absurd (dynamic_path path e)) m least how n is
         (levels_here names slots n.entity.written.ctype.levels stands named_type.levels)))
 
-    pub found_stands : (names : List Entry) → Slots names → (how : Reading) → Reads how → (e : Entity) → IsFound r e → TypeStands r names e.written → AllStand m c.scope (modes_of m (entity_row how (entity_at r e.token e.last)))
+    pub found_stands : (names : List Entry) → Slots names → (how : PathReading) → Reads how → (e : Entity) → IsFound r e → TypeStands r names e.written → AllStand m c.scope (modes_of m (entity_row how (entity_at r e.token e.last)))
     found_stands names slots how reads e f stands =
         subst (λ o. AllStand m c.scope (modes_of m (entity_row how o))) (sym f.found)
         (entity_stands names slots how reads f.numbered (found_there (is_told_by e.token e.last) (numbered (entities_in r.program.items)) f.numbered f.found)
@@ -135,7 +135,7 @@ module _ (c : Context) where
     no_slots x h = absurd h
 
     -- what is declared in the file names no variables
-    pub file_stands : (how : Reading) → Reads how → (e : Entity) → IsFound r e → TypeStands r [] e.written → AllStand m c.scope (modes_of m (entity_row how (entity_at r e.token e.last)))
+    pub file_stands : (how : PathReading) → Reads how → (e : Entity) → IsFound r e → TypeStands r [] e.written → AllStand m c.scope (modes_of m (entity_row how (entity_at r e.token e.last)))
     file_stands how reads e f stands = found_stands [] no_slots how reads e f stands
 
 -- ---- the file
@@ -262,7 +262,7 @@ module _ (c : Context) (least : IsLeastAssignment c.program) (file : FileKnown c
   a_member : (x name : List ℕ) (d : Declaration) → IsMemberOf r2 x name d → FieldInFile r2 d
   a_member x name d h = field_found (FieldInFile r2) h.0.fields name d (struct_fields (FieldInFile r2) (structs_in r2.program.items) x h.0 file.fields h.1) h.2
 
-  member : (s : Span) (a : Expression) (v : Access) (n : Identifier) (k : Kind) → HasType r2 (tree.field s a v n) k → Member n
+  member : (s : Span) (a : Expression) (v : FieldOperator) (n : Identifier) (k : Kind) → HasType r2 (tree.field s a v n) k → Member n
   member s a _ n _ (a_field {x = x} {d = d} t h is) = record { of = d; field = a_member x n.text d h; names = is }
   member s a _ n _ (a_field_behind {x = x} {d = d} t h is) = record { of = d; field = a_member x n.text d h; names = is }
 
@@ -307,7 +307,7 @@ module _ (c : Context) (least : IsLeastAssignment c.program) (file : FileKnown c
   reads_use (tree.identifier s i) h k t p = reads_if (is_constant_named r2 (named_at r2 i.site.token)) i.site.token (variable_stands s i h k t p (named_at r2 i.site.token) refl)
   reads_use _ h k t p = reads_written c
 
-  reads_base : (s : Span) (a : Expression) (v : Access) (n : Identifier) (k : Kind) → HasType r2 (tree.field s a v n) k → Seen r2 scope a → Reads c (reading_through (base_use r2 v a))
+  reads_base : (s : Span) (a : Expression) (v : FieldOperator) (n : Identifier) (k : Kind) → HasType r2 (tree.field s a v n) k → Seen r2 scope a → Reads c (reading_through (base_use r2 v a))
   reads_base s a _ n _ (a_field t h is) seen = reads_written c
   reads_base s a _ n _ (a_field_behind {x = x} t h is) seen = reads_use a seen (object (base.Struct x) 1) t (lt-ltb 0 1 (omega arith))
 

@@ -2,7 +2,7 @@
 use Rattle.std.proofs.Common.{◌≡◌, ◌⊎◌, inl, inr, ℕ, zero, suc, ◌+◌, ◌-◌, ◌<◌, ◌≤◌, ◌==◌, Bool, true, false, cond, ◌&&◌, List, [], ◌∷◌, ◌++◌, length, map, refl, ap, sym, ◌∙◌, subst, arith, append_assoc, length-append, option_map, Option, Some, None, is_none, Contains}
 use Rattle.std.specs.{Prelude.slice_index_or, List.AllByRecursion}
 use Rattle.sharc_tree.specs.declared.ctype.Base.TheVariants as base
-use Rattle.sharc_tree.specs.{declared.ctype.Mode.Mode, declared.ctype.Mode.TheVariants.{Private, Readonly, Locked, Racy, Dynamic}, declared.ctype.Path.Path, declared.ctype.Path.TheVariants.{One, Through as PathThrough}, declared.token.Span.Span, declared.tree.declaration.Declaration.Declaration, declared.tree.declaration.Identifier.Identifier, declared.tree.expression.Access.Access, declared.tree.expression.Access.TheVariants.{Dot, Arrow}, declared.tree.expression.UnaryOperator.TheVariants.{Negate, Not, Complement, Dereference}, declared.tree.item.GlobalDefinition.GlobalDefinition, Measures.{expressions, in_function}, Tree.{Expression, Function}}
+use Rattle.sharc_tree.specs.{declared.ctype.Mode.Mode, declared.ctype.Mode.TheVariants.{Private, Readonly, Locked, Racy, Dynamic}, declared.ctype.Path.Path, declared.ctype.Path.TheVariants.{One, Through as PathThrough}, declared.token.Span.Span, declared.tree.declaration.Declaration.Declaration, declared.tree.declaration.Identifier.Identifier, declared.tree.expression.FieldOperator.FieldOperator, declared.tree.expression.FieldOperator.TheVariants.{Dot, Arrow}, declared.tree.expression.UnaryOperator.TheVariants.{Negate, Not, Complement, Dereference}, declared.tree.item.GlobalDefinition.GlobalDefinition, Measures.{expressions, in_function}, Tree.{Expression, Function}}
 use Rattle.sharc_tree.specs.Tree as tree
 use Rattle.sharc_names.specs.{declared.fault.Named.Named, Kinds.{Kind, object, is_array}}
 use Rattle.sharc_names.specs.declared.fault.Named.TheVariants as named
@@ -12,7 +12,7 @@ use Rattle.sharc_ctype_laws.specs.{Constraints.{HasType, IsMemberOf, a_field, a_
 use Rattle.sharc_flat_form.specs.Machine.{first_cell}
 use Rattle.sharc_meaning.specs.Cells.{field_place, field_place_named, field_place_behind}
 use Rattle.sharc_mode.specs.declared.place.Place.TheVariants as place
-use Rattle.sharc_mode.specs.{Cells.pointed, Moded.Assignment, RowLaws.RowLaws, Rows.{Reading, written, through, Targets, is_constant_named, constant_use, base_use, lock_through, path_variable, read, deeper, entity_row, declared_row, global_row, named_row, behind, reading_through, row_at, modes_of, modes_at}, Sharings.{Lock, Sharing, private, readonly, locked, racy, dynamic, lock_of, sharing_of, text_at, variable_named, is_field, is_sibling_lock}, WellFormed.place_of}
+use Rattle.sharc_mode.specs.{Cells.pointed, Moded.Assignment, RowLaws.RowLaws, Rows.{PathReading, written, through, Targets, is_constant_named, constant_use, base_use, lock_through, path_variable, read, deeper, entity_row, declared_row, global_row, named_row, behind, reading_through, row_at, modes_of, modes_at}, Sharings.{Lock, Sharing, private, readonly, locked, racy, dynamic, lock_of, sharing_of, text_at, variable_named, is_field, is_sibling_lock}, WellFormed.place_of}
 use Rattle.sharc_mode_laws.specs.{Constructs.{IsExpression, IsEntity}, Laws.RulesAreMet, Paths.{IsAllowed, global_mutex, sibling_mutex, sibling_pointer, through_constant, IsThroughConstant, through as is_through}, Rules.MeetsRules}
 use Rattle.sharc_code.specs.declared.instr.Cell.{Cell}
 use Rattle.sharc_code.specs.declared.instr.Cell.TheVariants as cells
@@ -178,7 +178,7 @@ module _ (rules : RulesAreMet) (m : Assignment) (a : IsAccepted m) where
   meets = (rules m).0 a.well
 
   -- what M4 says of the paths that are written in a type holds of those of its positions
-  pub allowed_row : (Good : Path → Type 0) (how : Reading) (n : Numbered) → IsEntity m n → ((depth : ℕ) (path : Path) → IsAllowed r2 n.entity depth path → Contains n.entity.written.ctype.levels (Some (Locked path)) → Good path)
+  pub allowed_row : (Good : Path → Type 0) (how : PathReading) (n : Numbered) → IsEntity m n → ((depth : ℕ) (path : Path) → IsAllowed r2 n.entity depth path → Contains n.entity.written.ctype.levels (Some (Locked path)) → Good path)
       → AllByRecursion (ModeOf Good) (raw m (entity_row how (Some n)))
   allowed_row Good how n is good =
       row_good (ModeOf Good) (λ path e. absurd (private_path path e)) (λ path e. absurd (racy_path path e)) (λ path e. absurd (dynamic_path path e)) m a.least how n is
@@ -221,18 +221,18 @@ module _ (rules : RulesAreMet) (m : Assignment) (a : IsAccepted m) where
   abbrev FieldPath : Declaration → Path → Type 0
   FieldPath d path = (NamesGlobal r2 (lock_of path) ⊎ NamesField r2 (lock_of path)) × Contains d.written.ctype.levels (Some (Locked path))
 
-  field_row : (how : Reading) (d : Declaration) (f : IsFound r2 (declared role.Field d)) → AllByRecursion (ModeOf (FieldPath d)) (raw m (entity_row how (Some f.numbered)))
+  field_row : (how : PathReading) (d : Declaration) (f : IsFound r2 (declared role.Field d)) → AllByRecursion (ModeOf (FieldPath d)) (raw m (entity_row how (Some f.numbered)))
   field_row how d f =
       allowed_row (FieldPath d) how f.numbered (entity_is (declared role.Field d) f)
       (λ depth path allowed has. (in_field_type r2 f.numbered.entity depth path (ap (λ (e : Entity). place_of e.role) f.itself) allowed, subst (λ (e : Entity). Contains e.written.ctype.levels (Some (Locked path))) f.itself has))
 
   -- M11: without a constant variable no sibling's name is among them
-  pub through_used : (w : Access) (e : Expression) (x : ℕ) → IsThroughConstant r2 w e x → base_use r2 w e ≡ None → ⊥
+  pub through_used : (w : FieldOperator) (e : Expression) (x : ℕ) → IsThroughConstant r2 w e x → base_use r2 w e ≡ None → ⊥
   through_used _ _ x (is_through {s = s} {i = i} names constant) h =
       let is : is_constant_named r2 (named_at r2 i.site.token) ≡ true = ap (is_constant_named r2) names ∙ constant in
       none_some i.site.token (sym h ∙ ap (λ b. cond b (Some i.site.token) None) is)
 
-  field_modes : (s : Span) (e : Expression) (w : Access) (name : Identifier) → IsExpression m (tree.field s e w name) → base_use r2 w e ≡ None → (d : Declaration) → FieldInFile r2 d → named_at r2 name.site.token ≡ named.Field d.name.site.token
+  field_modes : (s : Span) (e : Expression) (w : FieldOperator) (name : Identifier) → IsExpression m (tree.field s e w name) → base_use r2 w e ≡ None → (d : Declaration) → FieldInFile r2 d → named_at r2 name.site.token ≡ named.Field d.name.site.token
       → AllGlobal r2 (modes_of m (declared_row r2 written d.name.site.token))
   field_modes s e w name there none d f names = to_each (IsGlobalMode r2) modes one
     where
@@ -413,7 +413,7 @@ module _ (rows : RowLaws) (expressions_found : ExpressionsFound) (one_type : One
   a_member : (x name : List ℕ) (d : Declaration) → IsMemberOf r4 x name d → FieldInFile r4 d
   a_member x name d h = field_found (FieldInFile r4) h.0.fields name d (struct_fields (FieldInFile r4) (structs_in r4.program.items) x h.0 file.fields h.1) h.2
 
-  member : (s : Span) (e : Expression) (v : Access) (n : Identifier) (k : Kind) → HasType r4 (tree.field s e v n) k → Member n
+  member : (s : Span) (e : Expression) (v : FieldOperator) (n : Identifier) (k : Kind) → HasType r4 (tree.field s e v n) k → Member n
   member s e _ n _ (a_field {x = x} {d = d} t h is) = record { of = d; field = a_member x n.text d h; names = is }
   member s e _ n _ (a_field_behind {x = x} {d = d} t h is) = record { of = d; field = a_member x n.text d h; names = is }
 
@@ -495,7 +495,7 @@ module _ (rows : RowLaws) (expressions_found : ExpressionsFound) (one_type : One
   index_points e h modes false kind b is = (static_of c (kind_at r4 e) b.modes, b.entry, any_pointee l reg (static_of c (kind_at r4 e) b.modes) (locks_at c modes) (modes_at m4 e) (pointee 0 e (own e h) b modes is))
 
   -- a member of a struct that is named by `.`, or behind no constant variable
-  plain_points : (s : Span) (e : Expression) (w : Access) (name : Identifier) → IsExpression m4 (tree.field s e w name) → base_use r4 w e ≡ None → (cell : Cell) → CellBased c globals l cell → (n : ℕ) (modes : List Sharing)
+  plain_points : (s : Span) (e : Expression) (w : FieldOperator) (name : Identifier) → IsExpression m4 (tree.field s e w name) → base_use r4 w e ≡ None → (cell : Cell) → CellBased c globals l cell → (n : ℕ) (modes : List Sharing)
       → Some (modes_of m4 (named_row r4 (reading_through (base_use r4 w e)) (named_at r4 name.site.token))) ≡ Some modes → AreFieldLocks l cell (locks_at c modes) (declared_locks m4 n (named_at r4 name.site.token))
   plain_points s e w name there none cell base n modes is =
       let x = member s e w name _ (typed_at (tree.field s e w name) there) in

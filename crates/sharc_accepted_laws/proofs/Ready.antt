@@ -10,8 +10,8 @@ use Rattle.sharc_names.specs.declared.types.Role.TheVariants as role
 use Rattle.sharc_names.specs.Kinds as kinds
 use Rattle.sharc_ctype.specs.{declared.entity.Entity.Entity, declared.entity.Numbered.Numbered, Entities.{declared, entities_in, entity_at, positions_of, written_modes, first_depth}, Resolved.{Resolution, IsResolved, named_at, kind_at, global_at, structs_in, globals_in, functions_in, named_kind}}
 use Rattle.sharc_ctype_laws.specs.{Constraints.HasType, Declared.IsItself, Found.EachTypeFound, Laws.{EachNameOnce, OnlyNames, EachNamesItself, MeetsConstraints, OneType}}
-use Rattle.sharc_graph.specs.declared.graph.Finding.TheVariants.{Apart, Source, Behind}
-use Rattle.sharc_mode.specs.{Cells.{top_of, first_mode, global_cell}, Flows.{IsLeastAssignment, mode_found}, WellModed.WellModed, Moded.Assignment, Rows.{Reading, written, targets_from, entity_row, modes_of}, Settled.otherwise_of, Sharings.{Lock, locked, lock_of, sharing_of}, WellFormed.place_of}
+use Rattle.sharc_graph.specs.declared.graph.NodeFinding.TheVariants.{Apart, Source, Behind}
+use Rattle.sharc_mode.specs.{Cells.{top_of, first_mode, global_cell}, Flows.{IsLeastAssignment, mode_found}, WellModed.WellModed, Moded.Assignment, Rows.{PathReading, written, targets_from, entity_row, modes_of}, Settled.otherwise_of, Sharings.{Lock, locked, lock_of, sharing_of}, WellFormed.place_of}
 use Rattle.sharc_mode.specs.declared.place.Place.TheVariants as place
 use Rattle.sharc_mode_laws.specs.{Constructs.{IsExpression, IsWritten}, Laws.RulesAreMet, Paths.{IsAllowed, global_mutex, sibling_mutex, sibling_pointer, through_constant}}
 use Rattle.sharc_accepted_laws.specs.{Lvalues.{LvaluesFit, IsArrayOf, ArraysFit}, Shapes.form_of}
@@ -43,7 +43,7 @@ struct_allowed w is base.Void e struct = absurd (false≢true struct)
 struct_allowed w is (base.Struct name) e struct = sym (or_false (nat_lt 0 (length w.ctype.levels - 1))) ∙ subst (λ b. is_allowed role.Field b (length w.ctype.levels - 1) ≡ true) e is
 
 -- ---- rows
-row_forms : (m : Assignment) (first count : ℕ) (how : Reading) (what : Role)
+row_forms : (m : Assignment) (first count : ℕ) (how : PathReading) (what : Role)
     → map form_of (modes_of m (targets_from what (record { first = first; count = count; reading = how }))) ≡ map form_of (modes_of m (targets_from what (record { first = first; count = count; reading = written })))
 row_forms m first count how role.Global = by (count == 0)
   where
@@ -58,7 +58,7 @@ row_forms m first count how role.Local = same_forms m first count how written
 row_forms m first count how role.Cast = same_forms m first count how written
 row_forms m first count how role.Made = same_forms m first count how written
 
-entity_forms : (m : Assignment) (how : Reading) (o : Option Numbered) → map form_of (modes_of m (entity_row how o)) ≡ map form_of (modes_of m (entity_row written o))
+entity_forms : (m : Assignment) (how : PathReading) (o : Option Numbered) → map form_of (modes_of m (entity_row how o)) ≡ map form_of (modes_of m (entity_row written o))
 entity_forms m how None = refl
 entity_forms m how (Some n) = row_forms m n.first (positions_of n.entity) how n.entity.role
 

@@ -6,7 +6,7 @@ use Rattle.sharc_tree.specs.declared.ctype.Base.TheVariants as base
 use Rattle.sharc_names.specs.declared.types.Role.{Role}
 use Rattle.sharc_names.specs.declared.types.Role.TheVariants as role
 use Rattle.sharc_ctype.specs.{declared.entity.Entity.Entity, declared.entity.Numbered.Numbered, Entities.{entities_in, numbered_from, positions_of, positions_in, written_modes}}
-use Rattle.sharc_graph.specs.{declared.graph.Finding.Finding, declared.graph.Finding.TheVariants.{Apart, Source, Behind}, Findings.finding_at}
+use Rattle.sharc_graph.specs.{declared.graph.NodeFinding.NodeFinding, declared.graph.NodeFinding.TheVariants.{Apart, Source, Behind}, Findings.finding_at}
 use Rattle.sharc_mode.specs.{Flows.{IsLeastAssignment, mode_found}, Moded.Assignment, Settled.{is_mutex, settled, field_target, otherwise_of, settled_modes, settled_in, settled_at}}
 use Rattle.sharc_lemmas.proofs.{Options.{same_some, none_some}, Lists.head_or_tail, Equal.none_there}
 
@@ -55,13 +55,13 @@ positioned (e ∷ rest) s n has = ⊎_elim (λ is. subst (IsPositioned (e ∷ re
     }
 
 -- ---- the mode of a position
-pub racy_found : (level : Option Mode) (finding : Finding) → mode_found level finding ≡ Racy → level ≡ Some Racy
+pub racy_found : (level : Option Mode) (finding : NodeFinding) → mode_found level finding ≡ Racy → level ≡ Some Racy
 racy_found (Some mode) finding h = ap Some h
 racy_found None Apart h = cc
 racy_found None Source h = cc
 racy_found None (Behind rank reason) h = cc
 
-pub private_found : (level : Option Mode) (finding : Finding) → mode_found level finding ≡ Private → (level ≡ Some Private) ⊎ (level ≡ None)
+pub private_found : (level : Option Mode) (finding : NodeFinding) → mode_found level finding ≡ Private → (level ≡ Some Private) ⊎ (level ≡ None)
 private_found (Some mode) finding h = inl (ap Some h)
 private_found None finding h = inr refl
 
@@ -72,7 +72,7 @@ get_index (y ∷ rest) (suc k) x d is = let w = get_index rest k x d is in let l
 
 -- what is settled where this mode is
 pub record SettledAt (m : Assignment) (n : Numbered) (k : ℕ) (mode : Mode) : Type 0 where
-  pub finding : Finding
+  pub finding : NodeFinding
   pub found : mode_found (slice_index_or (settled_modes n.entity) k (Some Private)) finding ≡ mode
 
 pub settled_by : (m : Assignment) → IsLeastAssignment m → (n : Numbered) → IsPositioned (entities_in m.typed.program.items) 0 n → (k : ℕ) (mode : Mode) → k < positions_of n.entity → slice_get m.modes (n.first + k) ≡ Some mode → SettledAt m n k mode

@@ -1,7 +1,7 @@
 -- The lock paths of the types of expressions lead to mutexes: those that are written by M4, and those that the uses of fields make by M11 and the fields' types.
 use Rattle.std.proofs.{Common.{◌≡◌, ◌⊎◌, inl, inr, ⊎_elim, ℕ, suc, ◌+◌, ◌<◌, Bool, true, false, cond, ◌&&◌, List, [], ◌∷◌, ◌++◌, length, map, drop, slice_get, refl, ap, sym, ◌∙◌, subst, arith, option_map, Option, Some, None, is_none, Contains}, lemmas.Bool.false≢true}
 use Rattle.std.specs.List.{AllByRecursion}
-use Rattle.sharc_tree.specs.{declared.ctype.Base.Base, declared.ctype.Mode.Mode, declared.ctype.Mode.TheVariants.{Private, Readonly, Locked, Racy, Dynamic}, declared.ctype.Path.Path, declared.ctype.Path.TheVariants.{One, Through as PathThrough}, declared.token.Span.Span, declared.tree.declaration.Declaration.Declaration, declared.tree.declaration.Identifier.Identifier, declared.tree.declaration.WrittenType.WrittenType, declared.tree.expression.Access.Access, declared.tree.expression.Access.TheVariants.{Dot, Arrow}, declared.tree.expression.UnaryOperator.TheVariants.{Negate, Not, Complement, Dereference}, declared.tree.item.GlobalDefinition.GlobalDefinition, declared.tree.item.StructDefinition.StructDefinition, Measures.{expressions, in_function}, Tree.{Expression, Function}}
+use Rattle.sharc_tree.specs.{declared.ctype.Base.Base, declared.ctype.Mode.Mode, declared.ctype.Mode.TheVariants.{Private, Readonly, Locked, Racy, Dynamic}, declared.ctype.Path.Path, declared.ctype.Path.TheVariants.{One, Through as PathThrough}, declared.token.Span.Span, declared.tree.declaration.Declaration.Declaration, declared.tree.declaration.Identifier.Identifier, declared.tree.declaration.WrittenType.WrittenType, declared.tree.expression.FieldOperator.FieldOperator, declared.tree.expression.FieldOperator.TheVariants.{Dot, Arrow}, declared.tree.expression.UnaryOperator.TheVariants.{Negate, Not, Complement, Dereference}, declared.tree.item.GlobalDefinition.GlobalDefinition, declared.tree.item.StructDefinition.StructDefinition, Measures.{expressions, in_function}, Tree.{Expression, Function}}
 use Rattle.sharc_tree.specs.declared.ctype.Base.TheVariants as base
 use Rattle.sharc_tree.specs.declared.tree.expression.Constant.TheVariants as constants
 use Rattle.sharc_tree.specs.Tree as tree
@@ -11,7 +11,7 @@ use Rattle.sharc_names.specs.declared.types.Role.TheVariants as role
 use Rattle.sharc_ctype.specs.{declared.entity.Entity.Entity, declared.entity.Numbered.Numbered, Entities.{declared, cast_entity, result_of, entity_at}, Items.notes_about, Resolved.{Resolution, named_at, declaration_at, variable_kind, named_kind, global_at, function_at, globals_in, functions_in, structs_in, kind_at}, Statements.locals_in_all}
 use Rattle.sharc_ctype_laws.specs.{Constraints.{HasType, Callee, IsMemberOf, struct_named, of_program, of_conditions, a_variable, a_global, a_function, a_field, a_field_behind}, Declared.{IsItself, NamesOwn, NamesOwnVariables}, Found.{IsFound, EachTypeFound}, Laws.{EachNameOnce, OnlyNames, EachNamesItself, EachNamesOwn, EachPathFound, MeetsConstraints, OneType}, WrittenTypes.{IsNamedPath, IsNamedLevel, IsNamedType}}
 use Rattle.sharc_mode.specs.declared.place.Place.TheVariants as place
-use Rattle.sharc_mode.specs.{Moded.Assignment, Rows.{Reading, written, through, Targets, constant_use, base_use, lock_through, read, entity_row, declared_row, global_row, named_row, result_row, called_row, behind, reading_through, row_at, modes_of, modes_at}, Settled.{field_target, settled_modes}, Sharings.{Lock, Sharing, locked, lock_of, sharing_of, text_at, is_field, is_sibling_lock}, WellFormed.{leaves_open, place_of}}
+use Rattle.sharc_mode.specs.{Moded.Assignment, Rows.{PathReading, written, through, Targets, constant_use, base_use, lock_through, read, entity_row, declared_row, global_row, named_row, result_row, called_row, behind, reading_through, row_at, modes_of, modes_at}, Settled.{field_target, settled_modes}, Sharings.{Lock, Sharing, locked, lock_of, sharing_of, text_at, is_field, is_sibling_lock}, WellFormed.{leaves_open, place_of}}
 use Rattle.sharc_mode_laws.specs.{Constructs.{IsExpression, IsEntity}, Laws.RulesAreMet, Paths.{IsMutexBehind, IsAllowed, global_mutex, sibling_mutex, sibling_pointer, through_constant}, Rules.MeetsRules}
 use Rattle.sharc_accepted_laws.specs.{StaticLaws.IsAccepted, Leading.{LeadsToMutex, by_global, by_variable, LeadsIfLocked, AllLead, ExpressionsLead}, Fields.FieldsPlaced, Own.{IsOwn, IsCastFound, HasOwn, OwnAreFound}}
 use Rattle.sharc_accepted_laws.proofs.{Noted.{AllSay, all_say}, Origins.{private_path, racy_path, dynamic_path, reading_kept, deeper_hold, no_private, no_readonly, no_racy, no_dynamic, same_lock}, Passed.{use_named, first_kind}, Places.{InFile, FileKnown, FieldInFile, file_known, struct_fields, field_found, at_number, IfSome}, Points.{NamesField, field_not_local, ModeOf, LevelOf, allowed_row, shown_modes, entity_is, through_used}, StaticSiblings.{found_there, struct_there, points_to, is_beside}, Written.{raw, row_settled, open_good}, TargetLists.place_there}
@@ -210,12 +210,12 @@ module _ (rules : RulesAreMet) (fields_placed : FieldsPlaced) (own_found : OwnAr
         (open_good (ModeOf (FieldLeads r d)) (λ path e. absurd (private_path path e)) (λ path e. absurd (racy_path path e)) (λ path e. absurd (dynamic_path path e)) d.written.ctype.base (Some (field_target d.written.ctype.levels)) (drop 1 d.written.ctype.levels)
         (placed_each (LevelOf (FieldLeads r d)) (drop 1 d.written.ctype.levels) each_below) top_good)
 
-    field_raw : (how : Reading) → AllByRecursion (ModeOf (FieldLeads r d)) (raw m (entity_row how (Some f.numbered)))
+    field_raw : (how : PathReading) → AllByRecursion (ModeOf (FieldLeads r d)) (raw m (entity_row how (Some f.numbered)))
     field_raw how =
         row_settled (ModeOf (FieldLeads r d)) (λ path e. absurd (private_path path e)) (λ path e. absurd (racy_path path e)) (λ path e. absurd (dynamic_path path e)) m a.least how f.numbered (entity_is rules m a (declared role.Field d) f) levels_good
 
     -- used without a constant variable, by M11
-    field_written : (s : Span) (e : Expression) (w : Access) (name : Identifier) → IsExpression m (tree.field s e w name) → base_use r w e ≡ None → named_at r name.site.token ≡ named.Field d.name.site.token → AllLead m (modes_of m (declared_row r written d.name.site.token))
+    field_written : (s : Span) (e : Expression) (w : FieldOperator) (name : Identifier) → IsExpression m (tree.field s e w name) → base_use r w e ≡ None → named_at r name.site.token ≡ named.Field d.name.site.token → AllLead m (modes_of m (declared_row r written d.name.site.token))
     field_written s e w name there none names = to_each (LeadsIfLocked r) modes one
       where
         modes : List Sharing
@@ -309,7 +309,7 @@ module _ (rules : RulesAreMet) (fields_placed : FieldsPlaced) (own_found : OwnAr
   a_member : (x name : List ℕ) (d : Declaration) → IsMemberOf r x name d → FieldInFile r d
   a_member x name d h = field_found (FieldInFile r) h.0.fields name d (struct_fields (FieldInFile r) (structs_in r.program.items) x h.0 file.fields h.1) h.2
 
-  field_leads : (s : Span) (e : Expression) (w : Access) (n : Identifier) (k : Kind) → HasType r (tree.field s e w n) k → IsExpression m (tree.field s e w n) → AllLead m (modes_of m (named_row r (reading_through (base_use r w e)) (named_at r n.site.token)))
+  field_leads : (s : Span) (e : Expression) (w : FieldOperator) (n : Identifier) (k : Kind) → HasType r (tree.field s e w n) k → IsExpression m (tree.field s e w n) → AllLead m (modes_of m (named_row r (reading_through (base_use r w e)) (named_at r n.site.token)))
   field_leads s e _ n _ (a_field {x = struct} {d = d} t h is) there =
       subst (λ z. AllLead m (modes_of m (named_row r written z))) (sym is) (field_written d (a_member struct n.text d h).0 s e Dot n there refl is)
   field_leads s e _ n _ (a_field_behind {x = struct} {d = d} t h is) there = by (constant_use r e) refl

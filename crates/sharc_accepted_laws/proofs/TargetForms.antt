@@ -5,7 +5,7 @@ use Rattle.sharc_tree.specs.declared.ctype.Mode.{Mode}
 use Rattle.sharc_names.specs.declared.types.Role.{Role}
 use Rattle.sharc_names.specs.declared.types.Role.TheVariants as role
 use Rattle.sharc_ctype.specs.{declared.entity.Numbered.Numbered, Entities.positions_of, Resolved.Resolution}
-use Rattle.sharc_mode.specs.{Moded.Assignment, Rows.{Reading, written, Targets, targets_from, entity_row, read, modes_of}, Sharings.{Sharing, private, readonly, locked, racy, dynamic, sharing_of}}
+use Rattle.sharc_mode.specs.{Moded.Assignment, Rows.{PathReading, written, Targets, targets_from, entity_row, read, modes_of}, Sharings.{Sharing, private, readonly, locked, racy, dynamic, sharing_of}}
 use Rattle.sharc_accepted_laws.specs.Shapes.{Form, form_of}
 use Rattle.sharc_lemmas.proofs.Options.{same_some}
 
@@ -13,7 +13,7 @@ abbrev pub mode_form : Mode → Form
 mode_form mode = form_of (sharing_of mode)
 
 -- a reading changes paths alone
-pub read_form : (r : Resolution) (how : Reading) (s : Sharing) → form_of (read r how s) ≡ form_of s
+pub read_form : (r : Resolution) (how : PathReading) (s : Sharing) → form_of (read r how s) ≡ form_of s
 read_form r how private = refl
 read_form r how readonly = refl
 read_form r how (locked l) = refl
@@ -23,7 +23,7 @@ read_form r how dynamic = refl
 two : {A : Type 0} (a b : A) (xs ys : List A) → a ≡ b → xs ≡ ys → a ∷ xs ≡ b ∷ ys
 two a b xs ys e f = cc
 
-forms_read : (r : Resolution) (how : Reading) (list : List Mode) → map form_of (map (λ mode. read r how (sharing_of mode)) list) ≡ map mode_form list
+forms_read : (r : Resolution) (how : PathReading) (list : List Mode) → map form_of (map (λ mode. read r how (sharing_of mode)) list) ≡ map mode_form list
 forms_read r how [] = refl
 forms_read r how (x ∷ rest) = two _ _ _ _ (read_form r how (sharing_of x)) (forms_read r how rest)
 
@@ -31,7 +31,7 @@ forms_read r how (x ∷ rest) = two _ _ _ _ (read_form r how (sharing_of x)) (fo
 pub row_forms : (m : Assignment) (row : Targets) → map form_of (modes_of m row) ≡ map mode_form (take row.count (drop row.first m.modes))
 row_forms m row = forms_read m.typed row.reading (take row.count (drop row.first m.modes))
 
-pub same_forms : (m : Assignment) (first count : ℕ) (a b : Reading) → map form_of (modes_of m (record { first = first; count = count; reading = a })) ≡ map form_of (modes_of m (record { first = first; count = count; reading = b }))
+pub same_forms : (m : Assignment) (first count : ℕ) (a b : PathReading) → map form_of (modes_of m (record { first = first; count = count; reading = a })) ≡ map form_of (modes_of m (record { first = first; count = count; reading = b }))
 same_forms m first count a b = forms_read m.typed a (take count (drop first m.modes)) ∙ sym (forms_read m.typed b (take count (drop first m.modes)))
 
 -- ---- one level

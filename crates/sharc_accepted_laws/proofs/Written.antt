@@ -5,8 +5,8 @@ use Rattle.sharc_tree.specs.{declared.ctype.Base.Base, declared.ctype.Mode.Mode,
 use Rattle.sharc_names.specs.declared.types.Role.{Role}
 use Rattle.sharc_names.specs.declared.types.Role.TheVariants as role
 use Rattle.sharc_ctype.specs.{declared.entity.Entity.Entity, declared.entity.Numbered.Numbered, Entities.{entities_in, numbered_from, positions_of, positions_in, written_modes, first_depth}}
-use Rattle.sharc_graph.specs.{declared.graph.Finding.Finding, declared.graph.Finding.TheVariants.{Apart, Source, Behind}, Findings.finding_at}
-use Rattle.sharc_mode.specs.{Flows.{IsLeastAssignment, mode_found}, Moded.Assignment, Rows.{Reading, Targets, deeper, targets_from, entity_row}, Settled.{is_mutex, settled, field_target, otherwise_of, settled_modes, settled_in, settled_at}, WellFormed.leaves_open}
+use Rattle.sharc_graph.specs.{declared.graph.NodeFinding.NodeFinding, declared.graph.NodeFinding.TheVariants.{Apart, Source, Behind}, Findings.finding_at}
+use Rattle.sharc_mode.specs.{Flows.{IsLeastAssignment, mode_found}, Moded.Assignment, Rows.{PathReading, Targets, deeper, targets_from, entity_row}, Settled.{is_mutex, settled, field_target, otherwise_of, settled_modes, settled_in, settled_at}, WellFormed.leaves_open}
 use Rattle.sharc_mode_laws.specs.Constructs.{IsEntity}
 use Rattle.sharc_accepted_laws.proofs.Settling.{settled_length}
 use Rattle.sharc_lemmas.proofs.{Options.none_some, Lists.head_or_tail, Equal.none_there}
@@ -129,7 +129,7 @@ module _ (Good : Mode → Type 0) (private_good : Good Private) (racy_good : Goo
   one_good (x ∷ rest) zero h = h.0
   one_good (x ∷ rest) (suc k) h = one_good rest k h.1
 
-  found_good : (level : Option Mode) (finding : Finding) → LevelGood level → Good (mode_found level finding)
+  found_good : (level : Option Mode) (finding : NodeFinding) → LevelGood level → Good (mode_found level finding)
   found_good (Some mode) finding h = h
   found_good None Apart h = private_good
   found_good None Source h = dynamic_good
@@ -147,7 +147,7 @@ module _ (Good : Mode → Type 0) (private_good : Good Private) (racy_good : Goo
       (one_good (settled_modes n.entity) k good)))
 
   -- of the row of what has a type, by what is settled of its positions
-  pub row_settled : (m : Assignment) → IsLeastAssignment m → (how : Reading) (n : Numbered) → IsEntity m n → AllByRecursion LevelGood (settled_modes n.entity) → AllByRecursion Good (raw m (entity_row how (Some n)))
+  pub row_settled : (m : Assignment) → IsLeastAssignment m → (how : PathReading) (n : Numbered) → IsEntity m n → AllByRecursion LevelGood (settled_modes n.entity) → AllByRecursion Good (raw m (entity_row how (Some n)))
   row_settled m least how n is good = by n.entity.role
     where
       whole : Targets
@@ -166,7 +166,7 @@ module _ (Good : Mode → Type 0) (private_good : Good Private) (racy_good : Goo
       by role.Made = all
 
   -- by what is written
-  pub row_good : (m : Assignment) → IsLeastAssignment m → (how : Reading) (n : Numbered) → IsEntity m n → AllByRecursion LevelGood n.entity.written.ctype.levels → AllByRecursion Good (raw m (entity_row how (Some n)))
+  pub row_good : (m : Assignment) → IsLeastAssignment m → (how : PathReading) (n : Numbered) → IsEntity m n → AllByRecursion LevelGood n.entity.written.ctype.levels → AllByRecursion Good (raw m (entity_row how (Some n)))
   row_good m least how n is good = row_settled m least how n is (entity_good n.entity good)
 
   -- What is meant where nothing is written is to be good where some target has no mode of its own.

@@ -2,7 +2,7 @@
 use Rattle.std.specs.Prelude.{◌≡◌, ◌⊎◌, ℕ, zero, suc, ◌-◌, ◌<◌, true, false, List, [], ◌∷◌, length, map, Option, Some}
 use Rattle.std.specs.Prelude.{None, slice_index_or, if◌then◌else◌}
 use Rattle.sharc_tree.specs.declared.tree.item.GlobalDefinition.{GlobalDefinition}
-use Rattle.sharc_tree.specs.declared.tree.expression.Access.TheVariants.{Dot, Arrow}
+use Rattle.sharc_tree.specs.declared.tree.expression.FieldOperator.TheVariants.{Dot, Arrow}
 use Rattle.sharc_tree.specs.{declared.tree.expression.UnaryOperator.TheVariants.Dereference, Low.IsLow, Placed.IsPlaced}
 use Rattle.sharc_tree.specs.Tree.{Expression, identifier, parentheses, index, field, unary}
 use Rattle.sharc_names.specs.declared.fault.Named.{Named}
@@ -11,7 +11,7 @@ use Rattle.sharc_names.specs.declared.fault.Named.TheVariants as named
 use Rattle.sharc_ctype.specs.Resolved.{Resolution, IsResolved, named_at, named_kind, global_at, kind_at}
 use Rattle.sharc_mode.specs.{Cells.{is_mutex_kind, is_behind_pointer, cell_at}, Flows.IsLeastAssignment}
 use Rattle.sharc_mode.specs.Moded.{Assignment}
-use Rattle.sharc_mode.specs.Rows.{Reading, Targets, written, declared_row, named_row, row_at, modes_of, modes_at}
+use Rattle.sharc_mode.specs.Rows.{PathReading, Targets, written, declared_row, named_row, row_at, modes_of, modes_at}
 use Rattle.sharc_mode.specs.{Sharings.{Lock, Sharing, private, readonly, locked, racy, dynamic}, WellModed.WellModed}
 use Rattle.sharc_mode_laws.specs.Constructs.{IsExpression}
 use Rattle.sharc_meaning.specs.Cells.{field_place, field_place_named}
@@ -45,7 +45,7 @@ IsOfGlobal t g n = (t ≡ in_global g n) ⊎ (t ≡ in_global_at g n)
 -- those that are written in its declaration, of which the expression may be a use that reads them in another way, or
 -- those of its element's type.
 pub data LocksFit (m : Assignment) (e : Expression) (n : ℕ) (modes : List Sharing) : List FieldLock → Type 0 where
-  are_written : (token : ℕ) (how : Reading) → row_at m.typed e ≡ Some (declared_row m.typed how token)
+  are_written : (token : ℕ) (how : PathReading) → row_at m.typed e ≡ Some (declared_row m.typed how token)
       → LocksFit m e n modes (field_locks m.typed n (modes_of m (declared_row m.typed written token)))
   of_type : (q : Sharing) (below : List Sharing) → modes ≡ q ∷ below → modes_at m e ≡ Some below
       → LocksFit m e n modes (type_locks (lock_count (form_of q)) (map form_of below))

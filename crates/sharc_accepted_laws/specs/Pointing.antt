@@ -2,7 +2,7 @@
 -- source gives to the cell's value.
 use Rattle.std.specs.Prelude.{◌≡◌, ℕ, true, List, [], ◌∷◌, map, Option, Some, None, if◌then◌else◌}
 use Rattle.std.specs.List.{AllByRecursion}
-use Rattle.sharc_tree.specs.declared.tree.expression.Access.TheVariants.{Dot, Arrow}
+use Rattle.sharc_tree.specs.declared.tree.expression.FieldOperator.TheVariants.{Dot, Arrow}
 use Rattle.sharc_tree.specs.{declared.tree.expression.UnaryOperator.TheVariants.Dereference, Measures.expressions}
 use Rattle.sharc_tree.specs.Tree.{Expression, identifier, parentheses, index, field, unary}
 use Rattle.sharc_names.specs.{declared.fault.Named.Named, Kinds.is_array}

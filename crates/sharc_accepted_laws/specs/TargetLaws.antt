@@ -17,7 +17,7 @@ use Rattle.sharc_ctype.specs.{Globals.elements_of, Items.IsTyped}
 use Rattle.sharc_ctype.specs.Resolved.{IsResolved, declaration_at, kind_at, structs_in, globals_in, functions_in}
 use Rattle.sharc_ctype_laws.specs.Constraints.{struct_named}
 use Rattle.sharc_mode.specs.{Flows.IsLeastAssignment, Moded.{Assignment, position_count}, Notes.base_of}
-use Rattle.sharc_mode.specs.{Rows.{Reading, written, Targets, declared_row, row_at}, WellModed.WellModed}
+use Rattle.sharc_mode.specs.{Rows.{PathReading, written, Targets, declared_row, row_at}, WellModed.WellModed}
 use Rattle.sharc_mode_laws.specs.Constructs.{IsExpression}
 use Rattle.sharc_meaning.specs.Cells.{element_cells, field_place}
 use Rattle.sharc_flat_form.specs.Machine.{first_cell}
@@ -74,7 +74,7 @@ abbrev pub VariablesFound : Type 0
 VariablesFound = (m : Assignment) → IsResolved m.typed → IsPlaced m.typed.program → IsLow m.typed.program
     → length m.modes ≡ position_count m.typed
     → (token : ℕ) (d : Declaration) → declaration_at m.typed token ≡ Some d
-    → (how : Reading) → IsRowOf m (declared_kind d.written) (declared_row m.typed how token)
+    → (how : PathReading) → IsRowOf m (declared_kind d.written) (declared_row m.typed how token)
 
 -- of each result
 abbrev pub ResultsFound : Type 0

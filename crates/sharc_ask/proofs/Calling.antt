@@ -7,10 +7,10 @@ use Rattle.sharc_names.specs.Kinds.{Kind, declared_kind, declared_kinds}
 use Rattle.sharc_ctype.specs.Resolved.{function_at}
 use Rattle.sharc_mode.specs.Moded.{Assignment}
 use Rattle.sharc_meaning.specs.{declared.variable.Variable.Variable, Expressions.{Calls, called, passed, eval, eval_all}, Meaning.{with_frame, back_in, calls, call_value, run_function, parameters_begin, pointers_passed, left_at}, State.{Frame, State, Out, go, over, Run, Step, then_on, ◌>>=◌, ◌>>◌, give, enters, without_temporaries, ends_variables, ends_temporaries}, Statements.{Flow, exec_all}}
-use Rattle.sharc_ask_steps.specs.{declared.state.End.End, View.{Known, known, Over, Does, held_below}}
-use Rattle.sharc_ask_steps.specs.declared.state.End.TheVariants as ends
+use Rattle.sharc_ask_steps.specs.{declared.state.RunEnd.RunEnd, View.{Known, known, Over, Does, held_below}}
+use Rattle.sharc_ask_steps.specs.declared.state.RunEnd.TheVariants as ends
 use Rattle.sharc_ask.specs.declared.plan.After.TheVariants as afters
-use Rattle.sharc_ask.specs.{declared.plan.Call.Call, declared.plan.Plan.Plan, declared.stack.At.At, declared.stack.Caller.Caller, declared.stack.Left.Left, declared.stack.Passing.Passing, View.{WasKept, variables_ended}, Values.{Value, number, flow, number_in, flow_in, gives, as_left}, Plans.{ends_above, rest_means, plan_means, Plans, PlanEnds}, Stack.{Behind, all_behind, IsCaller, AreBehind, awaits, comes_back, Reached, Moves}}
+use Rattle.sharc_ask.specs.{declared.plan.Call.Call, declared.plan.Plan.Plan, declared.stack.At.At, declared.stack.Caller.Caller, declared.stack.Left.Left, declared.stack.PendingCall.PendingCall, View.{WasKept, variables_ended}, Values.{Value, number, flow, number_in, flow_in, gives, as_left}, Plans.{ends_above, rest_means, plan_means, Plans, PlanEnds}, Stack.{Behind, all_behind, IsCaller, AreBehind, awaits, comes_back, Reached, Moves}}
 use Rattle.sharc_ask.specs.declared.plan.Plan.TheVariants as plans
 use Rattle.sharc_ask.specs.declared.plan.Rest.TheVariants as rests
 use Rattle.sharc_ask.specs.declared.plan.Task.TheVariants as tasks
@@ -58,7 +58,7 @@ enters_function m n c vs k mid k1 k2 stack stack1 p u v top kept begun entered p
       stands = subst (λ l. AreBehind m l (back ∷ behind)) (sym top) (record { caller = caller; others = s.callers; is = refl; variables = sym here.0; temporaries = sym here.1; below = sym here.2 }, stands);
     }
 
-pub begin_ends : (m : Assignment) (n : ℕ) (f : Function) (vs : List ℤ) (k mid k1 : Known) (variables : List Variable) (temporaries below : List ℤ) (stack stack1 : List Left) (e : End) → WasKept (pointers_passed f) k mid (Some (variables, temporaries, below))
+pub begin_ends : (m : Assignment) (n : ℕ) (f : Function) (vs : List ℤ) (k mid k1 : Known) (variables : List Variable) (temporaries below : List ℤ) (stack stack1 : List Left) (e : RunEnd) → WasKept (pointers_passed f) k mid (Some (variables, temporaries, below))
     → Does {A = Unit {0}} mid (Err e) k1 (parameters_begin f.parameters vs) → Moves m k stack (Err e) k1 stack1 (gives as_left (run_function (calls m n) m f vs))
 begin_ends m n f vs k mid k1 variables temporaries below stack stack1 e kept begun = λ s behind is stands.
     let moved = pointers_passed f in
@@ -69,7 +69,7 @@ begin_ends m n f vs k mid k1 variables temporaries below stack stack1 e kept beg
     reached_from {A = Unit {0}} m e k1 stack1 (parameters_begin f.parameters vs (with_frame caller s)) (λ o. then_on (then_on (back_in caller s.callers (ends_variables 0 (then_on o (λ x. (enters >> body) >>= ends)))) (λ x. give (as_left x))) (all_behind behind)) (λ o t. refl)
     (begun (with_frame caller s) (frame_begins moved s mid variables temporaries below here))
 
-pub enter_ends : (m : Assignment) (n : ℕ) (f : Function) (vs : List ℤ) (k mid k1 k2 : Known) (variables : List Variable) (temporaries below : List ℤ) (stack stack1 : List Left) (e : End) (u : Unit {0}) → WasKept (pointers_passed f) k mid (Some (variables, temporaries, below))
+pub enter_ends : (m : Assignment) (n : ℕ) (f : Function) (vs : List ℤ) (k mid k1 k2 : Known) (variables : List Variable) (temporaries below : List ℤ) (stack stack1 : List Left) (e : RunEnd) (u : Unit {0}) → WasKept (pointers_passed f) k mid (Some (variables, temporaries, below))
     → Does mid (Ok u) k1 (parameters_begin f.parameters vs) → Does {A = Unit {0}} k1 (Err e) k2 enters → Moves m k stack (Err e) k2 stack1 (gives as_left (run_function (calls m n) m f vs))
 enter_ends m n f vs k mid k1 k2 variables temporaries below stack stack1 e u kept begun entered = λ s behind is stands.
     let moved = pointers_passed f in
@@ -113,7 +113,7 @@ result_then : (mark : ℕ) (behind : List Behind) (on_call : Calls) (m : Assignm
 result_then mark behind on_call m (go left t) = refl
 result_then mark behind on_call m (over o t) = refl
 
-pub call_moves : (m : Assignment) (n f : ℕ) (site : Site) (vs : List ℤ) (mark : ℕ) (g : Function) (k k1 : Known) (stack stack0 stack1 : List Left) (r : Result At End) → (n ≡ 0 → ⊥) → function_at m.typed f ≡ Some g
+pub call_moves : (m : Assignment) (n f : ℕ) (site : Site) (vs : List ℤ) (mark : ℕ) (g : Function) (k k1 : Known) (stack stack0 stack1 : List Left) (r : Result At RunEnd) → (n ≡ 0 → ⊥) → function_at m.typed f ≡ Some g
     → stack0 ≡ record { frames = n; later = laters.Rest (rests.After (afters.Call mark)) } ∷ stack
     → Moves m k stack0 r k1 stack1 (gives as_left (run_function (calls m (n - 1)) m g vs)) → Moves m k stack r k1 stack1 (gives number (ends_above mark (calls m n f site vs)))
 call_moves m n f site vs mark g k k1 stack stack0 stack1 r some there top h = λ s behind is stands.
@@ -151,7 +151,7 @@ first_then : (on_call : Calls) (m : Assignment) (c : Call) (mark : ℕ) (kinds :
 first_then on_call m c mark kinds rest values behind (go x t) = ap (λ o. then_on (then_on (ends_temporaries mark o) (λ y. give (number y))) (all_behind behind)) (more_then on_call m c mark values x (eval_all on_call m kinds rest t))
 first_then on_call m c mark kinds rest values behind (over o t) = refl
 
-pub more_moves : (m : Assignment) (n : ℕ) (c : Call) (mark : ℕ) (parameters rest_parameters : Bor (List Declaration)) (e : Bor Expr) (others : Passing) (k k1 : Known) (stack stack0 stack1 : List Left) (p : Plan)
+pub more_moves : (m : Assignment) (n : ℕ) (c : Call) (mark : ℕ) (parameters rest_parameters : Bor (List Declaration)) (e : Bor Expr) (others : PendingCall) (k k1 : Known) (stack stack0 stack1 : List Left) (p : Plan)
     → declared_kinds rest_parameters.now ≡ drop 1 (declared_kinds parameters.now) → others.call ≡ c → others.mark ≡ mark → others.parameters ≡ rest_parameters
     → stack0 ≡ record { frames = n; later = laters.Passes others } ∷ stack → stack1 ≡ record { frames = n; later = laters.Rest (rests.Value e (with_values.Passed parameters)) } ∷ stack0
     → Plans (calls m n) m k (Ok p) k1 (gives number (eval (calls m n) m (view_expr e.now)))
@@ -181,7 +181,7 @@ more_moves m n c mark parameters rest_parameters e others k k1 stack stack0 stac
       stands = subst (λ l. AreBehind m l (pass ∷ f1 ∷ behind)) (sym (top ∙ ap (λ l. record { frames = n; later = laters.Rest (rests.Value e (with_values.Passed parameters)) } ∷ l) below)) (refl, (refl, stands));
     }
 
-pub more_ends : (m : Assignment) (n : ℕ) (c : Call) (mark : ℕ) (kinds : List Kind) (x : Expression) (rest : Arguments) (values : List ℤ) (k k1 : Known) (stack stack1 : List Left) (e : End) → Plans (calls m n) m k (Err e) k1 (gives number (eval (calls m n) m x))
+pub more_ends : (m : Assignment) (n : ℕ) (c : Call) (mark : ℕ) (kinds : List Kind) (x : Expression) (rest : Arguments) (values : List ℤ) (k k1 : Known) (stack stack1 : List Left) (e : RunEnd) → Plans (calls m n) m k (Err e) k1 (gives number (eval (calls m n) m x))
     → Moves m k stack (Err e) k1 stack1 (awaits (calls m n) m c mark kinds (argument x rest) values)
 more_ends m n c mark kinds x rest values k k1 stack stack1 e h = λ s behind is stands.
     let on_call = calls m n in

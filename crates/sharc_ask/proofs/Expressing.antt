@@ -2,11 +2,11 @@
 use Rattle.std.proofs.Common.{◌≡◌, ℕ, Bool, List, [], ◌∷◌, length, Option, Some, refl, sym, ap, ◌∙◌, subst}
 use Rattle.std.specs.Prelude.{ℤ, pos, if◌then◌else◌}
 use Rattle.sharc_tree.specs.declared.event.Act.TheVariants as acts
-use Rattle.sharc_tree.specs.{declared.event.TakeKind.TheVariants.{Cast, Free as ToFree}, declared.token.Site.Site, declared.token.Span.Span, declared.tree.expression.Access.TheVariants.Arrow, declared.tree.expression.BinaryOperator.BinaryOperator, declared.tree.expression.BinaryOperator.TheVariants.{LogicalOr, LogicalAnd}, declared.tree.expression.PlaceCall.TheVariants.{Lock, Unlock, Free}, declared.tree.expression.UnaryOperator.TheVariants.Negate, Spans.span_of, declared.tree.declaration.Identifier.Identifier, declared.tree.declaration.WrittenType.WrittenType, declared.tree.expression.PlaceCall.PlaceCall, declared.tree.expression.UnaryOperator.UnaryOperator, Tree.{Expression, identifier, call, spawn, on_place, cast, unary, binary, Arguments}}
+use Rattle.sharc_tree.specs.{declared.event.TakeKind.TheVariants.{Cast, Free as ToFree}, declared.token.Site.Site, declared.token.Span.Span, declared.tree.expression.FieldOperator.TheVariants.Arrow, declared.tree.expression.BinaryOperator.BinaryOperator, declared.tree.expression.BinaryOperator.TheVariants.{LogicalOr, LogicalAnd}, declared.tree.expression.PlaceCall.TheVariants.{Lock, Unlock, Free}, declared.tree.expression.UnaryOperator.TheVariants.Negate, Spans.span_of, declared.tree.declaration.Identifier.Identifier, declared.tree.declaration.WrittenType.WrittenType, declared.tree.expression.PlaceCall.PlaceCall, declared.tree.expression.UnaryOperator.UnaryOperator, Tree.{Expression, identifier, call, spawn, on_place, cast, unary, binary, Arguments}}
 use Rattle.sharc_ctype.specs.{Expressions.{class_of, binary_result}, Resolved.{Resolution, named_at, kind_at}, Transfers.parameters_named}
 use Rattle.sharc_names.specs.{declared.fault.Named.Named, Kinds.{Kind, declared_kinds}}
 use Rattle.sharc_mode.specs.{Cells.{cell_at, pointed}, Moded.Assignment, Rows.cast_row}
-use Rattle.sharc_meaning.specs.{Arithmetic.bits_of, Cells.field_place_named, Expressions.{Calls, passed, number_named, named_value, spawned, place_called, cast_value, place_value, unary_value, binary_value, eval, place_of}, Places.{Place, field_in, pointee_place, field_place, taken_from, cast_to, freed}, Reference.is_null, State.{State, Outcome, Out, go, over, Run, then_on, ◌>>=◌, ◌>>◌, give, done, answered, moves, ends_temporaries}, Waiting.{lock_call, unlock_call}}
+use Rattle.sharc_meaning.specs.{Arithmetic.bits_of, Cells.field_place_named, Expressions.{Calls, passed, number_named, named_value, spawned, place_called, cast_value, place_value, unary_value, binary_value, eval, place_of}, Places.{StorePlace, field_in, pointee_place, field_place, taken_from, cast_to, freed}, Reference.is_null, State.{State, Outcome, Out, go, over, Run, then_on, ◌>>=◌, ◌>>◌, give, done, answered, moves, ends_temporaries}, Waiting.{lock_call, unlock_call}}
 use Rattle.sharc_ask.specs.{View.{joined, binary_by, logic_of, place_fetched, calling}, Values.{Value, number, place, number_in, place_in, gives}, Plans.{ends_above, inside, zero_behind, spawned_with, free_unless_null, and_with, or_with, left_with}}
 use Rattle.sharc_ask.proofs.{Outs.begun, Steps.binary_is}
 
@@ -49,25 +49,25 @@ freed_next : (out : Out ℤ) (site : Site) → then_on (then_on (then_on out (λ
 freed_next (go x t) site = refl
 freed_next (over o t) site = refl
 
-pub fetch_begins : (m : Assignment) (e : Expression) (of_p : Run Place) (mark : ℕ) (s : State) → length s.frame.temporaries ≡ mark
+pub fetch_begins : (m : Assignment) (e : Expression) (of_p : Run StorePlace) (mark : ℕ) (s : State) → length s.frame.temporaries ≡ mark
     → gives number (place_value m e of_p) s ≡ then_on (gives place of_p s) (λ v. gives number (ends_above mark (place_fetched m e (place_in v))))
 fetch_begins m e of_p mark s same =
     subst (λ (n : ℕ). gives number (place_value m e of_p) s ≡ then_on (gives place of_p s) (λ v. gives number (ends_above n (place_fetched m e (place_in v))))) same
     (begun place (λ v. gives number (ends_above (length s.frame.temporaries) (place_fetched m e (place_in v)))) (of_p s) (λ out. gives number (place_value m e (λ z. out)) s) (λ o t. refl) (λ x t. refl))
 
-pub lock_begins : (m : Assignment) (span : Span) (a : Expression) (of_p : Run Place) (mark : ℕ) (s : State) → length s.frame.temporaries ≡ mark
+pub lock_begins : (m : Assignment) (span : Span) (a : Expression) (of_p : Run StorePlace) (mark : ℕ) (s : State) → length s.frame.temporaries ≡ mark
     → gives number (place_called m span Lock a of_p >> give (pos 0)) s ≡ then_on (gives place of_p s) (λ v. gives number (ends_above mark (lock_call span.first (place_in v)) >> give (pos 0)))
 lock_begins m span a of_p mark s same =
     subst (λ (n : ℕ). gives number (place_called m span Lock a of_p >> give (pos 0)) s ≡ then_on (gives place of_p s) (λ v. gives number (ends_above n (lock_call span.first (place_in v)) >> give (pos 0)))) same
     (begun place (λ v. gives number (ends_above (length s.frame.temporaries) (lock_call span.first (place_in v)) >> give (pos 0))) (of_p s) (λ out. gives number (place_called m span Lock a (λ z. out) >> give (pos 0)) s) (λ o t. refl) (λ x t. refl))
 
-pub unlock_begins : (m : Assignment) (span : Span) (a : Expression) (of_p : Run Place) (mark : ℕ) (s : State) → length s.frame.temporaries ≡ mark
+pub unlock_begins : (m : Assignment) (span : Span) (a : Expression) (of_p : Run StorePlace) (mark : ℕ) (s : State) → length s.frame.temporaries ≡ mark
     → gives number (place_called m span Unlock a of_p >> give (pos 0)) s ≡ then_on (gives place of_p s) (λ v. gives number (ends_above mark (unlock_call span.first (place_in v)) >> give (pos 0)))
 unlock_begins m span a of_p mark s same =
     subst (λ (n : ℕ). gives number (place_called m span Unlock a of_p >> give (pos 0)) s ≡ then_on (gives place of_p s) (λ v. gives number (ends_above n (unlock_call span.first (place_in v)) >> give (pos 0)))) same
     (begun place (λ v. gives number (ends_above (length s.frame.temporaries) (unlock_call span.first (place_in v)) >> give (pos 0))) (of_p s) (λ out. gives number (place_called m span Unlock a (λ z. out) >> give (pos 0)) s) (λ o t. refl) (λ x t. refl))
 
-pub free_begins : (m : Assignment) (span : Span) (a : Expression) (of_p : Run Place) (mark : ℕ) (s : State) → length s.frame.temporaries ≡ mark
+pub free_begins : (m : Assignment) (span : Span) (a : Expression) (of_p : Run StorePlace) (mark : ℕ) (s : State) → length s.frame.temporaries ≡ mark
     → gives number (place_called m span Free a of_p >> give (pos 0)) s
     ≡ then_on (gives place of_p s) (λ v. gives number (ends_above mark (taken_from m.typed span.first (span_of a).first (cell_at m a) ToFree (place_in v)) >>= (λ x. free_unless_null (span_of a).first x)))
 free_begins m span a of_p mark s same =
@@ -75,7 +75,7 @@ free_begins m span a of_p mark s same =
     (begun place (λ v. gives number (ends_above (length s.frame.temporaries) (taken_from m.typed span.first (span_of a).first (cell_at m a) ToFree (place_in v)) >>= (λ x. free_unless_null (span_of a).first x))) (of_p s) (λ out. gives number (place_called m span Free a (λ z. out) >> give (pos 0)) s) (λ o t. refl)
     (λ x t. freed_next (ends_temporaries (length s.frame.temporaries) (taken_from m.typed span.first (span_of a).first (cell_at m a) ToFree x t)) (span_of a).first))
 
-pub cast_begins : (m : Assignment) (span : Span) (a : Expression) (of_p : Run Place) (mark : ℕ) (s : State) → length s.frame.temporaries ≡ mark
+pub cast_begins : (m : Assignment) (span : Span) (a : Expression) (of_p : Run StorePlace) (mark : ℕ) (s : State) → length s.frame.temporaries ≡ mark
     → gives number (cast_value m span a of_p) s
     ≡ then_on (gives place of_p s) (λ v. gives number (ends_above mark (taken_from m.typed span.first (span_of a).first (cell_at m a) Cast (place_in v)) >>= (λ x. if is_null x then give x else cast_to m.typed (span_of a).first (pointed m (Some (cast_row m.typed span))) x)))
 cast_begins m span a of_p mark s same =
@@ -101,7 +101,7 @@ joined_begins r bits at o a b of_a of_b mark s same =
 
 -- ---- places
 
-pub arrow_begins : (r : Resolution) (site : Site) (a : Expression) (n : Named) (of_p : Run Place) (of_a : Run ℤ) (s : State) → gives place (field_place r site a Arrow n of_p of_a) s ≡ then_on (gives place (pointee_place r site a of_a) s) (λ v. gives place (give (field_in (field_place_named r n) (place_in v))))
+pub arrow_begins : (r : Resolution) (site : Site) (a : Expression) (n : Named) (of_p : Run StorePlace) (of_a : Run ℤ) (s : State) → gives place (field_place r site a Arrow n of_p of_a) s ≡ then_on (gives place (pointee_place r site a of_a) s) (λ v. gives place (give (field_in (field_place_named r n) (place_in v))))
 arrow_begins r site a n of_p of_a s =
     begun place (λ v. gives place (give (field_in (field_place_named r n) (place_in v)))) (pointee_place r site a of_a s) (λ out. then_on (then_on out (λ p. give (field_in (field_place_named r n) p))) (λ p. give (place p))) (λ o t. refl) (λ x t. refl)
 
@@ -157,7 +157,7 @@ cast_is on_call m e span t a site mark same at s many =
     (cast_begins m span a (place_of on_call m (span_of a).first a) mark s many))
 
 -- a form whose value is what a place holds
-pub place_is : (on_call : Calls) (m : Assignment) (e x : Expression) (of_p : Run Place) (mark : ℕ) → e ≡ x → (s : State) → inside (gives number (eval on_call m x)) s ≡ gives number (place_value m x of_p) s → length s.frame.temporaries ≡ mark
+pub place_is : (on_call : Calls) (m : Assignment) (e x : Expression) (of_p : Run StorePlace) (mark : ℕ) → e ≡ x → (s : State) → inside (gives number (eval on_call m x)) s ≡ gives number (place_value m x of_p) s → length s.frame.temporaries ≡ mark
     → inside (gives number (eval on_call m e)) s ≡ then_on (gives place of_p s) (λ v. gives number (ends_above mark (place_fetched m e (place_in v))))
 place_is on_call m e x of_p mark same s form many = subst (λ z. inside (gives number (eval on_call m z)) s ≡ then_on (gives place of_p s) (λ v. gives number (ends_above mark (place_fetched m z (place_in v))))) (sym same) (form ∙ fetch_begins m x of_p mark s many)
 

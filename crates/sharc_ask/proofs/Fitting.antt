@@ -8,14 +8,14 @@ use Rattle.sharc_meaning.specs.{Cells.{element_cells, instance_mode}, Arithmetic
 use Rattle.sharc_tree.specs.declared.trap.Trap.TheVariants as traps
 use Rattle.sharc_names.specs.Kinds.{Kind, declared_kind}
 use Rattle.sharc_ctype.specs.Resolved.{Resolution, kind_at}
-use Rattle.sharc_ask_steps.specs.{declared.state.End.End, View.{Known, Ends, Does, DoesAs}}
+use Rattle.sharc_ask_steps.specs.{declared.state.RunEnd.RunEnd, View.{Known, Ends, Does, DoesAs}}
 use Rattle.sharc_ask.specs.{declared.values.Flow.{Flow as RustFlow}, View.{view_flow, made}, Plans.returned_with}
 use Rattle.sharc_ask.proofs.Steps.{over_then, over_then_as}
 
 abbrev test_of : Site → Bool → Step
 test_of at b = unless_stop b traps.OutOfRange at
 
-pub fitted_goes : (k k1 : Known) (r : Resolution) (kind : Kind) (e : Expression) (x x1 : ℤ) (b : Bool) (at : Site) (u : Unit {0}) (result : Result ℤ End) → b ≡ fits kind x → at ≡ (span_of e).first → x1 ≡ x → Does k (Ok u) k (test_of at b) → Does k result k1 (operand r e (give x1))
+pub fitted_goes : (k k1 : Known) (r : Resolution) (kind : Kind) (e : Expression) (x x1 : ℤ) (b : Bool) (at : Site) (u : Unit {0}) (result : Result ℤ RunEnd) → b ≡ fits kind x → at ≡ (span_of e).first → x1 ≡ x → Does k (Ok u) k (test_of at b) → Does k result k1 (operand r e (give x1))
     → Does k result k1 (operand r e (fitting kind e (give x)))
 fitted_goes k k1 r kind e x x1 b at u result eb ea ex h later = λ s is.
     let g : Does k (Ok u) k (test_of (span_of e).first (fits kind x)) = subst (λ z. Does k (Ok u) k (test_of (span_of e).first z)) eb (subst (λ z. Does k (Ok u) k (test_of z b)) ea h) in
@@ -23,7 +23,7 @@ fitted_goes k k1 r kind e x x1 b at u result eb ea ex h later = λ s is.
     let w = g s is in
     subst (λ o. Ends result k1 (then_on (then_on o (λ z. give x)) (λ v. holds (kind_at r e) v >> give v))) (sym w.is) (l w.state w.looks)
 
-pub fitted_over : (k : Known) (r : Resolution) (kind : Kind) (e : Expression) (x : ℤ) (b : Bool) (at : Site) (end : End) → b ≡ fits kind x → at ≡ (span_of e).first → Does {A = Unit {0}} k (Err end) k (test_of at b) → Does {A = ℤ} k (Err end) k (operand r e (fitting kind e (give x)))
+pub fitted_over : (k : Known) (r : Resolution) (kind : Kind) (e : Expression) (x : ℤ) (b : Bool) (at : Site) (end : RunEnd) → b ≡ fits kind x → at ≡ (span_of e).first → Does {A = Unit {0}} k (Err end) k (test_of at b) → Does {A = ℤ} k (Err end) k (operand r e (fitting kind e (give x)))
 fitted_over k r kind e x b at end eb ea h =
     let g : Does {A = Unit {0}} k (Err end) k (test_of (span_of e).first (fits kind x)) = subst (λ z. Does {A = Unit {0}} k (Err end) k (test_of (span_of e).first z)) eb (subst (λ z. Does {A = Unit {0}} k (Err end) k (test_of z b)) ea h) in
     over_then k k end (fitting kind e (give x)) (λ v. holds (kind_at r e) v >> give v) (over_then k k end (test_of (span_of e).first (fits kind x)) (λ u. give x) g)
@@ -38,13 +38,13 @@ returned_goes k kind site e x b at u result eb ea same h = λ s is.
       looks = w.looks;
     }
 
-pub returned_over : (k : Known) (kind : Kind) (site : Site) (e : Expression) (x : ℤ) (b : Bool) (at : Site) (end : End) → b ≡ fits kind x → at ≡ (span_of e).first → Does {A = Unit {0}} k (Err end) k (test_of at b) → DoesAs view_flow k (Err end) k (returned_with kind site e x)
+pub returned_over : (k : Known) (kind : Kind) (site : Site) (e : Expression) (x : ℤ) (b : Bool) (at : Site) (end : RunEnd) → b ≡ fits kind x → at ≡ (span_of e).first → Does {A = Unit {0}} k (Err end) k (test_of at b) → DoesAs view_flow k (Err end) k (returned_with kind site e x)
 returned_over k kind site e x b at end eb ea h =
     let g : Does {A = Unit {0}} k (Err end) k (test_of (span_of e).first (fits kind x)) = subst (λ z. Does {A = Unit {0}} k (Err end) k (test_of (span_of e).first z)) eb (subst (λ z. Does {A = Unit {0}} k (Err end) k (test_of z b)) ea h) in
     over_then_as view_flow k k end (fitting kind e (give x)) (λ v. give (returned site v)) (over_then k k end (test_of (span_of e).first (fits kind x)) (λ u. give x) g)
 
 -- a new object
-pub made_goes : (k k1 : Known) (r : Resolution) (site : Site) (target : Sharing) (x : ℤ) (w : WrittenType) (b : Bool) (u : Unit {0}) (cells n : ℕ) (mode : CellMode) (result : Result ℤ End)
+pub made_goes : (k k1 : Known) (r : Resolution) (site : Site) (target : Sharing) (x : ℤ) (w : WrittenType) (b : Bool) (u : Unit {0}) (cells n : ℕ) (mode : CellMode) (result : Result ℤ RunEnd)
     → b ≡ is_positive x → cells ≡ element_cells r (declared_kind w) → n ≡ unsigned_abs x → mode ≡ instance_mode r (value_in k.variables) target → Does k (Ok u) k (unless_stop b traps.SizeNotPositive site) → Does k result k1 (answered site (acts.New cells n mode))
     → Does k result k1 (made r site target x w)
 made_goes k k1 r site target x w b u cells n mode result eb ec en em h later = λ s is.

@@ -3,8 +3,8 @@ use Rattle.std.proofs.Common.{◌≡◌, ℕ, zero, suc, Bool, Result, Ok, Err, 
 use Rattle.std.specs.Prelude.{ℤ, if◌then◌else◌}
 use Rattle.sharc_mode.specs.Moded.{Assignment}
 use Rattle.sharc_meaning.specs.{Expressions.Calls, State.{State, Outcome, Out, go, over, Run, then_on, ◌>>=◌, give, enters_with, enters, ends_temporaries}}
-use Rattle.sharc_ask_steps.specs.{declared.state.End.End, View.{Known, known, Over, Ends, Does}}
-use Rattle.sharc_ask_steps.specs.declared.state.End.TheVariants as ends
+use Rattle.sharc_ask_steps.specs.{declared.state.RunEnd.RunEnd, View.{Known, known, Over, Ends, Does}}
+use Rattle.sharc_ask_steps.specs.declared.state.RunEnd.TheVariants as ends
 use Rattle.sharc_ask.specs.{declared.plan.Plan.Plan, Values.{Value, number, gives}, View.temporaries_ended, Plans.{plan_means, PlanEnds, Plans, LeadsFrom, inside, ends_above}}
 
 -- what a run makes of the value of another, which it begins with
@@ -22,20 +22,20 @@ both_begun (over o t) G H ends goes = ends o t
 pub lead_plans : (on_call : Calls) (m : Assignment) (k : Known) (p : Plan) (run : Run Value) → LeadsFrom on_call m k run p → Plans on_call m k (Ok p) k run
 lead_plans on_call m k p run h = λ s is. record { state = s; is = h s is; looks = is }
 
-pub same_plans : (on_call : Calls) (m : Assignment) (k k1 : Known) (r : Result Plan End) (run run1 : Run Value) → ((s : State) → known s ≡ k → run s ≡ run1 s) → Plans on_call m k r k1 run1 → Plans on_call m k r k1 run
+pub same_plans : (on_call : Calls) (m : Assignment) (k k1 : Known) (r : Result Plan RunEnd) (run run1 : Run Value) → ((s : State) → known s ≡ k → run s ≡ run1 s) → Plans on_call m k r k1 run1 → Plans on_call m k r k1 run
 same_plans on_call m k k1 r run run1 same h = λ s is. subst (λ o. PlanEnds on_call m r k1 o) (sym (same s is)) (h s is)
 
-over_same : (e : End) (k : Known) (a : Out Value) (A : Type 0) (b : Out A) → ((o : Outcome) (t : State) → b ≡ over o t → a ≡ over o t) → Over e k b → Over e k a
+over_same : (e : RunEnd) (k : Known) (a : Out Value) (A : Type 0) (b : Out A) → ((o : Outcome) (t : State) → b ≡ over o t → a ≡ over o t) → Over e k b → Over e k a
 over_same e k a A b same w = record { outcome = w.outcome; state = w.state; is = same w.outcome w.state w.is; ends_so = w.ends_so; looks = w.looks }
 
 -- an end of a part is the end of the whole
-pub plan_over : {A : Type 0} (on_call : Calls) (m : Assignment) (e : End) (k : Known) (a : Out Value) (b : Out A) → ((o : Outcome) (t : State) → b ≡ over o t → a ≡ over o t) → Ends {A = A} (Err e) k b → PlanEnds on_call m (Err e) k a
+pub plan_over : {A : Type 0} (on_call : Calls) (m : Assignment) (e : RunEnd) (k : Known) (a : Out Value) (b : Out A) → ((o : Outcome) (t : State) → b ≡ over o t → a ≡ over o t) → Ends {A = A} (Err e) k b → PlanEnds on_call m (Err e) k a
 plan_over {A} on_call m ends.Memory k a b same h = tt
 plan_over {A} on_call m (ends.Wants x) k a b same h = over_same (ends.Wants x) k a A b same h
 plan_over {A} on_call m (ends.Stopped trap site) k a b same h = over_same (ends.Stopped trap site) k a A b same h
 plan_over {A} on_call m ends.Spent k a b same h = over_same ends.Spent k a A b same h
 
-pub step_over : {A : Type 0} (on_call : Calls) (m : Assignment) (k k1 : Known) (e : End) (first : Run A) (f : A → Run Value) → Does {A = A} k (Err e) k1 first → Plans on_call m k (Err e) k1 (first >>= f)
+pub step_over : {A : Type 0} (on_call : Calls) (m : Assignment) (k k1 : Known) (e : RunEnd) (first : Run A) (f : A → Run Value) → Does {A = A} k (Err e) k1 first → Plans on_call m k (Err e) k1 (first >>= f)
 step_over {A} on_call m k k1 e first f h = λ s is. plan_over {A = A} on_call m e k1 (then_on (first s) f) (first s) (λ o t is_over. ap (λ z. then_on z f) is_over) (h s is)
 
 -- ---- what is entered
@@ -49,10 +49,10 @@ entered_with (suc n) s t u same h =
 pub entered_from : (s t : State) (u : Unit {0}) → enters s ≡ go u t → record t { fuel = suc t.fuel } ≡ s
 entered_from s t u h = entered_with s.fuel s t u refl h
 
-pub entered_plans : (on_call : Calls) (m : Assignment) (k k1 k2 : Known) (u : Unit {0}) (r : Result Plan End) (run : Run Value) → Does k (Ok u) k1 enters → Plans on_call m k1 r k2 (inside run) → Plans on_call m k r k2 run
+pub entered_plans : (on_call : Calls) (m : Assignment) (k k1 k2 : Known) (u : Unit {0}) (r : Result Plan RunEnd) (run : Run Value) → Does k (Ok u) k1 enters → Plans on_call m k1 r k2 (inside run) → Plans on_call m k r k2 run
 entered_plans on_call m k k1 k2 u r run h later = λ s is. let w = h s is in subst (λ z. PlanEnds on_call m r k2 (run z)) (entered_from s w.state u w.is) (later w.state w.looks)
 
-pub entered_over : (on_call : Calls) (m : Assignment) (k k1 : Known) (e : End) (run : Run Value) → ((s t : State) (o : Outcome) → enters s ≡ over o t → run s ≡ over o t) → Does {A = Unit {0}} k (Err e) k1 enters → Plans on_call m k (Err e) k1 run
+pub entered_over : (on_call : Calls) (m : Assignment) (k k1 : Known) (e : RunEnd) (run : Run Value) → ((s t : State) (o : Outcome) → enters s ≡ over o t → run s ≡ over o t) → Does {A = Unit {0}} k (Err e) k1 enters → Plans on_call m k (Err e) k1 run
 entered_over on_call m k k1 e run stops h = λ s is. plan_over {A = Unit {0}} on_call m e k1 (run s) (enters s) (λ o t. stops s t o) (h s is)
 
 -- the value that a code's step answers, in place of a variable
@@ -71,8 +71,8 @@ pub above_goes : {A : Type 0} (k k1 k2 : Known) (x : A) (run : Run A) (n : ℕ) 
 above_goes k k1 k2 x run n same h = λ s is. let w = h s is in record { state = _; is = ap (ends_temporaries n) w.is; looks = ap (temporaries_ended n) w.looks ∙ sym same }
 
 -- a number, and what is made of it
-pub number_then : (on_call : Calls) (m : Assignment) (k k1 k2 : Known) (x : ℤ) (r : Result Plan End) (first : Run ℤ) (f : ℤ → Run ℤ) → Does k (Ok x) k1 first → Plans on_call m k1 r k2 (gives number (f x)) → Plans on_call m k r k2 (gives number (first >>= f))
+pub number_then : (on_call : Calls) (m : Assignment) (k k1 k2 : Known) (x : ℤ) (r : Result Plan RunEnd) (first : Run ℤ) (f : ℤ → Run ℤ) → Does k (Ok x) k1 first → Plans on_call m k1 r k2 (gives number (f x)) → Plans on_call m k r k2 (gives number (first >>= f))
 number_then on_call m k k1 k2 x r first f h later = λ s is. let w = h s is in subst (λ o. PlanEnds on_call m r k2 (then_on (then_on o f) (λ y. give (number y)))) (sym w.is) (later w.state w.looks)
 
-pub number_over : (on_call : Calls) (m : Assignment) (k k1 : Known) (e : End) (first : Run ℤ) (f : ℤ → Run ℤ) → Does {A = ℤ} k (Err e) k1 first → Plans on_call m k (Err e) k1 (gives number (first >>= f))
+pub number_over : (on_call : Calls) (m : Assignment) (k k1 : Known) (e : RunEnd) (first : Run ℤ) (f : ℤ → Run ℤ) → Does {A = ℤ} k (Err e) k1 first → Plans on_call m k (Err e) k1 (gives number (first >>= f))
 number_over on_call m k k1 e first f h = λ s is. plan_over {A = ℤ} on_call m e k1 (gives number (first >>= f) s) (first s) (λ o t is_over. ap (λ z. then_on (then_on z f) (λ y. give (number y))) is_over) (h s is)

@@ -4,7 +4,7 @@ use Rattle.std.specs.Prelude.{ℤ, pos, if◌then◌else◌}
 use Rattle.sharc_tree.specs.{declared.token.Site.Site, declared.tree.expression.BinaryOperator.BinaryOperator, Tree.Expression}
 use Rattle.sharc_ctype.specs.Resolved.{Resolution, kind_at}
 use Rattle.sharc_mode.specs.Moded.{Assignment}
-use Rattle.sharc_meaning.specs.{Arithmetic.truth, Expressions.tested, Places.{Place, based}, State.{State, Run, then_on, ◌>>=◌, give, holds, ends_temporaries}}
+use Rattle.sharc_meaning.specs.{Arithmetic.truth, Expressions.tested, Places.{StorePlace, based}, State.{State, Run, then_on, ◌>>=◌, give, holds, ends_temporaries}}
 use Rattle.sharc_ask.specs.{Values.{number, place, number_in, gives, as_nothing}, Plans.{ends_above, step_then, test_then, truth_with, and_with, or_with, joined_with, left_with, element_behind, behind_pointer, element_in, assigned_to}}
 use Rattle.sharc_ask.proofs.Outs.{begun, both_begun}
 
@@ -44,9 +44,9 @@ pointer_goes r site e of_i p s =
     both_begun (based site (kind_at r e) p s) (λ out. then_on (then_on out (λ u. of_i >>= (λ n. element_behind r site e p n))) (λ y. give (place y))) (λ out. then_on out (λ u. gives number of_i >>= (λ v. gives place (element_behind r site e p (number_in v))))) (λ o t. refl)
     (λ u t. begun number (λ v. gives place (element_behind r site e p (number_in v))) (of_i t) (λ out. then_on (then_on out (λ n. element_behind r site e p n)) (λ y. give (place y))) (λ o t. refl) (λ n t. refl))
 
-pub array_goes : (r : Resolution) (site : Site) (e : Expression) (of_i : Run ℤ) (p : Place) (s : State) → gives place (of_i >>= (λ n. element_in r site e p n)) s ≡ then_on (gives number of_i s) (λ v. gives place (element_in r site e p (number_in v)))
+pub array_goes : (r : Resolution) (site : Site) (e : Expression) (of_i : Run ℤ) (p : StorePlace) (s : State) → gives place (of_i >>= (λ n. element_in r site e p n)) s ≡ then_on (gives number of_i s) (λ v. gives place (element_in r site e p (number_in v)))
 array_goes r site e of_i p s = begun number (λ v. gives place (element_in r site e p (number_in v))) (of_i s) (λ out. then_on (then_on out (λ n. element_in r site e p n)) (λ y. give (place y))) (λ o t. refl) (λ n t. refl)
 
-pub assigned_goes : (m : Assignment) (e : Expression) (p : Place) (right : Run ℤ) (mark : ℕ) (s : State)
+pub assigned_goes : (m : Assignment) (e : Expression) (p : StorePlace) (right : Run ℤ) (mark : ℕ) (s : State)
     → gives as_nothing (ends_above mark (assigned_to m e p right)) s ≡ then_on (gives number right s) (λ v. gives as_nothing (ends_above mark (assigned_to m e p (give (number_in v)))))
 assigned_goes m e p right mark s = begun number (λ v. gives as_nothing (ends_above mark (assigned_to m e p (give (number_in v))))) (right s) (λ out. gives as_nothing (ends_above mark (assigned_to m e p (λ z. out))) s) (λ o t. refl) (λ x t. refl)

@@ -3,8 +3,8 @@ use Rattle.std.proofs.{Common.{◌≡◌, ℕ, List, [], ◌∷◌, ◌++◌, Re
 use Rattle.std.specs.Prelude.{reverse}
 use Rattle.sharc_mode.specs.Moded.{Assignment}
 use Rattle.sharc_meaning.specs.{Expressions.Calls, Meaning.calls, State.{State, Outcome, Out, go, over, Run, then_on, ◌>>=◌, give}}
-use Rattle.sharc_ask_steps.specs.{declared.state.End.End, View.{Known, known, Over, Ends, EndsAs, DoesAs}}
-use Rattle.sharc_ask_steps.specs.declared.state.End.TheVariants as ends
+use Rattle.sharc_ask_steps.specs.{declared.state.RunEnd.RunEnd, View.{Known, known, Over, Ends, EndsAs, DoesAs}}
+use Rattle.sharc_ask_steps.specs.declared.state.RunEnd.TheVariants as ends
 use Rattle.sharc_ask.specs.{declared.plan.Plan.Plan, declared.plan.Rest.Rest, declared.plan.Task.Task, declared.plan.Value.{Value as RustValue}, declared.stack.At.At, declared.stack.Left.Left, Values.{Value, view_value}, Plans.{task_means, rest_means, plan_means, PlanEnds, Plans}, Stack.{Behind, all_behind, AreBehind, at_means, Reached, Moves, StepEnds, Steps, GoesOnWith, Comes, with_rest}}
 use Rattle.sharc_ask.specs.declared.plan.Plan.TheVariants as plans
 use Rattle.sharc_ask.specs.declared.plan.Rest.TheVariants as rests
@@ -16,18 +16,18 @@ pub bound_twice : {A B C : Type 0} (out : Out A) (f : A → Run B) (g : B → Ru
 bound_twice (go x s) f g = refl
 bound_twice (over o s) f g = refl
 
-pub over_bound : {A B : Type 0} (e : End) (k : Known) (out : Out A) (f : A → Run B) → Over e k out → Over e k (then_on out f)
+pub over_bound : {A B : Type 0} (e : RunEnd) (k : Known) (out : Out A) (f : A → Run B) → Over e k out → Over e k (then_on out f)
 over_bound e k out f w = record { outcome = w.outcome; state = w.state; is = ap (λ o. then_on o f) w.is; ends_so = w.ends_so; looks = w.looks }
 
 -- the thing that is pushed last is the next
 pub on_top : {A : Type 0} (x : A) (items : List A) → reverse (items ++ x ∷ []) ≡ x ∷ reverse items
 on_top x items = reverse-append items (x ∷ [])
 
-over_from : {A : Type 0} (e : End) (k : Known) (out : Out A) (G : Out A → Out Value) → ((o : Outcome) (t : State) → G (over o t) ≡ over o t) → Over e k out → Over e k (G out)
+over_from : {A : Type 0} (e : RunEnd) (k : Known) (out : Out A) (G : Out A → Out Value) → ((o : Outcome) (t : State) → G (over o t) ≡ over o t) → Over e k out → Over e k (G out)
 over_from e k out G same w = record { outcome = w.outcome; state = w.state; is = ap G w.is ∙ same w.outcome w.state; ends_so = w.ends_so; looks = w.looks }
 
 -- what a part is over by, the whole is
-pub reached_from : {A : Type 0} (m : Assignment) (e : End) (k : Known) (stack : List Left) (out : Out A) (G : Out A → Out Value) → ((o : Outcome) (t : State) → G (over o t) ≡ over o t) → Ends {A = A} (Err e) k out → Reached m (Err e) stack k (G out)
+pub reached_from : {A : Type 0} (m : Assignment) (e : RunEnd) (k : Known) (stack : List Left) (out : Out A) (G : Out A → Out Value) → ((o : Outcome) (t : State) → G (over o t) ≡ over o t) → Ends {A = A} (Err e) k out → Reached m (Err e) stack k (G out)
 reached_from m ends.Memory k stack out G same h = tt
 reached_from m (ends.Wants x) k stack out G same h = over_from (ends.Wants x) k out G same h
 reached_from m (ends.Stopped trap site) k stack out G same h = over_from (ends.Stopped trap site) k out G same h
@@ -40,13 +40,13 @@ plan_moves m n k k1 p stack run h = λ s behind is stands.
     let w = h s is in
     record { state = w.state; behind = behind; is = ap (λ o. then_on o (all_behind behind)) w.is; looks = w.looks; stands = stands }
 
-pub plan_reached : (on_call : Calls) (m : Assignment) (e : End) (k : Known) (stack : List Left) (out : Out Value) (f : Behind) → PlanEnds on_call m (Err e) k out → Reached m (Err e) stack k (then_on out f)
+pub plan_reached : (on_call : Calls) (m : Assignment) (e : RunEnd) (k : Known) (stack : List Left) (out : Out Value) (f : Behind) → PlanEnds on_call m (Err e) k out → Reached m (Err e) stack k (then_on out f)
 plan_reached on_call m ends.Memory k stack out f h = tt
 plan_reached on_call m (ends.Wants x) k stack out f h = over_bound (ends.Wants x) k out f h
 plan_reached on_call m (ends.Stopped trap site) k stack out f h = over_bound (ends.Stopped trap site) k out f h
 plan_reached on_call m ends.Spent k stack out f h = over_bound ends.Spent k out f h
 
-pub plan_ends : (on_call : Calls) (m : Assignment) (k k1 : Known) (e : End) (stack stack1 : List Left) (run : Run Value) → Plans on_call m k (Err e) k1 run → Moves m k stack (Err e) k1 stack1 run
+pub plan_ends : (on_call : Calls) (m : Assignment) (k k1 : Known) (e : RunEnd) (stack stack1 : List Left) (run : Run Value) → Plans on_call m k (Err e) k1 run → Moves m k stack (Err e) k1 stack1 run
 plan_ends on_call m k k1 e stack stack1 run h = λ s behind is stands. plan_reached on_call m e k1 stack1 (run s) (all_behind behind) (h s is)
 
 -- ---- a task, and what goes on with its value
@@ -80,7 +80,7 @@ task_moves m n k k1 t (rests.Place e w) p stack h = pushed_moves m n k k1 t (res
 task_moves m n k k1 t (rests.Number w) p stack h = pushed_moves m n k k1 t (rests.Number w) p stack h
 task_moves m n k k1 t (rests.After w) p stack h = pushed_moves m n k k1 t (rests.After w) p stack h
 
-pub task_ends : (m : Assignment) (n : ℕ) (k k1 : Known) (t : Task) (w : Rest) (e : End) (stack stack1 : List Left) → Plans (calls m n) m k (Err e) k1 (task_means (calls m n) m t) → Moves m k stack (Err e) k1 stack1 (plan_means (calls m n) m (plans.Goes t w))
+pub task_ends : (m : Assignment) (n : ℕ) (k k1 : Known) (t : Task) (w : Rest) (e : RunEnd) (stack stack1 : List Left) → Plans (calls m n) m k (Err e) k1 (task_means (calls m n) m t) → Moves m k stack (Err e) k1 stack1 (plan_means (calls m n) m (plans.Goes t w))
 task_ends m n k k1 t w e stack stack1 h = λ s behind is stands.
     let f = rest_means (calls m n) m w in
     subst (Reached m (Err e) stack1 k1) (sym (bound_twice (task_means (calls m n) m t s) f (all_behind behind))) (plan_reached (calls m n) m e k1 stack1 (task_means (calls m n) m t s) (λ v. f v >>= all_behind behind) (h s is))
@@ -91,36 +91,36 @@ pub resumed_moves : (m : Assignment) (n : ℕ) (k k1 : Known) (w : Rest) (v : Va
     → Moves m k stack (Ok (record { frames = n; plan = p })) k1 stack (f v)
 resumed_moves m n k k1 w v p stack f same h = subst (λ (z : Behind). Moves m k stack (Ok (record { frames = n; plan = p })) k1 stack (z v)) (sym same) (plan_moves m n k k1 p stack (rest_means (calls m n) m w v) h)
 
-pub resumed_ends : (m : Assignment) (n : ℕ) (k k1 : Known) (w : Rest) (v : Value) (e : End) (stack : List Left) (f : Behind) → f ≡ rest_means (calls m n) m w → Plans (calls m n) m k (Err e) k1 (rest_means (calls m n) m w v) → Moves m k stack (Err e) k1 stack (f v)
+pub resumed_ends : (m : Assignment) (n : ℕ) (k k1 : Known) (w : Rest) (v : Value) (e : RunEnd) (stack : List Left) (f : Behind) → f ≡ rest_means (calls m n) m w → Plans (calls m n) m k (Err e) k1 (rest_means (calls m n) m w v) → Moves m k stack (Err e) k1 stack (f v)
 resumed_ends m n k k1 w v e stack f same h = subst (λ (z : Behind). Moves m k stack (Err e) k1 stack (z v)) (sym same) (plan_ends (calls m n) m k k1 e stack stack (rest_means (calls m n) m w v) h)
 
-popped : (m : Assignment) (l : Left) (v : RustValue) (k k1 : Known) (stack stack1 : List Left) (r : Result At End) (s : State) (behind : List Behind) → GoesOnWith m k l v stack r k1 stack1 → known s ≡ k → AreBehind m (l ∷ stack) behind
+popped : (m : Assignment) (l : Left) (v : RustValue) (k k1 : Known) (stack stack1 : List Left) (r : Result At RunEnd) (s : State) (behind : List Behind) → GoesOnWith m k l v stack r k1 stack1 → known s ≡ k → AreBehind m (l ∷ stack) behind
     → Reached m r stack1 k1 (all_behind behind (view_value v) s)
 popped m l v k k1 stack stack1 r s [] h is stands = absurd stands
 popped m l v k k1 stack stack1 r s (f ∷ rest) h is stands = h f stands.0 s rest is stands.1
 
-pub popped_moves : (m : Assignment) (at : At) (l : Left) (v : RustValue) (k k1 : Known) (stack0 stack stack1 : List Left) (r : Result At End) → at.plan ≡ plans.Done v → stack0 ≡ l ∷ stack → GoesOnWith m k l v stack r k1 stack1 → Moves m k stack0 r k1 stack1 (at_means m at)
+pub popped_moves : (m : Assignment) (at : At) (l : Left) (v : RustValue) (k k1 : Known) (stack0 stack stack1 : List Left) (r : Result At RunEnd) → at.plan ≡ plans.Done v → stack0 ≡ l ∷ stack → GoesOnWith m k l v stack r k1 stack1 → Moves m k stack0 r k1 stack1 (at_means m at)
 popped_moves m at l v k k1 stack0 stack stack1 r done top h =
     subst (λ z. Moves m k z r k1 stack1 (at_means m at)) (sym top)
     (subst (λ z. Moves m k (l ∷ stack) r k1 stack1 (plan_means (calls m at.frames) m z)) (sym done) (λ s behind is stands. popped m l v k k1 stack stack1 r s behind h is stands))
 
 -- ---- steps
 
-step_over : (m : Assignment) (e : End) (k : Known) (stack : List Left) (out : Out Value) → Reached m (Err e) stack k out → StepEnds m (Err e) stack k out
+step_over : (m : Assignment) (e : RunEnd) (k : Known) (stack : List Left) (out : Out Value) → Reached m (Err e) stack k out → StepEnds m (Err e) stack k out
 step_over m ends.Memory k stack out h = tt
 step_over m (ends.Wants x) k stack out h = h
 step_over m (ends.Stopped trap site) k stack out h = h
 step_over m ends.Spent k stack out h = h
 
-pub step_ends : (m : Assignment) (k k1 : Known) (e : End) (stack stack1 : List Left) (run : Run Value) → Moves m k stack (Err e) k1 stack1 run → Steps m k stack (Err e) k1 stack1 run
+pub step_ends : (m : Assignment) (k k1 : Known) (e : RunEnd) (stack stack1 : List Left) (run : Run Value) → Moves m k stack (Err e) k1 stack1 run → Steps m k stack (Err e) k1 stack1 run
 step_ends m k k1 e stack stack1 run h = λ s behind is stands. step_over m e k1 stack1 (then_on (run s) (all_behind behind)) (h s behind is stands)
 
-pub step_on : (m : Assignment) (at next : At) (k k1 k2 : Known) (stack stack1 : List Left) (r : Result RustValue End) → Steps m k stack (Ok (stepped.Goes next)) k1 stack1 (at_means m at) → Comes m next stack1 k1 r k2 → Comes m at stack k r k2
+pub step_on : (m : Assignment) (at next : At) (k k1 k2 : Known) (stack stack1 : List Left) (r : Result RustValue RunEnd) → Steps m k stack (Ok (stepped.Goes next)) k1 stack1 (at_means m at) → Comes m next stack1 k1 r k2 → Comes m at stack k r k2
 step_on m at next k k1 k2 stack stack1 r h later = λ s behind is stands.
     let w = h s behind is stands in
     subst (EndsAs view_value r k2) (sym w.is) (later w.state w.behind w.looks w.stands)
 
-come_over : (m : Assignment) (e : End) (k : Known) (stack : List Left) (out : Out Value) → StepEnds m (Err e) stack k out → EndsAs view_value (Err e) k out
+come_over : (m : Assignment) (e : RunEnd) (k : Known) (stack : List Left) (out : Out Value) → StepEnds m (Err e) stack k out → EndsAs view_value (Err e) k out
 come_over m ends.Memory k stack out h = tt
 come_over m (ends.Wants x) k stack out h = h
 come_over m (ends.Stopped trap site) k stack out h = h
@@ -129,21 +129,21 @@ come_over m ends.Spent k stack out h = h
 pub comes_whole : (m : Assignment) (at : At) (k k1 : Known) (stack stack1 : List Left) (v : RustValue) → Steps m k stack (Ok (stepped.Whole v)) k1 stack1 (at_means m at) → Comes m at stack k (Ok v) k1
 comes_whole m at k k1 stack stack1 v h = λ s behind is stands. h s behind is stands
 
-pub comes_over : (m : Assignment) (at : At) (k k1 : Known) (stack stack1 : List Left) (e : End) → Steps m k stack (Err e) k1 stack1 (at_means m at) → Comes m at stack k (Err e) k1
+pub comes_over : (m : Assignment) (at : At) (k k1 : Known) (stack stack1 : List Left) (e : RunEnd) → Steps m k stack (Err e) k1 stack1 (at_means m at) → Comes m at stack k (Err e) k1
 comes_over m at k k1 stack stack1 e h = λ s behind is stands. come_over m e k1 stack1 (then_on (at_means m at s) (all_behind behind)) (h s behind is stands)
 
 -- ---- the whole
 
-pub whole_does : (m : Assignment) (at : At) (k k1 k2 : Known) (stack : List Left) (r : Result RustValue End) (run : Run Value) → Moves m k [] (Ok at) k1 stack run → Comes m at stack k1 r k2 → DoesAs view_value k r k2 run
+pub whole_does : (m : Assignment) (at : At) (k k1 k2 : Known) (stack : List Left) (r : Result RustValue RunEnd) (run : Run Value) → Moves m k [] (Ok at) k1 stack run → Comes m at stack k1 r k2 → DoesAs view_value k r k2 run
 whole_does m at k k1 k2 stack r run h later = λ s is.
     let w = h s [] is tt in
     subst (EndsAs view_value r k2) (sym (out_given (run s) ∙ w.is)) (later w.state w.behind w.looks w.stands)
 
-reached_as : (m : Assignment) (e : End) (k : Known) (stack : List Left) (out : Out Value) → Reached m (Err e) stack k (then_on out (λ v. give v)) → EndsAs view_value (Err e) k out
+reached_as : (m : Assignment) (e : RunEnd) (k : Known) (stack : List Left) (out : Out Value) → Reached m (Err e) stack k (then_on out (λ v. give v)) → EndsAs view_value (Err e) k out
 reached_as m ends.Memory k stack out h = tt
 reached_as m (ends.Wants x) k stack out h = subst (EndsAs view_value (Err (ends.Wants x)) k) (sym (out_given out)) h
 reached_as m (ends.Stopped trap site) k stack out h = subst (EndsAs view_value (Err (ends.Stopped trap site)) k) (sym (out_given out)) h
 reached_as m ends.Spent k stack out h = subst (EndsAs view_value (Err ends.Spent) k) (sym (out_given out)) h
 
-pub whole_over : (m : Assignment) (k k1 : Known) (stack : List Left) (e : End) (run : Run Value) → Moves m k [] (Err e) k1 stack run → DoesAs view_value k (Err e) k1 run
+pub whole_over : (m : Assignment) (k k1 : Known) (stack : List Left) (e : RunEnd) (run : Run Value) → Moves m k [] (Err e) k1 stack run → DoesAs view_value k (Err e) k1 run
 whole_over m k k1 stack e run h = λ s is. reached_as m e k1 stack (run s) (h s [] is tt)

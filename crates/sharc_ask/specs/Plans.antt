@@ -17,7 +17,7 @@ use Rattle.sharc_meaning.specs.Arithmetic.{bits_of, truth, operated, negated, co
 use Rattle.sharc_meaning.specs.Cells.{element_cells, field_place_named}
 use Rattle.sharc_meaning.specs.Expressions.{Calls, resulting, tested, operand, fitting, passed, number_named}
 use Rattle.sharc_meaning.specs.Expressions.{value_called, eval, place_of}
-use Rattle.sharc_meaning.specs.Places.{Place, variable, field_in, based, element, element_of_array, index_place}
+use Rattle.sharc_meaning.specs.Places.{StorePlace, variable, field_in, based, element, element_of_array, index_place}
 use Rattle.sharc_meaning.specs.Places.{pointee_place, field_place, stored, taken_from, cast_to, freed}
 use Rattle.sharc_meaning.specs.Reference.{is_null, number_of, elements_of}
 use Rattle.sharc_meaning.specs.State.{State, Out, Run, Step, ◌>>=◌, ◌>>◌, give, done, answered, drops, moves}
@@ -25,8 +25,8 @@ use Rattle.sharc_meaning.specs.State.{ends_temporaries, ends_variables}
 use Rattle.sharc_meaning.specs.Statements.{Flow, next, returned, on_next, on_turn, turns, loop, exec, exec_all}
 use Rattle.sharc_meaning.specs.Statements.{right_value, done_simple, declared, done_first, done_test, return_with}
 use Rattle.sharc_meaning.specs.Waiting.{lock_call, unlock_call}
-use Rattle.sharc_ask_steps.specs.{declared.state.End.End, View.{Known, known, view_place, Over}, Width.value_bits}
-use Rattle.sharc_ask_steps.specs.declared.state.End.TheVariants as ends
+use Rattle.sharc_ask_steps.specs.{declared.state.RunEnd.RunEnd, View.{Known, known, view_place, Over}, Width.value_bits}
+use Rattle.sharc_ask_steps.specs.declared.state.RunEnd.TheVariants as ends
 use Rattle.sharc_ask.specs.{declared.plan.After.After, declared.plan.Loop.Loop, declared.plan.Plan.Plan}
 use Rattle.sharc_ask.specs.{declared.plan.Rest.Rest, declared.plan.Task.Task, declared.plan.WithNumber.WithNumber}
 use Rattle.sharc_ask.specs.{declared.plan.WithValue.WithValue, declared.plan.WithPlace.WithPlace}
@@ -122,17 +122,17 @@ left_with r bits at o a b of_b x0 = do
   x ← operand r a (give x0)
   joined_with r bits at o b x of_b
 
-abbrev pub element_behind : Resolution → Site → Expression → ℤ → ℤ → Run Place
+abbrev pub element_behind : Resolution → Site → Expression → ℤ → ℤ → Run StorePlace
 element_behind r site a p n =
     element site (Made (number_of p)) (element_cells r (element_kind (kind_at r a))) (elements_of p) n
 
-abbrev pub behind_pointer : Resolution → Site → Expression → ℤ → Run ℤ → Run Place
+abbrev pub behind_pointer : Resolution → Site → Expression → ℤ → Run ℤ → Run StorePlace
 behind_pointer r site a p i = do
   based site (kind_at r a) p
   n ← i
   element_behind r site a p n
 
-abbrev pub element_in : Resolution → Site → Expression → Place → ℤ → Run Place
+abbrev pub element_in : Resolution → Site → Expression → StorePlace → ℤ → Run StorePlace
 element_in r site a base n = element_of_array r site (element_cells r (element_kind (kind_at r a))) base n
 
 -- behind parts of statements
@@ -191,7 +191,7 @@ task_means on_call m (tasks.Turns n l) = gives flow (turns_of on_call m l n)
 
 -- ---- what goes on with their values
 
-abbrev pub assigned_to : Assignment → Expression → Place → Run ℤ → Step
+abbrev pub assigned_to : Assignment → Expression → StorePlace → Run ℤ → Step
 assigned_to m u p right = do
   v ← right
   stored m.typed (span_of u).first (kind_at m.typed u) (cell_at m u) p v
@@ -227,7 +227,7 @@ value_means on_call m e with_values.Dropped x = gives as_nothing (drops (kind_at
 value_means on_call m e (with_values.Returns kind site) x = gives flow (returned_with (view_kind kind) site e x)
 
 -- with the place p of the expression e, or of what it is read from
-abbrev pub place_means : Calls → Assignment → Expression → WithPlace → Place → Run Value
+abbrev pub place_means : Calls → Assignment → Expression → WithPlace → StorePlace → Run Value
 place_means on_call m e (with_places.Locks site mark) p =
     gives number (zero_behind (ends_above mark (lock_call site p)))
 place_means on_call m e (with_places.Unlocks site mark) p =
@@ -295,13 +295,13 @@ pub record GoesOn (on_call : Calls) (m : Assignment) (p : Plan) (k : Known) (out
   pub is : out ≡ plan_means on_call m p state
   pub looks : known state ≡ k
 
-abbrev pub PlanEnds : Calls → Assignment → Result Plan End → Known → Out Value → Type 0
+abbrev pub PlanEnds : Calls → Assignment → Result Plan RunEnd → Known → Out Value → Type 0
 PlanEnds on_call m (Ok p) k out = GoesOn on_call m p k out
 PlanEnds on_call m (Err ends.Memory) k out = Unit {0}
 PlanEnds on_call m (Err e) k out = Over e k out
 
 -- from whatever state looks so
-abbrev pub Plans : Calls → Assignment → Known → Result Plan End → Known → Run Value → Type 0
+abbrev pub Plans : Calls → Assignment → Known → Result Plan RunEnd → Known → Run Value → Type 0
 Plans on_call m before result after run = (s : State) → known s ≡ before → PlanEnds on_call m result after (run s)
 
 -- a plan that is that of a run, from each state or from those that look so

@@ -5,8 +5,8 @@ use Rattle.sharc_names.specs.Kinds.{Kind, declared_kinds}
 use Rattle.sharc_mode.specs.Moded.{Assignment}
 use Rattle.sharc_meaning.specs.{Expressions.{Calls, called, eval_all}, Meaning.{back_in, calls, left_at}}
 use Rattle.sharc_meaning.specs.{State.{Frame, State, Out, Run, then_on, ◌>>=◌, give, ends_variables}, Statements.Flow}
-use Rattle.sharc_ask_steps.specs.{declared.state.End.End, View.{Known, known, held_below, Over, Went, EndsAs}}
-use Rattle.sharc_ask_steps.specs.declared.state.End.TheVariants as ends
+use Rattle.sharc_ask_steps.specs.{declared.state.RunEnd.RunEnd, View.{Known, known, held_below, Over, Went, EndsAs}}
+use Rattle.sharc_ask_steps.specs.declared.state.RunEnd.TheVariants as ends
 use Rattle.sharc_ask.specs.{declared.plan.Call.Call, declared.plan.Rest.Rest, declared.plan.Value.{Value as RustValue}}
 use Rattle.sharc_ask.specs.{declared.stack.At.At, declared.stack.Caller.Caller, declared.stack.Later.Later}
 use Rattle.sharc_ask.specs.{declared.stack.Left.Left, declared.walk.Stepped.Stepped}
@@ -74,33 +74,33 @@ pub record Reaches (m : Assignment) (at : At) (stack : List Left) (k : Known) (o
   pub looks : known state ≡ k
   pub stands : AreBehind m stack behind
 
-abbrev pub Reached : Assignment → Result At End → List Left → Known → Out Value → Type 0
+abbrev pub Reached : Assignment → Result At RunEnd → List Left → Known → Out Value → Type 0
 Reached m (Ok at) stack k out = Reaches m at stack k out
 Reached m (Err ends.Memory) stack k out = Unit {0}
 Reached m (Err e) stack k out = Over e k out
 
 -- from whatever state looks so, and whatever is left to do
-abbrev pub Moves : Assignment → Known → List Left → Result At End → Known → List Left → Run Value → Type 0
+abbrev pub Moves : Assignment → Known → List Left → Result At RunEnd → Known → List Left → Run Value → Type 0
 Moves m before stack result after stack1 run = (s : State) (behind : List Behind) → known s ≡ before
     → AreBehind m stack behind → Reached m result stack1 after (then_on (run s) (all_behind behind))
 
-abbrev pub StepEnds : Assignment → Result Stepped End → List Left → Known → Out Value → Type 0
+abbrev pub StepEnds : Assignment → Result Stepped RunEnd → List Left → Known → Out Value → Type 0
 StepEnds m (Ok (stepped.Whole v)) stack k out = Went (view_value v) k out
 StepEnds m (Ok (stepped.Goes at)) stack k out = Reaches m at stack k out
 StepEnds m (Err ends.Memory) stack k out = Unit {0}
 StepEnds m (Err e) stack k out = Over e k out
 
-abbrev pub Steps : Assignment → Known → List Left → Result Stepped End → Known → List Left → Run Value → Type 0
+abbrev pub Steps : Assignment → Known → List Left → Result Stepped RunEnd → Known → List Left → Run Value → Type 0
 Steps m before stack result after stack1 run = (s : State) (behind : List Behind) → known s ≡ before
     → AreBehind m stack behind → StepEnds m result stack1 after (then_on (run s) (all_behind behind))
 
 -- what is left to do with the value of the thing that was next
-abbrev pub GoesOnWith : Assignment → Known → Left → RustValue → List Left → Result At End → Known → List Left → Type 0
+abbrev pub GoesOnWith : Assignment → Known → Left → RustValue → List Left → Result At RunEnd → Known → List Left → Type 0
 GoesOnWith m before l v stack result after stack1 = (f : Behind) → IsBehind m l.frames l.later f
     → Moves m before stack result after stack1 (f (view_value v))
 
 -- the whole comes to this
-abbrev pub Comes : Assignment → At → List Left → Known → Result RustValue End → Known → Type 0
+abbrev pub Comes : Assignment → At → List Left → Known → Result RustValue RunEnd → Known → Type 0
 Comes m at stack before result after = (s : State) (behind : List Behind) → known s ≡ before → AreBehind m stack behind
     → EndsAs view_value result after (then_on (at_means m at s) (all_behind behind))
 

@@ -1,7 +1,7 @@
 -- What a task of the walk comes to.
 use Rattle.std.specs.Prelude.{ℤ, pos, Bool, false}
 use Rattle.sharc_tree.specs.declared.token.Site.{Site}
-use Rattle.sharc_meaning.specs.{Places.{Place, no_place}, State.{Run, ◌>>=◌, give}, Statements.{Flow, next, returned}}
+use Rattle.sharc_meaning.specs.{Places.{StorePlace, no_place}, State.{Run, ◌>>=◌, give}, Statements.{Flow, next, returned}}
 use Rattle.sharc_ask_steps.specs.View.{view_place}
 use Rattle.sharc_ask.specs.{declared.plan.Value.{Value as RustValue}, View.view_flow}
 use Rattle.sharc_ask.specs.declared.plan.Value.TheVariants as values
@@ -11,7 +11,7 @@ pub data Value : Type 0 where
   nothing : Value
   number : ℤ → Value
   test : Bool → Value
-  place : Place → Value
+  place : StorePlace → Value
   flow : Flow → Value
 
 abbrev pub number_in : Value → ℤ
@@ -22,7 +22,7 @@ abbrev pub test_in : Value → Bool
 test_in (test b) = b
 test_in _ = false
 
-abbrev pub place_in : Value → Place
+abbrev pub place_in : Value → StorePlace
 place_in (place p) = p
 place_in _ = no_place
 

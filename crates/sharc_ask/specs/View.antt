@@ -21,7 +21,7 @@ use Rattle.sharc_mode.specs.{Cells.cell_at, Moded.Assignment, Sharings.Sharing}
 use Rattle.sharc_meaning.specs.{declared.variable.Variable.Variable, Arithmetic.operated}
 use Rattle.sharc_meaning.specs.Cells.{element_cells, instance_mode}
 use Rattle.sharc_meaning.specs.Expressions.{Calls, called, resulting, tested, operand, binary_value, eval, eval_all}
-use Rattle.sharc_meaning.specs.{Meaning.{Asked, parameters_begin, left_at}, Places.{Place, fetched}}
+use Rattle.sharc_meaning.specs.{Meaning.{Asked, parameters_begin, left_at}, Places.{StorePlace, fetched}}
 use Rattle.sharc_meaning.specs.State.{Outcome, wants, ended, stopped, spent, Run, Step, ◌>>=◌, ◌>>◌, give, unless_stop}
 use Rattle.sharc_meaning.specs.State.{answered, performs, looks_at, temporarily, in_block, entered, value_of}
 use Rattle.sharc_meaning.specs.State.{all_released, pointers_among}
@@ -62,7 +62,7 @@ view_step None = None
 view_step (Some x) = Some (view_simple x.now)
 
 -- the value in the place that an expression names
-abbrev pub place_fetched : Assignment → Expression → Place → Run ℤ
+abbrev pub place_fetched : Assignment → Expression → StorePlace → Run ℤ
 place_fetched m e p = fetched m.typed (span_of e).first (cell_at m e) p
 
 abbrev pub calling : Calls → Assignment → Site → Named → List ℕ → Arguments → Run ℤ

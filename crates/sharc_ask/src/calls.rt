@@ -20,9 +20,9 @@ use crate::frames::{begin_parameters, left_at, pointers_passed, push_frame};
 use crate::parts::{end_above, zero_behind};
 use crate::plan::{After, Call, Plan, Rest, Task, Value, WithValue};
 use crate::plans::done_number;
-use crate::stack::{At, Caller, Later, Left, Passing, push};
+use crate::stack::{At, Caller, Later, Left, PendingCall, push};
 use crate::values::{Flow, parameters_named, rest_of};
-use sharc_ask_steps::state::{End, State, enter};
+use sharc_ask_steps::state::{RunEnd, State, enter};
 use sharc_ask_steps::waiting::condition_call;
 use sharc_mode::moded::Moded;
 use sharc_names::fault::Named;
@@ -38,14 +38,14 @@ pub fn enter_function<'a>(
     values: &[i64],
     stack: &mut Vec<Left<'a>>,
     st: &mut State,
-) -> Result<At<'a>, End>
+) -> Result<At<'a>, RunEnd>
     ensures moves { (m : Assignment) → Moves m (view_state st.old) (stack_of stack.old) result (view_state st.new)
         (stack_of stack.new) (gives as_left (run_function (calls m frames) m (view_function function.now) values.now)) }
     ensures ends { IfOk result (λ at. 64 * st.new.fuel + size at.plan + load (stack_of stack.new) + 61
         ≤ 64 * st.old.fuel + load (stack_of stack.old)) }
 {
     match push_frame(pointers_passed(function.parameters.as_slice()), st) {
-        None => Err(End::Memory),
+        None => Err(RunEnd::Memory),
         Some(kept) => {
             push(frames, Later::Returns(Caller { function, kept }), stack)?;
             begin_parameters(function.parameters.as_slice(), values, st)?;
@@ -63,14 +63,14 @@ pub fn return_to<'a>(
     caller: Caller<'a>,
     flow: Flow,
     st: &mut State,
-) -> Result<At<'a>, End>
+) -> Result<At<'a>, RunEnd>
     ensures moves { (m : Assignment) (stack : List Kept) (f : Behind) (v : Meant) → IsCaller caller.entry f
         → flow_in v ≡ view_flow flow → Moves m (view_state st.old) stack result (view_state st.new) stack (f v) }
     ensures ends { IfOk result (λ at. 64 * st.new.fuel + size at.plan ≤ 64 * st.old.fuel) }
 {
     let left = left_at(caller.function, flow);
     match end_variables(0, st) {
-        Err(_) => Err(End::Memory),
+        Err(_) => Err(RunEnd::Memory),
         Ok(()) => {
             st.frame = caller.kept.frame;
             st.below = caller.kept.below;
@@ -81,7 +81,7 @@ pub fn return_to<'a>(
 }
 
 // A call of what is no function is 0.
-fn no_call<'a>(frames: u32, mark: usize, st: &mut State) -> Result<At<'a>, End>
+fn no_call<'a>(frames: u32, mark: usize, st: &mut State) -> Result<At<'a>, RunEnd>
     ensures moves { (m : Assignment) (stack : List Kept) → Moves m (view_state st.old) stack result
         (view_state st.new) stack (gives number (ends_above mark (give (pos 0)))) }
     ensures ends { IfOk result (λ at. 64 * st.new.fuel + size at.plan ≤ 64 * st.old.fuel) }
@@ -99,14 +99,14 @@ fn call_function<'a>(
     values: &[i64],
     stack: &mut Vec<Left<'a>>,
     st: &mut State,
-) -> Result<At<'a>, End>
+) -> Result<At<'a>, RunEnd>
     ensures moves { Moves program.now (view_state st.old) (stack_of stack.old) result (view_state st.new)
         (stack_of stack.new) (gives number (ends_above mark (calls program.now frames called site values.now))) }
     ensures ends { IfOk result (λ at. 64 * st.new.fuel + size at.plan + load (stack_of stack.new)
         < 64 * st.old.fuel + 1 + load (stack_of stack.old)) }
 {
     if frames == 0 {
-        return Err(End::Stopped(Trap::CallDepth, site));
+        return Err(RunEnd::Stopped(Trap::CallDepth, site));
     }
     match program.typed().function_at(called) {
         None => no_call(frames, mark, st),
@@ -125,7 +125,7 @@ fn call_named<'a>(
     values: &[i64],
     stack: &mut Vec<Left<'a>>,
     st: &mut State,
-) -> Result<At<'a>, End>
+) -> Result<At<'a>, RunEnd>
     ensures moves { Moves program.now (view_state st.old) (stack_of stack.old) result (view_state st.new)
         (stack_of stack.new) (gives number (ends_above mark
         (called (calls program.now frames) call.entry.site call.entry.named call.entry.name.now values.now))) }
@@ -152,10 +152,10 @@ fn call_named<'a>(
 fn pass<'a>(
     program: &'a Moded,
     frames: u32,
-    passing: Passing<'a>,
+    passing: PendingCall<'a>,
     stack: &mut Vec<Left<'a>>,
     st: &mut State,
-) -> Result<At<'a>, End>
+) -> Result<At<'a>, RunEnd>
     ensures moves { let p = passing.entry in Moves program.now (view_state st.old) (stack_of stack.old) result
         (view_state st.new) (stack_of stack.new) (awaits (calls program.now frames) program.now p.call p.mark
         (declared_kinds p.parameters.now) (view_arguments p.arguments.now) p.values.items) }
@@ -178,7 +178,7 @@ fn pass<'a>(
         [first, rest @ ..] => {
             let plan = begin_eval(program, first, st)?;
             let passed = Rest::Value(first, WithValue::Passed(passing.parameters));
-            let others = Passing {
+            let others = PendingCall {
                 call: passing.call,
                 mark: passing.mark,
                 parameters: rest_of(passing.parameters),
@@ -196,11 +196,11 @@ fn pass<'a>(
 pub fn pass_value<'a>(
     program: &'a Moded,
     frames: u32,
-    passing: Passing<'a>,
+    passing: PendingCall<'a>,
     value: i64,
     stack: &mut Vec<Left<'a>>,
     st: &mut State,
-) -> Result<At<'a>, End>
+) -> Result<At<'a>, RunEnd>
     ensures moves { let p = passing.entry in Moves program.now (view_state st.old) (stack_of stack.old) result
         (view_state st.new) (stack_of stack.new) (awaits (calls program.now frames) program.now p.call p.mark
         (declared_kinds p.parameters.now) (view_arguments p.arguments.now) (p.values.items ++ value ∷ [])) }
@@ -209,9 +209,9 @@ pub fn pass_value<'a>(
 {
     let mut values = passing.values;
     match values.push(value) {
-        Err(_) => Err(End::Memory),
+        Err(_) => Err(RunEnd::Memory),
         Ok(()) => {
-            let more = Passing {
+            let more = PendingCall {
                 call: passing.call,
                 mark: passing.mark,
                 parameters: passing.parameters,
@@ -230,14 +230,14 @@ pub fn begin_call<'a>(
     call: Call<'a>,
     stack: &mut Vec<Left<'a>>,
     st: &mut State,
-) -> Result<At<'a>, End>
+) -> Result<At<'a>, RunEnd>
     ensures moves { Moves program.now (view_state st.old) (stack_of stack.old) result (view_state st.new)
         (stack_of stack.new) (gives number (calling (calls program.now frames) program.now call.entry.site
         call.entry.named call.entry.name.now (view_arguments call.entry.arguments.now))) }
     ensures ends { IfOk result (λ at. 64 * st.new.fuel + size at.plan + load (stack_of stack.new)
         < 64 * st.old.fuel + 1 + load (stack_of stack.old)) }
 {
-    let passing = Passing {
+    let passing = PendingCall {
         call,
         mark: st.frame.temporaries.len(),
         parameters: parameters_named(program, call.named),

@@ -16,13 +16,13 @@ use crate::plan::{Call, Operation, Plan, Rest, Task, Value, WithPlace, WithValue
 use crate::plans::done_number;
 use crate::values::{constant_value, kind_of, logic_of, named, named_value};
 use sharc_ask_steps::arithmetic::width_of;
-use sharc_ask_steps::places::{Place, place_named};
-use sharc_ask_steps::state::{End, State, enter};
+use sharc_ask_steps::places::{LvaluePlace, place_named};
+use sharc_ask_steps::state::{RunEnd, State, enter};
 use sharc_mode::moded::Moded;
 use sharc_names::fault::Named;
 use sharc_names::kind::is_array;
 use sharc_tree::token::{Site, Span};
-use sharc_tree::tree::{Access, BinaryOperator, Expr, Identifier, PlaceCall, UnaryOperator};
+use sharc_tree::tree::{FieldOperator, BinaryOperator, Expr, Identifier, PlaceCall, UnaryOperator};
 
 fn on_place_plan<'a>(
     expr: &'a Expr,
@@ -170,7 +170,7 @@ fn cast_plan<'a>(expr: &'a Expr, span: Span, source: &'a Expr, st: &State) -> Pl
     Plan::Goes(place, Rest::Place(source, WithPlace::Casts(span, mark)))
 }
 
-fn eval_plan<'a>(program: &'a Moded, expr: &'a Expr, st: &mut State) -> Result<Plan<'a>, End>
+fn eval_plan<'a>(program: &'a Moded, expr: &'a Expr, st: &mut State) -> Result<Plan<'a>, RunEnd>
     ensures means { (on_call : Calls) → Plans on_call program.now (view_state st.old) result (view_state st.new)
         (inside (gives number (eval on_call program.now (view_expr expr.now)))) }
     ensures fits { IfOk result (Fits 15) }
@@ -216,7 +216,7 @@ fn eval_plan<'a>(program: &'a Moded, expr: &'a Expr, st: &mut State) -> Result<P
 }
 
 /// The value of an expression.
-pub fn begin_eval<'a>(program: &'a Moded, expr: &'a Expr, st: &mut State) -> Result<Plan<'a>, End>
+pub fn begin_eval<'a>(program: &'a Moded, expr: &'a Expr, st: &mut State) -> Result<Plan<'a>, RunEnd>
     ensures means { (on_call : Calls) → Plans on_call program.now (view_state st.old) result (view_state st.new)
         (gives number (eval on_call program.now (view_expr expr.now))) }
     ensures begins { IfOk result (Begins 1 st.old.fuel st.new.fuel) }
@@ -233,9 +233,9 @@ fn unary_place_plan<'a>(site: Site, operator: UnaryOperator, operand: &'a Expr) 
 {
     match operator {
         UnaryOperator::Dereference => Plan::Goes(Task::Pointee(site, operand), Rest::Same),
-        UnaryOperator::Negate => Plan::Done(Value::Place(Place::Variable(0))),
-        UnaryOperator::Not => Plan::Done(Value::Place(Place::Variable(0))),
-        UnaryOperator::Complement => Plan::Done(Value::Place(Place::Variable(0))),
+        UnaryOperator::Negate => Plan::Done(Value::Place(LvaluePlace::Variable(0))),
+        UnaryOperator::Not => Plan::Done(Value::Place(LvaluePlace::Variable(0))),
+        UnaryOperator::Complement => Plan::Done(Value::Place(LvaluePlace::Variable(0))),
     }
 }
 
@@ -260,13 +260,13 @@ fn place_plan<'a>(program: &'a Moded, site: Site, expr: &'a Expr) -> Plan<'a>
             Rest::Same,
         ),
         Expr::Unary(_, operator, a) => unary_place_plan(site, *operator, a),
-        Expr::Constant(_, _) => Plan::Done(Value::Place(Place::Variable(0))),
-        Expr::Call(_, _, _) => Plan::Done(Value::Place(Place::Variable(0))),
-        Expr::Spawn(_, _, _) => Plan::Done(Value::Place(Place::Variable(0))),
-        Expr::OnValue(_, _, _) => Plan::Done(Value::Place(Place::Variable(0))),
-        Expr::OnPlace(_, _, _) => Plan::Done(Value::Place(Place::Variable(0))),
-        Expr::Cast(_, _, _) => Plan::Done(Value::Place(Place::Variable(0))),
-        Expr::Binary { .. } => Plan::Done(Value::Place(Place::Variable(0))),
+        Expr::Constant(_, _) => Plan::Done(Value::Place(LvaluePlace::Variable(0))),
+        Expr::Call(_, _, _) => Plan::Done(Value::Place(LvaluePlace::Variable(0))),
+        Expr::Spawn(_, _, _) => Plan::Done(Value::Place(LvaluePlace::Variable(0))),
+        Expr::OnValue(_, _, _) => Plan::Done(Value::Place(LvaluePlace::Variable(0))),
+        Expr::OnPlace(_, _, _) => Plan::Done(Value::Place(LvaluePlace::Variable(0))),
+        Expr::Cast(_, _, _) => Plan::Done(Value::Place(LvaluePlace::Variable(0))),
+        Expr::Binary { .. } => Plan::Done(Value::Place(LvaluePlace::Variable(0))),
     }
 }
 
@@ -276,7 +276,7 @@ pub fn begin_place<'a>(
     site: Site,
     expr: &'a Expr,
     st: &mut State,
-) -> Result<Plan<'a>, End>
+) -> Result<Plan<'a>, RunEnd>
     ensures means { (on_call : Calls) → Plans on_call program.now (view_state st.old) result (view_state st.new)
         (gives place (place_of on_call program.now site (view_expr expr.now))) }
     ensures begins { IfOk result (Begins 1 st.old.fuel st.new.fuel) }
@@ -306,7 +306,7 @@ pub fn index_plan<'a>(program: &'a Moded, site: Site, base: &'a Expr, index: &'a
 }
 
 /// `a.n` and `a->n`
-pub fn field_plan<'a>(site: Site, base: &'a Expr, access: Access, named: Named) -> Plan<'a>
+pub fn field_plan<'a>(site: Site, base: &'a Expr, access: FieldOperator, named: Named) -> Plan<'a>
     ensures means { (on_call : Calls) (m : Assignment)
         → Leads on_call m (gives place (field_place m.typed site (view_expr base.now) access named
         (place_of on_call m site (view_expr base.now)) (eval on_call m (view_expr base.now)))) result }
@@ -314,8 +314,8 @@ pub fn field_plan<'a>(site: Site, base: &'a Expr, access: Access, named: Named) 
 {
     let rest = Rest::Place(base, WithPlace::FieldIn(named));
     match access {
-        Access::Dot => Plan::Goes(Task::PlaceOf(site, base), rest),
-        Access::Arrow => Plan::Goes(Task::Pointee(site, base), rest),
+        FieldOperator::Dot => Plan::Goes(Task::PlaceOf(site, base), rest),
+        FieldOperator::Arrow => Plan::Goes(Task::Pointee(site, base), rest),
     }
 }
 

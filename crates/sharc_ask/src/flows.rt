@@ -17,12 +17,12 @@ use crate::parts::{end_above, end_block};
 use crate::plan::{After, Loop, Plan, Rest, Task, Value, flow_in, test_in};
 use crate::plans::{done_flow, done_number};
 use crate::values::{Flow, body_of, left_by, number_left, step_of, test_of};
-use sharc_ask_steps::state::{End, State, enter};
-use sharc_names::kind::Kind;
+use sharc_ask_steps::state::{RunEnd, State, enter};
+use sharc_names::kind::ExpressionKind;
 use sharc_tree::tree::Stmt;
 
 /// A statement that is entered already.
-pub fn entered_plan<'a>(kind: Kind<'a>, statement: &'a Stmt, st: &State) -> Plan<'a>
+pub fn entered_plan<'a>(kind: ExpressionKind<'a>, statement: &'a Stmt, st: &State) -> Plan<'a>
     ensures means { (on_call : Calls) (m : Assignment) → LeadsFrom on_call m (view_state st.now)
         (inside (gives flow (exec on_call m (view_kind kind.entry) (view_stmt statement.now)))) result }
     ensures fits { Fits 18 result }
@@ -66,11 +66,11 @@ pub fn entered_plan<'a>(kind: Kind<'a>, statement: &'a Stmt, st: &State) -> Plan
 
 // A statement is entered, and this goes on behind it.
 fn begin_statement<'a>(
-    kind: Kind<'a>,
+    kind: ExpressionKind<'a>,
     statement: &'a Stmt,
     rest: Rest<'a>,
     st: &mut State,
-) -> Result<Plan<'a>, End>
+) -> Result<Plan<'a>, RunEnd>
     ensures means { (on_call : Calls) (m : Assignment) → Plans on_call m (view_state st.old) result (view_state st.new)
         (goes_on on_call m (gives flow (exec on_call m (view_kind kind.entry) (view_stmt statement.now))) rest.entry) }
     ensures begins { IfOk result (λ p. 64 * st.new.fuel + size p + 45 ≤ 64 * st.old.fuel + weight rest.entry) }
@@ -80,7 +80,7 @@ fn begin_statement<'a>(
 }
 
 /// The statements of a list.
-pub fn begin_all<'a>(kind: Kind<'a>, all: &'a [Stmt], st: &mut State) -> Result<Plan<'a>, End>
+pub fn begin_all<'a>(kind: ExpressionKind<'a>, all: &'a [Stmt], st: &mut State) -> Result<Plan<'a>, RunEnd>
     ensures means { (on_call : Calls) (m : Assignment) → Plans on_call m (view_state st.old) result (view_state st.new)
         (gives flow (exec_all on_call m (view_kind kind.entry) (view_statements all.now))) }
     ensures begins { IfOk result (Begins 1 st.old.fuel st.new.fuel) }
@@ -94,13 +94,13 @@ pub fn begin_all<'a>(kind: Kind<'a>, all: &'a [Stmt], st: &mut State) -> Result<
 }
 
 /// At most so many turns of a loop.
-pub fn turns_plan<'a>(number: u64, l: Loop<'a>, st: &State) -> Result<Plan<'a>, End>
+pub fn turns_plan<'a>(number: u64, l: Loop<'a>, st: &State) -> Result<Plan<'a>, RunEnd>
     ensures means { (on_call : Calls) (m : Assignment) → Plans on_call m (view_state st.now) result (view_state st.now)
         (gives flow (turns_of on_call m l.entry number)) }
     ensures starts { IfOk result (Starts 7) }
 {
     if number == 0 {
-        return Err(End::Spent);
+        return Err(RunEnd::Spent);
     }
     let turns = Rest::After(After::Test(number - 1, l));
     Ok(Plan::Goes(Task::LoopTest(test_of(l.statement)), turns))
@@ -130,7 +130,7 @@ fn behind_body<'a>(number: u64, l: Loop<'a>, left: Flow) -> Plan<'a>
     }
 }
 
-fn behind_test<'a>(number: u64, l: Loop<'a>, goes_on: bool, st: &mut State) -> Result<Plan<'a>, End>
+fn behind_test<'a>(number: u64, l: Loop<'a>, goes_on: bool, st: &mut State) -> Result<Plan<'a>, RunEnd>
     ensures means { (on_call : Calls) (m : Assignment) → Plans on_call m (view_state st.old) result (view_state st.new)
         (gives flow (tested_done on_call m l.entry number goes_on)) }
     ensures begins { IfOk result (Begins 1 st.old.fuel st.new.fuel) }
@@ -148,12 +148,12 @@ fn behind_test<'a>(number: u64, l: Loop<'a>, goes_on: bool, st: &mut State) -> R
 }
 
 fn behind_choice<'a>(
-    kind: Kind<'a>,
+    kind: ExpressionKind<'a>,
     body: &'a Stmt,
     otherwise: Option<&'a Stmt>,
     is_true: bool,
     st: &mut State,
-) -> Result<Plan<'a>, End>
+) -> Result<Plan<'a>, RunEnd>
     ensures means { (on_call : Calls) (m : Assignment)
         → Plans on_call m (view_state st.old) result (view_state st.new) (gives flow
         (chosen_done on_call m (view_kind kind.entry) (view_stmt body.now) (view_otherwise otherwise.entry) is_true)) }
@@ -168,7 +168,7 @@ fn behind_choice<'a>(
     }
 }
 
-fn behind_listed<'a>(kind: Kind<'a>, rest: &'a [Stmt], left: Flow) -> Plan<'a>
+fn behind_listed<'a>(kind: ExpressionKind<'a>, rest: &'a [Stmt], left: Flow) -> Plan<'a>
     ensures means { (on_call : Calls) (m : Assignment)
         → Leads on_call m (gives flow (others_done on_call m (view_kind kind.entry) rest.now (view_flow left))) result }
     ensures fits { Fits 2 result }
@@ -182,7 +182,7 @@ fn behind_listed<'a>(kind: Kind<'a>, rest: &'a [Stmt], left: Flow) -> Plan<'a>
 }
 
 /// What goes on behind a part of a statement that came to this value.
-pub fn with_after<'a>(after: After<'a>, value: Value, st: &mut State) -> Result<Plan<'a>, End>
+pub fn with_after<'a>(after: After<'a>, value: Value, st: &mut State) -> Result<Plan<'a>, RunEnd>
     ensures means { (on_call : Calls) (m : Assignment) → Plans on_call m (view_state st.old) result (view_state st.new)
         (after_means on_call m after.entry (view_value value)) }
     ensures begins { IfOk result (Begins (after_weight after.entry) st.old.fuel st.new.fuel) }

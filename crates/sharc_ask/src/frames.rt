@@ -10,7 +10,7 @@ ghost use Rattle.sharc_ask_steps.specs.View.{view_state, Does};
 ghost use Rattle.sharc_ask.specs.View.{view_flow, WasKept};
 
 use crate::values::Flow;
-use sharc_ask_steps::state::{End, Frame, State, begin};
+use sharc_ask_steps::state::{RunEnd, Frame, State, begin};
 use sharc_meaning::variable::Variable;
 use sharc_names::kind::{declared_kind, is_pointer};
 use sharc_tree::token::Site;
@@ -22,7 +22,7 @@ pub fn begin_parameters(
     parameters: &[Declaration],
     values: &[i64],
     st: &mut State,
-) -> Result<(), End>
+) -> Result<(), RunEnd>
     ensures does { Does (view_state st.old) result (view_state st.new) (parameters_begin parameters.now values.now) }
     ensures fuel { st.new.fuel ≤ st.old.fuel }
 {
@@ -70,7 +70,7 @@ pub fn pointers_passed(parameters: &[Declaration]) -> usize
 
 /// What a caller has while its call runs.
 #[derive(Drop)]
-pub struct Kept {
+pub struct SuspendedCaller {
     pub frame: Frame,
     pub below: Vec<i64>,
 }
@@ -114,7 +114,7 @@ fn push_all(values: &[i64], list: &mut Vec<i64>) -> bool
 }
 
 // A new frame, in place of the one which keeps all but the last temporaries.
-pub fn push_frame(moved: usize, st: &mut State) -> Option<Kept>
+pub fn push_frame(moved: usize, st: &mut State) -> Option<SuspendedCaller>
     ensures kept { WasKept moved (view_state st.old) (view_state st.new)
         (option_map (λ k. (k.frame.variables.items, k.frame.temporaries.items, k.below.items)) result) }
     ensures fuel { st.new.fuel ≤ st.old.fuel }
@@ -130,7 +130,7 @@ pub fn push_frame(moved: usize, st: &mut State) -> Option<Kept>
             };
             let frame = std::mem::replace(&mut st.frame, fresh);
             let below = std::mem::replace(&mut st.below, all);
-            Some(Kept { frame, below })
+            Some(SuspendedCaller { frame, below })
         }
     }
 }

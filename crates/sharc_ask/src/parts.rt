@@ -28,20 +28,20 @@ use crate::values::{
 };
 use sharc_ask_steps::arithmetic::{fits, is_zero, negated, operated, truth, width_of};
 use sharc_ask_steps::cells::{elements_of, number_of};
-use sharc_ask_steps::places::{Place, element, element_of_array, pointee, stored};
-use sharc_ask_steps::state::{End, State, ask_event, moves, perform, unless};
+use sharc_ask_steps::places::{LvaluePlace, element, element_of_array, pointee, stored};
+use sharc_ask_steps::state::{RunEnd, State, ask_event, moves, perform, unless};
 use sharc_mode::cell::cell_of;
 use sharc_mode::moded::Moded;
 use sharc_mode::sharing::Sharing;
 use sharc_names::fault::Named;
-use sharc_names::kind::{Kind, declared_kind, promoted};
+use sharc_names::kind::{ExpressionKind, declared_kind, promoted};
 use sharc_tree::event::{Act, Object};
 use sharc_tree::token::Site;
 use sharc_tree::trap::Trap;
 use sharc_tree::tree::{Declaration, Expr, ValueCall};
 
 /// The temporaries after the mark end, where a number came.
-pub fn end_above(answer: Result<i64, End>, mark: usize, st: &mut State) -> Result<i64, End>
+pub fn end_above(answer: Result<i64, RunEnd>, mark: usize, st: &mut State) -> Result<i64, RunEnd>
     ensures does { (before : Known) (run : Run ℤ) → Does before answer (view_state st.old) run
         → Does before result (view_state st.new) (ends_above mark run) }
     ensures fuel { st.new.fuel ≤ st.old.fuel }
@@ -50,12 +50,12 @@ pub fn end_above(answer: Result<i64, End>, mark: usize, st: &mut State) -> Resul
     let value = answer?;
     match end_temporaries(mark, st) {
         Ok(()) => Ok(value),
-        Err(_) => Err(End::Memory),
+        Err(_) => Err(RunEnd::Memory),
     }
 }
 
 /// Likewise, of a step.
-pub fn end_step(answer: Result<(), End>, mark: usize, st: &mut State) -> Result<(), End>
+pub fn end_step(answer: Result<(), RunEnd>, mark: usize, st: &mut State) -> Result<(), RunEnd>
     ensures does { (before : Known) (run : Step) → Does before answer (view_state st.old) run
         → Does before result (view_state st.new) (ends_above mark run) }
     ensures fuel { st.new.fuel ≤ st.old.fuel }
@@ -64,12 +64,12 @@ pub fn end_step(answer: Result<(), End>, mark: usize, st: &mut State) -> Result<
     answer?;
     match end_temporaries(mark, st) {
         Ok(()) => Ok(()),
-        Err(_) => Err(End::Memory),
+        Err(_) => Err(RunEnd::Memory),
     }
 }
 
 /// A step, and then 0.
-pub fn zero_behind(answer: Result<(), End>) -> Result<i64, End>
+pub fn zero_behind(answer: Result<(), RunEnd>) -> Result<i64, RunEnd>
     ensures does { (before after : Known) (run : Step) → Does before answer after run
         → Does before result after (zero_behind run) }
     ensures kept { (n m : ℕ) → IfOk answer (λ _. n ≤ m) → IfOk result (λ _. n ≤ m) }
@@ -79,7 +79,7 @@ pub fn zero_behind(answer: Result<(), End>) -> Result<i64, End>
 }
 
 /// Whether a value is neither 0 nor NULL.
-pub fn tested_value(program: &Moded, expr: &Expr, value: i64, st: &mut State) -> Result<bool, End>
+pub fn tested_value(program: &Moded, expr: &Expr, value: i64, st: &mut State) -> Result<bool, RunEnd>
     ensures does { Does (view_state st.old) result (view_state st.new)
         (tested program.now.typed (view_expr expr.now) (give value)) }
     ensures fuel { st.new.fuel ≤ st.old.fuel }
@@ -88,7 +88,7 @@ pub fn tested_value(program: &Moded, expr: &Expr, value: i64, st: &mut State) ->
     Ok(!is_zero(value))
 }
 
-pub fn truth_of(program: &Moded, expr: &Expr, value: i64, st: &mut State) -> Result<i64, End>
+pub fn truth_of(program: &Moded, expr: &Expr, value: i64, st: &mut State) -> Result<i64, RunEnd>
     ensures does { Does (view_state st.old) result (view_state st.new)
         (truth_with program.now.typed (view_expr expr.now) value) }
     ensures fuel { st.new.fuel ≤ st.old.fuel }
@@ -97,7 +97,7 @@ pub fn truth_of(program: &Moded, expr: &Expr, value: i64, st: &mut State) -> Res
     Ok(truth(is_true))
 }
 
-pub fn inverted(program: &Moded, expr: &Expr, value: i64, st: &mut State) -> Result<i64, End>
+pub fn inverted(program: &Moded, expr: &Expr, value: i64, st: &mut State) -> Result<i64, RunEnd>
     ensures does { Does (view_state st.old) result (view_state st.new)
         (inverted_with program.now.typed (view_expr expr.now) value) }
     ensures fuel { st.new.fuel ≤ st.old.fuel }
@@ -113,7 +113,7 @@ pub fn negative(
     expr: &Expr,
     value: i64,
     st: &State,
-) -> Result<i64, End>
+) -> Result<i64, RunEnd>
     ensures { Does (view_state st.now) result (view_state st.now)
         (resulting site (negated (bits_of (promoted (kind_at program.now.typed (view_expr expr.now)))) value)) }
 {
@@ -122,7 +122,7 @@ pub fn negative(
 }
 
 /// A value that is held in a temporary.
-pub fn operand_value(program: &Moded, expr: &Expr, value: i64, st: &mut State) -> Result<i64, End>
+pub fn operand_value(program: &Moded, expr: &Expr, value: i64, st: &mut State) -> Result<i64, RunEnd>
     ensures does { Does (view_state st.old) result (view_state st.new)
         (operand program.now.typed (view_expr expr.now) (give value)) }
     ensures fuel { st.new.fuel ≤ st.old.fuel }
@@ -132,7 +132,7 @@ pub fn operand_value(program: &Moded, expr: &Expr, value: i64, st: &mut State) -
 }
 
 /// A value that what it goes to has to hold.
-pub fn fitted(kind: Kind<'_>, expr: &Expr, value: i64, st: &State) -> Result<i64, End>
+pub fn fitted(kind: ExpressionKind<'_>, expr: &Expr, value: i64, st: &State) -> Result<i64, RunEnd>
     ensures { Does (view_state st.now) result (view_state st.now)
         (fitting (view_kind kind.entry) (view_expr expr.now) (give value)) }
 {
@@ -141,12 +141,12 @@ pub fn fitted(kind: Kind<'_>, expr: &Expr, value: i64, st: &State) -> Result<i64
 }
 
 pub fn returned(
-    kind: Kind<'_>,
+    kind: ExpressionKind<'_>,
     site: Site,
     expr: &Expr,
     value: i64,
     st: &State,
-) -> Result<Flow, End>
+) -> Result<Flow, RunEnd>
     ensures { DoesAs view_flow (view_state st.now) result (view_state st.now)
         (returned_with (view_kind kind.entry) site (view_expr expr.now) value) }
 {
@@ -156,11 +156,11 @@ pub fn returned(
 
 fn fitted_operand(
     program: &Moded,
-    kind: Kind<'_>,
+    kind: ExpressionKind<'_>,
     expr: &Expr,
     value: i64,
     st: &mut State,
-) -> Result<i64, End>
+) -> Result<i64, RunEnd>
     ensures does { Does (view_state st.old) result (view_state st.new) (operand program.now.typed (view_expr expr.now)
         (fitting (view_kind kind.entry) (view_expr expr.now) (give value))) }
     ensures fuel { st.new.fuel ≤ st.old.fuel }
@@ -176,7 +176,7 @@ pub fn passed_value(
     expr: &Expr,
     value: i64,
     st: &mut State,
-) -> Result<i64, End>
+) -> Result<i64, RunEnd>
     ensures does { Does (view_state st.old) result (view_state st.new)
         (passed program.now.typed (declared_kinds parameters.now) (view_expr expr.now) (give value)) }
     ensures fuel { st.new.fuel ≤ st.old.fuel }
@@ -200,7 +200,7 @@ fn spawned_value(
     expr: &Expr,
     value: i64,
     st: &mut State,
-) -> Result<i64, End>
+) -> Result<i64, RunEnd>
     ensures does { Does (view_state st.old) result (view_state st.new)
         (spawned_with program.now.typed site named (view_expr expr.now) value) }
     ensures fuel { st.new.fuel ≤ st.old.fuel }
@@ -220,7 +220,7 @@ pub fn spawned(
     value: i64,
     mark: usize,
     st: &mut State,
-) -> Result<i64, End>
+) -> Result<i64, RunEnd>
     ensures does { Does (view_state st.old) result (view_state st.new)
         (ends_above mark (spawned_with program.now.typed site named (view_expr expr.now) value)) }
     ensures fuel { st.new.fuel ≤ st.old.fuel }
@@ -233,7 +233,7 @@ pub fn spawned(
 }
 
 /// `join` and `print`
-pub fn value_called(site: Site, word: ValueCall, value: i64, st: &mut State) -> Result<i64, End>
+pub fn value_called(site: Site, word: ValueCall, value: i64, st: &mut State) -> Result<i64, RunEnd>
     ensures does { Does (view_state st.old) result (view_state st.new) (value_called site word (give value)) }
     ensures fuel { st.new.fuel ≤ st.old.fuel }
 {
@@ -241,7 +241,7 @@ pub fn value_called(site: Site, word: ValueCall, value: i64, st: &mut State) -> 
 }
 
 /// `free` of what was taken.
-pub fn freed_with(site: Site, value: i64, st: &mut State) -> Result<i64, End>
+pub fn freed_with(site: Site, value: i64, st: &mut State) -> Result<i64, RunEnd>
     ensures does { Does (view_state st.old) result (view_state st.new) (free_unless_null site value) }
     ensures fuel { st.new.fuel ≤ st.old.fuel }
 {
@@ -255,7 +255,7 @@ fn joined_value(
     expr: &Expr,
     right: i64,
     st: &mut State,
-) -> Result<i64, End>
+) -> Result<i64, RunEnd>
     ensures does { Does (view_state st.old) result (view_state st.new) (joined_with program.now.typed
         (value_bits operation.width) operation.site operation.operator (view_expr expr.now) left (give right)) }
     ensures fuel { st.new.fuel ≤ st.old.fuel }
@@ -276,7 +276,7 @@ pub fn joined(
     expr: &Expr,
     right: i64,
     st: &mut State,
-) -> Result<i64, End>
+) -> Result<i64, RunEnd>
     ensures does { Does (view_state st.old) result (view_state st.new)
         (ends_above operation.mark (joined_with program.now.typed
         (value_bits operation.width) operation.site operation.operator (view_expr expr.now) left (give right))) }
@@ -294,10 +294,10 @@ pub fn element_in(
     program: &Moded,
     site: Site,
     array: &Expr,
-    base: Place,
+    base: LvaluePlace,
     number: i64,
     st: &State,
-) -> Result<Place, End>
+) -> Result<LvaluePlace, RunEnd>
     ensures { DoesAs view_place (view_state st.now) result (view_state st.now)
         (element_in program.now.typed site (view_expr array.now) (view_place base) number) }
 {
@@ -312,7 +312,7 @@ pub fn element_behind(
     pointer: i64,
     number: i64,
     st: &State,
-) -> Result<Place, End>
+) -> Result<LvaluePlace, RunEnd>
     ensures { DoesAs view_place (view_state st.now) result (view_state st.now)
         (element_behind program.now.typed site (view_expr pointed.now) pointer number) }
 {
@@ -333,7 +333,7 @@ pub fn first_behind(
     pointed: &Expr,
     pointer: i64,
     st: &mut State,
-) -> Result<Place, End>
+) -> Result<LvaluePlace, RunEnd>
     ensures does { DoesAs view_place (view_state st.old) result (view_state st.new)
         (pointee_place program.now.typed site (view_expr pointed.now) (give pointer)) }
     ensures fuel { st.new.fuel ≤ st.old.fuel }
@@ -346,11 +346,11 @@ pub fn first_behind(
 pub fn stored_at(
     program: &Moded,
     expr: &Expr,
-    place: Place,
+    place: LvaluePlace,
     value: i64,
     mark: usize,
     st: &mut State,
-) -> Result<(), End>
+) -> Result<(), RunEnd>
     ensures does { Does (view_state st.old) result (view_state st.new)
         (ends_above mark (assigned_to program.now (view_expr expr.now) (view_place place) (give value))) }
     ensures fuel { st.new.fuel ≤ st.old.fuel }
@@ -377,7 +377,7 @@ pub fn initialised(
     declaration: &Declaration,
     value: i64,
     st: &mut State,
-) -> Result<(), End>
+) -> Result<(), RunEnd>
     ensures does { Does (view_state st.old) result (view_state st.new)
         (stored program.now.typed declaration.now.name.site (declared_kind declaration.now.written) private
         (variable declaration.now.name.site.token) value) }
@@ -389,14 +389,14 @@ pub fn initialised(
         site,
         declared_kind(&declaration.written),
         Sharing::Private,
-        Place::Variable(site.token),
+        LvaluePlace::Variable(site.token),
         value,
         st,
     )
 }
 
 /// The variables after the mark end with a block.
-pub fn end_block(answer: Result<Flow, End>, mark: usize, st: &mut State) -> Result<Flow, End>
+pub fn end_block(answer: Result<Flow, RunEnd>, mark: usize, st: &mut State) -> Result<Flow, RunEnd>
     ensures does { (before : Known) (run : Run LeftBy) → DoesAs view_flow before answer (view_state st.old) run
         → DoesAs view_flow before result (view_state st.new) (ends_block mark run) }
     ensures fuel { st.new.fuel ≤ st.old.fuel }
@@ -405,7 +405,7 @@ pub fn end_block(answer: Result<Flow, End>, mark: usize, st: &mut State) -> Resu
     let flow = answer?;
     match end_variables(mark, st) {
         Ok(()) => Ok(flow),
-        Err(_) => Err(End::Memory),
+        Err(_) => Err(RunEnd::Memory),
     }
 }
 
@@ -426,7 +426,7 @@ fn left_of(flow: Flow) -> (Site, i64)
 }
 
 /// Where a function is left, and its result.
-pub fn left_behind(answer: Result<Value, End>) -> Result<(Site, i64), End>
+pub fn left_behind(answer: Result<Value, RunEnd>) -> Result<(Site, i64), RunEnd>
     ensures does { (before after : Known) (run : Run (Where × ℤ))
         → DoesAs view_value before answer after (gives as_left run) → Does before result after run }
 {

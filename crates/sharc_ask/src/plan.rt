@@ -7,13 +7,13 @@ ghost use Rattle.sharc_ask.specs.Values.{view_value, number_in, test_in, place_i
 
 use crate::values::Flow;
 use sharc_ask_steps::arithmetic::Width;
-use sharc_ask_steps::places::Place;
+use sharc_ask_steps::places::LvaluePlace;
 use sharc_mode::sharing::Sharing;
 use sharc_names::fault::Named;
-use sharc_names::kind::Kind;
+use sharc_names::kind::ExpressionKind;
 use sharc_tree::token::{Site, Span};
 use sharc_tree::tree::{
-    Access, BinaryOperator, Declaration, Expr, ForHead, Local, Right, Simple, Stmt, ValueCall,
+    FieldOperator, BinaryOperator, Declaration, Expr, ForHead, Local, Right, Simple, Stmt, ValueCall,
     WrittenType,
 };
 
@@ -23,7 +23,7 @@ pub enum Value {
     Nothing,
     Number(i64),
     Truth(bool),
-    Place(Place),
+    Place(LvaluePlace),
     Flow(Flow),
 }
 
@@ -51,15 +51,15 @@ pub fn test_in(value: Value) -> bool
     }
 }
 
-pub fn place_in(value: Value) -> Place
+pub fn place_in(value: Value) -> LvaluePlace
     ensures { view_place result ≡ place_in (view_value value) }
 {
     match value {
         Value::Place(place) => place,
-        Value::Nothing => Place::Variable(0),
-        Value::Truth(_) => Place::Variable(0),
-        Value::Number(_) => Place::Variable(0),
-        Value::Flow(_) => Place::Variable(0),
+        Value::Nothing => LvaluePlace::Variable(0),
+        Value::Truth(_) => LvaluePlace::Variable(0),
+        Value::Number(_) => LvaluePlace::Variable(0),
+        Value::Flow(_) => LvaluePlace::Variable(0),
     }
 }
 
@@ -78,7 +78,7 @@ pub fn flow_in(value: Value) -> Flow
 /// A `while` or a `for` in a function with a result of this type.
 #[derive(Clone, Copy)]
 pub struct Loop<'a> {
-    pub kind: Kind<'a>,
+    pub kind: ExpressionKind<'a>,
     pub statement: &'a Stmt,
 }
 
@@ -98,19 +98,19 @@ pub enum Task<'a> {
     /// `*a`
     Pointee(Site, &'a Expr),
     /// `a.n` and `a->n`
-    Field(Site, &'a Expr, Access, Named),
+    Field(Site, &'a Expr, FieldOperator, Named),
     /// The right side of `=`, for this type and the mode of its target.
-    Right(Kind<'a>, Sharing<'a>, &'a Right),
+    Right(ExpressionKind<'a>, Sharing<'a>, &'a Right),
     Simple(&'a Simple),
     Declare(&'a Local),
     /// What comes first, and the test, in the head of a loop.
     First(&'a Box<ForHead>),
     LoopTest(Option<&'a Expr>),
     /// A `return` in a function with a result of this type.
-    Return(Kind<'a>, Site, &'a Option<Box<Expr>>),
+    Return(ExpressionKind<'a>, Site, &'a Option<Box<Expr>>),
     /// A statement that is entered already, and the statements of a list.
-    Entered(Kind<'a>, &'a Stmt),
-    All(Kind<'a>, &'a [Stmt]),
+    Entered(ExpressionKind<'a>, &'a Stmt),
+    All(ExpressionKind<'a>, &'a [Stmt]),
     /// At most so many turns of a loop.
     Turns(u64, Loop<'a>),
 }
@@ -139,12 +139,12 @@ pub enum WithValue<'a> {
     TruthOf,
     LeftOperand(Operation, &'a Expr),
     RightOperand(Operation, i64),
-    Fitted(Kind<'a>),
+    Fitted(ExpressionKind<'a>),
     Made(Site, Sharing<'a>, &'a WrittenType),
     PointerBase(Site, &'a Expr),
     Based(Site),
     Dropped,
-    Returns(Kind<'a>, Site),
+    Returns(ExpressionKind<'a>, Site),
 }
 
 /// What goes on with the place that an expression names, or that of what it is read from.
@@ -163,9 +163,9 @@ pub enum WithPlace<'a> {
 /// What goes on with an index or with a value that goes somewhere.
 #[derive(Clone, Copy)]
 pub enum WithNumber<'a> {
-    ArrayElement(Site, &'a Expr, Place),
+    ArrayElement(Site, &'a Expr, LvaluePlace),
     PointerElement(Site, &'a Expr, i64),
-    Stored(&'a Expr, Place, usize),
+    Stored(&'a Expr, LvaluePlace, usize),
     Initialised(&'a Declaration),
 }
 
@@ -177,9 +177,9 @@ pub enum After<'a> {
     /// Variables after the mark end with a block.
     Block(usize),
     /// The other statements of a list.
-    Listed(Kind<'a>, &'a [Stmt]),
+    Listed(ExpressionKind<'a>, &'a [Stmt]),
     /// One of two statements, by a test.
-    Choice(Kind<'a>, &'a Stmt, Option<&'a Stmt>),
+    Choice(ExpressionKind<'a>, &'a Stmt, Option<&'a Stmt>),
     /// Behind what comes first in the head of a `for`. Variables after the mark end with it.
     Head(Loop<'a>, usize),
     /// Behind the test, the body and the step of a loop, of which so many turns are left.

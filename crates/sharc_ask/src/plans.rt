@@ -3,7 +3,7 @@
 ghost use Rattle.std.specs.Prelude.{ℕ, ℤ, Bool, IfOk};
 ghost use Rattle.sharc_mode.specs.Moded.{Assignment};
 ghost use Rattle.sharc_meaning.specs.Expressions.{Calls};
-ghost use Rattle.sharc_meaning.specs.Places.{Place as NamedPlace};
+ghost use Rattle.sharc_meaning.specs.Places.{StorePlace as NamedPlace};
 ghost use Rattle.sharc_meaning.specs.State.{Run, Step};
 ghost use Rattle.sharc_meaning.specs.Statements.{Flow as LeftBy};
 ghost use Rattle.sharc_ask_steps.specs.View.{Known, Does, DoesAs, view_place};
@@ -13,11 +13,11 @@ ghost use Rattle.sharc_ask.specs.Plans.{step_then, test_then, plan_means, Plans,
 
 use crate::plan::{Plan, Value};
 use crate::values::Flow;
-use sharc_ask_steps::places::Place;
-use sharc_ask_steps::state::End;
+use sharc_ask_steps::places::LvaluePlace;
+use sharc_ask_steps::state::RunEnd;
 
 /// A number came.
-pub fn done_number<'a>(answer: Result<i64, End>) -> Result<Plan<'a>, End>
+pub fn done_number<'a>(answer: Result<i64, RunEnd>) -> Result<Plan<'a>, RunEnd>
     ensures means { (on_call : Calls) (m : Assignment) (before after : Known) (run : Run ℤ)
         → Does before answer after run → Plans on_call m before result after (gives number run) }
     ensures fits { IfOk result (Fits 0) }
@@ -27,7 +27,7 @@ pub fn done_number<'a>(answer: Result<i64, End>) -> Result<Plan<'a>, End>
 }
 
 /// A place came.
-pub fn done_place<'a>(answer: Result<Place, End>) -> Result<Plan<'a>, End>
+pub fn done_place<'a>(answer: Result<LvaluePlace, RunEnd>) -> Result<Plan<'a>, RunEnd>
     ensures means { (on_call : Calls) (m : Assignment) (before after : Known) (run : Run NamedPlace)
         → DoesAs view_place before answer after run → Plans on_call m before result after (gives place run) }
     ensures fits { IfOk result (Fits 0) }
@@ -37,7 +37,7 @@ pub fn done_place<'a>(answer: Result<Place, End>) -> Result<Plan<'a>, End>
 }
 
 /// A test was made.
-pub fn done_test<'a>(answer: Result<bool, End>) -> Result<Plan<'a>, End>
+pub fn done_test<'a>(answer: Result<bool, RunEnd>) -> Result<Plan<'a>, RunEnd>
     ensures means { (on_call : Calls) (m : Assignment) (before after : Known) (run : Run Bool)
         → Does before answer after run → Plans on_call m before result after (gives test run) }
     ensures fits { IfOk result (Fits 0) }
@@ -47,7 +47,7 @@ pub fn done_test<'a>(answer: Result<bool, End>) -> Result<Plan<'a>, End>
 }
 
 /// A statement was left.
-pub fn done_flow<'a>(answer: Result<Flow, End>) -> Result<Plan<'a>, End>
+pub fn done_flow<'a>(answer: Result<Flow, RunEnd>) -> Result<Plan<'a>, RunEnd>
     ensures means { (on_call : Calls) (m : Assignment) (before after : Known) (run : Run LeftBy)
         → DoesAs view_flow before answer after run → Plans on_call m before result after (gives flow run) }
     ensures fits { IfOk result (Fits 0) }
@@ -57,7 +57,7 @@ pub fn done_flow<'a>(answer: Result<Flow, End>) -> Result<Plan<'a>, End>
 }
 
 /// A step was done.
-pub fn done_step<'a>(answer: Result<(), End>) -> Result<Plan<'a>, End>
+pub fn done_step<'a>(answer: Result<(), RunEnd>) -> Result<Plan<'a>, RunEnd>
     ensures means { (on_call : Calls) (m : Assignment) (before after : Known) (run : Step)
         → Does before answer after run → Plans on_call m before result after (gives as_nothing run) }
     ensures fits { IfOk result (Fits 0) }
@@ -67,7 +67,7 @@ pub fn done_step<'a>(answer: Result<(), End>) -> Result<Plan<'a>, End>
 }
 
 /// A step was done, and it goes on.
-pub fn then<'a>(answer: Result<(), End>, plan: Plan<'a>) -> Result<Plan<'a>, End>
+pub fn then<'a>(answer: Result<(), RunEnd>, plan: Plan<'a>) -> Result<Plan<'a>, RunEnd>
     ensures means { (on_call : Calls) (m : Assignment) (before after : Known) (run : Step)
         → Does before answer after run
         → Plans on_call m before result after (step_then run (plan_means on_call m plan.entry)) }
@@ -78,7 +78,7 @@ pub fn then<'a>(answer: Result<(), End>, plan: Plan<'a>) -> Result<Plan<'a>, End
 }
 
 /// A test was made, and it goes on by its truth.
-pub fn by_truth<'a>(answer: Result<bool, End>, yes: Plan<'a>, no: Plan<'a>) -> Result<Plan<'a>, End>
+pub fn by_truth<'a>(answer: Result<bool, RunEnd>, yes: Plan<'a>, no: Plan<'a>) -> Result<Plan<'a>, RunEnd>
     ensures means { (on_call : Calls) (m : Assignment) (before after : Known) (run : Run Bool)
         → Does before answer after run → Plans on_call m before result after
         (test_then run (plan_means on_call m yes.entry) (plan_means on_call m no.entry)) }

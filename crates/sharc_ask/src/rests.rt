@@ -28,8 +28,8 @@ use crate::values::{Flow, based, cast_unless_null, held, kind_of, let_go, made, 
 use sharc_ask_steps::arithmetic::complement;
 use sharc_ask_steps::cells::field_place_named;
 use sharc_ask_steps::locking::{lock_call, unlock_call};
-use sharc_ask_steps::places::{Place, field_in, taken_from};
-use sharc_ask_steps::state::{End, State};
+use sharc_ask_steps::places::{LvaluePlace, field_in, taken_from};
+use sharc_ask_steps::state::{RunEnd, State};
 use sharc_mode::cell::{cell_of, pointed};
 use sharc_mode::moded::Moded;
 use sharc_mode::row::row_of;
@@ -45,7 +45,7 @@ fn by_left<'a>(
     right: &'a Expr,
     x: i64,
     st: &mut State,
-) -> Result<Plan<'a>, End>
+) -> Result<Plan<'a>, RunEnd>
     ensures means { (on_call : Calls) → let m = program.now in let a = view_expr expr.now in
         let b = view_expr right.now in let bits = value_bits operation.width in
         Plans on_call m (view_state st.old) result (view_state st.new) (gives number (ends_above operation.mark
@@ -66,7 +66,7 @@ fn by_pointer<'a>(
     index: &'a Expr,
     x: i64,
     st: &mut State,
-) -> Result<Plan<'a>, End>
+) -> Result<Plan<'a>, RunEnd>
     ensures means { (on_call : Calls) → let m = program.now in
         Plans on_call m (view_state st.old) result (view_state st.new)
         (gives place (behind_pointer m.typed site (view_expr expr.now) x (eval on_call m (view_expr index.now)))) }
@@ -84,7 +84,7 @@ fn with_value<'a>(
     rest: WithValue<'a>,
     x: i64,
     st: &mut State,
-) -> Result<Plan<'a>, End>
+) -> Result<Plan<'a>, RunEnd>
     ensures means { (on_call : Calls) → Plans on_call program.now (view_state st.old) result (view_state st.new)
         (value_means on_call program.now (view_expr expr.now) rest.entry x) }
     ensures fits { IfOk result (Starts (value_weight rest.entry)) }
@@ -133,7 +133,7 @@ fn with_number<'a>(
     rest: WithNumber<'a>,
     x: i64,
     st: &mut State,
-) -> Result<Plan<'a>, End>
+) -> Result<Plan<'a>, RunEnd>
     ensures means { (on_call : Calls) → Plans on_call program.now (view_state st.old) result (view_state st.new)
         (number_means program.now rest.entry x) }
     ensures fits { IfOk result (Fits 0) }
@@ -158,10 +158,10 @@ fn taken(
     span: Span,
     kind: TakeKind,
     expr: &Expr,
-    place: Place,
+    place: LvaluePlace,
     mark: usize,
     st: &mut State,
-) -> Result<i64, End>
+) -> Result<i64, RunEnd>
     ensures does { Does (view_state st.old) result (view_state st.new)
         (ends_above mark (taken_from program.now.typed span.first (span_of (view_expr expr.now)).first
         (cell_at program.now (view_expr expr.now)) kind (view_place place))) }
@@ -187,10 +187,10 @@ fn freed<'a>(
     program: &'a Moded,
     span: Span,
     expr: &'a Expr,
-    place: Place,
+    place: LvaluePlace,
     mark: usize,
     st: &mut State,
-) -> Result<Plan<'a>, End>
+) -> Result<Plan<'a>, RunEnd>
     ensures means { (on_call : Calls) → Plans on_call program.now (view_state st.old) result (view_state st.new)
         (place_means on_call program.now (view_expr expr.now) (Frees span mark) (view_place place)) }
     ensures fits { IfOk result (Fits 0) }
@@ -204,10 +204,10 @@ fn cast<'a>(
     program: &'a Moded,
     span: Span,
     expr: &'a Expr,
-    place: Place,
+    place: LvaluePlace,
     mark: usize,
     st: &mut State,
-) -> Result<Plan<'a>, End>
+) -> Result<Plan<'a>, RunEnd>
     ensures means { (on_call : Calls) → Plans on_call program.now (view_state st.old) result (view_state st.new)
         (place_means on_call program.now (view_expr expr.now) (Casts span mark) (view_place place)) }
     ensures fits { IfOk result (Fits 0) }
@@ -221,9 +221,9 @@ fn with_place<'a>(
     program: &'a Moded,
     expr: &'a Expr,
     rest: WithPlace<'a>,
-    place: Place,
+    place: LvaluePlace,
     st: &mut State,
-) -> Result<Plan<'a>, End>
+) -> Result<Plan<'a>, RunEnd>
     ensures means { (on_call : Calls) → Plans on_call program.now (view_state st.old) result (view_state st.new)
         (place_means on_call program.now (view_expr expr.now) rest.entry (view_place place)) }
     ensures fits { IfOk result (Starts (place_weight rest.entry)) }
@@ -265,7 +265,7 @@ pub fn resume<'a>(
     rest: Rest<'a>,
     value: Value,
     st: &mut State,
-) -> Result<Plan<'a>, End>
+) -> Result<Plan<'a>, RunEnd>
     ensures means { (on_call : Calls) → Plans on_call program.now (view_state st.old) result (view_state st.new)
         (rest_means on_call program.now rest.entry (view_value value)) }
     ensures begins { IfOk result (Begins (weight rest.entry) st.old.fuel st.new.fuel) }

@@ -1,17 +1,17 @@
 // What is left to do behind a plan: the stack of the walk.
 
 ghost use Rattle.std.specs.Prelude.{◌≡◌, ◌∷◌, OnOk, IfErr};
-ghost use Rattle.sharc_ask_steps.specs.declared.state.End.TheVariants.{Memory};
+ghost use Rattle.sharc_ask_steps.specs.declared.state.RunEnd.TheVariants.{Memory};
 ghost use Rattle.sharc_ask.specs.Stack.{stack_of, with_rest};
 
-use crate::frames::Kept;
+use crate::frames::SuspendedCaller;
 use crate::plan::{Call, Plan, Rest};
-use sharc_ask_steps::state::End;
+use sharc_ask_steps::state::RunEnd;
 use sharc_tree::tree::{Declaration, Expr, FunctionDefinition};
 
 /// A call some of whose arguments have their values. Temporaries after the mark end with it.
 #[derive(Drop)]
-pub struct Passing<'a> {
+pub struct PendingCall<'a> {
     pub call: Call<'a>,
     pub mark: usize,
     /// Parameters and arguments that are left.
@@ -24,7 +24,7 @@ pub struct Passing<'a> {
 #[derive(Drop)]
 pub struct Caller<'a> {
     pub function: &'a FunctionDefinition,
-    pub kept: Kept,
+    pub kept: SuspendedCaller,
 }
 
 /// What is to be done with a value.
@@ -32,7 +32,7 @@ pub struct Caller<'a> {
 pub enum Later<'a> {
     Rest(Rest<'a>),
     /// It is the next argument.
-    Passes(Passing<'a>),
+    Passes(PendingCall<'a>),
     /// It says how a body is left.
     Returns(Caller<'a>),
 }
@@ -52,19 +52,19 @@ pub struct At<'a> {
 }
 
 /// One more thing is left to do, before all others.
-pub fn push<'a>(frames: u32, later: Later<'a>, stack: &mut Vec<Left<'a>>) -> Result<(), End>
+pub fn push<'a>(frames: u32, later: Later<'a>, stack: &mut Vec<Left<'a>>) -> Result<(), RunEnd>
     ensures pushed { OnOk result (stack_of stack.new
         ≡ record { frames = frames; later = later.entry } ∷ stack_of stack.old) }
     ensures memory { IfErr result (λ e. e ≡ Memory) }
 {
     match stack.push(Left { frames, later }) {
         Ok(()) => Ok(()),
-        Err(_) => Err(End::Memory),
+        Err(_) => Err(RunEnd::Memory),
     }
 }
 
 /// Likewise of the rest of a plan, of which `Same` needs no place.
-pub fn push_rest<'a>(frames: u32, rest: Rest<'a>, stack: &mut Vec<Left<'a>>) -> Result<(), End>
+pub fn push_rest<'a>(frames: u32, rest: Rest<'a>, stack: &mut Vec<Left<'a>>) -> Result<(), RunEnd>
     ensures pushed { OnOk result (stack_of stack.new ≡ with_rest frames rest.entry (stack_of stack.old)) }
     ensures memory { IfErr result (λ e. e ≡ Memory) }
 {

@@ -18,12 +18,12 @@ ghost use Rattle.sharc_ask.specs.Plans.{inside, Leads, LeadsFrom, Plans, Fits, S
 use crate::plan::{Plan, Rest, Task, Value, WithNumber, WithPlace, WithValue};
 use crate::plans::{done_number, then};
 use crate::values::{Flow, made};
-use sharc_ask_steps::state::{End, State, begin, enter};
+use sharc_ask_steps::state::{RunEnd, State, begin, enter};
 use sharc_mode::cell::pointed;
 use sharc_mode::moded::Moded;
-use sharc_mode::row::{Reading, declared_row};
+use sharc_mode::row::{PathReading, declared_row};
 use sharc_mode::sharing::Sharing;
-use sharc_names::kind::{Kind, declared_kind};
+use sharc_names::kind::{ExpressionKind, declared_kind};
 use sharc_tree::token::{Site, Span};
 use sharc_tree::tree::{Declaration, Expr, ForFirst, Local, Right, Simple, WrittenType};
 
@@ -34,7 +34,7 @@ fn counted<'a>(
     count: &'a Option<Expr>,
     written: &'a WrittenType,
     st: &mut State,
-) -> Result<Plan<'a>, End>
+) -> Result<Plan<'a>, RunEnd>
     ensures means { (on_call : Calls) (kind : KindMeant) → Plans on_call program.now (view_state st.old) result
         (view_state st.new) (inside (gives number (right_value on_call program.now kind (view_sharing target.entry)
         (malloc span (view_option view_expr count.now) written.now)))) }
@@ -57,7 +57,7 @@ fn begin_malloc<'a>(
     count: &'a Option<Expr>,
     written: &'a WrittenType,
     st: &mut State,
-) -> Result<Plan<'a>, End>
+) -> Result<Plan<'a>, RunEnd>
     ensures means { (on_call : Calls) (kind : KindMeant)
         → Plans on_call program.now (view_state st.old) result (view_state st.new) (gives number (right_value on_call
         program.now kind (view_sharing target.entry) (malloc span (view_option view_expr count.now) written.now))) }
@@ -70,11 +70,11 @@ fn begin_malloc<'a>(
 /// The right side of `=`.
 pub fn begin_right<'a>(
     program: &'a Moded,
-    kind: Kind<'a>,
+    kind: ExpressionKind<'a>,
     target: Sharing<'a>,
     right: &'a Right,
     st: &mut State,
-) -> Result<Plan<'a>, End>
+) -> Result<Plan<'a>, RunEnd>
     ensures means { (on_call : Calls)
         → Plans on_call program.now (view_state st.old) result (view_state st.new) (gives number
         (right_value on_call program.now (view_kind kind.entry) (view_sharing target.entry) (view_right right.now))) }
@@ -118,7 +118,7 @@ fn initial_plan<'a>(
         Some(right) => {
             let row = declared_row(
                 program.typed(),
-                Reading::Written,
+                PathReading::Written,
                 declaration.name.site.token,
             );
             Plan::Goes(
@@ -138,7 +138,7 @@ pub fn begin_local<'a>(
     program: &'a Moded,
     local: &'a Local,
     st: &mut State,
-) -> Result<Plan<'a>, End>
+) -> Result<Plan<'a>, RunEnd>
     ensures means { (on_call : Calls) → Plans on_call program.now (view_state st.old) result (view_state st.new)
         (gives as_nothing (declared on_call program.now (view_local local.now))) }
     ensures begins { IfOk result (Begins 5 st.old.fuel st.new.fuel) }
@@ -150,7 +150,7 @@ pub fn begin_local<'a>(
 }
 
 /// What comes first in the head of a `for`.
-pub fn begin_first<'a>(first: &'a ForFirst, st: &mut State) -> Result<Plan<'a>, End>
+pub fn begin_first<'a>(first: &'a ForFirst, st: &mut State) -> Result<Plan<'a>, RunEnd>
     ensures means { (on_call : Calls) (m : Assignment) → Plans on_call m (view_state st.old) result (view_state st.new)
         (gives as_nothing (done_first on_call m (view_first first.now))) }
     ensures begins { IfOk result (Begins 9 st.old.fuel st.new.fuel) }
@@ -178,7 +178,7 @@ pub fn test_plan<'a>(condition: Option<&'a Expr>) -> Plan<'a>
 }
 
 /// A `return`.
-pub fn return_plan<'a>(kind: Kind<'a>, site: Site, value: &'a Option<Box<Expr>>) -> Plan<'a>
+pub fn return_plan<'a>(kind: ExpressionKind<'a>, site: Site, value: &'a Option<Box<Expr>>) -> Plan<'a>
     ensures means { (on_call : Calls) (m : Assignment) → Leads on_call m (gives flow
         (return_with on_call m (view_kind kind.entry) site (view_option (λ b. view_expr b.value) value.now))) result }
     ensures starts { Starts 3 result }

@@ -10,7 +10,7 @@ ghost use Rattle.sharc_ask.specs.View.{leaves, Tells};
 use crate::asked::{Asked, Holds, Outcome};
 use crate::frames::held_by;
 use crate::walk::run_function;
-use sharc_ask_steps::state::{End, Frame, State, perform, unless};
+use sharc_ask_steps::state::{RunEnd, Frame, State, perform, unless};
 use sharc_mode::moded::Moded;
 use sharc_tree::event::Act;
 use sharc_tree::listed::Listed;
@@ -18,7 +18,7 @@ use sharc_tree::token::Site;
 use sharc_tree::trap::Trap;
 use std::alloc::{AllocError, Global};
 
-fn leaves(name: Site, st: &mut State) -> Result<(), End>
+fn leaves(name: Site, st: &mut State) -> Result<(), RunEnd>
     ensures { Does (view_state st.old) result (view_state st.new) (leaves name) }
 {
     perform(name, Act::Return, st)?;
@@ -26,7 +26,7 @@ fn leaves(name: Site, st: &mut State) -> Result<(), End>
 }
 
 /// A thread returns where it holds no mutex, and is then gone.
-fn goes_away(name: Site, site: Site, st: &mut State) -> Result<(), End>
+fn goes_away(name: Site, site: Site, st: &mut State) -> Result<(), RunEnd>
     ensures { Does (view_state st.old) result (view_state st.new) (goes_away name site) }
 {
     let free = st.held.is_empty();
@@ -34,7 +34,7 @@ fn goes_away(name: Site, site: Site, st: &mut State) -> Result<(), End>
     leaves(name, st)
 }
 
-fn run_thread(program: &Moded, number: u32, argument: i64, st: &mut State) -> Result<(), End>
+fn run_thread(program: &Moded, number: u32, argument: i64, st: &mut State) -> Result<(), RunEnd>
     ensures { Does (view_state st.old) result (view_state st.new)
         (run_thread program.now (function_at program.now.typed number) argument) }
 {
@@ -76,10 +76,10 @@ pub fn ask(
     };
     match run_thread(program, function, argument, &mut st) {
         Ok(()) => Ok(told(st, Outcome::Ended)),
-        Err(End::Memory) => Err(AllocError),
-        Err(End::Stopped(trap, site)) => Ok(told(st, Outcome::StoppedX(trap.number(), site))),
-        Err(End::Spent) => Ok(told(st, Outcome::Fuel)),
-        Err(End::Wants(event)) => match held_by(alloc, st.below.as_slice(), &st.frame) {
+        Err(RunEnd::Memory) => Err(AllocError),
+        Err(RunEnd::Stopped(trap, site)) => Ok(told(st, Outcome::StoppedX(trap.number(), site))),
+        Err(RunEnd::Spent) => Ok(told(st, Outcome::Fuel)),
+        Err(RunEnd::Wants(event)) => match held_by(alloc, st.below.as_slice(), &st.frame) {
             None => Err(AllocError),
             Some(held) => Ok(told(st, Outcome::Wants(event, Listed::of(held)))),
         },
@@ -139,10 +139,10 @@ pub fn held(
 {
     let mut st = started(alloc, answers, fuel);
     match run_thread(program, function, argument, &mut st) {
-        Err(End::Memory) => Err(AllocError),
+        Err(RunEnd::Memory) => Err(AllocError),
         Ok(()) => held_in(alloc, st),
-        Err(End::Stopped(_, _)) => held_in(alloc, st),
-        Err(End::Spent) => held_in(alloc, st),
-        Err(End::Wants(_)) => held_in(alloc, st),
+        Err(RunEnd::Stopped(_, _)) => held_in(alloc, st),
+        Err(RunEnd::Spent) => held_in(alloc, st),
+        Err(RunEnd::Wants(_)) => held_in(alloc, st),
     }
 }

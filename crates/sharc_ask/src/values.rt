@@ -22,15 +22,15 @@ ghost use Rattle.sharc_ask.specs.View.{number_left, logic_of, made, place_fetche
 
 use sharc_ask_steps::arithmetic::{is_positive, is_zero};
 use sharc_ask_steps::cells::{element_cells, instance_mode};
-use sharc_ask_steps::places::{Place, base, cast_to, element, fetched, freed};
-use sharc_ask_steps::state::{End, State, ask_event, dropped, hold, unless, value_in};
+use sharc_ask_steps::places::{LvaluePlace, base, cast_to, element, fetched, freed};
+use sharc_ask_steps::state::{RunEnd, State, ask_event, dropped, hold, unless, value_in};
 use sharc_ctype::typed;
 use sharc_mode::cell::{cell_of, pointed};
 use sharc_mode::moded::Moded;
 use sharc_mode::row::cast_row;
 use sharc_mode::sharing::Sharing;
 use sharc_names::fault::Named;
-use sharc_names::kind::{Kind, declared_kind, element_kind};
+use sharc_names::kind::{ExpressionKind, declared_kind, element_kind};
 use sharc_tree::event::{Act, Object};
 use sharc_tree::token::{Site, Span};
 use sharc_tree::trap::Trap;
@@ -48,7 +48,7 @@ pub enum Flow {
     Returned(Site, i64),
 }
 
-pub fn kind_of<'a>(program: &'a Moded, expr: &'a Expr) -> Kind<'a>
+pub fn kind_of<'a>(program: &'a Moded, expr: &'a Expr) -> ExpressionKind<'a>
     ensures { view_kind result ≡ kind_at program.now.typed (view_expr expr.now) }
 {
     program.typed().kind_at(expr)
@@ -92,7 +92,7 @@ pub fn rest_of(parameters: &[Declaration]) -> &[Declaration]
 }
 
 // A value that a temporary holds, if it is a pointer.
-pub fn held(program: &Moded, expr: &Expr, value: i64, st: &mut State) -> Result<(), End>
+pub fn held(program: &Moded, expr: &Expr, value: i64, st: &mut State) -> Result<(), RunEnd>
     ensures does { Does (view_state st.old) result (view_state st.new)
         (holds (kind_at program.now.typed (view_expr expr.now)) value) }
     ensures fuel { st.new.fuel ≤ st.old.fuel }
@@ -100,7 +100,7 @@ pub fn held(program: &Moded, expr: &Expr, value: i64, st: &mut State) -> Result<
     hold(kind_of(program, expr), value, st)
 }
 
-pub fn let_go(program: &Moded, expr: &Expr, value: i64, st: &mut State) -> Result<(), End>
+pub fn let_go(program: &Moded, expr: &Expr, value: i64, st: &mut State) -> Result<(), RunEnd>
     ensures does { Does (view_state st.old) result (view_state st.new)
         (drops (kind_at program.now.typed (view_expr expr.now)) value) }
     ensures fuel { st.new.fuel ≤ st.old.fuel }
@@ -114,7 +114,7 @@ pub fn based(
     expr: &Expr,
     pointer: i64,
     st: &mut State,
-) -> Result<(), End>
+) -> Result<(), RunEnd>
     ensures does { Does (view_state st.old) result (view_state st.new)
         (based site (kind_at program.now.typed (view_expr expr.now)) pointer) }
     ensures fuel { st.new.fuel ≤ st.old.fuel }
@@ -122,17 +122,17 @@ pub fn based(
     base(site, kind_of(program, expr), pointer, st)
 }
 
-pub fn resulting(site: Site, value: Result<i64, Trap>, st: &State) -> Result<i64, End>
+pub fn resulting(site: Site, value: Result<i64, Trap>, st: &State) -> Result<i64, RunEnd>
     ensures { Does (view_state st.now) result (view_state st.now) (resulting site value) }
 {
     match value {
         Ok(value) => Ok(value),
-        Err(trap) => Err(End::Stopped(trap, site)),
+        Err(trap) => Err(RunEnd::Stopped(trap, site)),
     }
 }
 
 // The value in the place that an expression names.
-pub fn place_fetched(program: &Moded, expr: &Expr, place: Place, st: &mut State) -> Result<i64, End>
+pub fn place_fetched(program: &Moded, expr: &Expr, place: LvaluePlace, st: &mut State) -> Result<i64, RunEnd>
     ensures does { Does (view_state st.old) result (view_state st.new)
         (place_fetched program.now (view_expr expr.now) (view_place place)) }
     ensures fuel { st.new.fuel ≤ st.old.fuel }
@@ -152,7 +152,7 @@ pub fn named_value(
     site: Site,
     token: u32,
     st: &mut State,
-) -> Result<i64, End>
+) -> Result<i64, RunEnd>
     ensures does { Does (view_state st.old) result (view_state st.new) (named_value program.now.typed
         (cell_at program.now (view_expr expr.now)) site (named_at program.now.typed token)) }
     ensures fuel { st.new.fuel ≤ st.old.fuel }
@@ -163,7 +163,7 @@ pub fn named_value(
             program,
             site,
             cell_of(program, expr),
-            Place::Cell(Object::Global(number), 0, 0),
+            LvaluePlace::Cell(Object::Global(number), 0, 0),
             st,
         ),
         Named::Struct(_) => Ok(0),
@@ -203,7 +203,7 @@ pub fn value_act(word: ValueCall, value: i64) -> Act
     }
 }
 
-pub fn freed_unless_null(site: Site, value: i64, st: &mut State) -> Result<(), End>
+pub fn freed_unless_null(site: Site, value: i64, st: &mut State) -> Result<(), RunEnd>
     ensures does { Does (view_state st.old) result (view_state st.new) (if is_null value then done
         else freed site value) }
     ensures fuel { st.new.fuel ≤ st.old.fuel }
@@ -221,7 +221,7 @@ pub fn cast_unless_null(
     expr: &Expr,
     value: i64,
     st: &mut State,
-) -> Result<i64, End>
+) -> Result<i64, RunEnd>
     ensures does { Does (view_state st.old) result (view_state st.new) (if is_null value then give value
         else cast_to program.now.typed (span_of (view_expr expr.now)).first
         (pointed program.now (Some (cast_row program.now.typed span))) value) }
@@ -272,7 +272,7 @@ pub fn made(
     elements: i64,
     written: &WrittenType,
     st: &mut State,
-) -> Result<i64, End>
+) -> Result<i64, RunEnd>
     ensures does { Does (view_state st.old) result (view_state st.new)
         (made program.now.typed site (view_sharing target.entry) elements written.now) }
     ensures fuel { st.new.fuel ≤ st.old.fuel }

@@ -23,12 +23,12 @@ use crate::stack::{At, Later, Left, push_rest};
 use crate::statements::{
     begin_first, begin_local, begin_right, return_plan, simple_plan, test_plan,
 };
-use sharc_ask_steps::state::{End, State};
+use sharc_ask_steps::state::{RunEnd, State};
 use sharc_mode::moded::Moded;
 use sharc_tree::token::Site;
 use sharc_tree::tree::FunctionDefinition;
 
-fn begin<'a>(program: &'a Moded, task: Task<'a>, st: &mut State) -> Result<Plan<'a>, End>
+fn begin<'a>(program: &'a Moded, task: Task<'a>, st: &mut State) -> Result<Plan<'a>, RunEnd>
     ensures means { (on_call : Calls) → Plans on_call program.now (view_state st.old) result (view_state st.new)
         (task_means on_call program.now task.entry) }
     ensures begins { IfOk result (Begins (rank task.entry) st.old.fuel st.new.fuel) }
@@ -64,7 +64,7 @@ fn go<'a>(
     rest: Rest<'a>,
     stack: &mut Vec<Left<'a>>,
     st: &mut State,
-) -> Result<At<'a>, End>
+) -> Result<At<'a>, RunEnd>
     ensures moves { Moves program.now (view_state st.old) (stack_of stack.old) result (view_state st.new)
         (stack_of stack.new) (goes_on (calls program.now frames) program.now
         (task_means (calls program.now frames) program.now task.entry) rest.entry) }
@@ -83,7 +83,7 @@ fn go_on<'a>(
     value: Value,
     stack: &mut Vec<Left<'a>>,
     st: &mut State,
-) -> Result<At<'a>, End>
+) -> Result<At<'a>, RunEnd>
     ensures moves { GoesOnWith program.now (view_state st.old) left.entry value (stack_of stack.old) result
         (view_state st.new) (stack_of stack.new) }
     ensures ends { IfOk result (λ at. 64 * st.new.fuel + size at.plan + load (stack_of stack.new)
@@ -107,7 +107,7 @@ enum Stepped<'a> {
     Goes(At<'a>),
 }
 
-fn further<'a>(answer: Result<At<'a>, End>) -> Result<Stepped<'a>, End>
+fn further<'a>(answer: Result<At<'a>, RunEnd>) -> Result<Stepped<'a>, RunEnd>
     ensures steps { (m : Assignment) (before after : Known) (stack stack1 : List Kept) (run : Run Meant)
         → Moves m before stack answer.entry after stack1 run → Steps m before stack result after stack1 run }
     ensures ends { (before after : ℕ) → IfOk answer.entry (λ at. after + size at.plan < before)
@@ -122,7 +122,7 @@ fn step<'a>(
     at: At<'a>,
     stack: &mut Vec<Left<'a>>,
     st: &mut State,
-) -> Result<Stepped<'a>, End>
+) -> Result<Stepped<'a>, RunEnd>
     ensures steps { Steps program.now (view_state st.old) (stack_of stack.old) result (view_state st.new)
         (stack_of stack.new) (at_means program.now at.entry) }
     ensures ends { IfOk result (λ next. GoesDown next (64 * st.old.fuel + size at.entry.plan
@@ -143,7 +143,7 @@ fn walk<'a>(
     begun: At<'a>,
     left: Vec<Left<'a>>,
     st: &mut State,
-) -> Result<Value, End>
+) -> Result<Value, RunEnd>
     ensures { Comes program.now begun.entry (stack_of left.entry) (view_state st.old) result (view_state st.new) }
 {
     let mut at = begun;
@@ -163,7 +163,7 @@ pub fn run_function<'a>(
     function: &'a FunctionDefinition,
     values: &[i64],
     st: &mut State,
-) -> Result<(Site, i64), End>
+) -> Result<(Site, i64), RunEnd>
     ensures { Does (view_state st.old) result (view_state st.new)
         (run_function (calls program.now frames) program.now (view_function function.now) values.now) }
 {

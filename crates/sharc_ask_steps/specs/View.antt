@@ -7,14 +7,14 @@ use Rattle.sharc_tree.specs.{declared.event.SourceEvent.SourceEvent, declared.to
 use Rattle.sharc_names.specs.Kinds.{Kind, is_pointer}
 use Rattle.sharc_meaning.specs.{declared.given.GivenUp.GivenUp, declared.given.GivenUp.TheVariants.Replaced}
 use Rattle.sharc_meaning.specs.{declared.variable.Variable.Variable, Cells.{Guard, mutex, behind, nothing}}
-use Rattle.sharc_meaning.specs.{Events.{same_cell, held_mutexes}, Places.{Place, variable, cell}}
+use Rattle.sharc_meaning.specs.{Events.{same_cell, held_mutexes}, Places.{StorePlace, variable, cell}}
 use Rattle.sharc_meaning.specs.State.{Frame, State, Outcome, wants, stopped, spent, Out, go, over, Run, Step, ◌>>◌}
 use Rattle.sharc_meaning.specs.State.{performs, moves, gives_up, done, held_by_frame}
-use Rattle.sharc_ask_steps.specs.{declared.cells.Guard.{Guard as RustGuard}, declared.places.Place.{Place as RustPlace}}
-use Rattle.sharc_ask_steps.specs.{declared.state.End.End, declared.state.State.{State as RustState}}
+use Rattle.sharc_ask_steps.specs.{declared.cells.Guard.{Guard as RustGuard}, declared.places.LvaluePlace.{LvaluePlace as RustPlace}}
+use Rattle.sharc_ask_steps.specs.{declared.state.RunEnd.RunEnd, declared.state.State.{State as RustState}}
 use Rattle.sharc_ask_steps.specs.declared.cells.Guard.TheVariants as guards
-use Rattle.sharc_ask_steps.specs.declared.places.Place.TheVariants as places
-use Rattle.sharc_ask_steps.specs.declared.state.End.TheVariants as ends
+use Rattle.sharc_ask_steps.specs.declared.places.LvaluePlace.TheVariants as places
+use Rattle.sharc_ask_steps.specs.declared.state.RunEnd.TheVariants as ends
 
 -- what the code knows of a thread on its way: all but the numbers of calls and the trace
 pub record Known : Type 0 where
@@ -56,7 +56,7 @@ view_state s = record {
 }
 
 -- an end of a run is the outcome that the code reports
-abbrev pub IsEnd : End → Outcome → Type 0
+abbrev pub IsEnd : RunEnd → Outcome → Type 0
 IsEnd ends.Memory o = Unit {0}
 IsEnd (ends.Wants e) o = o ≡ wants e
 IsEnd (ends.Stopped trap site) o = o ≡ stopped trap site
@@ -67,20 +67,20 @@ pub record Went {A : Type 0} (v : A) (k : Known) (out : Out A) : Type 0 where
   pub is : out ≡ go v state
   pub looks : known state ≡ k
 
-pub record Over {A : Type 0} (e : End) (k : Known) (out : Out A) : Type 0 where
+pub record Over {A : Type 0} (e : RunEnd) (k : Known) (out : Out A) : Type 0 where
   pub outcome : Outcome
   pub state : State
   pub is : out ≡ over outcome state
   pub ends_so : IsEnd e outcome
   pub looks : known state ≡ k
 
-abbrev pub Ends : {A : Type 0} → Result A End → Known → Out A → Type 0
+abbrev pub Ends : {A : Type 0} → Result A RunEnd → Known → Out A → Type 0
 Ends (Ok v) k out = Went v k out
 Ends (Err ends.Memory) k out = Unit {0}
 Ends (Err e) k out = Over e k out
 
 -- from whatever state looks so, the run comes to what the code answers, and leaves a state that looks like this
-abbrev pub Does : {A : Type 0} → Known → Result A End → Known → Run A → Type 0
+abbrev pub Does : {A : Type 0} → Known → Result A RunEnd → Known → Run A → Type 0
 Does before result after m = (s : State) → known s ≡ before → Ends result after (m s)
 
 -- the mutexes that are held after one more event
@@ -96,7 +96,7 @@ place_of (x ∷ rest) token = if x.token == token then 0 else place_of rest toke
 
 -- ---- what the code's values of other types stand for
 
-abbrev pub view_place : RustPlace → Place
+abbrev pub view_place : RustPlace → StorePlace
 view_place (places.Variable x) = variable x
 view_place (places.Cell o first c) = cell o first c
 
@@ -106,12 +106,12 @@ view_guard (guards.Behind c) = behind c
 view_guard guards.Nothing = nothing
 
 -- likewise, where the code's value stands for one
-abbrev pub EndsAs : {A B : Type 0} → (A → B) → Result A End → Known → Out B → Type 0
+abbrev pub EndsAs : {A B : Type 0} → (A → B) → Result A RunEnd → Known → Out B → Type 0
 EndsAs f (Ok v) k out = Went (f v) k out
 EndsAs f (Err ends.Memory) k out = Unit {0}
 EndsAs f (Err e) k out = Over e k out
 
-abbrev pub DoesAs : {A B : Type 0} → (A → B) → Known → Result A End → Known → Run B → Type 0
+abbrev pub DoesAs : {A B : Type 0} → (A → B) → Known → Result A RunEnd → Known → Run B → Type 0
 DoesAs f before result after m = (s : State) → known s ≡ before → EndsAs f result after (m s)
 
 -- ---- parts of runs, as the code's functions have them

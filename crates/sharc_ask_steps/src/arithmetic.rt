@@ -8,7 +8,7 @@ ghost use Rattle.sharc_meaning.specs.Arithmetic.{operated, negated, complement};
 ghost use Rattle.sharc_meaning.specs.Statements.{is_positive};
 ghost use Rattle.sharc_ask_steps.specs.Width.{value_bits, is_count};
 
-use sharc_names::kind::{Kind, Root, is_integer};
+use sharc_names::kind::{ExpressionKind, Root, is_integer};
 use sharc_tree::trap::Trap;
 use sharc_tree::tree::BinaryOperator;
 
@@ -34,14 +34,14 @@ fn width_of_root(root: Root<'_>) -> Width
 }
 
 /// The width of a type; that of `long` for what is no integer.
-pub fn width_of(kind: Kind<'_>) -> Width
+pub fn width_of(kind: ExpressionKind<'_>) -> Width
     ensures { value_bits result ≡ bits_of (view_kind kind.entry) }
 {
     match kind {
-        Kind::Object(root, _) => width_of_root(root),
-        Kind::Array(root, _) => width_of_root(root),
-        Kind::Null => Width::Long,
-        Kind::Function => Width::Long,
+        ExpressionKind::Object(root, _) => width_of_root(root),
+        ExpressionKind::Array(root, _) => width_of_root(root),
+        ExpressionKind::Null => Width::Long,
+        ExpressionKind::Function => Width::Long,
     }
 }
 
@@ -56,7 +56,7 @@ fn is_held_by(width: Width, value: i64) -> bool
 }
 
 /// Whether a variable or a cell of this type holds the value; every pointer holds every reference.
-pub fn fits(kind: Kind<'_>, value: i64) -> bool
+pub fn fits(kind: ExpressionKind<'_>, value: i64) -> bool
     ensures { result ≡ fits (view_kind kind.entry) value }
 {
     !is_integer(kind) || is_held_by(width_of(kind), value)

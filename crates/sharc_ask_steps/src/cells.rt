@@ -23,7 +23,7 @@ use sharc_mode::cell::named_kind;
 use sharc_mode::sharing::{Lock, Sharing, is_sibling_lock};
 use sharc_mode::types::fields_behind;
 use sharc_names::fault::Named;
-use sharc_names::kind::{Kind, Root, is_pointer};
+use sharc_names::kind::{ExpressionKind, Root, is_pointer};
 use sharc_tree::event::{CellAt, CellMode, Object};
 use sharc_tree::tree::{Declaration, GlobalForm, Item};
 
@@ -93,14 +93,14 @@ fn cells_behind(typed: &Typed, root: Root<'_>, stars: usize) -> u64
 }
 
 /// The cells of one element.
-pub fn element_cells(typed: &Typed, kind: Kind<'_>) -> u64
+pub fn element_cells(typed: &Typed, kind: ExpressionKind<'_>) -> u64
     ensures { result ≡ element_cells typed.now (view_kind kind.entry) }
 {
     match kind {
-        Kind::Object(root, stars) => cells_behind(typed, root, stars),
-        Kind::Array(root, stars) => cells_behind(typed, root, stars),
-        Kind::Null => 1,
-        Kind::Function => 1,
+        ExpressionKind::Object(root, stars) => cells_behind(typed, root, stars),
+        ExpressionKind::Array(root, stars) => cells_behind(typed, root, stars),
+        ExpressionKind::Null => 1,
+        ExpressionKind::Function => 1,
     }
 }
 

@@ -5,28 +5,28 @@ ghost use Rattle.sharc_meaning.specs.Waiting.{cell_at_place, moves_base, gives_u
 ghost use Rattle.sharc_ask_steps.specs.View.{view_state, view_place, Does};
 ghost use Rattle.sharc_ask_steps.specs.Waking.{stops_where_held};
 
-use crate::places::Place;
-use crate::state::{End, State, give_up, is_among, move_on, perform, unless};
+use crate::places::LvaluePlace;
+use crate::state::{RunEnd, State, give_up, is_among, move_on, perform, unless};
 use crate::waiting::unless_held;
 use sharc_meaning::given::GivenUp;
 use sharc_tree::event::{Act, CellAt, Object};
 use sharc_tree::token::Site;
 use sharc_tree::trap::Trap;
 
-fn cell_at_place(place: Place) -> CellAt
+fn cell_at_place(place: LvaluePlace) -> CellAt
     ensures { result ≡ cell_at_place (view_place place) }
 {
     match place {
-        Place::Variable(_) => CellAt {
+        LvaluePlace::Variable(_) => CellAt {
             object: Object::Global(0),
             cell: 0,
         },
-        Place::Cell(object, _, cell) => CellAt { object, cell },
+        LvaluePlace::Cell(object, _, cell) => CellAt { object, cell },
     }
 }
 
 // The run stops where the thread holds the mutex.
-fn unless_held_already(cell: CellAt, site: Site, st: &State) -> Result<(), End>
+fn unless_held_already(cell: CellAt, site: Site, st: &State) -> Result<(), RunEnd>
     ensures { Does (view_state st.now) result (view_state st.now) (stops_where_held cell site) }
 {
     unless(
@@ -37,30 +37,30 @@ fn unless_held_already(cell: CellAt, site: Site, st: &State) -> Result<(), End>
     )
 }
 
-fn moves_base(place: Place, st: &mut State) -> Result<(), End>
+fn moves_base(place: LvaluePlace, st: &mut State) -> Result<(), RunEnd>
     ensures does { Does (view_state st.old) result (view_state st.new) (moves_base (view_place place)) }
     ensures fuel { st.new.fuel ≤ st.old.fuel }
 {
     match place {
-        Place::Cell(Object::Made(_), _, _) => move_on(st),
-        Place::Cell(Object::Global(_), _, _) => Ok(()),
-        Place::Variable(_) => Ok(()),
+        LvaluePlace::Cell(Object::Made(_), _, _) => move_on(st),
+        LvaluePlace::Cell(Object::Global(_), _, _) => Ok(()),
+        LvaluePlace::Variable(_) => Ok(()),
     }
 }
 
-fn gives_up_base(place: Place, st: &mut State) -> Result<(), End>
+fn gives_up_base(place: LvaluePlace, st: &mut State) -> Result<(), RunEnd>
     ensures does { Does (view_state st.old) result (view_state st.new) (gives_up_base (view_place place)) }
     ensures fuel { st.new.fuel ≤ st.old.fuel }
 {
     match place {
-        Place::Cell(Object::Made(number), _, _) => give_up(GivenUp::Released(number), st),
-        Place::Cell(Object::Global(_), _, _) => Ok(()),
-        Place::Variable(_) => Ok(()),
+        LvaluePlace::Cell(Object::Made(number), _, _) => give_up(GivenUp::Released(number), st),
+        LvaluePlace::Cell(Object::Global(_), _, _) => Ok(()),
+        LvaluePlace::Variable(_) => Ok(()),
     }
 }
 
 /// A mutex that the thread holds already stops, and so does a seventeenth.
-pub fn lock_call(site: Site, place: Place, st: &mut State) -> Result<(), End>
+pub fn lock_call(site: Site, place: LvaluePlace, st: &mut State) -> Result<(), RunEnd>
     ensures does { Does (view_state st.old) result (view_state st.new) (lock_call site (view_place place)) }
     ensures fuel { st.new.fuel ≤ st.old.fuel }
 {
@@ -72,7 +72,7 @@ pub fn lock_call(site: Site, place: Place, st: &mut State) -> Result<(), End>
 }
 
 /// A mutex that it does not hold stops.
-pub fn unlock_call(site: Site, place: Place, st: &mut State) -> Result<(), End>
+pub fn unlock_call(site: Site, place: LvaluePlace, st: &mut State) -> Result<(), RunEnd>
     ensures does { Does (view_state st.old) result (view_state st.new) (unlock_call site (view_place place)) }
     ensures fuel { st.new.fuel ≤ st.old.fuel }
 {

@@ -19,60 +19,60 @@ ghost use Rattle.sharc_ask_steps.specs.View.{view_state, view_guard, view_place,
 use crate::arithmetic::is_zero;
 use crate::cells::{Guard, global_elements, guard_of, instance_mode, number_of};
 use crate::state::{
-    End, State, ask_event, dropped, give_up, hold, hold_reference, move_on, moves, perform, set,
+    RunEnd, State, ask_event, dropped, give_up, hold, hold_reference, move_on, moves, perform, set,
     unless, value_in,
 };
 use sharc_meaning::given::GivenUp;
 use sharc_mode::moded::Moded;
 use sharc_mode::sharing::{Lock, Sharing};
 use sharc_names::fault::Named;
-use sharc_names::kind::{Kind, is_pointer};
+use sharc_names::kind::{ExpressionKind, is_pointer};
 use sharc_tree::event::{Act, CellAt, CellMode, Object, TakeKind, Taken};
 use sharc_tree::token::Site;
 use sharc_tree::trap::Trap;
 
 /// What an lvalue names: a variable, or a cell of an object in the element that begins at the cell given first.
 #[derive(Clone, Copy, Drop)]
-pub enum Place {
+pub enum LvaluePlace {
     Variable(u32),
     Cell(Object, u64, u64),
 }
 
 /// What a name names.
-pub fn place_named(named: Named) -> Place
+pub fn place_named(named: Named) -> LvaluePlace
     ensures { view_place result ≡ place_named named }
 {
     match named {
-        Named::Variable(token) => Place::Variable(token),
-        Named::Global(number) => Place::Cell(Object::Global(number), 0, 0),
-        _ => Place::Variable(0),
+        Named::Variable(token) => LvaluePlace::Variable(token),
+        Named::Global(number) => LvaluePlace::Cell(Object::Global(number), 0, 0),
+        _ => LvaluePlace::Variable(0),
     }
 }
 
 /// The first element of what a pointer refers to.
-pub fn pointee(pointer: i64) -> Place
+pub fn pointee(pointer: i64) -> LvaluePlace
     ensures { view_place result ≡ pointee pointer }
 {
-    Place::Cell(Object::Made(number_of(pointer)), 0, 0)
+    LvaluePlace::Cell(Object::Made(number_of(pointer)), 0, 0)
 }
 
 /// The place of the field this many cells after the element's first. A cell that has no number of 64 bits is answered
 /// as out of memory.
-pub fn field_in(number: u64, place: Place, st: &State) -> Result<Place, End>
+pub fn field_in(number: u64, place: LvaluePlace, st: &State) -> Result<LvaluePlace, RunEnd>
     ensures { DoesAs view_place (view_state st.now) result (view_state st.now)
         (give (field_in number (view_place place))) }
 {
     match place {
-        Place::Variable(token) => Ok(Place::Variable(token)),
-        Place::Cell(object, first, _) => match first.checked_add(number) {
-            Some(cell) => Ok(Place::Cell(object, first, cell)),
-            None => Err(End::Memory),
+        LvaluePlace::Variable(token) => Ok(LvaluePlace::Variable(token)),
+        LvaluePlace::Cell(object, first, _) => match first.checked_add(number) {
+            Some(cell) => Ok(LvaluePlace::Cell(object, first, cell)),
+            None => Err(RunEnd::Memory),
         },
     }
 }
 
 /// A base that is a pointer is held by a temporary, and NULL stops.
-pub fn base(site: Site, kind: Kind<'_>, pointer: i64, st: &mut State) -> Result<(), End>
+pub fn base(site: Site, kind: ExpressionKind<'_>, pointer: i64, st: &mut State) -> Result<(), RunEnd>
     ensures does { Does (view_state st.old) result (view_state st.new) (based site (view_kind kind.entry) pointer) }
     ensures fuel { st.new.fuel ≤ st.old.fuel }
 {
@@ -88,20 +88,20 @@ pub fn element(
     elements: u64,
     index: i64,
     st: &State,
-) -> Result<Place, End>
+) -> Result<LvaluePlace, RunEnd>
     ensures { DoesAs view_place (view_state st.now) result (view_state st.now)
         (element site object cells elements index) }
 {
     if index < 0 {
-        return Err(End::Stopped(Trap::IndexOutOfBounds, site));
+        return Err(RunEnd::Stopped(Trap::IndexOutOfBounds, site));
     }
     let n = index.unsigned_abs();
     if n >= elements {
-        return Err(End::Stopped(Trap::IndexOutOfBounds, site));
+        return Err(RunEnd::Stopped(Trap::IndexOutOfBounds, site));
     }
     match n.checked_mul(cells) {
-        Some(first) => Ok(Place::Cell(object, first, first)),
-        None => Err(End::Memory),
+        Some(first) => Ok(LvaluePlace::Cell(object, first, first)),
+        None => Err(RunEnd::Memory),
     }
 }
 
@@ -110,15 +110,15 @@ pub fn element_of_array(
     program: &Moded,
     site: Site,
     cells: u64,
-    array: Place,
+    array: LvaluePlace,
     index: i64,
     st: &State,
-) -> Result<Place, End>
+) -> Result<LvaluePlace, RunEnd>
     ensures { DoesAs view_place (view_state st.now) result (view_state st.now)
         (element_of_array program.now.typed site cells (view_place array) index) }
 {
     match array {
-        Place::Cell(Object::Global(number), _, _) => element(
+        LvaluePlace::Cell(Object::Global(number), _, _) => element(
             site,
             Object::Global(number),
             cells,
@@ -126,13 +126,13 @@ pub fn element_of_array(
             index,
             st,
         ),
-        Place::Cell(Object::Made(_), _, _) => Ok(Place::Variable(0)),
-        Place::Variable(_) => Ok(Place::Variable(0)),
+        LvaluePlace::Cell(Object::Made(_), _, _) => Ok(LvaluePlace::Variable(0)),
+        LvaluePlace::Variable(_) => Ok(LvaluePlace::Variable(0)),
     }
 }
 
 /// The mutex that guards; where it is found by a Read of the pointer cell, NULL stops.
-pub fn guarding(site: Site, guard: Guard, st: &mut State) -> Result<CellAt, End>
+pub fn guarding(site: Site, guard: Guard, st: &mut State) -> Result<CellAt, RunEnd>
     ensures does { Does (view_state st.old) result (view_state st.new) (guarding site (view_guard guard)) }
     ensures fuel { st.new.fuel ≤ st.old.fuel }
 {
@@ -146,7 +146,7 @@ pub fn guarding(site: Site, guard: Guard, st: &mut State) -> Result<CellAt, End>
                 cell: 0,
             })
         }
-        Guard::Nothing => Err(End::Stopped(Trap::NullPointer, site)),
+        Guard::Nothing => Err(RunEnd::Stopped(Trap::NullPointer, site)),
     }
 }
 
@@ -157,7 +157,7 @@ fn locked_mode(
     object: Object,
     first: u64,
     st: &mut State,
-) -> Result<CellMode, End>
+) -> Result<CellMode, RunEnd>
     ensures does { Does (view_state st.old) result (view_state st.new)
         (access_mode program.now.typed site (locked (view_lock lock.entry)) object first) }
     ensures fuel { st.new.fuel ≤ st.old.fuel }
@@ -169,7 +169,7 @@ fn locked_mode(
         first,
         lock,
     ) {
-        None => Err(End::Memory),
+        None => Err(RunEnd::Memory),
         Some(guard) => {
             let cell = guarding(site, guard, st)?;
             Ok(CellMode::Locked(Some(cell)))
@@ -185,7 +185,7 @@ pub fn access_mode(
     object: Object,
     first: u64,
     st: &mut State,
-) -> Result<CellMode, End>
+) -> Result<CellMode, RunEnd>
     ensures does { Does (view_state st.old) result (view_state st.new)
         (access_mode program.now.typed site (view_sharing mode.entry) object first) }
     ensures fuel { st.new.fuel ≤ st.old.fuel }
@@ -204,16 +204,16 @@ pub fn fetched(
     program: &Moded,
     site: Site,
     mode: Sharing<'_>,
-    place: Place,
+    place: LvaluePlace,
     st: &mut State,
-) -> Result<i64, End>
+) -> Result<i64, RunEnd>
     ensures does { Does (view_state st.old) result (view_state st.new)
         (fetched program.now.typed site (view_sharing mode.entry) (view_place place)) }
     ensures fuel { st.new.fuel ≤ st.old.fuel }
 {
     match place {
-        Place::Variable(token) => Ok(value_in(st.frame.variables.as_slice(), token)),
-        Place::Cell(object, first, cell) => {
+        LvaluePlace::Variable(token) => Ok(value_in(st.frame.variables.as_slice(), token)),
+        LvaluePlace::Cell(object, first, cell) => {
             let under = access_mode(program, site, mode, object, first, st)?;
             ask_event(site, Act::Read(CellAt { object, cell }, under), st)
         }
@@ -221,7 +221,7 @@ pub fn fetched(
 }
 
 /// A cell of this type was written: if it is a pointer, what it held before is given up.
-fn replaced_in(kind: Kind<'_>, cell: CellAt, st: &mut State) -> Result<(), End>
+fn replaced_in(kind: ExpressionKind<'_>, cell: CellAt, st: &mut State) -> Result<(), RunEnd>
     ensures does { Does (view_state st.old) result (view_state st.new) (if is_pointer (view_kind kind.entry)
         then gives_up (Replaced cell ∷ []) else done) }
     ensures fuel { st.new.fuel ≤ st.old.fuel }
@@ -235,12 +235,12 @@ fn replaced_in(kind: Kind<'_>, cell: CellAt, st: &mut State) -> Result<(), End>
 
 fn stored_in_cell(
     site: Site,
-    kind: Kind<'_>,
+    kind: ExpressionKind<'_>,
     cell: CellAt,
     under: CellMode,
     value: i64,
     st: &mut State,
-) -> Result<(), End>
+) -> Result<(), RunEnd>
     ensures does { Does (view_state st.old) result (view_state st.new)
         (stored_in_cell site (view_kind kind.entry) cell under value) }
     ensures fuel { st.new.fuel ≤ st.old.fuel }
@@ -254,23 +254,23 @@ fn stored_in_cell(
 pub fn stored(
     program: &Moded,
     site: Site,
-    kind: Kind<'_>,
+    kind: ExpressionKind<'_>,
     mode: Sharing<'_>,
-    place: Place,
+    place: LvaluePlace,
     value: i64,
     st: &mut State,
-) -> Result<(), End>
+) -> Result<(), RunEnd>
     ensures does { Does (view_state st.old) result (view_state st.new)
         (stored program.now.typed site (view_kind kind.entry) (view_sharing mode.entry) (view_place place) value) }
     ensures fuel { st.new.fuel ≤ st.old.fuel }
 {
     match place {
-        Place::Variable(token) => {
+        LvaluePlace::Variable(token) => {
             let old = value_in(st.frame.variables.as_slice(), token);
             set(token, value, st)?;
             dropped(kind, old, st)
         }
-        Place::Cell(object, first, cell) => {
+        LvaluePlace::Cell(object, first, cell) => {
             hold(kind, value, st)?;
             let under = access_mode(program, site, mode, object, first, st)?;
             stored_in_cell(site, kind, CellAt { object, cell }, under, value, st)
@@ -284,7 +284,7 @@ fn taken_of_local(
     token: u32,
     value: i64,
     st: &mut State,
-) -> Result<i64, End>
+) -> Result<i64, RunEnd>
     ensures does { Does (view_state st.old) result (view_state st.new) (if is_null value then give value
         else answered site (acts.Take (taken.Local token) kind)) }
     ensures fuel { st.new.fuel ≤ st.old.fuel }
@@ -303,21 +303,21 @@ pub fn taken_from(
     site: Site,
     mode: Sharing<'_>,
     kind: TakeKind,
-    place: Place,
+    place: LvaluePlace,
     st: &mut State,
-) -> Result<i64, End>
+) -> Result<i64, RunEnd>
     ensures does { Does (view_state st.old) result (view_state st.new)
         (taken_from program.now.typed token_site site (view_sharing mode.entry) kind (view_place place)) }
     ensures fuel { st.new.fuel ≤ st.old.fuel }
 {
     match place {
-        Place::Variable(token) => {
+        LvaluePlace::Variable(token) => {
             let value = value_in(st.frame.variables.as_slice(), token);
             taken_of_local(site, kind, token, value, st)?;
             set(token, 0, st)?;
             Ok(value)
         }
-        Place::Cell(object, first, cell) => {
+        LvaluePlace::Cell(object, first, cell) => {
             let under = access_mode(program, site, mode, object, first, st)?;
             ask_event(
                 site,
@@ -335,7 +335,7 @@ pub fn cast_to(
     mode: Sharing<'_>,
     value: i64,
     st: &mut State,
-) -> Result<i64, End>
+) -> Result<i64, RunEnd>
     ensures does { Does (view_state st.old) result (view_state st.new)
         (cast_to program.now.typed site (view_sharing mode.entry) value) }
     ensures fuel { st.new.fuel ≤ st.old.fuel }
@@ -348,7 +348,7 @@ pub fn cast_to(
 }
 
 /// The object ends, and what its pointer cells hold is given up on the way.
-pub fn freed(site: Site, value: i64, st: &mut State) -> Result<(), End>
+pub fn freed(site: Site, value: i64, st: &mut State) -> Result<(), RunEnd>
     ensures does { Does (view_state st.old) result (view_state st.new) (freed site value) }
     ensures fuel { st.new.fuel ≤ st.old.fuel }
 {

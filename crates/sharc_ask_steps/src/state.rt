@@ -12,7 +12,7 @@ ghost use Rattle.sharc_ask_steps.specs.View.{view_state, Does, place_of, held_af
 use crate::cells::number_of;
 use sharc_meaning::given::GivenUp;
 use sharc_meaning::variable::Variable;
-use sharc_names::kind::{Kind, declared_kind, is_null, is_pointer};
+use sharc_names::kind::{ExpressionKind, declared_kind, is_null, is_pointer};
 use sharc_tree::event::{Act, CellAt, Object, SourceEvent, Taken};
 use sharc_tree::token::Site;
 use sharc_tree::trap::Trap;
@@ -21,7 +21,7 @@ use std::alloc::Global;
 
 /// Why a run is over.
 #[derive(Clone, Copy, Drop)]
-pub enum End {
+pub enum RunEnd {
     Memory,
     Wants(SourceEvent),
     Stopped(Trap, Site),
@@ -51,48 +51,48 @@ pub struct State<'a> {
 }
 
 /// Whether a value of this type may be NULL, the constant itself too.
-pub fn is_reference(kind: Kind<'_>) -> bool
+pub fn is_reference(kind: ExpressionKind<'_>) -> bool
     ensures { result ≡ is_reference (view_kind kind.entry) }
 {
     is_pointer(kind) || is_null(kind)
 }
 
 /// The run stops unless the test is met.
-pub fn unless(well: bool, trap: Trap, site: Site, st: &State) -> Result<(), End>
+pub fn unless(well: bool, trap: Trap, site: Site, st: &State) -> Result<(), RunEnd>
     ensures { Does (view_state st.now) result (view_state st.now) (unless_stop well trap site) }
 {
     if well {
         Ok(())
     } else {
-        Err(End::Stopped(trap, site))
+        Err(RunEnd::Stopped(trap, site))
     }
 }
 
 /// One more statement or expression is entered.
-pub fn enter(st: &mut State) -> Result<(), End>
+pub fn enter(st: &mut State) -> Result<(), RunEnd>
     ensures does { Does (view_state st.old) result (view_state st.new) enters }
     ensures fuel { IfOk result (λ _. st.new.fuel < st.old.fuel) }
 {
     if st.fuel == 0 {
-        return Err(End::Spent);
+        return Err(RunEnd::Spent);
     }
     st.fuel -= 1;
     Ok(())
 }
 
 /// A temporary holds this reference.
-pub fn hold_reference(value: i64, st: &mut State) -> Result<(), End>
+pub fn hold_reference(value: i64, st: &mut State) -> Result<(), RunEnd>
     ensures does { Does (view_state st.old) result (view_state st.new) (holds_reference value) }
     ensures fuel { st.new.fuel ≤ st.old.fuel }
 {
     match st.frame.temporaries.push(value) {
         Ok(()) => Ok(()),
-        Err(_) => Err(End::Memory),
+        Err(_) => Err(RunEnd::Memory),
     }
 }
 
 /// A temporary holds a value of this type, if it is a pointer.
-pub fn hold(kind: Kind<'_>, value: i64, st: &mut State) -> Result<(), End>
+pub fn hold(kind: ExpressionKind<'_>, value: i64, st: &mut State) -> Result<(), RunEnd>
     ensures does { Does (view_state st.old) result (view_state st.new) (holds (view_kind kind.entry) value) }
     ensures fuel { st.new.fuel ≤ st.old.fuel }
 {
@@ -104,7 +104,7 @@ pub fn hold(kind: Kind<'_>, value: i64, st: &mut State) -> Result<(), End>
 }
 
 /// A variable exists from here on.
-pub fn begin(declaration: &Declaration, value: i64, st: &mut State) -> Result<(), End>
+pub fn begin(declaration: &Declaration, value: i64, st: &mut State) -> Result<(), RunEnd>
     ensures does { Does (view_state st.old) result (view_state st.new) (begins_with declaration.now value) }
     ensures fuel { st.new.fuel ≤ st.old.fuel }
 {
@@ -117,7 +117,7 @@ pub fn begin(declaration: &Declaration, value: i64, st: &mut State) -> Result<()
     };
     match st.frame.variables.push(variable) {
         Ok(()) => Ok(()),
-        Err(_) => Err(End::Memory),
+        Err(_) => Err(RunEnd::Memory),
     }
 }
 
@@ -155,7 +155,7 @@ fn place_of(variables: &[Variable], token: u32) -> usize
 }
 
 /// Gives a variable this value.
-pub fn set(token: u32, value: i64, st: &mut State) -> Result<(), End>
+pub fn set(token: u32, value: i64, st: &mut State) -> Result<(), RunEnd>
     ensures does { Does (view_state st.old) result (view_state st.new) (sets token value) }
     ensures fuel { st.new.fuel ≤ st.old.fuel }
 {
@@ -172,7 +172,7 @@ pub fn set(token: u32, value: i64, st: &mut State) -> Result<(), End>
 }
 
 /// The reference of the last temporary has gone elsewhere.
-pub fn move_on(st: &mut State) -> Result<(), End>
+pub fn move_on(st: &mut State) -> Result<(), RunEnd>
     ensures does { Does (view_state st.old) result (view_state st.new) (moves_on 1) }
     ensures fuel { st.new.fuel ≤ st.old.fuel }
 {
@@ -182,7 +182,7 @@ pub fn move_on(st: &mut State) -> Result<(), End>
 }
 
 /// Likewise, where it is a value of this type.
-pub fn moves(kind: Kind<'_>, st: &mut State) -> Result<(), End>
+pub fn moves(kind: ExpressionKind<'_>, st: &mut State) -> Result<(), RunEnd>
     ensures does { Does (view_state st.old) result (view_state st.new) (moves (view_kind kind.entry)) }
     ensures fuel { st.new.fuel ≤ st.old.fuel }
 {
@@ -194,18 +194,18 @@ pub fn moves(kind: Kind<'_>, st: &mut State) -> Result<(), End>
 }
 
 /// References are given up.
-pub fn give_up(given: GivenUp, st: &mut State) -> Result<(), End>
+pub fn give_up(given: GivenUp, st: &mut State) -> Result<(), RunEnd>
     ensures does { Does (view_state st.old) result (view_state st.new) (gives_up (given ∷ [])) }
     ensures fuel { st.new.fuel ≤ st.old.fuel }
 {
     match st.given_up.push(given) {
         Ok(()) => Ok(()),
-        Err(_) => Err(End::Memory),
+        Err(_) => Err(RunEnd::Memory),
     }
 }
 
 /// This reference is given up.
-pub fn release(reference: i64, st: &mut State) -> Result<(), End>
+pub fn release(reference: i64, st: &mut State) -> Result<(), RunEnd>
     ensures does { Does (view_state st.old) result (view_state st.new) (gives_up (all_released (reference ∷ []))) }
     ensures fuel { st.new.fuel ≤ st.old.fuel }
 {
@@ -213,7 +213,7 @@ pub fn release(reference: i64, st: &mut State) -> Result<(), End>
 }
 
 /// A value of this type is used no more.
-pub fn dropped(kind: Kind<'_>, value: i64, st: &mut State) -> Result<(), End>
+pub fn dropped(kind: ExpressionKind<'_>, value: i64, st: &mut State) -> Result<(), RunEnd>
     ensures does { Does (view_state st.old) result (view_state st.new) (drops (view_kind kind.entry) value) }
     ensures fuel { st.new.fuel ≤ st.old.fuel }
 {
@@ -261,7 +261,7 @@ fn answer_of(variables: &[Variable], act: Act, told: i64) -> i64
 }
 
 /// Puts those of the cells that are not this one at the end of a list.
-fn keep_others(cells: &[CellAt], cell: CellAt, kept: &mut Vec<CellAt>) -> Result<(), End>
+fn keep_others(cells: &[CellAt], cell: CellAt, kept: &mut Vec<CellAt>) -> Result<(), RunEnd>
     ensures { OnOk result (kept.new.items ≡ kept.old.items ++ filter (λ d. not (same_cell d cell)) cells.now) }
 {
     match cells {
@@ -270,7 +270,7 @@ fn keep_others(cells: &[CellAt], cell: CellAt, kept: &mut Vec<CellAt>) -> Result
             if !same_cell(*first, cell) {
                 match kept.push(*first) {
                     Ok(()) => {}
-                    Err(_) => return Err(End::Memory),
+                    Err(_) => return Err(RunEnd::Memory),
                 }
             }
             keep_others(rest, cell, kept)
@@ -279,13 +279,13 @@ fn keep_others(cells: &[CellAt], cell: CellAt, kept: &mut Vec<CellAt>) -> Result
 }
 
 /// The mutexes that are held after one more event.
-fn note_held(alloc: Global, act: Act, held: &mut Vec<CellAt>) -> Result<(), End>
+fn note_held(alloc: Global, act: Act, held: &mut Vec<CellAt>) -> Result<(), RunEnd>
     ensures { OnOk result (held.new.items ≡ held_after act held.old.items) }
 {
     match act {
         Act::Lock(cell) => match held.push(cell) {
             Ok(()) => Ok(()),
-            Err(_) => Err(End::Memory),
+            Err(_) => Err(RunEnd::Memory),
         },
         Act::Unlock(cell) => {
             let mut kept = Vec::new(alloc);
@@ -306,12 +306,12 @@ fn next_answer(answers: &[i64]) -> i64
 }
 
 /// An event, with the next answer of the list.
-pub fn ask_event(site: Site, act: Act, st: &mut State) -> Result<i64, End>
+pub fn ask_event(site: Site, act: Act, st: &mut State) -> Result<i64, RunEnd>
     ensures does { Does (view_state st.old) result (view_state st.new) (answered site act) }
     ensures fuel { st.new.fuel ≤ st.old.fuel }
 {
     if st.answers.is_empty() {
-        return Err(End::Wants(SourceEvent {
+        return Err(RunEnd::Wants(SourceEvent {
             thread: 0,
             site,
             answer: 0,
@@ -328,11 +328,11 @@ pub fn ask_event(site: Site, act: Act, st: &mut State) -> Result<i64, End>
     };
     match st.events.push(event) {
         Ok(()) => {}
-        Err(_) => return Err(End::Memory),
+        Err(_) => return Err(RunEnd::Memory),
     }
     match note_held(st.alloc, act, &mut st.held) {
         Ok(()) => {}
-        Err(_) => return Err(End::Memory),
+        Err(_) => return Err(RunEnd::Memory),
     }
     st.answers = &st.answers[1..];
     st.given_up = Vec::new(st.alloc);
@@ -340,7 +340,7 @@ pub fn ask_event(site: Site, act: Act, st: &mut State) -> Result<i64, End>
 }
 
 /// An event that answers nothing.
-pub fn perform(site: Site, act: Act, st: &mut State) -> Result<(), End>
+pub fn perform(site: Site, act: Act, st: &mut State) -> Result<(), RunEnd>
     ensures does { Does (view_state st.old) result (view_state st.new) (performs site act) }
     ensures fuel { st.new.fuel ≤ st.old.fuel }
 {

@@ -9,7 +9,7 @@ ghost use Rattle.sharc_ask_steps.specs.Waking.{stops_unless_held, waits, awakes}
 
 use crate::arithmetic::is_zero;
 use crate::cells::number_of;
-use crate::state::{End, State, hold_reference, is_among, move_on, perform, unless};
+use crate::state::{RunEnd, State, hold_reference, is_among, move_on, perform, unless};
 use sharc_tree::event::{Act, CellAt, Object};
 use sharc_tree::token::Site;
 use sharc_tree::trap::Trap;
@@ -25,7 +25,7 @@ fn first_cell(pointer: i64) -> CellAt
 }
 
 /// The run stops unless the thread holds the mutex.
-pub fn unless_held(cell: CellAt, site: Site, st: &State) -> Result<(), End>
+pub fn unless_held(cell: CellAt, site: Site, st: &State) -> Result<(), RunEnd>
     ensures { Does (view_state st.now) result (view_state st.now) (stops_unless_held cell site) }
 {
     unless(
@@ -37,7 +37,7 @@ pub fn unless_held(cell: CellAt, site: Site, st: &State) -> Result<(), End>
 }
 
 // From the Unlock on.
-fn awakes(site: Site, condition: i64, mutex: i64, st: &mut State) -> Result<(), End>
+fn awakes(site: Site, condition: i64, mutex: i64, st: &mut State) -> Result<(), RunEnd>
     ensures does { Does (view_state st.old) result (view_state st.new) (awakes site condition mutex) }
     ensures fuel { st.new.fuel ≤ st.old.fuel }
 {
@@ -48,7 +48,7 @@ fn awakes(site: Site, condition: i64, mutex: i64, st: &mut State) -> Result<(), 
 }
 
 // From the Enter on.
-fn waits(site: Site, condition: i64, mutex: i64, st: &mut State) -> Result<(), End>
+fn waits(site: Site, condition: i64, mutex: i64, st: &mut State) -> Result<(), RunEnd>
     ensures does { Does (view_state st.old) result (view_state st.new) (waits site condition mutex) }
     ensures fuel { st.new.fuel ≤ st.old.fuel }
 {
@@ -58,7 +58,7 @@ fn waits(site: Site, condition: i64, mutex: i64, st: &mut State) -> Result<(), E
 }
 
 /// `wait(c, m)`
-pub fn wait_call(site: Site, condition: i64, mutex: i64, st: &mut State) -> Result<(), End>
+pub fn wait_call(site: Site, condition: i64, mutex: i64, st: &mut State) -> Result<(), RunEnd>
     ensures does { Does (view_state st.old) result (view_state st.new) (wait_call site condition mutex) }
     ensures fuel { st.new.fuel ≤ st.old.fuel }
 {
@@ -68,7 +68,7 @@ pub fn wait_call(site: Site, condition: i64, mutex: i64, st: &mut State) -> Resu
     waits(site, condition, mutex, st)
 }
 
-fn signal_call(site: Site, condition: i64, st: &mut State) -> Result<(), End>
+fn signal_call(site: Site, condition: i64, st: &mut State) -> Result<(), RunEnd>
     ensures does { Does (view_state st.old) result (view_state st.new) (signal_call site condition) }
     ensures fuel { st.new.fuel ≤ st.old.fuel }
 {
@@ -76,7 +76,7 @@ fn signal_call(site: Site, condition: i64, st: &mut State) -> Result<(), End>
     perform(site, Act::Signal(first_cell(condition)), st)
 }
 
-fn broadcast_call(site: Site, condition: i64, st: &mut State) -> Result<(), End>
+fn broadcast_call(site: Site, condition: i64, st: &mut State) -> Result<(), RunEnd>
     ensures does { Does (view_state st.old) result (view_state st.new) (broadcast_call site condition) }
     ensures fuel { st.new.fuel ≤ st.old.fuel }
 {
@@ -92,7 +92,7 @@ fn value_at(values: &[i64], at: usize) -> i64
 }
 
 /// A known call of this name.
-pub fn condition_call(site: Site, name: &[u8], values: &[i64], st: &mut State) -> Result<(), End>
+pub fn condition_call(site: Site, name: &[u8], values: &[i64], st: &mut State) -> Result<(), RunEnd>
     ensures does { Does (view_state st.old) result (view_state st.new) (condition_call site name.now values.now) }
     ensures fuel { st.new.fuel ≤ st.old.fuel }
 {

@@ -6,7 +6,7 @@ use Rattle.sharc_tree.specs.declared.event.Act.TheVariants as acts
 use Rattle.sharc_ctype.specs.Resolved.{Resolution, function_at}
 use Rattle.sharc_mode.specs.Moded.{Assignment}
 use Rattle.sharc_meaning.specs.{Events.events_of, Laws.{AskLaws, IsAnswer, Starts, IsNext, AskedFor}, Meaning.{Asked, asks}, Runs.{by, answers_of, IsNamedAt, Follows, SourceRunWith}, Store.LegalStore}
-use Rattle.sharc_audit.specs.{declared.line.EventLine.EventLine, declared.line.LineAct.LineAct, declared.threads.Next.TheVariants.{Wants, Spent, Nothing}, Asked.IsSpent, Judging.{entry, has_begun, start_at, start_of, is_spent, next_in, next_of, own_answers, next_told, next_asked}, Lines.{spawned_by, written, IsLine, told_by, told}, Mains.OneMain}
+use Rattle.sharc_audit.specs.{declared.line.EventLine.EventLine, declared.line.LineAct.LineAct, declared.threads.NextEvent.TheVariants.{Wants, Spent, Nothing}, Asked.IsSpent, Judging.{entry, has_begun, start_at, start_of, is_spent, next_in, next_of, own_answers, next_told, next_asked}, Lines.{spawned_by, written, IsLine, told_by, told}, Mains.OneMain}
 use Rattle.sharc_audit.proofs.{Telling.{NextBy, comes, lacks, nothing, next_by, at_mapped}, Entries.{entry_by_right, right_by_entry, events_begun, own_told, follows_begun, follows_entry}}
 use Rattle.sharc_lemmas.proofs.Lists.{map_length, map_both}
 

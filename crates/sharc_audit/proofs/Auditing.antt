@@ -6,7 +6,7 @@ use Rattle.sharc_ctype.specs.Resolved.{Resolution}
 use Rattle.sharc_mode.specs.Moded.{Assignment}
 use Rattle.sharc_meaning.specs.{Laws.{AskLaws, StoreLaws, RunLaws, AskedFor}, Obeys.{Obeys, until_return}, Runs.SourceRunWith, Store.{MayCome, LegalStore}}
 use Rattle.sharc_judge.specs.{declared.rule.Rule.Rule, declared.rule.Rule.TheVariants.{Live, OneMode, Owner, NotWritten, UnderItsLock, ReadSharedOrOneThread}, Judged.{Holds, number}, Laws.RuleLaws, declared.pair.Until.TheVariants.Return}
-use Rattle.sharc_audit.specs.{declared.audit.EventFault.EventFault, declared.audit.Verdict.Verdict, declared.line.EventLine.EventLine, declared.threads.Next.Next, declared.threads.Next.TheVariants.{Wants, Spent, Nothing}, Asked.IsSpent, Audited.{Accepted, IsFirstRefused, IsAsked, IsNotLegal, IsAgainst, FailsBy, Refused, Audits}, Breaking.IsFault, Judging.next_asked, Lines.{IsLine, AreLines, told}, Mains.OneMain, Known.AreKnown}
+use Rattle.sharc_audit.specs.{declared.audit.EventFault.EventFault, declared.audit.Verdict.Verdict, declared.line.EventLine.EventLine, declared.threads.NextEvent.NextEvent, declared.threads.NextEvent.TheVariants.{Wants, Spent, Nothing}, Asked.IsSpent, Audited.{Accepted, IsFirstRefused, IsAsked, IsNotLegal, IsAgainst, FailsBy, Refused, Audits}, Breaking.IsFault, Judging.next_asked, Lines.{IsLine, AreLines, told}, Mains.OneMain, Known.AreKnown}
 use Rattle.sharc_audit.specs.declared.audit.EventFault.TheVariants as fault
 use Rattle.sharc_audit.specs.declared.audit.Verdict.TheVariants as verdict
 use Rattle.sharc_past.specs.Kept.{IsLowestAt}
@@ -164,7 +164,7 @@ module _ (ask : AskLaws) (store : StoreLaws) (runs : RunLaws) (rules : RuleLaws)
     abbrev pub is_asked_by : (e : SourceEvent) → next_asked m fuel R l ≡ Wants e → IsLine m.typed l e → IsAsked m fuel R l
     is_asked_by e next line = record { event = e; asked = computed_asked ask m one fuel R s.run.legal s.run l e next line; line_is = line }
 
-    abbrev pub Next_is : Next → Type 0
+    abbrev pub Next_is : NextEvent → Type 0
     Next_is n = next_asked m fuel R l ≡ n
 
     same_next : (e d : SourceEvent) → Next_is (Wants e) → IsLine m.typed l d → AskedFor m fuel R d → e ≡ d

@@ -5,7 +5,7 @@ use Rattle.sharc_tree.specs.declared.event.SourceEvent.{SourceEvent}
 use Rattle.sharc_mode.specs.Moded.{Assignment}
 use Rattle.sharc_meaning.specs.{Laws.{AskLaws, StoreLaws, RunLaws, AskedFor}, Meaning.asks, Obeys.{Obeys, until_return}, Runs.{SourceRun, SourceRunWith}, State.{Outcome, wants, ended, stopped, spent}}
 use Rattle.sharc_judge.specs.Laws.{RuleLaws}
-use Rattle.sharc_audit.specs.{declared.audit.EventFault.EventFault, declared.line.EventLine.EventLine, declared.threads.Next.TheVariants.{Wants, Spent}, Asked.IsSpent, Audited.{Accepted, Audits, FailsBy, IsAsked, IsFirstRefused}, Judging.{entry, event_at, has_begun, is_spent, next_in, next_of, next_told, own_answers, start_of, without_event}, Lines.{AreLines, IsLine, told}, Mains.OneMain}
+use Rattle.sharc_audit.specs.{declared.audit.EventFault.EventFault, declared.line.EventLine.EventLine, declared.threads.NextEvent.TheVariants.{Wants, Spent}, Asked.IsSpent, Audited.{Accepted, Audits, FailsBy, IsAsked, IsFirstRefused}, Judging.{entry, event_at, has_begun, is_spent, next_in, next_of, next_told, own_answers, start_of, without_event}, Lines.{AreLines, IsLine, told}, Mains.OneMain}
 use Rattle.sharc_audit.specs.declared.audit.EventFault.TheVariants as fault
 use Rattle.sharc_audit.specs.declared.audit.Verdict.TheVariants as verdict
 use Rattle.sharc_audit.proofs.{Answering.{asked_is, computed_asked, is_spent_at, spent_is}, Auditing.{FrontLines, LastLine, front_lines, last_line, lines_more, same_events, take_one}, Fuels.{more_run, one_fuel}, Telling.{at_front, past_end}}

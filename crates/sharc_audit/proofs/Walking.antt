@@ -3,10 +3,10 @@ use Rattle.std.proofs.{Common.{◌≡◌, ℕ, ◌+◌, ◌-◌, ◌<◌, ◌≤
 use Rattle.std.specs.Prelude.{ℤ, ◌≢◌, nat_lt, slice_get}
 use Rattle.sharc_mode.specs.Moded.{Assignment}
 use Rattle.sharc_meaning.specs.{Laws.AskLaws, Meaning.asks, State.spent}
-use Rattle.sharc_audit.specs.{declared.run.Walk.Walk, Judging.{is_spent, event_at, next_in}, Walks.{IsWalk, needs_more}}
+use Rattle.sharc_audit.specs.{declared.run.ThreadWalk.ThreadWalk, Judging.{is_spent, event_at, next_in}, Walks.{IsWalk, needs_more}}
 use Rattle.sharc_audit.proofs.Telling.{at_front}
 
-module _ (laws : AskLaws) (m : Assignment) (f : ℕ) (v : ℤ) (answers : List ℤ) (fuel t place : ℕ) (w : Walk) (walk : IsWalk m f v answers w) (within : w.fuel ≤ fuel) where
+module _ (laws : AskLaws) (m : Assignment) (f : ℕ) (v : ℤ) (answers : List ℤ) (fuel t place : ℕ) (w : ThreadWalk) (walk : IsWalk m f v answers w) (within : w.fuel ≤ fuel) where
   all_fuel : w.fuel + (fuel - w.fuel) ≡ fuel
   all_fuel = omega (arith, within)
 

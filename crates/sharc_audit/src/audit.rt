@@ -9,7 +9,7 @@ use crate::line::EventLines;
 use crate::matching::is_line;
 use crate::reported::told_to_each;
 use crate::runs::Runs;
-use crate::threads::{Next, accept, main_of, next_asked};
+use crate::threads::{NextEvent, accept, main_of, next_asked};
 use sharc_check::Checked;
 use sharc_judge::laws::rule_laws;
 use sharc_judge::rule::Rule;
@@ -82,9 +82,9 @@ pub fn audit(
         let rest = &all[i + 1..];
         let next = next_asked(alloc, m, main, fuel, &past, line, rest, &mut runs)?;
         match next {
-            Next::Spent => return Ok(Verdict::Fuel(n)),
-            Next::Nothing => return Ok(Verdict::Fails(n, EventFault::NotAsked)),
-            Next::Wants(e) => {
+            NextEvent::Spent => return Ok(Verdict::Fuel(n)),
+            NextEvent::Nothing => return Ok(Verdict::Fails(n, EventFault::NotAsked)),
+            NextEvent::Wants(e) => {
                 if !is_line(m.typed(), line, &e) {
                     return Ok(Verdict::Fails(n, EventFault::NotAsked));
                 }

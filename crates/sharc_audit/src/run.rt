@@ -11,7 +11,7 @@ use std::alloc::{AllocError, Global};
 
 /// What a thread asks for with this much fuel.
 #[derive(Drop)]
-pub struct Walk {
+pub struct ThreadWalk {
     pub fuel: u64,
     pub events: SourceEvents,
     /// Whether the fuel is spent behind these events.
@@ -25,7 +25,7 @@ pub struct ThreadRun {
     pub function: u32,
     pub argument: i64,
     pub answers: Vec<i64>,
-    pub walk: Walk,
+    pub walk: ThreadWalk,
 }
 
 /// Walks a thread from its start with this much fuel.
@@ -36,7 +36,7 @@ pub(crate) fn walked(
     argument: i64,
     answers: &[i64],
     fuel: u64,
-) -> Result<Walk, AllocError>
+) -> Result<ThreadWalk, AllocError>
     ensures walk { IfOk result (IsWalk program.now function argument answers.now) }
     ensures fuel { IfOk result (λ walk. walk.fuel ≡ fuel) }
 {
@@ -45,7 +45,7 @@ pub(crate) fn walked(
         Outcome::Fuel => true,
         _ => false,
     };
-    Ok(Walk {
+    Ok(ThreadWalk {
         fuel,
         events: asked.events,
         spent,
@@ -74,7 +74,7 @@ fn more_fuel(walked: u64, fuel: u64) -> u64
 }
 
 /// Whether only a walk with more fuel tells which event stands at this place, if any.
-fn needs_more(walk: &Walk, place: usize, fuel: u64) -> bool
+fn needs_more(walk: &ThreadWalk, place: usize, fuel: u64) -> bool
     ensures { result ≡ needs_more place fuel walk.now }
 {
     !(place < walk.events.len()) && walk.spent && walk.fuel < fuel

@@ -9,13 +9,13 @@ use std::alloc::{AllocError, Global};
 use std::collections::HashMap;
 
 /// The place of the run of each thread that has begun.
-pub(crate) type Places = HashMap<u32, usize>;
+pub(crate) type RunPlaces = HashMap<u32, usize>;
 
 /// The runs of the threads that have begun.
 #[derive(Drop)]
 pub(crate) struct Runs {
     pub(crate) runs: Vec<ThreadRun>,
-    pub(crate) places: Places,
+    pub(crate) places: RunPlaces,
 }
 
 impl Runs {

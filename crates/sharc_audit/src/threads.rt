@@ -15,7 +15,7 @@ ghost use Rattle.sharc_past.specs.Kept.{IsSpawnedOnce};
 ghost use Rattle.sharc_audit.specs.Walks.{IsWalk};
 ghost use Rattle.sharc_audit.specs.Mains.{OneMain};
 ghost use Rattle.sharc_audit.specs.Lines.{told, told_to, IsLine};
-ghost use Rattle.sharc_audit.specs.declared.threads.Next.TheVariants.{Wants};
+ghost use Rattle.sharc_audit.specs.declared.threads.NextEvent.TheVariants.{Wants};
 ghost use Rattle.sharc_tree.specs.declared.event.SourceEvent.{SourceEvent};
 
 use crate::line::EventLine;
@@ -32,7 +32,7 @@ use std::alloc::{AllocError, Global};
 
 /// What a thread asks for.
 #[derive(Clone, Copy)]
-pub enum Next {
+pub enum NextEvent {
     /// This event.
     Wants(SourceEvent),
     /// Its fuel is spent before.
@@ -81,12 +81,12 @@ fn entry(main: Option<u32>, past: &Past, thread: u32) -> Option<(u32, i64)>
     }
 }
 
-fn start_at(typed: &Typed, thread: u32, function: u32, argument: i64) -> Next
+fn start_at(typed: &Typed, thread: u32, function: u32, argument: i64) -> NextEvent
     ensures { result ≡ start_at thread argument (function_at typed.now function) }
 {
     match typed.function_at(function) {
-        None => Next::Nothing,
-        Some(f) => Next::Wants(SourceEvent {
+        None => NextEvent::Nothing,
+        Some(f) => NextEvent::Wants(SourceEvent {
             thread,
             site: f.name.site,
             answer: 0,
@@ -96,28 +96,28 @@ fn start_at(typed: &Typed, thread: u32, function: u32, argument: i64) -> Next
 }
 
 /// The first event of a thread.
-fn start_of(typed: &Typed, main: Option<u32>, past: &Past, thread: u32) -> Next
+fn start_of(typed: &Typed, main: Option<u32>, past: &Past, thread: u32) -> NextEvent
     requires main { main ≡ main_of typed.now }
     requires once { IsSpawnedOnce past.now }
     ensures { result ≡ start_of typed.now thread (entry typed.now past.now thread) }
 {
     match entry(main, past, thread) {
-        None => Next::Nothing,
+        None => NextEvent::Nothing,
         Some(with) => start_at(typed, thread, with.0, with.1),
     }
 }
 
-fn event_at(run: &ThreadRun, place: usize) -> Next
+fn event_at(run: &ThreadRun, place: usize) -> NextEvent
     ensures { result ≡ event_at run.now.thread run.now.walk.spent (slice_get run.now.walk.events place) }
 {
     if place < run.walk.events.len() {
         let mut e = *run.walk.events.at(place);
         e.thread = run.thread;
-        Next::Wants(e)
+        NextEvent::Wants(e)
     } else if run.walk.spent {
-        Next::Spent
+        NextEvent::Spent
     } else {
-        Next::Nothing
+        NextEvent::Nothing
     }
 }
 
@@ -128,7 +128,7 @@ fn next_of(
     place: usize,
     fuel: u64,
     run: &mut ThreadRun,
-) -> Result<Next, AllocError>
+) -> Result<NextEvent, AllocError>
     requires walk { IsWalk program.now run.old.function run.old.argument run.old.answers.items run.old.walk }
     requires within { run.old.walk.fuel ≤ fuel }
     ensures same { run.new ≡ record run.old { walk = run.new.walk } }
@@ -153,7 +153,7 @@ pub(crate) fn next_asked(
     line: &EventLine,
     rest: &[EventLine],
     runs: &mut Runs,
-) -> Result<Next, AllocError>
+) -> Result<NextEvent, AllocError>
     requires main { main ≡ main_of program.now.typed }
     requires known { AreKnown program.now fuel past.now (line.now ∷ rest.now) runs.old.runs.items }
     requires places { ArePlaces runs.old.places runs.old.runs.items }
@@ -168,7 +168,7 @@ pub(crate) fn next_asked(
         Some(i) => {
             let count = past.count(line.thread);
             if count == 0 {
-                return Ok(Next::Nothing);
+                return Ok(NextEvent::Nothing);
             }
             next_of(alloc, program, count - 1, fuel, &mut runs.runs[i])
         }

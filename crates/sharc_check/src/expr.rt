@@ -13,7 +13,7 @@ use crate::rules::{agree, call, cast, expected, field, place, source};
 use sharc_ctype::typed::parameters_named;
 use sharc_mode::finding::Finding;
 use sharc_mode::moded::Moded;
-use sharc_mode::row::{Reading, base_use, named_row};
+use sharc_mode::row::{PathReading, base_use, named_row};
 use sharc_tree::token::Span;
 use sharc_tree::tree::{Declaration, Expr, Identifier};
 use std::alloc::{AllocError, Global};
@@ -80,7 +80,7 @@ pub(crate) fn expression(
         } => {
             expression(alloc, program, base, notes)?;
             let typed = program.typed();
-            let targets = named_row(typed, Reading::Written, typed.named(name.site.token));
+            let targets = named_row(typed, PathReading::Written, typed.named(name.site.token));
             let through = base_use(typed, *access, base);
             field(alloc, program, *span, through, targets, notes)
         }

@@ -7,7 +7,7 @@ ghost use Rattle.sharc_check.specs.Passed.{view_passed};
 
 use sharc_ctype::typed::Typed;
 use sharc_mode::read::spawn_argument_use;
-use sharc_mode::row::{Reading, argument_use};
+use sharc_mode::row::{PathReading, argument_use};
 use sharc_tree::tree::{Declaration, Expr};
 
 /// The arguments of a call, or the one of a spawn.
@@ -36,12 +36,12 @@ pub fn without_first(left: &[Declaration]) -> &[Declaration]
 
 impl<'a> Passing<'a> {
     /// How the lock paths of the parameters' types are read there.
-    pub fn reading(self) -> Reading<'a>
+    pub fn reading(self) -> PathReading<'a>
         ensures { view_reading result ≡ at_call self.entry.parameters.now (view_passed self.entry.passed) }
     {
         match self.passed {
-            Passed::All(arguments) => Reading::Call(self.parameters, arguments),
-            Passed::One(value) => Reading::Spawn(self.parameters, value),
+            Passed::All(arguments) => PathReading::Call(self.parameters, arguments),
+            Passed::One(value) => PathReading::Spawn(self.parameters, value),
         }
     }
 

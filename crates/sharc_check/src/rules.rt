@@ -26,7 +26,7 @@ use sharc_mode::error::{ErrorCode, ModeError};
 use sharc_mode::finding::Finding;
 use sharc_mode::moded::Moded;
 use sharc_mode::read::{path_variable, read};
-use sharc_mode::row::{Reading, Targets, cast_row, declared_row, row_of};
+use sharc_mode::row::{PathReading, Targets, cast_row, declared_row, row_of};
 use sharc_mode::sharing::{
     Lock, Sharing, is_readonly, is_sibling, object_named, object_of, sharing_of, variable_named,
 };
@@ -448,7 +448,7 @@ fn unmet_parameter<'a>(
         ≡ unmet_parameter program.now passing.entry.parameters.now (view_passed passing.entry.passed) parameter.now }
 {
     let typed = program.typed();
-    let row = declared_row(typed, Reading::Written, parameter.name.site.token);
+    let row = declared_row(typed, PathReading::Written, parameter.name.site.token);
     let levels = parameter.written.ctype.levels.as_slice();
     or_else(
         unmet_written(typed, passing, levels),
@@ -488,7 +488,7 @@ fn said_unmet(
 
 fn name_read(
     typed: &Typed,
-    reading: Reading<'_>,
+    reading: PathReading<'_>,
     level: &Option<Mode>,
     notes: &mut Vec<Finding>,
 ) -> Result<(), AllocError>
@@ -504,7 +504,7 @@ fn name_read(
 /// The variables and globals that the paths name which are written in a type, as they are read there.
 fn names_read(
     typed: &Typed,
-    reading: Reading<'_>,
+    reading: PathReading<'_>,
     levels: &[Option<Mode>],
     notes: &mut Vec<Finding>,
 ) -> Result<(), AllocError>

@@ -14,7 +14,7 @@ use crate::expr::expression;
 use crate::rules::{agree, write};
 use sharc_mode::finding::Finding;
 use sharc_mode::moded::Moded;
-use sharc_mode::row::{Reading, Targets, declared_row, row_of};
+use sharc_mode::row::{PathReading, Targets, declared_row, row_of};
 use sharc_tree::tree::{Expr, ForFirst, ForHead, Item, Local, Right, Simple, Stmt};
 use std::alloc::{AllocError, Global};
 
@@ -98,7 +98,7 @@ fn local(
     ensures { OnOk result (notes.new.items ≡ notes.old.items ++ local_notes program.now (view_local local.now)) }
 {
     let token = local.declaration.name.site.token;
-    let want = declared_row(program.typed(), Reading::Written, token);
+    let want = declared_row(program.typed(), PathReading::Written, token);
     initial(alloc, program, Some(want), &local.initial, notes)
 }
 
@@ -160,7 +160,7 @@ fn returned(
         None => Ok(()),
         Some(expr) => {
             expression(alloc, program, expr, notes)?;
-            let want = declared_row(program.typed(), Reading::Written, function);
+            let want = declared_row(program.typed(), PathReading::Written, function);
             agree(alloc, program, Some(want), expr, notes)
         }
     }

@@ -18,7 +18,7 @@ use sharc_mode::cell::pointed;
 use sharc_mode::error::ErrorCode;
 use sharc_mode::finding::Finding;
 use sharc_mode::moded::Moded;
-use sharc_mode::row::{Reading, declared_row};
+use sharc_mode::row::{PathReading, declared_row};
 use sharc_mode::sharing::is_private;
 use sharc_mode::shown::row_laws;
 use sharc_mode_laws::laws::spawned_are_told;
@@ -34,7 +34,7 @@ fn has_private_target(program: &Moded, token: u32) -> bool
 {
     let _all = program.position_count();
     row_laws();
-    let row = declared_row(program.typed(), Reading::Written, token);
+    let row = declared_row(program.typed(), PathReading::Written, token);
     row.count > 0 && is_private(pointed(program, Some(row)))
 }
 

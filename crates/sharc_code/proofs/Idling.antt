@@ -2,10 +2,10 @@
 use Rattle.std.proofs.{Common.{◌≡◌, ℕ, ◌≤◌, true, false, List, [], ◌∷◌, Option, Some, None, cond, refl, sym, ap, ◌∙◌, subst, arith, ◌⊎◌, inl, inr, ⊎_elim, eqb-true}, lemmas.Bool.cases_eq}
 use Rattle.std.specs.Prelude.{nat_eq, slice_index}
 use Rattle.sharc_word.specs.{declared.step.WordStep.WordStep, declared.step.WordEvent.WordEvent}
-use Rattle.sharc_code.specs.{declared.code.Code.Code, declared.shape.Shape.Shape, declared.state.State.State, declared.state.State.TheVariants.{Runs, Tries, Stopped, Ended}, Machine.{Machine, Turn as Act, Local, Asks}, Path.{turn, after, asked_by, counted}, Runs.{Turn, IsRun, MayTurn, at, put, words_now, state_now, made_now, result_of, step_of, Answered, turns_of, Global}, Waits.waits_now, Whole.{one_thread, bounds}, ThreadLaws.{found_now, behind}, StandingLaws.IsIdle}
+use Rattle.sharc_code.specs.{declared.code.Code.Code, declared.shape.Shape.Shape, declared.state.TurnState.TurnState, declared.state.TurnState.TheVariants.{Runs, Tries, Stopped, Ended}, Machine.{Machine, Turn as Act, Local, Asks}, Path.{turn, after, asked_by, counted}, Runs.{Turn, IsRun, MayTurn, at, put, words_now, state_now, made_now, result_of, step_of, Answered, turns_of, Global}, Waits.waits_now, Whole.{one_thread, bounds}, ThreadLaws.{found_now, behind}, StandingLaws.IsIdle}
 use Rattle.sharc_code.proofs.{Places.{put_same, put_other}, Failing.failed_stays, Trying.waits_where}
 
-uncounted : (state : State) → counted state ≡ 0 → state ≡ Tries
+uncounted : (state : TurnState) → counted state ≡ 0 → state ≡ Tries
 uncounted Runs e = absurd (omega (arith, e))
 uncounted Tries e = refl
 uncounted Stopped e = absurd (omega (arith, e))

@@ -2,7 +2,7 @@
 use Rattle.std.specs.Prelude.{ℕ, ◌≡◌, ◌↔◌, ◌≤◌, ◌+◌, true, List, Option, length, slice_index}
 use Rattle.sharc_word.specs.declared.step.WordEvent.{WordEvent}
 use Rattle.sharc_code.specs.{declared.code.Code.Code, declared.shape.Shape.Shape, declared.state.Stage.Stage}
-use Rattle.sharc_code.specs.{declared.state.State.State, declared.state.State.TheVariants.{Runs, Tries, Stopped, Ended}}
+use Rattle.sharc_code.specs.{declared.state.TurnState.TurnState, declared.state.TurnState.TheVariants.{Runs, Tries, Stopped, Ended}}
 use Rattle.sharc_code.specs.{Machine.{Machine, Own, Turn, Local, Asks, fails}, Path.{turn, after, asked_by, may_go}}
 use Rattle.sharc_code.specs.{Runs.{result_of, step_of, words_now, Answered}, Stages.IsStageOf, Waits.waits_now}
 
@@ -37,7 +37,7 @@ TriesLeaveWords = (code : Code) (s : Shape) (words : List ℕ) (m : Machine) (ev
     → (after (turn code s m) (result_of event)).at.state ≡ Tries → words_now words event ≡ words
 
 -- a thread of which it is forgotten whether its last turn was a failed try
-abbrev pub settle : State → State
+abbrev pub settle : TurnState → TurnState
 settle Runs = Runs
 settle Tries = Runs
 settle Stopped = Stopped

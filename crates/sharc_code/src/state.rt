@@ -9,7 +9,7 @@ pub const FRAMES: usize = 256;
 
 /// What the last turn was, and whether another may come.
 #[derive(Clone, Copy)]
-pub enum State {
+pub enum TurnState {
     /// An event.
     Runs,
     /// A failed try.
@@ -28,7 +28,7 @@ pub struct At {
     pub ints: u32,
     pub refs: u32,
     pub depth: u32,
-    pub state: State,
+    pub state: TurnState,
 }
 
 /// A caller's place, and the first registers of its frame.

@@ -3,7 +3,7 @@ use Rattle.std.proofs.{Common.{◌≡◌, ℕ, ◌+◌, ◌%◌, ◌^◌, ◌<�
 use Rattle.std.specs.Prelude.{nat_eq, nat_lt, nat_le, ◌==◌, slice_index}
 use Rattle.sharc_word.specs.{declared.step.TheConstants.THREADS, declared.step.WordStep.WordStep, declared.step.WordEvent.WordEvent, Words.{word_after, words_after_step}}
 use Rattle.sharc_word.specs.declared.step.WordOp.TheVariants as ops
-use Rattle.sharc_code.specs.{declared.code.Code.Code, declared.shape.Shape.Shape, declared.state.State.State, declared.state.State.TheVariants.{Runs, Tries, Stopped, Ended}, Layout.{state_word, next_thread_word, words_of}, Machine.{Machine, Turn as Act, step_of as step_at}, Opening.{opening_words, opens_with, opening_cell, first_global}, Path.{turn, after, asked_by, may_go, counted}, Runs.{Turn, Global, IsRun, put, words_now, result_of, step_of, is_started, opening_of, Answered}, Laws.RunLaws, StandingLaws.StandingLaws, Stages.drawn_of, Whole.{one_thread, bounds, place_after}}
+use Rattle.sharc_code.specs.{declared.code.Code.Code, declared.shape.Shape.Shape, declared.state.TurnState.TurnState, declared.state.TurnState.TheVariants.{Runs, Tries, Stopped, Ended}, Layout.{state_word, next_thread_word, words_of}, Machine.{Machine, Turn as Act, step_of as step_at}, Opening.{opening_words, opens_with, opening_cell, first_global}, Path.{turn, after, asked_by, may_go, counted}, Runs.{Turn, Global, IsRun, put, words_now, result_of, step_of, is_started, opening_of, Answered}, Laws.RunLaws, StandingLaws.StandingLaws, Stages.drawn_of, Whole.{one_thread, bounds, place_after}}
 use Rattle.sharc_code_laws.specs.Told.{state_of}
 use Rattle.sharc_code_laws.proofs.{Places.{put_same, put_other, sum_to, sum_few, sum_grows, sum_more}, Sorts.{is_ended, LeavesThem, Elsewhere, Plain, Drew, Spawned, Sort, Ordinary, Draws, Starts, Returns, Ends, sorted}, Tells.{Tells, StateChange, Same, Begins, Own, Changes, tells_still}}
 use Rattle.sharc_lemmas.proofs.{Bools.{or_split, not_ended}, Lists.{set_here, set_same}}
@@ -56,7 +56,7 @@ is_one words t low e =
     let b : nat_eq (slice_index words (state_word t)) 1 ≡ true = grind (arith, nat_tests) in
     rw (a, b) refl
 
-going : (state : State) → may_go state ≡ true → is_ended state ≡ false
+going : (state : TurnState) → may_go state ≡ true → is_ended state ≡ false
 going Runs e = refl
 going Tries e = refl
 going Stopped e = absurd cc

@@ -2,7 +2,7 @@
 use Rattle.std.specs.Prelude.{ℕ, ◌≡◌, ◌≢◌, ◌<◌, ◌≤◌, ◌↔◌, false, List, Some, slice_index}
 use Rattle.sharc_word.specs.declared.step.TheConstants.{THREADS}
 use Rattle.sharc_code.specs.{declared.code.Code.Code, declared.shape.Shape.Shape}
-use Rattle.sharc_code.specs.{declared.state.State.TheVariants.Ended, Layout.state_word, Machine.Machine}
+use Rattle.sharc_code.specs.{declared.state.TurnState.TheVariants.Ended, Layout.state_word, Machine.Machine}
 use Rattle.sharc_code.specs.{Runs.{Turn, Global}, Stages.drawn_of, Whole.{CheckedRun, place_after}}
 
 -- the state word of a thread

@@ -5,7 +5,7 @@ use Rattle.sharc_tree.specs.{declared.event.Act.Act, declared.event.CellAt.CellA
 use Rattle.sharc_mode.specs.Moded.{Assignment}
 use Rattle.sharc_meaning.specs.{declared.given.GivenUp.GivenUp, declared.given.GivenUp.TheVariants.{Emptied, Released, Replaced}, Events.held_mutexes, State.{wants, event_of}, Reference.number_of}
 use Rattle.sharc_meaning.specs.Meaning as Meaning
-use Rattle.sharc_code.specs.{declared.code.Code.Code, declared.instr.Instr.Instr, declared.instr.Instr.TheVariants.Exit, declared.shape.Shape.Shape, declared.state.Stop.TheVariants.{Conflict, NoLock, NotSole, Trap}, declared.state.Stop.Stop, declared.state.State.TheVariants.{Runs, Stopped}, Machine.{Machine, instr_at}, Says.{place_at, reference}}
+use Rattle.sharc_code.specs.{declared.code.Code.Code, declared.instr.Instr.Instr, declared.instr.Instr.TheVariants.Exit, declared.shape.Shape.Shape, declared.state.Stop.TheVariants.{Conflict, NoLock, NotSole, Trap}, declared.state.Stop.Stop, declared.state.TurnState.TheVariants.{Runs, Stopped}, Machine.{Machine, instr_at}, Says.{place_at, reference}}
 use Rattle.sharc_flat_form.specs.{Machine.{Flat, At, Came, Turn, goes, asks, halts, turn, on_turn, exec, start}, Path.{at_after, asked, PathsAreRuns}}
 use Rattle.sharc_flat.specs.Correct.{AsksTheSame, MayStart}
 use Rattle.sharc_guarded_form.specs.{declared.guarded.Guarded.Guarded, Machine.{Program, Thread, Check, Accesses, Locks, IsSole, is_held, statement_at}, Path.{started, thread_after}}

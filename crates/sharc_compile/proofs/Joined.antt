@@ -2,13 +2,13 @@
 use Rattle.std.proofs.{Common.{◌≡◌, ℕ, ℤ, ◌<◌, ◌≤◌, inl, inr, Bool, List, ◌∷◌, ◌++◌, length, map, refl, sym, ap, ◌∙◌, subst, arith, Some, None, Option}, lemmas.List.length-map}
 use Rattle.std.specs.Prelude.{slice_index_or}
 use Rattle.sharc_tree.specs.{declared.event.Act.Act, declared.event.SourceEvent.SourceEvent, declared.trap.Trap.Trap}
-use Rattle.sharc_code.specs.{declared.code.Code.Code, declared.shape.Shape.Shape, declared.instr.Instr.Instr, declared.instr.Instr.TheVariants.{Join, Spawn, New}, declared.state.State.State, declared.state.State.TheVariants.{Runs, Tries, Stopped, Ended}, declared.state.Stage.Stage, declared.state.Stage.TheVariants.Makes, declared.state.Stop.Stop, declared.state.Stop.TheVariants.{Conflict, NoLock, NotSole, Trap as Trapped}, Machine.Machine, Says.{place_at, no_place}}
-use Rattle.sharc_granule.specs.{declared.stage.Stage.{Stage as NewStage}, declared.stage.Stage.TheVariants.Cell}
+use Rattle.sharc_code.specs.{declared.code.Code.Code, declared.shape.Shape.Shape, declared.instr.Instr.Instr, declared.instr.Instr.TheVariants.{Join, Spawn, New}, declared.state.TurnState.TurnState, declared.state.TurnState.TheVariants.{Runs, Tries, Stopped, Ended}, declared.state.Stage.Stage, declared.state.Stage.TheVariants.Makes, declared.state.Stop.Stop, declared.state.Stop.TheVariants.{Conflict, NoLock, NotSole, Trap as Trapped}, Machine.Machine, Says.{place_at, no_place}}
+use Rattle.sharc_granule.specs.{declared.stage.NewStage.{NewStage}, declared.stage.NewStage.TheVariants.Cell}
 use Rattle.sharc_meaning.specs.State.{stopped}
 use Rattle.sharc_flat_form.specs.Machine as Flat
 use Rattle.sharc_guarded_form.specs.{declared.guarded.Guarded.Guarded, Machine.{Program, Thread, source_at, statement_at, turn, step}, Path.{started, thread_after}}
 use Rattle.sharc_guarded_form.specs.Machine as Form
-use Rattle.sharc_gen.specs.{Consistent.Elements, Correct.{by, begins, stop_turn, HasCome}, Generated.{IsGenerated, program_of}, Related.{Stands, IsOver, StopsAt, Refuses, spent_at, spent_in_new}}
+use Rattle.sharc_gen.specs.{Consistent.Elements, Correct.{by, begins, stop_turn, HasCome}, Generated.{IsGenerated, program_of}, Related.{MatchesThread, IsOver, StopsAt, Refuses, spent_at, spent_in_new}}
 use Rattle.sharc_guard.specs.{Correct.{GuardedKeepsPaths, Resolved, Wants}, Guard.{guarded, entered_at, place}}
 use Rattle.sharc_flat_form.specs.Path as Flow
 use Rattle.sharc_flat_form.specs.Framed.{IsFlat}
@@ -22,7 +22,7 @@ few_spent : (st : Stage) → spent_at st ≤ 3
 few_spent (Makes state) = few_in_new state.stage
 few_spent _ = omega arith
 
-one_stop : (st : State) → stop_turn st ≤ 1
+one_stop : (st : TurnState) → stop_turn st ≤ 1
 one_stop Runs = omega arith
 one_stop Tries = omega arith
 one_stop Stopped = omega arith
@@ -59,7 +59,7 @@ module _ (flat : Flat.Flat) (p : Program) (code : Code) (sites : (n : ℕ) → (
     stops (NoLock n mutex) h = looked _ n h.1.next h.1.checks
     stops (NotSole n count) h = looked _ n h.1.next h.1.checks
 
-    over : (st : State) (stop : Option Stop) → IsOver p a st stop → IsOverFor code flat m st stop
+    over : (st : TurnState) (stop : Option Stop) → IsOver p a st stop → IsOverFor code flat m st stop
     over Runs stop h = tt
     over Tries stop h = tt
     over Stopped None h = h
@@ -100,6 +100,6 @@ module _ (law : GuardedKeepsPaths) (flat : Flat.Flat) (dropped : ℕ → Bool) (
         pace = omega arith;
       }
     where
-      by_place : (fm : Flat.At) (a : Thread) → Wants flat p fm (turn p a) → Stands code s p T m a → IsOverFor code flat fm m.at.state m.own.stop
+      by_place : (fm : Flat.At) (a : Thread) → Wants flat p fm (turn p a) → MatchesThread code s p T m a → IsOverFor code flat fm m.at.state m.own.stop
       by_place fm a w (inl x) = over flat p code (sites_are g code p made same) fm a w m.at.state m.own.stop x.over
       by_place fm a w (inr x) = subst (λ st. IsOverFor code flat fm st m.own.stop) (sym x.state_is) tt

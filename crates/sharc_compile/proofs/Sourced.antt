@@ -7,7 +7,7 @@ use Rattle.sharc_tree.specs.declared.trap.Trap.TheVariants as traps
 use Rattle.sharc_mode.specs.Moded.{Assignment}
 use Rattle.sharc_meaning.specs.{declared.given.GivenUp.GivenUp, declared.given.GivenUp.TheVariants.{Emptied, Released, Replaced}, Arithmetic.is_zero, Events.{held_mutexes, holds_mutex}, Reference.{is_null, elements_of, number_of}, State.{Outcome, answer_of, ended, event_of, stopped, spent}, Statements.is_positive, Runs.answers_of}
 use Rattle.sharc_meaning.specs.Meaning as Meaning
-use Rattle.sharc_code.specs.{Arithmetic.{computed, negated, holds}, declared.code.Code.Code, declared.code.GlobalCells.GlobalCells, declared.instr.Cell.Cell, declared.state.State.State, declared.state.State.TheVariants.{Runs, Tries, Stopped, Ended}, declared.state.Stop.Stop, declared.state.Stop.TheVariants.{Conflict, NoLock, NotSole, Trap as Trapped}, Machine.Machine, Says.place_at, declared.code.Parameter.Parameter, declared.instr.Register.Register}
+use Rattle.sharc_code.specs.{Arithmetic.{computed, negated, holds}, declared.code.Code.Code, declared.code.GlobalCells.GlobalCells, declared.instr.Cell.Cell, declared.state.TurnState.TurnState, declared.state.TurnState.TheVariants.{Runs, Tries, Stopped, Ended}, declared.state.Stop.Stop, declared.state.Stop.TheVariants.{Conflict, NoLock, NotSole, Trap as Trapped}, Machine.Machine, Says.place_at, declared.code.Parameter.Parameter, declared.instr.Register.Register}
 use Rattle.sharc_flat_form.specs.{declared.op.Op.Op, declared.op.Spot.Spot, Machine.{Flat, At, Caller, Came, Turn, goes, asks, halts, int, ref, goes_on, next, over_lines, stops, asserts, with_result, set_int, set_ref, gives_up, kind_of, cell_at, mode_of, accessed, accesses, lock_is_null, indexed, takes_local, returned, called, op_turn, end_turn, line_turn, turn, on_turn, exec, start, begun, first_at, function_of, handed, with_event, without_base}, Path.{after, at_after, may_go, asked, asked_by, IsPath, PathsAreRuns}}
 use Rattle.sharc_flat_form.specs.declared.op.Op.TheVariants as op
 use Rattle.sharc_code.specs.declared.code.Parameter.TheVariants as parameters
@@ -278,7 +278,7 @@ module _ (code : Code) (flat : Flat) (m : At) (k : ℕ) where
   stop_is (NoLock site mutex) h = wanted (place_at code site).site h
   stop_is (NotSole site count) h = wanted (place_at code site).site h
 
-  over_is : (state : State) (stop : Option Stop) → IsOverFor code flat m state stop → IsOverAs code o state stop
+  over_is : (state : TurnState) (stop : Option Stop) → IsOverFor code flat m state stop → IsOverAs code o state stop
   over_is Runs stop h = tt
   over_is Tries stop h = tt
   over_is Stopped None h = h

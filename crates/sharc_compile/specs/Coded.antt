@@ -3,8 +3,8 @@ use Rattle.std.specs.Prelude.{ℕ, ℤ, ◌+◌, ◌*◌, ◌≡◌, ◌≤◌, 
 use Rattle.sharc_tree.specs.{declared.event.Act.Act, declared.event.SourceEvent.SourceEvent, declared.token.Site.Site}
 use Rattle.sharc_tree.specs.declared.trap.Trap.{Trap}
 use Rattle.sharc_tree.specs.declared.trap.Trap.TheVariants as traps
-use Rattle.sharc_code.specs.{declared.code.Code.Code, declared.shape.Shape.Shape, declared.state.State.State}
-use Rattle.sharc_code.specs.{declared.state.State.TheVariants.{Runs, Tries, Stopped, Ended}, declared.state.Stop.Stop}
+use Rattle.sharc_code.specs.{declared.code.Code.Code, declared.shape.Shape.Shape, declared.state.TurnState.TurnState}
+use Rattle.sharc_code.specs.{declared.state.TurnState.TheVariants.{Runs, Tries, Stopped, Ended}, declared.state.Stop.Stop}
 use Rattle.sharc_code.specs.declared.state.Stop.TheVariants.{Conflict, NoLock, NotSole, Trap as Trapped}
 use Rattle.sharc_code.specs.{Machine.Machine, Path.{begun, machine_after, CodePath}, Paced.paced_in, Says.place_at}
 use Rattle.sharc_meaning.specs.State.{stopped, ended}
@@ -36,7 +36,7 @@ StopsFor code flat m (Conflict c) = WantsAt flat m (place_at code c.site).site
 StopsFor code flat m (NoLock site mutex) = WantsAt flat m (place_at code site).site
 StopsFor code flat m (NotSole site count) = WantsAt flat m (place_at code site).site
 
-abbrev pub IsOverFor : Code → Flat.Flat → Flat.At → State → Option Stop → Type 0
+abbrev pub IsOverFor : Code → Flat.Flat → Flat.At → TurnState → Option Stop → Type 0
 IsOverFor code flat m Runs stop = Unit {0}
 IsOverFor code flat m Tries stop = Unit {0}
 IsOverFor code flat m Stopped stop = IsSomeAnd stop (StopsFor code flat m)

@@ -3,7 +3,7 @@ use Rattle.std.specs.Prelude.{ℕ, ℤ, pos, ◌≡◌, false, List, Some}
 use Rattle.sharc_tree.specs.{declared.event.Act.Act, declared.event.CellAt.CellAt}
 use Rattle.sharc_tree.specs.declared.event.SourceEvent.{SourceEvent}
 use Rattle.sharc_meaning.specs.{Events.holds_mutex, Meaning.Asked, State.{wants, event_of}}
-use Rattle.sharc_code.specs.{declared.code.Code.Code, declared.state.State.TheVariants.Stopped}
+use Rattle.sharc_code.specs.{declared.code.Code.Code, declared.state.TurnState.TheVariants.Stopped}
 use Rattle.sharc_code.specs.declared.state.Stop.{Stop}
 use Rattle.sharc_code.specs.{declared.state.Stop.TheVariants.{Conflict, NoLock, NotSole, Trap}, Machine.Machine}
 use Rattle.sharc_code.specs.Says.{place_at}

@@ -4,8 +4,8 @@ use Rattle.std.specs.Prelude.{ℕ, ℤ, pos, ◌+◌, ◌*◌, ◌≡◌, ◌<�
 use Rattle.sharc_tree.specs.{declared.event.Act.Act, declared.event.SourceEvent.SourceEvent, declared.token.Site.Site}
 use Rattle.sharc_mode.specs.Moded.{Assignment}
 use Rattle.sharc_meaning.specs.{Meaning.asks, Runs.answers_of, State.{Outcome, wants, ended, stopped, spent, event_of}}
-use Rattle.sharc_code.specs.{declared.code.Code.Code, declared.shape.Shape.Shape, declared.state.State.State}
-use Rattle.sharc_code.specs.{declared.state.State.TheVariants.{Runs, Tries, Stopped, Ended}, declared.state.Stop.Stop}
+use Rattle.sharc_code.specs.{declared.code.Code.Code, declared.shape.Shape.Shape, declared.state.TurnState.TurnState}
+use Rattle.sharc_code.specs.{declared.state.TurnState.TheVariants.{Runs, Tries, Stopped, Ended}, declared.state.Stop.Stop}
 use Rattle.sharc_code.specs.{declared.state.Stop.TheVariants.{Conflict, NoLock, NotSole, Trap}, Machine.Machine}
 use Rattle.sharc_code.specs.{Path.{begun, machine_after, CodePath}, Paced.paced_in, Says.place_at}
 use Rattle.sharc_flat_form.specs.{declared.flat.Flat.{Flat as FlatCode}, Framed.{IsFlat, IsFramed}, Made.flat_of}
@@ -28,7 +28,7 @@ IsStopOf code o (Conflict c) = WantsEventAt o (place_at code c.site).site
 IsStopOf code o (NoLock site mutex) = WantsEventAt o (place_at code site).site
 IsStopOf code o (NotSole site count) = WantsEventAt o (place_at code site).site
 
-abbrev pub IsOverAs : Code → Outcome → State → Option Stop → Type 0
+abbrev pub IsOverAs : Code → Outcome → TurnState → Option Stop → Type 0
 IsOverAs code o Runs stop = Unit {0}
 IsOverAs code o Tries stop = Unit {0}
 IsOverAs code o Stopped stop = IsSomeAnd stop (IsStopOf code o)

@@ -1,6 +1,6 @@
 -- The inferred positions are closed under the links, and are the least that are.
 use Rattle.std.proofs.Common.{◌≡◌, ℕ, List, [], ◌∷◌, ◌++◌, refl, sym, subst, inl, inr}
-use Rattle.sharc_graph.specs.{declared.graph.Finding.Finding, declared.graph.Finding.TheVariants.{Apart, Source, Behind}, Findings.finding_at, Paths.last_of}
+use Rattle.sharc_graph.specs.{declared.graph.NodeFinding.NodeFinding, declared.graph.NodeFinding.TheVariants.{Apart, Source, Behind}, Findings.finding_at, Paths.last_of}
 use Rattle.sharc_constraints.specs.{Flow.{Flow, IsUnwritten, IsSource, IsFirstFor, HasEdge, IsEqual, Follow, LeadsTo, IsInferred, AreInferred}, Laws.{IsDynamic, IsClosed}}
 
 module _ (f : Flow) where
@@ -53,15 +53,15 @@ module _ (f : Flow) where
   agree a b equal left right has = enough.onward a b has left (inr equal) right
 
   -- ---- what is found
-  none_apart : (p : ℕ) (finding : Finding) → IsInferred f p finding → finding ≡ Apart → IsDynamic f p → ⊥
+  none_apart : (p : ℕ) (finding : NodeFinding) → IsInferred f p finding → finding ≡ Apart → IsDynamic f p → ⊥
   none_apart p finding found is has = subst (IsInferred f p) is found has.first has.rest has.path
 
-  some_behind : (p : ℕ) (finding : Finding) → IsUnwritten f p → IsInferred f p finding → (finding ≡ Apart → ⊥) → IsDynamic f p
+  some_behind : (p : ℕ) (finding : NodeFinding) → IsUnwritten f p → IsInferred f p finding → (finding ≡ Apart → ⊥) → IsDynamic f p
   some_behind p Apart unwritten found not = absurd (not refl)
   some_behind p Source unwritten found not = enough.roots p found unwritten
   some_behind p (Behind rank reason) unwritten found not = record { unwritten = unwritten; first = found.0.first; rest = found.0.rest; path = found.0.path }
 
-  pub told : (findings : List Finding) → AreInferred f findings → (p : ℕ) → IsUnwritten f p → (finding_at findings p ≡ Apart → IsDynamic f p → ⊥) × ((finding_at findings p ≡ Apart → ⊥) → IsDynamic f p)
+  pub told : (findings : List NodeFinding) → AreInferred f findings → (p : ℕ) → IsUnwritten f p → (finding_at findings p ≡ Apart → IsDynamic f p → ⊥) × ((finding_at findings p ≡ Apart → ⊥) → IsDynamic f p)
   told findings are p unwritten =
       let found = are.each p unwritten in
       (none_apart p (finding_at findings p) found, some_behind p (finding_at findings p) unwritten found)

@@ -2,25 +2,25 @@
 use Rattle.std.proofs.{Common.{◌≡◌, ℕ, zero, suc, ◌+◌, ◌<◌, ◌≤◌, ◌⊎◌, Bool, true, false, List, [], ◌∷◌, ◌++◌, length, get_or, Option, Some, None, refl, sym, ap, ◌∙◌, subst, inl, inr, arith}, lemmas.Bool.false≢true, lemmas.List.get_or_default}
 use Rattle.std.specs.List.{Contains}
 use Rattle.sharc_graph.specs.Paths.{last_of}
-use Rattle.sharc_constraints.specs.{declared.place.Place.Place, declared.place.Place.TheVariants.{Root, Unwritten, Dynamic, Private, Other}, declared.place.Link.Link, Flow.{Flow, place_at, link_of, is_unwritten, is_source, IsUnwritten, IsSource, LeadsDown, HasEdge, IsFirstFor, Follow, LeadsTo, IsRank, IsRankFor, IsReason}, Rounds.{Ranks, rank_at, link_at, rank_by, rank_for, IsFound, HasRank, IsServed, AreFinal, IsLowest, IsSome}}
+use Rattle.sharc_constraints.specs.{declared.place.PositionKind.PositionKind, declared.place.PositionKind.TheVariants.{Root, Unwritten, Dynamic, Private, Other}, declared.place.Link.Link, Flow.{Flow, place_at, link_of, is_unwritten, is_source, IsUnwritten, IsSource, LeadsDown, HasEdge, IsFirstFor, Follow, LeadsTo, IsRank, IsRankFor, IsReason}, Rounds.{Ranks, rank_at, link_at, rank_by, rank_for, IsFound, HasRank, IsServed, AreFinal, IsLowest, IsSome}}
 use Rattle.sharc_constraints.proofs.{Closed.path_more, SamePaths.end_unwritten, RoundSteps.{none_some, same_rank}}
 
 -- ---- places
-root_of : (place : Place) → is_source place ≡ true → is_unwritten place ≡ true → place ≡ Root
+root_of : (place : PositionKind) → is_source place ≡ true → is_unwritten place ≡ true → place ≡ Root
 root_of Root source unwritten = refl
 root_of Unwritten source unwritten = absurd (false≢true source)
 root_of Dynamic source unwritten = absurd (false≢true unwritten)
 root_of Private source unwritten = absurd (false≢true source)
 root_of Other source unwritten = absurd (false≢true source)
 
-by_source : (place : Place) (o : Option ℕ) (below : Bool) → is_source place ≡ true → rank_by place o below ≡ Some 0
+by_source : (place : PositionKind) (o : Option ℕ) (below : Bool) → is_source place ≡ true → rank_by place o below ≡ Some 0
 by_source Root o below source = refl
 by_source Unwritten o below source = absurd (false≢true source)
 by_source Dynamic o below source = refl
 by_source Private o below source = absurd (false≢true source)
 by_source Other o below source = absurd (false≢true source)
 
-by_unwritten : (place : Place) (o : Option ℕ) (below : Bool) (rank : ℕ) → is_unwritten place ≡ true → (place ≡ Root → o ≡ Some 0) → o ≡ Some rank → rank_by place o below ≡ Some rank
+by_unwritten : (place : PositionKind) (o : Option ℕ) (below : Bool) (rank : ℕ) → is_unwritten place ≡ true → (place ≡ Root → o ≡ Some 0) → o ≡ Some rank → rank_by place o below ≡ Some rank
 by_unwritten Root o below rank unwritten root is = sym (root refl) ∙ is
 by_unwritten Unwritten o below rank unwritten root is = is
 by_unwritten Dynamic o below rank unwritten root is = absurd (false≢true unwritten)
@@ -28,7 +28,7 @@ by_unwritten Private o below rank unwritten root is = absurd (false≢true unwri
 by_unwritten Other o below rank unwritten root is = absurd (false≢true unwritten)
 
 -- for which links a position is of a rank
-by_cases : (place : Place) (o : Option ℕ) (below : Bool) (rank : ℕ) → rank_by place o below ≡ Some rank
+by_cases : (place : PositionKind) (o : Option ℕ) (below : Bool) (rank : ℕ) → rank_by place o below ≡ Some rank
     → (is_source place ≡ true × rank ≡ 0) ⊎ ((place ≡ Other) × (below ≡ true) × (rank ≡ 0)) ⊎ (o ≡ Some rank)
 by_cases Root o below rank is = inl (refl, same_rank (Some 0) rank 0 is refl)
 by_cases Unwritten o below rank is = inr (inr is)

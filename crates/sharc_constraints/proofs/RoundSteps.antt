@@ -1,7 +1,7 @@
 -- What following a link, a round and all rounds make of the ranks.
 use Rattle.std.proofs.{Common.{◌≡◌, ℕ, zero, suc, ◌+◌, ◌<◌, ◌≤◌, ◌⊎◌, min, Bool, true, false, cond, ◌&&◌, List, [], ◌∷◌, length, map, Option, Some, None, refl, sym, ap, ◌∙◌, subst, inl, inr, arith}, lemmas.Bool.{cases_eq, cases_lt, cases_Bool, and_parts, and_cases, eq-eqb, eqb-true, false≢true}, lemmas.List.{length-set, get_or-set_same, get_or-set_other, length-map}, lemmas.List.Sums.{sum_by-set, count_by-le-length}}
 use Rattle.std.specs.Prelude.{nat_eq, slice_set}
-use Rattle.sharc_constraints.specs.{declared.place.Place.Place, declared.place.Place.TheVariants.{Root, Unwritten, Dynamic, Private, Other}, declared.place.Link.Link, Flow.{Flow, flow_of, place_at, is_unwritten}, Rounds.{Ranks, rank_at, link_at, first_rank, rank_by, rank_for, is_none, is_rank, is_next, ranks_behind, IsFound, IsServed, AreRanks, AreUpTo, unranked, IsLowest, IsSome}}
+use Rattle.sharc_constraints.specs.{declared.place.PositionKind.PositionKind, declared.place.PositionKind.TheVariants.{Root, Unwritten, Dynamic, Private, Other}, declared.place.Link.Link, Flow.{Flow, flow_of, place_at, is_unwritten}, Rounds.{Ranks, rank_at, link_at, first_rank, rank_by, rank_for, is_none, is_rank, is_next, ranks_behind, IsFound, IsServed, AreRanks, AreUpTo, unranked, IsLowest, IsSome}}
 
 -- ---- tests
 three_true : (a b c : Bool) → (a && (b && c)) ≡ true → (a ≡ true) × (b ≡ true) × (c ≡ true)
@@ -37,14 +37,14 @@ pub same_rank : (o : Option ℕ) (a b : ℕ) → o ≡ Some a → o ≡ Some b �
 same_rank o a b first second = let same : Some a ≡ Some b = sym first ∙ second in cc
 
 -- ---- the rank for a link
-by_kept : (place : Place) (o new : Option ℕ) (below : Bool) (rank : ℕ) → ((r : ℕ) → o ≡ Some r → new ≡ Some r) → rank_by place o below ≡ Some rank → rank_by place new below ≡ Some rank
+by_kept : (place : PositionKind) (o new : Option ℕ) (below : Bool) (rank : ℕ) → ((r : ℕ) → o ≡ Some r → new ≡ Some r) → rank_by place o below ≡ Some rank → rank_by place new below ≡ Some rank
 by_kept Root o new below rank kept is = is
 by_kept Unwritten o new below rank kept is = kept rank is
 by_kept Dynamic o new below rank kept is = is
 by_kept Private o new below rank kept is = is
 by_kept Other o new below rank kept is = is
 
-by_back : (place : Place) (o new : Option ℕ) (below : Bool) (rank : ℕ) (T : ℕ → Type 0) → ((r : ℕ) → new ≡ Some r → (o ≡ Some r) ⊎ T r) → rank_by place new below ≡ Some rank → (rank_by place o below ≡ Some rank) ⊎ T rank
+by_back : (place : PositionKind) (o new : Option ℕ) (below : Bool) (rank : ℕ) (T : ℕ → Type 0) → ((r : ℕ) → new ≡ Some r → (o ≡ Some r) ⊎ T r) → rank_by place new below ≡ Some rank → (rank_by place o below ≡ Some rank) ⊎ T rank
 by_back Root o new below rank T back is = inl is
 by_back Unwritten o new below rank T back is = back rank is
 by_back Dynamic o new below rank T back is = inl is
@@ -178,7 +178,7 @@ fewer_still new then first true less fewer same = let before = fewer refl in ome
 fewer_still new then first false less fewer same = subst (λ rs. unranked new < unranked rs) (same refl) less
 
 -- ---- rounds
-pub begun : (places : List Place) (links : List Link) (ranks : Ranks) → ranks ≡ map first_rank places → AreRanks (flow_of places links) ranks 0 0 × AreUpTo ranks 0 × (unranked ranks ≤ length places)
+pub begun : (places : List PositionKind) (links : List Link) (ranks : Ranks) → ranks ≡ map first_rank places → AreRanks (flow_of places links) ranks 0 0 × AreUpTo ranks 0 × (unranked ranks ≤ length places)
 begun places links ranks is =
     let count = count_by-le-length is_none ranks in
     let size : length ranks ≡ length places = ap length is ∙ length-map places first_rank in (
@@ -194,19 +194,19 @@ begun places links ranks is =
       omega arith,
     )
   where
-    first_is : (places : List Place) (p : ℕ) → rank_at (map first_rank places) p ≡ first_rank (place_at places p)
+    first_is : (places : List PositionKind) (p : ℕ) → rank_at (map first_rank places) p ≡ first_rank (place_at places p)
     first_is [] p = refl
     first_is (x ∷ rest) zero = refl
     first_is (x ∷ rest) (suc p) = first_is rest p
 
-    first_zero : (place : Place) (r : ℕ) → first_rank place ≡ Some r → r ≡ 0
+    first_zero : (place : PositionKind) (r : ℕ) → first_rank place ≡ Some r → r ≡ 0
     first_zero Root r at = same_rank (Some 0) r 0 at refl
     first_zero Unwritten r at = absurd (none_some None r refl at)
     first_zero Dynamic r at = absurd (none_some None r refl at)
     first_zero Private r at = absurd (none_some None r refl at)
     first_zero Other r at = absurd (none_some None r refl at)
 
-    first_root : (place : Place) (r : ℕ) → first_rank place ≡ Some r → place ≡ Root
+    first_root : (place : PositionKind) (r : ℕ) → first_rank place ≡ Some r → place ≡ Root
     first_root Root r at = refl
     first_root Unwritten r at = absurd (none_some None r refl at)
     first_root Dynamic r at = absurd (none_some None r refl at)

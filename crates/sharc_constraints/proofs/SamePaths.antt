@@ -1,50 +1,50 @@
 -- The paths of the graph are those of the positions and links.
 use Rattle.std.proofs.{Common.{◌≡◌, ℕ, zero, suc, ◌<◌, ◌⊎◌, Bool, true, false, List, [], ◌∷◌, length, map, refl, sym, ap, ◌∙◌, subst, inl, inr, arith}, lemmas.Bool.{false≢true, cases_lt}, lemmas.List.{length-map, get_or_past}}
 use Rattle.std.specs.List.{Contains}
-use Rattle.sharc_graph.specs.{declared.graph.Node.Node, declared.graph.Finding.Finding, declared.graph.Finding.TheVariants.{Apart, Source, Behind}, Findings.finding_at, Paths.{Graph, graph_of, last_of, AreFindings, IsFinding, HasEdge as GraphEdge, IsSource as GraphSource, IsFree as GraphFree, Follow as GraphFollow, LeadsTo as GraphPath, IsRank as GraphRank, IsReason as GraphReason}}
-use Rattle.sharc_constraints.specs.{declared.place.Place.Place, declared.place.Place.TheVariants.{Root, Unwritten, Dynamic, Private, Other}, Flow.{Flow, place_at, is_unwritten, is_source, IsUnwritten, LeadsDown, HasEdge, IsFirstFor, Follow, LeadsTo, IsRank, IsRankFor, IsReason, IsInferred, AreInferred, node_of, leads, link_of, kept_edges}}
+use Rattle.sharc_graph.specs.{declared.graph.Node.Node, declared.graph.NodeFinding.NodeFinding, declared.graph.NodeFinding.TheVariants.{Apart, Source, Behind}, Findings.finding_at, Paths.{Graph, graph_of, last_of, AreFindings, IsFinding, HasEdge as GraphEdge, IsSource as GraphSource, IsFree as GraphFree, Follow as GraphFollow, LeadsTo as GraphPath, IsRank as GraphRank, IsReason as GraphReason}}
+use Rattle.sharc_constraints.specs.{declared.place.PositionKind.PositionKind, declared.place.PositionKind.TheVariants.{Root, Unwritten, Dynamic, Private, Other}, Flow.{Flow, place_at, is_unwritten, is_source, IsUnwritten, LeadsDown, HasEdge, IsFirstFor, Follow, LeadsTo, IsRank, IsRankFor, IsReason, IsInferred, AreInferred, node_of, leads, link_of, kept_edges}}
 use Rattle.sharc_constraints.proofs.Edges.{node_is, link_from_edge, edge_from_link}
 
 abbrev pub graph : Flow → Graph
 graph f = graph_of (map node_of f.places) (kept_edges f.places f.links)
 
 -- ---- places
-free_is : (x : Place) → (node_of x).free ≡ is_unwritten x
+free_is : (x : PositionKind) → (node_of x).free ≡ is_unwritten x
 free_is Root = refl
 free_is Unwritten = refl
 free_is Dynamic = refl
 free_is Private = refl
 free_is Other = refl
 
-source_cases : (x : Place) → (node_of x).source ≡ true → (is_source x ≡ true) ⊎ (x ≡ Other)
+source_cases : (x : PositionKind) → (node_of x).source ≡ true → (is_source x ≡ true) ⊎ (x ≡ Other)
 source_cases Root is = inl refl
 source_cases Unwritten is = absurd (false≢true is)
 source_cases Dynamic is = inl refl
 source_cases Private is = absurd (false≢true is)
 source_cases Other is = inr refl
 
-node_from_source : (x : Place) → is_source x ≡ true → (node_of x).source ≡ true
+node_from_source : (x : PositionKind) → is_source x ≡ true → (node_of x).source ≡ true
 node_from_source Root is = refl
 node_from_source Unwritten is = is
 node_from_source Dynamic is = refl
 node_from_source Private is = is
 node_from_source Other is = refl
 
-leads_from_source : (x : Place) (below : Bool) → is_source x ≡ true → leads x below ≡ true
+leads_from_source : (x : PositionKind) (below : Bool) → is_source x ≡ true → leads x below ≡ true
 leads_from_source Root below is = refl
 leads_from_source Unwritten below is = refl
 leads_from_source Dynamic below is = refl
 leads_from_source Private below is = is
 leads_from_source Other below is = absurd (false≢true is)
 
-leads_from_unwritten : (x : Place) (below : Bool) → is_unwritten x ≡ true → leads x below ≡ true
+leads_from_unwritten : (x : PositionKind) (below : Bool) → is_unwritten x ≡ true → leads x below ≡ true
 leads_from_unwritten Root below is = refl
 leads_from_unwritten Unwritten below is = refl
 leads_from_unwritten Dynamic below is = absurd (false≢true is)
 leads_from_unwritten Private below is = is
 leads_from_unwritten Other below is = absurd (false≢true is)
 
-other_is_written : (x : Place) → x ≡ Other → is_unwritten x ≡ true → ⊥
+other_is_written : (x : PositionKind) → x ≡ Other → is_unwritten x ≡ true → ⊥
 other_is_written x is unwritten = false≢true (sym (ap is_unwritten is) ∙ unwritten)
 
 -- ---- edges
@@ -206,7 +206,7 @@ module _ (f : Flow) where
       }
 
   -- ---- what is found
-  inferred : (q : ℕ) (finding : Finding) → IsUnwritten f q → IsFinding (graph f) q finding → IsInferred f q finding
+  inferred : (q : ℕ) (finding : NodeFinding) → IsUnwritten f q → IsFinding (graph f) q finding → IsInferred f q finding
   inferred q Apart unwritten found = λ first rest path. found first rest (path_to_graph first rest q path)
   inferred q Source unwritten found =
       elim (source_cases (place_at f.places q) (node_source q found)) [
@@ -215,7 +215,7 @@ module _ (f : Flow) where
       ]
   inferred q (Behind rank reason) unwritten found = (rank_from_graph q rank unwritten found.0, reason_from_graph q rank reason found.1)
 
-  pub all_inferred : (findings : List Finding) → AreFindings (graph f) findings → AreInferred f findings
+  pub all_inferred : (findings : List NodeFinding) → AreFindings (graph f) findings → AreInferred f findings
   all_inferred findings are =
       record {
         size = are.size ∙ length-map f.places node_of;

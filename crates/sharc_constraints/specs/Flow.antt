@@ -2,26 +2,26 @@
 use Rattle.std.specs.Prelude.{◌≡◌, ℕ, zero, suc, ◌+◌, ◌≤◌, ◌⊎◌, Bool, true, false, List, [], ◌∷◌, length}
 use Rattle.std.specs.Prelude.{slice_index_or, if◌then◌else◌}
 use Rattle.std.specs.List.{Contains}
-use Rattle.sharc_graph.specs.{declared.graph.Node.Node, declared.graph.Edge.Edge, declared.graph.Finding.Finding}
-use Rattle.sharc_graph.specs.{declared.graph.Finding.TheVariants.{Apart, Source, Behind}, Findings.finding_at}
+use Rattle.sharc_graph.specs.{declared.graph.Node.Node, declared.graph.Edge.Edge, declared.graph.NodeFinding.NodeFinding}
+use Rattle.sharc_graph.specs.{declared.graph.NodeFinding.TheVariants.{Apart, Source, Behind}, Findings.finding_at}
 use Rattle.sharc_graph.specs.Paths.{edge_of, last_of}
-use Rattle.sharc_constraints.specs.declared.place.Place.{Place}
-use Rattle.sharc_constraints.specs.declared.place.Place.TheVariants.{Root, Unwritten, Dynamic, Private, Other}
+use Rattle.sharc_constraints.specs.declared.place.PositionKind.{PositionKind}
+use Rattle.sharc_constraints.specs.declared.place.PositionKind.TheVariants.{Root, Unwritten, Dynamic, Private, Other}
 use Rattle.sharc_constraints.specs.declared.place.Link.{Link}
 
 pub record Flow : Type 0 where
-  pub places : List Place
+  pub places : List PositionKind
   pub links : List Link
 
-abbrev pub flow_of : List Place → List Link → Flow
+abbrev pub flow_of : List PositionKind → List Link → Flow
 flow_of places links = record { places = places; links = links }
 
 -- past the last position nothing takes part
-abbrev pub place_at : List Place → ℕ → Place
+abbrev pub place_at : List PositionKind → ℕ → PositionKind
 place_at places position = slice_index_or places position Private
 
 -- ---- what is written
-abbrev pub is_unwritten : Place → Bool
+abbrev pub is_unwritten : PositionKind → Bool
 is_unwritten Root = true
 is_unwritten Unwritten = true
 is_unwritten Dynamic = false
@@ -29,7 +29,7 @@ is_unwritten Private = false
 is_unwritten Other = false
 
 -- of rank 0 for each of its edges
-abbrev pub is_source : Place → Bool
+abbrev pub is_source : PositionKind → Bool
 is_source Root = true
 is_source Unwritten = false
 is_source Dynamic = true
@@ -104,18 +104,18 @@ pub record IsReason (f : Flow) (position rank reason : ℕ) : Type 0 where
   pub lowest : (other : ℕ) → IsRankFor f other position below → reason ≤ other
 
 -- ---- the least assignment
-abbrev pub IsInferred : Flow → ℕ → Finding → Type 0
+abbrev pub IsInferred : Flow → ℕ → NodeFinding → Type 0
 IsInferred f position Apart = (first : ℕ) (rest : List ℕ) → LeadsTo f first rest position → ⊥
 IsInferred f position Source = IsSource f position
 IsInferred f position (Behind rank reason) = IsRank f position rank × IsReason f position rank reason
 
 -- what is found of each unwritten position: it is dynamic where it is not apart
-pub record AreInferred (f : Flow) (findings : List Finding) : Type 0 where
+pub record AreInferred (f : Flow) (findings : List NodeFinding) : Type 0 where
   pub size : length findings ≡ length f.places
   pub each : (position : ℕ) → IsUnwritten f position → IsInferred f position (finding_at findings position)
 
 -- ---- the graph
-abbrev pub node_of : Place → Node
+abbrev pub node_of : PositionKind → Node
 node_of Root = record { source = true; free = true }
 node_of Unwritten = record { source = false; free = true }
 node_of Dynamic = record { source = true; free = false }
@@ -123,7 +123,7 @@ node_of Private = record { source = false; free = false }
 node_of Other = record { source = true; free = false }
 
 -- a path may go on from such a position by such a link
-abbrev pub leads : Place → Bool → Bool
+abbrev pub leads : PositionKind → Bool → Bool
 leads Root below = true
 leads Unwritten below = true
 leads Dynamic below = true
@@ -131,7 +131,7 @@ leads Private below = false
 leads Other below = below
 
 -- the edges by which a path may go on
-abbrev pub kept_edges : List Place → List Link → List Edge
+abbrev pub kept_edges : List PositionKind → List Link → List Edge
 kept_edges places [] = []
 kept_edges places (link ∷ rest) =
     if leads (place_at places link.edge.from) link.below then link.edge ∷ kept_edges places rest

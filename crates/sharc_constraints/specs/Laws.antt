@@ -1,6 +1,6 @@
 -- What the inferred modes are to those who argue with them: they have what the links ask for, and no more.
 use Rattle.std.specs.Prelude.{◌≡◌, ℕ, Bool, true, List}
-use Rattle.sharc_graph.specs.{declared.graph.Finding.Finding, declared.graph.Finding.TheVariants.Apart}
+use Rattle.sharc_graph.specs.{declared.graph.NodeFinding.NodeFinding, declared.graph.NodeFinding.TheVariants.Apart}
 use Rattle.sharc_graph.specs.Findings.{finding_at}
 use Rattle.sharc_constraints.specs.Flow.{Flow, IsUnwritten, IsSource, IsFirstFor, HasEdge, IsEqual, LeadsTo}
 use Rattle.sharc_constraints.specs.Flow.{AreInferred}
@@ -35,7 +35,7 @@ EqualsAgree = (f : Flow) (a b : ℕ) → IsEqual f a b → IsEqual f b a → IsU
 
 -- what is found shows them: a position without a written mode is dynamic where it is not apart
 abbrev pub AreTold : Type 0
-AreTold = (f : Flow) (findings : List Finding) → AreInferred f findings → (position : ℕ) → IsUnwritten f position
+AreTold = (f : Flow) (findings : List NodeFinding) → AreInferred f findings → (position : ℕ) → IsUnwritten f position
     → (finding_at findings position ≡ Apart → IsDynamic f position → ⊥)
     × ((finding_at findings position ≡ Apart → ⊥) → IsDynamic f position)
 

@@ -1,8 +1,8 @@
 -- Ranks as rounds over all links find them.
 use Rattle.std.specs.Prelude.{◌≡◌, ℕ, zero, suc, ◌+◌, ◌<◌, ◌≤◌, ◌⊎◌, Bool, true, false, ◌&&◌, List, length}
 use Rattle.std.specs.Prelude.{slice_index_or, slice_set, count_by, if◌then◌else◌, Option, Some, None, nat_eq}
-use Rattle.sharc_constraints.specs.declared.place.Place.{Place}
-use Rattle.sharc_constraints.specs.declared.place.Place.TheVariants.{Root, Unwritten, Dynamic, Private, Other}
+use Rattle.sharc_constraints.specs.declared.place.PositionKind.{PositionKind}
+use Rattle.sharc_constraints.specs.declared.place.PositionKind.TheVariants.{Root, Unwritten, Dynamic, Private, Other}
 use Rattle.sharc_constraints.specs.{declared.place.Link.Link, Flow.{Flow, place_at, link_of, is_unwritten}}
 
 abbrev pub Ranks : Type 0
@@ -14,7 +14,7 @@ rank_at ranks position = slice_index_or ranks position None
 abbrev pub link_at : List Link → ℕ → Link
 link_at links i = slice_index_or links i (link_of 0 0 false)
 
-abbrev pub first_rank : Place → Option ℕ
+abbrev pub first_rank : PositionKind → Option ℕ
 first_rank Root = Some 0
 first_rank Unwritten = None
 first_rank Dynamic = None
@@ -22,7 +22,7 @@ first_rank Private = None
 first_rank Other = None
 
 -- of which rank a position is for a link of it
-abbrev pub rank_by : Place → Option ℕ → Bool → Option ℕ
+abbrev pub rank_by : PositionKind → Option ℕ → Bool → Option ℕ
 rank_by Root rank below = Some 0
 rank_by Unwritten rank below = rank
 rank_by Dynamic rank below = Some 0
@@ -30,7 +30,7 @@ rank_by Private rank below = None
 rank_by Other rank below = if below then Some 0 else None
 
 -- of which rank the position that this link comes from is for it
-abbrev pub rank_for : List Place → Ranks → Link → Option ℕ
+abbrev pub rank_for : List PositionKind → Ranks → Link → Option ℕ
 rank_for places ranks link = rank_by (place_at places link.edge.from) (rank_at ranks link.edge.from) link.below
 
 abbrev pub is_none : Option ℕ → Bool
@@ -43,11 +43,11 @@ is_rank (Some rank) wanted = nat_eq rank wanted
 
 -- ---- one link
 -- the link leads from a position of this rank to one without a written mode that has none yet
-abbrev pub is_next : List Place → Ranks → Link → ℕ → Bool
+abbrev pub is_next : List PositionKind → Ranks → Link → ℕ → Bool
 is_next places ranks link rank = is_rank (rank_for places ranks link) rank
     && (is_unwritten (place_at places link.edge.to) && is_none (rank_at ranks link.edge.to))
 
-abbrev pub ranks_behind : List Place → Ranks → Link → ℕ → Ranks
+abbrev pub ranks_behind : List PositionKind → Ranks → Link → ℕ → Ranks
 ranks_behind places ranks link rank =
     if is_next places ranks link rank then slice_set ranks link.edge.to (Some (rank + 1)) else ranks
 

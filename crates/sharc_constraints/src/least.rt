@@ -5,16 +5,16 @@ ghost use Rattle.std.specs.List.{All};
 ghost use Rattle.sharc_graph.specs.Paths.{IsWithin};
 ghost use Rattle.sharc_constraints.specs.Flow.{flow_of, node_of, kept_edges, AreInferred};
 
-use crate::place::{Link, Place};
-use sharc_graph::{Edge, Finding, Node, find};
+use crate::place::{Link, PositionKind};
+use sharc_graph::{Edge, NodeFinding, Node, find};
 use std::alloc::{AllocError, Global};
 
 /// What is found of each position: those without a written mode are dynamic where a path leads to them, else private.
 pub fn least_assignment(
     alloc: Global,
-    places: &[Place],
+    places: &[PositionKind],
     links: &[Link],
-) -> Result<Vec<Finding>, AllocError>
+) -> Result<Vec<NodeFinding>, AllocError>
     requires few_places { length places.now < 2 ^ 32 }
     requires few_links { length links.now < 2 ^ 32 }
     requires within { All (λ link. IsWithin (length places.now) link.edge) links.now }
@@ -26,14 +26,14 @@ pub fn least_assignment(
 }
 
 // What each position is to the paths.
-fn nodes(alloc: Global, places: &[Place]) -> Result<Vec<Node>, AllocError>
+fn nodes(alloc: Global, places: &[PositionKind]) -> Result<Vec<Node>, AllocError>
     ensures { IfOk result (λ nodes. nodes.items ≡ map node_of places.now) }
 {
     places.iter().map(|place| place.node()).collect(alloc)
 }
 
 // The edges by which a path may go on.
-fn edges(alloc: Global, places: &[Place], links: &[Link]) -> Result<Vec<Edge>, AllocError>
+fn edges(alloc: Global, places: &[PositionKind], links: &[Link]) -> Result<Vec<Edge>, AllocError>
     requires within { All (λ link. IsWithin (length places.now) link.edge) links.now }
     ensures edges { IfOk result (λ edges. edges.items ≡ kept_edges places.now links.now) }
 {

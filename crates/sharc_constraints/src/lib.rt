@@ -15,5 +15,5 @@ mod rounds;
 
 pub use least::least_assignment;
 pub use make::{lead_down, make_equal};
-pub use place::{Link, Place};
+pub use place::{Link, PositionKind};
 pub use rounds::least_by_rounds;

@@ -7,7 +7,7 @@ use sharc_graph::{Edge, Node};
 
 /// What is known of a position before the inference.
 #[derive(Clone, Copy)]
-pub enum Place {
+pub enum PositionKind {
     /// No mode is written, and it is a root.
     Root,
     /// No mode is written, and it is no root.
@@ -28,25 +28,25 @@ pub struct Link {
     pub below: bool,
 }
 
-impl Place {
+impl PositionKind {
     /// What it is to the paths.
     pub(crate) fn node(self) -> Node
         ensures { result ≡ node_of self }
     {
         match self {
-            Place::Root => Node {
+            PositionKind::Root => Node {
                 source: true,
                 free: true,
             },
-            Place::Unwritten => Node {
+            PositionKind::Unwritten => Node {
                 source: false,
                 free: true,
             },
-            Place::Dynamic | Place::Other => Node {
+            PositionKind::Dynamic | PositionKind::Other => Node {
                 source: true,
                 free: false,
             },
-            Place::Private => Node {
+            PositionKind::Private => Node {
                 source: false,
                 free: false,
             },
@@ -58,9 +58,9 @@ impl Place {
         ensures { result ≡ leads self link.now.below }
     {
         match self {
-            Place::Root | Place::Unwritten | Place::Dynamic => true,
-            Place::Private => false,
-            Place::Other => link.below,
+            PositionKind::Root | PositionKind::Unwritten | PositionKind::Dynamic => true,
+            PositionKind::Private => false,
+            PositionKind::Other => link.below,
         }
     }
 }

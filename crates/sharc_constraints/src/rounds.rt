@@ -7,8 +7,8 @@ ghost use Rattle.sharc_constraints.specs.Flow.{flow_of, place_at, is_unwritten, 
 ghost use Rattle.sharc_constraints.specs.Rounds.{first_rank, rank_by, rank_for, is_rank, is_next, ranks_behind};
 ghost use Rattle.sharc_constraints.specs.Rounds.{unranked, AreRanks, AreUpTo, AreFinal, IsLowest, IsSome};
 
-use crate::place::{Link, Place};
-use sharc_graph::Finding;
+use crate::place::{Link, PositionKind};
+use sharc_graph::NodeFinding;
 use std::alloc::{AllocError, Global};
 
 /// What `least_assignment` answers of the positions without a written mode, by a plain program: rounds over all links
@@ -16,9 +16,9 @@ use std::alloc::{AllocError, Global};
 /// Apart.
 pub fn least_by_rounds(
     alloc: Global,
-    places: &[Place],
+    places: &[PositionKind],
     links: &[Link],
-) -> Result<Vec<Finding>, AllocError>
+) -> Result<Vec<NodeFinding>, AllocError>
     requires few_places { length places.now < 2 ^ 32 }
     requires within { All (λ link. IsWithin (length places.now) link.edge) links.now }
     ensures { IfOk result (λ findings. AreInferred (flow_of places.now links.now) findings.items) }
@@ -33,34 +33,34 @@ pub fn least_by_rounds(
 }
 
 // The roots are of rank 0.
-fn first_ranks(alloc: Global, places: &[Place]) -> Result<Vec<Option<usize>>, AllocError>
+fn first_ranks(alloc: Global, places: &[PositionKind]) -> Result<Vec<Option<usize>>, AllocError>
     ensures { IfOk result (λ ranks. ranks.items ≡ map first_rank places.now) }
 {
     places.iter().map(|place| first_rank(*place)).collect(alloc)
 }
 
-fn first_rank(place: Place) -> Option<usize>
+fn first_rank(place: PositionKind) -> Option<usize>
     ensures { result ≡ first_rank place }
 {
     match place {
-        Place::Root => Some(0),
+        PositionKind::Root => Some(0),
         _ => None,
     }
 }
 
 // Of which rank a position is for a link of it, by its own rank.
-fn rank_by(place: Place, rank: Option<usize>, below: bool) -> Option<usize>
+fn rank_by(place: PositionKind, rank: Option<usize>, below: bool) -> Option<usize>
     ensures { result ≡ rank_by place rank below }
 {
     match place {
-        Place::Root | Place::Dynamic => Some(0),
-        Place::Unwritten => rank,
-        Place::Private => None,
-        Place::Other => if below { Some(0) } else { None },
+        PositionKind::Root | PositionKind::Dynamic => Some(0),
+        PositionKind::Unwritten => rank,
+        PositionKind::Private => None,
+        PositionKind::Other => if below { Some(0) } else { None },
     }
 }
 
-fn rank_for(places: &[Place], ranks: &[Option<usize>], link: &Link) -> Option<usize>
+fn rank_for(places: &[PositionKind], ranks: &[Option<usize>], link: &Link) -> Option<usize>
     requires places { link.now.edge.from < length places.now }
     requires ranks { length ranks.now ≡ length places.now }
     ensures { result ≡ rank_for places.now ranks.now link.now }
@@ -78,15 +78,15 @@ fn is_rank(rank: Option<usize>, wanted: usize) -> bool
     }
 }
 
-fn is_unwritten(place: Place) -> bool
+fn is_unwritten(place: PositionKind) -> bool
     ensures { result ≡ is_unwritten place }
 {
-    matches!(place, Place::Root | Place::Unwritten)
+    matches!(place, PositionKind::Root | PositionKind::Unwritten)
 }
 
 // What the link leads to is of one rank more, where it comes from a position of this rank. Whether it was of none
 // before.
-fn follow(places: &[Place], link: &Link, rank: usize, ranks: &mut Vec<Option<usize>>) -> bool
+fn follow(places: &[PositionKind], link: &Link, rank: usize, ranks: &mut Vec<Option<usize>>) -> bool
     requires within { IsWithin (length places.now) link.now.edge }
     requires size { length ranks.old.items ≡ length places.now }
     requires few { rank + 1 < 2 ^ 64 }
@@ -106,7 +106,7 @@ fn follow(places: &[Place], link: &Link, rank: usize, ranks: &mut Vec<Option<usi
 }
 
 // Goes over all links once. Whether a position was found that was of no rank before.
-fn go_round(places: &[Place], links: &[Link], round: usize, ranks: &mut Vec<Option<usize>>) -> bool
+fn go_round(places: &[PositionKind], links: &[Link], round: usize, ranks: &mut Vec<Option<usize>>) -> bool
     requires within { All (λ link. IsWithin (length places.now) link.edge) links.now }
     requires few { round + 1 < 2 ^ 64 }
     requires ranks { AreRanks (flow_of places.now links.now) ranks.old.items round 0 }
@@ -124,7 +124,7 @@ fn go_round(places: &[Place], links: &[Link], round: usize, ranks: &mut Vec<Opti
 }
 
 // Goes over all links again and again, until that finds nothing.
-fn go_rounds(places: &[Place], links: &[Link], ranks: &mut Vec<Option<usize>>)
+fn go_rounds(places: &[PositionKind], links: &[Link], ranks: &mut Vec<Option<usize>>)
     requires few { length places.now < 2 ^ 32 }
     requires within { All (λ link. IsWithin (length places.now) link.edge) links.now }
     requires ranks { ranks.old.items ≡ map first_rank places.now }
@@ -137,7 +137,7 @@ fn go_rounds(places: &[Place], links: &[Link], ranks: &mut Vec<Option<usize>>)
 }
 
 // Whether the link leads to this position from one that is of this rank for it.
-fn leads_at(places: &[Place], ranks: &[Option<usize>], link: &Link, to: u32, rank: usize) -> bool
+fn leads_at(places: &[PositionKind], ranks: &[Option<usize>], link: &Link, to: u32, rank: usize) -> bool
     requires places { link.now.edge.from < length places.now }
     requires ranks { length ranks.now ≡ length places.now }
     ensures { result ≡ (nat_eq link.now.edge.to to && is_rank (rank_for places.now ranks.now link.now) rank) }
@@ -146,7 +146,7 @@ fn leads_at(places: &[Place], ranks: &[Option<usize>], link: &Link, to: u32, ran
 }
 
 // The lowest position that is of this rank for a link to the other; the largest number where there is none.
-fn lowest(places: &[Place], links: &[Link], ranks: &[Option<usize>], to: u32, below: usize) -> u32
+fn lowest(places: &[PositionKind], links: &[Link], ranks: &[Option<usize>], to: u32, below: usize) -> u32
     requires within { All (λ link. IsWithin (length places.now) link.edge) links.now }
     requires size { length ranks.now ≡ length places.now }
     ensures lowest { IsLowest (flow_of places.now links.now) ranks.now (length links.now) to below result }
@@ -162,7 +162,7 @@ fn lowest(places: &[Place], links: &[Link], ranks: &[Option<usize>], to: u32, be
 }
 
 // What is found of a position.
-fn finding(places: &[Place], links: &[Link], ranks: &[Option<usize>], position: u32) -> Finding
+fn finding(places: &[PositionKind], links: &[Link], ranks: &[Option<usize>], position: u32) -> NodeFinding
     requires few { length places.now < 2 ^ 32 }
     requires within { All (λ link. IsWithin (length places.now) link.edge) links.now }
     requires ranks { AreFinal (flow_of places.now links.now) ranks.now }
@@ -171,11 +171,11 @@ fn finding(places: &[Place], links: &[Link], ranks: &[Option<usize>], position: 
         → IsInferred (flow_of places.now links.now) position result }
 {
     match ranks[position as usize] {
-        None => Finding::Apart,
+        None => NodeFinding::Apart,
         Some(rank) => if rank == 0 {
-            Finding::Source
+            NodeFinding::Source
         } else {
-            Finding::Behind {
+            NodeFinding::Behind {
                 rank: rank as u32,
                 reason: lowest(places, links, ranks, position, rank - 1),
             }

@@ -6,7 +6,7 @@ ghost use Rattle.sharc_code.specs.Layout.{IsShape};
 ghost use Rattle.sharc_code.specs.Path.{begun, most_ints, most_refs};
 ghost use Rattle.sharc_cpu.specs.View.{rest_of, machine_of};
 
-use crate::parts::Parts;
+use crate::parts::ThreadParts;
 use sharc_code::{Code, FRAMES, Frame, Shape, Stage};
 use sharc_locks::HeldLog;
 use sharc_shadow::AccessTable;
@@ -46,7 +46,7 @@ pub(crate) fn begun(
     code: &Code,
     shape: Shape,
     number: u32,
-) -> Result<Parts, AllocError>
+) -> Result<ThreadParts, AllocError>
     requires { IsShape shape }
     ensures { IfOk result (λ parts. machine_of (begun code.now shape number).at parts ≡ begun code.now shape number) }
 {
@@ -59,7 +59,7 @@ pub(crate) fn begun(
     }; FRAMES]?;
     let table = AccessTable::new(alloc, shape.granules())?;
     let heads = vec![in alloc; 0u64; HEADS]?;
-    Ok(Parts {
+    Ok(ThreadParts {
         ints,
         refs,
         pending: 0,

@@ -10,7 +10,7 @@ ghost use Rattle.sharc_code.specs.Machine.{is_of_null, object, without_base, ind
 ghost use Rattle.sharc_cpu.specs.View.{machine_of, Makes, KeepsPort};
 
 use crate::arithmetic::{int_of, word_of};
-use crate::parts::Parts;
+use crate::parts::ThreadParts;
 use crate::places::{Done, go_on, next};
 use crate::turns::indexed;
 use sharc_code::{At, Cell, Shape, cell_of};
@@ -37,7 +37,7 @@ pub(crate) fn step_of(word: u32, op: WordOp) -> WordStep
 
 // The number of a cell, counted from the first cell of granule 0, or the largest number where it is larger.
 #[inline(always)]
-fn place(at: At, parts: &Parts, cell: Cell) -> u64
+fn place(at: At, parts: &ThreadParts, cell: Cell) -> u64
     ensures { result ≡ min (place (machine_of at parts.now) cell) largest }
 {
     match cell {
@@ -52,7 +52,7 @@ fn place(at: At, parts: &Parts, cell: Cell) -> u64
 
 /// The word of a cell.
 #[inline(always)]
-pub(crate) fn word(shape: Shape, at: At, parts: &Parts, cell: Cell) -> u32
+pub(crate) fn word(shape: Shape, at: At, parts: &ThreadParts, cell: Cell) -> u32
     requires { IsShape shape }
     ensures is { result ≡ word shape (machine_of at parts.now) cell }
     ensures within { result < words_of shape }
@@ -62,7 +62,7 @@ pub(crate) fn word(shape: Shape, at: At, parts: &Parts, cell: Cell) -> u32
 
 /// The granule of a cell, 0 where it is none.
 #[inline(always)]
-pub(crate) fn granule(shape: Shape, at: At, parts: &Parts, cell: Cell) -> u32
+pub(crate) fn granule(shape: Shape, at: At, parts: &ThreadParts, cell: Cell) -> u32
     requires { IsShape shape }
     ensures is { result ≡ granule_at shape (granule_of (place (machine_of at parts.now) cell)) }
     ensures within { result < granules shape }
@@ -72,14 +72,14 @@ pub(crate) fn granule(shape: Shape, at: At, parts: &Parts, cell: Cell) -> u32
 
 /// The granule and the word of a cell.
 #[derive(Clone, Copy)]
-pub(crate) struct Spot {
+pub(crate) struct CellAddress {
     pub granule: u32,
     pub word: u32,
 }
 
 /// Both, from one look at the registers of the cell.
 #[inline(always)]
-pub(crate) fn spot_of(shape: Shape, at: At, parts: &Parts, cell: Cell) -> Spot
+pub(crate) fn spot_of(shape: Shape, at: At, parts: &ThreadParts, cell: Cell) -> CellAddress
     requires { IsShape shape }
     ensures granule { result.granule ≡ granule_at shape (granule_of (place (machine_of at parts.now) cell)) }
     ensures word { result.word ≡ word shape (machine_of at parts.now) cell }
@@ -87,7 +87,7 @@ pub(crate) fn spot_of(shape: Shape, at: At, parts: &Parts, cell: Cell) -> Spot
     ensures within { result.word < words_of shape }
 {
     let place = place(at, parts, cell);
-    Spot {
+    CellAddress {
         granule: shape.granule_at(place / 2),
         word: shape.cell_word(place),
     }
@@ -95,7 +95,7 @@ pub(crate) fn spot_of(shape: Shape, at: At, parts: &Parts, cell: Cell) -> Spot
 
 /// Whether the cell is one of NULL.
 #[inline(always)]
-pub(crate) fn is_of_null(at: At, parts: &Parts, cell: Cell) -> bool
+pub(crate) fn is_of_null(at: At, parts: &ThreadParts, cell: Cell) -> bool
     ensures { result ≡ is_of_null (machine_of at parts.now) cell }
 {
     match cell {
@@ -107,7 +107,7 @@ pub(crate) fn is_of_null(at: At, parts: &Parts, cell: Cell) -> bool
 
 /// The object in which the cell lies, 0 for a global.
 #[inline(always)]
-pub(crate) fn object(at: At, parts: &Parts, cell: Cell) -> u64
+pub(crate) fn object(at: At, parts: &ThreadParts, cell: Cell) -> u64
     ensures { result ≡ object (machine_of at parts.now) cell }
 {
     match cell {
@@ -118,7 +118,7 @@ pub(crate) fn object(at: At, parts: &Parts, cell: Cell) -> u64
 
 /// Gives up the reference to that object.
 #[inline(always)]
-pub(crate) fn give_up_base(at: At, parts: &mut Parts, cell: Cell)
+pub(crate) fn give_up_base(at: At, parts: &mut ThreadParts, cell: Cell)
     ensures turn { machine_of at parts.new ≡ without_base (machine_of at parts.old) cell }
     ensures room { vec_capacity parts.new.prints ≡ vec_capacity parts.old.prints }
 {
@@ -134,7 +134,7 @@ pub(crate) fn give_up_base(at: At, parts: &mut Parts, cell: Cell)
 #[inline(always)]
 pub(crate) fn load_word<P: Port>(
     at: &mut At,
-    parts: &mut Parts,
+    parts: &mut ThreadParts,
     port: &mut P,
     register: u32,
     word: u32,
@@ -165,7 +165,7 @@ pub(crate) fn load_word<P: Port>(
 pub(crate) fn load<P: Port>(
     shape: Shape,
     at: &mut At,
-    parts: &mut Parts,
+    parts: &mut ThreadParts,
     port: &mut P,
     register: u32,
     cell: Cell,
@@ -188,7 +188,7 @@ pub(crate) fn load<P: Port>(
 #[inline(always)]
 pub(crate) fn store_word<P: Port>(
     at: &mut At,
-    parts: &mut Parts,
+    parts: &mut ThreadParts,
     port: &mut P,
     register: u32,
     word: u32,
@@ -220,7 +220,7 @@ pub(crate) fn store_word<P: Port>(
 pub(crate) fn store<P: Port>(
     shape: Shape,
     at: &mut At,
-    parts: &mut Parts,
+    parts: &mut ThreadParts,
     port: &mut P,
     register: u32,
     cell: Cell,
@@ -244,7 +244,7 @@ pub(crate) fn store<P: Port>(
 pub(crate) fn load_reference<P: Port>(
     shape: Shape,
     at: At,
-    parts: &mut Parts,
+    parts: &mut ThreadParts,
     port: &mut P,
     cell: Cell,
 ) -> Done
@@ -278,7 +278,7 @@ pub(crate) fn load_reference<P: Port>(
 pub(crate) fn exchange<P: Port>(
     shape: Shape,
     at: At,
-    parts: &mut Parts,
+    parts: &mut ThreadParts,
     port: &mut P,
     register: u32,
     cell: Cell,
@@ -315,7 +315,7 @@ pub(crate) fn exchange<P: Port>(
 pub(crate) fn take_cell<P: Port>(
     shape: Shape,
     at: At,
-    parts: &mut Parts,
+    parts: &mut ThreadParts,
     port: &mut P,
     register: u32,
     cell: Cell,
@@ -350,7 +350,7 @@ pub(crate) fn take_cell<P: Port>(
 pub(crate) fn bounds<P: Port>(
     shape: Shape,
     at: At,
-    parts: &mut Parts,
+    parts: &mut ThreadParts,
     port: &mut P,
     register: u32,
     base: u32,

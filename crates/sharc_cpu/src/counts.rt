@@ -7,7 +7,7 @@ ghost use Rattle.sharc_code.specs.Machine.{Asks, ref, set_ref, move_ref, goes, a
 ghost use Rattle.sharc_cpu.specs.View.{machine_of, Makes, KeepsPort};
 
 use crate::cells::ask;
-use crate::parts::Parts;
+use crate::parts::ThreadParts;
 use crate::places::{Done, local, next};
 use crate::turns::stopped;
 use sharc_code::{At, Shape, Stop};
@@ -15,7 +15,7 @@ use sharc_word::Port;
 
 // A4 where the count is another than 1.
 #[inline(always)]
-fn tested(at: At, parts: &mut Parts, site: u32, count: u64) -> At
+fn tested(at: At, parts: &mut ThreadParts, site: u32, count: u64) -> At
     requires place { at.pc + 1 < 2 ^ 64 }
     ensures turn { machine_of result parts.new ≡ tested (machine_of at parts.old) site count }
     ensures room { vec_capacity parts.new.prints ≡ vec_capacity parts.old.prints }
@@ -32,7 +32,7 @@ fn tested(at: At, parts: &mut Parts, site: u32, count: u64) -> At
 pub(crate) fn raise<P: Port>(
     shape: Shape,
     at: At,
-    parts: &mut Parts,
+    parts: &mut ThreadParts,
     port: &mut P,
     register: u32,
     from: u32,
@@ -63,7 +63,7 @@ pub(crate) fn raise<P: Port>(
 pub(crate) fn raise_loaded<P: Port>(
     shape: Shape,
     at: At,
-    parts: &mut Parts,
+    parts: &mut ThreadParts,
     port: &mut P,
     register: u32,
 ) -> Done
@@ -94,7 +94,7 @@ pub(crate) fn raise_loaded<P: Port>(
 pub(crate) fn lower<P: Port>(
     shape: Shape,
     at: At,
-    parts: &mut Parts,
+    parts: &mut ThreadParts,
     port: &mut P,
     register: u32,
 ) -> Done
@@ -124,7 +124,7 @@ pub(crate) fn lower<P: Port>(
 pub(crate) fn take_local<P: Port>(
     shape: Shape,
     at: At,
-    parts: &mut Parts,
+    parts: &mut ThreadParts,
     port: &mut P,
     register: u32,
     from: u32,
@@ -156,7 +156,7 @@ pub(crate) fn take_local<P: Port>(
 pub(crate) fn test_sole<P: Port>(
     shape: Shape,
     at: At,
-    parts: &mut Parts,
+    parts: &mut ThreadParts,
     port: &mut P,
     register: u32,
     site: u32,
@@ -181,7 +181,7 @@ pub(crate) fn test_sole<P: Port>(
 pub(crate) fn give<P: Port>(
     shape: Shape,
     at: At,
-    parts: &mut Parts,
+    parts: &mut ThreadParts,
     port: &mut P,
     register: u32,
 ) -> Done

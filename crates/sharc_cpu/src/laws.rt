@@ -2,7 +2,7 @@
 
 ghost use Rattle.std.specs.Prelude.{◌≡◌, ◌↔◌, ◌<◌, IsSome, length};
 ghost use Rattle.sharc_word.specs.declared.step.TheConstants.{THREADS as threads};
-ghost use Rattle.sharc_code.specs.declared.state.State.TheVariants as states;
+ghost use Rattle.sharc_code.specs.declared.state.TurnState.TheVariants as states;
 ghost use Rattle.sharc_code.specs.Layout.{granules};
 ghost use Rattle.sharc_code.specs.Stages.{IsStageOf};
 ghost use Rattle.sharc_cpu.specs.Thread.{IsThread};

@@ -3,9 +3,9 @@
 //! `Thread` is what is kept between quanta, and `run_quantum` is its one step from outside; `run_trying` is the same,
 //! but goes on behind failed tries. `specs/Thread.antt` says when a thread is one of a code and a shape (`IsThread`),
 //! and `specs/Quantum.antt` what a quantum does and answers (`IsQuantum`): its turns are a path of `sharc_code`. `act`
-//! makes one turn, by one small function for each kind that asks for a step. With a `Plan` of the code, which says
+//! makes one turn, by one small function for each kind that asks for a step. With a `RowPlan` of the code, which says
 //! where rows of turns begin, the turns of a row are made in one go. `run_turn`, `run_in_line` and `run_rows` make
-//! turns without a quantum around them. Only `Thread::new`, `Thread::reserve` and `Plan::of` take memory.
+//! turns without a quantum around them. Only `Thread::new`, `Thread::reserve` and `RowPlan::of` take memory.
 #![tactic(auto)]
 
 mod act;
@@ -34,6 +34,6 @@ mod waits;
 pub use brief::{run_in_line, run_rows, run_turn};
 pub use laws::{path_laws, thread_law};
 pub use quantum::{Pause, run_quantum, run_trying};
-pub use rows::Plan;
+pub use rows::RowPlan;
 pub use sharc_code::{ConflictAt, Stop, Wait};
 pub use thread::Thread;

@@ -11,7 +11,7 @@ ghost use Rattle.sharc_cpu.specs.View.{rest_of, machine_of, IsWithin, Makes, Kee
 
 use crate::cells::{ask, give_up_base, object, word};
 use crate::checks::is_held;
-use crate::parts::Parts;
+use crate::parts::ThreadParts;
 use crate::places::{Done, next, tries};
 use crate::turns::{at_stage, rests};
 use sharc_code::{At, Cell, Shape, Stage};
@@ -19,7 +19,7 @@ use sharc_word::{Port, WordOp, WordStep};
 
 /// Whether one mutex more may be held.
 #[inline(always)]
-pub(crate) fn has_room(parts: &Parts) -> bool
+pub(crate) fn has_room(parts: &ThreadParts) -> bool
     ensures { result ≡ nat_lt (length parts.now.held) 16 }
 {
     !parts.held.is_full()
@@ -27,7 +27,7 @@ pub(crate) fn has_room(parts: &Parts) -> bool
 
 // The log has the mutex as well.
 #[inline(always)]
-fn taken(at: At, parts: &mut Parts, mutex: u32, object: u64)
+fn taken(at: At, parts: &mut ThreadParts, mutex: u32, object: u64)
     ensures rest { rest_of parts.new ≡ record (rest_of
         parts.old) { own = record (rest_of parts.old).own { held = taken (machine_of at parts.old) mutex object } } }
     ensures room { vec_capacity parts.new.prints ≡ vec_capacity parts.old.prints }
@@ -39,7 +39,7 @@ fn taken(at: At, parts: &mut Parts, mutex: u32, object: u64)
 
 // The mutex is the thread's where it was free, and its cell's reference goes to the log.
 #[inline(always)]
-fn locked(at: At, parts: &mut Parts, cell: Cell, mutex: u32, found: u64) -> At
+fn locked(at: At, parts: &mut ThreadParts, cell: Cell, mutex: u32, found: u64) -> At
     requires place { at.pc + 1 < 2 ^ 64 }
     ensures turn { machine_of result parts.new ≡ locked (machine_of at parts.old) cell mutex found }
     ensures room { vec_capacity parts.new.prints ≡ vec_capacity parts.old.prints }
@@ -54,7 +54,7 @@ fn locked(at: At, parts: &mut Parts, cell: Cell, mutex: u32, found: u64) -> At
 }
 
 // The mutex is no longer the thread's, and the log's reference goes to the register.
-fn unlocked(at: At, parts: &mut Parts, register: u32, mutex: u32) -> At
+fn unlocked(at: At, parts: &mut ThreadParts, register: u32, mutex: u32) -> At
     requires place { at.pc + 1 < 2 ^ 64 }
     ensures turn { machine_of result parts.new ≡ unlocked (machine_of at parts.old) register mutex }
     ensures room { vec_capacity parts.new.prints ≡ vec_capacity parts.old.prints }
@@ -66,7 +66,7 @@ fn unlocked(at: At, parts: &mut Parts, register: u32, mutex: u32) -> At
 
 // A failed try where the thread's own bit is set.
 #[inline(always)]
-fn woken(at: At, parts: &Parts, found: u64) -> At
+fn woken(at: At, parts: &ThreadParts, found: u64) -> At
     requires thread { parts.now.number < threads }
     requires place { at.pc + 1 < 2 ^ 64 }
     ensures { machine_of result parts.now ≡ woken (machine_of at parts.now) found }
@@ -79,7 +79,7 @@ fn woken(at: At, parts: &Parts, found: u64) -> At
 }
 
 // Nobody waits, or the lowest waiter is to be taken away.
-fn wakes(at: At, parts: &mut Parts, found: u64) -> At
+fn wakes(at: At, parts: &mut ThreadParts, found: u64) -> At
     requires place { at.pc + 1 < 2 ^ 64 }
     ensures turn { machine_of result parts.new ≡ wakes (machine_of at parts.old) found }
     ensures room { vec_capacity parts.new.prints ≡ vec_capacity parts.old.prints }
@@ -102,7 +102,7 @@ fn without_lowest(waiters: u64) -> u64
 }
 
 // The waiter that was seen is taken away, or the word is another now.
-fn signalled(at: At, parts: &mut Parts, seen: u64, found: u64) -> At
+fn signalled(at: At, parts: &mut ThreadParts, seen: u64, found: u64) -> At
     requires place { at.pc + 1 < 2 ^ 64 }
     ensures turn { machine_of result parts.new ≡ (if found == seen then rests (machine_of at parts.old)
         else wakes (machine_of at parts.old) found) }
@@ -120,7 +120,7 @@ fn signalled(at: At, parts: &mut Parts, seen: u64, found: u64) -> At
 pub(crate) fn lock<P: Port>(
     shape: Shape,
     at: At,
-    parts: &mut Parts,
+    parts: &mut ThreadParts,
     port: &mut P,
     cell: Cell,
 ) -> Done
@@ -152,7 +152,7 @@ pub(crate) fn lock<P: Port>(
 pub(crate) fn unlock<P: Port>(
     shape: Shape,
     at: At,
-    parts: &mut Parts,
+    parts: &mut ThreadParts,
     port: &mut P,
     register: u32,
     cell: Cell,
@@ -184,7 +184,7 @@ pub(crate) fn unlock<P: Port>(
 pub(crate) fn enter<P: Port>(
     shape: Shape,
     at: At,
-    parts: &mut Parts,
+    parts: &mut ThreadParts,
     port: &mut P,
     cell: Cell,
 ) -> Done
@@ -212,7 +212,7 @@ pub(crate) fn enter<P: Port>(
 pub(crate) fn wait<P: Port>(
     shape: Shape,
     at: At,
-    parts: &mut Parts,
+    parts: &mut ThreadParts,
     port: &mut P,
     cell: Cell,
 ) -> Done
@@ -243,7 +243,7 @@ pub(crate) fn wait<P: Port>(
 pub(crate) fn signal<P: Port>(
     shape: Shape,
     at: At,
-    parts: &mut Parts,
+    parts: &mut ThreadParts,
     port: &mut P,
     cell: Cell,
 ) -> Done
@@ -283,7 +283,7 @@ pub(crate) fn signal<P: Port>(
 pub(crate) fn broadcast<P: Port>(
     shape: Shape,
     at: At,
-    parts: &mut Parts,
+    parts: &mut ThreadParts,
     port: &mut P,
     cell: Cell,
 ) -> Done

@@ -12,7 +12,7 @@ ghost use Rattle.sharc_code.specs.Machine.{free_looks, empties, emptied, free_si
 ghost use Rattle.sharc_cpu.specs.View.{rest_of, machine_of, IsWithin, Makes, KeepsPort};
 
 use crate::cells::{ask, step_of};
-use crate::parts::Parts;
+use crate::parts::ThreadParts;
 use crate::places::{Done, after_step, local};
 use crate::turns::{at_stage, field_of, rests, trapped};
 use sharc_code::{At, Code, Layout, Shape, Stage, cell_of};
@@ -51,7 +51,7 @@ fn size_of(block: u64) -> u32
 }
 
 // A New that has not had a turn, after the first call of `next`.
-fn opened(shape: Shape, parts: &Parts, elements: u64, cells: u32) -> NewState
+fn opened(shape: Shape, parts: &ThreadParts, elements: u64, cells: u32) -> NewState
     requires shape { IsShape shape }
     requires some { 1 ≤ elements }
     ensures is { let all = all_cells elements cells in result ≡ told (begun record {
@@ -78,7 +78,7 @@ fn opened(shape: Shape, parts: &Parts, elements: u64, cells: u32) -> NewState
 }
 
 // The object is made; the head of its list is what the New says.
-fn made(at: At, parts: &mut Parts, register: u32, state: NewState, header: u64) -> At
+fn made(at: At, parts: &mut ThreadParts, register: u32, state: NewState, header: u64) -> At
     requires place { at.pc + 1 < 2 ^ 64 }
     ensures turn { machine_of result parts.new ≡ made (machine_of at parts.old) register state header }
     ensures room { vec_capacity parts.new.prints ≡ vec_capacity parts.old.prints }
@@ -89,7 +89,7 @@ fn made(at: At, parts: &mut Parts, register: u32, state: NewState, header: u64) 
 }
 
 // The New after its step.
-fn goes_on_new(at: At, parts: &mut Parts, register: u32, site: u32, state: NewState) -> At
+fn goes_on_new(at: At, parts: &mut ThreadParts, register: u32, site: u32, state: NewState) -> At
     requires place { at.pc + 1 < 2 ^ 64 }
     ensures turn { machine_of result parts.new ≡ goes_on_new (machine_of at parts.old) register site state }
     ensures room { vec_capacity parts.new.prints ≡ vec_capacity parts.old.prints }
@@ -105,7 +105,7 @@ fn goes_on_new(at: At, parts: &mut Parts, register: u32, site: u32, state: NewSt
 fn asks_new<P: Port>(
     shape: Shape,
     at: At,
-    parts: &mut Parts,
+    parts: &mut ThreadParts,
     port: &mut P,
     register: u32,
     site: u32,
@@ -153,7 +153,7 @@ fn data_word(shape: Shape, header: u64, place: u64) -> u32
     shape.shadow_word(header.saturating_add(1).saturating_add(place))
 }
 
-fn looks(at: At, parts: &mut Parts, done: u64, all: u64) -> At
+fn looks(at: At, parts: &mut ThreadParts, done: u64, all: u64) -> At
     requires place { at.pc + 1 < 2 ^ 64 }
     ensures turn { machine_of result parts.new ≡ looks (machine_of at parts.old) done all }
     ensures room { vec_capacity parts.new.prints ≡ vec_capacity parts.old.prints }
@@ -166,7 +166,7 @@ fn looks(at: At, parts: &mut Parts, done: u64, all: u64) -> At
 }
 
 // The same after one granule more.
-fn looks_on(at: At, parts: &mut Parts, done: u64, all: u64) -> At
+fn looks_on(at: At, parts: &mut ThreadParts, done: u64, all: u64) -> At
     requires place { at.pc + 1 < 2 ^ 64 }
     ensures turn { machine_of result parts.new ≡ looks (machine_of at parts.old) (done + 1) all }
     ensures room { vec_capacity parts.new.prints ≡ vec_capacity parts.old.prints }
@@ -225,7 +225,7 @@ fn pointer(code: &Code, layout: Layout, field: u64) -> u32
     }
 }
 
-fn free_looks(at: At, parts: &mut Parts, layout: Layout, done: u64, elements: u64) -> At
+fn free_looks(at: At, parts: &mut ThreadParts, layout: Layout, done: u64, elements: u64) -> At
     ensures turn { machine_of result parts.new ≡ free_looks (machine_of at parts.old) layout done elements }
     ensures room { vec_capacity parts.new.prints ≡ vec_capacity parts.old.prints }
 {
@@ -237,14 +237,14 @@ fn free_looks(at: At, parts: &mut Parts, layout: Layout, done: u64, elements: u6
 }
 
 // The same after one granule more.
-fn free_looks_on(at: At, parts: &mut Parts, layout: Layout, done: u64, elements: u64) -> At
+fn free_looks_on(at: At, parts: &mut ThreadParts, layout: Layout, done: u64, elements: u64) -> At
     ensures turn { machine_of result parts.new ≡ free_looks (machine_of at parts.old) layout (done + 1) elements }
     ensures room { vec_capacity parts.new.prints ≡ vec_capacity parts.old.prints }
 {
     free_looks(at, parts, layout, done.saturating_add(1), elements)
 }
 
-fn empties(at: At, parts: &mut Parts, layout: Layout, i: u64, elements: u64) -> At
+fn empties(at: At, parts: &mut ThreadParts, layout: Layout, i: u64, elements: u64) -> At
     ensures turn { machine_of result parts.new ≡ empties (machine_of at parts.old) layout i elements }
     ensures room { vec_capacity parts.new.prints ≡ vec_capacity parts.old.prints }
 {
@@ -256,7 +256,7 @@ fn empties(at: At, parts: &mut Parts, layout: Layout, i: u64, elements: u64) -> 
 }
 
 // The same after one cell more.
-fn empties_on(at: At, parts: &mut Parts, layout: Layout, i: u64, elements: u64) -> At
+fn empties_on(at: At, parts: &mut ThreadParts, layout: Layout, i: u64, elements: u64) -> At
     ensures turn { machine_of result parts.new ≡ empties (machine_of at parts.old) layout (i + 1) elements }
     ensures room { vec_capacity parts.new.prints ≡ vec_capacity parts.old.prints }
 {
@@ -264,7 +264,7 @@ fn empties_on(at: At, parts: &mut Parts, layout: Layout, i: u64, elements: u64) 
 }
 
 // After the Swap of a pointer cell comes the Lower of what it held.
-fn emptied(at: At, parts: &mut Parts, layout: Layout, i: u64, elements: u64, found: u64) -> At
+fn emptied(at: At, parts: &mut ThreadParts, layout: Layout, i: u64, elements: u64, found: u64) -> At
     ensures turn { machine_of result parts.new ≡ emptied (machine_of at parts.old) layout i elements found }
     ensures room { vec_capacity parts.new.prints ≡ vec_capacity parts.old.prints }
 {
@@ -283,7 +283,7 @@ fn free_size(layout: Layout, elements: u64) -> u32
 }
 
 // The block becomes the head of its list.
-fn freed(at: At, parts: &mut Parts, register: u32, layout: Layout, elements: u64) -> At
+fn freed(at: At, parts: &mut ThreadParts, register: u32, layout: Layout, elements: u64) -> At
     requires place { at.pc + 1 < 2 ^ 64 }
     ensures turn { machine_of result parts.new ≡ freed (machine_of at parts.old) register layout elements }
     ensures room { vec_capacity parts.new.prints ≡ vec_capacity parts.old.prints }
@@ -299,7 +299,7 @@ fn freed(at: At, parts: &mut Parts, register: u32, layout: Layout, elements: u64
 pub(crate) fn new<P: Port>(
     shape: Shape,
     at: At,
-    parts: &mut Parts,
+    parts: &mut ThreadParts,
     port: &mut P,
     register: u32,
     count: u32,
@@ -329,7 +329,7 @@ pub(crate) fn new<P: Port>(
 pub(crate) fn clear<P: Port>(
     shape: Shape,
     at: At,
-    parts: &mut Parts,
+    parts: &mut ThreadParts,
     port: &mut P,
     register: u32,
     cells: u32,
@@ -369,7 +369,7 @@ pub(crate) fn clear<P: Port>(
 pub(crate) fn free<P: Port>(
     shape: Shape,
     at: At,
-    parts: &mut Parts,
+    parts: &mut ThreadParts,
     port: &mut P,
     code: &Code,
     register: u32,

@@ -6,7 +6,7 @@ use sharc_shadow::AccessTable;
 
 /// Both banks of registers, the reference that was loaded last, the callers' frames, and what a thread notes.
 #[derive(Drop)]
-pub struct Parts {
+pub struct ThreadParts {
     pub ints: Vec<i64>,
     pub refs: Vec<u64>,
     pub pending: u64,
@@ -21,7 +21,7 @@ pub struct Parts {
     pub stop: Option<Stop>,
 }
 
-impl Parts {
+impl ThreadParts {
     ghost use Rattle.std.specs.Prelude.{◌≡◌, ◌<◌, ◌+◌, ◌++◌, [], ◌∷◌, Some, pos, slice_index, slice_index_or};
     ghost use Rattle.std.specs.Prelude.{slice_set, vec_len, vec_capacity};
     ghost use Rattle.sharc_code.specs.declared.state.Print.{Print};

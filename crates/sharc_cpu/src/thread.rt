@@ -1,9 +1,9 @@
 //! A thread between two quanta.
 
 use crate::begin::begun;
-use crate::parts::Parts;
+use crate::parts::ThreadParts;
 use crate::waits::wait_of;
-use sharc_code::{At, Code, Print, Shape, Stage, State, Stop, Wait, fits_law};
+use sharc_code::{At, Code, Print, Shape, Stage, TurnState, Stop, Wait, fits_law};
 use sharc_shadow::Kind;
 use std::alloc::{AllocError, Global};
 use std::marker::Model;
@@ -12,7 +12,7 @@ use std::marker::Model;
 #[derive(Drop)]
 pub struct Thread {
     pub(crate) at: At,
-    pub(crate) parts: Box<Parts>,
+    pub(crate) parts: Box<ThreadParts>,
     pub(crate) made: u64,
     pub(crate) wait: Option<Wait>,
 }
@@ -58,7 +58,7 @@ impl Thread {
             ints: 0,
             refs: 0,
             depth: 0,
-            state: State::Runs,
+            state: TurnState::Runs,
         };
         let parts = Box::new(alloc, begun(alloc, code, *shape, number)?)?;
         let wait = wait_of(code, *shape, at, &parts);
@@ -91,7 +91,7 @@ impl Thread {
     }
 
     /// What its last turn was, and whether another may come.
-    pub fn state(&self) -> State
+    pub fn state(&self) -> TurnState
         ensures { result ≡ self.now.machine.at.state }
     {
         self.at.state

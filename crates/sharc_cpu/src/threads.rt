@@ -13,7 +13,7 @@ ghost use Rattle.sharc_cpu.specs.View.{rest_of, machine_of, IsWithin, Makes, Kee
 use crate::arithmetic::{int_of, word_of};
 use crate::cells::{ask, step_of};
 use crate::checks::wrote;
-use crate::parts::Parts;
+use crate::parts::ThreadParts;
 use crate::places::{Done, ends, local, next, settle, tries};
 use crate::turns::{at_stage, called, rests, trapped};
 use sharc_code::{
@@ -27,7 +27,7 @@ use sharc_word::{Port, THREADS, WordOp};
 // ---- spawn
 
 // An argument as a word.
-fn argument(at: At, parts: &Parts, register: Register) -> u64
+fn argument(at: At, parts: &ThreadParts, register: Register) -> u64
     ensures { result ≡ argument (machine_of at parts.now) register }
 {
     match register {
@@ -37,7 +37,7 @@ fn argument(at: At, parts: &Parts, register: Register) -> u64
 }
 
 // It is handed over.
-fn hand(at: At, parts: &mut Parts, register: Register)
+fn hand(at: At, parts: &mut ThreadParts, register: Register)
     ensures turn { machine_of at parts.new ≡ handed (machine_of at parts.old) register }
     ensures room { vec_capacity parts.new.prints ≡ vec_capacity parts.old.prints }
 {
@@ -48,7 +48,7 @@ fn hand(at: At, parts: &mut Parts, register: Register)
 }
 
 // The new thread has this number, or there is none.
-fn numbered(at: At, parts: &mut Parts, site: u32, found: u64) -> At
+fn numbered(at: At, parts: &mut ThreadParts, site: u32, found: u64) -> At
     ensures turn { machine_of result parts.new ≡ numbered (machine_of at parts.old) site found }
     ensures room { vec_capacity parts.new.prints ≡ vec_capacity parts.old.prints }
 {
@@ -61,7 +61,7 @@ fn numbered(at: At, parts: &mut Parts, site: u32, found: u64) -> At
 
 // ---- join
 
-fn joined(at: At, parts: &mut Parts, site: u32, found: u64) -> At
+fn joined(at: At, parts: &mut ThreadParts, site: u32, found: u64) -> At
     requires place { at.pc + 1 < 2 ^ 64 }
     ensures turn { machine_of result parts.new ≡ joined (machine_of at parts.old) site found }
     ensures room { vec_capacity parts.new.prints ≡ vec_capacity parts.old.prints }
@@ -113,7 +113,7 @@ fn function_at(code: &Code, function: u64) -> u64
 }
 
 // The first parameter, if there is one.
-fn set_parameter(at: At, parts: &mut Parts, parameter: Parameter, argument: u64)
+fn set_parameter(at: At, parts: &mut ThreadParts, parameter: Parameter, argument: u64)
     ensures turn { machine_of at parts.new ≡ with_parameter (machine_of at parts.old) parameter argument }
     ensures room { vec_capacity parts.new.prints ≡ vec_capacity parts.old.prints }
 {
@@ -125,7 +125,7 @@ fn set_parameter(at: At, parts: &mut Parts, parameter: Parameter, argument: u64)
 }
 
 // The call of the thread's function.
-fn entered(code: &Code, at: At, parts: &mut Parts, function: u64, site: u32, argument: u64) -> At
+fn entered(code: &Code, at: At, parts: &mut ThreadParts, function: u64, site: u32, argument: u64) -> At
     requires place { at.pc + 1 < 2 ^ 64 }
     ensures turn { machine_of result parts.new ≡ entered code.now (machine_of at parts.old) function site argument }
     ensures room { vec_capacity parts.new.prints ≡ vec_capacity parts.old.prints }
@@ -139,7 +139,7 @@ fn entered(code: &Code, at: At, parts: &mut Parts, function: u64, site: u32, arg
 // ---- the end
 
 // The granule in this row of the access table, 0 where there is none.
-fn row_of(parts: &Parts, row: u32) -> u32
+fn row_of(parts: &ThreadParts, row: u32) -> u32
     ensures { result ≡ slice_index parts.now.table.order row }
 {
     if row < parts.table.rows() {
@@ -150,7 +150,7 @@ fn row_of(parts: &Parts, row: u32) -> u32
 }
 
 // The word without the thread's own bits.
-fn without_own(shape: Shape, at: At, parts: &Parts, row: u32, seen: u64) -> u64
+fn without_own(shape: Shape, at: At, parts: &ThreadParts, row: u32, seen: u64) -> u64
     requires shape { IsShape shape }
     requires within { IsWithin shape (rest_of parts.now).own }
     ensures { result ≡ without_own (machine_of at parts.now) row seen }
@@ -165,7 +165,7 @@ fn without_own(shape: Shape, at: At, parts: &Parts, row: u32, seen: u64) -> u64
 }
 
 // The next row, if there is one.
-fn withdraws(at: At, parts: &mut Parts, row: u32) -> At
+fn withdraws(at: At, parts: &mut ThreadParts, row: u32) -> At
     ensures turn { machine_of result parts.new ≡ withdraws (machine_of at parts.old) row }
     ensures room { vec_capacity parts.new.prints ≡ vec_capacity parts.old.prints }
 {
@@ -177,7 +177,7 @@ fn withdraws(at: At, parts: &mut Parts, row: u32) -> At
 }
 
 // The same after one row more.
-fn withdraws_on(at: At, parts: &mut Parts, row: u32) -> At
+fn withdraws_on(at: At, parts: &mut ThreadParts, row: u32) -> At
     ensures turn { machine_of result parts.new ≡ withdraws (machine_of at parts.old) (row + 1) }
     ensures room { vec_capacity parts.new.prints ≡ vec_capacity parts.old.prints }
 {
@@ -189,7 +189,7 @@ fn withdraws_on(at: At, parts: &mut Parts, row: u32) -> At
 }
 
 // The row is done, or the word is another now.
-fn withdrew(at: At, parts: &mut Parts, row: u32, seen: u64, found: u64) -> At
+fn withdrew(at: At, parts: &mut ThreadParts, row: u32, seen: u64, found: u64) -> At
     ensures turn { machine_of result parts.new ≡ withdrew (machine_of at parts.old) row seen found }
     ensures room { vec_capacity parts.new.prints ≡ vec_capacity parts.old.prints }
 {
@@ -201,7 +201,7 @@ fn withdrew(at: At, parts: &mut Parts, row: u32, seen: u64, found: u64) -> At
 }
 
 // The last event.
-fn leaves(at: At, parts: &mut Parts) -> At
+fn leaves(at: At, parts: &mut ThreadParts) -> At
     ensures turn { machine_of result parts.new
         ≡ record (machine_of at parts.old) { at = ends at; own = record (rest_of parts.old).own { stage = Rests } } }
     ensures room { vec_capacity parts.new.prints ≡ vec_capacity parts.old.prints }
@@ -215,7 +215,7 @@ fn leaves(at: At, parts: &mut Parts) -> At
 pub(crate) fn spawn<P: Port>(
     shape: Shape,
     at: At,
-    parts: &mut Parts,
+    parts: &mut ThreadParts,
     port: &mut P,
     register: u32,
     function: u32,
@@ -266,7 +266,7 @@ pub(crate) fn spawn<P: Port>(
 pub(crate) fn join<P: Port>(
     shape: Shape,
     at: At,
-    parts: &mut Parts,
+    parts: &mut ThreadParts,
     port: &mut P,
     register: u32,
     site: u32,
@@ -294,7 +294,7 @@ pub(crate) fn join<P: Port>(
 pub(crate) fn print<P: Port>(
     shape: Shape,
     at: At,
-    parts: &mut Parts,
+    parts: &mut ThreadParts,
     port: &mut P,
     register: u32,
 ) -> Done
@@ -322,7 +322,7 @@ pub(crate) fn print<P: Port>(
 pub(crate) fn start<P: Port>(
     shape: Shape,
     at: At,
-    parts: &mut Parts,
+    parts: &mut ThreadParts,
     port: &mut P,
     code: &Code,
     site: u32,
@@ -353,7 +353,7 @@ pub(crate) fn start<P: Port>(
 
 /// The end of a thread.
 #[inline(always)]
-pub(crate) fn exit<P: Port>(shape: Shape, at: At, parts: &mut Parts, port: &mut P) -> Done
+pub(crate) fn exit<P: Port>(shape: Shape, at: At, parts: &mut ThreadParts, port: &mut P) -> Done
     requires shape { IsShape shape }
     requires within { IsWithin shape (rest_of parts.old).own }
     requires words { P.count port.old ≡ words_of shape }
@@ -391,7 +391,7 @@ pub(crate) fn exit<P: Port>(shape: Shape, at: At, parts: &mut Parts, port: &mut 
 
 /// The same, where the thread is. It is not in line, so that the loop over turns stays small.
 #[inline(never)]
-pub(crate) fn leave<P: Port>(shape: Shape, at: &mut At, parts: &mut Parts, port: &mut P) -> u64
+pub(crate) fn leave<P: Port>(shape: Shape, at: &mut At, parts: &mut ThreadParts, port: &mut P) -> u64
     requires shape { IsShape shape }
     requires within { IsWithin shape (rest_of parts.old).own }
     requires words { P.count port.old ≡ words_of shape }

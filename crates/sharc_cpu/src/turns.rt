@@ -7,14 +7,14 @@ ghost use Rattle.sharc_code.specs.Machine.{has_room, holds_none, indexed, int, r
 ghost use Rattle.sharc_cpu.specs.View.{machine_of};
 
 use crate::arithmetic::{complement, int_of, negated, same};
-use crate::parts::Parts;
+use crate::parts::ThreadParts;
 use crate::places::{jumps, next, stays, stops};
-use sharc_code::{At, Code, Frame, Stage, State, Stop, Width};
+use sharc_code::{At, Code, Frame, Stage, TurnState, Stop, Width};
 use sharc_tree::trap::Trap;
 
 /// Stops.
 #[inline(always)]
-pub(crate) fn stopped(at: At, parts: &mut Parts, stop: Stop) -> At
+pub(crate) fn stopped(at: At, parts: &mut ThreadParts, stop: Stop) -> At
     ensures turn { machine_of result parts.new ≡ stopped (machine_of at parts.old) stop }
     ensures room { vec_capacity parts.new.prints ≡ vec_capacity parts.old.prints }
 {
@@ -24,7 +24,7 @@ pub(crate) fn stopped(at: At, parts: &mut Parts, stop: Stop) -> At
 
 /// Stops with this trap.
 #[inline(always)]
-pub(crate) fn trapped(at: At, parts: &mut Parts, trap: Trap, site: u32) -> At
+pub(crate) fn trapped(at: At, parts: &mut ThreadParts, trap: Trap, site: u32) -> At
     ensures turn { machine_of result parts.new ≡ trapped (machine_of at parts.old) trap site }
     ensures room { vec_capacity parts.new.prints ≡ vec_capacity parts.old.prints }
 {
@@ -35,7 +35,7 @@ pub(crate) fn trapped(at: At, parts: &mut Parts, trap: Trap, site: u32) -> At
 #[inline(always)]
 pub(crate) fn keep(
     at: At,
-    parts: &mut Parts,
+    parts: &mut ThreadParts,
     register: u32,
     site: u32,
     value: Result<i64, Trap>,
@@ -55,7 +55,7 @@ pub(crate) fn keep(
 
 /// To the first integer register, the negative of the second in this width.
 #[inline(always)]
-pub(crate) fn negates(at: At, parts: &mut Parts, width: Width, to: u32, from: u32, site: u32) -> At
+pub(crate) fn negates(at: At, parts: &mut ThreadParts, width: Width, to: u32, from: u32, site: u32) -> At
     requires place { at.pc + 1 < 2 ^ 64 }
     ensures turn { machine_of result parts.new
         ≡ with_result (machine_of at parts.old) to site (negated width (int (machine_of at parts.old) from)) }
@@ -67,7 +67,7 @@ pub(crate) fn negates(at: At, parts: &mut Parts, width: Width, to: u32, from: u3
 
 /// To the first integer register, all bits of the second turned.
 #[inline(always)]
-pub(crate) fn complements(at: At, parts: &mut Parts, to: u32, from: u32) -> At
+pub(crate) fn complements(at: At, parts: &mut ThreadParts, to: u32, from: u32) -> At
     requires place { at.pc + 1 < 2 ^ 64 }
     ensures turn { machine_of result parts.new
         ≡ goes (set_int (machine_of at parts.old) to (complement (int (machine_of at parts.old) from))) }
@@ -80,7 +80,7 @@ pub(crate) fn complements(at: At, parts: &mut Parts, to: u32, from: u32) -> At
 
 /// To this integer register, whether two reference registers are the same.
 #[inline(always)]
-pub(crate) fn compares(at: At, parts: &mut Parts, to: u32, left: u32, right: u32) -> At
+pub(crate) fn compares(at: At, parts: &mut ThreadParts, to: u32, left: u32, right: u32) -> At
     requires place { at.pc + 1 < 2 ^ 64 }
     ensures turn { machine_of result parts.new ≡ goes (set_int (machine_of at parts.old) to
         (truth (ref (machine_of at parts.old) left == ref (machine_of at parts.old) right))) }
@@ -93,7 +93,7 @@ pub(crate) fn compares(at: At, parts: &mut Parts, to: u32, left: u32, right: u32
 
 /// The instruction has another turn.
 #[inline(always)]
-pub(crate) fn at_stage(at: At, parts: &mut Parts, stage: Stage) -> At
+pub(crate) fn at_stage(at: At, parts: &mut ThreadParts, stage: Stage) -> At
     ensures turn { machine_of result parts.new ≡ at_stage (machine_of at parts.old) stage }
     ensures room { vec_capacity parts.new.prints ≡ vec_capacity parts.old.prints }
 {
@@ -103,7 +103,7 @@ pub(crate) fn at_stage(at: At, parts: &mut Parts, stage: Stage) -> At
 
 /// It has none.
 #[inline(always)]
-pub(crate) fn rests(at: At, parts: &mut Parts) -> At
+pub(crate) fn rests(at: At, parts: &mut ThreadParts) -> At
     requires place { at.pc + 1 < 2 ^ 64 }
     ensures turn { machine_of result parts.new ≡ rests (machine_of at parts.old) }
     ensures room { vec_capacity parts.new.prints ≡ vec_capacity parts.old.prints }
@@ -114,7 +114,7 @@ pub(crate) fn rests(at: At, parts: &mut Parts) -> At
 
 // Whether one more frame has room.
 #[inline(always)]
-fn has_room(at: At, parts: &Parts, ints: u32, refs: u32) -> bool
+fn has_room(at: At, parts: &ThreadParts, ints: u32, refs: u32) -> bool
     ensures { result ≡ has_room (machine_of at parts.now) ints refs }
 {
     (at.depth as usize) < parts.frames.len()
@@ -125,7 +125,7 @@ fn has_room(at: At, parts: &Parts, ints: u32, refs: u32) -> bool
 
 /// To this place, with frames that begin at these registers.
 #[inline(always)]
-pub(crate) fn called(at: At, parts: &mut Parts, pc: u32, ints: u32, refs: u32, site: u32) -> At
+pub(crate) fn called(at: At, parts: &mut ThreadParts, pc: u32, ints: u32, refs: u32, site: u32) -> At
     requires place { at.pc + 1 < 2 ^ 64 }
     ensures turn { machine_of result parts.new ≡ called (machine_of at parts.old) pc ints refs site }
     ensures room { vec_capacity parts.new.prints ≡ vec_capacity parts.old.prints }
@@ -144,7 +144,7 @@ pub(crate) fn called(at: At, parts: &mut Parts, pc: u32, ints: u32, refs: u32, s
             ints: at.ints + ints,
             refs: at.refs + refs,
             depth: at.depth + 1,
-            state: State::Runs,
+            state: TurnState::Runs,
         }
     } else {
         trapped(at, parts, Trap::CallDepth, site)
@@ -153,7 +153,7 @@ pub(crate) fn called(at: At, parts: &mut Parts, pc: u32, ints: u32, refs: u32, s
 
 // Whether no mutex is held.
 #[inline(always)]
-fn holds_none(parts: &Parts) -> bool
+fn holds_none(parts: &ThreadParts) -> bool
     ensures { result ≡ holds_none parts.now.held }
 {
     parts.held.is_empty()
@@ -161,7 +161,7 @@ fn holds_none(parts: &Parts) -> bool
 
 /// Back to the caller; where there is no frame, past the code.
 #[inline(always)]
-pub(crate) fn returned(code: &Code, at: At, parts: &mut Parts, site: u32) -> At
+pub(crate) fn returned(code: &Code, at: At, parts: &mut ThreadParts, site: u32) -> At
     ensures turn { machine_of result parts.new ≡ returned code.now (machine_of at parts.old) site }
     ensures room { vec_capacity parts.new.prints ≡ vec_capacity parts.old.prints }
 {
@@ -178,7 +178,7 @@ pub(crate) fn returned(code: &Code, at: At, parts: &mut Parts, site: u32) -> At
         ints: frame.ints,
         refs: frame.refs,
         depth,
-        state: State::Runs,
+        state: TurnState::Runs,
     }
 }
 
@@ -187,7 +187,7 @@ pub(crate) fn returned(code: &Code, at: At, parts: &mut Parts, site: u32) -> At
 #[inline(always)]
 pub(crate) fn indexed(
     at: At,
-    parts: &mut Parts,
+    parts: &mut ThreadParts,
     register: u32,
     cells: u32,
     field: u32,

@@ -7,8 +7,8 @@ ghost use Rattle.sharc_code.specs.Waits.{joins, wait_of};
 ghost use Rattle.sharc_cpu.specs.View.{machine_of};
 
 use crate::cells::word;
-use crate::parts::Parts;
-use sharc_code::{At, Code, Instr, Shape, State, Wait};
+use crate::parts::ThreadParts;
+use sharc_code::{At, Code, Instr, Shape, TurnState, Wait};
 use sharc_word::THREADS;
 
 // A join of a number that a thread may have.
@@ -23,17 +23,17 @@ fn joins(number: i64, site: u32) -> Option<Wait>
 }
 
 // Whether another turn may come.
-fn may_go(state: State) -> bool
+fn may_go(state: TurnState) -> bool
     ensures { result ≡ may_go state }
 {
     match state {
-        State::Runs | State::Tries => true,
-        State::Stopped | State::Ended => false,
+        TurnState::Runs | TurnState::Tries => true,
+        TurnState::Stopped | TurnState::Ended => false,
     }
 }
 
 /// What the thread's next turn asks for that it may have to wait for, if it makes one.
-pub(crate) fn wait_of(code: &Code, shape: Shape, at: At, parts: &Parts) -> Option<Wait>
+pub(crate) fn wait_of(code: &Code, shape: Shape, at: At, parts: &ThreadParts) -> Option<Wait>
     requires { IsShape shape }
     ensures { result ≡ wait_of code.now shape (machine_of at parts.now) }
 {

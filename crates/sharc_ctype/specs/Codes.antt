@@ -5,7 +5,7 @@ use base.Stored.{Gv, gnil, gnum, gcons}
 use mathlib.Core.Path.{ap, subst, sym}
 use Rattle.sharc_tree.specs.{declared.token.Site.Site, declared.token.Span.Span}
 use Rattle.sharc_tree.specs.declared.tree.declaration.Identifier.{Identifier}
-use Rattle.sharc_tree.specs.{declared.tree.declaration.WrittenType.WrittenType, declared.tree.expression.Access.Access}
+use Rattle.sharc_tree.specs.{declared.tree.declaration.WrittenType.WrittenType, declared.tree.expression.FieldOperator.FieldOperator}
 use Rattle.sharc_tree.specs.declared.tree.expression.BinaryOperator.{BinaryOperator}
 use Rattle.sharc_tree.specs.declared.tree.expression.UnaryOperator.{UnaryOperator}
 use Rattle.sharc_tree.specs.{declared.tree.expression.PlaceCall.PlaceCall, declared.tree.expression.ValueCall.ValueCall}
@@ -60,7 +60,7 @@ pub data ExpressionLabel : Type 0 where
   place_call_at : Span → PlaceCall → ExpressionLabel
   cast_at : Span → WrittenType → ExpressionLabel
   index_at : Span → ExpressionLabel
-  field_at : Span → Access → Identifier → ExpressionLabel
+  field_at : Span → FieldOperator → Identifier → ExpressionLabel
   unary_at : Span → UnaryOperator → ExpressionLabel
   binary_at : Span → BinaryOperator → Site → ExpressionLabel
   argument_at : ExpressionLabel

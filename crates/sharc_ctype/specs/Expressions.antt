@@ -1,8 +1,8 @@
 -- The types of expressions, and the faults in them (C11 6.5), one clause for each form.
 use Rattle.std.specs.Prelude.{ℕ, ◌+◌, ◌==◌, Bool, true, false, not, ◌&&◌, ◌||◌, List, [], ◌∷◌, ◌++◌, length, drop}
 use Rattle.std.specs.Prelude.{Option, Some, None, is_some, if◌then◌else◌}
-use Rattle.sharc_tree.specs.{declared.token.NumberType.NumberType, declared.tree.expression.Access.Access}
-use Rattle.sharc_tree.specs.declared.tree.expression.Access.TheVariants.{Dot, Arrow}
+use Rattle.sharc_tree.specs.{declared.token.NumberType.NumberType, declared.tree.expression.FieldOperator.FieldOperator}
+use Rattle.sharc_tree.specs.declared.tree.expression.FieldOperator.TheVariants.{Dot, Arrow}
 use Rattle.sharc_tree.specs.declared.tree.expression.BinaryOperator.{BinaryOperator}
 use Rattle.sharc_tree.specs.declared.tree.expression.BinaryOperator.TheVariants.{LogicalOr, LogicalAnd, BitOr, BitXor}
 use Rattle.sharc_tree.specs.declared.tree.expression.BinaryOperator.TheVariants.{BitAnd, Equal, NotEqual, Less, Greater}
@@ -56,7 +56,7 @@ element_of (Some b) (Some i) = Some (element_kind b)
 
 -- 6.5.2.3: the left side of `.` is a struct, that of `->` a pointer to one
 
-abbrev pub access_need : Access → Need
+abbrev pub access_need : FieldOperator → Need
 access_need Dot = Struct
 access_need Arrow = StructPointer
 

@@ -4,7 +4,7 @@ ghost use Rattle.std.specs.Prelude.{◌≡◌, false, OnOk};
 ghost use Rattle.sharc_names.specs.View.{view_bound};
 ghost use Rattle.sharc_ctype.specs.Condition.{defines_condition, call_entry, with_conditions, known_in};
 
-use sharc_names::meaning::{Bound, ConditionCall, Meaning};
+use sharc_names::meaning::{Binding, ConditionCall, Meaning};
 use sharc_names::scope::Scope;
 use sharc_names::structs::StructMeaning;
 use std::alloc::AllocError;
@@ -18,10 +18,10 @@ fn defines_condition(file: &Scope<'_>) -> bool
                 || file.names.find(b"broadcast".as_slice()).is_some()))
 }
 
-fn bound(name: &[u8], call: ConditionCall) -> Bound<'_>
+fn bound(name: &[u8], call: ConditionCall) -> Binding<'_>
     ensures { view_bound result ≡ call_entry name.now call }
 {
-    Bound {
+    Binding {
         name,
         block: 0,
         meaning: Meaning::Condition(call),

@@ -22,12 +22,12 @@ ghost use Rattle.sharc_ctype.specs.Expressions.{notes_of_all};
 
 use sharc_names::fault::{FaultCode, Found};
 use sharc_names::kind::{
-    Kind, common, comparable, declared_kind, element_kind, is_pointer, promoted, same_kind,
+    ExpressionKind, common, comparable, declared_kind, element_kind, is_pointer, promoted, same_kind,
 };
 use sharc_names::meaning::{
-    Bound, Meaning, is_function, is_main, named_of, parameters_of, result_of,
+    Binding, Meaning, is_function, is_main, named_of, parameters_of, result_of,
 };
-use sharc_names::names::Names;
+use sharc_names::names::NamesInScope;
 use sharc_names::need::{Need, agree, meet, place};
 use sharc_names::scope::Scope;
 use sharc_names::types::{
@@ -36,7 +36,7 @@ use sharc_names::types::{
 use sharc_names::wanted::{Wanted, count_of, first_wanted, rest_wanted};
 use sharc_tree::token::{NumberType, Span};
 use sharc_tree::tree::{
-    Access, BinaryOperator, Constant, Expr, Identifier, PlaceCall, UnaryOperator, WrittenType,
+    FieldOperator, BinaryOperator, Constant, Expr, Identifier, PlaceCall, UnaryOperator, WrittenType,
 };
 
 /// What an expression stands for.
@@ -93,7 +93,7 @@ fn operands_need(class: OperatorClass) -> Need
     }
 }
 
-fn may_join(class: OperatorClass, a: Kind<'_>, b: Kind<'_>) -> bool
+fn may_join(class: OperatorClass, a: ExpressionKind<'_>, b: ExpressionKind<'_>) -> bool
     ensures { result ≡ may_join class (view_kind a.entry) (view_kind b.entry) }
 {
     match class {
@@ -105,13 +105,13 @@ fn may_join(class: OperatorClass, a: Kind<'_>, b: Kind<'_>) -> bool
     }
 }
 
-pub(crate) fn binary_result<'a>(class: OperatorClass, a: Kind<'_>, b: Kind<'_>) -> Kind<'a>
+pub(crate) fn binary_result<'a>(class: OperatorClass, a: ExpressionKind<'_>, b: ExpressionKind<'_>) -> ExpressionKind<'a>
     ensures { view_kind result ≡ binary_result class (view_kind a.entry) (view_kind b.entry) }
 {
     match class {
-        OperatorClass::Logical => Kind::int(),
-        OperatorClass::Equality => Kind::int(),
-        OperatorClass::Relation => Kind::int(),
+        OperatorClass::Logical => ExpressionKind::int(),
+        OperatorClass::Equality => ExpressionKind::int(),
+        OperatorClass::Relation => ExpressionKind::int(),
         OperatorClass::Shift => promoted(a),
         OperatorClass::Arithmetic => common(a, b),
     }
@@ -121,10 +121,10 @@ pub(crate) fn binary_result<'a>(class: OperatorClass, a: Kind<'_>, b: Kind<'_>) 
 fn binary_kind<'a>(
     class: OperatorClass,
     right: &Expr,
-    a: Option<Kind<'a>>,
-    b: Option<Kind<'a>>,
+    a: Option<ExpressionKind<'a>>,
+    b: Option<ExpressionKind<'a>>,
     found: &mut Found,
-) -> Option<Kind<'a>>
+) -> Option<ExpressionKind<'a>>
     ensures kind { view_kinds result ≡ binary_kind class (view_kinds a.entry) (view_kinds b.entry) }
     ensures found { found.new
         ≡ fold noted found.old (binary_notes class (view_expr right.now) (view_kinds a.entry) (view_kinds b.entry)) }
@@ -150,18 +150,18 @@ fn operand_need(operator: UnaryOperator) -> Need
     }
 }
 
-pub(crate) fn unary_result(operator: UnaryOperator, kind: Kind<'_>) -> Kind<'_>
+pub(crate) fn unary_result(operator: UnaryOperator, kind: ExpressionKind<'_>) -> ExpressionKind<'_>
     ensures { view_kind result ≡ unary_result operator (view_kind kind.entry) }
 {
     match operator {
         UnaryOperator::Negate => promoted(kind),
         UnaryOperator::Complement => promoted(kind),
-        UnaryOperator::Not => Kind::int(),
+        UnaryOperator::Not => ExpressionKind::int(),
         UnaryOperator::Dereference => element_kind(kind),
     }
 }
 
-fn unary_kind(operator: UnaryOperator, kind: Option<Kind<'_>>) -> Option<Kind<'_>>
+fn unary_kind(operator: UnaryOperator, kind: Option<ExpressionKind<'_>>) -> Option<ExpressionKind<'_>>
     ensures { view_kinds result ≡ unary_kind operator (view_kinds kind.entry) }
 {
     match kind {
@@ -170,7 +170,7 @@ fn unary_kind(operator: UnaryOperator, kind: Option<Kind<'_>>) -> Option<Kind<'_
     }
 }
 
-fn element_of<'a>(base: Option<Kind<'a>>, index: Option<Kind<'_>>) -> Option<Kind<'a>>
+fn element_of<'a>(base: Option<ExpressionKind<'a>>, index: Option<ExpressionKind<'_>>) -> Option<ExpressionKind<'a>>
     ensures { view_kinds result ≡ element_of (view_kinds base.entry) (view_kinds index.entry) }
 {
     match (base, index) {
@@ -179,29 +179,29 @@ fn element_of<'a>(base: Option<Kind<'a>>, index: Option<Kind<'_>>) -> Option<Kin
     }
 }
 
-fn access_need(access: Access) -> Need
+fn access_need(access: FieldOperator) -> Need
     ensures { result ≡ access_need access }
 {
     match access {
-        Access::Dot => Need::Struct,
-        Access::Arrow => Need::StructPointer,
+        FieldOperator::Dot => Need::Struct,
+        FieldOperator::Arrow => Need::StructPointer,
     }
 }
 
-pub(crate) fn constant_kind<'a>(constant: Constant) -> Kind<'a>
+pub(crate) fn constant_kind<'a>(constant: Constant) -> ExpressionKind<'a>
     ensures { view_kind result ≡ constant_kind constant }
 {
     match constant {
         Constant::Number(number) => match number.number_type {
-            NumberType::Int => Kind::int(),
-            NumberType::Long => Kind::long(),
+            NumberType::Int => ExpressionKind::int(),
+            NumberType::Long => ExpressionKind::long(),
         },
-        Constant::Character(_) => Kind::int(),
-        Constant::Null => Kind::Null,
+        Constant::Character(_) => ExpressionKind::int(),
+        Constant::Null => ExpressionKind::Null,
     }
 }
 
-fn is_function_name(bound: Option<Bound<'_>>) -> bool
+fn is_function_name(bound: Option<Binding<'_>>) -> bool
     ensures { result ≡ is_function_name (view_bounds bound.entry) }
 {
     match bound {
@@ -210,7 +210,7 @@ fn is_function_name(bound: Option<Bound<'_>>) -> bool
     }
 }
 
-fn names_function(names: &Names<'_>, expr: &Expr) -> bool
+fn names_function(names: &NamesInScope<'_>, expr: &Expr) -> bool
     ensures { result ≡ names_function names.now (view_expr expr.now) }
 {
     match expr {
@@ -220,7 +220,7 @@ fn names_function(names: &Names<'_>, expr: &Expr) -> bool
 }
 
 /// Whether an expression is an lvalue.
-fn is_place(names: &Names<'_>, expr: &Expr) -> bool
+fn is_place(names: &NamesInScope<'_>, expr: &Expr) -> bool
     ensures { result ≡ is_place names.now (view_expr expr.now) }
 {
     expr.is_lvalue() && !names_function(names, expr.without_parentheses())
@@ -228,11 +228,11 @@ fn is_place(names: &Names<'_>, expr: &Expr) -> bool
 
 /// The type of an lvalue; takes note where the expression is not one.
 fn place_kind<'a>(
-    names: &Names<'_>,
+    names: &NamesInScope<'_>,
     expr: &Expr,
-    kind: Option<Kind<'a>>,
+    kind: Option<ExpressionKind<'a>>,
     found: &mut Found,
-) -> Option<Kind<'a>>
+) -> Option<ExpressionKind<'a>>
     ensures kind { view_kinds result ≡ place_kind names.now (view_expr expr.now) (view_kinds kind.entry) }
     ensures found { found.new ≡ fold noted found.old (place_notes names.now (view_expr expr.now)) }
 {
@@ -244,11 +244,11 @@ fn place_kind<'a>(
     }
 }
 
-fn suits(call: PlaceCall, kind: Kind<'_>) -> bool
+fn suits(call: PlaceCall, kind: ExpressionKind<'_>) -> bool
     ensures { result ≡ suits call (view_kind kind.entry) }
 {
     match call {
-        PlaceCall::Lock | PlaceCall::Unlock => same_kind(kind, Kind::mutex()),
+        PlaceCall::Lock | PlaceCall::Unlock => same_kind(kind, ExpressionKind::mutex()),
         PlaceCall::Free => is_pointer(kind),
     }
 }
@@ -256,9 +256,9 @@ fn suits(call: PlaceCall, kind: Kind<'_>) -> bool
 fn place_call_kind<'a>(
     word: u32,
     call: PlaceCall,
-    kind: Option<Kind<'_>>,
+    kind: Option<ExpressionKind<'_>>,
     found: &mut Found,
-) -> Option<Kind<'a>>
+) -> Option<ExpressionKind<'a>>
     ensures kind { view_kinds result ≡ place_call_kind call (view_kinds kind.entry) }
     ensures found { found.new ≡ fold noted found.old (place_call_notes word call (view_kinds kind.entry)) }
 {
@@ -266,7 +266,7 @@ fn place_call_kind<'a>(
         None => None,
         Some(kind) => {
             if suits(call, kind) {
-                Some(Kind::void())
+                Some(ExpressionKind::void())
             } else {
                 found.fault(word, FaultCode::BadForm);
                 None
@@ -275,16 +275,16 @@ fn place_call_kind<'a>(
     }
 }
 
-fn value_call_kind<'a>(kind: Option<Kind<'_>>) -> Option<Kind<'a>>
+fn value_call_kind<'a>(kind: Option<ExpressionKind<'_>>) -> Option<ExpressionKind<'a>>
     ensures { view_kinds result ≡ value_call_kind (view_kinds kind.entry) }
 {
     match kind {
         None => None,
-        Some(_) => Some(Kind::void()),
+        Some(_) => Some(ExpressionKind::void()),
     }
 }
 
-fn keeps_kind(fine: bool, written: &WrittenType, kind: Kind<'_>) -> bool
+fn keeps_kind(fine: bool, written: &WrittenType, kind: ExpressionKind<'_>) -> bool
     ensures { result ≡ keeps_kind fine written.now (view_kind kind.entry) }
 {
     fine && same_kind(kind, declared_kind(written))
@@ -295,9 +295,9 @@ fn cast_kind<'a>(
     fine: bool,
     written: &'a WrittenType,
     source: &Expr,
-    kind: Option<Kind<'_>>,
+    kind: Option<ExpressionKind<'_>>,
     found: &mut Found,
-) -> Option<Kind<'a>>
+) -> Option<ExpressionKind<'a>>
     ensures kind { view_kinds result ≡ cast_kind fine written.now (view_kinds kind.entry) }
     ensures found { found.new
         ≡ fold noted found.old (cast_notes word fine written.now (view_expr source.now) (view_kinds kind.entry)) }
@@ -357,7 +357,7 @@ fn argument_count(
 }
 
 /// The faults of a call's name, with this many arguments.
-fn callee(standing: Standing, token: u32, count: usize, bound: Option<Bound<'_>>, found: &mut Found)
+fn callee(standing: Standing, token: u32, count: usize, bound: Option<Binding<'_>>, found: &mut Found)
     ensures { found.new ≡ fold noted found.old (callee_notes standing token count (view_bounds bound.entry)) }
 {
     match bound {
@@ -380,7 +380,7 @@ fn wanted_if(fits: bool, wanted: Option<Wanted<'_>>) -> Wanted<'_>
 }
 
 /// What this many arguments have to agree with.
-fn wanted<'a>(count: usize, bound: Option<Bound<'a>>) -> Wanted<'a>
+fn wanted<'a>(count: usize, bound: Option<Binding<'a>>) -> Wanted<'a>
     ensures { view_wanted result ≡ wanted count (view_bounds bound.entry) }
 {
     match bound {
@@ -392,7 +392,7 @@ fn wanted<'a>(count: usize, bound: Option<Bound<'a>>) -> Wanted<'a>
     }
 }
 
-fn call_result(count: usize, bound: Option<Bound<'_>>) -> Option<Kind<'_>>
+fn call_result(count: usize, bound: Option<Binding<'_>>) -> Option<ExpressionKind<'_>>
     ensures { view_kinds result ≡ call_result count (view_bounds bound.entry) }
 {
     let bound = bound?;
@@ -408,7 +408,7 @@ fn can_spawn(meaning: Meaning<'_>) -> bool
 {
     match meaning {
         Meaning::Function(_, signature) => {
-            same_kind(declared_kind(signature.result), Kind::void())
+            same_kind(declared_kind(signature.result), ExpressionKind::void())
                 && (signature.parameters.len() == 1 && !is_main(meaning))
         }
         _ => false,
@@ -416,7 +416,7 @@ fn can_spawn(meaning: Meaning<'_>) -> bool
 }
 
 /// The faults of the name that `spawn` takes.
-fn spawned(word: u32, token: u32, bound: Option<Bound<'_>>, found: &mut Found)
+fn spawned(word: u32, token: u32, bound: Option<Binding<'_>>, found: &mut Found)
     ensures { found.new ≡ fold noted found.old (spawn_notes word token (view_bounds bound.entry)) }
 {
     match bound {
@@ -429,7 +429,7 @@ fn spawned(word: u32, token: u32, bound: Option<Bound<'_>>, found: &mut Found)
     }
 }
 
-fn may_spawn(bound: Option<Bound<'_>>) -> bool
+fn may_spawn(bound: Option<Binding<'_>>) -> bool
     ensures { result ≡ may_spawn (view_bounds bound.entry) }
 {
     match bound {
@@ -438,17 +438,17 @@ fn may_spawn(bound: Option<Bound<'_>>) -> bool
     }
 }
 
-fn spawn_kind<'a>(well: bool, fine: bool, kind: Option<Kind<'_>>) -> Option<Kind<'a>>
+fn spawn_kind<'a>(well: bool, fine: bool, kind: Option<ExpressionKind<'_>>) -> Option<ExpressionKind<'a>>
     ensures { view_kinds result ≡ spawn_kind well fine (view_kinds kind.entry) }
 {
     match kind {
-        Some(_) if well && fine => Some(Kind::int()),
+        Some(_) if well && fine => Some(ExpressionKind::int()),
         _ => None,
     }
 }
 
 /// Whether all arguments are fine, where the last has this type and agrees or not.
-fn still_fine(fine: bool, kind: Option<Kind<'_>>, agreed: bool) -> bool
+fn still_fine(fine: bool, kind: Option<ExpressionKind<'_>>, agreed: bool) -> bool
     ensures { result ≡ (fine && (is_some (view_kinds kind.entry) && agreed)) }
 {
     let typed = match kind {
@@ -459,14 +459,14 @@ fn still_fine(fine: bool, kind: Option<Kind<'_>>, agreed: bool) -> bool
 }
 
 /// The type of a call, where its arguments are fine.
-fn call_kind(kind: Option<Kind<'_>>, fine: bool) -> Option<Kind<'_>>
+fn call_kind(kind: Option<ExpressionKind<'_>>, fine: bool) -> Option<ExpressionKind<'_>>
     ensures { view_kinds result ≡ call_kind (view_kinds kind.entry) fine }
 {
     if fine { kind } else { None }
 }
 
 /// The type of what a name names, and the faults of its use.
-fn name_of<'a>(scope: &Scope<'a>, name: &Identifier, found: &mut Found) -> Option<Kind<'a>>
+fn name_of<'a>(scope: &Scope<'a>, name: &Identifier, found: &mut Found) -> Option<ExpressionKind<'a>>
     ensures kind { view_kinds result ≡ name_kind (look_up scope.now.names name.now.text) }
     ensures found { found.new ≡ fold noted found.old
         (name_notes name.now.site.token (look_up scope.now.names name.now.text)) }
@@ -484,7 +484,7 @@ pub(crate) fn expression<'a>(
     standing: Standing,
     expr: &'a Expr,
     found: &mut Found,
-) -> Option<Kind<'a>>
+) -> Option<ExpressionKind<'a>>
     ensures kind { view_kinds result ≡ type_of scope.now (view_expr expr.now) }
     ensures found { found.new ≡ fold noted found.old (notes_at standing scope.now (view_expr expr.now)) }
 {
@@ -534,7 +534,7 @@ pub(crate) fn met<'a>(
     need: Need,
     expr: &'a Expr,
     found: &mut Found,
-) -> Option<Kind<'a>>
+) -> Option<ExpressionKind<'a>>
     ensures kind { view_kinds result ≡ met need (type_of scope.now (view_expr expr.now)) }
     ensures found { let e = view_expr expr.now in
         found.new ≡ fold noted found.old (notes_of scope.now e ++ unmet need e (type_of scope.now e)) }
@@ -545,7 +545,7 @@ pub(crate) fn met<'a>(
 
 /// The type of an lvalue; takes note of its faults, and where it is not one.
 #[cycle(expr)]
-pub(crate) fn lvalue<'a>(scope: &Scope<'a>, expr: &'a Expr, found: &mut Found) -> Option<Kind<'a>>
+pub(crate) fn lvalue<'a>(scope: &Scope<'a>, expr: &'a Expr, found: &mut Found) -> Option<ExpressionKind<'a>>
     ensures kind { let e = view_expr expr.now in
         view_kinds result ≡ place_kind scope.now.names e (type_of scope.now e) }
     ensures found { let e = view_expr expr.now in
@@ -564,7 +564,7 @@ fn call<'a>(
     name: &Identifier,
     list: &'a [Expr],
     found: &mut Found,
-) -> Option<Kind<'a>>
+) -> Option<ExpressionKind<'a>>
     ensures kind { view_kinds result ≡ type_of scope.now (call span name.now (view_arguments list.now)) }
     ensures found { found.new ≡ fold noted found.old
         (notes_at standing scope.now (call span name.now (view_arguments list.now))) }
@@ -584,7 +584,7 @@ fn spawn<'a>(
     name: &Identifier,
     argument: &'a Expr,
     found: &mut Found,
-) -> Option<Kind<'a>>
+) -> Option<ExpressionKind<'a>>
     ensures kind { view_kinds result ≡ type_of scope.now (spawn span name.now (view_expr argument.now)) }
     ensures found { found.new ≡ fold noted found.old
         (notes_of scope.now (spawn span name.now (view_expr argument.now))) }
@@ -602,10 +602,10 @@ fn field<'a>(
     scope: &Scope<'a>,
     span: Span,
     base: &'a Expr,
-    access: Access,
+    access: FieldOperator,
     name: &Identifier,
     found: &mut Found,
-) -> Option<Kind<'a>>
+) -> Option<ExpressionKind<'a>>
     ensures kind { view_kinds result ≡ type_of scope.now (field span (view_expr base.now) access name.now) }
     ensures found { found.new ≡ fold noted found.old
         (notes_of scope.now (field span (view_expr base.now) access name.now)) }
@@ -624,7 +624,7 @@ fn cast<'a>(
     to: &'a WrittenType,
     source: &'a Expr,
     found: &mut Found,
-) -> Option<Kind<'a>>
+) -> Option<ExpressionKind<'a>>
     ensures kind { view_kinds result ≡ type_of scope.now (cast span to.now (view_expr source.now)) }
     ensures found { found.new ≡ fold noted found.old
         (notes_of scope.now (cast span to.now (view_expr source.now))) }

@@ -12,7 +12,7 @@ ghost use Rattle.sharc_ctype.specs.Statements.{with_names};
 
 use sharc_names::fault::{FaultCode, Found, Named};
 use sharc_names::fields::Fields;
-use sharc_names::meaning::{Bound, Meaning, Signature};
+use sharc_names::meaning::{Binding, Meaning, Signature};
 use sharc_names::scope::Scope;
 use sharc_names::structs::StructMeaning;
 use sharc_tree::tree::{FunctionDefinition, GlobalDefinition, Item, StructDefinition};
@@ -38,7 +38,7 @@ pub(crate) fn within(most: usize, before: usize, token: u32, found: &mut Found)
 /// Brings a name of the file into scope, if it is new.
 fn enter<'a>(
     scope: &mut Scope<'a>,
-    bound: Bound<'a>,
+    bound: Binding<'a>,
     token: u32,
     found: &mut Found,
 ) -> Result<(), AllocError>
@@ -121,7 +121,7 @@ fn global_head<'a>(
     let name = &definition.declaration.name;
     let number = heads.globals;
     found.name(name.site.token, Named::Global(number));
-    let bound = Bound {
+    let bound = Binding {
         name: name.text.as_slice(),
         block: 0,
         meaning: Meaning::Global(number, definition),
@@ -145,7 +145,7 @@ fn function_head<'a>(
     let name = &definition.name;
     let number = heads.functions;
     found.name(name.site.token, Named::Function(number));
-    let bound = Bound {
+    let bound = Binding {
         name: name.text.as_slice(),
         block: 0,
         meaning: Meaning::Function(number, signature_of(definition)),

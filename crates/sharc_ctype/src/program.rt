@@ -20,10 +20,10 @@ use crate::locals::all_locals;
 use crate::statement::{Around, declare, statements};
 use sharc_names::fault::{Fault, FaultCode, Found, Named};
 use sharc_names::fields::Fields;
-use sharc_names::kind::{Kind, declared_kind, same_kind};
+use sharc_names::kind::{ExpressionKind, declared_kind, same_kind};
 use sharc_names::laws::kept_is_first;
-use sharc_names::meaning::{Bound, Meaning};
-use sharc_names::names::Names;
+use sharc_names::meaning::{Binding, Meaning};
+use sharc_names::names::NamesInScope;
 use sharc_names::scope::Scope;
 use sharc_names::structs::Structs;
 use sharc_names::types::{Role, written_type};
@@ -147,14 +147,14 @@ fn items<'a>(
     Ok(())
 }
 
-fn has_main(bound: Option<Bound<'_>>) -> bool
+fn has_main(bound: Option<Binding<'_>>) -> bool
     ensures { result ≡ has_main (view_bounds bound.entry) }
 {
     match bound {
         None => false,
         Some(bound) => match bound.meaning {
             Meaning::Function(_, signature) => {
-                same_kind(declared_kind(signature.result), Kind::int())
+                same_kind(declared_kind(signature.result), ExpressionKind::int())
                     && signature.parameters.len() == 0
             }
             _ => false,
@@ -163,7 +163,7 @@ fn has_main(bound: Option<Bound<'_>>) -> bool
 }
 
 /// Takes note where the program has no `int main(void)`.
-fn main_missing(end: u32, names: &Names<'_>, found: &mut Found)
+fn main_missing(end: u32, names: &NamesInScope<'_>, found: &mut Found)
     ensures { found.new ≡ fold noted found.old (main_missing end names.now) }
 {
     let well = has_main(names.find(b"main".as_slice()));
@@ -179,7 +179,7 @@ fn heads<'a>(alloc: Global, items: &'a [Item], found: &mut Found) -> Result<Head
     let mut known = Heads {
         scope: Scope {
             structs: Structs::new(alloc),
-            names: Names::new(alloc),
+            names: NamesInScope::new(alloc),
         },
         structs: 0,
         globals: 0,

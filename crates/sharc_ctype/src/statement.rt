@@ -16,8 +16,8 @@ ghost use Rattle.sharc_ctype.specs.View.{view_around};
 
 use crate::expr::{Standing, expression, lvalue, met};
 use sharc_names::fault::{FaultCode, Found, Named};
-use sharc_names::kind::{Kind, declared_kind, is_struct_behind, root_of, same_kind};
-use sharc_names::meaning::{Bound, Meaning};
+use sharc_names::kind::{ExpressionKind, declared_kind, is_struct_behind, root_of, same_kind};
+use sharc_names::meaning::{Binding, Meaning};
 use sharc_names::need::{Need, agree, meet};
 use sharc_names::scope::Scope;
 use sharc_names::types::{Role, written_type};
@@ -30,14 +30,14 @@ use std::alloc::AllocError;
 #[derive(Clone, Copy)]
 pub struct Around<'a> {
     /// The result of the function.
-    pub result: Kind<'a>,
+    pub result: ExpressionKind<'a>,
     /// Whether a loop is around it.
     pub in_loop: bool,
     /// How many names were in scope where the block begins.
     pub block: usize,
 }
 
-fn in_block(block: usize, bound: Option<Bound<'_>>) -> bool
+fn in_block(block: usize, bound: Option<Binding<'_>>) -> bool
     ensures { result ≡ in_block block (view_bounds bound.entry) }
 {
     match bound {
@@ -65,7 +65,7 @@ pub(crate) fn declare<'a>(
     if here {
         return Ok(());
     }
-    scope.names.declare(Bound {
+    scope.names.declare(Binding {
         name,
         block,
         meaning: Meaning::Variable(declaration),
@@ -95,18 +95,18 @@ fn made_stars(written: &WrittenType) -> usize
     written.ctype.levels.len().max(1)
 }
 
-fn is_made(want: Option<Kind<'_>>, written: &WrittenType) -> bool
+fn is_made(want: Option<ExpressionKind<'_>>, written: &WrittenType) -> bool
     ensures { result ≡ is_made (view_kinds want.entry) written.now }
 {
     let Some(want) = want else {
         return true;
     };
-    let made = Kind::Object(root_of(&written.ctype.base), made_stars(written));
+    let made = ExpressionKind::Object(root_of(&written.ctype.base), made_stars(written));
     same_kind(want, made)
 }
 
 /// The faults of the right side of `=`.
-fn right<'a>(scope: &Scope<'a>, want: Option<Kind<'_>>, right: &'a Right, found: &mut Found)
+fn right<'a>(scope: &Scope<'a>, want: Option<ExpressionKind<'_>>, right: &'a Right, found: &mut Found)
     ensures { found.new ≡ fold noted found.old (right_notes scope.now (view_kinds want.entry) (view_right right.now)) }
 {
     match right {
@@ -139,13 +139,13 @@ fn simple<'a>(scope: &Scope<'a>, simple: &'a Simple, found: &mut Found)
     }
 }
 
-fn is_aggregate(kind: Kind<'_>) -> bool
+fn is_aggregate(kind: ExpressionKind<'_>) -> bool
     ensures { result ≡ is_aggregate (view_kind kind.entry) }
 {
-    is_struct_behind(0, kind) || same_kind(kind, Kind::mutex())
+    is_struct_behind(0, kind) || same_kind(kind, ExpressionKind::mutex())
 }
 
-fn wanted_by(fine: bool, written: &WrittenType) -> Option<Kind<'_>>
+fn wanted_by(fine: bool, written: &WrittenType) -> Option<ExpressionKind<'_>>
     ensures { view_kinds result ≡ wanted_by fine written.now }
 {
     if fine {
@@ -192,10 +192,10 @@ fn local<'a>(
     Ok(())
 }
 
-fn returned_as(kind: Kind<'_>) -> Option<Kind<'_>>
+fn returned_as(kind: ExpressionKind<'_>) -> Option<ExpressionKind<'_>>
     ensures { view_kinds result ≡ returned_as (view_kind kind.entry) }
 {
-    if same_kind(kind, Kind::void()) {
+    if same_kind(kind, ExpressionKind::void()) {
         None
     } else {
         Some(kind)
@@ -213,7 +213,7 @@ fn returned<'a>(
     ensures { found.new ≡ fold noted found.old
         (return_notes (view_around around.entry) scope.now word (view_option (λ b. view_expr b.value) value.now)) }
 {
-    let void = same_kind(around.result, Kind::void());
+    let void = same_kind(around.result, ExpressionKind::void());
     match value {
         None => found.fault_unless(void, word, FaultCode::BadForm),
         Some(expr) => {

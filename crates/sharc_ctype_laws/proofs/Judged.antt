@@ -2,7 +2,7 @@
 use Rattle.std.proofs.{Common.{◌≡◌, ◌⊎◌, inl, inr, ⊎_elim, ℕ, ◌+◌, ◌==◌, Bool, true, false, ◌&&◌, ◌||◌, not, cond, nat_lt, List, [], ◌∷◌, length, drop, refl, ap, ap₂, sym, ◌∙◌, subst, eqb-true, Option, Some, None, is_some, arith, codes}, lemmas.Bool.{false≢true, and_parts, or_cases, not-true}, lemmas.Slice.Eq.bytes_eq-Decides}
 use Rattle.std.specs.List.{AllByRecursion}
 use Rattle.sharc_tree.specs.declared.ctype.Base.TheVariants as base
-use Rattle.sharc_tree.specs.{declared.token.Site.Site, declared.token.Span.Span, declared.tree.declaration.Identifier.Identifier, declared.tree.declaration.WrittenType.WrittenType, declared.tree.declaration.Declaration.Declaration, declared.token.NumberType.NumberType, declared.tree.expression.Constant.Constant, declared.tree.expression.Access.Access, declared.tree.expression.Access.TheVariants.{Dot, Arrow}, declared.tree.expression.BinaryOperator.BinaryOperator, declared.tree.expression.UnaryOperator.UnaryOperator, declared.tree.expression.UnaryOperator.TheVariants.{Negate, Not, Complement, Dereference}, declared.tree.expression.ValueCall.ValueCall, declared.tree.expression.PlaceCall.PlaceCall, declared.tree.expression.PlaceCall.TheVariants.{Lock, Unlock, Free}, declared.tree.item.StructDefinition.StructDefinition, declared.tree.item.GlobalForm.GlobalForm, declared.tree.item.GlobalForm.TheVariants.{Plain, Array, Initial}, Forms.{is_lvalue, without_parentheses}, Tree.{Expression, Arguments, no_arguments, argument, Function}}
+use Rattle.sharc_tree.specs.{declared.token.Site.Site, declared.token.Span.Span, declared.tree.declaration.Identifier.Identifier, declared.tree.declaration.WrittenType.WrittenType, declared.tree.declaration.Declaration.Declaration, declared.token.NumberType.NumberType, declared.tree.expression.Constant.Constant, declared.tree.expression.FieldOperator.FieldOperator, declared.tree.expression.FieldOperator.TheVariants.{Dot, Arrow}, declared.tree.expression.BinaryOperator.BinaryOperator, declared.tree.expression.UnaryOperator.UnaryOperator, declared.tree.expression.UnaryOperator.TheVariants.{Negate, Not, Complement, Dereference}, declared.tree.expression.ValueCall.ValueCall, declared.tree.expression.PlaceCall.PlaceCall, declared.tree.expression.PlaceCall.TheVariants.{Lock, Unlock, Free}, declared.tree.item.StructDefinition.StructDefinition, declared.tree.item.GlobalForm.GlobalForm, declared.tree.item.GlobalForm.TheVariants.{Plain, Array, Initial}, Forms.{is_lvalue, without_parentheses}, Tree.{Expression, Arguments, no_arguments, argument, Function}}
 use Rattle.sharc_tree.specs.declared.token.NumberType.TheVariants as width
 use Rattle.sharc_tree.specs.declared.tree.expression.Constant.TheVariants as constants
 use Rattle.sharc_tree.specs.Tree as tree
@@ -292,27 +292,27 @@ member_of r structs token name x n m all is h =
     subst (λ o. IsMember r structs x name token (field_among name o)) (sym is)
     (member_in r structs token name x m (found_struct r structs structs x m all is) (subst (λ o. Held r (field_notes token (field_among name o))) is h))
 
-abbrev pub stars_before : Access → ℕ
+abbrev pub stars_before : FieldOperator → ℕ
 stars_before Dot = 0
 stars_before Arrow = 1
 
-behind_access : (w : Access) (k : Kind) → fits (access_need w) k ≡ true → is_struct_behind (stars_before w) k ≡ true
+behind_access : (w : FieldOperator) (k : Kind) → fits (access_need w) k ≡ true → is_struct_behind (stars_before w) k ≡ true
 behind_access Dot k h = h
 behind_access Arrow k h = h
 
-has_field : (r : Resolution) (s : Span) (a : Expression) (w : Access) (name : Identifier) (x : List ℕ) (d : Declaration) → HasType r a (object (base.Struct x) (stars_before w)) → IsMemberOf r x name.text d
+has_field : (r : Resolution) (s : Span) (a : Expression) (w : FieldOperator) (name : Identifier) (x : List ℕ) (d : Declaration) → HasType r a (object (base.Struct x) (stars_before w)) → IsMemberOf r x name.text d
     → named_at r name.site.token ≡ named.Field d.name.site.token → HasType r (tree.field s a w name) (declared_kind d.written)
 has_field r s a Dot name x d h of is = a_field h of is
 has_field r s a Arrow name x d h of is = a_field_behind h of is
 
-pub record IsFieldUse (r : Resolution) (scope : Scope) (a : Expression) (w : Access) (n : Identifier) : Type 0 where
+pub record IsFieldUse (r : Resolution) (scope : Scope) (a : Expression) (w : FieldOperator) (n : Identifier) : Type 0 where
   pub name : List ℕ
   pub of : kind_at r a ≡ object (base.Struct name) (stars_before w)
   pub known : StructMeaning
   pub knows : struct_of scope.structs name ≡ Some known
   pub found : IsMember r scope.structs name n.text n.site.token (field_in scope.structs n.text (met (access_need w) (type_of scope a)))
 
-pub field_member : (r : Resolution) (scope : Scope) → IsScene r scope → (s : Span) (a : Expression) (w : Access) (n : Identifier) → IsJudged r scope a → Held r (notes_of scope (tree.field s a w n)) → IsFieldUse r scope a w n
+pub field_member : (r : Resolution) (scope : Scope) → IsScene r scope → (s : Span) (a : Expression) (w : FieldOperator) (n : Identifier) → IsJudged r scope a → Held r (notes_of scope (tree.field s a w n)) → IsFieldUse r scope a w n
 field_member r scope scene s a w n j h =
     let m = met_by r scope (access_need w) a j (right r _ _ (left r _ _ h)) in
     let b = struct_behind_is (stars_before w) (kind_at r a) (behind_access w (kind_at r a) m.fits) in
@@ -327,7 +327,7 @@ field_member r scope scene s a w n j h =
           (member_of r scope.structs n.site.token n.text b.0 (stars_before w) k.0 scene.structs k.1 (subst (λ z. Held r (field_notes n.site.token (field_in scope.structs n.text z))) met_is (right r _ _ h)));
     }
 
-field_judged : (r : Resolution) (scope : Scope) → IsScene r scope → (s : Span) (a : Expression) (w : Access) (n : Identifier) → IsJudged r scope a → Held r (notes_of scope (tree.field s a w n)) → IsJudged r scope (tree.field s a w n)
+field_judged : (r : Resolution) (scope : Scope) → IsScene r scope → (s : Span) (a : Expression) (w : FieldOperator) (n : Identifier) → IsJudged r scope a → Held r (notes_of scope (tree.field s a w n)) → IsJudged r scope (tree.field s a w n)
 field_judged r scope scene s a w n j h =
     let u = field_member r scope scene s a w n j h in
     judge r scope (tree.field s a w n) (declared_kind u.found.member.written)

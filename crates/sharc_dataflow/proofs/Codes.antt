@@ -1,7 +1,7 @@
 -- Exactness of the smallest pieces, and of all code.
 use Rattle.std.proofs.Common.{◌≡◌, ℕ, zero, suc, List, [], ◌∷◌, ◌⊎◌, inl, inr, ◌<◌, Option, Some, None, Bool, true, false, Contains, refl, ap, subst, eqb-true, eq-eqb, nat_eq, arith, length}
 use Rattle.std.specs.Prelude.{slice_index_or}
-use Rattle.sharc_dataflow.specs.{declared.way.Way.Way, declared.way.FlowWarning.FlowWarning, Flow.{Act, Reads, Nulls, Writes, From, Start, To, Next, Broken, Continued, Ends, Goes, goes, before, Does, done, ended, before as not_yet, Spares, Clear, Stands, Shows, Hits, Reaches}, Code.{Code, goes_to, acts, first_then, one_of, catches, repeats, paths}, Sums.{way, goes_of, free, only, nulled, written, way_of_act, ways, Warns, quiet, warn_read, warned_of, warn_act, warns}}
+use Rattle.sharc_dataflow.specs.{declared.way.Way.Way, declared.way.FlowWarning.FlowWarning, Flow.{Act, Reads, Nulls, Writes, From, Start, To, Next, Broken, Continued, Ends, Goes, goes, before, Does, done, ended, before as not_yet, Spares, Clear, NullingStands, Shows, Hits, Reaches}, Code.{Code, goes_to, acts, first_then, one_of, catches, repeats, paths}, Sums.{way, goes_of, free, only, nulled, written, way_of_act, ways, Warns, quiet, warn_read, warned_of, warn_act, warns}}
 use Rattle.sharc_dataflow.proofs.{Algebra.{Yes, AtMost, Joins}, Exact.{Exact, exact_then, ClearPath, StandingPath, ShownPath, Warned, warning}, Pieces.{exact_either, exact_caught, exact_loop}}
 
 has_none : (w : FlowWarning) → Contains [] w → ⊥
@@ -53,7 +53,7 @@ module _ (x : ℕ) (t : To) where
   goes_is_clear u l j goes c = joined t j
   goes_is_clear u l j before c = absurd j
 
-  goes_is_standing : (f : From) (u : To) (l : List Act) (k : ℕ) → Joins u → Goes t f u l → Stands x k l → AtMost (way (goes_of t) u).least k
+  goes_is_standing : (f : From) (u : To) (l : List Act) (k : ℕ) → Joins u → Goes t f u l → NullingStands x k l → AtMost (way (goes_of t) u).least k
   goes_is_standing f u l k j goes s = absurd s
   goes_is_standing f u l k j before s = absurd s
 
@@ -104,7 +104,7 @@ module _ (x : ℕ) (a : Act) (w : Way) (ww : Warns) (su : Suits x a w ww) where
   does_standing_path Continued k e = absurd (cc)
   does_standing_path Ends k e = absurd (cc)
 
-  does_is_standing : (f : From) (u : To) (l : List Act) (k : ℕ) → Joins u → Does a f u l → Stands x k l → AtMost (way (only w) u).least k
+  does_is_standing : (f : From) (u : To) (l : List Act) (k : ℕ) → Joins u → Does a f u l → NullingStands x k l → AtMost (way (only w) u).least k
   does_is_standing f u l k j done (inl s) = su.is_null k s.0
   does_is_standing f u l k j done (inr s) = absurd s
   does_is_standing f u l k j ended s = absurd j

@@ -1,6 +1,6 @@
 -- That what is computed of a piece of code is exactly what its paths do.
 use Rattle.std.proofs.{Common.{◌≡◌, ℕ, List, ◌++◌, ◌⊎◌, inl, inr, ◌≤◌, Option, Some, Contains}, lemmas.List.Elements.{Contains-append_left, Contains-append_right, Contains-append_cases}}
-use Rattle.sharc_dataflow.specs.{declared.way.Ways.Ways, declared.way.FlowWarning.FlowWarning, Flow.{Act, From, Start, Inside, To, Next, Ends, Piece, Leaves, Then, through, leaves, behind as late, Clear, Stands, Shows, Hits, Reaches}, Sums.{behind, way, then_of, Warns, warn_then}}
+use Rattle.sharc_dataflow.specs.{declared.way.Ways.Ways, declared.way.FlowWarning.FlowWarning, Flow.{Act, From, Start, Inside, To, Next, Ends, Piece, Leaves, Then, through, leaves, behind as late, Clear, NullingStands, Shows, Hits, Reaches}, Sums.{behind, way, then_of, Warns, warn_then}}
 use Rattle.sharc_dataflow.proofs.{Lists.{clear_both, clear_first, clear_last, stands_on, stands_cases, shows_behind, shows_cases, hits_across, hits_cases, Split, first, across, last}, Algebra.{Yes, AtMost, Joins, most_behind, most_of, behind_is, then_clear, through_clear, leaves_clear, Came, second, passed, left as came_left, then_least, through_most, second_most, left_most}}
 
 abbrev pub warning : ℕ → ℕ → FlowWarning
@@ -16,7 +16,7 @@ pub record ClearPath (x : ℕ) (A : Piece) (t : To) : Type 0 where
 pub record StandingPath (x : ℕ) (A : Piece) (t : To) (k : ℕ) : Type 0 where
   pub acts : List Act
   pub is_path : A Inside t acts
-  pub stands : Stands x k acts
+  pub stands : NullingStands x k acts
 
 -- a path from the start to the read at r with no write of x before it
 pub record ShownPath (x : ℕ) (A : Piece) (r : ℕ) : Type 0 where
@@ -34,7 +34,7 @@ pub record Exact (x : ℕ) (A : Piece) (s : Ways) (w : Warns) : Type 0 where
   pub clear_path : (t : To) → Yes (way s t).clear → ClearPath x A t
   pub is_clear : (t : To) (l : List Act) → Joins t → A Start t l → Clear x l → Yes (way s t).clear
   pub standing_path : (t : To) (k : ℕ) → (way s t).least ≡ Some k → StandingPath x A t k
-  pub is_standing : (f : From) (t : To) (l : List Act) (k : ℕ) → Joins t → A f t l → Stands x k l → AtMost (way s t).least k
+  pub is_standing : (f : From) (t : To) (l : List Act) (k : ℕ) → Joins t → A f t l → NullingStands x k l → AtMost (way s t).least k
   pub warned_path : (v : Option ℕ) (k r : ℕ) → Contains (w v) (warning r k) → Reaches A x k r ⊎ ((v ≡ Some k) × ShownPath x A r)
   pub is_hit : (f : From) (t : To) (l : List Act) (v : Option ℕ) (k r : ℕ) → A f t l → Hits x k r l → Warned (w v) k r
   pub is_shown : (t : To) (l : List Act) (v : Option ℕ) (k r : ℕ) → A Start t l → Shows x r l → AtMost v k → Warned (w v) k r
@@ -66,10 +66,10 @@ module _ (x : ℕ) (A B : Piece) (a b : Ways) (wa wb : Warns) (ea : Exact x A a 
       found (passed y h) = let p = ea.standing_path Next k h in let q = eb.clear_path t y in record { acts = p.acts ++ q.acts; is_path = through p.is_path q.is_path; stands = stands_on x k p.acts q.acts p.stands q.clear }
       found (came_left out h) = let p = ea.standing_path t k h in record { acts = p.acts; is_path = leaves out p.is_path; stands = p.stands }
 
-  then_is_standing : (f : From) (t : To) (l : List Act) (k : ℕ) → Joins t → Then A B f t l → Stands x k l → AtMost (way (then_of a b) t).least k
+  then_is_standing : (f : From) (t : To) (l : List Act) (k : ℕ) → Joins t → Then A B f t l → NullingStands x k l → AtMost (way (then_of a b) t).least k
   then_is_standing f t l k j (through {l = l1} {m = m} p q) s = found (stands_cases x k l1 m s)
     where
-      found : (Stands x k l1 × Clear x m) ⊎ Stands x k m → AtMost (way (then_of a b) t).least k
+      found : (NullingStands x k l1 × Clear x m) ⊎ NullingStands x k m → AtMost (way (then_of a b) t).least k
       found (inl h) = through_most a b t k (ea.is_standing f Next l1 k tt p h.0) (eb.is_clear t m j q h.1)
       found (inr h) = second_most a b t k (eb.is_standing Start t m k j q h)
   then_is_standing f t l k j (leaves out p) s = left_most a b t k out (ea.is_standing f t l k j p s)

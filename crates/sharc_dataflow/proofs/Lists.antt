@@ -1,6 +1,6 @@
 -- What a list of actions has, where it is put together from two.
 use Rattle.std.proofs.Common.{ℕ, List, [], ◌∷◌, ◌++◌, ◌⊎◌, inl, inr}
-use Rattle.sharc_dataflow.specs.Flow.{Act, Spares, Clear, Stands, Shows, Hits}
+use Rattle.sharc_dataflow.specs.Flow.{Act, Spares, Clear, NullingStands, Shows, Hits}
 
 module _ (x : ℕ) where
   pub clear_both : (l m : List Act) → Clear x l → Clear x m → Clear x (l ++ m)
@@ -15,17 +15,17 @@ module _ (x : ℕ) where
   clear_last [] m h = h
   clear_last (a ∷ l) m h = clear_last l m h.1
 
-  pub stands_on : (k : ℕ) (l m : List Act) → Stands x k l → Clear x m → Stands x k (l ++ m)
+  pub stands_on : (k : ℕ) (l m : List Act) → NullingStands x k l → Clear x m → NullingStands x k (l ++ m)
   stands_on k [] m h c = absurd h
   stands_on k (a ∷ l) m (inl h) c = inl (h.0, clear_both l m h.1 c)
   stands_on k (a ∷ l) m (inr h) c = inr (stands_on k l m h c)
 
-  pub stands_cases : (k : ℕ) (l m : List Act) → Stands x k (l ++ m) → (Stands x k l × Clear x m) ⊎ Stands x k m
+  pub stands_cases : (k : ℕ) (l m : List Act) → NullingStands x k (l ++ m) → (NullingStands x k l × Clear x m) ⊎ NullingStands x k m
   stands_cases k [] m h = inr h
   stands_cases k (a ∷ l) m (inl h) = inl (inl (h.0, clear_first l m h.1), clear_last l m h.1)
   stands_cases k (a ∷ l) m (inr h) = later (stands_cases k l m h)
     where
-      later : (Stands x k l × Clear x m) ⊎ Stands x k m → (Stands x k (a ∷ l) × Clear x m) ⊎ Stands x k m
+      later : (NullingStands x k l × Clear x m) ⊎ NullingStands x k m → (NullingStands x k (a ∷ l) × Clear x m) ⊎ NullingStands x k m
       later (inl c) = inl (inr c.0, c.1)
       later (inr c) = inr c
 
@@ -42,7 +42,7 @@ module _ (x : ℕ) where
       later s (inl c) = inl (inr (s, c))
       later s (inr c) = inr ((s, c.0), c.1)
 
-  pub hits_across : (k r : ℕ) (l m : List Act) → Stands x k l → Shows x r m → Hits x k r (l ++ m)
+  pub hits_across : (k r : ℕ) (l m : List Act) → NullingStands x k l → Shows x r m → Hits x k r (l ++ m)
   hits_across k r [] m h s = absurd h
   hits_across k r (a ∷ l) m (inl h) s = inl (h.0, shows_behind r l m h.1 s)
   hits_across k r (a ∷ l) m (inr h) s = inr (hits_across k r l m h s)
@@ -50,7 +50,7 @@ module _ (x : ℕ) where
   -- where a hit in two lists lies
   pub data Split (k r : ℕ) (l m : List Act) : Type 0 where
     first : Hits x k r l → Split k r l m
-    across : Stands x k l → Shows x r m → Split k r l m
+    across : NullingStands x k l → Shows x r m → Split k r l m
     last : Hits x k r m → Split k r l m
 
   pub hits_cases : (k r : ℕ) (l m : List Act) → Hits x k r (l ++ m) → Split k r l m

@@ -1,6 +1,6 @@
 -- Exactness of the other ways to put pieces of code together.
 use Rattle.std.proofs.{Common.{◌≡◌, ℕ, List, ◌++◌, ◌⊎◌, inl, inr, Option, Some, Contains}, lemmas.List.Elements.Contains-append_cases}
-use Rattle.sharc_dataflow.specs.{declared.way.Ways.Ways, Flow.{Act, From, Start, To, Next, Broken, Continued, Ends, Piece, Either, Caught, on, as_is, Loop, left, ended, again, Clear, Stands, Shows, Hits, Reaches}, Sums.{lower, way, either_of, caught_of, loop_of, Warns, warn_either, warn_loop}}
+use Rattle.sharc_dataflow.specs.{declared.way.Ways.Ways, Flow.{Act, From, Start, To, Next, Broken, Continued, Ends, Piece, Either, Caught, on, as_is, Loop, left, ended, again, Clear, NullingStands, Shows, Hits, Reaches}, Sums.{lower, way, either_of, caught_of, loop_of, Warns, warn_either, warn_loop}}
 use Rattle.sharc_dataflow.proofs.{Lists.{clear_last, stands_on, stands_cases, shows_cases, hits_across, hits_cases, Split, first, across, last}, Algebra.{Yes, AtMost, Joins, most_left, most_right, lower_is, most_behind, most_of, behind_is, either_clear, clear_left, clear_right, either_least, either_left, either_right, yes_left, yes_right, yes_either}, Exact.{Exact, ClearPath, StandingPath, ShownPath, Warned, warning, warned_left, warned_right}}
 
 -- the one or the other
@@ -23,7 +23,7 @@ module _ (x : ℕ) (A B : Piece) (a b : Ways) (wa wb : Warns) (ea : Exact x A a 
       found (inl h) = let p = ea.standing_path t k h in record { acts = p.acts; is_path = inl p.is_path; stands = p.stands }
       found (inr h) = let p = eb.standing_path t k h in record { acts = p.acts; is_path = inr p.is_path; stands = p.stands }
 
-  or_is_standing : (f : From) (t : To) (l : List Act) (k : ℕ) → Joins t → Either A B f t l → Stands x k l → AtMost (way (either_of a b) t).least k
+  or_is_standing : (f : From) (t : To) (l : List Act) (k : ℕ) → Joins t → Either A B f t l → NullingStands x k l → AtMost (way (either_of a b) t).least k
   or_is_standing f t l k j (inl p) s = either_left a b t k (ea.is_standing f t l k j p s)
   or_is_standing f t l k j (inr p) s = either_right a b t k (eb.is_standing f t l k j p s)
 
@@ -105,7 +105,7 @@ module _ (x : ℕ) (A : Piece) (a : Ways) (wa : Warns) (ea : Exact x A a wa) whe
   kept_most Continued k h = h
   kept_most Ends k h = h
 
-  caught_is_standing : (f : From) (t : To) (l : List Act) (k : ℕ) → Joins t → Caught A f t l → Stands x k l → AtMost (way (caught_of a) t).least k
+  caught_is_standing : (f : From) (t : To) (l : List Act) (k : ℕ) → Joins t → Caught A f t l → NullingStands x k l → AtMost (way (caught_of a) t).least k
   caught_is_standing f t l k j (on p) s = most_right a.next.least a.continued.least k (ea.is_standing f Continued l k tt p s)
   caught_is_standing f t l k j (as_is p) s = kept_most t k (ea.is_standing f t l k j p s)
 
@@ -164,12 +164,12 @@ module _ (x : ℕ) (A : Piece) (a : Ways) (wa : Warns) (ea : Exact x A a wa) whe
   crossed Continued k h y = absurd y
   crossed Ends k h y = absurd y
 
-  loop_is_standing : (f : From) (t : To) (l : List Act) (k : ℕ) → Joins t → Loop A f t l → Stands x k l → AtMost (way (loop_of a) t).least k
+  loop_is_standing : (f : From) (t : To) (l : List Act) (k : ℕ) → Joins t → Loop A f t l → NullingStands x k l → AtMost (way (loop_of a) t).least k
   loop_is_standing f t l k j (left p) s = most_of a.broken a.next.least k (ea.is_standing f Broken l k tt p s)
   loop_is_standing f t l k j (ended p) s = absurd j
   loop_is_standing f t l k j (again {l = l1} {m = m} p q) s = found (loop_is_standing Start t m k j q) (stands_cases x k l1 m s)
     where
-      found : (Stands x k m → AtMost (way (loop_of a) t).least k) → (Stands x k l1 × Clear x m) ⊎ Stands x k m → AtMost (way (loop_of a) t).least k
+      found : (NullingStands x k m → AtMost (way (loop_of a) t).least k) → (NullingStands x k l1 × Clear x m) ⊎ NullingStands x k m → AtMost (way (loop_of a) t).least k
       found ih (inl h) = crossed t k (ea.is_standing f Next l1 k tt p h.0) (loop_is_clear t m j q h.1)
       found ih (inr h) = ih h
 

@@ -1,14 +1,14 @@
 -- What the forward pass reports of code.
 use Rattle.std.proofs.Common.{◌≡◌, ℕ, List, [], ◌∷◌, ◌++◌, Option, None, true, nat_eq, refl, ap, sym, ◌∙◌, append_assoc, append-nil}
-use Rattle.sharc_dataflow.specs.{declared.step.Step.Step, declared.way.Way.Way, declared.way.Ways.Ways, declared.way.Standing.Standing, declared.way.FlowWarning.FlowWarning, Flow.{Reads, Nulls, Writes, Next, Broken, Continued, Ends}, Code.{Code, goes_to, acts, first_then, one_of, catches, repeats, listing}, Sums.{lower, behind, closed, free, follow, either, only, goes_of, then_of, nulled, written, ways, warns}, Passes.{last_or, front, heads, Telling, telling, forth, told, turning}}
+use Rattle.sharc_dataflow.specs.{declared.step.Step.Step, declared.way.Way.Way, declared.way.Ways.Ways, declared.way.StandingNullings.StandingNullings, declared.way.FlowWarning.FlowWarning, Flow.{Reads, Nulls, Writes, Next, Broken, Continued, Ends}, Code.{Code, goes_to, acts, first_then, one_of, catches, repeats, listing}, Sums.{lower, behind, closed, free, follow, either, only, goes_of, then_of, nulled, written, ways, warns}, Passes.{last_or, front, heads, Telling, telling, forth, told, turning}}
 use Rattle.sharc_dataflow.specs.declared.step.Step.TheVariants as steps
 use Rattle.sharc_dataflow.proofs.{Laws.{lower_none, lower_turned, lower_assoc, follow_assoc, follow_either}, Summed.{last_pushed, front_pushed, regroup, regroup_two}}
 
 -- what a piece does to all that holds
-abbrev pub passed : Ways → Standing → Standing
+abbrev pub passed : Ways → StandingNullings → StandingNullings
 passed w s = record { next = behind w.next s.next; broken = lower s.broken (behind w.broken s.next); continued = lower s.continued (behind w.continued s.next) }
 
-abbrev standing_of : Option ℕ → Option ℕ → Option ℕ → Standing
+abbrev standing_of : Option ℕ → Option ℕ → Option ℕ → StandingNullings
 standing_of n b c = record { next = n; broken = b; continued = c }
 
 same_standing : (n n2 b b2 c c2 : Option ℕ) → n ≡ n2 → b ≡ b2 → c ≡ c2 → standing_of n b c ≡ standing_of n2 b2 c2
@@ -26,37 +26,37 @@ behind_either p q v = ap (λ (z : Way). z.least) (follow_either (from v) p q)
 exit_on : (o v : Option ℕ) (a n b : Way) → lower o (behind (either a (follow n b)) v) ≡ lower (lower o (behind a v)) (behind b (behind n v))
 exit_on o v a n b = ap (lower o) (behind_either a (follow n b) v ∙ ap (lower (behind a v)) (behind_follow n b v)) ∙ sym (lower_assoc o (behind a v) (behind b (behind n v)))
 
-passed_then : (a b : Ways) (s : Standing) → passed b (passed a s) ≡ passed (then_of a b) s
+passed_then : (a b : Ways) (s : StandingNullings) → passed b (passed a s) ≡ passed (then_of a b) s
 passed_then a b s = same_standing _ _ _ _ _ _ (sym (behind_follow a.next b.next s.next)) (sym (exit_on s.broken s.next a.broken a.next b.broken)) (sym (exit_on s.continued s.next a.continued a.next b.continued))
 
-passed_only : (w : Way) (s : Standing) → passed (only w) s ≡ standing_of (behind w s.next) s.broken s.continued
+passed_only : (w : Way) (s : StandingNullings) → passed (only w) s ≡ standing_of (behind w s.next) s.broken s.continued
 passed_only w s = same_standing _ _ _ _ _ _ refl (lower_none s.broken) (lower_none s.continued)
 
-passed_nothing : (s : Standing) → passed (only free) s ≡ s
+passed_nothing : (s : StandingNullings) → passed (only free) s ≡ s
 passed_nothing s = passed_only free s
 
-passed_break : (s : Standing) → passed (goes_of Broken) s ≡ standing_of None (lower s.broken s.next) s.continued
+passed_break : (s : StandingNullings) → passed (goes_of Broken) s ≡ standing_of None (lower s.broken s.next) s.continued
 passed_break s = same_standing _ _ _ _ _ _ refl refl (lower_none s.continued)
 
-passed_continue : (s : Standing) → passed (goes_of Continued) s ≡ standing_of None s.broken (lower s.continued s.next)
+passed_continue : (s : StandingNullings) → passed (goes_of Continued) s ≡ standing_of None s.broken (lower s.continued s.next)
 passed_continue s = same_standing _ _ _ _ _ _ refl (lower_none s.broken) refl
 
-same_telling : (s s2 : Standing) (o o2 h h2 : List (Option ℕ)) (f f2 : List FlowWarning) → s ≡ s2 → o ≡ o2 → h ≡ h2 → f ≡ f2 → telling s o h f ≡ telling s2 o2 h2 f2
+same_telling : (s s2 : StandingNullings) (o o2 h h2 : List (Option ℕ)) (f f2 : List FlowWarning) → s ≡ s2 → o ≡ o2 → h ≡ h2 → f ≡ f2 → telling s o h f ≡ telling s2 o2 h2 f2
 same_telling s s2 o o2 h h2 f f2 a b c d = rw (a, b, c, d) refl
 
 module _ (x : ℕ) where
   -- the state after a piece
-  abbrev pub behind_piece : Code → Standing → List (Option ℕ) → List (Option ℕ) → List FlowWarning → Telling
+  abbrev pub behind_piece : Code → StandingNullings → List (Option ℕ) → List (Option ℕ) → List FlowWarning → Telling
   behind_piece c s o hs f = telling (passed (ways x c) s) o hs (f ++ warns x c s.next)
 
-  plain : (c : Code) (s s2 : Standing) (o hs : List (Option ℕ)) (f : List FlowWarning) → s2 ≡ passed (ways x c) s → warns x c s.next ≡ [] → telling s2 o (hs ++ []) f ≡ behind_piece c s o hs f
+  plain : (c : Code) (s s2 : StandingNullings) (o hs : List (Option ℕ)) (f : List FlowWarning) → s2 ≡ passed (ways x c) s → warns x c s.next ≡ [] → telling s2 o (hs ++ []) f ≡ behind_piece c s o hs f
   plain c s s2 o hs f e q = same_telling _ _ _ _ _ _ _ _ e refl (append-nil hs) (sym (ap (λ z. f ++ z) q ∙ append-nil f))
 
-  after_other : (a b : Code) (s : Standing) (o hs : List (Option ℕ)) (f : List FlowWarning)
+  after_other : (a b : Code) (s : StandingNullings) (o hs : List (Option ℕ)) (f : List FlowWarning)
       → forth x steps.Other (behind_piece a s (o ++ s.next ∷ []) (hs ++ heads x b) f) ≡ telling (standing_of s.next (passed (ways x a) s).broken (passed (ways x a) s).continued) (o ++ (passed (ways x a) s).next ∷ []) (hs ++ heads x b) (f ++ warns x a s.next)
   after_other a b s o hs f = let s1 = passed (ways x a) s in same_telling _ _ _ _ _ _ _ _ (ap (λ z. standing_of z s1.broken s1.continued) (last_pushed None s.next o)) (ap (λ z. z ++ s1.next ∷ []) (front_pushed s.next o)) refl refl
 
-  after_join : (a b : Code) (s : Standing) (o hs : List (Option ℕ)) (f : List FlowWarning)
+  after_join : (a b : Code) (s : StandingNullings) (o hs : List (Option ℕ)) (f : List FlowWarning)
       → forth x steps.Join (behind_piece b (standing_of s.next (passed (ways x a) s).broken (passed (ways x a) s).continued) (o ++ (passed (ways x a) s).next ∷ []) hs (f ++ warns x a s.next)) ≡ behind_piece (one_of a b) s o hs f
   after_join a b s o hs f =
       let s1 = passed (ways x a) s in
@@ -69,7 +69,7 @@ module _ (x : ℕ) where
       (lower_assoc s.continued (behind wa.continued s.next) (behind wb.continued s.next) ∙ ap (lower s.continued) (sym (behind_either wa.continued wb.continued s.next))))
       (front_pushed s1.next o) refl (append_assoc f (warns x a s.next) (warns x b s.next))
 
-  after_caught : (a : Code) (s : Standing) (o hs : List (Option ℕ)) (f : List FlowWarning)
+  after_caught : (a : Code) (s : StandingNullings) (o hs : List (Option ℕ)) (f : List FlowWarning)
       → forth x steps.Caught (behind_piece a (standing_of s.next s.broken None) (o ++ s.continued ∷ []) hs f) ≡ behind_piece (catches a) s o hs f
   after_caught a s o hs f =
       let wa = ways x a in
@@ -77,7 +77,7 @@ module _ (x : ℕ) where
       (same_standing _ _ _ _ _ _ (sym (behind_either wa.next wa.continued s.next)) refl (ap (λ z. lower z (behind wa.continued s.next)) (last_pushed None s.continued o)))
       (front_pushed s.continued o) refl refl
 
-  after_again : (a : Code) (s : Standing) (o hs : List (Option ℕ)) (f : List FlowWarning)
+  after_again : (a : Code) (s : StandingNullings) (o hs : List (Option ℕ)) (f : List FlowWarning)
       → forth x steps.Again (behind_piece a (turning (ways x a).next.least s) ((o ++ s.broken ∷ []) ++ s.continued ∷ []) hs f) ≡ behind_piece (repeats a) s o hs f
   after_again a s o hs f =
       let wa = ways x a in
@@ -90,7 +90,7 @@ module _ (x : ℕ) where
       (last_pushed None s.continued one ∙ sym (lower_none s.continued)))
       (ap front (front_pushed s.continued one) ∙ front_pushed s.broken o) refl refl
 
-  pub told_piece : (c : Code) (rest : List Step) (s : Standing) (o hs : List (Option ℕ)) (f : List FlowWarning) → told x (listing c ++ rest) (telling s o (hs ++ heads x c) f) ≡ told x rest (behind_piece c s o hs f)
+  pub told_piece : (c : Code) (rest : List Step) (s : StandingNullings) (o hs : List (Option ℕ)) (f : List FlowWarning) → told x (listing c ++ rest) (telling s o (hs ++ heads x c) f) ≡ told x rest (behind_piece c s o hs f)
   told_piece (goes_to Next) rest s o hs f = ap (told x rest) (plain (goes_to Next) s s o hs f (sym (passed_nothing s)) refl)
   told_piece (goes_to Broken) rest s o hs f = ap (told x rest) (plain (goes_to Broken) s (standing_of None (lower s.broken s.next) s.continued) o hs f (sym (passed_break s)) refl)
   told_piece (goes_to Continued) rest s o hs f = ap (told x rest) (plain (goes_to Continued) s (standing_of None s.broken (lower s.continued s.next)) o hs f (sym (passed_continue s)) refl)

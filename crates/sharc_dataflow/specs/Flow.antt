@@ -74,9 +74,9 @@ Clear x [] = Unit {0}
 Clear x (a ∷ l) = Spares x a × Clear x l
 
 -- the nulling of x at token k, with no write of x after it
-abbrev pub Stands : ℕ → ℕ → List Act → Type 0
-Stands x k [] = ⊥
-Stands x k (a ∷ l) = ((a ≡ Nulls x k) × Clear x l) ⊎ Stands x k l
+abbrev pub NullingStands : ℕ → ℕ → List Act → Type 0
+NullingStands x k [] = ⊥
+NullingStands x k (a ∷ l) = ((a ≡ Nulls x k) × Clear x l) ⊎ NullingStands x k l
 
 -- the read of x at token r, with no write of x before it
 abbrev pub Shows : ℕ → ℕ → List Act → Type 0

@@ -1,7 +1,7 @@
 -- Two passes over the steps of code, for one variable: back over them for what holds at the end of a loop's turn, then
 -- forward for the warnings. It retraces the code.
 use Rattle.std.specs.Prelude.{ℕ, List, [], ◌∷◌, ◌++◌, Option, None, nat_eq}
-use Rattle.sharc_dataflow.specs.{declared.step.Step.Step, declared.way.Ways.Ways, declared.way.Standing.Standing}
+use Rattle.sharc_dataflow.specs.{declared.step.Step.Step, declared.way.Ways.Ways, declared.way.StandingNullings.StandingNullings}
 use Rattle.sharc_dataflow.specs.{declared.way.FlowWarning.FlowWarning, Flow.{Broken, Continued, Ends}}
 use Rattle.sharc_dataflow.specs.Code.{Code, goes_to, acts, first_then, one_of, catches, repeats}
 use Rattle.sharc_dataflow.specs.Sums.{lower, behind, free, only, goes_of, then_of, either_of, caught_of, loop_of}
@@ -94,33 +94,33 @@ sum_start = record { now = nothing; waiting = []; heads = [] }
 -- what holds here and at the exits, what held at the exits and beginnings of the open pieces, what holds at the end of
 -- the turns of the loops to come, and the warnings
 pub record Telling : Type 0 where
-  pub stand : Standing
+  pub stand : StandingNullings
   pub waiting : List (Option ℕ)
   pub heads : List (Option ℕ)
   pub found : List FlowWarning
 
-abbrev pub telling : Standing → List (Option ℕ) → List (Option ℕ) → List FlowWarning → Telling
+abbrev pub telling : StandingNullings → List (Option ℕ) → List (Option ℕ) → List FlowWarning → Telling
 telling s waiting hs found = record { stand = s; waiting = waiting; heads = hs; found = found }
 
-abbrev pub stands_at : Option ℕ → Standing → Standing
+abbrev pub stands_at : Option ℕ → StandingNullings → StandingNullings
 stands_at v s = record { next = v; broken = s.broken; continued = s.continued }
 
-abbrev pub breaks : Standing → Standing
+abbrev pub breaks : StandingNullings → StandingNullings
 breaks s = record { next = None; broken = lower s.broken s.next; continued = s.continued }
 
-abbrev pub continues : Standing → Standing
+abbrev pub continues : StandingNullings → StandingNullings
 continues s = record { next = None; broken = s.broken; continued = lower s.continued s.next }
 
-abbrev pub catching : Standing → Standing
+abbrev pub catching : StandingNullings → StandingNullings
 catching s = record { next = s.next; broken = s.broken; continued = None }
 
-abbrev pub is_caught : Option ℕ → Standing → Standing
+abbrev pub is_caught : Option ℕ → StandingNullings → StandingNullings
 is_caught before s = record { next = lower s.next s.continued; broken = s.broken; continued = lower before s.continued }
 
-abbrev pub turning : Option ℕ → Standing → Standing
+abbrev pub turning : Option ℕ → StandingNullings → StandingNullings
 turning least s = record { next = lower s.next least; broken = None; continued = None }
 
-abbrev pub leaves_loop : List (Option ℕ) → Standing → Standing
+abbrev pub leaves_loop : List (Option ℕ) → StandingNullings → StandingNullings
 leaves_loop waiting s =
     record { next = s.broken; broken = last_or None (front waiting); continued = last_or None waiting }
 
@@ -186,7 +186,7 @@ abbrev pub told : ℕ → List Step → Telling → Telling
 told x [] t = t
 told x (a ∷ rest) t = told x rest (forth x a t)
 
-abbrev pub nowhere : Standing
+abbrev pub nowhere : StandingNullings
 nowhere = record { next = None; broken = None; continued = None }
 
 abbrev pub tell_start : List (Option ℕ) → List FlowWarning → Telling

@@ -9,14 +9,14 @@ ghost use Rattle.sharc_dataflow.specs.Views.{view_tells};
 
 use crate::stack::pop_token;
 use crate::step::Step;
-use crate::way::{FlowWarning, Standing, lower};
+use crate::way::{FlowWarning, StandingNullings, lower};
 use std::alloc::{AllocError, Global};
 
 /// What is known at a step when all before it are gone over.
 #[derive(Drop)]
 pub struct Tells {
     /// The least nulling that holds here and at the exits.
-    stand: Standing,
+    stand: StandingNullings,
     /// What held at the exits and the beginnings of the open pieces, the innermost last.
     waiting: Vec<Option<u32>>,
     /// What holds at the end of a turn of each loop to come, the last loop first.
@@ -24,41 +24,41 @@ pub struct Tells {
     found: Vec<FlowWarning>,
 }
 
-impl Standing {
-    fn breaks(self) -> Standing
+impl StandingNullings {
+    fn breaks(self) -> StandingNullings
         ensures { result ≡ breaks self }
     {
-        Standing {
+        StandingNullings {
             next: None,
             broken: lower(self.broken, self.next),
             continued: self.continued,
         }
     }
 
-    fn continues(self) -> Standing
+    fn continues(self) -> StandingNullings
         ensures { result ≡ continues self }
     {
-        Standing {
+        StandingNullings {
             next: None,
             broken: self.broken,
             continued: lower(self.continued, self.next),
         }
     }
 
-    fn is_caught(self, before: Option<u32>) -> Standing
+    fn is_caught(self, before: Option<u32>) -> StandingNullings
         ensures { result ≡ is_caught before self }
     {
-        Standing {
+        StandingNullings {
             next: lower(self.next, self.continued),
             broken: self.broken,
             continued: lower(before, self.continued),
         }
     }
 
-    fn turning(self, least: Option<u32>) -> Standing
+    fn turning(self, least: Option<u32>) -> StandingNullings
         ensures { result ≡ turning least self }
     {
-        Standing {
+        StandingNullings {
             next: lower(self.next, least),
             broken: None,
             continued: None,
@@ -136,7 +136,7 @@ impl Tells {
     {
         let continued = pop_token(&mut self.waiting);
         let broken = pop_token(&mut self.waiting);
-        self.stand = Standing {
+        self.stand = StandingNullings {
             next: self.stand.broken,
             broken,
             continued,
@@ -189,7 +189,7 @@ pub(crate) fn tell(
     ensures { IfOk result (λ v. v.items ≡ (told x steps.now (tell_start heads.items found.items)).found) }
 {
     let mut tells = Tells {
-        stand: Standing {
+        stand: StandingNullings {
             next: None,
             broken: None,
             continued: None,

@@ -17,12 +17,12 @@ use std::alloc::{AllocError, Global};
 
 /// Variables, from the first to the last.
 #[derive(Clone, Copy, Drop)]
-pub struct Variables {
+pub struct VariableRange {
     pub first: u32,
     pub last: u32,
 }
 
-impl Variables {
+impl VariableRange {
     fn have(self, x: u32) -> bool
         ensures { result ≡ is_between self.first self.last x }
     {
@@ -32,38 +32,38 @@ impl Variables {
 
 /// What is kept of a piece of code, and where what is left out after it leads.
 #[derive(Drop)]
-pub struct Piece {
+pub struct CodePiece {
     kept: Vec<Step>,
     behind: Exits,
 }
 
-impl Piece {
+impl CodePiece {
     /// Of which nothing is kept.
-    fn left_out(alloc: Global, exits: Exits) -> Piece
+    fn left_out(alloc: Global, exits: Exits) -> CodePiece
         ensures { view_piece result ≡ kept_of [] exits }
     {
-        Piece {
+        CodePiece {
             kept: Vec::new(alloc),
             behind: exits,
         }
     }
 
     /// Of which these steps are kept, and which then goes on.
-    fn of(steps: Vec<Step>) -> Piece
+    fn of(steps: Vec<Step>) -> CodePiece
         ensures { view_piece result ≡ kept_of steps.items (exits_to Next) }
     {
-        Piece {
+        CodePiece {
             kept: steps,
             behind: Exits::on(),
         }
     }
 
-    fn of_step(alloc: Global, step: Step) -> Result<Piece, AllocError>
+    fn of_step(alloc: Global, step: Step) -> Result<CodePiece, AllocError>
         ensures { IfOk result (λ p. view_piece p ≡ kept_of (step ∷ []) (exits_to Next)) }
     {
         let mut steps = Vec::new(alloc);
         steps.push(step)?;
-        Ok(Piece::of(steps))
+        Ok(CodePiece::of(steps))
     }
 
     /// All its steps.
@@ -84,29 +84,29 @@ impl Piece {
     }
 
     /// The one piece and then the other.
-    fn then(self, other: Piece) -> Result<Piece, AllocError>
+    fn then(self, other: CodePiece) -> Result<CodePiece, AllocError>
         ensures { IfOk result (λ p. view_piece p ≡ then_kept (view_piece self) (view_piece other)) }
     {
         if other.kept.is_empty() {
-            return Ok(Piece {
+            return Ok(CodePiece {
                 kept: self.kept,
                 behind: self.behind.then(other.behind),
             });
         }
         let mut kept = self.whole()?;
         kept.extend_from_slice(other.kept.as_slice())?;
-        Ok(Piece {
+        Ok(CodePiece {
             kept,
             behind: other.behind,
         })
     }
 
     /// The one piece or the other.
-    fn either(self, other: Piece, alloc: Global) -> Result<Piece, AllocError>
+    fn either(self, other: CodePiece, alloc: Global) -> Result<CodePiece, AllocError>
         ensures { IfOk result (λ p. view_piece p ≡ either_kept (view_piece self) (view_piece other)) }
     {
         if self.kept.is_empty() && other.kept.is_empty() {
-            return Ok(Piece::left_out(alloc, self.behind.either(other.behind)));
+            return Ok(CodePiece::left_out(alloc, self.behind.either(other.behind)));
         }
         let mut steps = Vec::new(alloc);
         steps.push(Step::Fork)?;
@@ -114,46 +114,46 @@ impl Piece {
         steps.push(Step::Other)?;
         other.add_to(&mut steps)?;
         steps.push(Step::Join)?;
-        Ok(Piece::of(steps))
+        Ok(CodePiece::of(steps))
     }
 
     /// The piece, whose continue leads to its end.
-    fn caught(self, alloc: Global) -> Result<Piece, AllocError>
+    fn caught(self, alloc: Global) -> Result<CodePiece, AllocError>
         ensures { IfOk result (λ p. view_piece p ≡ caught_kept (view_piece self)) }
     {
         if self.kept.is_empty() {
-            return Ok(Piece::left_out(alloc, self.behind.caught()));
+            return Ok(CodePiece::left_out(alloc, self.behind.caught()));
         }
         let mut steps = Vec::new(alloc);
         steps.push(Step::Catch)?;
         self.add_to(&mut steps)?;
         steps.push(Step::Caught)?;
-        Ok(Piece::of(steps))
+        Ok(CodePiece::of(steps))
     }
 
     /// The piece again and again, until a break.
-    fn repeated(self, alloc: Global) -> Result<Piece, AllocError>
+    fn repeated(self, alloc: Global) -> Result<CodePiece, AllocError>
         ensures { IfOk result (λ p. view_piece p ≡ loop_kept (view_piece self)) }
     {
         if self.kept.is_empty() {
-            return Ok(Piece::left_out(alloc, self.behind.repeated()));
+            return Ok(CodePiece::left_out(alloc, self.behind.repeated()));
         }
         let mut steps = Vec::new(alloc);
         steps.push(Step::Head)?;
         self.add_to(&mut steps)?;
         steps.push(Step::Again)?;
-        Ok(Piece::of(steps))
+        Ok(CodePiece::of(steps))
     }
 }
 
 /// Takes away the last; of an empty list a piece of which nothing is kept is given.
-fn pop_piece(alloc: Global, list: &mut Vec<Piece>) -> Piece
+fn pop_piece(alloc: Global, list: &mut Vec<CodePiece>) -> CodePiece
     ensures last { view_piece result ≡ last_or nothing_kept (view_pieces list.old.items) }
     ensures front { view_pieces list.new.items ≡ front (view_pieces list.old.items) }
 {
     match list.pop() {
         Some(last) => last,
-        None => Piece::left_out(alloc, Exits::on()),
+        None => CodePiece::left_out(alloc, Exits::on()),
     }
 }
 
@@ -161,13 +161,13 @@ fn pop_piece(alloc: Global, list: &mut Vec<Piece>) -> Piece
 /// last.
 #[derive(Drop)]
 pub struct Narrowing {
-    now: Piece,
-    waiting: Vec<Piece>,
+    now: CodePiece,
+    waiting: Vec<CodePiece>,
 }
 
 impl Narrowing {
     /// Goes on to what is known of the piece that comes next.
-    fn goes_on(self, next: Piece) -> Result<Narrowing, AllocError>
+    fn goes_on(self, next: CodePiece) -> Result<Narrowing, AllocError>
         ensures { IfOk result (λ n. view_narrowing n ≡ goes_behind (view_piece next) (view_narrowing self)) }
     {
         Ok(Narrowing {
@@ -181,7 +181,7 @@ impl Narrowing {
         ensures { IfOk result (λ n. view_narrowing n ≡ acts_if keeps step (view_narrowing self)) }
     {
         if keeps {
-            self.goes_on(Piece::of_step(alloc, step)?)
+            self.goes_on(CodePiece::of_step(alloc, step)?)
         } else {
             Ok(self)
         }
@@ -194,7 +194,7 @@ impl Narrowing {
         let mut waiting = self.waiting;
         waiting.push(self.now)?;
         Ok(Narrowing {
-            now: Piece::left_out(alloc, Exits::on()),
+            now: CodePiece::left_out(alloc, Exits::on()),
             waiting,
         })
     }
@@ -237,7 +237,7 @@ impl Narrowing {
     }
 
     /// Goes on over a step.
-    fn step(self, alloc: Global, variables: Variables, step: Step) -> Result<Narrowing, AllocError>
+    fn step(self, alloc: Global, variables: VariableRange, step: Step) -> Result<Narrowing, AllocError>
         ensures { IfOk result (λ n. view_narrowing n
             ≡ narrows variables.first variables.last step (view_narrowing self)) }
     {
@@ -245,9 +245,9 @@ impl Narrowing {
             Step::Read(x, _) | Step::Null(x, _) | Step::Write(x) => {
                 self.acts(alloc, variables.have(x), step)
             }
-            Step::Break => self.goes_on(Piece::left_out(alloc, Exits::breaks())),
-            Step::Continue => self.goes_on(Piece::left_out(alloc, Exits::continues())),
-            Step::Return => self.goes_on(Piece::left_out(alloc, Exits::none())),
+            Step::Break => self.goes_on(CodePiece::left_out(alloc, Exits::breaks())),
+            Step::Continue => self.goes_on(CodePiece::left_out(alloc, Exits::continues())),
+            Step::Return => self.goes_on(CodePiece::left_out(alloc, Exits::none())),
             Step::Fork | Step::Other | Step::Catch | Step::Head => self.opens(alloc),
             Step::Join => self.joins(alloc),
             Step::Caught => self.catches(alloc),
@@ -260,13 +260,13 @@ impl Narrowing {
 /// of.
 pub(crate) fn narrowed(
     alloc: Global,
-    variables: Variables,
+    variables: VariableRange,
     steps: &[Step],
 ) -> Result<Vec<Step>, AllocError>
     ensures { IfOk result (λ v. (c : Code) → steps.now ≡ listing c → IsSame variables.first variables.last v.items c) }
 {
     let mut narrowed = Narrowing {
-        now: Piece::left_out(alloc, Exits::on()),
+        now: CodePiece::left_out(alloc, Exits::on()),
         waiting: Vec::new(alloc),
     };
     for step in steps {

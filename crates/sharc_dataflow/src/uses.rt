@@ -9,7 +9,7 @@ ghost use Rattle.sharc_dataflow.specs.Narrow.{AreBetween};
 
 use crate::back::heads_of;
 use crate::forth::tell;
-use crate::narrow::{Variables, narrowed};
+use crate::narrow::{VariableRange, narrowed};
 use crate::step::Step;
 use crate::way::FlowWarning;
 use std::alloc::{AllocError, Global};
@@ -66,7 +66,7 @@ fn greater(a: u32, b: u32) -> u32
 }
 
 /// From the least of these variables to the greatest.
-fn all_between(list: &[u32]) -> Variables
+fn all_between(list: &[u32]) -> VariableRange
     ensures { AreBetween result.first result.last list.now }
 {
     let mut first = u32::MAX;
@@ -75,7 +75,7 @@ fn all_between(list: &[u32]) -> Variables
         first = first.min(*x);
         last = greater(last, *x);
     }
-    Variables { first, last }
+    VariableRange { first, last }
 }
 
 /// Adds the warnings about some variables: of one by two passes over the steps, of more by halves, each by the steps

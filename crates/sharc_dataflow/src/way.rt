@@ -138,7 +138,7 @@ impl Ways {
 
 /// The least token of a nulling that holds here, and at the exits to which breaks and continues have led.
 #[derive(Clone, Copy, Drop)]
-pub struct Standing {
+pub struct StandingNullings {
     pub next: Option<u32>,
     pub broken: Option<u32>,
     pub continued: Option<u32>,

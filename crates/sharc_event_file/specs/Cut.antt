@@ -6,7 +6,7 @@ use Rattle.sharc_audit.specs.{declared.audit.EventFault.EventFault, declared.lin
 use Rattle.sharc_audit.specs.Audited.{Accepted, Audits}
 use Rattle.sharc_audit.specs.declared.audit.Verdict.TheVariants as verdict
 use Rattle.sharc_said.specs.declared.event.Event.{Event}
-use Rattle.sharc_event_file.specs.{declared.cut.Cut.Cut, declared.cut.Front.Front, Writing.{Writable, AreLinesOf}}
+use Rattle.sharc_event_file.specs.{declared.cut.Cut.Cut, declared.cut.EventPrefix.EventPrefix, Writing.{Writable, AreLinesOf}}
 use Rattle.sharc_event_file.specs.declared.cut.Cut.TheVariants as cut
 
 -- why these lines are no more, but for what audit says of them
@@ -32,7 +32,7 @@ IsEnd m events lines (cut.Refused fault) = (more : List EventLine) × AreLinesOf
     × Audits m 65536 more (verdict.Fails (suc (length lines)) fault)
 IsEnd m events lines why = EndsBy m.typed events (length lines) why
 
-pub record IsFront (m : Assignment) (events : List Event) (front : Front) : Type 0 where
+pub record IsFront (m : Assignment) (events : List Event) (front : EventPrefix) : Type 0 where
   pub lines : List EventLine
   pub are : AreLinesOf m.typed lines (take front.count events)
   pub count : front.count ≡ length lines

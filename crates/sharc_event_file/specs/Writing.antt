@@ -8,10 +8,10 @@ use Rattle.sharc_audit.specs.{declared.line.EventLine.EventLine, declared.line.L
 use Rattle.sharc_audit.specs.{Grammar.{IsName, thread_most}, Lines.spawned_by}
 use Rattle.sharc_audit.specs.declared.line.LineAct.TheVariants as line
 use Rattle.sharc_said.specs.{declared.cells.Where.Where, declared.event.Deed.Deed, declared.event.Event.Event}
-use Rattle.sharc_said.specs.{declared.event.Reference.Reference, declared.event.Value.Value, Told.{Bare, shown}}
+use Rattle.sharc_said.specs.{declared.event.Reference.Reference, declared.event.GivenValue.GivenValue, Told.{Bare, shown}}
 use Rattle.sharc_said.specs.declared.cells.Where.TheVariants as places
 use Rattle.sharc_said.specs.declared.event.Deed.TheVariants as deeds
-use Rattle.sharc_said.specs.declared.event.Value.TheVariants as values
+use Rattle.sharc_said.specs.declared.event.GivenValue.TheVariants as values
 use Rattle.sharc_said.specs.Told as bare
 
 -- ---- what a line can say: numbers of objects, cells and elements that the grammar has, and names
@@ -33,7 +33,7 @@ pub record IsFitPair (r : Reference) : Type 0 where
 abbrev pub IsFitReference : Reference → Type 0
 IsFitReference r = (r.number ≡ 0) ⊎ IsFitPair r
 
-abbrev pub IsFitValue : Value → Type 0
+abbrev pub IsFitValue : GivenValue → Type 0
 IsFitValue (values.Int v) = FitsSigned w64 v
 IsFitValue (values.Reference r) = IsFitReference r
 
@@ -111,7 +111,7 @@ cell_text (places.Made number cell) = codes "o" ++ (decimal number ++ 46 ∷ dec
 abbrev pub reference_text : Reference → List ℕ
 reference_text r = if r.number == 0 then codes "0" else decimal r.number ++ 58 ∷ decimal r.elements
 
-abbrev pub value_text : Value → List ℕ
+abbrev pub value_text : GivenValue → List ℕ
 value_text (values.Int v) = signed_decimal v
 value_text (values.Reference r) = reference_text r
 

@@ -35,7 +35,7 @@ pub enum Cut {
 
 /// How many events the file has, and why no more.
 #[derive(Clone, Copy, PartialEq, Eq, Debug)]
-pub struct Front {
+pub struct EventPrefix {
     pub count: usize,
     pub cut: Cut,
 }
@@ -62,10 +62,10 @@ fn lines_of(
 }
 
 // The events before this one, from 1.
-fn before(n: u32, cut: Cut) -> Front
+fn before(n: u32, cut: Cut) -> EventPrefix
     ensures { result ≡ record { count = n - 1; cut = cut } }
 {
-    Front {
+    EventPrefix {
         count: (n as usize).saturating_sub(1),
         cut,
     }
@@ -73,14 +73,14 @@ fn before(n: u32, cut: Cut) -> Front
 
 /// How many events of the run an event file has: the longest front part of them that has lines, no more than a file may
 /// have, and that `audit` accepts with the greatest fuel.
-pub fn front_of(alloc: Global, checked: &Checked, events: &[Event]) -> Result<Front, AllocError>
+pub fn front_of(alloc: Global, checked: &Checked, events: &[Event]) -> Result<EventPrefix, AllocError>
     ensures { IfOk result (IsFront checked.now events.now) }
 {
     let (lines, cut) = lines_of(alloc, checked.moded().typed(), events)?;
     let lines: EventLines = Listed::of(lines);
     let count = lines.len();
     match audit(alloc, checked, &lines, FUEL)? {
-        Verdict::Obeys(_) => Ok(Front { count, cut }),
+        Verdict::Obeys(_) => Ok(EventPrefix { count, cut }),
         Verdict::Fuel(n) => Ok(before(n, Cut::Fuel)),
         Verdict::Fails(n, fault) => Ok(before(n, Cut::Refused(fault))),
     }

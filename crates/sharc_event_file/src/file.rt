@@ -8,10 +8,10 @@ ghost use Rattle.sharc_event_file.specs.Writing.{events_text, file_text};
 
 use crate::pieces::{put_cell, put_name, put_number, put_reference, put_signed, put_value};
 use sharc_ctype::typed::Typed;
-use sharc_said::{Deed, Event, Reference, Value, Where};
+use sharc_said::{Deed, Event, Reference, GivenValue, Where};
 use std::alloc::{AllocError, Global};
 
-fn put_access(text: &mut Vec<u8>, word: &[u8], at: Where, value: Value) -> Result<(), AllocError>
+fn put_access(text: &mut Vec<u8>, word: &[u8], at: Where, value: GivenValue) -> Result<(), AllocError>
     ensures { Appends result (word.now ++ (cell_text at ++ 32 ∷ value_text value)) text.old.items text.new.items }
 {
     text.extend_from_slice(word)?;
@@ -38,7 +38,7 @@ fn put_spawn(
     text: &mut Vec<u8>,
     typed: &Typed,
     function: u32,
-    value: Value,
+    value: GivenValue,
     thread: u32,
 ) -> Result<(), AllocError>
     ensures { Appends result (deed_text typed.now (Deed.Spawns function value thread)) text.old.items text.new.items }

@@ -10,7 +10,7 @@ mod laws;
 mod lines;
 mod pieces;
 
-pub use cut::{Cut, Front, front_of};
+pub use cut::{Cut, EventPrefix, front_of};
 pub use file::file_text;
 pub use laws::lines_are_of_sources;
 pub use pieces::{put_cell, put_number, put_reference, put_signed};

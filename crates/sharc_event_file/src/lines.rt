@@ -11,7 +11,7 @@ ghost use Rattle.sharc_event_file.specs.Writing.{IsActOf, IsLineOf};
 use sharc_audit::is_name;
 use sharc_audit::line::{EventLine, LineAct};
 use sharc_ctype::typed::Typed;
-use sharc_said::{Deed, Event, Reference, Value, Where};
+use sharc_said::{Deed, Event, Reference, GivenValue, Where};
 use sharc_tree::event::{CellAt, Object};
 use sharc_tree::name::Name;
 use std::alloc::{AllocError, Global};
@@ -62,12 +62,12 @@ fn reference_of(reference: Reference) -> Option<i64>
     }
 }
 
-fn value_of(value: Value) -> Option<i64>
+fn value_of(value: GivenValue) -> Option<i64>
     ensures { MatchOption result (¬ (IsFitValue value)) (λ v. IsFitValue value × (v ≡ valued value)) }
 {
     match value {
-        Value::Int(value) => Some(value),
-        Value::Reference(reference) => reference_of(reference),
+        GivenValue::Int(value) => Some(value),
+        GivenValue::Reference(reference) => reference_of(reference),
     }
 }
 
@@ -88,7 +88,7 @@ fn name_of(typed: &Typed, function: u32) -> Option<&Name>
     }
 }
 
-fn read_act(at: Where, value: Value) -> Option<LineAct>
+fn read_act(at: Where, value: GivenValue) -> Option<LineAct>
     ensures { (r : Resolution)
         → MatchOption result (¬ (Writable r (Deed.Reads at value))) (IsActOf r (Deed.Reads at value)) }
 {
@@ -101,7 +101,7 @@ fn read_act(at: Where, value: Value) -> Option<LineAct>
     }
 }
 
-fn write_act(at: Where, value: Value) -> Option<LineAct>
+fn write_act(at: Where, value: GivenValue) -> Option<LineAct>
     ensures { (r : Resolution)
         → MatchOption result (¬ (Writable r (Deed.Writes at value))) (IsActOf r (Deed.Writes at value)) }
 {
@@ -172,7 +172,7 @@ fn unlock_act(at: Where) -> Option<LineAct>
     }
 }
 
-fn started_act(value: Value) -> Option<LineAct>
+fn started_act(value: GivenValue) -> Option<LineAct>
     ensures { (r : Resolution)
         → MatchOption result (¬ (Writable r (Deed.Starts value))) (IsActOf r (Deed.Starts value)) }
 {
@@ -198,7 +198,7 @@ fn spawn_act(
     alloc: Global,
     typed: &Typed,
     function: u32,
-    value: Value,
+    value: GivenValue,
     thread: u32,
 ) -> Result<Option<LineAct>, AllocError>
     ensures { IfOk result (λ act. MatchOption act (¬ (Writable typed.now (Deed.Spawns function value thread)))

@@ -8,7 +8,7 @@ ghost use Rattle.sharc_event_file.specs.Writing.{cell_text, reference_text, valu
 
 use itoa::Buffer;
 use sharc_ctype::typed::Typed;
-use sharc_said::{Reference, Value, Where};
+use sharc_said::{Reference, GivenValue, Where};
 use std::alloc::AllocError;
 
 pub fn put_number(text: &mut Vec<u8>, number: u64) -> Result<(), AllocError>
@@ -57,12 +57,12 @@ pub fn put_reference(text: &mut Vec<u8>, reference: Reference) -> Result<(), All
     put_number(text, reference.elements)
 }
 
-pub(crate) fn put_value(text: &mut Vec<u8>, value: Value) -> Result<(), AllocError>
+pub(crate) fn put_value(text: &mut Vec<u8>, value: GivenValue) -> Result<(), AllocError>
     ensures { Appends result (value_text value) text.old.items text.new.items }
 {
     match value {
-        Value::Int(value) => put_signed(text, value),
-        Value::Reference(reference) => put_reference(text, reference),
+        GivenValue::Int(value) => put_signed(text, value),
+        GivenValue::Reference(reference) => put_reference(text, reference),
     }
 }
 

@@ -27,7 +27,7 @@ struct Example<'a> {
 
 /// How many examples there are, and of how many something else was written.
 #[derive(Clone, Copy)]
-struct Counts {
+struct ExampleCounts {
     all: u32,
     different: u32,
 }
@@ -79,23 +79,23 @@ fn is_answered<R: Threads + Wait + Sync>(
 /// Counts an example, and writes which one it is where something else is written.
 fn count<R: Print + AllocGlobal + Threads + Wait + Sync>(
     rt: &R,
-    counts: Counts,
+    counts: ExampleCounts,
     first: &str,
     second: &str,
-) -> io::Result<Counts> {
+) -> io::Result<ExampleCounts> {
     let all = counts.all.saturating_add(1);
     let Some(e) = example_in(first, second) else {
         println!(rt; "not read: example {all}")?;
-        return Ok(Counts {
+        return Ok(ExampleCounts {
             all,
             different: counts.different.saturating_add(1),
         });
     };
     if is_answered(rt, rt.alloc(), &e)? {
-        return Ok(Counts { all, ..counts });
+        return Ok(ExampleCounts { all, ..counts });
     }
     println!(rt; "differs: {}", e.head)?;
-    Ok(Counts {
+    Ok(ExampleCounts {
         all,
         different: counts.different.saturating_add(1),
     })
@@ -105,7 +105,7 @@ fn main(rt: HostRuntime) -> io::Result<()> {
     let text = fs::read_to_string(&rt, "examples.txt")?;
     let mut parts = text.split("%%%% ");
     let _before = parts.next();
-    let mut counts = Counts {
+    let mut counts = ExampleCounts {
         all: 0,
         different: 0,
     };

@@ -5,7 +5,7 @@ use Rattle.sharc_tree.specs.{declared.token.Site.Site, declared.token.Span.Span}
 use Rattle.sharc_names.specs.Kinds.{Kind, is_integer, is_pointer}
 use Rattle.sharc_code.specs.{declared.instr.Register.Register, declared.instr.Register.TheVariants.{Int, Reference}}
 use Rattle.sharc_mode.specs.{Moded.Assignment, Sharings.Sharing}
-use Rattle.sharc_meaning.specs.{declared.given.GivenUp.TheVariants.Released, Places.{Place, variable, stored}, Reference.number_of, State.{State, Run, ◌>>=◌, is_reference, all_released, temporarily, done, gives_up as source_gives_up, drops}}
+use Rattle.sharc_meaning.specs.{declared.given.GivenUp.TheVariants.Released, Places.{StorePlace, variable, stored}, Reference.number_of, State.{State, Run, ◌>>=◌, is_reference, all_released, temporarily, done, gives_up as source_gives_up, drops}}
 use Rattle.sharc_flat_form.specs.{declared.op.Op.Op, declared.op.Spot.Spot, Machine.{goes, put}}
 use Rattle.sharc_flat_form.specs.declared.op.Op.TheVariants as op
 use Rattle.sharc_flat.specs.{declared.slot.Lvalue.Lvalue, Scope.{int_count, ref_count, register_of, slot_kind}, declared.slot.Slot.Slot, Places.{Target, in_global, in_global_at, in_object, in_object_at, has_base, base_width, field_of, guard_field, beside_field, guard_cell, guard_code, spot_of, drop_base, settle_base, settle_code, cell_store_code, store_code, cell_take_code, take_code, target, own_field, global_of, bounds_code, index_code, pointee_code, width_of, base_as_width, width_code, guard_width, index_width}, Suits.{PathStands, is_cell}, Flattened.drop_code}
@@ -17,7 +17,7 @@ module _ (m : Assignment) (z : Standing) (kind : Kind) (ints0 : ℕ → ℤ) whe
   S scope L ints refs s = Stand m z kind ints0 scope L ints refs s
 
   -- ---- what an lvalue names is not moved by what comes after it
-  lies_kept : (scope : List Slot) (t : Target) (guard : Option ℕ) (i : ℕ) (ints ints' : ℕ → ℤ) (bases : List ℤ) (p : Place) → ((n : ℕ) → n < z.ints + (i + index_width t guard) → ints' n ≡ ints n) → Lies m z scope t guard i ints bases p → Lies m z scope t guard i ints' bases p
+  lies_kept : (scope : List Slot) (t : Target) (guard : Option ℕ) (i : ℕ) (ints ints' : ℕ → ℤ) (bases : List ℤ) (p : StorePlace) → ((n : ℕ) → n < z.ints + (i + index_width t guard) → ints' n ≡ ints n) → Lies m z scope t guard i ints bases p → Lies m z scope t guard i ints' bases p
   lies_kept scope (targets.variable x) guard i ints ints' bases p kept h = h
   lies_kept scope (in_global g f) guard i ints ints' bases p kept h = h
   lies_kept scope (in_object f) guard i ints ints' bases p kept h = h
@@ -38,7 +38,7 @@ module _ (m : Assignment) (z : Standing) (kind : Kind) (ints0 : ℕ → ℤ) whe
   base_of b bases h r n e = omega (arith, bases_count b bases h)
 
   -- ---- an assignment to a cell
-  pub assign_cell_runs : (scope : List Slot) (t : Target) (ku kr : Kind) (place_run : Run Place) (pcode : ℕ → ℕ → List Op) (right : Run ℤ) (rcode : ℕ → ℕ → List Op) (site : Site) (lvalue : Lvalue) (mode : Sharing)
+  pub assign_cell_runs : (scope : List Slot) (t : Target) (ku kr : Kind) (place_run : Run StorePlace) (pcode : ℕ → ℕ → List Op) (right : Run ℤ) (rcode : ℕ → ℕ → List Op) (site : Site) (lvalue : Lvalue) (mode : Sharing)
       → is_cell t ≡ true → is_pointer ku ≡ is_reference ku → is_reference kr ≡ is_reference ku → (is_reference ku ≡ false → is_integer kr ≡ true) → PathStands m.typed scope mode
       → PlaceAs m z scope t None (beside_field m.typed mode) 0 place_run pcode → RunsAs m z scope kr 3 right rcode
       → (let c = context m z scope in let i = int_count scope in let r = ref_count scope in let vi = i + index_width t (beside_field m.typed mode) in let vr = r + base_width t in
@@ -121,7 +121,7 @@ module _ (m : Assignment) (z : Standing) (kind : Kind) (ints0 : ℕ → ℤ) whe
   settle_length i r (Reference n) = refl
 
   -- the place of a variable
-  pub assign_name_runs : (scope : List Slot) (x : ℕ) (ku kr : Kind) (place_run : Run Place) (pcode : ℕ → ℕ → List Op) (right : Run ℤ) (rcode : ℕ → ℕ → List Op) (site : Site) (mode : Sharing)
+  pub assign_name_runs : (scope : List Slot) (x : ℕ) (ku kr : Kind) (place_run : Run StorePlace) (pcode : ℕ → ℕ → List Op) (right : Run ℤ) (rcode : ℕ → ℕ → List Op) (site : Site) (mode : Sharing)
       → is_reference kr ≡ is_reference ku → (is_reference ku ≡ false → is_integer kr ≡ true) → slot_kind scope x ≡ Some (is_reference ku)
       → PlaceAs m z scope (targets.variable x) None (beside_field m.typed mode) 0 place_run pcode → RunsAs m z scope kr 3 right rcode
       → (let i = int_count scope in let r = ref_count scope in

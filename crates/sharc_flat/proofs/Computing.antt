@@ -5,7 +5,7 @@ use Rattle.sharc_tree.specs.{declared.ctype.Base.Base, declared.tree.expression.
 use Rattle.sharc_tree.specs.declared.ctype.Base.TheVariants as base
 use Rattle.sharc_names.specs.Kinds.{Kind, object, array, null, function, is_integer, int, long, promoted, is_long}
 use Rattle.sharc_mode.specs.Moded.{Assignment}
-use Rattle.sharc_meaning.specs.{Places.Place, State.{State, Run, ◌>>=◌, ◌>>◌, give, entered, is_reference, temporarily, done, holds_reference, stopped, holds}, Arithmetic.{bits_of, bits_of_base, is_zero, is_equal, truth, operated, in_range, is_held_by, divided, shifted}, Expressions.{resulting, operand}}
+use Rattle.sharc_meaning.specs.{Places.StorePlace, State.{State, Run, ◌>>=◌, ◌>>◌, give, entered, is_reference, temporarily, done, holds_reference, stopped, holds}, Arithmetic.{bits_of, bits_of_base, is_zero, is_equal, truth, operated, in_range, is_held_by, divided, shifted}, Expressions.{resulting, operand}}
 use Rattle.sharc_flat_form.specs.{declared.op.Op.Op, declared.op.Spot.Spot, Machine.{put, op_turn, with_result}}
 use Rattle.sharc_flat_form.specs.declared.op.Op.TheVariants as op
 use Rattle.sharc_flat.specs.{Scope.int_count, declared.slot.Slot.Slot, Places.{Target, width_of, base_as_width}, Flattened.operator_of}
@@ -97,7 +97,7 @@ module _ (m : Assignment) (z : Standing) (scope : List Slot) where
       (of_run T i r (pc + 1) c ints refs (record s { fuel = f }) k has.1 le re (same_frame z T scope [] ints refs s (record s { fuel = f }) refl refl a)
       (subst (λ q. Rest z kind T scope i q (c + 6) ints k) (sym end) rest))))
 
-  pub entered_place : (t : Target) (f guard : Option ℕ) (need : ℕ) (run : Run Place) (code : ℕ → ℕ → List Op) → need ≤ 7 → PlaceAs m z scope t f guard need run code → PlaceAs m z scope t f guard 0 (entered run) (λ i r. op.Enter ∷ code i r)
+  pub entered_place : (t : Target) (f guard : Option ℕ) (need : ℕ) (run : Run StorePlace) (code : ℕ → ℕ → List Op) → need ≤ 7 → PlaceAs m z scope t f guard need run code → PlaceAs m z scope t f guard 0 (entered run) (λ i r. op.Enter ∷ code i r)
   entered_place t f guard need run code few of_run T i r pc c ints refs s k has le re a rest =
       let end : pc + 1 + length (code i r) ≡ pc + length (op.Enter ∷ code i r) = omega arith in
       weaken z.flat s.fuel c (c + 0) _ s.answers _ (omega arith)

@@ -7,7 +7,7 @@ use Rattle.sharc_names.specs.Kinds.{Kind}
 use Rattle.sharc_code.specs.declared.code.Use.{Use}
 use Rattle.sharc_code.specs.declared.code.Use.TheVariants as uses
 use Rattle.sharc_mode.specs.{Moded.Assignment, Sharings.Sharing}
-use Rattle.sharc_meaning.specs.{Cells.cell_of, Places.{Place, cell, fetched, access_mode}, State.{State, Run, then_on, ◌>>=◌, answered, answer_of, value_in, value_of, is_reference, temporarily, reads_variable, reads}}
+use Rattle.sharc_meaning.specs.{Cells.cell_of, Places.{StorePlace, cell, fetched, access_mode}, State.{State, Run, then_on, ◌>>=◌, answered, answer_of, value_in, value_of, is_reference, temporarily, reads_variable, reads}}
 use Rattle.sharc_flat_form.specs.{declared.op.Op.Op, declared.op.Spot.Spot, Machine.{At, asks, put, accesses, accessed, next as on, set_int, set_ref, op_turn}}
 use Rattle.sharc_flat_form.specs.declared.op.Op.TheVariants as op
 use Rattle.sharc_flat.proofs.{Under.{under, mutex_of, accesses_under}, Banks.{put_same, put_other}, Runs.{HasAt, has_front, has_back, Fin, fin_then, Same, step, bind, without, after_event}, Agreeing.{Standing, place, Agree, push, with_int, same_frame, Rest}, Accessing.{variable_ref, context, access_runs, pending_place}, Values.{bases_count, variable_int, BasesOf, base_ends, base_settles, int_valued, ref_valued, RunsAs, bases_are, PlaceAs, AtCell, at_cell, open_at, temporarily_runs}}
@@ -19,7 +19,7 @@ module _ (m : Assignment) (z : Standing) (scope : List Slot) where
   ctx = context m z scope
 
   -- the value of a cell
-  module _ (T bases : List ℤ) (t : Target) (guard : Option ℕ) (i r : ℕ) (ints refs : ℕ → ℤ) (p : Place) (w : AtCell m z scope t guard i r ints refs p)
+  module _ (T bases : List ℤ) (t : Target) (guard : Option ℕ) (i r : ℕ) (ints refs : ℕ → ℤ) (p : StorePlace) (w : AtCell m z scope t guard i r ints refs p)
       (site : Site) (lvalue : Lvalue) (mode : Sharing) (guard_as : guard ≡ beside_field m.typed mode) (path : PathStands m.typed scope mode) (below_i : int_count scope ≤ i) (r_is : r ≡ ref_count scope + length T) (count : BasesOf (has_base t) bases) where
     -- what reads a reference from a cell, or takes it
     pub ref_cell_by : (o : Op) (use_made : Use) (act : CellAt → CellMode → Act)
@@ -123,7 +123,7 @@ module _ (m : Assignment) (z : Standing) (scope : List Slot) where
   value_code_is i r site lvalue mode b (in_object_at f) e = refl
 
   -- the value of a cell that an lvalue names
-  pub fetch_runs : (kind : Kind) (t : Target) (need : ℕ) (run : Run Place) (pcode : ℕ → ℕ → List Op) (site : Site) (lvalue : Lvalue) (mode : Sharing) → PlaceAs m z scope t None (beside_field m.typed mode) need run pcode
+  pub fetch_runs : (kind : Kind) (t : Target) (need : ℕ) (run : Run StorePlace) (pcode : ℕ → ℕ → List Op) (site : Site) (lvalue : Lvalue) (mode : Sharing) → PlaceAs m z scope t None (beside_field m.typed mode) need run pcode
       → is_cell t ≡ true → PathStands m.typed scope mode → RunsAs m z scope kind (need + 3) (temporarily (run >>= λ p. fetched m.typed site mode p)) (λ i r. pcode i r ++ value_code ctx i r site lvalue mode (is_reference kind) t)
   fetch_runs kind t need run pcode site lvalue mode found cell_t path T i r pc c ints refs s k has le re a rest =
       let vc = value_code ctx i r site lvalue mode (is_reference kind) t in

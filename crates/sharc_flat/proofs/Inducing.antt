@@ -1,12 +1,12 @@
 -- Every expression, by its form.
 use Rattle.std.proofs.{Common.{◌≡◌, ℕ, zero, suc, ◌+◌, ◌≤◌, Bool, true, false, cond, List, [], ◌∷◌, ◌++◌, length, Option, Some, None, refl, sym, ap, ◌∙◌, subst, arith, append_assoc}, lemmas.List.append-nil}
 use Rattle.std.specs.{Prelude.{neg_ℤ, ℤ, pos, ◌||◌, Ok, codes}, Str.bytes_eq}
-use Rattle.sharc_tree.specs.{declared.event.Object.TheVariants.{Global, Made}, declared.token.Site.Site, declared.token.Span.Span, declared.tree.expression.BinaryOperator.BinaryOperator, declared.tree.expression.BinaryOperator.TheVariants.{LogicalOr, LogicalAnd, BitOr, BitXor, BitAnd, Equal, NotEqual, Less, Greater, LessOrEqual, GreaterOrEqual, ShiftLeft, ShiftRight, Add, Subtract, Multiply, Divide, Remainder}, Tree.{Expression, identifier, constant, parentheses, call, spawn, on_value, on_place, cast, index, field, unary, binary, Arguments, no_arguments, argument}, Spans.span_of, declared.tree.expression.Access.TheVariants.{Dot, Arrow}, declared.tree.expression.UnaryOperator.TheVariants.{Negate, Not, Complement, Dereference}, declared.event.TakeKind.TakeKind, declared.tree.expression.PlaceCall.TheVariants.{Lock, Unlock, Free}}
+use Rattle.sharc_tree.specs.{declared.event.Object.TheVariants.{Global, Made}, declared.token.Site.Site, declared.token.Span.Span, declared.tree.expression.BinaryOperator.BinaryOperator, declared.tree.expression.BinaryOperator.TheVariants.{LogicalOr, LogicalAnd, BitOr, BitXor, BitAnd, Equal, NotEqual, Less, Greater, LessOrEqual, GreaterOrEqual, ShiftLeft, ShiftRight, Add, Subtract, Multiply, Divide, Remainder}, Tree.{Expression, identifier, constant, parentheses, call, spawn, on_value, on_place, cast, index, field, unary, binary, Arguments, no_arguments, argument}, Spans.span_of, declared.tree.expression.FieldOperator.TheVariants.{Dot, Arrow}, declared.tree.expression.UnaryOperator.TheVariants.{Negate, Not, Complement, Dereference}, declared.event.TakeKind.TakeKind, declared.tree.expression.PlaceCall.TheVariants.{Lock, Unlock, Free}}
 use Rattle.sharc_names.specs.{Kinds.{Kind, is_integer, int, promoted, is_long, declared_kinds, is_array, element_kind}, declared.fault.Named.Named}
 use Rattle.sharc_code.specs.declared.code.Use.{Use}
 use Rattle.sharc_code.specs.declared.code.Use.TheVariants as uses
 use Rattle.sharc_mode.specs.{Moded.Assignment, Sharings.Sharing, Cells.{cell_at as mode_in, pointed}, Rows.cast_row}
-use Rattle.sharc_meaning.specs.{Cells.{global_elements, element_cells, field_place_named}, Places.{Place, variable, cell, field_in, based, element, element_of_array, index_place, pointee_place, place_named, taken_from}, Reference.{number_of, elements_of, constant_value}, State.{Run, ◌>>=◌, ◌>>◌, give, entered, is_reference, temporarily}, Arithmetic.{bits_of, operated, negated, complement, in_range}, Expressions.{resulting, tested, operand, Calls, value_called, called, named_value, eval, eval_all, place_of, unary_value, binary_value, place_value, spawned, number_named, cast_value, place_called, taking}}
+use Rattle.sharc_meaning.specs.{Cells.{global_elements, element_cells, field_place_named}, Places.{StorePlace, variable, cell, field_in, based, element, element_of_array, index_place, pointee_place, place_named, taken_from}, Reference.{number_of, elements_of, constant_value}, State.{Run, ◌>>=◌, ◌>>◌, give, entered, is_reference, temporarily}, Arithmetic.{bits_of, operated, negated, complement, in_range}, Expressions.{resulting, tested, operand, Calls, value_called, called, named_value, eval, eval_all, place_of, unary_value, binary_value, place_value, spawned, number_named, cast_value, place_called, taking}}
 use Rattle.sharc_ctype.specs.{Resolved.{global_at, kind_at, named_at, structs_in}, Expressions.{constant_kind, class_of, binary_result}, declared.expr.OperatorClass.OperatorClass, declared.expr.OperatorClass.TheVariants.{Logical, Equality, Relation, Shift, Arithmetic}, Transfers.{parameters_named, parameters_of}}
 use Rattle.sharc_flat_form.specs.{declared.op.Op.Op, declared.op.Spot.Spot, Machine.{first_cell, with_result, kind_of, variable_of}}
 use Rattle.sharc_flat_form.specs.declared.op.Op.TheVariants as op
@@ -36,7 +36,7 @@ module _ (m : Assignment) (z : Standing) (scope : List Slot) where
   name_runs kind site span mode (named.Field n) h = nothing_runs m z scope kind h.0 h.1
   name_runs kind site span mode named.Known h = nothing_runs m z scope kind h.0 h.1
 
-  give_place : (t : Target) (f guard : Option ℕ) (p : Place) → ((i : ℕ) (bank : ℕ → ℤ) → Lies m z scope t guard i bank [] (within m z scope f p)) → PlaceAs m z scope t f guard 7 (give p) (λ i r. [])
+  give_place : (t : Target) (f guard : Option ℕ) (p : StorePlace) → ((i : ℕ) (bank : ℕ → ℤ) → Lies m z scope t guard i bank [] (within m z scope f p)) → PlaceAs m z scope t f guard 7 (give p) (λ i r. [])
   give_place t f guard p lies T i r pc c ints refs s k has le re a rest =
       let q : pc + 0 ≡ pc = omega arith in
       weaken z.flat s.fuel (c + 6) (c + 7) _ s.answers _ (omega arith)
@@ -177,7 +177,7 @@ module _ (m : Assignment) (z : Standing) (scope : List Slot) where
   code_same kind need run A B e h T i r pc c ints refs s k has le re a rest =
       h T i r pc c ints refs s k (subst (λ l. HasAt z.flat.lines pc l) (sym (e i r)) has) le re a (subst (λ l. Rest z kind T scope i (pc + length l) (c + 6) ints k) (sym (e i r)) rest)
 
-  take_by : (t : Target) (ka : Kind) (run : Run Place) (pcode : ℕ → ℕ → List Op) (token site : Site) (lvalue : Lvalue) (mode : Sharing) (form : Option ℕ → Use) (kind : TakeKind) → TakeSuits ctx mode t → PlaceAs m z scope t None (beside_field m.typed mode) 0 run pcode
+  take_by : (t : Target) (ka : Kind) (run : Run StorePlace) (pcode : ℕ → ℕ → List Op) (token site : Site) (lvalue : Lvalue) (mode : Sharing) (form : Option ℕ → Use) (kind : TakeKind) → TakeSuits ctx mode t → PlaceAs m z scope t None (beside_field m.typed mode) 0 run pcode
       → is_reference ka ≡ true → ((o : Option ℕ) → kind_of (form o) ≡ kind) → ((x : ℕ) → variable_of (form (Some x)) ≡ x)
       → RunsAs m z scope ka 3 (temporarily (run >>= λ p. taken_from m.typed token site mode kind p)) (λ i r. pcode i r ++ take_code ctx i r site lvalue mode form t)
   take_by (targets.variable x) ka run pcode token site lvalue mode form kind h found er ek ex = take_variable_runs m z scope ka x 0 run pcode token site lvalue mode form kind (beside_field m.typed mode) found h er (ek (Some x)) (ex x)
@@ -186,7 +186,7 @@ module _ (m : Assignment) (z : Standing) (scope : List Slot) where
   take_by (in_object f) ka run pcode token site lvalue mode form kind h found er ek ex = take_cell_runs m z scope ka (in_object f) 0 run pcode token site lvalue mode form kind found refl h er (ek None)
   take_by (in_object_at f) ka run pcode token site lvalue mode form kind h found er ek ex = take_cell_runs m z scope ka (in_object_at f) 0 run pcode token site lvalue mode form kind found refl h er (ek None)
 
-  cast_expression_runs : (kc : Kind) (s : Span) (a : Expression) (run : Run Place) (pcode : ℕ → ℕ → List Op) → is_reference kc ≡ true → TakeSuits ctx (mode_in m a) (target m.typed None a) → is_reference (kind_at m.typed a) ≡ true
+  cast_expression_runs : (kc : Kind) (s : Span) (a : Expression) (run : Run StorePlace) (pcode : ℕ → ℕ → List Op) → is_reference kc ≡ true → TakeSuits ctx (mode_in m a) (target m.typed None a) → is_reference (kind_at m.typed a) ≡ true
       → PathStands m.typed scope (pointed m (Some (cast_row m.typed s))) → PlaceAs m z scope (target m.typed None a) None (beside_field m.typed (mode_in m a)) 0 run pcode
       → RunsAs m z scope kc 5 (cast_value m s a run) (λ i r. cast_code ctx i r s a (pcode i r))
   cast_expression_runs kc s a run pcode ec h ea path found =
@@ -197,7 +197,7 @@ module _ (m : Assignment) (z : Standing) (scope : List Slot) where
       (cast_runs m z scope (element_cells m.typed (element_kind (kind_at m.typed a))) (kind_at m.typed a) kc (taking m s kinds.Cast a run) (λ i r. pcode i r ++ taken i r) site (tokens_in (span_of a)) (take_use uses.Cast (target m.typed None a)) (pointed m (Some (cast_row m.typed s))) ea ec path
       (take_by (target m.typed None a) (kind_at m.typed a) run pcode s.first site (lvalue_of m.typed a) (mode_in m a) uses.Cast kinds.Cast h found ea (λ o. refl) (λ x. refl)))
 
-  free_expression_runs : (kv : Kind) (s : Span) (a : Expression) (run : Run Place) (pcode : ℕ → ℕ → List Op) → is_reference kv ≡ false → is_integer kv ≡ false → TakeSuits ctx (mode_in m a) (target m.typed None a) → is_reference (kind_at m.typed a) ≡ true
+  free_expression_runs : (kv : Kind) (s : Span) (a : Expression) (run : Run StorePlace) (pcode : ℕ → ℕ → List Op) → is_reference kv ≡ false → is_integer kv ≡ false → TakeSuits ctx (mode_in m a) (target m.typed None a) → is_reference (kind_at m.typed a) ≡ true
       → PlaceAs m z scope (target m.typed None a) None (beside_field m.typed (mode_in m a)) 0 run pcode
       → RunsAs m z scope kv 5 (place_called m s Free a run >> give (pos 0)) (λ i r. place_call_code ctx i r s Free a (pcode i r))
   free_expression_runs kv s a run pcode er ei h ea found =
@@ -214,7 +214,7 @@ module _ (m : Assignment) (z : Standing) (scope : List Slot) where
   index_cell true g f h = refl
   index_cell false g f h = refl
 
-  index_by : (b : Bool) (a : Expression) (f guard : Option ℕ) (site : Site) (ki : Kind) (of_array : Run Place) (of_pointer number : Run ℤ) (ca cp ci : ℕ → ℕ → List Op) (A B : Type 0)
+  index_by : (b : Bool) (a : Expression) (f guard : Option ℕ) (site : Site) (ki : Kind) (of_array : Run StorePlace) (of_pointer number : Run ℤ) (ca cp ci : ℕ → ℕ → List Op) (A B : Type 0)
       → (let r0 = m.typed in let g = global_of (target r0 None a) in let cells = element_cells r0 (element_kind (kind_at r0 a)) in
       Either b (A × (target r0 None a ≡ in_global g 0)) (B × (is_reference (kind_at r0 a) ≡ true)) → is_integer ki ≡ true
       → (A → PlaceAs m z scope (target r0 None a) None None 0 of_array ca) → (B → RunsAs m z scope (kind_at r0 a) 0 of_pointer cp) → RunsAs m z scope ki 0 number ci
@@ -234,7 +234,7 @@ module _ (m : Assignment) (z : Standing) (scope : List Slot) where
     abbrev X : Expression → ℕ → ℕ → List Op
     X e i r = expression_code ctx i r e
 
-    abbrev P : Site → Expression → Run Place
+    abbrev P : Site → Expression → Run StorePlace
     P site e = place_of on_call m site e
 
     abbrev L : Site → Option ℕ → Option ℕ → Expression → ℕ → ℕ → List Op
@@ -247,7 +247,7 @@ module _ (m : Assignment) (z : Standing) (scope : List Slot) where
     N token = named_at m.typed token
 
     -- what is read of an lvalue
-    fetched_runs : (e : Expression) (need : ℕ) (run : Run Place) (pcode : ℕ → ℕ → List Op) → need ≤ 4 → PlaceAs m z scope (target m.typed None e) None (beside_field m.typed (mode_in m e)) need run pcode
+    fetched_runs : (e : Expression) (need : ℕ) (run : Run StorePlace) (pcode : ℕ → ℕ → List Op) → need ≤ 4 → PlaceAs m z scope (target m.typed None e) None (beside_field m.typed (mode_in m e)) need run pcode
         → is_cell (target m.typed None e) ≡ true → PathStands m.typed scope (mode_in m e)
         → RunsAs m z scope (K e) 0 (entered (place_value m e run)) (λ i r. op.Enter ∷ (pcode i r ++ lvalue_code ctx i r e))
     fetched_runs e need run pcode few found cell_t path =
@@ -257,13 +257,13 @@ module _ (m : Assignment) (z : Standing) (scope : List Slot) where
     none_runs : (f guard : Option ℕ) → PlaceAs m z scope (targets.variable 0) f guard 0 (entered (give (variable 0))) (λ i r. op.Enter ∷ [])
     none_runs f guard = entered_place m z scope (targets.variable 0) f guard 7 (give (variable 0)) (λ i r. []) (omega arith) (no_place_runs f guard)
 
-    abbrev at_index : Site → Expression → Expression → Run Place
+    abbrev at_index : Site → Expression → Expression → Run StorePlace
     at_index site a x = index_place m.typed site a (P site a) (E a) (E x)
 
     abbrev index_op : Site → Option ℕ → Option ℕ → Expression → Expression → ℕ → ℕ → List Op
     index_op site f guard a x i r = index_code ctx i r site f guard a (L site None None a i r) (X a i r) (λ d. X x i d)
 
-    abbrev arrow : Site → Expression → ℕ → Run Place
+    abbrev arrow : Site → Expression → ℕ → Run StorePlace
     arrow site a n = pointee_place m.typed site a (E a) >>= λ p. give (field_in n p)
 
     mutual

@@ -1,6 +1,6 @@
 -- What a program that suits says of its calls: each names a function. And break and continue are in loops.
 use Rattle.std.proofs.Common.{◌≡◌, ℕ, zero, suc, Bool, true, false, List, [], ◌∷◌, Option, Some, None}
-use Rattle.sharc_tree.specs.{declared.tree.expression.Access.Access, declared.tree.expression.Access.TheVariants.{Dot, Arrow}, declared.tree.expression.UnaryOperator.TheVariants.{Negate, Not, Complement, Dereference}, declared.tree.declaration.Declaration.Declaration, Tree.{Expression, identifier, constant, parentheses, call, spawn, on_value, on_place, cast, index, field, unary, binary, Arguments, no_arguments, argument, Right, value, malloc, Simple, assign, does_call, First, nothing, declares, does, Statement, empty, block, declare, simple, jump, return, if_then, if_then_else, while, for, Statements, no_statements, statement, Function}}
+use Rattle.sharc_tree.specs.{declared.tree.expression.FieldOperator.FieldOperator, declared.tree.expression.FieldOperator.TheVariants.{Dot, Arrow}, declared.tree.expression.UnaryOperator.TheVariants.{Negate, Not, Complement, Dereference}, declared.tree.declaration.Declaration.Declaration, Tree.{Expression, identifier, constant, parentheses, call, spawn, on_value, on_place, cast, index, field, unary, binary, Arguments, no_arguments, argument, Right, value, malloc, Simple, assign, does_call, First, nothing, declares, does, Statement, empty, block, declare, simple, jump, return, if_then, if_then_else, while, for, Statements, no_statements, statement, Function}}
 use Rattle.sharc_names.specs.{declared.fault.Named.Named, Kinds.{Kind, is_array, declared_kind}}
 use Rattle.sharc_names.specs.declared.fault.Named.TheVariants as named
 use Rattle.sharc_ctype.specs.Resolved.{Resolution, function_at, kind_at, named_at}
@@ -21,7 +21,7 @@ module _ (F : ℕ → Type 0) where
   call_know c k kind (named.Variable n) arguments known X h f g = absurd h
   call_know c k kind (named.Field n) arguments known X h f g = absurd h
 
-  field_know : {A B X Y : Type 0} (c : Context) (w : Access) (a : Expression) → FieldSuits c w a A B → (A → X) → (B → Y) → ByAccess w X Y
+  field_know : {A B X Y : Type 0} (c : Context) (w : FieldOperator) (a : Expression) → FieldSuits c w a A B → (A → X) → (B → Y) → ByAccess w X Y
   field_know c Dot a h f g = f h
   field_know c Arrow a h f g = g h.0
 

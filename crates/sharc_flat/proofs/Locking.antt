@@ -5,7 +5,7 @@ use Rattle.sharc_tree.specs.declared.event.Act.TheVariants as acts
 use Rattle.sharc_tree.specs.{declared.token.Site.Site, declared.token.Span.Span, declared.trap.Trap.Trap}
 use Rattle.sharc_names.specs.Kinds.{Kind, is_integer}
 use Rattle.sharc_mode.specs.Moded.{Assignment}
-use Rattle.sharc_meaning.specs.{declared.given.GivenUp.TheVariants.Released, Cells.cell_of, Places.Place, Reference.number_of, State.{State, Run, ◌>>=◌, ◌>>◌, give, happens, is_reference, temporarily, performs, without_temporaries, stopped, unless_stop, event_of}, Waiting.{lock_call, unlock_call, moves_base, gives_up_base, cell_at_place}, Events.{holds_mutex, held_mutexes}}
+use Rattle.sharc_meaning.specs.{declared.given.GivenUp.TheVariants.Released, Cells.cell_of, Places.StorePlace, Reference.number_of, State.{State, Run, ◌>>=◌, ◌>>◌, give, happens, is_reference, temporarily, performs, without_temporaries, stopped, unless_stop, event_of}, Waiting.{lock_call, unlock_call, moves_base, gives_up_base, cell_at_place}, Events.{holds_mutex, held_mutexes}}
 use Rattle.sharc_flat_form.specs.{declared.op.Op.Op, declared.op.Spot.Spot, Machine.{At, goes, asks, put, cell_at, next as on, set_ref, op_turn, asserts, without_base, base_of}}
 use Rattle.sharc_flat_form.specs.declared.op.Op.TheVariants as op
 use Rattle.sharc_tree.specs.declared.trap.Trap.TheVariants as traps
@@ -19,7 +19,7 @@ module _ (m : Assignment) (z : Standing) (scope : List Slot) where
   ctx = context m z scope
 
   -- whether the base of a mutex is a reference
-  record BaseAs (b : Bool) (t : Target) (i r : ℕ) (p : Place) (bases : List ℤ) : Type 0 where
+  record BaseAs (b : Bool) (t : Target) (i r : ℕ) (p : StorePlace) (bases : List ℤ) : Type 0 where
     has : has_base t ≡ b
     count : BasesOf b bases
     moves : (u : State) (k : Unit {0} → State → Fin) → fin_then (moves_base p u) k ≡ cond b (k tt (record u { frame = without_temporaries 1 u.frame })) (k tt u)
@@ -30,7 +30,7 @@ module _ (m : Assignment) (z : Standing) (scope : List Slot) where
   same_head : (a b : ℤ) → a ∷ [] ≡ b ∷ [] → a ≡ b
   same_head a b h = cc
 
-  base_as : (t : Target) (guard : Option ℕ) (i r : ℕ) (bank : ℕ → ℤ) (bases : List ℤ) (p : Place) → is_cell t ≡ true → Lies m z scope t guard i bank bases p → BaseAs (has_base t) t i r p bases
+  base_as : (t : Target) (guard : Option ℕ) (i r : ℕ) (bank : ℕ → ℤ) (bases : List ℤ) (p : StorePlace) → is_cell t ≡ true → Lies m z scope t guard i bank bases p → BaseAs (has_base t) t i r p bases
   base_as (targets.variable x) guard i r bank bases p c h = absurd (cc)
   base_as (in_global g f) guard i r bank bases p c h = record {
     has = refl;
@@ -72,7 +72,7 @@ module _ (m : Assignment) (z : Standing) (scope : List Slot) where
   chk_by false o trap site pc c ints refs s k at is h rest = ends z.flat o (stopped trap site) c s (place z pc ints refs s) h refl refl at is
 
   -- `lock`, after its tests
-  lock_by : (b : Bool) (T bases : List ℤ) (t : Target) (i r pc c : ℕ) (p : Place) (site : Site) (words : Span) (ints refs : ℕ → ℤ) (s : State) (k : Unit {0} → State → Fin) → BaseAs b t i r p bases → r ≡ ref_count scope + length T
+  lock_by : (b : Bool) (T bases : List ℤ) (t : Target) (i r pc c : ℕ) (p : StorePlace) (site : Site) (words : Span) (ints refs : ℕ → ℤ) (s : State) (k : Unit {0} → State → Fin) → BaseAs b t i r p bases → r ≡ ref_count scope + length T
       → ((pc : ℕ) (u : State) → cell_at z.flat.globals (place z pc ints refs u) (targets.cell_of z.flat.globals i r t) ≡ cell_at_place p) → slice_get z.flat.lines pc ≡ Some (op.Lock (targets.cell_of z.flat.globals i r t) (at_words site words Other)) → Agree z (T ++ bases) scope [] ints refs s
       → ((refs' : ℕ → ℤ) (u : State) → Agree z T scope [] ints refs' u → Same z.flat u.fuel c (k tt u) u.answers (place z (pc + 1) ints refs' u))
       → Same z.flat s.fuel (c + 1) (fin_then ((performs site (acts.Lock (cell_at_place p)) >> moves_base p) s) k) s.answers (place z pc ints refs s)
@@ -92,7 +92,7 @@ module _ (m : Assignment) (z : Standing) (scope : List Slot) where
       by true is u e1 e2 h = rest (put refs (z.refs + r) (pos 0)) (record u { frame = without_temporaries 1 u.frame }) (moved_on m z scope T is.0 r ints refs u re (subst (λ bs. Agree z (T ++ bs) scope [] ints refs u) is.1 h))
       by false is u e1 e2 h = rest refs u (subst (λ t. Agree z t scope [] ints refs u) (append-nil T) (subst (λ bs. Agree z (T ++ bs) scope [] ints refs u) is h))
 
-  pub lock_runs : (kv : Kind) (t : Target) (run : Run Place) (pcode : ℕ → ℕ → List Op) (site : Site) (words : Span) → PlaceAs m z scope t None None 0 run pcode → is_cell t ≡ true → is_reference kv ≡ false → is_integer kv ≡ false
+  pub lock_runs : (kv : Kind) (t : Target) (run : Run StorePlace) (pcode : ℕ → ℕ → List Op) (site : Site) (words : Span) → PlaceAs m z scope t None None 0 run pcode → is_cell t ≡ true → is_reference kv ≡ false → is_integer kv ≡ false
       → RunsAs m z scope kv 4 (temporarily (run >>= λ p. lock_call site p) >> give (pos 0))
       (λ i r. pcode i r ++ (op.ChkNotHeld (targets.cell_of z.flat.globals i r t) (at_site site) ∷ op.ChkRoom (at_site site) ∷ op.Lock (targets.cell_of z.flat.globals i r t) (at_words site words Other) ∷ []))
   lock_runs kv t run pcode site words found cell_t er ei T i r pc c ints refs s k has le re a rest =
@@ -132,7 +132,7 @@ module _ (m : Assignment) (z : Standing) (scope : List Slot) where
   null_one (suc n) = refl
 
   -- `unlock`, after its test
-  unlock_by : (b : Bool) (T bases : List ℤ) (t : Target) (i r pc c : ℕ) (p : Place) (site : Site) (ints refs : ℕ → ℤ) (s : State) (k : Unit {0} → State → Fin) → BaseAs b t i r p bases → r ≡ ref_count scope + length T
+  unlock_by : (b : Bool) (T bases : List ℤ) (t : Target) (i r pc c : ℕ) (p : StorePlace) (site : Site) (ints refs : ℕ → ℤ) (s : State) (k : Unit {0} → State → Fin) → BaseAs b t i r p bases → r ≡ ref_count scope + length T
       → ((pc : ℕ) (u : State) → cell_at z.flat.globals (place z pc ints refs u) (targets.cell_of z.flat.globals i r t) ≡ cell_at_place p)
       → HasAt z.flat.lines pc (op.Unlock (r + cond b 1 0) (targets.cell_of z.flat.globals i r t) (at_site site) ∷ cond b (op.Pop (r + 1) ∷ op.Pop r ∷ []) []) → Agree z (T ++ bases) scope [] ints refs s
       → ((refs' : ℕ → ℤ) (u : State) → Agree z T scope [] ints refs' (without (length T) u) → Same z.flat u.fuel c (k tt u) u.answers (place z (pc + 1 + length (cond b (op.Pop (r + 1) ∷ op.Pop r ∷ []) [])) ints refs' (without (length T) u)))
@@ -187,7 +187,7 @@ module _ (m : Assignment) (z : Standing) (scope : List Slot) where
       (subst (λ q. Same z.flat s.fuel c (k tt u) answers q) n3.1
       (subst (λ q. Same z.flat s.fuel c (k tt u) answers (place z q ints refs2 (without (length T) u))) (sym q0) (rest refs2 u n3.0)))))))
 
-  pub unlock_runs : (kv : Kind) (t : Target) (run : Run Place) (pcode : ℕ → ℕ → List Op) (site : Site) → PlaceAs m z scope t None None 0 run pcode → is_cell t ≡ true → is_reference kv ≡ false → is_integer kv ≡ false
+  pub unlock_runs : (kv : Kind) (t : Target) (run : Run StorePlace) (pcode : ℕ → ℕ → List Op) (site : Site) → PlaceAs m z scope t None None 0 run pcode → is_cell t ≡ true → is_reference kv ≡ false → is_integer kv ≡ false
       → RunsAs m z scope kv 4 (temporarily (run >>= λ p. unlock_call site p) >> give (pos 0))
       (λ i r. pcode i r ++ (op.ChkHeld (targets.cell_of z.flat.globals i r t) (at_site site) ∷ op.Unlock (r + base_width t) (targets.cell_of z.flat.globals i r t) (at_site site) ∷ unlocked_code r t))
   unlock_runs kv t run pcode site found cell_t er ei T i r pc c ints refs s k has le re a rest =

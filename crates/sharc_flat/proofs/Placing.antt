@@ -5,7 +5,7 @@ use Rattle.sharc_tree.specs.{declared.event.Object.Object, declared.event.Object
 use Rattle.sharc_tree.specs.declared.trap.Trap.TheVariants as traps
 use Rattle.sharc_names.specs.Kinds.{Kind, is_integer}
 use Rattle.sharc_mode.specs.Moded.{Assignment}
-use Rattle.sharc_meaning.specs.{Cells.global_elements, Places.{Place, variable, cell, field_in, pointee, based, element, element_of_array}, Reference.{number_of, is_null, elements_of}, State.{State, Run, then_on, ◌>>=◌, ◌>>◌, give, is_reference, done, holds_reference, with_temporary, stop, stopped, unless_stop}}
+use Rattle.sharc_meaning.specs.{Cells.global_elements, Places.{StorePlace, variable, cell, field_in, pointee, based, element, element_of_array}, Reference.{number_of, is_null, elements_of}, State.{State, Run, then_on, ◌>>=◌, ◌>>◌, give, is_reference, done, holds_reference, with_temporary, stop, stopped, unless_stop}}
 use Rattle.sharc_ctype.specs.Resolved.{global_at}
 use Rattle.sharc_flat_form.specs.{declared.op.Op.Op, declared.op.Spot.Spot, Machine.{goes, put, first_cell, set_int, op_turn, indexed, halts, asserts, goes_on}}
 use Rattle.sharc_flat_form.specs.declared.op.Op.TheVariants as op
@@ -38,7 +38,7 @@ module _ (m : Assignment) (z : Standing) (scope : List Slot) where
   -- an index becomes the number of a cell
   module _ (T bases : List ℤ) (site : Site) (refs : ℕ → ℤ) (bounds : ℕ → ℕ → Op) (cells elements : ℕ) (off : ℕ → ℕ) (o : Object)
       (turn_is : (j f pc : ℕ) (ints : ℕ → ℤ) (u : State) → op_turn z.flat (bounds j f) (place z pc ints refs u) ≡ indexed j cells (off f) (ints (z.ints + j)) elements (at_site site) (place z pc ints refs u)) where
-    abbrev Found : ℕ → ℕ → Option ℕ → ℕ → ℕ → (ℕ → ℤ) → State → (Place → State → Fin) → Type 0
+    abbrev Found : ℕ → ℕ → Option ℕ → ℕ → ℕ → (ℕ → ℤ) → State → (StorePlace → State → Fin) → Type 0
     Found i f guard pc c ints s k = (n : ℕ) (ints' : ℕ → ℤ) → Agree z (T ++ bases) scope [] ints' refs s → ((q : ℕ) → q < z.ints + i → ints' q ≡ ints q) → ints' (z.ints + i) ≡ pos (n * cells + off f)
         → ((mutex : ℕ) → guard ≡ Some mutex → ints' (z.ints + (i + 1)) ≡ pos (n * cells + off mutex)) → Same z.flat s.fuel c (k (cell o (n * cells) (n * cells)) s) s.answers (place z pc ints' refs s)
 
@@ -51,7 +51,7 @@ module _ (m : Assignment) (z : Standing) (scope : List Slot) where
     stops_below : (j f n pc : ℕ) (ints : ℕ → ℤ) (u : State) → ints (z.ints + j) ≡ negsuc n → op_turn z.flat (bounds j f) (place z pc ints refs u) ≡ halts (stopped traps.IndexOutOfBounds site)
     stops_below j f n pc ints u v = turn_is j f pc ints u ∙ ap (λ x. indexed j cells (off f) x elements (at_site site) (place z pc ints refs u)) v
 
-    element_by : (b : Bool) (n i f : ℕ) (guard : Option ℕ) (pc c : ℕ) (ints : ℕ → ℤ) (s : State) (k : Place → State → Fin) → nat_lt n elements ≡ b → int_count scope ≤ i → HasAt z.flat.lines pc (bounds_code bounds i f guard) → Agree z (T ++ bases) scope [] ints refs s → ints (z.ints + i) ≡ pos n
+    element_by : (b : Bool) (n i f : ℕ) (guard : Option ℕ) (pc c : ℕ) (ints : ℕ → ℤ) (s : State) (k : StorePlace → State → Fin) → nat_lt n elements ≡ b → int_count scope ≤ i → HasAt z.flat.lines pc (bounds_code bounds i f guard) → Agree z (T ++ bases) scope [] ints refs s → ints (z.ints + i) ≡ pos n
         → Found i f guard (pc + length (bounds_code bounds i f guard)) c ints s k → Same z.flat s.fuel (c + 3) (fin_then ((cond b (give (cell o (n * cells) (n * cells))) (stop traps.IndexOutOfBounds site)) s) k) s.answers (place z pc ints refs s)
     element_by true n i f None pc c ints s k e le has a v rest =
         weaken z.flat s.fuel (c + 1) (c + 3) _ s.answers _ (omega arith)
@@ -102,7 +102,7 @@ module _ (m : Assignment) (z : Standing) (scope : List Slot) where
         (step z.flat (op.Move (i + 1) i) s.fuel (c + 1) _ s.answers (place z pc ints refs s) (place z (pc + 1) ints1 refs s) has.0 refl
         (ends z.flat (bounds i f) (stopped traps.IndexOutOfBounds site) c s (place z (pc + 1) ints1 refs s) (holding z (T ++ bases) scope ints refs s a) refl refl has.1.0 (stops_below i f n (pc + 1) ints1 s v1)))
 
-    pub element_runs : (v : ℤ) (i f : ℕ) (guard : Option ℕ) (pc c : ℕ) (ints : ℕ → ℤ) (s : State) (k : Place → State → Fin) → int_count scope ≤ i → HasAt z.flat.lines pc (bounds_code bounds i f guard) → Agree z (T ++ bases) scope [] ints refs s → ints (z.ints + i) ≡ v
+    pub element_runs : (v : ℤ) (i f : ℕ) (guard : Option ℕ) (pc c : ℕ) (ints : ℕ → ℤ) (s : State) (k : StorePlace → State → Fin) → int_count scope ≤ i → HasAt z.flat.lines pc (bounds_code bounds i f guard) → Agree z (T ++ bases) scope [] ints refs s → ints (z.ints + i) ≡ v
         → Found i f guard (pc + length (bounds_code bounds i f guard)) c ints s k → Same z.flat s.fuel (c + 3) (fin_then (element site o cells elements v s) k) s.answers (place z pc ints refs s)
     element_runs (pos n) i f guard pc c ints s k le has a v rest = element_by (nat_lt n elements) n i f guard pc c ints s k refl le has a v rest
     element_runs (negsuc n) i f guard pc c ints s k le has a v rest = below_by n i f guard pc c ints s has a v
@@ -163,7 +163,7 @@ module _ (m : Assignment) (z : Standing) (scope : List Slot) where
   field_first (Some n) first o = refl
 
   -- `a[i]` in a global array
-  pub array_index_runs : (g : ℕ) (t : Target) (ki : Kind) (f guard : Option ℕ) (site : Site) (cells : ℕ) (of_base : Run Place) (number : Run ℤ) (ca : ℕ → ℕ → List Op) (ci : ℕ → ℕ → List Op) → t ≡ in_global g 0 → is_integer ki ≡ true
+  pub array_index_runs : (g : ℕ) (t : Target) (ki : Kind) (f guard : Option ℕ) (site : Site) (cells : ℕ) (of_base : Run StorePlace) (number : Run ℤ) (ca : ℕ → ℕ → List Op) (ci : ℕ → ℕ → List Op) → t ≡ in_global g 0 → is_integer ki ≡ true
       → PlaceAs m z scope t None None 0 of_base ca → RunsAs m z scope ki 0 number ci
       → PlaceAs m z scope (in_global_at g (own_field f 0)) f guard 0 (of_base >>= λ base. number >>= λ n. element_of_array m.typed site cells base n)
       (λ i r. ca i r ++ (ci i r ++ bounds_code (λ j n. op.GlobalBounds j (global_elements (global_at m.typed g)) cells (first_cell z.flat.globals g + n) (at_site site)) i (own_field f 0) guard))
@@ -200,7 +200,7 @@ module _ (m : Assignment) (z : Standing) (scope : List Slot) where
 
   -- what a pointer refers to
   pub pointee_runs : (ka : Kind) (site : Site) (pointer : Run ℤ) (cp : ℕ → ℕ → List Op) → is_reference ka ≡ true → RunsAs m z scope ka 0 pointer cp
-      → (T : List ℤ) (i r pc c : ℕ) (ints refs : ℕ → ℤ) (s : State) (k : Place → State → Fin) → HasAt z.flat.lines pc (pointee_code r site (cp i r)) → int_count scope ≤ i → r ≡ ref_count scope + length T → Agree z T scope [] ints refs s
+      → (T : List ℤ) (i r pc c : ℕ) (ints refs : ℕ → ℤ) (s : State) (k : StorePlace → State → Fin) → HasAt z.flat.lines pc (pointee_code r site (cp i r)) → int_count scope ≤ i → r ≡ ref_count scope + length T → Agree z T scope [] ints refs s
       → ((p : ℤ) (ints' refs' : ℕ → ℤ) (u : State) → is_null p ≡ false → Agree z (T ++ p ∷ []) scope [] ints' refs' u → ((q : ℕ) → q < z.ints + i → ints' q ≡ ints q) → Same z.flat u.fuel (c + 6) (k (pointee p) u) u.answers (place z (pc + length (pointee_code r site (cp i r))) ints' refs' u))
       → Same z.flat s.fuel (c + 1) (fin_then ((pointer >>= λ p. based site ka p >> give (pointee p)) s) k) s.answers (place z pc ints refs s)
   pointee_runs ka site pointer cp ea of_pointer T i r pc c ints refs s k has le re a rest =
@@ -236,13 +236,13 @@ module _ (m : Assignment) (z : Standing) (scope : List Slot) where
       (pointee_runs ka site pointer cp ea of_pointer T i r pc c ints refs s (λ p u. k (field_in n p) u) has le re a
       (λ p ints1 refs1 u not_null a1 kept. rest (field_in n (pointee p)) (p ∷ []) ints1 refs1 u (record { agree = a1; kept = kept; lies = (p, refl, field_own f n (Made (number_of p)), not_null) })))
 
-  field_twice : (f : Option ℕ) (n : ℕ) (p : Place) → within m z scope f (field_in n p) ≡ within m z scope (Some (own_field f n)) p
+  field_twice : (f : Option ℕ) (n : ℕ) (p : StorePlace) → within m z scope f (field_in n p) ≡ within m z scope (Some (own_field f n)) p
   field_twice None n p = refl
   field_twice (Some x) n (variable y) = refl
   field_twice (Some x) n (cell o first c) = refl
 
   -- `a.n`
-  pub dot_runs : (t : Target) (f guard : Option ℕ) (n : ℕ) (base : Run Place) (cb : ℕ → ℕ → List Op) → PlaceAs m z scope t (Some (own_field f n)) guard 0 base cb → PlaceAs m z scope t f guard 0 (base >>= λ p. give (field_in n p)) cb
+  pub dot_runs : (t : Target) (f guard : Option ℕ) (n : ℕ) (base : Run StorePlace) (cb : ℕ → ℕ → List Op) → PlaceAs m z scope t (Some (own_field f n)) guard 0 base cb → PlaceAs m z scope t f guard 0 (base >>= λ p. give (field_in n p)) cb
   dot_runs t f guard n base cb of_base T i r pc c ints refs s k has le re a rest =
       bind z.flat s.fuel (c + 0) s.answers (base s) (λ p. give (field_in n p)) k (place z pc ints refs s)
       (of_base T i r pc c ints refs s (λ p u. k (field_in n p) u) has le re a

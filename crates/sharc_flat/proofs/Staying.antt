@@ -1,7 +1,7 @@
 -- Forward jumps of the code of an expression stay in it, or lead directly after it, and it has no other jumps.
 use Rattle.std.proofs.Common.{◌≡◌, ℕ, ◌+◌, ◌≤◌, Bool, true, false, cond, List, [], ◌∷◌, ◌++◌, length, drop, Option, Some, None, refl, arith, length-append}
 use Rattle.std.specs.{Prelude.{codes, ◌||◌}, Str.bytes_eq}
-use Rattle.sharc_tree.specs.{declared.token.Site.Site, declared.token.Span.Span, declared.tree.declaration.Identifier.Identifier, declared.tree.expression.Access.Access, declared.tree.expression.Access.TheVariants.{Dot, Arrow}, declared.tree.expression.BinaryOperator.BinaryOperator, declared.tree.expression.BinaryOperator.TheVariants.{LogicalOr, LogicalAnd, BitOr, BitXor, BitAnd, Equal, NotEqual, Less, Greater, LessOrEqual, GreaterOrEqual, ShiftLeft, ShiftRight, Add, Subtract, Multiply, Divide, Remainder}, declared.tree.expression.Constant.Constant, declared.tree.expression.PlaceCall.PlaceCall, declared.tree.expression.PlaceCall.TheVariants.{Lock, Unlock, Free}, declared.tree.expression.UnaryOperator.UnaryOperator, declared.tree.expression.UnaryOperator.TheVariants.{Negate, Not, Complement, Dereference}, declared.tree.expression.ValueCall.ValueCall, declared.tree.expression.ValueCall.TheVariants.{Join, Print}, Spans.span_of, Tree.{Expression, identifier, constant, parentheses, call, spawn, on_value, on_place, cast, index, field, unary, binary, Arguments, no_arguments, argument}}
+use Rattle.sharc_tree.specs.{declared.token.Site.Site, declared.token.Span.Span, declared.tree.declaration.Identifier.Identifier, declared.tree.expression.FieldOperator.FieldOperator, declared.tree.expression.FieldOperator.TheVariants.{Dot, Arrow}, declared.tree.expression.BinaryOperator.BinaryOperator, declared.tree.expression.BinaryOperator.TheVariants.{LogicalOr, LogicalAnd, BitOr, BitXor, BitAnd, Equal, NotEqual, Less, Greater, LessOrEqual, GreaterOrEqual, ShiftLeft, ShiftRight, Add, Subtract, Multiply, Divide, Remainder}, declared.tree.expression.Constant.Constant, declared.tree.expression.PlaceCall.PlaceCall, declared.tree.expression.PlaceCall.TheVariants.{Lock, Unlock, Free}, declared.tree.expression.UnaryOperator.UnaryOperator, declared.tree.expression.UnaryOperator.TheVariants.{Negate, Not, Complement, Dereference}, declared.tree.expression.ValueCall.ValueCall, declared.tree.expression.ValueCall.TheVariants.{Join, Print}, Spans.span_of, Tree.{Expression, identifier, constant, parentheses, call, spawn, on_value, on_place, cast, index, field, unary, binary, Arguments, no_arguments, argument}}
 use Rattle.sharc_names.specs.{declared.fault.Named.Named, Kinds.{int, long, is_long, promoted, common, Kind, is_array, is_integer, element_kind, declared_kinds}}
 use Rattle.sharc_names.specs.declared.fault.Named.TheVariants as named
 use Rattle.sharc_code.specs.{declared.instr.Width.Width, declared.code.Use.Use, declared.instr.Register.Register, declared.instr.Register.TheVariants.{Int, Reference}}
@@ -35,7 +35,7 @@ abbrev pub KnownName : (ℕ → Type 0) → Named → Type 0
 KnownName F (named.Function f) = F f
 KnownName F _ = Unit {0}
 
-abbrev pub ByAccess : Access → Type 0 → Type 0 → Type 0
+abbrev pub ByAccess : FieldOperator → Type 0 → Type 0 → Type 0
 ByAccess Dot A B = A
 ByAccess Arrow A B = B
 
@@ -70,7 +70,7 @@ pub either_map : {A B C D : Type 0} (b : Bool) → (A → C) → (B → D) → E
 either_map true f g h = f h
 either_map false f g h = g h
 
-access_map : {A B C D : Type 0} (w : Access) → (A → C) → (B → D) → ByAccess w A B → ByAccess w C D
+access_map : {A B C D : Type 0} (w : FieldOperator) → (A → C) → (B → D) → ByAccess w A B → ByAccess w C D
 access_map Dot f g h = f h
 access_map Arrow f g h = g h
 
@@ -309,7 +309,7 @@ module _ (A F : ℕ → Type 0) where
         indexes_by (is_array (kind_at c.program.typed a)) r xs ys (bounds_code of_array i (own_field f 0) guard) (bounds_code of_pointer i (own_field f 0) guard) number (op.ChkNull r (at_site site)) tt h n
         (bounded of_array i (own_field f 0) guard (λ i n k. tt)) (bounded of_pointer i (own_field f 0) guard (λ i n k. tt))
 
-    fields : (r : ℕ) (site : Site) (f : Option ℕ) (w : Access) (n : Identifier) (place : Option ℕ → List Op) (pointer : List Op) → ByAccess w ((g : Option ℕ) → Stays (place g)) (Stays pointer) → Stays (field_code c r site f w n place pointer)
+    fields : (r : ℕ) (site : Site) (f : Option ℕ) (w : FieldOperator) (n : Identifier) (place : Option ℕ → List Op) (pointer : List Op) → ByAccess w ((g : Option ℕ) → Stays (place g)) (Stays pointer) → Stays (field_code c r site f w n place pointer)
     fields r site f Dot n place pointer h = h (Some (own_field f (field_place_named c.program.typed (what_names c n.site.token))))
     fields r site f Arrow n place pointer h = pointees r site pointer h
 

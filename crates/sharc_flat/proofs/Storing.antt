@@ -7,7 +7,7 @@ use Rattle.sharc_names.specs.Kinds.{Kind}
 use Rattle.sharc_code.specs.declared.code.Use.TheVariants as uses
 use Rattle.sharc_code.specs.declared.instr.Register.TheVariants.{Int, Reference}
 use Rattle.sharc_mode.specs.{Moded.Assignment, Sharings.Sharing}
-use Rattle.sharc_meaning.specs.{declared.given.GivenUp.TheVariants.{Released, Replaced}, Cells.cell_of, Places.{Place, variable, access_mode, stored}, Reference.number_of, State.{State, Out, go, over, Run, then_on, ◌>>=◌, ◌>>◌, happens, value_of, is_reference, pointers_among, all_released, writes, Step, done, performs, holds_reference, moves_on, gives_up, with_value, with_temporary, without_temporaries}}
+use Rattle.sharc_meaning.specs.{declared.given.GivenUp.TheVariants.{Released, Replaced}, Cells.cell_of, Places.{StorePlace, variable, access_mode, stored}, Reference.number_of, State.{State, Out, go, over, Run, then_on, ◌>>=◌, ◌>>◌, happens, value_of, is_reference, pointers_among, all_released, writes, Step, done, performs, holds_reference, moves_on, gives_up, with_value, with_temporary, without_temporaries}}
 use Rattle.sharc_flat_form.specs.{declared.op.Op.Op, declared.op.Spot.Spot, Machine.{asks, put, accessed, next as on, set_ref, gives_up as also}}
 use Rattle.sharc_flat_form.specs.declared.op.Op.TheVariants as op
 use Rattle.sharc_flat.proofs.{Under.{under, mutex_of, accesses_under}, Banks.{bank_is, bank_set, put_at, put_other}, Runs.{HasAt, has_back, Fin, fin_then, Same, step, without, after_event}, Agreeing.{int_values, PointerAt, pointer_at, IntAt, int_at, Standing, place, Agree, below, drop_last, last_is, hold, same_frame, loose_of}, Accessing.{variable_ref, context, access_runs, pending_place}, Values.{bases_count, loosen, BasesOf, base_ends, AtCell, open_at}}
@@ -44,7 +44,7 @@ module _ (m : Assignment) (z : Standing) (scope : List Slot) where
   stores b bp site mode o first n v =
       (cond b (holds_reference v) done) >> (access_mode m.typed site mode o first >>= λ under. performs site (acts.Write (cell_of o n) under v) >> ((cond b (moves_on 1) done) >> (cond bp (gives_up (Replaced (cell_of o n) ∷ [])) done)))
 
-  module _ (T bases : List ℤ) (t : Target) (guard : Option ℕ) (i r vi vr : ℕ) (ints refs : ℕ → ℤ) (p : Place) (w : AtCell m z scope t guard i r ints refs p)
+  module _ (T bases : List ℤ) (t : Target) (guard : Option ℕ) (i r vi vr : ℕ) (ints refs : ℕ → ℤ) (p : StorePlace) (w : AtCell m z scope t guard i r ints refs p)
       (site : Site) (lvalue : Lvalue) (mode : Sharing) (guard_as : guard ≡ beside_field m.typed mode) (path : PathStands m.typed scope mode) (vr_is : vr ≡ r + base_width t) (r_is : r ≡ ref_count scope + length T) (count : BasesOf (has_base t) bases) where
     pub store_cell : (b : Bool) (v : ℤ) (pc c : ℕ) (s : State) (k : Unit {0} → State → Fin) → HasAt z.flat.lines pc (cell_store_code ctx i r vi vr site lvalue mode b t)
         → Agree z (T ++ bases) scope (loose_of b v) ints refs s → (b ≡ false → ints (z.ints + vi) ≡ v)

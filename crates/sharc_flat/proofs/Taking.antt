@@ -6,7 +6,7 @@ use Rattle.sharc_tree.specs.{declared.event.Object.TheVariants.Global, declared.
 use Rattle.sharc_names.specs.{Kinds.{Kind, is_integer}, declared.fault.Named.Named}
 use Rattle.sharc_code.specs.{declared.code.Use.Use, declared.instr.Register.TheVariants.Reference, declared.code.Text.Text, Machine.{elements_of as elements_made}}
 use Rattle.sharc_mode.specs.{Moded.Assignment, Sharings.{Sharing, private, readonly, locked, racy, dynamic}}
-use Rattle.sharc_meaning.specs.{Cells.{cell_of, instance_mode, mutex_named, through, field_place_behind}, Places.{Place, variable, cell, taken_from, nulled, cast_to, freed}, Reference.{number_of, is_null, NULL}, State.{State, Run, then_on, ◌>>=◌, ◌>>◌, give, entered, happens, answered, value_of, is_reference, pointers_among, temporarily, nulls, done, moves_on, with_value, with_temporary, without_temporaries, stopped, unless_stop, event_of}, declared.given.GivenUp.TheVariants.Emptied, Statements.is_positive}
+use Rattle.sharc_meaning.specs.{Cells.{cell_of, instance_mode, mutex_named, through, field_place_behind}, Places.{StorePlace, variable, cell, taken_from, nulled, cast_to, freed}, Reference.{number_of, is_null, NULL}, State.{State, Run, then_on, ◌>>=◌, ◌>>◌, give, entered, happens, answered, value_of, is_reference, pointers_among, temporarily, nulls, done, moves_on, with_value, with_temporary, without_temporaries, stopped, unless_stop, event_of}, declared.given.GivenUp.TheVariants.Emptied, Statements.is_positive}
 use Rattle.sharc_flat_form.specs.{declared.op.Op.Op, declared.op.Spot.Spot, Machine.{goes, asks, put, accesses, first_cell, next as on, set_ref, asserts, over_lines, kind_of, variable_of, instance_mode as mode_of_object, takes_local, moved}}
 use Rattle.sharc_flat_form.specs.declared.op.Op.TheVariants as op
 use Rattle.sharc_flat.specs.{Scope.{at_words, Context, ref_count, register_of, number_in, slot_kind, at_site}, declared.slot.Lvalue.Lvalue, declared.slot.Slot.Slot, Places.{Target, in_global, in_global_at, in_object, in_object_at, has_base, base_width, field_of, guard_field, beside_field, guard_cell, guard_code, spot_of, drop_base, settle_base, settle_code, cell_value_code, cell_store_code, store_code, cell_take_code, take_code, target, own_field, global_of, bounds_code, index_code, pointee_code, width_of, base_as_width, width_code, guard_width, index_width, object_mode, object_mode_named, object_spot}, Suits.{PathStands, is_cell, PathNamed}}
@@ -62,7 +62,7 @@ module _ (m : Assignment) (z : Standing) (scope : List Slot) where
       record { callers = a1.callers; shape = a1.shape; ints = a1.ints; refs = a1.refs; temporaries = ap (λ q. take q s.frame.temporaries) l ∙ ap (take (length T)) a.temporaries ∙ take_at T (v ∷ []) (length T) refl }
 
   -- ---- what is taken from a cell
-  pub take_cell_runs : (ka : Kind) (t : Target) (need : ℕ) (run : Run Place) (pcode : ℕ → ℕ → List Op) (token site : Site) (lvalue : Lvalue) (mode : Sharing) (form : Option ℕ → Use) (kind : TakeKind) → PlaceAs m z scope t None (beside_field m.typed mode) need run pcode
+  pub take_cell_runs : (ka : Kind) (t : Target) (need : ℕ) (run : Run StorePlace) (pcode : ℕ → ℕ → List Op) (token site : Site) (lvalue : Lvalue) (mode : Sharing) (form : Option ℕ → Use) (kind : TakeKind) → PlaceAs m z scope t None (beside_field m.typed mode) need run pcode
       → is_cell t ≡ true → PathStands m.typed scope mode → is_reference ka ≡ true → kind_of (form None) ≡ kind
       → RunsAs m z scope ka (need + 3) (temporarily (run >>= λ p. taken_from m.typed token site mode kind p)) (λ i r. pcode i r ++ cell_take_code ctx i r site lvalue mode form t)
   take_cell_runs ka t need run pcode token site lvalue mode form kind found cell_t path er ek T i r pc c ints refs s k has le re a rest =
@@ -137,7 +137,7 @@ module _ (m : Assignment) (z : Standing) (scope : List Slot) where
       let u = after_event s answers (s.events ++ event_of site (acts.Take (taken.Local x) kind) y ∷ []) in
       rest bank (null_state x token u) (nulled_agrees T x v token r ints refs s u stands re a v_is refl refl)))
 
-  pub take_variable_runs : (ka : Kind) (x : ℕ) (need : ℕ) (run : Run Place) (pcode : ℕ → ℕ → List Op) (token site : Site) (lvalue : Lvalue) (mode : Sharing) (form : Option ℕ → Use) (kind : TakeKind) (guard : Option ℕ) → PlaceAs m z scope (targets.variable x) None guard need run pcode
+  pub take_variable_runs : (ka : Kind) (x : ℕ) (need : ℕ) (run : Run StorePlace) (pcode : ℕ → ℕ → List Op) (token site : Site) (lvalue : Lvalue) (mode : Sharing) (form : Option ℕ → Use) (kind : TakeKind) (guard : Option ℕ) → PlaceAs m z scope (targets.variable x) None guard need run pcode
       → slot_kind scope x ≡ Some true → is_reference ka ≡ true → kind_of (form (Some x)) ≡ kind → variable_of (form (Some x)) ≡ x
       → RunsAs m z scope ka (need + 3) (temporarily (run >>= λ p. taken_from m.typed token site mode kind p)) (λ i r. pcode i r ++ op.TakeLocal r (number_in (register_of scope x)) (spot_of ctx 0 0 site lvalue (form (Some x)) mode (targets.variable x)) ∷ [])
   take_variable_runs ka x need run pcode token site lvalue mode form kind guard found stands er ek ex T i r pc c ints refs s k has le re a rest =

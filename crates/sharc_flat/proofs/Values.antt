@@ -5,7 +5,7 @@ use Rattle.sharc_tree.specs.{declared.event.Object.Object, declared.event.Object
 use Rattle.sharc_names.specs.Kinds.{Kind, object, array, null, function, is_integer, is_integral}
 use Rattle.sharc_code.specs.{declared.instr.Register.TheVariants.Int, Arithmetic.word_of}
 use Rattle.sharc_mode.specs.Moded.{Assignment}
-use Rattle.sharc_meaning.specs.{declared.given.GivenUp.GivenUp, declared.given.GivenUp.TheVariants.Released, Cells.cell_of, Places.{Place, variable, cell, field_in}, Reference.{is_null, number_of}, State.{State, Run, value_of, is_reference, pointers_among, all_released, temporarily}}
+use Rattle.sharc_meaning.specs.{declared.given.GivenUp.GivenUp, declared.given.GivenUp.TheVariants.Released, Cells.cell_of, Places.{StorePlace, variable, cell, field_in}, Reference.{is_null, number_of}, State.{State, Run, value_of, is_reference, pointers_among, all_released, temporarily}}
 use Rattle.sharc_flat_form.specs.{declared.op.Op.Op, declared.op.Spot.Spot, Machine.{At, put, cell_at, global_cell, is_of_null, first_cell}}
 use Rattle.sharc_flat_form.specs.declared.op.Op.TheVariants as op
 use Rattle.sharc_flat.specs.{Scope.{Context, int_count, ref_count, register_of, slot_kind}, declared.slot.Slot.Slot, Places.{Target, in_global, in_global_at, in_object, in_object_at, has_base, base_width, field_of, guard_field, guard_cell, guard_code, lock_beside, spot_of, drop_base, settle_base, copy_code, value_code, cell_value_code}, Suits.is_cell}
@@ -153,12 +153,12 @@ module _ (m : Assignment) (z : Standing) (scope : List Slot) where
   RunsAs kind need run code = (T : List ℤ) (i r pc c : ℕ) (ints refs : ℕ → ℤ) (s : State) (k : ℤ → State → Fin) → HasAt z.flat.lines pc (code i r) → int_count scope ≤ i → r ≡ ref_count scope + length T → Agree z T scope [] ints refs s
       → Rest z kind T scope i (pc + length (code i r)) (c + 6) ints k → Same z.flat s.fuel (c + need) (fin_then (run s) k) s.answers (place z pc ints refs s)
 
-  abbrev pub within : Option ℕ → Place → Place
+  abbrev pub within : Option ℕ → StorePlace → StorePlace
   within None p = p
   within (Some n) p = field_in n p
 
   -- where a place is found that an lvalue names
-  abbrev pub Lies : Target → Option ℕ → ℕ → (ℕ → ℤ) → List ℤ → Place → Type 0
+  abbrev pub Lies : Target → Option ℕ → ℕ → (ℕ → ℤ) → List ℤ → StorePlace → Type 0
   Lies (targets.variable x) guard i bank bases p = (bases ≡ []) × (p ≡ variable x)
   Lies (in_global g f) guard i bank bases p = (bases ≡ []) × (p ≡ cell (Global g) 0 (0 + f))
   Lies (in_global_at g f) guard i bank bases p = (first : ℕ) × (bases ≡ []) × (p ≡ cell (Global g) first (first + f)) × (bank (z.ints + i) ≡ pos (first + (first_cell z.flat.globals g + f)))
@@ -167,27 +167,27 @@ module _ (m : Assignment) (z : Standing) (scope : List Slot) where
   Lies (in_object_at f) guard i bank bases p = (b : ℤ) × (first : ℕ) × (bases ≡ b ∷ []) × (p ≡ cell (Made (number_of b)) first (first + f)) × (bank (z.ints + i) ≡ pos (first + f))
       × ((mutex : ℕ) → guard ≡ Some mutex → bank (z.ints + (i + 1)) ≡ pos (first + mutex)) × (is_null b ≡ false)
 
-  pub bases_are : (t : Target) (guard : Option ℕ) (i : ℕ) (bank : ℕ → ℤ) (bases : List ℤ) (p : Place) → Lies t guard i bank bases p → BasesOf (has_base t) bases
+  pub bases_are : (t : Target) (guard : Option ℕ) (i : ℕ) (bank : ℕ → ℤ) (bases : List ℤ) (p : StorePlace) → Lies t guard i bank bases p → BasesOf (has_base t) bases
   bases_are (targets.variable x) guard i bank bases p h = h.0
   bases_are (in_global g f) guard i bank bases p h = h.0
   bases_are (in_global_at g f) guard i bank bases p h = h.1
   bases_are (in_object f) guard i bank bases p h = (h.0, h.1)
   bases_are (in_object_at f) guard i bank bases p h = (h.0, h.2)
 
-  pub record Located (t : Target) (f guard : Option ℕ) (T : List ℤ) (i : ℕ) (p : Place) (bases : List ℤ) (ints ints' refs' : ℕ → ℤ) (s' : State) : Type 0 where
+  pub record Located (t : Target) (f guard : Option ℕ) (T : List ℤ) (i : ℕ) (p : StorePlace) (bases : List ℤ) (ints ints' refs' : ℕ → ℤ) (s' : State) : Type 0 where
     pub agree : Agree z (T ++ bases) scope [] ints' refs' s'
     pub kept : (k : ℕ) → k < z.ints + i → ints' k ≡ ints k
     pub lies : Lies t guard i ints' bases (within f p)
 
-  abbrev pub RestAt : Target → Option ℕ → Option ℕ → List ℤ → ℕ → ℕ → ℕ → (ℕ → ℤ) → (Place → State → Fin) → Type 0
-  RestAt t f guard T i pc c ints k = (p : Place) (bases : List ℤ) (ints' refs' : ℕ → ℤ) (s' : State) → Located t f guard T i p bases ints ints' refs' s' → Same z.flat s'.fuel c (k p s') s'.answers (place z pc ints' refs' s')
+  abbrev pub RestAt : Target → Option ℕ → Option ℕ → List ℤ → ℕ → ℕ → ℕ → (ℕ → ℤ) → (StorePlace → State → Fin) → Type 0
+  RestAt t f guard T i pc c ints k = (p : StorePlace) (bases : List ℤ) (ints' refs' : ℕ → ℤ) (s' : State) → Located t f guard T i p bases ints ints' refs' s' → Same z.flat s'.fuel c (k p s') s'.answers (place z pc ints' refs' s')
 
-  abbrev pub PlaceAs : Target → Option ℕ → Option ℕ → ℕ → Run Place → (ℕ → ℕ → List Op) → Type 0
-  PlaceAs t f guard need run code = (T : List ℤ) (i r pc c : ℕ) (ints refs : ℕ → ℤ) (s : State) (k : Place → State → Fin) → HasAt z.flat.lines pc (code i r) → int_count scope ≤ i → r ≡ ref_count scope + length T → Agree z T scope [] ints refs s
+  abbrev pub PlaceAs : Target → Option ℕ → Option ℕ → ℕ → Run StorePlace → (ℕ → ℕ → List Op) → Type 0
+  PlaceAs t f guard need run code = (T : List ℤ) (i r pc c : ℕ) (ints refs : ℕ → ℤ) (s : State) (k : StorePlace → State → Fin) → HasAt z.flat.lines pc (code i r) → int_count scope ≤ i → r ≡ ref_count scope + length T → Agree z T scope [] ints refs s
       → RestAt t f guard T i (pc + length (code i r)) (c + 6) ints k → Same z.flat s.fuel (c + need) (fin_then (run s) k) s.answers (place z pc ints refs s)
 
   -- the cell that is found, and the one with the pointer to its mutex
-  pub record AtCell (t : Target) (guard : Option ℕ) (i r : ℕ) (ints refs : ℕ → ℤ) (p : Place) : Type 0 where
+  pub record AtCell (t : Target) (guard : Option ℕ) (i r : ℕ) (ints refs : ℕ → ℤ) (p : StorePlace) : Type 0 where
     pub object : Object
     pub first : ℕ
     pub is : p ≡ cell object first (first + field_of t)
@@ -201,7 +201,7 @@ module _ (m : Assignment) (z : Standing) (scope : List Slot) where
   minus_in : (n a b : ℕ) → n + (a + b) - a ≡ n + b
   minus_in n a b = omega arith
 
-  pub at_cell : (t : Target) (guard : Option ℕ) (T L : List ℤ) (i r : ℕ) (bases : List ℤ) (p : Place) (ints refs : ℕ → ℤ) (s : State) → is_cell t ≡ true → r ≡ ref_count scope + length T → Agree z (T ++ bases) scope L ints refs s → Lies t guard i ints bases p → AtCell t guard i r ints refs p
+  pub at_cell : (t : Target) (guard : Option ℕ) (T L : List ℤ) (i r : ℕ) (bases : List ℤ) (p : StorePlace) (ints refs : ℕ → ℤ) (s : State) → is_cell t ≡ true → r ≡ ref_count scope + length T → Agree z (T ++ bases) scope L ints refs s → Lies t guard i ints bases p → AtCell t guard i r ints refs p
   at_cell (targets.variable x) guard T L i r bases p ints refs s c e a h = absurd (cc)
   at_cell (in_global g f) guard T L i r bases p ints refs s c e a h =
       let zero_of : (n : ℕ) → n ≡ 0 + n = λ n. omega arith in
@@ -250,7 +250,7 @@ module _ (m : Assignment) (z : Standing) (scope : List Slot) where
       }
 
   -- the mutex beside it is not one of NULL
-  pub open_at : (t : Target) (guard : Option ℕ) (i r : ℕ) (ints refs : ℕ → ℤ) (p : Place) → AtCell t guard i r ints refs p → (o : Option ℕ) (pc : ℕ) (w : ℤ) (u : State) → is_of_null (pending_place z pc ints refs u w) (lock_beside z.flat.globals i r t o) ≡ false
+  pub open_at : (t : Target) (guard : Option ℕ) (i r : ℕ) (ints refs : ℕ → ℤ) (p : StorePlace) → AtCell t guard i r ints refs p → (o : Option ℕ) (pc : ℕ) (w : ℤ) (u : State) → is_of_null (pending_place z pc ints refs u w) (lock_beside z.flat.globals i r t o) ≡ false
   open_at t guard i r ints refs p a None pc w u = refl
   open_at t guard i r ints refs p a (Some mutex) pc w u = a.open_is mutex pc w u
 

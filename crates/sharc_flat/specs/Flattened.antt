@@ -7,8 +7,8 @@ use Rattle.sharc_tree.specs.{declared.ctype.Base.Base, declared.token.Site.Site,
 use Rattle.sharc_tree.specs.declared.tree.declaration.Declaration.{Declaration}
 use Rattle.sharc_tree.specs.declared.tree.declaration.Identifier.{Identifier}
 use Rattle.sharc_tree.specs.declared.tree.item.StructDefinition.{StructDefinition}
-use Rattle.sharc_tree.specs.declared.tree.expression.Access.{Access}
-use Rattle.sharc_tree.specs.declared.tree.expression.Access.TheVariants.{Dot, Arrow}
+use Rattle.sharc_tree.specs.declared.tree.expression.FieldOperator.{FieldOperator}
+use Rattle.sharc_tree.specs.declared.tree.expression.FieldOperator.TheVariants.{Dot, Arrow}
 use Rattle.sharc_tree.specs.declared.tree.expression.BinaryOperator.{BinaryOperator}
 use Rattle.sharc_tree.specs.declared.tree.expression.BinaryOperator.TheVariants.{LogicalOr, LogicalAnd, BitOr, BitXor}
 use Rattle.sharc_tree.specs.declared.tree.expression.BinaryOperator.TheVariants.{BitAnd, Equal, NotEqual, Less, Greater}
@@ -248,7 +248,7 @@ taken_guard c Unlock a = None
 taken_guard c Free a = guard_of c a
 
 -- `a.n` and `a->n`
-abbrev pub field_code : Context → ℕ → Site → Option ℕ → Access → Identifier → (Option ℕ → List Op) → List Op → List Op
+abbrev pub field_code : Context → ℕ → Site → Option ℕ → FieldOperator → Identifier → (Option ℕ → List Op) → List Op → List Op
 field_code c r site f Dot n place pointer =
     place (Some (own_field f (field_place_named c.program.typed (what_names c n.site.token))))
 field_code c r site f Arrow n place pointer = pointee_code r site pointer

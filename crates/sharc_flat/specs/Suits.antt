@@ -3,8 +3,8 @@
 use Rattle.std.specs.Prelude.{◌≡◌, ℕ, Bool, true, false, List, [], ◌∷◌, ◌++◌, Option, Some, None, zero, suc, codes}
 use Rattle.std.specs.Prelude.{if◌then◌else◌}
 use Rattle.std.specs.Str.{bytes_eq}
-use Rattle.sharc_tree.specs.{declared.tree.declaration.Declaration.Declaration, declared.tree.expression.Access.Access}
-use Rattle.sharc_tree.specs.declared.tree.expression.Access.TheVariants.{Dot, Arrow}
+use Rattle.sharc_tree.specs.{declared.tree.declaration.Declaration.Declaration, declared.tree.expression.FieldOperator.FieldOperator}
+use Rattle.sharc_tree.specs.declared.tree.expression.FieldOperator.TheVariants.{Dot, Arrow}
 use Rattle.sharc_tree.specs.declared.tree.expression.BinaryOperator.{BinaryOperator}
 use Rattle.sharc_tree.specs.declared.tree.expression.BinaryOperator.TheVariants.{LogicalOr, LogicalAnd, Equal, NotEqual}
 use Rattle.sharc_tree.specs.declared.tree.expression.PlaceCall.{PlaceCall}
@@ -83,7 +83,7 @@ IndexSuits c a i of_array of_pointer of_number =
     ≡ in_global (global_of (target c.program.typed None a)) 0)) (of_pointer × (is_reference (kind_in c a) ≡ true))
     × of_number × (is_integer (kind_in c i) ≡ true)
 
-abbrev pub FieldSuits : Context → Access → Expression → Type 0 → Type 0 → Type 0
+abbrev pub FieldSuits : Context → FieldOperator → Expression → Type 0 → Type 0 → Type 0
 FieldSuits c Dot a of_base of_pointer = of_base
 FieldSuits c Arrow a of_base of_pointer = of_pointer × (is_reference (kind_in c a) ≡ true)
 

@@ -7,8 +7,8 @@ use Rattle.sharc_names.specs.declared.fault.Named.TheVariants as named
 use Rattle.sharc_names.specs.declared.types.Role.TheVariants as role
 use Rattle.sharc_ctype.specs.{declared.entity.Entity.Entity, declared.entity.Numbered.Numbered, Entities.{entities_in, entity_at, is_told_by, numbered_from, positions_of, written_modes, first_depth}, Resolved.{Resolution, named_at, declaration_at, variable_kind}}
 use Rattle.sharc_ctype_laws.specs.{Found.IsFound, Paths.{IsAmong, LevelStands, TypeStands}, WrittenTypes.{FirstNames, a_field, a_variable, a_global, a_function, a_known_call, IsNamedLevel, IsNamedType}}
-use Rattle.sharc_graph.specs.{declared.graph.Finding.Finding, declared.graph.Finding.TheVariants.{Apart, Source, Behind}, Findings.finding_at}
-use Rattle.sharc_mode.specs.{Cells.{first_of, pointed}, Flows.{IsLeastAssignment, mode_found}, Moded.{Assignment, mode_at}, Rows.{Reading, written, through, Targets, deeper, targets_from, entity_row, read}, Settled.{is_mutex, settled, field_target, otherwise_of, settled_modes, settled_in, settled_at}, Sharings.{Sharing, private, readonly, locked, racy, dynamic, sharing_of, text_at, is_sibling_lock}}
+use Rattle.sharc_graph.specs.{declared.graph.NodeFinding.NodeFinding, declared.graph.NodeFinding.TheVariants.{Apart, Source, Behind}, Findings.finding_at}
+use Rattle.sharc_mode.specs.{Cells.{first_of, pointed}, Flows.{IsLeastAssignment, mode_found}, Moded.{Assignment, mode_at}, Rows.{PathReading, written, through, Targets, deeper, targets_from, entity_row, read}, Settled.{is_mutex, settled, field_target, otherwise_of, settled_modes, settled_in, settled_at}, Sharings.{Sharing, private, readonly, locked, racy, dynamic, sharing_of, text_at, is_sibling_lock}}
 use Rattle.sharc_flat_laws.specs.Stands.{PathNamedIn, PathIn}
 use Rattle.sharc_lemmas.proofs.Options.{same_some, none_some}
 
@@ -116,7 +116,7 @@ module _ (r : Resolution) (names : List Entry) where
   one_good (x ∷ rest) zero h = h.0
   one_good (x ∷ rest) (suc k) h = one_good rest k h.1
 
-  found_good : (level : Option Mode) (finding : Finding) → Good level → PathIn r names (sharing_of (mode_found level finding))
+  found_good : (level : Option Mode) (finding : NodeFinding) → Good level → PathIn r names (sharing_of (mode_found level finding))
   found_good (Some mode) finding h = h
   found_good None Apart h = tt
   found_good None Source h = tt
@@ -213,7 +213,7 @@ pointed_good m names row g =
     (λ low. let z : row.first + 0 ≡ row.first = omega arith in subst (λ p. PathIn m.typed names (read m.typed row.reading (mode_at m p))) z (g 0 low))
 
 -- what a reading leaves in scope
-abbrev pub Reads : Resolution → List Entry → Reading → Type 0
+abbrev pub Reads : Resolution → List Entry → PathReading → Type 0
 Reads r names how = (s : Sharing) → PathIn r names s → PathIn r names (read r how s)
 
 pub reads_written : (r : Resolution) (names : List Entry) → Reads r names written
@@ -234,7 +234,7 @@ reads_through r names at p (locked l) h = by (is_sibling_lock r l)
 reads_through r names at p racy h = tt
 reads_through r names at p dynamic h = tt
 
-pub entity_row_good : (m : Assignment) → IsLeastAssignment m → (names : List Entry) (how : Reading) → Reads m.typed names how → (n : Numbered) → Position (entities_in m.typed.program.items) 0 n → TypeGood m.typed names n.entity.written
+pub entity_row_good : (m : Assignment) → IsLeastAssignment m → (names : List Entry) (how : PathReading) → Reads m.typed names how → (n : Numbered) → Position (entities_in m.typed.program.items) 0 n → TypeGood m.typed names n.entity.written
     → GoodRow m names (entity_row how (Some n))
 entity_row_good m least names how reads n w good = by n.entity.role
   where
@@ -262,7 +262,7 @@ pub record HasEntity (r : Resolution) (first last : ℕ) (w : WrittenType) : Typ
 pub has_entity : (r : Resolution) (e : Entity) → IsFound r e → HasEntity r e.token e.last e.written
 has_entity r e f = record { numbered = f.numbered; found = f.found; written = ap (λ (x : Entity). x.written) f.itself }
 
-pub good_row : (m : Assignment) → IsLeastAssignment m → (names : List Entry) (how : Reading) → Reads m.typed names how → (first last : ℕ) (w : WrittenType) → HasEntity m.typed first last w → TypeGood m.typed names w
+pub good_row : (m : Assignment) → IsLeastAssignment m → (names : List Entry) (how : PathReading) → Reads m.typed names how → (first last : ℕ) (w : WrittenType) → HasEntity m.typed first last w → TypeGood m.typed names w
     → GoodRow m names (entity_row how (entity_at m.typed first last))
 good_row m least names how reads first last w h good =
     subst (λ o. GoodRow m names (entity_row how o)) (sym h.found)

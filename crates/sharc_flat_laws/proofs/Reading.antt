@@ -1,7 +1,7 @@
 -- Each expression whose names are in scope and whose types hold: the lock paths of its cell and of what it points to name pointers in scope.
 use Rattle.std.proofs.{Common.{◌≡◌, inl, inr, ℕ, zero, suc, ◌+◌, ◌<◌, Bool, true, false, cond, List, [], ◌∷◌, length, slice_get, refl, ap, sym, ◌∙◌, subst, arith, lt-ltb, Option, Some, None, is_some, bytes_eq}, lemmas.Bool.false≢true}
 use Rattle.std.specs.List.{AllByRecursion}
-use Rattle.sharc_tree.specs.{declared.ctype.Mode.Mode, declared.ctype.Mode.TheVariants.{Private, Readonly, Locked, Racy, Dynamic}, declared.ctype.Path.TheVariants.{One, Through}, declared.token.Span.Span, declared.tree.declaration.Declaration.Declaration, declared.tree.declaration.Identifier.Identifier, declared.tree.declaration.WrittenType.WrittenType, declared.tree.expression.Access.Access, declared.tree.expression.Access.TheVariants.{Dot, Arrow}, declared.tree.expression.Constant.Constant, declared.tree.expression.UnaryOperator.UnaryOperator, declared.tree.expression.UnaryOperator.TheVariants.{Negate, Not, Complement, Dereference}, declared.tree.item.GlobalDefinition.GlobalDefinition, declared.tree.item.StructDefinition.StructDefinition, Measures.{expressions, in_arguments}, Tree.{Expression, field, identifier, Arguments, no_arguments, argument, Function}}
+use Rattle.sharc_tree.specs.{declared.ctype.Mode.Mode, declared.ctype.Mode.TheVariants.{Private, Readonly, Locked, Racy, Dynamic}, declared.ctype.Path.TheVariants.{One, Through}, declared.token.Span.Span, declared.tree.declaration.Declaration.Declaration, declared.tree.declaration.Identifier.Identifier, declared.tree.declaration.WrittenType.WrittenType, declared.tree.expression.FieldOperator.FieldOperator, declared.tree.expression.FieldOperator.TheVariants.{Dot, Arrow}, declared.tree.expression.Constant.Constant, declared.tree.expression.UnaryOperator.UnaryOperator, declared.tree.expression.UnaryOperator.TheVariants.{Negate, Not, Complement, Dereference}, declared.tree.item.GlobalDefinition.GlobalDefinition, declared.tree.item.StructDefinition.StructDefinition, Measures.{expressions, in_arguments}, Tree.{Expression, field, identifier, Arguments, no_arguments, argument, Function}}
 use Rattle.sharc_tree.specs.declared.tree.expression.Constant.TheVariants as constants
 use Rattle.sharc_tree.specs.Tree as tree
 use Rattle.sharc_names.specs.{declared.fault.Named.Named, declared.scope.Scope.Scope, Kinds.{Kind, object, is_array, is_pointer, declared_kind}, Names.{Entry, Meaning, field_of, look_up, named_of}}
@@ -10,7 +10,7 @@ use Rattle.sharc_names.specs.declared.types.Role.TheVariants as role
 use Rattle.sharc_tree.specs.declared.ctype.Base.TheVariants as base
 use Rattle.sharc_names.specs.Names as meaning
 use Rattle.sharc_ctype.specs.{Entities.{cast_entity, casts, declared, entities_in, is_told_by, positions_of}, declared.entity.Entity.Entity, declared.entity.Numbered.Numbered, Resolved.{Resolution, named_at, declaration_at, global_at, function_at, globals_in, functions_in, structs_in, kind_at, variable_kind}}
-use Rattle.sharc_mode.specs.{Cells.{is_mutex_kind, written_cell, top_of, declared_cell, field_named, first_mode, global_cell, named_cell, pointed, instance, unary_cell, cell_at}, Flows.IsLeastAssignment, Moded.{Assignment, mode_at}, Rows.{Reading, written, Targets, is_constant_named, constant_use, base_use, no_row, declared_row, global_row, named_row, result_row, called_row, behind, constant_row, reading_through, unary_row, row_at}, Sharings.{Sharing, private, readonly, locked, racy, lock_of, is_private}}
+use Rattle.sharc_mode.specs.{Cells.{is_mutex_kind, written_cell, top_of, declared_cell, field_named, first_mode, global_cell, named_cell, pointed, instance, unary_cell, cell_at}, Flows.IsLeastAssignment, Moded.{Assignment, mode_at}, Rows.{PathReading, written, Targets, is_constant_named, constant_use, base_use, no_row, declared_row, global_row, named_row, result_row, called_row, behind, constant_row, reading_through, unary_row, row_at}, Sharings.{Sharing, private, readonly, locked, racy, lock_of, is_private}}
 use Rattle.sharc_ctype_laws.specs.{Constraints.{HasType, IsMemberOf, struct_named, a_variable, a_global, a_function, a_field, a_field_behind}, Found.IsFound, Laws.NamesFound, Paths.{meaning_token, IsVariableIn, IsAmong, LevelStands, TypeStands, EntryStands, IsClosed, CastStands, PathsAt}, Places.{Placing, at}, WrittenTypes.IsNamedType}
 use Rattle.sharc_flat_laws.specs.Stands.{PathNamedIn, PathIn, LocksAt}
 use Rattle.sharc_flat_laws.proofs.{Pointing.{LevelGood, TypeGood, same_token, no_global, type_good, position_of, mode_good, GoodRow, deeper_good, pointed_good, Reads, reads_written, reads_through, HasEntity, has_entity, good_row}, Scoped.found_or_later}
@@ -199,7 +199,7 @@ module _ (m : Assignment) (w : FileKnown m) (scope : Scope) where
   first_target (Some row) h = pointed_good m names row h
 
   -- what is declared in the file
-  file_row : (how : Reading) → Reads r names how → (token : ℕ) (t : WrittenType) → FileType r token t → GoodRow m names (declared_row r how token)
+  file_row : (how : PathReading) → Reads r names how → (token : ℕ) (t : WrittenType) → FileType r token t → GoodRow m names (declared_row r how token)
   file_row how reads token t f = good_row m w.least names how reads token token t f.has (file_type r names t f.stands)
 
   global_cells : (o : Option GlobalDefinition) → IfThere (IsGlobal r) o → PathIn r names (global_cell m o)
@@ -280,7 +280,7 @@ module _ (m : Assignment) (w : FileKnown m) (scope : Scope) where
   a_member : (x name : List ℕ) (d : Declaration) → IsMemberOf r x name d → IsField r d
   a_member x name d h = field_found r h.0.fields name d (struct_fields r (structs_in r.program.items) x h.0 w.fields h.1) h.2
 
-  member : (s : Span) (a : Expression) (v : Access) (n : Identifier) (k : Kind) → HasType r (field s a v n) k → Member n
+  member : (s : Span) (a : Expression) (v : FieldOperator) (n : Identifier) (k : Kind) → HasType r (field s a v n) k → Member n
   member s a _ n _ (a_field {x = x} {d = d} t h is) = record { of = d; field = a_member x n.text d h; names = is }
   member s a _ n _ (a_field_behind {x = x} {d = d} t h is) = record { of = d; field = a_member x n.text d h; names = is }
 
@@ -307,11 +307,11 @@ module _ (m : Assignment) (w : FileKnown m) (scope : Scope) where
       (λ y is. pointer_name s i k t p y (h.name.2 ∙ is)) x))
   reads_use _ h k t p = reads_written r names
 
-  reads_base : (s : Span) (a : Expression) (v : Access) (n : Identifier) (k : Kind) → HasType r (field s a v n) k → Seen r scope a → Reads r names (reading_through (base_use r v a))
+  reads_base : (s : Span) (a : Expression) (v : FieldOperator) (n : Identifier) (k : Kind) → HasType r (field s a v n) k → Seen r scope a → Reads r names (reading_through (base_use r v a))
   reads_base s a _ n _ (a_field t h is) seen = reads_written r names
   reads_base s a _ n _ (a_field_behind {x = x} t h is) seen = reads_use a seen (object (base.Struct x) 1) t (lt-ltb 0 1 (omega arith))
 
-  instances : (v : Access) (s t : Sharing) → PathIn r names s → PathIn r names t → PathIn r names (instance v s t)
+  instances : (v : FieldOperator) (s t : Sharing) → PathIn r names s → PathIn r names t → PathIn r names (instance v s t)
   instances Dot s t h k = h
   instances Arrow s t h k = k
 

@@ -1,7 +1,7 @@
 -- What the code of a function spawns is what its expressions spawn.
 use Rattle.std.proofs.Common.{ℕ, ◌+◌, Bool, true, false, cond, List, [], ◌∷◌, ◌++◌, length, drop, Option, Some, None, take}
 use Rattle.std.specs.{Prelude.codes, Str.bytes_eq, List.AllByRecursion}
-use Rattle.sharc_tree.specs.{declared.token.Site.Site, declared.token.Span.Span, declared.tree.declaration.Identifier.Identifier, declared.tree.expression.Access.Access, declared.tree.expression.Access.TheVariants.{Dot, Arrow}, declared.tree.expression.BinaryOperator.BinaryOperator, declared.tree.expression.BinaryOperator.TheVariants.{LogicalOr, LogicalAnd, BitOr, BitXor, BitAnd, Equal, NotEqual, Less, Greater, LessOrEqual, GreaterOrEqual, ShiftLeft, ShiftRight, Add, Subtract, Multiply, Divide, Remainder}, declared.tree.expression.PlaceCall.PlaceCall, declared.tree.expression.PlaceCall.TheVariants.{Lock, Unlock, Free}, declared.tree.expression.UnaryOperator.UnaryOperator, declared.tree.expression.UnaryOperator.TheVariants.{Negate, Not, Complement, Dereference}, declared.tree.expression.ValueCall.ValueCall, declared.tree.expression.ValueCall.TheVariants.{Join, Print}, Spans.span_of, Tree.{Expression, identifier, constant, parentheses, call, spawn, on_value, on_place, cast, index, field, unary, binary, Arguments, no_arguments, argument, Right, value, malloc, Simple, assign, does_call, Local, First, nothing, declares, does, Statement, empty, block, declare, simple, jump, return, if_then, if_then_else, while, for, Statements, no_statements, statement, Function}, declared.tree.declaration.Declaration.Declaration, declared.tree.statement.Jump.Jump, declared.tree.statement.Jump.TheVariants.{Break, Continue}, Measures.{expressions, in_arguments, in_option, in_right, in_simple, in_local, in_first, in_head, in_statement, in_statements, in_function as expressions_in}}
+use Rattle.sharc_tree.specs.{declared.token.Site.Site, declared.token.Span.Span, declared.tree.declaration.Identifier.Identifier, declared.tree.expression.FieldOperator.FieldOperator, declared.tree.expression.FieldOperator.TheVariants.{Dot, Arrow}, declared.tree.expression.BinaryOperator.BinaryOperator, declared.tree.expression.BinaryOperator.TheVariants.{LogicalOr, LogicalAnd, BitOr, BitXor, BitAnd, Equal, NotEqual, Less, Greater, LessOrEqual, GreaterOrEqual, ShiftLeft, ShiftRight, Add, Subtract, Multiply, Divide, Remainder}, declared.tree.expression.PlaceCall.PlaceCall, declared.tree.expression.PlaceCall.TheVariants.{Lock, Unlock, Free}, declared.tree.expression.UnaryOperator.UnaryOperator, declared.tree.expression.UnaryOperator.TheVariants.{Negate, Not, Complement, Dereference}, declared.tree.expression.ValueCall.ValueCall, declared.tree.expression.ValueCall.TheVariants.{Join, Print}, Spans.span_of, Tree.{Expression, identifier, constant, parentheses, call, spawn, on_value, on_place, cast, index, field, unary, binary, Arguments, no_arguments, argument, Right, value, malloc, Simple, assign, does_call, Local, First, nothing, declares, does, Statement, empty, block, declare, simple, jump, return, if_then, if_then_else, while, for, Statements, no_statements, statement, Function}, declared.tree.declaration.Declaration.Declaration, declared.tree.statement.Jump.Jump, declared.tree.statement.Jump.TheVariants.{Break, Continue}, Measures.{expressions, in_arguments, in_option, in_right, in_simple, in_local, in_first, in_head, in_statement, in_statements, in_function as expressions_in}}
 use Rattle.sharc_names.specs.{declared.fault.Named.Named, Kinds.{Kind, is_array, is_integer, element_kind, declared_kinds, declared_kind}}
 use Rattle.sharc_names.specs.declared.fault.Named.TheVariants as named
 use Rattle.sharc_code.specs.{declared.code.Use.Use, declared.instr.Register.Register, declared.instr.Register.TheVariants.{Int, Reference}, declared.code.GlobalCells.GlobalCells}
@@ -233,7 +233,7 @@ module _ (Q : ℕ → Type 0) where
         indexes_by (is_array (kind_at c.program.typed a)) r xs ys (bounds_code of_array i (own_field f 0) guard) (bounds_code of_pointer i (own_field f 0) guard) number (op.ChkNull r (at_site site)) tt x y n
         (bounded of_array i (own_field f 0) guard (λ i n. tt)) (bounded of_pointer i (own_field f 0) guard (λ i n. tt))
 
-    fields : (r : ℕ) (site : Site) (f : Option ℕ) (w : Access) (n : Identifier) (place : Option ℕ → List Op) (pointer : List Op) → ((g : Option ℕ) → S (place g)) → S pointer → S (field_code c r site f w n place pointer)
+    fields : (r : ℕ) (site : Site) (f : Option ℕ) (w : FieldOperator) (n : Identifier) (place : Option ℕ → List Op) (pointer : List Op) → ((g : Option ℕ) → S (place g)) → S pointer → S (field_code c r site f w n place pointer)
     fields r site f Dot n place pointer h k = h (Some (own_field f (field_place_named c.program.typed (what_names c n.site.token))))
     fields r site f Arrow n place pointer h k = pointees r site pointer k
 

@@ -1,6 +1,6 @@
 -- Each expression of a typed program suits.
 use Rattle.std.proofs.Common.{◌≡◌, inl, ℕ, ◌+◌, true, List, [], ◌∷◌, refl, ap, sym, ◌∙◌, subst, Some, None, bytes_eq, codes, if◌then◌else◌}
-use Rattle.sharc_tree.specs.{declared.ctype.Base.Base, declared.tree.declaration.Identifier.Identifier, declared.tree.declaration.WrittenType.WrittenType, declared.tree.expression.BinaryOperator.BinaryOperator, declared.tree.expression.BinaryOperator.TheVariants.{LogicalOr, LogicalAnd, BitOr, BitXor, BitAnd, Equal, NotEqual, Less, Greater, LessOrEqual, GreaterOrEqual, ShiftLeft, ShiftRight, Add, Subtract, Multiply, Divide, Remainder}, declared.token.Site.Site, declared.token.Span.Span, declared.tree.expression.Access.Access, declared.tree.expression.PlaceCall.PlaceCall, declared.tree.expression.ValueCall.ValueCall, declared.tree.expression.UnaryOperator.UnaryOperator, declared.tree.expression.UnaryOperator.TheVariants.{Negate, Not, Complement, Dereference}, Measures.{expressions, in_arguments}, Tree.{Expression, identifier, index, Arguments, no_arguments, argument}}
+use Rattle.sharc_tree.specs.{declared.ctype.Base.Base, declared.tree.declaration.Identifier.Identifier, declared.tree.declaration.WrittenType.WrittenType, declared.tree.expression.BinaryOperator.BinaryOperator, declared.tree.expression.BinaryOperator.TheVariants.{LogicalOr, LogicalAnd, BitOr, BitXor, BitAnd, Equal, NotEqual, Less, Greater, LessOrEqual, GreaterOrEqual, ShiftLeft, ShiftRight, Add, Subtract, Multiply, Divide, Remainder}, declared.token.Site.Site, declared.token.Span.Span, declared.tree.expression.FieldOperator.FieldOperator, declared.tree.expression.PlaceCall.PlaceCall, declared.tree.expression.ValueCall.ValueCall, declared.tree.expression.UnaryOperator.UnaryOperator, declared.tree.expression.UnaryOperator.TheVariants.{Negate, Not, Complement, Dereference}, Measures.{expressions, in_arguments}, Tree.{Expression, identifier, index, Arguments, no_arguments, argument}}
 use Rattle.sharc_tree.specs.declared.ctype.Base.TheVariants as base
 use Rattle.sharc_tree.specs.Tree as tree
 use Rattle.sharc_names.specs.{declared.fault.Named.Named, Kinds.{Kind, object, array, is_array, is_integer, is_pointer, declared_kind, declared_kinds}, declared.meaning.ConditionCall.ConditionCall, declared.meaning.ConditionCall.TheVariants.{Wait, Signal, Broadcast}, Names.condition_parameters}
@@ -196,11 +196,11 @@ index_form : (c : Context) → Facts c.program → (s : Span) (a i : Expression)
 index_form c w s a i _ (element_of_pointer {b = b} {n = n} x y t) pa sa si = index_pointer c a i _ _ _ b n (w.one _ _ x) sa si (integer_at c.program.typed i _ (w.one _ _ y) t)
 index_form c w s a i _ (element_of_array {b = b} {n = n} x y t) pa sa si = index_array c a i _ _ _ b n (w.one _ _ x) pa (array_target c.program.typed a _ x refl) si (integer_at c.program.typed i _ (w.one _ _ y) t)
 
-field_form : (c : Context) → Facts c.program → (s : Span) (a : Expression) (v : Access) (n : Identifier) (k : Kind) → HasType c.program.typed (tree.field s a v n) k → PlaceSuits c a → Suits c a → PlaceSuits c (tree.field s a v n)
+field_form : (c : Context) → Facts c.program → (s : Span) (a : Expression) (v : FieldOperator) (n : Identifier) (k : Kind) → HasType c.program.typed (tree.field s a v n) k → PlaceSuits c a → Suits c a → PlaceSuits c (tree.field s a v n)
 field_form c w s a _ n _ (a_field h m is) pa sa = pa
 field_form c w s a _ n _ (a_field_behind {x = x} h m is) pa sa = (sa, pointer_at c.program.typed a _ (w.one _ _ h) (base.Struct x, 0, refl))
 
-field_cell : (c : Context) → Facts c.program → (s : Span) (a : Expression) (v : Access) (n : Identifier) (k : Kind) → HasType c.program.typed (tree.field s a v n) k → Stand c (expressions a) → is_cell (target c.program.typed None (tree.field s a v n)) ≡ true
+field_cell : (c : Context) → Facts c.program → (s : Span) (a : Expression) (v : FieldOperator) (n : Identifier) (k : Kind) → HasType c.program.typed (tree.field s a v n) k → Stand c (expressions a) → is_cell (target c.program.typed None (tree.field s a v n)) ≡ true
 field_cell c w s a _ n _ (a_field h m is) all = whole_cell c w _ _ h refl (Some _) all
 field_cell c w s a _ n _ (a_field_behind h m is) all = refl
 

@@ -8,7 +8,7 @@ use Rattle.sharc_names.specs.declared.fault.Named.TheVariants as named
 use Rattle.sharc_names.specs.Kinds as kinds
 use Rattle.sharc_ctype.specs.{Resolved.{Resolution, global_at, named_at, named_kind}, Entities.{first_depth, entities_in, entity_at}, declared.entity.Numbered.Numbered, declared.entity.Entity.Entity}
 use Rattle.sharc_mode.specs.{declared.place.Place.Place, declared.place.Place.TheVariants.{Global, Field, Local, Result}, Cells.{is_mutex_kind, is_behind_pointer, first_mode, global_cell}, Sharings.{Lock, is_field, lock_of, sharing_of}, WellFormed.{allows_path, path_fits, unless, unfit_path, unfit_path_in, allows_pointer, leaves_open, top_path_fits, unfit_top_path, first_unfit_path, place_of}, Settled.{is_mutex, settled, field_target, otherwise_of, settled_modes, settled_in, settled_at}, Flows.{IsLeastAssignment, mode_found}, Moded.{Assignment, mode_at}}
-use Rattle.sharc_graph.specs.{declared.graph.Finding.Finding, declared.graph.Finding.TheVariants.{Apart, Source, Behind}, Findings.finding_at}
+use Rattle.sharc_graph.specs.{declared.graph.NodeFinding.NodeFinding, declared.graph.NodeFinding.TheVariants.{Apart, Source, Behind}, Findings.finding_at}
 use Rattle.sharc_flat_laws.specs.Stands.{IsFit, FitAreUnguarded}
 use Rattle.sharc_names.specs.declared.types.Role.TheVariants as role
 use Rattle.sharc_meaning.specs.Cells.{field_place}
@@ -190,7 +190,7 @@ everywhere Q [] q f p = q
 everywhere Q (x ∷ rest) q f zero = f zero (omega arith)
 everywhere Q (x ∷ rest) q f (suc p) = everywhere Q rest q (λ k low. f (suc k) (omega (arith, low))) p
 
-found_unguarded : (r : Resolution) (level : Option Mode) (finding : Finding) → IsUnguarded r level → guard_field r (sharing_of (mode_found level finding)) ≡ None
+found_unguarded : (r : Resolution) (level : Option Mode) (finding : NodeFinding) → IsUnguarded r level → guard_field r (sharing_of (mode_found level finding)) ≡ None
 found_unguarded r (Some mode) finding h = h
 found_unguarded r None Apart h = refl
 found_unguarded r None Source h = refl

@@ -1,11 +1,11 @@
 -- The lines of statements, made one after the other.
 use Rattle.std.proofs.{Common.{◌≡◌, ℕ, ◌+◌, ◌-◌, ◌<◌, ◌≤◌, Bool, List, [], ◌∷◌, ◌++◌, length, set, Option, Some, None, refl, ap, sym, ◌∙◌, append_assoc}, lemmas.List.length-set}
 use Rattle.sharc_tree.specs.{declared.token.Span.Span, Tree.{Expression, Simple, Statement, Statements, block, if_then_else}, declared.token.Site.Site, Spans.span_of}
-use Rattle.sharc_names.specs.declared.kind.Kind.{Kind as RustKind}
+use Rattle.sharc_names.specs.declared.kind.ExpressionKind.{ExpressionKind as RustKind}
 use Rattle.sharc_flat_form.specs.{declared.op.Op.Op, declared.op.Op.TheVariants.{Enter, Return, Skip, SkipIfZero}, declared.op.Spot.Spot}
 use Rattle.sharc_flat.specs.{declared.slot.Slot.Slot, Places.width_code, Scope.{Context, at_site, leaves}, Flattened.{Around, refs_of, expression_code, return_code, result_code, zero_code, looping, ints_of, test_code, turn_code, step_code, if_code, choice_code, loop_code, statement_code}}
 use Rattle.sharc_meaning.specs.State.{is_reference}
-use Rattle.sharc_flat_walk.specs.{declared.bodies.Around.{Around as RustAround}, declared.patch.Hole.Hole, declared.source.Source.Source, View.{context, outermost, around_of, hole_at, hole_of, finished, block_code}}
+use Rattle.sharc_flat_walk.specs.{declared.bodies.Around.{Around as RustAround}, declared.patch.Hole.Hole, declared.source.PlacedProgram.PlacedProgram, View.{context, outermost, around_of, hole_at, hole_of, finished, block_code}}
 use Rattle.sharc_flat_walk.proofs.{ScopeLemmas.{innermost_none, outermost_whole}, WalkLemmas.{entered, chosen, chosen_sides, looped_always, looped_while}}
 
 -- ---- choices, where the code of the test is over an equal context
@@ -88,7 +88,7 @@ pub block_at : (c : Context) (a : Around) (s : Span) (x : Statement) (all again 
 block_at c a s x all again old l1 l2 ex ea e1 e2 =
     entered old l1 l2 (λ n. block_code c a n all) e1 (e2 ∙ ap (λ k. l1 ++ block_code c a (length l1) k) ea) ∙ ap (λ k. old ++ statement_code c a (length old) k) (sym ex)
 
-pub sides_at : (p : Source) (xs begun told : List Slot) (around : RustAround) (marks after : List ℕ) (s : Span) (stmt : Statement) (e test : Expression) (x then y otherwise : Statement) (old l0 l1 l2 l4 l5 l6 : List Op) (h : Hole) (over : ℕ)
+pub sides_at : (p : PlacedProgram) (xs begun told : List Slot) (around : RustAround) (marks after : List ℕ) (s : Span) (stmt : Statement) (e test : Expression) (x then y otherwise : Statement) (old l0 l1 l2 l4 l5 l6 : List Op) (h : Hole) (over : ℕ)
     → stmt ≡ if_then_else s e x y → test ≡ e → then ≡ x → otherwise ≡ y → told ≡ xs → begun ≡ xs → after ≡ marks
     → l0 ≡ old ++ Enter ∷ [] → l1 ≡ l0 ++ turn_code (context p told) (Some test) 0 → h ≡ hole_at (context p told) (length l1)
     → l2 ≡ l1 ++ statement_code (context p xs) (around_of around marks) (length l1) then

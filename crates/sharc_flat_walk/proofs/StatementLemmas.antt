@@ -2,7 +2,7 @@
 use Rattle.std.proofs.{Common.{◌≡◌, ◌+◌, ◌<◌, List, [], ◌∷◌, ◌++◌, length, take, refl, ap, sym, ◌∙◌, append_assoc}, lemmas.List.append-nil}
 use Rattle.sharc_tree.specs.Tree.{Statement, empty, block, declare, simple, jump, return, if_then, if_then_else, while, for, Statements, no_statements, statement}
 use Rattle.sharc_flat.specs.{declared.slot.Slot.Slot, Scope.{Context, slot_of}, Flattened.{behind_statement, behind_statements}}
-use Rattle.sharc_flat_walk.specs.{declared.source.Source.Source, View.context}
+use Rattle.sharc_flat_walk.specs.{declared.source.PlacedProgram.PlacedProgram, View.context}
 use Rattle.sharc_flat_walk.proofs.WalkLemmas.{kept_first}
 
 abbrev in_scope : Context → List Slot → Context
@@ -37,5 +37,5 @@ grown_all c (statement x rest) =
     )
 
 -- the variables before are kept
-pub kept : (p : Source) (xs ys : List Slot) (c : Context) → ((zs : List Slot) × (c ≡ record (context p xs) { scope = xs ++ zs })) → ys ≡ c.scope → take (length xs) ys ≡ xs
+pub kept : (p : PlacedProgram) (xs ys : List Slot) (c : Context) → ((zs : List Slot) × (c ≡ record (context p xs) { scope = xs ++ zs })) → ys ≡ c.scope → take (length xs) ys ≡ xs
 kept p xs ys c g e = kept_first xs ys g.0 (e ∙ ap (λ d. d.scope) g.1)

@@ -7,7 +7,7 @@ use Rattle.sharc_flat_walk.specs.declared.operations.Evaluation.{Evaluation}
 use Rattle.sharc_flat_walk.specs.{declared.operations.Evaluation.TheVariants.{And, Or, Both}, declared.patch.Hole.Hole}
 use Rattle.sharc_flat_walk.specs.{declared.places.Bound.Bound, declared.places.Taking.Taking}
 use Rattle.sharc_flat_walk.specs.{declared.registers.Bank.Bank, declared.registers.Bank.TheVariants.{Int, Reference}}
-use Rattle.sharc_flat_walk.specs.{declared.places.Taking.TheVariants.{Cast, Free}, declared.source.Source.Source}
+use Rattle.sharc_flat_walk.specs.{declared.places.Taking.TheVariants.{Cast, Free}, declared.source.PlacedProgram.PlacedProgram}
 use Rattle.sharc_flat_walk.specs.declared.target.Target.{Target as RustTarget}
 use Rattle.sharc_flat_walk.specs.declared.target.Target.TheVariants.{Variable, InGlobal, InGlobalAt, InObject}
 use Rattle.sharc_flat_walk.specs.declared.target.Target.TheVariants.{InObjectAt}
@@ -45,7 +45,7 @@ holds_references Int = false
 holds_references Reference = true
 
 -- the context of an expression, by the variables in scope
-abbrev pub context : Source → List Slot → Context
+abbrev pub context : PlacedProgram → List Slot → Context
 context p scope = record { program = p.m.now; globals = p.globals.items; scope = scope }
 
 abbrev pub use_of : Taking → Option ℕ → Use

@@ -24,16 +24,16 @@ use crate::patch::{Hole, fill, line_at, skip, skip_if_zero};
 use crate::places::{emit, store};
 use crate::registers::{Bank, Registers};
 use crate::scope::{end_block, free, leave, slot_of};
-use crate::source::Source;
+use crate::source::PlacedProgram;
 use crate::spots::{SpotAccess, at_site, no_text, object_spot};
 use crate::target::Target;
 use sharc_code::Use;
 use sharc_flat::slot::{Lvalue, Slot};
 use sharc_flat_form::Op;
 use sharc_mode::cell::pointed;
-use sharc_mode::row::{Reading, declared_row, row_of};
+use sharc_mode::row::{PathReading, declared_row, row_of};
 use sharc_mode::sharing::Sharing;
-use sharc_names::kind::{Kind, declared_kind};
+use sharc_names::kind::{ExpressionKind, declared_kind};
 use sharc_tree::token::{Site, Span};
 use sharc_tree::tree::{Declaration, Expr, ForFirst, ForHead, Jump, Local, Right, Simple, Stmt};
 use std::alloc::AllocError;
@@ -42,7 +42,7 @@ use std::alloc::AllocError;
 /// and how many blocks are open around the innermost loop.
 #[derive(Clone, Copy)]
 pub struct Around<'a> {
-    pub result: Kind<'a>,
+    pub result: ExpressionKind<'a>,
     pub broken: u32,
     pub continued: u32,
     pub outer: usize,
@@ -50,7 +50,7 @@ pub struct Around<'a> {
 
 /// The count of a malloc.
 fn elements(
-    source: &Source<'_>,
+    source: &PlacedProgram<'_>,
     scope: &[Slot],
     at: Registers,
     count: &Option<Expr>,
@@ -67,10 +67,10 @@ fn elements(
 
 /// The right side of `=`, for a target of this type, to which a pointer of this mode goes.
 fn right(
-    source: &Source<'_>,
+    source: &PlacedProgram<'_>,
     scope: &[Slot],
     at: Registers,
-    kind: Kind<'_>,
+    kind: ExpressionKind<'_>,
     mode: Sharing<'_>,
     right: &Right,
     lines: &mut Vec<Op>,
@@ -95,7 +95,7 @@ fn right(
 }
 
 fn assign(
-    source: &Source<'_>,
+    source: &PlacedProgram<'_>,
     scope: &[Slot],
     at: Registers,
     to: &Expr,
@@ -118,7 +118,7 @@ fn assign(
 }
 
 fn simple(
-    source: &Source<'_>,
+    source: &PlacedProgram<'_>,
     scope: &[Slot],
     simple: &Simple,
     lines: &mut Vec<Op>,
@@ -138,7 +138,7 @@ fn simple(
 
 /// The value of a local, where it has one, in its declaration.
 fn initial(
-    source: &Source<'_>,
+    source: &PlacedProgram<'_>,
     scope: &[Slot],
     declaration: &Declaration,
     value: &Option<Right>,
@@ -153,7 +153,7 @@ fn initial(
             let at = free(scope)?;
             let kind = declared_kind(&declaration.written);
             let site = declaration.name.site;
-            let row = declared_row(source.m.typed(), Reading::Written, site.token);
+            let row = declared_row(source.m.typed(), PathReading::Written, site.token);
             right(
                 source,
                 scope,
@@ -201,7 +201,7 @@ fn own_access<'a>(site: Site) -> SpotAccess<'a>
 
 /// A declaration: the variable is in scope from then on.
 fn local(
-    source: &Source<'_>,
+    source: &PlacedProgram<'_>,
     slots: &mut Vec<Slot>,
     local: &Local,
     lines: &mut Vec<Op>,
@@ -219,7 +219,7 @@ fn local(
 
 /// The first part of the head of a `for`.
 fn first(
-    source: &Source<'_>,
+    source: &PlacedProgram<'_>,
     slots: &mut Vec<Slot>,
     first: &ForFirst,
     lines: &mut Vec<Op>,
@@ -240,7 +240,7 @@ fn first(
 }
 
 fn step(
-    source: &Source<'_>,
+    source: &PlacedProgram<'_>,
     scope: &[Slot],
     step: Option<&Simple>,
     lines: &mut Vec<Op>,
@@ -256,7 +256,7 @@ fn step(
 
 /// What decides by a test: the last of its lines leads over a number of lines that is not known yet.
 fn turn(
-    source: &Source<'_>,
+    source: &PlacedProgram<'_>,
     scope: &[Slot],
     test: &Expr,
     lines: &mut Vec<Op>,
@@ -277,7 +277,7 @@ fn turn(
 }
 
 fn jump(
-    source: &Source<'_>,
+    source: &PlacedProgram<'_>,
     scope: &[Slot],
     marks: &[usize],
     around: Around<'_>,
@@ -307,7 +307,7 @@ fn give(bank: Bank, at: Registers, lines: &mut Vec<Op>) -> Result<(), AllocError
 
 /// `return`
 fn returned(
-    source: &Source<'_>,
+    source: &PlacedProgram<'_>,
     scope: &[Slot],
     marks: &[usize],
     around: Around<'_>,
@@ -358,7 +358,7 @@ fn other_side(hole: Hole, lines: &mut Vec<Op>) -> Result<usize, AllocError>
 /// A statement under a test or in a loop: what it declares is not in scope after it.
 #[cycle(statement)]
 fn inner(
-    source: &Source<'_>,
+    source: &PlacedProgram<'_>,
     slots: &mut Vec<Slot>,
     marks: &mut Vec<usize>,
     around: Around<'_>,
@@ -380,7 +380,7 @@ fn inner(
 /// Statements that follow one another.
 #[cycle(statement)]
 pub fn statements(
-    source: &Source<'_>,
+    source: &PlacedProgram<'_>,
     slots: &mut Vec<Slot>,
     marks: &mut Vec<usize>,
     around: Around<'_>,
@@ -404,7 +404,7 @@ pub fn statements(
 /// `{ .. }`
 #[cycle(statement)]
 fn block(
-    source: &Source<'_>,
+    source: &PlacedProgram<'_>,
     slots: &mut Vec<Slot>,
     marks: &mut Vec<usize>,
     around: Around<'_>,
@@ -430,7 +430,7 @@ fn block(
 /// What is done where a test is met.
 #[cycle(statement)]
 fn choice(
-    source: &Source<'_>,
+    source: &PlacedProgram<'_>,
     slots: &mut Vec<Slot>,
     marks: &mut Vec<usize>,
     around: Around<'_>,
@@ -451,7 +451,7 @@ fn choice(
 
 /// What decides whether there is a turn more, if a test is written.
 fn decision(
-    source: &Source<'_>,
+    source: &PlacedProgram<'_>,
     scope: &[Slot],
     test: Option<&Expr>,
     lines: &mut Vec<Op>,
@@ -482,7 +482,7 @@ fn finish(head: usize, hole: Option<Hole>, lines: &mut Vec<Op>) -> Result<(), Al
 /// A loop.
 #[cycle(statement)]
 fn turns(
-    source: &Source<'_>,
+    source: &PlacedProgram<'_>,
     slots: &mut Vec<Slot>,
     marks: &mut Vec<usize>,
     around: Around<'_>,
@@ -518,7 +518,7 @@ fn turns(
 /// `for`
 #[cycle(statement)]
 fn counted(
-    source: &Source<'_>,
+    source: &PlacedProgram<'_>,
     slots: &mut Vec<Slot>,
     marks: &mut Vec<usize>,
     around: Around<'_>,
@@ -556,7 +556,7 @@ fn counted(
 /// A statement.
 #[cycle(statement)]
 fn statement(
-    source: &Source<'_>,
+    source: &PlacedProgram<'_>,
     slots: &mut Vec<Slot>,
     marks: &mut Vec<usize>,
     around: Around<'_>,

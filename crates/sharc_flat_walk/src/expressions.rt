@@ -32,7 +32,7 @@ use crate::operations::{
 use crate::patch::{Hole, skip_if_zero};
 use crate::places::{Bound, Taking, emit, index_bounds, pointee, take, value};
 use crate::registers::{Bank, Registers};
-use crate::source::Source;
+use crate::source::PlacedProgram;
 use crate::spots::{SpotAccess, at_site, at_words, beside_field, cell_of, object_spot, tokens_in};
 use crate::target::{Target, global_of, lvalue_of, own_field, target_of};
 use sharc_code::{Use, Width};
@@ -45,12 +45,12 @@ use sharc_names::fault::Named;
 use sharc_names::kind::{declared_kind, element_kind, is_array, promoted};
 use sharc_tree::token::{Site, Span};
 use sharc_tree::tree::{
-    Access, BinaryOperator, Declaration, Expr, Identifier, PlaceCall, UnaryOperator,
+    FieldOperator, BinaryOperator, Declaration, Expr, Identifier, PlaceCall, UnaryOperator,
 };
 use std::alloc::AllocError;
 
 /// An expression as an lvalue that is accessed.
-pub fn access_of<'a>(source: &'a Source<'_>, expr: &'a Expr) -> SpotAccess<'a>
+pub fn access_of<'a>(source: &'a PlacedProgram<'_>, expr: &'a Expr) -> SpotAccess<'a>
     ensures site { result.site ≡ (span_of (view_expr expr.now)).first }
     ensures lvalue { result.lvalue ≡ lvalue_of source.now.m.now.typed (view_expr expr.now) }
     ensures mode { view_sharing result.mode ≡ cell_at source.now.m.now (view_expr expr.now) }
@@ -60,7 +60,7 @@ pub fn access_of<'a>(source: &'a Source<'_>, expr: &'a Expr) -> SpotAccess<'a>
 }
 
 /// The same, for this place of the source.
-fn access_at<'a>(source: &'a Source<'_>, site: Site, expr: &'a Expr) -> SpotAccess<'a>
+fn access_at<'a>(source: &'a PlacedProgram<'_>, site: Site, expr: &'a Expr) -> SpotAccess<'a>
     ensures site { result.site ≡ site }
     ensures lvalue { result.lvalue ≡ lvalue_of source.now.m.now.typed (view_expr expr.now) }
     ensures mode { view_sharing result.mode ≡ cell_at source.now.m.now (view_expr expr.now) }
@@ -75,14 +75,14 @@ fn access_at<'a>(source: &'a Source<'_>, site: Site, expr: &'a Expr) -> SpotAcce
 }
 
 /// The bank of the value of an expression.
-pub fn bank(source: &Source<'_>, expr: &Expr) -> Bank
+pub fn bank(source: &PlacedProgram<'_>, expr: &Expr) -> Bank
     ensures { holds_references result ≡ is_ref (context source.now []) (view_expr expr.now) }
 {
     bank_of(source.m.typed().kind_at(expr))
 }
 
 /// The field with the mutex beside the cell that an lvalue names, or with the pointer to it.
-pub fn guard_of(source: &Source<'_>, expr: &Expr) -> Option<u32>
+pub fn guard_of(source: &PlacedProgram<'_>, expr: &Expr) -> Option<u32>
     ensures { result ≡ guard_of (context source.now []) (view_expr expr.now) }
 {
     beside_field(source, mode_of(source.m, expr))
@@ -90,7 +90,7 @@ pub fn guard_of(source: &Source<'_>, expr: &Expr) -> Option<u32>
 
 /// The value of what an lvalue names, after the code that finds it.
 fn lvalue(
-    source: &Source<'_>,
+    source: &PlacedProgram<'_>,
     scope: &[Slot],
     at: Registers,
     expr: &Expr,
@@ -111,7 +111,7 @@ fn lvalue(
 
 /// The value of a name.
 fn name(
-    source: &Source<'_>,
+    source: &PlacedProgram<'_>,
     scope: &[Slot],
     at: Registers,
     expr: &Expr,
@@ -168,7 +168,7 @@ fn after_first(parameters: &[Declaration]) -> &[Declaration]
 
 /// `spawn` of this function, after its argument.
 fn spawn(
-    source: &Source<'_>,
+    source: &PlacedProgram<'_>,
     at: Registers,
     site: Site,
     of: &Identifier,
@@ -193,7 +193,7 @@ fn spawn(
 
 /// `lock`, after the code that finds the mutex.
 fn lock(
-    source: &Source<'_>,
+    source: &PlacedProgram<'_>,
     at: Registers,
     span: Span,
     place: &Expr,
@@ -212,7 +212,7 @@ fn lock(
 
 /// `unlock`, after the code that finds the mutex.
 fn unlock(
-    source: &Source<'_>,
+    source: &PlacedProgram<'_>,
     at: Registers,
     span: Span,
     place: &Expr,
@@ -237,7 +237,7 @@ fn unlock(
 
 /// `free`, after the code that finds the pointer.
 fn free(
-    source: &Source<'_>,
+    source: &PlacedProgram<'_>,
     scope: &[Slot],
     at: Registers,
     span: Span,
@@ -257,7 +257,7 @@ fn free(
 }
 
 /// The guard of the place of a call: a mutex is accessed under no mode.
-fn taken_guard(source: &Source<'_>, call: PlaceCall, place: &Expr) -> Option<u32>
+fn taken_guard(source: &PlacedProgram<'_>, call: PlaceCall, place: &Expr) -> Option<u32>
     ensures { result ≡ taken_guard (context source.now []) call (view_expr place.now) }
 {
     match call {
@@ -269,7 +269,7 @@ fn taken_guard(source: &Source<'_>, call: PlaceCall, place: &Expr) -> Option<u32
 
 /// `lock`, `unlock` or `free`, after what finds its place.
 fn on_place(
-    source: &Source<'_>,
+    source: &PlacedProgram<'_>,
     scope: &[Slot],
     at: Registers,
     span: Span,
@@ -289,7 +289,7 @@ fn on_place(
 
 /// The sharing cast at these tokens, after the code that finds its source.
 fn cast(
-    source: &Source<'_>,
+    source: &PlacedProgram<'_>,
     scope: &[Slot],
     at: Registers,
     span: Span,
@@ -313,7 +313,7 @@ fn cast(
 
 /// An operator before its operand, after the operand.
 fn unary(
-    source: &Source<'_>,
+    source: &PlacedProgram<'_>,
     scope: &[Slot],
     at: Registers,
     expr: &Expr,
@@ -380,7 +380,7 @@ fn computed(
 }
 
 /// The elements of a global that is indexed.
-fn global_bound(source: &Source<'_>, global: u32, cells: u32) -> Result<Bound, AllocError>
+fn global_bound(source: &PlacedProgram<'_>, global: u32, cells: u32) -> Result<Bound, AllocError>
     ensures { IfOk result (λ b. b ≡ Bound.Global (global_elements (global_at source.now.m.now.typed global)) cells
         (first_cell source.now.globals.items global)) }
 {
@@ -395,7 +395,7 @@ fn global_bound(source: &Source<'_>, global: u32, cells: u32) -> Result<Bound, A
 
 /// The number of an element becomes that of a cell, after what is indexed and the index.
 fn element(
-    source: &Source<'_>,
+    source: &PlacedProgram<'_>,
     at: Registers,
     site: Site,
     of: Option<u32>,
@@ -424,7 +424,7 @@ fn element(
 /// The value of an expression.
 #[cycle(expression)]
 pub fn expression(
-    source: &Source<'_>,
+    source: &PlacedProgram<'_>,
     scope: &[Slot],
     at: Registers,
     expr: &Expr,
@@ -476,7 +476,7 @@ pub fn expression(
 /// expression.
 #[cycle(expression)]
 fn operation(
-    source: &Source<'_>,
+    source: &PlacedProgram<'_>,
     scope: &[Slot],
     at: Registers,
     expr: &Expr,
@@ -525,7 +525,7 @@ fn operation(
 /// An operator after its left operand.
 #[cycle(expression)]
 fn binary(
-    source: &Source<'_>,
+    source: &PlacedProgram<'_>,
     scope: &[Slot],
     at: Registers,
     operator: BinaryOperator,
@@ -563,7 +563,7 @@ fn binary(
 /// it.
 #[cycle(expression)]
 fn decided(
-    source: &Source<'_>,
+    source: &PlacedProgram<'_>,
     scope: &[Slot],
     at: Registers,
     right: &Expr,
@@ -589,7 +589,7 @@ fn decided(
 /// Each argument, in the registers after those of the arguments before it.
 #[cycle(expression)]
 fn arguments(
-    source: &Source<'_>,
+    source: &PlacedProgram<'_>,
     scope: &[Slot],
     at: Registers,
     parameters: &[Declaration],
@@ -618,7 +618,7 @@ fn arguments(
 /// same element.
 #[cycle(expression)]
 pub fn place(
-    source: &Source<'_>,
+    source: &PlacedProgram<'_>,
     scope: &[Slot],
     at: Registers,
     site: Site,
@@ -665,7 +665,7 @@ pub fn place(
 /// What is indexed, and the first registers for the index: an array takes none, a pointer takes a reference.
 #[cycle(expression)]
 fn indexed(
-    source: &Source<'_>,
+    source: &PlacedProgram<'_>,
     scope: &[Slot],
     at: Registers,
     site: Site,
@@ -693,14 +693,14 @@ fn indexed(
 /// `a.n` and `a->n`
 #[cycle(expression)]
 fn field(
-    source: &Source<'_>,
+    source: &PlacedProgram<'_>,
     scope: &[Slot],
     at: Registers,
     site: Site,
     of: Option<u32>,
     guard: Option<u32>,
     base: &Expr,
-    access: Access,
+    access: FieldOperator,
     name: &Identifier,
     lines: &mut Vec<Op>,
 ) -> Result<(), AllocError>
@@ -710,14 +710,14 @@ fn field(
         (expression_code (context source.now scope.now) at.int at.reference (view_expr base.now))) }
 {
     match access {
-        Access::Dot => {
+        FieldOperator::Dot => {
             let own = own_field(
                 of,
                 field_named(source, source.m.typed().named(name.site.token)),
             );
             place(source, scope, at, site, Some(own), guard, base, lines)
         }
-        Access::Arrow => {
+        FieldOperator::Arrow => {
             expression(source, scope, at, base, lines)?;
             pointee(at.reference, site, lines)
         }

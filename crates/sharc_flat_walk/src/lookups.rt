@@ -13,13 +13,13 @@ ghost use Rattle.sharc_flat.specs.Flattened.{struct_layout, base_layout, layout_
 ghost use Rattle.sharc_flat_form.specs.Machine.{first_cell};
 
 use crate::scope::next;
-use crate::source::Source;
+use crate::source::PlacedProgram;
 use sharc_ctype::typed::Typed;
 use sharc_mode::cell::named_kind;
 use sharc_mode::sharing::{Lock, is_sibling_lock};
 use sharc_mode::types::fields_behind;
 use sharc_names::fault::Named;
-use sharc_names::kind::{Kind, Root, is_pointer};
+use sharc_names::kind::{ExpressionKind, Root, is_pointer};
 use sharc_tree::tree::{Declaration, GlobalForm};
 use std::alloc::AllocError;
 
@@ -33,7 +33,7 @@ pub fn small(number: usize) -> Result<u32, AllocError>
     }
 }
 
-fn struct_cells(source: &Source<'_>, name: &[u8]) -> u32
+fn struct_cells(source: &PlacedProgram<'_>, name: &[u8]) -> u32
     ensures { result ≡ struct_cells (structs_in source.now.m.now.typed.program.items) name.now }
 {
     match source.structs.get(name) {
@@ -42,7 +42,7 @@ fn struct_cells(source: &Source<'_>, name: &[u8]) -> u32
     }
 }
 
-fn base_cells(source: &Source<'_>, root: Root<'_>) -> u32
+fn base_cells(source: &PlacedProgram<'_>, root: Root<'_>) -> u32
     ensures { result ≡ base_cells source.now.m.now.typed (view_root root.entry) }
 {
     match root {
@@ -55,7 +55,7 @@ fn base_cells(source: &Source<'_>, root: Root<'_>) -> u32
     }
 }
 
-fn cells_behind(source: &Source<'_>, root: Root<'_>, stars: usize) -> u32
+fn cells_behind(source: &PlacedProgram<'_>, root: Root<'_>, stars: usize) -> u32
     ensures { result ≡ (if stars == 0 then base_cells source.now.m.now.typed (view_root root.entry) else 1) }
 {
     if stars == 0 {
@@ -66,14 +66,14 @@ fn cells_behind(source: &Source<'_>, root: Root<'_>, stars: usize) -> u32
 }
 
 /// The cells of one element.
-pub fn element_cells(source: &Source<'_>, kind: Kind<'_>) -> u32
+pub fn element_cells(source: &PlacedProgram<'_>, kind: ExpressionKind<'_>) -> u32
     ensures { result ≡ element_cells source.now.m.now.typed (view_kind kind.entry) }
 {
     match kind {
-        Kind::Object(root, stars) => cells_behind(source, root, stars),
-        Kind::Array(root, stars) => cells_behind(source, root, stars),
-        Kind::Null => 1,
-        Kind::Function => 1,
+        ExpressionKind::Object(root, stars) => cells_behind(source, root, stars),
+        ExpressionKind::Array(root, stars) => cells_behind(source, root, stars),
+        ExpressionKind::Null => 1,
+        ExpressionKind::Function => 1,
     }
 }
 
@@ -102,14 +102,14 @@ pub(crate) fn global_elements(typed: &Typed, number: u32) -> Result<u32, AllocEr
 }
 
 /// The place of a field's cell among those of an element.
-pub(crate) fn field_place(source: &Source<'_>, token: u32) -> u32
+pub(crate) fn field_place(source: &PlacedProgram<'_>, token: u32) -> u32
     ensures { result ≡ field_place source.now.m.now.typed token }
 {
     source.fields.get(&token).copied().unwrap_or(0)
 }
 
 /// The place of the field that a name names.
-pub(crate) fn field_named(source: &Source<'_>, named: Named) -> u32
+pub(crate) fn field_named(source: &PlacedProgram<'_>, named: Named) -> u32
     ensures { result ≡ field_place_named source.now.m.now.typed named }
 {
     match named {
@@ -155,7 +155,7 @@ pub(crate) fn is_behind_pointer(typed: &Typed, lock: Lock<'_>) -> bool
 }
 
 /// The first cell of a global.
-pub(crate) fn first_cell(source: &Source<'_>, number: u32) -> Result<u32, AllocError>
+pub(crate) fn first_cell(source: &PlacedProgram<'_>, number: u32) -> Result<u32, AllocError>
     ensures { IfOk result (λ n. n ≡ first_cell source.now.globals.items number) }
 {
     let globals = source.globals.as_slice();
@@ -170,7 +170,7 @@ pub(crate) fn first_cell(source: &Source<'_>, number: u32) -> Result<u32, AllocE
 }
 
 /// The cell of this field of a global's first element.
-pub(crate) fn cell_in(source: &Source<'_>, number: u32, field: u32) -> Result<u32, AllocError>
+pub(crate) fn cell_in(source: &PlacedProgram<'_>, number: u32, field: u32) -> Result<u32, AllocError>
     ensures { IfOk result (λ n. n ≡ first_cell source.now.globals.items number + field) }
 {
     match first_cell(source, number)?.checked_add(field) {
@@ -189,7 +189,7 @@ fn last_layout(typed: &Typed) -> Result<u32, AllocError>
     }
 }
 
-fn struct_layout(source: &Source<'_>, name: &[u8]) -> Result<u32, AllocError>
+fn struct_layout(source: &PlacedProgram<'_>, name: &[u8]) -> Result<u32, AllocError>
     ensures { IfOk result (λ n. n ≡ struct_layout 2 (structs_in source.now.m.now.typed.program.items) name.now) }
 {
     match source.structs.get(name) {
@@ -198,7 +198,7 @@ fn struct_layout(source: &Source<'_>, name: &[u8]) -> Result<u32, AllocError>
     }
 }
 
-fn base_layout(source: &Source<'_>, root: Root<'_>) -> Result<u32, AllocError>
+fn base_layout(source: &PlacedProgram<'_>, root: Root<'_>) -> Result<u32, AllocError>
     ensures { IfOk result (λ n. n
         ≡ base_layout (structs_in source.now.m.now.typed.program.items) (view_root root.entry)) }
 {
@@ -213,15 +213,15 @@ fn base_layout(source: &Source<'_>, root: Root<'_>) -> Result<u32, AllocError>
 }
 
 /// The number of the layout of an element.
-pub(crate) fn layout_of(source: &Source<'_>, kind: Kind<'_>) -> Result<u32, AllocError>
+pub(crate) fn layout_of(source: &PlacedProgram<'_>, kind: ExpressionKind<'_>) -> Result<u32, AllocError>
     ensures { IfOk result (λ n. n
         ≡ layout_of (structs_in source.now.m.now.typed.program.items) (view_kind kind.entry)) }
 {
     match kind {
-        Kind::Object(root, 0) => base_layout(source, root),
-        Kind::Object(_, _) => Ok(1),
-        Kind::Array(_, _) => Ok(0),
-        Kind::Null => Ok(0),
-        Kind::Function => Ok(0),
+        ExpressionKind::Object(root, 0) => base_layout(source, root),
+        ExpressionKind::Object(_, _) => Ok(1),
+        ExpressionKind::Array(_, _) => Ok(0),
+        ExpressionKind::Null => Ok(0),
+        ExpressionKind::Function => Ok(0),
     }
 }

@@ -19,13 +19,13 @@ use crate::spots::{at_site, no_text, tokens_in};
 use sharc_code::{Cell, Operator, Register, Text, Width};
 use sharc_flat_form::{Op, Spot};
 use sharc_names::fault::Named;
-use sharc_names::kind::{Kind, Root, is_integer, is_null, is_pointer};
+use sharc_names::kind::{ExpressionKind, Root, is_integer, is_null, is_pointer};
 use sharc_tree::token::Site;
 use sharc_tree::tree::{BinaryOperator, Constant, Expr, Identifier, ValueCall};
 use std::alloc::AllocError;
 
 /// The bank of a value of this type.
-pub fn bank_of(kind: Kind<'_>) -> Bank
+pub fn bank_of(kind: ExpressionKind<'_>) -> Bank
     ensures { holds_references result ≡ is_reference (view_kind kind.entry) }
 {
     if is_pointer(kind) || is_null(kind) {
@@ -49,21 +49,21 @@ fn root_width(root: Root<'_>) -> Width
 }
 
 /// The width of an integer type.
-pub(crate) fn width_of(kind: Kind<'_>) -> Width
+pub(crate) fn width_of(kind: ExpressionKind<'_>) -> Width
     ensures { result ≡ width_of (view_kind kind.entry) }
 {
     match kind {
-        Kind::Object(root, _) => root_width(root),
-        Kind::Array(root, _) => root_width(root),
-        Kind::Null => Width::Long,
-        Kind::Function => Width::Long,
+        ExpressionKind::Object(root, _) => root_width(root),
+        ExpressionKind::Array(root, _) => root_width(root),
+        ExpressionKind::Null => Width::Long,
+        ExpressionKind::Function => Width::Long,
     }
 }
 
 /// An integer that goes to something of this type is one that it holds.
 pub(crate) fn narrow(
     register: u32,
-    kind: Kind<'_>,
+    kind: ExpressionKind<'_>,
     site: Site,
     lines: &mut Vec<Op>,
 ) -> Result<(), AllocError>

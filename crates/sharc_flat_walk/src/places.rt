@@ -14,7 +14,7 @@ ghost use Rattle.sharc_flat_walk.specs.View.{context, view_target, use_of, bound
 
 use crate::registers::{Bank, Registers};
 use crate::scope::{number_in, register_of};
-use crate::source::Source;
+use crate::source::PlacedProgram;
 use crate::spots::{SpotAccess, at_site, at_words, cell_of, guard_cell, guard_field, spot_of};
 use crate::target::Target;
 use sharc_code::{PlaceMode, Register, Use};
@@ -42,7 +42,7 @@ fn guard_spot(access: SpotAccess<'_>) -> Result<Spot, AllocError>
 
 /// The pointer to the mutex is read, where the access is locked through one.
 fn guard(
-    source: &Source<'_>,
+    source: &PlacedProgram<'_>,
     at: Registers,
     access: SpotAccess<'_>,
     lines: &mut Vec<Op>,
@@ -93,7 +93,7 @@ fn copy(at: Registers, register: Register, lines: &mut Vec<Op>) -> Result<(), Al
 }
 
 fn cell_value(
-    source: &Source<'_>,
+    source: &PlacedProgram<'_>,
     scope: &[Slot],
     at: Registers,
     access: SpotAccess<'_>,
@@ -122,7 +122,7 @@ fn cell_value(
 
 /// The value of what an lvalue names.
 pub fn value(
-    source: &Source<'_>,
+    source: &PlacedProgram<'_>,
     scope: &[Slot],
     at: Registers,
     access: SpotAccess<'_>,
@@ -153,7 +153,7 @@ fn settle(from: Registers, register: Register, lines: &mut Vec<Op>) -> Result<()
 }
 
 fn cell_store(
-    source: &Source<'_>,
+    source: &PlacedProgram<'_>,
     scope: &[Slot],
     at: Registers,
     from: Registers,
@@ -177,7 +177,7 @@ fn cell_store(
 
 /// A value in these registers goes to what an lvalue names.
 pub fn store(
-    source: &Source<'_>,
+    source: &PlacedProgram<'_>,
     scope: &[Slot],
     at: Registers,
     from: Registers,
@@ -234,7 +234,7 @@ impl Taking {
 }
 
 fn cell_take(
-    source: &Source<'_>,
+    source: &PlacedProgram<'_>,
     scope: &[Slot],
     at: Registers,
     access: SpotAccess<'_>,
@@ -255,7 +255,7 @@ fn cell_take(
 
 /// What an lvalue names is taken away.
 pub fn take(
-    source: &Source<'_>,
+    source: &PlacedProgram<'_>,
     scope: &[Slot],
     at: Registers,
     access: SpotAccess<'_>,

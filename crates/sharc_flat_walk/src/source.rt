@@ -16,7 +16,7 @@ use std::alloc::{AllocError, Global};
 /// A program with its modes, the places of its globals, its structs by their names, and the places of its fields by the
 /// tokens that declare them.
 #[derive(Drop)]
-pub struct Source<'a> {
+pub struct PlacedProgram<'a> {
     pub m: &'a Moded,
     pub globals: Vec<GlobalCells>,
     pub(crate) structs: IndexMap<&'a [u8], StructRow>,
@@ -96,7 +96,7 @@ fn places_of(alloc: Global, typed: &Typed) -> Result<IndexMap<u32, u32>, AllocEr
     Ok(places)
 }
 
-impl<'a> Source<'a> {
+impl<'a> PlacedProgram<'a> {
     ghost use Rattle.std.specs.Prelude.{◌≡◌, [], IfOk};
 
     /// A program with its modes, whose globals have no places yet.
@@ -107,7 +107,7 @@ impl<'a> Source<'a> {
         let t = program.typed();
         let structs = structs_of(alloc, t)?;
         let fields = places_of(alloc, t)?;
-        Ok(Source {
+        Ok(PlacedProgram {
             m: program,
             globals: Vec::new(alloc),
             structs,
@@ -120,7 +120,7 @@ impl<'a> Source<'a> {
         ensures m { result.m.now ≡ self.entry.m.now }
         ensures globals { result.globals.items ≡ globals.items }
     {
-        Source {
+        PlacedProgram {
             m: self.m,
             globals,
             structs: self.structs,

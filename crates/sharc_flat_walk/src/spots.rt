@@ -15,7 +15,7 @@ ghost use Rattle.sharc_flat_walk.specs.View.{context, view_target};
 use crate::lookups::{cell_in, field_place, field_place_behind, first_cell, is_behind_pointer};
 use crate::registers::Registers;
 use crate::scope::{number_in, register_of};
-use crate::source::Source;
+use crate::source::PlacedProgram;
 use crate::target::Target;
 use sharc_code::{Cell, PlaceMode, Text, Use};
 use sharc_flat::slot::{Lvalue, Slot};
@@ -27,7 +27,7 @@ use std::alloc::AllocError;
 
 /// The cell that something names, whose base and number are in the first of these registers.
 pub(crate) fn cell_of(
-    source: &Source<'_>,
+    source: &PlacedProgram<'_>,
     at: Registers,
     target: Target,
 ) -> Result<Cell, AllocError>
@@ -47,7 +47,7 @@ pub(crate) fn cell_of(
 
 /// The cell of its element with a mutex or the pointer to one.
 pub(crate) fn guard_cell(
-    source: &Source<'_>,
+    source: &PlacedProgram<'_>,
     mutex: u32,
     at: Registers,
     target: Target,
@@ -64,7 +64,7 @@ pub(crate) fn guard_cell(
     }
 }
 
-fn guard_named(source: &Source<'_>, lock: Lock<'_>, named: Named) -> Option<u32>
+fn guard_named(source: &PlacedProgram<'_>, lock: Lock<'_>, named: Named) -> Option<u32>
     ensures { result ≡ guard_named source.now.m.now.typed (view_lock lock.entry) named }
 {
     match named {
@@ -84,7 +84,7 @@ fn guard_named(source: &Source<'_>, lock: Lock<'_>, named: Named) -> Option<u32>
 }
 
 /// The field with the pointer to the mutex, where an access is locked through one.
-pub(crate) fn guard_field(source: &Source<'_>, mode: Sharing<'_>) -> Option<u32>
+pub(crate) fn guard_field(source: &PlacedProgram<'_>, mode: Sharing<'_>) -> Option<u32>
     ensures { result ≡ guard_field source.now.m.now.typed (view_sharing mode.entry) }
 {
     match mode {
@@ -96,7 +96,7 @@ pub(crate) fn guard_field(source: &Source<'_>, mode: Sharing<'_>) -> Option<u32>
     }
 }
 
-fn beside_named(source: &Source<'_>, named: Named) -> Option<u32>
+fn beside_named(source: &PlacedProgram<'_>, named: Named) -> Option<u32>
     ensures { result ≡ beside_named source.now.m.now.typed (record { first = 0; second = None }) named }
 {
     match named {
@@ -110,7 +110,7 @@ fn beside_named(source: &Source<'_>, named: Named) -> Option<u32>
 }
 
 /// The field with the mutex or the pointer to it, where an access is locked by one of the same element.
-pub(crate) fn beside_field(source: &Source<'_>, mode: Sharing<'_>) -> Option<u32>
+pub(crate) fn beside_field(source: &PlacedProgram<'_>, mode: Sharing<'_>) -> Option<u32>
     ensures { result ≡ beside_field source.now.m.now.typed (view_sharing mode.entry) }
 {
     match mode {
@@ -124,7 +124,7 @@ pub(crate) fn beside_field(source: &Source<'_>, mode: Sharing<'_>) -> Option<u32
 
 /// The mode of what is locked by the mutex to which a variable leads.
 fn through(
-    source: &Source<'_>,
+    source: &PlacedProgram<'_>,
     scope: &[Slot],
     variable: u32,
     name: &[u8],
@@ -139,7 +139,7 @@ fn through(
 
 /// The mode of what is locked by something that is no sibling.
 fn object_mode_named(
-    source: &Source<'_>,
+    source: &PlacedProgram<'_>,
     scope: &[Slot],
     named: Named,
     second: Option<&[u8]>,
@@ -171,7 +171,7 @@ fn mode_beside(is_pointer: bool, field: u32, mutex: u32) -> PlaceMode
 }
 
 fn locked_mode(
-    source: &Source<'_>,
+    source: &PlacedProgram<'_>,
     scope: &[Slot],
     field: u32,
     lock: Lock<'_>,
@@ -192,7 +192,7 @@ fn locked_mode(
 
 /// The mode of an access to this field of an element.
 pub(crate) fn place_mode(
-    source: &Source<'_>,
+    source: &PlacedProgram<'_>,
     scope: &[Slot],
     field: u32,
     mode: Sharing<'_>,
@@ -210,7 +210,7 @@ pub(crate) fn place_mode(
 
 /// The mode of an object that is made or given.
 pub(crate) fn object_mode(
-    source: &Source<'_>,
+    source: &PlacedProgram<'_>,
     scope: &[Slot],
     mode: Sharing<'_>,
 ) -> Result<PlaceMode, AllocError>
@@ -234,7 +234,7 @@ pub(crate) fn object_mode(
 
 /// The cell of the mutex or of the pointer to it, where it is one of the same element.
 fn lock_cell(
-    source: &Source<'_>,
+    source: &PlacedProgram<'_>,
     at: Registers,
     target: Target,
     mode: Sharing<'_>,
@@ -310,7 +310,7 @@ pub(crate) fn at_words(site: Site, words: Span, at: Use) -> Result<Spot, AllocEr
 
 /// Where an object is made or given.
 pub(crate) fn object_spot(
-    source: &Source<'_>,
+    source: &PlacedProgram<'_>,
     scope: &[Slot],
     site: Site,
     words: Text,
@@ -338,7 +338,7 @@ pub struct SpotAccess<'a> {
 
 /// The place of an access, where what it names has these registers.
 pub(crate) fn spot_of(
-    source: &Source<'_>,
+    source: &PlacedProgram<'_>,
     scope: &[Slot],
     registers: Registers,
     access: SpotAccess<'_>,

@@ -9,11 +9,11 @@ ghost use Rattle.sharc_flat.specs.Places.{is_number_token, bare_token, lvalue_of
 ghost use Rattle.sharc_flat_walk.specs.View.{view_target};
 
 use crate::lookups::field_named;
-use crate::source::Source;
+use crate::source::PlacedProgram;
 use sharc_flat::slot::Lvalue;
 use sharc_names::fault::Named;
 use sharc_names::kind::is_array;
-use sharc_tree::tree::{Access, Constant, Expr, UnaryOperator};
+use sharc_tree::tree::{FieldOperator, Constant, Expr, UnaryOperator};
 
 /// What an lvalue names: a variable; a field of a global or of an element of one; a field of the first element of an
 /// object or of another one.
@@ -63,7 +63,7 @@ pub fn global_of(target: Target) -> u32
 }
 
 /// What an lvalue names, for this field of it if there is one.
-pub fn target_of(source: &Source<'_>, field: Option<u32>, expr: &Expr) -> Target
+pub fn target_of(source: &PlacedProgram<'_>, field: Option<u32>, expr: &Expr) -> Target
     ensures { view_target result ≡ target source.now.m.now.typed field (view_expr expr.now) }
 {
     let t = source.m.typed();
@@ -80,7 +80,7 @@ pub fn target_of(source: &Source<'_>, field: Option<u32>, expr: &Expr) -> Target
         }
         Expr::Field {
             base,
-            access: Access::Dot,
+            access: FieldOperator::Dot,
             name,
             ..
         } => {
@@ -88,7 +88,7 @@ pub fn target_of(source: &Source<'_>, field: Option<u32>, expr: &Expr) -> Target
             target_of(source, Some(inner), base)
         }
         Expr::Field {
-            access: Access::Arrow,
+            access: FieldOperator::Arrow,
             name,
             ..
         } => Target::InObject(own_field(field, field_named(source, t.named(name.site.token)))),
@@ -132,7 +132,7 @@ impl Target {
     }
 }
 
-fn names_variable(source: &Source<'_>, expr: &Expr) -> bool
+fn names_variable(source: &PlacedProgram<'_>, expr: &Expr) -> bool
     ensures { result ≡ names_variable source.now.m.now.typed (view_expr expr.now) }
 {
     match expr {
@@ -143,7 +143,7 @@ fn names_variable(source: &Source<'_>, expr: &Expr) -> bool
     }
 }
 
-fn names_global(source: &Source<'_>, expr: &Expr) -> bool
+fn names_global(source: &PlacedProgram<'_>, expr: &Expr) -> bool
     ensures { result ≡ names_global source.now.m.now.typed (view_expr expr.now) }
 {
     match expr {
@@ -163,7 +163,7 @@ fn is_number_token(expr: &Expr) -> bool
     }
 }
 
-fn is_simple_element(source: &Source<'_>, expr: &Expr) -> bool
+fn is_simple_element(source: &PlacedProgram<'_>, expr: &Expr) -> bool
     ensures { result ≡ is_simple_element source.now.m.now.typed (view_expr expr.now) }
 {
     match expr {
@@ -176,7 +176,7 @@ fn is_simple_element(source: &Source<'_>, expr: &Expr) -> bool
     }
 }
 
-fn is_simple_place(source: &Source<'_>, expr: &Expr) -> bool
+fn is_simple_place(source: &PlacedProgram<'_>, expr: &Expr) -> bool
     ensures { result ≡ is_simple_place source.now.m.now.typed (view_expr expr.now) }
 {
     match expr {
@@ -184,12 +184,12 @@ fn is_simple_place(source: &Source<'_>, expr: &Expr) -> bool
         Expr::Index(_, _, _) => is_simple_element(source, expr),
         Expr::Field {
             base,
-            access: Access::Dot,
+            access: FieldOperator::Dot,
             ..
         } => names_global(source, base) || is_simple_element(source, base),
         Expr::Field {
             base,
-            access: Access::Arrow,
+            access: FieldOperator::Arrow,
             ..
         } => names_variable(source, base),
         Expr::Unary(_, UnaryOperator::Dereference, operand) => names_variable(source, operand),
@@ -207,7 +207,7 @@ fn bare_token(expr: &Expr) -> u32
 }
 
 /// How an lvalue is written.
-pub fn lvalue_of(source: &Source<'_>, expr: &Expr) -> Lvalue
+pub fn lvalue_of(source: &PlacedProgram<'_>, expr: &Expr) -> Lvalue
     ensures { result ≡ lvalue_of source.now.m.now.typed (view_expr expr.now) }
 {
     Lvalue {

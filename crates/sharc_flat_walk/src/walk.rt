@@ -10,7 +10,7 @@ use crate::operations::{bank_of, zero};
 use crate::places::emit;
 use crate::registers::Registers;
 use crate::scope::{end_block, free, slot_of};
-use crate::source::Source;
+use crate::source::PlacedProgram;
 use crate::spots::at_site;
 use sharc_flat::slot::Slot;
 use sharc_flat_form::Op;
@@ -21,15 +21,15 @@ use std::alloc::{AllocError, Global};
 /// The lists that are kept from one function to the next: the variables in scope, and for each open block the number of
 /// variables in scope where it began.
 #[derive(Drop)]
-pub struct Walk {
+pub struct ScopeStack {
     slots: Vec<Slot>,
     marks: Vec<usize>,
 }
 
-impl Walk {
+impl ScopeStack {
     /// No function yet.
     pub fn new(alloc: Global) -> Self {
-        Walk {
+        ScopeStack {
             slots: Vec::new(alloc),
             marks: Vec::new(alloc),
         }
@@ -57,8 +57,8 @@ fn begin(
 /// The code of a function, at the end of these lines. It fails where the number of a register, a line, a cell or an
 /// element is too large, or where memory is short.
 pub fn function_lines(
-    source: &Source<'_>,
-    walk: &mut Walk,
+    source: &PlacedProgram<'_>,
+    walk: &mut ScopeStack,
     of: &FunctionDefinition,
     lines: &mut Vec<Op>,
 ) -> Result<(), AllocError>
@@ -93,7 +93,7 @@ pub fn function_lines(
 }
 
 /// The first registers after a function's parameters.
-pub fn parameters_free(walk: &mut Walk, parameters: &[Declaration]) -> Result<Registers, AllocError>
+pub fn parameters_free(walk: &mut ScopeStack, parameters: &[Declaration]) -> Result<Registers, AllocError>
     ensures int { IfOk result (λ r. r.int ≡ int_count (parameters_scope parameters.now)) }
     ensures reference { IfOk result (λ r. r.reference ≡ ref_count (parameters_scope parameters.now)) }
 {

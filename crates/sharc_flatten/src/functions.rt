@@ -14,14 +14,14 @@ use sharc_flat_form::Op;
 use sharc_flat_walk::lookups::small;
 use sharc_flat_walk::operations::bank_of;
 use sharc_flat_walk::registers::Bank;
-use sharc_flat_walk::source::Source;
+use sharc_flat_walk::source::PlacedProgram;
 use sharc_flat_walk::spots::no_text;
-use sharc_flat_walk::walk::{Walk, function_lines, parameters_free};
-use sharc_names::kind::{Kind, declared_kind};
+use sharc_flat_walk::walk::{ScopeStack, function_lines, parameters_free};
+use sharc_names::kind::{ExpressionKind, declared_kind};
 use sharc_tree::tree::{Declaration, FunctionDefinition};
 use std::alloc::{AllocError, Global};
 
-fn parameter_in(kind: Kind<'_>) -> Parameter
+fn parameter_in(kind: ExpressionKind<'_>) -> Parameter
     ensures { result ≡ parameter_in (view_kind kind.entry) }
 {
     match bank_of(kind) {
@@ -43,7 +43,7 @@ fn parameter_of(parameters: &[Declaration]) -> Parameter
 /// The row of a function whose code are these lines, from this one on. Its frame has the registers of the parameters
 /// and those that the code needs.
 fn row_of(
-    walk: &mut Walk,
+    walk: &mut ScopeStack,
     of: &FunctionDefinition,
     entry: usize,
     own: &[Op],
@@ -64,8 +64,8 @@ fn row_of(
 
 /// The code of a function, at the end of these lines, and its row.
 fn function(
-    source: &Source<'_>,
-    walk: &mut Walk,
+    source: &PlacedProgram<'_>,
+    walk: &mut ScopeStack,
     of: &FunctionDefinition,
     lines: &mut Vec<Op>,
 ) -> Result<Function, AllocError>
@@ -82,7 +82,7 @@ fn function(
 /// The code of all functions, one after the other, and their rows.
 pub fn functions(
     alloc: Global,
-    source: &Source<'_>,
+    source: &PlacedProgram<'_>,
     lines: &mut Vec<Op>,
 ) -> Result<Vec<Function>, AllocError>
     requires { lines.old.items ≡ [] }
@@ -94,7 +94,7 @@ pub fn functions(
 {
     let t = source.m.typed();
     let mut rows = Vec::with_capacity(alloc, t.function_count())?;
-    let mut walk = Walk::new(alloc);
+    let mut walk = ScopeStack::new(alloc);
     for number in 0..small(t.function_count())? {
         match t.function_at(number) {
             None => return Err(AllocError),

@@ -10,7 +10,7 @@ ghost use Rattle.sharc_flat.specs.Tables.{cells_in, globals_of, all_granules, al
 use crate::numbers::plus;
 use sharc_code::GlobalCells;
 use sharc_flat_walk::lookups::{element_cells, elements_of_form, small};
-use sharc_flat_walk::source::Source;
+use sharc_flat_walk::source::PlacedProgram;
 use sharc_names::kind::declared_kind;
 use sharc_tree::tree::{Constant, GlobalDefinition, GlobalForm};
 use std::alloc::{AllocError, Global};
@@ -73,7 +73,7 @@ impl Globals {
 }
 
 /// The cells of a global.
-fn cells_in(source: &Source<'_>, global: &GlobalDefinition) -> Result<u32, AllocError>
+fn cells_in(source: &PlacedProgram<'_>, global: &GlobalDefinition) -> Result<u32, AllocError>
     ensures { IfOk result (λ n. n ≡ cells_in source.now.m.now.typed global.now) }
 {
     let of_element = element_cells(source, declared_kind(&global.declaration.written));
@@ -122,7 +122,7 @@ fn first_word(form: &GlobalForm) -> u64
 }
 
 /// Where the globals lie, one after the other from granule 1 on, and what their cells hold at first.
-pub fn globals_of(alloc: Global, source: &Source<'_>) -> Result<Globals, AllocError>
+pub fn globals_of(alloc: Global, source: &PlacedProgram<'_>) -> Result<Globals, AllocError>
     ensures list { IfOk result (λ all. all.list.items ≡ globals_of source.now.m.now.typed) }
     ensures granules { IfOk result (λ all. all.granules
         ≡ all_granules source.now.m.now.typed (globals_in source.now.m.now.typed.program.items)) }

@@ -13,18 +13,18 @@ use crate::functions::functions;
 use crate::globals::{Globals, globals_of};
 use crate::layouts::layouts_of;
 use crate::sizes::{cells_fit, frames_fit};
-use crate::texts::{Words, lay_names};
+use crate::texts::{TokenTexts, lay_names};
 use sharc_code::Function;
 use sharc_ctype::typed::Typed;
 use sharc_flat_form::{Flat, Op};
 use sharc_flat_walk::lookups::small;
-use sharc_flat_walk::source::Source;
+use sharc_flat_walk::source::PlacedProgram;
 use sharc_mode::moded::Moded;
 use std::alloc::{AllocError, Global};
 
 /// The lines of all functions and the table of these, whose texts are given by tokens, with the globals.
 #[derive(Drop)]
-struct Parts {
+struct ProgramParts {
     lines: Vec<Op>,
     functions: Vec<Function>,
     globals: Globals,
@@ -49,7 +49,7 @@ fn main_of(program: &Moded) -> Result<u32, AllocError>
 }
 
 /// The code, before its texts are laid out.
-fn parts_of(alloc: Global, program: &Moded) -> Result<Parts, AllocError>
+fn parts_of(alloc: Global, program: &Moded) -> Result<ProgramParts, AllocError>
     ensures lines { IfOk result (λ parts. parts.lines.items
         ≡ functions_code program.now (globals_of program.now.typed) 0 (functions_in program.now.typed.program.items)) }
     ensures functions { IfOk result (λ parts. parts.functions.items
@@ -60,14 +60,14 @@ fn parts_of(alloc: Global, program: &Moded) -> Result<Parts, AllocError>
     ensures initial { IfOk result (λ parts. parts.globals.initial.items
         ≡ all_first_words program.now.typed (globals_in program.now.typed.program.items)) }
 {
-    let source = Source::of(alloc, program)?;
+    let source = PlacedProgram::of(alloc, program)?;
     let globals = globals_of(alloc, &source)?;
     let list = Vec::from_slice(alloc, globals.list.as_slice())?;
     let source = source.with_globals(list);
     let mut lines = Vec::new(alloc);
     let functions = functions(alloc, &source, &mut lines)?;
     drop(source);
-    Ok(Parts {
+    Ok(ProgramParts {
         lines,
         functions,
         globals,
@@ -87,7 +87,7 @@ fn lay_texts(
         AreNamed bytes.items rows.old.items (names_of (functions_in typed.now.program.items)) rows.new.items) }
 {
     let mut bytes = Vec::new(alloc);
-    let words = Words::of(alloc, typed, &mut bytes)?;
+    let words = TokenTexts::of(alloc, typed, &mut bytes)?;
     words.lay(alloc, lines, &mut bytes)?;
     drop(words);
     lay_names(typed, rows, &mut bytes)?;
@@ -114,7 +114,7 @@ pub fn flatten(alloc: Global, program: &Moded) -> Result<Flat, AllocError>
     ensures { IfOk result (λ code. Flattens program.now code × FitsMade (flat_of code)) }
 {
     let t = program.typed();
-    let Parts {
+    let ProgramParts {
         mut lines,
         mut functions,
         globals,

@@ -129,13 +129,13 @@ fn lock_text(
 
 /// Where the tokens of a program lie among the bytes of all texts, which begin with the text of all tokens.
 #[derive(Drop)]
-pub struct Words<'a> {
+pub struct TokenTexts<'a> {
     t: &'a Typed,
     places: Vec<Text>,
     ghost are: { places.items ≡ places_from 0 t.now.program.tokens.list },
 }
 
-impl<'a> Words<'a> {
+impl<'a> TokenTexts<'a> {
     ghost use Rattle.std.specs.Prelude.{◌≡◌, ◌++◌, [], List, ℕ, IfOk, OnOk};
     ghost use Rattle.sharc_tree.specs.Texts.{tokens_text};
     ghost use Rattle.sharc_flat.specs.Laid.{words_of, IsLaid, AreLaid};
@@ -149,7 +149,7 @@ impl<'a> Words<'a> {
     {
         let tokens = typed.program().tokens.list.as_slice();
         let places = lay_tokens(alloc, tokens, bytes)?;
-        Ok(Words { t: typed, places })
+        Ok(TokenTexts { t: typed, places })
     }
 
     /// Where the tokens from the first number up to the second lie.

@@ -4,7 +4,7 @@ use Rattle.sharc_tree.specs.declared.event.Act.TheVariants as acts
 use Rattle.sharc_tree.specs.declared.trap.Trap.TheVariants as traps
 use Rattle.sharc_shadow.specs.declared.shadow_word.Kind.TheVariants as kinds
 use Rattle.sharc_granule.specs.State.{NewView}
-use Rattle.sharc_code.specs.{declared.code.Code.Code, declared.instr.Width.TheVariants.{Int, Long}, declared.instr.Cell.Cell, declared.instr.Cell.TheVariants.{Global, GlobalAt, Object as InObject, ObjectAt}, declared.instr.Instr.Instr, declared.instr.Instr.TheVariants.{Constant, Move, MoveReference, Null, ComputeInt, ComputeLong, NegateInt, NegateLong, Complement, Not, SameReference, ChkWidth, Jump, JumpIfZero, JumpIfNull, Call, Return, ChkNull, ChkHeld, ChkNotHeld, ChkPositive, ChkRoom, ChkLock, ChkLockLoaded, Bounds, GlobalBounds, ChkRead, ChkWrite, Load, Store, LoadRef, Exchange, Raise, RaiseLoaded, Lower, New, TakeCell, TakeLocal, TestSole, Clear, Give, Free, Lock, Unlock, Spawn, Join, Print, Start, Exit, CondEnter, CondWait, CondSignal, CondBroadcast}, declared.shape.Shape.Shape, declared.state.State.State, declared.state.State.TheVariants.{Runs, Tries, Stopped, Ended}, declared.state.Stage.Stage, declared.state.Stage.TheVariants.{Rests, Looks, Clears, Makes, Empties, Lowers, FreeLooks, FreeClears, Uncounts, Links, Names, Hands, Begins, Enters, Withdraws, WithdrawsFrom, Leaves, Wakes}, Arithmetic.{computed, negated, complement, is_zero, truth, holds}, Layout.{cell_of, granule_at, granule_of}, Machine.{Machine, int, ref, act, goes, accessed, set_ref, is_positive, place, object, is_of_null}, Path.{after, asked_by, may_go}, Paced.{is_failed_try, repeats}, Says.{said, speaks_of, cell_at, made_cell, place_at, mode_of}}
+use Rattle.sharc_code.specs.{declared.code.Code.Code, declared.instr.Width.TheVariants.{Int, Long}, declared.instr.Cell.Cell, declared.instr.Cell.TheVariants.{Global, GlobalAt, Object as InObject, ObjectAt}, declared.instr.Instr.Instr, declared.instr.Instr.TheVariants.{Constant, Move, MoveReference, Null, ComputeInt, ComputeLong, NegateInt, NegateLong, Complement, Not, SameReference, ChkWidth, Jump, JumpIfZero, JumpIfNull, Call, Return, ChkNull, ChkHeld, ChkNotHeld, ChkPositive, ChkRoom, ChkLock, ChkLockLoaded, Bounds, GlobalBounds, ChkRead, ChkWrite, Load, Store, LoadRef, Exchange, Raise, RaiseLoaded, Lower, New, TakeCell, TakeLocal, TestSole, Clear, Give, Free, Lock, Unlock, Spawn, Join, Print, Start, Exit, CondEnter, CondWait, CondSignal, CondBroadcast}, declared.shape.Shape.Shape, declared.state.TurnState.TurnState, declared.state.TurnState.TheVariants.{Runs, Tries, Stopped, Ended}, declared.state.Stage.Stage, declared.state.Stage.TheVariants.{Rests, Looks, Clears, Makes, Empties, Lowers, FreeLooks, FreeClears, Uncounts, Links, Names, Hands, Begins, Enters, Withdraws, WithdrawsFrom, Leaves, Wakes}, Arithmetic.{computed, negated, complement, is_zero, truth, holds}, Layout.{cell_of, granule_at, granule_of}, Machine.{Machine, int, ref, act, goes, accessed, set_ref, is_positive, place, object, is_of_null}, Path.{after, asked_by, may_go}, Paced.{is_failed_try, repeats}, Says.{said, speaks_of, cell_at, made_cell, place_at, mode_of}}
 use Rattle.sharc_meaning.specs.Reference.{NULL, is_null, number_of, elements_of}
 use Rattle.sharc_guarded_form.specs.{Form.{IsAtPlace, IsGuarded}, Machine.{Program, Thread, Phase, Turn, Running, statement_at, turn, step, function_at}, Path.weight}
 use Rattle.sharc_guarded_form.specs.Machine as Form
@@ -71,7 +71,7 @@ rest_of m i k (WithdrawsFrom n l) at = absurd (not_exit i k at)
 rest_of m i k Leaves at = absurd (not_exit i k at)
 rest_of m i k (Wakes n) at = absurd (not_signal i k at)
 
-pub phase_now : (state : State) (st : Stage) → may_go state ≡ true → phase_of state st ≡ phase_at st
+pub phase_now : (state : TurnState) (st : Stage) → may_go state ≡ true → phase_of state st ≡ phase_at st
 phase_now Runs st h = refl
 phase_now Tries st h = refl
 phase_now Stopped st h = refl

@@ -5,7 +5,7 @@ use Rattle.std.specs.Prelude.{ℕ, ◌≡◌, ◌+◌, ◌*◌, ◌^◌, ◌<◌
 use Rattle.std.specs.Prelude.{Some, None, slice_index}
 use Rattle.std.specs.Option.{option_to_list}
 use Rattle.sharc_tree.specs.declared.event.SourceEvent.{SourceEvent}
-use Rattle.sharc_granule.specs.{declared.stage.Stage.{Stage as NewStage}, declared.stage.Stage.TheVariants.Length}
+use Rattle.sharc_granule.specs.{declared.stage.NewStage.{NewStage}, declared.stage.NewStage.TheVariants.Length}
 use Rattle.sharc_locks.specs.declared.held_log.HeldMutex.{HeldMutex}
 use Rattle.sharc_code.specs.{declared.code.Code.Code, declared.code.Parameter.Parameter, declared.instr.Cell.Cell}
 use Rattle.sharc_code.specs.declared.instr.Cell.TheVariants.{Global, GlobalAt, Object as InObject, ObjectAt}

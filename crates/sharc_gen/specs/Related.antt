@@ -4,13 +4,13 @@ use Rattle.std.specs.Prelude.{slice_index, slice_index_or}
 use Rattle.sharc_tree.specs.{declared.event.Object.Object, declared.event.CellAt.CellAt, declared.trap.Trap.Trap}
 use Rattle.sharc_tree.specs.declared.event.Object.TheVariants as objects
 use Rattle.sharc_tree.specs.declared.trap.Trap.TheVariants as traps
-use Rattle.sharc_granule.specs.declared.stage.Stage.{Stage as NewStage}
-use Rattle.sharc_granule.specs.declared.stage.Stage.TheVariants.{Cell, Move as Moves, Count, Length, Made}
+use Rattle.sharc_granule.specs.declared.stage.NewStage.{NewStage}
+use Rattle.sharc_granule.specs.declared.stage.NewStage.TheVariants.{Cell, Move as Moves, Count, Length, Made}
 use Rattle.sharc_locks.specs.declared.held_log.HeldMutex.{HeldMutex}
 use Rattle.sharc_code.specs.{declared.code.Code.Code, declared.code.GlobalCells.GlobalCells, declared.instr.Instr.Instr}
 use Rattle.sharc_code.specs.declared.instr.Instr.TheVariants.{New, Clear, Free, Spawn, Join, Exit, CondSignal}
-use Rattle.sharc_code.specs.{declared.shape.Shape.Shape, declared.state.Frame.Frame, declared.state.State.State}
-use Rattle.sharc_code.specs.{declared.state.State.TheVariants.{Runs, Tries, Stopped, Ended}, declared.state.Stage.Stage}
+use Rattle.sharc_code.specs.{declared.shape.Shape.Shape, declared.state.Frame.Frame, declared.state.TurnState.TurnState}
+use Rattle.sharc_code.specs.{declared.state.TurnState.TheVariants.{Runs, Tries, Stopped, Ended}, declared.state.Stage.Stage}
 use Rattle.sharc_code.specs.declared.state.Stage.TheVariants.{Rests, Looks, Clears, Makes, Empties, Lowers, FreeLooks}
 use Rattle.sharc_code.specs.declared.state.Stage.TheVariants.{FreeClears, Uncounts, Links, Names, Hands, Begins, Enters}
 use Rattle.sharc_code.specs.declared.state.Stage.TheVariants.{Withdraws, WithdrawsFrom, Leaves, Wakes}
@@ -155,7 +155,7 @@ phase_at (WithdrawsFrom row seen) = Leaving
 phase_at Leaves = Leaving
 phase_at _ = Running
 
-abbrev pub phase_of : State → Stage → Phase
+abbrev pub phase_of : TurnState → Stage → Phase
 phase_of Ended stage = Left
 phase_of Runs stage = phase_at stage
 phase_of Tries stage = phase_at stage
@@ -182,7 +182,7 @@ StopsAt p a (Trapped trap site) = (turn p a ≡ Form.Halts (Form.Stopped trap si
     ⊎ Refuses (statement_at p a.pc) trap site
 
 -- where the machine is over, guarded code is
-abbrev pub IsOver : Program → Thread → State → Option Stop → Type 0
+abbrev pub IsOver : Program → Thread → TurnState → Option Stop → Type 0
 IsOver p a Runs stop = Unit {0}
 IsOver p a Tries stop = Unit {0}
 IsOver p a Stopped stop = IsSomeAnd stop (StopsAt p a)
@@ -210,8 +210,8 @@ pub record IsLinking (code : Code) (s : Shape) (p : Program) (T : Elements) (m :
   pub phase_is : a.phase ≡ Running
   pub state_is : m.at.state ≡ Runs
 
-abbrev pub Stands : Code → Shape → Program → Elements → Machine → Thread → Type 0
-Stands code s p T m a = IsAt code s p T m a ⊎ IsLinking code s p T m a
+abbrev pub MatchesThread : Code → Shape → Program → Elements → Machine → Thread → Type 0
+MatchesThread code s p T m a = IsAt code s p T m a ⊎ IsLinking code s p T m a
 
 -- ---- pace
 -- how many counted turns of a statement are made at a stage

@@ -1,9 +1,9 @@
 -- The machine reads each phrase that fits.
 use Rattle.std.proofs.{Common.{◌≡◌, ℕ, ◌≤◌, ◌<◌, List, [], ◌∷◌, Option, Some, None, refl, sym, ap, ◌∙◌, arith, Bool, true, false, cond}, lemmas.Bool.{true_from_ne_false as must}}
 use Rattle.sharc_tree.specs.declared.token.Keyword.TheVariants as key
-use Rattle.sharc_tree.specs.{declared.token.Punctuator.TheVariants.{OpenParenthesis, CloseParenthesis, Comma, Arrow, Minus, Star, Exclamation, Tilde}, declared.ctype.Base.Base, declared.tree.expression.BinaryOperator.BinaryOperator, declared.tree.expression.UnaryOperator.UnaryOperator, declared.tree.expression.UnaryOperator.TheVariants.{Negate, Not, Complement, Dereference}, declared.tree.expression.Access.Access, declared.tree.expression.Constant.Constant}
+use Rattle.sharc_tree.specs.{declared.token.Punctuator.TheVariants.{OpenParenthesis, CloseParenthesis, Comma, Arrow, Minus, Star, Exclamation, Tilde}, declared.ctype.Base.Base, declared.tree.expression.BinaryOperator.BinaryOperator, declared.tree.expression.UnaryOperator.UnaryOperator, declared.tree.expression.UnaryOperator.TheVariants.{Negate, Not, Complement, Dereference}, declared.tree.expression.FieldOperator.FieldOperator, declared.tree.expression.Constant.Constant}
 use Rattle.sharc_tree.specs.declared.ctype.Base.TheVariants as base
-use Rattle.sharc_tree.specs.declared.tree.expression.Access.TheVariants as access
+use Rattle.sharc_tree.specs.declared.tree.expression.FieldOperator.TheVariants as access
 use Rattle.sharc_tree.specs.declared.tree.expression.ValueCall.TheVariants as value_call
 use Rattle.sharc_tree.specs.declared.tree.expression.PlaceCall.TheVariants as place_call
 use Rattle.sharc_tree.specs.declared.tree.expression.Constant.TheVariants as constants
@@ -440,11 +440,11 @@ front_reads (of_place place_call.Unlock) w k y = refl
 front_reads (of_place place_call.Free) w k y = refl
 front_reads (of_cast t) w k y = cast_read k t.mode_first t.base t.levels w y
 
-access_reads : (a : Access) (x : Phrase) (n : List ℕ) (k : Cont) (y : List Word) → reads_at (mark (access_mark a) ∷ (name n ∷ y)) (Have x k) ≡ reads_at y (Have (field x a n) k)
+access_reads : (a : FieldOperator) (x : Phrase) (n : List ℕ) (k : Cont) (y : List Word) → reads_at (mark (access_mark a) ∷ (name n ∷ y)) (Have x k) ≡ reads_at y (Have (field x a n) k)
 access_reads access.Dot x n k y = refl
 access_reads access.Arrow x n k y = refl
 
-access_grip : (a : Access) → grip_of (role (mark (access_mark a))) ≡ 12
+access_grip : (a : FieldOperator) → grip_of (role (mark (access_mark a))) ≡ 12
 access_grip access.Dot = refl
 access_grip access.Arrow = refl
 

@@ -5,7 +5,7 @@ use Rattle.sharc_tree.specs.{declared.token.NumberType.TheVariants.Int, declared
 use Rattle.sharc_tree.specs.declared.token.Keyword.TheVariants as key
 use Rattle.sharc_tree.specs.declared.ctype.Base.TheVariants as base
 use Rattle.sharc_tree.specs.declared.tree.expression.Constant.TheVariants as constants
-use Rattle.sharc_grammar.specs.{Grammar.{Word, name, keyword, mark, number, character, Sharing, locked, locked_through, Typing, Declaring, sharing_words, level_words, base_words, type_words, declaring_words, FitsType, IsPlain, of_spawn, of_cast, Phrase, constant, enclosed, call, index, field, unary, binary, Phrases, none, more, words, level, Fits, Value, value, malloc, Doing, assign, Line, nothing, does, Sentence, line, return, block, under, Sentences, no_more, sentence, if_of, while_of, value_words, doing_words, line_words, loop_words, written, written_all, opening_words, is_declaring, is_declaration, FitsOption, FitsValue, FitsDoing, FitsLine, FitsStep, FitsAs, Form, single, array, initially, Part, structure, global, parameters_words, part_words, program_words, FitsForm, FitsPart, IsProgram}, Machine.{Outer, body, items, inside, LinePlace, as_statement, as_first, DoingPlace, in_line, as_step, ValuePlace, of_doing, of_local, Asked, by_if, by_while, Place, condition, returning, testing, subject, valued, counting, Cont, part, beneath, right_of, fronted, indexing, arguments, NamePlace, on_top, field_of, parameter_of, local, TypePlace, naming, casting, sizing, ModePlace, before_base, at_level, Core, Want, Have, Called, Dotted, Spawning, Start, Done, Returning, ForOpen, ForTest, ForStep, Malloced, Valued, TypeWant, ModeFirst, StructWant, Typed, PathWant, PathNamed, PathThrough, Named, Fields, ArrayWant, InitialWant, InitialNegative, Top, with_last, floor, loop, local_line, typing_of, takes_modes, moded, based, declaring_of, with_part, with_declaring, fields, with_item, function_of, may_declare}, Limits.{height, highest, FewStars, FewFront, Few, FewAll, Low, LowOption, LowValue, LowDoing, LowInitial, LowLine, LowStep, LowSentence, LowAll, LowOpening, line_nesting, nesting, deepest, nesting_before, FewGiven, LowPart, LowProgram, depth, around_it}, Operators.floor_most}
+use Rattle.sharc_grammar.specs.{Grammar.{Word, name, keyword, mark, number, character, Sharing, locked, locked_through, Typing, Declaring, sharing_words, level_words, base_words, type_words, declaring_words, FitsType, IsPlain, of_spawn, of_cast, Phrase, constant, enclosed, call, index, field, unary, binary, Phrases, none, more, words, level, Fits, Value, value, malloc, Doing, assign, Line, nothing, does, Sentence, line, return, block, under, Sentences, no_more, sentence, if_of, while_of, value_words, doing_words, line_words, loop_words, written, written_all, opening_words, is_declaring, is_declaration, FitsOption, FitsValue, FitsDoing, FitsLine, FitsStep, FitsAs, Form, single, array, initially, Part, structure, global, parameters_words, part_words, program_words, FitsForm, FitsPart, IsProgram}, Machine.{Outer, body, items, inside, LinePlace, as_statement, as_first, DoingPlace, in_line, as_step, ValuePlace, of_doing, of_local, Asked, by_if, by_while, ExpressionPlace, condition, returning, testing, subject, valued, counting, Cont, part, beneath, right_of, fronted, indexing, arguments, NamePlace, on_top, field_of, parameter_of, local, TypePlace, naming, casting, sizing, ModePlace, before_base, at_level, Core, Want, Have, Called, Dotted, Spawning, Start, Done, Returning, ForOpen, ForTest, ForStep, Malloced, Valued, TypeWant, ModeFirst, StructWant, Typed, PathWant, PathNamed, PathThrough, Named, Fields, ArrayWant, InitialWant, InitialNegative, Top, with_last, floor, loop, local_line, typing_of, takes_modes, moded, based, declaring_of, with_part, with_declaring, fields, with_item, function_of, may_declare}, Limits.{height, highest, FewStars, FewFront, Few, FewAll, Low, LowOption, LowValue, LowDoing, LowInitial, LowLine, LowStep, LowSentence, LowAll, LowOpening, line_nesting, nesting, deepest, nesting_before, FewGiven, LowPart, LowProgram, depth, around_it}, Operators.floor_most}
 use Rattle.sharc_grammar.proofs.{CompleteProgram.MayStand, Sound.{outside, line_place_words, doing_place_words, value_place_words, around, struct_words, name_place_words, type_place_words, mode_place_words, so_far, Outside, DoingAt, ValueAt, Around, NameAt, TypeAt, ModeAt, BaseAt, Sound, program_more, is_program_more, parameters_more, declaring_more, some_field, list_more, all_more, items_more, fit_more, may, moded_sound, moded_says, fields_more, based_sound, is_statement}}
 
 -- what is around it is within the limits
@@ -32,7 +32,7 @@ abbrev pub LowValuePlace : ValuePlace → Outer → Type 0
 LowValuePlace (of_doing d u) o = LowDoingPlace d o × Low u
 LowValuePlace (of_local p d) o = RoomToDeclare p o × FewStars d.typing
 
-abbrev pub LowPlace : Place → Outer → Type 0
+abbrev pub LowPlace : ExpressionPlace → Outer → Type 0
 LowPlace (condition q) o = around_it o < 63
 LowPlace returning o = around_it o < 64
 LowPlace (testing l) o = LowLine l × (around_it o < 63)
@@ -239,7 +239,7 @@ complete_condition by_while o x w a =
     onward (λ y. around (part (condition by_while) o) (words x y)) (λ y. outside (inside (while_of x) o) (written (line nothing) y)) (Low x × (around_it o < 63) × LowOuter o) (Unit {0} × (around_it o + 1 + 1 ≤ 64) × LowOuter (inside (while_of x) o)) (λ y. mark CloseParenthesis ∷ (mark Semicolon ∷ y))
     (λ y. refl) (λ l. (tt, omega (arith, l.1), (l.0, omega (arith, l.1), l.2))) (complete_outer (inside (while_of x) o) (line nothing) tt (λ h. cc) (w, a))
 
-complete_place : (p : Place) (o : Outer) (x : Phrase) → Fits x → floor (part p o) ≤ level x → Around (part p o) → Completed (λ y. around (part p o) (words x y)) (Low x × LowPlace p o × LowOuter o)
+complete_place : (p : ExpressionPlace) (o : Outer) (x : Phrase) → Fits x → floor (part p o) ≤ level x → Around (part p o) → Completed (λ y. around (part p o) (words x y)) (Low x × LowPlace p o × LowOuter o)
 complete_place (condition q) o x w f a = complete_condition q o x w a.1
 complete_place returning o x w f a =
     onward (λ y. around (part returning o) (words x y)) (λ y. outside o (written (return (Some x)) y)) (Low x × LowPlace returning o × LowOuter o) (Low x × (around_it o + 1 ≤ 64) × LowOuter o) (λ y. mark Semicolon ∷ y)

@@ -2,11 +2,11 @@
 use Rattle.std.proofs.{Common.{◌≡◌, ℕ, ◌≤◌, ◌<◌, List, [], ◌∷◌, Option, Some, None, refl, sym, ap, ◌∙◌, arith, Bool, true, false, cond}, lemmas.Bool.leb-true}
 use Rattle.std.specs.Prelude.{nat_le}
 use Rattle.sharc_tree.specs.declared.token.Keyword.TheVariants as key
-use Rattle.sharc_tree.specs.{declared.token.Punctuator.TheVariants.{OpenParenthesis, CloseParenthesis, OpenBrace, CloseBrace, OpenBracket, CloseBracket, Semicolon, Comma, Dot, Arrow, Assign, Equal, NotEqual, Less, Greater, LessOrEqual, GreaterOrEqual, ShiftLeft, ShiftRight, Plus, Minus, Star, Slash, Percent, Ampersand, AndAnd, Bar, OrOr, Caret, Exclamation, Tilde}, declared.ctype.Base.Base, declared.tree.expression.BinaryOperator.BinaryOperator, declared.tree.expression.Access.Access}
+use Rattle.sharc_tree.specs.{declared.token.Punctuator.TheVariants.{OpenParenthesis, CloseParenthesis, OpenBrace, CloseBrace, OpenBracket, CloseBracket, Semicolon, Comma, Dot, Arrow, Assign, Equal, NotEqual, Less, Greater, LessOrEqual, GreaterOrEqual, ShiftLeft, ShiftRight, Plus, Minus, Star, Slash, Percent, Ampersand, AndAnd, Bar, OrOr, Caret, Exclamation, Tilde}, declared.ctype.Base.Base, declared.tree.expression.BinaryOperator.BinaryOperator, declared.tree.expression.FieldOperator.FieldOperator}
 use Rattle.sharc_tree.specs.declared.ctype.Base.TheVariants as base
 use Rattle.sharc_tree.specs.declared.tree.expression.BinaryOperator.TheVariants as op
 use Rattle.sharc_tree.specs.declared.tree.expression.Constant.TheVariants as constants
-use Rattle.sharc_grammar.specs.{Grammar.{Word, name, keyword, mark, number, character, Sharing, private, readonly, racy, dynamic, locked, locked_through, Typing, Declaring, sharing_words, level_words, base_words, levels_words, type_words, declaring_words, FitsLevels, FitsType, Front, Phrase, identifier, unary, binary, Phrases, none, more, operator_mark, unary_mark, access_mark, strength, front_words, words, words_of_all, words_of_rest, level, front_level, FitsFront, Fits, FitAll, Value, value, Doing, assign, invoke, Line, nothing, does, Sentence, under, Sentences, no_more, sentence, if_of, else_of, while_of, for_of, option_words, count_words, value_words, doing_words, line_words, written, written_all, opening_words, is_call, is_declaring, is_declaration, takes_else, FitsOption, FitsCount, FitsValue, FitsDoing, FitsLine, FitsAs, FitAllAs, FitsOpening, single, array, initially, Part, structure, global, fields_words, further_words, parameters_words, part_words, program_words, FitAllDeclaring, FitsFields, FitsPart, IsProgram}, Machine.{Outer, body, items, inside, LinePlace, as_statement, as_first, DoingPlace, in_line, as_step, ValuePlace, of_doing, of_local, Asked, by_if, by_while, Place, condition, returning, testing, subject, valued, counting, Cont, part, beneath, right_of, fronted, indexing, arguments, NamePlace, on_top, field_of, parameter_of, local, TypePlace, naming, casting, sizing, ModePlace, before_base, at_level, Core, Want, Have, Called, Dotted, Spawning, Start, Done, Returning, ForOpen, ForTest, ForStep, Malloced, Valued, TypeWant, ModeFirst, StructWant, Typed, PathWant, PathNamed, PathThrough, Named, Fields, ArrayWant, InitialWant, InitialNegative, Top, Fixed, a_semicolon, a_bracket, State, At, fixed_words, or_else, to, Operating, Ending, role, joined, with_last, floor, settle, mallocs, want, open_call, lined, doing_end, local_line, local_end, value_end, subject_end, condition_end, return_end, test_end, leave, front_end, index_end, argument_end, end_at, counted, shift, have, dotted, called, spawning, typing_of, takes_modes, moded, mode_step, based, base_step, begin_type, struct_want, level_step, name_step, comma_step, close_type, open_type, typed, path_want, path_named, path_through, declaring_of, with_part, with_declaring, named_top, named_field, named_parameter, named_local, named, fields, array_want, initial_negative, initial_want, with_item, function_of, close_block, may_declare, line_start, start, is_else, done, returned, for_test, for_step, malloced, core_step}, Operators.{weak, floor_most}}
+use Rattle.sharc_grammar.specs.{Grammar.{Word, name, keyword, mark, number, character, Sharing, private, readonly, racy, dynamic, locked, locked_through, Typing, Declaring, sharing_words, level_words, base_words, levels_words, type_words, declaring_words, FitsLevels, FitsType, Front, Phrase, identifier, unary, binary, Phrases, none, more, operator_mark, unary_mark, access_mark, strength, front_words, words, words_of_all, words_of_rest, level, front_level, FitsFront, Fits, FitAll, Value, value, Doing, assign, invoke, Line, nothing, does, Sentence, under, Sentences, no_more, sentence, if_of, else_of, while_of, for_of, option_words, count_words, value_words, doing_words, line_words, written, written_all, opening_words, is_call, is_declaring, is_declaration, takes_else, FitsOption, FitsCount, FitsValue, FitsDoing, FitsLine, FitsAs, FitAllAs, FitsOpening, single, array, initially, Part, structure, global, fields_words, further_words, parameters_words, part_words, program_words, FitAllDeclaring, FitsFields, FitsPart, IsProgram}, Machine.{Outer, body, items, inside, LinePlace, as_statement, as_first, DoingPlace, in_line, as_step, ValuePlace, of_doing, of_local, Asked, by_if, by_while, ExpressionPlace, condition, returning, testing, subject, valued, counting, Cont, part, beneath, right_of, fronted, indexing, arguments, NamePlace, on_top, field_of, parameter_of, local, TypePlace, naming, casting, sizing, ModePlace, before_base, at_level, Core, Want, Have, Called, Dotted, Spawning, Start, Done, Returning, ForOpen, ForTest, ForStep, Malloced, Valued, TypeWant, ModeFirst, StructWant, Typed, PathWant, PathNamed, PathThrough, Named, Fields, ArrayWant, InitialWant, InitialNegative, Top, Fixed, a_semicolon, a_bracket, State, At, fixed_words, or_else, to, Operating, Ending, role, joined, with_last, floor, settle, mallocs, want, open_call, lined, doing_end, local_line, local_end, value_end, subject_end, condition_end, return_end, test_end, leave, front_end, index_end, argument_end, end_at, counted, shift, have, dotted, called, spawning, typing_of, takes_modes, moded, mode_step, based, base_step, begin_type, struct_want, level_step, name_step, comma_step, close_type, open_type, typed, path_want, path_named, path_through, declaring_of, with_part, with_declaring, named_top, named_field, named_parameter, named_local, named, fields, array_want, initial_negative, initial_want, with_item, function_of, close_block, may_declare, line_start, start, is_else, done, returned, for_test, for_step, malloced, core_step}, Operators.{weak, floor_most}}
 use Rattle.sharc_grammar.proofs.{Complete.{ModesFit, never}, CompleteProgram.MayStand}
 
 -- the arguments so far, with a comma after each
@@ -32,7 +32,7 @@ abbrev pub value_place_words : ValuePlace → List Word → List Word
 value_place_words (of_doing d u) y = doing_place_words d (words u (mark Assign ∷ y))
 value_place_words (of_local p d) y = line_place_words p (declaring_words d (mark Assign ∷ y))
 
-abbrev pub place_words : Place → List Word → List Word
+abbrev pub place_words : ExpressionPlace → List Word → List Word
 place_words (condition by_if) y = keyword key.If ∷ (mark OpenParenthesis ∷ y)
 place_words (condition by_while) y = keyword key.While ∷ (mark OpenParenthesis ∷ y)
 place_words returning y = keyword key.Return ∷ y
@@ -113,7 +113,7 @@ abbrev pub ValueAt : ValuePlace → Outer → Type 0
 ValueAt (of_doing d u) o = DoingAt d × (11 ≤ level u) × Fits u
 ValueAt (of_local p d) o = (may_declare p o ≡ true) × FitsType d.typing
 
-abbrev pub PlaceAt : Place → Outer → Type 0
+abbrev pub PlaceAt : ExpressionPlace → Outer → Type 0
 PlaceAt (condition q) o = Unit {0}
 PlaceAt returning o = Unit {0}
 PlaceAt (testing l) o = FitsLine l
@@ -385,7 +385,7 @@ spawning_goes : (k : Cont) → Around k → (t : Word) → Goes (so_far (Spawnin
 spawning_goes k a (name f) = ((tt, a), λ y. refl)
 spawning_goes k a _ = tt
 
-dotted_goes : (x : Phrase) (w : Access) (k : Cont) → Sound (Dotted x w k) → (t : Word) → Goes (so_far (Dotted x w k)) t (dotted x w k t)
+dotted_goes : (x : Phrase) (w : FieldOperator) (k : Cont) → Sound (Dotted x w k) → (t : Word) → Goes (so_far (Dotted x w k)) t (dotted x w k t)
 dotted_goes x w k a (name n) = ((omega arith, (a.0, a.1), a.2), λ y. refl)
 dotted_goes x w k a _ = tt
 
@@ -464,7 +464,7 @@ subject_goes : (d : DoingPlace) (x : Phrase) (o : Outer) → Fits x → 11 ≤ l
 subject_goes d x o w f h a (mark Assign) = (((h, f, w), a), λ y. refl)
 subject_goes d x o w f h a t = invoke_goes (is_call x) d x o refl w h a t
 
-leave_goes : (p : Place) (x : Phrase) (o : Outer) → Fits x → floor (part p o) ≤ level x → Around (part p o) → (t : Word) → Goes (λ y. around (part p o) (words x y)) t (leave p x o t)
+leave_goes : (p : ExpressionPlace) (x : Phrase) (o : Outer) → Fits x → floor (part p o) ≤ level x → Around (part p o) → (t : Word) → Goes (λ y. around (part p o) (words x y)) t (leave p x o t)
 leave_goes (condition q) x o w f a t = condition_goes q x o w a.1 t
 leave_goes returning x o w f a t = return_goes x o w a.1 t
 leave_goes (testing l) x o w f a t = test_goes l x o w a.0 a.1 t

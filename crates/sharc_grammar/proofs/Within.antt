@@ -2,13 +2,13 @@
 use Rattle.std.proofs.{Common.{◌≡◌, ℕ, ◌+◌, ◌≤◌, ◌<◌, List, [], ◌∷◌, length, Option, Some, None, refl, sym, ◌∙◌, arith, Bool, true, false, cond}, lemmas.Bool.{leb-false, lt-leb}}
 use Rattle.std.specs.Prelude.{nat_le}
 use Rattle.sharc_tree.specs.declared.token.Keyword.TheVariants as key
-use Rattle.sharc_tree.specs.{declared.token.Punctuator.TheVariants.{OpenParenthesis, CloseParenthesis, OpenBrace, CloseBrace, OpenBracket, CloseBracket, Semicolon, Comma, Arrow, Assign, Minus, Star, Exclamation, Tilde}, declared.ctype.Base.Base, declared.tree.expression.BinaryOperator.BinaryOperator, declared.tree.expression.UnaryOperator.UnaryOperator, declared.tree.expression.UnaryOperator.TheVariants.{Negate, Not, Complement, Dereference}, declared.tree.expression.Access.Access}
+use Rattle.sharc_tree.specs.{declared.token.Punctuator.TheVariants.{OpenParenthesis, CloseParenthesis, OpenBrace, CloseBrace, OpenBracket, CloseBracket, Semicolon, Comma, Arrow, Assign, Minus, Star, Exclamation, Tilde}, declared.ctype.Base.Base, declared.tree.expression.BinaryOperator.BinaryOperator, declared.tree.expression.UnaryOperator.UnaryOperator, declared.tree.expression.UnaryOperator.TheVariants.{Negate, Not, Complement, Dereference}, declared.tree.expression.FieldOperator.FieldOperator}
 use Rattle.sharc_tree.specs.declared.ctype.Base.TheVariants as base
 use Rattle.sharc_tree.specs.declared.tree.expression.BinaryOperator.TheVariants as op
 use Rattle.sharc_tree.specs.declared.tree.expression.ValueCall.TheVariants as value_call
 use Rattle.sharc_tree.specs.declared.tree.expression.PlaceCall.TheVariants as place_call
 use Rattle.sharc_tree.specs.declared.tree.expression.Constant.TheVariants as constants
-use Rattle.sharc_grammar.specs.{Grammar.{Word, name, keyword, mark, number, character, Sharing, private, readonly, racy, dynamic, locked, locked_through, Typing, Declaring, Front, parenthesis, of_value, of_place, Phrase, identifier, constant, unary, binary, Phrases, none, strength, Value, value, Doing, assign, invoke, Line, nothing, does, declares, Sentence, line, jump, return, block, under, Opening, if_of, else_of, while_of, for_of, is_call, Form, single, array, initially, Part, structure, global}, Machine.{Outer, body, items, inside, LinePlace, as_statement, as_first, DoingPlace, in_line, as_step, ValuePlace, of_doing, of_local, Asked, by_if, by_while, Place, condition, returning, testing, subject, valued, counting, Cont, part, beneath, right_of, fronted, indexing, arguments, NamePlace, on_top, field_of, parameter_of, local, TypePlace, naming, casting, sizing, ModePlace, before_base, at_level, Core, Want, Have, Called, Dotted, Spawning, Start, Done, Returning, ForOpen, ForTest, ForStep, Malloced, Valued, TypeWant, ModeFirst, StructWant, Typed, PathWant, PathNamed, PathThrough, Named, Fields, ArrayWant, InitialWant, InitialNegative, Top, Fixed, a_semicolon, a_bracket, State, At, or_else, to, Role, Calling, Indexing, Accessing, Operating, Ending, role, floor, settle, mallocs, want, open_call, lined, doing_end, local_line, local_end, value_end, subject_end, condition_end, return_end, test_end, leave, front_end, index_end, argument_end, end_at, counted, shift, have, dotted, called, spawning, typing_of, takes_modes, moded, mode_step, based, base_step, begin_type, struct_want, level_step, name_step, comma_step, close_type, open_type, typed, path_want, path_named, path_through, declaring_of, with_part, named_top, named_field, named_parameter, named_local, named, fields, array_want, initial_negative, initial_want, with_item, function_of, close_block, holds_items, line_start, start, is_else, done, returned, for_test, for_step, malloced, core_step}, Limits.{height, FewStars, FewFront, Few, LowValue, LowDoing, LowInitial, line_nesting, nesting, LowPart, LowProgram, depth, around_it, crowded_line, crowded_doing, crowded_place, crowded, over_place, over_at, over_start, over_done, over_cast, over_core}}
+use Rattle.sharc_grammar.specs.{Grammar.{Word, name, keyword, mark, number, character, Sharing, private, readonly, racy, dynamic, locked, locked_through, Typing, Declaring, Front, parenthesis, of_value, of_place, Phrase, identifier, constant, unary, binary, Phrases, none, strength, Value, value, Doing, assign, invoke, Line, nothing, does, declares, Sentence, line, jump, return, block, under, Opening, if_of, else_of, while_of, for_of, is_call, Form, single, array, initially, Part, structure, global}, Machine.{Outer, body, items, inside, LinePlace, as_statement, as_first, DoingPlace, in_line, as_step, ValuePlace, of_doing, of_local, Asked, by_if, by_while, ExpressionPlace, condition, returning, testing, subject, valued, counting, Cont, part, beneath, right_of, fronted, indexing, arguments, NamePlace, on_top, field_of, parameter_of, local, TypePlace, naming, casting, sizing, ModePlace, before_base, at_level, Core, Want, Have, Called, Dotted, Spawning, Start, Done, Returning, ForOpen, ForTest, ForStep, Malloced, Valued, TypeWant, ModeFirst, StructWant, Typed, PathWant, PathNamed, PathThrough, Named, Fields, ArrayWant, InitialWant, InitialNegative, Top, Fixed, a_semicolon, a_bracket, State, At, or_else, to, Role, Calling, Indexing, Accessing, Operating, Ending, role, floor, settle, mallocs, want, open_call, lined, doing_end, local_line, local_end, value_end, subject_end, condition_end, return_end, test_end, leave, front_end, index_end, argument_end, end_at, counted, shift, have, dotted, called, spawning, typing_of, takes_modes, moded, mode_step, based, base_step, begin_type, struct_want, level_step, name_step, comma_step, close_type, open_type, typed, path_want, path_named, path_through, declaring_of, with_part, named_top, named_field, named_parameter, named_local, named, fields, array_want, initial_negative, initial_want, with_item, function_of, close_block, holds_items, line_start, start, is_else, done, returned, for_test, for_step, malloced, core_step}, Limits.{height, FewStars, FewFront, Few, LowValue, LowDoing, LowInitial, line_nesting, nesting, LowPart, LowProgram, depth, around_it, crowded_line, crowded_doing, crowded_place, crowded, over_place, over_at, over_start, over_done, over_cast, over_core}}
 use Rattle.sharc_grammar.proofs.Completed.{LowOuter, Room, RoomToDeclare, LowDoingPlace, LowValuePlace, LowPlace, LowAround, LowName, LowType, LowMode, LowStart, LowCore, low_part_more, low_part_less, few_given_more, few_given_less, low_item_more, low_item_less, deepest_more, highest_more, few_more, few_less, around_most, depth_most}
 use Rattle.sharc_lemmas.proofs.Numbers.{test_down}
 
@@ -62,7 +62,7 @@ not_crowded_doing : (d : DoingPlace) (o : Outer) → LowDoingPlace d o → crowd
 not_crowded_doing (in_line p) o r = not_crowded_line p o r
 not_crowded_doing (as_step l e) o r = refl
 
-not_crowded_place : (p : Place) (o : Outer) → LowPlace p o → crowded_place p o ≡ false
+not_crowded_place : (p : ExpressionPlace) (o : Outer) → LowPlace p o → crowded_place p o ≡ false
 not_crowded_place (subject d) o r = not_crowded_doing d o r
 not_crowded_place (condition q) o r = refl
 not_crowded_place returning o r = refl
@@ -78,7 +78,7 @@ not_crowded (fronted f k) l = not_crowded k l.2
 not_crowded (indexing a k) l = not_crowded k l.2
 not_crowded (arguments f all k) l = not_crowded k l.2
 
-not_over_place : (p : Place) (o : Outer) → LowPlace p o → over_place p o ≡ false
+not_over_place : (p : ExpressionPlace) (o : Outer) → LowPlace p o → over_place p o ≡ false
 not_over_place (condition q) o r = lt-leb 63 (around_it o) r
 not_over_place (subject d) o r = refl
 not_over_place returning o r = refl
@@ -301,7 +301,7 @@ subject_moves d x o t =
     cond_moves (LowCore (Have x (part (subject d) o))) (is_call x) (doing_end d (invoke x) o t)
     (doing_moves d (invoke x) o (LowCore (Have x (part (subject d) o))) (λ l. ((omega (arith, l.0), l.1), l.2.0, l.2.1)) (λ l. (omega (arith, l.0.0), l.0.1, (l.1, l.2))) t)
 
-leave_moves : (p : Place) (x : Phrase) (o : Outer) (t : Word) → MovesTo (LowCore (Have x (part p o))) (leave p x o t)
+leave_moves : (p : ExpressionPlace) (x : Phrase) (o : Outer) (t : Word) → MovesTo (LowCore (Have x (part p o))) (leave p x o t)
 leave_moves (condition q) x o t = condition_moves q x o t
 leave_moves returning x o t = return_moves x o t
 leave_moves (testing l) x o t = test_moves l x o t
@@ -382,7 +382,7 @@ called_moves : (f : List ℕ) (k : Cont) (t : Word) → MovesTo (LowCore (Called
 called_moves f k (mark CloseParenthesis) = record { up = λ l v. (omega (arith, l.0), tt, l.1); down = λ l. (omega (arith, l.0), l.2) }
 called_moves f k t = moves_from (LowCore (Called f k)) (LowAround (arguments f none k)) (want (arguments f none k) t) (λ l. (omega (arith, l.0), tt, l.1)) (λ l. (omega (arith, l.0), l.2)) (want_moves (arguments f none k) t)
 
-dotted_moves : (x : Phrase) (a : Access) (k : Cont) (t : Word) → MovesTo (LowCore (Dotted x a k)) (dotted x a k t)
+dotted_moves : (x : Phrase) (a : FieldOperator) (k : Cont) (t : Word) → MovesTo (LowCore (Dotted x a k)) (dotted x a k t)
 dotted_moves x a k (name n) = record { up = λ l v. (omega (arith, l.0), l.1, l.2); down = λ l. (omega (arith, l.0), l.1, l.2) }
 dotted_moves x a k _ = tt
 

@@ -12,13 +12,13 @@ use Rattle.sharc_tree.specs.{declared.token.Number.Number, declared.ctype.Base.B
 use Rattle.sharc_tree.specs.declared.tree.expression.BinaryOperator.{BinaryOperator}
 use Rattle.sharc_tree.specs.declared.tree.expression.UnaryOperator.{UnaryOperator}
 use Rattle.sharc_tree.specs.declared.tree.expression.UnaryOperator.TheVariants.{Negate, Not, Complement, Dereference}
-use Rattle.sharc_tree.specs.{declared.tree.expression.Access.Access, declared.tree.expression.ValueCall.ValueCall}
+use Rattle.sharc_tree.specs.{declared.tree.expression.FieldOperator.FieldOperator, declared.tree.expression.ValueCall.ValueCall}
 use Rattle.sharc_tree.specs.{declared.tree.expression.PlaceCall.PlaceCall, declared.tree.statement.Jump.Jump}
 use Rattle.sharc_tree.specs.declared.tree.expression.Constant.{Constant}
 use Rattle.sharc_tree.specs.declared.token.Keyword.TheVariants as key
 use Rattle.sharc_tree.specs.declared.ctype.Base.TheVariants as base
 use Rattle.sharc_tree.specs.declared.tree.expression.BinaryOperator.TheVariants as op
-use Rattle.sharc_tree.specs.declared.tree.expression.Access.TheVariants as access
+use Rattle.sharc_tree.specs.declared.tree.expression.FieldOperator.TheVariants as access
 use Rattle.sharc_tree.specs.declared.tree.expression.ValueCall.TheVariants as value_call
 use Rattle.sharc_tree.specs.declared.tree.expression.PlaceCall.TheVariants as place_call
 use Rattle.sharc_tree.specs.declared.tree.statement.Jump.TheVariants as jumps
@@ -136,7 +136,7 @@ mutual
     enclosed : Front → Phrase → Phrase
     call : List ℕ → Phrases → Phrase
     index : Phrase → Phrase → Phrase
-    field : Phrase → Access → List ℕ → Phrase
+    field : Phrase → FieldOperator → List ℕ → Phrase
     unary : UnaryOperator → Phrase → Phrase
     binary : BinaryOperator → Phrase → Phrase → Phrase
 
@@ -170,7 +170,7 @@ unary_mark Not = Exclamation
 unary_mark Complement = Tilde
 unary_mark Dereference = Star
 
-abbrev pub access_mark : Access → Punctuator
+abbrev pub access_mark : FieldOperator → Punctuator
 access_mark access.Dot = Dot
 access_mark access.Arrow = Arrow
 

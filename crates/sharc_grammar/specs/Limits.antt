@@ -8,7 +8,7 @@ use Rattle.sharc_grammar.specs.Grammar.{jump, return, block, under, Sentences, n
 use Rattle.sharc_grammar.specs.Grammar.{else_of, while_of, for_of, Part, structure, global, function, program_words}
 use Rattle.sharc_grammar.specs.Grammar.{IsProgram, Begins, EndsAt}
 use Rattle.sharc_grammar.specs.Machine.{Outer, body, items, inside, LinePlace, as_statement, as_first, DoingPlace}
-use Rattle.sharc_grammar.specs.Machine.{in_line, as_step, Place, condition, subject, Cont, part, beneath, right_of}
+use Rattle.sharc_grammar.specs.Machine.{in_line, as_step, ExpressionPlace, condition, subject, Cont, part, beneath, right_of}
 use Rattle.sharc_grammar.specs.Machine.{fronted, indexing, arguments, TypePlace, casting, Core, Want, Have, Called}
 use Rattle.sharc_grammar.specs.Machine.{Dotted, Spawning, Start, Done, Returning, ForOpen, TypeWant, Typed, State, At}
 use Rattle.sharc_grammar.specs.Machine.{fields, step, Outcome, Read, Stuck, finish}
@@ -191,7 +191,7 @@ abbrev pub crowded_doing : DoingPlace → Outer → Bool
 crowded_doing (in_line p) o = crowded_line p o
 crowded_doing (as_step l e) o = false
 
-abbrev pub crowded_place : Place → Outer → Bool
+abbrev pub crowded_place : ExpressionPlace → Outer → Bool
 crowded_place (subject d) o = crowded_doing d o
 crowded_place _ o = false
 
@@ -203,7 +203,7 @@ crowded (fronted f k) = crowded k
 crowded (indexing a k) = crowded k
 crowded (arguments f all k) = crowded k
 
-abbrev pub over_place : Place → Outer → Bool
+abbrev pub over_place : ExpressionPlace → Outer → Bool
 over_place (condition q) o = nat_le 63 (around_it o)
 over_place _ o = false
 

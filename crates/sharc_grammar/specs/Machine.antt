@@ -11,10 +11,10 @@ use Rattle.sharc_tree.specs.declared.token.Punctuator.TheVariants.{Tilde}
 use Rattle.sharc_tree.specs.{declared.ctype.Base.Base, declared.tree.expression.BinaryOperator.BinaryOperator}
 use Rattle.sharc_tree.specs.declared.tree.expression.UnaryOperator.{UnaryOperator}
 use Rattle.sharc_tree.specs.declared.tree.expression.UnaryOperator.TheVariants.{Negate, Not, Complement, Dereference}
-use Rattle.sharc_tree.specs.{declared.tree.expression.Access.Access, declared.tree.expression.Constant.Constant}
+use Rattle.sharc_tree.specs.{declared.tree.expression.FieldOperator.FieldOperator, declared.tree.expression.Constant.Constant}
 use Rattle.sharc_tree.specs.declared.ctype.Base.TheVariants as base
 use Rattle.sharc_tree.specs.declared.tree.expression.BinaryOperator.TheVariants as op
-use Rattle.sharc_tree.specs.declared.tree.expression.Access.TheVariants as access
+use Rattle.sharc_tree.specs.declared.tree.expression.FieldOperator.TheVariants as access
 use Rattle.sharc_tree.specs.declared.tree.expression.ValueCall.TheVariants as value_call
 use Rattle.sharc_tree.specs.declared.tree.expression.PlaceCall.TheVariants as place_call
 use Rattle.sharc_tree.specs.declared.tree.statement.Jump.TheVariants as jumps
@@ -52,17 +52,17 @@ pub data Asked : Type 0 where
   by_while : Asked
 
 -- what a whole expression is in a statement
-pub data Place : Type 0 where
-  condition : Asked → Place
-  returning : Place
-  testing : Line → Place
-  subject : DoingPlace → Place
-  valued : ValuePlace → Place
-  counting : ValuePlace → Place
+pub data ExpressionPlace : Type 0 where
+  condition : Asked → ExpressionPlace
+  returning : ExpressionPlace
+  testing : Line → ExpressionPlace
+  subject : DoingPlace → ExpressionPlace
+  valued : ValuePlace → ExpressionPlace
+  counting : ValuePlace → ExpressionPlace
 
 -- what is around an operand, from the inside out
 pub data Cont : Type 0 where
-  part : Place → Outer → Cont
+  part : ExpressionPlace → Outer → Cont
   beneath : UnaryOperator → Cont → Cont
   right_of : Phrase → BinaryOperator → Cont → Cont
   fronted : Front → Cont → Cont
@@ -89,7 +89,7 @@ pub data Core : Type 0 where
   Want : Cont → Core
   Have : Phrase → Cont → Core
   Called : List ℕ → Cont → Core
-  Dotted : Phrase → Access → Cont → Core
+  Dotted : Phrase → FieldOperator → Cont → Core
   Spawning : Cont → Core
   Start : Outer → Core
   Done : Sentence → Outer → Core
@@ -164,7 +164,7 @@ to c = Some (At [] c)
 pub data Role : Type 0 where
   Calling : Role
   Indexing : Role
-  Accessing : Access → Role
+  Accessing : FieldOperator → Role
   Operating : BinaryOperator → Role
   Ending : Role
 
@@ -302,7 +302,7 @@ abbrev pub test_end : Line → Phrase → Outer → Word → Option State
 test_end l x o (mark Semicolon) = to (ForStep l (Some x) o)
 test_end l x o _ = None
 
-abbrev pub leave : Place → Phrase → Outer → Word → Option State
+abbrev pub leave : ExpressionPlace → Phrase → Outer → Word → Option State
 leave (condition q) x o t = condition_end q x o t
 leave returning x o t = return_end x o t
 leave (testing l) x o t = test_end l x o t
@@ -347,7 +347,7 @@ have (Accessing a) x k t = to (Dotted x a k)
 have (Operating o) x k t = let s = settle (strength o) x k in shift o s.0 s.1
 have Ending x k t = let s = settle 0 x k in end_at s.0 s.1 t
 
-abbrev pub dotted : Phrase → Access → Cont → Word → Option State
+abbrev pub dotted : Phrase → FieldOperator → Cont → Word → Option State
 dotted x a k (name n) = to (Have (field x a n) k)
 dotted x a k _ = None
 

@@ -1,7 +1,7 @@
 -- Which results were found up to a stage, and what is asked for there.
 use Rattle.std.proofs.{Common.{◌≡◌, ◌≢◌, ℕ, ◌+◌, ◌<◌, ◌≤◌, List, [], ◌∷◌, ◌++◌, length, drop, refl, sym, ap, ◌∙◌, inl, inr, arith, append_assoc, if◌then◌else◌}, lemmas.List.{length-append, length_push}, lemmas.Bool.{cases_eq, cases_lt, eq-eqb, ne_eqb, le-leb, lt-leb, lt-ltb, le-ltb}}
 use Rattle.sharc_word.specs.declared.step.WordOp.TheVariants.{Cas}
-use Rattle.sharc_granule.specs.{declared.stage.NewTurn.NewTurn, declared.stage.NewTurn.TheVariants.Do, declared.stage.Stage.Stage, declared.stage.Stage.TheVariants.{Begins, Link, Cell, Top, Move, Count, Length, Made as Finished, Full}, declared.arguments.NewArguments.NewArguments, Asks.{Asks, TakesOwn, ReadsTop, MovesTop, FindsNoRoom, TakesTop, AreTops, NoneTwice, top_word, step_of, last_steps, own_steps, turn_at, granule_number, head_after}, Stages.{turn_of_stage, try_from, next_stage, next_head, HasBlock, OfOwn, OfTop, IsInCell, IsAtTop, IsAtStage}, State.{NewView, IsStep, IsAfter}, Laws.{NewBegins, NewGoesOn, NewStays}}
+use Rattle.sharc_granule.specs.{declared.stage.NewTurn.NewTurn, declared.stage.NewTurn.TheVariants.Do, declared.stage.NewStage.NewStage, declared.stage.NewStage.TheVariants.{Begins, Link, Cell, Top, Move, Count, Length, Made as Finished, Full}, declared.arguments.NewArguments.NewArguments, Asks.{Asks, TakesOwn, ReadsTop, MovesTop, FindsNoRoom, TakesTop, AreTops, NoneTwice, top_word, step_of, last_steps, own_steps, turn_at, granule_number, head_after}, Stages.{turn_of_stage, try_from, next_stage, next_head, HasBlock, OfOwn, OfTop, IsInCell, IsAtTop, IsAtStage}, State.{NewView, IsStep, IsAfter}, Laws.{NewBegins, NewGoesOn, NewStays}}
 use Rattle.sharc_granule.proofs.Steps.{turn_in_cells, rest_after_cells}
 
 -- ---- what a stage asks for is what a New asks for
@@ -11,7 +11,7 @@ last_turn a results header made turn (OfOwn own is counted) asks =
 last_turn a results header made turn (OfTop empty since moved fits counted) asks =
     TakesTop empty header since moved fits (asks ∙ ap (λ n. turn_at (drop n (last_steps a header)) header) (sym counted))
 
-pub asks_at_stage : (a : NewArguments) (results : List ℕ) (stage : Stage) → IsAtStage a results stage → Asks a results (turn_of_stage a stage)
+pub asks_at_stage : (a : NewArguments) (results : List ℕ) (stage : NewStage) → IsAtStage a results stage → Asks a results (turn_of_stage a stage)
 asks_at_stage a results Begins at = absurd at
 asks_at_stage a results Link at = TakesOwn at.0 (ap (λ n. turn_at (drop n (own_steps a)) a.head) (sym (ap length at.1)))
 asks_at_stage a results (Cell cell) at = TakesOwn at.own (sym (turn_in_cells a (length results) cell at.counted at.within))
@@ -68,7 +68,7 @@ next_move a results top moved found at fits =
       })
     ]
 
-pub stage_goes_on : (a : NewArguments) (results : List ℕ) (stage : Stage) (found : ℕ) → 1 ≤ a.cells → IsAtStage a results stage → IsStep (turn_of_stage a stage) → IsAtStage a (results ++ found ∷ []) (next_stage a stage found)
+pub stage_goes_on : (a : NewArguments) (results : List ℕ) (stage : NewStage) (found : ℕ) → 1 ≤ a.cells → IsAtStage a results stage → IsStep (turn_of_stage a stage) → IsAtStage a (results ++ found ∷ []) (next_stage a stage found)
 stage_goes_on a results Begins found some at step = absurd at
 stage_goes_on a results Link found some at step = record { own = at.0; counted = ap (λ r. length (r ++ found ∷ [])) at.1; within = omega arith }
 stage_goes_on a results (Cell cell) found some at step = next_cell a results cell found at
@@ -91,7 +91,7 @@ block_some : (a : NewArguments) (results : List ℕ) (header made : ℕ) → Has
 block_some a results header made (OfOwn own is counted) = omega arith
 block_some a results header made (OfTop empty since moved fits counted) = let e = ap length moved.found ∙ length-append moved.tried (header ∷ since) in omega arith
 
-pub head_goes_on : (a : NewArguments) (results : List ℕ) (stage : Stage) (head found : ℕ) → IsAtStage a results stage → head ≡ head_after a results → next_head a stage head found ≡ head_after a (results ++ found ∷ [])
+pub head_goes_on : (a : NewArguments) (results : List ℕ) (stage : NewStage) (head found : ℕ) → IsAtStage a results stage → head ≡ head_after a results → next_head a stage head found ≡ head_after a (results ++ found ∷ [])
 head_goes_on a results Begins head found at is = absurd at
 head_goes_on a results Link head found at is = sym (ap (λ r. head_after a (r ++ found ∷ [])) at.1 ∙ ap (λ b. if b then 0 else granule_number a found) (ne_eqb a.head 0 at.0))
 head_goes_on a results (Cell cell) head found at is = is ∙ sym (head_after_push a results found (let c = at.counted in omega arith))
@@ -104,7 +104,7 @@ head_goes_on a results (Finished header) head found at is = is ∙ sym (head_aft
 head_goes_on a results Full head found at is = is ∙ sym (head_after_push a results found (tops_some results at.0 at.1.seen))
 
 -- ---- no step is left
-pub stage_stays : (a : NewArguments) (results : List ℕ) (stage : Stage) (found : ℕ) → IsAtStage a results stage → ¬ IsStep (turn_of_stage a stage) → next_stage a stage found ≡ stage
+pub stage_stays : (a : NewArguments) (results : List ℕ) (stage : NewStage) (found : ℕ) → IsAtStage a results stage → ¬ IsStep (turn_of_stage a stage) → next_stage a stage found ≡ stage
 stage_stays a results Begins found at none = absurd at
 stage_stays a results Link found at none = absurd (none tt)
 stage_stays a results (Cell cell) found at none = absurd (none tt)
@@ -115,7 +115,7 @@ stage_stays a results (Length header) found at none = absurd (none tt)
 stage_stays a results (Finished header) found at none = refl
 stage_stays a results Full found at none = refl
 
-pub head_stays : (a : NewArguments) (results : List ℕ) (stage : Stage) (head found : ℕ) → IsAtStage a results stage → ¬ IsStep (turn_of_stage a stage) → next_head a stage head found ≡ head
+pub head_stays : (a : NewArguments) (results : List ℕ) (stage : NewStage) (head found : ℕ) → IsAtStage a results stage → ¬ IsStep (turn_of_stage a stage) → next_head a stage head found ≡ head
 head_stays a results Begins head found at none = absurd at
 head_stays a results Link head found at none = absurd (none tt)
 head_stays a results (Cell cell) head found at none = refl
@@ -134,7 +134,7 @@ new_begins a found =
       | inr some ↦ rw (ne_eqb a.head 0 some) (after_none a Link found (some, refl))
     ]
   where
-    after_none : (a : NewArguments) (stage : Stage) (found : ℕ) → IsAtStage a [] stage → IsAfter record { arguments = a; stage = stage; head = a.head } []
+    after_none : (a : NewArguments) (stage : NewStage) (found : ℕ) → IsAtStage a [] stage → IsAfter record { arguments = a; stage = stage; head = a.head } []
     after_none a stage found at = record { asks = asks_at_stage a [] stage at; head = refl; at = at }
 
 pub new_goes_on : NewGoesOn
@@ -150,5 +150,5 @@ pub new_stays : NewStays
 new_stays state results found after none =
     let stage = stage_stays state.arguments results state.stage found after.at none in
     let head = head_stays state.arguments results state.stage state.head found after.at none in
-    ap (λ (s : Stage). let v : NewView = record { arguments = state.arguments; stage = s; head = next_head state.arguments state.stage state.head found } in v) stage
+    ap (λ (s : NewStage). let v : NewView = record { arguments = state.arguments; stage = s; head = next_head state.arguments state.stage state.head found } in v) stage
     ∙ ap (λ (h : ℕ). let v : NewView = record { arguments = state.arguments; stage = state.stage; head = h } in v) head

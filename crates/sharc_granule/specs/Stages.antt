@@ -2,15 +2,15 @@
 use Rattle.std.specs.Prelude.{◌≡◌, ◌≢◌, ℕ, ◌+◌, ◌<◌, ◌≤◌, [], List, length, nat_lt, nat_le, nat_eq, if◌then◌else◌}
 use Rattle.sharc_word.specs.declared.step.WordOp.TheVariants.{Load, Swap, Cas}
 use Rattle.sharc_granule.specs.{declared.stage.NewTurn.NewTurn, declared.stage.NewTurn.TheVariants.{Do, Made, HeapFull}}
-use Rattle.sharc_granule.specs.declared.stage.Stage.{Stage}
-use Rattle.sharc_granule.specs.declared.stage.Stage.TheVariants.{Begins, Link, Cell, Top, Move, Count, Length}
-use Rattle.sharc_granule.specs.declared.stage.Stage.TheVariants.{Made as Finished, Full}
+use Rattle.sharc_granule.specs.declared.stage.NewStage.{NewStage}
+use Rattle.sharc_granule.specs.declared.stage.NewStage.TheVariants.{Begins, Link, Cell, Top, Move, Count, Length}
+use Rattle.sharc_granule.specs.declared.stage.NewStage.TheVariants.{Made as Finished, Full}
 use Rattle.sharc_granule.specs.declared.arguments.NewArguments.{NewArguments}
 use Rattle.sharc_granule.specs.Asks.{length_word, cell_word, count_word, top_word, step_of, granule_number, AreTops}
 use Rattle.sharc_granule.specs.Asks.{HasMoved}
 
 -- what a stage asks for; before the first turn nothing is asked for
-abbrev pub turn_of_stage : NewArguments → Stage → NewTurn
+abbrev pub turn_of_stage : NewArguments → NewStage → NewTurn
 turn_of_stage a Begins = HeapFull
 turn_of_stage a Link = Do (step_of (length_word a a.head) Load)
 turn_of_stage a (Cell cell) = Do (step_of (cell_word a a.head cell) (Swap 0))
@@ -22,15 +22,15 @@ turn_of_stage a (Finished header) = Made header
 turn_of_stage a Full = HeapFull
 
 -- the stage in which the top was seen here
-abbrev pub try_from : NewArguments → ℕ → Stage
+abbrev pub try_from : NewArguments → ℕ → NewStage
 try_from a top = if nat_le (top + a.block) a.end then Move top (top + a.block) else Full
 
 -- the stage after the clearing of this cell
-abbrev pub after_cell : NewArguments → ℕ → Stage
+abbrev pub after_cell : NewArguments → ℕ → NewStage
 after_cell a cell = if nat_lt (cell + 1) a.cells then Cell (cell + 1) else Count a.head
 
 -- the stage after this one, where this was found
-abbrev pub next_stage : NewArguments → Stage → ℕ → Stage
+abbrev pub next_stage : NewArguments → NewStage → ℕ → NewStage
 next_stage a Begins found = if nat_eq a.head 0 then Top else Link
 next_stage a Link found = Cell 0
 next_stage a (Cell cell) found = after_cell a cell
@@ -42,7 +42,7 @@ next_stage a (Finished header) found = Finished header
 next_stage a Full found = Full
 
 -- the head of the own list after this stage: the link that was found
-abbrev pub next_head : NewArguments → Stage → ℕ → ℕ → ℕ
+abbrev pub next_head : NewArguments → NewStage → ℕ → ℕ → ℕ
 next_head a Link head found = granule_number a found
 next_head a _ head found = head
 
@@ -62,7 +62,7 @@ pub record IsAtTop (a : NewArguments) (results : List ℕ) (top : ℕ) : Type 0 
   pub empty : a.head ≡ 0
   pub seen : AreTops results top
 
-abbrev pub IsAtStage : NewArguments → List ℕ → Stage → Type 0
+abbrev pub IsAtStage : NewArguments → List ℕ → NewStage → Type 0
 IsAtStage a results Begins = ⊥
 IsAtStage a results Link = (a.head ≢ 0) × (results ≡ [])
 IsAtStage a results (Cell cell) = IsInCell a results cell

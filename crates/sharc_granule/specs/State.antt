@@ -1,14 +1,14 @@
 -- A New on its way, turn by turn: what it asks for, and how it goes on when it is given what its step found.
 use Rattle.std.specs.Prelude.{◌≡◌, ℕ, List, Option, Some, None}
 use Rattle.sharc_granule.specs.{declared.arguments.NewArguments.NewArguments, declared.stage.NewTurn.NewTurn}
-use Rattle.sharc_granule.specs.{declared.stage.NewTurn.TheVariants.{Do, Made, HeapFull}, declared.stage.Stage.Stage}
-use Rattle.sharc_granule.specs.{declared.stage.Stage.TheVariants.{Begins, Length}, Asks.{Asks, head_after}}
+use Rattle.sharc_granule.specs.{declared.stage.NewTurn.TheVariants.{Do, Made, HeapFull}, declared.stage.NewStage.NewStage}
+use Rattle.sharc_granule.specs.{declared.stage.NewStage.TheVariants.{Begins, Length}, Asks.{Asks, head_after}}
 use Rattle.sharc_granule.specs.Stages.{turn_of_stage, next_stage, next_head, IsAtStage}
 
 -- what a New was given, how far it has come, and the head of the own list as it now is
 pub record NewView : Type 0 where
   pub arguments : NewArguments
-  pub stage : Stage
+  pub stage : NewStage
   pub head : ℕ
 
 -- a New that has not had a turn
@@ -28,7 +28,7 @@ abbrev pub turn_of : NewView → NewTurn
 turn_of state = turn_of_stage state.arguments state.stage
 
 -- the header of the block whose length it asked to write last, with the elements of the object
-abbrev pub sized : NewArguments → Stage → Option (ℕ × ℕ)
+abbrev pub sized : NewArguments → NewStage → Option (ℕ × ℕ)
 sized a (Length header) = Some (header, a.elements)
 sized a _ = None
 

@@ -5,14 +5,14 @@ ghost use Rattle.sharc_granule.specs.Stages.{next_head};
 
 use crate::arguments::NewArguments;
 use crate::blocks::block;
-use crate::stage::{NewTurn, Stage};
+use crate::stage::{NewTurn, NewStage};
 use std::marker::Model;
 
 /// A New on its way. It asks for steps of words, and is given what each found. Contracts see it as a `NewView`.
 #[derive(Clone, Copy)]
 pub struct NewState {
     arguments: NewArguments,
-    stage: Stage,
+    stage: NewStage,
     head: u64,
 }
 
@@ -60,7 +60,7 @@ impl NewState {
                 head,
                 block: block(cells),
             },
-            stage: Stage::Begins,
+            stage: NewStage::Begins,
             head,
         }
     }
@@ -85,7 +85,7 @@ impl NewState {
         ensures { result ≡ sized self.now.arguments self.now.stage }
     {
         match self.stage {
-            Stage::Length(header) => Some((header, self.arguments.elements)),
+            NewStage::Length(header) => Some((header, self.arguments.elements)),
             _ => None,
         }
     }
@@ -111,12 +111,12 @@ impl NewState {
 }
 
 // The head of the own list after this stage, where `last` was found.
-fn head_after(of: &NewArguments, stage: Stage, head: u64, last: u64) -> u64
+fn head_after(of: &NewArguments, stage: NewStage, head: u64, last: u64) -> u64
     ensures { result ≡ next_head of.now stage head last }
 {
     match stage {
-        Stage::Link if last < of.end => last,
-        Stage::Link => 0,
+        NewStage::Link if last < of.end => last,
+        NewStage::Link => 0,
         _ => head,
     }
 }

@@ -23,7 +23,7 @@ pub enum NewTurn {
 
 /// How far a New has come, by what it asked for last.
 #[derive(Clone, Copy)]
-pub enum Stage {
+pub enum NewStage {
     /// Nothing.
     Begins,
     /// The link of the first block of the own list.
@@ -44,23 +44,23 @@ pub enum Stage {
     Full,
 }
 
-impl Stage {
+impl NewStage {
     // The stage after this one, where `last` was found.
-    pub(crate) fn next(self, of: &NewArguments, last: u64) -> Stage
+    pub(crate) fn next(self, of: &NewArguments, last: u64) -> NewStage
         ensures { result ≡ next_stage of.now self last }
     {
         match self {
-            Stage::Begins if of.head == 0 => Stage::Top,
-            Stage::Begins => Stage::Link,
-            Stage::Link => Stage::Cell(0),
-            Stage::Cell(cell) => after_cell(of, cell),
-            Stage::Top => try_from(of, last),
-            Stage::Move(top, _) if top == last => Stage::Count(top),
-            Stage::Move(..) => try_from(of, last),
-            Stage::Count(header) => Stage::Length(header),
-            Stage::Length(header) => Stage::Made(header),
-            Stage::Made(header) => Stage::Made(header),
-            Stage::Full => Stage::Full,
+            NewStage::Begins if of.head == 0 => NewStage::Top,
+            NewStage::Begins => NewStage::Link,
+            NewStage::Link => NewStage::Cell(0),
+            NewStage::Cell(cell) => after_cell(of, cell),
+            NewStage::Top => try_from(of, last),
+            NewStage::Move(top, _) if top == last => NewStage::Count(top),
+            NewStage::Move(..) => try_from(of, last),
+            NewStage::Count(header) => NewStage::Length(header),
+            NewStage::Length(header) => NewStage::Made(header),
+            NewStage::Made(header) => NewStage::Made(header),
+            NewStage::Full => NewStage::Full,
         }
     }
 
@@ -70,39 +70,39 @@ impl Stage {
         ensures { result ≡ turn_of_stage of.now self }
     {
         match self {
-            Stage::Begins => NewTurn::HeapFull,
-            Stage::Link => ask(of.length_word(of.head), WordOp::Load),
-            Stage::Cell(cell) => ask(of.cell_word(of.head, cell), WordOp::Swap(0)),
-            Stage::Top => ask(TOP, WordOp::Load),
-            Stage::Move(top, moved) => ask(TOP, WordOp::Cas(top, moved)),
-            Stage::Count(header) => ask(of.count_word(header), WordOp::Swap(1)),
-            Stage::Length(header) => ask(of.length_word(header), WordOp::Swap(of.elements)),
-            Stage::Made(header) => NewTurn::Made(header),
-            Stage::Full => NewTurn::HeapFull,
+            NewStage::Begins => NewTurn::HeapFull,
+            NewStage::Link => ask(of.length_word(of.head), WordOp::Load),
+            NewStage::Cell(cell) => ask(of.cell_word(of.head, cell), WordOp::Swap(0)),
+            NewStage::Top => ask(TOP, WordOp::Load),
+            NewStage::Move(top, moved) => ask(TOP, WordOp::Cas(top, moved)),
+            NewStage::Count(header) => ask(of.count_word(header), WordOp::Swap(1)),
+            NewStage::Length(header) => ask(of.length_word(header), WordOp::Swap(of.elements)),
+            NewStage::Made(header) => NewTurn::Made(header),
+            NewStage::Full => NewTurn::HeapFull,
         }
     }
 }
 
 // The stage after the clearing of this cell.
-fn after_cell(of: &NewArguments, cell: u64) -> Stage
+fn after_cell(of: &NewArguments, cell: u64) -> NewStage
     ensures { result ≡ after_cell of.now cell }
 {
     let next = cell.saturating_add(1);
     if next < of.cells {
-        Stage::Cell(next)
+        NewStage::Cell(next)
     } else {
-        Stage::Count(of.head)
+        NewStage::Count(of.head)
     }
 }
 
 // The stage where the top was seen here.
-fn try_from(of: &NewArguments, top: u64) -> Stage
+fn try_from(of: &NewArguments, top: u64) -> NewStage
     ensures { result ≡ try_from of.now top }
 {
     let end = of.end;
     match top.checked_add(of.block) {
-        Some(moved) if moved <= end => Stage::Move(top, moved),
-        _ => Stage::Full,
+        Some(moved) if moved <= end => NewStage::Move(top, moved),
+        _ => NewStage::Full,
     }
 }
 

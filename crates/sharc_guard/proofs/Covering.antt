@@ -15,7 +15,7 @@ use Rattle.sharc_code.specs.declared.instr.Register.TheVariants as registers
 use Rattle.sharc_meaning.specs.{declared.given.GivenUp.TheVariants.Replaced, Arithmetic.is_zero, Cells.cell_of, Events.{held_mutexes, holds_mutex}, Reference.{number_of, elements_of}, Statements.is_positive}
 use Rattle.sharc_flat_form.specs.{declared.op.Op.Op, declared.op.Spot.Spot, Machine.{Flat, Caller, At, Turn, goes, asks, halts, put, int, ref, set_int, set_ref, gives_up, next, over_lines, goes_on, stops, asserts, with_result, cell_at, global_cell, mode_of, lock_is_null, accesses, accessed, kind_of, indexed, takes_local, called, returned, function_of, first_at, begun, start, end_turn, line_turn, op_turn, turn, with_event}, Path.{after, may_go, at_after, IsPath}}
 use Rattle.sharc_flat_form.specs.declared.op.Op.TheVariants as op
-use Rattle.sharc_guard.specs.{Counted.IsAccess, Known.{is_straight, leads_to, line_leads, is_led_to, is_entry, is_target, writes_ref, writes_int, Place, in_variable, in_global, assigns, counts, Access, access, is_dynamic, tells, Know, nothing, number_given, copy_given, unless_written, with_element, variable_place, global_place, place_of, is_at, passes_by, know_next, know_after, known, has_passed, drops, drops_at, dropped}, Repeated.IsStraight, Covered.{Makes, Since, IsCovered, DroppedIsCovered}}
+use Rattle.sharc_guard.specs.{Counted.IsAccess, Known.{is_straight, leads_to, line_leads, is_led_to, is_entry, is_target, writes_ref, writes_int, SimplePlace, in_variable, in_global, assigns, counts, Access, access, is_dynamic, tells, Know, nothing, number_given, copy_given, unless_written, with_element, variable_place, global_place, place_of, is_at, passes_by, know_next, know_after, known, has_passed, drops, drops_at, dropped}, Repeated.IsStraight, Covered.{Makes, Since, IsCovered, DroppedIsCovered}}
 use Rattle.sharc_guard.proofs.{Ready.{put_at, put_other}, Repeating.{eq_same, place_is, dynamic_is, no_some, true_false, constant_is, element_is, unwritten, copy_is, counts_more}}
 use Rattle.sharc_lemmas.proofs.{Options.{same_some as some_is}, Bools.{and_left, or_split as or_either, not_true, and_right, false_true}, Lists.{there_is as within}, Numbers.{same_number as eq_true}}
 
@@ -111,11 +111,11 @@ module _ (flat : Flat) (from : At) where
   abbrev at : List ℤ → At
   at = at_after flat from
 
-  abbrev cell_in : At → Place → CellAt
+  abbrev cell_in : At → SimplePlace → CellAt
   cell_in m (in_variable x n) = cell_of (objects.Made (number_of (ref m x))) n
   cell_in m (in_global g n) = global_cell flat.globals g n
 
-  abbrev register_in : At → Place → ℕ
+  abbrev register_in : At → SimplePlace → ℕ
   register_in m (in_variable x n) = m.ref_base + x
   register_in m (in_global g n) = 0
 
@@ -123,7 +123,7 @@ module _ (flat : Flat) (from : At) where
   record Holds (k : Know) (answers : List ℤ) : Type 0 where
     copies : (r x : ℕ) → k.copy r ≡ Some x → ref (at answers) r ≡ ref (at answers) x
     numbers : (i n : ℕ) → k.number i ≡ Some n → int (at answers) i ≡ pos n
-    passed : (kind : Kind) (place : Place) → k.passed kind place ≡ true → Since flat from answers kind (cell_in (at answers) place) (register_in (at answers) place)
+    passed : (kind : Kind) (place : SimplePlace) → k.passed kind place ≡ true → Since flat from answers kind (cell_in (at answers) place) (register_in (at answers) place)
 
   holds_nothing : (answers : List ℤ) → Holds nothing answers
   holds_nothing answers = record { copies = λ r x e. no_some x e; numbers = λ i n e. no_some n e; passed = λ kind place e. false_true e }
@@ -145,7 +145,7 @@ module _ (flat : Flat) (from : At) where
       by (asks m2 site act held f) z = (z.0, counts_more z.0 a b z.1 c, z.2)
       by (halts q) z = absurd z
 
-  place_true : (answers : List ℤ) (k : Know) → Holds k answers → (cell : Cell) (place : Place) → place_of k cell ≡ Some place → cell_at flat.globals (at answers) cell ≡ cell_in (at answers) place
+  place_true : (answers : List ℤ) (k : Know) → Holds k answers → (cell : Cell) (place : SimplePlace) → place_of k cell ≡ Some place → cell_at flat.globals (at answers) cell ≡ cell_in (at answers) place
   place_true answers k ks (cells.Global g n) place e = ap (cell_in (at answers)) (some_is (in_global g n) place e)
   place_true answers k ks (cells.GlobalAt g i) place e = by (k.number i) refl e
     where
@@ -196,7 +196,7 @@ module _ (flat : Flat) (from : At) where
         by false w e = s.ints i w ∙ ks.numbers i n e
 
     -- the check was passed earlier, or it is that of this turn
-    since : (kind : Kind) (place : Place) → assigns o place ≡ false
+    since : (kind : Kind) (place : SimplePlace) → assigns o place ≡ false
         → ((Makes (turn flat now0) kind (cell_in now0 place) × (dropped flat now0.pc ≡ false)) ⊎ Since flat from earlier kind (cell_in now0 place) (register_in now0 place))
         → Since flat from (x ∷ earlier) kind (cell_in later place) (register_in later place)
     since kind (in_variable y n) stays h =
@@ -217,7 +217,7 @@ module _ (flat : Flat) (from : At) where
     drops_passed (op.Store i cell spot) a e d = subst (λ (a : Access). has_passed kn a.kind (place_of kn a.cell) ≡ true) (some_is record { kind = Write; cell = cell; spot = spot } a e) (and_right (tells spot) (has_passed kn Write (place_of kn cell)) d)
     drops_passed _ a e d = false_true d
 
-    found_here : (a : Access) → access o ≡ Some a → is_dynamic a.spot.mode ≡ true → (kind : Kind) (place : Place) → counts a.kind kind ≡ true → place_of kn a.cell ≡ Some place
+    found_here : (a : Access) → access o ≡ Some a → is_dynamic a.spot.mode ≡ true → (kind : Kind) (place : SimplePlace) → counts a.kind kind ≡ true → place_of kn a.cell ≡ Some place
         → ((Makes (turn flat now0) kind (cell_in now0 place) × (dropped flat now0.pc ≡ false)) ⊎ Since flat from earlier kind (cell_in now0 place) (register_in now0 place))
     found_here a acc dyn kind place c p = by (dropped flat now0.pc) refl
       where
@@ -228,7 +228,7 @@ module _ (flat : Flat) (from : At) where
             let h : kn.passed a.kind place ≡ true = sym (ap (has_passed kn a.kind) p) ∙ drops_passed o a acc d in
             inr (weaker earlier a.kind kind (cell_in now0 place) (register_in now0 place) c (ks.passed a.kind place h))
 
-    next_passed : (kind : Kind) (place : Place) → (know_next o kn).passed kind place ≡ true → Since flat from (x ∷ earlier) kind (cell_in later place) (register_in later place)
+    next_passed : (kind : Kind) (place : SimplePlace) → (know_next o kn).passed kind place ≡ true → Since flat from (x ∷ earlier) kind (cell_in later place) (register_in later place)
     next_passed kind place e =
         let both = kn.passed kind place || passes_by (access o) kn kind place in
         let stays = not_true (assigns o place) (and_right both (not (assigns o place)) e) in
@@ -237,7 +237,7 @@ module _ (flat : Flat) (from : At) where
         (λ (z : passes_by (access o) kn kind place ≡ true). by (access o) refl z)
         (or_either (kn.passed kind place) (passes_by (access o) kn kind place) (and_left both (not (assigns o place)) e)))
       where
-        at_place : (q : Option Place) → is_at q place ≡ true → q ≡ Some place
+        at_place : (q : Option SimplePlace) → is_at q place ≡ true → q ≡ Some place
         at_place None e = false_true e
         at_place (Some p) e = ap Some (sym (place_is place p e))
 
@@ -603,7 +603,7 @@ module _ (flat : Flat) (from : At) where
   covers answers t None e d = false_true d
   covers answers t (Some o) e d = ⊎_elim (λ (ks : Holds (known flat (at answers).pc) answers). each ks o d) (λ (le : length flat.lines ≤ (at answers).pc). let z = slice_get_past flat.lines (at answers).pc le in absurd (cc)) t.knows
     where
-      by_place : (ks : Holds (known flat (at answers).pc) answers) (kind : Kind) (cell : Cell) (q : Option Place) → place_of (known flat (at answers).pc) cell ≡ q → has_passed (known flat (at answers).pc) kind q ≡ true
+      by_place : (ks : Holds (known flat (at answers).pc) answers) (kind : Kind) (cell : Cell) (q : Option SimplePlace) → place_of (known flat (at answers).pc) cell ≡ q → has_passed (known flat (at answers).pc) kind q ≡ true
           → (j : ℕ) × Since flat from answers kind (cell_at flat.globals (at answers) cell) j
       by_place ks kind cell None e h = false_true h
       by_place ks kind cell (Some place) e h =

@@ -5,7 +5,7 @@ use Rattle.std.specs.Prelude.{◌==◌, nat_le}
 use Rattle.sharc_shadow.specs.{declared.shadow_word.Kind.Kind, declared.shadow_word.Kind.TheVariants.{Read, Write}}
 use Rattle.sharc_flat_form.specs.declared.op.Op.{Op}
 use Rattle.sharc_flat_form.specs.declared.op.Op.TheVariants as op
-use Rattle.sharc_guard.specs.{declared.marks.Copied.Copied, declared.marks.Numbered.Numbered, declared.marks.Passed.Passed, declared.operations.Copying.Copying, Known.{writes_ref, writes_int, Place, in_variable, in_global, same_place, assigns, counts, Access, access, tells, Know, nothing, number_given, copy_given, unless_written, with_element, place_of, is_at, passes_by, know_next}, Marked.{access_of, copy_of, number_of_line, Notes, or_never, copy_by, number_by, passed_by, passed_at, know_of, with_written, with_copy, with_number, stronger, with_place, with_access, CopyBefore, NumberBefore, PassedBefore, AreBefore}}
+use Rattle.sharc_guard.specs.{declared.marks.Copied.Copied, declared.marks.KnownNumber.KnownNumber, declared.marks.PassedCheck.PassedCheck, declared.operations.Copying.Copying, Known.{writes_ref, writes_int, SimplePlace, in_variable, in_global, same_place, assigns, counts, Access, access, tells, Know, nothing, number_given, copy_given, unless_written, with_element, place_of, is_at, passes_by, know_next}, Marked.{access_of, copy_of, number_of_line, Notes, or_never, copy_by, number_by, passed_by, passed_at, know_of, with_written, with_copy, with_number, stronger, with_place, with_access, CopyBefore, NumberBefore, PassedBefore, AreBefore}}
 use Rattle.sharc_guard.proofs.Repeating.{eq_same, true_false}
 use Rattle.sharc_lemmas.proofs.{Bools.{or_false, and_false, and_true}, Options.{same_some as some_is}, Numbers.{eqb_other as eq_other, is_below as lt_true, same_number as eq_true, le_true2 as le_true}}
 
@@ -25,7 +25,7 @@ turned a b = by (a == b) (b == a) refl refl
     by true false p q = sym (eq_same b a (sym (eq_true a b p))) ∙ q
     by false true p q = sym p ∙ eq_same a b (sym (eq_true b a q))
 
-same_turned : (p q : Place) → same_place p q ≡ same_place q p
+same_turned : (p q : SimplePlace) → same_place p q ≡ same_place q p
 same_turned (in_variable x n) (in_variable y j) = ap (λ z. z && n == j) (turned x y) ∙ ap (λ z. y == x && z) (turned n j)
 same_turned (in_global x n) (in_global y j) = ap (λ z. z && n == j) (turned x y) ∙ ap (λ z. y == x && z) (turned n j)
 same_turned (in_variable x n) (in_global y j) = refl
@@ -40,7 +40,7 @@ pub record AreUpTo (t : ℕ) (s : Notes) : Type 0 where
   pub in_variables : (x n : ℕ) → PassedBefore (t + 1) (s.in_variables x n)
   pub in_globals : (g n : ℕ) → PassedBefore (t + 1) (s.in_globals g n)
 
-passed_later : (t : ℕ) (q : Option Passed) → PassedBefore t q → PassedBefore (t + 1) q
+passed_later : (t : ℕ) (q : Option PassedCheck) → PassedBefore t q → PassedBefore (t + 1) q
 passed_later t None h = tt
 passed_later t (Some p) h = omega arith
 
@@ -55,11 +55,11 @@ module _ (o : Op) (t : ℕ) (a : Notes) (b : AreUpTo t a) where
   last_false : (k : ℕ) → writes_ref o k ≡ false → or_never (last k) ≡ or_never (a.written k)
   last_false k w = ap (λ z. or_never (cond z (Some t) (a.written k))) w
 
-  passed_void : (kind : Kind) (q : Option Passed) → PassedBefore (t + 1) q → passed_by a.floor t kind q ≡ false
+  passed_void : (kind : Kind) (q : Option PassedCheck) → PassedBefore (t + 1) q → passed_by a.floor t kind q ≡ false
   passed_void kind None h = refl
   passed_void kind (Some p) h = ap (λ z. nat_lt a.floor p.made && (z && counts p.kind kind)) (lt_false t p.made (omega arith)) ∙ and_false (nat_lt a.floor p.made)
 
-  passed_kept : (kind : Kind) (x : ℕ) (q : Option Passed) → PassedBefore (t + 1) q → passed_by a.floor (or_never (last x)) kind q ≡ (passed_by a.floor (or_never (a.written x)) kind q && not (writes_ref o x))
+  passed_kept : (kind : Kind) (x : ℕ) (q : Option PassedCheck) → PassedBefore (t + 1) q → passed_by a.floor (or_never (last x)) kind q ≡ (passed_by a.floor (or_never (a.written x)) kind q && not (writes_ref o x))
   passed_kept kind x q h = by (writes_ref o x) refl
     where
       by : (z : Bool) → writes_ref o x ≡ z → passed_by a.floor (or_never (last x)) kind q ≡ (passed_by a.floor (or_never (a.written x)) kind q && not z)
@@ -169,7 +169,7 @@ module _ (o : Op) (t : ℕ) (a : Notes) (b : AreUpTo t a) where
     passed = fun_ext (λ kind. fun_ext (passed_now kind)) i;
   }
     where
-      passed_now : (kind : Kind) (place : Place) → passed_at (with_number (writes_int o) v t (with_written (writes_ref o) t a)) kind place ≡ (passed_at a kind place && not (assigns o place))
+      passed_now : (kind : Kind) (place : SimplePlace) → passed_at (with_number (writes_int o) v t (with_written (writes_ref o) t a)) kind place ≡ (passed_at a kind place && not (assigns o place))
       passed_now kind (in_variable x n) = passed_kept kind x (a.in_variables x n) (b.in_variables x n)
       passed_now kind (in_global g n) = sym (and_true (passed_by a.floor 0 kind (a.in_globals g n)))
   all_now v (Some c) e = λ i. record {
@@ -178,7 +178,7 @@ module _ (o : Op) (t : ℕ) (a : Notes) (b : AreUpTo t a) where
     passed = fun_ext (λ kind. fun_ext (passed_now kind)) i;
   }
     where
-      passed_now : (kind : Kind) (place : Place) → passed_at (with_number (writes_int o) v t (with_copy (Some c) t (with_written (writes_ref o) t a))) kind place ≡ (passed_at a kind place && not (assigns o place))
+      passed_now : (kind : Kind) (place : SimplePlace) → passed_at (with_number (writes_int o) v t (with_copy (Some c) t (with_written (writes_ref o) t a))) kind place ≡ (passed_at a kind place && not (assigns o place))
       passed_now kind (in_variable x n) = passed_kept kind x (a.in_variables x n) (b.in_variables x n)
       passed_now kind (in_global g n) = sym (and_true (passed_by a.floor 0 kind (a.in_globals g n)))
 
@@ -204,7 +204,7 @@ module _ (o : Op) (t : ℕ) (a : Notes) (b : AreUpTo t a) where
       copy_later None h = tt
       copy_later (Some c) h = omega arith
 
-      number_later : (q : Option Numbered) → NumberBefore t q → NumberBefore (t + 1) q
+      number_later : (q : Option KnownNumber) → NumberBefore t q → NumberBefore (t + 1) q
       number_later None h = tt
       number_later (Some n) h = omega arith
 
@@ -234,7 +234,7 @@ module _ (o : Op) (t : ℕ) (a : Notes) (b : AreUpTo t a) where
 
 -- ---- what an access checks
 -- a check that is noted anew counts for what it or the older one counts for
-counted : (floor last : ℕ) (q : Option Passed) (kind other : Kind) → counts (stronger (passed_by floor last Write q) kind) other ≡ (passed_by floor last other q || (counts kind other && true))
+counted : (floor last : ℕ) (q : Option PassedCheck) (kind other : Kind) → counts (stronger (passed_by floor last Write q) kind) other ≡ (passed_by floor last other q || (counts kind other && true))
 counted floor last None kind other = sym (and_true (counts kind other))
 counted floor last (Some p) kind other = by (nat_lt floor p.made) (nat_lt last p.made) p.kind
   where
@@ -254,7 +254,7 @@ module _ (t : ℕ) (s : Notes) (b : AreBefore t s) where
   abbrev k : Know
   k = know_of s
 
-  placed : (kind : Kind) (p : Place) (other : Kind) (place : Place) → passed_at (with_place kind (Some p) t s) other place ≡ (passed_at s other place || (counts kind other && same_place p place))
+  placed : (kind : Kind) (p : SimplePlace) (other : Kind) (place : SimplePlace) → passed_at (with_place kind (Some p) t s) other place ≡ (passed_at s other place || (counts kind other && same_place p place))
   placed kind (in_variable x n) other (in_variable y j) = by (x == y) (n == j) refl refl
     where
       by : (z w : Bool) → (x == y) ≡ z → (n == j) ≡ w
@@ -291,7 +291,7 @@ module _ (t : ℕ) (s : Notes) (b : AreBefore t s) where
   pub record Noted (q : Option Access) (a : Notes) : Type 0 where
     pub copies : (know_of a).copy ≡ k.copy
     pub numbers : (know_of a).number ≡ k.number
-    pub passed : (kind : Kind) (place : Place) → (know_of a).passed kind place ≡ (k.passed kind place || passes_by q k kind place)
+    pub passed : (kind : Kind) (place : SimplePlace) → (know_of a).passed kind place ≡ (k.passed kind place || passes_by q k kind place)
     pub before : AreUpTo t a
 
   up_to : AreUpTo t s
@@ -304,7 +304,7 @@ module _ (t : ℕ) (s : Notes) (b : AreBefore t s) where
     in_globals = λ g n. passed_later t (s.in_globals g n) (b.in_globals g n);
   }
 
-  unchanged : (q : Option Access) → ((kind : Kind) (place : Place) → passes_by q k kind place ≡ false) → Noted q s
+  unchanged : (q : Option Access) → ((kind : Kind) (place : SimplePlace) → passes_by q k kind place ≡ false) → Noted q s
   unchanged q h = record {
     copies = refl;
     numbers = refl;
@@ -312,7 +312,7 @@ module _ (t : ℕ) (s : Notes) (b : AreBefore t s) where
     before = up_to;
   }
 
-  at_place : (a : Access) (p : Place) → tells a.spot ≡ true → place_of k a.cell ≡ Some p → Noted (Some a) (with_place a.kind (Some p) t s)
+  at_place : (a : Access) (p : SimplePlace) → tells a.spot ≡ true → place_of k a.cell ≡ Some p → Noted (Some a) (with_place a.kind (Some p) t s)
   at_place a (in_variable x n) et e = record {
     copies = refl;
     numbers = refl;
@@ -320,7 +320,7 @@ module _ (t : ℕ) (s : Notes) (b : AreBefore t s) where
     before = record { floor = b.floor; written = b.written; copies = b.copies; numbers = b.numbers; in_variables = there; in_globals = up_to.in_globals };
   }
     where
-      same : (kind : Kind) (place : Place) → (passed_at s kind place || (counts a.kind kind && same_place (in_variable x n) place)) ≡ (k.passed kind place || passes_by (Some a) k kind place)
+      same : (kind : Kind) (place : SimplePlace) → (passed_at s kind place || (counts a.kind kind && same_place (in_variable x n) place)) ≡ (k.passed kind place || passes_by (Some a) k kind place)
       same kind place = ap (λ z. passed_at s kind place || (counts a.kind kind && z)) (same_turned (in_variable x n) place) ∙ sym (ap (λ z. passed_at s kind place || (z && (counts a.kind kind && is_at (place_of k a.cell) place))) et ∙ ap (λ q. passed_at s kind place || (counts a.kind kind && is_at q place)) e)
 
       there : (y j : ℕ) → PassedBefore (t + 1) (cond (x == y && n == j) (Some record { kind = stronger (passed_at s Write (in_variable x n)) a.kind; made = t }) (s.in_variables y j))
@@ -336,7 +336,7 @@ module _ (t : ℕ) (s : Notes) (b : AreBefore t s) where
     before = record { floor = b.floor; written = b.written; copies = b.copies; numbers = b.numbers; in_variables = up_to.in_variables; in_globals = there };
   }
     where
-      same : (kind : Kind) (place : Place) → (passed_at s kind place || (counts a.kind kind && same_place (in_global x n) place)) ≡ (k.passed kind place || passes_by (Some a) k kind place)
+      same : (kind : Kind) (place : SimplePlace) → (passed_at s kind place || (counts a.kind kind && same_place (in_global x n) place)) ≡ (k.passed kind place || passes_by (Some a) k kind place)
       same kind place = ap (λ z. passed_at s kind place || (counts a.kind kind && z)) (same_turned (in_global x n) place) ∙ sym (ap (λ z. passed_at s kind place || (z && (counts a.kind kind && is_at (place_of k a.cell) place))) et ∙ ap (λ q. passed_at s kind place || (counts a.kind kind && is_at q place)) e)
 
       there : (y j : ℕ) → PassedBefore (t + 1) (cond (x == y && n == j) (Some record { kind = stronger (passed_at s Write (in_global x n)) a.kind; made = t }) (s.in_globals y j))
@@ -354,7 +354,7 @@ module _ (t : ℕ) (s : Notes) (b : AreBefore t s) where
       by false ez = unchanged (Some a) (λ kind place. ap (λ z. z && (counts a.kind kind && is_at (place_of k a.cell) place)) ez)
       by true ez = in_place (place_of k a.cell) refl
         where
-          in_place : (q : Option Place) → place_of k a.cell ≡ q → Noted (Some a) (with_place a.kind q t s)
+          in_place : (q : Option SimplePlace) → place_of k a.cell ≡ q → Noted (Some a) (with_place a.kind q t s)
           in_place None e = unchanged (Some a) (λ kind place. ap (λ q. tells a.spot && (counts a.kind kind && is_at q place)) e ∙ ap (λ z. tells a.spot && z) (and_false (counts a.kind kind)) ∙ and_false (tells a.spot))
           in_place (Some p) e = at_place a p ez e
 
@@ -399,15 +399,15 @@ module _ (t : ℕ) (s : Notes) (b : AreBefore t s) where
       numbers : (i : ℕ) → number_by t (s.numbers i) ≡ None
       numbers i = by (s.numbers i) (b.numbers i)
         where
-          by : (q : Option Numbered) → NumberBefore t q → number_by t q ≡ None
+          by : (q : Option KnownNumber) → NumberBefore t q → number_by t q ≡ None
           by None h = refl
           by (Some n) h = ap (λ z. cond z n.number None) (lt_false t n.made (omega arith))
 
-      void : (last : ℕ) (kind : Kind) (q : Option Passed) → PassedBefore t q → passed_by t last kind q ≡ false
+      void : (last : ℕ) (kind : Kind) (q : Option PassedCheck) → PassedBefore t q → passed_by t last kind q ≡ false
       void last kind None h = refl
       void last kind (Some p) h = ap (λ z. z && (nat_lt last p.made && counts p.kind kind)) (lt_false t p.made (omega arith))
 
-      passes : (kind : Kind) (place : Place) → passed_at (record s { floor = t }) kind place ≡ false
+      passes : (kind : Kind) (place : SimplePlace) → passed_at (record s { floor = t }) kind place ≡ false
       passes kind (in_variable x n) = void (or_never (s.written x)) kind (s.in_variables x n) (b.in_variables x n)
       passes kind (in_global g n) = void 0 kind (s.in_globals g n) (b.in_globals g n)
 
@@ -425,6 +425,6 @@ module _ (t : ℕ) (s : Notes) (b : AreBefore t s) where
       copy_later None h = tt
       copy_later (Some c) h = omega arith
 
-      number_later : (q : Option Numbered) → NumberBefore t q → NumberBefore (t + 1) q
+      number_later : (q : Option KnownNumber) → NumberBefore t q → NumberBefore (t + 1) q
       number_later None h = tt
       number_later (Some n) h = omega arith

@@ -4,7 +4,7 @@ use Rattle.std.proofs.Common.{◌≡◌, ℕ, ◌+◌, Bool, true, false, ◌&&�
 use Rattle.std.specs.Prelude.{◌==◌, OnOk, Result, Ok, Err}
 use Rattle.sharc_shadow.specs.{declared.shadow_word.Kind.Kind, declared.shadow_word.Kind.TheVariants.Write}
 use Rattle.sharc_flat_form.specs.declared.op.Op.{Op}
-use Rattle.sharc_guard.specs.{declared.marks.Copied.Copied, declared.marks.Numbered.Numbered, declared.marks.Passed.Passed, declared.operations.Copying.Copying, declared.operations.Written.Written, Known.{Place, in_variable, in_global, access, know_next, writes_int, writes_ref}, Marked.{access_of, copy_of, is_one, is_written, number_of_line, Notes, know_of, passed_at, noted_place, stronger, with_access, with_copy, with_noted, with_number, with_place, with_written, AreBefore}}
+use Rattle.sharc_guard.specs.{declared.marks.Copied.Copied, declared.marks.KnownNumber.KnownNumber, declared.marks.PassedCheck.PassedCheck, declared.operations.Copying.Copying, declared.operations.Written.Written, Known.{SimplePlace, in_variable, in_global, access, know_next, writes_int, writes_ref}, Marked.{access_of, copy_of, is_one, is_written, number_of_line, Notes, know_of, passed_at, noted_place, stronger, with_access, with_copy, with_noted, with_number, with_place, with_written, AreBefore}}
 use Rattle.sharc_guard.proofs.Marking.{turned, known_after, noted_before}
 
 pub on_ok : {A E : Type 0} (P Q : Type 0) (r : Result A E) → (P → Q) → OnOk r P → OnOk r Q
@@ -25,20 +25,20 @@ both_written s r u t = ap (λ w. record s { written = w }) (fun_ext (λ q. by (q
 pub copy_noted : (s : Notes) (new : ℕ → Option Copied) (c : Copying) (t : ℕ) → ((q : ℕ) → new q ≡ cond (c.register == q) (Some record { variable = c.variable; made = t }) (s.copies q)) → record s { copies = new } ≡ with_copy (Some c) t s
 copy_noted s new c t h = ap (λ w. record s { copies = w }) (fun_ext (λ q. h q ∙ ap (λ b. cond b (Some record { variable = c.variable; made = t }) (s.copies q)) (turned c.register q)))
 
-pub number_noted : (s : Notes) (new : ℕ → Option Numbered) (r t : ℕ) (v : Option ℕ) → ((q : ℕ) → new q ≡ cond (r == q) (Some record { number = v; made = t }) (s.numbers q)) → record s { numbers = new } ≡ with_number (is_one (Some r)) v t s
+pub number_noted : (s : Notes) (new : ℕ → Option KnownNumber) (r t : ℕ) (v : Option ℕ) → ((q : ℕ) → new q ≡ cond (r == q) (Some record { number = v; made = t }) (s.numbers q)) → record s { numbers = new } ≡ with_number (is_one (Some r)) v t s
 number_noted s new r t v h = ap (λ w. record s { numbers = w }) (fun_ext (λ q. h q ∙ ap (λ b. cond b (Some record { number = v; made = t }) (s.numbers q)) (turned r q)))
 
-pub variable_noted : (s : Notes) (new : ℕ → ℕ → Option Passed) (x n t : ℕ) (kind now : Kind) → now ≡ stronger (passed_at s Write (in_variable x n)) kind
+pub variable_noted : (s : Notes) (new : ℕ → ℕ → Option PassedCheck) (x n t : ℕ) (kind now : Kind) → now ≡ stronger (passed_at s Write (in_variable x n)) kind
     → ((q : ℕ × ℕ) → new q.0 q.1 ≡ cond (x == q.0 && n == q.1) (Some record { kind = now; made = t }) (s.in_variables q.0 q.1)) → record s { in_variables = new } ≡ with_place kind (Some (in_variable x n)) t s
 variable_noted s new x n t kind now e h =
     ap (λ w. record s { in_variables = w }) (fun_ext (λ y. fun_ext (λ k. h (y, k) ∙ ap (λ z. cond (x == y && n == k) (Some record { kind = z; made = t }) (s.in_variables y k)) e)))
 
-pub global_noted : (s : Notes) (new : ℕ → ℕ → Option Passed) (x n t : ℕ) (kind now : Kind) → now ≡ stronger (passed_at s Write (in_global x n)) kind
+pub global_noted : (s : Notes) (new : ℕ → ℕ → Option PassedCheck) (x n t : ℕ) (kind now : Kind) → now ≡ stronger (passed_at s Write (in_global x n)) kind
     → ((q : ℕ × ℕ) → new q.0 q.1 ≡ cond (x == q.0 && n == q.1) (Some record { kind = now; made = t }) (s.in_globals q.0 q.1)) → record s { in_globals = new } ≡ with_place kind (Some (in_global x n)) t s
 global_noted s new x n t kind now e h =
     ap (λ w. record s { in_globals = w }) (fun_ext (λ y. fun_ext (λ k. h (y, k) ∙ ap (λ z. cond (x == y && n == k) (Some record { kind = z; made = t }) (s.in_globals y k)) e)))
 
-pub noted_same : (kind : Kind) (q : Option Place) (t : ℕ) (s : Notes) → with_noted kind (noted_place q) t s ≡ with_place kind q t s
+pub noted_same : (kind : Kind) (q : Option SimplePlace) (t : ℕ) (s : Notes) → with_noted kind (noted_place q) t s ≡ with_place kind q t s
 noted_same kind None t s = refl
 noted_same kind (Some (in_variable x n)) t s = refl
 noted_same kind (Some (in_global g n)) t s = refl

@@ -6,7 +6,7 @@ use Rattle.sharc_code.specs.{declared.code.PlaceMode.PlaceMode, declared.code.Pl
 use Rattle.sharc_code.specs.declared.instr.Cell.TheVariants as cells
 use Rattle.sharc_flat_form.specs.{declared.op.Spot.Spot, declared.op.Op.Op, Machine.Flat}
 use Rattle.sharc_flat_form.specs.declared.op.Op.TheVariants as op
-use Rattle.sharc_guard.specs.{Known.{is_straight, is_target, writes_ref, writes_int, Place, in_variable, in_global, same_place, assigns, counts, Access, access, is_dynamic, tells, Know, nothing, few, of_constant, element, with_element, number_given, copy_given, unless_written, variable_place, global_place, place_of, is_at, passes_by, know_next, know_after, known, has_passed, drops_at, dropped}, Repeated.{IsStraight, Keeps, IsPiece, AllKeep, IsCopy, IsNumber, constant, of_object, of_global, IsPlaceAt, IsSimple, IsChecked, IsOfInteger, IsRepeated, DropsRepeated, ItsCheckStands, RepeatedCheckStands}}
+use Rattle.sharc_guard.specs.{Known.{is_straight, is_target, writes_ref, writes_int, SimplePlace, in_variable, in_global, same_place, assigns, counts, Access, access, is_dynamic, tells, Know, nothing, few, of_constant, element, with_element, number_given, copy_given, unless_written, variable_place, global_place, place_of, is_at, passes_by, know_next, know_after, known, has_passed, drops_at, dropped}, Repeated.{IsStraight, Keeps, IsPiece, AllKeep, IsCopy, IsNumber, constant, of_object, of_global, IsPlaceAt, IsSimple, IsChecked, IsOfInteger, IsRepeated, DropsRepeated, ItsCheckStands, RepeatedCheckStands}}
 use Rattle.sharc_lemmas.proofs.{Options.{same_some as some_is}, Bools.{and_left, or_split as or_either, not_true, and_right, false_true}, Numbers.{eqb_other as eq_other, same_number as eq_true}}
 
 -- ---- tests
@@ -19,13 +19,13 @@ no_some a e = absurd (cc)
 pub true_false : {A : Type 0} → true ≡ false → A
 true_false e = absurd (cc)
 
-pub place_is : (a b : Place) → same_place a b ≡ true → a ≡ b
+pub place_is : (a b : SimplePlace) → same_place a b ≡ true → a ≡ b
 place_is (in_variable x n) (in_variable y k) e = ap (λ z. in_variable z n) (eq_true x y (and_left (x == y) (n == k) e)) ∙ ap (in_variable y) (eq_true n k (and_right (x == y) (n == k) e))
 place_is (in_global g n) (in_global h k) e = ap (λ z. in_global z n) (eq_true g h (and_left (g == h) (n == k) e)) ∙ ap (in_global h) (eq_true n k (and_right (g == h) (n == k) e))
 place_is (in_variable x n) (in_global h k) e = absurd (cc)
 place_is (in_global g n) (in_variable y k) e = absurd (cc)
 
-place_same : (a : Place) → same_place a a ≡ true
+place_same : (a : SimplePlace) → same_place a a ≡ true
 place_same (in_variable x n) = and_both (x == x) (n == n) (eq_same x x refl) (eq_same n n refl)
 place_same (in_global g n) = and_both (g == g) (n == n) (eq_same g g refl) (eq_same n n refl)
 
@@ -150,12 +150,12 @@ module _ (flat : Flat) where
   pub record Says (n : ℕ) (k : Know) : Type 0 where
     pub copies : (r x : ℕ) → k.copy r ≡ Some x → IsCopy flat r x n
     pub numbers : (i v : ℕ) → k.number i ≡ Some v → IsNumber flat i v n
-    pub passed : (kind : Kind) (place : Place) → k.passed kind place ≡ true → IsChecked flat n kind place
+    pub passed : (kind : Kind) (place : SimplePlace) → k.passed kind place ≡ true → IsChecked flat n kind place
 
   says_nothing : (n : ℕ) → Says n nothing
   says_nothing n = record { copies = λ r x e. no_some x e; numbers = λ i v e. no_some v e; passed = λ kind place e. false_true e }
 
-  pub place_true : (n : ℕ) (k : Know) → Says n k → (cell : Cell) (place : Place) → place_of k cell ≡ Some place → IsPlaceAt flat cell place n
+  pub place_true : (n : ℕ) (k : Know) → Says n k → (cell : Cell) (place : SimplePlace) → place_of k cell ≡ Some place → IsPlaceAt flat cell place n
   place_true n k h (cells.Global g c) place e = sym (some_is (in_global g c) place e)
   place_true n k h (cells.GlobalAt g i) place e = by (k.number i) refl e
     where
@@ -245,7 +245,7 @@ module _ (flat : Flat) where
         by true w e = number_made o at i v w e
         by false w e = number_more i v w (h.numbers i v e)
 
-    pub simple_here : (a : Access) → access o ≡ Some a → tells a.spot ≡ true → (place : Place) → place_of k a.cell ≡ Some place → IsSimple flat n a.kind place
+    pub simple_here : (a : Access) → access o ≡ Some a → tells a.spot ≡ true → (place : SimplePlace) → place_of k a.cell ≡ Some place → IsSimple flat n a.kind place
     simple_here a acc t place e = record {
       o = o;
       line = at;
@@ -257,7 +257,7 @@ module _ (flat : Flat) where
       at = place_true n k h a.cell place e;
     }
 
-    next_passed : (kind : Kind) (place : Place) → (know_next o k).passed kind place ≡ true → IsChecked flat (suc n) kind place
+    next_passed : (kind : Kind) (place : SimplePlace) → (know_next o k).passed kind place ≡ true → IsChecked flat (suc n) kind place
     next_passed kind place e =
         let both = k.passed kind place || passes_by (access o) k kind place in
         let stays : assigns o place ≡ false = not_true (assigns o place) (and_right both (not (assigns o place)) e) in
@@ -277,7 +277,7 @@ module _ (flat : Flat) where
           variable = keep_more (λ o. assigns o place) c.at n c.variable (keeps_line (λ o. assigns o place) n o at stays);
         }
 
-        at_place : (q : Option Place) → is_at q place ≡ true → q ≡ Some place
+        at_place : (q : Option SimplePlace) → is_at q place ≡ true → q ≡ Some place
         at_place None e = false_true e
         at_place (Some p) e = ap Some (sym (place_is place p e))
 
@@ -316,9 +316,9 @@ module _ (flat : Flat) where
   pub record Knows (n : ℕ) (k : Know) : Type 0 where
     pub copies : (r x : ℕ) → IsCopy flat r x n → k.copy r ≡ Some x
     pub numbers : (i v : ℕ) → IsNumber flat i v n → k.number i ≡ Some v
-    pub passed : (kind : Kind) (place : Place) → IsChecked flat n kind place → k.passed kind place ≡ true
+    pub passed : (kind : Kind) (place : SimplePlace) → IsChecked flat n kind place → k.passed kind place ≡ true
 
-  pub place_known : (n : ℕ) (k : Know) → Knows n k → (cell : Cell) (place : Place) → IsPlaceAt flat cell place n → place_of k cell ≡ Some place
+  pub place_known : (n : ℕ) (k : Know) → Knows n k → (cell : Cell) (place : SimplePlace) → IsPlaceAt flat cell place n → place_of k cell ≡ Some place
   place_known n k h (cells.Global g c) place p = ap Some (sym p)
   place_known n k h (cells.GlobalAt g i) place p = ap (global_place g) (h.numbers i p.0 p.1) ∙ ap Some (sym p.2)
   place_known n k h (cells.Object r c) place p = ap (λ q. variable_place q (Some c)) (h.copies r p.0 p.1) ∙ ap Some (sym p.2)
@@ -378,7 +378,7 @@ module _ (flat : Flat) where
         (earlier m lt)
 
     -- an access at this line
-    passes_here : (kind by : Kind) (place : Place) → IsSimple flat n by place → counts by kind ≡ true → passes_by (access o) k kind place ≡ true
+    passes_here : (kind by : Kind) (place : SimplePlace) → IsSimple flat n by place → counts by kind ≡ true → passes_by (access o) k kind place ≡ true
     passes_here kind by place s c =
         let is : o ≡ s.o = of_line s.o s.line in
         let acc : access o ≡ Some s.a = ap access is ∙ s.accesses in
@@ -387,7 +387,7 @@ module _ (flat : Flat) where
         ∙ and_both (tells s.a.spot) (counts s.a.kind kind && is_at (place_of k s.a.cell) place) (tells_both s.a.spot s.mode s.simple)
         (and_both (counts s.a.kind kind) (is_at (place_of k s.a.cell) place) (ap (λ z. counts z kind) s.kind_is ∙ c) (ap (λ q. is_at q place) known_at ∙ place_same place))
 
-    knows_passed : (kind : Kind) (place : Place) → IsChecked flat (suc n) kind place → (know_next o k).passed kind place ≡ true
+    knows_passed : (kind : Kind) (place : SimplePlace) → IsChecked flat (suc n) kind place → (know_next o k).passed kind place ≡ true
     knows_passed kind place c =
         let stays : assigns o place ≡ false = kept_line (λ o. assigns o place) n o at (c.variable n (omega (arith, c.before)) (omega arith)) in
         and_both (k.passed kind place || passes_by (access o) k kind place) (not (assigns o place))
@@ -439,7 +439,7 @@ module _ (flat : Flat) where
       t : tells a.spot ≡ true
       t = and_left (tells a.spot) (has_passed (known flat n) a.kind (place_of (known flat n) a.cell)) e
 
-      by : (q : Option Place) → place_of (known flat n) a.cell ≡ q → has_passed (known flat n) a.kind q ≡ true → IsRepeated flat n
+      by : (q : Option SimplePlace) → place_of (known flat n) a.cell ≡ q → has_passed (known flat n) a.kind q ≡ true → IsRepeated flat n
       by None eq e = false_true e
       by (Some place) eq e = record {
         integer = subst IsOfInteger (sym at) int;
@@ -467,7 +467,7 @@ module _ (flat : Flat) where
       by (Some (op.Store i cell spot)) el e = repeated_by n (op.Store i cell spot) record { kind = Write; cell = cell; spot = spot } el tt refl e
       by (Some _) el e = false_true e
 
-  drops_by : (n : ℕ) (o : Op) (a : Access) (kind : Kind) (place : Place) → L n ≡ Some o → access o ≡ Some a → (s : IsSimple flat n kind place) → IsChecked flat n kind place → (tells a.spot && has_passed (known flat n) a.kind (place_of (known flat n) a.cell)) ≡ true
+  drops_by : (n : ℕ) (o : Op) (a : Access) (kind : Kind) (place : SimplePlace) → L n ≡ Some o → access o ≡ Some a → (s : IsSimple flat n kind place) → IsChecked flat n kind place → (tells a.spot && has_passed (known flat n) a.kind (place_of (known flat n) a.cell)) ≡ true
   drops_by n o a kind place at acc s c =
       let is : o ≡ s.o = some_is o s.o (sym at ∙ s.line) in
       let same : s.a ≡ a = some_is s.a a (sym s.accesses ∙ sym (ap access is) ∙ acc) in
@@ -496,7 +496,7 @@ module _ (flat : Flat) where
   keep_join c l m n p q = λ j a b. ⊎_elim (λ (lt : j < m). p j a lt) (λ (le : m ≤ j). q j le b) (cases_lt j m)
 
   -- a simple access has one place and one kind
-  one_place : (n : ℕ) (kind kind2 : Kind) (place place2 : Place) → IsSimple flat n kind place → IsSimple flat n kind2 place2 → (kind2 ≡ kind) × (place2 ≡ place)
+  one_place : (n : ℕ) (kind kind2 : Kind) (place place2 : SimplePlace) → IsSimple flat n kind place → IsSimple flat n kind2 place2 → (kind2 ≡ kind) × (place2 ≡ place)
   one_place n kind kind2 place place2 s s2 =
       let k = known flat n in
       let is : s.o ≡ s2.o = some_is s.o s2.o (sym s.line ∙ s2.line) in
@@ -505,7 +505,7 @@ module _ (flat : Flat) where
         some_is place2 place (sym (place_known n k (knows n) s2.a.cell place2 s2.at) ∙ ap (λ (a : Access). place_of k a.cell) (sym same) ∙ place_known n k (knows n) s.a.cell place s.at),
       )
 
-  stands_below : (fuel n : ℕ) (kind : Kind) (place : Place) → (c : IsChecked flat n kind place) → c.at < fuel → ItsCheckStands flat n kind place
+  stands_below : (fuel n : ℕ) (kind : Kind) (place : SimplePlace) → (c : IsChecked flat n kind place) → c.at < fuel → ItsCheckStands flat n kind place
   stands_below zero n kind place c lt = absurd (omega arith)
   stands_below (suc fuel) n kind place c lt = by (dropped flat c.at) refl (λ c2 lt2. stands_below fuel c.at c.by place c2 lt2)
     where

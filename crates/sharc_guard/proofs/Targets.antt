@@ -5,7 +5,7 @@ use Rattle.std.specs.Prelude.{◌==◌}
 use Rattle.sharc_shadow.specs.declared.shadow_word.Kind.{Kind}
 use Rattle.sharc_code.specs.declared.code.Function.{Function}
 use Rattle.sharc_flat_form.specs.{declared.op.Op.Op, Machine.Flat}
-use Rattle.sharc_guard.specs.{Known.{Place, in_variable, in_global, nothing, know_after, known, drops, drops_at, dropped, is_entry, is_led_to, is_target, leads_to, line_leads}, Marked.{AreBefore, AreMarks, AreTargets, Notes, is_one, know_of, no_notes}, Made.marked}
+use Rattle.sharc_guard.specs.{Known.{SimplePlace, in_variable, in_global, nothing, know_after, known, drops, drops_at, dropped, is_entry, is_led_to, is_target, leads_to, line_leads}, Marked.{AreBefore, AreMarks, AreTargets, Notes, is_one, know_of, no_notes}, Made.marked}
 use Rattle.sharc_lemmas.proofs.{Bools.{or_false, or_assoc}, Numbers.next}
 
 -- ---- lines that are led to
@@ -78,7 +78,7 @@ pub record IsAt (flat : Flat) (n : ℕ) (marks : List Bool) (s : Notes) : Type 0
 nothing_noted : know_of no_notes ≡ nothing
 nothing_noted = λ i. record { copy = λ r. None; number = λ j. None; passed = fun_ext (λ kind. fun_ext (passes kind)) i }
   where
-    passes : (kind : Kind) (place : Place) → (know_of no_notes).passed kind place ≡ false
+    passes : (kind : Kind) (place : SimplePlace) → (know_of no_notes).passed kind place ≡ false
     passes kind (in_variable x n) = refl
     passes kind (in_global g n) = refl
 

@@ -15,7 +15,7 @@ use Rattle.sharc_flat_form.specs.{declared.op.Op.Op, declared.op.Spot.Spot, Mach
 use Rattle.sharc_flat_form.specs.declared.op.Op.TheVariants as op
 use Rattle.sharc_guarded_form.specs.Machine as Form
 use Rattle.sharc_guarded_form.specs.{Machine.{Program, Thread, statement_at}, Path.{with_parameter, fresh, started, thread_after, IsPath, weight_in}}
-use Rattle.sharc_guard.specs.{Guard.{place, guarded, entered_at, own, body, tail, head, check_under}, Level.{IsEntry, Takes, Level, IsLevel}, Counted.{Tells, IsSettling, AreLowered, OverwritesNone, Quietly, OnWay, IsReplaced, Stands, HasCome, LocksFrom, GuardedCounts, NeedsCheck, IsPassed, WasChecked, IsOf}}
+use Rattle.sharc_guard.specs.{Guard.{place, guarded, entered_at, own, body, tail, head, check_under}, Level.{IsEntry, Takes, Level, IsLevel}, Counted.{Tells, IsSettling, AreLowered, OverwritesNone, Quietly, OnWay, IsReplaced, MatchesFlat, HasCome, LocksFrom, GuardedCounts, NeedsCheck, IsPassed, WasChecked, IsOf}}
 
 module _ (dropped : ℕ → Bool) (flat : Flat) (level : IsLevel flat) where
   abbrev pl : ℕ → ℕ
@@ -86,7 +86,7 @@ module _ (dropped : ℕ → Bool) (flat : Flat) (level : IsLevel flat) where
       z
   settling_flight m a rd k some _ st z l = absurd z
 
-  stand : (m : At) (a : Thread) → Stage dropped flat level m a → Stands flat p m a
+  stand : (m : At) (a : Thread) → Stage dropped flat level m a → MatchesFlat flat p m a
   stand m a (ahead x) =
       let s = stand_ahead m a x x.hs refl in
       record {

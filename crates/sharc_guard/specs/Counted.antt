@@ -139,7 +139,7 @@ InFlight flat p m a = (k : ℕ) → a.refs k ≢ pos 0
 
 -- ---- the theorem
 -- Guarded code at a is where flat code at m is.
-pub record Stands (flat : Flat) (p : Program) (m : At) (a : Thread) : Type 0 where
+pub record MatchesFlat (flat : Flat) (p : Program) (m : At) (a : Thread) : Type 0 where
   pub events : a.events ≡ m.events
   pub function : a.function ≡ m.function
   pub tells : Tells p (Form.turn p a) (turn flat m)
@@ -174,7 +174,7 @@ pub record HasCome (dropped : ℕ → Bool) (flat : Flat) (p : Program) (from : 
     (answers : List ℤ) : Type 0 where
   pub flat_answers : List ℤ
   pub path : IsFlatPath flat from flat_answers
-  pub stands : Stands flat p (at_after flat from flat_answers) (thread_after p begun answers)
+  pub stands : MatchesFlat flat p (at_after flat from flat_answers) (thread_after p begun answers)
   pub same_answers : asked flat from flat_answers ≡ guarded_asked p begun answers
   -- the statements but those that enter an expression are no more than the turns
   pub few : moves flat from flat_answers ≤ length answers

@@ -86,17 +86,17 @@ writes_int _ k = false
 
 -- ---- simple places
 -- a cell of what the reference register of a variable refers to, or of a global, by its number
-pub data Place : Type 0 where
-  in_variable : ℕ → ℕ → Place
-  in_global : ℕ → ℕ → Place
+pub data SimplePlace : Type 0 where
+  in_variable : ℕ → ℕ → SimplePlace
+  in_global : ℕ → ℕ → SimplePlace
 
-abbrev pub same_place : Place → Place → Bool
+abbrev pub same_place : SimplePlace → SimplePlace → Bool
 same_place (in_variable x n) (in_variable y k) = x == y && n == k
 same_place (in_global g n) (in_global h k) = g == h && n == k
 same_place _ _ = false
 
 -- the operation assigns the variable through which the place is reached
-abbrev pub assigns : Op → Place → Bool
+abbrev pub assigns : Op → SimplePlace → Bool
 assigns o (in_variable x n) = writes_ref o x
 assigns o (in_global g n) = false
 
@@ -132,7 +132,7 @@ tells spot = is_dynamic spot.mode && spot.is_simple
 pub record Know : Type 0 where
   pub copy : ℕ → Option ℕ
   pub number : ℕ → Option ℕ
-  pub passed : Kind → Place → Bool
+  pub passed : Kind → SimplePlace → Bool
 
 abbrev pub nothing : Know
 nothing = record { copy = λ r. None; number = λ i. None; passed = λ kind place. false }
@@ -168,27 +168,27 @@ abbrev pub unless_written : Op → Option ℕ → Option ℕ
 unless_written o None = None
 unless_written o (Some x) = if writes_ref o x then None else Some x
 
-abbrev pub variable_place : Option ℕ → Option ℕ → Option Place
+abbrev pub variable_place : Option ℕ → Option ℕ → Option SimplePlace
 variable_place (Some x) (Some n) = Some (in_variable x n)
 variable_place (Some x) None = None
 variable_place None n = None
 
-abbrev pub global_place : ℕ → Option ℕ → Option Place
+abbrev pub global_place : ℕ → Option ℕ → Option SimplePlace
 global_place g (Some n) = Some (in_global g n)
 global_place g None = None
 
-abbrev pub place_of : Know → Cell → Option Place
+abbrev pub place_of : Know → Cell → Option SimplePlace
 place_of k (cells.Global g n) = Some (in_global g n)
 place_of k (cells.GlobalAt g i) = global_place g (k.number i)
 place_of k (cells.Object r n) = variable_place (k.copy r) (Some n)
 place_of k (cells.ObjectAt r i) = variable_place (k.copy r) (k.number i)
 
-abbrev pub is_at : Option Place → Place → Bool
+abbrev pub is_at : Option SimplePlace → SimplePlace → Bool
 is_at None place = false
 is_at (Some at) place = same_place place at
 
 -- the check of an access counts for this one
-abbrev pub passes_by : Option Access → Know → Kind → Place → Bool
+abbrev pub passes_by : Option Access → Know → Kind → SimplePlace → Bool
 passes_by None k kind place = false
 passes_by (Some a) k kind place = tells a.spot && (counts a.kind kind && is_at (place_of k a.cell) place)
 
@@ -210,7 +210,7 @@ known flat zero = nothing
 known flat (suc n) = if is_target flat (suc n) then nothing else know_after (slice_get flat.lines n) (known flat n)
 
 -- ---- the checks that are dropped
-abbrev pub has_passed : Know → Kind → Option Place → Bool
+abbrev pub has_passed : Know → Kind → Option SimplePlace → Bool
 has_passed k kind None = false
 has_passed k kind (Some place) = k.passed kind place
 

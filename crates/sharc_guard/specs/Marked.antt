@@ -7,14 +7,14 @@ use Rattle.sharc_shadow.specs.{declared.shadow_word.Kind.Kind, declared.shadow_w
 use Rattle.sharc_code.specs.declared.code.Function.{Function}
 use Rattle.sharc_flat_form.specs.{declared.op.Op.Op, Machine.Flat}
 use Rattle.sharc_flat_form.specs.declared.op.Op.TheVariants as op
-use Rattle.sharc_guard.specs.{declared.marks.Copied.Copied, declared.marks.Numbered.Numbered}
-use Rattle.sharc_guard.specs.{declared.marks.Passed.Passed, declared.marks.Place.{Place as PlaceNoted}}
-use Rattle.sharc_guard.specs.{declared.marks.Knowledge.Knowledge, declared.operations.CellAccess.CellAccess}
+use Rattle.sharc_guard.specs.{declared.marks.Copied.Copied, declared.marks.KnownNumber.KnownNumber}
+use Rattle.sharc_guard.specs.{declared.marks.PassedCheck.PassedCheck, declared.marks.SimplePlace.{SimplePlace as PlaceNoted}}
+use Rattle.sharc_guard.specs.{declared.marks.Knowledge.Knowledge, declared.operations.CheckedAccess.CheckedAccess}
 use Rattle.sharc_guard.specs.{declared.operations.Copying.Copying, declared.operations.Written.Written}
-use Rattle.sharc_guard.specs.Known.{is_led_to, is_entry, Place, in_variable, in_global, counts, Access, tells, Know}
+use Rattle.sharc_guard.specs.Known.{is_led_to, is_entry, SimplePlace, in_variable, in_global, counts, Access, tells, Know}
 use Rattle.sharc_guard.specs.Known.{of_constant, with_element, place_of, has_passed, dropped}
 use Rattle.sharc_guard.specs.Made.{marked}
-use Rattle.sharc_guard.specs.declared.marks.Place.TheVariants as noted
+use Rattle.sharc_guard.specs.declared.marks.SimplePlace.TheVariants as noted
 use Rattle.sharc_guard.specs.declared.operations.Written.TheVariants as written
 
 -- ---- operations
@@ -27,7 +27,7 @@ abbrev pub is_one : Option ℕ → ℕ → Bool
 is_one None k = false
 is_one (Some i) k = k == i
 
-abbrev pub access_of : Option Access → Option CellAccess
+abbrev pub access_of : Option Access → Option CheckedAccess
 access_of None = None
 access_of (Some a) = Some record { kind = a.kind; cell = a.cell; tells = tells a.spot }
 
@@ -47,9 +47,9 @@ pub record Notes : Type 0 where
   pub floor : ℕ
   pub written : ℕ → Option ℕ
   pub copies : ℕ → Option Copied
-  pub numbers : ℕ → Option Numbered
-  pub in_variables : ℕ → ℕ → Option Passed
-  pub in_globals : ℕ → ℕ → Option Passed
+  pub numbers : ℕ → Option KnownNumber
+  pub in_variables : ℕ → ℕ → Option PassedCheck
+  pub in_globals : ℕ → ℕ → Option PassedCheck
 
 abbrev pub no_notes : Notes
 no_notes = record {
@@ -88,15 +88,15 @@ copy_by floor written last (Some c) =
     if nat_lt floor c.made && (nat_le last c.made && nat_lt (or_never (written c.variable)) c.made) then Some c.variable
     else None
 
-abbrev pub number_by : ℕ → Option Numbered → Option ℕ
+abbrev pub number_by : ℕ → Option KnownNumber → Option ℕ
 number_by floor None = None
 number_by floor (Some n) = if nat_lt floor n.made then n.number else None
 
-abbrev pub passed_by : ℕ → ℕ → Kind → Option Passed → Bool
+abbrev pub passed_by : ℕ → ℕ → Kind → Option PassedCheck → Bool
 passed_by floor last kind None = false
 passed_by floor last kind (Some p) = nat_lt floor p.made && (nat_lt last p.made && counts p.kind kind)
 
-abbrev pub passed_at : Notes → Kind → Place → Bool
+abbrev pub passed_at : Notes → Kind → SimplePlace → Bool
 passed_at s kind (in_variable x n) = passed_by s.floor (or_never (s.written x)) kind (s.in_variables x n)
 passed_at s kind (in_global g n) = passed_by s.floor 0 kind (s.in_globals g n)
 
@@ -107,20 +107,20 @@ know_of s = record {
   passed = passed_at s;
 }
 
-abbrev pub place_from : PlaceNoted → Place
+abbrev pub place_from : PlaceNoted → SimplePlace
 place_from (noted.InVariable x n) = in_variable x n
 place_from (noted.InGlobal g n) = in_global g n
 
-abbrev pub place_to : Place → PlaceNoted
+abbrev pub place_to : SimplePlace → PlaceNoted
 place_to (in_variable x n) = noted.InVariable x n
 place_to (in_global g n) = noted.InGlobal g n
 
-abbrev pub noted_place : Option Place → Option PlaceNoted
+abbrev pub noted_place : Option SimplePlace → Option PlaceNoted
 noted_place None = None
 noted_place (Some place) = Some (place_to place)
 
 -- the check of an access repeats one
-abbrev pub repeats : Know → Option CellAccess → Bool
+abbrev pub repeats : Know → Option CheckedAccess → Bool
 repeats k None = false
 repeats k (Some a) = a.tells && has_passed k a.kind (place_of k a.cell)
 
@@ -149,7 +149,7 @@ abbrev pub stronger : Bool → Kind → Kind
 stronger true kind = Write
 stronger false kind = kind
 
-abbrev pub with_place : Kind → Option Place → ℕ → Notes → Notes
+abbrev pub with_place : Kind → Option SimplePlace → ℕ → Notes → Notes
 with_place kind None t s = s
 with_place kind (Some (in_variable x n)) t s =
     record s {
@@ -167,7 +167,7 @@ abbrev pub with_noted : Kind → Option PlaceNoted → ℕ → Notes → Notes
 with_noted kind None t s = s
 with_noted kind (Some place) t s = with_place kind (Some (place_from place)) t s
 
-abbrev pub with_access : Option CellAccess → ℕ → Notes → Notes
+abbrev pub with_access : Option CheckedAccess → ℕ → Notes → Notes
 with_access None t s = s
 with_access (Some a) t s = if a.tells then with_place a.kind (place_of (know_of s) a.cell) t s else s
 
@@ -176,11 +176,11 @@ abbrev pub CopyBefore : ℕ → Option Copied → Type 0
 CopyBefore t None = Unit {0}
 CopyBefore t (Some c) = c.made < t
 
-abbrev pub NumberBefore : ℕ → Option Numbered → Type 0
+abbrev pub NumberBefore : ℕ → Option KnownNumber → Type 0
 NumberBefore t None = Unit {0}
 NumberBefore t (Some n) = n.made < t
 
-abbrev pub PassedBefore : ℕ → Option Passed → Type 0
+abbrev pub PassedBefore : ℕ → Option PassedCheck → Type 0
 PassedBefore t None = Unit {0}
 PassedBefore t (Some p) = p.made < t
 

@@ -6,7 +6,7 @@ use Rattle.sharc_code.specs.{declared.code.PlaceMode.TheVariants.Dynamic, declar
 use Rattle.sharc_code.specs.declared.instr.Cell.TheVariants as cells
 use Rattle.sharc_flat_form.specs.{declared.op.Spot.Spot, declared.op.Op.Op, Machine.Flat}
 use Rattle.sharc_flat_form.specs.declared.op.Op.TheVariants as op
-use Rattle.sharc_guard.specs.Known.{is_straight, is_target, writes_ref, writes_int, Place, in_variable, in_global}
+use Rattle.sharc_guard.specs.Known.{is_straight, is_target, writes_ref, writes_int, SimplePlace, in_variable, in_global}
 use Rattle.sharc_guard.specs.Known.{assigns, counts, Access, access, dropped}
 
 abbrev pub IsStraight : Option Op → Type 0
@@ -52,7 +52,7 @@ module _ (flat : Flat) where
         → IsPiece at n → AllKeep (λ o. writes_int o i) (at + 1) n → IsNumber i v n
 
   -- the place that a cell names at a line
-  abbrev pub IsPlaceAt : Cell → Place → ℕ → Type 0
+  abbrev pub IsPlaceAt : Cell → SimplePlace → ℕ → Type 0
   IsPlaceAt (cells.Global g n) place line = place ≡ in_global g n
   IsPlaceAt (cells.GlobalAt g i) place line = (n : ℕ) × IsNumber i n line × (place ≡ in_global g n)
   IsPlaceAt (cells.Object r n) place line = (x : ℕ) × IsCopy r x line × (place ≡ in_variable x n)
@@ -60,7 +60,7 @@ module _ (flat : Flat) where
       (x : ℕ) × (n : ℕ) × IsCopy r x line × IsNumber i n line × (place ≡ in_variable x n)
 
   -- at this line there is an access of a simple place of mode dynamic
-  pub record IsSimple (n : ℕ) (kind : Kind) (place : Place) : Type 0 where
+  pub record IsSimple (n : ℕ) (kind : Kind) (place : SimplePlace) : Type 0 where
     pub o : Op
     pub line : IsLine n o
     pub a : Access
@@ -71,7 +71,7 @@ module _ (flat : Flat) where
     pub at : IsPlaceAt a.cell place n
 
   -- one of kind Write or of this kind comes earlier in the same piece, and the variable is not assigned between
-  pub record IsChecked (n : ℕ) (kind : Kind) (place : Place) : Type 0 where
+  pub record IsChecked (n : ℕ) (kind : Kind) (place : SimplePlace) : Type 0 where
     pub at : ℕ
     pub before : at < n
     pub by : Kind
@@ -90,7 +90,7 @@ IsOfInteger _ = ⊥
 pub record IsRepeated (flat : Flat) (n : ℕ) : Type 0 where
   pub integer : IsOfInteger (slice_get flat.lines n)
   pub kind : Kind
-  pub place : Place
+  pub place : SimplePlace
   pub simple : IsSimple flat n kind place
   pub checked : IsChecked flat n kind place
 
@@ -99,10 +99,10 @@ abbrev pub DropsRepeated : Type 0
 DropsRepeated = (flat : Flat) (n : ℕ) → (dropped flat n ≡ true) ↔ IsRepeated flat n
 
 -- and the check that is repeated is not dropped itself
-pub record ItsCheckStands (flat : Flat) (n : ℕ) (kind : Kind) (place : Place) : Type 0 where
+pub record ItsCheckStands (flat : Flat) (n : ℕ) (kind : Kind) (place : SimplePlace) : Type 0 where
   pub checked : IsChecked flat n kind place
   pub stands : dropped flat checked.at ≡ false
 
 abbrev pub RepeatedCheckStands : Type 0
-RepeatedCheckStands = (flat : Flat) (n : ℕ) (kind : Kind) (place : Place) → IsChecked flat n kind place
+RepeatedCheckStands = (flat : Flat) (n : ℕ) (kind : Kind) (place : SimplePlace) → IsChecked flat n kind place
     → ItsCheckStands flat n kind place

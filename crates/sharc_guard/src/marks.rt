@@ -13,7 +13,7 @@ ghost use Rattle.sharc_guard.specs.Marked.{passed_there, place_from, repeats, st
 ghost use Rattle.sharc_guard.specs.Marked.{with_floor, with_noted, with_number, with_place, with_written};
 
 use crate::operations::{
-    CellAccess, Copying, Written, access, copy_made, is_straight, led_to, written_integer,
+    CheckedAccess, Copying, Written, access, copy_made, is_straight, led_to, written_integer,
     written_references,
 };
 use indexmap::IndexMap;
@@ -31,21 +31,21 @@ pub(crate) struct Copied {
 
 /// What is known of the number in an integer register, and since when.
 #[derive(Clone, Copy)]
-pub(crate) struct Numbered {
+pub(crate) struct KnownNumber {
     number: Option<u64>,
     made: u32,
 }
 
 /// The check of a place, and when it was passed.
 #[derive(Clone, Copy)]
-pub(crate) struct Passed {
+pub(crate) struct PassedCheck {
     kind: Kind,
     made: u32,
 }
 
 /// A simple place: a cell of what a variable refers to, or of a global.
 #[derive(Clone, Copy)]
-pub(crate) enum Place {
+pub(crate) enum SimplePlace {
     InVariable(u32, u64),
     InGlobal(u32, u64),
 }
@@ -56,9 +56,9 @@ pub(crate) struct Knowledge {
     floor: u32,
     written: IndexMap<u32, u32>,
     copies: IndexMap<u32, Copied>,
-    numbers: IndexMap<u32, Numbered>,
-    in_variables: IndexMap<(u32, u64), Passed>,
-    in_globals: IndexMap<(u32, u64), Passed>,
+    numbers: IndexMap<u32, KnownNumber>,
+    in_variables: IndexMap<(u32, u64), PassedCheck>,
+    in_globals: IndexMap<(u32, u64), PassedCheck>,
 }
 
 /// The marks of all lines: which of their checks are dropped. It takes one pass.
@@ -176,7 +176,7 @@ impl Knowledge {
     }
 
     // Whether the check of an access repeats one.
-    fn repeats(&self, access: Option<CellAccess>) -> bool
+    fn repeats(&self, access: Option<CheckedAccess>) -> bool
         ensures { result ≡ repeats (know_of (notes_of self.now)) access }
     {
         match access {
@@ -185,7 +185,7 @@ impl Knowledge {
         }
     }
 
-    fn passed_there(&self, kind: Kind, place: Option<Place>) -> bool
+    fn passed_there(&self, kind: Kind, place: Option<SimplePlace>) -> bool
         ensures { result ≡ passed_there (notes_of self.now) kind place }
     {
         match place {
@@ -276,28 +276,28 @@ impl Knowledge {
     }
 
     // Whether a check of a place was passed that counts for this kind.
-    fn has_passed(&self, kind: Kind, place: Place) -> bool
+    fn has_passed(&self, kind: Kind, place: SimplePlace) -> bool
         ensures { result ≡ passed_at (notes_of self.now) kind (place_from place) }
     {
         match place {
-            Place::InVariable(variable, number) => passed_since(
+            SimplePlace::InVariable(variable, number) => passed_since(
                 self.in_variables.get(&(variable, number)),
                 self.floor,
                 self.written(variable),
                 kind,
             ),
-            Place::InGlobal(global, number) => {
+            SimplePlace::InGlobal(global, number) => {
                 passed_since(self.in_globals.get(&(global, number)), self.floor, 0, kind)
             }
         }
     }
 
     // The simple place that a cell names.
-    fn place(&self, cell: Cell) -> Option<Place>
+    fn place(&self, cell: Cell) -> Option<SimplePlace>
         ensures { result ≡ noted_place (place_of (know_of (notes_of self.now)) cell) }
     {
         match cell {
-            Cell::Global(global, number) => Some(Place::InGlobal(global, u64::from(number))),
+            Cell::Global(global, number) => Some(SimplePlace::InGlobal(global, u64::from(number))),
             Cell::GlobalAt(global, at) => in_global(global, self.number(at)),
             Cell::Object(register, number) => in_variable(
                 self.copy(register),
@@ -320,7 +320,7 @@ impl Knowledge {
     }
 
     // A check of a place of mode dynamic was passed.
-    fn note_access(&mut self, access: Option<CellAccess>, time: u32) -> Result<(), AllocError>
+    fn note_access(&mut self, access: Option<CheckedAccess>, time: u32) -> Result<(), AllocError>
         ensures { OnOk result (notes_of self.new ≡ with_access access time (notes_of self.old)) }
     {
         match access {
@@ -336,7 +336,7 @@ impl Knowledge {
         }
     }
 
-    fn note_check(&mut self, kind: Kind, place: Option<Place>, time: u32) -> Result<(), AllocError>
+    fn note_check(&mut self, kind: Kind, place: Option<SimplePlace>, time: u32) -> Result<(), AllocError>
         ensures { OnOk result (notes_of self.new ≡ with_noted kind place time (notes_of self.old)) }
     {
         match place {
@@ -345,25 +345,25 @@ impl Knowledge {
         }
     }
 
-    fn note_place(&mut self, kind: Kind, place: Place, time: u32) -> Result<(), AllocError>
+    fn note_place(&mut self, kind: Kind, place: SimplePlace, time: u32) -> Result<(), AllocError>
         ensures { OnOk result (notes_of self.new ≡ with_place kind (Some (place_from place)) time (notes_of self.old)) }
     {
         let kind = self.stronger(kind, place);
         match place {
-            Place::InVariable(variable, number) => {
+            SimplePlace::InVariable(variable, number) => {
                 self.in_variables
-                    .insert((variable, number), Passed { kind, made: time })?;
+                    .insert((variable, number), PassedCheck { kind, made: time })?;
                 Ok(())
             }
-            Place::InGlobal(global, number) => {
+            SimplePlace::InGlobal(global, number) => {
                 self.in_globals
-                    .insert((global, number), Passed { kind, made: time })?;
+                    .insert((global, number), PassedCheck { kind, made: time })?;
                 Ok(())
             }
         }
     }
 
-    fn stronger(&self, kind: Kind, place: Place) -> Kind
+    fn stronger(&self, kind: Kind, place: SimplePlace) -> Kind
         ensures { result ≡ stronger (passed_at (notes_of self.now) Write (place_from place)) kind }
     {
         if self.has_passed(Kind::Write, place) {
@@ -424,7 +424,7 @@ impl Knowledge {
             None => Ok(()),
             Some(register) => {
                 self.numbers
-                    .insert(register, Numbered { number, made: time })?;
+                    .insert(register, KnownNumber { number, made: time })?;
                 Ok(())
             }
         }
@@ -432,7 +432,7 @@ impl Knowledge {
 }
 
 // Whether a check that was noted counts for this kind, where its register was written last then.
-fn passed_since(noted: Option<&Passed>, floor: u32, last: u32, kind: Kind) -> bool
+fn passed_since(noted: Option<&PassedCheck>, floor: u32, last: u32, kind: Kind) -> bool
     ensures { result ≡ passed_by floor last kind (option_copied noted.entry) }
 {
     match noted {
@@ -454,24 +454,24 @@ fn counts(by: Kind, kind: Kind) -> bool
     }
 }
 
-fn in_variable(variable: Option<u32>, number: Option<u64>) -> Option<Place>
+fn in_variable(variable: Option<u32>, number: Option<u64>) -> Option<SimplePlace>
     ensures { result ≡ noted_place (variable_place variable number) }
 {
     match variable {
         None => None,
         Some(variable) => match number {
             None => None,
-            Some(number) => Some(Place::InVariable(variable, number)),
+            Some(number) => Some(SimplePlace::InVariable(variable, number)),
         },
     }
 }
 
-fn in_global(global: u32, number: Option<u64>) -> Option<Place>
+fn in_global(global: u32, number: Option<u64>) -> Option<SimplePlace>
     ensures { result ≡ noted_place (global_place global number) }
 {
     match number {
         None => None,
-        Some(number) => Some(Place::InGlobal(global, number)),
+        Some(number) => Some(SimplePlace::InGlobal(global, number)),
     }
 }
 

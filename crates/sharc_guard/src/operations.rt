@@ -18,7 +18,7 @@ pub(crate) enum Written {
 
 /// An access of a cell, and whether its check is one of a simple place of mode dynamic.
 #[derive(Clone, Copy)]
-pub(crate) struct CellAccess {
+pub(crate) struct CheckedAccess {
     pub kind: Kind,
     pub cell: Cell,
     pub tells: bool,
@@ -94,7 +94,7 @@ pub(crate) fn written_integer(op: Op) -> Option<u32>
 }
 
 /// The access that an operation makes.
-pub(crate) fn access(op: Op) -> Option<CellAccess>
+pub(crate) fn access(op: Op) -> Option<CheckedAccess>
     ensures { result ≡ access_of (access op) }
 {
     match op {
@@ -106,10 +106,10 @@ pub(crate) fn access(op: Op) -> Option<CellAccess>
     }
 }
 
-fn accessed(kind: Kind, cell: Cell, spot: Spot) -> CellAccess
+fn accessed(kind: Kind, cell: Cell, spot: Spot) -> CheckedAccess
     ensures { result ≡ record { kind = kind; cell = cell; tells = tells spot } }
 {
-    CellAccess {
+    CheckedAccess {
         kind,
         cell,
         tells: is_dynamic(spot.mode) && spot.is_simple,

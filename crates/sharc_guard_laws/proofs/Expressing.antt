@@ -1,7 +1,7 @@
 -- The code of an expression: after it one register more holds something, if its value is a reference.
 use Rattle.std.specs.Prelude.{ℤ}
 use Rattle.std.proofs.{Common.{◌≡◌, ℕ, zero, suc, ◌+◌, ◌<◌, ◌≤◌, Bool, true, false, cond, List, [], ◌∷◌, ◌++◌, length, map, refl, ap, sym, ◌∙◌, subst, arith, Option, Some, None, codes, bytes_eq, if◌then◌else◌}, lemmas.Bool.false≢true}
-use Rattle.sharc_tree.specs.{declared.token.Site.Site, declared.token.Span.Span, declared.tree.declaration.Identifier.Identifier, declared.tree.expression.Access.Access, declared.tree.expression.Access.TheVariants.{Dot, Arrow}, declared.tree.expression.BinaryOperator.BinaryOperator, declared.tree.expression.BinaryOperator.TheVariants.{LogicalOr, LogicalAnd, BitOr, BitXor, BitAnd, Equal, NotEqual, Less, Greater, LessOrEqual, GreaterOrEqual, ShiftLeft, ShiftRight, Add, Subtract, Multiply, Divide, Remainder}, declared.tree.expression.PlaceCall.PlaceCall, declared.tree.expression.PlaceCall.TheVariants.{Lock, Unlock, Free}, declared.tree.expression.UnaryOperator.TheVariants.{Negate, Not, Complement, Dereference}, Spans.span_of, Tree.{Expression, identifier, constant, parentheses, call, spawn, on_value, on_place, cast, index, field, unary, binary, Arguments, no_arguments, argument, Function}}
+use Rattle.sharc_tree.specs.{declared.token.Site.Site, declared.token.Span.Span, declared.tree.declaration.Identifier.Identifier, declared.tree.expression.FieldOperator.FieldOperator, declared.tree.expression.FieldOperator.TheVariants.{Dot, Arrow}, declared.tree.expression.BinaryOperator.BinaryOperator, declared.tree.expression.BinaryOperator.TheVariants.{LogicalOr, LogicalAnd, BitOr, BitXor, BitAnd, Equal, NotEqual, Less, Greater, LessOrEqual, GreaterOrEqual, ShiftLeft, ShiftRight, Add, Subtract, Multiply, Divide, Remainder}, declared.tree.expression.PlaceCall.PlaceCall, declared.tree.expression.PlaceCall.TheVariants.{Lock, Unlock, Free}, declared.tree.expression.UnaryOperator.TheVariants.{Negate, Not, Complement, Dereference}, Spans.span_of, Tree.{Expression, identifier, constant, parentheses, call, spawn, on_value, on_place, cast, index, field, unary, binary, Arguments, no_arguments, argument, Function}}
 use Rattle.sharc_names.specs.{declared.fault.Named.Named, Kinds.{Kind, is_array, is_integer, element_kind, declared_kind, declared_kinds}}
 use Rattle.sharc_names.specs.declared.fault.Named.TheVariants as named
 use Rattle.sharc_code.specs.declared.code.Use.TheVariants as uses
@@ -226,7 +226,7 @@ module _ (flat : Flat) (owner : ℕ → ℕ) (f : ℕ) (m : Assignment) where
   pointee_at : (r : ℕ) (site : Site) (xs : List Op) → Q r xs (r + 1) → Q r (pointee_code r site xs) (r + 1)
   pointee_at r site xs p = pointees flat owner g f D r site xs p
 
-  field_of : (c : Context) (r : ℕ) (site : Site) (f2 : Option ℕ) (s : Span) (a : Expression) (w : Access) (n : Identifier) (place : Option ℕ → List Op) (pointer : List Op) (X Y : Type 0)
+  field_of : (c : Context) (r : ℕ) (site : Site) (f2 : Option ℕ) (s : Span) (a : Expression) (w : FieldOperator) (n : Identifier) (place : Option ℕ → List Op) (pointer : List Op) (X Y : Type 0)
       → (X → (z : Option ℕ) → Q r (place z) (r + base_width (target c.program.typed z a))) → (Y → Q r pointer (r + width (is_ref c a))) → FieldSuits c w a X Y → Q r (field_code c r site f2 w n place pointer) (r + base_width (target c.program.typed f2 (field s a w n)))
   field_of c r site f2 s a Dot n place pointer X Y px py h = px h (Some (own_field f2 (field_place_named c.program.typed (what_names c n.site.token))))
   field_of c r site f2 s a Arrow n place pointer X Y px py h = pointee_at r site pointer (reference_value r pointer (is_ref c a) h.1 (py h.0))

@@ -1,6 +1,6 @@
 -- The parts of flattened code: which integer registers name two cells of one element at each of their lines.
 use Rattle.std.proofs.{Common.{◌≡◌, inl, inr, ⊎_elim, ℕ, ◌+◌, ◌-◌, ◌<◌, ◌≤◌, Bool, true, false, cond, List, [], ◌∷◌, ◌++◌, length, drop, refl, ap, sym, ◌∙◌, subst, arith, length-append, append_assoc, Option, Some, None, codes, bytes_eq}, lemmas.Bool.false≢true}
-use Rattle.sharc_tree.specs.{declared.token.Site.Site, declared.token.Span.Span, declared.tree.declaration.Identifier.Identifier, declared.tree.expression.Access.Access, declared.tree.expression.Access.TheVariants.{Dot, Arrow}, declared.tree.expression.BinaryOperator.BinaryOperator, declared.tree.expression.BinaryOperator.TheVariants.{LogicalOr, LogicalAnd, BitOr, BitXor, BitAnd, Equal, NotEqual, Less, Greater, LessOrEqual, GreaterOrEqual, ShiftLeft, ShiftRight, Add, Subtract, Multiply, Divide, Remainder}, declared.tree.expression.PlaceCall.PlaceCall, declared.tree.expression.PlaceCall.TheVariants.{Lock, Unlock, Free}, declared.tree.expression.UnaryOperator.TheVariants.{Negate, Not, Complement, Dereference}, declared.tree.expression.ValueCall.ValueCall, declared.tree.expression.ValueCall.TheVariants.{Join, Print}, Spans.span_of, Tree.{Expression, identifier, constant, parentheses, call, spawn, on_value, on_place, cast, index, field, unary, binary, Arguments, no_arguments, argument}}
+use Rattle.sharc_tree.specs.{declared.token.Site.Site, declared.token.Span.Span, declared.tree.declaration.Identifier.Identifier, declared.tree.expression.FieldOperator.FieldOperator, declared.tree.expression.FieldOperator.TheVariants.{Dot, Arrow}, declared.tree.expression.BinaryOperator.BinaryOperator, declared.tree.expression.BinaryOperator.TheVariants.{LogicalOr, LogicalAnd, BitOr, BitXor, BitAnd, Equal, NotEqual, Less, Greater, LessOrEqual, GreaterOrEqual, ShiftLeft, ShiftRight, Add, Subtract, Multiply, Divide, Remainder}, declared.tree.expression.PlaceCall.PlaceCall, declared.tree.expression.PlaceCall.TheVariants.{Lock, Unlock, Free}, declared.tree.expression.UnaryOperator.TheVariants.{Negate, Not, Complement, Dereference}, declared.tree.expression.ValueCall.ValueCall, declared.tree.expression.ValueCall.TheVariants.{Join, Print}, Spans.span_of, Tree.{Expression, identifier, constant, parentheses, call, spawn, on_value, on_place, cast, index, field, unary, binary, Arguments, no_arguments, argument}}
 use Rattle.sharc_names.specs.{declared.fault.Named.Named, Kinds.{Kind, is_array, is_integer, element_kind, declared_kinds}}
 use Rattle.sharc_names.specs.declared.fault.Named.TheVariants as named
 use Rattle.sharc_code.specs.{declared.code.GlobalCells.GlobalCells, declared.code.Use.Use, declared.instr.Register.Register, declared.instr.Register.TheVariants.{Int, Reference}, Arithmetic.word_of}
@@ -491,7 +491,7 @@ module _ (flat : Flat) where
         (then_do (A ++ s) s s (take_code c i r (span_of a).first (lvalue_in c a) (mode_of c a) uses.Cast (target_of c a)) _ (takes i r (span_of a).first (lvalue_in c a) (mode_of c a) uses.Cast (target_of c a) s low)
         (over_null s r (op.Give r _ _) (plain i (op.Give r _ _) (λ table pc s f. f) (λ m. tt) s low)))
 
-    field_in : (s : Ties) (i r : ℕ) (site : Site) (f2 guard : Option ℕ) (s1 : Span) (a : Expression) (w : Access) (n : Identifier) (place : Option ℕ → List Op) (pointer : List Op) → ((z : Option ℕ) → P s (place z) (T (target c.program.typed z a) guard i ++ s)) → P s pointer s
+    field_in : (s : Ties) (i r : ℕ) (site : Site) (f2 guard : Option ℕ) (s1 : Span) (a : Expression) (w : FieldOperator) (n : Identifier) (place : Option ℕ → List Op) (pointer : List Op) → ((z : Option ℕ) → P s (place z) (T (target c.program.typed z a) guard i ++ s)) → P s pointer s
         → P s (field_code c r site f2 w n place pointer) (T (target c.program.typed f2 (field s1 a w n)) guard i ++ s)
     field_in s i r site f2 guard s1 a Dot n place pointer px py = px (Some (own_field f2 (field_place_named c.program.typed (what_names c n.site.token))))
     field_in s i r site f2 guard s1 a Arrow n place pointer px py = then_do s s s pointer (op.ChkNull r (at_site site) ∷ []) py (quiet s (op.ChkNull r (at_site site)) (λ table pc f. f) (λ m. tt))

@@ -1,12 +1,12 @@
 -- What the run of a schedule tells.
 use Rattle.std.proofs.Common.{◌≡◌, ℕ, Bool, true, false, List, [], ◌∷◌, Option, None, map, if◌then◌else◌, refl, sym, ap, ◌∙◌}
 use Rattle.sharc_tree.specs.declared.event.SourceEvent.{SourceEvent}
-use Rattle.sharc_code.specs.{declared.code.Code.Code, declared.shape.Shape.Shape, declared.state.State.State, declared.state.State.TheVariants.{Runs, Tries, Stopped, Ended}, Laws.RunLaws, Machine.{Machine, instr_at}, Opening.opening_words, Runs.{Said, OneThread, Turn, IsRun, opening_of, result_of, state_now, with_told}, Says.{elements_in, says, speaks_of}, ThreadLaws.ThreadLaws, Whole.{Erase, bounds, one_thread, place_after}}
+use Rattle.sharc_code.specs.{declared.code.Code.Code, declared.shape.Shape.Shape, declared.state.TurnState.TurnState, declared.state.TurnState.TheVariants.{Runs, Tries, Stopped, Ended}, Laws.RunLaws, Machine.{Machine, instr_at}, Opening.opening_words, Runs.{Said, OneThread, Turn, IsRun, opening_of, result_of, state_now, with_told}, Says.{elements_in, says, speaks_of}, ThreadLaws.ThreadLaws, Whole.{Erase, bounds, one_thread, place_after}}
 use Rattle.sharc_schedule.specs.{Laws.ScheduleLaws, Schedule.{arranged, is_try, scheduled_turns, without_tries}}
 use Rattle.sharc_history.specs.Laws.{HistoryLaws, OneHistory, SchedulesTell, TriesTellNothing}
 use Rattle.sharc_history.proofs.{Erased.one_history, Settling.{told_from, told_alike}, Silent.try_silent}
 
-try_is : (state : State) → is_try state ≡ true → state ≡ Tries
+try_is : (state : TurnState) → is_try state ≡ true → state ≡ Tries
 try_is Runs e = absurd (cc)
 try_is Tries e = refl
 try_is Stopped e = absurd (cc)

@@ -9,7 +9,7 @@ ghost use Rattle.sharc_code.specs.Whole.{place_after};
 ghost use Rattle.sharc_seq.specs.Walk.{IsThreadThere, IsWalk, StandsAt};
 ghost use Rattle.sharc_history.specs.Lasts.{is_held, is_last, IsHaltAt, AreLasts, AreLastsUpTo};
 
-use sharc_code::{Code, State, Stop, run_laws};
+use sharc_code::{Code, TurnState, Stop, run_laws};
 use sharc_cpu::Thread;
 use sharc_said::{Coming, Where, next_of, refused_at};
 use sharc_seq::Walk;
@@ -46,8 +46,8 @@ fn is_held(walk: &Walk, thread: &Thread, number: u8) -> bool
 {
     run_laws();
     match thread.state() {
-        State::Runs | State::Tries => !walk.may_turn(number, NO_LIMIT),
-        State::Stopped | State::Ended => false,
+        TurnState::Runs | TurnState::Tries => !walk.may_turn(number, NO_LIMIT),
+        TurnState::Stopped | TurnState::Ended => false,
     }
 }
 

@@ -3,8 +3,8 @@ use Rattle.std.proofs.{Common.{◌≡◌, ℕ, ◌+◌, ◌*◌, ◌/◌, ◌^�
 use Rattle.std.specs.Prelude.{slice_index}
 use Rattle.sharc_word.specs.declared.step.WordOp.TheVariants as ops
 use Rattle.sharc_word.specs.{declared.step.WordStep.WordStep, declared.step.WordEvent.WordEvent, Words.word_after}
-use Rattle.sharc_granule.specs.{State.NewView, Asks.word_number, Stages.turn_of_stage, declared.arguments.NewArguments.NewArguments, declared.stage.Stage.{Stage as NewStage}}
-use Rattle.sharc_granule.specs.declared.stage.Stage.TheVariants as news
+use Rattle.sharc_granule.specs.{State.NewView, Asks.word_number, Stages.turn_of_stage, declared.arguments.NewArguments.NewArguments, declared.stage.NewStage.{NewStage}}
+use Rattle.sharc_granule.specs.declared.stage.NewStage.TheVariants as news
 use Rattle.sharc_code.specs.{declared.code.Code.Code, declared.instr.Instr.Instr, declared.shape.Shape.Shape, declared.state.Stage.Stage, declared.state.Stage.TheVariants.Makes, Laws.RunLaws, Layout.{Fits, first_cell}, Machine.{Machine, instr_at, act, asks_new, elements_of, int, ref, new, all_cells}, Path.{turn, after, asked_by}, Runs.{Turn, Global, MayTurn, after_turn, state_now, result_of, words_now, step_of}, Whole.{one_thread, bounds, place_after}}
 use Rattle.sharc_code.specs.declared.instr.Instr.TheVariants as instrs
 use Rattle.sharc_invariant.specs.{Types.{Targets, StaticType, cells_of}, Labels.{Entry, Empty, Refers, Unknown, Label, Labels, LessEntry, Leads, fill}, Typed.{IsWellTyped, Fine}, World.ObjectState, Words.cell_at, Objects.{objects_behind, made_behind, new_behind, owned, type_held, entry_type}, State.{IsSmall, StageStands, BuildsAt}, Laws.{Keeps, CellsAreThere, PointersAreThere}}

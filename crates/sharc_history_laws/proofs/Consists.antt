@@ -4,8 +4,8 @@ use Rattle.std.specs.Prelude.{slice_index, nat_lt, ◌==◌}
 use Rattle.sharc_word.specs.declared.step.WordOp.TheVariants as ops
 use Rattle.sharc_word.specs.{declared.step.WordStep.WordStep, declared.step.WordEvent.WordEvent, Words.{word_after, words_after_step}}
 use Rattle.sharc_tree.specs.declared.event.SourceEvent.{SourceEvent}
-use Rattle.sharc_granule.specs.{State.NewView, Asks.word_number, Stages.turn_of_stage, declared.arguments.NewArguments.NewArguments, declared.stage.Stage.{Stage as NewStage}}
-use Rattle.sharc_granule.specs.declared.stage.Stage.TheVariants as news
+use Rattle.sharc_granule.specs.{State.NewView, Asks.word_number, Stages.turn_of_stage, declared.arguments.NewArguments.NewArguments, declared.stage.NewStage.{NewStage}}
+use Rattle.sharc_granule.specs.declared.stage.NewStage.TheVariants as news
 use Rattle.sharc_code.specs.{declared.code.Code.Code, declared.instr.Instr.Instr, declared.shape.Shape.Shape, declared.state.Stage.Stage, declared.state.Stage.TheVariants.{Rests, Makes, Links}, Laws.RunLaws, Layout.{Fits, granules, first_cell}, Machine.{Machine, instr_at, ref, act, asks_new, elements_of, int, new_state}, Opening.opening_words, Path.{begun, machine_after, turn, asked_by, may_go}, Runs.{Said, Turn, Global, IsRun, MayTurn, at, after_turn, put, words_now, state_now, result_of, step_of, turns_of, with_told, state_after, opening_of, Answered}, Whole.{one_thread, bounds, place_after, Erase}, Says.{speaks_of, elements_in}}
 use Rattle.sharc_code.specs.declared.instr.Instr.TheVariants as instrs
 use Rattle.sharc_gen.specs.{Consistent.{Elements, elements_told, said_now, Has, IsConsistent, IsConsistentTurn}, OfRuns.{founds_of, told_in, table_of, elements_before}}

@@ -8,7 +8,7 @@ use Rattle.sharc_tree.specs.declared.event.Object.TheVariants as objects
 use Rattle.sharc_code.specs.{declared.code.Code.Code, declared.instr.Cell.Cell, declared.instr.Instr.Instr, declared.shape.Shape.Shape, declared.state.Stage.Stage, declared.state.Stage.TheVariants.{Rests, Makes, Uncounts, Links, Withdraws, WithdrawsFrom, Leaves}, Laws.RunLaws, Layout.Fits, Machine.{Machine, instr_at, ref, place, act}, Opening.opening_words, Path.{turn, after, may_go}, Runs.{Turn, Global, IsRun, MayTurn, after_turn, put, state_now, result_of, opening_of}, Whole.{one_thread, bounds, place_after}, Says.{said, cell_at, place_at, speaks_of, in_exit, no_global}}
 use Rattle.sharc_code.specs.declared.instr.Cell.TheVariants as cells
 use Rattle.sharc_code.specs.declared.instr.Instr.TheVariants as instrs
-use Rattle.sharc_code.specs.declared.state.State.TheVariants as states
+use Rattle.sharc_code.specs.declared.state.TurnState.TheVariants as states
 use Rattle.sharc_gen.specs.{Consistent.said_now, OfRuns.table_of}
 use Rattle.sharc_meaning.specs.{Events.{Access, granule_of, makes, gives, begins, is_of, access_by}, Obeys.{until_return, ends}}
 use Rattle.sharc_invariant.specs.{Granules.Passed, Types.{Targets, Field, FieldMode}, Labels.{Gate, Closed, Checked, Holds, Loaded, HoldsLoaded, Sole, Labels}, Typed.{IsWellTyped, Fine, IsNotSole}, World.{RegisterOf, ObjectState, Shut, Sole as IsSole, World, WinOk, in_ref}, Words.{lang_of, has_returned, is_withdrawing, is_ended}, History.{Closing, Without}, Objects.{changes_objects, makes_object, frees_object, objects_behind}, State.{State, Runs, IsSmall, StageStands, GateStands, StopStands, OnHold, OnExit, object_of_cell, number_in, label_now, size_of_run}, MachineInvariant.{IsOn, MachineInvariant, IsAlone, WindowStands, label_of}, Laws.{Keeps, Begins as CodeBegins, CellsAreThere, PointersAreThere, AccessesAreAllowed, StateStands}}

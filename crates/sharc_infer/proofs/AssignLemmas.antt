@@ -1,9 +1,9 @@
 -- The least assignment, from what is settled, why positions are roots and what is found.
 use Rattle.std.proofs.{Common.{◌≡◌, ℕ, ◌<◌, ◌≤◌, true, List, Option, Some, None, length, refl, ap, sym, ◌∙◌, subst, inl, inr, arith}, lemmas.Bool.{cases_lt, false≢true}, lemmas.List.{get_or_default, get_or_past}}
 use Rattle.std.specs.Prelude.{slice_index_or}
-use Rattle.sharc_graph.specs.{declared.graph.Finding.Finding, declared.graph.Finding.TheVariants.{Apart, Source, Behind}, Findings.finding_at}
-use Rattle.sharc_constraints.specs.{declared.place.Place.Place, Flow.{flow_of, place_at, is_unwritten, is_source, IsUnwritten, IsSource, IsInferred, AreInferred}}
-use Rattle.sharc_constraints.specs.declared.place.Place.TheVariants as place
+use Rattle.sharc_graph.specs.{declared.graph.NodeFinding.NodeFinding, declared.graph.NodeFinding.TheVariants.{Apart, Source, Behind}, Findings.finding_at}
+use Rattle.sharc_constraints.specs.{declared.place.PositionKind.PositionKind, Flow.{flow_of, place_at, is_unwritten, is_source, IsUnwritten, IsSource, IsInferred, AreInferred}}
+use Rattle.sharc_constraints.specs.declared.place.PositionKind.TheVariants as place
 use Rattle.sharc_tree.specs.{declared.ctype.Mode.Mode, declared.ctype.Mode.TheVariants.Private}
 use Rattle.sharc_ctype.specs.{Entities.entities_in, Resolved.Resolution}
 use Rattle.sharc_mode.specs.{declared.position.Reason.Reason, declared.position.Reason.TheVariants.{Touched, Spawned, From}, Flows.{IsRoot, IsRootReason, IsPlaceFor, ArePlaces, IsReasonFor, IsLeastAssignment, mode_found, links_of}, Moded.position_count, Settled.{settled_in, settled_at}}
@@ -21,7 +21,7 @@ is_place r p (Some m) root some none = refl
 is_place r p None None some none = none refl
 is_place r p None (Some reason) some none = some (λ none. let bad : Some reason ≡ None = none in cc)
 
-is_reason : (r : Resolution) (p : ℕ) (o : Option Mode) (finding : Finding) (root : Option Reason) → (o ≡ None → finding ≡ Source → IsRootReason r p root) → IsReasonFor r p o finding (reason_of o finding root)
+is_reason : (r : Resolution) (p : ℕ) (o : Option Mode) (finding : NodeFinding) (root : Option Reason) → (o ≡ None → finding ≡ Source → IsRootReason r p root) → IsReasonFor r p o finding (reason_of o finding root)
 is_reason r p (Some m) finding root source = refl
 is_reason r p None Apart root source = refl
 is_reason r p None Source root source = source refl refl
@@ -57,7 +57,7 @@ module _ (r : Resolution) (a : Reaching) (are : AreReached r a) (settled : List 
   settled_is : (p : ℕ) → p < position_count r → settled_of settled p ≡ settled_at r p
   settled_is p inside = ap (λ l. settled_of l p) settled_are ∙ get_or_default (settled_in (entities_in r.program.items)) p None (Some Private) (omega arith)
 
-  module _ (places : List Place) (places_are : ArePlacesOf settled roots places) where
+  module _ (places : List PositionKind) (places_are : ArePlacesOf settled roots places) where
     place_is : (p : ℕ) → p < position_count r → place_at places p ≡ place_of (settled_at r p) (root_of roots p)
     place_is p inside = let size = count in places_are.each p (omega arith) ∙ ap (λ o. place_of o (root_of roots p)) (settled_is p inside)
 
@@ -79,7 +79,7 @@ module _ (r : Resolution) (a : Reaching) (are : AreReached r a) (settled : List 
     pub are_places : ArePlaces r places
     are_places = record { size = place_size; each = λ p. elim (cases_lt p (position_count r)) [ inl inside ↦ inside_place p inside | inr past ↦ past_place p past ] }
 
-    module _ (findings : List Finding) (inferred : AreInferred (flow_of places (links_of r)) findings) (modes : List Mode) (modes_are : AreModesOf settled findings modes) (reasons : List (Option Reason)) (reasons_are : AreReasonsOf settled findings roots reasons) where
+    module _ (findings : List NodeFinding) (inferred : AreInferred (flow_of places (links_of r)) findings) (modes : List Mode) (modes_are : AreModesOf settled findings modes) (reasons : List (Option Reason)) (reasons_are : AreReasonsOf settled findings roots reasons) where
       mode_is : (p : ℕ) → p < position_count r → slice_index_or modes p Private ≡ mode_found (settled_at r p) (finding_at findings p)
       mode_is p inside = let size = count in modes_are.each p (omega arith) ∙ ap (λ o. mode_found o (finding_at findings p)) (settled_is p inside)
 

@@ -4,24 +4,24 @@ ghost use Rattle.std.specs.Prelude.{◌≡◌, length, IfOk};
 ghost use Rattle.sharc_mode.specs.Flows.{inferred_mode, mode_found};
 ghost use Rattle.sharc_infer.specs.Positions.{reason_of, AreModesOf, AreReasonsOf};
 
-use sharc_graph::Finding;
+use sharc_graph::NodeFinding;
 use sharc_mode::position::Reason;
 use sharc_tree::ctype::Mode;
 use std::alloc::{AllocError, Global};
 
 /// The mode of a position without a written one.
-fn inferred_mode(finding: Finding) -> Mode
+fn inferred_mode(finding: NodeFinding) -> Mode
     ensures { result ≡ inferred_mode finding }
 {
     match finding {
-        Finding::Apart => Mode::Private,
-        Finding::Source => Mode::Dynamic,
-        Finding::Behind { .. } => Mode::Dynamic,
+        NodeFinding::Apart => Mode::Private,
+        NodeFinding::Source => Mode::Dynamic,
+        NodeFinding::Behind { .. } => Mode::Dynamic,
     }
 }
 
 /// The mode of a position of which this is settled.
-fn mode_found(alloc: Global, settled: &Option<Mode>, finding: Finding) -> Result<Mode, AllocError>
+fn mode_found(alloc: Global, settled: &Option<Mode>, finding: NodeFinding) -> Result<Mode, AllocError>
     ensures { IfOk result (λ m. m ≡ mode_found settled.now finding) }
 {
     match settled {
@@ -34,7 +34,7 @@ fn mode_found(alloc: Global, settled: &Option<Mode>, finding: Finding) -> Result
 pub(crate) fn modes(
     alloc: Global,
     settled: &[Option<Mode>],
-    findings: &[Finding],
+    findings: &[NodeFinding],
 ) -> Result<Vec<Mode>, AllocError>
     requires { length findings.now ≡ length settled.now }
     ensures { IfOk result (λ modes. AreModesOf settled.now findings.now modes.items) }
@@ -47,15 +47,15 @@ pub(crate) fn modes(
 }
 
 /// Why a position is dynamic, where it was inferred to be.
-fn reason_of(settled: &Option<Mode>, finding: Finding, root: Option<Reason>) -> Option<Reason>
+fn reason_of(settled: &Option<Mode>, finding: NodeFinding, root: Option<Reason>) -> Option<Reason>
     ensures { result ≡ reason_of settled.now finding root }
 {
     match settled {
         Some(_) => None,
         None => match finding {
-            Finding::Apart => None,
-            Finding::Source => root,
-            Finding::Behind { reason, .. } => Some(Reason::From(reason)),
+            NodeFinding::Apart => None,
+            NodeFinding::Source => root,
+            NodeFinding::Behind { reason, .. } => Some(Reason::From(reason)),
         },
     }
 }
@@ -64,7 +64,7 @@ fn reason_of(settled: &Option<Mode>, finding: Finding, root: Option<Reason>) -> 
 pub(crate) fn reasons(
     alloc: Global,
     settled: &[Option<Mode>],
-    findings: &[Finding],
+    findings: &[NodeFinding],
     roots: &[Option<Reason>],
 ) -> Result<Vec<Option<Reason>>, AllocError>
     requires findings { length findings.now ≡ length settled.now }

@@ -16,7 +16,7 @@ ghost use Rattle.sharc_infer.specs.Links.{given};
 use crate::links::{equate, source_row};
 use sharc_constraints::Link;
 use sharc_ctype::typed::{Typed, parameters_named};
-use sharc_mode::row::{Reading, declared_row, row_of};
+use sharc_mode::row::{PathReading, declared_row, row_of};
 use sharc_tree::tree::{
     Declaration, Expr, ForFirst, ForHead, Local, Right, Simple, Stmt, WrittenType,
 };
@@ -32,7 +32,7 @@ fn pass(
     ensures { OnOk result (links.new.items ≡ links.old.items ++ equal_rows
         (Some (declared_row typed.now written to.now.name.site.token)) (row_at typed.now (view_expr argument.now))) }
 {
-    let row = declared_row(typed, Reading::Written, to.name.site.token);
+    let row = declared_row(typed, PathReading::Written, to.name.site.token);
     equate(typed, Some(row), row_of(typed, argument), links)
 }
 
@@ -194,7 +194,7 @@ fn local(
     match &local.initial {
         None => Ok(()),
         Some(value) => {
-            let row = declared_row(typed, Reading::Written, local.declaration.name.site.token);
+            let row = declared_row(typed, PathReading::Written, local.declaration.name.site.token);
             equate(typed, Some(row), source_row(typed, value), links)?;
             right(value, function, typed, links)
         }
@@ -248,7 +248,7 @@ fn returned(
     match expr {
         None => Ok(()),
         Some(expr) => {
-            let row = declared_row(typed, Reading::Written, function);
+            let row = declared_row(typed, PathReading::Written, function);
             equate(typed, Some(row), row_of(typed, expr), links)?;
             expression(expr, function, typed, links)
         }

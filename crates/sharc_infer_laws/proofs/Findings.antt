@@ -1,6 +1,6 @@
 -- What is found of a position is one.
 use Rattle.std.proofs.Common.{◌≡◌, ℕ, [], refl, ap, sym, ◌∙◌, subst, arith}
-use Rattle.sharc_graph.specs.{declared.graph.Finding.Finding, declared.graph.Finding.TheVariants.{Apart, Source, Behind}}
+use Rattle.sharc_graph.specs.{declared.graph.NodeFinding.NodeFinding, declared.graph.NodeFinding.TheVariants.{Apart, Source, Behind}}
 use Rattle.sharc_constraints.specs.Flow.{Flow, IsSource, LeadsTo, IsRank, IsRankFor, IsReason, IsInferred}
 
 module _ (f : Flow) where
@@ -31,7 +31,7 @@ module _ (f : Flow) where
       let high = b.lowest x (subst (λ (n : ℕ). IsRankFor f x p n) (sym same) a.before) in
       omega (arith, low, high)
 
-  pub one_finding : (p : ℕ) (a b : Finding) → IsInferred f p a → IsInferred f p b → a ≡ b
+  pub one_finding : (p : ℕ) (a b : NodeFinding) → IsInferred f p a → IsInferred f p b → a ≡ b
   one_finding p Apart Apart l r = refl
   one_finding p Apart Source l r = absurd (l p [] (itself p r))
   one_finding p Apart (Behind rank reason) l r = absurd (l r.0.first r.0.rest r.0.path)

@@ -1,16 +1,16 @@
 -- The least assignment of a program is one.
 use Rattle.std.proofs.Common.{◌≡◌, ℕ, ◌<◌, true, List, Option, Some, None, refl, ap, sym, ◌∙◌, subst, ext_get_or}
 use Rattle.sharc_tree.specs.{declared.ctype.Mode.Mode, declared.ctype.Mode.TheVariants.Private}
-use Rattle.sharc_graph.specs.{declared.graph.Finding.Finding, declared.graph.Finding.TheVariants.{Apart, Source, Behind}, Findings.finding_at}
-use Rattle.sharc_constraints.specs.{declared.place.Place.Place, Flow.{flow_of, place_at, is_unwritten, AreInferred}}
-use Rattle.sharc_constraints.specs.declared.place.Place.TheVariants as place
+use Rattle.sharc_graph.specs.{declared.graph.NodeFinding.NodeFinding, declared.graph.NodeFinding.TheVariants.{Apart, Source, Behind}, Findings.finding_at}
+use Rattle.sharc_constraints.specs.{declared.place.PositionKind.PositionKind, Flow.{flow_of, place_at, is_unwritten, AreInferred}}
+use Rattle.sharc_constraints.specs.declared.place.PositionKind.TheVariants as place
 use Rattle.sharc_ctype.specs.Resolved.{Resolution}
 use Rattle.sharc_mode.specs.{declared.position.Reason.Reason, declared.position.Reason.TheVariants.{Touched, Spawned, From}, Flows.{IsUnsettledPlace, IsPlaceFor, ArePlaces, links_of, inferred_mode, mode_found, IsRootReason, IsReasonBy, IsReasonFor, IsLeastAssignment}, Moded.{Assignment, position_count, reason_at}, Settled.settled_at}
 use Rattle.sharc_infer_laws.specs.Laws.{FindingsAreOne, IsOneRoot}
 
 -- ---- places
 
-unsettled : (r : Resolution) (p : ℕ) (x y : Place) → IsUnsettledPlace r p x → IsUnsettledPlace r p y → x ≡ y
+unsettled : (r : Resolution) (p : ℕ) (x y : PositionKind) → IsUnsettledPlace r p x → IsUnsettledPlace r p y → x ≡ y
 unsettled r p place.Root place.Root l h = refl
 unsettled r p place.Root place.Unwritten l h = absurd (h l)
 unsettled r p place.Root place.Dynamic l h = absurd h
@@ -25,14 +25,14 @@ unsettled r p place.Dynamic y l h = absurd l
 unsettled r p place.Private y l h = absurd l
 unsettled r p place.Other y l h = absurd l
 
-one_place : (r : Resolution) (p : ℕ) (o : Option Mode) (x y : Place) → IsPlaceFor r p o x → IsPlaceFor r p o y → x ≡ y
+one_place : (r : Resolution) (p : ℕ) (o : Option Mode) (x y : PositionKind) → IsPlaceFor r p o x → IsPlaceFor r p o y → x ≡ y
 one_place r p None x y l h = unsettled r p x y l h
 one_place r p (Some m) x y l h = l ∙ sym h
 
-same_places : (r : Resolution) (x y : List Place) → ArePlaces r x → ArePlaces r y → x ≡ y
+same_places : (r : Resolution) (x y : List PositionKind) → ArePlaces r x → ArePlaces r y → x ≡ y
 same_places r x y a b = ext_get_or place.Private x y (a.size ∙ sym b.size) (λ p low. one_place r p (settled_at r p) (place_at x p) (place_at y p) (a.each p) (b.each p))
 
-is_open : (r : Resolution) (p : ℕ) (x : Place) → IsUnsettledPlace r p x → is_unwritten x ≡ true
+is_open : (r : Resolution) (p : ℕ) (x : PositionKind) → IsUnsettledPlace r p x → is_unwritten x ≡ true
 is_open r p place.Root is = refl
 is_open r p place.Unwritten is = refl
 is_open r p place.Dynamic is = absurd is
@@ -41,7 +41,7 @@ is_open r p place.Other is = absurd is
 
 -- ---- modes and reasons of one position
 
-one_mode : (o : Option Mode) (x y : Finding) → (o ≡ None → x ≡ y) → mode_found o x ≡ mode_found o y
+one_mode : (o : Option Mode) (x y : NodeFinding) → (o ≡ None → x ≡ y) → mode_found o x ≡ mode_found o y
 one_mode None x y same = ap inferred_mode (same refl)
 one_mode (Some m) x y same = refl
 
@@ -58,13 +58,13 @@ module _ (r : Resolution) (p : ℕ) (root : IsOneRoot r p) where
   one_root_reason (Some (Spawned f)) (Some (Touched g)) l h = absurd (root.apart g f h l)
   one_root_reason (Some (Spawned f)) (Some (Spawned g)) l h = ap (λ (n : ℕ). Some (Spawned n)) (root.passed f g l h)
 
-  one_reason_by : (x : Finding) (s t : Option Reason) → IsReasonBy r p x s → IsReasonBy r p x t → s ≡ t
+  one_reason_by : (x : NodeFinding) (s t : Option Reason) → IsReasonBy r p x s → IsReasonBy r p x t → s ≡ t
   one_reason_by Apart s t l h = l ∙ sym h
   one_reason_by Source s t l h = one_root_reason s t l h
   one_reason_by (Behind rank other) s t l h = l ∙ sym h
 
-  one_reason : (o : Option Mode) (x y : Finding) (s t : Option Reason) → (o ≡ None → x ≡ y) → IsReasonFor r p o x s → IsReasonFor r p o y t → s ≡ t
-  one_reason None x y s t same l h = one_reason_by x s t l (subst (λ (z : Finding). IsReasonBy r p z t) (sym (same refl)) h)
+  one_reason : (o : Option Mode) (x y : NodeFinding) (s t : Option Reason) → (o ≡ None → x ≡ y) → IsReasonFor r p o x s → IsReasonFor r p o y t → s ≡ t
+  one_reason None x y s t same l h = one_reason_by x s t l (subst (λ (z : NodeFinding). IsReasonBy r p z t) (sym (same refl)) h)
   one_reason (Some m) x y s t same l h = l ∙ sym h
 
 -- ---- all positions
@@ -77,7 +77,7 @@ module _ (findings : FindingsAreOne) (r : Resolution) (roots : (p : ℕ) → IsO
       let found = subst (λ (q : Resolution). AreInferred (flow_of left.places (links_of q)) left.findings) is left.are_inferred in
       let other = subst (λ (q : Resolution). AreInferred (flow_of right.places (links_of q)) right.findings) also right.are_inferred in
       let same = same_places r left.places right.places here there in
-      let moved = subst (λ (l : List Place). AreInferred (flow_of l (links_of r)) right.findings) (sym same) other in
+      let moved = subst (λ (l : List PositionKind). AreInferred (flow_of l (links_of r)) right.findings) (sym same) other in
       let P : Option Mode → Type 0 = λ o. IsPlaceFor r p o (place_at left.places p) in
       let free = is_open r p (place_at left.places p) (subst P none (here.each p)) in
       findings (flow_of left.places (links_of r)) left.findings right.findings found moved p free

@@ -2,7 +2,7 @@
 use Rattle.std.proofs.{Common.{◌≡◌, ℕ, zero, suc, ◌+◌, ◌<◌, ◌≤◌, Bool, true, false, cond, List, [], ◌∷◌, ◌++◌, length, drop, get_or, Option, Some, None, Contains, ◌⊎◌, inl, inr, ⊎_elim, refl, ap, sym, ◌∙◌, subst, arith}, lemmas.List.{get_or-append-add, get_or_append_left, length-append}}
 use Rattle.std.specs.Option.{option_or}
 use Rattle.sharc_tree.specs.{declared.ctype.Base.Base, declared.ctype.Mode.Mode, declared.ctype.Mode.TheVariants.{Private, Readonly, Locked, Racy, Dynamic}, declared.ctype.Path.Path}
-use Rattle.sharc_graph.specs.{declared.graph.Finding.Finding, declared.graph.Finding.TheVariants.{Apart, Source, Behind}, Findings.finding_at}
+use Rattle.sharc_graph.specs.{declared.graph.NodeFinding.NodeFinding, declared.graph.NodeFinding.TheVariants.{Apart, Source, Behind}, Findings.finding_at}
 use Rattle.sharc_names.specs.declared.types.Role.{Role}
 use Rattle.sharc_names.specs.declared.types.Role.TheVariants as role
 use Rattle.sharc_ctype.specs.{declared.entity.Entity.Entity, declared.entity.Numbered.Numbered, Entities.{entities_in, first_depth, numbered, numbered_from, positions_of, written_modes}}
@@ -99,7 +99,7 @@ of_entity e depth path is =
     (settled_written e.written.ctype.base (otherwise_of e.role e.written.ctype.levels) (written_modes e) depth path is)
 
 -- what is inferred is no lock path
-found_written : (levels : List (Option Mode)) (o : Option Mode) (f : Finding) → ((path : Path) → o ≡ Some (Locked path) → Contains levels (Some (Locked path))) → IsWrittenLock levels (mode_found o f)
+found_written : (levels : List (Option Mode)) (o : Option Mode) (f : NodeFinding) → ((path : Path) → o ≡ Some (Locked path) → Contains levels (Some (Locked path))) → IsWrittenLock levels (mode_found o f)
 found_written levels None Apart written = tt
 found_written levels None Source written = tt
 found_written levels None (Behind rank other) written = tt

@@ -1,7 +1,7 @@
 -- What is one: what is found of a position, why a root is one, and the least assignment of a program.
 use Rattle.std.specs.Prelude.{◌≡◌, ℕ, List}
 use Rattle.sharc_tree.specs.{Low.IsLow, Placed.IsPlaced}
-use Rattle.sharc_graph.specs.{declared.graph.Finding.Finding, Findings.finding_at}
+use Rattle.sharc_graph.specs.{declared.graph.NodeFinding.NodeFinding, Findings.finding_at}
 use Rattle.sharc_constraints.specs.Flow.{Flow, IsUnwritten, AreInferred}
 use Rattle.sharc_ctype.specs.Resolved.{Resolution, IsResolved}
 use Rattle.sharc_mode.specs.{Flows.{IsTouchedIn, IsPassedTo, IsLeastAssignment}, Moded.Assignment}
@@ -14,7 +14,7 @@ pub record IsTypedAtTokens (r : Resolution) : Type 0 where
 
 -- of a position without a written mode one thing is found
 abbrev pub FindingsAreOne : Type 0
-FindingsAreOne = (f : Flow) (a b : List Finding) → AreInferred f a → AreInferred f b
+FindingsAreOne = (f : Flow) (a b : List NodeFinding) → AreInferred f a → AreInferred f b
     → (position : ℕ) → IsUnwritten f position → finding_at a position ≡ finding_at b position
 
 -- a position is the top of one global that one function is named for, or the target of a parameter of one function, and

@@ -1,7 +1,7 @@
 -- The locking source is that program, with its least modes.
 use Rattle.std.proofs.Common.{◌≡◌, ℕ, zero, suc, ◌<◌, [], ◌∷◌, refl, arith}
-use Rattle.sharc_graph.specs.{declared.graph.Finding.TheVariants.Apart, Findings.finding_at}
-use Rattle.sharc_constraints.specs.declared.place.Place.TheVariants as place
+use Rattle.sharc_graph.specs.{declared.graph.NodeFinding.TheVariants.Apart, Findings.finding_at}
+use Rattle.sharc_constraints.specs.declared.place.PositionKind.TheVariants as place
 use Rattle.sharc_lex.specs.{Grammar.reading, Words.keywords}
 use Rattle.sharc_grammar.specs.{Grammar.IsProgram, Limits.LowProgram, Places.Reads}
 use Rattle.sharc_ctype.specs.Resolved.{IsResolved}

@@ -3,7 +3,7 @@ use Rattle.std.proofs.{Common.{◌≡◌, ℕ, suc, ◌+◌, ◌*◌, ◌<◌, �
 use Rattle.std.specs.Prelude.{length, take, slice_index, slice_set, nat_lt, nat_eq, is_some, bit_or, ◌==◌, if◌then◌else◌}
 use Rattle.sharc_word.specs.{declared.step.TheConstants.THREADS, declared.step.WordOp.TheVariants.{Load, Swap, Or, Cas}, declared.step.WordStep.WordStep, History.MayFollow, Words.word_after}
 use Rattle.sharc_shadow.specs.{declared.shadow_word.Kind.Kind, declared.shadow_word.Kind.TheVariants.{Read, Write}, Accesses.{note_of, site_at}, ShadowWord.{epoch_of, is_of, is_written, stands, Withdraws as WithdrawsWord, AddsAccess}, Functions.{bits_of, cleared_of, withdrawn_of, conflicts_in, noted}, Laws.ShadowLaws}
-use Rattle.sharc_code.specs.{declared.code.Code.Code, declared.instr.Instr.Instr, declared.instr.Instr.TheVariants.{ChkRead, ChkWrite, Clear, Free, New, Spawn, Exit}, declared.instr.Register.Register, declared.shape.Shape.Shape, declared.state.Stage.Stage, declared.state.Stage.TheVariants.{Rests, Clears, Makes, FreeClears, Names, Hands, Begins, Withdraws, WithdrawsFrom, Leaves}, declared.state.State.{State as PlaceState}, declared.state.State.TheVariants.{Runs as RunsOn, Tries, Stopped, Ended}, declared.state.Stop.Stop, declared.state.Stop.TheVariants.Conflict, Layout.{Fits, granules, granule_at, granule_of, first_shadow, first_cell, shadow_word, state_word}, Machine.{Machine, Own, Turn as StepTurn, Local, Asks, step_of, act, instr_at, place, ref, at_stage, ends, stopped, with_own, with_note, wrote, checked, check, clear, looks, free, free_looks, layout_at, data_granule, exit, withdraws, withdrew, row_of, without_own}, Path.{may_go, turn, asked_by}, Runs.{Turn, Global, put, at, MayTurn, IsRun, Answered, after_turn, result_of}, Whole.{one_thread, bounds}}
+use Rattle.sharc_code.specs.{declared.code.Code.Code, declared.instr.Instr.Instr, declared.instr.Instr.TheVariants.{ChkRead, ChkWrite, Clear, Free, New, Spawn, Exit}, declared.instr.Register.Register, declared.shape.Shape.Shape, declared.state.Stage.Stage, declared.state.Stage.TheVariants.{Rests, Clears, Makes, FreeClears, Names, Hands, Begins, Withdraws, WithdrawsFrom, Leaves}, declared.state.TurnState.{TurnState as PlaceState}, declared.state.TurnState.TheVariants.{Runs as RunsOn, Tries, Stopped, Ended}, declared.state.Stop.Stop, declared.state.Stop.TheVariants.Conflict, Layout.{Fits, granules, granule_at, granule_of, first_shadow, first_cell, shadow_word, state_word}, Machine.{Machine, Own, Turn as StepTurn, Local, Asks, step_of, act, instr_at, place, ref, at_stage, ends, stopped, with_own, with_note, wrote, checked, check, clear, looks, free, free_looks, layout_at, data_granule, exit, withdraws, withdrew, row_of, without_own}, Path.{may_go, turn, asked_by}, Runs.{Turn, Global, put, at, MayTurn, IsRun, Answered, after_turn, result_of}, Whole.{one_thread, bounds}}
 use Rattle.sharc_code.proofs.Places.{put_same, put_other, put_all}
 use Rattle.sharc_invariant.specs.{Bits.{Touch, Untouched, CheckOf, ClearOf, WithdrawOf, Marks, no_marks, with_check, without_thread, cleared_by, freed_by, withdrawn_by, touch_of, marks_by, marks_now, marks_after, BitsStand, AllBitsStand}, Granules.Passed, Types.Targets, Labels.Labels, Typed.IsWellTyped, World.World, Blocks.Heap, Words.{shadow_at, is_ended, is_withdrawing, has_withdrawn, note_number, noted_by}, Opened.first_place, Turns.made_turn, State.{State, IsSmall, StageStands, OnNew, OnSpawn, OnExit}, Laws.{RunsFromTheBeginning, RunsBits}}
 use Rattle.sharc_invariant.proofs.{Stores.index_put, Turns.{local_turn, asks_turn, some_step}, Checks.{noted_numbers, same_kind, other_put}, Withdrawn.{is_row, one_more, row_low, first_row, noted_withdraws, wrote_now}, Opened.shadow_zero, Marked.{MarkedAt, at_same, at_clear, at_read, at_write, at_withdraw}, Touched.{IsFit, fit_calm, IsPlain, KeepsNotes, Leaves_all, leaves, at_looks, at_free_looks}}

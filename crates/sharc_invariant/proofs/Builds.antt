@@ -4,7 +4,7 @@ use mathlib.Core.Path.{fun_ext}
 use Rattle.std.specs.Prelude.{length, slice_index, slice_set, ◌==◌}
 use Rattle.sharc_word.specs.declared.step.TheConstants.{THREADS}
 use Rattle.sharc_shadow.specs.{Accesses.note_of, ShadowWord.epoch_of, declared.shadow_word.Kind.Kind, declared.shadow_word.Kind.TheVariants.{Read, Write}}
-use Rattle.sharc_code.specs.{declared.code.Code.Code, declared.shape.Shape.Shape, declared.state.State.{State as StateOf}, declared.state.State.TheVariants.{Runs as RunsOn, Tries, Stopped, Ended}, declared.state.Stop.Stop, declared.state.Stage.Stage, declared.state.Stage.TheVariants.{Rests, Makes, Lowers, Links, Names, Hands, Begins, Withdraws, WithdrawsFrom, Leaves}, Layout.{Fits as FitsShape, granules, top_word}, Machine.{Machine, instr_at}, Path.{may_go, counted}, Runs.{Turn, Global, put, MayTurn}, Whole.{one_thread, bounds}}
+use Rattle.sharc_code.specs.{declared.code.Code.Code, declared.shape.Shape.Shape, declared.state.TurnState.{TurnState as StateOf}, declared.state.TurnState.TheVariants.{Runs as RunsOn, Tries, Stopped, Ended}, declared.state.Stop.Stop, declared.state.Stage.Stage, declared.state.Stage.TheVariants.{Rests, Makes, Lowers, Links, Names, Hands, Begins, Withdraws, WithdrawsFrom, Leaves}, Layout.{Fits as FitsShape, granules, top_word}, Machine.{Machine, instr_at}, Path.{may_go, counted}, Runs.{Turn, Global, put, MayTurn}, Whole.{one_thread, bounds}}
 use Rattle.sharc_code.specs.declared.instr.Instr.TheVariants as instrs
 use Rattle.sharc_code.proofs.Places.{put_other, put_all}
 use Rattle.sharc_invariant.specs.{Granules.sum_to, Types.Targets, Labels.{Label, Labels}, Typed.{Fine, IsWellTyped}, World.{World, Shut}, Blocks.{Heap, Kept, Built, InBlock, IsListed}, Words.{conc_of, Shows, head_of, is_ended, has_withdrawn, note_number, noted_by, register_of, staged_of}, Turns.{made_turn, KeepsOthers}, State.{StopStands, State, Runs, View, view_of, StageStands, SpawnsNow, FramesStand, GateStands, HeapStands, TopStands, label_now}}

@@ -2,7 +2,7 @@
 use Rattle.std.proofs.{Common.{◌≡◌, ℕ, ℤ, zero, suc, ◌+◌, ◌^◌, ◌<◌, ◌≤◌, Bool, true, false, cond, ◌&&◌, List, [], ◌∷◌, Some, None, refl, sym, ap, ◌∙◌, subst, inl, inr, ⊎_elim, arith, ltb-true}, lemmas.Bool.Decides.nat_tests, lemmas.List.{length-set, get_or-set_same, get_or-set_other}}
 use Rattle.std.specs.Prelude.{length, filter, map, nat_lt, slice_set, ◌==◌}
 use Rattle.sharc_tree.specs.declared.trap.Trap.TheVariants as traps
-use Rattle.sharc_code.specs.{declared.state.TheConstants.FRAMES, declared.code.Code.Code, declared.shape.Shape.Shape, declared.state.Frame.Frame, declared.state.State.TheVariants.{Runs as RunsOn}, declared.state.Stop.TheVariants.Trap, Layout.Fits, Machine.{Machine, Local, instr_at, has_room, stopped, no_frame}, Path.{turn, counted}, Runs.{Turn, Global, MayTurn}, Whole.{one_thread, bounds}}
+use Rattle.sharc_code.specs.{declared.state.TheConstants.FRAMES, declared.code.Code.Code, declared.shape.Shape.Shape, declared.state.Frame.Frame, declared.state.TurnState.TheVariants.{Runs as RunsOn}, declared.state.Stop.TheVariants.Trap, Layout.Fits, Machine.{Machine, Local, instr_at, has_room, stopped, no_frame}, Path.{turn, counted}, Runs.{Turn, Global, MayTurn}, Whole.{one_thread, bounds}}
 use Rattle.sharc_code.specs.declared.instr.Instr.TheVariants as instrs
 use Rattle.sharc_invariant.specs.{Types.{Targets, ObjectType, Lock, Global as OfGlobals, Through, Self, mutex_of}, Labels.{Entry, Empty, Refers, Unknown, Number, Anything, Exactly, Within, Indexes, OfElement, OfGlobal, Closed, Pass, IsIn, Label, Labels, Leads, Less, HasBase}, Typed.{IsWellTyped, Calls, Passes, PassesLock, called_label, entry_label, below, below_number, below_pass}, World.World, Effect.Silently, Turns.made_turn, State.{State, View, view_of, frame_at, EntryStands, NumberStands, FrameStands, TopStands, StartStands, CallerStands, BelowStands, FramesStand, GateStands, refs_at, types_at}, Laws.Turned}
 use Rattle.sharc_invariant.proofs.{Frames.{map_same, at_cell, with_locks, same_ref, less_number, number_kept, less_stands}, Quiet.heap_now, Turns.{local_turn, room_of}, Own.{runs, rests, top, fine, begun_before, closed_less, runs_at}, Plain.{is_shut, going, plain_state, stop_state}}

@@ -4,7 +4,7 @@ use mathlib.Core.Path.{fun_ext}
 use Rattle.std.specs.Prelude.{length, slice_index, slice_set, take, nat_lt, nat_eq, ◌==◌}
 use Rattle.sharc_word.specs.{declared.step.TheConstants.THREADS, declared.step.WordOp.TheVariants.{Load, Swap, Cas}}
 use Rattle.sharc_shadow.specs.{Laws.ShadowLaws, Accesses.note_of, Functions.withdrawn_of, ShadowWord.epoch_of, declared.shadow_word.Kind.Kind, declared.shadow_word.Kind.TheVariants.{Read, Write}}
-use Rattle.sharc_code.specs.{declared.code.Code.Code, declared.shape.Shape.Shape, declared.state.State.{State as StateOf}, declared.state.State.TheVariants.{Runs as RunsOn, Tries, Stopped, Ended}, declared.state.Stage.Stage, declared.state.Stage.TheVariants.{Rests, Makes, Lowers, Links, Names, Hands, Begins, Withdraws, WithdrawsFrom, Leaves}, Arithmetic.int_of, Layout.{Fits as FitsShape, granules, granule_at, top_word, shadow_word, next_thread_word, state_word, function_word, argument_word}, Machine.{Machine, instr_at, function_of, step_of, at_stage, exit, withdraws, withdrew, row_of, without_own}, Path.{turn, may_go, counted}, Runs.{Turn, Global, put, MayTurn, after_turn, is_started}, Whole.{one_thread, bounds}}
+use Rattle.sharc_code.specs.{declared.code.Code.Code, declared.shape.Shape.Shape, declared.state.TurnState.{TurnState as StateOf}, declared.state.TurnState.TheVariants.{Runs as RunsOn, Tries, Stopped, Ended}, declared.state.Stage.Stage, declared.state.Stage.TheVariants.{Rests, Makes, Lowers, Links, Names, Hands, Begins, Withdraws, WithdrawsFrom, Leaves}, Arithmetic.int_of, Layout.{Fits as FitsShape, granules, granule_at, top_word, shadow_word, next_thread_word, state_word, function_word, argument_word}, Machine.{Machine, instr_at, function_of, step_of, at_stage, exit, withdraws, withdrew, row_of, without_own}, Path.{turn, may_go, counted}, Runs.{Turn, Global, put, MayTurn, after_turn, is_started}, Whole.{one_thread, bounds}}
 use Rattle.sharc_code.specs.declared.instr.Instr.TheVariants as instrs
 use Rattle.sharc_code.proofs.Places.{put_same, put_other, put_all}
 use Rattle.sharc_invariant.specs.{Granules.{GranuleState, Passed, withdrawn}, Types.{Targets, nothing}, Labels.{Label, Labels, IsIn}, Typed.{Fine, IsWellTyped}, World.{In, RegisterOf, ArgumentOf, TypedReference, World, Shut, WorldInvariant, in_ref, put2, set_gran}, Blocks.{Heap, Kept, Built, InBlock}, Words.{lang_of, conc_of, MachineView, Shows, Reads, store, has_returned, is_withdrawing, has_withdrawn, is_ended, is_unread, is_first, if_reference, argument_of, making_of, note_number, noted_by, register_of, staged_of, logged, shadow_at, cell_at, count_at, length_at}, Turns.{made_turn, KeepsOthers}, Effect.{Effect, Silently, Returns, Withdraws as WithdrawsOf, events_of}, State.{StopStands, State, Runs, View, view_of, StageStands, SpawnsNow, NumberStands, EntryStands, FramesStand, GateStands, Threads, Firsts, TopStands, label_now, size_of_run}, Laws.Followed, Objects.{changes_objects, objects_now}}

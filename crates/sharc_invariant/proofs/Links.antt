@@ -4,7 +4,7 @@ use mathlib.Core.Path.{fun_ext}
 use Rattle.std.specs.Prelude.{length, slice_index, slice_set, ◌==◌}
 use Rattle.sharc_word.specs.{declared.step.TheConstants.THREADS, declared.step.WordOp.TheVariants.Swap}
 use Rattle.sharc_shadow.specs.{Laws.ShadowLaws, Accesses.note_of, ShadowWord.epoch_of, declared.shadow_word.Kind.Kind, declared.shadow_word.Kind.TheVariants.{Read, Write}}
-use Rattle.sharc_code.specs.{declared.code.Code.Code, declared.code.Layout.Layout, declared.instr.Instr.Instr, declared.shape.Shape.Shape, declared.state.Stage.Stage, declared.state.Stage.TheVariants.{Rests, Empties, Lowers, FreeLooks, FreeClears, Uncounts, Links}, declared.state.State.TheVariants.{Runs as RunsOn, Tries, Stopped, Ended}, Layout.{Fits as FitsShape, granules, top_word, length_word}, Machine.{Machine, step_of, instr_at, ref, layout_at, size_of, free_size, free_head, freed as freed_machine}, Path.may_go, Runs.{Turn, Global, put, MayTurn, after_turn}, Whole.{one_thread, bounds}}
+use Rattle.sharc_code.specs.{declared.code.Code.Code, declared.code.Layout.Layout, declared.instr.Instr.Instr, declared.shape.Shape.Shape, declared.state.Stage.Stage, declared.state.Stage.TheVariants.{Rests, Empties, Lowers, FreeLooks, FreeClears, Uncounts, Links}, declared.state.TurnState.TheVariants.{Runs as RunsOn, Tries, Stopped, Ended}, Layout.{Fits as FitsShape, granules, top_word, length_word}, Machine.{Machine, step_of, instr_at, ref, layout_at, size_of, free_size, free_head, freed as freed_machine}, Path.may_go, Runs.{Turn, Global, put, MayTurn, after_turn}, Whole.{one_thread, bounds}}
 use Rattle.sharc_code.specs.declared.instr.Instr.TheVariants as instrs
 use Rattle.sharc_code.proofs.Places.{put_same, put_other, put_all}
 use Rattle.sharc_invariant.specs.{Granules.sum_to, Types.Targets, Labels.{Label, Labels, empty}, Typed.{Fine, IsWellTyped}, World.{World, Shut, put2}, Blocks.{Heap, Kept, Built, Live, Listed, pushed}, Words.{lang_of, conc_of, Shows, head_of, head_with, making_of, is_freed, is_ended, has_withdrawn, note_number, noted_by, register_of, staged_of, length_at, has_returned}, Turns.{made_turn, KeepsOthers}, Effect.Silently, State.{State, Runs, View, view_of, StageStands, FramesStand, GateStands, HeapStands, TopStands, label_now, block_for, IsSmall}, Laws.Turned, Objects.{changes_objects, objects_now, frees_object}}

@@ -4,10 +4,10 @@ use mathlib.Core.Path.{fun_ext}
 use Rattle.std.specs.Prelude.{length, slice_index, slice_set, nat_lt, min, max, pos, ◌==◌, ◌↔◌, is_some, Contains}
 use Rattle.sharc_word.specs.{declared.step.TheConstants.THREADS, declared.step.WordOp.TheVariants.Swap}
 use Rattle.sharc_granule.specs.{Laws.NewLaws, State.{NewView, told}, Asks.{step_of, length_word}, declared.arguments.NewArguments.NewArguments}
-use Rattle.sharc_granule.specs.declared.stage.Stage.TheVariants as news
+use Rattle.sharc_granule.specs.declared.stage.NewStage.TheVariants as news
 use Rattle.sharc_locks.specs.HeldLog.{object_of}
 use Rattle.sharc_shadow.specs.{ShadowWord.epoch_of, declared.shadow_word.Kind.Kind, declared.shadow_word.Kind.TheVariants.{Read, Write}}
-use Rattle.sharc_code.specs.{declared.code.Code.Code, declared.shape.Shape.Shape, declared.state.State.TheVariants.{Runs as RunsOn}, declared.state.Stage.TheVariants.{Rests, Makes}, Layout.{Fits as FitsShape, granules, top_word, first_cell}, Machine.{Machine, instr_at, int, elements_of, size_of, new_state, asks_new, goes_on_new, made as made_machine}, Path.turn, Runs.{Turn, Global, put, MayTurn, after_turn}, Whole.{one_thread, bounds}}
+use Rattle.sharc_code.specs.{declared.code.Code.Code, declared.shape.Shape.Shape, declared.state.TurnState.TheVariants.{Runs as RunsOn}, declared.state.Stage.TheVariants.{Rests, Makes}, Layout.{Fits as FitsShape, granules, top_word, first_cell}, Machine.{Machine, instr_at, int, elements_of, size_of, new_state, asks_new, goes_on_new, made as made_machine}, Path.turn, Runs.{Turn, Global, put, MayTurn, after_turn}, Whole.{one_thread, bounds}}
 use Rattle.sharc_code.specs.declared.instr.Instr.TheVariants as instrs
 use Rattle.sharc_code.proofs.Places.{put_same, put_other, put_all}
 use Rattle.sharc_invariant.specs.{Granules.{GranuleState, Bits, Passed, sum_to}, Types.{Targets, ObjectType, field_in, is_mutex, type_at, type_of, cells_of}, Labels.{Label, Labels, Refers, fill, Unknown, LessEntry}, Typed.{Fine, IsWellTyped, refs_in, ints_in}, World.{In, RegisterOf, Cell as CellOf, TypedReference, ObjectState, World, Shut, WorldInvariant, in_ref, make, null, place, put2}, Blocks.{Heap, Kept, Built, Live, InBlock, IsListed, restated}, Words.{Apart, MachineView, IsNobodys, lang_of, conc_of, Shows, shown, set_reg, store, cell_at, count_at, length_at, head_of, head_with, making_of, register_of, staged_of, noted_by, has_returned}, Opened.fresh_granule, Turns.{made_turn, KeepsOthers}, Effect.{Makes as MakesOf}, State.{State, View, Runs, view_of, BuildsAt, HeapStands, Locks, TopStands, FramesStand, EntryStands, refs_at, types_at, block_for, size_of_run}, Laws.Turned, Objects.{changes_objects, objects_now, objects_behind, owned, makes_object, is_length, new_behind, made_behind}}
@@ -530,7 +530,7 @@ module _ (x : Targets) (code : Code) (s : Shape) (ls : Labels) (wt : IsWellTyped
       mk : IsMaking (g.threads tr.thread).own.stage
       mk = subst IsMaking (sym e) tt
 
-      by_step : (y : Rattle.sharc_granule.specs.declared.stage.Stage.Stage) → v.stage ≡ y → BuildsAt g.words st.heap tr.thread v y → Done
+      by_step : (y : Rattle.sharc_granule.specs.declared.stage.NewStage.NewStage) → v.stage ≡ y → BuildsAt g.words st.heap tr.thread v y → Done
       by_step (news.Cell c) q b = plain (ap makes_object e ∙ ap is_length q) (clears_cell x code s ls wt fits laws g world st tr may r count cells site is mk v e h.0 c q b)
       by_step (news.Count c) q b = plain (ap makes_object e ∙ ap is_length q) (counts_one x code s ls wt fits laws g world st tr may r count cells site is mk v e h.0 c q b)
       by_step (news.Move top moved) q b = plain (ap makes_object e ∙ ap is_length q) (moves_top x code s ls wt fits laws g world st tr may r count cells site is mk v e h.0 top moved q b)

@@ -5,7 +5,7 @@ use Rattle.std.specs.Prelude.{length, slice_index, slice_set, ◌==◌}
 use Rattle.sharc_word.specs.declared.step.WordOp.TheVariants.{Load, Cas}
 use Rattle.sharc_shadow.specs.{declared.shadow_word.Kind.Kind, declared.shadow_word.Kind.TheVariants.{Read, Write}, Accesses.Accesses}
 use Rattle.sharc_cond.specs.Waiters.{without_lowest}
-use Rattle.sharc_code.specs.{declared.code.Code.Code, declared.instr.Cell.Cell, declared.shape.Shape.Shape, declared.state.State.TheVariants.{Runs as RunsOn, Tries, Stopped, Ended}, declared.state.Stage.Stage, declared.state.Stage.TheVariants.{Rests, Looks, Clears, Makes, Empties, Lowers, FreeLooks, FreeClears, Uncounts, Links, Names, Hands, Begins, Enters, Withdraws, WithdrawsFrom, Leaves, Wakes}, Layout.Fits, Machine.{Machine, instr_at, word, wakes, rests, at_stage, step_of}, Path.{turn, may_go}, Runs.{Turn, Global, put, MayTurn, after_turn}, Whole.{one_thread, bounds}}
+use Rattle.sharc_code.specs.{declared.code.Code.Code, declared.instr.Cell.Cell, declared.shape.Shape.Shape, declared.state.TurnState.TheVariants.{Runs as RunsOn, Tries, Stopped, Ended}, declared.state.Stage.Stage, declared.state.Stage.TheVariants.{Rests, Looks, Clears, Makes, Empties, Lowers, FreeLooks, FreeClears, Uncounts, Links, Names, Hands, Begins, Enters, Withdraws, WithdrawsFrom, Leaves, Wakes}, Layout.Fits, Machine.{Machine, instr_at, word, wakes, rests, at_stage, step_of}, Path.{turn, may_go}, Runs.{Turn, Global, put, MayTurn, after_turn}, Whole.{one_thread, bounds}}
 use Rattle.sharc_code.specs.declared.instr.Instr.TheVariants as instrs
 use Rattle.sharc_invariant.specs.{Types.{Targets, Field, field_in, is_pointer, is_mutex}, Types.Content.Waiters, Labels.{Label, Labels, LessGate, Closed}, Typed.{Fine, IsWellTyped}, World.{World, RegisterOf, in_ref}, Blocks.Heap, Words.{conc_of, Shows, FitsContent, cell_at, is_ended, staged_of, logged, noted_by, register_of, making_of}, Effect.Silently, Turns.{made_turn, made_conc}, State.{State, View, view_of, FramesStand, GateStands, TopStands, Runs, StageStands, OnSignal, SpawnsNow, label_now, object_of_cell, number_in}, Laws.Turned}
 use Rattle.sharc_invariant.proofs.{Frames.less_stands, Others.{OnHold, loses}, Quiet.{KeepsSelf, loud_state, heap_now, label_held, freed_held, noted_of, put_self, locks_kept}, Turns.{asks_turn, room_of}, Own.{closed_less, runs_at}, Stores.{index_put, cell_store, stored_words, stored_within}, Seen.integer_stored, Cells.cell_there}

@@ -6,8 +6,8 @@ use Rattle.sharc_tree.specs.declared.trap.Trap.TheVariants as traps
 use Rattle.sharc_word.specs.{declared.step.TheConstants.THREADS, declared.step.WordStep.WordStep, Words.word_after}
 use Rattle.sharc_word.specs.declared.step.WordOp.TheVariants as ops
 use Rattle.sharc_cond.specs.Waiters.{waits_in}
-use Rattle.sharc_granule.specs.{State.{NewView, told, turn_of}, Asks.word_number, declared.arguments.NewArguments.NewArguments, declared.stage.Stage.{Stage as NewStage}, declared.stage.NewTurn.NewTurn, declared.stage.NewTurn.TheVariants.{Do, Made, HeapFull}, Stages.turn_of_stage}
-use Rattle.sharc_granule.specs.declared.stage.Stage.TheVariants as news
+use Rattle.sharc_granule.specs.{State.{NewView, told, turn_of}, Asks.word_number, declared.arguments.NewArguments.NewArguments, declared.stage.NewStage.{NewStage}, declared.stage.NewTurn.NewTurn, declared.stage.NewTurn.TheVariants.{Do, Made, HeapFull}, Stages.turn_of_stage}
+use Rattle.sharc_granule.specs.declared.stage.NewStage.TheVariants as news
 use Rattle.sharc_code.specs.{declared.code.Code.Code, declared.code.Layout.Layout, declared.code.Parameter.Parameter, declared.instr.Cell.Cell, declared.instr.Cell.TheVariants.{Global, GlobalAt, Object, ObjectAt}, declared.instr.Width.TheVariants.{Int, Long}, declared.instr.Register.Register, declared.instr.Instr.Instr, declared.instr.Instr.TheVariants.{Constant, Move, MoveReference, Null, ComputeInt, ComputeLong, NegateInt, NegateLong, Complement, Not, SameReference, ChkWidth, Jump, JumpIfZero, JumpIfNull, Call, Return, ChkNull, ChkHeld, ChkNotHeld, ChkPositive, ChkRoom, ChkLock, ChkLockLoaded, Bounds, GlobalBounds, ChkRead, ChkWrite, Load, Store, LoadRef, Exchange, Raise, RaiseLoaded, Lower, New, TakeCell, TakeLocal, TestSole, Clear, Give, Free, Lock, Unlock, Spawn, Join, Print, Start, Exit, CondEnter, CondWait, CondSignal, CondBroadcast}, declared.shape.Shape.Shape, declared.state.Stage.Stage, declared.state.Stage.TheVariants.{Rests, Looks, Clears, Makes, Empties, Lowers, FreeLooks, FreeClears, Uncounts, Links, Names, Hands, Begins, Enters, Withdraws, WithdrawsFrom, Leaves, Wakes}, Arithmetic.{computed, negated, holds, is_zero}, Layout.{granules, granule_at, words_of, cell_word, cell_of, count_word, length_word, first_cell, first_shadow, state_word, function_word, argument_word}, Machine.{Machine, Turn, Local, Asks, step_of, act, int, ref, place, word, raise, lower, test, new, asks_new, new_state, elements_of, clear, looks, free, free_looks, empties, emptied, fields, data_granules, largest, layout_at, spawn, join, start, signal, goes, set_int, set_ref, accessed, move_ref, joined, trapped, asserts, with_result, indexed, called, has_room, returned, holds_none, lock_checked, is_held, is_of_null, is_positive, tested, after_new, locked, without_base, taken, numbered, handed, woken, wakes, with_parameter, function_of, rests, object}}
 use Rattle.sharc_code.specs.declared.code.Parameter.TheVariants as parameters
 use Rattle.sharc_code.specs.declared.instr.Register.TheVariants as registers
@@ -107,7 +107,7 @@ module _ (code : Code) (s : Shape) (m : Machine) (calm : is_withdrawing m.own.st
 
   at_called : (n : Machine) → KeepsNotes m n → (pc ints refs site : ℕ) → KeepsNotes m (called n pc ints refs site)
   at_called n h pc ints refs site = elim (has_room n ints refs) as (λ b. KeepsNotes m (if b then record n {
-    at = record { pc = pc; ints = n.at.ints + ints; refs = n.at.refs + refs; depth = n.at.depth + 1; state = Rattle.sharc_code.specs.declared.state.State.TheVariants.Runs };
+    at = record { pc = pc; ints = n.at.ints + ints; refs = n.at.refs + refs; depth = n.at.depth + 1; state = Rattle.sharc_code.specs.declared.state.TurnState.TheVariants.Runs };
     frames = Rattle.std.specs.Prelude.slice_set n.frames n.at.depth record { pc = n.at.pc + 1; ints = n.at.ints; refs = n.at.refs };
   } else trapped n traps.CallDepth site)) [
     | true ↦ record { table = h.table; stage = h.stage; ended = refl }

@@ -9,8 +9,8 @@ use Rattle.sharc_shadow.specs.ShadowWord.{epoch_of, is_written, stands}
 use Rattle.sharc_granule.specs.State.{NewView}
 use Rattle.sharc_locks.specs.HeldLog.{object_of}
 use Rattle.sharc_code.specs.{declared.code.Code.Code, declared.code.Parameter.Parameter, declared.instr.Instr.Instr}
-use Rattle.sharc_code.specs.{declared.shape.Shape.Shape, declared.state.State.State}
-use Rattle.sharc_code.specs.{declared.state.State.TheVariants.Ended, declared.state.Stage.Stage}
+use Rattle.sharc_code.specs.{declared.shape.Shape.Shape, declared.state.TurnState.TurnState}
+use Rattle.sharc_code.specs.{declared.state.TurnState.TheVariants.Ended, declared.state.Stage.Stage}
 use Rattle.sharc_code.specs.declared.state.Stage.TheVariants.{Rests, Makes, Lowers, Links, Withdraws, WithdrawsFrom}
 use Rattle.sharc_code.specs.declared.state.Stage.TheVariants.{Leaves, Enters}
 use Rattle.sharc_code.specs.Layout.{granules, first_shadow, state_word, function_word, argument_word}
@@ -49,7 +49,7 @@ abbrev pub note_number : Option Note → ℕ
 note_number None = 0
 note_number (Some note) = suc note.epoch
 
-abbrev pub is_ended : State → Bool
+abbrev pub is_ended : TurnState → Bool
 is_ended Ended = true
 is_ended _ = false
 

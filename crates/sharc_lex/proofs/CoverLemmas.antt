@@ -2,8 +2,8 @@
 use Rattle.std.proofs.{Common.{◌≡◌, ℕ, zero, suc, ◌+◌, ◌-◌, ◌<◌, ◌≤◌, ◌==◌, min, Bool, true, false, cond, List, [], ◌∷◌, ◌++◌, length, get_or, take, drop, slice_index, Result, Ok, Err, sym, refl, ap, ◌∙◌, subst, inl, inr, arith, add-zero, one-add, length-drop, length-take-le, get_or-drop}, lemmas.Bool.{cases_lt, eqb-true}, lemmas.List.{drop-drop, take-append-le, take-append-drop}, lemmas.List.Elements.{All-nil, All-cons, All-append, All-weaker}, lemmas.List.Sums.{prefix_len-le-length, passes_at_first}}
 use Rattle.std.specs.{Prelude.{ok_or, not, All}, List.{prefix_len, position_or_len}}
 use Rattle.sharc_tree.specs.declared.token.Token.{Token}
-use Rattle.sharc_lex.specs.{declared.fault.Fault.Fault, declared.fault.Place.Place, declared.token_at.Lexeme.Lexeme, Bytes.{is_white_space, is_blank}, Files.with_file, Grammar.{Read, tokens_of, token, at_offset, behind_tokens, marker_line, text_line, line_read, marked, with_tokens, with_place, IsWithin, ◌>>=◌}, Laws.{IsLongest, IsBetween, IsSlice, Covers}, Lines.{line_at, BeginsLine}, Markers.{is_marker_line, marker}, TokenAt.token_at}
-use Rattle.sharc_lex.specs.declared.fault.Fault.TheVariants as fault
+use Rattle.sharc_lex.specs.{declared.fault.TokenFault.TokenFault, declared.fault.SourceLine.SourceLine, declared.token_at.Lexeme.Lexeme, Bytes.{is_white_space, is_blank}, Files.with_file, Grammar.{Read, tokens_of, token, at_offset, behind_tokens, marker_line, text_line, line_read, marked, with_tokens, with_place, IsWithin, ◌>>=◌}, Laws.{IsLongest, IsBetween, IsSlice, Covers}, Lines.{line_at, BeginsLine}, Markers.{is_marker_line, marker}, TokenAt.token_at}
+use Rattle.sharc_lex.specs.declared.fault.TokenFault.TheVariants as fault
 use Rattle.sharc_lex.proofs.{LongestLemmas.token_longest, ReadingLemmas.{lines_from, lines_from-first, lines_from-end, len_of}, WithinLemmas.{chosen, bind_ok, ok_injective, with_file-length, with_place-ok, behind_tokens-ok}}
 
 -- the bytes up to the first newline, and those after the first of them
@@ -18,7 +18,7 @@ tail_of_line (x ∷ l) b bytes e = by_test (x == 10) e
     by_test true e = cc
     by_test false e = let first : b ∷ bytes ≡ x ∷ line_of l = e ∙ rw one-add refl in cc
 
-at_offset-ok : {A : Type 0} (offset : ℕ) (r : Result A Fault) (x : A) → at_offset offset r ≡ Ok x → r ≡ Ok x
+at_offset-ok : {A : Type 0} (offset : ℕ) (r : Result A TokenFault) (x : A) → at_offset offset r ≡ Ok x → r ≡ Ok x
 at_offset-ok offset (Ok y) x e = cc
 at_offset-ok offset (Err f) x e = cc
 
@@ -67,7 +67,7 @@ module _ (source : List ℕ) where
   next_line : (offset b : ℕ) (bytes : List ℕ) → b ∷ bytes ≡ line_at source offset → bytes ≡ line_at source (offset + 1)
   next_line offset b bytes line = tail_of_line (drop offset source) b bytes line ∙ ap line_of (drop-drop _ _ source)
 
-  token_slice : (place : Place) (offset : ℕ) (bytes rest : List ℕ) (found : Lexeme) → drop offset source ≡ bytes ++ rest → bytes ≡ line_at source offset → IsLongest bytes found → IsSlice source (token place offset bytes found)
+  token_slice : (place : SourceLine) (offset : ℕ) (bytes rest : List ℕ) (found : Lexeme) → drop offset source ≡ bytes ++ rest → bytes ≡ line_at source offset → IsLongest bytes found → IsSlice source (token place offset bytes found)
   token_slice place offset bytes rest found at line longest =
       let len : offset + found.len - offset ≡ found.len = omega arith in
       let same_len : IsLongest bytes (record { len = offset + found.len - offset; kind = found.kind }) = subst (λ n. IsLongest bytes (record { len = n; kind = found.kind })) (sym len) longest in
@@ -77,7 +77,7 @@ module _ (source : List ℕ) where
         longest = subst (λ l. IsLongest l (record { len = offset + found.len - offset; kind = found.kind })) line same_len;
       }
 
-  covers_tokens : (place : Place) (taken offset : ℕ) (bytes rest : List ℕ) (ts : List Token) → drop offset source ≡ bytes ++ rest → bytes ≡ line_at source offset → taken ≤ length bytes → tokens_of place taken offset bytes ≡ Ok ts → Covers source (offset + taken) (offset + length bytes) ts
+  covers_tokens : (place : SourceLine) (taken offset : ℕ) (bytes rest : List ℕ) (ts : List Token) → drop offset source ≡ bytes ++ rest → bytes ≡ line_at source offset → taken ≤ length bytes → tokens_of place taken offset bytes ≡ Ok ts → Covers source (offset + taken) (offset + length bytes) ts
   covers_tokens place taken offset [] rest ts at line inside e =
       let none : [] ≡ ts = ok_injective [] ts e in
       subst (Covers source (offset + taken) (offset + 0)) none (empty (offset + taken) (offset + 0) (omega arith))
@@ -107,16 +107,16 @@ module _ (source : List ℕ) where
   ]
 
 -- the token is in the file and the line of a place, and begins at one of these offsets
-pub record IsOnLine (place : Place) (low high : ℕ) (t : Token) : Type 0 where
+pub record IsOnLine (place : SourceLine) (low high : ℕ) (t : Token) : Type 0 where
   pub from : low ≤ t.from
   pub until : t.from ≤ high
   pub file : t.file ≡ place.file
   pub line : t.line ≡ place.line
 
-on_rest : (place : Place) (offset high : ℕ) (t : Token) → IsOnLine place (offset + 1) high t → IsOnLine place offset high t
+on_rest : (place : SourceLine) (offset high : ℕ) (t : Token) → IsOnLine place (offset + 1) high t → IsOnLine place offset high t
 on_rest place offset high t on = record { from = omega (arith, on.from); until = on.until; file = on.file; line = on.line }
 
-pub tokens_of-on_line : (place : Place) (taken offset high : ℕ) (bytes : List ℕ) (ts : List Token) → offset + length bytes ≡ high → tokens_of place taken offset bytes ≡ Ok ts → All (IsOnLine place offset high) ts
+pub tokens_of-on_line : (place : SourceLine) (taken offset high : ℕ) (bytes : List ℕ) (ts : List Token) → offset + length bytes ≡ high → tokens_of place taken offset bytes ≡ Ok ts → All (IsOnLine place offset high) ts
 tokens_of-on_line place taken offset high [] ts end e = let none : [] ≡ ts = ok_injective [] ts e in subst (All (IsOnLine place offset high)) none (All-nil (IsOnLine place offset high))
 tokens_of-on_line place (suc taken) offset high (b ∷ bytes) ts end e = All-weaker (IsOnLine place (offset + 1) high) (IsOnLine place offset high) (on_rest place offset high) ts (tokens_of-on_line place taken (offset + 1) high bytes ts (omega arith) e)
 tokens_of-on_line place zero offset high (b ∷ bytes) ts end e = elim (chosen (is_white_space b) _ _ _ e) [

@@ -2,10 +2,10 @@
 use Rattle.std.proofs.{Common.{◌≡◌, ℕ, ◌+◌, ◌<◌, ◌≤◌, min, Bool, true, cond, ◌||◌, ltb, eqb, nat_eq, ◌⊎◌, List, [], ◌∷◌, ◌++◌, length, take, Option, Some, None, Result, Ok, Err, sym, refl, ap, ◌∙◌, subst, inl, inr, arith, length-take}, lemmas.List.Sums.prefix_len-le-length, lemmas.Bool.{and_parts, ltb-true}, lemmas.Slice.Eq.bytes_eq-Decides}
 use Rattle.std.specs.{Prelude.{ok_or, option_map, IfOk}, List.{prefix_len, starts_with, list_all}}
 use Rattle.sharc_tree.specs.declared.token.TokenKind.{TokenKind}
-use Rattle.sharc_lex.specs.{declared.fault.Fault.Fault, declared.token_at.Lexeme.Lexeme, Bytes.{is_letter, is_digit, is_word_byte}, Characters.{character, constant, plain, behind_backslash}, Punctuators.{first_begun, singles, pairs, triples, quadruples}, TokenAt.{LiesIn, token_at, of_len}}
+use Rattle.sharc_lex.specs.{declared.fault.TokenFault.TokenFault, declared.token_at.Lexeme.Lexeme, Bytes.{is_letter, is_digit, is_word_byte}, Characters.{character, constant, plain, behind_backslash}, Punctuators.{first_begun, singles, pairs, triples, quadruples}, TokenAt.{LiesIn, token_at, of_len}}
 use Rattle.sharc_lex.proofs.WithinLemmas.{chosen}
 
-pub of_len-len : (len : ℕ) (r : Result TokenKind Fault) (found : Lexeme) → of_len len r ≡ Ok found → found.len ≡ len
+pub of_len-len : (len : ℕ) (r : Result TokenKind TokenFault) (found : Lexeme) → of_len len r ≡ Ok found → found.len ≡ len
 of_len-len len (Ok k) found e = let same : found ≡ record { len = len; kind = k } = cc in ap (λ (x : Lexeme). x.len) same
 of_len-len len (Err f) found e = cc
 
@@ -14,7 +14,7 @@ run_lies b bytes begins =
     let len : prefix_len is_word_byte (b ∷ bytes) ≡ 1 + prefix_len is_word_byte bytes = ap (λ t. cond t (1 + prefix_len is_word_byte bytes) 0) begins in
     (omega arith, prefix_len-le-length is_word_byte (b ∷ bytes))
 
-run_token : (b : ℕ) (bytes : List ℕ) (r : Result TokenKind Fault) (found : Lexeme) → is_word_byte b ≡ true → of_len (prefix_len is_word_byte (b ∷ bytes)) r ≡ Ok found → LiesIn (b ∷ bytes) found
+run_token : (b : ℕ) (bytes : List ℕ) (r : Result TokenKind TokenFault) (found : Lexeme) → is_word_byte b ≡ true → of_len (prefix_len is_word_byte (b ∷ bytes)) r ≡ Ok found → LiesIn (b ∷ bytes) found
 run_token b bytes r found begins e =
     let len = of_len-len (prefix_len is_word_byte (b ∷ bytes)) r found e in
     let lies = run_lies b bytes begins in
@@ -59,7 +59,7 @@ first_begun_lies (entry ∷ entries) bytes found full e =
       | inr h ↦ first_begun_lies entries bytes found parts.1 h.1
     ]
 
-pub ok_or_some : {A : Type 0} (o : Option A) (f : Fault) (x : A) → ok_or o f ≡ Ok x → o ≡ Some x
+pub ok_or_some : {A : Type 0} (o : Option A) (f : TokenFault) (x : A) → ok_or o f ≡ Ok x → o ≡ Some x
 ok_or_some None f x e = cc
 ok_or_some (Some y) f x e = cc
 
@@ -75,6 +75,6 @@ token_lies b bytes found e = elim (chosen (is_letter b) _ _ _ e) [
   ]
 ]
 
-pub result_lies : (r : Result Lexeme Fault) (b : ℕ) (others bytes : List ℕ) → bytes ≡ b ∷ others → r ≡ token_at b others → IfOk r (LiesIn bytes)
+pub result_lies : (r : Result Lexeme TokenFault) (b : ℕ) (others bytes : List ℕ) → bytes ≡ b ∷ others → r ≡ token_at b others → IfOk r (LiesIn bytes)
 result_lies (Ok found) b others bytes parts e = subst (λ l. LiesIn l found) (sym parts) (token_lies b others found (sym e))
 result_lies (Err fault) b others bytes parts e = tt

@@ -3,8 +3,8 @@ use Rattle.std.proofs.{Common.{◌≡◌, ℕ, zero, suc, ◌+◌, ◌-◌, ◌<
 use Rattle.std.specs.{Prelude.{ok_or, option_map, All, Contains, IfOk}, List.{prefix_len, starts_with, list_all}}
 use Rattle.sharc_tree.specs.declared.token.TokenKind.{TokenKind}
 use Rattle.sharc_tree.specs.declared.token.TokenKind.TheVariants as kind
-use Rattle.sharc_lex.specs.{declared.fault.Fault.Fault, declared.token_at.Lexeme.Lexeme, Bytes.{is_letter, is_digit, is_word_byte}, Characters.{character, constant, plain, behind_backslash}, Laws.{IsRun, IsConstant, IsToken, IsLongest}, Numbers.number, Punctuators.{punctuator, punctuators, first_begun}, TokenAt.{token_at, word_at, number_at, of_len}, Words.word}
-use Rattle.sharc_lex.specs.declared.fault.Fault.TheVariants as fault
+use Rattle.sharc_lex.specs.{declared.fault.TokenFault.TokenFault, declared.token_at.Lexeme.Lexeme, Bytes.{is_letter, is_digit, is_word_byte}, Characters.{character, constant, plain, behind_backslash}, Laws.{IsRun, IsConstant, IsToken, IsLongest}, Numbers.number, Punctuators.{punctuator, punctuators, first_begun}, TokenAt.{token_at, word_at, number_at, of_len}, Words.word}
+use Rattle.sharc_lex.specs.declared.fault.TokenFault.TheVariants as fault
 use Rattle.sharc_lex.proofs.{LexemeLemmas.{token_lies, of_len-len, constant_len, ok_or_some}, WithinLemmas.chosen}
 
 abbrev Table : Type 0
@@ -21,7 +21,7 @@ prefix_len-take p (suc n) (x ∷ xs) = both (p x) (prefix_len-take p n xs)
     both false le = omega arith
 
 -- a run is as long as its word bytes
-run_len : (begins : ℕ → Bool) (read : List ℕ → Result Lexeme Fault) (text : List ℕ) (k : TokenKind) → ((l : List ℕ) (found : Lexeme) → read l ≡ Ok found → found.len ≡ prefix_len is_word_byte l) → IsRun begins read text k → prefix_len is_word_byte text ≡ length text
+run_len : (begins : ℕ → Bool) (read : List ℕ → Result Lexeme TokenFault) (text : List ℕ) (k : TokenKind) → ((l : List ℕ) (found : Lexeme) → read l ≡ Ok found → found.len ≡ prefix_len is_word_byte l) → IsRun begins read text k → prefix_len is_word_byte text ≡ length text
 run_len begins read [] k len run = absurd run
 run_len begins read (b ∷ bytes) k len run = sym (len (b ∷ bytes) _ run.1)
 
@@ -32,7 +32,7 @@ number_len : (l : List ℕ) (found : Lexeme) → number_at l ≡ Ok found → fo
 number_len l found e = of_len-len (prefix_len is_word_byte l) (ok_or (option_map kind.Number (number (take (prefix_len is_word_byte l) l))) fault.Number) found e
 
 -- no longer front of the bytes is a run
-no_longer_run : (begins : ℕ → Bool) (read : List ℕ → Result Lexeme Fault) (bytes : List ℕ) (n : ℕ) (k : TokenKind) → ((l : List ℕ) (found : Lexeme) → read l ≡ Ok found → found.len ≡ prefix_len is_word_byte l) → prefix_len is_word_byte bytes < n → n ≤ length bytes → IsRun begins read (take n bytes) k → ⊥
+no_longer_run : (begins : ℕ → Bool) (read : List ℕ → Result Lexeme TokenFault) (bytes : List ℕ) (n : ℕ) (k : TokenKind) → ((l : List ℕ) (found : Lexeme) → read l ≡ Ok found → found.len ≡ prefix_len is_word_byte l) → prefix_len is_word_byte bytes < n → n ≤ length bytes → IsRun begins read (take n bytes) k → ⊥
 no_longer_run begins read bytes n k len longer inside run =
     let whole = run_len begins read (take n bytes) k len run in
     let all : length (take n bytes) ≡ n = length-take-le n bytes inside in
@@ -86,7 +86,7 @@ prefix_len-self p (x ∷ xs) = elim (cases_Bool (p x)) [
       ap (λ n. prefix_len p (take n (x ∷ xs))) none ∙ sym none
 ]
 
-IsRun-of : (begins : ℕ → Bool) (read : List ℕ → Result Lexeme Fault) (text : List ℕ) (k : TokenKind) (b : ℕ) (bytes : List ℕ) → text ≡ b ∷ bytes → begins b ≡ true → read text ≡ Ok (record { len = length text; kind = k }) → IsRun begins read text k
+IsRun-of : (begins : ℕ → Bool) (read : List ℕ → Result Lexeme TokenFault) (text : List ℕ) (k : TokenKind) (b : ℕ) (bytes : List ℕ) → text ≡ b ∷ bytes → begins b ≡ true → read text ≡ Ok (record { len = length text; kind = k }) → IsRun begins read text k
 IsRun-of begins read [] k b bytes same first e = cc
 IsRun-of begins read (c ∷ cs) k b bytes same first e = (ap begins (ap (λ l. get_or l 0 0) same) ∙ first, e)
 
@@ -94,7 +94,7 @@ front_of : (n b : ℕ) (bytes : List ℕ) → 0 < n → take n (b ∷ bytes) ≡
 front_of n b bytes some = let same : n ≡ suc (n - 1) = omega arith in ap (λ m. take m (b ∷ bytes)) same
 
 -- the run at the front is a run by itself
-found_run : (begins : ℕ → Bool) (judge : List ℕ → Result TokenKind Fault) (b : ℕ) (bytes : List ℕ) (found : Lexeme) → begins b ≡ true → 0 < found.len → found.len ≤ length (b ∷ bytes) → of_len (prefix_len is_word_byte (b ∷ bytes)) (judge (take (prefix_len is_word_byte (b ∷ bytes)) (b ∷ bytes))) ≡ Ok found → IsRun begins (λ l. of_len (prefix_len is_word_byte l) (judge (take (prefix_len is_word_byte l) l))) (take found.len (b ∷ bytes)) found.kind
+found_run : (begins : ℕ → Bool) (judge : List ℕ → Result TokenKind TokenFault) (b : ℕ) (bytes : List ℕ) (found : Lexeme) → begins b ≡ true → 0 < found.len → found.len ≤ length (b ∷ bytes) → of_len (prefix_len is_word_byte (b ∷ bytes)) (judge (take (prefix_len is_word_byte (b ∷ bytes)) (b ∷ bytes))) ≡ Ok found → IsRun begins (λ l. of_len (prefix_len is_word_byte l) (judge (take (prefix_len is_word_byte l) l))) (take found.len (b ∷ bytes)) found.kind
 found_run begins judge b bytes found first some within e =
     let l = b ∷ bytes in
     let run = prefix_len is_word_byte l in
@@ -173,7 +173,7 @@ head_is (c ∷ cs) b bytes same sign =
     let more = and_parts (not (is_digit c)) (not (c == 39)) parts.1 in
     (ap is_letter (sym first) ∙ not-true (is_letter c) parts.0, ap is_digit (sym first) ∙ not-true (is_digit c) more.0, ap (λ x. x == 39) (sym first) ∙ not-true (c == 39) more.1)
 
-run_head : (begins : ℕ → Bool) (read : List ℕ → Result Lexeme Fault) (text : List ℕ) (k : TokenKind) (b : ℕ) (bytes : List ℕ) → text ≡ b ∷ bytes → IsRun begins read text k → begins b ≡ true
+run_head : (begins : ℕ → Bool) (read : List ℕ → Result Lexeme TokenFault) (text : List ℕ) (k : TokenKind) (b : ℕ) (bytes : List ℕ) → text ≡ b ∷ bytes → IsRun begins read text k → begins b ≡ true
 run_head begins read [] k b bytes same run = absurd run
 run_head begins read (c ∷ cs) k b bytes same run = ap begins (sym (ap (λ l. get_or l 0 0) same)) ∙ run.0
 
@@ -182,7 +182,7 @@ constant_head [] k b bytes same constant = absurd constant
 constant_head (c ∷ cs) k b bytes same constant = sym (ap (λ l. get_or l 0 0) same) ∙ constant.0
 
 module _ (b : ℕ) (bytes : List ℕ) (n : ℕ) (k : TokenKind) (some : 0 < n) where
-  not_run : (begins : ℕ → Bool) (read : List ℕ → Result Lexeme Fault) → begins b ≡ false → IsRun begins read (take n (b ∷ bytes)) k → ⊥
+  not_run : (begins : ℕ → Bool) (read : List ℕ → Result Lexeme TokenFault) → begins b ≡ false → IsRun begins read (take n (b ∷ bytes)) k → ⊥
   not_run begins read other run = false≢true (sym other ∙ run_head begins read (take n (b ∷ bytes)) k b (take (n - 1) bytes) (front_of n b bytes some) run)
 
   is_quote : IsConstant (take n (b ∷ bytes)) k → b ≡ 39
@@ -267,6 +267,6 @@ token_longest b bytes found e =
       ]
     ]
 
-pub result_longest : (r : Result Lexeme Fault) (b : ℕ) (others bytes : List ℕ) → bytes ≡ b ∷ others → r ≡ token_at b others → IfOk r (IsLongest bytes)
+pub result_longest : (r : Result Lexeme TokenFault) (b : ℕ) (others bytes : List ℕ) → bytes ≡ b ∷ others → r ≡ token_at b others → IfOk r (IsLongest bytes)
 result_longest (Ok found) b others bytes parts e = subst (λ l. IsLongest l found) (sym parts) (token_longest b others found (sym e))
 result_longest (Err fault) b others bytes parts e = tt

@@ -2,7 +2,7 @@
 use Rattle.std.proofs.{Common.{◌≡◌, ℕ, suc, ◌+◌, ◌-◌, ◌<◌, ◌≤◌, ◌==◌, Bool, true, false, not, cond, leb, List, [], ◌∷◌, length, take, drop, Result, Ok, Err, sym, refl, ap, ◌∙◌, subst, inl, inr, arith, one-add, length-drop, length-take-le}, lemmas.Bool.{cases_Bool, le-leb, lt-leb, leb-true, leb-false}, lemmas.List.{drop-drop, take_all}}
 use Rattle.std.specs.List.{position_or_len}
 use Rattle.sharc_tree.specs.declared.token.FaultAt.{FaultAt}
-use Rattle.sharc_lex.specs.{declared.fault.Fault.Fault, Faults.Refuses, declared.fault.LexFault.LexFault, Grammar.{lines_of, in_front, Read, line_read, with_place, lines_read, opening, tokens_read, reading, IsWithin, ◌>>=◌}}
+use Rattle.sharc_lex.specs.{declared.fault.TokenFault.TokenFault, Faults.Refuses, declared.fault.LexFault.LexFault, Grammar.{lines_of, in_front, Read, line_read, with_place, lines_read, opening, tokens_read, reading, IsWithin, ◌>>=◌}}
 use Rattle.sharc_lex.specs.declared.fault.LexFault.TheVariants as lex
 use Rattle.sharc_lex.proofs.WithinLemmas.{within_line}
 
@@ -57,14 +57,14 @@ lines_from-end at source outside = ap (λ t. cond t (lines_of (drop at source)) 
 pub lines_read-read : (read more : Read) (offset : ℕ) (line : List ℕ) (lines : List (List ℕ)) → with_place read (line_read read offset line) ≡ Ok more → lines_read read offset (line ∷ lines) ≡ lines_read more (offset + length line + 1) lines
 lines_read-read read more offset line lines e = ap (λ r. r >>= λ more. lines_read more (offset + length line + 1) lines) e
 
-pub lines_read-fault : (read : Read) (fault : FaultAt Fault) (offset : ℕ) (line : List ℕ) (lines : List (List ℕ)) → with_place read (line_read read offset line) ≡ Err fault → lines_read read offset (line ∷ lines) ≡ Err fault
+pub lines_read-fault : (read : Read) (fault : FaultAt TokenFault) (offset : ℕ) (line : List ℕ) (lines : List (List ℕ)) → with_place read (line_read read offset line) ≡ Err fault → lines_read read offset (line ∷ lines) ≡ Err fault
 lines_read-fault read fault offset line lines e = ap (λ r. r >>= λ more. lines_read more (offset + length line + 1) lines) e
 
 pub reading-read : (source : List ℕ) (read : Read) → lines_read opening 0 (lines_of source) ≡ Ok read → reading source ≡ Ok (tokens_read read)
 unfolding reading
 reading-read source read e = ap (λ r. r >>= λ read. Ok (tokens_read read)) e
 
-pub reading-fault : (source : List ℕ) (fault : FaultAt Fault) → lines_read opening 0 (lines_of source) ≡ Err fault → reading source ≡ Err fault
+pub reading-fault : (source : List ℕ) (fault : FaultAt TokenFault) → lines_read opening 0 (lines_of source) ≡ Err fault → reading source ≡ Err fault
 unfolding reading
 reading-fault source fault e = ap (λ r. r >>= λ read. Ok (tokens_read read)) e
 
@@ -84,7 +84,7 @@ module _ (source rest : List ℕ) (at len : ℕ) (inside : at ≤ length source)
       ∙ ap (λ r. take (len_of r) r ∷ lines_from (at + (len_of r + 1)) source) (sym rest_is)
       ∙ ap (λ n. take n rest ∷ lines_from (at + (n + 1)) source) (sym len_is)
 
-  pub step_read : (read more : Read) (all : Result Read (FaultAt Fault)) → len ≤ length rest → with_place read (line_read read at (take len rest)) ≡ Ok more → lines_read read at (lines_from at source) ≡ all → lines_read more (at + (len + 1)) (lines_from (at + (len + 1)) source) ≡ all
+  pub step_read : (read more : Read) (all : Result Read (FaultAt TokenFault)) → len ≤ length rest → with_place read (line_read read at (take len rest)) ≡ Ok more → lines_read read at (lines_from at source) ≡ all → lines_read more (at + (len + 1)) (lines_from (at + (len + 1)) source) ≡ all
   step_read read more all within e before =
       let line_len : length (take len rest) ≡ len = length-take-le len rest within in
       let behind : at + length (take len rest) + 1 ≡ at + (len + 1) = omega arith in

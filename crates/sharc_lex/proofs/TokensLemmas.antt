@@ -2,8 +2,8 @@
 use Rattle.std.proofs.{Common.{◌≡◌, ℕ, zero, suc, ◌+◌, ◌-◌, ◌<◌, ◌≤◌, min, Bool, true, false, not, cond, ◌||◌, ◌⊎◌, List, [], ◌∷◌, ◌++◌, length, get_or, drop, Option, Some, None, Result, Ok, Err, sym, refl, ap, ◌∙◌, subst, inl, inr, arith, one-add}, Math.Seq.get_or-append_seam, lemmas.Bool.le-leb, lemmas.List.get_or_append_left, lemmas.List.Elements.{All-nil, All-append, All-weaker}, lemmas.List.Sums.prefix_len-le-length, lemmas.Slice.Eq.bytes_eq-Decides}
 use Rattle.std.specs.{Prelude.{ok_or, All}, List.{prefix_len, list_any}, Str.bytes_eq}
 use Rattle.sharc_tree.specs.{declared.token.FaultAt.FaultAt, declared.token.Token.Token, declared.token.Tokens.Tokens}
-use Rattle.sharc_lex.specs.{declared.fault.Fault.Fault, declared.fault.LexFault.LexFault, declared.fault.LineFault.LineFault, declared.fault.Place.Place, Bytes.{is_white_space, is_blank}, Faults.Refuses, Files.{with_file, place_of}, Grammar.{Read, tokens_of, token, at_offset, behind_tokens, marker_line, text_line, line_read, marked, with_tokens, fault_at, with_place, lines_read, lines_of, opening, tokens_read, reading, IsWithin, ◌>>=◌}, Laws.{name_in, AreTokensOf, IsFaultIn, TellsPlace, Covers}, Lines.{line_at, BeginsLine, StandsIn}, Markers.{is_marker_line, marker}, TokenAt.token_at}
-use Rattle.sharc_lex.specs.declared.fault.Fault.TheVariants as fault
+use Rattle.sharc_lex.specs.{declared.fault.TokenFault.TokenFault, declared.fault.LexFault.LexFault, declared.fault.LineFault.LineFault, declared.fault.SourceLine.SourceLine, Bytes.{is_white_space, is_blank}, Faults.Refuses, Files.{with_file, place_of}, Grammar.{Read, tokens_of, token, at_offset, behind_tokens, marker_line, text_line, line_read, marked, with_tokens, fault_at, with_place, lines_read, lines_of, opening, tokens_read, reading, IsWithin, ◌>>=◌}, Laws.{name_in, AreTokensOf, IsFaultIn, TellsPlace, Covers}, Lines.{line_at, BeginsLine, StandsIn}, Markers.{is_marker_line, marker}, TokenAt.token_at}
+use Rattle.sharc_lex.specs.declared.fault.TokenFault.TheVariants as fault
 use Rattle.sharc_lex.specs.declared.fault.LexFault.TheVariants as lex
 use Rattle.sharc_lex.proofs.{CoverLemmas.{Covered, IsOnLine, tokens_of-on_line, empty, renumbered, covers_count, line_length, end_inside, covered_line, end_of_lines, line_is_there}, PlaceLemmas.{stands_within, stands_behind_text, stands_behind_marker, stands_first}, ReadingLemmas.{lines_from, lines_from-first, len_of}, WithinLemmas.{chosen, bind_ok, ok_or-ok, ok_injective, with_file-length, with_place-ok, behind_tokens-ok, within_line}}
 
@@ -45,7 +45,7 @@ bind_err : {A B E : Type 0} (r : Result A E) (f : A → Result B E) (e : E) → 
 bind_err (Ok x) f e h = inr (x, refl, h)
 bind_err (Err g) f e h = inl (cc)
 
-at_offset-err : {A : Type 0} (offset : ℕ) (r : Result A Fault) (found : LineFault) → at_offset offset r ≡ Err found → found.offset ≡ offset
+at_offset-err : {A : Type 0} (offset : ℕ) (r : Result A TokenFault) (found : LineFault) → at_offset offset r ≡ Err found → found.offset ≡ offset
 at_offset-err offset (Ok x) found e = cc
 at_offset-err offset (Err f) found e = let same : record { offset = offset; fault = f } ≡ found = cc in ap (λ (x : LineFault). x.offset) (sym same)
 
@@ -57,11 +57,11 @@ behind_tokens-err : (before : List Token) (r : Result (List Token) LineFault) (f
 behind_tokens-err before (Ok tokens) found e = cc
 behind_tokens-err before (Err f) found e = cc
 
-with_place-err : (read : Read) (r : Result Read LineFault) (told : FaultAt Fault) → with_place read r ≡ Err told → (found : LineFault) × (r ≡ Err found) × (fault_at read.files read.next found ≡ told)
+with_place-err : (read : Read) (r : Result Read LineFault) (told : FaultAt TokenFault) → with_place read r ≡ Err told → (found : LineFault) × (r ≡ Err found) × (fault_at read.files read.next found ≡ told)
 with_place-err read (Ok more) told e = cc
 with_place-err read (Err found) told e = (found, refl, cc)
 
-tokens_of-fault : (place : Place) (taken offset : ℕ) (bytes : List ℕ) (found : LineFault) → tokens_of place taken offset bytes ≡ Err found → (offset ≤ found.offset) × (found.offset ≤ offset + length bytes)
+tokens_of-fault : (place : SourceLine) (taken offset : ℕ) (bytes : List ℕ) (found : LineFault) → tokens_of place taken offset bytes ≡ Err found → (offset ≤ found.offset) × (found.offset ≤ offset + length bytes)
 tokens_of-fault place taken offset [] found e = cc
 tokens_of-fault place (suc taken) offset (b ∷ bytes) found e = let rest = tokens_of-fault place taken (offset + 1) bytes found e in (omega arith, omega arith)
 tokens_of-fault place zero offset (b ∷ bytes) found e = elim (chosen (is_white_space b) _ _ _ e) [
@@ -107,7 +107,7 @@ module _ (source : List ℕ) (at : ℕ) (inside : at ≤ length source) (begins 
   end = at + length line
 
   -- a token of the line lies where the line does
-  token_placed : (files : List (List ℕ)) (place : Place) (t : Token) → place.file < length files → StandsIn source at (name_in files place.file) place.line → IsOnLine place at end t → (t.file < length files) × StandsIn source t.from (name_in files t.file) t.line
+  token_placed : (files : List (List ℕ)) (place : SourceLine) (t : Token) → place.file < length files → StandsIn source at (name_in files place.file) place.line → IsOnLine place at end t → (t.file < length files) × StandsIn source t.from (name_in files t.file) t.line
   token_placed files place t known stands on =
       let there = stands_within source at inside begins t.from (name_in files place.file) place.line on.from on.until stands in (
         omega (arith, on.file),
@@ -160,7 +160,7 @@ module _ (source : List ℕ) (at : ℕ) (inside : at ≤ length source) (begins 
     | inr h ↦ placed_text read more within placed h.0 h.1
   ]
 
-  fault_placed : (read : Read) (told : FaultAt Fault) → Placed source at read → with_place read (line_read read at line) ≡ Err told → IsFaultIn source told
+  fault_placed : (read : Read) (told : FaultAt TokenFault) → Placed source at read → with_place read (line_read read at line) ≡ Err told → IsFaultIn source told
   fault_placed read told placed e =
       let found = with_place-err read (line_read read at line) told e in
       let lies = line_fault read at line found.0 found.1 in
@@ -205,7 +205,7 @@ module _ (source l : List ℕ) (lines : List (List ℕ)) (at : ℕ) (all : l ∷
         placed = subst (λ o. Placed source o more) next (placed_line source at there (kept.covered.begins there) read more kept.within kept.placed here);
       }
 
-  refused_line : (read : Read) (told : FaultAt Fault) → Kept source at read → with_place read (line_read read at l) ≡ Err told → IsFaultIn source told
+  refused_line : (read : Read) (told : FaultAt TokenFault) → Kept source at read → with_place read (line_read read at l) ≡ Err told → IsFaultIn source told
   refused_line read told kept e =
       fault_placed source at there (kept.covered.begins there) read told kept.placed (ap (λ k. with_place read (line_read read at k)) (sym line_is) ∙ e)
 
@@ -218,7 +218,7 @@ kept_lines source (l ∷ lines) at read more all before kept e =
     let step = bind_ok (with_place read (line_read read at l)) (λ next. lines_read next (at + length l + 1) lines) more e in
     kept_lines source lines (at + length l + 1) step.0 more (rest_is source l lines at all) (bound source l lines at all) (kept_line source l lines at all read step.0 kept step.1) step.2
 
-refused_lines : (source : List ℕ) (lines : List (List ℕ)) (at : ℕ) (read : Read) (told : FaultAt Fault) → lines ≡ lines_from at source → Kept source at read → lines_read read at lines ≡ Err told → IsFaultIn source told
+refused_lines : (source : List ℕ) (lines : List (List ℕ)) (at : ℕ) (read : Read) (told : FaultAt TokenFault) → lines ≡ lines_from at source → Kept source at read → lines_read read at lines ≡ Err told → IsFaultIn source told
 refused_lines source [] at read told all kept e = cc
 refused_lines source (l ∷ lines) at read told all kept e = elim (bind_err (with_place read (line_read read at l)) (λ next. lines_read next (at + length l + 1) lines) told e) [
   | inl here ↦ refused_line source l lines at all read told kept here
@@ -252,7 +252,7 @@ tokens_are source tokens e =
       end_placed = kept.placed.here (omega arith);
     })
 
-pub fault_is : (source : List ℕ) (told : FaultAt Fault) → reading source ≡ Err told → IsFaultIn source told
+pub fault_is : (source : List ℕ) (told : FaultAt TokenFault) → reading source ≡ Err told → IsFaultIn source told
 unfolding reading
 fault_is source told e = elim (bind_err (lines_read opening 0 (lines_of source)) (λ read. Ok (tokens_read read)) told e) [
   | inl refused ↦ refused_lines source (lines_of source) 0 opening told (all_lines source) (kept_first source) refused

@@ -2,8 +2,8 @@
 use Rattle.std.proofs.{Common.{◌≡◌, ℕ, zero, suc, ◌+◌, ◌-◌, ◌^◌, ◌<◌, ◌≤◌, ◌==◌, Bool, true, false, not, cond, ◌||◌, ltb, ◌⊎◌, List, [], ◌∷◌, ◌++◌, length, take, drop, Option, Some, None, Result, Ok, Err, refl, ap, subst, inl, inr, arith, length-append}, lemmas.Bool.ltb-true, lemmas.List.Sums.prefix_len-le-length}
 use Rattle.std.specs.{Prelude.{option_and_then, ok_or}, List.{prefix_len, list_any, list_all}, Str.bytes_eq}
 use Rattle.sharc_tree.specs.declared.token.Token.{Token}
-use Rattle.sharc_lex.specs.declared.fault.Fault.TheVariants as fault
-use Rattle.sharc_lex.specs.{declared.fault.LineFault.LineFault, declared.fault.Place.Place, Bytes.{is_blank, is_digit, is_white_space, behind}, Files.{with_file, place_of}, Grammar.{Read, tokens_of, token, at_offset, behind_tokens, line_read, marker_line, text_line, marked, with_tokens, with_place, IsWithin, ◌>>=◌}, Markers.{marker, line_number, file_name, is_flag, is_marker_line}, Numbers.value_behind, TokenAt.token_at}
+use Rattle.sharc_lex.specs.declared.fault.TokenFault.TheVariants as fault
+use Rattle.sharc_lex.specs.{declared.fault.LineFault.LineFault, declared.fault.SourceLine.SourceLine, Bytes.{is_blank, is_digit, is_white_space, behind}, Files.{with_file, place_of}, Grammar.{Read, tokens_of, token, at_offset, behind_tokens, line_read, marker_line, text_line, marked, with_tokens, with_place, IsWithin, ◌>>=◌}, Markers.{marker, line_number, file_name, is_flag, is_marker_line}, Numbers.value_behind, TokenAt.token_at}
 use Rattle.sharc_lemmas.proofs.Options.{bind_some}
 
 -- which way a test goes
@@ -24,7 +24,7 @@ pub ok_injective : {A E : Type 0} (x y : A) → ◌≡◌ {A = Result A E} (Ok x
 ok_injective x y e = cc
 
 -- as many tokens as bytes at most
-pub tokens_of-length : (place : Place) (taken offset : ℕ) (bytes : List ℕ) (tokens : List Token) → tokens_of place taken offset bytes ≡ Ok tokens → length tokens ≤ length bytes
+pub tokens_of-length : (place : SourceLine) (taken offset : ℕ) (bytes : List ℕ) (tokens : List Token) → tokens_of place taken offset bytes ≡ Ok tokens → length tokens ≤ length bytes
 tokens_of-length place taken offset [] tokens e = let none : [] ≡ tokens = ok_injective [] tokens e in omega (arith, ap length none)
 tokens_of-length place (suc taken) offset (b ∷ bytes) tokens e = let fewer = tokens_of-length place taken (offset + 1) bytes tokens e in omega arith
 tokens_of-length place zero offset (b ∷ bytes) tokens e = elim (chosen (is_white_space b) _ _ _ e) [

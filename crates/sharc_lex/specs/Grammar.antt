@@ -5,10 +5,10 @@ use Rattle.std.specs.Prelude.{◌≡◌, ℕ, ◌+◌, ◌-◌, ◌^◌, ◌<◌
 use Rattle.std.specs.Prelude.{slice_index_or, Result, Ok, Err, ok_or, if◌then◌else◌, zero, suc, codes}
 use Rattle.std.specs.List.{prefix_len}
 use Rattle.sharc_tree.specs.{declared.token.FaultAt.FaultAt, declared.token.Token.Token, declared.token.Tokens.Tokens}
-use Rattle.sharc_lex.specs.{declared.fault.Fault.Fault, declared.fault.Place.Place, declared.fault.LineFault.LineFault}
+use Rattle.sharc_lex.specs.{declared.fault.TokenFault.TokenFault, declared.fault.SourceLine.SourceLine, declared.fault.LineFault.LineFault}
 use Rattle.sharc_lex.specs.{declared.token_at.Lexeme.Lexeme, Bytes.{is_blank, is_white_space}, Faults.text_of}
 use Rattle.sharc_lex.specs.{Files.{with_file, place_of}, Markers.{is_marker_line, marker}, TokenAt.token_at}
-use Rattle.sharc_lex.specs.declared.fault.Fault.TheVariants as fault
+use Rattle.sharc_lex.specs.declared.fault.TokenFault.TheVariants as fault
 
 infixl 10 ◌>>=◌
 abbrev pub ◌>>=◌ : {A B E : Type 0} → Result A E → (A → Result B E) → Result B E
@@ -26,12 +26,12 @@ lines_of [] = [] ∷ []
 lines_of (b ∷ bytes) = if b == 10 then [] ∷ lines_of bytes else in_front b (lines_of bytes)
 
 -- the fault of a line at an offset
-abbrev pub at_offset : {A : Type 0} → ℕ → Result A Fault → Result A LineFault
+abbrev pub at_offset : {A : Type 0} → ℕ → Result A TokenFault → Result A LineFault
 at_offset offset (Ok x) = Ok x
 at_offset offset (Err fault) = Err (record { offset = offset; fault = fault })
 
 -- the token that lies at an offset, at the front of the bytes
-abbrev pub token : Place → ℕ → List ℕ → Lexeme → Token
+abbrev pub token : SourceLine → ℕ → List ℕ → Lexeme → Token
 token place offset bytes found = record {
   kind = found.kind;
   text = take found.len bytes;
@@ -43,7 +43,7 @@ token place offset bytes found = record {
 
 -- The tokens of a line's bytes, of which the first lies at an offset. This many bytes at the front belong to the token
 -- before them.
-abbrev pub tokens_of : Place → ℕ → ℕ → List ℕ → Result (List Token) LineFault
+abbrev pub tokens_of : SourceLine → ℕ → ℕ → List ℕ → Result (List Token) LineFault
 tokens_of place taken offset [] = Ok []
 tokens_of place (suc taken) offset (b ∷ bytes) = tokens_of place taken (offset + 1) bytes
 tokens_of place zero offset (b ∷ bytes) =
@@ -59,7 +59,7 @@ behind_tokens before (Ok tokens) = Ok (before ++ tokens)
 behind_tokens before (Err found) = Err found
 
 -- of a line's bytes at an offset this many at the front have been read, which gave the tokens that are new
-pub record Steps (old new : List Token) (place : Place) (offset : ℕ) (bytes : List ℕ) (len : ℕ) : Type 0 where
+pub record Steps (old new : List Token) (place : SourceLine) (offset : ℕ) (bytes : List ℕ) (len : ℕ) : Type 0 where
   pub some : 0 < len
   pub within : len ≤ length bytes
   pub read : behind_tokens old (tokens_of place 0 offset bytes)
@@ -70,8 +70,8 @@ pub record Steps (old new : List Token) (place : Place) (offset : ℕ) (bytes : 
 pub record Read : Type 0 where
   pub tokens : List Token
   pub files : List (List ℕ)
-  pub here : Place
-  pub next : Place
+  pub here : SourceLine
+  pub next : SourceLine
 
 -- before the first line: the first file is `input`, and lines are counted from 1
 abbrev pub opening : Read
@@ -114,7 +114,7 @@ abbrev pub line_read : Read → ℕ → List ℕ → Result Read LineFault
 line_read read offset line = if is_marker_line line then marker_line read offset line else text_line read offset line
 
 -- a fault with the place of its line
-abbrev pub fault_at : List (List ℕ) → Place → LineFault → FaultAt Fault
+abbrev pub fault_at : List (List ℕ) → SourceLine → LineFault → FaultAt TokenFault
 fault_at files place found = record {
   code = found.fault;
   file = slice_index_or files place.file [];
@@ -123,12 +123,12 @@ fault_at files place found = record {
   text = text_of found.fault;
 }
 
-abbrev pub with_place : Read → Result Read LineFault → Result Read (FaultAt Fault)
+abbrev pub with_place : Read → Result Read LineFault → Result Read (FaultAt TokenFault)
 with_place read (Ok more) = Ok more
 with_place read (Err found) = Err (fault_at read.files read.next found)
 
 -- lines, of which the first begins at an offset, after what was read before them
-abbrev pub lines_read : Read → ℕ → List (List ℕ) → Result Read (FaultAt Fault)
+abbrev pub lines_read : Read → ℕ → List (List ℕ) → Result Read (FaultAt TokenFault)
 lines_read read offset [] = Ok read
 lines_read read offset (line ∷ lines) =
     with_place read (line_read read offset line) >>= λ more. lines_read more (offset + length line + 1) lines
@@ -142,7 +142,7 @@ tokens_read read = record {
 }
 
 -- the tokens of a source, or its first fault
-unfoldable pub reading : List ℕ → Result Tokens (FaultAt Fault)
+unfoldable pub reading : List ℕ → Result Tokens (FaultAt TokenFault)
 reading source = lines_read opening 0 (lines_of source) >>= λ read. Ok (tokens_read read)
 
 -- What stays within the limits, up to an offset: each line has a byte and a newline at least, and names one file at

@@ -5,14 +5,14 @@ use Rattle.std.specs.Prelude.{◌≡◌, ℕ, ◌+◌, ◌-◌, ◌<◌, ◌≤�
 use Rattle.std.specs.Prelude.{slice_index_or, slice_range, All, Contains, Some, Result, Ok}
 use Rattle.sharc_tree.specs.{declared.token.FaultAt.FaultAt, declared.token.Token.Token, declared.token.Tokens.Tokens}
 use Rattle.sharc_tree.specs.declared.token.TokenKind.{TokenKind}
-use Rattle.sharc_lex.specs.{declared.fault.Fault.Fault, declared.fault.LexFault.LexFault}
+use Rattle.sharc_lex.specs.{declared.fault.TokenFault.TokenFault, declared.fault.LexFault.LexFault}
 use Rattle.sharc_lex.specs.{declared.token_at.Lexeme.Lexeme, Bytes.{is_white_space, is_letter, is_digit}}
 use Rattle.sharc_lex.specs.{Characters.character, Lines.{line_at, BeginsLine, StandsIn}, Markers.is_marker_line}
 use Rattle.sharc_lex.specs.{Punctuators.punctuators, TokenAt.{LiesIn, word_at, number_at}}
 use Rattle.sharc_lex.specs.declared.fault.LexFault.TheVariants as lex
 
 -- a text that is a word, a number or a character constant as a whole, and what it is
-abbrev pub IsRun : (ℕ → Bool) → (List ℕ → Result Lexeme Fault) → List ℕ → TokenKind → Type 0
+abbrev pub IsRun : (ℕ → Bool) → (List ℕ → Result Lexeme TokenFault) → List ℕ → TokenKind → Type 0
 IsRun begins read [] kind = ⊥
 IsRun begins read (b ∷ bytes) kind =
     (begins b ≡ true) × (read (b ∷ bytes) ≡ Ok (record { len = length (b ∷ bytes); kind = kind }))
@@ -72,7 +72,7 @@ pub record AreTokensOf (source : List ℕ) (tokens : Tokens) : Type 0 where
   pub end_placed : StandsIn source (length source) (name_in tokens.files tokens.end.file) tokens.end.line
 
 -- a fault lies in the source, and in the file and the line in which its offset lies
-pub record IsFaultIn (source : List ℕ) (found : FaultAt Fault) : Type 0 where
+pub record IsFaultIn (source : List ℕ) (found : FaultAt TokenFault) : Type 0 where
   pub within : found.offset ≤ length source
   pub stands : StandsIn source found.offset found.file found.line
 

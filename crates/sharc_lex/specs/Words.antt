@@ -5,8 +5,8 @@ use Rattle.std.specs.Str.{bytes_eq}
 use Rattle.sharc_tree.specs.declared.token.TokenKind.{TokenKind}
 use Rattle.sharc_tree.specs.declared.token.TokenKind.TheVariants as kind
 use Rattle.sharc_tree.specs.declared.token.Keyword.TheVariants as keyword
-use Rattle.sharc_lex.specs.declared.fault.Fault.{Fault}
-use Rattle.sharc_lex.specs.declared.fault.Fault.TheVariants as fault
+use Rattle.sharc_lex.specs.declared.fault.TokenFault.{TokenFault}
+use Rattle.sharc_lex.specs.declared.fault.TokenFault.TheVariants as fault
 
 -- what a table has at a text
 abbrev pub entry_at : List (List ℕ × TokenKind) → List ℕ → Option TokenKind
@@ -82,6 +82,6 @@ abbrev pub is_keyword : List ℕ → Bool
 is_keyword text = is_some (entry_at keywords text)
 
 -- a word is a keyword where the table has it, and else an identifier, of at most 64 bytes
-abbrev pub word : List ℕ → Result TokenKind Fault
+abbrev pub word : List ℕ → Result TokenKind TokenFault
 word text =
     if nat_le (length text) 64 then Ok (unwrap_or (entry_at keywords text) kind.Identifier) else Err fault.Identifier

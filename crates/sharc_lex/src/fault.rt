@@ -2,7 +2,7 @@
 
 ghost use Rattle.std.specs.Prelude.{◌≡◌, IfOk};
 ghost use Rattle.sharc_lex.specs.Faults.{digit_of, text_of};
-ghost use Rattle.sharc_lex.specs.declared.fault.Failure.TheVariants.{Memory};
+ghost use Rattle.sharc_lex.specs.declared.fault.LineFailure.TheVariants.{Memory};
 
 use sharc_tree::name::Name;
 use sharc_tree::token::FaultAt;
@@ -10,7 +10,7 @@ use std::alloc::{AllocError, AllocFailed, Global};
 
 /// What is wrong where a token or a line marker should be.
 #[derive(Clone, Copy, Debug)]
-pub enum Fault {
+pub enum TokenFault {
     /// L1: this byte begins no token.
     Byte(u8),
     /// L2: a digit begins no number.
@@ -23,17 +23,17 @@ pub enum Fault {
     Character,
 }
 
-impl Fault {
+impl TokenFault {
     /// The digit of the code.
     pub fn digit(self) -> u8
         ensures { result ≡ digit_of self }
     {
         match self {
-            Fault::Byte(_) => 1,
-            Fault::Number => 2,
-            Fault::Marker => 3,
-            Fault::Identifier => 4,
-            Fault::Character => 5,
+            TokenFault::Byte(_) => 1,
+            TokenFault::Number => 2,
+            TokenFault::Marker => 3,
+            TokenFault::Identifier => 4,
+            TokenFault::Character => 5,
         }
     }
 
@@ -42,7 +42,7 @@ impl Fault {
         ensures { IfOk result (λ text. text ≡ text_of self) }
     {
         let mut text = Vec::new(alloc);
-        if let Fault::Byte(byte) = self {
+        if let TokenFault::Byte(byte) = self {
             text.push(byte)?;
         }
         Ok(Name::of(text))
@@ -53,12 +53,12 @@ impl Fault {
 #[derive(Clone, Copy)]
 pub struct LineFault {
     pub offset: usize,
-    pub fault: Fault,
+    pub fault: TokenFault,
 }
 
 /// Where a line is.
 #[derive(Clone, Copy)]
-pub struct Place {
+pub struct SourceLine {
     /// The file's place in the list of files.
     pub file: u32,
     pub line: u32,
@@ -66,24 +66,24 @@ pub struct Place {
 
 /// Why a line was not read.
 #[derive(Drop)]
-pub enum Failure {
+pub enum LineFailure {
     At(LineFault),
     Memory,
 }
 
-impl From<AllocError> for Failure {
+impl From<AllocError> for LineFailure {
     ghost from_gives = { λ _ e. e ≡ Memory };
 
-    fn from(_error: AllocError) -> Failure {
-        Failure::Memory
+    fn from(_error: AllocError) -> LineFailure {
+        LineFailure::Memory
     }
 }
 
-impl<T: Drop> From<AllocFailed<T>> for Failure {
+impl<T: Drop> From<AllocFailed<T>> for LineFailure {
     ghost from_gives = { λ _ e. e ≡ Memory };
 
-    fn from(_error: AllocFailed<T>) -> Failure {
-        Failure::Memory
+    fn from(_error: AllocFailed<T>) -> LineFailure {
+        LineFailure::Memory
     }
 }
 
@@ -91,7 +91,7 @@ impl<T: Drop> From<AllocFailed<T>> for Failure {
 #[derive(Debug, Drop)]
 pub enum LexFault {
     /// The first place at which the grammar of tokens does not read the source.
-    At(FaultAt<Fault>),
+    At(FaultAt<TokenFault>),
     /// There was not enough memory.
     Memory,
 }

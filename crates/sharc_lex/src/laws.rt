@@ -1,7 +1,7 @@
 //! The laws of readings, each the contract of a function that does nothing.
 
 ghost use Rattle.std.specs.Prelude.{◌≡◌, ℕ, List, Ok, Err};
-ghost use Rattle.sharc_lex.specs.declared.fault.Fault.{Fault};
+ghost use Rattle.sharc_lex.specs.declared.fault.TokenFault.{TokenFault};
 ghost use Rattle.sharc_lex.specs.Grammar.{reading};
 ghost use Rattle.sharc_lex.specs.Laws.{AreTokensOf, IsFaultIn};
 ghost use Rattle.sharc_tree.specs.declared.token.FaultAt.{FaultAt};
@@ -14,5 +14,5 @@ pub fn tokens_stand()
 
 /// The fault of a source lies in it, in its file and line.
 pub fn fault_stands()
-    ensures { (source : List ℕ) → (found : FaultAt Fault) → reading source ≡ Err found → IsFaultIn source found }
+    ensures { (source : List ℕ) → (found : FaultAt TokenFault) → reading source ≡ Err found → IsFaultIn source found }
 {}

@@ -1,6 +1,6 @@
 //! The lexer: reads the bytes of a preprocessed source into tokens with their places.
 //!
-//! The layer above may use `lex`, `LexFault`, `Fault` and `is_keyword`. What `lex` answers is `reading` of
+//! The layer above may use `lex`, `LexFault`, `TokenFault` and `is_keyword`. What `lex` answers is `reading` of
 //! specs/Grammar.antt, the grammar of tokens: the lines of a source, line markers as GCC writes them, and on every
 //! other line white space and tokens, each the longest that is there. What holds of every reading is `AreTokensOf` of
 //! specs/Laws.antt: the tokens in order, each the slice of its span and the longest token there, with white space and
@@ -21,6 +21,6 @@ mod reading;
 mod token_at;
 mod words;
 
-pub use fault::{Fault, LexFault};
+pub use fault::{TokenFault, LexFault};
 pub use reading::lex;
 pub use words::is_keyword;

@@ -5,7 +5,7 @@ ghost use Rattle.sharc_lex.specs.Faults.{Fails};
 ghost use Rattle.sharc_lex.specs.Grammar.{token, tokens_of, behind_tokens, Steps};
 
 use crate::bytes::is_white_space;
-use crate::fault::{Failure, LineFault, Place};
+use crate::fault::{LineFailure, LineFault, SourceLine};
 use crate::token_at::{Lexeme, token_at};
 use sharc_tree::name::Name;
 use sharc_tree::token::Token;
@@ -14,7 +14,7 @@ use std::alloc::{AllocError, Global};
 /// The token at the front of the bytes, which lie at an offset.
 fn make_token(
     alloc: Global,
-    place: Place,
+    place: SourceLine,
     offset: usize,
     bytes: &[u8],
     found: Lexeme,
@@ -39,10 +39,10 @@ fn make_token(
 fn step(
     alloc: Global,
     tokens: &mut Vec<Token>,
-    place: Place,
+    place: SourceLine,
     offset: usize,
     bytes: &[u8],
-) -> Result<usize, Failure>
+) -> Result<usize, LineFailure>
     requires some { 0 < length bytes.now }
     requires fits { offset + length bytes.now ≤ 2 ^ 20 }
     ensures read { IfOk result (Steps tokens.old.items tokens.new.items place offset bytes.now) }
@@ -55,7 +55,7 @@ fn step(
                 tokens.push(make_token(alloc, place, offset, bytes, found)?)?;
                 Ok(found.len)
             }
-            Err(fault) => Err(Failure::At(LineFault { offset, fault })),
+            Err(fault) => Err(LineFailure::At(LineFault { offset, fault })),
         },
         [] => unreachable!(),
     }
@@ -65,10 +65,10 @@ fn step(
 pub fn read_tokens(
     alloc: Global,
     tokens: &mut Vec<Token>,
-    place: Place,
+    place: SourceLine,
     offset: usize,
     line: &[u8],
-) -> Result<(), Failure>
+) -> Result<(), LineFailure>
     requires { offset + length line.now ≤ 2 ^ 20 }
     ensures read { OnOk result (behind_tokens tokens.old.items (tokens_of place 0 offset line.now)
         ≡ Ok tokens.new.items) }

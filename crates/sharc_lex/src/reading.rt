@@ -8,7 +8,7 @@ ghost use Rattle.sharc_lex.specs.Laws.{AreTokensOf, TellsPlace};
 ghost use Rattle.sharc_lex.specs.Grammar.{IsWithin, opening, text_line, marker_line, line_read, with_place, fault_at};
 ghost use Rattle.sharc_lex.specs.Grammar.{tokens_read, reading};
 
-use crate::fault::{Failure, Fault, LexFault, LineFault, Place};
+use crate::fault::{LineFailure, TokenFault, LexFault, LineFault, SourceLine};
 use crate::files::Files;
 use crate::lines::read_tokens;
 use crate::markers::{marker, marker_at};
@@ -21,18 +21,18 @@ pub struct Reading<'a> {
     pub tokens: Vec<Token>,
     pub files: Files<'a>,
     /// The place of the last line that was read.
-    pub here: Place,
+    pub here: SourceLine,
     /// The place of the line after it.
-    pub next: Place,
+    pub next: SourceLine,
 }
 
 /// The fault with its place.
 fn fault_at(
     alloc: Global,
     files: &Files<'_>,
-    place: Place,
+    place: SourceLine,
     found: LineFault,
-) -> Result<FaultAt<Fault>, AllocError>
+) -> Result<FaultAt<TokenFault>, AllocError>
     requires { place.file < length files.now }
     ensures { IfOk result (λ made. made ≡ fault_at files.now place found) }
 {
@@ -54,7 +54,7 @@ impl<'a> Reading<'a> {
     fn new(alloc: Global) -> Result<Self, AllocError>
         ensures { IfOk result (λ made. read_of made ≡ opening) }
     {
-        let first = Place { file: 0, line: 1 };
+        let first = SourceLine { file: 0, line: 1 };
         Ok(Reading {
             tokens: Vec::new(alloc),
             files: Files::of(alloc, b"input")?,
@@ -64,7 +64,7 @@ impl<'a> Reading<'a> {
     }
 
     /// Reads a line of text, which begins at an offset.
-    fn text_line(&mut self, alloc: Global, offset: usize, line: &[u8]) -> Result<(), Failure>
+    fn text_line(&mut self, alloc: Global, offset: usize, line: &[u8]) -> Result<(), LineFailure>
         requires fits { offset + length line.now ≤ 2 ^ 20 }
         requires room { self.old.next.line < 2 ^ 32 - 1 }
         ensures read { OnOk result (text_line (read_of self.old) offset line.now ≡ Ok (read_of self.new)) }
@@ -78,7 +78,7 @@ impl<'a> Reading<'a> {
     }
 
     /// Reads a line marker, whose `#` is at a place of the line.
-    fn marker_line(&mut self, offset: usize, start: usize, line: &'a [u8]) -> Result<(), Failure>
+    fn marker_line(&mut self, offset: usize, start: usize, line: &'a [u8]) -> Result<(), LineFailure>
         requires fits { offset + length line.now ≤ 2 ^ 20 }
         requires starts { start ≡ prefix_len is_blank line.now }
         requires within { start < length line.now }
@@ -91,21 +91,21 @@ impl<'a> Reading<'a> {
             Some(found) => {
                 let file = self.files.place(found.file)?;
                 self.here = self.next;
-                self.next = Place {
+                self.next = SourceLine {
                     file,
                     line: found.line,
                 };
                 Ok(())
             }
-            None => Err(Failure::At(LineFault {
+            None => Err(LineFailure::At(LineFault {
                 offset: offset + start,
-                fault: Fault::Marker,
+                fault: TokenFault::Marker,
             })),
         }
     }
 
     /// Reads a line of either kind.
-    fn either_line(&mut self, alloc: Global, offset: usize, line: &'a [u8]) -> Result<(), Failure>
+    fn either_line(&mut self, alloc: Global, offset: usize, line: &'a [u8]) -> Result<(), LineFailure>
         requires fits { offset + length line.now ≤ 2 ^ 20 }
         requires within { IsWithin offset (read_of self.old) }
         ensures read { OnOk result (line_read (read_of self.old) offset line.now ≡ Ok (read_of self.new)) }
@@ -130,13 +130,13 @@ impl<'a> Reading<'a> {
         let place = self.next;
         match self.either_line(alloc, offset, line) {
             Ok(()) => Ok(()),
-            Err(Failure::At(found)) => Err(LexFault::At(fault_at(
+            Err(LineFailure::At(found)) => Err(LexFault::At(fault_at(
                 alloc,
                 &self.files,
                 place,
                 found,
             )?)),
-            Err(Failure::Memory) => Err(LexFault::Memory),
+            Err(LineFailure::Memory) => Err(LexFault::Memory),
         }
     }
 

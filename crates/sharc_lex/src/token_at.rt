@@ -6,7 +6,7 @@ ghost use Rattle.sharc_lex.specs.TokenAt.{LiesIn, word_at, number_at, token_at};
 
 use crate::bytes::{is_digit, is_letter, word_len};
 use crate::characters::character;
-use crate::fault::Fault;
+use crate::fault::TokenFault;
 use crate::numbers::number;
 use crate::punctuators::punctuator;
 use crate::words::word;
@@ -21,7 +21,7 @@ pub struct Lexeme {
 }
 
 /// The word, which takes all word bytes at the front.
-fn word_at(bytes: &[u8]) -> Result<Lexeme, Fault>
+fn word_at(bytes: &[u8]) -> Result<Lexeme, TokenFault>
     ensures { result ≡ word_at bytes.now }
 {
     let len = word_len(bytes);
@@ -30,7 +30,7 @@ fn word_at(bytes: &[u8]) -> Result<Lexeme, Fault>
 }
 
 /// The number, which takes all word bytes at the front.
-fn number_at(bytes: &[u8]) -> Result<Lexeme, Fault>
+fn number_at(bytes: &[u8]) -> Result<Lexeme, TokenFault>
     ensures { result ≡ number_at bytes.now }
 {
     let len = word_len(bytes);
@@ -39,12 +39,12 @@ fn number_at(bytes: &[u8]) -> Result<Lexeme, Fault>
             let kind = TokenKind::Number(number);
             Ok(Lexeme { len, kind })
         }
-        None => Err(Fault::Number),
+        None => Err(TokenFault::Number),
     }
 }
 
 /// The token at the front of the bytes, which are a first byte, no white space, and the others.
-pub fn token_at(first: u8, others: &[u8], bytes: &[u8]) -> Result<Lexeme, Fault>
+pub fn token_at(first: u8, others: &[u8], bytes: &[u8]) -> Result<Lexeme, TokenFault>
     requires { bytes.now ≡ first ∷ others.now }
     ensures token { result ≡ token_at first others.now }
     ensures lies { IfOk result (LiesIn bytes.now) }
@@ -55,8 +55,8 @@ pub fn token_at(first: u8, others: &[u8], bytes: &[u8]) -> Result<Lexeme, Fault>
     } else if is_digit(first) {
         number_at(bytes)
     } else if first == b'\'' {
-        character(others).ok_or(Fault::Character)
+        character(others).ok_or(TokenFault::Character)
     } else {
-        punctuator(bytes).ok_or(Fault::Byte(first))
+        punctuator(bytes).ok_or(TokenFault::Byte(first))
     }
 }

@@ -3,7 +3,7 @@
 ghost use Rattle.std.specs.Prelude.{◌≡◌, length, map};
 ghost use Rattle.sharc_lex.specs.Words.{entry_at, keywords, is_keyword, word};
 
-use crate::fault::Fault;
+use crate::fault::TokenFault;
 use sharc_tree::token::{Keyword, TokenKind};
 
 /// A text that has a kind of its own.
@@ -324,11 +324,11 @@ pub fn is_keyword(text: &[u8]) -> bool
 }
 
 /// The kind of a word (C11 6.4.1 and 6.4.2).
-pub fn word(text: &[u8]) -> Result<TokenKind, Fault>
+pub fn word(text: &[u8]) -> Result<TokenKind, TokenFault>
     ensures { result ≡ word text.now }
 {
     if text.len() > 64 {
-        return Err(Fault::Identifier);
+        return Err(TokenFault::Identifier);
     }
     Ok(keyword(text).unwrap_or(TokenKind::Identifier))
 }

@@ -1,7 +1,7 @@
 -- The paths through a function: one clause for each form of expression and statement.
 use Rattle.std.specs.Prelude.{ℕ, List, [], ◌∷◌, Option, Some, None}
-use Rattle.sharc_tree.specs.{declared.tree.declaration.Declaration.Declaration, declared.tree.expression.Access.Access}
-use Rattle.sharc_tree.specs.declared.tree.expression.Access.TheVariants.{Dot, Arrow}
+use Rattle.sharc_tree.specs.{declared.tree.declaration.Declaration.Declaration, declared.tree.expression.FieldOperator.FieldOperator}
+use Rattle.sharc_tree.specs.declared.tree.expression.FieldOperator.TheVariants.{Dot, Arrow}
 use Rattle.sharc_tree.specs.declared.tree.expression.BinaryOperator.{BinaryOperator}
 use Rattle.sharc_tree.specs.declared.tree.expression.BinaryOperator.TheVariants.{LogicalOr, LogicalAnd}
 use Rattle.sharc_tree.specs.declared.tree.expression.PlaceCall.{PlaceCall}
@@ -42,7 +42,7 @@ abbrev pub variable_named : Named → Option ℕ
 variable_named (named.Variable x) = Some x
 variable_named _ = None
 
-abbrev pub through : Access → Option ℕ → Option ℕ
+abbrev pub through : FieldOperator → Option ℕ → Option ℕ
 through Dot x = x
 through Arrow x = None
 
@@ -67,7 +67,7 @@ of_place_call Lock place nulling = place
 of_place_call Unlock place nulling = place
 of_place_call Free place nulling = first_then place nulling
 
-abbrev pub of_base : Access → Code → Code → Code
+abbrev pub of_base : FieldOperator → Code → Code → Code
 of_base Dot place pointer = place
 of_base Arrow place pointer = pointer
 

@@ -9,7 +9,7 @@ ghost use Rattle.sharc_live.specs.Flows.{flow_all, place_flow};
 use crate::variable::{nulls, reads, variable_of};
 use sharc_ctype::typed::Typed;
 use sharc_dataflow::step::Step;
-use sharc_tree::tree::{Access, BinaryOperator, Expr, PlaceCall, UnaryOperator};
+use sharc_tree::tree::{FieldOperator, BinaryOperator, Expr, PlaceCall, UnaryOperator};
 use std::alloc::AllocError;
 
 /// The source of `free` is nulled.
@@ -115,7 +115,7 @@ fn right_operand(
 #[cycle(expression)]
 fn field_base(
     typed: &Typed,
-    access: Access,
+    access: FieldOperator,
     base: &Expr,
     steps: &mut Vec<Step>,
 ) -> Result<(), AllocError>
@@ -123,8 +123,8 @@ fn field_base(
         ++ listing (of_base access (place_flow typed.now (view_expr base.now)) (flow typed.now (view_expr base.now)))) }
 {
     match access {
-        Access::Dot => place(typed, base, steps),
-        Access::Arrow => expression(typed, base, steps),
+        FieldOperator::Dot => place(typed, base, steps),
+        FieldOperator::Arrow => expression(typed, base, steps),
     }
 }
 

@@ -8,7 +8,7 @@ ghost use Rattle.sharc_live.specs.Flows.{reads, nulls, writes, through, variable
 use sharc_ctype::typed::Typed;
 use sharc_dataflow::step::Step;
 use sharc_names::fault::Named;
-use sharc_tree::tree::{Access, Expr};
+use sharc_tree::tree::{FieldOperator, Expr};
 use std::alloc::AllocError;
 
 pub(crate) fn reads(
@@ -56,12 +56,12 @@ pub(crate) fn variable_named(named: Named) -> Option<u32>
     }
 }
 
-pub(crate) fn through(access: Access, variable: Option<u32>) -> Option<u32>
+pub(crate) fn through(access: FieldOperator, variable: Option<u32>) -> Option<u32>
     ensures { result ≡ through access variable }
 {
     match access {
-        Access::Dot => variable,
-        Access::Arrow => None,
+        FieldOperator::Dot => variable,
+        FieldOperator::Arrow => None,
     }
 }
 

@@ -7,7 +7,7 @@ use Rattle.sharc_tree.specs.declared.trap.Trap.TheVariants as traps
 use Rattle.sharc_names.specs.Kinds.{Kind}
 use Rattle.sharc_ctype.specs.Resolved.{Resolution}
 use Rattle.sharc_mode.specs.Sharings.{Sharing, private, readonly, locked, racy, dynamic}
-use Rattle.sharc_meaning.specs.{Cells.{cell_of, Guard, mutex, behind, nothing, guard_of, instance_mode}, Events.{held_mutexes, holds_mutex}, Reference.{NULL, is_null, number_of}, declared.given.GivenUp.GivenUp, declared.given.GivenUp.TheVariants.{Released, Emptied}, State.{State, Out, go, over, Run, then_on, ◌>>=◌, give, done, stop, unless_stop, enters, enters_with, happens, answered, performs, gives_up, drops, holds, holds_reference, moves, moves_on, is_reference, value_of, looks_at, sets, stands}, declared.variable.Variable.Variable, Places.{Place, variable, cell, pointee, based, guarding, access_mode, cast_to, freed}, Waiting.{cell_at_place, moves_base, gives_up_base, lock_call, unlock_call, wait_call, signal_call, broadcast_call, condition_call}, Expressions.resulting, Meaning.goes_away}
+use Rattle.sharc_meaning.specs.{Cells.{cell_of, Guard, mutex, behind, nothing, guard_of, instance_mode}, Events.{held_mutexes, holds_mutex}, Reference.{NULL, is_null, number_of}, declared.given.GivenUp.GivenUp, declared.given.GivenUp.TheVariants.{Released, Emptied}, State.{State, Out, go, over, Run, then_on, ◌>>=◌, give, done, stop, unless_stop, enters, enters_with, happens, answered, performs, gives_up, drops, holds, holds_reference, moves, moves_on, is_reference, value_of, looks_at, sets, stands}, declared.variable.Variable.Variable, Places.{StorePlace, variable, cell, pointee, based, guarding, access_mode, cast_to, freed}, Waiting.{cell_at_place, moves_base, gives_up_base, lock_call, unlock_call, wait_call, signal_call, broadcast_call, condition_call}, Expressions.resulting, Meaning.goes_away}
 use Rattle.sharc_dataflow.specs.Flow.{Next, Ends}
 use Rattle.sharc_live.specs.Flows.{goes_on}
 use Rattle.sharc_live_laws.proofs.{Ways.{way_goes, way_stays}, Along.{Any, onward, Along, Reached, moved_not}}
@@ -132,21 +132,21 @@ calm_freed site v = calm_then (calm_gives_up (Emptied (number_of v) ∷ [])) (λ
 
 -- ---- mutexes and condition variables
 
-calm_moves_base : (p : Place) → Calm (moves_base p)
+calm_moves_base : (p : StorePlace) → Calm (moves_base p)
 calm_moves_base (cell (Made n) first c) = calm_moves_on 1
 calm_moves_base (cell (Global g) first c) = calm_done
 calm_moves_base (variable x) = calm_done
 
-calm_gives_up_base : (p : Place) → Calm (gives_up_base p)
+calm_gives_up_base : (p : StorePlace) → Calm (gives_up_base p)
 calm_gives_up_base (cell (Made n) first c) = calm_gives_up (Released n ∷ [])
 calm_gives_up_base (cell (Global g) first c) = calm_done
 calm_gives_up_base (variable x) = calm_done
 
-pub calm_lock : (site : Site) (p : Place) → Calm (lock_call site p)
+pub calm_lock : (site : Site) (p : StorePlace) → Calm (lock_call site p)
 calm_lock site p = calm_then (calm_looks (λ s. s.events)) (λ own. calm_then (calm_unless (not (holds_mutex own (cell_at_place p))) traps.MutexAlreadyHeld site) (λ a.
     calm_then (calm_unless (nat_lt (length (held_mutexes own)) 16) traps.TooManyLocks site) (λ b. calm_then (calm_performs site (events.Lock (cell_at_place p))) (λ c. calm_moves_base p))))
 
-pub calm_unlock : (site : Site) (p : Place) → Calm (unlock_call site p)
+pub calm_unlock : (site : Site) (p : StorePlace) → Calm (unlock_call site p)
 calm_unlock site p = calm_then (calm_looks (λ s. s.events)) (λ own. calm_then (calm_unless (holds_mutex own (cell_at_place p)) traps.MutexNotHeld site) (λ a.
     calm_then (calm_performs site (events.Unlock (cell_at_place p))) (λ b. calm_gives_up_base p)))
 

@@ -1,6 +1,6 @@
 -- Actions that cover others: what stands, shows or hits in these does so in those.
 use Rattle.std.proofs.Common.{ℕ, List, [], ◌∷◌, ◌++◌, ◌⊎◌, inl, inr}
-use Rattle.sharc_dataflow.specs.Flow.{Act, Writes, Spares, Clear, Stands, Shows, Hits}
+use Rattle.sharc_dataflow.specs.Flow.{Act, Writes, Spares, Clear, NullingStands, Shows, Hits}
 
 module _ (x : ℕ) where
   -- ---- what holds of two lists in turn
@@ -35,34 +35,34 @@ module _ (x : ℕ) where
   shows_second r [] b k h = h
   shows_second r (e ∷ a) b k h = inr (k.0, shows_second r a b k.1 h)
 
-  stands_cases : (k : ℕ) (a b : List Act) → Stands x k (a ++ b) → (Stands x k a × Clear x b) ⊎ Stands x k b
+  stands_cases : (k : ℕ) (a b : List Act) → NullingStands x k (a ++ b) → (NullingStands x k a × Clear x b) ⊎ NullingStands x k b
   stands_cases k [] b h = inr h
   stands_cases k (e ∷ a) b (inl h) = inl (inl (h.0, clear_first a b h.1), clear_second a b h.1)
   stands_cases k (e ∷ a) b (inr h) = later (stands_cases k a b h)
     where
-      later : (Stands x k a × Clear x b) ⊎ Stands x k b → (Stands x k (e ∷ a) × Clear x b) ⊎ Stands x k b
+      later : (NullingStands x k a × Clear x b) ⊎ NullingStands x k b → (NullingStands x k (e ∷ a) × Clear x b) ⊎ NullingStands x k b
       later (inl i) = inl (inr i.0, i.1)
       later (inr i) = inr i
 
-  stands_first : (k : ℕ) (a b : List Act) → Stands x k a → Clear x b → Stands x k (a ++ b)
+  stands_first : (k : ℕ) (a b : List Act) → NullingStands x k a → Clear x b → NullingStands x k (a ++ b)
   stands_first k [] b h l = absurd h
   stands_first k (e ∷ a) b (inl h) l = inl (h.0, clear_both a b h.1 l)
   stands_first k (e ∷ a) b (inr h) l = inr (stands_first k a b h l)
 
-  stands_second : (k : ℕ) (a b : List Act) → Stands x k b → Stands x k (a ++ b)
+  stands_second : (k : ℕ) (a b : List Act) → NullingStands x k b → NullingStands x k (a ++ b)
   stands_second k [] b h = h
   stands_second k (e ∷ a) b h = inr (stands_second k a b h)
 
-  hits_cases : (k r : ℕ) (a b : List Act) → Hits x k r (a ++ b) → Hits x k r a ⊎ ((Stands x k a × Shows x r b) ⊎ Hits x k r b)
+  hits_cases : (k r : ℕ) (a b : List Act) → Hits x k r (a ++ b) → Hits x k r a ⊎ ((NullingStands x k a × Shows x r b) ⊎ Hits x k r b)
   hits_cases k r [] b h = inr (inr h)
   hits_cases k r (e ∷ a) b (inl h) = across (shows_cases r a b h.1)
     where
-      across : Shows x r a ⊎ (Clear x a × Shows x r b) → Hits x k r (e ∷ a) ⊎ ((Stands x k (e ∷ a) × Shows x r b) ⊎ Hits x k r b)
+      across : Shows x r a ⊎ (Clear x a × Shows x r b) → Hits x k r (e ∷ a) ⊎ ((NullingStands x k (e ∷ a) × Shows x r b) ⊎ Hits x k r b)
       across (inl i) = inl (inl (h.0, i))
       across (inr i) = inr (inl (inl (h.0, i.0), i.1))
   hits_cases k r (e ∷ a) b (inr h) = later (hits_cases k r a b h)
     where
-      later : Hits x k r a ⊎ ((Stands x k a × Shows x r b) ⊎ Hits x k r b) → Hits x k r (e ∷ a) ⊎ ((Stands x k (e ∷ a) × Shows x r b) ⊎ Hits x k r b)
+      later : Hits x k r a ⊎ ((NullingStands x k a × Shows x r b) ⊎ Hits x k r b) → Hits x k r (e ∷ a) ⊎ ((NullingStands x k (e ∷ a) × Shows x r b) ⊎ Hits x k r b)
       later (inl i) = inl (inr i)
       later (inr (inl i)) = inr (inl (inr i.0, i.1))
       later (inr (inr i)) = inr (inr i)
@@ -72,7 +72,7 @@ module _ (x : ℕ) where
   hits_first k r (e ∷ a) b (inl h) = inl (h.0, shows_first r a b h.1)
   hits_first k r (e ∷ a) b (inr h) = inr (hits_first k r a b h)
 
-  hits_across : (k r : ℕ) (a b : List Act) → Stands x k a → Shows x r b → Hits x k r (a ++ b)
+  hits_across : (k r : ℕ) (a b : List Act) → NullingStands x k a → Shows x r b → Hits x k r (a ++ b)
   hits_across k r [] b h l = absurd h
   hits_across k r (e ∷ a) b (inl h) l = inl (h.0, shows_second r a b h.1 l)
   hits_across k r (e ∷ a) b (inr h) l = inr (hits_across k r a b h l)
@@ -86,7 +86,7 @@ module _ (x : ℕ) where
   pub record Covers (us l : List Act) : Type 0 where
     pub hits : (k r : ℕ) → Hits x k r us → Hits x k r l
     pub shows : (r : ℕ) → Shows x r us → Shows x r l
-    pub stands : (k : ℕ) → Stands x k us → Stands x k l
+    pub stands : (k : ℕ) → NullingStands x k us → NullingStands x k l
     pub clear : Clear x us → Clear x l
 
   pub covers_same : (us : List Act) → Covers us us
@@ -100,7 +100,7 @@ module _ (x : ℕ) where
     clear = λ h. clear_both b d (p.clear (clear_first a c h)) (q.clear (clear_second a c h));
   }
     where
-      hit : (k r : ℕ) → Hits x k r a ⊎ ((Stands x k a × Shows x r c) ⊎ Hits x k r c) → Hits x k r (b ++ d)
+      hit : (k r : ℕ) → Hits x k r a ⊎ ((NullingStands x k a × Shows x r c) ⊎ Hits x k r c) → Hits x k r (b ++ d)
       hit k r (inl h) = hits_first k r b d (p.hits k r h)
       hit k r (inr (inl h)) = hits_across k r b d (p.stands k h.0) (q.shows r h.1)
       hit k r (inr (inr h)) = hits_second k r b d (q.hits k r h)
@@ -109,7 +109,7 @@ module _ (x : ℕ) where
       shown r (inl h) = shows_first r b d (p.shows r h)
       shown r (inr h) = shows_second r b d (p.clear h.0) (q.shows r h.1)
 
-      standing : (k : ℕ) → (Stands x k a × Clear x c) ⊎ Stands x k c → Stands x k (b ++ d)
+      standing : (k : ℕ) → (NullingStands x k a × Clear x c) ⊎ NullingStands x k c → NullingStands x k (b ++ d)
       standing k (inl h) = stands_first k b d (p.stands k h.0) (q.clear h.1)
       standing k (inr h) = stands_second k b d (q.stands k h)
 
@@ -128,6 +128,6 @@ module _ (x : ℕ) where
       shown r (inl h) = inl h
       shown r (inr h) = absurd (h.1)
 
-      standing : (k : ℕ) → Stands x k (Writes x ∷ []) → Stands x k (Writes x ∷ (Writes x ∷ []))
+      standing : (k : ℕ) → NullingStands x k (Writes x ∷ []) → NullingStands x k (Writes x ∷ (Writes x ∷ []))
       standing k (inl h) = inr (inl (h.0, tt))
       standing k (inr h) = absurd h

@@ -10,7 +10,7 @@ use Rattle.sharc_mode.specs.Sharings.{Sharing}
 use Rattle.sharc_dataflow.specs.{Flow.{Act, Reads, Nulls, Writes, Spares, To, Next, goes, done, through}, Code.{Code, acts, first_then}}
 use Rattle.sharc_live.specs.Flows.{goes_on, declares_flow}
 use Rattle.sharc_live.specs.Flows as flows
-use Rattle.sharc_meaning.specs.{Reference.{NULL, is_null}, State.{Use, reads, writes, nulls, Run, traces, reads_variable, writes_variable, value_of, new_variable, begins_with}, Places.{Place, variable, cell, fetched, stored, nulled, taken_from}}
+use Rattle.sharc_meaning.specs.{Reference.{NULL, is_null}, State.{Use, reads, writes, nulls, Run, traces, reads_variable, writes_variable, value_of, new_variable, begins_with}, Places.{StorePlace, variable, cell, fetched, stored, nulled, taken_from}}
 use Rattle.sharc_live_laws.proofs.{Covering.{Covers, covers_same, covers_both, covers_spared, covers_twice}, Ways.{Way, way_goes, way_does, idle_ends, idle_behind}, Along.{act_of, only_if, shown_if, Any, onward, Along, along_as, then_idle, idle_then, shown}, Calm.{Calm, calm_then, idle, calm_give, calm_looks, calm_sets, calm_stands, calm_either, calm_answered, calm_performs, calm_drops, calm_holds, calm_moves, calm_gives_up, calm_done, calm_mode}}
 
 -- the code of a use of the local, if it is one
@@ -24,7 +24,7 @@ is_named None x = false
 is_named (Some y) x = y == x
 
 -- a place that is this local
-abbrev pub is_at : Place → ℕ → Bool
+abbrev pub is_at : StorePlace → ℕ → Bool
 is_at (variable y) x = y == x
 is_at (cell o first c) x = false
 
@@ -112,16 +112,16 @@ module _ (r : Resolution) (x : ℕ) where
   nulls_along : (site : Site) (y : ℕ) (o : Option ℕ) → (y == x) ≡ is_named o x → Along r x (flows.nulls o site.token) onward Any (nulled site y)
   nulls_along site y o e = then_idle r x (along_use nulls y o site e) (λ w k. idle r x (calm_sets y NULL))
 
-  pub fetched_along : (site : Site) (mode : Sharing) (p : Place) (o : Option ℕ) → is_at p x ≡ is_named o x → Along r x (flows.reads o site.token) onward Any (fetched r site mode p)
+  pub fetched_along : (site : Site) (mode : Sharing) (p : StorePlace) (o : Option ℕ) → is_at p x ≡ is_named o x → Along r x (flows.reads o site.token) onward Any (fetched r site mode p)
   fetched_along site mode (variable y) o e = reads_along site y o e
   fetched_along site mode (cell object first c) o e = along_unnamed reads o site.token (sym e) (calm_then (calm_mode r site mode object first) (λ under. calm_answered site _))
 
-  pub stored_along : (site : Site) (kind : Kind) (mode : Sharing) (p : Place) (v : ℤ) (o : Option ℕ) → is_at p x ≡ is_named o x → Along r x (flows.writes o) onward Any (stored r site kind mode p v)
+  pub stored_along : (site : Site) (kind : Kind) (mode : Sharing) (p : StorePlace) (v : ℤ) (o : Option ℕ) → is_at p x ≡ is_named o x → Along r x (flows.writes o) onward Any (stored r site kind mode p v)
   stored_along site kind mode (variable y) v o e = idle_then r x (idle r x (calm_looks (λ s. value_of s y))) (λ old k. then_idle r x (writes_along site y v o e) (λ w l. idle r x (calm_drops kind old)))
   stored_along site kind mode (cell object first c) v o e = along_unnamed writes o 0 (sym e) (calm_then (calm_holds kind v) (λ a. calm_then (calm_mode r site mode object first) (λ under.
       calm_then (calm_performs site _) (λ b. calm_then (calm_moves kind) (λ d. calm_either (is_pointer kind) (calm_gives_up _) calm_done)))))
 
-  pub taken_along : (token site : Site) (mode : Sharing) (kind : TakeKind) (p : Place) (o : Option ℕ) → is_at p x ≡ is_named o x → Along r x (flows.nulls o token.token) onward Any (taken_from r token site mode kind p)
+  pub taken_along : (token site : Site) (mode : Sharing) (kind : TakeKind) (p : StorePlace) (o : Option ℕ) → is_at p x ≡ is_named o x → Along r x (flows.nulls o token.token) onward Any (taken_from r token site mode kind p)
   taken_along token site mode kind (variable y) o e = idle_then r x (idle r x (calm_looks (λ s. value_of s y))) (λ v k. idle_then r x (idle r x (calm_either (is_null v) (calm_give v) (calm_answered site (events.Take (taken.Local y) kind)))) (λ a l.
       then_idle r x (nulls_along token y o e) (λ b n. idle r x (calm_give v))))
   taken_along token site mode kind (cell object first c) o e = along_unnamed nulls o token.token (sym e) (calm_then (calm_mode r site mode object first) (λ under. calm_answered site _))

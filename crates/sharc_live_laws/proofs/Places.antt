@@ -1,7 +1,7 @@
 -- Places: the code that finds one, and the local that it is.
 use Rattle.std.proofs.{Common.{◌≡◌, ℕ, Bool, true, false, cond, ◌==◌, List, [], Option, Some, None, refl, ◌∙◌, subst, append-nil}, lemmas.Bool.both_ways}
 use Rattle.std.specs.Prelude.{ℤ, pos, negsuc, nat_lt}
-use Rattle.sharc_tree.specs.{declared.event.Object.Object, declared.event.Object.TheVariants.{Global, Made}, declared.token.Site.Site, declared.token.Span.Span, declared.tree.expression.Access.Access, declared.tree.expression.Access.TheVariants.{Dot, Arrow}, declared.tree.expression.UnaryOperator.UnaryOperator, declared.tree.expression.UnaryOperator.TheVariants.{Negate, Not, Complement, Dereference}, declared.trap.Trap.Trap, Tree.{Expression, identifier, constant, parentheses, call, spawn, on_value, on_place, cast, index, field, unary, binary, Function}}
+use Rattle.sharc_tree.specs.{declared.event.Object.Object, declared.event.Object.TheVariants.{Global, Made}, declared.token.Site.Site, declared.token.Span.Span, declared.tree.expression.FieldOperator.FieldOperator, declared.tree.expression.FieldOperator.TheVariants.{Dot, Arrow}, declared.tree.expression.UnaryOperator.UnaryOperator, declared.tree.expression.UnaryOperator.TheVariants.{Negate, Not, Complement, Dereference}, declared.trap.Trap.Trap, Tree.{Expression, identifier, constant, parentheses, call, spawn, on_value, on_place, cast, index, field, unary, binary, Function}}
 use Rattle.sharc_tree.specs.declared.trap.Trap.TheVariants as traps
 use Rattle.sharc_names.specs.{declared.fault.Named.Named, Kinds.{Kind, is_array, element_kind, int, long}}
 use Rattle.sharc_names.specs.declared.fault.Named.TheVariants as named
@@ -9,7 +9,7 @@ use Rattle.sharc_ctype.specs.{declared.expr.OperatorClass.OperatorClass, declare
 use Rattle.sharc_dataflow.specs.{Flow.{Act, To, Next, Broken, Continued, Ends}, Code.{Code, first_then, one_of}}
 use Rattle.sharc_live.specs.Flows.{goes_on, variable_named, variable_of, through, of_base, of_operand, flow, place_flow}
 use Rattle.sharc_live.specs.Flows as flows
-use Rattle.sharc_meaning.specs.{Cells.{element_cells, global_elements, field_place_named}, Reference.{number_of, elements_of}, State.{Run, ◌>>=◌, ◌>>◌, give, stop, entered}, Places.{Place, variable, cell, no_place, place_named, pointee, field_in, based, element, element_of_array, index_place, pointee_place, field_place, unary_place}}
+use Rattle.sharc_meaning.specs.{Cells.{element_cells, global_elements, field_place_named}, Reference.{number_of, elements_of}, State.{Run, ◌>>=◌, ◌>>◌, give, stop, entered}, Places.{StorePlace, variable, cell, no_place, place_named, pointee, field_in, based, element, element_of_array, index_place, pointee_place, field_place, unary_place}}
 use Rattle.sharc_live_laws.proofs.{Ways.{Way, way_goes, way_stays, way_then, way_leaves, way_one, way_other}, Along.{Any, onward, Along, along_as, moved_not, gives, binds, then_idle, idle_then}, Calm.{Calm, calm_enters, calm_based, idle}, Locals.{is_named, is_at, unseen, way_read_more}}
 
 -- ---- what no array is
@@ -39,7 +39,7 @@ called_no_array r named.Known = refl
 
 module _ (r : Resolution) (x : ℕ) where
   -- the place is this local, or is not
-  abbrev pub Spot : Bool → Place → Type 0
+  abbrev pub Spot : Bool → StorePlace → Type 0
   Spot b p = is_at p x ≡ b
 
   abbrev pub names : Expression → Bool
@@ -64,7 +64,7 @@ module _ (r : Resolution) (x : ℕ) where
   pub then_calm : {A B : Type 0} {c : Code} {m : Run A} {f : A → Run B} → Along r x c onward Any m → ((v : A) → Calm (f v)) → Along r x c onward Any (m >>= f)
   then_calm h k = then_idle r x h (λ v l. idle r x (k v))
 
-  gives_place : (p : Place) (b : Bool) → is_at p x ≡ b → Along r x goes_on onward (Spot b) (give p)
+  gives_place : (p : StorePlace) (b : Bool) → is_at p x ≡ b → Along r x goes_on onward (Spot b) (give p)
   gives_place p b h = gives r x goes_on onward (Spot b) p (way_goes x Next) h
 
   element_along : (site : Site) (o : Object) (cells elements : ℕ) (i : ℤ) → Along r x goes_on onward (Spot false) (element site o cells elements i)
@@ -74,11 +74,11 @@ module _ (r : Resolution) (x : ℕ) where
   pub pointee_along : (site : Site) (a : Expression) (pointer : Run ℤ) (c : Code) → Along r x c onward Any pointer → Along r x c onward (Spot false) (pointee_place r site a pointer)
   pointee_along site a pointer c h = then_idle r x h (λ p k. idle_then r x (idle r x (calm_based site (kind_at r a) p)) (λ v l. gives_place (pointee p) false refl))
 
-  field_same : (n : ℕ) (p : Place) → is_at (field_in n p) x ≡ is_at p x
+  field_same : (n : ℕ) (p : StorePlace) → is_at (field_in n p) x ≡ is_at p x
   field_same n (variable y) = refl
   field_same n (cell o first c) = refl
 
-  pub field_along : (site : Site) (a : Expression) (w : Access) (n : Named) (base : Run Place) (pointer : Run ℤ) → Along r x (place_flow r a) onward (Spot (names a)) base → Along r x (flow r a) onward Any pointer
+  pub field_along : (site : Site) (a : Expression) (w : FieldOperator) (n : Named) (base : Run StorePlace) (pointer : Run ℤ) → Along r x (place_flow r a) onward (Spot (names a)) base → Along r x (flow r a) onward Any pointer
       → Along r x (of_base w (place_flow r a) (flow r a)) onward (Spot (is_named (through w (variable_of r a)) x)) (field_place r site a w n base pointer)
   field_along site a Dot n base pointer hb hp = then_idle r x hb (λ p e. gives_place (field_in (field_place_named r n) p) (names a) (field_same (field_place_named r n) p ∙ e))
   field_along site a Arrow n base pointer hb hp = then_idle r x (pointee_along site a pointer (flow r a) hp) (λ p e. gives_place (field_in (field_place_named r n) p) false (field_same (field_place_named r n) p ∙ e))
@@ -117,18 +117,18 @@ module _ (r : Resolution) (x : ℕ) where
   wider (unary s o a) h = unary_wider o s a h
   wider (binary s o at a b) h = none_such (binary s o at a b) (result_no_array (class_of o) (kind_at r a) (kind_at r b)) h
 
-  wider_along : (a : Expression) (base : Run Place) → is_array (kind_at r a) ≡ true → Along r x (place_flow r a) onward (Spot (names a)) base → Along r x (flow r a) (onward {A = Place}) Any base
+  wider_along : (a : Expression) (base : Run StorePlace) → is_array (kind_at r a) ≡ true → Along r x (place_flow r a) onward (Spot (names a)) base → Along r x (flow r a) (onward {A = StorePlace}) Any base
   wider_along a base e h = along_as r x (λ v us w. wider a e Next us w) (λ us w. wider a e Ends us w) (λ v k. tt {0}) h
 
   -- ---- what needs a local that is no token 0
 
   module _ (is_local : (0 == x) ≡ false) where
-    array_along : (site : Site) (cells : ℕ) (p : Place) (i : ℤ) → Along r x goes_on onward (Spot false) (element_of_array r site cells p i)
+    array_along : (site : Site) (cells : ℕ) (p : StorePlace) (i : ℤ) → Along r x goes_on onward (Spot false) (element_of_array r site cells p i)
     array_along site cells (cell (Global g) first c) i = element_along site (Global g) cells (global_elements (global_at r g)) i
     array_along site cells (cell (Made n) first c) i = gives_place no_place false is_local
     array_along site cells (variable y) i = gives_place no_place false is_local
 
-    pub index_along : (site : Site) (a i : Expression) (base : Run Place) (pointer number : Run ℤ) → Along r x (place_flow r a) onward (Spot (names a)) base → Along r x (flow r a) onward Any pointer → Along r x (flow r i) onward Any number
+    pub index_along : (site : Site) (a i : Expression) (base : Run StorePlace) (pointer number : Run ℤ) → Along r x (place_flow r a) onward (Spot (names a)) base → Along r x (flow r a) onward Any pointer → Along r x (flow r i) onward Any number
         → Along r x (first_then (flow r a) (flow r i)) onward (Spot false) (index_place r site a base pointer number)
     index_along site a i base pointer number hb hp hi = by_kind (is_array (kind_at r a)) refl
       where

@@ -11,7 +11,7 @@ use Rattle.sharc_mode.specs.{Cells.{cell_at, pointed}, Moded.Assignment, Rows.ca
 use Rattle.sharc_dataflow.specs.Code.{Code, first_then}
 use Rattle.sharc_live.specs.Flows.{goes_on, variable_named, variable_of, through, of_operands, of_place_call, of_base, flow, flow_all, place_flow}
 use Rattle.sharc_live.specs.Flows as flows
-use Rattle.sharc_meaning.specs.{Arithmetic.{bits_of, fits, is_zero, truth, operated, negated, complement}, Reference.{is_null, constant_value}, State.{Run, ◌>>=◌, temporarily}, Places.{Place, cell, pointee_place}, Expressions.{Calls, tested, operand, fitting, passed, named_value, called, number_named, value_act, resulting, spawned, value_called, taking, place_called, cast_value, place_value, unary_value, binary_value, eval, eval_all, place_of}}
+use Rattle.sharc_meaning.specs.{Arithmetic.{bits_of, fits, is_zero, truth, operated, negated, complement}, Reference.{is_null, constant_value}, State.{Run, ◌>>=◌, temporarily}, Places.{StorePlace, cell, pointee_place}, Expressions.{Calls, tested, operand, fitting, passed, named_value, called, number_named, value_act, resulting, spawned, value_called, taking, place_called, cast_value, place_value, unary_value, binary_value, eval, eval_all, place_of}}
 use Rattle.sharc_live_laws.proofs.{Along.{Any, onward, Along, binds, then_idle, scoped}, Calm.{calm_then, idle, calm_give, calm_done, calm_unless, calm_either, calm_answered, calm_performs, calm_drops, calm_holds, calm_moves, calm_resulting, calm_cast, calm_freed, calm_lock, calm_unlock, calm_condition}, Locals.{is_named, reads_along, fetched_along, taken_along}, Places.{Spot, names, either_along, one_along, other_along, entered_along, then_calm, pointee_along, field_along, index_along, named_along, no_place_along, unary_place_along}}
 
 module _ (m : Assignment) (x : ℕ) where
@@ -48,26 +48,26 @@ module _ (m : Assignment) (x : ℕ) where
 
   -- ---- places
 
-  abbrev AtPlace : Expression → Run Place → Type 0
+  abbrev AtPlace : Expression → Run StorePlace → Type 0
   AtPlace a n = Along m.typed x (place_flow m.typed a) onward (Spot m.typed x (names m.typed x a)) n
 
-  taking_along : (s : Span) (kind : TakeKind) (a : Expression) (place : Run Place) → AtPlace a place → Runs (first_then (place_flow m.typed a) (flows.nulls (variable_of m.typed a) s.first.token)) (taking m s kind a place)
+  taking_along : (s : Span) (kind : TakeKind) (a : Expression) (place : Run StorePlace) → AtPlace a place → Runs (first_then (place_flow m.typed a) (flows.nulls (variable_of m.typed a) s.first.token)) (taking m s kind a place)
   taking_along s kind a place h = scoped m.typed x (binds m.typed x h (λ p e. taken_along m.typed x s.first (span_of a).first (cell_at m a) kind p (variable_of m.typed a) e))
 
-  place_called_along : (s : Span) (w : PlaceCall) (a : Expression) (place : Run Place) → AtPlace a place
+  place_called_along : (s : Span) (w : PlaceCall) (a : Expression) (place : Run StorePlace) → AtPlace a place
       → Runs (of_place_call w (place_flow m.typed a) (flows.nulls (variable_of m.typed a) s.first.token)) (place_called m s w a place)
   place_called_along s Lock a place h = scoped m.typed x (then_idle m.typed x h (λ p e. idle m.typed x (calm_lock s.first p)))
   place_called_along s Unlock a place h = scoped m.typed x (then_idle m.typed x h (λ p e. idle m.typed x (calm_unlock s.first p)))
   place_called_along s Free a place h = then_calm m.typed x (taking_along s ToFree a place h) (λ v. calm_either (is_null v) calm_done (calm_freed (span_of a).first v))
 
-  cast_along : (s : Span) (a : Expression) (place : Run Place) → AtPlace a place → Runs (first_then (place_flow m.typed a) (flows.nulls (variable_of m.typed a) s.first.token)) (cast_value m s a place)
+  cast_along : (s : Span) (a : Expression) (place : Run StorePlace) → AtPlace a place → Runs (first_then (place_flow m.typed a) (flows.nulls (variable_of m.typed a) s.first.token)) (cast_value m s a place)
   cast_along s a place h = then_calm m.typed x (taking_along s Cast a place h) (λ v. calm_either (is_null v) (calm_give v) (calm_cast m.typed (span_of a).first (pointed m (Some (cast_row m.typed s))) v))
 
   -- the value at a place that is no local, and at one that may be
-  place_value_along : (e : Expression) (place : Run Place) (c : Code) → Along m.typed x c onward (Spot m.typed x false) place → Runs c (place_value m e place)
+  place_value_along : (e : Expression) (place : Run StorePlace) (c : Code) → Along m.typed x c onward (Spot m.typed x false) place → Runs c (place_value m e place)
   place_value_along e place c h = scoped m.typed x (then_idle m.typed x h (λ p k. fetched_along m.typed x (span_of e).first (cell_at m e) p None k))
 
-  part_value_along : (e : Expression) (place : Run Place) (c : Code) (o : Option ℕ) → Along m.typed x c onward (Spot m.typed x (is_named o x)) place → Runs (first_then c (flows.reads o (span_of e).first.token)) (place_value m e place)
+  part_value_along : (e : Expression) (place : Run StorePlace) (c : Code) (o : Option ℕ) → Along m.typed x c onward (Spot m.typed x (is_named o x)) place → Runs (first_then c (flows.reads o (span_of e).first.token)) (place_value m e place)
   part_value_along e place c o h = scoped m.typed x (binds m.typed x h (λ p k. fetched_along m.typed x (span_of e).first (cell_at m e) p o k))
 
   -- ---- operators

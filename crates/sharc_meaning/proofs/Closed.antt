@@ -1,11 +1,11 @@
 -- What holds of every run: what the parts of the meaning keep, by one induction on the syntax.
 use Rattle.std.specs.{Prelude.{ℕ, zero, suc, ℤ, pos, negsuc, Bool, true, false, cond, not, List, [], ◌∷◌, ◌++◌, length, drop, slice_index_or, unsigned_abs, Option, Some, None, Result, Ok, Err, nat_lt, codes}, Str.bytes_eq}
-use Rattle.sharc_tree.specs.{declared.event.Act.Act, declared.event.Object.Object, declared.event.Object.TheVariants.{Global, Made}, declared.event.TakeKind.TakeKind, declared.token.Site.Site, declared.token.Span.Span, declared.tree.declaration.Declaration.Declaration, declared.tree.expression.Access.Access, declared.tree.expression.Access.TheVariants.{Dot, Arrow}, declared.tree.expression.BinaryOperator.BinaryOperator, declared.tree.expression.BinaryOperator.TheVariants.{LogicalOr, LogicalAnd}, declared.tree.expression.PlaceCall.PlaceCall, declared.tree.expression.PlaceCall.TheVariants.{Lock, Unlock, Free}, declared.tree.expression.UnaryOperator.UnaryOperator, declared.tree.expression.UnaryOperator.TheVariants.{Negate, Not, Complement, Dereference}, declared.tree.expression.ValueCall.ValueCall, Tree.{Expression, identifier, constant, parentheses, call, spawn, on_value, on_place, cast, index, field, unary, binary, Arguments, no_arguments, argument, Right, value, malloc, Simple, assign, does_call, Local, First, nothing, declares, does, Statement, empty, block, declare, simple, jump, return, if_then, if_then_else, while, for, Statements, no_statements, statement, Function}, declared.event.CellMode.TheVariants.{Readonly, Locked}, declared.event.TakeKind.TheVariants.{Cast, Free as ToFree}, declared.trap.Trap.Trap, Spans.span_of}
+use Rattle.sharc_tree.specs.{declared.event.Act.Act, declared.event.Object.Object, declared.event.Object.TheVariants.{Global, Made}, declared.event.TakeKind.TakeKind, declared.token.Site.Site, declared.token.Span.Span, declared.tree.declaration.Declaration.Declaration, declared.tree.expression.FieldOperator.FieldOperator, declared.tree.expression.FieldOperator.TheVariants.{Dot, Arrow}, declared.tree.expression.BinaryOperator.BinaryOperator, declared.tree.expression.BinaryOperator.TheVariants.{LogicalOr, LogicalAnd}, declared.tree.expression.PlaceCall.PlaceCall, declared.tree.expression.PlaceCall.TheVariants.{Lock, Unlock, Free}, declared.tree.expression.UnaryOperator.UnaryOperator, declared.tree.expression.UnaryOperator.TheVariants.{Negate, Not, Complement, Dereference}, declared.tree.expression.ValueCall.ValueCall, Tree.{Expression, identifier, constant, parentheses, call, spawn, on_value, on_place, cast, index, field, unary, binary, Arguments, no_arguments, argument, Right, value, malloc, Simple, assign, does_call, Local, First, nothing, declares, does, Statement, empty, block, declare, simple, jump, return, if_then, if_then_else, while, for, Statements, no_statements, statement, Function}, declared.event.CellMode.TheVariants.{Readonly, Locked}, declared.event.TakeKind.TheVariants.{Cast, Free as ToFree}, declared.trap.Trap.Trap, Spans.span_of}
 use Rattle.sharc_names.specs.{declared.fault.Named.Named, Kinds.{Kind, is_pointer, is_array, element_kind, declared_kind, declared_kinds, promoted}}
 use Rattle.sharc_names.specs.declared.fault.Named.TheVariants as named
 use Rattle.sharc_ctype.specs.{Resolved.{Resolution, named_at, kind_at, function_at}, Expressions.{class_of, binary_result}, Transfers.parameters_named}
 use Rattle.sharc_mode.specs.{Moded.Assignment, Sharings.{Sharing, private, readonly, locked, racy, dynamic}, Cells.{cell_at, pointed}, Rows.{written, row_at, declared_row, cast_row}}
-use Rattle.sharc_meaning.specs.{Cells.{cell_of, element_cells, Guard, mutex, behind, nothing as no_mutex, guard_of, instance_mode}, Arithmetic.{bits_of, fits, is_zero, truth, operated, negated, complement}, Events.{held_mutexes, holds_mutex}, Reference.{NULL, is_null, number_of, elements_of, constant_value}, declared.given.GivenUp.GivenUp, declared.given.GivenUp.TheVariants.{Released, Replaced, Emptied}, State.{Frame, Use, writes, nulls, go, new_variable, with_value, with_temporary, without_temporaries, Run, Step, ◌>>=◌, give, stop, unless_stop, entered, answered, performs, gives_up, drops, holds, holds_reference, moves, moves_on, is_reference, temporarily, value_of, looks_at, traces, sets, reads_variable, writes_variable, begins_with, in_block}, Places.{Place, variable, cell, no_place, place_named, pointee, based, element, element_of_array, index_place, pointee_place, field_place, unary_place, guarding, access_mode, fetched, stored, taken_from, cast_to, freed}, Waiting.{cell_at_place, moves_base, gives_up_base, lock_call, unlock_call, wait_call, signal_call, broadcast_call, condition_call}, Expressions.{Calls, resulting, tested, operand, fitting, passed, named_value, called, number_named, value_act, spawned, value_called, taking, place_called, cast_value, place_value, unary_value, binary_value, eval, eval_all, place_of}, Statements.{Flow, next, broken, continued, returned, on_next, loop, left_by, elements_made, is_positive, right_value, done_simple, initialised, declared, done_first, done_step, done_test, return_with, exec, exec_all}, Meaning.{parameters_begin, left_at, in_frame, run_function, call_value, calls, goes_away, run_thread}}
+use Rattle.sharc_meaning.specs.{Cells.{cell_of, element_cells, Guard, mutex, behind, nothing as no_mutex, guard_of, instance_mode}, Arithmetic.{bits_of, fits, is_zero, truth, operated, negated, complement}, Events.{held_mutexes, holds_mutex}, Reference.{NULL, is_null, number_of, elements_of, constant_value}, declared.given.GivenUp.GivenUp, declared.given.GivenUp.TheVariants.{Released, Replaced, Emptied}, State.{Frame, Use, writes, nulls, go, new_variable, with_value, with_temporary, without_temporaries, Run, Step, ◌>>=◌, give, stop, unless_stop, entered, answered, performs, gives_up, drops, holds, holds_reference, moves, moves_on, is_reference, temporarily, value_of, looks_at, traces, sets, reads_variable, writes_variable, begins_with, in_block}, Places.{StorePlace, variable, cell, no_place, place_named, pointee, based, element, element_of_array, index_place, pointee_place, field_place, unary_place, guarding, access_mode, fetched, stored, taken_from, cast_to, freed}, Waiting.{cell_at_place, moves_base, gives_up_base, lock_call, unlock_call, wait_call, signal_call, broadcast_call, condition_call}, Expressions.{Calls, resulting, tested, operand, fitting, passed, named_value, called, number_named, value_act, spawned, value_called, taking, place_called, cast_value, place_value, unary_value, binary_value, eval, eval_all, place_of}, Statements.{Flow, next, broken, continued, returned, on_next, loop, left_by, elements_made, is_positive, right_value, done_simple, initialised, declared, done_first, done_step, done_test, return_with, exec, exec_all}, Meaning.{parameters_begin, left_at, in_frame, run_function, call_value, calls, goes_away, run_thread}}
 use Rattle.sharc_tree.specs.declared.event.Act.TheVariants as acts
 use Rattle.sharc_tree.specs.declared.event.Taken.TheVariants as taken
 use Rattle.sharc_tree.specs.declared.trap.Trap.TheVariants as traps
@@ -81,12 +81,12 @@ module _ (Q : Bool → (A : Type 0) → Run A → Type 0) (q : Closed Q) where
   element_kept site o cells elements (pos n) = either (nat_lt n elements) _ _ _ (q.give _ _) (q.stop _ _ site)
   element_kept site o cells elements (negsuc n) = q.stop _ _ site
 
-  array_kept : (r : Resolution) (site : Site) (cells : ℕ) (p : Place) (i : ℤ) → Keeps (element_of_array r site cells p i)
+  array_kept : (r : Resolution) (site : Site) (cells : ℕ) (p : StorePlace) (i : ℤ) → Keeps (element_of_array r site cells p i)
   array_kept r site cells (cell (Global g) first c) i = element_kept site (Global g) cells _ i
   array_kept r site cells (cell (Made n) first c) i = q.give _ _
   array_kept r site cells (variable x) i = q.give _ _
 
-  index_kept : (r : Resolution) (site : Site) (a : Expression) (array : Run Place) (pointer i : Run ℤ) → Keeps array → Keeps pointer → Keeps i → Keeps (index_place r site a array pointer i)
+  index_kept : (r : Resolution) (site : Site) (a : Expression) (array : Run StorePlace) (pointer i : Run ℤ) → Keeps array → Keeps pointer → Keeps i → Keeps (index_place r site a array pointer i)
   index_kept r site a array pointer i ha hp hi = either (is_array (kind_at r a)) _ _ _
       (q.binds _ _ _ _ ha (λ base. q.binds _ _ _ _ hi (λ n. array_kept r site (element_cells r (element_kind (kind_at r a))) base n)))
       (q.binds _ _ _ _ hp (λ p. q.binds _ _ _ _ (based_kept site (kind_at r a) p) (λ _. q.binds _ _ _ _ hi (λ n. element_kept site (Made (number_of p)) (element_cells r (element_kind (kind_at r a))) (elements_of p) n))))
@@ -94,7 +94,7 @@ module _ (Q : Bool → (A : Type 0) → Run A → Type 0) (q : Closed Q) where
   pointee_kept : (r : Resolution) (site : Site) (a : Expression) (pointer : Run ℤ) → Keeps pointer → Keeps (pointee_place r site a pointer)
   pointee_kept r site a pointer h = q.binds _ _ _ _ h (λ p. q.binds _ _ _ _ (based_kept site (kind_at r a) p) (λ _. q.give _ (pointee p)))
 
-  field_kept : (r : Resolution) (site : Site) (a : Expression) (w : Access) (n : Named) (base : Run Place) (pointer : Run ℤ) → Keeps base → Keeps pointer → Keeps (field_place r site a w n base pointer)
+  field_kept : (r : Resolution) (site : Site) (a : Expression) (w : FieldOperator) (n : Named) (base : Run StorePlace) (pointer : Run ℤ) → Keeps base → Keeps pointer → Keeps (field_place r site a w n base pointer)
   field_kept r site a Dot n base pointer hb hp = q.binds _ _ _ _ hb (λ p. q.give _ _)
   field_kept r site a Arrow n base pointer hb hp = q.binds _ _ _ _ (pointee_kept r site a pointer hp) (λ p. q.give _ _)
 
@@ -117,16 +117,16 @@ module _ (Q : Bool → (A : Type 0) → Run A → Type 0) (q : Closed Q) where
   mode_kept r site racy o first = q.give _ _
   mode_kept r site dynamic o first = q.give _ _
 
-  fetched_kept : (r : Resolution) (site : Site) (mode : Sharing) (p : Place) → Keeps (fetched r site mode p)
+  fetched_kept : (r : Resolution) (site : Site) (mode : Sharing) (p : StorePlace) → Keeps (fetched r site mode p)
   fetched_kept r site mode (variable x) = reads_kept site x
   fetched_kept r site mode (cell o first c) = q.binds _ _ _ _ (mode_kept r site mode o first) (λ under. q.event site (acts.Read (cell_of o c) under))
 
-  stored_kept : (r : Resolution) (site : Site) (kind : Kind) (mode : Sharing) (p : Place) (v : ℤ) → Keeps (stored r site kind mode p v)
+  stored_kept : (r : Resolution) (site : Site) (kind : Kind) (mode : Sharing) (p : StorePlace) (v : ℤ) → Keeps (stored r site kind mode p v)
   stored_kept r site kind mode (variable x) v = q.binds _ _ _ _ (looks x) (λ old. q.binds _ _ _ _ (writes_kept site x v) (λ _. drops_kept kind old))
   stored_kept r site kind mode (cell o first c) v = q.binds _ _ _ _ (holds_kept kind v) (λ _. q.binds _ _ _ _ (mode_kept r site mode o first) (λ under.
       q.binds _ _ _ _ (performs_kept site (acts.Write (cell_of o c) under v)) (λ _. q.binds _ _ _ _ (moves_kept kind) (λ _. either (is_pointer kind) _ _ _ (q.given (Replaced (cell_of o c) ∷ [])) (q.give _ tt)))))
 
-  taken_kept : (r : Resolution) (token site : Site) (mode : Sharing) (kind : TakeKind) (p : Place) → Keeps (taken_from r token site mode kind p)
+  taken_kept : (r : Resolution) (token site : Site) (mode : Sharing) (kind : TakeKind) (p : StorePlace) → Keeps (taken_from r token site mode kind p)
   taken_kept r token site mode kind (variable x) = q.binds _ _ _ _ (looks x) (λ v. q.binds _ _ _ _ (either (is_null v) _ _ _ (q.give _ v) (q.event site (acts.Take (taken.Local x) kind))) (λ _.
       q.binds _ _ _ _ (q.binds _ _ _ _ (q.trace nulls x token) (λ _. sets_kept x NULL)) (λ _. q.give _ v)))
   taken_kept r token site mode kind (cell o first c) = q.binds _ _ _ _ (mode_kept r site mode o first) (λ under. q.event site (acts.Take (taken.Cell (cell_of o c) under) kind))
@@ -138,21 +138,21 @@ module _ (Q : Bool → (A : Type 0) → Run A → Type 0) (q : Closed Q) where
   freed_kept site v = q.binds _ _ _ _ (q.given (Emptied (number_of v) ∷ [])) (λ _. q.binds _ _ _ _ (held_kept v) (λ _. q.binds _ _ _ _ (performs_kept site (acts.Freed v)) (λ _. moved_kept 1)))
 
   -- ---- mutexes and condition variables
-  moves_base_kept : (p : Place) → Keeps (moves_base p)
+  moves_base_kept : (p : StorePlace) → Keeps (moves_base p)
   moves_base_kept (cell (Made n) first c) = moved_kept 1
   moves_base_kept (cell (Global g) first c) = q.give _ tt
   moves_base_kept (variable x) = q.give _ tt
 
-  gives_up_base_kept : (p : Place) → Keeps (gives_up_base p)
+  gives_up_base_kept : (p : StorePlace) → Keeps (gives_up_base p)
   gives_up_base_kept (cell (Made n) first c) = q.given (Released n ∷ [])
   gives_up_base_kept (cell (Global g) first c) = q.give _ tt
   gives_up_base_kept (variable x) = q.give _ tt
 
-  lock_kept : (site : Site) (p : Place) → Keeps (lock_call site p)
+  lock_kept : (site : Site) (p : StorePlace) → Keeps (lock_call site p)
   lock_kept site p = q.binds _ _ _ _ q.events (λ own. q.binds _ _ _ _ (unless (not (holds_mutex own (cell_at_place p))) traps.MutexAlreadyHeld site) (λ _.
       q.binds _ _ _ _ (unless (nat_lt (length (held_mutexes own)) 16) traps.TooManyLocks site) (λ _. q.binds _ _ _ _ (performs_kept site (acts.Lock (cell_at_place p))) (λ _. moves_base_kept p))))
 
-  unlock_kept : (site : Site) (p : Place) → Keeps (unlock_call site p)
+  unlock_kept : (site : Site) (p : StorePlace) → Keeps (unlock_call site p)
   unlock_kept site p = q.binds _ _ _ _ q.events (λ own. q.binds _ _ _ _ (unless (holds_mutex own (cell_at_place p)) traps.MutexNotHeld site) (λ _.
       q.binds _ _ _ _ (performs_kept site (acts.Unlock (cell_at_place p))) (λ _. gives_up_base_kept p)))
 
@@ -205,18 +205,18 @@ module _ (Q : Bool → (A : Type 0) → Run A → Type 0) (q : Closed Q) where
   value_called_kept : (site : Site) (w : ValueCall) (of_a : Run ℤ) → Keeps of_a → Keeps (value_called site w of_a)
   value_called_kept site w of_a h = q.binds _ _ _ _ h (λ v. q.binds _ _ _ _ (performs_kept site (value_act w v)) (λ _. q.give _ (pos 0)))
 
-  taking_kept : (m : Assignment) (s : Span) (kind : TakeKind) (a : Expression) (place : Run Place) → Keeps place → Keeps (taking m s kind a place)
+  taking_kept : (m : Assignment) (s : Span) (kind : TakeKind) (a : Expression) (place : Run StorePlace) → Keeps place → Keeps (taking m s kind a place)
   taking_kept m s kind a place h = q.scope _ _ (q.binds _ _ _ _ h (λ p. taken_kept m.typed s.first (span_of a).first (cell_at m a) kind p))
 
-  place_called_kept : (m : Assignment) (s : Span) (w : PlaceCall) (a : Expression) (place : Run Place) → Keeps place → Keeps (place_called m s w a place)
+  place_called_kept : (m : Assignment) (s : Span) (w : PlaceCall) (a : Expression) (place : Run StorePlace) → Keeps place → Keeps (place_called m s w a place)
   place_called_kept m s Lock a place h = q.scope _ _ (q.binds _ _ _ _ h (λ p. lock_kept s.first p))
   place_called_kept m s Unlock a place h = q.scope _ _ (q.binds _ _ _ _ h (λ p. unlock_kept s.first p))
   place_called_kept m s Free a place h = q.binds _ _ _ _ (taking_kept m s ToFree a place h) (λ v. either (is_null v) _ _ _ (q.give _ tt) (freed_kept (span_of a).first v))
 
-  cast_value_kept : (m : Assignment) (s : Span) (a : Expression) (place : Run Place) → Keeps place → Keeps (cast_value m s a place)
+  cast_value_kept : (m : Assignment) (s : Span) (a : Expression) (place : Run StorePlace) → Keeps place → Keeps (cast_value m s a place)
   cast_value_kept m s a place h = q.binds _ _ _ _ (taking_kept m s Cast a place h) (λ v. either (is_null v) _ _ _ (q.give _ v) (cast_kept m.typed (span_of a).first (pointed m (Some (cast_row m.typed s))) v))
 
-  place_value_kept : (m : Assignment) (e : Expression) (place : Run Place) → Keeps place → Keeps (place_value m e place)
+  place_value_kept : (m : Assignment) (e : Expression) (place : Run StorePlace) → Keeps place → Keeps (place_value m e place)
   place_value_kept m e place h = q.scope _ _ (q.binds _ _ _ _ h (λ p. fetched_kept m.typed (span_of e).first (cell_at m e) p))
 
   unary_kept : (m : Assignment) (s : Span) (o : UnaryOperator) (a : Expression) (of_a : Run ℤ) → Keeps of_a → Keeps (unary_value m s o a of_a)
@@ -261,7 +261,7 @@ module _ (Q : Bool → (A : Type 0) → Run A → Type 0) (q : Closed Q) where
       all_kept kinds no_arguments = q.give _ []
       all_kept kinds (argument a rest) = q.binds _ _ _ _ (passed_kept m.typed kinds a _ (q.eases _ _ (eval_kept a))) (λ v. q.binds _ _ _ _ (all_kept (drop 1 kinds) rest) (λ vs. q.give _ (v ∷ vs)))
 
-      place_kept : (site : Site) (e : Expression) → Q true Place (place_of on_call m site e)
+      place_kept : (site : Site) (e : Expression) → Q true StorePlace (place_of on_call m site e)
       place_kept site (identifier s i) = q.enters _ _ (q.give _ (place_named (named_at m.typed i.site.token)))
       place_kept site (parentheses s a) = q.enters _ _ (q.eases _ _ (place_kept site a))
       place_kept site (index s a i) = q.enters _ _ (index_kept m.typed site a _ _ _ (q.eases _ _ (place_kept site a)) (q.eases _ _ (eval_kept a)) (q.eases _ _ (eval_kept i)))

@@ -26,7 +26,7 @@ use Rattle.sharc_meaning.specs.Arithmetic.{bits_of, fits, is_zero, truth, operat
 use Rattle.sharc_meaning.specs.Reference.{is_null, constant_value}
 use Rattle.sharc_meaning.specs.State.{Run, Step, ◌>>=◌, ◌>>◌, give, done, stop, unless_stop, entered, answered}
 use Rattle.sharc_meaning.specs.State.{performs, drops, holds, moves, temporarily, reads_variable}
-use Rattle.sharc_meaning.specs.Places.{Place, cell, no_place, place_named, index_place, pointee_place, field_place}
+use Rattle.sharc_meaning.specs.Places.{StorePlace, cell, no_place, place_named, index_place, pointee_place, field_place}
 use Rattle.sharc_meaning.specs.Places.{unary_place, fetched, taken_from, cast_to, freed}
 use Rattle.sharc_meaning.specs.Waiting.{lock_call, unlock_call, condition_call}
 
@@ -100,12 +100,12 @@ value_called site w of_a = do
   give (pos 0)
 
 -- a base is held until what is taken is taken
-abbrev pub taking : Assignment → Span → TakeKind → Expression → Run Place → Run ℤ
+abbrev pub taking : Assignment → Span → TakeKind → Expression → Run StorePlace → Run ℤ
 taking m s kind a place = temporarily (do
   p ← place
   taken_from m.typed s.first (span_of a).first (cell_at m a) kind p)
 
-abbrev pub place_called : Assignment → Span → PlaceCall → Expression → Run Place → Step
+abbrev pub place_called : Assignment → Span → PlaceCall → Expression → Run StorePlace → Step
 place_called m s Lock a place = temporarily (do
   p ← place
   lock_call s.first p)
@@ -116,13 +116,13 @@ place_called m s Free a place = do
   v ← taking m s ToFree a place
   if is_null v then done else freed (span_of a).first v
 
-abbrev pub cast_value : Assignment → Span → Expression → Run Place → Run ℤ
+abbrev pub cast_value : Assignment → Span → Expression → Run StorePlace → Run ℤ
 cast_value m s a place = do
   v ← taking m s Cast a place
   if is_null v then give v else cast_to m.typed (span_of a).first (pointed m (Some (cast_row m.typed s))) v
 
 -- the base of a place is held until the access is done
-abbrev pub place_value : Assignment → Expression → Run Place → Run ℤ
+abbrev pub place_value : Assignment → Expression → Run StorePlace → Run ℤ
 place_value m e place = temporarily (do
   p ← place
   fetched m.typed (span_of e).first (cell_at m e) p)
@@ -186,7 +186,7 @@ abbrev mutual
     give (v ∷ vs)
 
   -- what an lvalue names; its stops are placed at the first token of the whole lvalue
-  pub place_of : Calls → Assignment → Site → Expression → Run Place
+  pub place_of : Calls → Assignment → Site → Expression → Run StorePlace
   place_of on_call m site (identifier s i) = entered (give (place_named (named_at m.typed i.site.token)))
   place_of on_call m site (parentheses s a) = entered (place_of on_call m site a)
   place_of on_call m site (index s a i) =

@@ -5,8 +5,8 @@ use Rattle.sharc_tree.specs.{declared.event.CellAt.CellAt, declared.event.CellMo
 use Rattle.sharc_tree.specs.declared.event.CellMode.TheVariants.{Private, Readonly, Locked, Racy, Dynamic}
 use Rattle.sharc_tree.specs.{declared.event.Object.Object, declared.event.Object.TheVariants.{Global, Made}}
 use Rattle.sharc_tree.specs.{declared.event.TakeKind.TakeKind, declared.token.Site.Site}
-use Rattle.sharc_tree.specs.declared.tree.expression.Access.{Access}
-use Rattle.sharc_tree.specs.declared.tree.expression.Access.TheVariants.{Dot, Arrow}
+use Rattle.sharc_tree.specs.declared.tree.expression.FieldOperator.{FieldOperator}
+use Rattle.sharc_tree.specs.declared.tree.expression.FieldOperator.TheVariants.{Dot, Arrow}
 use Rattle.sharc_tree.specs.declared.tree.expression.UnaryOperator.{UnaryOperator}
 use Rattle.sharc_tree.specs.{declared.tree.expression.UnaryOperator.TheVariants.Dereference, Tree.Expression}
 use Rattle.sharc_tree.specs.declared.event.Taken.TheVariants as taken
@@ -26,23 +26,23 @@ use Rattle.sharc_meaning.specs.State.{traces, sets, reads_variable, writes_varia
 -- ---- places
 
 -- what an lvalue names: a variable, or a cell of an object in the element that begins at the cell given first
-pub data Place : Type 0 where
-  variable : ℕ → Place
-  cell : Object → ℕ → ℕ → Place
+pub data StorePlace : Type 0 where
+  variable : ℕ → StorePlace
+  cell : Object → ℕ → ℕ → StorePlace
 
-abbrev pub no_place : Place
+abbrev pub no_place : StorePlace
 no_place = variable 0
 
-abbrev pub place_named : Named → Place
+abbrev pub place_named : Named → StorePlace
 place_named (named.Variable token) = variable token
 place_named (named.Global n) = cell (Global n) 0 0
 place_named _ = no_place
 
 -- the first element of what a pointer refers to
-abbrev pub pointee : ℤ → Place
+abbrev pub pointee : ℤ → StorePlace
 pointee p = cell (Made (number_of p)) 0 0
 
-abbrev pub field_in : ℕ → Place → Place
+abbrev pub field_in : ℕ → StorePlace → StorePlace
 field_in n (variable x) = variable x
 field_in n (cell o first c) = cell o first (first + n)
 
@@ -53,18 +53,18 @@ based site kind p = do
   unless_stop (not (is_null p)) traps.NullPointer site
 
 -- an element with this many cells, of this many elements; an index outside stops
-abbrev pub element : Site → Object → ℕ → ℕ → ℤ → Run Place
+abbrev pub element : Site → Object → ℕ → ℕ → ℤ → Run StorePlace
 element site o cells elements (pos n) =
     if nat_lt n elements then give (cell o (n * cells) (n * cells)) else stop traps.IndexOutOfBounds site
 element site o cells elements (negsuc n) = stop traps.IndexOutOfBounds site
 
-abbrev pub element_of_array : Resolution → Site → ℕ → Place → ℤ → Run Place
+abbrev pub element_of_array : Resolution → Site → ℕ → StorePlace → ℤ → Run StorePlace
 element_of_array r site cells (cell (Global g) first c) i =
     element site (Global g) cells (global_elements (global_at r g)) i
 element_of_array r site cells _ i = give no_place
 
 -- `a[i]`: of a global array, or of what a pointer refers to; the base is looked at before the index
-abbrev pub index_place : Resolution → Site → Expression → Run Place → Run ℤ → Run ℤ → Run Place
+abbrev pub index_place : Resolution → Site → Expression → Run StorePlace → Run ℤ → Run ℤ → Run StorePlace
 index_place r site a array pointer i =
     if is_array (kind_at r a)
     then (do
@@ -78,14 +78,14 @@ index_place r site a array pointer i =
       element site (Made (number_of p)) (element_cells r (element_kind (kind_at r a))) (elements_of p) n)
 
 -- `*a`
-abbrev pub pointee_place : Resolution → Site → Expression → Run ℤ → Run Place
+abbrev pub pointee_place : Resolution → Site → Expression → Run ℤ → Run StorePlace
 pointee_place r site a pointer = do
   p ← pointer
   based site (kind_at r a) p
   give (pointee p)
 
 -- `a.n` and `a->n`
-abbrev pub field_place : Resolution → Site → Expression → Access → Named → Run Place → Run ℤ → Run Place
+abbrev pub field_place : Resolution → Site → Expression → FieldOperator → Named → Run StorePlace → Run ℤ → Run StorePlace
 field_place r site a Dot n base pointer = do
   p ← base
   give (field_in (field_place_named r n) p)
@@ -93,7 +93,7 @@ field_place r site a Arrow n base pointer = do
   p ← pointee_place r site a pointer
   give (field_in (field_place_named r n) p)
 
-abbrev pub unary_place : Resolution → Site → UnaryOperator → Expression → Run ℤ → Run Place
+abbrev pub unary_place : Resolution → Site → UnaryOperator → Expression → Run ℤ → Run StorePlace
 unary_place r site Dereference a pointer = pointee_place r site a pointer
 unary_place r site _ a pointer = give no_place
 
@@ -121,14 +121,14 @@ access_mode r site racy o first = give Racy
 access_mode r site dynamic o first = give Dynamic
 
 -- the value at a place
-abbrev pub fetched : Resolution → Site → Sharing → Place → Run ℤ
+abbrev pub fetched : Resolution → Site → Sharing → StorePlace → Run ℤ
 fetched r site mode (variable x) = reads_variable site x
 fetched r site mode (cell o first c) = do
   under ← access_mode r site mode o first
   answered site (acts.Read (cell_of o c) under)
 
 -- a value of this type to a place; the old one is given up, the reference moves in
-abbrev pub stored : Resolution → Site → Kind → Sharing → Place → ℤ → Step
+abbrev pub stored : Resolution → Site → Kind → Sharing → StorePlace → ℤ → Step
 stored r site kind mode (variable x) v = do
   old ← looks_at (λ s. value_of s x)
   writes_variable site x v
@@ -147,7 +147,7 @@ nulled token x = do
   traces nulls x token
   sets x NULL
 
-abbrev pub taken_from : Resolution → Site → Site → Sharing → TakeKind → Place → Run ℤ
+abbrev pub taken_from : Resolution → Site → Site → Sharing → TakeKind → StorePlace → Run ℤ
 taken_from r token site mode kind (variable x) = do
   v ← looks_at (λ s. value_of s x)
   if is_null v then give v else answered site (acts.Take (taken.Local x) kind)

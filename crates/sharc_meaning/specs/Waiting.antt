@@ -9,23 +9,23 @@ use Rattle.sharc_meaning.specs.{Cells.cell_of, Events.{held_mutexes, holds_mutex
 use Rattle.sharc_meaning.specs.declared.given.GivenUp.TheVariants.{Released}
 use Rattle.sharc_meaning.specs.State.{Step, ◌>>=◌, ◌>>◌, done, unless_stop, answered, performs, gives_up}
 use Rattle.sharc_meaning.specs.State.{holds_reference, moves_on, looks_at}
-use Rattle.sharc_meaning.specs.Places.{Place, variable, cell, pointee}
+use Rattle.sharc_meaning.specs.Places.{StorePlace, variable, cell, pointee}
 
-abbrev pub cell_at_place : Place → CellAt
+abbrev pub cell_at_place : StorePlace → CellAt
 cell_at_place (variable x) = cell_of (Global 0) 0
 cell_at_place (cell o first c) = cell_of o c
 
 -- the base of a mutex in an object is a reference, which a lock moves to the log of held mutexes
-abbrev pub moves_base : Place → Step
+abbrev pub moves_base : StorePlace → Step
 moves_base (cell (Made n) first c) = moves_on 1
 moves_base _ = done
 
-abbrev pub gives_up_base : Place → Step
+abbrev pub gives_up_base : StorePlace → Step
 gives_up_base (cell (Made n) first c) = gives_up (Released n ∷ [])
 gives_up_base _ = done
 
 -- a mutex that the thread holds already stops, and so does a seventeenth
-abbrev pub lock_call : Site → Place → Step
+abbrev pub lock_call : Site → StorePlace → Step
 lock_call site p = do
   own ← looks_at (λ s. s.events)
   unless_stop (not (holds_mutex own (cell_at_place p))) traps.MutexAlreadyHeld site
@@ -34,7 +34,7 @@ lock_call site p = do
   moves_base p
 
 -- a mutex that it does not hold stops
-abbrev pub unlock_call : Site → Place → Step
+abbrev pub unlock_call : Site → StorePlace → Step
 unlock_call site p = do
   own ← looks_at (λ s. s.events)
   unless_stop (holds_mutex own (cell_at_place p)) traps.MutexNotHeld site

@@ -1,11 +1,11 @@
 -- What holds of every run: what the parts of the meaning keep, by one induction on the syntax, in which a `free` is one part.
 use Rattle.std.specs.{Prelude.{◌≡◌, refl, ℕ, zero, suc, ℤ, pos, negsuc, Bool, true, false, cond, not, List, [], ◌∷◌, ◌++◌, length, drop, slice_index_or, unsigned_abs, Option, Some, None, Result, Ok, Err, nat_lt, codes}, List.AllByRecursion, Str.bytes_eq}
-use Rattle.sharc_tree.specs.{declared.event.Act.Act, declared.event.Object.Object, declared.event.Object.TheVariants.{Global, Made}, declared.token.Site.Site, declared.token.Span.Span, declared.tree.declaration.Declaration.Declaration, declared.tree.expression.Access.Access, declared.tree.expression.Access.TheVariants.{Dot, Arrow}, declared.tree.expression.BinaryOperator.BinaryOperator, declared.tree.expression.BinaryOperator.TheVariants.{LogicalOr, LogicalAnd}, declared.tree.expression.PlaceCall.PlaceCall, declared.tree.expression.PlaceCall.TheVariants.{Lock, Unlock, Free}, declared.tree.expression.UnaryOperator.UnaryOperator, declared.tree.expression.UnaryOperator.TheVariants.{Negate, Not, Complement, Dereference}, declared.tree.expression.ValueCall.ValueCall, declared.tree.expression.ValueCall.TheVariants.{Join, Print}, Tree.{Expression, identifier, constant, parentheses, call, spawn, on_value, on_place, cast, index, field, unary, binary, Arguments, no_arguments, argument, Right, value, malloc, Simple, assign, does_call, Local, First, nothing, declares, does, Statement, empty, block, declare, simple, jump, return, if_then, if_then_else, while, for, Statements, no_statements, statement, Function}, declared.event.CellMode.CellMode, declared.event.CellMode.TheVariants.{Readonly, Locked}, declared.event.TakeKind.TheVariants.Cast, declared.trap.Trap.Trap, Spans.span_of}
+use Rattle.sharc_tree.specs.{declared.event.Act.Act, declared.event.Object.Object, declared.event.Object.TheVariants.{Global, Made}, declared.token.Site.Site, declared.token.Span.Span, declared.tree.declaration.Declaration.Declaration, declared.tree.expression.FieldOperator.FieldOperator, declared.tree.expression.FieldOperator.TheVariants.{Dot, Arrow}, declared.tree.expression.BinaryOperator.BinaryOperator, declared.tree.expression.BinaryOperator.TheVariants.{LogicalOr, LogicalAnd}, declared.tree.expression.PlaceCall.PlaceCall, declared.tree.expression.PlaceCall.TheVariants.{Lock, Unlock, Free}, declared.tree.expression.UnaryOperator.UnaryOperator, declared.tree.expression.UnaryOperator.TheVariants.{Negate, Not, Complement, Dereference}, declared.tree.expression.ValueCall.ValueCall, declared.tree.expression.ValueCall.TheVariants.{Join, Print}, Tree.{Expression, identifier, constant, parentheses, call, spawn, on_value, on_place, cast, index, field, unary, binary, Arguments, no_arguments, argument, Right, value, malloc, Simple, assign, does_call, Local, First, nothing, declares, does, Statement, empty, block, declare, simple, jump, return, if_then, if_then_else, while, for, Statements, no_statements, statement, Function}, declared.event.CellMode.CellMode, declared.event.CellMode.TheVariants.{Readonly, Locked}, declared.event.TakeKind.TheVariants.Cast, declared.trap.Trap.Trap, Spans.span_of}
 use Rattle.sharc_names.specs.{declared.fault.Named.Named, Kinds.{Kind, is_pointer, is_array, element_kind, declared_kind, declared_kinds, promoted}}
 use Rattle.sharc_names.specs.declared.fault.Named.TheVariants as named
 use Rattle.sharc_ctype.specs.{Resolved.{Resolution, named_at, kind_at, function_at}, Expressions.{class_of, binary_result}, Transfers.parameters_named}
 use Rattle.sharc_mode.specs.{Moded.Assignment, Sharings.{Sharing, private, readonly, locked, racy, dynamic}, Cells.{cell_at, pointed}, Rows.{written, row_at, declared_row, cast_row}}
-use Rattle.sharc_meaning.specs.{Cells.{cell_of, element_cells, Guard, mutex, behind, nothing as no_mutex, guard_of, instance_mode}, Arithmetic.{bits_of, fits, is_zero, truth, operated, negated, complement}, Events.{held_mutexes, holds_mutex}, Reference.{NULL, is_null, number_of, elements_of, constant_value}, declared.given.GivenUp.GivenUp, declared.given.GivenUp.TheVariants.{Emptied, Released, Replaced}, References.taken_to_free, State.{Frame, Use, writes, nulls, go, new_variable, with_value, with_temporary, without_temporaries, Run, Step, ◌>>=◌, give, stop, unless_stop, entered, answered, performs, gives_up, drops, holds, holds_reference, moves, moves_on, is_reference, temporarily, value_of, looks_at, traces, sets, reads_variable, writes_variable, begins_with, in_block}, Places.{Place, variable, cell, no_place, place_named, pointee, based, element, element_of_array, index_place, pointee_place, field_place, unary_place, guarding, access_mode, fetched, stored, taken_from, cast_to}, Waiting.{cell_at_place, moves_base, gives_up_base, lock_call, unlock_call, wait_call, signal_call, broadcast_call, condition_call}, Expressions.{Calls, resulting, tested, operand, fitting, passed, named_value, called, number_named, value_act, spawned, value_called, place_called, cast_value, place_value, unary_value, binary_value, eval, eval_all, place_of}, Statements.{Flow, next, broken, continued, returned, on_next, loop, left_by, elements_made, is_positive, right_value, done_simple, initialised, declared, done_first, done_step, done_test, return_with, exec, exec_all}, Meaning.{parameters_begin, left_at, in_frame, run_function, call_value, calls, goes_away, run_thread}}
+use Rattle.sharc_meaning.specs.{Cells.{cell_of, element_cells, Guard, mutex, behind, nothing as no_mutex, guard_of, instance_mode}, Arithmetic.{bits_of, fits, is_zero, truth, operated, negated, complement}, Events.{held_mutexes, holds_mutex}, Reference.{NULL, is_null, number_of, elements_of, constant_value}, declared.given.GivenUp.GivenUp, declared.given.GivenUp.TheVariants.{Emptied, Released, Replaced}, References.taken_to_free, State.{Frame, Use, writes, nulls, go, new_variable, with_value, with_temporary, without_temporaries, Run, Step, ◌>>=◌, give, stop, unless_stop, entered, answered, performs, gives_up, drops, holds, holds_reference, moves, moves_on, is_reference, temporarily, value_of, looks_at, traces, sets, reads_variable, writes_variable, begins_with, in_block}, Places.{StorePlace, variable, cell, no_place, place_named, pointee, based, element, element_of_array, index_place, pointee_place, field_place, unary_place, guarding, access_mode, fetched, stored, taken_from, cast_to}, Waiting.{cell_at_place, moves_base, gives_up_base, lock_call, unlock_call, wait_call, signal_call, broadcast_call, condition_call}, Expressions.{Calls, resulting, tested, operand, fitting, passed, named_value, called, number_named, value_act, spawned, value_called, place_called, cast_value, place_value, unary_value, binary_value, eval, eval_all, place_of}, Statements.{Flow, next, broken, continued, returned, on_next, loop, left_by, elements_made, is_positive, right_value, done_simple, initialised, declared, done_first, done_step, done_test, return_with, exec, exec_all}, Meaning.{parameters_begin, left_at, in_frame, run_function, call_value, calls, goes_away, run_thread}}
 use Rattle.sharc_tree.specs.declared.event.Act.TheVariants as acts
 use Rattle.sharc_tree.specs.declared.event.Taken.TheVariants as taken
 use Rattle.sharc_tree.specs.declared.trap.Trap.TheVariants as traps
@@ -32,7 +32,7 @@ pub record Closed (Q : (A : Type 0) → Run A → Type 0) : Type 1 where
   pub block : (A : Type 0) (m : Run A) → Q A m → Q A (in_block m)
   pub call : (A : Type 0) (n : ℕ) (m : Run A) → Q A m → Q A (in_frame n m)
   pub loops : (test : Run Bool) (step : Step) (body : Run Flow) → Q Bool test → Q (Unit {0}) step → Q Flow body → Q Flow (loop test step body)
-  pub frees : (m : Assignment) (s : Span) (a : Expression) (place : Run Place) → Q Place place
+  pub frees : (m : Assignment) (s : Span) (a : Expression) (place : Run StorePlace) → Q StorePlace place
       → ((o : Object) (first : ℕ) → Q CellMode (access_mode m.typed (span_of a).first (cell_at m a) o first)) → Q (Unit {0}) (place_called m s Free a place)
 
 module _ (Q : (A : Type 0) → Run A → Type 0) (q : Closed Q) where
@@ -88,12 +88,12 @@ module _ (Q : (A : Type 0) → Run A → Type 0) (q : Closed Q) where
   element_kept site o cells elements (pos n) = either (nat_lt n elements) _ _ _ (q.give _ _) (q.stop _ _ site)
   element_kept site o cells elements (negsuc n) = q.stop _ _ site
 
-  array_kept : (r : Resolution) (site : Site) (cells : ℕ) (p : Place) (i : ℤ) → Keeps (element_of_array r site cells p i)
+  array_kept : (r : Resolution) (site : Site) (cells : ℕ) (p : StorePlace) (i : ℤ) → Keeps (element_of_array r site cells p i)
   array_kept r site cells (cell (Global g) first c) i = element_kept site (Global g) cells _ i
   array_kept r site cells (cell (Made n) first c) i = q.give _ _
   array_kept r site cells (variable x) i = q.give _ _
 
-  index_kept : (r : Resolution) (site : Site) (a : Expression) (array : Run Place) (pointer i : Run ℤ) → Keeps array → Keeps pointer → Keeps i → Keeps (index_place r site a array pointer i)
+  index_kept : (r : Resolution) (site : Site) (a : Expression) (array : Run StorePlace) (pointer i : Run ℤ) → Keeps array → Keeps pointer → Keeps i → Keeps (index_place r site a array pointer i)
   index_kept r site a array pointer i ha hp hi = either (is_array (kind_at r a)) _ _ _
       (q.binds _ _ _ _ ha (λ base. q.binds _ _ _ _ hi (λ n. array_kept r site (element_cells r (element_kind (kind_at r a))) base n)))
       (q.binds _ _ _ _ hp (λ p. q.binds _ _ _ _ (based_kept site (kind_at r a) p) (λ _. q.binds _ _ _ _ hi (λ n. element_kept site (Made (number_of p)) (element_cells r (element_kind (kind_at r a))) (elements_of p) n))))
@@ -101,7 +101,7 @@ module _ (Q : (A : Type 0) → Run A → Type 0) (q : Closed Q) where
   pointee_kept : (r : Resolution) (site : Site) (a : Expression) (pointer : Run ℤ) → Keeps pointer → Keeps (pointee_place r site a pointer)
   pointee_kept r site a pointer h = q.binds _ _ _ _ h (λ p. q.binds _ _ _ _ (based_kept site (kind_at r a) p) (λ _. q.give _ (pointee p)))
 
-  field_kept : (r : Resolution) (site : Site) (a : Expression) (w : Access) (n : Named) (base : Run Place) (pointer : Run ℤ) → Keeps base → Keeps pointer → Keeps (field_place r site a w n base pointer)
+  field_kept : (r : Resolution) (site : Site) (a : Expression) (w : FieldOperator) (n : Named) (base : Run StorePlace) (pointer : Run ℤ) → Keeps base → Keeps pointer → Keeps (field_place r site a w n base pointer)
   field_kept r site a Dot n base pointer hb hp = q.binds _ _ _ _ hb (λ p. q.give _ _)
   field_kept r site a Arrow n base pointer hb hp = q.binds _ _ _ _ (pointee_kept r site a pointer hp) (λ p. q.give _ _)
 
@@ -124,16 +124,16 @@ module _ (Q : (A : Type 0) → Run A → Type 0) (q : Closed Q) where
   mode_kept r site racy o first = q.give _ _
   mode_kept r site dynamic o first = q.give _ _
 
-  fetched_kept : (r : Resolution) (site : Site) (mode : Sharing) (p : Place) → Keeps (fetched r site mode p)
+  fetched_kept : (r : Resolution) (site : Site) (mode : Sharing) (p : StorePlace) → Keeps (fetched r site mode p)
   fetched_kept r site mode (variable x) = reads_kept site x
   fetched_kept r site mode (cell o first c) = q.binds _ _ _ _ (mode_kept r site mode o first) (λ under. q.event site (acts.Read (cell_of o c) under) refl)
 
-  stored_kept : (r : Resolution) (site : Site) (kind : Kind) (mode : Sharing) (p : Place) (v : ℤ) → Keeps (stored r site kind mode p v)
+  stored_kept : (r : Resolution) (site : Site) (kind : Kind) (mode : Sharing) (p : StorePlace) (v : ℤ) → Keeps (stored r site kind mode p v)
   stored_kept r site kind mode (variable x) v = q.binds _ _ _ _ (looks x) (λ old. q.binds _ _ _ _ (writes_kept site x v) (λ _. drops_kept kind old))
   stored_kept r site kind mode (cell o first c) v = q.binds _ _ _ _ (holds_kept kind v) (λ _. q.binds _ _ _ _ (mode_kept r site mode o first) (λ under.
       q.binds _ _ _ _ (performs_kept site (acts.Write (cell_of o c) under v) refl) (λ _. q.binds _ _ _ _ (moves_kept kind) (λ _. either (is_pointer kind) _ _ _ (q.given (Replaced (cell_of o c) ∷ []) (tt, tt)) (q.give _ tt)))))
 
-  taken_kept : (r : Resolution) (token site : Site) (mode : Sharing) (p : Place) → Keeps (taken_from r token site mode Cast p)
+  taken_kept : (r : Resolution) (token site : Site) (mode : Sharing) (p : StorePlace) → Keeps (taken_from r token site mode Cast p)
   taken_kept r token site mode (variable x) = q.binds _ _ _ _ (looks x) (λ v. q.binds _ _ _ _ (either (is_null v) _ _ _ (q.give _ v) (q.event site (acts.Take (taken.Local x) Cast) refl)) (λ _.
       q.binds _ _ _ _ (q.binds _ _ _ _ (q.trace nulls x token) (λ _. sets_kept x NULL)) (λ _. q.give _ v)))
   taken_kept r token site mode (cell o first c) = q.binds _ _ _ _ (mode_kept r site mode o first) (λ under. q.event site (acts.Take (taken.Cell (cell_of o c) under) Cast) refl)
@@ -142,21 +142,21 @@ module _ (Q : (A : Type 0) → Run A → Type 0) (q : Closed Q) where
   cast_kept r site mode v = q.binds _ _ _ _ (held_kept v) (λ _. q.binds _ _ _ _ q.values (λ held. q.binds _ _ _ _ (performs_kept site (acts.Give v (instance_mode r held mode)) refl) (λ _. q.binds _ _ _ _ (moved_kept 1) (λ _. q.give _ v))))
 
   -- ---- mutexes and condition variables
-  moves_base_kept : (p : Place) → Keeps (moves_base p)
+  moves_base_kept : (p : StorePlace) → Keeps (moves_base p)
   moves_base_kept (cell (Made n) first c) = moved_kept 1
   moves_base_kept (cell (Global g) first c) = q.give _ tt
   moves_base_kept (variable x) = q.give _ tt
 
-  gives_up_base_kept : (p : Place) → Keeps (gives_up_base p)
+  gives_up_base_kept : (p : StorePlace) → Keeps (gives_up_base p)
   gives_up_base_kept (cell (Made n) first c) = q.given (Released n ∷ []) (tt, tt)
   gives_up_base_kept (cell (Global g) first c) = q.give _ tt
   gives_up_base_kept (variable x) = q.give _ tt
 
-  lock_kept : (site : Site) (p : Place) → Keeps (lock_call site p)
+  lock_kept : (site : Site) (p : StorePlace) → Keeps (lock_call site p)
   lock_kept site p = q.binds _ _ _ _ q.events (λ own. q.binds _ _ _ _ (unless (not (holds_mutex own (cell_at_place p))) traps.MutexAlreadyHeld site) (λ _.
       q.binds _ _ _ _ (unless (nat_lt (length (held_mutexes own)) 16) traps.TooManyLocks site) (λ _. q.binds _ _ _ _ (performs_kept site (acts.Lock (cell_at_place p)) refl) (λ _. moves_base_kept p))))
 
-  unlock_kept : (site : Site) (p : Place) → Keeps (unlock_call site p)
+  unlock_kept : (site : Site) (p : StorePlace) → Keeps (unlock_call site p)
   unlock_kept site p = q.binds _ _ _ _ q.events (λ own. q.binds _ _ _ _ (unless (holds_mutex own (cell_at_place p)) traps.MutexNotHeld site) (λ _.
       q.binds _ _ _ _ (performs_kept site (acts.Unlock (cell_at_place p)) refl) (λ _. gives_up_base_kept p)))
 
@@ -213,15 +213,15 @@ module _ (Q : (A : Type 0) → Run A → Type 0) (q : Closed Q) where
   value_called_kept : (site : Site) (w : ValueCall) (of_a : Run ℤ) → Keeps of_a → Keeps (value_called site w of_a)
   value_called_kept site w of_a h = q.binds _ _ _ _ h (λ v. q.binds _ _ _ _ (performs_kept site (value_act w v) (other_act w v)) (λ _. q.give _ (pos 0)))
 
-  place_called_kept : (m : Assignment) (s : Span) (w : PlaceCall) (a : Expression) (place : Run Place) → Keeps place → Keeps (place_called m s w a place)
+  place_called_kept : (m : Assignment) (s : Span) (w : PlaceCall) (a : Expression) (place : Run StorePlace) → Keeps place → Keeps (place_called m s w a place)
   place_called_kept m s Lock a place h = q.scope _ _ (q.binds _ _ _ _ h (λ p. lock_kept s.first p))
   place_called_kept m s Unlock a place h = q.scope _ _ (q.binds _ _ _ _ h (λ p. unlock_kept s.first p))
   place_called_kept m s Free a place h = q.frees m s a place h (λ o first. mode_kept m.typed (span_of a).first (cell_at m a) o first)
 
-  cast_value_kept : (m : Assignment) (s : Span) (a : Expression) (place : Run Place) → Keeps place → Keeps (cast_value m s a place)
+  cast_value_kept : (m : Assignment) (s : Span) (a : Expression) (place : Run StorePlace) → Keeps place → Keeps (cast_value m s a place)
   cast_value_kept m s a place h = q.binds _ _ _ _ (q.scope _ _ (q.binds _ _ _ _ h (λ p. taken_kept m.typed s.first (span_of a).first (cell_at m a) p))) (λ v. either (is_null v) _ _ _ (q.give _ v) (cast_kept m.typed (span_of a).first (pointed m (Some (cast_row m.typed s))) v))
 
-  place_value_kept : (m : Assignment) (e : Expression) (place : Run Place) → Keeps place → Keeps (place_value m e place)
+  place_value_kept : (m : Assignment) (e : Expression) (place : Run StorePlace) → Keeps place → Keeps (place_value m e place)
   place_value_kept m e place h = q.scope _ _ (q.binds _ _ _ _ h (λ p. fetched_kept m.typed (span_of e).first (cell_at m e) p))
 
   unary_kept : (m : Assignment) (s : Span) (o : UnaryOperator) (a : Expression) (of_a : Run ℤ) → Keeps of_a → Keeps (unary_value m s o a of_a)
@@ -266,7 +266,7 @@ module _ (Q : (A : Type 0) → Run A → Type 0) (q : Closed Q) where
       all_kept kinds no_arguments = q.give _ []
       all_kept kinds (argument a rest) = q.binds _ _ _ _ (passed_kept m.typed kinds a _ ((eval_kept a))) (λ v. q.binds _ _ _ _ (all_kept (drop 1 kinds) rest) (λ vs. q.give _ (v ∷ vs)))
 
-      place_kept : (site : Site) (e : Expression) → Q Place (place_of on_call m site e)
+      place_kept : (site : Site) (e : Expression) → Q StorePlace (place_of on_call m site e)
       place_kept site (identifier s i) = q.enters _ _ (q.give _ (place_named (named_at m.typed i.site.token)))
       place_kept site (parentheses s a) = q.enters _ _ ((place_kept site a))
       place_kept site (index s a i) = q.enters _ _ (index_kept m.typed site a _ _ _ ((place_kept site a)) ((eval_kept a)) ((eval_kept i)))

@@ -1,7 +1,7 @@
 -- Expressions of a typed program lose no reference.
 use Rattle.std.proofs.{Common.{◌≡◌, ℕ, suc, ◌+◌, Bool, true, false, not, cond, List, [], ◌∷◌, ◌++◌, refl, sym, ap, ◌∙◌, subst, length, drop, append_assoc, append-nil, Some}, lemmas.Bool.{false≢true, true≢false}}
 use Rattle.std.specs.Prelude.{ℤ, pos}
-use Rattle.sharc_tree.specs.{declared.ctype.Base.Base, declared.event.Object.TheVariants.{Global, Made}, declared.event.TakeKind.TakeKind, declared.event.TakeKind.TheVariants.{Cast, Free as ToFree}, declared.token.Site.Site, declared.token.Span.Span, declared.tree.declaration.Identifier.Identifier, declared.tree.expression.Access.TheVariants.{Dot, Arrow}, declared.tree.expression.BinaryOperator.BinaryOperator, declared.tree.expression.BinaryOperator.TheVariants.{LogicalOr, LogicalAnd}, declared.tree.expression.PlaceCall.TheVariants.{Lock, Unlock, Free}, declared.tree.expression.UnaryOperator.TheVariants.Dereference, declared.tree.expression.ValueCall.ValueCall, Forms.is_lvalue, Spans.span_of, Tree.{Expression, identifier, index, field, unary, Arguments, Function}}
+use Rattle.sharc_tree.specs.{declared.ctype.Base.Base, declared.event.Object.TheVariants.{Global, Made}, declared.event.TakeKind.TakeKind, declared.event.TakeKind.TheVariants.{Cast, Free as ToFree}, declared.token.Site.Site, declared.token.Span.Span, declared.tree.declaration.Identifier.Identifier, declared.tree.expression.FieldOperator.TheVariants.{Dot, Arrow}, declared.tree.expression.BinaryOperator.BinaryOperator, declared.tree.expression.BinaryOperator.TheVariants.{LogicalOr, LogicalAnd}, declared.tree.expression.PlaceCall.TheVariants.{Lock, Unlock, Free}, declared.tree.expression.UnaryOperator.TheVariants.Dereference, declared.tree.expression.ValueCall.ValueCall, Forms.is_lvalue, Spans.span_of, Tree.{Expression, identifier, index, field, unary, Arguments, Function}}
 use Rattle.sharc_tree.specs.declared.ctype.Base.TheVariants as base
 use Rattle.sharc_tree.specs.declared.event.Act.TheVariants as acts
 use Rattle.sharc_tree.specs.declared.trap.Trap.TheVariants as traps
@@ -10,7 +10,7 @@ use Rattle.sharc_names.specs.Kinds as kinds
 use Rattle.sharc_ctype.specs.{Expressions.{class_of, binary_result}, Resolved.{named_at, kind_at, function_at}, Transfers.parameters_named}
 use Rattle.sharc_mode.specs.{Cells.{cell_at, pointed}, Moded.Assignment, Rows.cast_row}
 use Rattle.sharc_ctype_laws.specs.Constraints.{HasType, HaveTypes, Callee, of_program, of_conditions, a_variable, a_global, a_function, a_constant, in_parentheses, element_of_pointer, element_of_array, a_call, a_field, a_field_behind, negated, complemented, denied, pointed_to, arithmetic, shifted, related, equated, joined, spawned, printed_or_joined, locked, unlocked, freed, a_cast, none_left, one_more}
-use Rattle.sharc_meaning.specs.{Arithmetic.{bits_of, fits, is_zero, truth, operated, negated as negative, complement}, Cells.element_cells, Reference.{is_null, number_of, elements_of, constant_value}, State.{Run, ◌>>=◌, give, answered, moves, is_reference, temporarily}, Places.{Place, variable, cell, place_named, pointee, field_in, based, element, element_of_array as element_in, index_place, pointee_place}, Expressions.{Calls, resulting, tested, operand, fitting, passed, called, number_named, value_act, spawned as spawning, value_called, taking, place_called, cast_value, place_value, binary_value, eval, eval_all, place_of}}
+use Rattle.sharc_meaning.specs.{Arithmetic.{bits_of, fits, is_zero, truth, operated, negated as negative, complement}, Cells.element_cells, Reference.{is_null, number_of, elements_of, constant_value}, State.{Run, ◌>>=◌, give, answered, moves, is_reference, temporarily}, Places.{StorePlace, variable, cell, place_named, pointee, field_in, based, element, element_of_array as element_in, index_place, pointee_place}, Expressions.{Calls, resulting, tested, operand, fitting, passed, called, number_named, value_act, spawned as spawning, value_called, taking, place_called, cast_value, place_value, binary_value, eval, eval_all, place_of}}
 use Rattle.sharc_meaning_laws.proofs.Runs as runs
 use Rattle.sharc_meaning_laws.proofs.{Runs.{Same, Starts, same_starts, starts_on}, Steps.slot, Typed.{Facts, Names, names_start, named_variable, named_global, field_names, whole_left, passes, pointer_reference, no_function_object, no_function_array, no_function_pointer}}
 use Rattle.sharc_meaning_laws.proofs.Steps as steps
@@ -73,38 +73,38 @@ module _ (m : Assignment) (n d : ℕ) where
       runs.kept_next m.typed n d (ts ++ p ∷ []) (ts ++ p ∷ []) _ _ (Names m.typed ts (object b j)) (hi (ts ++ p ∷ [])) (λ x. runs.kept_atom m.typed n d (ts ++ p ∷ []) _ (Names m.typed ts (object b j))
       (steps.atom_element m.typed n d false (ts ++ p ∷ []) site (Made (number_of p)) (element_cells m.typed (element_kind (kind_at m.typed a))) (elements_of p) x (Names m.typed ts (object b j)) (λ c e. (refl, (p, refl)))))))
 
-  index_pointer : (ts : List ℤ) (site : Site) (a : Expression) (whole : Run Place) (pointer i : Run ℤ) (b : Base) (j : ℕ) → kind_at m.typed a ≡ object b (j + 1) → Keeps pointer → Keeps i → Kept ts (index_place m.typed site a whole pointer i) (Names m.typed ts (object b j))
+  index_pointer : (ts : List ℤ) (site : Site) (a : Expression) (whole : Run StorePlace) (pointer i : Run ℤ) (b : Base) (j : ℕ) → kind_at m.typed a ≡ object b (j + 1) → Keeps pointer → Keeps i → Kept ts (index_place m.typed site a whole pointer i) (Names m.typed ts (object b j))
   index_pointer ts site a whole pointer i b j is h hi = by (is_array (kind_at m.typed a)) (ap is_array is) _ (element_behind ts site a pointer i b j is h hi)
     where
-      by : (q : Bool) → q ≡ false → (x : Run Place) → {y : Run Place} → Kept ts y (Names m.typed ts (object b j)) → Kept ts (cond q x y) (Names m.typed ts (object b j))
+      by : (q : Bool) → q ≡ false → (x : Run StorePlace) → {y : Run StorePlace} → Kept ts y (Names m.typed ts (object b j)) → Kept ts (cond q x y) (Names m.typed ts (object b j))
       by true plain x k = absurd (true≢false plain)
       by false plain x k = k
 
   -- an array is a global
-  array_base : (ts : List ℤ) (site : Site) (cells : ℕ) (i : Run ℤ) (b : Base) (j : ℕ) (p : Place) (us : List ℤ) → Names m.typed ts (array b j) p us → Keeps i → Kept us (i >>= λ x. element_in m.typed site cells p x) (Names m.typed ts (object b j))
+  array_base : (ts : List ℤ) (site : Site) (cells : ℕ) (i : Run ℤ) (b : Base) (j : ℕ) (p : StorePlace) (us : List ℤ) → Names m.typed ts (array b j) p us → Keeps i → Kept us (i >>= λ x. element_in m.typed site cells p x) (Names m.typed ts (object b j))
   array_base ts site cells i b j (variable x) us h hi = absurd (true≢false h.0)
   array_base ts site cells i b j (cell (Made k) first c) us h hi = absurd (true≢false h.0)
   array_base ts site cells i b j (cell (Global g) first c) us h hi = runs.kept_next m.typed n d us us _ _ (Names m.typed ts (object b j)) (hi us) (λ x. runs.kept_atom m.typed n d us _ (Names m.typed ts (object b j))
       (steps.atom_element m.typed n d false us site (Global g) cells _ x (Names m.typed ts (object b j)) (λ c e. h)))
 
-  element_of : (ts : List ℤ) (site : Site) (cells : ℕ) (whole : Run Place) (i : Run ℤ) (b : Base) (j : ℕ) → Kept ts whole (Names m.typed ts (array b j)) → Keeps i → Kept ts (whole >>= λ p. i >>= λ x. element_in m.typed site cells p x) (Names m.typed ts (object b j))
+  element_of : (ts : List ℤ) (site : Site) (cells : ℕ) (whole : Run StorePlace) (i : Run ℤ) (b : Base) (j : ℕ) → Kept ts whole (Names m.typed ts (array b j)) → Keeps i → Kept ts (whole >>= λ p. i >>= λ x. element_in m.typed site cells p x) (Names m.typed ts (object b j))
   element_of ts site cells whole i b j h hi = runs.kept_then m.typed n d ts whole _ (Names m.typed ts (array b j)) (Names m.typed ts (object b j)) h (λ p us k. array_base ts site cells i b j p us k hi)
 
-  index_array : (ts : List ℤ) (site : Site) (a : Expression) (whole : Run Place) (pointer i : Run ℤ) (b : Base) (j : ℕ) → kind_at m.typed a ≡ array b j → Kept ts whole (Names m.typed ts (array b j)) → Keeps i → Kept ts (index_place m.typed site a whole pointer i) (Names m.typed ts (object b j))
+  index_array : (ts : List ℤ) (site : Site) (a : Expression) (whole : Run StorePlace) (pointer i : Run ℤ) (b : Base) (j : ℕ) → kind_at m.typed a ≡ array b j → Kept ts whole (Names m.typed ts (array b j)) → Keeps i → Kept ts (index_place m.typed site a whole pointer i) (Names m.typed ts (object b j))
   index_array ts site a whole pointer i b j is h hi = by (is_array (kind_at m.typed a)) (ap is_array is) (element_of ts site (element_cells m.typed (element_kind (kind_at m.typed a))) whole i b j h hi) _
     where
-      by : (q : Bool) → q ≡ true → {x : Run Place} → Kept ts x (Names m.typed ts (object b j)) → (y : Run Place) → Kept ts (cond q x y) (Names m.typed ts (object b j))
+      by : (q : Bool) → q ≡ true → {x : Run StorePlace} → Kept ts x (Names m.typed ts (object b j)) → (y : Run StorePlace) → Kept ts (cond q x y) (Names m.typed ts (object b j))
       by true whole k y = k
       by false whole k y = absurd (false≢true whole)
 
-  field_kept : (ts : List ℤ) (place : Run Place) (x : List ℕ) (k : Kind) (j : ℕ) → is_array k ≡ false → Kept ts place (Names m.typed ts (object (base.Struct x) 0)) → Kept ts (place >>= λ p. give (field_in j p)) (Names m.typed ts k)
+  field_kept : (ts : List ℤ) (place : Run StorePlace) (x : List ℕ) (k : Kind) (j : ℕ) → is_array k ≡ false → Kept ts place (Names m.typed ts (object (base.Struct x) 0)) → Kept ts (place >>= λ p. give (field_in j p)) (Names m.typed ts k)
   field_kept ts place x k j plain h = runs.kept_then m.typed n d ts place _ (Names m.typed ts (object (base.Struct x) 0)) (Names m.typed ts k) h (λ p us z. kept_give us (field_in j p) (Names m.typed ts k) (field_names m.typed ts x k j p us plain z))
 
-  value_kept : (ts : List ℤ) (e : Expression) (place : Run Place) (k : Kind) → Kept ts place (Names m.typed ts k) → Kept ts (place_value m e place) (Same ts)
+  value_kept : (ts : List ℤ) (e : Expression) (place : Run StorePlace) (k : Kind) → Kept ts place (Names m.typed ts k) → Kept ts (place_value m e place) (Same ts)
   value_kept ts e place k h = runs.kept_scope m.typed n d ts _ (Starts ts) (λ x us s. s) (runs.kept_then m.typed n d ts place _ (Names m.typed ts k) (Starts ts) h (λ p us z.
       runs.kept_as m.typed n d us _ (Same us) (Starts ts) (λ x vs same. starts_on ts us x vs (names_start m.typed ts k p us x z) same) (runs.kept_atom m.typed n d us _ (Same us) (steps.atom_fetched m.typed n d false us m.typed (span_of e).first (cell_at m e) p))))
 
-  taking_kept : (ts : List ℤ) (s : Span) (kind : TakeKind) (a : Expression) (place : Run Place) (k : Kind) → Kept ts place (Names m.typed ts k) → Kept ts (taking m s kind a place) (Same ts)
+  taking_kept : (ts : List ℤ) (s : Span) (kind : TakeKind) (a : Expression) (place : Run StorePlace) (k : Kind) → Kept ts place (Names m.typed ts k) → Kept ts (taking m s kind a place) (Same ts)
   taking_kept ts s kind a place k h = runs.kept_scope m.typed n d ts _ (Starts ts) (λ x us s. s) (runs.kept_then m.typed n d ts place _ (Names m.typed ts k) (Starts ts) h (λ p us z.
       runs.kept_as m.typed n d us _ (Same us) (Starts ts) (λ x vs same. starts_on ts us x vs (names_start m.typed ts k p us x z) same) (runs.kept_atom m.typed n d us _ (Same us) (steps.atom_taken m.typed n d us m.typed s.first (span_of a).first (cell_at m a) kind p))))
 
@@ -139,24 +139,24 @@ module _ (m : Assignment) (n d : ℕ) where
       moved v = runs.atom_next m.typed n d false true true _ (ts ++ slot (is_reference (kind_at m.typed a)) v) _ _ (Same ts) (steps.atom_event m.typed n d false _ site (acts.Spawn (number_named f) v)) (λ t.
           runs.atom_next m.typed n d true true true _ ts _ _ (Same ts) (steps.atom_moves m.typed n d ts (kind_at m.typed a) v) (λ _. steps.atom_give m.typed n d true ts t (Same ts) refl))
 
-  based_as : (ts : List ℤ) (k : Kind) (p : Place) (us : List ℤ) → Names m.typed ts k p us → steps.Based m.typed n d ts p us
+  based_as : (ts : List ℤ) (k : Kind) (p : StorePlace) (us : List ℤ) → Names m.typed ts k p us → steps.Based m.typed n d ts p us
   based_as ts k (variable x) us h = subst (λ z. steps.Based m.typed n d ts (variable x) z) (sym h.2) steps.no_base
   based_as ts k (cell (Global g) first c) us h = subst (λ z. steps.Based m.typed n d ts (cell (Global g) first c) z) (sym h) steps.in_global
   based_as ts k (cell (Made j) first c) us h = subst (λ z. steps.Based m.typed n d ts (cell (Made j) first c) z) (sym h.1.1) (steps.in_object h.1.0)
 
-  locked_kept : (ts : List ℤ) (s : Span) (a : Expression) (place : Run Place) (k : Kind) → Kept ts place (Names m.typed ts k) → Kept ts (place_called m s Lock a place) (Same ts)
+  locked_kept : (ts : List ℤ) (s : Span) (a : Expression) (place : Run StorePlace) (k : Kind) → Kept ts place (Names m.typed ts k) → Kept ts (place_called m s Lock a place) (Same ts)
   locked_kept ts s a place k h = runs.kept_scope m.typed n d ts _ (Starts ts) (λ x us s. s) (runs.kept_then m.typed n d ts place _ (Names m.typed ts k) (Starts ts) h (λ p us z.
       runs.kept_as m.typed n d us _ (Same ts) (Starts ts) (same_starts ts) (runs.kept_atom m.typed n d us _ (Same ts) (steps.atom_lock m.typed n d ts us s.first p (based_as ts k p us z)))))
 
-  unlocked_kept : (ts : List ℤ) (s : Span) (a : Expression) (place : Run Place) (k : Kind) → Kept ts place (Names m.typed ts k) → Kept ts (place_called m s Unlock a place) (Same ts)
+  unlocked_kept : (ts : List ℤ) (s : Span) (a : Expression) (place : Run StorePlace) (k : Kind) → Kept ts place (Names m.typed ts k) → Kept ts (place_called m s Unlock a place) (Same ts)
   unlocked_kept ts s a place k h = runs.kept_scope m.typed n d ts _ (Starts ts) (λ x us s. s) (runs.kept_then m.typed n d ts place _ (Names m.typed ts k) (Starts ts) h (λ p us z.
       runs.kept_as m.typed n d us _ (Same us) (Starts ts) (λ x vs same. starts_on ts us x vs (names_start m.typed ts k p us x z) same) (runs.kept_atom m.typed n d us _ (Same us) (steps.atom_unlock m.typed n d us s.first p))))
 
-  freed_kept : (ts : List ℤ) (s : Span) (a : Expression) (place : Run Place) (k : Kind) → Kept ts place (Names m.typed ts k) → Kept ts (place_called m s Free a place) (Same ts)
+  freed_kept : (ts : List ℤ) (s : Span) (a : Expression) (place : Run StorePlace) (k : Kind) → Kept ts place (Names m.typed ts k) → Kept ts (place_called m s Free a place) (Same ts)
   freed_kept ts s a place k h = runs.kept_next m.typed n d ts ts _ _ (Same ts) (taking_kept ts s ToFree a place k h) (λ v. kept_either (is_null v) ts _ _ (Same ts) (kept_give ts tt (Same ts) refl)
       (runs.kept_atom m.typed n d ts _ (Same ts) (steps.atom_freed m.typed n d ts (span_of a).first v)))
 
-  cast_kept : (ts : List ℤ) (s : Span) (a : Expression) (place : Run Place) (k : Kind) → Kept ts place (Names m.typed ts k) → Kept ts (cast_value m s a place) (Same ts)
+  cast_kept : (ts : List ℤ) (s : Span) (a : Expression) (place : Run StorePlace) (k : Kind) → Kept ts place (Names m.typed ts k) → Kept ts (cast_value m s a place) (Same ts)
   cast_kept ts s a place k h = runs.kept_next m.typed n d ts ts _ _ (Same ts) (taking_kept ts s Cast a place k h) (λ v. kept_either (is_null v) ts _ _ (Same ts) (kept_give ts v (Same ts) refl)
       (runs.kept_atom m.typed n d ts _ (Same ts) (steps.atom_cast m.typed n d ts m.typed (span_of a).first (pointed m (Some (cast_row m.typed s))) v)))
 

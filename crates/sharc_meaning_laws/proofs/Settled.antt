@@ -6,7 +6,7 @@ use Rattle.sharc_tree.specs.declared.event.Act.TheVariants as acts
 use Rattle.sharc_tree.specs.declared.event.Taken.TheVariants as taken
 use Rattle.sharc_ctype.specs.Resolved.{Resolution}
 use Rattle.sharc_mode.specs.{Cells.cell_at, Moded.Assignment, Sharings.Sharing}
-use Rattle.sharc_meaning.specs.{Cells.cell_of, Reference.{is_null, number_of}, References.taken_to_free, declared.given.GivenUp.GivenUp, declared.given.GivenUp.TheVariants.Emptied, State.{Frame, State, Outcome, wants, Out, go, over, Run, Step, then_on, ◌>>◌, give, done, enters_with, happens, answered, answer_of, value_of, event_of, ends_temporaries, ends_variables, without_temporaries, all_released, pointers_among}, Places.{Place, variable, cell, access_mode, nulled, taken_from, freed}, Expressions.place_called, Statements.{Flow, next, broken, continued, returned, on_turn, turns}, Meaning.{back_in, with_frame}}
+use Rattle.sharc_meaning.specs.{Cells.cell_of, Reference.{is_null, number_of}, References.taken_to_free, declared.given.GivenUp.GivenUp, declared.given.GivenUp.TheVariants.Emptied, State.{Frame, State, Outcome, wants, Out, go, over, Run, Step, then_on, ◌>>◌, give, done, enters_with, happens, answered, answer_of, value_of, event_of, ends_temporaries, ends_variables, without_temporaries, all_released, pointers_among}, Places.{StorePlace, variable, cell, access_mode, nulled, taken_from, freed}, Expressions.place_called, Statements.{Flow, next, broken, continued, returned, on_turn, turns}, Meaning.{back_in, with_frame}}
 use Rattle.sharc_meaning_laws.specs.Freeing.{takes_something}
 use Rattle.sharc_meaning_laws.proofs.Closed.{NotEmptied, Closed}
 
@@ -216,7 +216,7 @@ taken_answer (x ∷ xs) site c mode s h = by (is_null x) refl
       answer = refl;
     })
 
-taken_there : (r : Resolution) (token site : Site) (mode : Sharing) (p : Place) → ((o : Object) (first : ℕ) → Quiet CellMode (access_mode r site mode o first))
+taken_there : (r : Resolution) (token site : Site) (mode : Sharing) (p : StorePlace) → ((o : Object) (first : ℕ) → Quiet CellMode (access_mode r site mode o first))
     → (s : State) → Still s → Taken (taken_from r token site mode ToFree p s)
 taken_there r token site mode (variable x) q s h = taken_local token site x s (is_null (value_of s x)) refl h
 taken_there r token site mode (cell o first c) q s h = taken_then (access_mode r site mode o first s) _ (q o first s h) (λ under t ht. taken_answer t.answers site (cell_of o c) under t ht)
@@ -252,7 +252,7 @@ calm_freed (go v s) site (inr p) = rw (pending_some v s p) (calm_then _ _ (calm_
     (λ _ t ht. ht)) (λ _ t ht. ht))
 calm_freed (over o s) site h = h
 
-calm_free : (m : Assignment) (s : Span) (a : Expression) (place : Run Place) → Quiet Place place
+calm_free : (m : Assignment) (s : Span) (a : Expression) (place : Run StorePlace) → Quiet StorePlace place
     → ((o : Object) (first : ℕ) → Quiet CellMode (access_mode m.typed (span_of a).first (cell_at m a) o first)) → Quiet (Unit {0}) (place_called m s Free a place)
 calm_free m s a place q access t h = calm_freed _ (span_of a).first (taken_temporaries _ _
     (taken_then (place t) _ (q t h) (λ p u hu. taken_there m.typed s.first (span_of a).first (cell_at m a) p access u hu)))

@@ -9,7 +9,7 @@ use Rattle.sharc_names.specs.Kinds.{Kind, is_pointer, declared_kind}
 use Rattle.sharc_ctype.specs.{Resolved.{Resolution, kind_at, variable_kind}, Statements.{first_locals, locals_in, locals_in_all}}
 use Rattle.sharc_mode.specs.{Cells.{cell_at, pointed}, Moded.Assignment, Rows.{written, row_at, declared_row}, Sharings.{Sharing, private}}
 use Rattle.sharc_ctype_laws.specs.{Constraints.HasType, Declared.IsItself, Rules.{MeetsSimple, MeetsFirst, Meets, AllMeet}}
-use Rattle.sharc_meaning.specs.{Cells.{element_cells, instance_mode}, State.Run, Places.{Place, variable, cell, stored}, Expressions.{Calls, tested, eval}, Statements.{Flow, next, broken, continued, returned, on_next, left_by, elements_made, is_positive, right_value, done_simple, initialised, declared, done_first, done_step, done_test, return_with, exec, exec_all}}
+use Rattle.sharc_meaning.specs.{Cells.{element_cells, instance_mode}, State.Run, Places.{StorePlace, variable, cell, stored}, Expressions.{Calls, tested, eval}, Statements.{Flow, next, broken, continued, returned, on_next, left_by, elements_made, is_positive, right_value, done_simple, initialised, declared, done_first, done_step, done_test, return_with, exec, exec_all}}
 use Rattle.sharc_meaning_laws.proofs.Runs as runs
 use Rattle.sharc_meaning_laws.proofs.{Runs.{Same, Starts, starts_on}, Typed.{Facts, Names, names_start, declared_reference, no_function_held}, Expressions.{Kept, Keeps, kept_give, kept_either, tested_kept, fitting_kept, CallsKeep, eval_kept, place_kept}}
 use Rattle.sharc_meaning_laws.proofs.Steps as steps
@@ -57,7 +57,7 @@ module _ (m : Assignment) (n d : ℕ) (on_call : Calls) (hc : CallsKeep m n d on
 
   -- ---- assignments, calls and declarations
 
-  stored_kept : (ts us : List ℤ) (site : Site) (kind : Kind) (mode : Sharing) (p : Place) (v : ℤ) → Names m.typed ts kind p us → Kept m n d us (stored m.typed site kind mode p v) (Same us)
+  stored_kept : (ts us : List ℤ) (site : Site) (kind : Kind) (mode : Sharing) (p : StorePlace) (v : ℤ) → Names m.typed ts kind p us → Kept m n d us (stored m.typed site kind mode p v) (Same us)
   stored_kept ts us site kind mode (variable x) v h = runs.kept_atom m.typed n d us _ (Same us) (steps.stored_variable m.typed n d us m.typed site kind mode x v h.1)
   stored_kept ts us site kind mode (cell (Global g) first c) v h = runs.kept_atom m.typed n d us _ (Same us) (steps.stored_cell m.typed n d us m.typed site kind mode (Global g) first c v)
   stored_kept ts us site kind mode (cell (Made j) first c) v h = runs.kept_atom m.typed n d us _ (Same us) (steps.stored_cell m.typed n d us m.typed site kind mode (Made j) first c v)

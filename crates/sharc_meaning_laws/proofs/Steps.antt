@@ -9,7 +9,7 @@ use Rattle.sharc_names.specs.{declared.fault.Named.Named, Kinds.{Kind, is_pointe
 use Rattle.sharc_names.specs.declared.fault.Named.TheVariants as named
 use Rattle.sharc_ctype.specs.Resolved.{Resolution, declaration_at, variable_kind}
 use Rattle.sharc_mode.specs.Sharings.{Sharing, private, readonly, locked, racy, dynamic}
-use Rattle.sharc_meaning.specs.{Cells.{cell_of, Guard, mutex, behind, nothing as no_mutex, guard_of, instance_mode}, Events.{held_mutexes, holds_mutex}, Reference.{NULL, is_null, number_of}, declared.given.GivenUp.GivenUp, declared.given.GivenUp.TheVariants.{Released, Replaced, Emptied}, declared.variable.Variable.Variable, State.{State, Use, reads, writes, nulls, go, Run, then_on, ◌>>=◌, give, done, stop, unless_stop, happens, answered, performs, all_released, gives_up, drops, holds, holds_reference, moves, moves_on, is_reference, with_value, value_in, value_of, looks_at, traces, sets, reads_variable, new_variable, begins_with}, Places.{Place, variable, cell, pointee, based, element, guarding, access_mode, fetched, stored, nulled, taken_from, cast_to, freed}, Waiting.{cell_at_place, lock_call, unlock_call, wait_call, signal_call, broadcast_call, condition_call, moves_base, gives_up_base}, Expressions.{resulting, named_value}}
+use Rattle.sharc_meaning.specs.{Cells.{cell_of, Guard, mutex, behind, nothing as no_mutex, guard_of, instance_mode}, Events.{held_mutexes, holds_mutex}, Reference.{NULL, is_null, number_of}, declared.given.GivenUp.GivenUp, declared.given.GivenUp.TheVariants.{Released, Replaced, Emptied}, declared.variable.Variable.Variable, State.{State, Use, reads, writes, nulls, go, Run, then_on, ◌>>=◌, give, done, stop, unless_stop, happens, answered, performs, all_released, gives_up, drops, holds, holds_reference, moves, moves_on, is_reference, with_value, value_in, value_of, looks_at, traces, sets, reads_variable, new_variable, begins_with}, Places.{StorePlace, variable, cell, pointee, based, element, guarding, access_mode, fetched, stored, nulled, taken_from, cast_to, freed}, Waiting.{cell_at_place, lock_call, unlock_call, wait_call, signal_call, broadcast_call, condition_call, moves_base, gives_up_base}, Expressions.{resulting, named_value}}
 use Rattle.sharc_meaning_laws.proofs.{Counts.{Declared, refs, rel, vars, one, gone, one_gone, one_null, refs_append, rel_append, vars_append, set_loses, set_keeps, still_declared}, Runs.{Same, moves_level, up_level}}
 use Rattle.sharc_meaning_laws.proofs.Runs as runs
 
@@ -162,7 +162,7 @@ module _ (r : Resolution) (n d : ℕ) where
   pub atom_based : (b : Bool) (ts : List ℤ) (site : Site) (kind : Kind) (p : ℤ) → is_reference kind ≡ true → Atom b b ts (based site kind p) (Same (ts ++ p ∷ []))
   atom_based b ts site kind p h = runs.atom_next r n d b b b ts (ts ++ p ∷ []) _ _ (Same (ts ++ p ∷ [])) (subst (λ q. Atom b b ts (holds kind p) (Same (ts ++ slot q p))) h (atom_holds b ts kind p)) (λ _. atom_unless (not (is_null p)) b (ts ++ p ∷ []) traps.NullPointer site)
 
-  pub atom_element : (b : Bool) (ts : List ℤ) (site : Site) (o : Object) (cells elements : ℕ) (i : ℤ) (p : Place → List ℤ → Type 0) → ((c e : ℕ) → p (cell o c e) ts) → Atom b b ts (element site o cells elements i) p
+  pub atom_element : (b : Bool) (ts : List ℤ) (site : Site) (o : Object) (cells elements : ℕ) (i : ℤ) (p : StorePlace → List ℤ → Type 0) → ((c e : ℕ) → p (cell o c e) ts) → Atom b b ts (element site o cells elements i) p
   atom_element b ts site o cells elements (pos k) p h = atom_either (nat_lt k elements) b b ts _ _ p (atom_give b ts _ p (h (k * cells) (k * cells))) (atom_stop b b ts _ site p)
   atom_element b ts site o cells elements (negsuc k) p h = atom_stop b b ts _ site p
 
@@ -180,7 +180,7 @@ module _ (r : Resolution) (n d : ℕ) where
   atom_mode b ts r2 site racy o first = atom_give b ts _ (Same ts) refl
   atom_mode b ts r2 site dynamic o first = atom_give b ts _ (Same ts) refl
 
-  pub atom_fetched : (b : Bool) (ts : List ℤ) (r2 : Resolution) (site : Site) (mode : Sharing) (p : Place) → Atom b b ts (fetched r2 site mode p) (Same ts)
+  pub atom_fetched : (b : Bool) (ts : List ℤ) (r2 : Resolution) (site : Site) (mode : Sharing) (p : StorePlace) → Atom b b ts (fetched r2 site mode p) (Same ts)
   atom_fetched b ts r2 site mode (variable x) = atom_reads b ts site x
   atom_fetched b ts r2 site mode (cell o first c) = runs.atom_next r n d b b b ts ts _ _ (Same ts) (atom_mode b ts r2 site mode o first) (λ under. atom_level b ts _ (Same ts) (atom_event b ts site (acts.Read (cell_of o c) under)))
 
@@ -269,7 +269,7 @@ module _ (r : Resolution) (n d : ℕ) where
   taken_steady true token site kind x v s = refl
   taken_steady false token site kind x v s = (taken_event [] token site kind x v).steady s
 
-  pub atom_taken : (ts : List ℤ) (r2 : Resolution) (token site : Site) (mode : Sharing) (kind : TakeKind) (p : Place) → Atom false false ts (taken_from r2 token site mode kind p) (Same ts)
+  pub atom_taken : (ts : List ℤ) (r2 : Resolution) (token site : Site) (mode : Sharing) (kind : TakeKind) (p : StorePlace) → Atom false false ts (taken_from r2 token site mode kind p) (Same ts)
   atom_taken ts r2 token site mode kind (variable x) = record {
     steady = λ s. taken_steady (is_null (value_of s x)) token site kind x (value_of s x) s;
     runs = λ s at. taken_ran (is_null (value_of s x)) ts token site kind x s refl at;
@@ -294,28 +294,28 @@ module _ (r : Resolution) (n d : ℕ) where
 
   -- the base of a mutex in an object is the last temporary, and moves to the log behind the Lock
 
-  pub data Based (ts : List ℤ) : Place → List ℤ → Type 0 where
+  pub data Based (ts : List ℤ) : StorePlace → List ℤ → Type 0 where
     no_base : {x : ℕ} → Based ts (variable x) ts
     in_global : {g first c : ℕ} → Based ts (cell (Global g) first c) ts
     in_object : {k first c : ℕ} → (v : ℤ) → Based ts (cell (Made k) first c) (ts ++ v ∷ [])
 
-  base_moved : (ts us : List ℤ) (p : Place) → Based ts p us → Atom true true us (moves_base p) (Same ts)
+  base_moved : (ts us : List ℤ) (p : StorePlace) → Based ts p us → Atom true true us (moves_base p) (Same ts)
   base_moved ts _ _ no_base = atom_done true ts
   base_moved ts _ _ in_global = atom_done true ts
   base_moved ts _ _ (in_object v) = atom_moved ts v
 
-  pub atom_lock : (ts us : List ℤ) (site : Site) (p : Place) → Based ts p us → Atom false false us (lock_call site p) (Same ts)
+  pub atom_lock : (ts us : List ℤ) (site : Site) (p : StorePlace) → Based ts p us → Atom false false us (lock_call site p) (Same ts)
   atom_lock ts us site p b = runs.atom_next r n d false false false us us _ _ (Same ts) (atom_events false us) (λ own.
       runs.atom_next r n d false false false us us _ _ (Same ts) (atom_unless (not (holds_mutex own (cell_at_place p))) false us traps.MutexAlreadyHeld site) (λ _.
       runs.atom_next r n d false false false us us _ _ (Same ts) (atom_unless (nat_lt (length (held_mutexes own)) 16) false us traps.TooManyLocks site) (λ _.
       runs.atom_weak r n d us _ (Same ts) (runs.atom_next r n d false true true us us _ _ (Same ts) (atom_performs false us site (acts.Lock (cell_at_place p))) (λ _. base_moved ts us p b)))))
 
-  base_given : (b : Bool) (ts : List ℤ) (p : Place) → Atom b b ts (gives_up_base p) (Same ts)
+  base_given : (b : Bool) (ts : List ℤ) (p : StorePlace) → Atom b b ts (gives_up_base p) (Same ts)
   base_given b ts (cell (Made k) first c) = atom_given b ts (Released k ∷ [])
   base_given b ts (cell (Global g) first c) = atom_done b ts
   base_given b ts (variable x) = atom_done b ts
 
-  pub atom_unlock : (ts : List ℤ) (site : Site) (p : Place) → Atom false false ts (unlock_call site p) (Same ts)
+  pub atom_unlock : (ts : List ℤ) (site : Site) (p : StorePlace) → Atom false false ts (unlock_call site p) (Same ts)
   atom_unlock ts site p = runs.atom_next r n d false false false ts ts _ _ (Same ts) (atom_events false ts) (λ own.
       runs.atom_next r n d false false false ts ts _ _ (Same ts) (atom_unless (holds_mutex own (cell_at_place p)) false ts traps.MutexNotHeld site) (λ _.
       runs.atom_weak r n d ts _ (Same ts) (runs.atom_next r n d false true true ts ts _ _ (Same ts) (atom_performs false ts site (acts.Unlock (cell_at_place p))) (λ _. base_given true ts p))))

@@ -10,7 +10,7 @@ use Rattle.sharc_names.specs.declared.fault.Named.TheVariants as named
 use Rattle.sharc_names.specs.Kinds as kinds
 use Rattle.sharc_ctype.specs.{Expressions.{constant_kind, number_kind}, Resolved.{Resolution, kind_at, function_at, declaration_at, variable_kind}}
 use Rattle.sharc_ctype_laws.specs.{Constraints.{HasType, Callee, of_program, of_conditions, IsInteger, IsPointer, Common, both_shorter, left_long, right_long, Assignable, integer, pointer, null_pointer, a_variable, a_global, a_function, a_constant, in_parentheses, element_of_pointer, element_of_array, a_call, a_field, a_field_behind, negated, complemented, denied, pointed_to, arithmetic, shifted, related, equated, joined, spawned, printed_or_joined, locked, unlocked, freed, a_cast}, Rules.IsHeld}
-use Rattle.sharc_meaning.specs.{State.is_reference, Places.{Place, variable, cell, place_named, field_in}}
+use Rattle.sharc_meaning.specs.{State.is_reference, Places.{StorePlace, variable, cell, place_named, field_in}}
 use Rattle.sharc_meaning_laws.proofs.Runs.{Starts}
 use Rattle.sharc_lemmas.proofs.{Bools.{or_false, no}, Numbers.some_star}
 
@@ -114,12 +114,12 @@ whole_left r w _ _ (a_cast m a p) h = no _ _ (pointer_whole _ p) h
 -- ---- what an lvalue of a type names
 
 -- A variable that is a pointer has the type of one, and no array is a variable. A cell of a made object has a base, in one temporary more.
-abbrev pub Names : Resolution → List ℤ → Kind → Place → List ℤ → Type 0
+abbrev pub Names : Resolution → List ℤ → Kind → StorePlace → List ℤ → Type 0
 Names r ts k (variable x) us = (is_array k ≡ false) × (is_pointer (variable_kind (declaration_at r x)) ≡ true → is_reference k ≡ true) × (us ≡ ts)
 Names r ts k (cell (Global g) first c) us = us ≡ ts
 Names r ts k (cell (Made j) first c) us = (is_array k ≡ false) × ((v : ℤ) × (us ≡ ts ++ v ∷ []))
 
-pub names_start : {A : Type 0} (r : Resolution) (ts : List ℤ) (k : Kind) (p : Place) (us : List ℤ) (x : A) → Names r ts k p us → Starts ts x us
+pub names_start : {A : Type 0} (r : Resolution) (ts : List ℤ) (k : Kind) (p : StorePlace) (us : List ℤ) (x : A) → Names r ts k p us → Starts ts x us
 names_start r ts k (variable y) us x h = ([], h.2 ∙ sym (append-nil ts))
 names_start r ts k (cell (Global g) first c) us x h = ([], h ∙ sym (append-nil ts))
 names_start r ts k (cell (Made j) first c) us x h = (h.1.0 ∷ [], h.1.1)
@@ -132,7 +132,7 @@ pub named_global : (r : Resolution) (ts : List ℤ) (what : Named) (g : ℕ) (k 
 named_global r ts what g k is = subst (λ z. Names r ts k (place_named z) ts) (sym is) refl
 
 -- a field of a struct is a cell, or no pointer
-pub field_names : (r : Resolution) (ts : List ℤ) (x : List ℕ) (k : Kind) (j : ℕ) (p : Place) (us : List ℤ) → is_array k ≡ false → Names r ts (object (base.Struct x) 0) p us → Names r ts k (field_in j p) us
+pub field_names : (r : Resolution) (ts : List ℤ) (x : List ℕ) (k : Kind) (j : ℕ) (p : StorePlace) (us : List ℤ) → is_array k ≡ false → Names r ts (object (base.Struct x) 0) p us → Names r ts k (field_in j p) us
 field_names r ts x k j (variable y) us plain h = (plain, λ e. absurd (false≢true (h.1 e)), h.2)
 field_names r ts x k j (cell (Global g) first c) us plain h = h
 field_names r ts x k j (cell (Made i) first c) us plain h = (plain, h.1)

@@ -1,7 +1,7 @@
 -- The proofs of the laws.
 use Rattle.std.proofs.Common.{◌≡◌, ◌⊎◌, ℕ, ◌+◌, ◌<◌, Bool, ◌&&◌, List, [], ◌∷◌, ◌++◌, Option, Some, None, refl, ap, sym, ◌∙◌, subst, inl, inr}
 use Rattle.std.specs.{Prelude.slice_index_or, List.flat_map}
-use Rattle.sharc_graph.specs.{declared.graph.Finding.Finding, declared.graph.Finding.TheVariants.{Apart, Source, Behind}, Findings.finding_at}
+use Rattle.sharc_graph.specs.{declared.graph.NodeFinding.NodeFinding, declared.graph.NodeFinding.TheVariants.{Apart, Source, Behind}, Findings.finding_at}
 use Rattle.sharc_tree.specs.{declared.ctype.Mode.Mode, declared.ctype.Mode.TheVariants.{Private, Dynamic}, declared.tree.item.GlobalDefinition.GlobalDefinition}
 use Rattle.sharc_ctype.specs.{Entities.{entities_in, numbered}, Resolved.{globals_in, functions_in}}
 use Rattle.sharc_mode.specs.{declared.error.ErrorCode.TheVariants.PrivateReachesThread, declared.error.ModeError.ModeError, Cells.top_of, Expressions.items_notes, Flows.{IsLeastAssignment, IsReasonFor, mode_found, inferred_mode}, Moded.{Assignment, position_count, reason_at}, Notes.{error_where, type_notes, errors_of, is_private_level}, Settled.settled_at, WellModed.{AreModeErrors, mode_errors, touched_notes, spawned_notes}}
@@ -17,7 +17,7 @@ settled_reason m least position within mode is =
     let P : Option Mode → Type 0 = λ s. IsReasonFor m.typed position s (finding_at least.findings position) (reason_at m position) in
     subst P is (least.reason position within)
 
-by_finding : (mode : Mode) (finding : Finding) → mode ≡ inferred_mode finding → (mode ≡ Private) ⊎ (mode ≡ Dynamic)
+by_finding : (mode : Mode) (finding : NodeFinding) → mode ≡ inferred_mode finding → (mode ≡ Private) ⊎ (mode ≡ Dynamic)
 by_finding mode Apart is = inl is
 by_finding mode Source is = inr is
 by_finding mode (Behind rank reason) is = inr is

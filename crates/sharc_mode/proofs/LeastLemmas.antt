@@ -1,16 +1,16 @@
 -- What the least assignment is among all that are enough.
 use Rattle.std.proofs.{Common.{◌≡◌, ◌⊎◌, ℕ, ◌+◌, ◌<◌, Bool, true, false, List, [], ◌∷◌, length, length-append, Option, Some, None, refl, ap, sym, ◌∙◌, subst, inl, inr, arith}, lemmas.Bool.{cases_lt, false≢true}, lemmas.List.get_or_past, lemmas.List.Elements.All-get_or}
 use Rattle.std.specs.Prelude.{slice_index_or, Contains}
-use Rattle.sharc_graph.specs.{declared.graph.Finding.Finding, declared.graph.Finding.TheVariants.{Apart, Source, Behind}, Findings.finding_at, Paths.{IsWithin, edge_of}}
-use Rattle.sharc_constraints.specs.{declared.place.Place.Place, declared.place.Link.Link, Flow.{flow_of, link_of, place_at, is_unwritten, is_source, IsUnwritten, IsSource, IsFirstFor, HasEdge}, Laws.{FlowLaws, IsClosed, IsDynamic}}
-use Rattle.sharc_constraints.specs.declared.place.Place.TheVariants as place
+use Rattle.sharc_graph.specs.{declared.graph.NodeFinding.NodeFinding, declared.graph.NodeFinding.TheVariants.{Apart, Source, Behind}, Findings.finding_at, Paths.{IsWithin, edge_of}}
+use Rattle.sharc_constraints.specs.{declared.place.PositionKind.PositionKind, declared.place.Link.Link, Flow.{flow_of, link_of, place_at, is_unwritten, is_source, IsUnwritten, IsSource, IsFirstFor, HasEdge}, Laws.{FlowLaws, IsClosed, IsDynamic}}
+use Rattle.sharc_constraints.specs.declared.place.PositionKind.TheVariants as place
 use Rattle.sharc_tree.specs.{declared.ctype.Base.Base, declared.ctype.Mode.Mode, declared.ctype.Mode.TheVariants.{Private, Readonly, Locked, Racy, Dynamic}}
 use Rattle.sharc_ctype.specs.{Entities.{entities_in, written_modes, positions_of, positions_in}, Resolved.Resolution, declared.entity.Entity.Entity}
 use Rattle.sharc_mode.specs.{Flows.{IsLeastAssignment, IsRoot, IsPlaceFor, ArePlaces, written_place, inferred_mode, mode_found, links_of}, Moded.{Assignment, position_count}, Pairs.{AreEquated, IsBelow, IsEnough, mode_given, mode_by}, Settled.{settled, otherwise_of, settled_modes, settled_in, settled_at}, Sharings.{sharing_of, is_dynamic}}
 use Rattle.sharc_mode.proofs.{LawLemmas.inferred, PairLemmas.{below_from, below_to, equal_from, equal_to}, WithinLemmas.links_within}
 
 -- ---- places and modes
-open_place : (r : Resolution) (p : ℕ) (at : Place) → IsPlaceFor r p None at → is_unwritten at ≡ true
+open_place : (r : Resolution) (p : ℕ) (at : PositionKind) → IsPlaceFor r p None at → is_unwritten at ≡ true
 open_place r p place.Root is = refl
 open_place r p place.Unwritten is = refl
 open_place r p place.Dynamic is = absurd is
@@ -24,14 +24,14 @@ shut_place (Locked path) = refl
 shut_place Racy = refl
 shut_place Dynamic = refl
 
-root_place : (r : Resolution) (p : ℕ) (at : Place) → IsPlaceFor r p None at → IsRoot r p → is_source at ≡ true
+root_place : (r : Resolution) (p : ℕ) (at : PositionKind) → IsPlaceFor r p None at → IsRoot r p → is_source at ≡ true
 root_place r p place.Root is root = refl
 root_place r p place.Unwritten is root = absurd (is root)
 root_place r p place.Dynamic is root = refl
 root_place r p place.Private is root = absurd is
 root_place r p place.Other is root = absurd is
 
-source_root : (r : Resolution) (p : ℕ) (at : Place) → IsPlaceFor r p None at → is_source at ≡ true → IsRoot r p
+source_root : (r : Resolution) (p : ℕ) (at : PositionKind) → IsPlaceFor r p None at → is_source at ≡ true → IsRoot r p
 source_root r p place.Root is source = is
 source_root r p place.Unwritten is source = absurd (false≢true source)
 source_root r p place.Dynamic is source = absurd is
@@ -67,12 +67,12 @@ settled_cases (Some m) = inr (m, refl)
 none_some : (m : Mode) → None ≡ Some m → ⊥
 none_some m is = cc
 
-finding_dynamic : (finding : Finding) → (finding ≡ Apart → ⊥) → inferred_mode finding ≡ Dynamic
+finding_dynamic : (finding : NodeFinding) → (finding ≡ Apart → ⊥) → inferred_mode finding ≡ Dynamic
 finding_dynamic Apart not = absurd (not refl)
 finding_dynamic Source not = refl
 finding_dynamic (Behind rank reason) not = refl
 
-given_inferred : (finding : Finding) → mode_given None (is_dynamic (sharing_of (inferred_mode finding))) ≡ inferred_mode finding
+given_inferred : (finding : NodeFinding) → mode_given None (is_dynamic (sharing_of (inferred_mode finding))) ≡ inferred_mode finding
 given_inferred Apart = refl
 given_inferred Source = refl
 given_inferred (Behind rank reason) = refl
@@ -108,7 +108,7 @@ link_inside r x y below has =
     subst P has.2 (All-get_or P (links_of r) has.0 (link_of x y below) has.1 (links_within r))
 
 -- ---- the places of a program
-module _ (r : Resolution) (places : List Place) (are : ArePlaces r places) where
+module _ (r : Resolution) (places : List PositionKind) (are : ArePlaces r places) where
   at_open : (p : ℕ) → settled_at r p ≡ None → IsPlaceFor r p None (place_at places p)
   at_open p is = let P : Option Mode → Type 0 = λ o. IsPlaceFor r p o (place_at places p) in subst P is (are.each p)
 

@@ -8,7 +8,7 @@ use Rattle.sharc_names.specs.{declared.fault.Named.Named, declared.types.Role.Ro
 use Rattle.sharc_names.specs.declared.fault.Named.TheVariants as named
 use Rattle.sharc_names.specs.declared.types.Role.TheVariants as role
 use Rattle.sharc_ctype.specs.{Entities.{entities_in, entity_at, numbered_from, positions_of, positions_in, is_told_by}, Resolved.{Resolution, named_at, global_at, function_at, kind_at}, Transfers.{Receiver, lvalue, variable, result, function_transfers}, declared.entity.Entity.Entity, declared.entity.Numbered.Numbered}
-use Rattle.sharc_mode.specs.{Flows.{equal_rows, levels_down, receiver_row, source_row, transfer_links, cast_links, item_links, links_of}, Moded.position_count, Rows.{Reading, written, Targets, no_row, deeper, targets_from, entity_row, declared_row, cast_row, global_row, named_row, result_row, called_row, behind, constant_row, reading_through, base_use, unary_row, row_at}}
+use Rattle.sharc_mode.specs.{Flows.{equal_rows, levels_down, receiver_row, source_row, transfer_links, cast_links, item_links, links_of}, Moded.position_count, Rows.{PathReading, written, Targets, no_row, deeper, targets_from, entity_row, declared_row, cast_row, global_row, named_row, result_row, called_row, behind, constant_row, reading_through, base_use, unary_row, row_at}}
 use Rattle.sharc_mode.proofs.RowLemmas.{EndsBy, ends_by}
 
 abbrev pub AllWithin : ℕ → List Link → Type 0
@@ -58,7 +58,7 @@ either_in : (limit : ℕ) (b : Bool) (x y : Option Targets) → EndsIn limit x �
 either_in limit true x y p q = p
 either_in limit false x y p q = q
 
-deeper_by : (limit first count : ℕ) (how : Reading) → first + count ≤ limit → Ends limit (deeper (record { first = first; count = count; reading = how }))
+deeper_by : (limit first count : ℕ) (how : PathReading) → first + count ≤ limit → Ends limit (deeper (record { first = first; count = count; reading = how }))
 deeper_by limit first zero how ends = ends
 deeper_by limit first (suc n) how ends = rw (ne_eqb (suc n) 0 (λ is. omega (arith, is))) (omega arith)
 
@@ -81,7 +81,7 @@ targets_end limit role.Made row ends = ends
 no_row_ends : (limit : ℕ) → Ends limit no_row
 no_row_ends limit = omega arith
 
-entity_ends : (limit : ℕ) (how : Reading) (found : Option Numbered) → EndsBy limit found → Ends limit (entity_row how found)
+entity_ends : (limit : ℕ) (how : PathReading) (found : Option Numbered) → EndsBy limit found → Ends limit (entity_row how found)
 entity_ends limit how None ends = no_row_ends limit
 entity_ends limit how (Some n) ends = targets_end limit n.entity.role (record { first = n.first; count = positions_of n.entity; reading = how }) ends
 
@@ -91,14 +91,14 @@ module _ (r : Resolution) where
       let same : 0 + positions_in (entities_in r.program.items) ≡ position_count r = omega arith in
       subst (λ n. EndsBy n (entity_at r token last)) same (ends_by (is_told_by token last) 0 (entities_in r.program.items))
 
-  declared_ends : (how : Reading) (token : ℕ) → Ends (position_count r) (declared_row r how token)
+  declared_ends : (how : PathReading) (token : ℕ) → Ends (position_count r) (declared_row r how token)
   declared_ends how token = entity_ends (position_count r) how (entity_at r token token) (found_ends token token)
 
-  global_ends : (how : Reading) (g : Option GlobalDefinition) → Ends (position_count r) (global_row r how g)
+  global_ends : (how : PathReading) (g : Option GlobalDefinition) → Ends (position_count r) (global_row r how g)
   global_ends how None = no_row_ends (position_count r)
   global_ends how (Some g) = declared_ends how g.declaration.name.site.token
 
-  named_ends : (how : Reading) (what : Named) → Ends (position_count r) (named_row r how what)
+  named_ends : (how : PathReading) (what : Named) → Ends (position_count r) (named_row r how what)
   named_ends how (named.Struct n) = no_row_ends (position_count r)
   named_ends how (named.Global n) = global_ends how (global_at r n)
   named_ends how (named.Function n) = no_row_ends (position_count r)

@@ -5,8 +5,8 @@ use Rattle.sharc_tree.specs.declared.ctype.Mode.TheVariants.{Private, Readonly, 
 use Rattle.sharc_tree.specs.declared.tree.declaration.WrittenType.{WrittenType}
 use Rattle.sharc_tree.specs.declared.tree.declaration.Declaration.{Declaration}
 use Rattle.sharc_tree.specs.declared.tree.item.GlobalDefinition.{GlobalDefinition}
-use Rattle.sharc_tree.specs.declared.tree.expression.Access.{Access}
-use Rattle.sharc_tree.specs.declared.tree.expression.Access.TheVariants.{Dot, Arrow}
+use Rattle.sharc_tree.specs.declared.tree.expression.FieldOperator.{FieldOperator}
+use Rattle.sharc_tree.specs.declared.tree.expression.FieldOperator.TheVariants.{Dot, Arrow}
 use Rattle.sharc_tree.specs.declared.tree.expression.UnaryOperator.{UnaryOperator}
 use Rattle.sharc_tree.specs.declared.tree.expression.UnaryOperator.TheVariants.{Negate, Not, Complement, Dereference}
 use Rattle.sharc_tree.specs.Tree.{Expression, identifier, constant, parentheses, call, spawn, on_value, on_place, cast}
@@ -86,7 +86,7 @@ unary_cell Complement target = private
 unary_cell Dereference target = target
 
 -- the mode of the instance in which `.` and `->` name a field
-abbrev pub instance : Access → Sharing → Sharing → Sharing
+abbrev pub instance : FieldOperator → Sharing → Sharing → Sharing
 instance Dot cell target = cell
 instance Arrow cell target = target
 

@@ -6,11 +6,11 @@ use Rattle.sharc_tree.specs.declared.ctype.Mode.{Mode}
 use Rattle.sharc_tree.specs.declared.ctype.Mode.TheVariants.{Private, Readonly, Locked, Racy, Dynamic}
 use Rattle.sharc_tree.specs.{declared.tree.declaration.Declaration.Declaration, Measures.in_function}
 use Rattle.sharc_tree.specs.Tree.{Expression, cast, Right, value, malloc, Function, Item, structure, global, function}
-use Rattle.sharc_graph.specs.declared.graph.Finding.{Finding}
-use Rattle.sharc_graph.specs.{declared.graph.Finding.TheVariants.{Apart, Source, Behind}, Findings.finding_at}
-use Rattle.sharc_constraints.specs.{declared.place.Place.Place, declared.place.Link.Link}
+use Rattle.sharc_graph.specs.declared.graph.NodeFinding.{NodeFinding}
+use Rattle.sharc_graph.specs.{declared.graph.NodeFinding.TheVariants.{Apart, Source, Behind}, Findings.finding_at}
+use Rattle.sharc_constraints.specs.{declared.place.PositionKind.PositionKind, declared.place.Link.Link}
 use Rattle.sharc_constraints.specs.{Flow.{flow_of, place_at, AreInferred}, Make.{equal_links, below_links}}
-use Rattle.sharc_constraints.specs.declared.place.Place.TheVariants as place
+use Rattle.sharc_constraints.specs.declared.place.PositionKind.TheVariants as place
 use Rattle.sharc_ctype.specs.{Reaches.{Spawns, IsReached, NamesGlobal}, Resolved.{Resolution, global_at, function_at}}
 use Rattle.sharc_ctype.specs.Transfers.{Receiver, lvalue, variable, result, Transfer, function_transfers}
 use Rattle.sharc_ctype.specs.declared.entity.Numbered.{Numbered}
@@ -48,25 +48,25 @@ IsRoot r position = (f : ℕ) × (IsTouchedIn r position f ⊎ IsPassedTo r posi
 
 -- ---- places: what is known of each position before the inference
 
-abbrev pub written_place : Mode → Place
+abbrev pub written_place : Mode → PositionKind
 written_place Private = place.Private
 written_place Readonly = place.Other
 written_place (Locked path) = place.Other
 written_place Racy = place.Other
 written_place Dynamic = place.Dynamic
 
-abbrev pub IsUnsettledPlace : Resolution → ℕ → Place → Type 0
+abbrev pub IsUnsettledPlace : Resolution → ℕ → PositionKind → Type 0
 IsUnsettledPlace r position place.Root = IsRoot r position
 IsUnsettledPlace r position place.Unwritten = IsRoot r position → ⊥
 IsUnsettledPlace r position place.Dynamic = ⊥
 IsUnsettledPlace r position place.Private = ⊥
 IsUnsettledPlace r position place.Other = ⊥
 
-abbrev pub IsPlaceFor : Resolution → ℕ → Option Mode → Place → Type 0
+abbrev pub IsPlaceFor : Resolution → ℕ → Option Mode → PositionKind → Type 0
 IsPlaceFor r position None p = IsUnsettledPlace r position p
 IsPlaceFor r position (Some m) p = p ≡ written_place m
 
-pub record ArePlaces (r : Resolution) (places : List Place) : Type 0 where
+pub record ArePlaces (r : Resolution) (places : List PositionKind) : Type 0 where
   pub size : length places ≡ position_count r
   pub each : (position : ℕ) → IsPlaceFor r position (settled_at r position) (place_at places position)
 
@@ -114,12 +114,12 @@ links_of r = flat_map levels_down (numbered (entities_in r.program.items)) ++ fl
 -- ---- the least assignment
 
 -- what is written stays; an unwritten position is private where no path leads to it
-abbrev pub inferred_mode : Finding → Mode
+abbrev pub inferred_mode : NodeFinding → Mode
 inferred_mode Apart = Private
 inferred_mode Source = Dynamic
 inferred_mode (Behind rank reason) = Dynamic
 
-abbrev pub mode_found : Option Mode → Finding → Mode
+abbrev pub mode_found : Option Mode → NodeFinding → Mode
 mode_found (Some m) finding = m
 mode_found None finding = inferred_mode finding
 
@@ -130,20 +130,20 @@ IsRootReason r position (Some (Spawned f)) = IsPassedTo r position f
 IsRootReason r position (Some (From other)) = ⊥
 
 -- the lowest position of the rank below that has an edge to it is in the finding
-abbrev pub IsReasonBy : Resolution → ℕ → Finding → Option Reason → Type 0
+abbrev pub IsReasonBy : Resolution → ℕ → NodeFinding → Option Reason → Type 0
 IsReasonBy r position Apart reason = reason ≡ None
 IsReasonBy r position Source reason = IsRootReason r position reason
 IsReasonBy r position (Behind rank other) reason = reason ≡ Some (From other)
 
-abbrev pub IsReasonFor : Resolution → ℕ → Option Mode → Finding → Option Reason → Type 0
+abbrev pub IsReasonFor : Resolution → ℕ → Option Mode → NodeFinding → Option Reason → Type 0
 IsReasonFor r position (Some m) finding reason = reason ≡ None
 IsReasonFor r position None finding reason = IsReasonBy r position finding reason
 
 -- by some list of the places of the program, and what is found of them by its links
 pub record IsLeastAssignment (m : Assignment) : Type 0 where
-  pub places : List Place
+  pub places : List PositionKind
   pub are_places : ArePlaces m.typed places
-  pub findings : List Finding
+  pub findings : List NodeFinding
   pub are_inferred : AreInferred (flow_of places (links_of m.typed)) findings
   pub modes : length m.modes ≡ position_count m.typed
   pub mode : (position : ℕ) → position < position_count m.typed → slice_index_or m.modes position Private

@@ -20,7 +20,7 @@ use Rattle.sharc_mode.specs.declared.error.ErrorCode.TheVariants.{NeedsConstantB
 use Rattle.sharc_mode.specs.{declared.error.ModeError.ModeError, declared.finding.Finding.Finding}
 use Rattle.sharc_mode.specs.{declared.finding.Finding.TheVariants.{Wrong, Names, Takes}, Cells.{cell_at, top_of}}
 use Rattle.sharc_mode.specs.Moded.{Assignment}
-use Rattle.sharc_mode.specs.Rows.{Reading, written, at_call, read, modes_of, modes_at, declared_row, argument_use}
+use Rattle.sharc_mode.specs.Rows.{PathReading, written, at_call, read, modes_of, modes_at, declared_row, argument_use}
 use Rattle.sharc_mode.specs.Rows.{path_variable}
 use Rattle.sharc_mode.specs.Sharings.{Lock, Sharing, private, readonly, locked, racy, dynamic, sharing_of, path_of}
 use Rattle.sharc_mode.specs.Sharings.{mode_of, text_at, same_all, is_readonly, is_sibling, variable_named, object_named}
@@ -221,11 +221,11 @@ unmet_notes r s (Some l) = error LockPathNotConstant s (path_text (path_of r l))
 
 -- the variables and globals that the substituted paths name
 
-abbrev pub names_read : Resolution → Reading → Option Mode → List Finding
+abbrev pub names_read : Resolution → PathReading → Option Mode → List Finding
 names_read r how None = []
 names_read r how (Some mode) = names_in r (read r how (sharing_of mode))
 
-abbrev pub parameter_names : Assignment → Reading → Declaration → List Finding
+abbrev pub parameter_names : Assignment → PathReading → Declaration → List Finding
 parameter_names m how d = names_in_all m.typed (modes_of m (declared_row m.typed how d.name.site.token))
     ++ flat_map (names_read m.typed how) d.written.ctype.levels
 

@@ -3,8 +3,8 @@ use Rattle.std.specs.Prelude.{ℕ, ◌+◌, ◌-◌, ◌==◌, Bool, false, List
 use Rattle.std.specs.Prelude.{None, is_some, if◌then◌else◌}
 use Rattle.sharc_tree.specs.{declared.token.Span.Span, declared.tree.declaration.Declaration.Declaration}
 use Rattle.sharc_tree.specs.declared.tree.item.GlobalDefinition.{GlobalDefinition}
-use Rattle.sharc_tree.specs.declared.tree.expression.Access.{Access}
-use Rattle.sharc_tree.specs.declared.tree.expression.Access.TheVariants.{Dot, Arrow}
+use Rattle.sharc_tree.specs.declared.tree.expression.FieldOperator.{FieldOperator}
+use Rattle.sharc_tree.specs.declared.tree.expression.FieldOperator.TheVariants.{Dot, Arrow}
 use Rattle.sharc_tree.specs.declared.tree.expression.UnaryOperator.{UnaryOperator}
 use Rattle.sharc_tree.specs.declared.tree.expression.UnaryOperator.TheVariants.{Negate, Not, Complement, Dereference}
 use Rattle.sharc_tree.specs.declared.tree.expression.Constant.{Constant}
@@ -23,16 +23,16 @@ use Rattle.sharc_mode.specs.Sharings.{is_sibling_lock, variable_of}
 
 -- as they are written; through `x->f` with `x` a constant variable, which is at this token; at a call with these
 -- parameters and arguments
-pub data Reading : Type 0 where
-  written : Reading
-  through : ℕ → Reading
-  at_call : List Declaration → Arguments → Reading
+pub data PathReading : Type 0 where
+  written : PathReading
+  through : ℕ → PathReading
+  at_call : List Declaration → Arguments → PathReading
 
 -- this many positions from the first on, from the first target down
 pub record Targets : Type 0 where
   pub first : ℕ
   pub count : ℕ
-  pub reading : Reading
+  pub reading : PathReading
 
 -- Constant variables where they are used. The form of a use is meant without parentheses.
 
@@ -46,7 +46,7 @@ constant_use r (identifier s i) = if is_constant_named r (named_at r i.site.toke
 constant_use r _ = None
 
 -- the `x` of a use `x->f`
-abbrev pub base_use : Resolution → Access → Expression → Option ℕ
+abbrev pub base_use : Resolution → FieldOperator → Expression → Option ℕ
 base_use r Dot a = None
 base_use r Arrow a = constant_use r a
 
@@ -76,12 +76,12 @@ abbrev pub lock_for : Resolution → List Declaration → Arguments → Option �
 lock_for r ds all None l = l
 lock_for r ds all (Some x) l = with_base (argument_use r ds all x) l
 
-abbrev pub read_lock : Resolution → Reading → Lock → Lock
+abbrev pub read_lock : Resolution → PathReading → Lock → Lock
 read_lock r written l = l
 read_lock r (through at) l = lock_through r at l
 read_lock r (at_call ds all) l = lock_for r ds all (path_variable r l) l
 
-abbrev pub read : Resolution → Reading → Sharing → Sharing
+abbrev pub read : Resolution → PathReading → Sharing → Sharing
 read r how private = private
 read r how readonly = readonly
 read r how (locked l) = locked (read_lock r how l)
@@ -104,23 +104,23 @@ abbrev pub targets_from : Role → Targets → Targets
 targets_from role.Global row = deeper row
 targets_from _ row = row
 
-abbrev pub entity_row : Reading → Option Numbered → Targets
+abbrev pub entity_row : PathReading → Option Numbered → Targets
 entity_row how None = no_row
 entity_row how (Some n) =
     targets_from n.entity.role (record { first = n.first; count = positions_of n.entity; reading = how })
 
 -- of the type of what this token declares
-abbrev pub declared_row : Resolution → Reading → ℕ → Targets
+abbrev pub declared_row : Resolution → PathReading → ℕ → Targets
 declared_row r how token = entity_row how (entity_at r token token)
 
 abbrev pub cast_row : Resolution → Span → Targets
 cast_row r s = entity_row written (entity_at r s.first.token s.last.token)
 
-abbrev pub global_row : Resolution → Reading → Option GlobalDefinition → Targets
+abbrev pub global_row : Resolution → PathReading → Option GlobalDefinition → Targets
 global_row r how None = no_row
 global_row r how (Some g) = declared_row r how g.declaration.name.site.token
 
-abbrev pub named_row : Resolution → Reading → Named → Targets
+abbrev pub named_row : Resolution → PathReading → Named → Targets
 named_row r how (named.Struct n) = no_row
 named_row r how (named.Global n) = global_row r how (global_at r n)
 named_row r how (named.Function n) = no_row
@@ -151,7 +151,7 @@ constant_row (Number n) = Some no_row
 constant_row (Character b) = Some no_row
 constant_row Null = None
 
-abbrev pub reading_through : Option ℕ → Reading
+abbrev pub reading_through : Option ℕ → PathReading
 reading_through None = written
 reading_through (Some at) = through at
 

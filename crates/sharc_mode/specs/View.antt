@@ -4,10 +4,10 @@ use Rattle.sharc_tree.specs.{Tree.{argument, no_arguments}, View.{view_expr, vie
 use Rattle.sharc_mode.specs.declared.sharing.Lock.{Lock as RustLock}
 use Rattle.sharc_mode.specs.declared.sharing.Sharing.{Sharing as RustSharing}
 use Rattle.sharc_mode.specs.declared.sharing.Sharing.TheVariants.{Private, Readonly, Locked, Racy, Dynamic}
-use Rattle.sharc_mode.specs.declared.row.Reading.{Reading as RustReading}
-use Rattle.sharc_mode.specs.declared.row.Reading.TheVariants.{Written, Through, Call, Spawn}
+use Rattle.sharc_mode.specs.declared.row.PathReading.{PathReading as RustReading}
+use Rattle.sharc_mode.specs.declared.row.PathReading.TheVariants.{Written, Through, Call, Spawn}
 use Rattle.sharc_mode.specs.{declared.row.Targets.{Targets as RustTargets}, Moded.position_count}
-use Rattle.sharc_mode.specs.Rows.{Reading, written, through, at_call, Targets}
+use Rattle.sharc_mode.specs.Rows.{PathReading, written, through, at_call, Targets}
 use Rattle.sharc_mode.specs.Sharings.{Lock, Sharing, private, readonly, locked, racy, dynamic}
 use Rattle.sharc_ctype.specs.Resolved.{Resolution}
 
@@ -25,7 +25,7 @@ view_sharing (Locked l) = locked (view_lock l)
 view_sharing Racy = racy
 view_sharing Dynamic = dynamic
 
-abbrev pub view_reading : RustReading → Reading
+abbrev pub view_reading : RustReading → PathReading
 view_reading Written = written
 view_reading (Through at) = through at
 view_reading (Call parameters all) = at_call parameters.now (view_arguments all.now)

@@ -16,35 +16,35 @@ use crate::row::{Targets, row_of};
 use crate::sharing::{Lock, Sharing, is_private, is_sibling_lock, lock_of};
 use sharc_ctype::typed::Typed;
 use sharc_names::fault::Named;
-use sharc_names::kind::{Kind, Root, declared_kind, is_array, is_pointer};
+use sharc_names::kind::{ExpressionKind, Root, declared_kind, is_array, is_pointer};
 use sharc_names::meaning::{Meaning, kind_of};
 use sharc_tree::ctype::Mode;
-use sharc_tree::tree::{Access, Declaration, Expr, UnaryOperator};
+use sharc_tree::tree::{FieldOperator, Declaration, Expr, UnaryOperator};
 
 /// Whether it is an object of C type mutex.
-pub fn is_mutex_kind(kind: Kind<'_>) -> bool
+pub fn is_mutex_kind(kind: ExpressionKind<'_>) -> bool
     ensures { result ≡ is_mutex_kind (view_kind kind.entry) }
 {
     match kind {
-        Kind::Object(Root::Mutex, stars) => stars == 0,
+        ExpressionKind::Object(Root::Mutex, stars) => stars == 0,
         _ => false,
     }
 }
 
 /// The kind of what a variable, a field or a global is declared as; of anything else that of a function's name.
-pub fn named_kind(typed: &Typed, named: Named) -> Kind<'_>
+pub fn named_kind(typed: &Typed, named: Named) -> ExpressionKind<'_>
     ensures { view_kind result ≡ named_kind typed.now named }
 {
     match named {
         Named::Global(number) => match typed.global_at(number) {
-            None => Kind::Function,
+            None => ExpressionKind::Function,
             Some(global) => kind_of(Meaning::Global(number, global)),
         },
         Named::Variable(token) | Named::Field(token) => match typed.declaration_at(token) {
-            None => Kind::Function,
+            None => ExpressionKind::Function,
             Some(declaration) => declared_kind(&declaration.written),
         },
-        Named::Struct(_) | Named::Function(_) | Named::Known => Kind::Function,
+        Named::Struct(_) | Named::Function(_) | Named::Known => ExpressionKind::Function,
     }
 }
 
@@ -179,13 +179,13 @@ pub fn cell_of<'a>(program: &'a Moded, expr: &'a Expr) -> Sharing<'a>
         }
         Expr::Field {
             base,
-            access: Access::Dot,
+            access: FieldOperator::Dot,
             name,
             ..
         } => field_named(t, cell_of(program, base), t.named(name.site.token)),
         Expr::Field {
             base,
-            access: Access::Arrow,
+            access: FieldOperator::Arrow,
             name,
             ..
         } => field_named(

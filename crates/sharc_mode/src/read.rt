@@ -6,7 +6,7 @@ ghost use Rattle.sharc_tree.specs.View.{view_expr};
 ghost use Rattle.sharc_mode.specs.Rows.{argument_use, lock_through, with_base, path_variable, read_lock, read};
 ghost use Rattle.sharc_mode.specs.View.{view_lock, view_reading, view_sharing};
 
-use crate::row::{Reading, argument_use, constant_use};
+use crate::row::{PathReading, argument_use, constant_use};
 use crate::sharing::{Lock, Sharing, is_sibling_lock, variable_of};
 use crate::text::text_at;
 use sharc_ctype::typed::Typed;
@@ -71,17 +71,17 @@ pub fn spawn_argument_use(
 }
 
 /// A path of a declared type as it is read there.
-pub fn read_lock<'a>(typed: &'a Typed, reading: Reading<'a>, lock: Lock<'a>) -> Lock<'a>
+pub fn read_lock<'a>(typed: &'a Typed, reading: PathReading<'a>, lock: Lock<'a>) -> Lock<'a>
     ensures { view_lock result ≡ read_lock typed.now (view_reading reading.entry) (view_lock lock.entry) }
 {
     match reading {
-        Reading::Written => lock,
-        Reading::Through(at) => lock_through(typed, at, lock),
-        Reading::Call(parameters, arguments) => match path_variable(typed, lock) {
+        PathReading::Written => lock,
+        PathReading::Through(at) => lock_through(typed, at, lock),
+        PathReading::Call(parameters, arguments) => match path_variable(typed, lock) {
             None => lock,
             Some(variable) => with_base(argument_use(typed, parameters, arguments, variable), lock),
         },
-        Reading::Spawn(parameters, value) => match path_variable(typed, lock) {
+        PathReading::Spawn(parameters, value) => match path_variable(typed, lock) {
             None => lock,
             Some(variable) => with_base(
                 spawn_argument_use(typed, parameters, value, variable),
@@ -92,7 +92,7 @@ pub fn read_lock<'a>(typed: &'a Typed, reading: Reading<'a>, lock: Lock<'a>) -> 
 }
 
 /// A mode of a declared type as it is read there.
-pub fn read<'a>(typed: &'a Typed, reading: Reading<'a>, sharing: Sharing<'a>) -> Sharing<'a>
+pub fn read<'a>(typed: &'a Typed, reading: PathReading<'a>, sharing: Sharing<'a>) -> Sharing<'a>
     ensures { view_sharing result ≡ read typed.now (view_reading reading.entry) (view_sharing sharing.entry) }
 {
     match sharing {

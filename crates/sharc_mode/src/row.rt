@@ -18,12 +18,12 @@ use sharc_names::kind::is_array;
 use sharc_names::types::Role;
 use sharc_tree::token::Span;
 use sharc_tree::tree::{
-    Access, Constant, Declaration, Expr, FunctionDefinition, GlobalDefinition, UnaryOperator,
+    FieldOperator, Constant, Declaration, Expr, FunctionDefinition, GlobalDefinition, UnaryOperator,
 };
 
 /// How the lock paths of a declared type are read where it is used.
 #[derive(Clone, Copy)]
-pub enum Reading<'a> {
+pub enum PathReading<'a> {
     /// As they are written.
     Written,
     /// Through `x->f` with `x` a constant variable, which is at this token: a sibling's name `m` becomes `x->m`.
@@ -40,7 +40,7 @@ pub enum Reading<'a> {
 pub struct Targets<'a> {
     pub first: u32,
     pub count: u32,
-    pub reading: Reading<'a>,
+    pub reading: PathReading<'a>,
 }
 
 /// Whether a name names a constant variable.
@@ -71,12 +71,12 @@ pub fn constant_use(typed: &Typed, expr: &Expr) -> Option<u32>
 }
 
 /// The token of `x` of a use `x->f`, where `x` is a constant variable.
-pub fn base_use(typed: &Typed, access: Access, base: &Expr) -> Option<u32>
+pub fn base_use(typed: &Typed, access: FieldOperator, base: &Expr) -> Option<u32>
     ensures { result ≡ base_use typed.now access (view_expr base.now) }
 {
     match access {
-        Access::Arrow => constant_use(typed, base),
-        Access::Dot => None,
+        FieldOperator::Arrow => constant_use(typed, base),
+        FieldOperator::Dot => None,
     }
 }
 
@@ -109,7 +109,7 @@ impl<'a> Targets<'a> {
         Targets {
             first: 0,
             count: 0,
-            reading: Reading::Written,
+            reading: PathReading::Written,
         }
     }
 
@@ -143,7 +143,7 @@ fn targets_from<'a>(role: Role, row: Targets<'a>) -> Targets<'a>
 }
 
 /// The positions of an entity.
-fn row_of_entity<'a>(typed: &Typed, reading: Reading<'a>, numbered: &Numbered) -> Targets<'a>
+fn row_of_entity<'a>(typed: &Typed, reading: PathReading<'a>, numbered: &Numbered) -> Targets<'a>
     requires { numbered.now.first + positions_of numbered.now.entity ≤ position_count typed.now }
     ensures row { view_row result ≡ entity_row (view_reading reading.entry) (Some numbered.now) }
     ensures within { result.first + result.count ≤ position_count typed.now }
@@ -158,7 +158,7 @@ fn row_of_entity<'a>(typed: &Typed, reading: Reading<'a>, numbered: &Numbered) -
 }
 
 /// The targets of the type of what this token declares, of a cast by its first and its last token.
-pub fn row_between<'a>(typed: &Typed, reading: Reading<'a>, token: u32, last: u32) -> Targets<'a>
+pub fn row_between<'a>(typed: &Typed, reading: PathReading<'a>, token: u32, last: u32) -> Targets<'a>
     ensures row { view_row result ≡ entity_row (view_reading reading.entry) (entity_at typed.now token last) }
     ensures within { result.first + result.count ≤ position_count typed.now }
 {
@@ -169,7 +169,7 @@ pub fn row_between<'a>(typed: &Typed, reading: Reading<'a>, token: u32, last: u3
 }
 
 /// The targets of the type of what this token declares.
-pub fn declared_row<'a>(typed: &Typed, reading: Reading<'a>, token: u32) -> Targets<'a>
+pub fn declared_row<'a>(typed: &Typed, reading: PathReading<'a>, token: u32) -> Targets<'a>
     ensures row { view_row result ≡ declared_row typed.now (view_reading reading.entry) token }
     ensures within { result.first + result.count ≤ position_count typed.now }
 {
@@ -181,11 +181,11 @@ pub fn cast_row<'a>(typed: &Typed, span: Span) -> Targets<'a>
     ensures row { view_row result ≡ cast_row typed.now span }
     ensures within { result.first + result.count ≤ position_count typed.now }
 {
-    row_between(typed, Reading::Written, span.first.token, span.last.token)
+    row_between(typed, PathReading::Written, span.first.token, span.last.token)
 }
 
 /// The targets of the type of what a name names.
-pub fn named_row<'a>(typed: &Typed, reading: Reading<'a>, named: Named) -> Targets<'a>
+pub fn named_row<'a>(typed: &Typed, reading: PathReading<'a>, named: Named) -> Targets<'a>
     ensures row { view_row result ≡ named_row typed.now (view_reading reading.entry) named }
     ensures within { result.first + result.count ≤ position_count typed.now }
 {
@@ -210,7 +210,7 @@ fn called_row<'a>(typed: &Typed, named: Named) -> Targets<'a>
     match named {
         Named::Function(number) => match typed.function_at(number) {
             None => Targets::none(),
-            Some(function) => declared_row(typed, Reading::Written, function.name.site.token),
+            Some(function) => declared_row(typed, PathReading::Written, function.name.site.token),
         },
         Named::Struct(_) => Targets::none(),
         Named::Global(_) => Targets::none(),
@@ -244,12 +244,12 @@ fn constant_row<'a>(constant: Constant) -> Option<Targets<'a>>
     }
 }
 
-fn reading_through<'a>(base: Option<u32>) -> Reading<'a>
+fn reading_through<'a>(base: Option<u32>) -> PathReading<'a>
     ensures { view_reading result ≡ reading_through base }
 {
     match base {
-        None => Reading::Written,
-        Some(at) => Reading::Through(at),
+        None => PathReading::Written,
+        Some(at) => PathReading::Through(at),
     }
 }
 
@@ -262,7 +262,7 @@ pub fn row_of<'a>(typed: &Typed, expr: &Expr) -> Option<Targets<'a>>
     match expr {
         Expr::Identifier(_, name) => Some(named_row(
             typed,
-            Reading::Written,
+            PathReading::Written,
             typed.named(name.site.token),
         )),
         Expr::Constant(_, constant) => constant_row(*constant),

@@ -20,7 +20,7 @@ use crate::sharing::{Lock, Sharing, same};
 use crate::text::text_at;
 use sharc_ctype::entity::Numbered;
 use sharc_ctype::typed::Typed;
-use sharc_names::kind::{Kind, Root};
+use sharc_names::kind::{ExpressionKind, Root};
 use sharc_names::types::Role;
 use sharc_tree::ctype::{Base, CType, Mode, Path};
 use sharc_tree::listed::Listed;
@@ -60,14 +60,14 @@ pub fn mode_of(alloc: Global, typed: &Typed, sharing: Sharing<'_>) -> Result<Mod
 }
 
 /// What is at the bottom of the type of an expression; `void` where it has none.
-pub fn root_of_kind(kind: Kind<'_>) -> Root<'_>
+pub fn root_of_kind(kind: ExpressionKind<'_>) -> Root<'_>
     ensures { view_root result ≡ base_of (view_kind kind.entry) }
 {
     match kind {
-        Kind::Object(root, _) => root,
-        Kind::Array(root, _) => root,
-        Kind::Null => Root::Void,
-        Kind::Function => Root::Void,
+        ExpressionKind::Object(root, _) => root,
+        ExpressionKind::Array(root, _) => root,
+        ExpressionKind::Null => Root::Void,
+        ExpressionKind::Function => Root::Void,
     }
 }
 

@@ -22,7 +22,7 @@ use crate::place::Place;
 use crate::sharing::{Lock, lock_of};
 use sharc_ctype::typed::Typed;
 use sharc_names::fault::Named;
-use sharc_names::kind::{Kind, Root, declared_kind};
+use sharc_names::kind::{ExpressionKind, Root, declared_kind};
 use sharc_tree::ctype::{Base, CType, Mode, Path};
 use sharc_tree::tree::Declaration;
 
@@ -169,11 +169,11 @@ fn names_sibling_mutex(typed: &Typed, named: Named) -> bool
     }
 }
 
-fn is_mutex_pointer(kind: Kind<'_>) -> bool
+fn is_mutex_pointer(kind: ExpressionKind<'_>) -> bool
     ensures { result ≡ is_mutex_pointer (view_kind kind.entry) }
 {
     match kind {
-        Kind::Object(Root::Mutex, stars) => stars == 1,
+        ExpressionKind::Object(Root::Mutex, stars) => stars == 1,
         _ => false,
     }
 }

@@ -3,7 +3,7 @@ use Rattle.std.proofs.{Common.{◌≡◌, ℕ, Bool, true, false, cond, List, []
 use Rattle.std.specs.List.{AllByRecursion, flat_map}
 use Rattle.sharc_tree.specs.{declared.ctype.Base.Base, declared.ctype.Mode.Mode, declared.ctype.Mode.TheVariants.{Private, Readonly, Locked, Racy, Dynamic}, declared.ctype.Path.Path, declared.token.Span.Span}
 use Rattle.sharc_ctype.specs.Resolved.{Resolution}
-use Rattle.sharc_mode.specs.{declared.error.ErrorCode.ErrorCode, declared.error.ModeError.ModeError, declared.finding.Finding.Finding, declared.finding.Finding.TheVariants.{Wrong, Names, Takes}, Notes.{error_where, agree, path_notes, mode_notes, names_of, names_in, names_in_all, names_in_level, names_read, takes, unmet_notes, cast_notes}, Rows.{Reading, read_lock}, Sharings.{Lock, Sharing, private, readonly, locked, racy, dynamic, lock_of, same_all, object_of}}
+use Rattle.sharc_mode.specs.{declared.error.ErrorCode.ErrorCode, declared.error.ModeError.ModeError, declared.finding.Finding.Finding, declared.finding.Finding.TheVariants.{Wrong, Names, Takes}, Notes.{error_where, agree, path_notes, mode_notes, names_of, names_in, names_in_all, names_in_level, names_read, takes, unmet_notes, cast_notes}, Rows.{PathReading, read_lock}, Sharings.{Lock, Sharing, private, readonly, locked, racy, dynamic, lock_of, same_all, object_of}}
 use Rattle.sharc_mode_laws.proofs.Lists.{spread, gather}
 use Rattle.sharc_lemmas.proofs.{Options.{same_some, none_some}, Lists.{of_each, to_each}}
 
@@ -155,7 +155,7 @@ module _ (W : Type 0) (N T : ℕ → Type 0) where
       gather (Said W N T) (names_in_level r) levels
       (to_each (λ level. Hold (names_in_level r level)) levels (λ level has. level_back r level (λ path x is o. h path x (subst (Contains levels) is has) o)))
 
-  read_back : (r : Resolution) (how : Reading) (o : Option Mode) → ((path : Path) (x : ℕ) → o ≡ Some (Locked path) → object_of r (read_lock r how (lock_of path)) ≡ Some x → N x) → Hold (names_read r how o)
+  read_back : (r : Resolution) (how : PathReading) (o : Option Mode) → ((path : Path) (x : ℕ) → o ≡ Some (Locked path) → object_of r (read_lock r how (lock_of path)) ≡ Some x → N x) → Hold (names_read r how o)
   read_back r how None h = tt
   read_back r how (Some Private) h = tt
   read_back r how (Some Readonly) h = tt
@@ -163,11 +163,11 @@ module _ (W : Type 0) (N T : ℕ → Type 0) where
   read_back r how (Some Racy) h = tt
   read_back r how (Some Dynamic) h = tt
 
-  pub all_read_said : (r : Resolution) (how : Reading) (levels : List (Option Mode)) (path : Path) (x : ℕ) → Hold (flat_map (names_read r how) levels) → Contains levels (Some (Locked path)) → object_of r (read_lock r how (lock_of path)) ≡ Some x → N x
+  pub all_read_said : (r : Resolution) (how : PathReading) (levels : List (Option Mode)) (path : Path) (x : ℕ) → Hold (flat_map (names_read r how) levels) → Contains levels (Some (Locked path)) → object_of r (read_lock r how (lock_of path)) ≡ Some x → N x
   all_read_said r how levels path x h has o =
       names_said (object_of r (read_lock r how (lock_of path))) x (of_each (λ level. Hold (names_read r how level)) levels (Some (Locked path)) (spread (Said W N T) (names_read r how) levels h) has) o
 
-  pub all_read_back : (r : Resolution) (how : Reading) (levels : List (Option Mode)) → ((path : Path) (x : ℕ) → Contains levels (Some (Locked path)) → object_of r (read_lock r how (lock_of path)) ≡ Some x → N x) → Hold (flat_map (names_read r how) levels)
+  pub all_read_back : (r : Resolution) (how : PathReading) (levels : List (Option Mode)) → ((path : Path) (x : ℕ) → Contains levels (Some (Locked path)) → object_of r (read_lock r how (lock_of path)) ≡ Some x → N x) → Hold (flat_map (names_read r how) levels)
   all_read_back r how levels h =
       gather (Said W N T) (names_read r how) levels
       (to_each (λ level. Hold (names_read r how level)) levels (λ level has. read_back r how level (λ path x is o. h path x (subst (Contains levels) is has) o)))

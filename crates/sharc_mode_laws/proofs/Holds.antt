@@ -1,10 +1,10 @@
 -- What all notes of a program say, by its constructs, there and back.
 use Rattle.std.proofs.{Common.{◌≡◌, ⊎_elim, ◌+◌, ℕ, zero, suc, Bool, true, false, ◌&&◌, cond, arith, List, [], ◌∷◌, ◌++◌, drop, refl, ap, sym, ◌∙◌, subst, slice_get, Option, Some, None, Contains}, lemmas.Bool.false≢true}
 use Rattle.std.specs.List.{AllByRecursion, flat_map, list_any}
-use Rattle.sharc_tree.specs.{declared.ctype.Mode.Mode, declared.ctype.Mode.TheVariants.Locked, declared.ctype.Path.Path, declared.token.Span.Span, declared.tree.declaration.Declaration.Declaration, declared.tree.declaration.Identifier.Identifier, declared.tree.declaration.WrittenType.WrittenType, declared.tree.expression.Access.Access, declared.tree.expression.PlaceCall.PlaceCall, declared.tree.expression.PlaceCall.TheVariants.{Lock, Unlock, Free}, declared.tree.item.GlobalDefinition.GlobalDefinition, Forms.without_parentheses, Measures.in_function, Spans.span_of, Tree.{Expression, Arguments, no_arguments, argument, Right, value, malloc, Local, Function}}
+use Rattle.sharc_tree.specs.{declared.ctype.Mode.Mode, declared.ctype.Mode.TheVariants.Locked, declared.ctype.Path.Path, declared.token.Span.Span, declared.tree.declaration.Declaration.Declaration, declared.tree.declaration.Identifier.Identifier, declared.tree.declaration.WrittenType.WrittenType, declared.tree.expression.FieldOperator.FieldOperator, declared.tree.expression.PlaceCall.PlaceCall, declared.tree.expression.PlaceCall.TheVariants.{Lock, Unlock, Free}, declared.tree.item.GlobalDefinition.GlobalDefinition, Forms.without_parentheses, Measures.in_function, Spans.span_of, Tree.{Expression, Arguments, no_arguments, argument, Right, value, malloc, Local, Function}}
 use Rattle.sharc_tree.specs.Tree as tree
 use Rattle.sharc_ctype.specs.{declared.entity.Numbered.Numbered, Entities.{entities_in, numbered}, Resolved.{functions_in, globals_in, named_at, kind_at, function_at, global_at}, Transfers.{Receiver, lvalue, variable, result, Transfer, passed, parameters_named, function_transfers}}
-use Rattle.sharc_mode.specs.{declared.error.ErrorCode.TheVariants.{ReadonlyWrite, PrivateField, PrivateReachesThread, ReadonlySource}, declared.finding.Finding.Finding, Cells.{cell_at, top_of}, Expressions.{expected, place_notes, items_notes}, Moded.Assignment, Notes.{base_of, span_text, agree_notes, error_where, levels_of, private_notes, path_notes, mode_notes, is_private_level, is_field_role, private_field_notes, names_in_level, names_in_all, names_read, type_notes, first_unmet, unmet_notes, parameter_names, names_at_call, call_notes, cast_notes, taken_variable, source_notes, takes, sibling_notes}, Rows.{Reading, written, at_call, base_use, declared_row, cast_row, named_row, modes_of, modes_at}, Sharings.{Sharing, same_all, is_readonly, is_sibling, text_at, variable_named, object_of, lock_of}, WellFormed.{place_of, holds_private, first_unfit_path, first_unfit_mode}, WellModed.{is_spawned, has_private_target, parameter_notes, spawned_notes, touched_notes, notes_about}}
+use Rattle.sharc_mode.specs.{declared.error.ErrorCode.TheVariants.{ReadonlyWrite, PrivateField, PrivateReachesThread, ReadonlySource}, declared.finding.Finding.Finding, Cells.{cell_at, top_of}, Expressions.{expected, place_notes, items_notes}, Moded.Assignment, Notes.{base_of, span_text, agree_notes, error_where, levels_of, private_notes, path_notes, mode_notes, is_private_level, is_field_role, private_field_notes, names_in_level, names_in_all, names_read, type_notes, first_unmet, unmet_notes, parameter_names, names_at_call, call_notes, cast_notes, taken_variable, source_notes, takes, sibling_notes}, Rows.{PathReading, written, at_call, base_use, declared_row, cast_row, named_row, modes_of, modes_at}, Sharings.{Sharing, same_all, is_readonly, is_sibling, text_at, variable_named, object_of, lock_of}, WellFormed.{place_of, holds_private, first_unfit_path, first_unfit_mode}, WellModed.{is_spawned, has_private_target, parameter_notes, spawned_notes, touched_notes, notes_about}}
 use Rattle.sharc_mode.specs.Sharings as sharing
 use Rattle.sharc_mode_laws.specs.{Constructs.{IsFunction, IsExpression, IsCall, called, spawned, IsTaken, cast_away, freed, IsAssigned, IsGiven, assigned, initial, an_argument, returned, IsEntity, locals_in_all}, Paths.{HasPath, at_target, at_level}}
 use Rattle.sharc_mode_laws.proofs.{Claims.{Said, Hold, where_said, where_back, when_said, when_back, agree_said, agree_back, path_said, path_back, mode_said, mode_back, unmet_said, unmet_back, cast_said, cast_back, takes_said, takes_back, names_said, names_back, in_all_said, in_all_back, levels_said, levels_back, all_read_said, all_read_back}, Lists.{spread, gather}, Walk.{argument_notes, own_notes, OwnSaid, ReceiverSaid, TransferSaid, InitialSaid, LocalSaid, FunctionSaid, items_said, items_back}}
@@ -14,7 +14,7 @@ use Rattle.sharc_lemmas.proofs.{Options.{same_some, none_some}, Lists.{front, ba
 pub data Named (m : Assignment) (x : ℕ) : Type 0 where
   by_type : {n : Numbered} {path : Path} → IsEntity m n → Contains n.entity.written.ctype.levels (Some (Locked path)) → object_of m.typed (lock_of path) ≡ Some x → Named m x
   by_call : {ds : List Declaration} {all : Arguments} {d : Declaration} {l : sharing.Lock} → IsCall m ds all → Contains ds d → HasPath m (at_call ds all) d l → object_of m.typed l ≡ Some x → Named m x
-  by_use : {s : Span} {a : Expression} {w : Access} {n : Identifier} {at : ℕ} → IsExpression m (tree.field s a w n)
+  by_use : {s : Span} {a : Expression} {w : FieldOperator} {n : Identifier} {at : ℕ} → IsExpression m (tree.field s a w n)
       → list_any (is_sibling m.typed) (modes_of m (named_row m.typed written (named_at m.typed n.site.token))) ≡ true → base_use m.typed w a ≡ Some at → variable_named (named_at m.typed at) ≡ Some x → Named m x
 
 pub record Holds (W : Type 0) (N T : ℕ → Type 0) (m : Assignment) (touched : ℕ → Bool) : Type 0 where
@@ -29,7 +29,7 @@ pub record Holds (W : Type 0) (N T : ℕ → Type 0) (m : Assignment) (touched :
   pub casts : (s : Span) (t : WrittenType) (a : Expression) (found : List Sharing) → IsExpression m (tree.cast s t a) → modes_at m a ≡ Some found → same_all m.typed (drop 1 (modes_of m (cast_row m.typed s))) (drop 1 found) ≡ false → W
   pub readonly_taken : (a : Expression) → IsTaken m a → is_readonly (cell_at m a) ≡ true → W
   pub unmet : (ds : List Declaration) (all : Arguments) (l : sharing.Lock) → IsCall m ds all → first_unmet m ds all ds ≡ Some l → W
-  pub siblings : (s : Span) (a : Expression) (w : Access) (n : Identifier) → IsExpression m (tree.field s a w n)
+  pub siblings : (s : Span) (a : Expression) (w : FieldOperator) (n : Identifier) → IsExpression m (tree.field s a w n)
       → list_any (is_sibling m.typed) (modes_of m (named_row m.typed written (named_at m.typed n.site.token))) ≡ true → base_use m.typed w a ≡ None → W
   pub named : (x : ℕ) → Named m x → N x
   pub taken : (a : Expression) (x : ℕ) → IsTaken m a → taken_variable m.typed (without_parentheses a) ≡ Some x → T x
@@ -215,7 +215,7 @@ module _ (W : Type 0) (N T : ℕ → Type 0) (m : Assignment) where
       both S (agree_notes m (wanted ds all x) a) (argument_notes m ds all left rest) (h x a (head_there _ (passed left rest)))
       (arguments_back ds all left rest (λ d e has. h d e (tail_there record { receiver = variable x; source = value a } record { receiver = variable d; source = value e } (passed left rest) has)))
 
-  path_names : (how : Reading) (d : Declaration) (l : sharing.Lock) (x : ℕ) → H (parameter_names m how d) → HasPath m how d l → object_of m.typed l ≡ Some x → N x
+  path_names : (how : PathReading) (d : Declaration) (l : sharing.Lock) (x : ℕ) → H (parameter_names m how d) → HasPath m how d l → object_of m.typed l ≡ Some x → N x
   path_names how d _ x h (at_target {l = l} has) o =
       in_all_said W N T m.typed (modes_of m (declared_row m.typed how d.name.site.token)) l x (front S (names_in_all m.typed (modes_of m (declared_row m.typed how d.name.site.token))) (flat_map (names_read m.typed how) d.written.ctype.levels) h) has o
   path_names how d _ x h (at_level {path = path} has) o =
@@ -314,7 +314,7 @@ module _ (W : Type 0) (N T : ℕ → Type 0) (m : Assignment) where
         let t : TransferSaid m S a.owner.name.site.token record { receiver = lvalue u; source = x } = of_each (TransferSaid m S a.owner.name.site.token) (function_transfers m.typed a.owner) record { receiver = lvalue u; source = x } (h.functions a.owner a.stands).1 a.does in
         where_said W N T (is_readonly (cell_at m u)) ReadonlyWrite (span_of u) (span_text m.typed (span_of u)) t.0 is
 
-    field_said : (s : Span) (a : Expression) (w : Access) (n : Identifier) → IsExpression m (tree.field s a w n)
+    field_said : (s : Span) (a : Expression) (w : FieldOperator) (n : Identifier) → IsExpression m (tree.field s a w n)
         → list_any (is_sibling m.typed) (modes_of m (named_row m.typed written (named_at m.typed n.site.token))) ≡ true → H (sibling_notes m.typed s (base_use m.typed w a))
     field_said s a w n x is =
         chosen S (list_any (is_sibling m.typed) (modes_of m (named_row m.typed written (named_at m.typed n.site.token)))) (sibling_notes m.typed s (base_use m.typed w a)) (own (tree.field s a w n) x) is

@@ -1,7 +1,7 @@
 -- A program is well-moded exactly where it meets the rules.
 use Rattle.std.proofs.{Common.{◌≡◌, ◌↔◌, ℕ, ◌==◌, Bool, true, false, cond, List, [], ◌∷◌, ◌++◌, drop, refl, ap, sym, ◌∙◌, subst, eq-eqb, ne_eqb, Option, Some, None, Contains}, lemmas.Bool.{false≢true, true≢false, and_parts, and_from, true_from_ne_false as true_by, or_parts as or_false, or_from as false_or}}
 use Rattle.std.specs.List.{AllByRecursion, flat_map, list_any}
-use Rattle.sharc_tree.specs.{declared.token.Span.Span, declared.tree.declaration.Identifier.Identifier, declared.tree.expression.Access.Access, declared.tree.expression.Access.TheVariants.{Dot, Arrow}, Forms.without_parentheses, Tree.Expression}
+use Rattle.sharc_tree.specs.{declared.token.Span.Span, declared.tree.declaration.Identifier.Identifier, declared.tree.expression.FieldOperator.FieldOperator, declared.tree.expression.FieldOperator.TheVariants.{Dot, Arrow}, Forms.without_parentheses, Tree.Expression}
 use Rattle.sharc_tree.specs.Tree as tree
 use Rattle.sharc_names.specs.declared.fault.Named.{Named}
 use Rattle.sharc_names.specs.declared.fault.Named.TheVariants as named
@@ -94,13 +94,13 @@ sibling_is r dynamic h = absurd (false≢true h)
 abbrev modes_used : Assignment → Identifier → List Sharing
 modes_used m n = modes_of m (named_row m.typed written (named_at m.typed n.site.token))
 
-use_of : (m : Assignment) (s : Span) (a : Expression) (w : Access) (n : Identifier) → IsExpression m (tree.field s a w n) → list_any (is_sibling m.typed) (modes_used m n) ≡ true → IsSiblingUse m a w
+use_of : (m : Assignment) (s : Span) (a : Expression) (w : FieldOperator) (n : Identifier) → IsExpression m (tree.field s a w n) → list_any (is_sibling m.typed) (modes_used m n) ≡ true → IsSiblingUse m a w
 use_of m s a w n x is =
     let found = passes_there (is_sibling m.typed) (modes_used m n) is in
     let lock = sibling_is m.typed found.0 found.2 in
     record { span = s; name = n; stands = x; lock = lock.lock; target = subst (λ z. Contains (modes_used m n) z) lock.is found.1; sibling = lock.sibling }
 
-use_is : (m : Assignment) (a : Expression) (w : Access) (u : IsSiblingUse m a w) → list_any (is_sibling m.typed) (modes_used m u.name) ≡ true
+use_is : (m : Assignment) (a : Expression) (w : FieldOperator) (u : IsSiblingUse m a w) → list_any (is_sibling m.typed) (modes_used m u.name) ≡ true
 use_is m a w u = passes_by (is_sibling m.typed) (modes_used m u.name) (locked u.lock) u.target u.sibling
 
 -- ---- `x->f` with `x` a constant variable
@@ -120,7 +120,7 @@ named_by r s i (named.Variable x) is h = constant_by r s i x (is_constant r x) i
 named_by r s i (named.Field n) is h = absurd (h refl)
 named_by r s i named.Known is h = absurd (h refl)
 
-through_by : (r : Resolution) (w : Access) (a : Expression) → (base_use r w a ≡ None → ⊥) → (x : ℕ) × IsThroughConstant r w a x
+through_by : (r : Resolution) (w : FieldOperator) (a : Expression) → (base_use r w a ≡ None → ⊥) → (x : ℕ) × IsThroughConstant r w a x
 through_by r Dot a h = absurd (h refl)
 through_by r Arrow (tree.identifier s i) h = named_by r s i (named_at r i.site.token) refl h
 through_by r Arrow (tree.constant s c) h = absurd (h refl)
@@ -135,12 +135,12 @@ through_by r Arrow (tree.field s a w n) h = absurd (h refl)
 through_by r Arrow (tree.unary s o a) h = absurd (h refl)
 through_by r Arrow (tree.binary s o at a b) h = absurd (h refl)
 
-record IsBase (r : Resolution) (w : Access) (a : Expression) (x : ℕ) : Type 0 where
+record IsBase (r : Resolution) (w : FieldOperator) (a : Expression) (x : ℕ) : Type 0 where
   at : ℕ
   base : base_use r w a ≡ Some at
   names : named_at r at ≡ named.Variable x
 
-base_by : (r : Resolution) (w : Access) (a : Expression) (x : ℕ) → IsThroughConstant r w a x → IsBase r w a x
+base_by : (r : Resolution) (w : FieldOperator) (a : Expression) (x : ℕ) → IsThroughConstant r w a x → IsBase r w a x
 base_by r _ _ x (through {s = s} {i = i} is constant) = record { at = i.site.token; base = ap (λ b. token_if b i.site.token) (ap (is_constant_named r) is ∙ constant); names = is }
 
 variable_is : (what : Named) (x : ℕ) → variable_named what ≡ Some x → what ≡ named.Variable x
@@ -155,7 +155,7 @@ same_variable : (x y : ℕ) → named.Variable x ≡ named.Variable y → x ≡ 
 same_variable x y h = cc
 
 -- the constant variable is the one that the use names
-through_named : (r : Resolution) (w : Access) (a : Expression) (at x : ℕ) → base_use r w a ≡ Some at → variable_named (named_at r at) ≡ Some x → IsThroughConstant r w a x
+through_named : (r : Resolution) (w : FieldOperator) (a : Expression) (at x : ℕ) → base_use r w a ≡ Some at → variable_named (named_at r at) ≡ Some x → IsThroughConstant r w a x
 through_named r w a at x base v =
     let found = through_by r w a (λ none. none_some at (sym none ∙ base)) in
     let b = base_by r w a found.0 found.1 in

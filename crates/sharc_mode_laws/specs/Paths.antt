@@ -4,8 +4,8 @@ use Rattle.sharc_tree.specs.declared.ctype.Base.TheVariants as base
 use Rattle.sharc_tree.specs.{declared.ctype.Mode.TheVariants.{Readonly, Locked}, declared.ctype.Path.Path}
 use Rattle.sharc_tree.specs.{declared.ctype.Path.TheVariants.{One, Through}, declared.token.Span.Span}
 use Rattle.sharc_tree.specs.declared.tree.declaration.Declaration.{Declaration}
-use Rattle.sharc_tree.specs.{declared.tree.declaration.Identifier.Identifier, declared.tree.expression.Access.Access}
-use Rattle.sharc_tree.specs.declared.tree.expression.Access.TheVariants.{Arrow}
+use Rattle.sharc_tree.specs.{declared.tree.declaration.Identifier.Identifier, declared.tree.expression.FieldOperator.FieldOperator}
+use Rattle.sharc_tree.specs.declared.tree.expression.FieldOperator.TheVariants.{Arrow}
 use Rattle.sharc_tree.specs.declared.tree.item.StructDefinition.{StructDefinition}
 use Rattle.sharc_tree.specs.Tree.{Expression, identifier, field, Arguments}
 use Rattle.sharc_names.specs.declared.fault.Named.TheVariants as named
@@ -14,7 +14,7 @@ use Rattle.sharc_ctype.specs.{declared.entity.Entity.Entity, declared.entity.Num
 use Rattle.sharc_ctype.specs.Resolved.{Resolution, named_at, struct_at, declaration_at, named_kind}
 use Rattle.sharc_mode.specs.declared.place.Place.TheVariants as place
 use Rattle.sharc_mode.specs.{Cells.top_of, Moded.Assignment}
-use Rattle.sharc_mode.specs.Rows.{Reading, written, at_call, read_lock, declared_row, named_row, modes_of}
+use Rattle.sharc_mode.specs.Rows.{PathReading, written, at_call, read_lock, declared_row, named_row, modes_of}
 use Rattle.sharc_mode.specs.{Sharings.{Lock, locked, lock_of, object_of, is_sibling_lock}, WellFormed.place_of}
 use Rattle.sharc_mode_laws.specs.Constructs.{IsExpression, IsCall, IsEntity}
 
@@ -66,19 +66,19 @@ pub data IsAllowed (r : Resolution) (e : Entity) (depth : ℕ) : Path → Type 0
 -- ---- the paths of a program
 
 -- a lock path in the type of a declaration, as it is read here: of a target's mode, or of what is written at some level
-pub data HasPath (m : Assignment) (how : Reading) (d : Declaration) : Lock → Type 0 where
+pub data HasPath (m : Assignment) (how : PathReading) (d : Declaration) : Lock → Type 0 where
   at_target : {l : Lock} → Contains (modes_of m (declared_row m.typed how d.name.site.token)) (locked l)
       → HasPath m how d l
   at_level : {path : Path} → Contains d.written.ctype.levels (Some (Locked path))
       → HasPath m how d (read_lock m.typed how (lock_of path))
 
 -- the use `x->f` of a field, with `x` a constant variable
-pub data IsThroughConstant (r : Resolution) : Access → Expression → ℕ → Type 0 where
+pub data IsThroughConstant (r : Resolution) : FieldOperator → Expression → ℕ → Type 0 where
   through : {s : Span} {i : Identifier} {x : ℕ} → named_at r i.site.token ≡ named.Variable x → IsTrue (is_constant r x)
       → IsThroughConstant r Arrow (identifier s i) x
 
 -- the use of a field of which some target is locked by a sibling
-pub record IsSiblingUse (m : Assignment) (a : Expression) (w : Access) : Type 0 where
+pub record IsSiblingUse (m : Assignment) (a : Expression) (w : FieldOperator) : Type 0 where
   pub span : Span
   pub name : Identifier
   pub stands : IsExpression m (field span a w name)
@@ -94,4 +94,4 @@ pub data IsNamedByPath (m : Assignment) (x : ℕ) : Type 0 where
   is_substituted : {parameters : List Declaration} {all : Arguments} {d : Declaration} {l : Lock}
       → IsCall m parameters all → Contains parameters d → HasPath m (at_call parameters all) d l
       → object_of m.typed l ≡ Some x → IsNamedByPath m x
-  is_made : {a : Expression} {w : Access} → IsSiblingUse m a w → IsThroughConstant m.typed w a x → IsNamedByPath m x
+  is_made : {a : Expression} {w : FieldOperator} → IsSiblingUse m a w → IsThroughConstant m.typed w a x → IsNamedByPath m x

@@ -5,7 +5,7 @@ use Rattle.sharc_tree.specs.{declared.ctype.Mode.Mode, declared.ctype.Mode.TheVa
 use Rattle.sharc_tree.specs.{declared.ctype.Path.Path, declared.token.Span.Span}
 use Rattle.sharc_tree.specs.declared.tree.declaration.Declaration.{Declaration}
 use Rattle.sharc_tree.specs.declared.tree.declaration.Identifier.{Identifier}
-use Rattle.sharc_tree.specs.{declared.tree.declaration.WrittenType.WrittenType, declared.tree.expression.Access.Access}
+use Rattle.sharc_tree.specs.{declared.tree.declaration.WrittenType.WrittenType, declared.tree.expression.FieldOperator.FieldOperator}
 use Rattle.sharc_tree.specs.{declared.tree.item.GlobalDefinition.GlobalDefinition, Forms.without_parentheses}
 use Rattle.sharc_tree.specs.Tree.{Expression, identifier, cast, Arguments, Right, Function}
 use Rattle.sharc_names.specs.declared.types.Role.TheVariants as role
@@ -92,7 +92,7 @@ NoneNamedTaken m = (a : Expression) (s : Span) (i : Identifier) (x : ℕ) → Is
 
 -- M11: a field of which a target is locked by a sibling is used as `x->f` alone, with `x` a constant variable
 abbrev pub SiblingsThroughConstants : Assignment → Type 0
-SiblingsThroughConstants m = (a : Expression) (w : Access) → IsSiblingUse m a w
+SiblingsThroughConstants m = (a : Expression) (w : FieldOperator) → IsSiblingUse m a w
     → (x : ℕ) × IsThroughConstant m.typed w a x
 
 pub record MeetsRules (m : Assignment) : Type 0 where

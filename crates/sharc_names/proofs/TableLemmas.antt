@@ -1,11 +1,11 @@
 -- The table of names agrees with its log.
 use Rattle.std.proofs.{Common.{◌≡◌, ℕ, ◌-◌, ◌<◌, ◌≤◌, suc, length, drop, arith, Bool, true, false, cond, List, [], ◌∷◌, ◌++◌, reverse, refl, ap, sym, subst, ◌∙◌, Option, Some}, lemmas.List.reverse-append}
 use Rattle.std.specs.{Borrow.Bor, Map.lookup, Str.bytes_eq}
-use Rattle.sharc_names.specs.{declared.meaning.Bound.Bound, declared.names.Shadow.Shadow, Names.{Entry, look_up}, View.{view_bound, view_bounds}, Table.{entries, in_scope, newest_of, table_at, HidesOlder, IsKept}}
+use Rattle.sharc_names.specs.{declared.meaning.Binding.Binding, declared.names.Shadow.Shadow, Names.{Entry, look_up}, View.{view_bound, view_bounds}, Table.{entries, in_scope, newest_of, table_at, HidesOlder, IsKept}}
 use Rattle.sharc_lemmas.proofs.Lists.{same_name}
 
 abbrev Table : Type 0
-Table = List (Bor (List ℕ) × Option Bound)
+Table = List (Bor (List ℕ) × Option Binding)
 
 reverse_push : (log : List Shadow) (s : Shadow) → reverse (log ++ s ∷ []) ≡ s ∷ reverse log
 reverse_push log s = reverse-append log (s ∷ [])
@@ -13,15 +13,15 @@ reverse_push log s = reverse-append log (s ∷ [])
 pub in_scope_push : (log : List Shadow) (s : Shadow) → in_scope (log ++ s ∷ []) ≡ view_bound s.bound ∷ in_scope log
 in_scope_push log s = ap entries (reverse_push log s)
 
-newest_of_cond : (b : Bool) (w x : Option (Option Bound)) → newest_of (cond b w x) ≡ cond b (newest_of w) (newest_of x)
+newest_of_cond : (b : Bool) (w x : Option (Option Binding)) → newest_of (cond b w x) ≡ cond b (newest_of w) (newest_of x)
 newest_of_cond true w x = refl
 newest_of_cond false w x = refl
 
 -- a table after a write: what `insert` ensures, read by bytes
-abbrev pub Writes : List ℕ → Option Bound → Table → Table → Type 0
+abbrev pub Writes : List ℕ → Option Binding → Table → Table → Type 0
 Writes name bound old new = (q : List ℕ) → lookup (λ k. bytes_eq q k.now) new ≡ cond (bytes_eq name q) (Some bound) (lookup (λ k. bytes_eq q k.now) old)
 
-table_written : (name : List ℕ) (bound : Option Bound) (old new : Table) → Writes name bound old new → (q : List ℕ) → table_at new q ≡ cond (bytes_eq name q) (view_bounds bound) (table_at old q)
+table_written : (name : List ℕ) (bound : Option Binding) (old new : Table) → Writes name bound old new → (q : List ℕ) → table_at new q ≡ cond (bytes_eq name q) (view_bounds bound) (table_at old q)
 table_written name bound old new writes q = ap newest_of (writes q) ∙ newest_of_cond (bytes_eq name q) (Some bound) (lookup (λ k. bytes_eq q k.now) old)
 
 pub kept_push : (log : List Shadow) (s : Shadow) (old new : Table) → IsKept log old → Writes s.bound.name.now (Some s.bound) old new → view_bounds s.hidden ≡ look_up (in_scope log) s.bound.name.now → IsKept (log ++ s ∷ []) new

@@ -2,9 +2,9 @@
 use Rattle.std.specs.{Prelude.{ℕ, List, [], ◌∷◌, Option, Some, None}, Borrow.Bor}
 use Rattle.sharc_tree.specs.declared.ctype.Base.{Base}
 use Rattle.sharc_tree.specs.declared.ctype.Base.TheVariants as base
-use Rattle.sharc_names.specs.{declared.kind.Root.Root, declared.kind.Kind.{Kind as RustKind}}
+use Rattle.sharc_names.specs.{declared.kind.Root.Root, declared.kind.ExpressionKind.{ExpressionKind as RustKind}}
 use Rattle.sharc_names.specs.declared.meaning.Signature.{Signature as RustSignature}
-use Rattle.sharc_names.specs.{declared.meaning.Meaning.{Meaning as RustMeaning}, declared.meaning.Bound.Bound}
+use Rattle.sharc_names.specs.{declared.meaning.Meaning.{Meaning as RustMeaning}, declared.meaning.Binding.Binding}
 use Rattle.sharc_names.specs.declared.wanted.Wanted.{Wanted}
 use Rattle.sharc_names.specs.declared.wanted.Wanted.TheVariants.{Parameters, Condition, MutexPointer}
 use Rattle.sharc_names.specs.declared.structs.StructMeaning.{StructMeaning as RustStruct}
@@ -12,7 +12,7 @@ use Rattle.sharc_names.specs.Kinds.{Kind, object, array, null, function, mutex_p
 use Rattle.sharc_names.specs.Names.{Meaning, Signature, Entry, variable, global, condition, condition_parameters}
 use Rattle.sharc_names.specs.Names.{StructMeaning, StructTable, defined, known}
 use Rattle.sharc_names.specs.declared.kind.Root.TheVariants as root
-use Rattle.sharc_names.specs.declared.kind.Kind.TheVariants as kind
+use Rattle.sharc_names.specs.declared.kind.ExpressionKind.TheVariants as kind
 use Rattle.sharc_names.specs.declared.meaning.Meaning.TheVariants as meaning
 use Rattle.sharc_names.specs.declared.structs.StructMeaning.TheVariants as struct
 use Rattle.sharc_names.specs.Names as names
@@ -44,10 +44,10 @@ view_meaning (meaning.Global n g) = global n g.now
 view_meaning (meaning.Function n s) = names.function n (view_signature s)
 view_meaning (meaning.Condition call) = condition call
 
-abbrev pub view_bound : Bound → Entry
+abbrev pub view_bound : Binding → Entry
 view_bound b = record { name = b.name.now; block = b.block; meaning = view_meaning b.meaning }
 
-abbrev pub view_bounds : Option Bound → Option Entry
+abbrev pub view_bounds : Option Binding → Option Entry
 view_bounds None = None
 view_bounds (Some b) = Some (view_bound b)
 

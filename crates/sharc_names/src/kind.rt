@@ -23,7 +23,7 @@ pub enum Root<'a> {
 
 /// What an expression is.
 #[derive(Clone, Copy)]
-pub enum Kind<'a> {
+pub enum ExpressionKind<'a> {
     /// An object or a value of a base with this many stars.
     Object(Root<'a>, usize),
     /// A global array of such objects.
@@ -56,10 +56,10 @@ pub fn stars_of(written: &WrittenType) -> usize
 }
 
 /// The kind of what a type declares.
-pub fn declared_kind(written: &WrittenType) -> Kind<'_>
+pub fn declared_kind(written: &WrittenType) -> ExpressionKind<'_>
     ensures { view_kind result ≡ declared_kind written.now }
 {
-    Kind::Object(root_of(&written.ctype.base), stars_of(written))
+    ExpressionKind::Object(root_of(&written.ctype.base), stars_of(written))
 }
 
 fn is_integral(root: Root<'_>) -> bool
@@ -95,124 +95,124 @@ fn same_root(a: Root<'_>, b: Root<'_>) -> bool
 }
 
 /// Whether it is an integer.
-pub fn is_integer(kind: Kind<'_>) -> bool
+pub fn is_integer(kind: ExpressionKind<'_>) -> bool
     ensures { result ≡ is_integer (view_kind kind.entry) }
 {
     match kind {
-        Kind::Object(root, stars) => stars == 0 && is_integral(root),
+        ExpressionKind::Object(root, stars) => stars == 0 && is_integral(root),
         _ => false,
     }
 }
 
 /// Whether it is a pointer.
-pub fn is_pointer(kind: Kind<'_>) -> bool
+pub fn is_pointer(kind: ExpressionKind<'_>) -> bool
     ensures { result ≡ is_pointer (view_kind kind.entry) }
 {
     match kind {
-        Kind::Object(_, stars) => stars > 0,
+        ExpressionKind::Object(_, stars) => stars > 0,
         _ => false,
     }
 }
 
 /// Whether it is `NULL`.
-pub fn is_null(kind: Kind<'_>) -> bool
+pub fn is_null(kind: ExpressionKind<'_>) -> bool
     ensures { result ≡ is_null (view_kind kind.entry) }
 {
     match kind {
-        Kind::Null => true,
+        ExpressionKind::Null => true,
         _ => false,
     }
 }
 
 /// Whether it is an array.
-pub fn is_array(kind: Kind<'_>) -> bool
+pub fn is_array(kind: ExpressionKind<'_>) -> bool
     ensures { result ≡ is_array (view_kind kind.entry) }
 {
     match kind {
-        Kind::Array(_, _) => true,
+        ExpressionKind::Array(_, _) => true,
         _ => false,
     }
 }
 
 /// Whether it is a struct behind this number of stars.
-pub fn is_struct_behind(depth: usize, kind: Kind<'_>) -> bool
+pub fn is_struct_behind(depth: usize, kind: ExpressionKind<'_>) -> bool
     ensures { result ≡ is_struct_behind depth (view_kind kind.entry) }
 {
     match kind {
-        Kind::Object(root, stars) => stars == depth && is_struct_root(root),
+        ExpressionKind::Object(root, stars) => stars == depth && is_struct_root(root),
         _ => false,
     }
 }
 
-fn is_long(kind: Kind<'_>) -> bool
+fn is_long(kind: ExpressionKind<'_>) -> bool
     ensures { result ≡ is_long (view_kind kind.entry) }
 {
     match kind {
-        Kind::Object(Root::Long, stars) => stars == 0,
+        ExpressionKind::Object(Root::Long, stars) => stars == 0,
         _ => false,
     }
 }
 
-impl<'a> Kind<'a> {
+impl<'a> ExpressionKind<'a> {
     ghost use Rattle.std.specs.Prelude.{◌≡◌};
     ghost use Rattle.sharc_names.specs.Kinds.{int, long, void, mutex, mutex_pointer, condition_pointer};
     ghost use Rattle.sharc_names.specs.View.{view_kind};
 
     /// `int`
-    pub fn int() -> Kind<'a>
+    pub fn int() -> ExpressionKind<'a>
         ensures { view_kind result ≡ int }
     {
-        Kind::Object(Root::Int, 0)
+        ExpressionKind::Object(Root::Int, 0)
     }
 
     /// `long`
-    pub fn long() -> Kind<'a>
+    pub fn long() -> ExpressionKind<'a>
         ensures { view_kind result ≡ long }
     {
-        Kind::Object(Root::Long, 0)
+        ExpressionKind::Object(Root::Long, 0)
     }
 
     /// `void`
-    pub fn void() -> Kind<'a>
+    pub fn void() -> ExpressionKind<'a>
         ensures { view_kind result ≡ void }
     {
-        Kind::Object(Root::Void, 0)
+        ExpressionKind::Object(Root::Void, 0)
     }
 
     /// `mutex`
-    pub fn mutex() -> Kind<'a>
+    pub fn mutex() -> ExpressionKind<'a>
         ensures { view_kind result ≡ mutex }
     {
-        Kind::Object(Root::Mutex, 0)
+        ExpressionKind::Object(Root::Mutex, 0)
     }
 
     /// `mutex *`
-    pub fn mutex_pointer() -> Kind<'a>
+    pub fn mutex_pointer() -> ExpressionKind<'a>
         ensures { view_kind result ≡ mutex_pointer }
     {
-        Kind::Object(Root::Mutex, 1)
+        ExpressionKind::Object(Root::Mutex, 1)
     }
 
     /// `struct cond *`
-    pub fn condition_pointer() -> Kind<'a>
+    pub fn condition_pointer() -> ExpressionKind<'a>
         ensures { view_kind result ≡ condition_pointer }
     {
-        Kind::Object(Root::Struct(b"cond".as_slice()), 1)
+        ExpressionKind::Object(Root::Struct(b"cond".as_slice()), 1)
     }
 }
 
 /// Whether both are one C type.
-pub fn same_kind(a: Kind<'_>, b: Kind<'_>) -> bool
+pub fn same_kind(a: ExpressionKind<'_>, b: ExpressionKind<'_>) -> bool
     ensures { result ≡ same_kind (view_kind a.entry) (view_kind b.entry) }
 {
     match (a, b) {
-        (Kind::Object(a, m), Kind::Object(b, n)) => same_root(a, b) && m == n,
+        (ExpressionKind::Object(a, m), ExpressionKind::Object(b, n)) => same_root(a, b) && m == n,
         _ => false,
     }
 }
 
 /// Whether the one may be assigned to, passed or returned as the other.
-pub fn agrees(want: Kind<'_>, kind: Kind<'_>) -> bool
+pub fn agrees(want: ExpressionKind<'_>, kind: ExpressionKind<'_>) -> bool
     ensures { result ≡ agrees (view_kind want.entry) (view_kind kind.entry) }
 {
     if is_null(kind) {
@@ -225,7 +225,7 @@ pub fn agrees(want: Kind<'_>, kind: Kind<'_>) -> bool
 }
 
 /// Whether `==` compares them.
-pub fn comparable(a: Kind<'_>, b: Kind<'_>) -> bool
+pub fn comparable(a: ExpressionKind<'_>, b: ExpressionKind<'_>) -> bool
     ensures { result ≡ comparable (view_kind a.entry) (view_kind b.entry) }
 {
     if is_null(a) || is_null(b) {
@@ -238,35 +238,35 @@ pub fn comparable(a: Kind<'_>, b: Kind<'_>) -> bool
 }
 
 /// The kind of what a pointer or an array leads to.
-pub fn element_kind(kind: Kind<'_>) -> Kind<'_>
+pub fn element_kind(kind: ExpressionKind<'_>) -> ExpressionKind<'_>
     ensures { view_kind result ≡ element_kind (view_kind kind.entry) }
 {
     match kind {
-        Kind::Object(root, 0) => Kind::Object(root, 0),
-        Kind::Object(root, stars) => Kind::Object(root, stars - 1),
-        Kind::Array(root, stars) => Kind::Object(root, stars),
+        ExpressionKind::Object(root, 0) => ExpressionKind::Object(root, 0),
+        ExpressionKind::Object(root, stars) => ExpressionKind::Object(root, stars - 1),
+        ExpressionKind::Array(root, stars) => ExpressionKind::Object(root, stars),
         other => other,
     }
 }
 
 /// The type of arithmetic on one operand.
-pub fn promoted<'a>(kind: Kind<'_>) -> Kind<'a>
+pub fn promoted<'a>(kind: ExpressionKind<'_>) -> ExpressionKind<'a>
     ensures { view_kind result ≡ promoted (view_kind kind.entry) }
 {
     if is_long(kind) {
-        Kind::long()
+        ExpressionKind::long()
     } else {
-        Kind::int()
+        ExpressionKind::int()
     }
 }
 
 /// The type of arithmetic on two operands.
-pub fn common<'a>(a: Kind<'_>, b: Kind<'_>) -> Kind<'a>
+pub fn common<'a>(a: ExpressionKind<'_>, b: ExpressionKind<'_>) -> ExpressionKind<'a>
     ensures { view_kind result ≡ common (view_kind a.entry) (view_kind b.entry) }
 {
     if is_long(a) || is_long(b) {
-        Kind::long()
+        ExpressionKind::long()
     } else {
-        Kind::int()
+        ExpressionKind::int()
     }
 }

@@ -6,7 +6,7 @@ ghost use Rattle.sharc_names.specs.Names.{result_of};
 ghost use Rattle.sharc_names.specs.View.{view_kind, view_meaning, view_wanteds};
 
 use crate::fault::Named;
-use crate::kind::{Kind, declared_kind};
+use crate::kind::{ExpressionKind, declared_kind};
 use crate::wanted::Wanted;
 use sharc_tree::tree::{Declaration, GlobalDefinition, GlobalForm, Identifier, WrittenType};
 
@@ -40,24 +40,24 @@ pub enum Meaning<'a> {
 
 /// A name that is declared in a block.
 #[derive(Clone, Copy)]
-pub struct Bound<'a> {
+pub struct Binding<'a> {
     pub name: &'a [u8],
     /// How many names were in scope where its block begins.
     pub block: usize,
     pub meaning: Meaning<'a>,
 }
 
-fn global_kind(form: GlobalForm, kind: Kind<'_>) -> Kind<'_>
+fn global_kind(form: GlobalForm, kind: ExpressionKind<'_>) -> ExpressionKind<'_>
     ensures { view_kind result ≡ global_kind form (view_kind kind.entry) }
 {
     match (form, kind) {
-        (GlobalForm::Array(_, _), Kind::Object(root, stars)) => Kind::Array(root, stars),
+        (GlobalForm::Array(_, _), ExpressionKind::Object(root, stars)) => ExpressionKind::Array(root, stars),
         (_, other) => other,
     }
 }
 
 /// The kind of a name with this meaning.
-pub fn kind_of(meaning: Meaning<'_>) -> Kind<'_>
+pub fn kind_of(meaning: Meaning<'_>) -> ExpressionKind<'_>
     ensures { view_kind result ≡ kind_of (view_meaning meaning.entry) }
 {
     match meaning {
@@ -65,8 +65,8 @@ pub fn kind_of(meaning: Meaning<'_>) -> Kind<'_>
         Meaning::Global(_, global) => {
             global_kind(global.form, declared_kind(&global.declaration.written))
         }
-        Meaning::Function(_, _) => Kind::Function,
-        Meaning::Condition(_) => Kind::Function,
+        Meaning::Function(_, _) => ExpressionKind::Function,
+        Meaning::Condition(_) => ExpressionKind::Function,
     }
 }
 
@@ -116,13 +116,13 @@ pub fn parameters_of(meaning: Meaning<'_>) -> Option<Wanted<'_>>
 }
 
 /// What a call of that name gives.
-pub fn result_of(meaning: Meaning<'_>) -> Kind<'_>
+pub fn result_of(meaning: Meaning<'_>) -> ExpressionKind<'_>
     ensures { view_kind result ≡ result_of (view_meaning meaning.entry) }
 {
     match meaning {
         Meaning::Function(_, signature) => declared_kind(signature.result),
-        Meaning::Condition(_) => Kind::void(),
-        Meaning::Variable(_) => Kind::void(),
-        Meaning::Global(_, _) => Kind::void(),
+        Meaning::Condition(_) => ExpressionKind::void(),
+        Meaning::Variable(_) => ExpressionKind::void(),
+        Meaning::Global(_, _) => ExpressionKind::void(),
     }
 }

@@ -5,7 +5,7 @@ ghost use Rattle.sharc_names.specs.Table.{in_scope, IsKept};
 ghost use Rattle.sharc_names.specs.Names.{look_up};
 ghost use Rattle.sharc_names.specs.View.{view_bound, view_bounds};
 
-use crate::meaning::Bound;
+use crate::meaning::Binding;
 use indexmap::IndexMap;
 use std::alloc::{AllocError, Global};
 use std::marker::Model;
@@ -13,24 +13,24 @@ use std::marker::Model;
 /// A declared name, and what its name meant before.
 #[derive(Clone, Copy)]
 struct Shadow<'a> {
-    bound: Bound<'a>,
-    hidden: Option<Bound<'a>>,
+    bound: Binding<'a>,
+    hidden: Option<Binding<'a>>,
 }
 
 /// The names in scope. A contract sees the list of them, the last declared first. A look-up takes one step: a table has
 /// the newest of each name, and a log what to put back at the end of a block.
 #[derive(Drop)]
-pub struct Names<'a> {
+pub struct NamesInScope<'a> {
     log: Vec<Shadow<'a>>,
-    newest: IndexMap<&'a [u8], Option<Bound<'a>>>,
+    newest: IndexMap<&'a [u8], Option<Binding<'a>>>,
 }
 
 /// Writes a name into log and table.
 fn push_name<'a>(
     log: &mut Vec<Shadow<'a>>,
-    newest: &mut IndexMap<&'a [u8], Option<Bound<'a>>>,
-    bound: Bound<'a>,
-    hidden: Option<Bound<'a>>,
+    newest: &mut IndexMap<&'a [u8], Option<Binding<'a>>>,
+    bound: Binding<'a>,
+    hidden: Option<Binding<'a>>,
 ) -> Result<(), AllocError>
     requires kept { IsKept log.old.items newest.old.entries }
     requires hidden { view_bounds hidden ≡ look_up (in_scope log.old.items) bound.name.now }
@@ -46,7 +46,7 @@ fn push_name<'a>(
 /// Takes the last name out of log and table.
 fn pop_name<'a>(
     log: &mut Vec<Shadow<'a>>,
-    newest: &mut IndexMap<&'a [u8], Option<Bound<'a>>>,
+    newest: &mut IndexMap<&'a [u8], Option<Binding<'a>>>,
 ) -> Result<(), AllocError>
     requires kept { IsKept log.old.items newest.old.entries }
     requires some { 0 < vec_len log.old }
@@ -59,7 +59,7 @@ fn pop_name<'a>(
     Ok(())
 }
 
-impl<'a> Model for Names<'a> {
+impl<'a> Model for NamesInScope<'a> {
     ghost use Rattle.std.specs.Prelude.{List};
     ghost use Rattle.sharc_names.specs.Names.{Entry};
     ghost use Rattle.sharc_names.specs.Table.{in_scope, IsKept};
@@ -71,12 +71,12 @@ impl<'a> Model for Names<'a> {
     ghost invariant = { λ n. IsKept n.log.items n.newest.entries };
 }
 
-impl<'a> Names<'a> {
+impl<'a> NamesInScope<'a> {
     /// No name.
     pub fn new(alloc: Global) -> Self
         ensures { result ≡ [] }
     {
-        Names {
+        NamesInScope {
             log: Vec::new(alloc),
             newest: IndexMap::new(alloc),
         }
@@ -90,7 +90,7 @@ impl<'a> Names<'a> {
     }
 
     /// What a name means.
-    pub fn find(&self, name: &[u8]) -> Option<Bound<'a>>
+    pub fn find(&self, name: &[u8]) -> Option<Binding<'a>>
         ensures { view_bounds result ≡ look_up self.now name.now }
     {
         match self.newest.get(name) {
@@ -100,7 +100,7 @@ impl<'a> Names<'a> {
     }
 
     /// One more name, which hides others of its text.
-    pub fn declare(&mut self, bound: Bound<'a>) -> Result<(), AllocError>
+    pub fn declare(&mut self, bound: Binding<'a>) -> Result<(), AllocError>
         ensures { OnOk result (self.new ≡ view_bound bound.entry ∷ self.old) }
     {
         let hidden = self.find(bound.name);

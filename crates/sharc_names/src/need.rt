@@ -8,7 +8,7 @@ ghost use Rattle.sharc_names.specs.View.{view_kind, view_kinds, view_root};
 
 use crate::fault::{FaultCode, Found};
 use crate::kind::{
-    Kind, Root, agrees, is_array, is_integer, is_null, is_pointer, is_struct_behind,
+    ExpressionKind, Root, agrees, is_array, is_integer, is_null, is_pointer, is_struct_behind,
 };
 use sharc_tree::tree::Expr;
 
@@ -56,7 +56,7 @@ fn called(expr: &Expr) -> Option<u32>
     }
 }
 
-fn fits(need: Need, kind: Kind<'_>) -> bool
+fn fits(need: Need, kind: ExpressionKind<'_>) -> bool
     ensures { result ≡ fits need (view_kind kind.entry) }
 {
     match need {
@@ -86,12 +86,12 @@ fn misfit_of(root: Root<'_>, expr: &Expr, found: &mut Found)
 }
 
 /// Takes note of an expression whose kind is not the one that is needed.
-fn misfit(kind: Kind<'_>, expr: &Expr, found: &mut Found)
+fn misfit(kind: ExpressionKind<'_>, expr: &Expr, found: &mut Found)
     ensures { found.new ≡ fold noted found.old (misfit (view_kind kind.entry) (view_expr expr.now)) }
 {
     match kind {
-        Kind::Object(root, 0) => misfit_of(root, expr, found),
-        Kind::Function => found.fault(place(expr.without_parentheses()), FaultCode::TypeMismatch),
+        ExpressionKind::Object(root, 0) => misfit_of(root, expr, found),
+        ExpressionKind::Function => found.fault(place(expr.without_parentheses()), FaultCode::TypeMismatch),
         _ => found.fault(place(expr), FaultCode::TypeMismatch),
     }
 }
@@ -100,9 +100,9 @@ fn misfit(kind: Kind<'_>, expr: &Expr, found: &mut Found)
 pub fn meet<'a>(
     need: Need,
     expr: &Expr,
-    kind: Option<Kind<'a>>,
+    kind: Option<ExpressionKind<'a>>,
     found: &mut Found,
-) -> Option<Kind<'a>>
+) -> Option<ExpressionKind<'a>>
     ensures kind { view_kinds result ≡ met need (view_kinds kind.entry) }
     ensures found { found.new ≡ fold noted found.old (unmet need (view_expr expr.now) (view_kinds kind.entry)) }
 {
@@ -120,7 +120,7 @@ pub fn meet<'a>(
 }
 
 /// Whether what is assigned, passed or returned agrees with what is wanted; takes note of the fault where not.
-pub fn agree(want: Option<Kind<'_>>, expr: &Expr, kind: Option<Kind<'_>>, found: &mut Found) -> bool
+pub fn agree(want: Option<ExpressionKind<'_>>, expr: &Expr, kind: Option<ExpressionKind<'_>>, found: &mut Found) -> bool
     ensures agreed { result ≡ agreed (view_kinds want.entry) (view_kinds kind.entry) }
     ensures found { found.new
         ≡ fold noted found.old (unagreed (view_kinds want.entry) (view_expr expr.now) (view_kinds kind.entry)) }

@@ -1,11 +1,11 @@
 // What is known where an expression is.
 
-use crate::names::Names;
+use crate::names::NamesInScope;
 use crate::structs::Structs;
 
 /// The structs of the file, and the names in scope.
 #[derive(Drop)]
 pub struct Scope<'a> {
     pub structs: Structs<'a>,
-    pub names: Names<'a>,
+    pub names: NamesInScope<'a>,
 }

@@ -12,8 +12,8 @@ ghost use Rattle.sharc_names.specs.View.{view_kinds, view_bounds, view_meaning};
 
 use crate::fault::{FaultCode, Found, Named};
 use crate::fields::Fields;
-use crate::kind::{Kind, Root, declared_kind, is_struct_behind, stars_of};
-use crate::meaning::{Bound, Meaning, is_main, kind_of, named_of};
+use crate::kind::{ExpressionKind, Root, declared_kind, is_struct_behind, stars_of};
+use crate::meaning::{Binding, Meaning, is_main, kind_of, named_of};
 use crate::scope::Scope;
 use crate::structs::{Structs, field_of, named_struct};
 use sharc_tree::ctype::{Base, Mode, Path};
@@ -40,7 +40,7 @@ pub fn main_use(token: u32, meaning: Meaning<'_>, found: &mut Found)
 }
 
 /// The type of a name that was looked up.
-pub fn name_kind(bound: Option<Bound<'_>>) -> Option<Kind<'_>>
+pub fn name_kind(bound: Option<Binding<'_>>) -> Option<ExpressionKind<'_>>
     ensures { view_kinds result ≡ name_kind (view_bounds bound.entry) }
 {
     match bound {
@@ -56,7 +56,7 @@ pub fn name_kind(bound: Option<Bound<'_>>) -> Option<Kind<'_>>
 }
 
 /// Takes note of what a name means that was looked up.
-pub fn name_use(token: u32, bound: Option<Bound<'_>>, found: &mut Found)
+pub fn name_use(token: u32, bound: Option<Binding<'_>>, found: &mut Found)
     ensures { found.new ≡ fold noted found.old (name_notes token (view_bounds bound.entry)) }
 {
     match bound {
@@ -72,12 +72,12 @@ pub fn name_use(token: u32, bound: Option<Bound<'_>>, found: &mut Found)
 pub fn field_in<'a>(
     structs: &Structs<'a>,
     name: &[u8],
-    kind: Option<Kind<'_>>,
+    kind: Option<ExpressionKind<'_>>,
 ) -> Option<Option<&'a Declaration>>
     ensures { found_field_in result ≡ field_in structs.now name.now (view_kinds kind.entry) }
 {
     match kind {
-        Some(Kind::Object(Root::Struct(of), _)) => {
+        Some(ExpressionKind::Object(Root::Struct(of), _)) => {
             let of = structs.find(of)?;
             Some(field_of(of, name))
         }
@@ -86,7 +86,7 @@ pub fn field_in<'a>(
 }
 
 /// The type of a field that was looked up.
-pub fn field_kind(field: Option<Option<&Declaration>>) -> Option<Kind<'_>>
+pub fn field_kind(field: Option<Option<&Declaration>>) -> Option<ExpressionKind<'_>>
     ensures { view_kinds result ≡ field_kind (found_field_in field.entry) }
 {
     match field {
@@ -110,7 +110,7 @@ pub fn field_use(place: usize, field: Option<Option<&Declaration>>, found: &mut 
 }
 
 /// The type of the first name of a lock path, which may be a field of the same struct.
-fn first_kind<'a>(sibling: Option<&'a Declaration>, bound: Option<Bound<'a>>) -> Option<Kind<'a>>
+fn first_kind<'a>(sibling: Option<&'a Declaration>, bound: Option<Binding<'a>>) -> Option<ExpressionKind<'a>>
     ensures { view_kinds result ≡ first_kind (found_field sibling.entry) (view_bounds bound.entry) }
 {
     match sibling {
@@ -120,7 +120,7 @@ fn first_kind<'a>(sibling: Option<&'a Declaration>, bound: Option<Bound<'a>>) ->
 }
 
 /// Takes note of the first name of a lock path.
-fn first_use(token: u32, sibling: Option<&Declaration>, bound: Option<Bound<'_>>, found: &mut Found)
+fn first_use(token: u32, sibling: Option<&Declaration>, bound: Option<Binding<'_>>, found: &mut Found)
     ensures { found.new
         ≡ fold noted found.old (first_notes token (found_field sibling.entry) (view_bounds bound.entry)) }
 {
@@ -134,7 +134,7 @@ fn first_use(token: u32, sibling: Option<&Declaration>, bound: Option<Bound<'_>>
 fn second_in<'a>(
     structs: &Structs<'a>,
     name: &[u8],
-    kind: Option<Kind<'_>>,
+    kind: Option<ExpressionKind<'_>>,
 ) -> Option<Option<&'a Declaration>>
     ensures { found_field_in result ≡ second_in structs.now name.now (view_kinds kind.entry) }
 {

@@ -4,7 +4,7 @@ ghost use Rattle.std.specs.Prelude.{◌≡◌, length, drop};
 ghost use Rattle.sharc_names.specs.View.{view_kinds, view_wanted};
 ghost use Rattle.sharc_names.specs.Wants.{first_wanted};
 
-use crate::kind::{Kind, declared_kind};
+use crate::kind::{ExpressionKind, declared_kind};
 use crate::meaning::ConditionCall;
 use sharc_tree::tree::Declaration;
 
@@ -33,14 +33,14 @@ pub fn count_of(wanted: Wanted<'_>) -> usize
 }
 
 /// What the first argument is wanted to be, if one is wanted.
-pub fn first_wanted(wanted: Wanted<'_>) -> Option<Kind<'_>>
+pub fn first_wanted(wanted: Wanted<'_>) -> Option<ExpressionKind<'_>>
     ensures { view_kinds result ≡ first_wanted (view_wanted wanted.entry) }
 {
     match wanted {
         Wanted::Parameters([]) => None,
         Wanted::Parameters([first, ..]) => Some(declared_kind(&first.written)),
-        Wanted::Condition(_) => Some(Kind::condition_pointer()),
-        Wanted::MutexPointer => Some(Kind::mutex_pointer()),
+        Wanted::Condition(_) => Some(ExpressionKind::condition_pointer()),
+        Wanted::MutexPointer => Some(ExpressionKind::mutex_pointer()),
     }
 }
 

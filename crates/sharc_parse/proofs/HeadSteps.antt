@@ -2,7 +2,7 @@
 use Rattle.std.proofs.{Common.{◌≡◌, ℕ, ◌+◌, ◌≤◌, ◌<◌, List, [], ◌∷◌, Option, Some, None, refl, ap, ◌∙◌, arith, true, false}, lemmas.Bool.lt-leb}
 use Rattle.sharc_tree.specs.{declared.token.Punctuator.TheVariants.{Semicolon, OpenParenthesis, CloseParenthesis}, declared.token.Token.Token, declared.tree.expression.Expr.Expr, declared.tree.statement.Simple.Simple, declared.tree.statement.ForFirst.ForFirst, View.{view_expr, view_option, view_simple, view_first}}
 use Rattle.sharc_grammar.specs.{Grammar.{Word, mark, Phrase, Doing, Line}, Machine.{Outer, inside, as_first, as_step, Cont, part, subject, Want, Have, Start, ForOpen, ForTest, ForStep, an_open, At, leave, loop, doing_end, floor, grip}, Limits.{StuckAt, next_within, reads_within, around_it, depth, crowded}, Places.{site_in, line_size, option_size, first_at, option_at, step_at}}
-use Rattle.sharc_parse.specs.{Goes.{NotAt, NoMalloc, from, Past}, Simples.{doing_state, EndsDoing, doing_within}, Lines.{line_within, line_of, ReadsLine, IsLinePlaced}, Heads.{Tail, by_return, by_test, tail_place, before_tail, behind_tail, ReadsTail, IsTailPlaced, step_of, ReadsStep, IsStepPlaced, ReadsHead, IsHeadPlaced}, declared.token.Fault.Fault, declared.token.Fault.TheVariants.{Memory, Wrong, Deep}, Rights.option_of}
+use Rattle.sharc_parse.specs.{Goes.{NotAt, NoMalloc, from, Past}, Simples.{doing_state, EndsDoing, doing_within}, Lines.{line_within, line_of, ReadsLine, IsLinePlaced}, Heads.{Tail, by_return, by_test, tail_place, before_tail, behind_tail, ReadsTail, IsTailPlaced, step_of, ReadsStep, IsStepPlaced, ReadsHead, IsHeadPlaced}, declared.token.ReadingFault.ReadingFault, declared.token.ReadingFault.TheVariants.{Memory, Wrong, Deep}, Rights.option_of}
 use Rattle.std.specs.Prelude.{Ok, Err}
 use Rattle.sharc_tree.specs.Tree as tree
 use Rattle.sharc_parse.proofs.{Steps.{passes, fixed_goes}, RightSteps.ends_place, SimpleSteps.doing_ends}
@@ -101,7 +101,7 @@ head_first tokens old mid new f s r o h =
     ∙ for_begins o (from tokens mid)
     ∙ r as_first o refl refl
 
-pub head_test_wrong : (e : Fault) (tokens : List Token) (old mid next new : ℕ) (f : ForFirst) → Past (mark OpenParenthesis) tokens old mid → ReadsLine true false (Ok f) (from tokens mid) (from tokens next) → ReadsTail (Err e) (from tokens next) (from tokens new) → ReadsHead (Err e) (from tokens old) (from tokens new)
+pub head_test_wrong : (e : ReadingFault) (tokens : List Token) (old mid next new : ℕ) (f : ForFirst) → Past (mark OpenParenthesis) tokens old mid → ReadsLine true false (Ok f) (from tokens mid) (from tokens next) → ReadsTail (Err e) (from tokens next) (from tokens new) → ReadsHead (Err e) (from tokens old) (from tokens new)
 head_test_wrong Wrong tokens old mid next new f s r t o h = head_first tokens old mid next f s r o h ∙ t (by_test (line_of f)) o
 head_test_wrong Deep tokens old mid next new f s r t o h = head_first tokens old mid next f s r o h ∙ t (by_test (line_of f)) o
 head_test_wrong Memory tokens old mid next new f s r t o h = tt
@@ -109,7 +109,7 @@ head_test_wrong Memory tokens old mid next new f s r t o h = tt
 head_second : (tokens : List Token) (old mid next new : ℕ) (f : ForFirst) (x : Option Expr) → Past (mark OpenParenthesis) tokens old mid → ReadsLine true false (Ok f) (from tokens mid) (from tokens next) → ReadsTail (Ok x) (from tokens next) (from tokens new) → (o : Outer) → around_it o < 63 → reads_within (from tokens old) (At (an_open ∷ []) (ForOpen o)) ≡ reads_within (from tokens new) (At [] (ForStep (line_of f) (option_of x) o))
 head_second tokens old mid next new f x s r t o h = head_first tokens old mid next f s r o h ∙ t (by_test (line_of f)) o
 
-pub head_step_wrong : (e : Fault) (tokens : List Token) (old mid next last new : ℕ) (f : ForFirst) (x : Option Expr) → Past (mark OpenParenthesis) tokens old mid → ReadsLine true false (Ok f) (from tokens mid) (from tokens next) → ReadsTail (Ok x) (from tokens next) (from tokens last) → ReadsStep (Err e) (from tokens last) (from tokens new) → ReadsHead (Err e) (from tokens old) (from tokens new)
+pub head_step_wrong : (e : ReadingFault) (tokens : List Token) (old mid next last new : ℕ) (f : ForFirst) (x : Option Expr) → Past (mark OpenParenthesis) tokens old mid → ReadsLine true false (Ok f) (from tokens mid) (from tokens next) → ReadsTail (Ok x) (from tokens next) (from tokens last) → ReadsStep (Err e) (from tokens last) (from tokens new) → ReadsHead (Err e) (from tokens old) (from tokens new)
 head_step_wrong Wrong tokens old mid next last new f x s r t z o h = head_second tokens old mid next last f x s r t o h ∙ z (line_of f) (option_of x) o h
 head_step_wrong Deep tokens old mid next last new f x s r t z o h = head_second tokens old mid next last f x s r t o h ∙ z (line_of f) (option_of x) o h
 head_step_wrong Memory tokens old mid next last new f x s r t z o h = tt

@@ -4,7 +4,7 @@ use Rattle.std.specs.Prelude.{Result, Ok, Err, None}
 use Rattle.sharc_tree.specs.Tree as tree
 use Rattle.sharc_tree.specs.{declared.token.Token.Token, declared.token.Site.Site, declared.token.Span.Span, declared.token.Punctuator.TheVariants.OpenBrace, declared.tree.declaration.Identifier.Identifier, declared.tree.declaration.WrittenType.WrittenType, declared.tree.declaration.Declaration.Declaration, declared.tree.statement.Stmt.Stmt, declared.tree.item.Item.Item}
 use Rattle.sharc_grammar.specs.{Grammar.{mark, Typing, Part, structure, no_more}, Machine.{on_top, body, parameter_of, naming, TypeWant, Start, Top, a_brace, At, with_part, function_of}, Limits.reads_within, Places.{span_at, name_at, fields_size, part_size, declarations_at, item_at}}
-use Rattle.sharc_parse.specs.{declared.token.Fault.Fault, declared.token.Fault.TheVariants.{Memory, Wrong, Deep}, View.bare_type, Goes.{from, Past, NotAt, Goes}, Types.{ReadsType, EndsType}, Locals.struct_type, Fields.declared, Statements.sentences_of, Nested.ReadsStatements, Parameters.ReadsParameters, Items.{part_of, OpensStruct, ReadsFunction, ReadsNamed, ReadsItem}}
+use Rattle.sharc_parse.specs.{declared.token.ReadingFault.ReadingFault, declared.token.ReadingFault.TheVariants.{Memory, Wrong, Deep}, View.bare_type, Goes.{from, Past, NotAt, Goes}, Types.{ReadsType, EndsType}, Locals.struct_type, Fields.declared, Statements.sentences_of, Nested.ReadsStatements, Parameters.ReadsParameters, Items.{part_of, OpensStruct, ReadsFunction, ReadsNamed, ReadsItem}}
 
 abbrev made_struct : Span → Identifier → List Declaration → tree.Item
 made_struct sp name fields = tree.structure (record { span = sp; name = name; fields = fields })
@@ -27,7 +27,7 @@ function_begins : {A : Type 0} (see : A → List Declaration) (v : A) (t : Typin
 function_begins see v t n tokens old mid next r e all = r all t n ∙ ap (λ ts. reads_within ts (At (a_brace ∷ []) (Start (body all t n (declared (see v)) no_more)))) e.0
 
 -- the body is wrong
-pub function_wrong : {A B : Type 0} (see : A → List Declaration) (look : B → List Stmt) (v : A) (e : Fault) (t : Typing) (n : List ℕ) (tokens : List Token) (old mid next new : ℕ) → ReadsParameters see (Ok v) (from tokens old) (from tokens mid) → Past (mark OpenBrace) tokens mid next → ReadsStatements look 63 (Err e) (from tokens next) (from tokens new) → ReadsFunction t n (Err e) (from tokens old) (from tokens new)
+pub function_wrong : {A B : Type 0} (see : A → List Declaration) (look : B → List Stmt) (v : A) (e : ReadingFault) (t : Typing) (n : List ℕ) (tokens : List Token) (old mid next new : ℕ) → ReadsParameters see (Ok v) (from tokens old) (from tokens mid) → Past (mark OpenBrace) tokens mid next → ReadsStatements look 63 (Err e) (from tokens next) (from tokens new) → ReadsFunction t n (Err e) (from tokens old) (from tokens new)
 function_wrong see look v Wrong t n tokens old mid next new r p b all = function_begins see v t n tokens old mid next r p all ∙ b (body all t n (declared (see v)) no_more) refl refl
 function_wrong see look v Deep t n tokens old mid next new r p b all = function_begins see v t n tokens old mid next r p all ∙ b (body all t n (declared (see v)) no_more) refl refl
 function_wrong see look v Memory t n tokens old mid next new r p b all = tt
@@ -39,7 +39,7 @@ function_read see look v w given t n tokens old mid next new is r p b all =
     ∙ ap (λ l. reads_within (from tokens new) (At [] (Top (with_part all (function_of t n (declared l) (sentences_of (look w))))))) (sym is)
 
 -- after a type, where no struct begins
-pub item_named : (tokens : List Token) (old mid next new : ℕ) (w : WrittenType) (result : Result Item Fault) → ReadsType true (Ok w) (from tokens old) (from tokens mid) → EndsType true (Ok w) (from tokens mid) → OpensStruct (Ok None) w tokens mid next → ReadsNamed w result (from tokens next) (from tokens new) → ReadsItem result (from tokens old) (from tokens new)
+pub item_named : (tokens : List Token) (old mid next new : ℕ) (w : WrittenType) (result : Result Item ReadingFault) → ReadsType true (Ok w) (from tokens old) (from tokens mid) → EndsType true (Ok w) (from tokens mid) → OpensStruct (Ok None) w tokens mid next → ReadsNamed w result (from tokens next) (from tokens new) → ReadsItem result (from tokens old) (from tokens new)
 item_named tokens old mid next new w result r ends o named all =
     let there : ReadsNamed w result (from tokens mid) (from tokens new) = subst (λ i. ReadsNamed w result (from tokens i) (from tokens new)) o.0 named in
     let other = subst (λ i. (x : List ℕ) → bare_type w ≡ struct_type x → NotAt (mark OpenBrace) (from tokens i)) o.0 o.1 in

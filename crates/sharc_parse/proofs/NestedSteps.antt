@@ -5,7 +5,7 @@ use Rattle.sharc_tree.specs.Tree as tree
 use Rattle.sharc_tree.specs.{Children.view_statements-push, View.{view_stmt, view_statements}, declared.token.Token.Token, declared.token.Site.Site, declared.token.Span.Span, declared.token.Punctuator.TheVariants.{OpenBrace, CloseBrace}, declared.tree.statement.Stmt.Stmt}
 use Rattle.sharc_tree.specs.declared.token.Keyword.TheVariants as key
 use Rattle.sharc_grammar.specs.{Grammar.{Word, keyword, mark, Phrase, Loop, Sentence, under, Sentences, no_more, sentence, if_of, else_of, Opening, while_of, for_of}, Machine.{Outer, body, items, inside, as_statement, Start, Done, At, start, line_start, done, is_else, holds_items, with_item}, Limits.{Over, next_within, reads_within, around_it}, Places.{site_in, size, sentence_size, all_size, opening_size, span_at, expression_at, head_at, statement_at, statements_at}}
-use Rattle.sharc_parse.specs.{declared.token.Fault.Fault, declared.token.Fault.TheVariants.{Memory, Wrong, Deep}, View.bare, Goes.{from, Past, NotAt, IsAt}, Lines.line_within, declared.word.StatementWord.StatementWord, declared.word.StatementWord.TheVariants.{If, While, For, Return, Break, Continue}, Words.{statement_word, NoStatement}, Heads.bare_head, Statements.{bare_statement, sentence_of, sentences_of, ReadsStatement, BuildsStatement, IsRestPlaced}, Nested.{IsOpen, holding, closed, ReadsStatements}}
+use Rattle.sharc_parse.specs.{declared.token.ReadingFault.ReadingFault, declared.token.ReadingFault.TheVariants.{Memory, Wrong, Deep}, View.bare, Goes.{from, Past, NotAt, IsAt}, Lines.line_within, declared.word.StatementWord.StatementWord, declared.word.StatementWord.TheVariants.{If, While, For, Return, Break, Continue}, Words.{statement_word, NoStatement}, Heads.bare_head, Statements.{bare_statement, sentence_of, sentences_of, ReadsStatement, BuildsStatement, IsRestPlaced}, Nested.{IsOpen, holding, closed, ReadsStatements}}
 use Rattle.sharc_parse.proofs.{Steps.{passes, fails}, WordSteps.line_there, PlainSteps.over_statement}
 
 -- blocks
@@ -80,7 +80,7 @@ for_ends h s o (t ∷ y) = refl
 -- where they are
 
 -- a statement that was made, with its first word before the old place
-pub rest_placed : (result : Result Stmt Fault) (tokens : List Token) (n old new : ℕ) (x : tree.Statement) → BuildsStatement result x → old ≡ n + 1 → x ≡ statement_at (site_in tokens) n (bare_statement x) → new ≡ n + sentence_size (bare_statement x) → IsRestPlaced result tokens old new
+pub rest_placed : (result : Result Stmt ReadingFault) (tokens : List Token) (n old new : ℕ) (x : tree.Statement) → BuildsStatement result x → old ≡ n + 1 → x ≡ statement_at (site_in tokens) n (bare_statement x) → new ≡ n + sentence_size (bare_statement x) → IsRestPlaced result tokens old new
 rest_placed (Ok s) tokens n old new x b h stands size = λ m e.
     let same : n ≡ m = omega (arith, e, h) in
     (over_statement (site_in tokens) n (view_stmt s) x b stands ∙ ap (λ i. statement_at (site_in tokens) i (sentence_of s)) same, size ∙ ap (λ i. i + sentence_size (bare_statement x)) same ∙ ap (λ v. m + sentence_size (bare_statement v)) (sym b))
@@ -119,7 +119,7 @@ block_enters tokens old mid o room p h e = block_opens o room (from tokens old) 
 inside_room : (a room : ℕ) → 0 < room → a + room ≡ 64 → a + 1 + (room - 1) ≡ 64
 inside_room a room h e = omega (arith, h, e)
 
-pub block_wrong : {A : Type 0} (list : A → List Stmt) (x : Fault) (may : Bool) (room : ℕ) (tokens : List Token) (old mid new : ℕ) → Past (mark OpenBrace) tokens old mid → 0 < room → ReadsStatements list (room - 1) (Err x) (from tokens mid) (from tokens new) → ReadsStatement may room (Err x) (from tokens old) (from tokens new)
+pub block_wrong : {A : Type 0} (list : A → List Stmt) (x : ReadingFault) (may : Bool) (room : ℕ) (tokens : List Token) (old mid new : ℕ) → Past (mark OpenBrace) tokens old mid → 0 < room → ReadsStatements list (room - 1) (Err x) (from tokens mid) (from tokens new) → ReadsStatement may room (Err x) (from tokens old) (from tokens new)
 block_wrong list Wrong may room tokens old mid new p h r = λ o m e. block_enters tokens old mid o room p h e ∙ r (items no_more o) refl (inside_room (around_it o) room h e)
 block_wrong list Deep may room tokens old mid new p h r = λ o m e. block_enters tokens old mid o room p h e ∙ r (items no_more o) refl (inside_room (around_it o) room h e)
 block_wrong list Memory may room tokens old mid new p h r = λ o m e. tt

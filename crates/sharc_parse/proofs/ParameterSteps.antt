@@ -3,7 +3,7 @@ use Rattle.std.proofs.Common.{◌≡◌, ℕ, ◌+◌, List, [], ◌∷◌, ◌+
 use Rattle.std.specs.Prelude.{Ok, Err}
 use Rattle.sharc_tree.specs.{declared.token.Token.Token, declared.token.Punctuator.TheVariants.{Comma, CloseParenthesis}, declared.tree.declaration.Declaration.Declaration}
 use Rattle.sharc_grammar.specs.{Grammar.{Word, mark, Typing, Declaring, Part, no_more}, Machine.{body, parameter_of, naming, TypeWant, Named, Start, a_brace, At, with_declaring, named_parameter}, Limits.{StuckAt, next_within, reads_within}, Places.{site_in, fields_size, declaring_size, declarations_at, parameters_size}}
-use Rattle.sharc_parse.specs.{declared.token.Fault.Fault, declared.token.Fault.TheVariants.{Memory, Wrong, Deep}, View.bare_declaration, Goes.{NotAt, from, Past}, Locals.{IsPlainPlace, ReadsDeclaration, IsDeclarationPlaced}, Fields.declared, Parameters.{ReadsFirst, IsFirstPlaced, ReadsParameters, AreParametersPlaced}}
+use Rattle.sharc_parse.specs.{declared.token.ReadingFault.ReadingFault, declared.token.ReadingFault.TheVariants.{Memory, Wrong, Deep}, View.bare_declaration, Goes.{NotAt, from, Past}, Locals.{IsPlainPlace, ReadsDeclaration, IsDeclarationPlaced}, Fields.declared, Parameters.{ReadsFirst, IsFirstPlaced, ReadsParameters, AreParametersPlaced}}
 use Rattle.sharc_parse.proofs.FieldSteps.{declared_more, fields_size_more, declarations_more}
 
 parameter_goes : (all : List Part) (r : Typing) (f : List ℕ) (before : List Declaring) (d : Declaring) (ts y : List Word) → ts ≡ mark Comma ∷ y → reads_within ts (At [] (Named (parameter_of all r f before) d.typing d.named)) ≡ reads_within y (At [] (TypeWant (naming (parameter_of all r f (with_declaring before d)))))
@@ -74,7 +74,7 @@ one_given_more tokens n old mid new list all d is z e r p =
     }
 
 -- the next parameter is wrong
-pub given_wrong : {A : Type 0} (see : A → List Declaration) (e : Fault) (tokens : List Token) (n old mid new : ℕ) (list : List Declaration) → GivenSoFar tokens n old list → Past (mark Comma) tokens old mid → ReadsDeclaration (Err e) (from tokens mid) (from tokens new) → ReadsParameters see (Err e) (from tokens n) (from tokens new)
+pub given_wrong : {A : Type 0} (see : A → List Declaration) (e : ReadingFault) (tokens : List Token) (n old mid new : ℕ) (list : List Declaration) → GivenSoFar tokens n old list → Past (mark Comma) tokens old mid → ReadsDeclaration (Err e) (from tokens mid) (from tokens new) → ReadsParameters see (Err e) (from tokens n) (from tokens new)
 given_wrong see Wrong tokens n old mid new list z e r all t f = given_comma tokens n old mid list z e all t f ∙ r (parameter_of all t f (with_declaring z.before z.last)) (plain_parameter all t f z.before z.last)
 given_wrong see Deep tokens n old mid new list z e r all t f = given_comma tokens n old mid list z e all t f ∙ r (parameter_of all t f (with_declaring z.before z.last)) (plain_parameter all t f z.before z.last)
 given_wrong see Memory tokens n old mid new list z e r all t f = tt

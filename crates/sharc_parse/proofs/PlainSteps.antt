@@ -4,7 +4,7 @@ use Rattle.std.specs.Prelude.{◌==◌, ◌⊎◌, ◌≢◌, Result, Ok, Err}
 use Rattle.sharc_tree.specs.{declared.token.Punctuator.TheVariants.Semicolon, declared.tree.statement.Jump.Jump, View.{view_expr, view_option, view_stmt}, declared.token.Token.Token, declared.token.Site.Site, declared.token.Span.Span, declared.tree.expression.Expr.Expr, declared.tree.statement.Stmt.Stmt}
 use Rattle.sharc_grammar.specs.{Grammar.{Word, mark, jump}, Machine.{Outer, as_statement, Done, a_semicolon, At, holds_items, may_declare}, Limits.{reads_within, around_it, crowded_line}, Places.{site_in, option_size, option_at, span_at, statement_at, sentence_size}}
 use Rattle.sharc_tree.specs.Tree as tree
-use Rattle.sharc_parse.specs.{declared.token.Fault.Fault, declared.token.Fault.TheVariants.{Memory, Wrong, Deep}, Rights.option_of, Heads.{by_return, ReadsTail, IsTailPlaced}, Statements.{bare_statement, sentence_of, BuildsStatement, ReadsReturn, IsRestPlaced}}
+use Rattle.sharc_parse.specs.{declared.token.ReadingFault.ReadingFault, declared.token.ReadingFault.TheVariants.{Memory, Wrong, Deep}, Rights.option_of, Heads.{by_return, ReadsTail, IsTailPlaced}, Statements.{bare_statement, sentence_of, BuildsStatement, ReadsReturn, IsRestPlaced}}
 use Rattle.sharc_parse.proofs.Steps.{fixed_goes}
 
 pub line_may : (o : Outer) (may : Bool) → holds_items o ≡ may → may_declare as_statement o ≡ may
@@ -21,12 +21,12 @@ line_room o room e = room_case o room e (eqb_tells room 0)
 pub jump_ends : (j : Jump) (o : Outer) (y : List Word) → around_it o < 64 → reads_within (mark Semicolon ∷ y) (At (a_semicolon ∷ []) (Done (jump j) o)) ≡ reads_within y (At [] (Done (jump j) o))
 jump_ends j o y h = fixed_goes a_semicolon [] (Done (jump j) o) y (lt-leb 64 (around_it o) h)
 
-pub return_wrong : (e : Fault) (old new : List Word) → ReadsTail (Err e) old new → ReadsReturn (Err e) old new
+pub return_wrong : (e : ReadingFault) (old new : List Word) → ReadsTail (Err e) old new → ReadsReturn (Err e) old new
 return_wrong Wrong old new t = λ o. t by_return o
 return_wrong Deep old new t = λ o. t by_return o
 return_wrong Memory old new t = λ o. tt
 
-pub return_reads : (result : Result Stmt Fault) (sp : Span) (x : Option Expr) (old new : List Word) → BuildsStatement result (tree.return sp (view_option view_expr x)) → ReadsTail (Ok x) old new → ReadsReturn result old new
+pub return_reads : (result : Result Stmt ReadingFault) (sp : Span) (x : Option Expr) (old new : List Word) → BuildsStatement result (tree.return sp (view_option view_expr x)) → ReadsTail (Ok x) old new → ReadsReturn result old new
 return_reads (Ok s) sp x old new b t = λ o. t by_return o ∙ ap (λ v. reads_within new (At [] (Done (bare_statement v) o))) (sym b)
 return_reads (Err Memory) sp x old new b t = λ o. tt
 return_reads (Err Wrong) sp x old new b t = absurd b
@@ -36,7 +36,7 @@ pub over_statement : (s : ℕ → Site) (n : ℕ) (v w : tree.Statement) → v �
 over_statement s n v w e h = subst (λ v. v ≡ statement_at s n (bare_statement v)) (sym e) h
 
 -- its first word has the number before the old place
-pub return_placed : (result : Result Stmt Fault) (tokens : List Token) (n old new : ℕ) (sp : Span) (x : Option Expr) → BuildsStatement result (tree.return sp (view_option view_expr x)) → old ≡ n + 1 → ((length : ℕ) → new ≡ n + length → sp ≡ span_at (site_in tokens) n length) → IsTailPlaced (Ok x) tokens old new → IsRestPlaced result tokens old new
+pub return_placed : (result : Result Stmt ReadingFault) (tokens : List Token) (n old new : ℕ) (sp : Span) (x : Option Expr) → BuildsStatement result (tree.return sp (view_option view_expr x)) → old ≡ n + 1 → ((length : ℕ) → new ≡ n + length → sp ≡ span_at (site_in tokens) n length) → IsTailPlaced (Ok x) tokens old new → IsRestPlaced result tokens old new
 return_placed (Ok s) tokens n old new sp x b h span t = λ m e.
     let same : n ≡ m = omega (arith, e, h) in
     let stands = over_statement (site_in tokens) n (view_stmt s) (tree.return sp (view_option view_expr x)) b

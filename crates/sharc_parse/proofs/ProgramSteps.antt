@@ -5,8 +5,8 @@ use Rattle.sharc_tree.specs.{View.{view_item, view_items, view_program}, declare
 use Rattle.sharc_tree.specs.Tree as tree
 use Rattle.sharc_grammar.specs.{Grammar.{Word, Part, IsProgram, program_words}, Machine.{on_top, naming, TypeWant, Top, At, with_part, first_state}, Limits.{LowProgram, ReadWithin, StuckAt, Over, reads_within}, Places.{words_of, site_in, part_size, item_at, items_at, Reads}, Faults.{IsFault, wrong_code}}
 use Rattle.sharc_grammar.specs.declared.fault.GrammarFault.TheVariants as grammar_faults
-use Rattle.sharc_parse.specs.{declared.token.Fault.Fault, declared.token.Fault.TheVariants.{Memory as NoMemory, Wrong, Deep}, declared.program.ParseFault.ParseFault, declared.program.ParseFault.TheVariants.{At as FaultOf, Memory}, Goes.from, Items.{part_of, ReadsItem, IsItemPlaced}, declared.program.Refusal.Refusal, Programs.{parts_of, code_of, ReadsItems, Refuses, Completes, Parses}}
-use Rattle.sharc_parse.specs.declared.program.Refusal.TheVariants as refusals
+use Rattle.sharc_parse.specs.{declared.token.ReadingFault.ReadingFault, declared.token.ReadingFault.TheVariants.{Memory as NoMemory, Wrong, Deep}, declared.program.ParseFault.ParseFault, declared.program.ParseFault.TheVariants.{At as FaultOf, Memory}, Goes.from, Items.{part_of, ReadsItem, IsItemPlaced}, declared.program.TokenRefusal.TokenRefusal, Programs.{parts_of, code_of, ReadsItems, Refuses, Completes, Parses}}
+use Rattle.sharc_parse.specs.declared.program.TokenRefusal.TheVariants as refusals
 
 -- at a word, a step from the top is one of a type there
 top_goes : (all : List Part) (ts : List Word) → 0 < length ts → reads_within ts (At [] (Top all)) ≡ reads_within ts (At [] (TypeWant (naming (on_top all))))
@@ -72,7 +72,7 @@ pub items_read : (tokens : List Token) (at : ℕ) (list : List Item) → ItemsSo
 items_read tokens at list z h = z.reads ∙ ap (λ ts. reads_within ts (At [] (Top (parts_of list)))) (none_left tokens at h)
 
 -- where the next item is not read, neither is the program
-pub item_fails : {A : Type 0} (see : A → List Item) (result : Result A Fault) (fault : Fault) (tokens : List Token) (old new : ℕ) (list : List Item) → result ≡ Err fault → ItemsSoFar tokens old list → old < length tokens → ReadsItem (Err fault) (from tokens old) (from tokens new) → ReadsItems see result tokens new
+pub item_fails : {A : Type 0} (see : A → List Item) (result : Result A ReadingFault) (fault : ReadingFault) (tokens : List Token) (old new : ℕ) (list : List Item) → result ≡ Err fault → ItemsSoFar tokens old list → old < length tokens → ReadsItem (Err fault) (from tokens old) (from tokens new) → ReadsItems see result tokens new
 item_fails see result Wrong tokens old new list is z h r = subst (λ o. ReadsItems see o tokens new) (sym is) (item_there tokens old list z h ∙ r (parts_of list))
 item_fails see result Deep tokens old new list is z h r = subst (λ o. ReadsItems see o tokens new) (sym is) (item_there tokens old list z h ∙ r (parts_of list))
 item_fails see result NoMemory tokens old new list is z h r = subst (λ o. ReadsItems see o tokens new) (sym is) tt
@@ -97,7 +97,7 @@ stuck_there law tokens n h e = law (words_of tokens) (from tokens n) n (words_be
 pub over_there : (law : OverAtFault) (tokens : List Token) (n : ℕ) → n ≤ length tokens → reads_within (words_of tokens) first_state ≡ Over (from tokens n) → IsFault (words_of tokens) (code_of refusals.Deep (from tokens n)) n
 over_there law tokens n h e = law (words_of tokens) (from tokens n) n (words_before tokens n h) e
 
-pub parses_refused : (result : Result Program ParseFault) (tokens : Tokens) (n : ℕ) (refusal : Refusal) → IsFault (words_of tokens.list) (code_of refusal (from tokens.list n)) n → Refuses result tokens n refusal → Parses result tokens
+pub parses_refused : (result : Result Program ParseFault) (tokens : Tokens) (n : ℕ) (refusal : TokenRefusal) → IsFault (words_of tokens.list) (code_of refusal (from tokens.list n)) n → Refuses result tokens n refusal → Parses result tokens
 parses_refused (Ok p) tokens n refusal f h = absurd h
 parses_refused (Err (FaultOf fault back)) tokens n refusal f h = (record { number = n; is = subst (λ code. IsFault (words_of tokens.list) code n) (sym h.1) f; told = h.0 }, h.2)
 parses_refused (Err Memory) tokens n refusal f h = tt

@@ -3,7 +3,7 @@ use Rattle.std.proofs.Common.{◌≡◌, ◌≤◌, ◌<◌, List, [], ◌∷◌
 use Rattle.std.specs.Prelude.{map, Ok}
 use Rattle.sharc_tree.specs.declared.token.Keyword.TheVariants as key
 use Rattle.sharc_tree.specs.{declared.token.Punctuator.TheVariants.{OpenParenthesis, CloseParenthesis, OpenBrace, OpenBracket, Dot, Arrow, Comma, Star}, declared.ctype.Base.Base, declared.tree.declaration.WrittenType.WrittenType}
-use Rattle.sharc_grammar.specs.{Grammar.{Word, name, keyword, mark, Sharing, Typing, Phrase, Value, value, malloc}, Machine.{Outer, ValuePlace, Place, part, valued, counting, Want, Have, Malloced, Valued, TypeWant, sizing, an_open, a_close, a_sizeof, At, Role, Calling, Indexing, Accessing, Operating, Ending, role, grip_of, grip, have, leave, typed, level_step}, Limits.{StuckAt, next_within, reads_within}}
+use Rattle.sharc_grammar.specs.{Grammar.{Word, name, keyword, mark, Sharing, Typing, Phrase, Value, value, malloc}, Machine.{Outer, ValuePlace, ExpressionPlace, part, valued, counting, Want, Have, Malloced, Valued, TypeWant, sizing, an_open, a_close, a_sizeof, At, Role, Calling, Indexing, Accessing, Operating, Ending, role, grip_of, grip, have, leave, typed, level_step}, Limits.{StuckAt, next_within, reads_within}}
 use Rattle.sharc_parse.specs.{View.{bare_level, bare_type}, Goes.NotAt, Types.{EndsLevels, EndsType, typed_levels, typed_state}, Rights.{EndsValue, valued_state, value_within}}
 use Rattle.sharc_parse.proofs.Steps.{some_strength}
 
@@ -83,14 +83,14 @@ malloc_closes v o r y = refl
 
 -- the end of a value
 
-ending_role : (r : Role) (p : Place) (o : Outer) (x : Phrase) (t : Word) → grip_of r < 1 → have r x (part p o) t ≡ leave p x o t
+ending_role : (r : Role) (p : ExpressionPlace) (o : Outer) (x : Phrase) (t : Word) → grip_of r < 1 → have r x (part p o) t ≡ leave p x o t
 ending_role Calling p o x t g = absurd (omega (arith, g))
 ending_role Indexing p o x t g = absurd (omega (arith, g))
 ending_role (Accessing a) p o x t g = absurd (omega (arith, g))
 ending_role (Operating b) p o x t g = absurd (omega (arith, g, some_strength b))
 ending_role Ending p o x t g = refl
 
-pub ends_place : (p : Place) (o : Outer) (x : Phrase) (t : Word) (y : List Word) → grip (t ∷ y) < 1 → reads_within (t ∷ y) (At [] (Have x (part p o))) ≡ next_within (leave p x o t) (λ s. reads_within y s) (t ∷ y)
+pub ends_place : (p : ExpressionPlace) (o : Outer) (x : Phrase) (t : Word) (y : List Word) → grip (t ∷ y) < 1 → reads_within (t ∷ y) (At [] (Have x (part p o))) ≡ next_within (leave p x o t) (λ s. reads_within y s) (t ∷ y)
 ends_place p o x t y g = ap (λ n. next_within n (λ s. reads_within y s) (t ∷ y)) (ending_role (role t) p o x t g)
 
 pub value_ends : (v : ValuePlace) (o : Outer) (r : Value) (ts : List Word) → EndsValue r ts → reads_within ts (valued_state v o r) ≡ value_within v r o ts

@@ -2,15 +2,15 @@
 use Rattle.std.proofs.{Common.{◌≡◌, ℕ, ◌+◌, ◌≤◌, ◌<◌, List, [], ◌∷◌, ◌++◌, Some, None, refl, sym, ap, ◌∙◌, arith, subst, true, false, cond, max, Result, Ok, Err}, lemmas.Bool.{le-leb, lt-leb}}
 use Rattle.std.specs.Prelude.{nat_le}
 use Rattle.sharc_tree.specs.declared.token.Keyword.TheVariants as key
-use Rattle.sharc_tree.specs.{declared.token.Punctuator.TheVariants.{OpenParenthesis, CloseParenthesis, OpenBrace, OpenBracket, CloseBracket, Semicolon, Comma, Dot, Arrow, Minus, Star, Ampersand, Exclamation, Tilde}, declared.tree.expression.BinaryOperator.BinaryOperator, declared.tree.expression.UnaryOperator.UnaryOperator, declared.tree.expression.UnaryOperator.TheVariants.{Negate, Not, Complement, Dereference}, declared.tree.expression.Access.Access, declared.tree.expression.Constant.Constant, View.{view_expr, view_arguments}, Children.view_arguments-push, declared.token.Site.Site, declared.tree.expression.Expr.Expr, declared.token.Span.Span, declared.token.Token.Token, declared.tree.declaration.Identifier.Identifier}
+use Rattle.sharc_tree.specs.{declared.token.Punctuator.TheVariants.{OpenParenthesis, CloseParenthesis, OpenBrace, OpenBracket, CloseBracket, Semicolon, Comma, Dot, Arrow, Minus, Star, Ampersand, Exclamation, Tilde}, declared.tree.expression.BinaryOperator.BinaryOperator, declared.tree.expression.UnaryOperator.UnaryOperator, declared.tree.expression.UnaryOperator.TheVariants.{Negate, Not, Complement, Dereference}, declared.tree.expression.FieldOperator.FieldOperator, declared.tree.expression.Constant.Constant, View.{view_expr, view_arguments}, Children.view_arguments-push, declared.token.Site.Site, declared.tree.expression.Expr.Expr, declared.token.Span.Span, declared.token.Token.Token, declared.tree.declaration.Identifier.Identifier}
 use Rattle.sharc_tree.specs.declared.tree.expression.BinaryOperator.TheVariants as op
-use Rattle.sharc_tree.specs.declared.tree.expression.Access.TheVariants as access
+use Rattle.sharc_tree.specs.declared.tree.expression.FieldOperator.TheVariants as access
 use Rattle.sharc_tree.specs.declared.tree.expression.ValueCall.TheVariants as value_call
 use Rattle.sharc_tree.specs.declared.tree.expression.PlaceCall.TheVariants as place_call
 use Rattle.sharc_tree.specs.declared.tree.expression.Constant.TheVariants as constants
 use Rattle.sharc_grammar.specs.{Grammar.{Word, name, keyword, mark, number, character, Front, of_place, Phrase, identifier, constant, enclosed, call, index, field, unary, binary, Phrases, none, more, operator_mark, unary_mark, access_mark, constant_word, strength, front_level}, Machine.{condition, returning, testing, subject, valued, counting, Cont, part, beneath, right_of, fronted, indexing, arguments, Core, Want, Have, Called, Dotted, Fixed, an_open, a_close, a_semicolon, a_comma, a_brace, a_bracket, an_ampersand, a_sizeof, State, At, fixed_word, is_fixed, to, Role, Calling, Indexing, Accessing, Operating, Ending, role, grip_of, grip, with_last, floor, settle, mallocs, want, open_call, front_end, end_at, counted, shift, have}, Limits.{height, highest, depth, crowded, over_core, over, Limited, StuckAt, Over, next_within, reads_within}, Operators.{weak, operating, settle_stops, role_binary, role_unary, floor_most}, Places.{size, sizes, rest_size, expression_at, arguments_at, site_in, span_at, name_at, front_size, type_size, type_at}}
 use Rattle.sharc_tree.specs.Tree as tree
-use Rattle.sharc_parse.specs.{declared.token.Piece.Piece, declared.token.Fault.Fault, declared.expr.Front.{Front as ParsedFront}, Goes.{Builds, IsPlaced, StandsFront, bare_front, front_tree, NotAt, IsAt, NoName, NoConstant, NoUnary, NoFront, NoCall, NoMalloc, NoAccess, front_word, after_front}, View.{bare, bare_type, phrase_of, phrases_of}, declared.token.FrontWord.FrontWord}
+use Rattle.sharc_parse.specs.{declared.token.ParsedExpr.ParsedExpr, declared.token.ReadingFault.ReadingFault, declared.expr.Front.{Front as ParsedFront}, Goes.{Builds, IsPlaced, StandsFront, bare_front, front_tree, NotAt, IsAt, NoName, NoConstant, NoUnary, NoFront, NoCall, NoMalloc, NoAccess, front_word, after_front}, View.{bare, bare_type, phrase_of, phrases_of}, declared.token.FrontWord.FrontWord}
 use Rattle.sharc_parse.specs.declared.expr.Front.TheVariants as fronts
 use Rattle.sharc_parse.specs.declared.token.FrontWord.TheVariants as begins
 use Rattle.sharc_lemmas.proofs.Numbers.{test_down}
@@ -252,16 +252,16 @@ index_deep x k (t ∷ y) a c h =
     ∙ fails (At [] (Want (indexing x k))) y (mark OpenBracket ∷ y) (not_fine k (depth k + height x) c h)
     ∙ ap (λ u. Over (u ∷ y)) (sym a)
 
-access_step : (a : Access) (x : Phrase) (k : Cont) → have (role (mark (access_mark a))) x k (mark (access_mark a)) ≡ to (Dotted x a k)
+access_step : (a : FieldOperator) (x : Phrase) (k : Cont) → have (role (mark (access_mark a))) x k (mark (access_mark a)) ≡ to (Dotted x a k)
 access_step access.Dot x k = refl
 access_step access.Arrow x k = refl
 
-pub access_goes : (a : Access) (x : Phrase) (k : Cont) (y : List Word) → depth k + height x < 64 → reads_within (mark (access_mark a) ∷ y) (At [] (Have x k)) ≡ reads_within y (At [] (Dotted x a k))
+pub access_goes : (a : FieldOperator) (x : Phrase) (k : Cont) (y : List Word) → depth k + height x < 64 → reads_within (mark (access_mark a) ∷ y) (At [] (Have x k)) ≡ reads_within y (At [] (Dotted x a k))
 access_goes a x k y h =
     ap (λ o. next_within o (λ s. reads_within y s) (mark (access_mark a) ∷ y)) (access_step a x k)
     ∙ passes (At [] (Dotted x a k)) y (mark (access_mark a) ∷ y) (test_down (depth k + height x) h)
 
-pub access_deep : (a : Access) (x : Phrase) (k : Cont) (ts : List Word) → IsAt (mark (access_mark a)) ts → 64 ≤ depth k + height x → reads_within ts (At [] (Have x k)) ≡ Over ts
+pub access_deep : (a : FieldOperator) (x : Phrase) (k : Cont) (ts : List Word) → IsAt (mark (access_mark a)) ts → 64 ≤ depth k + height x → reads_within ts (At [] (Have x k)) ≡ Over ts
 access_deep a x k [] i h = absurd i
 access_deep a x k (t ∷ y) i h =
     ap (λ u. reads_within (u ∷ y) (At [] (Have x k))) i
@@ -269,10 +269,10 @@ access_deep a x k (t ∷ y) i h =
     ∙ fails (At [] (Dotted x a k)) y (mark (access_mark a) ∷ y) (le-leb 64 (depth k + height x) h)
     ∙ ap (λ u. Over (u ∷ y)) (sym i)
 
-pub field_goes : (x : Phrase) (a : Access) (n : List ℕ) (k : Cont) (y : List Word) → crowded k ≡ false → reads_within (name n ∷ y) (At [] (Dotted x a k)) ≡ reads_within y (At [] (Have (field x a n) k))
+pub field_goes : (x : Phrase) (a : FieldOperator) (n : List ℕ) (k : Cont) (y : List Word) → crowded k ≡ false → reads_within (name n ∷ y) (At [] (Dotted x a k)) ≡ reads_within y (At [] (Have (field x a n) k))
 field_goes x a n k y c = passes (At [] (Have (field x a n) k)) y (name n ∷ y) c
 
-pub no_field : (x : Phrase) (a : Access) (k : Cont) (ts : List Word) → NoName ts → reads_within ts (At [] (Dotted x a k)) ≡ StuckAt ts
+pub no_field : (x : Phrase) (a : FieldOperator) (k : Cont) (ts : List Word) → NoName ts → reads_within ts (At [] (Dotted x a k)) ≡ StuckAt ts
 no_field x a k [] h = refl
 no_field x a k (name n ∷ y) h = absurd h
 no_field x a k (_ ∷ y) h = refl
@@ -295,7 +295,7 @@ no_call x k (t ∷ y) h a =
     ∙ ap (λ o. next_within o (λ s. reads_within y s) (mark OpenParenthesis ∷ y)) (not_open x k t y h a)
     ∙ ap (λ u. StuckAt (u ∷ y)) (sym a)
 
-ends_word : (t : Word) → (t ≡ mark OpenBracket → ⊥) → ((a : Access) → t ≡ mark (access_mark a) → ⊥) → (t ≡ mark OpenParenthesis → ⊥) → grip_of (role t) ≤ 11
+ends_word : (t : Word) → (t ≡ mark OpenBracket → ⊥) → ((a : FieldOperator) → t ≡ mark (access_mark a) → ⊥) → (t ≡ mark OpenParenthesis → ⊥) → grip_of (role t) ≤ 11
 ends_word (mark OpenBracket) b a o = absurd (b refl)
 ends_word (mark Dot) b a o = absurd (a access.Dot refl)
 ends_word (mark Arrow) b a o = absurd (a access.Arrow refl)
@@ -418,7 +418,7 @@ named_at z text = record { site = z; text = text }
 name_stands : (s : ℕ → Site) (m k : ℕ) (i : Identifier) → i.site ≡ s m → m ≡ k → i ≡ name_at s k i.text
 name_stands s m k i e f = ap (λ (z : Site). named_at z i.text) (e ∙ ap s f)
 
-pub field_stands : (s : ℕ → Site) (n m : ℕ) (x : Expr) (sp : Span) (va : tree.Expression) (a : Access) (i : Identifier) → view_expr x ≡ tree.field sp va a i → sp ≡ span_at s n (size (bare va) + 2) → va ≡ expression_at s n (bare va) → i.site ≡ s m → m ≡ n + size (bare va) + 1 → view_expr x ≡ expression_at s n (bare (view_expr x))
+pub field_stands : (s : ℕ → Site) (n m : ℕ) (x : Expr) (sp : Span) (va : tree.Expression) (a : FieldOperator) (i : Identifier) → view_expr x ≡ tree.field sp va a i → sp ≡ span_at s n (size (bare va) + 2) → va ≡ expression_at s n (bare va) → i.site ≡ s m → m ≡ n + size (bare va) + 1 → view_expr x ≡ expression_at s n (bare (view_expr x))
 field_stands s n m x sp va a i e b c d f =
     over_view s n x (tree.field sp va a i) e
     (ap (λ z. tree.field z va a i) b
@@ -442,7 +442,7 @@ front_stands tokens n mid sp (fronts.Cast t) va a b c d = (
   refl,
 )
 
-pub front_placed : (result : Result Piece Fault) (tokens : List Token) (old mid new h : ℕ) (sp : Span) (f : ParsedFront) (va : tree.Expression) → Builds result (front_tree sp f va) h → sp ≡ span_at (site_in tokens) old (front_size (bare_front f) + size (bare va) + 1) → StandsFront f tokens old → mid ≡ old + front_size (bare_front f) → va ≡ expression_at (site_in tokens) mid (bare va) → new ≡ mid + size (bare va) + 1 → IsPlaced result tokens old new
+pub front_placed : (result : Result ParsedExpr ReadingFault) (tokens : List Token) (old mid new h : ℕ) (sp : Span) (f : ParsedFront) (va : tree.Expression) → Builds result (front_tree sp f va) h → sp ≡ span_at (site_in tokens) old (front_size (bare_front f) + size (bare va) + 1) → StandsFront f tokens old → mid ≡ old + front_size (bare_front f) → va ≡ expression_at (site_in tokens) mid (bare va) → new ≡ mid + size (bare va) + 1 → IsPlaced result tokens old new
 front_placed (Ok r) tokens old mid new h sp f va b a g d c e =
     let z = front_stands tokens old mid sp f va a g c d in
     (over_view (site_in tokens) old r.expr (front_tree sp f va) b.0 z.0, omega (arith, e, d, z.1, ap (λ v. size (bare v)) b.0))

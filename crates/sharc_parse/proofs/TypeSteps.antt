@@ -4,7 +4,7 @@ use Rattle.sharc_tree.specs.declared.token.Keyword.TheVariants as key
 use Rattle.sharc_tree.specs.{declared.token.Punctuator.TheVariants.{OpenParenthesis, CloseParenthesis, OpenBrace, Comma, Arrow, Star}, declared.ctype.Base.Base, declared.token.Token.Token, declared.token.Site.Site, declared.token.Span.Span, declared.ctype.Mode.Mode, declared.tree.declaration.WrittenType.WrittenType}
 use Rattle.sharc_tree.specs.declared.ctype.Base.TheVariants as base
 use Rattle.sharc_grammar.specs.{Grammar.{Word, name, keyword, mark, Sharing, private, readonly, racy, dynamic, locked, locked_through, Typing, of_cast}, Machine.{Cont, Want, fronted, ModePlace, before_base, at_level, moded, TypePlace, casting, takes_modes, TypeWant, ModeFirst, StructWant, Typed, PathWant, PathNamed, PathThrough, an_open, a_close, State, At, or_else, mode_step, base_step, based, begin_type, typed, level_step, path_named}, Limits.{StuckAt, Over, next_within, reads_within, over_core, over, depth, crowded}, Places.{site_in, level_size, levels_size, levels_at, level_at, base_place, span_at, type_size}}
-use Rattle.sharc_parse.specs.{declared.types.ModeWord.ModeWord, declared.types.BaseWord.BaseWord, Goes.{NotAt, IsAt, NoName, from, Past}, declared.token.Fault.Fault, declared.token.Fault.TheVariants.{Memory, Wrong, Deep}, declared.types.Bottom.Bottom, View.{bare_level, bare_type}, Types.{typed_levels, typed_state, ReadsLevel, IsModeRestPlaced, IsModePlaced, ReadsBottom, EndsBottom, IsBottomPlaced, ReadsType, EndsType, IsTypePlaced, ReadsCast, mode_word, NoMode, HasMode, IsOpen, mode_within, after_mode, base_word, NoBase, base_within, EndsLevel, EndsLevels}}
+use Rattle.sharc_parse.specs.{declared.types.ModeWord.ModeWord, declared.types.BaseWord.BaseWord, Goes.{NotAt, IsAt, NoName, from, Past}, declared.token.ReadingFault.ReadingFault, declared.token.ReadingFault.TheVariants.{Memory, Wrong, Deep}, declared.types.Bottom.Bottom, View.{bare_level, bare_type}, Types.{typed_levels, typed_state, ReadsLevel, IsModeRestPlaced, IsModePlaced, ReadsBottom, EndsBottom, IsBottomPlaced, ReadsType, EndsType, IsTypePlaced, ReadsCast, mode_word, NoMode, HasMode, IsOpen, mode_within, after_mode, base_word, NoBase, base_within, EndsLevel, EndsLevels}}
 use Rattle.sharc_parse.specs.declared.types.ModeWord.TheVariants as modes
 use Rattle.sharc_parse.specs.declared.types.BaseWord.TheVariants as bases
 use Rattle.std.specs.Prelude.{map, insert, Ok, Err}
@@ -285,7 +285,7 @@ levels_deep modes tokens n at first b place [] z a h p e = absurd z.ends
 levels_deep modes tokens n at first b place (l ∷ levels) z a h p e = z.reads p e ∙ star_deep p first b (bare_level l) (map bare_level levels) (from tokens at) a (omega (arith, h, count_map levels))
 
 -- the mode after a star is not one
-pub level_wrong : (modes : Bool) (tokens : List Token) (n old mid new : ℕ) (first : Bool) (b : Base) (place : Site) (levels : List (Option Mode)) (e : Fault) → SoFar modes tokens n old first b place levels → Past (mark Star) tokens old mid → length levels < 9 → ReadsLevel modes (Err e) (from tokens mid) (from tokens new) → ReadsType modes (Err e) (from tokens n) (from tokens new)
+pub level_wrong : (modes : Bool) (tokens : List Token) (n old mid new : ℕ) (first : Bool) (b : Base) (place : Site) (levels : List (Option Mode)) (e : ReadingFault) → SoFar modes tokens n old first b place levels → Past (mark Star) tokens old mid → length levels < 9 → ReadsLevel modes (Err e) (from tokens mid) (from tokens new) → ReadsType modes (Err e) (from tokens n) (from tokens new)
 level_wrong true tokens n old mid new first b place levels Wrong z s h r p t =
     after_star true tokens n old mid first b place levels z s h p t
     ∙ mode_behind p first b (map bare_level levels) (from tokens mid) t r.0

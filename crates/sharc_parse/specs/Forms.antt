@@ -10,7 +10,7 @@ use Rattle.sharc_grammar.specs.Grammar.{array, initially, Part, global}
 use Rattle.sharc_grammar.specs.Machine.{on_top, Named, ArrayWant, InitialWant, Top, a_semicolon, At, declaring_of}
 use Rattle.sharc_grammar.specs.Machine.{with_part}
 use Rattle.sharc_grammar.specs.{Limits.reads_within, Places.{site_in, form_size, form_at}}
-use Rattle.sharc_parse.specs.{declared.token.Fault.Fault, Goes.{from, Past, NotAt, Goes}}
+use Rattle.sharc_parse.specs.{declared.token.ReadingFault.ReadingFault, Goes.{from, Past, NotAt, Goes}}
 
 abbrev pub NoNumber : List Word → Type 0
 NoNumber (number n ∷ rest) = ⊥
@@ -43,28 +43,28 @@ abbrev pub with_form : List Part → Declaring → Form → List Part
 with_form all d f = with_part all (global d f)
 
 -- `number ]` after a `[`
-abbrev pub ReadsArray : Result GlobalForm Fault → List Word → List Word → Type 0
+abbrev pub ReadsArray : Result GlobalForm ReadingFault → List Word → List Word → Type 0
 ReadsArray result old new = (all : List Part) (d : Declaring)
     → Goes form_of result (reads_within old (At [] (ArrayWant all d)))
     (λ f. reads_within new (At (a_semicolon ∷ []) (Top (with_form all d f)))) new
 
 -- a constant after a `=`
-abbrev pub ReadsConstant : Result GlobalForm Fault → List Word → List Word → Type 0
+abbrev pub ReadsConstant : Result GlobalForm ReadingFault → List Word → List Word → Type 0
 ReadsConstant result old new = (all : List Part) (d : Declaring)
     → Goes form_of result (reads_within old (At [] (InitialWant all d)))
     (λ f. reads_within new (At (a_semicolon ∷ []) (Top (with_form all d f)))) new
 
 -- the first token of the form has the number before the old place
-abbrev pub IsBehindPlaced : Result GlobalForm Fault → List Token → ℕ → ℕ → Type 0
+abbrev pub IsBehindPlaced : Result GlobalForm ReadingFault → List Token → ℕ → ℕ → Type 0
 IsBehindPlaced result tokens old new = IfOk result (λ f. (n : ℕ) → n + 1 ≡ old
     → (f ≡ form_at (site_in tokens) n (form_of f)) × (new ≡ n + form_size (form_of f)))
 
 -- a function begins with a `(` there
-abbrev pub ReadsForm : Result GlobalForm Fault → List Word → List Word → Type 0
+abbrev pub ReadsForm : Result GlobalForm ReadingFault → List Word → List Word → Type 0
 ReadsForm result old new = (all : List Part) (t : Typing) (n : List ℕ) → NotAt (mark OpenParenthesis) old
     → Goes form_of result (reads_within old (At [] (Named (on_top all) t n)))
     (λ f. reads_within new (At [] (Top (with_form all (declaring_of t n) f)))) new
 
-abbrev pub IsFormPlaced : Result GlobalForm Fault → List Token → ℕ → ℕ → Type 0
+abbrev pub IsFormPlaced : Result GlobalForm ReadingFault → List Token → ℕ → ℕ → Type 0
 IsFormPlaced result tokens old new =
     IfOk result (λ f. (f ≡ form_at (site_in tokens) old (form_of f)) × (new ≡ old + form_size (form_of f) + 1))

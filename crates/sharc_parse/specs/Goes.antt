@@ -8,17 +8,17 @@ use Rattle.sharc_tree.specs.{declared.tree.declaration.Identifier.Identifier, de
 use Rattle.sharc_tree.specs.declared.tree.expression.Constant.{Constant}
 use Rattle.sharc_tree.specs.declared.tree.expression.BinaryOperator.{BinaryOperator}
 use Rattle.sharc_tree.specs.declared.tree.expression.UnaryOperator.{UnaryOperator}
-use Rattle.sharc_tree.specs.declared.tree.expression.Access.{Access}
+use Rattle.sharc_tree.specs.declared.tree.expression.FieldOperator.{FieldOperator}
 use Rattle.sharc_grammar.specs.Grammar.{Word, name, keyword, mark, number, character, left_out, Phrase, identifier}
 use Rattle.sharc_grammar.specs.Grammar.{constant, constant_word, unary_mark, operator_mark, access_mark, strength}
 use Rattle.sharc_grammar.specs.Machine.{Cont, Want, Have, State, At, floor, grip, grip_of, role, TypeWant, an_open}
 use Rattle.sharc_grammar.specs.Machine.{fronted, part, valued, an_ampersand, Spawning, casting}
 use Rattle.sharc_grammar.specs.Limits.{Limited, StuckAt, Over, reads_within, depth, crowded, height}
 use Rattle.sharc_grammar.specs.Places.{words_of, site_in, size, expression_at, front_size, type_at}
-use Rattle.sharc_parse.specs.{declared.token.Fault.Fault, declared.token.Fault.TheVariants.{Memory, Wrong, Deep}}
+use Rattle.sharc_parse.specs.{declared.token.ReadingFault.ReadingFault, declared.token.ReadingFault.TheVariants.{Memory, Wrong, Deep}}
 use Rattle.sharc_parse.specs.declared.token.FrontWord.{FrontWord}
 use Rattle.sharc_parse.specs.declared.token.FrontWord.TheVariants.{Parenthesis, Spawn, Value, Place, Cast}
-use Rattle.sharc_parse.specs.{declared.token.Piece.Piece, declared.expr.Front.Front}
+use Rattle.sharc_parse.specs.{declared.token.ParsedExpr.ParsedExpr, declared.expr.Front.Front}
 use Rattle.sharc_parse.specs.declared.expr.Front.TheVariants.{Parenthesis as FrontParenthesis, Spawn as FrontSpawn}
 use Rattle.sharc_parse.specs.declared.expr.Front.TheVariants.{Value as FrontValue, Place as FrontPlace}
 use Rattle.sharc_parse.specs.declared.expr.Front.TheVariants.{Cast as FrontCast}
@@ -46,7 +46,7 @@ abbrev pub Takes : Bool → Word → List Token → ℕ → ℕ → Type 0
 Takes true w tokens old new = Past w tokens old new
 Takes false w tokens old new = (new ≡ old) × NotAt w (from tokens new)
 
-abbrev pub Expects : {A : Type 0} → Result A Fault → Word → List Token → ℕ → ℕ → Type 0
+abbrev pub Expects : {A : Type 0} → Result A ReadingFault → Word → List Token → ℕ → ℕ → Type 0
 Expects (Ok x) w tokens old new = Past w tokens old new
 Expects (Err Wrong) w tokens old new = (new ≡ old) × NotAt w (from tokens new)
 Expects (Err _) w tokens old new = ⊥
@@ -55,7 +55,7 @@ abbrev pub NoName : List Word → Type 0
 NoName (name n ∷ rest) = ⊥
 NoName _ = Unit {0}
 
-abbrev pub TakesName : Result (Option Identifier) Fault → List Token → ℕ → ℕ → Type 0
+abbrev pub TakesName : Result (Option Identifier) ReadingFault → List Token → ℕ → ℕ → Type 0
 TakesName (Ok (Some i)) tokens old new = Past (name i.text) tokens old new × (i.site ≡ site_in tokens old)
 TakesName (Ok None) tokens old new = (new ≡ old) × NoName (from tokens new)
 TakesName (Err Memory) tokens old new = new ≡ old
@@ -75,7 +75,7 @@ IsAt w [] = ⊥
 IsAt w (t ∷ rest) = t ≡ w
 
 -- goes past that word where there is room for one level more
-abbrev pub Enters : Result Bool Fault → Word → ℕ → List Token → ℕ → ℕ → Type 0
+abbrev pub Enters : Result Bool ReadingFault → Word → ℕ → List Token → ℕ → ℕ → Type 0
 Enters (Ok true) w room tokens old new = Past w tokens old new × (0 < room)
 Enters (Ok false) w room tokens old new = (new ≡ old) × NotAt w (from tokens new)
 Enters (Err Deep) w room tokens old new = (new ≡ old) × IsAt w (from tokens new) × (room ≡ 0)
@@ -85,7 +85,7 @@ abbrev pub NoUnary : List Word → Type 0
 NoUnary [] = Unit {0}
 NoUnary (t ∷ rest) = (u : UnaryOperator) → t ≡ mark (unary_mark u) → ⊥
 
-abbrev pub EntersUnary : Result (Option UnaryOperator) Fault → ℕ → List Token → ℕ → ℕ → Type 0
+abbrev pub EntersUnary : Result (Option UnaryOperator) ReadingFault → ℕ → List Token → ℕ → ℕ → Type 0
 EntersUnary (Ok (Some u)) room tokens old new = Past (mark (unary_mark u)) tokens old new × (0 < room)
 EntersUnary (Ok None) room tokens old new = (new ≡ old) × NoUnary (from tokens new)
 EntersUnary (Err Deep) room tokens old new =
@@ -96,7 +96,7 @@ abbrev pub IsOperator : Option BinaryOperator → Punctuator → Type 0
 IsOperator (Some o) p = p ≡ operator_mark o
 IsOperator None p = grip_of (role (mark p)) ≤ 11 → grip_of (role (mark p)) < 1
 
-abbrev pub EntersOperator : Result (Option BinaryOperator) Fault → ℕ → ℕ → List Token → ℕ → ℕ → Type 0
+abbrev pub EntersOperator : Result (Option BinaryOperator) ReadingFault → ℕ → ℕ → List Token → ℕ → ℕ → Type 0
 EntersOperator (Ok (Some o)) least room tokens old new =
     Past (mark (operator_mark o)) tokens old new × (least ≤ strength o) × (0 < room)
 EntersOperator (Ok None) least room tokens old new =
@@ -106,7 +106,7 @@ EntersOperator (Err Deep) least room tokens old new = (new ≡ old)
 EntersOperator (Err _) least room tokens old new = ⊥
 
 -- What the machine made of the old words: it goes on with what was read, or is stuck where the parser is.
-abbrev pub Goes : {A V : Type 0} → (A → V) → Result A Fault → Limited → (V → Limited) → List Word → Type 0
+abbrev pub Goes : {A V : Type 0} → (A → V) → Result A ReadingFault → Limited → (V → Limited) → List Word → Type 0
 Goes see (Ok x) was on new = was ≡ on (see x)
 Goes see (Err Wrong) was on new = was ≡ StuckAt new
 Goes see (Err Deep) was on new = was ≡ Over new
@@ -118,26 +118,26 @@ NoMalloc (part (valued v) o) all = NotAt (keyword key.Malloc) all
 NoMalloc _ all = Unit {0}
 
 -- an operand that holds together as tightly as that, and is no higher than there is room
-abbrev pub ReadsFrom : ℕ → ℕ → Result Piece Fault → List Word → List Word → Type 0
+abbrev pub ReadsFrom : ℕ → ℕ → Result ParsedExpr ReadingFault → List Word → List Word → Type 0
 ReadsFrom least room result old new = (k : Cont) → floor k ≤ least → depth k + room ≡ 64 → crowded k ≡ false
     → NoMalloc k old → Goes (λ r. phrase_of r.expr) result (reads_within old (At [] (Want k)))
     (λ x. reads_within new (At [] (Have x k))) new
 
 -- what begins with the name that was read just before
-abbrev pub ReadsBehindName : List ℕ → ℕ → Result Piece Fault → List Word → List Word → Type 0
+abbrev pub ReadsBehindName : List ℕ → ℕ → Result ParsedExpr ReadingFault → List Word → List Word → Type 0
 ReadsBehindName n room result old new = (k : Cont) → depth k + room ≡ 64 → crowded k ≡ false
     → Goes (λ r. phrase_of r.expr) result (reads_within old (At [] (Have (identifier n) k)))
     (λ x. reads_within new (At [] (Have x k))) new
 
-abbrev pub IsHigh : ℕ → Result Piece Fault → Type 0
+abbrev pub IsHigh : ℕ → Result ParsedExpr ReadingFault → Type 0
 IsHigh room result = IfOk result (λ r. (r.height ≡ height (phrase_of r.expr)) × (r.height ≤ room))
 
 -- the tree lies at its tokens, from that number on
-abbrev pub Stands : Expr → List Token → ℕ → Type 0
-Stands e tokens n = view_expr e ≡ expression_at (site_in tokens) n (phrase_of e)
+abbrev pub LiesAtTokens : Expr → List Token → ℕ → Type 0
+LiesAtTokens e tokens n = view_expr e ≡ expression_at (site_in tokens) n (phrase_of e)
 
-abbrev pub IsPlaced : Result Piece Fault → List Token → ℕ → ℕ → Type 0
-IsPlaced result tokens old new = IfOk result (λ r. Stands r.expr tokens old × (new ≡ old + size (phrase_of r.expr)))
+abbrev pub IsPlaced : Result ParsedExpr ReadingFault → List Token → ℕ → ℕ → Type 0
+IsPlaced result tokens old new = IfOk result (λ r. LiesAtTokens r.expr tokens old × (new ≡ old + size (phrase_of r.expr)))
 
 -- a name with a `(` after it was taken as a call
 abbrev pub NoCall : Phrase → List Word → Type 0
@@ -158,7 +158,7 @@ abbrev pub NoFront : List Word → Type 0
 NoFront [] = Unit {0}
 NoFront (t ∷ rest) = (w : FrontWord) → t ≡ front_word w → ⊥
 
-abbrev pub EntersFront : Result (Option FrontWord) Fault → ℕ → List Token → ℕ → ℕ → Type 0
+abbrev pub EntersFront : Result (Option FrontWord) ReadingFault → ℕ → List Token → ℕ → ℕ → Type 0
 EntersFront (Ok (Some w)) room tokens old new = Past (front_word w) tokens old new × (0 < room)
 EntersFront (Ok None) room tokens old new = (new ≡ old) × NoFront (from tokens new)
 EntersFront (Err Deep) room tokens old new =
@@ -184,7 +184,7 @@ after_front (Place place_call.Free) k = At (an_open ∷ []) (Want (fronted (gram
 after_front Cast k = At (an_open ∷ []) (TypeWant (casting k))
 
 -- the rest of what an expression that a `)` ends begins with
-abbrev pub ReadsFront : Result Front Fault → FrontWord → List Word → List Word → Type 0
+abbrev pub ReadsFront : Result Front ReadingFault → FrontWord → List Word → List Word → Type 0
 ReadsFront result w old new = (k : Cont) → depth k < 64 → crowded k ≡ false → Goes bare_front result
     (reads_within old (after_front w k)) (λ f. reads_within new (At [] (Want (fronted f k)))) new
 
@@ -194,7 +194,7 @@ StandsFront (FrontCast t) tokens n = t ≡ type_at (site_in tokens) (n + 2) (bar
 StandsFront _ tokens n = Unit {0}
 
 -- its first word has the number before the old place
-abbrev pub IsFrontPlaced : Result Front Fault → List Token → ℕ → ℕ → Type 0
+abbrev pub IsFrontPlaced : Result Front ReadingFault → List Token → ℕ → ℕ → Type 0
 IsFrontPlaced result tokens old new =
     IfOk result (λ f. (n : ℕ) → n + 1 ≡ old → StandsFront f tokens n × (new ≡ n + front_size (bare_front f)))
 
@@ -205,7 +205,7 @@ front_tree s (FrontValue w) a = tree.on_value s w a
 front_tree s (FrontPlace w) a = tree.on_place s w a
 front_tree s (FrontCast t) a = tree.cast s t a
 
-abbrev pub Builds : Result Piece Fault → tree.Expression → ℕ → Type 0
+abbrev pub Builds : Result ParsedExpr ReadingFault → tree.Expression → ℕ → Type 0
 Builds (Ok r) x h = (view_expr r.expr ≡ x) × (r.height ≡ h)
 Builds (Err Memory) x h = Unit {0}
 Builds (Err _) x h = ⊥
@@ -216,11 +216,11 @@ Meets false w all = NotAt w all
 
 abbrev pub NoAccess : List Word → Type 0
 NoAccess [] = Unit {0}
-NoAccess (t ∷ rest) = (a : Access) → t ≡ mark (access_mark a) → ⊥
+NoAccess (t ∷ rest) = (a : FieldOperator) → t ≡ mark (access_mark a) → ⊥
 
-abbrev pub EntersAccess : Result (Option Access) Fault → ℕ → List Token → ℕ → ℕ → Type 0
+abbrev pub EntersAccess : Result (Option FieldOperator) ReadingFault → ℕ → List Token → ℕ → ℕ → Type 0
 EntersAccess (Ok (Some a)) room tokens old new = Past (mark (access_mark a)) tokens old new × (0 < room)
 EntersAccess (Ok None) room tokens old new = (new ≡ old) × NoAccess (from tokens new)
 EntersAccess (Err Deep) room tokens old new =
-    (new ≡ old) × ((a : Access) × IsAt (mark (access_mark a)) (from tokens new)) × (room ≡ 0)
+    (new ≡ old) × ((a : FieldOperator) × IsAt (mark (access_mark a)) (from tokens new)) × (room ≡ 0)
 EntersAccess (Err _) room tokens old new = ⊥

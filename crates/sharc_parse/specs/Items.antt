@@ -8,7 +8,7 @@ use Rattle.sharc_tree.specs.{declared.tree.declaration.WrittenType.WrittenType, 
 use Rattle.sharc_grammar.specs.Grammar.{Word, mark, Typing, Part, structure, global, function}
 use Rattle.sharc_grammar.specs.Machine.{on_top, field_of, parameter_of, naming, TypeWant, Top, State, At, with_part}
 use Rattle.sharc_grammar.specs.{Limits.reads_within, Places.{site_in, type_size, part_size, name_at, type_at, item_at}}
-use Rattle.sharc_parse.specs.{declared.token.Fault.Fault, declared.token.Fault.TheVariants.Memory}
+use Rattle.sharc_parse.specs.{declared.token.ReadingFault.ReadingFault, declared.token.ReadingFault.TheVariants.Memory}
 use Rattle.sharc_parse.specs.{View.{bare_type, bare_declaration}, Goes.{from, Past, NotAt, Goes}}
 use Rattle.sharc_parse.specs.{Types.{typed_state, EndsType}, Locals.struct_type, Forms.form_of, Fields.declared}
 use Rattle.sharc_parse.specs.Statements.{bare_statements}
@@ -27,7 +27,7 @@ abbrev pub part_of : Item → Part
 part_of i = bare_item (view_item i)
 
 -- past the `{` after a type that is only the name of a struct
-abbrev pub OpensStruct : Result (Option Identifier) Fault → WrittenType → List Token → ℕ → ℕ → Type 0
+abbrev pub OpensStruct : Result (Option Identifier) ReadingFault → WrittenType → List Token → ℕ → ℕ → Type 0
 OpensStruct (Ok (Some i)) w tokens old new =
     (bare_type w ≡ struct_type i.text) × (i.site ≡ w.base) × Past (mark OpenBrace) tokens old new
 OpensStruct (Ok None) w tokens old new =
@@ -36,7 +36,7 @@ OpensStruct (Err Memory) w tokens old new = Past (mark OpenBrace) tokens old new
 OpensStruct (Err _) w tokens old new = ⊥
 
 -- the item is read from that state on
-abbrev pub ReadsPart : (List Part → State) → Result Item Fault → List Word → List Word → Type 0
+abbrev pub ReadsPart : (List Part → State) → Result Item ReadingFault → List Word → List Word → Type 0
 ReadsPart before result old new = (all : List Part)
     → Goes part_of result (reads_within old (before all)) (λ p. reads_within new (At [] (Top (with_part all p)))) new
 
@@ -45,34 +45,34 @@ abbrev pub StandsItem : Item → List Token → ℕ → ℕ → Type 0
 StandsItem i tokens n new = (view_item i ≡ item_at (site_in tokens) n (part_of i)) × (new ≡ n + part_size (part_of i))
 
 -- what follows `struct id {`
-abbrev pub ReadsStruct : List ℕ → Result Item Fault → List Word → List Word → Type 0
+abbrev pub ReadsStruct : List ℕ → Result Item ReadingFault → List Word → List Word → Type 0
 ReadsStruct n = ReadsPart (λ all. At [] (TypeWant (naming (field_of all n []))))
 
-abbrev pub IsStructPlaced : Identifier → Result Item Fault → List Token → ℕ → ℕ → Type 0
+abbrev pub IsStructPlaced : Identifier → Result Item ReadingFault → List Token → ℕ → ℕ → Type 0
 IsStructPlaced name result tokens old new = IfOk result (λ i. (n : ℕ) → n + 3 ≡ old
     → name ≡ name_at (site_in tokens) (n + 1) name.text → StandsItem i tokens n new)
 
 -- what follows `type id (`
-abbrev pub ReadsFunction : Typing → List ℕ → Result Item Fault → List Word → List Word → Type 0
+abbrev pub ReadsFunction : Typing → List ℕ → Result Item ReadingFault → List Word → List Word → Type 0
 ReadsFunction t n = ReadsPart (λ all. At [] (TypeWant (naming (parameter_of all t n []))))
 
-abbrev pub IsFunctionPlaced : WrittenType → Identifier → ℕ → Result Item Fault → List Token → ℕ → ℕ → Type 0
+abbrev pub IsFunctionPlaced : WrittenType → Identifier → ℕ → Result Item ReadingFault → List Token → ℕ → ℕ → Type 0
 IsFunctionPlaced w name first result tokens old new = IfOk result (λ i. w ≡ type_at (site_in tokens) first (bare_type w)
     → name ≡ name_at (site_in tokens) (first + type_size (bare_type w)) name.text
     → old ≡ first + type_size (bare_type w) + 2 → StandsItem i tokens first new)
 
 -- what follows the type of a global or a function
-abbrev pub ReadsNamed : WrittenType → Result Item Fault → List Word → List Word → Type 0
+abbrev pub ReadsNamed : WrittenType → Result Item ReadingFault → List Word → List Word → Type 0
 ReadsNamed w result old new = EndsType true (Ok w) old
     → ((n : List ℕ) → bare_type w ≡ struct_type n → NotAt (mark OpenBrace) old)
     → ReadsPart (λ all. typed_state (naming (on_top all)) (bare_type w)) result old new
 
-abbrev pub IsNamedPlaced : WrittenType → ℕ → Result Item Fault → List Token → ℕ → ℕ → Type 0
+abbrev pub IsNamedPlaced : WrittenType → ℕ → Result Item ReadingFault → List Token → ℕ → ℕ → Type 0
 IsNamedPlaced w first result tokens old new = IfOk result (λ i. w ≡ type_at (site_in tokens) first (bare_type w)
     → old ≡ first + type_size (bare_type w) → StandsItem i tokens first new)
 
-abbrev pub ReadsItem : Result Item Fault → List Word → List Word → Type 0
+abbrev pub ReadsItem : Result Item ReadingFault → List Word → List Word → Type 0
 ReadsItem = ReadsPart (λ all. At [] (TypeWant (naming (on_top all))))
 
-abbrev pub IsItemPlaced : Result Item Fault → List Token → ℕ → ℕ → Type 0
+abbrev pub IsItemPlaced : Result Item ReadingFault → List Token → ℕ → ℕ → Type 0
 IsItemPlaced result tokens old new = IfOk result (λ i. StandsItem i tokens old new)

@@ -11,7 +11,7 @@ use Rattle.sharc_grammar.specs.Machine.{Outer, LinePlace, in_line, local, naming
 use Rattle.sharc_grammar.specs.Machine.{lined, line_start, may_declare}
 use Rattle.sharc_grammar.specs.Limits.{Limited, StuckAt, next_within, reads_within, crowded_line}
 use Rattle.sharc_grammar.specs.Places.{site_in, line_size, first_at}
-use Rattle.sharc_parse.specs.{declared.token.Fault.Fault, declared.types.BaseWord.BaseWord}
+use Rattle.sharc_parse.specs.{declared.token.ReadingFault.ReadingFault, declared.types.BaseWord.BaseWord}
 use Rattle.sharc_parse.specs.{declared.line.MayDeclare.MayDeclare, declared.line.MayDeclare.TheVariants.{Yes, No}}
 use Rattle.sharc_parse.specs.{Goes.Goes, Types.{HasMode, NoMode, base_word, NoBase}, Simples.bare_doing}
 use Rattle.sharc_parse.specs.Locals.{bare_local}
@@ -68,19 +68,19 @@ abbrev pub line_within : LinePlace → Outer → List Word → Limited
 line_within p o [] = StuckAt []
 line_within p o (t ∷ y) = next_within (line_start p o t) (λ n. reads_within y n) (t ∷ y)
 
-abbrev pub ReadsDeclaredLine : Result ForFirst Fault → List Word → List Word → Type 0
+abbrev pub ReadsDeclaredLine : Result ForFirst ReadingFault → List Word → List Word → Type 0
 ReadsDeclaredLine result old new = (p : LinePlace) (o : Outer) → Goes line_of result
     (reads_within old (At [] (TypeWant (naming (local p o))))) (λ l. reads_within new (lined p l o)) new
 
-abbrev pub ReadsSimpleLine : Result ForFirst Fault → List Word → List Word → Type 0
+abbrev pub ReadsSimpleLine : Result ForFirst ReadingFault → List Word → List Word → Type 0
 ReadsSimpleLine result old new = (p : LinePlace) (o : Outer) → crowded_line p o ≡ false → Goes line_of result
     (reads_within old (At [] (Want (part (subject (in_line p)) o)))) (λ l. reads_within new (lined p l o)) new
 
-abbrev pub ReadsLine : Bool → Bool → Result ForFirst Fault → List Word → List Word → Type 0
+abbrev pub ReadsLine : Bool → Bool → Result ForFirst ReadingFault → List Word → List Word → Type 0
 ReadsLine may full result old new = (p : LinePlace) (o : Outer) → may_declare p o ≡ may → crowded_line p o ≡ full
     → Goes line_of result (line_within p o old) (λ l. reads_within new (lined p l o)) new
 
-abbrev pub IsLinePlaced : Result ForFirst Fault → List Token → ℕ → ℕ → Type 0
+abbrev pub IsLinePlaced : Result ForFirst ReadingFault → List Token → ℕ → ℕ → Type 0
 IsLinePlaced result tokens old new =
     IfOk result (λ l. (view_first l ≡ first_at (site_in tokens) old (line_of l)) × (new ≡ old + line_size (line_of l)))
 

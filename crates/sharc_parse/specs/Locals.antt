@@ -14,7 +14,7 @@ use Rattle.sharc_grammar.specs.Machine.{TypeWant, Named, State, At, declaring_of
 use Rattle.sharc_grammar.specs.Limits.{reads_within}
 use Rattle.sharc_grammar.specs.Places.{site_in, declaring_size, declaration_at, initial_size, initial_at, local_size}
 use Rattle.sharc_grammar.specs.Places.{local_at}
-use Rattle.sharc_parse.specs.{declared.token.Fault.Fault, View.{bare_type, bare_declaration}, Goes.{Goes, NotAt}}
+use Rattle.sharc_parse.specs.{declared.token.ReadingFault.ReadingFault, View.{bare_type, bare_declaration}, Goes.{Goes, NotAt}}
 use Rattle.sharc_parse.specs.{Types.{typed_state, EndsType}, Rights.{bare_value, valued_state, EndsValue}}
 
 abbrev pub void_type : Typing
@@ -29,12 +29,12 @@ IsPlainAt (parameter_of all r f []) t rest = t ≡ void_type → NotAt (mark Clo
 IsPlainAt (on_top all) t rest = (n : List ℕ) → t ≡ struct_type n → NotAt (mark OpenBrace) rest
 IsPlainAt _ t rest = Unit {0}
 
-abbrev pub ReadsName : Result Identifier Fault → List Word → List Word → Type 0
+abbrev pub ReadsName : Result Identifier ReadingFault → List Word → List Word → Type 0
 ReadsName result old new = (p : NamePlace) (t : WrittenType) → EndsType true (Ok t) old → IsPlainAt p (bare_type t) old
     → Goes (λ i. i.text) result (reads_within old (typed_state (naming p) (bare_type t)))
     (λ n. reads_within new (At [] (Named p (bare_type t) n))) new
 
-abbrev pub IsNamePlaced : Result Identifier Fault → List Token → ℕ → ℕ → Type 0
+abbrev pub IsNamePlaced : Result Identifier ReadingFault → List Token → ℕ → ℕ → Type 0
 IsNamePlaced result tokens old new = IfOk result (λ i. (i.site ≡ site_in tokens old) × (new ≡ old + 1))
 
 -- whatever the type, only a name may follow it
@@ -43,11 +43,11 @@ IsPlainPlace (parameter_of all r f []) = ⊥
 IsPlainPlace (on_top all) = ⊥
 IsPlainPlace _ = Unit {0}
 
-abbrev pub ReadsDeclaration : Result Declaration Fault → List Word → List Word → Type 0
+abbrev pub ReadsDeclaration : Result Declaration ReadingFault → List Word → List Word → Type 0
 ReadsDeclaration result old new = (p : NamePlace) → IsPlainPlace p → Goes bare_declaration result
     (reads_within old (At [] (TypeWant (naming p)))) (λ d. reads_within new (At [] (Named p d.typing d.named))) new
 
-abbrev pub IsDeclarationPlaced : Result Declaration Fault → List Token → ℕ → ℕ → Type 0
+abbrev pub IsDeclarationPlaced : Result Declaration ReadingFault → List Token → ℕ → ℕ → Type 0
 IsDeclarationPlaced result tokens old new =
     IfOk result (λ d. (d ≡ declaration_at (site_in tokens) old (bare_declaration d))
     × (new ≡ old + declaring_size (bare_declaration d)))
@@ -76,26 +76,26 @@ abbrev pub EndsInitial : Option Value → List Word → Type 0
 EndsInitial None all = NotAt (mark Assign) all
 EndsInitial (Some r) all = EndsValue r all
 
-abbrev pub ReadsInitial : Result (Option Right) Fault → List Word → List Word → Type 0
+abbrev pub ReadsInitial : Result (Option Right) ReadingFault → List Word → List Word → Type 0
 ReadsInitial result old new = (p : LinePlace) (o : Outer) (t : Typing) (n : List ℕ) → Goes initial_of result
     (reads_within old (At [] (Named (local p o) t n))) (λ r. reads_within new (initial_state p o t n r)) new
 
-abbrev pub EndsInitially : Result (Option Right) Fault → List Word → Type 0
+abbrev pub EndsInitially : Result (Option Right) ReadingFault → List Word → Type 0
 EndsInitially result new = IfOk result (λ r. EndsInitial (initial_of r) new)
 
-abbrev pub IsInitialPlaced : Result (Option Right) Fault → List Token → ℕ → ℕ → Type 0
+abbrev pub IsInitialPlaced : Result (Option Right) ReadingFault → List Token → ℕ → ℕ → Type 0
 IsInitialPlaced result tokens old new =
     IfOk result (λ r. (view_option view_right r ≡ initial_at (site_in tokens) old (initial_of r))
     × (new ≡ old + initial_size (initial_of r)))
 
-abbrev pub ReadsLocal : Result Local Fault → List Word → List Word → Type 0
+abbrev pub ReadsLocal : Result Local ReadingFault → List Word → List Word → Type 0
 ReadsLocal result old new = (p : LinePlace) (o : Outer)
     → Goes local_of result (reads_within old (At [] (TypeWant (naming (local p o)))))
     (λ l. reads_within new (initial_state p o l.declaring.typing l.declaring.named l.initial)) new
 
-abbrev pub EndsLocal : Result Local Fault → List Word → Type 0
+abbrev pub EndsLocal : Result Local ReadingFault → List Word → Type 0
 EndsLocal result new = IfOk result (λ l. EndsInitial (local_of l).initial new)
 
-abbrev pub IsLocalPlaced : Result Local Fault → List Token → ℕ → ℕ → Type 0
+abbrev pub IsLocalPlaced : Result Local ReadingFault → List Token → ℕ → ℕ → Type 0
 IsLocalPlaced result tokens old new = IfOk result (λ l. (view_local l ≡ local_at (site_in tokens) old (local_of l))
     × (new ≡ old + local_size (local_of l)))

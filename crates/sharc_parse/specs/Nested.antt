@@ -6,7 +6,7 @@ use Rattle.sharc_grammar.specs.Grammar.{Word, mark, block, Sentences, no_more}
 use Rattle.sharc_grammar.specs.Machine.{Outer, body, items, inside, Start, Done, Top, State, At, holds_items, with_part}
 use Rattle.sharc_grammar.specs.Machine.{function_of}
 use Rattle.sharc_grammar.specs.{Limits.{reads_within, around_it}, Places.{site_in, all_size, statements_at}}
-use Rattle.sharc_parse.specs.{declared.token.Fault.Fault, declared.word.StatementWord.StatementWord, Goes.{NotAt, Goes}}
+use Rattle.sharc_parse.specs.{declared.token.ReadingFault.ReadingFault, declared.word.StatementWord.StatementWord, Goes.{NotAt, Goes}}
 use Rattle.sharc_parse.specs.{Words.after_word, Statements.{sentence_of, sentences_of}}
 
 -- among the statements of a block the `}` was looked for
@@ -15,7 +15,7 @@ IsOpen true all = NotAt (mark CloseBrace) all
 IsOpen false all = Unit {0}
 
 -- what follows the first word of a statement, where there is room for that many, one inside the other
-abbrev pub ReadsRest : StatementWord → ℕ → Result Stmt Fault → List Word → List Word → Type 0
+abbrev pub ReadsRest : StatementWord → ℕ → Result Stmt ReadingFault → List Word → List Word → Type 0
 ReadsRest w room result old new = (o : Outer) → around_it o + room ≡ 64
     → Goes sentence_of result (reads_within old (after_word w o)) (λ s. reads_within new (At [] (Done s o))) new
 
@@ -32,12 +32,12 @@ closed (items all o) s = At [] (Done (block s) o)
 closed (inside w o) s = At [] (Start (inside w o))
 
 -- the statements after a `{`, and the `}`, where there is room for that many inside
-abbrev pub ReadsStatements : {A : Type 0} → (A → List Stmt) → ℕ → Result A Fault → List Word → List Word → Type 0
+abbrev pub ReadsStatements : {A : Type 0} → (A → List Stmt) → ℕ → Result A ReadingFault → List Word → List Word → Type 0
 ReadsStatements list room result old new = (o : Outer) → holds_items o ≡ true → around_it o + room ≡ 64
     → Goes (λ v. sentences_of (list v)) result (reads_within old (At [] (Start (holding o no_more))))
     (λ s. reads_within new (closed o s)) new
 
-abbrev pub AreStatementsPlaced : {A : Type 0} → (A → List Stmt) → Result A Fault → List Token → ℕ → ℕ → Type 0
+abbrev pub AreStatementsPlaced : {A : Type 0} → (A → List Stmt) → Result A ReadingFault → List Token → ℕ → ℕ → Type 0
 AreStatementsPlaced list result tokens old new =
     IfOk result (λ v. (view_statements (list v) ≡ statements_at (site_in tokens) old (sentences_of (list v)))
     × (new ≡ old + all_size (sentences_of (list v)) + 1))

@@ -6,7 +6,7 @@ use Rattle.sharc_grammar.specs.Grammar.{Word, mark, Typing, Declaring, Part, no_
 use Rattle.sharc_grammar.specs.Machine.{body, parameter_of, naming, TypeWant, Named, Start, a_brace, State, At}
 use Rattle.sharc_grammar.specs.Limits.{reads_within}
 use Rattle.sharc_grammar.specs.Places.{site_in, declaring_size, declaration_at, parameters_size, declarations_at}
-use Rattle.sharc_parse.specs.{declared.token.Fault.Fault, View.bare_declaration, Goes.{from, Past, NotAt, Goes}}
+use Rattle.sharc_parse.specs.{declared.token.ReadingFault.ReadingFault, View.bare_declaration, Goes.{from, Past, NotAt, Goes}}
 use Rattle.sharc_parse.specs.{Locals.void_type, Fields.declared}
 
 abbrev pub ClosesVoid : Bool → Typing → List Token → ℕ → ℕ → Type 0
@@ -22,7 +22,7 @@ abbrev pub first_of : Option Declaration → Option Declaring
 first_of None = None
 first_of (Some d) = Some (bare_declaration d)
 
-abbrev pub ReadsFirst : Result (Option Declaration) Fault → List Word → List Word → Type 0
+abbrev pub ReadsFirst : Result (Option Declaration) ReadingFault → List Word → List Word → Type 0
 ReadsFirst result old new = (all : List Part) (r : Typing) (f : List ℕ)
     → Goes first_of result (reads_within old (At [] (TypeWant (naming (parameter_of all r f [])))))
     (λ d. reads_within new (after_first all r f d)) new
@@ -32,16 +32,16 @@ StandsFirst None tokens old new = new ≡ old + 2
 StandsFirst (Some d) tokens old new =
     (d ≡ declaration_at (site_in tokens) old (bare_declaration d)) × (new ≡ old + declaring_size (bare_declaration d))
 
-abbrev pub IsFirstPlaced : Result (Option Declaration) Fault → List Token → ℕ → ℕ → Type 0
+abbrev pub IsFirstPlaced : Result (Option Declaration) ReadingFault → List Token → ℕ → ℕ → Type 0
 IsFirstPlaced result tokens old new = IfOk result (λ d. StandsFirst d tokens old new)
 
 -- the parameters, and the `)`
-abbrev pub ReadsParameters : {A : Type 0} → (A → List Declaration) → Result A Fault → List Word → List Word → Type 0
+abbrev pub ReadsParameters : {A : Type 0} → (A → List Declaration) → Result A ReadingFault → List Word → List Word → Type 0
 ReadsParameters list result old new = (all : List Part) (r : Typing) (f : List ℕ)
     → Goes (λ v. declared (list v)) result (reads_within old (At [] (TypeWant (naming (parameter_of all r f [])))))
     (λ given. reads_within new (At (a_brace ∷ []) (Start (body all r f given no_more)))) new
 
-abbrev pub AreParametersPlaced : {A : Type 0} → (A → List Declaration) → Result A Fault → List Token → ℕ → ℕ → Type 0
+abbrev pub AreParametersPlaced : {A : Type 0} → (A → List Declaration) → Result A ReadingFault → List Token → ℕ → ℕ → Type 0
 AreParametersPlaced list result tokens old new =
     IfOk result (λ v. (list v ≡ declarations_at (site_in tokens) old (declared (list v)))
     × (new ≡ old + parameters_size (declared (list v)) + 1))

@@ -7,8 +7,8 @@ use Rattle.sharc_grammar.specs.{declared.fault.GrammarFault.GrammarFault, Gramma
 use Rattle.sharc_grammar.specs.{Limits.{ReadWithin, reads_within}, Places.{words_of, site_in, items_at, Reads}}
 use Rattle.sharc_grammar.specs.Faults.{IsFault, wrong_code}
 use Rattle.sharc_grammar.specs.declared.fault.GrammarFault.TheVariants as fault
-use Rattle.sharc_parse.specs.{declared.program.Refusal.Refusal, declared.program.Refusal.TheVariants.{Wrong, Deep}}
-use Rattle.sharc_parse.specs.{declared.token.Fault.Fault, declared.program.ParseFault.ParseFault}
+use Rattle.sharc_parse.specs.{declared.program.TokenRefusal.TokenRefusal, declared.program.TokenRefusal.TheVariants.{Wrong, Deep}}
+use Rattle.sharc_parse.specs.{declared.token.ReadingFault.ReadingFault, declared.program.ParseFault.ParseFault}
 use Rattle.sharc_parse.specs.{declared.program.ParseFault.TheVariants.{At as FaultOf, Memory}, Goes.{from, Goes}}
 use Rattle.sharc_parse.specs.Items.{part_of}
 
@@ -32,7 +32,7 @@ told_of fault.Deep all = []
 told_of fault.LeftOut all = text_of all
 
 -- the fault at the first of the words: P2 over a limit, else P1 or P3
-abbrev pub code_of : Refusal → List Word → GrammarFault
+abbrev pub code_of : TokenRefusal → List Word → GrammarFault
 code_of Deep all = fault.Deep
 code_of Wrong all = wrong_code all
 
@@ -60,16 +60,16 @@ Parses (Err Memory) tokens = Unit {0}
 abbrev pub parts_of : List Item → List Part
 parts_of = map part_of
 
-abbrev pub ReadsItems : {A : Type 0} → (A → List Item) → Result A Fault → List Token → ℕ → Type 0
+abbrev pub ReadsItems : {A : Type 0} → (A → List Item) → Result A ReadingFault → List Token → ℕ → Type 0
 ReadsItems list result tokens new =
     Goes (λ v. parts_of (list v)) result (reads_within (words_of tokens) first_state) ReadWithin (from tokens new)
 
-abbrev pub AreItemsPlaced : {A : Type 0} → (A → List Item) → Result A Fault → List Token → Type 0
+abbrev pub AreItemsPlaced : {A : Type 0} → (A → List Item) → Result A ReadingFault → List Token → Type 0
 AreItemsPlaced list result tokens =
     IfOk result (λ v. view_items (list v) ≡ items_at (site_in tokens) 0 (parts_of (list v)))
 
 -- a refusal at that token
-abbrev pub Refuses : Result Program ParseFault → Tokens → ℕ → Refusal → Type 0
+abbrev pub Refuses : Result Program ParseFault → Tokens → ℕ → TokenRefusal → Type 0
 Refuses (Ok p) tokens n refusal = ⊥
 Refuses (Err (FaultOf fault back)) tokens n refusal =
     IsToldAt tokens fault n × (fault.code ≡ code_of refusal (from tokens.list n)) × (back ≡ tokens)

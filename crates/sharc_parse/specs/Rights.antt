@@ -9,7 +9,7 @@ use Rattle.sharc_grammar.specs.Machine.{Outer, ValuePlace, part, valued, Want, H
 use Rattle.sharc_grammar.specs.Machine.{an_open, State, At, grip, value_end}
 use Rattle.sharc_grammar.specs.Limits.{Limited, StuckAt, next_within, reads_within}
 use Rattle.sharc_grammar.specs.Places.{site_in, count_size, option_at, value_size, value_at, type_size, type_at}
-use Rattle.sharc_parse.specs.{declared.token.Fault.Fault, View.{bare, bare_type}, Goes.Goes}
+use Rattle.sharc_parse.specs.{declared.token.ReadingFault.ReadingFault, View.{bare, bare_type}, Goes.Goes}
 
 abbrev pub bare_option : Option tree.Expression → Option Phrase
 bare_option None = None
@@ -26,22 +26,22 @@ abbrev pub value_of : Right → Value
 value_of r = bare_value (view_right r)
 
 -- the count of a `malloc`, if there is one, and `sizeof`
-abbrev pub ReadsCount : Result (Option Expr) Fault → List Word → List Word → Type 0
+abbrev pub ReadsCount : Result (Option Expr) ReadingFault → List Word → List Word → Type 0
 ReadsCount result old new = (v : ValuePlace) (o : Outer) → Goes option_of result
     (reads_within old (At [] (Malloced v o))) (λ n. reads_within new (At (an_open ∷ []) (TypeWant (sizing v n o)))) new
 
-abbrev pub IsCountPlaced : Result (Option Expr) Fault → List Token → ℕ → ℕ → Type 0
+abbrev pub IsCountPlaced : Result (Option Expr) ReadingFault → List Token → ℕ → ℕ → Type 0
 IsCountPlaced result tokens old new =
     IfOk result (λ n. (view_option view_expr n ≡ option_at (site_in tokens) old (option_of n))
     × (new ≡ old + count_size (option_of n) + 1))
 
 -- what follows the word `sizeof`
-abbrev pub ReadsSized : Result WrittenType Fault → List Word → List Word → Type 0
+abbrev pub ReadsSized : Result WrittenType ReadingFault → List Word → List Word → Type 0
 ReadsSized result old new = (v : ValuePlace) (o : Outer) (n : Option Phrase)
     → Goes bare_type result (reads_within old (At (an_open ∷ []) (TypeWant (sizing v n o))))
     (λ t. reads_within new (At [] (Valued v (malloc n t) o))) new
 
-abbrev pub IsSizedPlaced : Result WrittenType Fault → List Token → ℕ → ℕ → Type 0
+abbrev pub IsSizedPlaced : Result WrittenType ReadingFault → List Token → ℕ → ℕ → Type 0
 IsSizedPlaced result tokens old new = IfOk result (λ t. (t ≡ type_at (site_in tokens) (old + 1) (bare_type t))
     × (new ≡ old + type_size (bare_type t) + 3))
 
@@ -50,7 +50,7 @@ abbrev pub valued_state : ValuePlace → Outer → Value → State
 valued_state v o (value e) = At [] (Have e (part (valued v) o))
 valued_state v o (malloc n t) = At [] (Valued v (malloc n t) o)
 
-abbrev pub ReadsRight : Result Right Fault → List Word → List Word → Type 0
+abbrev pub ReadsRight : Result Right ReadingFault → List Word → List Word → Type 0
 ReadsRight result old new = (v : ValuePlace) (o : Outer) → Goes value_of result
     (reads_within old (At [] (Want (part (valued v) o)))) (λ r. reads_within new (valued_state v o r)) new
 
@@ -59,10 +59,10 @@ abbrev pub EndsValue : Value → List Word → Type 0
 EndsValue (value e) all = grip all < 1
 EndsValue (malloc n t) all = Unit {0}
 
-abbrev pub EndsRight : Result Right Fault → List Word → Type 0
+abbrev pub EndsRight : Result Right ReadingFault → List Word → Type 0
 EndsRight result new = IfOk result (λ r. EndsValue (value_of r) new)
 
-abbrev pub IsRightPlaced : Result Right Fault → List Token → ℕ → ℕ → Type 0
+abbrev pub IsRightPlaced : Result Right ReadingFault → List Token → ℕ → ℕ → Type 0
 IsRightPlaced result tokens old new = IfOk result (λ r. (view_right r ≡ value_at (site_in tokens) old (value_of r))
     × (new ≡ old + value_size (value_of r)))
 

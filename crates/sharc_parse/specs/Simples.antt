@@ -8,7 +8,7 @@ use Rattle.sharc_grammar.specs.Machine.{Outer, DoingPlace, of_doing, part, subje
 use Rattle.sharc_grammar.specs.Machine.{doing_end}
 use Rattle.sharc_grammar.specs.Limits.{Limited, StuckAt, next_within, reads_within, crowded_doing}
 use Rattle.sharc_grammar.specs.Places.{site_in, doing_size, doing_at}
-use Rattle.sharc_parse.specs.{declared.token.Fault.Fault, declared.token.Fault.TheVariants.Wrong, View.bare}
+use Rattle.sharc_parse.specs.{declared.token.ReadingFault.ReadingFault, declared.token.ReadingFault.TheVariants.Wrong, View.bare}
 use Rattle.sharc_parse.specs.{Goes.{Goes, NotAt}, Rights.{bare_value, valued_state, EndsValue}}
 
 abbrev pub bare_doing : tree.Simple → Doing
@@ -23,7 +23,7 @@ abbrev pub doing_state : DoingPlace → Outer → Doing → State
 doing_state d o (assign u r) = valued_state (of_doing d u) o r
 doing_state d o (invoke e) = At [] (Have e (part (subject d) o))
 
-abbrev pub ReadsSimple : Result Simple Fault → List Word → List Word → Type 0
+abbrev pub ReadsSimple : Result Simple ReadingFault → List Word → List Word → Type 0
 ReadsSimple result old new = (d : DoingPlace) (o : Outer) → crowded_doing d o ≡ false → Goes doing_of result
     (reads_within old (At [] (Want (part (subject d) o)))) (λ x. reads_within new (doing_state d o x)) new
 
@@ -32,16 +32,16 @@ abbrev pub EndsDoing : Doing → List Word → Type 0
 EndsDoing (assign u r) all = EndsValue r all
 EndsDoing (invoke e) all = (is_call e ≡ true) × (grip all ≤ 11) × NotAt (mark Assign) all
 
-abbrev pub EndsSimple : Result Simple Fault → List Word → Type 0
+abbrev pub EndsSimple : Result Simple ReadingFault → List Word → Type 0
 EndsSimple result new = IfOk result (λ x. EndsDoing (doing_of x) new)
 
 -- a call is what was read, and nothing else is
-abbrev pub IsCallOf : Result Simple Fault → tree.Expression → Type 0
+abbrev pub IsCallOf : Result Simple ReadingFault → tree.Expression → Type 0
 IsCallOf (Ok x) e = (view_simple x ≡ tree.does_call e) × (is_call (bare e) ≡ true)
 IsCallOf (Err Wrong) e = is_call (bare e) ≡ false
 IsCallOf (Err _) e = ⊥
 
-abbrev pub IsSimplePlaced : Result Simple Fault → List Token → ℕ → ℕ → Type 0
+abbrev pub IsSimplePlaced : Result Simple ReadingFault → List Token → ℕ → ℕ → Type 0
 IsSimplePlaced result tokens old new = IfOk result (λ x. (view_simple x ≡ doing_at (site_in tokens) old (doing_of x))
     × (new ≡ old + doing_size (doing_of x)))
 

@@ -8,7 +8,7 @@ use Rattle.sharc_grammar.specs.Grammar.{Word, keyword, Sentence, line, jump, ret
 use Rattle.sharc_grammar.specs.Grammar.{sentence, if_of, else_of, while_of, for_of, nothing, does, declares, takes_else}
 use Rattle.sharc_grammar.specs.Machine.{Outer, as_statement, Start, Done, Returning, a_semicolon, At, holds_items}
 use Rattle.sharc_grammar.specs.{Limits.{reads_within, around_it}, Places.{site_in, sentence_size, statement_at}}
-use Rattle.sharc_parse.specs.{declared.token.Fault.Fault, declared.token.Fault.TheVariants.Memory, View.bare}
+use Rattle.sharc_parse.specs.{declared.token.ReadingFault.ReadingFault, declared.token.ReadingFault.TheVariants.Memory, View.bare}
 use Rattle.sharc_parse.specs.{Goes.{NotAt, Goes}, Rights.bare_option, Simples.bare_doing, Locals.bare_local}
 use Rattle.sharc_parse.specs.{Heads.bare_head, Lines.line_within}
 
@@ -36,7 +36,7 @@ abbrev pub sentences_of : List Stmt → Sentences
 sentences_of list = bare_statements (view_statements list)
 
 -- a statement, where there is room for that many, one inside the other
-abbrev pub ReadsStatement : Bool → ℕ → Result Stmt Fault → List Word → List Word → Type 0
+abbrev pub ReadsStatement : Bool → ℕ → Result Stmt ReadingFault → List Word → List Word → Type 0
 ReadsStatement may room result old new = (o : Outer) → holds_items o ≡ may → around_it o + room ≡ 64
     → Goes sentence_of result (reads_within old (At [] (Start o))) (λ s. reads_within new (At [] (Done s o))) new
 
@@ -44,31 +44,31 @@ ReadsStatement may room result old new = (o : Outer) → holds_items o ≡ may �
 abbrev pub EndsSentence : Sentence → List Word → Type 0
 EndsSentence s all = takes_else s ≡ true → NotAt (keyword key.Else) all
 
-abbrev pub EndsStatement : Result Stmt Fault → List Word → Type 0
+abbrev pub EndsStatement : Result Stmt ReadingFault → List Word → Type 0
 EndsStatement result new = IfOk result (λ s. EndsSentence (sentence_of s) new)
 
-abbrev pub IsStatementPlaced : Result Stmt Fault → List Token → ℕ → ℕ → Type 0
+abbrev pub IsStatementPlaced : Result Stmt ReadingFault → List Token → ℕ → ℕ → Type 0
 IsStatementPlaced result tokens old new =
     IfOk result (λ s. (view_stmt s ≡ statement_at (site_in tokens) old (sentence_of s))
     × (new ≡ old + sentence_size (sentence_of s)))
 
 -- a line, as a statement
-abbrev pub ReadsLineStatement : Bool → ℕ → Result Stmt Fault → List Word → List Word → Type 0
+abbrev pub ReadsLineStatement : Bool → ℕ → Result Stmt ReadingFault → List Word → List Word → Type 0
 ReadsLineStatement may room result old new = (o : Outer) → holds_items o ≡ may → around_it o + room ≡ 64
     → Goes sentence_of result (line_within as_statement o old) (λ s. reads_within new (At [] (Done s o))) new
 
 -- what follows the word `return`
-abbrev pub ReadsReturn : Result Stmt Fault → List Word → List Word → Type 0
+abbrev pub ReadsReturn : Result Stmt ReadingFault → List Word → List Word → Type 0
 ReadsReturn result old new = (o : Outer)
     → Goes sentence_of result (reads_within old (At [] (Returning o))) (λ s. reads_within new (At [] (Done s o))) new
 
 -- what follows the word `break` or `continue`
-abbrev pub ReadsJump : Jump → Result Stmt Fault → List Word → List Word → Type 0
+abbrev pub ReadsJump : Jump → Result Stmt ReadingFault → List Word → List Word → Type 0
 ReadsJump j result old new = (o : Outer) → around_it o < 64 → Goes sentence_of result
     (reads_within old (At (a_semicolon ∷ []) (Done (jump j) o))) (λ s. reads_within new (At [] (Done s o))) new
 
 -- its first word has the number before the old place
-abbrev pub IsRestPlaced : Result Stmt Fault → List Token → ℕ → ℕ → Type 0
+abbrev pub IsRestPlaced : Result Stmt ReadingFault → List Token → ℕ → ℕ → Type 0
 IsRestPlaced result tokens old new = IfOk result (λ s. (n : ℕ) → n + 1 ≡ old
     → (view_stmt s ≡ statement_at (site_in tokens) n (sentence_of s)) × (new ≡ n + sentence_size (sentence_of s)))
 
@@ -77,7 +77,7 @@ line_statement s tree.nothing = tree.empty s
 line_statement s (tree.declares l) = tree.declare s l
 line_statement s (tree.does x) = tree.simple s x
 
-abbrev pub BuildsStatement : Result Stmt Fault → tree.Statement → Type 0
+abbrev pub BuildsStatement : Result Stmt ReadingFault → tree.Statement → Type 0
 BuildsStatement (Ok s) x = view_stmt s ≡ x
 BuildsStatement (Err Memory) x = Unit {0}
 BuildsStatement (Err _) x = ⊥

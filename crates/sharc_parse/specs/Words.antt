@@ -7,7 +7,7 @@ use Rattle.sharc_grammar.specs.Grammar.{Word, keyword, jump}
 use Rattle.sharc_grammar.specs.Machine.{Outer, inside, Asked, by_if, by_while, condition, part, Want, Start, Done}
 use Rattle.sharc_grammar.specs.Machine.{Returning, ForOpen, an_open, a_semicolon, State, At, asked}
 use Rattle.sharc_grammar.specs.{Limits.{reads_within, around_it}, Places.{site_in, size, expression_at}}
-use Rattle.sharc_parse.specs.{declared.token.Fault.Fault, declared.token.Fault.TheVariants.Deep}
+use Rattle.sharc_parse.specs.{declared.token.ReadingFault.ReadingFault, declared.token.ReadingFault.TheVariants.Deep}
 use Rattle.sharc_parse.specs.declared.word.StatementWord.{StatementWord}
 use Rattle.sharc_parse.specs.declared.word.StatementWord.TheVariants.{If, While, For, Return, Break, Continue}
 use Rattle.sharc_parse.specs.{View.phrase_of, Goes.{from, Past, IsAt, Goes}}
@@ -32,7 +32,7 @@ NoStatement [] = Unit {0}
 NoStatement (t ∷ rest) = (w : StatementWord) → t ≡ statement_word w → ⊥
 
 -- goes past the word where there is room for what it begins
-abbrev pub EntersStatement : Result (Option StatementWord) Fault → ℕ → List Token → ℕ → ℕ → Type 0
+abbrev pub EntersStatement : Result (Option StatementWord) ReadingFault → ℕ → List Token → ℕ → ℕ → Type 0
 EntersStatement (Ok (Some w)) room tokens old new = Past (statement_word w) tokens old new × (room_of w ≤ room)
 EntersStatement (Ok None) room tokens old new = (new ≡ old) × NoStatement (from tokens new)
 EntersStatement (Err Deep) room tokens old new =
@@ -48,11 +48,11 @@ after_word Break o = At (a_semicolon ∷ []) (Done (jump jumps.Break) o)
 after_word Continue o = At (a_semicolon ∷ []) (Done (jump jumps.Continue) o)
 
 -- the condition of an `if` or a `while` with its parentheses
-abbrev pub ReadsCondition : Result Expr Fault → List Word → List Word → Type 0
+abbrev pub ReadsCondition : Result Expr ReadingFault → List Word → List Word → Type 0
 ReadsCondition result old new = (q : Asked) (o : Outer) → around_it o < 63
     → Goes phrase_of result (reads_within old (At (an_open ∷ []) (Want (part (condition q) o))))
     (λ e. reads_within new (At [] (Start (inside (asked q e) o)))) new
 
-abbrev pub IsConditionPlaced : Result Expr Fault → List Token → ℕ → ℕ → Type 0
+abbrev pub IsConditionPlaced : Result Expr ReadingFault → List Token → ℕ → ℕ → Type 0
 IsConditionPlaced result tokens old new = IfOk result
     (λ e. (view_expr e ≡ expression_at (site_in tokens) (old + 1) (phrase_of e)) × (new ≡ old + size (phrase_of e) + 2))

@@ -15,14 +15,14 @@ ghost use Rattle.sharc_parse.specs.Goes.{IsFrontPlaced, NoUnary, NoCall, Builds,
 
 use crate::held::{box_beside, boxes, expect_behind};
 use crate::token::{
-    Fault, FrontWord, Piece, access, constant, enter, expect, front_word, is_at, name, operator,
+    ReadingFault, FrontWord, ParsedExpr, access, constant, enter, expect, front_word, is_at, name, operator,
     site, span, strength_of, take, unary_operator,
 };
 use crate::types::cast_type;
 use sharc_tree::held::both;
 use sharc_tree::token::{Punctuator, Site, Span, Token};
 use sharc_tree::tree::{
-    Access, BinaryOperator, Expr, Identifier, PlaceCall, UnaryOperator, ValueCall, WrittenType,
+    FieldOperator, BinaryOperator, Expr, Identifier, PlaceCall, UnaryOperator, ValueCall, WrittenType,
 };
 use std::alloc::Global;
 
@@ -37,7 +37,7 @@ pub(crate) enum Front {
 }
 
 /// `( name ,` after `spawn`.
-fn spawn_front(alloc: Global, tokens: &[Token], at: &mut usize) -> Result<Front, Fault>
+fn spawn_front(alloc: Global, tokens: &[Token], at: &mut usize) -> Result<Front, ReadingFault>
     requires few { length tokens.now ≤ 2 ^ 20 }
     requires there { at.old ≤ length tokens.now }
     ensures reads { ReadsFront result Spawn (from tokens.now at.old) (from tokens.now at.new) }
@@ -47,14 +47,14 @@ fn spawn_front(alloc: Global, tokens: &[Token], at: &mut usize) -> Result<Front,
 {
     expect(tokens, at, Punctuator::OpenParenthesis)?;
     let Some(function) = name(alloc, tokens, at)? else {
-        return Err(Fault::Wrong);
+        return Err(ReadingFault::Wrong);
     };
     let function = expect_behind(tokens, at, function, Punctuator::Comma)?;
     Ok(Front::Spawn(function))
 }
 
 /// `( &` after `lock` and `unlock`, and `(` after `free`.
-fn place_front(tokens: &[Token], at: &mut usize, call: PlaceCall) -> Result<Front, Fault>
+fn place_front(tokens: &[Token], at: &mut usize, call: PlaceCall) -> Result<Front, ReadingFault>
     requires few { length tokens.now ≤ 2 ^ 20 }
     requires there { at.old ≤ length tokens.now }
     ensures reads { ReadsFront result (Place call) (from tokens.now at.old) (from tokens.now at.new) }
@@ -86,7 +86,7 @@ fn rest_of_front(
     tokens: &[Token],
     at: &mut usize,
     word: FrontWord,
-) -> Result<Front, Fault>
+) -> Result<Front, ReadingFault>
     requires few { length tokens.now ≤ 2 ^ 20 }
     requires there { at.old ≤ length tokens.now }
     ensures reads { ReadsFront result word (from tokens.now at.old) (from tokens.now at.new) }
@@ -111,9 +111,9 @@ fn binary_of(
     span: Span,
     operator: BinaryOperator,
     site: Site,
-    left: Piece,
-    right: Piece,
-) -> Result<Piece, Fault>
+    left: ParsedExpr,
+    right: ParsedExpr,
+) -> Result<ParsedExpr, ReadingFault>
     requires left { left.height < 64 }
     requires right { right.height < 64 }
     ensures { Builds result (binary span operator site (view_expr left.expr) (view_expr right.expr))
@@ -128,10 +128,10 @@ fn binary_of(
         left,
         right,
     };
-    Ok(Piece { expr, height })
+    Ok(ParsedExpr { expr, height })
 }
 
-fn index_of(alloc: Global, span: Span, base: Piece, index: Piece) -> Result<Piece, Fault>
+fn index_of(alloc: Global, span: Span, base: ParsedExpr, index: ParsedExpr) -> Result<ParsedExpr, ReadingFault>
     requires base { base.height < 64 }
     requires index { index.height < 64 }
     ensures { Builds result (tree.index span (view_expr base.expr) (view_expr index.expr))
@@ -140,16 +140,16 @@ fn index_of(alloc: Global, span: Span, base: Piece, index: Piece) -> Result<Piec
     let height = base.height.max(index.height) + 1;
     let (base, index) = boxes(alloc, base.expr, index.expr)?;
     let expr = Expr::Index(span, base, index);
-    Ok(Piece { expr, height })
+    Ok(ParsedExpr { expr, height })
 }
 
 fn field_of(
     alloc: Global,
     span: Span,
-    base: Piece,
-    access: Access,
+    base: ParsedExpr,
+    access: FieldOperator,
     name: Identifier,
-) -> Result<Piece, Fault>
+) -> Result<ParsedExpr, ReadingFault>
     requires { base.height < 64 }
     ensures { Builds result (field span (view_expr base.expr) access name) (base.height + 1) }
 {
@@ -161,26 +161,26 @@ fn field_of(
         access,
         name,
     };
-    Ok(Piece { expr, height })
+    Ok(ParsedExpr { expr, height })
 }
 
 fn unary_of(
     alloc: Global,
     span: Span,
     operator: UnaryOperator,
-    operand: Piece,
-) -> Result<Piece, Fault>
+    operand: ParsedExpr,
+) -> Result<ParsedExpr, ReadingFault>
     requires { operand.height < 64 }
     ensures { Builds result (unary span operator (view_expr operand.expr)) (operand.height + 1) }
 {
     let expr = Expr::Unary(span, operator, Box::new(alloc, operand.expr)?);
-    Ok(Piece {
+    Ok(ParsedExpr {
         expr,
         height: operand.height + 1,
     })
 }
 
-fn front_of(alloc: Global, span: Span, front: Front, inner: Piece) -> Result<Piece, Fault>
+fn front_of(alloc: Global, span: Span, front: Front, inner: ParsedExpr) -> Result<ParsedExpr, ReadingFault>
     requires { inner.height < 64 }
     ensures { Builds result (front_tree span front (view_expr inner.expr)) (inner.height + 1) }
 {
@@ -196,7 +196,7 @@ fn front_of(alloc: Global, span: Span, front: Front, inner: Piece) -> Result<Pie
             Expr::Cast(span, written, inner)
         }
     };
-    Ok(Piece { expr, height })
+    Ok(ParsedExpr { expr, height })
 }
 
 /// How tightly what follows it has to hold together.
@@ -218,7 +218,7 @@ pub(crate) fn binary(
     at: &mut usize,
     least: u8,
     room: u8,
-) -> Result<Piece, Fault>
+) -> Result<ParsedExpr, ReadingFault>
     requires low { 1 ≤ least }
     requires high { least ≤ 11 }
     requires room { room ≤ 64 }
@@ -249,7 +249,7 @@ pub(crate) fn unary(
     tokens: &[Token],
     at: &mut usize,
     room: u8,
-) -> Result<Piece, Fault>
+) -> Result<ParsedExpr, ReadingFault>
     requires room { room ≤ 64 }
     requires few { length tokens.now ≤ 2 ^ 20 }
     requires there { at.old ≤ length tokens.now }
@@ -273,7 +273,7 @@ pub(crate) fn unary(
 /// An operand with the indexes and fields after it.
 #[cycle(expr)]
 #[tactic(auto, using(crate::proofs::Steps::index_deep, crate::proofs::Steps::access_deep, crate::proofs::Steps::no_field, crate::proofs::Steps::no_call, crate::proofs::Steps::ends_postfix))]
-fn postfix(alloc: Global, tokens: &[Token], at: &mut usize, room: u8) -> Result<Piece, Fault>
+fn postfix(alloc: Global, tokens: &[Token], at: &mut usize, room: u8) -> Result<ParsedExpr, ReadingFault>
     requires room { room ≤ 64 }
     requires few { length tokens.now ≤ 2 ^ 20 }
     requires there { at.old ≤ length tokens.now }
@@ -294,11 +294,11 @@ fn postfix(alloc: Global, tokens: &[Token], at: &mut usize, room: u8) -> Result<
             base = index_of(alloc, span(tokens, first, *at), base, index)?;
         } else if let Some(access) = access(tokens, at, room - base.height)? {
             let Some(name) = name(alloc, tokens, at)? else {
-                return Err(Fault::Wrong);
+                return Err(ReadingFault::Wrong);
             };
             base = field_of(alloc, span(tokens, first, *at), base, access, name)?;
         } else if is_at(tokens, *at, Punctuator::OpenParenthesis) {
-            return Err(Fault::Wrong);
+            return Err(ReadingFault::Wrong);
         } else {
             return Ok(base);
         }
@@ -308,7 +308,7 @@ fn postfix(alloc: Global, tokens: &[Token], at: &mut usize, room: u8) -> Result<
 /// The innermost part of an operand.
 #[cycle(expr)]
 #[tactic(auto, using(crate::proofs::Steps::front_goes, crate::proofs::Steps::front_deep, crate::proofs::Steps::no_operand, crate::proofs::Steps::front_missing))]
-fn primary(alloc: Global, tokens: &[Token], at: &mut usize, room: u8) -> Result<Piece, Fault>
+fn primary(alloc: Global, tokens: &[Token], at: &mut usize, room: u8) -> Result<ParsedExpr, ReadingFault>
     requires room { room ≤ 64 }
     requires few { length tokens.now ≤ 2 ^ 20 }
     requires there { at.old ≤ length tokens.now }
@@ -335,12 +335,12 @@ fn primary(alloc: Global, tokens: &[Token], at: &mut usize, room: u8) -> Result<
     } else if let Some(name) = name(alloc, tokens, at)? {
         name_or_call(alloc, tokens, at, first, name, room)
     } else if let Some(constant) = constant(tokens, at) {
-        Ok(Piece {
+        Ok(ParsedExpr {
             expr: Expr::Constant(span(tokens, first, *at), constant),
             height: 0,
         })
     } else {
-        Err(Fault::Wrong)
+        Err(ReadingFault::Wrong)
     }
 }
 
@@ -354,7 +354,7 @@ fn name_or_call(
     first: usize,
     name: Identifier,
     room: u8,
-) -> Result<Piece, Fault>
+) -> Result<ParsedExpr, ReadingFault>
     requires room { room ≤ 64 }
     requires few { length tokens.now ≤ 2 ^ 20 }
     requires behind { at.old ≡ first + 1 }
@@ -370,12 +370,12 @@ fn name_or_call(
     let (name, opens) = both(name, enter(tokens, at, Punctuator::OpenParenthesis, room))?;
     if opens {
         let (name, (arguments, highest)) = both(name, arguments(alloc, tokens, at, room - 1))?;
-        Ok(Piece {
+        Ok(ParsedExpr {
             expr: Expr::call(span(tokens, first, *at), name, arguments),
             height: highest + 1,
         })
     } else {
-        Ok(Piece {
+        Ok(ParsedExpr {
             expr: Expr::Identifier(span(tokens, first, *at), name),
             height: 0,
         })
@@ -389,7 +389,7 @@ fn arguments(
     tokens: &[Token],
     at: &mut usize,
     room: u8,
-) -> Result<(Vec<Expr>, u8), Fault>
+) -> Result<(Vec<Expr>, u8), ReadingFault>
     requires room { room < 64 }
     requires few { length tokens.now ≤ 2 ^ 20 }
     requires there { at.old ≤ length tokens.now }

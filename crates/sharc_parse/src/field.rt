@@ -5,7 +5,7 @@ ghost use Rattle.sharc_parse.specs.Goes.{from};
 ghost use Rattle.sharc_parse.specs.Fields.{ReadsFields, AreFieldsPlaced};
 
 use crate::local::declaration;
-use crate::token::{Fault, expect, take};
+use crate::token::{ReadingFault, expect, take};
 use sharc_tree::token::{Punctuator, Token};
 use sharc_tree::tree::Declaration;
 use std::alloc::Global;
@@ -16,7 +16,7 @@ pub(crate) fn fields(
     alloc: Global,
     tokens: &[Token],
     at: &mut usize,
-) -> Result<Vec<Declaration>, Fault>
+) -> Result<Vec<Declaration>, ReadingFault>
     requires few { length tokens.now ≤ 2 ^ 20 }
     requires there { at.old ≤ length tokens.now }
     ensures reads { ReadsFields (λ v. v.items) result (from tokens.now at.old) (from tokens.now at.new) }

@@ -5,7 +5,7 @@ ghost use Rattle.sharc_parse.specs.Goes.{from};
 ghost use Rattle.sharc_parse.specs.Forms.{TakesNumber, TakesSigned, ReadsArray, ReadsConstant, IsBehindPlaced};
 ghost use Rattle.sharc_parse.specs.Forms.{ReadsForm, IsFormPlaced};
 
-use crate::token::{Fault, constant, expect, site, span, take};
+use crate::token::{ReadingFault, constant, expect, site, span, take};
 use sharc_tree::token::{Number, Punctuator, Token, TokenKind};
 use sharc_tree::tree::{Constant, GlobalForm};
 
@@ -45,7 +45,7 @@ fn signed_constant(tokens: &[Token], at: &mut usize) -> Option<Constant>
 
 /// `number ]` after a `[`.
 #[tactic(auto, using(crate::proofs::FormSteps::array_number, crate::proofs::FormSteps::no_number, crate::proofs::FormSteps::array_ends, crate::proofs::Steps::fixed_stuck))]
-fn array_form(tokens: &[Token], at: &mut usize) -> Result<GlobalForm, Fault>
+fn array_form(tokens: &[Token], at: &mut usize) -> Result<GlobalForm, ReadingFault>
     requires few { length tokens.now ≤ 2 ^ 20 }
     requires there { at.old ≤ length tokens.now }
     ensures reads { ReadsArray result (from tokens.now at.old) (from tokens.now at.new) }
@@ -55,7 +55,7 @@ fn array_form(tokens: &[Token], at: &mut usize) -> Result<GlobalForm, Fault>
 {
     let place = site(tokens, *at);
     let Some(number) = number(tokens, at) else {
-        return Err(Fault::Wrong);
+        return Err(ReadingFault::Wrong);
     };
     expect(tokens, at, Punctuator::CloseBracket)?;
     Ok(GlobalForm::Array(place, number))
@@ -63,7 +63,7 @@ fn array_form(tokens: &[Token], at: &mut usize) -> Result<GlobalForm, Fault>
 
 /// A constant after a `=`.
 #[tactic(auto, using(crate::proofs::FormSteps::minus_goes, crate::proofs::FormSteps::signed_goes, crate::proofs::FormSteps::no_signed, crate::proofs::FormSteps::constant_goes, crate::proofs::FormSteps::no_constant))]
-fn constant_form(tokens: &[Token], at: &mut usize) -> Result<GlobalForm, Fault>
+fn constant_form(tokens: &[Token], at: &mut usize) -> Result<GlobalForm, ReadingFault>
     requires few { length tokens.now ≤ 2 ^ 20 }
     requires there { at.old ≤ length tokens.now }
     ensures reads { ReadsConstant result (from tokens.now at.old) (from tokens.now at.new) }
@@ -74,19 +74,19 @@ fn constant_form(tokens: &[Token], at: &mut usize) -> Result<GlobalForm, Fault>
     let first = *at;
     if take(tokens, at, Punctuator::Minus) {
         let Some(constant) = signed_constant(tokens, at) else {
-            return Err(Fault::Wrong);
+            return Err(ReadingFault::Wrong);
         };
         return Ok(GlobalForm::Initial(span(tokens, first, *at), true, constant));
     }
     let Some(constant) = constant(tokens, at) else {
-        return Err(Fault::Wrong);
+        return Err(ReadingFault::Wrong);
     };
     Ok(GlobalForm::Initial(span(tokens, first, *at), false, constant))
 }
 
 /// What follows the name of a global, and its `;`.
 #[tactic(auto, using(crate::proofs::FormSteps::single_goes, crate::proofs::FormSteps::array_goes, crate::proofs::FormSteps::initial_goes, crate::proofs::FormSteps::form_ends, crate::proofs::FormSteps::no_form, crate::proofs::Steps::fixed_stuck))]
-pub(crate) fn form(tokens: &[Token], at: &mut usize) -> Result<GlobalForm, Fault>
+pub(crate) fn form(tokens: &[Token], at: &mut usize) -> Result<GlobalForm, ReadingFault>
     requires few { length tokens.now ≤ 2 ^ 20 }
     requires there { at.old ≤ length tokens.now }
     ensures reads { ReadsForm result (from tokens.now at.old) (from tokens.now at.new) }
@@ -107,5 +107,5 @@ pub(crate) fn form(tokens: &[Token], at: &mut usize) -> Result<GlobalForm, Fault
         expect(tokens, at, Punctuator::Semicolon)?;
         return Ok(form);
     }
-    Err(Fault::Wrong)
+    Err(ReadingFault::Wrong)
 }

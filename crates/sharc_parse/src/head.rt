@@ -8,7 +8,7 @@ use crate::expr::binary;
 use crate::held::expect_behind;
 use crate::line::{MayDeclare, line};
 use crate::simple::simple;
-use crate::token::{Fault, expect, take};
+use crate::token::{ReadingFault, expect, take};
 use sharc_tree::held::both;
 use sharc_tree::token::{Punctuator, Token};
 use sharc_tree::tree::{Expr, ForHead, Simple};
@@ -16,7 +16,7 @@ use std::alloc::Global;
 
 /// An expression that may be left out, and its `;`.
 #[tactic(auto, using(crate::proofs::HeadSteps::tail_empty, crate::proofs::HeadSteps::tail_begins, crate::proofs::HeadSteps::tail_ends, crate::proofs::HeadSteps::tail_stuck, crate::proofs::HeadSteps::tail_fits))]
-pub(crate) fn tail(alloc: Global, tokens: &[Token], at: &mut usize) -> Result<Option<Expr>, Fault>
+pub(crate) fn tail(alloc: Global, tokens: &[Token], at: &mut usize) -> Result<Option<Expr>, ReadingFault>
     requires few { length tokens.now ≤ 2 ^ 20 }
     requires there { at.old ≤ length tokens.now }
     ensures reads { ReadsTail result (from tokens.now at.old) (from tokens.now at.new) }
@@ -34,7 +34,7 @@ pub(crate) fn tail(alloc: Global, tokens: &[Token], at: &mut usize) -> Result<Op
 
 /// An assignment or a call that may be left out, and the `)` of a `for`.
 #[tactic(auto, using(crate::proofs::HeadSteps::step_empty, crate::proofs::HeadSteps::step_begins, crate::proofs::HeadSteps::step_ends, crate::proofs::HeadSteps::step_stuck))]
-fn step(alloc: Global, tokens: &[Token], at: &mut usize) -> Result<Option<Simple>, Fault>
+fn step(alloc: Global, tokens: &[Token], at: &mut usize) -> Result<Option<Simple>, ReadingFault>
     requires few { length tokens.now ≤ 2 ^ 20 }
     requires there { at.old ≤ length tokens.now }
     ensures reads { ReadsStep result (from tokens.now at.old) (from tokens.now at.new) }
@@ -52,7 +52,7 @@ fn step(alloc: Global, tokens: &[Token], at: &mut usize) -> Result<Option<Simple
 
 /// What follows the word `for`, up to the `)`.
 #[tactic(auto, using(crate::proofs::HeadSteps::for_opens, crate::proofs::HeadSteps::for_begins, crate::proofs::Steps::fixed_stuck))]
-pub(crate) fn head(alloc: Global, tokens: &[Token], at: &mut usize) -> Result<ForHead, Fault>
+pub(crate) fn head(alloc: Global, tokens: &[Token], at: &mut usize) -> Result<ForHead, ReadingFault>
     requires few { length tokens.now ≤ 2 ^ 20 }
     requires there { at.old ≤ length tokens.now }
     ensures reads { ReadsHead result (from tokens.now at.old) (from tokens.now at.new) }

@@ -5,10 +5,10 @@
 
 ghost use Rattle.std.specs.Prelude.{◌≡◌, Ok, IfOk, IfErr};
 ghost use Rattle.sharc_grammar.specs.Grammar.{mark};
-ghost use Rattle.sharc_parse.specs.declared.token.Fault.TheVariants.{Memory};
+ghost use Rattle.sharc_parse.specs.declared.token.ReadingFault.TheVariants.{Memory};
 ghost use Rattle.sharc_parse.specs.Goes.{Expects};
 
-use crate::token::{Fault, expect};
+use crate::token::{ReadingFault, expect};
 use sharc_tree::token::{Punctuator, Token};
 use std::alloc::Global;
 
@@ -18,7 +18,7 @@ pub(crate) fn expect_behind<T: Drop>(
     at: &mut usize,
     value: T,
     punctuator: Punctuator,
-) -> Result<T, Fault>
+) -> Result<T, ReadingFault>
     ensures past { Expects result (mark punctuator) tokens.now at.old at.new }
     ensures held { IfOk result (λ v. v ≡ value) }
 {
@@ -31,7 +31,7 @@ pub(crate) fn boxes<A: Drop, B: Drop>(
     alloc: Global,
     first: A,
     second: B,
-) -> Result<(Box<A>, Box<B>), Fault>
+) -> Result<(Box<A>, Box<B>), ReadingFault>
     ensures boxed { IfOk result (λ r. (r.0.value ≡ first) × (r.1.value ≡ second)) }
     ensures memory { IfErr result (λ e. e ≡ Memory) }
 {
@@ -45,7 +45,7 @@ pub(crate) fn box_beside<A: Drop, B: Drop>(
     alloc: Global,
     first: A,
     other: B,
-) -> Result<(Box<A>, B), Fault>
+) -> Result<(Box<A>, B), ReadingFault>
     ensures boxed { IfOk result (λ r. (r.0.value ≡ first) × (r.1 ≡ other)) }
     ensures memory { IfErr result (λ e. e ≡ Memory) }
 {

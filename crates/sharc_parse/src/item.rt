@@ -13,8 +13,8 @@ use crate::held::expect_behind;
 use crate::local::name_there;
 use crate::parameter::parameters;
 use crate::statement::statements;
-use crate::token::{Fault, span, take};
-use crate::types::{Modes, is_bare, written_type};
+use crate::token::{ReadingFault, span, take};
+use crate::types::{ModePermission, is_bare, written_type};
 use sharc_tree::ctype::Base;
 use sharc_tree::held::both;
 use sharc_tree::token::{Punctuator, Token};
@@ -30,7 +30,7 @@ fn opens_struct(
     tokens: &[Token],
     at: &mut usize,
     written: &WrittenType,
-) -> Result<Option<Identifier>, Fault>
+) -> Result<Option<Identifier>, ReadingFault>
     ensures { OpensStruct result written.now tokens.now at.old at.new }
 {
     let Base::Struct(name) = &written.ctype.base else {
@@ -52,7 +52,7 @@ fn rest_of_struct(
     tokens: &[Token],
     at: &mut usize,
     name: Identifier,
-) -> Result<Item, Fault>
+) -> Result<Item, ReadingFault>
     requires few { length tokens.now ≤ 2 ^ 20 }
     requires behind { 3 ≤ at.old }
     requires there { at.old ≤ length tokens.now }
@@ -79,7 +79,7 @@ fn rest_of_function(
     first: usize,
     given: WrittenType,
     name: Identifier,
-) -> Result<Item, Fault>
+) -> Result<Item, ReadingFault>
     requires few { length tokens.now ≤ 2 ^ 20 }
     requires begun { first < at.old }
     requires there { at.old ≤ length tokens.now }
@@ -109,7 +109,7 @@ fn rest_of_named(
     at: &mut usize,
     first: usize,
     written: WrittenType,
-) -> Result<Item, Fault>
+) -> Result<Item, ReadingFault>
     requires few { length tokens.now ≤ 2 ^ 20 }
     requires begun { first < at.old }
     requires there { at.old ≤ length tokens.now }
@@ -136,7 +136,7 @@ fn rest_of_named(
 }
 
 /// A struct, a global or a function.
-pub(crate) fn item(alloc: Global, tokens: &[Token], at: &mut usize) -> Result<Item, Fault>
+pub(crate) fn item(alloc: Global, tokens: &[Token], at: &mut usize) -> Result<Item, ReadingFault>
     requires few { length tokens.now ≤ 2 ^ 20 }
     requires there { at.old ≤ length tokens.now }
     ensures reads { ReadsItem result (from tokens.now at.old) (from tokens.now at.new) }
@@ -146,7 +146,7 @@ pub(crate) fn item(alloc: Global, tokens: &[Token], at: &mut usize) -> Result<It
     ensures within { at.new ≤ length tokens.now }
 {
     let first = *at;
-    let written = written_type(alloc, tokens, at, Modes::Allowed)?;
+    let written = written_type(alloc, tokens, at, ModePermission::Allowed)?;
     if let Some(name) = opens_struct(alloc, tokens, at, &written)? {
         return rest_of_struct(alloc, tokens, at, name);
     }

@@ -8,7 +8,7 @@ ghost use Rattle.sharc_parse.specs.Lines.{ReadsSimpleLine, ReadsLine, IsLinePlac
 use crate::held::expect_behind;
 use crate::local::local;
 use crate::simple::simple;
-use crate::token::{Fault, take};
+use crate::token::{ReadingFault, take};
 use crate::types::{base_word, mode_word};
 use sharc_tree::token::{Keyword, Punctuator, Token, TokenKind};
 use sharc_tree::tree::ForFirst;
@@ -70,7 +70,7 @@ fn begins_line(tokens: &[Token], at: usize) -> bool
 
 /// A declaration and its `;`.
 #[tactic(auto, using(crate::proofs::LineSteps::local_ends, crate::proofs::LineSteps::local_stuck))]
-fn declared_line(alloc: Global, tokens: &[Token], at: &mut usize) -> Result<ForFirst, Fault>
+fn declared_line(alloc: Global, tokens: &[Token], at: &mut usize) -> Result<ForFirst, ReadingFault>
     requires few { length tokens.now ≤ 2 ^ 20 }
     requires there { at.old ≤ length tokens.now }
     ensures reads { ReadsDeclaredLine result (from tokens.now at.old) (from tokens.now at.new) }
@@ -85,7 +85,7 @@ fn declared_line(alloc: Global, tokens: &[Token], at: &mut usize) -> Result<ForF
 
 /// An assignment or a call, and its `;`.
 #[tactic(auto, using(crate::proofs::LineSteps::simple_ends, crate::proofs::LineSteps::simple_stuck))]
-fn simple_line(alloc: Global, tokens: &[Token], at: &mut usize) -> Result<ForFirst, Fault>
+fn simple_line(alloc: Global, tokens: &[Token], at: &mut usize) -> Result<ForFirst, ReadingFault>
     requires few { length tokens.now ≤ 2 ^ 20 }
     requires there { at.old ≤ length tokens.now }
     ensures reads { ReadsSimpleLine result (from tokens.now at.old) (from tokens.now at.new) }
@@ -106,7 +106,7 @@ pub(crate) fn line(
     at: &mut usize,
     declares: MayDeclare,
     room: u8,
-) -> Result<ForFirst, Fault>
+) -> Result<ForFirst, ReadingFault>
     requires few { length tokens.now ≤ 2 ^ 20 }
     requires there { at.old ≤ length tokens.now }
     ensures reads { ReadsLine (is_yes declares) (room == 0) result (from tokens.now at.old) (from tokens.now at.new) }
@@ -120,9 +120,9 @@ pub(crate) fn line(
     let is_full = room == 0;
     if is_full {
         return if begins_line(tokens, *at) {
-            Err(Fault::Deep)
+            Err(ReadingFault::Deep)
         } else {
-            Err(Fault::Wrong)
+            Err(ReadingFault::Wrong)
         };
     }
     if take(tokens, at, Punctuator::Semicolon) {

@@ -7,8 +7,8 @@ ghost use Rattle.sharc_parse.specs.Locals.{ReadsInitial, EndsInitially, IsInitia
 ghost use Rattle.sharc_parse.specs.Locals.{IsLocalPlaced};
 
 use crate::right::right;
-use crate::token::{Fault, name, span, take};
-use crate::types::{Modes, written_type};
+use crate::token::{ReadingFault, name, span, take};
+use crate::types::{ModePermission, written_type};
 use sharc_tree::held::both;
 use sharc_tree::token::{Punctuator, Token};
 use sharc_tree::tree::{Declaration, Identifier, Local, Right};
@@ -20,7 +20,7 @@ pub(crate) fn name_there(
     alloc: Global,
     tokens: &[Token],
     at: &mut usize,
-) -> Result<Identifier, Fault>
+) -> Result<Identifier, ReadingFault>
     requires few { length tokens.now ≤ 2 ^ 20 }
     requires there { at.old ≤ length tokens.now }
     ensures reads { ReadsName result (from tokens.now at.old) (from tokens.now at.new) }
@@ -29,7 +29,7 @@ pub(crate) fn name_there(
     ensures within { at.new ≤ length tokens.now }
 {
     let Some(name) = name(alloc, tokens, at)? else {
-        return Err(Fault::Wrong);
+        return Err(ReadingFault::Wrong);
     };
     Ok(name)
 }
@@ -40,7 +40,7 @@ pub(crate) fn declaration(
     alloc: Global,
     tokens: &[Token],
     at: &mut usize,
-) -> Result<Declaration, Fault>
+) -> Result<Declaration, ReadingFault>
     requires few { length tokens.now ≤ 2 ^ 20 }
     requires there { at.old ≤ length tokens.now }
     ensures reads { ReadsDeclaration result (from tokens.now at.old) (from tokens.now at.new) }
@@ -49,7 +49,7 @@ pub(crate) fn declaration(
     ensures within { at.new ≤ length tokens.now }
 {
     let first = *at;
-    let written = written_type(alloc, tokens, at, Modes::Allowed)?;
+    let written = written_type(alloc, tokens, at, ModePermission::Allowed)?;
     let (written, name) = both(written, name_there(alloc, tokens, at))?;
     Ok(Declaration {
         span: span(tokens, first, *at),
@@ -60,7 +60,7 @@ pub(crate) fn declaration(
 
 /// The right side of `=`, if there is one.
 #[tactic(auto, using(crate::proofs::LocalSteps::initial_goes))]
-fn initial_value(alloc: Global, tokens: &[Token], at: &mut usize) -> Result<Option<Right>, Fault>
+fn initial_value(alloc: Global, tokens: &[Token], at: &mut usize) -> Result<Option<Right>, ReadingFault>
     requires few { length tokens.now ≤ 2 ^ 20 }
     requires there { at.old ≤ length tokens.now }
     ensures reads { ReadsInitial result (from tokens.now at.old) (from tokens.now at.new) }
@@ -78,7 +78,7 @@ fn initial_value(alloc: Global, tokens: &[Token], at: &mut usize) -> Result<Opti
 }
 
 /// A declaration, and what it begins with.
-pub(crate) fn local(alloc: Global, tokens: &[Token], at: &mut usize) -> Result<Local, Fault>
+pub(crate) fn local(alloc: Global, tokens: &[Token], at: &mut usize) -> Result<Local, ReadingFault>
     requires few { length tokens.now ≤ 2 ^ 20 }
     requires there { at.old ≤ length tokens.now }
     ensures reads { ReadsLocal result (from tokens.now at.old) (from tokens.now at.new) }

@@ -7,8 +7,8 @@ ghost use Rattle.sharc_parse.specs.Parameters.{ClosesVoid, ReadsFirst, IsFirstPl
 ghost use Rattle.sharc_parse.specs.Parameters.{AreParametersPlaced};
 
 use crate::local::{declaration, name_there};
-use crate::token::{Fault, expect, span, take};
-use crate::types::{Modes, is_bare, written_type};
+use crate::token::{ReadingFault, expect, span, take};
+use crate::types::{ModePermission, is_bare, written_type};
 use sharc_tree::ctype::Base;
 use sharc_tree::held::both;
 use sharc_tree::token::{Punctuator, Token};
@@ -30,7 +30,7 @@ fn first_parameter(
     alloc: Global,
     tokens: &[Token],
     at: &mut usize,
-) -> Result<Option<Declaration>, Fault>
+) -> Result<Option<Declaration>, ReadingFault>
     requires few { length tokens.now ≤ 2 ^ 20 }
     requires there { at.old ≤ length tokens.now }
     ensures reads { ReadsFirst result (from tokens.now at.old) (from tokens.now at.new) }
@@ -39,7 +39,7 @@ fn first_parameter(
     ensures within { at.new ≤ length tokens.now }
 {
     let first = *at;
-    let written = written_type(alloc, tokens, at, Modes::Allowed)?;
+    let written = written_type(alloc, tokens, at, ModePermission::Allowed)?;
     if closes_void(tokens, at, &written) {
         return Ok(None);
     }
@@ -57,7 +57,7 @@ pub(crate) fn parameters(
     alloc: Global,
     tokens: &[Token],
     at: &mut usize,
-) -> Result<Vec<Declaration>, Fault>
+) -> Result<Vec<Declaration>, ReadingFault>
     requires few { length tokens.now ≤ 2 ^ 20 }
     requires there { at.old ≤ length tokens.now }
     ensures reads { ReadsParameters (λ v. v.items) result (from tokens.now at.old) (from tokens.now at.new) }

@@ -10,13 +10,13 @@ ghost use Rattle.sharc_parse.specs.Statements.{ReadsJump, EndsStatement, IsState
 
 use crate::head::tail;
 use crate::line::{MayDeclare, line};
-use crate::token::{Fault, expect, span};
+use crate::token::{ReadingFault, expect, span};
 use sharc_tree::token::{Punctuator, Span, Token};
 use sharc_tree::tree::{Expr, ForFirst, Jump, Stmt};
 use std::alloc::Global;
 
 /// A statement of a line.
-fn statement_of(alloc: Global, span: Span, line: ForFirst) -> Result<Stmt, Fault>
+fn statement_of(alloc: Global, span: Span, line: ForFirst) -> Result<Stmt, ReadingFault>
     ensures { BuildsStatement result (line_statement span (view_first line)) }
 {
     match line {
@@ -34,7 +34,7 @@ pub(crate) fn line_statement(
     at: &mut usize,
     declares: MayDeclare,
     room: u8,
-) -> Result<Stmt, Fault>
+) -> Result<Stmt, ReadingFault>
     requires room { room ≤ 64 }
     requires few { length tokens.now ≤ 2 ^ 20 }
     requires there { at.old ≤ length tokens.now }
@@ -51,7 +51,7 @@ pub(crate) fn line_statement(
 
 /// What follows the word `break` or `continue`.
 #[tactic(auto, using(crate::proofs::PlainSteps::jump_ends, crate::proofs::Steps::fixed_stuck))]
-pub(crate) fn rest_of_jump(tokens: &[Token], at: &mut usize, jump: Jump) -> Result<Stmt, Fault>
+pub(crate) fn rest_of_jump(tokens: &[Token], at: &mut usize, jump: Jump) -> Result<Stmt, ReadingFault>
     requires few { length tokens.now ≤ 2 ^ 20 }
     requires behind { 1 ≤ at.old }
     requires there { at.old ≤ length tokens.now }
@@ -67,7 +67,7 @@ pub(crate) fn rest_of_jump(tokens: &[Token], at: &mut usize, jump: Jump) -> Resu
 }
 
 /// A `return` of what it gives.
-fn return_of(alloc: Global, span: Span, given: Option<Expr>) -> Result<Stmt, Fault>
+fn return_of(alloc: Global, span: Span, given: Option<Expr>) -> Result<Stmt, ReadingFault>
     ensures { BuildsStatement result (return span (view_option view_expr given)) }
 {
     let given = match given {
@@ -79,7 +79,7 @@ fn return_of(alloc: Global, span: Span, given: Option<Expr>) -> Result<Stmt, Fau
 
 /// What follows the word `return`.
 #[tactic(auto, using(crate::proofs::PlainSteps::return_wrong, crate::proofs::PlainSteps::return_reads, crate::proofs::PlainSteps::return_placed))]
-pub(crate) fn rest_of_return(alloc: Global, tokens: &[Token], at: &mut usize) -> Result<Stmt, Fault>
+pub(crate) fn rest_of_return(alloc: Global, tokens: &[Token], at: &mut usize) -> Result<Stmt, ReadingFault>
     requires few { length tokens.now ≤ 2 ^ 20 }
     requires behind { 1 ≤ at.old }
     requires there { at.old ≤ length tokens.now }

@@ -6,7 +6,7 @@ ghost use Rattle.sharc_parse.specs.Programs.{Parses, ReadsItems, AreItemsPlaced,
 ghost use Rattle.sharc_parse.specs.Programs.{Completes};
 
 use crate::item::item;
-use crate::token::Fault;
+use crate::token::ReadingFault;
 use sharc_grammar::fault::GrammarFault;
 use sharc_grammar::laws;
 use sharc_tree::name::Name;
@@ -35,7 +35,7 @@ impl From<AllocError> for ParseFault {
 
 /// The items of all the tokens.
 #[tactic(auto, using(crate::proofs::ProgramSteps::no_items, crate::proofs::ProgramSteps::items_read))]
-fn items(alloc: Global, tokens: &[Token], at: &mut usize) -> Result<Vec<Item>, Fault>
+fn items(alloc: Global, tokens: &[Token], at: &mut usize) -> Result<Vec<Item>, ReadingFault>
     requires few { length tokens.now ≤ 2 ^ 20 }
     requires start { at.old ≡ 0 }
     ensures reads { ReadsItems (λ v. v.items) result tokens.now at.new }
@@ -52,7 +52,7 @@ fn items(alloc: Global, tokens: &[Token], at: &mut usize) -> Result<Vec<Item>, F
 
 /// What is wrong with a token.
 #[derive(Clone, Copy)]
-enum Refusal {
+enum TokenRefusal {
     /// No program goes on with it.
     Wrong,
     /// No program within the limits goes on with it.
@@ -60,10 +60,10 @@ enum Refusal {
 }
 
 /// The fault at that token.
-fn code_at(tokens: &[Token], at: usize, refusal: Refusal) -> GrammarFault
+fn code_at(tokens: &[Token], at: usize, refusal: TokenRefusal) -> GrammarFault
     ensures { result ≡ code_of refusal (from tokens.now at) }
 {
-    if matches!(refusal, Refusal::Deep) {
+    if matches!(refusal, TokenRefusal::Deep) {
         return GrammarFault::Deep;
     }
     if at >= tokens.len() {
@@ -97,7 +97,7 @@ fn fault_at(
     alloc: Global,
     tokens: &Tokens,
     at: usize,
-    refusal: Refusal,
+    refusal: TokenRefusal,
 ) -> Result<FaultAt<GrammarFault>, AllocError>
     requires files { All (λ t. t.file < length tokens.now.files) tokens.now.list }
     requires end_file { tokens.now.end.file < length tokens.now.files }
@@ -124,7 +124,7 @@ fn fault_at(
 }
 
 /// The refusal at that token, or at the end of input.
-fn refuse(alloc: Global, tokens: Tokens, at: usize, refusal: Refusal) -> Result<Program, ParseFault>
+fn refuse(alloc: Global, tokens: Tokens, at: usize, refusal: TokenRefusal) -> Result<Program, ParseFault>
     requires files { All (λ t. t.file < length tokens.files) tokens.list }
     requires end_file { tokens.end.file < length tokens.files }
     ensures { Refuses result tokens at refusal }
@@ -164,8 +164,8 @@ pub fn parse(alloc: Global, tokens: Tokens) -> Result<Program, ParseFault>
     let mut at = 0;
     match items(alloc, tokens.list.as_slice(), &mut at) {
         Ok(items) => complete(alloc, tokens, items),
-        Err(Fault::Wrong) => refuse(alloc, tokens, at, Refusal::Wrong),
-        Err(Fault::Deep) => refuse(alloc, tokens, at, Refusal::Deep),
-        Err(Fault::Memory) => Err(ParseFault::Memory),
+        Err(ReadingFault::Wrong) => refuse(alloc, tokens, at, TokenRefusal::Wrong),
+        Err(ReadingFault::Deep) => refuse(alloc, tokens, at, TokenRefusal::Deep),
+        Err(ReadingFault::Memory) => Err(ParseFault::Memory),
     }
 }

@@ -7,8 +7,8 @@ ghost use Rattle.sharc_parse.specs.Rights.{IsRightPlaced};
 
 use crate::expr::{binary, unary};
 use crate::held::expect_behind;
-use crate::token::{Fault, expect, expect_keyword, span, take_keyword};
-use crate::types::{Modes, written_type};
+use crate::token::{ReadingFault, expect, expect_keyword, span, take_keyword};
+use crate::types::{ModePermission, written_type};
 use sharc_tree::held::both;
 use sharc_tree::token::{Keyword, Punctuator, Token};
 use sharc_tree::tree::{Expr, Right, WrittenType};
@@ -16,7 +16,7 @@ use std::alloc::Global;
 
 /// The count of a `malloc` with the `*` after it, if there is one, and `sizeof`.
 #[tactic(auto, using(crate::proofs::RightSteps::count_begins, crate::proofs::RightSteps::count_goes, crate::proofs::RightSteps::count_stuck, crate::proofs::RightSteps::count_sizes, crate::proofs::RightSteps::sizeof_goes, crate::proofs::Steps::fixed_stuck))]
-fn count(alloc: Global, tokens: &[Token], at: &mut usize) -> Result<Option<Expr>, Fault>
+fn count(alloc: Global, tokens: &[Token], at: &mut usize) -> Result<Option<Expr>, ReadingFault>
     requires few { length tokens.now ≤ 2 ^ 20 }
     requires there { at.old ≤ length tokens.now }
     ensures reads { ReadsCount result (from tokens.now at.old) (from tokens.now at.new) }
@@ -35,7 +35,7 @@ fn count(alloc: Global, tokens: &[Token], at: &mut usize) -> Result<Option<Expr>
 
 /// `( plain ) )` after `sizeof`.
 #[tactic(auto, using(crate::proofs::RightSteps::size_closes, crate::proofs::RightSteps::size_stuck, crate::proofs::RightSteps::size_opens, crate::proofs::RightSteps::malloc_closes, crate::proofs::Steps::fixed_stuck))]
-fn sized_type(alloc: Global, tokens: &[Token], at: &mut usize) -> Result<WrittenType, Fault>
+fn sized_type(alloc: Global, tokens: &[Token], at: &mut usize) -> Result<WrittenType, ReadingFault>
     requires few { length tokens.now ≤ 2 ^ 20 }
     requires there { at.old ≤ length tokens.now }
     ensures reads { ReadsSized result (from tokens.now at.old) (from tokens.now at.new) }
@@ -44,7 +44,7 @@ fn sized_type(alloc: Global, tokens: &[Token], at: &mut usize) -> Result<Written
     ensures within { at.new ≤ length tokens.now }
 {
     expect(tokens, at, Punctuator::OpenParenthesis)?;
-    let plain = written_type(alloc, tokens, at, Modes::LeftOut)?;
+    let plain = written_type(alloc, tokens, at, ModePermission::LeftOut)?;
     let plain = expect_behind(tokens, at, plain, Punctuator::CloseParenthesis)?;
     let plain = expect_behind(tokens, at, plain, Punctuator::CloseParenthesis)?;
     Ok(plain)
@@ -52,7 +52,7 @@ fn sized_type(alloc: Global, tokens: &[Token], at: &mut usize) -> Result<Written
 
 /// The right side of `=`.
 #[tactic(auto, using(crate::proofs::RightSteps::malloc_goes, crate::proofs::RightSteps::malloc_opens, crate::proofs::Steps::fixed_stuck))]
-pub(crate) fn right(alloc: Global, tokens: &[Token], at: &mut usize) -> Result<Right, Fault>
+pub(crate) fn right(alloc: Global, tokens: &[Token], at: &mut usize) -> Result<Right, ReadingFault>
     requires few { length tokens.now ≤ 2 ^ 20 }
     requires there { at.old ≤ length tokens.now }
     ensures reads { ReadsRight result (from tokens.now at.old) (from tokens.now at.new) }

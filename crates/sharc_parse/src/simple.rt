@@ -9,7 +9,7 @@ ghost use Rattle.sharc_parse.specs.Simples.{IsCallOf, ReadsSimple, EndsSimple, I
 
 use crate::expr::unary;
 use crate::right::right;
-use crate::token::{Fault, span, take};
+use crate::token::{ReadingFault, span, take};
 use sharc_tree::held::both;
 use sharc_tree::token::{Punctuator, Token};
 use sharc_tree::tree::{Expr, Simple};
@@ -29,19 +29,19 @@ fn is_call(expr: &Expr) -> bool
 }
 
 /// A call, as what comes before a `;`.
-fn call_of(expr: Expr) -> Result<Simple, Fault>
+fn call_of(expr: Expr) -> Result<Simple, ReadingFault>
     ensures { IsCallOf result (view_expr expr) }
 {
     if is_call(&expr) {
         Ok(Simple::Call(expr))
     } else {
-        Err(Fault::Wrong)
+        Err(ReadingFault::Wrong)
     }
 }
 
 /// An assignment or a call.
 #[tactic(auto, using(crate::proofs::SimpleSteps::assign_goes, crate::proofs::SimpleSteps::no_call_there))]
-pub(crate) fn simple(alloc: Global, tokens: &[Token], at: &mut usize) -> Result<Simple, Fault>
+pub(crate) fn simple(alloc: Global, tokens: &[Token], at: &mut usize) -> Result<Simple, ReadingFault>
     requires few { length tokens.now ≤ 2 ^ 20 }
     requires there { at.old ≤ length tokens.now }
     ensures reads { ReadsSimple result (from tokens.now at.old) (from tokens.now at.new) }

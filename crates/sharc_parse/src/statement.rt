@@ -15,7 +15,7 @@ use crate::head::head;
 use crate::held::{box_beside, boxes};
 use crate::line::MayDeclare;
 use crate::plain::{line_statement, rest_of_jump, rest_of_return};
-use crate::token::{Fault, enter, span, take, take_keyword};
+use crate::token::{ReadingFault, enter, span, take, take_keyword};
 use crate::word::{StatementWord, condition, statement_word};
 use sharc_tree::held::both;
 use sharc_tree::token::{Keyword, Punctuator, Span, Token};
@@ -23,7 +23,7 @@ use sharc_tree::tree::{Expr, ForHead, Jump, Stmt};
 use std::alloc::Global;
 
 /// An `if` without `else`.
-fn if_of(alloc: Global, span: Span, test: Expr, then: Stmt) -> Result<Stmt, Fault>
+fn if_of(alloc: Global, span: Span, test: Expr, then: Stmt) -> Result<Stmt, ReadingFault>
     ensures { BuildsStatement result (if_then span (view_expr test) (view_stmt then)) }
 {
     let (test, then) = boxes(alloc, test, then)?;
@@ -37,7 +37,7 @@ fn else_of(
     test: Expr,
     then: Stmt,
     otherwise: Stmt,
-) -> Result<Stmt, Fault>
+) -> Result<Stmt, ReadingFault>
     ensures { BuildsStatement result (if_then_else span (view_expr test) (view_stmt then) (view_stmt otherwise)) }
 {
     let (test, branches) = both(test, boxes(alloc, then, otherwise))?;
@@ -51,7 +51,7 @@ fn else_of(
 }
 
 /// A `while`.
-fn while_of(alloc: Global, span: Span, test: Expr, body: Stmt) -> Result<Stmt, Fault>
+fn while_of(alloc: Global, span: Span, test: Expr, body: Stmt) -> Result<Stmt, ReadingFault>
     ensures { BuildsStatement result (while span (view_expr test) (view_stmt body)) }
 {
     let (test, body) = boxes(alloc, test, body)?;
@@ -59,7 +59,7 @@ fn while_of(alloc: Global, span: Span, test: Expr, body: Stmt) -> Result<Stmt, F
 }
 
 /// A `for`.
-fn for_of(alloc: Global, span: Span, head: ForHead, body: Stmt) -> Result<Stmt, Fault>
+fn for_of(alloc: Global, span: Span, head: ForHead, body: Stmt) -> Result<Stmt, ReadingFault>
     ensures { BuildsStatement result (for span (view_head head) (view_stmt body)) }
 {
     let (head, body) = boxes(alloc, head, body)?;
@@ -75,7 +75,7 @@ pub(crate) fn statement(
     at: &mut usize,
     declares: MayDeclare,
     room: u8,
-) -> Result<Stmt, Fault>
+) -> Result<Stmt, ReadingFault>
     requires room { room ≤ 64 }
     requires few { length tokens.now ≤ 2 ^ 20 }
     requires there { at.old ≤ length tokens.now }
@@ -106,7 +106,7 @@ fn rest_of_statement(
     at: &mut usize,
     word: StatementWord,
     room: u8,
-) -> Result<Stmt, Fault>
+) -> Result<Stmt, ReadingFault>
     requires enough { room_of word ≤ room }
     requires room { room ≤ 64 }
     requires few { length tokens.now ≤ 2 ^ 20 }
@@ -131,7 +131,7 @@ fn rest_of_statement(
 /// What follows the word `if`.
 #[cycle(statement)]
 #[tactic(auto, using(crate::proofs::NestedSteps::else_goes, crate::proofs::NestedSteps::if_ends, crate::proofs::NestedSteps::else_ends))]
-fn rest_of_if(alloc: Global, tokens: &[Token], at: &mut usize, room: u8) -> Result<Stmt, Fault>
+fn rest_of_if(alloc: Global, tokens: &[Token], at: &mut usize, room: u8) -> Result<Stmt, ReadingFault>
     requires two { 2 ≤ room }
     requires room { room ≤ 64 }
     requires few { length tokens.now ≤ 2 ^ 20 }
@@ -157,7 +157,7 @@ fn rest_of_if(alloc: Global, tokens: &[Token], at: &mut usize, room: u8) -> Resu
 /// What follows the word `while`.
 #[cycle(statement)]
 #[tactic(auto, using(crate::proofs::NestedSteps::while_ends))]
-fn rest_of_while(alloc: Global, tokens: &[Token], at: &mut usize, room: u8) -> Result<Stmt, Fault>
+fn rest_of_while(alloc: Global, tokens: &[Token], at: &mut usize, room: u8) -> Result<Stmt, ReadingFault>
     requires two { 2 ≤ room }
     requires room { room ≤ 64 }
     requires few { length tokens.now ≤ 2 ^ 20 }
@@ -178,7 +178,7 @@ fn rest_of_while(alloc: Global, tokens: &[Token], at: &mut usize, room: u8) -> R
 /// What follows the word `for`.
 #[cycle(statement)]
 #[tactic(auto, using(crate::proofs::NestedSteps::for_ends))]
-fn rest_of_for(alloc: Global, tokens: &[Token], at: &mut usize, room: u8) -> Result<Stmt, Fault>
+fn rest_of_for(alloc: Global, tokens: &[Token], at: &mut usize, room: u8) -> Result<Stmt, ReadingFault>
     requires two { 2 ≤ room }
     requires room { room ≤ 64 }
     requires few { length tokens.now ≤ 2 ^ 20 }
@@ -204,7 +204,7 @@ pub(crate) fn statements(
     tokens: &[Token],
     at: &mut usize,
     room: u8,
-) -> Result<Vec<Stmt>, Fault>
+) -> Result<Vec<Stmt>, ReadingFault>
     requires room { room < 64 }
     requires few { length tokens.now ≤ 2 ^ 20 }
     requires there { at.old ≤ length tokens.now }

@@ -3,19 +3,19 @@
 ghost use Rattle.std.specs.Prelude.{◌≡◌, ℕ, ◌+◌, ◌<◌, ◌≤◌, ◌^◌};
 ghost use Rattle.sharc_grammar.specs.Grammar.{mark, keyword, strength};
 ghost use Rattle.sharc_grammar.specs.Places.{site_in, span_at};
-ghost use Rattle.sharc_parse.specs.declared.token.Fault.TheVariants.{Memory};
+ghost use Rattle.sharc_parse.specs.declared.token.ReadingFault.TheVariants.{Memory};
 ghost use Rattle.sharc_parse.specs.Goes.{Takes, Expects, TakesName, TakesConstant, from, Meets, EntersAccess, Enters};
 ghost use Rattle.sharc_parse.specs.Goes.{EntersUnary, EntersFront, IsOperator, EntersOperator};
 
 use sharc_tree::token::{Keyword, Punctuator, Site, Span, Token, TokenKind};
 use sharc_tree::tree::{
-    Access, BinaryOperator, Constant, Expr, Identifier, PlaceCall, UnaryOperator, ValueCall,
+    FieldOperator, BinaryOperator, Constant, Expr, Identifier, PlaceCall, UnaryOperator, ValueCall,
 };
 use std::alloc::{AllocError, AllocFailed, Global};
 
 /// Why reading ends early, at the token where it then is.
 #[derive(Drop)]
-pub enum Fault {
+pub enum ReadingFault {
     /// No memory.
     Memory,
     /// No program goes on with the token.
@@ -24,25 +24,25 @@ pub enum Fault {
     Deep,
 }
 
-impl From<AllocError> for Fault {
+impl From<AllocError> for ReadingFault {
     ghost from_gives = { λ _ e. e ≡ Memory };
 
-    fn from(_e: AllocError) -> Fault {
-        Fault::Memory
+    fn from(_e: AllocError) -> ReadingFault {
+        ReadingFault::Memory
     }
 }
 
-impl<T: Drop> From<AllocFailed<T>> for Fault {
+impl<T: Drop> From<AllocFailed<T>> for ReadingFault {
     ghost from_gives = { λ _ e. e ≡ Memory };
 
-    fn from(_e: AllocFailed<T>) -> Fault {
-        Fault::Memory
+    fn from(_e: AllocFailed<T>) -> ReadingFault {
+        ReadingFault::Memory
     }
 }
 
 /// An expression and its height.
 #[derive(Drop)]
-pub(crate) struct Piece {
+pub(crate) struct ParsedExpr {
     pub(crate) expr: Expr,
     pub(crate) height: u8,
 }
@@ -108,13 +108,13 @@ pub(crate) fn take(tokens: &[Token], at: &mut usize, punctuator: Punctuator) -> 
 }
 
 /// Goes past a token that has to be that punctuator.
-pub(crate) fn expect(tokens: &[Token], at: &mut usize, punctuator: Punctuator) -> Result<(), Fault>
+pub(crate) fn expect(tokens: &[Token], at: &mut usize, punctuator: Punctuator) -> Result<(), ReadingFault>
     ensures { Expects result (mark punctuator) tokens.now at.old at.new }
 {
     if take(tokens, at, punctuator) {
         Ok(())
     } else {
-        Err(Fault::Wrong)
+        Err(ReadingFault::Wrong)
     }
 }
 
@@ -136,13 +136,13 @@ pub(crate) fn take_keyword(tokens: &[Token], at: &mut usize, word: Keyword) -> b
 }
 
 /// Goes past a token that has to be that keyword.
-pub(crate) fn expect_keyword(tokens: &[Token], at: &mut usize, word: Keyword) -> Result<(), Fault>
+pub(crate) fn expect_keyword(tokens: &[Token], at: &mut usize, word: Keyword) -> Result<(), ReadingFault>
     ensures { Expects result (keyword word) tokens.now at.old at.new }
 {
     if take_keyword(tokens, at, word) {
         Ok(())
     } else {
-        Err(Fault::Wrong)
+        Err(ReadingFault::Wrong)
     }
 }
 
@@ -152,7 +152,7 @@ pub(crate) fn enter(
     at: &mut usize,
     punctuator: Punctuator,
     room: u8,
-) -> Result<bool, Fault>
+) -> Result<bool, ReadingFault>
     ensures { Enters result (mark punctuator) room tokens.now at.old at.new }
 {
     if *at >= tokens.len() {
@@ -162,7 +162,7 @@ pub(crate) fn enter(
     match token.kind {
         TokenKind::Punctuator(found) if found == punctuator => {
             if room == 0 {
-                return Err(Fault::Deep);
+                return Err(ReadingFault::Deep);
             }
             *at += 1;
             Ok(true)
@@ -176,7 +176,7 @@ pub(crate) fn name(
     alloc: Global,
     tokens: &[Token],
     at: &mut usize,
-) -> Result<Option<Identifier>, Fault>
+) -> Result<Option<Identifier>, ReadingFault>
     requires { at.old ≤ 2 ^ 20 }
     ensures { TakesName result tokens.now at.old at.new }
 {
@@ -218,7 +218,7 @@ pub(crate) fn unary_operator(
     tokens: &[Token],
     at: &mut usize,
     room: u8,
-) -> Result<Option<UnaryOperator>, Fault>
+) -> Result<Option<UnaryOperator>, ReadingFault>
     ensures { EntersUnary result room tokens.now at.old at.new }
 {
     if *at >= tokens.len() {
@@ -233,7 +233,7 @@ pub(crate) fn unary_operator(
         _ => return Ok(None),
     };
     if room == 0 {
-        return Err(Fault::Deep);
+        return Err(ReadingFault::Deep);
     }
     *at += 1;
     Ok(Some(operator))
@@ -291,7 +291,7 @@ pub(crate) fn operator(
     at: &mut usize,
     least: u8,
     room: u8,
-) -> Result<Option<BinaryOperator>, Fault>
+) -> Result<Option<BinaryOperator>, ReadingFault>
     requires { 1 ≤ least }
     ensures { EntersOperator result least room tokens.now at.old at.new }
 {
@@ -309,7 +309,7 @@ pub(crate) fn operator(
         return Ok(None);
     }
     if room == 0 {
-        return Err(Fault::Deep);
+        return Err(ReadingFault::Deep);
     }
     *at += 1;
     Ok(Some(operator))
@@ -320,7 +320,7 @@ pub(crate) fn front_word(
     tokens: &[Token],
     at: &mut usize,
     room: u8,
-) -> Result<Option<FrontWord>, Fault>
+) -> Result<Option<FrontWord>, ReadingFault>
     ensures { EntersFront result room tokens.now at.old at.new }
 {
     if *at >= tokens.len() {
@@ -339,7 +339,7 @@ pub(crate) fn front_word(
         _ => return Ok(None),
     };
     if room == 0 {
-        return Err(Fault::Deep);
+        return Err(ReadingFault::Deep);
     }
     *at += 1;
     Ok(Some(word))
@@ -360,7 +360,7 @@ pub(crate) fn is_at(tokens: &[Token], at: usize, punctuator: Punctuator) -> bool
 }
 
 /// Goes past `.` or `->`, where there is room.
-pub(crate) fn access(tokens: &[Token], at: &mut usize, room: u8) -> Result<Option<Access>, Fault>
+pub(crate) fn access(tokens: &[Token], at: &mut usize, room: u8) -> Result<Option<FieldOperator>, ReadingFault>
     ensures { EntersAccess result room tokens.now at.old at.new }
 {
     if *at >= tokens.len() {
@@ -368,12 +368,12 @@ pub(crate) fn access(tokens: &[Token], at: &mut usize, room: u8) -> Result<Optio
     }
     let token = &tokens[*at];
     let access = match token.kind {
-        TokenKind::Punctuator(Punctuator::Dot) => Access::Dot,
-        TokenKind::Punctuator(Punctuator::Arrow) => Access::Arrow,
+        TokenKind::Punctuator(Punctuator::Dot) => FieldOperator::Dot,
+        TokenKind::Punctuator(Punctuator::Arrow) => FieldOperator::Arrow,
         _ => return Ok(None),
     };
     if room == 0 {
-        return Err(Fault::Deep);
+        return Err(ReadingFault::Deep);
     }
     *at += 1;
     Ok(Some(access))

@@ -9,7 +9,7 @@ ghost use Rattle.sharc_parse.specs.Types.{IsBasePlaced, ReadsBottom, IsBottomPla
 ghost use Rattle.sharc_parse.specs.Types.{IsTypePlaced, EndsType, IsBare, ReadsCast, IsCastPlaced};
 
 use crate::held::expect_behind;
-use crate::token::{Fault, enter, expect, name, site, span, take};
+use crate::token::{ReadingFault, enter, expect, name, site, span, take};
 use sharc_tree::ctype::{Base, CType, Levels, Mode, Path};
 use sharc_tree::held::both;
 use sharc_tree::token::{Keyword, Punctuator, Site, Token, TokenKind};
@@ -48,7 +48,7 @@ pub(crate) fn mode_word(tokens: &[Token], at: &mut usize) -> Option<ModeWord>
 
 /// The lock path after `locked`, with its parentheses.
 #[tactic(auto, using(crate::proofs::TypeSteps::open_path, crate::proofs::TypeSteps::path_name, crate::proofs::TypeSteps::no_path_name, crate::proofs::TypeSteps::path_arrow, crate::proofs::TypeSteps::path_ends, crate::proofs::TypeSteps::path_ends_not, crate::proofs::TypeSteps::path_second, crate::proofs::TypeSteps::no_path_second, crate::proofs::TypeSteps::path_closes, crate::proofs::Steps::fixed_stuck))]
-fn path(alloc: Global, tokens: &[Token], at: &mut usize) -> Result<Path, Fault>
+fn path(alloc: Global, tokens: &[Token], at: &mut usize) -> Result<Path, ReadingFault>
     requires few { length tokens.now ≤ 2 ^ 20 }
     requires there { at.old ≤ length tokens.now }
     ensures reads { ReadsPath result (from tokens.now at.old) (from tokens.now at.new) }
@@ -58,11 +58,11 @@ fn path(alloc: Global, tokens: &[Token], at: &mut usize) -> Result<Path, Fault>
 {
     expect(tokens, at, Punctuator::OpenParenthesis)?;
     let Some(first) = name(alloc, tokens, at)? else {
-        return Err(Fault::Wrong);
+        return Err(ReadingFault::Wrong);
     };
     if take(tokens, at, Punctuator::Arrow) {
         let Some(second) = name(alloc, tokens, at)? else {
-            return Err(Fault::Wrong);
+            return Err(ReadingFault::Wrong);
         };
         expect(tokens, at, Punctuator::CloseParenthesis)?;
         Ok(Path::Through(first.text, first.site.token, second.text))
@@ -78,7 +78,7 @@ fn rest_of_mode(
     tokens: &[Token],
     at: &mut usize,
     word: ModeWord,
-) -> Result<Mode, Fault>
+) -> Result<Mode, ReadingFault>
     requires few { length tokens.now ≤ 2 ^ 20 }
     requires there { at.old ≤ length tokens.now }
     ensures reads { ReadsModeRest result word (from tokens.now at.old) (from tokens.now at.new) }
@@ -97,7 +97,7 @@ fn rest_of_mode(
 
 /// A sharing mode, if there is one.
 #[tactic(auto, using(crate::proofs::TypeSteps::mode_goes, crate::proofs::TypeSteps::mode_meets, crate::proofs::TypeSteps::mode_read, crate::proofs::TypeSteps::mode_stands))]
-fn mode(alloc: Global, tokens: &[Token], at: &mut usize) -> Result<Option<Mode>, Fault>
+fn mode(alloc: Global, tokens: &[Token], at: &mut usize) -> Result<Option<Mode>, ReadingFault>
     requires few { length tokens.now ≤ 2 ^ 20 }
     requires there { at.old ≤ length tokens.now }
     ensures reads { ReadsMode result (from tokens.now at.old) (from tokens.now at.new) }
@@ -114,7 +114,7 @@ fn mode(alloc: Global, tokens: &[Token], at: &mut usize) -> Result<Option<Mode>,
 
 /// Whether sharing modes may be written in a type.
 #[derive(Clone, Copy)]
-pub(crate) enum Modes {
+pub(crate) enum ModePermission {
     Allowed,
     LeftOut,
 }
@@ -124,8 +124,8 @@ fn level(
     alloc: Global,
     tokens: &[Token],
     at: &mut usize,
-    modes: Modes,
-) -> Result<Option<Mode>, Fault>
+    modes: ModePermission,
+) -> Result<Option<Mode>, ReadingFault>
     requires few { length tokens.now ≤ 2 ^ 20 }
     requires there { at.old ≤ length tokens.now }
     ensures reads { ReadsLevel (may_stand modes) result (from tokens.now at.old) (from tokens.now at.new) }
@@ -134,8 +134,8 @@ fn level(
     ensures within { at.new ≤ length tokens.now }
 {
     match modes {
-        Modes::Allowed => mode(alloc, tokens, at),
-        Modes::LeftOut => Ok(None),
+        ModePermission::Allowed => mode(alloc, tokens, at),
+        ModePermission::LeftOut => Ok(None),
     }
 }
 
@@ -173,7 +173,7 @@ pub(crate) fn base_word(tokens: &[Token], at: &mut usize) -> Option<BaseWord>
 
 /// A base, and the place of the token that names it.
 #[tactic(auto, using(crate::proofs::TypeSteps::base_int, crate::proofs::TypeSteps::base_char, crate::proofs::TypeSteps::base_long, crate::proofs::TypeSteps::base_mutex, crate::proofs::TypeSteps::base_void, crate::proofs::TypeSteps::base_struct, crate::proofs::TypeSteps::struct_named, crate::proofs::TypeSteps::no_struct, crate::proofs::TypeSteps::no_base))]
-fn base(alloc: Global, tokens: &[Token], at: &mut usize) -> Result<(Base, Site), Fault>
+fn base(alloc: Global, tokens: &[Token], at: &mut usize) -> Result<(Base, Site), ReadingFault>
     requires few { length tokens.now ≤ 2 ^ 20 }
     requires there { at.old ≤ length tokens.now }
     ensures reads { ReadsBase result (from tokens.now at.old) (from tokens.now at.new) }
@@ -183,7 +183,7 @@ fn base(alloc: Global, tokens: &[Token], at: &mut usize) -> Result<(Base, Site),
 {
     let first = site(tokens, *at);
     let Some(word) = base_word(tokens, at) else {
-        return Err(Fault::Wrong);
+        return Err(ReadingFault::Wrong);
     };
     match word {
         BaseWord::Int => Ok((Base::Int, first)),
@@ -193,7 +193,7 @@ fn base(alloc: Global, tokens: &[Token], at: &mut usize) -> Result<(Base, Site),
         BaseWord::Void => Ok((Base::Void, first)),
         BaseWord::Struct => {
             let Some(name) = name(alloc, tokens, at)? else {
-                return Err(Fault::Wrong);
+                return Err(ReadingFault::Wrong);
             };
             Ok((Base::Struct(name.text), name.site))
         }
@@ -215,8 +215,8 @@ fn moded_base(
     alloc: Global,
     tokens: &[Token],
     at: &mut usize,
-    modes: Modes,
-) -> Result<Bottom, Fault>
+    modes: ModePermission,
+) -> Result<Bottom, ReadingFault>
     requires few { length tokens.now ≤ 2 ^ 20 }
     requires there { at.old ≤ length tokens.now }
     ensures reads { ReadsBottom (may_stand modes) result (from tokens.now at.old) (from tokens.now at.new) }
@@ -251,8 +251,8 @@ pub(crate) fn written_type(
     alloc: Global,
     tokens: &[Token],
     at: &mut usize,
-    modes: Modes,
-) -> Result<WrittenType, Fault>
+    modes: ModePermission,
+) -> Result<WrittenType, ReadingFault>
     requires few { length tokens.now ≤ 2 ^ 20 }
     requires there { at.old ≤ length tokens.now }
     ensures reads { ReadsType (may_stand modes) result (from tokens.now at.old) (from tokens.now at.new) }
@@ -301,7 +301,7 @@ pub(crate) fn cast_type(
     alloc: Global,
     tokens: &[Token],
     at: &mut usize,
-) -> Result<WrittenType, Fault>
+) -> Result<WrittenType, ReadingFault>
     requires few { length tokens.now ≤ 2 ^ 20 }
     requires there { at.old ≤ length tokens.now }
     ensures reads { ReadsCast result (from tokens.now at.old) (from tokens.now at.new) }
@@ -310,7 +310,7 @@ pub(crate) fn cast_type(
     ensures within { at.new ≤ length tokens.now }
 {
     expect(tokens, at, Punctuator::OpenParenthesis)?;
-    let written = written_type(alloc, tokens, at, Modes::Allowed)?;
+    let written = written_type(alloc, tokens, at, ModePermission::Allowed)?;
     let written = expect_behind(tokens, at, written, Punctuator::Comma)?;
     Ok(written)
 }

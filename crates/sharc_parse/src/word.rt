@@ -6,7 +6,7 @@ ghost use Rattle.sharc_parse.specs.Words.{EntersStatement, ReadsCondition, IsCon
 
 use crate::expr::binary;
 use crate::held::expect_behind;
-use crate::token::{Fault, expect};
+use crate::token::{ReadingFault, expect};
 use sharc_tree::token::{Keyword, Punctuator, Token, TokenKind};
 use sharc_tree::tree::Expr;
 use std::alloc::Global;
@@ -27,7 +27,7 @@ pub(crate) fn statement_word(
     tokens: &[Token],
     at: &mut usize,
     room: u8,
-) -> Result<Option<StatementWord>, Fault>
+) -> Result<Option<StatementWord>, ReadingFault>
     ensures { EntersStatement result room tokens.now at.old at.new }
 {
     if *at >= tokens.len() {
@@ -44,7 +44,7 @@ pub(crate) fn statement_word(
         _ => return Ok(None),
     };
     if room < least {
-        return Err(Fault::Deep);
+        return Err(ReadingFault::Deep);
     }
     *at += 1;
     Ok(Some(word))
@@ -52,7 +52,7 @@ pub(crate) fn statement_word(
 
 /// The condition of an `if` or a `while`, with its parentheses.
 #[tactic(auto, using(crate::proofs::WordSteps::condition_opens, crate::proofs::WordSteps::condition_ends, crate::proofs::WordSteps::condition_stuck, crate::proofs::Steps::fixed_stuck))]
-pub(crate) fn condition(alloc: Global, tokens: &[Token], at: &mut usize) -> Result<Expr, Fault>
+pub(crate) fn condition(alloc: Global, tokens: &[Token], at: &mut usize) -> Result<Expr, ReadingFault>
     requires few { length tokens.now ≤ 2 ^ 20 }
     requires there { at.old ≤ length tokens.now }
     ensures reads { ReadsCondition result (from tokens.now at.old) (from tokens.now at.new) }

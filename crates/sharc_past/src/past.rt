@@ -8,7 +8,7 @@ ghost use Rattle.sharc_past.specs.Reads.{reads_of};
 use crate::counts::{Counts, add_one};
 use crate::keys::GranuleKey;
 use crate::reads::{Reads, note_read};
-use crate::table::{Noted, Table, note};
+use crate::table::{Noted, LastEvents, note};
 use crate::topics::{Topic, topics_of};
 use sharc_tree::event::SourceEvent;
 use std::alloc::{AllocError, Global};
@@ -19,7 +19,7 @@ use std::marker::Model;
 #[derive(Drop)]
 pub struct Past {
     events: Vec<SourceEvent>,
-    table: Table,
+    table: LastEvents,
     reads: Reads,
     counts: Counts,
 }

@@ -19,10 +19,10 @@ pub struct Noted {
 }
 
 /// The last event about each topic.
-pub(crate) type Table = HashMap<Topic, Noted>;
+pub(crate) type LastEvents = HashMap<Topic, Noted>;
 
 /// Notes an event that is about these topics: four at most.
-pub(crate) fn note(table: &mut Table, topics: &[Topic], noted: Noted) -> Result<(), AllocError>
+pub(crate) fn note(table: &mut LastEvents, topics: &[Topic], noted: Noted) -> Result<(), AllocError>
     ensures { OnOk result ((q : Topic)
         → found table.new q ≡ (if list_any (λ x. same_topic x q) topics.now then Some noted else found table.old q)) }
 {

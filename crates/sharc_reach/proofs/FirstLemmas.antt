@@ -1,6 +1,6 @@
 -- The least of the chosen functions that name a global, and what is answered in all.
 use Rattle.std.proofs.{Common.{◌≡◌, ◌≢◌, ℕ, ◌<◌, ◌≤◌, ◌⊎◌, min, Bool, true, false, List, [], ◌∷◌, Option, Some, None, length, get_or, fold, replicate, map, refl, ap, sym, ◌∙◌, subst, inl, inr, arith}, lemmas.Bool.{cases_eq, cases_lt, false≢true}, lemmas.List.{length-set, get_or-set_same, get_or-set_other, get_or-replicate, length-replicate}}
-use Rattle.sharc_graph.specs.{declared.graph.Finding.Finding, Paths.AreFindings}
+use Rattle.sharc_graph.specs.{declared.graph.NodeFinding.NodeFinding, Paths.AreFindings}
 use Rattle.sharc_names.specs.declared.fault.Named.TheVariants as named
 use Rattle.sharc_ctype.specs.{Resolved.{Resolution, named_at, functions_in, globals_in}, Reaches.{Names, tokens_of, NamesGlobal}}
 use Rattle.sharc_reach.specs.{declared.mention.Mention.Mention, Mentions.mentions_below, Graphs.{is_found, is_source}, Firsts.{global_named, lower, lowered, named_by, lowered_by}, Reaching.{Reaching, is_chosen, first_of, IsFirstOf, AreReached}}
@@ -79,7 +79,7 @@ all_size r chosen [] firsts = refl
 all_size r chosen (m ∷ all) firsts = all_size r chosen all (lowered_by r chosen firsts m) ∙ named_size (is_chosen chosen m.function) (global_named (named_at r m.token)) m.function firsts
 
 -- ---- the answers for a program
-module _ (r : Resolution) (count : ℕ) (counted : count ≡ length (functions_in r.program.items)) (findings : List Finding) (found : AreFindings (graph_in r count) findings) where
+module _ (r : Resolution) (count : ℕ) (counted : count ≡ length (functions_in r.program.items)) (findings : List NodeFinding) (found : AreFindings (graph_in r count) findings) where
   namer_within : (f g : ℕ) → NamesGlobal r f g → f < count
   namer_within f g names = let below = some_within (λ d. Names r (named.Global g) (tokens_of d)) (functions_in r.program.items) f names in omega arith
 

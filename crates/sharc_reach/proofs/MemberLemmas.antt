@@ -5,8 +5,8 @@ use Rattle.sharc_names.specs.declared.fault.Named.{Named}
 use Rattle.sharc_names.specs.declared.fault.Named.TheVariants as named
 use Rattle.sharc_tree.specs.{Measures.in_function, Tree.Function}
 use Rattle.sharc_ctype.specs.{Resolved.{Resolution, named_at, function_at}, Reaches.{runs, spawns, of_all, Names, Spawns, Runs, tokens_of, NamesGlobal}}
-use Rattle.sharc_reach.specs.{declared.mention.Mention.Mention, declared.mention.Role.Role, Mentions.{function_mentions, mentions_in, mentions_below}, Graphs.{function_named, ran_as, spawned_as, ran, spawned}, Firsts.global_named}
-use Rattle.sharc_reach.specs.declared.mention.Role.TheVariants as role
+use Rattle.sharc_reach.specs.{declared.mention.Mention.Mention, declared.mention.NameUse.NameUse, Mentions.{function_mentions, mentions_in, mentions_below}, Graphs.{function_named, ran_as, spawned_as, ran, spawned}, Firsts.global_named}
+use Rattle.sharc_reach.specs.declared.mention.NameUse.TheVariants as role
 use Rattle.sharc_reach.proofs.{TreeLemmas.{tokens, of_function}, OwnerLemmas.{Owned, own_function}, RunLemmas.{told, ran_token, spawned_token, function_runs, function_spawns}}
 
 -- ---- some element has the property
@@ -91,12 +91,12 @@ global_is (named.Field k) n is = absurd (let no : None ≡ Some n = is in cc)
 global_is named.Known n is = absurd (let no : None ≡ Some n = is in cc)
 
 -- the tokens of those whose roles count
-has_told : (f : Role → ℕ → List ℕ) (Q : Mention → Type 0) (P : ℕ → Type 0) → ((m : Mention) → Q m → Has P (f m.role m.token)) → (all : List Mention) → Has Q all → Has P (told f all)
+has_told : (f : NameUse → ℕ → List ℕ) (Q : Mention → Type 0) (P : ℕ → Type 0) → ((m : Mention) → Q m → Has P (f m.role m.token)) → (all : List Mention) → Has Q all → Has P (told f all)
 has_told f Q P each [] h = h
 has_told f Q P each (m ∷ all) (inl here) = has_left P (f m.role m.token) (told f all) (each m here)
 has_told f Q P each (m ∷ all) (inr there) = has_right P (f m.role m.token) (told f all) (has_told f Q P each all there)
 
-told_has : (f : Role → ℕ → List ℕ) (Q : Mention → Type 0) (P : ℕ → Type 0) → ((m : Mention) → Has P (f m.role m.token) → Q m) → (all : List Mention) → Has P (told f all) → Has Q all
+told_has : (f : NameUse → ℕ → List ℕ) (Q : Mention → Type 0) (P : ℕ → Type 0) → ((m : Mention) → Has P (f m.role m.token) → Q m) → (all : List Mention) → Has P (told f all) → Has Q all
 told_has f Q P each [] h = h
 told_has f Q P each (m ∷ all) h = elim (has_cases P (f m.role m.token) (told f all) h) [ inl here ↦ inl (each m here) | inr there ↦ inr (told_has f Q P each all there) ]
 
@@ -105,32 +105,32 @@ same_tokens [] = refl
 same_tokens (m ∷ all) = ap (λ l. m.token ∷ l) (same_tokens all)
 
 module _ (r : Resolution) where
-  names_has : (what : Named) (f : Role → ℕ → List ℕ) (Q : Mention → Type 0) → ((m : Mention) → Q m → Has (λ t. named_at r t ≡ what) (f m.role m.token)) → (all : List Mention) (list : List ℕ) → told f all ≡ list → Has Q all → Names r what list
+  names_has : (what : Named) (f : NameUse → ℕ → List ℕ) (Q : Mention → Type 0) → ((m : Mention) → Q m → Has (λ t. named_at r t ≡ what) (f m.role m.token)) → (all : List Mention) (list : List ℕ) → told f all ≡ list → Has Q all → Names r what list
   names_has what f Q each all list is h = subst (Names r what) is (contained (λ t. named_at r t ≡ what) (told f all) (has_told f Q (λ t. named_at r t ≡ what) each all h))
 
-  has_names : (what : Named) (f : Role → ℕ → List ℕ) (Q : Mention → Type 0) → ((m : Mention) → Has (λ t. named_at r t ≡ what) (f m.role m.token) → Q m) → (all : List Mention) (list : List ℕ) → told f all ≡ list → Names r what list → Has Q all
+  has_names : (what : Named) (f : NameUse → ℕ → List ℕ) (Q : Mention → Type 0) → ((m : Mention) → Has (λ t. named_at r t ≡ what) (f m.role m.token) → Q m) → (all : List Mention) (list : List ℕ) → told f all ≡ list → Names r what list → Has Q all
   has_names what f Q each all list is h =
       told_has f Q (λ t. named_at r t ≡ what) each all (subst (Has (λ t. named_at r t ≡ what)) (sym is) (has_contained (λ t. named_at r t ≡ what) list h.0 h.1 h.2))
 
   -- called or spawned
-  down_ran : (kind : Role) (t n : ℕ) → ran_as kind (named_at r t) ≡ Some n → Has (λ t. named_at r t ≡ named.Function n) (ran_token kind t)
+  down_ran : (kind : NameUse) (t n : ℕ) → ran_as kind (named_at r t) ≡ Some n → Has (λ t. named_at r t ≡ named.Function n) (ran_token kind t)
   down_ran role.Named t n is = absurd (let no : None ≡ Some n = is in cc)
   down_ran role.Called t n is = inl (function_is (named_at r t) n is)
   down_ran role.Spawned t n is = inl (function_is (named_at r t) n is)
 
-  up_ran : (kind : Role) (t n : ℕ) → Has (λ t. named_at r t ≡ named.Function n) (ran_token kind t) → ran_as kind (named_at r t) ≡ Some n
+  up_ran : (kind : NameUse) (t n : ℕ) → Has (λ t. named_at r t ≡ named.Function n) (ran_token kind t) → ran_as kind (named_at r t) ≡ Some n
   up_ran role.Named t n h = absurd h
   up_ran role.Called t n (inl is) = ap function_named is
   up_ran role.Called t n (inr h) = absurd h
   up_ran role.Spawned t n (inl is) = ap function_named is
   up_ran role.Spawned t n (inr h) = absurd h
 
-  down_spawned : (kind : Role) (t n : ℕ) → spawned_as kind (named_at r t) ≡ Some n → Has (λ t. named_at r t ≡ named.Function n) (spawned_token kind t)
+  down_spawned : (kind : NameUse) (t n : ℕ) → spawned_as kind (named_at r t) ≡ Some n → Has (λ t. named_at r t ≡ named.Function n) (spawned_token kind t)
   down_spawned role.Named t n is = absurd (let no : None ≡ Some n = is in cc)
   down_spawned role.Called t n is = absurd (let no : None ≡ Some n = is in cc)
   down_spawned role.Spawned t n is = inl (function_is (named_at r t) n is)
 
-  up_spawned : (kind : Role) (t n : ℕ) → Has (λ t. named_at r t ≡ named.Function n) (spawned_token kind t) → spawned_as kind (named_at r t) ≡ Some n
+  up_spawned : (kind : NameUse) (t n : ℕ) → Has (λ t. named_at r t ≡ named.Function n) (spawned_token kind t) → spawned_as kind (named_at r t) ≡ Some n
   up_spawned role.Named t n h = absurd h
   up_spawned role.Called t n h = absurd h
   up_spawned role.Spawned t n (inl is) = ap function_named is

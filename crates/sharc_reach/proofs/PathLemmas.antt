@@ -1,7 +1,7 @@
 -- The paths of the graph of the functions are the lists of functions in which each calls or spawns the next.
 use Rattle.std.proofs.{Common.{◌≡◌, ℕ, ◌<◌, ◌≤◌, ◌⊎◌, true, false, ◌&&◌, List, [], ◌∷◌, Option, Some, None, length, get_or, set, fold, replicate, map, refl, ap, sym, ◌∙◌, subst, inl, inr, arith}, lemmas.Bool.{cases_eq, cases_lt, cases_Bool, and_parts, ltb-true, lt-ltb, false≢true}, lemmas.List.{length-set, get_or-set_same, get_or-set_other, get_or_past, get_or_default, get_or-replicate, length-replicate, length-map, get_or-map}}
 use Rattle.std.specs.{Prelude.{nat_lt, Contains}, List.{filter_map, All}}
-use Rattle.sharc_graph.specs.{declared.graph.Node.Node, declared.graph.Edge.Edge, declared.graph.Finding.Finding, declared.graph.Finding.TheVariants.{Apart, Source, Behind}, Findings.finding_at, Paths.{Graph, graph_of, IsWithin, no_node, node_at, IsSource, IsFree, edge_of, HasEdge, Follow, last_of, LeadsTo, IsFinding, AreFindings}}
+use Rattle.sharc_graph.specs.{declared.graph.Node.Node, declared.graph.Edge.Edge, declared.graph.NodeFinding.NodeFinding, declared.graph.NodeFinding.TheVariants.{Apart, Source, Behind}, Findings.finding_at, Paths.{Graph, graph_of, IsWithin, no_node, node_at, IsSource, IsFree, edge_of, HasEdge, Follow, last_of, LeadsTo, IsFinding, AreFindings}}
 use Rattle.sharc_names.specs.declared.fault.Named.TheVariants as named
 use Rattle.sharc_tree.specs.Measures.{in_function}
 use Rattle.sharc_ctype.specs.{Resolved.{Resolution, functions_in}, Reaches.{runs, spawns, of_all, Names, Spawns, Runs, Leads, IsReached}}
@@ -222,23 +222,23 @@ module _ (r : Resolution) (count : ℕ) (counted : count ≡ length (functions_i
       }
 
   -- ---- what is found
-  reached_from_finding : (m : ℕ) (finding : Finding) → IsFinding (graph_in r count) m finding → is_found finding ≡ true → IsReached r m
+  reached_from_finding : (m : ℕ) (finding : NodeFinding) → IsFinding (graph_in r count) m finding → is_found finding ≡ true → IsReached r m
   reached_from_finding m Apart found passes = absurd (false≢true passes)
   reached_from_finding m Source found passes = reached_from_path m [] m record { begins = found; follow = tt; ends = refl }
   reached_from_finding m (Behind rank reason) found passes = let has = found.0 in reached_from_path has.first has.rest m has.path
 
-  finding_from_reached : (m : ℕ) (finding : Finding) → m < count → IsFinding (graph_in r count) m finding → IsReached r m → is_found finding ≡ true
+  finding_from_reached : (m : ℕ) (finding : NodeFinding) → m < count → IsFinding (graph_in r count) m finding → IsReached r m → is_found finding ≡ true
   finding_from_reached m Apart below found has = absurd (found has.first has.between (path_from_reached m below has))
   finding_from_reached m Source below found has = refl
   finding_from_reached m (Behind rank reason) below found has = refl
 
   -- a source is found as one
-  spawned_from_finding : (n : ℕ) (finding : Finding) → IsFinding (graph_in r count) n finding → is_source finding ≡ true → IsSpawned r n
+  spawned_from_finding : (n : ℕ) (finding : NodeFinding) → IsFinding (graph_in r count) n finding → is_source finding ≡ true → IsSpawned r n
   spawned_from_finding n Apart found is = absurd (false≢true is)
   spawned_from_finding n Source found is = source_spawned r count n found
   spawned_from_finding n (Behind rank reason) found is = absurd (false≢true is)
 
-  finding_from_spawned : (n : ℕ) (finding : Finding) → n < count → IsFinding (graph_in r count) n finding → IsSpawned r n → is_source finding ≡ true
+  finding_from_spawned : (n : ℕ) (finding : NodeFinding) → n < count → IsFinding (graph_in r count) n finding → IsSpawned r n → is_source finding ≡ true
   finding_from_spawned n Apart below found has = absurd (found n [] record { begins = spawned_source has.0 n below has.1; follow = tt; ends = refl })
   finding_from_spawned n Source below found has = refl
   finding_from_spawned n (Behind rank reason) below found has =
@@ -246,7 +246,7 @@ module _ (r : Resolution) (count : ℕ) (counted : count ≡ length (functions_i
       let above = found.1.one_below in
       absurd (omega arith)
 
-  module _ (findings : List Finding) (found : AreFindings (graph_in r count) findings) where
+  module _ (findings : List NodeFinding) (found : AreFindings (graph_in r count) findings) where
     found_size : length findings ≡ count
     found_size = found.size ∙ nodes_size r count
 

@@ -2,14 +2,14 @@
 use Rattle.std.proofs.{Common.{◌≡◌, ℕ, List, [], ◌∷◌, ◌++◌, Option, Some, None, refl, ap, sym, ◌∙◌, append_assoc}, lemmas.List.append-nil}
 use Rattle.sharc_tree.specs.{Marks.{Mark, a_name, a_cast, type_marks, name_marks, declaration_marks, declarations_marks}, Measures.{expressions, in_arguments, in_option, in_right, in_simple, in_local, in_first, in_head, in_statement, in_statements, in_function}, Tree.{Expression, identifier, constant, parentheses, call, spawn, on_value, on_place, cast, index, field, unary, binary, Arguments, no_arguments, argument, Right, value, malloc, Simple, assign, does_call, Local, First, nothing, declares, does, Head, Statement, empty, block, declare, simple, jump, return, if_then, if_then_else, while, for, Statements, no_statements, statement, Function}}
 use Rattle.sharc_ctype.specs.Reaches.{runs, spawns, of_all}
-use Rattle.sharc_reach.specs.{declared.mention.Mention.Mention, declared.mention.Role.Role, declared.mention.Role.TheVariants.{Named, Called, Spawned}, Mentions.{names, mentions, mentions_of_all, option_mentions, right_mentions, simple_mentions, local_mentions, first_mentions, head_mentions, statement_mentions, statements_mentions, function_mentions}}
+use Rattle.sharc_reach.specs.{declared.mention.Mention.Mention, declared.mention.NameUse.NameUse, declared.mention.NameUse.TheVariants.{Named, Called, Spawned}, Mentions.{names, mentions, mentions_of_all, option_mentions, right_mentions, simple_mentions, local_mentions, first_mentions, head_mentions, statement_mentions, statements_mentions, function_mentions}}
 
 -- the tokens of those whose roles count
-abbrev pub told : (Role → ℕ → List ℕ) → List Mention → List ℕ
+abbrev pub told : (NameUse → ℕ → List ℕ) → List Mention → List ℕ
 told f [] = []
 told f (m ∷ rest) = f m.role m.token ++ told f rest
 
-abbrev pub picks : (Role → ℕ → List ℕ) → Expression → List ℕ
+abbrev pub picks : (NameUse → ℕ → List ℕ) → Expression → List ℕ
 picks f (call s i all) = f Called i.site.token
 picks f (spawn s i a) = f Spawned i.site.token
 picks f _ = []
@@ -18,11 +18,11 @@ of_all_append : (f : Expression → List ℕ) (a b : List Expression) → of_all
 of_all_append f [] b = refl
 of_all_append f (e ∷ a) b = ap (λ l. f e ++ l) (of_all_append f a b) ∙ sym (append_assoc (f e) (of_all f a) (of_all f b))
 
-told_append : (f : Role → ℕ → List ℕ) (a b : List Mention) → told f (a ++ b) ≡ told f a ++ told f b
+told_append : (f : NameUse → ℕ → List ℕ) (a b : List Mention) → told f (a ++ b) ≡ told f a ++ told f b
 told_append f [] b = refl
 told_append f (m ∷ a) b = ap (λ l. f m.role m.token ++ l) (told_append f a b) ∙ sym (append_assoc (f m.role m.token) (told f a) (told f b))
 
-module _ (f : Role → ℕ → List ℕ) (quiet : (token : ℕ) → f Named token ≡ []) where
+module _ (f : NameUse → ℕ → List ℕ) (quiet : (token : ℕ) → f Named token ≡ []) where
   both : (a b : List Mention) (c d : List Expression) → told f a ≡ of_all (picks f) c → told f b ≡ of_all (picks f) d → told f (a ++ b) ≡ of_all (picks f) (c ++ d)
   both a b c d one two = told_append f a b ∙ ap (λ l. l ++ told f b) one ∙ ap (λ l. of_all (picks f) c ++ l) two ∙ sym (of_all_append (picks f) c d)
 
@@ -114,12 +114,12 @@ module _ (f : Role → ℕ → List ℕ) (quiet : (token : ℕ) → f Named toke
       ∙ run_statements n g.statements
 
 -- those that are called or spawned, and those that are spawned
-abbrev pub ran_token : Role → ℕ → List ℕ
+abbrev pub ran_token : NameUse → ℕ → List ℕ
 ran_token Named token = []
 ran_token Called token = token ∷ []
 ran_token Spawned token = token ∷ []
 
-abbrev pub spawned_token : Role → ℕ → List ℕ
+abbrev pub spawned_token : NameUse → ℕ → List ℕ
 spawned_token Named token = []
 spawned_token Called token = []
 spawned_token Spawned token = token ∷ []

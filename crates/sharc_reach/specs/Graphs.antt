@@ -1,14 +1,14 @@
 -- The graph of the functions: each name that is called or spawned is an edge, and each that is spawned makes a source.
 use Rattle.std.specs.Prelude.{ℕ, Bool, true, false, not, ◌&&◌, nat_lt, List, Option, None, Some, slice_set}
 use Rattle.std.specs.Prelude.{if◌then◌else◌}
-use Rattle.sharc_graph.specs.{declared.graph.Node.Node, declared.graph.Edge.Edge, declared.graph.Finding.Finding}
-use Rattle.sharc_graph.specs.{declared.graph.Finding.TheVariants.{Apart, Source, Behind}, Findings.is_apart}
+use Rattle.sharc_graph.specs.{declared.graph.Node.Node, declared.graph.Edge.Edge, declared.graph.NodeFinding.NodeFinding}
+use Rattle.sharc_graph.specs.{declared.graph.NodeFinding.TheVariants.{Apart, Source, Behind}, Findings.is_apart}
 use Rattle.sharc_graph.specs.Paths.{edge_of}
 use Rattle.sharc_names.specs.declared.fault.Named.{Named}
 use Rattle.sharc_names.specs.declared.fault.Named.TheVariants as named
 use Rattle.sharc_ctype.specs.Resolved.{Resolution, named_at}
-use Rattle.sharc_reach.specs.{declared.mention.Mention.Mention, declared.mention.Role.Role}
-use Rattle.sharc_reach.specs.declared.mention.Role.TheVariants as role
+use Rattle.sharc_reach.specs.{declared.mention.Mention.Mention, declared.mention.NameUse.NameUse}
+use Rattle.sharc_reach.specs.declared.mention.NameUse.TheVariants as role
 
 abbrev pub function_named : Named → Option ℕ
 function_named (named.Function n) = Some n
@@ -19,12 +19,12 @@ function_named (named.Field token) = None
 function_named named.Known = None
 
 -- what a name that is called or spawned, or one that is spawned, means
-abbrev pub ran_as : Role → Named → Option ℕ
+abbrev pub ran_as : NameUse → Named → Option ℕ
 ran_as role.Named what = None
 ran_as role.Called what = function_named what
 ran_as role.Spawned what = function_named what
 
-abbrev pub spawned_as : Role → Named → Option ℕ
+abbrev pub spawned_as : NameUse → Named → Option ℕ
 spawned_as role.Named what = None
 spawned_as role.Called what = None
 spawned_as role.Spawned what = function_named what
@@ -58,11 +58,11 @@ abbrev pub marked_by : Resolution → List Node → Mention → List Node
 marked_by r nodes m = marked nodes (spawned r m)
 
 -- whether a path leads there
-abbrev pub is_found : Finding → Bool
+abbrev pub is_found : NodeFinding → Bool
 is_found f = not (is_apart f)
 
 -- whether it is itself a source
-abbrev pub is_source : Finding → Bool
+abbrev pub is_source : NodeFinding → Bool
 is_source Apart = false
 is_source Source = true
 is_source (Behind rank reason) = false

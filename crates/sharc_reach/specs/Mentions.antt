@@ -9,10 +9,10 @@ use Rattle.sharc_tree.specs.Tree.{Simple, assign, does_call, Local, First, nothi
 use Rattle.sharc_tree.specs.Tree.{empty, block, declare, simple, jump, return, if_then, if_then_else, while, for}
 use Rattle.sharc_tree.specs.Tree.{Statements, no_statements, statement, Function}
 use Rattle.sharc_ctype.specs.Resolved.{Resolution, function_at}
-use Rattle.sharc_reach.specs.{declared.mention.Mention.Mention, declared.mention.Role.Role}
-use Rattle.sharc_reach.specs.declared.mention.Role.TheVariants.{Named, Called, Spawned}
+use Rattle.sharc_reach.specs.{declared.mention.Mention.Mention, declared.mention.NameUse.NameUse}
+use Rattle.sharc_reach.specs.declared.mention.NameUse.TheVariants.{Named, Called, Spawned}
 
-abbrev pub mention : ℕ → ℕ → Role → Mention
+abbrev pub mention : ℕ → ℕ → NameUse → Mention
 mention function token role = record { function = function; token = token; role = role }
 
 -- those that are names alone, by their marks

@@ -9,7 +9,7 @@ use crate::firsts::firsts;
 use crate::sources::nodes;
 use crate::walk::all_mentions;
 use sharc_ctype::typed::Typed;
-use sharc_graph::{Finding, find};
+use sharc_graph::{NodeFinding, find};
 use std::alloc::{AllocError, Global};
 use std::marker::Model;
 
@@ -59,7 +59,7 @@ impl Reached {
 }
 
 // Whether a path leads to each.
-fn are_found(alloc: Global, findings: &[Finding]) -> Result<Vec<bool>, AllocError>
+fn are_found(alloc: Global, findings: &[NodeFinding]) -> Result<Vec<bool>, AllocError>
     ensures { IfOk result (λ found. found.items ≡ map is_found findings.now) }
 {
     findings
@@ -69,7 +69,7 @@ fn are_found(alloc: Global, findings: &[Finding]) -> Result<Vec<bool>, AllocErro
 }
 
 // Which of them are sources.
-fn are_sources(alloc: Global, findings: &[Finding]) -> Result<Vec<bool>, AllocError>
+fn are_sources(alloc: Global, findings: &[NodeFinding]) -> Result<Vec<bool>, AllocError>
     ensures { IfOk result (λ sources. sources.items ≡ map is_source findings.now) }
 {
     findings
@@ -78,13 +78,13 @@ fn are_sources(alloc: Global, findings: &[Finding]) -> Result<Vec<bool>, AllocEr
         .collect(alloc)
 }
 
-fn is_source(finding: Finding) -> bool
+fn is_source(finding: NodeFinding) -> bool
     ensures { result ≡ is_source finding }
 {
     match finding {
-        Finding::Apart => false,
-        Finding::Source => true,
-        Finding::Behind { .. } => false,
+        NodeFinding::Apart => false,
+        NodeFinding::Source => true,
+        NodeFinding::Behind { .. } => false,
     }
 }
 

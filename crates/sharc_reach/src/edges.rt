@@ -4,7 +4,7 @@ ghost use Rattle.std.specs.Prelude.{◌≡◌, IfOk};
 ghost use Rattle.std.specs.List.{filter_map};
 ghost use Rattle.sharc_reach.specs.Graphs.{function_named, ran, edge_within, edge_of_mention};
 
-use crate::mention::{Mention, Role};
+use crate::mention::{Mention, NameUse};
 use sharc_ctype::typed::Typed;
 use sharc_graph::Edge;
 use sharc_names::fault::Named;
@@ -29,9 +29,9 @@ fn ran(typed: &Typed, mention: &Mention) -> Option<u32>
     ensures { result ≡ ran typed.now mention.now }
 {
     match mention.role {
-        Role::Named => None,
-        Role::Called => function_named(typed.named(mention.token)),
-        Role::Spawned => function_named(typed.named(mention.token)),
+        NameUse::Named => None,
+        NameUse::Called => function_named(typed.named(mention.token)),
+        NameUse::Spawned => function_named(typed.named(mention.token)),
     }
 }
 

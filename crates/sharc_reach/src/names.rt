@@ -5,7 +5,7 @@ ghost use Rattle.sharc_tree.specs.Marks.{path_marks, mode_marks, level_marks, ba
 ghost use Rattle.sharc_tree.specs.Marks.{declaration_marks, declarations_marks};
 ghost use Rattle.sharc_reach.specs.Mentions.{mention, names, bottom_marks};
 
-use crate::mention::{Mention, Role};
+use crate::mention::{Mention, NameUse};
 use sharc_tree::ctype::{Base, Mode, Path};
 use sharc_tree::tree::{Declaration, WrittenType};
 use std::alloc::AllocError;
@@ -14,7 +14,7 @@ use std::alloc::AllocError;
 pub(crate) fn add(
     function: u32,
     token: u32,
-    role: Role,
+    role: NameUse,
     list: &mut Vec<Mention>,
 ) -> Result<(), AllocError>
     ensures { OnOk result (list.new.items ≡ list.old.items ++ mention function token role ∷ []) }
@@ -32,11 +32,11 @@ fn path(function: u32, path: &Path, list: &mut Vec<Mention>) -> Result<(), Alloc
     ensures { OnOk result (list.new.items ≡ list.old.items ++ names function (path_marks path.now)) }
 {
     match path {
-        Path::One(_, token) => add(function, *token, Role::Named, list),
+        Path::One(_, token) => add(function, *token, NameUse::Named, list),
         Path::Through(_, token, _) => {
-            add(function, *token, Role::Named, list)?;
+            add(function, *token, NameUse::Named, list)?;
             match token.checked_add(2) {
-                Some(second) => add(function, second, Role::Named, list),
+                Some(second) => add(function, second, NameUse::Named, list),
                 None => Err(AllocError),
             }
         }
@@ -68,7 +68,7 @@ fn base(function: u32, base: &Base, token: u32, list: &mut Vec<Mention>) -> Resu
     ensures { OnOk result (list.new.items ≡ list.old.items ++ names function (base_marks base.now token)) }
 {
     match base {
-        Base::Struct(_) => add(function, token, Role::Named, list),
+        Base::Struct(_) => add(function, token, NameUse::Named, list),
         Base::Int => Ok(()),
         Base::Char => Ok(()),
         Base::Long => Ok(()),
@@ -128,7 +128,7 @@ pub(crate) fn declaration(
     ensures { OnOk result (list.new.items ≡ list.old.items ++ names function (declaration_marks declaration.now)) }
 {
     type_names(function, &declaration.written, list)?;
-    add(function, declaration.name.site.token, Role::Named, list)
+    add(function, declaration.name.site.token, NameUse::Named, list)
 }
 
 /// Adds the names of declarations that follow one another.

@@ -4,7 +4,7 @@ ghost use Rattle.std.specs.Prelude.{◌≡◌, fold, replicate, IfOk};
 ghost use Rattle.sharc_reach.specs.Graphs.{spawned, quiet_node, marked, marked_by};
 
 use crate::edges::function_named;
-use crate::mention::{Mention, Role};
+use crate::mention::{Mention, NameUse};
 use sharc_ctype::typed::Typed;
 use sharc_graph::Node;
 use std::alloc::{AllocError, Global};
@@ -14,9 +14,9 @@ fn spawned(typed: &Typed, mention: &Mention) -> Option<u32>
     ensures { result ≡ spawned typed.now mention.now }
 {
     match mention.role {
-        Role::Named => None,
-        Role::Called => None,
-        Role::Spawned => function_named(typed.named(mention.token)),
+        NameUse::Named => None,
+        NameUse::Called => None,
+        NameUse::Spawned => function_named(typed.named(mention.token)),
     }
 }
 

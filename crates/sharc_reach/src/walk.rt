@@ -9,7 +9,7 @@ ghost use Rattle.sharc_reach.specs.Mentions.{simple_mentions, local_mentions, fi
 ghost use Rattle.sharc_reach.specs.Mentions.{statement_mentions, statements_mentions, function_mentions, mentions_in};
 ghost use Rattle.sharc_reach.specs.Mentions.{mentions_below};
 
-use crate::mention::{Mention, Role};
+use crate::mention::{Mention, NameUse};
 use crate::names::{add, declaration, declarations, type_names};
 use sharc_ctype::typed::Typed;
 use sharc_tree::tree::{Expr, ForFirst, ForHead, FunctionDefinition, Local, Right, Simple, Stmt};
@@ -21,15 +21,15 @@ fn expression(expr: &Expr, function: u32, list: &mut Vec<Mention>) -> Result<(),
     ensures { OnOk result (list.new.items ≡ list.old.items ++ mentions function (view_expr expr.now)) }
 {
     match expr {
-        Expr::Identifier(_, name) => add(function, name.site.token, Role::Named, list),
+        Expr::Identifier(_, name) => add(function, name.site.token, NameUse::Named, list),
         Expr::Constant(_, _) => Ok(()),
         Expr::Parentheses(_, inner) => expression(inner, function, list),
         Expr::Call(_, name, all) => {
-            add(function, name.site.token, Role::Called, list)?;
+            add(function, name.site.token, NameUse::Called, list)?;
             arguments(all.as_slice(), function, list)
         }
         Expr::Spawn(_, name, argument) => {
-            add(function, name.site.token, Role::Spawned, list)?;
+            add(function, name.site.token, NameUse::Spawned, list)?;
             expression(argument, function, list)
         }
         Expr::OnValue(_, _, argument) => expression(argument, function, list),
@@ -44,7 +44,7 @@ fn expression(expr: &Expr, function: u32, list: &mut Vec<Mention>) -> Result<(),
         }
         Expr::Field { base, name, .. } => {
             expression(base, function, list)?;
-            add(function, name.site.token, Role::Named, list)
+            add(function, name.site.token, NameUse::Named, list)
         }
         Expr::Unary(_, _, operand) => expression(operand, function, list),
         Expr::Binary { left, right, .. } => {
@@ -215,7 +215,7 @@ fn definition(
     ensures { OnOk result (list.new.items ≡ list.old.items ++ function_mentions function (view_function of.now)) }
 {
     type_names(function, &of.result, list)?;
-    add(function, of.name.site.token, Role::Named, list)?;
+    add(function, of.name.site.token, NameUse::Named, list)?;
     declarations(function, of.parameters.as_slice(), list)?;
     statements(of.statements.as_slice(), function, list)
 }

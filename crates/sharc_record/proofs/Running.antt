@@ -1,8 +1,8 @@
 -- What a quantum over a port of a journal makes of a thread and of its seat.
 use Rattle.std.proofs.{Common.{◌≡◌, ℕ, ◌+◌, ◌<◌, ◌≤◌, ◌==◌, Bool, true, false, List, [], ◌∷◌, ◌++◌, length, Some, None, refl, sym, ap, ◌∙◌, subst, arith}, lemmas.List.{append-nil, length-append}}
 use Rattle.std.specs.Prelude.{if◌then◌else◌}
-use Rattle.sharc_word.specs.{Place.{Place, LeadsInEvents, place_of_events}, Laws.PlaceLaws}
-use Rattle.sharc_code.specs.{declared.code.Code.Code, declared.shape.Shape.Shape, declared.state.State.State, declared.state.State.TheVariants.{Runs, Tries, Stopped, Ended}, Machine.{Machine, Turn, Local, Asks}, Path.{may_go, turn, machine_after, events_of_turn, events_of_path, made_in}}
+use Rattle.sharc_word.specs.{Place.{PortState, LeadsInEvents, place_of_events}, Laws.PlaceLaws}
+use Rattle.sharc_code.specs.{declared.code.Code.Code, declared.shape.Shape.Shape, declared.state.TurnState.TurnState, declared.state.TurnState.TheVariants.{Runs, Tries, Stopped, Ended}, Machine.{Machine, Turn, Local, Asks}, Path.{may_go, turn, machine_after, events_of_turn, events_of_path, made_in}}
 use Rattle.sharc_cpu.specs.{Thread.{ThreadView, IsThread}, Quantum.{IsQuantum, pause_of}, declared.quantum.Pause.Pause, declared.quantum.Pause.TheVariants.{Ran, Spent}}
 use Rattle.sharc_journal.specs.{Shared.SeatView, declared.journal.TheConstants.QUANTUM}
 use Rattle.sharc_rounds.specs.Round.{Seat}
@@ -13,7 +13,7 @@ ran_or_spent : (b : Bool) → b ≡ false → (if b then Spent else Ran) ≡ Ran
 ran_or_spent true e = cc
 ran_or_spent false e = refl
 
-none_ran : (state : State) (made limit : ℕ) → may_go state ≡ true → made < limit → pause_of state 0 made limit ≡ Ran
+none_ran : (state : TurnState) (made limit : ℕ) → may_go state ≡ true → made < limit → pause_of state 0 made limit ≡ Ran
 none_ran Ended made limit may h = cc
 none_ran Stopped made limit may h = cc
 none_ran Runs made limit may h = ran_or_spent (made == limit) (below made limit h)
@@ -83,7 +83,7 @@ module _ (code : Code) (s : Shape) (limit : ℕ) where
     events_after serves =
         let led : place_of_events after.events ≡ place_of_events (port.events ++ events_of_path code s old.machine q.goes.founds) =
         (laws.events (place_of_events port.events) (place_of_events after.events) (events_of_path code s old.machine q.goes.founds)).0 (q.goes.led serves) in
-        ap (λ (p : Place). p.events) led
+        ap (λ (p : PortState). p.events) led
 
     pub ran : IsThread code s new → new.machine.own.number ≡ old.machine.own.number → serves old.machine.own.number → after.id ≡ port.id → after.count ≡ port.count → after.number ≡ port.number
         → HasRun code s limit record { seat = Some old; port = port } record { seat = Some new; port = after }

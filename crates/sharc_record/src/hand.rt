@@ -7,7 +7,7 @@ ghost use Rattle.sharc_cpu.specs.Rows.{IsPlan};
 ghost use Rattle.sharc_record.specs.Round.{MayQuantum, HasRun, MayRun};
 
 use sharc_code::{Code, Shape};
-use sharc_cpu::{Plan, Thread, run_trying};
+use sharc_cpu::{RowPlan, Thread, run_trying};
 use sharc_journal::{JournalPort, JournalSeat, QUANTUM, SharedJournal, journal_laws};
 use sharc_rounds::{Gate, GatedPort, most_events};
 use sharc_threads::is_on;
@@ -27,7 +27,7 @@ fn run_thread<R: Wait, G: Gate>(
     mut thread: Thread,
     port: JournalSeat,
     code: &Code,
-    plan: &Plan,
+    plan: &RowPlan,
     shape: &Shape,
     shared: &SharedJournal,
     gate: &G,
@@ -80,7 +80,7 @@ impl Hand {
         self,
         rt: &R,
         code: &Code,
-        plan: &Plan,
+        plan: &RowPlan,
         shape: &Shape,
         shared: &SharedJournal,
         gate: &G,

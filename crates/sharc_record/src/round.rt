@@ -9,7 +9,7 @@ ghost use Rattle.sharc_record.specs.Round.{HasRoom, HasRoomAt, RecordedRound};
 
 use crate::worker::{deal, gather, run_all};
 use sharc_code::{Code, Shape};
-use sharc_cpu::{Plan, Thread};
+use sharc_cpu::{RowPlan, Thread};
 use sharc_journal::{Journal, QUANTUM, SharedJournal};
 use sharc_rounds::{Gate, workers_needed};
 use sharc_threads::{ThreadTable, is_on};
@@ -66,7 +66,7 @@ impl Rounds {
         rt: &R,
         alloc: Global,
         code: &Code,
-        plan: &Plan,
+        plan: &RowPlan,
         shape: &Shape,
         workers: u32,
         limit: u64,

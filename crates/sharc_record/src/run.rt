@@ -9,7 +9,7 @@ ghost use Rattle.sharc_record.specs.Run.{IsRecorded};
 
 use crate::round::Rounds;
 use sharc_code::{Code, Shape, fits_law, opening, run_laws};
-use sharc_cpu::{Plan, Thread};
+use sharc_cpu::{RowPlan, Thread};
 use sharc_recorded::Places;
 use sharc_rounds::{Gate, round_laws};
 use sharc_schedule::make_places;
@@ -52,7 +52,7 @@ impl Rounds {
         rt: &R,
         alloc: Global,
         code: &Code,
-        plan: &Plan,
+        plan: &RowPlan,
         shape: &Shape,
         workers: u32,
         limit: u64,
@@ -88,7 +88,7 @@ impl Rounds {
         self,
         alloc: Global,
         code: &Code,
-        plan: &Plan,
+        plan: &RowPlan,
         shape: &Shape,
         limit: u64,
     ) -> Result<Recorded, AllocError>
@@ -140,7 +140,7 @@ pub fn record_run<R: Threads + Wait + Sync, G: Gate + Sync>(
 {
     fits_law(code, shape);
     table_laws();
-    let plan = Plan::of(alloc, code)?;
+    let plan = RowPlan::of(alloc, code)?;
     let mut rounds = Rounds::new(alloc, code, shape, limit)?;
     'rounds: loop {
         if !rounds.threads.any_may_turn(rounds.port.words(), limit) {

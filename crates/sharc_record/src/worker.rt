@@ -12,7 +12,7 @@ ghost use Rattle.sharc_record.specs.Round.{MayRunAt, HasRunAt, MayAllRun, HaveAl
 
 use crate::hand::Hand;
 use sharc_code::{Code, Shape};
-use sharc_cpu::{Plan, Thread};
+use sharc_cpu::{RowPlan, Thread};
 use sharc_journal::{JournalSeat, SharedJournal};
 use sharc_rounds::Gate;
 use sharc_word::THREADS;
@@ -32,7 +32,7 @@ fn run_at<R: Wait, G: Gate>(
     rt: &R,
     hand: Option<Hand>,
     code: &Code,
-    plan: &Plan,
+    plan: &RowPlan,
     shape: &Shape,
     shared: &SharedJournal,
     gate: &G,
@@ -69,7 +69,7 @@ impl Worker {
         &mut self,
         rt: &R,
         code: &Code,
-        plan: &Plan,
+        plan: &RowPlan,
         shape: &Shape,
         shared: &SharedJournal,
         gate: &G,
@@ -136,7 +136,7 @@ pub(crate) fn deal(
 pub(crate) fn run_all<R: Threads + Wait + Sync, G: Gate + Sync>(
     rt: &R,
     code: &Code,
-    plan: &Plan,
+    plan: &RowPlan,
     shape: &Shape,
     shared: &SharedJournal,
     gate: &G,

@@ -5,8 +5,8 @@ use Rattle.sharc_mode_laws.specs.Rules.{MeetsRules}
 use Rattle.sharc_cli.specs.{Commands.commands, declared.command.Command.Command, declared.command.Command.TheVariants.{Audit, Load, Record, Replay}}
 use Rattle.sharc_load.specs.Source.{source_of}
 use Rattle.sharc_sound.specs.Front.{IsFront}
-use Rattle.sharc_top.specs.{declared.ran.RunNumbers.RunNumbers, declared.status.Status.Status, declared.task.Task.Task, Answers.{Answers, faulty, program}, Limits.source_limit, Loading.{LoadReplies, load_numbers, long, size_lines, loaded as was_loaded}, Reply.{Replies, answered, audited, loaded, recorded, replayed, task_in, too_long, usage}, Running.{Runs, not_run, ran}, Verdict.Does}
-use Rattle.sharc_top.specs.declared.task.Task.TheVariants as task
+use Rattle.sharc_top.specs.{declared.ran.RunNumbers.RunNumbers, declared.status.Status.Status, declared.task.SourceTask.SourceTask, Answers.{Answers, faulty, program}, Limits.source_limit, Loading.{LoadReplies, load_numbers, long, size_lines, loaded as was_loaded}, Reply.{Replies, answered, audited, loaded, recorded, replayed, task_in, too_long, usage}, Running.{Runs, not_run, ran}, Verdict.Does}
+use Rattle.sharc_top.specs.declared.task.SourceTask.TheVariants as task
 use Rattle.sharc_top_laws.specs.Laws.{IsRunning, SourceLaws}
 use Rattle.sharc_lemmas.proofs.Numbers.{not_long}
 
@@ -14,10 +14,10 @@ use Rattle.sharc_lemmas.proofs.Numbers.{not_long}
 command_or_none : (o : Option Command) (c : Command) → o ≡ Some c → o ≡ None → ⊥
 command_or_none o c is not = cc
 
-task_or_none : (o : Option Task) (t : Task) → o ≡ Some t → o ≡ None → ⊥
+task_or_none : (o : Option SourceTask) (t : SourceTask) → o ≡ Some t → o ≡ None → ⊥
 task_or_none o t is not = cc
 
-no_reader : (o : Option Task) → o ≡ None → is_some o ≡ true → ⊥
+no_reader : (o : Option SourceTask) → o ≡ None → is_some o ≡ true → ⊥
 no_reader o none reads = false≢true (sym (ap is_some none) ∙ reads)
 
 same_command : (o : Option Command) (a b : Command) → o ≡ Some a → o ≡ Some b → a ≡ b

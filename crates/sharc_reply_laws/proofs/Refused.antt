@@ -4,7 +4,7 @@ use Rattle.sharc_tree.specs.declared.event.CellAt.{CellAt}
 use Rattle.sharc_shadow.specs.declared.shadow_word.Kind.{Kind}
 use Rattle.sharc_mode.specs.Moded.{Assignment}
 use Rattle.sharc_meaning.specs.Events.{Access, access_by}
-use Rattle.sharc_code.specs.{declared.code.Code.Code, declared.code.PlaceMode.PlaceMode, declared.instr.Cell.Cell, declared.instr.Cell.TheVariants.{Global, GlobalAt, Object as InObject, ObjectAt}, declared.instr.Instr.Instr, declared.instr.Instr.TheVariants.{ChkRead, ChkWrite, Exchange, Load, LoadRef, Start, Store, TakeCell}, declared.shape.Shape.Shape, declared.state.ConflictAt.ConflictAt, declared.state.State.TheVariants.Stopped, declared.state.Stop.Stop, declared.state.Stop.TheVariants.Conflict, Machine.{Machine, instr_at, stopped}, Path.may_go, Runs.Turn, Says.{cell_at, mode_of, place_at}, Whole.{CheckedRun, place_after}}
+use Rattle.sharc_code.specs.{declared.code.Code.Code, declared.code.PlaceMode.PlaceMode, declared.instr.Cell.Cell, declared.instr.Cell.TheVariants.{Global, GlobalAt, Object as InObject, ObjectAt}, declared.instr.Instr.Instr, declared.instr.Instr.TheVariants.{ChkRead, ChkWrite, Exchange, Load, LoadRef, Start, Store, TakeCell}, declared.shape.Shape.Shape, declared.state.ConflictAt.ConflictAt, declared.state.TurnState.TheVariants.Stopped, declared.state.Stop.Stop, declared.state.Stop.TheVariants.Conflict, Machine.{Machine, instr_at, stopped}, Path.may_go, Runs.Turn, Says.{cell_at, mode_of, place_at}, Whole.{CheckedRun, place_after}}
 use Rattle.sharc_code.specs.declared.code.PlaceMode.TheVariants as modes
 use Rattle.sharc_invariant.specs.Bits.{CheckOf, touch_of}
 use Rattle.sharc_history_laws.specs.{Causes.ShowsCause, Conflicts.site_of_check, Followed.{ChecksAreFollowed, access_of, access_to}, History.history_of}

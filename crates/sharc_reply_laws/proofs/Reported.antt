@@ -3,7 +3,7 @@ use Rattle.std.proofs.Common.{◌≡◌, ℕ, false, List, [], ◌∷◌, Some, 
 use Rattle.sharc_shadow.specs.declared.shadow_word.Kind.{Kind}
 use Rattle.sharc_mode.specs.Moded.{Assignment}
 use Rattle.sharc_meaning.specs.{Events.Access, Reference.number_of}
-use Rattle.sharc_code.specs.{declared.code.Code.Code, declared.shape.Shape.Shape, declared.state.ConflictAt.ConflictAt, declared.state.State.TheVariants.Stopped, declared.state.Stop.Stop, declared.state.Stop.TheVariants.{Conflict, NoLock, NotSole, Trap}, Runs.Turn, Whole.{CheckedRun, place_after}}
+use Rattle.sharc_code.specs.{declared.code.Code.Code, declared.shape.Shape.Shape, declared.state.ConflictAt.ConflictAt, declared.state.TurnState.TheVariants.Stopped, declared.state.Stop.Stop, declared.state.Stop.TheVariants.{Conflict, NoLock, NotSole, Trap}, Runs.Turn, Whole.{CheckedRun, place_after}}
 use Rattle.sharc_cpu.specs.Thread.{ThreadView}
 use Rattle.sharc_threads.specs.Ends.{AreStarted}
 use Rattle.sharc_compile.specs.Refused.{IsReport}
@@ -11,10 +11,10 @@ use Rattle.sharc_invariant.specs.Labels.{Labels}
 use Rattle.sharc_history_laws.specs.{Causes.ShowsCause, Conflicts.IsCheck, Followed.{ShowsLock, access_checked}, History.history_of, Reports.FindsOthers, Seen.RunsBegin}
 use Rattle.sharc_accepted_laws.specs.Targets.{targets_of}
 use Rattle.sharc_wants_laws.specs.Cause.{ShowsReference}
-use Rattle.sharc_sound_laws.specs.{Reports.{IsReportOf, WantsReported}, StandStands.Stands}
+use Rattle.sharc_sound_laws.specs.{Reports.{IsReportOf, WantsReported}, StandStands.RunStands}
 use Rattle.sharc_reply_laws.specs.Reports.{ReportTells, ThreadWantsAccess, WantsRefusedAccess, ThreadWantsMutex, access_refused, object_tested}
 
-module _ (begins : RunsBegin) (m : Assignment) (code : Code) (s : Shape) (ls : Labels) (run : List Turn) (checked : CheckedRun code s run) (stands : Stands m (targets_of m) code s ls run)
+module _ (begins : RunsBegin) (m : Assignment) (code : Code) (s : Shape) (ls : Labels) (run : List Turn) (checked : CheckedRun code s run) (stands : RunStands m (targets_of m) code s ls run)
     (wanted : (before : List Turn) → CheckedRun code s before → (check : Turn) (kind : Kind) (granule site : ℕ) → IsCheck code s before check check.thread kind granule site false
     → (a : Access) → access_checked code ((place_after code s before).threads check.thread) ≡ Some a → ThreadWantsAccess m code (history_of code s before) check.thread site a)
     (refused : (t : ℕ) (c : ConflictAt) → ((place_after code s run).threads t).at.state ≡ Stopped → ((place_after code s run).threads t).own.stop ≡ Some (Conflict c)

@@ -4,7 +4,7 @@ use Rattle.std.specs.Io.KnownBytes.{Appends}
 use Rattle.sharc_mode.specs.Moded.{Assignment}
 use Rattle.sharc_mode_laws.specs.Rules.{MeetsRules}
 use Rattle.sharc_code.specs.{declared.code.Code.Code, declared.shape.Shape.Shape}
-use Rattle.sharc_code.specs.{declared.state.State.TheVariants.Stopped, declared.state.Stop.Stop, Layout.Fits, Runs.Turn}
+use Rattle.sharc_code.specs.{declared.state.TurnState.TheVariants.Stopped, declared.state.Stop.Stop, Layout.Fits, Runs.Turn}
 use Rattle.sharc_code.specs.Whole.{CheckedRun, place_after}
 use Rattle.sharc_cpu.specs.Thread.{ThreadView}
 use Rattle.sharc_threads.specs.Ends.{AreStarted, is_enabled}

@@ -6,7 +6,7 @@ use Rattle.sharc_mode.specs.Moded.{Assignment}
 use Rattle.sharc_meaning.specs.{Events.{Access, access_by}, Meaning.Asked, Obeys.History, Reference.number_of}
 use Rattle.sharc_meaning.specs.State.{wants, event_of}
 use Rattle.sharc_code.specs.{declared.code.Code.Code, declared.shape.Shape.Shape, declared.state.ConflictAt.ConflictAt}
-use Rattle.sharc_code.specs.{declared.state.State.TheVariants.Stopped, declared.state.Stop.Stop}
+use Rattle.sharc_code.specs.{declared.state.TurnState.TheVariants.Stopped, declared.state.Stop.Stop}
 use Rattle.sharc_code.specs.{declared.state.Stop.TheVariants.{Conflict, NoLock, NotSole, Trap}, Layout.Fits}
 use Rattle.sharc_code.specs.{Machine.ref, Runs.Turn, Says.place_at, Whole.{CheckedRun, place_after}}
 use Rattle.sharc_cpu.specs.Thread.{ThreadView}

@@ -1,7 +1,7 @@
 -- The line that says where and why a source is refused.
 use Rattle.std.specs.Prelude.{ℕ, ◌==◌, List, ◌++◌, length, codes, decimal, if◌then◌else◌}
-use Rattle.sharc_lex.specs.declared.fault.Fault.{Fault as LexerFault}
-use Rattle.sharc_lex.specs.declared.fault.Fault.TheVariants.{Byte, Number, Marker, Identifier, Character}
+use Rattle.sharc_lex.specs.declared.fault.TokenFault.{TokenFault as LexerFault}
+use Rattle.sharc_lex.specs.declared.fault.TokenFault.TheVariants.{Byte, Number, Marker, Identifier, Character}
 use Rattle.sharc_lex.specs.Faults as lexer
 use Rattle.sharc_grammar.specs.declared.fault.GrammarFault.{GrammarFault}
 use Rattle.sharc_grammar.specs.declared.fault.GrammarFault.TheVariants.{Unexpected, Deep, LeftOut}

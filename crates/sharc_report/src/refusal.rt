@@ -9,7 +9,7 @@ ghost use Rattle.sharc_report.specs.Refusals.{quoted, head_of, refusal_line};
 
 use crate::put::{put_number, put_two};
 use sharc_grammar::fault::GrammarFault;
-use sharc_lex::Fault as LexerFault;
+use sharc_lex::TokenFault as LexerFault;
 use sharc_names::fault::FaultCode;
 use sharc_tree::token::FaultAt;
 use std::alloc::{AllocError, Global};

@@ -8,7 +8,7 @@ ghost use Rattle.sharc_rewrite.specs.Recast.{type_at, is_there, around, with_cas
 use crate::written::Recast;
 use sharc_tree::held::{both, in_box};
 use sharc_tree::token::{Site, Span};
-use sharc_tree::tree::{Access, BinaryOperator, Expr, Identifier, WrittenType};
+use sharc_tree::tree::{FieldOperator, BinaryOperator, Expr, Identifier, WrittenType};
 use std::alloc::{AllocError, Global};
 
 /// The type of the cast, at these tokens.
@@ -110,7 +110,7 @@ fn field_of(
     alloc: Global,
     span: Span,
     base: Box<Expr>,
-    access: Access,
+    access: FieldOperator,
     name: &Identifier,
 ) -> Result<Expr, AllocError>
     ensures { IfOk result (λ e. view_expr e ≡ field span (view_expr base.value) access name.now) }

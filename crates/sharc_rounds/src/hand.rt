@@ -10,7 +10,7 @@ use crate::gate::{Gate, GatedPort};
 use crate::share::most_events;
 use sharc_bus::{Bus, BusPort, BusSeat, name_laws};
 use sharc_code::{Code, Shape};
-use sharc_cpu::{Plan, Thread, run_trying};
+use sharc_cpu::{RowPlan, Thread, run_trying};
 use sharc_threads::is_on;
 use sharc_word::place_laws;
 
@@ -29,7 +29,7 @@ fn run_thread<G: Gate>(
     mut thread: Thread,
     port: BusSeat,
     code: &Code,
-    plan: &Plan,
+    plan: &RowPlan,
     shape: &Shape,
     bus: &Bus,
     gate: &G,
@@ -81,7 +81,7 @@ impl Hand {
     pub(crate) fn run<G: Gate>(
         self,
         code: &Code,
-        plan: &Plan,
+        plan: &RowPlan,
         shape: &Shape,
         bus: &Bus,
         gate: &G,

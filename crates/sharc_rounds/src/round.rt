@@ -12,7 +12,7 @@ use crate::hand::QUANTUM;
 use crate::words::Words;
 use crate::worker::{deal, gather, run_all, workers_needed};
 use sharc_code::{Code, Shape};
-use sharc_cpu::{Plan, Thread};
+use sharc_cpu::{RowPlan, Thread};
 use sharc_threads::{ThreadTable, is_on};
 use std::alloc::{AllocError, Global};
 use std::thread::Threads;
@@ -64,7 +64,7 @@ impl Rounds {
         rt: &R,
         alloc: Global,
         code: &Code,
-        plan: &Plan,
+        plan: &RowPlan,
         shape: &Shape,
         workers: u32,
         limit: u64,

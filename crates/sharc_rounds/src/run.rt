@@ -13,7 +13,7 @@ use crate::laws::round_laws;
 use crate::round::Rounds;
 use crate::words::Words;
 use sharc_code::{Code, Shape, fits_law, opening, run_laws};
-use sharc_cpu::{Plan, Thread};
+use sharc_cpu::{RowPlan, Thread};
 use sharc_threads::{End, ThreadTable, table_laws};
 use std::alloc::{AllocError, Global};
 use std::thread::Threads;
@@ -43,7 +43,7 @@ impl Rounds {
         rt: &R,
         alloc: Global,
         code: &Code,
-        plan: &Plan,
+        plan: &RowPlan,
         shape: &Shape,
         workers: u32,
         limit: u64,
@@ -120,7 +120,7 @@ pub fn run_rounds<R: Threads + Sync, G: Gate + Sync>(
 {
     fits_law(code, shape);
     table_laws();
-    let plan = Plan::of(alloc, code)?;
+    let plan = RowPlan::of(alloc, code)?;
     let mut rounds = Rounds::new(alloc, code, shape, limit)?;
     'rounds: loop {
         let busy = rounds.words.busy(&rounds.threads, workers, limit);

@@ -16,7 +16,7 @@ use crate::gate::Gate;
 use crate::hand::Hand;
 use sharc_bus::{Bus, BusSeat};
 use sharc_code::{Code, Shape};
-use sharc_cpu::{Plan, Thread};
+use sharc_cpu::{RowPlan, Thread};
 use sharc_word::THREADS;
 use std::alloc::{AllocError, Global};
 use std::thread;
@@ -53,7 +53,7 @@ pub fn workers_needed(seats: &[Option<Thread>], workers: u32) -> u32
 fn run_at<G: Gate>(
     hand: Option<Hand>,
     code: &Code,
-    plan: &Plan,
+    plan: &RowPlan,
     shape: &Shape,
     bus: &Bus,
     gate: &G,
@@ -90,7 +90,7 @@ impl Worker {
     fn run<G: Gate>(
         &mut self,
         code: &Code,
-        plan: &Plan,
+        plan: &RowPlan,
         shape: &Shape,
         bus: &Bus,
         gate: &G,
@@ -159,7 +159,7 @@ pub(crate) fn deal(
 pub(crate) fn run_all<R: Threads + Sync, G: Gate + Sync>(
     rt: &R,
     code: &Code,
-    plan: &Plan,
+    plan: &RowPlan,
     shape: &Shape,
     bus: &Bus,
     gate: &G,

@@ -2,8 +2,8 @@
 use Rattle.std.proofs.Common.{◌≡◌, ℕ, zero, suc, ◌+◌, ◌<◌, ◌≤◌, Bool, true, false, not, List, [], ◌∷◌, length, map, filter, get_or, refl, sym, ap, ◌∙◌, subst, arith, ◌⊎◌, inl, inr}
 use Rattle.std.specs.{Prelude.{nat_lt, nat_eq, ◌&&◌, ◌||◌, slice_index, if◌then◌else◌}, List.{range_with_len, All, list_any}}
 use Rattle.sharc_word.specs.declared.step.TheConstants.{THREADS}
-use Rattle.sharc_code.specs.{declared.code.Code.Code, declared.shape.Shape.Shape, declared.state.State.State, Layout.state_word, Opening.opening_words, Path.may_go, Runs.{Turn, is_started, words_now}, Waits.waits_now, Whole.{bounds, place_after, IsStuck, IsOn}}
-use Rattle.sharc_code.specs.declared.state.State.TheVariants as state
+use Rattle.sharc_code.specs.{declared.code.Code.Code, declared.shape.Shape.Shape, declared.state.TurnState.TurnState, Layout.state_word, Opening.opening_words, Path.may_go, Runs.{Turn, is_started, words_now}, Waits.waits_now, Whole.{bounds, place_after, IsStuck, IsOn}}
+use Rattle.sharc_code.specs.declared.state.TurnState.TheVariants as state
 use Rattle.sharc_cpu.specs.Thread.{ThreadView, is_stop}
 use Rattle.sharc_threads.specs.{Ends.{Standing, AllAreDone, IsAt, AreStarted}, Seats.is_end}
 use Rattle.sharc_run.specs.Outcome.{was_stopped, is_gone}
@@ -83,13 +83,13 @@ module _ (code : Code) (s : Shape) (g : Standing) where
   numbered x (y ∷ ys) (suc k) d low = inr (numbered x ys k d (omega (arith, low)))
 
 -- ---- states
-pub gone_from : (c : State) → may_go c ≡ false → is_stop c ≡ false → is_end c ≡ true
+pub gone_from : (c : TurnState) → may_go c ≡ false → is_stop c ≡ false → is_end c ≡ true
 gone_from state.Runs e f = sym e
 gone_from state.Tries e f = sym e
 gone_from state.Stopped e f = sym f
 gone_from state.Ended e f = refl
 
-pub on_from : (c : State) → may_go c ≡ true → is_end c ≡ false
+pub on_from : (c : TurnState) → may_go c ≡ true → is_end c ≡ false
 on_from state.Runs e = refl
 on_from state.Tries e = refl
 on_from state.Stopped e = cc

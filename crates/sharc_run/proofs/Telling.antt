@@ -2,8 +2,8 @@
 use Rattle.std.proofs.Common.{◌≡◌, ℕ, suc, Bool, true, false, not, List, [], ◌∷◌, refl, sym, ap, ◌∙◌, subst, arith}
 use Rattle.std.specs.{Prelude.{◌&&◌, ◌||◌, if◌then◌else◌}, List.{All, Any, list_any}}
 use Rattle.sharc_word.specs.declared.step.TheConstants.{THREADS}
-use Rattle.sharc_code.specs.{declared.code.Code.Code, declared.shape.Shape.Shape, declared.state.State.State, Path.may_go, Runs.Turn, Waits.{waits_now, held_up}, Whole.{place_after, IsStuck, IsOn}}
-use Rattle.sharc_code.specs.declared.state.State.TheVariants as state
+use Rattle.sharc_code.specs.{declared.code.Code.Code, declared.shape.Shape.Shape, declared.state.TurnState.TurnState, Path.may_go, Runs.Turn, Waits.{waits_now, held_up}, Whole.{place_after, IsStuck, IsOn}}
+use Rattle.sharc_code.specs.declared.state.TurnState.TheVariants as state
 use Rattle.sharc_cpu.specs.Thread.{ThreadView, is_stop}
 use Rattle.sharc_threads.specs.{Ends.{Standing, IsAt, AreStarted}, Seats.is_end}
 use Rattle.sharc_run.specs.{declared.outcome.Outcome.Outcome, declared.outcome.Outcome.TheVariants.{Done, Reported, Stopped, Stuck, Limit}, Outcome.{has_reported, was_stopped, is_gone, IsSpent, NoneStopped, HasOutcome}, Outcome.HasOutcome.{reported, stopped, stuck, limited, done}, Laws.{is_on, goes_on, OutcomeIsTold}}
@@ -11,13 +11,13 @@ use Rattle.sharc_run.proofs.Listed.{number_of, head_at, rest_at, find_number, no
 use Rattle.sharc_run.proofs.Listed as listed
 
 -- ---- states
-off_where_gone : (c : State) → is_end c ≡ true → may_go c ≡ false
+off_where_gone : (c : TurnState) → is_end c ≡ true → may_go c ≡ false
 off_where_gone state.Runs e = cc
 off_where_gone state.Tries e = cc
 off_where_gone state.Stopped e = refl
 off_where_gone state.Ended e = refl
 
-on_unless : (c : State) → is_end c ≡ false → is_stop c ≡ false → may_go c ≡ true
+on_unless : (c : TurnState) → is_end c ≡ false → is_stop c ≡ false → may_go c ≡ true
 on_unless state.Runs e f = refl
 on_unless state.Tries e f = refl
 on_unless state.Stopped e f = cc

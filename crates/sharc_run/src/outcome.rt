@@ -5,7 +5,7 @@ ghost use Rattle.std.specs.List.{list_any};
 ghost use Rattle.sharc_cpu.specs.Thread.{is_stop};
 ghost use Rattle.sharc_run.specs.Outcome.{has_reported, was_stopped, outcome_of};
 
-use sharc_code::{State, Stop};
+use sharc_code::{TurnState, Stop};
 use sharc_cpu::Thread;
 use sharc_threads::End;
 
@@ -39,8 +39,8 @@ fn was_stopped(thread: &Thread) -> bool
     ensures { result ≡ was_stopped thread.now }
 {
     match thread.state() {
-        State::Stopped => true,
-        State::Runs | State::Tries | State::Ended => false,
+        TurnState::Stopped => true,
+        TurnState::Runs | TurnState::Tries | TurnState::Ended => false,
     }
 }
 

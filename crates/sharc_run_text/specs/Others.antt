@@ -7,7 +7,7 @@ use Rattle.sharc_shadow.specs.{Accesses.{note_of, site_at}, Functions.lowest_oth
 use Rattle.sharc_code.specs.{declared.state.ConflictAt.ConflictAt, declared.state.Stop.Stop}
 use Rattle.sharc_code.specs.declared.state.Stop.TheVariants.{Conflict, NoLock, NotSole, Trap}
 use Rattle.sharc_cpu.specs.Thread.{ThreadView}
-use Rattle.sharc_run_text.specs.declared.other.Access.{Access}
+use Rattle.sharc_run_text.specs.declared.other.NotedCheck.{NotedCheck}
 
 abbrev pub number_of : ThreadView → ℕ
 number_of t = t.machine.own.number
@@ -35,26 +35,26 @@ refused_by c None = None
 abbrev pub refused : ConflictAt → ThreadView → Option ConflictAt
 refused c t = refused_by c t.machine.own.stop
 
-abbrev pub check_by : Kind → ThreadView → ℕ → Access
+abbrev pub check_by : Kind → ThreadView → ℕ → NotedCheck
 check_by kind t site = record { kind = kind; site = site; thread = number_of t }
 
-abbrev pub or_refused : ThreadView → Option ConflictAt → Option Access
+abbrev pub or_refused : ThreadView → Option ConflictAt → Option NotedCheck
 or_refused t None = None
 or_refused t (Some d) = Some (check_by d.kind t d.site)
 
-abbrev pub or_read : ConflictAt → ThreadView → Option ℕ → Option Access
+abbrev pub or_read : ConflictAt → ThreadView → Option ℕ → Option NotedCheck
 or_read c t None = or_refused t (refused c t)
 or_read c t (Some site) = Some (check_by Read t site)
 
-abbrev pub or_later : ConflictAt → ThreadView → Option ℕ → Option Access
+abbrev pub or_later : ConflictAt → ThreadView → Option ℕ → Option NotedCheck
 or_later c t None = or_read c t (noted c Read t)
 or_later c t (Some site) = Some (check_by Write t site)
 
 -- its write there, else its read, else its refused check
-abbrev pub access_of : ConflictAt → ThreadView → Option Access
+abbrev pub access_of : ConflictAt → ThreadView → Option NotedCheck
 access_of c t = or_later c t (noted c Write t)
 
-abbrev pub access_of_any : ConflictAt → Option ThreadView → Option Access
+abbrev pub access_of_any : ConflictAt → Option ThreadView → Option NotedCheck
 access_of_any c None = None
 access_of_any c (Some t) = access_of c t
 
@@ -62,11 +62,11 @@ access_of_any c (Some t) = access_of c t
 abbrev pub has_number : ℕ → ThreadView → Bool
 has_number n t = number_of t == n
 
-abbrev pub access_of_number : ConflictAt → List ThreadView → Option ℕ → Option Access
+abbrev pub access_of_number : ConflictAt → List ThreadView → Option ℕ → Option NotedCheck
 access_of_number c threads None = None
 access_of_number c threads (Some n) = access_of_any c (find (has_number n) threads)
 
-abbrev pub against_write : ConflictAt → List ThreadView → ℕ → Option Access
+abbrev pub against_write : ConflictAt → List ThreadView → ℕ → Option NotedCheck
 against_write c threads thread = access_of_number c threads (lowest_other c.old thread)
 
 -- ---- of a refused read: the write of the lowest-numbered other thread whose bit was set and which has one, else the
@@ -86,23 +86,23 @@ is_first_write (Some d) = is_write d.kind && not (is_written d.old)
 abbrev pub was_refused_first : ConflictAt → ThreadView → Bool
 was_refused_first c t = is_first_write (refused c t)
 
-abbrev pub refused_access : ConflictAt → Option ThreadView → Option Access
+abbrev pub refused_access : ConflictAt → Option ThreadView → Option NotedCheck
 refused_access c None = None
 refused_access c (Some t) = or_refused t (refused c t)
 
-abbrev pub or_first_refused : ConflictAt → List ThreadView → Option ThreadView → Option Access
+abbrev pub or_first_refused : ConflictAt → List ThreadView → Option ThreadView → Option NotedCheck
 or_first_refused c threads None = refused_access c (find (was_refused_first c) threads)
 or_first_refused c threads (Some t) = access_of c t
 
-abbrev pub against_read : ConflictAt → List ThreadView → ℕ → Option Access
+abbrev pub against_read : ConflictAt → List ThreadView → ℕ → Option NotedCheck
 against_read c threads thread = or_first_refused c threads (find (wrote_before c thread) threads)
 
 -- ---- the other access of a conflict of this thread, in these threads, which are in the order of their numbers
-abbrev pub against : Kind → ConflictAt → List ThreadView → ℕ → Option Access
+abbrev pub against : Kind → ConflictAt → List ThreadView → ℕ → Option NotedCheck
 against Write c threads thread = against_write c threads thread
 against Read c threads thread = against_read c threads thread
 
-abbrev pub other_access : ConflictAt → List ThreadView → ℕ → Option Access
+abbrev pub other_access : ConflictAt → List ThreadView → ℕ → Option NotedCheck
 other_access c threads thread = against c.kind c threads thread
 
 -- ---- threads whose numbers are allowed

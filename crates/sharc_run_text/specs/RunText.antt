@@ -7,14 +7,14 @@ use Rattle.sharc_tree.specs.{declared.trap.Trap.Trap, Traps.trap_number}
 use Rattle.sharc_tree.specs.declared.trap.Trap.TheVariants as traps
 use Rattle.sharc_shadow.specs.{declared.shadow_word.Kind.Kind, declared.shadow_word.Kind.TheVariants.{Read, Write}}
 use Rattle.sharc_code.specs.{declared.code.Code.Code, declared.code.Use.Use, declared.state.ConflictAt.ConflictAt}
-use Rattle.sharc_code.specs.{declared.state.Print.Print, declared.state.State.State}
-use Rattle.sharc_code.specs.{declared.state.State.TheVariants.{Runs, Tries, Stopped, Ended}, declared.state.Stop.Stop}
+use Rattle.sharc_code.specs.{declared.state.Print.Print, declared.state.TurnState.TurnState}
+use Rattle.sharc_code.specs.{declared.state.TurnState.TheVariants.{Runs, Tries, Stopped, Ended}, declared.state.Stop.Stop}
 use Rattle.sharc_code.specs.declared.state.Stop.TheVariants.{Conflict, NoLock, NotSole, Trap as Trapped}
 use Rattle.sharc_code.specs.{declared.state.Wait.Wait, declared.state.Wait.TheVariants.{Mutex, Join, Cond}}
 use Rattle.sharc_code.specs.{Says.place_at, Waits.is_held_up}
 use Rattle.sharc_code.specs.declared.code.Use.TheVariants as uses
 use Rattle.sharc_cpu.specs.Thread.{ThreadView}
-use Rattle.sharc_run_text.specs.{declared.other.Access.Access, Others.{number_of, other_access}}
+use Rattle.sharc_run_text.specs.{declared.other.NotedCheck.NotedCheck, Others.{number_of, other_access}}
 use Rattle.sharc_run_text.specs.Places.{lvalue, lock_path, at_site, lvalue_at}
 
 -- ---- prints
@@ -47,7 +47,7 @@ abbrev pub code_of : Kind → List ℕ
 code_of Read = codes "A1 "
 code_of Write = codes "A2 "
 
-abbrev pub other_text : Code → Option Access → List ℕ
+abbrev pub other_text : Code → Option NotedCheck → List ℕ
 other_text code None = []
 other_text code (Some a) =
     codes " conflicts with " ++ access_text code a.kind a.site ++ codes " by thread " ++ decimal a.thread
@@ -127,7 +127,7 @@ why_text code words threads t None = unstopped_text code words t t.wait
 why_text code words threads t (Some stop) = stop_text code threads (number_of t) stop
 
 -- ---- the line of a thread, which has none where it is gone
-abbrev pub is_gone : State → Bool
+abbrev pub is_gone : TurnState → Bool
 is_gone Runs = false
 is_gone Tries = false
 is_gone Stopped = false

@@ -10,9 +10,9 @@ ghost use Rattle.sharc_run_text.specs.RunText.{stop_text, wait_text, made_text, 
 ghost use Rattle.sharc_run_text.specs.RunText.{thread_line};
 ghost use Rattle.sharc_code.specs.Waits.{is_held_up};
 
-use crate::other::{Access, other_access};
+use crate::other::{NotedCheck, other_access};
 use crate::put::{place_at, put_at, put_lock, put_lvalue_at, put_number};
-use sharc_code::{Code, ConflictAt, State, Stop, Use, Wait};
+use sharc_code::{Code, ConflictAt, TurnState, Stop, Use, Wait};
 use sharc_cond::waits;
 use sharc_cpu::Thread;
 use sharc_shadow::Kind;
@@ -45,7 +45,7 @@ fn put_access(text: &mut Vec<u8>, code: &Code, kind: Kind, site: u32) -> Result<
     put_lvalue_at(text, code, site)
 }
 
-fn put_other(text: &mut Vec<u8>, code: &Code, other: Option<Access>) -> Result<(), AllocError>
+fn put_other(text: &mut Vec<u8>, code: &Code, other: Option<NotedCheck>) -> Result<(), AllocError>
     ensures { Appends result (other_text code.now other) text.old.items text.new.items }
 {
     match other {
@@ -266,12 +266,12 @@ fn put_why(
     }
 }
 
-fn is_gone(state: State) -> bool
+fn is_gone(state: TurnState) -> bool
     ensures { result ≡ is_gone state }
 {
     match state {
-        State::Ended => true,
-        State::Runs | State::Tries | State::Stopped => false,
+        TurnState::Ended => true,
+        TurnState::Runs | TurnState::Tries | TurnState::Stopped => false,
     }
 }
 

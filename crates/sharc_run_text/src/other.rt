@@ -13,7 +13,7 @@ use sharc_word::THREADS;
 
 /// A check of a granule: its kind, its site, and the number of its thread.
 #[derive(Clone, Copy)]
-pub struct Access {
+pub struct NotedCheck {
     pub kind: Kind,
     pub site: u32,
     pub thread: u32,
@@ -45,10 +45,10 @@ fn refused(c: ConflictAt, t: &Thread) -> Option<ConflictAt>
     }
 }
 
-fn check_by(kind: Kind, t: &Thread, site: u32) -> Access
+fn check_by(kind: Kind, t: &Thread, site: u32) -> NotedCheck
     ensures { result ≡ check_by kind t.now site }
 {
-    Access {
+    NotedCheck {
         kind,
         site,
         thread: t.number(),
@@ -56,7 +56,7 @@ fn check_by(kind: Kind, t: &Thread, site: u32) -> Access
 }
 
 // What the thread did there: its write, else its read, else its refused check.
-fn access_of(c: ConflictAt, t: &Thread) -> Option<Access>
+fn access_of(c: ConflictAt, t: &Thread) -> Option<NotedCheck>
     ensures { result ≡ access_of c t.now }
 {
     match noted(c, Kind::Write, t) {
@@ -85,7 +85,7 @@ fn with_number(number: u32, threads: &[Thread]) -> Option<&Thread>
 
 // The other access of a refused write.
 #[tactic(auto, using(crate::proofs::Firsts::first_is))]
-fn against_write(c: ConflictAt, threads: &[Thread], thread: u32) -> Option<Access>
+fn against_write(c: ConflictAt, threads: &[Thread], thread: u32) -> Option<NotedCheck>
     requires { thread < THREADS }
     ensures { result ≡ against_write c threads.now thread }
 {
@@ -152,7 +152,7 @@ fn first_refused(c: ConflictAt, threads: &[Thread]) -> Option<&Thread>
 }
 
 // The refused check of a thread there.
-fn refused_access(c: ConflictAt, t: &Thread) -> Option<Access>
+fn refused_access(c: ConflictAt, t: &Thread) -> Option<NotedCheck>
     ensures { result ≡ or_refused t.now (refused c t.now) }
 {
     match refused(c, t) {
@@ -162,7 +162,7 @@ fn refused_access(c: ConflictAt, t: &Thread) -> Option<Access>
 }
 
 // The other access of a refused read.
-fn against_read(c: ConflictAt, threads: &[Thread], thread: u32) -> Option<Access>
+fn against_read(c: ConflictAt, threads: &[Thread], thread: u32) -> Option<NotedCheck>
     requires { AreAllowed threads.now }
     ensures { result ≡ against_read c threads.now thread }
 {
@@ -177,7 +177,7 @@ fn against_read(c: ConflictAt, threads: &[Thread], thread: u32) -> Option<Access
 
 /// The other access of a conflict of the thread of this number, among these threads, which are in the order of their
 /// numbers.
-pub(crate) fn other_access(c: ConflictAt, threads: &[Thread], thread: u32) -> Option<Access>
+pub(crate) fn other_access(c: ConflictAt, threads: &[Thread], thread: u32) -> Option<NotedCheck>
     requires thread { thread < THREADS }
     requires threads { AreAllowed threads.now }
     ensures { result ≡ other_access c threads.now thread }

@@ -5,19 +5,19 @@ use Rattle.sharc_tree.specs.{declared.token.Site.Site, declared.event.CellAt.Cel
 use Rattle.sharc_tree.specs.declared.event.SourceEvent.{SourceEvent}
 use Rattle.sharc_tree.specs.declared.event.Object.TheVariants as objects
 use Rattle.sharc_tree.specs.declared.event.Act.TheVariants as acts
-use Rattle.sharc_granule.specs.{State.NewView, declared.stage.Stage.{Stage as NewStage}}
-use Rattle.sharc_granule.specs.declared.stage.Stage.TheVariants.{Length}
+use Rattle.sharc_granule.specs.{State.NewView, declared.stage.NewStage.{NewStage}}
+use Rattle.sharc_granule.specs.declared.stage.NewStage.TheVariants.{Length}
 use Rattle.sharc_cond.specs.Waiters.{waits_in, lowest_of}
 use Rattle.sharc_code.specs.{declared.code.Code.Code, declared.instr.Instr.Instr, Arithmetic.int_of}
 use Rattle.sharc_code.specs.Machine.{Machine, function_of}
 use Rattle.sharc_code.specs.Says.{no_global, place_at, reference, started_with, said, speaks_of}
 use Rattle.sharc_said.specs.{declared.cells.Origin.Origin, declared.cells.Where.Where, declared.event.Deed.Deed}
-use Rattle.sharc_said.specs.{declared.event.Event.Event, declared.event.Reference.Reference, declared.event.Value.Value}
+use Rattle.sharc_said.specs.{declared.event.Event.Event, declared.event.Reference.Reference, declared.event.GivenValue.GivenValue}
 use Rattle.sharc_said.specs.{declared.next.Argument.Argument, declared.next.Coming.Coming, declared.next.Next.Next}
 use Rattle.sharc_said.specs.declared.cells.Origin.TheVariants as origins
 use Rattle.sharc_said.specs.declared.cells.Where.TheVariants as places
 use Rattle.sharc_said.specs.declared.event.Deed.TheVariants as deeds
-use Rattle.sharc_said.specs.declared.event.Value.TheVariants as values
+use Rattle.sharc_said.specs.declared.event.GivenValue.TheVariants as values
 use Rattle.sharc_said.specs.declared.next.Argument.TheVariants as arguments
 use Rattle.sharc_said.specs.declared.next.Next.TheVariants as nexts
 
@@ -95,7 +95,7 @@ bare_of (Some e) = Some (told_of_event e)
 abbrev pub numbered : Reference → ℤ
 numbered r = reference r.number r.elements
 
-abbrev pub valued : Value → ℤ
+abbrev pub valued : GivenValue → ℤ
 valued (values.Int v) = v
 valued (values.Reference r) = numbered r
 

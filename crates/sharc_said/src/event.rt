@@ -23,7 +23,7 @@ pub struct Reference {
 
 /// What a cell, a print or a thread is given.
 #[derive(Clone, Copy, PartialEq, Eq)]
-pub enum Value {
+pub enum GivenValue {
     Int(i64),
     Reference(Reference),
 }
@@ -31,8 +31,8 @@ pub enum Value {
 /// What an event does, without the modes of cells.
 #[derive(Clone, Copy, PartialEq, Eq)]
 pub enum Deed {
-    Reads(Where, Value),
-    Writes(Where, Value),
+    Reads(Where, GivenValue),
+    Writes(Where, GivenValue),
     Makes(Reference),
     Takes(Reference),
     Gives(Reference),
@@ -40,8 +40,8 @@ pub enum Deed {
     Locks(Where),
     Unlocks(Where),
     /// The function, what it is handed, and the number of the new thread.
-    Spawns(u32, Value, u32),
-    Starts(Value),
+    Spawns(u32, GivenValue, u32),
+    Starts(GivenValue),
     Joins(i64),
     Prints(i64),
     Returns,
@@ -61,27 +61,27 @@ pub struct Event {
     pub deed: Deed,
 }
 
-fn refers(number: u64, elements: u64) -> Value
-    ensures { result ≡ Value.Reference record { number = number; elements = elements } }
+fn refers(number: u64, elements: u64) -> GivenValue
+    ensures { result ≡ GivenValue.Reference record { number = number; elements = elements } }
 {
-    Value::Reference(Reference { number, elements })
+    GivenValue::Reference(Reference { number, elements })
 }
 
-fn argued(argument: Argument, elements: u64) -> Value
+fn argued(argument: Argument, elements: u64) -> GivenValue
     ensures { valued result ≡ value_of argument elements }
 {
     match argument {
-        Argument::Int(value) => Value::Int(value),
+        Argument::Int(value) => GivenValue::Int(value),
         Argument::Reference(number) => refers(number, elements),
     }
 }
 
 // What a thread of a function with this parameter is begun with, where its argument's word holds this.
-fn begun(parameter: Parameter, found: u64, elements: u64) -> Value
+fn begun(parameter: Parameter, found: u64, elements: u64) -> GivenValue
     ensures { valued result ≡ started_with parameter found elements }
 {
     match parameter {
-        Parameter::None | Parameter::Int => Value::Int(found.cast_signed()),
+        Parameter::None | Parameter::Int => GivenValue::Int(found.cast_signed()),
         Parameter::Reference => refers(found, elements),
     }
 }
@@ -149,9 +149,9 @@ fn deed_of(next: Next, thread: u32, found: u64, elements: u64) -> Option<Deed>
     ensures { option_map shown result ≡ told_of thread next found elements }
 {
     match next {
-        Next::Reads(at) => Some(Deed::Reads(at, Value::Int(found.cast_signed()))),
+        Next::Reads(at) => Some(Deed::Reads(at, GivenValue::Int(found.cast_signed()))),
         Next::ReadsReference(at) => Some(Deed::Reads(at, refers(found, elements))),
-        Next::Writes(at, value) => Some(Deed::Writes(at, Value::Int(value))),
+        Next::Writes(at, value) => Some(Deed::Writes(at, GivenValue::Int(value))),
         Next::WritesReference(at, number) => Some(Deed::Writes(at, refers(number, elements))),
         Next::Prints(value) => Some(Deed::Prints(value)),
         Next::Gives(number) => Some(Deed::Gives(Reference { number, elements })),

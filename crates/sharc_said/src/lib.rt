@@ -11,6 +11,6 @@ mod next;
 mod refused;
 
 pub use cells::{Origin, Where, place_at};
-pub use event::{Deed, Event, Reference, Value, event_of};
+pub use event::{Deed, Event, Reference, GivenValue, event_of};
 pub use next::{Argument, Coming, Next, function_of, next_of};
 pub use refused::refused_at;

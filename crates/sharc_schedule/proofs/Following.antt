@@ -1,7 +1,7 @@
 -- The turns for one event of the journal are those of the schedule.
 use Rattle.std.proofs.Common.{◌≡◌, ℕ, suc, ◌<◌, ◌≤◌, Bool, true, false, List, [], ◌∷◌, ◌++◌, length, refl, sym, ap, ◌∙◌, subst, arith, append_assoc, ⊎_elim, ◌⊎◌, inl, inr, if◌then◌else◌}
 use native.Mathlib.Decide.{dec_le}
-use Rattle.sharc_code.specs.{declared.code.Code.Code, declared.shape.Shape.Shape, declared.state.State.State, declared.state.State.TheVariants.{Runs, Tries, Stopped, Ended}, Machine.Machine, Path.counted, Runs.{Turn, Owns, MayTurn, state_now}, Laws.RunLaws, ThreadLaws.ThreadLaws, Whole.{one_thread, bounds, place_after}}
+use Rattle.sharc_code.specs.{declared.code.Code.Code, declared.shape.Shape.Shape, declared.state.TurnState.TurnState, declared.state.TurnState.TheVariants.{Runs, Tries, Stopped, Ended}, Machine.Machine, Path.counted, Runs.{Turn, Owns, MayTurn, state_now}, Laws.RunLaws, ThreadLaws.ThreadLaws, Whole.{one_thread, bounds, place_after}}
 use Rattle.sharc_threads.specs.Ends.{is_enabled}
 use Rattle.sharc_seq.specs.Walk.{has_event}
 use Rattle.sharc_schedule.specs.{Schedule.{is_try, without_tries}, Laws.SameEnds, Going.{Quiet, Loud, AllCount, Stepped}}
@@ -43,7 +43,7 @@ loud_quiet (m ∷ more) (o ∷ other) before many e loud quiet = no_both (has_ev
 loud_later : (x : Turn) (later low : List Turn) (m : Turn) → Quiet (later ++ m ∷ low) → has_event m.event ≡ true → ⊥
 loud_later x later low m quiet on = no_both (has_event m.event) on (quiet_low later (m ∷ low) quiet).1
 
-pub no_count : (state : State) → is_try state ≡ true → counted state ≡ 1 → ⊥
+pub no_count : (state : TurnState) → is_try state ≡ true → counted state ≡ 1 → ⊥
 no_count Runs e one = no_both false e refl
 no_count Tries e one = absurd (omega (arith, one))
 no_count Stopped e one = no_both false e refl

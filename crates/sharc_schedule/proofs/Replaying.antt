@@ -5,7 +5,7 @@ use native.Mathlib.Decide.{dec_le, ℕ_discrete}
 use mathlib.Core.Logic.{dite}
 use Rattle.sharc_word.specs.{declared.step.WordEvent.WordEvent, declared.step.WordStep.WordStep, declared.step.TheConstants.THREADS}
 use Rattle.sharc_tree.specs.declared.event.SourceEvent.{SourceEvent}
-use Rattle.sharc_code.specs.{declared.code.Code.Code, declared.shape.Shape.Shape, declared.state.State.State, declared.state.State.TheVariants.{Runs, Tries, Stopped, Ended}, Machine.Machine, Layout.state_word, Opening.opening_words, Path.{turn, after, asked_by, may_go, counted}, Runs.{Turn, Global, OneThread, MayTurn, IsRun, Answered, is_started, result_of, step_of, state_now, made_now, opening_of, scheduled, threads_of}, Laws.RunLaws, ThreadLaws.{ThreadLaws, found_now, behind}, Waits.waits_now, Whole.{one_thread, bounds, place_after}}
+use Rattle.sharc_code.specs.{declared.code.Code.Code, declared.shape.Shape.Shape, declared.state.TurnState.TurnState, declared.state.TurnState.TheVariants.{Runs, Tries, Stopped, Ended}, Machine.Machine, Layout.state_word, Opening.opening_words, Path.{turn, after, asked_by, may_go, counted}, Runs.{Turn, Global, OneThread, MayTurn, IsRun, Answered, is_started, result_of, step_of, state_now, made_now, opening_of, scheduled, threads_of}, Laws.RunLaws, ThreadLaws.{ThreadLaws, found_now, behind}, Waits.waits_now, Whole.{one_thread, bounds, place_after}}
 use Rattle.sharc_code.specs.Machine as Step
 use Rattle.sharc_threads.specs.Ends.{is_enabled}
 use Rattle.sharc_seq.specs.Run.{enabled, AreChosen}
@@ -60,7 +60,7 @@ module _ (laws : RunLaws) (threads : ThreadLaws) (code : Code) (s : Shape) (limi
     by (yes e) = let k : made_now m g one ≤ limit = subst (λ n. n ≤ limit) (put_own g.made one.thread (made_now m g one) t e) (few t) in let is : g.made t ≡ g.made one.thread = ap g.made e in omega arith
     by (no apart) = subst (λ n. n ≤ limit) (put_other g.made one.thread (made_now m g one) t apart) (few t)
 
-  pub some_counted : (state : State) → is_try state ≡ false → counted state ≡ 1
+  pub some_counted : (state : TurnState) → is_try state ≡ false → counted state ≡ 1
   some_counted Runs e = refl
   some_counted Tries e = absurd cc
   some_counted Stopped e = refl

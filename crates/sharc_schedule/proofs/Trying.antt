@@ -2,24 +2,24 @@
 use Rattle.std.proofs.Common.{◌≡◌, ◌≢◌, ℕ, ◌+◌, ◌≤◌, Bool, true, false, ◌||◌, nat_eq, List, [], ◌∷◌, refl, sym, ap, ◌∙◌, subst, arith, eq-eqb, ne_eqb, if◌then◌else◌}
 use native.Mathlib.Decide.{ℕ_discrete}
 use Rattle.sharc_tree.specs.declared.event.SourceEvent.{SourceEvent}
-use Rattle.sharc_code.specs.{declared.code.Code.Code, declared.shape.Shape.Shape, declared.state.State.State, declared.state.State.TheVariants.{Runs, Tries, Stopped, Ended}, Machine.{Machine, fails}, Opening.opening_words, Path.{turn, after, asked_by, may_go, counted}, Runs.{Turn, Global, OneThread, MayTurn, IsRun, Answered, is_started, result_of, put, state_now, made_now, words_now, after_turn, opening_of}, ThreadLaws.{ThreadLaws, settle, settled}, Whole.{one_thread, bounds, place_after}}
+use Rattle.sharc_code.specs.{declared.code.Code.Code, declared.shape.Shape.Shape, declared.state.TurnState.TurnState, declared.state.TurnState.TheVariants.{Runs, Tries, Stopped, Ended}, Machine.{Machine, fails}, Opening.opening_words, Path.{turn, after, asked_by, may_go, counted}, Runs.{Turn, Global, OneThread, MayTurn, IsRun, Answered, is_started, result_of, put, state_now, made_now, words_now, after_turn, opening_of}, ThreadLaws.{ThreadLaws, settle, settled}, Whole.{one_thread, bounds, place_after}}
 use Rattle.sharc_schedule.specs.{Schedule.{is_try, without_tries}, Laws.SameEnds}
 use Rattle.sharc_lemmas.proofs.Bools.{if_false as if_no, if_true as if_yes, or_known}
 
 -- ---- one thread
-pub tries_where : (state : State) → is_try state ≡ true → state ≡ Tries
+pub tries_where : (state : TurnState) → is_try state ≡ true → state ≡ Tries
 tries_where Runs e = absurd cc
 tries_where Tries e = refl
 tries_where Stopped e = absurd cc
 tries_where Ended e = absurd cc
 
-goes_settled : (state : State) → may_go state ≡ true → settle state ≡ Runs
+goes_settled : (state : TurnState) → may_go state ≡ true → settle state ≡ Runs
 goes_settled Runs e = refl
 goes_settled Tries e = refl
 goes_settled Stopped e = absurd cc
 goes_settled Ended e = absurd cc
 
-pub may_settle : (state : State) → may_go (settle state) ≡ may_go state
+pub may_settle : (state : TurnState) → may_go (settle state) ≡ may_go state
 may_settle Runs = refl
 may_settle Tries = refl
 may_settle Stopped = refl

@@ -3,8 +3,8 @@
 use Rattle.std.specs.Prelude.{ℕ, zero, suc, ◌≡◌, Bool, true, false, nat_eq, nat_lt, List, [], ◌∷◌, ◌++◌, Option, Some}
 use Rattle.std.specs.Prelude.{None, replicate, slice_index, if◌then◌else◌}
 use Rattle.sharc_word.specs.{declared.step.WordEvent.WordEvent, declared.step.TheConstants.THREADS}
-use Rattle.sharc_code.specs.{declared.code.Code.Code, declared.shape.Shape.Shape, declared.state.State.State}
-use Rattle.sharc_code.specs.{declared.state.State.TheVariants.{Runs, Tries, Stopped, Ended}, Runs.{Turn, state_now}}
+use Rattle.sharc_code.specs.{declared.code.Code.Code, declared.shape.Shape.Shape, declared.state.TurnState.TurnState}
+use Rattle.sharc_code.specs.{declared.state.TurnState.TheVariants.{Runs, Tries, Stopped, Ended}, Runs.{Turn, state_now}}
 use Rattle.sharc_code.specs.Whole.{one_thread, place_after}
 use Rattle.sharc_seq.specs.Run.{enabled}
 
@@ -37,7 +37,7 @@ abbrev pub arranged : List Turn → List Turn
 arranged turns = all_loose THREADS turns ++ firm turns
 
 -- ---- failed tries
-abbrev pub is_try : State → Bool
+abbrev pub is_try : TurnState → Bool
 is_try Runs = false
 is_try Tries = true
 is_try Stopped = false

@@ -18,7 +18,7 @@ ghost use Rattle.sharc_schedule.specs.Schedule.{place_in, schedule_of};
 
 use crate::counting::count;
 use sharc_code::{Code, Shape, fits_law, run_laws, thread_laws};
-use sharc_cpu::Plan;
+use sharc_cpu::RowPlan;
 use sharc_recorded::Places;
 use sharc_seq::{Quiet, Walk};
 use sharc_threads::table_laws;
@@ -92,7 +92,7 @@ impl Going {
     fn hurry(
         &mut self,
         code: &Code,
-        plan: &Plan,
+        plan: &RowPlan,
         quiet: &Quiet,
         shape: &Shape,
         limit: u64,
@@ -126,7 +126,7 @@ impl Going {
     fn hurry_on(
         &mut self,
         code: &Code,
-        plan: &Plan,
+        plan: &RowPlan,
         quiet: &Quiet,
         shape: &Shape,
         limit: u64,
@@ -168,7 +168,7 @@ impl Going {
         &mut self,
         alloc: Global,
         code: &Code,
-        plan: &Plan,
+        plan: &RowPlan,
         quiet: &Quiet,
         shape: &Shape,
         limit: u64,
@@ -216,7 +216,7 @@ impl Going {
 pub fn make_places(
     alloc: Global,
     code: &Code,
-    plan: &Plan,
+    plan: &RowPlan,
     shape: &Shape,
     journal: &[WordEvent],
     limit: u64,

@@ -1,7 +1,7 @@
 -- A run grows by the turn that was made.
 use Rattle.std.proofs.{Common.{◌≡◌, ℕ, suc, ◌+◌, ◌-◌, ◌<◌, ◌≤◌, Bool, true, List, [], ◌∷◌, ◌++◌, length, get_or, set, filter, Option, Some, None, refl, sym, ap, ◌∙◌, subst, arith, ⊎_elim}, lemmas.Bool.cases_eq, lemmas.List.{get_or-set_same, get_or-set_other, length-set, length-reverse, reverse-append}, lemmas.List.Sums.sum_by-set}
 use Rattle.std.specs.{Prelude.{nat_lt, ◌||◌, is_some, reverse}, List.range_with_len}
-use Rattle.sharc_word.specs.{Place.{Place, LeadsInWords, place_of_words}, declared.step.TheConstants.THREADS}
+use Rattle.sharc_word.specs.{Place.{PortState, LeadsInWords, place_of_words}, declared.step.TheConstants.THREADS}
 use Rattle.sharc_code.specs.{declared.code.Code.Code, declared.shape.Shape.Shape, Machine.{Machine, Turn as Act, Local, Asks}, Path.{turn, after, asked_by, TurnLeads, may_go, counted}, Runs.{Turn, turn_with, result_of, step_of, IsOf, put, words_now, state_now, made_now, after_turn, Answered, MayTurn, is_started, threads_of}, Stages.begins_of, StandingLaws.StandingLaws, ThreadLaws.found_now, Whole.{one_thread, bounds, place_after, event_in}}
 use Rattle.sharc_cpu.specs.Thread.{ThreadView}
 use Rattle.sharc_threads.specs.{Ends.{Standing, is_enabled}, Laws.TableLaws, Seats.{Sits, IsSeat, AreSeats, AreOf, may_turn_at, left, left_to}}
@@ -42,8 +42,8 @@ answered t (Local m) found words now h = tt
 answered t (Asks step go) found words now h = h.may_follow
 
 words_are : (t : ℕ) (a : Act) (found : ℕ) (words now : List ℕ) → TurnLeads LeadsInWords t a found (place_of_words words) (place_of_words now) → words_now words (event_in t a found) ≡ now
-words_are t (Local m) found words now h = ap (λ (p : Place). p.words) h
-words_are t (Asks step go) found words now h = sym (ap (λ (p : Place). p.words) h.to_is)
+words_are t (Local m) found words now h = ap (λ (p : PortState). p.words) h
+words_are t (Asks step go) found words now h = sym (ap (λ (p : PortState). p.words) h.to_is)
 
 -- ---- the turn of a seat that is enabled, as one of the run
 module _ (code : Code) (s : Shape) (g : Standing) (t : ℕ) (old new : ThreadView) (now : List ℕ)

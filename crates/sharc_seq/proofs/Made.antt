@@ -1,12 +1,12 @@
 -- One turn of an enabled thread is an event.
 use Rattle.std.proofs.Common.{◌≡◌, ℕ, suc, ◌+◌, true, false, List, [], ◌∷◌, length, refl, sym, ap, ◌∙◌, subst, arith}
-use Rattle.sharc_word.specs.Place.{Place, Leads, LeadsInWords, place_of_words}
-use Rattle.sharc_code.specs.{declared.code.Code.Code, declared.shape.Shape.Shape, declared.state.State.State, declared.state.State.TheVariants.{Runs, Tries}, Machine.{Machine, Turn, Local, Asks}, Path.{turn, after, events_of_turn, TurnLeads, may_go, counted, machine_after, events_of_path}, ThreadLaws.{ThreadLaws, found_now, behind}, Waits.waits_now}
-use Rattle.sharc_code.specs.declared.state.State.TheVariants as states
+use Rattle.sharc_word.specs.Place.{PortState, Leads, LeadsInWords, place_of_words}
+use Rattle.sharc_code.specs.{declared.code.Code.Code, declared.shape.Shape.Shape, declared.state.TurnState.TurnState, declared.state.TurnState.TheVariants.{Runs, Tries}, Machine.{Machine, Turn, Local, Asks}, Path.{turn, after, events_of_turn, TurnLeads, may_go, counted, machine_after, events_of_path}, ThreadLaws.{ThreadLaws, found_now, behind}, Waits.waits_now}
+use Rattle.sharc_code.specs.declared.state.TurnState.TheVariants as states
 use Rattle.sharc_cpu.specs.{Thread.ThreadView, Quantum.GoesWhere}
 
 -- ---- one turn
-turn_led : (t : ℕ) (a : Turn) (found : ℕ) (from until : Place) → Leads LeadsInWords from (events_of_turn t a found) until → TurnLeads LeadsInWords t a found from until
+turn_led : (t : ℕ) (a : Turn) (found : ℕ) (from until : PortState) → Leads LeadsInWords from (events_of_turn t a found) until → TurnLeads LeadsInWords t a found from until
 turn_led t (Local m) found from until h = h
 turn_led t (Asks step go) found from until h = subst (λ place. TurnLeads LeadsInWords t (Asks step go) found from place) h.2 h.1
 
@@ -15,7 +15,7 @@ as_behind : (t : ℕ) (a : Turn) (found : ℕ) (words now : List ℕ) → TurnLe
 as_behind t (Local m) found words now h = refl
 as_behind t (Asks step go) found words now h = ap go h.may_follow.result_is
 
-no_try : (state : State) → (state ≡ Tries → ⊥) → counted state ≡ 1
+no_try : (state : TurnState) → (state ≡ Tries → ⊥) → counted state ≡ 1
 no_try states.Ended ne = refl
 no_try states.Stopped ne = refl
 no_try states.Runs ne = refl

@@ -1,12 +1,12 @@
 -- One turn over a port that reports whether it made a step, and what that found.
 use Rattle.std.proofs.Common.{◌≡◌, ℕ, suc, Bool, true, false, List, [], ◌∷◌, length, refl, sym, ap, ◌∙◌, subst, arith}
-use Rattle.sharc_word.specs.{declared.step.WordEvent.WordEvent, Place.{Place, Leads, LeadsInWords, place_of_words}}
+use Rattle.sharc_word.specs.{declared.step.WordEvent.WordEvent, Place.{PortState, Leads, LeadsInWords, place_of_words}}
 use Rattle.sharc_code.specs.{declared.code.Code.Code, declared.shape.Shape.Shape, Machine.{Machine, Turn, Local, Asks}, Path.{turn, asked_by, counted, events_of_turn, events_of_path}, ThreadLaws.found_now}
 use Rattle.sharc_cpu.specs.Quantum.{GoesWhere}
 use Rattle.sharc_seq.specs.{Told.{as_number, place_told, told_in, found_in, words_in, LeadsTold}, Walk.has_step}
 
-leads_words : (events : List WordEvent) (from to : Place) → Leads LeadsTold from events to → Leads LeadsInWords (place_of_words (words_in from.words)) events (place_of_words (words_in to.words))
-leads_words [] from to h = ap (λ (p : Place). place_of_words (words_in p.words)) h
+leads_words : (events : List WordEvent) (from to : PortState) → Leads LeadsTold from events to → Leads LeadsInWords (place_of_words (words_in from.words)) events (place_of_words (words_in to.words))
+leads_words [] from to h = ap (λ (p : PortState). place_of_words (words_in p.words)) h
 leads_words (event ∷ events) from to h = (place_of_words (words_in h.0.words), h.1.leads, leads_words events h.0 to h.2)
 
 number_is : (b c : Bool) → as_number b ≡ as_number c → b ≡ c
@@ -16,13 +16,13 @@ number_is true false e = absurd (omega (arith, e))
 number_is false true e = absurd (omega (arith, e))
 
 turn_told : (t : ℕ) (a : Turn) (result : ℕ) (told : Bool) (found : ℕ) (words now : List ℕ) → Leads LeadsTold (place_told false 0 words) (events_of_turn t a result) (place_told told found now) → told ≡ has_step (asked_by a)
-turn_told t (Local m) result told found words now h = number_is told false (sym (ap (λ (p : Place). told_in p.words) h))
-turn_told t (Asks step go) result told found words now h = number_is told true (sym (ap (λ (p : Place). told_in p.words) h.2) ∙ h.1.told)
+turn_told t (Local m) result told found words now h = number_is told false (sym (ap (λ (p : PortState). told_in p.words) h))
+turn_told t (Asks step go) result told found words now h = number_is told true (sym (ap (λ (p : PortState). told_in p.words) h.2) ∙ h.1.told)
 
 -- it found what the word held
 turn_found : (t : ℕ) (a : Turn) (result : ℕ) (told : Bool) (found : ℕ) (words now : List ℕ) → Leads LeadsTold (place_told false 0 words) (events_of_turn t a result) (place_told told found now) → found ≡ found_now words a
-turn_found t (Local m) result told found words now h = sym (ap (λ (p : Place). found_in p.words) h)
-turn_found t (Asks step go) result told found words now h = sym (ap (λ (p : Place). found_in p.words) h.2) ∙ h.1.found ∙ h.1.leads.may_follow.result_is
+turn_found t (Local m) result told found words now h = sym (ap (λ (p : PortState). found_in p.words) h)
+turn_found t (Asks step go) result told found words now h = sym (ap (λ (p : PortState). found_in p.words) h.2) ∙ h.1.found ∙ h.1.leads.may_follow.result_is
 
 module _ (code : Code) (s : Shape) (words now : List ℕ) (told : Bool) (found : ℕ) (old new : Machine)
     (q : GoesWhere (Unit {0}) LeadsTold code s old new (place_told false 0 words) (place_told told found now) 1 (counted new.at.state)) where

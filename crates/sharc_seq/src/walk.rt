@@ -22,7 +22,7 @@ use crate::quiet::Quiet;
 use crate::told::ToldPort;
 use crate::turn::{quiet_turns_at, turn_at};
 use sharc_code::{Code, Shape, fits_law, opening, standing_laws, thread_laws};
-use sharc_cpu::{Plan, Thread};
+use sharc_cpu::{RowPlan, Thread};
 use sharc_threads::{ThreadTable, may_turn_at, table_laws};
 use sharc_word::{MemPort, THREADS};
 use std::alloc::{AllocError, Global};
@@ -232,7 +232,7 @@ impl Walk {
     pub fn quiet_turns(
         &mut self,
         code: &Code,
-        plan: &Plan,
+        plan: &RowPlan,
         quiet: &Quiet,
         shape: &Shape,
         number: u8,

@@ -7,7 +7,7 @@ use Rattle.sharc_code.specs.{declared.code.Code.Code, declared.shape.Shape.Shape
 use Rattle.sharc_cpu.specs.Thread.{ThreadView}
 use Rattle.sharc_threads.specs.Ends.{IsAt, AreStarted}
 use Rattle.sharc_history_laws.specs.Causes.{noted_site, Stood, IsNamed, OfWrite, OfRead, OfStop, OfFirst, HasNamed}
-use Rattle.sharc_run_text.specs.{declared.other.Access.Access, Others.{number_of, noted, is_same_place, refused_by, refused, check_by, or_refused, or_read, or_later, access_of, access_of_any, has_number, wrote_before, is_first_write, was_refused_first, refused_access, or_first_refused, against, other_access}}
+use Rattle.sharc_run_text.specs.{declared.other.NotedCheck.NotedCheck, Others.{number_of, noted, is_same_place, refused_by, refused, check_by, or_refused, or_read, or_later, access_of, access_of_any, has_number, wrote_before, is_first_write, was_refused_first, refused_access, or_first_refused, against, other_access}}
 use Rattle.sharc_lemmas.proofs.{Bools.yes, Options.some_or}
 
 -- ---- lists
@@ -193,7 +193,7 @@ module _ (code : Code) (s : Shape) (g : Global Machine) (threads : List ThreadVi
   noted_is v at kind = ap (λ (m : Machine). site_at (note_of m.own.table c.granule kind) c.epoch) at.machine
 
   abbrev Picks : Type 0
-  Picks = (a : Access) × (other_access c threads t ≡ Some a) × IsNamed g t c a.thread a.kind a.site
+  Picks = (a : NotedCheck) × (other_access c threads t ≡ Some a) × IsNamed g t c a.thread a.kind a.site
 
   -- ---- of a refused write
   of_view : (v : ThreadView) → IsAt code s g v → (kind : Kind) (site : ℕ) → c.kind ≡ Write → IsNamed g t c (number_of v) kind site → access_of c v ≡ Some (record { kind = kind; site = site; thread = number_of v })
@@ -295,9 +295,9 @@ module _ (code : Code) (s : Shape) (g : Global Machine) (threads : List ThreadVi
           let is : refused c y.0 ≡ Some d = refused_now c d y.0.machine.own.stop (ap (λ (m : Machine). m.own.stop) y.1.0.machine ∙ ap (λ u. (g.threads u).own.stop) y.2 ∙ at.is) at.granule at.epoch in
           yes (sym (first_yes y.0 d is dk old) ∙ y.1.1)
 
-  pub picked : (a : Access) × (other_access c threads t ≡ Some a) × IsNamed g t c a.thread a.kind a.site
+  pub picked : (a : NotedCheck) × (other_access c threads t ≡ Some a) × IsNamed g t c a.thread a.kind a.site
   picked = by c.kind refl
     where
-      by : (kind : Kind) → c.kind ≡ kind → (a : Access) × (other_access c threads t ≡ Some a) × IsNamed g t c a.thread a.kind a.site
+      by : (kind : Kind) → c.kind ≡ kind → (a : NotedCheck) × (other_access c threads t ≡ Some a) × IsNamed g t c a.thread a.kind a.site
       by Write e = at_write e
       by Read e = at_read e

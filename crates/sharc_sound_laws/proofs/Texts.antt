@@ -4,7 +4,7 @@ use Rattle.sharc_tree.specs.Traps.{trap_number}
 use Rattle.sharc_shadow.specs.declared.shadow_word.Kind.{Kind}
 use Rattle.sharc_code.specs.{declared.code.Code.Code, declared.code.Use.Use, declared.state.Stop.Stop, declared.state.Stop.TheVariants.{Conflict, NoLock, NotSole, Trap}, declared.state.Wait.Wait, declared.state.Wait.TheVariants.{Mutex, Join, Cond}, Says.place_at, Waits.is_held_up}
 use Rattle.sharc_cpu.specs.Thread.{ThreadView}
-use Rattle.sharc_run_text.specs.{declared.other.Access.Access, Others.{number_of, other_access}, Places.{lock_path, at_site, lvalue_at}, RunText.{of_kind, access_text, code_of, other_text, of_use, of_taking, trap_words, stop_text, wait_text, made_text, unstopped_text, why_text, is_gone, thread_line, print_line, IsRunText}}
+use Rattle.sharc_run_text.specs.{declared.other.NotedCheck.NotedCheck, Others.{number_of, other_access}, Places.{lock_path, at_site, lvalue_at}, RunText.{of_kind, access_text, code_of, other_text, of_use, of_taking, trap_words, stop_text, wait_text, made_text, unstopped_text, why_text, is_gone, thread_line, print_line, IsRunText}}
 use Rattle.sharc_sound_laws.specs.Alike.{AreAlike}
 use Rattle.sharc_sound_laws.proofs.Lists.{ap2}
 use Rattle.sharc_lemmas.proofs.Lists.{flat_same}
@@ -21,7 +21,7 @@ module _ (a b : Code) (alike : AreAlike a b) where
   access_same : (kind : Kind) (site : ℕ) → access_text a kind site ≡ access_text b kind site
   access_same kind site = ap (λ x. of_kind kind ++ x) (lvalue_same site)
 
-  other_same : (other : Option Access) → other_text a other ≡ other_text b other
+  other_same : (other : Option NotedCheck) → other_text a other ≡ other_text b other
   other_same None = refl
   other_same (Some x) = ap (λ t. codes " conflicts with " ++ t ++ codes " by thread " ++ decimal x.thread) (access_same x.kind x.site)
 

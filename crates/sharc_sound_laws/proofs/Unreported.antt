@@ -6,7 +6,7 @@ use Rattle.sharc_tree.specs.declared.event.CellMode.TheVariants as modes
 use Rattle.sharc_tree.specs.declared.event.Taken.TheVariants as taken
 use Rattle.sharc_mode.specs.Moded.{Assignment}
 use Rattle.sharc_meaning.specs.{Events.{Access, access_by, events_of, holds_mutex}, Laws.{AskLaws, RunLaws}, Meaning.Asked, Obeys.{AlwaysObeys, History, Obeys, until_gone}, Runs.SourceRun, State.{Outcome, wants, ended, stopped}}
-use Rattle.sharc_code.specs.{declared.code.Code.Code, declared.code.PlaceMode.PlaceMode, declared.code.PlaceMode.TheVariants.Dynamic, declared.instr.Cell.Cell, declared.instr.Instr.Instr, declared.instr.Instr.TheVariants.{Start, ChkRead, ChkWrite, ChkLock, ChkLockLoaded, Load, Store, LoadRef, Exchange, TakeCell}, declared.shape.Shape.Shape, declared.state.State.State, declared.state.State.TheVariants.{Runs, Tries, Stopped, Ended}, declared.state.Stop.TheVariants.NoLock, Machine.{Machine, instr_at}, Path.may_go, Runs.Turn, Says.{cell_at, mode_of, place_at}, Whole.place_after}
+use Rattle.sharc_code.specs.{declared.code.Code.Code, declared.code.PlaceMode.PlaceMode, declared.code.PlaceMode.TheVariants.Dynamic, declared.instr.Cell.Cell, declared.instr.Instr.Instr, declared.instr.Instr.TheVariants.{Start, ChkRead, ChkWrite, ChkLock, ChkLockLoaded, Load, Store, LoadRef, Exchange, TakeCell}, declared.shape.Shape.Shape, declared.state.TurnState.TurnState, declared.state.TurnState.TheVariants.{Runs, Tries, Stopped, Ended}, declared.state.Stop.TheVariants.NoLock, Machine.{Machine, instr_at}, Path.may_go, Runs.Turn, Says.{cell_at, mode_of, place_at}, Whole.place_after}
 use Rattle.sharc_guard.specs.Counted.{IsUnder}
 use Rattle.sharc_history_laws.specs.{Causes.{BreaksRules, GoesOn, WasMade, IsNextOf}, Conflicts.site_of_check, Followed.{Accesses, ChecksAreFollowed, IsFollowed, access_of, access_to}, History.history_of, Reports.{IsLockCheck, LacksLock}}
 use Rattle.sharc_wants_laws.specs.Wants.{IsNotThere, WantsAccess, WantsBy, StopsOrWantsUnder, access_tested}
@@ -161,7 +161,7 @@ module _ (ask : AskLaws) (laws : RunLaws) (m : Assignment) (always : AlwaysObeys
         (λ (p : IsPlaced m code H t here). by_state p here.at.state refl)
         placed
       where
-        by_state : IsPlaced m code H t ((place_after code s run).threads t) → (st : State) → ((place_after code s run).threads t).at.state ≡ st → ⊥
+        by_state : IsPlaced m code H t ((place_after code s run).threads t) → (st : TurnState) → ((place_after code s run).threads t).at.state ≡ st → ⊥
         by_state p Runs is = let z : true ≡ false = ap may_go (sym is) ∙ halts in cc
         by_state p Tries is = let z : true ≡ false = ap may_go (sym is) ∙ halts in cc
         by_state p Stopped is = refused p is

@@ -1,6 +1,6 @@
 -- The reports of the runs of the code that is built of a source.
 use Rattle.std.specs.Prelude.{◌≡◌, ℕ, List, Some}
-use Rattle.sharc_code.specs.{declared.shape.Shape.Shape, declared.state.State.TheVariants.Stopped}
+use Rattle.sharc_code.specs.{declared.shape.Shape.Shape, declared.state.TurnState.TheVariants.Stopped}
 use Rattle.sharc_code.specs.{declared.state.Stop.Stop, declared.state.Stop.TheVariants.NotSole, Layout.Fits, Runs.Turn}
 use Rattle.sharc_code.specs.Whole.{CheckedRun, place_after}
 use Rattle.sharc_compile.specs.Refused.{IsReport}

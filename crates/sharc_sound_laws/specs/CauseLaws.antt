@@ -7,12 +7,12 @@ use Rattle.sharc_cpu.specs.Thread.{ThreadView}
 use Rattle.sharc_threads.specs.Ends.{AreStarted}
 use Rattle.sharc_invariant.specs.{Types.Targets, Labels.Labels, Typed.IsWellTyped, State.IsSmall}
 use Rattle.sharc_history_laws.specs.{Causes.ShowsCause, Followed.ChecksAreFollowed}
-use Rattle.sharc_run_text.specs.{declared.other.Access.Access, Others.other_access}
+use Rattle.sharc_run_text.specs.{declared.other.NotedCheck.NotedCheck, Others.other_access}
 
 -- the report names another access, and that one is the cause
 pub record NamesCause (code : Code) (s : Shape) (run : List Turn) (threads : List ThreadView) (t : ℕ)
     (c : ConflictAt) : Type 0 where
-  pub other : Access
+  pub other : NotedCheck
   pub is : other_access c threads t ≡ Some other
   pub cause : ShowsCause code s run t c other.thread other.kind other.site
 

@@ -3,7 +3,7 @@ use Rattle.std.specs.Prelude.{◌≢◌, ℕ, List, [], ◌∷◌, ◌++◌}
 use Rattle.sharc_tree.specs.declared.event.SourceEvent.{SourceEvent}
 use Rattle.sharc_mode.specs.Moded.{Assignment}
 use Rattle.sharc_code.specs.{declared.code.Code.Code, declared.shape.Shape.Shape}
-use Rattle.sharc_code.specs.{declared.state.State.TheVariants.Stopped, Layout.Fits, Runs.Turn}
+use Rattle.sharc_code.specs.{declared.state.TurnState.TheVariants.Stopped, Layout.Fits, Runs.Turn}
 use Rattle.sharc_code.specs.Whole.{CheckedRun, Stuck, place_after}
 use Rattle.sharc_flat_form.specs.{declared.flat.Flat.{Flat as FlatCode}, Made.flat_of}
 use Rattle.sharc_flat.specs.{Laws.FitsMade, Flattens.Flattens}

@@ -4,7 +4,7 @@ use Rattle.sharc_tree.specs.declared.event.Act.{Act}
 use Rattle.sharc_shadow.specs.declared.shadow_word.Kind.{Kind}
 use Rattle.sharc_mode.specs.Moded.{Assignment}
 use Rattle.sharc_code.specs.{declared.code.Code.Code, declared.shape.Shape.Shape}
-use Rattle.sharc_code.specs.{declared.state.State.TheVariants.Stopped, declared.state.Stop.Stop}
+use Rattle.sharc_code.specs.{declared.state.TurnState.TheVariants.Stopped, declared.state.Stop.Stop}
 use Rattle.sharc_code.specs.{declared.state.Stop.TheVariants.{Conflict, NoLock, NotSole, Trap}, Layout.Fits, Runs.Turn}
 use Rattle.sharc_code.specs.{Says.place_at, Whole.{CheckedRun, place_after}}
 use Rattle.sharc_flat_form.specs.{declared.flat.Flat.{Flat as FlatCode}, Made.flat_of}

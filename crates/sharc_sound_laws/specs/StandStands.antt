@@ -74,7 +74,7 @@ pub record LockStands (code : Code) (s : Shape) (run : List Turn) (t site : ℕ)
 
 -- ---- all of it
 -- of one checked run, whose turns have the last one first
-pub record Stands (m : Assignment) (x : Targets) (code : Code) (s : Shape) (ls : Labels)
+pub record RunStands (m : Assignment) (x : Targets) (code : Code) (s : Shape) (ls : Labels)
     (run : List Turn) : Type 0 where
   pub threads : (thread : ℕ) → ThreadStands m code s run thread
   -- at its end and at each place before
@@ -97,4 +97,4 @@ abbrev pub TypedRunsStand : Type 0
 TypedRunsStand = (m : Assignment) → IsTypedProgram m → (flat : FlatCode) → Flattens m flat → FitsMade (flat_of flat)
     → (code : Code) → IsCodeOf flat code
     → (x : Targets) (ls : Labels) → IsWellTyped x code ls → (s : Shape) → Fits code s → IsSmall code s
-    → (run : List Turn) → CheckedRun code s run → Stands m x code s ls run
+    → (run : List Turn) → CheckedRun code s run → RunStands m x code s ls run

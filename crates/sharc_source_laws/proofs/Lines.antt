@@ -1,7 +1,7 @@
 -- A source that holds a line of a schedule, or the first of events, has two `%` in a row among its tokens, and so is no program.
 use Rattle.std.proofs.Common.{◌≡◌, ℕ, ◌+◌, ◌==◌, Bool, true, false, List, [], ◌∷◌, ◌++◌, drop, Option, Some, None, Result, Ok, Err, ok_or, is_ok, codes, refl, sym, ap, ◌∙◌, subst, if◌then◌else◌}
 use Rattle.sharc_tree.specs.{declared.token.FaultAt.FaultAt, declared.token.Token.Token, declared.token.Tokens.Tokens}
-use Rattle.sharc_lex.specs.{declared.fault.Fault.Fault, declared.fault.LineFault.LineFault, declared.fault.Place.Place, Grammar.{◌>>=◌, in_front, lines_of, token, tokens_of, behind_tokens, Read, opening, marked, with_tokens, marker_line, text_line, line_read, with_place, lines_read, tokens_read, reading}, Markers.is_marker_line}
+use Rattle.sharc_lex.specs.{declared.fault.TokenFault.TokenFault, declared.fault.LineFault.LineFault, declared.fault.SourceLine.SourceLine, Grammar.{◌>>=◌, in_front, lines_of, token, tokens_of, behind_tokens, Read, opening, marked, with_tokens, marker_line, text_line, line_read, with_place, lines_read, tokens_read, reading}, Markers.is_marker_line}
 use Rattle.sharc_tree.specs.declared.token.TokenKind.TheVariants as kind
 use Rattle.sharc_tree.specs.declared.token.Punctuator.TheVariants as sign
 use Rattle.sharc_grammar.specs.{Grammar.mark, Places.{word_of, words_of}}
@@ -52,11 +52,11 @@ module _ (read : Read) where
   placed_keeps (Ok more) h = h
   placed_keeps (Err e) h = tt
 
-  joined_keeps : (more : Read) (q : Result Read (FaultAt Fault)) → (Fine more.tokens → Fine read.tokens) → Keeps more q → Keeps read q
+  joined_keeps : (more : Read) (q : Result Read (FaultAt TokenFault)) → (Fine more.tokens → Fine read.tokens) → Keeps more q → Keeps read q
   joined_keeps more (Ok last) h k = λ f. h (k f)
   joined_keeps more (Err e) h k = tt
 
-  then_keeps : (r : Result Read (FaultAt Fault)) (f : Read → Result Read (FaultAt Fault)) → Keeps read r → ((more : Read) → Keeps more (f more)) → Keeps read (r >>= f)
+  then_keeps : (r : Result Read (FaultAt TokenFault)) (f : Read → Result Read (FaultAt TokenFault)) → Keeps read r → ((more : Read) → Keeps more (f more)) → Keeps read (r >>= f)
   then_keeps (Ok more) f h k = joined_keeps more (f more) h (k more)
   then_keeps (Err e) f h k = tt
 
@@ -75,7 +75,7 @@ text_refuses : (read : Read) (a b : Token) → word_of a ≡ mark sign.Percent �
 text_refuses read a b p q (Ok tokens) = λ h. two_in_a_row read.tokens tokens a b p q h
 text_refuses read a b p q (Err e) = tt
 
-abbrev percent : Place → ℕ → List ℕ → Token
+abbrev percent : SourceLine → ℕ → List ℕ → Token
 percent place offset bytes = token place offset bytes (record { len = 1; kind = kind.Punctuator sign.Percent })
 
 line_refuses : (read : Read) (offset : ℕ) (tail : List ℕ) → Refuses (line_read read offset (37 ∷ 37 ∷ 115 ∷ tail))
@@ -90,15 +90,15 @@ placed_refuses : (read : Read) (r : Result Read LineFault) → Refuses r → Ref
 placed_refuses read (Ok more) h = h
 placed_refuses read (Err e) h = tt
 
-kept_refuses : (more : Read) (q : Result Read (FaultAt Fault)) → (Fine more.tokens → ⊥) → Keeps more q → Refuses q
+kept_refuses : (more : Read) (q : Result Read (FaultAt TokenFault)) → (Fine more.tokens → ⊥) → Keeps more q → Refuses q
 kept_refuses more (Ok last) h k = λ f. h (k f)
 kept_refuses more (Err e) h k = tt
 
-then_refuses : (r : Result Read (FaultAt Fault)) (f : Read → Result Read (FaultAt Fault)) → Refuses r → ((more : Read) → Keeps more (f more)) → Refuses (r >>= f)
+then_refuses : (r : Result Read (FaultAt TokenFault)) (f : Read → Result Read (FaultAt TokenFault)) → Refuses r → ((more : Read) → Keeps more (f more)) → Refuses (r >>= f)
 then_refuses (Ok more) f h k = kept_refuses more (f more) h (k more)
 then_refuses (Err e) f h k = tt
 
-later_refuses : (r : Result Read (FaultAt Fault)) (f : Read → Result Read (FaultAt Fault)) → ((more : Read) → Refuses (f more)) → Refuses (r >>= f)
+later_refuses : (r : Result Read (FaultAt TokenFault)) (f : Read → Result Read (FaultAt TokenFault)) → ((more : Read) → Refuses (f more)) → Refuses (r >>= f)
 later_refuses (Ok more) f k = k more
 later_refuses (Err e) f k = tt
 
@@ -151,11 +151,11 @@ source_refuses letter refused before rest word =
     subst (λ l. Refuses (lines_read opening 0 l)) (sym (lines.is ∙ ap (λ l. lines.first ∷ (lines.others ++ l)) word.is))
     (lines_refuse (lines.first ∷ lines.others) (37 ∷ 37 ∷ letter ∷ word.tail) word.others (refused word.tail) opening 0)
 
-abbrev list_of : Result Tokens (FaultAt Fault) → List Token
+abbrev list_of : Result Tokens (FaultAt TokenFault) → List Token
 list_of (Ok tokens) = tokens.list
 list_of (Err e) = []
 
-no_tokens : (r : Result Read (FaultAt Fault)) (tokens : Tokens) → Refuses r → (r >>= λ read. Ok (tokens_read read)) ≡ Ok tokens → Fine tokens.list → ⊥
+no_tokens : (r : Result Read (FaultAt TokenFault)) (tokens : Tokens) → Refuses r → (r >>= λ read. Ok (tokens_read read)) ≡ Ok tokens → Fine tokens.list → ⊥
 no_tokens (Ok read) tokens refuses e h = refuses (subst Fine (sym (ap list_of e)) h)
 no_tokens (Err fault) tokens refuses e h = absurd (let no : false ≡ true = ap is_ok e in cc)
 

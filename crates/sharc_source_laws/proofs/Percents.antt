@@ -1,9 +1,9 @@
 -- No two `%` follow one another in the words of a program.
 use Rattle.std.proofs.Common.{◌≡◌, Bool, true, false, ◌&&◌, List, [], ◌∷◌, ◌++◌, Option, Some, None, refl}
-use Rattle.sharc_tree.specs.{declared.token.Punctuator.TheVariants.{OpenParenthesis, CloseParenthesis, OpenBrace, CloseBrace, OpenBracket, CloseBracket, Semicolon, Comma, Assign, Star, Percent}, declared.ctype.Base.Base, declared.tree.expression.Access.Access, declared.tree.expression.BinaryOperator.BinaryOperator, declared.tree.expression.UnaryOperator.UnaryOperator, declared.tree.expression.UnaryOperator.TheVariants.{Negate, Not, Complement, Dereference}, declared.tree.expression.Constant.Constant, declared.tree.statement.Jump.Jump}
+use Rattle.sharc_tree.specs.{declared.token.Punctuator.TheVariants.{OpenParenthesis, CloseParenthesis, OpenBrace, CloseBrace, OpenBracket, CloseBracket, Semicolon, Comma, Assign, Star, Percent}, declared.ctype.Base.Base, declared.tree.expression.FieldOperator.FieldOperator, declared.tree.expression.BinaryOperator.BinaryOperator, declared.tree.expression.UnaryOperator.UnaryOperator, declared.tree.expression.UnaryOperator.TheVariants.{Negate, Not, Complement, Dereference}, declared.tree.expression.Constant.Constant, declared.tree.statement.Jump.Jump}
 use Rattle.sharc_tree.specs.declared.token.Keyword.TheVariants as key
 use Rattle.sharc_tree.specs.declared.ctype.Base.TheVariants as base
-use Rattle.sharc_tree.specs.declared.tree.expression.Access.TheVariants as access
+use Rattle.sharc_tree.specs.declared.tree.expression.FieldOperator.TheVariants as access
 use Rattle.sharc_tree.specs.declared.tree.expression.BinaryOperator.TheVariants as op
 use Rattle.sharc_tree.specs.declared.tree.expression.Constant.TheVariants as constants
 use Rattle.sharc_tree.specs.declared.tree.expression.PlaceCall.TheVariants as place_call
@@ -83,7 +83,7 @@ constant_clear (constants.Number n) y h = (refl, (refl, h))
 constant_clear (constants.Character n) y h = (refl, (refl, h))
 constant_clear constants.Null y h = (refl, (refl, h))
 
-access_apart : (w : Access) (y : List Word) → Apart y → Apart (mark (access_mark w) ∷ y)
+access_apart : (w : FieldOperator) (y : List Word) → Apart y → Apart (mark (access_mark w) ∷ y)
 access_apart access.Dot y h = (refl, h)
 access_apart access.Arrow y h = (refl, h)
 

@@ -5,8 +5,8 @@ use Rattle.sharc_ctype.specs.Resolved.{globals_in, functions_in}
 use Rattle.sharc_tree.specs.{declared.token.FaultAt.FaultAt, declared.token.NumberType.TheVariants.{Int, Long}, declared.token.Token.Token, declared.token.Tokens.Tokens, declared.token.TokenKind.TokenKind}
 use Rattle.sharc_tree.specs.declared.tree.expression.Constant.TheVariants as constants
 use Rattle.sharc_tree.specs.declared.token.TokenKind.TheVariants as kind
-use Rattle.sharc_lex.specs.{declared.fault.Fault.Fault, declared.fault.LineFault.LineFault, declared.fault.Place.Place, declared.token_at.Lexeme.Lexeme, Bytes.{is_blank, is_printable, is_letter, is_digit, is_white_space, is_word_byte}, Characters.{character, constant, escaped, behind_backslash, plain}, Grammar.{◌>>=◌, at_offset, lines_of, token, tokens_of, behind_tokens, Read, opening, marked, with_tokens, marker_line, text_line, line_read, with_place, lines_read, tokens_read, reading}, Markers.{is_marker_line, marker}, Numbers.{value, without_suffix, has_suffix, typed, small_value}, Punctuators.{first_begun, punctuators, punctuator}, TokenAt.{of_len, word_at, number_at, token_at}, Words.{entry_at, keywords, word}}
-use Rattle.sharc_lex.specs.declared.fault.Fault.TheVariants as fault
+use Rattle.sharc_lex.specs.{declared.fault.TokenFault.TokenFault, declared.fault.LineFault.LineFault, declared.fault.SourceLine.SourceLine, declared.token_at.Lexeme.Lexeme, Bytes.{is_blank, is_printable, is_letter, is_digit, is_white_space, is_word_byte}, Characters.{character, constant, escaped, behind_backslash, plain}, Grammar.{◌>>=◌, at_offset, lines_of, token, tokens_of, behind_tokens, Read, opening, marked, with_tokens, marker_line, text_line, line_read, with_place, lines_read, tokens_read, reading}, Markers.{is_marker_line, marker}, Numbers.{value, without_suffix, has_suffix, typed, small_value}, Punctuators.{first_begun, punctuators, punctuator}, TokenAt.{of_len, word_at, number_at, token_at}, Words.{entry_at, keywords, word}}
+use Rattle.sharc_lex.specs.declared.fault.TokenFault.TheVariants as fault
 use Rattle.sharc_grammar.specs.Places.{kind_word, words_of, site_in}
 use Rattle.sharc_source_laws.specs.{Constants.{IsHeld, ConstantsAreHeld}, Laws.NumbersHaveNoSign}
 use Rattle.sharc_source_laws.proofs.{Held.functions_held, Behind.{IsPlainWord, Plainly, globals_begin, begins_unsigned}}
@@ -35,7 +35,7 @@ entry_plain (e ∷ es) text h = either (bytes_eq text e.0) (entry_plain es text 
     either true rest = h.0
     either false rest = rest
 
-begun_plain : (table : List (List ℕ × TokenKind)) (bytes : List ℕ) (e : Fault) → AllPlain table → WhereFound (ok_or (first_begun table bytes) e)
+begun_plain : (table : List (List ℕ × TokenKind)) (bytes : List ℕ) (e : TokenFault) → AllPlain table → WhereFound (ok_or (first_begun table bytes) e)
 begun_plain [] bytes e h = tt
 begun_plain (x ∷ xs) bytes e h = either (starts_with nat_eq bytes x.0) (begun_plain xs bytes e h.1)
   where
@@ -96,7 +96,7 @@ typed_held text v small = by (has_suffix text || nat_lt 2147483647 v) refl
     by true e = λ integer. small
     by false e = λ integer. below (has_suffix text) e
 
-number_plain : (len : ℕ) (text : List ℕ) (e : Fault) (o : Option ℕ) → WhereFound (of_len len (ok_or (option_map kind.Number (option_map (typed text) (small_value o))) e))
+number_plain : (len : ℕ) (text : List ℕ) (e : TokenFault) (o : Option ℕ) → WhereFound (of_len len (ok_or (option_map kind.Number (option_map (typed text) (small_value o))) e))
 number_plain len text e None = tt
 number_plain len text e (Some v) = either (nat_lt v (2 ^ 63)) refl
   where
@@ -115,7 +115,7 @@ abbrev IsLow : Option ℕ → Type 0
 IsLow None = Unit {0}
 IsLow (Some b) = b < 128
 
-made_plain : (n : ℕ) (e : Fault) (o : Option ℕ) → IsLow o → WhereFound (ok_or (option_map (constant n) o) e)
+made_plain : (n : ℕ) (e : TokenFault) (o : Option ℕ) → IsLow o → WhereFound (ok_or (option_map (constant n) o) e)
 made_plain n e None h = tt
 made_plain n e (Some b) h = λ text. low_held b h
 
@@ -153,7 +153,7 @@ plain_low (b ∷ (quote ∷ bytes)) = by (is_printable b && not (b == 39) && (qu
     by true e = low (printable (is_printable b) (not (b == 39)) (quote == 39) e)
     by false e = tt
 
-character_plain : (bytes : List ℕ) (e : Fault) → WhereFound (ok_or (character bytes) e)
+character_plain : (bytes : List ℕ) (e : TokenFault) → WhereFound (ok_or (character bytes) e)
 character_plain [] e = tt
 character_plain (b ∷ bytes) e = either (b == 92)
   where
@@ -181,7 +181,7 @@ abbrev WhereRead : {E : Type 0} → Result (List Token) E → Type 0
 WhereRead (Ok tokens) = Plainly (words_of tokens)
 WhereRead (Err e) = Unit {0}
 
-tokens_plain : (place : Place) (taken offset : ℕ) (bytes : List ℕ) → WhereRead (tokens_of place taken offset bytes)
+tokens_plain : (place : SourceLine) (taken offset : ℕ) (bytes : List ℕ) → WhereRead (tokens_of place taken offset bytes)
 tokens_plain place taken offset [] = tt
 tokens_plain place (suc taken) offset (b ∷ bytes) = tokens_plain place taken (offset + 1) bytes
 tokens_plain place zero offset (b ∷ bytes) = either (is_white_space b) (λ taken. tokens_plain place taken (offset + 1) bytes)
@@ -190,7 +190,7 @@ tokens_plain place zero offset (b ∷ bytes) = either (is_white_space b) (λ tak
     joined found h (Ok tokens) k = (h _, k)
     joined found h (Err e) k = tt
 
-    begun : (r : Result Lexeme Fault) → WhereFound r → ((taken : ℕ) → WhereRead (tokens_of place taken (offset + 1) bytes))
+    begun : (r : Result Lexeme TokenFault) → WhereFound r → ((taken : ℕ) → WhereRead (tokens_of place taken (offset + 1) bytes))
         → WhereRead (at_offset offset r >>= λ found. (tokens_of place (found.len - 1) (offset + 1) bytes >>= λ tokens. Ok (token place offset (b ∷ bytes) found ∷ tokens)))
     begun (Ok found) h rest = joined found h (tokens_of place (found.len - 1) (offset + 1) bytes) (rest (found.len - 1))
     begun (Err e) h rest = tt
@@ -228,15 +228,15 @@ lines_plain : (lines : List (List ℕ)) (read : Read) → Plainly (words_of read
 lines_plain [] read h offset = h
 lines_plain (line ∷ lines) read h offset = joined (line_read read offset line) _ (line_plain read h offset line) (λ more k. lines_plain lines more k _)
   where
-    joined : (r : Result Read LineFault) (f : Read → Result Read (FaultAt Fault)) → WhereAll r → ((more : Read) → Plainly (words_of more.tokens) → WhereAll (f more)) → WhereAll (with_place read r >>= f)
+    joined : (r : Result Read LineFault) (f : Read → Result Read (FaultAt TokenFault)) → WhereAll r → ((more : Read) → Plainly (words_of more.tokens) → WhereAll (f more)) → WhereAll (with_place read r >>= f)
     joined (Ok more) f h all = all more h
     joined (Err e) f h all = tt
 
-abbrev list_of : Result Tokens (FaultAt Fault) → List Token
+abbrev list_of : Result Tokens (FaultAt TokenFault) → List Token
 list_of (Ok tokens) = tokens.list
 list_of (Err e) = []
 
-listed_plain : (r : Result Read (FaultAt Fault)) → WhereAll r → Plainly (words_of (list_of (r >>= λ read. Ok (tokens_read read))))
+listed_plain : (r : Result Read (FaultAt TokenFault)) → WhereAll r → Plainly (words_of (list_of (r >>= λ read. Ok (tokens_read read))))
 listed_plain (Ok read) h = h
 listed_plain (Err e) h = tt
 

@@ -15,7 +15,7 @@ use sharc_check::rules::expected;
 use sharc_ctype::typed::parameters_named;
 use sharc_mode::error::Cast;
 use sharc_mode::row::Targets;
-use sharc_names::names::Names;
+use sharc_names::names::NamesInScope;
 use sharc_tree::tree::Expr;
 use std::alloc::{AllocError, Global};
 
@@ -25,7 +25,7 @@ use std::alloc::{AllocError, Global};
 pub(crate) fn expression(
     alloc: Global,
     known: Known<'_>,
-    scope: &Names<'_>,
+    scope: &NamesInScope<'_>,
     expr: &Expr,
     casts: &mut Vec<Cast>,
 ) -> Result<(), AllocError>
@@ -70,7 +70,7 @@ pub(crate) fn expression(
 pub(crate) fn value(
     alloc: Global,
     known: Known<'_>,
-    scope: &Names<'_>,
+    scope: &NamesInScope<'_>,
     want: Option<Targets<'_>>,
     expr: &Expr,
     casts: &mut Vec<Cast>,
@@ -90,7 +90,7 @@ pub(crate) fn value(
 fn arguments(
     alloc: Global,
     known: Known<'_>,
-    scope: &Names<'_>,
+    scope: &NamesInScope<'_>,
     function: u32,
     list: &[Expr],
     casts: &mut Vec<Cast>,

@@ -21,8 +21,8 @@ use sharc_mode::sharing::{Sharing, is_readonly};
 use sharc_mode::shown::{root_of_kind, row_laws, same_rows, shown};
 use sharc_mode::text::text_at;
 use sharc_names::fault::Named;
-use sharc_names::meaning::{Bound, named_of};
-use sharc_names::names::Names;
+use sharc_names::meaning::{Binding, named_of};
+use sharc_names::names::NamesInScope;
 use sharc_tree::token::{Keyword, Token, TokenKind};
 use sharc_tree::tree::Expr;
 use std::alloc::{AllocError, Global};
@@ -97,7 +97,7 @@ fn is_call_at(typed: &Typed, token: u32) -> bool
 /// Whether the first name of a path means the same, if anything, where these variables are in scope. What names nothing
 /// that the program defines is determined by its words: a path that begins with it begins with a call of condition
 /// variables.
-fn keeps_first(typed: &Typed, scope: &Names<'_>, token: u32) -> bool
+fn keeps_first(typed: &Typed, scope: &NamesInScope<'_>, token: u32) -> bool
     ensures { result ≡ keeps_first typed.now scope.now token }
 {
     match (typed.named(token), scope.find(text_at(typed, token))) {
@@ -113,7 +113,7 @@ fn keeps_first(typed: &Typed, scope: &Names<'_>, token: u32) -> bool
 }
 
 /// Whether the lock path of a mode names the same thing where these variables are in scope.
-fn keeps(typed: &Typed, scope: &Names<'_>, s: Sharing<'_>) -> bool
+fn keeps(typed: &Typed, scope: &NamesInScope<'_>, s: Sharing<'_>) -> bool
     ensures { result ≡ keeps typed.now scope.now (view_sharing s.entry) }
 {
     match s {
@@ -126,7 +126,7 @@ fn keeps(typed: &Typed, scope: &Names<'_>, s: Sharing<'_>) -> bool
 }
 
 /// Whether all lock paths of a type do.
-fn keeps_all(program: &Moded, scope: &Names<'_>, row: Targets<'_>) -> bool
+fn keeps_all(program: &Moded, scope: &NamesInScope<'_>, row: Targets<'_>) -> bool
     requires { row.first + row.count ≤ position_count program.now.typed }
     ensures { result ≡ keeps_all program.now.typed scope.now (modes_of program.now (view_row row.entry)) }
 {
@@ -159,7 +159,7 @@ fn may_be_cast(known: Known<'_>, expr: &Expr) -> bool
 /// Whether a cast of the expression repairs that its modes are not those that are expected.
 fn is_repairable(
     known: Known<'_>,
-    scope: &Names<'_>,
+    scope: &NamesInScope<'_>,
     expr: &Expr,
     expected: Targets<'_>,
     found: Targets<'_>,
@@ -202,7 +202,7 @@ fn cast_to(
 pub(crate) fn repair(
     alloc: Global,
     known: Known<'_>,
-    scope: &Names<'_>,
+    scope: &NamesInScope<'_>,
     expected: Option<Targets<'_>>,
     expr: &Expr,
     casts: &mut Vec<Cast>,

@@ -16,17 +16,17 @@ ghost use Rattle.sharc_suggest.specs.Repairs.{entry_of, told};
 use crate::expr::{expression, value};
 use crate::repair::Known;
 use sharc_mode::error::Cast;
-use sharc_mode::row::{Reading, Targets, declared_row, row_of};
-use sharc_names::meaning::{Bound, Meaning};
-use sharc_names::names::Names;
+use sharc_mode::row::{PathReading, Targets, declared_row, row_of};
+use sharc_names::meaning::{Binding, Meaning};
+use sharc_names::names::NamesInScope;
 use sharc_tree::tree::{Declaration, Expr, ForFirst, ForHead, Item, Local, Right, Simple, Stmt};
 use std::alloc::{AllocError, Global};
 
 /// Puts a variable in scope.
-fn declare<'a>(scope: &mut Names<'a>, declaration: &'a Declaration) -> Result<(), AllocError>
+fn declare<'a>(scope: &mut NamesInScope<'a>, declaration: &'a Declaration) -> Result<(), AllocError>
     ensures { OnOk result (scope.new ≡ entry_of declaration.now ∷ scope.old) }
 {
-    scope.declare(Bound {
+    scope.declare(Binding {
         name: declaration.name.text.as_slice(),
         block: 0,
         meaning: Meaning::Variable(declaration),
@@ -36,7 +36,7 @@ fn declare<'a>(scope: &mut Names<'a>, declaration: &'a Declaration) -> Result<()
 fn optional(
     alloc: Global,
     known: Known<'_>,
-    scope: &Names<'_>,
+    scope: &NamesInScope<'_>,
     expr: &Option<Expr>,
     casts: &mut Vec<Cast>,
 ) -> Result<(), AllocError>
@@ -53,7 +53,7 @@ fn optional(
 fn right(
     alloc: Global,
     known: Known<'_>,
-    scope: &Names<'_>,
+    scope: &NamesInScope<'_>,
     want: Option<Targets<'_>>,
     right: &Right,
     casts: &mut Vec<Cast>,
@@ -73,7 +73,7 @@ fn right(
 fn simple(
     alloc: Global,
     known: Known<'_>,
-    scope: &Names<'_>,
+    scope: &NamesInScope<'_>,
     simple: &Simple,
     casts: &mut Vec<Cast>,
 ) -> Result<(), AllocError>
@@ -93,7 +93,7 @@ fn simple(
 fn initial(
     alloc: Global,
     known: Known<'_>,
-    scope: &Names<'_>,
+    scope: &NamesInScope<'_>,
     want: Option<Targets<'_>>,
     value: &Option<Right>,
     casts: &mut Vec<Cast>,
@@ -114,7 +114,7 @@ fn initial(
 fn local<'a>(
     alloc: Global,
     known: Known<'_>,
-    scope: &mut Names<'a>,
+    scope: &mut NamesInScope<'a>,
     local: &'a Local,
     casts: &mut Vec<Cast>,
 ) -> Result<(), AllocError>
@@ -123,7 +123,7 @@ fn local<'a>(
         (told known.entry.named.now) (local_givings scope.old (view_local local.now))) }
 {
     let token = local.declaration.name.site.token;
-    let want = declared_row(known.moded.typed(), Reading::Written, token);
+    let want = declared_row(known.moded.typed(), PathReading::Written, token);
     declare(scope, &local.declaration)?;
     initial(alloc, known, scope, Some(want), &local.initial, casts)
 }
@@ -132,7 +132,7 @@ fn local<'a>(
 fn first<'a>(
     alloc: Global,
     known: Known<'_>,
-    scope: &mut Names<'a>,
+    scope: &mut NamesInScope<'a>,
     first: &'a ForFirst,
     casts: &mut Vec<Cast>,
 ) -> Result<(), AllocError>
@@ -150,7 +150,7 @@ fn first<'a>(
 fn step(
     alloc: Global,
     known: Known<'_>,
-    scope: &Names<'_>,
+    scope: &NamesInScope<'_>,
     step: &Option<Simple>,
     casts: &mut Vec<Cast>,
 ) -> Result<(), AllocError>
@@ -168,7 +168,7 @@ fn step(
 fn head<'a>(
     alloc: Global,
     known: Known<'_>,
-    scope: &mut Names<'a>,
+    scope: &mut NamesInScope<'a>,
     head: &'a ForHead,
     casts: &mut Vec<Cast>,
 ) -> Result<(), AllocError>
@@ -185,7 +185,7 @@ fn head<'a>(
 fn returned(
     alloc: Global,
     known: Known<'_>,
-    scope: &Names<'_>,
+    scope: &NamesInScope<'_>,
     function: u32,
     returned: &Option<Box<Expr>>,
     casts: &mut Vec<Cast>,
@@ -197,7 +197,7 @@ fn returned(
     match returned {
         None => Ok(()),
         Some(expr) => {
-            let want = declared_row(known.moded.typed(), Reading::Written, function);
+            let want = declared_row(known.moded.typed(), PathReading::Written, function);
             value(alloc, known, scope, Some(want), expr, casts)
         }
     }
@@ -209,7 +209,7 @@ fn returned(
 fn statement<'a>(
     alloc: Global,
     known: Known<'_>,
-    scope: &mut Names<'a>,
+    scope: &mut NamesInScope<'a>,
     function: u32,
     stmt: &'a Stmt,
     casts: &mut Vec<Cast>,
@@ -263,7 +263,7 @@ fn statement<'a>(
 fn nested<'a>(
     alloc: Global,
     known: Known<'_>,
-    scope: &mut Names<'a>,
+    scope: &mut NamesInScope<'a>,
     function: u32,
     stmt: &'a Stmt,
     casts: &mut Vec<Cast>,
@@ -283,7 +283,7 @@ fn nested<'a>(
 fn statements<'a>(
     alloc: Global,
     known: Known<'_>,
-    scope: &mut Names<'a>,
+    scope: &mut NamesInScope<'a>,
     function: u32,
     all: &'a [Stmt],
     casts: &mut Vec<Cast>,
@@ -299,7 +299,7 @@ fn statements<'a>(
 }
 
 /// The parameters of a function, which are in scope afterwards.
-fn parameters<'a>(scope: &mut Names<'a>, list: &'a [Declaration]) -> Result<(), AllocError>
+fn parameters<'a>(scope: &mut NamesInScope<'a>, list: &'a [Declaration]) -> Result<(), AllocError>
     ensures { OnOk result (scope.new ≡ with_parameters scope.old list.now) }
 {
     for parameter in list {
@@ -321,7 +321,7 @@ fn item(
         Item::Struct(_) => Ok(()),
         Item::Global(_) => Ok(()),
         Item::Function(definition) => {
-            let mut scope = Names::new(alloc);
+            let mut scope = NamesInScope::new(alloc);
             parameters(&mut scope, definition.parameters.as_slice())?;
             let function = definition.name.site.token;
             let all = definition.statements.as_slice();

@@ -6,7 +6,7 @@ use Rattle.sharc_tree.specs.{declared.ctype.Mode.Mode, declared.ctype.Mode.TheVa
 use Rattle.sharc_ctype.specs.{declared.entity.Entity.Entity, declared.entity.Numbered.Numbered, Entities.{entities_in, numbered_from, positions_in, positions_of}, Resolved.{Resolution, named_at}}
 use Rattle.sharc_ctype_laws.specs.WrittenTypes.{IsNamedPath, IsNamedLevel, IsNamedType}
 use Rattle.sharc_infer_laws.specs.Locks.{IsWrittenLock, HasWrittenLocks}
-use Rattle.sharc_mode.specs.{Moded.{Assignment, IsWhole}, Rows.{Reading, written, through, at_call, Targets, read, modes_of}, Sharings.{Sharing, sharing_of, lock_of, is_field, is_sibling_lock, text_at}}
+use Rattle.sharc_mode.specs.{Moded.{Assignment, IsWhole}, Rows.{PathReading, written, through, at_call, Targets, read, modes_of}, Sharings.{Sharing, sharing_of, lock_of, is_field, is_sibling_lock, text_at}}
 use Rattle.sharc_suggest_laws.proofs.{Leads.{IsSoundSharing, Leads, written_sound, through_sound, call_sound}, Siblings.{IsSiblingPath, IsSiblingLevel}, Targets.{IsReadThrough, IsReading, IsOf, IsRow}}
 use Rattle.sharc_lemmas.proofs.Lists.{of_each, head_or_tail, map_length, mapped_each}
 
@@ -22,18 +22,18 @@ sibling_leads r e at through_it (One m token) has is =
     subst (Leads r (named_at r at)) (sym found.0) (through_it.5 m found.1 found.2)
 sibling_leads r e at through_it (Through x token m) has is = absurd (false≢true (and_parts (is_field (named_at r token)) false is).1)
 
-lock_read : (r : Resolution) (e : Entity) → IsNamedType r e.written → (how : Reading) → IsReading r e how → (path : Path) → Contains e.written.ctype.levels (Some (Locked path)) → IsSoundSharing r (read r how (sharing_of (Locked path)))
+lock_read : (r : Resolution) (e : Entity) → IsNamedType r e.written → (how : PathReading) → IsReading r e how → (path : Path) → Contains e.written.ctype.levels (Some (Locked path)) → IsSoundSharing r (read r how (sharing_of (Locked path)))
 lock_read r e names how reading path has = by how reading
   where
     named_path : IsNamedPath r path
     named_path = of_each (IsNamedLevel r) e.written.ctype.levels (Some (Locked path)) names.levels has
 
-    by : (how : Reading) → IsReading r e how → IsSoundSharing r (read r how (sharing_of (Locked path)))
+    by : (how : PathReading) → IsReading r e how → IsSoundSharing r (read r how (sharing_of (Locked path)))
     by written reading = written_sound r path named_path
     by (through at) reading = through_sound r at path named_path reading.0 (sibling_leads r e at reading path has)
     by (at_call ds all) reading = call_sound r ds all path named_path reading
 
-mode_read : (r : Resolution) (e : Entity) → IsNamedType r e.written → (how : Reading) → IsReading r e how → (mode : Mode) → IsWrittenLock e.written.ctype.levels mode → IsSoundSharing r (read r how (sharing_of mode))
+mode_read : (r : Resolution) (e : Entity) → IsNamedType r e.written → (how : PathReading) → IsReading r e how → (mode : Mode) → IsWrittenLock e.written.ctype.levels mode → IsSoundSharing r (read r how (sharing_of mode))
 mode_read r e names how reading Private has = tt
 mode_read r e names how reading Readonly has = tt
 mode_read r e names how reading (Locked path) has = lock_read r e names how reading path has

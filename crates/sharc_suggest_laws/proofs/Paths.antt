@@ -1,7 +1,7 @@
 -- Where a cast is suggested its type has as many stars as the expression, and its lock paths name what is there.
 use Rattle.std.proofs.{Common.{◌≡◌, ℕ, zero, suc, ◌+◌, ◌&&◌, not, Bool, true, false, List, [], ◌∷◌, ◌++◌, cond, length, map, bytes_eq, Option, Some, None, option_map, refl, ap, sym, subst, ◌∙◌, arith}, lemmas.Bool.{false≢true, and_parts}}
 use Rattle.std.specs.List.{AllByRecursion}
-use Rattle.sharc_tree.specs.{declared.ctype.Base.Base, declared.ctype.Mode.Mode, declared.tree.declaration.Declaration.Declaration, declared.tree.expression.Access.TheVariants.{Dot, Arrow}, declared.tree.expression.UnaryOperator.TheVariants.{Negate, Not, Complement, Dereference}, declared.tree.item.GlobalForm.GlobalForm, declared.tree.item.GlobalForm.TheVariants.{Plain, Array, Initial}, Forms.{without_parentheses, is_lvalue}, Low.IsLow, Measures.expressions, Placed.IsPlaced, Tree.{Expression, identifier, constant, parentheses, call, spawn, on_value, on_place, cast, index, field, unary, binary}}
+use Rattle.sharc_tree.specs.{declared.ctype.Base.Base, declared.ctype.Mode.Mode, declared.tree.declaration.Declaration.Declaration, declared.tree.expression.FieldOperator.TheVariants.{Dot, Arrow}, declared.tree.expression.UnaryOperator.TheVariants.{Negate, Not, Complement, Dereference}, declared.tree.item.GlobalForm.GlobalForm, declared.tree.item.GlobalForm.TheVariants.{Plain, Array, Initial}, Forms.{without_parentheses, is_lvalue}, Low.IsLow, Measures.expressions, Placed.IsPlaced, Tree.{Expression, identifier, constant, parentheses, call, spawn, on_value, on_place, cast, index, field, unary, binary}}
 use Rattle.sharc_names.specs.{declared.scope.Scope.Scope, Kinds.{Kind, object, is_null}, Names.{Entry, look_up, global_kind}, Types.modes_notes}
 use Rattle.sharc_ctype.specs.{Items.{file_scope, notes_about}, Resolved.{Resolution, IsResolved, functions_in, variable_kind, kind_at}, Statements.with_names}
 use Rattle.sharc_ctype_laws.specs.Constraints.{HasType, a_variable, a_global, a_function, in_parentheses, element_of_pointer, element_of_array, a_field, a_field_behind, pointed_to}

@@ -3,7 +3,7 @@ use Rattle.std.proofs.{Common.{◌≡◌, ℕ, ◌+◌, ◌==◌, Bool, true, fa
 use Rattle.std.specs.List.{flat_map, list_any}
 use Rattle.sharc_tree.specs.{declared.ctype.Base.Base, declared.ctype.Mode.Mode, declared.ctype.Path.Path, declared.token.Span.Span, declared.tree.declaration.Declaration.Declaration, declared.tree.item.GlobalDefinition.GlobalDefinition, declared.tree.expression.PlaceCall.PlaceCall, declared.tree.expression.PlaceCall.TheVariants.{Lock, Unlock, Free}, Forms.without_parentheses, Spans.span_of, Tree.{Expression, Arguments, Function}}
 use Rattle.sharc_ctype.specs.{declared.entity.Numbered.Numbered, Resolved.{Resolution, named_at}}
-use Rattle.sharc_mode.specs.{declared.error.ErrorCode.ErrorCode, declared.error.ErrorCode.TheVariants.{ReadonlyWrite, PrivateTarget, PrivateField, PrivateReachesThread, CastChangesInnerMode, ReadonlySource}, declared.finding.Finding.Finding, declared.finding.Finding.TheVariants.{Wrong, Names, Takes}, Cells.{cell_at, top_of}, Errors.is_mismatch, Expressions.place_notes, Moded.Assignment, Notes.{span_text, error_where, write_notes, private_notes, path_notes, mode_notes, is_private_level, is_field_role, private_field_notes, names_of, names_in, names_in_all, names_in_level, type_notes, unmet_notes, first_unmet, names_read, parameter_names, names_at_call, call_notes, cast_notes, taken_variable, takes, source_notes, sibling_notes, field_notes, levels_of, printed_type, mismatch, shown}, Rows.{Reading, at_call, read, declared_row, modes_of, written}, Sharings.{Lock as LockPath, Sharing, private, readonly, locked, racy, dynamic, sharing_of, text_at, same_all, is_readonly, is_sibling, variable_named, object_of}, WellFormed.{place_of, holds_private, first_unfit_path, first_unfit_mode}, WellModed.{is_spawned, has_private_target, parameter_notes, spawned_notes, touched_notes}}
+use Rattle.sharc_mode.specs.{declared.error.ErrorCode.ErrorCode, declared.error.ErrorCode.TheVariants.{ReadonlyWrite, PrivateTarget, PrivateField, PrivateReachesThread, CastChangesInnerMode, ReadonlySource}, declared.finding.Finding.Finding, declared.finding.Finding.TheVariants.{Wrong, Names, Takes}, Cells.{cell_at, top_of}, Errors.is_mismatch, Expressions.place_notes, Moded.Assignment, Notes.{span_text, error_where, write_notes, private_notes, path_notes, mode_notes, is_private_level, is_field_role, private_field_notes, names_of, names_in, names_in_all, names_in_level, type_notes, unmet_notes, first_unmet, names_read, parameter_names, names_at_call, call_notes, cast_notes, taken_variable, takes, source_notes, sibling_notes, field_notes, levels_of, printed_type, mismatch, shown}, Rows.{PathReading, at_call, read, declared_row, modes_of, written}, Sharings.{Lock as LockPath, Sharing, private, readonly, locked, racy, dynamic, sharing_of, text_at, same_all, is_readonly, is_sibling, variable_named, object_of}, WellFormed.{place_of, holds_private, first_unfit_path, first_unfit_mode}, WellModed.{is_spawned, has_private_target, parameter_notes, spawned_notes, touched_notes}}
 use Rattle.sharc_suggest_laws.specs.Mismatches.{is_mismatch_at}
 
 -- how many mismatches at a token are said
@@ -76,11 +76,11 @@ names_in_quiet t r (locked l) = names_quiet t (object_of r l)
 names_in_quiet t r racy = refl
 names_in_quiet t r dynamic = refl
 
-read_quiet : (t : ℕ) (r : Resolution) (how : Reading) (level : Option Mode) → ones t (names_read r how level) ≡ 0
+read_quiet : (t : ℕ) (r : Resolution) (how : PathReading) (level : Option Mode) → ones t (names_read r how level) ≡ 0
 read_quiet t r how None = refl
 read_quiet t r how (Some mode) = names_in_quiet t r (read r how (sharing_of mode))
 
-read_all_quiet : (t : ℕ) (m : Assignment) (how : Reading) (d : Declaration) → ones t (parameter_names m how d) ≡ 0
+read_all_quiet : (t : ℕ) (m : Assignment) (how : PathReading) (d : Declaration) → ones t (parameter_names m how d) ≡ 0
 read_all_quiet t m how d =
     let modes : List Sharing = modes_of m (declared_row m.typed how d.name.site.token) in
     let levels : List (Option Mode) = d.written.ctype.levels in

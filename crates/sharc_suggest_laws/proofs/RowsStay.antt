@@ -1,14 +1,14 @@
 -- An expression that comes before the cast points to what it pointed to, with the modes that it had.
 use Rattle.std.proofs.{Common.{◌≡◌, ◌⊎◌, inl, inr, ℕ, zero, suc, ◌+◌, ◌-◌, ◌<◌, ◌≤◌, ◌==◌, Bool, true, false, cond, List, [], ◌∷◌, length, Option, Some, None, option_map, slice_get, refl, ap, sym, subst, ◌∙◌, eqb-true, arith}, lemmas.Bool.{false≢true, true≢false, eqb-false}, lemmas.Option.slice_get-map}
 use Rattle.std.specs.List.{AllByRecursion}
-use Rattle.sharc_tree.specs.{declared.tree.declaration.Declaration.Declaration, declared.tree.item.GlobalDefinition.GlobalDefinition, declared.tree.expression.Access.Access, declared.tree.expression.Access.TheVariants.{Dot, Arrow}, declared.tree.expression.Constant.Constant, declared.tree.expression.Constant.TheVariants.{Number, Character, Null}, declared.tree.expression.UnaryOperator.UnaryOperator, declared.tree.expression.UnaryOperator.TheVariants.{Negate, Not, Complement, Dereference}, Tree.{Expression, identifier, constant, parentheses, call, spawn, on_value, on_place, cast, index, field, unary, binary, Function}}
+use Rattle.sharc_tree.specs.{declared.tree.declaration.Declaration.Declaration, declared.tree.item.GlobalDefinition.GlobalDefinition, declared.tree.expression.FieldOperator.FieldOperator, declared.tree.expression.FieldOperator.TheVariants.{Dot, Arrow}, declared.tree.expression.Constant.Constant, declared.tree.expression.Constant.TheVariants.{Number, Character, Null}, declared.tree.expression.UnaryOperator.UnaryOperator, declared.tree.expression.UnaryOperator.TheVariants.{Negate, Not, Complement, Dereference}, Tree.{Expression, identifier, constant, parentheses, call, spawn, on_value, on_place, cast, index, field, unary, binary, Function}}
 use Rattle.sharc_names.specs.{declared.fault.Named.Named, declared.need.Need.TheVariants.Indexed, declared.types.Role.Role, Kinds.{Kind, object, array, null}, Needs.met}
 use Rattle.sharc_names.specs.declared.fault.Named.TheVariants as named
 use Rattle.sharc_names.specs.declared.types.Role.TheVariants as role
 use Rattle.sharc_names.specs.Kinds as kinds
 use Rattle.sharc_rewrite.specs.{declared.written.Recast.Recast, Recast.{with_cast, function_with_cast}, Applied.{recast_of, targets, resolution_with}}
 use Rattle.sharc_ctype.specs.{declared.entity.Entity.Entity, declared.entity.Numbered.Numbered, Entities.{entity_at, positions_of}, Expressions.{element_of, operand_need, unary_kind}, Resolved.{Resolution, named_at, globals_in, functions_in, declarations_in, declared_at, global_at, function_at, declaration_at, variable_kind, global_kind_of, result_kind_of, named_kind, called_kind}}
-use Rattle.sharc_mode.specs.{declared.error.Cast.Cast, Moded.Assignment, Rows.{Reading, written, Targets, is_constant_named, constant_use, base_use, no_row, deeper, targets_from, entity_row, declared_row, global_row, named_row, result_row, called_row, behind, constant_row, reading_through, unary_row}, Sharings.is_field}
+use Rattle.sharc_mode.specs.{declared.error.Cast.Cast, Moded.Assignment, Rows.{PathReading, written, Targets, is_constant_named, constant_use, base_use, no_row, deeper, targets_from, entity_row, declared_row, global_row, named_row, result_row, called_row, behind, constant_row, reading_through, unary_row}, Sharings.is_field}
 use Rattle.sharc_suggest.specs.Repairs.{is_call_at}
 use Rattle.sharc_suggest_laws.specs.{Names.{is_dull, KeepsName}, Values.{met_in_items, begins_at}}
 use Rattle.sharc_suggest_laws.proofs.{Clear.{IsClearAt, begun_in, AreClear}, Constants.{AllKept, constants_same}, Declared.{same_globals, same_functions, same_declarations}, Found.AreMoved, Lefts.is_function, Stands.{IsAdded, first_place}, Types.all_others}
@@ -30,17 +30,17 @@ many c = length (targets c.to.levels)
 
 -- ---- rows that were moved
 
-pub record IsRowMoved (first count : ℕ) (how later : Reading) (old new : Targets) : Type 0 where
+pub record IsRowMoved (first count : ℕ) (how later : PathReading) (old new : Targets) : Type 0 where
   pub counted : new.count ≡ old.count
   pub place : (old.count ≡ 0) ⊎ ((((old.first + old.count ≤ first) × (new.first ≡ old.first)) ⊎ ((first ≤ old.first) × (new.first ≡ old.first + count))) × (old.reading ≡ how) × (new.reading ≡ later))
 
-none_moved : (first count : ℕ) (how later : Reading) → IsRowMoved first count how later no_row no_row
+none_moved : (first count : ℕ) (how later : PathReading) → IsRowMoved first count how later no_row no_row
 none_moved first count how later = record { counted = refl; place = inl refl }
 
 place_of : ℕ → ℕ → Numbered → Numbered → Type 0
 place_of first count o n = ((o.first + positions_of o.entity ≤ first) × (n.first ≡ o.first)) ⊎ ((first ≤ o.first) × (n.first ≡ o.first + count))
 
-deep_moved : (first count : ℕ) (how later : Reading) (p q n : ℕ) → (((p + n ≤ first) × (q ≡ p)) ⊎ ((first ≤ p) × (q ≡ p + count))) → (b : Bool) → (n == 0) ≡ b
+deep_moved : (first count : ℕ) (how later : PathReading) (p q n : ℕ) → (((p + n ≤ first) × (q ≡ p)) ⊎ ((first ≤ p) × (q ≡ p + count))) → (b : Bool) → (n == 0) ≡ b
     → IsRowMoved first count how later (cond b (record { first = p; count = n; reading = how }) (record { first = p + 1; count = n - 1; reading = how }))
     (cond b (record { first = q; count = n; reading = later }) (record { first = q + 1; count = n - 1; reading = later }))
 deep_moved first count how later p q n place true is = record { counted = refl; place = inl (eqb-true n 0 is) }
@@ -57,12 +57,12 @@ deep_moved first count how later p q n place false is = record { counted = refl;
         let same : q ≡ p + count = w.1 in
         inr (omega (arith, low), omega (arith, same))
 
-role_moved : (what : Role) (first count : ℕ) (how later : Reading) (p q n : ℕ) → (((p + n ≤ first) × (q ≡ p)) ⊎ ((first ≤ p) × (q ≡ p + count)))
+role_moved : (what : Role) (first count : ℕ) (how later : PathReading) (p q n : ℕ) → (((p + n ≤ first) × (q ≡ p)) ⊎ ((first ≤ p) × (q ≡ p + count)))
     → IsRowMoved first count how later (targets_from what (record { first = p; count = n; reading = how })) (targets_from what (record { first = q; count = n; reading = later }))
 role_moved role.Global first count how later p q n place = deep_moved first count how later p q n place (n == 0) refl
 role_moved _ first count how later p q n place = record { counted = refl; place = inr (place, refl, refl) }
 
-pub entity_moved : (first count : ℕ) (how later : Reading) (o n : Option Numbered) → AreMoved first count o n → IsRowMoved first count how later (entity_row how o) (entity_row later n)
+pub entity_moved : (first count : ℕ) (how later : PathReading) (o n : Option Numbered) → AreMoved first count o n → IsRowMoved first count how later (entity_row how o) (entity_row later n)
 entity_moved first count how later None None are = none_moved first count how later
 entity_moved first count how later None (Some n) are = absurd are
 entity_moved first count how later (Some o) None are = absurd are
@@ -82,11 +82,11 @@ clear_apart m c frame t clear same =
     let at : met_in_items (begins_at t) m.typed.program.items ≡ met_in_items (begins_at c.from) m.typed.program.items = ap (λ (k : ℕ). met_in_items (begins_at k) m.typed.program.items) same in
     omega (arith, some, none, at)
 
-pub other_moved : (m : Assignment) (c : Cast) (frame : Frame m c) (how later : Reading) (token last : ℕ) → (token ≡ c.from → last ≡ c.until → ⊥)
+pub other_moved : (m : Assignment) (c : Cast) (frame : Frame m c) (how later : PathReading) (token last : ℕ) → (token ≡ c.from → last ≡ c.until → ⊥)
     → IsRowMoved (first_at m c frame) (many c) how later (entity_row how (entity_at m.typed token last)) (entity_row later (entity_at (now m c) token last))
 other_moved m c frame how later token last other = entity_moved (first_at m c frame) (many c) how later (entity_at m.typed token last) (entity_at (now m c) token last) (all_others m c frame.added token last other)
 
-pub clear_moved : (m : Assignment) (c : Cast) (frame : Frame m c) (how later : Reading) (t : ℕ) → IsClearAt 0 (length m.typed.program.tokens.list) (begun_in m.typed.program.items) t
+pub clear_moved : (m : Assignment) (c : Cast) (frame : Frame m c) (how later : PathReading) (t : ℕ) → IsClearAt 0 (length m.typed.program.tokens.list) (begun_in m.typed.program.items) t
     → IsRowMoved (first_at m c frame) (many c) how later (declared_row m.typed how t) (declared_row (now m c) later t)
 clear_moved m c frame how later t clear = other_moved m c frame how later t t (λ same also. clear_apart m c frame t clear same)
 
@@ -101,7 +101,7 @@ declaration_clear m (d ∷ rest) t all held = by (d.name.site.token == t) refl h
     by true same is more = subst (IsClearOf m) (eqb-true d.name.site.token t same) all.0
     by false other is more = more is
 
-global_moved : (m : Assignment) (c : Cast) (frame : Frame m c) (how later : Reading) (gs : List GlobalDefinition) (n : ℕ) → AllByRecursion (λ (g : GlobalDefinition). IsClearOf m g.declaration.name.site.token) gs
+global_moved : (m : Assignment) (c : Cast) (frame : Frame m c) (how later : PathReading) (gs : List GlobalDefinition) (n : ℕ) → AllByRecursion (λ (g : GlobalDefinition). IsClearOf m g.declaration.name.site.token) gs
     → IsRowMoved (first_at m c frame) (many c) how later (global_row m.typed how (slice_get gs n)) (global_row (now m c) later (slice_get gs n))
 global_moved m c frame how later [] n all = none_moved (first_at m c frame) (many c) how later
 global_moved m c frame how later (g ∷ rest) zero all = clear_moved m c frame how later g.declaration.name.site.token all.0
@@ -133,7 +133,7 @@ named_kind_same m c (named.Variable t) = ap variable_kind (declarations_same m c
 named_kind_same m c (named.Field t) = ap variable_kind (declarations_same m c t)
 named_kind_same m c named.Known = refl
 
-pub named_moved : (m : Assignment) (c : Cast) (frame : Frame m c) (how : Reading) (v : Named) → is_function (named_kind m.typed v) ≡ false
+pub named_moved : (m : Assignment) (c : Cast) (frame : Frame m c) (how : PathReading) (v : Named) → is_function (named_kind m.typed v) ≡ false
     → IsRowMoved (first_at m c frame) (many c) how how (named_row m.typed how v) (named_row (now m c) how v)
 named_moved m c frame how (named.Struct n) held = absurd (true≢false held)
 named_moved m c frame how (named.Global n) held =
@@ -230,7 +230,7 @@ use_same m c kept (field s a w n) = refl
 use_same m c kept (unary s o a) = refl
 use_same m c kept (binary s o at a b) = refl
 
-pub base_same : (m : Assignment) (c : Cast) → AllKept m.typed (now m c) → (w : Access) (a : Expression) → base_use (now m c) w (with_cast (recast_of m.typed c) a) ≡ base_use m.typed w a
+pub base_same : (m : Assignment) (c : Cast) → AllKept m.typed (now m c) → (w : FieldOperator) (a : Expression) → base_use (now m c) w (with_cast (recast_of m.typed c) a) ≡ base_use m.typed w a
 base_same m c kept Dot a = refl
 base_same m c kept Arrow a = use_same m c kept a
 
@@ -242,7 +242,7 @@ AreRowsMoved first count None (Some n) = ⊥
 AreRowsMoved first count (Some o) None = ⊥
 AreRowsMoved first count (Some o) (Some n) = (at : Option ℕ) × IsRowMoved first count (reading_through at) (reading_through at) o n
 
-deeper_by : (first count : ℕ) (how : Reading) (o n : Targets) → IsRowMoved first count how how o n → (b : Bool) → (o.count == 0) ≡ b
+deeper_by : (first count : ℕ) (how : PathReading) (o n : Targets) → IsRowMoved first count how how o n → (b : Bool) → (o.count == 0) ≡ b
     → IsRowMoved first count how how (cond b o (record { first = o.first + 1; count = o.count - 1; reading = o.reading })) (cond b n (record { first = n.first + 1; count = n.count - 1; reading = n.reading }))
 deeper_by first count how o n h true is = h
 deeper_by first count how o n h false is = record { counted = ap (λ (k : ℕ). k - 1) h.counted; place = by h.place }
@@ -268,7 +268,7 @@ deeper_by first count how o n h false is = record { counted = ap (λ (k : ℕ). 
     by (inl none) = absurd (some none)
     by (inr w) = inr (shift w.0, w.1, w.2)
 
-deeper_moved : (first count : ℕ) (how : Reading) (o n : Targets) → IsRowMoved first count how how o n → IsRowMoved first count how how (deeper o) (deeper n)
+deeper_moved : (first count : ℕ) (how : PathReading) (o n : Targets) → IsRowMoved first count how how o n → IsRowMoved first count how how (deeper o) (deeper n)
 deeper_moved first count how o n h =
     subst (λ (b : Bool). IsRowMoved first count how how (deeper o) (cond b n (record { first = n.first + 1; count = n.count - 1; reading = n.reading }))) (ap (λ (k : ℕ). k == 0) (sym h.counted)) (deeper_by first count how o n h (o.count == 0) refl)
 

@@ -1,7 +1,7 @@
 -- The targets of an expression of a typed program: as many as its type has stars, positions of one type that is written
 -- in the program, whose lock paths are read by a use of it.
 use Rattle.std.proofs.{Common.{◌≡◌, ◌⊎◌, inl, inr, ⊎_elim, ℕ, zero, suc, ◌+◌, ◌-◌, ◌≤◌, ◌==◌, Bool, true, false, cond, List, [], ◌∷◌, ◌++◌, length, find, Contains, Option, Some, None, refl, ap, sym, subst, ◌∙◌, arith, eqb-true}, lemmas.{Bool.false≢true, List.length-drop}}
-use Rattle.sharc_tree.specs.{declared.ctype.Base.Base, declared.token.NumberType.NumberType, declared.token.Span.Span, declared.tree.declaration.Declaration.Declaration, declared.tree.declaration.Identifier.Identifier, declared.tree.declaration.WrittenType.WrittenType, declared.tree.expression.Access.Access, declared.tree.expression.Access.TheVariants.{Dot, Arrow}, declared.tree.expression.Constant.Constant, declared.tree.expression.Constant.TheVariants.{Number, Character, Null}, declared.tree.expression.UnaryOperator.TheVariants.{Negate, Not, Complement, Dereference}, declared.tree.item.GlobalDefinition.GlobalDefinition, declared.tree.item.GlobalForm.GlobalForm, declared.tree.item.GlobalForm.TheVariants.{Plain, Array, Initial}, declared.tree.item.StructDefinition.StructDefinition, Measures.{expressions}, Tree.{Expression, identifier, constant, parentheses, call, spawn, on_value, on_place, cast, index, field, unary, binary, Function}}
+use Rattle.sharc_tree.specs.{declared.ctype.Base.Base, declared.token.NumberType.NumberType, declared.token.Span.Span, declared.tree.declaration.Declaration.Declaration, declared.tree.declaration.Identifier.Identifier, declared.tree.declaration.WrittenType.WrittenType, declared.tree.expression.FieldOperator.FieldOperator, declared.tree.expression.FieldOperator.TheVariants.{Dot, Arrow}, declared.tree.expression.Constant.Constant, declared.tree.expression.Constant.TheVariants.{Number, Character, Null}, declared.tree.expression.UnaryOperator.TheVariants.{Negate, Not, Complement, Dereference}, declared.tree.item.GlobalDefinition.GlobalDefinition, declared.tree.item.GlobalForm.GlobalForm, declared.tree.item.GlobalForm.TheVariants.{Plain, Array, Initial}, declared.tree.item.StructDefinition.StructDefinition, Measures.{expressions}, Tree.{Expression, identifier, constant, parentheses, call, spawn, on_value, on_place, cast, index, field, unary, binary, Function}}
 use Rattle.sharc_tree.specs.declared.ctype.Base.TheVariants as base
 use Rattle.sharc_tree.specs.declared.token.NumberType.TheVariants as width
 use Rattle.sharc_names.specs.{declared.fault.Named.Named, declared.types.Role.Role, Kinds.{Kind, object, array, null, is_array, is_long, declared_kind, element_kind, stars_of, int, long}, Names.{field_of, global_kind}}
@@ -10,7 +10,7 @@ use Rattle.sharc_names.specs.declared.types.Role.TheVariants as role
 use Rattle.sharc_names.specs.Kinds as kinds
 use Rattle.sharc_ctype.specs.{declared.entity.Entity.Entity, declared.entity.Numbered.Numbered, declared.expr.OperatorClass.OperatorClass, declared.expr.OperatorClass.TheVariants.{Logical, Equality, Relation, Shift, Arithmetic}, Entities.{declared, cast_entity, entities_in, entity_at, first_depth, is_told_by, numbered, positions_of, result_of, written_modes}, Expressions.{number_kind, constant_kind, class_of, binary_result}, Resolved.{Resolution, structs_in, declaration_at, global_at, function_at, named_at, named_kind, variable_kind, global_kind_of, result_kind_of, called_kind, kind_at}}
 use Rattle.sharc_ctype_laws.specs.{Constraints.{HasType, a_field, a_field_behind, pointed_to, struct_named}, Found.IsFound, WrittenTypes.IsNamedType}
-use Rattle.sharc_mode.specs.{Rows.{Reading, written, through, at_call, Targets, no_row, deeper, targets_from, entity_row, declared_row, global_row, named_row, result_row, called_row, behind, constant_row, reading_through, row_at, base_use, constant_use, is_constant_named}}
+use Rattle.sharc_mode.specs.{Rows.{PathReading, written, through, at_call, Targets, no_row, deeper, targets_from, entity_row, declared_row, global_row, named_row, result_row, called_row, behind, constant_row, reading_through, row_at, base_use, constant_use, is_constant_named}}
 use Rattle.sharc_suggest_laws.proofs.{Given.{AreKnown}, Holders.is_global, Leads.{ArgumentsFit, IsVariableAt, Leads}, Siblings.HasSiblings}
 use Rattle.sharc_lemmas.proofs.Lists.{contains_behind, head_there}
 
@@ -20,7 +20,7 @@ use Rattle.sharc_lemmas.proofs.Lists.{contains_behind, head_there}
 abbrev pub IsReadThrough : Resolution → Entity → ℕ → Type 0
 IsReadThrough r e at = IsVariableAt r at × (fields : List Declaration) × (d : Declaration) × (e.written ≡ d.written) × HasSiblings r fields d × ((m : List ℕ) (f : Declaration) → field_of fields m ≡ Some f → Leads r (named_at r at) m)
 
-abbrev pub IsReading : Resolution → Entity → Reading → Type 0
+abbrev pub IsReading : Resolution → Entity → PathReading → Type 0
 IsReading r e written = Unit {0}
 IsReading r e (through at) = IsReadThrough r e at
 IsReading r e (at_call ds all) = ArgumentsFit r ds all
@@ -85,10 +85,10 @@ other_targets role.Result row is = refl
 other_targets role.Cast row is = refl
 other_targets role.Made row is = refl
 
-abbrev whole_row : Reading → Numbered → Targets
+abbrev whole_row : PathReading → Numbered → Targets
 whole_row how n = record { first = n.first; count = positions_of n.entity; reading = how }
 
-whole_of : (r : Resolution) (how : Reading) (n : Numbered) → Contains (numbered (entities_in r.program.items)) n → IsNamedType r n.entity.written → IsReading r n.entity how → IsOf r (whole_row how n)
+whole_of : (r : Resolution) (how : PathReading) (n : Numbered) → Contains (numbered (entities_in r.program.items)) n → IsNamedType r n.entity.written → IsReading r n.entity how → IsOf r (whole_row how n)
 whole_of r how n stands names reading = record {
   holder = n;
   stands = stands;
@@ -106,7 +106,7 @@ whole_of r how n stands names reading = record {
     inside k = omega arith
 
 -- of what is no global
-pub own_row : (r : Resolution) (e : Entity) → is_global e.role ≡ false → IsFound r e → (how : Reading) → IsReading r e how → IsRow r (stars_of e.written) (entity_row how (entity_at r e.token e.last))
+pub own_row : (r : Resolution) (e : Entity) → is_global e.role ≡ false → IsFound r e → (how : PathReading) → IsReading r e how → IsRow r (stars_of e.written) (entity_row how (entity_at r e.token e.last))
 own_row r e other found how reading =
     let n : Numbered = found.numbered in
     let size : length (written_modes e) ≡ length e.written.ctype.levels - first_depth e.role = length-drop (first_depth e.role) e.written.ctype.levels in
@@ -309,7 +309,7 @@ member_row r known struct name s d there has o used v is =
     subst (λ (x : Named). IsRow r (stars_of d.written) (named_row r (reading_through o) x)) (sym is)
     (own_row r (declared role.Field d) refl member.0 (reading_through o) (use_reading r d s.fields member.1 o used))
 
-field_row : (r : Resolution) → IsKnownProgram r → (s : Span) (a : Expression) (w : Access) (n : Identifier) (k : Kind) → HasType r (field s a w n) k → IsRowOf r k (Some (named_row r (reading_through (base_use r w a)) (named_at r n.site.token)))
+field_row : (r : Resolution) → IsKnownProgram r → (s : Span) (a : Expression) (w : FieldOperator) (n : Identifier) (k : Kind) → HasType r (field s a w n) k → IsRowOf r k (Some (named_row r (reading_through (base_use r w a)) (named_at r n.site.token)))
 field_row r known s a Dot n _ (a_field {x = x} {d = d} typed member names) = member_row r known x n.text member.0 d member.1 member.2 None tt (named_at r n.site.token) names
 field_row r known s a Arrow n _ (a_field_behind {x = x} {d = d} typed member names) =
     member_row r known x n.text member.0 d member.1 member.2 (constant_use r a) (arrow_use r x member.0 member.1 a (known.one a (object (base.Struct x) 1) typed)) (named_at r n.site.token) names

@@ -6,7 +6,7 @@ use Rattle.sharc_names.specs.{declared.fault.Named.Named, Names.{Entry, look_up}
 use Rattle.sharc_names.specs.declared.fault.Named.TheVariants as named
 use Rattle.sharc_rewrite.specs.{declared.written.Recast.Recast, Recast.{is_there, around, with_cast, all_with_cast, function_with_cast, type_at}, Applied.{recast_of, targets, inserted, assignment_with}}
 use Rattle.sharc_ctype.specs.{Resolved.{Resolution, named_at, function_at, functions_in}, Transfers.{parameters_of, parameters_named}}
-use Rattle.sharc_mode.specs.{declared.error.Cast.Cast, declared.finding.Finding.Finding, declared.finding.Finding.TheVariants.Names, Expressions.expected, Moded.Assignment, Notes.{is_named, names_of, names_in, names_in_all, names_read, parameter_names, taken_variable}, Rows.{Reading, at_call, Targets, is_constant_named, constant_use, argument_use, lock_through, with_base, lock_for, read_lock, read, reading_through, declared_row, modes_of}, Sharings.{Lock, Sharing, private, readonly, locked, racy, dynamic, sharing_of, is_field, variable_named, object_named, text_at}}
+use Rattle.sharc_mode.specs.{declared.error.Cast.Cast, declared.finding.Finding.Finding, declared.finding.Finding.TheVariants.Names, Expressions.expected, Moded.Assignment, Notes.{is_named, names_of, names_in, names_in_all, names_read, parameter_names, taken_variable}, Rows.{PathReading, at_call, Targets, is_constant_named, constant_use, argument_use, lock_through, with_base, lock_for, read_lock, read, reading_through, declared_row, modes_of}, Sharings.{Lock, Sharing, private, readonly, locked, racy, dynamic, sharing_of, is_field, variable_named, object_named, text_at}}
 use Rattle.sharc_suggest.specs.{Repairs.{is_free, is_call_at, keeps_named, keeps, keeps_all}, Givings.beyond}
 use Rattle.sharc_suggest_laws.specs.Names.{is_dull, KeepsName}
 use Rattle.sharc_suggest_laws.proofs.{Arguments.{nth, args_met, one_nth}, CallNames.{named_left, named_right}, Grown.span_same, Rows.{IsShifted, same_stretch}, RowsStay.{Frame, now, many, first_at, IsRowMoved, AreRowsMoved, IsClearOf, clear_moved, functions_same, use_same}, Stands.first_is}
@@ -15,25 +15,25 @@ use Rattle.sharc_lemmas.proofs.Options.{no_guard as no_use, some_is as one_use}
 -- ---- the modes of a row that was moved, where its lock paths are read alike
 
 -- of what has this property, so are the paths that are read in it
-abbrev pub ReadAlike : Resolution → Resolution → (Sharing → Type 0) → Reading → Reading → Type 0
+abbrev pub ReadAlike : Resolution → Resolution → (Sharing → Type 0) → PathReading → PathReading → Type 0
 ReadAlike r new good how later = (l : Lock) → good (locked (read_lock r how l)) → read_lock new later l ≡ read_lock r how l
 
-read_one : (r new : Resolution) (good : Sharing → Type 0) (how later : Reading) → ReadAlike r new good how later → (s : Sharing) → good (read r how s) → read new later s ≡ read r how s
+read_one : (r new : Resolution) (good : Sharing → Type 0) (how later : PathReading) → ReadAlike r new good how later → (s : Sharing) → good (read r how s) → read new later s ≡ read r how s
 read_one r new good how later alike private is = refl
 read_one r new good how later alike readonly is = refl
 read_one r new good how later alike (locked l) is = ap locked (alike l is)
 read_one r new good how later alike racy is = refl
 read_one r new good how later alike dynamic is = refl
 
-read_all : (r new : Resolution) (good : Sharing → Type 0) (how later : Reading) → ReadAlike r new good how later → (l : List Mode) → AllByRecursion good (map (λ mode. read r how (sharing_of mode)) l)
+read_all : (r new : Resolution) (good : Sharing → Type 0) (how later : PathReading) → ReadAlike r new good how later → (l : List Mode) → AllByRecursion good (map (λ mode. read r how (sharing_of mode)) l)
     → map (λ mode. read new later (sharing_of mode)) l ≡ map (λ mode. read r how (sharing_of mode)) l
 read_all r new good how later alike [] are = refl
 read_all r new good how later alike (x ∷ rest) are = ap₂ (λ (s : Sharing) (l : List Sharing). s ∷ l) (read_one r new good how later alike (sharing_of x) are.0) (read_all r new good how later alike rest are.1)
 
-abbrev modes_with : Resolution → Reading → ℕ → ℕ → List Mode → List Sharing
+abbrev modes_with : Resolution → PathReading → ℕ → ℕ → List Mode → List Sharing
 modes_with r how first count modes = map (λ mode. read r how (sharing_of mode)) (take count (drop first modes))
 
-pub modes_moved : (m : Assignment) (c : Cast) (frame : Frame m c) → first_at m c frame ≤ length m.modes → (good : Sharing → Type 0) (how later : Reading) → ReadAlike m.typed (now m c) good how later → (old new : Targets)
+pub modes_moved : (m : Assignment) (c : Cast) (frame : Frame m c) → first_at m c frame ≤ length m.modes → (good : Sharing → Type 0) (how later : PathReading) → ReadAlike m.typed (now m c) good how later → (old new : Targets)
     → IsRowMoved (first_at m c frame) (many c) how later old new → AllByRecursion good (modes_of m old) → modes_of (assignment_with c m) new ≡ modes_of m old
 modes_moved m c frame fits good how later alike old new moved are = by moved.place
   where
@@ -52,13 +52,13 @@ modes_moved m c frame fits good how later alike old new moved are = by moved.pla
     by (inr w) =
         let stretch : take old.count (drop new.first (inserted (first_at m c frame) ones m.modes)) ≡ take old.count (drop old.first m.modes) =
         same_stretch (first_at m c frame) ones m.modes old.first new.first old.count fits w.0 in
-        let good_ones : AllByRecursion good (modes_with m.typed how old.first old.count m.modes) = subst (λ (x : Reading). AllByRecursion good (modes_with m.typed x old.first old.count m.modes)) w.1 are in
-        ap (λ (x : Reading). modes_with (now m c) x new.first new.count next.modes) w.2
+        let good_ones : AllByRecursion good (modes_with m.typed how old.first old.count m.modes) = subst (λ (x : PathReading). AllByRecursion good (modes_with m.typed x old.first old.count m.modes)) w.1 are in
+        ap (λ (x : PathReading). modes_with (now m c) x new.first new.count next.modes) w.2
         ∙ ap (λ (k : ℕ). modes_with (now m c) later new.first k next.modes) moved.counted
         ∙ ap (λ (l : List Mode). modes_with (now m c) later new.first old.count l) modes
         ∙ ap (map (λ mode. read (now m c) later (sharing_of mode))) stretch
         ∙ read_all m.typed (now m c) good how later alike (take old.count (drop old.first m.modes)) good_ones
-        ∙ ap (λ (x : Reading). modes_with m.typed x old.first old.count m.modes) (sym w.1)
+        ∙ ap (λ (x : PathReading). modes_with m.typed x old.first old.count m.modes) (sym w.1)
 
 -- ---- a path that begins with no field begins with none later
 
@@ -326,8 +326,8 @@ pub parameter_wanted : (m : Assignment) (c : Cast) (frame : Frame m c) → first
     → expected m ds all left ≡ Some want → expected (assignment_with c m) ds (all_with_cast (recast_of m.typed c) all) left ≡ Some want
 parameter_wanted m c frame fits tells ds all e at [] clear want told is = absurd (no_modes want is)
 parameter_wanted m c frame fits tells ds all e at (d ∷ rest) clear want told is =
-    let how : Reading = at_call ds all in
-    let later : Reading = at_call ds (all_with_cast (recast_of m.typed c) all) in
+    let how : PathReading = at_call ds all in
+    let later : PathReading = at_call ds (all_with_cast (recast_of m.typed c) all) in
     let old : Targets = declared_row m.typed how d.name.site.token in
     let same : modes_of m old ≡ want = one_modes (modes_of m old) want is in
     let of_first : (z : ℕ) → is_named z (names_in_all m.typed want) ≡ true → tells z ≡ true =

@@ -3,15 +3,15 @@ use Rattle.std.specs.Prelude.{ℕ, ◌≡◌, ◌<◌, ◌-◌, ◌&&◌, nat_lt
 use Rattle.std.specs.Prelude.{Some, None, slice_index_or}
 use Rattle.std.specs.List.{sum_by}
 use Rattle.sharc_word.specs.declared.step.TheConstants.{THREADS}
-use Rattle.sharc_code.specs.{declared.code.Code.Code, declared.shape.Shape.Shape, declared.state.State.State}
-use Rattle.sharc_code.specs.{declared.state.State.TheVariants.{Runs, Tries, Stopped, Ended}, Machine.Machine}
+use Rattle.sharc_code.specs.{declared.code.Code.Code, declared.shape.Shape.Shape, declared.state.TurnState.TurnState}
+use Rattle.sharc_code.specs.{declared.state.TurnState.TheVariants.{Runs, Tries, Stopped, Ended}, Machine.Machine}
 use Rattle.sharc_code.specs.{Path.{begun, may_go}, Runs.is_started, Waits.held_up, Whole.bounds}
 use Rattle.sharc_cpu.specs.Thread.{ThreadView, IsThread}
 use Rattle.sharc_threads.specs.Ends.{Standing}
 
 -- ---- one thread
 -- the last turn was the last event
-abbrev pub is_end : State → Bool
+abbrev pub is_end : TurnState → Bool
 is_end Runs = false
 is_end Tries = false
 is_end Stopped = false

@@ -6,7 +6,7 @@ ghost use Rattle.sharc_code.specs.Path.{may_go};
 ghost use Rattle.sharc_code.specs.Waits.{is_held_up, held_up};
 ghost use Rattle.sharc_threads.specs.Seats.{is_end, may_turn};
 
-use sharc_code::State;
+use sharc_code::TurnState;
 use sharc_cond::waits as is_among;
 use sharc_cpu::{Thread, Wait};
 
@@ -41,8 +41,8 @@ pub fn is_on(thread: &Thread) -> bool
     ensures { result ≡ may_go thread.now.machine.at.state }
 {
     match thread.state() {
-        State::Runs | State::Tries => true,
-        State::Stopped | State::Ended => false,
+        TurnState::Runs | TurnState::Tries => true,
+        TurnState::Stopped | TurnState::Ended => false,
     }
 }
 
@@ -51,8 +51,8 @@ pub fn is_gone(thread: &Thread) -> bool
     ensures { result ≡ is_end thread.now.machine.at.state }
 {
     match thread.state() {
-        State::Ended => true,
-        State::Runs | State::Tries | State::Stopped => false,
+        TurnState::Ended => true,
+        TurnState::Runs | TurnState::Tries | TurnState::Stopped => false,
     }
 }
 

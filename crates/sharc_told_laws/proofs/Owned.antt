@@ -3,8 +3,8 @@ use Rattle.std.proofs.{Common.{◌≡◌, ℕ, zero, suc, Bool, true, false, ◌
 use Rattle.std.specs.Prelude.{◌==◌, nat_eq, filter}
 use Rattle.sharc_tree.specs.declared.event.SourceEvent.{SourceEvent}
 use Rattle.sharc_cond.specs.Waiters.{waits_in}
-use Rattle.sharc_granule.specs.{State.NewView, declared.stage.Stage.{Stage as NewStage}}
-use Rattle.sharc_granule.specs.declared.stage.Stage.TheVariants as news
+use Rattle.sharc_granule.specs.{State.NewView, declared.stage.NewStage.{NewStage}}
+use Rattle.sharc_granule.specs.declared.stage.NewStage.TheVariants as news
 use Rattle.sharc_code.specs.{declared.code.Code.Code, declared.instr.Cell.Cell, declared.instr.Register.Register, declared.instr.Instr.Instr, declared.instr.Instr.TheVariants.{Load, Store, LoadRef, Exchange, New, TakeCell, TakeLocal, Give, Free, Lock, Unlock, Spawn, Join, Print, Start, Exit, CondEnter, CondWait, CondSignal, CondBroadcast}, declared.shape.Shape.Shape, declared.state.Stage.Stage, declared.state.Stage.TheVariants.{Makes, Uncounts, Begins, Enters, Withdraws, WithdrawsFrom, Leaves, Wakes}, Machine.{Machine, ref, instr_at}, Runs.{Said, Turn, result_of, said_by, told_by, with_told}, Says.{elements_in, in_exit, in_free, in_new, in_signal, in_spawn, in_start, new_event, nobody, said, speaks_of, take_local}, StandingLaws.StandingLaws, Whole.{Erase, one_thread, place_after}}
 use Rattle.sharc_lemmas.proofs.{Lists.reverse_cons, Numbers.same_test}
 

@@ -7,8 +7,8 @@ use Rattle.sharc_word.specs.{declared.step.TheConstants.THREADS, declared.step.W
 use Rattle.sharc_word.specs.declared.step.WordOp.TheVariants as ops
 use Rattle.sharc_cond.specs.Waiters.{waits_in}
 use Rattle.sharc_shadow.specs.{declared.shadow_word.Kind.Kind, declared.shadow_word.Kind.TheVariants.{Read, Write}, Accesses.{note_of, site_at}, ShadowWord.epoch_of, Functions.{conflicts_in, noted}}
-use Rattle.sharc_granule.specs.{State.{NewView, told, turn_of}, Asks.word_number, Stages.turn_of_stage, declared.arguments.NewArguments.NewArguments, declared.stage.Stage.{Stage as NewStage}, declared.stage.NewTurn.NewTurn, declared.stage.NewTurn.TheVariants.{Do, Made, HeapFull}}
-use Rattle.sharc_granule.specs.declared.stage.Stage.TheVariants as news
+use Rattle.sharc_granule.specs.{State.{NewView, told, turn_of}, Asks.word_number, Stages.turn_of_stage, declared.arguments.NewArguments.NewArguments, declared.stage.NewStage.{NewStage}, declared.stage.NewTurn.NewTurn, declared.stage.NewTurn.TheVariants.{Do, Made, HeapFull}}
+use Rattle.sharc_granule.specs.declared.stage.NewStage.TheVariants as news
 use Rattle.sharc_code.specs.{declared.code.Code.Code, declared.code.Layout.Layout, declared.code.Parameter.Parameter, declared.instr.Cell.Cell, declared.instr.Register.Register, declared.instr.Width.TheVariants.{Int, Long}, declared.instr.Instr.Instr, declared.instr.Instr.TheVariants.{Constant, Move, MoveReference, Null, ComputeInt, ComputeLong, NegateInt, NegateLong, Complement, Not, SameReference, ChkWidth, Jump, JumpIfZero, JumpIfNull, Call, Return, ChkNull, ChkHeld, ChkNotHeld, ChkPositive, ChkRoom, ChkLock, ChkLockLoaded, Bounds, GlobalBounds, ChkRead, ChkWrite, Load, Store, LoadRef, Exchange, Raise, RaiseLoaded, Lower, New, TakeCell, TakeLocal, TestSole, Clear, Give, Free, Lock, Unlock, Spawn, Join, Print, Start, Exit, CondEnter, CondWait, CondSignal, CondBroadcast}, declared.shape.Shape.Shape, declared.state.Print.{Print as PrintAt}, declared.state.Stage.Stage, declared.state.Stage.TheVariants.{Rests, Looks, Clears, Makes, Empties, Lowers, FreeLooks, FreeClears, Uncounts, Links, Names, Hands, Begins, Enters, Withdraws, WithdrawsFrom, Leaves, Wakes}, Arithmetic.{computed, negated, is_zero, holds}, Layout.{granule_at, granule_of, words_of, cell_of, cell_word, shadow_word, count_word, first_cell, first_shadow, state_word, prints_word}, Machine.{Machine, Own, Turn, act, int, ref, goes, goes_to, asserts, with_result, has_room, called, returned, holds_none, is_of_null, is_held, indexed, wrote, with_note, checked, lock_checked, raise, lower, test, tested, after_new, asks_new, new, new_state, elements_of, looks, clear, data_granules, free_looks, empties, emptied, free, layout_at, spawn, with_parameter, entered, start, function_of, withdraws, exit, wakes, signal, is_positive, fields, largest, at_stage, place, set_ref, accessed, move_ref, numbered, trapped, locked, joined, join, woken, word, handed, Local, Asks, step_of}, Path.{after, asked_by}, Says.{said, take_local, new_event, in_new, in_free, in_spawn, in_start, in_exit, in_signal, nobody}, Stages.IsStageOf}
 use Rattle.sharc_code.specs.declared.code.Parameter.TheVariants as parameters
 use Rattle.sharc_code.specs.declared.instr.Register.TheVariants as registers

@@ -4,7 +4,7 @@ use Rattle.std.specs.Prelude.{slice_index}
 use Rattle.sharc_word.specs.{declared.step.WordEvent.WordEvent, declared.step.WordStep.WordStep}
 use Rattle.sharc_word.specs.declared.step.WordOp.TheVariants as ops
 use Rattle.sharc_shadow.specs.{declared.shadow_word.Kind.TheVariants.{Read, Write}, Functions.conflicts_in, ShadowWord.epoch_of}
-use Rattle.sharc_code.specs.{declared.code.Code.Code, declared.instr.Instr.Instr, declared.instr.Instr.TheVariants.{ChkRead, ChkWrite, TestSole}, declared.shape.Shape.Shape, declared.state.State.TheVariants.Stopped, declared.state.Stop.Stop, declared.state.Stop.TheVariants.NotSole, Layout.{count_word, granule_at, granule_of}, Machine.{Machine, Own, act, goes, instr_at, place, ref, stopped, tested, with_note, with_own, wrote}, Opening.opening_words, Path.{after, asked_by, may_go, turn}, Runs.{Answered, Global, IsRun, Turn, opening_of, result_of, step_of}, Whole.{bounds, one_thread, place_after}}
+use Rattle.sharc_code.specs.{declared.code.Code.Code, declared.instr.Instr.Instr, declared.instr.Instr.TheVariants.{ChkRead, ChkWrite, TestSole}, declared.shape.Shape.Shape, declared.state.TurnState.TheVariants.Stopped, declared.state.Stop.Stop, declared.state.Stop.TheVariants.NotSole, Layout.{count_word, granule_at, granule_of}, Machine.{Machine, Own, act, goes, instr_at, place, ref, stopped, tested, with_note, with_own, wrote}, Opening.opening_words, Path.{after, asked_by, may_go, turn}, Runs.{Answered, Global, IsRun, Turn, opening_of, result_of, step_of}, Whole.{bounds, one_thread, place_after}}
 use Rattle.sharc_told_laws.specs.Tested.{count_found, is_access_check, tester}
 use Rattle.sharc_told_laws.proofs.Stopping.{put_other, put_same}
 

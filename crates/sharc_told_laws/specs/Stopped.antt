@@ -1,7 +1,7 @@
 -- A thread that has a stop is stopped.
 use Rattle.std.specs.Prelude.{◌≡◌, ℕ, List, Some}
 use Rattle.sharc_code.specs.{declared.code.Code.Code, declared.shape.Shape.Shape}
-use Rattle.sharc_code.specs.{declared.state.State.TheVariants.Stopped, declared.state.Stop.Stop, Runs.Turn}
+use Rattle.sharc_code.specs.{declared.state.TurnState.TheVariants.Stopped, declared.state.Stop.Stop, Runs.Turn}
 use Rattle.sharc_code.specs.Whole.{CheckedRun, place_after}
 
 -- so the line of each thread that says why it was stopped is of a thread that was

@@ -7,7 +7,7 @@ use Rattle.sharc_run.specs.declared.run.Ran.{Ran}
 use Rattle.sharc_sound.specs.Front.{IsFront, IsSourceFault}
 use Rattle.sharc_top.specs.{declared.ran.RunNumbers.RunNumbers, declared.status.Status.Status, Answers.{Answers, faulty, program}, Recording.{GivesSource, at_fault, by_program, not_made}, Refused.{IsModeRefusal, Refuses, source_refused, modes_refused}, Running.not_run}
 use Rattle.sharc_top.specs.declared.status.Status.TheVariants as status
-use Rattle.sharc_top.specs.declared.task.Task.TheVariants as task
+use Rattle.sharc_top.specs.declared.task.SourceTask.TheVariants as task
 
 pub refuses_source : (source : List ℕ) (s : Status) (text : List ℕ) (fault : SourceFault) → IsSourceFault source fault → s ≡ status.SourceRefused → text ≡ refusal_line fault → Refuses source s text
 refuses_source source s text fault is e t = rw (e, t) (source_refused fault is)

@@ -2,9 +2,9 @@
 use Rattle.std.proofs.{Common.{◌≡◌, ℕ, ◌+◌, ◌<◌, ◌≤◌, List, [], length, Option, Some, None, IfSome, unwrap_or, refl, arith, replicate, codes, inl, inr}, lemmas.List.length-replicate}
 use Rattle.sharc_mode.specs.Moded.{Assignment}
 use Rattle.sharc_cli.specs.Commands.{commands}
-use Rattle.sharc_top.specs.{declared.status.Status.Status, declared.task.Task.Task, Text.line, declared.ran.RunNumbers.RunNumbers, Answers.{Answers, faulty, program}, Loading.{LoadReplies, long, loaded}, Recording.{GivesRun, not_made, made, GivesSource, at_fault, by_program, RecordReplies, long_input, IsRecordReply, ReplayReplies, long_recording, no_recording, long_source_in, IsReplayReply}, Recording.RecordReplies.{recorded as of_record}, Recording.ReplayReplies.{replayed as of_replay}, Running.{Runs, not_run, ran, status_of as run_status_of}, Verdict.{Checks, accepted, refused, Explains, explained, Does}, EventFiles.{status_of, Judges, not_judged, judged, JudgesSource, faulty_source, of_program, FileReplies, long_file, no_file, many_events, long_source, source_judged, IsFileReply}, Reply.{task_in, ReadsSource, usage_text, Replies, IsReply, usage, too_long, answered, recorded, replayed, audited}, Reply.Replies.{loaded as of_load}, Status.{code_of, IsOfReply}}
+use Rattle.sharc_top.specs.{declared.status.Status.Status, declared.task.SourceTask.SourceTask, Text.line, declared.ran.RunNumbers.RunNumbers, Answers.{Answers, faulty, program}, Loading.{LoadReplies, long, loaded}, Recording.{GivesRun, not_made, made, GivesSource, at_fault, by_program, RecordReplies, long_input, IsRecordReply, ReplayReplies, long_recording, no_recording, long_source_in, IsReplayReply}, Recording.RecordReplies.{recorded as of_record}, Recording.ReplayReplies.{replayed as of_replay}, Running.{Runs, not_run, ran, status_of as run_status_of}, Verdict.{Checks, accepted, refused, Explains, explained, Does}, EventFiles.{status_of, Judges, not_judged, judged, JudgesSource, faulty_source, of_program, FileReplies, long_file, no_file, many_events, long_source, source_judged, IsFileReply}, Reply.{task_in, ReadsSource, usage_text, Replies, IsReply, usage, too_long, answered, recorded, replayed, audited}, Reply.Replies.{loaded as of_load}, Status.{code_of, IsOfReply}}
 use Rattle.sharc_top.specs.declared.status.Status.TheVariants as status
-use Rattle.sharc_top.specs.declared.task.Task.TheVariants as task
+use Rattle.sharc_top.specs.declared.task.SourceTask.TheVariants as task
 use Rattle.sharc_run.specs.{declared.outcome.Outcome.Outcome, declared.run.Ran.Ran}
 use Rattle.sharc_run.specs.declared.outcome.Outcome.TheVariants as outcome
 use Rattle.sharc_code.specs.declared.code.Code.{Code}
@@ -38,7 +38,7 @@ reply_too_long words left s text h over e t =
     let l = input_over left 1048576 over in
     record { input = l.input; told = l.told; reply = rw (e, t) (too_long h l.long) }
 
-pub reply_answered : (words : List (List ℕ)) (left : Option (List ℕ)) (t : Task) (source : List ℕ) (s : Status) (text : List ℕ) → task_in (commands words) ≡ Some t
+pub reply_answered : (words : List (List ℕ)) (left : Option (List ℕ)) (t : SourceTask) (source : List ℕ) (s : Status) (text : List ℕ) → task_in (commands words) ≡ Some t
     → IfSome left (λ bytes. source ≡ bytes) → length source ≤ 1048576 → Answers t source s text → IsReply words left s text
 reply_answered words left t source s text h told short a = record { input = source; told = told; reply = answered t s text h short a }
 
@@ -76,12 +76,12 @@ runs_status : (n : RunNumbers) (m : Assignment) (s : Status) (text : List ℕ) �
 runs_status n m s text (not_run t is) = low 1 (omega arith)
 runs_status n m s text (ran code run meets compiled fit is) = outcome_status run.outcome
 
-does_status : (t : Task) (m : Assignment) (s : Status) (text : List ℕ) → Does t m s text → IsOfReply (code_of s)
+does_status : (t : SourceTask) (m : Assignment) (s : Status) (text : List ℕ) → Does t m s text → IsOfReply (code_of s)
 does_status task.Check m s text d = checks_status m s text d
 does_status task.Explain m s text d = explains_status m s text d
 does_status (task.Run n) m s text d = runs_status n m s text d
 
-answers_status : (t : Task) (source : List ℕ) (s : Status) (text : List ℕ) → Answers t source s text → IsOfReply (code_of s)
+answers_status : (t : SourceTask) (source : List ℕ) (s : Status) (text : List ℕ) → Answers t source s text → IsOfReply (code_of s)
 answers_status t source s text (faulty fault is) = low 2 (omega arith)
 answers_status t source s text (program m x y front d) = does_status t m x y d
 

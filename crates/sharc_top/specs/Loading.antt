@@ -4,7 +4,7 @@ use Rattle.sharc_load.specs.Source.{source_of}
 use Rattle.sharc_top.specs.{declared.ran.RunNumbers.RunNumbers, declared.status.Status.Status, Answers.Answers}
 use Rattle.sharc_top.specs.{Limits.source_limit, Text.line}
 use Rattle.sharc_top.specs.declared.status.Status.TheVariants as status
-use Rattle.sharc_top.specs.declared.task.Task.TheVariants as task
+use Rattle.sharc_top.specs.declared.task.SourceTask.TheVariants as task
 
 -- the bytes and the functions of a source, each on a line
 abbrev pub size_lines : ℕ → ℕ → List ℕ

@@ -4,23 +4,23 @@ use Rattle.std.specs.Prelude.{IfSome, IsSome}
 use Rattle.std.specs.Io.KnownBytes.{Appends}
 use Rattle.sharc_cli.specs.{Commands.commands, declared.command.Command.Command}
 use Rattle.sharc_cli.specs.declared.command.Command.TheVariants as command
-use Rattle.sharc_top.specs.{declared.status.Status.Status, declared.task.Task.Task, Answers.Answers}
+use Rattle.sharc_top.specs.{declared.status.Status.Status, declared.task.SourceTask.SourceTask, Answers.Answers}
 use Rattle.sharc_top.specs.{EventFiles.FileReplies, Loading.LoadReplies, Limits.source_limit}
 use Rattle.sharc_top.specs.{Recording.{RecordReplies, ReplayReplies}, Status.code_of, Text.line}
 use Rattle.sharc_top.specs.declared.status.Status.TheVariants as status
-use Rattle.sharc_top.specs.declared.task.Task.TheVariants as task
+use Rattle.sharc_top.specs.declared.task.SourceTask.TheVariants as task
 
 -- ---- the words
 
 -- what a command does with a source; none of the commands that read none
-abbrev pub task_of : Command → Option Task
+abbrev pub task_of : Command → Option SourceTask
 task_of command.Check = Some task.Check
 task_of command.Explain = Some task.Explain
 task_of (command.Run workers granules events seed) =
     Some (task.Run (record { workers = workers; granules = granules; events = events; seed = seed }))
 task_of _ = None
 
-abbrev pub task_in : Option Command → Option Task
+abbrev pub task_in : Option Command → Option SourceTask
 task_in None = None
 task_in (Some c) = task_of c
 
@@ -48,7 +48,7 @@ pub data Replies (words : List (List ℕ)) (input : List ℕ) : Status → List 
   usage : commands words ≡ None → Replies words input status.Usage (line usage_text)
   too_long : ReadsSource words → source_limit < length input
       → Replies words input status.SourceRefused (line (codes "source over 1048576 bytes"))
-  answered : (t : Task) (s : Status) (text : List ℕ) → task_in (commands words) ≡ Some t → length input ≤ source_limit
+  answered : (t : SourceTask) (s : Status) (text : List ℕ) → task_in (commands words) ≡ Some t → length input ≤ source_limit
       → Answers t input s text → Replies words input s text
   loaded : (number workers : ℕ) (s : Status) (text : List ℕ) → commands words ≡ Some (command.Load number workers)
       → LoadReplies number workers s text → Replies words input s text

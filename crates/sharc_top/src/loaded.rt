@@ -9,7 +9,7 @@ use crate::ran::RunNumbers;
 use crate::refused::SOURCE_LIMIT;
 use crate::reply::{Reply, line_reply};
 use crate::status::Status;
-use crate::task::Task;
+use crate::task::SourceTask;
 use crate::words::answer;
 use sharc_load::make;
 use sharc_rounds::Gate;
@@ -46,7 +46,7 @@ pub(crate) fn loaded<R: Threads + Sync, G: Gate + Sync>(
         return line_reply(alloc, Status::SourceRefused, b"source over 1048576 bytes");
     }
     let mut text = size_text(alloc, source.len(), number + 2)?;
-    let task = Task::Run(RunNumbers {
+    let task = SourceTask::Run(RunNumbers {
         workers,
         granules: 4096,
         events: 1_000_000,

@@ -4,7 +4,7 @@ use crate::ran::RunNumbers;
 
 /// What is to be done with a source.
 #[derive(Clone, Copy, Debug, PartialEq, Eq)]
-pub enum Task {
+pub enum SourceTask {
     /// Report what is wrong with its modes, or that nothing is.
     Check,
     /// Report every variable's type with its modes and reasons, and then as `Check`.

@@ -3,7 +3,7 @@
 ghost use Rattle.std.specs.Prelude.{◌≡◌, ◌≤◌, List, ℕ, Some, false, length, IfOk, IsErrOf};
 ghost use Rattle.sharc_io.specs.Causes.{Rose};
 ghost use Rattle.sharc_cli.specs.Commands.{commands};
-ghost use Rattle.sharc_top.specs.declared.task.Task.TheVariants as task;
+ghost use Rattle.sharc_top.specs.declared.task.SourceTask.TheVariants as task;
 ghost use Rattle.sharc_top.specs.Answers.{Answers};
 ghost use Rattle.sharc_top.specs.Asked.{IsAsked, may_wait};
 ghost use Rattle.sharc_top.specs.Reply.{task_in, ReadsInput, IsReply};
@@ -17,7 +17,7 @@ use crate::refused::{Failure, SOURCE_LIMIT, refusal};
 use crate::replayed::replayed;
 use crate::reply::{Reply, line_reply};
 use crate::status::Status;
-use crate::task::Task;
+use crate::task::SourceTask;
 use crate::verdict::{checked, explained};
 use sharc_cli::Command;
 use sharc_cli::laws::numbers_are_within;
@@ -60,7 +60,7 @@ pub(crate) fn answer<R: Threads + Sync, G: Gate + Sync>(
     rt: &R,
     gate: &G,
     alloc: Global,
-    task: Task,
+    task: SourceTask,
     source: &[u8],
 ) -> Result<Reply, AllocError>
     requires task { IsTask task }
@@ -68,9 +68,9 @@ pub(crate) fn answer<R: Threads + Sync, G: Gate + Sync>(
     ensures { IfOk result (λ reply. Answers task source.now reply.status reply.text.items) }
 {
     match task {
-        Task::Check => source_checked(alloc, source),
-        Task::Explain => source_explained(alloc, source),
-        Task::Run(numbers) => run_source(rt, gate, alloc, source, numbers),
+        SourceTask::Check => source_checked(alloc, source),
+        SourceTask::Explain => source_explained(alloc, source),
+        SourceTask::Run(numbers) => run_source(rt, gate, alloc, source, numbers),
     }
 }
 
@@ -79,7 +79,7 @@ fn answered<R: Threads + Sync, G: Gate + Sync, S: Source>(
     rt: &R,
     gate: &G,
     alloc: Global,
-    task: Task,
+    task: SourceTask,
     input: &mut S,
 ) -> Result<Reply, Failure>
     requires { IsTask task }
@@ -123,8 +123,8 @@ pub fn reply_to<R: Threads + Sync, G: Gate + Sync, S: Source>(
         return Ok(usage);
     };
     match command {
-        Command::Check => answered(rt, gate, alloc, Task::Check, input),
-        Command::Explain => answered(rt, gate, alloc, Task::Explain, input),
+        Command::Check => answered(rt, gate, alloc, SourceTask::Check, input),
+        Command::Explain => answered(rt, gate, alloc, SourceTask::Explain, input),
         Command::Run {
             workers,
             granules,
@@ -137,7 +137,7 @@ pub fn reply_to<R: Threads + Sync, G: Gate + Sync, S: Source>(
                 events,
                 seed,
             };
-            answered(rt, gate, alloc, Task::Run(numbers), input)
+            answered(rt, gate, alloc, SourceTask::Run(numbers), input)
         }
         Command::Load { number, workers } => {
             let reply = loaded(rt, gate, alloc, number as u32, workers as u32)?;

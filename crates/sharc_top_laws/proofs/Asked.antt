@@ -4,14 +4,14 @@ use Rattle.std.specs.Io.KnownBytes.{Appends}
 use Rattle.sharc_mode.specs.Moded.{Assignment}
 use Rattle.sharc_mode_laws.specs.Rules.{MeetsRules}
 use Rattle.sharc_sound.specs.Front.{IsFront}
-use Rattle.sharc_top.specs.{declared.status.Status.Status, declared.task.Task.Task, declared.ran.RunNumbers.RunNumbers, Answers.{Answers, faulty, program}, Reply.{Replies, IsReply, Replied}, Running.{Runs, not_run, ran}, Status.code_of, Verdict.{Checks, accepted, refused, Explains, explained, Does}}
+use Rattle.sharc_top.specs.{declared.status.Status.Status, declared.task.SourceTask.SourceTask, declared.ran.RunNumbers.RunNumbers, Answers.{Answers, faulty, program}, Reply.{Replies, IsReply, Replied}, Running.{Runs, not_run, ran}, Status.code_of, Verdict.{Checks, accepted, refused, Explains, explained, Does}}
 use Rattle.sharc_top.specs.declared.status.Status.TheVariants as status
-use Rattle.sharc_top.specs.declared.task.Task.TheVariants as task
+use Rattle.sharc_top.specs.declared.task.SourceTask.TheVariants as task
 use Rattle.sharc_top_laws.specs.Laws.{SourceLaws, IsAsked, IsAcceptance, IsExplanation, IsRunning}
 use Rattle.sharc_top_laws.proofs.Replying.{is_answer}
 
 -- what is written for a source that is this program is written for it
-does_of : SourceLaws → (t : Task) (source : List ℕ) (m : Assignment) (s : Status) (text : List ℕ) → IsFront source m → Answers t source s text → Does t m s text
+does_of : SourceLaws → (t : SourceTask) (source : List ℕ) (m : Assignment) (s : Status) (text : List ℕ) → IsFront source m → Answers t source s text → Does t m s text
 does_of laws t source m s text front (faulty fault is) = absurd (laws.faultless source m front fault is)
 does_of laws t source m s text front (program n z other also does) = subst (λ (k : Assignment). Does t k z other) (laws.program source n m also front) does
 
@@ -39,13 +39,13 @@ run_refused : (n : RunNumbers) (m : Assignment) (s : Status) (text : List ℕ) �
 run_refused n m s text ill (not_run t is) = refl
 run_refused n m s text ill (ran code run meets compiled fit is) = absurd (ill meets)
 
-only_refused : (t : Task) (m : Assignment) (s : Status) (text : List ℕ) → ¬ (MeetsRules m) → Does t m s text → s ≡ status.ModesRefused
+only_refused : (t : SourceTask) (m : Assignment) (s : Status) (text : List ℕ) → ¬ (MeetsRules m) → Does t m s text → s ≡ status.ModesRefused
 only_refused task.Check m s text ill does = check_refused m s text ill does
 only_refused task.Explain m s text ill does = explain_refused m s text ill does
 only_refused (task.Run n) m s text ill does = run_refused n m s text ill does
 
 module _ (laws : SourceLaws) (words : List (List ℕ)) (input : List ℕ) (m : Assignment) where
-  pub does_reply : (t : Task) → IsAsked words t input m → (s : Status) (text : List ℕ) → IsReply words (Some input) s text → Does t m s text
+  pub does_reply : (t : SourceTask) → IsAsked words t input m → (s : Status) (text : List ℕ) → IsReply words (Some input) s text → Does t m s text
   does_reply t is s text reply =
       does_of laws t input m s text is.front
       (is_answer words input t s text is.asked is.within (subst (λ (l : List ℕ). Replies words l s text) reply.told reply.reply))
@@ -69,5 +69,5 @@ module _ (laws : SourceLaws) (words : List (List ℕ)) (input : List ℕ) (m : A
       let only = explain_only is meets replied.status replied.text replied.reply in
       (replied.ends ∙ ap code_of only.0, replied.text, only.1, replied.written)
 
-  pub ends_refused : (t : Task) → IsAsked words t input m → ¬ (MeetsRules m) → (old new : Option (List ℕ)) (code : ℕ) → Replied words (Some input) old new code → code ≡ 1
+  pub ends_refused : (t : SourceTask) → IsAsked words t input m → ¬ (MeetsRules m) → (old new : Option (List ℕ)) (code : ℕ) → Replied words (Some input) old new code → code ≡ 1
   ends_refused t is ill old new code replied = replied.ends ∙ ap code_of (only_refused t m replied.status replied.text ill (does_reply t is replied.status replied.text replied.reply))

@@ -9,7 +9,7 @@ use Rattle.sharc_replay.specs.{Laws.ReplayLaws, Run.{file_of, IsScheduledRun}}
 use Rattle.sharc_run.specs.declared.run.Ran.{Ran}
 use Rattle.sharc_sound.specs.Front.{IsFront}
 use Rattle.sharc_source_laws.specs.Laws.{ProgramsHoldNoSchedule}
-use Rattle.sharc_top.specs.{declared.status.Status.Status, declared.task.Task.Task, Limits.{source_limit, recording_limit}, Recording.{Records, Replays, GivesRun, not_made, made, GivesSource, at_fault, by_program, RecordReplies, long_input, ReplayReplies, long_recording, no_recording, long_source_in, recorded as was_recorded, replayed as was_replayed}, Reply.{task_in, Replies, usage, too_long, answered, loaded, recorded, replayed, audited, IsReply}}
+use Rattle.sharc_top.specs.{declared.status.Status.Status, declared.task.SourceTask.SourceTask, Limits.{source_limit, recording_limit}, Recording.{Records, Replays, GivesRun, not_made, made, GivesSource, at_fault, by_program, RecordReplies, long_input, ReplayReplies, long_recording, no_recording, long_source_in, recorded as was_recorded, replayed as was_replayed}, Reply.{task_in, Replies, usage, too_long, answered, loaded, recorded, replayed, audited, IsReply}}
 use Rattle.sharc_top_laws.specs.{Laws.SourceLaws, RecordLaws.{IsReplayable, IsRecorded, IsRecording, IsReplayed, IsReplaying}}
 use Rattle.sharc_lemmas.proofs.Numbers.{not_long}
 
@@ -17,10 +17,10 @@ use Rattle.sharc_lemmas.proofs.Numbers.{not_long}
 pub command_or_none : (o : Option Command) (c : Command) → o ≡ Some c → o ≡ None → ⊥
 command_or_none o c is not = cc
 
-pub task_or_none : (o : Option Task) (t : Task) → o ≡ Some t → o ≡ None → ⊥
+pub task_or_none : (o : Option SourceTask) (t : SourceTask) → o ≡ Some t → o ≡ None → ⊥
 task_or_none o t is not = cc
 
-pub no_reader : (o : Option Task) → o ≡ None → is_some o ≡ true → ⊥
+pub no_reader : (o : Option SourceTask) → o ≡ None → is_some o ≡ true → ⊥
 no_reader o none reads = false≢true (sym (ap is_some none) ∙ reads)
 
 pub same_command : (o : Option Command) (a b : Command) → o ≡ Some a → o ≡ Some b → a ≡ b

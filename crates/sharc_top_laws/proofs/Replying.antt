@@ -5,8 +5,8 @@ use Rattle.sharc_check.specs.Laws.{CheckLaws}
 use Rattle.sharc_suggest.specs.Laws.{SuggestLaws}
 use Rattle.sharc_cli.specs.{Commands.commands, declared.command.Command.Command, declared.command.Command.TheVariants.{Check, Explain, Run, Load, Record, Replay, Audit}}
 use Rattle.sharc_report.specs.Refusals.{refusal_line}
-use Rattle.sharc_top.specs.{declared.status.Status.Status, declared.task.Task.Task, Answers.{Answers, faulty, program}, EventFiles.FileReplies, Limits.source_limit, Reply.{task_in, Replies, usage, too_long, answered, loaded, recorded, replayed, audited, IsReply}, Verdict.Does}
-use Rattle.sharc_top.specs.declared.task.Task.TheVariants as task
+use Rattle.sharc_top.specs.{declared.status.Status.Status, declared.task.SourceTask.SourceTask, Answers.{Answers, faulty, program}, EventFiles.FileReplies, Limits.source_limit, Reply.{task_in, Replies, usage, too_long, answered, loaded, recorded, replayed, audited, IsReply}, Verdict.Does}
+use Rattle.sharc_top.specs.declared.task.SourceTask.TheVariants as task
 use Rattle.sharc_top_laws.specs.Laws.{WarningsAreOne, SourceLaws, RunsNothing, MakesRun, AnswersAreOne}
 use Rattle.sharc_top_laws.proofs.{Verdicts.one_done, Recorded.{no_reader, same_command, command_or_none, task_or_none}}
 
@@ -19,7 +19,7 @@ one_answer warnings sources checks suggests t nothing source s z text other (pro
 
 -- ---- the words
 
-same_task : (o : Option Task) (a b : Task) → o ≡ Some a → o ≡ Some b → a ≡ b
+same_task : (o : Option SourceTask) (a b : SourceTask) → o ≡ Some a → o ≡ Some b → a ≡ b
 same_task o a b is also = cc
 
 -- the words are no command that reads a source
@@ -69,13 +69,13 @@ no_record words workers heap limit nothing is = nothing (subst MakesRun (sym is)
 no_replay : (words : List (List ℕ)) → ¬ (MakesRun (commands words)) → commands words ≡ Some Replay → ⊥
 no_replay words nothing is = nothing (subst MakesRun (sym is) tt)
 
-some_task : (a b : Task) → Some a ≡ Some b → a ≡ b
+some_task : (a b : SourceTask) → Some a ≡ Some b → a ≡ b
 some_task a b e = cc
 
-no_task : (t : Task) → None ≡ Some t → ⊥
+no_task : (t : SourceTask) → None ≡ Some t → ⊥
 no_task t e = cc
 
-runs_nothing : (o : Option Command) (t : Task) → ¬ (MakesRun o) → task_in o ≡ Some t → RunsNothing t
+runs_nothing : (o : Option Command) (t : SourceTask) → ¬ (MakesRun o) → task_in o ≡ Some t → RunsNothing t
 runs_nothing None t nothing e = absurd (no_task t e)
 runs_nothing (Some Check) t nothing e = subst RunsNothing (some_task task.Check t e) tt
 runs_nothing (Some Explain) t nothing e = subst RunsNothing (some_task task.Explain t e) tt
@@ -89,14 +89,14 @@ not_long : (input : List ℕ) → source_limit < length input → length input �
 not_long input long short = omega (arith, long, short)
 
 -- a reply to words that read a source within the limit is what is written for it
-pub is_answer : (words : List (List ℕ)) (input : List ℕ) (t : Task) (s : Status) (text : List ℕ) → task_in (commands words) ≡ Some t → length input ≤ source_limit → Replies words input s text → Answers t input s text
+pub is_answer : (words : List (List ℕ)) (input : List ℕ) (t : SourceTask) (s : Status) (text : List ℕ) → task_in (commands words) ≡ Some t → length input ≤ source_limit → Replies words input s text → Answers t input s text
 is_answer words input t s text asked within (usage none) = absurd (task_or_none (task_in (commands words)) t asked (of_usage words none))
 is_answer words input t s text asked within (too_long reads long) = absurd (not_long input long within)
 is_answer words input t s text asked within (loaded number workers z other is reply) = absurd (task_or_none (task_in (commands words)) t asked (of_load words number workers is))
 is_answer words input t s text asked within (recorded workers heap limit z other is reply) = absurd (task_or_none (task_in (commands words)) t asked (of_record words workers heap limit is))
 is_answer words input t s text asked within (replayed z other is reply) = absurd (task_or_none (task_in (commands words)) t asked (of_replay words is))
 is_answer words input t s text asked within (audited z other is reply) = absurd (task_or_none (task_in (commands words)) t asked (of_audit words is))
-is_answer words input t s text asked within (answered u z other also short is) = subst (λ (k : Task). Answers k input z other) (same_task (task_in (commands words)) u t also asked) is
+is_answer words input t s text asked within (answered u z other also short is) = subst (λ (k : SourceTask). Answers k input z other) (same_task (task_in (commands words)) u t also asked) is
 
 -- and a reply to `audit` is what is written for the event file
 pub is_file_reply : (words : List (List ℕ)) (input : List ℕ) (s : Status) (text : List ℕ) → commands words ≡ Some Audit → Replies words input s text → FileReplies input s text

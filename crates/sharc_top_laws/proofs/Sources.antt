@@ -2,7 +2,7 @@
 use Rattle.std.proofs.Common.{◌≡◌, ℕ, List, [], Result, Ok, Err, refl, ap, sym, ◌∙◌, subst}
 use Rattle.sharc_tree.specs.{declared.token.FaultAt.FaultAt, declared.token.Tokens.Tokens, Low.IsLow, Placed.IsPlaced, Tree.Program}
 use Rattle.sharc_names.specs.{declared.fault.Fault.Fault, declared.fault.FaultCode.FaultCode, declared.fault.Named.Named, Notes.{faults, IsFirst}}
-use Rattle.sharc_lex.specs.{declared.fault.Fault.{Fault as LexerFault}, Grammar.reading}
+use Rattle.sharc_lex.specs.{declared.fault.TokenFault.{TokenFault as LexerFault}, Grammar.reading}
 use Rattle.sharc_grammar.specs.{declared.fault.GrammarFault.GrammarFault, Places.Reads}
 use Rattle.sharc_parse.specs.Programs as parser
 use Rattle.sharc_ctype.specs.{Items.{named_in, notes_about}, Resolved.Resolution}

@@ -10,7 +10,7 @@ use Rattle.sharc_suggest_laws.specs.Repaired.{LeastIsRepaired}
 use Rattle.sharc_sound.specs.Front.{IsFront}
 use Rattle.sharc_top.specs.{declared.status.Status.Status, Refused.IsModeRefusal, Reply.IsReply, Verdict.{Checks, accepted, refused}}
 use Rattle.sharc_top.specs.declared.status.Status.TheVariants as status
-use Rattle.sharc_top.specs.declared.task.Task.TheVariants as task
+use Rattle.sharc_top.specs.declared.task.SourceTask.TheVariants as task
 use Rattle.sharc_top_laws.specs.{Laws.{SourceLaws, IsAsked}, Suggestions.{Repairs, EachRepairs, IsRepairing}}
 use Rattle.sharc_top_laws.proofs.Asked.{does_reply}
 

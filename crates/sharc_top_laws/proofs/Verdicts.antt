@@ -4,8 +4,8 @@ use Rattle.sharc_mode.specs.{declared.error.Cast.Cast, declared.error.ModeError.
 use Rattle.sharc_check.specs.Laws.{CheckLaws}
 use Rattle.sharc_suggest.specs.{Casts.{AreSuggested, cast_for}, Laws.SuggestLaws}
 use Rattle.sharc_report.specs.{Explanations.explain_text, Verdicts.{accepted_text, check_text}}
-use Rattle.sharc_top.specs.{declared.status.Status.Status, declared.task.Task.Task, Refused.IsModeRefusal, Verdict.{Checks, accepted, refused, Explains, explained, Does}}
-use Rattle.sharc_top.specs.declared.task.Task.TheVariants as task
+use Rattle.sharc_top.specs.{declared.status.Status.Status, declared.task.SourceTask.SourceTask, Refused.IsModeRefusal, Verdict.{Checks, accepted, refused, Explains, explained, Does}}
+use Rattle.sharc_top.specs.declared.task.SourceTask.TheVariants as task
 use Rattle.sharc_top_laws.specs.Laws.{WarningsAreOne, RunsNothing}
 
 one_answer : (laws : SuggestLaws) (m : Assignment) (errors : List ModeError) (x y : List (Option Cast)) → AreSuggested m errors x → AreSuggested m errors y → x ≡ y
@@ -33,7 +33,7 @@ module _ (warnings : WarningsAreOne) (checks : CheckLaws) (suggests : SuggestLaw
       let same = one_check x y t u is also in
       (same.0, ap (λ (l : List ℕ). explain_text m ++ l) same.1)
 
-  pub one_done : (t : Task) → RunsNothing t → (s z : Status) (text other : List ℕ) → Does t m s text → Does t m z other → (s ≡ z) × (text ≡ other)
+  pub one_done : (t : SourceTask) → RunsNothing t → (s z : Status) (text other : List ℕ) → Does t m s text → Does t m z other → (s ≡ z) × (text ≡ other)
   one_done task.Check nothing s z text other a b = one_check s z text other a b
   one_done task.Explain nothing s z text other a b = one_explanation s z text other a b
   one_done (task.Run numbers) nothing s z text other a b = absurd nothing

@@ -11,7 +11,7 @@ use Rattle.sharc_sound.specs.Compiled.{IsCompiled}
 use Rattle.sharc_sound_laws.specs.Sound.{KeepsTo}
 use Rattle.sharc_top.specs.{declared.ran.RunNumbers.RunNumbers, declared.status.Status.Status, Reply.IsReply}
 use Rattle.sharc_top.specs.Running.{status_of}
-use Rattle.sharc_top.specs.declared.task.Task.TheVariants as task
+use Rattle.sharc_top.specs.declared.task.SourceTask.TheVariants as task
 use Rattle.sharc_top_laws.specs.{Laws.IsAsked, RecordLaws.{IsRecorded, IsReplayed}}
 use Rattle.sharc_recorded.specs.File.{FileView}
 

@@ -12,11 +12,11 @@ use Rattle.sharc_report.specs.{Explanations.explain_text, Verdicts.accepted_text
 use Rattle.sharc_report.specs.declared.refusal.SourceFault.{SourceFault}
 use Rattle.sharc_run.specs.declared.run.Ran.{Ran}
 use Rattle.sharc_sound.specs.{Compiled.IsCompiled, Front.{IsFront, IsSourceFault}}
-use Rattle.sharc_top.specs.{declared.ran.RunNumbers.RunNumbers, declared.status.Status.Status, declared.task.Task.Task}
+use Rattle.sharc_top.specs.{declared.ran.RunNumbers.RunNumbers, declared.status.Status.Status, declared.task.SourceTask.SourceTask}
 use Rattle.sharc_top.specs.{Limits.source_limit, Answers.Answers, Reply.{task_in, Replies, IsReply, Replied}}
 use Rattle.sharc_top.specs.Running.{status_of, IsRun}
 use Rattle.sharc_top.specs.declared.status.Status.TheVariants as status
-use Rattle.sharc_top.specs.declared.task.Task.TheVariants as task
+use Rattle.sharc_top.specs.declared.task.SourceTask.TheVariants as task
 
 abbrev pub WarningsAreOne : Type 0
 WarningsAreOne = (r : Resolution) (a b : List Warning) → AreWarnings r a → AreWarnings r b → a ≡ b
@@ -44,7 +44,7 @@ pub record SourceLaws : Type 0 where
 -- ---- the reply
 
 -- a run may have several interleavings
-abbrev pub RunsNothing : Task → Type 0
+abbrev pub RunsNothing : SourceTask → Type 0
 RunsNothing task.Check = Unit {0}
 RunsNothing task.Explain = Unit {0}
 RunsNothing (task.Run numbers) = ⊥
@@ -58,7 +58,7 @@ MakesRun _ = ⊥
 
 -- what is written for a source within the limit, and the status
 abbrev pub AnswersAreOne : Type 0
-AnswersAreOne = (t : Task) → RunsNothing t → (source : List ℕ) (s z : Status) (text other : List ℕ)
+AnswersAreOne = (t : SourceTask) → RunsNothing t → (source : List ℕ) (s z : Status) (text other : List ℕ)
     → Answers t source s text → Answers t source z other → (s ≡ z) × (text ≡ other)
 
 -- for any words that run nothing and any input
@@ -81,7 +81,7 @@ pub record ReplyLaws : Type 0 where
 -- ---- where the source is a program
 
 -- The words are those of this task; the source is within the limit, and this program with these modes.
-pub record IsAsked (words : List (List ℕ)) (t : Task) (input : List ℕ) (m : Assignment) : Type 0 where
+pub record IsAsked (words : List (List ℕ)) (t : SourceTask) (input : List ℕ) (m : Assignment) : Type 0 where
   pub asked : task_in (commands words) ≡ Some t
   pub within : length input ≤ source_limit
   pub front : IsFront input m
@@ -141,7 +141,7 @@ ExplainsAreTold =
 -- and where they are not it is 1, for `run` too
 abbrev pub OthersAreRefused : Type 0
 OthersAreRefused =
-    (words : List (List ℕ)) (t : Task) (input : List ℕ) (m : Assignment) → IsAsked words t input m → ¬ (MeetsRules m)
+    (words : List (List ℕ)) (t : SourceTask) (input : List ℕ) (m : Assignment) → IsAsked words t input m → ¬ (MeetsRules m)
     → (old new : Option (List ℕ)) (code : ℕ) → Replied words (Some input) old new code → code ≡ 1
 
 pub record VerdictLaws : Type 0 where

@@ -6,7 +6,7 @@ use Rattle.sharc_suggest_laws.specs.Repaired.{IsRepair}
 use Rattle.sharc_sound.specs.Front.{IsFront}
 use Rattle.sharc_top.specs.{declared.status.Status.Status, Refused.IsModeRefusal, Reply.IsReply}
 use Rattle.sharc_top.specs.declared.status.Status.TheVariants as status
-use Rattle.sharc_top.specs.declared.task.Task.TheVariants as task
+use Rattle.sharc_top.specs.declared.task.SourceTask.TheVariants as task
 use Rattle.sharc_top_laws.specs.Laws.{IsAsked}
 
 -- beside an error is no cast, or one with which the program is typed and has no M1 at the place of the error

@@ -6,10 +6,10 @@ use Rattle.sharc_ctype.specs.Resolved.{Resolution, function_at}
 use Rattle.sharc_code.specs.Says.{reference}
 use Rattle.sharc_audit.specs.{declared.line.EventLine.EventLine, declared.line.LineAct.LineAct, Grammar.{IsCell, IsPair, IsReference, IsValue, IsThread, IsAct, IsEventLine, thread_most}, Lines.spawned_by}
 use Rattle.sharc_audit.specs.declared.line.LineAct.TheVariants as line
-use Rattle.sharc_said.specs.{declared.cells.Where.Where, declared.event.Deed.Deed, declared.event.Event.Event, declared.event.Reference.Reference, declared.event.Value.Value, Told.{at, numbered, valued, shown}}
+use Rattle.sharc_said.specs.{declared.cells.Where.Where, declared.event.Deed.Deed, declared.event.Event.Event, declared.event.Reference.Reference, declared.event.GivenValue.GivenValue, Told.{at, numbered, valued, shown}}
 use Rattle.sharc_said.specs.declared.cells.Where.TheVariants as places
 use Rattle.sharc_said.specs.declared.event.Deed.TheVariants as deeds
-use Rattle.sharc_said.specs.declared.event.Value.TheVariants as values
+use Rattle.sharc_said.specs.declared.event.GivenValue.TheVariants as values
 use Rattle.sharc_event_file.specs.Writing.{IsFitCell, IsFitReference, IsFitValue, IsFunctionOf, Writable, line_of, IsLineOf, cell_text, reference_text, value_text, deed_text, event_text}
 use Rattle.sharc_trace_laws.proofs.Pieces.{null_text, pair_text, name_text}
 
@@ -46,7 +46,7 @@ reference_value : (text : List ℕ) (v : ℤ) → IsReference text v → IsValue
 reference_value text v (inl h) = inl (h.0 ∙ (sym (decimal_digit 0 (omega arith)) ∙ sym (ap signed_decimal h.1)), ap (is_held_by 63) h.1)
 reference_value text v (inr h) = inr h
 
-is_value : (v : Value) → IsFitValue v → IsValue (value_text v) (valued v)
+is_value : (v : GivenValue) → IsFitValue v → IsValue (value_text v) (valued v)
 is_value (values.Int v) h = inl (refl, held v h)
 is_value (values.Reference x) h = reference_value (reference_text x) (numbered x) (is_reference x h)
 

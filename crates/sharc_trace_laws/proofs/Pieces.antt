@@ -3,10 +3,10 @@ use Rattle.std.proofs.{Common.{◌≡◌, inl, inr, ℕ, suc, ◌+◌, ◌<◌, 
 use Rattle.std.specs.{Prelude.{ℤ, pos, negsuc, nat_eq, decimal, codes, FitsSigned, if◌then◌else◌}, Fmt.signed_decimal, Int.w64, List.{list_any, list_all}, Str.all_ascii_digits, Char.is_ascii_digit}
 use Rattle.sharc_ctype.specs.Resolved.{Resolution, function_at}
 use Rattle.sharc_audit.specs.Grammar.{read_on, is_digit, is_letter, IsName}
-use Rattle.sharc_said.specs.{declared.cells.Where.Where, declared.event.Deed.Deed, declared.event.Reference.Reference, declared.event.Value.Value}
+use Rattle.sharc_said.specs.{declared.cells.Where.Where, declared.event.Deed.Deed, declared.event.Reference.Reference, declared.event.GivenValue.GivenValue}
 use Rattle.sharc_said.specs.declared.cells.Where.TheVariants as places
 use Rattle.sharc_said.specs.declared.event.Deed.TheVariants as deeds
-use Rattle.sharc_said.specs.declared.event.Value.TheVariants as values
+use Rattle.sharc_said.specs.declared.event.GivenValue.TheVariants as values
 use Rattle.sharc_event_file.specs.Writing.{IsFitCell, IsFitReference, IsFitPair, IsFitValue, IsFunctionOf, Writable, cell_text, reference_text, value_text, name_in, deed_text}
 
 -- a text without a newline, of at most so many bytes
@@ -71,7 +71,7 @@ pub reference_piece : (x : Reference) → IsFitReference x → IsPiece (referenc
 reference_piece x (inl e) = subst (λ t. IsPiece t 41) (sym (null_text x e)) record { free = refl; short = omega arith }
 reference_piece x (inr h) = subst (λ t. IsPiece t 41) (sym (pair_text x h)) (pair_piece x h)
 
-pub value_piece : (v : Value) → IsFitValue v → IsPiece (value_text v) 41
+pub value_piece : (v : GivenValue) → IsFitValue v → IsPiece (value_text v) 41
 value_piece (values.Int v) h = wider 21 41 (omega arith) (signed_piece v h)
 value_piece (values.Reference x) h = reference_piece x h
 

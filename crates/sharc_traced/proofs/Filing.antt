@@ -5,10 +5,10 @@ use Rattle.sharc_mode.specs.Moded.{Assignment}
 use Rattle.sharc_code.specs.declared.code.Code.{Code}
 use Rattle.sharc_said.specs.{declared.event.Event.Event, Told.{told, told_of_event}}
 use Rattle.sharc_traced.specs.{declared.reply.Reply.Reply, Replies.{status_by, why_by, IsFileOf}}
-use Rattle.sharc_event_file.specs.{declared.cut.Front.Front, Cut.IsFront, Writing.file_text, Laws.LinesAreOfSources}
+use Rattle.sharc_event_file.specs.{declared.cut.EventPrefix.EventPrefix, Cut.IsFront, Writing.file_text, Laws.LinesAreOfSources}
 use Rattle.sharc_lemmas.proofs.Lists.{map_take}
 
-pub file_of : (law : LinesAreOfSources) (m : Assignment) (code : Code) (source : List ℕ) (history : List SourceEvent) (events : List Event) (front : Front) (reply : Reply) → map (told code) events ≡ map told_of_event history
+pub file_of : (law : LinesAreOfSources) (m : Assignment) (code : Code) (source : List ℕ) (history : List SourceEvent) (events : List Event) (front : EventPrefix) (reply : Reply) → map (told code) events ≡ map told_of_event history
     → IsFront m events front → reply.text.items ≡ file_text m.typed source (take front.count events) → reply.status ≡ status_by front.cut → reply.why ≡ why_by front.count front.cut → IsFileOf m code source history reply
 file_of law m code source history events front reply same is text status why = record {
   events = events;

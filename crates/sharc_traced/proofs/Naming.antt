@@ -4,7 +4,7 @@ use Rattle.std.specs.{Prelude.{reverse, if◌then◌else◌}, HashMap.get}
 use Rattle.sharc_code.specs.declared.code.Code.{Code}
 use Rattle.sharc_said.specs.{declared.cells.Origin.Origin, declared.cells.Where.Where, declared.event.Event.Event}
 use Rattle.sharc_said.specs.declared.cells.Where.TheVariants as places
-use Rattle.sharc_traced.specs.{declared.names.Names.Names, Names.{same_pair, found, AreNames, IsNoted}, Places.{is_same, event_line, event_lines}}
+use Rattle.sharc_traced.specs.{declared.names.LastOrigins.LastOrigins, Names.{same_pair, found, AreNames, IsNoted}, Places.{is_same, event_line, event_lines}}
 
 -- ---- one event more
 
@@ -26,11 +26,11 @@ line_more code events i d text more all low line h =
     ∙ sym (ap (λ es. text ++ event_lines code earlier es) (drop_more events i d low))
     ∙ h
 
-pub names_more : (table : Names) (events : List Event) (i : ℕ) (d : Event) → i < length events → AreNames table (get_or events i d ∷ reverse (take i events)) → AreNames table (reverse (take (i + 1) events))
+pub names_more : (table : LastOrigins) (events : List Event) (i : ℕ) (d : Event) → i < length events → AreNames table (get_or events i d ∷ reverse (take i events)) → AreNames table (reverse (take (i + 1) events))
 names_more table events i d low are = subst (AreNames table) (sym (one_more events i d low)) are
 
 -- ---- the table
-pub noted_global : (old new : Names) (at : Where) (number cell : ℕ) (origin : Origin) → at ≡ places.Global number cell
+pub noted_global : (old new : LastOrigins) (at : Where) (number cell : ℕ) (origin : Origin) → at ≡ places.Global number cell
     → ((q : ℕ × ℕ) → get same_pair new.globals q ≡ (if same_pair (number, cell) q then Some origin else get same_pair old.globals q)) → new.made ≡ old.made → IsNoted at origin old new
 noted_global old new at number cell origin is updates same = λ q. subst (λ (w : Where). found new q ≡ (if is_same w q then Some origin else found old q)) (sym is) (by q)
   where
@@ -38,7 +38,7 @@ noted_global old new at number cell origin is updates same = λ q. subst (λ (w 
     by (places.Global n i) = updates (n, i)
     by (places.Made n i) = ap (λ m. get same_pair m (n, i)) same
 
-pub noted_made : (old new : Names) (at : Where) (number cell : ℕ) (origin : Origin) → at ≡ places.Made number cell
+pub noted_made : (old new : LastOrigins) (at : Where) (number cell : ℕ) (origin : Origin) → at ≡ places.Made number cell
     → ((q : ℕ × ℕ) → get same_pair new.made q ≡ (if same_pair (number, cell) q then Some origin else get same_pair old.made q)) → new.globals ≡ old.globals → IsNoted at origin old new
 noted_made old new at number cell origin is updates same = λ q. subst (λ (w : Where). found new q ≡ (if is_same w q then Some origin else found old q)) (sym is) (by q)
   where

@@ -12,12 +12,12 @@ use Rattle.sharc_code.specs.declared.code.PlaceMode.TheVariants as modes
 use Rattle.sharc_code.specs.declared.code.Use.TheVariants as uses
 use Rattle.sharc_code.specs.declared.state.Stop.TheVariants as stops
 use Rattle.sharc_said.specs.{declared.cells.Origin.Origin, declared.cells.Where.Where, declared.event.Deed.Deed}
-use Rattle.sharc_said.specs.{declared.event.Event.Event, declared.event.Reference.Reference, declared.event.Value.Value}
+use Rattle.sharc_said.specs.{declared.event.Event.Event, declared.event.Reference.Reference, declared.event.GivenValue.GivenValue}
 use Rattle.sharc_said.specs.{declared.next.Coming.Coming, declared.next.Next.Next, Told.site_of}
 use Rattle.sharc_said.specs.declared.cells.Origin.TheVariants as origins
 use Rattle.sharc_said.specs.declared.cells.Where.TheVariants as places
 use Rattle.sharc_said.specs.declared.event.Deed.TheVariants as deeds
-use Rattle.sharc_said.specs.declared.event.Value.TheVariants as values
+use Rattle.sharc_said.specs.declared.event.GivenValue.TheVariants as values
 use Rattle.sharc_said.specs.declared.next.Next.TheVariants as nexts
 use Rattle.sharc_history.specs.{declared.last.Halt.Halt, declared.last.Last.Last}
 use Rattle.sharc_history.specs.declared.last.Halt.TheVariants as halts
@@ -87,7 +87,7 @@ abbrev pub object_text : Reference → List ℕ
 object_text r =
     if r.number == 0 then codes "NULL" else codes "o" ++ (decimal r.number ++ 91 ∷ (decimal r.elements ++ 93 ∷ []))
 
-abbrev pub seen_text : Value → List ℕ
+abbrev pub seen_text : GivenValue → List ℕ
 seen_text (values.Int v) = signed_decimal v
 seen_text (values.Reference r) = object_text r
 

@@ -20,7 +20,7 @@ use Rattle.sharc_top.specs.declared.status.Status.TheVariants as answers
 use Rattle.sharc_traced.specs.{declared.call.Ended.Ended, declared.reply.Reply.Reply, declared.reply.Stopped.Stopped}
 use Rattle.sharc_traced.specs.{declared.status.Status.Status, declared.words.Form.Form, Places.places_text}
 use Rattle.sharc_event_file.specs.{declared.cut.Cut.Cut, declared.cut.Cut.TheVariants.{Whole as uncut}}
-use Rattle.sharc_event_file.specs.{declared.cut.Front.Front, Cut.IsFront, Writing.file_text}
+use Rattle.sharc_event_file.specs.{declared.cut.EventPrefix.EventPrefix, Cut.IsFront, Writing.file_text}
 use Rattle.sharc_traced.specs.declared.status.Status.TheVariants as status
 use Rattle.sharc_traced.specs.declared.words.Form.TheVariants as form
 
@@ -66,7 +66,7 @@ pub record IsFileOf (m : Assignment) (code : Code) (source : List ℕ) (history 
     (reply : Reply) : Type 0 where
   pub events : List Event
   pub told_are : map (told code) events ≡ map told_of_event history
-  pub front : Front
+  pub front : EventPrefix
   pub is_front : IsFront m events front
   pub lines_are : AreLines m.typed is_front.lines (take front.count history)
   pub text : reply.text.items ≡ file_text m.typed source (take front.count events)

@@ -9,18 +9,18 @@ ghost use Rattle.sharc_traced.specs.Places.{seen_text, object_text, worded, taki
 ghost use Rattle.sharc_traced.specs.Places.{mode_of, event_line};
 
 use crate::lvalues::site_of;
-use crate::names::Names;
+use crate::names::LastOrigins;
 use crate::pieces::{bytes_of, mode_word, put_object, put_place, put_seen, put_word};
 use sharc_code::{Code, Use};
 use sharc_event_file::{put_cell, put_number, put_reference, put_signed};
-use sharc_said::{Deed, Event, Origin, Reference, Value, function_of, place_at};
+use sharc_said::{Deed, Event, Origin, Reference, GivenValue, function_of, place_at};
 use std::alloc::AllocError;
 
 fn put_access(
     text: &mut Vec<u8>,
     word: &[u8],
     lvalue: &[u8],
-    value: Value,
+    value: GivenValue,
 ) -> Result<(), AllocError>
     ensures { Appends result (worded word.now (worded lvalue.now (seen_text value))) text.old.items text.new.items }
 {
@@ -89,7 +89,7 @@ fn put_signal(text: &mut Vec<u8>, lvalue: &[u8], woken: Option<u32>) -> Result<(
     put_woken(text, woken)
 }
 
-fn put_spawn(text: &mut Vec<u8>, name: &[u8], value: Value, thread: u32) -> Result<(), AllocError>
+fn put_spawn(text: &mut Vec<u8>, name: &[u8], value: GivenValue, thread: u32) -> Result<(), AllocError>
     ensures { Appends result (worded (codes "spawn")
         (worded name.now (seen_text value ++ (codes " as " ++ decimal thread)))) text.old.items text.new.items }
 {
@@ -165,7 +165,7 @@ fn mode_of(code: &Code, origin: Origin, deed: Deed) -> &'static [u8]
 pub(crate) fn put_event(
     text: &mut Vec<u8>,
     code: &Code,
-    names: &Names,
+    names: &LastOrigins,
     event: &Event,
 ) -> Result<(), AllocError>
     ensures { (earlier : List Event) → AreNames names.now earlier

@@ -13,17 +13,17 @@ use std::collections::HashMap;
 
 /// Where the last lock or wait of each cell is, of the cells of globals and of objects that were made.
 #[derive(Drop)]
-pub(crate) struct Names {
+pub(crate) struct LastOrigins {
     globals: HashMap<(u32, u64), Origin>,
     made: HashMap<(u64, u64), Origin>,
 }
 
-impl Names {
+impl LastOrigins {
     /// Before the first event.
-    pub(crate) fn new(alloc: Global) -> Names
+    pub(crate) fn new(alloc: Global) -> LastOrigins
         ensures { AreNames result [] }
     {
-        Names {
+        LastOrigins {
             globals: HashMap::new(alloc),
             made: HashMap::new(alloc),
         }

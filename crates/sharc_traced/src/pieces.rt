@@ -6,7 +6,7 @@ ghost use Rattle.sharc_traced.specs.Places.{text_of, place_text, object_text, se
 
 use sharc_code::{Code, PlaceMode, Text};
 use sharc_event_file::{put_number, put_signed};
-use sharc_said::{Reference, Value};
+use sharc_said::{Reference, GivenValue};
 use sharc_tree::token::Site;
 use std::alloc::AllocError;
 
@@ -66,12 +66,12 @@ pub(crate) fn put_object(text: &mut Vec<u8>, reference: Reference) -> Result<(),
     Ok(())
 }
 
-pub(crate) fn put_seen(text: &mut Vec<u8>, value: Value) -> Result<(), AllocError>
+pub(crate) fn put_seen(text: &mut Vec<u8>, value: GivenValue) -> Result<(), AllocError>
     ensures { Appends result (seen_text value) text.old.items text.new.items }
 {
     match value {
-        Value::Int(value) => put_signed(text, value),
-        Value::Reference(reference) => put_object(text, reference),
+        GivenValue::Int(value) => put_signed(text, value),
+        GivenValue::Reference(reference) => put_object(text, reference),
     }
 }
 

@@ -7,7 +7,7 @@ ghost use Rattle.sharc_traced.specs.Places.{event_lines, last_line, places_text}
 
 use crate::deeds::put_event;
 use crate::lasts::put_last;
-use crate::names::Names;
+use crate::names::LastOrigins;
 use sharc_code::Code;
 use sharc_history::{History, Last};
 use sharc_said::Event;
@@ -21,7 +21,7 @@ fn put_events(
 ) -> Result<(), AllocError>
     ensures { Appends result (event_lines code.now [] events.now) text.old.items text.new.items }
 {
-    let mut names = Names::new(alloc);
+    let mut names = LastOrigins::new(alloc);
     for i in 0..events.len() {
         let event = &events[i];
         put_event(text, code, &names, event)?;

@@ -5,7 +5,7 @@ ghost use Rattle.sharc_top.specs.Text.{line};
 ghost use Rattle.sharc_traced.specs.Replies.{status_by, why_by, IsPlain};
 
 use crate::status::Status;
-use sharc_event_file::{Cut, Front};
+use sharc_event_file::{Cut, EventPrefix};
 use sharc_top::reply::{Reply as Answer, line_reply};
 use sharc_top::status::Status as AnswerStatus;
 use std::alloc::{AllocError, Global};
@@ -36,7 +36,7 @@ pub(crate) fn status_of(cut: Cut) -> Status
 }
 
 /// Why it wrote no more, if there are more.
-pub(crate) fn why_of(front: Front) -> Option<Stopped>
+pub(crate) fn why_of(front: EventPrefix) -> Option<Stopped>
     requires { front.count ≤ 4096 }
     ensures { result ≡ why_by front.count front.cut }
 {

@@ -6,7 +6,7 @@ use Rattle.sharc_tree.specs.declared.tree.declaration.WrittenType.{WrittenType}
 use Rattle.sharc_tree.specs.declared.tree.declaration.Declaration.{Declaration}
 use Rattle.sharc_tree.specs.declared.tree.expression.BinaryOperator.{BinaryOperator}
 use Rattle.sharc_tree.specs.declared.tree.expression.UnaryOperator.{UnaryOperator}
-use Rattle.sharc_tree.specs.{declared.tree.expression.Access.Access, declared.tree.expression.ValueCall.ValueCall}
+use Rattle.sharc_tree.specs.{declared.tree.expression.FieldOperator.FieldOperator, declared.tree.expression.ValueCall.ValueCall}
 use Rattle.sharc_tree.specs.{declared.tree.expression.PlaceCall.PlaceCall, declared.tree.statement.Jump.Jump}
 use Rattle.sharc_tree.specs.declared.tree.expression.Constant.{Constant}
 use Rattle.sharc_tree.specs.declared.tree.item.StructDefinition.{StructDefinition}
@@ -24,7 +24,7 @@ mutual
     on_place : Span → PlaceCall → Expression → Expression
     cast : Span → WrittenType → Expression → Expression
     index : Span → Expression → Expression → Expression
-    field : Span → Expression → Access → Identifier → Expression
+    field : Span → Expression → FieldOperator → Identifier → Expression
     unary : Span → UnaryOperator → Expression → Expression
     binary : Span → BinaryOperator → Site → Expression → Expression → Expression
 

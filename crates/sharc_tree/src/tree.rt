@@ -6,7 +6,7 @@ mod item;
 mod statement;
 
 pub use declaration::{Declaration, Declarations, Identifier, WrittenType};
-pub use expression::{Access, BinaryOperator, Constant, Expr, PlaceCall, UnaryOperator, ValueCall};
+pub use expression::{FieldOperator, BinaryOperator, Constant, Expr, PlaceCall, UnaryOperator, ValueCall};
 pub use item::{
     FunctionDefinition, GlobalDefinition, GlobalForm, Item, Items, Program, StructDefinition,
 };

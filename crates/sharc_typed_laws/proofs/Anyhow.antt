@@ -6,7 +6,7 @@ use Rattle.sharc_code.specs.{declared.code.Code.Code, declared.code.Function.Fun
 use Rattle.sharc_code.specs.declared.instr.Cell.TheVariants as cells
 use Rattle.sharc_flat_form.specs.{declared.op.Op.Op, Machine.{Flat, function_of as flat_function}}
 use Rattle.sharc_flat_form.specs.declared.op.Op.TheVariants as op
-use Rattle.sharc_guard.specs.Known.{leads_to, is_target, is_led_to, line_leads, is_entry, Place, in_variable, in_global, Access, access, tells, Know, place_of, known, has_passed, drops, drops_at, dropped}
+use Rattle.sharc_guard.specs.Known.{leads_to, is_target, is_led_to, line_leads, is_entry, SimplePlace, in_variable, in_global, Access, access, tells, Know, place_of, known, has_passed, drops, drops_at, dropped}
 use Rattle.sharc_invariant.specs.{Types.{Targets, StaticType, Field}, Labels.{Pass, IsIn, Label, Labels, Less, IsScoped}, Typed.{HasField, Covers, ints_in, refs_in, entry_label}}
 use Rattle.sharc_typed_laws.specs.{Inside.FlatLabels, Lines.{TypedLine, IsTypedFlat, To}, Passes.{is_write, pass_at, passes_next, passes_after, passes_before, passes_in, with_passes, with_all, with_checks, remembered, IsPassed, RepeatsCheck, Knows, IsTypedAnyhow}}
 use Rattle.sharc_typed_laws.proofs.{Checking.pass_is, Passing.{was_passed, covers, pass_eq, goes_on}}
@@ -127,11 +127,11 @@ module _ (x : Targets) (code : Code) (fl : FlatLabels) (flat : Flat) (t : IsType
     passed_at : (kind : Kind) (c : Cell) (f : Field) → HasField x code l c f → Knows x k l c → ((g place : ℕ) → place_of k c ≡ Some (in_global g place) → 2 ≤ place) → has_passed k kind (place_of k c) ≡ true → IsPassed x l (passes n) (is_write kind) c
     passed_at kind c f has knows low h = by (place_of k c) refl h
       where
-        covered : (by : Kind) (place : Place) → Covers (is_write by) (is_write kind) → Covers (pass_at by place).write (is_write kind)
+        covered : (by : Kind) (place : SimplePlace) → Covers (is_write by) (is_write kind) → Covers (pass_at by place).write (is_write kind)
         covered by (in_variable v m) h = h
         covered by (in_global g m) h = h
 
-        by : (place : Option Place) → place_of k c ≡ place → has_passed k kind place ≡ true → IsPassed x l (passes n) (is_write kind) c
+        by : (place : Option SimplePlace) → place_of k c ≡ place → has_passed k kind place ≡ true → IsPassed x l (passes n) (is_write kind) c
         by None e h = absurd (cc)
         by (Some place) e h =
             let w = was_passed flat n kind place h in

@@ -13,7 +13,7 @@ use Rattle.sharc_flat_form.specs.declared.op.Op.TheVariants as op
 use Rattle.sharc_flat.specs.{declared.slot.Slot.Slot, Scope.{Context, slot_of, slot_kind, int_count, ref_count, register_from, register_of}, Places.{width_of, settle_code}, Flattened.{with_variable, right_code, zero_code, initial_code, local_code}}
 use Rattle.sharc_invariant.specs.{Types.StaticType, Labels.{Refers, Number, Anything, Exactly, Within, Label, LessNumber, EntryMentions, fill, set_number}, Typed.{ints_in, refs_in}}
 use Rattle.sharc_invariant.proofs.Scoped.{less_entry_refl, less_number_refl}
-use Rattle.sharc_typed_laws.specs.{Stretches.{Mark, Setting, Way, AreOpen, LeadsAmong}, Places.{Stands, AreLow, mark}, Premises.Typing, Typable.IsTypeIn, Declared.{Keeps, BeginsReference, BeginsInteger, Begins, declared_label, InitialTypable, StandsBefore, before, LocalsAreTyped}}
+use Rattle.sharc_typed_laws.specs.{Stretches.{Mark, Setting, Way, AreOpen, LeadsAmong}, Places.{RegistersStand, AreLow, mark}, Premises.Typing, Typable.IsTypeIn, Declared.{Keeps, BeginsReference, BeginsInteger, Begins, declared_label, InitialTypable, StandsBefore, before, LocalsAreTyped}}
 use Rattle.sharc_typed_laws.proofs.{Fitting.{fits_same, fits_by}, Standing.{less_by, scoped_frame, stands_number, stands_fill}, Parts.{At, then_do, post, none, constant_at}, Accessed.Frame, Variables.assign_free_at, Expressing.{bare_frame, in_frame, null_at, bare_number}, Simple.{reference_kept, Comes, rights, settled}}
 use Rattle.sharc_lemmas.proofs.{Bools.or_false, Numbers.eq_refl}
 
@@ -45,7 +45,7 @@ module _ (z : Setting) (f : ℕ) (ways : List Way) (y : Typing) (c : Context) (l
   frame = bare_frame z f ways y c low i i r l here.stands here.bare
 
   -- the same registers, under the names of a scope with one more
-  renamed : (d : Context) → ((q : ℕ) → q < ref_count c.scope → y.named d q ≡ y.named c q) → (ints refs : ℕ) (k : Label) → Stands (y.named c) ints refs k → Stands (y.named d) ints refs k
+  renamed : (d : Context) → ((q : ℕ) → q < ref_count c.scope → y.named d q ≡ y.named c q) → (ints refs : ℕ) (k : Label) → RegistersStand (y.named c) ints refs k → RegistersStand (y.named d) ints refs k
   renamed d names ints refs k h = record {
     closed = h.closed;
     free = h.free;
@@ -68,7 +68,7 @@ module _ (z : Setting) (f : ℕ) (ways : List Way) (y : Typing) (c : Context) (l
       let many = begins.ints in
       let alone = here.bare in record {
         stands = record {
-          stands = subst (λ n. Stands (y.named d) n (ref_count d.scope) k) (sym many) (subst (λ n. Stands (y.named d) i n k) (sym more) (renamed d keeps.names i (r + 1) k (stands_fill (y.named c) i r l at.stands s r false type (omega arith))));
+          stands = subst (λ n. RegistersStand (y.named d) n (ref_count d.scope) k) (sym many) (subst (λ n. RegistersStand (y.named d) i n k) (sym more) (renamed d keeps.names i (r + 1) k (stands_fill (y.named c) i r l at.stands s r false type (omega arith))));
           owned = at.owned;
           holds = record {
             references = λ q lt. ⊎_elim (λ (e : q ≡ r). ap (put l.env r (Refers s)) e ∙ put_same l.env r (Refers s) ∙ ap Refers (sym (ap (y.pointer d) e ∙ begins.pointer)))
@@ -96,7 +96,7 @@ module _ (z : Setting) (f : ℕ) (ways : List Way) (y : Typing) (c : Context) (l
       let more = begins.ints in
       let many = begins.refs in record {
         stands = record {
-          stands = subst (λ n. Stands (y.named d) n (ref_count d.scope) k) (sym more) (subst (λ n. Stands (y.named d) (i + 1) n k) (sym many) (renamed d keeps.names (i + 1) r k (stands_number (y.named c) i r l at.stands (Within w) (λ q h. absurd h))));
+          stands = subst (λ n. RegistersStand (y.named d) n (ref_count d.scope) k) (sym more) (subst (λ n. RegistersStand (y.named d) (i + 1) n k) (sym many) (renamed d keeps.names (i + 1) r k (stands_number (y.named c) i r l at.stands (Within w) (λ q h. absurd h))));
           owned = at.owned;
           holds = record {
             references = λ q lt. let old : q < r = omega (arith, lt, many) in here.stands.holds.references q old ∙ ap Refers (sym (keeps.pointers q old));

@@ -10,7 +10,7 @@ use Rattle.sharc_code.proofs.Places.{put_same, put_other}
 use Rattle.sharc_flat.specs.{Scope.{Context, number_in, register_of}, Flattened.what_names}
 use Rattle.sharc_invariant.specs.Labels.{Entry, Label, Less, Itself, IsCopy, fill, without_copies}
 use Rattle.sharc_invariant.proofs.Scoped.{less_entry_refl, less_number_refl, less_gate_refl}
-use Rattle.sharc_typed_laws.specs.{Places.Stands, Premises.{Typing, HoldsVariables, IsCopyIn, IsCopyNamed, IsCopyOf, IsPointerCopy}, Typable.IsBare}
+use Rattle.sharc_typed_laws.specs.{Places.RegistersStand, Premises.{Typing, HoldsVariables, IsCopyIn, IsCopyNamed, IsCopyOf, IsPointerCopy}, Typable.IsBare}
 
 -- the registers are copies of these
 abbrev pub with_copies : Label → (ℕ → ℕ) → Label
@@ -40,7 +40,7 @@ loses_taken named same x unnamed = record { each = λ q. by q (nat_eq (same q) x
 
 -- ---- labels with fewer copies
 module _ (named : ℕ → Bool) (l : Label) (lost : ℕ → ℕ) (h : Loses named l.same lost) where
-  pub stands_lost : (i r : ℕ) → Stands named i r l → Stands named i r (with_copies l lost)
+  pub stands_lost : (i r : ℕ) → RegistersStand named i r l → RegistersStand named i r (with_copies l lost)
   stands_lost i r s = record {
     closed = s.closed;
     free = s.free;

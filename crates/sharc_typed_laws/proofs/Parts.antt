@@ -10,7 +10,7 @@ use Rattle.sharc_flat.specs.{Scope.at_site, Places.pointee_code, Flattened.{diff
 use Rattle.sharc_guard.specs.Known.{Know, know_next, writes_ref, writes_int, number_given}
 use Rattle.sharc_invariant.specs.{Types.{StaticType, Mentions}, Labels.{Entry, Empty, Refers, Number, Anything, Exactly, Within, Indexes, OfElement, OfGlobal, Named, Nth, Gate, Closed, Label, Less, LessNumber, HasBase, EntryMentions, IsScoped, IsFree, set_number, fill, knows}, Typed.{is_shift, is_comparison, ints_in, refs_in}}
 use Rattle.sharc_invariant.proofs.Scoped.{less_refl, less_entry_refl, less_number_refl, scoped_fill}
-use Rattle.sharc_typed_laws.specs.{Passes.IsNumberOf, Stretches.{Mark, Setting, Tells, Fits, IsLine, AreWithin, LeadsWithin}, Places.{Stands, IsNamed, mark}}
+use Rattle.sharc_typed_laws.specs.{Passes.IsNumberOf, Stretches.{Mark, Setting, Tells, Fits, IsLine, AreWithin, LeadsWithin}, Places.{RegistersStand, IsNamed, mark}}
 use Rattle.sharc_typed_laws.proofs.{Fitting.{fits_same, fits_by}, Standing.{less_by, scoped_frame, unnamed, stands_number, less_number, stands_fill, less_emptied, less_lower}, Telling.{told, other_than, same_as, constant_number}, Rules.{Plain, on_enter, on_constant, on_compute, on_negate, on_complement, on_false, on_same, on_width, on_positive, on_print, on_join, on_nothing, on_pop, on_check}}
 use Rattle.sharc_typed_laws.proofs.Flow as flow
 use Rattle.sharc_lemmas.proofs.Options.{no_guard as none_some}
@@ -81,7 +81,7 @@ module _ (around : Setting) (f : ℕ) (D : (ℕ → Mark) → Type 0) (named : �
 
   -- ---- a label of this function where so many registers are taken
   pub record At (i r : ℕ) (l : Label) : Type 0 where
-    pub stands : Stands named i r l
+    pub stands : RegistersStand named i r l
     pub owned : l.function ≡ Some f
 
   plain_at : (i r : ℕ) (l : Label) (until : ℕ) → At i r l → Scoped (mark l from until) → Plain around f (mark l from until)

@@ -7,7 +7,7 @@ use Rattle.sharc_code.specs.declared.code.PlaceMode.TheVariants as modes
 use Rattle.sharc_code.specs.declared.instr.Cell.TheVariants as cells
 use Rattle.sharc_flat_form.specs.{declared.op.Op.Op, declared.op.Spot.Spot, Machine.Flat}
 use Rattle.sharc_flat_form.specs.declared.op.Op.TheVariants as op
-use Rattle.sharc_guard.specs.Known.{is_straight, is_target, is_dynamic, Place, in_variable, in_global, assigns, same_place, counts, Access, access, tells, Know, variable_place, global_place, is_at, place_of, passes_by, know_next, known, has_passed, drops}
+use Rattle.sharc_guard.specs.Known.{is_straight, is_target, is_dynamic, SimplePlace, in_variable, in_global, assigns, same_place, counts, Access, access, tells, Know, variable_place, global_place, is_at, place_of, passes_by, know_next, known, has_passed, drops}
 use Rattle.sharc_invariant.specs.{Types.{Targets, Field, cells_of}, Labels.{Element, Named, Nth, Number, Anything, Exactly, Within, Indexes, OfElement, OfGlobal, Pass, IsIn, Label, is_base, without_base}, Typed.{HasField, Covers}}
 use Rattle.sharc_typed_laws.specs.{Inside.{global_pass, global_element_pass, element_pass, pass_of, with_pass, passed_behind}, Passes.{is_write, pass_at, pass_of_place, pass_by, stays, passes_next, passes_before, with_passes, remembered, IsNumberOf, Knows}}
 use Rattle.sharc_lemmas.proofs.Bools.{and_left, or_split as or_either, and_right, false_true as nothing_passed}
@@ -40,7 +40,7 @@ of_both [] qs p h = inr h
 of_both (q ∷ ps) qs p h = ⊎_elim (λ (i : q ≡ p). inl (inl i)) (λ k. ⊎_elim (λ (m : IsIn p ps). inl (inr m)) (λ m. inr m) (of_both ps qs p k)) h
 
 -- ---- what is known was checked
-pub record WasPassed (kind : Kind) (place : Place) (passes : List Pass) : Type 0 where
+pub record WasPassed (kind : Kind) (place : SimplePlace) (passes : List Pass) : Type 0 where
   pub by : Kind
   pub counted : counts by kind ≡ true
   pub among : IsIn (pass_at by place) passes
@@ -55,7 +55,7 @@ covers Write b h = tt
 covers Read Read h = refl
 covers Read Write h = absurd (cc)
 
-same_is : (a b : Place) → same_place a b ≡ true → b ≡ a
+same_is : (a b : SimplePlace) → same_place a b ≡ true → b ≡ a
 same_is (in_variable x n) (in_variable y m) h = let e : x ≡ y = grind (arith, nat_tests, h) in let f : m ≡ n = grind (arith, nat_tests, h) in (ap (λ z. in_variable z m) (sym e) ∙ ap (in_variable x) f)
 same_is (in_global g n) (in_global k m) h = let e : g ≡ k = grind (arith, nat_tests, h) in let f : m ≡ n = grind (arith, nat_tests, h) in (ap (λ z. in_global z m) (sym e) ∙ ap (in_global g) f)
 same_is (in_variable x n) (in_global g m) h = absurd (cc)
@@ -69,7 +69,7 @@ not_right : (a b : Bool) → not (a || b) ≡ true → not b ≡ true
 not_right true b e = absurd (cc)
 not_right false b e = e
 
-stays_at : (o : Op) (kind : Kind) (place : Place) → not (assigns o place) ≡ true → stays o (pass_at kind place).base ≡ true
+stays_at : (o : Op) (kind : Kind) (place : SimplePlace) → not (assigns o place) ≡ true → stays o (pass_at kind place).base ≡ true
 stays_at o kind (in_variable x n) e = e
 stays_at o kind (in_global g n) e = refl
 
@@ -79,11 +79,11 @@ drops_passed k (op.Load i c spot) a e d = let same = same_Some _ a e in subst (�
 drops_passed k (op.Store i c spot) a e d = let same = same_Some _ a e in subst (λ (a : Access). has_passed k a.kind (place_of k a.cell) ≡ true) same (and_right (tells spot) (has_passed k Write (place_of k c)) d)
 drops_passed k o a e d = absurd (cc)
 
-module _ (o : Op) (k : Know) (passes : List Pass) (old : (kind : Kind) (place : Place) → k.passed kind place ≡ true → WasPassed kind place passes) where
+module _ (o : Op) (k : Know) (passes : List Pass) (old : (kind : Kind) (place : SimplePlace) → k.passed kind place ≡ true → WasPassed kind place passes) where
   abbrev News : Bool → Option Access → List Pass
   News d a = if d then [] else pass_by k a
 
-  by_place : (d : Bool) (a : Access) (kind : Kind) (place : Place) (at : Option Place) → place_of k a.cell ≡ at → (d ≡ true → has_passed k a.kind at ≡ true) → tells a.spot ≡ true → counts a.kind kind ≡ true → is_at at place ≡ true → WasPassed kind place (News d (Some a) ++ passes)
+  by_place : (d : Bool) (a : Access) (kind : Kind) (place : SimplePlace) (at : Option SimplePlace) → place_of k a.cell ≡ at → (d ≡ true → has_passed k a.kind at ≡ true) → tells a.spot ≡ true → counts a.kind kind ≡ true → is_at at place ≡ true → WasPassed kind place (News d (Some a) ++ passes)
   by_place d a kind place None e dropped tell count here = absurd (cc)
   by_place true a kind place (Some at) e dropped tell count here =
       let same : at ≡ place = same_is place at here in
@@ -94,14 +94,14 @@ module _ (o : Op) (k : Know) (passes : List Pass) (old : (kind : Kind) (place : 
       let whole : pass_by k (Some a) ≡ pass_at a.kind at ∷ [] = ap (λ b. cond b (pass_of_place a.kind (place_of k a.cell)) []) tell ∙ ap (pass_of_place a.kind) e in
       record { by = a.kind; counted = count; among = in_left (pass_by k (Some a)) passes (pass_at a.kind place) (subst (IsIn (pass_at a.kind place)) (sym whole) (inl (ap (pass_at a.kind) same))) }
 
-  by_access : (d : Bool) (acc : Option Access) → ((a : Access) → acc ≡ Some a → d ≡ true → has_passed k a.kind (place_of k a.cell) ≡ true) → (kind : Kind) (place : Place) → passes_by acc k kind place ≡ true → WasPassed kind place (News d acc ++ passes)
+  by_access : (d : Bool) (acc : Option Access) → ((a : Access) → acc ≡ Some a → d ≡ true → has_passed k a.kind (place_of k a.cell) ≡ true) → (kind : Kind) (place : SimplePlace) → passes_by acc k kind place ≡ true → WasPassed kind place (News d acc ++ passes)
   by_access d None dropped kind place e = absurd (cc)
   by_access d (Some a) dropped kind place e =
       let tell = and_left (tells a.spot) (counts a.kind kind && is_at (place_of k a.cell) place) e in
       let rest = and_right (tells a.spot) (counts a.kind kind && is_at (place_of k a.cell) place) e in
       by_place d a kind place (place_of k a.cell) refl (dropped a refl) tell (and_left (counts a.kind kind) (is_at (place_of k a.cell) place) rest) (and_right (counts a.kind kind) (is_at (place_of k a.cell) place) rest)
 
-  next_passed : (kind : Kind) (place : Place) → ((k.passed kind place || passes_by (access o) k kind place) && not (assigns o place)) ≡ true → WasPassed kind place (filter (λ p. stays o p.base) (News (drops k o) (access o) ++ passes))
+  next_passed : (kind : Kind) (place : SimplePlace) → ((k.passed kind place || passes_by (access o) k kind place) && not (assigns o place)) ≡ true → WasPassed kind place (filter (λ p. stays o p.base) (News (drops k o) (access o) ++ passes))
   next_passed kind place e =
       let stay = and_right (k.passed kind place || passes_by (access o) k kind place) (not (assigns o place)) e in
       let w : WasPassed kind place (News (drops k o) (access o) ++ passes) =
@@ -110,7 +110,7 @@ module _ (o : Op) (k : Know) (passes : List Pass) (old : (kind : Kind) (place : 
       (or_either (k.passed kind place) (passes_by (access o) k kind place) (and_left (k.passed kind place || passes_by (access o) k kind place) (not (assigns o place)) e)) in
       record { by = w.by; counted = w.counted; among = in_filter (λ p. stays o p.base) (News (drops k o) (access o) ++ passes) (pass_at w.by place) w.among (stays_at o w.by place stay) }
 
-pub was_passed : (flat : Flat) (n : ℕ) (kind : Kind) (place : Place) → (known flat n).passed kind place ≡ true → WasPassed kind place (passes_before flat n)
+pub was_passed : (flat : Flat) (n : ℕ) (kind : Kind) (place : SimplePlace) → (known flat n).passed kind place ≡ true → WasPassed kind place (passes_before flat n)
 was_passed flat zero kind place = λ e. nothing_passed e
 was_passed flat (suc n) kind place =
     elim (is_target flat (suc n)) as (λ b. (if b then Rattle.sharc_guard.specs.Known.nothing else Rattle.sharc_guard.specs.Known.know_after (slice_get flat.lines n) (known flat n)).passed kind place ≡ true
@@ -119,7 +119,7 @@ was_passed flat (suc n) kind place =
       | false ↦ by_line (was_passed flat n) (slice_get flat.lines n)
     ]
   where
-    by_line : ((kind : Kind) (place : Place) → (known flat n).passed kind place ≡ true → WasPassed kind place (passes_before flat n)) → (o : Option Op) → (Rattle.sharc_guard.specs.Known.know_after o (known flat n)).passed kind place ≡ true → WasPassed kind place (Rattle.sharc_typed_laws.specs.Passes.passes_after o (known flat n) (passes_before flat n))
+    by_line : ((kind : Kind) (place : SimplePlace) → (known flat n).passed kind place ≡ true → WasPassed kind place (passes_before flat n)) → (o : Option Op) → (Rattle.sharc_guard.specs.Known.know_after o (known flat n)).passed kind place ≡ true → WasPassed kind place (Rattle.sharc_typed_laws.specs.Passes.passes_after o (known flat n) (passes_before flat n))
     by_line old None = λ e. nothing_passed e
     by_line old (Some o) =
         elim (is_straight o) as (λ b. (if b then know_next o (known flat n) else Rattle.sharc_guard.specs.Known.nothing).passed kind place ≡ true
@@ -133,10 +133,10 @@ low_pass : (w : Bool) (n : ℕ) → 2 ≤ n → global_pass w n ≡ Some (record
 low_pass w n le = let e : nat_lt n 2 ≡ false = grind (arith, nat_tests, le) in ap (λ b. if b then None else Some (record { write = w; base = None; cell = n - 2 })) e
 
 module _ (x : Targets) (code : Code) (l : Label) (k : Know) where
-  abbrev IsPassOf : Cell → Kind → Place → Type 0
+  abbrev IsPassOf : Cell → Kind → SimplePlace → Type 0
   IsPassOf c kind place = pass_of x l (is_write kind) c ≡ Some (pass_at kind place)
 
-  abbrev IsLow : Place → Type 0
+  abbrev IsLow : SimplePlace → Type 0
   IsLow place = (g n : ℕ) → place ≡ in_global g n → 2 ≤ n
 
   in_globals : (g i first count elements : ℕ) (e : Element) (v : ℕ) (kind : Kind) → l.ints i ≡ OfGlobal first count elements e → IsNumberOf x l v (OfGlobal first count elements e) → 2 ≤ v → IsPassOf (cells.GlobalAt g i) kind (in_global g v)
@@ -149,7 +149,7 @@ module _ (x : Targets) (code : Code) (l : Label) (k : Know) where
       ∙ ap (λ b. Some (record { write = is_write kind; base = Some b; cell = e * cells_of x eq.0.target + field })) copy ∙ ap (λ c. Some (record { write = is_write kind; base = Some v; cell = c })) (sym eq.2)
   in_elements r i field (Named m) v n kind is eq copy = absurd eq
 
-  pub pass_eq : (c : Cell) (f : Field) → HasField x code l c f → Knows x k l c → (kind : Kind) (place : Place) → place_of k c ≡ Some place → IsLow place → IsPassOf c kind place
+  pub pass_eq : (c : Cell) (f : Field) → HasField x code l c f → Knows x k l c → (kind : Kind) (place : SimplePlace) → place_of k c ≡ Some place → IsLow place → IsPassOf c kind place
   pass_eq (cells.Global g q) f has knows kind place e low =
       let same : in_global g q ≡ place = same_Some (in_global g q) place e in
       subst (IsPassOf (cells.Global g q) kind) same (low_pass (is_write kind) q (low g q (sym same)))
@@ -241,7 +241,7 @@ module _ (x : Targets) (code : Code) (l : Label) (k : Know) (passes : List Pass)
   access_in d kind c spot f has knows low p h =
       ⊎_elim (λ m. fresh d (tells spot) refl (place_of k c) refl m) (λ m. ps_in x d (with_passes l passes) (is_write kind) c spot.mode p m) (of_both (if d then [] else (if tells spot then pass_of_place kind (place_of k c) else [])) passes p h)
     where
-      fresh : (d : Bool) (t : Bool) → tells spot ≡ t → (at : Option Place) → place_of k c ≡ at → IsIn p (if d then [] else (if t then pass_of_place kind at else [])) → IsIn p (passed_behind x d (with_passes l passes) (is_write kind) c spot.mode)
+      fresh : (d : Bool) (t : Bool) → tells spot ≡ t → (at : Option SimplePlace) → place_of k c ≡ at → IsIn p (if d then [] else (if t then pass_of_place kind at else [])) → IsIn p (passed_behind x d (with_passes l passes) (is_write kind) c spot.mode)
       fresh true t e at is h = absurd h
       fresh false false e at is h = absurd h
       fresh false true e None is h = absurd h

@@ -5,7 +5,7 @@ use Rattle.sharc_code.specs.declared.instr.Cell.{Cell}
 use Rattle.sharc_code.specs.declared.instr.Cell.TheVariants as cells
 use Rattle.sharc_flat_form.specs.{declared.op.Op.Op, Machine.Flat}
 use Rattle.sharc_flat_form.specs.declared.op.Op.TheVariants as op
-use Rattle.sharc_guard.specs.Known.{is_straight, is_target, writes_ref, writes_int, number_given, Place, in_variable, in_global, Access, access, tells, nothing, know_next, know_after, variable_place, global_place, place_of, known, drops}
+use Rattle.sharc_guard.specs.Known.{is_straight, is_target, writes_ref, writes_int, number_given, SimplePlace, in_variable, in_global, Access, access, tells, nothing, know_next, know_after, variable_place, global_place, place_of, known, drops}
 use Rattle.sharc_invariant.specs.{Types.{Targets, StaticType, Field}, Labels.{Empty, Refers, Element, Named, Nth, OfGlobal, Pass, IsIn, Label, Labels}, Typed.{HasField, AreGlobals}}
 use Rattle.sharc_typed_laws.specs.{Lines.TypedLine, Passes.{pass_at, pass_of_place, pass_by, stays, passes_after, passes_before, passes_in, with_passes, with_all, IsNumberOf, Knows}, Stretches.{Mark, Setting, labels_by, Tells}, LabelsLaws.AreAllLines}
 use Rattle.sharc_typed_laws.proofs.{After.{IsPast, OpPast, After, after}, Passing.{of_filter, of_both}, Lines.found}
@@ -104,7 +104,7 @@ module _ (z : Setting) (owner : ℕ → ℕ) (table : ℕ → Mark) (flat : Flat
   new_full n lt o at p v is None e h = absurd h
   new_full n lt o at p v is (Some a) e h = by (tells a.spot) h
     where
-      placed : (place : Option Place) → place_of (known flat n) a.cell ≡ place → IsIn p (pass_of_place a.kind place) → (label n).env v ≢ Empty
+      placed : (place : Option SimplePlace) → place_of (known flat n) a.cell ≡ place → IsIn p (pass_of_place a.kind place) → (label n).env v ≢ Empty
       placed None q i = absurd i
       placed (Some (in_global g m)) q i = ⊎_elim (λ (s : pass_at a.kind (in_global g m) ≡ p). absurd (none-some v (ap (λ (p : Pass). p.base) s ∙ is))) (λ k. absurd k) i
       placed (Some (in_variable y m)) q i = ⊎_elim (λ (s : pass_at a.kind (in_variable y m) ≡ p). variable (same_Some y v (ap (λ (p : Pass). p.base) s ∙ is))) (λ k. absurd k) i

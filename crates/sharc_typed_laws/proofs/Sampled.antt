@@ -5,7 +5,7 @@ use Rattle.sharc_code.specs.{declared.code.Code.Code, declared.code.GlobalCells.
 use Rattle.sharc_code.specs.declared.instr.Cell.TheVariants as cells
 use Rattle.sharc_flat_form.specs.{declared.op.Op.Op, Machine.{function_of as flat_function}}
 use Rattle.sharc_flat_form.specs.declared.op.Op.TheVariants as op
-use Rattle.sharc_guard.specs.Known.{Place, in_global, Access, access, place_of, known}
+use Rattle.sharc_guard.specs.Known.{SimplePlace, in_global, Access, access, place_of, known}
 use Rattle.sharc_invariant.specs.{Types.{AreTargets, StaticType, ObjectType, Field, CellMode, field_at, field_in, field_of_cell, global_field, mode_in, mode_at, type_in, is_private, is_pointer, is_mutex, no_field}, Types.FieldMode.{Racy, Dynamic}, Types.Content.{Integer, Pointer}, Labels.{Exactly, Closed, Pass, IsIn, Label, Labels, Less, IsScoped}, Typed.{AreGlobals, Initial, MayStart, IsInGlobal, refs_in, ints_in, entry_label}}
 use Rattle.sharc_invariant.proofs.Scoped.{less_refl, scoped_number}
 use Rattle.sharc_typed_laws.specs.{Inside.passed_behind, Lines.{PassesCheck, TypedLine, MayPass, To}, Passes.{passes_in, passes_before, with_passes, with_all, remembered, IsPassed, RepeatsCheck, TypedAnyhow, Knows}, Sample.{the_spot, the_write, the_global, the_flat, the_field, the_targets, the_first, the_second, the_third, the_starts, the_labels, IsSampleCode, SampleStands}}
@@ -163,7 +163,7 @@ module _ (code : Code) (is : IsSampleCode code) where
       let e : nat_lt (suc (suc (suc (suc (suc (suc n)))))) 6 ≡ false = grind (arith, nat_tests) in
       subst (λ b. Bases (if b then passes_before the_flat (suc (suc (suc (suc (suc (suc n)))))) else [])) (sym e) none_bases
 
-  number : Place → ℕ
+  number : SimplePlace → ℕ
   number (in_global g n) = n
   number place = 2
 

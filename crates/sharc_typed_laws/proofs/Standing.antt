@@ -5,7 +5,7 @@ use Rattle.sharc_code.specs.Runs.{put}
 use Rattle.sharc_code.proofs.Places.{put_same, put_other, put_all}
 use Rattle.sharc_invariant.specs.{Types.StaticType, Labels.{Entry, Empty, Refers, Number, Anything, Exactly, Within, Indexes, OfElement, OfGlobal, Gate, Closed, IsIn, Label, Less, IsCopy, LessEntry, LessNumber, LessGate, EntryMentions, HasBase, IsScoped, IsFree, set_number, fill, empty, without_copies, without_index}}
 use Rattle.sharc_invariant.proofs.Scoped.{less_entry_refl, less_number_refl, less_gate_refl}
-use Rattle.sharc_typed_laws.specs.Places.{Stands, IsNamed}
+use Rattle.sharc_typed_laws.specs.Places.{RegistersStand, IsNamed}
 
 -- ---- less, register by register
 pub less_by : (a b : Label) → b.function ≡ a.function → ((r : ℕ) → LessEntry a r (a.env r) (b.env r)) → ((r : ℕ) → b.same r ≡ a.same r) → ((r : ℕ) → b.known r ≡ true → a.known r ≡ true) → ((r : ℕ) → LessNumber (a.ints r) (b.ints r))
@@ -109,7 +109,7 @@ less_lower l r h a b v w x y other =
     copied : (q : ℕ) → (q ≡ r → ⊥) → put l.same (r + 1) w q ≡ r → ⊥
     copied q ne = put_all (λ q z. (q ≡ r → ⊥) → z ≡ r → ⊥) l.same (r + 1) w (λ _ e. other e) (λ q _ ne e. h.apart q ne e) q ne
 
-module _ (named : ℕ → Bool) (i r : ℕ) (l : Label) (h : Stands named i r l) where
+module _ (named : ℕ → Bool) (i r : ℕ) (l : Label) (h : RegistersStand named i r l) where
   -- ---- scoped
   pub scoped_frame : (ints refs : ℕ) → ((q : ℕ) → refs ≤ q → l.env q ≡ Empty) → ((j : ℕ) → ints ≤ j → l.ints j ≡ Anything) → IsScoped ints refs l
   scoped_frame ints refs few numbers = record {
@@ -135,7 +135,7 @@ module _ (named : ℕ → Bool) (i r : ℕ) (l : Label) (h : Stands named i r l)
   }
 
   -- ---- numbers
-  pub stands_number : (n : Number) → ((q : ℕ) → HasBase n q → q < r) → Stands named (i + 1) r (set_number l i n)
+  pub stands_number : (n : Number) → ((q : ℕ) → HasBase n q → q < r) → RegistersStand named (i + 1) r (set_number l i n)
   stands_number n base = record {
     closed = refl;
     free = h.free;
@@ -161,7 +161,7 @@ module _ (named : ℕ → Bool) (i r : ℕ) (l : Label) (h : Stands named i r l)
     abbrev k : Label
     k = fill l r (Refers s) c b
 
-    pub stands_fill : Stands named i (r + 1) k
+    pub stands_fill : RegistersStand named i (r + 1) k
     stands_fill = record {
       closed = refl;
       free = λ q le. put_other l.env r q (Refers s) (λ e. omega (arith, e, le)) ∙ h.free q (omega (arith, le));

@@ -4,7 +4,7 @@ use Rattle.sharc_flat_form.specs.declared.op.Op.{Op}
 use Rattle.sharc_flat_form.specs.declared.op.Op.TheVariants as op
 use Rattle.sharc_flat.specs.Flattened.{if_code, choice_code, loop_code, body_at}
 use Rattle.sharc_invariant.specs.Labels.{Label}
-use Rattle.sharc_typed_laws.specs.{Stretches.{Mark, Setting, Way, LeadsFrom}, Places.{Stands, mark}}
+use Rattle.sharc_typed_laws.specs.{Stretches.{Mark, Setting, Way, LeadsFrom}, Places.{RegistersStand, mark}}
 
 -- a test that leads over so many statements where it is not met
 abbrev pub turn_by : List Op → ℕ → ℕ → List Op
@@ -64,4 +64,4 @@ module _ (z : Setting) (f : ℕ) (ways : List Way) (named : ℕ → Bool) (from 
 -- first.
 abbrev pub DecisionsAreTyped : Type 0
 DecisionsAreTyped = (z : Setting) (f : ℕ) (ways : List Way) (named : ℕ → Bool) (from i r : ℕ) (l : Label)
-    → Stands named i r l → l.function ≡ Some f → DecisionsLead z f ways named from i r l
+    → RegistersStand named i r l → l.function ≡ Some f → DecisionsLead z f ways named from i r l

@@ -15,7 +15,7 @@ use Rattle.sharc_invariant.specs.Types.{StaticType}
 use Rattle.sharc_invariant.specs.Labels.{Refers, Number, Within, Label, LessNumber, set_number, fill}
 use Rattle.sharc_typed_laws.specs.Passes.{TypedAnyhow, Knows}
 use Rattle.sharc_typed_laws.specs.Stretches.{Mark, Setting, Tells, IsLine, flat_labels, Way, LeadsAmong}
-use Rattle.sharc_typed_laws.specs.{Places.{Stands, IsNamed, IsPlain, AreLow, mark}, Premises.{Typing, IsCopyOf}}
+use Rattle.sharc_typed_laws.specs.{Places.{RegistersStand, IsNamed, IsPlain, AreLow, mark}, Premises.{Typing, IsCopyOf}}
 use Rattle.sharc_typed_laws.specs.{Typable.{IsBare, GoesTo, StandsIn, HasType, IsTypable}, Stated.SimpleTypable}
 
 -- ---- lines
@@ -95,7 +95,7 @@ module _ (z : Setting) (f : ℕ) (ways : List Way) (named : ℕ → Bool) (top f
 -- The parts of expressions that speak of no type of the source, where the first registers of a frame are taken.
 abbrev pub PartsAreTyped : Type 0
 PartsAreTyped = (z : Setting) (f : ℕ) (ways : List Way) (named : ℕ → Bool) (top from i r : ℕ) (l : Label)
-    → AreLow named top → top ≤ r → Stands named i r l → l.function ≡ Some f → PartsLead z f ways named top from i r l
+    → AreLow named top → top ≤ r → RegistersStand named i r l → l.function ≡ Some f → PartsLead z f ways named top from i r l
 
 -- ---- expressions
 module _ (z : Setting) (f : ℕ) (ways : List Way) (y : Typing) (c : Context) (from i r : ℕ) (l : Label) (os : List Op)

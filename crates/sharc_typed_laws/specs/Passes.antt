@@ -7,7 +7,7 @@ use Rattle.sharc_code.specs.{declared.code.Code.Code, declared.instr.Cell.Cell}
 use Rattle.sharc_code.specs.declared.instr.Cell.TheVariants as cells
 use Rattle.sharc_flat_form.specs.{declared.op.Op.Op, Machine.{Flat, function_of as flat_function}}
 use Rattle.sharc_flat_form.specs.declared.op.Op.TheVariants as op
-use Rattle.sharc_guard.specs.Known.{is_straight, leads_to, is_target, writes_ref, Place, in_variable, in_global, Access}
+use Rattle.sharc_guard.specs.Known.{is_straight, leads_to, is_target, writes_ref, SimplePlace, in_variable, in_global, Access}
 use Rattle.sharc_guard.specs.Known.{access, tells, Know, place_of, known, drops}
 use Rattle.sharc_invariant.specs.Types.{Targets, AreTargets, StaticType, cells_of}
 use Rattle.sharc_invariant.specs.Labels.{Refers, Empty, Nth, Number, Anything, Exactly, OfElement, OfGlobal, Pass, IsIn}
@@ -20,11 +20,11 @@ abbrev pub is_write : Kind → Bool
 is_write Read = false
 is_write Write = true
 
-abbrev pub pass_at : Kind → Place → Pass
+abbrev pub pass_at : Kind → SimplePlace → Pass
 pass_at kind (in_variable x n) = record { write = is_write kind; base = Some x; cell = n }
 pass_at kind (in_global g n) = record { write = is_write kind; base = None; cell = n - 2 }
 
-abbrev pub pass_of_place : Kind → Option Place → List Pass
+abbrev pub pass_of_place : Kind → Option SimplePlace → List Pass
 pass_of_place kind None = []
 pass_of_place kind (Some place) = pass_at kind place ∷ []
 

@@ -10,7 +10,7 @@ use Rattle.sharc_typed_laws.specs.{Inside.lock_of, Lines.MayPass, Stretches.{Mar
 
 -- Integer registers are free from the first number on, reference registers from the second one on. Those below hold
 -- something, and what types name are constants, which stand among the first ones.
-pub record Stands (named : ℕ → Bool) (ints refs : ℕ) (l : Label) : Type 0 where
+pub record RegistersStand (named : ℕ → Bool) (ints refs : ℕ) (l : Label) : Type 0 where
   pub closed : l.gate ≡ Closed
   pub free : (q : ℕ) → refs ≤ q → l.env q ≡ Empty
   pub full : (q : ℕ) → q < refs → l.env q ≢ Empty

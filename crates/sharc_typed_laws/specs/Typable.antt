@@ -2,8 +2,8 @@
 use Rattle.std.specs.Prelude.{ℕ, ◌+◌, ◌≡◌, ◌<◌, ◌≤◌, ◌⊎◌, Bool, true, false, List, [], ◌∷◌, length, drop, Option, Some}
 use Rattle.std.specs.Prelude.{None, codes, if◌then◌else◌}
 use Rattle.std.specs.Str.{bytes_eq}
-use Rattle.sharc_tree.specs.{declared.token.Site.Site, declared.tree.expression.Access.Access}
-use Rattle.sharc_tree.specs.declared.tree.expression.Access.TheVariants.{Dot, Arrow}
+use Rattle.sharc_tree.specs.{declared.token.Site.Site, declared.tree.expression.FieldOperator.FieldOperator}
+use Rattle.sharc_tree.specs.declared.tree.expression.FieldOperator.TheVariants.{Dot, Arrow}
 use Rattle.sharc_tree.specs.declared.tree.expression.BinaryOperator.{BinaryOperator}
 use Rattle.sharc_tree.specs.declared.tree.expression.BinaryOperator.TheVariants.{LogicalOr, LogicalAnd}
 use Rattle.sharc_tree.specs.{declared.tree.expression.Constant.Constant, declared.tree.expression.PlaceCall.PlaceCall}
@@ -35,7 +35,7 @@ use Rattle.sharc_invariant.specs.{Types.{StaticType, Content, field_at, cells_of
 use Rattle.sharc_invariant.specs.Labels.{Entry, Empty, Refers, Unknown, Anything, Exactly, Within, Label, LessNumber}
 use Rattle.sharc_invariant.specs.Labels.{EntryMentions, HasBase}
 use Rattle.sharc_invariant.specs.Typed.{is_shift, is_comparison, Passes, IsShared, Recasts, IsLayout}
-use Rattle.sharc_typed_laws.specs.{Stretches.Setting, Places.{Stands, IsNamed, IsPlain, no_type}}
+use Rattle.sharc_typed_laws.specs.{Stretches.Setting, Places.{RegistersStand, IsNamed, IsPlain, no_type}}
 use Rattle.sharc_typed_laws.specs.Premises.{Typing, HoldsVariables, IsCopyOf, Ground, IntegerTyped, ReferenceTyped}
 use Rattle.sharc_typed_laws.specs.Premises.{MutexTyped}
 
@@ -51,7 +51,7 @@ GoesTo e s = (e ≡ Empty) ⊎ (e ≡ Refers s)
 
 -- the registers that are taken are those of the variables and of values at hand
 pub record StandsIn (y : Typing) (c : Context) (f from i r : ℕ) (l : Label) : Type 0 where
-  pub stands : Stands (y.named c) i r l
+  pub stands : RegistersStand (y.named c) i r l
   pub owned : l.function ≡ Some f
   pub holds : HoldsVariables y c l
   pub high : ref_count c.scope ≤ r
@@ -194,7 +194,7 @@ module _ (z : Setting) (f : ℕ) (y : Typing) where
       ≡ cells_of z.targets (type_by (y.entry c a)).target))
       × of_number × IsNumber c n × ElementTyped c a (own_field own 0) guard
 
-  abbrev pub FieldTypable : Context → Access → Expression → Type 0 → Type 0 → Type 0
+  abbrev pub FieldTypable : Context → FieldOperator → Expression → Type 0 → Type 0 → Type 0
   FieldTypable c Dot a of_base of_pointer = of_base
   FieldTypable c Arrow a of_base of_pointer = of_pointer × IsPointer c a
 

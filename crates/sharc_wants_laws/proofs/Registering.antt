@@ -6,7 +6,7 @@ use Rattle.sharc_ctype.specs.Resolved.{function_at}
 use Rattle.sharc_mode.specs.Moded.{Assignment}
 use Rattle.sharc_meaning.specs.Meaning as Meaning
 use Rattle.sharc_meaning.specs.{Reference.{is_null, number_of}, References.refers, Runs.{IsNamedAt, answers_of}, State.{Outcome, wants, ended, stopped, spent}}
-use Rattle.sharc_code.specs.{declared.code.Code.Code, declared.code.Function.Function, declared.instr.Instr.Instr, declared.instr.Instr.TheVariants.{Exit, Free, Lower, MoveReference, RaiseLoaded, TestSole}, declared.shape.Shape.Shape, declared.state.Stage.Stage, declared.state.Stage.TheVariants.Links, declared.state.State.State, declared.state.State.TheVariants.{Runs, Tries, Stopped, Ended}, declared.state.Stop.Stop, declared.state.Stop.TheVariants.{Conflict, NoLock, NotSole, Trap as Trapped}, Machine.{Machine, instr_at, no_function, function_of}, Path.may_go, Says.reference}
+use Rattle.sharc_code.specs.{declared.code.Code.Code, declared.code.Function.Function, declared.instr.Instr.Instr, declared.instr.Instr.TheVariants.{Exit, Free, Lower, MoveReference, RaiseLoaded, TestSole}, declared.shape.Shape.Shape, declared.state.Stage.Stage, declared.state.Stage.TheVariants.Links, declared.state.TurnState.TurnState, declared.state.TurnState.TheVariants.{Runs, Tries, Stopped, Ended}, declared.state.Stop.Stop, declared.state.Stop.TheVariants.{Conflict, NoLock, NotSole, Trap as Trapped}, Machine.{Machine, instr_at, no_function, function_of}, Path.may_go, Says.reference}
 use Rattle.sharc_flat_form.specs.{Machine.{Flat, At, Came, exec, start, turn}, Path.{at_after, asked, PathsAreRuns}}
 use Rattle.sharc_flat.specs.Correct.{AsksTheSame, MayStart, SameAs}
 use Rattle.sharc_guarded_form.specs.{declared.guarded.Guarded.Guarded, Machine.{Program, Thread, statement_at}, Path.{started, thread_after}}
@@ -65,7 +65,7 @@ module _ (p : Program) (a : Thread) (register : ℕ) (raises : statement_at p a.
   not_stopped None h = h
   not_stopped (Some stop) h = no_stop stop h
 
-  pub on : (state : State) (stop : Option Stop) → IsOver p a state stop → may_go state ≡ true
+  pub on : (state : TurnState) (stop : Option Stop) → IsOver p a state stop → may_go state ≡ true
   on Runs stop h = refl
   on Tries stop h = refl
   on Stopped stop h = absurd (not_stopped stop h)

@@ -13,7 +13,7 @@ use Rattle.sharc_meaning.specs.{Runs.{IsNamedAt, answers_of, by}, State.{Outcome
 use Rattle.sharc_code.specs.{declared.code.Code.Code, declared.instr.Cell.Cell, declared.instr.Instr.Instr}
 use Rattle.sharc_code.specs.declared.instr.Instr.TheVariants.{Lock, Join, CondWait, Load, Store, LoadRef, Exchange}
 use Rattle.sharc_code.specs.declared.instr.Instr.TheVariants.{TakeCell, ChkRead, ChkWrite, ChkLock, ChkLockLoaded}
-use Rattle.sharc_code.specs.{declared.shape.Shape.Shape, declared.state.State.TheVariants.Ended}
+use Rattle.sharc_code.specs.{declared.shape.Shape.Shape, declared.state.TurnState.TheVariants.Ended}
 use Rattle.sharc_code.specs.{Machine.{Machine, int, instr_at}, Paced.paced_in, Path.{begun, machine_after, CodePath}}
 use Rattle.sharc_code.specs.{Runs.{Turn, turns_of}, Says.{cell_at, made_cell, mode_of, place_at}}
 use Rattle.sharc_code.specs.Whole.{CheckedRun, Erase, place_after}

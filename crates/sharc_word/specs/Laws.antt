@@ -1,7 +1,7 @@
 -- Laws of histories and of ports, for the crates above.
 use Rattle.std.specs.Prelude.{ℕ, ◌≡◌, ◌↔◌, List, [], ◌∷◌, ◌++◌, length, map, All}
 use Rattle.sharc_word.specs.{declared.step.WordEvent.WordEvent, Words.{words_after, IsWord, IsOfWords}}
-use Rattle.sharc_word.specs.{History.{LegalHistory, MayFollow}, Place.{Place, Leads, LeadsInWords, LeadsInEvents}}
+use Rattle.sharc_word.specs.{History.{LegalHistory, MayFollow}, Place.{PortState, Leads, LeadsInWords, LeadsInEvents}}
 
 -- a legal history goes on with an event exactly where that event can come next
 abbrev pub HistoryGoesOn : Type 0
@@ -60,21 +60,21 @@ pub record HistoryLaws : Type 0 where
 
 -- events in two parts lead from one place to another exactly where the first part leads to some place, and the second
 -- on from there
-abbrev pub LeadsJoin : (Place → WordEvent → Place → Type 0) → Type 0
-LeadsJoin leads = (from to : Place) (earlier later : List WordEvent)
+abbrev pub LeadsJoin : (PortState → WordEvent → PortState → Type 0) → Type 0
+LeadsJoin leads = (from to : PortState) (earlier later : List WordEvent)
     → Leads leads from (earlier ++ later) to
-    ↔ ((between : Place) × Leads leads from earlier between × Leads leads between later to)
+    ↔ ((between : PortState) × Leads leads from earlier between × Leads leads between later to)
 
 -- the events of a port that has its words for itself are a legal history from these words, and leave the last words in
 -- their place
 abbrev pub WordsLeadByHistory : Type 0
-WordsLeadByHistory = (from to : Place) (events : List WordEvent)
+WordsLeadByHistory = (from to : PortState) (events : List WordEvent)
     → Leads LeadsInWords from events to
     ↔ (LegalHistory from.words events × (to ≡ record { words = words_after from.words events; events = from.events }))
 
 -- the events of a port that shares its words are added to those that it has made
 abbrev pub EventsLeadByAppending : Type 0
-EventsLeadByAppending = (from to : Place) (events : List WordEvent)
+EventsLeadByAppending = (from to : PortState) (events : List WordEvent)
     → Leads LeadsInEvents from events to ↔ (to ≡ record { words = from.words; events = from.events ++ events })
 
 -- the laws of places together

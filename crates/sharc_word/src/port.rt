@@ -7,7 +7,7 @@ use crate::step::WordStep;
 pub trait Port {
     ghost use Rattle.std.specs.Prelude.{ℕ, ◌≡◌, ◌<◌, List};
     ghost use Rattle.sharc_word.specs.declared.step.WordEvent.{WordEvent};
-    ghost use Rattle.sharc_word.specs.Place.{Place, event_of};
+    ghost use Rattle.sharc_word.specs.Place.{PortState, event_of};
 
     // The number of its words, which no step changes.
     ghost count: { Self → ℕ };
@@ -19,10 +19,10 @@ pub trait Port {
     ghost serves: { Self → ℕ → Type 0 };
 
     // Where it is.
-    ghost place: { Self → Place };
+    ghost place: { Self → PortState };
 
     // Which events lead from one place to another.
-    ghost leads: { Place → WordEvent → Place → Type 0 };
+    ghost leads: { PortState → WordEvent → PortState → Type 0 };
 
     /// Makes one step, and answers the word that it found.
     fn step(&mut self, step: WordStep) -> u64

@@ -12,7 +12,7 @@ use sharc_code::Instr::{
 };
 use sharc_code::Operator::{Add, Less, Multiply, Remainder, Subtract};
 use sharc_code::{Cell, Code, Instr, Shape, Width, opening};
-use sharc_cpu::{Pause, Plan, Thread, run_quantum, run_trying};
+use sharc_cpu::{Pause, RowPlan, Thread, run_quantum, run_trying};
 use sharc_shadow::Kind;
 use sharc_word::{MemPort, Port, WordOp, WordStep};
 use std::alloc::{AllocError, Global};
@@ -28,7 +28,7 @@ const TURNS: u32 = 250;
 // This many turns, rows in one go, and the answer.
 fn by_rows(
     code: &Code,
-    plan: &Plan,
+    plan: &RowPlan,
     shape: &Shape,
     thread: &mut Thread,
     port: &mut MemPort,
@@ -123,7 +123,7 @@ fn walk(
 ) -> Result<Pause, Fail> {
     let code = code(alloc, body.to_vec(alloc)?, 0)?;
     let shape = shape();
-    let plan = Plan::of(alloc, &code)?;
+    let plan = RowPlan::of(alloc, &code)?;
     let mut thread = Thread::new(alloc, &code, &shape, THREAD)?;
     let mut port = words(alloc, &code, &shape, written)?;
     let mut last = Pause::Ran;
@@ -262,7 +262,7 @@ fn rows_are_their_turns(rt: HostRuntime) -> Result<(), Fail> {
 fn rows_are_found(rt: HostRuntime) -> Result<(), Fail> {
     let alloc = rt.alloc();
     let code = code(alloc, LOOP.to_vec(alloc)?, 0)?;
-    let plan = Plan::of(alloc, &code)?;
+    let plan = RowPlan::of(alloc, &code)?;
     for pc in 0..LOOP.len() {
         assert_eq!(rt; plan.is_alone(pc), ALONE.contains(&pc), "place {pc}");
     }

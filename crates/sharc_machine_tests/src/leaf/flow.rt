@@ -4,8 +4,8 @@ ghost use Rattle.std.specs.Prelude.{IsTrue};
 ghost use Rattle.std.specs.List.{All};
 ghost use Rattle.sharc_graph.specs.Paths.{IsWithin};
 
-use sharc_constraints::{Link, Place, lead_down, least_assignment, least_by_rounds, make_equal};
-use sharc_graph::{Edge, Finding};
+use sharc_constraints::{Link, PositionKind, lead_down, least_assignment, least_by_rounds, make_equal};
+use sharc_graph::{Edge, NodeFinding};
 use std::alloc::{AllocError, Global};
 use std::process::Abort;
 use std::test::Fail;
@@ -34,15 +34,15 @@ fn kinds_of_sources(rt: HostRuntime) -> Result<(), Fail> {
     // 0 is written readonly above 1, and equal to 2; 3 is written dynamic and equal to 4; 5 is written private above 6;
     // 7 is a root above 8, which is equal to 1.
     let places = vec![in alloc;
-        Place::Other,
-        Place::Unwritten,
-        Place::Unwritten,
-        Place::Dynamic,
-        Place::Unwritten,
-        Place::Private,
-        Place::Unwritten,
-        Place::Root,
-        Place::Unwritten,
+        PositionKind::Other,
+        PositionKind::Unwritten,
+        PositionKind::Unwritten,
+        PositionKind::Dynamic,
+        PositionKind::Unwritten,
+        PositionKind::Private,
+        PositionKind::Unwritten,
+        PositionKind::Root,
+        PositionKind::Unwritten,
     ]?;
     let links = vec![in alloc;
         link(0, 1, true),
@@ -57,16 +57,16 @@ fn kinds_of_sources(rt: HostRuntime) -> Result<(), Fail> {
     ]?;
     assert!(rt; places.len() < 100 && links.len() < 100 && are_within(places.len(), &links));
     let findings = least_assignment(alloc, &places, &links)?;
-    let behind = |rank, reason| Finding::Behind { rank, reason };
+    let behind = |rank, reason| NodeFinding::Behind { rank, reason };
     let want = vec![in alloc;
-        Finding::Source,
+        NodeFinding::Source,
         behind(1, 0),
-        Finding::Apart,
-        Finding::Source,
+        NodeFinding::Apart,
+        NodeFinding::Source,
         behind(1, 3),
-        Finding::Apart,
-        Finding::Apart,
-        Finding::Source,
+        NodeFinding::Apart,
+        NodeFinding::Apart,
+        NodeFinding::Source,
         behind(1, 7),
     ]?;
     assert!(rt; findings == want);
@@ -81,17 +81,17 @@ fn random(state: &mut u64, below: u32) -> u32 {
     ((*state >> 33) % u64::from(below.max(1))) as u32
 }
 
-fn random_place(state: &mut u64) -> Place {
+fn random_place(state: &mut u64) -> PositionKind {
     match random(state, 12) {
-        0 => Place::Root,
-        1 => Place::Dynamic,
-        2 => Place::Private,
-        3 => Place::Other,
-        _ => Place::Unwritten,
+        0 => PositionKind::Root,
+        1 => PositionKind::Dynamic,
+        2 => PositionKind::Private,
+        3 => PositionKind::Other,
+        _ => PositionKind::Unwritten,
     }
 }
 
-fn random_places(alloc: Global, state: &mut u64, count: u32) -> Result<Vec<Place>, AllocError> {
+fn random_places(alloc: Global, state: &mut u64, count: u32) -> Result<Vec<PositionKind>, AllocError> {
     let mut places = Vec::new(alloc);
     for _ in 0..count {
         places.push(random_place(state))?;
@@ -119,18 +119,18 @@ fn random_links(alloc: Global, state: &mut u64, count: u32) -> Result<Vec<Link>,
 }
 
 // Whether both found the same of the positions without a written mode.
-fn agree(places: &[Place], fast: &[Finding], plain: &[Finding]) -> bool {
-    let unwritten = |place: &Place| matches!(place, Place::Root | Place::Unwritten);
+fn agree(places: &[PositionKind], fast: &[NodeFinding], plain: &[NodeFinding]) -> bool {
+    let unwritten = |place: &PositionKind| matches!(place, PositionKind::Root | PositionKind::Unwritten);
     fast.len() == places.len()
         && plain.len() == places.len()
         && places.iter().zip(fast.iter().zip(plain)).all(|(place, (fast, plain))| !unwritten(place)
             || fast == plain)
 }
 
-fn behind_count(findings: &[Finding]) -> usize {
+fn behind_count(findings: &[NodeFinding]) -> usize {
     findings
         .iter()
-        .filter(|finding| matches!(finding, Finding::Behind { rank, .. } if *rank > 2))
+        .filter(|finding| matches!(finding, NodeFinding::Behind { rank, .. } if *rank > 2))
         .count()
 }
 

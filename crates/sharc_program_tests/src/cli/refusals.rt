@@ -1,7 +1,7 @@
 //! Lines of refusals, as a reader of them expects.
 
 use sharc_grammar::fault::GrammarFault;
-use sharc_lex::Fault;
+use sharc_lex::TokenFault;
 use sharc_names::fault::FaultCode;
 use sharc_report::{SourceFault, fault_text};
 use sharc_tree::name::Name;
@@ -31,13 +31,13 @@ fn fault<C: Copy>(
 
 #[test]
 fn lines_of_the_lexer(rt: HostRuntime) -> Result<(), Fail> {
-    let at = fault(rt.alloc(), Fault::Byte(64), "input", 1, 25, "@")?;
+    let at = fault(rt.alloc(), TokenFault::Byte(64), "input", 1, 25, "@")?;
     let line = fault_text(rt.alloc(), &SourceFault::Lexer(at))?;
     assert_eq!(rt;
         line.as_slice(),
         b"input:1: L1 byte 64 at offset 25\n".as_slice()
     );
-    let at = fault(rt.alloc(), Fault::Identifier, "input", 1, 4, "")?;
+    let at = fault(rt.alloc(), TokenFault::Identifier, "input", 1, 4, "")?;
     let line = fault_text(rt.alloc(), &SourceFault::Lexer(at))?;
     assert_eq!(rt;
         line.as_slice(),

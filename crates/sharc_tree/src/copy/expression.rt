@@ -6,7 +6,7 @@ ghost use Rattle.sharc_tree.specs.View.{view_expr, view_arguments};
 
 use crate::held::{both, in_box};
 use crate::token::{Site, Span};
-use crate::tree::{Access, BinaryOperator, Expr, Identifier, WrittenType};
+use crate::tree::{FieldOperator, BinaryOperator, Expr, Identifier, WrittenType};
 use std::alloc::{AllocError, Global};
 
 fn copy_identifier(alloc: Global, span: Span, name: &Identifier) -> Result<Expr, AllocError>
@@ -56,7 +56,7 @@ fn copy_field(
     alloc: Global,
     span: Span,
     base: Box<Expr>,
-    access: Access,
+    access: FieldOperator,
     name: &Identifier,
 ) -> Result<Expr, AllocError>
     ensures { IfOk result (λ e. view_expr e ≡ field span (view_expr base.value) access name.now) }

@@ -59,7 +59,7 @@ pub enum UnaryOperator {
 
 /// How a field is named.
 #[derive(Clone, Copy)]
-pub enum Access {
+pub enum FieldOperator {
     /// `.`
     Dot,
     /// `->`
@@ -122,7 +122,7 @@ pub enum Expr {
     Field {
         span: Span,
         base: Box<Expr>,
-        access: Access,
+        access: FieldOperator,
         name: Identifier,
     },
     /// An operator and its operand.

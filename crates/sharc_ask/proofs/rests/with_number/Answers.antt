@@ -1,6 +1,6 @@
 use Rattle.std.proofs.Common.{◌≡◌, sym, subst, to_z, of_z, w64, rules, to_z-of_z}
 use Rattle.std.specs.Prelude.{ℤ}
-use Rattle.sharc_meaning.specs.{Places.{Place, variable, stored}, State.{Run, give}}
+use Rattle.sharc_meaning.specs.{Places.{StorePlace, variable, stored}, State.{Run, give}}
 use Rattle.sharc_tree.specs.View.{view_expr}
 use Rattle.sharc_names.specs.Kinds.{declared_kind}
 use Rattle.sharc_mode.specs.Sharings.{private}
@@ -26,7 +26,7 @@ returns-in-PointerElement-clause-means c = λ on_call.
     let fits = c.ranges.x in
     let w = c.in-PointerElement in
     let same : to_z w64 (of_z w64 w.pointer) ≡ w.pointer = search rules in
-    let run : ℤ → ℤ → Run Place = λ y z. element_behind m.typed w.site (view_expr w.a.now) y z in
+    let run : ℤ → ℤ → Run StorePlace = λ y z. element_behind m.typed w.site (view_expr w.a.now) y z in
     let done : DoesAs view_place k c.element_behind.result k (run w.pointer x) = subst (λ z. DoesAs view_place k c.element_behind.result k (run z x)) same (subst (λ z. DoesAs view_place k c.element_behind.result k (run (to_z w64 (of_z w64 w.pointer)) z)) (to_z-of_z fits) c.element_behind.ensures) in
     subst (λ z. Plans on_call m k c.done_place-in-PointerElement.result k (number_means m z x)) (sym w.is) (c.done_place-in-PointerElement.ensures.means on_call m k k (run w.pointer x) done)
 

@@ -1,7 +1,7 @@
 use Rattle.std.proofs.{Common.{◌≡◌, ◌++◌, Err, w64, to_z, of_z, refl, ap, ◌∙◌, subst}, lemmas.Int.to_z-of_z}
 use Rattle.sharc_ctype.specs.Resolved.{function_at}
 use Rattle.sharc_meaning.specs.{Meaning.{run_thread, start}, State.pointers_among}
-use Rattle.sharc_ask_steps.specs.declared.state.End.TheVariants as ends
+use Rattle.sharc_ask_steps.specs.declared.state.RunEnd.TheVariants as ends
 use Rattle.sharc_ask_steps.specs.View.{Known, known, view_state, Over, Does}
 use Rattle.sharc_ask.specs.declared.asked.Outcome.TheVariants.{Wants, StoppedX}
 use Rattle.sharc_ask.proofs.Telling.{held_of, tells_stopped, tells_wants}

@@ -1,11 +1,11 @@
 use Rattle.std.specs.Prelude.{◌+◌, ◌*◌, Result}
-use Rattle.sharc_ask_steps.specs.{declared.state.End.End, View.{Known, view_state}}
+use Rattle.sharc_ask_steps.specs.{declared.state.RunEnd.RunEnd, View.{Known, view_state}}
 use Rattle.sharc_ask.specs.{declared.plan.Value.Value, Plans.size, Stack.{stack_of, Comes, load}}
 use Rattle.sharc_ask.proofs.walk.walk.Given as goal
 
 abbrev pub invariant-loop-stack : goal.invariant-loop-stack
 invariant-loop-stack l = record {
-  so_far : (r : Result Value End) (after : Known) → Comes l.program l.at (stack_of l.stack) (view_state l.st) r after → Comes l.program l.fn.begun (stack_of l.fn.left) (view_state l.fn.st) r after;
+  so_far : (r : Result Value RunEnd) (after : Known) → Comes l.program l.at (stack_of l.stack) (view_state l.st) r after → Comes l.program l.fn.begun (stack_of l.fn.left) (view_state l.fn.st) r after;
 }
 
 abbrev pub decreases-loop-stack : goal.decreases-loop-stack

@@ -1,9 +1,9 @@
 use Rattle.std.proofs.Common.{◌≡◌, true, false, refl, sym, ap, ◌∙◌}
-use Rattle.sharc_code.specs.{declared.state.State.State, declared.state.State.TheVariants.{Runs, Tries, Stopped, Ended}, Whole.place_after}
+use Rattle.sharc_code.specs.{declared.state.TurnState.TurnState, declared.state.TurnState.TheVariants.{Runs, Tries, Stopped, Ended}, Whole.place_after}
 use Rattle.sharc_code_laws.proofs.{Sorts.is_ended, Standing.holds}
 use Rattle.sharc_code_laws.proofs.laws.states_law.Goals as goal
 
-ended_is : (state : State) → is_ended state ≡ true → state ≡ Ended
+ended_is : (state : TurnState) → is_ended state ≡ true → state ≡ Ended
 ended_is Runs e = absurd cc
 ended_is Tries e = absurd cc
 ended_is Stopped e = absurd cc

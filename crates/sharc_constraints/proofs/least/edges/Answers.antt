@@ -1,5 +1,5 @@
 use Rattle.std.proofs.{Common.{◌≡◌, ◌<◌, false, length, sym, ap, ◌∙◌}, lemmas.List.get_or_default}
-use Rattle.sharc_constraints.specs.{declared.place.Place.TheVariants.{Root, Private}, Flow.{place_at, leads, link_of}}
+use Rattle.sharc_constraints.specs.{declared.place.PositionKind.TheVariants.{Root, Private}, Flow.{place_at, leads, link_of}}
 use Rattle.sharc_constraints.proofs.{Edges.{link_at, link_kept, link_left}, least.edges.Goals.{then-leads+in_ok-push, else-leads}}
 use Rattle.sharc_constraints.proofs.least.edges.Goals as goal
 

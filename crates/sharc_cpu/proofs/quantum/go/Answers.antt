@@ -1,5 +1,5 @@
 use Rattle.std.proofs.Common.{◌≡◌, ℕ, ◌+◌, ◌-◌, refl, sym, ap, ◌∙◌, subst, arith}
-use Rattle.sharc_code.specs.{declared.state.State.TheVariants.Runs, Path.may_go}
+use Rattle.sharc_code.specs.{declared.state.TurnState.TheVariants.Runs, Path.may_go}
 use Rattle.sharc_cpu.specs.{View.machine_of, Quantum.Advanced}
 use Rattle.sharc_cpu.proofs.Advancing.{advance_on}
 use Rattle.sharc_cpu.proofs.quantum.go.Goals as goal

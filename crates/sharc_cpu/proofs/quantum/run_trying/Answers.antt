@@ -1,7 +1,7 @@
 use Rattle.std.proofs.Common.{◌≡◌, ◌+◌, ℕ, sym, ap, ◌∙◌, subst, arith}
-use Rattle.sharc_code.specs.{declared.state.State.State, Machine.Machine, Waits.wait_of}
-use Rattle.sharc_code.specs.declared.state.State.TheVariants as states
-use Rattle.sharc_cpu.specs.{Thread.ThreadView, declared.parts.Parts.Parts, View.{machine_of, rest_of, IsWithin}, Quantum.{GoesWhere, pause_of}}
+use Rattle.sharc_code.specs.{declared.state.TurnState.TurnState, Machine.Machine, Waits.wait_of}
+use Rattle.sharc_code.specs.declared.state.TurnState.TheVariants as states
+use Rattle.sharc_cpu.specs.{Thread.ThreadView, declared.parts.ThreadParts.ThreadParts, View.{machine_of, rest_of, IsWithin}, Quantum.{GoesWhere, pause_of}}
 use Rattle.sharc_cpu.proofs.{Paths.goes_none, OnPath.{thread_within, goes_thread, stop_is_told}}
 use Rattle.sharc_cpu.proofs.quantum.run_trying.Goals as goal
 
@@ -16,7 +16,7 @@ returns-in-Stopped-clause-quantum g c =
       goes = goes_none g.P.Port.leads (g.P.Port.serves c.args.port.now t.machine.own.number) c.args.code.now c.args.shape.now t.machine (g.P.Port.place c.args.port.now);
       made = omega arith;
       within = c.requires.limit;
-      pause_is = ap (λ (x : State). pause_of x 0 t.made c.args.limit) (sym is);
+      pause_is = ap (λ (x : TurnState). pause_of x 0 t.made c.args.limit) (sym is);
       ran = λ e. cc;
     }
 
@@ -31,50 +31,50 @@ returns-in-Ended-clause-quantum g c =
       goes = goes_none g.P.Port.leads (g.P.Port.serves c.args.port.now t.machine.own.number) c.args.code.now c.args.shape.now t.machine (g.P.Port.place c.args.port.now);
       made = omega arith;
       within = c.requires.limit;
-      pause_is = ap (λ (x : State). pause_of x 0 t.made c.args.limit) (sym is);
+      pause_is = ap (λ (x : TurnState). pause_of x 0 t.made c.args.limit) (sym is);
       ran = λ e. cc;
     }
 
 pub go_on-went-requires-clause-within : goal.go_on-went-requires-clause-within
 go_on-went-requires-clause-within g c =
-    subst (λ (p : Parts). IsWithin c.args.shape.now (rest_of p).own) (sym c.deref_mut.ensures.value)
+    subst (λ (p : ThreadParts). IsWithin c.args.shape.now (rest_of p).own) (sym c.deref_mut.ensures.value)
     (subst (λ (v : ThreadView). IsWithin c.args.shape.now v.machine.own) (sym c.thread.view_is) (thread_within c.thread_laws.ensures c.args.code.now c.args.shape.now c.args.thread.now c.requires.thread))
 
 pub returns-clause-thread : goal.returns-clause-thread
 returns-clause-thread g c =
     let serves = g.P.Port.serves c.args.port.now c.thread.inside.parts.value.number in
     let same : c.deref_mut.result.now ≡ c.thread.inside.parts.value = c.deref_mut.ensures.value in
-    let goes = subst (λ (p : Parts). GoesWhere (g.P.Port.serves c.args.port.now p.number) g.P.Port.leads c.args.code.now c.args.shape.now (machine_of c.thread.inside.at p) (machine_of c.go_on-went.result.at c.go_on-went.new.parts) (g.P.Port.place c.args.port.now) (g.P.Port.place c.go_on-went.new.port) c.go_on-went.result.turns c.go_on-went.result.made) same c.go_on-went.ensures.goes in
+    let goes = subst (λ (p : ThreadParts). GoesWhere (g.P.Port.serves c.args.port.now p.number) g.P.Port.leads c.args.code.now c.args.shape.now (machine_of c.thread.inside.at p) (machine_of c.go_on-went.result.at c.go_on-went.new.parts) (g.P.Port.place c.args.port.now) (g.P.Port.place c.go_on-went.new.port) c.go_on-went.result.turns c.go_on-went.result.made) same c.go_on-went.ensures.goes in
     goes_thread serves g.P.Port.leads c.args.code.now c.args.shape.now c.args.thread.now _ (g.P.Port.place c.args.port.now) (g.P.Port.place c.go_on-went.new.port) c.go_on-went.result.turns c.go_on-went.result.made
     c.requires.thread
     (subst (λ (m : Machine). GoesWhere serves g.P.Port.leads c.args.code.now c.args.shape.now m (machine_of c.go_on-went.result.at c.go_on-went.new.parts) (g.P.Port.place c.args.port.now) (g.P.Port.place c.go_on-went.new.port) c.go_on-went.result.turns c.go_on-went.result.made) (ap (λ (v : ThreadView). v.machine) c.thread.view_is) goes)
-    (c.go_on-went.ensures.number ∙ ap (λ (p : Parts). p.number) same ∙ ap (λ (v : ThreadView). v.machine.own.number) c.thread.view_is)
+    (c.go_on-went.ensures.number ∙ ap (λ (p : ThreadParts). p.number) same ∙ ap (λ (v : ThreadView). v.machine.own.number) c.thread.view_is)
     (ap (λ (n : ℕ). n + c.go_on-went.result.made) (ap (λ (v : ThreadView). v.made) c.thread.view_is))
-    (subst (λ (p : Parts). c.wait_of-thread-inside.result ≡ wait_of c.args.code.now c.args.shape.now (machine_of c.go_on-went.result.at p)) c.deref.ensures c.wait_of-thread-inside.ensures)
+    (subst (λ (p : ThreadParts). c.wait_of-thread-inside.result ≡ wait_of c.args.code.now c.args.shape.now (machine_of c.go_on-went.result.at p)) c.deref.ensures c.wait_of-thread-inside.ensures)
 
 pub returns-in-Stopped-clause-stopped : goal.returns-in-Stopped-clause-stopped
 returns-in-Stopped-clause-stopped g c =
     let t : ThreadView = c.args.thread.now in
     let is : t.machine.at.state ≡ states.Stopped = ap (λ (v : ThreadView). v.machine.at.state) (sym c.thread.view_is) ∙ c.in-Stopped.is in
-    stop_is_told c.args.code.now c.args.shape.now t 0 c.args.limit _ c.requires.thread (ap (λ (x : State). pause_of x 0 t.made c.args.limit) (sym is))
+    stop_is_told c.args.code.now c.args.shape.now t 0 c.args.limit _ c.requires.thread (ap (λ (x : TurnState). pause_of x 0 t.made c.args.limit) (sym is))
 
 pub returns-in-Ended-clause-stopped : goal.returns-in-Ended-clause-stopped
 returns-in-Ended-clause-stopped g c =
     let t : ThreadView = c.args.thread.now in
     let is : t.machine.at.state ≡ states.Ended = ap (λ (v : ThreadView). v.machine.at.state) (sym c.thread.view_is) ∙ c.in-Ended.is in
-    stop_is_told c.args.code.now c.args.shape.now t 0 c.args.limit _ c.requires.thread (ap (λ (x : State). pause_of x 0 t.made c.args.limit) (sym is))
+    stop_is_told c.args.code.now c.args.shape.now t 0 c.args.limit _ c.requires.thread (ap (λ (x : TurnState). pause_of x 0 t.made c.args.limit) (sym is))
 
 pub returns-clause-stopped : goal.returns-clause-stopped
 returns-clause-stopped g c =
     let serves = g.P.Port.serves c.args.port.now c.thread.inside.parts.value.number in
     let same : c.deref_mut.result.now ≡ c.thread.inside.parts.value = c.deref_mut.ensures.value in
-    let goes = subst (λ (p : Parts). GoesWhere (g.P.Port.serves c.args.port.now p.number) g.P.Port.leads c.args.code.now c.args.shape.now (machine_of c.thread.inside.at p) (machine_of c.go_on-went.result.at c.go_on-went.new.parts) (g.P.Port.place c.args.port.now) (g.P.Port.place c.go_on-went.new.port) c.go_on-went.result.turns c.go_on-went.result.made) same c.go_on-went.ensures.goes in
+    let goes = subst (λ (p : ThreadParts). GoesWhere (g.P.Port.serves c.args.port.now p.number) g.P.Port.leads c.args.code.now c.args.shape.now (machine_of c.thread.inside.at p) (machine_of c.go_on-went.result.at c.go_on-went.new.parts) (g.P.Port.place c.args.port.now) (g.P.Port.place c.go_on-went.new.port) c.go_on-went.result.turns c.go_on-went.result.made) same c.go_on-went.ensures.goes in
     let new : ThreadView = record { machine = machine_of c.go_on-went.result.at c.go_on-went.new.parts; made = c.thread.inside.made + c.go_on-went.result.made; wait = c.wait_of-thread-inside.result; room = 0 } in
     stop_is_told c.args.code.now c.args.shape.now new c.go_on-went.result.turns c.args.limit c.answer.result
     (goes_thread serves g.P.Port.leads c.args.code.now c.args.shape.now c.args.thread.now new (g.P.Port.place c.args.port.now) (g.P.Port.place c.go_on-went.new.port) c.go_on-went.result.turns c.go_on-went.result.made
     c.requires.thread
     (subst (λ (m : Machine). GoesWhere serves g.P.Port.leads c.args.code.now c.args.shape.now m (machine_of c.go_on-went.result.at c.go_on-went.new.parts) (g.P.Port.place c.args.port.now) (g.P.Port.place c.go_on-went.new.port) c.go_on-went.result.turns c.go_on-went.result.made) (ap (λ (v : ThreadView). v.machine) c.thread.view_is) goes)
-    (c.go_on-went.ensures.number ∙ ap (λ (p : Parts). p.number) same ∙ ap (λ (v : ThreadView). v.machine.own.number) c.thread.view_is)
+    (c.go_on-went.ensures.number ∙ ap (λ (p : ThreadParts). p.number) same ∙ ap (λ (v : ThreadView). v.machine.own.number) c.thread.view_is)
     (ap (λ (n : ℕ). n + c.go_on-went.result.made) (ap (λ (v : ThreadView). v.made) c.thread.view_is))
-    (subst (λ (p : Parts). c.wait_of-thread-inside.result ≡ wait_of c.args.code.now c.args.shape.now (machine_of c.go_on-went.result.at p)) c.deref.ensures c.wait_of-thread-inside.ensures))
+    (subst (λ (p : ThreadParts). c.wait_of-thread-inside.result ≡ wait_of c.args.code.now c.args.shape.now (machine_of c.go_on-went.result.at p)) c.deref.ensures c.wait_of-thread-inside.ensures))
     c.answer.ensures

@@ -3,7 +3,7 @@ use Rattle.sharc_grammar.specs.{Grammar.{mark, name, access_mark}, Machine.{Want
 use Rattle.sharc_grammar.specs.Machine as machine
 use Rattle.sharc_grammar.specs.Limits as Limits
 use Rattle.sharc_tree.specs.View.{view_expr}
-use Rattle.sharc_parse.specs.{View.{bare, phrase_of, phrases_of}, declared.token.Fault.Fault, declared.token.Piece.Piece, declared.expr.Front.Front, Goes.{from, Builds, IsPlaced, bare_front, front_tree}}
+use Rattle.sharc_parse.specs.{View.{bare, phrase_of, phrases_of}, declared.token.ReadingFault.ReadingFault, declared.token.ParsedExpr.ParsedExpr, declared.expr.Front.Front, Goes.{from, Builds, IsPlaced, bare_front, front_tree}}
 use Rattle.sharc_parse.proofs.Steps.{longer, last_argument, next_argument, binary_read, binary_stands, field_stands, field_goes, access_goes, front_placed}
 use Rattle.sharc_parse.proofs.expr.+expr.Goals as goal
 
@@ -119,8 +119,8 @@ primary-returns-in_ok-front-3-clause-placed t c =
     let took : c.front_word.new.at ≡ c.args.at.now + 1 = search rules in
     let closes : c.expect_behind.new.at ≡ c.binary.new.at + 1 = search rules in
     let p = c.in_ok-front.ensures.placed c.args.at.now (sym took) in
-    let r = subst (λ (x : Result Piece Fault). IsPlaced x c.args.tokens.now c.rest_of_front.new.at c.binary.new.at) read c.binary.ensures.placed in
-    let built = subst (λ (x : Piece). Builds c.front_of.result (front_tree c.span.result f (view_expr x.expr)) (x.height + 1)) same_inner (subst (λ (x : Front). Builds c.front_of.result (front_tree c.span.result x (view_expr last.inner.expr)) (last.inner.height + 1)) same_front c.front_of.ensures) in
+    let r = subst (λ (x : Result ParsedExpr ReadingFault). IsPlaced x c.args.tokens.now c.rest_of_front.new.at c.binary.new.at) read c.binary.ensures.placed in
+    let built = subst (λ (x : ParsedExpr). Builds c.front_of.result (front_tree c.span.result f (view_expr x.expr)) (x.height + 1)) same_inner (subst (λ (x : Front). Builds c.front_of.result (front_tree c.span.result x (view_expr last.inner.expr)) (last.inner.height + 1)) same_front c.front_of.ensures) in
     front_placed c.front_of.result c.args.tokens.now c.args.at.now c.rest_of_front.new.at c.expect_behind.new.at _ c.span.result f (view_expr inner.expr) built
     (c.span.ensures (front_size (bare_front f) + size (bare (view_expr inner.expr)) + 1) (omega (arith, p.1, r.1, closes)))
     p.0 p.1 r.0 (omega (arith, r.1, closes))

@@ -2,7 +2,7 @@ use Rattle.std.proofs.Common.{◌≡◌, ℕ, List, [], false, ◌≤◌, ◌+�
 use Rattle.sharc_tree.specs.View.{view_arguments}
 use Rattle.sharc_grammar.specs.{Machine.{Cont, Want, Have, Called, At, floor, grip}, Limits.{reads_within, depth, crowded, height, highest}, Places.{size, rest_size, site_in, arguments_at}}
 use Rattle.sharc_grammar.specs.Machine as machine
-use Rattle.sharc_parse.specs.{View.{phrase_of, phrases_of}, Goes.{from, NoCall, NoMalloc, Stands}}
+use Rattle.sharc_parse.specs.{View.{phrase_of, phrases_of}, Goes.{from, NoCall, NoMalloc, LiesAtTokens}}
 use Rattle.sharc_parse.proofs.expr.+expr.Given as goal
 
 abbrev pub decreases-arguments : goal.decreases-arguments
@@ -41,7 +41,7 @@ invariant-binary-loop-left l = record {
   reads : (k : Cont) → floor k ≤ l.least → depth k + l.room ≡ 64 → crowded k ≡ false → NoMalloc k (from l.tokens l.fn.at) → reads_within (from l.tokens l.fn.at) (At [] (Want k)) ≡ reads_within (from l.tokens l.at) (At [] (Have (phrase_of l.left.expr) k));
   height : l.left.height ≡ height (phrase_of l.left.expr);
   low : l.left.height ≤ l.room;
-  stands : Stands l.left.expr l.tokens l.fn.at;
+  stands : LiesAtTokens l.left.expr l.tokens l.fn.at;
   at : l.at ≡ l.fn.at + size (phrase_of l.left.expr);
   grip : grip (from l.tokens l.at) ≤ 11;
   within : l.at ≤ length l.tokens;
@@ -55,7 +55,7 @@ invariant-postfix-loop-base l = record {
   reads : (k : Cont) → floor k ≤ 12 → depth k + l.room ≡ 64 → crowded k ≡ false → NoMalloc k (from l.tokens l.fn.at) → reads_within (from l.tokens l.fn.at) (At [] (Want k)) ≡ reads_within (from l.tokens l.at) (At [] (Have (phrase_of l.base.expr) k));
   height : l.base.height ≡ height (phrase_of l.base.expr);
   low : l.base.height ≤ l.room;
-  stands : Stands l.base.expr l.tokens l.fn.at;
+  stands : LiesAtTokens l.base.expr l.tokens l.fn.at;
   at : l.at ≡ l.fn.at + size (phrase_of l.base.expr);
   call : NoCall (phrase_of l.base.expr) (from l.tokens l.at);
   within : l.at ≤ length l.tokens;

@@ -1,7 +1,7 @@
 use Rattle.std.proofs.Common.{rules, ◌≡◌, sym, subst, Result, Ok, Err, Vec, Global}
 use Rattle.sharc_tree.specs.{declared.token.Punctuator.TheVariants.OpenBrace, declared.tree.declaration.Declaration.Declaration, declared.tree.statement.Stmt.Stmt}
 use Rattle.sharc_grammar.specs.Grammar.{mark}
-use Rattle.sharc_parse.specs.{declared.token.Fault.Fault, View.bare_type, Goes.{from, Past}, Nested.ReadsStatements, Parameters.ReadsParameters, Items.ReadsFunction}
+use Rattle.sharc_parse.specs.{declared.token.ReadingFault.ReadingFault, View.bare_type, Goes.{from, Past}, Nested.ReadsStatements, Parameters.ReadsParameters, Items.ReadsFunction}
 use Rattle.sharc_parse.proofs.ItemSteps.{function_wrong, function_read}
 use Rattle.sharc_parse.proofs.item.rest_of_function.Goals as goal
 
@@ -15,9 +15,9 @@ returns-in_err-result-clause-reads c =
     let opens : Past (mark OpenBrace) c.args.tokens.now c.parameters.new.at c.expect_behind.new.at = search rules in
     subst (λ r. ReadsFunction (bare_type c.args.given) c.args.name.text r (from c.args.tokens.now c.args.at.now) (from c.args.tokens.now c.statements.new.at)) (sym is)
     (function_wrong (λ (v : Vec Declaration Global). v.items) (λ (v : Vec Stmt Global). v.items) given x (bare_type c.args.given) c.args.name.text c.args.tokens.now c.args.at.now c.parameters.new.at c.expect_behind.new.at c.statements.new.at
-    (subst (λ (r : Result (Vec Declaration Global) Fault). ReadsParameters (λ v. v.items) r (from c.args.tokens.now c.args.at.now) (from c.args.tokens.now c.parameters.new.at)) read c.parameters.ensures.reads)
+    (subst (λ (r : Result (Vec Declaration Global) ReadingFault). ReadsParameters (λ v. v.items) r (from c.args.tokens.now c.args.at.now) (from c.args.tokens.now c.parameters.new.at)) read c.parameters.ensures.reads)
     opens
-    (subst (λ (r : Result (Vec Stmt Global) Fault). ReadsStatements (λ v. v.items) 63 r (from c.args.tokens.now c.expect_behind.new.at) (from c.args.tokens.now c.statements.new.at)) wrong c.statements.ensures.reads))
+    (subst (λ (r : Result (Vec Stmt Global) ReadingFault). ReadsStatements (λ v. v.items) 63 r (from c.args.tokens.now c.expect_behind.new.at) (from c.args.tokens.now c.statements.new.at)) wrong c.statements.ensures.reads))
 
 pub returns-clause-reads : goal.returns-clause-reads
 returns-clause-reads c =
@@ -30,6 +30,6 @@ returns-clause-reads c =
     let same : c.of.result ≡ all.parameters.items = search rules in
     rw (result, name)
     (function_read (λ (v : Vec Declaration Global). v.items) (λ (v : Vec Stmt Global). v.items) all.parameters all.statements c.of.result (bare_type all.result) all.name.text c.args.tokens.now c.args.at.now c.parameters.new.at c.expect_behind.new.at c.statements.new.at same
-    (subst (λ (r : Result (Vec Declaration Global) Fault). ReadsParameters (λ v. v.items) r (from c.args.tokens.now c.args.at.now) (from c.args.tokens.now c.parameters.new.at)) given c.parameters.ensures.reads)
+    (subst (λ (r : Result (Vec Declaration Global) ReadingFault). ReadsParameters (λ v. v.items) r (from c.args.tokens.now c.args.at.now) (from c.args.tokens.now c.parameters.new.at)) given c.parameters.ensures.reads)
     opens
-    (subst (λ (r : Result (Vec Stmt Global) Fault). ReadsStatements (λ v. v.items) 63 r (from c.args.tokens.now c.expect_behind.new.at) (from c.args.tokens.now c.statements.new.at)) read c.statements.ensures.reads))
+    (subst (λ (r : Result (Vec Stmt Global) ReadingFault). ReadsStatements (λ v. v.items) 63 r (from c.args.tokens.now c.expect_behind.new.at) (from c.args.tokens.now c.statements.new.at)) read c.statements.ensures.reads))

@@ -1,7 +1,7 @@
 use Rattle.std.proofs.Common.{rules, ◌≡◌, ◌<◌, ◌+◌, ◌-◌, arith, sym, subst, Global}
 use Rattle.std.specs.Prelude.{Result, Ok, Err, true, Vec}
 use Rattle.sharc_tree.specs.{declared.tree.expression.Expr.Expr, declared.tree.statement.ForHead.ForHead, declared.tree.statement.Stmt.Stmt, Tree.{if_then, if_then_else, while, for}, View.{view_expr, view_stmt, view_head}, declared.token.Punctuator.TheVariants.OpenBrace}
-use Rattle.sharc_parse.specs.{declared.token.Fault.Fault, Words.IsConditionPlaced, View.phrase_of, Goes.{from, Past}, Lines.is_yes, Heads.{head_of, IsHeadPlaced}, Statements.{sentence_of, ReadsStatement, IsStatementPlaced}}
+use Rattle.sharc_parse.specs.{declared.token.ReadingFault.ReadingFault, Words.IsConditionPlaced, View.phrase_of, Goes.{from, Past}, Lines.is_yes, Heads.{head_of, IsHeadPlaced}, Statements.{sentence_of, ReadsStatement, IsStatementPlaced}}
 use Rattle.sharc_grammar.specs.{Grammar.{mark, for_of}, Places.{site_in, size, sentence_size, opening_size, expression_at, statement_at}}
 use Rattle.sharc_parse.proofs.NestedSteps.{rest_placed, if_stands, else_stands, while_stands, for_stands, block_wrong, block_reads, one_statement_more}
 use Rattle.sharc_parse.proofs.statement.+statement.Goals as goal
@@ -14,7 +14,7 @@ rest_of_if-returns-clause-placed t c =
     let same : c.in_ok-test.test ≡ all.test = search rules in
     let read : c.statement.result ≡ Ok all.then = search rules in
     let e = subst (λ (x : Expr). IsConditionPlaced (Ok x) c.args.tokens.now c.args.at.now c.condition.new.at) same c.in_ok-test.ensures.placed in
-    let a = subst (λ (r : Result Stmt Fault). IsStatementPlaced r c.args.tokens.now c.condition.new.at c.statement.new.at) read c.statement.ensures.placed in
+    let a = subst (λ (r : Result Stmt ReadingFault). IsStatementPlaced r c.args.tokens.now c.condition.new.at c.statement.new.at) read c.statement.ensures.placed in
     let stays : c.take_keyword.new.at ≡ c.statement.new.at = search rules in
     let whole : c.take_keyword.new.at ≡ n + (size (phrase_of all.test) + 3 + sentence_size (sentence_of all.then)) = omega (arith, behind, e.1, a.1, stays) in
     rest_placed c.if_of.result c.args.tokens.now n c.args.at.now c.take_keyword.new.at (if_then c.span-2.result (view_expr all.test) (view_stmt all.then)) c.if_of.ensures behind
@@ -33,8 +33,8 @@ rest_of_if-returns-then-take_keyword-clause-placed t c =
     let read : c.statement.result ≡ Ok all.then = search rules in
     let other : c.statement-otherwise.result ≡ Ok all.otherwise = search rules in
     let e = subst (λ (x : Expr). IsConditionPlaced (Ok x) c.args.tokens.now c.args.at.now c.condition.new.at) same c.in_ok-test.ensures.placed in
-    let a = subst (λ (r : Result Stmt Fault). IsStatementPlaced r c.args.tokens.now c.condition.new.at c.statement.new.at) read c.statement.ensures.placed in
-    let b = subst (λ (r : Result Stmt Fault). IsStatementPlaced r c.args.tokens.now c.take_keyword.new.at c.statement-otherwise.new.at) other c.statement-otherwise.ensures.placed in
+    let a = subst (λ (r : Result Stmt ReadingFault). IsStatementPlaced r c.args.tokens.now c.condition.new.at c.statement.new.at) read c.statement.ensures.placed in
+    let b = subst (λ (r : Result Stmt ReadingFault). IsStatementPlaced r c.args.tokens.now c.take_keyword.new.at c.statement-otherwise.new.at) other c.statement-otherwise.ensures.placed in
     let took : c.take_keyword.new.at ≡ c.statement.new.at + 1 = search rules in
     let whole : c.statement-otherwise.new.at ≡ n + (size (phrase_of all.test) + sentence_size (sentence_of all.then) + 4 + sentence_size (sentence_of all.otherwise)) = omega (arith, behind, e.1, a.1, b.1, took) in
     rest_placed c.else_of.result c.args.tokens.now n c.args.at.now c.statement-otherwise.new.at (if_then_else c.span.result (view_expr all.test) (view_stmt all.then) (view_stmt all.otherwise)) c.else_of.ensures behind
@@ -52,7 +52,7 @@ rest_of_while-returns-clause-placed t c =
     let same : c.in_ok-test.test ≡ all.test = search rules in
     let read : c.statement.result ≡ Ok all.body = search rules in
     let e = subst (λ (x : Expr). IsConditionPlaced (Ok x) c.args.tokens.now c.args.at.now c.condition.new.at) same c.in_ok-test.ensures.placed in
-    let a = subst (λ (r : Result Stmt Fault). IsStatementPlaced r c.args.tokens.now c.condition.new.at c.statement.new.at) read c.statement.ensures.placed in
+    let a = subst (λ (r : Result Stmt ReadingFault). IsStatementPlaced r c.args.tokens.now c.condition.new.at c.statement.new.at) read c.statement.ensures.placed in
     let whole : c.statement.new.at ≡ n + (size (phrase_of all.test) + 3 + sentence_size (sentence_of all.body)) = omega (arith, behind, e.1, a.1) in
     rest_placed c.while_of.result c.args.tokens.now n c.args.at.now c.statement.new.at (while c.span.result (view_expr all.test) (view_stmt all.body)) c.while_of.ensures behind
     (while_stands (site_in c.args.tokens.now) n c.condition.new.at c.span.result (view_expr all.test) (view_stmt all.body)
@@ -69,7 +69,7 @@ rest_of_for-returns-clause-placed t c =
     let same : c.in_ok-head.head ≡ all.head = search rules in
     let read : c.statement.result ≡ Ok all.body = search rules in
     let h = subst (λ (x : ForHead). IsHeadPlaced (Ok x) c.args.tokens.now c.args.at.now c.head.new.at) same c.in_ok-head.ensures.placed n (sym behind) in
-    let a = subst (λ (r : Result Stmt Fault). IsStatementPlaced r c.args.tokens.now c.head.new.at c.statement.new.at) read c.statement.ensures.placed in
+    let a = subst (λ (r : Result Stmt ReadingFault). IsStatementPlaced r c.args.tokens.now c.head.new.at c.statement.new.at) read c.statement.ensures.placed in
     let whole : c.statement.new.at ≡ n + (opening_size (for_of (head_of all.head)) + sentence_size (sentence_of all.body)) = omega (arith, behind, h.1, a.1) in
     rest_placed c.for_of.result c.args.tokens.now n c.args.at.now c.statement.new.at (for c.span.result (view_head all.head) (view_stmt all.body)) c.for_of.ensures behind
     (for_stands (site_in c.args.tokens.now) n c.head.new.at c.span.result (view_head all.head) (view_stmt all.body)

@@ -1,6 +1,6 @@
 use Rattle.std.proofs.{Common.{◌≡◌, ◌<◌, ◌≤◌, ◌++◌, ◌+◌, ap, sym, subst, ◌∙◌, arith, length}, lemmas.Result.IfOk-weaker}
 use Rattle.sharc_load.specs.Source.{source_of}
-use Rattle.sharc_top.specs.declared.task.Task.TheVariants as task
+use Rattle.sharc_top.specs.declared.task.SourceTask.TheVariants as task
 use Rattle.sharc_top.specs.{Answers.Answers, Loading.{size_lines, load_numbers, LoadReplies, long, loaded}}
 use Rattle.sharc_top.proofs.loaded.loaded.Goals as goal
 

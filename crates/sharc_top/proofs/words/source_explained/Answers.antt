@@ -1,6 +1,6 @@
 use Rattle.std.proofs.{Common.{◌∙◌, ap}, lemmas.Result.IfOk-weaker}
 use Rattle.sharc_report.specs.Refusals.{refusal_line}
-use Rattle.sharc_top.specs.declared.task.Task.TheVariants as task
+use Rattle.sharc_top.specs.declared.task.SourceTask.TheVariants as task
 use Rattle.sharc_top.proofs.Verdicts.{answers_faulty, answers_program}
 use Rattle.sharc_top.proofs.words.source_explained.Goals as goal
 

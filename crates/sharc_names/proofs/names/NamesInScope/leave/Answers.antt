@@ -1,6 +1,6 @@
 use Rattle.std.proofs.Common.{◌∙◌, arith}
 use Rattle.sharc_names.proofs.TableLemmas.{one_dropped}
-use Rattle.sharc_names.proofs.names.Names.leave.Goals as goal
+use Rattle.sharc_names.proofs.names.NamesInScope.leave.Goals as goal
 
 pub loop-self-preserved : goal.loop-self-preserved
 loop-self-preserved c =

@@ -2,7 +2,7 @@ use Rattle.std.proofs.Common.{◌≡◌, ℕ, List, ◌++◌, length, take, drop
 use Rattle.sharc_tree.specs.Texts.{tokens_text}
 use Rattle.sharc_flat.specs.Laid.{AreLaid}
 use Rattle.sharc_flatten.specs.Places.{Grows}
-use Rattle.sharc_flatten.proofs.texts.Words.lay.Given as goal
+use Rattle.sharc_flatten.proofs.texts.TokenTexts.lay.Given as goal
 
 abbrev pub invariant-loop-line : goal.invariant-loop-line
 invariant-loop-line l = record {

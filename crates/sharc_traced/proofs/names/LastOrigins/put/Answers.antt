@@ -1,6 +1,6 @@
 use Rattle.std.proofs.Common.{refl}
 use Rattle.sharc_traced.proofs.Naming.{noted_global, noted_made}
-use Rattle.sharc_traced.proofs.names.Names.put.Goals as goal
+use Rattle.sharc_traced.proofs.names.LastOrigins.put.Goals as goal
 
 pub returns-in_ok-insert-in-Global : goal.returns-in_ok-insert-in-Global
 returns-in_ok-insert-in-Global c =
