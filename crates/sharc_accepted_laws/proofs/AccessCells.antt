@@ -6,8 +6,7 @@ use Rattle.sharc_code.specs.{declared.code.Code.Code, declared.instr.Cell.Cell, 
 use Rattle.sharc_code.specs.declared.instr.Cell.TheVariants as cells
 use Rattle.sharc_ctype.specs.{Globals.elements_of, Resolved.{Resolution, global_at, globals_in}}
 use Rattle.sharc_mode.specs.Moded.{Assignment}
-use Rattle.sharc_flat_form.specs.Machine.{first_cell}
-use Rattle.sharc_flat.specs.Tables.{cells_in, granules_in, globals_from, globals_of}
+use Rattle.sharc_flat.specs.{Machine.first_cell, Tables.{cells_in, granules_in, globals_from, globals_of}}
 use Rattle.sharc_invariant.specs.{Types.{StaticType, Field, no_field, field_at, global_field, cells_of}, Labels.{Element, OfGlobal, Label, Itself}, Typed.{IsInGlobal, HasCell, IsSibling, HasBefore}}
 use Rattle.sharc_accepted_laws.specs.{TargetLaws.{HasTables, GlobalsAre}, Targets.{global_element, targets_of}, Accesses.{HasBaseIn, IsCellNumber}}
 use Rattle.sharc_lemmas.proofs.Options.{same_some, none_some}

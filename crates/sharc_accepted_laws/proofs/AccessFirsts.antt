@@ -5,7 +5,7 @@ use Rattle.sharc_tree.specs.declared.ctype.Base.TheVariants as base
 use Rattle.sharc_names.specs.Kinds.{object}
 use Rattle.sharc_ctype.specs.Resolved.{kind_at}
 use Rattle.sharc_mode.specs.{Notes.base_of, Rows.{Targets, row_at, modes_of}}
-use Rattle.sharc_mode_laws.specs.Constructs.{IsExpression}
+use Rattle.sharc_check.specs.Constructs.{IsExpression}
 use Rattle.sharc_flat.specs.Scope.{Context}
 use Rattle.sharc_invariant.specs.{Types.{StaticType, Content, cells_of, field_at}, Types.Content.{MutexWord, Waiters}, Labels.{Empty, Refers}}
 use Rattle.sharc_typed_laws.specs.{Stretches.Setting, Typable.FirstCell}

@@ -5,7 +5,7 @@ use Rattle.sharc_tree.specs.{declared.tree.expression.FieldOperator.TheVariants.
 use Rattle.sharc_names.specs.Kinds.{is_array}
 use Rattle.sharc_ctype.specs.Resolved.{Resolution, named_at, kind_at}
 use Rattle.sharc_mode.specs.{Rows.modes_at, Sharings.{Lock, Sharing, locked}}
-use Rattle.sharc_mode_laws.specs.Constructs.{IsExpression}
+use Rattle.sharc_check.specs.Constructs.{IsExpression}
 use Rattle.sharc_flat.specs.{Scope.Context, Suits.{PathNamed, IfThere}}
 use Rattle.sharc_accepted_laws.specs.{StaticLaws.IsAccepted, Leading.{LeadsToMutex, by_global, by_variable, AllLead, ExpressionsLead}, Scopes.AllStand, Standing.ExpressionStands, Lvalues.pointer_of, Accesses.{list_or, modes_of_pointer}, Joined.{LockLeads, to_global, to_variable}, Paths.{MutexesBehind, PathsLead}}
 use Rattle.sharc_accepted_laws.proofs.AccessLists.{self}

@@ -10,7 +10,7 @@ use Rattle.sharc_ctype.specs.{declared.entity.Entity.Entity, declared.entity.Num
 use Rattle.sharc_ctype_laws.specs.{Constraints.{HasType, Callee, of_program, of_conditions, a_variable, a_global, a_function, a_field}, Declared.IsItself, Found.{IsFound, EachTypeFound}, Laws.{EachNamesItself, EachPathFound, MeetsConstraints}}
 use Rattle.sharc_graph.specs.{declared.graph.NodeFinding.NodeFinding, Findings.finding_at}
 use Rattle.sharc_mode.specs.{Cells.{is_mutex_kind, is_behind_pointer, written_cell, top_of, field_cell, declared_cell, field_named, first_mode, global_cell, named_cell, pointed, cell_at}, Flows.{IsFirst, Touches, IsRoot, mode_found}, Laws.LinkLaws, Moded.{Assignment, position_count}, Rows.row_at, Settled.{is_mutex, settled, settled_modes, settled_in, settled_at}, Sharings.{Sharing, private, readonly, locked, racy, dynamic, lock_of, sharing_of, is_private, is_dynamic}}
-use Rattle.sharc_mode_laws.specs.{Laws.{RulesAreMet, ReachedAreTold}, Rules.MeetsRules}
+use Rattle.sharc_check.specs.{RuleLaws.{RulesAreMet, ReachedAreTold}, Rules.MeetsRules}
 use Rattle.sharc_flat.specs.Places.{in_global, in_global_at, in_object_at, global_of, own_field, named_target, target}
 use Rattle.sharc_accepted_laws.specs.{Alone.{IsInside, AreAlone, SomeAreAlone}, StaticLaws.IsAccepted}
 use Rattle.sharc_accepted_laws.proofs.{Arrays.{IsNameOf, array_name}, Places.{InFile, FileKnown, FieldInFile, file_known, struct_fields, field_found, at_number, IfSome}, Tokens.{Named as IsAmong, names_among}, Written.{Position, position_there, found_there}, TargetLists.place_there}

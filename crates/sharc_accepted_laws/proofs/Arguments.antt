@@ -7,7 +7,7 @@ use Rattle.sharc_names.specs.Kinds.{Kind, is_pointer, declared_kind, declared_ki
 use Rattle.sharc_ctype.specs.{Resolved.{Resolution, functions_in, function_at, declaration_at, variable_kind, kind_at}, Statements.locals_in_all, Transfers.{Transfer, variable, passed}}
 use Rattle.sharc_ctype_laws.specs.{Constraints.{HasType, HaveTypes, one_more, Assignable}, Declared.IsItself, Laws.EachNamesItself}
 use Rattle.sharc_mode.specs.Moded.{Assignment}
-use Rattle.sharc_mode_laws.specs.Constructs.{IsFunction, IsCall}
+use Rattle.sharc_check.specs.Constructs.{IsFunction, IsCall}
 use Rattle.sharc_flat.specs.{Flattened.{kind_of, is_ref, behind_int, behind_ref}, Places.width_of, Scope.{Context, slot_of, int_count, ref_count}, Suits.{IsScalar, Passes, Suits, ArgumentsSuit}}
 use Rattle.sharc_invariant.specs.{Types.StaticType, Labels.{Within, Label}}
 use Rattle.sharc_typed_laws.specs.{Stretches.Setting, Typable.{ArgumentAt, ArgumentsAt, refs_behind, Goes}}

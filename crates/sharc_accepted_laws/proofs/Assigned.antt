@@ -9,7 +9,7 @@ use Rattle.sharc_ctype.specs.{Resolved.{Resolution, functions_in}, Statements.ma
 use Rattle.sharc_ctype_laws.specs.Rules.{IsHeld, MeetsSimple}
 use Rattle.sharc_meaning.specs.{Cells.element_cells, References.{is_pointer_in, made_at, types_made}, State.is_reference}
 use Rattle.sharc_mode.specs.{Cells.{cell_at, pointed}, Moded.Assignment, Notes.base_of, Rows.{Targets as ModeTargets, row_at, modes_of, modes_at}, Sharings.Sharing}
-use Rattle.sharc_mode_laws.specs.Constructs.{IsExpression, IsAssigned}
+use Rattle.sharc_check.specs.Constructs.{IsExpression, IsAssigned}
 use Rattle.sharc_flat.specs.{Flattened.{kind_of, is_ref, target_of}, Places.{Target, variable, in_global, in_global_at, in_object, in_object_at, width_of}, Scope.{Context, slot_kind, register_of, number_in}, Suits.{PlaceSuits, LeftSuits, RightSuits, SimpleSuits, CountSuits, IfThere, is_cell}}
 use Rattle.sharc_invariant.specs.{Types.{Targets, StaticType, cells_of}, Labels.Refers}
 use Rattle.sharc_typed_laws.specs.{Lines.PointersMadeAt, Stretches.Setting, Typable.{GoesTo, type_by, IsTypeIn, IsTypable, VariableTyped}, Stated.{IsMade, CountTypable, ValueGoes, RightTypable, VariableAssigned, CellAssigned, Assigned, Dropped, SimpleTypable}}

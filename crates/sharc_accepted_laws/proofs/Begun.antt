@@ -8,7 +8,7 @@ use Rattle.sharc_ctype.specs.{Resolved.{declaration_at, variable_kind}, Transfer
 use Rattle.sharc_ctype_laws.specs.Declared.{IsItself}
 use Rattle.sharc_meaning.specs.{Cells.element_cells, State.is_reference}
 use Rattle.sharc_mode.specs.{Cells.pointed, Moded.Assignment, Rows.{written, declared_row, modes_of}}
-use Rattle.sharc_mode_laws.specs.Constructs.{locals_in_all}
+use Rattle.sharc_check.specs.Constructs.{locals_in_all}
 use Rattle.sharc_flat.specs.{Flattened.with_variable, Places.width_of, Scope.{Context, slot_of}, Suits.InitialSuits}
 use Rattle.sharc_invariant.specs.Types.{StaticType}
 use Rattle.sharc_typed_laws.specs.{Stretches.Setting, Typable.{type_by, IsTypeIn}, Stated.IsMade, Declared.{Keeps, Begins, InitialTypable}, Statements.DeclaredTypable}

@@ -9,7 +9,7 @@ use Rattle.sharc_names.specs.declared.types.Role.TheVariants as role
 use Rattle.sharc_names.specs.Kinds.{object, is_pointer, declared_kind, mutex}
 use Rattle.sharc_ctype.specs.{declared.entity.Entity.Entity, Entities.entity_at, Resolved.{Resolution, named_at, named_kind, variable_kind, declaration_at, structs_in, globals_in}}
 use Rattle.sharc_ctype_laws.specs.{Declared.IsItself, Found.EachTypeFound, Laws.{EachNameOnce, OnlyNames, EachNamesItself}}
-use Rattle.sharc_mode_laws.specs.{Laws.RulesAreMet, Paths.{IsAllowed, global_mutex, sibling_mutex, sibling_pointer, through_constant}}
+use Rattle.sharc_check.specs.{RuleLaws.RulesAreMet, Paths.{IsAllowed, global_mutex, sibling_mutex, sibling_pointer, through_constant}}
 use Rattle.sharc_meaning.specs.Cells.{field_place, field_place_named}
 use Rattle.sharc_mode.specs.{Cells.{is_mutex_kind, is_behind_pointer, top_of, first_mode}, Moded.Assignment, Rows.{written, declared_row, modes_of}, Notes.base_of, WellFormed.place_of, Sharings.{Lock, Sharing, private, readonly, locked, racy, dynamic, lock_of, is_field}}
 use Rattle.sharc_mode.specs.declared.place.Place.TheVariants as place

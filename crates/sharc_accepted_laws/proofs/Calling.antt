@@ -11,7 +11,7 @@ use Rattle.sharc_ctype_laws.specs.{Declared.IsItself, Laws.EachNamesItself}
 use Rattle.sharc_mode.specs.{Rows.{is_constant_named, constant_use, argument_use}, Cells.cell_at}
 use Rattle.sharc_flat.specs.{declared.slot.Slot.Slot, Flattened.{is_ref, parameters_scope, behind_int, behind_ref}, Scope.{slot_kind, Context, slot_of, ref_count, register_from, register_of, number_in}, Suits.{kind_in, NameSuits, Suits, ArgumentsSuit}}
 use Rattle.sharc_accepted_laws.specs.{StaticLaws.IsAccepted, Calls.{AreStanding, at_entry, argument_type, AreCopies, ArgumentsFit}, Held.{held_named, held_at}, Scopes.ScopeLaws, Static.{variable_type, pointers, entry_named}, Calling.{type_for, wants_of, CallsPass, ArgumentsStand, CallingLaws}, Typing.typing}
-use Rattle.sharc_mode_laws.specs.Constructs.{IsFunction}
+use Rattle.sharc_check.specs.Constructs.{IsFunction}
 use Rattle.sharc_invariant.specs.{Types.StaticType, Labels.{Refers, Label, HasCopy}, Typed.Passes}
 use Rattle.sharc_typed_laws.specs.{Stretches.Setting, Premises.{IsCopyIn, IsCopyNamed, IsCopyOf}, Typable.{ArgumentAt, ArgumentsAt}}
 use Rattle.sharc_accepted_laws.proofs.TypableRegisters.{reference_found}

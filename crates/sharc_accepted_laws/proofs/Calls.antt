@@ -9,7 +9,7 @@ use Rattle.sharc_ctype.specs.{Reaches.{of_all, Names, runs, Runs}, Resolved.{Res
 use Rattle.sharc_ctype_laws.specs.Constraints.{HaveTypes}
 use Rattle.sharc_meaning.specs.State.{is_reference}
 use Rattle.sharc_mode.specs.Moded.{Assignment}
-use Rattle.sharc_mode_laws.specs.Constructs.{IsFunction, IsCall, called}
+use Rattle.sharc_check.specs.Constructs.{IsFunction, IsCall, called}
 use Rattle.sharc_flat.specs.{Flattened.{kind_of, is_ref, parameters_scope, in_function as context_in}, Places.width_of, Scope.{Context, int_count, ref_count}, Suits.ArgumentsSuit}
 use Rattle.sharc_invariant.specs.{Types.StaticType, Labels.{Empty, Refers, Anything, Within, Label, Signature, LessNumber, Narrower}, Typed.Passes}
 use Rattle.sharc_typed_laws.specs.{Places.IsPlain, Stretches.Setting, Typable.{type_by, ArgumentsAt, AreFree, refs_behind, IsTypeIn, ResultTyped, CallTyped}}

@@ -6,7 +6,7 @@ use Rattle.sharc_names.specs.Kinds.{is_pointer, mutex_pointer}
 use Rattle.sharc_code.specs.{declared.code.Code.Code, declared.code.GlobalCells.GlobalCells}
 use Rattle.sharc_ctype.specs.Resolved.{functions_in, function_at}
 use Rattle.sharc_mode.specs.Moded.{Assignment}
-use Rattle.sharc_mode_laws.specs.Constructs.{IsExpression}
+use Rattle.sharc_check.specs.Constructs.{IsExpression}
 use Rattle.sharc_flat.specs.{Flattened.kind_of, Scope.Context}
 use Rattle.sharc_invariant.specs.Labels.{Refers}
 use Rattle.sharc_typed_laws.specs.{Stretches.Setting, Typable.{type_by, IsPointer}}

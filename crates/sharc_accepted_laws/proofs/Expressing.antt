@@ -11,7 +11,7 @@ use Rattle.sharc_ctype.specs.{declared.entity.Entity.Entity, declared.entity.Num
 use Rattle.sharc_ctype_laws.specs.{Constraints.{Callee, of_program, of_conditions, Common, both_shorter, left_long, right_long, HasType, struct_named, IsMemberOf}, Found.{IsFound, EachTypeFound}, Laws.{MeetsConstraints, OneType}}
 use Rattle.sharc_ctype_laws.specs.Constraints as typing
 use Rattle.sharc_mode.specs.{Moded.{Assignment, position_count}, Notes.base_of, Rows.{PathReading, written, Targets, no_row, deeper, targets_from, entity_row, declared_row, global_row, named_row, result_row, called_row, behind, constant_row, reading_through, base_use, row_at, modes_of}}
-use Rattle.sharc_mode_laws.specs.Constructs.{IsEntity}
+use Rattle.sharc_check.specs.Constructs.{IsEntity}
 use Rattle.sharc_accepted_laws.specs.{TargetLaws.{IsRowOf, ExpressionsFound, VariablesFound, ResultsFound}, Shapes.{Form, form_of, row_shape, shapes, stars_in}}
 use Rattle.sharc_accepted_laws.proofs.{Fits.entity_there, TargetForms.{mode_form, row_forms, row_length, same_forms}, Found.{IsThere, is_there, field_found, global_found}, TargetLists.place_there, Numbers.shapes_closed, Settling.{positioned, dropped_length}, TargetWalk.{CastFound, declaration_found, function_casts, function_closed, result_found}}
 use Rattle.sharc_lemmas.proofs.{Options.{same_some, none_some}, Lists.{front, head_there, of_each, to_each, tail_there}}

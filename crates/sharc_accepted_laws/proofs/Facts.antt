@@ -8,7 +8,7 @@ use Rattle.sharc_ctype.specs.Resolved.{Resolution, functions_in}
 use Rattle.sharc_ctype_laws.specs.{Constraints.{HasType as IsOfType}, Laws.{MeetsConstraints, MeetsGlobals, OneType, EachNamesItself, EachNamesOwn, ArePlain, SpawnsNameFunctions, SpawnsThreads}}
 use Rattle.sharc_meaning.specs.Cells.{element_cells}
 use Rattle.sharc_mode.specs.{Moded.Assignment, Rows.{Targets, modes_of, row_at, modes_at}, Sharings.Sharing}
-use Rattle.sharc_mode_laws.specs.Constructs.{IsFunction, IsExpression, IsTaken}
+use Rattle.sharc_check.specs.Constructs.{IsFunction, IsExpression, IsTaken}
 use Rattle.sharc_flat.specs.{Flattened.{kind_of, is_ref, target_of, mode_of, lvalue_in, guard_of}, Places.{Target, variable, in_global, in_global_at, in_object, in_object_at}, Scope.Context, Suits.{IsScalar, is_cell, TakeSuits}}
 use Rattle.sharc_invariant.specs.{Types.{StaticType, cells_of}, Labels.{Empty, Refers}}
 use Rattle.sharc_typed_laws.specs.{Stretches.Setting, Premises.ReferenceTyped, Typable.{type_by, ground_of, IsPointer, CellTyped, ValueTyped, Takes}}

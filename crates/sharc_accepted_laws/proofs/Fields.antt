@@ -6,7 +6,7 @@ use Rattle.sharc_ctype.specs.{Globals.elements_of, Resolved.{Resolution, named_a
 use Rattle.sharc_ctype_laws.specs.{Initials.MeetsGlobal, Laws.MeetsGlobals}
 use Rattle.sharc_meaning.specs.Cells.{field_place}
 use Rattle.sharc_mode.specs.{Cells.{is_mutex_kind, cell_at}, Moded.Assignment, Rows.{modes_of, modes_at}, Sharings.{Lock, Sharing, locked}}
-use Rattle.sharc_mode_laws.specs.Constructs.{IsExpression}
+use Rattle.sharc_check.specs.Constructs.{IsExpression}
 use Rattle.sharc_flat.specs.{Flattened.{kind_of, guard_of}, Places.{Target, variable, in_global, in_global_at, in_object, in_object_at, target, beside_named, beside_field}, Scope.Context}
 use Rattle.sharc_invariant.specs.Types.{Field, FieldMode, no_field, row_of, cells_of, field_at}
 use Rattle.sharc_typed_laws.specs.{Stretches.Setting, Typable.{type_by, AreFields}}

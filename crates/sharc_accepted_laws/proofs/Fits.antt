@@ -7,7 +7,7 @@ use Rattle.sharc_names.specs.declared.types.Role.TheVariants as role
 use Rattle.sharc_names.specs.Kinds.{is_struct_base}
 use Rattle.sharc_ctype.specs.{declared.entity.Numbered.Numbered, Entities.{entities_in, numbered, positions_of, written_modes, first_depth}}
 use Rattle.sharc_mode.specs.{Flows.IsLeastAssignment, Moded.Assignment, Pairs.IsBelow, Rows.{written, entity_row, modes_of}, Settled.{settled, field_target, otherwise_of, settled_modes}}
-use Rattle.sharc_mode_laws.specs.{Constructs.{IsEntity, IsWritten}, Rules.MeetsRules}
+use Rattle.sharc_check.specs.{Constructs.{IsEntity, IsWritten}, Rules.MeetsRules}
 use Rattle.sharc_accepted_laws.specs.{Shapes.{Form, private_form, readonly_form, locked_form, racy_form, dynamic_form, Shape, form_of, shapes_down, entity_shapes, shapes_of, shapes}, Targets.is_private_form}
 use Rattle.sharc_accepted_laws.proofs.{TargetForms.{mode_form, IsLevel, skipped, level_of}, TargetLists.{left_there, right_there}, Settling.{positioned, racy_found, private_found, SettledAt, settled_by, IsLast, SettledBy, a_mutex, is_written, is_meant, settled_from, never_open, get_dropped, dropped_length, otherwise_top}}
 use Rattle.sharc_lemmas.proofs.{Lists.{both, head_there, head_or_tail, tail_there}, Equal.none_there}

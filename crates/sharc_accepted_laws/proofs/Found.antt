@@ -6,7 +6,7 @@ use Rattle.sharc_names.specs.declared.types.Role.TheVariants as role
 use Rattle.sharc_ctype.specs.{declared.entity.Entity.Entity, declared.entity.Numbered.Numbered, Entities.{declared, function_entities, entities_in, numbered, entity_at, is_told_by}, Resolved.{Resolution, structs_in, globals_in}}
 use Rattle.sharc_ctype_laws.specs.Found.{IsFound}
 use Rattle.sharc_mode.specs.Moded.{Assignment}
-use Rattle.sharc_mode_laws.specs.Constructs.{IsEntity}
+use Rattle.sharc_check.specs.Constructs.{IsEntity}
 use Rattle.sharc_accepted_laws.proofs.TargetLists.{each_mapped}
 use Rattle.sharc_lemmas.proofs.{Options.{same_some, none_some}, Lists.{front, back, head_there, head_or_tail, of_each, tail_there}, Equal.none_there}
 

@@ -10,7 +10,7 @@ use Rattle.sharc_ctype.specs.Statements as ctype
 use Rattle.sharc_ctype_laws.specs.{Declared.IsItself, Laws.{AllFair, ArePlain, EachNamesItself, EachNamesOwn, MeetsConstraints, MeetsStatements}, Rules.MeetsRules}
 use Rattle.sharc_meaning.specs.State.{is_reference}
 use Rattle.sharc_mode.specs.{Moded.Assignment, Rows.{written, declared_row, modes_of}}
-use Rattle.sharc_mode_laws.specs.Constructs.{IsFunction, locals_in_all}
+use Rattle.sharc_check.specs.Constructs.{IsFunction, locals_in_all}
 use Rattle.sharc_flat.specs.{declared.slot.Slot.Slot, Flattened.parameters_scope, Places.width_of, Scope.{Context, ref_count}}
 use Rattle.sharc_flat.specs.Flattened as flat
 use Rattle.sharc_flat_laws.specs.Stands.{TypedSuits}

@@ -9,7 +9,7 @@ use Rattle.sharc_names.specs.{declared.fault.Named.Named, Kinds.{Kind, object, a
 use Rattle.sharc_names.specs.declared.fault.Named.TheVariants as named
 use Rattle.sharc_ctype.specs.{declared.expr.OperatorClass.OperatorClass, declared.expr.OperatorClass.TheVariants.{Logical, Equality, Relation, Shift, Arithmetic}, Expressions.{number_kind, class_of, binary_result}, Resolved.{Resolution, named_at, global_at, function_at, declaration_at, functions_in, variable_kind, global_kind_of, result_kind_of, named_kind, called_kind, kind_at}, Transfers.{Transfer, lvalue, variable, result, function_transfers, IsFair}, Statements.{locals_in_all as declared_in_all}}
 use Rattle.sharc_mode.specs.{Moded.Assignment, Notes.base_of, Rows.{written, declared_row, behind, row_at, modes_of, modes_at}, Sharings.{Sharing, same_all}}
-use Rattle.sharc_mode_laws.specs.{Constructs.{IsFunction, IsGiven, assigned, initial, returned, locals_in_all}, Laws.RulesAreMet, Rules.MeetsRules}
+use Rattle.sharc_check.specs.{Constructs.{IsFunction, IsGiven, assigned, initial, returned, locals_in_all}, RuleLaws.RulesAreMet, Rules.MeetsRules}
 use Rattle.sharc_ctype_laws.specs.{Declared.IsItself, Laws.{EachNamesItself, AllFair}}
 use Rattle.sharc_flat.specs.Scope.{Context}
 use Rattle.sharc_accepted_laws.specs.{Static.{static_of, entry_by, entry_of, GoesTo}, StaticLaws.{IsAccepted, AssignedGoes, BegunGoes, ReturnedGoes, GivenLaws}}

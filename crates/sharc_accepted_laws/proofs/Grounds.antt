@@ -7,7 +7,7 @@ use Rattle.sharc_names.specs.declared.fault.Named.TheVariants as named
 use Rattle.sharc_ctype.specs.Resolved.{Resolution, named_at, global_at, kind_at}
 use Rattle.sharc_meaning.specs.Cells.{element_cells, global_elements, field_place_named}
 use Rattle.sharc_mode.specs.{Rows.modes_at, Sharings.Sharing}
-use Rattle.sharc_mode_laws.specs.Constructs.{IsExpression}
+use Rattle.sharc_check.specs.Constructs.{IsExpression}
 use Rattle.sharc_flat.specs.{Scope.Context, Places.{variable, in_global_at, in_object, in_object_at, global_of, has_base, named_target, own_field, target}}
 use Rattle.sharc_invariant.specs.Types.{StaticType}
 use Rattle.sharc_typed_laws.specs.{Stretches.Setting, Places.no_type, Premises.{Typing, Ground}, Typable.{type_by, ground_of}}

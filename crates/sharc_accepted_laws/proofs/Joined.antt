@@ -2,8 +2,7 @@
 use Rattle.std.proofs.Common.{ℕ, Bool, length, sym, subst}
 use Rattle.sharc_code.specs.declared.code.Code.{Code}
 use Rattle.sharc_mode.specs.Moded.{Assignment}
-use Rattle.sharc_flat_form.specs.Made.{flat_of}
-use Rattle.sharc_flat.specs.Tables.{globals_of}
+use Rattle.sharc_flat.specs.{Made.flat_of, Tables.globals_of}
 use Rattle.sharc_typed_laws.specs.Programs.{CodeIsWellTyped}
 use Rattle.sharc_accepted_laws.specs.{Typing.typing, Accepted.{GlobalsAreNamed, AcceptedIsTyped}, Cells.CellsAreTyped, Expressions.CellsTyped, Programs.{AllCellsTyped, ProgramsAreTypable, CodeIsSet}, Setting.setting_of}
 

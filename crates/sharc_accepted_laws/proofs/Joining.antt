@@ -8,8 +8,7 @@ use Rattle.sharc_code.specs.{declared.code.Code.Code, declared.code.Use.Use, dec
 use Rattle.sharc_ctype.specs.Resolved.{global_at, kind_at}
 use Rattle.sharc_meaning.specs.Cells.{global_elements}
 use Rattle.sharc_mode.specs.{Cells.{is_mutex_kind, cell_at}, Moded.Assignment, Sharings.{Lock, Sharing}}
-use Rattle.sharc_flat_form.specs.Machine.{first_cell}
-use Rattle.sharc_flat.specs.{declared.slot.Lvalue.Lvalue, Scope.{Context, ref_count}, Places.{Target, variable, in_global, in_global_at, in_object, in_object_at, has_base, target, cell_of, guard_cell, field_of, beside_field, guard_field, spot_of, width_of}}
+use Rattle.sharc_flat.specs.{Machine.first_cell, declared.slot.Lvalue.Lvalue, Scope.{Context, ref_count}, Places.{Target, variable, in_global, in_global_at, in_object, in_object_at, has_base, target, cell_of, guard_cell, field_of, beside_field, guard_field, spot_of, width_of}}
 use Rattle.sharc_invariant.specs.{Types.{StaticType, Content, Integer}, Labels.{Refers, Element, OfElement, OfGlobal, Loaded, Gate, Label, Labels, Signature, gated}, Typed.{IsRef, IsOwn, IsAlone, refs_in}}
 use Rattle.sharc_typed_laws.specs.{Stretches.labels_by, Places.mark, Premises.{Typing, HoldsVariables, Ground, HasNumbers, number_in_global, HasIndex, HasBaseAt, IsPlaced, ReachesInteger, HasMutex, ThroughGuard}}
 use Rattle.sharc_accepted_laws.specs.{Alone.IsInside, Scopes.ScopeLaws, Static.{register, variable_type}, Lvalues.ContentFits, Targets.base_content, Accesses.{HasBaseIn, HasIndexOf, IsCellNumber, IsPlaceNumber, HaveTarget, modes_behind, base_type, cells_in_each, LockStands, of_global, of_variable, IsFairAccess, IsGated, IsCellLvalue, IsCodeOf, AccessFits, CellsStand, AccessesFit, GuardsFit}, Joined.{LockLeads, to_global, to_variable, IsFairUse, setting, IsTypingOf, IsGroundOf, IntegersFit, MutexesFit}}

@@ -8,8 +8,7 @@ use Rattle.sharc_ctype.specs.{Globals.elements_of, Resolved.{Resolution, structs
 use Rattle.sharc_ctype_laws.specs.Constraints.{struct_named}
 use Rattle.sharc_meaning.specs.Cells.{element_cells, base_cells, field_place}
 use Rattle.sharc_mode.specs.Moded.{Assignment}
-use Rattle.sharc_flat_form.specs.Machine.{first_cell}
-use Rattle.sharc_flat.specs.Tables.{cells_in, granules_in, globals_from, globals_of, all_granules}
+use Rattle.sharc_flat.specs.{Machine.first_cell, Tables.{cells_in, granules_in, globals_from, globals_of, all_granules}}
 use Rattle.sharc_invariant.specs.Types.{FieldMode, Field, no_field}
 use Rattle.sharc_accepted_laws.specs.{TargetLaws.{MembersAre, GlobalsAre, GlobalsEnd}, Targets.{member, members, struct_fields, base_fields, declared_content, top_mode, global_element, repeated, global_fields, all_global_fields}}
 use Rattle.sharc_accepted_laws.proofs.{TargetCells.{member_count, base_count}, Good.{at_left, at_right, size}, TargetMembers.{members_at, below_there}, Owners.place_is}

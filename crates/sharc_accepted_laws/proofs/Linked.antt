@@ -5,7 +5,7 @@ use Rattle.sharc_names.specs.Kinds.{Kind, object, is_integral, is_pointer, is_ar
 use Rattle.sharc_code.specs.declared.code.Use.TheVariants as uses
 use Rattle.sharc_ctype_laws.specs.Rules.{IsHeld}
 use Rattle.sharc_mode.specs.{Cells.is_mutex_kind, Rows.modes_at, Sharings.Sharing}
-use Rattle.sharc_mode_laws.specs.Constructs.{IsAssigned}
+use Rattle.sharc_check.specs.Constructs.{IsAssigned}
 use Rattle.sharc_flat.specs.{Flattened.{kind_of, is_ref, target_of, guard_of}, Scope.Context, Suits.{PlaceSuits, is_cell}}
 use Rattle.sharc_typed_laws.specs.{Stretches.Setting, Stated.CellAssigned, Typable.{type_by, IsTypable, IsPlaceTypable}}
 use Rattle.sharc_accepted_laws.specs.{Typed.{IsOf, BasesStand, CellTyped}, Static.{entry_by, entry_of}, Typing.typing, Expressions.{CellsTyped, ExpressionsTypable, ExpressionsAreTypable}, Statements.{IsPlaceIn, IsThere, AreExpressionsTypable}}

@@ -15,7 +15,7 @@ use Rattle.sharc_ctype_laws.specs.Constraints.{HasType, Common, both_shorter, le
 use Rattle.sharc_ctype_laws.specs.Constraints as typing
 use Rattle.sharc_mode.specs.{Cells.{is_mutex_kind, top_of, field_cell, first_of, pointed, named_cell, global_cell, declared_cell, field_named, cell_at}, Moded.Assignment, Notes.base_of, Rows.{PathReading, written, Targets, constant_row, deeper, declared_row, global_row, named_row, reading_through, base_use, behind, row_at, read, modes_of, modes_at}, Sharings.{Lock, Sharing, locked, lock_of, sharing_of}}
 use Rattle.sharc_mode.specs.Sharings as sharings
-use Rattle.sharc_mode_laws.specs.Constructs.{IsExpression}
+use Rattle.sharc_check.specs.Constructs.{IsExpression}
 use Rattle.sharc_meaning.specs.Cells.{field_place, field_place_named}
 use Rattle.sharc_flat.specs.Places.{Target, variable, in_object, in_object_at, in_global, in_global_at, named_target, own_field, target, global_of}
 use Rattle.sharc_invariant.specs.Types.{FieldMode, FieldLock, Field, Content, Pointer, Target as TableTarget, no_field, row_of}

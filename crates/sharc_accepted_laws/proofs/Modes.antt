@@ -12,8 +12,7 @@ use Rattle.sharc_code.specs.declared.instr.Cell.TheVariants as cells
 use Rattle.sharc_ctype.specs.{Globals.elements_of, Resolved.{Resolution, named_at, named_kind, global_kind_of, global_at}}
 use Rattle.sharc_meaning.specs.Cells.{field_place, field_place_behind}
 use Rattle.sharc_mode.specs.{Cells.is_behind_pointer, Moded.Assignment, Sharings.{Lock, Sharing, locked}}
-use Rattle.sharc_flat_form.specs.{declared.op.Spot.Spot, Machine.first_cell}
-use Rattle.sharc_flat.specs.{Scope.Context, Places.{mode_beside, mode_named, place_mode, beside_named, beside_field, guard_named, guard_field}, Tables.globals_of}
+use Rattle.sharc_flat.specs.{declared.op.Spot.Spot, Machine.first_cell, Scope.Context, Places.{mode_beside, mode_named, place_mode, beside_named, beside_field, guard_named, guard_field}, Tables.globals_of}
 use Rattle.sharc_invariant.specs.{Types.{StaticType, Lock as TypeLock, OfType, OfGlobals, OfElement, FieldMode, Under, Content, MutexWord, Field, no_field, FieldMode as own}, Labels.{Refers, Closed, Loaded, Label, Labels, Itself}, Typed.{IsInGlobal, HasField, IsMode, IsLockMode, IsLockCell, IsTypeMode, IsTypeLock, PointsToMutex, no_lock}}
 use Rattle.sharc_invariant.specs.Types as types
 use Rattle.sharc_typed_laws.specs.{Inside.lock_of, Lines.{IsLockedBy, MayPass}}

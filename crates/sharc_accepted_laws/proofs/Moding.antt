@@ -8,11 +8,10 @@ use Rattle.sharc_names.specs.declared.fault.Named.TheVariants as named
 use Rattle.sharc_ctype.specs.{declared.entity.Entity.Entity, Resolved.{Resolution, named_at, named_kind}}
 use Rattle.sharc_mode.specs.{Cells.{is_mutex_kind, is_behind_pointer, top_of, written_cell, field_cell}, Sharings.{Lock, Sharing, private, readonly, locked, racy, dynamic, lock_of, is_field, is_sibling_lock}, WellFormed.place_of}
 use Rattle.sharc_mode.specs.Sharings as sharings
-use Rattle.sharc_mode_laws.specs.Paths.{IsAllowed, global_mutex, sibling_mutex, sibling_pointer, through_constant}
+use Rattle.sharc_check.specs.Paths.{IsAllowed, global_mutex, sibling_mutex, sibling_pointer, through_constant}
 use Rattle.sharc_mode.specs.declared.place.Place.TheVariants as place
 use Rattle.sharc_meaning.specs.Cells.{field_place, field_place_named}
-use Rattle.sharc_flat_form.specs.Machine.{first_cell}
-use Rattle.sharc_flat.specs.Tables.{globals_of}
+use Rattle.sharc_flat.specs.{Machine.first_cell, Tables.globals_of}
 use Rattle.sharc_invariant.specs.Types.{OfGlobals, OfElement, FieldMode, Under, FieldMode as own}
 use Rattle.sharc_accepted_laws.specs.{Lvalues.{ModeFits, is_private, is_readonly, is_racy, is_dynamic, locked_by_type, locked_by_global, locked_by_sibling, locked_behind}, Shapes.form_of, Targets.{lock_named, field_lock, own_mode, global_mode, is_private_mode, locked_mode, written_mode, field_mode}}
 

@@ -7,7 +7,7 @@ use Rattle.sharc_names.specs.declared.fault.Named.{Named}
 use Rattle.sharc_names.specs.declared.fault.Named.TheVariants as named
 use Rattle.sharc_ctype.specs.{declared.entity.Numbered.Numbered, Resolved.named_at}
 use Rattle.sharc_mode.specs.{Moded.Assignment, Rows.{written, base_use, modes_of, declared_row}, Sharings.{Lock, Sharing, private, readonly, locked, racy, dynamic, lock_of, object_named, object_of, text_at}}
-use Rattle.sharc_mode_laws.specs.{Constructs.{IsEntity, IsTaken}, Laws.RulesAreMet, Paths.{IsNamedByPath, is_written, is_made, IsSiblingUse}}
+use Rattle.sharc_check.specs.{Constructs.{IsEntity, IsTaken}, RuleLaws.RulesAreMet, Paths.{IsNamedByPath, is_written, is_made, IsSiblingUse}}
 use Rattle.sharc_flat.specs.{Scope.{Context, slot_kind}, Suits.PathNamed}
 use Rattle.sharc_invariant.specs.Types.{Names, SomeNames}
 use Rattle.sharc_accepted_laws.specs.{Static.{register, lock_named, locks_at}, Scopes.AllStand, StaticLaws.IsAccepted, Taken.{IsNamed, AllNamed, ExpressionsAreNamed, DeclaredAreNamed, TakenLaws}}

@@ -9,7 +9,7 @@ use Rattle.sharc_names.specs.declared.fault.Named.TheVariants as named
 use Rattle.sharc_names.specs.declared.types.Role.TheVariants as role
 use Rattle.sharc_ctype.specs.{declared.entity.Numbered.Numbered, Entities.{entities_in, numbered, is_told_by, entity_at}, Constants.is_constant, Resolved.{Resolution, named_at, global_at, function_at, kind_at}}
 use Rattle.sharc_mode.specs.{Flows.IsLeastAssignment, Moded.Assignment, Rows.{PathReading, written, through, Targets, is_constant_named, base_use, read, deeper, targets_from, entity_row, global_row, named_row, result_row, called_row, behind, reading_through, row_at, modes_of, modes_at}, Sharings.{Lock, Sharing, private, readonly, locked, racy, dynamic, lock_of, sharing_of, text_at, is_sibling_lock, object_named}}
-use Rattle.sharc_mode_laws.specs.{Constructs.{IsExpression, IsEntity}, Paths.{IsThroughConstant, through as through_constant, IsSiblingUse}}
+use Rattle.sharc_check.specs.{Constructs.{IsExpression, IsEntity}, Paths.{IsThroughConstant, through as through_constant, IsSiblingUse}}
 use Rattle.sharc_accepted_laws.proofs.Written.{raw, deeper_raw, row_good, found_there}
 use Rattle.sharc_lemmas.proofs.{Options.{same_some, none_some}, Lists.{front, head_there, head_or_tail, to_each, tail_there}, Equal.none_there}
 

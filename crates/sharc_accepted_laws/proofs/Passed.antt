@@ -10,7 +10,7 @@ use Rattle.sharc_ctype.specs.{declared.entity.Entity.Entity, declared.entity.Num
 use Rattle.sharc_ctype_laws.specs.{Found.{IsFound, EachTypeFound}, Laws.{EachNamesItself, AllFair}, WrittenTypes.{FirstNames, a_field, a_variable, a_global, a_function, a_known_call, IsNamedLevel}}
 use Rattle.sharc_meaning.specs.Cells.{field_place_behind}
 use Rattle.sharc_mode.specs.{Moded.Assignment, Notes.base_of, Rows.{PathReading, written, at_call, Targets, is_constant_named, constant_use, argument_use, with_base, path_variable, lock_for, read, entity_row, declared_row, modes_of, modes_at}, Sharings.{Lock, Sharing, private, readonly, locked, racy, dynamic, lock_of, sharing_of, variable_named, variable_of, same_all}}
-use Rattle.sharc_mode_laws.specs.{Constructs.{IsEntity, IsExpression, IsCall, called, spawned, an_argument}, Laws.RulesAreMet, Paths.{at_target, is_substituted}}
+use Rattle.sharc_check.specs.{Constructs.{IsEntity, IsExpression, IsCall, called, spawned, an_argument}, RuleLaws.RulesAreMet, Paths.{at_target, is_substituted}}
 use Rattle.sharc_flat.specs.{Scope.{Context, slot_kind}, Suits.{PathNamed, PathStands}}
 use Rattle.sharc_invariant.specs.{Types.{Lock as TypeLock}, Types.Lock.{Global, Through as InRegister}, Labels.{Refers, Label, AllSame}, Typed.{PassesLock, Passes}}
 use Rattle.sharc_accepted_laws.specs.{Shapes.{form_of, shape_of, number}, Static.{register, lock_named, lock_at, locks_at, static_of, variable_type, entry_by, entry_of}, StaticLaws.IsAccepted, Calls.{at_entry, AreCopies, ArgumentsPass, argument_type, AreStanding, ArgumentFits, ArgumentsFit}, Held.{is_held, IsHeldPath, AllHeld}, Scopes.AllStand}

@@ -8,7 +8,7 @@ use Rattle.sharc_ctype.specs.Resolved.{Resolution, variable_kind, structs_in}
 use Rattle.sharc_ctype_laws.specs.Constraints.{struct_named}
 use Rattle.sharc_meaning.specs.Cells.{field_place, field_place_behind}
 use Rattle.sharc_mode.specs.{Moded.Assignment, Notes.base_of, Rows.{Targets, written, read, declared_row, modes_of}, Sharings.{Sharing, sharing_of}, WellFormed.{fields_of, fields_named, fields_behind}}
-use Rattle.sharc_mode_laws.specs.Paths.{IsMutexBehind}
+use Rattle.sharc_check.specs.Paths.{IsMutexBehind}
 use Rattle.sharc_flat.specs.Scope.{Context}
 use Rattle.sharc_invariant.specs.Types.{MutexWord, Field, no_field, row_of, field_at}
 use Rattle.sharc_accepted_laws.specs.{StaticLaws.IsAccepted, Static.{static_of, variable_type}, Fields.FieldsPlaced, TargetLaws.{VariablesFound, MembersAre, IsRowOf, IsMemberAt}, Pointees.{PointeesFit, pointee}, Shapes.{form_of, stars_in}, Targets.{own_mode, base_content, pointer_content, declared_content, base_fields, shape_fields, targets_of}, Paths.{IsMutexThere, MutexesBehind}}

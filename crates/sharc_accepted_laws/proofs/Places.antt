@@ -12,7 +12,7 @@ use Rattle.sharc_names.specs.Names as meaning
 use Rattle.sharc_ctype.specs.{declared.entity.Entity.Entity, declared.entity.Numbered.Numbered, Entities.{declared, cast_entity, casts, result_of, function_entities, entities_in, numbered, is_told_by, entity_at}, Resolved.{Resolution, named_at, declaration_at, global_at, function_at, globals_in, functions_in, structs_in, kind_at, variable_kind}}
 use Rattle.sharc_ctype_laws.specs.{Constraints.{HasType, IsMemberOf, struct_named, a_variable, a_global, a_function, a_field, a_field_behind}, Found.IsFound, Laws.NamesFound, Paths.{meaning_token, IsVariableIn, IsAmong, LevelStands, TypeStands, CastStands, file_types}, Places.{Placing, at}, WrittenTypes.{IsNamedLevel, IsNamedType}}
 use Rattle.sharc_mode.specs.{Flows.IsLeastAssignment, Moded.Assignment, Rows.{PathReading, written, through, Targets, is_constant_named, constant_use, base_use, read, entity_row, global_row, named_row, result_row, called_row, behind, reading_through, row_at, modes_of}, Sharings.{locked, lock_of, sharing_of, text_at, is_sibling_lock}}
-use Rattle.sharc_mode_laws.specs.Constructs.{IsEntity}
+use Rattle.sharc_check.specs.Constructs.{IsEntity}
 use Rattle.sharc_flat.specs.{Scope.{Context, slot_kind}, Suits.{PathNamed, PathStands, IfThere}}
 use Rattle.sharc_accepted_laws.specs.{Scopes.{AllStand, DeclaredStands}, Standing.{ExpressionStands, ExpressionsStand}}
 use Rattle.sharc_accepted_laws.proofs.{Origins.{reading_kept, deeper_hold}, Passed.first_kind, Written.{raw, row_good, found_there}}

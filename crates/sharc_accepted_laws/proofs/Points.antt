@@ -9,14 +9,13 @@ use Rattle.sharc_names.specs.declared.fault.Named.TheVariants as named
 use Rattle.sharc_names.specs.declared.types.Role.TheVariants as role
 use Rattle.sharc_ctype.specs.{declared.entity.Entity.Entity, declared.entity.Numbered.Numbered, Entities.{declared, entities_in, numbered, is_told_by}, Resolved.{Resolution, named_at, declaration_at, variable_kind, global_at, globals_in, functions_in, structs_in, kind_at}}
 use Rattle.sharc_ctype_laws.specs.{Constraints.{HasType, IsMemberOf, a_field, a_field_behind}, Found.{IsFound, EachTypeFound}, Laws.{EachNameOnce, OnlyNames, EachPathFound, MeetsConstraints, OneType}}
-use Rattle.sharc_flat_form.specs.Machine.{first_cell}
+use Rattle.sharc_flat.specs.{Machine.first_cell, Places.{Target, in_global, in_global_at, in_object_at, global_of, own_field, named_target, target, cell_of}, Scope.Context, Suits.{Either, is_cell}, Tables.globals_of}
 use Rattle.sharc_meaning.specs.Cells.{field_place, field_place_named, field_place_behind}
 use Rattle.sharc_mode.specs.declared.place.Place.TheVariants as place
 use Rattle.sharc_mode.specs.{Cells.pointed, Moded.Assignment, RowLaws.RowLaws, Rows.{PathReading, written, through, Targets, is_constant_named, constant_use, base_use, lock_through, path_variable, read, deeper, entity_row, declared_row, global_row, named_row, behind, reading_through, row_at, modes_of, modes_at}, Sharings.{Lock, Sharing, private, readonly, locked, racy, dynamic, lock_of, sharing_of, text_at, variable_named, is_field, is_sibling_lock}, WellFormed.place_of}
-use Rattle.sharc_mode_laws.specs.{Constructs.{IsExpression, IsEntity}, Laws.RulesAreMet, Paths.{IsAllowed, global_mutex, sibling_mutex, sibling_pointer, through_constant, IsThroughConstant, through as is_through}, Rules.MeetsRules}
+use Rattle.sharc_check.specs.{Constructs.{IsExpression, IsEntity}, RuleLaws.RulesAreMet, Paths.{IsAllowed, global_mutex, sibling_mutex, sibling_pointer, through_constant, IsThroughConstant, through as is_through}, Rules.MeetsRules}
 use Rattle.sharc_code.specs.declared.instr.Cell.{Cell}
 use Rattle.sharc_code.specs.declared.instr.Cell.TheVariants as cells
-use Rattle.sharc_flat.specs.{Places.{Target, in_global, in_global_at, in_object_at, global_of, own_field, named_target, target, cell_of}, Scope.Context, Suits.{Either, is_cell}, Tables.globals_of}
 use Rattle.sharc_invariant.specs.{Types.{Lock as TypeLock, FieldLock, OfType, OfGlobals, OfElement, StaticType}, Types.Lock.{Global, Through, Self}, Labels.{Refers, Label, SameReference, Itself, SameLock, AllSame}, Typed.{no_lock, IsFieldLock, IsGlobalLock, IsAnyLock, IsAnyGlobalLock, AreFieldLocks}}
 use Rattle.sharc_accepted_laws.specs.{StaticLaws.IsAccepted, Held.{is_held, IsHeldPath, AllHeld}, Pointing.{element_locks, pointee_locks, declared_locks, content_locks, BaseIs, IsBased, PlacesPoint}, Static.{register, lock_named, lock_at, locks_at, static_of}, Fields.FieldsPlaced, TargetLaws.ExpressionsFound, Shapes.{Form, private_form, readonly_form, locked_form, racy_form, dynamic_form, form_of}, Targets.{lock_named as table_lock, field_lock, field_locks, type_locks, lock_count}}
 use Rattle.sharc_accepted_laws.proofs.{Arrays.{IsNameOf, array_name}, Holds.expressions_held, Origins.{private_path, racy_path, dynamic_path, reading_kept, same_raw, no_private, no_readonly, no_racy, no_dynamic, same_lock}, Passed.use_named, Places.{InFile, FileKnown, FieldInFile, file_known, struct_fields, field_found, at_number, IfSome}, Noted.all_say, StaticSiblings.{SiblingsAre, siblings_are}, Written.{raw, row_good, found_there}}

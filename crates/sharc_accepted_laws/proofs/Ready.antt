@@ -13,7 +13,7 @@ use Rattle.sharc_ctype_laws.specs.{Constraints.HasType, Declared.IsItself, Found
 use Rattle.sharc_graph.specs.declared.graph.NodeFinding.TheVariants.{Apart, Source, Behind}
 use Rattle.sharc_mode.specs.{Cells.{top_of, first_mode, global_cell}, Flows.{IsLeastAssignment, mode_found}, WellModed.WellModed, Moded.Assignment, Rows.{PathReading, written, targets_from, entity_row, modes_of}, Settled.otherwise_of, Sharings.{Lock, locked, lock_of, sharing_of}, WellFormed.place_of}
 use Rattle.sharc_mode.specs.declared.place.Place.TheVariants as place
-use Rattle.sharc_mode_laws.specs.{Constructs.{IsExpression, IsWritten}, Laws.RulesAreMet, Paths.{IsAllowed, global_mutex, sibling_mutex, sibling_pointer, through_constant}}
+use Rattle.sharc_check.specs.{Constructs.{IsExpression, IsWritten}, RuleLaws.RulesAreMet, Paths.{IsAllowed, global_mutex, sibling_mutex, sibling_pointer, through_constant}}
 use Rattle.sharc_accepted_laws.specs.{Lvalues.{LvaluesFit, IsArrayOf, ArraysFit}, Shapes.form_of}
 use Rattle.sharc_accepted_laws.proofs.{Expressing.expressions_found, TargetForms.same_forms, Found.{IsThere, field_found, global_found, global_low}, Laying.{named_there, members_are}, TargetLists.place_there, Lvalues.{AreReady, names_cell, array_base}, TargetMembers.top_written, Moding.{PathNames, field_or_global}, Rows.IsKnown, Settling.{positioned, settled_by, SettledBy, a_mutex, is_written, is_meant, settled_from, get_dropped, dropped_length}, TargetSiblings.field_allowed, Whole.known, Globals.index_get, Origins.same_lock}
 use Rattle.sharc_lemmas.proofs.{Bools.{or_false, and_false}, Options.{same_some, none_some}, Lists.{head_there, of_each, tail_there}}

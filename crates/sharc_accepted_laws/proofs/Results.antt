@@ -6,7 +6,7 @@ use Rattle.sharc_ctype_laws.specs.{Found.EachTypeFound, Laws.EachPathFound}
 use Rattle.sharc_mode.specs.Rows.{written, declared_row, result_row, called_row, modes_of}
 use Rattle.sharc_flat.specs.{declared.slot.Slot.Slot, Scope.Context}
 use Rattle.sharc_invariant.specs.{Types.Mentions, Labels.Refers}
-use Rattle.sharc_mode_laws.specs.Constructs.{IsFunction}
+use Rattle.sharc_check.specs.Constructs.{IsFunction}
 use Rattle.sharc_accepted_laws.specs.{StaticLaws.IsAccepted, Results.{where_stand, ResultsStay, CallsGive, ResultLaws}, Scopes.{ScopeLaws, AllStand}, Static.{static_of, result_type}}
 use Rattle.sharc_tree.specs.Tree.{Function}
 use Rattle.sharc_accepted_laws.proofs.Places.{InFile, file_known, file_stands, reads_written}

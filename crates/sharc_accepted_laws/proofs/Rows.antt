@@ -11,7 +11,7 @@ use Rattle.sharc_ctype.specs.{declared.entity.Numbered.Numbered, Entities.{decla
 use Rattle.sharc_ctype_laws.specs.{Declared.IsItself, Found.IsFound}
 use Rattle.sharc_meaning.specs.Cells.{field_place, field_place_named}
 use Rattle.sharc_mode.specs.{Cells.{is_mutex_kind, is_behind_pointer, top_of}, Flows.IsLeastAssignment, Moded.Assignment, Rows.{written, entity_row, declared_row, modes_of}, Sharings.{is_field, is_sibling_lock, lock_of}}
-use Rattle.sharc_mode_laws.specs.{Constructs.{IsEntity, IsWritten}, Paths.{IsLockPointer, IsAllowed, global_mutex, sibling_mutex, sibling_pointer, through_constant}, Rules.MeetsRules}
+use Rattle.sharc_check.specs.{Constructs.{IsEntity, IsWritten}, Paths.{IsLockPointer, IsAllowed, global_mutex, sibling_mutex, sibling_pointer, through_constant}, Rules.MeetsRules}
 use Rattle.sharc_invariant.specs.Types.{FieldMode, Pointer, FieldMode as field}
 use Rattle.sharc_accepted_laws.specs.{Shapes.{Form, private_form, Shape, form_of, shape_of, shapes, number}, Targets.{is_private_form, starts_private, own_mode, lock_count, type_locks, members, struct_fields, base_fields, shape_fields, shape_row, targets_of}}
 use Rattle.sharc_accepted_laws.proofs.{Fits.{AreFit, IsFitShape, shapes_fit, entity_there, field_shared, private_form_is}, TargetForms.{entity_length, skipped}, Found.{IsThere, field_found}, Good.{IsOwn, AreGood, own_of, own_racy, single_are, none_are, one_good, pointer_good}, TargetMembers.{IsPartner, IsMember, levels_many, top_written, members_good}, Numbers.shapes_closed, Settling.{positioned, dropped_length}, TargetSiblings.IsSibling, Table.{IsGoodRow, no_row_good}}

@@ -10,8 +10,8 @@ use Rattle.sharc_ctype.specs.{Reaches.{of_all, Names, spawns, Spawns}, Resolved.
 use Rattle.sharc_ctype_laws.specs.{Callable.IsThread, Constraints.{HaveTypes, one_more, Assignable}, Laws.SpawnsByName}
 use Rattle.sharc_meaning.specs.Expressions.{number_named}
 use Rattle.sharc_mode.specs.Moded.{Assignment}
-use Rattle.sharc_mode_laws.specs.Constructs.{IsFunction, IsCall}
-use Rattle.sharc_mode_laws.specs.Constructs as constructs
+use Rattle.sharc_check.specs.Constructs.{IsFunction, IsCall}
+use Rattle.sharc_check.specs.Constructs as constructs
 use Rattle.sharc_flat.specs.{Flattened.{kind_of, is_ref, parameters_scope, in_function as context_in, parameter_of}, Places.width_of, Scope.{Context, slot_of, int_count}, Suits.{IsScalar, Passes, Suits, ArgumentsSuit}}
 use Rattle.sharc_invariant.specs.{Labels.{Refers, Anything, Within, Signature, LessNumber, EntryMentions}, Typed.IsShared}
 use Rattle.sharc_invariant.specs.Typed as typed

@@ -8,8 +8,7 @@ use Rattle.sharc_ctype.specs.{Globals.elements_of, Resolved.{Resolution, named_a
 use Rattle.sharc_ctype_laws.specs.{Initials.MeetsGlobal, Laws.MeetsGlobals}
 use Rattle.sharc_meaning.specs.Cells.{global_elements, field_place_named}
 use Rattle.sharc_mode.specs.{Cells.cell_at, Moded.Assignment, Rows.modes_of, Sharings.{Sharing, locked}}
-use Rattle.sharc_flat_form.specs.Machine.{first_cell}
-use Rattle.sharc_flat.specs.{Scope.Context, Places.{Target, variable, global_of, in_global, in_global_at, in_object, in_object_at, target, cell_of, guard_cell, field_of, own_field, beside_field, lock_beside, lock_cell}, Tables.globals_of}
+use Rattle.sharc_flat.specs.{Machine.first_cell, Scope.Context, Places.{Target, variable, global_of, in_global, in_global_at, in_object, in_object_at, target, cell_of, guard_cell, field_of, own_field, beside_field, lock_beside, lock_cell}, Tables.globals_of}
 use Rattle.sharc_invariant.specs.{Types.{StaticType, Field, no_field, row_of}, Labels.{Refers, Element, OfGlobal, Label}}
 use Rattle.sharc_accepted_laws.specs.{Static.static_of, Beside.{BesideFits, AreLockedBeside, LocksStandBeside}, TargetLaws.{GlobalsAre, ExpressionsFound}, Lvalues.{FieldFits, IsBehindPointer, IsInFile, IsOfObject, IsOfGlobal, NamesCell, no_cell, of_object, of_global, LvaluesFit, pointer_of}, Shapes.{expression_shape, number}, Targets.{global_element, targets_of}, Accesses.{HasBaseIn, HasIndexOf, IsCellNumber, IsPlaceNumber, HaveTarget, list_or, modes_of_pointer, modes_behind, kind_of_pointer, base_type, cells_in_each, IsCellLvalue, IsCodeOf, CellsStand, AccessesFit, GuardsFit}}
 use Rattle.sharc_accepted_laws.proofs.{AccessCells.{IsCellOf, ArePairOf, object_cell, element_cell, object_pair, element_pair, global_cell_at, global_pair, place_cell, place_pair}, Modes.{reaches, around, guard_there, HasAround, IsOnBase}, AccessLists.{there_at, each_at}}

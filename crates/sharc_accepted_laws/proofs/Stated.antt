@@ -9,7 +9,7 @@ use Rattle.sharc_ctype.specs.Transfers.{Transfer, variable, result, Agrees, IsFa
 use Rattle.sharc_ctype_laws.specs.{Declared.IsItself, Rules.{MeetsSimple, MeetsFirst, Meets, AllMeet}}
 use Rattle.sharc_meaning.specs.State.{is_reference}
 use Rattle.sharc_mode.specs.Moded.{Assignment}
-use Rattle.sharc_mode_laws.specs.Constructs.{IsAssigned, locals_in_first, locals_in, locals_in_all}
+use Rattle.sharc_check.specs.Constructs.{IsAssigned, locals_in_first, locals_in, locals_in_all}
 use Rattle.sharc_flat.specs.{Flattened.{kind_of, parameters_scope, in_function as at_entry, behind_first, behind_statement}, Scope.Context, Suits.{Suits, Goes, SimpleSuits, InitialSuits, FirstSuits, TestSuits, IfThere, StatementSuits, StatementsSuit, in_first as suits_first, in_statement as suits_statement}}
 use Rattle.sharc_invariant.specs.Labels.{Empty, Refers, Signature}
 use Rattle.sharc_typed_laws.specs.{Stretches.Setting, Stated.SimpleTypable, Returned.{ReturnedBy, ReturnTypable}, Statements.{TestTypable, StepTypable, DeclaredTypable, FirstTypable, StatementTypable, StatementsTypable}}

@@ -12,7 +12,7 @@ use Rattle.sharc_ctype.specs.{declared.entity.Entity.Entity, declared.entity.Num
 use Rattle.sharc_ctype_laws.specs.{Constraints.{HasType, Callee, IsMemberOf, struct_named, of_program, of_conditions, a_variable, a_global, a_function, a_field, a_field_behind}, Declared.{IsItself, NamesOwn, NamesOwnVariables}, Found.{IsFound, EachTypeFound}, Laws.{EachNameOnce, OnlyNames, EachNamesItself, EachNamesOwn, EachPathFound, MeetsConstraints, OneType}, WrittenTypes.{IsNamedPath, IsNamedLevel, IsNamedType}}
 use Rattle.sharc_mode.specs.declared.place.Place.TheVariants as place
 use Rattle.sharc_mode.specs.{Moded.Assignment, Rows.{PathReading, written, through, Targets, constant_use, base_use, lock_through, read, entity_row, declared_row, global_row, named_row, result_row, called_row, behind, reading_through, row_at, modes_of, modes_at}, Settled.{field_target, settled_modes}, Sharings.{Lock, Sharing, locked, lock_of, sharing_of, text_at, is_field, is_sibling_lock}, WellFormed.{leaves_open, place_of}}
-use Rattle.sharc_mode_laws.specs.{Constructs.{IsExpression, IsEntity}, Laws.RulesAreMet, Paths.{IsMutexBehind, IsAllowed, global_mutex, sibling_mutex, sibling_pointer, through_constant}, Rules.MeetsRules}
+use Rattle.sharc_check.specs.{Constructs.{IsExpression, IsEntity}, RuleLaws.RulesAreMet, Paths.{IsMutexBehind, IsAllowed, global_mutex, sibling_mutex, sibling_pointer, through_constant}, Rules.MeetsRules}
 use Rattle.sharc_accepted_laws.specs.{StaticLaws.IsAccepted, Leading.{LeadsToMutex, by_global, by_variable, LeadsIfLocked, AllLead, ExpressionsLead}, Fields.FieldsPlaced, Own.{IsOwn, IsCastFound, HasOwn, OwnAreFound}}
 use Rattle.sharc_accepted_laws.proofs.{Noted.{AllSay, all_say}, Origins.{private_path, racy_path, dynamic_path, reading_kept, deeper_hold, no_private, no_readonly, no_racy, no_dynamic, same_lock}, Passed.{use_named, first_kind}, Places.{InFile, FileKnown, FieldInFile, file_known, struct_fields, field_found, at_number, IfSome}, Points.{NamesField, field_not_local, ModeOf, LevelOf, allowed_row, shown_modes, entity_is, through_used}, StaticSiblings.{found_there, struct_there, points_to, is_beside}, Written.{raw, row_settled, open_good}, TargetLists.place_there}
 use Rattle.sharc_lemmas.proofs.{Options.{same_some, none_some}, Lists.{front, each, head_there, head_or_tail, of_each, to_each, tail_there}, Equal.none_there}

@@ -5,7 +5,7 @@ use Rattle.sharc_tree.specs.{declared.tree.declaration.Declaration.Declaration, 
 use Rattle.sharc_tree.specs.Tree as tree
 use Rattle.sharc_ctype.specs.Statements.{first_locals}
 use Rattle.sharc_ctype.specs.Statements as declared
-use Rattle.sharc_mode_laws.specs.Constructs.{locals_in_first, locals_in, locals_in_all}
+use Rattle.sharc_check.specs.Constructs.{locals_in_first, locals_in, locals_in_all}
 use Rattle.sharc_lemmas.proofs.Lists.{front, back, both}
 
 module _ (P : Declaration → Type 0) where

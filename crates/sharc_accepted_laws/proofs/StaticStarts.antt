@@ -8,7 +8,7 @@ use Rattle.sharc_ctype.specs.{Reaches.Spawns, Resolved.{function_at, functions_i
 use Rattle.sharc_ctype_laws.specs.{Callable.IsThread, Laws.{AllFair, EachNamesItself, SpawnsThreads}}
 use Rattle.sharc_meaning.specs.State.{is_reference}
 use Rattle.sharc_mode.specs.{Cells.pointed, Moded.Assignment, Notes.base_of, RowLaws.RowLaws, Rows.{written, deeper, declared_row, modes_of}, Sharings.{Sharing, private, readonly, locked, racy, dynamic}}
-use Rattle.sharc_mode_laws.specs.Laws.{RulesAreMet}
+use Rattle.sharc_check.specs.RuleLaws.{RulesAreMet}
 use Rattle.sharc_flat.specs.{Flattened.{parameters_scope, parameter_of, in_function}, Scope.Context}
 use Rattle.sharc_invariant.specs.{Labels.{Empty, Refers, EntryMentions}, Types.{Targets, row_of, globals_target, is_private}, Typed.IsShared}
 use Rattle.sharc_accepted_laws.specs.{StaticLaws.IsAccepted, Scopes.IsClosedScope, Starting.{BeginsAlone, SpawnedBegin}, Static.{variable_type, pointers, entry_named, variable_entry}, TargetLaws.{NumbersFound, VariablesFound}, Shapes.{Shape, shape_of, stars_in, number}, Targets.{starts_private, targets_of}}

@@ -6,8 +6,7 @@ use Rattle.sharc_tree.specs.declared.tree.expression.Constant.TheVariants as con
 use Rattle.sharc_code.specs.{declared.code.Code.Code, declared.code.Function.{Function as Row}, declared.code.GlobalCells.GlobalCells, Machine.no_function, Ranges.GlobalsFit}
 use Rattle.sharc_ctype.specs.Resolved.{globals_in, functions_in, function_at}
 use Rattle.sharc_mode.specs.Moded.{Assignment}
-use Rattle.sharc_flat_form.specs.{declared.flat.Flat.{Flat as FlatCode}, Made.flat_of}
-use Rattle.sharc_flat.specs.{Flattened.{parameter_of, function_code, rows_of}, Flattens.{Flattens, names_of}, Laid.AreNamed, Tables.globals_of}
+use Rattle.sharc_flat.specs.{declared.flat.Flat.{Flat as FlatCode}, Made.flat_of, Flattened.{parameter_of, function_code, rows_of}, Flattens.{Flattens, names_of}, Laid.AreNamed, Tables.globals_of}
 use Rattle.sharc_guard.specs.{Guard.{entered_at, place}, Known.dropped}
 use Rattle.sharc_compile.specs.Made.{IsCodeOf}
 use Rattle.sharc_flat_laws.specs.Tables.{MadeTablesFit}

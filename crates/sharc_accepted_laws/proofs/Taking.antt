@@ -9,7 +9,7 @@ use Rattle.sharc_ctype.specs.Resolved.{named_at, named_kind, structs_in}
 use Rattle.sharc_ctype_laws.specs.{Constraints.{a_cast, HasType as IsOfType}, Laws.{MeetsConstraints, OneType}}
 use Rattle.sharc_meaning.specs.Cells.{element_cells}
 use Rattle.sharc_mode.specs.{Notes.base_of, Rows.{Targets, written, cast_row, named_row, modes_of, modes_at}}
-use Rattle.sharc_mode_laws.specs.Constructs.{IsExpression}
+use Rattle.sharc_check.specs.Constructs.{IsExpression}
 use Rattle.sharc_flat.specs.{Flattened.{kind_of, target_of, layout_of}, Places.{variable, named_target}, Scope.{Context, ref_count, number_in}}
 use Rattle.sharc_invariant.specs.{Types.{StaticType, cells_of}, Labels.Refers, Typed.{Recasts, IsLayout}}
 use Rattle.sharc_typed_laws.specs.{Stretches.Setting, Typable.{type_by, VariableTakes, Takes, CastTyped, FreeTyped}}

@@ -5,7 +5,7 @@ use Rattle.sharc_tree.specs.{declared.tree.declaration.Declaration.Declaration, 
 use Rattle.sharc_tree.specs.Measures as measures
 use Rattle.sharc_tree.specs.Tree as tree
 use Rattle.sharc_ctype.specs.{Resolved.{Resolution, named_at}, Transfers.{Transfer, gives, variable, lvalue, passed, parameters_named, transfers, argument_transfers, in_option, right_transfers, simple_transfers, local_transfers, first_transfers, statement_transfers, statements_transfers, function_transfers}}
-use Rattle.sharc_mode_laws.specs.Constructs.{locals_in_first, locals_in, locals_in_all}
+use Rattle.sharc_check.specs.Constructs.{locals_in_first, locals_in, locals_in_all}
 use Rattle.sharc_lemmas.proofs.Lists.{front, back, both}
 
 -- what an expression itself passes

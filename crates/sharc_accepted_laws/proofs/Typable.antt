@@ -10,7 +10,7 @@ use Rattle.sharc_ctype.specs.{Resolved.{Resolution, named_at, function_at, globa
 use Rattle.sharc_ctype_laws.specs.Constraints.{HasType as IsOfType}
 use Rattle.sharc_meaning.specs.{Cells.{element_cells, field_place_named}, State.is_reference}
 use Rattle.sharc_mode.specs.{Cells.{is_mutex_kind, cell_at}, Moded.Assignment}
-use Rattle.sharc_mode_laws.specs.Constructs.{IsTaken, cast_away, freed}
+use Rattle.sharc_check.specs.Constructs.{IsTaken, cast_away, freed}
 use Rattle.sharc_flat.specs.{Flattened.{kind_of, is_ref, target_of, mode_of, guard_of, what_names}, Places.{in_global, in_global_at, in_object_at, global_of, named_target, target, own_field}, Scope.Context, Suits.{IsScalar, Either, is_cell, NameSuits, CallSuits, IndexSuits, TakeSuits, OperandsSuit, Suits, ArgumentsSuit, ReferencesSuit, PlaceSuits}}
 use Rattle.sharc_flat.specs.Suits as suits
 use Rattle.sharc_invariant.specs.Types.{StaticType, cells_of}

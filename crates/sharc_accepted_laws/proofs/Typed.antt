@@ -10,7 +10,7 @@ use Rattle.sharc_code.specs.declared.code.Code.{Code}
 use Rattle.sharc_ctype.specs.Resolved.{Resolution, named_at, functions_in}
 use Rattle.sharc_meaning.specs.State.{is_reference}
 use Rattle.sharc_mode.specs.{Cells.cell_at, Rows.{is_constant_named, constant_use}}
-use Rattle.sharc_mode_laws.specs.Constructs.{IsExpression}
+use Rattle.sharc_check.specs.Constructs.{IsExpression}
 use Rattle.sharc_flat.specs.{Flattened.{kind_of, target_of, lvalue_in}, Places.{in_global, global_of, target}, Scope.{Context, slot_kind}, Suits.{is_cell, NameSuits, Either, Suits, PlaceSuits}}
 use Rattle.sharc_invariant.specs.Labels.{Signature}
 use Rattle.sharc_typed_laws.specs.{Premises.Typing, Stretches.Setting, Typable.ground_of}

@@ -1,6 +1,6 @@
 -- The rules of the modes, for the accesses of a function.
 use Rattle.std.proofs.Common.{refl}
-use Rattle.sharc_mode_laws.specs.Laws.{RulesAreMet}
+use Rattle.sharc_check.specs.RuleLaws.{RulesAreMet}
 use Rattle.sharc_accepted_laws.specs.Uses.{UsesAreFair}
 
 pub uses_are_fair : RulesAreMet → UsesAreFair

@@ -15,9 +15,8 @@ use Rattle.sharc_meaning.specs.{Reference.constant_value, State.is_reference}
 use Rattle.sharc_invariant.specs.{Typed.{is_shift, is_comparison}, Types.StaticType, Labels.{Refers, Narrower}}
 use Rattle.sharc_ctype_laws.specs.{Constraints.{a_constant, in_parentheses, element_of_pointer, element_of_array, pointed_to, HasType as IsOfType}, Laws.MeetsConstraints}
 use Rattle.sharc_mode.specs.{Moded.Assignment, Rows.{Targets, written, deeper, behind, declared_row, named_row, row_at, modes_of, modes_at}, Sharings.Sharing}
-use Rattle.sharc_mode_laws.specs.Constructs.{IsExpression}
-use Rattle.sharc_flat.specs.{Flattened.{kind_of, is_ref, operator_of}, Places.{base_as_width, width_of}, Scope.{Context, slot_kind, ref_count, register_of, number_in}, Suits.{IsScalar, Either, SameSort, OperandsSuit, IfThere}}
-use Rattle.sharc_flat_form.specs.Framed.{IsWide}
+use Rattle.sharc_check.specs.Constructs.{IsExpression}
+use Rattle.sharc_flat.specs.{Flattened.{kind_of, is_ref, operator_of}, Places.{base_as_width, width_of}, Scope.{Context, slot_kind, ref_count, register_of, number_in}, Suits.{IsScalar, Either, SameSort, OperandsSuit, IfThere}, Framed.IsWide}
 use Rattle.sharc_typed_laws.specs.{Places.no_type, Stretches.Setting, Typable.{type_by, GoesTo, IsTypeIn, IsNumber, IsPointer, VariableTyped, ConstantTyped, UnaryTyped, IntegersTyped, ComparedTyped, BinaryTyped}}
 use Rattle.sharc_accepted_laws.specs.{Held.HeldLaws, StaticLaws.IsAccepted, Scopes.{ScopeLaws, AllStand}, Static.{register, static_of, variable_type, variable_entry, entry_by, entry_of}, TypableLaws.{IsAt, OperandSuits, ValueLaws}, Typing.{width_named, typing}}
 use Rattle.sharc_accepted_laws.proofs.{TypableRegisters.{reference_found, integer_found}, Members.first_of, Calling.of_each}

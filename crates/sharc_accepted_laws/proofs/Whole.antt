@@ -4,7 +4,7 @@ use Rattle.sharc_tree.specs.{Low.IsLow, Placed.IsPlaced}
 use Rattle.sharc_ctype.specs.Resolved.{IsResolved}
 use Rattle.sharc_ctype_laws.specs.{Found.EachTypeFound, Laws.{EachNameOnce, OnlyNames, EachNamesItself}}
 use Rattle.sharc_mode.specs.{Flows.IsLeastAssignment, Moded.Assignment, WellModed.WellModed}
-use Rattle.sharc_mode_laws.specs.Laws.{RulesAreMet}
+use Rattle.sharc_check.specs.RuleLaws.{RulesAreMet}
 use Rattle.sharc_accepted_laws.specs.TargetLaws.{TargetsAre}
 use Rattle.sharc_accepted_laws.proofs.Globals as globals
 use Rattle.sharc_accepted_laws.proofs.{Owners.place_is, Rows.IsKnown, TargetSiblings.sibling_named}

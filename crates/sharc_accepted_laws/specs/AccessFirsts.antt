@@ -5,7 +5,7 @@ use Rattle.sharc_names.specs.Kinds.{mutex_pointer, condition_pointer}
 use Rattle.sharc_ctype.specs.Resolved.{structs_in, kind_at}
 use Rattle.sharc_ctype_laws.specs.Constraints.{struct_named}
 use Rattle.sharc_mode.specs.Moded.{Assignment}
-use Rattle.sharc_mode_laws.specs.Constructs.{IsExpression}
+use Rattle.sharc_check.specs.Constructs.{IsExpression}
 use Rattle.sharc_flat.specs.Scope.{Context}
 use Rattle.sharc_invariant.specs.{Types.StaticType, Types.Content.{MutexWord, Waiters}, Labels.Refers}
 use Rattle.sharc_typed_laws.specs.{Stretches.Setting, Typable.FirstCell}

@@ -9,9 +9,8 @@ use Rattle.sharc_ctype.specs.Resolved.{Resolution, named_at, named_kind, global_
 use Rattle.sharc_meaning.specs.Cells.{element_cells, global_elements, field_place_behind}
 use Rattle.sharc_mode.specs.{Cells.{is_mutex_kind, cell_at}, Moded.Assignment, Rows.modes_at}
 use Rattle.sharc_mode.specs.Sharings.{Lock, Sharing, private, readonly, locked}
-use Rattle.sharc_mode_laws.specs.Constructs.{IsExpression}
-use Rattle.sharc_flat_form.specs.{declared.op.Spot.Spot, Machine.first_cell}
-use Rattle.sharc_flat.specs.Scope.{Context}
+use Rattle.sharc_check.specs.Constructs.{IsExpression}
+use Rattle.sharc_flat.specs.{declared.op.Spot.Spot, Machine.first_cell, Scope.Context}
 use Rattle.sharc_flat.specs.Places.{Target, variable, in_global, in_global_at, in_object, in_object_at, target, cell_of}
 use Rattle.sharc_flat.specs.Places.{guard_cell, field_of, beside_field, guard_field, place_mode, lock_cell}
 use Rattle.sharc_flat.specs.Tables.{globals_of}

@@ -3,7 +3,7 @@
 use Rattle.std.specs.Prelude.{ℕ, ◌+◌, ◌<◌, List, slice_get, Option, Some, None}
 use Rattle.sharc_tree.specs.{declared.tree.declaration.Declaration.Declaration, Tree.{Arguments, Function}}
 use Rattle.sharc_names.specs.Kinds.{declared_kinds}
-use Rattle.sharc_mode_laws.specs.Constructs.{IsFunction, IsCall}
+use Rattle.sharc_check.specs.Constructs.{IsFunction, IsCall}
 use Rattle.sharc_flat.specs.{Flattened.parameters_scope, Scope.{Context, ref_count}, Suits.ArgumentsSuit}
 use Rattle.sharc_invariant.specs.{Types.StaticType, Labels.Label, Typed.Passes}
 use Rattle.sharc_accepted_laws.specs.{Calls.{at_entry, argument_type, AreStanding}, StaticLaws.IsAccepted}

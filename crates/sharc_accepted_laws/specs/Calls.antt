@@ -5,7 +5,7 @@ use Rattle.sharc_names.specs.declared.fault.Named.TheVariants as named
 use Rattle.sharc_names.specs.Kinds.{is_pointer, declared_kind}
 use Rattle.sharc_ctype.specs.{Resolved.{named_at, declaration_at, variable_kind}, Transfers.{variable, passed}}
 use Rattle.sharc_mode.specs.Rows.{at_call, declared_row, modes_of, argument_use}
-use Rattle.sharc_mode_laws.specs.Constructs.{IsCall}
+use Rattle.sharc_check.specs.Constructs.{IsCall}
 use Rattle.sharc_flat.specs.{Flattened.parameters_scope, Scope.{Context, slot_kind, ref_count}}
 use Rattle.sharc_invariant.specs.{Types.{StaticType, Mentions}, Labels.{Refers, Label, SameReference}, Typed.Passes}
 use Rattle.sharc_accepted_laws.specs.{StaticLaws.IsAccepted, Held.{is_held, held_at}}

@@ -5,7 +5,7 @@ use Rattle.sharc_tree.specs.Tree.{Expression, cast}
 use Rattle.sharc_names.specs.Kinds.{declared_kind}
 use Rattle.sharc_ctype.specs.Resolved.{kind_at}
 use Rattle.sharc_mode.specs.{Rows.{cast_row, modes_of, modes_at}, Sharings.Sharing}
-use Rattle.sharc_mode_laws.specs.Constructs.{IsExpression}
+use Rattle.sharc_check.specs.Constructs.{IsExpression}
 use Rattle.sharc_flat.specs.Scope.{Context}
 use Rattle.sharc_invariant.specs.{Labels.Label, Typed.Recasts}
 use Rattle.sharc_accepted_laws.specs.{StaticLaws.IsAccepted, Static.static_of, Targets.targets_of}

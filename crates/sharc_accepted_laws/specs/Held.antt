@@ -12,7 +12,7 @@ use Rattle.sharc_ctype.specs.{Constants.{is_among, is_constant}, Resolved.{Resol
 use Rattle.sharc_mode.specs.{Moded.Assignment, Notes.taken_variable}
 use Rattle.sharc_mode.specs.Rows.{written, path_variable, declared_row, modes_of, modes_at}
 use Rattle.sharc_mode.specs.Sharings.{Lock, Sharing, locked}
-use Rattle.sharc_mode_laws.specs.Constructs.{IsExpression, IsTaken, IsAssigned}
+use Rattle.sharc_check.specs.Constructs.{IsExpression, IsTaken, IsAssigned}
 use Rattle.sharc_flat.specs.Scope.{Context, slot_kind, ref_count}
 use Rattle.sharc_invariant.specs.Types.{Mentions}
 use Rattle.sharc_accepted_laws.specs.{StaticLaws.IsAccepted, Scopes.AllStand, Static.{register, static_of, pointers}}

@@ -8,7 +8,7 @@ use Rattle.sharc_ctype.specs.Resolved.{named_at, named_kind, global_at, kind_at}
 use Rattle.sharc_meaning.specs.Cells.{global_elements, field_place_behind}
 use Rattle.sharc_mode.specs.{Cells.cell_at, Rows.{constant_use, modes_at}}
 use Rattle.sharc_mode.specs.Sharings.{Lock, Sharing, private, readonly, locked}
-use Rattle.sharc_mode_laws.specs.Constructs.{IsExpression}
+use Rattle.sharc_check.specs.Constructs.{IsExpression}
 use Rattle.sharc_flat.specs.{declared.slot.Lvalue.Lvalue, Scope.{Context, slot_kind}}
 use Rattle.sharc_flat.specs.Places.{in_global_at, has_base, target, beside_field, width_of}
 use Rattle.sharc_invariant.specs.{Types.{MutexWord, cells_of, field_at}, Labels.Signature}

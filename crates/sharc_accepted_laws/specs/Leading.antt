@@ -7,7 +7,7 @@ use Rattle.sharc_names.specs.Kinds.{object, mutex, declared_kind}
 use Rattle.sharc_ctype.specs.Resolved.{Resolution, named_at, named_kind, structs_in}
 use Rattle.sharc_ctype_laws.specs.Constraints.{struct_named}
 use Rattle.sharc_mode.specs.{Moded.Assignment, Rows.modes_at, Sharings.{Lock, Sharing, locked}}
-use Rattle.sharc_mode_laws.specs.{Constructs.IsExpression, Paths.IsMutexBehind}
+use Rattle.sharc_check.specs.{Constructs.IsExpression, Paths.IsMutexBehind}
 use Rattle.sharc_accepted_laws.specs.StaticLaws.{IsAccepted}
 
 -- `m`, a global mutex, or `x->m`, a mutex of the struct of this name to which the variable `x` points

@@ -13,9 +13,9 @@ use Rattle.sharc_mode.specs.{Cells.{is_mutex_kind, is_behind_pointer, cell_at}, 
 use Rattle.sharc_mode.specs.Moded.{Assignment}
 use Rattle.sharc_mode.specs.Rows.{PathReading, Targets, written, declared_row, named_row, row_at, modes_of, modes_at}
 use Rattle.sharc_mode.specs.{Sharings.{Lock, Sharing, private, readonly, locked, racy, dynamic}, WellModed.WellModed}
-use Rattle.sharc_mode_laws.specs.Constructs.{IsExpression}
+use Rattle.sharc_check.specs.Constructs.{IsExpression}
 use Rattle.sharc_meaning.specs.Cells.{field_place, field_place_named}
-use Rattle.sharc_flat_form.specs.Machine.{first_cell}
+use Rattle.sharc_flat.specs.Machine.{first_cell}
 use Rattle.sharc_flat.specs.Places.{Target, in_object, in_object_at, in_global, in_global_at, target}
 use Rattle.sharc_flat.specs.Tables.{globals_of}
 use Rattle.sharc_invariant.specs.Types.{FieldLock, OfType, OfGlobals, OfElement, FieldMode, Under, Content, Pointer}

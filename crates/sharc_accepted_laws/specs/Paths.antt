@@ -6,7 +6,7 @@ use Rattle.sharc_names.specs.Kinds.{object, declared_kind}
 use Rattle.sharc_ctype.specs.Resolved.{structs_in}
 use Rattle.sharc_ctype_laws.specs.Constraints.{struct_named}
 use Rattle.sharc_meaning.specs.Cells.{field_place_behind}
-use Rattle.sharc_mode_laws.specs.{Constructs.IsExpression, Paths.IsMutexBehind}
+use Rattle.sharc_check.specs.{Constructs.IsExpression, Paths.IsMutexBehind}
 use Rattle.sharc_flat.specs.Scope.{Context}
 use Rattle.sharc_invariant.specs.Types.{MutexWord, cells_of, field_at}
 use Rattle.sharc_accepted_laws.specs.{StaticLaws.IsAccepted, Standing.ExpressionsStand, Static.variable_type}

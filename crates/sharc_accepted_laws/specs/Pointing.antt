@@ -11,7 +11,7 @@ use Rattle.sharc_ctype.specs.Resolved.{named_at, kind_at}
 use Rattle.sharc_meaning.specs.Cells.{field_place_named}
 use Rattle.sharc_mode.specs.{Moded.Assignment, Rows.{written, constant_use, named_row, modes_of, modes_at}}
 use Rattle.sharc_mode.specs.Sharings.{Sharing}
-use Rattle.sharc_mode_laws.specs.Constructs.{IsExpression}
+use Rattle.sharc_check.specs.Constructs.{IsExpression}
 use Rattle.sharc_flat.specs.{Places.{target, cell_of}, Scope.Context, Suits.{Either, is_cell}, Tables.globals_of}
 use Rattle.sharc_invariant.specs.{Types.FieldLock, Labels.{Refers, Label, SameReference}, Typed.AreFieldLocks}
 use Rattle.sharc_accepted_laws.specs.{Held.is_held, StaticLaws.IsAccepted, Static.{register, locks_at, static_of}}

@@ -7,9 +7,9 @@ use Rattle.sharc_tree.specs.{declared.tree.item.GlobalForm.TheVariants.Initial, 
 use Rattle.sharc_tree.specs.declared.tree.expression.Constant.TheVariants as constants
 use Rattle.sharc_code.specs.declared.code.Code.{Code}
 use Rattle.sharc_ctype.specs.Resolved.{Resolution, global_at}
-use Rattle.sharc_flat.specs.{Scope.Context, Flattens.Flattens, Tables.globals_of}
+use Rattle.sharc_flat.specs.{Scope.Context, Flattens.Flattens, Tables.globals_of, declared.flat.Flat.{Flat as FlatCode}}
+use Rattle.sharc_flat.specs.Made.{flat_of}
 use Rattle.sharc_mode.specs.Moded.{Assignment}
-use Rattle.sharc_flat_form.specs.{declared.flat.Flat.{Flat as FlatCode}, Made.flat_of}
 use Rattle.sharc_compile.specs.Made.{IsCodeOf}
 use Rattle.sharc_typed_laws.specs.Programs.{IsSettingOf, TypableProgram}
 use Rattle.sharc_accepted_laws.specs.{StaticLaws.IsAccepted, Typing.typing, Setting.{ConstantsHold, IsSet, setting_of}}

@@ -4,7 +4,7 @@ use Rattle.sharc_tree.specs.{declared.token.Span.Span, declared.tree.declaration
 use Rattle.sharc_tree.specs.Tree.{Arguments, Function, call}
 use Rattle.sharc_names.specs.declared.fault.Named.TheVariants as named
 use Rattle.sharc_ctype.specs.Resolved.{named_at, function_at}
-use Rattle.sharc_mode_laws.specs.Constructs.{IsFunction}
+use Rattle.sharc_check.specs.Constructs.{IsFunction}
 use Rattle.sharc_flat.specs.{declared.slot.Slot.Slot, Scope.Context}
 use Rattle.sharc_invariant.specs.{Types.Mentions, Labels.Refers}
 use Rattle.sharc_accepted_laws.specs.{StaticLaws.IsAccepted, Static.{result_type, entry_of}}

@@ -12,7 +12,7 @@ use Rattle.sharc_code.specs.Machine.{function_of}
 use Rattle.sharc_ctype.specs.{Expressions.constant_kind, Reaches.{spawns, of_all}}
 use Rattle.sharc_ctype.specs.Resolved.{Resolution, named_at, functions_in, function_at}
 use Rattle.sharc_mode.specs.Moded.{Assignment}
-use Rattle.sharc_mode_laws.specs.Constructs.{IsExpression}
+use Rattle.sharc_check.specs.Constructs.{IsExpression}
 use Rattle.sharc_meaning.specs.{Reference.constant_value, State.is_reference}
 use Rattle.sharc_flat.specs.{Flattened.{in_function, parameter_of}, Places.width_of, Scope.{Context, int_count}}
 use Rattle.sharc_flat.specs.Tables.{globals_of}

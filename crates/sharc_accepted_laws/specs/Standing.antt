@@ -7,7 +7,7 @@ use Rattle.sharc_tree.specs.Tree.{simple, jump, return, if_then, if_then_else, w
 use Rattle.sharc_tree.specs.Tree.{statement, Function}
 use Rattle.sharc_code.specs.declared.code.GlobalCells.{GlobalCells}
 use Rattle.sharc_mode.specs.{Moded.Assignment, Rows.modes_at}
-use Rattle.sharc_mode_laws.specs.Constructs.{IsFunction}
+use Rattle.sharc_check.specs.Constructs.{IsFunction}
 use Rattle.sharc_flat.specs.Flattened.{with_variable, behind_first, behind_statement, parameters_scope, in_function}
 use Rattle.sharc_flat.specs.{Scope.Context, Suits.IfThere}
 use Rattle.sharc_accepted_laws.specs.{StaticLaws.IsAccepted, Scopes.{AllStand, DeclaredStands, IsClosedScope}}

@@ -3,7 +3,7 @@ use Rattle.std.specs.{Prelude.{ℕ, ◌≡◌, Bool, true, Some, None, Contains}
 use Rattle.sharc_tree.specs.{Forms.is_lvalue, Measures.{expressions, in_function}, Tree.{Expression, Right, Function}}
 use Rattle.sharc_ctype.specs.Resolved.{function_at}
 use Rattle.sharc_ctype_laws.specs.Rules.{IsHeld}
-use Rattle.sharc_mode_laws.specs.Constructs.{IsAssigned}
+use Rattle.sharc_check.specs.Constructs.{IsAssigned}
 use Rattle.sharc_flat.specs.{Flattened.{kind_of, is_ref, target_of, guard_of}, Scope.Context}
 use Rattle.sharc_flat.specs.Suits.{Suits, PlaceSuits, IsScalar, is_cell}
 use Rattle.sharc_typed_laws.specs.{Stated.CellAssigned, Stretches.Setting, Typable.{type_by, IsTypable, IsPlaceTypable}}

@@ -8,8 +8,7 @@ use Rattle.sharc_ctype.specs.Resolved.{named_at, declaration_at, variable_kind, 
 use Rattle.sharc_meaning.specs.Cells.{field_place_behind}
 use Rattle.sharc_mode.specs.{Notes.base_of, Rows.{written, declared_row, modes_of, modes_at}}
 use Rattle.sharc_mode.specs.Sharings.{Lock, Sharing, private, readonly, locked, racy, dynamic}
-use Rattle.sharc_flat_form.specs.Machine.{first_cell}
-use Rattle.sharc_flat.specs.{declared.slot.Slot.Slot, Scope.{Context, register_of, number_in}}
+use Rattle.sharc_flat.specs.{Machine.first_cell, declared.slot.Slot.Slot, Scope.{Context, register_of, number_in}}
 use Rattle.sharc_accepted_laws.specs.Shapes.{shape_of, number}
 use Rattle.sharc_invariant.specs.{Types.{Lock as TypeLock, StaticType}, Types.Lock.{Global, Through}}
 use Rattle.sharc_invariant.specs.Labels.{Entry, Empty, Refers}

@@ -5,7 +5,7 @@ use Rattle.sharc_names.specs.Kinds.{is_pointer, declared_kind}
 use Rattle.sharc_ctype.specs.{Resolved.{IsResolved, kind_at}, Transfers.{result, function_transfers}}
 use Rattle.sharc_mode.specs.{Flows.IsLeastAssignment, Moded.Assignment, Rows.modes_at, Sharings.Sharing}
 use Rattle.sharc_mode.specs.WellModed.{WellModed}
-use Rattle.sharc_mode_laws.specs.Constructs.{IsFunction, IsAssigned, locals_in_all}
+use Rattle.sharc_check.specs.Constructs.{IsFunction, IsAssigned, locals_in_all}
 use Rattle.sharc_flat.specs.Scope.{Context}
 use Rattle.sharc_accepted_laws.specs.Static.{static_of, variable_type, result_type, entry_of, GoesTo}
 

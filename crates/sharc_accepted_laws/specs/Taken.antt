@@ -8,7 +8,7 @@ use Rattle.sharc_names.specs.Kinds.{Kind}
 use Rattle.sharc_ctype.specs.Resolved.{named_at}
 use Rattle.sharc_mode.specs.{Moded.Assignment, Rows.{written, declared_row, modes_of, modes_at}}
 use Rattle.sharc_mode.specs.Sharings.{Lock, Sharing, locked, object_of}
-use Rattle.sharc_mode_laws.specs.{Constructs.{IsExpression, IsTaken}, Paths.IsNamedByPath}
+use Rattle.sharc_check.specs.{Constructs.{IsExpression, IsTaken}, Paths.IsNamedByPath}
 use Rattle.sharc_flat.specs.Scope.{Context, slot_kind}
 use Rattle.sharc_invariant.specs.Types.{Mentions}
 use Rattle.sharc_accepted_laws.specs.{Static.{register, static_of}, Scopes.AllStand, StaticLaws.IsAccepted}

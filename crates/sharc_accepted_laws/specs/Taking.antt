@@ -8,7 +8,7 @@ use Rattle.sharc_names.specs.Kinds.{is_pointer}
 use Rattle.sharc_code.specs.declared.code.Use.{Use}
 use Rattle.sharc_code.specs.declared.code.Use.TheVariants as uses
 use Rattle.sharc_ctype.specs.Resolved.{named_at}
-use Rattle.sharc_mode_laws.specs.Constructs.{IsTaken}
+use Rattle.sharc_check.specs.Constructs.{IsTaken}
 use Rattle.sharc_flat.specs.{Flattened.{kind_of, target_of}, Scope.{Context, slot_kind}}
 use Rattle.sharc_accepted_laws.specs.{StaticLaws.IsAccepted, Standing.ExpressionStands, Static.entry_of}
 use Rattle.sharc_accepted_laws.specs.{TargetLaws.HasTables, Targets.targets_of, TypableLaws.IsAt, Typing.typing}

@@ -18,9 +18,9 @@ use Rattle.sharc_ctype.specs.Resolved.{IsResolved, declaration_at, kind_at, stru
 use Rattle.sharc_ctype_laws.specs.Constraints.{struct_named}
 use Rattle.sharc_mode.specs.{Flows.IsLeastAssignment, Moded.{Assignment, position_count}, Notes.base_of}
 use Rattle.sharc_mode.specs.{Rows.{PathReading, written, Targets, declared_row, row_at}, WellModed.WellModed}
-use Rattle.sharc_mode_laws.specs.Constructs.{IsExpression}
+use Rattle.sharc_check.specs.Constructs.{IsExpression}
 use Rattle.sharc_meaning.specs.Cells.{element_cells, field_place}
-use Rattle.sharc_flat_form.specs.Machine.{first_cell}
+use Rattle.sharc_flat.specs.Machine.{first_cell}
 use Rattle.sharc_flat.specs.Tables.{globals_of, all_granules, all_first_words, layouts_of, pointers_of}
 use Rattle.sharc_flat.specs.Flattened.{layout_of}
 use Rattle.sharc_invariant.specs.Types.{FieldMode, no_field, row_of, cells_of, global_field, AreTargets}

@@ -17,8 +17,7 @@ use Rattle.sharc_mode.specs.{Cells.{is_mutex_kind, is_behind_pointer, top_of, fi
 use Rattle.sharc_mode.specs.Rows.{written, declared_row, modes_of}
 use Rattle.sharc_mode.specs.Sharings.{Lock, Sharing, private, readonly, locked, racy, dynamic, lock_of}
 use Rattle.sharc_meaning.specs.{Cells.{field_place, field_place_named}, References.{is_pointer_in, types_made}}
-use Rattle.sharc_flat_form.specs.Machine.{first_cell}
-use Rattle.sharc_flat.specs.{Places.base_as_width, Tables.{cells_in, granules_in, globals_of}}
+use Rattle.sharc_flat.specs.{Machine.first_cell, Places.base_as_width, Tables.{cells_in, granules_in, globals_of}}
 use Rattle.sharc_invariant.specs.Types.{FieldLock, OfType, OfGlobals, OfElement, FieldMode, Under, Content, Integer}
 use Rattle.sharc_invariant.specs.Types.{MutexWord, Waiters, Pointer, Field, Target, Targets, no_field, no_target}
 use Rattle.sharc_invariant.specs.Types.{FieldMode as own}

@@ -4,7 +4,7 @@ use Rattle.sharc_tree.specs.declared.tree.declaration.Declaration.{Declaration}
 use Rattle.sharc_tree.specs.Tree.{Expression, Function, argument, no_arguments}
 use Rattle.sharc_names.specs.Kinds.{is_pointer, declared_kind}
 use Rattle.sharc_ctype.specs.{Reaches.Spawns, Resolved.function_at}
-use Rattle.sharc_mode_laws.specs.Constructs.{IsCall}
+use Rattle.sharc_check.specs.Constructs.{IsCall}
 use Rattle.sharc_flat.specs.{Flattened.{parameters_scope, in_function}, Scope.Context}
 use Rattle.sharc_invariant.specs.{Labels.{Refers, Label}, Typed.Passes}
 use Rattle.sharc_accepted_laws.specs.{Calls.argument_type, StaticLaws.IsAccepted, Scopes.IsClosedScope}

@@ -13,7 +13,7 @@ use Rattle.sharc_names.specs.Kinds.{Kind, is_integer, is_pointer}
 use Rattle.sharc_code.specs.Arithmetic.{holds}
 use Rattle.sharc_ctype.specs.{Expressions.constant_kind, Resolved.named_at}
 use Rattle.sharc_meaning.specs.{Reference.constant_value, State.is_reference}
-use Rattle.sharc_mode_laws.specs.Constructs.{IsExpression}
+use Rattle.sharc_check.specs.Constructs.{IsExpression}
 use Rattle.sharc_flat.specs.{Flattened.{kind_of, is_ref}, Places.width_of, Scope.{Context, slot_kind, register_of}}
 use Rattle.sharc_flat.specs.Suits.{IsScalar, OperandsSuit}
 use Rattle.sharc_accepted_laws.specs.{StaticLaws.IsAccepted, Standing.ExpressionStands, Typing.typing}

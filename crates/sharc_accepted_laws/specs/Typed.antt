@@ -7,7 +7,7 @@ use Rattle.sharc_names.specs.Kinds.{mutex, is_integer, is_pointer}
 use Rattle.sharc_code.specs.{declared.code.Code.Code, declared.code.Use.Use}
 use Rattle.sharc_ctype.specs.Resolved.{function_at}
 use Rattle.sharc_mode.specs.{Rows.modes_at, Sharings.Sharing}
-use Rattle.sharc_mode_laws.specs.Constructs.{IsTaken, IsAssigned}
+use Rattle.sharc_check.specs.Constructs.{IsTaken, IsAssigned}
 use Rattle.sharc_flat.specs.{Flattened.{kind_of, target_of, mode_of, lvalue_in, guard_of}, Places.width_of}
 use Rattle.sharc_flat.specs.{Scope.Context, Suits.{is_cell, Suits, PlaceSuits}}
 use Rattle.sharc_invariant.specs.Labels.{Signature}

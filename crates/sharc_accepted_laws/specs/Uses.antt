@@ -2,7 +2,7 @@
 use Rattle.std.specs.{Prelude.{◌≡◌, ℕ, Bool, true, false, Some, Contains}, List.AllByRecursion}
 use Rattle.sharc_tree.specs.{Measures.{expressions, in_function}, Tree.{Expression, Right, Function}}
 use Rattle.sharc_ctype.specs.Resolved.{function_at}
-use Rattle.sharc_mode_laws.specs.Constructs.{IsTaken, IsAssigned}
+use Rattle.sharc_check.specs.Constructs.{IsTaken, IsAssigned}
 use Rattle.sharc_flat.specs.Scope.{Context}
 use Rattle.sharc_accepted_laws.specs.{Alone.AreAlone, StaticLaws.IsAccepted, Joined.{PathLeads, IsFairUse}}
 

@@ -12,8 +12,8 @@ use crate::targets::{
     arrays_fit, expressions_found, fields_placed, first_laws, globals_are, locks_stand_beside,
     lvalues_fit, members_are, pointees_fit, variables_found,
 };
+use sharc_check::rule_laws::rules_are_met;
 use sharc_ctype_laws::laws::meets_globals;
-use sharc_mode_laws::laws::rules_are_met;
 
 /// Where the registers have what an lvalue names, its cell is there, with what the lvalue's type says in it, under its
 /// mode.

@@ -15,13 +15,13 @@ ghost use Rattle.sharc_accepted_laws.specs.Starting.{SpawnedBegin};
 ghost use Rattle.sharc_accepted_laws.specs.Taken.{TakenLaws};
 
 use crate::targets::{expressions_found, fields_placed, numbers_found, own_found, variables_found};
+use sharc_check::rule_laws::{reached_are_told, rules_are_met};
 use sharc_ctype_laws::laws::{
     all_fair, each_name_once, each_names_found, each_names_itself, each_names_own, each_path_found,
     each_type_found, meets_constraints, one_type, only_names, spawns_threads,
 };
 use sharc_mode::laws::link_laws;
 use sharc_mode::shown::row_laws;
-use sharc_mode_laws::laws::{reached_are_told, rules_are_met};
 
 /// What is assigned, begun with and returned has the type of what it is given to.
 pub fn given_laws()

@@ -12,11 +12,11 @@ ghost use Rattle.sharc_accepted_laws.specs.Own.{OwnAreFound};
 ghost use Rattle.sharc_accepted_laws.specs.Pointers.{GlobalsPoint, PointeesPoint, PointersAreOfGlobals};
 ghost use Rattle.sharc_accepted_laws.specs.Pointees.{PointeesFit, RecastsFit, SameForms};
 
+use sharc_check::rule_laws::rules_are_met;
 use sharc_ctype_laws::laws::{
     cells_are_few, each_name_once, each_names_itself, each_type_found, meets_constraints,
     meets_globals, one_type, only_names, within_limits,
 };
-use sharc_mode_laws::laws::rules_are_met;
 
 /// Each shape of a program has a row of its own, which is not that of nothing.
 pub fn numbers_found()

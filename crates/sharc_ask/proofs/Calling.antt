@@ -7,10 +7,9 @@ use Rattle.sharc_names.specs.Kinds.{Kind, declared_kind, declared_kinds}
 use Rattle.sharc_ctype.specs.Resolved.{function_at}
 use Rattle.sharc_mode.specs.Moded.{Assignment}
 use Rattle.sharc_meaning.specs.{declared.variable.Variable.Variable, Expressions.{Calls, called, passed, eval, eval_all}, Meaning.{with_frame, back_in, calls, call_value, run_function, parameters_begin, pointers_passed, left_at}, State.{Frame, State, Out, go, over, Run, Step, then_on, ◌>>=◌, ◌>>◌, give, enters, without_temporaries, ends_variables, ends_temporaries}, Statements.{Flow, exec_all}}
-use Rattle.sharc_ask_steps.specs.{declared.state.RunEnd.RunEnd, View.{Known, known, Over, Does, held_below}}
-use Rattle.sharc_ask_steps.specs.declared.state.RunEnd.TheVariants as ends
+use Rattle.sharc_ask.specs.{declared.state.RunEnd.RunEnd, StepView.{Known, known, Over, Does, held_below}, declared.plan.Call.Call, declared.plan.Plan.Plan, declared.stack.At.At, declared.stack.Caller.Caller, declared.stack.Left.Left, declared.stack.PendingCall.PendingCall, View.{WasKept, variables_ended}, Values.{Value, number, flow, number_in, flow_in, gives, as_left}, Plans.{ends_above, rest_means, plan_means, Plans, PlanEnds}, Stack.{Behind, all_behind, IsCaller, AreBehind, awaits, comes_back, Reached, Moves}}
+use Rattle.sharc_ask.specs.declared.state.RunEnd.TheVariants as ends
 use Rattle.sharc_ask.specs.declared.plan.After.TheVariants as afters
-use Rattle.sharc_ask.specs.{declared.plan.Call.Call, declared.plan.Plan.Plan, declared.stack.At.At, declared.stack.Caller.Caller, declared.stack.Left.Left, declared.stack.PendingCall.PendingCall, View.{WasKept, variables_ended}, Values.{Value, number, flow, number_in, flow_in, gives, as_left}, Plans.{ends_above, rest_means, plan_means, Plans, PlanEnds}, Stack.{Behind, all_behind, IsCaller, AreBehind, awaits, comes_back, Reached, Moves}}
 use Rattle.sharc_ask.specs.declared.plan.Plan.TheVariants as plans
 use Rattle.sharc_ask.specs.declared.plan.Rest.TheVariants as rests
 use Rattle.sharc_ask.specs.declared.plan.Task.TheVariants as tasks

@@ -8,8 +8,7 @@ use Rattle.sharc_meaning.specs.{Cells.{element_cells, instance_mode}, Arithmetic
 use Rattle.sharc_tree.specs.declared.trap.Trap.TheVariants as traps
 use Rattle.sharc_names.specs.Kinds.{Kind, declared_kind}
 use Rattle.sharc_ctype.specs.Resolved.{Resolution, kind_at}
-use Rattle.sharc_ask_steps.specs.{declared.state.RunEnd.RunEnd, View.{Known, Ends, Does, DoesAs}}
-use Rattle.sharc_ask.specs.{declared.values.Flow.{Flow as RustFlow}, View.{view_flow, made}, Plans.returned_with}
+use Rattle.sharc_ask.specs.{declared.state.RunEnd.RunEnd, StepView.{Known, Ends, Does, DoesAs}, declared.values.Flow.{Flow as RustFlow}, View.{view_flow, made}, Plans.returned_with}
 use Rattle.sharc_ask.proofs.Steps.{over_then, over_then_as}
 
 abbrev test_of : Site → Bool → Step

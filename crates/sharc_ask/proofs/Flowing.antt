@@ -5,9 +5,8 @@ use Rattle.sharc_tree.specs.{declared.tree.statement.Stmt.Stmt, View.{view_stmt,
 use Rattle.sharc_names.specs.Kinds.{Kind}
 use Rattle.sharc_mode.specs.Moded.{Assignment}
 use Rattle.sharc_meaning.specs.{Expressions.Calls, State.{State, Run, Step, then_on, ◌>>=◌, ◌>>◌, give, ends_variables, in_block}, Statements.{Flow, exec, exec_all}}
-use Rattle.sharc_ask_steps.specs.declared.state.RunEnd.TheVariants as ends
-use Rattle.sharc_ask_steps.specs.View.{Known}
-use Rattle.sharc_ask.specs.{declared.plan.Loop.Loop, View.{loop_test, loop_body}, Values.{test, flow, test_in, flow_in, gives, as_nothing}, Plans.{ends_block, turns_of, others_done, tested_done, left_body, Plans}}
+use Rattle.sharc_ask.specs.declared.state.RunEnd.TheVariants as ends
+use Rattle.sharc_ask.specs.{StepView.Known, declared.plan.Loop.Loop, View.{loop_test, loop_body}, Values.{test, flow, test_in, flow_in, gives, as_nothing}, Plans.{ends_block, turns_of, others_done, tested_done, left_body, Plans}}
 use Rattle.sharc_ask.proofs.Outs.{begun}
 
 pub flow_then : (run : Run Flow) (f : Flow → Run Flow) (s : State) → gives flow (run >>= f) s ≡ then_on (gives flow run s) (λ v. gives flow (f (flow_in v)))

@@ -5,9 +5,8 @@ use Rattle.sharc_tree.specs.{declared.token.Site.Site, Tree.Function}
 use Rattle.sharc_ctype.specs.Resolved.{function_at}
 use Rattle.sharc_mode.specs.Moded.{Assignment}
 use Rattle.sharc_meaning.specs.{declared.variable.Variable.Variable, Meaning.{with_frame, back_in, in_frame, run_function, call_value, calls}, State.{Frame, State, Run, then_on, give, without_temporaries, held_by_frame, pointers_among}}
-use Rattle.sharc_ask_steps.specs.{declared.state.RunEnd.RunEnd, View.{Known, known, held_below, Does}}
-use Rattle.sharc_ask_steps.specs.declared.state.RunEnd.TheVariants as ends
-use Rattle.sharc_ask.specs.View.{WasKept}
+use Rattle.sharc_ask.specs.{declared.state.RunEnd.RunEnd, StepView.{Known, known, held_below, Does}, View.WasKept}
+use Rattle.sharc_ask.specs.declared.state.RunEnd.TheVariants as ends
 use Rattle.sharc_ask.proofs.Steps.{ends_same}
 
 held_more : (caller : Frame) (callers : List Frame) → held_below (caller ∷ callers) ≡ held_below callers ++ held_by_frame caller

@@ -1,3 +1,10 @@
+mod Doubling
+mod Held
+mod Locks
+mod NextAnswer
+mod OwnSteps
+mod Variables
+mod Waits
 mod Calling
 mod Expressing
 mod Fitting

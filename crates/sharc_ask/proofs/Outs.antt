@@ -3,9 +3,8 @@ use Rattle.std.proofs.Common.{◌≡◌, ℕ, zero, suc, Bool, Result, Ok, Err, 
 use Rattle.std.specs.Prelude.{ℤ, if◌then◌else◌}
 use Rattle.sharc_mode.specs.Moded.{Assignment}
 use Rattle.sharc_meaning.specs.{Expressions.Calls, State.{State, Outcome, Out, go, over, Run, then_on, ◌>>=◌, give, enters_with, enters, ends_temporaries}}
-use Rattle.sharc_ask_steps.specs.{declared.state.RunEnd.RunEnd, View.{Known, known, Over, Ends, Does}}
-use Rattle.sharc_ask_steps.specs.declared.state.RunEnd.TheVariants as ends
-use Rattle.sharc_ask.specs.{declared.plan.Plan.Plan, Values.{Value, number, gives}, View.temporaries_ended, Plans.{plan_means, PlanEnds, Plans, LeadsFrom, inside, ends_above}}
+use Rattle.sharc_ask.specs.{declared.state.RunEnd.RunEnd, StepView.{Known, known, Over, Ends, Does}, declared.plan.Plan.Plan, Values.{Value, number, gives}, View.temporaries_ended, Plans.{plan_means, PlanEnds, Plans, LeadsFrom, inside, ends_above}}
+use Rattle.sharc_ask.specs.declared.state.RunEnd.TheVariants as ends
 
 -- what a run makes of the value of another, which it begins with
 pub begun : {A : Type 0} (w : A → Value) (F : Value → Run Value) (out : Out A) (G : Out A → Out Value) → ((o : Outcome) (t : State) → G (over o t) ≡ over o t) → ((x : A) (t : State) → G (go x t) ≡ F (w x) t) → G out ≡ then_on (then_on out (λ x. give (w x))) F

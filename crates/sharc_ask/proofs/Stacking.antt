@@ -3,9 +3,8 @@ use Rattle.std.proofs.{Common.{◌≡◌, ℕ, List, [], ◌∷◌, ◌++◌, Re
 use Rattle.std.specs.Prelude.{reverse}
 use Rattle.sharc_mode.specs.Moded.{Assignment}
 use Rattle.sharc_meaning.specs.{Expressions.Calls, Meaning.calls, State.{State, Outcome, Out, go, over, Run, then_on, ◌>>=◌, give}}
-use Rattle.sharc_ask_steps.specs.{declared.state.RunEnd.RunEnd, View.{Known, known, Over, Ends, EndsAs, DoesAs}}
-use Rattle.sharc_ask_steps.specs.declared.state.RunEnd.TheVariants as ends
-use Rattle.sharc_ask.specs.{declared.plan.Plan.Plan, declared.plan.Rest.Rest, declared.plan.Task.Task, declared.plan.Value.{Value as RustValue}, declared.stack.At.At, declared.stack.Left.Left, Values.{Value, view_value}, Plans.{task_means, rest_means, plan_means, PlanEnds, Plans}, Stack.{Behind, all_behind, AreBehind, at_means, Reached, Moves, StepEnds, Steps, GoesOnWith, Comes, with_rest}}
+use Rattle.sharc_ask.specs.{declared.state.RunEnd.RunEnd, StepView.{Known, known, Over, Ends, EndsAs, DoesAs}, declared.plan.Plan.Plan, declared.plan.Rest.Rest, declared.plan.Task.Task, declared.plan.Value.{Value as RustValue}, declared.stack.At.At, declared.stack.Left.Left, Values.{Value, view_value}, Plans.{task_means, rest_means, plan_means, PlanEnds, Plans}, Stack.{Behind, all_behind, AreBehind, at_means, Reached, Moves, StepEnds, Steps, GoesOnWith, Comes, with_rest}}
+use Rattle.sharc_ask.specs.declared.state.RunEnd.TheVariants as ends
 use Rattle.sharc_ask.specs.declared.plan.Plan.TheVariants as plans
 use Rattle.sharc_ask.specs.declared.plan.Rest.TheVariants as rests
 use Rattle.sharc_ask.specs.declared.stack.Later.TheVariants as laters

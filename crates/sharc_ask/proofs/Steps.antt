@@ -5,10 +5,9 @@ use Rattle.sharc_tree.specs.{declared.token.Site.Site, declared.tree.expression.
 use Rattle.sharc_names.specs.Kinds.{Kind}
 use Rattle.sharc_ctype.specs.{Expressions.{class_of, binary_result}, Resolved.{Resolution, kind_at}}
 use Rattle.sharc_mode.specs.Moded.{Assignment}
-use Rattle.sharc_ask_steps.specs.{declared.state.RunEnd.RunEnd, View.{Known, Over, Ends, EndsAs, Does, DoesAs}}
-use Rattle.sharc_ask_steps.specs.declared.state.RunEnd.TheVariants as ends
+use Rattle.sharc_ask.specs.{declared.state.RunEnd.RunEnd, StepView.{Known, Over, Ends, EndsAs, Does, DoesAs}, View.{logic_of, binary_by}}
+use Rattle.sharc_ask.specs.declared.state.RunEnd.TheVariants as ends
 use Rattle.sharc_meaning.specs.{Arithmetic.bits_of, Expressions.{Calls, binary_value}, State.{State, Outcome, Out, over, Run, then_on, ◌>>=◌, enters}, Statements.exec}
-use Rattle.sharc_ask.specs.View.{logic_of, binary_by}
 
 -- one step, and the next with its value
 pub does_then : {A B : Type 0} (k k1 k2 : Known) (x : A) (r : Result B RunEnd) (m : Run A) (f : A → Run B) → Does k (Ok x) k1 m → Does k1 r k2 (f x) → Does k r k2 (m >>= f)

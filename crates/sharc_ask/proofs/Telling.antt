@@ -2,11 +2,10 @@
 use Rattle.std.proofs.{Common.{◌≡◌, ℕ, zero, suc, Bool, true, false, Result, List, ◌++◌, length, refl, sym, ap, ◌∙◌, subst, arith}, lemmas.Bool.{lt-ltb, ne_eqb}}
 use Rattle.std.specs.Prelude.{ℤ, ◌==◌, nat_lt, not}
 use Rattle.sharc_meaning.specs.{Events.held_mutexes, Meaning.{goes_away, asked_by}, State.{then_on, ◌>>◌, unless_stop, Out, held_references, pointers_among}}
-use Rattle.sharc_ask_steps.specs.{View.{Ends, Does, Known, Over}, declared.state.RunEnd.RunEnd}
+use Rattle.sharc_ask.specs.{StepView.{Ends, Does, Known, Over}, declared.state.RunEnd.RunEnd, declared.asked.Asked.{Asked as RustAsked}, declared.asked.Outcome.TheVariants.{Wants, StoppedX}, Held.all_held, View.{leaves, told, Tells}}
 use Rattle.sharc_tree.specs.{declared.event.SourceEvent.SourceEvent, declared.token.Site.Site, declared.trap.Trap.Trap, Traps.trap_number}
 use Rattle.sharc_tree.specs.declared.trap.Trap.TheVariants as traps
-use Rattle.sharc_ask.specs.{declared.asked.Asked.{Asked as RustAsked}, declared.asked.Outcome.TheVariants.{Wants, StoppedX}, Held.all_held, View.{leaves, told, Tells}}
-use Rattle.sharc_ask_steps.specs.declared.state.RunEnd.TheVariants as ends
+use Rattle.sharc_ask.specs.declared.state.RunEnd.TheVariants as ends
 
 abbrev pub held_of : Known → List ℤ
 held_of k = k.below ++ (pointers_among k.variables ++ k.temporaries)

@@ -1,8 +1,7 @@
 -- What plans weigh, and what they are come to from.
 use Rattle.std.proofs.{Common.{◌≡◌, ℕ, ◌+◌, ◌*◌, ◌<◌, ◌≤◌, Result, arith}, lemmas.Result.IfOk-weaker}
 use Rattle.std.specs.Prelude.{IfOk}
-use Rattle.sharc_ask_steps.specs.declared.state.RunEnd.{RunEnd}
-use Rattle.sharc_ask.specs.{declared.plan.Plan.Plan, Plans.{Fits, Starts}}
+use Rattle.sharc_ask.specs.{declared.state.RunEnd.RunEnd, declared.plan.Plan.Plan, Plans.{Fits, Starts}}
 use Rattle.sharc_ask.specs.declared.plan.WithValue.TheVariants as with_values
 use Rattle.sharc_ask.specs.declared.plan.WithPlace.TheVariants as with_places
 

@@ -1,3 +1,6 @@
+pub mod StepView
+pub mod Waking
+pub mod Width
 pub mod Held
 pub mod Plans
 pub mod Stack

@@ -25,8 +25,7 @@ use Rattle.sharc_meaning.specs.State.{ends_temporaries, ends_variables}
 use Rattle.sharc_meaning.specs.Statements.{Flow, next, returned, on_next, on_turn, turns, loop, exec, exec_all}
 use Rattle.sharc_meaning.specs.Statements.{right_value, done_simple, declared, done_first, done_test, return_with}
 use Rattle.sharc_meaning.specs.Waiting.{lock_call, unlock_call}
-use Rattle.sharc_ask_steps.specs.{declared.state.RunEnd.RunEnd, View.{Known, known, view_place, Over}, Width.value_bits}
-use Rattle.sharc_ask_steps.specs.declared.state.RunEnd.TheVariants as ends
+use Rattle.sharc_ask.specs.{declared.state.RunEnd.RunEnd, StepView.{Known, known, view_place, Over}, Width.value_bits}
 use Rattle.sharc_ask.specs.{declared.plan.After.After, declared.plan.Loop.Loop, declared.plan.Plan.Plan}
 use Rattle.sharc_ask.specs.{declared.plan.Rest.Rest, declared.plan.Task.Task, declared.plan.WithNumber.WithNumber}
 use Rattle.sharc_ask.specs.{declared.plan.WithValue.WithValue, declared.plan.WithPlace.WithPlace}
@@ -34,6 +33,7 @@ use Rattle.sharc_ask.specs.Values.{Value, number, test, place, flow, number_in, 
 use Rattle.sharc_ask.specs.Values.{gives, as_nothing}
 use Rattle.sharc_ask.specs.View.{view_test, view_otherwise, loop_test, loop_step, loop_body, other_done, number_left}
 use Rattle.sharc_ask.specs.View.{place_fetched, calling, made}
+use Rattle.sharc_ask.specs.declared.state.RunEnd.TheVariants as ends
 use Rattle.sharc_ask.specs.declared.plan.After.TheVariants as afters
 use Rattle.sharc_ask.specs.declared.plan.Plan.TheVariants as plans
 use Rattle.sharc_ask.specs.declared.plan.Rest.TheVariants as rests

@@ -5,13 +5,13 @@ use Rattle.sharc_names.specs.Kinds.{Kind, declared_kinds}
 use Rattle.sharc_mode.specs.Moded.{Assignment}
 use Rattle.sharc_meaning.specs.{Expressions.{Calls, called, eval_all}, Meaning.{back_in, calls, left_at}}
 use Rattle.sharc_meaning.specs.{State.{Frame, State, Out, Run, then_on, ◌>>=◌, give, ends_variables}, Statements.Flow}
-use Rattle.sharc_ask_steps.specs.{declared.state.RunEnd.RunEnd, View.{Known, known, held_below, Over, Went, EndsAs}}
-use Rattle.sharc_ask_steps.specs.declared.state.RunEnd.TheVariants as ends
+use Rattle.sharc_ask.specs.{declared.state.RunEnd.RunEnd, StepView.{Known, known, held_below, Over, Went, EndsAs}}
 use Rattle.sharc_ask.specs.{declared.plan.Call.Call, declared.plan.Rest.Rest, declared.plan.Value.{Value as RustValue}}
 use Rattle.sharc_ask.specs.{declared.stack.At.At, declared.stack.Caller.Caller, declared.stack.Later.Later}
 use Rattle.sharc_ask.specs.{declared.stack.Left.Left, declared.walk.Stepped.Stepped}
 use Rattle.sharc_ask.specs.Values.{Value, number, number_in, flow_in, view_value, gives, as_left}
 use Rattle.sharc_ask.specs.Plans.{ends_above, rest_means, plan_means, weight, size}
+use Rattle.sharc_ask.specs.declared.state.RunEnd.TheVariants as ends
 use Rattle.sharc_ask.specs.declared.plan.Rest.TheVariants as rests
 use Rattle.sharc_ask.specs.declared.stack.Later.TheVariants as laters
 use Rattle.sharc_ask.specs.declared.walk.Stepped.TheVariants as stepped
@@ -95,7 +95,8 @@ Steps m before stack result after stack1 run = (s : State) (behind : List Behind
     → AreBehind m stack behind → StepEnds m result stack1 after (then_on (run s) (all_behind behind))
 
 -- what is left to do with the value of the thing that was next
-abbrev pub GoesOnWith : Assignment → Known → Left → RustValue → List Left → Result At RunEnd → Known → List Left → Type 0
+abbrev pub GoesOnWith : Assignment → Known → Left → RustValue → List Left → Result At RunEnd → Known → List Left
+    → Type 0
 GoesOnWith m before l v stack result after stack1 = (f : Behind) → IsBehind m l.frames l.later f
     → Moves m before stack result after stack1 (f (view_value v))
 

@@ -1,9 +1,9 @@
 -- What a task of the walk comes to.
 use Rattle.std.specs.Prelude.{ℤ, pos, Bool, false}
 use Rattle.sharc_tree.specs.declared.token.Site.{Site}
-use Rattle.sharc_meaning.specs.{Places.{StorePlace, no_place}, State.{Run, ◌>>=◌, give}, Statements.{Flow, next, returned}}
-use Rattle.sharc_ask_steps.specs.View.{view_place}
-use Rattle.sharc_ask.specs.{declared.plan.Value.{Value as RustValue}, View.view_flow}
+use Rattle.sharc_meaning.specs.{Places.{StorePlace, no_place}, State.{Run, ◌>>=◌, give}}
+use Rattle.sharc_meaning.specs.Statements.{Flow, next, returned}
+use Rattle.sharc_ask.specs.{StepView.view_place, declared.plan.Value.{Value as RustValue}, View.view_flow}
 use Rattle.sharc_ask.specs.declared.plan.Value.TheVariants as values
 
 -- what a task comes to

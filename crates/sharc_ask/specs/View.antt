@@ -15,7 +15,7 @@ use Rattle.sharc_names.specs.{View.view_kind, declared.fault.Named.Named, Kinds.
 use Rattle.sharc_ask.specs.{declared.plan.Loop.Loop, declared.asked.Asked.{Asked as RustAsked}}
 use Rattle.sharc_ask.specs.declared.asked.Outcome.{Outcome as RustOutcome}
 use Rattle.sharc_ask.specs.declared.asked.Outcome.TheVariants.{Wants, Ended, StoppedX, Fuel}
-use Rattle.sharc_ask.specs.declared.values.Flow.{Flow as RustFlow}
+use Rattle.sharc_ask.specs.{declared.values.Flow.{Flow as RustFlow}, StepView.Known}
 use Rattle.sharc_ctype.specs.{Resolved.Resolution, Transfers.parameters_named}
 use Rattle.sharc_mode.specs.{Cells.cell_at, Moded.Assignment, Sharings.Sharing}
 use Rattle.sharc_meaning.specs.{declared.variable.Variable.Variable, Arithmetic.operated}
@@ -27,7 +27,6 @@ use Rattle.sharc_meaning.specs.State.{answered, performs, looks_at, temporarily,
 use Rattle.sharc_meaning.specs.State.{all_released, pointers_among}
 use Rattle.sharc_meaning.specs.Statements.{Flow, next, broken, continued, returned, is_positive, loop, done_first}
 use Rattle.sharc_meaning.specs.Statements.{done_step, done_test, exec, exec_all}
-use Rattle.sharc_ask_steps.specs.View.{Known}
 use Rattle.sharc_ask.specs.declared.values.Flow.TheVariants as flows
 
 -- how far a thread came, with what it holds where it wants an event

@@ -2,11 +2,11 @@
 
 ghost use Rattle.std.specs.Prelude.{◌≡◌, ◌≤◌, ◌++◌, drop, OnOk};
 ghost use Rattle.sharc_meaning.specs.State.{all_released, pointers_among};
-ghost use Rattle.sharc_ask_steps.specs.View.{view_state};
+ghost use Rattle.sharc_ask.specs.StepView.{view_state};
 ghost use Rattle.sharc_ask.specs.View.{temporaries_ended, variables_ended};
 
-use sharc_ask_steps::cells::number_of;
-use sharc_ask_steps::state::State;
+use crate::cells::number_of;
+use crate::state::State;
 use sharc_meaning::given::GivenUp;
 use sharc_meaning::variable::Variable;
 use std::alloc::AllocError;

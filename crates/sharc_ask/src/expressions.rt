@@ -8,21 +8,21 @@ ghost use Rattle.sharc_tree.specs.View.{view_expr, view_arguments};
 ghost use Rattle.sharc_mode.specs.Moded.{Assignment};
 ghost use Rattle.sharc_meaning.specs.Expressions.{Calls, eval, place_of};
 ghost use Rattle.sharc_meaning.specs.Places.{index_place, pointee_place, field_place, unary_place};
-ghost use Rattle.sharc_ask_steps.specs.View.{view_state};
+ghost use Rattle.sharc_ask.specs.StepView.{view_state};
 ghost use Rattle.sharc_ask.specs.Values.{number, place, gives};
 ghost use Rattle.sharc_ask.specs.Plans.{inside, Leads, LeadsFrom, Plans, Fits, Starts, Begins, size};
 
+use crate::arithmetic::width_of;
+use crate::places::{LvaluePlace, place_named};
 use crate::plan::{Call, Operation, Plan, Rest, Task, Value, WithPlace, WithValue};
 use crate::plans::done_number;
+use crate::state::{RunEnd, State, enter};
 use crate::values::{constant_value, kind_of, logic_of, named, named_value};
-use sharc_ask_steps::arithmetic::width_of;
-use sharc_ask_steps::places::{LvaluePlace, place_named};
-use sharc_ask_steps::state::{RunEnd, State, enter};
 use sharc_mode::moded::Moded;
 use sharc_names::fault::Named;
 use sharc_names::kind::is_array;
 use sharc_tree::token::{Site, Span};
-use sharc_tree::tree::{FieldOperator, BinaryOperator, Expr, Identifier, PlaceCall, UnaryOperator};
+use sharc_tree::tree::{BinaryOperator, Expr, FieldOperator, Identifier, PlaceCall, UnaryOperator};
 
 fn on_place_plan<'a>(
     expr: &'a Expr,
@@ -216,7 +216,11 @@ fn eval_plan<'a>(program: &'a Moded, expr: &'a Expr, st: &mut State) -> Result<P
 }
 
 /// The value of an expression.
-pub fn begin_eval<'a>(program: &'a Moded, expr: &'a Expr, st: &mut State) -> Result<Plan<'a>, RunEnd>
+pub fn begin_eval<'a>(
+    program: &'a Moded,
+    expr: &'a Expr,
+    st: &mut State,
+) -> Result<Plan<'a>, RunEnd>
     ensures means { (on_call : Calls) → Plans on_call program.now (view_state st.old) result (view_state st.new)
         (gives number (eval on_call program.now (view_expr expr.now))) }
     ensures begins { IfOk result (Begins 1 st.old.fuel st.new.fuel) }

@@ -6,7 +6,7 @@ ghost use Rattle.sharc_names.specs.View.{view_kind};
 ghost use Rattle.sharc_mode.specs.Moded.{Assignment};
 ghost use Rattle.sharc_meaning.specs.Expressions.{Calls};
 ghost use Rattle.sharc_meaning.specs.Statements.{exec, exec_all};
-ghost use Rattle.sharc_ask_steps.specs.View.{Known, view_state};
+ghost use Rattle.sharc_ask.specs.StepView.{Known, view_state};
 ghost use Rattle.sharc_ask.specs.View.{view_flow, view_otherwise};
 ghost use Rattle.sharc_ask.specs.Values.{flow, view_value, gives};
 ghost use Rattle.sharc_ask.specs.Plans.{inside, goes_on, after_means, others_done, chosen_done, tested_done, left_body};
@@ -16,8 +16,8 @@ ghost use Rattle.sharc_ask.specs.Plans.{after_weight, size};
 use crate::parts::{end_above, end_block};
 use crate::plan::{After, Loop, Plan, Rest, Task, Value, flow_in, test_in};
 use crate::plans::{done_flow, done_number};
+use crate::state::{RunEnd, State, enter};
 use crate::values::{Flow, body_of, left_by, number_left, step_of, test_of};
-use sharc_ask_steps::state::{RunEnd, State, enter};
 use sharc_names::kind::ExpressionKind;
 use sharc_tree::tree::Stmt;
 
@@ -80,7 +80,11 @@ fn begin_statement<'a>(
 }
 
 /// The statements of a list.
-pub fn begin_all<'a>(kind: ExpressionKind<'a>, all: &'a [Stmt], st: &mut State) -> Result<Plan<'a>, RunEnd>
+pub fn begin_all<'a>(
+    kind: ExpressionKind<'a>,
+    all: &'a [Stmt],
+    st: &mut State,
+) -> Result<Plan<'a>, RunEnd>
     ensures means { (on_call : Calls) (m : Assignment) → Plans on_call m (view_state st.old) result (view_state st.new)
         (gives flow (exec_all on_call m (view_kind kind.entry) (view_statements all.now))) }
     ensures begins { IfOk result (Begins 1 st.old.fuel st.new.fuel) }
@@ -130,7 +134,12 @@ fn behind_body<'a>(number: u64, l: Loop<'a>, left: Flow) -> Plan<'a>
     }
 }
 
-fn behind_test<'a>(number: u64, l: Loop<'a>, goes_on: bool, st: &mut State) -> Result<Plan<'a>, RunEnd>
+fn behind_test<'a>(
+    number: u64,
+    l: Loop<'a>,
+    goes_on: bool,
+    st: &mut State,
+) -> Result<Plan<'a>, RunEnd>
     ensures means { (on_call : Calls) (m : Assignment) → Plans on_call m (view_state st.old) result (view_state st.new)
         (gives flow (tested_done on_call m l.entry number goes_on)) }
     ensures begins { IfOk result (Begins 1 st.old.fuel st.new.fuel) }

@@ -6,11 +6,11 @@ ghost use Rattle.sharc_tree.specs.View.{view_function};
 ghost use Rattle.sharc_names.specs.Kinds.{declared_kind, is_pointer};
 ghost use Rattle.sharc_meaning.specs.State.{pointers_among};
 ghost use Rattle.sharc_meaning.specs.Meaning.{parameters_begin, left_at};
-ghost use Rattle.sharc_ask_steps.specs.View.{view_state, Does};
+ghost use Rattle.sharc_ask.specs.StepView.{view_state, Does};
 ghost use Rattle.sharc_ask.specs.View.{view_flow, WasKept};
 
+use crate::state::{Frame, RunEnd, State, begin};
 use crate::values::Flow;
-use sharc_ask_steps::state::{RunEnd, Frame, State, begin};
 use sharc_meaning::variable::Variable;
 use sharc_names::kind::{declared_kind, is_pointer};
 use sharc_tree::token::Site;

@@ -11,8 +11,8 @@ ghost use Rattle.sharc_meaning.specs.Expressions.{tested, operand, fitting, pass
 ghost use Rattle.sharc_meaning.specs.Places.{variable, pointee_place, stored};
 ghost use Rattle.sharc_meaning.specs.State.{Run, Step, give};
 ghost use Rattle.sharc_meaning.specs.Statements.{Flow as LeftBy};
-ghost use Rattle.sharc_ask_steps.specs.View.{Known, view_state, view_place, Does, DoesAs};
-ghost use Rattle.sharc_ask_steps.specs.Width.{value_bits};
+ghost use Rattle.sharc_ask.specs.StepView.{Known, view_state, view_place, Does, DoesAs};
+ghost use Rattle.sharc_ask.specs.Width.{value_bits};
 ghost use Rattle.sharc_ask.specs.View.{view_flow};
 ghost use Rattle.sharc_tree.specs.declared.token.Site.{Site as Where};
 ghost use Rattle.sharc_ask.specs.Values.{view_value, as_left, left_of, gives};
@@ -20,16 +20,16 @@ ghost use Rattle.sharc_ask.specs.Plans.{ends_above, ends_block, zero_behind, tru
 ghost use Rattle.sharc_ask.specs.Plans.{spawned_with, free_unless_null, joined_with, element_behind, element_in};
 ghost use Rattle.sharc_ask.specs.Plans.{assigned_to};
 
+use crate::arithmetic::{fits, is_zero, negated, operated, truth, width_of};
+use crate::cells::{elements_of, number_of};
 use crate::endings::{end_temporaries, end_variables};
+use crate::places::{LvaluePlace, element, element_of_array, pointee, stored};
 use crate::plan::{Operation, Value, flow_in};
+use crate::state::{RunEnd, State, ask_event, moves, perform, unless};
 use crate::values::{
     Flow, based, cells_of, freed_unless_null, held, kind_of, let_go, number_named,
     parameters_named, resulting, value_act,
 };
-use sharc_ask_steps::arithmetic::{fits, is_zero, negated, operated, truth, width_of};
-use sharc_ask_steps::cells::{elements_of, number_of};
-use sharc_ask_steps::places::{LvaluePlace, element, element_of_array, pointee, stored};
-use sharc_ask_steps::state::{RunEnd, State, ask_event, moves, perform, unless};
 use sharc_mode::cell::cell_of;
 use sharc_mode::moded::Moded;
 use sharc_mode::sharing::Sharing;
@@ -79,7 +79,12 @@ pub fn zero_behind(answer: Result<(), RunEnd>) -> Result<i64, RunEnd>
 }
 
 /// Whether a value is neither 0 nor NULL.
-pub fn tested_value(program: &Moded, expr: &Expr, value: i64, st: &mut State) -> Result<bool, RunEnd>
+pub fn tested_value(
+    program: &Moded,
+    expr: &Expr,
+    value: i64,
+    st: &mut State,
+) -> Result<bool, RunEnd>
     ensures does { Does (view_state st.old) result (view_state st.new)
         (tested program.now.typed (view_expr expr.now) (give value)) }
     ensures fuel { st.new.fuel ≤ st.old.fuel }
@@ -122,7 +127,12 @@ pub fn negative(
 }
 
 /// A value that is held in a temporary.
-pub fn operand_value(program: &Moded, expr: &Expr, value: i64, st: &mut State) -> Result<i64, RunEnd>
+pub fn operand_value(
+    program: &Moded,
+    expr: &Expr,
+    value: i64,
+    st: &mut State,
+) -> Result<i64, RunEnd>
     ensures does { Does (view_state st.old) result (view_state st.new)
         (operand program.now.typed (view_expr expr.now) (give value)) }
     ensures fuel { st.new.fuel ≤ st.old.fuel }

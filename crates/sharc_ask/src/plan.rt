@@ -1,20 +1,20 @@
 // What is to be done next, and what with its value.
 
 ghost use Rattle.std.specs.Prelude.{◌≡◌};
-ghost use Rattle.sharc_ask_steps.specs.View.{view_place};
+ghost use Rattle.sharc_ask.specs.StepView.{view_place};
 ghost use Rattle.sharc_ask.specs.View.{view_flow};
 ghost use Rattle.sharc_ask.specs.Values.{view_value, number_in, test_in, place_in, flow_in};
 
+use crate::arithmetic::Width;
+use crate::places::LvaluePlace;
 use crate::values::Flow;
-use sharc_ask_steps::arithmetic::Width;
-use sharc_ask_steps::places::LvaluePlace;
 use sharc_mode::sharing::Sharing;
 use sharc_names::fault::Named;
 use sharc_names::kind::ExpressionKind;
 use sharc_tree::token::{Site, Span};
 use sharc_tree::tree::{
-    FieldOperator, BinaryOperator, Declaration, Expr, ForHead, Local, Right, Simple, Stmt, ValueCall,
-    WrittenType,
+    BinaryOperator, Declaration, Expr, FieldOperator, ForHead, Local, Right, Simple, Stmt,
+    ValueCall, WrittenType,
 };
 
 /// What a task comes to.

@@ -6,15 +6,15 @@ ghost use Rattle.sharc_meaning.specs.Expressions.{Calls};
 ghost use Rattle.sharc_meaning.specs.Places.{StorePlace as NamedPlace};
 ghost use Rattle.sharc_meaning.specs.State.{Run, Step};
 ghost use Rattle.sharc_meaning.specs.Statements.{Flow as LeftBy};
-ghost use Rattle.sharc_ask_steps.specs.View.{Known, Does, DoesAs, view_place};
+ghost use Rattle.sharc_ask.specs.StepView.{Known, Does, DoesAs, view_place};
 ghost use Rattle.sharc_ask.specs.View.{view_flow};
 ghost use Rattle.sharc_ask.specs.Values.{number, test, place, flow, gives, as_nothing};
 ghost use Rattle.sharc_ask.specs.Plans.{step_then, test_then, plan_means, Plans, Fits};
 
+use crate::places::LvaluePlace;
 use crate::plan::{Plan, Value};
+use crate::state::RunEnd;
 use crate::values::Flow;
-use sharc_ask_steps::places::LvaluePlace;
-use sharc_ask_steps::state::RunEnd;
 
 /// A number came.
 pub fn done_number<'a>(answer: Result<i64, RunEnd>) -> Result<Plan<'a>, RunEnd>
@@ -78,7 +78,11 @@ pub fn then<'a>(answer: Result<(), RunEnd>, plan: Plan<'a>) -> Result<Plan<'a>, 
 }
 
 /// A test was made, and it goes on by its truth.
-pub fn by_truth<'a>(answer: Result<bool, RunEnd>, yes: Plan<'a>, no: Plan<'a>) -> Result<Plan<'a>, RunEnd>
+pub fn by_truth<'a>(
+    answer: Result<bool, RunEnd>,
+    yes: Plan<'a>,
+    no: Plan<'a>,
+) -> Result<Plan<'a>, RunEnd>
     ensures means { (on_call : Calls) (m : Assignment) (before after : Known) (run : Run Bool)
         → Does before answer after run → Plans on_call m before result after
         (test_then run (plan_means on_call m yes.entry) (plan_means on_call m no.entry)) }

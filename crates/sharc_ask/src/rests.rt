@@ -6,30 +6,30 @@ ghost use Rattle.sharc_tree.specs.View.{view_expr};
 ghost use Rattle.sharc_mode.specs.Cells.{cell_at};
 ghost use Rattle.sharc_meaning.specs.Expressions.{Calls, eval};
 ghost use Rattle.sharc_meaning.specs.Places.{taken_from};
-ghost use Rattle.sharc_ask_steps.specs.View.{view_state, view_place, Does};
-ghost use Rattle.sharc_ask_steps.specs.Width.{value_bits};
+ghost use Rattle.sharc_ask.specs.StepView.{view_state, view_place, Does};
+ghost use Rattle.sharc_ask.specs.Width.{value_bits};
 ghost use Rattle.sharc_ask.specs.View.{view_flow};
 ghost use Rattle.sharc_ask.specs.declared.plan.WithPlace.TheVariants.{Frees, Casts};
 ghost use Rattle.sharc_ask.specs.Values.{number, place, view_value, gives};
 ghost use Rattle.sharc_ask.specs.Plans.{ends_above, left_with, behind_pointer, value_means, number_means, place_means};
 ghost use Rattle.sharc_ask.specs.Plans.{rest_means, Plans, Fits, Starts, Begins, value_weight, place_weight, weight};
 
+use crate::arithmetic::complement;
+use crate::cells::field_place_named;
 use crate::flows::with_after;
+use crate::locking::{lock_call, unlock_call};
 use crate::parts::{
     element_behind, element_in, end_above, end_step, first_behind, fitted, freed_with, initialised,
     inverted, joined, negative, passed_value, returned, spawned, stored_at, tested_value, truth_of,
     value_called, zero_behind,
 };
+use crate::places::{LvaluePlace, field_in, taken_from};
 use crate::plan::{
     Operation, Plan, Rest, Task, Value, WithNumber, WithPlace, WithValue, number_in, place_in,
 };
 use crate::plans::{by_truth, done_flow, done_number, done_place, done_step, done_test, then};
+use crate::state::{RunEnd, State};
 use crate::values::{Flow, based, cast_unless_null, held, kind_of, let_go, made, place_fetched};
-use sharc_ask_steps::arithmetic::complement;
-use sharc_ask_steps::cells::field_place_named;
-use sharc_ask_steps::locking::{lock_call, unlock_call};
-use sharc_ask_steps::places::{LvaluePlace, field_in, taken_from};
-use sharc_ask_steps::state::{RunEnd, State};
 use sharc_mode::cell::{cell_of, pointed};
 use sharc_mode::moded::Moded;
 use sharc_mode::row::row_of;

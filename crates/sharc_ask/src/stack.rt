@@ -1,12 +1,12 @@
 // What is left to do behind a plan: the stack of the walk.
 
 ghost use Rattle.std.specs.Prelude.{◌≡◌, ◌∷◌, OnOk, IfErr};
-ghost use Rattle.sharc_ask_steps.specs.declared.state.RunEnd.TheVariants.{Memory};
+ghost use Rattle.sharc_ask.specs.declared.state.RunEnd.TheVariants.{Memory};
 ghost use Rattle.sharc_ask.specs.Stack.{stack_of, with_rest};
 
 use crate::frames::SuspendedCaller;
 use crate::plan::{Call, Plan, Rest};
-use sharc_ask_steps::state::RunEnd;
+use crate::state::RunEnd;
 use sharc_tree::tree::{Declaration, Expr, FunctionDefinition};
 
 /// A call some of whose arguments have their values. Temporaries after the mark end with it.

@@ -10,15 +10,15 @@ ghost use Rattle.sharc_mode.specs.View.{view_sharing};
 ghost use Rattle.sharc_meaning.specs.Expressions.{Calls};
 ghost use Rattle.sharc_meaning.specs.Statements.{right_value, done_simple, initialised, declared, done_first};
 ghost use Rattle.sharc_meaning.specs.Statements.{done_test, return_with};
-ghost use Rattle.sharc_ask_steps.specs.View.{view_state};
+ghost use Rattle.sharc_ask.specs.StepView.{view_state};
 ghost use Rattle.sharc_ask.specs.View.{view_test};
 ghost use Rattle.sharc_ask.specs.Values.{number, test, flow, gives, as_nothing};
 ghost use Rattle.sharc_ask.specs.Plans.{inside, Leads, LeadsFrom, Plans, Fits, Starts, Begins};
 
 use crate::plan::{Plan, Rest, Task, Value, WithNumber, WithPlace, WithValue};
 use crate::plans::{done_number, then};
+use crate::state::{RunEnd, State, begin, enter};
 use crate::values::{Flow, made};
-use sharc_ask_steps::state::{RunEnd, State, begin, enter};
 use sharc_mode::cell::pointed;
 use sharc_mode::moded::Moded;
 use sharc_mode::row::{PathReading, declared_row};
@@ -178,7 +178,11 @@ pub fn test_plan<'a>(condition: Option<&'a Expr>) -> Plan<'a>
 }
 
 /// A `return`.
-pub fn return_plan<'a>(kind: ExpressionKind<'a>, site: Site, value: &'a Option<Box<Expr>>) -> Plan<'a>
+pub fn return_plan<'a>(
+    kind: ExpressionKind<'a>,
+    site: Site,
+    value: &'a Option<Box<Expr>>,
+) -> Plan<'a>
     ensures means { (on_call : Calls) (m : Assignment) → Leads on_call m (gives flow
         (return_with on_call m (view_kind kind.entry) site (view_option (λ b. view_expr b.value) value.now))) result }
     ensures starts { Starts 3 result }

@@ -3,14 +3,14 @@
 ghost use Rattle.std.specs.Prelude.{◌≡◌, ◌≤◌, IfOk};
 ghost use Rattle.sharc_ctype.specs.Resolved.{function_at};
 ghost use Rattle.sharc_meaning.specs.Meaning.{asks, goes_away, run_thread, start};
-ghost use Rattle.sharc_ask_steps.specs.View.{known, view_state, Does};
+ghost use Rattle.sharc_ask.specs.StepView.{known, view_state, Does};
 ghost use Rattle.sharc_ask.specs.Held.{all_held};
 ghost use Rattle.sharc_ask.specs.View.{leaves, Tells};
 
 use crate::asked::{Asked, Holds, Outcome};
 use crate::frames::held_by;
+use crate::state::{Frame, RunEnd, State, perform, unless};
 use crate::walk::run_function;
-use sharc_ask_steps::state::{RunEnd, Frame, State, perform, unless};
 use sharc_mode::moded::Moded;
 use sharc_tree::event::Act;
 use sharc_tree::listed::Listed;

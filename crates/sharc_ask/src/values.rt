@@ -16,14 +16,14 @@ ghost use Rattle.sharc_meaning.specs.Expressions.{resulting, named_value, number
 ghost use Rattle.sharc_meaning.specs.Reference.{is_null, constant_value};
 ghost use Rattle.sharc_meaning.specs.State.{give, done, drops, holds};
 ghost use Rattle.sharc_meaning.specs.Statements.{left_by};
-ghost use Rattle.sharc_ask_steps.specs.View.{view_state, view_place, Does};
+ghost use Rattle.sharc_ask.specs.StepView.{view_state, view_place, Does};
 ghost use Rattle.sharc_ask.specs.View.{view_flow, view_test, view_step, test_of_loop, step_of_loop, body_of_loop};
 ghost use Rattle.sharc_ask.specs.View.{number_left, logic_of, made, place_fetched};
 
-use sharc_ask_steps::arithmetic::{is_positive, is_zero};
-use sharc_ask_steps::cells::{element_cells, instance_mode};
-use sharc_ask_steps::places::{LvaluePlace, base, cast_to, element, fetched, freed};
-use sharc_ask_steps::state::{RunEnd, State, ask_event, dropped, hold, unless, value_in};
+use crate::arithmetic::{is_positive, is_zero};
+use crate::cells::{element_cells, instance_mode};
+use crate::places::{LvaluePlace, base, cast_to, element, fetched, freed};
+use crate::state::{RunEnd, State, ask_event, dropped, hold, unless, value_in};
 use sharc_ctype::typed;
 use sharc_mode::cell::{cell_of, pointed};
 use sharc_mode::moded::Moded;
@@ -132,7 +132,12 @@ pub fn resulting(site: Site, value: Result<i64, Trap>, st: &State) -> Result<i64
 }
 
 // The value in the place that an expression names.
-pub fn place_fetched(program: &Moded, expr: &Expr, place: LvaluePlace, st: &mut State) -> Result<i64, RunEnd>
+pub fn place_fetched(
+    program: &Moded,
+    expr: &Expr,
+    place: LvaluePlace,
+    st: &mut State,
+) -> Result<i64, RunEnd>
     ensures does { Does (view_state st.old) result (view_state st.new)
         (place_fetched program.now (view_expr expr.now) (view_place place)) }
     ensures fuel { st.new.fuel ≤ st.old.fuel }

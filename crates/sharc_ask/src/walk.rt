@@ -8,7 +8,7 @@ ghost use Rattle.sharc_ask.specs.declared.stack.Left.{Left as Kept};
 ghost use Rattle.sharc_tree.specs.View.{view_function};
 ghost use Rattle.sharc_meaning.specs.Expressions.{Calls};
 ghost use Rattle.sharc_meaning.specs.Meaning.{calls, run_function};
-ghost use Rattle.sharc_ask_steps.specs.View.{Known, view_state, Does};
+ghost use Rattle.sharc_ask.specs.StepView.{Known, view_state, Does};
 ghost use Rattle.sharc_ask.specs.Plans.{task_means, goes_on, Plans, Begins, rank, weight, size};
 ghost use Rattle.sharc_ask.specs.Stack.{stack_of, at_means, Moves, GoesOnWith, Steps, Comes, later_weight, GoesDown};
 ghost use Rattle.sharc_ask.specs.Stack.{load};
@@ -20,10 +20,10 @@ use crate::parts::left_behind;
 use crate::plan::{Plan, Rest, Task, Value, WithValue, flow_in, number_in};
 use crate::rests::resume;
 use crate::stack::{At, Later, Left, push_rest};
+use crate::state::{RunEnd, State};
 use crate::statements::{
     begin_first, begin_local, begin_right, return_plan, simple_plan, test_plan,
 };
-use sharc_ask_steps::state::{RunEnd, State};
 use sharc_mode::moded::Moded;
 use sharc_tree::token::Site;
 use sharc_tree::tree::FunctionDefinition;

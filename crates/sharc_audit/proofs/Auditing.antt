@@ -5,11 +5,10 @@ use Rattle.sharc_tree.specs.declared.event.SourceEvent.{SourceEvent}
 use Rattle.sharc_ctype.specs.Resolved.{Resolution}
 use Rattle.sharc_mode.specs.Moded.{Assignment}
 use Rattle.sharc_meaning.specs.{Laws.{AskLaws, StoreLaws, RunLaws, AskedFor}, Obeys.{Obeys, until_return}, Runs.SourceRunWith, Store.{MayCome, LegalStore}}
-use Rattle.sharc_judge.specs.{declared.rule.Rule.Rule, declared.rule.Rule.TheVariants.{Live, OneMode, Owner, NotWritten, UnderItsLock, ReadSharedOrOneThread}, Judged.{Holds, number}, Laws.RuleLaws, declared.pair.Until.TheVariants.Return}
+use Rattle.sharc_judge.specs.{declared.rule.Rule.Rule, declared.rule.Rule.TheVariants.{Live, OneMode, Owner, NotWritten, UnderItsLock, ReadSharedOrOneThread}, Judged.{Holds, number}, Laws.RuleLaws, declared.pair.Until.TheVariants.Return, Kept.IsLowestAt}
 use Rattle.sharc_audit.specs.{declared.audit.EventFault.EventFault, declared.audit.Verdict.Verdict, declared.line.EventLine.EventLine, declared.threads.NextEvent.NextEvent, declared.threads.NextEvent.TheVariants.{Wants, Spent, Nothing}, Asked.IsSpent, Audited.{Accepted, IsFirstRefused, IsAsked, IsNotLegal, IsAgainst, FailsBy, Refused, Audits}, Breaking.IsFault, Judging.next_asked, Lines.{IsLine, AreLines, told}, Mains.OneMain, Known.AreKnown}
 use Rattle.sharc_audit.specs.declared.audit.EventFault.TheVariants as fault
 use Rattle.sharc_audit.specs.declared.audit.Verdict.TheVariants as verdict
-use Rattle.sharc_past.specs.Kept.{IsLowestAt}
 use Rattle.sharc_audit.proofs.{Answering.{told_asked, asked_is, computed_asked, spent_is, is_spent_at}, Breaking.{obeys_more, lowest_broken_last, broken_is}}
 
 -- ---- rules

@@ -2,8 +2,7 @@
 use Rattle.std.proofs.Common.{◌≡◌, ◌⊎◌, inl, inr, true, false, List, [], ◌∷◌, ◌++◌, Option, Some, None, refl, ap, sym, ◌∙◌}
 use Rattle.sharc_tree.specs.declared.event.SourceEvent.{SourceEvent}
 use Rattle.sharc_meaning.specs.{Events.{Access, access_by, Stands}, Obeys.{Obeys, until_return}}
-use Rattle.sharc_judge.specs.{declared.pair.Until.TheVariants.Return, declared.rule.Rule.Rule, Deciding.{breaks, of_access, breaks_with, breaks_by}, Judged.{Holds, IsLowestBroken}, Laws.{Unbroken, RuleLaws}}
-use Rattle.sharc_past.specs.Kept.{AreUnbroken, IsLowestAt}
+use Rattle.sharc_judge.specs.{declared.pair.Until.TheVariants.Return, declared.rule.Rule.Rule, Deciding.{breaks, of_access, breaks_with, breaks_by}, Judged.{Holds, IsLowestBroken}, Laws.{Unbroken, RuleLaws}, Kept.{AreUnbroken, IsLowestAt}}
 
 -- what is in a list with one more at its end is that one, or is in the list
 pub record InFront (R before : List SourceEvent) (e : SourceEvent) : Type 0 where

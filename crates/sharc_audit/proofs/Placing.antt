@@ -6,7 +6,7 @@ use Rattle.sharc_ctype.specs.Resolved.{Resolution}
 use Rattle.sharc_meaning.specs.{Events.is_of, Store.{was_spawned, is_natural, is_spawn, MayCome, LegalStore}}
 use Rattle.sharc_tree.specs.declared.event.Act.TheVariants as acts
 use Rattle.sharc_audit.specs.{declared.line.EventLine.EventLine, declared.run.ThreadRun.ThreadRun, Judging.has_begun, Known.ArePlaces, Lines.{told, lines_of, told_to}, Reported.{told_in, AreTold}}
-use Rattle.sharc_past.specs.Kept.{IsSpawnedOnce}
+use Rattle.sharc_judge.specs.Kept.{IsSpawnedOnce}
 use Rattle.sharc_audit.proofs.Knowing.{any_set}
 
 pub on_ok_always : {A E : Type 0} (r : Result A E) {P : Type 0} → P → OnOk r P

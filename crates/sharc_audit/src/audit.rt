@@ -3,7 +3,7 @@
 ghost use Rattle.std.specs.Prelude.{◌≡◌, ◌<◌, ◌^◌, IfOk, length, MatchOption};
 ghost use Rattle.sharc_audit.specs.Audited.{Audits};
 ghost use Rattle.sharc_audit.specs.Breaking.{IsPassed, IsFault};
-ghost use Rattle.sharc_past.specs.Kept.{AreUnbroken};
+ghost use Rattle.sharc_judge.specs.Kept.{AreUnbroken};
 
 use crate::line::EventLines;
 use crate::matching::is_line;
@@ -11,11 +11,11 @@ use crate::reported::told_to_each;
 use crate::runs::Runs;
 use crate::threads::{NextEvent, accept, main_of, next_asked};
 use sharc_check::Checked;
+use sharc_judge::Past;
 use sharc_judge::laws::rule_laws;
 use sharc_judge::rule::Rule;
 use sharc_meaning::laws::{ask_laws, run_laws, store_laws};
 use sharc_mode::moded::Moded;
-use sharc_past::Past;
 use sharc_tree::event::SourceEvent;
 use std::alloc::{AllocError, Global};
 

@@ -11,7 +11,7 @@ ghost use Rattle.sharc_audit.specs.Judging.{main_of, entry, has_begun, start_of,
 ghost use Rattle.sharc_audit.specs.Judging.{own_answers, event_at};
 ghost use Rattle.sharc_audit.specs.Known.{AreKnown, ArePlaces};
 ghost use Rattle.sharc_audit.specs.Reported.{AreTold, told_in};
-ghost use Rattle.sharc_past.specs.Kept.{IsSpawnedOnce};
+ghost use Rattle.sharc_judge.specs.Kept.{IsSpawnedOnce};
 ghost use Rattle.sharc_audit.specs.Walks.{IsWalk};
 ghost use Rattle.sharc_audit.specs.Mains.{OneMain};
 ghost use Rattle.sharc_audit.specs.Lines.{told, told_to, IsLine};
@@ -24,9 +24,9 @@ use crate::run::{ThreadRun, first_fuel, walk_to, walked};
 use crate::runs::Runs;
 use sharc_ctype::typed::Typed;
 use sharc_ctype_laws::laws::one_function_of_name;
+use sharc_judge::Past;
 use sharc_meaning::laws::ask_laws;
 use sharc_mode::moded::Moded;
-use sharc_past::Past;
 use sharc_tree::event::{Act, SourceEvent};
 use std::alloc::{AllocError, Global};
 

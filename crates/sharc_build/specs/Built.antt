@@ -1,10 +1,9 @@
 -- What is built of a source: the checked code of the program that it is, or the reason why there is none.
 use Rattle.std.specs.Prelude.{ℕ, Bool, List, Result, Ok, Err}
 use Rattle.sharc_mode.specs.{declared.error.ModeError.ModeError, Moded.Assignment}
-use Rattle.sharc_mode_laws.specs.Rules.{MeetsRules}
-use Rattle.sharc_check.specs.{Checks.IsRefused, Named.TellNamed}
+use Rattle.sharc_check.specs.{Rules.MeetsRules, Checks.IsRefused, Named.TellNamed}
 use Rattle.sharc_code.specs.Ranges.{NumbersFit}
-use Rattle.sharc_sound.specs.{Compiled.IsCompiled, Front.{IsFront, IsSourceFault}}
+use Rattle.sharc_front_end.specs.{Compiled.IsCompiled, Front.{IsFront, IsSourceFault}}
 use Rattle.sharc_build.specs.{declared.building.Built.Built, declared.building.BuildFault.BuildFault}
 use Rattle.sharc_build.specs.declared.building.BuildFault.TheVariants.{Source, Modes, Memory}
 

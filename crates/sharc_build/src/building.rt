@@ -4,8 +4,8 @@ ghost use Rattle.std.specs.Prelude.{◌≤◌, List, ℕ, length, IfOk};
 ghost use Rattle.sharc_reach.specs.Reaching.{AreReached};
 ghost use Rattle.sharc_code.specs.Ranges.{NumbersFit};
 ghost use Rattle.sharc_flat_laws.specs.Typed.{IsTypedProgram};
-ghost use Rattle.sharc_sound.specs.Compiled.{IsCompiled};
-ghost use Rattle.sharc_sound.specs.Front.{IsFront};
+ghost use Rattle.sharc_front_end.specs.Compiled.{IsCompiled};
+ghost use Rattle.sharc_front_end.specs.Front.{IsFront};
 ghost use Rattle.sharc_build.specs.Built.{Builds};
 
 use crate::laws::fronts_are_typed;
@@ -15,11 +15,11 @@ use sharc_code::Code;
 use sharc_compile::code_of;
 use sharc_flat_laws::laws::{made_tables_fit, typed_is_framed};
 use sharc_flatten::flatten;
+use sharc_front_end::{ReachedProgram, Refusal, front};
 use sharc_mode::error::ModeErrors;
 use sharc_mode::moded::Moded;
 use sharc_reach::Reached;
 use sharc_report::SourceFault;
-use sharc_sound::{ReachedProgram, Refusal, front};
 use std::alloc::{AllocError, Global};
 
 /// A program whose modes are accepted, and its checked code.

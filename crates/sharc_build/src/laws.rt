@@ -2,8 +2,8 @@
 
 ghost use Rattle.sharc_build.specs.Laws.{FrontsAreTyped};
 
-use sharc_grammar::laws::{programs_are_low, programs_are_placed};
-use sharc_mode_laws::laws::rules_are_met;
+use sharc_check::rule_laws::rules_are_met;
+use sharc_parse::grammar_laws::{programs_are_low, programs_are_placed};
 
 /// The program that a source is lies at its tokens, is within the limits, typed and, if its modes are accepted,
 /// well-moded.

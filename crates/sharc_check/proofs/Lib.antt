@@ -1,3 +1,15 @@
+pub mod Calls
+pub mod Claims
+pub mod Forms
+pub mod Holds
+pub mod Law
+pub mod Levels
+pub mod Lists
+pub mod Modes
+pub mod Options
+pub mod ThreadRules
+pub mod Touched
+pub mod Walk
 pub mod CallLemmas
 pub mod LevelLemmas
 pub mod NamedLemmas

@@ -1,8 +1,7 @@
 -- No case in order is no case.
 use Rattle.std.proofs.{Common.{◌≡◌, ℕ, ◌==◌, Bool, true, false, List, [], ◌∷◌, length, refl, ap, sym, ◌∙◌, subst, arith}, lemmas.Bool.Decides.nat_tests, lemmas.List.Sorted.length_permutation}
 use Rattle.sharc_mode.specs.{declared.error.ModeError.ModeError, Laws.ModeLaws, Moded.Assignment, WellModed.{AreModeErrors, WellModed}}
-use Rattle.sharc_mode_laws.specs.{Laws.RulesAreMet, Rules.MeetsRules}
-use Rattle.sharc_check.specs.Checks.{AreAll, IsRefused}
+use Rattle.sharc_check.specs.{RuleLaws.RulesAreMet, Rules.MeetsRules, Checks.{AreAll, IsRefused}}
 
 empty_of_length : (l : List ModeError) → length l ≡ 0 → l ≡ []
 empty_of_length [] h = refl

@@ -2,8 +2,7 @@
 use Rattle.std.specs.{Prelude.{◌≡◌, List, []}, declared.result.Result.Result}
 use Rattle.std.specs.declared.result.Result.TheVariants.{Ok, Err}
 use Rattle.sharc_mode.specs.{declared.error.ModeError.ModeError, Moded.Assignment, WellModed.AreModeErrors}
-use Rattle.sharc_mode_laws.specs.Rules.{MeetsRules}
-use Rattle.sharc_check.specs.declared.answer.CheckFault.{CheckFault}
+use Rattle.sharc_check.specs.{Rules.MeetsRules, declared.answer.CheckFault.CheckFault}
 use Rattle.sharc_check.specs.{declared.answer.CheckFault.TheVariants.{Modes, Memory}, Named.TellNamed, Orders.IsInOrder}
 
 -- all the cases that arise, each once, in order

@@ -1,3 +1,7 @@
+pub mod Constructs
+pub mod RuleLaws
+pub mod Paths
+pub mod Rules
 pub mod Checks
 pub mod Laws
 pub mod Levels

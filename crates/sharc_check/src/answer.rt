@@ -3,7 +3,7 @@
 ghost use Rattle.std.specs.Prelude.{◌≡◌, IfOk};
 ghost use Rattle.sharc_reach.specs.Reaching.{AreReached};
 ghost use Rattle.sharc_mode.specs.WellModed.{notes_about};
-ghost use Rattle.sharc_mode_laws.specs.Rules.{MeetsRules};
+ghost use Rattle.sharc_check.specs.Rules.{MeetsRules};
 ghost use Rattle.sharc_check.specs.Checks.{AreAll, Checks};
 ghost use Rattle.sharc_check.specs.Named.{TellNamed};
 ghost use Rattle.sharc_check.specs.Threads.{touched_by};
@@ -11,6 +11,7 @@ ghost use Rattle.sharc_check.specs.Threads.{touched_by};
 use crate::moved_variables::settle;
 use crate::named::NamedVariables;
 use crate::order::put_in_order;
+use crate::rule_laws::rules_are_met;
 use crate::statement::items;
 use crate::threads::{spawned, touched};
 use crate::types::types;
@@ -18,7 +19,6 @@ use sharc_mode::error::ModeErrors;
 use sharc_mode::finding::Finding;
 use sharc_mode::laws::mode_laws;
 use sharc_mode::moded::Moded;
-use sharc_mode_laws::laws::rules_are_met;
 use sharc_reach::Reached;
 use sharc_tree::listed::Listed;
 use std::alloc::{AllocError, Global};
@@ -34,7 +34,7 @@ impl Model for Checked {
     ghost use Rattle.std.specs.Coded.{codes};
     ghost use Rattle.sharc_ctype.specs.Codes.{coded_expression, coded_statements};
     ghost use Rattle.sharc_mode.specs.Moded.{Assignment};
-    ghost use Rattle.sharc_mode_laws.specs.Rules.{MeetsRules};
+    ghost use Rattle.sharc_check.specs.Rules.{MeetsRules};
 
     ghost Value = { Assignment };
 

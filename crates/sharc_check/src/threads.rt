@@ -12,6 +12,7 @@ ghost use Rattle.sharc_mode.specs.WellModed.{has_private_target, parameter_notes
 ghost use Rattle.sharc_reach.specs.Reaching.{AreReached};
 ghost use Rattle.sharc_check.specs.Threads.{function_notes, global_notes, touched_by};
 
+use crate::rule_laws::spawned_are_told;
 use crate::rules::error;
 use crate::types::is_private_level;
 use sharc_mode::cell::pointed;
@@ -21,7 +22,6 @@ use sharc_mode::moded::Moded;
 use sharc_mode::row::{PathReading, declared_row};
 use sharc_mode::sharing::is_private;
 use sharc_mode::shown::row_laws;
-use sharc_mode_laws::laws::spawned_are_told;
 use sharc_reach::Reached;
 use sharc_tree::ctype::Mode;
 use sharc_tree::name::Name;

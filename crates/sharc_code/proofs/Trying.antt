@@ -4,7 +4,7 @@ use Rattle.std.specs.Prelude.{◌↔◌, slice_index}
 use Rattle.sharc_tree.specs.declared.trap.Trap.TheVariants as traps
 use Rattle.sharc_word.specs.declared.step.WordOp.TheVariants as ops
 use Rattle.sharc_word.specs.declared.step.TheConstants.{THREADS}
-use Rattle.sharc_cond.specs.Waiters.{waits_in}
+use Rattle.sharc_locks.specs.Waiters.{waits_in}
 use Rattle.sharc_code.specs.{declared.code.Code.Code, declared.instr.Instr.Instr, declared.shape.Shape.Shape, declared.state.TurnState.TheVariants.Tries, Layout.state_word, Machine.{Machine, Local, Asks, step_of, act, int, word, fails, goes, trapped, joined, join, instr_at}, Path.{after, may_go}, Waits.{asks_for, joins, held_up, waits_now}, ThreadLaws.{found_now, behind}}
 use Rattle.sharc_code.specs.declared.state.Wait.TheVariants as waits
 use Rattle.sharc_code.proofs.Moving.{Moves, is_try, Sorted, Other, Locks, Joins, Conds, sorted}

@@ -1,9 +1,8 @@
 -- The turns of a path that a bound on its length counts.
 use Rattle.std.specs.Prelude.{ℕ, ◌+◌, ◌==◌, ◌||◌, Bool, true, false, not, List, [], ◌∷◌, if◌then◌else◌}
 use Rattle.sharc_word.specs.{declared.step.WordOp.WordOp, declared.step.WordOp.TheVariants.Cas}
-use Rattle.sharc_granule.specs.{declared.stage.NewTurn.NewTurn, declared.stage.NewTurn.TheVariants.Do}
-use Rattle.sharc_granule.specs.{declared.stage.NewStage.{NewStage}, declared.stage.NewStage.TheVariants.Cell}
-use Rattle.sharc_granule.specs.State.{turn_of}
+use Rattle.sharc_heap.specs.{declared.stage.NewTurn.NewTurn, declared.stage.NewTurn.TheVariants.Do}
+use Rattle.sharc_heap.specs.{declared.stage.NewStage.NewStage, declared.stage.NewStage.TheVariants.Cell, State.turn_of}
 use Rattle.sharc_code.specs.{declared.code.Code.Code, declared.shape.Shape.Shape, declared.state.TurnState.TurnState}
 use Rattle.sharc_code.specs.{declared.state.TurnState.TheVariants.Tries, declared.state.Stage.Stage}
 use Rattle.sharc_code.specs.declared.state.Stage.TheVariants.{Looks, Clears, Makes, Empties, Lowers, FreeLooks}

@@ -9,9 +9,9 @@ use Rattle.sharc_tree.specs.declared.event.CellMode.TheVariants as modes
 use Rattle.sharc_tree.specs.declared.event.Taken.TheVariants as takens
 use Rattle.sharc_tree.specs.declared.event.TakeKind.TheVariants as kinds
 use Rattle.sharc_tree.specs.declared.event.Act.TheVariants as acts
-use Rattle.sharc_granule.specs.{State.NewView, declared.stage.NewStage.{NewStage}}
-use Rattle.sharc_granule.specs.declared.stage.NewStage.TheVariants.{Length}
-use Rattle.sharc_cond.specs.Waiters.{waits_in, lowest_of}
+use Rattle.sharc_heap.specs.{State.NewView, declared.stage.NewStage.NewStage}
+use Rattle.sharc_heap.specs.declared.stage.NewStage.TheVariants.{Length}
+use Rattle.sharc_locks.specs.Waiters.{waits_in, lowest_of}
 use Rattle.sharc_code.specs.{declared.code.Code.Code, declared.code.GlobalCells.GlobalCells}
 use Rattle.sharc_code.specs.{declared.code.Parameter.Parameter, declared.code.PlaceMode.PlaceMode}
 use Rattle.sharc_code.specs.declared.code.PlaceMode.TheVariants.{Private, Readonly, Racy, Dynamic, LockedGlobal}

@@ -2,7 +2,7 @@
 use Rattle.std.specs.Prelude.{ℕ, ℤ, pos, negsuc, ◌==◌, ◌||◌, Bool, false, not, List, Option, Some, None, nat_lt}
 use Rattle.std.specs.Prelude.{slice_index, if◌then◌else◌}
 use Rattle.sharc_word.specs.declared.step.TheConstants.{THREADS}
-use Rattle.sharc_cond.specs.Waiters.{waits_in}
+use Rattle.sharc_locks.specs.Waiters.{waits_in}
 use Rattle.sharc_code.specs.{declared.code.Code.Code, declared.shape.Shape.Shape, declared.instr.Instr.Instr}
 use Rattle.sharc_code.specs.{declared.instr.Instr.TheVariants.{Lock, Join, CondWait}, declared.state.Wait.Wait}
 use Rattle.sharc_code.specs.{Layout.state_word, Machine.{Machine, int, word, instr_at}, Path.may_go}

@@ -21,5 +21,5 @@ pub use laws::{fits_law, range_laws, run_laws, standing_laws, thread_laws};
 pub use layout::{NEXT_THREAD, PRINTS, TOP, argument_word, cell_of, function_word, state_word};
 pub use lines::{Operand, listing};
 pub use shape::Shape;
-pub use state::{At, ConflictAt, FRAMES, Frame, Print, Stage, TurnState, Stop, Wait};
+pub use state::{At, ConflictAt, FRAMES, Frame, Print, Stage, Stop, TurnState, Wait};
 pub use words::opening;

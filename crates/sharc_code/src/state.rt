@@ -1,7 +1,6 @@
 //! The state of a thread between two turns.
 
-use sharc_granule::NewState;
-use sharc_shadow::Kind;
+use sharc_heap::{Kind, NewState};
 use sharc_tree::trap::Trap;
 
 /// How many frames there may be.

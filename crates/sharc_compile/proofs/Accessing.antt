@@ -2,11 +2,9 @@
 use Rattle.std.proofs.Common.{◌≡◌, ℕ, zero, suc, ◌+◌, ◌-◌, ◌<◌, inl, inr, Bool, true, false, List, [], ◌∷◌, length, map, refl, sym, ap, ◌∙◌, subst, arith, Some, slice_get}
 use Rattle.std.specs.Prelude.{slice_index_or, if◌then◌else◌}
 use Rattle.sharc_code.specs.{declared.code.Code.Code, declared.code.Function.Function, declared.code.PlaceMode.PlaceMode, declared.code.PlaceMode.TheVariants.{Private, Readonly, Racy, Dynamic, LockedGlobal, LockedSibling, LockedThrough, LockedLoaded}, declared.code.SourcePlace.SourcePlace, declared.instr.Instr.Instr, declared.instr.Instr.TheVariants.{Jump, JumpIfZero, JumpIfNull, Call, ChkRead, ChkWrite}, Machine.no_function, Says.{place_at, no_place}}
-use Rattle.sharc_guarded_form.specs.declared.guarded.Guarded.{Guarded}
-use Rattle.sharc_gen.specs.Generated.{IsGenerated, program_of, instr_of}
+use Rattle.sharc_guard.specs.{declared.guarded.Guarded.Guarded, Checked.{Access, access_of, IsCheckOf}}
+use Rattle.sharc_compile.specs.{Generated.{IsGenerated, program_of, instr_of}, Checked.{LeadsTo, IsNoTarget, IsAfterCheck, IsCheckedAt}}
 use Rattle.sharc_guard.specs.Checked as Guarded
-use Rattle.sharc_guard.specs.Checked.{Access, access_of, IsCheckOf}
-use Rattle.sharc_compile.specs.Checked.{LeadsTo, IsNoTarget, IsAfterCheck, IsCheckedAt}
 
 -- the statement of an instruction
 record Comes (fs : List Function) (ss : List Instr) (pc : ℕ) (i : Instr) : Type 0 where

@@ -6,13 +6,10 @@ use Rattle.sharc_mode.specs.Moded.{Assignment}
 use Rattle.sharc_meaning.specs.{declared.given.GivenUp.GivenUp, declared.given.GivenUp.TheVariants.{Emptied, Released, Replaced}, Events.held_mutexes, State.{wants, event_of}, Reference.number_of}
 use Rattle.sharc_meaning.specs.Meaning as Meaning
 use Rattle.sharc_code.specs.{declared.code.Code.Code, declared.instr.Instr.Instr, declared.instr.Instr.TheVariants.Exit, declared.shape.Shape.Shape, declared.state.Stop.TheVariants.{Conflict, NoLock, NotSole, Trap}, declared.state.Stop.Stop, declared.state.TurnState.TheVariants.{Runs, Stopped}, Machine.{Machine, instr_at}, Says.{place_at, reference}}
-use Rattle.sharc_flat_form.specs.{Machine.{Flat, At, Came, Turn, goes, asks, halts, turn, on_turn, exec, start}, Path.{at_after, asked, PathsAreRuns}}
-use Rattle.sharc_flat.specs.Correct.{AsksTheSame, MayStart}
-use Rattle.sharc_guarded_form.specs.{declared.guarded.Guarded.Guarded, Machine.{Program, Thread, Check, Accesses, Locks, IsSole, is_held, statement_at}, Path.{started, thread_after}}
-use Rattle.sharc_guarded_form.specs.Machine as Form
-use Rattle.sharc_gen.specs.{Consistent.{Elements, IsNumber}, Correct.{by, begins, HasCome}, Generated.{IsGenerated, instr_of, program_of}, Related.{IsReference, IsAt, IsLinking, IsOver, StopsAt, ChecksNext}}
-use Rattle.sharc_guard.specs.{Correct.Resolved, Counted.{AreLowered, GuardedCounts, IsReleased, IsOf, IsReplaced, LocksStand, OnWay, Quietly, Tells}, Guard.{entered_at, guarded, place}, Level.IsLevel, Logged.LogsAreHeld}
-use Rattle.sharc_compile.specs.{Held.{IsAccountedFor, HoldsBy, HoldsWhatIsCounted}, Refused.{IsRefused, IsReport, site_of}}
+use Rattle.sharc_flat.specs.{Machine.{Flat, At, Came, Turn, goes, asks, halts, turn, on_turn, exec, start}, Path.{at_after, asked, PathsAreRuns}, Correct.{AsksTheSame, MayStart}}
+use Rattle.sharc_guard.specs.{declared.guarded.Guarded.Guarded, Machine.{Program, Thread, Check, Accesses, Locks, IsSole, is_held, statement_at}, Path.{started, thread_after}, Correct.Resolved, Counted.{AreLowered, GuardedCounts, IsReleased, IsOf, IsReplaced, LocksStand, OnWay, Quietly, Tells}, Guard.{entered_at, guarded, place}, Level.IsLevel, Logged.LogsAreHeld}
+use Rattle.sharc_guard.specs.Machine as Form
+use Rattle.sharc_compile.specs.{Consistent.{Elements, IsNumber}, Correct.{by, begins, HasCome}, Generated.{IsGenerated, instr_of, program_of}, Related.{IsReference, IsAt, IsLinking, IsOver, StopsAt, ChecksNext}, Held.{IsAccountedFor, HoldsBy, HoldsWhatIsCounted}, Refused.{IsRefused, IsReport, site_of}}
 use Rattle.sharc_compile.proofs.{Joined.sites_are, Sourced.{IsQuiet, line_quiet, same_given, beyond}}
 
 -- ---- what flat code does without an answer

@@ -3,16 +3,14 @@ use Rattle.std.proofs.{Common.{◌≡◌, ℕ, ℤ, ◌<◌, ◌≤◌, inl, inr
 use Rattle.std.specs.Prelude.{slice_index_or}
 use Rattle.sharc_tree.specs.{declared.event.Act.Act, declared.event.SourceEvent.SourceEvent, declared.trap.Trap.Trap}
 use Rattle.sharc_code.specs.{declared.code.Code.Code, declared.shape.Shape.Shape, declared.instr.Instr.Instr, declared.instr.Instr.TheVariants.{Join, Spawn, New}, declared.state.TurnState.TurnState, declared.state.TurnState.TheVariants.{Runs, Tries, Stopped, Ended}, declared.state.Stage.Stage, declared.state.Stage.TheVariants.Makes, declared.state.Stop.Stop, declared.state.Stop.TheVariants.{Conflict, NoLock, NotSole, Trap as Trapped}, Machine.Machine, Says.{place_at, no_place}}
-use Rattle.sharc_granule.specs.{declared.stage.NewStage.{NewStage}, declared.stage.NewStage.TheVariants.Cell}
+use Rattle.sharc_heap.specs.{declared.stage.NewStage.NewStage, declared.stage.NewStage.TheVariants.Cell}
 use Rattle.sharc_meaning.specs.State.{stopped}
-use Rattle.sharc_flat_form.specs.Machine as Flat
-use Rattle.sharc_guarded_form.specs.{declared.guarded.Guarded.Guarded, Machine.{Program, Thread, source_at, statement_at, turn, step}, Path.{started, thread_after}}
-use Rattle.sharc_guarded_form.specs.Machine as Form
-use Rattle.sharc_gen.specs.{Consistent.Elements, Correct.{by, begins, stop_turn, HasCome}, Generated.{IsGenerated, program_of}, Related.{MatchesThread, IsOver, StopsAt, Refuses, spent_at, spent_in_new}}
-use Rattle.sharc_guard.specs.{Correct.{GuardedKeepsPaths, Resolved, Wants}, Guard.{guarded, entered_at, place}}
-use Rattle.sharc_flat_form.specs.Path as Flow
-use Rattle.sharc_flat_form.specs.Framed.{IsFlat}
-use Rattle.sharc_compile.specs.Coded.{WantsAt, IsRefusal, StopsFor, IsOverFor, FollowsFlat}
+use Rattle.sharc_flat.specs.Machine as Flat
+use Rattle.sharc_guard.specs.{declared.guarded.Guarded.Guarded, Machine.{Program, Thread, source_at, statement_at, turn, step}, Path.{started, thread_after}, Correct.{GuardedKeepsPaths, Resolved, Wants}, Guard.{guarded, entered_at, place}}
+use Rattle.sharc_guard.specs.Machine as Form
+use Rattle.sharc_compile.specs.{Consistent.Elements, Correct.{by, begins, stop_turn, HasCome}, Generated.{IsGenerated, program_of}, Related.{MatchesThread, IsOver, StopsAt, Refuses, spent_at, spent_in_new}, Coded.{WantsAt, IsRefusal, StopsFor, IsOverFor, FollowsFlat}}
+use Rattle.sharc_flat.specs.Path as Flow
+use Rattle.sharc_flat.specs.Framed.{IsFlat}
 
 few_in_new : (st : NewStage) → spent_in_new st ≤ 3
 few_in_new (Cell c) = omega arith

@@ -1,3 +1,17 @@
+pub mod Registers
+pub mod Logs
+pub mod Numbers
+pub mod Inside
+pub mod Sames
+pub mod Lowering
+pub mod Turns
+pub mod Single
+pub mod Calls
+pub mod Asking
+pub mod Staged
+pub mod OneTurn
+pub mod Coming
+pub mod OnRuns
 pub mod Accessing
 pub mod Holding
 pub mod Joined

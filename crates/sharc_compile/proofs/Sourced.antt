@@ -8,16 +8,13 @@ use Rattle.sharc_mode.specs.Moded.{Assignment}
 use Rattle.sharc_meaning.specs.{declared.given.GivenUp.GivenUp, declared.given.GivenUp.TheVariants.{Emptied, Released, Replaced}, Arithmetic.is_zero, Events.{held_mutexes, holds_mutex}, Reference.{is_null, elements_of, number_of}, State.{Outcome, answer_of, ended, event_of, stopped, spent}, Statements.is_positive, Runs.answers_of}
 use Rattle.sharc_meaning.specs.Meaning as Meaning
 use Rattle.sharc_code.specs.{Arithmetic.{computed, negated, holds}, declared.code.Code.Code, declared.code.GlobalCells.GlobalCells, declared.instr.Cell.Cell, declared.state.TurnState.TurnState, declared.state.TurnState.TheVariants.{Runs, Tries, Stopped, Ended}, declared.state.Stop.Stop, declared.state.Stop.TheVariants.{Conflict, NoLock, NotSole, Trap as Trapped}, Machine.Machine, Says.place_at, declared.code.Parameter.Parameter, declared.instr.Register.Register}
-use Rattle.sharc_flat_form.specs.{declared.op.Op.Op, declared.op.Spot.Spot, Machine.{Flat, At, Caller, Came, Turn, goes, asks, halts, int, ref, goes_on, next, over_lines, stops, asserts, with_result, set_int, set_ref, gives_up, kind_of, cell_at, mode_of, accessed, accesses, lock_is_null, indexed, takes_local, returned, called, op_turn, end_turn, line_turn, turn, on_turn, exec, start, begun, first_at, function_of, handed, with_event, without_base}, Path.{after, at_after, may_go, asked, asked_by, IsPath, PathsAreRuns}}
-use Rattle.sharc_flat_form.specs.declared.op.Op.TheVariants as op
+use Rattle.sharc_flat.specs.{declared.op.Op.Op, declared.op.Spot.Spot, Machine.{Flat, At, Caller, Came, Turn, goes, asks, halts, int, ref, goes_on, next, over_lines, stops, asserts, with_result, set_int, set_ref, gives_up, take_kind_of, cell_at, cell_mode_of, accessed, accesses, lock_is_null, indexed, takes_local, returned, called, op_turn, end_turn, line_turn, turn, on_turn, exec, start, begun, first_at, function_of, handed, with_event, without_base}, Path.{after, at_after, may_go, asked, asked_by, IsPath, PathsAreRuns}, Correct.{AsksTheSame, MayStart}}
+use Rattle.sharc_flat.specs.declared.op.Op.TheVariants as op
 use Rattle.sharc_code.specs.declared.code.Parameter.TheVariants as parameters
 use Rattle.sharc_code.specs.declared.instr.Cell.TheVariants as cells
 use Rattle.sharc_code.specs.declared.instr.Register.TheVariants as registers
-use Rattle.sharc_flat.specs.Correct.{AsksTheSame, MayStart}
-use Rattle.sharc_guarded_form.specs.declared.guarded.Guarded.{Guarded}
-use Rattle.sharc_gen.specs.{Correct.{by, begins}, Generated.program_of}
-use Rattle.sharc_guard.specs.Correct.{Resolved}
-use Rattle.sharc_compile.specs.{Coded.{WantsAt, StopsFor, IsOverFor, FollowsFlat}, Source.{WantsEventAt, IsStopOf, IsOverAs, IsToldBy, FollowsSource}}
+use Rattle.sharc_guard.specs.{declared.guarded.Guarded.Guarded, Correct.Resolved}
+use Rattle.sharc_compile.specs.{Correct.{by, begins}, Generated.program_of, Coded.{WantsAt, StopsFor, IsOverFor, FollowsFlat}, Source.{WantsEventAt, IsStopOf, IsOverAs, IsToldBy, FollowsSource}}
 
 -- ---- events, and what is given up
 -- no event is reported, and nothing is taken back of what was given up
@@ -57,7 +54,7 @@ accesses_quiet : (globals : List GlobalCells) (cell : Cell) (spot : Spot) (act :
     → IsQuiet m (accesses globals cell spot act then_ m)
 accesses_quiet globals cell spot act then_ m k =
     cond_quiet (lock_is_null m spot spot.mode) (stops traps.NullPointer spot)
-    (asks m spot.site (act (cell_at globals m cell) (mode_of globals m (cell_at globals m cell) spot.mode)) (pos 0) (λ v n. accessed (next (then_ (cell_at globals m cell) v n)))) m tt
+    (asks m spot.site (act (cell_at globals m cell) (cell_mode_of globals m (cell_at globals m cell) spot.mode)) (pos 0) (λ v n. accessed (next (then_ (cell_at globals m cell) v n)))) m tt
     ((refl, [], same_given m), refl, k (cell_at globals m cell))
 
 returned_quiet : (flat : Flat) (frames : List Caller) (spot : Spot) (m : At) → IsQuiet m (returned flat frames spot m)
@@ -97,7 +94,7 @@ op_quiet flat (op.Load i cell spot) m = accesses_quiet flat.globals cell spot ac
 op_quiet flat (op.Store i cell spot) m = accesses_quiet flat.globals cell spot (λ c mode. acts.Write c mode (int m i)) (λ c v n. n) m (λ c v n. refl)
 op_quiet flat (op.LoadRef r cell spot) m = accesses_quiet flat.globals cell spot acts.Read (λ c v. set_ref r v) m (λ c v n. refl)
 op_quiet flat (op.StoreRef r cell spot) m = accesses_quiet flat.globals cell spot (λ c mode. acts.Write c mode (ref m r)) (λ c v n. gives_up (Replaced c) (set_ref r (pos 0) n)) m (λ c v n. refl)
-op_quiet flat (op.TakeCell r cell spot) m = accesses_quiet flat.globals cell spot (λ c mode. acts.Take (taken.Cell c mode) (kind_of spot.at)) (λ c v. set_ref r v) m (λ c v n. refl)
+op_quiet flat (op.TakeCell r cell spot) m = accesses_quiet flat.globals cell spot (λ c mode. acts.Take (taken.Cell c mode) (take_kind_of spot.at)) (λ c v. set_ref r v) m (λ c v n. refl)
 op_quiet flat (op.TakeLocal r x spot) m = takes_quiet r x spot m (is_null (ref m x))
 op_quiet flat (op.Pop r) m = (refl, Released (number_of (ref m r)) ∷ [], refl)
 op_quiet flat (op.Settle x from) m = (refl, Released (number_of (ref m x)) ∷ [], refl)

@@ -7,7 +7,7 @@ use Rattle.sharc_code.specs.declared.code.PlaceMode.TheVariants.{LockedSibling, 
 use Rattle.sharc_code.specs.declared.instr.Instr.{Instr}
 use Rattle.sharc_code.specs.{declared.instr.Instr.TheVariants.{Jump, JumpIfZero, JumpIfNull, Call}, Machine.no_function}
 use Rattle.sharc_code.specs.Says.{place_at}
-use Rattle.sharc_flat_form.specs.{declared.flat.Flat.{Flat as FlatCode}, Made.flat_of}
+use Rattle.sharc_flat.specs.{declared.flat.Flat.{Flat as FlatCode}, Made.flat_of}
 use Rattle.sharc_guard.specs.{Checked.{Access, access_of, IsCheckOf}, Known.dropped}
 use Rattle.sharc_compile.specs.Made.{IsCodeOf}
 

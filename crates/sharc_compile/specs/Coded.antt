@@ -4,17 +4,17 @@ use Rattle.sharc_tree.specs.{declared.event.Act.Act, declared.event.SourceEvent.
 use Rattle.sharc_tree.specs.declared.trap.Trap.{Trap}
 use Rattle.sharc_tree.specs.declared.trap.Trap.TheVariants as traps
 use Rattle.sharc_code.specs.{declared.code.Code.Code, declared.shape.Shape.Shape, declared.state.TurnState.TurnState}
-use Rattle.sharc_code.specs.{declared.state.TurnState.TheVariants.{Runs, Tries, Stopped, Ended}, declared.state.Stop.Stop}
+use Rattle.sharc_code.specs.declared.state.TurnState.TheVariants.{Runs, Tries, Stopped, Ended}
+use Rattle.sharc_code.specs.declared.state.Stop.{Stop}
 use Rattle.sharc_code.specs.declared.state.Stop.TheVariants.{Conflict, NoLock, NotSole, Trap as Trapped}
 use Rattle.sharc_code.specs.{Machine.Machine, Path.{begun, machine_after, CodePath}, Paced.paced_in, Says.place_at}
 use Rattle.sharc_meaning.specs.State.{stopped, ended}
-use Rattle.sharc_flat_form.specs.Machine as Flat
-use Rattle.sharc_guarded_form.specs.declared.guarded.Guarded.{Guarded}
-use Rattle.sharc_gen.specs.{Consistent.{Elements, said_in, IsConsistent}, Correct.{by, begins, IsBeginning}}
-use Rattle.sharc_gen.specs.{Generated.{IsGenerated, program_of}, Lowered.lowered_in}
-use Rattle.sharc_flat_form.specs.Path as Flow
-use Rattle.sharc_flat_form.specs.Framed.{IsFlat, IsFramed}
-use Rattle.sharc_guard.specs.{Correct.Resolved, Guard.guarded}
+use Rattle.sharc_flat.specs.Machine as Flat
+use Rattle.sharc_guard.specs.{declared.guarded.Guarded.Guarded, Correct.Resolved, Guard.guarded}
+use Rattle.sharc_compile.specs.{Consistent.{Elements, said_in, IsConsistent}, Correct.{by, begins, IsBeginning}}
+use Rattle.sharc_compile.specs.{Generated.{IsGenerated, program_of}, Lowered.lowered_in}
+use Rattle.sharc_flat.specs.Path as Flow
+use Rattle.sharc_flat.specs.Framed.{IsFlat, IsFramed}
 
 -- flat code wants an event at this site
 pub record WantsAt (flat : Flat.Flat) (m : Flat.At) (site : Site) : Type 0 where

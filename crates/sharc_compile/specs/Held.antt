@@ -8,13 +8,11 @@ use Rattle.sharc_meaning.specs.{Meaning.{Asked, asks}, Reference.number_of}
 use Rattle.sharc_code.specs.{declared.code.Code.Code, declared.instr.Instr.TheVariants.Lower}
 use Rattle.sharc_code.specs.{declared.shape.Shape.Shape, declared.state.Stage.TheVariants.Links}
 use Rattle.sharc_code.specs.{Machine.{Machine, instr_at}, Path.{begun, machine_after, CodePath}, Paced.paced_in}
-use Rattle.sharc_flat_form.specs.{declared.flat.Flat.{Flat as FlatCode}, Framed.IsFramed, Made.flat_of}
+use Rattle.sharc_flat.specs.{declared.flat.Flat.{Flat as FlatCode}, Framed.IsFramed, Made.flat_of}
 use Rattle.sharc_flat.specs.Correct.{AsksTheSame, MayStart}
-use Rattle.sharc_gen.specs.{Consistent.{Elements, said_in, IsConsistent}, Correct.{by, begins, IsBeginning}}
-use Rattle.sharc_gen.specs.{Generated.program_of, Lowered.lowered_in}
-use Rattle.sharc_guard.specs.{Correct.Resolved, Counted.{IsReleased, LocksStand}, Level.IsLevel}
-use Rattle.sharc_guarded_form.specs.Machine.{Program}
-use Rattle.sharc_compile.specs.{Made.IsCodeOf, Refused.WantsRefused}
+use Rattle.sharc_compile.specs.{Consistent.{Elements, said_in, IsConsistent}, Correct.{by, begins, IsBeginning}}
+use Rattle.sharc_compile.specs.{Generated.program_of, Lowered.lowered_in, Made.IsCodeOf, Refused.WantsRefused}
+use Rattle.sharc_guard.specs.{Correct.Resolved, Counted.{IsReleased, LocksStand}, Level.IsLevel, Machine.Program}
 
 -- the program holds a reference to the object of this number
 abbrev pub IsAmong : List ℤ → ℕ → Type 0

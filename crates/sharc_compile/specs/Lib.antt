@@ -1,3 +1,9 @@
+pub mod Consistent
+pub mod Correct
+pub mod Generated
+pub mod Lowered
+pub mod OfRuns
+pub mod Related
 pub mod Checked
 pub mod Coded
 pub mod Held

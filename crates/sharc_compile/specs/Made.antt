@@ -2,12 +2,10 @@
 use Rattle.std.specs.Prelude.{ℕ, ◌⊎◌, List}
 use Rattle.sharc_code.specs.{declared.code.Code.Code, declared.shape.Shape.Shape, Path.{begun, machine_after, CodePath}}
 use Rattle.sharc_code.specs.Paced.{paced_in}
-use Rattle.sharc_flat_form.specs.{declared.flat.Flat.{Flat as FlatCode}, Framed.{IsFlat, IsFramed}, Made.flat_of}
-use Rattle.sharc_guarded_form.specs.declared.guarded.Guarded.{Guarded}
-use Rattle.sharc_gen.specs.{Consistent.{Elements, said_in, IsConsistent}, Correct.IsBeginning, Generated.IsGenerated}
-use Rattle.sharc_gen.specs.Lowered.{lowered_in}
-use Rattle.sharc_guard.specs.{Known.dropped, Made.IsMade}
-use Rattle.sharc_compile.specs.Coded.{FollowsFlat}
+use Rattle.sharc_flat.specs.{declared.flat.Flat.{Flat as FlatCode}, Framed.{IsFlat, IsFramed}, Made.flat_of}
+use Rattle.sharc_guard.specs.{declared.guarded.Guarded.Guarded, Known.dropped, Made.IsMade}
+use Rattle.sharc_compile.specs.{Consistent.{Elements, said_in, IsConsistent}, Correct.IsBeginning}
+use Rattle.sharc_compile.specs.{Generated.IsGenerated, Lowered.lowered_in, Coded.FollowsFlat}
 
 -- generated of the guarded code of flat code, without the checks that repeat one
 pub record IsCodeOf (flat : FlatCode) (code : Code) : Type 0 where

@@ -3,11 +3,10 @@ use Rattle.std.specs.Prelude.{ℕ, ◌⊎◌, List, length}
 use Rattle.sharc_mode.specs.Moded.{Assignment}
 use Rattle.sharc_code.specs.{declared.code.Code.Code, declared.shape.Shape.Shape, Path.{begun, machine_after, CodePath}}
 use Rattle.sharc_code.specs.Paced.{paced_in}
-use Rattle.sharc_flat_form.specs.{declared.flat.Flat.{Flat as FlatCode}, Made.flat_of}
-use Rattle.sharc_flat.specs.{Correct.ProgramSuits, Flattens.Flattens, Laws.FitsMade}
-use Rattle.sharc_gen.specs.{Consistent.{Elements, said_in, IsConsistent}, Correct.IsBeginning, Generated.program_of}
-use Rattle.sharc_gen.specs.Lowered.{lowered_in}
-use Rattle.sharc_compile.specs.{Made.IsCodeOf, Source.FollowsSource}
+use Rattle.sharc_flat.specs.{declared.flat.Flat.{Flat as FlatCode}, Made.flat_of, Correct.ProgramSuits}
+use Rattle.sharc_flat.specs.{Flattens.Flattens, Laws.FitsMade}
+use Rattle.sharc_compile.specs.{Consistent.{Elements, said_in, IsConsistent}, Correct.IsBeginning, Generated.program_of}
+use Rattle.sharc_compile.specs.{Lowered.lowered_in, Made.IsCodeOf, Source.FollowsSource}
 
 -- of what flattening makes, whose frames have numbers of 32 bits
 abbrev pub ProgramCodeFollows : Type 0

@@ -3,11 +3,10 @@ use Rattle.std.specs.Prelude.{ℕ, ◌⊎◌, List, length, reverse}
 use Rattle.sharc_mode.specs.Moded.{Assignment}
 use Rattle.sharc_code.specs.{declared.code.Code.Code, declared.shape.Shape.Shape, Paced.paced_in, Path.begun}
 use Rattle.sharc_code.specs.{Runs.{Turn, turns_of, said_by}, Whole.{CheckedRun, Erase, place_after}}
-use Rattle.sharc_flat_form.specs.{declared.flat.Flat.{Flat as FlatCode}, Made.flat_of}
-use Rattle.sharc_flat.specs.{Correct.ProgramSuits, Flattens.Flattens, Laws.FitsMade}
-use Rattle.sharc_gen.specs.{Consistent.IsConsistent, Correct.IsBeginning, Generated.program_of, Lowered.lowered_in}
-use Rattle.sharc_gen.specs.OfRuns.{elements_before, founds_of, told_in}
-use Rattle.sharc_compile.specs.{Made.IsCodeOf, Source.FollowsSource}
+use Rattle.sharc_flat.specs.{declared.flat.Flat.{Flat as FlatCode}, Made.flat_of, Correct.ProgramSuits}
+use Rattle.sharc_flat.specs.{Flattens.Flattens, Laws.FitsMade}
+use Rattle.sharc_compile.specs.{Consistent.IsConsistent, Correct.IsBeginning, Generated.program_of, Lowered.lowered_in}
+use Rattle.sharc_compile.specs.{OfRuns.{elements_before, founds_of, told_in}, Made.IsCodeOf, Source.FollowsSource}
 
 -- where the results of its path are consistent with the elements of the run
 abbrev pub RunsFollowSource : Type 0

@@ -5,16 +5,15 @@ use Rattle.sharc_tree.specs.{declared.event.Act.Act, declared.event.SourceEvent.
 use Rattle.sharc_mode.specs.Moded.{Assignment}
 use Rattle.sharc_meaning.specs.{Meaning.asks, Runs.answers_of, State.{Outcome, wants, ended, stopped, spent, event_of}}
 use Rattle.sharc_code.specs.{declared.code.Code.Code, declared.shape.Shape.Shape, declared.state.TurnState.TurnState}
-use Rattle.sharc_code.specs.{declared.state.TurnState.TheVariants.{Runs, Tries, Stopped, Ended}, declared.state.Stop.Stop}
+use Rattle.sharc_code.specs.declared.state.TurnState.TheVariants.{Runs, Tries, Stopped, Ended}
+use Rattle.sharc_code.specs.declared.state.Stop.{Stop}
 use Rattle.sharc_code.specs.{declared.state.Stop.TheVariants.{Conflict, NoLock, NotSole, Trap}, Machine.Machine}
 use Rattle.sharc_code.specs.{Path.{begun, machine_after, CodePath}, Paced.paced_in, Says.place_at}
-use Rattle.sharc_flat_form.specs.{declared.flat.Flat.{Flat as FlatCode}, Framed.{IsFlat, IsFramed}, Made.flat_of}
+use Rattle.sharc_flat.specs.{declared.flat.Flat.{Flat as FlatCode}, Framed.{IsFlat, IsFramed}, Made.flat_of}
 use Rattle.sharc_flat.specs.Correct.{AsksTheSame, MayStart}
-use Rattle.sharc_guarded_form.specs.Machine.{Program}
-use Rattle.sharc_gen.specs.{Consistent.{Elements, said_in, IsConsistent}, Correct.{by, begins, IsBeginning}}
-use Rattle.sharc_gen.specs.{Generated.program_of, Lowered.lowered_in}
-use Rattle.sharc_guard.specs.Correct.{Resolved}
-use Rattle.sharc_compile.specs.{Coded.IsRefusal, Made.IsCodeOf}
+use Rattle.sharc_guard.specs.{Machine.Program, Correct.Resolved}
+use Rattle.sharc_compile.specs.{Consistent.{Elements, said_in, IsConsistent}, Correct.{by, begins, IsBeginning}}
+use Rattle.sharc_compile.specs.{Generated.program_of, Lowered.lowered_in, Coded.IsRefusal, Made.IsCodeOf}
 
 -- the source wants an event at this site
 abbrev pub WantsEventAt : Outcome → Site → Type 0

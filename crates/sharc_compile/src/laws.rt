@@ -8,9 +8,9 @@ ghost use Rattle.sharc_compile.specs.Program.{ProgramCodeFollows};
 ghost use Rattle.sharc_compile.specs.Runs.{RunsFollowSource};
 ghost use Rattle.sharc_compile.specs.Source.{CodeFollowsSource};
 
+use crate::generated_laws::{paths_law, run_paths_law};
+use sharc_flat::form_laws::paths_are_runs;
 use sharc_flat::laws::{made_asks_the_same, made_is_framed};
-use sharc_flat_form::laws::paths_are_runs;
-use sharc_gen::{paths_law, run_paths_law};
 use sharc_guard::{checked_law, counted_law, framed_law, guarded_law, log_law};
 
 /// The paths of code with consistent results are those of the flat code that it was made of, whichever checks are

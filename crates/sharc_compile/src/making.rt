@@ -2,14 +2,14 @@
 
 ghost use Rattle.std.specs.Prelude.{IfOk};
 ghost use Rattle.sharc_code.specs.Ranges.{NumbersFit};
-ghost use Rattle.sharc_flat_form.specs.Framed.{IsFramed};
-ghost use Rattle.sharc_flat_form.specs.Made.{flat_of};
+ghost use Rattle.sharc_flat.specs.Framed.{IsFramed};
+ghost use Rattle.sharc_flat.specs.Made.{flat_of};
 ghost use Rattle.sharc_guard.specs.Tables.{FlatTablesFit};
 ghost use Rattle.sharc_compile.specs.Made.{IsCodeOf};
 
+use crate::generating::generate;
 use sharc_code::Code;
-use sharc_flat_form::Flat;
-use sharc_gen::generate;
+use sharc_flat::Flat;
 use sharc_guard::{framed_law, guard, tables_law};
 use std::alloc::{AllocError, Global};
 

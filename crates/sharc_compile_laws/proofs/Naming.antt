@@ -1,12 +1,11 @@
 -- The functions of code by their numbers.
 use Rattle.std.proofs.{Common.{◌≡◌, pos, ◌<◌, length, List, sym, ap, ◌∙◌, subst}, lemmas.List.length-map}
 use Rattle.sharc_code.specs.{declared.code.Function.{Function as Row}, Machine.function_of}
-use Rattle.sharc_flat_form.specs.Made.{flat_of}
-use Rattle.sharc_flat.specs.Flattens.{IsMainOf}
+use Rattle.sharc_flat.specs.{Made.flat_of, Flattens.IsMainOf}
 use Rattle.sharc_guard.specs.{Guard.{entered_at, place}, Known.dropped}
 use Rattle.sharc_ctype.specs.Resolved.{function_at}
 use Rattle.sharc_meaning.specs.Runs.{IsNamedAt}
-use Rattle.sharc_gen.specs.{Correct.begins, Generated.program_of}
+use Rattle.sharc_compile.specs.{Correct.begins, Generated.program_of}
 use Rattle.sharc_compile_laws.specs.Names.{CodeHasMain, FunctionsAreNamed}
 use Rattle.sharc_compile_laws.proofs.Telling.{started_at_name}
 

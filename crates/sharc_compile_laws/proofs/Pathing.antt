@@ -4,11 +4,9 @@ use Rattle.sharc_tree.specs.declared.event.SourceEvent.{SourceEvent}
 use Rattle.sharc_mode.specs.Moded.{Assignment}
 use Rattle.sharc_meaning.specs.{Meaning.asks, Runs.{answers_of, by}}
 use Rattle.sharc_code.specs.{declared.code.Code.Code, Machine.Machine}
-use Rattle.sharc_flat_form.specs.declared.flat.Flat.{Flat as FlatCode}
-use Rattle.sharc_flat.specs.{Correct.MayStart, Flattens.Flattens}
+use Rattle.sharc_flat.specs.{declared.flat.Flat.{Flat as FlatCode}, Correct.MayStart, Flattens.Flattens}
 use Rattle.sharc_guard.specs.Correct.{Resolved}
-use Rattle.sharc_gen.specs.{Correct.{begins, IsBeginning}, Generated.program_of}
-use Rattle.sharc_compile.specs.{Made.IsCodeOf, Source.{FollowsSource, IsOverAs}}
+use Rattle.sharc_compile.specs.{Correct.{begins, IsBeginning}, Generated.program_of, Made.IsCodeOf, Source.{FollowsSource, IsOverAs}}
 use Rattle.sharc_compile_laws.specs.Paths.{IsAskedFor, TellsProgram}
 use Rattle.sharc_compile_laws.proofs.Telling.{answers_by, started_at_name, tail_same}
 

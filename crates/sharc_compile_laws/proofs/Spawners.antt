@@ -4,11 +4,11 @@ use Rattle.std.specs.{Prelude.slice_index_or, List.AllByRecursion}
 use Rattle.sharc_code.specs.{declared.code.Function.{Function as Row}, declared.code.PlaceMode.PlaceMode, declared.instr.Width.TheVariants.{Char, Int, Long}, declared.instr.Instr.Instr, declared.instr.Register.Register}
 use Rattle.sharc_code.specs.declared.code.PlaceMode.TheVariants as modes
 use Rattle.sharc_code.specs.declared.instr.Instr.TheVariants as instrs
-use Rattle.sharc_flat_form.specs.{declared.op.Op.Op, declared.op.Spot.Spot, Made.flat_of}
-use Rattle.sharc_flat_form.specs.declared.op.Op.TheVariants as op
+use Rattle.sharc_flat.specs.{declared.op.Op.Op, declared.op.Spot.Spot, Made.flat_of}
+use Rattle.sharc_flat.specs.declared.op.Op.TheVariants as op
 use Rattle.sharc_flat_laws.specs.Tables.{SpawnMeets, IsSpawned, MadeSpawns}
 use Rattle.sharc_guard.specs.{Guard.{check_under, head, own, body, tail, expand, expanded, place}, Known.dropped}
-use Rattle.sharc_gen.specs.Generated.{instr_of}
+use Rattle.sharc_compile.specs.Generated.{instr_of}
 use Rattle.sharc_compile_laws.specs.Started.{SpawnedAreThreads}
 
 -- ---- instructions

@@ -6,11 +6,9 @@ use Rattle.sharc_ctype.specs.Resolved.{function_at, functions_in}
 use Rattle.sharc_mode.specs.Moded.{Assignment}
 use Rattle.sharc_meaning.specs.{Events.{events_of, is_of}, Meaning.asks, Runs.{IsNamedAt, answers_of, by}}
 use Rattle.sharc_code.specs.{declared.code.Code.Code, declared.code.Function.{Function as Row}, declared.code.GlobalCells.GlobalCells, Machine.no_function, Runs.{Said, said_by}, Whole.Erase}
-use Rattle.sharc_flat_form.specs.{declared.flat.Flat.{Flat as FlatCode}, Made.flat_of}
-use Rattle.sharc_flat.specs.{Flattened.{function_code, rows_of}, Flattens.{names_of, Flattens}, Laid.AreNamed, Tables.globals_of}
+use Rattle.sharc_flat.specs.{declared.flat.Flat.{Flat as FlatCode}, Made.flat_of, Flattened.{function_code, rows_of}, Flattens.{names_of, Flattens}, Laid.AreNamed, Tables.globals_of}
 use Rattle.sharc_guard.specs.{Guard.{entered_at, place}, Known.dropped}
-use Rattle.sharc_gen.specs.{Correct.begins, Generated.program_of, OfRuns.told_in}
-use Rattle.sharc_compile.specs.{Made.IsCodeOf, Runs.RunsFollowSource, Source.FollowsSource}
+use Rattle.sharc_compile.specs.{Correct.begins, Generated.program_of, OfRuns.told_in, Made.IsCodeOf, Runs.RunsFollowSource, Source.FollowsSource}
 use Rattle.sharc_compile_laws.specs.Threads.{TellsIn, ThreadsTell}
 use Rattle.sharc_lemmas.proofs.Lists.{reverse_cons}
 

@@ -5,8 +5,7 @@ use Rattle.sharc_ctype.specs.Resolved.{function_at}
 use Rattle.sharc_mode.specs.Moded.{Assignment}
 use Rattle.sharc_meaning.specs.Runs.{IsNamedAt}
 use Rattle.sharc_code.specs.{declared.code.Code.Code, Machine.function_of}
-use Rattle.sharc_flat_form.specs.declared.flat.Flat.{Flat as FlatCode}
-use Rattle.sharc_flat.specs.Flattens.{Flattens, IsMainOf}
+use Rattle.sharc_flat.specs.{declared.flat.Flat.{Flat as FlatCode}, Flattens.{Flattens, IsMainOf}}
 use Rattle.sharc_compile.specs.Made.{IsCodeOf}
 
 -- the function that a thread of the code begins with is that of this number in the source

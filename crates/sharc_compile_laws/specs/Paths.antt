@@ -8,12 +8,11 @@ use Rattle.sharc_meaning.specs.{Meaning.asks, Runs.{IsNamedAt, answers_of, by}, 
 use Rattle.sharc_code.specs.{declared.code.Code.Code, declared.shape.Shape.Shape, Machine.Machine, Paced.paced_in}
 use Rattle.sharc_code.specs.{Path.{begun, machine_after, CodePath}, Runs.{Turn, turns_of, said_by}}
 use Rattle.sharc_code.specs.Whole.{CheckedRun, Erase, place_after}
-use Rattle.sharc_flat_form.specs.{declared.flat.Flat.{Flat as FlatCode}, Made.flat_of}
-use Rattle.sharc_flat.specs.{Correct.MayStart, Flattens.Flattens, Laws.FitsMade}
+use Rattle.sharc_flat.specs.{declared.flat.Flat.{Flat as FlatCode}, Made.flat_of, Correct.MayStart, Flattens.Flattens}
+use Rattle.sharc_flat.specs.Laws.{FitsMade}
 use Rattle.sharc_guard.specs.Correct.{Resolved}
-use Rattle.sharc_gen.specs.{Consistent.{Elements, said_in, IsConsistent}, Correct.IsBeginning, Lowered.lowered_in}
-use Rattle.sharc_gen.specs.OfRuns.{elements_before, founds_of, told_in}
-use Rattle.sharc_compile.specs.{Made.IsCodeOf, Source.IsOverAs}
+use Rattle.sharc_compile.specs.{Consistent.{Elements, said_in, IsConsistent}, Correct.IsBeginning, Lowered.lowered_in}
+use Rattle.sharc_compile.specs.{OfRuns.{elements_before, founds_of, told_in}, Made.IsCodeOf, Source.IsOverAs}
 use Rattle.sharc_flat_laws.specs.Typed.{IsTypedProgram}
 
 -- The thread has reported exactly these events after its Started. With some fuel the program asks for just them, by

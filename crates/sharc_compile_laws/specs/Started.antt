@@ -5,8 +5,7 @@ use Rattle.sharc_ctype.specs.{Reaches.Spawns, Resolved.IsResolved}
 use Rattle.sharc_mode.specs.Moded.{Assignment}
 use Rattle.sharc_code.specs.{declared.code.Code.Code, declared.instr.Instr.TheVariants.Spawn}
 use Rattle.sharc_code.specs.{declared.instr.Register.Register, Machine.instr_at}
-use Rattle.sharc_flat_form.specs.declared.flat.Flat.{Flat as FlatCode}
-use Rattle.sharc_flat.specs.{Correct.MayStart, Flattens.{Flattens, IsMainOf}}
+use Rattle.sharc_flat.specs.{declared.flat.Flat.{Flat as FlatCode}, Correct.MayStart, Flattens.{Flattens, IsMainOf}}
 use Rattle.sharc_compile.specs.Made.{IsCodeOf}
 
 abbrev pub HasThread : Assignment → ℕ → Type 0

@@ -7,10 +7,9 @@ use Rattle.sharc_mode.specs.Moded.{Assignment}
 use Rattle.sharc_meaning.specs.{Events.{Stands, events_of}, Meaning.asks, Runs.{IsNamedAt, answers_of, by}}
 use Rattle.sharc_code.specs.{declared.code.Code.Code, declared.shape.Shape.Shape, Path.begun, Runs.{Turn, turns_of}}
 use Rattle.sharc_code.specs.Whole.{CheckedRun, Erase}
-use Rattle.sharc_flat_form.specs.{declared.flat.Flat.{Flat as FlatCode}, Made.flat_of}
-use Rattle.sharc_flat.specs.{Correct.{MayStart, ProgramSuits}, Flattens.Flattens, Laws.FitsMade}
-use Rattle.sharc_gen.specs.{Consistent.IsConsistent, OfRuns.{elements_before, founds_of, told_in}}
-use Rattle.sharc_compile.specs.Made.{IsCodeOf}
+use Rattle.sharc_flat.specs.{declared.flat.Flat.{Flat as FlatCode}, Made.flat_of, Correct.{MayStart, ProgramSuits}}
+use Rattle.sharc_flat.specs.{Flattens.Flattens, Laws.FitsMade}
+use Rattle.sharc_compile.specs.{Consistent.IsConsistent, OfRuns.{elements_before, founds_of, told_in}, Made.IsCodeOf}
 
 -- It begins with the Started of a function, at the name of that; and with some fuel the program asks for exactly the
 -- events after it, if the function may be started. Nothing is said of who started it.

@@ -3,12 +3,10 @@ use Rattle.std.specs.Prelude.{ℕ, ◌⊎◌, List, length}
 use Rattle.sharc_mode.specs.Moded.{Assignment}
 use Rattle.sharc_code.specs.{declared.code.Code.Code, declared.shape.Shape.Shape, Paced.paced_in}
 use Rattle.sharc_code.specs.Path.{begun, machine_after, CodePath}
-use Rattle.sharc_flat_form.specs.{declared.flat.Flat.{Flat as FlatCode}, Made.flat_of}
-use Rattle.sharc_flat.specs.{Flattens.Flattens, Laws.FitsMade}
+use Rattle.sharc_flat.specs.{declared.flat.Flat.{Flat as FlatCode}, Made.flat_of, Flattens.Flattens, Laws.FitsMade}
 use Rattle.sharc_flat_laws.specs.Typed.{IsTypedProgram}
-use Rattle.sharc_gen.specs.{Consistent.{Elements, said_in, IsConsistent}, Correct.IsBeginning, Generated.program_of}
-use Rattle.sharc_gen.specs.Lowered.{lowered_in}
-use Rattle.sharc_compile.specs.{Held.HoldsWhatIsCounted, Made.IsCodeOf}
+use Rattle.sharc_compile.specs.{Consistent.{Elements, said_in, IsConsistent}, Correct.IsBeginning, Generated.program_of}
+use Rattle.sharc_compile.specs.{Lowered.lowered_in, Held.HoldsWhatIsCounted, Made.IsCodeOf}
 use Rattle.sharc_compile_laws.specs.Threads.{RunsTell}
 
 -- the threads of its runs report what it asks for

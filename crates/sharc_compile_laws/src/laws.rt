@@ -6,10 +6,10 @@ ghost use Rattle.sharc_compile_laws.specs.Started.{SpawnedAreThreads, ThreadsMay
 ghost use Rattle.sharc_compile_laws.specs.Threads.{ThreadsTell};
 ghost use Rattle.sharc_compile_laws.specs.Typed.{TypedCodeCounts, TypedThreadsTell};
 
+use crate::flattened::{made_locks_stand, typed_is_level};
 use sharc_compile::{held_law, program_law, run_law};
 use sharc_ctype_laws::laws::{has_main, one_function_of_name, spawns_threads};
 use sharc_flat_laws::laws::{made_spawns, typed_asks_the_same, typed_is_framed, typed_suits};
-use sharc_guard_laws::laws::{made_locks_stand, typed_is_level};
 
 /// What a thread reports in a checked run of the code of a program, in any interleaving, is what the program asks for
 /// by the answers of these events, after the Started of a function at its name; where the results of the paths of all

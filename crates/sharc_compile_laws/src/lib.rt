@@ -1,3 +1,10 @@
+//! Laws: flattened code is as guarded code asks, and threads report what the program asks for.
+//!
+//! Flattened code is as the laws of guarded code ask: what sharc_guard asks of flat code holds of what sharc_flat says
+//! of a program.
+//!
+//! The layer above may use the laws of src/flattened.rt, stated in specs/Laws.antt.
+//!
 //! Laws of the code of typed programs.
 //!
 //! `threads_tell` says that what the threads of a checked run of the code of a program report is what the program asks
@@ -7,6 +14,7 @@
 //! threads may (specs/Started.antt).
 #![tactic(auto)]
 
+pub mod flattened;
 mod laws;
 
 pub use laws::{

@@ -8,8 +8,8 @@ ghost use Rattle.sharc_cpu.specs.View.{rest_of, machine_of};
 
 use crate::parts::ThreadParts;
 use sharc_code::{Code, FRAMES, Frame, Shape, Stage};
+use sharc_heap::AccessTable;
 use sharc_locks::HeldLog;
-use sharc_shadow::AccessTable;
 use std::alloc::{AllocError, Global};
 
 // The block sizes of an arena have a head each, from two granules to 65,536.

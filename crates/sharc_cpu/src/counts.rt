@@ -1,7 +1,7 @@
 //! The counts of references.
 
 ghost use Rattle.std.specs.Prelude.{◌≡◌, ◌<◌, ◌+◌, ◌^◌, vec_capacity};
-ghost use Rattle.sharc_count.specs.Count.{test_of};
+ghost use Rattle.sharc_heap.specs.Count.{test_of};
 ghost use Rattle.sharc_code.specs.Layout.{IsShape, words_of, count_word};
 ghost use Rattle.sharc_code.specs.Machine.{Asks, ref, set_ref, move_ref, goes, accessed, raise, lower, test, tested};
 ghost use Rattle.sharc_cpu.specs.View.{machine_of, Makes, KeepsPort};
@@ -20,7 +20,7 @@ fn tested(at: At, parts: &mut ThreadParts, site: u32, count: u64) -> At
     ensures turn { machine_of result parts.new ≡ tested (machine_of at parts.old) site count }
     ensures room { vec_capacity parts.new.prints ≡ vec_capacity parts.old.prints }
 {
-    if sharc_count::sole(count) {
+    if sharc_heap::count::sole(count) {
         next(at)
     } else {
         stopped(at, parts, Stop::NotSole(site, count))
@@ -51,7 +51,7 @@ pub(crate) fn raise<P: Port>(
     if header == 0 {
         return local(next(at));
     }
-    let found = ask(port, sharc_count::raise(shape.count_word(header)));
+    let found = ask(port, sharc_heap::count::raise(shape.count_word(header)));
     Done {
         at: next(at),
         found,
@@ -82,7 +82,7 @@ pub(crate) fn raise_loaded<P: Port>(
     if header == 0 {
         return local(next(at));
     }
-    let found = ask(port, sharc_count::raise(shape.count_word(header)));
+    let found = ask(port, sharc_heap::count::raise(shape.count_word(header)));
     Done {
         at: next(at),
         found,
@@ -112,7 +112,7 @@ pub(crate) fn lower<P: Port>(
     if header == 0 {
         return local(next(at));
     }
-    let found = ask(port, sharc_count::lower(shape.count_word(header)));
+    let found = ask(port, sharc_heap::count::lower(shape.count_word(header)));
     Done {
         at: next(at),
         found,
@@ -144,7 +144,7 @@ pub(crate) fn take_local<P: Port>(
     if header == 0 {
         return local(next(at));
     }
-    let found = ask(port, sharc_count::test(shape.count_word(header)));
+    let found = ask(port, sharc_heap::count::test(shape.count_word(header)));
     Done {
         at: next(at),
         found,
@@ -171,7 +171,7 @@ pub(crate) fn test_sole<P: Port>(
     ensures room { vec_capacity parts.new.prints ≡ vec_capacity parts.old.prints }
 {
     let word = shape.count_word(parts.reference(at, register));
-    let found = ask(port, sharc_count::test(word));
+    let found = ask(port, sharc_heap::count::test(word));
     let at = tested(at, parts, site, found);
     Done { at, found }
 }
@@ -195,7 +195,7 @@ pub(crate) fn give<P: Port>(
     ensures room { vec_capacity parts.new.prints ≡ vec_capacity parts.old.prints }
 {
     let word = shape.count_word(parts.reference(at, register));
-    let found = ask(port, sharc_count::test(word));
+    let found = ask(port, sharc_heap::count::test(word));
     Done {
         at: next(at),
         found,

@@ -4,7 +4,7 @@ ghost use Rattle.std.specs.Prelude.{◌≡◌, ◌<◌, ◌+◌, ◌^◌, ◌==�
 ghost use Rattle.sharc_word.specs.declared.step.WordOp.TheVariants as ops;
 ghost use Rattle.sharc_word.specs.declared.step.TheConstants.{THREADS as threads};
 ghost use Rattle.sharc_code.specs.Layout.{IsShape, words_of};
-ghost use Rattle.sharc_cond.specs.Waiters.{without_lowest};
+ghost use Rattle.sharc_locks.specs.Waiters.{without_lowest};
 ghost use Rattle.sharc_code.specs.Machine.{Asks, step_of, word, goes, taken, locked, unlocked, rests, woken, wakes};
 ghost use Rattle.sharc_code.specs.Machine.{signal};
 ghost use Rattle.sharc_cpu.specs.View.{rest_of, machine_of, IsWithin, Makes, KeepsPort};
@@ -71,7 +71,7 @@ fn woken(at: At, parts: &ThreadParts, found: u64) -> At
     requires place { at.pc + 1 < 2 ^ 64 }
     ensures { machine_of result parts.now ≡ woken (machine_of at parts.now) found }
 {
-    if sharc_cond::waits(found, parts.number) {
+    if sharc_locks::waiters::waits(found, parts.number) {
         tries(at)
     } else {
         next(at)
@@ -95,7 +95,7 @@ fn wakes(at: At, parts: &mut ThreadParts, found: u64) -> At
 fn without_lowest(waiters: u64) -> u64
     ensures { result ≡ without_lowest waiters }
 {
-    match sharc_cond::wake(waiters) {
+    match sharc_locks::waiters::wake(waiters) {
         Some((_, others)) => others,
         None => 0,
     }
@@ -199,7 +199,7 @@ pub(crate) fn enter<P: Port>(
     ensures room { vec_capacity parts.new.prints ≡ vec_capacity parts.old.prints }
 {
     let word = word(shape, at, parts, cell);
-    let op = sharc_cond::enter(parts.number);
+    let op = sharc_locks::waiters::enter(parts.number);
     let found = ask(port, WordStep { word, op });
     Done {
         at: next(at),

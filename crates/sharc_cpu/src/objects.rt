@@ -2,8 +2,8 @@
 
 ghost use Rattle.std.specs.Prelude.{◌≡◌, ◌<◌, ◌≤◌, ◌+◌, ◌*◌, ◌^◌, max, slice_index, vec_capacity};
 ghost use Rattle.sharc_word.specs.declared.step.WordOp.TheVariants as ops;
-ghost use Rattle.sharc_granule.specs.State.{begun, told, turn_of};
-ghost use Rattle.sharc_granule.specs.Block.{block_of};
+ghost use Rattle.sharc_heap.specs.State.{begun, told, turn_of};
+ghost use Rattle.sharc_heap.specs.Block.{block_of};
 ghost use Rattle.sharc_code.specs.Layout.{IsShape, granules, first_cell, granule_at, words_of, shadow_word, cell_word};
 ghost use Rattle.sharc_code.specs.Layout.{cell_of};
 ghost use Rattle.sharc_code.specs.Machine.{size_of, elements_of, all_cells, made, goes_on_new, asks_new, new};
@@ -16,8 +16,7 @@ use crate::parts::ThreadParts;
 use crate::places::{Done, after_step, local};
 use crate::turns::{at_stage, field_of, rests, trapped};
 use sharc_code::{At, Code, Layout, Shape, Stage, cell_of};
-use sharc_granule::{NewState, NewTurn, block};
-use sharc_shadow::cleared;
+use sharc_heap::{NewState, NewTurn, block, cleared};
 use sharc_tree::trap::Trap;
 use sharc_word::{Port, WordOp};
 
@@ -393,7 +392,7 @@ pub(crate) fn free<P: Port>(
             after_step(emptied(at, parts, layout, i, elements, found), found)
         }
         Stage::Lowers(i, elements, of) => {
-            let found = ask(port, sharc_count::lower(shape.count_word(of)));
+            let found = ask(port, sharc_heap::count::lower(shape.count_word(of)));
             after_step(empties_on(at, parts, layout, i, elements), found)
         }
         Stage::FreeLooks(done, elements) => {

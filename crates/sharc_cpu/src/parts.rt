@@ -1,8 +1,8 @@
 //! What a thread has for itself beside its place.
 
 use sharc_code::{At, Frame, Print, Stage, Stop};
+use sharc_heap::AccessTable;
 use sharc_locks::HeldLog;
-use sharc_shadow::AccessTable;
 
 /// Both banks of registers, the reference that was loaded last, the callers' frames, and what a thread notes.
 #[derive(Drop)]

@@ -3,8 +3,8 @@
 use crate::begin::begun;
 use crate::parts::ThreadParts;
 use crate::waits::wait_of;
-use sharc_code::{At, Code, Print, Shape, Stage, TurnState, Stop, Wait, fits_law};
-use sharc_shadow::Kind;
+use sharc_code::{At, Code, Print, Shape, Stage, Stop, TurnState, Wait, fits_law};
+use sharc_heap::Kind;
 use std::alloc::{AllocError, Global};
 use std::marker::Model;
 
@@ -35,7 +35,7 @@ impl Model for Thread {
 impl Thread {
     ghost use Rattle.std.specs.Prelude.{◌≡◌, ◌≤◌, ◌<◌, length, IfOk, OnOk};
     ghost use Rattle.sharc_word.specs.declared.step.TheConstants.{THREADS as threads};
-    ghost use Rattle.sharc_shadow.specs.Accesses.{note_of, site_at};
+    ghost use Rattle.sharc_heap.specs.Accesses.{note_of, site_at};
     ghost use Rattle.sharc_code.specs.Layout.{Fits};
     ghost use Rattle.sharc_code.specs.Machine.{int, ref};
     ghost use Rattle.sharc_code.specs.Path.{begun};

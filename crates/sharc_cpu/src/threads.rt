@@ -20,7 +20,7 @@ use sharc_code::{
     At, Code, NEXT_THREAD, PRINTS, Parameter, Register, Shape, Stage, argument_word, function_word,
     state_word,
 };
-use sharc_shadow::withdrawn;
+use sharc_heap::withdrawn;
 use sharc_tree::trap::Trap;
 use sharc_word::{Port, THREADS, WordOp};
 
@@ -125,7 +125,14 @@ fn set_parameter(at: At, parts: &mut ThreadParts, parameter: Parameter, argument
 }
 
 // The call of the thread's function.
-fn entered(code: &Code, at: At, parts: &mut ThreadParts, function: u64, site: u32, argument: u64) -> At
+fn entered(
+    code: &Code,
+    at: At,
+    parts: &mut ThreadParts,
+    function: u64,
+    site: u32,
+    argument: u64,
+) -> At
     requires place { at.pc + 1 < 2 ^ 64 }
     ensures turn { machine_of result parts.new ≡ entered code.now (machine_of at parts.old) function site argument }
     ensures room { vec_capacity parts.new.prints ≡ vec_capacity parts.old.prints }
@@ -391,7 +398,12 @@ pub(crate) fn exit<P: Port>(shape: Shape, at: At, parts: &mut ThreadParts, port:
 
 /// The same, where the thread is. It is not in line, so that the loop over turns stays small.
 #[inline(never)]
-pub(crate) fn leave<P: Port>(shape: Shape, at: &mut At, parts: &mut ThreadParts, port: &mut P) -> u64
+pub(crate) fn leave<P: Port>(
+    shape: Shape,
+    at: &mut At,
+    parts: &mut ThreadParts,
+    port: &mut P,
+) -> u64
     requires shape { IsShape shape }
     requires within { IsWithin shape (rest_of parts.old).own }
     requires words { P.count port.old ≡ words_of shape }

@@ -9,7 +9,7 @@ ghost use Rattle.sharc_cpu.specs.View.{machine_of};
 use crate::arithmetic::{complement, int_of, negated, same};
 use crate::parts::ThreadParts;
 use crate::places::{jumps, next, stays, stops};
-use sharc_code::{At, Code, Frame, Stage, TurnState, Stop, Width};
+use sharc_code::{At, Code, Frame, Stage, Stop, TurnState, Width};
 use sharc_tree::trap::Trap;
 
 /// Stops.
@@ -55,7 +55,14 @@ pub(crate) fn keep(
 
 /// To the first integer register, the negative of the second in this width.
 #[inline(always)]
-pub(crate) fn negates(at: At, parts: &mut ThreadParts, width: Width, to: u32, from: u32, site: u32) -> At
+pub(crate) fn negates(
+    at: At,
+    parts: &mut ThreadParts,
+    width: Width,
+    to: u32,
+    from: u32,
+    site: u32,
+) -> At
     requires place { at.pc + 1 < 2 ^ 64 }
     ensures turn { machine_of result parts.new
         ≡ with_result (machine_of at parts.old) to site (negated width (int (machine_of at parts.old) from)) }
@@ -125,7 +132,14 @@ fn has_room(at: At, parts: &ThreadParts, ints: u32, refs: u32) -> bool
 
 /// To this place, with frames that begin at these registers.
 #[inline(always)]
-pub(crate) fn called(at: At, parts: &mut ThreadParts, pc: u32, ints: u32, refs: u32, site: u32) -> At
+pub(crate) fn called(
+    at: At,
+    parts: &mut ThreadParts,
+    pc: u32,
+    ints: u32,
+    refs: u32,
+    site: u32,
+) -> At
     requires place { at.pc + 1 < 2 ^ 64 }
     ensures turn { machine_of result parts.new ≡ called (machine_of at parts.old) pc ints refs site }
     ensures room { vec_capacity parts.new.prints ≡ vec_capacity parts.old.prints }

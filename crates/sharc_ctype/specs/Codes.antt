@@ -5,7 +5,8 @@ use base.Stored.{Gv, gnil, gnum, gcons}
 use mathlib.Core.Path.{ap, subst, sym}
 use Rattle.sharc_tree.specs.{declared.token.Site.Site, declared.token.Span.Span}
 use Rattle.sharc_tree.specs.declared.tree.declaration.Identifier.{Identifier}
-use Rattle.sharc_tree.specs.{declared.tree.declaration.WrittenType.WrittenType, declared.tree.expression.FieldOperator.FieldOperator}
+use Rattle.sharc_tree.specs.{declared.tree.declaration.WrittenType.WrittenType}
+use Rattle.sharc_tree.specs.{declared.tree.expression.FieldOperator.FieldOperator}
 use Rattle.sharc_tree.specs.declared.tree.expression.BinaryOperator.{BinaryOperator}
 use Rattle.sharc_tree.specs.declared.tree.expression.UnaryOperator.{UnaryOperator}
 use Rattle.sharc_tree.specs.{declared.tree.expression.PlaceCall.PlaceCall, declared.tree.expression.ValueCall.ValueCall}

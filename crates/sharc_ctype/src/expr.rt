@@ -22,7 +22,8 @@ ghost use Rattle.sharc_ctype.specs.Expressions.{notes_of_all};
 
 use sharc_names::fault::{FaultCode, Found};
 use sharc_names::kind::{
-    ExpressionKind, common, comparable, declared_kind, element_kind, is_pointer, promoted, same_kind,
+    ExpressionKind, common, comparable, declared_kind, element_kind, is_pointer, promoted,
+    same_kind,
 };
 use sharc_names::meaning::{
     Binding, Meaning, is_function, is_main, named_of, parameters_of, result_of,
@@ -36,7 +37,8 @@ use sharc_names::types::{
 use sharc_names::wanted::{Wanted, count_of, first_wanted, rest_wanted};
 use sharc_tree::token::{NumberType, Span};
 use sharc_tree::tree::{
-    FieldOperator, BinaryOperator, Constant, Expr, Identifier, PlaceCall, UnaryOperator, WrittenType,
+    BinaryOperator, Constant, Expr, FieldOperator, Identifier, PlaceCall, UnaryOperator,
+    WrittenType,
 };
 
 /// What an expression stands for.
@@ -105,7 +107,11 @@ fn may_join(class: OperatorClass, a: ExpressionKind<'_>, b: ExpressionKind<'_>) 
     }
 }
 
-pub(crate) fn binary_result<'a>(class: OperatorClass, a: ExpressionKind<'_>, b: ExpressionKind<'_>) -> ExpressionKind<'a>
+pub(crate) fn binary_result<'a>(
+    class: OperatorClass,
+    a: ExpressionKind<'_>,
+    b: ExpressionKind<'_>,
+) -> ExpressionKind<'a>
     ensures { view_kind result ≡ binary_result class (view_kind a.entry) (view_kind b.entry) }
 {
     match class {
@@ -161,7 +167,10 @@ pub(crate) fn unary_result(operator: UnaryOperator, kind: ExpressionKind<'_>) ->
     }
 }
 
-fn unary_kind(operator: UnaryOperator, kind: Option<ExpressionKind<'_>>) -> Option<ExpressionKind<'_>>
+fn unary_kind(
+    operator: UnaryOperator,
+    kind: Option<ExpressionKind<'_>>,
+) -> Option<ExpressionKind<'_>>
     ensures { view_kinds result ≡ unary_kind operator (view_kinds kind.entry) }
 {
     match kind {
@@ -170,7 +179,10 @@ fn unary_kind(operator: UnaryOperator, kind: Option<ExpressionKind<'_>>) -> Opti
     }
 }
 
-fn element_of<'a>(base: Option<ExpressionKind<'a>>, index: Option<ExpressionKind<'_>>) -> Option<ExpressionKind<'a>>
+fn element_of<'a>(
+    base: Option<ExpressionKind<'a>>,
+    index: Option<ExpressionKind<'_>>,
+) -> Option<ExpressionKind<'a>>
     ensures { view_kinds result ≡ element_of (view_kinds base.entry) (view_kinds index.entry) }
 {
     match (base, index) {
@@ -357,7 +369,13 @@ fn argument_count(
 }
 
 /// The faults of a call's name, with this many arguments.
-fn callee(standing: Standing, token: u32, count: usize, bound: Option<Binding<'_>>, found: &mut Found)
+fn callee(
+    standing: Standing,
+    token: u32,
+    count: usize,
+    bound: Option<Binding<'_>>,
+    found: &mut Found,
+)
     ensures { found.new ≡ fold noted found.old (callee_notes standing token count (view_bounds bound.entry)) }
 {
     match bound {
@@ -438,7 +456,11 @@ fn may_spawn(bound: Option<Binding<'_>>) -> bool
     }
 }
 
-fn spawn_kind<'a>(well: bool, fine: bool, kind: Option<ExpressionKind<'_>>) -> Option<ExpressionKind<'a>>
+fn spawn_kind<'a>(
+    well: bool,
+    fine: bool,
+    kind: Option<ExpressionKind<'_>>,
+) -> Option<ExpressionKind<'a>>
     ensures { view_kinds result ≡ spawn_kind well fine (view_kinds kind.entry) }
 {
     match kind {
@@ -466,7 +488,11 @@ fn call_kind(kind: Option<ExpressionKind<'_>>, fine: bool) -> Option<ExpressionK
 }
 
 /// The type of what a name names, and the faults of its use.
-fn name_of<'a>(scope: &Scope<'a>, name: &Identifier, found: &mut Found) -> Option<ExpressionKind<'a>>
+fn name_of<'a>(
+    scope: &Scope<'a>,
+    name: &Identifier,
+    found: &mut Found,
+) -> Option<ExpressionKind<'a>>
     ensures kind { view_kinds result ≡ name_kind (look_up scope.now.names name.now.text) }
     ensures found { found.new ≡ fold noted found.old
         (name_notes name.now.site.token (look_up scope.now.names name.now.text)) }
@@ -545,7 +571,11 @@ pub(crate) fn met<'a>(
 
 /// The type of an lvalue; takes note of its faults, and where it is not one.
 #[cycle(expr)]
-pub(crate) fn lvalue<'a>(scope: &Scope<'a>, expr: &'a Expr, found: &mut Found) -> Option<ExpressionKind<'a>>
+pub(crate) fn lvalue<'a>(
+    scope: &Scope<'a>,
+    expr: &'a Expr,
+    found: &mut Found,
+) -> Option<ExpressionKind<'a>>
     ensures kind { let e = view_expr expr.now in
         view_kinds result ≡ place_kind scope.now.names e (type_of scope.now e) }
     ensures found { let e = view_expr expr.now in

@@ -106,7 +106,12 @@ fn is_made(want: Option<ExpressionKind<'_>>, written: &WrittenType) -> bool
 }
 
 /// The faults of the right side of `=`.
-fn right<'a>(scope: &Scope<'a>, want: Option<ExpressionKind<'_>>, right: &'a Right, found: &mut Found)
+fn right<'a>(
+    scope: &Scope<'a>,
+    want: Option<ExpressionKind<'_>>,
+    right: &'a Right,
+    found: &mut Found,
+)
     ensures { found.new ≡ fold noted found.old (right_notes scope.now (view_kinds want.entry) (view_right right.now)) }
 {
     match right {

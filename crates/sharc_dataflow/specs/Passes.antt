@@ -1,7 +1,8 @@
 -- Two passes over the steps of code, for one variable: back over them for what holds at the end of a loop's turn, then
 -- forward for the warnings. It retraces the code.
 use Rattle.std.specs.Prelude.{ℕ, List, [], ◌∷◌, ◌++◌, Option, None, nat_eq}
-use Rattle.sharc_dataflow.specs.{declared.step.Step.Step, declared.way.Ways.Ways, declared.way.StandingNullings.StandingNullings}
+use Rattle.sharc_dataflow.specs.{declared.step.Step.Step, declared.way.Ways.Ways}
+use Rattle.sharc_dataflow.specs.{declared.way.StandingNullings.StandingNullings}
 use Rattle.sharc_dataflow.specs.{declared.way.FlowWarning.FlowWarning, Flow.{Broken, Continued, Ends}}
 use Rattle.sharc_dataflow.specs.Code.{Code, goes_to, acts, first_then, one_of, catches, repeats}
 use Rattle.sharc_dataflow.specs.Sums.{lower, behind, free, only, goes_of, then_of, either_of, caught_of, loop_of}

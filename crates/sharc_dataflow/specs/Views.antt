@@ -1,6 +1,7 @@
 -- What the code's values stand for.
 use Rattle.std.specs.Prelude.{List, map}
-use Rattle.sharc_dataflow.specs.{declared.back.Sums.Sums, declared.forth.Tells.Tells, declared.narrow.CodePiece.CodePiece}
+use Rattle.sharc_dataflow.specs.{declared.back.Sums.Sums, declared.forth.Tells.Tells}
+use Rattle.sharc_dataflow.specs.{declared.narrow.CodePiece.CodePiece}
 use Rattle.sharc_dataflow.specs.{declared.narrow.Narrowing.Narrowing, Passes.{Summing, summing, Telling, telling}}
 use Rattle.sharc_dataflow.specs.Narrow.{Kept, kept, AllKept, all_kept}
 

@@ -237,7 +237,12 @@ impl Narrowing {
     }
 
     /// Goes on over a step.
-    fn step(self, alloc: Global, variables: VariableRange, step: Step) -> Result<Narrowing, AllocError>
+    fn step(
+        self,
+        alloc: Global,
+        variables: VariableRange,
+        step: Step,
+    ) -> Result<Narrowing, AllocError>
         ensures { IfOk result (λ n. view_narrowing n
             ≡ narrows variables.first variables.last step (view_narrowing self)) }
     {

@@ -12,10 +12,9 @@ use Rattle.sharc_code.specs.declared.code.PlaceMode.TheVariants as places
 use Rattle.sharc_ctype.specs.Resolved.{named_at}
 use Rattle.sharc_mode.specs.{Cells.is_behind_pointer, Moded.Assignment, Sharings.{Lock, Sharing, private, readonly, locked, racy, dynamic}}
 use Rattle.sharc_meaning.specs.{declared.given.GivenUp.GivenUp, Cells.{cell_of, through, guard_named, guard_beside, guard_by, mutex_named, field_place, field_place_behind, behind}, Places.{guarding, access_mode}, Reference.{is_null, number_of}, State.{State, stopped, Run, then_on, ◌>>◌, give, unless_stop, happens, answered, answer_of, event_of, value_in, value_of, pointers_among}}
-use Rattle.sharc_flat_form.specs.{declared.op.Op.Op, declared.op.Spot.Spot, Machine.{At, asks, halts, cell_at, accessed, next as on, op_turn, first_cell}}
-use Rattle.sharc_flat_form.specs.declared.op.Op.TheVariants as op
+use Rattle.sharc_flat.specs.{declared.op.Op.Op, declared.op.Spot.Spot, Machine.{At, asks, halts, cell_at, accessed, next as on, op_turn, first_cell}, declared.slot.Lvalue.Lvalue, Scope.{Context, ref_count, register_of, number_in, slot_kind}, declared.slot.Slot.Slot, Places.{Target, guard_field, beside_field, place_mode, mode_named, mode_beside, guard_code, guard_cell, field_of, spot_of}, Suits.{PathNamed, PathStands}}
+use Rattle.sharc_flat.specs.declared.op.Op.TheVariants as op
 use Rattle.sharc_flat.proofs.{Under.{under, under_lock, mutex_of, accesses_under}, Runs.{HasAt, Fin, fin_of, fin_then, Same, weaken, Holds, ends, bind, asks_at, after_event}, Agreeing.{PointerAt, pointer_at, Standing, place, Agree, below, holding, refs_length, same_frame}}
-use Rattle.sharc_flat.specs.{declared.slot.Lvalue.Lvalue, Scope.{Context, ref_count, register_of, number_in, slot_kind}, declared.slot.Slot.Slot, Places.{Target, guard_field, beside_field, place_mode, mode_named, mode_beside, guard_code, guard_cell, field_of, spot_of}, Suits.{PathNamed, PathStands}}
 use Rattle.sharc_flat.specs.Places as places_of
 
 -- with what was read for a lock

@@ -4,8 +4,7 @@ use Rattle.std.specs.Prelude.{ℤ, pos, flat_map, reverse, set, ◌==◌, if◌t
 use Rattle.sharc_code.specs.declared.instr.Register.TheVariants.{Int, Reference}
 use Rattle.sharc_names.specs.Kinds.{Kind, is_integer}
 use Rattle.sharc_meaning.specs.{declared.variable.Variable.Variable, State.{Frame, State, is_reference, value_in, with_value, pointers_among, held_by_frame, with_temporary}}
-use Rattle.sharc_flat_form.specs.Machine.{Flat, Caller, At, put}
-use Rattle.sharc_flat.specs.{Scope.{int_count, ref_count, register_from, slot_kind}, declared.slot.Slot.Slot}
+use Rattle.sharc_flat.specs.{Machine.{Flat, Caller, At, put}, Scope.{int_count, ref_count, register_from, slot_kind}, declared.slot.Slot.Slot}
 use Rattle.sharc_flat.proofs.{Banks.{Bank, bank_is, bank_pop, bank_push, bank_at, put_other}, Runs.{Same, Holds, Fin}}
 
 abbrev pub slot_in : Variable → Slot

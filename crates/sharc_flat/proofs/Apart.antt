@@ -4,8 +4,7 @@ use Rattle.std.specs.Prelude.{slice_index_or}
 use Rattle.sharc_tree.specs.declared.tree.item.GlobalDefinition.{GlobalDefinition}
 use Rattle.sharc_code.specs.Says.{no_global}
 use Rattle.sharc_ctype.specs.Resolved.{Resolution, globals_in}
-use Rattle.sharc_flat_form.specs.Framed.{IsInGlobal}
-use Rattle.sharc_flat.specs.{Laws.GlobalsLieApart, Tables.{cells_in, granules_in, globals_from}}
+use Rattle.sharc_flat.specs.{Framed.IsInGlobal, Laws.GlobalsLieApart, Tables.{cells_in, granules_in, globals_from}}
 use Rattle.sharc_lemmas.proofs.Numbers.{half}
 
 -- the cells of a global lie after the first

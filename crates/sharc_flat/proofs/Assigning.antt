@@ -6,9 +6,8 @@ use Rattle.sharc_names.specs.Kinds.{Kind, is_integer, is_pointer}
 use Rattle.sharc_code.specs.{declared.instr.Register.Register, declared.instr.Register.TheVariants.{Int, Reference}}
 use Rattle.sharc_mode.specs.{Moded.Assignment, Sharings.Sharing}
 use Rattle.sharc_meaning.specs.{declared.given.GivenUp.TheVariants.Released, Places.{StorePlace, variable, stored}, Reference.number_of, State.{State, Run, ◌>>=◌, is_reference, all_released, temporarily, done, gives_up as source_gives_up, drops}}
-use Rattle.sharc_flat_form.specs.{declared.op.Op.Op, declared.op.Spot.Spot, Machine.{goes, put}}
-use Rattle.sharc_flat_form.specs.declared.op.Op.TheVariants as op
-use Rattle.sharc_flat.specs.{declared.slot.Lvalue.Lvalue, Scope.{int_count, ref_count, register_of, slot_kind}, declared.slot.Slot.Slot, Places.{Target, in_global, in_global_at, in_object, in_object_at, has_base, base_width, field_of, guard_field, beside_field, guard_cell, guard_code, spot_of, drop_base, settle_base, settle_code, cell_store_code, store_code, cell_take_code, take_code, target, own_field, global_of, bounds_code, index_code, pointee_code, width_of, base_as_width, width_code, guard_width, index_width}, Suits.{PathStands, is_cell}, Flattened.drop_code}
+use Rattle.sharc_flat.specs.{declared.op.Op.Op, declared.op.Spot.Spot, Machine.{goes, put}, declared.slot.Lvalue.Lvalue, Scope.{int_count, ref_count, register_of, slot_kind}, declared.slot.Slot.Slot, Places.{Target, in_global, in_global_at, in_object, in_object_at, has_base, base_width, field_of, guard_field, beside_field, guard_cell, guard_code, spot_of, drop_base, settle_base, settle_code, cell_store_code, store_code, cell_take_code, take_code, target, own_field, global_of, bounds_code, index_code, pointee_code, width_of, base_as_width, width_code, guard_width, index_width}, Suits.{PathStands, is_cell}, Flattened.drop_code}
+use Rattle.sharc_flat.specs.declared.op.Op.TheVariants as op
 use Rattle.sharc_flat.specs.Places as targets
 use Rattle.sharc_flat.proofs.{Runs.{HasAt, has_front, has_back, Fin, fin_then, Same, weaken, step, bind, without}, Agreeing.{Standing, place, Agree, drop_last, last_is, same_frame, loose_of, Valued}, Accessing.context, Values.{bases_count, BasesOf, RunsAs, Lies, bases_are, PlaceAs, at_cell, temporarily_runs}, Computing.none_end, Executing.Stand, Statements.StepAs, Storing.{store_cell, store_int, store_reference, stores}}
 

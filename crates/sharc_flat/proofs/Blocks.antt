@@ -2,9 +2,8 @@
 use Rattle.std.proofs.{Common.{◌≡◌, ℕ, zero, suc, ◌+◌, Bool, true, false, cond, List, [], ◌∷◌, ◌++◌, length, get_or, take, drop, refl, sym, ap, ◌∙◌, subst, arith, append_assoc, length-append}, lemmas.List.{get_or_append_left, take-map, take-append-drop}}
 use Rattle.std.specs.Prelude.{ℤ, pos}
 use Rattle.sharc_meaning.specs.{State.{State, pointers_among}, declared.variable.Variable.Variable}
-use Rattle.sharc_flat_form.specs.{declared.op.Op.Op, declared.op.Spot.Spot}
-use Rattle.sharc_flat_form.specs.declared.op.Op.TheVariants as op
-use Rattle.sharc_flat.specs.{Scope.{int_count, ref_count, pops, ends_from}, declared.slot.Slot.Slot}
+use Rattle.sharc_flat.specs.{declared.op.Op.Op, declared.op.Spot.Spot, Scope.{int_count, ref_count, pops, ends_from}, declared.slot.Slot.Slot}
+use Rattle.sharc_flat.specs.declared.op.Op.TheVariants as op
 use Rattle.sharc_flat.proofs.{Banks.bank_is, Runs.{HasAt, Fin, Same, without_variables}, Agreeing.{slots_of, int_values, refs_length, ints_length, Standing, place, Agree, below, same_frame, slot_in}, Popping.{AllNull, null_behind, pop_all, popping_under}}
 
 pops_by : (b : Bool) (r : ℕ) (v : ℤ) (rest : List Variable) → ((r : ℕ) → pops r (slots_of rest) ≡ pop_all r (pointers_among rest)) → cond b (op.Pop r ∷ pops (r + 1) (slots_of rest)) (pops r (slots_of rest)) ≡ pop_all r (cond b (v ∷ pointers_among rest) (pointers_among rest))

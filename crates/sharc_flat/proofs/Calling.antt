@@ -4,8 +4,7 @@ use Rattle.std.specs.Prelude.{ℤ, pos}
 use Rattle.sharc_names.specs.Kinds.{Kind, is_integer, is_pointer}
 use Rattle.sharc_mode.specs.Moded.{Assignment}
 use Rattle.sharc_meaning.specs.{State.{State, Run, ◌>>=◌, ◌>>◌, give, is_reference, done, holds_reference, with_temporary, holds}, Expressions.{fitting, passed}}
-use Rattle.sharc_flat_form.specs.declared.op.Op.{Op}
-use Rattle.sharc_flat.specs.{Scope.{int_count, ref_count}, declared.slot.Slot.Slot, Flattened.{passed_code, behind_int, behind_ref}}
+use Rattle.sharc_flat.specs.{declared.op.Op.Op, Scope.{int_count, ref_count}, declared.slot.Slot.Slot, Flattened.{passed_code, behind_int, behind_ref}}
 use Rattle.sharc_flat.proofs.{Runs.{HasAt, has_front, has_back, Fin, fin_then, Same, weaken, bind}, Agreeing.{Standing, place, Agree, hold, loose_of}, Values.RunsAs, Testing.fitting_runs}
 use Rattle.sharc_tree.specs.{Tree.Expression, Spans.span_of}
 use Rattle.sharc_ctype.specs.Resolved.{kind_at}

@@ -5,9 +5,8 @@ use Rattle.sharc_tree.specs.{declared.token.Site.Site, declared.trap.Trap.Trap, 
 use Rattle.sharc_names.specs.Kinds.{Kind}
 use Rattle.sharc_mode.specs.Moded.{Assignment}
 use Rattle.sharc_meaning.specs.{State.{State, Run, ◌>>=◌, ◌>>◌, give, is_reference, all_released, temporarily, done, holds_reference, with_temporary, holds}, Arithmetic.{is_zero, is_equal, truth}, Expressions.{resulting, operand}}
-use Rattle.sharc_flat_form.specs.{declared.op.Op.Op, declared.op.Spot.Spot, Machine.put}
-use Rattle.sharc_flat_form.specs.declared.op.Op.TheVariants as op
-use Rattle.sharc_flat.specs.{Scope.{int_count, ref_count}, declared.slot.Slot.Slot}
+use Rattle.sharc_flat.specs.{declared.op.Op.Op, declared.op.Spot.Spot, Machine.put, Scope.{int_count, ref_count}, declared.slot.Slot.Slot}
+use Rattle.sharc_flat.specs.declared.op.Op.TheVariants as op
 use Rattle.sharc_flat.proofs.{Banks.{put_same, put_other}, Runs.{HasAt, has_front, has_back, Fin, fin_then, Same, weaken, step, bind, without}, Agreeing.{Standing, place, Agree, last_is, hold, with_int, same_frame, loose_of}, Values.{loosen, released, given_place, int_valued, RunsAs, temporarily_runs}, Popping.{popping, pop_all}, Computing.truth_same}
 use Rattle.sharc_code.specs.Arithmetic as code
 use Rattle.sharc_ctype.specs.Resolved.{kind_at}

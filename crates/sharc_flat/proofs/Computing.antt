@@ -6,9 +6,8 @@ use Rattle.sharc_tree.specs.declared.ctype.Base.TheVariants as base
 use Rattle.sharc_names.specs.Kinds.{Kind, object, array, null, function, is_integer, int, long, promoted, is_long}
 use Rattle.sharc_mode.specs.Moded.{Assignment}
 use Rattle.sharc_meaning.specs.{Places.StorePlace, State.{State, Run, ◌>>=◌, ◌>>◌, give, entered, is_reference, temporarily, done, holds_reference, stopped, holds}, Arithmetic.{bits_of, bits_of_base, is_zero, is_equal, truth, operated, in_range, is_held_by, divided, shifted}, Expressions.{resulting, operand}}
-use Rattle.sharc_flat_form.specs.{declared.op.Op.Op, declared.op.Spot.Spot, Machine.{put, op_turn, with_result}}
-use Rattle.sharc_flat_form.specs.declared.op.Op.TheVariants as op
-use Rattle.sharc_flat.specs.{Scope.int_count, declared.slot.Slot.Slot, Places.{Target, width_of, base_as_width}, Flattened.operator_of}
+use Rattle.sharc_flat.specs.{declared.op.Op.Op, declared.op.Spot.Spot, Machine.{put, op_turn, with_result}, Scope.int_count, declared.slot.Slot.Slot, Places.{Target, width_of, base_as_width}, Flattened.operator_of}
+use Rattle.sharc_flat.specs.declared.op.Op.TheVariants as op
 use Rattle.sharc_flat.proofs.{Banks.{put_same, put_other}, Runs.{has_front, has_back, Fin, fin_then, Same, weaken, step, bind, without, enters_at, ends}, Agreeing.{Standing, place, Agree, holding, with_int, same_frame, loose_of, Rest}, Values.{integer_is, loosen, released, given_place, int_valued, RunsAs, RestAt, PlaceAs, temporarily_runs}}
 use Rattle.sharc_tree.specs.declared.trap.Trap.TheVariants as traps
 use Rattle.sharc_code.specs.declared.instr.Width.{Width}

@@ -4,9 +4,8 @@ use Rattle.std.specs.Prelude.{ℤ, slice_get, not}
 use Rattle.sharc_names.specs.Kinds.{Kind}
 use Rattle.sharc_mode.specs.Moded.{Assignment}
 use Rattle.sharc_meaning.specs.{State.{State, Run, ◌>>=◌, give, is_reference}, Arithmetic.{is_zero, truth}}
-use Rattle.sharc_flat_form.specs.{declared.op.Op.Op, Machine.{goes, put, next as on, over_lines}}
-use Rattle.sharc_flat_form.specs.declared.op.Op.TheVariants as op
-use Rattle.sharc_flat.specs.{Scope.{int_count, ref_count}, declared.slot.Slot.Slot}
+use Rattle.sharc_flat.specs.{declared.op.Op.Op, Machine.{goes, put, next as on, over_lines}, Scope.{int_count, ref_count}, declared.slot.Slot.Slot}
+use Rattle.sharc_flat.specs.declared.op.Op.TheVariants as op
 use Rattle.sharc_flat.proofs.{Banks.{put_same, put_other}, Runs.{HasAt, has_front, has_back, Fin, fin_then, Same, weaken, step, bind}, Agreeing.{Standing, place, Agree, with_int, Rest}, Values.{int_valued, RunsAs}, Computing.truth_same, Testing.{TestAs, not_not}}
 use Rattle.sharc_code.specs.Arithmetic as code
 

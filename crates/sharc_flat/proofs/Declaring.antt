@@ -5,9 +5,8 @@ use Rattle.sharc_tree.specs.{declared.token.Site.Site, declared.tree.declaration
 use Rattle.sharc_names.specs.Kinds.{Kind, is_integer, is_pointer, declared_kind}
 use Rattle.sharc_mode.specs.{Moded.Assignment, Sharings.Sharing}
 use Rattle.sharc_meaning.specs.{Places.{variable, stored}, State.{State, Run, ◌>>=◌, ◌>>◌, give, is_reference, pointers_among, writes, begins_with, new_variable}, Statements.{Flow, next, returned, loop}}
-use Rattle.sharc_flat_form.specs.{declared.op.Op.Op, Machine.put}
-use Rattle.sharc_flat_form.specs.declared.op.Op.TheVariants as op
-use Rattle.sharc_flat.specs.{Scope.{int_count, ref_count, register_of, slot_kind, at_site, leaves, slot_of}, declared.slot.Slot.Slot, Places.settle_code, Flattened.{Around, looping, result_code, zero_code, loop_code}}
+use Rattle.sharc_flat.specs.{declared.op.Op.Op, Machine.put, Scope.{int_count, ref_count, register_of, slot_kind, at_site, leaves, slot_of}, declared.slot.Slot.Slot, Places.settle_code, Flattened.{Around, looping, result_code, zero_code, loop_code}}
+use Rattle.sharc_flat.specs.declared.op.Op.TheVariants as op
 use Rattle.sharc_flat.proofs.{Banks.{bank_is, put_at, put_other}, Runs.{HasAt, has_front, has_back, Fin, fin_then, Same, weaken, step, bind}, Agreeing.{slot_in, int_values, ints_length, Standing, place, Agree, below, push, loose_of}, Values.RunsAs, Executing.{Stand, After, Here, Beyond, StatementAs}, Statements.{StepAs, DecidesAs, loop_runs}, Blocks.{pointers_append, ints_append}, Assigning.{assign_variable_runs, settle_length}}
 use Rattle.sharc_lemmas.proofs.Bools.{or_false}
 

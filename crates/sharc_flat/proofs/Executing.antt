@@ -5,9 +5,8 @@ use Rattle.sharc_tree.specs.declared.token.Site.{Site}
 use Rattle.sharc_names.specs.Kinds.{Kind, is_integer}
 use Rattle.sharc_mode.specs.Moded.{Assignment}
 use Rattle.sharc_meaning.specs.{State.{State, Run, entered, is_reference, in_block}, Statements.{Flow, next, broken, continued, returned}}
-use Rattle.sharc_flat_form.specs.{declared.op.Op.Op, declared.op.Spot.Spot}
-use Rattle.sharc_flat_form.specs.declared.op.Op.TheVariants as op
-use Rattle.sharc_flat.specs.{Scope.{ref_count, at_site, ends_from, leaves}, declared.slot.Slot.Slot, Flattened.{Around, result_code, zero_code}}
+use Rattle.sharc_flat.specs.{declared.op.Op.Op, declared.op.Spot.Spot, Scope.{ref_count, at_site, ends_from, leaves}, declared.slot.Slot.Slot, Flattened.{Around, result_code, zero_code}}
+use Rattle.sharc_flat.specs.declared.op.Op.TheVariants as op
 use Rattle.sharc_flat.proofs.{Runs.{HasAt, has_front, has_back, Fin, fin_then, Same, weaken, step, enters_at, without_variables, unblock}, Agreeing.{slot_in, Standing, place, Agree, holding, same_frame, loose_of}, Popping.{AllNull, none_behind}, Blocks.block_ends}
 
 module _ (m : Assignment) (z : Standing) (kind : Kind) (ints0 : ℕ → ℤ) where

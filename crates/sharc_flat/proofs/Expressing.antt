@@ -7,10 +7,9 @@ use Rattle.sharc_names.specs.Kinds.{Kind, null, is_integer, int, long, declared_
 use Rattle.sharc_code.specs.declared.code.Use.TheVariants as uses
 use Rattle.sharc_mode.specs.{Moded.Assignment, Sharings.Sharing}
 use Rattle.sharc_meaning.specs.{Cells.cell_of, Places.{cell, fetched}, State.{State, Run, ◌>>=◌, ◌>>◌, give, happens, answered, answer_of, value_in, is_reference, temporarily, performs, event_of}, Arithmetic.{is_zero, truth}, Expressions.{tested, Calls, value_called}, Reference.constant_value}
-use Rattle.sharc_flat_form.specs.{declared.op.Op.Op, declared.op.Spot.Spot, Machine.{At, is_of_null, asks, put, global_cell, first_cell, accessed, next as on, set_int, set_ref, op_turn}}
-use Rattle.sharc_flat_form.specs.declared.op.Op.TheVariants as op
+use Rattle.sharc_flat.specs.{declared.op.Op.Op, declared.op.Spot.Spot, Machine.{At, is_of_null, asks, put, global_cell, first_cell, accessed, next as on, set_int, set_ref, op_turn}, declared.slot.Lvalue.Lvalue, Scope.{Context, ref_count, at_site}, declared.slot.Slot.Slot, Places.{Target, in_global, in_global_at, in_object, in_object_at, has_base, base_width, field_of, guard_field, beside_field, guard_cell, guard_code, lock_beside, spot_of, drop_base, settle_base, settle_code, cell_value_code, cell_store_code, store_code, cell_take_code, take_code, target, own_field, global_of, bounds_code, index_code, pointee_code, width_of, base_as_width, width_code, guard_width, index_width}, Suits.PathStands, Flattened.{truth_code, IsFlattened, constant_code, value_call_code}}
+use Rattle.sharc_flat.specs.declared.op.Op.TheVariants as op
 use Rattle.sharc_flat.proofs.{Under.{under, mutex_of, accesses_under}, Banks.{put_same, put_other}, Runs.{HasAt, has_front, has_back, Fin, fin_then, Same, weaken, step, bind, without, after_event, asks_at}, Agreeing.{Standing, place, Agree, holding, push, with_int, same_frame, loose_of}, Accessing.{context, pending_place, access_exact}, Values.{integer_is, int_valued, ref_valued, RunsAs, temporarily_runs}, Computing.{truth_same, none_end}, Linking.CallsAs, Storing.performs_then, Calling.ArgumentsAs, Testing.tested_runs}
-use Rattle.sharc_flat.specs.{declared.slot.Lvalue.Lvalue, Scope.{Context, ref_count, at_site}, declared.slot.Slot.Slot, Places.{Target, in_global, in_global_at, in_object, in_object_at, has_base, base_width, field_of, guard_field, beside_field, guard_cell, guard_code, lock_beside, spot_of, drop_base, settle_base, settle_code, cell_value_code, cell_store_code, store_code, cell_take_code, take_code, target, own_field, global_of, bounds_code, index_code, pointee_code, width_of, base_as_width, width_code, guard_width, index_width}, Suits.PathStands, Flattened.{truth_code, IsFlattened, constant_code, value_call_code}}
 use Rattle.sharc_flat.specs.Places as targets
 use Rattle.sharc_code.specs.Arithmetic as code
 use Rattle.sharc_ctype.specs.{Resolved.{kind_at, function_at}, Expressions.{constant_kind, number_kind}}

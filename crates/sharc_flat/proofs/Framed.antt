@@ -9,10 +9,9 @@ use Rattle.sharc_code.specs.declared.instr.Cell.TheVariants as cells
 use Rattle.sharc_code.specs.declared.instr.Register.TheVariants as registers
 use Rattle.sharc_ctype.specs.Resolved.{function_at, functions_in}
 use Rattle.sharc_mode.specs.Moded.{Assignment}
-use Rattle.sharc_flat_form.specs.{declared.op.Op.Op, declared.op.Spot.Spot, Machine.{Flat, function_of}, Framed.{BaseWithin, HandedWithin, HasParameter, OpWrites, InLine, OpLeads, IsFramedAt, IsFramed, IsWide, Leads, IsFlat}}
-use Rattle.sharc_flat_form.specs.declared.op.Op.TheVariants as op
+use Rattle.sharc_flat.specs.{declared.op.Op.Op, declared.op.Spot.Spot, Machine.{Flat, function_of}, Framed.{BaseWithin, HandedWithin, HasParameter, OpWrites, InLine, OpLeads, IsFramedAt, IsFramed, IsWide, Leads, IsFlat}, Laws.FitsFrames, Scope.{int_count, ref_count, slot_of, at_site}, Frames.{int_need, ref_need, base_need, handed_need, ints_in, refs_in}, Flattened.{IsRow, AreRows, IsFlattened, parameter_of, function_code, functions_code, in_function}, Correct.ProgramSuits}
+use Rattle.sharc_flat.specs.declared.op.Op.TheVariants as op
 use Rattle.sharc_code.specs.declared.instr.Width.TheVariants as widths
-use Rattle.sharc_flat.specs.{Laws.FitsFrames, Scope.{int_count, ref_count, slot_of, at_site}, Frames.{int_need, ref_need, base_need, handed_need, ints_in, refs_in}, Flattened.{IsRow, AreRows, IsFlattened, parameter_of, function_code, functions_code, in_function}, Correct.ProgramSuits}
 use Rattle.sharc_flat.proofs.{Declaring.declared_reference, Staying.{Wide, OpStays, Stays}, Keeping.{InLoopsAll, front, front_is, function_keeps}, Knowing.all_loops}
 use Rattle.sharc_lemmas.proofs.Lists.{there_is as inside_list}
 

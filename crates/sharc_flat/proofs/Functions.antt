@@ -5,9 +5,8 @@ use Rattle.sharc_tree.specs.{declared.token.Site.Site, declared.tree.declaration
 use Rattle.sharc_names.specs.Kinds.{Kind, is_integer, is_pointer, declared_kind, declared_kinds}
 use Rattle.sharc_mode.specs.Moded.{Assignment}
 use Rattle.sharc_meaning.specs.{State.{State, Run, ◌>>=◌, ◌>>◌, give, entered, is_reference, pointers_among, ends_variables, new_variable}, Statements.Flow, declared.variable.Variable.Variable, Meaning.{parameters_begin, left_at}}
-use Rattle.sharc_flat_form.specs.{declared.op.Op.Op, declared.op.Spot.Spot, Machine.put}
-use Rattle.sharc_flat_form.specs.declared.op.Op.TheVariants as op
-use Rattle.sharc_flat.specs.{Scope.{int_count, ref_count, at_site, ends_from, slot_of}, declared.slot.Slot.Slot, Flattened.{result_code, zero_code, around_body, parameters_scope}}
+use Rattle.sharc_flat.specs.{declared.op.Op.Op, declared.op.Spot.Spot, Machine.put, Scope.{int_count, ref_count, at_site, ends_from, slot_of}, declared.slot.Slot.Slot, Flattened.{result_code, zero_code, around_body, parameters_scope}}
+use Rattle.sharc_flat.specs.declared.op.Op.TheVariants as op
 use Rattle.sharc_flat.proofs.{Banks.{bank_is, put_same, put_other}, Runs.{HasAt, has_front, has_back, Fin, fin_then, Same, weaken, step, bind, enters_at, without_variables, unblock}, Agreeing.{slots_of, int_values, ints_length, Standing, place, Agree, below, holding, push, drop_last, last_is, with_int, same_frame, loose_of}, Values.apart, Popping.{AllNull, none_behind}, Blocks.block_ends, Executing.{Stand, Beyond, StatementAs, leave_block}, Calling.{refs_of, ints_of}}
 
 -- the variables that the parameters are

@@ -8,9 +8,8 @@ use Rattle.sharc_code.specs.declared.code.Use.TheVariants as uses
 use Rattle.sharc_mode.specs.{Moded.Assignment, Sharings.Sharing, Cells.{cell_at as mode_in, pointed}, Rows.cast_row}
 use Rattle.sharc_meaning.specs.{Cells.{global_elements, element_cells, field_place_named}, Places.{StorePlace, variable, cell, field_in, based, element, element_of_array, index_place, pointee_place, place_named, taken_from}, Reference.{number_of, elements_of, constant_value}, State.{Run, ◌>>=◌, ◌>>◌, give, entered, is_reference, temporarily}, Arithmetic.{bits_of, operated, negated, complement, in_range}, Expressions.{resulting, tested, operand, Calls, value_called, called, named_value, eval, eval_all, place_of, unary_value, binary_value, place_value, spawned, number_named, cast_value, place_called, taking}}
 use Rattle.sharc_ctype.specs.{Resolved.{global_at, kind_at, named_at, structs_in}, Expressions.{constant_kind, class_of, binary_result}, declared.expr.OperatorClass.OperatorClass, declared.expr.OperatorClass.TheVariants.{Logical, Equality, Relation, Shift, Arithmetic}, Transfers.{parameters_named, parameters_of}}
-use Rattle.sharc_flat_form.specs.{declared.op.Op.Op, declared.op.Spot.Spot, Machine.{first_cell, with_result, kind_of, variable_of}}
-use Rattle.sharc_flat_form.specs.declared.op.Op.TheVariants as op
-use Rattle.sharc_flat.specs.{Places.{lvalue_of, take_use, Target, in_global, in_global_at, in_object, in_object_at, has_base, base_width, field_of, guard_field, beside_field, guard_cell, guard_code, spot_of, drop_base, settle_base, settle_code, cell_value_code, cell_store_code, store_code, cell_take_code, take_code, target, own_field, global_of, bounds_code, index_code, pointee_code, width_of, base_as_width, width_code, guard_width, index_width, object_spot}, Scope.{tokens_in, at_words, Context, at_site}, declared.slot.Lvalue.Lvalue, declared.slot.Slot.Slot, Suits.{PathStands, is_cell, NameSuits, Either, CallSuits, Suits, ArgumentsSuit, PlaceSuits, ReferencesSuit, TakeSuits, OperandsSuit}, Flattened.{operator_of, truth_code, compare_code, passed_code, behind_int, behind_ref, IsFlattened, constant_code, value_call_code, expression_code, arguments_code, place_code, named_code, called_code, lvalue_code, binary_code, spawn_code, cast_code, place_call_code, layout_of}}
+use Rattle.sharc_flat.specs.{declared.op.Op.Op, declared.op.Spot.Spot, Machine.{first_cell, with_result, take_kind_of, variable_of}, Places.{lvalue_of, take_use, Target, in_global, in_global_at, in_object, in_object_at, has_base, base_width, field_of, guard_field, beside_field, guard_cell, guard_code, spot_of, drop_base, settle_base, settle_code, cell_value_code, cell_store_code, store_code, cell_take_code, take_code, target, own_field, global_of, bounds_code, index_code, pointee_code, width_of, base_as_width, width_code, guard_width, index_width, object_spot}, Scope.{tokens_in, at_words, Context, at_site}, declared.slot.Lvalue.Lvalue, declared.slot.Slot.Slot, Suits.{PathStands, is_cell, NameSuits, Either, CallSuits, Suits, ArgumentsSuit, PlaceSuits, ReferencesSuit, TakeSuits, OperandsSuit}, Flattened.{operator_of, truth_code, compare_code, passed_code, behind_int, behind_ref, IsFlattened, constant_code, value_call_code, expression_code, arguments_code, place_code, named_code, called_code, lvalue_code, binary_code, spawn_code, cast_code, place_call_code, layout_of}}
+use Rattle.sharc_flat.specs.declared.op.Op.TheVariants as op
 use Rattle.sharc_flat.specs.Places as targets
 use Rattle.sharc_flat.proofs.{Runs.{HasAt, Same, weaken}, Agreeing.{Standing, place, Agree, Rest}, Accessing.context, Values.{integer_is, RunsAs, within, Lies, PlaceAs}, Computing.{bits_same, entered_runs, unary_runs, entered_place, binary_runs, computed_same, promoted_int, promoted_by, range_same, is_strict as is_strict_operator}, Linking.CallsAs, Calling.{ArgumentsAs, no_arguments_run, argument_runs}, Testing.tested_runs, Expressing.{constant_runs, nothing_runs, global_runs, denied_runs, value_call_runs, function_call_runs}, Fetching.{copy_runs, fetch_runs}, Placing.{pointer_index_runs, array_index_runs, pointee_place_runs, arrow_runs, dot_runs}, Taking.{take_cell_runs, take_variable_runs, cast_runs, free_runs, need_more}, Deciding.{and_runs, or_runs}, Spawning.spawn_runs, Waiting.{RefsAs, no_refs_run, ref_run, known_runs}, Comparing.compare_runs, Locking.{lock_runs, unlock_runs}}
 use Rattle.sharc_names.specs.declared.fault.Named.TheVariants as named
@@ -178,7 +177,7 @@ module _ (m : Assignment) (z : Standing) (scope : List Slot) where
       h T i r pc c ints refs s k (subst (λ l. HasAt z.flat.lines pc l) (sym (e i r)) has) le re a (subst (λ l. Rest z kind T scope i (pc + length l) (c + 6) ints k) (sym (e i r)) rest)
 
   take_by : (t : Target) (ka : Kind) (run : Run StorePlace) (pcode : ℕ → ℕ → List Op) (token site : Site) (lvalue : Lvalue) (mode : Sharing) (form : Option ℕ → Use) (kind : TakeKind) → TakeSuits ctx mode t → PlaceAs m z scope t None (beside_field m.typed mode) 0 run pcode
-      → is_reference ka ≡ true → ((o : Option ℕ) → kind_of (form o) ≡ kind) → ((x : ℕ) → variable_of (form (Some x)) ≡ x)
+      → is_reference ka ≡ true → ((o : Option ℕ) → take_kind_of (form o) ≡ kind) → ((x : ℕ) → variable_of (form (Some x)) ≡ x)
       → RunsAs m z scope ka 3 (temporarily (run >>= λ p. taken_from m.typed token site mode kind p)) (λ i r. pcode i r ++ take_code ctx i r site lvalue mode form t)
   take_by (targets.variable x) ka run pcode token site lvalue mode form kind h found er ek ex = take_variable_runs m z scope ka x 0 run pcode token site lvalue mode form kind (beside_field m.typed mode) found h er (ek (Some x)) (ex x)
   take_by (in_global g f) ka run pcode token site lvalue mode form kind h found er ek ex = take_cell_runs m z scope ka (in_global g f) 0 run pcode token site lvalue mode form kind found refl h er (ek None)

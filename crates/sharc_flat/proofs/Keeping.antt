@@ -5,10 +5,9 @@ use Rattle.sharc_names.specs.Kinds.{Kind, declared_kind}
 use Rattle.sharc_code.specs.{declared.instr.Register.Register, declared.instr.Register.TheVariants.{Int, Reference}, declared.code.GlobalCells.GlobalCells}
 use Rattle.sharc_meaning.specs.State.{is_reference}
 use Rattle.sharc_mode.specs.{Cells.pointed, Moded.Assignment, Rows.{written, row_at, declared_row}, Sharings.{Sharing, private}}
-use Rattle.sharc_flat_form.specs.declared.op.Op.{Op}
-use Rattle.sharc_flat_form.specs.declared.op.Op.TheVariants as op
+use Rattle.sharc_flat.specs.{declared.op.Op.Op, declared.slot.Lvalue.Lvalue, Scope.{ref_count, Context, register_from, register_of, at_site, pops, ends_from, leaves}, declared.slot.Slot.Slot, Places.{Target, variable, in_global, in_global_at, in_object, in_object_at, base_width, index_width, guard_field, guard_code, drop_base, settle_code, cell_store_code, store_code, width_code}, Flattened.{kind_of, is_ref, target_of, mode_of, guard_of, drop_code, truth_code, expression_code, place_code, elements_code, right_code, simple_code, with_variable, ints_of, refs_of, zero_code, initial_code, local_code, first_code, behind_first, step_code, test_code, turn_code, Around, opened, looping, jump_code, result_code, return_code, if_code, sides_code, choice_code, turns_code, body_at, loop_code, behind_statement, behind_statements, statement_code, statements_code, in_function, around_body, function_code, lvalue_in, declared_lvalue}, Suits.IfThere}
+use Rattle.sharc_flat.specs.declared.op.Op.TheVariants as op
 use Rattle.sharc_ctype.specs.Resolved.{Resolution}
-use Rattle.sharc_flat.specs.{declared.slot.Lvalue.Lvalue, Scope.{ref_count, Context, register_from, register_of, at_site, pops, ends_from, leaves}, declared.slot.Slot.Slot, Places.{Target, variable, in_global, in_global_at, in_object, in_object_at, base_width, index_width, guard_field, guard_code, drop_base, settle_code, cell_store_code, store_code, width_code}, Flattened.{kind_of, is_ref, target_of, mode_of, guard_of, drop_code, truth_code, expression_code, place_code, elements_code, right_code, simple_code, with_variable, ints_of, refs_of, zero_code, initial_code, local_code, first_code, behind_first, step_code, test_code, turn_code, Around, opened, looping, jump_code, result_code, return_code, if_code, sides_code, choice_code, turns_code, body_at, loop_code, behind_statement, behind_statements, statement_code, statements_code, in_function, around_body, function_code, lvalue_in, declared_lvalue}, Suits.IfThere}
 use Rattle.sharc_flat.proofs.Staying.{Knows, KnowsPlace, OpStays, Stays, joins, choose, guards, drops_base, widths_stay, truths_stay, expressions_stay, places_stay}
 
 -- ---- what is known of the calls in statements; and break and continue are in loops

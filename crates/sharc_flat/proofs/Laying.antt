@@ -8,9 +8,8 @@ use Rattle.sharc_code.specs.{declared.code.Function.{Function as Row}, declared.
 use Rattle.sharc_ctype.specs.Resolved.{Resolution}
 use Rattle.sharc_mode.specs.Moded.{Assignment}
 use Rattle.sharc_meaning.specs.{Events.held_mutexes, Meaning.{Asked, asks as source_asks}, Reference.{is_null, elements_of}}
-use Rattle.sharc_flat_form.specs.{declared.op.Op.Op, declared.op.Spot.Spot, Machine.{Flat, At, Caller, Turn, Came, goes, asks, halts, stops, function_of, op_turn, returned, end_turn, line_turn, turn, on_turn, on_answer, exec, begun, start, next as on, with_result, indexed, takes_local, int, ref}}
-use Rattle.sharc_flat_form.specs.declared.op.Op.TheVariants as op
-use Rattle.sharc_flat.specs.{Correct.{SameAs, Forth, Back, MayStart, AsksTheSame}, Laid.{told_by, with_texts, IsLaid, AreLaid, IsNamed, AreNamed, Lays}}
+use Rattle.sharc_flat.specs.{declared.op.Op.Op, declared.op.Spot.Spot, Machine.{Flat, At, Caller, Turn, Came, goes, asks, halts, stops, function_of, op_turn, returned, end_turn, line_turn, turn, on_turn, on_answer, exec, begun, start, next as on, with_result, indexed, takes_local, int, ref}, Correct.{SameAs, Forth, Back, MayStart, AsksTheSame}, Laid.{told_by, with_texts, IsLaid, AreLaid, IsNamed, AreNamed, Lays}}
+use Rattle.sharc_flat.specs.declared.op.Op.TheVariants as op
 
 -- a thread before its first line, at this one
 abbrev first_from : ℕ → ℕ → At

@@ -1,3 +1,4 @@
+pub mod PathRuns
 pub mod Banks
 pub mod Runs
 pub mod Agreeing

@@ -5,9 +5,8 @@ use Rattle.sharc_tree.specs.{declared.token.Site.Site, declared.tree.declaration
 use Rattle.sharc_names.specs.Kinds.{is_pointer, declared_kind, declared_kinds}
 use Rattle.sharc_mode.specs.Moded.{Assignment}
 use Rattle.sharc_meaning.specs.{State.{Frame, State, Out, go, over, ◌>>=◌, ◌>>◌, give, entered, is_reference, pointers_among, without_temporaries, stopped, ends_variables, held_by_frame}, declared.variable.Variable.Variable, Expressions.Calls, Meaning.{parameters_begin, left_at, pointers_passed, with_frame, back_in, run_function, call_value, calls}, Statements.exec_all}
-use Rattle.sharc_flat_form.specs.{declared.op.Op.Op, declared.op.Spot.Spot, Machine.{Flat, At, goes, halts, function_of, called as called_at}}
-use Rattle.sharc_flat_form.specs.declared.op.Op.TheVariants as op
-use Rattle.sharc_flat.specs.{Scope.{int_count, ref_count, at_site}, declared.slot.Slot.Slot, Flattened.{around_body, function_code, in_function, statements_code, behind_statements, parameters_scope, functions_code, AreRows, IsFlattened, parameter_of}}
+use Rattle.sharc_flat.specs.{declared.op.Op.Op, declared.op.Spot.Spot, Machine.{Flat, At, goes, halts, function_of, called as called_at}, Scope.{int_count, ref_count, at_site}, declared.slot.Slot.Slot, Flattened.{around_body, function_code, in_function, statements_code, behind_statements, parameters_scope, functions_code, AreRows, IsFlattened, parameter_of}}
+use Rattle.sharc_flat.specs.declared.op.Op.TheVariants as op
 use Rattle.sharc_flat.proofs.{Banks.bank_is, Runs.{HasAt, has_front, Fin, fin_then, Same, weaken, step, bind, ends}, Agreeing.{slots_of, int_values, refs_length, Standing, place, Agree, below, holding, loose_of, Rest}, Executing.{Beyond, StatementAs}, Calling.{refs_of, ints_of}, Functions.{begun, begun_slots, begun_refs, begun_ints, function_runs}}
 use Rattle.sharc_tree.specs.declared.trap.Trap.TheVariants as traps
 use Rattle.sharc_code.specs.{declared.code.Function.{Function as Row}, Machine.no_function, declared.code.GlobalCells.GlobalCells}

@@ -6,11 +6,10 @@ use Rattle.sharc_tree.specs.{declared.token.Site.Site, declared.token.Span.Span,
 use Rattle.sharc_names.specs.Kinds.{Kind, is_integer}
 use Rattle.sharc_mode.specs.Moded.{Assignment}
 use Rattle.sharc_meaning.specs.{declared.given.GivenUp.TheVariants.Released, Cells.cell_of, Places.StorePlace, Reference.number_of, State.{State, Run, ◌>>=◌, ◌>>◌, give, happens, is_reference, temporarily, performs, without_temporaries, stopped, unless_stop, event_of}, Waiting.{lock_call, unlock_call, moves_base, gives_up_base, cell_at_place}, Events.{holds_mutex, held_mutexes}}
-use Rattle.sharc_flat_form.specs.{declared.op.Op.Op, declared.op.Spot.Spot, Machine.{At, goes, asks, put, cell_at, next as on, set_ref, op_turn, asserts, without_base, base_of}}
-use Rattle.sharc_flat_form.specs.declared.op.Op.TheVariants as op
+use Rattle.sharc_flat.specs.{declared.op.Op.Op, declared.op.Spot.Spot, Machine.{At, goes, asks, put, cell_at, next as on, set_ref, op_turn, asserts, without_base, base_of}, Scope.{at_words, Context, ref_count, at_site}, declared.slot.Slot.Slot, Places.{Target, in_global, in_global_at, in_object, in_object_at, has_base, base_width, field_of, guard_field, guard_cell, guard_code, spot_of, drop_base, settle_base, settle_code, cell_value_code, cell_store_code, store_code, cell_take_code, take_code, target, own_field, global_of, bounds_code, index_code, pointee_code, width_of, base_as_width, width_code, guard_width, index_width, object_mode, object_mode_named, object_spot}, Suits.is_cell, Flattened.unlocked_code}
+use Rattle.sharc_flat.specs.declared.op.Op.TheVariants as op
 use Rattle.sharc_tree.specs.declared.trap.Trap.TheVariants as traps
 use Rattle.sharc_code.specs.declared.code.Use.TheVariants.{Other}
-use Rattle.sharc_flat.specs.{Scope.{at_words, Context, ref_count, at_site}, declared.slot.Slot.Slot, Places.{Target, in_global, in_global_at, in_object, in_object_at, has_base, base_width, field_of, guard_field, guard_cell, guard_code, spot_of, drop_base, settle_base, settle_code, cell_value_code, cell_store_code, store_code, cell_take_code, take_code, target, own_field, global_of, bounds_code, index_code, pointee_code, width_of, base_as_width, width_code, guard_width, index_width, object_mode, object_mode_named, object_spot}, Suits.is_cell, Flattened.unlocked_code}
 use Rattle.sharc_flat.specs.Places as targets
 use Rattle.sharc_flat.proofs.{Banks.put_same, Runs.{HasAt, has_front, has_back, Fin, fin_then, Same, weaken, step, Holds, bind, without, after_event, ends, asks_at}, Agreeing.{Standing, place, Agree, holding, push, drop_last, last_is, same_frame, loose_of}, Accessing.context, Values.{loosen, BasesOf, base_ends, RunsAs, Lies, PlaceAs, at_cell, temporarily_runs}, Popping.{AllNull, trailing}, Computing.none_end, Storing.{performs_then, moved_on}}
 

@@ -5,9 +5,8 @@ use Rattle.sharc_code.specs.{declared.code.Function.{Function as Row}, declared.
 use Rattle.sharc_code.specs.declared.code.Parameter.TheVariants as parameters
 use Rattle.sharc_ctype.specs.Resolved.{Resolution, functions_in}
 use Rattle.sharc_mode.specs.Moded.{Assignment}
-use Rattle.sharc_flat_form.specs.{declared.flat.Flat.{Flat as FlatCode}, declared.op.Op.Op, declared.op.Spot.Spot, Framed.{HasParameter, IsInGlobal, OpWrites, InLine, OpLeads, IsFramedAt, IsFramed, Leads, IsFlat}, Machine.{Flat, function_of}, Made.flat_of}
-use Rattle.sharc_flat_form.specs.declared.op.Op.TheVariants as op
-use Rattle.sharc_flat.specs.{Correct.ProgramSuits, Flattened.flattened, Flattens.{Flattens, names_of}, Laid.{told_by, with_texts, AreLaid, AreNamed, Lays}, Laws.{FitsFrames, FitsMade}, Tables.globals_of}
+use Rattle.sharc_flat.specs.{declared.flat.Flat.{Flat as FlatCode}, declared.op.Op.Op, declared.op.Spot.Spot, Framed.{HasParameter, IsInGlobal, OpWrites, InLine, OpLeads, IsFramedAt, IsFramed, Leads, IsFlat}, Machine.{Flat, function_of}, Made.flat_of, Correct.ProgramSuits, Flattened.flattened, Flattens.{Flattens, names_of}, Laid.{told_by, with_texts, AreLaid, AreNamed, Lays}, Laws.{FitsFrames, FitsMade}, Tables.globals_of}
+use Rattle.sharc_flat.specs.declared.op.Op.TheVariants as op
 use Rattle.sharc_flat.proofs.{Apart.apart, Flattening.is_flattened, Framed.flattened_is_framed, Laying.{same_length, rows_same}}
 
 -- ---- lines

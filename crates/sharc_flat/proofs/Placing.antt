@@ -7,9 +7,8 @@ use Rattle.sharc_names.specs.Kinds.{Kind, is_integer}
 use Rattle.sharc_mode.specs.Moded.{Assignment}
 use Rattle.sharc_meaning.specs.{Cells.global_elements, Places.{StorePlace, variable, cell, field_in, pointee, based, element, element_of_array}, Reference.{number_of, is_null, elements_of}, State.{State, Run, then_on, ◌>>=◌, ◌>>◌, give, is_reference, done, holds_reference, with_temporary, stop, stopped, unless_stop}}
 use Rattle.sharc_ctype.specs.Resolved.{global_at}
-use Rattle.sharc_flat_form.specs.{declared.op.Op.Op, declared.op.Spot.Spot, Machine.{goes, put, first_cell, set_int, op_turn, indexed, halts, asserts, goes_on}}
-use Rattle.sharc_flat_form.specs.declared.op.Op.TheVariants as op
-use Rattle.sharc_flat.specs.{Scope.{Context, int_count, ref_count, at_site}, declared.slot.Slot.Slot, Places.{Target, in_global, in_global_at, in_object, in_object_at, own_field, bounds_code, pointee_code}}
+use Rattle.sharc_flat.specs.{declared.op.Op.Op, declared.op.Spot.Spot, Machine.{goes, put, first_cell, set_int, op_turn, indexed, halts, asserts, goes_on}, Scope.{Context, int_count, ref_count, at_site}, declared.slot.Slot.Slot, Places.{Target, in_global, in_global_at, in_object, in_object_at, own_field, bounds_code, pointee_code}}
+use Rattle.sharc_flat.specs.declared.op.Op.TheVariants as op
 use Rattle.sharc_flat.proofs.{Banks.{put_same, put_other}, Runs.{HasAt, has_front, has_back, Fin, fin_of, fin_then, Same, weaken, step, bind, without, ends}, Agreeing.{Standing, place, Agree, holding, last_is, hold, with_int, loose_of}, Accessing.context, Values.{integer_is, loosen, RunsAs, within, Lies, PlaceAs}}
 
 module _ (m : Assignment) (z : Standing) (scope : List Slot) where

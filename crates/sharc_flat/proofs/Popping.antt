@@ -2,9 +2,8 @@
 use Rattle.std.proofs.{Common.{◌≡◌, ℕ, zero, suc, ◌+◌, List, [], ◌∷◌, ◌++◌, length, get_or, refl, sym, ap, ◌∙◌, subst, arith, append_assoc, length-append}, lemmas.List.append-nil}
 use Rattle.std.specs.Prelude.{ℤ, pos}
 use Rattle.sharc_meaning.specs.{declared.given.GivenUp.TheVariants.Released, Reference.number_of, State.{State, pointers_among, all_released}}
-use Rattle.sharc_flat_form.specs.{declared.op.Op.Op, declared.op.Spot.Spot, Machine.put}
-use Rattle.sharc_flat_form.specs.declared.op.Op.TheVariants as op
-use Rattle.sharc_flat.specs.{Scope.ref_count, declared.slot.Slot.Slot}
+use Rattle.sharc_flat.specs.{declared.op.Op.Op, declared.op.Spot.Spot, Machine.put, Scope.ref_count, declared.slot.Slot.Slot}
+use Rattle.sharc_flat.specs.declared.op.Op.TheVariants as op
 use Rattle.sharc_flat.proofs.{Banks.{bank_is, bank_put}, Runs.{HasAt, Fin, Same, weaken, step}, Agreeing.{Standing, place, Agree, below, stack_length, last_is, same_frame}, Values.given_place}
 
 abbrev pub AllNull : List ℤ → Type 0

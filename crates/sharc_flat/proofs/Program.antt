@@ -6,9 +6,8 @@ use Rattle.sharc_tree.specs.{declared.token.Span.Span, Tree.{Expression, Right, 
 use Rattle.sharc_names.specs.Kinds.{Kind, is_integer, int, declared_kind}
 use Rattle.sharc_mode.specs.{Moded.Assignment, Sharings.{Sharing, private}, Cells.{cell_at as mode_in, pointed}, Rows.{written, row_at, declared_row}}
 use Rattle.sharc_meaning.specs.{Places.stored, State.{Run, ◌>>=◌, ◌>>◌, give, entered, answered, value_of, is_reference, temporarily, done, unless_stop, in_block, begins_with}, Expressions.{tested, fitting, Calls, eval, place_of}, Statements.{Flow, next, returned, loop, left_by, exec_all, is_positive, right_value, done_simple, initialised, declared, done_first, done_step, done_test, exec}, Cells.{element_cells, instance_mode}}
-use Rattle.sharc_flat_form.specs.declared.op.Op.{Op}
-use Rattle.sharc_flat_form.specs.declared.op.Op.TheVariants as op
-use Rattle.sharc_flat.specs.{Places.{lvalue_of, Target, in_global, in_global_at, in_object, in_object_at, base_width, beside_field, store_code, target, width_code, index_width, object_spot}, Scope.{no_text, Context, int_count, ref_count, at_site, ends_from, leaves, slot_of}, declared.slot.Slot.Slot, Flattened.{truth_code, Around, opened, looping, result_code, zero_code, jump_code, return_code, loop_code, choice_code, statements_code, behind_statements, IsFlattened, expression_code, place_code, right_code, simple_code, initial_code, local_code, first_code, behind_first, step_code, turn_code, if_code, statement_code, behind_statement}, Suits.{RightSuits, LeftSuits, SimpleSuits, InitialSuits, FirstSuits, in_first, TestSuits, IfThere, is_declaration, in_statement, StatementSuits, StatementsSuit}}
+use Rattle.sharc_flat.specs.{declared.op.Op.Op, Places.{lvalue_of, Target, in_global, in_global_at, in_object, in_object_at, base_width, beside_field, store_code, target, width_code, index_width, object_spot}, Scope.{no_text, Context, int_count, ref_count, at_site, ends_from, leaves, slot_of}, declared.slot.Slot.Slot, Flattened.{truth_code, Around, opened, looping, result_code, zero_code, jump_code, return_code, loop_code, choice_code, statements_code, behind_statements, IsFlattened, expression_code, place_code, right_code, simple_code, initial_code, local_code, first_code, behind_first, step_code, turn_code, if_code, statement_code, behind_statement}, Suits.{RightSuits, LeftSuits, SimpleSuits, InitialSuits, FirstSuits, in_first, TestSuits, IfThere, is_declaration, in_statement, StatementSuits, StatementsSuit}}
+use Rattle.sharc_flat.specs.declared.op.Op.TheVariants as op
 use Rattle.sharc_code.specs.declared.code.Use.TheVariants as uses
 use Rattle.sharc_flat.specs.Places as targets
 use Rattle.sharc_flat.proofs.{Runs.{HasAt, has_front, Same, weaken, bind, enters_at}, Agreeing.{Standing, place, holding, same_frame}, Accessing.context, Values.{RunsAs, PlaceAs}, Testing.{TestAs, fitting_runs, tested_runs}, Executing.{After, Here, Beyond, StatementAs, entered_statement, block_runs, closed_runs}, Statements.{StepAs, step_then, DecidesAs, loop_runs, no_more, one_more, jump_runs, empty_runs, decides_runs, always_runs, if_runs, choice_runs}, Linking.CallsAs, Taking.{need_more, entered_more, new_runs}, Expressing.give_int, Inducing.{eval_runs, place_runs}, Assigning.{assign_cell_runs, assign_name_runs, call_runs}, Declaring.{begin_runs, initial_runs, return_none_runs, return_value_runs, headed_runs}}

@@ -3,8 +3,8 @@ use Rattle.std.proofs.Common.{◌≡◌, ℕ, zero, suc, ◌+◌, ◌*◌, ◌�
 use Rattle.std.specs.Prelude.{ℤ, pos, slice_get}
 use Rattle.sharc_tree.specs.{declared.event.Act.Act, declared.event.SourceEvent.SourceEvent, declared.token.Site.Site}
 use Rattle.sharc_meaning.specs.{declared.given.GivenUp.GivenUp, State.{State, Outcome, wants, spent, Out, go, over, Run, then_on, enters_with, happens, answer_of, event_of, value_in, all_released, ends_temporaries, ends_variables, pointers_among, held_references}}
-use Rattle.sharc_flat_form.specs.{declared.op.Op.Op, declared.op.Spot.Spot, Machine.{Flat, At, goes, asks, halts, Came, exec, on_turn, on_answer, with_event, line_turn, op_turn}}
-use Rattle.sharc_flat_form.specs.declared.op.Op.TheVariants as op
+use Rattle.sharc_flat.specs.{declared.op.Op.Op, declared.op.Spot.Spot, Machine.{Flat, At, goes, asks, halts, Came, exec, on_turn, on_answer, with_event, line_turn, op_turn}}
+use Rattle.sharc_flat.specs.declared.op.Op.TheVariants as op
 use Rattle.sharc_flat.proofs.Banks.{Bank}
 
 -- these statements are in the code at this place

@@ -7,9 +7,8 @@ use Rattle.sharc_names.specs.Kinds.{Kind, is_integer, int}
 use Rattle.sharc_code.specs.declared.instr.Register.TheVariants.{Int, Reference}
 use Rattle.sharc_mode.specs.Moded.{Assignment}
 use Rattle.sharc_meaning.specs.{State.{State, Run, ◌>>=◌, ◌>>◌, give, answered, is_reference, temporarily, done, holds_reference, moves_on, with_temporary, without_temporaries, holds, moves, event_of}, Expressions.{operand, fitting, passed}}
-use Rattle.sharc_flat_form.specs.{declared.op.Op.Op, declared.op.Spot.Spot, Machine.{asks, put, next as on, set_int, handed}}
-use Rattle.sharc_flat_form.specs.declared.op.Op.TheVariants as op
-use Rattle.sharc_flat.specs.{Scope.{ref_count, at_site}, declared.slot.Slot.Slot, Flattened.{passed_code, spawn_code}, Suits.HandsOn}
+use Rattle.sharc_flat.specs.{declared.op.Op.Op, declared.op.Spot.Spot, Machine.{asks, put, next as on, set_int, handed}, Scope.{ref_count, at_site}, declared.slot.Slot.Slot, Flattened.{passed_code, spawn_code}, Suits.HandsOn}
+use Rattle.sharc_flat.specs.declared.op.Op.TheVariants as op
 use Rattle.sharc_flat.proofs.{Banks.{put_same, put_other}, Runs.{HasAt, has_front, has_back, Fin, fin_then, Same, weaken, bind, without, after_event, asks_at}, Agreeing.{Standing, place, Agree, holding, last_is, hold, with_int, same_frame, loose_of, Rest}, Values.{int_valued, RunsAs, temporarily_runs}, Computing.none_end, Testing.fitting_runs, Storing.moved_on, Taking.need_more}
 use Rattle.sharc_ctype.specs.Resolved.{kind_at}
 use Rattle.sharc_code.specs.declared.instr.Register.TheVariants as registers

@@ -4,9 +4,8 @@ use Rattle.std.specs.Prelude.{ℤ, slice_get, not}
 use Rattle.sharc_names.specs.Kinds.{Kind}
 use Rattle.sharc_mode.specs.Moded.{Assignment}
 use Rattle.sharc_meaning.specs.{State.{State, Run, ◌>>=◌, ◌>>◌, give, spent}, Arithmetic.is_zero, Statements.{Flow, next, on_next, on_turn, turns, loop, left_by}}
-use Rattle.sharc_flat_form.specs.{declared.op.Op.Op, declared.op.Spot.Spot, Machine.{goes, next as on, over_lines}}
-use Rattle.sharc_flat_form.specs.declared.op.Op.TheVariants as op
-use Rattle.sharc_flat.specs.{Scope.{int_count, ref_count}, declared.slot.Slot.Slot, Flattened.{Around, looping, turns_code, jump_code}}
+use Rattle.sharc_flat.specs.{declared.op.Op.Op, declared.op.Spot.Spot, Machine.{goes, next as on, over_lines}, Scope.{int_count, ref_count}, declared.slot.Slot.Slot, Flattened.{Around, looping, turns_code, jump_code}}
+use Rattle.sharc_flat.specs.declared.op.Op.TheVariants as op
 use Rattle.sharc_flat.proofs.{Runs.{HasAt, has_front, has_back, Fin, fin_of, fin_then, Same, weaken, step, Holds, bind}, Agreeing.{Standing, place, holding}, Accessing.context, Testing.TestAs, Executing.{Stand, After, Here, Beyond, StatementAs, after_less, after_at}}
 use Rattle.sharc_tree.specs.{declared.tree.statement.Jump.Jump, declared.tree.statement.Jump.TheVariants.{Break, Continue}}
 

@@ -10,9 +10,8 @@ use Rattle.sharc_code.specs.declared.code.Use.TheVariants as uses
 use Rattle.sharc_ctype.specs.{Resolved.{kind_at, global_at, Resolution, named_at}, Transfers.parameters_named}
 use Rattle.sharc_mode.specs.Sharings.{Sharing}
 use Rattle.sharc_meaning.specs.{Cells.{element_cells, field_place_named, global_elements}, Expressions.number_named}
-use Rattle.sharc_flat_form.specs.{declared.op.Op.Op, declared.op.Spot.Spot, Machine.first_cell}
-use Rattle.sharc_flat_form.specs.declared.op.Op.TheVariants as op
-use Rattle.sharc_flat.specs.{Suits.Either, declared.slot.Lvalue.Lvalue, Scope.{Context, register_of, at_site}, Places.{width_of, Target, variable, in_global, in_global_at, in_object, in_object_at, target, own_field, has_base, global_of, guard_field, guard_code, drop_base, settle_base, copy_code, cell_value_code, value_code, cell_take_code, take_code, bounds_code, index_code, pointee_code, width_code}, Flattened.{kind_of, is_ref, target_of, mode_of, what_names, constant_code, named_code, drop_code, truth_code, differ_code, compare_code, logical_code, either_code, unary_code, binary_code, behind_int, behind_ref, wait_code, condition_code, called_code, passed_code, spawn_code, value_call_code, unlocked_code, place_call_code, cast_code, guard_of, taken_guard, field_code, unary_place_code, lvalue_code, expression_code, arguments_code, place_code, lvalue_in, with_words, argument_words}}
+use Rattle.sharc_flat.specs.{declared.op.Op.Op, declared.op.Spot.Spot, Machine.first_cell, Suits.Either, declared.slot.Lvalue.Lvalue, Scope.{Context, register_of, at_site}, Places.{width_of, Target, variable, in_global, in_global_at, in_object, in_object_at, target, own_field, has_base, global_of, guard_field, guard_code, drop_base, settle_base, copy_code, cell_value_code, value_code, cell_take_code, take_code, bounds_code, index_code, pointee_code, width_code}, Flattened.{kind_of, is_ref, target_of, mode_of, what_names, constant_code, named_code, drop_code, truth_code, differ_code, compare_code, logical_code, either_code, unary_code, binary_code, behind_int, behind_ref, wait_code, condition_code, called_code, passed_code, spawn_code, value_call_code, unlocked_code, place_call_code, cast_code, guard_of, taken_guard, field_code, unary_place_code, lvalue_code, expression_code, arguments_code, place_code, lvalue_in, with_words, argument_words}}
+use Rattle.sharc_flat.specs.declared.op.Op.TheVariants as op
 
 -- nothing is computed in a `char`
 abbrev pub Wide : Width → Type 0

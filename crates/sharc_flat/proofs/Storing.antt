@@ -8,10 +8,9 @@ use Rattle.sharc_code.specs.declared.code.Use.TheVariants as uses
 use Rattle.sharc_code.specs.declared.instr.Register.TheVariants.{Int, Reference}
 use Rattle.sharc_mode.specs.{Moded.Assignment, Sharings.Sharing}
 use Rattle.sharc_meaning.specs.{declared.given.GivenUp.TheVariants.{Released, Replaced}, Cells.cell_of, Places.{StorePlace, variable, access_mode, stored}, Reference.number_of, State.{State, Out, go, over, Run, then_on, ◌>>=◌, ◌>>◌, happens, value_of, is_reference, pointers_among, all_released, writes, Step, done, performs, holds_reference, moves_on, gives_up, with_value, with_temporary, without_temporaries}}
-use Rattle.sharc_flat_form.specs.{declared.op.Op.Op, declared.op.Spot.Spot, Machine.{asks, put, accessed, next as on, set_ref, gives_up as also}}
-use Rattle.sharc_flat_form.specs.declared.op.Op.TheVariants as op
+use Rattle.sharc_flat.specs.{declared.op.Op.Op, declared.op.Spot.Spot, Machine.{asks, put, accessed, next as on, set_ref, gives_up as also}, declared.slot.Lvalue.Lvalue, Scope.{Context, ref_count, register_of, number_in, slot_kind}, declared.slot.Slot.Slot, Places.{Target, in_global, in_global_at, in_object, in_object_at, has_base, base_width, field_of, guard_field, beside_field, guard_cell, guard_code, spot_of, drop_base, settle_base, settle_code, cell_store_code, store_code, cell_take_code, take_code}, Suits.PathStands}
+use Rattle.sharc_flat.specs.declared.op.Op.TheVariants as op
 use Rattle.sharc_flat.proofs.{Under.{under, mutex_of, accesses_under}, Banks.{bank_is, bank_set, put_at, put_other}, Runs.{HasAt, has_back, Fin, fin_then, Same, step, without, after_event}, Agreeing.{int_values, PointerAt, pointer_at, IntAt, int_at, Standing, place, Agree, below, drop_last, last_is, hold, same_frame, loose_of}, Accessing.{variable_ref, context, access_runs, pending_place}, Values.{bases_count, loosen, BasesOf, base_ends, AtCell, open_at}}
-use Rattle.sharc_flat.specs.{declared.slot.Lvalue.Lvalue, Scope.{Context, ref_count, register_of, number_in, slot_kind}, declared.slot.Slot.Slot, Places.{Target, in_global, in_global_at, in_object, in_object_at, has_base, base_width, field_of, guard_field, beside_field, guard_cell, guard_code, spot_of, drop_base, settle_base, settle_code, cell_store_code, store_code, cell_take_code, take_code}, Suits.PathStands}
 use Rattle.sharc_flat.specs.Places as targets
 
 pub performs_then : {B : Type 0} (o : Out ℤ) (g : Run B) (k : B → State → Fin) → fin_then (then_on (then_on o (λ _. done)) (λ _. g)) k ≡ fin_then o (λ x u. fin_then (g u) k)

@@ -7,9 +7,8 @@ use Rattle.sharc_names.specs.{Kinds.{Kind, is_integer}, declared.fault.Named.Nam
 use Rattle.sharc_code.specs.{declared.code.Use.Use, declared.instr.Register.TheVariants.Reference, declared.code.Text.Text, Machine.{elements_of as elements_made}}
 use Rattle.sharc_mode.specs.{Moded.Assignment, Sharings.{Sharing, private, readonly, locked, racy, dynamic}}
 use Rattle.sharc_meaning.specs.{Cells.{cell_of, instance_mode, mutex_named, through, field_place_behind}, Places.{StorePlace, variable, cell, taken_from, nulled, cast_to, freed}, Reference.{number_of, is_null, NULL}, State.{State, Run, then_on, ◌>>=◌, ◌>>◌, give, entered, happens, answered, value_of, is_reference, pointers_among, temporarily, nulls, done, moves_on, with_value, with_temporary, without_temporaries, stopped, unless_stop, event_of}, declared.given.GivenUp.TheVariants.Emptied, Statements.is_positive}
-use Rattle.sharc_flat_form.specs.{declared.op.Op.Op, declared.op.Spot.Spot, Machine.{goes, asks, put, accesses, first_cell, next as on, set_ref, asserts, over_lines, kind_of, variable_of, instance_mode as mode_of_object, takes_local, moved}}
-use Rattle.sharc_flat_form.specs.declared.op.Op.TheVariants as op
-use Rattle.sharc_flat.specs.{Scope.{at_words, Context, ref_count, register_of, number_in, slot_kind, at_site}, declared.slot.Lvalue.Lvalue, declared.slot.Slot.Slot, Places.{Target, in_global, in_global_at, in_object, in_object_at, has_base, base_width, field_of, guard_field, beside_field, guard_cell, guard_code, spot_of, drop_base, settle_base, settle_code, cell_value_code, cell_store_code, store_code, cell_take_code, take_code, target, own_field, global_of, bounds_code, index_code, pointee_code, width_of, base_as_width, width_code, guard_width, index_width, object_mode, object_mode_named, object_spot}, Suits.{PathStands, is_cell, PathNamed}}
+use Rattle.sharc_flat.specs.{declared.op.Op.Op, declared.op.Spot.Spot, Machine.{goes, asks, put, accesses, first_cell, next as on, set_ref, asserts, over_lines, take_kind_of, variable_of, instance_mode as mode_of_object, takes_local, moved}, Scope.{at_words, Context, ref_count, register_of, number_in, slot_kind, at_site}, declared.slot.Lvalue.Lvalue, declared.slot.Slot.Slot, Places.{Target, in_global, in_global_at, in_object, in_object_at, has_base, base_width, field_of, guard_field, beside_field, guard_cell, guard_code, spot_of, drop_base, settle_base, settle_code, cell_value_code, cell_store_code, store_code, cell_take_code, take_code, target, own_field, global_of, bounds_code, index_code, pointee_code, width_of, base_as_width, width_code, guard_width, index_width, object_mode, object_mode_named, object_spot}, Suits.{PathStands, is_cell, PathNamed}}
+use Rattle.sharc_flat.specs.declared.op.Op.TheVariants as op
 use Rattle.sharc_flat.specs.Places as targets
 use Rattle.sharc_flat.proofs.{Banks.{Bank, bank_is, bank_set}, Runs.{HasAt, has_front, has_back, Fin, fin_then, Same, weaken, step, bind, without, enters_at, after_event, ends, asks_at}, Agreeing.{slots_of, int_values, PointerAt, pointer_at, Standing, place, Agree, below, holding, push, last_is, hold, same_frame, loose_of, Rest}, Accessing.{variable_ref, context}, Values.{integer_is, loosen, ref_valued, RunsAs, bases_are, PlaceAs, at_cell, temporarily_runs}, Fetching.ref_cell_by, Popping.{AllNull, trailing}, Computing.none_end, Storing.{performs_then, moved_on}, Under.positive_elements}
 use Rattle.sharc_tree.specs.declared.event.Taken.TheVariants as taken
@@ -63,7 +62,7 @@ module _ (m : Assignment) (z : Standing) (scope : List Slot) where
 
   -- ---- what is taken from a cell
   pub take_cell_runs : (ka : Kind) (t : Target) (need : ℕ) (run : Run StorePlace) (pcode : ℕ → ℕ → List Op) (token site : Site) (lvalue : Lvalue) (mode : Sharing) (form : Option ℕ → Use) (kind : TakeKind) → PlaceAs m z scope t None (beside_field m.typed mode) need run pcode
-      → is_cell t ≡ true → PathStands m.typed scope mode → is_reference ka ≡ true → kind_of (form None) ≡ kind
+      → is_cell t ≡ true → PathStands m.typed scope mode → is_reference ka ≡ true → take_kind_of (form None) ≡ kind
       → RunsAs m z scope ka (need + 3) (temporarily (run >>= λ p. taken_from m.typed token site mode kind p)) (λ i r. pcode i r ++ cell_take_code ctx i r site lvalue mode form t)
   take_cell_runs ka t need run pcode token site lvalue mode form kind found cell_t path er ek T i r pc c ints refs s k has le re a rest =
       let cv = cell_take_code ctx i r site lvalue mode form t in
@@ -108,7 +107,7 @@ module _ (m : Assignment) (z : Standing) (scope : List Slot) where
   held_is T x ints refs s stands a = let w = variable_ref z T scope [] ints refs s x stands a in ap (λ q. refs (z.refs + q)) (ap number_in w.register) ∙ w.value
 
   take_local_by : (b : Bool) (T : List ℤ) (x : ℕ) (token site : Site) (lvalue : Lvalue) (mode : Sharing) (form : Option ℕ → Use) (kind : TakeKind) (r pc c : ℕ) (ints refs : ℕ → ℤ) (s : State) (k : ℤ → State → Fin)
-      → slot_kind scope x ≡ Some true → kind_of (form (Some x)) ≡ kind → variable_of (form (Some x)) ≡ x → is_null (value_of s x) ≡ b → r ≡ ref_count scope + length T
+      → slot_kind scope x ≡ Some true → take_kind_of (form (Some x)) ≡ kind → variable_of (form (Some x)) ≡ x → is_null (value_of s x) ≡ b → r ≡ ref_count scope + length T
       → slice_get z.flat.lines pc ≡ Some (op.TakeLocal r (number_in (register_of scope x)) (spot_of ctx 0 0 site lvalue (form (Some x)) mode (targets.variable x))) → Agree z T scope [] ints refs s
       → ((refs' : ℕ → ℤ) (u : State) → Agree z T scope (value_of s x ∷ []) ints refs' u → Same z.flat u.fuel c (k (value_of s x) u) u.answers (place z (pc + 1) ints refs' u))
       → Same z.flat s.fuel (c + 1) (fin_then (then_on ((cond b (give (value_of s x)) (answered site (acts.Take (taken.Local x) kind))) s) (λ _. nulled token x >> give (value_of s x))) k) s.answers (place z pc ints refs s)
@@ -131,14 +130,14 @@ module _ (m : Assignment) (z : Standing) (scope : List Slot) where
       bind z.flat s.fuel (c + 1) s.answers (answered site (acts.Take (taken.Local x) kind) s) (λ _. nulled token x >> give v) k m0
       (asks_at z.flat (op.TakeLocal r n spot) site (acts.Take (taken.Local x) kind) (refs (z.refs + n)) (λ v w. on (moved r n w)) c s.answers s m0 m0 (λ y u. k v (null_state x token u)) (holding z T scope ints refs s a) refl refl at
       (ap (λ q. takes_local r n spot m0 (is_null q)) v_is ∙ ap (takes_local r n spot m0) eb
-      ∙ ap (λ q. asks m0 site (acts.Take (taken.Local q) (kind_of (form (Some x)))) (refs (z.refs + n)) (λ v w. on (moved r n w))) ex ∙ ap (λ q. asks m0 site (acts.Take (taken.Local x) q) (refs (z.refs + n)) (λ v w. on (moved r n w))) ek)
+      ∙ ap (λ q. asks m0 site (acts.Take (taken.Local q) (take_kind_of (form (Some x)))) (refs (z.refs + n)) (λ v w. on (moved r n w))) ex ∙ ap (λ q. asks m0 site (acts.Take (taken.Local x) q) (refs (z.refs + n)) (λ v w. on (moved r n w))) ek)
       (λ y. sym v_is)
       (λ y answers.
       let u = after_event s answers (s.events ++ event_of site (acts.Take (taken.Local x) kind) y ∷ []) in
       rest bank (null_state x token u) (nulled_agrees T x v token r ints refs s u stands re a v_is refl refl)))
 
   pub take_variable_runs : (ka : Kind) (x : ℕ) (need : ℕ) (run : Run StorePlace) (pcode : ℕ → ℕ → List Op) (token site : Site) (lvalue : Lvalue) (mode : Sharing) (form : Option ℕ → Use) (kind : TakeKind) (guard : Option ℕ) → PlaceAs m z scope (targets.variable x) None guard need run pcode
-      → slot_kind scope x ≡ Some true → is_reference ka ≡ true → kind_of (form (Some x)) ≡ kind → variable_of (form (Some x)) ≡ x
+      → slot_kind scope x ≡ Some true → is_reference ka ≡ true → take_kind_of (form (Some x)) ≡ kind → variable_of (form (Some x)) ≡ x
       → RunsAs m z scope ka (need + 3) (temporarily (run >>= λ p. taken_from m.typed token site mode kind p)) (λ i r. pcode i r ++ op.TakeLocal r (number_in (register_of scope x)) (spot_of ctx 0 0 site lvalue (form (Some x)) mode (targets.variable x)) ∷ [])
   take_variable_runs ka x need run pcode token site lvalue mode form kind guard found stands er ek ex T i r pc c ints refs s k has le re a rest =
       let o = op.TakeLocal r (number_in (register_of scope x)) (spot_of ctx 0 0 site lvalue (form (Some x)) mode (targets.variable x)) in

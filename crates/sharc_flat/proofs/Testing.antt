@@ -6,9 +6,8 @@ use Rattle.sharc_tree.specs.declared.trap.Trap.TheVariants as traps
 use Rattle.sharc_names.specs.Kinds.{Kind, is_integer}
 use Rattle.sharc_mode.specs.Moded.{Assignment}
 use Rattle.sharc_meaning.specs.{declared.given.GivenUp.TheVariants.Released, Reference.number_of, State.{State, Run, ◌>>◌, give, is_reference, all_released, done, gives_up as source_gives_up, stopped, unless_stop, holds, drops}, Arithmetic.{bits_of, is_zero, is_equal, is_held_by, fits}, Expressions.{tested, fitting}}
-use Rattle.sharc_flat_form.specs.{declared.op.Op.Op, Machine.{goes, put, op_turn, asserts}}
-use Rattle.sharc_flat_form.specs.declared.op.Op.TheVariants as op
-use Rattle.sharc_flat.specs.{Scope.{int_count, ref_count, at_site}, declared.slot.Slot.Slot, Places.{width_of, width_code}, Flattened.truth_code}
+use Rattle.sharc_flat.specs.{declared.op.Op.Op, Machine.{goes, put, op_turn, asserts}, Scope.{int_count, ref_count, at_site}, declared.slot.Slot.Slot, Places.{width_of, width_code}, Flattened.truth_code}
+use Rattle.sharc_flat.specs.declared.op.Op.TheVariants as op
 use Rattle.sharc_flat.proofs.{Banks.{put_same, put_other}, Runs.{HasAt, has_front, has_back, Fin, fin_then, Same, weaken, step, Holds, bind, ends}, Agreeing.{Standing, place, Agree, holding, push, drop_last, last_is, with_int, same_frame, loose_of}, Values.{integer_is, RunsAs}, Popping.{AllNull, trailing}, Computing.{holds_same, bits_same}}
 use Rattle.sharc_code.specs.Arithmetic as code
 use Rattle.sharc_ctype.specs.Resolved.{kind_at}

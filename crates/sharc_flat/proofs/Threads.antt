@@ -6,9 +6,8 @@ use Rattle.sharc_tree.specs.{declared.token.Site.Site, declared.event.Act.Act, d
 use Rattle.sharc_names.specs.Kinds.{is_pointer, declared_kind}
 use Rattle.sharc_mode.specs.Moded.{Assignment}
 use Rattle.sharc_meaning.specs.{State.{Frame, State, Out, go, over, then_on, ◌>>=◌, ◌>>◌, give, entered, happens, answer_of, value_in, is_reference, pointers_among, done, performs, without_temporaries, stopped, unless_stop, holds, spent, ends_variables, event_of, Outcome, wants, ended, held_references}, Statements.{turns, exec_all}, declared.variable.Variable.Variable, Meaning.{parameters_begin, left_at, pointers_passed, with_frame, run_function, calls, run_thread, goes_away, asked_by, asks as source_asks, start as source_start, no_frame}, Events.held_mutexes, Laws.SpentIsNone}
-use Rattle.sharc_flat_form.specs.{declared.op.Op.Op, declared.op.Spot.Spot, Machine.{Flat, At, goes, asks, put, next as on, halts, function_of, Turn, Came, exec, on_turn, on_answer, turn, line_turn, end_turn, start as start_at, first_at, begun as begun_at, with_event}}
-use Rattle.sharc_flat_form.specs.declared.op.Op.TheVariants as op
-use Rattle.sharc_flat.specs.{Scope.{ref_count, at_site, slot_of}, Flattened.{around_body, in_function, statements_code, parameters_scope, IsFlattened, parameter_of}, Correct.{SameAs, ProgramSuits, MayStart, Forth, Back, AsksTheSame}}
+use Rattle.sharc_flat.specs.{declared.op.Op.Op, declared.op.Spot.Spot, Machine.{Flat, At, goes, asks, put, next as on, halts, function_of, Turn, Came, exec, on_turn, on_answer, turn, line_turn, end_turn, start as start_at, first_at, begun as begun_at, with_event}, Scope.{ref_count, at_site, slot_of}, Flattened.{around_body, in_function, statements_code, parameters_scope, IsFlattened, parameter_of}, Correct.{SameAs, ProgramSuits, MayStart, Forth, Back, AsksTheSame}}
+use Rattle.sharc_flat.specs.declared.op.Op.TheVariants as op
 use Rattle.sharc_flat.proofs.{Banks.{Bank, bank_is, bank_push}, Runs.{Fin, fin_of, fin_then, Same, weaken, step, Holds, bind, after_event, ends, Tells}, Agreeing.{slots_of, int_values, Standing, place, Agree, below, loose_of}, Declaring.declared_reference, Functions.{begun, function_runs}, Linking.{CallsAs, BodiesAs, inner_scope, no_room, one_call, linked, unframe, below_more}, Storing.performs_then, Program.{statements_run, beyond_all}}
 use Rattle.sharc_tree.specs.declared.trap.Trap.TheVariants as traps
 use Rattle.sharc_ctype.specs.Resolved.{function_at}

@@ -7,7 +7,7 @@ use Rattle.sharc_tree.specs.declared.event.Object.TheVariants as objects
 use Rattle.sharc_tree.specs.declared.trap.Trap.TheVariants as traps
 use Rattle.sharc_code.specs.{declared.code.GlobalCells.GlobalCells, declared.code.PlaceMode.PlaceMode, declared.code.PlaceMode.TheVariants.{Private, Readonly, Racy, Dynamic, LockedGlobal, LockedSibling, LockedThrough, LockedLoaded}, declared.instr.Cell.Cell, Machine.{elements_of as elements_made}}
 use Rattle.sharc_meaning.specs.{Cells.{cell_of, through}, Reference.{is_null, number_of}, Statements.is_positive}
-use Rattle.sharc_flat_form.specs.{declared.op.Spot.Spot, Machine.{At, Turn, asks, ref, cell_at, global_cell, lock_is_null, is_of_null, mode_of, stops, accesses, accessed, next as on}}
+use Rattle.sharc_flat.specs.{declared.op.Spot.Spot, Machine.{At, Turn, asks, ref, cell_at, global_cell, lock_is_null, is_of_null, cell_mode_of, stops, accesses, accessed, next as on}}
 
 -- the mutex of a place, if its mode is locked and the path does not lead through NULL
 abbrev pub mutex_of : List GlobalCells → At → CellAt → PlaceMode → Option CellAt
@@ -40,13 +40,13 @@ through_by true c spot f = refl
 through_by false c spot f = refl
 
 under_by : (globals : List GlobalCells) (m : At) (c : CellAt) (spot : Spot) (f : CellMode → Turn) (mode : PlaceMode) → is_of_null m spot.lock ≡ false
-    → cond (lock_is_null m spot mode) (stops traps.NullPointer spot) (f (mode_of globals m c mode)) ≡ under mode (mutex_of globals m c mode) spot f
+    → cond (lock_is_null m spot mode) (stops traps.NullPointer spot) (f (cell_mode_of globals m c mode)) ≡ under mode (mutex_of globals m c mode) spot f
 under_by globals m c spot f Private e = refl
 under_by globals m c spot f Readonly e = refl
 under_by globals m c spot f Racy e = refl
 under_by globals m c spot f Dynamic e = refl
 under_by globals m c spot f (LockedGlobal g place) e = refl
-under_by globals m c spot f (LockedSibling field mutex) e = ap (λ b. cond b (stops traps.NullPointer spot) (f (mode_of globals m c (LockedSibling field mutex)))) e
+under_by globals m c spot f (LockedSibling field mutex) e = ap (λ b. cond b (stops traps.NullPointer spot) (f (cell_mode_of globals m c (LockedSibling field mutex)))) e
 under_by globals m c spot f (LockedThrough r place) e = through_by (is_null (ref m r)) (cell_of (objects.Made (number_of (ref m r))) place) spot f
 under_by globals m c spot f LockedLoaded e = through_by (is_null m.pending) (cell_of (objects.Made (number_of m.pending)) 0) spot f
 

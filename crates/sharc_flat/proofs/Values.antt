@@ -6,9 +6,8 @@ use Rattle.sharc_names.specs.Kinds.{Kind, object, array, null, function, is_inte
 use Rattle.sharc_code.specs.{declared.instr.Register.TheVariants.Int, Arithmetic.word_of}
 use Rattle.sharc_mode.specs.Moded.{Assignment}
 use Rattle.sharc_meaning.specs.{declared.given.GivenUp.GivenUp, declared.given.GivenUp.TheVariants.Released, Cells.cell_of, Places.{StorePlace, variable, cell, field_in}, Reference.{is_null, number_of}, State.{State, Run, value_of, is_reference, pointers_among, all_released, temporarily}}
-use Rattle.sharc_flat_form.specs.{declared.op.Op.Op, declared.op.Spot.Spot, Machine.{At, put, cell_at, global_cell, is_of_null, first_cell}}
-use Rattle.sharc_flat_form.specs.declared.op.Op.TheVariants as op
-use Rattle.sharc_flat.specs.{Scope.{Context, int_count, ref_count, register_of, slot_kind}, declared.slot.Slot.Slot, Places.{Target, in_global, in_global_at, in_object, in_object_at, has_base, base_width, field_of, guard_field, guard_cell, guard_code, lock_beside, spot_of, drop_base, settle_base, copy_code, value_code, cell_value_code}, Suits.is_cell}
+use Rattle.sharc_flat.specs.{declared.op.Op.Op, declared.op.Spot.Spot, Machine.{At, put, cell_at, global_cell, is_of_null, first_cell}, Scope.{Context, int_count, ref_count, register_of, slot_kind}, declared.slot.Slot.Slot, Places.{Target, in_global, in_global_at, in_object, in_object_at, has_base, base_width, field_of, guard_field, guard_cell, guard_code, lock_beside, spot_of, drop_base, settle_base, copy_code, value_code, cell_value_code}, Suits.is_cell}
+use Rattle.sharc_flat.specs.declared.op.Op.TheVariants as op
 use Rattle.sharc_flat.specs.Places as targets
 use Rattle.sharc_flat.proofs.{Banks.{bank_is, bank_put}, Runs.{HasAt, Fin, fin_then, Same, weaken, step, unhold, without}, Agreeing.{ints_length, IntAt, int_at, Standing, place, Agree, below, stack_length, drop_last, last_is, loose_of, Valued, Rest}, Accessing.{context, pending_place}}
 

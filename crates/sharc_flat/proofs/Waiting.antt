@@ -7,9 +7,8 @@ use Rattle.sharc_names.specs.Kinds.{Kind, is_integer}
 use Rattle.sharc_tree.specs.declared.trap.Trap.TheVariants as traps
 use Rattle.sharc_mode.specs.Moded.{Assignment}
 use Rattle.sharc_meaning.specs.{Cells.cell_of, Places.pointee, Reference.{number_of, is_null, NULL}, State.{State, Out, go, over, Run, then_on, ◌>>=◌, ◌>>◌, give, happens, answer_of, value_in, is_reference, temporarily, Step, done, performs, holds_reference, moves_on, with_temporary, without_temporaries, unless_stop, holds, event_of, looks_at}, Expressions.{operand, Calls, called}, Waiting.{cell_at_place, wait_call, signal_call, broadcast_call}, Events.holds_mutex}
-use Rattle.sharc_flat_form.specs.{declared.op.Op.Op, declared.op.Spot.Spot, Machine.{At, asks, put, cell_at, next as on, set_ref, op_turn, asserts, base_of}}
-use Rattle.sharc_flat_form.specs.declared.op.Op.TheVariants as op
-use Rattle.sharc_flat.specs.{Scope.{int_count, ref_count, at_site}, declared.slot.Slot.Slot, Flattened.{behind_int, behind_ref, wait_code, with_words, argument_words, condition_code, first_cell_of}}
+use Rattle.sharc_flat.specs.{declared.op.Op.Op, declared.op.Spot.Spot, Machine.{At, asks, put, cell_at, next as on, set_ref, op_turn, asserts, base_of}, Scope.{int_count, ref_count, at_site}, declared.slot.Slot.Slot, Flattened.{behind_int, behind_ref, wait_code, with_words, argument_words, condition_code, first_cell_of}}
+use Rattle.sharc_flat.specs.declared.op.Op.TheVariants as op
 use Rattle.sharc_flat.proofs.{Banks.{put_same, put_other}, Runs.{HasAt, has_front, has_back, Fin, fin_then, Same, weaken, Holds, bind, without, after_event, asks_at}, Agreeing.{Standing, place, Agree, holding, push, last_is, hold, same_frame, loose_of, Rest}, Values.{loosen, base_ends, RunsAs, temporarily_runs}, Storing.{performs_then, moved_on}, Locking.chk_by, Comparing.all_end}
 use Rattle.sharc_ctype.specs.Resolved.{kind_at}
 use Rattle.sharc_names.specs.declared.fault.Named.TheVariants as named

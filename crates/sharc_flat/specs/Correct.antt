@@ -5,8 +5,7 @@ use Rattle.sharc_names.specs.Kinds.{declared_kind}
 use Rattle.sharc_ctype.specs.Resolved.{function_at}
 use Rattle.sharc_mode.specs.Moded.{Assignment}
 use Rattle.sharc_meaning.specs.{Meaning.{Asked, asks}, State.{is_reference, spent}}
-use Rattle.sharc_flat_form.specs.Machine.{Flat, Came, exec, start}
-use Rattle.sharc_flat.specs.{Flattened.in_function, Suits.StatementsSuit}
+use Rattle.sharc_flat.specs.{Machine.{Flat, Came, exec, start}, Flattened.in_function, Suits.StatementsSuit}
 use Rattle.sharc_code.specs.declared.code.GlobalCells.{GlobalCells}
 
 -- The same events and answers, the same end or want, the same references given up since the last event; and each

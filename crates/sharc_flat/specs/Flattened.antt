@@ -46,9 +46,7 @@ use Rattle.sharc_mode.specs.{Cells.{cell_at, pointed}, Rows.{written, row_at, de
 use Rattle.sharc_mode.specs.{Sharings.{Sharing, private}, Moded.Assignment}
 use Rattle.sharc_meaning.specs.{Cells.{element_cells, field_place_named}, Expressions.number_named}
 use Rattle.sharc_meaning.specs.{Reference.constant_value, State.is_reference}
-use Rattle.sharc_flat_form.specs.{declared.op.Op.Op, declared.op.Spot.Spot, Machine.Flat}
-use Rattle.sharc_flat_form.specs.declared.op.Op.TheVariants as op
-use Rattle.sharc_flat.specs.Frames.{ints_in, refs_in}
+use Rattle.sharc_flat.specs.{declared.op.Op.Op, declared.op.Spot.Spot, Machine.Flat, Frames.{ints_in, refs_in}}
 use Rattle.sharc_flat.specs.Scope.{slot_of, int_count, ref_count, Context, no_text, tokens_in, at_site, at_words}
 use Rattle.sharc_flat.specs.Scope.{ends_from, leaves}
 use Rattle.sharc_flat.specs.declared.slot.Slot.{Slot}
@@ -56,6 +54,7 @@ use Rattle.sharc_flat.specs.Places.{Target, lvalue_of, take_use, variable, in_gl
 use Rattle.sharc_flat.specs.Places.{target, own_field, cell_of, beside_field, object_spot, index_code, pointee_code}
 use Rattle.sharc_flat.specs.Places.{value_code, store_code, take_code, width_of, width_code}
 use Rattle.sharc_flat.specs.declared.slot.Lvalue.{Lvalue}
+use Rattle.sharc_flat.specs.declared.op.Op.TheVariants as op
 
 abbrev pub kind_of : Context → Expression → Kind
 kind_of c e = kind_at c.program.typed e
@@ -248,7 +247,8 @@ taken_guard c Unlock a = None
 taken_guard c Free a = guard_of c a
 
 -- `a.n` and `a->n`
-abbrev pub field_code : Context → ℕ → Site → Option ℕ → FieldOperator → Identifier → (Option ℕ → List Op) → List Op → List Op
+abbrev pub field_code : Context → ℕ → Site → Option ℕ → FieldOperator → Identifier → (Option ℕ → List Op) → List Op
+    → List Op
 field_code c r site f Dot n place pointer =
     place (Some (own_field f (field_place_named c.program.typed (what_names c n.site.token))))
 field_code c r site f Arrow n place pointer = pointee_code r site pointer

@@ -2,11 +2,10 @@
 use Rattle.std.specs.Prelude.{◌≡◌, ℕ, ◌+◌, ◌*◌, ◌^◌, ◌<◌, List, slice_get, Some}
 use Rattle.sharc_code.specs.{Path.{most_ints, most_refs}, declared.code.GlobalCells.GlobalCells}
 use Rattle.sharc_mode.specs.Moded.{Assignment}
-use Rattle.sharc_flat_form.specs.declared.op.Op.TheVariants as op
-use Rattle.sharc_flat_form.specs.{declared.op.Spot.Spot, Framed.{IsInGlobal, IsFlat, IsFramed}, Machine.Flat}
-use Rattle.sharc_flat_form.specs.{declared.flat.Flat.{Flat as FlatCode}, Made.flat_of}
-use Rattle.sharc_flat.specs.{Correct.{ProgramSuits, AsksTheSame}, Flattened.IsFlattened, Flattens.Flattens, Laid.Lays}
-use Rattle.sharc_flat.specs.Tables.{globals_of}
+use Rattle.sharc_flat.specs.declared.op.Op.TheVariants as op
+use Rattle.sharc_flat.specs.{declared.op.Spot.Spot, Framed.{IsInGlobal, IsFlat, IsFramed}, Machine.Flat}
+use Rattle.sharc_flat.specs.{declared.flat.Flat.{Flat as FlatCode}, Made.flat_of, Correct.{ProgramSuits, AsksTheSame}}
+use Rattle.sharc_flat.specs.{Flattened.IsFlattened, Flattens.Flattens, Laid.Lays, Tables.globals_of}
 use Rattle.sharc_ctype.specs.Resolved.{Resolution}
 
 abbrev pub FlattenedAsksTheSame : Type 0

@@ -1,3 +1,7 @@
+pub mod Machine
+pub mod Path
+pub mod Framed
+pub mod Made
 pub mod Frames
 pub mod Scope
 pub mod Places

@@ -27,10 +27,9 @@ use Rattle.sharc_mode.specs.Cells.{is_behind_pointer}
 use Rattle.sharc_mode.specs.Sharings.{Lock, Sharing, private, readonly, locked, racy, dynamic}
 use Rattle.sharc_meaning.specs.Cells.{field_place as place_of_field, field_place_named, field_place_behind}
 use Rattle.sharc_meaning.specs.Cells.{global_elements, element_cells}
-use Rattle.sharc_flat_form.specs.{declared.op.Op.Op, declared.op.Spot.Spot, Machine.first_cell}
-use Rattle.sharc_flat_form.specs.declared.op.Op.TheVariants as op
-use Rattle.sharc_flat.specs.declared.slot.Lvalue.{Lvalue}
+use Rattle.sharc_flat.specs.{declared.op.Op.Op, declared.op.Spot.Spot, Machine.first_cell, declared.slot.Lvalue.Lvalue}
 use Rattle.sharc_flat.specs.Scope.{Context, register_of, number_in, no_text, tokens_in, no_cell, at_site, at_words}
+use Rattle.sharc_flat.specs.declared.op.Op.TheVariants as op
 
 -- what an lvalue names: a variable; a field of a global, or of an element of one; a field of the first element of an
 -- object, or of another one

@@ -10,9 +10,8 @@ use Rattle.sharc_code.specs.{declared.instr.Cell.Cell, declared.instr.Cell.TheVa
 use Rattle.sharc_code.specs.{declared.instr.Register.Register, declared.instr.Register.TheVariants.{Int, Reference}}
 use Rattle.sharc_names.specs.Kinds.{is_pointer, declared_kind}
 use Rattle.sharc_mode.specs.Moded.{Assignment}
-use Rattle.sharc_flat_form.specs.{declared.op.Op.Op, declared.op.Spot.Spot}
-use Rattle.sharc_flat.specs.declared.slot.Slot.{Slot}
-use Rattle.sharc_flat_form.specs.declared.op.Op.TheVariants as op
+use Rattle.sharc_flat.specs.{declared.op.Op.Op, declared.op.Spot.Spot, declared.slot.Slot.Slot}
+use Rattle.sharc_flat.specs.declared.op.Op.TheVariants as op
 
 abbrev pub slot_of : Declaration → Slot
 slot_of d = record { token = d.name.site.token; is_pointer = is_pointer (declared_kind d.written) }

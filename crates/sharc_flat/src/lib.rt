@@ -1,3 +1,11 @@
+//! The flat form and its machine, and what the flat code of a source is: definitions and laws.
+//!
+//! The flat form of a program: its operations, and the machine of one thread that runs them.
+//!
+//! The layer above may use `Flat`, `Op` and `Spot`. `specs/Machine.antt` says what each operation does and what a
+//! thread asks for by a list of answers (`exec`); specs/Path.antt has the same by paths, and the law that joins the
+//! two; specs/Framed.antt says which flat code is well formed.
+//!
 //! From the meaning of a source to its flat form.
 //!
 //! The layer above may use the laws of src/laws.rt. `IsFlattened` of specs/Flattened.antt says what the flat code of a
@@ -6,5 +14,11 @@
 //! its tables, and its texts where they lie.
 #![tactic(auto)]
 
+mod flat;
+pub mod form_laws;
 pub mod laws;
+mod op;
 pub mod slot;
+
+pub use flat::Flat;
+pub use op::{Op, Spot};

@@ -8,9 +8,8 @@ use Rattle.sharc_ctype.specs.{Reaches.{of_all, spawns}, Resolved.{Resolution, fu
 use Rattle.sharc_ctype_laws.specs.Laws.{MeetsGlobals, SpawnsByName, SpawnsNameFunctions, SpawnsThreads, WithinLimits}
 use Rattle.sharc_meaning.specs.Expressions.{number_named}
 use Rattle.sharc_mode.specs.Moded.{Assignment}
-use Rattle.sharc_flat_form.specs.declared.op.Op.{Op}
-use Rattle.sharc_flat_form.specs.declared.op.Op.TheVariants as op
-use Rattle.sharc_flat.specs.{Flattened.{functions_code, rows_of, function_code}, Flattens.names_of, Laid.{AreLaid, AreNamed, with_texts}, Tables.globals_of}
+use Rattle.sharc_flat.specs.{declared.op.Op.Op, Flattened.{functions_code, rows_of, function_code}, Flattens.names_of, Laid.{AreLaid, AreNamed, with_texts}, Tables.globals_of}
+use Rattle.sharc_flat.specs.declared.op.Op.TheVariants as op
 use Rattle.sharc_flat_laws.specs.Tables.{SpawnMeets, IsSpawned, MadeSpawns, MadeTablesFit}
 use Rattle.sharc_flat_laws.proofs.{Spawning.{AllMeet, Each, functions_ask}, Words.{words, globals_fit}}
 use Rattle.sharc_lemmas.proofs.Lists.{there_is as inside}

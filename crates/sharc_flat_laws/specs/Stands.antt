@@ -17,7 +17,7 @@ use Rattle.sharc_mode.specs.{WellFormed.{first_unfit_path, place_of}, Moded.Assi
 use Rattle.sharc_mode.specs.{Rows.{written, row_at, declared_row}, Sharings.{Sharing, locked}}
 use Rattle.sharc_ctype_laws.specs.{Constraints.HasType, Paths.{IsVariableIn, around_in}}
 use Rattle.sharc_ctype_laws.specs.Places.{Placing, places_of_all}
-use Rattle.sharc_flat_form.specs.{declared.flat.Flat.{Flat as FlatCode}, Framed.{IsFlat, IsFramed}, Made.flat_of}
+use Rattle.sharc_flat.specs.{declared.flat.Flat.{Flat as FlatCode}, Framed.{IsFlat, IsFramed}, Made.flat_of}
 use Rattle.sharc_flat.specs.{Correct.{ProgramSuits, AsksTheSame}, Flattens.Flattens, Laws.FitsMade, Places.guard_field}
 use Rattle.sharc_flat.specs.{Scope.{Context, slot_kind}, Suits.PathStands}
 

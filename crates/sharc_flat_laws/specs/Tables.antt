@@ -3,9 +3,8 @@ use Rattle.std.specs.{Prelude.ℕ, List.AllByRecursion}
 use Rattle.sharc_tree.specs.{Low.IsLow, Placed.IsPlaced}
 use Rattle.sharc_ctype.specs.{Reaches.Spawns, Resolved.{Resolution, IsResolved}}
 use Rattle.sharc_mode.specs.Moded.{Assignment}
-use Rattle.sharc_flat_form.specs.{declared.flat.Flat.{Flat as FlatCode}, declared.op.Op.Op}
-use Rattle.sharc_flat_form.specs.declared.op.Op.TheVariants as op
-use Rattle.sharc_flat.specs.Flattens.{Flattens}
+use Rattle.sharc_flat.specs.{declared.flat.Flat.{Flat as FlatCode}, declared.op.Op.Op, Flattens.Flattens}
+use Rattle.sharc_flat.specs.declared.op.Op.TheVariants as op
 use Rattle.sharc_guard.specs.Tables.{FlatTablesFit}
 
 -- the number of the function that an operation spawns, if it spawns one, meets a test

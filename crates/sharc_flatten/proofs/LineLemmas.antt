@@ -3,9 +3,8 @@ use Rattle.std.proofs.{Common.{◌≡◌, ℕ, ◌+◌, ◌<◌, ◌≤◌, List
 use Rattle.std.specs.Prelude.{slice_get}
 use Rattle.sharc_code.specs.{declared.code.Function.{Function as Row}, declared.code.Text.Text}
 use Rattle.sharc_ctype.specs.Resolved.{Resolution}
-use Rattle.sharc_flat_form.specs.{declared.op.Op.Op, declared.op.Spot.Spot}
-use Rattle.sharc_flat_form.specs.declared.op.Op.TheVariants as op
-use Rattle.sharc_flat.specs.Laid.{with_texts, spot_in, AreTexts, AreTextsIn, IsLaid, AreLaid, IsNamed, AreNamed}
+use Rattle.sharc_flat.specs.{declared.op.Op.Op, declared.op.Spot.Spot, Laid.{with_texts, spot_in, AreTexts, AreTextsIn, IsLaid, AreLaid, IsNamed, AreNamed}}
+use Rattle.sharc_flat.specs.declared.op.Op.TheVariants as op
 use Rattle.sharc_flatten.specs.Places.{Grows}
 use Rattle.sharc_flatten.proofs.ListLemmas.{take_got, same_at}
 

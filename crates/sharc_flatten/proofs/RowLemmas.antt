@@ -4,8 +4,7 @@ use Rattle.std.specs.Prelude.{slice_get}
 use Rattle.sharc_tree.specs.Tree.{Function}
 use Rattle.sharc_code.specs.{declared.code.Function.{Function as Row}, declared.code.GlobalCells.GlobalCells}
 use Rattle.sharc_mode.specs.Moded.{Assignment}
-use Rattle.sharc_flat_form.specs.declared.op.Op.{Op}
-use Rattle.sharc_flat.specs.Flattened.{row_of, rows_of, function_code, functions_code}
+use Rattle.sharc_flat.specs.{declared.op.Op.Op, Flattened.{row_of, rows_of, function_code, functions_code}}
 use Rattle.sharc_lemmas.proofs.Lists.{got as drop_got}
 
 end_of : (m : Assignment) (globals : List GlobalCells) (lines new : List Op) (f : Function) → new ≡ lines ++ function_code m globals (length lines) f → length new ≡ length lines + length (function_code m globals (length lines) f)

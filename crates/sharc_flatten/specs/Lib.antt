@@ -1,3 +1,5 @@
+pub mod Lookups
+pub mod View
 pub mod Places
 pub mod Rows
 pub mod Sizes

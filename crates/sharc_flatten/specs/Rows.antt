@@ -2,8 +2,7 @@
 use Rattle.std.specs.Prelude.{ℕ, max, List}
 use Rattle.sharc_tree.specs.Tree.{Function}
 use Rattle.sharc_code.specs.declared.code.Function.{Function as Row}
-use Rattle.sharc_flat_form.specs.declared.op.Op.{Op}
-use Rattle.sharc_flat.specs.{Flattened.{parameter_of, parameters_scope}, Frames.{ints_in, refs_in}}
+use Rattle.sharc_flat.specs.{declared.op.Op.Op, Flattened.{parameter_of, parameters_scope}, Frames.{ints_in, refs_in}}
 use Rattle.sharc_flat.specs.Scope.{int_count, ref_count, no_text}
 
 -- of a function with this code, from this line on

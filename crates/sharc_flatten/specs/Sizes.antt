@@ -1,7 +1,7 @@
 -- How many cells of a global the operations of flat code may find by an index.
 use Rattle.std.specs.Prelude.{◌≡◌, ℕ, ◌+◌, ◌*◌, ◌^◌, ◌<◌, List, slice_get, Some}
-use Rattle.sharc_flat_form.specs.{declared.op.Op.Op, declared.op.Spot.Spot}
-use Rattle.sharc_flat_form.specs.declared.op.Op.TheVariants as op
+use Rattle.sharc_flat.specs.{declared.op.Op.Op, declared.op.Spot.Spot}
+use Rattle.sharc_flat.specs.declared.op.Op.TheVariants as op
 
 -- of one operation, and of all lines
 abbrev pub IsFew : Op → Type 0

@@ -7,10 +7,10 @@ ghost use Rattle.sharc_meaning.specs.Reference.{constant_value};
 ghost use Rattle.sharc_meaning.specs.Store.{form_value};
 ghost use Rattle.sharc_flat.specs.Tables.{cells_in, globals_of, all_granules, all_first_words};
 
+use crate::lookups::{element_cells, elements_of_form, small};
 use crate::numbers::plus;
+use crate::source::PlacedProgram;
 use sharc_code::GlobalCells;
-use sharc_flat_walk::lookups::{element_cells, elements_of_form, small};
-use sharc_flat_walk::source::PlacedProgram;
 use sharc_names::kind::declared_kind;
 use sharc_tree::tree::{Constant, GlobalDefinition, GlobalForm};
 use std::alloc::{AllocError, Global};

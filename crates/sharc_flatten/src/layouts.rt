@@ -3,10 +3,10 @@
 ghost use Rattle.std.specs.Prelude.{◌≡◌, ◌+◌, [], ◌∷◌, ◌++◌, IfOk, OnOk};
 ghost use Rattle.sharc_flat.specs.Tables.{pointers_among, layouts_of, pointers_of};
 
+use crate::lookups::small;
 use crate::numbers::plus;
 use sharc_code::Layout;
 use sharc_ctype::typed::Typed;
-use sharc_flat_walk::lookups::small;
 use sharc_names::kind::{declared_kind, is_pointer};
 use sharc_tree::tree::Declaration;
 use std::alloc::{AllocError, Global};

@@ -5,7 +5,7 @@ ghost use Rattle.sharc_flat.specs.Frames.{int_need, base_need, handed_need, ref_
 
 use crate::numbers::plus;
 use sharc_code::{Cell, Register};
-use sharc_flat_form::Op;
+use sharc_flat::Op;
 use std::alloc::AllocError;
 
 /// The integer registers that an operation needs: those up to the one that it writes, or to which the result of a call

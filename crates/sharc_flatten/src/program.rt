@@ -2,7 +2,7 @@
 
 ghost use Rattle.std.specs.Prelude.{◌≡◌, ◌≤◌, length, IfOk};
 ghost use Rattle.sharc_ctype.specs.Resolved.{functions_in, globals_in};
-ghost use Rattle.sharc_flat_form.specs.Made.{flat_of};
+ghost use Rattle.sharc_flat.specs.Made.{flat_of};
 ghost use Rattle.sharc_flat.specs.Flattened.{rows_of, functions_code};
 ghost use Rattle.sharc_flat.specs.Flattens.{names_of, Flattens, IsMainOf};
 ghost use Rattle.sharc_flat.specs.Laid.{AreLaid, AreNamed};
@@ -12,13 +12,13 @@ ghost use Rattle.sharc_flat.specs.Tables.{globals_of, all_granules, all_first_wo
 use crate::functions::functions;
 use crate::globals::{Globals, globals_of};
 use crate::layouts::layouts_of;
+use crate::lookups::small;
 use crate::sizes::{cells_fit, frames_fit};
+use crate::source::PlacedProgram;
 use crate::texts::{TokenTexts, lay_names};
 use sharc_code::Function;
 use sharc_ctype::typed::Typed;
-use sharc_flat_form::{Flat, Op};
-use sharc_flat_walk::lookups::small;
-use sharc_flat_walk::source::PlacedProgram;
+use sharc_flat::{Flat, Op};
 use sharc_mode::moded::Moded;
 use std::alloc::{AllocError, Global};
 

@@ -5,7 +5,7 @@ ghost use Rattle.sharc_code.specs.Path.{most_ints, most_refs};
 ghost use Rattle.sharc_flatten.specs.Sizes.{IsFew, AreFew};
 
 use sharc_code::Function;
-use sharc_flat_form::Op;
+use sharc_flat::Op;
 use std::alloc::AllocError;
 
 /// The integer registers of the largest frame.

@@ -6,12 +6,12 @@ ghost use Rattle.sharc_flat.specs.Flattens.{names_of};
 ghost use Rattle.sharc_flat.specs.Laid.{words_of, name_of, field_behind, beside_words, lock_text_of, AreNamed};
 ghost use Rattle.sharc_flatten.specs.Places.{places_from, LiesIn, Grows};
 
+use crate::lookups::small;
 use crate::tokens::{add_text, lay_tokens};
 use crate::told::{spot_in, with_texts};
 use sharc_code::{Function, PlaceMode, Text};
 use sharc_ctype::typed::Typed;
-use sharc_flat_form::{Op, Spot};
-use sharc_flat_walk::lookups::small;
+use sharc_flat::{Op, Spot};
 use sharc_mode::text::text_at;
 use sharc_mode::types::fields_behind;
 use sharc_names::fault::Named;

@@ -4,8 +4,8 @@ ghost use Rattle.std.specs.Prelude.{◌≡◌, ◌+◌, ◌++◌, length, IfOk, 
 ghost use Rattle.sharc_tree.specs.Texts.{is_word, blank_between, tokens_text};
 ghost use Rattle.sharc_flatten.specs.Places.{places_from};
 
+use crate::lookups::small;
 use sharc_code::Text;
-use sharc_flat_walk::lookups::small;
 use sharc_tree::token::Token;
 use std::alloc::{AllocError, Global};
 

@@ -4,7 +4,7 @@ ghost use Rattle.std.specs.Prelude.{◌≡◌};
 ghost use Rattle.sharc_flat.specs.Laid.{told_by, with_texts, spot_in};
 
 use sharc_code::Text;
-use sharc_flat_form::{Op, Spot};
+use sharc_flat::{Op, Spot};
 
 fn tell(lvalue: Text, lock: Text, spot: &mut Spot)
     ensures { spot.new ≡ told_by lvalue lock spot.old }

@@ -8,10 +8,9 @@ use Rattle.sharc_code.specs.declared.instr.Register.TheVariants as registers
 use Rattle.sharc_code.specs.Arithmetic as Code
 use Rattle.sharc_code.specs.Says as Says
 use Rattle.sharc_meaning.specs.Arithmetic.{is_zero}
-use Rattle.sharc_flat_form.specs.Machine.{Flat, Caller, At, cell_at, is_of_null, mode_of, instance_mode, kind_of, variable_of, argument}
-use Rattle.sharc_guarded_form.specs.Machine as Form
-use Rattle.sharc_guarded_form.specs.Machine.{Program, Thread, Running}
-use Rattle.sharc_guard.specs.Guard.{place, guarded}
+use Rattle.sharc_flat.specs.Machine.{Flat, Caller, At, cell_at, is_of_null, cell_mode_of, instance_mode, take_kind_of, variable_of, argument}
+use Rattle.sharc_guard.specs.Machine as Form
+use Rattle.sharc_guard.specs.{Machine.{Program, Thread, Running}, Guard.{place, guarded}}
 
 -- ---- the words of both
 pub zero_same : (z : ℤ) → Code.is_zero z ≡ is_zero z
@@ -19,7 +18,7 @@ zero_same (pos zero) = refl
 zero_same (pos (suc n)) = refl
 zero_same (negsuc n) = refl
 
-pub kind_same : (u : Use) → Says.kind_of u ≡ kind_of u
+pub kind_same : (u : Use) → Says.kind_of u ≡ take_kind_of u
 kind_same (uses.Free x) = refl
 kind_same (uses.Cast x) = refl
 kind_same uses.Read = refl
@@ -84,7 +83,7 @@ module _ (dropped : ℕ → Bool) (flat : Flat) (m : At) (q : ℕ) (h : List Cel
   argument_same (registers.Int i) = refl
   argument_same (registers.Reference r) = refl
 
-  pub mode_same : (c : CellAt) (mode : PlaceMode) → Form.mode_of p me c mode ≡ mode_of flat.globals m c mode
+  pub mode_same : (c : CellAt) (mode : PlaceMode) → Form.mode_of p me c mode ≡ cell_mode_of flat.globals m c mode
   mode_same c Private = refl
   mode_same c Readonly = refl
   mode_same c Racy = refl

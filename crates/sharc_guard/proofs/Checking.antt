@@ -1,10 +1,9 @@
 -- Each access comes after its check.
 use Rattle.std.proofs.{Common.{◌≡◌, ℕ, zero, suc, ◌+◌, ◌-◌, ◌<◌, ◌≤◌, ◌⊎◌, inl, inr, Bool, true, false, List, [], ◌∷◌, ◌++◌, length, map, refl, sym, ap, ◌∙◌, subst, ⊎_elim, arith, Some, None, slice_get, slice_index_or, cond}, lemmas.Bool.cases_lt, lemmas.List.{append_assoc, length-map}}
 use Rattle.sharc_code.specs.{declared.code.Function.Function, declared.code.PlaceMode.PlaceMode, declared.code.PlaceMode.TheVariants.{Private, Readonly, Racy, Dynamic, LockedGlobal, LockedSibling, LockedThrough, LockedLoaded}, declared.code.SourcePlace.SourcePlace, declared.instr.Cell.TheVariants.{Global, Object}, declared.instr.Width.TheVariants.{Char, Int, Long}, declared.instr.Instr.Instr, declared.instr.Instr.TheVariants.{Start, Exit, ChkRead, ChkWrite, ChkLock, ChkLockLoaded, Load, Store, LoadRef, Exchange, TakeCell}, Machine.no_function}
-use Rattle.sharc_flat_form.specs.{declared.op.Op.Op, declared.op.Spot.Spot, Machine.Flat}
-use Rattle.sharc_flat_form.specs.declared.op.Op.TheVariants as op
-use Rattle.sharc_guarded_form.specs.Machine.{Program, source_at}
-use Rattle.sharc_guard.specs.{Guard.{expand, head, body, tail, own, width, offset, place, guarded, entered_at, source_of, check_under}, Checked.{Access, access_of, IsCheckOf, LeadsTo, IsNoTarget, IsAfterCheck, IsCheckedAt}}
+use Rattle.sharc_flat.specs.{declared.op.Op.Op, declared.op.Spot.Spot, Machine.Flat}
+use Rattle.sharc_flat.specs.declared.op.Op.TheVariants as op
+use Rattle.sharc_guard.specs.{Machine.{Program, source_at}, Guard.{expand, head, body, tail, own, width, offset, place, guarded, entered_at, source_of, check_under}, Checked.{Access, access_of, IsCheckOf, LeadsTo, IsNoTarget, IsAfterCheck, IsCheckedAt}}
 use Rattle.sharc_guard.proofs.{Placing.{HasAt, width_is, stands, place_next, source_is}, Framing.{there_is, AllIn, all_append, all_at, has_at, get_inside, head_all}}
 
 -- ---- places grow

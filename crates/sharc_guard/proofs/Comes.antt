@@ -5,11 +5,10 @@ use Rattle.sharc_tree.specs.declared.event.Act.{Act}
 use Rattle.sharc_tree.specs.declared.event.Act.TheVariants as acts
 use Rattle.sharc_code.specs.declared.instr.Instr.{Instr}
 use Rattle.sharc_meaning.specs.{Events.held_mutexes, State.{event_of, answer_of}}
-use Rattle.sharc_flat_form.specs.{declared.op.Op.Op, Machine.{Flat, At, Turn, asks, next, function_of, end_turn, line_turn, op_turn, turn, with_event}, Path.{may_go, at_after, asked_by, asked}}
-use Rattle.sharc_guarded_form.specs.Machine as Form
-use Rattle.sharc_guarded_form.specs.{Machine.{Program, Thread, Phase, Running, Leaving, Left, source_at, statement_at}, Path.{thread_after, IsPath, weight, weight_in}}
-use Rattle.sharc_guarded_form.specs.Path as Path
-use Rattle.sharc_guard.specs.{Guard.{place, guarded, own, body, tail}, Level.IsLevel, Asked.{guarded_asked_by, guarded_asked, is_enter}, Counted.{OverwritesNone, LocksFrom}}
+use Rattle.sharc_flat.specs.{declared.op.Op.Op, Machine.{Flat, At, Turn, asks, next, function_of, end_turn, line_turn, op_turn, turn, with_event}, Path.{may_go, at_after, asked_by, asked}}
+use Rattle.sharc_guard.specs.Machine as Form
+use Rattle.sharc_guard.specs.{Machine.{Program, Thread, Phase, Running, Leaving, Left, source_at, statement_at}, Path.{thread_after, IsPath, weight, weight_in}, Guard.{place, guarded, own, body, tail}, Level.IsLevel, Asked.{guarded_asked_by, guarded_asked, is_enter}, Counted.{OverwritesNone, LocksFrom}}
+use Rattle.sharc_guard.specs.Path as Path
 use Rattle.sharc_guard.proofs.{Placing.HasAt, Turns.behind, Places.place_of, Beside.beside, Near.{quiet, leaving, Near, Ending, Follow, lands}, Turning.{IsOpenFor, FollowsBy, follows}, Gates.{Passes, GivesNow, Guards}, Phases.{weight_all, Ahead, Behind, Stage, ahead, behind_it, leaves, Bound}, Steps.{statement_is, one_body, StraightBy, straight, quiet_turn, function_site, Coming, Was, PassedBy, landed, own_turn}}
 
 -- at a statement's own turn

@@ -7,14 +7,14 @@ use Rattle.sharc_tree.specs.declared.event.CellMode.TheVariants as modes
 use Rattle.sharc_tree.specs.declared.event.Object.TheVariants as objects
 use Rattle.sharc_tree.specs.declared.event.Taken.TheVariants as taken
 use Rattle.sharc_tree.specs.declared.trap.Trap.TheVariants as traps
-use Rattle.sharc_shadow.specs.{declared.shadow_word.Kind.Kind, declared.shadow_word.Kind.TheVariants.{Read, Write}}
+use Rattle.sharc_heap.specs.{declared.shadow_word.Kind.Kind, declared.shadow_word.Kind.TheVariants.{Read, Write}}
 use Rattle.sharc_code.specs.{declared.code.Function.Function, declared.code.Parameter.Parameter, declared.instr.Cell.Cell, Arithmetic.{computed, negated, holds, word_of}, Machine.no_function}
 use Rattle.sharc_code.specs.declared.code.Parameter.TheVariants as parameters
 use Rattle.sharc_code.specs.declared.instr.Cell.TheVariants as cells
 use Rattle.sharc_code.specs.declared.instr.Register.TheVariants as registers
 use Rattle.sharc_meaning.specs.{declared.given.GivenUp.TheVariants.Replaced, Arithmetic.is_zero, Cells.cell_of, Events.{held_mutexes, holds_mutex}, Reference.{number_of, elements_of}, Statements.is_positive}
-use Rattle.sharc_flat_form.specs.{declared.op.Op.Op, declared.op.Spot.Spot, Machine.{Flat, Caller, At, Turn, goes, asks, halts, put, int, ref, set_int, set_ref, gives_up, next, over_lines, goes_on, stops, asserts, with_result, cell_at, global_cell, mode_of, lock_is_null, accesses, accessed, kind_of, indexed, takes_local, called, returned, function_of, first_at, begun, start, end_turn, line_turn, op_turn, turn, with_event}, Path.{after, may_go, at_after, IsPath}}
-use Rattle.sharc_flat_form.specs.declared.op.Op.TheVariants as op
+use Rattle.sharc_flat.specs.{declared.op.Op.Op, declared.op.Spot.Spot, Machine.{Flat, Caller, At, Turn, goes, asks, halts, put, int, ref, set_int, set_ref, gives_up, next, over_lines, goes_on, stops, asserts, with_result, cell_at, global_cell, cell_mode_of, lock_is_null, accesses, accessed, take_kind_of, indexed, takes_local, called, returned, function_of, first_at, begun, start, end_turn, line_turn, op_turn, turn, with_event}, Path.{after, may_go, at_after, IsPath}}
+use Rattle.sharc_flat.specs.declared.op.Op.TheVariants as op
 use Rattle.sharc_guard.specs.{Counted.IsAccess, Known.{is_straight, leads_to, line_leads, is_led_to, is_entry, is_target, writes_ref, writes_int, SimplePlace, in_variable, in_global, assigns, counts, Access, access, is_dynamic, tells, Know, nothing, number_given, copy_given, unless_written, with_element, variable_place, global_place, place_of, is_at, passes_by, know_next, know_after, known, has_passed, drops, drops_at, dropped}, Repeated.IsStraight, Covered.{Makes, Since, IsCovered, DroppedIsCovered}}
 use Rattle.sharc_guard.proofs.{Ready.{put_at, put_other}, Repeating.{eq_same, place_is, dynamic_is, no_some, true_false, constant_is, element_is, unwritten, copy_is, counts_more}}
 use Rattle.sharc_lemmas.proofs.{Options.{same_some as some_is}, Bools.{and_left, or_split as or_either, not_true, and_right, false_true}, Lists.{there_is as within}, Numbers.{same_number as eq_true}}
@@ -367,7 +367,7 @@ module _ (flat : Flat) (from : At) where
         c = cell_at flat.globals m cell
 
         wants : Turn
-        wants = asks m spot.site (act c (mode_of flat.globals m c spot.mode)) (pos 0) (λ v n. accessed (next (next_of c v n)))
+        wants = asks m spot.site (act c (cell_mode_of flat.globals m c spot.mode)) (pos 0) (λ v n. accessed (next (next_of c v n)))
 
         by : (b : Bool) → may_go (cond b (stops traps.NullPointer spot) wants) ≡ true → (v : ℤ) × (e : SourceEvent) × (after m (cond b (stops traps.NullPointer spot) wants) x ≡ accessed (next (next_of c v (with_event e m))))
         by true e = false_true e
@@ -378,8 +378,8 @@ module _ (flat : Flat) (from : At) where
     makes_access cell spot act next_of kind a d other h =
         let c = cell_at flat.globals m cell in
         let e = dynamic_is spot.mode d in
-        subst (λ b. Makes (cond b (stops traps.NullPointer spot) (asks m spot.site (act c (mode_of flat.globals m c spot.mode)) (pos 0) (λ v n. accessed (next (next_of c v n))))) other c) (sym (ap (lock_is_null m spot) e))
-        (kind, h, subst (λ z. IsAccess kind c (act c z)) (sym (ap (mode_of flat.globals m c) e)) a)
+        subst (λ b. Makes (cond b (stops traps.NullPointer spot) (asks m spot.site (act c (cell_mode_of flat.globals m c spot.mode)) (pos 0) (λ v n. accessed (next (next_of c v n))))) other c) (sym (ap (lock_is_null m spot) e))
+        (kind, h, subst (λ z. IsAccess kind c (act c z)) (sym (ap (cell_mode_of flat.globals m c) e)) a)
 
     -- the same of the access that an operation has
     makes_own : (o : Op) (b : Access) → access o ≡ Some b → (is_dynamic b.spot.mode ≡ true → (other : Kind) → counts b.kind other ≡ true → Makes (op_turn flat o m) other (cell_at flat.globals m b.cell))
@@ -510,7 +510,7 @@ module _ (flat : Flat) (from : At) where
     steps (op.LoadGuard cell spot) a go = same_at (op.LoadGuard cell spot) a (then_ (op.LoadGuard cell spot)) refl refl refl refl refl refl refl refl refl (λ k. refl) (λ k. refl)
     steps (op.New r count cells spot) a go = ref_at (op.New r count cells spot) a (then_ (op.New r count cells spot)) refl refl refl refl refl refl refl r _ refl refl (λ k. refl) (λ k. refl) (λ y c. no_some y c)
     steps (op.TakeCell r cell spot) a go =
-        let z = of_access cell spot (λ c mode. acts.Take (taken.Cell c mode) (kind_of spot.at)) (λ c v. set_ref r v) go in
+        let z = of_access cell spot (λ c mode. acts.Take (taken.Cell c mode) (take_kind_of spot.at)) (λ c v. set_ref r v) go in
         blank_on (op.TakeCell r cell spot) a refl (accessed (next (set_ref r z.0 (with_event z.1 m)))) z.2 refl refl
     steps (op.TakeLocal r y spot) a go = by (is_zero (ref m y)) refl
       where

@@ -9,12 +9,11 @@ use Rattle.sharc_code.specs.{declared.code.Function.Function, declared.code.Sour
 use Rattle.sharc_code.specs.declared.instr.Register.TheVariants as registers
 use Rattle.sharc_meaning.specs.{Statements.{is_positive as positive}, declared.given.GivenUp.GivenUp, declared.given.GivenUp.TheVariants.{Released, Replaced, Emptied}, Events.{held_mutexes, locked_by, unlocked_by}, Reference.{NULL, is_null, number_of}, State.{stopped, ended, event_of, answer_of}}
 use Rattle.sharc_code.specs.declared.code.Use.TheVariants as uses
-use Rattle.sharc_flat_form.specs.{declared.op.Op.Op, declared.op.Spot.Spot, Machine.{goes, asks, halts, op_turn}, Path.after, Framed.{IsFlat, Leads, IsWide}}
-use Rattle.sharc_flat_form.specs.declared.op.Op.TheVariants as op
-use Rattle.sharc_flat_form.specs.Machine as Flat
-use Rattle.sharc_guarded_form.specs.Machine as Form
-use Rattle.sharc_guarded_form.specs.{Machine.{Program, Thread, Phase, Running, Leaving, Left, Turn, Goes, Asks, Checks, Halts, Stopped, step, source_at, statement_at}, Path.weight}
-use Rattle.sharc_guard.specs.{Guard.{source_of, source_at_spot, compute, negate, body, tail, entered_at}, Correct.{Resolved, moved, bottom, image}}
+use Rattle.sharc_flat.specs.{declared.op.Op.Op, declared.op.Spot.Spot, Machine.{goes, asks, halts, op_turn}, Path.after, Framed.{IsFlat, Leads, IsWide}}
+use Rattle.sharc_flat.specs.declared.op.Op.TheVariants as op
+use Rattle.sharc_flat.specs.Machine as Flat
+use Rattle.sharc_guard.specs.Machine as Form
+use Rattle.sharc_guard.specs.{Machine.{Program, Thread, Phase, Running, Leaving, Left, Turn, Goes, Asks, Checks, Halts, Stopped, step, source_at, statement_at}, Path.weight, Guard.{source_of, source_at_spot, compute, negate, body, tail, entered_at}, Correct.{Resolved, moved, bottom, image}}
 use Rattle.sharc_guard.proofs.{Holding.{quiet_held, lock_held, unlock_held, funext}, Placing.{HasAt, pl, p}}
 
 resolved_push : (gs : List GivenUp) (ks : List ℕ) (n : ℕ) → Resolved gs ks → Resolved (gs ++ Released n ∷ []) (ks ++ n ∷ [])
@@ -105,15 +104,15 @@ module _ (dropped : ℕ → Bool) (flat : Flat.Flat) where
       told m1 act held f answering go k = subst (λ sp. Follow (asks m1 spot.site act held f) (Form.asks me sp.site act answering go)) (sym s) (refl, refl, k)
 
       accessed : (cell : Cell) (of : CellAt → CellMode → Act) (then_ : CellAt → ℤ → Flat.At → Flat.At) (answering : ℤ → ℤ) (go : ℤ → Thread → Thread) → Flat.lock_is_null m spot spot.mode ≡ false
-          → let act = of (Flat.cell_at flat.globals m cell) (Flat.mode_of flat.globals m (Flat.cell_at flat.globals m cell) spot.mode) in
+          → let act = of (Flat.cell_at flat.globals m cell) (Flat.cell_mode_of flat.globals m (Flat.cell_at flat.globals m cell) spot.mode) in
           ((x : ℤ) → (y : ℤ) × Near (Flat.accessed (Flat.next (then_ (Flat.cell_at flat.globals m cell) (answer_of (λ token. pos 0) act y) (Flat.with_event (event_of spot.site act (answer_of (λ token. pos 0) act y)) m)))) (go x (Form.told me spot.site act (answering x))))
-          → Follow (Flat.accesses flat.globals cell spot of then_ m) (Form.access g me n cell of answering go)
+          → Follow (Flat.accesses flat.globals cell spot of then_ m) (Form.access_at g me n cell of answering go)
       accessed cell of then_ answering go free k =
-          subst (λ b. Follow (if b then Flat.stops traps.NullPointer spot else asks m spot.site (of (Flat.cell_at flat.globals m cell) (Flat.mode_of flat.globals m (Flat.cell_at flat.globals m cell) spot.mode)) (pos 0) (λ v n. Flat.accessed (Flat.next (then_ (Flat.cell_at flat.globals m cell) v n)))) (Form.access g me n cell of answering go)) (sym free)
-          (subst (λ sp. Follow (asks m spot.site (of (Flat.cell_at flat.globals m cell) (Flat.mode_of flat.globals m (Flat.cell_at flat.globals m cell) spot.mode)) (pos 0) (λ v n. Flat.accessed (Flat.next (then_ (Flat.cell_at flat.globals m cell) v n))))
+          subst (λ b. Follow (if b then Flat.stops traps.NullPointer spot else asks m spot.site (of (Flat.cell_at flat.globals m cell) (Flat.cell_mode_of flat.globals m (Flat.cell_at flat.globals m cell) spot.mode)) (pos 0) (λ v n. Flat.accessed (Flat.next (then_ (Flat.cell_at flat.globals m cell) v n)))) (Form.access_at g me n cell of answering go)) (sym free)
+          (subst (λ sp. Follow (asks m spot.site (of (Flat.cell_at flat.globals m cell) (Flat.cell_mode_of flat.globals m (Flat.cell_at flat.globals m cell) spot.mode)) (pos 0) (λ v n. Flat.accessed (Flat.next (then_ (Flat.cell_at flat.globals m cell) v n))))
           (Form.asks me sp.site (of (Form.cell_at g me cell) (Form.mode_of g me (Form.cell_at g me cell) sp.mode)) answering go)) (sym s) (refl, act_is, λ x. (k x)))
         where
-          act_is : of (Form.cell_at g me cell) (Form.mode_of g me (Form.cell_at g me cell) spot.mode) ≡ of (Flat.cell_at flat.globals m cell) (Flat.mode_of flat.globals m (Flat.cell_at flat.globals m cell) spot.mode)
+          act_is : of (Form.cell_at g me cell) (Form.mode_of g me (Form.cell_at g me cell) spot.mode) ≡ of (Flat.cell_at flat.globals m cell) (Flat.cell_mode_of flat.globals m (Flat.cell_at flat.globals m cell) spot.mode)
           act_is = refl
 
     -- the next line
@@ -341,9 +340,9 @@ module _ (dropped : ℕ → Bool) (flat : Flat.Flat) where
       -- an event that changes nothing else
       tells : (e : q + 1 ≡ at (m.pc + 1)) (lt : m.pc + 1 < length flat.lines) (spot : Spot) (s : source_at g m.pc ≡ source_at_spot spot) (act : Act) → locked_by act ≡ None → unlocked_by act ≡ None
           → ((x : ℤ) → answer_of (λ token. pos 0) act x ≡ pos 0)
-          → Follow (Flat.event spot act (λ v n. n) m) (Form.tells g me m.pc act)
+          → Follow (Flat.event spot act (λ v n. n) m) (Form.tells_at g me m.pc act)
       tells e lt spot s act l u silent =
-          told m.pc spot s m act (pos 0) (λ v n. Flat.next n) Form.nothing (λ x b. Form.next b)
+          told m.pc spot s m act (pos 0) (λ v n. Flat.next n) Form.no_answer (λ x b. Form.next b)
           (λ x. (
             pos 0,
             subst (λ z. Near (Flat.next (Flat.with_event (event_of spot.site act z) m)) (Form.next (Form.told me spot.site act (pos 0)))) (sym (silent (pos 0)))
@@ -359,7 +358,7 @@ module _ (dropped : ℕ → Bool) (flat : Flat.Flat) where
       variable_same (uses.Free (Some v)) = refl
       variable_same uses.Other = refl
 
-      kind_same : (u : Use) → kind_of u ≡ Flat.kind_of u
+      kind_same : (u : Use) → kind_of u ≡ Flat.take_kind_of u
       kind_same uses.Read = refl
       kind_same uses.Write = refl
       kind_same (uses.Cast v) = refl
@@ -377,14 +376,14 @@ module _ (dropped : ℕ → Bool) (flat : Flat.Flat) where
           (subst (λ sp. Follow (Flat.takes_local r x spot m false) (Form.asks me sp.site (acts.Take (takens.Local (variable_of sp.at)) (kind_of sp.at)) (λ y. Form.ref me x) (λ y b. Form.next (Form.move_ref b r x)))) (sym s) (
             refl,
             ap (λ v. acts.Take (takens.Local v) (kind_of spot.at)) (variable_same spot.at) ∙ ap (acts.Take (takens.Local (Flat.variable_of spot.at))) (kind_same spot.at),
-            λ y. (pos 0, quiet e lt (Flat.next (Flat.moved r x (Flat.with_event (event_of spot.site (acts.Take (takens.Local (Flat.variable_of spot.at)) (Flat.kind_of spot.at)) (Flat.ref m x)) m))) (event_of spot.site (acts.Take (takens.Local (Flat.variable_of spot.at)) (Flat.kind_of spot.at)) (Flat.ref m x)) refl refl refl refl refl calls),
+            λ y. (pos 0, quiet e lt (Flat.next (Flat.moved r x (Flat.with_event (event_of spot.site (acts.Take (takens.Local (Flat.variable_of spot.at)) (Flat.take_kind_of spot.at)) (Flat.ref m x)) m))) (event_of spot.site (acts.Take (takens.Local (Flat.variable_of spot.at)) (Flat.take_kind_of spot.at)) (Flat.ref m x)) refl refl refl refl refl calls),
           ))
 
       locks : (e : q + 1 ≡ at (m.pc + 1)) (lt : m.pc + 1 < length flat.lines) (cell : Cell) (spot : Spot) (s : source_at g m.pc ≡ source_at_spot spot) → Follow (op_turn flat (op.Lock cell spot) m) (step g (Lock cell m.pc) me)
       locks e lt cell spot s =
           let c = Flat.cell_at flat.globals m cell in
           let ev = event_of spot.site (acts.Lock c) (pos 0) in
-          told m.pc spot s m (acts.Lock c) (pos 0) (λ v n. Flat.next (Flat.without_base cell n)) Form.nothing (λ x b. Form.next (record (Form.without_base b cell) { held = me.held ++ Form.cell_at g me cell ∷ [] }))
+          told m.pc spot s m (acts.Lock c) (pos 0) (λ v n. Flat.next (Flat.without_base cell n)) Form.no_answer (λ x b. Form.next (record (Form.without_base b cell) { held = me.held ++ Form.cell_at g me cell ∷ [] }))
           (λ x. (pos 0, by_cell cell c))
         where
           by_cell : (cell : Cell) (c : CellAt) → Near (Flat.next (Flat.without_base cell (Flat.with_event (event_of spot.site (acts.Lock c) (pos 0)) m))) (Form.next (record (Form.without_base (Form.told me spot.site (acts.Lock c) (pos 0)) cell) { held = held_mutexes m.events ++ c ∷ [] }))
@@ -408,9 +407,9 @@ module _ (dropped : ℕ → Bool) (flat : Flat.Flat) where
       positive_same (negsuc n) = refl
 
       taken_same : (r : ℕ) (cell : Cell) (spot : Spot) → source_at g m.pc ≡ source_at_spot spot
-          → step g (TakeCell r cell m.pc) me ≡ Form.access g me m.pc cell (λ c mode. acts.Take (takens.Cell c mode) (Flat.kind_of spot.at)) Form.given (λ x b. Form.next (Form.accessed (Form.set_ref b r x)))
+          → step g (TakeCell r cell m.pc) me ≡ Form.access_at g me m.pc cell (λ c mode. acts.Take (takens.Cell c mode) (Flat.take_kind_of spot.at)) Form.given (λ x b. Form.next (Form.accessed (Form.set_ref b r x)))
       taken_same r cell spot s =
-          ap (λ k. Form.access g me m.pc cell (λ c mode. acts.Take (takens.Cell c mode) k) Form.given (λ x b. Form.next (Form.accessed (Form.set_ref b r x)))) (ap (λ (sp : SourcePlace). kind_of sp.at) s ∙ kind_same spot.at)
+          ap (λ k. Form.access_at g me m.pc cell (λ c mode. acts.Take (takens.Cell c mode) k) Form.given (λ x b. Form.next (Form.accessed (Form.set_ref b r x)))) (ap (λ (sp : SourcePlace). kind_of sp.at) s ∙ kind_same spot.at)
 
       unlocks : (e : q + 1 ≡ at (m.pc + 1)) (lt : m.pc + 1 < length flat.lines) (r : ℕ) (cell : Cell) (spot : Spot)
           → let ev = event_of spot.site (acts.Unlock (Flat.cell_at flat.globals m cell)) (pos 0) in
@@ -460,13 +459,13 @@ module _ (dropped : ℕ → Bool) (flat : Flat.Flat) where
           accessed m.pc spot s cell acts.Read (λ c v. Flat.set_int i v) Form.given (λ x b. Form.next (Form.accessed (Form.set_int b i x))) un
           (λ x. (x, quiet (omega arith) lead (Flat.accessed (Flat.next (Flat.set_int i x (Flat.with_event _ m)))) _ refl refl refl refl refl calls))
       follows (op.Store i cell spot) s lead e has un =
-          accessed m.pc spot s cell (λ c mode. acts.Write c mode (Flat.int m i)) (λ c v n. n) Form.nothing (λ x b. Form.next (Form.accessed b)) un
+          accessed m.pc spot s cell (λ c mode. acts.Write c mode (Flat.int m i)) (λ c v n. n) Form.no_answer (λ x b. Form.next (Form.accessed b)) un
           (λ x. (pos 0, quiet (omega arith) lead (Flat.accessed (Flat.next (Flat.with_event _ m))) _ refl refl refl refl refl calls))
       follows (op.LoadRef r cell spot) s lead e has un =
           accessed m.pc spot s cell acts.Read (λ c v. Flat.set_ref r v) Form.given (λ x b. Form.next (record b { pending = x })) un
           (λ x. (x, loads (omega arith) lead r x _ refl refl has))
       follows (op.StoreRef r cell spot) s lead e has un =
-          accessed m.pc spot s cell (λ c mode. acts.Write c mode (Flat.ref m r)) (λ c v n. Flat.gives_up (Replaced c) (Flat.set_ref r (pos 0) n)) Form.nothing (λ x b. Form.next (Form.accessed (Form.set_ref b r x))) un
+          accessed m.pc spot s cell (λ c mode. acts.Write c mode (Flat.ref m r)) (λ c v n. Flat.gives_up (Replaced c) (Flat.set_ref r (pos 0) n)) Form.no_answer (λ x b. Form.next (Form.accessed (Form.set_ref b r x))) un
           (λ x. (pos 0, exchanges (omega arith) lead r _ x _ refl refl has))
       follows (op.LoadGuard cell spot) s lead e has un =
           guarding s
@@ -479,18 +478,18 @@ module _ (dropped : ℕ → Bool) (flat : Flat.Flat) where
           (refl, refl, λ x. (x, quiet (omega arith) lead (Flat.next (Flat.set_ref r x (Flat.with_event _ m))) _ refl refl refl refl refl calls))
       follows (op.TakeCell r cell spot) s lead e has un =
           subst (λ act. Follow (op_turn flat (op.TakeCell r cell spot) m) act) (sym (taken_same r cell spot s))
-          (accessed m.pc spot s cell (λ c mode. acts.Take (takens.Cell c mode) (Flat.kind_of spot.at)) (λ c v. Flat.set_ref r v) Form.given (λ x b. Form.next (Form.accessed (Form.set_ref b r x))) un
+          (accessed m.pc spot s cell (λ c mode. acts.Take (takens.Cell c mode) (Flat.take_kind_of spot.at)) (λ c v. Flat.set_ref r v) Form.given (λ x b. Form.next (Form.accessed (Form.set_ref b r x))) un
           (λ x. (x, quiet (omega arith) lead (Flat.accessed (Flat.next (Flat.set_ref r x (Flat.with_event _ m)))) _ refl refl refl refl refl calls)))
       follows (op.TakeLocal r x spot) s lead e has un = takes (omega arith) lead r x spot s (is_null (Flat.ref m x)) refl
       follows (op.Give r cells spot) s lead e has un =
-          subst (λ (sp : SourcePlace). Follow (op_turn flat (op.Give r cells spot) m) (Form.asks me sp.site (acts.Give (Flat.ref m r) (Form.mode_of g me (made_cell 0 0) sp.mode)) Form.nothing (λ x b. Form.next b))) (sym s)
+          subst (λ (sp : SourcePlace). Follow (op_turn flat (op.Give r cells spot) m) (Form.asks me sp.site (acts.Give (Flat.ref m r) (Form.mode_of g me (made_cell 0 0) sp.mode)) Form.no_answer (λ x b. Form.next b))) (sym s)
           (refl, refl, λ x. (pos 0, quiet (omega arith) lead (Flat.next (Flat.with_event _ m)) _ refl refl refl refl refl calls))
       follows (op.Free r layout spot) s lead e has un =
-          told m.pc spot s (Flat.gives_up (Emptied (number_of (Flat.ref m r))) m) (acts.Freed (Flat.ref m r)) (pos 0) (λ v n. Flat.next (Flat.set_ref r (pos 0) n)) Form.nothing (λ x b. Form.next (Form.set_ref b r NULL))
+          told m.pc spot s (Flat.gives_up (Emptied (number_of (Flat.ref m r))) m) (acts.Freed (Flat.ref m r)) (pos 0) (λ v n. Flat.next (Flat.set_ref r (pos 0) n)) Form.no_answer (λ x b. Form.next (Form.set_ref b r NULL))
           (λ x. (pos 0, quiet (omega arith) lead (Flat.next (Flat.set_ref r (pos 0) (Flat.with_event _ m))) _ refl refl refl refl refl calls))
       follows (op.Lock cell spot) s lead e has un = locks (omega arith) lead cell spot s
       follows (op.Unlock r cell spot) s lead e has un =
-          told m.pc spot s m (acts.Unlock (Flat.cell_at flat.globals m cell)) (pos 0) (λ v n. Flat.next (Flat.set_ref r (Flat.base_of n cell) n)) Form.nothing
+          told m.pc spot s m (acts.Unlock (Flat.cell_at flat.globals m cell)) (pos 0) (λ v n. Flat.next (Flat.set_ref r (Flat.base_of n cell) n)) Form.no_answer
           (λ x b. Form.next (record (Form.set_ref b r (Form.base_of me cell)) { held = Form.without_mutex me.held (Form.cell_at g me cell) }))
           (λ x. (pos 0, unlocks (omega arith) lead r cell spot))
       follows (op.CondEnter cell spot) s lead e has un = tells (omega arith) lead spot s (acts.Enter (Flat.cell_at flat.globals m cell)) refl refl (λ x. refl)

@@ -5,11 +5,10 @@ use Rattle.sharc_code.specs.{declared.code.Function.Function, declared.code.Para
 use Rattle.sharc_code.specs.declared.code.Parameter.TheVariants as parameters
 use Rattle.sharc_code.specs.declared.instr.Cell.TheVariants as cells
 use Rattle.sharc_code.specs.declared.instr.Register.TheVariants as registers
-use Rattle.sharc_flat_form.specs.{declared.op.Op.Op, declared.op.Spot.Spot, Machine.{Flat, function_of}, Framed.{OpWrites, InLine, OpLeads, IsFramed}}
-use Rattle.sharc_flat_form.specs.declared.op.Op.TheVariants as op
-use Rattle.sharc_guarded_form.specs.{Form.{WritesWithin, BaseWithin, HandedWithin, HasFewCells, IsBody, Leads, IsAtPlace, HasParameter, IsEntry, IsGuarded}, Machine.{Program, function_at}}
-use Rattle.sharc_guard.specs.Guard.{expand, head, body, tail, own, width, offset, place, expanded, guarded, entered_at, check_under}
-use Rattle.sharc_flat_form.specs.Framed as Framed
+use Rattle.sharc_flat.specs.{declared.op.Op.Op, declared.op.Spot.Spot, Machine.{Flat, function_of}, Framed.{OpWrites, InLine, OpLeads, IsFramed}}
+use Rattle.sharc_flat.specs.declared.op.Op.TheVariants as op
+use Rattle.sharc_guard.specs.{Form.{WritesWithin, BaseWithin, HandedWithin, HasFewCells, IsBody, Leads, IsAtPlace, HasParameter, IsEntry, IsGuarded}, Machine.{Program, function_at}, Guard.{expand, head, body, tail, own, width, offset, place, expanded, guarded, entered_at, check_under}}
+use Rattle.sharc_flat.specs.Framed as Framed
 use Rattle.sharc_guard.proofs.{Placing.{HasAt, width_is, stands, place_next}, Walking.{IsIdle, idle_length, bodied}}
 
 -- ---- the line of a place

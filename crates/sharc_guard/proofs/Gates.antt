@@ -6,16 +6,15 @@ use Rattle.sharc_tree.specs.declared.event.CellMode.TheVariants as modes
 use Rattle.sharc_tree.specs.declared.event.Object.TheVariants as objects
 use Rattle.sharc_tree.specs.declared.event.Taken.TheVariants as taken
 use Rattle.sharc_tree.specs.declared.trap.Trap.TheVariants as traps
-use Rattle.sharc_shadow.specs.declared.shadow_word.Kind.{Kind}
-use Rattle.sharc_shadow.specs.declared.shadow_word.Kind.TheVariants as kinds
+use Rattle.sharc_heap.specs.declared.shadow_word.Kind.{Kind}
+use Rattle.sharc_heap.specs.declared.shadow_word.Kind.TheVariants as kinds
 use Rattle.sharc_code.specs.{declared.code.PlaceMode.PlaceMode, declared.code.PlaceMode.TheVariants.{Private, Readonly, Racy, Dynamic, LockedGlobal, LockedSibling, LockedThrough, LockedLoaded}, declared.instr.Cell.Cell, declared.instr.Instr.Instr, declared.instr.Instr.TheVariants.{ChkRead, ChkWrite}}
 use Rattle.sharc_code.specs.declared.instr.Cell.TheVariants as cells
 use Rattle.sharc_meaning.specs.{declared.given.GivenUp.TheVariants.Replaced, Cells.{cell_of, through}, Events.held_mutexes, Reference.{is_null, number_of}, State.stopped}
-use Rattle.sharc_flat_form.specs.{declared.op.Op.Op, declared.op.Spot.Spot, Machine.{Flat, At, Turn, asks, halts, ref, next, stops, cell_at, global_cell, mode_of, is_of_null, lock_is_null, accesses, accessed, op_turn, kind_of, int, set_int, set_ref, gives_up}}
-use Rattle.sharc_flat_form.specs.declared.op.Op.TheVariants as op
-use Rattle.sharc_guarded_form.specs.Machine as Form
-use Rattle.sharc_guarded_form.specs.{Machine.{Program, Thread, source_at}, Path.weight}
-use Rattle.sharc_guard.specs.{Guard.{place, guarded, check_under, head}, Counted.{IsAccess, IsUnder, Tells, OverwritesNone, IsBeside, LockStands}}
+use Rattle.sharc_flat.specs.{declared.op.Op.Op, declared.op.Spot.Spot, Machine.{Flat, At, Turn, asks, halts, ref, next, stops, cell_at, global_cell, cell_mode_of, is_of_null, lock_is_null, accesses, accessed, op_turn, take_kind_of, int, set_int, set_ref, gives_up}}
+use Rattle.sharc_flat.specs.declared.op.Op.TheVariants as op
+use Rattle.sharc_guard.specs.Machine as Form
+use Rattle.sharc_guard.specs.{Machine.{Program, Thread, source_at}, Path.weight, Guard.{place, guarded, check_under, head}, Counted.{IsAccess, IsUnder, Tells, OverwritesNone, IsBeside, LockStands}}
 use Rattle.sharc_guard.proofs.{Places.{IsPlaceOf, spot_of}, Beside.{beside, cell_same, null_same}, Turning.IsOpenFor}
 
 module _ (dropped : ℕ → Bool) (flat : Flat) (m : At) where
@@ -49,7 +48,7 @@ module _ (dropped : ℕ → Bool) (flat : Flat) (m : At) where
     c = cell_at flat.globals m cell
 
     abbrev mode : CellMode
-    mode = mode_of flat.globals m c spot.mode
+    mode = cell_mode_of flat.globals m c spot.mode
 
     abbrev wants : Turn
     wants = asks m spot.site (act c mode) (pos 0) (λ v n. accessed (next (then_ c v n)))
@@ -79,8 +78,8 @@ module _ (dropped : ℕ → Bool) (flat : Flat) (m : At) where
     through_open v n e = ap (λ b. cond b None (Some (cell_of (objects.Made (number_of v)) n))) e
 
     -- the mode of the access names this mutex
-    under_mode : (mutex : CellAt) (pm : PlaceMode) → spot.mode ≡ pm → mode_of flat.globals m c pm ≡ modes.Locked (Some mutex) → IsUnder mutex (act c mode)
-    under_mode mutex pm e h = subst (λ z. IsUnder mutex (act c z)) (sym (ap (mode_of flat.globals m c) e ∙ h)) (is_under c mutex)
+    under_mode : (mutex : CellAt) (pm : PlaceMode) → spot.mode ≡ pm → cell_mode_of flat.globals m c pm ≡ modes.Locked (Some mutex) → IsUnder mutex (act c mode)
+    under_mode mutex pm e h = subst (λ z. IsUnder mutex (act c z)) (sym (ap (cell_mode_of flat.globals m c) e ∙ h)) (is_under c mutex)
 
     module _ (chk : Instr) (one : weight chk ≡ 1) (none : (a : Thread) → OverwritesNone chk a)
         (chk_is : (a : Thread) → Form.step p chk a ≡ Form.Checks (Form.Accesses kind (Form.cell_at p a cell)) s (Form.next a)) (is_access : IsAccess kind c (act c modes.Dynamic)) where
@@ -96,7 +95,7 @@ module _ (dropped : ℕ → Bool) (flat : Flat) (m : At) where
         λ q low.
             let a = beside pl m q (held_mutexes m.events) low in
             let way : Way = ap (lock_is_null m spot) e in
-            let access : IsAccess kind c (act c mode) = subst (λ z. IsAccess kind c (act c z)) (sym (ap (mode_of flat.globals m c) e)) is_access in
+            let access : IsAccess kind c (act c mode) = subst (λ z. IsAccess kind c (act c z)) (sym (ap (cell_mode_of flat.globals m c) e)) is_access in
             subst (Passes Way turn_of a) (sym (chk_is a))
             (subst (λ t. Passes Way t a (Form.Checks (Form.Accesses kind (Form.cell_at p a cell)) s (Form.next a))) (sym (opens way))
             (refl, way, (k.site, subst (λ z. IsAccess kind z (act c mode)) (sym (cell_same dropped flat m q (held_mutexes m.events) low cell)) access))),
@@ -143,7 +142,7 @@ module _ (dropped : ℕ → Bool) (flat : Flat) (m : At) where
   heads d (op.StoreRef r cell spot) lk k =
       in_mode cell spot (k spot refl) (λ c mode. acts.Write c mode (ref m r)) (λ c v n. gives_up (Replaced c) (set_ref r (pos 0) n)) kinds.Write (λ c x. refl) (ChkWrite cell s) refl (λ a. tt) (λ a. refl) (inl (_, refl)) false spot.mode refl lk
   heads d (op.TakeCell r cell spot) lk k =
-      in_mode cell spot (k spot refl) (λ c mode. acts.Take (taken.Cell c mode) (kind_of spot.at)) (λ c v. set_ref r v) kinds.Write (λ c x. refl) (ChkWrite cell s) refl (λ a. tt) (λ a. refl) (inr (_, refl)) false spot.mode refl lk
+      in_mode cell spot (k spot refl) (λ c mode. acts.Take (taken.Cell c mode) (take_kind_of spot.at)) (λ c v. set_ref r v) kinds.Write (λ c x. refl) (ChkWrite cell s) refl (λ a. tt) (λ a. refl) (inr (_, refl)) false spot.mode refl lk
   heads d (op.Give r cells spot) lk k = (refl, λ a. tt, λ a b e. absurd (cc), λ q low. (refl, (refl, λ a. tt, λ a b e. tt, λ q low. (refl, tt)), ((k spot refl).site, refl)))
   heads d (op.Free r layout spot) lk k = (refl, λ a. tt, λ a b e. absurd (cc), λ q low. (refl, tt, ((k spot refl).site, refl)))
   heads d _ lk k = tt

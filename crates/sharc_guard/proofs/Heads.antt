@@ -7,12 +7,11 @@ use Rattle.sharc_tree.specs.declared.event.Taken.TheVariants as takens
 use Rattle.sharc_tree.specs.declared.trap.Trap.TheVariants as traps
 use Rattle.sharc_code.specs.{declared.code.PlaceMode.PlaceMode, declared.code.PlaceMode.TheVariants.{Private, Readonly, Racy, Dynamic, LockedGlobal, LockedSibling, LockedThrough, LockedLoaded}, declared.instr.Cell.Cell, declared.instr.Cell.TheVariants.{Global, Object}, declared.instr.Instr.Instr, declared.instr.Instr.TheVariants.{ChkRead, ChkWrite, ChkLock, ChkLockLoaded, TestSole, Clear}}
 use Rattle.sharc_meaning.specs.{declared.given.GivenUp.TheVariants.{Replaced, Emptied}, Reference.number_of, State.stopped}
-use Rattle.sharc_flat_form.specs.{declared.op.Op.Op, declared.op.Spot.Spot, Machine.{goes, asks, halts, op_turn}}
-use Rattle.sharc_flat_form.specs.declared.op.Op.TheVariants as op
-use Rattle.sharc_flat_form.specs.Machine as Flat
-use Rattle.sharc_guarded_form.specs.Machine as Form
-use Rattle.sharc_guarded_form.specs.{Machine.{Thread, Turn, Goes, Asks, Checks, Halts, Stopped, step}, Path.weight}
-use Rattle.sharc_guard.specs.{Guard.{source_of, check_under, head}, Correct.image}
+use Rattle.sharc_flat.specs.{declared.op.Op.Op, declared.op.Spot.Spot, Machine.{goes, asks, halts, op_turn}}
+use Rattle.sharc_flat.specs.declared.op.Op.TheVariants as op
+use Rattle.sharc_flat.specs.Machine as Flat
+use Rattle.sharc_guard.specs.Machine as Form
+use Rattle.sharc_guard.specs.{Machine.{Thread, Turn, Goes, Asks, Checks, Halts, Stopped, step}, Path.weight, Guard.{source_of, check_under, head}, Correct.image}
 use Rattle.sharc_guard.proofs.Follows.{g, at, Unlocked}
 
 -- a turn that leads on, where what it checks is well
@@ -92,11 +91,11 @@ module _ (dropped : ℕ → Bool) (flat : Flat.Flat) (m : Flat.At) where
   access o cell spot of then_ e s un = record {
     unlocked = un;
     stops_at = λ f. e ∙ ap (λ b. if b then Flat.stops traps.NullPointer spot else asking) f ∙ ap (λ site. halts (stopped traps.NullPointer site)) (sym s);
-    asks_for = λ f. record { from = m; act = of (Flat.cell_at flat.globals m cell) (Flat.mode_of flat.globals m (Flat.cell_at flat.globals m cell) spot.mode); held = pos 0; go = λ v n. Flat.accessed (Flat.next (then_ (Flat.cell_at flat.globals m cell) v n)); asks_it = e ∙ ap (λ b. if b then Flat.stops traps.NullPointer spot else asking) f ∙ ap (λ site. asks m site (of (Flat.cell_at flat.globals m cell) (Flat.mode_of flat.globals m (Flat.cell_at flat.globals m cell) spot.mode)) (pos 0) (λ v n. Flat.accessed (Flat.next (then_ (Flat.cell_at flat.globals m cell) v n)))) (sym s) };
+    asks_for = λ f. record { from = m; act = of (Flat.cell_at flat.globals m cell) (Flat.cell_mode_of flat.globals m (Flat.cell_at flat.globals m cell) spot.mode); held = pos 0; go = λ v n. Flat.accessed (Flat.next (then_ (Flat.cell_at flat.globals m cell) v n)); asks_it = e ∙ ap (λ b. if b then Flat.stops traps.NullPointer spot else asking) f ∙ ap (λ site. asks m site (of (Flat.cell_at flat.globals m cell) (Flat.cell_mode_of flat.globals m (Flat.cell_at flat.globals m cell) spot.mode)) (pos 0) (λ v n. Flat.accessed (Flat.next (then_ (Flat.cell_at flat.globals m cell) v n)))) (sym s) };
   }
     where
       asking : Flat.Turn
-      asking = asks m spot.site (of (Flat.cell_at flat.globals m cell) (Flat.mode_of flat.globals m (Flat.cell_at flat.globals m cell) spot.mode)) (pos 0) (λ v n. Flat.accessed (Flat.next (then_ (Flat.cell_at flat.globals m cell) v n)))
+      asking = asks m spot.site (of (Flat.cell_at flat.globals m cell) (Flat.cell_mode_of flat.globals m (Flat.cell_at flat.globals m cell) spot.mode)) (pos 0) (λ v n. Flat.accessed (Flat.next (then_ (Flat.cell_at flat.globals m cell) v n)))
 
   -- a test or a clearing before a Give or a Freed
   before : (o : Op) (h : Instr) (rest : Type 0) → Asking o → rest → ((q : ℕ) (L : List ℕ) → IsPass m.pc (step (g dropped flat) h (image (at dropped flat) m q L)) (image (at dropped flat) m (q + 1) L)) → weight h ≡ 1 → IsHead o h rest
@@ -115,7 +114,7 @@ module _ (dropped : ℕ → Bool) (flat : Flat.Flat) (m : Flat.At) where
   heads drop (op.Store i cell spot) = checked (op.Store i cell spot) spot drop (ChkWrite cell m.pc) (access (op.Store i cell spot) cell spot (λ c mode. acts.Write c mode (Flat.int m i)) (λ c v n. n) refl refl (λ e. e)) (λ q L. (refl, refl)) refl spot.mode refl
   heads drop (op.LoadRef r cell spot) = checked (op.LoadRef r cell spot) spot false (ChkRead cell m.pc) (access (op.LoadRef r cell spot) cell spot acts.Read (λ c v. Flat.set_ref r v) refl refl (λ e. e)) (λ q L. (refl, refl)) refl spot.mode refl
   heads drop (op.StoreRef r cell spot) = checked (op.StoreRef r cell spot) spot false (ChkWrite cell m.pc) (access (op.StoreRef r cell spot) cell spot (λ c mode. acts.Write c mode (Flat.ref m r)) (λ c v n. Flat.gives_up (Replaced c) (Flat.set_ref r (pos 0) n)) refl refl (λ e. e)) (λ q L. (refl, refl)) refl spot.mode refl
-  heads drop (op.TakeCell r cell spot) = checked (op.TakeCell r cell spot) spot false (ChkWrite cell m.pc) (access (op.TakeCell r cell spot) cell spot (λ c mode. acts.Take (takens.Cell c mode) (Flat.kind_of spot.at)) (λ c v. Flat.set_ref r v) refl refl (λ e. e)) (λ q L. (refl, refl)) refl spot.mode refl
+  heads drop (op.TakeCell r cell spot) = checked (op.TakeCell r cell spot) spot false (ChkWrite cell m.pc) (access (op.TakeCell r cell spot) cell spot (λ c mode. acts.Take (takens.Cell c mode) (Flat.take_kind_of spot.at)) (λ c v. Flat.set_ref r v) refl refl (λ e. e)) (λ q L. (refl, refl)) refl spot.mode refl
   heads drop (op.Give r cells spot) =
       let want : Asking (op.Give r cells spot) = record { from = m; act = _; held = pos 0; go = λ v n. Flat.next n; asks_it = refl } in
       before (op.Give r cells spot) (TestSole r m.pc) _ want (before (op.Give r cells spot) (Clear r cells) _ want tt (λ q L. refl) refl) (λ q L. (refl, refl)) refl

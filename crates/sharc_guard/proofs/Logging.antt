@@ -7,9 +7,8 @@ use Rattle.sharc_code.specs.{declared.code.Parameter.Parameter, declared.instr.C
 use Rattle.sharc_code.specs.declared.code.Parameter.TheVariants as parameters
 use Rattle.sharc_code.specs.declared.instr.Register.TheVariants as registers
 use Rattle.sharc_meaning.specs.{Events.{held_mutexes, locked_by, same_cell, unlocked_by}, Reference.{is_null, number_of, elements_of}}
-use Rattle.sharc_guarded_form.specs.Machine as Form
-use Rattle.sharc_guarded_form.specs.{Machine.{Program, Thread, Phase, Running, Leaving, Left, Turn, Goes, Asks, Checks, Halts, int, cell_at, is_of_null, is_held, without_base, handed, function_at, statement_at, step, turn}, Path.{after, fresh, started, thread_after, with_parameter}}
-use Rattle.sharc_guard.specs.Logged.{LogsAreHeld}
+use Rattle.sharc_guard.specs.Machine as Form
+use Rattle.sharc_guard.specs.{Machine.{Program, Thread, Phase, Running, Leaving, Left, Turn, Goes, Asks, Checks, Halts, int, cell_at, is_of_null, is_held, without_base, handed, function_at, statement_at, step, turn}, Path.{after, fresh, started, thread_after, with_parameter}, Logged.LogsAreHeld}
 use Rattle.sharc_guard.proofs.Holding.{quiet_held, lock_held, unlock_held}
 
 -- the log after an event

@@ -1,8 +1,8 @@
 -- The lists that guarding fills.
 use Rattle.std.proofs.{Common.{◌≡◌, ◌≤◌, ◌<◌, ℕ, zero, suc, ◌+◌, ◌-◌, ◌*◌, Bool, true, false, List, [], ◌∷◌, ◌++◌, length, drop, refl, sym, ap, ◌∙◌, arith, Some, slice_get, get_or, nat_lt, if◌then◌else◌}, lemmas.List.{length-append, get_or_append_left}, Math.Seq.get_or-append_seam, lemmas.Bool.{ltb-true, ltb-false}}
 use Rattle.sharc_code.specs.{declared.instr.Instr.Instr, declared.instr.Instr.TheVariants.{Start, Exit}}
-use Rattle.sharc_flat_form.specs.declared.op.Op.{Op}
-use Rattle.sharc_flat_form.specs.declared.op.Op.TheVariants as op
+use Rattle.sharc_flat.specs.declared.op.Op.{Op}
+use Rattle.sharc_flat.specs.declared.op.Op.TheVariants as op
 use Rattle.sharc_guard.specs.{Guard.{width, offset, place, expanded, head, own, body, tail}, Made.{among, places, marked}}
 use Rattle.sharc_guard.proofs.{Placing.offset_next, Holding.funext}
 

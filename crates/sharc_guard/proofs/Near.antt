@@ -3,10 +3,9 @@ use Rattle.std.proofs.Common.{◌≡◌, ℕ, ℤ, zero, suc, ◌+◌, ◌≤◌
 use Rattle.sharc_tree.specs.declared.event.CellAt.{CellAt}
 use Rattle.sharc_code.specs.{declared.instr.Instr.Instr, declared.instr.Instr.TheVariants.{RaiseLoaded, Lower, MoveReference}}
 use Rattle.sharc_meaning.specs.{declared.given.GivenUp.TheVariants.Replaced, Events.held_mutexes, State.{event_of, answer_of}}
-use Rattle.sharc_flat_form.specs.Machine.{Flat, At, Turn, goes, asks, halts, with_event}
-use Rattle.sharc_guarded_form.specs.Machine as Form
-use Rattle.sharc_guarded_form.specs.Machine.{Program, Thread, Phase, Running, Leaving, Left}
-use Rattle.sharc_guard.specs.{Guard.{place, guarded}, Level.IsLevel, Counted.{IsEnd, IsSettling, AreLowered, OverwritesNone}}
+use Rattle.sharc_flat.specs.Machine.{Flat, At, Turn, goes, asks, halts, with_event}
+use Rattle.sharc_guard.specs.Machine as Form
+use Rattle.sharc_guard.specs.{Machine.{Program, Thread, Phase, Running, Leaving, Left}, Guard.{place, guarded}, Level.IsLevel, Counted.{IsEnd, IsSettling, AreLowered, OverwritesNone}}
 use Rattle.sharc_guard.proofs.{Beside.beside, Ready.Ready}
 
 -- what the statement does that settles the counts

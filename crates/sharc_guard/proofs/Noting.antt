@@ -2,8 +2,8 @@
 use mathlib.Core.Path.{fun_ext}
 use Rattle.std.proofs.Common.{◌≡◌, ℕ, ◌+◌, Bool, true, false, ◌&&◌, ◌||◌, Option, Some, None, refl, sym, ap, ◌∙◌, subst, cond}
 use Rattle.std.specs.Prelude.{◌==◌, OnOk, Result, Ok, Err}
-use Rattle.sharc_shadow.specs.{declared.shadow_word.Kind.Kind, declared.shadow_word.Kind.TheVariants.Write}
-use Rattle.sharc_flat_form.specs.declared.op.Op.{Op}
+use Rattle.sharc_heap.specs.{declared.shadow_word.Kind.Kind, declared.shadow_word.Kind.TheVariants.Write}
+use Rattle.sharc_flat.specs.declared.op.Op.{Op}
 use Rattle.sharc_guard.specs.{declared.marks.Copied.Copied, declared.marks.KnownNumber.KnownNumber, declared.marks.PassedCheck.PassedCheck, declared.operations.Copying.Copying, declared.operations.Written.Written, Known.{SimplePlace, in_variable, in_global, access, know_next, writes_int, writes_ref}, Marked.{access_of, copy_of, is_one, is_written, number_of_line, Notes, know_of, passed_at, noted_place, stronger, with_access, with_copy, with_noted, with_number, with_place, with_written, AreBefore}}
 use Rattle.sharc_guard.proofs.Marking.{turned, known_after, noted_before}
 

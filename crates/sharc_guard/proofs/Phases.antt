@@ -3,10 +3,9 @@ use Rattle.std.proofs.{Common.{◌≡◌, ℕ, ℤ, pos, zero, suc, ◌+◌, ◌
 use Rattle.std.specs.Prelude.{slice_get}
 use Rattle.sharc_code.specs.{declared.code.PlaceMode.PlaceMode, declared.code.PlaceMode.TheVariants.{Private, Readonly, Racy, Dynamic, LockedGlobal, LockedSibling, LockedThrough, LockedLoaded}, declared.instr.Instr.Instr, declared.instr.Instr.TheVariants.{ChkRead, ChkWrite, RaiseLoaded, Lower, MoveReference}, declared.instr.Width.TheVariants.{Char, Int, Long}}
 use Rattle.sharc_meaning.specs.Events.{held_mutexes}
-use Rattle.sharc_flat_form.specs.{declared.op.Op.Op, declared.op.Spot.Spot, Machine.{Flat, At, goes, next, line_turn, op_turn, turn}, Path.{may_go, at_after, IsPath as IsFlatPath, asked_by, asked}}
-use Rattle.sharc_flat_form.specs.declared.op.Op.TheVariants as op
-use Rattle.sharc_guarded_form.specs.{Machine.{Program, Thread}, Path.weight}
-use Rattle.sharc_guard.specs.{Guard.{place, guarded, check_under, head, own, body, tail}, Level.{Enters, Level, IsLevel}, Asked.{is_enter, moves}, Counted.{AreLowered, LockStands}}
+use Rattle.sharc_flat.specs.{declared.op.Op.Op, declared.op.Spot.Spot, Machine.{Flat, At, goes, next, line_turn, op_turn, turn}, Path.{may_go, at_after, IsPath as IsFlatPath, asked_by, asked}}
+use Rattle.sharc_flat.specs.declared.op.Op.TheVariants as op
+use Rattle.sharc_guard.specs.{Machine.{Program, Thread}, Path.weight, Guard.{place, guarded, check_under, head, own, body, tail}, Level.{Enters, Level, IsLevel}, Asked.{is_enter, moves}, Counted.{AreLowered, LockStands}}
 use Rattle.sharc_guard.proofs.{Placing.HasAt, Places.{pieces, stands, place_next, place_of}, Walking.IsIdle, Turns.behind, Beside.beside, Ready.{Ready, enters}, Near.{IsQuiet, SettlingBy, Near, Ending}, Turning.IsOpenFor, Gates.{Guards, heads}}
 
 -- it does not only enter an expression

@@ -2,10 +2,9 @@
 use Rattle.std.proofs.Common.{◌≡◌, ℕ, Bool, ◌+◌, ◌<◌, ◌≤◌, List, [], ◌∷◌, ◌++◌, length, Option, Some, None, sym, ap, ◌∙◌, subst, append_assoc}
 use Rattle.std.specs.Prelude.{slice_get}
 use Rattle.sharc_code.specs.{declared.code.PlaceMode.TheVariants.Readonly, declared.code.SourcePlace.SourcePlace, declared.instr.Instr.Instr}
-use Rattle.sharc_flat_form.specs.{declared.op.Op.Op, declared.op.Spot.Spot, Machine.Flat}
-use Rattle.sharc_flat_form.specs.declared.op.Op.TheVariants as op
-use Rattle.sharc_guarded_form.specs.Machine.{source_at}
-use Rattle.sharc_guard.specs.Guard.{place, guarded, source_of, head, own, body, tail, expand}
+use Rattle.sharc_flat.specs.{declared.op.Op.Op, declared.op.Spot.Spot, Machine.Flat}
+use Rattle.sharc_flat.specs.declared.op.Op.TheVariants as op
+use Rattle.sharc_guard.specs.{Machine.source_at, Guard.{place, guarded, source_of, head, own, body, tail, expand}}
 use Rattle.sharc_guard.proofs.Placing.{HasAt, stands as stands_at, place_next as next_at, source_is as source_of_line}
 
 -- ---- sites

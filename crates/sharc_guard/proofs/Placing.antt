@@ -1,10 +1,9 @@
 -- Where the statements of lines lie.
 use Rattle.std.proofs.{Common.{◌≡◌, ℕ, zero, suc, ◌+◌, Bool, List, [], ◌∷◌, ◌++◌, length, map, refl, sym, ap, ◌∙◌, subst, arith, Some, slice_get, slice_index_or}, lemmas.List.length-append}
 use Rattle.sharc_code.specs.{declared.instr.Instr.Instr, declared.instr.Instr.TheVariants.{Start, Exit}, declared.code.SourcePlace.SourcePlace}
-use Rattle.sharc_flat_form.specs.{declared.op.Op.Op, Machine.Flat}
-use Rattle.sharc_flat_form.specs.declared.op.Op.TheVariants as op
-use Rattle.sharc_guarded_form.specs.Machine.{Program, statement_at, source_at}
-use Rattle.sharc_guard.specs.Guard.{expand, width, offset, place, expanded, guarded, source_of, head, own, body, tail}
+use Rattle.sharc_flat.specs.{declared.op.Op.Op, Machine.Flat}
+use Rattle.sharc_flat.specs.declared.op.Op.TheVariants as op
+use Rattle.sharc_guard.specs.{Machine.{Program, statement_at, source_at}, Guard.{expand, width, offset, place, expanded, guarded, source_of, head, own, body, tail}}
 
 -- the statements lie in the list from a place on
 abbrev pub HasAt : List Instr → ℕ → List Instr → Type 0

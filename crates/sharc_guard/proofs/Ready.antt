@@ -3,7 +3,7 @@ use mathlib.Core.Path.{fun_ext}
 use Rattle.std.proofs.{Common.{◌≡◌, ℕ, ℤ, pos, negsuc, zero, suc, ◌+◌, ◌-◌, ◌<◌, ◌≤◌, true, List, [], ◌∷◌, length, refl, sym, ap, ◌∙◌, subst, arith, ⊎_elim}, lemmas.Bool.{cases_eq, cases_lt}}
 use Rattle.std.specs.Prelude.{◌==◌}
 use Rattle.sharc_meaning.specs.Arithmetic.{is_zero}
-use Rattle.sharc_flat_form.specs.Machine.{Flat, Caller, At, put, function_of, ref, called}
+use Rattle.sharc_flat.specs.Machine.{Flat, Caller, At, put, function_of, ref, called}
 use Rattle.sharc_guard.specs.Level.{Slot, free, full, Fits, Slots, with_slot, with_moved, result_slot, Enters, Calls, Resumes, Leaves, IsLevel}
 use Rattle.sharc_lemmas.proofs.Numbers.{same_is as eqb_same, eqb_other}
 

@@ -1,11 +1,11 @@
 -- What is known of checks is what the lines of the piece say.
 use Rattle.std.proofs.{Common.{◌≡◌, ◌≢◌, ℕ, ℤ, pos, negsuc, zero, suc, ◌+◌, ◌*◌, ◌^◌, ◌<◌, ◌≤◌, ◌⊎◌, inl, inr, Bool, true, false, not, ◌&&◌, ◌||◌, Option, Some, None, refl, sym, ap, ◌∙◌, subst, arith, cond, ⊎_elim, nat_lt}, lemmas.Bool.{cases_lt, ltb-true, lt-ltb, or_right, or_left, and_from as and_both, not_from_false as true_not}, lemmas.Bool.Decides.nat_tests}
 use Rattle.std.specs.Prelude.{slice_get, ◌==◌}
-use Rattle.sharc_shadow.specs.{declared.shadow_word.Kind.Kind, declared.shadow_word.Kind.TheVariants.{Read, Write}}
+use Rattle.sharc_heap.specs.{declared.shadow_word.Kind.Kind, declared.shadow_word.Kind.TheVariants.{Read, Write}}
 use Rattle.sharc_code.specs.{declared.code.PlaceMode.PlaceMode, declared.code.PlaceMode.TheVariants.{Private, Readonly, Racy, Dynamic, LockedGlobal, LockedSibling, LockedThrough, LockedLoaded}, declared.instr.Cell.Cell}
 use Rattle.sharc_code.specs.declared.instr.Cell.TheVariants as cells
-use Rattle.sharc_flat_form.specs.{declared.op.Spot.Spot, declared.op.Op.Op, Machine.Flat}
-use Rattle.sharc_flat_form.specs.declared.op.Op.TheVariants as op
+use Rattle.sharc_flat.specs.{declared.op.Spot.Spot, declared.op.Op.Op, Machine.Flat}
+use Rattle.sharc_flat.specs.declared.op.Op.TheVariants as op
 use Rattle.sharc_guard.specs.{Known.{is_straight, is_target, writes_ref, writes_int, SimplePlace, in_variable, in_global, same_place, assigns, counts, Access, access, is_dynamic, tells, Know, nothing, few, of_constant, element, with_element, number_given, copy_given, unless_written, variable_place, global_place, place_of, is_at, passes_by, know_next, know_after, known, has_passed, drops_at, dropped}, Repeated.{IsStraight, Keeps, IsPiece, AllKeep, IsCopy, IsNumber, constant, of_object, of_global, IsPlaceAt, IsSimple, IsChecked, IsOfInteger, IsRepeated, DropsRepeated, ItsCheckStands, RepeatedCheckStands}}
 use Rattle.sharc_lemmas.proofs.{Options.{same_some as some_is}, Bools.{and_left, or_split as or_either, not_true, and_right, false_true}, Numbers.{eqb_other as eq_other, same_number as eq_true}}
 

@@ -1,6 +1,6 @@
 -- The example is well formed.
 use Rattle.std.proofs.Common.{◌≡◌, ℕ, zero, suc, ◌+◌, ◌<◌, List, [], ◌∷◌, Some, slice_get, refl, sym, ◌∙◌, subst, arith}
-use Rattle.sharc_flat_form.specs.{declared.op.Op.Op, Machine.function_of, Framed.{IsFlat, Leads, IsFramed, IsFramedAt, InLine, HasParameter}}
+use Rattle.sharc_flat.specs.{declared.op.Op.Op, Machine.function_of, Framed.{IsFlat, Leads, IsFramed, IsFramedAt, InLine, HasParameter}}
 use Rattle.sharc_guard.specs.Example.{example, lines}
 
 -- a property of each line, by its number

@@ -3,12 +3,11 @@ use Rattle.std.proofs.Common.{◌≡◌, ℕ, ℤ, zero, suc, ◌+◌, ◌*◌, 
 use Rattle.std.specs.Prelude.{slice_get, slice_index_or}
 use Rattle.sharc_code.specs.{declared.code.Function.Function, declared.instr.Instr.Instr, declared.instr.Instr.TheVariants.{RaiseLoaded, Lower, MoveReference, Exit}, declared.instr.Width.TheVariants.{Char, Int, Long}}
 use Rattle.sharc_code.specs.Machine as CodeMachine
-use Rattle.sharc_flat_form.specs.{declared.op.Op.Op, Machine.{Flat, At, Turn, goes, asks, halts, turn, op_turn}, Path.{may_go, at_after, IsPath as IsFlatPath, asked_by, asked}}
-use Rattle.sharc_flat_form.specs.declared.op.Op.TheVariants as op
-use Rattle.sharc_guarded_form.specs.Machine as Form
-use Rattle.sharc_guarded_form.specs.{Machine.{Program, Thread, Phase, Running, Leaving, Left, source_at, statement_at}, Path.{thread_after, IsPath, weight, weight_in}}
-use Rattle.sharc_guarded_form.specs.Path as Path
-use Rattle.sharc_guard.specs.{Guard.{place, guarded, entered_at, head, own, body, tail}, Counted.{Tells, LocksFrom}, Level.IsLevel, Asked.{guarded_asked_by, guarded_asked, is_enter, moves}}
+use Rattle.sharc_flat.specs.{declared.op.Op.Op, Machine.{Flat, At, Turn, goes, asks, halts, turn, op_turn}, Path.{may_go, at_after, IsPath as IsFlatPath, asked_by, asked}}
+use Rattle.sharc_flat.specs.declared.op.Op.TheVariants as op
+use Rattle.sharc_guard.specs.Machine as Form
+use Rattle.sharc_guard.specs.{Machine.{Program, Thread, Phase, Running, Leaving, Left, source_at, statement_at}, Path.{thread_after, IsPath, weight, weight_in}, Guard.{place, guarded, entered_at, head, own, body, tail}, Counted.{Tells, LocksFrom}, Level.IsLevel, Asked.{guarded_asked_by, guarded_asked, is_enter, moves}}
+use Rattle.sharc_guard.specs.Path as Path
 use Rattle.sharc_guard.proofs.{Placing.HasAt, Gates.GivesNow, Turns.behind, Near.{quiet, IsQuiet, Near, Ending, Follow}, Phases.{IsMoving, Stage, ahead, behind_it, leaves, Bound, opens, enters_all}}
 
 pub statement_is : (xs : List Instr) (n : ℕ) (i : Instr) → slice_get xs n ≡ Some i → slice_index_or xs n Exit ≡ i

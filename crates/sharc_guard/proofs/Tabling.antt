@@ -2,10 +2,9 @@
 use Rattle.std.proofs.{Common.{◌≡◌, ℕ, suc, ◌+◌, ◌<◌, ◌^◌, Bool, List, [], ◌∷◌, ◌++◌, length, refl, sym, ap, ◌∙◌, subst, arith, Some, slice_get}, lemmas.List.length-map}
 use Rattle.std.specs.Prelude.{slice_index}
 use Rattle.sharc_code.specs.{declared.code.GlobalCells.GlobalCells, declared.instr.Width.TheVariants.{Char, Int, Long}, declared.instr.Instr.Instr, declared.instr.Instr.TheVariants.Spawn, Ranges.GlobalsFit}
-use Rattle.sharc_flat_form.specs.{declared.flat.Flat.{Flat as FlatCode}, declared.op.Op.Op, Made.flat_of}
-use Rattle.sharc_flat_form.specs.declared.op.Op.TheVariants as op
-use Rattle.sharc_guarded_form.specs.{declared.guarded.Guarded.Guarded, Tables.TablesFit}
-use Rattle.sharc_guard.specs.{Guard.{head, own, body, tail, expand, expanded, guarded, entered_at, place}, Made.IsMade, Tables.FlatTablesFit}
+use Rattle.sharc_flat.specs.{declared.flat.Flat.{Flat as FlatCode}, declared.op.Op.Op, Made.flat_of}
+use Rattle.sharc_flat.specs.declared.op.Op.TheVariants as op
+use Rattle.sharc_guard.specs.{declared.guarded.Guarded.Guarded, GuardedTables.TablesFit, Guard.{head, own, body, tail, expand, expanded, guarded, entered_at, place}, Made.IsMade, Tables.FlatTablesFit}
 use Rattle.sharc_guard.proofs.Framing.{AllIn, all_append, all_at, head_all}
 
 -- what a statement spawns is one of this many functions

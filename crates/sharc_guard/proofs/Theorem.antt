@@ -11,11 +11,10 @@ use Rattle.std.specs.Prelude.{slice_index_or}
 use Rattle.sharc_code.specs.declared.code.Parameter.TheVariants as parameters
 use Rattle.sharc_code.specs.Machine as CodeMachine
 use Rattle.sharc_tree.specs.declared.trap.Trap.TheVariants as traps
-use Rattle.sharc_flat_form.specs.{declared.op.Op.Op, declared.op.Spot.Spot, Machine.{Flat, At, Turn, goes, asks, halts, function_of, end_turn, line_turn, op_turn, turn, first_at, begun, start, Caller, indexed, asserts, with_result, takes_local, goes_on, stops, returned, called, set_int, int, ref, cell_at, mode_of, lock_is_null, accesses, accessed, next, set_ref, gives_up, kind_of}, Path.at_after}
-use Rattle.sharc_flat_form.specs.declared.op.Op.TheVariants as op
-use Rattle.sharc_guarded_form.specs.Machine as Form
-use Rattle.sharc_guarded_form.specs.{Machine.{Program, Thread, statement_at}, Path.{with_parameter, fresh, started, thread_after, IsPath, weight_in}}
-use Rattle.sharc_guard.specs.{Guard.{place, guarded, entered_at, own, body, tail, head, check_under}, Level.{IsEntry, Takes, Level, IsLevel}, Counted.{Tells, IsSettling, AreLowered, OverwritesNone, Quietly, OnWay, IsReplaced, MatchesFlat, HasCome, LocksFrom, GuardedCounts, NeedsCheck, IsPassed, WasChecked, IsOf}}
+use Rattle.sharc_flat.specs.{declared.op.Op.Op, declared.op.Spot.Spot, Machine.{Flat, At, Turn, goes, asks, halts, function_of, end_turn, line_turn, op_turn, turn, first_at, begun, start, Caller, indexed, asserts, with_result, takes_local, goes_on, stops, returned, called, set_int, int, ref, cell_at, cell_mode_of, lock_is_null, accesses, accessed, next, set_ref, gives_up, take_kind_of}, Path.at_after}
+use Rattle.sharc_flat.specs.declared.op.Op.TheVariants as op
+use Rattle.sharc_guard.specs.Machine as Form
+use Rattle.sharc_guard.specs.{Machine.{Program, Thread, statement_at}, Path.{with_parameter, fresh, started, thread_after, IsPath, weight_in}, Guard.{place, guarded, entered_at, own, body, tail, head, check_under}, Level.{IsEntry, Takes, Level, IsLevel}, Counted.{Tells, IsSettling, AreLowered, OverwritesNone, Quietly, OnWay, IsReplaced, MatchesFlat, HasCome, LocksFrom, GuardedCounts, NeedsCheck, IsPassed, WasChecked, IsOf}}
 
 module _ (dropped : ℕ → Bool) (flat : Flat) (level : IsLevel flat) where
   abbrev pl : ℕ → ℕ
@@ -167,14 +166,14 @@ module _ (dropped : ℕ → Bool) (flat : Flat) (level : IsLevel flat) where
       c = cell_at flat.globals m cell
 
       mode : CellMode
-      mode = mode_of flat.globals m c spot.mode
+      mode = cell_mode_of flat.globals m c spot.mode
 
       wanted : (b : Bool) → NeedsTurn (cond b (stops traps.NullPointer spot) (asks m spot.site (act c mode) (pos 0) (λ v n. accessed (next (then_ c v n))))) → NeedsCheck (act c mode)
       wanted true h = absurd h
       wanted false h = h
 
-      in_mode : (pm : PlaceMode) → spot.mode ≡ pm → NeedsCheck (act c mode) → NeedsCheck (act c (mode_of flat.globals m c pm))
-      in_mode pm e h = subst (λ q. NeedsCheck (act c (mode_of flat.globals m c q))) e h
+      in_mode : (pm : PlaceMode) → spot.mode ≡ pm → NeedsCheck (act c mode) → NeedsCheck (act c (cell_mode_of flat.globals m c pm))
+      in_mode pm e h = subst (λ q. NeedsCheck (act c (cell_mode_of flat.globals m c q))) e h
 
       by : (d : Bool) (pm : PlaceMode) → spot.mode ≡ pm → check_under d chk spot s pm ≡ [] → NeedsCheck (act c mode) → d ≡ true
       by d Private e z h = absurd (n1 c (in_mode Private e h))
@@ -208,7 +207,7 @@ module _ (dropped : ℕ → Bool) (flat : Flat) (level : IsLevel flat) where
   no_head m d s (op.Store i cell spot) e h = unchecked m (ChkWrite cell s) d cell spot (λ c mode. acts.Write c mode (int m i)) (λ c v n. n) s spot.mode refl (λ c z. z) (λ c z. z) (λ c z. z) e h
   no_head m d s (op.LoadRef r cell spot) e h = false_true (unchecked m (ChkRead cell s) false cell spot acts.Read (λ c v. set_ref r v) s spot.mode refl (λ c z. z) (λ c z. z) (λ c z. z) e h)
   no_head m d s (op.StoreRef r cell spot) e h = false_true (unchecked m (ChkWrite cell s) false cell spot (λ c mode. acts.Write c mode (ref m r)) (λ c v n. gives_up (Replaced c) (set_ref r (pos 0) n)) s spot.mode refl (λ c z. z) (λ c z. z) (λ c z. z) e h)
-  no_head m d s (op.TakeCell r cell spot) e h = false_true (unchecked m (ChkWrite cell s) false cell spot (λ c mode. acts.Take (taken.Cell c mode) (kind_of spot.at)) (λ c v. set_ref r v) s spot.mode refl (λ c z. z) (λ c z. z) (λ c z. z) e h)
+  no_head m d s (op.TakeCell r cell spot) e h = false_true (unchecked m (ChkWrite cell s) false cell spot (λ c mode. acts.Take (taken.Cell c mode) (take_kind_of spot.at)) (λ c v. set_ref r v) s spot.mode refl (λ c z. z) (λ c z. z) (λ c z. z) e h)
   no_head m d s _ e h = absurd h
 
   needs_told : (site : Site) (act : Act) (go : ℤ → Thread) (t : Turn) → Tells p (Form.Asks site act go) t → NeedsCheck act → NeedsTurn t

@@ -14,11 +14,10 @@ use Rattle.sharc_code.specs.Arithmetic as Code
 use Rattle.sharc_code.specs.Machine as CodeMachine
 use Rattle.sharc_code.specs.Says as Says
 use Rattle.sharc_meaning.specs.{declared.given.GivenUp.GivenUp, declared.given.GivenUp.TheVariants.{Released, Replaced, Emptied}, Arithmetic.{is_zero, is_equal}, Events.{held_mutexes, holds_mutex, locked_by, unlocked_by}, Reference.{number_of, elements_of}, State.{stopped, event_of, answer_of}, Statements.is_positive}
-use Rattle.sharc_flat_form.specs.{declared.op.Op.Op, declared.op.Spot.Spot, Machine.{Flat, Caller, At, Turn, goes, asks, put, int, ref, set_int, set_ref, gives_up, popped, moved, settled, next, over_lines, goes_on, stops, asserts, with_result, cell_at, base_of, without_base, mode_of, lock_is_null, instance_mode, accessed, accesses, event, indexed, kind_of, variable_of, takes_local, called, returned, argument, handed, op_turn, with_event}}
-use Rattle.sharc_flat_form.specs.declared.op.Op.TheVariants as op
-use Rattle.sharc_guarded_form.specs.Machine as Form
-use Rattle.sharc_guarded_form.specs.Machine.{Program, Thread, source_at}
-use Rattle.sharc_guard.specs.{Guard.{place, guarded, entered_at, own, body, tail}, Level.{Slot, free, full, Slots, with_slot, with_moved, without_cell, slot_of, without_handed, Enters, Calls, Resumes, Leaves, Level, IsLevel}, Counted.{IsEnd, AreLowered}}
+use Rattle.sharc_flat.specs.{declared.op.Op.Op, declared.op.Spot.Spot, Machine.{Flat, Caller, At, Turn, goes, asks, put, int, ref, set_int, set_ref, gives_up, popped, moved, settled, next, over_lines, goes_on, stops, asserts, with_result, cell_at, base_of, without_base, cell_mode_of, lock_is_null, instance_mode, accessed, accesses, event, indexed, take_kind_of, variable_of, takes_local, called, returned, argument, handed, op_turn, with_event}}
+use Rattle.sharc_flat.specs.declared.op.Op.TheVariants as op
+use Rattle.sharc_guard.specs.Machine as Form
+use Rattle.sharc_guard.specs.{Machine.{Program, Thread, source_at}, Guard.{place, guarded, entered_at, own, body, tail}, Level.{Slot, free, full, Slots, with_slot, with_moved, without_cell, slot_of, without_handed, Enters, Calls, Resumes, Leaves, Level, IsLevel}, Counted.{IsEnd, AreLowered}}
 use Rattle.sharc_guard.proofs.{Places.{IsPlaceOf, spot_of}, Holding.{quiet_held, lock_held, unlock_held}, Beside.{zero_same, kind_same, variable_same, callers, callers_length, beside, cell_same, mode_same, argument_same, object_same}, Ready.{put_at, put_other, moved_same, Is, Hold, hold_as, Frames, Ready, enters, keeps as keeps_at, puts as puts_at, moves as moves_at, call_ready as call_ready_at, return_ready as return_ready_at, null_here as null_here_at, is_free as is_free_at}, Near.{Near, Follow, lands}}
 
 -- the path of an access's lock leads not through NULL
@@ -153,9 +152,9 @@ module _ (dropped : ℕ → Bool) (flat : Flat) (level : IsLevel flat) (m : At) 
       → IsPlaceOf spot (source_at p s) → lock_is_null m spot spot.mode ≡ false
       → ((mode : CellMode) (x : ℤ) → let c = cell_at flat.globals m cell in let v = answer_of (λ token. pos 0) (act c mode) x in
       N (accessed (next (then_ c v (with_event (event_of spot.site (act c mode) v) m)))) (go x (Form.told me spot.site (act c mode) (answer x))) rest)
-      → F rest (accesses flat.globals cell spot act then_ m) (Form.access p me s cell act answer go)
+      → F rest (accesses flat.globals cell spot act then_ m) (Form.access_at p me s cell act answer go)
   accessing rest cell spot act then_ answer go k way h =
-      subst (λ b. F rest (cond b (stops traps.NullPointer spot) (asks m spot.site (act c mode) (pos 0) (λ v n. accessed (next (then_ c v n))))) (Form.access p me s cell act answer go)) (sym way)
+      subst (λ b. F rest (cond b (stops traps.NullPointer spot) (asks m spot.site (act c mode) (pos 0) (λ v n. accessed (next (then_ c v n))))) (Form.access_at p me s cell act answer go)) (sym way)
       (asked rest spot.site (source_at p s).site (act c mode) (act (Form.cell_at p me cell) (Form.mode_of p me (Form.cell_at p me cell) (source_at p s).mode)) (pos 0) (λ v n. accessed (next (then_ c v n))) answer go m
       k.site (ap (λ z. act z (Form.mode_of p me z (source_at p s).mode)) (cell_same dropped flat m q log low cell) ∙ ap (λ z. act c (Form.mode_of p me c z)) k.mode ∙ ap (act c) (mode_same dropped flat m q log low c spot.mode))
       (h mode))
@@ -164,7 +163,7 @@ module _ (dropped : ℕ → Bool) (flat : Flat) (level : IsLevel flat) (m : At) 
       c = cell_at flat.globals m cell
 
       mode : CellMode
-      mode = mode_of flat.globals m c spot.mode
+      mode = cell_mode_of flat.globals m c spot.mode
 
   -- after an event that takes and gives no mutex
   behind : (e : q + 1 ≡ pl (m.pc + 1)) (m2 : At) → R m2 → log ≡ held_mutexes m2.events → m2.given ≡ [] → m2.pc ≡ m.pc + 1 → N m2 (beside pl m2 (q + 1) log []) []
@@ -331,7 +330,7 @@ module _ (dropped : ℕ → Bool) (flat : Flat) (level : IsLevel flat) (m : At) 
   takes e r x spot k en = each (is_zero (ref m x))
     where
       act : Act
-      act = acts.Take (taken.Local (variable_of spot.at)) (kind_of spot.at)
+      act = acts.Take (taken.Local (variable_of spot.at)) (take_kind_of spot.at)
 
       same_act : acts.Take (taken.Local (Says.variable_of (source_at p s).at)) (Says.kind_of (source_at p s).at) ≡ act
       same_act =
@@ -349,9 +348,9 @@ module _ (dropped : ℕ → Bool) (flat : Flat) (level : IsLevel flat) (m : At) 
   -- ---- mutexes
   locks : (e : q + 1 ≡ pl (m.pc + 1)) (cell : Cell) (spot : Spot) → IsPlaceOf spot (source_at p s) → En (without_cell here cell) (m.pc + 1)
       → F [] (event spot (acts.Lock (cell_at flat.globals m cell)) (λ v. without_base cell) m)
-      (Form.asks_at p me s (acts.Lock (Form.cell_at p me cell)) Form.nothing (λ x b. Form.next (record (Form.without_base b cell) { held = log ++ Form.cell_at p me cell ∷ [] })))
+      (Form.asks_at p me s (acts.Lock (Form.cell_at p me cell)) Form.no_answer (λ x b. Form.next (record (Form.without_base b cell) { held = log ++ Form.cell_at p me cell ∷ [] })))
   locks e cell spot k en =
-      asked [] spot.site (source_at p s).site (acts.Lock c) (acts.Lock (Form.cell_at p me cell)) (pos 0) (λ v n. next (without_base cell n)) Form.nothing (λ x b. Form.next (record (Form.without_base b cell) { held = log ++ Form.cell_at p me cell ∷ [] })) m
+      asked [] spot.site (source_at p s).site (acts.Lock c) (acts.Lock (Form.cell_at p me cell)) (pos 0) (λ v n. next (without_base cell n)) Form.no_answer (λ x b. Form.next (record (Form.without_base b cell) { held = log ++ Form.cell_at p me cell ∷ [] })) m
       k.site (ap acts.Lock same)
       (λ x. subst (λ c2. N (next (without_base cell (with_event ev m))) (Form.next (record (Form.without_base (Form.told me spot.site (acts.Lock c) (pos 0)) cell) { held = log ++ c2 ∷ [] })) []) (sym same) (each cell en))
     where
@@ -379,9 +378,9 @@ module _ (dropped : ℕ → Bool) (flat : Flat) (level : IsLevel flat) (m : At) 
 
   unlocks : (e : q + 1 ≡ pl (m.pc + 1)) (r : ℕ) (cell : Cell) (spot : Spot) → IsPlaceOf spot (source_at p s) → En (with_slot here r (slot_of here cell)) (m.pc + 1)
       → F [] (event spot (acts.Unlock (cell_at flat.globals m cell)) (λ v n. set_ref r (base_of n cell) n) m)
-      (Form.asks_at p me s (acts.Unlock (Form.cell_at p me cell)) Form.nothing (λ x b. Form.next (record (Form.set_ref b r (Form.base_of me cell)) { held = Form.without_mutex log (Form.cell_at p me cell) })))
+      (Form.asks_at p me s (acts.Unlock (Form.cell_at p me cell)) Form.no_answer (λ x b. Form.next (record (Form.set_ref b r (Form.base_of me cell)) { held = Form.without_mutex log (Form.cell_at p me cell) })))
   unlocks e r cell spot k en =
-      asked [] spot.site (source_at p s).site (acts.Unlock c) (acts.Unlock (Form.cell_at p me cell)) (pos 0) (λ v n. next (set_ref r (base_of n cell) n)) Form.nothing
+      asked [] spot.site (source_at p s).site (acts.Unlock c) (acts.Unlock (Form.cell_at p me cell)) (pos 0) (λ v n. next (set_ref r (base_of n cell) n)) Form.no_answer
       (λ x b. Form.next (record (Form.set_ref b r (Form.base_of me cell)) { held = Form.without_mutex log (Form.cell_at p me cell) })) m
       k.site (ap acts.Unlock same)
       (λ x. subst (λ c2. N (next (set_ref r (base_of (with_event ev m) cell) (with_event ev m))) (Form.next (record (Form.set_ref (Form.told me spot.site (acts.Unlock c) (pos 0)) r (Form.base_of me cell)) { held = Form.without_mutex log c2 })) []) (sym same)
@@ -429,9 +428,9 @@ module _ (dropped : ℕ → Bool) (flat : Flat) (level : IsLevel flat) (m : At) 
 
   -- an event that leaves the registers
   tells : (e : q + 1 ≡ pl (m.pc + 1)) (spot : Spot) (act act2 : Act) → IsPlaceOf spot (source_at p s) → En here (m.pc + 1) → act2 ≡ act → locked_by act ≡ None → unlocked_by act ≡ None → answer_of (λ token. pos 0) act ≡ (λ x. pos 0)
-      → F [] (event spot act (λ v n. n) m) (Form.tells p me s act2)
+      → F [] (event spot act (λ v n. n) m) (Form.tells_at p me s act2)
   tells e spot act act2 k en ea l u an =
-      asked [] spot.site (source_at p s).site act act2 (pos 0) (λ v n. next n) Form.nothing (λ x b. Form.next b) m k.site ea
+      asked [] spot.site (source_at p s).site act act2 (pos 0) (λ v n. next n) Form.no_answer (λ x b. Form.next b) m k.site ea
       (λ x. let m2 : ℤ → At = λ v. next (with_event (event_of spot.site act v) m) in
       subst (λ (f : ℤ → ℤ). N (m2 (f x)) (Form.next (Form.told me spot.site act (pos 0))) []) (sym an)
       (behind e (m2 (pos 0)) (keeps (m2 (pos 0)) en refl refl refl) (plain spot.site act (pos 0) l u) refl refl))
@@ -513,7 +512,7 @@ module _ (dropped : ℕ → Bool) (flat : Flat) (level : IsLevel flat) (m : At) 
       (λ mode x. let c = cell_at flat.globals m cell in let m2 = accessed (next (set_int i x (with_event (event_of spot.site (acts.Read c mode) x) m))) in
       behind (omega arith) m2 (keeps m2 lv refl refl refl) (plain spot.site (acts.Read c mode) x refl refl) refl refl)
   follows (op.Store i cell spot) lv k way e =
-      accessing [] cell spot (λ c mode. acts.Write c mode (int m i)) (λ c v n. n) Form.nothing (λ x b. Form.next (Form.accessed b)) (k spot refl) way
+      accessing [] cell spot (λ c mode. acts.Write c mode (int m i)) (λ c v n. n) Form.no_answer (λ x b. Form.next (Form.accessed b)) (k spot refl) way
       (λ mode x. let c = cell_at flat.globals m cell in let m2 = accessed (next (with_event (event_of spot.site (acts.Write c mode (int m i)) (pos 0)) m)) in
       behind (omega arith) m2 (keeps m2 lv refl refl refl) (plain spot.site (acts.Write c mode (int m i)) (pos 0) refl refl) refl refl)
   follows (op.LoadRef r cell spot) lv k way e =
@@ -521,7 +520,7 @@ module _ (dropped : ℕ → Bool) (flat : Flat) (level : IsLevel flat) (m : At) 
       (λ mode x. let c = cell_at flat.globals m cell in
       loads (omega arith) r x (event_of spot.site (acts.Read c mode) x) (plain spot.site (acts.Read c mode) x refl refl) lv.0 lv.1)
   follows (op.StoreRef r cell spot) lv k way e =
-      accessing (Lower r ∷ []) cell spot (λ c mode. acts.Write c mode (ref m r)) (λ c v n. gives_up (Replaced c) (set_ref r (pos 0) n)) Form.nothing (λ x b. Form.next (Form.accessed (Form.set_ref b r x))) (k spot refl) way
+      accessing (Lower r ∷ []) cell spot (λ c mode. acts.Write c mode (ref m r)) (λ c v n. gives_up (Replaced c) (set_ref r (pos 0) n)) Form.no_answer (λ x b. Form.next (Form.accessed (Form.set_ref b r x))) (k spot refl) way
       (λ mode x. let c = cell_at flat.globals m cell in
       stores (omega arith) r c x (event_of spot.site (acts.Write c mode (ref m r)) (pos 0)) (plain spot.site (acts.Write c mode (ref m r)) (pos 0) refl refl) lv)
   follows (op.LoadGuard cell spot) lv k way e =
@@ -540,11 +539,11 @@ module _ (dropped : ℕ → Bool) (flat : Flat) (level : IsLevel flat) (m : At) 
       behind (omega arith) m2 (puts m2 r full x tt lv.1 refl refl refl) (plain spot.site (acts.New cells elements mode) x refl refl) refl refl)
   follows (op.TakeCell r cell spot) lv k way e =
       let f : Use → CellAt → CellMode → Act = λ u c mode. acts.Take (taken.Cell c mode) (Says.kind_of u) in
-      let same : f (source_at p s).at ≡ (λ c mode. acts.Take (taken.Cell c mode) (kind_of spot.at)) =
+      let same : f (source_at p s).at ≡ (λ c mode. acts.Take (taken.Cell c mode) (take_kind_of spot.at)) =
       ap f (k spot refl).at ∙ ap (λ w. λ c mode. acts.Take (taken.Cell c mode) w) (kind_same spot.at) in
-      subst (λ (of : CellAt → CellMode → Act). F [] (op_turn flat (op.TakeCell r cell spot) m) (Form.access p me s cell of Form.given (λ x b. Form.next (Form.accessed (Form.set_ref b r x))))) (sym same)
-      (accessing [] cell spot (λ c mode. acts.Take (taken.Cell c mode) (kind_of spot.at)) (λ c v. set_ref r v) Form.given (λ x b. Form.next (Form.accessed (Form.set_ref b r x))) (k spot refl) way
-      (λ mode x. let c = cell_at flat.globals m cell in let act = acts.Take (taken.Cell c mode) (kind_of spot.at) in let m2 = accessed (next (set_ref r x (with_event (event_of spot.site act x) m))) in
+      subst (λ (of : CellAt → CellMode → Act). F [] (op_turn flat (op.TakeCell r cell spot) m) (Form.access_at p me s cell of Form.given (λ x b. Form.next (Form.accessed (Form.set_ref b r x))))) (sym same)
+      (accessing [] cell spot (λ c mode. acts.Take (taken.Cell c mode) (take_kind_of spot.at)) (λ c v. set_ref r v) Form.given (λ x b. Form.next (Form.accessed (Form.set_ref b r x))) (k spot refl) way
+      (λ mode x. let c = cell_at flat.globals m cell in let act = acts.Take (taken.Cell c mode) (take_kind_of spot.at) in let m2 = accessed (next (set_ref r x (with_event (event_of spot.site act x) m))) in
       behind (omega arith) m2 (puts m2 r full x tt lv.1 refl refl refl) (plain spot.site act x refl refl) refl refl))
   follows (op.TakeLocal r x spot) lv k way e = takes (omega arith) r x spot (k spot refl) lv.2
   follows (op.Give r cells spot) lv k way e =
@@ -552,7 +551,7 @@ module _ (dropped : ℕ → Bool) (flat : Flat) (level : IsLevel flat) (m : At) 
       (ap (λ z. acts.Give (ref m r) (Form.mode_of p me (Says.made_cell 0 0) z)) (k spot refl).mode ∙ ap (acts.Give (ref m r)) (object_same dropped flat m q log low spot.mode)) refl refl refl
   follows (op.Free r layout spot) lv k way e =
       let from = gives_up (Emptied (number_of (ref m r))) m in
-      asked [] spot.site (source_at p s).site (acts.Freed (ref m r)) (acts.Freed (ref m r)) (pos 0) (λ v n. next (set_ref r (pos 0) n)) Form.nothing (λ x b. Form.next (Form.set_ref b r (pos 0))) from
+      asked [] spot.site (source_at p s).site (acts.Freed (ref m r)) (acts.Freed (ref m r)) (pos 0) (λ v n. next (set_ref r (pos 0) n)) Form.no_answer (λ x b. Form.next (Form.set_ref b r (pos 0))) from
       (k spot refl).site refl
       (λ x. let m2 = next (set_ref r (pos 0) (with_event (event_of spot.site (acts.Freed (ref m r)) (pos 0)) from)) in
       behind (omega arith) m2 (puts m2 r free (pos 0) refl lv refl refl refl) (plain spot.site (acts.Freed (ref m r)) (pos 0) refl refl) refl refl)

@@ -2,11 +2,10 @@
 use Rattle.std.proofs.{Common.{◌≡◌, ℕ, zero, suc, ◌+◌, ◌-◌, ◌<◌, ◌≤◌, Bool, true, false, List, [], ◌∷◌, ◌++◌, length, Some, refl, sym, ap, ◌∙◌, subst, ⊎_elim, arith, slice_get, slice_index_or}, lemmas.Bool.{cases_lt, or_right, or_left}, lemmas.List.{length-append, length-map}}
 use Rattle.std.specs.Prelude.{◌==◌}
 use Rattle.sharc_code.specs.{declared.code.Function.Function, declared.instr.Instr.Instr, declared.instr.Instr.TheVariants.{Start, Exit, ChkRead, ChkWrite, Load, Store, LoadRef, Exchange}, declared.instr.Width.TheVariants.{Char, Int, Long}, Machine.no_function}
-use Rattle.sharc_shadow.specs.declared.shadow_word.Kind.TheVariants as kinds
-use Rattle.sharc_flat_form.specs.{declared.op.Op.Op, declared.op.Spot.Spot, Machine.Flat}
-use Rattle.sharc_flat_form.specs.declared.op.Op.TheVariants as op
-use Rattle.sharc_guarded_form.specs.Machine.{Program}
-use Rattle.sharc_guard.specs.{Guard.{expand, head, body, tail, own, offset, place, guarded, entered_at, check_under}, Checked.{Access, access_of, LeadsTo, IsNoTarget}, Known.{leads_to, line_leads, is_led_to, is_entry, is_target, is_dynamic, tells, has_passed, place_of, known, drops, drops_at, dropped}, Untargeted.DroppedIsNoTarget}
+use Rattle.sharc_heap.specs.declared.shadow_word.Kind.TheVariants as kinds
+use Rattle.sharc_flat.specs.{declared.op.Op.Op, declared.op.Spot.Spot, Machine.Flat}
+use Rattle.sharc_flat.specs.declared.op.Op.TheVariants as op
+use Rattle.sharc_guard.specs.{Machine.Program, Guard.{expand, head, body, tail, own, offset, place, guarded, entered_at, check_under}, Checked.{Access, access_of, LeadsTo, IsNoTarget}, Known.{leads_to, line_leads, is_led_to, is_entry, is_target, is_dynamic, tells, has_passed, place_of, known, drops, drops_at, dropped}, Untargeted.DroppedIsNoTarget}
 use Rattle.sharc_guard.specs.Known as Known
 use Rattle.sharc_guard.proofs.{Checking.{grows, entry_placed, at_line}, Framing.{AllIn, all_append, all_at, head_all}, Placing.{width_is, place_next}, Repeating.{eq_same, no_some, true_false, dynamic_is, repeated}}
 use Rattle.sharc_lemmas.proofs.{Bools.and_left, Lists.{there_is as within}}

@@ -6,14 +6,13 @@ use Rattle.sharc_tree.specs.declared.trap.Trap.TheVariants as traps
 use Rattle.sharc_code.specs.{declared.code.Function.Function, declared.code.Parameter.Parameter, declared.code.PlaceMode.PlaceMode, declared.code.PlaceMode.TheVariants.{Private, Readonly, Racy, Dynamic, LockedGlobal, LockedSibling, LockedThrough, LockedLoaded}, declared.code.SourcePlace.SourcePlace, declared.instr.Width.TheVariants.{Char, Int, Long}, declared.instr.Instr.Instr, declared.instr.Instr.TheVariants.{ChkRead, ChkWrite}, Machine.no_function}
 use Rattle.sharc_code.specs.declared.code.Parameter.TheVariants as parameters
 use Rattle.sharc_meaning.specs.{Reference.NULL, State.{stopped, event_of}}
-use Rattle.sharc_flat_form.specs.{declared.op.Op.Op, declared.op.Spot.Spot, Machine.{goes, asks, halts, op_turn}, Path.at_after, Framed.{IsFlat, Leads}}
-use Rattle.sharc_flat_form.specs.declared.op.Op.TheVariants as op
-use Rattle.sharc_flat_form.specs.Machine as Flat
-use Rattle.sharc_guarded_form.specs.Machine as Form
-use Rattle.sharc_guarded_form.specs.{Machine.{Thread, Phase, Running, Leaving, Left, Turn, Goes, Asks, Checks, Halts, Stopped, Ended, Check, step, source_at, statement_at}, Path.{weight, started, fresh, thread_after, weight_in}}
-use Rattle.sharc_guarded_form.specs.Path as Guarded
-use Rattle.sharc_guard.specs.{Guard.{source_of, head, body, tail, own, expand, entered_at, check_under}, Correct.{Resolved, bottom, image, Wants, IsBeside}}
-use Rattle.sharc_flat_form.specs.Path as Flow
+use Rattle.sharc_flat.specs.{declared.op.Op.Op, declared.op.Spot.Spot, Machine.{goes, asks, halts, op_turn}, Path.at_after, Framed.{IsFlat, Leads}}
+use Rattle.sharc_flat.specs.declared.op.Op.TheVariants as op
+use Rattle.sharc_flat.specs.Machine as Flat
+use Rattle.sharc_guard.specs.Machine as Form
+use Rattle.sharc_guard.specs.{Machine.{Thread, Phase, Running, Leaving, Left, Turn, Goes, Asks, Checks, Halts, Stopped, Ended, Check, step, source_at, statement_at}, Path.{weight, started, fresh, thread_after, weight_in}, Guard.{source_of, head, body, tail, own, expand, entered_at, check_under}, Correct.{Resolved, bottom, image, Wants, IsBeside}}
+use Rattle.sharc_guard.specs.Path as Guarded
+use Rattle.sharc_flat.specs.Path as Flow
 use Rattle.sharc_guard.proofs.{Placing.{HasAt, stands, place_next, statement_is, source_is}, Follows.{g, at, Callers, Is, Trailing, AtEnd, Near, Follow, follows, Bodied, Unlocked, leaving}, Heads.{IsPass, Asking, IsHead, AreHeads, heads}}
 
 line_at : (lines : List Op) (n : ℕ) → n < length lines → (o : Op) × (slice_get lines n ≡ Some o)

@@ -8,8 +8,8 @@ use Rattle.sharc_tree.specs.declared.event.Taken.TheVariants as taken
 use Rattle.sharc_tree.specs.declared.trap.Trap.TheVariants as traps
 use Rattle.sharc_code.specs.{declared.instr.Cell.Cell, Arithmetic.{computed, negated, holds}}
 use Rattle.sharc_meaning.specs.{declared.given.GivenUp.GivenUp, declared.given.GivenUp.TheVariants.{Released, Replaced, Emptied}, Arithmetic.is_zero, Events.{held_mutexes, holds_mutex}, Reference.{number_of, elements_of}, Statements.is_positive}
-use Rattle.sharc_flat_form.specs.{declared.op.Op.Op, declared.op.Spot.Spot, Machine.{Flat, Caller, At, Turn, goes, asks, halts, put, int, ref, set_int, set_ref, popped, moved, settled, next, over_lines, goes_on, stops, asserts, with_result, cell_at, mode_of, lock_is_null, accesses, accessed, gives_up, kind_of, indexed, takes_local, called, returned, end_turn, line_turn, op_turn}}
-use Rattle.sharc_flat_form.specs.declared.op.Op.TheVariants as op
+use Rattle.sharc_flat.specs.{declared.op.Op.Op, declared.op.Spot.Spot, Machine.{Flat, Caller, At, Turn, goes, asks, halts, put, int, ref, set_int, set_ref, popped, moved, settled, next, over_lines, goes_on, stops, asserts, with_result, cell_at, cell_mode_of, lock_is_null, accesses, accessed, gives_up, take_kind_of, indexed, takes_local, called, returned, end_turn, line_turn, op_turn}}
+use Rattle.sharc_flat.specs.declared.op.Op.TheVariants as op
 use Rattle.sharc_guard.specs.{Level.{free, Slots, with_slot, with_moved, Enters, Leaves, Level, IsLevel}, Counted.{IsReleased, Quietly, OnWay}}
 use Rattle.sharc_guard.proofs.Ready.{Is, Hold, put_at, put_other, Frames, Ready, enters, hold_as, slot_same, moved_same, keeps, puts, moves, null_here, call_ready, return_ready, is_free}
 
@@ -93,7 +93,7 @@ module _ (flat : Flat) (level : IsLevel flat) where
         c : CellAt
         c = cell_at flat.globals m cell
 
-        each : (b : Bool) → After m v (cond b (stops traps.NullPointer spot) (asks m spot.site (act c (mode_of flat.globals m c spot.mode)) (pos 0) (λ v n. accessed (next (then_ c v n)))))
+        each : (b : Bool) → After m v (cond b (stops traps.NullPointer spot) (asks m spot.site (act c (cell_mode_of flat.globals m c spot.mode)) (pos 0) (λ v n. accessed (next (then_ c v n)))))
         each true = tt
         each false = tt
 
@@ -190,7 +190,7 @@ module _ (flat : Flat) (level : IsLevel flat) where
     way (op.Store i cell spot) lv = access_way cell spot (λ c mode. acts.Write c mode (int m i)) (λ c v n. n)
     way (op.LoadRef r cell spot) lv = access_way cell spot acts.Read (λ c v. set_ref r v)
     way (op.StoreRef r cell spot) lv = access_way cell spot (λ c mode. acts.Write c mode (ref m r)) (λ c v n. gives_up (Replaced c) (set_ref r (pos 0) n))
-    way (op.TakeCell r cell spot) lv = access_way cell spot (λ c mode. acts.Take (taken.Cell c mode) (kind_of spot.at)) (λ c v. set_ref r v)
+    way (op.TakeCell r cell spot) lv = access_way cell spot (λ c mode. acts.Take (taken.Cell c mode) (take_kind_of spot.at)) (λ c v. set_ref r v)
     way (op.TakeLocal r x spot) lv = takes_way r x spot (is_zero (ref m x)) lv.0 lv.1 lv.2
     way _ lv = tt
 
@@ -230,7 +230,7 @@ module _ (flat : Flat) (level : IsLevel flat) where
         c : CellAt
         c = cell_at flat.globals m cell
 
-        each : (b : Bool) → Grows m (cond b (stops traps.NullPointer spot) (asks m spot.site (act c (mode_of flat.globals m c spot.mode)) (pos 0) (λ v n. accessed (next (then_ c v n)))))
+        each : (b : Bool) → Grows m (cond b (stops traps.NullPointer spot) (asks m spot.site (act c (cell_mode_of flat.globals m c spot.mode)) (pos 0) (λ v n. accessed (next (then_ c v n)))))
         each true = tt
         each false = tt
 
@@ -283,7 +283,7 @@ module _ (flat : Flat) (level : IsLevel flat) where
     grows (op.Store i cell spot) = grows_access cell spot (λ c mode. acts.Write c mode (int m i)) (λ c v n. n)
     grows (op.LoadRef r cell spot) = grows_access cell spot acts.Read (λ c v. set_ref r v)
     grows (op.StoreRef r cell spot) = grows_access cell spot (λ c mode. acts.Write c mode (ref m r)) (λ c v n. gives_up (Replaced c) (set_ref r (pos 0) n))
-    grows (op.TakeCell r cell spot) = grows_access cell spot (λ c mode. acts.Take (taken.Cell c mode) (kind_of spot.at)) (λ c v. set_ref r v)
+    grows (op.TakeCell r cell spot) = grows_access cell spot (λ c mode. acts.Take (taken.Cell c mode) (take_kind_of spot.at)) (λ c v. set_ref r v)
     grows (op.TakeLocal r x spot) = grows_takes r x spot (is_zero (ref m x))
     grows _ = tt
 

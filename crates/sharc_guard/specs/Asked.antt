@@ -1,10 +1,10 @@
 -- The answers that were asked for on a path of guarded code, and how many turns of a path of flat code have a
 -- statement.
 use Rattle.std.specs.Prelude.{ℕ, ℤ, ◌+◌, List, [], ◌∷◌, ◌++◌, slice_get, Option, Some}
-use Rattle.sharc_flat_form.specs.{declared.op.Op.Op, Machine.{Flat, At}, Path.at_after}
-use Rattle.sharc_flat_form.specs.declared.op.Op.TheVariants as op
-use Rattle.sharc_guarded_form.specs.Machine as Form
-use Rattle.sharc_guarded_form.specs.{Machine.{Program, Thread}, Path.thread_after}
+use Rattle.sharc_flat.specs.{declared.op.Op.Op, Machine.{Flat, At}, Path.at_after}
+use Rattle.sharc_flat.specs.declared.op.Op.TheVariants as op
+use Rattle.sharc_guard.specs.Machine as Form
+use Rattle.sharc_guard.specs.{Machine.{Program, Thread}, Path.thread_after}
 
 -- those of the answers of a path of guarded code that were asked for, the first one first
 abbrev pub guarded_asked_by : Form.Turn → ℤ → List ℤ

@@ -8,9 +8,8 @@ use Rattle.sharc_code.specs.{declared.instr.Cell.Cell, declared.instr.Cell.TheVa
 use Rattle.sharc_code.specs.declared.instr.Instr.{Instr}
 use Rattle.sharc_code.specs.declared.instr.Instr.TheVariants.{Jump, JumpIfZero, JumpIfNull, ChkRead, ChkWrite, ChkLock}
 use Rattle.sharc_code.specs.declared.instr.Instr.TheVariants.{ChkLockLoaded, Load, Store, LoadRef, Exchange, TakeCell}
-use Rattle.sharc_flat_form.specs.Machine.{Flat}
-use Rattle.sharc_guarded_form.specs.Machine.{Program, function_at, source_at}
-use Rattle.sharc_guard.specs.Guard.{guarded}
+use Rattle.sharc_flat.specs.Machine.{Flat}
+use Rattle.sharc_guard.specs.{Machine.{Program, function_at, source_at}, Guard.guarded}
 
 -- an access of a cell, at this site
 pub record Access : Type 0 where

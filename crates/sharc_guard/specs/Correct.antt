@@ -5,13 +5,12 @@ use Rattle.sharc_code.specs.declared.state.Frame.{Frame}
 use Rattle.sharc_meaning.specs.declared.given.GivenUp.{GivenUp}
 use Rattle.sharc_meaning.specs.{declared.given.GivenUp.TheVariants.{Released, Replaced, Emptied}, Events.held_mutexes}
 use Rattle.sharc_meaning.specs.State.{stopped, ended}
-use Rattle.sharc_flat_form.specs.Machine as Flat
-use Rattle.sharc_guarded_form.specs.Machine.{Program, Thread, Running, Check, Turn, Goes, Asks, Checks, Halts, Stopped}
-use Rattle.sharc_guarded_form.specs.Machine.{Ended, turn, source_at}
-use Rattle.sharc_guarded_form.specs.Path.{started, thread_after, IsPath, weight_in}
-use Rattle.sharc_guard.specs.Guard.{guarded, place}
-use Rattle.sharc_flat_form.specs.Path as Flow
-use Rattle.sharc_flat_form.specs.Framed.{IsFlat}
+use Rattle.sharc_flat.specs.Machine as Flat
+use Rattle.sharc_guard.specs.Machine.{Program, Thread, Running, Check, Turn, Goes, Asks, Checks, Halts, Stopped, Ended}
+use Rattle.sharc_guard.specs.Machine.{turn, source_at}
+use Rattle.sharc_guard.specs.{Path.{started, thread_after, IsPath, weight_in}, Guard.{guarded, place}}
+use Rattle.sharc_flat.specs.Path as Flow
+use Rattle.sharc_flat.specs.Framed.{IsFlat}
 
 -- what flat code gave up, and the numbers that guarded code lowered for it: for the old value of a cell whatever it
 -- held

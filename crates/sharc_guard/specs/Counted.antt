@@ -6,8 +6,8 @@ use Rattle.sharc_tree.specs.{declared.event.CellMode.CellMode, declared.event.Ta
 use Rattle.sharc_tree.specs.declared.event.Act.TheVariants as acts
 use Rattle.sharc_tree.specs.declared.event.CellMode.TheVariants as modes
 use Rattle.sharc_tree.specs.declared.event.Taken.TheVariants as taken
-use Rattle.sharc_shadow.specs.declared.shadow_word.Kind.{Kind}
-use Rattle.sharc_shadow.specs.declared.shadow_word.Kind.TheVariants as kinds
+use Rattle.sharc_heap.specs.declared.shadow_word.Kind.{Kind}
+use Rattle.sharc_heap.specs.declared.shadow_word.Kind.TheVariants as kinds
 use Rattle.sharc_code.specs.declared.instr.Instr.{Instr}
 use Rattle.sharc_code.specs.declared.instr.Instr.TheVariants.{Null, Raise, RaiseLoaded, Lower, MoveReference, New}
 use Rattle.sharc_code.specs.declared.instr.Instr.TheVariants.{TakeCell, TakeLocal, Unlock}
@@ -16,15 +16,15 @@ use Rattle.sharc_code.specs.declared.code.PlaceMode.TheVariants.{LockedSibling}
 use Rattle.sharc_meaning.specs.declared.given.GivenUp.{GivenUp}
 use Rattle.sharc_meaning.specs.{declared.given.GivenUp.TheVariants.{Released, Replaced, Emptied}, Reference.number_of}
 use Rattle.sharc_meaning.specs.State.{Outcome, ended, stopped}
-use Rattle.sharc_flat_form.specs.{declared.op.Op.Op, declared.op.Spot.Spot}
-use Rattle.sharc_flat_form.specs.Machine.{Flat, At, Turn, goes, asks, halts, turn, start, cell_at, lock_is_null}
-use Rattle.sharc_flat_form.specs.Path.{at_after, IsPath as IsFlatPath, asked}
-use Rattle.sharc_flat_form.specs.declared.op.Op.TheVariants as op
-use Rattle.sharc_guarded_form.specs.Machine as Form
-use Rattle.sharc_guarded_form.specs.Machine.{Program, Thread, Check, Accesses, Locks, IsSole, Ended, Stopped, source_at}
-use Rattle.sharc_guarded_form.specs.Machine.{statement_at, ref}
-use Rattle.sharc_guarded_form.specs.Path.{started, thread_after, IsPath, weight_in}
-use Rattle.sharc_guard.specs.{Guard.guarded, Level.IsLevel, Asked.{guarded_asked, moves}}
+use Rattle.sharc_flat.specs.{declared.op.Op.Op, declared.op.Spot.Spot}
+use Rattle.sharc_flat.specs.Machine.{Flat, At, Turn, goes, asks, halts, turn, start, cell_at, lock_is_null}
+use Rattle.sharc_flat.specs.Path.{at_after, IsPath as IsFlatPath, asked}
+use Rattle.sharc_flat.specs.declared.op.Op.TheVariants as op
+use Rattle.sharc_guard.specs.Machine as Form
+use Rattle.sharc_guard.specs.Machine.{Program, Thread, Check, Accesses, Locks, IsSole, Ended, Stopped, source_at}
+use Rattle.sharc_guard.specs.Machine.{statement_at, ref}
+use Rattle.sharc_guard.specs.{Path.{started, thread_after, IsPath, weight_in}, Guard.guarded, Level.IsLevel}
+use Rattle.sharc_guard.specs.Asked.{guarded_asked, moves}
 
 -- ---- what comes next
 -- the act is a read of this cell, a write or a take of it, in mode dynamic

@@ -2,11 +2,11 @@
 use Rattle.std.specs.Prelude.{◌≡◌, ℕ, ℤ, ◌<◌, true, false, ◌⊎◌, List, [], ◌∷◌, length, Option, Some, slice_get}
 use Rattle.sharc_tree.specs.{declared.event.CellAt.CellAt, declared.event.Object.Object}
 use Rattle.sharc_tree.specs.declared.event.Object.TheVariants as objects
-use Rattle.sharc_shadow.specs.{declared.shadow_word.Kind.Kind, declared.shadow_word.Kind.TheVariants.{Read, Write}}
+use Rattle.sharc_heap.specs.{declared.shadow_word.Kind.Kind, declared.shadow_word.Kind.TheVariants.{Read, Write}}
 use Rattle.sharc_meaning.specs.Reference.{number_of}
-use Rattle.sharc_flat_form.specs.{declared.op.Op.Op, Machine.{Flat, At, Turn, asks, turn, cell_at, start}}
-use Rattle.sharc_flat_form.specs.Path.{at_after, IsPath}
-use Rattle.sharc_flat_form.specs.declared.op.Op.TheVariants as op
+use Rattle.sharc_flat.specs.{declared.op.Op.Op, Machine.{Flat, At, Turn, asks, turn, cell_at, start}}
+use Rattle.sharc_flat.specs.Path.{at_after, IsPath}
+use Rattle.sharc_flat.specs.declared.op.Op.TheVariants as op
 use Rattle.sharc_guard.specs.{Known.{counts, dropped}, Repeated.IsStraight, Counted.IsAccess}
 
 -- it asks for an access of this cell, of this kind or a write, in mode dynamic

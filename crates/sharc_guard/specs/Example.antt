@@ -6,10 +6,9 @@ use Rattle.sharc_code.specs.declared.code.Parameter.TheVariants as parameters
 use Rattle.sharc_code.specs.declared.code.PlaceMode.TheVariants as modes
 use Rattle.sharc_code.specs.declared.code.Use.TheVariants as uses
 use Rattle.sharc_code.specs.declared.instr.Instr.TheVariants as instr
-use Rattle.sharc_flat_form.specs.{declared.op.Op.Op, declared.op.Spot.Spot, Machine.Flat, Framed.{IsFlat, IsFramed}}
-use Rattle.sharc_flat_form.specs.declared.op.Op.TheVariants as op
-use Rattle.sharc_guarded_form.specs.Form.{IsGuarded}
-use Rattle.sharc_guard.specs.Guard.{guarded}
+use Rattle.sharc_flat.specs.{declared.op.Op.Op, declared.op.Spot.Spot, Machine.Flat, Framed.{IsFlat, IsFramed}}
+use Rattle.sharc_flat.specs.declared.op.Op.TheVariants as op
+use Rattle.sharc_guard.specs.{Form.IsGuarded, Guard.guarded}
 
 abbrev pub there : Spot
 there = record {

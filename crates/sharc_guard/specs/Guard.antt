@@ -20,9 +20,9 @@ use Rattle.sharc_code.specs.declared.instr.Instr.TheVariants.{Clear, Give, Free,
 use Rattle.sharc_code.specs.declared.instr.Instr.TheVariants.{Start, Exit, CondEnter, CondWait, CondSignal}
 use Rattle.sharc_code.specs.declared.instr.Instr.TheVariants.{CondBroadcast}
 use Rattle.sharc_code.specs.Says.{no_place}
-use Rattle.sharc_flat_form.specs.{declared.op.Op.Op, declared.op.Spot.Spot, Machine.Flat}
-use Rattle.sharc_flat_form.specs.declared.op.Op.TheVariants as op
-use Rattle.sharc_guarded_form.specs.Machine.{Program}
+use Rattle.sharc_flat.specs.{declared.op.Op.Op, declared.op.Spot.Spot, Machine.Flat}
+use Rattle.sharc_flat.specs.declared.op.Op.TheVariants as op
+use Rattle.sharc_guard.specs.Machine.{Program}
 
 -- ---- sites: the number of a site is that of its line
 abbrev pub source_at_spot : Spot → SourcePlace

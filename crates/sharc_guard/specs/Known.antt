@@ -3,12 +3,12 @@
 -- were checked.
 use Rattle.std.specs.Prelude.{ℕ, zero, suc, ℤ, pos, negsuc, ◌+◌, ◌*◌, ◌^◌, ◌==◌, Bool, true, false, not, ◌&&◌, ◌||◌}
 use Rattle.std.specs.Prelude.{List, [], ◌∷◌, length, Option, Some, None, nat_lt, slice_get, if◌then◌else◌}
-use Rattle.sharc_shadow.specs.{declared.shadow_word.Kind.Kind, declared.shadow_word.Kind.TheVariants.{Read, Write}}
+use Rattle.sharc_heap.specs.{declared.shadow_word.Kind.Kind, declared.shadow_word.Kind.TheVariants.{Read, Write}}
 use Rattle.sharc_code.specs.{declared.code.Function.Function, declared.code.PlaceMode.PlaceMode}
 use Rattle.sharc_code.specs.{declared.code.PlaceMode.TheVariants.Dynamic, declared.instr.Cell.Cell}
 use Rattle.sharc_code.specs.declared.instr.Cell.TheVariants as cells
-use Rattle.sharc_flat_form.specs.{declared.op.Spot.Spot, declared.op.Op.Op, Machine.Flat}
-use Rattle.sharc_flat_form.specs.declared.op.Op.TheVariants as op
+use Rattle.sharc_flat.specs.{declared.op.Spot.Spot, declared.op.Op.Op, Machine.Flat}
+use Rattle.sharc_flat.specs.declared.op.Op.TheVariants as op
 
 -- ---- straight pieces
 -- A jump, a call, a return, the end of a block, a cast, a free, and what starts or waits for threads or takes or gives

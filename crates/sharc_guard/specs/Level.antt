@@ -7,8 +7,8 @@ use Rattle.sharc_code.specs.declared.instr.Register.{Register}
 use Rattle.sharc_code.specs.declared.code.Parameter.TheVariants as parameters
 use Rattle.sharc_code.specs.declared.instr.Cell.TheVariants as cells
 use Rattle.sharc_code.specs.declared.instr.Register.TheVariants as registers
-use Rattle.sharc_flat_form.specs.{declared.op.Op.Op, Machine.{Flat, function_of}, Framed.IsWide}
-use Rattle.sharc_flat_form.specs.declared.op.Op.TheVariants as op
+use Rattle.sharc_flat.specs.{declared.op.Op.Op, Machine.{Flat, function_of}, Framed.IsWide}
+use Rattle.sharc_flat.specs.declared.op.Op.TheVariants as op
 
 -- what a reference register holds: NULL, or anything
 pub data Slot : Type 0 where

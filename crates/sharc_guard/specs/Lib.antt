@@ -1,3 +1,7 @@
+pub mod Form
+pub mod Machine
+pub mod Path
+pub mod GuardedTables
 pub mod Asked
 pub mod Checked
 pub mod Correct

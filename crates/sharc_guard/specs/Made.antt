@@ -1,9 +1,8 @@
 -- Guarded code as the program makes it.
 use Rattle.std.specs.Prelude.{ℕ, zero, suc, ◌-◌, ◌≡◌, Bool, false, List, [], ◌∷◌, ◌++◌, length, nat_lt, get_or}
 use Rattle.std.specs.Prelude.{slice_index, if◌then◌else◌}
-use Rattle.sharc_flat_form.specs.{declared.flat.Flat.{Flat as FlatCode}, declared.op.Op.Op, Made.flat_of}
-use Rattle.sharc_guarded_form.specs.declared.guarded.Guarded.{Guarded}
-use Rattle.sharc_guard.specs.Guard.{place, guarded}
+use Rattle.sharc_flat.specs.{declared.flat.Flat.{Flat as FlatCode}, declared.op.Op.Op, Made.flat_of}
+use Rattle.sharc_guard.specs.{declared.guarded.Guarded.Guarded, Guard.{place, guarded}}
 
 -- which checks a list of marks drops
 abbrev pub marked : List Bool → ℕ → Bool

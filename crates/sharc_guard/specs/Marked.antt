@@ -3,16 +3,17 @@
 use Rattle.std.specs.Prelude.{◌≡◌, ℕ, ◌+◌, ◌==◌, ◌<◌, Bool, true, false, ◌&&◌, ◌||◌, List, length, Option, Some, None}
 use Rattle.std.specs.Prelude.{nat_lt, nat_le, get_or, if◌then◌else◌}
 use Rattle.std.specs.Map.{lookup}
-use Rattle.sharc_shadow.specs.{declared.shadow_word.Kind.Kind, declared.shadow_word.Kind.TheVariants.Write}
+use Rattle.sharc_heap.specs.{declared.shadow_word.Kind.Kind, declared.shadow_word.Kind.TheVariants.Write}
 use Rattle.sharc_code.specs.declared.code.Function.{Function}
-use Rattle.sharc_flat_form.specs.{declared.op.Op.Op, Machine.Flat}
-use Rattle.sharc_flat_form.specs.declared.op.Op.TheVariants as op
+use Rattle.sharc_flat.specs.{declared.op.Op.Op, Machine.Flat}
+use Rattle.sharc_flat.specs.declared.op.Op.TheVariants as op
 use Rattle.sharc_guard.specs.{declared.marks.Copied.Copied, declared.marks.KnownNumber.KnownNumber}
-use Rattle.sharc_guard.specs.{declared.marks.PassedCheck.PassedCheck, declared.marks.SimplePlace.{SimplePlace as PlaceNoted}}
+use Rattle.sharc_guard.specs.declared.marks.PassedCheck.{PassedCheck}
+use Rattle.sharc_guard.specs.declared.marks.SimplePlace.{SimplePlace as PlaceNoted}
 use Rattle.sharc_guard.specs.{declared.marks.Knowledge.Knowledge, declared.operations.CheckedAccess.CheckedAccess}
 use Rattle.sharc_guard.specs.{declared.operations.Copying.Copying, declared.operations.Written.Written}
-use Rattle.sharc_guard.specs.Known.{is_led_to, is_entry, SimplePlace, in_variable, in_global, counts, Access, tells, Know}
-use Rattle.sharc_guard.specs.Known.{of_constant, with_element, place_of, has_passed, dropped}
+use Rattle.sharc_guard.specs.Known.{is_led_to, is_entry, SimplePlace, in_variable, in_global, counts, Access, tells}
+use Rattle.sharc_guard.specs.Known.{Know, of_constant, with_element, place_of, has_passed, dropped}
 use Rattle.sharc_guard.specs.Made.{marked}
 use Rattle.sharc_guard.specs.declared.marks.SimplePlace.TheVariants as noted
 use Rattle.sharc_guard.specs.declared.operations.Written.TheVariants as written

@@ -1,10 +1,9 @@
 -- The tables of guarded code are in their ranges where those of the flat code are.
 use Rattle.std.specs.Prelude.{ℕ, ◌≡◌, ◌<◌, ◌^◌, Bool, length, slice_get, slice_index, Some}
 use Rattle.sharc_code.specs.{declared.instr.Register.Register, Ranges.GlobalsFit}
-use Rattle.sharc_flat_form.specs.{declared.flat.Flat.{Flat as FlatCode}, declared.op.Spot.Spot}
-use Rattle.sharc_flat_form.specs.declared.op.Op.TheVariants as op
-use Rattle.sharc_guarded_form.specs.{declared.guarded.Guarded.Guarded, Tables.TablesFit}
-use Rattle.sharc_guard.specs.Made.{IsMade}
+use Rattle.sharc_flat.specs.{declared.flat.Flat.{Flat as FlatCode}, declared.op.Spot.Spot}
+use Rattle.sharc_flat.specs.declared.op.Op.TheVariants as op
+use Rattle.sharc_guard.specs.{declared.guarded.Guarded.Guarded, GuardedTables.TablesFit, Made.IsMade}
 
 -- `main` and each function that is spawned are functions, the globals lie one after the other within their granules,
 -- and what they hold at first are words

@@ -1,7 +1,7 @@
 -- An access whose check is dropped is entered from the line before it alone.
 use Rattle.std.specs.Prelude.{ℕ, ◌≡◌, true, slice_get, Some}
 use Rattle.sharc_code.specs.declared.instr.Instr.{Instr}
-use Rattle.sharc_flat_form.specs.Machine.{Flat}
+use Rattle.sharc_flat.specs.Machine.{Flat}
 use Rattle.sharc_guard.specs.{Checked.{Access, access_of, IsNoTarget}, Guard.guarded, Known.dropped}
 
 -- no jump and no call leads there

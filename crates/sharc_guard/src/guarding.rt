@@ -3,16 +3,16 @@
 ghost use Rattle.std.specs.Prelude.{true, ◌≡◌, ◌≤◌, ◌<◌, ◌+◌, ◌*◌, ◌^◌, ℕ, ◌++◌, ◌∷◌, [], IfOk, OnOk, length, map};
 ghost use Rattle.sharc_code.specs.declared.instr.Instr.TheVariants.{Start, Exit};
 ghost use Rattle.sharc_code.specs.Says.{no_place};
-ghost use Rattle.sharc_flat_form.specs.Made.{flat_of};
+ghost use Rattle.sharc_flat.specs.Made.{flat_of};
 ghost use Rattle.sharc_guard.specs.Guard.{source_at_spot, source_of, check_under, head, compute, negate, body, tail};
 ghost use Rattle.sharc_guard.specs.Guard.{own, expand, expanded, width, entered_at};
 ghost use Rattle.sharc_guard.specs.Known.{dropped, is_straight};
 ghost use Rattle.sharc_guard.specs.Made.{IsMade, among, places, marked};
 
+use crate::guarded::Guarded;
 use crate::marks::marks_of;
 use sharc_code::{Cell, Function, Instr, Operator, PlaceMode, SourcePlace, Text, Use, Width};
-use sharc_flat_form::{Flat, Op, Spot};
-use sharc_guarded_form::Guarded;
+use sharc_flat::{Flat, Op, Spot};
 use sharc_tree::token::Site;
 use std::alloc::{AllocError, Global};
 

@@ -1,3 +1,10 @@
+//! Guarded code and its machine; flat code to guarded code: adds counts, and the checks that repeat none.
+//!
+//! The guarded form: statements with their checks and counts, before they are code.
+//!
+//! `specs/Machine.antt` says what a statement does, in the words of the source: it goes on, asks for a source event,
+//! checks, or halts. `specs/Form.antt` says which guarded code is well formed.
+//!
 //! From the flat form to guarded code: checks and counts.
 //!
 //! `guard` makes it (specs/Made.antt). specs/Guard.antt has the guarded code of flat code, whichever checks are
@@ -8,11 +15,13 @@
 //! specs/Covered.antt).
 #![tactic(auto)]
 
+mod guarded;
 mod guarding;
 mod laws;
 mod marks;
 mod operations;
 
+pub use guarded::Guarded;
 pub use guarding::guard;
 pub use laws::{
     checked_law, counted_law, covered_law, example_law, framed_law, guarded_law, log_law,

@@ -3,8 +3,8 @@
 ghost use Rattle.std.specs.Prelude.{◌≡◌, ℕ, ◌+◌, ◌<◌, ◌^◌, ◌==◌, ◌||◌, false, [], Some, IfOk, OnOk, length, get_or};
 ghost use Rattle.std.specs.Prelude.{if◌then◌else◌};
 ghost use Rattle.std.specs.Option.{option_copied};
-ghost use Rattle.sharc_shadow.specs.declared.shadow_word.Kind.TheVariants.{Write};
-ghost use Rattle.sharc_flat_form.specs.Made.{flat_of};
+ghost use Rattle.sharc_heap.specs.declared.shadow_word.Kind.TheVariants.{Write};
+ghost use Rattle.sharc_flat.specs.Made.{flat_of};
 ghost use Rattle.sharc_guard.specs.Known.{counts, drops, global_place, is_entry, is_led_to, know_after, know_next};
 ghost use Rattle.sharc_guard.specs.Known.{nothing, of_constant, place_of, variable_place, with_element};
 ghost use Rattle.sharc_guard.specs.Marked.{AreBefore, AreMarks, AreTargets, is_one, is_written, know_of, no_notes};
@@ -18,8 +18,8 @@ use crate::operations::{
 };
 use indexmap::IndexMap;
 use sharc_code::{Cell, Function};
-use sharc_flat_form::{Flat, Op};
-use sharc_shadow::Kind;
+use sharc_flat::{Flat, Op};
+use sharc_heap::Kind;
 use std::alloc::{AllocError, Global};
 
 /// The copy of a variable's reference, and when it was made.
@@ -336,7 +336,12 @@ impl Knowledge {
         }
     }
 
-    fn note_check(&mut self, kind: Kind, place: Option<SimplePlace>, time: u32) -> Result<(), AllocError>
+    fn note_check(
+        &mut self,
+        kind: Kind,
+        place: Option<SimplePlace>,
+        time: u32,
+    ) -> Result<(), AllocError>
         ensures { OnOk result (notes_of self.new ≡ with_noted kind place time (notes_of self.old)) }
     {
         match place {

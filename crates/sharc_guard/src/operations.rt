@@ -5,8 +5,8 @@ ghost use Rattle.sharc_guard.specs.Known.{access, is_dynamic, is_straight, leads
 ghost use Rattle.sharc_guard.specs.Marked.{access_of, copy_of, is_one, is_written};
 
 use sharc_code::{Cell, PlaceMode};
-use sharc_flat_form::{Op, Spot};
-use sharc_shadow::Kind;
+use sharc_flat::{Op, Spot};
+use sharc_heap::Kind;
 
 /// The registers of one bank that an operation writes.
 #[derive(Clone, Copy)]

@@ -5,3 +5,6 @@ pub mod Silent
 pub mod Settling
 pub mod Erased
 pub mod Scheduled
+pub mod Matching
+pub mod Cutting
+pub mod Listing

@@ -5,8 +5,8 @@ use Rattle.sharc_tree.specs.declared.trap.Trap.TheVariants as traps
 use Rattle.sharc_tree.specs.declared.event.SourceEvent.{SourceEvent}
 use Rattle.sharc_word.specs.{declared.step.TheConstants.THREADS, declared.step.WordStep.WordStep}
 use Rattle.sharc_word.specs.declared.step.WordOp.TheVariants as ops
-use Rattle.sharc_granule.specs.{State.{NewView, turn_of, told}, Stages.turn_of_stage, declared.stage.NewTurn.NewTurn, declared.stage.NewTurn.TheVariants.{Do, Made, HeapFull}, declared.stage.NewStage.{NewStage}, declared.stage.NewStage.TheVariants.Length}
-use Rattle.sharc_cond.specs.Waiters.{waits_in}
+use Rattle.sharc_heap.specs.{State.{NewView, turn_of, told}, Stages.turn_of_stage, declared.stage.NewTurn.NewTurn, declared.stage.NewTurn.TheVariants.{Do, Made, HeapFull}, declared.stage.NewStage.NewStage, declared.stage.NewStage.TheVariants.Length}
+use Rattle.sharc_locks.specs.Waiters.{waits_in}
 use Rattle.sharc_code.specs.{declared.code.Code.Code, declared.code.Layout.Layout, declared.shape.Shape.Shape, declared.instr.Cell.Cell, declared.instr.Register.Register, declared.instr.Instr.Instr, declared.instr.Instr.TheVariants.{Load, Store, LoadRef, Exchange, New, TakeCell, TakeLocal, Give, Free, Lock, Unlock, Spawn, Join, Print, Start, Exit, CondEnter, CondWait, CondSignal, CondBroadcast}, declared.state.Stage.Stage, declared.state.Stage.TheVariants.{Rests, Makes, Uncounts, Links, Begins, Enters, Withdraws, WithdrawsFrom, Leaves, Wakes}, declared.state.TurnState.TheVariants.Tries, Layout.state_word, Machine.{Machine, Turn, Local, Asks, act, instr_at, step_of, int, ref, word, elements_of, test, goes, move_ref, new, asks_new, after_new, free, layout_at, spawn, start, entered, called, function_of, with_parameter, has_room, exit, signal, wakes, withdraws, at_stage, rests, fails, trapped, joined, join}, Path.{turn, after, asked_by}, Says.{says, said, take_local, new_event, in_new, in_free, in_spawn, in_start, in_exit, in_signal}}
 use Rattle.sharc_schedule.specs.Schedule.{is_try}
 

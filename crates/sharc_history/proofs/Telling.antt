@@ -4,8 +4,7 @@ use Rattle.std.specs.{Prelude.{reverse, IfSome}, Option.option_map}
 use Rattle.sharc_tree.specs.{declared.event.Act.Act, declared.event.SourceEvent.SourceEvent}
 use Rattle.sharc_tree.specs.declared.event.Act.TheVariants as acts
 use Rattle.sharc_code.specs.{declared.code.Code.Code, declared.shape.Shape.Shape, Machine.instr_at, Runs.{Said, Turn, result_of, told_by, with_told}, Says.{says, speaks_of, reference, elements_in, elements_after}, Whole.{one_thread, Erase, place_after}}
-use Rattle.sharc_said.specs.{declared.cells.Origin.Origin, declared.event.Event.Event, declared.next.Coming.Coming, Told.{Told, shown, bare, told, told_of_event, bare_of, comes, spoken}}
-use Rattle.sharc_history.specs.{History.{elements_behind, told_events, with_origin}, Going.{AwaitsAt, with_event, elements_by}}
+use Rattle.sharc_history.specs.{declared.cells.Origin.Origin, declared.event.Event.Event, declared.next.Coming.Coming, Told.{Told, shown, bare, told, told_of_event, bare_of, comes, spoken}, History.{elements_behind, told_events, with_origin}, Going.{AwaitsAt, with_event, elements_by}}
 use Rattle.sharc_lemmas.proofs.Lists.{map_both}
 
 -- ---- the turn

@@ -6,9 +6,8 @@ use Rattle.sharc_code.specs.{Says.elements_in, Whole.place_after}
 use Rattle.sharc_schedule.specs.Schedule.{Stored}
 use Rattle.sharc_seq.specs.{Run.AreChosen, Walk.StandsAt}
 use Rattle.sharc_threads.specs.Ends.{is_enabled}
-use Rattle.sharc_said.specs.{declared.next.Coming.Coming, declared.event.Event.Event, Origins.origin_at}
-use Rattle.sharc_said.specs.Told.{shown, told, told_of_event, comes, spoken, IsComing}
-use Rattle.sharc_history.specs.declared.going.Going.{Going}
+use Rattle.sharc_history.specs.{declared.next.Coming.Coming, declared.event.Event.Event, Origins.origin_at}
+use Rattle.sharc_history.specs.{Told.{shown, told, told_of_event, comes, spoken, IsComing}, declared.going.Going.Going}
 use Rattle.sharc_history.specs.History.{elements_of, elements_behind, told_events, origins_of}
 
 -- this run is there, with its events and the elements of its objects

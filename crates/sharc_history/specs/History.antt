@@ -8,9 +8,8 @@ use Rattle.sharc_code.specs.Whole.{CheckedRun, Erase, one_thread, place_after}
 use Rattle.sharc_schedule.specs.Schedule.{Stored}
 use Rattle.sharc_seq.specs.Run.{AreChosen}
 use Rattle.sharc_threads.specs.Ends.{is_enabled}
-use Rattle.sharc_said.specs.{declared.cells.Origin.Origin, declared.event.Event.Event, Origins.origin_at}
-use Rattle.sharc_said.specs.Told.{Bare, New, told, told_of_event}
-use Rattle.sharc_history.specs.{declared.history.History.History, Lasts.AreLasts}
+use Rattle.sharc_history.specs.{declared.cells.Origin.Origin, declared.event.Event.Event, Origins.origin_at}
+use Rattle.sharc_history.specs.{Told.{Bare, New, told, told_of_event}, declared.history.History.History, Lasts.AreLasts}
 
 -- ---- the elements of objects
 abbrev pub elements_of : {S : Type 0} → HashMap ℕ ℕ S → ℕ → ℕ

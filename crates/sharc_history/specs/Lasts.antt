@@ -5,7 +5,7 @@ use Rattle.sharc_word.specs.declared.step.TheConstants.{THREADS}
 use Rattle.sharc_code.specs.{declared.code.Code.Code, declared.shape.Shape.Shape, Machine.{Machine, instr_at}}
 use Rattle.sharc_code.specs.{Path.may_go, Waits.waits_now}
 use Rattle.sharc_threads.specs.Ends.{Standing}
-use Rattle.sharc_said.specs.{declared.next.Coming.Coming, Origins.origin_at, Refused.refused_at, Told.{at, IsComing}}
+use Rattle.sharc_history.specs.{declared.next.Coming.Coming, Origins.origin_at, Refused.refused_at, Told.{at, IsComing}}
 use Rattle.sharc_history.specs.{declared.last.Halt.Halt, declared.last.Last.Last}
 use Rattle.sharc_history.specs.declared.last.Halt.TheVariants as halts
 

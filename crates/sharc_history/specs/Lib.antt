@@ -1,4 +1,10 @@
+pub mod Told
+pub mod Refused
+pub mod Origins
 pub mod History
 pub mod Going
 pub mod Lasts
 pub mod Laws
+pub mod Writing
+pub mod Cut
+pub mod EventFileLaws

@@ -1,10 +1,10 @@
 //! How many elements the objects have, by their numbers.
 
 ghost use Rattle.std.specs.Prelude.{◌≡◌, ℕ, OnOk};
-ghost use Rattle.sharc_said.specs.Told.{shown};
+ghost use Rattle.sharc_history.specs.Told.{shown};
 ghost use Rattle.sharc_history.specs.History.{elements_of, elements_behind};
 
-use sharc_said::{Deed, Event};
+use crate::event::{Deed, Event};
 use std::alloc::AllocError;
 use std::collections::HashMap;
 

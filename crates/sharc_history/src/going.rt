@@ -9,8 +9,9 @@ ghost use Rattle.sharc_seq.specs.Walk.{MayGoOn, events_left};
 ghost use Rattle.sharc_history.specs.Going.{GoesAt, IsGoing, OneMore, AwaitsAt, Tells, IsTraced, IsOver};
 
 use crate::elements::{elements_of, note};
+use crate::event::{Event, event_of};
+use crate::next::{Coming, next_of};
 use sharc_code::{Code, Shape, fits_law};
-use sharc_said::{Coming, Event, event_of, next_of};
 use sharc_schedule::place_at;
 use sharc_seq::{Walk, enabled_laws};
 use std::alloc::{AllocError, Global};

@@ -4,10 +4,10 @@ ghost use Rattle.std.specs.Prelude.{◌≤◌, length, IfOk};
 ghost use Rattle.sharc_code.specs.Layout.{Fits};
 ghost use Rattle.sharc_history.specs.History.{IsHistory};
 
+use crate::event::Event;
 use crate::going::Going;
 use crate::last::{Last, lasts};
 use sharc_code::{Code, Shape, fits_law, run_laws};
-use sharc_said::Event;
 use sharc_schedule::ends_of;
 use sharc_word::THREADS;
 use std::alloc::{AllocError, Global};

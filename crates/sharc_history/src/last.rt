@@ -9,9 +9,11 @@ ghost use Rattle.sharc_code.specs.Whole.{place_after};
 ghost use Rattle.sharc_seq.specs.Walk.{IsThreadThere, IsWalk, StandsAt};
 ghost use Rattle.sharc_history.specs.Lasts.{is_held, is_last, IsHaltAt, AreLasts, AreLastsUpTo};
 
-use sharc_code::{Code, TurnState, Stop, run_laws};
+use crate::cells::Where;
+use crate::next::{Coming, next_of};
+use crate::refused::refused_at;
+use sharc_code::{Code, Stop, TurnState, run_laws};
 use sharc_cpu::Thread;
-use sharc_said::{Coming, Where, next_of, refused_at};
 use sharc_seq::Walk;
 use sharc_word::THREADS;
 use std::alloc::{AllocError, Global};

@@ -4,7 +4,7 @@ use Rattle.std.specs.Prelude.{slice_index}
 use Rattle.sharc_code.specs.{declared.code.Code.Code, declared.instr.Cell.Cell, declared.shape.Shape.Shape, Laws.RunLaws, Layout.{Fits, cell_word}, Machine.{Machine, instr_at, word, place, object}, Opening.opening_words, Runs.{Turn, Global, IsRun, opening_of}, Says.cell_at, Whole.{one_thread, bounds, place_after}}
 use Rattle.sharc_code.specs.declared.instr.Instr.TheVariants as instrs
 use Rattle.sharc_locks.specs.HeldLog.{object_of}
-use Rattle.sharc_gen.specs.Consistent.{IsApart}
+use Rattle.sharc_compile.specs.Consistent.{IsApart}
 use Rattle.sharc_meaning.specs.Events.{events_of, holds_mutex}
 use Rattle.sharc_invariant.specs.{Labels.Labels, Laws.{Keeps, Begins as CodeBegins, CellsAreThere, PointersAreThere, AccessesAreAllowed}, MachineInvariant.IsOn, State.{IsSmall, StageStands, object_of_cell, number_in}, Typed.{IsWellTyped, Fine}, Types.{Targets, Field, Content, is_mutex}}
 use Rattle.sharc_history_laws.specs.History.{history_of}

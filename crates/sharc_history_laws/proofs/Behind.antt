@@ -6,7 +6,7 @@ use Rattle.sharc_tree.specs.declared.event.Object.TheVariants as objects
 use Rattle.sharc_ctype.specs.Resolved.{Resolution}
 use Rattle.sharc_code.specs.{declared.code.Code.Code, declared.instr.Cell.Cell, declared.instr.Instr.Instr, declared.shape.Shape.Shape, Laws.RunLaws, Layout.Fits, Machine.{Machine, instr_at}, Ranges.IsInGlobal, Runs.{Turn, Global, MayTurn, result_of}, Says.{said, cell_at, speaks_of, no_global}, Whole.{one_thread, bounds, place_after}}
 use Rattle.sharc_code.specs.declared.instr.Instr.TheVariants as instrs
-use Rattle.sharc_gen.specs.OfRuns.{table_of}
+use Rattle.sharc_compile.specs.OfRuns.{table_of}
 use Rattle.sharc_meaning.specs.{Events.{makes, is_cell, is_number, made_by, same_cell}, Store.{cell_changed, initial_value}}
 use Rattle.sharc_invariant.specs.{Types.{Targets, Field}, Labels.Labels, Typed.{IsWellTyped, Fine, HasCell}, World.World, State.{IsSmall, OnHold}, MachineInvariant.IsOn, Laws.{Keeps, CellsAreThere, PointersAreThere, AccessesAreAllowed}}
 use Rattle.sharc_history_laws.proofs.{Acts.{given_at, freed_at, About, is_access, no_access}, Consists.{Consists, consists_then}, Contents.{newest_value, value_changed, value_kept}, Holding.cell_eq, Lists.Newest, Locked.NamesIn, OneMode.{place_of, numbers_now}, Rules.{pushed, about_now, decide, number_yes, number_not}, Shared.number_of, Stands.there, Tables.header_of, Telling.{changed_said, unchanged_said}, Valued.{made_zero, cell_named, hold}, Values.{was, cells_stay}}

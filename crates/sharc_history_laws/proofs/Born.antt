@@ -3,8 +3,8 @@ use Rattle.std.proofs.{Common.{◌≡◌, ℕ, ◌+◌, ◌*◌, ◌/◌, ◌^�
 use Rattle.std.specs.Prelude.{slice_index}
 use Rattle.sharc_word.specs.declared.step.WordOp.TheVariants as ops
 use Rattle.sharc_word.specs.{declared.step.WordStep.WordStep, declared.step.WordEvent.WordEvent, Words.word_after}
-use Rattle.sharc_granule.specs.{State.NewView, Asks.word_number, Stages.turn_of_stage, declared.arguments.NewArguments.NewArguments, declared.stage.NewStage.{NewStage}}
-use Rattle.sharc_granule.specs.declared.stage.NewStage.TheVariants as news
+use Rattle.sharc_heap.specs.{State.NewView, Asks.word_number, Stages.turn_of_stage, declared.arguments.NewArguments.NewArguments, declared.stage.NewStage.NewStage}
+use Rattle.sharc_heap.specs.declared.stage.NewStage.TheVariants as news
 use Rattle.sharc_code.specs.{declared.code.Code.Code, declared.instr.Instr.Instr, declared.shape.Shape.Shape, declared.state.Stage.Stage, declared.state.Stage.TheVariants.Makes, Laws.RunLaws, Layout.{Fits, first_cell}, Machine.{Machine, instr_at, act, asks_new, elements_of, int, ref, new, all_cells}, Path.{turn, after, asked_by}, Runs.{Turn, Global, MayTurn, after_turn, state_now, result_of, words_now, step_of}, Whole.{one_thread, bounds, place_after}}
 use Rattle.sharc_code.specs.declared.instr.Instr.TheVariants as instrs
 use Rattle.sharc_invariant.specs.{Types.{Targets, StaticType, cells_of}, Labels.{Entry, Empty, Refers, Unknown, Label, Labels, LessEntry, Leads, fill}, Typed.{IsWellTyped, Fine}, World.ObjectState, Words.cell_at, Objects.{objects_behind, made_behind, new_behind, owned, type_held, entry_type}, State.{IsSmall, StageStands, BuildsAt}, Laws.{Keeps, CellsAreThere, PointersAreThere}}
@@ -77,7 +77,7 @@ module _ (laws : RunLaws) (keeps : Keeps) (cells : CellsAreThere) (pointers : Po
         ∙ ap (λ y. (after (new s m r (elements_of (int m count)) cells' site y) found).at.pc) stage
         ∙ ap (λ y. (after (asks_new m r site (record { arguments = v.arguments; stage = y; head = v.head }) (turn_of_stage v.arguments y)) found).at.pc) length_is
 
-    asked : asked_by (turn code s ((place_after code s earlier).threads one.thread)) ≡ Some (Rattle.sharc_granule.specs.Asks.step_of (word_number v.arguments (v.arguments.first + 2 * o + 1)) (ops.Swap v.arguments.elements))
+    asked : asked_by (turn code s ((place_after code s earlier).threads one.thread)) ≡ Some (Rattle.sharc_heap.specs.Asks.step_of (word_number v.arguments (v.arguments.first + 2 * o + 1)) (ops.Swap v.arguments.elements))
     asked =
         ap (λ j. asked_by (act code s j m)) is
         ∙ ap (λ y. asked_by (new s m r (elements_of (int m count)) cells' site y)) stage
@@ -135,7 +135,7 @@ module _ (laws : RunLaws) (keeps : Keeps) (cells : CellsAreThere) (pointers : Po
         let k : slice_index g.words (v.arguments.first + 2 * o + 2 + j) ≡ 0 = builds.3 j (inside j lt) in
         let f = first_is in
         let at : cell_at s o j ≡ v.arguments.first + 2 * o + 2 + j = omega arith in
-        word_other g.words one.event (Rattle.sharc_granule.specs.Asks.step_of (word_number v.arguments (v.arguments.first + 2 * o + 1)) (ops.Swap v.arguments.elements)) (cell_at s o j) (may.next.asks ∙ asked) (other_word j)
+        word_other g.words one.event (Rattle.sharc_heap.specs.Asks.step_of (word_number v.arguments (v.arguments.first + 2 * o + 1)) (ops.Swap v.arguments.elements)) (cell_at s o j) (may.next.asks ∙ asked) (other_word j)
         ∙ ap (slice_index g.words) at ∙ k
 
   -- each cell of the object that the turn makes is 0

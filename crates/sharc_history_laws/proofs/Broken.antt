@@ -5,7 +5,7 @@ use Rattle.sharc_tree.specs.{declared.event.Act.Act, declared.event.Object.Objec
 use Rattle.sharc_tree.specs.declared.event.Act.TheVariants as acts
 use Rattle.sharc_tree.specs.declared.event.CellMode.TheVariants as modes
 use Rattle.sharc_tree.specs.declared.event.Object.TheVariants as objects
-use Rattle.sharc_shadow.specs.{declared.shadow_word.Kind.Kind, declared.shadow_word.Kind.TheVariants.{Read, Write}, ShadowWord.{epoch_of, is_write}}
+use Rattle.sharc_heap.specs.{declared.shadow_word.Kind.Kind, declared.shadow_word.Kind.TheVariants.{Read, Write}, ShadowWord.{epoch_of, is_write}}
 use Rattle.sharc_code.specs.{declared.code.Code.Code, declared.shape.Shape.Shape, declared.state.ConflictAt.ConflictAt, declared.state.Stop.Stop, declared.state.Stop.TheVariants.{Conflict, NoLock, NotSole, Trap}, Layout.first_shadow, Machine.{Machine, instr_at}, Path.may_go, Runs.{Turn, state_now, told_by}, Whole.{Erase, one_thread, place_after}}
 use Rattle.sharc_meaning.specs.{Events.{Access, access_by, made_by, given_by, is_number, begins, frees, is_of, events_of, granule_of}, Obeys.{History, AccessSet, ends, until_gone, Obeys}, Store.is_gone}
 use Rattle.sharc_invariant.specs.{Bits.CheckOf, Labels.Labels, Reports.touch_at, Types.Targets}

@@ -3,7 +3,7 @@ use Rattle.std.proofs.{Common.{◌≡◌, ℕ, zero, suc, ◌+◌, ◌*◌, ◌/
 use Rattle.std.specs.Prelude.{slice_index, nat_lt, ◌==◌}
 use Rattle.sharc_tree.specs.declared.event.CellAt.{CellAt}
 use Rattle.sharc_word.specs.declared.step.TheConstants.{THREADS}
-use Rattle.sharc_shadow.specs.{declared.shadow_word.Kind.Kind, declared.shadow_word.Kind.TheVariants.{Read, Write}, declared.access_table.Note.Note, Accesses.{note_of, site_at}, Functions.conflicts_in, ShadowWord.{epoch_of, is_of, stands, HasOther, Conflicts}}
+use Rattle.sharc_heap.specs.{declared.shadow_word.Kind.Kind, declared.shadow_word.Kind.TheVariants.{Read, Write}, declared.access_table.Note.Note, Accesses.{note_of, site_at}, Functions.conflicts_in, ShadowWord.{epoch_of, is_of, stands, HasOther, Conflicts}}
 use Rattle.sharc_code.specs.{declared.code.Code.Code, declared.instr.Cell.Cell, declared.shape.Shape.Shape, declared.state.ConflictAt.ConflictAt, declared.state.Stop.TheVariants.Conflict, Layout.{granules, first_shadow, shadow_word}, Machine.{Machine, instr_at, wrote, stopped}, Runs.{Turn, Global}, Says.cell_at, Whole.place_after}
 use Rattle.sharc_meaning.specs.Events.{granule_of as granule_in}
 use Rattle.sharc_invariant.specs.{Bits.CheckOf, Labels.Labels, Reports.touch_at, State.{object_of_cell, number_in}, Types.Targets}

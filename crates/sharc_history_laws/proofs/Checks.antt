@@ -1,6 +1,6 @@
 -- A turn that is a check: its cell, the bit that it sets, and the access that it is of.
 use Rattle.std.proofs.Common.{◌≡◌, ℕ, ◌+◌, ◌*◌, ◌<◌, Bool, true, false, List, ◌∷◌, Some, None, if◌then◌else◌, refl, sym, ap, ◌∙◌, subst}
-use Rattle.sharc_shadow.specs.{declared.shadow_word.Kind.Kind, declared.shadow_word.Kind.TheVariants.{Read, Write}, ShadowWord.{AddsAccess, is_write}}
+use Rattle.sharc_heap.specs.{declared.shadow_word.Kind.Kind, declared.shadow_word.Kind.TheVariants.{Read, Write}, ShadowWord.{AddsAccess, is_write}}
 use Rattle.sharc_code.specs.{declared.code.Code.Code, declared.instr.Cell.Cell, declared.instr.Instr.Instr, declared.shape.Shape.Shape, Layout.{granules, granule_at, granule_of}, Machine.{Machine, instr_at, place}, Runs.{Turn, Global, result_of, after_turn}, Says.cell_at, Whole.{one_thread, bounds, place_after}}
 use Rattle.sharc_meaning.specs.Events.{Access}
 use Rattle.sharc_invariant.specs.{Bits.CheckOf, Labels.{Label, Labels}, MachineInvariant.IsOn, Reports.touch_at, State.{State, StageStands, OnHold}, Typed.{Fine, HasCell}, Types.{Targets, Field}, World.World}

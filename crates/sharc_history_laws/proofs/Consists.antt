@@ -4,11 +4,11 @@ use Rattle.std.specs.Prelude.{slice_index, nat_lt, ◌==◌}
 use Rattle.sharc_word.specs.declared.step.WordOp.TheVariants as ops
 use Rattle.sharc_word.specs.{declared.step.WordStep.WordStep, declared.step.WordEvent.WordEvent, Words.{word_after, words_after_step}}
 use Rattle.sharc_tree.specs.declared.event.SourceEvent.{SourceEvent}
-use Rattle.sharc_granule.specs.{State.NewView, Asks.word_number, Stages.turn_of_stage, declared.arguments.NewArguments.NewArguments, declared.stage.NewStage.{NewStage}}
-use Rattle.sharc_granule.specs.declared.stage.NewStage.TheVariants as news
+use Rattle.sharc_heap.specs.{State.NewView, Asks.word_number, Stages.turn_of_stage, declared.arguments.NewArguments.NewArguments, declared.stage.NewStage.NewStage}
+use Rattle.sharc_heap.specs.declared.stage.NewStage.TheVariants as news
 use Rattle.sharc_code.specs.{declared.code.Code.Code, declared.instr.Instr.Instr, declared.shape.Shape.Shape, declared.state.Stage.Stage, declared.state.Stage.TheVariants.{Rests, Makes, Links}, Laws.RunLaws, Layout.{Fits, granules, first_cell}, Machine.{Machine, instr_at, ref, act, asks_new, elements_of, int, new_state}, Opening.opening_words, Path.{begun, machine_after, turn, asked_by, may_go}, Runs.{Said, Turn, Global, IsRun, MayTurn, at, after_turn, put, words_now, state_now, result_of, step_of, turns_of, with_told, state_after, opening_of, Answered}, Whole.{one_thread, bounds, place_after, Erase}, Says.{speaks_of, elements_in}}
 use Rattle.sharc_code.specs.declared.instr.Instr.TheVariants as instrs
-use Rattle.sharc_gen.specs.{Consistent.{Elements, elements_told, said_now, Has, IsConsistent, IsConsistentTurn}, OfRuns.{founds_of, told_in, table_of, elements_before}}
+use Rattle.sharc_compile.specs.{Consistent.{Elements, elements_told, said_now, Has, IsConsistent, IsConsistentTurn}, OfRuns.{founds_of, told_in, table_of, elements_before}}
 use Rattle.sharc_invariant.specs.{Types.Targets, Labels.{Gate, Closed, Checked, Holds, Loaded, HoldsLoaded, Sole, Labels}, Typed.{IsWellTyped, Fine}, World.{RegisterOf, In, Cell as CellOf, Base, Loaded as IsLoaded, World, ObjectState, WinOk, in_ref, base_of}, Words.{has_returned, length_at, lang_of, is_freed}, Blocks.{Built, Live}, Opened.first_world, Effect.Effect, Objects.{changes_objects, objects_now}, State.{State, IsSmall, StageStands, GateStands, StopStands, BuildsAt, OnHold, base_of_cell, number_in}, MachineInvariant.{IsOn, WasLoaded}, Laws.{Keeps, Begins as CodeBegins, CellsAreThere, PointersAreThere}}
 use Rattle.sharc_history_laws.proofs.{Gates.{LoadedStands, loaded_still, links_still, takes_loaded, unloaded}, Single.{single, rests_hold}, Stands.{live_slot, granules_low, gate, sole_ref, live_ref}, Tables.{header_at, header_in, header_of, elements_in_stage, told_other, told_made, was_live, length_kept}, Writes.writes, Finds.finds, Carried.{put_other, put_same}}
 use Rattle.sharc_lemmas.proofs.{Numbers.{ne_eq, eq_refl, is_below}, Lists.set_here}
@@ -57,7 +57,7 @@ module _ (code : Code) (s : Shape) where
       let T : F (length earlier) ≡ E (length earlier) = same (length earlier) (omega arith) in (
         agree m E F earlier (λ k le. same k (omega arith)) h.0,
         record {
-          finds = subst (λ (T : Elements). Rattle.sharc_gen.specs.Consistent.MayFind code s T now found (instr_at code now.at.pc)) (sym T) h.1.finds;
+          finds = subst (λ (T : Elements). Rattle.sharc_compile.specs.Consistent.MayFind code s T now found (instr_at code now.at.pc)) (sym T) h.1.finds;
           quiet = h.1.quiet;
           kept = λ n some has.
               ap (λ k. F k n) l ∙ last n some has ∙ ap (λ k. E k n) (sym l) ∙ h.1.kept n some has ∙ ap (λ (T : Elements). elements_told (said_now code T now found) T n) (sym T);
@@ -262,7 +262,7 @@ module _ (laws : RunLaws) (keeps : Keeps) (cells : CellsAreThere) (pointers : Po
           let same : header ≡ n = cc in
           let a = v.arguments in
           let word = word_number a (a.first + 2 * n + 1) in
-          let step = Rattle.sharc_granule.specs.Asks.step_of word (ops.Swap a.elements) in
+          let step = Rattle.sharc_heap.specs.Asks.step_of word (ops.Swap a.elements) in
           let asked : asked_by (turn code s m) ≡ Some step =
           ap (λ j. asked_by (act code s j m)) is
           ∙ ap (λ y. asked_by (Rattle.sharc_code.specs.Machine.new s m r (elements_of (int m count)) cells site y)) stage

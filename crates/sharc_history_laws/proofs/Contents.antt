@@ -4,7 +4,7 @@ use Rattle.std.specs.Prelude.{slice_index, find, nat_lt}
 use Rattle.sharc_tree.specs.{declared.event.CellAt.CellAt, declared.event.SourceEvent.SourceEvent}
 use Rattle.sharc_ctype.specs.Resolved.{Resolution}
 use Rattle.sharc_code.specs.{declared.code.Code.Code, declared.instr.Width.Width, declared.instr.Width.TheVariants.{Char, Int, Long}, declared.shape.Shape.Shape, Arithmetic.{word_of, int_of, holds, value_bits}, Machine.Machine, Runs.Global, Says.reference}
-use Rattle.sharc_gen.specs.Consistent.{Elements}
+use Rattle.sharc_compile.specs.Consistent.{Elements}
 use Rattle.sharc_meaning.specs.Store.{changes, value_left, value_by, value_after, initial_value}
 use Rattle.sharc_invariant.specs.{Types.{Targets, ObjectType, Content, Pointer, field_in}, Labels.{Labels, Number, Anything, Exactly, Within, Indexes, OfElement, OfGlobal, Narrower, LessNumber}, Typed.IsWellTyped, World.World, Words.cell_at, State.NumberStands}
 use Rattle.sharc_history_laws.proofs.{Emptying.IsEmptied, Lists.{Newest, latest_is}, Locked.{Names, names_one}, OneMode.place_of, Shared.number_of, Sparing.is_value}

@@ -1,7 +1,7 @@
 -- What a turn does to the access table of its thread and whether it stops the thread at the check of an access.
 use Rattle.std.proofs.{Common.{◌≡◌, ℕ, zero, suc, ◌+◌, ◌<◌, ◌⊎◌, inl, inr, Bool, true, false, length, List, [], ◌∷◌, Option, Some, None, is_some, if◌then◌else◌, refl, sym, ap, ◌∙◌, ⊎_elim, arith}, lemmas.Bool.cases_eq, lemmas.Bool.Decides.nat_tests, lemmas.List.get_or-set_other}
 use Rattle.std.specs.Prelude.{slice_index, slice_index_or, slice_set, nat_lt, ◌==◌}
-use Rattle.sharc_shadow.specs.{declared.shadow_word.Kind.Kind, declared.shadow_word.Kind.TheVariants.{Read, Write}, declared.access_table.Note.Note, declared.access_table.GranuleNotes.GranuleNotes, Notes.{blank, of_kind, with_note}, Accesses.{Accesses, note_of, site_at}, ShadowWord.epoch_of, Functions.{bits_of, conflicts_in, noted}}
+use Rattle.sharc_heap.specs.{declared.shadow_word.Kind.Kind, declared.shadow_word.Kind.TheVariants.{Read, Write}, declared.access_table.Note.Note, declared.access_table.GranuleNotes.GranuleNotes, Notes.{blank, of_kind, with_note}, Accesses.{Accesses, note_of, site_at}, ShadowWord.epoch_of, Functions.{bits_of, conflicts_in, noted}}
 use Rattle.sharc_word.specs.declared.step.WordOp.TheVariants as ops
 use Rattle.sharc_code.specs.{declared.code.Code.Code, declared.instr.Cell.Cell, declared.instr.Instr.Instr, declared.shape.Shape.Shape, declared.state.ConflictAt.ConflictAt, declared.state.Stage.Stage, declared.state.Stage.TheVariants.{Clears, FreeClears, WithdrawsFrom}, declared.state.Stop.TheVariants.Conflict, Layout.{granules, first_shadow, granule_at, granule_of, shadow_word}, Machine.{Machine, Own, instr_at, act, place, ref, row_of, checked, stopped, with_own, wrote, step_of}, Path.{turn, after, may_go, asked_by}, Runs.{Turn, Global, MayTurn, after_turn, state_now, result_of}, Whole.{one_thread, bounds}}
 use Rattle.sharc_code.specs.declared.instr.Instr.TheVariants as instrs

@@ -2,13 +2,13 @@
 use Rattle.std.proofs.{Common.{◌≡◌, ℕ, zero, suc, ◌+◌, ◌*◌, ◌/◌, ◌<◌, ◌≤◌, ◌≢◌, Bool, true, false, Some, refl, sym, ap, ◌∙◌, subst, ⊎_elim, arith}, Math.Nat.mul-le-mul_right, lemmas.Bool.{cases_eq, cases_lt}, lemmas.Bool.Decides.nat_tests, lemmas.List.Elements.All-contains_itself}
 use Rattle.std.specs.Prelude.{slice_index, slice_index_or, nat_lt, ◌==◌}
 use Rattle.sharc_word.specs.{declared.step.TheConstants.THREADS, declared.step.WordStep.WordStep}
-use Rattle.sharc_granule.specs.{declared.stage.NewStage.{NewStage}, State.NewView}
-use Rattle.sharc_granule.specs.declared.stage.NewStage.TheVariants as news
+use Rattle.sharc_heap.specs.{declared.stage.NewStage.NewStage, State.NewView}
+use Rattle.sharc_heap.specs.declared.stage.NewStage.TheVariants as news
 use Rattle.sharc_code.specs.{declared.code.Code.Code, declared.code.Parameter.Parameter, declared.instr.Cell.Cell, declared.instr.Instr.Instr, declared.shape.Shape.Shape, declared.state.Stage.Stage, declared.state.Stage.TheVariants.{Rests, Looks, Clears, Makes, Empties, Lowers, FreeLooks, FreeClears, Uncounts, Links, Names, Hands, Begins, Enters, Withdraws, WithdrawsFrom, Leaves, Wakes}, Arithmetic.word_of, Layout.{Fits, granules, first_cell, cell_of, length_word, function_word, argument_word, state_word}, Machine.{Machine, act, instr_at, ref, int, place, object, word, is_held, is_of_null, function_of}, Path.{turn, asked_by}, Ranges.IsInGlobal, Runs.Global}
 use Rattle.sharc_code.specs.declared.code.Parameter.TheVariants as parameters
 use Rattle.sharc_code.specs.declared.instr.Cell.TheVariants as cells
 use Rattle.sharc_code.specs.declared.instr.Instr.TheVariants as instrs
-use Rattle.sharc_gen.specs.Consistent.{Elements, IsNumber, IsApart, IsThere, IsMutex, IsLock, IsFree, IsHeld, IsLength, IsNewIn, IsNewAt, IsArgument, IsArgumentAt, MayFind}
+use Rattle.sharc_compile.specs.Consistent.{Elements, IsNumber, IsApart, IsThere, IsMutex, IsLock, IsFree, IsHeld, IsLength, IsNewIn, IsNewAt, IsArgument, IsArgumentAt, MayFind}
 use Rattle.sharc_invariant.specs.{Types.{Targets, ObjectType, StaticType, Field, FieldType, Content, cells_of, field_in, is_pointer, is_mutex, type_at}, Types.Content.{MutexWord, Pointer}, Labels.{Loaded, OfGlobal, Label, Labels}, Typed.{IsWellTyped, Fine, HasField, HasCell, PointsToMutex}, World.{RegisterOf, ArgumentOf, In, Slot, Cell as CellOf, Loaded as IsLoaded, World, WinOk, in_ref}, Words.{cell_at, length_at, lang_of, if_reference, is_unread, argument_of}, Blocks.{Built, Live}, State.{State, Runs, StageStands, GateStands, NumberStands, BuildsAt, OnHold, object_of_cell, number_in, base_of_cell, refs_at, types_at}, MachineInvariant.IsOn, Laws.CellsAreThere}
 use Rattle.sharc_history_laws.proofs.{Gates.{LoadedStands, no_pending}, Single.{single, rests_hold}, Stands.{register_is, live_slot, live_low, top, gate, known_ref, some_base, there, live_ref, target_ref}}
 

@@ -4,7 +4,7 @@ use Rattle.std.specs.Prelude.{◌==◌, nat_eq}
 use Rattle.sharc_tree.specs.{declared.event.SourceEvent.SourceEvent, declared.event.CellAt.CellAt}
 use Rattle.sharc_tree.specs.declared.event.Act.TheVariants as acts
 use Rattle.sharc_tree.specs.declared.event.Taken.TheVariants as takens
-use Rattle.sharc_shadow.specs.{declared.shadow_word.Kind.Kind, declared.shadow_word.Kind.TheVariants.{Read, Write}, Accesses.{note_of, site_at}, ShadowWord.epoch_of, Functions.{conflicts_in, noted}}
+use Rattle.sharc_heap.specs.{declared.shadow_word.Kind.Kind, declared.shadow_word.Kind.TheVariants.{Read, Write}, Accesses.{note_of, site_at}, ShadowWord.epoch_of, Functions.{conflicts_in, noted}}
 use Rattle.sharc_code.specs.{declared.code.Code.Code, declared.code.PlaceMode.PlaceMode, declared.instr.Cell.Cell, declared.instr.Instr.Instr, declared.shape.Shape.Shape, declared.state.Stage.Stage, declared.state.Stage.TheVariants.{Clears, FreeClears, WithdrawsFrom}, declared.state.Stop.Stop, declared.state.Stop.TheVariants.Conflict, Arithmetic.int_of, Layout.{granule_at, granule_of}, Machine.{Machine, Own, instr_at, act, place, ref, int, row_of, stopped, with_own, with_note, wrote, checked}, Path.{turn, after, may_go}, Runs.{Turn, Global, after_turn, paired, state_now, result_of, turns_of}, Says.{cell_at, mode_of, place_at, said, reference, kind_of}, Whole.{one_thread, bounds, place_after, Erase}}
 use Rattle.sharc_code.specs.declared.code.PlaceMode.TheVariants as places
 use Rattle.sharc_code.specs.declared.instr.Cell.TheVariants as cells

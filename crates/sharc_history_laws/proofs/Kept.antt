@@ -10,7 +10,7 @@ use Rattle.sharc_locks.specs.{declared.held_log.HeldMutex.HeldMutex, HeldLog.obj
 use Rattle.sharc_ctype.specs.Resolved.{Resolution}
 use Rattle.sharc_code.specs.{declared.code.Code.Code, declared.shape.Shape.Shape, Layout.{Fits, state_word}, Machine.{function_of, reference_of}, Runs.Turn, Says.{reference, started_with}, Whole.place_after}
 use Rattle.sharc_code.specs.declared.code.Parameter.TheVariants as parameters
-use Rattle.sharc_gen.specs.OfRuns.{table_of}
+use Rattle.sharc_compile.specs.OfRuns.{table_of}
 use Rattle.sharc_meaning.specs.{Events.events_of, Reference.is_null, References.refers, Store.{IsNewThread, MayCome, is_locked, is_natural, is_spawn, spawns, was_spawned}}
 use Rattle.sharc_meaning.specs.Reference as Reference
 use Rattle.sharc_invariant.specs.{Types.Targets, Labels.Labels, Typed.IsWellTyped, World.{ArgumentOf, In}, Words.{argument_of, if_reference, is_unread}, MachineInvariant.log_refers, Laws.CellsAreThere}

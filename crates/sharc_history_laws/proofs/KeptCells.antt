@@ -4,7 +4,7 @@ use Rattle.std.specs.Prelude.{slice_index, nat_lt}
 use Rattle.sharc_tree.specs.declared.event.CellAt.{CellAt}
 use Rattle.sharc_ctype.specs.Resolved.{Resolution}
 use Rattle.sharc_code.specs.{declared.code.Code.Code, declared.shape.Shape.Shape, Laws.RunLaws, Layout.{Fits, cell_word, cell_of}, Machine.Machine, Opening.opening_words, Runs.{Turn, Global, IsRun, opening_of}, Says.reference, Whole.{one_thread, bounds, place_after}}
-use Rattle.sharc_gen.specs.OfRuns.{table_of}
+use Rattle.sharc_compile.specs.OfRuns.{table_of}
 use Rattle.sharc_meaning.specs.{References.refers, Store.value_after}
 use Rattle.sharc_invariant.specs.{Types.{Targets, field_in, is_pointer}, Labels.Labels, Typed.IsWellTyped, World.{Cell as CellOf, ObjectState, World}, State.{State, IsSmall}, Opened.{first_world, first_place}, Objects.objects_after, MachineInvariant.{cells_now, is_pointer_now, cell_refers}, Laws.{Keeps, Begins as CodeBegins, CellsAreThere, PointersAreThere, AccessesAreAllowed, StateStands}}
 use Rattle.sharc_invariant.specs.Words as Words

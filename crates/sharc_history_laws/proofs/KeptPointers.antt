@@ -5,7 +5,7 @@ use Rattle.sharc_tree.specs.declared.event.Object.TheVariants as objects
 use Rattle.sharc_tree.specs.declared.event.SourceEvent.{SourceEvent}
 use Rattle.sharc_ctype.specs.Resolved.{Resolution}
 use Rattle.sharc_code.specs.{declared.code.Code.Code, declared.shape.Shape.Shape, Laws.RunLaws, Layout.Fits, Machine.Machine, Opening.opening_words, Ranges.{IsInGlobal, first_place as first_cell_of}, Runs.{Turn, Global, IsRun, result_of, opening_of}, Whole.{one_thread, bounds, place_after}}
-use Rattle.sharc_gen.specs.{Consistent.said_now, OfRuns.table_of}
+use Rattle.sharc_compile.specs.{Consistent.said_now, OfRuns.table_of}
 use Rattle.sharc_meaning.specs.{Events.{latest, makes, made_by}, References.refers, Store.{initial_value, is_live, value_after}}
 use Rattle.sharc_invariant.specs.{Types.{Targets, Field, field_in, field_of_cell, global_field, globals_target, is_pointer}, Labels.Labels, Typed.IsWellTyped, World.{ObjectState, World}, State.{IsSmall, State}, Opened.{first_world, first_place}, Objects.objects_after, MachineInvariant.{cells_now, is_pointer_now}, Laws.{Keeps, Begins as CodeBegins, CellsAreThere, PointersAreThere, AccessesAreAllowed, StateStands}}
 use Rattle.sharc_history_laws.specs.{History.history_of, Kept.Grows, Stores.BeginsWith}

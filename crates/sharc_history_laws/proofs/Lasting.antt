@@ -1,7 +1,7 @@
 -- After a check was refused: the epoch of its granule stays, its object is there, and the notes and stops of the epoch are those that were there.
 use Rattle.std.proofs.{Common.{◌≡◌, ℕ, ◌+◌, ◌*◌, ◌/◌, ◌<◌, ◌≢◌, ◌⊎◌, inl, inr, true, false, List, [], ◌∷◌, ◌++◌, Option, Some, is_some, refl, sym, ap, ◌∙◌, subst, ⊎_elim, arith}, lemmas.Bool.cases_eq, lemmas.Bool.Decides.nat_tests}
 use Rattle.std.specs.Prelude.{◌==◌}
-use Rattle.sharc_shadow.specs.{declared.shadow_word.Kind.Kind, declared.shadow_word.Kind.TheVariants.Write, declared.access_table.Note.Note, Accesses.{note_of, site_at}, ShadowWord.{epoch_of, stands}}
+use Rattle.sharc_heap.specs.{declared.shadow_word.Kind.Kind, declared.shadow_word.Kind.TheVariants.Write, declared.access_table.Note.Note, Accesses.{note_of, site_at}, ShadowWord.{epoch_of, stands}}
 use Rattle.sharc_code.specs.{declared.code.Code.Code, declared.instr.Cell.Cell, declared.shape.Shape.Shape, declared.state.ConflictAt.ConflictAt, declared.state.Stop.Stop, declared.state.Stop.TheVariants.Conflict, Layout.granules, Machine.{Machine, ref}, Path.may_go, Runs.{Turn, state_now}, Whole.{one_thread, place_after}}
 use Rattle.sharc_code.specs.declared.instr.Cell.TheVariants as cells
 use Rattle.sharc_invariant.specs.{Labels.Labels, State.{OnHold, object_of_cell, number_in}, Types.Targets}

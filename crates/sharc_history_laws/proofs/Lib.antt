@@ -1,3 +1,7 @@
+pub mod Places
+pub mod Sorts
+pub mod Standing
+pub mod Tells
 pub mod Acts
 pub mod Behind
 pub mod Born

@@ -3,8 +3,8 @@ use Rattle.std.proofs.Common.{◌≡◌, ℕ, Bool, true, false, ◌||◌, cond,
 use Rattle.std.specs.Prelude.{find}
 use Rattle.sharc_tree.specs.declared.event.SourceEvent.{SourceEvent}
 use Rattle.sharc_tree.specs.declared.event.Object.TheVariants as objects
-use Rattle.sharc_granule.specs.declared.stage.NewStage.{NewStage}
-use Rattle.sharc_granule.specs.declared.stage.NewStage.TheVariants as news
+use Rattle.sharc_heap.specs.declared.stage.NewStage.{NewStage}
+use Rattle.sharc_heap.specs.declared.stage.NewStage.TheVariants as news
 use Rattle.sharc_code.specs.{declared.code.Code.Code, declared.instr.Instr.Instr, declared.shape.Shape.Shape, declared.state.Stage.Stage, declared.state.Stage.TheVariants.Makes, Laws.RunLaws, Layout.Fits, Machine.{Machine, instr_at, ref}, Runs.{Turn, Global, MayTurn, after_turn}, Whole.{one_thread, bounds, place_after}}
 use Rattle.sharc_code.specs.declared.instr.Instr.TheVariants as instrs
 use Rattle.sharc_meaning.specs.{Events.{makes, frees, is_number, made_by}, Store.meets}

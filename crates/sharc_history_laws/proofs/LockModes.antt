@@ -6,7 +6,7 @@ use Rattle.sharc_tree.specs.declared.event.CellMode.TheVariants as modes
 use Rattle.sharc_code.specs.{declared.code.Code.Code, declared.code.PlaceMode.PlaceMode, declared.instr.Cell.Cell, declared.shape.Shape.Shape, Arithmetic.word_of, Layout.Fits, Machine.{Machine, ref, int}, Ranges.IsInGlobal, Runs.Global, Says.{cell_at, global_cell, made_cell, mode_of, no_global, lock_through}}
 use Rattle.sharc_code.specs.declared.code.PlaceMode.TheVariants as places
 use Rattle.sharc_code.specs.declared.instr.Cell.TheVariants as cells
-use Rattle.sharc_gen.specs.Consistent.{IsThere}
+use Rattle.sharc_compile.specs.Consistent.{IsThere}
 use Rattle.sharc_invariant.specs.{Types.{Targets, Lock, FieldLock, StaticType, ObjectType, cells_of}, Types.Lock.{Global as GlobalLock, Through, Self}, Types.FieldLock.{OfType, OfGlobals, OfElement}, Types.FieldMode.Under, Labels.{Refers, Element, OfElement as OfElementCell, OfGlobal, Number, Anything, Exactly, Within, Indexes, Label, Labels, LessNumber, SameReference, Itself, IsCopy, HasCopy, Copies, Chained}, Typed.{IsWellTyped, IsMutexOf, IsMode, IsTypeMode, IsLockMode, IsLockCell, IsTypeLock, IsSibling, HasBefore, no_lock}, State.{State, ElementStands, OnHold, View, view_of, types_at}, MachineInvariant.IsOn}
 use Rattle.sharc_history_laws.proofs.{Stands.rn, Locked.{Names, names_one, names_cell, element_one, same_refs, number_of_global, number_of_element, same_type}}
 

@@ -4,12 +4,12 @@ use Rattle.std.specs.Prelude.{◌==◌}
 use Rattle.sharc_tree.specs.{declared.event.CellAt.CellAt, declared.event.SourceEvent.SourceEvent}
 use Rattle.sharc_tree.specs.declared.event.CellMode.TheVariants as modes
 use Rattle.sharc_tree.specs.declared.trap.Trap.TheVariants as traps
-use Rattle.sharc_shadow.specs.{declared.shadow_word.Kind.Kind, declared.shadow_word.Kind.TheVariants.{Read, Write}, Accesses.{note_of, site_at}, ShadowWord.epoch_of, Functions.{conflicts_in, noted}}
+use Rattle.sharc_heap.specs.{declared.shadow_word.Kind.Kind, declared.shadow_word.Kind.TheVariants.{Read, Write}, Accesses.{note_of, site_at}, ShadowWord.epoch_of, Functions.{conflicts_in, noted}}
 use Rattle.sharc_code.specs.{declared.code.Code.Code, declared.code.PlaceMode.PlaceMode, declared.instr.Cell.Cell, declared.instr.Instr.Instr, declared.shape.Shape.Shape, declared.state.Stop.Stop, declared.state.Stop.TheVariants.{Conflict, NoLock, NotSole, Trap}, Layout.{Fits, cell_of, cell_word, granule_at, granule_of}, Machine.{Machine, Own, instr_at, act, place, word, is_held, is_of_null, goes, stopped, checked, lock_checked, tested, with_own, wrote, with_note}, Opening.opening_words, Path.{turn, after}, Runs.{Turn, Global, IsRun, MayTurn, put, state_now, result_of, opening_of}, Says.{cell_at, made_cell, mode_of, place_at, lock_through}, Whole.{one_thread, bounds, place_after}}
 use Rattle.sharc_code.specs.declared.code.PlaceMode.TheVariants as places
 use Rattle.sharc_code.specs.declared.instr.Cell.TheVariants as cells
 use Rattle.sharc_code.specs.declared.instr.Instr.TheVariants as instrs
-use Rattle.sharc_gen.specs.Consistent.{IsThere}
+use Rattle.sharc_compile.specs.Consistent.{IsThere}
 use Rattle.sharc_meaning.specs.{Events.{Access, access_by, events_of, holds_mutex}, Obeys.{History, Obeys, Until}}
 use Rattle.sharc_invariant.specs.{Types.{Targets, Field, FieldMode, Content}, Labels.{Gate, Closed, Checked, Holds, Loaded, HoldsLoaded, Sole, Label, Labels, LessGate, LessNumber, SameReference, gated}, Typed.{IsWellTyped, Fine, Accesses as TypedAccess, MayAccess, IsMode, knows_base}, State.{State, OnHold}, MachineInvariant.IsOn, Laws.CellsAreThere}
 use Rattle.sharc_history_laws.specs.{Reports.{IsLockCheck, LacksLock}, Followed.{Accesses, IsLocked, IsFollowed, ChecksAreFollowed, access_to, access_of, access_checked, ShowsLock}}

@@ -7,7 +7,7 @@ use Rattle.sharc_tree.specs.declared.event.Object.TheVariants as objects
 use Rattle.sharc_locks.specs.{declared.held_log.HeldMutex.HeldMutex, HeldLog.{without, object_of}}
 use Rattle.sharc_code.specs.{declared.code.Code.Code, declared.code.PlaceMode.PlaceMode, declared.instr.Cell.Cell, declared.shape.Shape.Shape, Arithmetic.word_of, Layout.{Fits, first_cell, words_of, cell_of, cell_word}, Machine.{Machine, ref, int, place, object, word}, Ranges.IsInGlobal, Runs.Global, Says.{said, cell_at, global_cell, made_cell, mode_of, place_at, no_global, speaks_of}}
 use Rattle.sharc_code.specs.declared.instr.Cell.TheVariants as cells
-use Rattle.sharc_gen.specs.Consistent.{IsThere, IsApart}
+use Rattle.sharc_compile.specs.Consistent.{IsThere, IsApart}
 use Rattle.sharc_invariant.specs.{Types.{Targets, FieldMode, FieldLock, Lock, StaticType, ObjectType, cells_of}, Types.Lock.{Global as GlobalLock, Through, Self}, Types.FieldLock.{OfType, OfGlobals, OfElement}, Labels.{Refers, Element, Named, Nth, OfElement as OfElementCell, OfGlobal, Label, Labels, SameReference, Itself, IsCopy, HasCopy, Copies, Chained}, Typed.{IsWellTyped, Fine, HasField, HasCell, MayAccess, IsMode, IsTypeMode, IsLockMode, IsLockCell, IsTypeLock, IsMutexOf, IsSibling, no_lock}, World.{RegisterOf, World, ObjectState, in_ref}, State.{State, NumberStands, ElementStands, OnHold, View, view_of, refs_at, types_at}, MachineInvariant.IsOn}
 use Rattle.sharc_history_laws.proofs.{Stands.{top, reads_ref, rn}, Lists.Newest, Holding.holds_in}
 

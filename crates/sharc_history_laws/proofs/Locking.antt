@@ -8,7 +8,7 @@ use Rattle.sharc_tree.specs.declared.event.Object.TheVariants as objects
 use Rattle.sharc_locks.specs.{declared.held_log.HeldMutex.HeldMutex, HeldLog.{with_mutex, without}}
 use Rattle.sharc_code.specs.{declared.code.Code.Code, declared.code.PlaceMode.PlaceMode, declared.instr.Cell.Cell, declared.instr.Instr.Instr, declared.shape.Shape.Shape, Laws.RunLaws, Layout.{Fits, first_cell, words_of, cell_of}, Machine.{Machine, instr_at, place, object, word, is_held, taken, act, locked, goes, fails}, Opening.opening_words, Path.{turn, after}, Runs.{Turn, Global, IsRun, MayTurn, after_turn, put, state_now, result_of, opening_of}, Whole.{one_thread, bounds, place_after}, Says.{said, cell_at, mode_of, place_at, speaks_of, event_at, lock_through}}
 use Rattle.sharc_code.specs.declared.instr.Instr.TheVariants as instrs
-use Rattle.sharc_gen.specs.{Consistent.{said_now, IsMutex}, OfRuns.table_of}
+use Rattle.sharc_compile.specs.{Consistent.{said_now, IsMutex}, OfRuns.table_of}
 use Rattle.sharc_meaning.specs.{Events.{Access, same_object, same_cell, is_cell, locks, unlocks, is_of}, Obeys.{History, IsAccess}}
 use Rattle.sharc_invariant.specs.{Types.{Targets, FieldMode}, Labels.Labels, Typed.{IsWellTyped, Fine, MayAccess, IsMode}, World.World, State.{IsSmall, StageStands, GateStands, OnHold}, MachineInvariant.IsOn, Laws.{Keeps, Begins as CodeBegins, CellsAreThere, PointersAreThere, AccessesAreAllowed}}
 use Rattle.sharc_history_laws.specs.History.{history_of}

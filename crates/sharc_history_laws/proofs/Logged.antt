@@ -8,8 +8,8 @@ use Rattle.sharc_locks.specs.{declared.held_log.HeldMutex.HeldMutex, HeldLog.{wi
 use Rattle.sharc_code.specs.{declared.code.Code.Code, declared.instr.Cell.Cell, declared.instr.Instr.Instr, declared.shape.Shape.Shape, declared.state.Stop.Stop, declared.state.Stop.TheVariants.{Conflict, NoLock, NotSole, Trap}, Laws.RunLaws, Layout.{Fits, first_cell, words_of, cell_of, cell_word, granule_at, granule_of}, Machine.{Machine, Own, instr_at, ref, place, object, word, is_held, is_of_null, taken, act, locked, goes, fails, checked, lock_checked, tested, stopped, with_own, wrote, with_note}, Opening.opening_words, Path.{turn, after, may_go}, Runs.{Turn, Global, IsRun, MayTurn, after_turn, put, state_now, result_of, opening_of}, Whole.{one_thread, bounds, place_after}, Says.{said, cell_at, made_cell, speaks_of, event_at}}
 use Rattle.sharc_code.specs.declared.instr.Cell.TheVariants as cells
 use Rattle.sharc_code.specs.declared.instr.Instr.TheVariants as instrs
-use Rattle.sharc_shadow.specs.{declared.shadow_word.Kind.Kind, declared.shadow_word.Kind.TheVariants.{Read, Write}, Accesses.{note_of, site_at}, ShadowWord.epoch_of, Functions.{conflicts_in, noted}}
-use Rattle.sharc_gen.specs.{Consistent.{said_now, MayFind, IsLock, IsMutex, IsApart, IsFree}, OfRuns.table_of}
+use Rattle.sharc_heap.specs.{declared.shadow_word.Kind.Kind, declared.shadow_word.Kind.TheVariants.{Read, Write}, Accesses.{note_of, site_at}, ShadowWord.epoch_of, Functions.{conflicts_in, noted}}
+use Rattle.sharc_compile.specs.{Consistent.{said_now, MayFind, IsLock, IsMutex, IsApart, IsFree}, OfRuns.table_of}
 use Rattle.sharc_meaning.specs.Events.{same_cell, is_cell, locks, unlocks, is_of}
 use Rattle.sharc_invariant.specs.{Types.Targets, Labels.Labels, Typed.IsWellTyped, State.IsSmall, Laws.{Keeps, Begins as CodeBegins, CellsAreThere, PointersAreThere, AccessesAreAllowed}}
 use Rattle.sharc_history_laws.specs.{History.history_of, Reports.{IsLockCheck, LacksLock}}

@@ -3,11 +3,11 @@ use Rattle.std.proofs.{Common.{◌≡◌, ℕ, ◌%◌, ◌<◌, ◌≢◌, true
 use Rattle.std.specs.Prelude.{find, slice_index_or}
 use Rattle.sharc_tree.specs.declared.event.SourceEvent.{SourceEvent}
 use Rattle.sharc_tree.specs.declared.event.Object.TheVariants as objects
-use Rattle.sharc_granule.specs.{State.NewView, declared.stage.NewStage.{NewStage}}
-use Rattle.sharc_granule.specs.declared.stage.NewStage.TheVariants as news
+use Rattle.sharc_heap.specs.{State.NewView, declared.stage.NewStage.NewStage}
+use Rattle.sharc_heap.specs.declared.stage.NewStage.TheVariants as news
 use Rattle.sharc_code.specs.{declared.code.Code.Code, declared.instr.Instr.Instr, declared.shape.Shape.Shape, declared.state.Stage.Stage, declared.state.Stage.TheVariants.Makes, Laws.RunLaws, Layout.Fits, Machine.{Machine, instr_at, ref}, Opening.opening_words, Runs.{Turn, Global, IsRun, MayTurn, after_turn, result_of, opening_of}, Says.{said, in_new, new_event, place_at, speaks_of}, Whole.{one_thread, bounds, place_after}}
 use Rattle.sharc_code.specs.declared.instr.Instr.TheVariants as instrs
-use Rattle.sharc_gen.specs.{Consistent.said_now, OfRuns.table_of}
+use Rattle.sharc_compile.specs.{Consistent.said_now, OfRuns.table_of}
 use Rattle.sharc_meaning.specs.{Events.{latest, makes, is_number}, Store.is_live}
 use Rattle.sharc_invariant.specs.{Types.{Targets, StaticType, Field, Content, Integer, MutexWord, Waiters, Pointer, cells_of, field_at, field_of_cell, field_in, is_pointer, no_field, row_of}, Labels.{Label, Labels}, Typed.{IsWellTyped, IsSameContent, Recasts}, World.ObjectState, Opened.{first_world, first_place}, Objects.{objects_after, objects_behind, objects_now}, State.IsSmall, Laws.{Keeps, Begins as CodeBegins, CellsAreThere, PointersAreThere, AccessesAreAllowed}}
 use Rattle.sharc_history_laws.specs.History.{history_of}

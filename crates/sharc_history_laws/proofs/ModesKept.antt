@@ -8,7 +8,7 @@ use Rattle.sharc_tree.specs.declared.event.CellMode.TheVariants as modes
 use Rattle.sharc_tree.specs.declared.event.Object.TheVariants as objects
 use Rattle.sharc_code.specs.{declared.code.Code.Code, declared.instr.Cell.Cell, declared.instr.Instr.Instr, declared.shape.Shape.Shape, Laws.RunLaws, Layout.Fits, Machine.{Machine, Turn as Act, Local, Asks, instr_at}, Opening.opening_words, Path.{turn, asked_by}, Runs.{Turn, Global, IsRun, MayTurn, after_turn, result_of, step_of, words_now, opening_of}, Whole.{one_thread, bounds, place_after}, Says.{said, cell_at, made_cell, place_at, speaks_of}}
 use Rattle.sharc_code.specs.declared.instr.Cell.TheVariants as cells
-use Rattle.sharc_gen.specs.{Consistent.said_now, OfRuns.table_of}
+use Rattle.sharc_compile.specs.{Consistent.said_now, OfRuns.table_of}
 use Rattle.sharc_meaning.specs.{Events.{Access, makes, gives, begins, frees, is_number}, Obeys.IsAccess}
 use Rattle.sharc_invariant.specs.{Types.{Targets, Field, FieldMode, CellMode, cells_of, field_in, mode_in, mode_at, is_pointer, lock_number}, Types.FieldLock.{OfType, OfGlobals, OfElement}, Labels.Labels, Typed.IsWellTyped, World.{Cell as CellOf, World, ObjectState}, Words.{lang_of, has_returned}, History.{Closing, Without}, Objects.changes_objects, State.{IsSmall, OnHold, object_of_cell, number_in, size_of_run}, MachineInvariant.IsOn, Laws.{Keeps, Begins as CodeBegins, CellsAreThere, PointersAreThere, AccessesAreAllowed, StateStands}}
 use Rattle.sharc_invariant.specs.Words as Words

@@ -1,7 +1,7 @@
 -- Each note in the access table of a thread is of a check that the thread made in the run, and that passed.
 use Rattle.std.proofs.{Common.{◌≡◌, ℕ, zero, suc, ◌+◌, ◌⊎◌, inl, inr, Bool, true, false, List, [], ◌∷◌, Some, None, is_some, if◌then◌else◌, refl, sym, ap, ◌∙◌, subst, ⊎_elim}, lemmas.Bool.cases_eq, lemmas.List.get_or-set_other}
 use Rattle.std.specs.Prelude.{slice_index, slice_index_or, slice_set, replicate}
-use Rattle.sharc_shadow.specs.{declared.shadow_word.Kind.Kind, declared.shadow_word.Kind.TheVariants.{Read, Write}, declared.access_table.Note.Note, declared.access_table.GranuleNotes.GranuleNotes, Notes.{blank, of_kind, with_note}, Accesses.{Accesses, note_of, site_at}, ShadowWord.epoch_of, Functions.{bits_of, conflicts_in, noted}}
+use Rattle.sharc_heap.specs.{declared.shadow_word.Kind.Kind, declared.shadow_word.Kind.TheVariants.{Read, Write}, declared.access_table.Note.Note, declared.access_table.GranuleNotes.GranuleNotes, Notes.{blank, of_kind, with_note}, Accesses.{Accesses, note_of, site_at}, ShadowWord.epoch_of, Functions.{bits_of, conflicts_in, noted}}
 use Rattle.sharc_word.specs.declared.step.WordOp.TheVariants as ops
 use Rattle.sharc_code.specs.{declared.code.Code.Code, declared.instr.Cell.Cell, declared.instr.Instr.Instr, declared.shape.Shape.Shape, declared.state.Stop.TheVariants.Conflict, Layout.{granules, granule_at, granule_of, shadow_word}, Machine.{Machine, instr_at, act, place, checked, stopped, with_own, wrote, step_of}, Opening.opening_words, Path.{turn, after, may_go, asked_by}, Runs.{Turn, Global, IsRun, MayTurn, after_turn, put, state_now, result_of, opening_of}, Whole.{one_thread, bounds, place_after}}
 use Rattle.sharc_code.specs.declared.instr.Instr.TheVariants as instrs

@@ -5,7 +5,7 @@ use Rattle.sharc_tree.specs.{declared.event.CellAt.CellAt, declared.event.Object
 use Rattle.sharc_tree.specs.declared.event.Object.TheVariants as objects
 use Rattle.sharc_ctype.specs.Resolved.{Resolution}
 use Rattle.sharc_code.specs.{declared.code.Code.Code, declared.shape.Shape.Shape, Arithmetic.int_of, Layout.{Fits, words_of, first_cell}, Opening.{opening_words, opens_with, opening_cell, first_global, first_heap as first_heap_word}, Ranges.IsInGlobal, Whole.place_after}
-use Rattle.sharc_gen.specs.OfRuns.{table_of}
+use Rattle.sharc_compile.specs.OfRuns.{table_of}
 use Rattle.sharc_meaning.specs.Store.{initial_value}
 use Rattle.sharc_invariant.specs.{Types.{Targets, Field, Content, Integer, MutexWord, Waiters, Pointer, field_in, global_field, globals_target}, Labels.Labels, Typed.{IsWellTyped, Initial}, Words.cell_at, Opened.{first_world, the_globals}, Laws.{Begins as CodeBegins}}
 use Rattle.sharc_history_laws.specs.Stores.{BeginsWith}

@@ -3,9 +3,9 @@ use Rattle.std.proofs.{Common.{◌≡◌, ℕ, pos, zero, suc, ◌+◌, Bool, tr
 use Rattle.std.specs.Prelude.{◌==◌, find}
 use Rattle.sharc_tree.specs.{declared.event.Act.Act, declared.event.CellAt.CellAt, declared.event.SourceEvent.SourceEvent}
 use Rattle.sharc_tree.specs.declared.event.Act.TheVariants as acts
-use Rattle.sharc_granule.specs.{State.NewView, declared.stage.NewStage.{NewStage}}
-use Rattle.sharc_granule.specs.declared.stage.NewStage.TheVariants as news
-use Rattle.sharc_cond.specs.Waiters.{waits_in, lowest_of}
+use Rattle.sharc_heap.specs.{State.NewView, declared.stage.NewStage.NewStage}
+use Rattle.sharc_heap.specs.declared.stage.NewStage.TheVariants as news
+use Rattle.sharc_locks.specs.Waiters.{waits_in, lowest_of}
 use Rattle.sharc_code.specs.{declared.code.Code.Code, declared.instr.Cell.Cell, declared.instr.Instr.Instr, declared.instr.Register.Register, declared.state.Stage.Stage, declared.state.Stage.TheVariants.{Makes, Uncounts, Begins, Enters, Withdraws, WithdrawsFrom, Leaves, Wakes}, Machine.{Machine, ref}, Says.{said, event_at, cell_at, take_local, nobody, in_signal, in_start, in_free, in_new, in_spawn, in_exit, new_event}}
 use Rattle.sharc_code.specs.declared.instr.Instr.TheVariants as instrs
 use Rattle.sharc_meaning.specs.{Events.is_cell, Store.{meets, is_waiter, is_natural, entered, signalled, broadcast_on, enters, takes_away}}

@@ -1,7 +1,7 @@
 -- What remains of checks in shadow words, access tables and stops: why a bit and the written bit stand.
 use Rattle.std.proofs.{Common.{◌≡◌, ℕ, suc, ◌+◌, ◌*◌, ◌/◌, ◌<◌, ◌≤◌, ◌⊎◌, inl, inr, Bool, true, false, not, ◌||◌, ◌&&◌, Option, Some, None, is_some, if◌then◌else◌, refl, sym, ap, ◌∙◌, subst, ⊎_elim, arith}, lemmas.Bool.{cases_eq, or_right, false_from_ne_true as unset}}
 use Rattle.std.specs.Prelude.{slice_index, ◌==◌}
-use Rattle.sharc_shadow.specs.{declared.shadow_word.Kind.Kind, declared.shadow_word.Kind.TheVariants.{Read, Write}, declared.access_table.Note.Note, Accesses.{note_of, site_at}, Functions.conflicts_in, Laws.ShadowLaws, ShadowWord.{epoch_of, is_of, is_write, is_written, stands, AddsAccess, Conflicts, Withdraws as WithdrawsWord}}
+use Rattle.sharc_heap.specs.{declared.shadow_word.Kind.Kind, declared.shadow_word.Kind.TheVariants.{Read, Write}, declared.access_table.Note.Note, Accesses.{note_of, site_at}, Functions.conflicts_in, ShadowLaws.ShadowLaws, ShadowWord.{epoch_of, is_of, is_write, is_written, stands, AddsAccess, Conflicts, Withdraws as WithdrawsWord}}
 use Rattle.sharc_code.specs.{declared.code.Code.Code, declared.instr.Cell.Cell, declared.instr.Instr.Instr, declared.shape.Shape.Shape, declared.state.ConflictAt.ConflictAt, declared.state.Stop.TheVariants.Conflict, Layout.{Fits, granules, first_shadow, granule_at, granule_of}, Machine.{Machine, instr_at, place, wrote, stopped, with_own}, Runs.{Turn, Global, MayTurn, after_turn, state_now}, Whole.{one_thread, bounds}}
 use Rattle.sharc_code.specs.declared.instr.Instr.TheVariants as instrs
 use Rattle.sharc_code.specs.Machine as machines
@@ -183,7 +183,7 @@ module _ (laws : ShadowLaws) (cell_laws : CellsAreThere) (x : Targets) (code : C
       by (Passes kind q site at a b c) = absurd (none (with_own m (machines.with_note m.own q kind (epoch_of (old_at q)) site)) (note_stop q kind (epoch_of (old_at q)) site) c)
         where
           note_stop : (q : ℕ) (kind : Kind) (e site : ℕ) → (machines.with_note (g.threads tr.thread).own q kind e site).stop ≡ None
-          note_stop q kind e site = elim (is_some (site_at (note_of m.own.table q kind) e)) as (λ b. (if b then m.own else record m.own { table = Rattle.sharc_shadow.specs.Functions.noted m.own.table q kind record { epoch = e; site = site } }).stop ≡ None) [ true ↦ fresh | false ↦ fresh ]
+          note_stop q kind e site = elim (is_some (site_at (note_of m.own.table q kind) e)) as (λ b. (if b then m.own else record m.own { table = Rattle.sharc_heap.specs.Functions.noted m.own.table q kind record { epoch = e; site = site } }).stop ≡ None) [ true ↦ fresh | false ↦ fresh ]
       by (Refuses kind q site at a b c) = (kind, q, site, at, a, same (record { kind = kind; site = site; granule = q; epoch = epoch_of (old_at q); old = old_at q }) _ refl c, b, c)
 
   -- a note of an epoch stays in it

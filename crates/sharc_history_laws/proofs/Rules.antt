@@ -4,12 +4,12 @@ use Rattle.std.specs.Prelude.{nat_eq, ◌==◌}
 use Rattle.sharc_tree.specs.declared.event.SourceEvent.{SourceEvent}
 use Rattle.sharc_tree.specs.declared.event.CellMode.TheVariants as modes
 use Rattle.sharc_tree.specs.declared.event.Object.TheVariants as objects
-use Rattle.sharc_granule.specs.declared.stage.NewStage.{NewStage}
-use Rattle.sharc_granule.specs.declared.stage.NewStage.TheVariants as news
+use Rattle.sharc_heap.specs.declared.stage.NewStage.{NewStage}
+use Rattle.sharc_heap.specs.declared.stage.NewStage.TheVariants as news
 use Rattle.sharc_code.specs.{declared.code.Code.Code, declared.instr.Cell.Cell, declared.instr.Instr.Instr, declared.shape.Shape.Shape, declared.state.Stage.Stage, declared.state.Stage.TheVariants.{Makes, Uncounts}, Laws.RunLaws, Layout.Fits, Machine.{Machine, instr_at, ref}, Opening.opening_words, Runs.{Said, Turn, Global, IsRun, MayTurn, after_turn, put, result_of, with_told, opening_of}, Whole.{one_thread, bounds, place_after, Erase}, Says.{said, cell_at, place_at, speaks_of}}
 use Rattle.sharc_code.specs.declared.instr.Cell.TheVariants as cells
 use Rattle.sharc_code.specs.declared.instr.Instr.TheVariants as instrs
-use Rattle.sharc_gen.specs.{Consistent.said_now, OfRuns.{told_in, table_of}}
+use Rattle.sharc_compile.specs.{Consistent.said_now, OfRuns.{told_in, table_of}}
 use Rattle.sharc_meaning.specs.{Events.{Access, makes, gives, frees, begins, is_number, made_by, given_by, freed_by}, Obeys.{History, IsAccess, IsThere, is_owner}}
 use Rattle.sharc_invariant.specs.{Types.{Targets, Field, FieldMode, field_in, mode_in}, Labels.Labels, Typed.{IsWellTyped, Fine}, World.{ObjectState, World, CanBy}, Words.lang_of, Cells.{IsThere as CellIsThere}, Objects.{objects_behind, made_behind, new_behind, freed_behind, objects_now, owned, gone, type_held}, State.{IsSmall, StageStands, OnHold, object_of_cell, number_in}, MachineInvariant.IsOn, Laws.{Keeps, Begins as CodeBegins, CellsAreThere, PointersAreThere, AccessesAreAllowed}}
 use Rattle.sharc_history_laws.specs.History.{history_of}

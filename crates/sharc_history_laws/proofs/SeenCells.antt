@@ -5,7 +5,7 @@ use Rattle.sharc_tree.specs.{declared.event.CellAt.CellAt, declared.event.Object
 use Rattle.sharc_tree.specs.declared.event.Object.TheVariants as objects
 use Rattle.sharc_ctype.specs.Resolved.{Resolution}
 use Rattle.sharc_code.specs.{declared.code.Code.Code, declared.shape.Shape.Shape, declared.state.Stage.Stage, declared.state.Stage.TheVariants.{Empties, Lowers, FreeLooks, FreeClears, Uncounts}, Laws.RunLaws, Layout.{Fits, granules, granule_at, words_of, first_cell, cell_word, cell_of, length_word}, Machine.Machine, Opening.opening_words, Ranges.IsInGlobal, Runs.{Turn, Global, IsRun, result_of, opening_of}, Says.reference, Whole.{one_thread, bounds, place_after}}
-use Rattle.sharc_gen.specs.{Consistent.{Elements, said_now}, OfRuns.table_of}
+use Rattle.sharc_compile.specs.{Consistent.{Elements, said_now}, OfRuns.table_of}
 use Rattle.sharc_meaning.specs.{Reference.is_null, References.refers, Store.value_after}
 use Rattle.sharc_invariant.specs.{Types.{Targets, Field, Content, Pointer, field_in, field_of_cell, global_field, globals_target, is_pointer, cells_of}, Labels.Labels, Typed.IsWellTyped, World.{Cell as CellOf, World, ObjectState}, State.{State, IsSmall}, Opened.{first_world, first_place}, Objects.{objects_after, objects_now}, MachineInvariant.{cells_now, is_pointer_now, cell_refers}, Laws.{Keeps, Begins as CodeBegins, CellsAreThere, PointersAreThere, AccessesAreAllowed, StateStands}}
 use Rattle.sharc_invariant.specs.Words as Words

@@ -4,9 +4,8 @@ use Rattle.std.specs.Prelude.{slice_index, nat_lt, bit_or, ◌==◌, Contains}
 use Rattle.sharc_tree.specs.declared.trap.Trap.TheVariants as traps
 use Rattle.sharc_word.specs.{declared.step.TheConstants.THREADS, declared.step.WordEvent.WordEvent, declared.step.WordOp.WordOp, declared.step.WordStep.WordStep, Words.{word_after, words_after_step}}
 use Rattle.sharc_word.specs.declared.step.WordOp.TheVariants as ops
-use Rattle.sharc_shadow.specs.{declared.shadow_word.Kind.Kind, declared.shadow_word.Kind.TheVariants.{Read, Write}, declared.access_table.GranuleNotes.GranuleNotes, Accesses.{Accesses, ListsNoted, is_noted}, Functions.{bits_of, cleared_of, withdrawn_of}, Laws.ShadowLaws, ShadowWord.{epoch_of, is_written, stands, AddsAccess, Withdraws as WithdrawsWord}}
-use Rattle.sharc_granule.specs.{Asks.word_number, Stages.turn_of_stage, State.{NewView, told}, declared.arguments.NewArguments.NewArguments, declared.stage.NewStage.{NewStage}}
-use Rattle.sharc_granule.specs.declared.stage.NewStage.TheVariants as news
+use Rattle.sharc_heap.specs.{declared.shadow_word.Kind.Kind, declared.shadow_word.Kind.TheVariants.{Read, Write}, declared.access_table.GranuleNotes.GranuleNotes, Accesses.{Accesses, ListsNoted, is_noted}, Functions.{bits_of, cleared_of, withdrawn_of}, ShadowLaws.ShadowLaws, ShadowWord.{epoch_of, is_written, stands, AddsAccess, Withdraws as WithdrawsWord}, Asks.word_number, Stages.turn_of_stage, State.{NewView, told}, declared.arguments.NewArguments.NewArguments, declared.stage.NewStage.NewStage}
+use Rattle.sharc_heap.specs.declared.stage.NewStage.TheVariants as news
 use Rattle.sharc_code.specs.{declared.code.Code.Code, declared.instr.Instr.Instr, declared.instr.Register.Register, declared.shape.Shape.Shape, declared.state.Stage.Stage, declared.state.Stage.TheVariants.{Looks, Clears, Makes, Empties, Lowers, FreeLooks, FreeClears, Uncounts, Links, Names, Hands, Begins, Enters, Withdraws, WithdrawsFrom, Leaves as Leaving, Wakes}, Layout.{Fits, granules, first_cell, first_shadow, words_of, granule_at, granule_of, shadow_word, count_word, length_word, cell_word, state_word}, Machine.{Machine, Turn as StepTurn, Local, Asks, act, instr_at, step_of, int, ref, place, word, goes, set_ref, move_ref, accessed, trapped, raise, lower, test, new, asks_new, new_state, elements_of, clear, free, layout_at, data_granules, data_granule, spawn, joined, join, start, exit, row_of, without_own, withdrew, signal, largest, wrote}, Path.{turn, asked_by, may_go}, Runs.{Turn, Global, MayTurn, Answered, after_turn, words_now, result_of}, Whole.{one_thread, bounds}}
 use Rattle.sharc_code.specs.declared.instr.Instr.TheVariants as instrs
 use Rattle.sharc_code.specs.Runs as runs

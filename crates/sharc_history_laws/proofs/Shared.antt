@@ -9,7 +9,7 @@ use Rattle.sharc_code.specs.{declared.code.Code.Code, declared.instr.Cell.Cell, 
 use Rattle.sharc_code.specs.declared.instr.Cell.TheVariants as cells
 use Rattle.sharc_code.specs.declared.instr.Instr.TheVariants as instrs
 use Rattle.sharc_code.specs.declared.state.TurnState.TheVariants as states
-use Rattle.sharc_gen.specs.{Consistent.said_now, OfRuns.table_of}
+use Rattle.sharc_compile.specs.{Consistent.said_now, OfRuns.table_of}
 use Rattle.sharc_meaning.specs.{Events.{Access, granule_of, makes, gives, begins, is_of, access_by}, Obeys.{until_return, ends}}
 use Rattle.sharc_invariant.specs.{Granules.Passed, Types.{Targets, Field, FieldMode}, Labels.{Gate, Closed, Checked, Holds, Loaded, HoldsLoaded, Sole, Labels}, Typed.{IsWellTyped, Fine, IsNotSole}, World.{RegisterOf, ObjectState, Shut, Sole as IsSole, World, WinOk, in_ref}, Words.{lang_of, has_returned, is_withdrawing, is_ended}, History.{Closing, Without}, Objects.{changes_objects, makes_object, frees_object, objects_behind}, State.{State, Runs, IsSmall, StageStands, GateStands, StopStands, OnHold, OnExit, object_of_cell, number_in, label_now, size_of_run}, MachineInvariant.{IsOn, MachineInvariant, IsAlone, WindowStands, label_of}, Laws.{Keeps, Begins as CodeBegins, CellsAreThere, PointersAreThere, AccessesAreAllowed, StateStands}}
 use Rattle.sharc_history_laws.proofs.{Single.{single, rests_hold}, Stands.{register_is, gate, reads_ref}, Finds.is_there, Tables.{header_of, was_live}, Consists.{Consists, consists_then, objects_then, effect_then, given, at_first}, Acts.{access_said, thread_said, given_at, freed_in, freed_at, About, is_access, no_access, access_at, IsAccess as TellsAccess, access_of}, Lists.Newest, Modes.dynamic_field, Rules.{pushed, newest, newest_now, number_is, about_now, hold_access, cell_is, can_mode, freed_gone, number_yes, put_same, put_other}, Sets.{IsHere, Goes, InSet, NoConflict, Clean}, Carried.{Stands, carried}, Going.{is_exit, going}}

@@ -3,8 +3,7 @@ use Rattle.std.proofs.{Common.{◌≡◌, ℕ, zero, suc, ◌+◌, ◌*◌, ◌<
 use Rattle.std.specs.Prelude.{nat_eq, slice_index, ◌==◌}
 use Rattle.sharc_tree.specs.declared.trap.Trap.TheVariants as traps
 use Rattle.sharc_word.specs.declared.step.TheConstants.{THREADS}
-use Rattle.sharc_count.specs.Count.{test_of}
-use Rattle.sharc_shadow.specs.{declared.shadow_word.Kind.Kind, declared.shadow_word.Kind.TheVariants.{Read, Write}, Accesses.{note_of, site_at}, ShadowWord.epoch_of, Functions.{conflicts_in, noted}}
+use Rattle.sharc_heap.specs.{Count.test_of, declared.shadow_word.Kind.Kind, declared.shadow_word.Kind.TheVariants.{Read, Write}, Accesses.{note_of, site_at}, ShadowWord.epoch_of, Functions.{conflicts_in, noted}}
 use Rattle.sharc_code.specs.{declared.state.TheConstants.FRAMES, declared.code.Code.Code, declared.instr.Instr.Instr, declared.shape.Shape.Shape, declared.state.Stop.Stop, declared.state.Stop.TheVariants.{Conflict, NoLock, NotSole, Trap}, Layout.{Fits, granules, words_of, cell_of, cell_word, count_word, granule_at, granule_of}, Machine.{Machine, Own, instr_at, act, ref, place, word, is_held, is_of_null, goes, stopped, checked, lock_checked, tested, with_own, wrote, with_note}, Opening.opening_words, Path.{turn, after, may_go, most_refs, asked_by}, Runs.{Turn, Global, IsRun, MayTurn, after_turn, put, state_now, result_of, opening_of}, Whole.{one_thread, bounds, place_after}}
 use Rattle.sharc_code.specs.declared.instr.Instr.TheVariants as instrs
 use Rattle.sharc_invariant.specs.{Granules.{one, sum_to}, Types.Targets, Labels.Labels, Typed.{IsWellTyped, Fine}, World.ObjectState, Words.argument_of, State.{IsSmall, StageStands}, Opened.{first_world, first_place}, Objects.objects_after, MachineInvariant.{register_refers, log_refers, hand_refers, cell_refers, references_to}, Reports.{RunsTest, TestStands}}

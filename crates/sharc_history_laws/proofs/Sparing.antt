@@ -4,8 +4,8 @@ use Rattle.std.specs.Prelude.{slice_index, ◌==◌}
 use Rattle.sharc_tree.specs.declared.trap.Trap.TheVariants as traps
 use Rattle.sharc_word.specs.{declared.step.TheConstants.THREADS, declared.step.WordOp.WordOp, declared.step.WordStep.WordStep, Words.word_after}
 use Rattle.sharc_word.specs.declared.step.WordOp.TheVariants as ops
-use Rattle.sharc_granule.specs.{State.{NewView, told}, Asks.word_number, Stages.turn_of_stage, declared.arguments.NewArguments.NewArguments, declared.stage.NewStage.{NewStage}}
-use Rattle.sharc_granule.specs.declared.stage.NewStage.TheVariants as news
+use Rattle.sharc_heap.specs.{State.{NewView, told}, Asks.word_number, Stages.turn_of_stage, declared.arguments.NewArguments.NewArguments, declared.stage.NewStage.NewStage}
+use Rattle.sharc_heap.specs.declared.stage.NewStage.TheVariants as news
 use Rattle.sharc_code.specs.{declared.code.Code.Code, declared.instr.Cell.Cell, declared.instr.Register.Register, declared.instr.Instr.Instr, declared.shape.Shape.Shape, declared.state.Stage.Stage, declared.state.Stage.TheVariants.{Looks, Clears, Makes, Empties, Lowers, FreeLooks, FreeClears, Uncounts, Links, Names, Hands, Begins, Enters, Withdraws, WithdrawsFrom, Leaves as Leaving, Wakes}, Layout.{Fits, granules, granule_at, words_of, cell_word, cell_of, shadow_word, count_word, length_word, first_cell, first_shadow, state_word}, Machine.{Machine, Turn, Local, Asks, step_of, act, int, ref, word, raise, lower, test, new, asks_new, new_state, elements_of, clear, free, layout_at, spawn, join, start, exit, signal, goes, set_ref, accessed, move_ref, joined, trapped, instr_at, pointer_cell}, Path.turn, Runs.Global}
 use Rattle.sharc_code.specs.declared.instr.Instr.TheVariants as instrs
 use Rattle.sharc_invariant.specs.{Types.{Targets, Field, Content, Integer, MutexWord, Waiters, Pointer, field_in}, Labels.{Label, Labels}, Typed.{IsWellTyped, Fine, HasCell, Accesses}, World.{World, In, RegisterOf, in_ref, Staged, Cell as CellOf, Loaded as IsLoaded, WinOk, base_of}, Words.{cell_at, staged_of, lang_of}, Blocks.{Heap, Built, Live}, State.{State, Runs, StageStands, BuildsAt, all_pointers, OnHold, object_of_cell, number_in, GateStands, base_of_cell}, MachineInvariant.IsOn, Laws.{CellsAreThere, PointersAreThere}}

@@ -9,7 +9,7 @@ use Rattle.sharc_code.specs.{declared.code.Code.Code, declared.code.Parameter.Pa
 use Rattle.sharc_code.specs.declared.code.Parameter.TheVariants as parameters
 use Rattle.sharc_code.specs.declared.instr.Instr.TheVariants as instrs
 use Rattle.sharc_code.specs.declared.instr.Register.TheVariants as registers
-use Rattle.sharc_gen.specs.{Consistent.{Elements, said_now}, OfRuns.table_of}
+use Rattle.sharc_compile.specs.{Consistent.{Elements, said_now}, OfRuns.table_of}
 use Rattle.sharc_meaning.specs.{Events.{Stands, is_of, events_of}, Obeys.History}
 use Rattle.sharc_invariant.specs.{Types.Targets, Labels.Labels, Typed.{IsWellTyped, Fine}, World.{ArgumentOf, In, in_ref}, Words.{is_unread, if_reference}, State.{IsSmall, StageStands, OnSpawn, OnHold, view_of, refs_at, types_at}, MachineInvariant.IsOn, Laws.{Keeps, Begins as CodeBegins, CellsAreThere, PointersAreThere, AccessesAreAllowed}}
 use Rattle.sharc_invariant.specs.Words as Words

@@ -3,7 +3,7 @@ use Rattle.std.proofs.{Common.{◌≡◌, ℕ, ◌+◌, ◌*◌, ◌<◌, ◌≢
 use Rattle.std.specs.Prelude.{◌==◌}
 use Rattle.sharc_tree.specs.{declared.event.Object.Object, declared.event.SourceEvent.SourceEvent}
 use Rattle.sharc_tree.specs.declared.event.Object.TheVariants as objects
-use Rattle.sharc_shadow.specs.ShadowWord.{stands}
+use Rattle.sharc_heap.specs.ShadowWord.{stands}
 use Rattle.sharc_code.specs.{declared.code.Code.Code, declared.instr.Instr.Instr, declared.shape.Shape.Shape, declared.state.Stage.Stage, declared.state.Stage.TheVariants.{Uncounts, Leaves as Leaving}, Layout.granules, Machine.{Machine, instr_at, ref}, Path.turn, Runs.{Turn, Global, result_of, paired, told_by, after_turn}, Says.said, Whole.{Erase, one_thread, bounds, place_after}}
 use Rattle.sharc_code.specs.declared.instr.Instr.TheVariants as instrs
 use Rattle.sharc_meaning.specs.{Events.{begins, frees, is_number, made_by, given_by, freed_by}, Store.is_gone}

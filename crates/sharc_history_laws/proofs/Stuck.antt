@@ -4,7 +4,7 @@ use Rattle.std.specs.Prelude.{slice_index, ◌==◌}
 use Rattle.sharc_word.specs.declared.step.TheConstants.{THREADS}
 use Rattle.sharc_tree.specs.{declared.event.Act.Act, declared.event.SourceEvent.SourceEvent}
 use Rattle.sharc_ctype.specs.Resolved.{Resolution}
-use Rattle.sharc_cond.specs.Waiters.{waits_in}
+use Rattle.sharc_locks.specs.Waiters.{waits_in}
 use Rattle.sharc_code.specs.{declared.code.Code.Code, declared.instr.Cell.Cell, declared.instr.Instr.Instr, declared.shape.Shape.Shape, Layout.{Fits, state_word}, Machine.{Machine, instr_at, int, word}, Runs.{Turn, Global}, Says.cell_at, Waits.{asks_for, joins, held_up}, Whole.{CheckedRun, place_after, Waits}}
 use Rattle.sharc_code.specs.declared.instr.Instr.TheVariants as instrs
 use Rattle.sharc_code.specs.declared.state.Wait.TheVariants as waits

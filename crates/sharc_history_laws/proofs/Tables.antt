@@ -3,12 +3,12 @@ use Rattle.std.proofs.{Common.{◌≡◌, ℕ, zero, suc, ◌+◌, ◌*◌, ◌%
 use Rattle.std.specs.Prelude.{slice_index, nat_eq, ◌==◌, ◌||◌}
 use Rattle.sharc_word.specs.{declared.step.WordStep.WordStep, declared.step.WordEvent.WordEvent, Words.{word_after, words_after_step}}
 use Rattle.sharc_tree.specs.declared.event.SourceEvent.{SourceEvent}
-use Rattle.sharc_granule.specs.{State.NewView, declared.stage.NewStage.{NewStage}}
-use Rattle.sharc_granule.specs.declared.stage.NewStage.TheVariants as news
-use Rattle.sharc_cond.specs.Waiters.{waits_in}
+use Rattle.sharc_heap.specs.{State.NewView, declared.stage.NewStage.NewStage}
+use Rattle.sharc_heap.specs.declared.stage.NewStage.TheVariants as news
+use Rattle.sharc_locks.specs.Waiters.{waits_in}
 use Rattle.sharc_code.specs.{declared.code.Code.Code, declared.instr.Cell.Cell, declared.instr.Register.Register, declared.instr.Instr.Instr, declared.shape.Shape.Shape, declared.state.Stage.Stage, declared.state.Stage.TheVariants.{Makes, Uncounts, Begins, Enters, Withdraws, WithdrawsFrom, Leaves as Leaving, Wakes}, Layout.first_cell, Machine.{Machine, Turn, Local, Asks, ref}, Path.asked_by, Runs.{Global, put, words_now, step_of}, Says.{said, reference, number_of, take_local, nobody, in_signal, in_exit, in_spawn, in_start, in_free, in_new, new_event}}
 use Rattle.sharc_code.specs.declared.instr.Instr.TheVariants as instrs
-use Rattle.sharc_gen.specs.Consistent.{Elements, elements_told}
+use Rattle.sharc_compile.specs.Consistent.{Elements, elements_told}
 use Rattle.sharc_invariant.specs.{Types.Targets, Labels.Labels, World.{ObjectState, World}, Words.{length_at, cell_at}, Blocks.{Built, Live}, Objects.{objects_behind, made_behind, new_behind, freed_behind, owned, gone, type_held}, State.State}
 use Rattle.sharc_history_laws.proofs.Writes.{Wrote, Leaves, Low, CountOf, InCell, InBlock, Writes}
 use Rattle.sharc_lemmas.proofs.Lists.{set_same}

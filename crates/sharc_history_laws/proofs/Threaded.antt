@@ -7,7 +7,7 @@ use Rattle.sharc_tree.specs.declared.event.Act.TheVariants as acts
 use Rattle.sharc_tree.specs.declared.event.SourceEvent.{SourceEvent}
 use Rattle.sharc_code.specs.{declared.code.Code.Code, declared.instr.Instr.Instr, declared.instr.Register.Register, declared.shape.Shape.Shape, declared.state.Stage.Stage, declared.state.Stage.TheVariants.{Begins, Withdraws, WithdrawsFrom, Leaves}, Laws.RunLaws, Layout.{Fits, state_word}, Machine.{Machine, instr_at, act, exit, spawn, withdraws, withdrew, at_stage}, Path.{turn, after, asked_by}, Runs.{Turn, Global, MayTurn, after_turn, put, state_now, result_of, words_now, is_started}, Says.{said, speaks_of, in_exit, in_spawn}, Whole.{one_thread, bounds, place_after}}
 use Rattle.sharc_code.specs.declared.instr.Instr.TheVariants as instrs
-use Rattle.sharc_gen.specs.OfRuns.{table_of}
+use Rattle.sharc_compile.specs.OfRuns.{table_of}
 use Rattle.sharc_meaning.specs.{Obeys.History, Store.{spawns, is_spawn, is_natural, is_gone, was_spawned, went}}
 use Rattle.sharc_invariant.specs.{Types.Targets, Labels.Labels, Typed.IsWellTyped, Words.is_ended, State.{IsSmall, StageStands}, Laws.{Keeps, CellsAreThere, PointersAreThere, AccessesAreAllowed}}
 use Rattle.sharc_history_laws.proofs.{Consists.{Consists, after_set}, Going.{is_exit, going}, Holding.any_push, Lists.{Newest, reverse_push}, Rules.{pushed, number_is, put_same, put_other}, Telling.{threads_said, is_threading, neither, no_thread}}

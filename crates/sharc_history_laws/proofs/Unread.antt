@@ -6,7 +6,7 @@ use Rattle.sharc_tree.specs.declared.event.SourceEvent.{SourceEvent}
 use Rattle.sharc_code.specs.{declared.code.Code.Code, declared.code.Parameter.Parameter, declared.instr.Instr.Instr, declared.shape.Shape.Shape, declared.state.Stage.Stage, declared.state.Stage.TheVariants.{Rests, Enters, Withdraws, WithdrawsFrom, Leaves}, declared.state.TheConstants.FRAMES, Laws.RunLaws, Layout.{Fits, state_word, function_word}, Machine.{Machine, instr_at, act, start, exit, withdraws, has_room, called, entered, with_parameter, function_of}, Opening.opening_words, Path.{turn, after}, Runs.{Turn, Global, IsRun, MayTurn, put, state_now, result_of, opening_of}, Says.{said, speaks_of, reference, started_with, in_start}, StandingLaws.SpawnsStart, Whole.{one_thread, bounds, place_after}}
 use Rattle.sharc_code.specs.declared.code.Parameter.TheVariants as parameters
 use Rattle.sharc_code.specs.declared.instr.Instr.TheVariants as instrs
-use Rattle.sharc_gen.specs.OfRuns.{table_of}
+use Rattle.sharc_compile.specs.OfRuns.{table_of}
 use Rattle.sharc_meaning.specs.Events.{events_of}
 use Rattle.sharc_invariant.specs.{Types.Targets, Labels.Labels, Typed.IsWellTyped, World.{ArgumentOf, In}, Words.{is_unread, is_first, if_reference, argument_of}, State.{IsSmall, StageStands, FramesStand, view_of}, MachineInvariant.IsOn, Laws.{Keeps, Begins as CodeBegins, CellsAreThere, PointersAreThere, AccessesAreAllowed}}
 use Rattle.sharc_history_laws.specs.{History.history_of, Seen.IsGivenTo}

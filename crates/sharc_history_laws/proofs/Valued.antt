@@ -8,7 +8,7 @@ use Rattle.sharc_tree.specs.declared.event.Object.TheVariants as objects
 use Rattle.sharc_ctype.specs.Resolved.{Resolution}
 use Rattle.sharc_code.specs.{declared.code.Code.Code, declared.instr.Cell.Cell, declared.instr.Instr.Instr, declared.shape.Shape.Shape, declared.state.Stage.TheVariants.Empties, Arithmetic.word_of, Laws.RunLaws, Layout.Fits, Machine.{Machine, instr_at, int, ref, word, act, object}, Path.{turn, asked_by}, Runs.{Turn, Global, MayTurn, after_turn, result_of, words_now}, Says.{said, cell_at, speaks_of, reference}, Whole.{one_thread, bounds, place_after}}
 use Rattle.sharc_code.specs.declared.instr.Instr.TheVariants as instrs
-use Rattle.sharc_gen.specs.{Consistent.Elements, OfRuns.table_of}
+use Rattle.sharc_compile.specs.{Consistent.Elements, OfRuns.table_of}
 use Rattle.sharc_meaning.specs.{Events.{makes, is_cell, is_number, made_by, same_cell}, Store.{changes, cell_changed, value_left}}
 use Rattle.sharc_invariant.specs.{Types.{Targets, Field, Content, Integer, MutexWord, Waiters, Pointer, field_in, is_pointer}, Labels.Labels, Typed.{IsWellTyped, Fine, Accesses, HasCell}, World.{Cell as CellOf, ObjectState}, State.{IsSmall, StageStands, OnHold, object_of_cell, number_in, view_of, refs_at, types_at}, MachineInvariant.IsOn, Laws.{Keeps, CellsAreThere, PointersAreThere, AccessesAreAllowed}}
 use Rattle.sharc_invariant.specs.Words as Words

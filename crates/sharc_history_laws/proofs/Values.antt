@@ -3,7 +3,7 @@ use Rattle.std.proofs.{Common.{◌≡◌, ℕ, ◌+◌, ◌*◌, ◌%◌, ◌<�
 use Rattle.std.specs.Prelude.{◌==◌}
 use Rattle.sharc_code.specs.{declared.code.Code.Code, declared.instr.Instr.Instr, declared.shape.Shape.Shape, Laws.RunLaws, Layout.Fits, Machine.{Machine, instr_at, act, ref}, Path.{turn, after}, Runs.{Turn, Global, MayTurn, after_turn, state_now, result_of}, Whole.{one_thread, bounds, place_after}}
 use Rattle.sharc_code.specs.declared.instr.Instr.TheVariants as instrs
-use Rattle.sharc_gen.specs.Consistent.{Elements}
+use Rattle.sharc_compile.specs.Consistent.{Elements}
 use Rattle.sharc_invariant.specs.{Types.{Targets, StaticType, Field, Content, Integer, MutexWord, Waiters, Pointer, cells_of, field_at, field_of_cell, field_in, globals_target}, Labels.{Label, Labels, empty}, Typed.{IsWellTyped, Fine, IsSameContent}, World.{ObjectState, World}, Objects.{objects_behind, owned, type_held}, State.{State, IsSmall, StageStands}, Laws.{Keeps, CellsAreThere, PointersAreThere}}
 use Rattle.sharc_history_laws.proofs.{Acts.{given_at, freed_at}, Born.filled_target, Consists.{Consists, consists_then, objects_then, given}, Contents.value_held, Rules.{put_same, same_behind, freed_gone, decide}, Single.rests_hold, Sparing.{is_value, holds_waiters}, Stands.{target_ref, sole_ref}, Tables.{header_of, was_live, length_kept}, Writes.writes}
 use Rattle.sharc_lemmas.proofs.Bools.{yes}

@@ -6,11 +6,11 @@ use Rattle.sharc_word.specs.declared.step.WordOp.TheVariants as ops
 use Rattle.sharc_tree.specs.{declared.event.Act.Act, declared.event.CellAt.CellAt, declared.event.Object.Object, declared.event.SourceEvent.SourceEvent}
 use Rattle.sharc_tree.specs.declared.event.Act.TheVariants as acts
 use Rattle.sharc_tree.specs.declared.event.Object.TheVariants as objects
-use Rattle.sharc_cond.specs.{Laws.WaitersLaws, Waiters.{waits_in, lowest_of, without_lowest}}
+use Rattle.sharc_locks.specs.{Laws.WaitersLaws, Waiters.{waits_in, lowest_of, without_lowest}}
 use Rattle.sharc_code.specs.{declared.code.Code.Code, declared.instr.Cell.Cell, declared.instr.Instr.Instr, declared.shape.Shape.Shape, declared.state.Stage.Stage, declared.state.Stage.TheVariants.{Empties, Links, Wakes}, Arithmetic.word_of, Laws.RunLaws, Layout.Fits, Machine.{Machine, instr_at, int, ref, word, act, signal, is_of_null, step_of, goes, fails}, Path.{turn, after, asked_by}, Runs.{Turn, Global, MayTurn, after_turn, put, state_now, result_of, words_now}, Says.{said, cell_at, speaks_of, nobody, in_signal, event_at}, Whole.{one_thread, bounds, place_after}}
 use Rattle.sharc_code.specs.declared.instr.Cell.TheVariants as cells
 use Rattle.sharc_code.specs.declared.instr.Instr.TheVariants as instrs
-use Rattle.sharc_gen.specs.OfRuns.{table_of}
+use Rattle.sharc_compile.specs.OfRuns.{table_of}
 use Rattle.sharc_meaning.specs.{Events.{is_cell, same_cell}, Store.{entered, takes_away}}
 use Rattle.sharc_invariant.specs.{Types.{Targets, Field, Content, Integer, MutexWord, Waiters, Pointer, field_in}, Labels.{Gate, Closed, Labels}, Typed.{IsWellTyped, Fine, Accesses, HasCell, IsNotSole}, World.{In, RegisterOf, ObjectState, World}, State.{IsSmall, StageStands, EntryStands, OnHold, object_of_cell, number_in, view_of, refs_at, types_at}, MachineInvariant.IsOn, Laws.{Keeps, CellsAreThere, PointersAreThere, AccessesAreAllowed, StateStands}}
 use Rattle.sharc_history_laws.specs.Waiters.{WaitsFollow}

@@ -2,7 +2,7 @@
 -- and no event is about its beginning or its end, or that of the thread.
 use Rattle.std.proofs.Common.{◌≡◌, ℕ, ◌+◌, ◌*◌, ◌<◌, ◌≤◌, ◌≢◌, ◌⊎◌, inl, inr, true, false, List, [], ◌∷◌, ◌++◌, Some, None, sym, ◌∙◌, subst, ⊎_elim, arith}
 use Rattle.sharc_tree.specs.{declared.event.Object.Object, declared.event.SourceEvent.SourceEvent}
-use Rattle.sharc_shadow.specs.ShadowWord.{epoch_of, stands}
+use Rattle.sharc_heap.specs.ShadowWord.{epoch_of, stands}
 use Rattle.sharc_code.specs.{declared.code.Code.Code, declared.shape.Shape.Shape, Layout.granules, Machine.Machine, Runs.{Turn, Global, told_by}, Whole.{Erase, one_thread, place_after}}
 use Rattle.sharc_meaning.specs.{Events.{begins, frees}, Store.is_gone}
 use Rattle.sharc_invariant.specs.{Labels.Labels, Types.Targets}

@@ -1,7 +1,7 @@
 -- From which granules a thread has withdrawn, after each turn.
 use Rattle.std.proofs.{Common.{◌≡◌, ℕ, zero, suc, ◌+◌, ◌<◌, ◌≤◌, Bool, true, false, ◌||◌, length, List, [], ◌∷◌, Option, Some, None, is_some, if◌then◌else◌, refl, sym, ap, ◌∙◌, subst, ⊎_elim, arith, eqb-true}, lemmas.Bool.{cases_eq, false_from_ne_true as unset}, lemmas.Bool.Decides.nat_tests}
 use Rattle.std.specs.{Prelude.{slice_index, slice_index_or, take, nat_lt, ◌==◌}, List.list_any}
-use Rattle.sharc_shadow.specs.{declared.shadow_word.Kind.Kind, declared.shadow_word.Kind.TheVariants.{Read, Write}, declared.access_table.Note.Note, declared.access_table.GranuleNotes.GranuleNotes, Notes.{blank, has_note, of_kind}, Accesses.{Accesses, ListsNoted, note_of, site_at}}
+use Rattle.sharc_heap.specs.{declared.shadow_word.Kind.Kind, declared.shadow_word.Kind.TheVariants.{Read, Write}, declared.access_table.Note.Note, declared.access_table.GranuleNotes.GranuleNotes, Notes.{blank, has_note, of_kind}, Accesses.{Accesses, ListsNoted, note_of, site_at}}
 use Rattle.sharc_code.specs.{declared.code.Code.Code, declared.instr.Instr.Instr, declared.shape.Shape.Shape, declared.state.Stage.Stage, declared.state.Stage.TheVariants.{Clears, FreeClears, Withdraws, WithdrawsFrom, Leaves}, declared.state.TurnState.{TurnState as PlaceState}, declared.state.TurnState.TheVariants.{Runs, Tries, Stopped, Ended}, Layout.{granules, granule_at}, Machine.{Machine, instr_at, act, exit, withdraws, withdrew, at_stage, row_of, ref}, Path.{turn, after, may_go}, Runs.{Turn, Global, MayTurn, after_turn, state_now, result_of}, Whole.{one_thread, bounds}}
 use Rattle.sharc_code.specs.declared.instr.Instr.TheVariants as instrs
 use Rattle.sharc_invariant.specs.{Bits.{Touch, Untouched, CheckOf, WithdrawOf, cleared_by, freed_by, withdrawn_by, touch_of}, Blocks.Heap, Labels.Labels, Reports.touch_at, State.{State, StageStands, OnExit}, Types.Targets, Words.{has_withdrawn, is_withdrawing, is_ended}, World.World}

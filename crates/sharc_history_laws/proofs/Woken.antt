@@ -7,10 +7,10 @@ use Rattle.sharc_tree.specs.{declared.event.Act.Act, declared.event.Object.Objec
 use Rattle.sharc_tree.specs.declared.event.Act.TheVariants as acts
 use Rattle.sharc_tree.specs.declared.event.Object.TheVariants as objects
 use Rattle.sharc_ctype.specs.Resolved.{Resolution}
-use Rattle.sharc_cond.specs.{Laws.WaitersLaws, Waiters.{waits_in, lowest_of, without_lowest}}
+use Rattle.sharc_locks.specs.{Laws.WaitersLaws, Waiters.{waits_in, lowest_of, without_lowest}}
 use Rattle.sharc_code.specs.{declared.code.Code.Code, declared.instr.Cell.Cell, declared.instr.Instr.Instr, declared.shape.Shape.Shape, declared.state.Stage.Stage, declared.state.Stage.TheVariants.{Withdraws, WithdrawsFrom, Leaves, Wakes}, Laws.RunLaws, Layout.Fits, Machine.{Machine, instr_at, word, act, exit, withdraws, withdrew, signal, at_stage, step_of}, Opening.opening_words, Path.{turn, after, asked_by}, Runs.{Turn, Global, IsRun, MayTurn, after_turn, put, state_now, result_of, opening_of}, Says.{said, cell_at, speaks_of, nobody, in_signal, event_at}, Whole.{one_thread, bounds, place_after}}
 use Rattle.sharc_code.specs.declared.instr.Instr.TheVariants as instrs
-use Rattle.sharc_gen.specs.{Consistent.said_now, OfRuns.table_of}
+use Rattle.sharc_compile.specs.{Consistent.said_now, OfRuns.table_of}
 use Rattle.sharc_meaning.specs.{Events.Stands, Obeys.History, Store.{MayCome, is_waiter}}
 use Rattle.sharc_invariant.specs.{Types.Targets, Labels.Labels, Typed.IsWellTyped, State.IsSmall, Laws.{Keeps, Begins as CodeBegins, CellsAreThere, PointersAreThere, AccessesAreAllowed, StateStands}}
 use Rattle.sharc_history_laws.specs.{History.history_of, Stores.{BeginsWith, is_about_waiters}, Waiters.WaitsFollow}

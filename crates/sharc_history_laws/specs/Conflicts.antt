@@ -1,8 +1,8 @@
 -- What the refused checks of accesses of checked runs of typed code show. Lists of turns have the last one first.
 use Rattle.std.specs.Prelude.{◌≡◌, ◌≢◌, ℕ, ◌⊎◌, Bool, true, false, List, [], ◌∷◌, ◌++◌, Option, Some, None, slice_index}
-use Rattle.sharc_shadow.specs.{declared.shadow_word.Kind.Kind, declared.shadow_word.Kind.TheVariants.Write}
-use Rattle.sharc_shadow.specs.{declared.access_table.Note.Note, Accesses.{note_of, site_at}}
-use Rattle.sharc_shadow.specs.ShadowWord.{stands, epoch_of}
+use Rattle.sharc_heap.specs.{declared.shadow_word.Kind.Kind, declared.shadow_word.Kind.TheVariants.Write}
+use Rattle.sharc_heap.specs.{declared.access_table.Note.Note, Accesses.{note_of, site_at}}
+use Rattle.sharc_heap.specs.ShadowWord.{stands, epoch_of}
 use Rattle.sharc_code.specs.{declared.code.Code.Code, declared.instr.Instr.Instr}
 use Rattle.sharc_code.specs.{declared.instr.Instr.TheVariants.{ChkRead, ChkWrite}, declared.shape.Shape.Shape}
 use Rattle.sharc_code.specs.{declared.state.ConflictAt.ConflictAt, declared.state.Stop.TheVariants.Conflict}

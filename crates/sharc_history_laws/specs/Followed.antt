@@ -2,7 +2,7 @@
 use Rattle.std.specs.Prelude.{◌≡◌, ℕ, ◌+◌, Bool, true, false, List, [], ◌∷◌, ◌++◌, Option, Some, None}
 use Rattle.sharc_tree.specs.{declared.event.CellAt.CellAt, declared.event.SourceEvent.SourceEvent}
 use Rattle.sharc_tree.specs.declared.event.CellMode.TheVariants as modes
-use Rattle.sharc_shadow.specs.declared.shadow_word.Kind.{Kind}
+use Rattle.sharc_heap.specs.declared.shadow_word.Kind.{Kind}
 use Rattle.sharc_code.specs.{declared.code.Code.Code, declared.code.PlaceMode.PlaceMode}
 use Rattle.sharc_code.specs.declared.code.PlaceMode.TheVariants.{Dynamic, LockedGlobal, LockedSibling, LockedThrough}
 use Rattle.sharc_code.specs.declared.code.PlaceMode.TheVariants.{LockedLoaded}

@@ -2,7 +2,7 @@
 use Rattle.std.specs.Prelude.{List, reverse}
 use Rattle.sharc_code.specs.{declared.code.Code.Code, declared.shape.Shape.Shape, Layout.Fits, Runs.Turn}
 use Rattle.sharc_code.specs.Whole.{CheckedRun, Erase}
-use Rattle.sharc_gen.specs.OfRuns.{told_in}
+use Rattle.sharc_compile.specs.OfRuns.{told_in}
 use Rattle.sharc_meaning.specs.Obeys.{History, Obeys, until_return}
 use Rattle.sharc_invariant.specs.{Types.Targets, Labels.Labels, Typed.IsWellTyped, State.IsSmall}
 

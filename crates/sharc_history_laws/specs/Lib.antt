@@ -1,3 +1,4 @@
+pub mod Told
 pub mod Awaits
 pub mod Causes
 pub mod Conflicts

@@ -2,7 +2,7 @@
 use Rattle.std.specs.Prelude.{ℕ, List}
 use Rattle.sharc_code.specs.{declared.code.Code.Code, declared.shape.Shape.Shape, Layout.Fits, Path.begun}
 use Rattle.sharc_code.specs.{Runs.{Turn, turns_of}, Whole.CheckedRun}
-use Rattle.sharc_gen.specs.{Consistent.IsConsistent, OfRuns.{founds_of, elements_before}}
+use Rattle.sharc_compile.specs.{Consistent.IsConsistent, OfRuns.{founds_of, elements_before}}
 use Rattle.sharc_invariant.specs.{Types.Targets, Labels.Labels, Typed.IsWellTyped, State.IsSmall}
 
 abbrev pub PathsAreConsistent : Type 0

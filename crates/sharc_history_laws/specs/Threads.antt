@@ -1,8 +1,8 @@
 -- Which threads were started, have ended or were stopped, by the source events of a checked run of typed code.
 use Rattle.std.specs.Prelude.{◌≡◌, ℕ, pos, true, false, List, Some}
 use Rattle.sharc_code.specs.{declared.code.Code.Code, declared.shape.Shape.Shape}
-use Rattle.sharc_code.specs.{declared.state.TurnState.TheVariants.Ended, declared.state.Stop.Stop, Layout.Fits, Path.may_go}
-use Rattle.sharc_code.specs.{Runs.Turn, Whole.{CheckedRun, place_after}}
+use Rattle.sharc_code.specs.{declared.state.TurnState.TheVariants.Ended, declared.state.Stop.Stop, Layout.Fits}
+use Rattle.sharc_code.specs.{Path.may_go, Runs.Turn, Whole.{CheckedRun, place_after}}
 use Rattle.sharc_meaning.specs.Store.{was_spawned, went}
 use Rattle.sharc_invariant.specs.{Types.Targets, Labels.Labels, Typed.IsWellTyped, State.IsSmall}
 use Rattle.sharc_history_laws.specs.History.{history_of}

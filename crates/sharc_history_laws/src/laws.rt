@@ -19,11 +19,11 @@ ghost use Rattle.sharc_history_laws.specs.Stuck.{AwaitedMayNotCome};
 ghost use Rattle.sharc_history_laws.specs.Threads.{RunsTellThreads};
 ghost use Rattle.sharc_history_laws.specs.Waiters.{EventsMayCome};
 
+use crate::words::states_law;
 use sharc_code::{run_laws, standing_laws};
-use sharc_code_laws::states_law;
-use sharc_cond::waiters_laws;
+use sharc_heap::shadow_laws;
 use sharc_invariant::laws::{begins, cells_are_there, keeps, runs_bits, runs_report, state_stands};
-use sharc_shadow::shadow_laws;
+use sharc_locks::waiters_laws;
 
 /// The path of each thread of each checked run of typed code has consistent results: its references are numbers, Bounds
 /// answers the elements of its object, a New makes no object to which the thread has a reference, and no other thread

@@ -1,9 +1,8 @@
 -- The least assignment, from what is settled, why positions are roots and what is found.
 use Rattle.std.proofs.{Common.{◌≡◌, ℕ, ◌<◌, ◌≤◌, true, List, Option, Some, None, length, refl, ap, sym, ◌∙◌, subst, inl, inr, arith}, lemmas.Bool.{cases_lt, false≢true}, lemmas.List.{get_or_default, get_or_past}}
 use Rattle.std.specs.Prelude.{slice_index_or}
-use Rattle.sharc_graph.specs.{declared.graph.NodeFinding.NodeFinding, declared.graph.NodeFinding.TheVariants.{Apart, Source, Behind}, Findings.finding_at}
-use Rattle.sharc_constraints.specs.{declared.place.PositionKind.PositionKind, Flow.{flow_of, place_at, is_unwritten, is_source, IsUnwritten, IsSource, IsInferred, AreInferred}}
-use Rattle.sharc_constraints.specs.declared.place.PositionKind.TheVariants as place
+use Rattle.sharc_graph.specs.{declared.graph.NodeFinding.NodeFinding, declared.graph.NodeFinding.TheVariants.{Apart, Source, Behind}, Findings.finding_at, declared.place.PositionKind.PositionKind, Flow.{flow_of, place_at, is_unwritten, is_source, IsUnwritten, IsOrigin, IsInferred, AreInferred}}
+use Rattle.sharc_graph.specs.declared.place.PositionKind.TheVariants as place
 use Rattle.sharc_tree.specs.{declared.ctype.Mode.Mode, declared.ctype.Mode.TheVariants.Private}
 use Rattle.sharc_ctype.specs.{Entities.entities_in, Resolved.Resolution}
 use Rattle.sharc_mode.specs.{declared.position.Reason.Reason, declared.position.Reason.TheVariants.{Touched, Spawned, From}, Flows.{IsRoot, IsRootReason, IsPlaceFor, ArePlaces, IsReasonFor, IsLeastAssignment, mode_found, links_of}, Moded.position_count, Settled.{settled_in, settled_at}}
@@ -89,7 +88,7 @@ module _ (r : Resolution) (a : Reaching) (are : AreReached r a) (settled : List 
       by_source : (p : ℕ) → p < position_count r → settled_at r p ≡ None → finding_at findings p ≡ Source → IsRootReason r p (root_of roots p)
       by_source p inside none is =
           let free : IsUnwritten (flow_of places (links_of r)) p = ap is_unwritten (place_is p inside) ∙ unwritten_place (settled_at r p) (root_of roots p) none in
-          let source : IsSource (flow_of places (links_of r)) p = subst (IsInferred (flow_of places (links_of r)) p) is (inferred.each p free) in
+          let source : IsOrigin (flow_of places (links_of r)) p = subst (IsInferred (flow_of places (links_of r)) p) is (inferred.each p free) in
           source_reason r p (settled_at r p) (root_of roots p) none (sym (ap is_source (place_is p inside)) ∙ source) (sound p)
 
       pub least : IsLeastAssignment (record { typed = r; modes = modes; reasons = reasons })

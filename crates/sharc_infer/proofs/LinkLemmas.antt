@@ -1,6 +1,6 @@
 -- The links of what follows other things.
 use Rattle.std.proofs.{Common.{◌≡◌, ℕ, zero, suc, ◌+◌, ◌<◌, ◌≤◌, min, map, length, drop, get_or, arith, Some, inl, inr, List, [], ◌∷◌, ◌++◌, Result, OnOk, refl, ap, sym, ◌∙◌, subst, append_assoc}, lemmas.Grind.flat_map-append, lemmas.Bool.cases_lt, lemmas.List.{drop_all, append-nil, get_or-map, length-map}}
-use Rattle.sharc_constraints.specs.declared.place.Link.{Link}
+use Rattle.sharc_graph.specs.declared.place.Link.{Link}
 use Rattle.sharc_tree.specs.{declared.tree.declaration.Declaration.Declaration, declared.tree.expression.Expr.Expr, Tree.{Expression, no_arguments, argument, value}, View.view_arguments}
 use Rattle.sharc_ctype.specs.{Resolved.Resolution, Entities.{numbered_from, positions_of, positions_in}, Transfers.{Transfer, variable, gives, passed}, declared.entity.Entity.Entity, declared.entity.Numbered.Numbered}
 use Rattle.sharc_mode.specs.{Flows.{cast_links, equal_rows}, Rows.{written, declared_row, row_at}}

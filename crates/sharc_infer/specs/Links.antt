@@ -1,6 +1,6 @@
 -- The links of what is given, with the token of the function whose result is meant.
 use Rattle.std.specs.{Prelude.{ℕ, List, Option, Some}, List.flat_map}
-use Rattle.sharc_constraints.specs.declared.place.Link.{Link}
+use Rattle.sharc_graph.specs.declared.place.Link.{Link}
 use Rattle.sharc_tree.specs.Tree.{Expression}
 use Rattle.sharc_ctype.specs.{Resolved.Resolution, Transfers.{Receiver, lvalue, variable, result, Transfer}}
 use Rattle.sharc_mode.specs.{Flows.{equal_rows, source_row, cast_links}, Rows.{Targets, written, declared_row, row_at}}

@@ -3,8 +3,8 @@ use Rattle.std.specs.Prelude.{◌≡◌, ℕ, ◌<◌, List, length, slice_index
 use Rattle.sharc_tree.specs.{declared.ctype.Mode.Mode, declared.ctype.Mode.TheVariants.Private}
 use Rattle.sharc_graph.specs.declared.graph.NodeFinding.{NodeFinding}
 use Rattle.sharc_graph.specs.{declared.graph.NodeFinding.TheVariants.{Apart, Source, Behind}, Findings.finding_at}
-use Rattle.sharc_constraints.specs.{declared.place.PositionKind.PositionKind, Flow.place_at}
-use Rattle.sharc_constraints.specs.declared.place.PositionKind.TheVariants as place
+use Rattle.sharc_graph.specs.{declared.place.PositionKind.PositionKind, Flow.place_at}
+use Rattle.sharc_graph.specs.declared.place.PositionKind.TheVariants as place
 use Rattle.sharc_mode.specs.{declared.position.Reason.Reason, declared.position.Reason.TheVariants.From}
 use Rattle.sharc_mode.specs.Flows.{written_place, mode_found}
 

@@ -21,7 +21,11 @@ fn inferred_mode(finding: NodeFinding) -> Mode
 }
 
 /// The mode of a position of which this is settled.
-fn mode_found(alloc: Global, settled: &Option<Mode>, finding: NodeFinding) -> Result<Mode, AllocError>
+fn mode_found(
+    alloc: Global,
+    settled: &Option<Mode>,
+    finding: NodeFinding,
+) -> Result<Mode, AllocError>
     ensures { IfOk result (λ m. m ≡ mode_found settled.now finding) }
 {
     match settled {

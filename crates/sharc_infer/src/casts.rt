@@ -8,8 +8,8 @@ ghost use Rattle.sharc_tree.specs.View.{view_first, view_head, view_stmt, view_s
 ghost use Rattle.sharc_infer.specs.Links.{casts_in};
 
 use crate::links::equate_cast;
-use sharc_constraints::Link;
 use sharc_ctype::typed::Typed;
+use sharc_graph::Link;
 use sharc_tree::tree::{Expr, ForFirst, ForHead, Local, Right, Simple, Stmt};
 use std::alloc::AllocError;
 

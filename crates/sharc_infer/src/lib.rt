@@ -2,7 +2,7 @@
 //!
 //! The layer above may use `infer`. What is answered is the least assignment (`IsLeastAssignment` of
 //! sharc_mode/specs/Flows.antt). Roots, settled modes and links of a program are listed, each by one pass, and
-//! sharc_constraints finds which positions a path of links leads to. The time is linear in the program and its
+//! sharc_graph finds which positions a path of links leads to. The time is linear in the program and its
 //! positions, links among them.
 #![tactic(auto)]
 

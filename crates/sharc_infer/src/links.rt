@@ -9,9 +9,9 @@ ghost use Rattle.sharc_mode.specs.Rows.{behind, cast_row, row_at};
 ghost use Rattle.sharc_mode.specs.View.{view_rows, EndsWithin};
 
 use crate::{casts, transfers};
-use sharc_constraints::{Link, lead_down, make_equal};
 use sharc_ctype::entity::Numbered;
 use sharc_ctype::typed::Typed;
+use sharc_graph::{Link, lead_down, make_equal};
 use sharc_mode::row::{Targets, behind, cast_row, row_of};
 use sharc_tree::token::Span;
 use sharc_tree::tree::{Expr, FunctionDefinition, Item, Right};

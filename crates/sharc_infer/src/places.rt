@@ -4,7 +4,7 @@ ghost use Rattle.std.specs.Prelude.{◌≡◌, length, IfOk};
 ghost use Rattle.sharc_mode.specs.Flows.{written_place};
 ghost use Rattle.sharc_infer.specs.Positions.{place_of, ArePlacesOf};
 
-use sharc_constraints::PositionKind;
+use sharc_graph::PositionKind;
 use sharc_mode::position::Reason;
 use sharc_tree::ctype::Mode;
 use std::alloc::{AllocError, Global};

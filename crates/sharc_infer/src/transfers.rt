@@ -14,8 +14,8 @@ ghost use Rattle.sharc_mode.specs.View.{view_rows, EndsWithin};
 ghost use Rattle.sharc_infer.specs.Links.{given};
 
 use crate::links::{equate, source_row};
-use sharc_constraints::Link;
 use sharc_ctype::typed::{Typed, parameters_named};
+use sharc_graph::Link;
 use sharc_mode::row::{PathReading, declared_row, row_of};
 use sharc_tree::tree::{
     Declaration, Expr, ForFirst, ForHead, Local, Right, Simple, Stmt, WrittenType,
@@ -194,7 +194,11 @@ fn local(
     match &local.initial {
         None => Ok(()),
         Some(value) => {
-            let row = declared_row(typed, PathReading::Written, local.declaration.name.site.token);
+            let row = declared_row(
+                typed,
+                PathReading::Written,
+                local.declaration.name.site.token,
+            );
             equate(typed, Some(row), source_row(typed, value), links)?;
             right(value, function, typed, links)
         }

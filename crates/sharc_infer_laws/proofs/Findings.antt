@@ -1,20 +1,19 @@
 -- What is found of a position is one.
 use Rattle.std.proofs.Common.{◌≡◌, ℕ, [], refl, ap, sym, ◌∙◌, subst, arith}
-use Rattle.sharc_graph.specs.{declared.graph.NodeFinding.NodeFinding, declared.graph.NodeFinding.TheVariants.{Apart, Source, Behind}}
-use Rattle.sharc_constraints.specs.Flow.{Flow, IsSource, LeadsTo, IsRank, IsRankFor, IsReason, IsInferred}
+use Rattle.sharc_graph.specs.{declared.graph.NodeFinding.NodeFinding, declared.graph.NodeFinding.TheVariants.{Apart, Source, Behind}, Flow.{Flow, IsOrigin, FlowsTo, IsInferredRank, IsRankFor, IsInferredReason, IsInferred}}
 
 module _ (f : Flow) where
   -- a source leads to itself
-  itself : (p : ℕ) → IsSource f p → LeadsTo f p [] p
+  itself : (p : ℕ) → IsOrigin f p → FlowsTo f p [] p
   itself p source = record { begins = source; follow = tt; ends = refl }
 
-  no_source : (p rank reason : ℕ) → IsSource f p → IsRank f p rank → IsReason f p rank reason → ⊥
+  no_source : (p rank reason : ℕ) → IsOrigin f p → IsInferredRank f p rank → IsInferredReason f p rank reason → ⊥
   no_source p rank reason source is why =
       let low = is.least p [] (itself p source) in
       let one = why.one_below in
       omega (arith, low, one)
 
-  one_rank : (p x y : ℕ) → IsRank f p x → IsRank f p y → x ≡ y
+  one_rank : (p x y : ℕ) → IsInferredRank f p x → IsInferredRank f p y → x ≡ y
   one_rank p x y a b =
       let low = a.least b.first b.rest b.path in
       let high = b.least a.first a.rest a.path in
@@ -22,7 +21,7 @@ module _ (f : Flow) where
       let right = b.edges in
       omega (arith, low, high, left, right)
 
-  one_reason : (p rank x y : ℕ) → IsReason f p rank x → IsReason f p rank y → x ≡ y
+  one_reason : (p rank x y : ℕ) → IsInferredReason f p rank x → IsInferredReason f p rank y → x ≡ y
   one_reason p rank x y a b =
       let i = a.one_below in
       let j = b.one_below in
@@ -42,5 +41,5 @@ module _ (f : Flow) where
   one_finding p (Behind rank reason) Source l r = absurd (no_source p rank reason r l.0 l.1)
   one_finding p (Behind x s) (Behind y t) l r =
       let same = one_rank p x y l.0 r.0 in
-      let why = one_reason p y s t (subst (λ (n : ℕ). IsReason f p n s) same l.1) r.1 in
+      let why = one_reason p y s t (subst (λ (n : ℕ). IsInferredReason f p n s) same l.1) r.1 in
       ap (λ (n : ℕ). Behind n s) same ∙ ap (λ (n : ℕ). Behind y n) why

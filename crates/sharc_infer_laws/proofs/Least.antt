@@ -1,9 +1,8 @@
 -- The least assignment of a program is one.
 use Rattle.std.proofs.Common.{◌≡◌, ℕ, ◌<◌, true, List, Option, Some, None, refl, ap, sym, ◌∙◌, subst, ext_get_or}
 use Rattle.sharc_tree.specs.{declared.ctype.Mode.Mode, declared.ctype.Mode.TheVariants.Private}
-use Rattle.sharc_graph.specs.{declared.graph.NodeFinding.NodeFinding, declared.graph.NodeFinding.TheVariants.{Apart, Source, Behind}, Findings.finding_at}
-use Rattle.sharc_constraints.specs.{declared.place.PositionKind.PositionKind, Flow.{flow_of, place_at, is_unwritten, AreInferred}}
-use Rattle.sharc_constraints.specs.declared.place.PositionKind.TheVariants as place
+use Rattle.sharc_graph.specs.{declared.graph.NodeFinding.NodeFinding, declared.graph.NodeFinding.TheVariants.{Apart, Source, Behind}, Findings.finding_at, declared.place.PositionKind.PositionKind, Flow.{flow_of, place_at, is_unwritten, AreInferred}}
+use Rattle.sharc_graph.specs.declared.place.PositionKind.TheVariants as place
 use Rattle.sharc_ctype.specs.Resolved.{Resolution}
 use Rattle.sharc_mode.specs.{declared.position.Reason.Reason, declared.position.Reason.TheVariants.{Touched, Spawned, From}, Flows.{IsUnsettledPlace, IsPlaceFor, ArePlaces, links_of, inferred_mode, mode_found, IsRootReason, IsReasonBy, IsReasonFor, IsLeastAssignment}, Moded.{Assignment, position_count, reason_at}, Settled.settled_at}
 use Rattle.sharc_infer_laws.specs.Laws.{FindingsAreOne, IsOneRoot}

@@ -2,7 +2,7 @@
 use Rattle.std.specs.Prelude.{◌≡◌, ℕ, List}
 use Rattle.sharc_tree.specs.{Low.IsLow, Placed.IsPlaced}
 use Rattle.sharc_graph.specs.{declared.graph.NodeFinding.NodeFinding, Findings.finding_at}
-use Rattle.sharc_constraints.specs.Flow.{Flow, IsUnwritten, AreInferred}
+use Rattle.sharc_graph.specs.Flow.{Flow, IsUnwritten, AreInferred}
 use Rattle.sharc_ctype.specs.Resolved.{Resolution, IsResolved}
 use Rattle.sharc_mode.specs.{Flows.{IsTouchedIn, IsPassedTo, IsLeastAssignment}, Moded.Assignment}
 

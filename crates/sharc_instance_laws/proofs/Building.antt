@@ -5,13 +5,10 @@ use denote.RawPtr.{null_ptr}
 use Rattle.sharc_ctype.specs.Resolved.{functions_in, globals_in}
 use Rattle.sharc_mode.specs.Moded.{Assignment}
 use Rattle.sharc_code.specs.{declared.code.Code.Code, declared.code.Function.{Function as Row}, declared.code.GlobalCells.GlobalCells}
-use Rattle.sharc_flat_form.specs.{declared.flat.Flat.{Flat as FlatCode}, declared.op.Op.Op, Made.flat_of}
-use Rattle.sharc_flat.specs.{Flattened.flattened, Flattens.{Flattens, IsMainOf, names_of}, Laws.FitsMade, Tables.{globals_of, all_granules, all_first_words, layouts_of, pointers_of}}
-use Rattle.sharc_guard.specs.{Guard.guarded, Known.dropped}
-use Rattle.sharc_guarded_form.specs.{declared.guarded.Guarded.Guarded, Machine.Program}
-use Rattle.sharc_gen.specs.Generated.{generated}
-use Rattle.sharc_compile.specs.Made.{IsCodeOf}
-use Rattle.sharc_sound.specs.Compiled.{IsCompiled}
+use Rattle.sharc_flat.specs.{declared.flat.Flat.{Flat as FlatCode}, declared.op.Op.Op, Made.flat_of, Flattened.flattened, Flattens.{Flattens, IsMainOf, names_of}, Laws.FitsMade, Tables.{globals_of, all_granules, all_first_words, layouts_of, pointers_of}}
+use Rattle.sharc_guard.specs.{Guard.guarded, Known.dropped, declared.guarded.Guarded.Guarded, Machine.Program}
+use Rattle.sharc_compile.specs.{Generated.generated, Made.IsCodeOf}
+use Rattle.sharc_front_end.specs.Compiled.{IsCompiled}
 use Rattle.sharc_instance_laws.proofs.Laying.{are_laid, are_named, behind_lines, behind_names, laid, named, names_behind}
 use Rattle.sharc_lemmas.proofs.Numbers.{lt_true as below, le_true as within}
 

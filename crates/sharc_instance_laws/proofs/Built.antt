@@ -3,10 +3,10 @@ use Rattle.std.proofs.Common.{◌≡◌, ℕ, zero, suc, ◌+◌, ◌*◌, ◌<�
 use Rattle.std.specs.Global.{Global}
 use lib.Count.{count_trailing_zeros}
 use Rattle.sharc_code.specs.{declared.code.Code.Code, declared.code.GlobalCells.GlobalCells, declared.shape.Shape.Shape, Laws.RunLaws, Layout.Fits, Ranges.{GlobalsFit, NumbersFit, end_place, first_place}, Runs.{Owns, Turn}, Whole.place_after, StandingLaws.NumbersAreOwn}
-use Rattle.sharc_granule.specs.Block.{block_of, doubled}
-use Rattle.sharc_mode_laws.specs.Laws.{RulesAreMet}
+use Rattle.sharc_heap.specs.Block.{block_of, doubled}
+use Rattle.sharc_check.specs.RuleLaws.{RulesAreMet}
 use Rattle.sharc_build.specs.{declared.building.Built.Built, Built.IsBuilt}
-use Rattle.sharc_flat_form.specs.Made.{flat_of}
+use Rattle.sharc_flat.specs.Made.{flat_of}
 use Rattle.sharc_instance_laws.specs.{Instances.{GetsStuck, IsObeying, ReportsAlone}, Sources.{locking_source, sharing_source}}
 use Rattle.sharc_instance_laws.proofs.{Alone.{alone, earlier_owns}, Building.AreSmall, Going.{ends, ends_alone, from, passes}, Locking.locking, Numbers.{fits_made, numbers_fit}, Sharing.sharing, Stopping.{has_reported, is_stuck, reported, stuck}, SharedFront.beyond}
 use Rattle.sharc_instance_laws.proofs.Asked as asked

@@ -1,15 +1,14 @@
 -- The locking source is that program, with its least modes.
 use Rattle.std.proofs.Common.{◌≡◌, ℕ, zero, suc, ◌<◌, [], ◌∷◌, refl, arith}
-use Rattle.sharc_graph.specs.{declared.graph.NodeFinding.TheVariants.Apart, Findings.finding_at}
-use Rattle.sharc_constraints.specs.declared.place.PositionKind.TheVariants as place
+use Rattle.sharc_graph.specs.{declared.graph.NodeFinding.TheVariants.Apart, Findings.finding_at, Flow.{IsInferred, IsUnwritten, flow_of, place_at}}
+use Rattle.sharc_graph.specs.declared.place.PositionKind.TheVariants as place
 use Rattle.sharc_lex.specs.{Grammar.reading, Words.keywords}
-use Rattle.sharc_grammar.specs.{Grammar.IsProgram, Limits.LowProgram, Places.Reads}
+use Rattle.sharc_parse.specs.{Grammar.IsProgram, Limits.LowProgram, Places.Reads}
 use Rattle.sharc_ctype.specs.Resolved.{IsResolved}
-use Rattle.sharc_constraints.specs.Flow.{IsInferred, IsUnwritten, flow_of, place_at}
 use Rattle.sharc_mode.specs.{Flows.{IsLeastAssignment, IsPlaceFor, IsReasonFor, links_of, mode_found}, Moded.reason_at, Settled.settled_at}
 use Rattle.sharc_tree.specs.declared.ctype.Mode.TheVariants.{Private}
 use Rattle.std.specs.Prelude.{Ok, slice_index_or}
-use Rattle.sharc_sound.specs.Front.{IsFront}
+use Rattle.sharc_front_end.specs.Front.{IsFront}
 use Rattle.sharc_instance_laws.specs.Sources.{locking_source}
 use Rattle.sharc_instance_laws.proofs.{Locking.{phrases, program, resolution, locking, modes, tokens}, SharedFront.beyond}
 use Rattle.sharc_lemmas.proofs.Bools.{no_cell as clash}

@@ -5,8 +5,7 @@ use Rattle.sharc_tree.specs.Tree.{Function}
 use Rattle.sharc_code.specs.{declared.code.Function.{Function as Row}, declared.code.GlobalCells.GlobalCells, declared.code.Text.Text}
 use Rattle.sharc_ctype.specs.Resolved.{Resolution}
 use Rattle.sharc_mode.specs.Moded.{Assignment}
-use Rattle.sharc_flat_form.specs.{declared.op.Op.Op, declared.op.Spot.Spot}
-use Rattle.sharc_flat.specs.{Flattened.{function_code, rows_of}, Flattens.names_of, Laid.{AreLaid, AreNamed, AreTextsIn, lies_at, lock_text_of, spot_in, with_texts, words_of}}
+use Rattle.sharc_flat.specs.{declared.op.Op.Op, declared.op.Spot.Spot, Flattened.{function_code, rows_of}, Flattens.names_of, Laid.{AreLaid, AreNamed, AreTextsIn, lies_at, lock_text_of, spot_in, with_texts, words_of}}
 
 -- ---- one text among others
 drops : (pre y : List ℕ) → drop (length pre) (pre ++ y) ≡ y

@@ -6,7 +6,7 @@ use Rattle.sharc_tree.specs.declared.token.Keyword.TheVariants as key
 use Rattle.sharc_tree.specs.declared.token.Punctuator.TheVariants as sign
 use Rattle.sharc_tree.specs.declared.token.TokenKind.TheVariants as kind
 use Rattle.sharc_tree.specs.declared.tree.expression.Constant.TheVariants as constants
-use Rattle.sharc_grammar.specs.{Grammar.{Sharing, locked, Typing, Declaring, of_spawn, of_value, of_place, Phrase, identifier, constant, enclosed, value, assign, invoke, does, Sentence, line, return, no_more, sentence, single, Part, global, function}, Places.{items_at, site_in}}
+use Rattle.sharc_parse.specs.{Grammar.{Sharing, locked, Typing, Declaring, of_spawn, of_value, of_place, Phrase, identifier, constant, enclosed, value, assign, invoke, does, Sentence, line, return, no_more, sentence, single, Part, global, function}, Places.{items_at, site_in}}
 use Rattle.sharc_names.specs.declared.fault.Named.{Named}
 use Rattle.sharc_names.specs.declared.fault.Named.TheVariants as named
 use Rattle.sharc_ctype.specs.Resolved.{Resolution}

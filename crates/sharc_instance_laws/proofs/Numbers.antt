@@ -2,9 +2,8 @@
 use Rattle.std.proofs.Common.{◌≡◌, ℕ, zero, suc, ◌+◌, ◌*◌, ◌^◌, ◌<◌, Bool, true, List, [], ◌∷◌, length, None, Some, refl, subst}
 use Rattle.std.specs.Prelude.{Option, nat_lt, nat_le, slice_get, slice_index, slice_index_or}
 use Rattle.sharc_code.specs.{declared.code.Code.Code, declared.instr.Instr.Instr, declared.instr.Instr.TheVariants.{GlobalBounds, Spawn, Exit}, declared.state.TheConstants.FRAMES, Path.{most_ints, most_refs}, Ranges.{GlobalsFit, NumbersFit}}
-use Rattle.sharc_flat_form.specs.{declared.op.Op.Op, Machine.Flat}
-use Rattle.sharc_flat_form.specs.declared.op.Op.TheVariants as op
-use Rattle.sharc_flat.specs.Laws.{FitsMade}
+use Rattle.sharc_flat.specs.{declared.op.Op.Op, Machine.Flat, Laws.FitsMade}
+use Rattle.sharc_flat.specs.declared.op.Op.TheVariants as op
 use Rattle.sharc_instance_laws.proofs.Testing.{all_pass}
 use Rattle.sharc_lemmas.proofs.{Bools.{and_left as left, and_right as right}, Numbers.{lt_true as below, le_true as within}}
 

@@ -2,7 +2,7 @@
 -- nothing is in flight.
 use Rattle.std.specs.{Prelude.{◌≡◌, ℕ, List, Some}, Global.Global}
 use Rattle.sharc_mode.specs.Moded.{Assignment}
-use Rattle.sharc_mode_laws.specs.Rules.{MeetsRules}
+use Rattle.sharc_check.specs.Rules.{MeetsRules}
 use Rattle.sharc_code.specs.{declared.shape.Shape.Shape, declared.state.Stop.TheVariants.NotSole, Layout.Fits}
 use Rattle.sharc_code.specs.{Machine.ref, Runs.Turn, Whole.{CheckedRun, Stuck, place_after}}
 use Rattle.sharc_meaning.specs.Obeys.{AlwaysObeys}

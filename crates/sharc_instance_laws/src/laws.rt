@@ -2,8 +2,8 @@
 
 ghost use Rattle.sharc_instance_laws.specs.Instances.{SomeAlwaysObey, SomeGetStuck, SomeReportAlone};
 
+use sharc_check::rule_laws::rules_are_met;
 use sharc_code::{run_laws, standing_laws};
-use sharc_mode_laws::laws::rules_are_met;
 
 /// A program with two threads and a lock always obeys.
 pub fn some_always_obey()

@@ -6,7 +6,7 @@ use Rattle.sharc_word.specs.declared.step.WordOp.TheVariants.{Load, Swap}
 use Rattle.sharc_code.specs.{declared.code.Code.Code, declared.instr.Cell.Cell, declared.instr.Width.Width, declared.instr.Width.TheVariants.{Char, Int, Long}, declared.instr.Instr.Instr, declared.shape.Shape.Shape, declared.state.At.At, declared.state.Frame.Frame, Arithmetic.{word_of, int_of, holds, value_bits}, Layout.{Fits, first_cell}, Machine.{Own as Own', Machine, next, Asks, step_of, instr_at, int, word, goes, accessed, set_int}, Path.{may_go, turn}, Runs.{Turn, Global, put, MayTurn, after_turn}, Whole.{one_thread, bounds}}
 use Rattle.sharc_code.specs.declared.instr.Cell.TheVariants as cells
 use Rattle.sharc_code.proofs.Places.{put_same, put_other}
-use Rattle.sharc_shadow.specs.Accesses.{ListsNoted}
+use Rattle.sharc_heap.specs.Accesses.{ListsNoted}
 use Rattle.sharc_locks.specs.declared.held_log.HeldMutex.{HeldMutex}
 use Rattle.sharc_invariant.specs.{Types.{Targets, Field, field_in, is_mutex, is_pointer}, Types.Content.Integer, Labels.{Within, Gate, Closed, Checked, Holds, Loaded, HoldsLoaded, Sole as SoleGate, Label, Labels, LessGate, Leads, gated, set_number}, Typed.{IsNotSole, IsWellTyped, HasCell, IsInt, Accesses as IsAccess}, World.{RegisterOf, Cell as CellOf, World, Window, Shut, Sole, Loaded as IsLoaded, WinOk, Right, base_of, in_ref, set_win}, Blocks.{Built, InBlock}, Words.{lang_of, conc_of, Shows, register_of, FitsContent, cell_at, is_ended, has_returned}, Turns.made_turn, Cells.IsThere, Effect.{Silent, Effect, Accesses}, State.{State, View, view_of, TopStands, FramesStand, GateStands, size_of_run, base_of_cell, object_of_cell, number_in}, Objects.changes_objects}
 use Rattle.sharc_invariant.proofs.{Effects.set_win_ok, Quiet.{KeepsOwn, KeepsWords, heap_now, quiet_state, noted_same, conc_plain, put_self}, Turns.{asks_turn, room_of}, Own.{is_single, int_inside, runs, rests, top, gate, fine, not_begun, begun_before, runs_at}, Frames.less_stands, Plain.{register_plain, going, same_words, number_top, vals_below, view_set}, Stores.{index_put, cell_store, stored_words, stored_within}, Seen.integer_stored, Cells.cell_there, CheckTurns.sim_win, Rights.right, Others.loses}

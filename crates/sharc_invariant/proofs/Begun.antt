@@ -1,7 +1,7 @@
 -- A thread that is begun and has made no turn stands at the first place.
 use Rattle.std.proofs.{Common.{◌≡◌, ℕ, pos, ◌+◌, ◌*◌, true, false, refl, sym, ap, ◌∙◌, subst, arith}, lemmas.List.length-replicate}
 use Rattle.std.specs.Prelude.{slice_index}
-use Rattle.sharc_shadow.specs.Notes.{blank}
+use Rattle.sharc_heap.specs.Notes.{blank}
 use Rattle.sharc_code.specs.{declared.state.TheConstants.FRAMES, declared.code.Code.Code, declared.shape.Shape.Shape, Layout.granules, Machine.{Machine, no_frame}, Path.{begun, may_go, most_refs, most_ints}, Runs.Global}
 use Rattle.sharc_invariant.specs.{Types.Targets, Labels.{Empty, Anything, Labels}, Typed.{IsWellTyped, refs_in, ints_in}, World.{World, RegisterOf, Shut, in_ref}, Blocks.Heap, State.{State, View, view_of, EntryStands, NumberStands, TopStands, FramesStand, GateStands, Runs, IsThread, ThreadStands, refs_at, types_at}}
 use Rattle.sharc_invariant.proofs.{Own.runs_at, Plain.register_plain, Opened.{nth_replicate, no_passes, no_note}}

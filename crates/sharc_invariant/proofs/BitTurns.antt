@@ -2,7 +2,7 @@
 use Rattle.std.proofs.{Common.{◌≡◌, ℕ, suc, ◌+◌, ◌*◌, ◌<◌, ◌⊎◌, ◌||◌, Bool, true, false, cond, List, [], ◌∷◌, refl, sym, ap, ◌∙◌, subst, inl, inr, ⊎_elim, arith}, lemmas.Bool.{cases_eq, cases_Bool, ltb-true, lt-ltb, true_from_ne_false}}
 use Rattle.std.specs.Prelude.{length, take, slice_index, slice_set, nat_lt, nat_eq, is_some, bit_or, ◌==◌, if◌then◌else◌}
 use Rattle.sharc_word.specs.{declared.step.TheConstants.THREADS, declared.step.WordOp.TheVariants.{Load, Swap, Or, Cas}, declared.step.WordStep.WordStep, History.MayFollow, Words.word_after}
-use Rattle.sharc_shadow.specs.{declared.shadow_word.Kind.Kind, declared.shadow_word.Kind.TheVariants.{Read, Write}, Accesses.{note_of, site_at}, ShadowWord.{epoch_of, is_of, is_written, stands, Withdraws as WithdrawsWord, AddsAccess}, Functions.{bits_of, cleared_of, withdrawn_of, conflicts_in, noted}, Laws.ShadowLaws}
+use Rattle.sharc_heap.specs.{declared.shadow_word.Kind.Kind, declared.shadow_word.Kind.TheVariants.{Read, Write}, Accesses.{note_of, site_at}, ShadowWord.{epoch_of, is_of, is_written, stands, Withdraws as WithdrawsWord, AddsAccess}, Functions.{bits_of, cleared_of, withdrawn_of, conflicts_in, noted}, ShadowLaws.ShadowLaws}
 use Rattle.sharc_code.specs.{declared.code.Code.Code, declared.instr.Instr.Instr, declared.instr.Instr.TheVariants.{ChkRead, ChkWrite, Clear, Free, New, Spawn, Exit}, declared.instr.Register.Register, declared.shape.Shape.Shape, declared.state.Stage.Stage, declared.state.Stage.TheVariants.{Rests, Clears, Makes, FreeClears, Names, Hands, Begins, Withdraws, WithdrawsFrom, Leaves}, declared.state.TurnState.{TurnState as PlaceState}, declared.state.TurnState.TheVariants.{Runs as RunsOn, Tries, Stopped, Ended}, declared.state.Stop.Stop, declared.state.Stop.TheVariants.Conflict, Layout.{Fits, granules, granule_at, granule_of, first_shadow, first_cell, shadow_word, state_word}, Machine.{Machine, Own, Turn as StepTurn, Local, Asks, step_of, act, instr_at, place, ref, at_stage, ends, stopped, with_own, with_note, wrote, checked, check, clear, looks, free, free_looks, layout_at, data_granule, exit, withdraws, withdrew, row_of, without_own}, Path.{may_go, turn, asked_by}, Runs.{Turn, Global, put, at, MayTurn, IsRun, Answered, after_turn, result_of}, Whole.{one_thread, bounds}}
 use Rattle.sharc_code.proofs.Places.{put_same, put_other, put_all}
 use Rattle.sharc_invariant.specs.{Bits.{Touch, Untouched, CheckOf, ClearOf, WithdrawOf, Marks, no_marks, with_check, without_thread, cleared_by, freed_by, withdrawn_by, touch_of, marks_by, marks_now, marks_after, BitsStand, AllBitsStand}, Granules.Passed, Types.Targets, Labels.Labels, Typed.IsWellTyped, World.World, Blocks.Heap, Words.{shadow_at, is_ended, is_withdrawing, has_withdrawn, note_number, noted_by}, Opened.first_place, Turns.made_turn, State.{State, IsSmall, StageStands, OnNew, OnSpawn, OnExit}, Laws.{RunsFromTheBeginning, RunsBits}}
@@ -76,7 +76,7 @@ no_exit P Exit n h = n
 no_exit P _ n h = h
 
 fit_of : (code : Code) (s : Shape) (elements : ℕ → ℕ) (w : World) (heap : Heap) (words : List ℕ) (t : ℕ) (m : Machine) (i : Instr) (y : Stage) → IsNoExit i → StageStands code s elements w heap words t m i y → IsFit s y
-fit_of code s elements w heap words t m i (Makes v) n h = from_new _ (v.arguments.first ≡ first_cell s) i (λ r count cells k. ap (λ (a : Rattle.sharc_granule.specs.declared.arguments.NewArguments.NewArguments). a.first) k.0) h
+fit_of code s elements w heap words t m i (Makes v) n h = from_new _ (v.arguments.first ≡ first_cell s) i (λ r count cells k. ap (λ (a : Rattle.sharc_heap.specs.declared.arguments.NewArguments.NewArguments). a.first) k.0) h
 fit_of code s elements w heap words t m i (Names k) n h = from_spawn _ (k < THREADS) i (λ f from z. z.few) h
 fit_of code s elements w heap words t m i (Hands k) n h = from_spawn _ (k < THREADS) i (λ f from z. z.0.few) h
 fit_of code s elements w heap words t m i (Begins k) n h = from_spawn _ (k < THREADS) i (λ f from z. z.0.few) h

@@ -3,7 +3,7 @@ use Rattle.std.proofs.{Common.{◌≡◌, ℕ, zero, suc, ◌+◌, ◌^◌, ◌<
 use mathlib.Core.Path.{fun_ext}
 use Rattle.std.specs.Prelude.{length, slice_index, slice_set, ◌==◌}
 use Rattle.sharc_word.specs.declared.step.TheConstants.{THREADS}
-use Rattle.sharc_shadow.specs.{Accesses.note_of, ShadowWord.epoch_of, declared.shadow_word.Kind.Kind, declared.shadow_word.Kind.TheVariants.{Read, Write}}
+use Rattle.sharc_heap.specs.{Accesses.note_of, ShadowWord.epoch_of, declared.shadow_word.Kind.Kind, declared.shadow_word.Kind.TheVariants.{Read, Write}}
 use Rattle.sharc_code.specs.{declared.code.Code.Code, declared.shape.Shape.Shape, declared.state.TurnState.{TurnState as StateOf}, declared.state.TurnState.TheVariants.{Runs as RunsOn, Tries, Stopped, Ended}, declared.state.Stop.Stop, declared.state.Stage.Stage, declared.state.Stage.TheVariants.{Rests, Makes, Lowers, Links, Names, Hands, Begins, Withdraws, WithdrawsFrom, Leaves}, Layout.{Fits as FitsShape, granules, top_word}, Machine.{Machine, instr_at}, Path.{may_go, counted}, Runs.{Turn, Global, put, MayTurn}, Whole.{one_thread, bounds}}
 use Rattle.sharc_code.specs.declared.instr.Instr.TheVariants as instrs
 use Rattle.sharc_code.proofs.Places.{put_other, put_all}

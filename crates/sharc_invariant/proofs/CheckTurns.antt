@@ -3,7 +3,7 @@ use Rattle.std.proofs.{Common.{◌≡◌, ℕ, ℤ, suc, ◌+◌, ◌*◌, ◌/�
 use mathlib.Core.Path.{fun_ext}
 use Rattle.std.specs.Prelude.{length, slice_index, slice_set, nat_lt, bit_or, is_some, if◌then◌else◌}
 use Rattle.sharc_word.specs.{declared.step.TheConstants.THREADS, declared.step.WordOp.TheVariants.Or}
-use Rattle.sharc_shadow.specs.{declared.shadow_word.Kind.Kind, declared.shadow_word.Kind.TheVariants.{Read, Write}, Accesses.{Accesses, note_of, site_at}, ShadowWord.{epoch_of, is_write}, Functions.{bits_of, conflicts_in, noted}, Laws.ShadowLaws}
+use Rattle.sharc_heap.specs.{declared.shadow_word.Kind.Kind, declared.shadow_word.Kind.TheVariants.{Read, Write}, Accesses.{Accesses, note_of, site_at}, ShadowWord.{epoch_of, is_write}, Functions.{bits_of, conflicts_in, noted}, ShadowLaws.ShadowLaws}
 use Rattle.sharc_code.specs.{declared.code.Code.Code, declared.instr.Cell.Cell, declared.instr.Instr.Instr, declared.shape.Shape.Shape, declared.state.Stage.TheVariants.Rests, declared.state.Stop.TheVariants.Conflict, Layout.{Fits, granules, granule_at, granule_of}, Machine.{Own as Own', Machine, Asks, instr_at, place, check, checked, wrote, with_note, with_own, stopped, step_of}, Path.{may_go, turn}, Runs.{Turn, Global, put, MayTurn, after_turn}, Whole.{one_thread, bounds}}
 use Rattle.sharc_code.proofs.Places.{put_same, put_other, put_all}
 use Rattle.sharc_invariant.specs.{Granules.{GranuleState, Passed, Clean, marked, passed}, Types.{Targets, Field, FieldMode, CellMode, mode_at, mode_in}, Labels.{Closed, Label, Labels}, Typed.{IsWellTyped, HasCell}, World.{TypedReference, RegisterOf, In, Slot, Cell as CellOf, World, Window, Shut, May, Sole, base_of, in_ref, put2, set_gran, set_win, WorldInvariant}, Words.{lang_of, MachineView, conc_of, Shows, register_of, noted_by, note_number, is_ended, has_withdrawn, Reads}, Turns.{made_turn, made_conc, KeepsOthers}, Cells.IsThere, State.{StopStands, Runs, State, size_of_run, base_of_cell, object_of_cell, number_in}}

@@ -1,7 +1,7 @@
 -- The checks of accesses keep the invariant.
 use Rattle.std.proofs.Common.{◌≡◌, ℕ, ℤ, suc, ◌+◌, ◌/◌, ◌<◌, ◌⊎◌, Bool, true, false, cond, List, ◌∷◌, Some, None, refl, sym, ap, ◌∙◌, subst, inl, inr, ⊎_elim}
 use Rattle.std.specs.Prelude.{length, slice_index, is_some}
-use Rattle.sharc_shadow.specs.{declared.shadow_word.Kind.Kind, Accesses.{Accesses, note_of, site_at}, ShadowWord.{epoch_of, is_write}, Functions.{conflicts_in, noted}, Laws.ShadowLaws}
+use Rattle.sharc_heap.specs.{declared.shadow_word.Kind.Kind, Accesses.{Accesses, note_of, site_at}, ShadowWord.{epoch_of, is_write}, Functions.{conflicts_in, noted}, ShadowLaws.ShadowLaws}
 use Rattle.sharc_code.specs.{declared.code.Code.Code, declared.instr.Cell.Cell, declared.instr.Instr.Instr, declared.shape.Shape.Shape, declared.state.Stage.TheVariants.Rests, Layout.{Fits, granule_of}, Machine.{Own as Own', Machine, instr_at, place, check, wrote, with_note, with_own, ref}, Path.turn, Runs.{Turn, Global, put, MayTurn}, Whole.{one_thread, bounds}}
 use Rattle.sharc_code.specs.declared.instr.Cell.TheVariants as cells
 use Rattle.sharc_code.proofs.Places.{put_same, put_other}

@@ -2,7 +2,7 @@
 use Rattle.std.proofs.{Common.{◌≡◌, ℕ, zero, suc, ◌<◌, ◌≢◌, ◌||◌, ◌&&◌, not, Bool, true, false, cond, List, [], ◌∷◌, Option, Some, None, refl, sym, ap, ◌∙◌, subst, inl, inr, ⊎_elim, arith, eqb-true}, lemmas.Bool.cases_eq, lemmas.Bool.Decides.nat_tests, lemmas.List.{get_or-set_same, get_or-set_other, length-set}, lemmas.List.Elements.{Contains-append_left, Contains-append_right, Contains-get_or}, lemmas.List.Quantifiers.all_pairs_push}
 use Rattle.std.specs.Prelude.{length, slice_index_or, slice_set, nat_eq, is_some, bit_or, ◌++◌, Contains, if◌then◌else◌}
 use Rattle.sharc_word.specs.declared.step.TheConstants.{THREADS}
-use Rattle.sharc_shadow.specs.{declared.shadow_word.Kind.Kind, declared.shadow_word.Kind.TheVariants.{Read, Write}, declared.access_table.Note.Note, declared.access_table.GranuleNotes.GranuleNotes, Notes.{blank, has_note, with_note, of_kind}, Accesses.{Accesses, ListsNoted, is_noted, note_of, site_at}, ShadowWord.{epoch_of, is_written, stands, is_write, is_of, HasOther}, Functions.{bits_of, conflicts_in, lowest_other, noted}, Laws.ShadowLaws}
+use Rattle.sharc_heap.specs.{declared.shadow_word.Kind.Kind, declared.shadow_word.Kind.TheVariants.{Read, Write}, declared.access_table.Note.Note, declared.access_table.GranuleNotes.GranuleNotes, Notes.{blank, has_note, with_note, of_kind}, Accesses.{Accesses, ListsNoted, is_noted, note_of, site_at}, ShadowWord.{epoch_of, is_written, stands, is_write, is_of, HasOther}, Functions.{bits_of, conflicts_in, lowest_other, noted}, ShadowLaws.ShadowLaws}
 use Rattle.sharc_code.specs.{Machine.{Own, Machine, wrote, with_note as with_note_of}, Runs.put}
 use Rattle.sharc_code.proofs.Places.{put_same, put_other, put_all}
 use Rattle.sharc_invariant.specs.{Granules.{GranuleState, Alone, Clean, marked, passed}, Words.{Reads, note_number}}

@@ -2,7 +2,7 @@
 use Rattle.std.proofs.{Common.{◌≡◌, ℕ, suc, ◌+◌, ◌<◌, ◌≢◌, ◌⊎◌, Bool, true, false, cond, refl, sym, ap, ◌∙◌, subst, inl, inr, ⊎_elim}, lemmas.Bool.{cases_Bool, eqb-true}}
 use Rattle.std.specs.Prelude.{slice_index, nat_eq, if◌then◌else◌}
 use Rattle.sharc_word.specs.declared.step.WordOp.TheVariants.{Or}
-use Rattle.sharc_shadow.specs.{declared.shadow_word.Kind.Kind, declared.shadow_word.Kind.TheVariants.{Read, Write}, ShadowWord.{epoch_of, is_of, is_written, stands, Conflicts}, Functions.{bits_of, conflicts_in}, Laws.ShadowLaws}
+use Rattle.sharc_heap.specs.{declared.shadow_word.Kind.Kind, declared.shadow_word.Kind.TheVariants.{Read, Write}, ShadowWord.{epoch_of, is_of, is_written, stands, Conflicts}, Functions.{bits_of, conflicts_in}, ShadowLaws.ShadowLaws}
 use Rattle.sharc_code.specs.{declared.code.Code.Code, declared.instr.Instr.Instr, declared.instr.Instr.TheVariants.{ChkRead, ChkWrite, Clear, Free, Exit}, declared.shape.Shape.Shape, declared.state.Stage.Stage, declared.state.Stage.TheVariants.{Clears, FreeClears, WithdrawsFrom}, declared.state.Stop.Stop, declared.state.Stop.TheVariants.Conflict, Layout.{granules, granule_at, granule_of, shadow_word}, Machine.{Machine, Own, step_of, act, instr_at, place, stopped, with_own, with_note, wrote, checked, check, row_of, ref}, Path.{may_go, turn}, Runs.{Turn, Global, at, MayTurn, after_turn, result_of}, Whole.{one_thread, bounds}}
 use Rattle.sharc_code.proofs.Places.{put_same}
 use Rattle.sharc_invariant.specs.{Bits.{Touch, Untouched, CheckOf, WithdrawOf, Marks, cleared_by, freed_by, withdrawn_by, touch_of, marks_after}, Reports.{CheckStands, RunsConflict, touch_at}, Granules.Passed, Types.Targets, Labels.Labels, World.World, Words.{shadow_at, is_withdrawing, noted_by}, Opened.first_place, State.State, Laws.RunsFromTheBeginning}

@@ -3,7 +3,7 @@ use Rattle.std.proofs.{Common.{◌≡◌, ℕ, ℤ, zero, suc, ◌+◌, ◌-◌,
 use mathlib.Core.Path.{fun_ext}
 use Rattle.std.specs.Prelude.{length, slice_index, slice_set, nat_lt, ◌==◌}
 use Rattle.sharc_word.specs.{declared.step.WordOp.TheVariants.{Add, Sub}, Words.word_after}
-use Rattle.sharc_count.specs.Count.{raise_of, lower_of}
+use Rattle.sharc_heap.specs.Count.{raise_of, lower_of}
 use Rattle.sharc_code.specs.{declared.code.Code.Code, declared.instr.Instr.Instr, declared.shape.Shape.Shape, Layout.{granules, granule_at, count_word}, Machine.{Machine, Local, Asks, instr_at, goes, set_ref, ref, raise, lower}, Path.turn, Runs.{Turn, Global, put, MayTurn, after_turn}, Whole.{one_thread, bounds}}
 use Rattle.sharc_code.specs.declared.instr.Instr.TheVariants as instrs
 use Rattle.sharc_code.proofs.Places.{put_same, put_other}

@@ -3,8 +3,7 @@ use Rattle.std.proofs.{Common.{◌≡◌, ℕ, zero, suc, ◌+◌, ◌-◌, ◌*
 use mathlib.Core.Path.{fun_ext}
 use Rattle.std.specs.Prelude.{length, slice_index, slice_set, nat_lt, min, ◌==◌}
 use Rattle.sharc_word.specs.{declared.step.TheConstants.THREADS, declared.step.WordOp.TheVariants.{Swap, Sub}, Words.word_after}
-use Rattle.sharc_shadow.specs.{Laws.ShadowLaws, ShadowWord.epoch_of}
-use Rattle.sharc_count.specs.Count.{lower_of}
+use Rattle.sharc_heap.specs.{ShadowLaws.ShadowLaws, ShadowWord.epoch_of, Count.lower_of}
 use Rattle.sharc_code.specs.{declared.code.Code.Code, declared.code.Layout.Layout, declared.shape.Shape.Shape, declared.state.Stage.Stage, declared.state.Stage.TheVariants.{Empties, Lowers, FreeLooks, Uncounts}, Layout.{Fits as FitsShape, granules, words_of, first_cell, cell_word, cell_of, count_word}, Machine.{Machine, step_of, instr_at, ref, at_stage, largest, empties, emptied, free, layout_at, fields, pointer_cell}, Path.counted, Runs.{Turn, Global, put, MayTurn, after_turn}, Whole.{one_thread, bounds}}
 use Rattle.sharc_code.specs.declared.instr.Instr.TheVariants as instrs
 use Rattle.sharc_code.proofs.Places.{put_other}

@@ -4,9 +4,8 @@ use Rattle.std.specs.Prelude.{pos, negsuc, length, slice_index_or, nat_lt, ◌==
 use Rattle.sharc_tree.specs.declared.trap.Trap.{Trap}
 use Rattle.sharc_tree.specs.declared.trap.Trap.TheVariants as traps
 use Rattle.sharc_word.specs.{declared.step.TheConstants.THREADS, declared.step.WordOp.TheVariants.Load}
-use Rattle.sharc_granule.specs.{State.{NewView, told, turn_of}, declared.stage.NewTurn.NewTurn, declared.stage.NewTurn.TheVariants.{Do, Made, HeapFull}}
-use Rattle.sharc_shadow.specs.{Accesses.{note_of, site_at}, Functions.{conflicts_in, noted}, ShadowWord.epoch_of, declared.shadow_word.Kind.Kind}
-use Rattle.sharc_cond.specs.Waiters.{waits_in}
+use Rattle.sharc_heap.specs.{State.{NewView, told, turn_of}, declared.stage.NewTurn.NewTurn, declared.stage.NewTurn.TheVariants.{Do, Made, HeapFull}, Accesses.{note_of, site_at}, Functions.{conflicts_in, noted}, ShadowWord.epoch_of, declared.shadow_word.Kind.Kind}
+use Rattle.sharc_locks.specs.Waiters.{waits_in}
 use Rattle.sharc_code.specs.{declared.code.Code.Code, declared.code.Layout.Layout, declared.code.Parameter.Parameter, declared.instr.Register.Register, declared.instr.Instr.Instr, declared.shape.Shape.Shape, declared.state.TurnState.TheVariants.{Runs as RunsOn}, declared.state.Stop.Stop, declared.state.Stage.Stage, declared.state.Stage.TheVariants.{Rests, Looks, Clears, Makes, Empties, Lowers, FreeLooks, FreeClears, Uncounts, Links, Names, Hands, Begins, Enters, Wakes}, Machine.{Machine, Local, Asks, act, goes, goes_to, at_stage, rests, fails, stopped, trapped, asserts, with_result, called, has_room, no_frame, back_to, holds_none, returned, indexed, wrote, with_note, checked, lock_checked, is_held, raise, lower, test, after_new, asks_new, new, looks, clear, free_looks, empties, emptied, free, spawn, joined, join, with_parameter, start, wakes, signal, with_own, set_int, set_ref, data_granules, function_of, new_state, step_of, layout_at, ref, int, word, accessed, move_ref, is_positive, is_of_null, elements_of}, Path.after, Layout.{state_word, cell_word, cell_of}, Arithmetic.{holds, is_zero}}
 use Rattle.sharc_code.specs.declared.code.Parameter.TheVariants as parameters
 use Rattle.sharc_code.specs.declared.instr.Instr.TheVariants as instrs

@@ -3,7 +3,7 @@ use Rattle.std.proofs.{Common.{◌≡◌, ℕ, zero, suc, ◌+◌, ◌*◌, ◌^
 use mathlib.Core.Path.{fun_ext}
 use Rattle.std.specs.Prelude.{length, slice_index, slice_set, take, nat_lt, nat_eq, ◌==◌}
 use Rattle.sharc_word.specs.{declared.step.TheConstants.THREADS, declared.step.WordOp.TheVariants.{Load, Swap, Cas}}
-use Rattle.sharc_shadow.specs.{Laws.ShadowLaws, Accesses.note_of, Functions.withdrawn_of, ShadowWord.epoch_of, declared.shadow_word.Kind.Kind, declared.shadow_word.Kind.TheVariants.{Read, Write}}
+use Rattle.sharc_heap.specs.{ShadowLaws.ShadowLaws, Accesses.note_of, Functions.withdrawn_of, ShadowWord.epoch_of, declared.shadow_word.Kind.Kind, declared.shadow_word.Kind.TheVariants.{Read, Write}}
 use Rattle.sharc_code.specs.{declared.code.Code.Code, declared.shape.Shape.Shape, declared.state.TurnState.{TurnState as StateOf}, declared.state.TurnState.TheVariants.{Runs as RunsOn, Tries, Stopped, Ended}, declared.state.Stage.Stage, declared.state.Stage.TheVariants.{Rests, Makes, Lowers, Links, Names, Hands, Begins, Withdraws, WithdrawsFrom, Leaves}, Arithmetic.int_of, Layout.{Fits as FitsShape, granules, granule_at, top_word, shadow_word, next_thread_word, state_word, function_word, argument_word}, Machine.{Machine, instr_at, function_of, step_of, at_stage, exit, withdraws, withdrew, row_of, without_own}, Path.{turn, may_go, counted}, Runs.{Turn, Global, put, MayTurn, after_turn, is_started}, Whole.{one_thread, bounds}}
 use Rattle.sharc_code.specs.declared.instr.Instr.TheVariants as instrs
 use Rattle.sharc_code.proofs.Places.{put_same, put_other, put_all}
@@ -482,7 +482,7 @@ module _ (x : Targets) (code : Code) (s : Shape) (ls : Labels) (wt : IsWellTyped
           let old = st.sim.shadows o j i.1.1.0 i.1.1.1 in
           let R : ℕ → GranuleState → Type 0 = λ p y. Reads v rn' wn' p y in
           let old' : Reads seen RN WN p (world.gran o j) = subst (λ n. Reads n RN WN p (world.gran o j)) there (subst (λ p. Reads (slice_index g.words (shadow_at s p)) RN WN p (world.gran o j)) (sym ep) old) in
-          let mine : Rattle.sharc_shadow.specs.ShadowWord.is_of (Rattle.sharc_code.specs.Machine.wrote m p seen) (epoch_of seen) ≡ nat_eq (WN t p) (suc (epoch_of seen)) = wrote_now m p seen ∙ ap (λ n. nat_eq n (suc (epoch_of seen))) (sym noted_p) in
+          let mine : Rattle.sharc_heap.specs.ShadowWord.is_of (Rattle.sharc_code.specs.Machine.wrote m p seen) (epoch_of seen) ≡ nat_eq (WN t p) (suc (epoch_of seen)) = wrote_now m p seen ∙ ap (λ n. nat_eq n (suc (epoch_of seen))) (sym noted_p) in
           let new' : Reads v rn' wn' p (withdrawn (world.gran o j) t) = subst (λ u. Reads (withdrawn_of seen u (Rattle.sharc_code.specs.Machine.wrote m p seen)) rn' wn' p (withdrawn (world.gran o j) t)) (sym number)
           (withdrawn_reads laws seen t p (Rattle.sharc_code.specs.Machine.wrote m p seen) RN WN (world.gran o j) seen_small on_t old' mine rn' wn' (at_p RN) (at_p WN)) in
           let sim1 = shadow_stored x s st.cells st.elements (conc_of code g) world st.sim st.apart o j v (withdrawn (world.gran o j) t) rn' wn' i.1.1.0 i.1.1.1 (subst (λ p. Reads v rn' wn' p (withdrawn (world.gran o j) t)) ep new')

@@ -3,7 +3,7 @@ use Rattle.std.proofs.{Common.{◌≡◌, ℕ, ℤ, pos, ◌+◌, ◌<◌, ◌�
 use mathlib.Core.Path.{fun_ext}
 use Rattle.std.specs.Prelude.{length, slice_index, slice_index_or, slice_set}
 use Rattle.sharc_code.specs.{declared.state.TheConstants.FRAMES, declared.code.Code.Code, declared.instr.Instr.Instr, declared.shape.Shape.Shape, declared.state.Frame.Frame, declared.state.Stage.TheVariants.Rests, Layout.first_cell, declared.state.At.At, Machine.{Own as Own', next, Machine, instr_at}, Path.{may_go, counted}, Runs.{Global, put}}
-use Rattle.sharc_shadow.specs.Accesses.{ListsNoted}
+use Rattle.sharc_heap.specs.Accesses.{ListsNoted}
 use Rattle.sharc_locks.specs.declared.held_log.HeldMutex.{HeldMutex}
 use Rattle.sharc_code.proofs.Places.{put_other, put_all}
 use Rattle.sharc_invariant.specs.{Granules.{GranuleState, Passed}, Types.{Targets, ObjectType}, Labels.{Closed, Label, Labels, Less, Leads}, Typed.{IsWellTyped, IsRef}, World.{TypedReference, Holder, RegisterOf, ArgumentOf, World, Window, Shut, Sole, In, Slot, Cell, in_ref, place, Free, Uses, WorldInvariant, By, put2}, Blocks.{Heap, Built, InBlock}, Words.{lang_of, conc_of, Shows, register_of, is_ended, set_reg}, Turns.{made_turn, made_conc, KeepsOthers}, State.{State, View, view_of, vals_of, BelowStands, TopStands, FramesStand, size_of_run}}

@@ -3,7 +3,7 @@ use Rattle.std.proofs.{Common.{◌≡◌, ℕ, suc, ◌+◌, ◌*◌, ◌<◌, �
 use mathlib.Core.Path.{fun_ext}
 use Rattle.std.specs.Prelude.{length, slice_index, slice_set, nat_lt, ◌==◌, min}
 use Rattle.sharc_word.specs.{declared.step.TheConstants.THREADS, declared.step.WordOp.TheVariants.{Load, Swap}}
-use Rattle.sharc_shadow.specs.{Laws.ShadowLaws, ShadowWord.epoch_of, Functions.cleared_of}
+use Rattle.sharc_heap.specs.{ShadowLaws.ShadowLaws, ShadowWord.epoch_of, Functions.cleared_of}
 use Rattle.sharc_code.specs.{declared.code.Code.Code, declared.shape.Shape.Shape, declared.state.Stage.Stage, declared.state.Stage.TheVariants.{Rests, Empties, FreeLooks, FreeClears, Uncounts}, Layout.{granules, granule_at, first_cell, length_word, shadow_word}, Machine.{Machine, step_of, instr_at, ref, data_granules, data_granule, at_stage, act, largest, free, free_looks, empties, layout_at, fields}, Path.{turn, counted}, Runs.{Turn, Global, put, MayTurn, after_turn}, Whole.{one_thread, bounds}, declared.code.Layout.Layout}
 use Rattle.sharc_code.specs.declared.instr.Instr.TheVariants as instrs
 use Rattle.sharc_code.proofs.Places.{put_all}

@@ -8,8 +8,7 @@ use Rattle.sharc_invariant.specs.{Types.{Targets, ObjectType, StaticType, type_a
 use Rattle.sharc_invariant.proofs.{Effects.{place_other, place_all, sole_at, place_same, give_ok}, Frames.{filled, fill_stands, empty_stands, type_kept, put_base}, Turns.{asks_turn, room_of}, Plain.{same_words, register_plain, next_runs}, CheckTurns.put_put, Scoped.scoped_empty, Loads.lang_laws, Quiet.heap_now, Changes.{KeepsPart, KeepsLow, lower, held_same, changed_state}, Walks.{IsWalk, conc_walked}, Clears.sum_more, Filled.{view_filled, below_filled}, Own.{begun_before, not_begun, fine, runs, rests, top, gate}, Recasts.{IsAlike, recast_types, recast_alike}, Others.loses, Owned.owned_is}
 use Rattle.sharc_word.specs.declared.step.TheConstants.{THREADS}
 use Rattle.sharc_locks.specs.HeldLog.{object_of}
-use Rattle.sharc_shadow.specs.ShadowWord.{epoch_of}
-use Rattle.sharc_count.specs.Count.{test_of}
+use Rattle.sharc_heap.specs.{ShadowWord.epoch_of, Count.test_of}
 
 module _ (x : Targets) (code : Code) (s : Shape) (ls : Labels) (wt : IsWellTyped x code ls) (fits : Fits code s) (g : Global Machine) (world : World) (st : State x code s ls g world) (tr : Turn)
     (may : MayTurn bounds (one_thread code s) g tr) (r site : ℕ) (is : instr_at code (g.threads tr.thread).at.pc ≡ instrs.Give r site) where

@@ -1,12 +1,11 @@
 -- Each turn keeps the invariant.
 use Rattle.std.proofs.Common.{◌≡◌, refl, ap, Bool, true, false, sym, ◌∙◌, subst}
-use Rattle.sharc_shadow.specs.{Laws.ShadowLaws, declared.shadow_word.Kind.TheVariants.{Read, Write}}
+use Rattle.sharc_heap.specs.{ShadowLaws.ShadowLaws, declared.shadow_word.Kind.TheVariants.{Read, Write}, NewLaws.NewLaws}
 use Rattle.sharc_code.specs.{declared.code.Code.Code, declared.instr.Instr.Instr, declared.shape.Shape.Shape, Layout.Fits, Machine.{Machine, instr_at, act}, Runs.{Turn, Global, MayTurn, result_of, after_turn}, Whole.{one_thread, bounds}, declared.state.Stage.Stage, declared.state.Stage.TheVariants.{Withdraws, WithdrawsFrom, Leaves}, Path.after}
 use Rattle.sharc_code.specs.declared.instr.Instr.TheVariants as instrs
 use Rattle.sharc_code.specs.declared.instr.Register.TheVariants as registers
 use Rattle.sharc_invariant.specs.{Types.{Targets, is_pointer}, Labels.Labels, Typed.IsWellTyped, World.World, State.{State, IsSmall, StageStands, OnExit}, Laws.{Turned, Followed, Keeps}, Words.{is_withdrawing, has_returned, lang_of}, Objects.{changes_objects, objects_now}}
 use Rattle.sharc_invariant.proofs.{Own.fine, Counts.{Raise_keeps, Lower_keeps}, Steps.{of_turn, Constant_keeps, Move_keeps, Negate_int_keeps, Negate_long_keeps, Not_keeps, Same_keeps, Width_keeps, Jump_keeps, Jump_zero_keeps, Jump_null_keeps, Null_check_keeps, Not_held_keeps, Positive_keeps, Room_keeps}, Held.{Held_keeps, Lock_check_keeps, Lock_check_loaded_keeps}, Checked.check_keeps, Loads.Raise_loaded_keeps, Swaps.{Exchange_keeps, Take_cell_keeps}, Sole.{Test_sole_keeps, Null_keeps}, Indexes.{Bounds_keeps, Global_bounds_keeps}, Waits.{Cond_enter_keeps, Join_keeps, Cond_wait_keeps, Cond_broadcast_keeps}, Moves.{Move_reference_keeps, Take_local_keeps}, Calls.Call_keeps, Returns.Return_keeps, Computes.{fits_now, Compute_int_keeps, Compute_long_keeps, Complement_keeps}, Locked.{Lock_keeps, Unlock_keeps}, Signals.Cond_signal_keeps, Prints.Print_keeps, Gives.Give_keeps, ClearTurns.Clear_keeps, Starts.Start_keeps, Spawns.{Spawn_number_keeps, Spawn_reference_keeps}, Accesses.{Load_keeps, Store_keeps, LoadRef_keeps}, Makings.New_keeps, Links.Free_keeps, Exits.Exit_follows, Ends.{is_exit, goes_on}, Owned.{effect_objects, behind_same}}
-use Rattle.sharc_granule.specs.Laws.{NewLaws}
 use Rattle.sharc_code.proofs.Places.{put_same}
 
 -- an instruction that may make, give or free an object

@@ -3,7 +3,7 @@ use Rattle.std.proofs.{Common.{◌≡◌, ℕ, suc, ◌+◌, ◌*◌, ◌^◌, �
 use mathlib.Core.Path.{fun_ext}
 use Rattle.std.specs.Prelude.{length, slice_index, slice_set, ◌==◌}
 use Rattle.sharc_word.specs.{declared.step.TheConstants.THREADS, declared.step.WordOp.TheVariants.Swap}
-use Rattle.sharc_shadow.specs.{Laws.ShadowLaws, Accesses.note_of, ShadowWord.epoch_of, declared.shadow_word.Kind.Kind, declared.shadow_word.Kind.TheVariants.{Read, Write}}
+use Rattle.sharc_heap.specs.{ShadowLaws.ShadowLaws, Accesses.note_of, ShadowWord.epoch_of, declared.shadow_word.Kind.Kind, declared.shadow_word.Kind.TheVariants.{Read, Write}}
 use Rattle.sharc_code.specs.{declared.code.Code.Code, declared.code.Layout.Layout, declared.instr.Instr.Instr, declared.shape.Shape.Shape, declared.state.Stage.Stage, declared.state.Stage.TheVariants.{Rests, Empties, Lowers, FreeLooks, FreeClears, Uncounts, Links}, declared.state.TurnState.TheVariants.{Runs as RunsOn, Tries, Stopped, Ended}, Layout.{Fits as FitsShape, granules, top_word, length_word}, Machine.{Machine, step_of, instr_at, ref, layout_at, size_of, free_size, free_head, freed as freed_machine}, Path.may_go, Runs.{Turn, Global, put, MayTurn, after_turn}, Whole.{one_thread, bounds}}
 use Rattle.sharc_code.specs.declared.instr.Instr.TheVariants as instrs
 use Rattle.sharc_code.proofs.Places.{put_same, put_other, put_all}
@@ -12,7 +12,7 @@ use Rattle.sharc_invariant.proofs.{Listed.{push_ok, put2_same, put2_other}, Quie
 use Rattle.sharc_lemmas.proofs.{Numbers.{ne_eq, eq_refl}, Lists.set_null}
 
 -- the size of the list is that of the block for the cells
-size_for : (all c : ℕ) → size_of (Rattle.sharc_granule.specs.Block.block_of (Rattle.sharc_code.specs.Machine.all_cells all c)) ≡ size_of (block_for (all * c))
+size_for : (all c : ℕ) → size_of (Rattle.sharc_heap.specs.Block.block_of (Rattle.sharc_code.specs.Machine.all_cells all c)) ≡ size_of (block_for (all * c))
 unfolding block_for
 size_for all c = refl
 

@@ -3,10 +3,9 @@ use Rattle.std.proofs.{Common.{◌≡◌, ℕ, suc, ◌+◌, ◌*◌, ◌^◌, �
 use mathlib.Core.Path.{fun_ext}
 use Rattle.std.specs.Prelude.{length, slice_index, slice_set, nat_lt, min, max, pos, ◌==◌, ◌↔◌, is_some, Contains}
 use Rattle.sharc_word.specs.{declared.step.TheConstants.THREADS, declared.step.WordOp.TheVariants.Swap}
-use Rattle.sharc_granule.specs.{Laws.NewLaws, State.{NewView, told}, Asks.{step_of, length_word}, declared.arguments.NewArguments.NewArguments}
-use Rattle.sharc_granule.specs.declared.stage.NewStage.TheVariants as news
+use Rattle.sharc_heap.specs.{NewLaws.NewLaws, State.{NewView, told}, Asks.{step_of, length_word}, declared.arguments.NewArguments.NewArguments, ShadowWord.epoch_of, declared.shadow_word.Kind.Kind, declared.shadow_word.Kind.TheVariants.{Read, Write}}
+use Rattle.sharc_heap.specs.declared.stage.NewStage.TheVariants as news
 use Rattle.sharc_locks.specs.HeldLog.{object_of}
-use Rattle.sharc_shadow.specs.{ShadowWord.epoch_of, declared.shadow_word.Kind.Kind, declared.shadow_word.Kind.TheVariants.{Read, Write}}
 use Rattle.sharc_code.specs.{declared.code.Code.Code, declared.shape.Shape.Shape, declared.state.TurnState.TheVariants.{Runs as RunsOn}, declared.state.Stage.TheVariants.{Rests, Makes}, Layout.{Fits as FitsShape, granules, top_word, first_cell}, Machine.{Machine, instr_at, int, elements_of, size_of, new_state, asks_new, goes_on_new, made as made_machine}, Path.turn, Runs.{Turn, Global, put, MayTurn, after_turn}, Whole.{one_thread, bounds}}
 use Rattle.sharc_code.specs.declared.instr.Instr.TheVariants as instrs
 use Rattle.sharc_code.proofs.Places.{put_same, put_other, put_all}
@@ -122,12 +121,12 @@ module _ (x : Targets) (code : Code) (s : Shape) (ls : Labels) (wt : IsWellTyped
 
   done : (after_turn bounds (one_thread code s) g tr ≡ made_turn g tr.thread words m') × (length_at s b < length g.words)
   done =
-      let act : turn code s m ≡ asks_new m r site v (Rattle.sharc_granule.specs.Stages.turn_of_stage a (news.Length b)) =
-      ap (λ i. Rattle.sharc_code.specs.Machine.act code s i m) is ∙ ap (Rattle.sharc_code.specs.Machine.new s m r E cells site) at_v ∙ ap (λ y. asks_new m r site v (Rattle.sharc_granule.specs.Stages.turn_of_stage a y)) at_b in
+      let act : turn code s m ≡ asks_new m r site v (Rattle.sharc_heap.specs.Stages.turn_of_stage a (news.Length b)) =
+      ap (λ i. Rattle.sharc_code.specs.Machine.act code s i m) is ∙ ap (Rattle.sharc_code.specs.Machine.new s m r E cells site) at_v ∙ ap (λ y. asks_new m r site v (Rattle.sharc_heap.specs.Stages.turn_of_stage a y)) at_b in
       let d = asks_turn code s g tr may (step_of (length_word a b) (Swap a.elements)) (λ found. goes_on_new m r site (told v found)) act in
       let found = slice_index g.words (length_word a b) in
       let told_is : told v found ≡ record { arguments = a; stage = news.Made b; head = v.head } =
-      ap (λ y. record { arguments = a; stage = Rattle.sharc_granule.specs.Stages.next_stage a y found; head = Rattle.sharc_granule.specs.Stages.next_head a y v.head found }) at_b in (
+      ap (λ y. record { arguments = a; stage = Rattle.sharc_heap.specs.Stages.next_stage a y found; head = Rattle.sharc_heap.specs.Stages.next_head a y v.head found }) at_b in (
         d.0 ∙ ap (λ v. made_turn g t (slice_set g.words (length_word a b) a.elements) (goes_on_new m r site v)) told_is
             ∙ ap (λ e. made_turn g t (slice_set g.words (length_word a b) e) m') given.elements_are ∙ ap (λ k. made_turn g t (slice_set g.words k E) m') word_is,
         subst (λ k. k < length g.words) word_is d.1,
@@ -530,7 +529,7 @@ module _ (x : Targets) (code : Code) (s : Shape) (ls : Labels) (wt : IsWellTyped
       mk : IsMaking (g.threads tr.thread).own.stage
       mk = subst IsMaking (sym e) tt
 
-      by_step : (y : Rattle.sharc_granule.specs.declared.stage.NewStage.NewStage) → v.stage ≡ y → BuildsAt g.words st.heap tr.thread v y → Done
+      by_step : (y : Rattle.sharc_heap.specs.declared.stage.NewStage.NewStage) → v.stage ≡ y → BuildsAt g.words st.heap tr.thread v y → Done
       by_step (news.Cell c) q b = plain (ap makes_object e ∙ ap is_length q) (clears_cell x code s ls wt fits laws g world st tr may r count cells site is mk v e h.0 c q b)
       by_step (news.Count c) q b = plain (ap makes_object e ∙ ap is_length q) (counts_one x code s ls wt fits laws g world st tr may r count cells site is mk v e h.0 c q b)
       by_step (news.Move top moved) q b = plain (ap makes_object e ∙ ap is_length q) (moves_top x code s ls wt fits laws g world st tr may r count cells site is mk v e h.0 top moved q b)

@@ -4,8 +4,8 @@ use mathlib.Core.Path.{fun_ext}
 use Rattle.std.specs.Prelude.{length, slice_index, slice_set, nat_lt, nat_le, nat_eq, ◌==◌}
 use Rattle.sharc_tree.specs.declared.trap.Trap.TheVariants as traps
 use Rattle.sharc_word.specs.{declared.step.TheConstants.THREADS, declared.step.WordOp.TheVariants.{Load, Swap, Cas}}
-use Rattle.sharc_granule.specs.{Laws.NewLaws, Block.block_of, State.{NewView, told, turn_of}, Stages.{turn_of_stage, next_stage, next_head, try_from, after_cell}, Asks.{word_number, granule_number, step_of, cell_word, count_word, length_word, top_word as top_number}, declared.arguments.NewArguments.NewArguments, declared.stage.NewTurn.TheVariants.Do, declared.stage.NewStage.{NewStage}}
-use Rattle.sharc_granule.specs.declared.stage.NewStage.TheVariants as news
+use Rattle.sharc_heap.specs.{NewLaws.NewLaws, Block.block_of, State.{NewView, told, turn_of}, Stages.{turn_of_stage, next_stage, next_head, try_from, after_cell}, Asks.{word_number, granule_number, step_of, cell_word, count_word, length_word, top_word as top_number}, declared.arguments.NewArguments.NewArguments, declared.stage.NewTurn.TheVariants.Do, declared.stage.NewStage.NewStage}
+use Rattle.sharc_heap.specs.declared.stage.NewStage.TheVariants as news
 use Rattle.sharc_code.specs.{declared.code.Code.Code, declared.shape.Shape.Shape, declared.state.TurnState.TheVariants.{Runs as RunsOn, Stopped}, declared.state.Stop.TheVariants.Trap, declared.state.Stage.Stage, declared.state.Stage.TheVariants.{Rests, Makes}, Layout.{Fits as FitsShape, granules, granule_at, top_word, first_cell}, Machine.{Machine, instr_at, int, elements_of, all_cells, size_of, new_state, new, asks_new, after_new, goes_on_new, at_stage, trapped}, Path.turn, Runs.{Turn, Global, put, MayTurn, after_turn}, Whole.{one_thread, bounds}}
 use Rattle.sharc_code.specs.declared.instr.Instr.TheVariants as instrs
 use Rattle.sharc_code.proofs.Places.{put_same, put_other, put_all}

@@ -2,7 +2,7 @@
 use Rattle.std.proofs.{Common.{◌≡◌, ℕ, pos, ◌+◌, ◌-◌, ◌*◌, ◌^◌, ◌<◌, ◌≤◌, ◌≢◌, ◌&&◌, true, false, cond, List, [], ◌∷◌, refl, sym, ap, ◌∙◌, subst, inl, ⊎_elim, arith, eqb-true, ltb-true}, lemmas.Bool.{cases_eq, cases_lt, and_parts}, lemmas.Bool.Decides.nat_tests, lemmas.List.{get_or-replicate, get_or_past, length-replicate}, lemmas.List.FromFn.{get_or-map-range_with_len, length-map-range_with_len}}
 use Rattle.std.specs.Prelude.{length, slice_index, slice_index_or, nat_eq, nat_lt, nat_le, ◌==◌, replicate, if◌then◌else◌}
 use Rattle.sharc_word.specs.declared.step.TheConstants.{THREADS}
-use Rattle.sharc_shadow.specs.{Accesses.{ListsNoted, is_noted, note_of}, Notes.{blank, has_note}, ShadowWord.{IsBlank, epoch_of}, declared.shadow_word.Kind.Kind, declared.shadow_word.Kind.TheVariants.{Read, Write}, declared.access_table.GranuleNotes.GranuleNotes}
+use Rattle.sharc_heap.specs.{Accesses.{ListsNoted, is_noted, note_of}, Notes.{blank, has_note}, ShadowWord.{IsBlank, epoch_of}, declared.shadow_word.Kind.Kind, declared.shadow_word.Kind.TheVariants.{Read, Write}, declared.access_table.GranuleNotes.GranuleNotes}
 use Rattle.sharc_code.specs.{declared.code.Code.Code, declared.shape.Shape.Shape, declared.code.Parameter.Parameter, declared.state.TheConstants.FRAMES, Arithmetic.int_of, Layout.{Fits, words_of, granules, state_word, function_word, argument_word, next_thread_word, top_word}, Opening.{opening_words, opens_with, opening_cell, first_global, first_heap as first_heap_word}, Machine.{Machine, function_of, no_frame}, Path.{most_refs, most_ints}, Runs.{Global, is_started}, Whole.bounds}
 use Rattle.sharc_code.specs.declared.code.Parameter.TheVariants as parameters
 use Rattle.sharc_invariant.specs.{Types.{Targets, ObjectType, Content, Field, field_in, global_field, type_at, is_mutex, is_pointer, nothing}, Types.Content.{Integer, MutexWord, Waiters, Pointer}, Labels.{Entry, Empty, Refers, Unknown, Labels, Pass, IsIn, Anything}, Typed.{refs_in, ints_in, IsWellTyped, Initial}, World.{In, Cell, Slot, ObjectState, World, WorldInvariant}, Words.{if_reference, note_number, conc_of, Shows, FitsContent, Reads, argument_of, cell_at, lang_of}, State.{FramesStand, GateStands, NumberStands, vals_of, State, Runs, ThreadStands, Locks, Threads, Firsts, HeapStands, EntryStands, TopStands, view_of, size_of_run}, Opened.{first_slots, no_object, fresh_granule, first_world, first_heap, first_place}}

@@ -1,8 +1,8 @@
 -- A thread that does not make the turn stays as it stood.
 use Rattle.std.proofs.Common.{◌≡◌, ℕ, ◌+◌, ◌*◌, ◌<◌, ◌≤◌, ◌≢◌, List, Option, Some, None, refl, sym, ap, ◌∙◌, subst, arith}
 use Rattle.std.specs.Prelude.{slice_index}
-use Rattle.sharc_granule.specs.{State.NewView, declared.arguments.NewArguments.NewArguments, declared.stage.NewStage.{NewStage}}
-use Rattle.sharc_granule.specs.declared.stage.NewStage.TheVariants as news
+use Rattle.sharc_heap.specs.{State.NewView, declared.arguments.NewArguments.NewArguments, declared.stage.NewStage.NewStage}
+use Rattle.sharc_heap.specs.declared.stage.NewStage.TheVariants as news
 use Rattle.sharc_code.specs.{declared.code.Code.Code, declared.instr.Instr.Instr, declared.instr.Instr.TheVariants.{Clear, New, Free, Spawn, Start}, declared.instr.Register.Register, declared.shape.Shape.Shape, declared.state.Stage.Stage, declared.state.Stage.TheVariants.{Rests, Looks, Clears, Makes, Empties, Lowers, FreeLooks, FreeClears, Uncounts, Links, Names, Hands, Begins, Enters, Withdraws, WithdrawsFrom, Leaves, Wakes}, Layout.{function_word, argument_word, first_cell}, Machine.{Machine, ref, pointer_cell, layout_at}}
 use Rattle.sharc_invariant.specs.{Granules.GranuleState, Labels.{Gate, Closed, Checked, Holds, Loaded, HoldsLoaded, Sole as SoleGate}, World.{RegisterOf, Cell, Sole, Shut, Loaded as IsLoaded, World, in_ref}, Blocks.{Heap, Built}, Turns.{KeepsOthers, OnlyLoses}, State.{StopStands, GateStands, base_of_cell, number_in, StageStands, OnClear, OnNew, OnFree, OnSpawn, OnStart, AreCleared, Swapping, Emptying, Reserves, SpawnsNow, BuildsAt, all_pointers, granules_freed}}
 pub use Rattle.sharc_invariant.specs.State.{OnHold}

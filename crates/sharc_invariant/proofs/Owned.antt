@@ -1,8 +1,8 @@
 -- Which objects there are behind a turn.
 use Rattle.std.proofs.Common.{◌≡◌, ℕ, suc, ◌+◌, ◌≢◌, ◌||◌, Bool, true, false, List, refl, sym, ap, ◌∙◌, subst, arith}
 use mathlib.Core.Path.{fun_ext}
-use Rattle.sharc_granule.specs.declared.stage.NewStage.{NewStage}
-use Rattle.sharc_granule.specs.declared.stage.NewStage.TheVariants as news
+use Rattle.sharc_heap.specs.declared.stage.NewStage.{NewStage}
+use Rattle.sharc_heap.specs.declared.stage.NewStage.TheVariants as news
 use Rattle.sharc_code.specs.{declared.code.Code.Code, declared.instr.Instr.Instr, declared.shape.Shape.Shape, declared.state.Stage.Stage, declared.state.Stage.TheVariants.{Rests, Makes, Uncounts}, Machine.{Machine, instr_at, ref}, Path.may_go, Runs.{Global, Turn, after_turn, is_started}, Whole.{one_thread, bounds}}
 use Rattle.sharc_code.specs.declared.instr.Instr.TheVariants as instrs
 use Rattle.sharc_invariant.specs.{Types.{Targets, type_of, ObjectType}, Labels.{Empty, Refers, Unknown, Labels}, World.{TypeRules, RegisterOf, In, World, ObjectState, in_ref, TypedReference}, Effect.{Effect, Silently, Accesses, Clears, Gives, Frees, Makes as MakesOf, Locks, Unlocks, Returns, Withdraws}, Objects.{changes_objects, makes_object, frees_object, is_length, new_behind, made_behind, freed_behind, objects_behind, type_held, entry_type}, State.{State, View, view_of, EntryStands, TopStands, label_now, refs_at, types_at}, Turns.made_turn}

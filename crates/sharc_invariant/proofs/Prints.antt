@@ -3,7 +3,7 @@ use Rattle.std.proofs.{Common.{◌≡◌, ℕ, ◌+◌, ◌%◌, ◌^◌, ◌<�
 use mathlib.Core.Path.{fun_ext}
 use Rattle.std.specs.Prelude.{length, slice_index, slice_set}
 use Rattle.sharc_word.specs.declared.step.WordOp.TheVariants.{Add}
-use Rattle.sharc_shadow.specs.ShadowWord.{epoch_of}
+use Rattle.sharc_heap.specs.ShadowWord.{epoch_of}
 use Rattle.sharc_code.specs.{declared.code.Code.Code, declared.shape.Shape.Shape, Layout.{Fits, first_cell, prints_word}, Machine.{Machine, Asks, instr_at, int, printed, step_of}, Runs.{Turn, Global, put, MayTurn, after_turn}, Whole.{one_thread, bounds}}
 use Rattle.sharc_code.specs.declared.instr.Instr.TheVariants as instrs
 use Rattle.sharc_code.proofs.Places.{put_other, put_all}

@@ -4,7 +4,7 @@ use Rattle.sharc_code.specs.{declared.shape.Shape.Shape, Runs.put, Layout.granul
 use Rattle.sharc_code.proofs.Places.{put_same, put_other, put_all}
 use Rattle.sharc_invariant.specs.{Granules.GranuleState, Types.{Targets, Content, field_in, is_mutex, is_pointer}, Types.Content.{Integer, MutexWord, Waiters, Pointer}, World.{TypedReference, Holder, RegisterOf, ArgumentOf, LogOf, Staged, In, Cell, World, in_ref, place, put2, ObjectState}, Words.{MachineView, Shows, Apart, FitsContent, Reads, shadow_at, count_at, length_at, cell_at, store, set_reg, AreStale}}
 use Rattle.sharc_invariant.proofs.{Effects.{place_same, place_other, place_all, slot_cases}, Listed.pair_cases}
-use Rattle.sharc_shadow.specs.ShadowWord.{epoch_of}
+use Rattle.sharc_heap.specs.ShadowWord.{epoch_of}
 
 put2_away : (f : ℕ → ℕ → ℕ) (t i v u j : ℕ) → (u ≡ t → j ≡ i → ⊥) → f u j ≡ put2 f t i v u j
 put2_away f t i v u j ne = ⊎_elim

@@ -3,8 +3,8 @@ use Rattle.std.proofs.{Common.{◌≡◌, ℕ, ◌+◌, ◌-◌, ◌^◌, ◌<�
 use mathlib.Core.Path.{fun_ext}
 use Rattle.std.specs.Prelude.{length, slice_index, slice_set, ◌==◌}
 use Rattle.sharc_word.specs.declared.step.WordOp.TheVariants.{Load, Cas}
-use Rattle.sharc_shadow.specs.{declared.shadow_word.Kind.Kind, declared.shadow_word.Kind.TheVariants.{Read, Write}, Accesses.Accesses}
-use Rattle.sharc_cond.specs.Waiters.{without_lowest}
+use Rattle.sharc_heap.specs.{declared.shadow_word.Kind.Kind, declared.shadow_word.Kind.TheVariants.{Read, Write}, Accesses.Accesses}
+use Rattle.sharc_locks.specs.Waiters.{without_lowest}
 use Rattle.sharc_code.specs.{declared.code.Code.Code, declared.instr.Cell.Cell, declared.shape.Shape.Shape, declared.state.TurnState.TheVariants.{Runs as RunsOn, Tries, Stopped, Ended}, declared.state.Stage.Stage, declared.state.Stage.TheVariants.{Rests, Looks, Clears, Makes, Empties, Lowers, FreeLooks, FreeClears, Uncounts, Links, Names, Hands, Begins, Enters, Withdraws, WithdrawsFrom, Leaves, Wakes}, Layout.Fits, Machine.{Machine, instr_at, word, wakes, rests, at_stage, step_of}, Path.{turn, may_go}, Runs.{Turn, Global, put, MayTurn, after_turn}, Whole.{one_thread, bounds}}
 use Rattle.sharc_code.specs.declared.instr.Instr.TheVariants as instrs
 use Rattle.sharc_invariant.specs.{Types.{Targets, Field, field_in, is_pointer, is_mutex}, Types.Content.Waiters, Labels.{Label, Labels, LessGate, Closed}, Typed.{Fine, IsWellTyped}, World.{World, RegisterOf, in_ref}, Blocks.Heap, Words.{conc_of, Shows, FitsContent, cell_at, is_ended, staged_of, logged, noted_by, register_of, making_of}, Effect.Silently, Turns.{made_turn, made_conc}, State.{State, View, view_of, FramesStand, GateStands, TopStands, Runs, StageStands, OnSignal, SpawnsNow, label_now, object_of_cell, number_in}, Laws.Turned}
@@ -47,7 +47,7 @@ noted_waking stage h table ended kind p = by_waking (λ y. noted_of y table ende
 
 without_low : (v : ℕ) → v < 2 ^ 64 → without_lowest v < 2 ^ 64
 unfolding without_lowest
-without_low v h = let a = and_le_l v (2 ^ 64 - 1 - 2 ^ Rattle.sharc_cond.specs.Waiters.lowest_of v) in omega arith
+without_low v h = let a = and_le_l v (2 ^ 64 - 1 - 2 ^ Rattle.sharc_locks.specs.Waiters.lowest_of v) in omega arith
 
 module _ (x : Targets) (code : Code) (s : Shape) (ls : Labels) (wt : IsWellTyped x code ls) (fits : Fits code s) (g : Global Machine) (world : World) (st : State x code s ls g world) (tr : Turn)
     (may : MayTurn bounds (one_thread code s) g tr) (c : Cell) (site : ℕ) (is : instr_at code (g.threads tr.thread).at.pc ≡ instrs.CondSignal c site) where

@@ -2,7 +2,7 @@
 use Rattle.std.proofs.{Common.{◌≡◌, ℕ, suc, ◌+◌, ◌⊎◌, ◌≢◌, true, false, cond, Some, None, refl, sym, ap, ◌∙◌, subst, inl, inr, ⊎_elim, arith}, lemmas.Bool.eqb-true}
 use mathlib.Core.Path.{fun_ext}
 use Rattle.std.specs.Prelude.{slice_index, ◌==◌}
-use Rattle.sharc_count.specs.Count.{test_of}
+use Rattle.sharc_heap.specs.Count.{test_of}
 use Rattle.sharc_code.specs.{declared.code.Code.Code, declared.shape.Shape.Shape, declared.state.Stop.TheVariants.NotSole, Layout.{Fits, count_word}, Machine.{Machine, Asks, Local, instr_at, goes, set_ref, stopped, tested, ref}, Runs.{Turn, Global, MayTurn, after_turn}, Whole.{one_thread, bounds}}
 use Rattle.sharc_code.specs.declared.instr.Instr.TheVariants as instrs
 use Rattle.sharc_code.proofs.Places.{put_same}

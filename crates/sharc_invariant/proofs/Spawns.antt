@@ -5,7 +5,7 @@ use Rattle.std.specs.Prelude.{◌%◌, length, slice_index, slice_set, nat_lt, n
 use Rattle.sharc_tree.specs.declared.trap.Trap.TheVariants as traps
 use Rattle.sharc_word.specs.{declared.step.TheConstants.THREADS, declared.step.WordOp.TheVariants.{Swap, Add}}
 use Rattle.sharc_locks.specs.{declared.held_log.HeldMutex.HeldMutex, HeldLog.object_of}
-use Rattle.sharc_shadow.specs.{declared.shadow_word.Kind.Kind, declared.shadow_word.Kind.TheVariants.{Read, Write}, Accesses.{Accesses, note_of}, ShadowWord.epoch_of}
+use Rattle.sharc_heap.specs.{declared.shadow_word.Kind.Kind, declared.shadow_word.Kind.TheVariants.{Read, Write}, Accesses.{Accesses, note_of}, ShadowWord.epoch_of}
 use Rattle.sharc_code.specs.{declared.state.TheConstants.FRAMES, declared.code.Code.Code, declared.shape.Shape.Shape, declared.state.Frame.Frame, declared.state.TurnState.TheVariants.{Runs as RunsOn}, declared.state.Stage.Stage, declared.state.Stage.TheVariants.{Rests, Looks, Clears, Makes, Empties, Lowers, FreeLooks, FreeClears, Uncounts, Links, Names, Hands, Begins, Enters, Withdraws, WithdrawsFrom, Leaves, Wakes}, Arithmetic.{holds, int_of}, declared.instr.Width.TheVariants.Char, Layout.{Fits, next_thread_word, state_word, function_word, argument_word, first_cell, top_word}, Machine.{Machine, int, ref, set_int, handed, reference_of, function_of, instr_at, step_of, at_stage, stopped, numbered, argument, spawn, start}, Path.{begun, turn, may_go, counted}, Runs.{Turn, Global, put, is_started, MayTurn, after_turn}, Whole.{one_thread, bounds}, declared.instr.Register.Register, declared.state.Stop.TheVariants.Trap}
 use Rattle.sharc_code.specs.declared.code.Parameter.TheVariants as parameters
 use Rattle.sharc_code.specs.declared.instr.Instr.TheVariants as instrs

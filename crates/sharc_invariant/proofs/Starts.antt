@@ -5,7 +5,7 @@ use Rattle.std.specs.Prelude.{length, slice_index, slice_index_or, slice_set, na
 use Rattle.sharc_tree.specs.declared.trap.Trap.TheVariants as traps
 use Rattle.sharc_word.specs.{declared.step.TheConstants.THREADS, declared.step.WordOp.TheVariants.Load}
 use Rattle.sharc_locks.specs.{declared.held_log.HeldMutex.HeldMutex, HeldLog.object_of}
-use Rattle.sharc_shadow.specs.{declared.shadow_word.Kind.Kind, declared.shadow_word.Kind.TheVariants.{Read, Write}, Accesses.{Accesses, note_of}}
+use Rattle.sharc_heap.specs.{declared.shadow_word.Kind.Kind, declared.shadow_word.Kind.TheVariants.{Read, Write}, Accesses.{Accesses, note_of}}
 use Rattle.sharc_code.specs.{declared.state.TheConstants.FRAMES, declared.code.Code.Code, declared.code.Parameter.Parameter, declared.shape.Shape.Shape, declared.state.At.At, declared.state.Frame.Frame, declared.state.TurnState.{TurnState as StateOf}, declared.state.TurnState.TheVariants.{Runs as RunsOn, Tries, Stopped, Ended}, declared.state.Stage.Stage, declared.state.Stage.TheVariants.{Rests, Looks, Clears, Makes, Empties, Lowers, FreeLooks, FreeClears, Uncounts, Links, Names, Hands, Begins, Enters, Withdraws, WithdrawsFrom, Leaves, Wakes}, Arithmetic.int_of, Layout.{Fits, function_at, state_word, function_word, argument_word}, Machine.{Machine, Asks, reference_of, function_of, instr_at, no_frame, step_of, at_stage, called, trapped, with_parameter, entered, start}, Path.{turn, may_go, counted, most_refs}, Runs.{Turn, Global, put, MayTurn, after_turn}, Whole.{one_thread, bounds}}
 use Rattle.sharc_code.specs.declared.code.Parameter.TheVariants as parameters
 use Rattle.sharc_code.specs.declared.instr.Instr.TheVariants as instrs

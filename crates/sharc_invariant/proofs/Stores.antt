@@ -2,7 +2,7 @@
 use Rattle.std.proofs.{Common.{◌≡◌, ℕ, ◌+◌, ◌*◌, ◌^◌, ◌<◌, ◌≤◌, ◌≢◌, true, List, refl, sym, ap, ◌∙◌, subst, ⊎_elim, arith}, lemmas.Bool.{cases_eq, cases_order}, lemmas.List.{get_or-set_same, get_or-set_other, length-set}}
 use mathlib.Core.Path.{fun_ext}
 use Rattle.std.specs.Prelude.{length, slice_index, slice_set}
-use Rattle.sharc_shadow.specs.ShadowWord.{epoch_of}
+use Rattle.sharc_heap.specs.ShadowWord.{epoch_of}
 use Rattle.sharc_code.specs.{declared.code.Code.Code, declared.shape.Shape.Shape, Layout.{granules, first_cell}, Machine.Machine, Runs.{Global, put}}
 use Rattle.sharc_code.proofs.Places.{put_other, put_all}
 use Rattle.sharc_invariant.specs.{Types.Targets, Labels.Labels, World.World, Blocks.{Live, Built, Listed, Arena, Heap, Kept, InBlock, IsListed, length_at as link_at}, Words.{shadow_at, count_at, cell_at}, State.{State, HeapStands}}

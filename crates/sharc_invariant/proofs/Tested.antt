@@ -1,7 +1,7 @@
 -- What a test of a sole reference finds.
 use Rattle.std.proofs.Common.{◌≡◌, ℕ, zero, suc, ◌+◌, ◌≤◌, ◌≢◌, Bool, true, false, refl, sym, ap, ◌∙◌, subst, arith}
 use Rattle.std.specs.Prelude.{slice_index, ◌==◌, if◌then◌else◌}
-use Rattle.sharc_count.specs.Count.{test_of}
+use Rattle.sharc_heap.specs.Count.{test_of}
 use Rattle.sharc_code.specs.{declared.code.Code.Code, declared.instr.Instr.TheVariants.TestSole, declared.shape.Shape.Shape, declared.state.Stop.Stop, declared.state.Stop.TheVariants.NotSole, Layout.count_word, Machine.{Machine, act, instr_at, goes, stopped, tested, ref}, Path.may_go, Runs.{Turn, Global, at, MayTurn, after_turn, result_of}, Whole.{one_thread, bounds}}
 use Rattle.sharc_code.proofs.Places.{put_same}
 use Rattle.sharc_invariant.specs.{Types.Targets, Labels.Labels, Typed.IsWellTyped, World.{World, RegisterOf, In, in_ref}, Words.lang_of, Opened.first_place, State.{State, size_of_run}, MachineInvariant.references_to, Reports.{TestStands, RunsTest}, Laws.RunsFromTheBeginning}

@@ -5,9 +5,9 @@ use Rattle.sharc_tree.specs.declared.trap.Trap.{Trap}
 use Rattle.sharc_tree.specs.declared.trap.Trap.TheVariants as traps
 use Rattle.sharc_word.specs.{declared.step.TheConstants.THREADS, declared.step.WordStep.WordStep, Words.word_after}
 use Rattle.sharc_word.specs.declared.step.WordOp.TheVariants as ops
-use Rattle.sharc_cond.specs.Waiters.{waits_in}
-use Rattle.sharc_granule.specs.{State.{NewView, told, turn_of}, Asks.word_number, declared.arguments.NewArguments.NewArguments, declared.stage.NewStage.{NewStage}, declared.stage.NewTurn.NewTurn, declared.stage.NewTurn.TheVariants.{Do, Made, HeapFull}, Stages.turn_of_stage}
-use Rattle.sharc_granule.specs.declared.stage.NewStage.TheVariants as news
+use Rattle.sharc_locks.specs.Waiters.{waits_in}
+use Rattle.sharc_heap.specs.{State.{NewView, told, turn_of}, Asks.word_number, declared.arguments.NewArguments.NewArguments, declared.stage.NewStage.NewStage, declared.stage.NewTurn.NewTurn, declared.stage.NewTurn.TheVariants.{Do, Made, HeapFull}, Stages.turn_of_stage}
+use Rattle.sharc_heap.specs.declared.stage.NewStage.TheVariants as news
 use Rattle.sharc_code.specs.{declared.code.Code.Code, declared.code.Layout.Layout, declared.code.Parameter.Parameter, declared.instr.Cell.Cell, declared.instr.Cell.TheVariants.{Global, GlobalAt, Object, ObjectAt}, declared.instr.Width.TheVariants.{Int, Long}, declared.instr.Register.Register, declared.instr.Instr.Instr, declared.instr.Instr.TheVariants.{Constant, Move, MoveReference, Null, ComputeInt, ComputeLong, NegateInt, NegateLong, Complement, Not, SameReference, ChkWidth, Jump, JumpIfZero, JumpIfNull, Call, Return, ChkNull, ChkHeld, ChkNotHeld, ChkPositive, ChkRoom, ChkLock, ChkLockLoaded, Bounds, GlobalBounds, ChkRead, ChkWrite, Load, Store, LoadRef, Exchange, Raise, RaiseLoaded, Lower, New, TakeCell, TakeLocal, TestSole, Clear, Give, Free, Lock, Unlock, Spawn, Join, Print, Start, Exit, CondEnter, CondWait, CondSignal, CondBroadcast}, declared.shape.Shape.Shape, declared.state.Stage.Stage, declared.state.Stage.TheVariants.{Rests, Looks, Clears, Makes, Empties, Lowers, FreeLooks, FreeClears, Uncounts, Links, Names, Hands, Begins, Enters, Withdraws, WithdrawsFrom, Leaves, Wakes}, Arithmetic.{computed, negated, holds, is_zero}, Layout.{granules, granule_at, words_of, cell_word, cell_of, count_word, length_word, first_cell, first_shadow, state_word, function_word, argument_word}, Machine.{Machine, Turn, Local, Asks, step_of, act, int, ref, place, word, raise, lower, test, new, asks_new, new_state, elements_of, clear, looks, free, free_looks, empties, emptied, fields, data_granules, largest, layout_at, spawn, join, start, signal, goes, set_int, set_ref, accessed, move_ref, joined, trapped, asserts, with_result, indexed, called, has_room, returned, holds_none, lock_checked, is_held, is_of_null, is_positive, tested, after_new, locked, without_base, taken, numbered, handed, woken, wakes, with_parameter, function_of, rests, object}}
 use Rattle.sharc_code.specs.declared.code.Parameter.TheVariants as parameters
 use Rattle.sharc_code.specs.declared.instr.Register.TheVariants as registers

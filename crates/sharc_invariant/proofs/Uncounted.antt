@@ -4,7 +4,7 @@ use Rattle.sharc_code.specs.{Layout.{Fits as FitsShape, top_word, granules, coun
 use Rattle.sharc_invariant.specs.{Effect.{Frees as FreesOf}, World.{freed, none, ObjectState, TypedReference, RegisterOf, ArgumentOf, In, Shut, Sole, World, in_ref, put2, place, WorldInvariant, Cell as CellOf}, Types.{nothing, field_in, is_pointer, is_mutex, Targets, ObjectType, cells_of}, Blocks.{Heap, Kept, Built, Live, restated, IsListed, Unused, State as BlockState}, Words.{is_freed, set_reg, store, FitsContent, Apart, staged_of, is_ended, has_withdrawn, noted_by, note_number, register_of, conc_of, Shows, count_at, cell_at, lang_of, head_of, head_with, making_of}, State.{block_for, AreEmpty, all_pointers, label_now, Runs, StageStands, HeapStands, Locks, State, view_of, EntryStands, GateStands, refs_at, types_at, size_of_run, View, FramesStand, TopStands}, Labels.{empty, Label, Labels}, Granules.{sum_to, GranuleState, Bits, Passed}, Typed.{Fine, IsWellTyped}, Turns.{made_turn, KeepsOthers}, Laws.Turned, Objects.{changes_objects, objects_now, objects_behind, frees_object, freed_behind}}
 use Rattle.sharc_invariant.proofs.{Effects.{freed_ok, place_other}, Seen.{count_stored, reg_stored, cell_cell}, Frames.{filled, empty_stands}, Filled.{view_filled, below_filled}, Counts.count_is, Stores.{count_store, stored_within, index_put, arena}, Listed.restate_ok, Changes.{KeepsPart, KeepsLow, lower, conc_now, held_same, changed_state}, Walks.{IsWalk, walk_hold, walk_register}, Clears.{part_words, sum_more}, Emptied.all_empty, Unlogged.{unlogged, logged_entry}, Frees.{free_cells, free_fine, free_win, free_reads, free_some, free_live, free_begun, free_act}, Quiet.{heap_now, label_held, put_self}, Turns.{asks_turn, room_of}, Others.loses}
 use Rattle.sharc_code.proofs.Places.{put_same, put_other, put_all}
-use Rattle.sharc_shadow.specs.{declared.shadow_word.Kind.TheVariants.{Read, Write}, declared.shadow_word.Kind.Kind, Accesses.note_of, Laws.ShadowLaws, ShadowWord.epoch_of}
+use Rattle.sharc_heap.specs.{declared.shadow_word.Kind.TheVariants.{Read, Write}, declared.shadow_word.Kind.Kind, Accesses.note_of, ShadowLaws.ShadowLaws, ShadowWord.epoch_of}
 use Rattle.sharc_locks.specs.HeldLog.{object_of}
 use Rattle.std.proofs.{Common.{◌≡◌, ℕ, suc, ◌+◌, ◌*◌, ◌<◌, ◌≤◌, ◌≢◌, true, false, cond, List, refl, sym, ap, ◌∙◌, subst, ⊎_elim, arith, Bool, ◌⊎◌, ◌-◌, ◌/◌, ◌^◌, inl, inr}, lemmas.Bool.{cases_eq, cases_lt}}
 use mathlib.Core.Path.{fun_ext}

@@ -7,7 +7,7 @@ use Rattle.sharc_tree.specs.declared.trap.Trap.TheVariants as traps
 use Rattle.sharc_code.specs.{declared.code.Code.Code, declared.instr.Cell.Cell, declared.instr.Instr.Instr, declared.shape.Shape.Shape, declared.state.Stop.Stop, declared.state.Stop.TheVariants.Trap, Layout.{Fits, state_word}, Machine.{Machine, Local, Asks, instr_at, int, word, goes, fails, stopped, joined, join, woken, is_held, step_of}, Path.turn, Runs.{Turn, Global, MayTurn, after_turn}, Whole.{one_thread, bounds}}
 use Rattle.sharc_code.specs.declared.instr.Cell.TheVariants as cells
 use Rattle.sharc_code.specs.declared.instr.Instr.TheVariants as instrs
-use Rattle.sharc_cond.specs.Waiters.{waits_in}
+use Rattle.sharc_locks.specs.Waiters.{waits_in}
 use Rattle.sharc_code.proofs.Places.{put_same}
 use Rattle.sharc_invariant.specs.{Types.{Targets, Field, field_in, is_pointer, is_mutex}, Types.Content.Waiters, Labels.{Gate, Holds, LessGate, Closed, Label, Labels, Leads, gated}, Typed.IsWellTyped, World.{World, Shut, Sole, RegisterOf, in_ref, set_win}, Words.{conc_of, Shows, FitsContent, cell_at}, Effect.Silently, Turns.made_turn, State.{State, View, view_of, FramesStand, GateStands, object_of_cell, number_in}, Laws.Turned}
 use Rattle.sharc_invariant.proofs.{Quiet.heap_now, Turns.{asks_turn, local_turn, room_of}, Own.{is_single, runs, rests, top, gate, fine, begun_before, runs_at, closed_less}, Plain.{register_plain, is_shut, going, plain_state, jump_state, stop_state}, Stores.{index_put, cell_store, stored_words, stored_within}, Seen.integer_stored, Cells.cell_there, Held.held_gate, Accesses.{loaded_words, windowed_state, silent_window}}

@@ -4,7 +4,7 @@ use mathlib.Core.Path.{fun_ext}
 use Rattle.std.specs.Prelude.{length, slice_index, ◌↔◌, ◌==◌, is_some, Contains}
 use Rattle.sharc_word.specs.declared.step.TheConstants.{THREADS}
 use Rattle.sharc_locks.specs.{declared.held_log.HeldMutex.HeldMutex, HeldLog.object_of}
-use Rattle.sharc_shadow.specs.{declared.shadow_word.Kind.TheVariants.{Read, Write}, declared.shadow_word.Kind.Kind, Accesses.note_of, ShadowWord.epoch_of}
+use Rattle.sharc_heap.specs.{declared.shadow_word.Kind.TheVariants.{Read, Write}, declared.shadow_word.Kind.Kind, Accesses.note_of, ShadowWord.epoch_of}
 use Rattle.sharc_code.specs.{declared.code.Code.Code, declared.shape.Shape.Shape, declared.state.TurnState.TheVariants.{Runs as RunsOn, Tries, Stopped, Ended}, declared.state.Stage.Stage, declared.state.Stage.TheVariants.{Rests, Looks, Clears, Makes, Empties, Lowers, FreeLooks, FreeClears, Uncounts, Links, Names, Hands, Begins, Withdraws, WithdrawsFrom, Leaves}, Layout.{top_word, granules, first_cell}, Machine.{Machine, to, instr_at}, Path.may_go, Runs.{Global, put}}
 use Rattle.sharc_code.proofs.Places.{put_all}
 use Rattle.sharc_invariant.specs.{Granules.sum_to, Types.{Targets, field_in, is_mutex, cells_of}, Labels.Labels, Typed.IsWellTyped, World.{ArgumentOf, In, ObjectState, World, WorldInvariant}, Blocks.{Kept, Live}, Words.{note_number, making_of, head_of, conc_of, Shows, Apart, register_of, staged_of, noted_by, is_ended, has_withdrawn, lang_of, cell_at}, Turns.{made_turn, KeepsOthers}, State.{block_for, State, HeapStands, Locks, Runs, SpawnsNow, size_of_run}}

@@ -1,8 +1,8 @@
 -- What was done to the shadow word of each granule since its last Clear, told by the turns of a run, and what stands of
 -- its bits.
 use Rattle.std.specs.Prelude.{ℕ, ◌≡◌, ◌<◌, ◌==◌, ◌||◌, Bool, true, false, List, [], ◌∷◌, slice_index, if◌then◌else◌}
-use Rattle.sharc_shadow.specs.{declared.shadow_word.Kind.Kind, declared.shadow_word.Kind.TheVariants.{Read, Write}}
-use Rattle.sharc_shadow.specs.ShadowWord.{is_written, stands}
+use Rattle.sharc_heap.specs.{declared.shadow_word.Kind.Kind, declared.shadow_word.Kind.TheVariants.{Read, Write}}
+use Rattle.sharc_heap.specs.ShadowWord.{is_written, stands}
 use Rattle.sharc_code.specs.{declared.code.Code.Code, declared.instr.Instr.Instr}
 use Rattle.sharc_code.specs.declared.instr.Instr.TheVariants.{ChkRead, ChkWrite, Clear, Free, Exit}
 use Rattle.sharc_code.specs.{declared.shape.Shape.Shape, declared.state.Stage.Stage}

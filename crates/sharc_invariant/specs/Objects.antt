@@ -1,7 +1,7 @@
 -- Which objects there are behind the turns of a run: each comes with the last turn of its New, has another type from
 -- its Give on, and is gone from the turn of its Free that sets the count to 0.
 use Rattle.std.specs.Prelude.{ℕ, Bool, true, false, List, [], ◌∷◌}
-use Rattle.sharc_granule.specs.{declared.stage.NewStage.{NewStage}, declared.stage.NewStage.TheVariants.Length}
+use Rattle.sharc_heap.specs.{declared.stage.NewStage.NewStage, declared.stage.NewStage.TheVariants.Length}
 use Rattle.sharc_code.specs.{declared.code.Code.Code, declared.instr.Instr.Instr}
 use Rattle.sharc_code.specs.{declared.instr.Instr.TheVariants.{New, Give, Free}, declared.shape.Shape.Shape}
 use Rattle.sharc_code.specs.{declared.state.Stage.Stage, declared.state.Stage.TheVariants.{Makes, Uncounts}}

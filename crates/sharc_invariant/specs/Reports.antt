@@ -2,8 +2,8 @@
 -- conflicts with, and only where another has made one; and a test of a sole reference finds how many references there
 -- are.
 use Rattle.std.specs.Prelude.{ℕ, ◌≡◌, ◌≢◌, ◌≤◌, ◌⊎◌, Bool, true, false, List, ◌∷◌, slice_index}
-use Rattle.sharc_shadow.specs.{declared.shadow_word.Kind.Kind, declared.shadow_word.Kind.TheVariants.Write}
-use Rattle.sharc_shadow.specs.ShadowWord.{stands}
+use Rattle.sharc_heap.specs.{declared.shadow_word.Kind.Kind, declared.shadow_word.Kind.TheVariants.Write}
+use Rattle.sharc_heap.specs.ShadowWord.{stands}
 use Rattle.sharc_code.specs.{declared.code.Code.Code, declared.instr.Instr.TheVariants.TestSole}
 use Rattle.sharc_code.specs.{declared.shape.Shape.Shape, Layout.{Fits, shadow_word}, Machine.{Machine, instr_at, ref}}
 use Rattle.sharc_code.specs.{Path.may_go, Runs.{Turn, Global, IsRun, at, after_turn, result_of}}

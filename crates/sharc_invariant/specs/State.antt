@@ -3,10 +3,10 @@
 use Rattle.std.specs.Prelude.{ℕ, ℤ, pos, zero, suc, ◌+◌, ◌-◌, ◌*◌, ◌/◌, ◌^◌, ◌≡◌, ◌≢◌, ◌<◌, ◌≤◌, ◌↔◌, min, max, true}
 use Rattle.std.specs.Prelude.{false, List, [], length, Option, Some, None, Contains, slice_index, slice_index_or}
 use Rattle.sharc_word.specs.declared.step.TheConstants.{THREADS}
-use Rattle.sharc_granule.specs.{State.NewView, Block.block_of, declared.stage.NewStage.{NewStage}}
-use Rattle.sharc_granule.specs.declared.stage.NewStage.TheVariants as news
+use Rattle.sharc_heap.specs.{State.NewView, Block.block_of, declared.stage.NewStage.NewStage, Accesses.ListsNoted}
+use Rattle.sharc_heap.specs.ShadowWord.{epoch_of}
+use Rattle.sharc_heap.specs.declared.stage.NewStage.TheVariants as news
 use Rattle.sharc_locks.specs.{declared.held_log.HeldMutex.HeldMutex, HeldLog.IsHeldLog}
-use Rattle.sharc_shadow.specs.{Accesses.ListsNoted, ShadowWord.epoch_of}
 use Rattle.sharc_code.specs.{declared.state.TheConstants.FRAMES, declared.code.Code.Code, declared.instr.Cell.Cell}
 use Rattle.sharc_code.specs.declared.instr.Instr.{Instr}
 use Rattle.sharc_code.specs.declared.instr.Instr.TheVariants.{Call, New, Clear, Free, Spawn, Start, Exit, CondSignal}

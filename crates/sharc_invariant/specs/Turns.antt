@@ -1,6 +1,6 @@
 -- What a turn makes of the whole machine, and what it leaves to the threads that do not make it.
 use Rattle.std.specs.Prelude.{ℕ, ◌+◌, ◌≡◌, ◌≢◌, ◌⊎◌, ◌||◌, Bool, false, List, slice_index}
-use Rattle.sharc_shadow.specs.declared.shadow_word.Kind.TheVariants.{Read, Write}
+use Rattle.sharc_heap.specs.declared.shadow_word.Kind.TheVariants.{Read, Write}
 use Rattle.sharc_code.specs.{declared.code.Code.Code, declared.shape.Shape.Shape, Layout.first_cell, Machine.Machine}
 use Rattle.sharc_code.specs.{Path.counted, Runs.{Global, put, is_started}, Whole.bounds}
 use Rattle.sharc_invariant.specs.{Granules.{GranuleState, Passed}, World.{RegisterOf, In, Cell, Sole, World, in_ref}}

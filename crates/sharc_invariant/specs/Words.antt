@@ -3,10 +3,9 @@ use Rattle.std.specs.Prelude.{ℕ, suc, ◌+◌, ◌*◌, ◌/◌, ◌≡◌, �
 use Rattle.std.specs.Prelude.{take, Option, Some, None, slice_index, nat_lt, if◌then◌else◌}
 use Rattle.std.specs.List.{list_any}
 use Rattle.sharc_word.specs.declared.step.TheConstants.{THREADS}
-use Rattle.sharc_shadow.specs.{declared.shadow_word.Kind.Kind, declared.shadow_word.Kind.TheVariants.{Read, Write}}
-use Rattle.sharc_shadow.specs.{declared.access_table.Note.Note, Accesses.note_of}
-use Rattle.sharc_shadow.specs.ShadowWord.{epoch_of, is_written, stands}
-use Rattle.sharc_granule.specs.State.{NewView}
+use Rattle.sharc_heap.specs.{declared.shadow_word.Kind.Kind, declared.shadow_word.Kind.TheVariants.{Read, Write}}
+use Rattle.sharc_heap.specs.{declared.access_table.Note.Note, Accesses.note_of}
+use Rattle.sharc_heap.specs.{ShadowWord.{epoch_of, is_written, stands}, State.NewView}
 use Rattle.sharc_locks.specs.HeldLog.{object_of}
 use Rattle.sharc_code.specs.{declared.code.Code.Code, declared.code.Parameter.Parameter, declared.instr.Instr.Instr}
 use Rattle.sharc_code.specs.{declared.shape.Shape.Shape, declared.state.TurnState.TurnState}

@@ -5,8 +5,7 @@ ghost use Rattle.sharc_invariant.specs.Laws.{RunsBits, StateStands, CellsAreTher
 ghost use Rattle.sharc_invariant.specs.Laws.{AccessesAreAllowed, NothingYet, SampleIsTyped};
 ghost use Rattle.sharc_invariant.specs.Reports.{RunsConflict, RunsTest};
 
-use sharc_granule::new_laws;
-use sharc_shadow::shadow_laws;
+use sharc_heap::{new_laws, shadow_laws};
 
 /// A code opens in the invariant.
 pub fn begins()

@@ -3,4 +3,15 @@ pub mod Pairs
 pub mod Alike
 pub mod Waiters
 pub mod Lowest
-pub mod Rules
+pub mod Unbroken
+mod About
+mod Counting
+mod Holding
+mod Latest
+mod GrowingLists
+mod Moding
+mod Noting
+mod PlacePairs
+mod Reading
+mod Sharing
+mod Storing

@@ -1,3 +1,7 @@
 pub mod Deciding
 pub mod Judged
 pub mod Laws
+pub mod Kept
+pub mod Latest
+pub mod Reads
+pub mod Topics

@@ -1,6 +1,6 @@
-// Laws of the tests. A proof above has them where its function calls one of these.
-
 ghost use Rattle.sharc_judge.specs.Laws.{RuleLaws, SameLaws};
+
+// Laws of the tests. A proof above has them where its function calls one of these.
 
 /// A rule holds exactly where no access at any place breaks it, and a list obeys exactly where each of the six holds.
 pub fn rule_laws()

@@ -5,7 +5,8 @@ use Rattle.std.specs.Prelude.{◌≡◌, ℕ, ◌+◌, ◌-◌, ◌^◌, ◌<◌
 use Rattle.std.specs.Prelude.{slice_index_or, Result, Ok, Err, ok_or, if◌then◌else◌, zero, suc, codes}
 use Rattle.std.specs.List.{prefix_len}
 use Rattle.sharc_tree.specs.{declared.token.FaultAt.FaultAt, declared.token.Token.Token, declared.token.Tokens.Tokens}
-use Rattle.sharc_lex.specs.{declared.fault.TokenFault.TokenFault, declared.fault.SourceLine.SourceLine, declared.fault.LineFault.LineFault}
+use Rattle.sharc_lex.specs.{declared.fault.TokenFault.TokenFault, declared.fault.SourceLine.SourceLine}
+use Rattle.sharc_lex.specs.{declared.fault.LineFault.LineFault}
 use Rattle.sharc_lex.specs.{declared.token_at.Lexeme.Lexeme, Bytes.{is_blank, is_white_space}, Faults.text_of}
 use Rattle.sharc_lex.specs.{Files.{with_file, place_of}, Markers.{is_marker_line, marker}, TokenAt.token_at}
 use Rattle.sharc_lex.specs.declared.fault.TokenFault.TheVariants as fault

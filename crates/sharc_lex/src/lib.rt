@@ -21,6 +21,6 @@ mod reading;
 mod token_at;
 mod words;
 
-pub use fault::{TokenFault, LexFault};
+pub use fault::{LexFault, TokenFault};
 pub use reading::lex;
 pub use words::is_keyword;

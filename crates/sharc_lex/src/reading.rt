@@ -8,7 +8,7 @@ ghost use Rattle.sharc_lex.specs.Laws.{AreTokensOf, TellsPlace};
 ghost use Rattle.sharc_lex.specs.Grammar.{IsWithin, opening, text_line, marker_line, line_read, with_place, fault_at};
 ghost use Rattle.sharc_lex.specs.Grammar.{tokens_read, reading};
 
-use crate::fault::{LineFailure, TokenFault, LexFault, LineFault, SourceLine};
+use crate::fault::{LexFault, LineFailure, LineFault, SourceLine, TokenFault};
 use crate::files::Files;
 use crate::lines::read_tokens;
 use crate::markers::{marker, marker_at};
@@ -78,7 +78,12 @@ impl<'a> Reading<'a> {
     }
 
     /// Reads a line marker, whose `#` is at a place of the line.
-    fn marker_line(&mut self, offset: usize, start: usize, line: &'a [u8]) -> Result<(), LineFailure>
+    fn marker_line(
+        &mut self,
+        offset: usize,
+        start: usize,
+        line: &'a [u8],
+    ) -> Result<(), LineFailure>
         requires fits { offset + length line.now ≤ 2 ^ 20 }
         requires starts { start ≡ prefix_len is_blank line.now }
         requires within { start < length line.now }
@@ -105,7 +110,12 @@ impl<'a> Reading<'a> {
     }
 
     /// Reads a line of either kind.
-    fn either_line(&mut self, alloc: Global, offset: usize, line: &'a [u8]) -> Result<(), LineFailure>
+    fn either_line(
+        &mut self,
+        alloc: Global,
+        offset: usize,
+        line: &'a [u8],
+    ) -> Result<(), LineFailure>
         requires fits { offset + length line.now ≤ 2 ^ 20 }
         requires within { IsWithin offset (read_of self.old) }
         ensures read { OnOk result (line_read (read_of self.old) offset line.now ≡ Ok (read_of self.new)) }

@@ -1,6 +1,7 @@
 -- The paths through a function: one clause for each form of expression and statement.
 use Rattle.std.specs.Prelude.{ℕ, List, [], ◌∷◌, Option, Some, None}
-use Rattle.sharc_tree.specs.{declared.tree.declaration.Declaration.Declaration, declared.tree.expression.FieldOperator.FieldOperator}
+use Rattle.sharc_tree.specs.{declared.tree.declaration.Declaration.Declaration}
+use Rattle.sharc_tree.specs.{declared.tree.expression.FieldOperator.FieldOperator}
 use Rattle.sharc_tree.specs.declared.tree.expression.FieldOperator.TheVariants.{Dot, Arrow}
 use Rattle.sharc_tree.specs.declared.tree.expression.BinaryOperator.{BinaryOperator}
 use Rattle.sharc_tree.specs.declared.tree.expression.BinaryOperator.TheVariants.{LogicalOr, LogicalAnd}

@@ -9,7 +9,7 @@ ghost use Rattle.sharc_live.specs.Flows.{flow_all, place_flow};
 use crate::variable::{nulls, reads, variable_of};
 use sharc_ctype::typed::Typed;
 use sharc_dataflow::step::Step;
-use sharc_tree::tree::{FieldOperator, BinaryOperator, Expr, PlaceCall, UnaryOperator};
+use sharc_tree::tree::{BinaryOperator, Expr, FieldOperator, PlaceCall, UnaryOperator};
 use std::alloc::AllocError;
 
 /// The source of `free` is nulled.

@@ -8,7 +8,7 @@ ghost use Rattle.sharc_live.specs.Flows.{reads, nulls, writes, through, variable
 use sharc_ctype::typed::Typed;
 use sharc_dataflow::step::Step;
 use sharc_names::fault::Named;
-use sharc_tree::tree::{FieldOperator, Expr};
+use sharc_tree::tree::{Expr, FieldOperator};
 use std::alloc::AllocError;
 
 pub(crate) fn reads(

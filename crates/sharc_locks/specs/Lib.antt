@@ -1,1 +1,3 @@
 pub mod HeldLog
+pub mod Laws
+pub mod Waiters

@@ -85,7 +85,8 @@ pointee_place r site a pointer = do
   give (pointee p)
 
 -- `a.n` and `a->n`
-abbrev pub field_place : Resolution → Site → Expression → FieldOperator → Named → Run StorePlace → Run ℤ → Run StorePlace
+abbrev pub field_place : Resolution → Site → Expression → FieldOperator → Named → Run StorePlace → Run ℤ
+    → Run StorePlace
 field_place r site a Dot n base pointer = do
   p ← base
   give (field_in (field_place_named r n) p)

@@ -1,9 +1,8 @@
 -- What the least assignment is among all that are enough.
 use Rattle.std.proofs.{Common.{◌≡◌, ◌⊎◌, ℕ, ◌+◌, ◌<◌, Bool, true, false, List, [], ◌∷◌, length, length-append, Option, Some, None, refl, ap, sym, ◌∙◌, subst, inl, inr, arith}, lemmas.Bool.{cases_lt, false≢true}, lemmas.List.get_or_past, lemmas.List.Elements.All-get_or}
 use Rattle.std.specs.Prelude.{slice_index_or, Contains}
-use Rattle.sharc_graph.specs.{declared.graph.NodeFinding.NodeFinding, declared.graph.NodeFinding.TheVariants.{Apart, Source, Behind}, Findings.finding_at, Paths.{IsWithin, edge_of}}
-use Rattle.sharc_constraints.specs.{declared.place.PositionKind.PositionKind, declared.place.Link.Link, Flow.{flow_of, link_of, place_at, is_unwritten, is_source, IsUnwritten, IsSource, IsFirstFor, HasEdge}, Laws.{FlowLaws, IsClosed, IsDynamic}}
-use Rattle.sharc_constraints.specs.declared.place.PositionKind.TheVariants as place
+use Rattle.sharc_graph.specs.{declared.graph.NodeFinding.NodeFinding, declared.graph.NodeFinding.TheVariants.{Apart, Source, Behind}, Findings.finding_at, Paths.{IsWithin, edge_of}, declared.place.PositionKind.PositionKind, declared.place.Link.Link, Flow.{flow_of, link_of, place_at, is_unwritten, is_source, IsUnwritten, IsOrigin, IsFirstFor, HasLink}, FlowLaws.{FlowLaws, IsClosed, IsDynamic}}
+use Rattle.sharc_graph.specs.declared.place.PositionKind.TheVariants as place
 use Rattle.sharc_tree.specs.{declared.ctype.Base.Base, declared.ctype.Mode.Mode, declared.ctype.Mode.TheVariants.{Private, Readonly, Locked, Racy, Dynamic}}
 use Rattle.sharc_ctype.specs.{Entities.{entities_in, written_modes, positions_of, positions_in}, Resolved.Resolution, declared.entity.Entity.Entity}
 use Rattle.sharc_mode.specs.{Flows.{IsLeastAssignment, IsRoot, IsPlaceFor, ArePlaces, written_place, inferred_mode, mode_found, links_of}, Moded.{Assignment, position_count}, Pairs.{AreEquated, IsBelow, IsEnough, mode_given, mode_by}, Settled.{settled, otherwise_of, settled_modes, settled_in, settled_at}, Sharings.{sharing_of, is_dynamic}}
@@ -126,7 +125,7 @@ module _ (r : Resolution) (places : List PositionKind) (are : ArePlaces r places
       ]
 
   module _ (dynamic : ℕ → Bool) (enough : IsEnough r dynamic) where
-    from_root : (p : ℕ) → settled_at r p ≡ None → IsSource (flow_of places (links_of r)) p → dynamic p ≡ true
+    from_root : (p : ℕ) → settled_at r p ≡ None → IsOrigin (flow_of places (links_of r)) p → dynamic p ≡ true
     from_root p none source = enough.roots p none (source_root r p (place_at places p) (at_open p none) source)
 
     by_dynamic : (p : ℕ) → settled_at r p ≡ None → dynamic p ≡ true → mode_by r dynamic p ≡ Dynamic
@@ -135,14 +134,14 @@ module _ (r : Resolution) (places : List PositionKind) (are : ArePlaces r places
     by_written : (p : ℕ) (m : Mode) → settled_at r p ≡ Some m → mode_by r dynamic p ≡ m
     by_written p m is = ap (λ o. mode_given o (dynamic p)) is
 
-    source_mode : (p : ℕ) → IsSource (flow_of places (links_of r)) p → mode_by r dynamic p ≡ Dynamic
+    source_mode : (p : ℕ) → IsOrigin (flow_of places (links_of r)) p → mode_by r dynamic p ≡ Dynamic
     source_mode p source =
         elim (settled_cases (settled_at r p)) [
           | inl none ↦ by_dynamic p none (from_root p none source)
           | inr some ↦ by_written p some.0 some.1 ∙ source_dynamic some.0 (sym (ap is_source (at_written p some.0 some.1)) ∙ source)
         ]
 
-    step : (x y : ℕ) → mode_by r dynamic x ≡ Dynamic → HasEdge (flow_of places (links_of r)) x y → settled_at r y ≡ None → dynamic y ≡ true
+    step : (x y : ℕ) → mode_by r dynamic x ≡ Dynamic → HasLink (flow_of places (links_of r)) x y → settled_at r y ≡ None → dynamic y ≡ true
     step x y is (inl down) none = enough.below x y (below_from r x y down) (not_both (mode_by r dynamic x) is) none
     step x y is (inr equal) none = enough.equal x y (equal_from r x y equal) is none
 
@@ -195,10 +194,10 @@ module _ (laws : FlowLaws) (m : Assignment) (least : IsLeastAssignment m) where
         | inr some ↦ ap (λ o. mode_given o (is_dynamic (sharing_of (slice_index_or m.modes p Private)))) some.1 ∙ sym (written_mode p some.0 inside some.1)
       ]
 
-  written_source : (p : ℕ) (k : Mode) → settled_at m.typed p ≡ Some k → k ≡ Dynamic → IsSource (flow_of least.places (links_of m.typed)) p
+  written_source : (p : ℕ) (k : Mode) → settled_at m.typed p ≡ Some k → k ≡ Dynamic → IsOrigin (flow_of least.places (links_of m.typed)) p
   written_source p k is dynamic = ap is_source (at_written m.typed least.places least.are_places p k is ∙ ap written_place dynamic)
 
-  along : (x y : ℕ) → x < position_count m.typed → slice_index_or m.modes x Private ≡ Dynamic → HasEdge (flow_of least.places (links_of m.typed)) x y → settled_at m.typed y ≡ None → slice_index_or m.modes y Private ≡ Dynamic
+  along : (x y : ℕ) → x < position_count m.typed → slice_index_or m.modes x Private ≡ Dynamic → HasLink (flow_of least.places (links_of m.typed)) x y → settled_at m.typed y ≡ None → slice_index_or m.modes y Private ≡ Dynamic
   along x y inside is edge none =
       elim (settled_cases (settled_at m.typed x)) [
         | inl before ↦ led y none (closed_flow.onward x y (has_path x before is) (free x before) edge (free y none))

@@ -1,8 +1,7 @@
 -- The links join positions of the program.
 use Rattle.std.proofs.{Common.{◌≡◌, ℕ, zero, suc, ◌+◌, ◌-◌, ◌<◌, ◌≤◌, min, Bool, true, false, cond, List, [], ◌∷◌, ◌++◌, Option, Some, None, subst, arith}, lemmas.Bool.ne_eqb, lemmas.List.Elements.{All-nil, All-cons, All-append}}
 use Rattle.std.specs.List.{flat_map, All}
-use Rattle.sharc_graph.specs.Paths.{IsWithin}
-use Rattle.sharc_constraints.specs.{declared.place.Link.Link, Flow.link_of, Make.{equal_links, below_links}}
+use Rattle.sharc_graph.specs.{Paths.IsWithin, declared.place.Link.Link, Flow.link_of, Make.{equal_links, below_links}}
 use Rattle.sharc_tree.specs.{declared.tree.expression.Constant.Constant, declared.tree.expression.Constant.TheVariants.{Number, Character, Null}, declared.tree.expression.UnaryOperator.UnaryOperator, declared.tree.expression.UnaryOperator.TheVariants.{Negate, Not, Complement, Dereference}, declared.tree.item.GlobalDefinition.GlobalDefinition, Measures.in_function, Tree.{Expression, identifier, constant, parentheses, call, spawn, on_value, on_place, cast, index, field, unary, binary, Right, value, malloc, Function, Item, structure, global, function}}
 use Rattle.sharc_names.specs.{declared.fault.Named.Named, declared.types.Role.Role, Kinds.is_array}
 use Rattle.sharc_names.specs.declared.fault.Named.TheVariants as named

@@ -8,9 +8,9 @@ use Rattle.sharc_tree.specs.{declared.tree.declaration.Declaration.Declaration, 
 use Rattle.sharc_tree.specs.Tree.{Expression, cast, Right, value, malloc, Function, Item, structure, global, function}
 use Rattle.sharc_graph.specs.declared.graph.NodeFinding.{NodeFinding}
 use Rattle.sharc_graph.specs.{declared.graph.NodeFinding.TheVariants.{Apart, Source, Behind}, Findings.finding_at}
-use Rattle.sharc_constraints.specs.{declared.place.PositionKind.PositionKind, declared.place.Link.Link}
-use Rattle.sharc_constraints.specs.{Flow.{flow_of, place_at, AreInferred}, Make.{equal_links, below_links}}
-use Rattle.sharc_constraints.specs.declared.place.PositionKind.TheVariants as place
+use Rattle.sharc_graph.specs.{declared.place.PositionKind.PositionKind, declared.place.Link.Link}
+use Rattle.sharc_graph.specs.{Flow.{flow_of, place_at, AreInferred}, Make.{equal_links, below_links}}
+use Rattle.sharc_graph.specs.declared.place.PositionKind.TheVariants as place
 use Rattle.sharc_ctype.specs.{Reaches.{Spawns, IsReached, NamesGlobal}, Resolved.{Resolution, global_at, function_at}}
 use Rattle.sharc_ctype.specs.Transfers.{Receiver, lvalue, variable, result, Transfer, function_transfers}
 use Rattle.sharc_ctype.specs.declared.entity.Numbered.{Numbered}

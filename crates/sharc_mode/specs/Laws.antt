@@ -3,8 +3,7 @@ use Rattle.std.specs.Prelude.{◌≡◌, ◌⊎◌, ◌↔◌, ℕ, ◌<◌, Boo
 use Rattle.std.specs.Prelude.{Contains, All}
 use Rattle.sharc_tree.specs.{declared.ctype.Mode.Mode, declared.ctype.Mode.TheVariants.{Private, Dynamic}}
 use Rattle.sharc_ctype.specs.{Entities.entities_in, Resolved.Resolution}
-use Rattle.sharc_graph.specs.Paths.{IsWithin}
-use Rattle.sharc_constraints.specs.{declared.place.Link.Link, Flow.link_of}
+use Rattle.sharc_graph.specs.{Paths.IsWithin, declared.place.Link.Link, Flow.link_of}
 use Rattle.sharc_mode.specs.{declared.error.ModeError.ModeError, Flows.{IsLeastAssignment, links_of}}
 use Rattle.sharc_mode.specs.{Moded.{Assignment, position_count, reason_at}, Pairs.{AreEquated, IsBelow, IsEnough}}
 use Rattle.sharc_mode.specs.{Sharings.{sharing_of, is_dynamic}, Settled.{settled_in, settled_at}}

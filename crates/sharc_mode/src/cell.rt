@@ -19,7 +19,7 @@ use sharc_names::fault::Named;
 use sharc_names::kind::{ExpressionKind, Root, declared_kind, is_array, is_pointer};
 use sharc_names::meaning::{Meaning, kind_of};
 use sharc_tree::ctype::Mode;
-use sharc_tree::tree::{FieldOperator, Declaration, Expr, UnaryOperator};
+use sharc_tree::tree::{Declaration, Expr, FieldOperator, UnaryOperator};
 
 /// Whether it is an object of C type mutex.
 pub fn is_mutex_kind(kind: ExpressionKind<'_>) -> bool

@@ -2,7 +2,7 @@
 
 ghost use Rattle.sharc_mode.specs.Laws.{ModeLaws, LinkLaws};
 
-use sharc_constraints::laws::flow_laws;
+use sharc_graph::laws::flow_laws;
 
 /// The least assignment leaves what is settled, and gives no reason for it; every other position is private or dynamic;
 /// and a program has one list of errors.

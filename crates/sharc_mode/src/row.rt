@@ -18,7 +18,7 @@ use sharc_names::kind::is_array;
 use sharc_names::types::Role;
 use sharc_tree::token::Span;
 use sharc_tree::tree::{
-    FieldOperator, Constant, Declaration, Expr, FunctionDefinition, GlobalDefinition, UnaryOperator,
+    Constant, Declaration, Expr, FieldOperator, FunctionDefinition, GlobalDefinition, UnaryOperator,
 };
 
 /// How the lock paths of a declared type are read where it is used.
@@ -158,7 +158,12 @@ fn row_of_entity<'a>(typed: &Typed, reading: PathReading<'a>, numbered: &Numbere
 }
 
 /// The targets of the type of what this token declares, of a cast by its first and its last token.
-pub fn row_between<'a>(typed: &Typed, reading: PathReading<'a>, token: u32, last: u32) -> Targets<'a>
+pub fn row_between<'a>(
+    typed: &Typed,
+    reading: PathReading<'a>,
+    token: u32,
+    last: u32,
+) -> Targets<'a>
     ensures row { view_row result ≡ entity_row (view_reading reading.entry) (entity_at typed.now token last) }
     ensures within { result.first + result.count ≤ position_count typed.now }
 {
@@ -181,7 +186,12 @@ pub fn cast_row<'a>(typed: &Typed, span: Span) -> Targets<'a>
     ensures row { view_row result ≡ cast_row typed.now span }
     ensures within { result.first + result.count ≤ position_count typed.now }
 {
-    row_between(typed, PathReading::Written, span.first.token, span.last.token)
+    row_between(
+        typed,
+        PathReading::Written,
+        span.first.token,
+        span.last.token,
+    )
 }
 
 /// The targets of the type of what a name names.

@@ -51,7 +51,9 @@ fn global_kind(form: GlobalForm, kind: ExpressionKind<'_>) -> ExpressionKind<'_>
     ensures { view_kind result ≡ global_kind form (view_kind kind.entry) }
 {
     match (form, kind) {
-        (GlobalForm::Array(_, _), ExpressionKind::Object(root, stars)) => ExpressionKind::Array(root, stars),
+        (GlobalForm::Array(_, _), ExpressionKind::Object(root, stars)) => ExpressionKind::Array(
+            root, stars,
+        ),
         (_, other) => other,
     }
 }

@@ -91,7 +91,10 @@ fn misfit(kind: ExpressionKind<'_>, expr: &Expr, found: &mut Found)
 {
     match kind {
         ExpressionKind::Object(root, 0) => misfit_of(root, expr, found),
-        ExpressionKind::Function => found.fault(place(expr.without_parentheses()), FaultCode::TypeMismatch),
+        ExpressionKind::Function => found.fault(
+            place(expr.without_parentheses()),
+            FaultCode::TypeMismatch,
+        ),
         _ => found.fault(place(expr), FaultCode::TypeMismatch),
     }
 }
@@ -120,7 +123,12 @@ pub fn meet<'a>(
 }
 
 /// Whether what is assigned, passed or returned agrees with what is wanted; takes note of the fault where not.
-pub fn agree(want: Option<ExpressionKind<'_>>, expr: &Expr, kind: Option<ExpressionKind<'_>>, found: &mut Found) -> bool
+pub fn agree(
+    want: Option<ExpressionKind<'_>>,
+    expr: &Expr,
+    kind: Option<ExpressionKind<'_>>,
+    found: &mut Found,
+) -> bool
     ensures agreed { result ≡ agreed (view_kinds want.entry) (view_kinds kind.entry) }
     ensures found { found.new
         ≡ fold noted found.old (unagreed (view_kinds want.entry) (view_expr expr.now) (view_kinds kind.entry)) }

@@ -110,7 +110,10 @@ pub fn field_use(place: usize, field: Option<Option<&Declaration>>, found: &mut 
 }
 
 /// The type of the first name of a lock path, which may be a field of the same struct.
-fn first_kind<'a>(sibling: Option<&'a Declaration>, bound: Option<Binding<'a>>) -> Option<ExpressionKind<'a>>
+fn first_kind<'a>(
+    sibling: Option<&'a Declaration>,
+    bound: Option<Binding<'a>>,
+) -> Option<ExpressionKind<'a>>
     ensures { view_kinds result ≡ first_kind (found_field sibling.entry) (view_bounds bound.entry) }
 {
     match sibling {
@@ -120,7 +123,12 @@ fn first_kind<'a>(sibling: Option<&'a Declaration>, bound: Option<Binding<'a>>) 
 }
 
 /// Takes note of the first name of a lock path.
-fn first_use(token: u32, sibling: Option<&Declaration>, bound: Option<Binding<'_>>, found: &mut Found)
+fn first_use(
+    token: u32,
+    sibling: Option<&Declaration>,
+    bound: Option<Binding<'_>>,
+    found: &mut Found,
+)
     ensures { found.new
         ≡ fold noted found.old (first_notes token (found_field sibling.entry) (view_bounds bound.entry)) }
 {

@@ -3,8 +3,7 @@ use Rattle.std.proofs.Common.{◌≡◌, ℕ, List, [], ◌∷◌, None, refl, a
 use Rattle.sharc_tree.specs.{declared.token.Number.Number, declared.token.Punctuator.TheVariants.{OpenParenthesis, OpenBracket, CloseBracket, Semicolon, Assign, Minus}, declared.tree.expression.Constant.Constant}
 use Rattle.sharc_tree.specs.declared.token.Keyword.TheVariants as key
 use Rattle.sharc_tree.specs.declared.tree.expression.Constant.TheVariants as constants
-use Rattle.sharc_grammar.specs.{Grammar.{Word, keyword, mark, number, character, constant_word, Typing, Declaring, single, array, initially, Part}, Machine.{on_top, Named, ArrayWant, InitialWant, InitialNegative, Top, a_semicolon, a_bracket, At, declaring_of, named_top, initial_want}, Limits.{StuckAt, next_within, reads_within}}
-use Rattle.sharc_parse.specs.{Goes.{NotAt, NoConstant}, Forms.{NoNumber, IsSigned, NoSigned, with_form}}
+use Rattle.sharc_parse.specs.{Grammar.{Word, keyword, mark, number, character, constant_word, Typing, Declaring, single, array, initially, Part}, Machine.{on_top, Named, ArrayWant, InitialWant, InitialNegative, Top, a_semicolon, a_bracket, At, declaring_of, named_top, initial_want}, Limits.{StuckAt, next_within, reads_within}, Goes.{NotAt, NoConstant}, Forms.{NoNumber, IsSigned, NoSigned, with_form}}
 
 pub array_number : (all : List Part) (d : Declaring) (n : Number) (y : List Word) → reads_within (number n ∷ y) (At [] (ArrayWant all d)) ≡ reads_within y (At (a_bracket ∷ (a_semicolon ∷ [])) (Top (with_form all d (array n))))
 array_number all d n y = refl

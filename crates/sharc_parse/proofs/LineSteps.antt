@@ -5,8 +5,7 @@ use Rattle.sharc_tree.specs.{declared.token.Punctuator.TheVariants.{Assign, Semi
 use Rattle.sharc_tree.specs.declared.tree.expression.ValueCall.TheVariants as value_call
 use Rattle.sharc_tree.specs.declared.tree.expression.PlaceCall.TheVariants as place_call
 use Rattle.sharc_tree.specs.declared.tree.expression.Constant.TheVariants as constants
-use Rattle.sharc_grammar.specs.{Grammar.{Word, name, keyword, mark, number, character, Typing, identifier, constant, Value, Doing, nothing, does, parenthesis, of_value, of_place}, Machine.{Outer, LinePlace, as_statement, as_first, in_line, local, naming, of_local, Cont, part, subject, beneath, fronted, Want, Have, Spawning, casting, TypeWant, Named, State, At, an_open, an_ampersand, or_else, begin_type, want, lined, local_line, line_start, may_declare, doing_end, value_end, declaring_of, named_local}, Limits.{StuckAt, Over, next_within, reads_within, over, crowded_line}}
-use Rattle.sharc_parse.specs.{declared.types.ModeWord.ModeWord, declared.types.BaseWord.BaseWord, Goes.NotAt, Types.{mode_word, HasMode, base_word}, Rights.value_within, Simples.{doing_state, EndsDoing, doing_within}, Locals.{initial_state, EndsInitial}, Lines.{HasBase, MeetsType, MeetsLocal, starts_operand, starts_line, line_within}}
+use Rattle.sharc_parse.specs.{Grammar.{Word, name, keyword, mark, number, character, Typing, identifier, constant, Value, Doing, nothing, does, parenthesis, of_value, of_place}, Machine.{Outer, LinePlace, as_statement, as_first, in_line, local, naming, of_local, Cont, part, subject, beneath, fronted, Want, Have, Spawning, casting, TypeWant, Named, State, At, an_open, an_ampersand, or_else, begin_type, want, lined, local_line, line_start, may_declare, doing_end, value_end, declaring_of, named_local}, Limits.{StuckAt, Over, next_within, reads_within, over, crowded_line}, declared.types.ModeWord.ModeWord, declared.types.BaseWord.BaseWord, Goes.NotAt, Types.{mode_word, HasMode, base_word}, Rights.value_within, Simples.{doing_state, EndsDoing, doing_within}, Locals.{initial_state, EndsInitial}, Lines.{HasBase, MeetsType, MeetsLocal, starts_operand, starts_line, line_within}}
 use Rattle.sharc_parse.specs.declared.types.ModeWord.TheVariants as modes
 use Rattle.sharc_parse.specs.declared.types.BaseWord.TheVariants as bases
 use Rattle.sharc_parse.proofs.{Steps.{passes, fails}, TypeSteps.{begin_bare, no_base_step}, RightSteps.value_ends, SimpleSteps.doing_ends}

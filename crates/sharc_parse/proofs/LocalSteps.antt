@@ -3,8 +3,7 @@ use Rattle.std.proofs.Common.{◌≡◌, ℕ, ◌+◌, List, [], ◌∷◌, Opti
 use Rattle.std.specs.Prelude.{map, Ok}
 use Rattle.sharc_tree.specs.{declared.token.Site.Site, declared.token.Span.Span, declared.token.Punctuator.TheVariants.{Assign, Star, Comma, CloseParenthesis, OpenBrace}, declared.ctype.Base.Base, declared.tree.declaration.WrittenType.WrittenType, declared.tree.declaration.Declaration.Declaration}
 use Rattle.sharc_tree.specs.declared.ctype.Base.TheVariants as base
-use Rattle.sharc_grammar.specs.{Grammar.{Word, name, mark, Sharing, Typing, Part}, Machine.{Outer, LinePlace, NamePlace, on_top, field_of, parameter_of, local, naming, of_local, part, valued, Want, Named, At, typed, close_type, open_type, declaring_of}, Limits.{StuckAt, next_within, reads_within}, Places.{span_at, type_size, type_at, declaring_size, declaration_at}}
-use Rattle.sharc_parse.specs.{View.{bare_level, bare_type, bare_declaration}, Goes.NoName, Types.{EndsLevel, EndsLevels, EndsType, typed_levels, typed_state}, Locals.{void_type, struct_type, IsPlainAt, IsPlainPlace}}
+use Rattle.sharc_parse.specs.{Grammar.{Word, name, mark, Sharing, Typing, Part}, Machine.{Outer, LinePlace, NamePlace, on_top, field_of, parameter_of, local, naming, of_local, part, valued, Want, Named, At, typed, close_type, open_type, declaring_of}, Limits.{StuckAt, next_within, reads_within}, Places.{span_at, type_size, type_at, declaring_size, declaration_at}, View.{bare_level, bare_type, bare_declaration}, Goes.NoName, Types.{EndsLevel, EndsLevels, EndsType, typed_levels, typed_state}, Locals.{void_type, struct_type, IsPlainAt, IsPlainPlace}}
 use Rattle.sharc_parse.proofs.TypeSteps.{no_level}
 
 abbrev typing_with : Bool → Base → List (Option Sharing) → Typing

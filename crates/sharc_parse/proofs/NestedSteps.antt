@@ -4,8 +4,7 @@ use Rattle.std.specs.Prelude.{Result, Ok, Err}
 use Rattle.sharc_tree.specs.Tree as tree
 use Rattle.sharc_tree.specs.{Children.view_statements-push, View.{view_stmt, view_statements}, declared.token.Token.Token, declared.token.Site.Site, declared.token.Span.Span, declared.token.Punctuator.TheVariants.{OpenBrace, CloseBrace}, declared.tree.statement.Stmt.Stmt}
 use Rattle.sharc_tree.specs.declared.token.Keyword.TheVariants as key
-use Rattle.sharc_grammar.specs.{Grammar.{Word, keyword, mark, Phrase, Loop, Sentence, under, Sentences, no_more, sentence, if_of, else_of, Opening, while_of, for_of}, Machine.{Outer, body, items, inside, as_statement, Start, Done, At, start, line_start, done, is_else, holds_items, with_item}, Limits.{Over, next_within, reads_within, around_it}, Places.{site_in, size, sentence_size, all_size, opening_size, span_at, expression_at, head_at, statement_at, statements_at}}
-use Rattle.sharc_parse.specs.{declared.token.ReadingFault.ReadingFault, declared.token.ReadingFault.TheVariants.{Memory, Wrong, Deep}, View.bare, Goes.{from, Past, NotAt, IsAt}, Lines.line_within, declared.word.StatementWord.StatementWord, declared.word.StatementWord.TheVariants.{If, While, For, Return, Break, Continue}, Words.{statement_word, NoStatement}, Heads.bare_head, Statements.{bare_statement, sentence_of, sentences_of, ReadsStatement, BuildsStatement, IsRestPlaced}, Nested.{IsOpen, holding, closed, ReadsStatements}}
+use Rattle.sharc_parse.specs.{Grammar.{Word, keyword, mark, Phrase, Loop, Sentence, under, Sentences, no_more, sentence, if_of, else_of, Opening, while_of, for_of}, Machine.{Outer, body, items, inside, as_statement, Start, Done, At, start, line_start, done, is_else, holds_items, with_item}, Limits.{Over, next_within, reads_within, around_it}, Places.{site_in, size, sentence_size, all_size, opening_size, span_at, expression_at, head_at, statement_at, statements_at}, declared.token.ReadingFault.ReadingFault, declared.token.ReadingFault.TheVariants.{Memory, Wrong, Deep}, View.bare, Goes.{from, Past, NotAt, IsAt}, Lines.line_within, declared.word.StatementWord.StatementWord, declared.word.StatementWord.TheVariants.{If, While, For, Return, Break, Continue}, Words.{statement_word, NoStatement}, Heads.bare_head, Statements.{bare_statement, sentence_of, sentences_of, ReadsStatement, BuildsStatement, IsRestPlaced}, Nested.{IsOpen, holding, closed, ReadsStatements}}
 use Rattle.sharc_parse.proofs.{Steps.{passes, fails}, WordSteps.line_there, PlainSteps.over_statement}
 
 -- blocks

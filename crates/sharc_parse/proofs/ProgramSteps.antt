@@ -3,9 +3,8 @@ use Rattle.std.proofs.{Common.{◌≡◌, ℕ, ◌+◌, ◌-◌, ◌<◌, ◌≤
 use Rattle.std.specs.Prelude.{Result, Ok, Err}
 use Rattle.sharc_tree.specs.{View.{view_item, view_items, view_program}, declared.token.Token.Token, declared.token.Tokens.Tokens, declared.token.Site.Site, declared.tree.item.Item.Item, declared.tree.item.Program.Program}
 use Rattle.sharc_tree.specs.Tree as tree
-use Rattle.sharc_grammar.specs.{Grammar.{Word, Part, IsProgram, program_words}, Machine.{on_top, naming, TypeWant, Top, At, with_part, first_state}, Limits.{LowProgram, ReadWithin, StuckAt, Over, reads_within}, Places.{words_of, site_in, part_size, item_at, items_at, Reads}, Faults.{IsFault, wrong_code}}
-use Rattle.sharc_grammar.specs.declared.fault.GrammarFault.TheVariants as grammar_faults
-use Rattle.sharc_parse.specs.{declared.token.ReadingFault.ReadingFault, declared.token.ReadingFault.TheVariants.{Memory as NoMemory, Wrong, Deep}, declared.program.ParseFault.ParseFault, declared.program.ParseFault.TheVariants.{At as FaultOf, Memory}, Goes.from, Items.{part_of, ReadsItem, IsItemPlaced}, declared.program.TokenRefusal.TokenRefusal, Programs.{parts_of, code_of, ReadsItems, Refuses, Completes, Parses}}
+use Rattle.sharc_parse.specs.{Grammar.{Word, Part, IsProgram, program_words}, Machine.{on_top, naming, TypeWant, Top, At, with_part, first_state}, Limits.{LowProgram, ReadWithin, StuckAt, Over, reads_within}, Places.{words_of, site_in, part_size, item_at, items_at, Reads}, Faults.{IsFault, wrong_code}, declared.token.ReadingFault.ReadingFault, declared.token.ReadingFault.TheVariants.{Memory as NoMemory, Wrong, Deep}, declared.program.ParseFault.ParseFault, declared.program.ParseFault.TheVariants.{At as FaultOf, Memory}, Goes.from, Items.{part_of, ReadsItem, IsItemPlaced}, declared.program.TokenRefusal.TokenRefusal, Programs.{parts_of, code_of, ReadsItems, Refuses, Completes, Parses}}
+use Rattle.sharc_parse.specs.declared.fault.GrammarFault.TheVariants as grammar_faults
 use Rattle.sharc_parse.specs.declared.program.TokenRefusal.TheVariants as refusals
 
 -- at a word, a step from the top is one of a type there
@@ -77,7 +76,7 @@ item_fails see result Wrong tokens old new list is z h r = subst (λ o. ReadsIte
 item_fails see result Deep tokens old new list is z h r = subst (λ o. ReadsItems see o tokens new) (sym is) (item_there tokens old list z h ∙ r (parts_of list))
 item_fails see result NoMemory tokens old new list is z h r = subst (λ o. ReadsItems see o tokens new) (sym is) tt
 
--- the program, and the first fault, by the laws of sharc_grammar
+-- the program, and the first fault, by the laws of sharc_parse
 
 abbrev pub ReadsOnlyWithin : Type 0
 ReadsOnlyWithin = (all : List Word) (p : List Part) → reads_within all first_state ≡ ReadWithin p → IsProgram p × LowProgram p × (program_words p [] ≡ all)

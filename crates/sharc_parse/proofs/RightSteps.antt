@@ -3,8 +3,7 @@ use Rattle.std.proofs.Common.{◌≡◌, ◌≤◌, ◌<◌, List, [], ◌∷◌
 use Rattle.std.specs.Prelude.{map, Ok}
 use Rattle.sharc_tree.specs.declared.token.Keyword.TheVariants as key
 use Rattle.sharc_tree.specs.{declared.token.Punctuator.TheVariants.{OpenParenthesis, CloseParenthesis, OpenBrace, OpenBracket, Dot, Arrow, Comma, Star}, declared.ctype.Base.Base, declared.tree.declaration.WrittenType.WrittenType}
-use Rattle.sharc_grammar.specs.{Grammar.{Word, name, keyword, mark, Sharing, Typing, Phrase, Value, value, malloc}, Machine.{Outer, ValuePlace, ExpressionPlace, part, valued, counting, Want, Have, Malloced, Valued, TypeWant, sizing, an_open, a_close, a_sizeof, At, Role, Calling, Indexing, Accessing, Operating, Ending, role, grip_of, grip, have, leave, typed, level_step}, Limits.{StuckAt, next_within, reads_within}}
-use Rattle.sharc_parse.specs.{View.{bare_level, bare_type}, Goes.NotAt, Types.{EndsLevels, EndsType, typed_levels, typed_state}, Rights.{EndsValue, valued_state, value_within}}
+use Rattle.sharc_parse.specs.{Grammar.{Word, name, keyword, mark, Sharing, Typing, Phrase, Value, value, malloc}, Machine.{Outer, ValuePlace, ExpressionPlace, part, valued, counting, Want, Have, Malloced, Valued, TypeWant, sizing, an_open, a_close, a_sizeof, At, Role, Calling, Indexing, Accessing, Operating, Ending, role, grip_of, grip, have, leave, typed, level_step}, Limits.{StuckAt, next_within, reads_within}, View.{bare_level, bare_type}, Goes.NotAt, Types.{EndsLevels, EndsType, typed_levels, typed_state}, Rights.{EndsValue, valued_state, value_within}}
 use Rattle.sharc_parse.proofs.Steps.{some_strength}
 
 pub malloc_goes : (v : ValuePlace) (o : Outer) (y : List Word) → reads_within (keyword key.Malloc ∷ y) (At [] (Want (part (valued v) o))) ≡ reads_within y (At (an_open ∷ []) (Malloced v o))

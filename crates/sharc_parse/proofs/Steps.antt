@@ -8,9 +8,8 @@ use Rattle.sharc_tree.specs.declared.tree.expression.FieldOperator.TheVariants a
 use Rattle.sharc_tree.specs.declared.tree.expression.ValueCall.TheVariants as value_call
 use Rattle.sharc_tree.specs.declared.tree.expression.PlaceCall.TheVariants as place_call
 use Rattle.sharc_tree.specs.declared.tree.expression.Constant.TheVariants as constants
-use Rattle.sharc_grammar.specs.{Grammar.{Word, name, keyword, mark, number, character, Front, of_place, Phrase, identifier, constant, enclosed, call, index, field, unary, binary, Phrases, none, more, operator_mark, unary_mark, access_mark, constant_word, strength, front_level}, Machine.{condition, returning, testing, subject, valued, counting, Cont, part, beneath, right_of, fronted, indexing, arguments, Core, Want, Have, Called, Dotted, Fixed, an_open, a_close, a_semicolon, a_comma, a_brace, a_bracket, an_ampersand, a_sizeof, State, At, fixed_word, is_fixed, to, Role, Calling, Indexing, Accessing, Operating, Ending, role, grip_of, grip, with_last, floor, settle, mallocs, want, open_call, front_end, end_at, counted, shift, have}, Limits.{height, highest, depth, crowded, over_core, over, Limited, StuckAt, Over, next_within, reads_within}, Operators.{weak, operating, settle_stops, role_binary, role_unary, floor_most}, Places.{size, sizes, rest_size, expression_at, arguments_at, site_in, span_at, name_at, front_size, type_size, type_at}}
+use Rattle.sharc_parse.specs.{Grammar.{Word, name, keyword, mark, number, character, Front, of_place, Phrase, identifier, constant, enclosed, call, index, field, unary, binary, Phrases, none, more, operator_mark, unary_mark, access_mark, constant_word, strength, front_level}, Machine.{condition, returning, testing, subject, valued, counting, Cont, part, beneath, right_of, fronted, indexing, arguments, Core, Want, Have, Called, Dotted, Fixed, an_open, a_close, a_semicolon, a_comma, a_brace, a_bracket, an_ampersand, a_sizeof, State, At, fixed_word, is_fixed, to, Role, Calling, Indexing, Accessing, Operating, Ending, role, grip_of, grip, with_last, floor, settle, mallocs, want, open_call, front_end, end_at, counted, shift, have}, Limits.{height, highest, depth, crowded, over_core, over, Limited, StuckAt, Over, next_within, reads_within}, Operators.{weak, operating, settle_stops, role_binary, role_unary, floor_most}, Places.{size, sizes, rest_size, expression_at, arguments_at, site_in, span_at, name_at, front_size, type_size, type_at}, declared.token.ParsedExpr.ParsedExpr, declared.token.ReadingFault.ReadingFault, declared.expr.Front.{Front as ParsedFront}, Goes.{Builds, IsPlaced, StandsFront, bare_front, front_tree, NotAt, IsAt, NoName, NoConstant, NoUnary, NoFront, NoCall, NoMalloc, NoAccess, front_word, after_front}, View.{bare, bare_type, phrase_of, phrases_of}, declared.token.FrontWord.FrontWord}
 use Rattle.sharc_tree.specs.Tree as tree
-use Rattle.sharc_parse.specs.{declared.token.ParsedExpr.ParsedExpr, declared.token.ReadingFault.ReadingFault, declared.expr.Front.{Front as ParsedFront}, Goes.{Builds, IsPlaced, StandsFront, bare_front, front_tree, NotAt, IsAt, NoName, NoConstant, NoUnary, NoFront, NoCall, NoMalloc, NoAccess, front_word, after_front}, View.{bare, bare_type, phrase_of, phrases_of}, declared.token.FrontWord.FrontWord}
 use Rattle.sharc_parse.specs.declared.expr.Front.TheVariants as fronts
 use Rattle.sharc_parse.specs.declared.token.FrontWord.TheVariants as begins
 use Rattle.sharc_lemmas.proofs.Numbers.{test_down}

@@ -3,8 +3,7 @@ use Rattle.std.proofs.{Common.{◌≡◌, ℕ, suc, ◌+◌, ◌≤◌, ◌<◌,
 use Rattle.sharc_tree.specs.declared.token.Keyword.TheVariants as key
 use Rattle.sharc_tree.specs.{declared.token.Punctuator.TheVariants.{OpenParenthesis, CloseParenthesis, OpenBrace, Comma, Arrow, Star}, declared.ctype.Base.Base, declared.token.Token.Token, declared.token.Site.Site, declared.token.Span.Span, declared.ctype.Mode.Mode, declared.tree.declaration.WrittenType.WrittenType}
 use Rattle.sharc_tree.specs.declared.ctype.Base.TheVariants as base
-use Rattle.sharc_grammar.specs.{Grammar.{Word, name, keyword, mark, Sharing, private, readonly, racy, dynamic, locked, locked_through, Typing, of_cast}, Machine.{Cont, Want, fronted, ModePlace, before_base, at_level, moded, TypePlace, casting, takes_modes, TypeWant, ModeFirst, StructWant, Typed, PathWant, PathNamed, PathThrough, an_open, a_close, State, At, or_else, mode_step, base_step, based, begin_type, typed, level_step, path_named}, Limits.{StuckAt, Over, next_within, reads_within, over_core, over, depth, crowded}, Places.{site_in, level_size, levels_size, levels_at, level_at, base_place, span_at, type_size}}
-use Rattle.sharc_parse.specs.{declared.types.ModeWord.ModeWord, declared.types.BaseWord.BaseWord, Goes.{NotAt, IsAt, NoName, from, Past}, declared.token.ReadingFault.ReadingFault, declared.token.ReadingFault.TheVariants.{Memory, Wrong, Deep}, declared.types.Bottom.Bottom, View.{bare_level, bare_type}, Types.{typed_levels, typed_state, ReadsLevel, IsModeRestPlaced, IsModePlaced, ReadsBottom, EndsBottom, IsBottomPlaced, ReadsType, EndsType, IsTypePlaced, ReadsCast, mode_word, NoMode, HasMode, IsOpen, mode_within, after_mode, base_word, NoBase, base_within, EndsLevel, EndsLevels}}
+use Rattle.sharc_parse.specs.{Grammar.{Word, name, keyword, mark, Sharing, private, readonly, racy, dynamic, locked, locked_through, Typing, of_cast}, Machine.{Cont, Want, fronted, ModePlace, before_base, at_level, moded, TypePlace, casting, takes_modes, TypeWant, ModeFirst, StructWant, Typed, PathWant, PathNamed, PathThrough, an_open, a_close, State, At, or_else, mode_step, base_step, based, begin_type, typed, level_step, path_named}, Limits.{StuckAt, Over, next_within, reads_within, over_core, over, depth, crowded}, Places.{site_in, level_size, levels_size, levels_at, level_at, base_place, span_at, type_size}, declared.types.ModeWord.ModeWord, declared.types.BaseWord.BaseWord, Goes.{NotAt, IsAt, NoName, from, Past}, declared.token.ReadingFault.ReadingFault, declared.token.ReadingFault.TheVariants.{Memory, Wrong, Deep}, declared.types.Bottom.Bottom, View.{bare_level, bare_type}, Types.{typed_levels, typed_state, ReadsLevel, IsModeRestPlaced, IsModePlaced, ReadsBottom, EndsBottom, IsBottomPlaced, ReadsType, EndsType, IsTypePlaced, ReadsCast, mode_word, NoMode, HasMode, IsOpen, mode_within, after_mode, base_word, NoBase, base_within, EndsLevel, EndsLevels}}
 use Rattle.sharc_parse.specs.declared.types.ModeWord.TheVariants as modes
 use Rattle.sharc_parse.specs.declared.types.BaseWord.TheVariants as bases
 use Rattle.std.specs.Prelude.{map, insert, Ok, Err}

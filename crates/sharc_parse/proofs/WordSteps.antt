@@ -2,8 +2,7 @@
 use Rattle.std.proofs.{Common.{◌≡◌, ℕ, ◌+◌, ◌≤◌, ◌<◌, List, [], ◌∷◌, Some, None, refl, sym, ap, ◌∙◌, arith, true, false}, lemmas.Bool.{lt-leb, le-leb}}
 use Rattle.sharc_tree.specs.declared.token.Keyword.TheVariants as key
 use Rattle.sharc_tree.specs.declared.token.Punctuator.TheVariants.{OpenParenthesis, CloseParenthesis, OpenBrace, CloseBrace}
-use Rattle.sharc_grammar.specs.{Grammar.{Word, keyword, mark, Phrase}, Machine.{Outer, inside, as_statement, Asked, condition, part, Want, Have, Start, an_open, At, leave, asked, start, line_start, grip}, Limits.{StuckAt, Over, next_within, reads_within, around_it, over}}
-use Rattle.sharc_parse.specs.{declared.word.StatementWord.StatementWord, declared.word.StatementWord.TheVariants.{If, While, For, Return, Break, Continue}, Goes.{NotAt, IsAt}, Lines.line_within, Words.{statement_word, room_of, NoStatement, after_word}}
+use Rattle.sharc_parse.specs.{Grammar.{Word, keyword, mark, Phrase}, Machine.{Outer, inside, as_statement, Asked, condition, part, Want, Have, Start, an_open, At, leave, asked, start, line_start, grip}, Limits.{StuckAt, Over, next_within, reads_within, around_it, over}, declared.word.StatementWord.StatementWord, declared.word.StatementWord.TheVariants.{If, While, For, Return, Break, Continue}, Goes.{NotAt, IsAt}, Lines.line_within, Words.{statement_word, room_of, NoStatement, after_word}}
 use Rattle.sharc_parse.proofs.{Steps.{passes, fails, fixed_goes}, RightSteps.ends_place}
 
 start_step : (w : StatementWord) (o : Outer) → start o (statement_word w) ≡ Some (after_word w o)

@@ -1,9 +1,9 @@
 -- What the function promises that reads the fields of a struct.
 use Rattle.std.specs.Prelude.{◌≡◌, ℕ, ◌+◌, List, [], ◌∷◌, map, Result, IfOk}
 use Rattle.sharc_tree.specs.{declared.token.Token.Token, declared.tree.declaration.Declaration.Declaration}
-use Rattle.sharc_grammar.specs.Grammar.{Word, Declaring, Part, structure}
-use Rattle.sharc_grammar.specs.Machine.{field_of, naming, TypeWant, Top, a_semicolon, At, with_part}
-use Rattle.sharc_grammar.specs.{Limits.reads_within, Places.{site_in, fields_size, declarations_at}}
+use Rattle.sharc_parse.specs.Grammar.{Word, Declaring, Part, structure}
+use Rattle.sharc_parse.specs.Machine.{field_of, naming, TypeWant, Top, a_semicolon, At, with_part}
+use Rattle.sharc_parse.specs.{Limits.reads_within, Places.{site_in, fields_size, declarations_at}}
 use Rattle.sharc_parse.specs.{declared.token.ReadingFault.ReadingFault, View.bare_declaration, Goes.Goes}
 
 abbrev pub declared : List Declaration → List Declaring

@@ -5,11 +5,11 @@ use Rattle.sharc_tree.specs.declared.token.Punctuator.TheVariants.{OpenParenthes
 use Rattle.sharc_tree.specs.{declared.tree.expression.Constant.Constant, declared.tree.item.GlobalForm.GlobalForm}
 use Rattle.sharc_tree.specs.declared.tree.item.GlobalForm.TheVariants.{Plain, Array, Initial}
 use Rattle.sharc_tree.specs.declared.tree.expression.Constant.TheVariants as constants
-use Rattle.sharc_grammar.specs.Grammar.{Word, mark, number, character, constant_word, Typing, Declaring, Form, single}
-use Rattle.sharc_grammar.specs.Grammar.{array, initially, Part, global}
-use Rattle.sharc_grammar.specs.Machine.{on_top, Named, ArrayWant, InitialWant, Top, a_semicolon, At, declaring_of}
-use Rattle.sharc_grammar.specs.Machine.{with_part}
-use Rattle.sharc_grammar.specs.{Limits.reads_within, Places.{site_in, form_size, form_at}}
+use Rattle.sharc_parse.specs.Grammar.{Word, mark, number, character, constant_word, Typing, Declaring, Form, single}
+use Rattle.sharc_parse.specs.Grammar.{array, initially, Part, global}
+use Rattle.sharc_parse.specs.Machine.{on_top, Named, ArrayWant, InitialWant, Top, a_semicolon, At, declaring_of}
+use Rattle.sharc_parse.specs.Machine.{with_part}
+use Rattle.sharc_parse.specs.{Limits.reads_within, Places.{site_in, form_size, form_at}}
 use Rattle.sharc_parse.specs.{declared.token.ReadingFault.ReadingFault, Goes.{from, Past, NotAt, Goes}}
 
 abbrev pub NoNumber : List Word → Type 0

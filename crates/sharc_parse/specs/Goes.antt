@@ -9,13 +9,14 @@ use Rattle.sharc_tree.specs.declared.tree.expression.Constant.{Constant}
 use Rattle.sharc_tree.specs.declared.tree.expression.BinaryOperator.{BinaryOperator}
 use Rattle.sharc_tree.specs.declared.tree.expression.UnaryOperator.{UnaryOperator}
 use Rattle.sharc_tree.specs.declared.tree.expression.FieldOperator.{FieldOperator}
-use Rattle.sharc_grammar.specs.Grammar.{Word, name, keyword, mark, number, character, left_out, Phrase, identifier}
-use Rattle.sharc_grammar.specs.Grammar.{constant, constant_word, unary_mark, operator_mark, access_mark, strength}
-use Rattle.sharc_grammar.specs.Machine.{Cont, Want, Have, State, At, floor, grip, grip_of, role, TypeWant, an_open}
-use Rattle.sharc_grammar.specs.Machine.{fronted, part, valued, an_ampersand, Spawning, casting}
-use Rattle.sharc_grammar.specs.Limits.{Limited, StuckAt, Over, reads_within, depth, crowded, height}
-use Rattle.sharc_grammar.specs.Places.{words_of, site_in, size, expression_at, front_size, type_at}
-use Rattle.sharc_parse.specs.{declared.token.ReadingFault.ReadingFault, declared.token.ReadingFault.TheVariants.{Memory, Wrong, Deep}}
+use Rattle.sharc_parse.specs.Grammar.{Word, name, keyword, mark, number, character, left_out, Phrase, identifier}
+use Rattle.sharc_parse.specs.Grammar.{constant, constant_word, unary_mark, operator_mark, access_mark, strength}
+use Rattle.sharc_parse.specs.Machine.{Cont, Want, Have, State, At, floor, grip, grip_of, role, TypeWant, an_open}
+use Rattle.sharc_parse.specs.Machine.{fronted, part, valued, an_ampersand, Spawning, casting}
+use Rattle.sharc_parse.specs.Limits.{Limited, StuckAt, Over, reads_within, depth, crowded, height}
+use Rattle.sharc_parse.specs.Places.{words_of, site_in, size, expression_at, front_size, type_at}
+use Rattle.sharc_parse.specs.declared.token.ReadingFault.{ReadingFault}
+use Rattle.sharc_parse.specs.declared.token.ReadingFault.TheVariants.{Memory, Wrong, Deep}
 use Rattle.sharc_parse.specs.declared.token.FrontWord.{FrontWord}
 use Rattle.sharc_parse.specs.declared.token.FrontWord.TheVariants.{Parenthesis, Spawn, Value, Place, Cast}
 use Rattle.sharc_parse.specs.{declared.token.ParsedExpr.ParsedExpr, declared.expr.Front.Front}
@@ -27,7 +28,7 @@ use Rattle.sharc_tree.specs.declared.token.Keyword.TheVariants as key
 use Rattle.sharc_tree.specs.declared.tree.expression.ValueCall.TheVariants as value_call
 use Rattle.sharc_tree.specs.declared.tree.expression.PlaceCall.TheVariants as place_call
 use Rattle.sharc_tree.specs.Tree as tree
-use Rattle.sharc_grammar.specs.Grammar as grammar
+use Rattle.sharc_parse.specs.Grammar as grammar
 
 -- the words from token number n on
 abbrev pub from : List Token → ℕ → List Word
@@ -137,7 +138,8 @@ abbrev pub LiesAtTokens : Expr → List Token → ℕ → Type 0
 LiesAtTokens e tokens n = view_expr e ≡ expression_at (site_in tokens) n (phrase_of e)
 
 abbrev pub IsPlaced : Result ParsedExpr ReadingFault → List Token → ℕ → ℕ → Type 0
-IsPlaced result tokens old new = IfOk result (λ r. LiesAtTokens r.expr tokens old × (new ≡ old + size (phrase_of r.expr)))
+IsPlaced result tokens old new =
+    IfOk result (λ r. LiesAtTokens r.expr tokens old × (new ≡ old + size (phrase_of r.expr)))
 
 -- a name with a `(` after it was taken as a call
 abbrev pub NoCall : Phrase → List Word → Type 0

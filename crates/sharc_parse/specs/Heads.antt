@@ -4,11 +4,11 @@ use Rattle.sharc_tree.specs.Tree as tree
 use Rattle.sharc_tree.specs.{View.{view_expr, view_option, view_simple, view_head}, declared.token.Token.Token}
 use Rattle.sharc_tree.specs.{declared.tree.expression.Expr.Expr, declared.tree.statement.Simple.Simple}
 use Rattle.sharc_tree.specs.declared.tree.statement.ForHead.{ForHead}
-use Rattle.sharc_grammar.specs.Grammar.{Word, Phrase, Doing, Line, Loop, return, for_of}
-use Rattle.sharc_grammar.specs.Machine.{Outer, inside, ExpressionPlace, returning, testing, Start, Done, Returning, ForOpen}
-use Rattle.sharc_grammar.specs.Machine.{ForTest, ForStep, an_open, State, At, loop}
-use Rattle.sharc_grammar.specs.Limits.{reads_within, around_it}
-use Rattle.sharc_grammar.specs.Places.{site_in, option_size, option_at, step_size, step_at, opening_size, head_at}
+use Rattle.sharc_parse.specs.Grammar.{Word, Phrase, Doing, Line, Loop, return, for_of}
+use Rattle.sharc_parse.specs.Machine.{Outer, inside, ExpressionPlace, returning, testing, Start, Done, Returning}
+use Rattle.sharc_parse.specs.Machine.{ForOpen, ForTest, ForStep, an_open, State, At, loop}
+use Rattle.sharc_parse.specs.Limits.{reads_within, around_it}
+use Rattle.sharc_parse.specs.Places.{site_in, option_size, option_at, step_size, step_at, opening_size, head_at}
 use Rattle.sharc_parse.specs.{declared.token.ReadingFault.ReadingFault, Goes.Goes, Rights.{bare_option, option_of}}
 use Rattle.sharc_parse.specs.{Simples.bare_doing, Lines.bare_line}
 

@@ -5,9 +5,9 @@ use Rattle.sharc_tree.specs.{View.view_item, declared.token.Token.Token}
 use Rattle.sharc_tree.specs.declared.token.Punctuator.TheVariants.{OpenBrace}
 use Rattle.sharc_tree.specs.declared.tree.declaration.Identifier.{Identifier}
 use Rattle.sharc_tree.specs.{declared.tree.declaration.WrittenType.WrittenType, declared.tree.item.Item.Item}
-use Rattle.sharc_grammar.specs.Grammar.{Word, mark, Typing, Part, structure, global, function}
-use Rattle.sharc_grammar.specs.Machine.{on_top, field_of, parameter_of, naming, TypeWant, Top, State, At, with_part}
-use Rattle.sharc_grammar.specs.{Limits.reads_within, Places.{site_in, type_size, part_size, name_at, type_at, item_at}}
+use Rattle.sharc_parse.specs.Grammar.{Word, mark, Typing, Part, structure, global, function}
+use Rattle.sharc_parse.specs.Machine.{on_top, field_of, parameter_of, naming, TypeWant, Top, State, At, with_part}
+use Rattle.sharc_parse.specs.{Limits.reads_within, Places.{site_in, type_size, part_size, name_at, type_at, item_at}}
 use Rattle.sharc_parse.specs.{declared.token.ReadingFault.ReadingFault, declared.token.ReadingFault.TheVariants.Memory}
 use Rattle.sharc_parse.specs.{View.{bare_type, bare_declaration}, Goes.{from, Past, NotAt, Goes}}
 use Rattle.sharc_parse.specs.{Types.{typed_state, EndsType}, Locals.struct_type, Forms.form_of, Fields.declared}

@@ -1,3 +1,9 @@
+pub mod Grammar
+pub mod Machine
+pub mod Operators
+pub mod Limits
+pub mod Places
+pub mod Faults
 pub mod View
 pub mod Goes
 pub mod Types

@@ -6,15 +6,14 @@ use Rattle.sharc_tree.specs.declared.token.Punctuator.TheVariants.{Semicolon, Mi
 use Rattle.sharc_tree.specs.declared.token.Punctuator.TheVariants.{OpenParenthesis}
 use Rattle.sharc_tree.specs.declared.tree.statement.ForFirst.{ForFirst}
 use Rattle.sharc_tree.specs.declared.token.Keyword.TheVariants as key
-use Rattle.sharc_grammar.specs.Grammar.{Word, name, keyword, mark, number, character, Line, nothing, does, declares}
-use Rattle.sharc_grammar.specs.Machine.{Outer, LinePlace, in_line, local, naming, part, subject, Want, TypeWant, At}
-use Rattle.sharc_grammar.specs.Machine.{lined, line_start, may_declare}
-use Rattle.sharc_grammar.specs.Limits.{Limited, StuckAt, next_within, reads_within, crowded_line}
-use Rattle.sharc_grammar.specs.Places.{site_in, line_size, first_at}
-use Rattle.sharc_parse.specs.{declared.token.ReadingFault.ReadingFault, declared.types.BaseWord.BaseWord}
-use Rattle.sharc_parse.specs.{declared.line.MayDeclare.MayDeclare, declared.line.MayDeclare.TheVariants.{Yes, No}}
-use Rattle.sharc_parse.specs.{Goes.Goes, Types.{HasMode, NoMode, base_word, NoBase}, Simples.bare_doing}
-use Rattle.sharc_parse.specs.Locals.{bare_local}
+use Rattle.sharc_parse.specs.Grammar.{Word, name, keyword, mark, number, character, Line, nothing, does, declares}
+use Rattle.sharc_parse.specs.Machine.{Outer, LinePlace, in_line, local, naming, part, subject, Want, TypeWant, At}
+use Rattle.sharc_parse.specs.Machine.{lined, line_start, may_declare}
+use Rattle.sharc_parse.specs.Limits.{Limited, StuckAt, next_within, reads_within, crowded_line}
+use Rattle.sharc_parse.specs.{Places.{site_in, line_size, first_at}, declared.token.ReadingFault.ReadingFault}
+use Rattle.sharc_parse.specs.{declared.types.BaseWord.BaseWord, declared.line.MayDeclare.MayDeclare}
+use Rattle.sharc_parse.specs.{declared.line.MayDeclare.TheVariants.{Yes, No}, Goes.Goes}
+use Rattle.sharc_parse.specs.{Types.{HasMode, NoMode, base_word, NoBase}, Simples.bare_doing, Locals.bare_local}
 
 abbrev pub bare_line : tree.First → Line
 bare_line tree.nothing = nothing

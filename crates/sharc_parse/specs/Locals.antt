@@ -8,14 +8,15 @@ use Rattle.sharc_tree.specs.declared.tree.declaration.WrittenType.{WrittenType}
 use Rattle.sharc_tree.specs.{declared.tree.declaration.Declaration.Declaration, declared.tree.statement.Right.Right}
 use Rattle.sharc_tree.specs.declared.tree.statement.Local.{Local}
 use Rattle.sharc_tree.specs.declared.ctype.Base.TheVariants as base
-use Rattle.sharc_grammar.specs.Grammar.{Word, mark, Typing, Declared, Value}
-use Rattle.sharc_grammar.specs.Machine.{Outer, LinePlace, NamePlace, on_top, parameter_of, local, naming, of_local}
-use Rattle.sharc_grammar.specs.Machine.{TypeWant, Named, State, At, declaring_of}
-use Rattle.sharc_grammar.specs.Limits.{reads_within}
-use Rattle.sharc_grammar.specs.Places.{site_in, declaring_size, declaration_at, initial_size, initial_at, local_size}
-use Rattle.sharc_grammar.specs.Places.{local_at}
-use Rattle.sharc_parse.specs.{declared.token.ReadingFault.ReadingFault, View.{bare_type, bare_declaration}, Goes.{Goes, NotAt}}
-use Rattle.sharc_parse.specs.{Types.{typed_state, EndsType}, Rights.{bare_value, valued_state, EndsValue}}
+use Rattle.sharc_parse.specs.Grammar.{Word, mark, Typing, Declared, Value}
+use Rattle.sharc_parse.specs.Machine.{Outer, LinePlace, NamePlace, on_top, parameter_of, local, naming, of_local}
+use Rattle.sharc_parse.specs.Machine.{TypeWant, Named, State, At, declaring_of}
+use Rattle.sharc_parse.specs.Limits.{reads_within}
+use Rattle.sharc_parse.specs.Places.{site_in, declaring_size, declaration_at, initial_size, initial_at, local_size}
+use Rattle.sharc_parse.specs.Places.{local_at}
+use Rattle.sharc_parse.specs.{declared.token.ReadingFault.ReadingFault, View.{bare_type, bare_declaration}}
+use Rattle.sharc_parse.specs.{Goes.{Goes, NotAt}, Types.{typed_state, EndsType}}
+use Rattle.sharc_parse.specs.Rights.{bare_value, valued_state, EndsValue}
 
 abbrev pub void_type : Typing
 void_type = record { mode_first = false; base = base.Void; levels = None ∷ [] }

@@ -2,12 +2,12 @@
 use Rattle.std.specs.Prelude.{◌≡◌, ℕ, ◌+◌, Bool, true, false, List, [], Result, IfOk}
 use Rattle.sharc_tree.specs.{View.view_statements, declared.token.Token.Token}
 use Rattle.sharc_tree.specs.{declared.token.Punctuator.TheVariants.CloseBrace, declared.tree.statement.Stmt.Stmt}
-use Rattle.sharc_grammar.specs.Grammar.{Word, mark, block, Sentences, no_more}
-use Rattle.sharc_grammar.specs.Machine.{Outer, body, items, inside, Start, Done, Top, State, At, holds_items, with_part}
-use Rattle.sharc_grammar.specs.Machine.{function_of}
-use Rattle.sharc_grammar.specs.{Limits.{reads_within, around_it}, Places.{site_in, all_size, statements_at}}
-use Rattle.sharc_parse.specs.{declared.token.ReadingFault.ReadingFault, declared.word.StatementWord.StatementWord, Goes.{NotAt, Goes}}
-use Rattle.sharc_parse.specs.{Words.after_word, Statements.{sentence_of, sentences_of}}
+use Rattle.sharc_parse.specs.Grammar.{Word, mark, block, Sentences, no_more}
+use Rattle.sharc_parse.specs.Machine.{Outer, body, items, inside, Start, Done, Top, State, At, holds_items, with_part}
+use Rattle.sharc_parse.specs.Machine.{function_of}
+use Rattle.sharc_parse.specs.{Limits.{reads_within, around_it}, Places.{site_in, all_size, statements_at}}
+use Rattle.sharc_parse.specs.{declared.token.ReadingFault.ReadingFault, declared.word.StatementWord.StatementWord}
+use Rattle.sharc_parse.specs.{Goes.{NotAt, Goes}, Words.after_word, Statements.{sentence_of, sentences_of}}
 
 -- among the statements of a block the `}` was looked for
 abbrev pub IsOpen : Bool → List Word → Type 0

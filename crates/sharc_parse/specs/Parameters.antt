@@ -2,12 +2,12 @@
 use Rattle.std.specs.Prelude.{◌≡◌, ℕ, ◌+◌, Bool, true, false, List, [], ◌∷◌, Option, Some, None, Result, IfOk}
 use Rattle.sharc_tree.specs.{declared.token.Token.Token, declared.token.Punctuator.TheVariants.CloseParenthesis}
 use Rattle.sharc_tree.specs.declared.tree.declaration.Declaration.{Declaration}
-use Rattle.sharc_grammar.specs.Grammar.{Word, mark, Typing, Declaring, Part, no_more}
-use Rattle.sharc_grammar.specs.Machine.{body, parameter_of, naming, TypeWant, Named, Start, a_brace, State, At}
-use Rattle.sharc_grammar.specs.Limits.{reads_within}
-use Rattle.sharc_grammar.specs.Places.{site_in, declaring_size, declaration_at, parameters_size, declarations_at}
-use Rattle.sharc_parse.specs.{declared.token.ReadingFault.ReadingFault, View.bare_declaration, Goes.{from, Past, NotAt, Goes}}
-use Rattle.sharc_parse.specs.{Locals.void_type, Fields.declared}
+use Rattle.sharc_parse.specs.Grammar.{Word, mark, Typing, Declaring, Part, no_more}
+use Rattle.sharc_parse.specs.Machine.{body, parameter_of, naming, TypeWant, Named, Start, a_brace, State, At}
+use Rattle.sharc_parse.specs.Limits.{reads_within}
+use Rattle.sharc_parse.specs.Places.{site_in, declaring_size, declaration_at, parameters_size, declarations_at}
+use Rattle.sharc_parse.specs.{declared.token.ReadingFault.ReadingFault, View.bare_declaration}
+use Rattle.sharc_parse.specs.{Goes.{from, Past, NotAt, Goes}, Locals.void_type, Fields.declared}
 
 abbrev pub ClosesVoid : Bool → Typing → List Token → ℕ → ℕ → Type 0
 ClosesVoid true t tokens old new = (t ≡ void_type) × Past (mark CloseParenthesis) tokens old new
@@ -36,12 +36,14 @@ abbrev pub IsFirstPlaced : Result (Option Declaration) ReadingFault → List Tok
 IsFirstPlaced result tokens old new = IfOk result (λ d. StandsFirst d tokens old new)
 
 -- the parameters, and the `)`
-abbrev pub ReadsParameters : {A : Type 0} → (A → List Declaration) → Result A ReadingFault → List Word → List Word → Type 0
+abbrev pub ReadsParameters : {A : Type 0} → (A → List Declaration) → Result A ReadingFault → List Word → List Word
+    → Type 0
 ReadsParameters list result old new = (all : List Part) (r : Typing) (f : List ℕ)
     → Goes (λ v. declared (list v)) result (reads_within old (At [] (TypeWant (naming (parameter_of all r f [])))))
     (λ given. reads_within new (At (a_brace ∷ []) (Start (body all r f given no_more)))) new
 
-abbrev pub AreParametersPlaced : {A : Type 0} → (A → List Declaration) → Result A ReadingFault → List Token → ℕ → ℕ → Type 0
+abbrev pub AreParametersPlaced : {A : Type 0} → (A → List Declaration) → Result A ReadingFault → List Token → ℕ → ℕ
+    → Type 0
 AreParametersPlaced list result tokens old new =
     IfOk result (λ v. (list v ≡ declarations_at (site_in tokens) old (declared (list v)))
     × (new ≡ old + parameters_size (declared (list v)) + 1))

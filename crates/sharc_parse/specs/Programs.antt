@@ -3,14 +3,14 @@ use Rattle.std.specs.Prelude.{◌≡◌, ℕ, List, [], ◌∷◌, drop, map, sl
 use Rattle.sharc_tree.specs.{View.{view_items, view_program}, declared.token.Token.Token, declared.token.Tokens.Tokens}
 use Rattle.sharc_tree.specs.{declared.token.Site.Site, declared.token.FaultAt.FaultAt, declared.tree.item.Item.Item}
 use Rattle.sharc_tree.specs.declared.tree.item.Program.{Program}
-use Rattle.sharc_grammar.specs.{declared.fault.GrammarFault.GrammarFault, Grammar.{Word, Part}, Machine.first_state}
-use Rattle.sharc_grammar.specs.{Limits.{ReadWithin, reads_within}, Places.{words_of, site_in, items_at, Reads}}
-use Rattle.sharc_grammar.specs.Faults.{IsFault, wrong_code}
-use Rattle.sharc_grammar.specs.declared.fault.GrammarFault.TheVariants as fault
-use Rattle.sharc_parse.specs.{declared.program.TokenRefusal.TokenRefusal, declared.program.TokenRefusal.TheVariants.{Wrong, Deep}}
+use Rattle.sharc_parse.specs.{declared.fault.GrammarFault.GrammarFault, Grammar.{Word, Part}, Machine.first_state}
+use Rattle.sharc_parse.specs.{Limits.{ReadWithin, reads_within}, Places.{words_of, site_in, items_at, Reads}}
+use Rattle.sharc_parse.specs.{Faults.{IsFault, wrong_code}, declared.program.TokenRefusal.TokenRefusal}
+use Rattle.sharc_parse.specs.declared.program.TokenRefusal.TheVariants.{Wrong, Deep}
 use Rattle.sharc_parse.specs.{declared.token.ReadingFault.ReadingFault, declared.program.ParseFault.ParseFault}
 use Rattle.sharc_parse.specs.{declared.program.ParseFault.TheVariants.{At as FaultOf, Memory}, Goes.{from, Goes}}
 use Rattle.sharc_parse.specs.Items.{part_of}
+use Rattle.sharc_parse.specs.declared.fault.GrammarFault.TheVariants as fault
 
 -- the file and the line of the first of the tokens, or of the end of input
 abbrev pub file_of : List Token → Site → ℕ

@@ -4,11 +4,11 @@ use Rattle.sharc_tree.specs.Tree as tree
 use Rattle.sharc_tree.specs.{View.{view_expr, view_option, view_right}, declared.token.Token.Token}
 use Rattle.sharc_tree.specs.{declared.tree.expression.Expr.Expr, declared.tree.statement.Right.Right}
 use Rattle.sharc_tree.specs.declared.tree.declaration.WrittenType.{WrittenType}
-use Rattle.sharc_grammar.specs.Grammar.{Word, Phrase, Value, value, malloc}
-use Rattle.sharc_grammar.specs.Machine.{Outer, ValuePlace, part, valued, Want, Have, Malloced, Valued, TypeWant, sizing}
-use Rattle.sharc_grammar.specs.Machine.{an_open, State, At, grip, value_end}
-use Rattle.sharc_grammar.specs.Limits.{Limited, StuckAt, next_within, reads_within}
-use Rattle.sharc_grammar.specs.Places.{site_in, count_size, option_at, value_size, value_at, type_size, type_at}
+use Rattle.sharc_parse.specs.Grammar.{Word, Phrase, Value, value, malloc}
+use Rattle.sharc_parse.specs.Machine.{Outer, ValuePlace, part, valued, Want, Have, Malloced, Valued, TypeWant, sizing}
+use Rattle.sharc_parse.specs.Machine.{an_open, State, At, grip, value_end}
+use Rattle.sharc_parse.specs.Limits.{Limited, StuckAt, next_within, reads_within}
+use Rattle.sharc_parse.specs.Places.{site_in, count_size, option_at, value_size, value_at, type_size, type_at}
 use Rattle.sharc_parse.specs.{declared.token.ReadingFault.ReadingFault, View.{bare, bare_type}, Goes.Goes}
 
 abbrev pub bare_option : Option tree.Expression → Option Phrase

@@ -3,13 +3,13 @@ use Rattle.std.specs.Prelude.{◌≡◌, ℕ, ◌+◌, ◌≤◌, true, false, L
 use Rattle.sharc_tree.specs.Tree as tree
 use Rattle.sharc_tree.specs.{View.view_simple, declared.token.Token.Token, declared.token.Punctuator.TheVariants.Assign}
 use Rattle.sharc_tree.specs.declared.tree.statement.Simple.{Simple}
-use Rattle.sharc_grammar.specs.Grammar.{Word, mark, Doing, assign, invoke, is_call}
-use Rattle.sharc_grammar.specs.Machine.{Outer, DoingPlace, of_doing, part, subject, Want, Have, State, At, grip}
-use Rattle.sharc_grammar.specs.Machine.{doing_end}
-use Rattle.sharc_grammar.specs.Limits.{Limited, StuckAt, next_within, reads_within, crowded_doing}
-use Rattle.sharc_grammar.specs.Places.{site_in, doing_size, doing_at}
-use Rattle.sharc_parse.specs.{declared.token.ReadingFault.ReadingFault, declared.token.ReadingFault.TheVariants.Wrong, View.bare}
-use Rattle.sharc_parse.specs.{Goes.{Goes, NotAt}, Rights.{bare_value, valued_state, EndsValue}}
+use Rattle.sharc_parse.specs.Grammar.{Word, mark, Doing, assign, invoke, is_call}
+use Rattle.sharc_parse.specs.Machine.{Outer, DoingPlace, of_doing, part, subject, Want, Have, State, At, grip}
+use Rattle.sharc_parse.specs.Machine.{doing_end}
+use Rattle.sharc_parse.specs.Limits.{Limited, StuckAt, next_within, reads_within, crowded_doing}
+use Rattle.sharc_parse.specs.{Places.{site_in, doing_size, doing_at}, declared.token.ReadingFault.ReadingFault}
+use Rattle.sharc_parse.specs.{declared.token.ReadingFault.TheVariants.Wrong, View.bare, Goes.{Goes, NotAt}}
+use Rattle.sharc_parse.specs.Rights.{bare_value, valued_state, EndsValue}
 
 abbrev pub bare_doing : tree.Simple → Doing
 bare_doing (tree.assign s u r) = assign (bare u) (bare_value r)

@@ -4,12 +4,12 @@ use Rattle.sharc_tree.specs.Tree as tree
 use Rattle.sharc_tree.specs.{View.{view_stmt, view_statements}, declared.token.Token.Token, declared.token.Span.Span}
 use Rattle.sharc_tree.specs.{declared.tree.statement.Jump.Jump, declared.tree.statement.Stmt.Stmt}
 use Rattle.sharc_tree.specs.declared.token.Keyword.TheVariants as key
-use Rattle.sharc_grammar.specs.Grammar.{Word, keyword, Sentence, line, jump, return, block, under, Sentences, no_more}
-use Rattle.sharc_grammar.specs.Grammar.{sentence, if_of, else_of, while_of, for_of, nothing, does, declares, takes_else}
-use Rattle.sharc_grammar.specs.Machine.{Outer, as_statement, Start, Done, Returning, a_semicolon, At, holds_items}
-use Rattle.sharc_grammar.specs.{Limits.{reads_within, around_it}, Places.{site_in, sentence_size, statement_at}}
-use Rattle.sharc_parse.specs.{declared.token.ReadingFault.ReadingFault, declared.token.ReadingFault.TheVariants.Memory, View.bare}
-use Rattle.sharc_parse.specs.{Goes.{NotAt, Goes}, Rights.bare_option, Simples.bare_doing, Locals.bare_local}
+use Rattle.sharc_parse.specs.Grammar.{Word, keyword, Sentence, line, jump, return, block, under, Sentences, no_more}
+use Rattle.sharc_parse.specs.Grammar.{sentence, if_of, else_of, while_of, for_of, nothing, does, declares, takes_else}
+use Rattle.sharc_parse.specs.Machine.{Outer, as_statement, Start, Done, Returning, a_semicolon, At, holds_items}
+use Rattle.sharc_parse.specs.{Limits.{reads_within, around_it}, Places.{site_in, sentence_size, statement_at}}
+use Rattle.sharc_parse.specs.{declared.token.ReadingFault.ReadingFault, declared.token.ReadingFault.TheVariants.Memory}
+use Rattle.sharc_parse.specs.{View.bare, Goes.{NotAt, Goes}, Rights.bare_option, Simples.bare_doing, Locals.bare_local}
 use Rattle.sharc_parse.specs.{Heads.bare_head, Lines.line_within}
 
 abbrev mutual

@@ -7,14 +7,15 @@ use Rattle.sharc_tree.specs.{declared.ctype.Mode.Mode, declared.ctype.Path.Path}
 use Rattle.sharc_tree.specs.declared.tree.declaration.WrittenType.{WrittenType}
 use Rattle.sharc_tree.specs.declared.token.Keyword.TheVariants as key
 use Rattle.sharc_tree.specs.declared.ctype.Mode.TheVariants as mode
-use Rattle.sharc_grammar.specs.Grammar.{Word, keyword, mark, Sharing, private, readonly, racy, dynamic, Typing, of_cast}
-use Rattle.sharc_grammar.specs.Machine.{ModePlace, before_base, at_level, moded, TypePlace, takes_modes, TypeWant}
-use Rattle.sharc_grammar.specs.Machine.{Typed, PathWant, an_open, State, At, mode_step, base_step, based, casting, Cont}
-use Rattle.sharc_grammar.specs.Machine.{Want, fronted}
-use Rattle.sharc_grammar.specs.Limits.{Limited, StuckAt, Over, next_within, reads_within, depth, crowded}
-use Rattle.sharc_grammar.specs.Places.{site_in, sharing_size, level_size, base_size, base_name, type_size, mode_at}
-use Rattle.sharc_grammar.specs.Places.{level_at, bottom_at, base_place, type_at}
-use Rattle.sharc_parse.specs.{declared.token.ReadingFault.ReadingFault, declared.token.ReadingFault.TheVariants.{Memory, Wrong, Deep}}
+use Rattle.sharc_parse.specs.Grammar.{Word, keyword, mark, Sharing, private, readonly, racy, dynamic, Typing, of_cast}
+use Rattle.sharc_parse.specs.Machine.{ModePlace, before_base, at_level, moded, TypePlace, takes_modes, TypeWant, Typed}
+use Rattle.sharc_parse.specs.Machine.{PathWant, an_open, State, At, mode_step, base_step, based, casting, Cont, Want}
+use Rattle.sharc_parse.specs.Machine.{fronted}
+use Rattle.sharc_parse.specs.Limits.{Limited, StuckAt, Over, next_within, reads_within, depth, crowded}
+use Rattle.sharc_parse.specs.Places.{site_in, sharing_size, level_size, base_size, base_name, type_size, mode_at}
+use Rattle.sharc_parse.specs.Places.{level_at, bottom_at, base_place, type_at}
+use Rattle.sharc_parse.specs.declared.token.ReadingFault.{ReadingFault}
+use Rattle.sharc_parse.specs.declared.token.ReadingFault.TheVariants.{Memory, Wrong, Deep}
 use Rattle.sharc_parse.specs.{declared.types.ModePermission.ModePermission, declared.types.ModeWord.ModeWord}
 use Rattle.sharc_parse.specs.{declared.types.BaseWord.BaseWord, declared.types.Bottom.Bottom}
 use Rattle.sharc_parse.specs.{View.{bare_path, bare_mode, bare_level, bare_type}, Goes.{from, Past, NotAt, Goes}}

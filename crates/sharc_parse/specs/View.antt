@@ -6,10 +6,9 @@ use Rattle.sharc_tree.specs.declared.ctype.Path.TheVariants.{One, Through}
 use Rattle.sharc_tree.specs.declared.tree.declaration.WrittenType.{WrittenType}
 use Rattle.sharc_tree.specs.{declared.tree.declaration.Declaration.Declaration, declared.tree.expression.Expr.Expr}
 use Rattle.sharc_tree.specs.declared.ctype.Mode.TheVariants as mode
-use Rattle.sharc_grammar.specs.Grammar.{Sharing, private, readonly, racy, dynamic, locked, locked_through, Typing}
-use Rattle.sharc_grammar.specs.Grammar.{Declaring, parenthesis, of_spawn, of_value, of_place, of_cast, Phrase}
-use Rattle.sharc_grammar.specs.Grammar.{identifier, constant, enclosed, call, index, field, unary, binary, Phrases}
-use Rattle.sharc_grammar.specs.Grammar.{none, more}
+use Rattle.sharc_parse.specs.Grammar.{Sharing, private, readonly, racy, dynamic, locked, locked_through, Typing}
+use Rattle.sharc_parse.specs.Grammar.{Declaring, parenthesis, of_spawn, of_value, of_place, of_cast, Phrase, identifier}
+use Rattle.sharc_parse.specs.Grammar.{constant, enclosed, call, index, field, unary, binary, Phrases, none, more}
 
 abbrev pub bare_path : Path → Sharing
 bare_path (One m t) = locked m

@@ -3,10 +3,10 @@ use Rattle.std.specs.Prelude.{◌≡◌, ℕ, ◌+◌, ◌≤◌, ◌<◌, List,
 use Rattle.sharc_tree.specs.{View.view_expr, declared.token.Token.Token, declared.tree.expression.Expr.Expr}
 use Rattle.sharc_tree.specs.declared.token.Keyword.TheVariants as key
 use Rattle.sharc_tree.specs.declared.tree.statement.Jump.TheVariants as jumps
-use Rattle.sharc_grammar.specs.Grammar.{Word, keyword, jump}
-use Rattle.sharc_grammar.specs.Machine.{Outer, inside, Asked, by_if, by_while, condition, part, Want, Start, Done}
-use Rattle.sharc_grammar.specs.Machine.{Returning, ForOpen, an_open, a_semicolon, State, At, asked}
-use Rattle.sharc_grammar.specs.{Limits.{reads_within, around_it}, Places.{site_in, size, expression_at}}
+use Rattle.sharc_parse.specs.Grammar.{Word, keyword, jump}
+use Rattle.sharc_parse.specs.Machine.{Outer, inside, Asked, by_if, by_while, condition, part, Want, Start, Done}
+use Rattle.sharc_parse.specs.Machine.{Returning, ForOpen, an_open, a_semicolon, State, At, asked}
+use Rattle.sharc_parse.specs.{Limits.{reads_within, around_it}, Places.{site_in, size, expression_at}}
 use Rattle.sharc_parse.specs.{declared.token.ReadingFault.ReadingFault, declared.token.ReadingFault.TheVariants.Deep}
 use Rattle.sharc_parse.specs.declared.word.StatementWord.{StatementWord}
 use Rattle.sharc_parse.specs.declared.word.StatementWord.TheVariants.{If, While, For, Return, Break, Continue}

@@ -4,10 +4,10 @@ ghost use Rattle.std.specs.Prelude.{◌≡◌, ℕ, max, List, [], false, ◌<�
 ghost use Rattle.sharc_tree.specs.Tree as tree;
 ghost use Rattle.sharc_tree.specs.Tree.{binary, field, unary};
 ghost use Rattle.sharc_tree.specs.View.{view_expr, view_arguments};
-ghost use Rattle.sharc_grammar.specs.Grammar.{call, front_level};
-ghost use Rattle.sharc_grammar.specs.Machine.{Cont, Have, Called, At, grip};
-ghost use Rattle.sharc_grammar.specs.Limits.{reads_within, depth, crowded, highest};
-ghost use Rattle.sharc_grammar.specs.Places.{sizes, site_in, span_at, arguments_at};
+ghost use Rattle.sharc_parse.specs.Grammar.{call, front_level};
+ghost use Rattle.sharc_parse.specs.Machine.{Cont, Have, Called, At, grip};
+ghost use Rattle.sharc_parse.specs.Limits.{reads_within, depth, crowded, highest};
+ghost use Rattle.sharc_parse.specs.Places.{sizes, site_in, span_at, arguments_at};
 ghost use Rattle.sharc_parse.specs.View.{phrase_of, phrases_of};
 ghost use Rattle.sharc_parse.specs.declared.token.FrontWord.TheVariants.{Spawn, Place};
 ghost use Rattle.sharc_parse.specs.Goes.{from, Goes, ReadsFrom, ReadsBehindName, IsHigh, IsPlaced, ReadsFront};
@@ -15,14 +15,15 @@ ghost use Rattle.sharc_parse.specs.Goes.{IsFrontPlaced, NoUnary, NoCall, Builds,
 
 use crate::held::{box_beside, boxes, expect_behind};
 use crate::token::{
-    ReadingFault, FrontWord, ParsedExpr, access, constant, enter, expect, front_word, is_at, name, operator,
-    site, span, strength_of, take, unary_operator,
+    FrontWord, ParsedExpr, ReadingFault, access, constant, enter, expect, front_word, is_at, name,
+    operator, site, span, strength_of, take, unary_operator,
 };
 use crate::types::cast_type;
 use sharc_tree::held::both;
 use sharc_tree::token::{Punctuator, Site, Span, Token};
 use sharc_tree::tree::{
-    FieldOperator, BinaryOperator, Expr, Identifier, PlaceCall, UnaryOperator, ValueCall, WrittenType,
+    BinaryOperator, Expr, FieldOperator, Identifier, PlaceCall, UnaryOperator, ValueCall,
+    WrittenType,
 };
 use std::alloc::Global;
 
@@ -131,7 +132,12 @@ fn binary_of(
     Ok(ParsedExpr { expr, height })
 }
 
-fn index_of(alloc: Global, span: Span, base: ParsedExpr, index: ParsedExpr) -> Result<ParsedExpr, ReadingFault>
+fn index_of(
+    alloc: Global,
+    span: Span,
+    base: ParsedExpr,
+    index: ParsedExpr,
+) -> Result<ParsedExpr, ReadingFault>
     requires base { base.height < 64 }
     requires index { index.height < 64 }
     ensures { Builds result (tree.index span (view_expr base.expr) (view_expr index.expr))
@@ -180,7 +186,12 @@ fn unary_of(
     })
 }
 
-fn front_of(alloc: Global, span: Span, front: Front, inner: ParsedExpr) -> Result<ParsedExpr, ReadingFault>
+fn front_of(
+    alloc: Global,
+    span: Span,
+    front: Front,
+    inner: ParsedExpr,
+) -> Result<ParsedExpr, ReadingFault>
     requires { inner.height < 64 }
     ensures { Builds result (front_tree span front (view_expr inner.expr)) (inner.height + 1) }
 {
@@ -273,7 +284,12 @@ pub(crate) fn unary(
 /// An operand with the indexes and fields after it.
 #[cycle(expr)]
 #[tactic(auto, using(crate::proofs::Steps::index_deep, crate::proofs::Steps::access_deep, crate::proofs::Steps::no_field, crate::proofs::Steps::no_call, crate::proofs::Steps::ends_postfix))]
-fn postfix(alloc: Global, tokens: &[Token], at: &mut usize, room: u8) -> Result<ParsedExpr, ReadingFault>
+fn postfix(
+    alloc: Global,
+    tokens: &[Token],
+    at: &mut usize,
+    room: u8,
+) -> Result<ParsedExpr, ReadingFault>
     requires room { room ≤ 64 }
     requires few { length tokens.now ≤ 2 ^ 20 }
     requires there { at.old ≤ length tokens.now }
@@ -308,7 +324,12 @@ fn postfix(alloc: Global, tokens: &[Token], at: &mut usize, room: u8) -> Result<
 /// The innermost part of an operand.
 #[cycle(expr)]
 #[tactic(auto, using(crate::proofs::Steps::front_goes, crate::proofs::Steps::front_deep, crate::proofs::Steps::no_operand, crate::proofs::Steps::front_missing))]
-fn primary(alloc: Global, tokens: &[Token], at: &mut usize, room: u8) -> Result<ParsedExpr, ReadingFault>
+fn primary(
+    alloc: Global,
+    tokens: &[Token],
+    at: &mut usize,
+    room: u8,
+) -> Result<ParsedExpr, ReadingFault>
     requires room { room ≤ 64 }
     requires few { length tokens.now ≤ 2 ^ 20 }
     requires there { at.old ≤ length tokens.now }

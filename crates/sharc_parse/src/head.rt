@@ -16,7 +16,11 @@ use std::alloc::Global;
 
 /// An expression that may be left out, and its `;`.
 #[tactic(auto, using(crate::proofs::HeadSteps::tail_empty, crate::proofs::HeadSteps::tail_begins, crate::proofs::HeadSteps::tail_ends, crate::proofs::HeadSteps::tail_stuck, crate::proofs::HeadSteps::tail_fits))]
-pub(crate) fn tail(alloc: Global, tokens: &[Token], at: &mut usize) -> Result<Option<Expr>, ReadingFault>
+pub(crate) fn tail(
+    alloc: Global,
+    tokens: &[Token],
+    at: &mut usize,
+) -> Result<Option<Expr>, ReadingFault>
     requires few { length tokens.now ≤ 2 ^ 20 }
     requires there { at.old ≤ length tokens.now }
     ensures reads { ReadsTail result (from tokens.now at.old) (from tokens.now at.new) }

@@ -1,7 +1,7 @@
 // Reading the items of a program.
 
 ghost use Rattle.std.specs.Prelude.{◌≡◌, ◌+◌, ◌<◌, ◌≤◌, ◌^◌, length, IfOk};
-ghost use Rattle.sharc_grammar.specs.Places.{site_in};
+ghost use Rattle.sharc_parse.specs.Places.{site_in};
 ghost use Rattle.sharc_parse.specs.Goes.{from};
 ghost use Rattle.sharc_parse.specs.View.{bare_type};
 ghost use Rattle.sharc_parse.specs.Items.{OpensStruct, ReadsStruct, IsStructPlaced, ReadsFunction, IsFunctionPlaced};

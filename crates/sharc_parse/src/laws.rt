@@ -4,8 +4,8 @@ ghost use Rattle.std.specs.Prelude.{◌≡◌};
 ghost use Rattle.sharc_tree.specs.Tree.{Program};
 ghost use Rattle.sharc_tree.specs.declared.token.FaultAt.{FaultAt};
 ghost use Rattle.sharc_tree.specs.declared.token.Tokens.{Tokens};
-ghost use Rattle.sharc_grammar.specs.declared.fault.GrammarFault.{GrammarFault};
-ghost use Rattle.sharc_grammar.specs.Places.{Reads};
+ghost use Rattle.sharc_parse.specs.declared.fault.GrammarFault.{GrammarFault};
+ghost use Rattle.sharc_parse.specs.Places.{Reads};
 ghost use Rattle.sharc_parse.specs.Programs.{IsFaultOf};
 
 /// Tokens that are a program have no fault.

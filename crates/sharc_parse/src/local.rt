@@ -60,7 +60,11 @@ pub(crate) fn declaration(
 
 /// The right side of `=`, if there is one.
 #[tactic(auto, using(crate::proofs::LocalSteps::initial_goes))]
-fn initial_value(alloc: Global, tokens: &[Token], at: &mut usize) -> Result<Option<Right>, ReadingFault>
+fn initial_value(
+    alloc: Global,
+    tokens: &[Token],
+    at: &mut usize,
+) -> Result<Option<Right>, ReadingFault>
     requires few { length tokens.now ≤ 2 ^ 20 }
     requires there { at.old ≤ length tokens.now }
     ensures reads { ReadsInitial result (from tokens.now at.old) (from tokens.now at.new) }

@@ -51,7 +51,11 @@ pub(crate) fn line_statement(
 
 /// What follows the word `break` or `continue`.
 #[tactic(auto, using(crate::proofs::PlainSteps::jump_ends, crate::proofs::Steps::fixed_stuck))]
-pub(crate) fn rest_of_jump(tokens: &[Token], at: &mut usize, jump: Jump) -> Result<Stmt, ReadingFault>
+pub(crate) fn rest_of_jump(
+    tokens: &[Token],
+    at: &mut usize,
+    jump: Jump,
+) -> Result<Stmt, ReadingFault>
     requires few { length tokens.now ≤ 2 ^ 20 }
     requires behind { 1 ≤ at.old }
     requires there { at.old ≤ length tokens.now }
@@ -79,7 +83,11 @@ fn return_of(alloc: Global, span: Span, given: Option<Expr>) -> Result<Stmt, Rea
 
 /// What follows the word `return`.
 #[tactic(auto, using(crate::proofs::PlainSteps::return_wrong, crate::proofs::PlainSteps::return_reads, crate::proofs::PlainSteps::return_placed))]
-pub(crate) fn rest_of_return(alloc: Global, tokens: &[Token], at: &mut usize) -> Result<Stmt, ReadingFault>
+pub(crate) fn rest_of_return(
+    alloc: Global,
+    tokens: &[Token],
+    at: &mut usize,
+) -> Result<Stmt, ReadingFault>
     requires few { length tokens.now ≤ 2 ^ 20 }
     requires behind { 1 ≤ at.old }
     requires there { at.old ≤ length tokens.now }

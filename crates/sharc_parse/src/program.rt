@@ -5,10 +5,10 @@ ghost use Rattle.sharc_parse.specs.Goes.{from};
 ghost use Rattle.sharc_parse.specs.Programs.{Parses, ReadsItems, AreItemsPlaced, told_of, code_of, IsToldAt, Refuses};
 ghost use Rattle.sharc_parse.specs.Programs.{Completes};
 
+use crate::fault::GrammarFault;
+use crate::grammar_laws;
 use crate::item::item;
 use crate::token::ReadingFault;
-use sharc_grammar::fault::GrammarFault;
-use sharc_grammar::laws;
 use sharc_tree::name::Name;
 use sharc_tree::token::{FaultAt, Token, TokenKind, Tokens};
 use sharc_tree::tree::{Item, Items, Program};
@@ -124,7 +124,12 @@ fn fault_at(
 }
 
 /// The refusal at that token, or at the end of input.
-fn refuse(alloc: Global, tokens: Tokens, at: usize, refusal: TokenRefusal) -> Result<Program, ParseFault>
+fn refuse(
+    alloc: Global,
+    tokens: Tokens,
+    at: usize,
+    refusal: TokenRefusal,
+) -> Result<Program, ParseFault>
     requires files { All (λ t. t.file < length tokens.files) tokens.list }
     requires end_file { tokens.end.file < length tokens.files }
     ensures { Refuses result tokens at refusal }
@@ -158,9 +163,9 @@ pub fn parse(alloc: Global, tokens: Tokens) -> Result<Program, ParseFault>
     requires end_file { tokens.end.file < length tokens.files }
     ensures { Parses result tokens }
 {
-    laws::reads_only_within();
-    laws::stuck_at_fault();
-    laws::over_at_fault();
+    grammar_laws::reads_only_within();
+    grammar_laws::stuck_at_fault();
+    grammar_laws::over_at_fault();
     let mut at = 0;
     match items(alloc, tokens.list.as_slice(), &mut at) {
         Ok(items) => complete(alloc, tokens, items),

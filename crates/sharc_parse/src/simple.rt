@@ -1,7 +1,7 @@
 // Reading an assignment or a call.
 
 ghost use Rattle.std.specs.Prelude.{◌≡◌, ◌≤◌, ◌^◌, length};
-ghost use Rattle.sharc_grammar.specs.Grammar as grammar;
+ghost use Rattle.sharc_parse.specs.Grammar as grammar;
 ghost use Rattle.sharc_tree.specs.View.{view_expr};
 ghost use Rattle.sharc_parse.specs.View.{phrase_of};
 ghost use Rattle.sharc_parse.specs.Goes.{from};
@@ -41,7 +41,11 @@ fn call_of(expr: Expr) -> Result<Simple, ReadingFault>
 
 /// An assignment or a call.
 #[tactic(auto, using(crate::proofs::SimpleSteps::assign_goes, crate::proofs::SimpleSteps::no_call_there))]
-pub(crate) fn simple(alloc: Global, tokens: &[Token], at: &mut usize) -> Result<Simple, ReadingFault>
+pub(crate) fn simple(
+    alloc: Global,
+    tokens: &[Token],
+    at: &mut usize,
+) -> Result<Simple, ReadingFault>
     requires few { length tokens.now ≤ 2 ^ 20 }
     requires there { at.old ≤ length tokens.now }
     ensures reads { ReadsSimple result (from tokens.now at.old) (from tokens.now at.new) }

@@ -131,7 +131,12 @@ fn rest_of_statement(
 /// What follows the word `if`.
 #[cycle(statement)]
 #[tactic(auto, using(crate::proofs::NestedSteps::else_goes, crate::proofs::NestedSteps::if_ends, crate::proofs::NestedSteps::else_ends))]
-fn rest_of_if(alloc: Global, tokens: &[Token], at: &mut usize, room: u8) -> Result<Stmt, ReadingFault>
+fn rest_of_if(
+    alloc: Global,
+    tokens: &[Token],
+    at: &mut usize,
+    room: u8,
+) -> Result<Stmt, ReadingFault>
     requires two { 2 ≤ room }
     requires room { room ≤ 64 }
     requires few { length tokens.now ≤ 2 ^ 20 }
@@ -157,7 +162,12 @@ fn rest_of_if(alloc: Global, tokens: &[Token], at: &mut usize, room: u8) -> Resu
 /// What follows the word `while`.
 #[cycle(statement)]
 #[tactic(auto, using(crate::proofs::NestedSteps::while_ends))]
-fn rest_of_while(alloc: Global, tokens: &[Token], at: &mut usize, room: u8) -> Result<Stmt, ReadingFault>
+fn rest_of_while(
+    alloc: Global,
+    tokens: &[Token],
+    at: &mut usize,
+    room: u8,
+) -> Result<Stmt, ReadingFault>
     requires two { 2 ≤ room }
     requires room { room ≤ 64 }
     requires few { length tokens.now ≤ 2 ^ 20 }
@@ -178,7 +188,12 @@ fn rest_of_while(alloc: Global, tokens: &[Token], at: &mut usize, room: u8) -> R
 /// What follows the word `for`.
 #[cycle(statement)]
 #[tactic(auto, using(crate::proofs::NestedSteps::for_ends))]
-fn rest_of_for(alloc: Global, tokens: &[Token], at: &mut usize, room: u8) -> Result<Stmt, ReadingFault>
+fn rest_of_for(
+    alloc: Global,
+    tokens: &[Token],
+    at: &mut usize,
+    room: u8,
+) -> Result<Stmt, ReadingFault>
     requires two { 2 ≤ room }
     requires room { room ≤ 64 }
     requires few { length tokens.now ≤ 2 ^ 20 }

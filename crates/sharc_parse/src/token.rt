@@ -1,15 +1,15 @@
 // Going past single tokens.
 
 ghost use Rattle.std.specs.Prelude.{◌≡◌, ℕ, ◌+◌, ◌<◌, ◌≤◌, ◌^◌};
-ghost use Rattle.sharc_grammar.specs.Grammar.{mark, keyword, strength};
-ghost use Rattle.sharc_grammar.specs.Places.{site_in, span_at};
+ghost use Rattle.sharc_parse.specs.Grammar.{mark, keyword, strength};
+ghost use Rattle.sharc_parse.specs.Places.{site_in, span_at};
 ghost use Rattle.sharc_parse.specs.declared.token.ReadingFault.TheVariants.{Memory};
 ghost use Rattle.sharc_parse.specs.Goes.{Takes, Expects, TakesName, TakesConstant, from, Meets, EntersAccess, Enters};
 ghost use Rattle.sharc_parse.specs.Goes.{EntersUnary, EntersFront, IsOperator, EntersOperator};
 
 use sharc_tree::token::{Keyword, Punctuator, Site, Span, Token, TokenKind};
 use sharc_tree::tree::{
-    FieldOperator, BinaryOperator, Constant, Expr, Identifier, PlaceCall, UnaryOperator, ValueCall,
+    BinaryOperator, Constant, Expr, FieldOperator, Identifier, PlaceCall, UnaryOperator, ValueCall,
 };
 use std::alloc::{AllocError, AllocFailed, Global};
 
@@ -108,7 +108,11 @@ pub(crate) fn take(tokens: &[Token], at: &mut usize, punctuator: Punctuator) -> 
 }
 
 /// Goes past a token that has to be that punctuator.
-pub(crate) fn expect(tokens: &[Token], at: &mut usize, punctuator: Punctuator) -> Result<(), ReadingFault>
+pub(crate) fn expect(
+    tokens: &[Token],
+    at: &mut usize,
+    punctuator: Punctuator,
+) -> Result<(), ReadingFault>
     ensures { Expects result (mark punctuator) tokens.now at.old at.new }
 {
     if take(tokens, at, punctuator) {
@@ -136,7 +140,11 @@ pub(crate) fn take_keyword(tokens: &[Token], at: &mut usize, word: Keyword) -> b
 }
 
 /// Goes past a token that has to be that keyword.
-pub(crate) fn expect_keyword(tokens: &[Token], at: &mut usize, word: Keyword) -> Result<(), ReadingFault>
+pub(crate) fn expect_keyword(
+    tokens: &[Token],
+    at: &mut usize,
+    word: Keyword,
+) -> Result<(), ReadingFault>
     ensures { Expects result (keyword word) tokens.now at.old at.new }
 {
     if take_keyword(tokens, at, word) {
@@ -360,7 +368,11 @@ pub(crate) fn is_at(tokens: &[Token], at: usize, punctuator: Punctuator) -> bool
 }
 
 /// Goes past `.` or `->`, where there is room.
-pub(crate) fn access(tokens: &[Token], at: &mut usize, room: u8) -> Result<Option<FieldOperator>, ReadingFault>
+pub(crate) fn access(
+    tokens: &[Token],
+    at: &mut usize,
+    room: u8,
+) -> Result<Option<FieldOperator>, ReadingFault>
     ensures { EntersAccess result room tokens.now at.old at.new }
 {
     if *at >= tokens.len() {

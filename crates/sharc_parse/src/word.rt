@@ -52,7 +52,11 @@ pub(crate) fn statement_word(
 
 /// The condition of an `if` or a `while`, with its parentheses.
 #[tactic(auto, using(crate::proofs::WordSteps::condition_opens, crate::proofs::WordSteps::condition_ends, crate::proofs::WordSteps::condition_stuck, crate::proofs::Steps::fixed_stuck))]
-pub(crate) fn condition(alloc: Global, tokens: &[Token], at: &mut usize) -> Result<Expr, ReadingFault>
+pub(crate) fn condition(
+    alloc: Global,
+    tokens: &[Token],
+    at: &mut usize,
+) -> Result<Expr, ReadingFault>
     requires few { length tokens.now ≤ 2 ^ 20 }
     requires there { at.old ≤ length tokens.now }
     ensures reads { ReadsCondition result (from tokens.now at.old) (from tokens.now at.new) }

@@ -1,7 +1,8 @@
 -- The graph of the functions: each name that is called or spawned is an edge, and each that is spawned makes a source.
 use Rattle.std.specs.Prelude.{ℕ, Bool, true, false, not, ◌&&◌, nat_lt, List, Option, None, Some, slice_set}
 use Rattle.std.specs.Prelude.{if◌then◌else◌}
-use Rattle.sharc_graph.specs.{declared.graph.Node.Node, declared.graph.Edge.Edge, declared.graph.NodeFinding.NodeFinding}
+use Rattle.sharc_graph.specs.{declared.graph.Node.Node, declared.graph.Edge.Edge}
+use Rattle.sharc_graph.specs.declared.graph.NodeFinding.{NodeFinding}
 use Rattle.sharc_graph.specs.{declared.graph.NodeFinding.TheVariants.{Apart, Source, Behind}, Findings.is_apart}
 use Rattle.sharc_graph.specs.Paths.{edge_of}
 use Rattle.sharc_names.specs.declared.fault.Named.{Named}

@@ -4,8 +4,7 @@ use Rattle.std.specs.List.{All}
 use Rattle.sharc_word.specs.{declared.step.WordEvent.WordEvent, declared.step.TheConstants.THREADS}
 use Rattle.sharc_code.specs.{declared.code.Code.Code, declared.shape.Shape.Shape, Machine.Machine, Path.{IsPath, machine_after, events_of_path, made_in, may_go}}
 use Rattle.sharc_bus.specs.Bus.{OneHistory}
-use Rattle.sharc_journal.specs.Shared.{SharedView, SeatView, AreSeatsOf, lists_of}
-use Rattle.sharc_record.specs.{declared.hand.Hand.Hand, declared.worker.Worker.Worker, Round.{MayQuantumAt, MayRun, HasRun, HasRoom, HasRoomAt, HaveAllRun, hand_at}}
+use Rattle.sharc_record.specs.{Shared.{SharedView, SeatView, AreSeatsOf, lists_of}, declared.hand.Hand.Hand, declared.worker.Worker.Worker, Round.{MayQuantumAt, MayRun, HasRun, HasRoom, HasRoomAt, HaveAllRun, hand_at}}
 use Rattle.sharc_record.proofs.{Places.at_place, Dealing.{has_at, has_run}}
 use Rattle.sharc_rounds.specs.Round.{Seat, MadeQuantum, MadeQuantumAt, MayBegin, MayBeginAt, MadeRound}
 use Rattle.sharc_cpu.specs.Thread.{ThreadView}

@@ -4,9 +4,8 @@ use Rattle.std.specs.Prelude.{if◌then◌else◌}
 use Rattle.sharc_word.specs.{Place.{PortState, LeadsInEvents, place_of_events}, Laws.PlaceLaws}
 use Rattle.sharc_code.specs.{declared.code.Code.Code, declared.shape.Shape.Shape, declared.state.TurnState.TurnState, declared.state.TurnState.TheVariants.{Runs, Tries, Stopped, Ended}, Machine.{Machine, Turn, Local, Asks}, Path.{may_go, turn, machine_after, events_of_turn, events_of_path, made_in}}
 use Rattle.sharc_cpu.specs.{Thread.{ThreadView, IsThread}, Quantum.{IsQuantum, pause_of}, declared.quantum.Pause.Pause, declared.quantum.Pause.TheVariants.{Ran, Spent}}
-use Rattle.sharc_journal.specs.{Shared.SeatView, declared.journal.TheConstants.QUANTUM}
+use Rattle.sharc_record.specs.{Shared.SeatView, declared.journal.TheConstants.QUANTUM, Round.HasRun}
 use Rattle.sharc_rounds.specs.Round.{Seat}
-use Rattle.sharc_record.specs.Round.{HasRun}
 use Rattle.sharc_lemmas.proofs.Numbers.{below}
 
 ran_or_spent : (b : Bool) → b ≡ false → (if b then Spent else Ran) ≡ Ran

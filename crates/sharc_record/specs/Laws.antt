@@ -1,9 +1,8 @@
 -- Laws of recorded runs, for the crates above.
 use Rattle.std.specs.Prelude.{ℕ, ◌≡◌, ◌≤◌, List}
 use Rattle.sharc_code.specs.{declared.code.Code.Code, declared.shape.Shape.Shape, Layout.Fits, Whole.place_after}
-use Rattle.sharc_recorded.specs.File.{FileView, IsFile, HoldsNoSchedule, written}
+use Rattle.sharc_schedule.specs.{File.{FileView, IsFile, HoldsNoSchedule, written}, Schedule.Stored, Laws.ShowsSame}
 use Rattle.sharc_seq.specs.{declared.run.SeqRun.SeqRun, Run.IsSeqRun}
-use Rattle.sharc_schedule.specs.{Schedule.Stored, Laws.ShowsSame}
 use Rattle.sharc_record.specs.{declared.run.Recorded.Recorded, Run.IsRecorded}
 
 -- what a recorded file says of a run

@@ -5,10 +5,10 @@ use Rattle.sharc_code.specs.{declared.code.Code.Code, declared.shape.Shape.Shape
 use Rattle.sharc_code.specs.{Runs.{Turn, IsRun, opening_of, word_events}, Opening.opening_words}
 use Rattle.sharc_code.specs.Whole.{one_thread, bounds, place_after}
 use Rattle.sharc_cpu.specs.Thread.{ThreadView, IsThread}
-use Rattle.sharc_journal.specs.{Shared.SharedView, declared.journal.TheConstants.QUANTUM}
+use Rattle.sharc_record.specs.{Shared.SharedView, declared.journal.TheConstants.QUANTUM, declared.hand.Hand.Hand}
+use Rattle.sharc_record.specs.{declared.worker.Worker.Worker, declared.round.Rounds.Rounds}
 use Rattle.sharc_threads.specs.Seats.{AreSeats}
 use Rattle.sharc_rounds.specs.Round.{Seat, MadeQuantumAt, MadeRound}
-use Rattle.sharc_record.specs.{declared.hand.Hand.Hand, declared.worker.Worker.Worker, declared.round.Rounds.Rounds}
 
 -- ---- one thread
 -- a thread may make a quantum over the port of the seat of this number

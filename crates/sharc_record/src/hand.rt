@@ -6,9 +6,13 @@ ghost use Rattle.sharc_code.specs.Layout.{Fits, words_of};
 ghost use Rattle.sharc_cpu.specs.Rows.{IsPlan};
 ghost use Rattle.sharc_record.specs.Round.{MayQuantum, HasRun, MayRun};
 
+use crate::journal::QUANTUM;
+use crate::journaled::journal_laws;
+use crate::port::JournalPort;
+use crate::seat::JournalSeat;
+use crate::shared::SharedJournal;
 use sharc_code::{Code, Shape};
 use sharc_cpu::{RowPlan, Thread, run_trying};
-use sharc_journal::{JournalPort, JournalSeat, QUANTUM, SharedJournal, journal_laws};
 use sharc_rounds::{Gate, GatedPort, most_events};
 use sharc_threads::is_on;
 use sharc_word::place_laws;

@@ -2,8 +2,7 @@
 
 ghost use Rattle.sharc_record.specs.Laws.{RecordsReplay};
 
-use sharc_recorded::file_laws;
-use sharc_schedule::schedule_laws;
+use sharc_schedule::{file_laws, schedule_laws};
 
 /// What is written of a recorded run is one recorded file, and the run by the schedule that it says shows what the
 /// recorded run does.

@@ -7,10 +7,11 @@ ghost use Rattle.sharc_cpu.specs.Rows.{IsPlan};
 ghost use Rattle.sharc_rounds.specs.Round.{MayBegin};
 ghost use Rattle.sharc_record.specs.Round.{HasRoom, HasRoomAt, RecordedRound};
 
+use crate::journal::{Journal, QUANTUM};
+use crate::shared::SharedJournal;
 use crate::worker::{deal, gather, run_all};
 use sharc_code::{Code, Shape};
 use sharc_cpu::{RowPlan, Thread};
-use sharc_journal::{Journal, QUANTUM, SharedJournal};
 use sharc_rounds::{Gate, workers_needed};
 use sharc_threads::{ThreadTable, is_on};
 use sharc_word::{MemPort, THREADS, WordEvent};

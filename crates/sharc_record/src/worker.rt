@@ -4,16 +4,17 @@ ghost use Rattle.std.specs.Prelude.{◌≡◌, ◌<◌, ◌≤◌, ◌%◌, ◌^
 ghost use Rattle.sharc_word.specs.declared.step.TheConstants.{THREADS as threads};
 ghost use Rattle.sharc_code.specs.Layout.{Fits, words_of};
 ghost use Rattle.sharc_cpu.specs.Rows.{IsPlan};
-ghost use Rattle.sharc_journal.specs.Shared.{SeatView};
+ghost use Rattle.sharc_record.specs.Shared.{SeatView};
 ghost use Rattle.sharc_record.specs.declared.hand.Hand.{Hand};
 ghost use Rattle.sharc_record.specs.declared.worker.Worker.{Worker};
 ghost use Rattle.sharc_rounds.specs.Round.{Seat};
 ghost use Rattle.sharc_record.specs.Round.{MayRunAt, HasRunAt, MayAllRun, HaveAllRun, hand_at};
 
 use crate::hand::Hand;
+use crate::seat::JournalSeat;
+use crate::shared::SharedJournal;
 use sharc_code::{Code, Shape};
 use sharc_cpu::{RowPlan, Thread};
-use sharc_journal::{JournalSeat, SharedJournal};
 use sharc_rounds::Gate;
 use sharc_word::THREADS;
 use std::alloc::{AllocError, Global};

@@ -7,8 +7,7 @@ use Rattle.sharc_code.specs.declared.state.TurnState.TheVariants as state
 use Rattle.sharc_cpu.specs.Thread.{ThreadView, is_stop}
 use Rattle.sharc_threads.specs.Ends.{Standing, IsAt, AreStarted}
 use Rattle.sharc_schedule.specs.Laws.{SameEnds}
-use Rattle.sharc_run_text.specs.{Laws.{shown, TextIsOne}, Others.number_of, RunText.{is_gone, IsRunText}}
-use Rattle.sharc_run.specs.{declared.outcome.Outcome.TheVariants.{Done, Reported, Stopped, Stuck, Limit}, declared.run.Ran.Ran, Laws.{is_on, goes_on, outcome_told, OutcomeIsTold}, Outcome.{is_report, has_reported, was_stopped}, Run.IsEnd}
+use Rattle.sharc_run.specs.{TextLaws.{shown, TextIsOne}, Others.number_of, RunText.{is_gone, IsRunText}, declared.outcome.Outcome.TheVariants.{Done, Reported, Stopped, Stuck, Limit}, declared.run.Ran.Ran, Laws.{is_on, goes_on, outcome_told, OutcomeIsTold}, Outcome.{is_report, has_reported, was_stopped}, Run.IsEnd}
 use Rattle.sharc_replay.specs.Laws.{SaysSame}
 
 -- ---- a thread of which it is forgotten whether its last turn was a failed try

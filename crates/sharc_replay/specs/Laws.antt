@@ -1,8 +1,8 @@
 -- Laws of recorded runs, for the crates above.
 use Rattle.std.specs.Prelude.{ℕ, ◌≡◌, ◌≤◌, List}
 use Rattle.sharc_code.specs.{declared.code.Code.Code, declared.shape.Shape.Shape, Layout.Fits, Whole.place_after}
-use Rattle.sharc_recorded.specs.File.{FileView, IsFile, HoldsNoSchedule, written}
-use Rattle.sharc_schedule.specs.{Laws.SameEnds, Schedule.scheduled_turns}
+use Rattle.sharc_schedule.specs.{File.{FileView, IsFile, HoldsNoSchedule, written}, Laws.SameEnds}
+use Rattle.sharc_schedule.specs.Schedule.{scheduled_turns}
 use Rattle.sharc_run.specs.declared.run.Ran.{Ran}
 use Rattle.sharc_replay.specs.Run.{file_of, IsRecordedRun, IsRecord, IsScheduledRun}
 

@@ -4,8 +4,7 @@ use Rattle.sharc_code.specs.{declared.code.Code.Code, declared.shape.Shape.Shape
 use Rattle.sharc_code.specs.Whole.{CheckedRun, place_after}
 use Rattle.sharc_threads.specs.Ends.{is_enabled}
 use Rattle.sharc_seq.specs.Run.{AreChosen}
-use Rattle.sharc_recorded.specs.File.{FileView, written}
-use Rattle.sharc_schedule.specs.Schedule.{schedule_of, Stored}
+use Rattle.sharc_schedule.specs.{File.{FileView, written}, Schedule.{schedule_of, Stored}}
 use Rattle.sharc_run.specs.{declared.run.Ran.Ran, Run.IsEnd}
 
 -- a checked run, in which no thread makes more events than this, and which ends where no thread may make a turn. These

@@ -6,9 +6,9 @@ ghost use Rattle.sharc_replay.specs.Run.{IsRecord};
 
 use sharc_code::{Code, Shape};
 use sharc_record::record_run;
-use sharc_recorded::write_file;
 use sharc_rounds::Gate;
 use sharc_run::{Ran, told};
+use sharc_schedule::write_file;
 use std::alloc::{AllocError, Global};
 use std::sync::Wait;
 use std::thread::Threads;

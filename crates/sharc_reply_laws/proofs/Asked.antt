@@ -1,13 +1,13 @@
 -- What a reply is to the words of `load`, where its source is a program with accepted modes.
 use Rattle.std.proofs.{Common.{◌≡◌, ℕ, ◌+◌, ◌<◌, ◌≤◌, Bool, true, false, List, ◌++◌, length, Option, Some, None, is_some, refl, ap, sym, ◌∙◌, subst}, lemmas.Bool.false≢true}
 use Rattle.sharc_mode.specs.Moded.{Assignment}
-use Rattle.sharc_mode_laws.specs.Rules.{MeetsRules}
+use Rattle.sharc_check.specs.Rules.{MeetsRules}
 use Rattle.sharc_cli.specs.{Commands.commands, declared.command.Command.Command, declared.command.Command.TheVariants.{Audit, Load, Record, Replay}}
 use Rattle.sharc_load.specs.Source.{source_of}
-use Rattle.sharc_sound.specs.Front.{IsFront}
+use Rattle.sharc_front_end.specs.Front.{IsFront}
 use Rattle.sharc_top.specs.{declared.ran.RunNumbers.RunNumbers, declared.status.Status.Status, declared.task.SourceTask.SourceTask, Answers.{Answers, faulty, program}, Limits.source_limit, Loading.{LoadReplies, load_numbers, long, size_lines, loaded as was_loaded}, Reply.{Replies, answered, audited, loaded, recorded, replayed, task_in, too_long, usage}, Running.{Runs, not_run, ran}, Verdict.Does}
 use Rattle.sharc_top.specs.declared.task.SourceTask.TheVariants as task
-use Rattle.sharc_top_laws.specs.Laws.{IsRunning, SourceLaws}
+use Rattle.sharc_reply_laws.specs.Laws.{IsRunning, SourceLaws}
 use Rattle.sharc_lemmas.proofs.Numbers.{not_long}
 
 -- ---- the words

@@ -8,13 +8,12 @@ use Rattle.sharc_mode.specs.Moded.{Assignment}
 use Rattle.sharc_meaning.specs.{Events.events_of, Obeys.History, Reference.number_of, References.Begun, Runs.IsNamedAt}
 use Rattle.sharc_code.specs.{declared.code.Code.Code, declared.instr.Instr.TheVariants.TestSole, declared.shape.Shape.Shape, declared.state.Stop.TheVariants.NotSole, Layout.count_word, Machine.{Machine, instr_at, ref, stopped}, Path.begun, Runs.{Turn, turns_of}, Whole.{CheckedRun, place_after}}
 use Rattle.sharc_flat.specs.Correct.{MayStart}
-use Rattle.sharc_gen.specs.{Consistent.IsConsistent, OfRuns.{elements_before, founds_of}}
+use Rattle.sharc_compile.specs.{Consistent.IsConsistent, OfRuns.{elements_before, founds_of}}
 use Rattle.sharc_invariant.specs.{Types.Targets, Labels.Labels}
 use Rattle.sharc_history_laws.specs.{History.history_of, Reports.FindsOthers}
 use Rattle.sharc_wants_laws.specs.Seeing.{TestersGive}
 use Rattle.sharc_sound_laws.specs.Reports.{WantsReported}
-use Rattle.sharc_told_laws.specs.Tested.{TestsStay, count_found}
-use Rattle.sharc_reply_laws.specs.Reports.{object_tested}
+use Rattle.sharc_reply_laws.specs.{Tested.{TestsStay, count_found}, Reports.object_tested}
 use Rattle.sharc_reply_laws.proofs.Telling.{from_first, head_eq, same_function, some}
 
 -- ---- the thread stands at its test to the end

@@ -2,23 +2,20 @@
 use Rattle.std.proofs.{Common.{◌≡◌, ℕ, ◌+◌, ◌≤◌, false, List, ◌++◌, length, Option, Some, None, refl, sym, ap, ◌∙◌}, lemmas.List.Elements.All-contains}
 use Rattle.std.specs.Prelude.{Contains}
 use Rattle.sharc_mode.specs.Moded.{Assignment}
-use Rattle.sharc_mode_laws.specs.Rules.{MeetsRules}
+use Rattle.sharc_check.specs.Rules.{MeetsRules}
 use Rattle.sharc_code.specs.{declared.code.Code.Code, declared.shape.Shape.Shape, declared.state.Stop.Stop, Layout.Fits, Machine.Machine, Ranges.NumbersFit, Runs.Turn, Whole.{CheckedRun, IsStuck, place_after}}
 use Rattle.sharc_cpu.specs.Thread.{ThreadView}
 use Rattle.sharc_threads.specs.Ends.{AreStarted, IsAt, Standing, is_enabled}
 use Rattle.sharc_load.specs.Source.{source_of}
-use Rattle.sharc_recorded.specs.File.{written}
+use Rattle.sharc_schedule.specs.{File.written, Schedule.stored}
 use Rattle.sharc_run.specs.{declared.outcome.Outcome.Outcome, declared.run.Ran.Ran, Outcome.{HasOutcome, done, limited, reported, stopped, stuck}, Run.IsEnd}
-use Rattle.sharc_schedule.specs.Schedule.{stored}
 use Rattle.sharc_seq.specs.Choice.{seeded}
 use Rattle.sharc_invariant.specs.Labels.{Labels}
 use Rattle.sharc_build.specs.Built.{IsBuilt}
-use Rattle.sharc_sound.specs.{Compiled.IsCompiled, Front.IsFront}
-use Rattle.sharc_told_laws.specs.{Prints.TextsBeginWithPrints, Stopped.StopsAreStopped}
+use Rattle.sharc_front_end.specs.{Compiled.IsCompiled, Front.IsFront}
+use Rattle.sharc_reply_laws.specs.{Prints.TextsBeginWithPrints, Stopped.StopsAreStopped, Laws.{IsRunning, RunsAreOnly, SourceLaws}, RecordLaws.RecordLaws, Few.ChosenAreFew, Orders.{Alone, Any, AreTurnsBy, Drawn, Order, by_load, by_record, by_replay, by_run, choice_of, written_of}, Replies.{LineTells, RepliesTell, ReplyTells}, Runs.{BuiltRunsTell, RunTells}}
 use Rattle.sharc_top.specs.{declared.ran.RunNumbers.RunNumbers, declared.status.Status.Status, Loading.size_lines, Reply.task_in, Running.{IsRunBy, status_of}}
 use Rattle.sharc_top.specs.declared.status.Status.TheVariants as status
-use Rattle.sharc_top_laws.specs.{Laws.{IsRunning, RunsAreOnly, SourceLaws}, RecordLaws.RecordLaws}
-use Rattle.sharc_reply_laws.specs.{Few.ChosenAreFew, Orders.{Alone, Any, AreTurnsBy, Drawn, Order, by_load, by_record, by_replay, by_run, choice_of, written_of}, Replies.{LineTells, RepliesTell, ReplyTells}, Runs.{BuiltRunsTell, RunTells}}
 use Rattle.sharc_reply_laws.proofs.Asked.{loading}
 
 -- status 5 is that of a run that is stuck

@@ -9,7 +9,7 @@ use Rattle.sharc_mode.specs.Moded.{Assignment}
 use Rattle.sharc_meaning.specs.{Events.{Stands, events_of, is_of}, Obeys.History, References.Begun, Runs.IsNamedAt}
 use Rattle.sharc_code.specs.{declared.code.Code.Code, Machine.Machine}
 use Rattle.sharc_flat.specs.Correct.{MayStart}
-use Rattle.sharc_gen.specs.Correct.{IsBeginning}
+use Rattle.sharc_compile.specs.Correct.{IsBeginning}
 use Rattle.sharc_compile_laws.specs.Paths.{IsAskedFor, TellsProgram}
 use Rattle.sharc_reply_laws.specs.Threads.{HasBegun, HasNotBegun}
 use Rattle.sharc_lemmas.proofs.Numbers.{same_is}

@@ -6,10 +6,9 @@ use Rattle.sharc_tree.specs.declared.trap.Trap.TheVariants as traps
 use Rattle.sharc_mode.specs.Moded.{Assignment}
 use Rattle.sharc_meaning.specs.{Events.{Access, access_by}, Obeys.History, State.{Outcome, event_of, stopped, wants}}
 use Rattle.sharc_code.specs.{declared.code.Code.Code, declared.code.PlaceMode.PlaceMode, declared.code.PlaceMode.TheVariants.Dynamic, declared.instr.Cell.Cell, declared.instr.Instr.Instr, declared.instr.Instr.TheVariants.{ChkLock, ChkLockLoaded, ChkRead, ChkWrite, Exchange, Exit, Load, LoadRef, Start, Store, TakeCell}, declared.shape.Shape.Shape, declared.state.TurnState.TheVariants.Stopped, declared.state.Stop.TheVariants.NoLock, Machine.{Machine, instr_at}, Runs.Turn, Says.{cell_at, made_cell, mode_of, place_at}, Whole.place_after}
-use Rattle.sharc_flat_form.specs.declared.flat.Flat.{Flat as FlatCode}
-use Rattle.sharc_gen.specs.Generated.{generated}
+use Rattle.sharc_flat.specs.declared.flat.Flat.{Flat as FlatCode}
+use Rattle.sharc_compile.specs.{Generated.generated, Made.IsCodeOf}
 use Rattle.sharc_guard.specs.Counted.{IsUnder}
-use Rattle.sharc_compile.specs.Made.{IsCodeOf}
 use Rattle.sharc_history_laws.specs.{Conflicts.site_of_check, Followed.{Accesses, IsFollowed, ShowsLock, access_of, access_to}, History.history_of, Reports.IsLockCheck}
 use Rattle.sharc_wants_laws.specs.Wants.{IsNotThere, StopsOrWantsUnder, WantsAct, WantsBy, access_tested}
 use Rattle.sharc_sound_laws.specs.Standing.{IsPlaced}

@@ -1,3 +1,12 @@
+pub mod Own
+pub mod Prints
+pub mod Stopped
+pub mod Tested
+pub mod AuditLaws
+pub mod Kept
+pub mod Laws
+pub mod RecordLaws
+pub mod Suggestions
 pub mod Few
 pub mod Orders
 pub mod Replies

@@ -2,10 +2,9 @@
 use Rattle.std.specs.Prelude.{◌≡◌, ℕ, ◌+◌, ◌≤◌, List, ◌++◌, length, Option, Some, None}
 use Rattle.sharc_code.specs.{declared.code.Code.Code, declared.shape.Shape.Shape, Runs.Turn}
 use Rattle.sharc_seq.specs.Run.{AreChosen}
-use Rattle.sharc_schedule.specs.Schedule.{Stored, schedule_of}
+use Rattle.sharc_schedule.specs.{Schedule.{Stored, schedule_of}, File.{FileView, IsFile, written}}
 use Rattle.sharc_cli.specs.{Commands.commands, declared.command.Command.TheVariants.{Load, Record, Replay, Run}}
 use Rattle.sharc_load.specs.Source.{source_of}
-use Rattle.sharc_recorded.specs.File.{FileView, IsFile, written}
 use Rattle.sharc_run.specs.Run.{draws}
 use Rattle.sharc_top.specs.{Limits.{recording_limit, source_limit}, Loading.size_lines}
 

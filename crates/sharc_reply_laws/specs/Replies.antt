@@ -2,27 +2,25 @@
 use Rattle.std.specs.Prelude.{◌≡◌, ℕ, ◌<◌, ◌≤◌, false, List, ◌++◌, flat_map, length, take, Contains, Option, Some}
 use Rattle.std.specs.Io.KnownBytes.{Appends}
 use Rattle.sharc_mode.specs.Moded.{Assignment}
-use Rattle.sharc_mode_laws.specs.Rules.{MeetsRules}
+use Rattle.sharc_check.specs.Rules.{MeetsRules}
 use Rattle.sharc_code.specs.{declared.code.Code.Code, declared.shape.Shape.Shape}
-use Rattle.sharc_code.specs.{declared.state.TurnState.TheVariants.Stopped, declared.state.Stop.Stop, Layout.Fits, Runs.Turn}
-use Rattle.sharc_code.specs.Whole.{CheckedRun, place_after}
+use Rattle.sharc_code.specs.{declared.state.TurnState.TheVariants.Stopped, declared.state.Stop.Stop, Layout.Fits}
+use Rattle.sharc_code.specs.{Runs.Turn, Whole.{CheckedRun, place_after}}
 use Rattle.sharc_cpu.specs.Thread.{ThreadView}
 use Rattle.sharc_threads.specs.Ends.{AreStarted, is_enabled}
-use Rattle.sharc_run.specs.{declared.outcome.Outcome.Outcome, Outcome.HasOutcome}
-use Rattle.sharc_run_text.specs.RunText.{IsRunText, thread_line}
+use Rattle.sharc_run.specs.{declared.outcome.Outcome.Outcome, Outcome.HasOutcome, RunText.{IsRunText, thread_line}}
 use Rattle.sharc_compile.specs.Refused.{IsReport}
 use Rattle.sharc_invariant.specs.{Labels.Labels, Typed.IsWellTyped}
 use Rattle.sharc_accepted_laws.specs.Targets.{targets_of}
 use Rattle.sharc_history_laws.specs.History.{history_of}
-use Rattle.sharc_sound.specs.Front.{IsFront}
+use Rattle.sharc_front_end.specs.Front.{IsFront}
 use Rattle.sharc_build.specs.Built.{IsBuilt}
 use Rattle.sharc_sound_laws.specs.Deadlock.{IsDeadlock}
-use Rattle.sharc_told_laws.specs.Prints.{printed_in, value_line}
+use Rattle.sharc_reply_laws.specs.{Prints.{printed_in, value_line}, Orders.{AreTurnsBy, Asks, Order, written_of}}
+use Rattle.sharc_reply_laws.specs.{Reports.ReportTells, Runs.RunTells, Threads.ThreadTells}
 use Rattle.sharc_top.specs.{declared.status.Status.Status, Reply.{Replied, RepliedInPart, Replies}, Running.status_of}
 use Rattle.sharc_top.specs.Status.{code_of}
 use Rattle.sharc_top.specs.declared.status.Status.TheVariants as status
-use Rattle.sharc_reply_laws.specs.{Orders.{AreTurnsBy, Asks, Order, written_of}, Reports.ReportTells, Runs.RunTells}
-use Rattle.sharc_reply_laws.specs.Threads.{ThreadTells}
 
 -- Of a thread of a run whose line says why it was stopped: it is among those of the run, was stopped there for that,
 -- and tells this.

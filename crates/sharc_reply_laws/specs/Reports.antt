@@ -1,7 +1,7 @@
 -- What the reports of a checked run show: the cause of each, and that it is about what the source wants next.
 use Rattle.std.specs.Prelude.{◌≡◌, ℕ, pos, Bool, List, Some}
 use Rattle.sharc_tree.specs.declared.event.Act.{Act}
-use Rattle.sharc_shadow.specs.declared.shadow_word.Kind.{Kind}
+use Rattle.sharc_heap.specs.declared.shadow_word.Kind.{Kind}
 use Rattle.sharc_mode.specs.Moded.{Assignment}
 use Rattle.sharc_meaning.specs.{Events.{Access, access_by}, Meaning.Asked, Obeys.History, Reference.number_of}
 use Rattle.sharc_meaning.specs.State.{wants, event_of}

@@ -1,6 +1,6 @@
 -- What every checked run of the code that is built of a source tells of that source: one record of one list of turns.
 use Rattle.std.specs.Prelude.{◌≡◌, ℕ, Bool, List, ◌∷◌, ◌++◌, Some}
-use Rattle.sharc_shadow.specs.declared.shadow_word.Kind.{Kind}
+use Rattle.sharc_heap.specs.declared.shadow_word.Kind.{Kind}
 use Rattle.sharc_mode.specs.Moded.{Assignment}
 use Rattle.sharc_meaning.specs.{Obeys.{AlwaysObeys, Obeys, until_return}, References.{Holder, References, in_thread}}
 use Rattle.sharc_meaning.specs.Runs.{SourceRun}
@@ -8,8 +8,8 @@ use Rattle.sharc_code.specs.{declared.code.Code.Code, declared.shape.Shape.Shape
 use Rattle.sharc_code.specs.{declared.state.Stop.Stop, Layout.Fits, Runs.Turn, Whole.{CheckedRun, Stuck, place_after}}
 use Rattle.sharc_cpu.specs.Thread.{ThreadView}
 use Rattle.sharc_threads.specs.Ends.{AreStarted}
-use Rattle.sharc_run_text.specs.RunText.{AreInOrder}
-use Rattle.sharc_told_laws.specs.Prints.{ArePrintsOf}
+use Rattle.sharc_run.specs.RunText.{AreInOrder}
+use Rattle.sharc_reply_laws.specs.{Prints.ArePrintsOf, Reports.ReportTells, Threads.ThreadTells}
 use Rattle.sharc_compile.specs.Refused.{IsReport}
 use Rattle.sharc_invariant.specs.{Labels.Labels, Typed.IsWellTyped}
 use Rattle.sharc_history_laws.specs.{Conflicts.IsCheck, Followed.IsOfAccess, History.history_of}
@@ -17,7 +17,6 @@ use Rattle.sharc_accepted_laws.specs.Targets.{targets_of}
 use Rattle.sharc_wants_laws.specs.Alone.{Passes, tested_object}
 use Rattle.sharc_sound_laws.specs.{StandStands.PlaceStands, Deadlock.IsDeadlock, Obeying.NoAccessReport}
 use Rattle.sharc_build.specs.{declared.building.Built.Built, Built.IsBuilt}
-use Rattle.sharc_reply_laws.specs.{Reports.ReportTells, Threads.ThreadTells}
 
 -- The turns, the last one first, are of threads in any order, of the code of this program, which is typed by these
 -- labels.

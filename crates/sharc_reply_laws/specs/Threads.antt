@@ -5,8 +5,7 @@ use Rattle.sharc_meaning.specs.{Events.events_of, Meaning.{Asked, asks}, Obeys.H
 use Rattle.sharc_meaning.specs.State.{spent}
 use Rattle.sharc_code.specs.{declared.code.Code.Code, declared.shape.Shape.Shape, Layout.Fits, Machine.Machine}
 use Rattle.sharc_code.specs.{Paced.paced_in, Path.begun, Runs.{Turn, turns_of}, Whole.{CheckedRun, place_after}}
-use Rattle.sharc_gen.specs.OfRuns.{founds_of}
-use Rattle.sharc_compile.specs.Source.{IsOverAs}
+use Rattle.sharc_compile.specs.{OfRuns.founds_of, Source.IsOverAs}
 use Rattle.sharc_compile_laws.specs.Paths.{OfTyped}
 use Rattle.sharc_invariant.specs.{Types.Targets, Labels.Labels, Typed.IsWellTyped, State.IsSmall}
 use Rattle.sharc_history_laws.specs.History.{history_of}

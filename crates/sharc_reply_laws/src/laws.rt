@@ -2,15 +2,13 @@
 
 ghost use Rattle.sharc_reply_laws.specs.Few.{ChosenAreFew};
 ghost use Rattle.sharc_reply_laws.specs.Replies.{CutRepliesTell, RepliesTell, WholeRepliesTell};
-ghost use Rattle.sharc_reply_laws.specs.Reports.{
-  TypedAccessesAreWanted,
-  TypedGivenAreTested,
-  TypedLocksAreWanted,
-  TypedRefusedAreWanted,
-};
+ghost use Rattle.sharc_reply_laws.specs.Reports.{TypedAccessesAreWanted, TypedGivenAreTested, TypedLocksAreWanted};
+ghost use Rattle.sharc_reply_laws.specs.Reports.{TypedRefusedAreWanted};
 ghost use Rattle.sharc_reply_laws.specs.Runs.{BuiltRunsTell};
 ghost use Rattle.sharc_reply_laws.specs.Threads.{TypedThreadsTell};
 
+use crate::events::{prints_law, refused_stay, stops_law, texts_begin_with_prints, turns_tell_own};
+use crate::replies::{records_are_told, sources_are_one, verdicts_are_told};
 use sharc_build::fronts_are_typed;
 use sharc_code::{range_laws, run_laws};
 use sharc_compile_laws::typed_paths_tell;
@@ -24,10 +22,6 @@ use sharc_sound_laws::{
     built_stuck_is_deadlock_if_typed, made_code_begins, threads_stand_if_typed,
 };
 use sharc_source_laws::laws::numbers_have_no_sign;
-use sharc_told_laws::laws::{
-    prints_law, refused_stay, stops_law, texts_begin_with_prints, turns_tell_own,
-};
-use sharc_top_laws::replies::{records_are_told, sources_are_one, verdicts_are_told};
 use sharc_wants_laws::followed_law;
 use sharc_wants_laws::sole::{
     reports_show_cause, tested_are_only, testers_give, threads_have_begun,

@@ -3,9 +3,9 @@ use Rattle.std.specs.Prelude.{ℕ, ◌==◌, List, ◌++◌, length, codes, deci
 use Rattle.sharc_lex.specs.declared.fault.TokenFault.{TokenFault as LexerFault}
 use Rattle.sharc_lex.specs.declared.fault.TokenFault.TheVariants.{Byte, Number, Marker, Identifier, Character}
 use Rattle.sharc_lex.specs.Faults as lexer
-use Rattle.sharc_grammar.specs.declared.fault.GrammarFault.{GrammarFault}
-use Rattle.sharc_grammar.specs.declared.fault.GrammarFault.TheVariants.{Unexpected, Deep, LeftOut}
-use Rattle.sharc_grammar.specs.Faults as parser
+use Rattle.sharc_parse.specs.declared.fault.GrammarFault.{GrammarFault}
+use Rattle.sharc_parse.specs.declared.fault.GrammarFault.TheVariants.{Unexpected, Deep, LeftOut}
+use Rattle.sharc_parse.specs.Faults as parser
 use Rattle.sharc_names.specs.declared.fault.FaultCode.{FaultCode}
 use Rattle.sharc_names.specs.declared.fault.FaultCode.TheVariants.{UnknownName, DefinedTwice, TypeMismatch}
 use Rattle.sharc_names.specs.declared.fault.FaultCode.TheVariants.{ArgumentCount, NoLvalue, TypeNotAllowed, BadForm}

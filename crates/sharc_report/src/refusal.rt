@@ -2,15 +2,15 @@
 
 ghost use Rattle.std.specs.Prelude.{◌≡◌, ◌++◌, [], codes, decimal, IfOk, OnOk};
 ghost use Rattle.sharc_lex.specs.Faults as lexer;
-ghost use Rattle.sharc_grammar.specs.Faults as parser;
+ghost use Rattle.sharc_parse.specs.Faults as parser;
 ghost use Rattle.sharc_names.specs.Notes as typing;
 ghost use Rattle.sharc_report.specs.Refusals.{lexer_message, parser_message, typing_message, at_offset, unexpected};
 ghost use Rattle.sharc_report.specs.Refusals.{quoted, head_of, refusal_line};
 
 use crate::put::{put_number, put_two};
-use sharc_grammar::fault::GrammarFault;
 use sharc_lex::TokenFault as LexerFault;
 use sharc_names::fault::FaultCode;
+use sharc_parse::fault::GrammarFault;
 use sharc_tree::token::FaultAt;
 use std::alloc::{AllocError, Global};
 

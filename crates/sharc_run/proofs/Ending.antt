@@ -6,9 +6,8 @@ use Rattle.sharc_code.specs.{declared.code.Code.Code, declared.shape.Shape.Shape
 use Rattle.sharc_cpu.specs.Thread.{ThreadView}
 use Rattle.sharc_threads.specs.{declared.end.End.End, Ends.{Standing, is_enabled, AllAreDone, EndIs, IsAt, AreStarted}}
 use Rattle.sharc_threads.specs.declared.end.End.TheVariants as ends
-use Rattle.sharc_run.specs.{declared.outcome.Outcome.TheVariants.{Reported, Stopped}, Outcome.{has_reported, was_stopped, IsSpent, NoneStopped, HasOutcome, by_end, outcome_of}, Outcome.HasOutcome.{reported, stopped, stuck, limited, done}, declared.run.Ran.Ran, Run.IsEnd}
+use Rattle.sharc_run.specs.{declared.outcome.Outcome.TheVariants.{Reported, Stopped}, Outcome.{has_reported, was_stopped, IsSpent, NoneStopped, HasOutcome, by_end, outcome_of}, Outcome.HasOutcome.{reported, stopped, stuck, limited, done}, declared.run.Ran.Ran, Run.IsEnd, Others.AreAllowed, RunText.IsRunText}
 use Rattle.sharc_seq.specs.Run.{AreChosen}
-use Rattle.sharc_run_text.specs.{Others.AreAllowed, RunText.IsRunText}
 use Rattle.sharc_run.proofs.Listed.{number_of, on_from, goes_on, spent_when, IsOne, one_in, at, was_started, all_gone, not_stuck}
 use Rattle.sharc_lemmas.proofs.{Bools.{and_left as and_first}, Numbers.{not_below as le_false}}
 

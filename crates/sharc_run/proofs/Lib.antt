@@ -1,3 +1,7 @@
+mod Firsts
+mod OneOrder
+mod OneText
+mod Pieces
 mod Ending
 mod Listed
 mod Telling

@@ -6,7 +6,7 @@ use Rattle.sharc_code.specs.{declared.code.Code.Code, declared.shape.Shape.Shape
 use Rattle.sharc_code.specs.declared.state.TurnState.TheVariants as state
 use Rattle.sharc_cpu.specs.Thread.{ThreadView, is_stop}
 use Rattle.sharc_threads.specs.{Ends.{Standing, AllAreDone, IsAt, AreStarted}, Seats.is_end}
-use Rattle.sharc_run.specs.Outcome.{was_stopped, is_gone}
+use Rattle.sharc_run.specs.Outcome.{was_stopped, has_gone}
 use Rattle.sharc_lemmas.proofs.{Bools.{and_left as and_first, or_first, either, or_second}, Numbers.{lt_true, not_below as le_false}}
 
 -- ---- truth values
@@ -149,7 +149,7 @@ module _ (code : Code) (s : Shape) (turns : List Turn) (threads : List ThreadVie
       subst (Within t) (sym are.numbers)
       (in_filter g.started t (range_with_len 0 s.threads) is_true (in_range 0 s.threads t (omega arith) (let h = started_low code s turns t is_true in omega (arith, h, fits))))
 
-  pub all_gone : AllAreDone g → list_any was_stopped threads ≡ false → All (λ t. is_gone t ≡ true) threads
+  pub all_gone : AllAreDone g → list_any was_stopped threads ≡ false → All (λ t. has_gone t ≡ true) threads
   all_gone ended none = λ k d low.
       let thread = get_or threads k d in
       gone_from thread.machine.at.state (ap (λ m. may_go m.at.state) (at k d low).machine ∙ ended (number_of thread) (was_started k d low)) (none_at was_stopped threads k d none low)

@@ -6,7 +6,7 @@ use Rattle.sharc_code.specs.{declared.code.Code.Code, declared.shape.Shape.Shape
 use Rattle.sharc_code.specs.declared.state.TurnState.TheVariants as state
 use Rattle.sharc_cpu.specs.Thread.{ThreadView, is_stop}
 use Rattle.sharc_threads.specs.{Ends.{Standing, IsAt, AreStarted}, Seats.is_end}
-use Rattle.sharc_run.specs.{declared.outcome.Outcome.Outcome, declared.outcome.Outcome.TheVariants.{Done, Reported, Stopped, Stuck, Limit}, Outcome.{has_reported, was_stopped, is_gone, IsSpent, NoneStopped, HasOutcome}, Outcome.HasOutcome.{reported, stopped, stuck, limited, done}, Laws.{is_on, goes_on, OutcomeIsTold}}
+use Rattle.sharc_run.specs.{declared.outcome.Outcome.Outcome, declared.outcome.Outcome.TheVariants.{Done, Reported, Stopped, Stuck, Limit}, Outcome.{has_reported, was_stopped, has_gone, IsSpent, NoneStopped, HasOutcome}, Outcome.HasOutcome.{reported, stopped, stuck, limited, done}, Laws.{is_on, goes_on, OutcomeIsTold}}
 use Rattle.sharc_run.proofs.Listed.{number_of, head_at, rest_at, find_number, none_at, IsOne, one_in, at, was_started, is_listed, waits_all}
 use Rattle.sharc_run.proofs.Listed as listed
 
@@ -28,7 +28,7 @@ both_true true true e = cc
 both_true true false e = (refl, refl)
 both_true false b e = cc
 
-none_on : (xs : List ThreadView) → All (λ t. is_gone t ≡ true) xs → list_any is_on xs ≡ false
+none_on : (xs : List ThreadView) → All (λ t. has_gone t ≡ true) xs → list_any is_on xs ≡ false
 none_on [] all = refl
 none_on (x ∷ xs) all =
     ap (λ b. b || list_any is_on xs) (off_where_gone x.machine.at.state (all 0 x (omega arith)))

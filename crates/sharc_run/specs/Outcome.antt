@@ -24,12 +24,12 @@ has_reported t = is_report t.machine.own.stop
 abbrev pub was_stopped : ThreadView → Bool
 was_stopped t = is_stop t.machine.at.state
 
-abbrev pub is_gone : ThreadView → Bool
-is_gone t = is_end t.machine.at.state
+abbrev pub has_gone : ThreadView → Bool
+has_gone t = is_end t.machine.at.state
 
 -- it has made all the events that it may, and is not gone
 pub record IsSpent (limit : ℕ) (t : ThreadView) : Type 0 where
-  pub on : is_gone t ≡ false
+  pub on : has_gone t ≡ false
   pub made : limit ≤ t.made
 
 -- ---- the outcome, of a run that ended at a place with these threads
@@ -46,7 +46,7 @@ pub data HasOutcome (code : Code) (s : Shape) (limit : ℕ) (g : Standing) (thre
   stuck : NoneStopped threads → IsStuck code s g → HasOutcome code s limit g threads Stuck
   limited : NoneStopped threads → ¬ IsStuck code s g → Any (IsSpent limit) threads
       → HasOutcome code s limit g threads Limit
-  done : NoneStopped threads → All (λ t. is_gone t ≡ true) threads → HasOutcome code s limit g threads Done
+  done : NoneStopped threads → All (λ t. has_gone t ≡ true) threads → HasOutcome code s limit g threads Done
 
 -- ---- which one the code answers, by how the run ended
 abbrev pub by_end : End → Outcome

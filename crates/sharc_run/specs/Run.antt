@@ -5,8 +5,7 @@ use Rattle.sharc_code.specs.Whole.{CheckedRun, place_after}
 use Rattle.sharc_cpu.specs.Thread.{ThreadView}
 use Rattle.sharc_threads.specs.{declared.end.End.End, Ends.{Standing, is_enabled, AreStarted, EndIs}}
 use Rattle.sharc_seq.specs.{Choice.seeded, Run.AreChosen}
-use Rattle.sharc_run_text.specs.RunText.{IsRunText}
-use Rattle.sharc_run.specs.{declared.run.Ran.Ran, Outcome.HasOutcome}
+use Rattle.sharc_run.specs.{RunText.IsRunText, declared.run.Ran.Ran, Outcome.HasOutcome}
 
 -- the text and the outcome of a run that ended at this place: those of the threads that were started
 pub record IsEnd (code : Code) (s : Shape) (limit : ℕ) (g : Standing) (ran : Ran) : Type 0 where

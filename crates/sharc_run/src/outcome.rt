@@ -5,7 +5,7 @@ ghost use Rattle.std.specs.List.{list_any};
 ghost use Rattle.sharc_cpu.specs.Thread.{is_stop};
 ghost use Rattle.sharc_run.specs.Outcome.{has_reported, was_stopped, outcome_of};
 
-use sharc_code::{TurnState, Stop};
+use sharc_code::{Stop, TurnState};
 use sharc_cpu::Thread;
 use sharc_threads::End;
 

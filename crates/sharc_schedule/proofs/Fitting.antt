@@ -7,8 +7,7 @@ use Rattle.sharc_word.specs.declared.step.TheConstants.{THREADS}
 use Rattle.sharc_code.specs.{declared.code.Code.Code, declared.shape.Shape.Shape, Laws.RunLaws, ThreadLaws.ThreadLaws, Runs.{Turn, put, state_now, made_now}, Whole.{CheckedRun, one_thread, place_after}}
 use Rattle.sharc_threads.specs.Ends.{is_enabled}
 use Rattle.sharc_seq.specs.Run.{enabled}
-use Rattle.sharc_schedule.specs.{Schedule.{arranged, without_tries, scheduled_turns, place_in, places_of, counted_in, counted_together, schedule_of}, Laws.{ScheduledRuns, SchedulesFit}}
-use Rattle.sharc_recorded.specs.File.{ArePlaces}
+use Rattle.sharc_schedule.specs.{Schedule.{arranged, without_tries, scheduled_turns, place_in, places_of, counted_in, counted_together, schedule_of}, Laws.{ScheduledRuns, SchedulesFit}, File.ArePlaces}
 use Rattle.sharc_schedule.proofs.{Trying.{NoTries, put_own, put_other}, Arranging.arrange, Among.{Among, place_within, among_filter, among_range}, Replaying.{Run, Few, started_low, few_before, some_counted, enabled_turn, places_length}, Plain.filter_less}
 
 -- ---- sums over the first numbers

@@ -1,3 +1,9 @@
+pub mod Numbers
+pub mod PlaceLines
+pub mod SourceLines
+pub mod Written
+pub mod Scanning
+pub mod Few
 pub mod Plain
 pub mod Arranged
 pub mod Started

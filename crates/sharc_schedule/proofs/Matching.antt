@@ -1,7 +1,7 @@
 -- Turns of one thread on top of one run are determined by how many they are.
 use Rattle.std.proofs.{Common.{◌≡◌, ℕ, ◌==◌, true, false, List, [], ◌∷◌, ◌++◌, Option, Some, None, length, refl, sym, ap, ◌∙◌, arith}, lemmas.Nat.Bits.bit_at-zero, lemmas.Bool.{false_from_ne_true as true_or_false}}
 use Rattle.sharc_word.specs.declared.step.WordEvent.{WordEvent}
-use Rattle.sharc_cond.specs.Waiters.{waits_in}
+use Rattle.sharc_locks.specs.Waiters.{waits_in}
 use Rattle.sharc_code.specs.{declared.code.Code.Code, declared.shape.Shape.Shape, declared.state.TurnState.TheVariants.Tries, declared.state.Wait.Wait, Machine.{Machine, Local, Asks}, Opening.opening_words, Path.{turn, after, asked_by, may_go}, Runs.{Turn, IsRun, Owns, result_of, step_of as step_in, state_now, opening_of, threads_of, scheduled}, Laws.RunLaws, ThreadLaws.{ThreadLaws, found_now, behind}, Waits.{held_up, wait_of, waits_now}, Whole.{one_thread, bounds, place_after}}
 use Rattle.sharc_code.specs.declared.state.Wait.TheVariants as waits
 use Rattle.sharc_code.specs.Machine as Step

@@ -6,7 +6,7 @@ use Rattle.sharc_code.specs.{ThreadLaws.settled, Waits.wait_of, Whole.{CheckedRu
 use Rattle.sharc_cpu.specs.Thread.{ThreadView}
 use Rattle.sharc_seq.specs.{declared.run.SeqRun.SeqRun, Run.{AreChosen, IsSeqRun}}
 use Rattle.sharc_threads.specs.Ends.{Standing, is_enabled, EndIs}
-use Rattle.sharc_recorded.specs.File.{ArePlaces}
+use Rattle.sharc_schedule.specs.File.{ArePlaces}
 use Rattle.sharc_schedule.specs.Schedule.{arranged, without_tries, scheduled_turns, counted_together, one_by_one}
 use Rattle.sharc_schedule.specs.Schedule.{schedule_of, Stored}
 

@@ -1,3 +1,7 @@
+pub mod File
+pub mod Reading
+pub mod Shown
+pub mod FileLaws
 pub mod Schedule
 pub mod Places
 pub mod Journal

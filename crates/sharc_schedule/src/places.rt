@@ -17,9 +17,9 @@ ghost use Rattle.sharc_schedule.specs.Journal.{IsJournalOf};
 ghost use Rattle.sharc_schedule.specs.Schedule.{place_in, schedule_of};
 
 use crate::counting::count;
+use crate::file::Places;
 use sharc_code::{Code, Shape, fits_law, run_laws, thread_laws};
 use sharc_cpu::RowPlan;
-use sharc_recorded::Places;
 use sharc_seq::{Quiet, Walk};
 use sharc_threads::table_laws;
 use sharc_word::{THREADS, WordEvent};

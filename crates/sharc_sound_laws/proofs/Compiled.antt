@@ -4,12 +4,11 @@ use Rattle.sharc_code.specs.{declared.code.Code.Code, declared.code.Function.Fun
 use Rattle.sharc_ctype.specs.Resolved.{Resolution, functions_in}
 use Rattle.sharc_ctype_laws.specs.Laws.{OneFunctionOfName}
 use Rattle.sharc_mode.specs.Moded.{Assignment}
-use Rattle.sharc_flat.specs.{Flattened.flattened, Flattens.names_of, Laid.{with_texts, spot_in, words_of, lock_text_of, lies_at, AreTextsIn, AreLaid, AreNamed}, Tables.globals_of}
-use Rattle.sharc_flat_form.specs.{declared.op.Op.Op, declared.op.Spot.Spot, Machine.Flat, Made.flat_of}
-use Rattle.sharc_flat_form.specs.declared.op.Op.TheVariants as op
-use Rattle.sharc_gen.specs.Generated.{instr_of}
+use Rattle.sharc_flat.specs.{Flattened.flattened, Flattens.names_of, Laid.{with_texts, spot_in, words_of, lock_text_of, lies_at, AreTextsIn, AreLaid, AreNamed}, Tables.globals_of, declared.op.Op.Op, declared.op.Spot.Spot, Machine.Flat, Made.flat_of}
+use Rattle.sharc_flat.specs.declared.op.Op.TheVariants as op
+use Rattle.sharc_compile.specs.Generated.{instr_of}
 use Rattle.sharc_guard.specs.{Guard.{source_of, entered_at, place, expanded}, Known.dropped}
-use Rattle.sharc_sound.specs.Compiled.{IsCompiled}
+use Rattle.sharc_front_end.specs.Compiled.{IsCompiled}
 use Rattle.sharc_sound_laws.specs.{Alike.{unnamed, IsSamePlace}, AlikeLaws.CompiledAreAlike}
 use Rattle.sharc_sound_laws.proofs.{Lists.{ap2, map_same, element_of}, Lines.{place_same, statements_same}}
 

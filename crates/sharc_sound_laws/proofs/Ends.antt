@@ -3,8 +3,7 @@ use Rattle.std.proofs.Common.{ℕ, List, sym, ◌∙◌, subst}
 use Rattle.sharc_code.specs.{declared.code.Code.Code, declared.shape.Shape.Shape, Whole.place_after}
 use Rattle.sharc_cpu.specs.Thread.{ThreadView}
 use Rattle.sharc_threads.specs.Ends.{Standing}
-use Rattle.sharc_run.specs.{declared.outcome.Outcome.Outcome, declared.run.Ran.Ran, Outcome.{HasOutcome, reported, stopped, stuck, limited, done}, Run.IsEnd}
-use Rattle.sharc_run_text.specs.RunText.{IsRunText}
+use Rattle.sharc_run.specs.{declared.outcome.Outcome.Outcome, declared.run.Ran.Ran, Outcome.{HasOutcome, reported, stopped, stuck, limited, done}, Run.IsEnd, RunText.IsRunText}
 use Rattle.sharc_replay.specs.Run.{IsScheduledRun}
 use Rattle.sharc_schedule.specs.Schedule.{Stored}
 use Rattle.sharc_sound_laws.specs.{Alike.AreAlike, AlikeLaws.RunsAreAlike}

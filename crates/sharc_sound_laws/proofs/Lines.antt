@@ -2,9 +2,8 @@
 use Rattle.std.proofs.Common.{◌≡◌, ℕ, zero, suc, ◌+◌, ◌||◌, ◌==◌, Bool, true, false, cond, List, [], ◌∷◌, ◌++◌, length, slice_get, Option, Some, refl, ap, ◌∙◌}
 use Rattle.sharc_code.specs.{declared.code.Function.Function, declared.code.Text.Text, declared.instr.Instr.Instr, declared.code.PlaceMode.PlaceMode, declared.code.PlaceMode.TheVariants.Dynamic, declared.instr.Instr.TheVariants.{Jump, JumpIfZero, JumpIfNull, ChkRead, ChkWrite}}
 use Rattle.sharc_ctype.specs.Resolved.{Resolution}
-use Rattle.sharc_flat.specs.Laid.{told_by, with_texts, AreLaid, AreNamed}
-use Rattle.sharc_flat_form.specs.{declared.op.Op.Op, declared.op.Spot.Spot, Machine.Flat}
-use Rattle.sharc_flat_form.specs.declared.op.Op.TheVariants as op
+use Rattle.sharc_flat.specs.{Laid.{told_by, with_texts, AreLaid, AreNamed}, declared.op.Op.Op, declared.op.Spot.Spot, Machine.Flat}
+use Rattle.sharc_flat.specs.declared.op.Op.TheVariants as op
 use Rattle.sharc_guard.specs.{Guard.{check_under, head, body, own, tail, expand, width, offset, place, expanded}, Known.{leads_to, line_leads, is_led_to, is_entry, is_target, Know, nothing, know_after, known, drops, drops_at, dropped}}
 use Rattle.sharc_sound_laws.proofs.Lists.{ap2}
 

@@ -2,12 +2,12 @@
 use Rattle.std.proofs.{Common.{◌≡◌, ℕ, zero, suc, ◌+◌, ◌<◌, ◌≤◌, ◌≢◌, ◌⊎◌, inl, inr, Bool, true, false, not, ◌&&◌, cond, map, List, [], ◌∷◌, filter, find, replicate, Option, Some, None, is_some, if◌then◌else◌, refl, sym, ap, ◌∙◌, subst, ⊎_elim, arith, eqb-true}, lemmas.Bool.cases_eq, lemmas.Bool.Decides.nat_tests}
 use Rattle.std.specs.{Prelude.{◌==◌, slice_index_or}, List.{range_with_len, All}}
 use Rattle.sharc_word.specs.declared.step.TheConstants.{THREADS}
-use Rattle.sharc_shadow.specs.{declared.shadow_word.Kind.Kind, declared.shadow_word.Kind.TheVariants.{Read, Write}, Notes.{blank, of_kind}, Accesses.{note_of, site_at}, Functions.{lowest_from, lowest_other}, ShadowWord.{stands, is_written}}
+use Rattle.sharc_heap.specs.{declared.shadow_word.Kind.Kind, declared.shadow_word.Kind.TheVariants.{Read, Write}, Notes.{blank, of_kind}, Accesses.{note_of, site_at}, Functions.{lowest_from, lowest_other}, ShadowWord.{stands, is_written}}
 use Rattle.sharc_code.specs.{declared.code.Code.Code, declared.shape.Shape.Shape, declared.state.ConflictAt.ConflictAt, declared.state.Stop.Stop, declared.state.Stop.TheVariants.{Conflict, NoLock, NotSole, Trap}, Layout.{Fits, granules}, Machine.Machine, Path.begun, Runs.Global}
 use Rattle.sharc_cpu.specs.Thread.{ThreadView}
 use Rattle.sharc_threads.specs.Ends.{IsAt, AreStarted}
 use Rattle.sharc_history_laws.specs.Causes.{noted_site, Stood, IsNamed, OfWrite, OfRead, OfStop, OfFirst, HasNamed}
-use Rattle.sharc_run_text.specs.{declared.other.NotedCheck.NotedCheck, Others.{number_of, noted, is_same_place, refused_by, refused, check_by, or_refused, or_read, or_later, access_of, access_of_any, has_number, wrote_before, is_first_write, was_refused_first, refused_access, or_first_refused, against, other_access}}
+use Rattle.sharc_run.specs.{declared.other.NotedCheck.NotedCheck, Others.{number_of, noted, is_same_place, refused_by, refused, check_by, or_refused, or_read, or_later, access_of, access_of_any, has_number, wrote_before, is_first_write, was_refused_first, refused_access, or_first_refused, against, other_access}}
 use Rattle.sharc_lemmas.proofs.{Bools.yes, Options.some_or}
 
 -- ---- lists
@@ -212,7 +212,7 @@ module _ (code : Code) (s : Shape) (g : Global Machine) (threads : List ThreadVi
       let v = view_of n.0 (named_on n.0 k.0 k.1 k.2) (few_stand c.old n.0 n.2) in
       let is : IsNamed g t c (number_of v.0) k.0 k.1 = subst (λ n. IsNamed g t c n k.0 k.1) (sym v.3) k.2 in (
         record { kind = k.0; site = k.1; thread = number_of v.0 },
-        ap (λ k. against k c threads t) mine ∙ ap (Rattle.sharc_run_text.specs.Others.access_of_number c threads) n.1 ∙ ap (access_of_any c) v.1 ∙ of_view v.0 v.2 k.0 k.1 mine is,
+        ap (λ k. against k c threads t) mine ∙ ap (Rattle.sharc_run.specs.Others.access_of_number c threads) n.1 ∙ ap (access_of_any c) v.1 ∙ of_view v.0 v.2 k.0 k.1 mine is,
         is,
       )
 
@@ -248,7 +248,7 @@ module _ (code : Code) (s : Shape) (g : Global Machine) (threads : List ThreadVi
   first_parts : (v : ThreadView) → was_refused_first c v ≡ true → (d : ConflictAt) × (refused c v ≡ Some d) × (d.kind ≡ Write) × (is_written d.old ≡ false)
   first_parts v e = by (refused c v) refl e
     where
-      of : (kind : Kind) (b : Bool) → (Rattle.sharc_run_text.specs.Others.is_write kind && not b) ≡ true → (kind ≡ Write) × (b ≡ false)
+      of : (kind : Kind) (b : Bool) → (Rattle.sharc_run.specs.Others.is_write kind && not b) ≡ true → (kind ≡ Write) × (b ≡ false)
       of Write false e = (refl, refl)
       of Write true e = absurd (yes (sym e))
       of Read b e = absurd (yes (sym e))
@@ -258,7 +258,7 @@ module _ (code : Code) (s : Shape) (g : Global Machine) (threads : List ThreadVi
       by (Some d) q e = let k = of d.kind (is_written d.old) e in (d, q, k.0, k.1)
 
   first_yes : (v : ThreadView) (d : ConflictAt) → refused c v ≡ Some d → d.kind ≡ Write → is_written d.old ≡ false → was_refused_first c v ≡ true
-  first_yes v d is k old = ap is_first_write is ∙ ap (λ k. Rattle.sharc_run_text.specs.Others.is_write k && not (is_written d.old)) k ∙ ap not old
+  first_yes v d is k old = ap is_first_write is ∙ ap (λ k. Rattle.sharc_run.specs.Others.is_write k && not (is_written d.old)) k ∙ ap not old
 
   at_read : c.kind ≡ Read → Picks
   at_read mine = ⊎_elim

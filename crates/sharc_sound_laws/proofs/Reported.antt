@@ -4,8 +4,7 @@ use Rattle.sharc_tree.specs.declared.event.SourceEvent.{SourceEvent}
 use Rattle.sharc_mode.specs.Moded.{Assignment}
 use Rattle.sharc_meaning.specs.{Events.{events_of, is_of}, Obeys.History}
 use Rattle.sharc_code.specs.{declared.code.Code.Code, declared.instr.Instr.Instr, declared.instr.Instr.TheVariants.{Start, TestSole}, declared.shape.Shape.Shape, declared.state.TurnState.TheVariants.Stopped, declared.state.Stop.Stop, declared.state.Stop.TheVariants.{Conflict, NoLock, NotSole, Trap}, Laws.RunLaws, Layout.Fits, Opening.opening_words, Machine.instr_at, Runs.{IsRun, Said, Turn, opening_of, told_by, with_told}, Whole.{CheckedRun, Erase, bounds, one_thread, place_after}}
-use Rattle.sharc_gen.specs.OfRuns.{told_in}
-use Rattle.sharc_compile.specs.Refused.{IsReport}
+use Rattle.sharc_compile.specs.{OfRuns.told_in, Refused.IsReport}
 use Rattle.sharc_invariant.specs.{Types.Targets, Labels.Labels, Typed.IsWellTyped, State.IsSmall}
 use Rattle.sharc_history_laws.specs.{Causes.{NamesAreCauses, ReportsHaveNamed}, Conflicts.{AccessReportsShow, site_of_check}, Followed.{ChecksAreFollowed, LockReportsShowAccess}, History.history_of, Reports.{CastReportsShow, IsLockCheck}}
 use Rattle.sharc_wants_laws.specs.Wants.{IsNotThere}

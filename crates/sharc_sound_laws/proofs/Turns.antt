@@ -4,7 +4,7 @@ use Rattle.std.specs.List.{range_with_len}
 use Rattle.sharc_tree.specs.declared.trap.Trap.TheVariants as traps
 use Rattle.sharc_word.specs.declared.step.WordOp.TheVariants as ops
 use Rattle.sharc_code.specs.{declared.code.Code.Code, declared.code.Function.Function, declared.code.Layout.Layout, declared.instr.Instr.Instr, declared.instr.Instr.TheVariants.{Return, Free, Start, Exit}, declared.shape.Shape.Shape, declared.state.Stage.Stage, declared.state.Stage.TheVariants.{Rests, Empties, Enters}, declared.state.TurnState.TheVariants.Runs, declared.state.TheConstants.FRAMES, Layout.{granules, function_at, words_of, cell_word, cell_of, function_word, top_word, next_thread_word, state_word}, Machine.{Machine, Turn, act, instr_at, step_of, returned, goes_to, holds_none, trapped, back_to, no_frame, free, pointer_cell, fields, field_of, layout_at, no_layout, ref, start, entered, called, with_parameter, function_of, no_function, at_stage}, Opening.{first_global, first_heap, opening_words, opens_with}, Path.{most_ints, most_refs, begun, turn, after, asked_by, may_go, counted, machine_after, IsPath, CodePath, made_in}, Waits.{asks_for, wait_of}}
-use Rattle.sharc_shadow.specs.Notes.{blank}
+use Rattle.sharc_heap.specs.Notes.{blank}
 use Rattle.sharc_sound_laws.specs.Alike.{unnamed, AreAlike}
 use Rattle.sharc_sound_laws.proofs.Lists.{ap2, map_same, length_of, element_of, fold_same}
 

@@ -3,7 +3,7 @@
 use Rattle.std.specs.Prelude.{ℕ, ◌≡◌, map}
 use Rattle.sharc_code.specs.{declared.code.Code.Code, declared.code.Function.Function}
 use Rattle.sharc_code.specs.{declared.code.SourcePlace.SourcePlace, Says.place_at}
-use Rattle.sharc_run_text.specs.Places.{text_of}
+use Rattle.sharc_run.specs.Places.{text_of}
 
 -- a function without the place of its name
 abbrev pub unnamed : Function → Function

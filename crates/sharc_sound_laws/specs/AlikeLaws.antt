@@ -8,7 +8,7 @@ use Rattle.sharc_run.specs.declared.run.Ran.{Ran}
 use Rattle.sharc_replay.specs.Run.{IsScheduledRun}
 use Rattle.sharc_schedule.specs.Schedule.{Stored}
 use Rattle.sharc_seq.specs.Run.{AreChosen}
-use Rattle.sharc_sound.specs.Compiled.{IsCompiled}
+use Rattle.sharc_front_end.specs.Compiled.{IsCompiled}
 use Rattle.sharc_threads.specs.Ends.{is_enabled}
 use Rattle.sharc_sound_laws.specs.Alike.{AreAlike}
 

@@ -7,8 +7,7 @@ use Rattle.sharc_tree.specs.declared.tree.expression.Constant.TheVariants as con
 use Rattle.sharc_ctype.specs.Resolved.{Resolution, IsResolved, global_at}
 use Rattle.sharc_mode.specs.Moded.{Assignment}
 use Rattle.sharc_code.specs.declared.code.Code.{Code}
-use Rattle.sharc_flat_form.specs.declared.flat.Flat.{Flat as FlatCode}
-use Rattle.sharc_flat.specs.Flattens.{Flattens}
+use Rattle.sharc_flat.specs.{declared.flat.Flat.{Flat as FlatCode}, Flattens.Flattens}
 use Rattle.sharc_compile.specs.Made.{IsCodeOf}
 use Rattle.sharc_history_laws.specs.Stores.{BeginsWith}
 

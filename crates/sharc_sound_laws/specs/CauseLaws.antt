@@ -7,7 +7,7 @@ use Rattle.sharc_cpu.specs.Thread.{ThreadView}
 use Rattle.sharc_threads.specs.Ends.{AreStarted}
 use Rattle.sharc_invariant.specs.{Types.Targets, Labels.Labels, Typed.IsWellTyped, State.IsSmall}
 use Rattle.sharc_history_laws.specs.{Causes.ShowsCause, Followed.ChecksAreFollowed}
-use Rattle.sharc_run_text.specs.{declared.other.NotedCheck.NotedCheck, Others.other_access}
+use Rattle.sharc_run.specs.{declared.other.NotedCheck.NotedCheck, Others.other_access}
 
 -- the report names another access, and that one is the cause
 pub record NamesCause (code : Code) (s : Shape) (run : List Turn) (threads : List ThreadView) (t : ℕ)

@@ -1,11 +1,11 @@
 -- What the code of an accepted program is to the program.
 use Rattle.std.specs.Prelude.{ℕ, List}
 use Rattle.sharc_mode.specs.Moded.{Assignment}
-use Rattle.sharc_mode_laws.specs.Rules.{MeetsRules}
+use Rattle.sharc_check.specs.Rules.{MeetsRules}
 use Rattle.sharc_code.specs.declared.code.Code.{Code}
 use Rattle.sharc_flat.specs.Correct.{MayStart}
 use Rattle.sharc_compile_laws.specs.{Paths.{PathsTell, ThreadsTellInRuns}, Started.HasThread, Threads.RunsTell}
-use Rattle.sharc_sound.specs.{Compiled.IsCompiled, Front.IsFront}
+use Rattle.sharc_front_end.specs.{Compiled.IsCompiled, Front.IsFront}
 use Rattle.sharc_build.specs.{declared.building.Built.Built, Built.IsBuilt}
 
 -- Where the results of a path of a thread are consistent, the thread reports what the program asks for, stops where

@@ -4,8 +4,7 @@ use Rattle.sharc_mode.specs.Moded.{Assignment}
 use Rattle.sharc_code.specs.{declared.code.Code.Code, declared.shape.Shape.Shape, declared.state.Stop.Stop}
 use Rattle.sharc_code.specs.{declared.state.Stop.TheVariants.{Conflict, NoLock}, Layout.Fits, Runs.Turn}
 use Rattle.sharc_code.specs.Whole.{CheckedRun, place_after}
-use Rattle.sharc_flat_form.specs.{declared.flat.Flat.{Flat as FlatCode}, Made.flat_of}
-use Rattle.sharc_flat.specs.{Laws.FitsMade, Flattens.Flattens}
+use Rattle.sharc_flat.specs.{declared.flat.Flat.{Flat as FlatCode}, Made.flat_of, Laws.FitsMade, Flattens.Flattens}
 use Rattle.sharc_meaning.specs.Obeys.{AlwaysObeys}
 use Rattle.sharc_compile.specs.Made.{IsCodeOf}
 use Rattle.sharc_flat_laws.specs.Typed.{IsTypedProgram}

@@ -1,14 +1,13 @@
 -- What the reports of the runs of an accepted program show, where the code is typed.
 use Rattle.std.specs.Prelude.{◌≡◌, ℕ, pos, List, Some}
 use Rattle.sharc_tree.specs.declared.event.Act.{Act}
-use Rattle.sharc_shadow.specs.declared.shadow_word.Kind.{Kind}
+use Rattle.sharc_heap.specs.declared.shadow_word.Kind.{Kind}
 use Rattle.sharc_mode.specs.Moded.{Assignment}
 use Rattle.sharc_code.specs.{declared.code.Code.Code, declared.shape.Shape.Shape}
 use Rattle.sharc_code.specs.{declared.state.TurnState.TheVariants.Stopped, declared.state.Stop.Stop}
 use Rattle.sharc_code.specs.{declared.state.Stop.TheVariants.{Conflict, NoLock, NotSole, Trap}, Layout.Fits, Runs.Turn}
 use Rattle.sharc_code.specs.{Says.place_at, Whole.{CheckedRun, place_after}}
-use Rattle.sharc_flat_form.specs.{declared.flat.Flat.{Flat as FlatCode}, Made.flat_of}
-use Rattle.sharc_flat.specs.{Laws.FitsMade, Flattens.Flattens}
+use Rattle.sharc_flat.specs.{declared.flat.Flat.{Flat as FlatCode}, Made.flat_of, Laws.FitsMade, Flattens.Flattens}
 use Rattle.sharc_meaning.specs.{Meaning.Asked, Obeys.History, State.{wants, event_of}}
 use Rattle.sharc_compile.specs.{Made.IsCodeOf, Refused.{IsRefused, IsReport, site_of}}
 use Rattle.sharc_flat_laws.specs.Typed.{IsTypedProgram}

@@ -2,7 +2,7 @@
 -- each place that it comes to, and of what it reports.
 use Rattle.std.specs.Prelude.{◌≡◌, ◌⊎◌, ℕ, Bool, List, [], ◌∷◌, ◌++◌, Some, reverse}
 use Rattle.sharc_tree.specs.declared.event.SourceEvent.{SourceEvent}
-use Rattle.sharc_shadow.specs.declared.shadow_word.Kind.{Kind}
+use Rattle.sharc_heap.specs.declared.shadow_word.Kind.{Kind}
 use Rattle.sharc_mode.specs.Moded.{Assignment}
 use Rattle.sharc_meaning.specs.{Events.access_by, Obeys.{Obeys, Until}}
 use Rattle.sharc_code.specs.{declared.code.Code.Code, declared.shape.Shape.Shape, declared.state.ConflictAt.ConflictAt}
@@ -10,11 +10,9 @@ use Rattle.sharc_code.specs.{declared.state.Stop.TheVariants.{Conflict, NoLock, 
 use Rattle.sharc_code.specs.{Path.begun, Runs.{Turn, turns_of, said_by}, Whole.{CheckedRun, Erase, place_after}}
 use Rattle.sharc_cpu.specs.Thread.{ThreadView}
 use Rattle.sharc_threads.specs.Ends.{AreStarted}
-use Rattle.sharc_flat_form.specs.{declared.flat.Flat.{Flat as FlatCode}, Made.flat_of}
-use Rattle.sharc_flat.specs.{Flattens.Flattens, Laws.FitsMade}
-use Rattle.sharc_gen.specs.{Consistent.IsConsistent, Correct.IsBeginning, Lowered.lowered_in}
-use Rattle.sharc_gen.specs.OfRuns.{elements_before, founds_of, told_in}
-use Rattle.sharc_compile.specs.Made.{IsCodeOf}
+use Rattle.sharc_flat.specs.{declared.flat.Flat.{Flat as FlatCode}, Made.flat_of, Flattens.Flattens, Laws.FitsMade}
+use Rattle.sharc_compile.specs.{Consistent.IsConsistent, Correct.IsBeginning, Lowered.lowered_in}
+use Rattle.sharc_compile.specs.{OfRuns.{elements_before, founds_of, told_in}, Made.IsCodeOf}
 use Rattle.sharc_compile_laws.specs.Paths.{TellsProgram}
 use Rattle.sharc_flat_laws.specs.Typed.{IsTypedProgram}
 use Rattle.sharc_invariant.specs.{Types.Targets, Labels.Labels, Typed.IsWellTyped, Opened.{first_world, first_place}}

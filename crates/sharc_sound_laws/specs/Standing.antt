@@ -5,8 +5,7 @@ use Rattle.sharc_mode.specs.Moded.{Assignment}
 use Rattle.sharc_code.specs.{declared.code.Code.Code, declared.shape.Shape.Shape}
 use Rattle.sharc_code.specs.{declared.state.TurnState.TheVariants.Ended, Layout.Fits, Machine.{Machine, instr_at}}
 use Rattle.sharc_code.specs.{Runs.Turn, Whole.{CheckedRun, place_after}}
-use Rattle.sharc_flat_form.specs.{declared.flat.Flat.{Flat as FlatCode}, Made.flat_of}
-use Rattle.sharc_flat.specs.{Laws.FitsMade, Flattens.Flattens}
+use Rattle.sharc_flat.specs.{declared.flat.Flat.{Flat as FlatCode}, Made.flat_of, Laws.FitsMade, Flattens.Flattens}
 use Rattle.sharc_meaning.specs.{Events.{events_of, holds_mutex}, Meaning.{Asked, asks}, Obeys.History}
 use Rattle.sharc_meaning.specs.{Runs.{Follows, answers_of}, State.ended}
 use Rattle.sharc_compile.specs.{Made.IsCodeOf, Refused.WantsRefused}

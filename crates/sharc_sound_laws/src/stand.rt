@@ -13,7 +13,7 @@ use sharc_invariant::laws::{runs_bits, runs_stand};
 pub fn made_is_followed()
     ensures { CodeIsFollowed }
 {
-    sharc_wants_laws::followed_law();
+    sharc_wants_laws::follow::followed_law();
 }
 
 /// Of each checked run of the code of a typed, well-moded program with its least assignment, if that code is typed:

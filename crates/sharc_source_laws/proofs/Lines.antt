@@ -4,8 +4,8 @@ use Rattle.sharc_tree.specs.{declared.token.FaultAt.FaultAt, declared.token.Toke
 use Rattle.sharc_lex.specs.{declared.fault.TokenFault.TokenFault, declared.fault.LineFault.LineFault, declared.fault.SourceLine.SourceLine, Grammar.{◌>>=◌, in_front, lines_of, token, tokens_of, behind_tokens, Read, opening, marked, with_tokens, marker_line, text_line, line_read, with_place, lines_read, tokens_read, reading}, Markers.is_marker_line}
 use Rattle.sharc_tree.specs.declared.token.TokenKind.TheVariants as kind
 use Rattle.sharc_tree.specs.declared.token.Punctuator.TheVariants as sign
-use Rattle.sharc_grammar.specs.{Grammar.mark, Places.{word_of, words_of}}
-use Rattle.sharc_recorded.specs.File.{schedule_word}
+use Rattle.sharc_parse.specs.{Grammar.mark, Places.{word_of, words_of}}
+use Rattle.sharc_schedule.specs.File.{schedule_word}
 use Rattle.sharc_source_laws.specs.Laws.{ProgramsHoldNoEvents, ProgramsHoldNoSchedule}
 use Rattle.sharc_source_laws.proofs.Percents.{Apart, program_apart, apart_before, not_twice}
 

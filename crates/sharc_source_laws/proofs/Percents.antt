@@ -9,7 +9,7 @@ use Rattle.sharc_tree.specs.declared.tree.expression.Constant.TheVariants as con
 use Rattle.sharc_tree.specs.declared.tree.expression.PlaceCall.TheVariants as place_call
 use Rattle.sharc_tree.specs.declared.tree.expression.ValueCall.TheVariants as value_call
 use Rattle.sharc_tree.specs.declared.tree.statement.Jump.TheVariants as jumps
-use Rattle.sharc_grammar.specs.Grammar.{Word, name, keyword, mark, Sharing, private, readonly, racy, dynamic, locked, locked_through, Typing, Declaring, sharing_words, level_words, base_words, bottom_words, levels_words, list_words, type_words, declaring_words, Front, parenthesis, of_spawn, of_value, of_place, of_cast, front_words, Phrase, identifier, constant, enclosed, call, index, field, unary, binary, Phrases, none, more, operator_mark, unary_mark, access_mark, constant_word, words, words_of_all, words_of_rest, Value, value, malloc, Doing, assign, invoke, Line, nothing, does, declares, Loop, Sentence, line, jump, return, block, under, Sentences, no_more, sentence, Opening, if_of, else_of, while_of, for_of, option_words, count_words, value_words, doing_words, initial_words, line_words, step_words, loop_words, jump_word, written, written_all, opening_words, Form, single, array, initially, Part, structure, global, function, sign_words, form_words, fields_words, further_words, parameters_words, part_words, program_words}
+use Rattle.sharc_parse.specs.Grammar.{Word, name, keyword, mark, Sharing, private, readonly, racy, dynamic, locked, locked_through, Typing, Declaring, sharing_words, level_words, base_words, bottom_words, levels_words, list_words, type_words, declaring_words, Front, parenthesis, of_spawn, of_value, of_place, of_cast, front_words, Phrase, identifier, constant, enclosed, call, index, field, unary, binary, Phrases, none, more, operator_mark, unary_mark, access_mark, constant_word, words, words_of_all, words_of_rest, Value, value, malloc, Doing, assign, invoke, Line, nothing, does, declares, Loop, Sentence, line, jump, return, block, under, Sentences, no_more, sentence, Opening, if_of, else_of, while_of, for_of, option_words, count_words, value_words, doing_words, initial_words, line_words, step_words, loop_words, jump_word, written, written_all, opening_words, Form, single, array, initially, Part, structure, global, function, sign_words, form_words, fields_words, further_words, parameters_words, part_words, program_words}
 
 abbrev is_percent : Word → Bool
 is_percent (mark Percent) = true

@@ -7,7 +7,7 @@ use Rattle.sharc_tree.specs.declared.tree.expression.Constant.TheVariants as con
 use Rattle.sharc_tree.specs.declared.token.TokenKind.TheVariants as kind
 use Rattle.sharc_lex.specs.{declared.fault.TokenFault.TokenFault, declared.fault.LineFault.LineFault, declared.fault.SourceLine.SourceLine, declared.token_at.Lexeme.Lexeme, Bytes.{is_blank, is_printable, is_letter, is_digit, is_white_space, is_word_byte}, Characters.{character, constant, escaped, behind_backslash, plain}, Grammar.{◌>>=◌, at_offset, lines_of, token, tokens_of, behind_tokens, Read, opening, marked, with_tokens, marker_line, text_line, line_read, with_place, lines_read, tokens_read, reading}, Markers.{is_marker_line, marker}, Numbers.{value, without_suffix, has_suffix, typed, small_value}, Punctuators.{first_begun, punctuators, punctuator}, TokenAt.{of_len, word_at, number_at, token_at}, Words.{entry_at, keywords, word}}
 use Rattle.sharc_lex.specs.declared.fault.TokenFault.TheVariants as fault
-use Rattle.sharc_grammar.specs.Places.{kind_word, words_of, site_in}
+use Rattle.sharc_parse.specs.Places.{kind_word, words_of, site_in}
 use Rattle.sharc_source_laws.specs.{Constants.{IsHeld, ConstantsAreHeld}, Laws.NumbersHaveNoSign}
 use Rattle.sharc_source_laws.proofs.{Held.functions_held, Behind.{IsPlainWord, Plainly, globals_begin, begins_unsigned}}
 

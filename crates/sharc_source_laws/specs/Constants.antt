@@ -8,7 +8,7 @@ use Rattle.sharc_tree.specs.Tree.{value, malloc, Simple, assign, does_call, Firs
 use Rattle.sharc_tree.specs.Tree.{Statement, empty, block, declare, simple, jump, return, if_then, if_then_else, while}
 use Rattle.sharc_tree.specs.Tree.{for, Statements, no_statements, statement, Function}
 use Rattle.sharc_lex.specs.Grammar.{reading}
-use Rattle.sharc_grammar.specs.Places.{Reads}
+use Rattle.sharc_parse.specs.Places.{Reads}
 use Rattle.sharc_ctype.specs.{Expressions.constant_kind, Resolved.functions_in}
 use Rattle.sharc_meaning.specs.{Reference.constant_value, State.is_reference}
 use Rattle.sharc_code.specs.Arithmetic.{holds}

@@ -6,8 +6,8 @@ use Rattle.sharc_tree.specs.{declared.tree.item.GlobalForm.TheVariants.Initial, 
 use Rattle.sharc_tree.specs.declared.tree.expression.Constant.TheVariants as constants
 use Rattle.sharc_ctype.specs.Resolved.{globals_in}
 use Rattle.sharc_lex.specs.Grammar.{reading}
-use Rattle.sharc_grammar.specs.Places.{Reads}
-use Rattle.sharc_recorded.specs.File.{HoldsNoSchedule}
+use Rattle.sharc_parse.specs.Places.{Reads}
+use Rattle.sharc_schedule.specs.File.{HoldsNoSchedule}
 
 -- no newline of a program is followed by the word that begins the schedule in a recorded file
 abbrev pub ProgramsHoldNoSchedule : Type 0

@@ -5,9 +5,8 @@ use Rattle.sharc_tree.specs.{declared.tree.declaration.WrittenType.WrittenType, 
 use Rattle.sharc_tree.specs.Tree as tree
 use Rattle.sharc_names.specs.declared.fault.Named.{Named}
 use Rattle.sharc_names.specs.declared.fault.Named.TheVariants as named
-use Rattle.sharc_rewrite.specs.{declared.written.Recast.Recast, Recast.{around, with_cast, right_with_cast, simple_with_cast, local_with_cast, first_with_cast, statement_with_cast, statements_with_cast, function_with_cast, item_with_cast, program_with_cast}}
+use Rattle.sharc_suggest_laws.specs.{declared.written.Recast.Recast, Recast.{around, with_cast, right_with_cast, simple_with_cast, local_with_cast, first_with_cast, statement_with_cast, statements_with_cast, function_with_cast, item_with_cast, program_with_cast}, Names.{is_dull, KeepsName}}
 use Rattle.sharc_ctype.specs.{Constants.{is_among, stands_left, is_assigned_by, is_assigned_in, is_constant}, Resolved.{Resolution, functions_in, named_at}, Transfers.{Receiver, lvalue, variable, result, Transfer, parameters_named, gives, passed, transfers, argument_transfers, in_option, right_transfers, simple_transfers, first_transfers, statement_transfers, statements_transfers}, Variables.{initialised, initialised_first, initialised_in, initialised_in_all, variable as variable_in, variable_of, with_value, all_with_value}}
-use Rattle.sharc_suggest_laws.specs.Names.{is_dull, KeepsName}
 use Rattle.sharc_suggest_laws.proofs.Declared.{same_functions}
 
 -- each token names what it named

@@ -5,9 +5,8 @@ use Rattle.sharc_names.specs.declared.fault.Named.{Named}
 use Rattle.sharc_names.specs.declared.fault.Named.TheVariants as named
 use Rattle.sharc_ctype.specs.Resolved.{Resolution, named_at, kind_at}
 use Rattle.sharc_mode.specs.{Moded.Assignment, Notes.{agree, base_of}, Rows.{Targets, written, read, entity_row, cast_row, modes_of}, Sharings.{Sharing, private, readonly, locked, racy, dynamic, lock_of, path_with, sharing_of, mode_of, same, same_named, same_text, same_first, same_second, same_all, text_at}}
-use Rattle.sharc_rewrite.specs.Applied.{written_or, targets, inserted, first_of, first_new, resolution_with, assignment_with}
+use Rattle.sharc_suggest_laws.specs.{Applied.{written_or, targets, inserted, first_of, first_new, resolution_with, assignment_with}, Expected.{IsCastAt, HasExpected, Agrees, CastHasExpected}}
 use Rattle.sharc_suggest.specs.Repairs.{cast_to}
-use Rattle.sharc_suggest_laws.specs.Expected.{IsCastAt, HasExpected, Agrees, CastHasExpected}
 use Rattle.sharc_suggest_laws.proofs.{Inserted.stretch_added, Rows.{row_of, all_read}, Stands.suggested_stands, Types.targets_counted}
 
 -- ---- the modes of a type that is shown are those that it was made of

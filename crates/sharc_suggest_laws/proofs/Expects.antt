@@ -1,7 +1,7 @@
 -- What is expected of a value that is given in a typed program: as many modes as the receiver has stars, whose lock
 -- paths lead to something.
 use Rattle.std.proofs.{Common.{◌≡◌, ℕ, zero, suc, ◌+◌, ◌==◌, Bool, true, false, cond, List, [], ◌∷◌, drop, Option, Some, None, option_map, refl, ap, sym, subst, ◌∙◌, eqb-true, arith}, lemmas.Bool.{false≢true, and_parts}}
-use Rattle.std.specs.{List.AllByRecursion}
+use Rattle.std.specs.List.{AllByRecursion}
 use Rattle.sharc_tree.specs.{declared.ctype.Base.Base, declared.tree.declaration.Declaration.Declaration, declared.tree.declaration.Identifier.Identifier, declared.tree.declaration.WrittenType.WrittenType, Tree.{Expression, identifier, constant, parentheses, call, spawn, on_value, on_place, cast, index, field, unary, binary, Arguments, no_arguments, argument, Function}}
 use Rattle.sharc_names.specs.{declared.fault.Named.Named, Kinds.{Kind, object, array, null, agrees, is_integer, is_integral, is_null, is_pointer, same_kind, stars_of, declared_kind}}
 use Rattle.sharc_names.specs.declared.fault.Named.TheVariants as named
@@ -11,7 +11,7 @@ use Rattle.sharc_ctype_laws.specs.Declared.{IsItself}
 use Rattle.sharc_infer_laws.specs.Locks.{HasWrittenLocks}
 use Rattle.sharc_mode.specs.{Expressions.expected, Moded.{Assignment, IsWhole}, Rows.{written, at_call, Targets, argument_use, constant_use, declared_row, entity_row, is_constant_named, modes_of, row_at}, Sharings.Sharing}
 use Rattle.sharc_suggest.specs.Givings.{beyond, Receiver, of_declared, of_left, of_parameter, wanted}
-use Rattle.sharc_suggest_laws.proofs.{Given.{Declares, FirstFits, Receives, IsWellFunction}, Leads.{ArgumentsFit, IsVariableAt}, Modes.{HasModes, modes_of_row}, Retyped.one_kind, Targets.{IsRow, IsRowOf, IsKnownProgram, own_row, targets_of}}
+use Rattle.sharc_suggest_laws.proofs.{Given.{Declares, FirstFits, Receives, IsWellFunction}, Leads.{ArgumentsFit, IsVariableAt}, ModesKept.{HasModes, modes_of_row}, Retyped.one_kind, Targets.{IsRow, IsRowOf, IsKnownProgram, own_row, targets_of}}
 use Rattle.sharc_lemmas.proofs.Lists.{at_place}
 
 -- ---- what agrees with what (6.5.16.1)

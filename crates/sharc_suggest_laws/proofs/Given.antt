@@ -7,8 +7,7 @@ use Rattle.sharc_tree.specs.Tree as tree
 use Rattle.sharc_names.specs.{Kinds.{agrees, declared_kind}, Names.Entry}
 use Rattle.sharc_names.specs.declared.fault.Named.TheVariants as named
 use Rattle.sharc_names.specs.declared.types.Role.TheVariants as role
-use Rattle.sharc_ctype.specs.{declared.entity.Entity.Entity, Entities.{declared, result_of}, Resolved.{Resolution, functions_in, named_at, kind_at}, Statements.{first_locals, locals_in, locals_in_all}}
-use Rattle.sharc_ctype.specs.Transfers.{Transfer, IsFair, parameters_named, passed, transfers, argument_transfers, right_transfers, simple_transfers, local_transfers, first_transfers, statement_transfers, statements_transfers, function_transfers}
+use Rattle.sharc_ctype.specs.{declared.entity.Entity.Entity, Entities.{declared, result_of}, Resolved.{Resolution, functions_in, named_at, kind_at}, Statements.{first_locals, locals_in, locals_in_all}, Transfers.{Transfer, IsFair, parameters_named, passed, transfers, argument_transfers, right_transfers, simple_transfers, local_transfers, first_transfers, statement_transfers, statements_transfers, function_transfers}}
 use Rattle.sharc_ctype.specs.Transfers as transfer
 use Rattle.sharc_ctype_laws.specs.{Constraints.HasType, Declared.IsItself, Found.IsFound}
 use Rattle.sharc_suggest.specs.{Givings.{beyond, behind_first, after, with_parameters, Receiver, of_declared, of_left, of_parameter, Giving, one_giving, givings, all_givings, option_givings, value_givings, right_givings, simple_givings, local_givings, first_givings, head_givings, givings_in, givings_in_all, item_givings, items_givings}, Repairs.entry_of}

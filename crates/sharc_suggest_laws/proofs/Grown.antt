@@ -4,9 +4,8 @@ use Rattle.sharc_tree.specs.{declared.token.Span.Span, declared.token.Token.Toke
 use Rattle.sharc_tree.specs.Tree as tree
 use Rattle.sharc_names.specs.declared.types.Role.{Role}
 use Rattle.sharc_names.specs.declared.types.Role.TheVariants as role
-use Rattle.sharc_rewrite.specs.{declared.written.Recast.Recast, Recast.{type_at, is_there, around, with_cast, all_with_cast, right_with_cast, simple_with_cast, local_with_cast, first_with_cast, head_with_cast, statement_with_cast, statements_with_cast, item_with_cast}}
+use Rattle.sharc_suggest_laws.specs.{declared.written.Recast.Recast, Recast.{type_at, is_there, around, with_cast, all_with_cast, right_with_cast, simple_with_cast, local_with_cast, first_with_cast, head_with_cast, statement_with_cast, statements_with_cast, item_with_cast}, Values.{count_of, met_by, met_inside, met_inside_all, met_at, of_option, met_in_right, met_in_simple, met_in_local, met_in_first, met_in_head, met_in_statement, met_in_statements, met_in_item, met_in_items}}
 use Rattle.sharc_ctype.specs.{declared.entity.Entity.Entity, Entities.{declared, casts, cast_entity, result_of, local_entities, first_entities, head_entities, statement_entities, statements_entities, item_entities, entities_in}}
-use Rattle.sharc_suggest_laws.specs.Values.{count_of, met_by, met_inside, met_inside_all, met_at, of_option, met_in_right, met_in_simple, met_in_local, met_in_first, met_in_head, met_in_statement, met_in_statements, met_in_item, met_in_items}
 use Rattle.sharc_suggest_laws.proofs.Follows.{split}
 
 -- the cast, at a span of its tokens

@@ -1,6 +1,6 @@
 -- Lock paths that lead to something: what a written path is as it is read, and that nothing is wrong with it where its
 -- first name is found.
-use Rattle.std.proofs.{Common.{◌≡◌, ℕ, ◌+◌, Bool, true, false, cond, List, [], ◌∷◌, map, Option, Some, None, refl, ap, sym, subst, ◌∙◌}, lemmas.Bool.{and_parts}}
+use Rattle.std.proofs.{Common.{◌≡◌, ℕ, ◌+◌, Bool, true, false, cond, List, [], ◌∷◌, map, Option, Some, None, refl, ap, sym, subst, ◌∙◌}, lemmas.Bool.and_parts}
 use Rattle.std.specs.{Prelude.codes, List.AllByRecursion}
 use Rattle.sharc_tree.specs.{declared.ctype.Base.Base, declared.ctype.Path.Path, declared.ctype.Path.TheVariants.{One, Through}, declared.tree.declaration.Declaration.Declaration, declared.tree.item.StructDefinition.StructDefinition, Tree.{Arguments, Function}}
 use Rattle.sharc_tree.specs.declared.ctype.Base.TheVariants as base

@@ -1,3 +1,4 @@
+mod WriteLemmas
 pub mod Added
 pub mod Agreed
 pub mod Apart
@@ -27,7 +28,7 @@ pub mod Lefts
 pub mod Listed
 pub mod Mild
 pub mod Mismatches
-pub mod Modes
+pub mod ModesKept
 pub mod Noted
 pub mod Owned
 pub mod Paths
@@ -61,4 +62,4 @@ pub mod Types
 pub mod Wants
 pub mod Words
 pub mod World
-pub mod Written
+pub mod Rewritten

@@ -8,7 +8,7 @@ use Rattle.sharc_ctype_laws.specs.Constraints.{HasType, a_variable, a_global, a_
 use Rattle.sharc_infer_laws.specs.Locks.{HasWrittenLocks}
 use Rattle.sharc_mode.specs.{declared.error.Cast.Cast, Cells.cell_at, Moded.{Assignment, IsWhole}, Notes.taken_variable, Rows.{Targets, modes_of, row_at}, Sharings.{Sharing, is_readonly, mode_of}}
 use Rattle.sharc_suggest.specs.{Givings.{Giving, items_givings}, Repairs.{differ_first, is_free, keeps_first, keeps_all, may_be_cast}}
-use Rattle.sharc_suggest_laws.proofs.{Expects.{Agreed, same, integers, agreed, IsExpected, expected_of}, Filed.{IsMeant, AreMeant, file_meant, file_structs}, FoundThere.{HasNames, has_names, found_there}, Given.{AreKnown, AreOwn, IsWell, givings_well, IsWellFunction}, Leads.{IsFoundIn, modes_clean}, Mild.IsSpelled, Modes.{modes_of_row}, Noted.{Clean, clean_from}, ReadySite.{PathsRead, IsPointed}, Site.IsFor, SpelledAll.spelled, Targets.{IsRowOf, IsKnownProgram, targets_of}, World.{TypedLaws, known_program, known_functions}}
+use Rattle.sharc_suggest_laws.proofs.{Expects.{Agreed, same, integers, agreed, IsExpected, expected_of}, Filed.{IsMeant, AreMeant, file_meant, file_structs}, FoundThere.{HasNames, has_names, found_there}, Given.{AreKnown, AreOwn, IsWell, givings_well, IsWellFunction}, Leads.{IsFoundIn, modes_clean}, Mild.IsSpelled, ModesKept.modes_of_row, Noted.{Clean, clean_from}, ReadySite.{PathsRead, IsPointed}, Site.IsFor, SpelledAll.spelled, Targets.{IsRowOf, IsKnownProgram, targets_of}, World.{TypedLaws, known_program, known_functions}}
 use Rattle.sharc_lemmas.proofs.Lists.{back}
 
 -- ---- what may be cast is no NULL

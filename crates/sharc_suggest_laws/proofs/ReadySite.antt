@@ -3,13 +3,13 @@ use Rattle.std.proofs.{Common.{◌≡◌, is_some, ℕ, suc, ◌+◌, ◌-◌, B
 use Rattle.std.specs.List.{AllByRecursion}
 use Rattle.sharc_tree.specs.{declared.ctype.Base.Base, declared.tree.declaration.WrittenType.WrittenType, Forms.{without_parentheses, is_lvalue}, Tree.Expression}
 use Rattle.sharc_tree.specs.declared.ctype.Base.TheVariants as base
-use Rattle.sharc_names.specs.{declared.fault.FaultCode.TheVariants.TypeNotAllowed, declared.scope.Scope.Scope, Kinds.{Kind, object, is_pointer}, Names.{Entry, StructTable, StructMeaning, struct_of, named_struct}, Notes.{fault_unless}, Types.{is_known, struct_note, base_notes, is_allowed, allowed_there, modes_notes}}
+use Rattle.sharc_names.specs.{declared.fault.FaultCode.TheVariants.TypeNotAllowed, declared.scope.Scope.Scope, Kinds.{Kind, object, is_pointer}, Names.{Entry, StructTable, StructMeaning, struct_of, named_struct}, Notes.fault_unless, Types.{is_known, struct_note, base_notes, is_allowed, allowed_there, modes_notes}}
 use Rattle.sharc_names.specs.declared.types.Role.TheVariants as role
-use Rattle.sharc_rewrite.specs.{Recast.type_at, Applied.recast_of}
+use Rattle.sharc_suggest_laws.specs.{Recast.type_at, Applied.recast_of}
 use Rattle.sharc_ctype.specs.{Items.{file_scope, notes_about}, Resolved.{Resolution, kind_at}, Statements.with_names}
 use Rattle.sharc_mode.specs.{declared.error.Cast.Cast, Cells.cell_at, Moded.Assignment, Notes.{base_of, taken_variable}, Sharings.{Sharing, mode_of, is_readonly}}
 use Rattle.sharc_suggest.specs.{Repairs.{differ_first, may_be_cast, is_free, keeps_all}, Givings.{Giving, items_givings}}
-use Rattle.sharc_suggest_laws.proofs.{Noted.{Clean, none, joined, unless, referring}, Reread.setting_of, Scoped.Scoped, Site.IsFor, Sound.{IsBare, IsSound, stars_in, IsGivenSound, given_sound}, TypedWith.{IsReady}}
+use Rattle.sharc_suggest_laws.proofs.{Noted.{Clean, none, joined, unless, referring}, Reread.setting_of, Scoped.Scoped, Site.IsFor, Sound.{IsBare, IsSound, stars_in, IsGivenSound, given_sound}, TypedWith.IsReady}
 use Rattle.sharc_lemmas.proofs.{Lists.{back, map_length}, Numbers.is_below}
 
 -- the lock paths of its type name what is there

@@ -10,8 +10,7 @@ use Rattle.sharc_names.specs.Kinds as kinds
 use Rattle.sharc_ctype.specs.{declared.entity.Entity.Entity, declared.expr.OperatorClass.OperatorClass, declared.expr.OperatorClass.TheVariants.{Logical, Equality, Relation, Shift, Arithmetic}, Entities.{entities_in, numbered, numbered_from, positions_of}, Expressions.{number_kind, constant_kind, unary_result, class_of, binary_result}, Resolved.{Resolution, named_at, globals_in, functions_in, declarations_in, declared_at, variable_kind, global_kind_of, result_kind_of, named_kind, called_kind, kind_at}}
 use Rattle.sharc_mode.specs.{Notes.base_of, Sharings.is_field}
 use Rattle.sharc_ctype_laws.specs.WrittenTypes.{NamesStruct, IsNamedBase, IsNamedType}
-use Rattle.sharc_rewrite.specs.Applied.{names_struct, base_site}
-use Rattle.sharc_suggest_laws.specs.Names.{is_dull}
+use Rattle.sharc_suggest_laws.specs.{Applied.{names_struct, base_site}, Names.is_dull}
 use Rattle.sharc_suggest_laws.proofs.{Bases.{Have, HaveCasts, HoldInAll, in_all, AreDeclared, first_casts}, Mild.NamesBase}
 
 -- ---- a base that something has, and where it is named

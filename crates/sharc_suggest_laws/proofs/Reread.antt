@@ -4,7 +4,7 @@ use Rattle.std.specs.List.{AllByRecursion}
 use Rattle.sharc_tree.specs.{declared.ctype.Base.Base, declared.ctype.Base.TheVariants.{Int, Char, Long, Mutex, Void, Struct}, declared.tree.declaration.Declaration.Declaration, declared.tree.expression.Constant.Constant, declared.tree.item.GlobalDefinition.GlobalDefinition, declared.tree.item.GlobalForm.GlobalForm, declared.tree.item.GlobalForm.TheVariants.{Plain, Array, Initial}, Tree.{Function, Item, structure, global, function}}
 use Rattle.sharc_names.specs.{declared.fault.FaultCode.TheVariants.{DefinedTwice, LimitPassed, NoMain}, declared.scope.Scope.Scope, Kinds.{declared_kind, stars_of}, Names.{Entry, StructTable, field_of, struct_of, look_up}, Notes.{Note, fault_unless, fault_where}, Types.type_notes}
 use Rattle.sharc_names.specs.declared.types.Role.TheVariants as role
-use Rattle.sharc_rewrite.specs.{declared.written.Recast.Recast, Recast.{statements_with_cast, function_with_cast, item_with_cast, program_with_cast}}
+use Rattle.sharc_suggest_laws.specs.{declared.written.Recast.Recast, Recast.{statements_with_cast, function_with_cast, item_with_cast, program_with_cast}}
 use Rattle.sharc_ctype.specs.{Condition.known_in, Globals.{length_notes, base_initial_notes, initial_notes, global_notes, item_cells, item_size_notes, sizes_notes}, Heads.{Heading, within, head_notes, heads_notes, behind, behind_all, no_heads}, Items.{field_notes, fields_notes, parameters_notes, with_parameters, beyond, function_notes, item_notes, items_notes, has_main, main_missing, file_scope, program_notes, notes_about}, Resolved.Resolution, Statements.{with_names, declared, declared_notes, locals_in_all}}
 use Rattle.sharc_suggest.specs.Givings as scopes
 use Rattle.sharc_suggest.specs.{Repairs.entry_of, Givings.{item_givings, items_givings}}

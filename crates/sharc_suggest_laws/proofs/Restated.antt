@@ -5,7 +5,7 @@ use Rattle.sharc_tree.specs.{declared.tree.declaration.Declaration.Declaration, 
 use Rattle.sharc_tree.specs.Tree as tree
 use Rattle.sharc_names.specs.{declared.fault.FaultCode.TheVariants.{DefinedTwice, TypeMismatch, BadForm}, declared.need.Need.TheVariants.{Value, Integer}, declared.scope.Scope.Scope, Kinds.{Kind, void, same_kind, declared_kind}, Names.Entry, Needs.{met, unmet, unagreed}, Types.type_notes}
 use Rattle.sharc_names.specs.declared.types.Role.TheVariants as role
-use Rattle.sharc_rewrite.specs.{declared.written.Recast.Recast, Recast.{around, with_cast, right_with_cast, simple_with_cast, local_with_cast, first_with_cast, head_with_cast, statement_with_cast, statements_with_cast}}
+use Rattle.sharc_suggest_laws.specs.{declared.written.Recast.Recast, Recast.{around, with_cast, right_with_cast, simple_with_cast, local_with_cast, first_with_cast, head_with_cast, statement_with_cast, statements_with_cast}}
 use Rattle.sharc_ctype.specs.{declared.expr.Standing.TheVariants.{AsValue, AsLvalue}, Expressions.{type_of, notes_of, place_kind}, Statements.{Around, opened, looping, with_names, is_here, declared, declared_notes, test_notes, count_notes, right_notes, simple_notes, is_aggregate, initial_notes, local_notes, returned_as, return_notes, first_notes, behind_first, tests_notes, step_notes, head_notes, after, notes_in, notes_in_all}}
 use Rattle.sharc_suggest.specs.Givings as scopes
 use Rattle.sharc_suggest.specs.{Repairs.entry_of, Givings.{Receiver, of_declared, of_left, givings, option_givings, value_givings, right_givings, simple_givings, local_givings, first_givings, head_givings, givings_in, givings_in_all}}

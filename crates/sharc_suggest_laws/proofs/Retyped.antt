@@ -4,7 +4,7 @@ use Rattle.std.specs.List.{AllByRecursion}
 use Rattle.sharc_tree.specs.{declared.ctype.Base.Base, declared.ctype.Base.TheVariants.{Int, Char, Long, Mutex, Void, Struct}, declared.token.Span.Span, declared.tree.declaration.WrittenType.WrittenType, declared.tree.declaration.Declaration.Declaration, Forms.{without_parentheses, is_lvalue}, Spans.span_of, Tree.{Expression, identifier, constant, parentheses, call, spawn, on_value, on_place, cast, index, field, unary, binary, Arguments, no_arguments, argument}}
 use Rattle.sharc_names.specs.{declared.fault.FaultCode.TheVariants.{TypeMismatch, NoLvalue, TypeNotAllowed, BadForm}, declared.need.Need.Need, declared.need.Need.TheVariants.{Value, Integer, Indexed}, declared.scope.Scope.Scope, Kinds.{Kind, object, is_pointer, same_base, same_kind, declared_kind}, Names.{Entry, StructTable, StructMeaning, look_up, struct_of, parameters_of}, Needs.{place, met, agreed}, Notes.{Note, fault, fault_unless}, Types.{main_notes, field_in, field_kind, field_notes, is_known, allowed_there, struct_note, base_notes, type_notes, is_fine}, Wants.first_wanted}
 use Rattle.sharc_names.specs.declared.types.Role.TheVariants as role
-use Rattle.sharc_rewrite.specs.{declared.written.Recast.Recast, Recast.{type_at, is_there, around, with_cast, all_with_cast}}
+use Rattle.sharc_suggest_laws.specs.{declared.written.Recast.Recast, Recast.{type_at, is_there, around, with_cast, all_with_cast}}
 use Rattle.sharc_ctype.specs.{declared.expr.Standing.Standing, declared.expr.Standing.TheVariants.{AsValue, AsLvalue}, Expressions.{element_of, access_need, operand_need, unary_kind, class_of, operands_need, binary_kind, names_function, is_place, place_kind, place_notes, value_call_kind, place_call_kind, cast_kind, cast_notes, count, callee_notes, wanted, call_result, call_kind, spawn_notes, may_spawn, spawn_wanted, spawn_kind, can_spawn, type_of, are_fine, notes_at, notes_of_all}, Resolved.Resolution, Statements.with_names}
 use Rattle.sharc_suggest.specs.Givings.{Receiver, of_parameter, Giving, one_giving, givings, all_givings, value_givings}
 use Rattle.sharc_suggest_laws.proofs.{Grown.span_same, Noted.{Clean, left, right, no_fault, well, Noted, done, kept, old_fault, new_fault, both, same, AreFaults, more_faults, IsTame, quiet, unless_faults, unmet_faults, unagreed_faults, place_faults, place_call_faults, cast_faults, count_faults, main_faults, binary_faults, append_tame, faults_tame, name_tame, field_tame, type_tame}, Scoped.Scoped}

@@ -5,7 +5,7 @@ use Rattle.sharc_names.specs.declared.types.Role.{Role}
 use Rattle.sharc_names.specs.declared.types.Role.TheVariants as role
 use Rattle.sharc_ctype.specs.{Resolved.Resolution, declared.entity.Entity.Entity, declared.entity.Numbered.Numbered, Entities.positions_of}
 use Rattle.sharc_mode.specs.{Moded.Assignment, Rows.{Targets, written, read, targets_from, entity_row, modes_of}, Sharings.{Sharing, private, readonly, locked, racy, dynamic, sharing_of}}
-use Rattle.sharc_rewrite.specs.Applied.{inserted}
+use Rattle.sharc_suggest_laws.specs.Applied.{inserted}
 use Rattle.sharc_suggest_laws.proofs.{Found.{IsMoved, AreMoved}, Inserted.{stretch_before, stretch_behind}}
 
 -- ---- a row that is read as it is written

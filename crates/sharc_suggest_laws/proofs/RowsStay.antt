@@ -6,11 +6,10 @@ use Rattle.sharc_names.specs.{declared.fault.Named.Named, declared.need.Need.The
 use Rattle.sharc_names.specs.declared.fault.Named.TheVariants as named
 use Rattle.sharc_names.specs.declared.types.Role.TheVariants as role
 use Rattle.sharc_names.specs.Kinds as kinds
-use Rattle.sharc_rewrite.specs.{declared.written.Recast.Recast, Recast.{with_cast, function_with_cast}, Applied.{recast_of, targets, resolution_with}}
+use Rattle.sharc_suggest_laws.specs.{declared.written.Recast.Recast, Recast.{with_cast, function_with_cast}, Applied.{recast_of, targets, resolution_with}, Names.{is_dull, KeepsName}, Values.{met_in_items, begins_at}}
 use Rattle.sharc_ctype.specs.{declared.entity.Entity.Entity, declared.entity.Numbered.Numbered, Entities.{entity_at, positions_of}, Expressions.{element_of, operand_need, unary_kind}, Resolved.{Resolution, named_at, globals_in, functions_in, declarations_in, declared_at, global_at, function_at, declaration_at, variable_kind, global_kind_of, result_kind_of, named_kind, called_kind}}
 use Rattle.sharc_mode.specs.{declared.error.Cast.Cast, Moded.Assignment, Rows.{PathReading, written, Targets, is_constant_named, constant_use, base_use, no_row, deeper, targets_from, entity_row, declared_row, global_row, named_row, result_row, called_row, behind, constant_row, reading_through, unary_row}, Sharings.is_field}
 use Rattle.sharc_suggest.specs.Repairs.{is_call_at}
-use Rattle.sharc_suggest_laws.specs.{Names.{is_dull, KeepsName}, Values.{met_in_items, begins_at}}
 use Rattle.sharc_suggest_laws.proofs.{Clear.{IsClearAt, begun_in, AreClear}, Constants.{AllKept, constants_same}, Declared.{same_globals, same_functions, same_declarations}, Found.AreMoved, Lefts.is_function, Stands.{IsAdded, first_place}, Types.all_others}
 use Rattle.sharc_lemmas.proofs.Options.{none_some}
 

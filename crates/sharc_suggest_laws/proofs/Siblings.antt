@@ -2,8 +2,7 @@
 use Rattle.std.proofs.{Common.{◌≡◌, ℕ, Bool, true, false, List, [], ◌∷◌, ◌++◌, Option, Some, None, refl, ap, sym, ◌∙◌}, lemmas.Bool.false≢true}
 use Rattle.std.specs.List.{AllByRecursion}
 use Rattle.sharc_tree.specs.{declared.ctype.Mode.Mode, declared.ctype.Mode.TheVariants.{Private, Readonly, Locked, Racy, Dynamic}, declared.ctype.Path.Path, declared.ctype.Path.TheVariants.{One, Through}, declared.tree.declaration.Declaration.Declaration, declared.tree.item.StructDefinition.StructDefinition, declared.tree.declaration.WrittenType.WrittenType, Marks.{Mark, path_marks, level_marks, levels_marks, base_marks, AreMarks}, Placed.{PlacedDeclarations, PlacedItems, PlacedType}, Tree.{Item, structure, global, function}}
-use Rattle.sharc_names.specs.{declared.scope.Scope.Scope, Names.{Entry, Meaning, look_up, field_of, named_of}, Notes.{Note, fault, refers, yields, fault_unless}, Types.{name_notes, first_notes, path_notes, mode_notes, modes_notes, base_notes, allowed_there, type_notes}}
-use Rattle.sharc_names.specs.declared.fault.FaultCode.TheVariants.{TypeNotAllowed}
+use Rattle.sharc_names.specs.{declared.scope.Scope.Scope, Names.{Entry, Meaning, look_up, field_of, named_of}, Notes.{Note, fault, refers, yields, fault_unless}, Types.{name_notes, first_notes, path_notes, mode_notes, modes_notes, base_notes, allowed_there, type_notes}, declared.fault.FaultCode.TheVariants.TypeNotAllowed}
 use Rattle.sharc_names.specs.declared.types.Role.TheVariants as role
 use Rattle.sharc_names.specs.Names as meaning
 use Rattle.sharc_ctype.specs.{Items.{field_notes, fields_notes, item_notes, items_notes}, Resolved.{Resolution, structs_in, named_at}}

@@ -1,6 +1,6 @@
 -- Types that are written in a typed program, and those of its expressions, have known structs, and no pointer leads to
 -- `void`.
-use Rattle.std.proofs.{Common.{◌≡◌, ℕ, zero, suc, slice_get, ◌+◌, ◌-◌, ◌==◌, Bool, true, false, cond, List, [], ◌∷◌, ◌++◌, length, Option, Some, None, refl, eqb-true, arith}, lemmas.Bool.{and_parts}}
+use Rattle.std.proofs.{Common.{◌≡◌, ℕ, zero, suc, slice_get, ◌+◌, ◌-◌, ◌==◌, Bool, true, false, cond, List, [], ◌∷◌, ◌++◌, length, Option, Some, None, refl, eqb-true, arith}, lemmas.Bool.and_parts}
 use Rattle.std.specs.List.{AllByRecursion}
 use Rattle.sharc_tree.specs.{declared.ctype.Base.Base, declared.tree.declaration.Declaration.Declaration, declared.tree.declaration.WrittenType.WrittenType, declared.token.NumberType.NumberType, declared.tree.item.GlobalDefinition.GlobalDefinition, declared.tree.item.GlobalForm.GlobalForm, declared.tree.item.GlobalForm.TheVariants.{Plain, Array, Initial}, declared.tree.expression.Constant.Constant, declared.tree.expression.Constant.TheVariants.{Number, Character, Null}, declared.tree.expression.UnaryOperator.UnaryOperator, declared.tree.expression.UnaryOperator.TheVariants.{Negate, Not, Complement, Dereference}, Measures.expressions, Tree.{Function, Expression, identifier, constant, parentheses, call, spawn, on_value, on_place, cast, index, field, unary, binary, Arguments, no_arguments, argument, Right, value, malloc, Simple, assign, does_call, Local, First, nothing, declares, does, Head, Statement, Statements, no_statements, statement, Item, structure, global, function}}
 use Rattle.sharc_tree.specs.Tree as tree
@@ -10,7 +10,7 @@ use Rattle.sharc_tree.specs.declared.token.NumberType.TheVariants as width
 use Rattle.sharc_names.specs.declared.fault.Named.TheVariants as named
 use Rattle.sharc_names.specs.declared.types.Role.TheVariants as role
 use Rattle.sharc_names.specs.Kinds as kinds
-use Rattle.sharc_ctype.specs.{declared.expr.OperatorClass.OperatorClass, declared.expr.OperatorClass.TheVariants.{Logical, Equality, Relation, Shift, Arithmetic}, declared.expr.Standing.Standing, declared.expr.Standing.TheVariants.{AsValue, AsLvalue}, Expressions.{number_kind, constant_kind, unary_result, class_of, binary_result, count, notes_at, notes_of_all, wanted}, Globals.{sizes_notes}, Heads.{heads_notes, no_heads}, Items.{fields_notes, parameters_notes, item_notes, items_notes, in_body, main_missing, file_scope, notes_about}, Resolved.{Resolution, named_at, globals_in, functions_in, declarations_in, declared_at, variable_kind, global_kind_of, result_kind_of, named_kind, called_kind, kind_at}, Statements.{Around, opened, looping, with_names, declared, count_notes, right_notes, simple_notes, initial_notes, local_notes, return_notes, first_notes, behind_first, in_head, tests_notes, step_notes, head_notes, after, notes_in, notes_in_all}}
+use Rattle.sharc_ctype.specs.{declared.expr.OperatorClass.OperatorClass, declared.expr.OperatorClass.TheVariants.{Logical, Equality, Relation, Shift, Arithmetic}, declared.expr.Standing.Standing, declared.expr.Standing.TheVariants.{AsValue, AsLvalue}, Expressions.{number_kind, constant_kind, unary_result, class_of, binary_result, count, notes_at, notes_of_all, wanted}, Globals.sizes_notes, Heads.{heads_notes, no_heads}, Items.{fields_notes, parameters_notes, item_notes, items_notes, in_body, main_missing, file_scope, notes_about}, Resolved.{Resolution, named_at, globals_in, functions_in, declarations_in, declared_at, variable_kind, global_kind_of, result_kind_of, named_kind, called_kind, kind_at}, Statements.{Around, opened, looping, with_names, declared, count_notes, right_notes, simple_notes, initial_notes, local_notes, return_notes, first_notes, behind_first, in_head, tests_notes, step_notes, head_notes, after, notes_in, notes_in_all}}
 use Rattle.sharc_ctype_laws.specs.WrittenTypes.{types_in, types_in_arguments, types_in_option, types_in_right, types_in_simple, types_in_local, types_in_first, types_in_head, types_in_statement, types_in_statements, types_in_declarations, types_in_item, types_in_items}
 use Rattle.sharc_mode.specs.Notes.{base_of}
 use Rattle.sharc_suggest.specs.Givings.{Giving, items_givings}

@@ -5,10 +5,9 @@ use Rattle.sharc_tree.specs.{declared.token.Span.Span, declared.tree.declaration
 use Rattle.sharc_names.specs.{declared.fault.Named.Named, declared.need.Need.Need, declared.need.Need.TheVariants.{Integer, Indexed}, declared.scope.Scope.Scope, Kinds.{Kind, object, array, null, is_array, element_kind}, Names.{Entry, Meaning, look_up, named_of}, Needs.{met, unmet}, Types.{name_notes, field_in, field_kind, field_notes}}
 use Rattle.sharc_names.specs.Kinds as kinds
 use Rattle.sharc_names.specs.Names as meaning
-use Rattle.sharc_rewrite.specs.{Recast.with_cast, Applied.recast_of}
+use Rattle.sharc_suggest_laws.specs.{Recast.with_cast, Applied.recast_of, Names.is_dull}
 use Rattle.sharc_ctype.specs.{declared.expr.OperatorClass.OperatorClass, declared.expr.OperatorClass.TheVariants.{Logical, Equality, Relation, Shift, Arithmetic}, declared.expr.Standing.Standing, declared.expr.Standing.TheVariants.AsValue, Expressions.{element_of, access_need, operand_need, unary_result, unary_kind, class_of, operands_need, binary_result, binary_kind, binary_notes, type_of, notes_at}, Resolved.{named_at, named_kind, kind_at}}
 use Rattle.sharc_mode.specs.{declared.error.Cast.Cast, Moded.Assignment, Rows.{written, named_row, behind, reading_through, base_use, row_at}}
-use Rattle.sharc_suggest_laws.specs.Names.{is_dull}
 use Rattle.sharc_suggest_laws.proofs.{Lefts.{IsTypedIn, is_function, typed_itself}, RowsStay.{Frame, now, many, first_at, IsRowMoved, AreRowsMoved, other_moved, named_kind_same, named_moved, call_moved, call_kind_same, base_same, element_moved, no_rows, unary_moved, constant_moved, element_held, operand_held}, Strong.{IsStrong, AreStrong}}
 use Rattle.sharc_lemmas.proofs.{Options.none_some, Lists.{front, back}}
 

@@ -3,14 +3,14 @@ use Rattle.std.proofs.Common.{◌≡◌, ℕ, List, ◌∷◌, ◌++◌, Option,
 use Rattle.std.specs.List.{AllByRecursion}
 use Rattle.sharc_tree.specs.{declared.tree.declaration.Declaration.Declaration, Measures.{expressions, in_option, in_right, in_simple}, Tree.{Expression, Right, value, malloc, Simple, assign, does_call, Local, First, nothing, declares, does, Head, Statement, Statements, no_statements, statement}}
 use Rattle.sharc_tree.specs.Tree as tree
-use Rattle.sharc_names.specs.{declared.need.Need.TheVariants.{Value, Integer}, declared.scope.Scope.Scope, Kinds.{Kind}, Names.Entry, Needs.{met}, Types.{is_fine}}
+use Rattle.sharc_names.specs.{declared.need.Need.TheVariants.{Value, Integer}, declared.scope.Scope.Scope, Kinds.Kind, Names.Entry, Needs.met, Types.is_fine}
 use Rattle.sharc_names.specs.declared.types.Role.TheVariants as role
 use Rattle.sharc_ctype.specs.{declared.expr.Standing.TheVariants.{AsValue, AsLvalue}, Expressions.{type_of, place_kind}, Statements.{Around, opened, looping, with_names, declared, test_notes, count_notes, right_notes, simple_notes, initial_notes, local_notes, returned_as, return_notes, first_notes, behind_first, tests_notes, step_notes, head_notes, after, notes_in, notes_in_all, wanted_by}}
-use Rattle.sharc_rewrite.specs.{Recast.{around, with_cast, right_with_cast, simple_with_cast, local_with_cast, first_with_cast, head_with_cast, statement_with_cast, statements_with_cast}}
+use Rattle.sharc_suggest_laws.specs.Recast.{around, with_cast, right_with_cast, simple_with_cast, local_with_cast, first_with_cast, head_with_cast, statement_with_cast, statements_with_cast}
 use Rattle.sharc_ctype_laws.specs.Places.{Placing, at, places_in_local, places_in_first, places_in, places_in_all}
 use Rattle.sharc_suggest.specs.Givings as scopes
 use Rattle.sharc_suggest.specs.{Repairs.entry_of, Givings.{Receiver, of_declared, of_left, givings, option_givings, value_givings, right_givings, simple_givings, local_givings, first_givings, head_givings, givings_in, givings_in_all}}
-use Rattle.sharc_suggest_laws.proofs.{Lefts.{IsTypedIn, unplaced}, Noted.{Clean, left, right, none, joined}, Restated.{first_names, first_scoped, after_names, after_scoped}, Retyped.{Setting}, Scoped.{Scoped, scoped_with}, TypedWith.{IsReady, AreReady, AreTypedIn, IsWell, part, unmet_clean, unagreed_clean, place_clean, place_kind_same, inside, value_in}}
+use Rattle.sharc_suggest_laws.proofs.{Lefts.{IsTypedIn, unplaced}, Noted.{Clean, left, right, none, joined}, Restated.{first_names, first_scoped, after_names, after_scoped}, Retyped.Setting, Scoped.{Scoped, scoped_with}, TypedWith.{IsReady, AreReady, AreTypedIn, IsWell, part, unmet_clean, unagreed_clean, place_clean, place_kind_same, inside, value_in}}
 use Rattle.sharc_lemmas.proofs.Lists.{front, back}
 
 -- each expression has in its scope the type that its names tell

@@ -2,7 +2,7 @@
 -- pointer with a star for each mode.
 use Rattle.std.proofs.Common.{◌≡◌, ℕ, Bool, List, ◌∷◌, sym, subst}
 use Rattle.sharc_tree.specs.{Low.IsLow, Placed.IsPlaced}
-use Rattle.sharc_rewrite.specs.{declared.written.Recast.Recast, Recast.{is_there, program_with_cast}, Applied.{recast_of, program_with}}
+use Rattle.sharc_suggest_laws.specs.{declared.written.Recast.Recast, Recast.{is_there, program_with_cast}, Applied.{recast_of, program_with}}
 use Rattle.sharc_ctype.specs.{Items.{IsTyped, notes_about}, Resolved.{Resolution, IsResolved}}
 use Rattle.sharc_mode.specs.{declared.error.Cast.Cast, Moded.Assignment}
 use Rattle.sharc_ctype_laws.specs.Laws.{SameKinds}

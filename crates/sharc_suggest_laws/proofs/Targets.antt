@@ -1,7 +1,7 @@
 -- The targets of an expression of a typed program: as many as its type has stars, positions of one type that is written
 -- in the program, whose lock paths are read by a use of it.
-use Rattle.std.proofs.{Common.{◌≡◌, ◌⊎◌, inl, inr, ⊎_elim, ℕ, zero, suc, ◌+◌, ◌-◌, ◌≤◌, ◌==◌, Bool, true, false, cond, List, [], ◌∷◌, ◌++◌, length, find, Contains, Option, Some, None, refl, ap, sym, subst, ◌∙◌, arith, eqb-true}, lemmas.{Bool.false≢true, List.length-drop}}
-use Rattle.sharc_tree.specs.{declared.ctype.Base.Base, declared.token.NumberType.NumberType, declared.token.Span.Span, declared.tree.declaration.Declaration.Declaration, declared.tree.declaration.Identifier.Identifier, declared.tree.declaration.WrittenType.WrittenType, declared.tree.expression.FieldOperator.FieldOperator, declared.tree.expression.FieldOperator.TheVariants.{Dot, Arrow}, declared.tree.expression.Constant.Constant, declared.tree.expression.Constant.TheVariants.{Number, Character, Null}, declared.tree.expression.UnaryOperator.TheVariants.{Negate, Not, Complement, Dereference}, declared.tree.item.GlobalDefinition.GlobalDefinition, declared.tree.item.GlobalForm.GlobalForm, declared.tree.item.GlobalForm.TheVariants.{Plain, Array, Initial}, declared.tree.item.StructDefinition.StructDefinition, Measures.{expressions}, Tree.{Expression, identifier, constant, parentheses, call, spawn, on_value, on_place, cast, index, field, unary, binary, Function}}
+use Rattle.std.proofs.{Common.{◌≡◌, ◌⊎◌, inl, inr, ⊎_elim, ℕ, zero, suc, ◌+◌, ◌-◌, ◌≤◌, ◌==◌, Bool, true, false, cond, List, [], ◌∷◌, ◌++◌, length, find, Contains, Option, Some, None, refl, ap, sym, subst, ◌∙◌, arith, eqb-true}, lemmas.Bool.false≢true, lemmas.List.length-drop}
+use Rattle.sharc_tree.specs.{declared.ctype.Base.Base, declared.token.NumberType.NumberType, declared.token.Span.Span, declared.tree.declaration.Declaration.Declaration, declared.tree.declaration.Identifier.Identifier, declared.tree.declaration.WrittenType.WrittenType, declared.tree.expression.FieldOperator.FieldOperator, declared.tree.expression.FieldOperator.TheVariants.{Dot, Arrow}, declared.tree.expression.Constant.Constant, declared.tree.expression.Constant.TheVariants.{Number, Character, Null}, declared.tree.expression.UnaryOperator.TheVariants.{Negate, Not, Complement, Dereference}, declared.tree.item.GlobalDefinition.GlobalDefinition, declared.tree.item.GlobalForm.GlobalForm, declared.tree.item.GlobalForm.TheVariants.{Plain, Array, Initial}, declared.tree.item.StructDefinition.StructDefinition, Measures.expressions, Tree.{Expression, identifier, constant, parentheses, call, spawn, on_value, on_place, cast, index, field, unary, binary, Function}}
 use Rattle.sharc_tree.specs.declared.ctype.Base.TheVariants as base
 use Rattle.sharc_tree.specs.declared.token.NumberType.TheVariants as width
 use Rattle.sharc_names.specs.{declared.fault.Named.Named, declared.types.Role.Role, Kinds.{Kind, object, array, null, is_array, is_long, declared_kind, element_kind, stars_of, int, long}, Names.{field_of, global_kind}}
@@ -10,8 +10,8 @@ use Rattle.sharc_names.specs.declared.types.Role.TheVariants as role
 use Rattle.sharc_names.specs.Kinds as kinds
 use Rattle.sharc_ctype.specs.{declared.entity.Entity.Entity, declared.entity.Numbered.Numbered, declared.expr.OperatorClass.OperatorClass, declared.expr.OperatorClass.TheVariants.{Logical, Equality, Relation, Shift, Arithmetic}, Entities.{declared, cast_entity, entities_in, entity_at, first_depth, is_told_by, numbered, positions_of, result_of, written_modes}, Expressions.{number_kind, constant_kind, class_of, binary_result}, Resolved.{Resolution, structs_in, declaration_at, global_at, function_at, named_at, named_kind, variable_kind, global_kind_of, result_kind_of, called_kind, kind_at}}
 use Rattle.sharc_ctype_laws.specs.{Constraints.{HasType, a_field, a_field_behind, pointed_to, struct_named}, Found.IsFound, WrittenTypes.IsNamedType}
-use Rattle.sharc_mode.specs.{Rows.{PathReading, written, through, at_call, Targets, no_row, deeper, targets_from, entity_row, declared_row, global_row, named_row, result_row, called_row, behind, constant_row, reading_through, row_at, base_use, constant_use, is_constant_named}}
-use Rattle.sharc_suggest_laws.proofs.{Given.{AreKnown}, Holders.is_global, Leads.{ArgumentsFit, IsVariableAt, Leads}, Siblings.HasSiblings}
+use Rattle.sharc_mode.specs.Rows.{PathReading, written, through, at_call, Targets, no_row, deeper, targets_from, entity_row, declared_row, global_row, named_row, result_row, called_row, behind, constant_row, reading_through, row_at, base_use, constant_use, is_constant_named}
+use Rattle.sharc_suggest_laws.proofs.{Given.AreKnown, Holders.is_global, Leads.{ArgumentsFit, IsVariableAt, Leads}, Siblings.HasSiblings}
 use Rattle.sharc_lemmas.proofs.Lists.{contains_behind, head_there}
 
 -- ---- where targets are, and how their lock paths are read

@@ -1,5 +1,5 @@
 -- An expression with a cast written in it has no fault where it had none, and the type that it had.
-use Rattle.std.proofs.{Common.{◌≡◌, ◌⊎◌, inl, inr, ℕ, ◌==◌, Bool, true, false, not, ◌&&◌, ◌||◌, cond, List, [], ◌∷◌, ◌++◌, zero, suc, drop, Option, Some, None, refl, ap, ap₂, sym, subst, ◌∙◌, eq-eqb}, lemmas.Bool.{false≢true}, lemmas.Slice.Eq.bytes_eq-Decides}
+use Rattle.std.proofs.{Common.{◌≡◌, ◌⊎◌, inl, inr, ℕ, ◌==◌, Bool, true, false, not, ◌&&◌, ◌||◌, cond, List, [], ◌∷◌, ◌++◌, zero, suc, drop, Option, Some, None, refl, ap, ap₂, sym, subst, ◌∙◌, eq-eqb}, lemmas.Bool.false≢true, lemmas.Slice.Eq.bytes_eq-Decides}
 use Rattle.std.specs.List.{AllByRecursion}
 use Rattle.sharc_tree.specs.{declared.ctype.Base.Base, declared.token.Span.Span, declared.tree.declaration.WrittenType.WrittenType, declared.tree.declaration.Declaration.Declaration, Forms.{without_parentheses, is_lvalue}, Measures.{expressions, in_arguments}, Spans.span_of, Tree.{Expression, identifier, constant, parentheses, call, spawn, on_value, on_place, cast, index, field, unary, binary, Arguments, no_arguments, argument}}
 use Rattle.sharc_tree.specs.declared.ctype.Base.TheVariants as base
@@ -7,8 +7,8 @@ use Rattle.sharc_names.specs.{declared.fault.FaultCode.TheVariants.{TypeMismatch
 use Rattle.sharc_names.specs.declared.types.Role.TheVariants as role
 use Rattle.sharc_names.specs.Kinds as kinds
 use Rattle.sharc_names.specs.Names as meaning
-use Rattle.sharc_ctype.specs.{declared.expr.Standing.Standing, declared.expr.Standing.TheVariants.{AsValue, AsLvalue}, declared.expr.OperatorClass.OperatorClass, Expressions.{element_of, access_need, operand_need, unary_kind, class_of, operands_need, binary_kind, binary_notes, may_join, names_function, is_function_name, is_place, place_kind, place_notes, place_call_notes, value_call_kind, place_call_kind, keeps_kind, cast_kind, cast_notes, count, count_notes, callee_notes, wanted, call_result, call_kind, may_spawn, spawn_wanted, spawn_kind, type_of, are_fine, notes_at, notes_of_all}, Resolved.{kind_at}, Statements.with_names}
-use Rattle.sharc_rewrite.specs.{declared.written.Recast.Recast, Recast.{type_at, is_there, around, with_cast, all_with_cast}}
+use Rattle.sharc_ctype.specs.{declared.expr.Standing.Standing, declared.expr.Standing.TheVariants.{AsValue, AsLvalue}, declared.expr.OperatorClass.OperatorClass, Expressions.{element_of, access_need, operand_need, unary_kind, class_of, operands_need, binary_kind, binary_notes, may_join, names_function, is_function_name, is_place, place_kind, place_notes, place_call_notes, value_call_kind, place_call_kind, keeps_kind, cast_kind, cast_notes, count, count_notes, callee_notes, wanted, call_result, call_kind, may_spawn, spawn_wanted, spawn_kind, type_of, are_fine, notes_at, notes_of_all}, Resolved.kind_at, Statements.with_names}
+use Rattle.sharc_suggest_laws.specs.{declared.written.Recast.Recast, Recast.{type_at, is_there, around, with_cast, all_with_cast}}
 use Rattle.sharc_suggest.specs.Givings.{Receiver, of_parameter, Giving, one_giving, givings, all_givings, value_givings}
 use Rattle.sharc_suggest_laws.proofs.{Grown.span_same, Lefts.{IsTypedIn, typed_itself}, Noted.{Clean, left, right, no_fault, behind_head, none, joined, unless, moved, referring}, Retyped.{Setting, cast_fine, count_same, fine_both, place_same}, Scoped.Scoped}
 use Rattle.sharc_lemmas.proofs.Lists.{front, back}

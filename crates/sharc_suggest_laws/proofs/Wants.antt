@@ -4,11 +4,10 @@ use Rattle.std.specs.List.{AllByRecursion, flat_map}
 use Rattle.sharc_tree.specs.{declared.ctype.Mode.Mode, declared.tree.declaration.Declaration.Declaration, Forms.without_parentheses, Tree.{Expression, identifier, constant, parentheses, call, spawn, on_value, on_place, cast, index, field, unary, binary, Arguments, no_arguments, argument, Function}, Spans.span_of}
 use Rattle.sharc_names.specs.{declared.fault.Named.Named, Names.{Entry, look_up}}
 use Rattle.sharc_names.specs.declared.fault.Named.TheVariants as named
-use Rattle.sharc_rewrite.specs.{declared.written.Recast.Recast, Recast.{is_there, around, with_cast, all_with_cast, function_with_cast, type_at}, Applied.{recast_of, targets, inserted, assignment_with}}
+use Rattle.sharc_suggest_laws.specs.{declared.written.Recast.Recast, Recast.{is_there, around, with_cast, all_with_cast, function_with_cast, type_at}, Applied.{recast_of, targets, inserted, assignment_with}, Names.{is_dull, KeepsName}}
 use Rattle.sharc_ctype.specs.{Resolved.{Resolution, named_at, function_at, functions_in}, Transfers.{parameters_of, parameters_named}}
 use Rattle.sharc_mode.specs.{declared.error.Cast.Cast, declared.finding.Finding.Finding, declared.finding.Finding.TheVariants.Names, Expressions.expected, Moded.Assignment, Notes.{is_named, names_of, names_in, names_in_all, names_read, parameter_names, taken_variable}, Rows.{PathReading, at_call, Targets, is_constant_named, constant_use, argument_use, lock_through, with_base, lock_for, read_lock, read, reading_through, declared_row, modes_of}, Sharings.{Lock, Sharing, private, readonly, locked, racy, dynamic, sharing_of, is_field, variable_named, object_named, text_at}}
 use Rattle.sharc_suggest.specs.{Repairs.{is_free, is_call_at, keeps_named, keeps, keeps_all}, Givings.beyond}
-use Rattle.sharc_suggest_laws.specs.Names.{is_dull, KeepsName}
 use Rattle.sharc_suggest_laws.proofs.{Arguments.{nth, args_met, one_nth}, CallNames.{named_left, named_right}, Grown.span_same, Rows.{IsShifted, same_stretch}, RowsStay.{Frame, now, many, first_at, IsRowMoved, AreRowsMoved, IsClearOf, clear_moved, functions_same, use_same}, Stands.first_is}
 use Rattle.sharc_lemmas.proofs.Options.{no_guard as no_use, some_is as one_use}
 

@@ -1,13 +1,13 @@
 -- What the laws of typed programs say of one: what has a type is found, and what is given to what is known.
 use Rattle.std.proofs.Common.{◌≡◌, ℕ, ◌==◌, Bool, true, false, cond, List, [], ◌∷◌, ◌++◌, Some, None, bytes_eq, refl, subst, eqb-true}
-use Rattle.std.specs.{List.AllByRecursion}
+use Rattle.std.specs.List.{AllByRecursion}
 use Rattle.sharc_tree.specs.{declared.tree.declaration.Declaration.Declaration, declared.tree.item.GlobalDefinition.GlobalDefinition, declared.tree.item.StructDefinition.StructDefinition, Low.IsLow, Measures.in_function, Placed.IsPlaced, Tree.{Expression, Function, Item}}
 use Rattle.sharc_names.specs.{declared.scope.Scope.Scope, Names.field_of, Notes.Note}
 use Rattle.sharc_names.specs.declared.fault.Named.TheVariants as named
 use Rattle.sharc_names.specs.declared.types.Role.TheVariants as role
 use Rattle.sharc_ctype.specs.{Entities.{declared, result_of}, Globals.sizes_notes, Heads.{heads_notes, no_heads}, Items.{file_scope, items_notes, main_missing, notes_about}, Resolved.{Resolution, IsResolved, structs_in, globals_in, functions_in, declarations_in, declared_at, named_at, kind_at}, Statements.locals_in_all, Transfers.{IsFair, function_transfers}}
 use Rattle.sharc_ctype_laws.specs.{Constraints.{HasType, struct_named}, Declared.{IsItself, NameThemselves}, Found.{IsFound, EachTypeFound}, Laws.{EachNameOnce, OnlyNames, EachNamesItself, MeetsConstraints, OneType, AllFair}}
-use Rattle.sharc_suggest_laws.proofs.{Folded.IsOwnAt, Given.{IsKnown, IsOwnLocal, IsWellFunction}, Holders.{IsCastOf, IsLocalOf, IsDeclaredAs, HasFields, InBody, IsHeldBy, held_by}, Noted.{clean_from}, Owned.all_own, Siblings.{IsTrueOf, AreTrueOf, true_from, HasSiblings, AreSiblings, all_siblings}, Targets.IsKnownProgram}
+use Rattle.sharc_suggest_laws.proofs.{Folded.IsOwnAt, Given.{IsKnown, IsOwnLocal, IsWellFunction}, Holders.{IsCastOf, IsLocalOf, IsDeclaredAs, HasFields, InBody, IsHeldBy, held_by}, Noted.clean_from, Owned.all_own, Siblings.{IsTrueOf, AreTrueOf, true_from, HasSiblings, AreSiblings, all_siblings}, Targets.IsKnownProgram}
 use Rattle.sharc_lemmas.proofs.Lists.{front, back, at_place, together}
 
 -- ---- the laws

@@ -5,7 +5,7 @@ use Rattle.sharc_tree.specs.{Placed.IsPlaced, Spans.span_of, Tree.{Expression, c
 use Rattle.sharc_ctype.specs.Entities.{cast_entity, entity_at}
 use Rattle.sharc_mode.specs.{declared.error.Cast.Cast, declared.error.ModeError.ModeError, Moded.{Assignment, IsWhole}}
 use Rattle.sharc_mode.specs.{Notes.agree_notes, Rows.modes_at, Sharings.Sharing}
-use Rattle.sharc_rewrite.specs.Applied.{resolution_with, assignment_with}
+use Rattle.sharc_suggest_laws.specs.Applied.{resolution_with, assignment_with}
 use Rattle.sharc_suggest.specs.{Casts.IsSuggested, Repairs.cast_to}
 
 -- the first of what has a type at the tokens of the cast is a cast to its type, with this first position

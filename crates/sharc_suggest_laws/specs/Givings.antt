@@ -1,5 +1,5 @@
 -- What is given in a program with a cast written in it.
-use Rattle.sharc_rewrite.specs.{declared.written.Recast.Recast, Recast.{with_cast, all_with_cast, around}}
+use Rattle.sharc_suggest_laws.specs.{declared.written.Recast.Recast, Recast.{with_cast, all_with_cast, around}}
 use Rattle.sharc_suggest.specs.Givings.{Receiver, of_declared, of_left, of_parameter, Giving}
 
 abbrev pub receiver_with : Recast → Receiver → Receiver

@@ -3,9 +3,9 @@ use Rattle.std.specs.{Prelude.{◌≡◌, ℕ, List, [], ◌∷◌, ◌++◌, So
 use Rattle.sharc_tree.specs.Placed.{IsPlaced}
 use Rattle.sharc_mode.specs.{declared.error.Cast.Cast, declared.error.ModeError.ModeError, Moded.{Assignment, IsWhole}}
 use Rattle.sharc_mode.specs.{Sharings.Sharing, WellModed.AreModeErrors}
-use Rattle.sharc_rewrite.specs.Applied.{recast_of, assignment_with}
+use Rattle.sharc_suggest_laws.specs.{Applied.{recast_of, assignment_with}, Givings.receiver_with}
+use Rattle.sharc_suggest_laws.specs.Mismatches.{is_mismatch_at}
 use Rattle.sharc_suggest.specs.{Casts.IsSuggested, Repairs.cast_to, Givings.{Giving, items_givings, wanted}}
-use Rattle.sharc_suggest_laws.specs.{Givings.receiver_with, Mismatches.is_mismatch_at}
 
 -- no M1 is at this place
 abbrev pub IsGone : Assignment → ℕ → Type 0

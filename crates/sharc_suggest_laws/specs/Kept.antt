@@ -1,8 +1,8 @@
 -- What stays as it was where a cast is written in a program.
 use Rattle.std.specs.Prelude.{◌≡◌, ℕ, ◌+◌, ◌<◌, nat_lt, List, map, length, slice_index_or, Some, if◌then◌else◌}
 use Rattle.sharc_tree.specs.{declared.ctype.Mode.TheVariants.Private, Placed.IsPlaced, Tree.Program}
-use Rattle.sharc_rewrite.specs.{declared.written.Recast.Recast, Recast.{function_with_cast, program_with_cast}}
-use Rattle.sharc_rewrite.specs.Applied.{targets, moved, first_new, assignment_with}
+use Rattle.sharc_suggest_laws.specs.{declared.written.Recast.Recast, Recast.{function_with_cast, program_with_cast}}
+use Rattle.sharc_suggest_laws.specs.Applied.{targets, moved, first_new, assignment_with}
 use Rattle.sharc_ctype.specs.{Entities.entity_at, Resolved.{structs_in, globals_in, functions_in, declarations_in}}
 use Rattle.sharc_mode.specs.{declared.error.Cast.Cast, declared.error.ModeError.ModeError}
 use Rattle.sharc_mode.specs.{Moded.{Assignment, IsWhole, mode_at, reason_at}, Rows.{written, entity_row, modes_of}}

@@ -1,3 +1,5 @@
+pub mod Applied
+pub mod Recast
 pub mod Expected
 pub mod Givings
 pub mod Gone

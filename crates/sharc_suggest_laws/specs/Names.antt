@@ -7,7 +7,7 @@ use Rattle.sharc_ctype.specs.{Items.IsTyped, Resolved.{IsResolved, named_at}}
 use Rattle.sharc_mode.specs.{declared.error.Cast.Cast, declared.error.ModeError.ModeError, Moded.{Assignment, IsWhole}}
 use Rattle.sharc_mode.specs.Sharings.{is_field}
 use Rattle.sharc_infer_laws.specs.Locks.{HasWrittenLocks}
-use Rattle.sharc_rewrite.specs.Applied.{program_with, resolution_with}
+use Rattle.sharc_suggest_laws.specs.Applied.{program_with, resolution_with}
 use Rattle.sharc_suggest.specs.Casts.{IsSuggested}
 
 -- no variable, no global and no function

@@ -1,7 +1,7 @@
 -- A cast that is suggested is written in its program once.
 use Rattle.std.specs.{Prelude.{◌≡◌, ◌<◌, List, ◌∷◌, ◌++◌, Some}, List.AllByRecursion}
 use Rattle.sharc_tree.specs.{declared.token.Span.Span, Placed.IsPlaced}
-use Rattle.sharc_rewrite.specs.{declared.written.Recast.Recast, Recast.type_at, Applied.{recast_of, program_with}}
+use Rattle.sharc_suggest_laws.specs.{declared.written.Recast.Recast, Recast.type_at, Applied.{recast_of, program_with}}
 use Rattle.sharc_ctype.specs.{declared.entity.Entity.Entity, Entities.{cast_entity, entities_in}}
 use Rattle.sharc_mode.specs.{declared.error.Cast.Cast, declared.error.ModeError.ModeError, Moded.Assignment}
 use Rattle.sharc_suggest.specs.Casts.{IsSuggested}

@@ -2,11 +2,11 @@
 use Rattle.std.specs.Prelude.{Some}
 use Rattle.sharc_tree.specs.{Low.IsLow, Placed.IsPlaced}
 use Rattle.sharc_ctype.specs.{Items.IsTyped, Resolved.IsResolved}
-use Rattle.sharc_mode.specs.{declared.error.Cast.Cast, declared.error.ModeError.ModeError, Flows.IsLeastAssignment, Moded.{Assignment, IsWhole}}
+use Rattle.sharc_mode.specs.{declared.error.Cast.Cast, declared.error.ModeError.ModeError, Flows.IsLeastAssignment}
+use Rattle.sharc_mode.specs.Moded.{Assignment, IsWhole}
 use Rattle.sharc_infer_laws.specs.{Laws.IsTypedAtTokens, Locks.HasWrittenLocks}
-use Rattle.sharc_rewrite.specs.Applied.{program_with, assignment_with}
+use Rattle.sharc_suggest_laws.specs.{Applied.{program_with, assignment_with}, Gone.IsGone}
 use Rattle.sharc_suggest.specs.Casts.{IsSuggested}
-use Rattle.sharc_suggest_laws.specs.Gone.{IsGone}
 
 -- of a program that was read and resolved, with a mode and a reason for each position: with the cast written in it,
 -- where that is typed, no M1 is at the place of the error

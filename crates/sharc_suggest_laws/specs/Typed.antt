@@ -4,7 +4,7 @@ use Rattle.sharc_tree.specs.{Low.IsLow, Placed.IsPlaced}
 use Rattle.sharc_ctype.specs.{Items.IsTyped, Resolved.IsResolved}
 use Rattle.sharc_mode.specs.{declared.error.Cast.Cast, declared.error.ModeError.ModeError, Moded.{Assignment, IsWhole}}
 use Rattle.sharc_infer_laws.specs.Locks.{HasWrittenLocks}
-use Rattle.sharc_rewrite.specs.Applied.{program_with}
+use Rattle.sharc_suggest_laws.specs.Applied.{program_with}
 use Rattle.sharc_suggest.specs.Casts.{IsSuggested}
 
 -- of a program that was read and resolved, with a mode and a reason for each position, where the lock paths of the

@@ -1,5 +1,3 @@
-// The laws, each the contract of a function that does nothing.
-
 ghost use Rattle.sharc_suggest_laws.specs.Expected.{CastHasExpected};
 ghost use Rattle.sharc_suggest_laws.specs.Gone.{GoneWhereExpected};
 ghost use Rattle.sharc_suggest_laws.specs.Kept.{DeclarationsStay, PositionsStay, TypesStay};
@@ -15,6 +13,8 @@ use sharc_ctype_laws::laws::{
     names_in_types, one_type, only_names, same_kinds,
 };
 use sharc_infer_laws::laws::least_has_written_locks;
+
+// The laws, each the contract of a function that does nothing.
 
 /// The structs, the globals and all that is declared are as they were, and functions have their bodies with the cast.
 pub fn declarations_stay()

@@ -7,8 +7,8 @@ ghost use Rattle.sharc_code.specs.Waits.{is_held_up, held_up};
 ghost use Rattle.sharc_threads.specs.Seats.{is_end, may_turn};
 
 use sharc_code::TurnState;
-use sharc_cond::waits as is_among;
 use sharc_cpu::{Thread, Wait};
+use sharc_locks::waits as is_among;
 
 // The word of this number, 0 where there is none.
 pub(crate) fn word(words: &[u64], number: u64) -> u64

@@ -4,7 +4,7 @@ use Rattle.sharc_mode.specs.Moded.{Assignment}
 use Rattle.sharc_code.specs.declared.code.Code.{Code}
 use Rattle.sharc_report.specs.{Refusals.refusal_line, declared.refusal.SourceFault.SourceFault}
 use Rattle.sharc_run.specs.declared.run.Ran.{Ran}
-use Rattle.sharc_sound.specs.Front.{IsFront, IsSourceFault}
+use Rattle.sharc_front_end.specs.Front.{IsFront, IsSourceFault}
 use Rattle.sharc_top.specs.{declared.ran.RunNumbers.RunNumbers, declared.status.Status.Status, Answers.{Answers, faulty, program}, Recording.{GivesSource, at_fault, by_program, not_made}, Refused.{IsModeRefusal, Refuses, source_refused, modes_refused}, Running.not_run}
 use Rattle.sharc_top.specs.declared.status.Status.TheVariants as status
 use Rattle.sharc_top.specs.declared.task.SourceTask.TheVariants as task

@@ -1,11 +1,11 @@
 -- What is written for an event file is a reply to it.
 use Rattle.std.proofs.Common.{◌≡◌, ℕ, ◌<◌, ◌≤◌, List, length, Option, Some, None, IfSome, subst}
 use Rattle.sharc_mode.specs.Moded.{Assignment}
-use Rattle.sharc_mode_laws.specs.Rules.{MeetsRules}
+use Rattle.sharc_check.specs.Rules.{MeetsRules}
 use Rattle.sharc_audit.specs.{declared.audit.Verdict.Verdict, declared.file.FileFault.FileFault, declared.line.EventLine.EventLine, Audited.Audits, Files.IsFault, Grammar.text_lines, Texts.{verdict_line, bad_line, many_line, file_fault_line}}
 use Rattle.sharc_audit.specs.declared.file.FileFault.TheVariants as fault
 use Rattle.sharc_report.specs.{Refusals.refusal_line, declared.refusal.SourceFault.SourceFault}
-use Rattle.sharc_sound.specs.Front.{IsFront, IsSourceFault}
+use Rattle.sharc_front_end.specs.Front.{IsFront, IsSourceFault}
 use Rattle.sharc_top.specs.{declared.status.Status.Status, EventFiles.{status_of, Judges, not_judged, judged, JudgesSource, faulty_source, of_program, IsFewIn, FileReplies, long_file, no_file, many_events, long_source, source_judged, IsFileReply}, Text.line, Refused.IsModeRefusal}
 use Rattle.sharc_top.specs.declared.status.Status.TheVariants as status
 use Rattle.sharc_top.proofs.Replies.{input_over}

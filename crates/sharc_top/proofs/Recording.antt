@@ -3,9 +3,9 @@ use Rattle.std.proofs.Common.{◌≡◌, ℕ, ◌<◌, ◌≤◌, List, length, 
 use Rattle.std.specs.Prelude.{codes}
 use Rattle.sharc_mode.specs.Moded.{Assignment}
 use Rattle.sharc_code.specs.declared.code.Code.{Code}
-use Rattle.sharc_recorded.specs.File.{FileView, lines_in, IsFile, IsFault}
+use Rattle.sharc_schedule.specs.File.{FileView, lines_in, IsFile, IsFault}
 use Rattle.sharc_run.specs.declared.run.Ran.{Ran}
-use Rattle.sharc_sound.specs.Front.{IsFront}
+use Rattle.sharc_front_end.specs.Front.{IsFront}
 use Rattle.sharc_top.specs.{declared.status.Status.Status, Recording.{Records, Replays, GivesRun, GivesSource, by_program, long_input, recorded, IsRecordReply, bad_file_line, ReplayReplies, long_recording, no_recording, long_source_in, replayed, IsReplayReply}, Text.line}
 use Rattle.sharc_top.specs.declared.status.Status.TheVariants as status
 use Rattle.sharc_top.proofs.Replies.{input_over}

@@ -2,9 +2,9 @@
 use Rattle.std.proofs.Common.{◌≡◌, ℕ, List, ◌++◌}
 use Rattle.sharc_live.specs.Uses.{AreWarnings}
 use Rattle.sharc_mode.specs.{declared.error.Warning.Warning, Moded.Assignment}
-use Rattle.sharc_mode_laws.specs.Rules.{MeetsRules}
+use Rattle.sharc_check.specs.Rules.{MeetsRules}
 use Rattle.sharc_report.specs.{declared.refusal.SourceFault.SourceFault, Explanations.explain_text, Refusals.refusal_line, Verdicts.accepted_text}
-use Rattle.sharc_sound.specs.Front.{IsFront, IsSourceFault}
+use Rattle.sharc_front_end.specs.Front.{IsFront, IsSourceFault}
 use Rattle.sharc_top.specs.{declared.status.Status.Status, declared.task.SourceTask.SourceTask, Answers.{Answers, faulty, program}, Refused.IsModeRefusal, Verdict.{Checks, accepted, refused, Explains, explained, Does}}
 use Rattle.sharc_top.specs.declared.status.Status.TheVariants as status
 

@@ -2,7 +2,7 @@
 use Rattle.std.specs.Prelude.{ℕ, List}
 use Rattle.sharc_mode.specs.Moded.{Assignment}
 use Rattle.sharc_report.specs.{Refusals.refusal_line, declared.refusal.SourceFault.SourceFault}
-use Rattle.sharc_sound.specs.Front.{IsFront, IsSourceFault}
+use Rattle.sharc_front_end.specs.Front.{IsFront, IsSourceFault}
 use Rattle.sharc_top.specs.{declared.status.Status.Status, declared.task.SourceTask.SourceTask, Verdict.Does}
 use Rattle.sharc_top.specs.declared.status.Status.TheVariants as status
 

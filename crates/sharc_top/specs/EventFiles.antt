@@ -1,13 +1,13 @@
 -- What `audit` writes for an event file, and with which status it ends.
 use Rattle.std.specs.Prelude.{◌≡◌, ℕ, ◌<◌, ◌≤◌, List, length, codes, Option, IfSome}
 use Rattle.sharc_mode.specs.Moded.{Assignment}
-use Rattle.sharc_mode_laws.specs.Rules.{MeetsRules}
+use Rattle.sharc_check.specs.Rules.{MeetsRules}
 use Rattle.sharc_audit.specs.{declared.audit.Verdict.Verdict, declared.line.EventLine.EventLine, Audited.Audits}
 use Rattle.sharc_audit.specs.Grammar.{text_lines, IsEventFile, IsFirstBad, HasMany}
 use Rattle.sharc_audit.specs.Texts.{verdict_line, bad_line, many_line}
 use Rattle.sharc_audit.specs.declared.audit.Verdict.TheVariants as verdict
 use Rattle.sharc_report.specs.{Refusals.refusal_line, declared.refusal.SourceFault.SourceFault}
-use Rattle.sharc_sound.specs.Front.{IsFront, IsSourceFault}
+use Rattle.sharc_front_end.specs.Front.{IsFront, IsSourceFault}
 use Rattle.sharc_top.specs.{declared.status.Status.Status, Limits.{source_limit, file_limit}, Text.line}
 use Rattle.sharc_top.specs.Refused.{IsModeRefusal}
 use Rattle.sharc_top.specs.declared.status.Status.TheVariants as status

@@ -1,13 +1,13 @@
 -- What `record` and `replay` write, and with which status they end.
 use Rattle.std.specs.Prelude.{◌≡◌, ℕ, ◌<◌, ◌≤◌, List, ◌++◌, length, codes, decimal, Option, IfSome}
 use Rattle.sharc_mode.specs.Moded.{Assignment}
-use Rattle.sharc_mode_laws.specs.Rules.{MeetsRules}
+use Rattle.sharc_check.specs.Rules.{MeetsRules}
 use Rattle.sharc_code.specs.{declared.code.Code.Code, declared.shape.Shape.Shape, Layout.Fits, Ranges.NumbersFit}
-use Rattle.sharc_recorded.specs.File.{FileView, lines_in, IsFile, IsFault, AreNumbers}
+use Rattle.sharc_schedule.specs.File.{FileView, lines_in, IsFile, IsFault, AreNumbers}
 use Rattle.sharc_replay.specs.Run.{IsRecord, IsScheduledRun}
 use Rattle.sharc_report.specs.{Refusals.refusal_line, declared.refusal.SourceFault.SourceFault}
 use Rattle.sharc_run.specs.declared.run.Ran.{Ran}
-use Rattle.sharc_sound.specs.{Compiled.IsCompiled, Front.{IsFront, IsSourceFault}}
+use Rattle.sharc_front_end.specs.{Compiled.IsCompiled, Front.{IsFront, IsSourceFault}}
 use Rattle.sharc_top.specs.{declared.recorded.RecordNumbers.RecordNumbers, declared.status.Status.Status}
 use Rattle.sharc_top.specs.{Limits.{source_limit, recording_limit}, Refused.IsModeRefusal, Running.status_of, Text.line}
 use Rattle.sharc_top.specs.declared.status.Status.TheVariants as status

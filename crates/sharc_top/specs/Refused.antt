@@ -1,11 +1,10 @@
 -- What is written for a program whose modes are refused.
 use Rattle.std.specs.Prelude.{◌≡◌, ℕ, List, Option, Result, Ok, Err}
 use Rattle.sharc_mode.specs.{declared.error.Cast.Cast, declared.error.ModeError.ModeError, Moded.Assignment}
-use Rattle.sharc_mode_laws.specs.Rules.{MeetsRules}
-use Rattle.sharc_check.specs.Checks.{AreAll}
+use Rattle.sharc_check.specs.{Rules.MeetsRules, Checks.AreAll}
 use Rattle.sharc_suggest.specs.Casts.{AreSuggested}
 use Rattle.sharc_report.specs.{Refusals.refusal_line, Verdicts.check_text, declared.refusal.SourceFault.SourceFault}
-use Rattle.sharc_sound.specs.Front.{IsFront, IsSourceFault}
+use Rattle.sharc_front_end.specs.Front.{IsFront, IsSourceFault}
 use Rattle.sharc_build.specs.{declared.building.Built.Built, Built.IsBuilt}
 use Rattle.sharc_top.specs.{declared.reply.Reply.Reply, declared.status.Status.Status}
 use Rattle.sharc_top.specs.declared.status.Status.TheVariants as status

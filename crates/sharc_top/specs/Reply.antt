@@ -48,7 +48,8 @@ pub data Replies (words : List (List ℕ)) (input : List ℕ) : Status → List 
   usage : commands words ≡ None → Replies words input status.Usage (line usage_text)
   too_long : ReadsSource words → source_limit < length input
       → Replies words input status.SourceRefused (line (codes "source over 1048576 bytes"))
-  answered : (t : SourceTask) (s : Status) (text : List ℕ) → task_in (commands words) ≡ Some t → length input ≤ source_limit
+  answered : (t : SourceTask) (s : Status) (text : List ℕ) → task_in (commands words) ≡ Some t
+      → length input ≤ source_limit
       → Answers t input s text → Replies words input s text
   loaded : (number workers : ℕ) (s : Status) (text : List ℕ) → commands words ≡ Some (command.Load number workers)
       → LoadReplies number workers s text → Replies words input s text

@@ -1,11 +1,11 @@
 -- What `run` writes for a program with its modes, and with which status it ends.
 use Rattle.std.specs.Prelude.{ℕ, ◌≡◌, ◌≤◌, List, Option, Some, None}
 use Rattle.sharc_mode.specs.Moded.{Assignment}
-use Rattle.sharc_mode_laws.specs.Rules.{MeetsRules}
+use Rattle.sharc_check.specs.Rules.{MeetsRules}
 use Rattle.sharc_code.specs.{declared.code.Code.Code, declared.shape.Shape.Shape, Layout.Fits, Ranges.NumbersFit}
 use Rattle.sharc_run.specs.{declared.outcome.Outcome.Outcome, declared.run.Ran.Ran, Run.{IsSeededRun, IsWorkersRun}}
 use Rattle.sharc_run.specs.declared.outcome.Outcome.TheVariants as outcome
-use Rattle.sharc_sound.specs.Compiled.{IsCompiled}
+use Rattle.sharc_front_end.specs.Compiled.{IsCompiled}
 use Rattle.sharc_top.specs.{declared.ran.RunNumbers.RunNumbers, declared.status.Status.Status, Refused.IsModeRefusal}
 use Rattle.sharc_top.specs.declared.status.Status.TheVariants as status
 

@@ -1,7 +1,7 @@
 -- What `check`, `explain` and `run` write for a program with its modes, and with which status they end.
 use Rattle.std.specs.Prelude.{ℕ, List, ◌++◌}
 use Rattle.sharc_mode.specs.{declared.error.Warning.Warning, Moded.Assignment}
-use Rattle.sharc_mode_laws.specs.Rules.{MeetsRules}
+use Rattle.sharc_check.specs.Rules.{MeetsRules}
 use Rattle.sharc_live.specs.Uses.{AreWarnings}
 use Rattle.sharc_report.specs.{Explanations.explain_text, Verdicts.accepted_text}
 use Rattle.sharc_top.specs.{declared.status.Status.Status, declared.task.SourceTask.SourceTask, Refused.IsModeRefusal}

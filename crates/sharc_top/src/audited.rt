@@ -3,7 +3,7 @@
 ghost use Rattle.std.specs.Prelude.{◌≡◌, ◌≤◌, length, IfOk, IsErrOf};
 ghost use Rattle.sharc_io.specs.Causes.{Rose};
 ghost use Rattle.sharc_reach.specs.Reaching.{AreReached};
-ghost use Rattle.sharc_mode_laws.specs.Rules.{MeetsRules};
+ghost use Rattle.sharc_check.specs.Rules.{MeetsRules};
 ghost use Rattle.sharc_audit.specs.Grammar.{text_lines};
 ghost use Rattle.sharc_audit.specs.Files.{IsFault};
 ghost use Rattle.sharc_top.specs.EventFiles.{status_of, Judges, JudgesSource, IsFewIn, FileReplies, IsFileReply};
@@ -17,10 +17,10 @@ use sharc_audit::audit::{Verdict, audit};
 use sharc_audit::file::{EventFile, FileFault, read_events};
 use sharc_audit::text::{file_fault_text, verdict_text};
 use sharc_check::{CheckFault, Checked, check};
+use sharc_front_end::{ReachedProgram, Refusal, front};
 use sharc_io::Source;
 use sharc_mode::moded::Moded;
 use sharc_reach::Reached;
-use sharc_sound::{ReachedProgram, Refusal, front};
 use std::alloc::{AllocError, Global};
 
 /// The largest event file, in bytes.

@@ -2,9 +2,9 @@
 
 ghost use Rattle.std.specs.Prelude.{◌≡◌, ◌≤◌, length, IfOk};
 ghost use Rattle.sharc_mode.specs.Moded.{Assignment};
-ghost use Rattle.sharc_mode_laws.specs.Rules.{MeetsRules};
+ghost use Rattle.sharc_check.specs.Rules.{MeetsRules};
 ghost use Rattle.sharc_code.specs.Ranges.{NumbersFit};
-ghost use Rattle.sharc_sound.specs.Compiled.{IsCompiled};
+ghost use Rattle.sharc_front_end.specs.Compiled.{IsCompiled};
 ghost use Rattle.sharc_top.specs.declared.task.SourceTask.TheVariants as task;
 ghost use Rattle.sharc_top.specs.Answers.{Answers};
 ghost use Rattle.sharc_top.specs.Running.{AreNumbers, status_of, IsRun, Runs};

@@ -3,9 +3,9 @@
 ghost use Rattle.std.specs.Prelude.{◌≡◌, ◌≤◌, length, IfOk, IsErrOf};
 ghost use Rattle.sharc_io.specs.Causes.{Rose};
 ghost use Rattle.sharc_mode.specs.Moded.{Assignment};
-ghost use Rattle.sharc_mode_laws.specs.Rules.{MeetsRules};
+ghost use Rattle.sharc_check.specs.Rules.{MeetsRules};
 ghost use Rattle.sharc_code.specs.Ranges.{NumbersFit};
-ghost use Rattle.sharc_sound.specs.Compiled.{IsCompiled};
+ghost use Rattle.sharc_front_end.specs.Compiled.{IsCompiled};
 ghost use Rattle.sharc_cli.specs.Bounds.{IsWithin};
 ghost use Rattle.sharc_top.specs.Recording.{Records, GivesRun, GivesSource, RecordReplies, IsRecordReply};
 ghost use Rattle.sharc_top.specs.Recording.{AreRecordNumbers};

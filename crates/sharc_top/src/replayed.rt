@@ -3,11 +3,11 @@
 ghost use Rattle.std.specs.Prelude.{◌≡◌, ◌≤◌, length, IfOk, IsErrOf};
 ghost use Rattle.sharc_io.specs.Causes.{Rose};
 ghost use Rattle.sharc_mode.specs.Moded.{Assignment};
-ghost use Rattle.sharc_mode_laws.specs.Rules.{MeetsRules};
+ghost use Rattle.sharc_check.specs.Rules.{MeetsRules};
 ghost use Rattle.sharc_code.specs.Ranges.{NumbersFit};
-ghost use Rattle.sharc_sound.specs.Compiled.{IsCompiled};
-ghost use Rattle.sharc_recorded.specs.File.{IsFile, AreNumbers};
-ghost use Rattle.sharc_recorded.specs.Shown.{FaultIs, view_of};
+ghost use Rattle.sharc_front_end.specs.Compiled.{IsCompiled};
+ghost use Rattle.sharc_schedule.specs.File.{IsFile, AreNumbers};
+ghost use Rattle.sharc_schedule.specs.Shown.{FaultIs, view_of};
 ghost use Rattle.sharc_top.specs.Recording.{Replays, GivesRun, GivesSource, ReplayReplies, IsReplayReply};
 ghost use Rattle.sharc_top.specs.Recording.{bad_file_line, IsWithinFile};
 
@@ -19,9 +19,9 @@ use crate::reply::{Reply, line_reply};
 use crate::status::Status;
 use sharc_code::Code;
 use sharc_io::Source;
-use sharc_recorded::{FileFault, RecordFile, file_laws, read_file};
 use sharc_replay::run_by_schedule;
 use sharc_run::shape_of;
+use sharc_schedule::{FileFault, RecordFile, file_laws, read_file};
 use std::alloc::{AllocError, Global};
 use std::mem::forget;
 

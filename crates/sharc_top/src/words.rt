@@ -21,9 +21,9 @@ use crate::task::SourceTask;
 use crate::verdict::{checked, explained};
 use sharc_cli::Command;
 use sharc_cli::laws::numbers_are_within;
+use sharc_front_end::{ReachedProgram, Refusal, front};
 use sharc_io::Source;
 use sharc_rounds::Gate;
-use sharc_sound::{ReachedProgram, Refusal, front};
 use std::alloc::{AllocError, Global};
 use std::thread::Threads;
 

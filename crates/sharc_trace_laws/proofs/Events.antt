@@ -4,9 +4,9 @@ use Rattle.std.specs.{Prelude.{codes, decimal}, Io.KnownBytes.Appends}
 use Rattle.sharc_mode.specs.Moded.{Assignment}
 use Rattle.sharc_audit.specs.declared.audit.Verdict.TheVariants as verdict
 use Rattle.sharc_audit.specs.{declared.line.EventLine.EventLine, Grammar.{IsEventFile, text_lines}}
-use Rattle.sharc_sound.specs.Front.{IsFront}
+use Rattle.sharc_front_end.specs.Front.{IsFront}
 use Rattle.sharc_source_laws.specs.Laws.{HoldsNoEvents, ProgramsHoldNoEvents}
-use Rattle.sharc_top_laws.specs.AuditLaws.{AuditLaws, IsAudited}
+use Rattle.sharc_reply_laws.specs.AuditLaws.{AuditLaws, IsAudited}
 use Rattle.sharc_trace_laws.specs.Laws.{FilesAreAudited, FilesAreEventFiles}
 use Rattle.sharc_trace_laws.proofs.Files.{file_is, file_short}
 

@@ -3,20 +3,19 @@ use Rattle.std.proofs.Common.{◌≡◌, ℕ, ◌<◌, ◌≤◌, List, [], leng
 use Rattle.std.specs.Prelude.{reverse}
 use Rattle.sharc_tree.specs.declared.event.SourceEvent.{SourceEvent}
 use Rattle.sharc_mode.specs.Moded.{Assignment}
-use Rattle.sharc_mode_laws.specs.Rules.{MeetsRules}
+use Rattle.sharc_check.specs.Rules.{MeetsRules}
 use Rattle.sharc_code.specs.{declared.code.Code.Code, declared.shape.Shape.Shape, Layout.Fits, Runs.{Said, Turn}}
 use Rattle.sharc_sound_laws.specs.{Alike.AreAlike, AlikeLaws.{CompiledAreAlike, HistoriesAreAlike}}
 use Rattle.sharc_build.specs.{declared.building.Built.Built, Built.IsBuilt}
 use Rattle.sharc_history.specs.Laws.{HistoryLaws}
-use Rattle.sharc_recorded.specs.File.{AreNumbers, FileView, IsFile, HoldsNoSchedule}
+use Rattle.sharc_schedule.specs.{File.{AreNumbers, FileView, IsFile, HoldsNoSchedule}, Schedule.Stored}
 use Rattle.sharc_replay.specs.{Laws.{IsOneFile, ReplayLaws}, Run.{IsRecord, file_of}}
 use Rattle.sharc_run.specs.declared.run.Ran.{Ran}
-use Rattle.sharc_schedule.specs.Schedule.{Stored}
 use Rattle.sharc_seq.specs.Run.{AreChosen}
-use Rattle.sharc_sound.specs.{Compiled.IsCompiled, Front.IsFront}
+use Rattle.sharc_front_end.specs.{Compiled.IsCompiled, Front.IsFront}
 use Rattle.sharc_source_laws.specs.Laws.{ProgramsHoldNoSchedule}
 use Rattle.sharc_top.specs.{declared.status.Status.Status, Limits.{source_limit, recording_limit}, Refused.{Refuses, source_refused, modes_refused}}
-use Rattle.sharc_top_laws.specs.{Laws.SourceLaws, RecordLaws.{IsRecording, RecordLaws}}
+use Rattle.sharc_reply_laws.specs.{Laws.SourceLaws, RecordLaws.{IsRecording, RecordLaws}}
 use Rattle.sharc_traced.specs.{declared.reply.Reply.Reply, declared.words.Form.Form, Replies.{FileReplies, InputReplies, IsFileOf, IsRunOf, IsTraced, TraceReplies, form_of, history, long_recording, long_source, no_recording, read, recorded, refused, traced, usage}}
 use Rattle.sharc_traced.specs.declared.words.Form.TheVariants as form
 use Rattle.sharc_trace_laws.specs.Laws.{IsOfRecorded, RecordingsAreTraced}

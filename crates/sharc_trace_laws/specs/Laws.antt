@@ -7,14 +7,14 @@ use Rattle.sharc_code.specs.{declared.code.Code.Code, declared.shape.Shape.Shape
 use Rattle.sharc_audit.specs.declared.audit.EventFault.{EventFault}
 use Rattle.sharc_build.specs.{declared.building.Built.Built, Built.IsBuilt}
 use Rattle.sharc_cli.specs.{Commands.commands, declared.command.Command.TheVariants.Audit}
-use Rattle.sharc_event_file.specs.declared.cut.Cut.TheVariants.{Refused}
-use Rattle.sharc_recorded.specs.File.{FileView, written}
+use Rattle.sharc_history.specs.declared.cut.Cut.TheVariants.{Refused}
+use Rattle.sharc_schedule.specs.File.{FileView, written}
 use Rattle.sharc_replay.specs.Run.{IsRecordedRun, file_of}
 use Rattle.sharc_run.specs.declared.run.Ran.{Ran}
-use Rattle.sharc_sound.specs.Compiled.{IsCompiled}
+use Rattle.sharc_front_end.specs.Compiled.{IsCompiled}
 use Rattle.sharc_top.specs.{declared.status.Status.Status, EventFiles.IsFewIn, Limits.{source_limit, recording_limit}}
 use Rattle.sharc_top.specs.Reply.{IsReply, Replied}
-use Rattle.sharc_top_laws.specs.RecordLaws.{IsRecorded}
+use Rattle.sharc_reply_laws.specs.RecordLaws.{IsRecorded}
 use Rattle.sharc_traced.specs.{declared.reply.Reply.Reply, Replies.{IsFileOf, IsRunOf, IsTraceReply, history}}
 
 -- ---- the event file

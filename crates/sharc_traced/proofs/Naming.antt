@@ -2,8 +2,8 @@
 use Rattle.std.proofs.{Common.{◌≡◌, ℕ, ◌+◌, ◌<◌, Some, List, [], ◌∷◌, ◌++◌, length, get_or, take, drop, sym, ap, subst, ◌∙◌, append_assoc}, lemmas.List.{reverse-append, take_more, drop_more}}
 use Rattle.std.specs.{Prelude.{reverse, if◌then◌else◌}, HashMap.get}
 use Rattle.sharc_code.specs.declared.code.Code.{Code}
-use Rattle.sharc_said.specs.{declared.cells.Origin.Origin, declared.cells.Where.Where, declared.event.Event.Event}
-use Rattle.sharc_said.specs.declared.cells.Where.TheVariants as places
+use Rattle.sharc_history.specs.{declared.cells.Origin.Origin, declared.cells.Where.Where, declared.event.Event.Event}
+use Rattle.sharc_history.specs.declared.cells.Where.TheVariants as places
 use Rattle.sharc_traced.specs.{declared.names.LastOrigins.LastOrigins, Names.{same_pair, found, AreNames, IsNoted}, Places.{is_same, event_line, event_lines}}
 
 -- ---- one event more

@@ -1,7 +1,7 @@
 -- That a table has the last lock or wait of each cell.
 use Rattle.std.specs.{Prelude.{ℕ, ◌≡◌, ◌&&◌, Bool, nat_eq, List, Option, Some, if◌then◌else◌}, HashMap.get}
-use Rattle.sharc_said.specs.{declared.cells.Origin.Origin, declared.cells.Where.Where, declared.event.Event.Event}
-use Rattle.sharc_said.specs.declared.cells.Where.TheVariants as places
+use Rattle.sharc_history.specs.{declared.cells.Origin.Origin, declared.cells.Where.Where, declared.event.Event.Event}
+use Rattle.sharc_history.specs.declared.cells.Where.TheVariants as places
 use Rattle.sharc_traced.specs.{declared.names.LastOrigins.LastOrigins, Places.{is_same, last_named}}
 
 abbrev pub same_pair : ℕ × ℕ → ℕ × ℕ → Bool

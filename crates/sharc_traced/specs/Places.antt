@@ -4,24 +4,24 @@ use Rattle.std.specs.Prelude.{ℕ, ◌==◌, ◌&&◌, Bool, false, List, [], �
 use Rattle.std.specs.Prelude.{slice_index, slice_index_or, slice_range, if◌then◌else◌}
 use Rattle.std.specs.{Fmt.signed_decimal, List.flat_map}
 use Rattle.sharc_tree.specs.{declared.token.Site.Site, Traps.trap_number}
-use Rattle.sharc_shadow.specs.declared.shadow_word.Kind.{Kind}
-use Rattle.sharc_shadow.specs.declared.shadow_word.Kind.TheVariants as kinds
+use Rattle.sharc_heap.specs.declared.shadow_word.Kind.{Kind}
+use Rattle.sharc_heap.specs.declared.shadow_word.Kind.TheVariants as kinds
 use Rattle.sharc_code.specs.{declared.code.Code.Code, declared.code.PlaceMode.PlaceMode, declared.code.Text.Text}
 use Rattle.sharc_code.specs.{declared.code.Use.Use, declared.state.Stop.Stop, Machine.function_of, Says.place_at}
 use Rattle.sharc_code.specs.declared.code.PlaceMode.TheVariants as modes
 use Rattle.sharc_code.specs.declared.code.Use.TheVariants as uses
 use Rattle.sharc_code.specs.declared.state.Stop.TheVariants as stops
-use Rattle.sharc_said.specs.{declared.cells.Origin.Origin, declared.cells.Where.Where, declared.event.Deed.Deed}
-use Rattle.sharc_said.specs.{declared.event.Event.Event, declared.event.Reference.Reference, declared.event.GivenValue.GivenValue}
-use Rattle.sharc_said.specs.{declared.next.Coming.Coming, declared.next.Next.Next, Told.site_of}
-use Rattle.sharc_said.specs.declared.cells.Origin.TheVariants as origins
-use Rattle.sharc_said.specs.declared.cells.Where.TheVariants as places
-use Rattle.sharc_said.specs.declared.event.Deed.TheVariants as deeds
-use Rattle.sharc_said.specs.declared.event.GivenValue.TheVariants as values
-use Rattle.sharc_said.specs.declared.next.Next.TheVariants as nexts
-use Rattle.sharc_history.specs.{declared.last.Halt.Halt, declared.last.Last.Last}
+use Rattle.sharc_history.specs.{declared.cells.Origin.Origin, declared.cells.Where.Where, declared.event.Deed.Deed}
+use Rattle.sharc_history.specs.{declared.event.Event.Event, declared.event.Reference.Reference}
+use Rattle.sharc_history.specs.{declared.event.GivenValue.GivenValue, declared.next.Coming.Coming}
+use Rattle.sharc_history.specs.{declared.next.Next.Next, Told.site_of, declared.last.Halt.Halt, declared.last.Last.Last}
+use Rattle.sharc_history.specs.Writing.{cell_text, reference_text}
+use Rattle.sharc_history.specs.declared.cells.Origin.TheVariants as origins
+use Rattle.sharc_history.specs.declared.cells.Where.TheVariants as places
+use Rattle.sharc_history.specs.declared.event.Deed.TheVariants as deeds
+use Rattle.sharc_history.specs.declared.event.GivenValue.TheVariants as values
+use Rattle.sharc_history.specs.declared.next.Next.TheVariants as nexts
 use Rattle.sharc_history.specs.declared.last.Halt.TheVariants as halts
-use Rattle.sharc_event_file.specs.Writing.{cell_text, reference_text}
 
 -- ---- how things are written in the source
 abbrev pub text_of : Code → Text → List ℕ

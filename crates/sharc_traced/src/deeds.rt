@@ -3,7 +3,7 @@
 ghost use Rattle.std.specs.Prelude.{◌≡◌, ◌++◌, List, codes, decimal};
 ghost use Rattle.std.specs.Fmt.{signed_decimal};
 ghost use Rattle.sharc_tree.specs.Texts.{Appends};
-ghost use Rattle.sharc_said.specs.declared.event.Event.{Event};
+ghost use Rattle.sharc_history.specs.declared.event.Event.{Event};
 ghost use Rattle.sharc_traced.specs.Names.{AreNames};
 ghost use Rattle.sharc_traced.specs.Places.{seen_text, object_text, worded, taking, woken_text, deed_words, object_of};
 ghost use Rattle.sharc_traced.specs.Places.{mode_of, event_line};
@@ -12,8 +12,10 @@ use crate::lvalues::site_of;
 use crate::names::LastOrigins;
 use crate::pieces::{bytes_of, mode_word, put_object, put_place, put_seen, put_word};
 use sharc_code::{Code, Use};
-use sharc_event_file::{put_cell, put_number, put_reference, put_signed};
-use sharc_said::{Deed, Event, Origin, Reference, GivenValue, function_of, place_at};
+use sharc_history::{
+    Deed, Event, GivenValue, Origin, Reference, function_of, place_at, put_cell, put_number,
+    put_reference, put_signed,
+};
 use std::alloc::AllocError;
 
 fn put_access(
@@ -89,7 +91,12 @@ fn put_signal(text: &mut Vec<u8>, lvalue: &[u8], woken: Option<u32>) -> Result<(
     put_woken(text, woken)
 }
 
-fn put_spawn(text: &mut Vec<u8>, name: &[u8], value: GivenValue, thread: u32) -> Result<(), AllocError>
+fn put_spawn(
+    text: &mut Vec<u8>,
+    name: &[u8],
+    value: GivenValue,
+    thread: u32,
+) -> Result<(), AllocError>
     ensures { Appends result (worded (codes "spawn")
         (worded name.now (seen_text value ++ (codes " as " ++ decimal thread)))) text.old.items text.new.items }
 {

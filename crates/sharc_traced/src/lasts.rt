@@ -8,10 +8,10 @@ ghost use Rattle.sharc_traced.specs.Places.{stop_words, stop_site, looked_at, re
 use crate::lvalues::{lvalue_of, site_of};
 use crate::pieces::{bytes_of, mode_word, put_place, put_word};
 use sharc_code::{Code, PlaceMode, Stop, Use};
-use sharc_event_file::{put_cell, put_number, put_signed};
-use sharc_history::{Halt, Last};
-use sharc_said::{Coming, Next, Origin, Where, place_at};
-use sharc_shadow::Kind;
+use sharc_heap::Kind;
+use sharc_history::{
+    Coming, Halt, Last, Next, Origin, Where, place_at, put_cell, put_number, put_signed,
+};
 use std::alloc::AllocError;
 
 fn put_next(text: &mut Vec<u8>, code: &Code, origin: Origin, next: Next) -> Result<(), AllocError>

@@ -19,5 +19,5 @@ mod words;
 
 pub use call::{Ended, sharc_trace};
 pub use reply::Stopped;
-pub use sharc_event_file::Cut;
+pub use sharc_history::Cut;
 pub use status::Status;

@@ -1,12 +1,12 @@
 //! Where an event is in the source, and how what it is of is written there.
 
 ghost use Rattle.std.specs.Prelude.{◌≡◌};
-ghost use Rattle.sharc_said.specs.Told.{site_of};
+ghost use Rattle.sharc_history.specs.Told.{site_of};
 ghost use Rattle.sharc_traced.specs.Places.{behind_star, lvalue_of};
 
 use crate::pieces::bytes_of;
 use sharc_code::Code;
-use sharc_said::{Origin, function_of, place_at};
+use sharc_history::{Origin, function_of, place_at};
 use sharc_tree::token::Site;
 
 /// The file and the line of a place in the source.

@@ -1,13 +1,13 @@
 //! What mutexes and conditions are called, by the last lock or wait of each.
 
 ghost use Rattle.std.specs.Prelude.{◌≡◌, [], ◌∷◌, List, OnOk};
-ghost use Rattle.sharc_said.specs.declared.event.Event.{Event};
+ghost use Rattle.sharc_history.specs.declared.event.Event.{Event};
 ghost use Rattle.sharc_traced.specs.Names.{AreNames, IsNoted};
 ghost use Rattle.sharc_traced.specs.Places.{called, last_named, named_by, name_of};
 
 use crate::lvalues::lvalue_of;
 use sharc_code::Code;
-use sharc_said::{Deed, Event, Origin, Where};
+use sharc_history::{Deed, Event, Origin, Where};
 use std::alloc::{AllocError, Global};
 use std::collections::HashMap;
 

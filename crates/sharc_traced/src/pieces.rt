@@ -5,8 +5,7 @@ ghost use Rattle.sharc_tree.specs.Texts.{Appends};
 ghost use Rattle.sharc_traced.specs.Places.{text_of, place_text, object_text, seen_text, worded, mode_word, columns};
 
 use sharc_code::{Code, PlaceMode, Text};
-use sharc_event_file::{put_number, put_signed};
-use sharc_said::{Reference, GivenValue};
+use sharc_history::{GivenValue, Reference, put_number, put_signed};
 use sharc_tree::token::Site;
 use std::alloc::AllocError;
 

@@ -9,8 +9,7 @@ use crate::deeds::put_event;
 use crate::lasts::put_last;
 use crate::names::LastOrigins;
 use sharc_code::Code;
-use sharc_history::{History, Last};
-use sharc_said::Event;
+use sharc_history::{Event, History, Last};
 use std::alloc::{AllocError, Global};
 
 fn put_events(

@@ -5,7 +5,7 @@ ghost use Rattle.sharc_top.specs.Text.{line};
 ghost use Rattle.sharc_traced.specs.Replies.{status_by, why_by, IsPlain};
 
 use crate::status::Status;
-use sharc_event_file::{Cut, EventPrefix};
+use sharc_history::{Cut, EventPrefix};
 use sharc_top::reply::{Reply as Answer, line_reply};
 use sharc_top::status::Status as AnswerStatus;
 use std::alloc::{AllocError, Global};

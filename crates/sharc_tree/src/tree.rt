@@ -6,7 +6,9 @@ mod item;
 mod statement;
 
 pub use declaration::{Declaration, Declarations, Identifier, WrittenType};
-pub use expression::{FieldOperator, BinaryOperator, Constant, Expr, PlaceCall, UnaryOperator, ValueCall};
+pub use expression::{
+    BinaryOperator, Constant, Expr, FieldOperator, PlaceCall, UnaryOperator, ValueCall,
+};
 pub use item::{
     FunctionDefinition, GlobalDefinition, GlobalForm, Item, Items, Program, StructDefinition,
 };

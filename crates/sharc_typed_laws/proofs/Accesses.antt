@@ -1,12 +1,12 @@
 -- Operations that access cells, each by itself: their checks are typed whether they are dropped or not.
 use Rattle.std.proofs.{Common.{◌≡◌, ◌≢◌, ℕ, ◌+◌, ◌<◌, Bool, true, false, List, Some, refl, sym, ap, ◌∙◌, subst, ⊎_elim}, lemmas.Bool.cases_eq, lemmas.Option.{same_Some, none-some}}
-use Rattle.sharc_shadow.specs.declared.shadow_word.Kind.TheVariants.{Read, Write}
+use Rattle.sharc_heap.specs.declared.shadow_word.Kind.TheVariants.{Read, Write}
 use Rattle.sharc_code.specs.{declared.code.PlaceMode.PlaceMode, declared.instr.Cell.Cell, declared.instr.Width.Width, Runs.put}
 use Rattle.sharc_code.specs.declared.code.PlaceMode.TheVariants as modes
 use Rattle.sharc_code.specs.declared.instr.Cell.TheVariants as cells
 use Rattle.sharc_code.proofs.Places.{put_same, put_other, put_all}
-use Rattle.sharc_flat_form.specs.{declared.op.Op.Op, declared.op.Spot.Spot}
-use Rattle.sharc_flat_form.specs.declared.op.Op.TheVariants as op
+use Rattle.sharc_flat.specs.{declared.op.Op.Op, declared.op.Spot.Spot}
+use Rattle.sharc_flat.specs.declared.op.Op.TheVariants as op
 use Rattle.sharc_guard.specs.Known.{Access, access, Know, know_next, is_straight}
 use Rattle.sharc_invariant.specs.{Types.{StaticType, Field, FieldType, FieldMode, Content, is_pointer, Mentions}, Types.FieldMode.{Private, Readonly, Racy, Dynamic, Under, Behind}, Types.Content.{Integer, Pointer}, Labels.{Empty, Refers, Within, Closed, Loaded, Pass, IsIn, Label, Less, LessEntry, IsScoped, IsFree, set_number, fill, empty, gated, without_base}, Typed.{IsVacant, IsOwn, Fits as FitsWidth, PointsTo, HasCell, ints_in, refs_in, knows_base}}
 use Rattle.sharc_typed_laws.specs.{Inside.{known_behind, lock_of, passed_behind}, Lines.{MayPass, PassesCheck}, Passes.{with_passes, with_all, IsPassed}, Stretches.{Mark, Setting, labels_by, Tells, Fits, IsTypedAt, IsAtHand, IsLine}, Places.{MayReach, mark}}

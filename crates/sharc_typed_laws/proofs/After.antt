@@ -2,8 +2,8 @@
 use Rattle.std.proofs.{Common.{◌≡◌, ◌≢◌, ℕ, ◌≤◌, Bool, true, false, cond, ◌||◌, Option, Some, refl, sym, ◌∙◌, subst, ⊎_elim}, lemmas.Bool.false≢true, lemmas.Option.none-some}
 use Rattle.std.specs.Prelude.{nat_eq}
 use Rattle.sharc_code.specs.{declared.code.Code.Code, declared.instr.Width.TheVariants.{Char, Int, Long}, Runs.put}
-use Rattle.sharc_flat_form.specs.declared.op.Op.{Op}
-use Rattle.sharc_flat_form.specs.declared.op.Op.TheVariants as op
+use Rattle.sharc_flat.specs.declared.op.Op.{Op}
+use Rattle.sharc_flat.specs.declared.op.Op.TheVariants as op
 use Rattle.sharc_guard.specs.Known.{is_straight, writes_ref, writes_int, number_given}
 use Rattle.sharc_invariant.specs.{Types.{Targets, StaticType}, Labels.{Entry, Empty, Refers, Unknown, Number, Anything, Exactly, Within, Indexes, OfElement, OfGlobal, Closed, Label, Labels, LessEntry, LessNumber, Less, set_number, fill, empty, forgets, forgotten, without_index, some_names, gated}}
 use Rattle.sharc_typed_laws.specs.{Inside.behind, Lines.TypedLine}

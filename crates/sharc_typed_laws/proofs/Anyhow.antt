@@ -1,11 +1,11 @@
 -- Flat code that is typed whatever checks are remembered is typed with those that are.
 use Rattle.std.proofs.{Common.{◌⊎◌, ◌≡◌, ℕ, zero, suc, ◌+◌, ◌<◌, ◌≤◌, Bool, true, false, ◌&&◌, ◌||◌, List, [], ◌∷◌, length, Option, Some, None, refl, sym, ap, ◌∙◌, subst, inl, inr, ⊎_elim, arith}, lemmas.Bool.{cases_lt, or_right}, lemmas.Bool.Decides.nat_tests, lemmas.Option.{same_Some, none-some}}
 use Rattle.std.specs.Prelude.{slice_get, slice_index_or, nat_lt, ◌==◌, if◌then◌else◌}
-use Rattle.sharc_shadow.specs.{declared.shadow_word.Kind.Kind, declared.shadow_word.Kind.TheVariants.{Read, Write}}
+use Rattle.sharc_heap.specs.{declared.shadow_word.Kind.Kind, declared.shadow_word.Kind.TheVariants.{Read, Write}}
 use Rattle.sharc_code.specs.{declared.code.Code.Code, declared.code.Function.Function, declared.instr.Cell.Cell, Machine.no_function}
 use Rattle.sharc_code.specs.declared.instr.Cell.TheVariants as cells
-use Rattle.sharc_flat_form.specs.{declared.op.Op.Op, Machine.{Flat, function_of as flat_function}}
-use Rattle.sharc_flat_form.specs.declared.op.Op.TheVariants as op
+use Rattle.sharc_flat.specs.{declared.op.Op.Op, Machine.{Flat, function_of as flat_function}}
+use Rattle.sharc_flat.specs.declared.op.Op.TheVariants as op
 use Rattle.sharc_guard.specs.Known.{leads_to, is_target, is_led_to, line_leads, is_entry, SimplePlace, in_variable, in_global, Access, access, tells, Know, place_of, known, has_passed, drops, drops_at, dropped}
 use Rattle.sharc_invariant.specs.{Types.{Targets, StaticType, Field}, Labels.{Pass, IsIn, Label, Labels, Less, IsScoped}, Typed.{HasField, Covers, ints_in, refs_in, entry_label}}
 use Rattle.sharc_typed_laws.specs.{Inside.FlatLabels, Lines.{TypedLine, IsTypedFlat, To}, Passes.{is_write, pass_at, passes_next, passes_after, passes_before, passes_in, with_passes, with_all, with_checks, remembered, IsPassed, RepeatsCheck, Knows, IsTypedAnyhow}}

@@ -10,10 +10,9 @@ use Rattle.sharc_code.specs.Says.{no_global}
 use Rattle.sharc_ctype.specs.{declared.expr.OperatorClass.OperatorClass, Expressions.{class_of, number_kind, constant_kind, unary_result, binary_result}, Resolved.{Resolution, globals_in, named_at, function_at, declaration_at, variable_kind, result_kind_of, global_kind_of, named_kind, called_kind, kind_at}}
 use Rattle.sharc_ctype.specs.declared.expr.OperatorClass.TheVariants as classes
 use Rattle.sharc_mode.specs.Moded.{Assignment}
-use Rattle.sharc_mode_laws.specs.Constructs.{IsFunction}
+use Rattle.sharc_check.specs.Constructs.{IsFunction}
 use Rattle.sharc_meaning.specs.Cells.{field_place_named}
-use Rattle.sharc_flat_form.specs.Machine.{first_cell}
-use Rattle.sharc_flat.specs.{Places.{Target, variable, in_global, in_global_at, in_object, in_object_at, global_of, own_field, named_target, target}, Tables.{granules_in, globals_from, globals_of}}
+use Rattle.sharc_flat.specs.{Machine.first_cell, Places.{Target, variable, in_global, in_global_at, in_object, in_object_at, global_of, own_field, named_target, target}, Tables.{granules_in, globals_from, globals_of}}
 use Rattle.sharc_typed_laws.specs.Programs.{AreGlobalsNamed}
 use Rattle.sharc_lemmas.proofs.Bools.{false_true as none_of}
 

@@ -4,8 +4,7 @@ use Rattle.std.specs.Prelude.{slice_get, slice_index_or, nat_lt}
 use Rattle.sharc_tree.specs.Tree.{Function}
 use Rattle.sharc_code.specs.{declared.code.GlobalCells.GlobalCells, Machine.no_function}
 use Rattle.sharc_mode.specs.Moded.{Assignment}
-use Rattle.sharc_flat_form.specs.declared.op.Op.{Op}
-use Rattle.sharc_flat.specs.Flattened.{in_function, function_code, functions_code, rows_of}
+use Rattle.sharc_flat.specs.{declared.op.Op.Op, Flattened.{in_function, function_code, functions_code, rows_of}}
 use Rattle.sharc_typed_laws.specs.{Stretches.{Mark, Setting, Fits, IsLine, Agrees, AreLines, first}, Premises.Typing, Declared.before, Begun.label_of, Functions.FunctionLines}
 use Rattle.sharc_lemmas.proofs.Lists.{front_got as get_left}
 

@@ -1,8 +1,7 @@
 -- Statements and blocks at a line.
 use Rattle.std.proofs.Common.{◌≡◌, ℕ, ◌+◌, List, [], ◌∷◌, ◌++◌, length, Some, refl}
-use Rattle.sharc_flat_form.specs.declared.op.Op.{Op}
-use Rattle.sharc_flat_form.specs.declared.op.Op.TheVariants as op
-use Rattle.sharc_flat.specs.Scope.{Context, int_count, ref_count, pops}
+use Rattle.sharc_flat.specs.{declared.op.Op.Op, Scope.{Context, int_count, ref_count, pops}}
+use Rattle.sharc_flat.specs.declared.op.Op.TheVariants as op
 use Rattle.sharc_invariant.specs.{Labels.Label, Typed.{ints_in, refs_in}}
 use Rattle.sharc_invariant.proofs.Scoped.{less_refl}
 use Rattle.sharc_typed_laws.specs.{Stretches.{Mark, Setting, Way, AreOpen, LeadsAmong, LeadsFrom}, Places.AreLow, Premises.Typing, Declared.{StandsBefore, before}, Blocks.{BlocksAreTyped, AnywhereLeads, EnterLeads, BlockLeads}}

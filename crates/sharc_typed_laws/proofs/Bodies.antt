@@ -5,9 +5,8 @@ use Rattle.sharc_names.specs.Kinds.{Kind, declared_kind}
 use Rattle.sharc_meaning.specs.State.{is_reference}
 use Rattle.sharc_code.specs.declared.code.GlobalCells.{GlobalCells}
 use Rattle.sharc_mode.specs.Moded.{Assignment}
-use Rattle.sharc_flat_form.specs.declared.op.Op.{Op}
-use Rattle.sharc_flat_form.specs.declared.op.Op.TheVariants as op
-use Rattle.sharc_flat.specs.{Scope.{Context, int_count, ref_count, ends_from, at_site}, Flattened.{zero_code, around_body, in_function, function_code, statements_code, behind_statements}}
+use Rattle.sharc_flat.specs.{declared.op.Op.Op, Scope.{Context, int_count, ref_count, ends_from, at_site}, Flattened.{zero_code, around_body, in_function, function_code, statements_code, behind_statements}}
+use Rattle.sharc_flat.specs.declared.op.Op.TheVariants as op
 use Rattle.sharc_invariant.specs.Typed.{ints_in, refs_in}
 use Rattle.sharc_typed_laws.specs.{Stretches.{Mark, Setting, AreWithin, LeadsFrom}, Premises.Typing, Declared.before, Begun.label_of, Functions.{IsLowTyping, FunctionTypable, FunctionLines, FunctionsAreTyped}}
 use Rattle.sharc_typed_laws.proofs.{Growing.{Extends, AreNamed, nested}, StatementAlike.scoped_in, Closing.closes, Stating.{Below, Inside, all_typed}}

@@ -2,9 +2,8 @@
 use Rattle.std.proofs.{Common.{◌≡◌, ℕ, ◌+◌, ◌<◌, ◌≤◌, Bool, true, false, cond, ◌&&◌, List, [], ◌∷◌, length, Some, refl, sym, ap, ◌∙◌, subst, inl, ⊎_elim, arith}, lemmas.Bool.{false≢true, cases_eq, cases_lt}, lemmas.Bool.Decides.nat_tests}
 use Rattle.std.specs.Prelude.{nat_eq, nat_lt}
 use Rattle.sharc_code.proofs.Places.{put_same, put_other, put_all}
-use Rattle.sharc_flat_form.specs.{declared.op.Op.Op, declared.op.Spot.Spot}
-use Rattle.sharc_flat_form.specs.declared.op.Op.TheVariants as op
-use Rattle.sharc_flat.specs.Scope.{Context, ref_count}
+use Rattle.sharc_flat.specs.{declared.op.Op.Op, declared.op.Spot.Spot, Scope.{Context, ref_count}}
+use Rattle.sharc_flat.specs.declared.op.Op.TheVariants as op
 use Rattle.sharc_invariant.specs.{Types.StaticType, Labels.{Entry, Empty, Refers, Number, Anything, Exactly, Within, Indexes, OfElement, OfGlobal, Closed, Label, Less, LessNumber, LessEntry, LessGate, EntryMentions, HasBase, IsScoped, fill, set_number}, Typed.{Passes, ints_in, refs_in, below, below_copy, below_number, called_label}}
 use Rattle.sharc_invariant.proofs.Scoped.{less_entry_refl, less_number_refl, scoped_fill}
 use Rattle.sharc_typed_laws.specs.{Stretches.{Mark, Setting}, Places.{IsNamed, IsPlain, mark}, Premises.Typing}

@@ -3,9 +3,8 @@ use Rattle.std.proofs.{Common.{◌≡◌, ◌≢◌, ℕ, ◌+◌, ◌<◌, ◌�
 use Rattle.std.specs.Prelude.{nat_eq}
 use Rattle.sharc_code.specs.Runs.{put}
 use Rattle.sharc_code.proofs.Places.{put_same, put_other, put_all}
-use Rattle.sharc_flat_form.specs.{declared.op.Op.Op, declared.op.Spot.Spot}
-use Rattle.sharc_flat_form.specs.declared.op.Op.TheVariants as op
-use Rattle.sharc_flat.specs.Scope.{Context, ref_count}
+use Rattle.sharc_flat.specs.{declared.op.Op.Op, declared.op.Spot.Spot, Scope.{Context, ref_count}}
+use Rattle.sharc_flat.specs.declared.op.Op.TheVariants as op
 use Rattle.sharc_invariant.specs.{Types.{StaticType, Mentions, cells_of}, Labels.{Empty, Refers, Closed, Label, Less, LessNumber, LessEntry, LessGate, EntryMentions, IsScoped, IsFree, fill, empty, knows, without_copies, without_index}, Typed.{Recasts, IsLayout, moved_copy, ints_in, refs_in}}
 use Rattle.sharc_invariant.proofs.Scoped.{less_entry_refl, less_number_refl, scoped_fill}
 use Rattle.sharc_typed_laws.specs.{Passes.IsNumberOf, Stretches.{Mark, Setting, Fits}, Places.{IsNamed, mark}, Premises.Typing}

@@ -5,8 +5,8 @@ use Rattle.sharc_code.specs.{declared.code.Code.Code, declared.code.Function.Fun
 use Rattle.sharc_code.specs.declared.code.PlaceMode.TheVariants as modes
 use Rattle.sharc_code.specs.declared.instr.Cell.TheVariants as cells
 use Rattle.sharc_code.proofs.Places.{put_same, put_all}
-use Rattle.sharc_flat_form.specs.declared.op.Spot.{Spot}
-use Rattle.sharc_gen.specs.Generated.{instr_of}
+use Rattle.sharc_flat.specs.declared.op.Spot.{Spot}
+use Rattle.sharc_compile.specs.Generated.{instr_of}
 use Rattle.sharc_guard.specs.Guard.{check_under}
 use Rattle.sharc_invariant.specs.{Types.{Targets, Lock, Field, FieldLock, FieldMode, Content, cells_of}, Types.Lock.{Global, Through, Self}, Types.FieldLock.{OfType, OfGlobals, OfElement as OfSameElement}, Types.FieldMode.{Private, Readonly, Racy, Dynamic, Under, Behind}, Labels.{Entry, Empty, Refers, Unknown, Element, Named, Nth, Number, Anything, Exactly, Within, Indexes, OfElement, OfGlobal, Gate, Closed, Checked, Holds, HoldsLoaded, Pass, Label, Labels, Less, IsCopy, gated}, Typed.{HasField, HasBase, HasCell, IsPlace, IsOwn, Directly, Earlier, Covers, MayAccess, Accesses, IsNotSole, IsMode, IsLockMode, IsTypeMode, LeadsChecked, knows_base, no_lock}}
 use Rattle.sharc_invariant.proofs.Scoped.{less_refl}

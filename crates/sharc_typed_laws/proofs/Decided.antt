@@ -1,8 +1,7 @@
 -- Choices and loops at a line.
 use Rattle.std.proofs.Common.{◌≡◌, ℕ, ◌+◌, Bool, List, [], ◌∷◌, ◌++◌, length, Some, subst, arith, length-append}
-use Rattle.sharc_flat_form.specs.declared.op.Op.{Op}
-use Rattle.sharc_flat_form.specs.declared.op.Op.TheVariants as op
-use Rattle.sharc_flat.specs.Flattened.{body_at}
+use Rattle.sharc_flat.specs.{declared.op.Op.Op, Flattened.body_at}
+use Rattle.sharc_flat.specs.declared.op.Op.TheVariants as op
 use Rattle.sharc_invariant.specs.{Labels.{Label, IsScoped}, Typed.{ints_in, refs_in}}
 use Rattle.sharc_typed_laws.specs.{Stretches.{Mark, Setting, Way, Stretch, AreOpen, LeadsFrom}, Places.{RegistersStand, mark}, Decided.{turn_by, loop_ways, DecisionsAreTyped, IfLeads, ChoiceLeads, JoinLeads, LoopLeads, EverLeads}}
 use Rattle.sharc_typed_laws.proofs.Flow as flow

@@ -8,9 +8,8 @@ use Rattle.sharc_code.specs.declared.instr.Register.TheVariants as registers
 use Rattle.sharc_code.proofs.Places.{put_same, put_other, put_all}
 use Rattle.sharc_mode.specs.Sharings.{Sharing}
 use Rattle.sharc_meaning.specs.State.{is_reference}
-use Rattle.sharc_flat_form.specs.declared.op.Op.{Op}
-use Rattle.sharc_flat_form.specs.declared.op.Op.TheVariants as op
-use Rattle.sharc_flat.specs.{declared.slot.Slot.Slot, Scope.{Context, slot_of, slot_kind, int_count, ref_count, register_from, register_of}, Places.{width_of, settle_code}, Flattened.{with_variable, right_code, zero_code, initial_code, local_code}}
+use Rattle.sharc_flat.specs.{declared.op.Op.Op, declared.slot.Slot.Slot, Scope.{Context, slot_of, slot_kind, int_count, ref_count, register_from, register_of}, Places.{width_of, settle_code}, Flattened.{with_variable, right_code, zero_code, initial_code, local_code}}
+use Rattle.sharc_flat.specs.declared.op.Op.TheVariants as op
 use Rattle.sharc_invariant.specs.{Types.StaticType, Labels.{Refers, Number, Anything, Exactly, Within, Label, LessNumber, EntryMentions, fill, set_number}, Typed.{ints_in, refs_in}}
 use Rattle.sharc_invariant.proofs.Scoped.{less_entry_refl, less_number_refl}
 use Rattle.sharc_typed_laws.specs.{Stretches.{Mark, Setting, Way, AreOpen, LeadsAmong}, Places.{RegistersStand, AreLow, mark}, Premises.Typing, Typable.IsTypeIn, Declared.{Keeps, BeginsReference, BeginsInteger, Begins, declared_label, InitialTypable, StandsBefore, before, LocalsAreTyped}}

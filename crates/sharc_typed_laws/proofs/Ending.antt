@@ -2,9 +2,8 @@
 use Rattle.std.proofs.{Common.{◌≡◌, ◌≢◌, ℕ, ◌+◌, ◌<◌, ◌≤◌, ◌⊎◌, Bool, true, false, cond, ◌||◌, List, [], ◌∷◌, Some, refl, sym, ap, ◌∙◌, subst, inl, inr, ⊎_elim, arith}, lemmas.Bool.Decides.nat_tests, lemmas.Bool.{false≢true, cases_eq, cases_lt}}
 use Rattle.sharc_code.specs.Runs.{put}
 use Rattle.sharc_code.proofs.Places.{put_other, put_all}
-use Rattle.sharc_flat_form.specs.declared.op.Op.{Op}
-use Rattle.sharc_flat_form.specs.declared.op.Op.TheVariants as op
-use Rattle.sharc_flat.specs.{declared.slot.Slot.Slot, Scope.{Context, int_count, ref_count, pops}}
+use Rattle.sharc_flat.specs.{declared.op.Op.Op, declared.slot.Slot.Slot, Scope.{Context, int_count, ref_count, pops}}
+use Rattle.sharc_flat.specs.declared.op.Op.TheVariants as op
 use Rattle.sharc_invariant.specs.{Types.{Lock, Mentions, Names, SomeNames}, Types.Lock.{Global, Through, Self}, Labels.{Entry, Empty, Refers, Unknown, Within, Closed, IsIn, Label, Less, LessEntry, LessNumber, LessGate, HasBase, EntryMentions, IsScoped, without_copies, without_index, names, some_names, forgotten, forgets, empty}, Typed.{ints_in, refs_in}}
 use Rattle.sharc_invariant.proofs.Scoped.{less_entry_refl, less_number_refl}
 use Rattle.sharc_typed_laws.specs.{Stretches.{Mark, Setting, Way, AreOpen, LeadsAmong}, Places.{AreLow, mark}, Premises.Typing, Declared.{StandsBefore, before}, Ended.{Grows, EndsAreTyped}}

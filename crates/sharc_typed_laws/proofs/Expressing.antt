@@ -10,9 +10,8 @@ use Rattle.sharc_code.proofs.Places.{put_same, put_other, put_all}
 use Rattle.sharc_ctype.specs.{Resolved.{global_at, structs_in}, Transfers.parameters_named}
 use Rattle.sharc_mode.specs.Sharings.{Sharing}
 use Rattle.sharc_meaning.specs.{Cells.{element_cells, field_place_named, global_elements}, Expressions.number_named, Reference.constant_value, State.is_reference}
-use Rattle.sharc_flat_form.specs.{declared.op.Op.Op, declared.op.Spot.Spot, Machine.first_cell}
-use Rattle.sharc_flat_form.specs.declared.op.Op.TheVariants as op
-use Rattle.sharc_flat.specs.{declared.slot.Lvalue.Lvalue, Scope.{Context, ref_count, register_of, number_in, at_site}, Places.{Target, variable, in_global, in_global_at, in_object, in_object_at, target, named_target, own_field, global_of, guard_width, copy_code, cell_value_code, cell_take_code, take_code, value_code, index_code, pointee_code, bounds_code, width_of}, Flattened.{kind_of, is_ref, target_of, mode_of, what_names, lvalue_in, guard_of, constant_code, named_code, truth_code, compare_code, logical_code, either_code, behind_int, behind_ref, operator_of, first_cell_of, wait_code, with_words, argument_words, condition_code, called_code, passed_code, spawn_code, cast_code, layout_of, expression_code, arguments_code, place_code}, Suits.{Either, is_cell}}
+use Rattle.sharc_flat.specs.{declared.op.Op.Op, declared.op.Spot.Spot, Machine.first_cell, declared.slot.Lvalue.Lvalue, Scope.{Context, ref_count, register_of, number_in, at_site}, Places.{Target, variable, in_global, in_global_at, in_object, in_object_at, target, named_target, own_field, global_of, guard_width, copy_code, cell_value_code, cell_take_code, take_code, value_code, index_code, pointee_code, bounds_code, width_of}, Flattened.{kind_of, is_ref, target_of, mode_of, what_names, lvalue_in, guard_of, constant_code, named_code, truth_code, compare_code, logical_code, either_code, behind_int, behind_ref, operator_of, first_cell_of, wait_code, with_words, argument_words, condition_code, called_code, passed_code, spawn_code, cast_code, layout_of, expression_code, arguments_code, place_code}, Suits.{Either, is_cell}}
+use Rattle.sharc_flat.specs.declared.op.Op.TheVariants as op
 use Rattle.sharc_invariant.specs.{Types.{StaticType, cells_of}, Types.Content.{MutexWord, Waiters}, Labels.{Entry, Empty, Refers, Element, Number, Anything, Nth, Exactly, Within, Indexes, OfElement, OfGlobal, Closed, Label, Less as LessLabel, Narrower, LessNumber, LessEntry, LessGate, HasBase, fill, set_number, without_copies}, Typed.{Passes, ints_in, refs_in}}
 use Rattle.sharc_invariant.proofs.{Frames.wider, Scoped.{less_refl, less_entry_refl, less_number_refl, scoped_fill}}
 use Rattle.sharc_typed_laws.specs.{Stretches.{Mark, Setting, Way, AreOpen}, Places.{IsNamed, IsPlain, AreLow, no_type, mark}, Premises.{Typing, IsCopyIn, IsCopyNamed, IsCopyOf, IsPointerCopy, Ground, ReferenceTyped}, Typable.{IsBare, StandsIn, type_by, GoesTo, Widens, ints_behind, refs_behind, AreFree, IsTypeIn, IsVoid, IsNumber, IsPointer, ground_of, CellTyped, VariableTyped, NameTyped, ConstantTyped, UnaryTyped, result_of, ComparedTyped, HasType, AreFields, IndexTypable, ArgumentAt, ArgumentsAt, ResultTyped, CallTyped, HasNoWidth, Goes, Handed, SpawnTyped, FirstCell, IsOne, AreTwo, ConditionTyped, VariableTakes, Takes, TakeTyped, CastTyped, FreeTyped, CallTypable, IsTypable, AreTypable, IsPlaceTypable}}

@@ -1,7 +1,7 @@
 -- Stretches of flat code one after the other: tests, choices, loops.
 use Rattle.std.proofs.Common.{◌≡◌, ℕ, ◌+◌, ◌≤◌, List, [], ◌∷◌, ◌++◌, length, refl, ap, sym, ◌∙◌, subst, arith, length-append}
-use Rattle.sharc_flat_form.specs.declared.op.Op.{Op}
-use Rattle.sharc_flat_form.specs.declared.op.Op.TheVariants as op
+use Rattle.sharc_flat.specs.declared.op.Op.{Op}
+use Rattle.sharc_flat.specs.declared.op.Op.TheVariants as op
 use Rattle.sharc_invariant.specs.Labels.{Less}
 use Rattle.sharc_typed_laws.proofs.{Preorder.less_through, Fitting.{fits_same, fits_through}, Rules.{Plain, PlainNull, cleared, noted, on_skip, on_zero, on_null}, Closing.agrees_left}
 use Rattle.sharc_typed_laws.specs.Stretches.{Mark, Setting, Fits, IsLine, Agrees, AreLines, first, Stretch}

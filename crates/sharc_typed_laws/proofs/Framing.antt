@@ -4,9 +4,8 @@ use Rattle.std.specs.Prelude.{slice_get}
 use Rattle.sharc_code.specs.{declared.instr.Cell.Cell, declared.instr.Register.Register}
 use Rattle.sharc_code.specs.declared.instr.Cell.TheVariants as cells
 use Rattle.sharc_code.specs.declared.instr.Register.TheVariants as registers
-use Rattle.sharc_flat_form.specs.{declared.op.Op.Op, declared.op.Spot.Spot, Framed.{BaseWithin, HandedWithin, OpWrites}}
-use Rattle.sharc_flat_form.specs.declared.op.Op.TheVariants as op
-use Rattle.sharc_flat.specs.Frames.{int_need, ref_need, base_need, handed_need, ints_in, refs_in}
+use Rattle.sharc_flat.specs.{declared.op.Op.Op, declared.op.Spot.Spot, Framed.{BaseWithin, HandedWithin, OpWrites}, Frames.{int_need, ref_need, base_need, handed_need, ints_in, refs_in}}
+use Rattle.sharc_flat.specs.declared.op.Op.TheVariants as op
 use Rattle.sharc_typed_laws.specs.Stretches.{AreWithin}
 
 -- indexes of globals have few cells

@@ -3,8 +3,8 @@ use Rattle.std.proofs.{Common.{◌≡◌, ◌≢◌, ℕ, ◌+◌, ◌<◌, ◌�
 use Rattle.std.specs.Prelude.{filter}
 use Rattle.sharc_code.specs.{declared.instr.Register.Register, declared.instr.Width.TheVariants.Char}
 use Rattle.sharc_code.specs.declared.instr.Register.TheVariants as registers
-use Rattle.sharc_flat_form.specs.declared.op.Op.TheVariants as op
-use Rattle.sharc_flat_form.specs.declared.op.Spot.{Spot}
+use Rattle.sharc_flat.specs.declared.op.Op.TheVariants as op
+use Rattle.sharc_flat.specs.declared.op.Spot.{Spot}
 use Rattle.sharc_invariant.specs.{Types.Lock, Types.Lock.{Global, Through, Self}, Labels.{Entry, Empty, Refers, Unknown, Within, Closed, Pass, IsIn, Label, Less, SameReference, LessNumber, LessEntry, EntryMentions, set_number, empty, without_base}, Typed.{Passes, PassesLock, Hands, ints_in, refs_in, handed_label, called_label, below_pass}}
 use Rattle.sharc_typed_laws.specs.{Passes.with_passes, Stretches.{Mark, Setting, labels_by, Fits, IsLine}}
 use Rattle.sharc_typed_laws.proofs.{TypedAlike.{all_same, same_reference, less_entry}, Preorder.less_through, Rules.with_less, Accesses.InFrame}

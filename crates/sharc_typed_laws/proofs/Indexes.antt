@@ -3,8 +3,8 @@ use Rattle.std.proofs.{Common.{◌≡◌, ◌≢◌, ℕ, zero, suc, ◌+◌, �
 use Rattle.std.specs.Prelude.{nat_eq, nat_lt}
 use Rattle.sharc_code.specs.Runs.{put}
 use Rattle.sharc_code.proofs.Places.{put_same, put_other, put_all}
-use Rattle.sharc_flat_form.specs.{declared.op.Op.Op, Framed.OpWrites}
-use Rattle.sharc_flat_form.specs.declared.op.Op.TheVariants as op
+use Rattle.sharc_flat.specs.{declared.op.Op.Op, Framed.OpWrites}
+use Rattle.sharc_flat.specs.declared.op.Op.TheVariants as op
 use Rattle.sharc_guard.specs.Known.{Know, know_next, writes_ref, writes_int, number_given, with_element}
 use Rattle.sharc_invariant.specs.{Types.Targets, Labels.{Empty, Element, Named, Nth, Number, Anything, Exactly, Within, Indexes, OfElement, OfGlobal, Closed, Pass, Label, Less, LessNumber, HasBase, HasName, IsNamed as IsNameOf, Fresh, IsScoped, set_number}, Typed.{IsElement, ints_in, refs_in}}
 use Rattle.sharc_invariant.proofs.Scoped.{less_entry_refl, less_number_refl}

@@ -1,9 +1,8 @@
 -- The code of lvalues: the base of what is named, and the index of its cell, come to their registers.
 use Rattle.std.proofs.Common.{◌≡◌, ℕ, ◌+◌, ◌*◌, ◌<◌, ◌≤◌, Bool, true, List, Option, Some, None, refl, sym, ap, ◌∙◌, subst, arith}
 use Rattle.sharc_code.proofs.Places.{put_other}
-use Rattle.sharc_flat_form.specs.{declared.op.Op.Op, declared.op.Spot.Spot, Framed.OpWrites}
-use Rattle.sharc_flat_form.specs.declared.op.Op.TheVariants as op
-use Rattle.sharc_flat.specs.{Scope.{Context, ref_count}, Places.{guard_width, bounds_code}}
+use Rattle.sharc_flat.specs.{declared.op.Op.Op, declared.op.Spot.Spot, Framed.OpWrites, Scope.{Context, ref_count}, Places.{guard_width, bounds_code}}
+use Rattle.sharc_flat.specs.declared.op.Op.TheVariants as op
 use Rattle.sharc_invariant.specs.{Types.{StaticType, cells_of}, Labels.{Empty, Refers, Element, Number, OfElement, OfGlobal, Closed, Label, Fresh, set_number}, Typed.{ints_in, refs_in}}
 use Rattle.sharc_typed_laws.specs.{Stretches.{Mark, Setting}, Places.{IsPlain, mark}, Premises.Typing}
 use Rattle.sharc_typed_laws.proofs.{Rules.{on_bounds, on_global_bounds}, Parts.{P, At, with_number}, Indexes.{FindsElement, element_of, fresh_name, is_fresh, bound_at, beside_at}, Accessed.indexed}

@@ -2,8 +2,7 @@
 use Rattle.std.proofs.Common.{ℕ, ◌+◌, Bool, true, false, List, ◌++◌, subst}
 use Rattle.sharc_tree.specs.Tree.{Expression}
 use Rattle.sharc_names.specs.Kinds.{is_integer}
-use Rattle.sharc_flat_form.specs.declared.op.Op.{Op}
-use Rattle.sharc_flat.specs.{Scope.{Context, ref_count}, Flattened.{kind_of, is_ref, truth_code, expression_code}}
+use Rattle.sharc_flat.specs.{declared.op.Op.Op, Scope.{Context, ref_count}, Flattened.{kind_of, is_ref, truth_code, expression_code}}
 use Rattle.sharc_invariant.specs.Labels.{Refers, Label, fill, set_number}
 use Rattle.sharc_invariant.proofs.Scoped.{less_refl}
 use Rattle.sharc_typed_laws.specs.{Stretches.{Setting, Way, AreOpen, LeadsAmong}, Places.{AreLow, mark}, Premises.Typing, Typable.IsBare, LabelsLaws.{StretchesJoin, PartsAreTyped, ValueComes, ExpressionsAreTyped, SimplesAreTyped, TestsAreTyped}}

@@ -1,8 +1,7 @@
 -- How blocks are left.
 use Rattle.std.proofs.Common.{◌≡◌, ℕ, ◌+◌, ◌≤◌, List, [], ◌∷◌, ◌++◌, length, drop, Some, subst, ⊎_elim}
-use Rattle.sharc_flat_form.specs.declared.op.Op.{Op}
-use Rattle.sharc_flat_form.specs.declared.op.Op.TheVariants as op
-use Rattle.sharc_flat.specs.Scope.{Context, int_count, ref_count, ends_from, leaves}
+use Rattle.sharc_flat.specs.{declared.op.Op.Op, Scope.{Context, int_count, ref_count, ends_from, leaves}}
+use Rattle.sharc_flat.specs.declared.op.Op.TheVariants as op
 use Rattle.sharc_invariant.specs.{Labels.{Label, IsScoped}, Typed.{ints_in, refs_in}}
 use Rattle.sharc_typed_laws.specs.{Stretches.{Mark, Setting, Way, Fits, IsLine, AreOpen, LeadsAmong}, Places.AreLow, Premises.Typing, Declared.{StandsBefore, before}, Left.{back, AreNested, LeavesAreTyped, IsOpen, JumpsAreTyped}}
 use Rattle.sharc_typed_laws.proofs.{Fitting.fits_same, Ending.ends_typed, Rules.on_jump, Parts.{then_do, none, within_left}}

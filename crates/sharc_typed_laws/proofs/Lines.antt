@@ -3,7 +3,7 @@ use Rattle.std.proofs.{Common.{◌≡◌, ℕ, zero, suc, ◌+◌, ◌<◌, Bool
 use Rattle.std.specs.Prelude.{slice_get}
 use Rattle.sharc_code.specs.declared.instr.Cell.{Cell}
 use Rattle.sharc_code.specs.declared.instr.Cell.TheVariants as cells
-use Rattle.sharc_flat_form.specs.declared.op.Op.{Op}
+use Rattle.sharc_flat.specs.declared.op.Op.{Op}
 use Rattle.sharc_guard.specs.Known.{is_straight, is_target, Know, nothing, know_next, know_after, known}
 use Rattle.sharc_invariant.specs.Types.{Targets}
 use Rattle.sharc_typed_laws.specs.{Passes.{TypedAnyhow, Knows}, Stretches.{Mark, Tells, IsAtHand, IsLine, flat_labels}, LabelsLaws.{LinesAreTyped, LinesTell, LinesKnow}}

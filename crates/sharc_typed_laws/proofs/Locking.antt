@@ -3,9 +3,8 @@ use Rattle.std.proofs.{Common.{◌≡◌, ℕ, ◌+◌, ◌<◌, ◌≤◌, Bool
 use Rattle.sharc_code.specs.{declared.instr.Cell.Cell, Runs.put}
 use Rattle.sharc_code.specs.declared.instr.Cell.TheVariants as cells
 use Rattle.sharc_code.proofs.Places.{put_same, put_other, put_all}
-use Rattle.sharc_flat_form.specs.{declared.op.Op.Op, declared.op.Spot.Spot}
-use Rattle.sharc_flat_form.specs.declared.op.Op.TheVariants as op
-use Rattle.sharc_flat.specs.{Scope.{Context, ref_count}, Places.{Target, variable, in_global, in_global_at, in_object, in_object_at, has_base, base_width, cell_of}, Flattened.unlocked_code, Suits.is_cell}
+use Rattle.sharc_flat.specs.{declared.op.Op.Op, declared.op.Spot.Spot, Scope.{Context, ref_count}, Places.{Target, variable, in_global, in_global_at, in_object, in_object_at, has_base, base_width, cell_of}, Flattened.unlocked_code, Suits.is_cell}
+use Rattle.sharc_flat.specs.declared.op.Op.TheVariants as op
 use Rattle.sharc_invariant.specs.{Labels.{Empty, Refers, Element, Number, Anything, Gate, Closed, Holds, Label, Less, LessNumber, LessEntry, LessGate, EntryMentions, IsFree, fill, empty, without_index}, Typed.{IsBaseFree, ints_in, refs_in, without_base_of, unlocked_label}}
 use Rattle.sharc_invariant.proofs.Scoped.{less_refl, less_entry_refl, less_number_refl, scoped_fill}
 use Rattle.sharc_typed_laws.specs.{Stretches.{Mark, Setting}, Places.{IsNamed, mark}, Premises.{Typing, IsPointerCopy, HasBaseAt, HasMutex, Ground, MutexTyped}}

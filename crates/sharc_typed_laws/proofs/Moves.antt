@@ -3,8 +3,8 @@ use Rattle.std.proofs.{Common.{◌≡◌, ◌≢◌, ℕ, ◌+◌, ◌<◌, ◌�
 use Rattle.std.specs.Prelude.{not, Some}
 use Rattle.sharc_code.specs.declared.instr.Cell.{Cell}
 use Rattle.sharc_code.specs.declared.instr.Cell.TheVariants as cells
-use Rattle.sharc_flat_form.specs.{declared.op.Op.Op, declared.op.Spot.Spot}
-use Rattle.sharc_flat_form.specs.declared.op.Op.TheVariants as op
+use Rattle.sharc_flat.specs.{declared.op.Op.Op, declared.op.Spot.Spot}
+use Rattle.sharc_flat.specs.declared.op.Op.TheVariants as op
 use Rattle.sharc_guard.specs.Known.{Access, access, Know, know_next, is_straight}
 use Rattle.sharc_invariant.specs.{Types.{StaticType, Field, Mentions, cells_of}, Labels.{Refers, Closed, Holds, Pass, IsIn, Label, Less, EntryMentions, IsFree, fill, empty, forgets, gated, is_base, without_base}, Typed.{IsVacant, HasCell, IsBaseFree, IsLayout, Recasts, ints_in, refs_in, moved_copy, without_base_of, unlocked_label}}
 use Rattle.sharc_typed_laws.specs.{Lines.{PointersMadeAt, moved}, Passes.with_passes, Stretches.{Mark, Setting, Tells, Fits, IsTypedAt, IsAtHand, IsLine}, Premises.{HasMutex, HasWaiters}}

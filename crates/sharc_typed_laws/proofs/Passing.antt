@@ -1,12 +1,12 @@
 -- What is remembered before each line goes on to the next one, and a check that is dropped repeats one that is remembered.
 use Rattle.std.proofs.{Common.{◌≡◌, ℕ, zero, suc, ◌+◌, ◌-◌, ◌*◌, ◌≤◌, Bool, true, false, cond, ◌&&◌, ◌||◌, List, [], ◌∷◌, ◌++◌, Option, Some, None, refl, sym, ap, ◌∙◌, subst, inl, inr, ⊎_elim, arith, ◌⊎◌}, lemmas.Bool.Decides.nat_tests, lemmas.Option.{same_Some, none-some}}
 use Rattle.std.specs.Prelude.{slice_get, nat_lt, not, filter, if◌then◌else◌}
-use Rattle.sharc_shadow.specs.{declared.shadow_word.Kind.Kind, declared.shadow_word.Kind.TheVariants.{Read, Write}}
+use Rattle.sharc_heap.specs.{declared.shadow_word.Kind.Kind, declared.shadow_word.Kind.TheVariants.{Read, Write}}
 use Rattle.sharc_code.specs.{declared.code.Code.Code, declared.code.PlaceMode.PlaceMode, declared.instr.Cell.Cell}
 use Rattle.sharc_code.specs.declared.code.PlaceMode.TheVariants as modes
 use Rattle.sharc_code.specs.declared.instr.Cell.TheVariants as cells
-use Rattle.sharc_flat_form.specs.{declared.op.Op.Op, declared.op.Spot.Spot, Machine.Flat}
-use Rattle.sharc_flat_form.specs.declared.op.Op.TheVariants as op
+use Rattle.sharc_flat.specs.{declared.op.Op.Op, declared.op.Spot.Spot, Machine.Flat}
+use Rattle.sharc_flat.specs.declared.op.Op.TheVariants as op
 use Rattle.sharc_guard.specs.Known.{is_straight, is_target, is_dynamic, SimplePlace, in_variable, in_global, assigns, same_place, counts, Access, access, tells, Know, variable_place, global_place, is_at, place_of, passes_by, know_next, known, has_passed, drops}
 use Rattle.sharc_invariant.specs.{Types.{Targets, Field, cells_of}, Labels.{Element, Named, Nth, Number, Anything, Exactly, Within, Indexes, OfElement, OfGlobal, Pass, IsIn, Label, is_base, without_base}, Typed.{HasField, Covers}}
 use Rattle.sharc_typed_laws.specs.{Inside.{global_pass, global_element_pass, element_pass, pass_of, with_pass, passed_behind}, Passes.{is_write, pass_at, pass_of_place, pass_by, stays, passes_next, passes_before, with_passes, remembered, IsNumberOf, Knows}}

@@ -8,11 +8,10 @@ use Rattle.sharc_code.specs.{declared.code.Use.Use, declared.instr.Register.Regi
 use Rattle.sharc_code.specs.declared.code.Use.TheVariants as uses
 use Rattle.sharc_ctype.specs.{Resolved.{kind_at, global_at}, Transfers.parameters_named}
 use Rattle.sharc_mode.specs.{Cells.pointed, Moded.Assignment, Rows.{written, row_at, declared_row}, Sharings.{Sharing, private}}
-use Rattle.sharc_mode_laws.specs.Constructs.{IsFunction}
+use Rattle.sharc_check.specs.Constructs.{IsFunction}
 use Rattle.sharc_meaning.specs.{Cells.{element_cells, field_place_named, global_elements}, State.is_reference}
-use Rattle.sharc_flat_form.specs.{declared.op.Op.Op, declared.op.Spot.Spot, Machine.first_cell}
-use Rattle.sharc_flat_form.specs.declared.op.Op.TheVariants as op
-use Rattle.sharc_flat.specs.{declared.slot.Lvalue.Lvalue, declared.slot.Slot.Slot, Scope.{Context, register_of, ref_count, at_site, pops, ends_from, leaves}, Places.{Target, variable, in_global, in_global_at, in_object, in_object_at, target, own_field, has_base, global_of, base_width, index_width, guard_field, guard_code, drop_base, settle_base, copy_code, cell_value_code, value_code, settle_code, cell_store_code, store_code, cell_take_code, take_code, bounds_code, index_code, pointee_code, width_code}, Flattened.{kind_of, is_ref, target_of, mode_of, what_names, named_code, truth_code, differ_code, compare_code, logical_code, either_code, unary_code, binary_code, behind_int, behind_ref, wait_code, condition_code, called_code, passed_code, value_call_code, place_call_code, cast_code, guard_of, taken_guard, field_code, unary_place_code, lvalue_code, expression_code, arguments_code, place_code, lvalue_in, with_words, argument_words, elements_code, right_code, simple_code, with_variable, ints_of, refs_of, zero_code, initial_code, local_code, first_code, behind_first, step_code, test_code, turn_code, Around, opened, looping, jump_code, result_code, return_code, turns_code, body_at, behind_statement, behind_statements, statement_code, statements_code, in_function, around_body, function_code, functions_code, declared_lvalue}, Tables.globals_of}
+use Rattle.sharc_flat.specs.{declared.op.Op.Op, declared.op.Spot.Spot, Machine.first_cell, declared.slot.Lvalue.Lvalue, declared.slot.Slot.Slot, Scope.{Context, register_of, ref_count, at_site, pops, ends_from, leaves}, Places.{Target, variable, in_global, in_global_at, in_object, in_object_at, target, own_field, has_base, global_of, base_width, index_width, guard_field, guard_code, drop_base, settle_base, copy_code, cell_value_code, value_code, settle_code, cell_store_code, store_code, cell_take_code, take_code, bounds_code, index_code, pointee_code, width_code}, Flattened.{kind_of, is_ref, target_of, mode_of, what_names, named_code, truth_code, differ_code, compare_code, logical_code, either_code, unary_code, binary_code, behind_int, behind_ref, wait_code, condition_code, called_code, passed_code, value_call_code, place_call_code, cast_code, guard_of, taken_guard, field_code, unary_place_code, lvalue_code, expression_code, arguments_code, place_code, lvalue_in, with_words, argument_words, elements_code, right_code, simple_code, with_variable, ints_of, refs_of, zero_code, initial_code, local_code, first_code, behind_first, step_code, test_code, turn_code, Around, opened, looping, jump_code, result_code, return_code, turns_code, body_at, behind_statement, behind_statements, statement_code, statements_code, in_function, around_body, function_code, functions_code, declared_lvalue}, Tables.globals_of}
+use Rattle.sharc_flat.specs.declared.op.Op.TheVariants as op
 use Rattle.sharc_typed_laws.specs.Programs.{AreGlobalsNamed}
 use Rattle.sharc_typed_laws.proofs.{After.OpPast, Arrays.{Named, named_left, named_right, arrays_low, function_named}}
 

@@ -4,9 +4,9 @@ use Rattle.std.specs.Prelude.{map}
 use Rattle.sharc_code.specs.{declared.code.Code.Code, declared.code.PlaceMode.TheVariants.Readonly, declared.code.SourcePlace.SourcePlace, declared.instr.Cell.Cell, declared.instr.Instr.Instr, Runs.put, Says.place_at}
 use Rattle.sharc_code.specs.declared.instr.Instr.TheVariants as instrs
 use Rattle.sharc_code.proofs.Places.{put_same, put_other, put_all}
-use Rattle.sharc_flat_form.specs.{declared.op.Op.Op, declared.op.Spot.Spot}
-use Rattle.sharc_flat_form.specs.declared.op.Op.TheVariants as op
-use Rattle.sharc_gen.specs.Generated.{instr_of}
+use Rattle.sharc_flat.specs.{declared.op.Op.Op, declared.op.Spot.Spot}
+use Rattle.sharc_flat.specs.declared.op.Op.TheVariants as op
+use Rattle.sharc_compile.specs.Generated.{instr_of}
 use Rattle.sharc_guard.specs.Guard.{check_under, expand, source_of}
 use Rattle.sharc_invariant.specs.{Types.{Targets, StaticType, Field}, Labels.{Empty, Refers, Loaded, Sole, Label, Labels, EntryMentions, IsFree, empty, gated}, Typed.{IsUnpassed, Accesses, MayAccess, IsNotSole, IsMode}}
 use Rattle.sharc_invariant.proofs.{Frames.kept_pass, Scoped.less_refl}

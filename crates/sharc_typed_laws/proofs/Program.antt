@@ -6,9 +6,8 @@ use Rattle.sharc_names.specs.Kinds.{declared_kind}
 use Rattle.sharc_code.specs.{declared.code.Function.{Function as Row}, declared.code.GlobalCells.GlobalCells, declared.code.Text.Text, Machine.{no_function, function_of}}
 use Rattle.sharc_ctype.specs.Resolved.{Resolution, functions_in, function_at}
 use Rattle.sharc_mode.specs.Moded.{Assignment}
-use Rattle.sharc_flat_form.specs.{declared.flat.Flat.{Flat as FlatCode}, declared.op.Op.Op, Machine.{Flat, function_of as flat_function}, Made.flat_of}
-use Rattle.sharc_flat_form.specs.declared.op.Op.TheVariants as op
-use Rattle.sharc_flat.specs.{Flattened.{in_function, function_code, functions_code, rows_of, parameter_of, parameters_scope}, Flattens.{Flattens, names_of}, Frames.{ints_in as ints_needed, refs_in as refs_needed}, Laid.{told_by, with_texts, AreLaid, AreNamed}, Laws.FitsMade, Scope.{int_count, ref_count}, Tables.globals_of}
+use Rattle.sharc_flat.specs.{declared.flat.Flat.{Flat as FlatCode}, declared.op.Op.Op, Machine.{Flat, function_of as flat_function}, Made.flat_of, Flattened.{in_function, function_code, functions_code, rows_of, parameter_of, parameters_scope}, Flattens.{Flattens, names_of}, Frames.{ints_in as ints_needed, refs_in as refs_needed}, Laid.{told_by, with_texts, AreLaid, AreNamed}, Laws.FitsMade, Scope.{int_count, ref_count}, Tables.globals_of}
+use Rattle.sharc_flat.specs.declared.op.Op.TheVariants as op
 use Rattle.sharc_guard.specs.{Guard.{place, entered_at}, Known.dropped}
 use Rattle.sharc_invariant.specs.{Labels.{Less, Closed, IsScoped}, Typed.{IsPlain, MayStart, ints_in, refs_in, entry_label}}
 use Rattle.sharc_typed_laws.specs.{Inside.{FlatLabels, outside}, Lines.To, Passes.IsTypedAnyhow, Stretches.{Mark, Setting, IsLine, flat_labels, labels_by}, Places.mark, Premises.Typing, Begun.label_of, LabelsLaws.{AreAllLines, LinesAreTyped, LinesTell, LinesKnow}, Functions.{FunctionTypable, FunctionsAreTyped}, Programs.{AreGlobalsNamed, TypableProgram, IsSettingOf}}

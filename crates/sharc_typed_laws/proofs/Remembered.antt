@@ -3,8 +3,8 @@ use Rattle.std.proofs.{Common.{◌≡◌, ◌≢◌, ◌⊎◌, ℕ, zero, suc, 
 use Rattle.std.specs.Prelude.{slice_get, filter, nat_lt}
 use Rattle.sharc_code.specs.declared.instr.Cell.{Cell}
 use Rattle.sharc_code.specs.declared.instr.Cell.TheVariants as cells
-use Rattle.sharc_flat_form.specs.{declared.op.Op.Op, Machine.Flat}
-use Rattle.sharc_flat_form.specs.declared.op.Op.TheVariants as op
+use Rattle.sharc_flat.specs.{declared.op.Op.Op, Machine.Flat}
+use Rattle.sharc_flat.specs.declared.op.Op.TheVariants as op
 use Rattle.sharc_guard.specs.Known.{is_straight, is_target, writes_ref, writes_int, number_given, SimplePlace, in_variable, in_global, Access, access, tells, nothing, know_next, know_after, variable_place, global_place, place_of, known, drops}
 use Rattle.sharc_invariant.specs.{Types.{Targets, StaticType, Field}, Labels.{Empty, Refers, Element, Named, Nth, OfGlobal, Pass, IsIn, Label, Labels}, Typed.{HasField, AreGlobals}}
 use Rattle.sharc_typed_laws.specs.{Lines.TypedLine, Passes.{pass_at, pass_of_place, pass_by, stays, passes_after, passes_before, passes_in, with_passes, with_all, IsNumberOf, Knows}, Stretches.{Mark, Setting, labels_by, Tells}, LabelsLaws.AreAllLines}

@@ -8,9 +8,8 @@ use Rattle.sharc_code.specs.{declared.instr.Width.Width, Runs.put}
 use Rattle.sharc_code.proofs.Places.{put_same, put_other, put_all}
 use Rattle.sharc_mode.specs.Sharings.{private}
 use Rattle.sharc_meaning.specs.State.{is_reference}
-use Rattle.sharc_flat_form.specs.{declared.op.Op.Op, declared.op.Spot.Spot}
-use Rattle.sharc_flat_form.specs.declared.op.Op.TheVariants as op
-use Rattle.sharc_flat.specs.{declared.slot.Slot.Slot, Scope.{Context, int_count, ref_count, pops, ends_from, leaves}, Places.{width_of, width_code}, Flattened.{expression_code, zero_code, result_code}}
+use Rattle.sharc_flat.specs.{declared.op.Op.Op, declared.op.Spot.Spot, declared.slot.Slot.Slot, Scope.{Context, int_count, ref_count, pops, ends_from, leaves}, Places.{width_of, width_code}, Flattened.{expression_code, zero_code, result_code}}
+use Rattle.sharc_flat.specs.declared.op.Op.TheVariants as op
 use Rattle.sharc_guard.specs.Known.{Know, know_next}
 use Rattle.sharc_invariant.specs.{Types.{StaticType, Mentions}, Labels.{Entry, Empty, Refers, Number, Anything, Exactly, Within, Closed, IsIn, Label, Less, Itself, LessEntry, LessNumber, LessGate, EntryMentions, HasBase, IsScoped, IsFree, set_number, fill, empty, forgets, forgotten, without_copies, without_index, without_base}, Typed.{ints_in, refs_in, moved_copy}}
 use Rattle.sharc_invariant.proofs.Scoped.{less_refl, less_entry_refl, less_number_refl, scoped_number}

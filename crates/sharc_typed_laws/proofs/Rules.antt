@@ -1,8 +1,8 @@
 -- Each operation by itself: what is asked of what is said before its line, and what may be said before the next one.
 use Rattle.std.proofs.{Common.{◌≡◌, ℕ, ◌+◌, ◌<◌, ◌≤◌, true, List, [], Some, subst, inl, inr, ℤ}, lemmas.Bool.false≢true, lemmas.Option.none-some}
 use Rattle.sharc_code.specs.{declared.instr.Operator.Operator, declared.instr.Width.Width, declared.instr.Width.TheVariants.{Char, Int, Long}, Runs.put}
-use Rattle.sharc_flat_form.specs.{declared.op.Op.Op, declared.op.Spot.Spot, Framed.{IsWide, OpWrites}}
-use Rattle.sharc_flat_form.specs.declared.op.Op.TheVariants as op
+use Rattle.sharc_flat.specs.{declared.op.Op.Op, declared.op.Spot.Spot, Framed.{IsWide, OpWrites}}
+use Rattle.sharc_flat.specs.declared.op.Op.TheVariants as op
 use Rattle.sharc_guard.specs.Known.{Access, access, Know, know_next, is_straight}
 use Rattle.sharc_invariant.specs.{Types.{StaticType, cells_of}, Labels.{Refers, Exactly, Within, Indexes, OfElement, OfGlobal, Element, Closed, Pass, IsIn, Label, Less, Fresh, IsScoped, IsFree, set_number, fill, empty, knows, without_base}, Typed.{IsVacant, Fits as FitsWidth, Operands, IsElement, ints_in, refs_in}}
 use Rattle.sharc_typed_laws.specs.{Passes.with_passes, Stretches.{Mark, Setting, Tells, Fits, IsTypedAt, IsAtHand, IsLine}}

@@ -3,8 +3,8 @@ use Rattle.std.proofs.{Common.{◌⊎◌, ◌≡◌, ℕ, pos, zero, suc, ◌+�
 use Rattle.std.specs.Prelude.{slice_get, slice_index, slice_index_or, nat_lt, nat_eq, if◌then◌else◌}
 use Rattle.sharc_code.specs.{declared.code.Code.Code, declared.code.GlobalCells.GlobalCells, declared.instr.Width.Width, declared.instr.Width.TheVariants.{Int, Long}, Machine.{function_of, no_function}, Says.no_global}
 use Rattle.sharc_code.specs.declared.instr.Cell.TheVariants as cells
-use Rattle.sharc_flat_form.specs.{declared.op.Op.Op, Machine.{function_of as flat_function}}
-use Rattle.sharc_flat_form.specs.declared.op.Op.TheVariants as op
+use Rattle.sharc_flat.specs.{declared.op.Op.Op, Machine.{function_of as flat_function}}
+use Rattle.sharc_flat.specs.declared.op.Op.TheVariants as op
 use Rattle.sharc_guard.specs.Known.{SimplePlace, in_global, Access, access, place_of, known}
 use Rattle.sharc_invariant.specs.{Types.{AreTargets, StaticType, ObjectType, Field, CellMode, field_at, field_in, field_of_cell, global_field, mode_in, mode_at, type_in, is_private, is_pointer, is_mutex, no_field}, Types.FieldMode.{Racy, Dynamic}, Types.Content.{Integer, Pointer}, Labels.{Exactly, Closed, Pass, IsIn, Label, Labels, Less, IsScoped}, Typed.{AreGlobals, Initial, MayStart, IsInGlobal, refs_in, ints_in, entry_label}}
 use Rattle.sharc_invariant.proofs.Scoped.{less_refl, scoped_number}

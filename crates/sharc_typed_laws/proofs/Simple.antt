@@ -7,9 +7,8 @@ use Rattle.sharc_code.specs.declared.instr.Register.TheVariants as registers
 use Rattle.sharc_code.proofs.Places.{put_same, put_other, put_all}
 use Rattle.sharc_mode.specs.{Cells.pointed, Rows.row_at, Sharings.Sharing}
 use Rattle.sharc_meaning.specs.{Cells.element_cells, State.is_reference}
-use Rattle.sharc_flat_form.specs.{declared.op.Op.Op, declared.op.Spot.Spot}
-use Rattle.sharc_flat_form.specs.declared.op.Op.TheVariants as op
-use Rattle.sharc_flat.specs.{declared.slot.Lvalue.Lvalue, Scope.{Context, int_count, ref_count, register_of, at_site}, Places.{Target, variable, in_global, in_global_at, in_object, in_object_at, base_width, index_width, width_of, width_code, store_code, cell_store_code, settle_code}, Flattened.{kind_of, is_ref, target_of, mode_of, lvalue_in, guard_of, expression_code, place_code, elements_code, right_code, simple_code, drop_code}, Suits.is_cell}
+use Rattle.sharc_flat.specs.{declared.op.Op.Op, declared.op.Spot.Spot, declared.slot.Lvalue.Lvalue, Scope.{Context, int_count, ref_count, register_of, at_site}, Places.{Target, variable, in_global, in_global_at, in_object, in_object_at, base_width, index_width, width_of, width_code, store_code, cell_store_code, settle_code}, Flattened.{kind_of, is_ref, target_of, mode_of, lvalue_in, guard_of, expression_code, place_code, elements_code, right_code, simple_code, drop_code}, Suits.is_cell}
+use Rattle.sharc_flat.specs.declared.op.Op.TheVariants as op
 use Rattle.sharc_invariant.specs.{Types.StaticType, Labels.{Refers, Element, Number, Exactly, Within, OfElement, Closed, Label, LessNumber, fill, set_number}, Typed.{ints_in, refs_in}}
 use Rattle.sharc_invariant.proofs.Scoped.{less_entry_refl, less_number_refl, scoped_fill}
 use Rattle.sharc_typed_laws.specs.{Passes.IsNumberOf, Stretches.{Mark, Setting, Way, AreOpen}, Places.{IsNamed, IsPlain, AreLow, mark}, Premises.{Typing, IsPointerCopy, Ground, number_in_global}, Typable.{IsBare, IsTypeIn, ground_of, IsTypable}, Stated.{IsMade, CountTypable, ValueGoes, RightTypable, VariableAssigned, CellAssigned, Assigned, Dropped, SimpleTypable}}

@@ -4,9 +4,8 @@ use Rattle.sharc_code.specs.declared.code.Parameter.TheVariants as parameters
 use Rattle.sharc_code.specs.declared.instr.Register.TheVariants as registers
 use Rattle.sharc_code.specs.{declared.instr.Width.Width, declared.instr.Width.TheVariants.Char, Machine.function_of, Runs.put}
 use Rattle.sharc_code.proofs.Places.{put_same, put_other, put_all}
-use Rattle.sharc_flat_form.specs.{declared.op.Op.Op, declared.op.Spot.Spot}
-use Rattle.sharc_flat_form.specs.declared.op.Op.TheVariants as op
-use Rattle.sharc_flat.specs.Scope.{Context, ref_count}
+use Rattle.sharc_flat.specs.{declared.op.Op.Op, declared.op.Spot.Spot, Scope.{Context, ref_count}}
+use Rattle.sharc_flat.specs.declared.op.Op.TheVariants as op
 use Rattle.sharc_invariant.specs.{Types.StaticType, Labels.{Empty, Refers, Number, Anything, Within, Label, LessNumber, LessEntry, EntryMentions, HasBase, fill, empty, set_number, without_copies, without_index}, Typed.{Passes, IsShared, ints_in, refs_in}}
 use Rattle.sharc_invariant.proofs.Scoped.{less_entry_refl, less_number_refl}
 use Rattle.sharc_typed_laws.specs.{Passes.with_passes, Stretches.{Mark, Setting}, Places.{IsNamed, mark}, Premises.Typing}

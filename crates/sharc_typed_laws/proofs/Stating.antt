@@ -3,9 +3,8 @@ use Rattle.std.proofs.{Common.{◌≡◌, ℕ, ◌+◌, ◌<◌, ◌≤◌, Bool
 use Rattle.sharc_tree.specs.{declared.token.Site.Site, Spans.span_of, declared.tree.statement.Jump.TheVariants.{Break, Continue}, Tree.{Expression, Simple, Local, First, nothing, declares, does, Statement, empty, block, declare, simple, jump, return, if_then, if_then_else, while, for, Statements, no_statements, statement}}
 use Rattle.sharc_names.specs.Kinds.{declared_kind}
 use Rattle.sharc_meaning.specs.State.{is_reference}
-use Rattle.sharc_flat_form.specs.{declared.op.Op.Op, declared.op.Spot.Spot}
-use Rattle.sharc_flat_form.specs.declared.op.Op.TheVariants as op
-use Rattle.sharc_flat.specs.{Places.{width_of, width_code}, Scope.{Context, int_count, ref_count, leaves, ends_from, at_site, slot_of}, Suits.is_declaration, Flattened.{Around, opened, looping, expression_code, zero_code, result_code, return_code, test_code, turn_code, step_code, first_code, simple_code, local_code, loop_code, with_variable, behind_first, behind_statement, behind_statements, statement_code, statements_code}}
+use Rattle.sharc_flat.specs.{declared.op.Op.Op, declared.op.Spot.Spot, Places.{width_of, width_code}, Scope.{Context, int_count, ref_count, leaves, ends_from, at_site, slot_of}, Suits.is_declaration, Flattened.{Around, opened, looping, expression_code, zero_code, result_code, return_code, test_code, turn_code, step_code, first_code, simple_code, local_code, loop_code, with_variable, behind_first, behind_statement, behind_statements, statement_code, statements_code}}
+use Rattle.sharc_flat.specs.declared.op.Op.TheVariants as op
 use Rattle.sharc_invariant.specs.Types.{StaticType, Mentions}
 use Rattle.sharc_typed_laws.specs.{Stretches.{Mark, Setting, Way, LeadsAmong, LeadsFrom}, Places.IsNamed, Premises.Typing, LabelsLaws.{SimplesAreTyped, TestsAreTyped}, Stated.SimpleTypable, Declared.{Begins, LocalTypable, StandsBefore, before, LocalsAreTyped}, Begun.{label_of, LabelsStand}, Blocks.{BlocksAreTyped, BlocksLead}, Decided.{loop_ways, DecisionsLead, DecisionsAreTyped}, Ended.EndsAreTyped, Left.{IsOpen, LeavesAreTyped, JumpsAreTyped}, Returned.{GivesBack, ReturnTypable, Returns, NothingReturns, ValuesReturn}, Statements.{TestTypable, StepTypable, DeclaredTypable, FirstTypable, StatementTypable, StatementsTypable}, Functions.IsLowTyping}
 use Rattle.sharc_typed_laws.proofs.{Growing.{Extends, AreNamed, Nest, extends_same, extends_through, grows_by, ends_are, nest_both, nest_named, nested}, StatementAlike.same_label, Closing.last_line}

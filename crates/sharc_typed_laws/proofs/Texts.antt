@@ -1,11 +1,10 @@
 -- A line of told texts that is typed is typed with its texts where they lie: no text is looked at.
 use Rattle.std.proofs.{Common.{◌≡◌, ℕ, ◌+◌, Bool, true, false, List, Some, refl, sym, ap, ◌∙◌, subst}, lemmas.Option.{same_Some, none-some}}
-use Rattle.sharc_shadow.specs.declared.shadow_word.Kind.TheVariants.{Read, Write}
+use Rattle.sharc_heap.specs.declared.shadow_word.Kind.TheVariants.{Read, Write}
 use Rattle.sharc_code.specs.{declared.code.Code.Code, declared.code.PlaceMode.PlaceMode, declared.code.Text.Text, declared.instr.Cell.Cell}
 use Rattle.sharc_code.specs.declared.code.PlaceMode.TheVariants as modes
-use Rattle.sharc_flat.specs.Laid.{told_by, with_texts}
-use Rattle.sharc_flat_form.specs.{declared.op.Op.Op, declared.op.Spot.Spot}
-use Rattle.sharc_flat_form.specs.declared.op.Op.TheVariants as op
+use Rattle.sharc_flat.specs.{Laid.{told_by, with_texts}, declared.op.Op.Op, declared.op.Spot.Spot}
+use Rattle.sharc_flat.specs.declared.op.Op.TheVariants as op
 use Rattle.sharc_guard.specs.Known.{is_straight, leads_to, Access, access, Know, know_next}
 use Rattle.sharc_invariant.specs.{Types.{Targets, StaticType, Field}, Labels.{Refers, Within, Closed, Pass, IsIn, Label, Labels, Less, set_number, fill, empty, gated}}
 use Rattle.sharc_typed_laws.specs.{Inside.{lock_of, known_behind, gate_behind, passed_behind, behind}, Lines.{MayPass, PassesCheck, Loads, Stores, LoadsReference, StoresReference, Makes, TypedLine}, Passes.{with_passes, with_all, remembered, RepeatsCheck}, Stretches.{Mark, Setting, labels_by, Tells, IsAtHand, IsLine}}

@@ -4,9 +4,9 @@ use Rattle.std.specs.{List.AllByRecursion, Prelude.{slice_get, slice_index_or}}
 use Rattle.sharc_code.specs.{declared.code.Code.Code, declared.code.PlaceMode.PlaceMode, declared.instr.Cell.Cell, declared.instr.Instr.Instr, declared.instr.Instr.TheVariants.{Jump, JumpIfZero, JumpIfNull, Call, Return, Load, Store, LoadRef, Exchange, TakeCell, Exit}, Says.place_at}
 use Rattle.sharc_code.specs.declared.code.PlaceMode.TheVariants as modes
 use Rattle.sharc_code.specs.declared.instr.Cell.TheVariants as cells
-use Rattle.sharc_flat_form.specs.{declared.op.Op.Op, declared.op.Spot.Spot}
-use Rattle.sharc_flat_form.specs.declared.op.Op.TheVariants as op
-use Rattle.sharc_gen.specs.Generated.{instr_of}
+use Rattle.sharc_flat.specs.{declared.op.Op.Op, declared.op.Spot.Spot}
+use Rattle.sharc_flat.specs.declared.op.Op.TheVariants as op
+use Rattle.sharc_compile.specs.Generated.{instr_of}
 use Rattle.sharc_guard.specs.Guard.{check_under, expand, expanded, width, offset, place, source_of}
 use Rattle.sharc_invariant.specs.{Types.{Targets, StaticType, Field, FieldMode, Content}, Types.FieldMode.{Private, Readonly, Racy, Dynamic, Under, Behind}, Labels.{Label, Labels, Less, IsScoped, IsFree, empty, knows}, Typed.{Fine, Calls, Accesses, MayAccess, ints_in, refs_in}}
 use Rattle.sharc_typed_laws.specs.{Steps.{all_at, Steps, Chain, first_or}, Inside.{FlatLabels, outside, inside, before_check, known_behind, gate_behind, passed_behind, labels_from}, Lines.{TypedLine, To}}

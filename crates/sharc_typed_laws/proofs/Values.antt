@@ -2,8 +2,8 @@
 use Rattle.std.proofs.{Common.{◌≡◌, ℕ, ◌+◌, ◌<◌, ◌≤◌, Bool, true, false, List, [], ◌∷◌, Some, refl, sym, ap, ◌∙◌, subst, inl, ⊎_elim, arith}, lemmas.Bool.{false≢true, cases_eq, cases_lt}}
 use Rattle.sharc_code.specs.{declared.instr.Cell.Cell, declared.instr.Width.Width, Runs.put}
 use Rattle.sharc_code.proofs.Places.{put_same, put_other, put_all}
-use Rattle.sharc_flat_form.specs.{declared.op.Op.Op, declared.op.Spot.Spot, Framed.OpWrites}
-use Rattle.sharc_flat_form.specs.declared.op.Op.TheVariants as op
+use Rattle.sharc_flat.specs.{declared.op.Op.Op, declared.op.Spot.Spot, Framed.OpWrites}
+use Rattle.sharc_flat.specs.declared.op.Op.TheVariants as op
 use Rattle.sharc_invariant.specs.{Types.{StaticType, Field, FieldType, Mentions}, Types.FieldMode.Readonly, Types.Content.{Integer, Pointer}, Labels.{Empty, Refers, Number, Anything, Within, Gate, Closed, Loaded, Label, Less, LessNumber, LessEntry, LessGate, EntryMentions, IsScoped, set_number, fill, empty, without_copies, without_index}, Typed.{IsVacant, PointsTo, HasCell, Fits as FitsWidth, ints_in, refs_in}}
 use Rattle.sharc_invariant.proofs.Scoped.{less_refl, less_entry_refl, less_number_refl, scoped_fill}
 use Rattle.sharc_typed_laws.specs.{Passes.IsNumberOf, Stretches.{Mark, Setting, Fits, IsAtHand, IsLine}, Places.{IsNamed, MayReach, mark}}

@@ -2,9 +2,8 @@
 use Rattle.std.proofs.{Common.{◌≡◌, ◌≢◌, ℕ, ◌+◌, ◌<◌, ◌≤◌, ◌⊎◌, Bool, true, false, List, [], ◌∷◌, ◌++◌, Some, refl, sym, ap, ◌∙◌, subst, inr, ⊎_elim, arith}, lemmas.Bool.{false≢true, cases_eq, cases_lt}}
 use Rattle.sharc_code.specs.{declared.instr.Cell.Cell, Runs.put}
 use Rattle.sharc_code.proofs.Places.{put_same, put_other, put_all}
-use Rattle.sharc_flat_form.specs.{declared.op.Op.Op, declared.op.Spot.Spot}
-use Rattle.sharc_flat_form.specs.declared.op.Op.TheVariants as op
-use Rattle.sharc_flat.specs.{Scope.{Context, ref_count}, Flattened.{first_cell_of, wait_code}}
+use Rattle.sharc_flat.specs.{declared.op.Op.Op, declared.op.Spot.Spot, Scope.{Context, ref_count}, Flattened.{first_cell_of, wait_code}}
+use Rattle.sharc_flat.specs.declared.op.Op.TheVariants as op
 use Rattle.sharc_invariant.specs.{Types.{StaticType, field_at, cells_of}, Types.Content.{MutexWord, Waiters}, Labels.{Empty, Refers, Gate, Closed, Holds, Label, Less, LessNumber, LessEntry, EntryMentions, IsScoped, fill, gated, knows}, Typed.{HasCell, ints_in, refs_in}}
 use Rattle.sharc_invariant.proofs.Scoped.{less_refl, less_entry_refl, less_number_refl, scoped_fill}
 use Rattle.sharc_typed_laws.specs.{Stretches.{Mark, Setting}, Places.{IsNamed, mark}, Premises.{Typing, HasMutex, HasWaiters}, Typable.FirstCell}

@@ -2,9 +2,8 @@
 use Rattle.std.proofs.Common.{◌≡◌, ℕ, zero, suc, ◌+◌, ◌<◌, ◌⊎◌, Bool, true, List, [], ◌∷◌, length, map, Some, None, refl, sym, ap, ◌∙◌, subst, inl, inr, arith}
 use Rattle.std.specs.{List.AllByRecursion, Prelude.{slice_get, slice_index_or}}
 use Rattle.sharc_code.specs.{declared.code.Code.Code, declared.code.Function.Function, declared.instr.Instr.Instr, declared.instr.Instr.TheVariants.{Start, Exit}, Machine.{instr_at, function_of, no_function}, Says.{place_at, no_place}}
-use Rattle.sharc_compile.specs.Made.{IsCodeOf}
-use Rattle.sharc_flat_form.specs.{declared.flat.Flat.{Flat as FlatCode}, declared.op.Op.Op, Machine.{function_of as flat_function}, Made.flat_of}
-use Rattle.sharc_gen.specs.Generated.{instr_of, generated}
+use Rattle.sharc_compile.specs.{Made.IsCodeOf, Generated.{instr_of, generated}}
+use Rattle.sharc_flat.specs.{declared.flat.Flat.{Flat as FlatCode}, declared.op.Op.Op, Machine.{function_of as flat_function}, Made.flat_of}
 use Rattle.sharc_guard.specs.{Guard.{expanded, place, source_of, entered_at}, Known.dropped}
 use Rattle.sharc_invariant.specs.{Types.Targets, Labels.{Label, Labels, IsScoped, Leads}, Typed.{Fine, IsWellTyped, MayStart, ints_in, refs_in, entry_label}}
 use Rattle.sharc_invariant.proofs.Scoped.{less_refl}

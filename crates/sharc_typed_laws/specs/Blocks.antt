@@ -1,8 +1,7 @@
 -- Statements and blocks at a line.
 use Rattle.std.specs.Prelude.{ℕ, ◌+◌, List, [], ◌∷◌, ◌++◌}
-use Rattle.sharc_flat_form.specs.declared.op.Op.{Op}
-use Rattle.sharc_flat_form.specs.declared.op.Op.TheVariants as op
-use Rattle.sharc_flat.specs.{declared.slot.Slot.Slot, Scope.{Context, ref_count, pops}}
+use Rattle.sharc_flat.specs.{declared.op.Op.Op, declared.slot.Slot.Slot, Scope.{Context, ref_count, pops}}
+use Rattle.sharc_flat.specs.declared.op.Op.TheVariants as op
 use Rattle.sharc_invariant.specs.Labels.{Label}
 use Rattle.sharc_typed_laws.specs.{Stretches.{Mark, Setting, Way, LeadsAmong, LeadsFrom}, Places.AreLow}
 use Rattle.sharc_typed_laws.specs.{Premises.Typing, Declared.{StandsBefore, before}, Ended.Grows}

@@ -1,8 +1,7 @@
 -- The code of choices and of loops at a line, of typed code at the lines of its parts.
 use Rattle.std.specs.Prelude.{ℕ, ◌+◌, ◌≡◌, List, [], ◌∷◌, ◌++◌, length, Bool, Some}
-use Rattle.sharc_flat_form.specs.declared.op.Op.{Op}
-use Rattle.sharc_flat_form.specs.declared.op.Op.TheVariants as op
-use Rattle.sharc_flat.specs.Flattened.{if_code, choice_code, loop_code, body_at}
+use Rattle.sharc_flat.specs.{declared.op.Op.Op, Flattened.{if_code, choice_code, loop_code, body_at}}
+use Rattle.sharc_flat.specs.declared.op.Op.TheVariants as op
 use Rattle.sharc_invariant.specs.Labels.{Label}
 use Rattle.sharc_typed_laws.specs.{Stretches.{Mark, Setting, Way, LeadsFrom}, Places.{RegistersStand, mark}}
 

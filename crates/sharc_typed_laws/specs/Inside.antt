@@ -7,8 +7,8 @@ use Rattle.sharc_code.specs.declared.code.PlaceMode.TheVariants.{Dynamic, Locked
 use Rattle.sharc_code.specs.declared.code.PlaceMode.TheVariants.{LockedLoaded}
 use Rattle.sharc_code.specs.declared.instr.Cell.{Cell}
 use Rattle.sharc_code.specs.declared.instr.Cell.TheVariants as cells
-use Rattle.sharc_flat_form.specs.{declared.op.Op.Op, declared.op.Spot.Spot}
-use Rattle.sharc_flat_form.specs.declared.op.Op.TheVariants as op
+use Rattle.sharc_flat.specs.{declared.op.Op.Op, declared.op.Spot.Spot}
+use Rattle.sharc_flat.specs.declared.op.Op.TheVariants as op
 use Rattle.sharc_invariant.specs.Types.{Targets, StaticType, cells_of}
 use Rattle.sharc_invariant.specs.Labels.{Entry, Refers, Nth, Number, Anything, OfElement, OfGlobal, Gate, Closed}
 use Rattle.sharc_invariant.specs.Labels.{Checked, Holds, Loaded, HoldsLoaded, Sole, Pass, Label, Labels, Empty, fill}

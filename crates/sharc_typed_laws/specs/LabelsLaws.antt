@@ -5,8 +5,7 @@ use Rattle.sharc_tree.specs.{declared.token.Site.Site, declared.tree.expression.
 use Rattle.sharc_tree.specs.Tree.{Expression, Simple}
 use Rattle.sharc_names.specs.Kinds.{is_integer}
 use Rattle.sharc_code.specs.declared.instr.Width.TheVariants.{Char}
-use Rattle.sharc_flat_form.specs.{declared.op.Op.Op, Machine.Flat}
-use Rattle.sharc_flat.specs.Places.{pointee_code, width_of}
+use Rattle.sharc_flat.specs.{declared.op.Op.Op, Machine.Flat, Places.{pointee_code, width_of}}
 use Rattle.sharc_flat.specs.Flattened.{kind_of, is_ref, expression_code, simple_code, drop_code, truth_code}
 use Rattle.sharc_flat.specs.Flattened.{compare_code, logical_code, either_code}
 use Rattle.sharc_flat.specs.Scope.{Context, int_count, ref_count}
@@ -95,7 +94,8 @@ module _ (z : Setting) (f : ℕ) (ways : List Way) (named : ℕ → Bool) (top f
 -- The parts of expressions that speak of no type of the source, where the first registers of a frame are taken.
 abbrev pub PartsAreTyped : Type 0
 PartsAreTyped = (z : Setting) (f : ℕ) (ways : List Way) (named : ℕ → Bool) (top from i r : ℕ) (l : Label)
-    → AreLow named top → top ≤ r → RegistersStand named i r l → l.function ≡ Some f → PartsLead z f ways named top from i r l
+    → AreLow named top → top ≤ r → RegistersStand named i r l → l.function ≡ Some f
+    → PartsLead z f ways named top from i r l
 
 -- ---- expressions
 module _ (z : Setting) (f : ℕ) (ways : List Way) (y : Typing) (c : Context) (from i r : ℕ) (l : Label) (os : List Op)

@@ -1,8 +1,7 @@
 -- How blocks are left: one after the other, and by jumps.
 use Rattle.std.specs.Prelude.{ℕ, ◌≡◌, ◌⊎◌, List, [], ◌∷◌, ◌++◌, take, drop}
-use Rattle.sharc_flat_form.specs.declared.op.Op.{Op}
-use Rattle.sharc_flat_form.specs.declared.op.Op.TheVariants as op
-use Rattle.sharc_flat.specs.Scope.{Context, ref_count, leaves}
+use Rattle.sharc_flat.specs.{declared.op.Op.Op, Scope.{Context, ref_count, leaves}}
+use Rattle.sharc_flat.specs.declared.op.Op.TheVariants as op
 use Rattle.sharc_invariant.specs.Labels.{Label}
 use Rattle.sharc_typed_laws.specs.{Stretches.{Mark, Setting, Way, LeadsAmong}, Places.AreLow, Premises.Typing}
 use Rattle.sharc_typed_laws.specs.{Declared.{StandsBefore, before}, Ended.Grows}

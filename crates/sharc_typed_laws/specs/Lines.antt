@@ -4,10 +4,9 @@ use Rattle.std.specs.Prelude.{ℕ, ◌+◌, ◌≡◌, ◌≢◌, ◌<◌, ◌�
 use Rattle.std.specs.Prelude.{None}
 use Rattle.sharc_code.specs.{declared.code.Code.Code, declared.instr.Cell.Cell, declared.instr.Instr.Instr}
 use Rattle.sharc_code.specs.declared.instr.Width.{Width}
-use Rattle.sharc_flat_form.specs.{declared.op.Op.Op, declared.op.Spot.Spot}
-use Rattle.sharc_flat_form.specs.Machine.{Flat, function_of as flat_function}
-use Rattle.sharc_flat_form.specs.declared.op.Op.TheVariants as op
-use Rattle.sharc_gen.specs.Generated.{instr_of}
+use Rattle.sharc_flat.specs.{declared.op.Op.Op, declared.op.Spot.Spot, Machine.{Flat, function_of as flat_function}}
+use Rattle.sharc_flat.specs.declared.op.Op.TheVariants as op
+use Rattle.sharc_compile.specs.Generated.{instr_of}
 use Rattle.sharc_guard.specs.Guard.{body}
 use Rattle.sharc_invariant.specs.Types.{Targets, AreTargets, StaticType, Field, FieldType, FieldLock, FieldMode}
 use Rattle.sharc_invariant.specs.Types.{Content, cells_of, field_of_cell, is_pointer, Mentions}

@@ -2,13 +2,13 @@
 -- whatever is remembered.
 use Rattle.std.specs.Prelude.{ℕ, zero, suc, pos, ◌+◌, ◌-◌, ◌*◌, ◌^◌, ◌≡◌, ◌≢◌, ◌<◌, ◌≤◌, Bool, true, false, not, List}
 use Rattle.std.specs.Prelude.{[], ◌∷◌, ◌++◌, length, filter, nat_lt, slice_get, Option, Some, None, if◌then◌else◌}
-use Rattle.sharc_shadow.specs.{declared.shadow_word.Kind.Kind, declared.shadow_word.Kind.TheVariants.{Read, Write}}
+use Rattle.sharc_heap.specs.{declared.shadow_word.Kind.Kind, declared.shadow_word.Kind.TheVariants.{Read, Write}}
 use Rattle.sharc_code.specs.{declared.code.Code.Code, declared.instr.Cell.Cell}
 use Rattle.sharc_code.specs.declared.instr.Cell.TheVariants as cells
-use Rattle.sharc_flat_form.specs.{declared.op.Op.Op, Machine.{Flat, function_of as flat_function}}
-use Rattle.sharc_flat_form.specs.declared.op.Op.TheVariants as op
-use Rattle.sharc_guard.specs.Known.{is_straight, leads_to, is_target, writes_ref, SimplePlace, in_variable, in_global, Access}
-use Rattle.sharc_guard.specs.Known.{access, tells, Know, place_of, known, drops}
+use Rattle.sharc_flat.specs.{declared.op.Op.Op, Machine.{Flat, function_of as flat_function}}
+use Rattle.sharc_flat.specs.declared.op.Op.TheVariants as op
+use Rattle.sharc_guard.specs.Known.{is_straight, leads_to, is_target, writes_ref, SimplePlace, in_variable, in_global}
+use Rattle.sharc_guard.specs.Known.{Access, access, tells, Know, place_of, known, drops}
 use Rattle.sharc_invariant.specs.Types.{Targets, AreTargets, StaticType, cells_of}
 use Rattle.sharc_invariant.specs.Labels.{Refers, Empty, Nth, Number, Anything, Exactly, OfElement, OfGlobal, Pass, IsIn}
 use Rattle.sharc_invariant.specs.Labels.{Label, Labels, IsScoped, without_base}

@@ -1,7 +1,7 @@
 -- What is known of a frame where so many of its registers are taken.
 use Rattle.std.specs.Prelude.{ℕ, ◌≡◌, ◌≢◌, ◌<◌, ◌≤◌, Bool, true, false, []}
 use Rattle.sharc_code.specs.declared.instr.Cell.{Cell}
-use Rattle.sharc_flat_form.specs.declared.op.Spot.{Spot}
+use Rattle.sharc_flat.specs.declared.op.Spot.{Spot}
 use Rattle.sharc_invariant.specs.Types.{StaticType, Field, Mentions}
 use Rattle.sharc_invariant.specs.Labels.{Empty, Number, Anything, Exactly, Within, Indexes, OfElement, OfGlobal, Closed}
 use Rattle.sharc_invariant.specs.Labels.{Label, EntryMentions, HasBase}

@@ -7,8 +7,8 @@ use Rattle.sharc_names.specs.declared.fault.Named.TheVariants as named
 use Rattle.sharc_code.specs.{declared.code.GlobalCells.GlobalCells, declared.code.Use.Use, declared.instr.Cell.Cell}
 use Rattle.sharc_code.specs.declared.instr.Width.{Width}
 use Rattle.sharc_mode.specs.Sharings.{Sharing}
-use Rattle.sharc_flat_form.specs.{declared.op.Spot.Spot, Machine.first_cell}
-use Rattle.sharc_flat.specs.{declared.slot.Lvalue.Lvalue, Scope.{Context, int_count, ref_count, register_of, number_in}}
+use Rattle.sharc_flat.specs.{declared.op.Spot.Spot, Machine.first_cell, declared.slot.Lvalue.Lvalue}
+use Rattle.sharc_flat.specs.Scope.{Context, int_count, ref_count, register_of, number_in}
 use Rattle.sharc_flat.specs.Places.{Target, in_global_at, in_object, in_object_at, has_base, cell_of, guard_cell}
 use Rattle.sharc_flat.specs.Places.{guard_field, spot_of}
 use Rattle.sharc_flat.specs.Flattened.{what_names}

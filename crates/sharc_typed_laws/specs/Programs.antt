@@ -4,9 +4,9 @@ use Rattle.sharc_tree.specs.{declared.token.Span.Span, declared.tree.declaration
 use Rattle.sharc_names.specs.declared.fault.Named.TheVariants as named
 use Rattle.sharc_ctype.specs.Resolved.{globals_in, named_at, function_at}
 use Rattle.sharc_mode.specs.Moded.{Assignment}
-use Rattle.sharc_mode_laws.specs.Constructs.{IsExpression}
-use Rattle.sharc_flat_form.specs.{declared.flat.Flat.{Flat as FlatCode}, Made.flat_of}
-use Rattle.sharc_flat.specs.{Correct.MayStart, Flattens.{Flattens, IsMainOf}, Laws.FitsMade, Tables.globals_of}
+use Rattle.sharc_check.specs.Constructs.{IsExpression}
+use Rattle.sharc_flat.specs.{declared.flat.Flat.{Flat as FlatCode}, Made.flat_of, Correct.MayStart}
+use Rattle.sharc_flat.specs.{Flattens.{Flattens, IsMainOf}, Laws.FitsMade, Tables.globals_of}
 use Rattle.sharc_compile.specs.Made.{IsCodeOf}
 use Rattle.sharc_invariant.specs.{Types.AreTargets, Labels.{Anything, Labels, EntryMentions}}
 use Rattle.sharc_invariant.specs.Typed.{IsPlain, AreGlobals, IsWellTyped}

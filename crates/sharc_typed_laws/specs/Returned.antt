@@ -3,10 +3,9 @@ use Rattle.std.specs.Prelude.{ℕ, ◌≡◌, Bool, true, false, List, ◌++◌,
 use Rattle.sharc_tree.specs.{Spans.span_of, Tree.Expression}
 use Rattle.sharc_names.specs.Kinds.{Kind, is_integer}
 use Rattle.sharc_meaning.specs.State.{is_reference}
-use Rattle.sharc_flat_form.specs.{declared.op.Op.Op, declared.op.Spot.Spot}
-use Rattle.sharc_flat_form.specs.declared.op.Op.TheVariants as op
-use Rattle.sharc_flat.specs.{Scope.{Context, int_count, ref_count, leaves}, Places.{width_of, width_code}}
-use Rattle.sharc_flat.specs.Flattened.{is_ref, expression_code, zero_code, result_code}
+use Rattle.sharc_flat.specs.{declared.op.Op.Op, declared.op.Spot.Spot, Scope.{Context, int_count, ref_count, leaves}}
+use Rattle.sharc_flat.specs.{Places.{width_of, width_code}, Flattened.{is_ref, expression_code, zero_code, result_code}}
+use Rattle.sharc_flat.specs.declared.op.Op.TheVariants as op
 use Rattle.sharc_invariant.specs.Types.{StaticType, Mentions}
 use Rattle.sharc_invariant.specs.{Labels.{Empty, Refers, Anything, Within, Label, IsScoped}, Typed.{ints_in, refs_in}}
 use Rattle.sharc_typed_laws.specs.{Stretches.{Mark, Setting, Way, IsLine, LeadsAmong}, Places.AreLow, Premises.Typing}

@@ -8,8 +8,8 @@ use Rattle.sharc_code.specs.declared.code.PlaceMode.TheVariants.{Dynamic as Dyna
 use Rattle.sharc_code.specs.{declared.instr.Width.TheVariants.Int, Machine.no_function, Says.no_site}
 use Rattle.sharc_code.specs.declared.code.Use.TheVariants as uses
 use Rattle.sharc_code.specs.declared.instr.Cell.TheVariants as cells
-use Rattle.sharc_flat_form.specs.{declared.op.Op.Op, declared.op.Spot.Spot, Machine.Flat}
-use Rattle.sharc_flat_form.specs.declared.op.Op.TheVariants as op
+use Rattle.sharc_flat.specs.{declared.op.Op.Op, declared.op.Spot.Spot, Machine.Flat}
+use Rattle.sharc_flat.specs.declared.op.Op.TheVariants as op
 use Rattle.sharc_invariant.specs.{Types.{Targets, Field, no_target, no_field}, Types.FieldMode.Dynamic}
 use Rattle.sharc_invariant.specs.Types.Content.{Integer}
 use Rattle.sharc_invariant.specs.Labels.{Empty, Anything, Exactly, Label, Signature, set_number}

@@ -2,7 +2,7 @@
 use Rattle.std.specs.Prelude.{ℕ, ◌+◌, ◌≡◌, ◌<◌, ◌≤◌, Bool, true, List, [], ◌∷◌, length, Some}
 use Rattle.sharc_code.specs.{declared.code.Code.Code, declared.instr.Cell.Cell}
 use Rattle.sharc_code.specs.declared.instr.Cell.TheVariants as cells
-use Rattle.sharc_flat_form.specs.{declared.op.Op.Op, Framed.OpWrites}
+use Rattle.sharc_flat.specs.{declared.op.Op.Op, Framed.OpWrites}
 use Rattle.sharc_guard.specs.Known.{is_straight, leads_to, Access, access, Know, know_next}
 use Rattle.sharc_invariant.specs.Types.{Targets, StaticType}
 use Rattle.sharc_invariant.specs.Labels.{Pass, IsIn, Label, Signature, Labels, Less, IsScoped}

@@ -29,8 +29,7 @@ use Rattle.sharc_flat.specs.Scope.{Context, int_count, ref_count, register_of}
 use Rattle.sharc_flat.specs.Places.{Target, variable, in_global, global_of, target, own_field, width_of}
 use Rattle.sharc_flat.specs.Flattened.{kind_of, is_ref, target_of, mode_of, lvalue_in, what_names, guard_of, behind_int}
 use Rattle.sharc_flat.specs.Flattened.{behind_ref, operator_of, layout_of}
-use Rattle.sharc_flat.specs.Suits.{Either, is_cell}
-use Rattle.sharc_flat_form.specs.Framed.{IsWide}
+use Rattle.sharc_flat.specs.{Suits.{Either, is_cell}, Framed.IsWide}
 use Rattle.sharc_invariant.specs.{Types.{StaticType, Content, field_at, cells_of}, Types.Content.{MutexWord, Waiters}}
 use Rattle.sharc_invariant.specs.Labels.{Entry, Empty, Refers, Unknown, Anything, Exactly, Within, Label, LessNumber}
 use Rattle.sharc_invariant.specs.Labels.{EntryMentions, HasBase}

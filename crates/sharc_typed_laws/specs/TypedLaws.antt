@@ -1,11 +1,10 @@
 -- The code of typed flat code is typed.
 use Rattle.std.specs.{Prelude.{ℕ, ◌≡◌, Bool, map}, List.AllByRecursion}
 use Rattle.sharc_code.specs.{declared.code.Code.Code, Says.place_at}
-use Rattle.sharc_flat_form.specs.{declared.flat.Flat.{Flat as FlatCode}, declared.op.Op.Op, Machine.Flat, Made.flat_of}
-use Rattle.sharc_flat_form.specs.declared.op.Op.TheVariants as op
-use Rattle.sharc_gen.specs.Generated.{instr_of}
+use Rattle.sharc_flat.specs.{declared.flat.Flat.{Flat as FlatCode}, declared.op.Op.Op, Machine.Flat, Made.flat_of}
+use Rattle.sharc_flat.specs.declared.op.Op.TheVariants as op
+use Rattle.sharc_compile.specs.{Generated.instr_of, Made.IsCodeOf}
 use Rattle.sharc_guard.specs.{Guard.{expand, source_of}, Known.dropped}
-use Rattle.sharc_compile.specs.Made.{IsCodeOf}
 use Rattle.sharc_invariant.specs.{Types.{Targets, StaticType}, Labels.{Label, Labels, IsScoped}}
 use Rattle.sharc_invariant.specs.Typed.{IsWellTyped, ints_in, refs_in}
 use Rattle.sharc_typed_laws.specs.{Steps.Chain, Inside.{FlatLabels, inside, labels_of}, Lines.{TypedLine, IsTypedFlat}}

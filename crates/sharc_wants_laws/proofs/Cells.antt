@@ -5,9 +5,9 @@ use Rattle.sharc_tree.specs.{declared.event.CellAt.CellAt, declared.event.CellMo
 use Rattle.sharc_tree.specs.declared.event.CellMode.TheVariants as modes
 use Rattle.sharc_meaning.specs.{Cells.through, Events.Access, Reference.{is_null, number_of}}
 use Rattle.sharc_code.specs.{declared.code.Code.Code, declared.code.GlobalCells.GlobalCells, declared.code.SourcePlace.SourcePlace, declared.code.PlaceMode.PlaceMode, declared.code.PlaceMode.TheVariants.{Private, Readonly, Racy, Dynamic, LockedGlobal, LockedSibling, LockedThrough, LockedLoaded}, declared.instr.Cell.Cell, declared.instr.Cell.TheVariants.{Global, GlobalAt, Object as InObject, ObjectAt}, declared.shape.Shape.Shape, Arithmetic.word_of, Machine.{Machine, int, ref}, Says.{cell_at, global_cell, mode_of, no_global, made_cell, place_at, reference, lock_through}}
-use Rattle.sharc_guarded_form.specs.Machine as Form
-use Rattle.sharc_guarded_form.specs.Machine.{Program, Thread, source_at}
-use Rattle.sharc_gen.specs.{Consistent.{Elements, IsNumber}, Related.{IsReference, Same}}
+use Rattle.sharc_guard.specs.Machine as Form
+use Rattle.sharc_guard.specs.Machine.{Program, Thread, source_at}
+use Rattle.sharc_compile.specs.{Consistent.{Elements, IsNumber}, Related.{IsReference, Same}}
 use Rattle.sharc_wants_laws.specs.Wants.{access_at}
 use Rattle.sharc_lemmas.proofs.Numbers.{ne_eq}
 

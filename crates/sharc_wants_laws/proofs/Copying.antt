@@ -7,8 +7,8 @@ use Rattle.sharc_tree.specs.declared.event.Taken.TheVariants as taken
 use Rattle.sharc_tree.specs.declared.trap.Trap.TheVariants as traps
 use Rattle.sharc_meaning.specs.{declared.given.GivenUp.TheVariants.Replaced, Arithmetic.is_zero, Events.{held_mutexes, holds_mutex}, Reference.{is_null, elements_of}, References.refers, State.spent, Statements.is_positive}
 use Rattle.sharc_code.specs.{Arithmetic.{computed, negated, holds}, declared.code.GlobalCells.GlobalCells, declared.instr.Cell.Cell}
-use Rattle.sharc_flat_form.specs.{declared.op.Op.Op, declared.op.Spot.Spot, Machine.{Flat, At, Caller, Turn, goes, asks, halts, put, int, ref, goes_on, next, over_lines, stops, asserts, with_result, set_int, set_ref, gives_up, kind_of, cell_at, mode_of, accessed, accesses, lock_is_null, indexed, takes_local, returned, called, op_turn, end_turn, line_turn, turn, on_turn, exec}}
-use Rattle.sharc_flat_form.specs.declared.op.Op.TheVariants as op
+use Rattle.sharc_flat.specs.{declared.op.Op.Op, declared.op.Spot.Spot, Machine.{Flat, At, Caller, Turn, goes, asks, halts, put, int, ref, goes_on, next, over_lines, stops, asserts, with_result, set_int, set_ref, gives_up, take_kind_of, cell_at, cell_mode_of, accessed, accesses, lock_is_null, indexed, takes_local, returned, called, op_turn, end_turn, line_turn, turn, on_turn, exec}}
+use Rattle.sharc_flat.specs.declared.op.Op.TheVariants as op
 use Rattle.sharc_guard.specs.Counted.{Quietly}
 
 -- ---- what registers hold
@@ -64,7 +64,7 @@ skip_from false n m = same m
 accesses_from : (globals : List GlobalCells) (cell : Cell) (spot : Spot) (act : CellAt → CellMode → Act) (then_ : CellAt → ℤ → At → At) (m : At) → IsFrom m (accesses globals cell spot act then_ m)
 accesses_from globals cell spot act then_ m =
     cond_from (lock_is_null m spot spot.mode) (stops traps.NullPointer spot)
-    (asks m spot.site (act (cell_at globals m cell) (mode_of globals m (cell_at globals m cell) spot.mode)) (pos 0) (λ v n. accessed (next (then_ (cell_at globals m cell) v n)))) m tt tt
+    (asks m spot.site (act (cell_at globals m cell) (cell_mode_of globals m (cell_at globals m cell) spot.mode)) (pos 0) (λ v n. accessed (next (then_ (cell_at globals m cell) v n)))) m tt tt
 
 returned_from : (flat : Flat) (frames : List Caller) (spot : Spot) (m : At) → IsFrom m (returned flat frames spot m)
 returned_from flat [] spot m = cond_from (not (nat_lt 0 (length (held_mutexes m.events)))) (goes (record m { pc = length flat.lines })) (stops traps.ReturnWithLockHeld spot) m (same m) tt
@@ -93,7 +93,7 @@ op_from flat (op.Load i cell spot) m = accesses_from flat.globals cell spot acts
 op_from flat (op.Store i cell spot) m = accesses_from flat.globals cell spot (λ c mode. acts.Write c mode (int m i)) (λ c v n. n) m
 op_from flat (op.LoadRef r cell spot) m = accesses_from flat.globals cell spot acts.Read (λ c v. set_ref r v) m
 op_from flat (op.StoreRef r cell spot) m = accesses_from flat.globals cell spot (λ c mode. acts.Write c mode (ref m r)) (λ c v n. gives_up (Replaced c) (set_ref r (pos 0) n)) m
-op_from flat (op.TakeCell r cell spot) m = accesses_from flat.globals cell spot (λ c mode. acts.Take (taken.Cell c mode) (kind_of spot.at)) (λ c v. set_ref r v) m
+op_from flat (op.TakeCell r cell spot) m = accesses_from flat.globals cell spot (λ c mode. acts.Take (taken.Cell c mode) (take_kind_of spot.at)) (λ c v. set_ref r v) m
 op_from flat (op.TakeLocal r x spot) m = takes_from r x spot m (is_null (ref m x))
 op_from flat (op.Null r) m = λ k n is. (k, emptied m.refs (m.ref_base + r) k n is)
 op_from flat (op.Local r x) m = λ k n is. filled m.refs m.refs (m.ref_base + r) (m.ref_base + x) k n (λ j there. there) is

@@ -8,8 +8,7 @@ use Rattle.sharc_mode.specs.Moded.{Assignment}
 use Rattle.sharc_meaning.specs.{Obeys.History, Reference.number_of, References.{References, refers, has_pointer, takes_reference, passes, in_argument}, Store.{is_spawn, is_natural, spawns}}
 use Rattle.sharc_code.specs.{declared.code.Code.Code, declared.code.Function.{Function as Row}, Machine.{function_of, no_function}, Says.reference, declared.code.GlobalCells.GlobalCells}
 use Rattle.sharc_code.specs.declared.code.Parameter.TheVariants as parameters
-use Rattle.sharc_flat.specs.{Flattened.{function_code, parameter_of, rows_of}, Flattens.{names_of, Flattens}, Laid.AreNamed, Tables.globals_of}
-use Rattle.sharc_flat_form.specs.{declared.flat.Flat.{Flat as FlatCode}, Made.flat_of}
+use Rattle.sharc_flat.specs.{Flattened.{function_code, parameter_of, rows_of}, Flattens.{names_of, Flattens}, Laid.AreNamed, Tables.globals_of, declared.flat.Flat.{Flat as FlatCode}, Made.flat_of}
 use Rattle.sharc_guard.specs.{Guard.{entered_at, place}, Known.dropped}
 use Rattle.sharc_compile.specs.Made.{IsCodeOf}
 use Rattle.sharc_history_laws.specs.Seen.{IsGivenTo}

@@ -7,12 +7,11 @@ use Rattle.sharc_tree.specs.declared.event.Taken.TheVariants as taken
 use Rattle.sharc_tree.specs.declared.trap.Trap.TheVariants as traps
 use Rattle.sharc_meaning.specs.{declared.given.GivenUp.TheVariants.{Emptied, Replaced}, Events.{held_mutexes, holds_mutex}, Meaning.Asked, Reference.{is_null, elements_of, number_of}, Statements.is_positive}
 use Rattle.sharc_code.specs.{Arithmetic.{computed, negated, holds}, declared.code.Code.Code, declared.code.GlobalCells.GlobalCells, declared.instr.Cell.Cell, declared.code.Function.{Function as Row}, declared.instr.Instr.Instr, declared.instr.Instr.TheVariants.Free, declared.shape.Shape.Shape, declared.state.Stage.Stage, declared.state.Stage.TheVariants.{Empties, Lowers, FreeLooks, FreeClears, Uncounts, Links}, Machine.{Machine, instr_at}}
-use Rattle.sharc_flat_form.specs.{declared.op.Op.Op, declared.op.Spot.Spot, Machine.{Flat, At, Caller, Turn, goes, asks, halts, int, ref, goes_on, next, stops, asserts, with_result, set_int, set_ref, gives_up, kind_of, cell_at, mode_of, accessed, accesses, lock_is_null, indexed, takes_local, returned, called, op_turn, end_turn, line_turn, turn, on_turn, exec}}
-use Rattle.sharc_flat_form.specs.declared.op.Op.TheVariants as op
-use Rattle.sharc_guarded_form.specs.Machine as Form
-use Rattle.sharc_guarded_form.specs.Machine.{Program, Thread, statement_at}
-use Rattle.sharc_gen.specs.{Consistent.Elements, Generated.instr_of, Related.{IsAt, IsAtStage, IsInFree}}
-use Rattle.sharc_guard.specs.Counted.{Tells}
+use Rattle.sharc_flat.specs.{declared.op.Op.Op, declared.op.Spot.Spot, Machine.{Flat, At, Caller, Turn, goes, asks, halts, int, ref, goes_on, next, stops, asserts, with_result, set_int, set_ref, gives_up, take_kind_of, cell_at, cell_mode_of, accessed, accesses, lock_is_null, indexed, takes_local, returned, called, op_turn, end_turn, line_turn, turn, on_turn, exec}}
+use Rattle.sharc_flat.specs.declared.op.Op.TheVariants as op
+use Rattle.sharc_guard.specs.Machine as Form
+use Rattle.sharc_guard.specs.{Machine.{Program, Thread, statement_at}, Counted.Tells}
+use Rattle.sharc_compile.specs.{Consistent.Elements, Generated.instr_of, Related.{IsAt, IsAtStage, IsInFree}}
 use Rattle.sharc_wants_laws.specs.Emptying.{IsEmptying, is_emptying}
 
 -- ---- what is asked for
@@ -52,8 +51,8 @@ module _ (v : ℤ) where
       → IsFreed m v (accesses globals cell spot act then_ m)
   accesses_freed globals cell spot act then_ m differs =
       cond_freed (lock_is_null m spot spot.mode) (stops traps.NullPointer spot)
-      (asks m spot.site (act (cell_at globals m cell) (mode_of globals m (cell_at globals m cell) spot.mode)) (pos 0) (λ x n. accessed (next (then_ (cell_at globals m cell) x n)))) m tt
-      (other m m (act (cell_at globals m cell) (mode_of globals m (cell_at globals m cell) spot.mode)) (differs (cell_at globals m cell) (mode_of globals m (cell_at globals m cell) spot.mode)))
+      (asks m spot.site (act (cell_at globals m cell) (cell_mode_of globals m (cell_at globals m cell) spot.mode)) (pos 0) (λ x n. accessed (next (then_ (cell_at globals m cell) x n)))) m tt
+      (other m m (act (cell_at globals m cell) (cell_mode_of globals m (cell_at globals m cell) spot.mode)) (differs (cell_at globals m cell) (cell_mode_of globals m (cell_at globals m cell) spot.mode)))
 
   returned_freed : (flat : Flat) (frames : List Caller) (spot : Spot) (m : At) → IsFreed m v (returned flat frames spot m)
   returned_freed flat [] spot m = cond_freed (not (nat_lt 0 (length (held_mutexes m.events)))) (goes (record m { pc = length flat.lines })) (stops traps.ReturnWithLockHeld spot) m tt tt
@@ -83,7 +82,7 @@ module _ (v : ℤ) where
   op_freed flat (op.Store i cell spot) m = accesses_freed flat.globals cell spot (λ c mode. acts.Write c mode (int m i)) (λ c x n. n) m (λ c mode. refl)
   op_freed flat (op.LoadRef r cell spot) m = accesses_freed flat.globals cell spot acts.Read (λ c x. set_ref r x) m (λ c mode. refl)
   op_freed flat (op.StoreRef r cell spot) m = accesses_freed flat.globals cell spot (λ c mode. acts.Write c mode (ref m r)) (λ c x n. gives_up (Replaced c) (set_ref r (pos 0) n)) m (λ c mode. refl)
-  op_freed flat (op.TakeCell r cell spot) m = accesses_freed flat.globals cell spot (λ c mode. acts.Take (taken.Cell c mode) (kind_of spot.at)) (λ c x. set_ref r x) m (λ c mode. refl)
+  op_freed flat (op.TakeCell r cell spot) m = accesses_freed flat.globals cell spot (λ c mode. acts.Take (taken.Cell c mode) (take_kind_of spot.at)) (λ c x. set_ref r x) m (λ c mode. refl)
   op_freed flat (op.TakeLocal r x spot) m = takes_freed r x spot m (is_null (ref m x))
   op_freed flat (op.Free r layout spot) m = λ is. ap (λ (x : ℤ). m.given ++ Emptied (number_of x) ∷ []) (freed_value (ref m r) is)
   op_freed flat (op.LoadGuard cell spot) m = λ is. absurd (false≢true (ap is_freed is))

@@ -4,10 +4,9 @@ use Rattle.std.specs.Prelude.{slice_index_or}
 use Rattle.sharc_ctype.specs.Resolved.{functions_in}
 use Rattle.sharc_code.specs.{declared.code.Function.Function, declared.code.PlaceMode.PlaceMode, declared.code.PlaceMode.TheVariants.{Private, Readonly, Racy, Dynamic, LockedGlobal, LockedSibling, LockedThrough, LockedLoaded}, declared.instr.Cell.Cell, declared.instr.Operator.Operator, declared.instr.Width.Width, declared.instr.Width.TheVariants.{Char, Int, Long}, declared.instr.Instr.Instr}
 use Rattle.sharc_code.specs.declared.instr.Instr.TheVariants as instrs
-use Rattle.sharc_flat_form.specs.{declared.op.Op.Op, declared.op.Spot.Spot, Made.flat_of}
-use Rattle.sharc_flat_form.specs.declared.op.Op.TheVariants as op
-use Rattle.sharc_flat.specs.{Flattened.flattened, Tables.globals_of}
-use Rattle.sharc_gen.specs.Generated.{instr_of, generated}
+use Rattle.sharc_flat.specs.{declared.op.Op.Op, declared.op.Spot.Spot, Made.flat_of, Flattened.flattened, Tables.globals_of}
+use Rattle.sharc_flat.specs.declared.op.Op.TheVariants as op
+use Rattle.sharc_compile.specs.Generated.{instr_of, generated}
 use Rattle.sharc_guard.specs.{Guard.{check_under, compute, negate, expand, expanded, place}, Known.dropped}
 use Rattle.sharc_wants_laws.specs.Waits.{CodeWaits}
 use Rattle.sharc_wants_laws.proofs.Entering.{IsEntered, AllWait, all_functions, all_laid}

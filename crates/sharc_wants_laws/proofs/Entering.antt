@@ -11,9 +11,8 @@ use Rattle.sharc_meaning.specs.{State.is_reference, Cells.{element_cells, global
 use Rattle.sharc_code.specs.{declared.code.GlobalCells.GlobalCells, declared.code.Text.Text, declared.code.Use.Use, declared.instr.Cell.Cell, declared.instr.Register.Register}
 use Rattle.sharc_code.specs.declared.code.Use.TheVariants as uses
 use Rattle.sharc_code.specs.declared.instr.Register.TheVariants as registers
-use Rattle.sharc_flat_form.specs.{declared.op.Op.Op, declared.op.Spot.Spot, Machine.first_cell}
-use Rattle.sharc_flat_form.specs.declared.op.Op.TheVariants as op
-use Rattle.sharc_flat.specs.{declared.slot.Slot.Slot, declared.slot.Lvalue.Lvalue, Scope.{Context, at_site, pops, ends_from, leaves}, Places.{Target, index_width, base_width, global_of, own_field, target, variable, in_global, has_base, index_code, pointee_code, guard_code, drop_base, settle_base, copy_code, cell_value_code, value_code, settle_code, cell_store_code, store_code, cell_take_code, take_code, width_code, bounds_code}, Flattened.{kind_of, ints_of, refs_of, declared_lvalue, guard_of, lvalue_in, mode_of, is_ref, target_of, what_names, lvalue_code, constant_code, named_code, drop_code, truth_code, differ_code, compare_code, logical_code, either_code, unary_code, binary_code, wait_code, condition_code, called_code, passed_code, spawn_code, value_call_code, unlocked_code, place_call_code, cast_code, field_code, unary_place_code, expression_code, arguments_code, place_code, elements_code, right_code, simple_code, with_variable, zero_code, initial_code, local_code, first_code, behind_first, step_code, test_code, turn_code, Around, opened, looping, jump_code, result_code, return_code, if_code, choice_code, loop_code, behind_statement, statement_code, statements_code, behind_statements, in_function, around_body, function_code, functions_code}, Laid.{told_by, with_texts, AreLaid}}
+use Rattle.sharc_flat.specs.{declared.op.Op.Op, declared.op.Spot.Spot, Machine.first_cell, declared.slot.Slot.Slot, declared.slot.Lvalue.Lvalue, Scope.{Context, at_site, pops, ends_from, leaves}, Places.{Target, index_width, base_width, global_of, own_field, target, variable, in_global, has_base, index_code, pointee_code, guard_code, drop_base, settle_base, copy_code, cell_value_code, value_code, settle_code, cell_store_code, store_code, cell_take_code, take_code, width_code, bounds_code}, Flattened.{kind_of, ints_of, refs_of, declared_lvalue, guard_of, lvalue_in, mode_of, is_ref, target_of, what_names, lvalue_code, constant_code, named_code, drop_code, truth_code, differ_code, compare_code, logical_code, either_code, unary_code, binary_code, wait_code, condition_code, called_code, passed_code, spawn_code, value_call_code, unlocked_code, place_call_code, cast_code, field_code, unary_place_code, expression_code, arguments_code, place_code, elements_code, right_code, simple_code, with_variable, zero_code, initial_code, local_code, first_code, behind_first, step_code, test_code, turn_code, Around, opened, looping, jump_code, result_code, return_code, if_code, choice_code, loop_code, behind_statement, statement_code, statements_code, behind_statements, in_function, around_body, function_code, functions_code}, Laid.{told_by, with_texts, AreLaid}}
+use Rattle.sharc_flat.specs.declared.op.Op.TheVariants as op
 
 -- a mutex is unlocked, and then the thread waits at the cell
 pub record IsWaited (c : Cell) (os : List Op) : Type 0 where

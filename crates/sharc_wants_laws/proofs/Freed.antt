@@ -4,7 +4,7 @@ use Rattle.std.proofs.{Common.{◌≡◌, ◌≢◌, ◌⊎◌, ⊎_elim, ℕ, B
 use Rattle.std.specs.Prelude.{find, reverse}
 use Rattle.sharc_tree.specs.{declared.event.Object.TheVariants.Made, declared.event.SourceEvent.SourceEvent}
 use Rattle.sharc_meaning.specs.{Events.{events_of, is_of, makes}, References.{is_taken_to_free, refers, taken_to_free, takes_to_free}, Store.meets}
-use Rattle.sharc_meaning_laws.specs.Freeing.{TakesLast}
+use Rattle.sharc_wants_laws.specs.Freeing.{TakesLast}
 use Rattle.sharc_code.specs.{declared.code.Code.Code, declared.shape.Shape.Shape, Runs.Turn, Whole.CheckedRun}
 use Rattle.sharc_invariant.specs.World.{ObjectState}
 use Rattle.sharc_history_laws.specs.{History.history_of, Kept.Grows, Seen.RunsBegin}

@@ -4,10 +4,9 @@ use Rattle.sharc_tree.specs.{Low.IsLow, Placed.IsPlaced, declared.event.SourceEv
 use Rattle.sharc_ctype.specs.Resolved.{IsResolved}
 use Rattle.sharc_mode.specs.Moded.{Assignment}
 use Rattle.sharc_meaning.specs.{declared.given.GivenUp.GivenUp, declared.given.GivenUp.TheVariants.{Emptied, Released, Replaced}, Events.events_of, Laws.AskLaws, References.{Begun, asked_with, held_count}, Runs.{answers_of, by}}
-use Rattle.sharc_meaning_laws.specs.Held.{HeldAreHeldOn, released, releases}
+use Rattle.sharc_wants_laws.specs.{Held.{HeldAreHeldOn, released, releases}, Holding.IsLowered, InFlight.{IsInFlight, IsPastEvents, is_given}}
 use Rattle.sharc_code.specs.{declared.code.Code.Code, Machine.Machine}
 use Rattle.sharc_guard.specs.Counted.{IsReleased}
-use Rattle.sharc_wants_laws.specs.{Holding.IsLowered, InFlight.{IsInFlight, IsPastEvents, is_given}}
 
 -- ---- lists
 none_of : (A : Type 0) (xs : List A) → length xs ≡ 0 → xs ≡ []

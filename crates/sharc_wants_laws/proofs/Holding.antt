@@ -7,11 +7,9 @@ use Rattle.sharc_meaning.specs.{declared.given.GivenUp.GivenUp, declared.given.G
 use Rattle.sharc_meaning.specs.Meaning as Meaning
 use Rattle.sharc_code.specs.{declared.code.Code.Code, declared.instr.Instr.TheVariants.{Exit, TestSole, Free}, declared.shape.Shape.Shape, declared.code.Function.Function, Machine.{Machine, instr_at, no_function, function_of}, Says.reference}
 use Rattle.sharc_ctype.specs.Resolved.{function_at}
-use Rattle.sharc_flat_form.specs.{Machine.{Flat, At, Came, Turn, goes, asks, halts, turn, on_turn, exec, start}, Path.{at_after, asked, PathsAreRuns}}
-use Rattle.sharc_flat.specs.Correct.{AsksTheSame, MayStart}
-use Rattle.sharc_guarded_form.specs.{declared.guarded.Guarded.Guarded, Machine.{Program, Thread, statement_at}, Path.{started, thread_after}}
-use Rattle.sharc_gen.specs.{Consistent.{Elements, IsNumber}, Correct.{by, begins, HasCome}, Generated.{IsGenerated, instr_of, program_of}, Related.{IsReference, IsAt, IsLinking}}
-use Rattle.sharc_guard.specs.{Correct.Resolved, Counted.{AreLowered, GuardedCounts, IsReleased, IsReplaced, LocksStand, OnWay, Quietly}, Guard.{entered_at, guarded, place}, Level.IsLevel}
+use Rattle.sharc_flat.specs.{Machine.{Flat, At, Came, Turn, goes, asks, halts, turn, on_turn, exec, start}, Path.{at_after, asked, PathsAreRuns}, Correct.{AsksTheSame, MayStart}}
+use Rattle.sharc_guard.specs.{declared.guarded.Guarded.Guarded, Machine.{Program, Thread, statement_at}, Path.{started, thread_after}, Correct.Resolved, Counted.{AreLowered, GuardedCounts, IsReleased, IsReplaced, LocksStand, OnWay, Quietly}, Guard.{entered_at, guarded, place}, Level.IsLevel}
+use Rattle.sharc_compile.specs.{Consistent.{Elements, IsNumber}, Correct.{by, begins, HasCome}, Generated.{IsGenerated, instr_of, program_of}, Related.{IsReference, IsAt, IsLinking}}
 use Rattle.sharc_invariant.specs.Words.{is_freed, register_of}
 use Rattle.sharc_wants_laws.specs.{Holding.{IsAccounted, IsLowered, IsTested, IsHolding, IsHoldingThere}, Emptying.IsEmptying}
 use Rattle.sharc_wants_laws.proofs.{Emptying.{at_free, not_linking}, Testing.{test_is, no_free, tested}, SoleQuiet.{IsQuiet, line_quiet, same_given, given_in, given_same, given_path, are_own, beyond}, Wanting.{mapped_at, answers_by}}

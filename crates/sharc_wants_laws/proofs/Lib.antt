@@ -1,3 +1,15 @@
+mod Calls
+mod Closed
+mod Counts
+mod Expressions
+mod Freeing
+mod Held
+mod Runs
+mod Settled
+mod Statements
+mod Steps
+mod Taken
+mod Typed
 pub mod Alone
 pub mod Beginning
 pub mod Cause

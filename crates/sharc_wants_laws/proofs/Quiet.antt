@@ -9,8 +9,8 @@ use Rattle.sharc_code.specs.{Arithmetic.{computed, negated, holds}, declared.cod
 use Rattle.sharc_code.specs.declared.code.Parameter.TheVariants as parameters
 use Rattle.sharc_code.specs.declared.instr.Cell.TheVariants as cells
 use Rattle.sharc_code.specs.declared.instr.Register.TheVariants as registers
-use Rattle.sharc_flat_form.specs.{declared.op.Op.Op, declared.op.Spot.Spot, Machine.{Flat, At, Caller, Turn, goes, asks, halts, int, ref, goes_on, next, over_lines, stops, asserts, with_result, set_int, set_ref, gives_up, kind_of, cell_at, mode_of, accessed, accesses, lock_is_null, indexed, takes_local, returned, called, op_turn, end_turn, line_turn, turn, on_turn, exec, start, with_event}, Path.{after, at_after, asked, asked_by, IsPath, PathsAreRuns}}
-use Rattle.sharc_flat_form.specs.declared.op.Op.TheVariants as op
+use Rattle.sharc_flat.specs.{declared.op.Op.Op, declared.op.Spot.Spot, Machine.{Flat, At, Caller, Turn, goes, asks, halts, int, ref, goes_on, next, over_lines, stops, asserts, with_result, set_int, set_ref, gives_up, take_kind_of, cell_at, cell_mode_of, accessed, accesses, lock_is_null, indexed, takes_local, returned, called, op_turn, end_turn, line_turn, turn, on_turn, exec, start, with_event}, Path.{after, at_after, asked, asked_by, IsPath, PathsAreRuns}}
+use Rattle.sharc_flat.specs.declared.op.Op.TheVariants as op
 use Rattle.sharc_wants_laws.proofs.SoleQuiet.{given_same, no_events, base_events, handed_events}
 
 -- ---- what reports no event
@@ -43,7 +43,7 @@ accesses_quiet : (globals : List GlobalCells) (cell : Cell) (spot : Spot) (act :
     → IsQuiet m (accesses globals cell spot act then_ m)
 accesses_quiet globals cell spot act then_ m k =
     cond_quiet (lock_is_null m spot spot.mode) (stops traps.NullPointer spot)
-    (asks m spot.site (act (cell_at globals m cell) (mode_of globals m (cell_at globals m cell) spot.mode)) (pos 0) (λ v n. accessed (next (then_ (cell_at globals m cell) v n)))) m tt
+    (asks m spot.site (act (cell_at globals m cell) (cell_mode_of globals m (cell_at globals m cell) spot.mode)) (pos 0) (λ v n. accessed (next (then_ (cell_at globals m cell) v n)))) m tt
     (refl, k (cell_at globals m cell))
 
 returned_quiet : (flat : Flat) (frames : List Caller) (spot : Spot) (m : At) → IsQuiet m (returned flat frames spot m)
@@ -73,7 +73,7 @@ op_quiet flat (op.Load i cell spot) m = accesses_quiet flat.globals cell spot ac
 op_quiet flat (op.Store i cell spot) m = accesses_quiet flat.globals cell spot (λ c mode. acts.Write c mode (int m i)) (λ c v n. n) m (λ c v n. refl)
 op_quiet flat (op.LoadRef r cell spot) m = accesses_quiet flat.globals cell spot acts.Read (λ c v. set_ref r v) m (λ c v n. refl)
 op_quiet flat (op.StoreRef r cell spot) m = accesses_quiet flat.globals cell spot (λ c mode. acts.Write c mode (ref m r)) (λ c v n. gives_up (Replaced c) (set_ref r (pos 0) n)) m (λ c v n. refl)
-op_quiet flat (op.TakeCell r cell spot) m = accesses_quiet flat.globals cell spot (λ c mode. acts.Take (taken.Cell c mode) (kind_of spot.at)) (λ c v. set_ref r v) m (λ c v n. refl)
+op_quiet flat (op.TakeCell r cell spot) m = accesses_quiet flat.globals cell spot (λ c mode. acts.Take (taken.Cell c mode) (take_kind_of spot.at)) (λ c v. set_ref r v) m (λ c v n. refl)
 op_quiet flat (op.TakeLocal r x spot) m = takes_quiet r x spot m (is_null (ref m x))
 op_quiet flat (op.Free r layout spot) m = (refl, λ v n. refl)
 op_quiet flat (op.LoadGuard cell spot) m = (refl, λ v n. refl)

@@ -6,7 +6,7 @@ use Rattle.sharc_mode.specs.Moded.{Assignment}
 use Rattle.sharc_meaning.specs.{Events.events_of, References.{Begun, in_thread}}
 use Rattle.sharc_code.specs.{declared.code.Code.Code, declared.instr.Instr.TheVariants.TestSole, declared.shape.Shape.Shape, Machine.{Machine, instr_at, ref}, Path.begun, Runs.{Global, Turn, turns_of}, Whole.{CheckedRun, Erase, place_after}}
 use Rattle.sharc_flat.specs.Correct.{MayStart}
-use Rattle.sharc_gen.specs.{Consistent.IsConsistent, OfRuns.{elements_before, founds_of, told_in}}
+use Rattle.sharc_compile.specs.{Consistent.IsConsistent, OfRuns.{elements_before, founds_of, told_in}}
 use Rattle.sharc_invariant.specs.{MachineInvariant.register_refers, Words.{is_freed, register_of}}
 use Rattle.sharc_wants_laws.specs.{Seeing.{CastersHold, ThreadsSee}, Sole.{AreQuiet, HaveBegun, IsSeen, NoneIsInFlight}}
 use Rattle.sharc_lemmas.proofs.Bools.{yes}

@@ -7,12 +7,10 @@ use Rattle.sharc_mode.specs.Moded.{Assignment}
 use Rattle.sharc_meaning.specs.Meaning as Meaning
 use Rattle.sharc_meaning.specs.{Reference.{is_null, number_of}, References.refers, Runs.{IsNamedAt, answers_of}, State.{Outcome, wants, ended, stopped, spent}}
 use Rattle.sharc_code.specs.{declared.code.Code.Code, declared.code.Function.Function, declared.instr.Instr.Instr, declared.instr.Instr.TheVariants.{Exit, Free, Lower, MoveReference, RaiseLoaded, TestSole}, declared.shape.Shape.Shape, declared.state.Stage.Stage, declared.state.Stage.TheVariants.Links, declared.state.TurnState.TurnState, declared.state.TurnState.TheVariants.{Runs, Tries, Stopped, Ended}, declared.state.Stop.Stop, declared.state.Stop.TheVariants.{Conflict, NoLock, NotSole, Trap as Trapped}, Machine.{Machine, instr_at, no_function, function_of}, Path.may_go, Says.reference}
-use Rattle.sharc_flat_form.specs.{Machine.{Flat, At, Came, exec, start, turn}, Path.{at_after, asked, PathsAreRuns}}
-use Rattle.sharc_flat.specs.Correct.{AsksTheSame, MayStart, SameAs}
-use Rattle.sharc_guarded_form.specs.{declared.guarded.Guarded.Guarded, Machine.{Program, Thread, statement_at}, Path.{started, thread_after}}
-use Rattle.sharc_guarded_form.specs.Machine as Form
-use Rattle.sharc_gen.specs.{Consistent.{Elements, IsNumber}, Correct.{by, begins, HasCome}, Generated.{IsGenerated, instr_of, program_of}, Related.{IsAt, IsAtStage, IsLinking, IsOver, Refuses, StopsAt}}
-use Rattle.sharc_guard.specs.{Counted.{GuardedCounts, HasCome as Comes, Held, IsSettling, LocksStand, Tells}, Guard.{entered_at, guarded, place}, Level.IsLevel}
+use Rattle.sharc_flat.specs.{Machine.{Flat, At, Came, exec, start, turn}, Path.{at_after, asked, PathsAreRuns}, Correct.{AsksTheSame, MayStart, SameAs}}
+use Rattle.sharc_guard.specs.{declared.guarded.Guarded.Guarded, Machine.{Program, Thread, statement_at}, Path.{started, thread_after}, Counted.{GuardedCounts, HasCome as Comes, Held, IsSettling, LocksStand, Tells}, Guard.{entered_at, guarded, place}, Level.IsLevel}
+use Rattle.sharc_guard.specs.Machine as Form
+use Rattle.sharc_compile.specs.{Consistent.{Elements, IsNumber}, Correct.{by, begins, HasCome}, Generated.{IsGenerated, instr_of, program_of}, Related.{IsAt, IsAtStage, IsLinking, IsOver, Refuses, StopsAt}}
 use Rattle.sharc_invariant.specs.Words.{is_freed, register_of}
 use Rattle.sharc_wants_laws.specs.Registered.{IsLoadedHere, IsRegistered}
 use Rattle.sharc_wants_laws.proofs.{Copying.{quietly_from, more_turns}, Holding.{Way, way, number_is}, SoleQuiet.{given_in, given_same, given_path, are_own, beyond, IsBeyond}, Testing.{Wants, test_is, no_free, stays, wants_it}, Wanting.{mapped_at, answers_by}}

@@ -7,12 +7,11 @@ use Rattle.sharc_ctype.specs.Resolved.{IsResolved, Resolution, named_at, functio
 use Rattle.sharc_ctype_laws.specs.Declared.{NameThemselves}
 use Rattle.sharc_mode.specs.Moded.{Assignment}
 use Rattle.sharc_meaning.specs.{Events.{events_of, is_of}, Laws.AskLaws, Meaning.Asked, State.{wants, spent}, Reference.number_of, References.{refers, Begun, asked_with, held_count, ThreadHolds}, Runs.{IsNamedAt, answers_of}}
-use Rattle.sharc_meaning_laws.specs.Held.{HeldAreHeldOn}
+use Rattle.sharc_wants_laws.specs.{Held.HeldAreHeldOn, Emptying.{IsEmptying, is_emptying}, Holding.{IsAccounted, IsHolding, IsHoldingIn, IsLowered}, InFlight.{IsInFlight, IsPastEvents, is_given, is_replaced, is_emptied}}
 use Rattle.sharc_code.specs.{declared.code.Code.Code, declared.instr.Instr.TheVariants.TestSole, declared.state.Stage.Stage, declared.state.Stage.TheVariants.Lowers, Machine.{Machine, instr_at, ref}}
 use Rattle.sharc_flat.specs.Correct.{MayStart}
 use Rattle.sharc_guard.specs.Counted.{IsGivenAway}
 use Rattle.sharc_invariant.specs.Words.{register_of, staged_of}
-use Rattle.sharc_wants_laws.specs.{Emptying.{IsEmptying, is_emptying}, Holding.{IsAccounted, IsHolding, IsHoldingIn, IsLowered}, InFlight.{IsInFlight, IsPastEvents, is_given, is_replaced, is_emptied}}
 use Rattle.sharc_wants_laws.proofs.{Counting.{one_there, twice}, Given.left_is_given}
 
 -- ---- one of a list

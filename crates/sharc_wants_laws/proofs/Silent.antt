@@ -3,8 +3,8 @@ use Rattle.std.proofs.Common.{◌≡◌, ℕ, ◌*◌, ◌⊎◌, inl, inr, Bool
 use Rattle.std.specs.Prelude.{option_to_list}
 use Rattle.sharc_tree.specs.declared.event.SourceEvent.{SourceEvent}
 use Rattle.sharc_code.specs.{declared.code.Code.Code, declared.instr.Instr.Instr, declared.instr.Instr.TheVariants.{Exit, Start}, declared.shape.Shape.Shape, declared.state.Stage.TheVariants.{Rests, Enters}, declared.state.TheConstants.FRAMES, Machine.{Machine, act, instr_at, start}, Path.{after, begun, machine_after, most_refs, turn}, Says.{in_start, said, speaks_of}}
-use Rattle.sharc_gen.specs.{Consistent.{Elements, said_in, said_now}, Generated.{IsGenerated, instr_of, program_of}}
-use Rattle.sharc_guarded_form.specs.{declared.guarded.Guarded.Guarded, Form.IsGuarded}
+use Rattle.sharc_compile.specs.{Consistent.{Elements, said_in, said_now}, Generated.{IsGenerated, instr_of, program_of}}
+use Rattle.sharc_guard.specs.{declared.guarded.Guarded.Guarded, Form.IsGuarded}
 use Rattle.sharc_invariant.specs.Words.{is_freed, staged_of}
 use Rattle.sharc_wants_laws.specs.Silent.{HasNothing}
 use Rattle.sharc_lemmas.proofs.Lists.{all_null as zero_at}

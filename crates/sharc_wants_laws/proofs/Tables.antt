@@ -2,8 +2,7 @@
 use Rattle.std.proofs.Common.{ap, ◌∙◌}
 use Rattle.sharc_mode.specs.Moded.{Assignment}
 use Rattle.sharc_code.specs.declared.code.Code.{Code}
-use Rattle.sharc_flat_form.specs.declared.flat.Flat.{Flat as FlatCode}
-use Rattle.sharc_flat.specs.Flattens.{Flattens}
+use Rattle.sharc_flat.specs.{declared.flat.Flat.{Flat as FlatCode}, Flattens.Flattens}
 use Rattle.sharc_compile.specs.Made.{IsCodeOf}
 use Rattle.sharc_accepted_laws.specs.TargetLaws.{HasTables}
 

@@ -6,7 +6,7 @@ use Rattle.sharc_mode.specs.Moded.{Assignment}
 use Rattle.sharc_meaning.specs.{Events.{events_of, is_of}, Runs.by}
 use Rattle.sharc_code.specs.{declared.code.Code.Code, Machine.Machine, Paced.paced_in, Path.{begun, machine_after}, declared.shape.Shape.Shape, Runs.{Said, Turn, said_by, turns_of}, Whole.{CheckedRun, Erase, place_after}}
 use Rattle.sharc_flat.specs.Correct.{MayStart}
-use Rattle.sharc_gen.specs.{Consistent.{said_in, IsConsistent}, Correct.IsBeginning, OfRuns.{told_in, elements_before, founds_of, RunsHavePaths}}
+use Rattle.sharc_compile.specs.{Consistent.{said_in, IsConsistent}, Correct.IsBeginning, OfRuns.{told_in, elements_before, founds_of, RunsHavePaths}}
 use Rattle.sharc_wants_laws.specs.Wants.{IsThere, IsThereIn, IsNotThere, IsWhere, PathsWant}
 use Rattle.sharc_lemmas.proofs.{Lists.reverse_cons, Numbers.same_test}
 

@@ -4,11 +4,10 @@ use Rattle.std.specs.Prelude.{slice_index}
 use Rattle.sharc_tree.specs.{declared.event.Act.Act, declared.event.Act.TheVariants.{Freed, Give}, declared.token.Site.Site}
 use Rattle.sharc_meaning.specs.{Arithmetic.is_zero, Meaning.Asked, Reference.number_of, References.refers, State.event_of}
 use Rattle.sharc_code.specs.{declared.code.Function.{Function as Row}, declared.instr.Instr.Instr, declared.instr.Instr.TheVariants.{Call, Free, TestSole}, Machine.{Machine, ref}}
-use Rattle.sharc_flat_form.specs.Machine.{Flat, At, Turn, goes, asks, halts, turn, on_turn, exec}
-use Rattle.sharc_guarded_form.specs.Machine as Form
-use Rattle.sharc_guarded_form.specs.Machine.{Program, Thread, IsSole, statement_at}
-use Rattle.sharc_gen.specs.Generated.{instr_of}
-use Rattle.sharc_guard.specs.Counted.{Held, IsGivenAway, IsSettling, Quietly, Tells}
+use Rattle.sharc_flat.specs.Machine.{Flat, At, Turn, goes, asks, halts, turn, on_turn, exec}
+use Rattle.sharc_guard.specs.Machine as Form
+use Rattle.sharc_guard.specs.{Machine.{Program, Thread, IsSole, statement_at}, Counted.{Held, IsGivenAway, IsSettling, Quietly, Tells}}
+use Rattle.sharc_compile.specs.Generated.{instr_of}
 use Rattle.sharc_wants_laws.specs.Holding.{IsTested}
 
 -- ---- references

@@ -6,19 +6,16 @@ use Rattle.sharc_tree.specs.declared.event.Act.TheVariants as acts
 use Rattle.sharc_tree.specs.declared.event.CellMode.TheVariants as modes
 use Rattle.sharc_tree.specs.declared.event.Taken.TheVariants as taken
 use Rattle.sharc_tree.specs.declared.trap.Trap.TheVariants as traps
-use Rattle.sharc_shadow.specs.declared.shadow_word.Kind.TheVariants as kinds
+use Rattle.sharc_heap.specs.declared.shadow_word.Kind.TheVariants as kinds
 use Rattle.sharc_ctype.specs.Resolved.{function_at}
 use Rattle.sharc_mode.specs.Moded.{Assignment}
 use Rattle.sharc_meaning.specs.{Events.{Access, access_by, held_mutexes}, Runs.{IsNamedAt, answers_of}, Reference.{is_null, number_of}, State.{Outcome, wants, ended, stopped, event_of}}
 use Rattle.sharc_meaning.specs.Meaning as Meaning
 use Rattle.sharc_code.specs.{declared.code.Code.Code, declared.code.Function.Function, declared.code.SourcePlace.SourcePlace, declared.instr.Cell.Cell, declared.instr.Instr.Instr, declared.instr.Instr.TheVariants.{Lock, Join, CondWait, Load, Store, LoadRef, Exchange, TakeCell, ChkRead, ChkWrite, ChkLock, ChkLockLoaded, Call, Exit}, declared.shape.Shape.Shape, declared.state.TurnState.TheVariants.{Runs, Stopped, Ended}, declared.state.Stop.Stop, declared.state.Stop.TheVariants.{Conflict, NoLock, NotSole, Trap}, Machine.{Machine, int, instr_at, no_function, function_of}, Says.{cell_at, kind_of, made_cell, place_at, no_place}}
-use Rattle.sharc_flat_form.specs.{Machine.{Flat, At, Came, Turn, goes, asks, halts, turn, on_turn, exec, start}, Path.{at_after, asked, PathsAreRuns}}
-use Rattle.sharc_flat.specs.Correct.{AsksTheSame, MayStart}
-use Rattle.sharc_guarded_form.specs.{declared.guarded.Guarded.Guarded, Machine.{Program, Thread, Check, Accesses, Locks, IsSole, is_held, source_at, statement_at}, Path.{started, thread_after}}
-use Rattle.sharc_guarded_form.specs.Machine as Form
-use Rattle.sharc_gen.specs.{Consistent.Elements, Correct.{by, begins, HasCome}, Generated.{IsGenerated, instr_of, program_of}, Related.{IsAt, IsLinking, IsOver, Same, StopsAt, ChecksNext}}
-use Rattle.sharc_guard.specs.{Counted.{Guards, IsAccess, IsOf, IsUnder, Tells}, Logged.LogsAreHeld}
-use Rattle.sharc_compile.specs.Refused.{IsRefused, IsReport, WantsRefused, site_of}
+use Rattle.sharc_flat.specs.{Machine.{Flat, At, Came, Turn, goes, asks, halts, turn, on_turn, exec, start}, Path.{at_after, asked, PathsAreRuns}, Correct.{AsksTheSame, MayStart}}
+use Rattle.sharc_guard.specs.{declared.guarded.Guarded.Guarded, Machine.{Program, Thread, Check, Accesses, Locks, IsSole, is_held, source_at, statement_at}, Path.{started, thread_after}, Counted.{Guards, IsAccess, IsOf, IsUnder, Tells}, Logged.LogsAreHeld}
+use Rattle.sharc_guard.specs.Machine as Form
+use Rattle.sharc_compile.specs.{Consistent.Elements, Correct.{by, begins, HasCome}, Generated.{IsGenerated, instr_of, program_of}, Related.{IsAt, IsLinking, IsOver, Same, StopsAt, ChecksNext}, Refused.{IsRefused, IsReport, WantsRefused, site_of}}
 use Rattle.sharc_wants_laws.specs.Wants.{WantsAct, WantsAccess, WantsBy, StopsOrWantsUnder, IsWhere, IsThere, access_at, access_tested}
 use Rattle.sharc_wants_laws.proofs.{Quiet.{still, given_in, are_own, beyond}, Cells.{int_is, cell_is, access_is, pending_number}, SoleQuiet.{given_same, given_path}}
 

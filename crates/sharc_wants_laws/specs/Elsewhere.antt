@@ -6,8 +6,7 @@ use Rattle.sharc_mode.specs.Moded.{Assignment}
 use Rattle.sharc_meaning.specs.References.{References, in_argument, in_mutex}
 use Rattle.sharc_code.specs.{declared.code.Code.Code, declared.shape.Shape.Shape, Layout.Fits, Runs.Turn}
 use Rattle.sharc_code.specs.Whole.{CheckedRun, place_after}
-use Rattle.sharc_flat.specs.Flattens.{Flattens}
-use Rattle.sharc_flat_form.specs.declared.flat.Flat.{Flat as FlatCode}
+use Rattle.sharc_flat.specs.{Flattens.Flattens, declared.flat.Flat.{Flat as FlatCode}}
 use Rattle.sharc_compile.specs.Made.{IsCodeOf}
 use Rattle.sharc_invariant.specs.{Types.Targets, Labels.Labels, Typed.IsWellTyped, Words.argument_of, State.IsSmall}
 use Rattle.sharc_invariant.specs.MachineInvariant.{log_refers}

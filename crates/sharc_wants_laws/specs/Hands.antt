@@ -5,7 +5,7 @@ use Rattle.sharc_meaning.specs.References.{Begun, asked_with}
 use Rattle.sharc_code.specs.{declared.code.Code.Code, declared.shape.Shape.Shape, Path.begun, Runs.{Turn, turns_of}}
 use Rattle.sharc_code.specs.Whole.{CheckedRun, Erase, place_after}
 use Rattle.sharc_flat.specs.Correct.{MayStart}
-use Rattle.sharc_gen.specs.{Consistent.IsConsistent, OfRuns.{elements_before, founds_of, told_in}}
+use Rattle.sharc_compile.specs.{Consistent.IsConsistent, OfRuns.{elements_before, founds_of, told_in}}
 use Rattle.sharc_invariant.specs.Words.{staged_of}
 use Rattle.sharc_wants_laws.specs.{Emptying.{IsEmptying, is_emptying}, Holding.lowered_of}
 use Rattle.sharc_wants_laws.specs.InFlight.{IsInFlight, IsPastEvents}

@@ -14,10 +14,9 @@ use Rattle.sharc_code.specs.{declared.shape.Shape.Shape, Machine.{Machine, instr
 use Rattle.sharc_code.specs.{Path.{begun, machine_after, CodePath}, Runs.{Turn, turns_of}}
 use Rattle.sharc_code.specs.Whole.{CheckedRun, Erase, place_after}
 use Rattle.sharc_flat.specs.Correct.{MayStart}
-use Rattle.sharc_gen.specs.{Consistent.{Elements, said_in, IsConsistent}, Correct.IsBeginning, Lowered.lowered_in}
-use Rattle.sharc_gen.specs.OfRuns.{elements_before, founds_of, told_in}
+use Rattle.sharc_compile.specs.{Consistent.{Elements, said_in, IsConsistent}, Correct.IsBeginning, Lowered.lowered_in}
+use Rattle.sharc_compile.specs.{OfRuns.{elements_before, founds_of, told_in}, Held.{IsAmong, IsGivenUpLater}}
 use Rattle.sharc_invariant.specs.Words.{register_of}
-use Rattle.sharc_compile.specs.Held.{IsAmong, IsGivenUpLater}
 use Rattle.sharc_guard.specs.{Correct.Resolved, Counted.IsGivenAway}
 use Rattle.sharc_compile_laws.specs.Threads.{TellsIn}
 use Rattle.sharc_wants_laws.specs.Emptying.{IsEmptying, is_emptying}

@@ -1,3 +1,5 @@
+pub mod Freeing
+pub mod Held
 pub mod Alone
 pub mod Beginning
 pub mod Cause

@@ -5,14 +5,13 @@ use Rattle.sharc_tree.specs.declared.event.CellAt.{CellAt}
 use Rattle.sharc_mode.specs.Moded.{Assignment}
 use Rattle.sharc_meaning.specs.References.{Holder, References, in_argument, in_cell, in_mutex, in_thread}
 use Rattle.sharc_meaning.specs.References.{is_taken_to_free}
-use Rattle.sharc_meaning_laws.specs.Freeing.{TakesLast}
+use Rattle.sharc_wants_laws.specs.{Freeing.TakesLast, Alone.{Passes, objects_there, tested_object}}
 use Rattle.sharc_code.specs.{declared.code.Code.Code, declared.shape.Shape.Shape, Layout.Fits, Runs.Turn}
 use Rattle.sharc_code.specs.Whole.{CheckedRun, place_after}
 use Rattle.sharc_invariant.specs.{Types.Targets, Labels.Labels, Typed.IsWellTyped, State.IsSmall}
 use Rattle.sharc_invariant.specs.MachineInvariant.{is_pointer_now}
 use Rattle.sharc_history_laws.specs.{History.history_of, SeenCells.{IsBeingFreed, IsCellIn}, Stores.BeginsWith}
 use Rattle.sharc_accepted_laws.specs.Targets.{targets_of}
-use Rattle.sharc_wants_laws.specs.Alone.{Passes, objects_there, tested_object}
 
 -- no other thread holds one, and the thread that tests holds no second one
 abbrev pub ThreadsHoldNone : Assignment → Code → Type 0

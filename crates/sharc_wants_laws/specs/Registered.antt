@@ -8,7 +8,7 @@ use Rattle.sharc_code.specs.{declared.code.Code.Code, declared.instr.Instr.TheVa
 use Rattle.sharc_code.specs.{declared.shape.Shape.Shape, Machine.{Machine, instr_at}, Path.{begun, may_go}}
 use Rattle.sharc_code.specs.{Runs.{Turn, turns_of}, Whole.{CheckedRun, Erase, place_after}}
 use Rattle.sharc_flat.specs.Correct.{MayStart}
-use Rattle.sharc_gen.specs.{Consistent.IsConsistent, OfRuns.{elements_before, founds_of, told_in}}
+use Rattle.sharc_compile.specs.{Consistent.IsConsistent, OfRuns.{elements_before, founds_of, told_in}}
 use Rattle.sharc_invariant.specs.Words.{register_of}
 
 -- the instruction that raises it: the one at the thread's place, or the next one where the block of a freed object is

@@ -8,7 +8,7 @@ use Rattle.sharc_code.specs.{declared.instr.Instr.TheVariants.TestSole, Machine.
 use Rattle.sharc_code.specs.{Runs.{Turn, turns_of}, Whole.{CheckedRun, Erase, place_after}}
 use Rattle.sharc_flat.specs.Correct.{MayStart}
 use Rattle.sharc_guard.specs.Counted.{IsGivenAway}
-use Rattle.sharc_gen.specs.{Consistent.IsConsistent, OfRuns.{elements_before, founds_of, told_in}}
+use Rattle.sharc_compile.specs.{Consistent.IsConsistent, OfRuns.{elements_before, founds_of, told_in}}
 use Rattle.sharc_invariant.specs.Words.{register_of}
 use Rattle.sharc_wants_laws.specs.{Holding.lowered_of, InFlight.IsInFlight}
 

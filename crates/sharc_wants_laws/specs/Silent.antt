@@ -4,7 +4,7 @@ use Rattle.sharc_mode.specs.Moded.{Assignment}
 use Rattle.sharc_meaning.specs.Events.{events_of}
 use Rattle.sharc_code.specs.{declared.code.Code.Code, declared.shape.Shape.Shape, Machine.Machine, Path.begun}
 use Rattle.sharc_code.specs.{Runs.{Turn, turns_of}, Whole.{CheckedRun, Erase, place_after}}
-use Rattle.sharc_gen.specs.{Consistent.IsConsistent, OfRuns.{elements_before, founds_of, told_in}}
+use Rattle.sharc_compile.specs.{Consistent.IsConsistent, OfRuns.{elements_before, founds_of, told_in}}
 use Rattle.sharc_invariant.specs.Words.{register_of, staged_of}
 
 pub record HasNothing (code : Code) (at : Machine) : Type 0 where

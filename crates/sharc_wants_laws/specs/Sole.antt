@@ -8,7 +8,7 @@ use Rattle.sharc_code.specs.{declared.code.Code.Code, declared.shape.Shape.Shape
 use Rattle.sharc_code.specs.{declared.instr.Instr.TheVariants.TestSole, Machine.{Machine, instr_at, ref}, Path.begun}
 use Rattle.sharc_code.specs.{Runs.{Global, Turn, turns_of}, Whole.{CheckedRun, Erase, place_after}}
 use Rattle.sharc_flat.specs.Correct.{MayStart}
-use Rattle.sharc_gen.specs.{Consistent.IsConsistent, OfRuns.{elements_before, founds_of, told_in}}
+use Rattle.sharc_compile.specs.{Consistent.IsConsistent, OfRuns.{elements_before, founds_of, told_in}}
 use Rattle.sharc_invariant.specs.MachineInvariant.{hand_refers, register_refers}
 use Rattle.sharc_wants_laws.specs.{Holding.lowered_of, InFlight.IsInFlight}
 

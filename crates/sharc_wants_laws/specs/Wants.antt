@@ -18,10 +18,9 @@ use Rattle.sharc_code.specs.{Machine.{Machine, int, instr_at}, Paced.paced_in, P
 use Rattle.sharc_code.specs.{Runs.{Turn, turns_of}, Says.{cell_at, made_cell, mode_of, place_at}}
 use Rattle.sharc_code.specs.Whole.{CheckedRun, Erase, place_after}
 use Rattle.sharc_flat.specs.Correct.{MayStart}
-use Rattle.sharc_gen.specs.{Consistent.{Elements, said_in, IsConsistent}, Correct.IsBeginning}
-use Rattle.sharc_gen.specs.OfRuns.{elements_before, founds_of, told_in}
+use Rattle.sharc_compile.specs.{Consistent.{Elements, said_in, IsConsistent}, Correct.IsBeginning}
+use Rattle.sharc_compile.specs.{OfRuns.{elements_before, founds_of, told_in}, Refused.WantsRefused}
 use Rattle.sharc_guard.specs.Counted.{IsUnder}
-use Rattle.sharc_compile.specs.Refused.{WantsRefused}
 use Rattle.sharc_compile_laws.specs.Threads.{TellsIn}
 
 -- ---- by the instruction

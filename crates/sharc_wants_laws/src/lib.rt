@@ -1,3 +1,11 @@
+//! Laws: what the source wants of a thread by its place; each check is before its access.
+//!
+//! Laws of what a program asks for: what holds of its threads by the types of C, and not by the meaning alone; and what
+//! its `free`s do.
+//!
+//! The layer above may call the laws of src/meant.rt, each the contract of a function that does nothing, and cite
+//! specs/: Held (what a thread holds is held on, or given up), Freeing (what is taken to free it is freed next).
+//!
 //! What the source wants of a thread of its code where it waits or was stopped, and which references are left where a
 //! cast was refused.
 //!
@@ -9,7 +17,8 @@
 //! The layer above may call the laws of the modules, each the contract of a function that does nothing.
 #![tactic(auto)]
 
-mod follow;
+pub mod follow;
+pub mod meant;
 pub mod sole;
 mod wants;
 

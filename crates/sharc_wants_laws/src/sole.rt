@@ -22,24 +22,24 @@ ghost use Rattle.sharc_wants_laws.specs.Seeing.{CastersHold, TestersGive, Thread
 ghost use Rattle.sharc_wants_laws.specs.Silent.{SilentHaveNothing};
 ghost use Rattle.sharc_wants_laws.specs.Sole.{RegistersAreSeen};
 
+use crate::meant::{held_are_held_on, last_takers, taken_are_being_taken};
 use sharc_accepted_laws::targets::{global_pointers_are, globals_point};
 use sharc_code::run_laws;
+use sharc_compile::{paths_law, run_paths_law};
+use sharc_compile_laws::flattened::{made_locks_stand, typed_is_level};
 use sharc_compile_laws::{
     functions_are_named, spawned_are_threads, threads_may_start, typed_threads_tell,
 };
 use sharc_ctype_laws::laws::each_names_itself;
-use sharc_flat_form::laws::paths_are_runs;
+use sharc_flat::form_laws::paths_are_runs;
 use sharc_flat_laws::laws::{typed_asks_the_same, typed_is_framed};
-use sharc_gen::{paths_law, run_paths_law};
 use sharc_guard::{counted_law, framed_law};
-use sharc_guard_laws::laws::{made_locks_stand, typed_is_level};
 use sharc_history_laws::{
     causes_law, cells_seen_law, grows_law, kept_law, paths_law as history_paths_law,
     pointers_kept_law, pointers_made_law, reports_law, seen_law, starts_law,
 };
 use sharc_invariant::laws::{runs_report, runs_stand, runs_stay};
 use sharc_meaning::laws::ask_laws;
-use sharc_meaning_laws::laws::{held_are_held_on, last_takers, taken_are_being_taken};
 
 /// What the registers of a thread of the code of a typed, well-moded program refer to, on each path whose results are
 /// consistent, the program holds or has given up that was asked by the answers of the thread's own events.

@@ -3,12 +3,12 @@
 ghost use Rattle.sharc_compile_laws.specs.Paths.{OfTyped};
 ghost use Rattle.sharc_wants_laws.specs.Wants.{PathsWant, ThreadsWant};
 
+use sharc_compile::{paths_law, run_paths_law};
+use sharc_compile_laws::flattened::{made_locks_stand, typed_is_level};
 use sharc_compile_laws::functions_are_named;
-use sharc_flat_form::laws::paths_are_runs;
+use sharc_flat::form_laws::paths_are_runs;
 use sharc_flat_laws::laws::{typed_asks_the_same, typed_is_framed};
-use sharc_gen::{paths_law, run_paths_law};
 use sharc_guard::{counted_law, framed_law, log_law};
-use sharc_guard_laws::laws::{made_locks_stand, typed_is_level};
 
 /// Each path of a thread of the code of a typed, well-moded program, whose results are consistent, has not begun, or is
 /// where the program is that was asked by the answers of its events: that wants next the Lock, the Join or the Woken

@@ -1,7 +1,7 @@
 //! Operations in words, with their registers, the lines and functions that they lead to, and their cells.
 
 use sharc_code::{Cell, Register};
-use sharc_flat_form::{Flat, Op};
+use sharc_flat::{Flat, Op};
 use std::alloc::{AllocError, Global};
 
 fn word(op: Op) -> &'static str {

@@ -1,7 +1,7 @@
 //! A source in its flat form.
 
 use sharc_ctype::typed::{Typed, type_program};
-use sharc_flat_form::Flat;
+use sharc_flat::Flat;
 use sharc_flatten::flatten;
 use sharc_infer::infer;
 use sharc_lex::lex;

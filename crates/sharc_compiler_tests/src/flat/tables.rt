@@ -2,7 +2,7 @@
 
 use crate::flat::sources::flat;
 use sharc_code::Parameter;
-use sharc_flat_form::Flat;
+use sharc_flat::Flat;
 use std::process::Abort;
 use std::test::Fail;
 

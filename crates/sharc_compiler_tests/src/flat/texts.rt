@@ -2,7 +2,7 @@
 
 use crate::flat::sources::flat;
 use sharc_code::Text;
-use sharc_flat_form::{Flat, Op, Spot};
+use sharc_flat::{Flat, Op, Spot};
 use std::alloc::{AllocError, Global};
 use std::process::Abort;
 use std::test::Fail;

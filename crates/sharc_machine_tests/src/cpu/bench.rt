@@ -8,7 +8,7 @@ use crate::cpu::code::{code, shape};
 use crate::cpu::script::{Ask, Script};
 use sharc_code::{Cell, Code, Instr, Shape};
 use sharc_cpu::{Pause, Stop, Thread, Wait, run_quantum, thread_law};
-use sharc_shadow::Kind;
+use sharc_heap::Kind;
 use sharc_word::WordStep;
 use std::alloc::{AllocError, Global};
 use std::process::Abort;

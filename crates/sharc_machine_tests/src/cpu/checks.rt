@@ -4,7 +4,7 @@ use crate::cpu::bench::{BODY, Row, Then, run, walk};
 use crate::cpu::script::Ask;
 use sharc_code::{Cell, Instr};
 use sharc_cpu::{Stop, Wait};
-use sharc_shadow::Kind;
+use sharc_heap::Kind;
 use sharc_tree::trap::Trap;
 use sharc_word::WordOp::{Add, Cas, Load, Or, Sub, Swap};
 use std::process::Abort;

@@ -13,7 +13,7 @@ use sharc_code::Instr::{
 use sharc_code::Operator::{Add, Less, Multiply, Remainder, Subtract};
 use sharc_code::{Cell, Code, Instr, Shape, Width, opening};
 use sharc_cpu::{Pause, RowPlan, Thread, run_quantum, run_trying};
-use sharc_shadow::Kind;
+use sharc_heap::Kind;
 use sharc_word::{MemPort, Port, WordOp, WordStep};
 use std::alloc::{AllocError, Global};
 use std::process::Abort;

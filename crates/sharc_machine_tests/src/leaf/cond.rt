@@ -1,6 +1,6 @@
 //! Waiters 0, 7 and 30, woken in their order.
 
-use sharc_cond::{enter, waits, wake};
+use sharc_locks::{enter, waits, wake};
 use sharc_word::WordOp;
 
 #[test]

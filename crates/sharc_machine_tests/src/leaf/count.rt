@@ -1,6 +1,6 @@
 //! The steps, and the counts at which a cast may go on.
 
-use sharc_count::{lower, raise, sole, test};
+use sharc_heap::{lower, raise, sole, test};
 use sharc_word::{WordOp, WordStep};
 
 #[test]

@@ -4,8 +4,9 @@ ghost use Rattle.std.specs.Prelude.{IsTrue};
 ghost use Rattle.std.specs.List.{All};
 ghost use Rattle.sharc_graph.specs.Paths.{IsWithin};
 
-use sharc_constraints::{Link, PositionKind, lead_down, least_assignment, least_by_rounds, make_equal};
-use sharc_graph::{Edge, NodeFinding};
+use sharc_graph::{
+    Edge, Link, NodeFinding, PositionKind, lead_down, least_assignment, least_by_rounds, make_equal,
+};
 use std::alloc::{AllocError, Global};
 use std::process::Abort;
 use std::test::Fail;
@@ -91,7 +92,11 @@ fn random_place(state: &mut u64) -> PositionKind {
     }
 }
 
-fn random_places(alloc: Global, state: &mut u64, count: u32) -> Result<Vec<PositionKind>, AllocError> {
+fn random_places(
+    alloc: Global,
+    state: &mut u64,
+    count: u32,
+) -> Result<Vec<PositionKind>, AllocError> {
     let mut places = Vec::new(alloc);
     for _ in 0..count {
         places.push(random_place(state))?;
@@ -120,7 +125,10 @@ fn random_links(alloc: Global, state: &mut u64, count: u32) -> Result<Vec<Link>,
 
 // Whether both found the same of the positions without a written mode.
 fn agree(places: &[PositionKind], fast: &[NodeFinding], plain: &[NodeFinding]) -> bool {
-    let unwritten = |place: &PositionKind| matches!(place, PositionKind::Root | PositionKind::Unwritten);
+    let unwritten = |place: &PositionKind| matches!(
+        place,
+        PositionKind::Root | PositionKind::Unwritten
+    );
     fast.len() == places.len()
         && plain.len() == places.len()
         && places.iter().zip(fast.iter().zip(plain)).all(|(place, (fast, plain))| !unwritten(place)

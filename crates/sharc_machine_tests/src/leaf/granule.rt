@@ -1,6 +1,6 @@
 //! Sizes of blocks, and New on arenas that just fit and just do not.
 
-use sharc_granule::{NewState, NewTurn, block};
+use sharc_heap::{NewState, NewTurn, block};
 use sharc_word::{WordOp, WordStep};
 use std::process::Abort;
 

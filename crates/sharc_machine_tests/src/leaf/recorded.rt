@@ -1,6 +1,6 @@
 //! A recorded file that is written and read again, and lines at fault.
 
-use sharc_recorded::{FileFault, Places, read_file, write_file};
+use sharc_schedule::{FileFault, Places, read_file, write_file};
 use std::test::Fail;
 
 #[test]

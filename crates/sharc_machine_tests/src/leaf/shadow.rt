@@ -1,6 +1,6 @@
 //! The words of a granule that threads access in turn, and a table that is filled.
 
-use sharc_shadow::{
+use sharc_heap::{
     AccessTable, Kind, bits, cleared, conflicts, epoch, first, is_written, stands, withdrawn,
 };
 use std::test::Fail;

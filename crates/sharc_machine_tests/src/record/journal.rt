@@ -1,9 +1,9 @@
 //! Steps of four threads at once at one journal.
 
 ghost use Rattle.std.specs.Prelude.{◌≡◌, ◌<◌, ◌≤◌, length, vec_len, IfOk};
-ghost use Rattle.sharc_journal.specs.Shared.{AreSeatsOf};
+ghost use Rattle.sharc_record.specs.Shared.{AreSeatsOf};
 
-use sharc_journal::{Journal, JournalPort, JournalSeat, SharedJournal, journal_laws};
+use sharc_record::{Journal, JournalPort, JournalSeat, SharedJournal, journal_laws};
 use sharc_word::{MemPort, Port, WordEvent, WordOp, WordStep};
 use std::alloc::{AllocError, Global};
 use std::sync::Wait;

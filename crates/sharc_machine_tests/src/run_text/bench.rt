@@ -3,12 +3,12 @@
 ghost use Rattle.std.specs.Prelude.{◌≡◌, ◌≤◌, ◌<◌, IfOk};
 ghost use Rattle.sharc_word.specs.declared.step.TheConstants.{THREADS as threads};
 ghost use Rattle.sharc_code.specs.Layout.{Fits};
-ghost use Rattle.sharc_run_text.specs.Others.{AreAllowed};
+ghost use Rattle.sharc_run.specs.Others.{AreAllowed};
 
 use sharc_code::{
     Cell, Code, Function, Instr, Parameter, PlaceMode, Shape, SourcePlace, Text, Use,
 };
-use sharc_run_text::run_text;
+use sharc_run::run_text;
 use sharc_seq::{Chooser, SeqRun, run_seq};
 use sharc_tree::listed::Listed;
 use sharc_tree::name::{Name, Names};

@@ -3,7 +3,7 @@
 use crate::seq::bench::{LIMIT, function, run};
 use sharc_code::{Cell, Instr, Parameter, Register};
 use sharc_cpu::{Pause, Stop, Wait};
-use sharc_shadow::Kind;
+use sharc_heap::Kind;
 use sharc_tree::trap::Trap;
 use std::process::Abort;
 use std::test::Fail;

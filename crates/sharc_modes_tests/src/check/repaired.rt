@@ -3,7 +3,7 @@
 use crate::check::tables::{FILE, text_or_end};
 use crate::check::told::{Answer, Refusal, Telling, Untold, judged, moded, said, types};
 use sharc_mode::moded::Moded;
-use sharc_rewrite::apply;
+use sharc_suggest_laws::apply;
 use std::alloc::{AllocError, Global};
 use std::process::Abort;
 use std::test::Fail;

@@ -1,8 +1,8 @@
 //! Lines of refusals, as a reader of them expects.
 
-use sharc_grammar::fault::GrammarFault;
 use sharc_lex::TokenFault;
 use sharc_names::fault::FaultCode;
+use sharc_parse::fault::GrammarFault;
 use sharc_report::{SourceFault, fault_text};
 use sharc_tree::name::Name;
 use sharc_tree::token::FaultAt;

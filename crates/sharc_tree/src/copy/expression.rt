@@ -6,7 +6,7 @@ ghost use Rattle.sharc_tree.specs.View.{view_expr, view_arguments};
 
 use crate::held::{both, in_box};
 use crate::token::{Site, Span};
-use crate::tree::{FieldOperator, BinaryOperator, Expr, Identifier, WrittenType};
+use crate::tree::{BinaryOperator, Expr, FieldOperator, Identifier, WrittenType};
 use std::alloc::{AllocError, Global};
 
 fn copy_identifier(alloc: Global, span: Span, name: &Identifier) -> Result<Expr, AllocError>

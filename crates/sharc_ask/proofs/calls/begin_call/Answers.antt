@@ -4,8 +4,7 @@ use Rattle.sharc_tree.specs.{declared.tree.declaration.Declaration.Declaration, 
 use Rattle.sharc_ctype.specs.Transfers.{parameters_named}
 use Rattle.sharc_names.specs.Kinds.{declared_kinds}
 use Rattle.sharc_meaning.specs.{Meaning.calls, State.then_on}
-use Rattle.sharc_ask_steps.specs.View.{Known, view_state}
-use Rattle.sharc_ask.specs.Stack.{all_behind, stack_of, awaits, Moves, Reached}
+use Rattle.sharc_ask.specs.{StepView.{Known, view_state}, Stack.{all_behind, stack_of, awaits, Moves, Reached}}
 use Rattle.sharc_ask.proofs.calls.begin_call.Goals as goal
 
 pub returns-clause-moves : goal.returns-clause-moves

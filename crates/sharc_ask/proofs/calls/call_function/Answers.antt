@@ -3,8 +3,7 @@ use Rattle.std.specs.{Option.option_map, Prelude.ℤ}
 use Rattle.sharc_tree.specs.View.{view_function}
 use Rattle.sharc_ctype.specs.Resolved.{function_at}
 use Rattle.sharc_meaning.specs.{Meaning.calls, State.Run}
-use Rattle.sharc_ask_steps.specs.View.{view_state}
-use Rattle.sharc_ask.specs.{Values.{number, gives}, Plans.ends_above, Stack.{stack_of, Moves}}
+use Rattle.sharc_ask.specs.{StepView.view_state, Values.{number, gives}, Plans.ends_above, Stack.{stack_of, Moves}}
 use Rattle.sharc_ask.proofs.Calling.{call_moves, call_none_is, call_stops_moves}
 use Rattle.sharc_ask.proofs.calls.call_function.Goals as goal
 

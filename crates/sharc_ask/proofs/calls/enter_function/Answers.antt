@@ -3,11 +3,10 @@ use Rattle.std.specs.Prelude.{count_by}
 use Rattle.sharc_tree.specs.{declared.tree.declaration.Declaration.Declaration, View.{view_function, view_statements}}
 use Rattle.sharc_names.specs.Kinds.{declared_kind, is_pointer}
 use Rattle.sharc_meaning.specs.{Meaning.{calls, run_function, parameters_begin, pointers_passed}, State.{then_on, give}, Statements.exec_all}
-use Rattle.sharc_ask_steps.specs.View.{view_state, Does}
+use Rattle.sharc_ask.specs.{StepView.{view_state, Does}, declared.stack.Caller.Caller, View.WasKept, Values.{flow, gives, as_left}, Stack.{stack_of, Moves}}
 use Rattle.sharc_ask.specs.declared.plan.Plan.TheVariants as plans
 use Rattle.sharc_ask.specs.declared.plan.Rest.TheVariants as rests
 use Rattle.sharc_ask.specs.declared.plan.Task.TheVariants as tasks
-use Rattle.sharc_ask.specs.{declared.stack.Caller.Caller, View.WasKept, Values.{flow, gives, as_left}, Stack.{stack_of, Moves}}
 use Rattle.sharc_ask.proofs.Calling.{enters_function, begin_ends, enter_ends}
 use Rattle.sharc_ask.proofs.calls.enter_function.Goals as goal
 

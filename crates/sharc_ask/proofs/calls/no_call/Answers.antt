@@ -1,8 +1,7 @@
 use Rattle.std.proofs.Common.{◌≡◌, Ok, Err, refl, sym, subst, rules}
 use Rattle.std.specs.Prelude.{ℤ, pos}
 use Rattle.sharc_meaning.specs.{Meaning.calls, State.{Run, give}}
-use Rattle.sharc_ask_steps.specs.View.{view_state, Does}
-use Rattle.sharc_ask.specs.{Values.{number, gives}, Plans.ends_above, Stack.Moves}
+use Rattle.sharc_ask.specs.{StepView.{view_state, Does}, Values.{number, gives}, Plans.ends_above, Stack.Moves}
 use Rattle.sharc_ask.proofs.Stacking.{plan_moves, plan_ends}
 use Rattle.sharc_ask.proofs.calls.no_call.Goals as goal
 

@@ -3,8 +3,7 @@ use Rattle.std.specs.Prelude.{ℤ, drop}
 use Rattle.sharc_tree.specs.{declared.tree.expression.Expr.Expr, View.{view_expr, view_arguments}}
 use Rattle.sharc_names.specs.Kinds.{declared_kinds}
 use Rattle.sharc_meaning.specs.{Expressions.called, Meaning.calls}
-use Rattle.sharc_ask_steps.specs.View.{view_state}
-use Rattle.sharc_ask.specs.{Values.{number, gives}, Plans.ends_above, Stack.{stack_of, awaits, Moves}}
+use Rattle.sharc_ask.specs.{StepView.view_state, Values.{number, gives}, Plans.ends_above, Stack.{stack_of, awaits, Moves}}
 use Rattle.sharc_ask.proofs.{Calling.{empty_is, none_await, more_moves, more_ends}, Flowing.first_and_rest}
 use Rattle.sharc_ask.proofs.calls.pass.Goals as goal
 

@@ -3,8 +3,7 @@ use Rattle.std.specs.Prelude.{ℤ, List}
 use Rattle.sharc_tree.specs.View.{view_arguments}
 use Rattle.sharc_names.specs.Kinds.{declared_kinds}
 use Rattle.sharc_meaning.specs.Meaning.{calls}
-use Rattle.sharc_ask_steps.specs.View.{view_state}
-use Rattle.sharc_ask.specs.Stack.{stack_of, awaits, Moves}
+use Rattle.sharc_ask.specs.{StepView.view_state, Stack.{stack_of, awaits, Moves}}
 use Rattle.sharc_ask.proofs.calls.pass_value.Goals as goal
 
 pub returns-clause-moves : goal.returns-clause-moves

@@ -1,7 +1,6 @@
 use Rattle.sharc_tree.specs.View.{view_expr}
-use Rattle.sharc_ask_steps.specs.View.{view_state}
+use Rattle.sharc_ask.specs.{StepView.view_state, Values.{gives, number}}
 use Rattle.sharc_meaning.specs.Expressions.{eval}
-use Rattle.sharc_ask.specs.Values.{gives, number}
 use Rattle.sharc_ask.proofs.Outs.{entered_plans}
 use Rattle.sharc_ask.proofs.expressions.begin_eval.Goals as goal
 

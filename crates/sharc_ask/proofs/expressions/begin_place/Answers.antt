@@ -1,8 +1,7 @@
 use Rattle.std.proofs.Common.{Ok}
 use Rattle.sharc_tree.specs.View.{view_expr}
-use Rattle.sharc_ask_steps.specs.View.{view_state}
+use Rattle.sharc_ask.specs.{StepView.view_state, Values.{gives, place}, Plans.inside}
 use Rattle.sharc_meaning.specs.Expressions.{place_of}
-use Rattle.sharc_ask.specs.{Values.{gives, place}, Plans.inside}
 use Rattle.sharc_ask.proofs.Outs.{entered_plans, lead_plans}
 use Rattle.sharc_ask.proofs.expressions.begin_place.Goals as goal
 

@@ -1,10 +1,9 @@
 use Rattle.sharc_tree.specs.{View.view_expr, Tree.Expression}
 use Rattle.std.proofs.Common.{◌≡◌, length, arith, ap, sym, ◌∙◌}
-use Rattle.sharc_ask_steps.specs.{View.Known, Width.value_bits}
+use Rattle.sharc_ask.specs.{StepView.Known, Width.value_bits, View.{logic_of, joined}, Values.{gives, number}}
 use Rattle.std.specs.Prelude.{ℕ, Bool, Option, Some, None, true, false}
 use Rattle.sharc_ctype.specs.Resolved.{kind_at}
 use Rattle.sharc_meaning.specs.{Arithmetic.bits_of, Expressions.eval}
-use Rattle.sharc_ask.specs.{View.{logic_of, joined}, Values.{gives, number}}
 use Rattle.sharc_ask.proofs.Expressing.{binary_is_by, joined_begins, and_begins, or_begins}
 use Rattle.sharc_ask.proofs.expressions.binary_plan.Goals as goal
 

@@ -1,6 +1,6 @@
 use Rattle.sharc_tree.specs.View.{view_expr}
 use Rattle.std.proofs.Common.{◌≡◌, length, arith, ap, ◌∙◌}
-use Rattle.sharc_ask_steps.specs.View.{Known}
+use Rattle.sharc_ask.specs.StepView.{Known}
 use Rattle.sharc_ask.proofs.Expressing.{cast_is}
 use Rattle.sharc_ask.proofs.expressions.cast_plan.Goals as goal
 

@@ -1,11 +1,10 @@
 use Rattle.sharc_tree.specs.{View.{view_expr, view_arguments}, declared.tree.expression.Expr.Expr, Children.view_call, Tree.{call, index, field}}
 use Rattle.std.proofs.Common.{◌≡◌, length, arith, refl, ap, sym, ◌∙◌}
-use Rattle.sharc_ask_steps.specs.View.{Known, view_state}
+use Rattle.sharc_ask.specs.{StepView.{Known, view_state}, Values.{gives, number}, Plans.inside}
 use Rattle.sharc_names.specs.declared.fault.Named.{Named}
 use Rattle.sharc_ctype.specs.Resolved.{named_at}
 use Rattle.sharc_mode.specs.Cells.{cell_at}
 use Rattle.sharc_meaning.specs.{Expressions.{eval, place_of, named_value, place_value}, Places.{index_place, field_place}}
-use Rattle.sharc_ask.specs.{Values.{gives, number}, Plans.inside}
 use Rattle.sharc_ask.proofs.{Expressing.{identifier_is, place_is}, Outs.same_plans}
 use Rattle.sharc_ask.proofs.expressions.eval_plan.Goals as goal
 

@@ -1,6 +1,6 @@
 use Rattle.sharc_tree.specs.{View.view_expr, declared.tree.expression.UnaryOperator.TheVariants.{Negate, Dereference}, Tree.unary}
 use Rattle.std.proofs.Common.{◌≡◌, length, arith, refl, ap, ◌∙◌}
-use Rattle.sharc_ask_steps.specs.View.{Known}
+use Rattle.sharc_ask.specs.StepView.{Known}
 use Rattle.sharc_meaning.specs.{Expressions.eval, Places.pointee_place}
 use Rattle.sharc_ask.proofs.Expressing.{unary_is, negate_begins, place_is}
 use Rattle.sharc_ask.proofs.expressions.unary_plan.Goals as goal

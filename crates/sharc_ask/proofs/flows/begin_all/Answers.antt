@@ -3,8 +3,7 @@ use Rattle.std.specs.Prelude.{drop}
 use Rattle.sharc_tree.specs.View.{view_stmt, view_statements}
 use Rattle.sharc_names.specs.View.{view_kind}
 use Rattle.sharc_meaning.specs.{State.then_on, Statements.{exec, exec_all}}
-use Rattle.sharc_ask_steps.specs.View.{view_state}
-use Rattle.sharc_ask.specs.{Values.{flow, flow_in, gives}, Plans.{others_done, Begins, size}}
+use Rattle.sharc_ask.specs.{StepView.view_state, Values.{flow, flow_in, gives}, Plans.{others_done, Begins, size}}
 use Rattle.sharc_ask.proofs.{Flowing.{first_and_rest, all_begins}, Outs.same_plans}
 use Rattle.sharc_ask.proofs.flows.begin_all.Goals as goal
 

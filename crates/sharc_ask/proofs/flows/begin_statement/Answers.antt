@@ -2,8 +2,7 @@ use Rattle.std.proofs.Common.{◌≡◌, Ok, Err, refl, sym, ap, subst, rules}
 use Rattle.sharc_tree.specs.View.{view_stmt}
 use Rattle.sharc_names.specs.View.{view_kind}
 use Rattle.sharc_meaning.specs.{State.{State, Run, then_on, ◌>>=◌, give}, Statements.exec}
-use Rattle.sharc_ask_steps.specs.View.{view_state}
-use Rattle.sharc_ask.specs.{Values.{Value, flow, gives}, Plans.{rest_means, Plans}}
+use Rattle.sharc_ask.specs.{StepView.view_state, Values.{Value, flow, gives}, Plans.{rest_means, Plans}}
 use Rattle.sharc_ask.proofs.{Outs.{entered_plans, entered_over}, Steps.exec_over}
 use Rattle.sharc_ask.proofs.flows.begin_statement.Goals as goal
 

@@ -2,8 +2,7 @@ use Rattle.std.proofs.{Common.{◌≡◌, ◌+◌, ◌*◌, ◌≤◌, arith, sy
 use Rattle.sharc_tree.specs.View.{view_stmt}
 use Rattle.sharc_names.specs.View.{view_kind}
 use Rattle.sharc_meaning.specs.Statements.{exec}
-use Rattle.sharc_ask_steps.specs.View.{view_state}
-use Rattle.sharc_ask.specs.{View.{view_otherwise, other_done}, Values.{flow, gives}, Plans.{chosen_done, Begins, size}}
+use Rattle.sharc_ask.specs.{StepView.view_state, View.{view_otherwise, other_done}, Values.{flow, gives}, Plans.{chosen_done, Begins, size}}
 use Rattle.sharc_ask.proofs.{Outs.same_plans, Stating.out_given}
 use Rattle.sharc_ask.proofs.flows.behind_choice.Goals as goal
 

@@ -1,7 +1,6 @@
 use Rattle.std.proofs.Common.{◌≡◌, ◌-◌, sym, ap, ◌∙◌}
 use Rattle.sharc_meaning.specs.{State.then_on, Statements.done_test}
-use Rattle.sharc_ask_steps.specs.View.{view_state}
-use Rattle.sharc_ask.specs.{Values.{test, flow, test_in, gives}, Plans.tested_done}
+use Rattle.sharc_ask.specs.{StepView.view_state, Values.{test, flow, test_in, gives}, Plans.tested_done}
 use Rattle.sharc_ask.proofs.Flowing.{turns_none, turns_begin}
 use Rattle.sharc_ask.proofs.flows.turns_plan.Goals as goal
 

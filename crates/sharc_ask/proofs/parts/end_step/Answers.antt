@@ -1,5 +1,5 @@
 use Rattle.std.proofs.Common.{subst}
-use Rattle.sharc_ask_steps.specs.View.{view_state, Does}
+use Rattle.sharc_ask.specs.StepView.{view_state, Does}
 use Rattle.sharc_ask.proofs.Outs.{above_goes}
 use Rattle.sharc_ask.proofs.parts.end_step.Goals as goal
 

@@ -2,7 +2,7 @@ use Rattle.std.proofs.Common.{◌≡◌, Err, ap, sym, ◌∙◌, subst, to_z-of
 use Rattle.sharc_tree.specs.View.{view_expr}
 use Rattle.sharc_names.specs.View.{view_kind}
 use Rattle.sharc_meaning.specs.{Arithmetic.fits, Expressions.{fitting, operand}, State.give}
-use Rattle.sharc_ask_steps.specs.View.{view_state, Does}
+use Rattle.sharc_ask.specs.StepView.{view_state, Does}
 use Rattle.sharc_ask.proofs.Fitting.{fitted_goes, fitted_over}
 use Rattle.sharc_ask.proofs.parts.fitted_operand.Goals as goal
 

@@ -3,7 +3,7 @@ use Rattle.sharc_tree.specs.View.{view_expr}
 use Rattle.sharc_names.specs.Kinds.{promoted}
 use Rattle.sharc_ctype.specs.Resolved.{kind_at}
 use Rattle.sharc_meaning.specs.{Arithmetic.{bits_of, negated}, Expressions.resulting}
-use Rattle.sharc_ask_steps.specs.{View.{view_state, Does}, Width.value_bits}
+use Rattle.sharc_ask.specs.{StepView.{view_state, Does}, Width.value_bits}
 use Rattle.sharc_ask.proofs.parts.negative.Goals as goal
 
 pub returns : goal.returns

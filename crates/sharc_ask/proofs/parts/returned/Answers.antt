@@ -2,8 +2,7 @@ use Rattle.std.proofs.Common.{◌≡◌, Err, ap, sym, ◌∙◌, subst, to_z-of
 use Rattle.sharc_tree.specs.View.{view_expr}
 use Rattle.sharc_names.specs.View.{view_kind}
 use Rattle.sharc_meaning.specs.{Arithmetic.fits, Statements.returned}
-use Rattle.sharc_ask_steps.specs.View.{view_state, DoesAs}
-use Rattle.sharc_ask.specs.{Plans.returned_with, View.view_flow}
+use Rattle.sharc_ask.specs.{StepView.{view_state, DoesAs}, Plans.returned_with, View.view_flow}
 use Rattle.sharc_ask.specs.declared.values.Flow.TheVariants as flows
 use Rattle.sharc_ask.proofs.Fitting.{returned_goes, returned_over}
 use Rattle.sharc_ask.proofs.parts.returned.Goals as goal

@@ -1,6 +1,5 @@
 use Rattle.std.proofs.Common.{◌≡◌, true, false, Bool, Result, Ok, Err, refl, sym, ap, ◌∙◌, subst, rules, if◌then◌else◌}
-use Rattle.sharc_ask_steps.specs.{declared.state.RunEnd.RunEnd, View.Does}
-use Rattle.sharc_ask.specs.Plans.{test_then, plan_means, Plans}
+use Rattle.sharc_ask.specs.{declared.state.RunEnd.RunEnd, StepView.Does, Plans.{test_then, plan_means, Plans}}
 use Rattle.sharc_ask.proofs.Outs.{truth_plans, step_over}
 use Rattle.sharc_ask.proofs.plans.by_truth.Goals as goal
 

@@ -3,8 +3,7 @@ use Rattle.std.specs.Prelude.{ℤ}
 use Rattle.sharc_tree.specs.View.{view_expr}
 use Rattle.sharc_ctype.specs.Resolved.{kind_at}
 use Rattle.sharc_meaning.specs.{Expressions.eval, State.{◌>>=◌, give, holds}}
-use Rattle.sharc_ask_steps.specs.{View.view_state, Width.value_bits}
-use Rattle.sharc_ask.specs.{Values.{number, number_in, gives}, Plans.{ends_above, step_then, left_with, joined_with}}
+use Rattle.sharc_ask.specs.{StepView.view_state, Width.value_bits, Values.{number, number_in, gives}, Plans.{ends_above, step_then, left_with, joined_with}}
 use Rattle.sharc_ask.proofs.{Outs.same_plans, Resuming.left_goes}
 use Rattle.sharc_ask.proofs.rests.by_left.Goals as goal
 

@@ -3,8 +3,7 @@ use Rattle.std.specs.Prelude.{ℤ, Some}
 use Rattle.sharc_tree.specs.{View.view_expr, declared.event.TakeKind.TheVariants.Cast, Spans.span_of}
 use Rattle.sharc_mode.specs.{Cells.{cell_at, pointed}, Rows.cast_row}
 use Rattle.sharc_meaning.specs.{State.{Run, give, ◌>>=◌}, Places.{taken_from, cast_to}, Reference.is_null}
-use Rattle.sharc_ask_steps.specs.View.{view_state, view_place, Does}
-use Rattle.sharc_ask.specs.{Values.{gives, number}, Plans.{ends_above, Plans}}
+use Rattle.sharc_ask.specs.{StepView.{view_state, view_place, Does}, Values.{gives, number}, Plans.{ends_above, Plans}}
 use Rattle.sharc_ask.proofs.Outs.{number_then, number_over}
 use Rattle.sharc_ask.proofs.rests.cast.Goals as goal
 

@@ -3,8 +3,7 @@ use Rattle.std.specs.Prelude.{ℤ}
 use Rattle.sharc_tree.specs.{View.view_expr, declared.event.TakeKind.TheVariants.{Free as ToFree}, Spans.span_of}
 use Rattle.sharc_mode.specs.Cells.{cell_at}
 use Rattle.sharc_meaning.specs.{State.{Run, ◌>>=◌}, Places.taken_from}
-use Rattle.sharc_ask_steps.specs.View.{view_state, view_place, Does}
-use Rattle.sharc_ask.specs.{Values.{gives, number}, Plans.{ends_above, Plans, free_unless_null}}
+use Rattle.sharc_ask.specs.{StepView.{view_state, view_place, Does}, Values.{gives, number}, Plans.{ends_above, Plans, free_unless_null}}
 use Rattle.sharc_ask.proofs.Outs.{number_then, number_over}
 use Rattle.sharc_ask.proofs.rests.freed.Goals as goal
 

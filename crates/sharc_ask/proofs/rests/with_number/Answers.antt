@@ -4,8 +4,7 @@ use Rattle.sharc_meaning.specs.{Places.{StorePlace, variable, stored}, State.{Ru
 use Rattle.sharc_tree.specs.View.{view_expr}
 use Rattle.sharc_names.specs.Kinds.{declared_kind}
 use Rattle.sharc_mode.specs.Sharings.{private}
-use Rattle.sharc_ask_steps.specs.View.{view_state, view_place, DoesAs}
-use Rattle.sharc_ask.specs.Plans.{Plans, number_means, ends_above, element_in, element_behind, assigned_to}
+use Rattle.sharc_ask.specs.{StepView.{view_state, view_place, DoesAs}, Plans.{Plans, number_means, ends_above, element_in, element_behind, assigned_to}}
 use Rattle.sharc_ask.proofs.rests.with_number.Goals as goal
 
 pub returns-in-ArrayElement-clause-means : goal.returns-in-ArrayElement-clause-means

@@ -4,8 +4,7 @@ use Rattle.sharc_names.specs.View.{view_kind}
 use Rattle.sharc_ctype.specs.Resolved.{kind_at}
 use Rattle.sharc_mode.specs.{Cells.pointed, Rows.row_at, View.view_sharing}
 use Rattle.sharc_meaning.specs.{Cells.field_place_named, Expressions.eval, Places.field_in, State.{Run, then_on, give}, Statements.right_value, Waiting.{lock_call, unlock_call}}
-use Rattle.sharc_ask_steps.specs.View.{view_state, view_place, DoesAs}
-use Rattle.sharc_ask.specs.{View.place_fetched, Values.{Value, number, number_in, gives, as_nothing}, Plans.{Plans, place_means, ends_above, zero_behind, assigned_to}}
+use Rattle.sharc_ask.specs.{StepView.{view_state, view_place, DoesAs}, View.place_fetched, Values.{Value, number, number_in, gives, as_nothing}, Plans.{Plans, place_means, ends_above, zero_behind, assigned_to}}
 use Rattle.sharc_ask.proofs.Resuming.{array_goes, assigned_goes}
 use Rattle.sharc_ask.proofs.rests.with_place.Goals as goal
 

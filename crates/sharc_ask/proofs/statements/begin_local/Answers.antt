@@ -1,9 +1,8 @@
 use Rattle.sharc_tree.specs.View.{view_option, view_right, view_local}
 use Rattle.std.proofs.{Common.{◌+◌, ◌*◌, ◌<◌, ◌≤◌, arith}, lemmas.Result.IfOk-weaker}
-use Rattle.sharc_ask_steps.specs.View.{view_state}
+use Rattle.sharc_ask.specs.{StepView.view_state, Values.{gives, as_nothing}, Plans.{Fits, Begins, size, step_then, plan_means}}
 use Rattle.std.specs.Prelude.{pos}
 use Rattle.sharc_meaning.specs.{State.begins_with, Statements.{declared, initialised}}
-use Rattle.sharc_ask.specs.{Values.{gives, as_nothing}, Plans.{Fits, Begins, size, step_then, plan_means}}
 use Rattle.sharc_ask.proofs.{Outs.same_plans, Stating.step_begins}
 use Rattle.sharc_ask.proofs.statements.begin_local.Goals as goal
 

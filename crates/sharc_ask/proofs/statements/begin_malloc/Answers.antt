@@ -1,8 +1,7 @@
-use Rattle.sharc_ask_steps.specs.View.{view_state}
+use Rattle.sharc_ask.specs.{StepView.view_state, Values.{gives, number}}
 use Rattle.sharc_tree.specs.{Tree.malloc, View.{view_expr, view_option}}
 use Rattle.sharc_mode.specs.View.{view_sharing}
 use Rattle.sharc_meaning.specs.Statements.{right_value}
-use Rattle.sharc_ask.specs.Values.{gives, number}
 use Rattle.sharc_ask.proofs.Outs.{entered_plans}
 use Rattle.sharc_ask.proofs.statements.begin_malloc.Goals as goal
 

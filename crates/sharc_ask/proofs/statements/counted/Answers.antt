@@ -1,10 +1,9 @@
 use Rattle.std.proofs.Common.{ap, ◌∙◌}
-use Rattle.sharc_ask_steps.specs.View.{view_state}
+use Rattle.sharc_ask.specs.{StepView.view_state, View.made, Values.{gives, number}, Plans.inside}
 use Rattle.std.specs.Prelude.{pos}
 use Rattle.sharc_tree.specs.{Tree.malloc, View.{view_expr, view_option}}
 use Rattle.sharc_mode.specs.View.{view_sharing}
 use Rattle.sharc_meaning.specs.Statements.{right_value}
-use Rattle.sharc_ask.specs.{View.made, Values.{gives, number}, Plans.inside}
 use Rattle.sharc_ask.proofs.{Outs.same_plans, Stating.made_begins}
 use Rattle.sharc_ask.proofs.statements.counted.Goals as goal
 

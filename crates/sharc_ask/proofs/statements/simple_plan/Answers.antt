@@ -1,10 +1,9 @@
 use Rattle.sharc_tree.specs.View.{view_expr, view_right, view_simple}
 use Rattle.std.proofs.Common.{◌≡◌, length, arith, ap, sym, ◌∙◌}
-use Rattle.sharc_ask_steps.specs.View.{Known}
+use Rattle.sharc_ask.specs.{StepView.Known, Plans.{ends_above, assigned_to}, Values.{gives, as_nothing, place, place_in}}
 use Rattle.sharc_ctype.specs.Resolved.{kind_at}
 use Rattle.sharc_mode.specs.{Cells.pointed, Rows.row_at}
 use Rattle.sharc_meaning.specs.{Expressions.place_of, State.then_on, Statements.{done_simple, right_value}}
-use Rattle.sharc_ask.specs.{Plans.{ends_above, assigned_to}, Values.{gives, as_nothing, place, place_in}}
 use Rattle.sharc_ask.proofs.Stating.{assign_begins, call_begins}
 use Rattle.sharc_ask.proofs.statements.simple_plan.Goals as goal
 

@@ -1,9 +1,8 @@
 use Rattle.std.proofs.{Common.{◌≡◌, ◌++◌, Err, w64, to_z, of_z, refl, ap, ◌∙◌, subst}, lemmas.Int.to_z-of_z}
 use Rattle.sharc_ctype.specs.Resolved.{function_at}
 use Rattle.sharc_meaning.specs.{Meaning.{run_thread, start}, State.pointers_among}
-use Rattle.sharc_ask_steps.specs.declared.state.RunEnd.TheVariants as ends
-use Rattle.sharc_ask_steps.specs.View.{Known, known, view_state, Over, Does}
-use Rattle.sharc_ask.specs.declared.asked.Outcome.TheVariants.{Wants, StoppedX}
+use Rattle.sharc_ask.specs.declared.state.RunEnd.TheVariants as ends
+use Rattle.sharc_ask.specs.{StepView.{Known, known, view_state, Over, Does}, declared.asked.Outcome.TheVariants.{Wants, StoppedX}}
 use Rattle.sharc_ask.proofs.Telling.{held_of, tells_stopped, tells_wants}
 use Rattle.sharc_ask.proofs.thread.ask.Goals as goal
 

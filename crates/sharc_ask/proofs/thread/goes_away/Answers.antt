@@ -2,8 +2,7 @@ use Rattle.std.proofs.Common.{◌≡◌, length, Err, sym, subst, rules}
 use Rattle.std.specs.Prelude.{◌==◌}
 use Rattle.sharc_tree.specs.declared.trap.Trap.TheVariants as traps
 use Rattle.sharc_meaning.specs.{State.unless_stop, Meaning.goes_away}
-use Rattle.sharc_ask_steps.specs.View.{view_state, Does}
-use Rattle.sharc_ask.specs.View.{leaves}
+use Rattle.sharc_ask.specs.{StepView.{view_state, Does}, View.leaves}
 use Rattle.sharc_ask.proofs.{Steps.{does_then, over_then}, Telling.goes_when_free}
 use Rattle.sharc_ask.proofs.thread.goes_away.Goals as goal
 

@@ -2,8 +2,8 @@ use Rattle.std.specs.Prelude.{IfOk}
 use Rattle.std.proofs.{Common.{◌≡◌, Err, w64, to_z, of_z, sym, subst}, lemmas.Int.to_z-of_z}
 use Rattle.sharc_ctype.specs.Resolved.{function_at}
 use Rattle.sharc_meaning.specs.Meaning.{asked_by, run_thread, start}
-use Rattle.sharc_ask_steps.specs.{declared.state.RunEnd.RunEnd, View.{view_state, Over, Does}}
-use Rattle.sharc_ask_steps.specs.declared.state.RunEnd.TheVariants as ends
+use Rattle.sharc_ask.specs.{declared.state.RunEnd.RunEnd, StepView.{view_state, Over, Does}}
+use Rattle.sharc_ask.specs.declared.state.RunEnd.TheVariants as ends
 use Rattle.sharc_ask.proofs.Telling.{held_over}
 use Rattle.sharc_ask.proofs.thread.held.Goals as goal
 

@@ -3,7 +3,7 @@ use Rattle.std.specs.Prelude.{unsigned_abs}
 use Rattle.sharc_names.specs.View.{view_kind}
 use Rattle.sharc_mode.specs.View.{view_sharing}
 use Rattle.sharc_meaning.specs.{Cells.{element_cells, instance_mode}, State.value_in, Statements.is_positive}
-use Rattle.sharc_ask_steps.specs.View.{view_state}
+use Rattle.sharc_ask.specs.StepView.{view_state}
 use Rattle.sharc_ask.proofs.Fitting.{made_goes}
 use Rattle.sharc_ask.proofs.values.made.Goals as goal
 

@@ -1,7 +1,6 @@
 use Rattle.std.proofs.Common.{◌≡◌, Ok, sym, subst}
-use Rattle.sharc_ask_steps.specs.View.{view_state}
+use Rattle.sharc_ask.specs.{StepView.view_state, Plans.{task_means, Plans}}
 use Rattle.sharc_ask.specs.declared.plan.Task.TheVariants as tasks
-use Rattle.sharc_ask.specs.Plans.{task_means, Plans}
 use Rattle.sharc_ask.proofs.Outs.{lead_plans}
 use Rattle.sharc_ask.proofs.walk.begin.Goals as goal
 

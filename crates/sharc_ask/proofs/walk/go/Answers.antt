@@ -1,8 +1,7 @@
 use Rattle.std.proofs.Common.{◌≡◌, Ok, Err, sym, subst, rules}
 use Rattle.sharc_meaning.specs.Meaning.{calls}
-use Rattle.sharc_ask_steps.specs.View.{view_state}
+use Rattle.sharc_ask.specs.{StepView.view_state, Plans.plan_means, Stack.{stack_of, Moves}}
 use Rattle.sharc_ask.specs.declared.plan.Plan.TheVariants as plans
-use Rattle.sharc_ask.specs.{Plans.plan_means, Stack.{stack_of, Moves}}
 use Rattle.sharc_ask.proofs.Stacking.{task_moves, task_ends}
 use Rattle.sharc_ask.proofs.walk.go.Goals as goal
 

@@ -3,9 +3,8 @@ use Rattle.std.specs.Prelude.{ℤ}
 use Rattle.sharc_tree.specs.View.{view_arguments}
 use Rattle.sharc_names.specs.Kinds.{declared_kinds}
 use Rattle.sharc_meaning.specs.Meaning.{calls}
-use Rattle.sharc_ask_steps.specs.View.{view_state}
+use Rattle.sharc_ask.specs.{StepView.view_state, Values.{Value, number_in, view_value}, Plans.rest_means, Stack.{Behind, stack_of, awaits, IsBehind, IsCaller, Moves}}
 use Rattle.sharc_ask.specs.declared.stack.Later.TheVariants as laters
-use Rattle.sharc_ask.specs.{Values.{Value, number_in, view_value}, Plans.rest_means, Stack.{Behind, stack_of, awaits, IsBehind, IsCaller, Moves}}
 use Rattle.sharc_ask.proofs.Stacking.{resumed_moves, resumed_ends}
 use Rattle.sharc_ask.proofs.walk.go_on.Goals as goal
 

@@ -2,8 +2,7 @@ use Rattle.std.proofs.Common.{◌≡◌, [], Ok, Err, sym, subst, rules}
 use Rattle.std.specs.Prelude.{reverse}
 use Rattle.sharc_tree.specs.View.{view_function}
 use Rattle.sharc_meaning.specs.Meaning.{calls, run_function}
-use Rattle.sharc_ask_steps.specs.View.{view_state, Does}
-use Rattle.sharc_ask.specs.{Values.{as_left, gives}, Stack.{stack_of, Moves}}
+use Rattle.sharc_ask.specs.{StepView.{view_state, Does}, Values.{as_left, gives}, Stack.{stack_of, Moves}}
 use Rattle.sharc_ask.proofs.{Returning.left_over, Stacking.whole_does}
 use Rattle.sharc_ask.proofs.walk.run_function.Goals as goal
 

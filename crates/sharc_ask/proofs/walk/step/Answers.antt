@@ -1,8 +1,7 @@
 use Rattle.std.proofs.Common.{◌≡◌, List, [], ◌∷◌, ◌++◌, sym, ap, ◌∙◌, subst}
 use Rattle.std.specs.Prelude.{reverse}
 use Rattle.sharc_meaning.specs.Meaning.{calls}
-use Rattle.sharc_ask_steps.specs.View.{view_state}
-use Rattle.sharc_ask.specs.{declared.stack.Left.Left, Plans.plan_means, Stack.{stack_of, Steps, at_means}}
+use Rattle.sharc_ask.specs.{StepView.view_state, declared.stack.Left.Left, Plans.plan_means, Stack.{stack_of, Steps, at_means}}
 use Rattle.sharc_ask.proofs.Stacking.{on_top, popped_moves}
 use Rattle.sharc_ask.proofs.walk.step.Goals as goal
 

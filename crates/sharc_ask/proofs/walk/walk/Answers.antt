@@ -1,7 +1,6 @@
 use Rattle.std.proofs.Common.{◌≡◌, Ok, Err, sym, subst, rules}
-use Rattle.sharc_ask_steps.specs.View.{view_state}
+use Rattle.sharc_ask.specs.{StepView.view_state, Stack.{stack_of, at_means, Steps, Comes}}
 use Rattle.sharc_ask.specs.declared.walk.Stepped.TheVariants as stepped
-use Rattle.sharc_ask.specs.Stack.{stack_of, at_means, Steps, Comes}
 use Rattle.sharc_ask.proofs.Stacking.{step_on, comes_whole, comes_over}
 use Rattle.sharc_ask.proofs.walk.walk.Goals as goal
 

@@ -1,6 +1,5 @@
 use Rattle.std.specs.Prelude.{◌+◌, ◌*◌, Result}
-use Rattle.sharc_ask_steps.specs.{declared.state.RunEnd.RunEnd, View.{Known, view_state}}
-use Rattle.sharc_ask.specs.{declared.plan.Value.Value, Plans.size, Stack.{stack_of, Comes, load}}
+use Rattle.sharc_ask.specs.{declared.state.RunEnd.RunEnd, StepView.{Known, view_state}, declared.plan.Value.Value, Plans.size, Stack.{stack_of, Comes, load}}
 use Rattle.sharc_ask.proofs.walk.walk.Given as goal
 
 abbrev pub invariant-loop-stack : goal.invariant-loop-stack

@@ -1,6 +1,6 @@
 use Rattle.std.proofs.Common.{subst, sym}
 use Rattle.sharc_check.specs.{Checks.IsRefused, Named.TellNamed}
-use Rattle.sharc_sound.specs.Front.{IsFront}
+use Rattle.sharc_front_end.specs.Front.{IsFront}
 use Rattle.sharc_build.specs.Built.{IsIllModed}
 use Rattle.sharc_build.proofs.building.accepted.Goals as goal
 

@@ -1,6 +1,6 @@
 use Rattle.std.proofs.Common.{subst, sym}
 use Rattle.sharc_flat_laws.specs.Typed.{IsTypedProgram}
-use Rattle.sharc_sound.specs.Compiled.{IsCompiled}
+use Rattle.sharc_front_end.specs.Compiled.{IsCompiled}
 use Rattle.sharc_build.proofs.building.coded.Goals as goal
 
 pub returns-in-Ok : goal.returns-in-Ok

@@ -1,10 +1,10 @@
 use Rattle.std.proofs.Common.{IfOk, Result, Ok, Err}
 use Rattle.sharc_code.specs.{declared.code.Code.Code, Ranges.NumbersFit}
-use Rattle.sharc_flat_form.specs.{Framed.IsFramed, Made.flat_of}
+use Rattle.sharc_flat.specs.{Framed.IsFramed, Made.flat_of}
 use Rattle.sharc_guard.specs.Tables.{FlatTablesFit}
 use Rattle.sharc_compile.specs.Made.{IsCodeOf}
 use Rattle.sharc_flat_laws.specs.Typed.{IsTypedProgram}
-use Rattle.sharc_sound.specs.Compiled.{IsCompiled}
+use Rattle.sharc_front_end.specs.Compiled.{IsCompiled}
 use Rattle.sharc_build.proofs.building.compile.Goals as goal
 
 pub returns-clause-is : goal.returns-clause-is

@@ -1,5 +1,5 @@
 use Rattle.std.proofs.Common.{◌≡◌, subst, OnOk}
-use Rattle.sharc_tree.specs.{Children.view_call, View.{view_expr}}
+use Rattle.sharc_tree.specs.{Children.view_call, View.view_expr}
 use Rattle.sharc_check.proofs.CallLemmas.{call_said}
 use Rattle.sharc_check.proofs.expr.+expr.Goals as goal
 

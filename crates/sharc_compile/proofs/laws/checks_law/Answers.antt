@@ -1,9 +1,8 @@
 use Rattle.std.proofs.Common.{◌≡◌, ◌∙◌, ap, subst, sym}
 use Rattle.std.specs.Prelude.{ℕ, Bool, slice_get, Some, None, true}
 use Rattle.sharc_code.specs.{declared.instr.Instr.Instr, declared.instr.Instr.TheVariants.Start}
-use Rattle.sharc_flat_form.specs.Made.{flat_of}
-use Rattle.sharc_guarded_form.specs.Machine.{Program, source_at}
-use Rattle.sharc_guard.specs.{Checked.{Access, access_of, IsCheckedAt, IsNoTarget}, Known.dropped}
+use Rattle.sharc_flat.specs.Made.{flat_of}
+use Rattle.sharc_guard.specs.{Machine.{Program, source_at}, Checked.{Access, access_of, IsCheckedAt, IsNoTarget}, Known.dropped}
 use Rattle.sharc_compile.proofs.{Accessing.checked, Same.same}
 use Rattle.sharc_compile.proofs.laws.checks_law.Goals as goal
 

@@ -1,9 +1,8 @@
 use Rattle.std.proofs.Common.{length, inl, inr, ⊎_elim, subst, sym}
 use Rattle.sharc_code.specs.{Paced.paced_in, Path.{begun, machine_after}}
-use Rattle.sharc_flat_form.specs.Made.{flat_of}
-use Rattle.sharc_gen.specs.{Consistent.said_in, Correct.{IsBeginning, HasCome}, Generated.program_of, Lowered.lowered_in}
-use Rattle.sharc_guard.specs.Known.{dropped}
-use Rattle.sharc_guarded_form.specs.Form.{IsGuarded}
+use Rattle.sharc_flat.specs.Made.{flat_of}
+use Rattle.sharc_compile.specs.{Consistent.said_in, Correct.{IsBeginning, HasCome}, Generated.program_of, Lowered.lowered_in}
+use Rattle.sharc_guard.specs.{Known.dropped, Form.IsGuarded}
 use Rattle.sharc_compile.proofs.{Holding.holds, Same.same}
 use Rattle.sharc_compile.proofs.laws.held_law.Goals as goal
 

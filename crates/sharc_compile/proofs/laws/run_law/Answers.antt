@@ -1,8 +1,7 @@
 use Rattle.std.proofs.{Common.{◌≡◌, ◌⊎◌, ◌∙◌, List, length, ap, reverse, subst, sym}, lemmas.List.reverse-reverse}
 use Rattle.sharc_tree.specs.declared.event.SourceEvent.{SourceEvent}
 use Rattle.sharc_code.specs.{Machine.Machine, Paced.paced_in, Path.{begun, machine_after}, Runs.{turns_of, said_by}, Whole.Erase}
-use Rattle.sharc_gen.specs.{Consistent.said_in, Correct.IsBeginning, Generated.program_of, Lowered.lowered_in, OfRuns.{elements_before, founds_of, told_in}}
-use Rattle.sharc_compile.specs.Source.{FollowsSource}
+use Rattle.sharc_compile.specs.{Consistent.said_in, Correct.IsBeginning, Generated.program_of, Lowered.lowered_in, OfRuns.{elements_before, founds_of, told_in}, Source.FollowsSource}
 use Rattle.sharc_compile.proofs.laws.run_law.Goals as goal
 
 pub returns : goal.returns

@@ -1,10 +1,8 @@
 use Rattle.std.proofs.Common.{IfOk, Result, Ok, Err, subst, sym}
 use Rattle.sharc_code.specs.{declared.code.Code.Code, Ranges.NumbersFit}
-use Rattle.sharc_flat_form.specs.{Framed.IsFramed, Made.flat_of}
-use Rattle.sharc_gen.specs.Generated.{IsGenerated, program_of}
-use Rattle.sharc_guard.specs.{Known.dropped, Tables.FlatTablesFit}
-use Rattle.sharc_guarded_form.specs.{Form.IsGuarded, Tables.TablesFit}
-use Rattle.sharc_compile.specs.Made.{IsCodeOf}
+use Rattle.sharc_flat.specs.{Framed.IsFramed, Made.flat_of}
+use Rattle.sharc_compile.specs.{Generated.{IsGenerated, program_of}, Made.IsCodeOf}
+use Rattle.sharc_guard.specs.{Known.dropped, Tables.FlatTablesFit, Form.IsGuarded, GuardedTables.TablesFit}
 use Rattle.sharc_compile.proofs.Same.{same}
 use Rattle.sharc_compile.proofs.making.code_of.Goals as goal
 

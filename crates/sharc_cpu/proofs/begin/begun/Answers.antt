@@ -1,5 +1,5 @@
 use Rattle.std.proofs.Common.{ℕ, pos, ◌*◌, ap, ◌∙◌, [], replicate}
-use Rattle.sharc_shadow.specs.{Accesses.Accesses, Notes.blank}
+use Rattle.sharc_heap.specs.{Accesses.Accesses, Notes.blank}
 use Rattle.sharc_cpu.proofs.Begun.{same_fresh}
 use Rattle.sharc_cpu.proofs.begin.begun.Goals as goal
 

@@ -1,5 +1,5 @@
 use Rattle.std.proofs.Common.{◌≡◌, refl, sym, ap, ◌∙◌}
-use Rattle.sharc_cond.specs.Waiters.{lowest_of, without_lowest}
+use Rattle.sharc_locks.specs.Waiters.{lowest_of, without_lowest}
 use Rattle.sharc_cpu.proofs.locks.without_lowest.Goals as goal
 
 none : 0 ≡ without_lowest 0

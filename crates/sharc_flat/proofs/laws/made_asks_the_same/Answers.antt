@@ -1,6 +1,5 @@
 use Rattle.sharc_ctype.specs.Resolved.{functions_in}
-use Rattle.sharc_flat_form.specs.Made.{flat_of}
-use Rattle.sharc_flat.specs.{Flattened.flattened, Flattens.names_of, Tables.globals_of}
+use Rattle.sharc_flat.specs.{Made.flat_of, Flattened.flattened, Flattens.names_of, Tables.globals_of}
 use Rattle.sharc_flat.proofs.Flattening.{is_flattened}
 use Rattle.sharc_flat.proofs.Laying as laying
 use Rattle.sharc_flat.proofs.Threads as threads

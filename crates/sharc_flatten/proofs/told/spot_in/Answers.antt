@@ -1,7 +1,6 @@
 use Rattle.std.proofs.Common.{◌≡◌, Option, None, refl, sym}
-use Rattle.sharc_flat_form.specs.declared.op.Op.{Op}
-use Rattle.sharc_flat_form.specs.declared.op.Op.TheVariants as op
-use Rattle.sharc_flat.specs.Laid.{spot_in}
+use Rattle.sharc_flat.specs.{declared.op.Op.Op, Laid.spot_in}
+use Rattle.sharc_flat.specs.declared.op.Op.TheVariants as op
 use Rattle.sharc_flatten.proofs.told.spot_in.Goals as goal
 
 pub returns-in_default : goal.returns-in_default

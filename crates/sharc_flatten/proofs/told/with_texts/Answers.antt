@@ -1,7 +1,6 @@
 use Rattle.std.proofs.Common.{◌≡◌, refl}
-use Rattle.sharc_flat_form.specs.declared.op.Op.{Op}
-use Rattle.sharc_flat_form.specs.declared.op.Op.TheVariants as op
-use Rattle.sharc_flat.specs.Laid.{with_texts}
+use Rattle.sharc_flat.specs.{declared.op.Op.Op, Laid.with_texts}
+use Rattle.sharc_flat.specs.declared.op.Op.TheVariants as op
 use Rattle.sharc_flatten.proofs.told.with_texts.Goals as goal
 
 pub returns-in_default : goal.returns-in_default

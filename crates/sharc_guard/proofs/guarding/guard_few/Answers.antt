@@ -1,6 +1,6 @@
 use mathlib.Core.Path.{fun_ext}
 use Rattle.std.proofs.Common.{◌≡◌, ℕ, Bool, IfOk, subst, ap, ◌∙◌}
-use Rattle.sharc_flat_form.specs.Made.{flat_of}
+use Rattle.sharc_flat.specs.Made.{flat_of}
 use Rattle.sharc_guard.specs.{Known.dropped, Made.{IsMade, marked}}
 use Rattle.sharc_guard.proofs.guarding.guard_few.Goals as goal
 

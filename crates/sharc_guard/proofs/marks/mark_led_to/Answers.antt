@@ -1,5 +1,5 @@
 use Rattle.std.proofs.Common.{get_or}
-use Rattle.sharc_flat_form.specs.declared.op.Op.TheVariants as op
+use Rattle.sharc_flat.specs.declared.op.Op.TheVariants as op
 use Rattle.sharc_guard.proofs.{Making.got, Targets.{none_led, more_led}}
 use Rattle.sharc_guard.proofs.marks.mark_led_to.Goals as goal
 

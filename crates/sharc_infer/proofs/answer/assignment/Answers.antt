@@ -1,7 +1,6 @@
 use Rattle.std.proofs.Common.{◌≡◌, length, ap, sym, ◌∙◌, subst, arith}
 use Rattle.std.specs.List.{All}
-use Rattle.sharc_graph.specs.Paths.{IsWithin}
-use Rattle.sharc_constraints.specs.{declared.place.Link.Link, Flow.{flow_of, AreInferred}}
+use Rattle.sharc_graph.specs.{Paths.IsWithin, declared.place.Link.Link, Flow.{flow_of, AreInferred}}
 use Rattle.sharc_mode.specs.{Flows.{IsLeastAssignment, links_of}, Moded.position_count}
 use Rattle.sharc_infer.specs.Positions.{ArePlacesOf, AreModesOf, AreReasonsOf}
 use Rattle.sharc_infer.proofs.AssignLemmas.{count, root_count, least}

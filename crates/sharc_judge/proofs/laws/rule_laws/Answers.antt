@@ -1,4 +1,4 @@
-use Rattle.sharc_judge.proofs.{Lowest.obeys_each, Rules.rule_is}
+use Rattle.sharc_judge.proofs.{Lowest.obeys_each, Unbroken.rule_is}
 use Rattle.sharc_judge.proofs.laws.rule_laws.Goals as goal
 
 pub returns : goal.returns

@@ -1,4 +1,4 @@
-use Rattle.sharc_judge.proofs.Rules.{holds_is}
+use Rattle.sharc_judge.proofs.Unbroken.{holds_is}
 use Rattle.sharc_judge.proofs.rule.holds.Goals as goal
 
 pub returns : goal.returns

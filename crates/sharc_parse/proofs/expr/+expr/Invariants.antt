@@ -1,8 +1,7 @@
 use Rattle.std.proofs.Common.{◌≡◌, ℕ, List, [], false, ◌≤◌, ◌+◌, ◌-◌, length, ◌*◌}
 use Rattle.sharc_tree.specs.View.{view_arguments}
-use Rattle.sharc_grammar.specs.{Machine.{Cont, Want, Have, Called, At, floor, grip}, Limits.{reads_within, depth, crowded, height, highest}, Places.{size, rest_size, site_in, arguments_at}}
-use Rattle.sharc_grammar.specs.Machine as machine
-use Rattle.sharc_parse.specs.{View.{phrase_of, phrases_of}, Goes.{from, NoCall, NoMalloc, LiesAtTokens}}
+use Rattle.sharc_parse.specs.{Machine.{Cont, Want, Have, Called, At, floor, grip}, Limits.{reads_within, depth, crowded, height, highest}, Places.{size, rest_size, site_in, arguments_at}, View.{phrase_of, phrases_of}, Goes.{from, NoCall, NoMalloc, LiesAtTokens}}
+use Rattle.sharc_parse.specs.Machine as machine
 use Rattle.sharc_parse.proofs.expr.+expr.Given as goal
 
 abbrev pub decreases-arguments : goal.decreases-arguments

@@ -1,7 +1,6 @@
 use Rattle.std.proofs.Common.{rules, ◌≡◌, ◌+◌, sym, subst, arith}
-use Rattle.sharc_grammar.specs.Grammar.{mark}
+use Rattle.sharc_parse.specs.{Grammar.mark, Goes.{from, Past, NotAt}}
 use Rattle.sharc_tree.specs.declared.token.Punctuator.TheVariants.{Semicolon, CloseBrace}
-use Rattle.sharc_parse.specs.Goes.{from, Past, NotAt}
 use Rattle.sharc_parse.proofs.FieldSteps.{FieldsThere, one_field_more, fields_go_on}
 use Rattle.sharc_parse.proofs.field.fields.Goals as goal
 

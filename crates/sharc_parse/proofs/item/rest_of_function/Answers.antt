@@ -1,7 +1,6 @@
 use Rattle.std.proofs.Common.{rules, ◌≡◌, sym, subst, Result, Ok, Err, Vec, Global}
 use Rattle.sharc_tree.specs.{declared.token.Punctuator.TheVariants.OpenBrace, declared.tree.declaration.Declaration.Declaration, declared.tree.statement.Stmt.Stmt}
-use Rattle.sharc_grammar.specs.Grammar.{mark}
-use Rattle.sharc_parse.specs.{declared.token.ReadingFault.ReadingFault, View.bare_type, Goes.{from, Past}, Nested.ReadsStatements, Parameters.ReadsParameters, Items.ReadsFunction}
+use Rattle.sharc_parse.specs.{Grammar.mark, declared.token.ReadingFault.ReadingFault, View.bare_type, Goes.{from, Past}, Nested.ReadsStatements, Parameters.ReadsParameters, Items.ReadsFunction}
 use Rattle.sharc_parse.proofs.ItemSteps.{function_wrong, function_read}
 use Rattle.sharc_parse.proofs.item.rest_of_function.Goals as goal
 

@@ -1,7 +1,6 @@
 use Rattle.std.proofs.Common.{rules, ◌≡◌, sym, subst, Err}
-use Rattle.sharc_grammar.specs.Grammar.{mark}
+use Rattle.sharc_parse.specs.{Grammar.mark, declared.token.ReadingFault.TheVariants.Wrong, Goes.{from, Past, NotAt}, Types.ReadsCast}
 use Rattle.sharc_tree.specs.declared.token.Punctuator.TheVariants.{OpenParenthesis, Comma}
-use Rattle.sharc_parse.specs.{declared.token.ReadingFault.TheVariants.Wrong, Goes.{from, Past, NotAt}, Types.ReadsCast}
 use Rattle.sharc_parse.proofs.TypeSteps.{cast_missed}
 use Rattle.sharc_parse.proofs.types.cast_type.Goals as goal
 

@@ -1,6 +1,5 @@
 use Rattle.std.proofs.Common.{◌≡◌, ℕ, Some, sym, ap, ◌∙◌, subst, arith}
-use Rattle.sharc_journal.specs.Shared.{SeatView, PortView, NamesTell}
-use Rattle.sharc_record.specs.Round.{HasRun}
+use Rattle.sharc_record.specs.{Shared.{SeatView, PortView, NamesTell}, Round.HasRun}
 use Rattle.sharc_record.proofs.Running.{idle, ran, widened}
 use Rattle.sharc_record.proofs.hand.run_thread.Goals as goal
 

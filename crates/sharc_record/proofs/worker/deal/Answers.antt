@@ -1,9 +1,8 @@
 use Rattle.std.proofs.{Common.{◌≡◌, ◌<◌, ◌%◌, ◌+◌, List, length, Some, get_or, set, refl, sym, ap, ◌∙◌, subst, arith, below_more}, lemmas.Nat.mod_below, lemmas.List.length-set}
 use Rattle.std.specs.Vec.{with_item}
 use Rattle.sharc_word.specs.declared.step.TheConstants.{THREADS}
-use Rattle.sharc_journal.specs.Shared.{SeatView}
+use Rattle.sharc_record.specs.{Shared.SeatView, declared.hand.Hand.Hand, declared.worker.Worker.Worker, Round.hand_at}
 use Rattle.sharc_rounds.specs.Round.{Seat}
-use Rattle.sharc_record.specs.{declared.hand.Hand.Hand, declared.worker.Worker.Worker, Round.hand_at}
 use Rattle.sharc_record.proofs.Dealing.{put_same, put_other, lengths, drawn, drawn_rest, drawn_length}
 use Rattle.sharc_record.proofs.worker.deal.Goals as goal
 use Rattle.sharc_lemmas.proofs.{Options.same_some, Numbers.one_of_two}

@@ -1,8 +1,7 @@
 use Rattle.std.proofs.Common.{◌≡◌, ◌<◌, ◌≤◌, ◌%◌, ◌+◌, ℕ, length, Some, get_or}
 use Rattle.sharc_word.specs.declared.step.TheConstants.{THREADS}
-use Rattle.sharc_journal.specs.Shared.{SeatView}
+use Rattle.sharc_record.specs.{Shared.SeatView, declared.hand.Hand.Hand, declared.worker.Worker.Worker, Round.hand_at}
 use Rattle.sharc_rounds.specs.Round.{Seat}
-use Rattle.sharc_record.specs.{declared.hand.Hand.Hand, declared.worker.Worker.Worker, Round.hand_at}
 use Rattle.sharc_record.proofs.worker.deal.Given as goal
 
 abbrev pub invariant-loop-seat : goal.invariant-loop-seat

@@ -1,8 +1,7 @@
 use Rattle.std.proofs.Common.{ℕ, List, sym, ap, ◌∙◌, subst}
 use Rattle.sharc_code.specs.Whole.{place_after}
-use Rattle.sharc_recorded.specs.File.{FileView, IsFile, ArePlaces, written}
+use Rattle.sharc_schedule.specs.{File.{FileView, IsFile, ArePlaces, written}, Laws.SameEnds, Schedule.Stored}
 use Rattle.sharc_seq.specs.Run.{AreChosen}
-use Rattle.sharc_schedule.specs.{Laws.SameEnds, Schedule.Stored}
 use Rattle.sharc_replay.specs.{Laws.ReplaysMakeSame, Run.file_of}
 use Rattle.sharc_replay.proofs.Same.{same_end}
 use Rattle.sharc_replay.proofs.laws.replay_laws.Goals as goal

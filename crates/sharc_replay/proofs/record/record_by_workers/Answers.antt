@@ -1,5 +1,5 @@
 use Rattle.std.proofs.Common.{ap, ◌∙◌, refl}
-use Rattle.sharc_recorded.specs.File.{written}
+use Rattle.sharc_schedule.specs.File.{written}
 use Rattle.sharc_replay.specs.Run.{file_of}
 use Rattle.sharc_replay.proofs.record.record_by_workers.Goals as goal
 

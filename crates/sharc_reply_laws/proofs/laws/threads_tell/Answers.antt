@@ -1,6 +1,6 @@
 use Rattle.std.specs.Prelude.{reverse}
 use Rattle.sharc_code.specs.{Runs.said_by, Whole.{Erase, place_after}}
-use Rattle.sharc_gen.specs.OfRuns.{told_in}
+use Rattle.sharc_compile.specs.OfRuns.{told_in}
 use Rattle.sharc_history_laws.specs.History.{history_of}
 use Rattle.sharc_wants_laws.specs.Holding.{lowered_of}
 use Rattle.sharc_reply_laws.specs.Threads.{counted_turns}

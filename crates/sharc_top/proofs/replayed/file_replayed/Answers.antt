@@ -1,5 +1,5 @@
 use Rattle.std.proofs.{Common.arith, lemmas.Result.IfOk-weaker}
-use Rattle.sharc_recorded.specs.Shown.{view_of}
+use Rattle.sharc_schedule.specs.Shown.{view_of}
 use Rattle.sharc_top.proofs.Recording.{replies_long_source_in, replies_replayed}
 use Rattle.sharc_top.proofs.replayed.file_replayed.Goals as goal
 

@@ -1,5 +1,5 @@
 use Rattle.std.proofs.Common.{◌++◌, ap, ◌∙◌}
-use Rattle.sharc_said.specs.Told.{site_of}
+use Rattle.sharc_history.specs.Told.{site_of}
 use Rattle.sharc_traced.specs.Places.{name_of, place_text, deed_words, object_of, mode_of}
 use Rattle.sharc_traced.proofs.Joining.{line}
 use Rattle.sharc_traced.proofs.deeds.put_event.Goals as goal

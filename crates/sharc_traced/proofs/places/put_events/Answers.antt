@@ -1,6 +1,6 @@
 use Rattle.std.proofs.Common.{◌<◌, List, length, take, arith}
 use Rattle.std.specs.Prelude.{reverse}
-use Rattle.sharc_said.specs.declared.event.Event.{Event}
+use Rattle.sharc_history.specs.declared.event.Event.{Event}
 use Rattle.sharc_traced.proofs.Naming.{line_more, names_more}
 use Rattle.sharc_traced.proofs.places.put_events.Goals as goal
 

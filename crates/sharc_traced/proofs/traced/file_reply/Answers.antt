@@ -1,7 +1,6 @@
 use Rattle.std.proofs.Common.{List, take, ap, subst, ◌∙◌}
-use Rattle.sharc_event_file.specs.{Cut.IsFront, Writing.file_text}
+use Rattle.sharc_history.specs.{Cut.IsFront, Writing.file_text, declared.event.Event.Event}
 use Rattle.sharc_mode.specs.Moded.{Assignment}
-use Rattle.sharc_said.specs.declared.event.Event.{Event}
 use Rattle.sharc_traced.specs.Replies.{history}
 use Rattle.sharc_traced.proofs.Filing.{file_of}
 use Rattle.sharc_traced.proofs.traced.file_reply.Goals as goal

@@ -1,5 +1,5 @@
 use Rattle.std.proofs.Common.{arith}
-use Rattle.sharc_recorded.specs.Shown.{view_of}
+use Rattle.sharc_schedule.specs.Shown.{view_of}
 use Rattle.sharc_traced.proofs.Replying.{reply_long_source, reply_recorded}
 use Rattle.sharc_traced.proofs.traced.file_traced.Goals as goal
 

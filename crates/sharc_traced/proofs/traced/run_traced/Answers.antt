@@ -1,4 +1,4 @@
-use Rattle.sharc_recorded.specs.Shown.{view_of}
+use Rattle.sharc_schedule.specs.Shown.{view_of}
 use Rattle.sharc_traced.proofs.Replying.{file_traced, places_traced}
 use Rattle.sharc_traced.proofs.traced.run_traced.Goals as goal
 

@@ -1,4 +1,4 @@
-use Rattle.sharc_recorded.specs.Shown.{view_of}
+use Rattle.sharc_schedule.specs.Shown.{view_of}
 use Rattle.sharc_traced.proofs.Replying.{reply_built, reply_refused}
 use Rattle.sharc_traced.proofs.traced.source_traced.Goals as goal
 

@@ -1,4 +1,4 @@
-use Rattle.sharc_flat_form.specs.Made.{flat_of}
+use Rattle.sharc_flat.specs.Made.{flat_of}
 use Rattle.sharc_typed_laws.specs.Passes.{with_checks}
 use Rattle.sharc_typed_laws.proofs.typed.code_law.Goals as goal
 

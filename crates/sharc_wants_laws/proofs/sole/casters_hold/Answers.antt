@@ -1,6 +1,6 @@
 use Rattle.std.specs.Prelude.{reverse}
 use Rattle.sharc_code.specs.Whole.{Erase, place_after}
-use Rattle.sharc_gen.specs.OfRuns.{told_in}
+use Rattle.sharc_compile.specs.OfRuns.{told_in}
 use Rattle.sharc_wants_laws.specs.Holding.{lowered_of}
 use Rattle.sharc_wants_laws.proofs.Seeing.{seen_twice}
 use Rattle.sharc_wants_laws.proofs.sole.casters_hold.Goals as goal

@@ -1,10 +1,9 @@
 use Rattle.std.proofs.Common.{◌≡◌, ℕ, length, inl, inr, ⊎_elim, subst, sym}
 use Rattle.std.specs.Prelude.{Bool}
 use Rattle.sharc_code.specs.{Paced.paced_in, Path.{begun, machine_after}}
-use Rattle.sharc_flat_form.specs.{declared.flat.Flat.{Flat as FlatCode}, Made.flat_of}
-use Rattle.sharc_gen.specs.{Consistent.said_in, Correct.{IsBeginning, HasCome}, Generated.program_of, Lowered.lowered_in}
-use Rattle.sharc_guard.specs.{Guard.guarded, Known.dropped, Made.IsMade}
-use Rattle.sharc_guarded_form.specs.{declared.guarded.Guarded.Guarded, Form.IsGuarded}
+use Rattle.sharc_flat.specs.{declared.flat.Flat.{Flat as FlatCode}, Made.flat_of}
+use Rattle.sharc_compile.specs.{Consistent.said_in, Correct.{IsBeginning, HasCome}, Generated.program_of, Lowered.lowered_in}
+use Rattle.sharc_guard.specs.{Guard.guarded, Known.dropped, Made.IsMade, declared.guarded.Guarded.Guarded, Form.IsGuarded}
 use Rattle.sharc_wants_laws.proofs.Holding.{there}
 use Rattle.sharc_wants_laws.proofs.sole.path_holds.Goals as goal
 

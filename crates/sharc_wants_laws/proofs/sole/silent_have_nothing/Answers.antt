@@ -1,9 +1,8 @@
 use Rattle.std.proofs.Common.{◌≡◌, ℕ, Bool, sym, ◌∙◌, subst}
 use Rattle.sharc_code.specs.Runs.{turns_of}
-use Rattle.sharc_flat_form.specs.{declared.flat.Flat.{Flat as FlatCode}, Made.flat_of}
-use Rattle.sharc_gen.specs.{Generated.program_of, OfRuns.{elements_before, founds_of}}
-use Rattle.sharc_guard.specs.{Guard.guarded, Known.dropped, Made.IsMade}
-use Rattle.sharc_guarded_form.specs.{declared.guarded.Guarded.Guarded, Form.IsGuarded}
+use Rattle.sharc_flat.specs.{declared.flat.Flat.{Flat as FlatCode}, Made.flat_of}
+use Rattle.sharc_compile.specs.{Generated.program_of, OfRuns.{elements_before, founds_of}}
+use Rattle.sharc_guard.specs.{Guard.guarded, Known.dropped, Made.IsMade, declared.guarded.Guarded.Guarded, Form.IsGuarded}
 use Rattle.sharc_wants_laws.specs.Silent.{HasNothing}
 use Rattle.sharc_wants_laws.proofs.{Silent.nothing_there, SoleTelling.{events_are, place_is}}
 use Rattle.sharc_wants_laws.proofs.sole.silent_have_nothing.Goals as goal

@@ -3,7 +3,7 @@ use Rattle.std.specs.Option.{option_copied}
 use Rattle.sharc_code.specs.Machine.{Machine, instr_at}
 use Rattle.sharc_cpu.specs.Thread.{ThreadView}
 use Rattle.sharc_seq.specs.Walk.{IsThreadThere}
-use Rattle.sharc_said.specs.{Origins.origin_at, Told.IsComing}
+use Rattle.sharc_history.specs.{Origins.origin_at, Told.IsComing}
 use Rattle.sharc_history.proofs.going.Going.coming.Goals as goal
 
 pub thread-requires-clause-walk : goal.thread-requires-clause-walk

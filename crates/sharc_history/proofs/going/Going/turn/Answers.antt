@@ -1,9 +1,8 @@
 use Rattle.std.proofs.Common.{ℕ, List, ◌∷◌, [], length, length-append, map, ap, sym, subst, ◌∙◌, arith}
 use Rattle.std.specs.Prelude.{reverse}
 use Rattle.sharc_code.specs.{Runs.told_by, Says.elements_in, Whole.{one_thread, Erase, place_after}}
-use Rattle.sharc_said.specs.{Told.{spoken, told, told_of_event}, declared.event.Event.Event, Origins.origin_at}
+use Rattle.sharc_history.specs.{Told.{spoken, told, told_of_event}, declared.event.Event.Event, Origins.origin_at, History.{told_events, origins_of}}
 use Rattle.sharc_seq.specs.{declared.walk.Walk.Walk, Walk.StandsAt}
-use Rattle.sharc_history.specs.History.{told_events, origins_of}
 use Rattle.sharc_history.proofs.Telling.{what_comes, told_grown, events_more, elements_more, origins_more}
 use Rattle.sharc_history.proofs.going.Going.turn.Goals as goal
 

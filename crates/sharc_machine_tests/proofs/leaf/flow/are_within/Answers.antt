@@ -1,6 +1,5 @@
 use Rattle.std.proofs.{Common.{sym, arith, false}, lemmas.List.take_all, lemmas.List.Elements.{All-more, All-same}}
-use Rattle.sharc_graph.specs.Paths.{IsWithin}
-use Rattle.sharc_constraints.specs.Flow.{link_of}
+use Rattle.sharc_graph.specs.{Paths.IsWithin, Flow.link_of}
 use Rattle.sharc_machine_tests.proofs.leaf.flow.are_within.Goals as goal
 
 pub loop-link-preserved : goal.loop-link-preserved

@@ -1,5 +1,5 @@
 use Rattle.std.proofs.lemmas.Result.{IfOk-weaker}
-use Rattle.sharc_run_text.specs.Others.{AreAllowed}
+use Rattle.sharc_run.specs.Others.{AreAllowed}
 use Rattle.sharc_machine_tests.proofs.run_text.bench.by_last.Goals as goal
 
 pub returns : goal.returns

@@ -1,7 +1,0 @@
-mod Doubling
-mod Held
-mod Locks
-mod NextAnswer
-mod Steps
-mod Variables
-mod Waits

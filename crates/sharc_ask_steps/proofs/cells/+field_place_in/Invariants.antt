@@ -1,5 +1,0 @@
-use Rattle.std.proofs.Common.{length}
-use Rattle.sharc_ask_steps.proofs.cells.+field_place_in.Given as goal
-
-abbrev pub decreases-field_place_in : goal.decreases-field_place_in
-decreases-field_place_in l = length l.items.now

@@ -1,5 +1,0 @@
-use Rattle.std.proofs.Common.{length}
-use Rattle.sharc_ask_steps.proofs.cells.+fields_before.Given as goal
-
-abbrev pub decreases-fields_before : goal.decreases-fields_before
-decreases-fields_before l = length l.fields.now

@@ -1,0 +1,82 @@
+-- What threads get: which functions are spawned; and that it can be determined which globals they touch.
+use Rattle.std.proofs.{Common.{◌≡◌, ⊎_elim, ℕ, ◌==◌, Bool, true, false, List, [], ◌∷◌, refl, ap, sym, ◌∙◌, subst, eqb-true, Contains}, lemmas.Bool.false≢true, lemmas.List.Elements.{Contains-append_left, Contains-append_right, Contains-append_cases}}
+use Rattle.std.specs.List.{flat_map}
+use Rattle.sharc_tree.specs.Measures.{in_function}
+use Rattle.sharc_names.specs.declared.fault.Named.{Named}
+use Rattle.sharc_names.specs.declared.fault.Named.TheVariants as named
+use Rattle.sharc_ctype.specs.{Reaches.{spawns, of_all, Names, Spawns}, Resolved.{Resolution, functions_in, function_at, named_at}}
+use Rattle.sharc_mode.specs.{Sharings.{Sharing, private, readonly, locked, racy, dynamic}, WellModed.{names_function, all_spawned, is_spawned, has_private_target}}
+use Rattle.sharc_check.proofs.Lists.{passes_there, passes_by}
+use Rattle.sharc_lemmas.proofs.{Numbers.{same_is as same_number}, Options.{some_there, and_some as there_some}, Lists.{head_there, head_or_tail, place_of_element, in_list as place_there, tail_there}, Equal.none_there}
+
+-- ---- words on lists
+
+pub flat_there : {A B : Type 0} (f : A → List B) (list : List A) (x : A) (y : B) → Contains list x → Contains (f x) y → Contains (flat_map f list) y
+flat_there f [] x y has in_it = absurd (none_there x has)
+flat_there f (z ∷ rest) x y has in_it =
+    ⊎_elim
+    (λ is. Contains-append_left (f z) (flat_map f rest) y (subst (λ k. Contains (f k) y) (sym is) in_it))
+    (λ later. Contains-append_right (f z) (flat_map f rest) y (flat_there f rest x y later in_it))
+    (head_or_tail z x rest has)
+
+next_flat : {A B : Type 0} (f : A → List B) (z : A) (rest : List A) (y : B) → (x : A) × Contains rest x × Contains (f x) y → (x : A) × Contains (z ∷ rest) x × Contains (f x) y
+next_flat f z rest y found = (found.0, tail_there z found.0 rest found.1, found.2)
+
+pub flat_from : {A B : Type 0} (f : A → List B) (list : List A) (y : B) → Contains (flat_map f list) y → (x : A) × Contains list x × Contains (f x) y
+flat_from f [] y has = absurd (none_there y has)
+flat_from f (z ∷ rest) y has = ⊎_elim (λ here. (z, head_there z rest, here)) (λ later. next_flat f z rest y (flat_from f rest y later)) (Contains-append_cases (f z) (flat_map f rest) y has)
+
+-- ---- names of functions and globals
+
+pub names_is : (n : ℕ) (what : Named) → names_function n what ≡ true → what ≡ named.Function n
+names_is n (named.Struct k) h = absurd (false≢true h)
+names_is n (named.Global k) h = absurd (false≢true h)
+names_is n (named.Function k) h = ap named.Function (sym (eqb-true n k h))
+names_is n (named.Variable k) h = absurd (false≢true h)
+names_is n (named.Field k) h = absurd (false≢true h)
+names_is n named.Known h = absurd (false≢true h)
+
+pub is_names : (n : ℕ) (what : Named) → what ≡ named.Function n → names_function n what ≡ true
+is_names n what is = ap (names_function n) is ∙ same_number n
+
+abbrev pub names_global : ℕ → Named → Bool
+names_global n (named.Global k) = n == k
+names_global n _ = false
+
+pub global_is : (n : ℕ) (what : Named) → names_global n what ≡ true → what ≡ named.Global n
+global_is n (named.Struct k) h = absurd (false≢true h)
+global_is n (named.Global k) h = ap named.Global (sym (eqb-true n k h))
+global_is n (named.Function k) h = absurd (false≢true h)
+global_is n (named.Variable k) h = absurd (false≢true h)
+global_is n (named.Field k) h = absurd (false≢true h)
+global_is n named.Known h = absurd (false≢true h)
+
+pub is_global : (n : ℕ) (what : Named) → what ≡ named.Global n → names_global n what ≡ true
+is_global n what is = ap (names_global n) is ∙ same_number n
+
+-- ---- which functions are spawned
+
+pub spawned_by : (r : Resolution) (n k : ℕ) → Spawns r n k → is_spawned r k ≡ true
+spawned_by r n k s =
+    let f = some_there (λ f. Names r (named.Function k) (of_all spawns (in_function f))) (function_at r n) s in
+    passes_by (λ token. names_function k (named_at r token)) (all_spawned (functions_in r.program.items)) f.2.0
+    (flat_there (λ f. of_all spawns (in_function f)) (functions_in r.program.items) f.0 f.2.0 (place_there (functions_in r.program.items) n f.0 f.1) f.2.1)
+    (is_names k (named_at r f.2.0) f.2.2)
+
+pub by_spawned : (r : Resolution) (k : ℕ) → is_spawned r k ≡ true → (n : ℕ) × Spawns r n k
+by_spawned r k h =
+    let token = passes_there (λ token. names_function k (named_at r token)) (all_spawned (functions_in r.program.items)) h in
+    let f = flat_from (λ f. of_all spawns (in_function f)) (functions_in r.program.items) token.0 token.1 in
+    let n = place_of_element (functions_in r.program.items) f.0 f.1 in
+    (n.0, there_some (λ f. Names r (named.Function k) (of_all spawns (in_function f))) (function_at r n.0) f.0 n.1 (token.0, f.2, names_is k (named_at r token.0) token.2))
+
+pub private_target : (modes below : List Sharing) → modes ≡ private ∷ below → has_private_target modes ≡ true
+private_target modes below is = ap has_private_target is
+
+pub target_private : (modes : List Sharing) → has_private_target modes ≡ true → (below : List Sharing) × (modes ≡ private ∷ below)
+target_private [] h = absurd (false≢true h)
+target_private (private ∷ below) h = (below, refl)
+target_private (readonly ∷ below) h = absurd (false≢true h)
+target_private (locked l ∷ below) h = absurd (false≢true h)
+target_private (racy ∷ below) h = absurd (false≢true h)
+target_private (dynamic ∷ below) h = absurd (false≢true h)

@@ -1,4 +1,0 @@
-pub mod Places
-pub mod Sorts
-pub mod Standing
-pub mod Tells

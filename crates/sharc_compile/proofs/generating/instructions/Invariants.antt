@@ -1,0 +1,6 @@
+use Rattle.std.proofs.Common.{◌≡◌, map, take}
+use Rattle.sharc_compile.specs.Generated.{instr_of}
+use Rattle.sharc_compile.proofs.generating.instructions.Given as goal
+
+abbrev pub invariant-loop-statement : goal.invariant-loop-statement
+invariant-loop-statement l = l.instrs.items ≡ map (instr_of l.functions) (take l.statement-index l.statements)

@@ -1,0 +1,272 @@
+-- Code that is laid out overwrites no reference and names its mutexes, as the code does whose texts are given.
+use Rattle.std.proofs.Common.{◌≡◌, inl, inr, ℕ, zero, suc, ◌+◌, ◌-◌, ◌<◌, Bool, List, [], ◌∷◌, length, Some, None, refl, ap, sym, ◌∙◌, subst, arith}
+use Rattle.std.specs.Prelude.{slice_get, slice_index_or}
+use Rattle.sharc_code.specs.{declared.code.Function.{Function as Row}, declared.code.Parameter.Parameter, declared.code.Text.Text, Machine.no_function, declared.code.GlobalCells.GlobalCells, declared.code.PlaceMode.PlaceMode, declared.instr.Cell.Cell}
+use Rattle.sharc_code.specs.declared.code.Parameter.TheVariants as parameters
+use Rattle.sharc_ctype.specs.Resolved.{Resolution, functions_in}
+use Rattle.sharc_mode.specs.Moded.{Assignment}
+use Rattle.sharc_flat.specs.{declared.op.Op.Op, Machine.{Flat, At, function_of, cell_at, lock_is_null}, Made.flat_of, declared.op.Spot.Spot, Flattened.{rows_of, flattened, function_code, AreRows, IsFlattened}, Flattens.names_of, Laid.{told_by, with_texts, AreLaid, AreNamed, Lays}, Tables.globals_of}
+use Rattle.sharc_flat.specs.declared.op.Op.TheVariants as op
+use Rattle.sharc_tree.specs.Tree.{Function}
+use Rattle.sharc_guard.specs.{Level.{Slots, Fits, Enters, Calls, Resumes, Leaves, Level, Takes, IsEntry, IsLevel}, Counted.{IsBeside, LockStands}}
+use Rattle.sharc_compile_laws.specs.Laws.{MadeIsLevel, FlattenedLocksStand, MadeLocksStand}
+use Rattle.sharc_compile_laws.proofs.{Ties.{Ties, Next, Needs}, Traced.{IsTraced, stand, flattened_is_traced}, Program.flattened_is_level}
+use Rattle.sharc_code.specs.declared.code.PlaceMode.TheVariants as modes
+use Rattle.sharc_lemmas.proofs.Options.{same_some, none_some}
+
+-- ---- lines
+-- a line that is made is one that is given, with other texts
+pub record Told (told : List Op) (n : ℕ) (p : Op) : Type 0 where
+  pub line : Op
+  pub at : slice_get told n ≡ Some line
+  pub lvalue : Text
+  pub lock : Text
+  pub is : p ≡ with_texts lvalue lock line
+
+pub told_at : (r : Resolution) (bytes : List ℕ) (os ps : List Op) → AreLaid r bytes os ps → (n : ℕ) (p : Op) → slice_get ps n ≡ Some p → Told os n p
+told_at r bytes [] [] h n p at = absurd (none_some p at)
+told_at r bytes [] (q ∷ ps) h n p at = absurd h
+told_at r bytes (o ∷ os) [] h n p at = absurd h
+told_at r bytes (o ∷ os) (q ∷ ps) h zero p at = record { line = o; at = refl; lvalue = h.0.lvalue; lock = h.0.lock; is = sym (same_some q p at) ∙ h.0.is }
+told_at r bytes (o ∷ os) (q ∷ ps) h (suc n) p at = let w = told_at r bytes os ps h.1 n p at in record { line = w.line; at = w.at; lvalue = w.lvalue; lock = w.lock; is = w.is }
+
+pub lines_many : (r : Resolution) (bytes : List ℕ) (os ps : List Op) → AreLaid r bytes os ps → length os ≡ length ps
+lines_many r bytes [] [] h = refl
+lines_many r bytes [] (q ∷ ps) h = absurd h
+lines_many r bytes (o ∷ os) [] h = absurd h
+lines_many r bytes (o ∷ os) (q ∷ ps) h = ap suc (lines_many r bytes os ps h.1)
+
+-- ---- rows
+pub rows_many : (bytes : List ℕ) (xs ys : List Row) (ns : List (List ℕ)) → AreNamed bytes xs ns ys → length xs ≡ length ys
+rows_many bytes [] [] [] h = refl
+rows_many bytes [] [] (n ∷ ns) h = absurd h
+rows_many bytes [] (y ∷ ys) [] h = absurd h
+rows_many bytes [] (y ∷ ys) (n ∷ ns) h = absurd h
+rows_many bytes (x ∷ xs) [] [] h = absurd h
+rows_many bytes (x ∷ xs) [] (n ∷ ns) h = absurd h
+rows_many bytes (x ∷ xs) (y ∷ ys) [] h = absurd h
+rows_many bytes (x ∷ xs) (y ∷ ys) (n ∷ ns) h = ap suc (rows_many bytes xs ys ns h.1)
+
+pub record SameRow (x y : Row) : Type 0 where
+  pub entry : y.entry ≡ x.entry
+  pub parameter : y.parameter ≡ x.parameter
+
+pub rows_same : (bytes : List ℕ) (xs ys : List Row) (ns : List (List ℕ)) → AreNamed bytes xs ns ys → (k : ℕ) → SameRow (slice_index_or xs k no_function) (slice_index_or ys k no_function)
+rows_same bytes [] [] [] h k = record { entry = refl; parameter = refl }
+rows_same bytes [] [] (n ∷ ns) h k = absurd h
+rows_same bytes [] (y ∷ ys) [] h k = absurd h
+rows_same bytes [] (y ∷ ys) (n ∷ ns) h k = absurd h
+rows_same bytes (x ∷ xs) [] [] h k = absurd h
+rows_same bytes (x ∷ xs) [] (n ∷ ns) h k = absurd h
+rows_same bytes (x ∷ xs) (y ∷ ys) [] h k = absurd h
+rows_same bytes (x ∷ xs) (y ∷ ys) (n ∷ ns) h zero = record { entry = ap (λ (z : Row). z.entry) h.0.is; parameter = ap (λ (z : Row). z.parameter) h.0.is }
+rows_same bytes (x ∷ xs) (y ∷ ys) (n ∷ ns) h (suc k) = rows_same bytes xs ys ns h.1 k
+
+-- ---- what is level is so with its texts laid out
+module _ (a b : Flat) (lines : length a.lines ≡ length b.lines) (rows : length a.functions ≡ length b.functions) (same : (k : ℕ) → SameRow (function_of a k) (function_of b k)) (owner : ℕ → ℕ) (gives : ℕ → Bool) (slots : ℕ → Slots) where
+  En : (f : ℕ) (s : Slots) (pc : ℕ) → Enters a owner gives slots f s pc → Enters b owner gives slots f s pc
+  En f s pc h = record { inside = subst (λ n. pc < n) lines h.inside; owned = h.owned; fits = h.fits }
+
+  calls : (f : ℕ) (s : Slots) (refs : ℕ) → Calls a owner gives slots f s refs → Calls b owner gives slots f s refs
+  calls f s refs h = record { known = subst (λ n. f < n) rows h.known; fits = subst (λ n. (k : ℕ) → Fits (s (refs + k)) (slots n k)) (sym (same f).entry) h.fits }
+
+  resumes : (f : ℕ) (s : Slots) (refs pc g : ℕ) → Resumes a owner gives slots f s refs pc g → Resumes b owner gives slots f s refs pc g
+  resumes f s refs pc g h = record { inside = subst (λ n. pc < n) lines h.inside; owned = h.owned; below = h.below; result = h.result }
+
+  leaves : (f : ℕ) (s : Slots) → Leaves a owner gives slots f s → Leaves b owner gives slots f s
+  leaves f s h = record { result = h.result; others = h.others }
+
+  level : (pc f : ℕ) (s : Slots) (lv lk : Text) (o : Op) → Level a owner gives slots pc f s o → Level b owner gives slots pc f s (with_texts lv lk o)
+  level pc f s lv lk op.Enter h = En f _ _ h
+  level pc f s lv lk (op.Constant i v) h = En f _ _ h
+  level pc f s lv lk (op.Move i from) h = En f _ _ h
+  level pc f s lv lk (op.Compute width o i x y spot) h = (h.0, En f _ _ h.1)
+  level pc f s lv lk (op.Negate width i x spot) h = (h.0, En f _ _ h.1)
+  level pc f s lv lk (op.Complement i x) h = En f _ _ h
+  level pc f s lv lk (op.IsFalse i x) h = En f _ _ h
+  level pc f s lv lk (op.SameReference i x y) h = En f _ _ h
+  level pc f s lv lk (op.ChkWidth width i spot) h = En f _ _ h
+  level pc f s lv lk (op.Skip n) h = En f _ _ h
+  level pc f s lv lk (op.SkipIfZero i n) h = (En f _ _ h.0, En f _ _ h.1)
+  level pc f s lv lk (op.SkipIfNull r n) h = (En f _ _ h.0, En f _ _ h.1)
+  level pc f s lv lk (op.Jump to) h = En f _ _ h
+  level pc f s lv lk (op.Call g ints refs spot) h = (calls g s refs h.0, resumes f s refs (pc + 1) g h.1)
+  level pc f s lv lk (op.Return spot) h = leaves f s h
+  level pc f s lv lk op.BlockEnd h = En f _ _ h
+  level pc f s lv lk (op.Null r) h = (h.0, En f _ _ h.1)
+  level pc f s lv lk (op.Local r x) h = (h.0, En f _ _ h.1)
+  level pc f s lv lk (op.MoveReference r from) (inl h) = inl (h.0, En f _ _ h.1)
+  level pc f s lv lk (op.MoveReference r from) (inr h) = inr (h.0, h.1, En f _ _ h.2)
+  level pc f s lv lk (op.Pop r) h = En f _ _ h
+  level pc f s lv lk (op.Settle x from) h = (h.0, En f _ _ h.1)
+  level pc f s lv lk (op.ChkNull r spot) h = En f _ _ h
+  level pc f s lv lk (op.ChkPositive i spot) h = En f _ _ h
+  level pc f s lv lk (op.ChkHeld cell spot) h = En f _ _ h
+  level pc f s lv lk (op.ChkNotHeld cell spot) h = En f _ _ h
+  level pc f s lv lk (op.ChkRoom spot) h = En f _ _ h
+  level pc f s lv lk (op.Bounds i r cells field spot) h = En f _ _ h
+  level pc f s lv lk (op.GlobalBounds i elements cells field spot) h = En f _ _ h
+  level pc f s lv lk (op.Load i cell spot) h = En f _ _ h
+  level pc f s lv lk (op.Store i cell spot) h = En f _ _ h
+  level pc f s lv lk (op.LoadRef r cell spot) h = (h.0, En f _ _ h.1)
+  level pc f s lv lk (op.StoreRef r cell spot) h = En f _ _ h
+  level pc f s lv lk (op.LoadGuard cell spot) h = En f _ _ h
+  level pc f s lv lk (op.New r count cells spot) h = (h.0, En f _ _ h.1)
+  level pc f s lv lk (op.TakeCell r cell spot) h = (h.0, En f _ _ h.1)
+  level pc f s lv lk (op.TakeLocal r x spot) h = (h.0, h.1, En f _ _ h.2)
+  level pc f s lv lk (op.Give r cells spot) h = En f _ _ h
+  level pc f s lv lk (op.Free r layout spot) h = En f _ _ h
+  level pc f s lv lk (op.Lock cell spot) h = En f _ _ h
+  level pc f s lv lk (op.Unlock r cell spot) h = (h.0, En f _ _ h.1)
+  level pc f s lv lk (op.CondEnter cell spot) h = En f _ _ h
+  level pc f s lv lk (op.CondWait cell spot) h = En f _ _ h
+  level pc f s lv lk (op.CondSignal cell spot) h = En f _ _ h
+  level pc f s lv lk (op.CondBroadcast cell spot) h = En f _ _ h
+  level pc f s lv lk (op.Spawn i g from spot) h = En f _ _ h
+  level pc f s lv lk (op.Join i spot) h = En f _ _ h
+  level pc f s lv lk (op.Print i spot) h = En f _ _ h
+
+  takes : (s : Slots) (p : Parameter) → Takes a owner gives slots s p → Takes b owner gives slots s p
+  takes s parameters.None h = tt
+  takes s parameters.Int h = tt
+  takes s parameters.Reference h = h
+
+  entry : (f : ℕ) → IsEntry a owner gives slots f → IsEntry b owner gives slots f
+  entry f h = record {
+    inside = let e = (same f).entry in let i = h.inside in omega (arith, e, i, lines);
+    owned = ap owner (same f).entry ∙ h.owned;
+    takes = subst (λ n. Takes b owner gives slots (slots n) (function_of b f).parameter) (sym (same f).entry)
+        (subst (Takes b owner gives slots (slots (function_of a f).entry)) (sym (same f).parameter) (takes (slots (function_of a f).entry) (function_of a f).parameter h.takes));
+  }
+
+laid_is_level : (r : Resolution) (bytes : List ℕ) (names : List (List ℕ)) (told made : Flat) → Lays r bytes names told made → IsLevel told → IsLevel made
+laid_is_level r bytes names told made h l =
+    let lines = lines_many r bytes told.lines made.lines h.lines in
+    let rows = rows_many bytes told.functions made.functions names h.functions in
+    let same : (k : ℕ) → SameRow (function_of told k) (function_of made k) = rows_same bytes told.functions made.functions names h.functions in
+    record {
+      owner = l.owner;
+      gives = l.gives;
+      slots = l.slots;
+      entries = λ f lt. entry told made lines rows same l.owner l.gives l.slots f (l.entries f (omega (arith, lt, rows)));
+      each = λ pc p at.
+          let w = told_at r bytes told.lines made.lines h.lines pc p at in
+          subst (Level made l.owner l.gives l.slots pc (l.owner pc) (l.slots pc)) (sym w.is) (level told made lines rows same l.owner l.gives l.slots pc (l.owner pc) (l.slots pc) w.lvalue w.lock w.line (l.each pc w.line w.at));
+    }
+
+-- ---- the code as it is defined
+are_rows : (m : Assignment) (globals : List GlobalCells) (pc : ℕ) (fs : List Function) → AreRows m globals pc fs (rows_of m globals pc fs)
+are_rows m globals pc [] = refl
+are_rows m globals pc (f ∷ rest) = (record { entry = refl; parameter = refl; site = refl; ints = refl; refs = refl }, are_rows m globals (pc + length (function_code m globals pc f)) rest)
+
+pub is_flattened : (m : Assignment) (globals : List GlobalCells) → IsFlattened m (flattened m globals)
+is_flattened m globals = record { lines = refl; functions = are_rows m globals 0 (functions_in m.typed.program.items) }
+
+pub made_is_level : MadeIsLevel
+made_is_level m suits code h =
+    laid_is_level m.typed code.texts.items (names_of (functions_in m.typed.program.items)) (flattened m (globals_of m.typed)) (flat_of code) h.lays (flattened_is_level m suits (flattened m (globals_of m.typed)) (is_flattened m (globals_of m.typed)))
+
+-- ---- and names its mutexes
+null_same : (m : At) (lv lk : Text) (spot : Spot) (mode : PlaceMode) → lock_is_null m (told_by lv lk spot) mode ≡ lock_is_null m spot mode
+null_same m lv lk spot modes.Private = refl
+null_same m lv lk spot modes.Readonly = refl
+null_same m lv lk spot modes.Racy = refl
+null_same m lv lk spot modes.Dynamic = refl
+null_same m lv lk spot (modes.LockedGlobal g place) = refl
+null_same m lv lk spot (modes.LockedSibling field mutex) = refl
+null_same m lv lk spot (modes.LockedThrough r place) = refl
+null_same m lv lk spot modes.LockedLoaded = refl
+
+module _ (a b : Flat) (globals : b.globals ≡ a.globals) (same : (k : ℕ) → SameRow (function_of a k) (function_of b k)) where
+  beside : (m : At) (lv lk : Text) (cell : Cell) (spot : Spot) (mode : PlaceMode) → IsBeside a m cell spot mode → IsBeside b m cell (told_by lv lk spot) mode
+  beside m lv lk cell spot modes.Private h = tt
+  beside m lv lk cell spot modes.Readonly h = tt
+  beside m lv lk cell spot modes.Racy h = tt
+  beside m lv lk cell spot modes.Dynamic h = tt
+  beside m lv lk cell spot (modes.LockedGlobal g place) h = tt
+  beside m lv lk cell spot (modes.LockedSibling field mutex) h =
+      λ none. subst (λ g. cell_at g m spot.lock ≡ record { object = (cell_at g m cell).object; cell = (cell_at g m cell).cell - field + mutex }) (sym globals) (h (sym (null_same m lv lk spot spot.mode) ∙ none))
+  beside m lv lk cell spot (modes.LockedThrough r place) h = tt
+  beside m lv lk cell spot modes.LockedLoaded h = tt
+
+  stands : (m : At) (lv lk : Text) (o : Op) → LockStands a m o → LockStands b m (with_texts lv lk o)
+  stands m lv lk (op.Load i cell spot) h = beside m lv lk cell spot spot.mode h
+  stands m lv lk (op.Store i cell spot) h = beside m lv lk cell spot spot.mode h
+  stands m lv lk (op.LoadRef r cell spot) h = beside m lv lk cell spot spot.mode h
+  stands m lv lk (op.StoreRef r cell spot) h = beside m lv lk cell spot spot.mode h
+  stands m lv lk (op.TakeCell r cell spot) h = beside m lv lk cell spot spot.mode h
+  stands m lv lk _ h = tt
+
+  next : (table : ℕ → Ties) (pc : ℕ) (s : Ties) (lv lk : Text) (o : Op) → Next a table pc s o → Next b table pc s (with_texts lv lk o)
+  next table pc s lv lk op.Enter h = h
+  next table pc s lv lk (op.Constant i v) h = h
+  next table pc s lv lk (op.Move i from) h = h
+  next table pc s lv lk (op.Compute width o i x y spot) h = h
+  next table pc s lv lk (op.Negate width i x spot) h = h
+  next table pc s lv lk (op.Complement i x) h = h
+  next table pc s lv lk (op.IsFalse i x) h = h
+  next table pc s lv lk (op.SameReference i x y) h = h
+  next table pc s lv lk (op.ChkWidth width i spot) h = h
+  next table pc s lv lk (op.Skip n) h = h
+  next table pc s lv lk (op.SkipIfZero i n) h = h
+  next table pc s lv lk (op.SkipIfNull r n) h = h
+  next table pc s lv lk (op.Jump to) h = h
+  next table pc s lv lk (op.Call g ints refs spot) h = (ap table (same g).entry ∙ h.0, h.1)
+  next table pc s lv lk (op.Return spot) h = h
+  next table pc s lv lk op.BlockEnd h = h
+  next table pc s lv lk (op.Null r) h = h
+  next table pc s lv lk (op.Local r x) h = h
+  next table pc s lv lk (op.MoveReference r from) h = h
+  next table pc s lv lk (op.Pop r) h = h
+  next table pc s lv lk (op.Settle x from) h = h
+  next table pc s lv lk (op.ChkNull r spot) h = h
+  next table pc s lv lk (op.ChkPositive i spot) h = h
+  next table pc s lv lk (op.ChkHeld cell spot) h = h
+  next table pc s lv lk (op.ChkNotHeld cell spot) h = h
+  next table pc s lv lk (op.ChkRoom spot) h = h
+  next table pc s lv lk (op.Bounds i r cells field spot) h = h
+  next table pc s lv lk (op.GlobalBounds i elements cells field spot) h = h
+  next table pc s lv lk (op.Load i cell spot) h = h
+  next table pc s lv lk (op.Store i cell spot) h = h
+  next table pc s lv lk (op.LoadRef r cell spot) h = h
+  next table pc s lv lk (op.StoreRef r cell spot) h = h
+  next table pc s lv lk (op.LoadGuard cell spot) h = h
+  next table pc s lv lk (op.New r count cells spot) h = h
+  next table pc s lv lk (op.TakeCell r cell spot) h = h
+  next table pc s lv lk (op.TakeLocal r x spot) h = h
+  next table pc s lv lk (op.Give r cells spot) h = h
+  next table pc s lv lk (op.Free r layout spot) h = h
+  next table pc s lv lk (op.Lock cell spot) h = h
+  next table pc s lv lk (op.Unlock r cell spot) h = h
+  next table pc s lv lk (op.CondEnter cell spot) h = h
+  next table pc s lv lk (op.CondWait cell spot) h = h
+  next table pc s lv lk (op.CondSignal cell spot) h = h
+  next table pc s lv lk (op.CondBroadcast cell spot) h = h
+  next table pc s lv lk (op.Spawn i g from spot) h = h
+  next table pc s lv lk (op.Join i spot) h = h
+  next table pc s lv lk (op.Print i spot) h = h
+
+laid_is_traced : (r : Resolution) (bytes : List ℕ) (names : List (List ℕ)) (told made : Flat) → Lays r bytes names told made → IsTraced told → IsTraced made
+laid_is_traced r bytes names told made h t =
+    let lines = lines_many r bytes told.lines made.lines h.lines in
+    let same : (k : ℕ) → SameRow (function_of told k) (function_of made k) = rows_same bytes told.functions made.functions names h.functions in
+    record {
+      table = t.table;
+      last = λ q le. t.last q (omega (arith, le, lines));
+      begins = λ f. ap t.table (same f).entry ∙ t.begins f;
+      needs = λ pc p at.
+          let w = told_at r bytes told.lines made.lines h.lines pc p at in
+          let n = t.needs pc w.line w.at in
+          subst (Needs made t.table pc (t.table pc)) (sym w.is) (record {
+            next = next told made h.globals same t.table pc (t.table pc) w.lvalue w.lock w.line n.next;
+            stands = λ m all. stands told made h.globals same m w.lvalue w.lock w.line (n.stands m all);
+          });
+    }
+
+pub flattened_locks_stand : FlattenedLocksStand
+flattened_locks_stand m flat is = stand flat (flattened_is_traced m flat is)
+
+pub made_locks_stand : MadeLocksStand
+made_locks_stand m code h =
+    stand (flat_of code) (laid_is_traced m.typed code.texts.items (names_of (functions_in m.typed.program.items)) (flattened m (globals_of m.typed)) (flat_of code) h.lays
+    (flattened_is_traced m (flattened m (globals_of m.typed)) (is_flattened m (globals_of m.typed))))

@@ -1,0 +1,5 @@
+use Rattle.sharc_compile_laws.proofs.Laid as laid
+use Rattle.sharc_compile_laws.proofs.flattened.made_is_level.Goals as goal
+
+pub returns : goal.returns
+returns c = laid.made_is_level

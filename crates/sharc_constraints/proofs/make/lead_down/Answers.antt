@@ -1,7 +1,0 @@
-use Rattle.std.proofs.Common.{◌+◌, true, [], ◌∷◌, ◌++◌, ap, ◌∙◌}
-use Rattle.sharc_constraints.specs.Flow.{link_of}
-use Rattle.sharc_constraints.proofs.MakeSteps.{below_more}
-use Rattle.sharc_constraints.proofs.make.lead_down.Goals as goal
-
-pub loop-depth-preserved : goal.loop-depth-preserved
-loop-depth-preserved c = below_more c.args.links.now.items c.push.new.links.items c.args.first c.loop-depth.depth (c.in_ok-push.ensures ∙ ap (λ ls. ls ++ link_of (c.args.first + c.loop-depth.depth) (c.args.first + c.loop-depth.depth + 1) true ∷ []) c.loop-depth.invariant)

@@ -1,6 +1,0 @@
-use Rattle.std.proofs.Common.{◌≡◌, ◌++◌}
-use Rattle.sharc_constraints.specs.Make.{equal_links}
-use Rattle.sharc_constraints.proofs.make.make_equal.Given as goal
-
-abbrev pub invariant-loop-depth : goal.invariant-loop-depth
-invariant-loop-depth l = l.links.items ≡ l.fn.links.items ++ equal_links l.first l.second l.depth

@@ -1,8 +1,0 @@
-use Rattle.sharc_constraints.specs.{Flow.flow_of, Rounds.{IsLowest, IsSome}}
-use Rattle.sharc_constraints.proofs.rounds.lowest.Given as goal
-
-abbrev pub invariant-loop-link : goal.invariant-loop-link
-invariant-loop-link l = record {
-  lowest : IsLowest (flow_of l.places l.links) l.ranks l.link-index l.to l.below l.lowest;
-  some : IsSome (flow_of l.places l.links) l.ranks l.link-index l.to l.below l.lowest 4294967295;
-}

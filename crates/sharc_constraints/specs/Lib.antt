@@ -1,4 +1,0 @@
-pub mod Flow
-pub mod Laws
-pub mod Make
-pub mod Rounds

@@ -1,9 +1,0 @@
-//! Laws of the least assignment. A proof above has them where its function calls this.
-
-ghost use Rattle.sharc_constraints.specs.Laws.{FlowLaws};
-
-/// The inferred positions have all that the roots, the written modes and the links ask for, and are among any others
-/// that have it; equal positions agree; and what is found shows them.
-pub fn flow_laws()
-    ensures { FlowLaws }
-{}

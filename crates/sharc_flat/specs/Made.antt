@@ -1,0 +1,5 @@
+-- What the machine looks at of flat code that was made.
+use Rattle.sharc_flat.specs.{declared.flat.Flat.{Flat as FlatCode}, Machine.Flat}
+
+abbrev pub flat_of : FlatCode → Flat
+flat_of f = record { lines = f.lines.items; functions = f.functions.items; globals = f.globals.items }

@@ -1,4 +1,0 @@
-pub mod Machine
-pub mod Path
-pub mod Framed
-pub mod Made

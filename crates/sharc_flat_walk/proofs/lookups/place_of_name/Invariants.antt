@@ -1,6 +1,0 @@
-use Rattle.std.proofs.Common.{◌≡◌, drop}
-use Rattle.sharc_flat_walk.proofs.PlaceLemmas.{named_from}
-use Rattle.sharc_flat_walk.proofs.lookups.place_of_name.Given as goal
-
-abbrev pub invariant-loop-field : goal.invariant-loop-field
-invariant-loop-field l = named_from l.place (drop l.field-index l.fields) l.name ≡ named_from 0 l.fields l.name

@@ -1,6 +1,0 @@
-use Rattle.std.proofs.Common.{◌≡◌, ◌++◌, drop}
-use Rattle.sharc_flat.specs.Scope.{pops}
-use Rattle.sharc_flat_walk.proofs.scope.pops.Given as goal
-
-abbrev pub invariant-loop-slot : goal.invariant-loop-slot
-invariant-loop-slot l = l.lines.items ++ pops l.register (drop l.slot-index l.scope) ≡ l.initial.lines.items ++ pops l.from l.scope

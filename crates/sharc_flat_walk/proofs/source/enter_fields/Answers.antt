@@ -1,6 +1,0 @@
-use Rattle.std.proofs.Common.{arith}
-use Rattle.sharc_flat_walk.proofs.StructLemmas.{has_all}
-use Rattle.sharc_flat_walk.proofs.source.enter_fields.Goals as goal
-
-pub returns : goal.returns
-returns c = has_all c.args.fields.now c.args.places.now c.loop-left.places c.loop-left.left (omega arith) c.loop-left.invariant.places

@@ -1,6 +1,0 @@
-use Rattle.std.proofs.Common.{◌≡◌, map, take}
-use Rattle.sharc_flat.specs.Scope.{slot_of}
-use Rattle.sharc_flat_walk.proofs.walk.begin.Given as goal
-
-abbrev pub invariant-loop-declaration : goal.invariant-loop-declaration
-invariant-loop-declaration l = l.slots.items ≡ map slot_of (take l.declaration-index l.parameters)

@@ -1,0 +1,41 @@
+-- Statements one after the other, and the variables that they begin.
+use Rattle.std.proofs.{Common.{◌≡◌, ◌+◌, ◌<◌, List, [], ◌∷◌, ◌++◌, length, take, refl, ap, sym, ◌∙◌, append_assoc}, lemmas.List.append-nil}
+use Rattle.sharc_tree.specs.Tree.{Statement, empty, block, declare, simple, jump, return, if_then, if_then_else, while, for, Statements, no_statements, statement}
+use Rattle.sharc_flat.specs.{declared.slot.Slot.Slot, Scope.{Context, slot_of}, Flattened.{behind_statement, behind_statements}}
+use Rattle.sharc_flatten.specs.{declared.source.PlacedProgram.PlacedProgram, View.context}
+use Rattle.sharc_flatten.proofs.WalkLemmas.{kept_first}
+
+abbrev in_scope : Context → List Slot → Context
+in_scope c s = record c { scope = s }
+
+abbrev with_more : List Slot → Context → Context
+with_more zs c = record c { scope = c.scope ++ zs }
+
+none : (c : Context) → c ≡ record c { scope = c.scope ++ [] }
+none c = ap (in_scope c) (sym (append-nil c.scope))
+
+-- what a statement begins
+pub grown : (c : Context) (x : Statement) → (zs : List Slot) × (behind_statement c x ≡ record c { scope = c.scope ++ zs })
+grown c (empty s) = ([], none c)
+grown c (block s all) = ([], none c)
+grown c (declare s l) = (slot_of l.declaration ∷ [], refl)
+grown c (simple s x) = ([], none c)
+grown c (jump s j) = ([], none c)
+grown c (return s e) = ([], none c)
+grown c (if_then s e x) = ([], none c)
+grown c (if_then_else s e x y) = ([], none c)
+grown c (while s e x) = ([], none c)
+grown c (for s h x) = ([], none c)
+
+pub grown_all : (c : Context) (all : Statements) → (zs : List Slot) × (behind_statements c all ≡ record c { scope = c.scope ++ zs })
+grown_all c no_statements = ([], none c)
+grown_all c (statement x rest) =
+    let one = grown c x in
+    let more = grown_all (behind_statement c x) rest in (
+      one.0 ++ more.0,
+      more.1 ∙ ap (with_more more.0) one.1 ∙ ap (in_scope c) (append_assoc c.scope one.0 more.0),
+    )
+
+-- the variables before are kept
+pub kept : (p : PlacedProgram) (xs ys : List Slot) (c : Context) → ((zs : List Slot) × (c ≡ record (context p xs) { scope = xs ++ zs })) → ys ≡ c.scope → take (length xs) ys ≡ xs
+kept p xs ys c g e = kept_first xs ys g.0 (e ∙ ap (λ d. d.scope) g.1)

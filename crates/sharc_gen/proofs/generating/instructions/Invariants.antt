@@ -1,6 +1,0 @@
-use Rattle.std.proofs.Common.{◌≡◌, map, take}
-use Rattle.sharc_gen.specs.Generated.{instr_of}
-use Rattle.sharc_gen.proofs.generating.instructions.Given as goal
-
-abbrev pub invariant-loop-statement : goal.invariant-loop-statement
-invariant-loop-statement l = l.instrs.items ≡ map (instr_of l.functions) (take l.statement-index l.statements)

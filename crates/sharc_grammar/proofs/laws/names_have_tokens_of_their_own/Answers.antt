@@ -1,5 +1,0 @@
-use Rattle.sharc_grammar.proofs.Marks.{names_apart}
-use Rattle.sharc_grammar.proofs.laws.names_have_tokens_of_their_own.Goals as goal
-
-pub returns : goal.returns
-returns c = names_apart

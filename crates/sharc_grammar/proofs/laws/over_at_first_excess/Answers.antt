@@ -1,5 +1,0 @@
-use Rattle.sharc_grammar.proofs.WithinLaws.{first_excess}
-use Rattle.sharc_grammar.proofs.laws.over_at_first_excess.Goals as goal
-
-pub returns : goal.returns
-returns c = first_excess

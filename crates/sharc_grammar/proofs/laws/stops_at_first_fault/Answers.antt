@@ -1,5 +1,0 @@
-use Rattle.sharc_grammar.proofs.Whole.{first_fault}
-use Rattle.sharc_grammar.proofs.laws.stops_at_first_fault.Goals as goal
-
-pub returns : goal.returns
-returns c = first_fault

@@ -1,0 +1,6 @@
+use Rattle.std.proofs.Common.{◌≡◌, take}
+use Rattle.sharc_graph.specs.Flow.{kept_edges}
+use Rattle.sharc_graph.proofs.assignment.edges.Given as goal
+
+abbrev pub invariant-loop-link : goal.invariant-loop-link
+invariant-loop-link l = l.edges.items ≡ kept_edges l.places (take l.link-index l.links)

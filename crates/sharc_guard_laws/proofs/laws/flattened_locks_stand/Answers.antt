@@ -1,5 +1,0 @@
-use Rattle.sharc_guard_laws.proofs.Laid as laid
-use Rattle.sharc_guard_laws.proofs.laws.flattened_locks_stand.Goals as goal
-
-pub returns : goal.returns
-returns c = laid.flattened_locks_stand

@@ -1,4 +1,0 @@
-pub mod Form
-pub mod Machine
-pub mod Path
-pub mod Tables

@@ -1,0 +1,14 @@
+pub mod Asks
+pub mod Block
+pub mod Handed
+pub mod NewLaws
+pub mod Stages
+pub mod State
+pub mod Accesses
+pub mod Functions
+pub mod ShadowLaws
+pub mod Notes
+pub mod Others
+pub mod ShadowWord
+pub mod Count
+pub mod CountLaws

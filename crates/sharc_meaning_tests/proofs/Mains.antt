@@ -1,0 +1,30 @@
+-- The first function called main, one function after the other.
+use Rattle.std.proofs.Common.{◌≡◌, ℕ, zero, suc, ◌+◌, true, false, List, [], ◌∷◌, drop, Some, None, refl, ap, sym, ◌∙◌, add-one}
+use Rattle.std.specs.{Prelude.{slice_get, codes, if◌then◌else◌}, Str.bytes_eq}
+use Rattle.sharc_tree.specs.Tree.{Function}
+use Rattle.sharc_meaning_tests.specs.Starting.{main_from}
+
+pub main_end : (k n : ℕ) (fs : List Function) → slice_get fs n ≡ None → main_from k (drop n fs) ≡ None
+main_end k zero [] h = refl
+main_end k (suc n) [] h = refl
+main_end k zero (f ∷ fs) h = absurd (cc)
+main_end k (suc n) (f ∷ fs) h = main_end k n fs h
+
+pub main_here : (k n : ℕ) (fs : List Function) (f : Function) → slice_get fs n ≡ Some f → (a b : List ℕ) → a ≡ f.name.text → b ≡ codes "main" → bytes_eq a b ≡ true → main_from k (drop n fs) ≡ Some k
+main_here k zero [] f h a b i j e = absurd (cc)
+main_here k (suc n) [] f h a b i j e = absurd (cc)
+main_here k zero (g ∷ fs) f h a b i j e =
+    let same : g ≡ f = cc in
+    ap (λ z. if z then Some k else main_from (k + 1) fs) (ap (λ (z : Function). bytes_eq z.name.text (codes "main")) same ∙ ap (λ z. bytes_eq z (codes "main")) (sym i) ∙ ap (bytes_eq a) (sym j) ∙ e)
+main_here k (suc n) (g ∷ fs) f h a b i j e = main_here k n fs f h a b i j e
+
+pub main_on : (k n : ℕ) (fs : List Function) (f : Function) → slice_get fs n ≡ Some f → (a b : List ℕ) → a ≡ f.name.text → b ≡ codes "main" → bytes_eq a b ≡ false → main_from k (drop n fs) ≡ main_from (k + 1) (drop (n + 1) fs)
+main_on k zero [] f h a b i j e = absurd (cc)
+main_on k (suc n) [] f h a b i j e = absurd (cc)
+main_on k zero (g ∷ fs) f h a b i j e =
+    let same : g ≡ f = cc in
+    ap (λ z. if z then Some k else main_from (k + 1) fs) (ap (λ (z : Function). bytes_eq z.name.text (codes "main")) same ∙ ap (λ z. bytes_eq z (codes "main")) (sym i) ∙ ap (bytes_eq a) (sym j) ∙ e)
+main_on k (suc n) (g ∷ fs) f h a b i j e = main_on k n fs f h a b i j e ∙ ap (λ z. main_from (k + 1) z) (further n)
+  where
+    further : (n : ℕ) → drop (n + 1) fs ≡ drop (suc n + 1) (g ∷ fs)
+    further n = rw (add-one, add-one) refl

@@ -1,0 +1,15 @@
+use Rattle.std.proofs.Common.{◌≡◌, ◌++◌, ap, sym, ◌∙◌, subst}
+use Rattle.sharc_ctype.specs.Resolved.{IsResolved}
+use Rattle.sharc_meaning_tests.specs.{Answered.AreReferences, Listed.holders}
+use Rattle.sharc_meaning_tests.proofs.Answering.{answers}
+use Rattle.sharc_meaning_tests.proofs.listed.references.Goals as goal
+
+pub returns : goal.returns
+returns c run =
+    let fuel = c.args.fuel in
+    let m = c.args.program.now in
+    let R = c.args.events.now in
+    let n = c.args.number in
+    let all : c.add_all.new.list.items ≡ holders fuel m R n = c.in_ok-add_all.ensures ∙ ap (λ l. l ++ holders fuel m R n) c.new-list.ensures.items in
+    let resolved : IsResolved m.typed = subst IsResolved c.typed-2.ensures c.program.ensures.resolved in
+    subst (AreReferences fuel m R n) (sym all) (answers fuel m R n c.same_laws.ensures c.meets_globals.ensures c.one_function_of_name.ensures resolved run)

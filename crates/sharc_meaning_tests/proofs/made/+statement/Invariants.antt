@@ -1,0 +1,7 @@
+use Rattle.std.proofs.Common.{◌≡◌, drop}
+use Rattle.sharc_tree.specs.View.{view_statements}
+use Rattle.sharc_meaning_tests.specs.Making.{statements_make}
+use Rattle.sharc_meaning_tests.proofs.made.+statement.Given as goal
+
+abbrev pub invariant-statements_make-loop-stmt : goal.invariant-statements_make-loop-stmt
+invariant-statements_make-loop-stmt l = statements_make l.typed l.token l.cell (view_statements (drop l.stmt-index l.all)) ≡ statements_make l.typed l.token l.cell (view_statements l.all)

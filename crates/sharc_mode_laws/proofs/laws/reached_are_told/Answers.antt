@@ -1,5 +1,0 @@
-use Rattle.sharc_mode_laws.proofs.Touched.{reached, reached_is, is_reached}
-use Rattle.sharc_mode_laws.proofs.laws.reached_are_told.Goals as goal
-
-pub returns : goal.returns
-returns c = λ r. (reached r, λ k. (reached_is r k, is_reached r k))

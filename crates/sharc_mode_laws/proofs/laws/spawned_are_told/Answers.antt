@@ -1,5 +1,0 @@
-use Rattle.sharc_mode_laws.proofs.Threads.{spawned_by, by_spawned}
-use Rattle.sharc_mode_laws.proofs.laws.spawned_are_told.Goals as goal
-
-pub returns : goal.returns
-returns c = λ r k. (by_spawned r k, λ spawned. spawned_by r spawned.0 k spawned.1)

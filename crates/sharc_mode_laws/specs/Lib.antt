@@ -1,4 +1,0 @@
-pub mod Constructs
-pub mod Laws
-pub mod Paths
-pub mod Rules

@@ -1,0 +1,496 @@
+-- The machine reads each phrase that fits.
+use Rattle.std.proofs.{Common.{◌≡◌, ℕ, ◌≤◌, ◌<◌, List, [], ◌∷◌, Option, Some, None, refl, sym, ap, ◌∙◌, arith, Bool, true, false, cond}, lemmas.Bool.{true_from_ne_false as must}}
+use Rattle.sharc_tree.specs.declared.token.Keyword.TheVariants as key
+use Rattle.sharc_tree.specs.{declared.token.Punctuator.TheVariants.{OpenParenthesis, CloseParenthesis, Comma, Arrow, Minus, Star, Exclamation, Tilde}, declared.ctype.Base.Base, declared.tree.expression.BinaryOperator.BinaryOperator, declared.tree.expression.UnaryOperator.UnaryOperator, declared.tree.expression.UnaryOperator.TheVariants.{Negate, Not, Complement, Dereference}, declared.tree.expression.FieldOperator.FieldOperator, declared.tree.expression.Constant.Constant}
+use Rattle.sharc_tree.specs.declared.ctype.Base.TheVariants as base
+use Rattle.sharc_tree.specs.declared.tree.expression.FieldOperator.TheVariants as access
+use Rattle.sharc_tree.specs.declared.tree.expression.ValueCall.TheVariants as value_call
+use Rattle.sharc_tree.specs.declared.tree.expression.PlaceCall.TheVariants as place_call
+use Rattle.sharc_tree.specs.declared.tree.expression.Constant.TheVariants as constants
+use Rattle.sharc_parse.specs.{Grammar.{Word, name, keyword, mark, number, character, Sharing, private, readonly, racy, dynamic, locked, locked_through, Declaring, sharing_words, level_words, base_words, bottom_words, levels_words, list_words, declaring_words, FitsBottom, FitsLevels, FitsList, FitsType, NoModes, IsPlain, Front, parenthesis, of_spawn, of_value, of_place, of_cast, Phrase, identifier, constant, enclosed, call, index, field, unary, binary, Phrases, none, more, operator_mark, unary_mark, access_mark, constant_word, strength, front_words, words, words_of_rest, level, FitsFront, Fits, FitAll, malloc, Doing, assign, invoke, Line, doing_words, Part}, Machine.{Outer, LinePlace, as_statement, in_line, as_step, ValuePlace, returning, testing, subject, counting, Cont, part, beneath, right_of, fronted, indexing, arguments, NamePlace, field_of, local, TypePlace, naming, casting, sizing, ModePlace, before_base, at_level, Core, Want, Have, Called, Valued, TypeWant, ModeFirst, StructWant, Typed, Named, State, or_else, to, role, grip_of, grip, joined, with_last, floor, want, counted, shift, have, called, takes_modes, moded, mode_step, based, begin_type, typed, fields, may_declare, line_start, start, returned, for_test, for_step, malloced, core_step, Stuck, then_on, reads, reads_at}, Operators.{weak, operating, settle_stops, role_binary, role_unary}}
+use Rattle.sharc_lemmas.proofs.Numbers.{le_true2 as le_true}
+
+pub whole_binary : (y : List Word) (a b : Phrase) (o : BinaryOperator) (k : Cont) → grip y ≤ strength o → reads_at y (Have b (right_of a o k)) ≡ reads_at y (Have (binary o a b) k)
+whole_binary [] a b o k h = refl
+whole_binary (t ∷ y) a b o k h = ap (λ n. then_on n (λ s. reads y s) (Stuck (t ∷ y))) (role_binary (role t) t a b o k h)
+
+pub whole_unary : (y : List Word) (u : UnaryOperator) (a : Phrase) (k : Cont) → grip y ≤ 11 → reads_at y (Have a (beneath u k)) ≡ reads_at y (Have (unary u a) k)
+whole_unary [] u a k h = refl
+whole_unary (t ∷ y) u a k h = ap (λ n. then_on n (λ s. reads y s) (Stuck (t ∷ y))) (role_unary (role t) t u a k h)
+
+-- an operator after an operand
+pub takes : (o : BinaryOperator) (x : Phrase) (k : Cont) (y : List Word) → floor k ≤ strength o → reads_at (mark (operator_mark o) ∷ y) (Have x k) ≡ reads_at y (Want (right_of x o k))
+takes o x k y h =
+    ap (λ r. then_on (have r x k (mark (operator_mark o))) (λ s. reads y s) (Stuck (mark (operator_mark o) ∷ y))) (operating o)
+    ∙ ap (λ (s : Phrase × Cont). then_on (shift o s.0 s.1) (λ n. reads y n) (Stuck (mark (operator_mark o) ∷ y))) (settle_stops (strength o) x k (weak o) h)
+    ∙ ap (λ b. then_on (cond b (to (Want (right_of x o k))) (counted o x k)) (λ n. reads y n) (Stuck (mark (operator_mark o) ∷ y))) (le_true (floor k) (strength o) h)
+
+pub prefixed : (u : UnaryOperator) (k : Cont) (y : List Word) → reads_at (mark (unary_mark u) ∷ y) (Want k) ≡ reads_at y (Want (beneath u k))
+prefixed Negate k y = refl
+prefixed Not k y = refl
+prefixed Complement k y = refl
+prefixed Dereference k y = refl
+
+-- what an expression may begin with
+abbrev pub IsFirst : Word → Type 0
+IsFirst (name n) = Unit {0}
+IsFirst (number n) = Unit {0}
+IsFirst (character c) = Unit {0}
+IsFirst (keyword key.Null) = Unit {0}
+IsFirst (keyword key.Spawn) = Unit {0}
+IsFirst (keyword key.Join) = Unit {0}
+IsFirst (keyword key.Print) = Unit {0}
+IsFirst (keyword key.Lock) = Unit {0}
+IsFirst (keyword key.Unlock) = Unit {0}
+IsFirst (keyword key.Free) = Unit {0}
+IsFirst (keyword key.Scast) = Unit {0}
+IsFirst (mark Minus) = Unit {0}
+IsFirst (mark Exclamation) = Unit {0}
+IsFirst (mark Tilde) = Unit {0}
+IsFirst (mark Star) = Unit {0}
+IsFirst (mark OpenParenthesis) = Unit {0}
+IsFirst _ = ⊥
+
+pub record First (fine : Word → Type 0) (all : List Word) : Type 0 where
+  pub first : Word
+  pub is_first : fine first
+  pub rest : List Word
+  pub is : all ≡ first ∷ rest
+
+constant_first : (c : Constant) (y : List Word) → First IsFirst (constant_word c ∷ y)
+constant_first (constants.Number n) y = record { first = number n; is_first = tt; rest = y; is = refl }
+constant_first (constants.Character c) y = record { first = character c; is_first = tt; rest = y; is = refl }
+constant_first constants.Null y = record { first = keyword key.Null; is_first = tt; rest = y; is = refl }
+
+unary_first : (u : UnaryOperator) (y : List Word) → First IsFirst (mark (unary_mark u) ∷ y)
+unary_first Negate y = record { first = mark Minus; is_first = tt; rest = y; is = refl }
+unary_first Not y = record { first = mark Exclamation; is_first = tt; rest = y; is = refl }
+unary_first Complement y = record { first = mark Tilde; is_first = tt; rest = y; is = refl }
+unary_first Dereference y = record { first = mark Star; is_first = tt; rest = y; is = refl }
+
+front_first : (f : Front) (y : List Word) → First IsFirst (front_words f y)
+front_first parenthesis y = record { first = mark OpenParenthesis; is_first = tt; rest = _; is = refl }
+front_first (of_spawn f) y = record { first = keyword key.Spawn; is_first = tt; rest = _; is = refl }
+front_first (of_value value_call.Join) y = record { first = keyword key.Join; is_first = tt; rest = _; is = refl }
+front_first (of_value value_call.Print) y = record { first = keyword key.Print; is_first = tt; rest = _; is = refl }
+front_first (of_place place_call.Lock) y = record { first = keyword key.Lock; is_first = tt; rest = _; is = refl }
+front_first (of_place place_call.Unlock) y = record { first = keyword key.Unlock; is_first = tt; rest = _; is = refl }
+front_first (of_place place_call.Free) y = record { first = keyword key.Free; is_first = tt; rest = _; is = refl }
+front_first (of_cast t) y = record { first = keyword key.Scast; is_first = tt; rest = _; is = refl }
+
+pub first : (x : Phrase) (y : List Word) → First IsFirst (words x y)
+first (identifier n) y = record { first = name n; is_first = tt; rest = y; is = refl }
+first (constant c) y = constant_first c y
+first (enclosed f a) y = front_first f _
+first (call f all) y = record { first = name f; is_first = tt; rest = _; is = refl }
+first (index a i) y = first a _
+first (field a w n) y = first a _
+first (unary u a) y = unary_first u _
+first (binary o a b) y = first a _
+
+pub doing_first : (x : Doing) (y : List Word) → First IsFirst (doing_words x y)
+doing_first (assign u r) y = first u _
+doing_first (invoke e) y = first e _
+
+-- two cores that take a first word alike
+pub same_step : (fine : Word → Type 0) (ts : List Word) (f : First fine ts) (a b : Core) → core_step a f.first ≡ core_step b f.first → reads_at ts a ≡ reads_at ts b
+same_step fine ts f a b e =
+    ap (λ z. reads_at z a) f.is
+    ∙ ap (λ o. then_on o (λ n. reads f.rest n) (Stuck (f.first ∷ f.rest))) e
+    ∙ ap (λ z. reads_at z b) (sym f.is)
+
+pub idle : (b : Bool) (w : Option State) → or_else (cond b None None) w ≡ w
+idle true w = refl
+idle false w = refl
+
+pub called_at : (t : Word) → IsFirst t → (f : List ℕ) (k : Cont) → called f k t ≡ want (arguments f none k) t
+called_at (name n) h f k = refl
+called_at (number n) h f k = refl
+called_at (character c) h f k = refl
+called_at (keyword key.Null) h f k = refl
+called_at (keyword key.Spawn) h f k = refl
+called_at (keyword key.Join) h f k = refl
+called_at (keyword key.Print) h f k = refl
+called_at (keyword key.Lock) h f k = refl
+called_at (keyword key.Unlock) h f k = refl
+called_at (keyword key.Free) h f k = refl
+called_at (keyword key.Scast) h f k = refl
+called_at (mark Minus) h f k = refl
+called_at (mark Exclamation) h f k = refl
+called_at (mark Tilde) h f k = refl
+called_at (mark Star) h f k = refl
+called_at (mark OpenParenthesis) h f k = refl
+called_at _ h f k = absurd h
+
+pub returned_at : (t : Word) → IsFirst t → (o : Outer) → returned o t ≡ want (part returning o) t
+returned_at (name n) h o = refl
+returned_at (number n) h o = refl
+returned_at (character c) h o = refl
+returned_at (keyword key.Null) h o = refl
+returned_at (keyword key.Spawn) h o = refl
+returned_at (keyword key.Join) h o = refl
+returned_at (keyword key.Print) h o = refl
+returned_at (keyword key.Lock) h o = refl
+returned_at (keyword key.Unlock) h o = refl
+returned_at (keyword key.Free) h o = refl
+returned_at (keyword key.Scast) h o = refl
+returned_at (mark Minus) h o = refl
+returned_at (mark Exclamation) h o = refl
+returned_at (mark Tilde) h o = refl
+returned_at (mark Star) h o = refl
+returned_at (mark OpenParenthesis) h o = refl
+returned_at _ h o = absurd h
+
+pub test_at : (t : Word) → IsFirst t → (l : Line) (o : Outer) → for_test l o t ≡ want (part (testing l) o) t
+test_at (name n) h l o = refl
+test_at (number n) h l o = refl
+test_at (character c) h l o = refl
+test_at (keyword key.Null) h l o = refl
+test_at (keyword key.Spawn) h l o = refl
+test_at (keyword key.Join) h l o = refl
+test_at (keyword key.Print) h l o = refl
+test_at (keyword key.Lock) h l o = refl
+test_at (keyword key.Unlock) h l o = refl
+test_at (keyword key.Free) h l o = refl
+test_at (keyword key.Scast) h l o = refl
+test_at (mark Minus) h l o = refl
+test_at (mark Exclamation) h l o = refl
+test_at (mark Tilde) h l o = refl
+test_at (mark Star) h l o = refl
+test_at (mark OpenParenthesis) h l o = refl
+test_at _ h l o = absurd h
+
+pub step_at : (t : Word) → IsFirst t → (l : Line) (e : Option Phrase) (o : Outer) → for_step l e o t ≡ want (part (subject (as_step l e)) o) t
+step_at (name n) h l e o = refl
+step_at (number n) h l e o = refl
+step_at (character c) h l e o = refl
+step_at (keyword key.Null) h l e o = refl
+step_at (keyword key.Spawn) h l e o = refl
+step_at (keyword key.Join) h l e o = refl
+step_at (keyword key.Print) h l e o = refl
+step_at (keyword key.Lock) h l e o = refl
+step_at (keyword key.Unlock) h l e o = refl
+step_at (keyword key.Free) h l e o = refl
+step_at (keyword key.Scast) h l e o = refl
+step_at (mark Minus) h l e o = refl
+step_at (mark Exclamation) h l e o = refl
+step_at (mark Tilde) h l e o = refl
+step_at (mark Star) h l e o = refl
+step_at (mark OpenParenthesis) h l e o = refl
+step_at _ h l e o = absurd h
+
+pub malloced_at : (t : Word) → IsFirst t → (v : ValuePlace) (o : Outer) → malloced v o t ≡ want (part (counting v) o) t
+malloced_at (name n) h v o = refl
+malloced_at (number n) h v o = refl
+malloced_at (character c) h v o = refl
+malloced_at (keyword key.Null) h v o = refl
+malloced_at (keyword key.Spawn) h v o = refl
+malloced_at (keyword key.Join) h v o = refl
+malloced_at (keyword key.Print) h v o = refl
+malloced_at (keyword key.Lock) h v o = refl
+malloced_at (keyword key.Unlock) h v o = refl
+malloced_at (keyword key.Free) h v o = refl
+malloced_at (keyword key.Scast) h v o = refl
+malloced_at (mark Minus) h v o = refl
+malloced_at (mark Exclamation) h v o = refl
+malloced_at (mark Tilde) h v o = refl
+malloced_at (mark Star) h v o = refl
+malloced_at (mark OpenParenthesis) h v o = refl
+malloced_at _ h v o = absurd h
+
+pub line_start_at : (t : Word) → IsFirst t → (p : LinePlace) (o : Outer) → line_start p o t ≡ want (part (subject (in_line p)) o) t
+line_start_at (name n) h p o = idle (may_declare p o) _
+line_start_at (number n) h p o = idle (may_declare p o) _
+line_start_at (character c) h p o = idle (may_declare p o) _
+line_start_at (keyword key.Null) h p o = idle (may_declare p o) _
+line_start_at (keyword key.Spawn) h p o = idle (may_declare p o) _
+line_start_at (keyword key.Join) h p o = idle (may_declare p o) _
+line_start_at (keyword key.Print) h p o = idle (may_declare p o) _
+line_start_at (keyword key.Lock) h p o = idle (may_declare p o) _
+line_start_at (keyword key.Unlock) h p o = idle (may_declare p o) _
+line_start_at (keyword key.Free) h p o = idle (may_declare p o) _
+line_start_at (keyword key.Scast) h p o = idle (may_declare p o) _
+line_start_at (mark Minus) h p o = idle (may_declare p o) _
+line_start_at (mark Exclamation) h p o = idle (may_declare p o) _
+line_start_at (mark Tilde) h p o = idle (may_declare p o) _
+line_start_at (mark Star) h p o = idle (may_declare p o) _
+line_start_at (mark OpenParenthesis) h p o = idle (may_declare p o) _
+line_start_at _ h p o = absurd h
+
+pub start_at : (t : Word) → IsFirst t → (o : Outer) → start o t ≡ line_start as_statement o t
+start_at (name n) h o = refl
+start_at (number n) h o = refl
+start_at (character c) h o = refl
+start_at (keyword key.Null) h o = refl
+start_at (keyword key.Spawn) h o = refl
+start_at (keyword key.Join) h o = refl
+start_at (keyword key.Print) h o = refl
+start_at (keyword key.Lock) h o = refl
+start_at (keyword key.Unlock) h o = refl
+start_at (keyword key.Free) h o = refl
+start_at (keyword key.Scast) h o = refl
+start_at (mark Minus) h o = refl
+start_at (mark Exclamation) h o = refl
+start_at (mark Tilde) h o = refl
+start_at (mark Star) h o = refl
+start_at (mark OpenParenthesis) h o = refl
+start_at _ h o = absurd h
+
+-- what a type may begin with
+abbrev pub IsTypeFirst : Word → Type 0
+IsTypeFirst (keyword key.Private) = Unit {0}
+IsTypeFirst (keyword key.Readonly) = Unit {0}
+IsTypeFirst (keyword key.Racy) = Unit {0}
+IsTypeFirst (keyword key.Dynamic) = Unit {0}
+IsTypeFirst (keyword key.Locked) = Unit {0}
+IsTypeFirst (keyword key.Int) = Unit {0}
+IsTypeFirst (keyword key.Char) = Unit {0}
+IsTypeFirst (keyword key.Long) = Unit {0}
+IsTypeFirst (keyword key.Mutex) = Unit {0}
+IsTypeFirst (keyword key.Void) = Unit {0}
+IsTypeFirst (keyword key.Struct) = Unit {0}
+IsTypeFirst _ = ⊥
+
+sharing_first : (s : Sharing) (y : List Word) → First IsTypeFirst (sharing_words s y)
+sharing_first private y = record { first = keyword key.Private; is_first = tt; rest = _; is = refl }
+sharing_first readonly y = record { first = keyword key.Readonly; is_first = tt; rest = _; is = refl }
+sharing_first racy y = record { first = keyword key.Racy; is_first = tt; rest = _; is = refl }
+sharing_first dynamic y = record { first = keyword key.Dynamic; is_first = tt; rest = _; is = refl }
+sharing_first (locked m) y = record { first = keyword key.Locked; is_first = tt; rest = _; is = refl }
+sharing_first (locked_through x m) y = record { first = keyword key.Locked; is_first = tt; rest = _; is = refl }
+
+base_first : (b : Base) (y : List Word) → First IsTypeFirst (base_words b y)
+base_first base.Int y = record { first = keyword key.Int; is_first = tt; rest = _; is = refl }
+base_first base.Char y = record { first = keyword key.Char; is_first = tt; rest = _; is = refl }
+base_first base.Long y = record { first = keyword key.Long; is_first = tt; rest = _; is = refl }
+base_first base.Mutex y = record { first = keyword key.Mutex; is_first = tt; rest = _; is = refl }
+base_first base.Void y = record { first = keyword key.Void; is_first = tt; rest = _; is = refl }
+base_first (base.Struct n) y = record { first = keyword key.Struct; is_first = tt; rest = _; is = refl }
+
+pub levels_first : (first : Bool) (b : Base) (m : Option Sharing) (below : List (Option Sharing)) (y : List Word) → First IsTypeFirst (levels_words first b m below y)
+levels_first true b None [] y = base_first b _
+levels_first true b (Some s) [] y = sharing_first s _
+levels_first false b m [] y = base_first b _
+levels_first first b m (n ∷ below) y = levels_first first b n below _
+
+pub list_first : (first : Bool) (b : Base) (levels : List (Option Sharing)) (y : List Word) → FitsList first levels → First IsTypeFirst (list_words first b levels y)
+list_first first b [] y w = absurd w
+list_first first b (m ∷ below) y w = levels_first first b m below y
+
+pub fields_at : (t : Word) → IsTypeFirst t → (all : List Part) (s : List ℕ) (before : List Declaring) → fields all s before t ≡ begin_type (naming (field_of all s before)) t
+fields_at (keyword key.Private) h all s before = refl
+fields_at (keyword key.Readonly) h all s before = refl
+fields_at (keyword key.Racy) h all s before = refl
+fields_at (keyword key.Dynamic) h all s before = refl
+fields_at (keyword key.Locked) h all s before = refl
+fields_at (keyword key.Int) h all s before = refl
+fields_at (keyword key.Char) h all s before = refl
+fields_at (keyword key.Long) h all s before = refl
+fields_at (keyword key.Mutex) h all s before = refl
+fields_at (keyword key.Void) h all s before = refl
+fields_at (keyword key.Struct) h all s before = refl
+fields_at _ h all s before = absurd h
+
+pub declares_at : (t : Word) → IsTypeFirst t → (p : LinePlace) (o : Outer) → may_declare p o ≡ true → line_start p o t ≡ begin_type (naming (local p o)) t
+declares_at (keyword key.Private) h p o e = ap (λ b. or_else (cond b (begin_type (naming (local p o)) (keyword key.Private)) None) None) e
+declares_at (keyword key.Readonly) h p o e = ap (λ b. or_else (cond b (begin_type (naming (local p o)) (keyword key.Readonly)) None) None) e
+declares_at (keyword key.Racy) h p o e = ap (λ b. or_else (cond b (begin_type (naming (local p o)) (keyword key.Racy)) None) None) e
+declares_at (keyword key.Dynamic) h p o e = ap (λ b. or_else (cond b (begin_type (naming (local p o)) (keyword key.Dynamic)) None) None) e
+declares_at (keyword key.Locked) h p o e = ap (λ b. or_else (cond b (begin_type (naming (local p o)) (keyword key.Locked)) None) None) e
+declares_at (keyword key.Int) h p o e = ap (λ b. or_else (cond b (begin_type (naming (local p o)) (keyword key.Int)) None) None) e
+declares_at (keyword key.Char) h p o e = ap (λ b. or_else (cond b (begin_type (naming (local p o)) (keyword key.Char)) None) None) e
+declares_at (keyword key.Long) h p o e = ap (λ b. or_else (cond b (begin_type (naming (local p o)) (keyword key.Long)) None) None) e
+declares_at (keyword key.Mutex) h p o e = ap (λ b. or_else (cond b (begin_type (naming (local p o)) (keyword key.Mutex)) None) None) e
+declares_at (keyword key.Void) h p o e = ap (λ b. or_else (cond b (begin_type (naming (local p o)) (keyword key.Void)) None) None) e
+declares_at (keyword key.Struct) h p o e = ap (λ b. or_else (cond b (begin_type (naming (local p o)) (keyword key.Struct)) None) None) e
+declares_at _ h p o e = absurd h
+
+pub start_declares_at : (t : Word) → IsTypeFirst t → (o : Outer) → start o t ≡ line_start as_statement o t
+start_declares_at (keyword key.Private) h o = refl
+start_declares_at (keyword key.Readonly) h o = refl
+start_declares_at (keyword key.Racy) h o = refl
+start_declares_at (keyword key.Dynamic) h o = refl
+start_declares_at (keyword key.Locked) h o = refl
+start_declares_at (keyword key.Int) h o = refl
+start_declares_at (keyword key.Char) h o = refl
+start_declares_at (keyword key.Long) h o = refl
+start_declares_at (keyword key.Mutex) h o = refl
+start_declares_at (keyword key.Void) h o = refl
+start_declares_at (keyword key.Struct) h o = refl
+start_declares_at _ h o = absurd h
+
+-- Types.
+
+abbrev pub IsModeWord : Word → Type 0
+IsModeWord (keyword key.Private) = Unit {0}
+IsModeWord (keyword key.Readonly) = Unit {0}
+IsModeWord (keyword key.Racy) = Unit {0}
+IsModeWord (keyword key.Dynamic) = Unit {0}
+IsModeWord (keyword key.Locked) = Unit {0}
+IsModeWord _ = ⊥
+
+mode_reads : (p : ModePlace) (c : Core) → ((t : Word) → IsModeWord t → core_step c t ≡ mode_step p t) → (s : Sharing) (y : List Word) → reads_at (sharing_words s y) c ≡ reads_at y (moded p s)
+mode_reads p c h private y = ap (λ o. then_on o (λ n. reads y n) (Stuck (sharing_words private y))) (h (keyword key.Private) tt)
+mode_reads p c h readonly y = ap (λ o. then_on o (λ n. reads y n) (Stuck (sharing_words readonly y))) (h (keyword key.Readonly) tt)
+mode_reads p c h racy y = ap (λ o. then_on o (λ n. reads y n) (Stuck (sharing_words racy y))) (h (keyword key.Racy) tt)
+mode_reads p c h dynamic y = ap (λ o. then_on o (λ n. reads y n) (Stuck (sharing_words dynamic y))) (h (keyword key.Dynamic) tt)
+mode_reads p c h (locked m) y =
+    ap (λ o. then_on o (λ n. reads (mark OpenParenthesis ∷ (name m ∷ (mark CloseParenthesis ∷ y))) n) (Stuck (sharing_words (locked m) y))) (h (keyword key.Locked) tt)
+mode_reads p c h (locked_through x m) y =
+    ap (λ o. then_on o (λ n. reads (mark OpenParenthesis ∷ (name x ∷ (mark Arrow ∷ (name m ∷ (mark CloseParenthesis ∷ y))))) n) (Stuck (sharing_words (locked_through x m) y))) (h (keyword key.Locked) tt)
+
+mode_first_at : (p : TypePlace) → takes_modes p ≡ true → (t : Word) → IsModeWord t → begin_type p t ≡ mode_step (before_base p) t
+mode_first_at p e (keyword key.Private) h = ap (λ b. or_else (cond b (mode_step (before_base p) (keyword key.Private)) None) None) e
+mode_first_at p e (keyword key.Readonly) h = ap (λ b. or_else (cond b (mode_step (before_base p) (keyword key.Readonly)) None) None) e
+mode_first_at p e (keyword key.Racy) h = ap (λ b. or_else (cond b (mode_step (before_base p) (keyword key.Racy)) None) None) e
+mode_first_at p e (keyword key.Dynamic) h = ap (λ b. or_else (cond b (mode_step (before_base p) (keyword key.Dynamic)) None) None) e
+mode_first_at p e (keyword key.Locked) h = ap (λ b. or_else (cond b (mode_step (before_base p) (keyword key.Locked)) None) None) e
+mode_first_at p e _ h = absurd h
+
+mode_at : (p : TypePlace) (first : Bool) (b : Base) (below : List (Option Sharing)) → takes_modes p ≡ true → (t : Word) → IsModeWord t → typed p first b None below t ≡ mode_step (at_level p first b below) t
+mode_at p first b below e (keyword key.Private) h = ap (λ c. cond c (mode_step (at_level p first b below) (keyword key.Private)) None) e
+mode_at p first b below e (keyword key.Readonly) h = ap (λ c. cond c (mode_step (at_level p first b below) (keyword key.Readonly)) None) e
+mode_at p first b below e (keyword key.Racy) h = ap (λ c. cond c (mode_step (at_level p first b below) (keyword key.Racy)) None) e
+mode_at p first b below e (keyword key.Dynamic) h = ap (λ c. cond c (mode_step (at_level p first b below) (keyword key.Dynamic)) None) e
+mode_at p first b below e (keyword key.Locked) h = ap (λ c. cond c (mode_step (at_level p first b below) (keyword key.Locked)) None) e
+mode_at p first b below e _ h = absurd h
+
+base_reads : (p : TypePlace) (b : Base) (y : List Word) → reads_at (base_words b y) (TypeWant p) ≡ reads_at y (based p None b)
+base_reads p base.Int y = ap (λ o. then_on o (λ n. reads y n) (Stuck (base_words base.Int y))) (idle (takes_modes p) _)
+base_reads p base.Char y = ap (λ o. then_on o (λ n. reads y n) (Stuck (base_words base.Char y))) (idle (takes_modes p) _)
+base_reads p base.Long y = ap (λ o. then_on o (λ n. reads y n) (Stuck (base_words base.Long y))) (idle (takes_modes p) _)
+base_reads p base.Mutex y = ap (λ o. then_on o (λ n. reads y n) (Stuck (base_words base.Mutex y))) (idle (takes_modes p) _)
+base_reads p base.Void y = ap (λ o. then_on o (λ n. reads y n) (Stuck (base_words base.Void y))) (idle (takes_modes p) _)
+base_reads p (base.Struct s) y = ap (λ o. then_on o (λ n. reads (name s ∷ y) n) (Stuck (base_words (base.Struct s) y))) (idle (takes_modes p) (to (StructWant p None)))
+
+base_reads_after : (p : TypePlace) (m : Sharing) (b : Base) (y : List Word) → reads_at (base_words b y) (ModeFirst p m) ≡ reads_at y (based p (Some m) b)
+base_reads_after p m base.Int y = refl
+base_reads_after p m base.Char y = refl
+base_reads_after p m base.Long y = refl
+base_reads_after p m base.Mutex y = refl
+base_reads_after p m base.Void y = refl
+base_reads_after p m (base.Struct s) y = refl
+
+-- where no modes are taken none is written
+abbrev pub ModesFit : TypePlace → Bool → List (Option Sharing) → Type 0
+ModesFit p first levels = takes_modes p ≡ false → IsPlain first levels
+
+pub never : {A : Type 0} (b : Bool) → b ≡ false → b ≡ true → A
+never b f t = cc
+
+not_plain : (first : Bool) (s : Sharing) (below : List (Option Sharing)) → IsPlain first (Some s ∷ below) → ⊥
+not_plain first s below h = h.1
+
+pub lower_modes : (m : Option Sharing) (below : List (Option Sharing)) → NoModes (m ∷ below) → NoModes below
+lower_modes None below h = h
+lower_modes (Some s) below h = absurd h
+
+level_reads : (p : TypePlace) (first : Bool) (b : Base) (m : Option Sharing) (below : List (Option Sharing)) → ModesFit p first (m ∷ below) → (y : List Word) → reads_at (level_words m y) (Typed p first b None below) ≡ reads_at y (Typed p first b m below)
+level_reads p first b None below h y = refl
+level_reads p first b (Some s) below h y =
+    let e = must (takes_modes p) (λ f. not_plain first s below (h f)) in
+    mode_reads (at_level p first b below) (Typed p first b None below) (λ t i. mode_at p first b below e t i) s y
+
+bottom_reads : (p : TypePlace) (first : Bool) (b : Base) (m : Option Sharing) → FitsBottom first m → ModesFit p first (m ∷ []) → (y : List Word) → reads_at (bottom_words first b m y) (TypeWant p) ≡ reads_at y (Typed p first b m [])
+bottom_reads p true b None w h y = absurd w
+bottom_reads p true b (Some s) w h y =
+    let e = must (takes_modes p) (λ f. not_plain true s [] (h f)) in
+    mode_reads (before_base p) (TypeWant p) (λ t i. mode_first_at p e t i) s (base_words b y) ∙ base_reads_after p s b y
+bottom_reads p false b m w h y = base_reads p b (level_words m y) ∙ level_reads p false b m [] h y
+
+pub levels_read : (p : TypePlace) (first : Bool) (b : Base) (m : Option Sharing) (below : List (Option Sharing)) → FitsLevels first m below → ModesFit p first (m ∷ below) → (y : List Word) → reads_at (levels_words first b m below y) (TypeWant p) ≡ reads_at y (Typed p first b m below)
+levels_read p first b m [] w h y = bottom_reads p first b m w h y
+levels_read p first b m (n ∷ below) w h y =
+    levels_read p first b n below w (λ f. let i = h f in (i.0, lower_modes m (n ∷ below) i.1)) (mark Star ∷ level_words m y)
+    ∙ level_reads p first b m (n ∷ below) h y
+
+moded_fit : (p : TypePlace) (first : Bool) (levels : List (Option Sharing)) → takes_modes p ≡ true → ModesFit p first levels
+moded_fit p first levels e = λ f. never (takes_modes p) f e
+
+-- a type and a name
+declaring_read : (p : NamePlace) (first : Bool) (b : Base) (levels : List (Option Sharing)) (n : List ℕ) → FitsList first levels → (y : List Word) → reads_at (list_words first b levels (name n ∷ y)) (TypeWant (naming p)) ≡ reads_at y (Named p (record { mode_first = first; base = b; levels = levels }) n)
+declaring_read p first b [] n w y = absurd w
+declaring_read p first b (m ∷ below) n w y = levels_read (naming p) first b m below w (moded_fit (naming p) first (m ∷ below) refl) (name n ∷ y)
+
+pub reads_declaring : (p : NamePlace) (d : Declaring) → FitsType d.typing → (y : List Word) → reads_at (declaring_words d y) (TypeWant (naming p)) ≡ reads_at y (Named p d.typing d.named)
+reads_declaring p d w y = declaring_read p d.typing.mode_first d.typing.base d.typing.levels d.named w y
+
+pub cast_read : (k : Cont) (first : Bool) (b : Base) (levels : List (Option Sharing)) → FitsList first levels → (y : List Word) → reads_at (list_words first b levels (mark Comma ∷ y)) (TypeWant (casting k)) ≡ reads_at y (Want (fronted (of_cast (record { mode_first = first; base = b; levels = levels })) k))
+cast_read k first b [] w y = absurd w
+cast_read k first b (m ∷ below) w y = levels_read (casting k) first b m below w (moded_fit (casting k) first (m ∷ below) refl) (mark Comma ∷ y)
+
+pub size_read : (v : ValuePlace) (c : Option Phrase) (o : Outer) (first : Bool) (b : Base) (levels : List (Option Sharing)) → FitsList first levels → IsPlain first levels → (y : List Word) → reads_at (list_words first b levels (mark CloseParenthesis ∷ (mark CloseParenthesis ∷ y))) (TypeWant (sizing v c o)) ≡ reads_at y (Valued v (malloc c (record { mode_first = first; base = b; levels = levels })) o)
+size_read v c o first b [] w h y = absurd w
+size_read v c o first b (m ∷ below) w h y = levels_read (sizing v c o) first b m below w (λ f. h) (mark CloseParenthesis ∷ (mark CloseParenthesis ∷ y))
+
+-- Expressions.
+
+constant_reads : (c : Constant) (k : Cont) (y : List Word) → reads_at (constant_word c ∷ y) (Want k) ≡ reads_at y (Have (constant c) k)
+constant_reads (constants.Number n) k y = refl
+constant_reads (constants.Character c) k y = refl
+constant_reads constants.Null k y = refl
+
+front_reads : (f : Front) → FitsFront f → (k : Cont) (y : List Word) → reads_at (front_words f y) (Want k) ≡ reads_at y (Want (fronted f k))
+front_reads parenthesis w k y = refl
+front_reads (of_spawn f) w k y = refl
+front_reads (of_value value_call.Join) w k y = refl
+front_reads (of_value value_call.Print) w k y = refl
+front_reads (of_place place_call.Lock) w k y = refl
+front_reads (of_place place_call.Unlock) w k y = refl
+front_reads (of_place place_call.Free) w k y = refl
+front_reads (of_cast t) w k y = cast_read k t.mode_first t.base t.levels w y
+
+access_reads : (a : FieldOperator) (x : Phrase) (n : List ℕ) (k : Cont) (y : List Word) → reads_at (mark (access_mark a) ∷ (name n ∷ y)) (Have x k) ≡ reads_at y (Have (field x a n) k)
+access_reads access.Dot x n k y = refl
+access_reads access.Arrow x n k y = refl
+
+access_grip : (a : FieldOperator) → grip_of (role (mark (access_mark a))) ≡ 12
+access_grip access.Dot = refl
+access_grip access.Arrow = refl
+
+-- the first word of an argument is no `)`
+pub opens : (x : Phrase) (f : List ℕ) (k : Cont) (y : List Word) → reads_at (words x y) (Called f k) ≡ reads_at (words x y) (Want (arguments f none k))
+opens x f k y = let h = first x y in same_step IsFirst (words x y) h (Called f k) (Want (arguments f none k)) (called_at h.first h.is_first f k)
+
+pub joined_last : (before : Phrases) (e : Phrase) (rest : Phrases) → joined (with_last before e) rest ≡ joined before (more e rest)
+joined_last none e rest = refl
+joined_last (more a before) e rest = ap (more a) (joined_last before e rest)
+
+grip_rest : (rest : Phrases) (y : List Word) → grip (words_of_rest rest (mark CloseParenthesis ∷ y)) ≡ 0
+grip_rest none y = refl
+grip_rest (more e rest) y = refl
+
+mutual
+  pub reads_phrase : (x : Phrase) → Fits x → (k : Cont) → floor k ≤ level x → (y : List Word) → grip y ≤ level x → reads_at (words x y) (Want k) ≡ reads_at y (Have x k)
+  reads_phrase (identifier n) w k f y g = refl
+  reads_phrase (constant c) w k f y g = constant_reads c k y
+  reads_phrase (enclosed h a) w k f y g =
+      front_reads h w.0 k _
+      ∙ reads_phrase a w.2 (fronted h k) w.1 _ (omega arith)
+  reads_phrase (call n none) w k f y g = refl
+  reads_phrase (call n (more a rest)) w k f y g =
+      opens a n k _
+      ∙ reads_phrase a w.0 (arguments n none k) (omega arith) _ (omega (arith, grip_rest rest y))
+      ∙ reads_rest rest w.1 n none a k y
+  reads_phrase (index a i) w k f y g =
+      reads_phrase a w.1 k (omega arith) _ (omega arith)
+      ∙ reads_phrase i w.2 (indexing a k) (omega arith) _ (omega arith)
+  reads_phrase (field a v n) w k f y g =
+      reads_phrase a w.1 k (omega arith) _ (omega (arith, access_grip v))
+      ∙ access_reads v a n k y
+  reads_phrase (unary u a) w k f y g =
+      prefixed u k _
+      ∙ reads_phrase a w.1 (beneath u k) w.0 y (omega arith)
+      ∙ whole_unary y u a k g
+  reads_phrase (binary o a b) w k f y g =
+      reads_phrase a w.2 k (omega arith) _ (omega (arith, ap grip_of (operating o)))
+      ∙ takes o a k _ f
+      ∙ reads_phrase b w.3 (right_of a o k) w.1 y (omega arith)
+      ∙ whole_binary y a b o k g
+
+  reads_rest : (rest : Phrases) → FitAll rest → (f : List ℕ) (before : Phrases) (e : Phrase) (k : Cont) (y : List Word) → reads_at (words_of_rest rest (mark CloseParenthesis ∷ y)) (Have e (arguments f before k)) ≡ reads_at y (Have (call f (joined before (more e rest))) k)
+  reads_rest none w f before e k y = refl
+  reads_rest (more a rest) w f before e k y =
+      reads_phrase a w.0 (arguments f (with_last before e) k) (omega arith) _ (omega (arith, grip_rest rest y))
+      ∙ reads_rest rest w.1 f (with_last before e) a k y
+      ∙ ap (λ all. reads_at y (Have (call f all) k)) (joined_last before e (more a rest))

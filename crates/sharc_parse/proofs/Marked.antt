@@ -1,0 +1,365 @@
+-- The names and casts of a tree are those among its words.
+use Rattle.std.proofs.Common.{◌≡◌, ℕ, ◌+◌, List, [], ◌∷◌, ◌++◌, Option, Some, None, refl, sym, ap, ◌∙◌, append_assoc, arith, Bool, true, false}
+use Rattle.sharc_tree.specs.Tree as tree
+use Rattle.sharc_tree.specs.{Marks.{Mark, a_name, a_cast, keyword_marks, kind_marks, marks_from, mode_marks, level_marks, base_marks, levels_marks, type_marks, declaration_marks, declarations_marks, marks, arguments_marks, option_marks, right_marks, simple_marks, local_marks, first_marks, head_marks, statement_marks, statements_marks, item_marks, items_marks}, declared.token.Site.Site, declared.token.Span.Span, declared.token.Token.Token, declared.token.TokenKind.TokenKind, declared.ctype.Mode.Mode, declared.ctype.Base.Base, declared.tree.expression.Constant.Constant, declared.tree.statement.Jump.Jump, declared.token.Punctuator.TheVariants.{OpenParenthesis, CloseParenthesis, OpenBrace, CloseBrace, OpenBracket, CloseBracket, Semicolon, Comma, Assign, Star}}
+use Rattle.sharc_tree.specs.declared.token.TokenKind.TheVariants as kind
+use Rattle.sharc_tree.specs.declared.ctype.Base.TheVariants as base
+use Rattle.sharc_tree.specs.declared.tree.expression.Constant.TheVariants as constants
+use Rattle.sharc_tree.specs.declared.tree.expression.ValueCall.TheVariants as value_call
+use Rattle.sharc_tree.specs.declared.tree.expression.PlaceCall.TheVariants as place_call
+use Rattle.sharc_tree.specs.declared.tree.statement.Jump.TheVariants as jumps
+use Rattle.sharc_tree.specs.declared.token.Keyword.TheVariants as key
+use Rattle.sharc_parse.specs.{Grammar.{Word, name, keyword, mark, Sharing, private, readonly, racy, dynamic, locked, locked_through, Typing, Declaring, Front, parenthesis, of_spawn, of_value, of_place, of_cast, Phrase, identifier, constant, enclosed, call, index, field, unary, binary, Phrases, none, more, Value, value, malloc, Doing, assign, invoke, Declared, Line, nothing, does, declares, Loop, Sentence, line, jump, return, block, under, Sentences, no_more, sentence, Opening, if_of, else_of, while_of, for_of, Form, single, array, initially, Callable, Part, structure, global, function, sharing_words, level_words, base_words, levels_words, list_words, type_words, declaring_words, access_mark, operator_mark, jump_word, constant_word, front_words, words, words_of_all, words_of_rest, option_words, count_words, value_words, doing_words, initial_words, line_words, step_words, loop_words, written, written_all, opening_words, form_words, fields_words, parameters_words, part_words, program_words}, Places.{kind_word, words_of, sharing_size, level_size, base_size, levels_size, type_size, declaring_size, front_size, size, sizes, rest_size, option_size, count_size, value_size, doing_size, initial_size, local_size, line_size, step_size, sentence_size, all_size, opening_size, fields_size, parameters_size, form_size, part_size, mode_at, level_at, levels_at, base_name, base_place, type_at, declaration_at, front_at, expression_at, arguments_at, option_at, value_at, doing_at, initial_at, local_at, first_at, step_at, head_at, line_at, statement_at, statements_at, under_at, declarations_at, item_at, items_at}}
+
+abbrev pub word_marks : Word → ℕ → List Mark
+word_marks (name t) n = a_name n t ∷ []
+word_marks (keyword k) n = keyword_marks k n
+word_marks _ n = []
+
+-- those among words, the first of which has the number n
+abbrev pub marked : ℕ → List Word → List Mark
+marked n [] = []
+marked n (w ∷ ws) = word_marks w n ++ marked (n + 1) ws
+
+kind_same : (k : TokenKind) (text : List ℕ) (n : ℕ) → kind_marks k text n ≡ word_marks (kind_word k text) n
+kind_same (kind.Keyword k) text n = refl
+kind_same kind.Identifier text n = refl
+kind_same (kind.Number v) text n = refl
+kind_same (kind.Character c) text n = refl
+kind_same (kind.Punctuator p) text n = refl
+kind_same kind.LeftOut text n = refl
+
+joined : (a b c d : List Mark) → a ≡ b → c ≡ d → a ++ c ≡ b ++ d
+joined a b c d h k = ap (λ z. z ++ c) h ∙ ap (λ z. b ++ z) k
+
+pub of_tokens : (n : ℕ) (all : List Token) → marks_from n all ≡ marked n (words_of all)
+of_tokens n [] = refl
+of_tokens n (t ∷ rest) = joined _ _ _ _ (kind_same t.kind t.text n) (of_tokens (n + 1) rest)
+
+-- the number of a place
+abbrev pub Numbered : (ℕ → Site) → Type 0
+Numbered s = (n : ℕ) → (s n).token ≡ n
+
+-- one part after the other
+two : (a b c d e : List Mark) → b ++ c ≡ d → a ++ d ≡ e → (a ++ b) ++ c ≡ e
+two a b c d e h k = append_assoc a b c ∙ ap (λ z. a ++ z) h ∙ k
+
+-- the words that follow have another number, which is the same
+renumbered : (m k : ℕ) (y : List Word) → m ≡ k → marked m y ≡ marked k y
+renumbered m k y h = ap (λ z. marked z y) h
+
+shifted : (a r : List Mark) (m k : ℕ) (y : List Word) → m ≡ k → a ++ marked k y ≡ r → a ++ marked m y ≡ r
+shifted a r m k y h e = ap (λ z. a ++ marked z y) h ∙ e
+
+named : (a b m k : ℕ) (t : List ℕ) (y : List Word) → a ≡ b → m ≡ k → a_name a t ∷ marked m y ≡ a_name b t ∷ marked k y
+named a b m k t y h e = ap (λ z. a_name z t ∷ marked m y) h ∙ ap (λ z. a_name b t ∷ marked z y) e
+
+also_named : (a b : ℕ) (t : List ℕ) (l r : List Mark) → a ≡ b → l ≡ r → a_name a t ∷ l ≡ a_name b t ∷ r
+also_named a b t l r h e = ap (λ z. a_name z t ∷ l) h ∙ ap (λ z. a_name b t ∷ z) e
+
+-- types
+
+sharing_marked : (s : ℕ → Site) (v : Numbered s) (n i m : ℕ) (x : Sharing) (y : List Word) → i ≡ n → m ≡ n + sharing_size x → mode_marks (mode_at s n x) ++ marked m y ≡ marked i (sharing_words x y)
+sharing_marked s v n i m private y p q = renumbered m (i + 1) y (omega arith)
+sharing_marked s v n i m readonly y p q = renumbered m (i + 1) y (omega arith)
+sharing_marked s v n i m racy y p q = renumbered m (i + 1) y (omega arith)
+sharing_marked s v n i m dynamic y p q = renumbered m (i + 1) y (omega arith)
+sharing_marked s v n i m (locked t) y p q = named (s (n + 2)).token (i + 1 + 1) m (i + 1 + 1 + 1 + 1) t y (let e = v (n + 2) in omega (arith, e, p)) (omega arith)
+sharing_marked s v n i m (locked_through x t) y p q =
+    also_named (s (n + 2)).token (i + 1 + 1) x _ _ (let e = v (n + 2) in omega (arith, e, p))
+    (named ((s (n + 2)).token + 2) (i + 1 + 1 + 1 + 1) m (i + 1 + 1 + 1 + 1 + 1 + 1) t y (let e = v (n + 2) in omega (arith, e, p)) (omega arith))
+
+level_marked : (s : ℕ → Site) (v : Numbered s) (n i m : ℕ) (x : Option Sharing) (y : List Word) → i ≡ n → m ≡ n + level_size x → level_marks (level_at s n x) ++ marked m y ≡ marked i (level_words x y)
+level_marked s v n i m None y p q = renumbered m i y (omega arith)
+level_marked s v n i m (Some x) y p q = sharing_marked s v n i m x y p q
+
+-- a base at n, whose name has the number k
+base_marked : (n i m k : ℕ) (b : Base) (y : List Word) → i ≡ n → m ≡ n + base_size b → k ≡ base_name b n → base_marks b k ++ marked m y ≡ marked i (base_words b y)
+base_marked n i m k base.Int y p q r = renumbered m (i + 1) y (omega arith)
+base_marked n i m k base.Char y p q r = renumbered m (i + 1) y (omega arith)
+base_marked n i m k base.Long y p q r = renumbered m (i + 1) y (omega arith)
+base_marked n i m k base.Mutex y p q r = renumbered m (i + 1) y (omega arith)
+base_marked n i m k base.Void y p q r = renumbered m (i + 1) y (omega arith)
+base_marked n i m k (base.Struct x) y p q r = named k (i + 1) m (i + 1 + 1) x y (omega (arith, p, r)) (omega arith)
+
+-- the levels below come before the star of the level above them
+more_level : (s : ℕ → Site) (n : ℕ) (first : Bool) (b : Base) (l : Option Mode) (all : List Mark) (k : Option Sharing) (below : List (Option Sharing)) → levels_marks first all (l ∷ levels_at s n first b (k ∷ below)) ≡ levels_marks first all (levels_at s n first b (k ∷ below)) ++ level_marks l
+more_level s n true b l all k [] = refl
+more_level s n false b l all k [] = refl
+more_level s n true b l all k (j ∷ below) = refl
+more_level s n false b l all k (j ∷ below) = refl
+
+levels_marked : (s : ℕ → Site) (v : Numbered s) (n i m k : ℕ) (first : Bool) (b : Base) (x : Option Sharing) (below : List (Option Sharing)) (y : List Word) → i ≡ n → m ≡ n + levels_size b (x ∷ below) → k ≡ base_place first b (x ∷ below) n → levels_marks first (base_marks b k) (levels_at s n first b (x ∷ below)) ++ marked m y ≡ marked i (levels_words first b x below y)
+levels_marked s v n i m k true b x [] y p q r =
+    two (level_marks (level_at s n x)) (base_marks b k) (marked m y) _ _
+    (base_marked (n + level_size x) (n + level_size x) m k b y refl (omega (arith, q)) r)
+    (level_marked s v n i (n + level_size x) x (base_words b y) p refl)
+levels_marked s v n i m k false b x [] y p q r =
+    two (base_marks b k) (level_marks (level_at s (n + base_size b) x)) (marked m y) _ _
+    (level_marked s v (n + base_size b) (n + base_size b) m x y refl (omega (arith, q)))
+    (base_marked n i (n + base_size b) k b (level_words x y) p refl r)
+levels_marked s v n i m k first b x (j ∷ below) y p q r =
+    let at = n + levels_size b (j ∷ below) in
+    ap (λ z. z ++ marked m y) (more_level s n first b (level_at s (at + 1) x) (base_marks b k) j below)
+    ∙ two (levels_marks first (base_marks b k) (levels_at s n first b (j ∷ below))) (level_marks (level_at s (at + 1) x)) (marked m y) _ _
+    (level_marked s v (at + 1) (at + 1) m x y refl (omega (arith, q)))
+    (levels_marked s v n i at k first b j below (mark Star ∷ level_words x y) p refl r)
+
+list_marked : (s : ℕ → Site) (v : Numbered s) (n i m k : ℕ) (first : Bool) (b : Base) (all : List (Option Sharing)) (y : List Word) → i ≡ n → m ≡ n + levels_size b all → k ≡ base_place first b all n → levels_marks first (base_marks b k) (levels_at s n first b all) ++ marked m y ≡ marked i (list_words first b all y)
+list_marked s v n i m k first b [] y p q r = renumbered m i y (omega arith)
+list_marked s v n i m k first b (x ∷ below) y p q r = levels_marked s v n i m k first b x below y p q r
+
+type_marked : (s : ℕ → Site) (v : Numbered s) (n i m : ℕ) (t : Typing) (y : List Word) → i ≡ n → m ≡ n + type_size t → type_marks (type_at s n t) ++ marked m y ≡ marked i (type_words t y)
+type_marked s v n i m t y p q = list_marked s v n i m _ t.mode_first t.base t.levels y p q (v _)
+
+declaration_marked : (s : ℕ → Site) (v : Numbered s) (n i m : ℕ) (d : Declaring) (y : List Word) → i ≡ n → m ≡ n + declaring_size d → declaration_marks (declaration_at s n d) ++ marked m y ≡ marked i (declaring_words d y)
+declaration_marked s v n i m d y p q =
+    let at = n + type_size d.typing in
+    two (type_marks (type_at s n d.typing)) (a_name (s at).token d.named ∷ []) (marked m y) _ _
+    (named (s at).token at m (at + 1) d.named y (v at) (omega (arith, q)))
+    (type_marked s v n i at d.typing (name d.named ∷ y) p refl)
+
+-- expressions
+
+constant_marked : (i m : ℕ) (c : Constant) (y : List Word) → m ≡ i + 1 → marked m y ≡ marked i (constant_word c ∷ y)
+constant_marked i m (constants.Number k) y q = renumbered m (i + 1) y q
+constant_marked i m (constants.Character k) y q = renumbered m (i + 1) y q
+constant_marked i m constants.Null y q = renumbered m (i + 1) y q
+
+-- what is marked after the front of an expression
+abbrev pub Behind : List Mark → ℕ → List Word → Type 0
+Behind r n z = (j : ℕ) → j ≡ n → r ≡ marked j z
+
+front_marked : (s : ℕ → Site) (v : Numbered s) (n i : ℕ) (span : Span) (f : Front) (e : tree.Expression) (r : List Mark) (z : List Word) → i ≡ n → span.first.token ≡ n → Behind (marks e ++ r) (n + front_size f) z → marks (front_at s n span f e) ++ r ≡ marked i (front_words f z)
+front_marked s v n i span parenthesis e r z p h b = b (i + 1) (omega (arith, p))
+front_marked s v n i span (of_spawn x) e r z p h b = also_named (s (n + 2)).token (i + 1 + 1) x _ _ (let t = v (n + 2) in omega (arith, t, p)) (b (i + 1 + 1 + 1 + 1) (omega (arith, p)))
+front_marked s v n i span (of_value value_call.Join) e r z p h b = b (i + 1 + 1) (omega (arith, p))
+front_marked s v n i span (of_value value_call.Print) e r z p h b = b (i + 1 + 1) (omega (arith, p))
+front_marked s v n i span (of_place place_call.Lock) e r z p h b = b (i + 1 + 1 + 1) (omega (arith, p))
+front_marked s v n i span (of_place place_call.Unlock) e r z p h b = b (i + 1 + 1 + 1) (omega (arith, p))
+front_marked s v n i span (of_place place_call.Free) e r z p h b = b (i + 1 + 1) (omega (arith, p))
+front_marked s v n i span (of_cast t) e r z p h b =
+    let at = n + 2 + type_size t in
+    let there : span.first.token ≡ i = omega (arith, p, h) in
+    ap (λ k. a_cast k ∷ ((type_marks (type_at s (n + 2) t) ++ marks e) ++ r)) there
+    ∙ ap (λ l. a_cast i ∷ l)
+    (two (type_marks (type_at s (n + 2) t)) (marks e) r _ _ (b (at + 1) (omega arith)) (type_marked s v (n + 2) (i + 1 + 1) at t (mark Comma ∷ z) (omega (arith, p)) refl))
+
+mutual
+  expression_marked : (s : ℕ → Site) (v : Numbered s) (n i m : ℕ) (x : Phrase) (y : List Word) → i ≡ n → m ≡ n + size x → marks (expression_at s n x) ++ marked m y ≡ marked i (words x y)
+  expression_marked s v n i m (identifier t) y p q = named (s n).token i m (i + 1) t y (let e = v n in omega (arith, e, p)) (omega (arith, p, q))
+  expression_marked s v n i m (constant c) y p q = constant_marked i m c y (omega (arith, p, q))
+  expression_marked s v n i m (enclosed f a) y p q =
+      front_marked s v n i _ f (expression_at s (n + front_size f) a) (marked m y) (words a (mark CloseParenthesis ∷ y)) p (v n)
+      (λ j h. shifted _ _ m (n + front_size f + size a + 1) y (omega (arith, q)) (expression_marked s v (n + front_size f) j (n + front_size f + size a) a (mark CloseParenthesis ∷ y) h refl))
+  expression_marked s v n i m (call t all) y p q =
+      also_named (s n).token i t _ _ (let e = v n in omega (arith, e, p))
+      (shifted _ _ m (n + 2 + sizes all + 1) y (omega (arith, q)) (all_marked s v (n + 2) (i + 1 + 1) (n + 2 + sizes all) all (mark CloseParenthesis ∷ y) (omega (arith, p)) refl))
+  expression_marked s v n i m (index a j) y p q =
+      let at = n + size a in
+      two (marks (expression_at s n a)) (marks (expression_at s (at + 1) j)) (marked m y) _ _
+      (shifted _ _ m (at + 1 + size j + 1) y (omega (arith, q)) (expression_marked s v (at + 1) (at + 1) (at + 1 + size j) j (mark CloseBracket ∷ y) refl refl))
+      (expression_marked s v n i at a (mark OpenBracket ∷ words j (mark CloseBracket ∷ y)) p refl)
+  expression_marked s v n i m (field a w t) y p q =
+      let at = n + size a in
+      two (marks (expression_at s n a)) (a_name (s (at + 1)).token t ∷ []) (marked m y) _ _
+      (named (s (at + 1)).token (at + 1) m (at + 1 + 1) t y (v (at + 1)) (omega (arith, q)))
+      (expression_marked s v n i at a (mark (access_mark w) ∷ (name t ∷ y)) p refl)
+  expression_marked s v n i m (unary o a) y p q = expression_marked s v (n + 1) (i + 1) m a y (omega (arith, p)) (omega (arith, q))
+  expression_marked s v n i m (binary o a b) y p q =
+      let at = n + size a in
+      two (marks (expression_at s n a)) (marks (expression_at s (at + 1) b)) (marked m y) _ _
+      (expression_marked s v (at + 1) (at + 1) m b y refl (omega (arith, q)))
+      (expression_marked s v n i at a (mark (operator_mark o) ∷ words b y) p refl)
+
+  all_marked : (s : ℕ → Site) (v : Numbered s) (n i m : ℕ) (all : Phrases) (y : List Word) → i ≡ n → m ≡ n + sizes all → arguments_marks (arguments_at s n all) ++ marked m y ≡ marked i (words_of_all all y)
+  all_marked s v n i m none y p q = renumbered m i y (omega (arith, p, q))
+  all_marked s v n i m (more a rest) y p q =
+      let at = n + size a in
+      two (marks (expression_at s n a)) (arguments_marks (arguments_at s (at + 1) rest)) (marked m y) _ _
+      (rest_marked s v (at + 1) at m rest y refl (omega (arith, q)))
+      (expression_marked s v n i at a (words_of_rest rest y) p refl)
+
+  -- a comma comes before the first of them
+  rest_marked : (s : ℕ → Site) (v : Numbered s) (n i m : ℕ) (all : Phrases) (y : List Word) → n ≡ i + 1 → m ≡ i + rest_size all → arguments_marks (arguments_at s n all) ++ marked m y ≡ marked i (words_of_rest all y)
+  rest_marked s v n i m none y p q = renumbered m i y (omega (arith, q))
+  rest_marked s v n i m (more a rest) y p q =
+      let at = n + size a in
+      two (marks (expression_at s n a)) (arguments_marks (arguments_at s (at + 1) rest)) (marked m y) _ _
+      (rest_marked s v (at + 1) at m rest y refl (omega (arith, p, q)))
+      (expression_marked s v n (i + 1) at a (words_of_rest rest y) (sym p) refl)
+
+option_marked : (s : ℕ → Site) (v : Numbered s) (n i m : ℕ) (e : Option Phrase) (y : List Word) → i ≡ n → m ≡ n + option_size e → option_marks marks (option_at s n e) ++ marked m y ≡ marked i (option_words e y)
+option_marked s v n i m None y p q = renumbered m i y (omega (arith, p, q))
+option_marked s v n i m (Some e) y p q = expression_marked s v n i m e y p q
+
+-- the right side of `=`, and lines
+
+count_marked : (s : ℕ → Site) (v : Numbered s) (n i m : ℕ) (e : Option Phrase) (y : List Word) → i ≡ n → m ≡ n + count_size e → option_marks marks (option_at s n e) ++ marked m y ≡ marked i (count_words e y)
+count_marked s v n i m None y p q = renumbered m i y (omega (arith, p, q))
+count_marked s v n i m (Some e) y p q = shifted _ _ m (n + size e + 1) y (omega (arith, q)) (expression_marked s v n i (n + size e) e (mark Star ∷ y) p refl)
+
+value_marked : (s : ℕ → Site) (v : Numbered s) (n i m : ℕ) (x : Value) (y : List Word) → i ≡ n → m ≡ n + value_size x → right_marks (value_at s n x) ++ marked m y ≡ marked i (value_words x y)
+value_marked s v n i m (value e) y p q = expression_marked s v n i m e y p q
+value_marked s v n i m (malloc c t) y p q =
+    let at = n + 2 + count_size c in
+    let to = n + count_size c + 4 + type_size t in
+    two (option_marks marks (option_at s (n + 2) c)) (type_marks (type_at s (n + count_size c + 4) t)) (marked m y) _ _
+    (shifted _ _ m (to + 1 + 1) y (omega (arith, q)) (type_marked s v (n + count_size c + 4) (at + 1 + 1) to t (mark CloseParenthesis ∷ (mark CloseParenthesis ∷ y)) (omega arith) refl))
+    (count_marked s v (n + 2) (i + 1 + 1) at c (keyword key.Sizeof ∷ (mark OpenParenthesis ∷ type_words t (mark CloseParenthesis ∷ (mark CloseParenthesis ∷ y)))) (omega (arith, p)) refl)
+
+doing_marked : (s : ℕ → Site) (v : Numbered s) (n i m : ℕ) (x : Doing) (y : List Word) → i ≡ n → m ≡ n + doing_size x → simple_marks (doing_at s n x) ++ marked m y ≡ marked i (doing_words x y)
+doing_marked s v n i m (assign u r) y p q =
+    let at = n + size u in
+    two (marks (expression_at s n u)) (right_marks (value_at s (at + 1) r)) (marked m y) _ _
+    (value_marked s v (at + 1) (at + 1) m r y refl (omega (arith, q)))
+    (expression_marked s v n i at u (mark Assign ∷ value_words r y) p refl)
+doing_marked s v n i m (invoke e) y p q = expression_marked s v n i m e y p q
+
+initial_marked : (s : ℕ → Site) (v : Numbered s) (n i m : ℕ) (x : Option Value) (y : List Word) → i ≡ n → m ≡ n + initial_size x → option_marks right_marks (initial_at s n x) ++ marked m y ≡ marked i (initial_words x y)
+initial_marked s v n i m None y p q = renumbered m i y (omega (arith, p, q))
+initial_marked s v n i m (Some r) y p q = value_marked s v (n + 1) (i + 1) m r y (omega (arith, p)) (omega (arith, q))
+
+local_marked : (s : ℕ → Site) (v : Numbered s) (n i m : ℕ) (x : Declared) (y : List Word) → i ≡ n → m ≡ n + local_size x → local_marks (local_at s n x) ++ marked m y ≡ marked i (declaring_words x.declaring (initial_words x.initial y))
+local_marked s v n i m x y p q =
+    let at = n + declaring_size x.declaring in
+    two (declaration_marks (declaration_at s n x.declaring)) (option_marks right_marks (initial_at s at x.initial)) (marked m y) _ _
+    (initial_marked s v at at m x.initial y refl (omega (arith, q)))
+    (declaration_marked s v n i at x.declaring (initial_words x.initial y) p refl)
+
+first_marked : (s : ℕ → Site) (v : Numbered s) (n i m : ℕ) (x : Line) (y : List Word) → i ≡ n → m ≡ n + line_size x → first_marks (first_at s n x) ++ marked m y ≡ marked i (line_words x y)
+first_marked s v n i m nothing y p q = renumbered m (i + 1) y (omega (arith, p, q))
+first_marked s v n i m (does x) y p q = shifted _ _ m (n + doing_size x + 1) y (omega (arith, q)) (doing_marked s v n i (n + doing_size x) x (mark Semicolon ∷ y) p refl)
+first_marked s v n i m (declares x) y p q = shifted _ _ m (n + local_size x + 1) y (omega (arith, q)) (local_marked s v n i (n + local_size x) x (mark Semicolon ∷ y) p refl)
+
+line_marked : (s : ℕ → Site) (v : Numbered s) (n i m : ℕ) (x : Line) (y : List Word) → i ≡ n → m ≡ n + line_size x → statement_marks (line_at s n x) ++ marked m y ≡ marked i (line_words x y)
+line_marked s v n i m nothing y p q = renumbered m (i + 1) y (omega (arith, p, q))
+line_marked s v n i m (does x) y p q = first_marked s v n i m (does x) y p q
+line_marked s v n i m (declares x) y p q = first_marked s v n i m (declares x) y p q
+
+step_marked : (s : ℕ → Site) (v : Numbered s) (n i m : ℕ) (x : Option Doing) (y : List Word) → i ≡ n → m ≡ n + step_size x → option_marks simple_marks (step_at s n x) ++ marked m y ≡ marked i (step_words x y)
+step_marked s v n i m None y p q = renumbered m i y (omega (arith, p, q))
+step_marked s v n i m (Some x) y p q = doing_marked s v n i m x y p q
+
+-- the head of a `for`, with the `)` after it
+loop_marked : (s : ℕ → Site) (v : Numbered s) (n i m : ℕ) (x : Loop) (y : List Word) → i ≡ n → m ≡ n + opening_size (for_of x) → head_marks (head_at s n x) ++ marked m y ≡ marked i (loop_words x y)
+loop_marked s v n i m x y p q =
+    let first = first_at s (n + 2) x.first in
+    let test = n + line_size x.first + 2 in
+    let step = n + line_size x.first + option_size x.test + 3 in
+    let closing = mark CloseParenthesis ∷ y in
+    two (first_marks first ++ option_marks marks (option_at s test x.test)) (option_marks simple_marks (step_at s step x.step)) (marked m y) _ _
+    (shifted _ _ m (step + step_size x.step + 1) y (omega (arith, q)) (step_marked s v step (test + option_size x.test + 1) (step + step_size x.step) x.step closing (omega arith) refl))
+    (two (first_marks first) (option_marks marks (option_at s test x.test)) _ _ _
+    (option_marked s v test test (test + option_size x.test) x.test (mark Semicolon ∷ step_words x.step closing) refl refl)
+    (first_marked s v (n + 2) (i + 1 + 1) test x.first (option_words x.test (mark Semicolon ∷ step_words x.step closing)) (omega (arith, p)) (omega arith)))
+
+jump_marked : (i m : ℕ) (j : Jump) (y : List Word) → m ≡ i + 1 + 1 → marked m y ≡ marked i (jump_word j ∷ (mark Semicolon ∷ y))
+jump_marked i m jumps.Break y q = renumbered m (i + 1 + 1) y q
+jump_marked i m jumps.Continue y q = renumbered m (i + 1 + 1) y q
+
+mutual
+  sentence_marked : (s : ℕ → Site) (v : Numbered s) (n i m : ℕ) (a : Sentence) (y : List Word) → i ≡ n → m ≡ n + sentence_size a → statement_marks (statement_at s n a) ++ marked m y ≡ marked i (written a y)
+  sentence_marked s v n i m (line x) y p q = line_marked s v n i m x y p q
+  sentence_marked s v n i m (jump j) y p q = jump_marked i m j y (omega (arith, p, q))
+  sentence_marked s v n i m (return e) y p q = shifted _ _ m (n + 1 + option_size e + 1) y (omega (arith, q)) (option_marked s v (n + 1) (i + 1) (n + 1 + option_size e) e (mark Semicolon ∷ y) (omega (arith, p)) refl)
+  sentence_marked s v n i m (block all) y p q = shifted _ _ m (n + 1 + all_size all + 1) y (omega (arith, q)) (sentences_marked s v (n + 1) (i + 1) (n + 1 + all_size all) all (mark CloseBrace ∷ y) (omega (arith, p)) refl)
+  sentence_marked s v n i m (under w a) y p q =
+      under_marked s v n i w _ (statement_at s (n + opening_size w) a) (marked m y) (written a y) p
+      (λ j h. sentence_marked s v (n + opening_size w) j m a y h (omega (arith, q)))
+
+  sentences_marked : (s : ℕ → Site) (v : Numbered s) (n i m : ℕ) (all : Sentences) (y : List Word) → i ≡ n → m ≡ n + all_size all → statements_marks (statements_at s n all) ++ marked m y ≡ marked i (written_all all y)
+  sentences_marked s v n i m no_more y p q = renumbered m i y (omega (arith, p, q))
+  sentences_marked s v n i m (sentence a rest) y p q =
+      let at = n + sentence_size a in
+      two (statement_marks (statement_at s n a)) (statements_marks (statements_at s at rest)) (marked m y) _ _
+      (sentences_marked s v at at m rest y refl (omega (arith, q)))
+      (sentence_marked s v n i at a (written_all rest y) p refl)
+
+  under_marked : (s : ℕ → Site) (v : Numbered s) (n i : ℕ) (w : Opening) (span : Span) (a : tree.Statement) (r : List Mark) (z : List Word) → i ≡ n → Behind (statement_marks a ++ r) (n + opening_size w) z → statement_marks (under_at s n w span a) ++ r ≡ marked i (opening_words w z)
+  under_marked s v n i (if_of e) span a r z p b =
+      let at = n + 2 + size e in
+      two (marks (expression_at s (n + 2) e)) (statement_marks a) r _ _
+      (b (at + 1) (omega arith))
+      (expression_marked s v (n + 2) (i + 1 + 1) at e (mark CloseParenthesis ∷ z) (omega (arith, p)) refl)
+  under_marked s v n i (else_of e c) span a r z p b =
+      let at = n + 2 + size e in
+      let done = n + size e + 3 + sentence_size c in
+      two (marks (expression_at s (n + 2) e) ++ statement_marks (statement_at s (n + size e + 3) c)) (statement_marks a) r _ _
+      (b (done + 1) (omega arith))
+      (two (marks (expression_at s (n + 2) e)) (statement_marks (statement_at s (n + size e + 3) c)) _ _ _
+      (sentence_marked s v (n + size e + 3) (at + 1) done c (keyword key.Else ∷ z) (omega arith) refl)
+      (expression_marked s v (n + 2) (i + 1 + 1) at e (mark CloseParenthesis ∷ written c (keyword key.Else ∷ z)) (omega (arith, p)) refl))
+  under_marked s v n i (while_of e) span a r z p b =
+      let at = n + 2 + size e in
+      two (marks (expression_at s (n + 2) e)) (statement_marks a) r _ _
+      (b (at + 1) (omega arith))
+      (expression_marked s v (n + 2) (i + 1 + 1) at e (mark CloseParenthesis ∷ z) (omega (arith, p)) refl)
+  under_marked s v n i (for_of x) span a r z p b =
+      two (head_marks (head_at s n x)) (statement_marks a) r _ _
+      (b (n + opening_size (for_of x)) refl)
+      (loop_marked s v n i (n + opening_size (for_of x)) x z p refl)
+
+-- programs
+
+fields_marked : (s : ℕ → Site) (v : Numbered s) (n i m : ℕ) (all : List Declaring) (y : List Word) → i ≡ n → m ≡ n + fields_size all → declarations_marks (declarations_at s n all) ++ marked m y ≡ marked i (fields_words all y)
+fields_marked s v n i m [] y p q = renumbered m i y (omega (arith, p, q))
+fields_marked s v n i m (d ∷ rest) y p q =
+    let at = n + declaring_size d in
+    two (declaration_marks (declaration_at s n d)) (declarations_marks (declarations_at s (at + 1) rest)) (marked m y) _ _
+    (fields_marked s v (at + 1) (at + 1) m rest y refl (omega (arith, q)))
+    (declaration_marked s v n i at d (mark Semicolon ∷ fields_words rest y) p refl)
+
+parameters_marked : (s : ℕ → Site) (v : Numbered s) (n i m : ℕ) (all : List Declaring) (y : List Word) → i ≡ n → m ≡ n + parameters_size all → declarations_marks (declarations_at s n all) ++ marked m y ≡ marked i (parameters_words all y)
+parameters_marked s v n i m [] y p q = renumbered m (i + 1) y (omega (arith, p, q))
+parameters_marked s v n i m (d ∷ []) y p q = two (declaration_marks (declaration_at s n d)) [] (marked m y) _ _ refl (declaration_marked s v n i m d y p q)
+parameters_marked s v n i m (d ∷ (e ∷ rest)) y p q =
+    let at = n + declaring_size d in
+    two (declaration_marks (declaration_at s n d)) (declarations_marks (declarations_at s (at + 1) (e ∷ rest))) (marked m y) _ _
+    (parameters_marked s v (at + 1) (at + 1) m (e ∷ rest) y refl (omega (arith, q)))
+    (declaration_marked s v n i at d (mark Comma ∷ parameters_words (e ∷ rest) y) p refl)
+
+form_marked : (n m : ℕ) (x : Form) (y : List Word) → m ≡ n + form_size x → marked m y ≡ marked n (form_words x y)
+form_marked n m single y q = renumbered m n y (omega (arith, q))
+form_marked n m (array k) y q = renumbered m (n + 1 + 1 + 1) y (omega (arith, q))
+form_marked n m (initially true c) y q = constant_marked (n + 1 + 1) m c y (omega (arith, q))
+form_marked n m (initially false c) y q = constant_marked (n + 1) m c y (omega (arith, q))
+
+global_marked : (s : ℕ → Site) (v : Numbered s) (n i m : ℕ) (d : Declaring) (x : Form) (y : List Word) → i ≡ n → m ≡ n + part_size (global d x) → declaration_marks (declaration_at s n d) ++ marked m y ≡ marked i (part_words (global d x) y)
+global_marked s v n i m d x y p q =
+    let at = n + declaring_size d in
+    ap (λ z. declaration_marks (declaration_at s n d) ++ z) (renumbered m (at + form_size x + 1) y (omega (arith, q)) ∙ form_marked at (at + form_size x) x (mark Semicolon ∷ y) refl)
+    ∙ declaration_marked s v n i at d (form_words x (mark Semicolon ∷ y)) p refl
+
+function_marked : (s : ℕ → Site) (v : Numbered s) (n i m : ℕ) (f : Callable) (y : List Word) → i ≡ n → m ≡ n + part_size (function f) → item_marks (item_at s n (function f)) ++ marked m y ≡ marked i (part_words (function f) y)
+function_marked s v n i m f y p q =
+    let at = n + type_size f.result in
+    let given = at + 2 + parameters_size f.parameters in
+    let opens = n + type_size f.result + parameters_size f.parameters + 3 in
+    let result = type_marks (type_at s n f.result) in
+    let parameters = declarations_marks (declarations_at s (at + 2) f.parameters) in
+    let body = statements_marks (statements_at s (opens + 1) f.body) in
+    let closing = mark CloseBrace ∷ y in
+    let inside = mark CloseParenthesis ∷ (mark OpenBrace ∷ written_all f.body closing) in
+    two (result ++ (a_name (s at).token f.named ∷ []) ++ parameters) body (marked m y) _ _
+    (shifted _ _ m (opens + 1 + all_size f.body + 1) y (omega (arith, q)) (sentences_marked s v (opens + 1) (given + 1 + 1) (opens + 1 + all_size f.body) f.body closing (omega arith) refl))
+    (two (result ++ (a_name (s at).token f.named ∷ [])) parameters _ _ _
+    (parameters_marked s v (at + 2) (at + 1 + 1) given f.parameters inside (omega arith) refl)
+    (two result (a_name (s at).token f.named ∷ []) _ _ _
+    (also_named (s at).token at f.named _ _ (v at) refl)
+    (type_marked s v n i at f.result (name f.named ∷ (mark OpenParenthesis ∷ parameters_words f.parameters inside)) p refl)))
+
+part_marked : (s : ℕ → Site) (v : Numbered s) (n i m : ℕ) (x : Part) (y : List Word) → i ≡ n → m ≡ n + part_size x → item_marks (item_at s n x) ++ marked m y ≡ marked i (part_words x y)
+part_marked s v n i m (structure t all) y p q =
+    let at = n + 3 + fields_size all in
+    also_named (s (n + 1)).token (i + 1) t _ _ (let e = v (n + 1) in omega (arith, e, p))
+    (shifted _ _ m (at + 1 + 1) y (omega (arith, q)) (fields_marked s v (n + 3) (i + 1 + 1 + 1) at all (mark CloseBrace ∷ (mark Semicolon ∷ y)) (omega (arith, p)) refl))
+part_marked s v n i m (global d x) y p q = global_marked s v n i m d x y p q
+part_marked s v n i m (function f) y p q = function_marked s v n i m f y p q
+
+pub parts_marked : (s : ℕ → Site) (v : Numbered s) (n i : ℕ) (all : List Part) → i ≡ n → items_marks (items_at s n all) ≡ marked i (program_words all [])
+parts_marked s v n i [] p = refl
+parts_marked s v n i (x ∷ rest) p =
+    let at = n + part_size x in
+    ap (λ z. item_marks (item_at s n x) ++ z) (parts_marked s v at at rest refl)
+    ∙ part_marked s v n i at x (program_words rest []) p refl

@@ -1,4 +1,0 @@
-pub mod Kept
-pub mod Latest
-pub mod Reads
-pub mod Topics

@@ -1,0 +1,77 @@
+-- What the rule keeps of other seats where one seat's view changes.
+use Rattle.std.proofs.Common.{◌≡◌, ◌≢◌, ℕ, zero, suc, ◌+◌, ◌%◌, ◌^◌, inl, ⊎_elim, List, [], ◌∷◌, ◌++◌, slice_set, refl, sym, ap, ◌∙◌, subst, arith}
+use mathlib.Core.Logic.{dite}
+use mathlib.Core.Option.{Option, some, none, some-injective, some-ne-none}
+use native.Mathlib.Decide.{ℕ_discrete}
+use lib.ListN.{get_elem?}
+use Rattle.atomic_table.specs.Table.{State}
+use Rattle.atomic_table.proofs.Lists.{at_longer, set_else}
+use Rattle.sharc_word.specs.declared.step.WordEvent.{WordEvent}
+use Rattle.sharc_record.specs.{declared.journal.Journal.Journal, declared.rule.Part.Part, declared.rule.Turn.Turn, declared.rule.Turn.TheVariants.{Idle, Drawn, Has}, declared.rule.View.View, Rule.{Slot, IsAmong, TurnIs}}
+use Rattle.sharc_record.proofs.Queue.{new_snoc}
+
+abbrev pub St : Type 0
+St = State Slot View
+
+abbrev pub Homes : Type 0
+Homes = List (Option Slot)
+
+-- a turn that is had
+abbrev pub IsHad : Turn → Type 0
+IsHad Idle = ⊥
+IsHad (Drawn ticket) = ⊥
+IsHad (Has journal) = Unit {0}
+
+pub idle_not_had : (journal : Journal) → ¬ (Idle ≡ Has journal)
+idle_not_had journal e = subst IsHad (sym e) tt
+
+pub drawn_not_had : (ticket : ℕ) (journal : Journal) → ¬ (Drawn ticket ≡ Has journal)
+drawn_not_had ticket journal e = subst IsHad (sym e) tt
+
+-- one more is in the queue
+pub turn_longer : (opened : Journal) (history : List WordEvent) (served : ℕ) (queue : List ℕ) (homes : Homes) (n : ℕ) (parts : List Part) (turn : Turn)
+    → ((part : Part) → IsAmong part parts → part.number ≢ n) → TurnIs opened history served queue homes parts turn → TurnIs opened history served (queue ++ n ∷ []) homes parts turn
+turn_longer opened history served queue homes n parts Idle apart is = (λ part among. new_snoc part.number n queue (apart part among) (is part among))
+turn_longer opened history served queue homes n parts (Drawn ticket) apart is =
+    (is.0, is.1, (is.2.0, at_longer queue (n ∷ []) is.2.0 is.0.number is.2.1, is.2.2))
+turn_longer opened history served queue homes n parts (Has journal) apart is =
+    (is.0, is.1, at_longer queue (n ∷ []) 0 is.0.number is.2, is.3, is.4)
+
+-- a seat that has the turn keeps it where another's view changes
+pub had_stays : (views : List View) (id : ℕ) (old new v : View) (seat : ℕ) (journal : Journal) → get_elem? views id ≡ some old → ¬ (old.turn ≡ Has journal)
+    → get_elem? views seat ≡ some v → v.turn ≡ Has journal → get_elem? (slice_set views id new) seat ≡ some v
+had_stays views id old new v seat journal at not there had =
+    dite (ℕ_discrete seat id)
+    (λ e. absurd (not (ap (λ (w : View). w.turn) (some-injective old v (sym at ∙ (ap (λ n. get_elem? views n) (sym e) ∙ there))) ∙ had)))
+    (λ apart. set_else views id seat new apart ∙ there)
+
+pub among_one : (part p : Part) → IsAmong part (p ∷ []) → part ≡ p
+among_one part p h = ⊎_elim (λ e. e) (λ no. absurd no) h
+
+-- the one part of a list
+pub one_part : (p q : Part) → p ∷ [] ≡ q ∷ [] → p ≡ q
+one_part p q e = some-injective p q (ap (λ (ps : List Part). get_elem? ps 0) e)
+
+-- no seat had the turn while the journal was in its slot
+pub turn_away : (opened : Journal) (history : List WordEvent) (served : ℕ) (queue : List ℕ) (homes other : Homes) (slot : Slot) (parts : List Part) (turn : Turn)
+    → homes ≡ some slot ∷ [] → TurnIs opened history served queue homes parts turn → TurnIs opened history served queue other parts turn
+turn_away opened history served queue homes other slot parts Idle full is = is
+turn_away opened history served queue homes other slot parts (Drawn ticket) full is = is
+turn_away opened history served queue homes other slot parts (Has journal) full is =
+    absurd (some-ne-none slot (some-injective (some slot) none (ap (λ (hs : Homes). get_elem? hs 0) (sym full ∙ is.4))))
+
+-- the first of the queue leaves it
+pub turn_passed : (opened : Journal) (history later : List WordEvent) (served n : ℕ) (queue : List ℕ) (homes other : Homes) (parts : List Part) (turn : Turn)
+    → ((part : Part) → IsAmong part parts → part.number ≢ n) → TurnIs opened history served (n ∷ queue) homes parts turn → TurnIs opened later (served + 1) queue other parts turn
+turn_passed opened history later served n queue homes other parts Idle apart is = (λ part among. (is part among).1)
+turn_passed opened history later served n queue homes other parts (Drawn ticket) apart is =
+    further is.2.0 is.2.1 is.2.2 where
+      further : (place : ℕ) → get_elem? (n ∷ queue) place ≡ some is.0.number → ticket ≡ (served + place) % 2 ^ 64 → TurnIs opened later (served + 1) queue other parts (Drawn ticket)
+      further zero e t = absurd (apart is.0 (subst (λ ps. IsAmong is.0 ps) (sym is.1) (inl refl)) (sym (some-injective n is.0.number e)))
+      further (suc place) e t = (is.0, is.1, (place, e, t ∙ ap (λ k. k % 2 ^ 64) (omega arith)))
+turn_passed opened history later served n queue homes other parts (Has journal) apart is =
+    absurd (apart is.0 (subst (λ ps. IsAmong is.0 ps) (sym is.1) (inl refl)) (sym (some-injective n is.0.number is.2)))
+
+pub head_is : (n : ℕ) (queue : List ℕ) → get_elem? queue 0 ≡ some n → (q : List ℕ) × (queue ≡ n ∷ q)
+head_is n [] e = absurd (some-ne-none n (sym e))
+head_is n (x ∷ xs) e = (xs, ap (λ (m : ℕ). m ∷ xs) (some-injective x n e))

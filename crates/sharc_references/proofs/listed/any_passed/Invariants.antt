@@ -1,7 +1,0 @@
-use Rattle.std.proofs.Common.{◌≡◌, drop}
-use Rattle.std.specs.List.{list_any}
-use Rattle.sharc_references.specs.Listed.{is_passed}
-use Rattle.sharc_references.proofs.listed.any_passed.Given as goal
-
-abbrev pub invariant-loop-e : goal.invariant-loop-e
-invariant-loop-e l = list_any (is_passed l.typed l.number l.thread) (drop l.e-index l.events) ≡ list_any (is_passed l.typed l.number l.thread) l.events

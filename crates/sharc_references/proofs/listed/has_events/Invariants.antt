@@ -1,7 +1,0 @@
-use Rattle.std.proofs.Common.{◌≡◌, drop}
-use Rattle.std.specs.List.{list_any}
-use Rattle.sharc_meaning.specs.Events.{is_of}
-use Rattle.sharc_references.proofs.listed.has_events.Given as goal
-
-abbrev pub invariant-loop-e : goal.invariant-loop-e
-invariant-loop-e l = list_any (is_of l.thread) (drop l.e-index l.events) ≡ list_any (is_of l.thread) l.events

@@ -1,6 +1,0 @@
-use Rattle.std.proofs.Common.{◌≡◌, take}
-use Rattle.sharc_meaning.specs.References.{is_taken_to_free}
-use Rattle.sharc_references.proofs.listed.is_taken_to_free.Given as goal
-
-abbrev pub invariant-loop-e : goal.invariant-loop-e
-invariant-loop-e l = l.taken ≡ is_taken_to_free (take l.e-index l.events) l.number

@@ -1,5 +1,0 @@
-use Rattle.std.proofs.Common.{length}
-use Rattle.sharc_references.proofs.pointers.+fields_called.Given as goal
-
-abbrev pub decreases-fields_called : goal.decreases-fields_called
-decreases-fields_called l = length l.items.now

@@ -1,7 +1,0 @@
-use Rattle.std.proofs.Common.{◌≡◌, ◌≤◌, take}
-use Rattle.std.specs.Prelude.{count_by}
-use Rattle.sharc_meaning.specs.References.{refers}
-use Rattle.sharc_references.proofs.starts.count_of.Given as goal
-
-abbrev pub invariant-loop-value : goal.invariant-loop-value
-invariant-loop-value l = record { counted : l.count ≡ count_by (refers l.number) (take l.value-index l.held); few : l.count ≤ l.value-index }

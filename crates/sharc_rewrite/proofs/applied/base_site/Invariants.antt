@@ -1,6 +1,0 @@
-use Rattle.std.proofs.Common.{◌≡◌, drop}
-use Rattle.sharc_rewrite.specs.Applied.{base_site}
-use Rattle.sharc_rewrite.proofs.applied.base_site.Given as goal
-
-abbrev pub invariant-loop-one : goal.invariant-loop-one
-invariant-loop-one l = base_site (drop l.one-index l.types) l.base l.site ≡ base_site l.types l.base l.site

@@ -1,7 +1,0 @@
-use Rattle.std.proofs.Common.{◌≡◌, take, map}
-use Rattle.sharc_tree.specs.View.{view_items}
-use Rattle.sharc_rewrite.specs.Recast.{item_with_cast}
-use Rattle.sharc_rewrite.proofs.item.items.Given as goal
-
-abbrev pub invariant-loop-one : goal.invariant-loop-one
-invariant-loop-one l = view_items l.written.items ≡ map (item_with_cast l.c) (view_items (take l.one-index l.list))

@@ -1,6 +1,0 @@
-use Rattle.std.proofs.Common.{◌≡◌, take, map}
-use Rattle.sharc_rewrite.specs.Applied.{moved}
-use Rattle.sharc_rewrite.proofs.modes.all_moved.Given as goal
-
-abbrev pub invariant-loop-reason : goal.invariant-loop-reason
-invariant-loop-reason l = l.list.items ≡ map (moved l.first l.count) (take l.reason-index l.reasons)

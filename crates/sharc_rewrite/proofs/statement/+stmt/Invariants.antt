@@ -1,7 +1,0 @@
-use Rattle.std.proofs.Common.{◌≡◌, take}
-use Rattle.sharc_tree.specs.View.{view_statements}
-use Rattle.sharc_rewrite.specs.Recast.{statements_with_cast}
-use Rattle.sharc_rewrite.proofs.statement.+stmt.Given as goal
-
-abbrev pub invariant-statements-loop-stmt : goal.invariant-statements-loop-stmt
-invariant-statements-loop-stmt l = view_statements l.written.items ≡ statements_with_cast l.c (view_statements (take l.stmt-index l.list))

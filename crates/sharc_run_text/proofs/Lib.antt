@@ -1,4 +1,0 @@
-mod Firsts
-mod OneOrder
-mod OneText
-mod Pieces

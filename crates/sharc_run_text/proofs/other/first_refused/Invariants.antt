@@ -1,7 +1,0 @@
-use Rattle.std.proofs.Common.{◌≡◌, drop}
-use Rattle.std.specs.Prelude.{find}
-use Rattle.sharc_run_text.specs.Others.{was_refused_first}
-use Rattle.sharc_run_text.proofs.other.first_refused.Given as goal
-
-abbrev pub invariant-loop-t : goal.invariant-loop-t
-invariant-loop-t l = find (was_refused_first l.c) (drop l.t-index l.threads) ≡ find (was_refused_first l.c) l.threads

@@ -1,7 +1,0 @@
-use Rattle.std.proofs.Common.{◌≡◌, ◌++◌, take}
-use Rattle.std.specs.List.{flat_map}
-use Rattle.sharc_run_text.specs.RunText.{print_line}
-use Rattle.sharc_run_text.proofs.text.put_prints.Given as goal
-
-abbrev pub invariant-loop-p : goal.invariant-loop-p
-invariant-loop-p l = l.text.items ≡ l.fn.text.items ++ flat_map print_line (take l.p-index l.prints)

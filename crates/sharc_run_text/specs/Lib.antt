@@ -1,4 +1,0 @@
-pub mod Laws
-pub mod Others
-pub mod Places
-pub mod RunText

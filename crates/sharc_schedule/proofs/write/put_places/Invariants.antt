@@ -1,0 +1,6 @@
+use Rattle.std.proofs.Common.{◌≡◌, ◌++◌, drop}
+use Rattle.sharc_schedule.specs.File.{places_text}
+use Rattle.sharc_schedule.proofs.write.put_places.Given as goal
+
+abbrev pub invariant-loop-i : goal.invariant-loop-i
+invariant-loop-i l = l.text.items ++ places_text (drop l.i l.places) ≡ l.fn.text.items ++ places_text l.places

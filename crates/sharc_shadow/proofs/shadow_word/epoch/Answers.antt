@@ -1,6 +1,0 @@
-use Rattle.std.proofs.Common.{sym}
-use Rattle.sharc_shadow.proofs.Sets.{epoch_is}
-use Rattle.sharc_shadow.proofs.shadow_word.epoch.Goals as goal
-
-pub returns : goal.returns
-returns c = sym (epoch_is c.args.old)

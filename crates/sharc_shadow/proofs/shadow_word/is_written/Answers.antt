@@ -1,9 +1,0 @@
-use Rattle.std.proofs.{Common.{◌≡◌, ap, ◌∙◌, sym, ◌==◌, ◌*◌, arith}, lemmas.Nat.Bits.and_pow}
-use Rattle.std.specs.Int.{bit_at}
-use Rattle.sharc_shadow.proofs.Sets.{written_is}
-use Rattle.sharc_shadow.proofs.shadow_word.is_written.Goals as goal
-
-pub returns : goal.returns
-returns c =
-    let once : bit_at c.args.word 0 * 1 ≡ bit_at c.args.word 0 = omega arith in
-    ap (λ b. b == 1) (and_pow c.args.word 0 ∙ once) ∙ sym (written_is c.args.word)

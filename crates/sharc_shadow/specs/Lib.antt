@@ -1,6 +1,0 @@
-pub mod Accesses
-pub mod Functions
-pub mod Laws
-pub mod Notes
-pub mod Others
-pub mod ShadowWord

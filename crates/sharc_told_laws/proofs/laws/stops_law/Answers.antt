@@ -1,5 +1,0 @@
-use Rattle.sharc_told_laws.proofs.Stopping.{stopped}
-use Rattle.sharc_told_laws.proofs.laws.stops_law.Goals as goal
-
-pub returns : goal.returns
-returns c = λ code s run checked t stop is. stopped code s run ((c.run_laws.ensures.checked code s run).0 checked) t stop is

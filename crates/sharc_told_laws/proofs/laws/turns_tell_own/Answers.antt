@@ -1,5 +1,0 @@
-use Rattle.sharc_told_laws.proofs.Owned.{own_events}
-use Rattle.sharc_told_laws.proofs.laws.turns_tell_own.Goals as goal
-
-pub returns : goal.returns
-returns c = λ code s run thread. own_events c.standing_laws.ensures code s thread run

@@ -1,4 +1,0 @@
-pub mod Own
-pub mod Prints
-pub mod Stopped
-pub mod Tested

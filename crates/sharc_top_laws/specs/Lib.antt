@@ -1,5 +1,0 @@
-pub mod AuditLaws
-pub mod Kept
-pub mod Laws
-pub mod RecordLaws
-pub mod Suggestions
