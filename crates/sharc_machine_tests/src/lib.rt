@@ -4,8 +4,6 @@
 #![tactic(auto)]
 
 #[cfg(test)]
-mod cpu;
-#[cfg(test)]
 mod leaf;
 #[cfg(test)]
 mod record;

@@ -1,6 +1,6 @@
 //! Calls as deep as they may be, within statements and operands as deep as those may be.
 
-use crate::audit::outcome::audited;
+use crate::outcome::audited;
 use std::process::Abort;
 use std::sync::Wait;
 use std::test::Fail;

@@ -1,6 +1,6 @@
 //! Threads, prints and conditions.
 
-use crate::cpu::bench::{Row, Then, walk};
+use crate::bench::{Row, Then, walk};
 use sharc_code::{Cell, Instr, Register};
 use sharc_cpu::{Stop, Wait};
 use sharc_tree::trap::Trap;

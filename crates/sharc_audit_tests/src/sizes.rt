@@ -1,6 +1,6 @@
 //! Event files of the greatest sizes.
 
-use crate::audit::outcome::audited;
+use crate::outcome::audited;
 use std::process::Abort;
 use std::sync::Wait;
 use std::test::Fail;

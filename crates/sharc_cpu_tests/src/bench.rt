@@ -4,8 +4,8 @@ ghost use Rattle.std.specs.Prelude.{◌≡◌};
 ghost use Rattle.sharc_code.specs.Layout.{Fits, words_of};
 ghost use Rattle.sharc_cpu.specs.Thread.{IsThread};
 
-use crate::cpu::code::{code, shape};
-use crate::cpu::script::{Ask, Script};
+use crate::code::{code, shape};
+use crate::script::{Ask, Script};
 use sharc_code::{Cell, Code, Instr, Shape};
 use sharc_cpu::{Pause, Stop, Thread, Wait, run_quantum, thread_law};
 use sharc_heap::Kind;

@@ -1,7 +1,7 @@
 use Rattle.std.proofs.Common.{◌≡◌, length}
 use Rattle.sharc_code.specs.Layout.{words_of}
 use Rattle.sharc_cpu.specs.Thread.{IsThread}
-use Rattle.sharc_machine_tests.proofs.cpu.rows.walk.Given as goal
+use Rattle.sharc_cpu_tests.proofs.rows.walk.Given as goal
 
 abbrev pub invariant-loop-turn : goal.invariant-loop-turn
 invariant-loop-turn g l = record {

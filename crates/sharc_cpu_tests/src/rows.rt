@@ -5,7 +5,7 @@ ghost use Rattle.sharc_code.specs.Layout.{Fits, words_of};
 ghost use Rattle.sharc_cpu.specs.Rows.{IsPlan};
 ghost use Rattle.sharc_cpu.specs.Thread.{IsThread};
 
-use crate::cpu::code::{code, shape};
+use crate::code::{code, shape};
 use sharc_code::Instr::{
     ChkHeld, ChkLock, ChkNotHeld, ChkNull, ChkRead, ChkRoom, ChkWidth, ChkWrite, ComputeInt,
     Constant, GlobalBounds, Jump, JumpIfZero, Load, Lock, Lower, Move, New, Raise, Store, Unlock,

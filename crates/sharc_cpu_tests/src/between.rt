@@ -4,7 +4,7 @@ ghost use Rattle.std.specs.Prelude.{◌≡◌, length};
 ghost use Rattle.sharc_code.specs.Layout.{Fits, words_of};
 ghost use Rattle.sharc_cpu.specs.Thread.{IsThread};
 
-use crate::cpu::code::{code, shape};
+use crate::code::{code, shape};
 use sharc_code::{Cell, Code, Instr, Shape, opening};
 use sharc_cpu::{Pause, Thread, run_quantum};
 use sharc_word::WordOp::{Add, Or, Swap};

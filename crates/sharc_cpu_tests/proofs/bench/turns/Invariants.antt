@@ -1,5 +1,5 @@
 use Rattle.sharc_cpu.specs.Thread.{IsThread}
-use Rattle.sharc_machine_tests.proofs.cpu.bench.turns.Given as goal
+use Rattle.sharc_cpu_tests.proofs.bench.turns.Given as goal
 
 abbrev pub invariant-loop-turn : goal.invariant-loop-turn
 invariant-loop-turn l = record {

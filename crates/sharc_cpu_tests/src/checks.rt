@@ -1,7 +1,7 @@
 //! Checks of accesses and of mutexes, counts, and cells.
 
-use crate::cpu::bench::{BODY, Row, Then, run, walk};
-use crate::cpu::script::Ask;
+use crate::bench::{BODY, Row, Then, run, walk};
+use crate::script::Ask;
 use sharc_code::{Cell, Instr};
 use sharc_cpu::{Stop, Wait};
 use sharc_heap::Kind;

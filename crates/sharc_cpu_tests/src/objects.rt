@@ -1,6 +1,6 @@
 //! Objects: how they are made, cleared and freed, and the bounds of their elements.
 
-use crate::cpu::bench::{Row, Then, walk};
+use crate::bench::{Row, Then, walk};
 use sharc_code::Instr;
 use sharc_cpu::Stop;
 use sharc_tree::trap::Trap;

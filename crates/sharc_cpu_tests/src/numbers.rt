@@ -2,8 +2,8 @@
 
 ghost use Rattle.std.specs.Prelude.{◌≡◌};
 
-use crate::cpu::bench::{Row, Then, walk};
-use crate::cpu::code::code;
+use crate::bench::{Row, Then, walk};
+use crate::code::code;
 use sharc_code::{Cell, Instr, Shape};
 use sharc_word::WordOp;
 use sharc_word::WordOp::{Add, Load, Or, Sub, Swap};

@@ -1,6 +1,6 @@
 //! Instructions that ask for no step.
 
-use crate::cpu::bench::{BODY, Row, Then, walk};
+use crate::bench::{BODY, Row, Then, walk};
 use sharc_code::Operator::{
     Add, And, AtLeast, AtMost, Divide, Equal, Greater, Less, Multiply, NotEqual, Or, Remainder,
     ShiftLeft, ShiftRight, Subtract, Xor,

@@ -1,9 +1,9 @@
 //! Tables of event files.
 
-use crate::audit::edges::EDGES;
-use crate::audit::outcome::audited;
-use crate::audit::refused::REFUSED;
-use crate::audit::runs::RUNS;
+use crate::edges::EDGES;
+use crate::outcome::audited;
+use crate::refused::REFUSED;
+use crate::runs::RUNS;
 use std::process::Abort;
 use std::sync::Wait;
 use std::test::Fail;
