@@ -2,5 +2,6 @@
 
 mod bench;
 mod gates;
+mod pace;
 mod rounds;
 mod starts;

@@ -1,6 +1,7 @@
 pub mod Dealing
 pub mod Going
 pub mod Growing
+pub mod Joining
 pub mod Looking
 pub mod Needing
 pub mod Places

@@ -26,7 +26,7 @@ one_without code s limit old room new events h q = record {
   some = λ on low. q.some (ap (λ (m : Machine). may_go m.at.state) h.machine ∙ on) (subst (λ n. n < limit) (sym h.made) low);
 }
 
-without_room : (code : Code) (s : Shape) (limit : ℕ) (old room new : Seat) (events : List WordEvent) → HasRoomAt old room → MadeQuantumAt code s limit room new events → MadeQuantumAt code s limit old new events
+pub without_room : (code : Code) (s : Shape) (limit : ℕ) (old room new : Seat) (events : List WordEvent) → HasRoomAt old room → MadeQuantumAt code s limit room new events → MadeQuantumAt code s limit old new events
 without_room code s limit (Some old) (Some room) (Some new) events h q = one_without code s limit old room new events h q
 without_room code s limit (Some old) (Some room) None events h q = absurd q
 without_room code s limit (Some old) None new events h q = absurd h
@@ -35,7 +35,7 @@ without_room code s limit None None (Some new) events h q = absurd q
 without_room code s limit None None None events h q = q
 
 -- a thread with room may make a quantum
-fits_at : (code : Code) (s : Shape) (limit n number : ℕ) (old room : Seat) → number ≡ n → MayBeginAt code s limit n old → HasRoomAt old room → MayQuantumAt code s limit room number
+pub fits_at : (code : Code) (s : Shape) (limit n number : ℕ) (old room : Seat) → number ≡ n → MayBeginAt code s limit n old → HasRoomAt old room → MayQuantumAt code s limit room number
 fits_at code s limit n number (Some old) (Some room) e may h = record {
   thread_is = h.thread code s may.thread_is;
   number_is = e ∙ sym may.number ∙ ap (λ (m : Machine). m.own.number) (sym h.machine);

@@ -5,7 +5,7 @@ use Rattle.sharc_word.specs.{Place.{PortState, LeadsInEvents, place_of_events}, 
 use Rattle.sharc_code.specs.{declared.code.Code.Code, declared.shape.Shape.Shape, declared.state.TurnState.TurnState, declared.state.TurnState.TheVariants.{Runs, Tries, Stopped, Ended}, Machine.Machine, Path.{may_go, machine_after, events_of_path, made_in}}
 use Rattle.sharc_cpu.specs.{Thread.{ThreadView, IsThread}, Quantum.{IsQuantum, pause_of}, declared.quantum.Pause.Pause, declared.quantum.Pause.TheVariants.{Ran, Spent}}
 use Rattle.sharc_bus.specs.Bus.{SeatView}
-use Rattle.sharc_rounds.specs.{declared.hand.TheConstants.QUANTUM, Round.{Seat, HasRun}}
+use Rattle.sharc_rounds.specs.Round.{Seat, HasRun}
 use Rattle.sharc_lemmas.proofs.Numbers.{below}
 
 ran_or_spent : (b : Bool) → b ≡ false → (if b then Spent else Ran) ≡ Ran
@@ -50,8 +50,8 @@ module _ (code : Code) (s : Shape) (limit : ℕ) where
     events_are = sym (append-nil port.events);
   }
 
-  module _ (laws : PlaceLaws) (serves : ℕ → Type 0) (old new : ThreadView) (port after : SeatView) (pause : Pause)
-      (q : IsQuantum serves LeadsInEvents code s QUANTUM limit old new (place_of_events port.events) (place_of_events after.events) pause) where
+  module _ (laws : PlaceLaws) (serves : ℕ → Type 0) (turns : ℕ) (some : 0 < turns) (old new : ThreadView) (port after : SeatView) (pause : Pause)
+      (q : IsQuantum serves LeadsInEvents code s turns limit old new (place_of_events port.events) (place_of_events after.events) pause) where
     no_turn : q.goes.founds ≡ [] → may_go old.machine.at.state ≡ true → old.made < limit → ⊥
     no_turn e may low =
         let none : q.turns ≡ 0 = q.goes.turns_are ∙ ap (λ (xs : List ℕ). length xs) e in
@@ -59,8 +59,8 @@ module _ (code : Code) (s : Shape) (limit : ℕ) where
         let made : new.made ≡ old.made = omega (arith, q.made, q.goes.made_are ∙ ap (made_in code s old.machine) e) in
         let is : pause ≡ pause_of old.machine.at.state 0 old.made limit =
         q.pause_is ∙ ap (λ (m : Machine). pause_of m.at.state q.turns new.made limit) same ∙ ap (λ (n : ℕ). pause_of old.machine.at.state n new.made limit) none ∙ ap (λ (n : ℕ). pause_of old.machine.at.state 0 n limit) made in
-        let most : q.turns ≡ QUANTUM = q.ran (is ∙ none_ran old.machine.at.state old.made limit may low) in
-        omega (arith, none, most)
+        let most : q.turns ≡ turns = q.ran (is ∙ none_ran old.machine.at.state old.made limit may low) in
+        omega (arith, none, most, some)
 
     events_after : serves old.machine.own.number → after.events ≡ port.events ++ events_of_path code s old.machine q.goes.founds
     events_after serves =

@@ -1,4 +1,5 @@
 pub mod Round
 pub mod Laws
 pub mod Run
+pub mod Pace
 pub mod Shares

@@ -11,7 +11,7 @@ use Rattle.sharc_code.specs.declared.state.Wait.TheVariants as waits
 use Rattle.sharc_cpu.specs.Thread.{ThreadView, IsThread}
 use Rattle.sharc_bus.specs.Bus.{BusView, IsOf, OneHistory}
 use Rattle.sharc_threads.specs.Seats.{AreSeats}
-use Rattle.sharc_rounds.specs.{declared.hand.TheConstants.QUANTUM, declared.hand.Hand.Hand}
+use Rattle.sharc_rounds.specs.{declared.stint.TheConstants.QUANTUM, declared.hand.Hand.Hand}
 use Rattle.sharc_rounds.specs.{declared.worker.Worker.Worker, declared.round.Rounds.Rounds, declared.words.Words.Words}
 
 -- a place of the table of threads: a thread that was started, or none
@@ -125,6 +125,18 @@ HasRoomAt (Some old) (Some new) = HasRoom old new
 HasRoomAt None None = Unit {0}
 HasRoomAt (Some old) None = ⊥
 HasRoomAt None (Some new) = ⊥
+
+-- a hand of this bus may go on, once there is room for what its thread prints
+pub record MayGoOn (code : Code) (s : Shape) (limit : ℕ) (bus : BusView) (hand : Hand) : Type 0 where
+  pub bus_is : hand.port.bus ≡ bus.id
+  pub may : MayBeginAt code s limit hand.port.number hand.seat
+
+abbrev pub MayGoOnAt : Code → Shape → ℕ → BusView → Option Hand → Type 0
+MayGoOnAt code s limit bus None = Unit {0}
+MayGoOnAt code s limit bus (Some hand) = MayGoOn code s limit bus hand
+
+abbrev pub MayAllGoOn : Code → Shape → ℕ → BusView → Worker → Type 0
+MayAllGoOn code s limit bus worker = (n : ℕ) → MayGoOnAt code s limit bus (slice_index_or worker.hands.items n None)
 
 -- ---- between two rounds
 -- they are on the bus of the threads, and none is looked at that is not there

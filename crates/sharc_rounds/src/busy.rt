@@ -1,10 +1,6 @@
-//! How many workers have something to do in a round, and what follows from that.
+//! How many workers have something to do in a round.
 
-ghost use Rattle.std.specs.Prelude.{◌≡◌, ◌≢◌, ◌<◌, true, false};
-
-/// The failed tries in a row that a thread makes behind the first one, where workers work at the same time: whom it
-/// waits for may go on meanwhile.
-pub const TRIES: u32 = 64;
+ghost use Rattle.std.specs.Prelude.{◌≡◌, ◌≢◌, true, false};
 
 /// How many workers have a thread that is enabled.
 #[derive(Clone, Copy, PartialEq, Eq)]
@@ -23,26 +19,6 @@ impl Busy {
         match self {
             Busy::Nobody => true,
             Busy::One | Busy::Several => false,
-        }
-    }
-
-    /// In how many threads the work of this many workers is done: with one that is busy, the caller does that of all.
-    pub(crate) fn threads(self, workers: usize) -> usize
-        requires { 0 < workers }
-        ensures { 0 < result }
-    {
-        match self {
-            Busy::Several => workers,
-            Busy::Nobody | Busy::One => 1,
-        }
-    }
-
-    /// The failed tries that a thread makes behind the first one. Where one thread does all the work, nobody goes on
-    /// meanwhile.
-    pub(crate) fn tries(self) -> u32 {
-        match self {
-            Busy::Several => TRIES,
-            Busy::Nobody | Busy::One => 0,
         }
     }
 }

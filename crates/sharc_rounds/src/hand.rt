@@ -8,14 +8,12 @@ ghost use Rattle.sharc_rounds.specs.Round.{MayQuantum, HasRun, MayRun};
 
 use crate::gate::{Gate, GatedPort};
 use crate::share::most_events;
+use crate::stint::Stint;
 use sharc_bus::{Bus, BusPort, BusSeat, name_laws};
 use sharc_code::{Code, Shape};
 use sharc_cpu::{RowPlan, Thread, run_trying};
 use sharc_threads::is_on;
 use sharc_word::place_laws;
-
-/// The turns of a quantum.
-pub const QUANTUM: u32 = 50_000;
 
 /// A place of the table of threads, and its seat on the bus of the round.
 #[derive(Drop)]
@@ -24,7 +22,7 @@ pub(crate) struct Hand {
     pub(crate) port: BusSeat,
 }
 
-// One quantum of a thread that is neither gone nor stopped.
+// One stint of a thread, if it is neither gone nor stopped.
 fn run_thread<G: Gate>(
     mut thread: Thread,
     port: BusSeat,
@@ -35,7 +33,7 @@ fn run_thread<G: Gate>(
     gate: &G,
     worker: u32,
     limit: u64,
-    tries: u32,
+    stint: Stint,
 ) -> Hand
     requires plan { IsPlan code.now plan.now }
     requires fits { Fits code.now shape.now }
@@ -65,9 +63,9 @@ fn run_thread<G: Gate>(
         shape,
         &mut thread,
         &mut port,
-        QUANTUM,
+        stint.turns(),
         most,
-        tries,
+        stint.tries(),
     );
     let GatedPort { port, .. } = port;
     Hand {
@@ -77,7 +75,7 @@ fn run_thread<G: Gate>(
 }
 
 impl Hand {
-    /// One quantum of the thread, if one is there that is neither gone nor stopped.
+    /// One stint of the thread, if one is there that is neither gone nor stopped.
     pub(crate) fn run<G: Gate>(
         self,
         code: &Code,
@@ -87,7 +85,7 @@ impl Hand {
         gate: &G,
         worker: u32,
         limit: u64,
-        tries: u32,
+        stint: Stint,
     ) -> Hand
         requires plan { IsPlan code.now plan.now }
         requires fits { Fits code.now shape.now }
@@ -99,7 +97,7 @@ impl Hand {
         match seat {
             None => Hand { seat: None, port },
             Some(thread) => run_thread(
-                thread, port, code, plan, shape, bus, gate, worker, limit, tries,
+                thread, port, code, plan, shape, bus, gate, worker, limit, stint,
             ),
         }
     }

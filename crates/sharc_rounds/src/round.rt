@@ -1,19 +1,22 @@
 //! One round.
 
-ghost use Rattle.std.specs.Prelude.{◌≡◌, ◌<◌, ℕ, None, length, IfOk, OnOk, slice_index_or};
+ghost use Rattle.std.specs.Prelude.{◌≡◌, ◌<◌, ℕ, length, IfOk, OnOk, slice_index_or};
 ghost use Rattle.sharc_word.specs.declared.step.TheConstants.{THREADS as threads};
 ghost use Rattle.sharc_code.specs.Layout.{Fits, words_of};
 ghost use Rattle.sharc_cpu.specs.Rows.{IsPlan};
-ghost use Rattle.sharc_rounds.specs.Round.{MayBegin, HasRoom, HasRoomAt, MadeRound, AreWords, KeptBus};
+ghost use Rattle.sharc_rounds.specs.declared.worker.Worker.{Worker};
+ghost use Rattle.sharc_rounds.specs.Round.{MayBegin, MayAllRun, HaveAllRun, MadeRound, AreWords, KeptBus};
 
-use crate::busy::Busy;
 use crate::gate::Gate;
-use crate::hand::QUANTUM;
+use crate::pace::Makers;
+use crate::room::reserve;
+use crate::stint::Stint;
 use crate::words::Words;
-use crate::worker::{deal, gather, run_all, workers_needed};
+use crate::worker::{Worker, deal, gather, run_all, workers_needed};
+use sharc_bus::Bus;
 use sharc_code::{Code, Shape};
-use sharc_cpu::{RowPlan, Thread};
-use sharc_threads::{ThreadTable, is_on};
+use sharc_cpu::RowPlan;
+use sharc_threads::ThreadTable;
 use std::alloc::{AllocError, Global};
 use std::thread::Threads;
 
@@ -24,35 +27,70 @@ pub(crate) struct Rounds {
     pub(crate) words: Words,
 }
 
-// Makes room for the prints of a quantum, if the thread goes on.
-fn make_room(thread: &mut Thread) -> Result<(), AllocError>
-    ensures { OnOk result (HasRoom thread.old thread.new) }
+// Each worker gives each of its threads a quantum.
+fn work<R: Threads + Sync, G: Gate + Sync>(
+    rt: &R,
+    code: &Code,
+    plan: &RowPlan,
+    shape: &Shape,
+    bus: &Bus,
+    gate: &G,
+    workers: u32,
+    limit: u64,
+    crew: &mut Vec<Worker>,
+    makers: Makers,
+) -> Result<(), AllocError>
+    requires plan { IsPlan code.now plan.now }
+    requires fits { Fits code.now shape.now }
+    requires words { length bus.now.opening ≡ words_of shape.now }
+    requires workers { 0 < workers }
+    requires some { 0 < length crew.old.items }
+    requires alone { makers ≡ Makers.CallerByParts → length crew.old.items ≡ 1 }
+    requires may { (w : ℕ) (d : Worker) → w < length crew.old.items
+        → MayAllRun code.now shape.now limit bus.now (slice_index_or crew.old.items w d) }
+    ensures count { length crew.new.items ≡ length crew.old.items }
+    ensures each { OnOk result ((w : ℕ) (d : Worker) → w < length crew.old.items → HaveAllRun code.now shape.now limit
+        (slice_index_or crew.old.items w d) (slice_index_or crew.new.items w d)) }
 {
-    if is_on(thread) {
-        thread.reserve(QUANTUM)?;
+    match makers {
+        Makers::Workers => {
+            let threads = crew.len();
+            run_all(
+                rt,
+                code,
+                plan,
+                shape,
+                bus,
+                gate,
+                workers,
+                limit,
+                crew,
+                threads,
+                Stint::Beside,
+            );
+            Ok(())
+        }
+        Makers::Caller => {
+            run_all(
+                rt,
+                code,
+                plan,
+                shape,
+                bus,
+                gate,
+                workers,
+                limit,
+                crew,
+                1,
+                Stint::Alone,
+            );
+            Ok(())
+        }
+        Makers::CallerByParts => {
+            crew[0].run_by_parts(code, plan, shape, bus, gate, workers, limit)?;
+            Ok(())
+        }
     }
-    Ok(())
-}
-
-fn make_room_at(seat: &mut Option<Thread>) -> Result<(), AllocError>
-    ensures { OnOk result (HasRoomAt seat.old seat.new) }
-{
-    match seat {
-        None => Ok(()),
-        Some(thread) => make_room(thread),
-    }
-}
-
-// Makes room in each thread.
-fn reserve(seats: &mut Vec<Option<Thread>>) -> Result<(), AllocError>
-    ensures count { length seats.new.items ≡ length seats.old.items }
-    ensures each { OnOk result ((n : ℕ) → n < length seats.old.items
-        → HasRoomAt (slice_index_or seats.old.items n None) (slice_index_or seats.new.items n None)) }
-{
-    for n in 0..seats.len() {
-        make_room_at(&mut seats[n])?;
-    }
-    Ok(())
 }
 
 impl Rounds {
@@ -69,7 +107,7 @@ impl Rounds {
         workers: u32,
         limit: u64,
         gate: &G,
-        busy: Busy,
+        makers: Makers,
     ) -> Result<Rounds, AllocError>
         requires plan { IsPlan code.now plan.now }
         requires fits { Fits code.now shape.now }
@@ -86,10 +124,12 @@ impl Rounds {
         let ThreadTable { mut seats } = threads;
         reserve(&mut seats)?;
         let (ports, round) = bus.begin(alloc, rest)?;
-        let count = workers_needed(seats.as_slice(), workers);
-        let mut workers = deal(alloc, count, seats, ports)?;
-        run_all(rt, code, plan, shape, &bus, gate, limit, &mut workers, busy);
-        let (seats, ports) = gather(alloc, workers)?;
+        let count = makers.count(workers_needed(seats.as_slice(), workers));
+        let mut crew = deal(alloc, count, seats, ports)?;
+        work(
+            rt, code, plan, shape, &bus, gate, workers, limit, &mut crew, makers,
+        )?;
+        let (seats, ports) = gather(alloc, crew)?;
         let rest = bus.end(round, ports);
         Ok(Rounds {
             threads: ThreadTable { seats },

@@ -7,9 +7,9 @@ ghost use Rattle.sharc_cpu.specs.Rows.{IsPlan};
 ghost use Rattle.sharc_rounds.specs.Round.{AreRounds};
 ghost use Rattle.sharc_rounds.specs.Run.{IsRoundsRun};
 
-use crate::busy::Busy;
 use crate::gate::Gate;
 use crate::laws::round_laws;
+use crate::pace::{Lap, Makers, Pace};
 use crate::round::Rounds;
 use crate::words::Words;
 use sharc_code::{Code, Shape, fits_law, opening, run_laws};
@@ -26,6 +26,14 @@ pub struct RoundsRun {
     pub end: End,
 }
 
+// The events that the thread which is there has made.
+fn events_at(seat: &Option<Thread>) -> u64 {
+    match seat {
+        None => 0,
+        Some(thread) => thread.made(),
+    }
+}
+
 impl Rounds {
     // Before the first round.
     fn new(alloc: Global, code: &Code, shape: &Shape, limit: u64) -> Result<Rounds, AllocError>
@@ -35,6 +43,15 @@ impl Rounds {
         let words = Words::open(alloc, opening(alloc, code, shape)?)?;
         let threads = ThreadTable::open(alloc, code, shape, words.seen.as_slice())?;
         Ok(Rounds { threads, words })
+    }
+
+    // The events that the threads have made.
+    fn events(&self) -> u64 {
+        let mut all: u64 = 0;
+        for n in 0..self.threads.seats.len() {
+            all = all.saturating_add(events_at(&self.threads.seats[n]));
+        }
+        all
     }
 
     // After one more round.
@@ -48,7 +65,7 @@ impl Rounds {
         workers: u32,
         limit: u64,
         gate: &G,
-        busy: Busy,
+        makers: Makers,
     ) -> Result<Rounds, AllocError>
         requires plan { IsPlan code.now plan.now }
         requires fits { Fits code.now shape.now }
@@ -65,7 +82,7 @@ impl Rounds {
         let Rounds {
             mut threads,
             mut words,
-        } = self.make(rt, alloc, code, plan, shape, workers, limit, gate, busy)?;
+        } = self.make(rt, alloc, code, plan, shape, workers, limit, gate, makers)?;
         words.look_at_states();
         threads.begin(alloc, code, shape, words.seen.as_slice())?;
         Ok(Rounds { threads, words })
@@ -99,6 +116,15 @@ impl Rounds {
     }
 }
 
+// The time, if the gate tells it and there is more than one worker: with one there is nothing to choose.
+fn time_of<G: Gate>(gate: &G, workers: u32) -> Option<u64> {
+    if workers > 1 {
+        gate.nanoseconds()
+    } else {
+        None
+    }
+}
+
 /// Runs the code in rounds: in each, worker `w` gives every started thread whose number is `w` modulo `workers` one
 /// quantum of turns, and asks the gate before each step. A thread that is spawned in a round begins in the next. The
 /// run ends where no thread is enabled.
@@ -122,11 +148,21 @@ pub fn run_rounds<R: Threads + Sync, G: Gate + Sync>(
     table_laws();
     let plan = RowPlan::of(alloc, code)?;
     let mut rounds = Rounds::new(alloc, code, shape, limit)?;
+    let mut pace = Pace::new();
     'rounds: loop {
         let busy = rounds.words.busy(&rounds.threads, workers, limit);
         if busy.is_nobody() {
             return rounds.finish(alloc, code, shape, limit);
         }
-        rounds = rounds.next(rt, alloc, code, &plan, shape, workers, limit, gate, busy)?;
+        let begun = time_of(gate, workers);
+        let before = rounds.events();
+        let makers = pace.makers(busy, begun);
+        rounds = rounds.next(rt, alloc, code, &plan, shape, workers, limit, gate, makers)?;
+        let lap = Lap {
+            events: rounds.events().saturating_sub(before),
+            begun,
+            ended: time_of(gate, workers),
+        };
+        pace = pace.after(busy, makers, lap);
     }
 }

@@ -11,9 +11,9 @@ ghost use Rattle.sharc_rounds.specs.declared.worker.Worker.{Worker};
 ghost use Rattle.sharc_rounds.specs.Round.{MayRunAt, HasRunAt, MayAllRun, HaveAllRun, Seat, hand_at};
 ghost use Rattle.sharc_rounds.specs.Shares.{needed};
 
-use crate::busy::Busy;
 use crate::gate::Gate;
 use crate::hand::Hand;
+use crate::stint::Stint;
 use sharc_bus::{Bus, BusSeat};
 use sharc_code::{Code, Shape};
 use sharc_cpu::{RowPlan, Thread};
@@ -49,7 +49,7 @@ pub fn workers_needed(seats: &[Option<Thread>], workers: u32) -> u32
     }
 }
 
-// One quantum of the thread at a place, if there is one.
+// One stint of the thread at a place, if there is one.
 fn run_at<G: Gate>(
     hand: Option<Hand>,
     code: &Code,
@@ -59,7 +59,7 @@ fn run_at<G: Gate>(
     gate: &G,
     number: u32,
     limit: u64,
-    tries: u32,
+    stint: Stint,
 ) -> Option<Hand>
     requires plan { IsPlan code.now plan.now }
     requires fits { Fits code.now shape.now }
@@ -69,7 +69,7 @@ fn run_at<G: Gate>(
 {
     match hand {
         None => None,
-        Some(hand) => Some(hand.run(code, plan, shape, bus, gate, number, limit, tries)),
+        Some(hand) => Some(hand.run(code, plan, shape, bus, gate, number, limit, stint)),
     }
 }
 
@@ -86,7 +86,7 @@ impl Worker {
         Ok(Worker { hands })
     }
 
-    // One quantum of each thread, in rising order of their numbers.
+    // One stint of each thread, in rising order of their numbers.
     fn run<G: Gate>(
         &mut self,
         code: &Code,
@@ -94,10 +94,11 @@ impl Worker {
         shape: &Shape,
         bus: &Bus,
         gate: &G,
-        number: u32,
+        workers: u32,
         limit: u64,
-        tries: u32,
+        stint: Stint,
     )
+        requires workers { 0 < workers }
         requires plan { IsPlan code.now plan.now }
         requires fits { Fits code.now shape.now }
         requires words { length bus.now.opening ≡ words_of shape.now }
@@ -106,7 +107,8 @@ impl Worker {
     {
         for n in 0..self.hands.len() {
             let hand = self.hands[n].take();
-            self.hands[n] = run_at(hand, code, plan, shape, bus, gate, number, limit, tries);
+            let worker = (n % workers as usize) as u32;
+            self.hands[n] = run_at(hand, code, plan, shape, bus, gate, worker, limit, stint);
         }
     }
 }
@@ -154,8 +156,8 @@ pub(crate) fn deal(
     Ok(workers)
 }
 
-/// Every worker gives each of its threads one quantum. A worker that cannot be started, or need not be, has its work
-/// done by another.
+/// Every worker gives each of its threads one stint, in so many threads of the system. The work of one that cannot be
+/// started is done by another.
 pub(crate) fn run_all<R: Threads + Sync, G: Gate + Sync>(
     rt: &R,
     code: &Code,
@@ -163,35 +165,35 @@ pub(crate) fn run_all<R: Threads + Sync, G: Gate + Sync>(
     shape: &Shape,
     bus: &Bus,
     gate: &G,
+    workers: u32,
     limit: u64,
-    workers: &mut Vec<Worker>,
-    busy: Busy,
+    crew: &mut Vec<Worker>,
+    threads: usize,
+    stint: Stint,
 )
     requires plan { IsPlan code.now plan.now }
     requires fits { Fits code.now shape.now }
     requires words { length bus.now.opening ≡ words_of shape.now }
-    requires some { 0 < length workers.old.items }
-    requires few { length workers.old.items < 2 ^ 32 }
-    requires may { (w : ℕ) (d : Worker) → w < length workers.old.items
-        → MayAllRun code.now shape.now limit bus.now (slice_index_or workers.old.items w d) }
-    ensures count { length workers.new.items ≡ length workers.old.items }
-    ensures each { (w : ℕ) (d : Worker) → w < length workers.old.items → HaveAllRun code.now shape.now limit
-        (slice_index_or workers.old.items w d) (slice_index_or workers.new.items w d) }
+    requires workers { 0 < workers }
+    requires threads { 0 < threads }
+    requires may { (w : ℕ) (d : Worker) → w < length crew.old.items
+        → MayAllRun code.now shape.now limit bus.now (slice_index_or crew.old.items w d) }
+    ensures count { length crew.new.items ≡ length crew.old.items }
+    ensures each { (w : ℕ) (d : Worker) → w < length crew.old.items → HaveAllRun code.now shape.now limit
+        (slice_index_or crew.old.items w d) (slice_index_or crew.new.items w d) }
 {
-    let count = busy.threads(workers.len());
-    let tries = busy.tries();
     thread::for_each_mut(
         rt,
-        workers.as_mut_slice(),
-        count,
-        &|w: usize, worker: &mut Worker|
+        crew.as_mut_slice(),
+        threads,
+        &|_w: usize, worker: &mut Worker|
             requires plan { IsPlan code.now plan.now }
             requires fits { Fits code.now shape.now }
             requires words { length bus.now.opening ≡ words_of shape.now }
-            requires number { w < 2 ^ 32 }
+            requires workers { 0 < workers }
             requires may { MayAllRun code.now shape.now limit bus.now worker.old }
             ensures { HaveAllRun code.entry.now shape.entry.now limit worker.old worker.new }
-        { worker.run(code, plan, shape, bus, gate, w as u32, limit, tries) },
+        { worker.run(code, plan, shape, bus, gate, workers, limit, stint) },
     );
 }
 

@@ -28,7 +28,7 @@ mod shape;
 mod text;
 mod text_laws;
 
-pub use gate::OpenGate;
+pub use gate::{OpenGate, TimedGate};
 pub use laws::outcome_is_told;
 pub use outcome::Outcome;
 pub use run::{Ran, run_by_seed, run_by_workers, told};

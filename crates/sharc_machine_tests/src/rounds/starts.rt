@@ -24,8 +24,8 @@ struct Callers<'a> {
     unknown: AtomicU64,
 }
 
-// The number that Linux gave the thread which calls this.
-fn own_number(rt: &HostRuntime) -> Option<u64> {
+/// The number that Linux gave the thread which calls this.
+pub fn own_number(rt: &HostRuntime) -> Option<u64> {
     match fs::read_link(rt, "/proc/thread-self") {
         Ok(path) => match path.file_name() {
             Some(name) => match name.parse::<u64>() {
@@ -38,8 +38,8 @@ fn own_number(rt: &HostRuntime) -> Option<u64> {
     }
 }
 
-// Keeps the number at this place, if none is there; answers whether it is there now.
-fn keeps(place: &AtomicU64, number: u64) -> bool {
+/// Keeps the number at this place, if none is there; answers whether it is there now.
+pub fn keeps(place: &AtomicU64, number: u64) -> bool {
     match place.compare_exchange(0, number, Ordering::SeqCst, Ordering::SeqCst) {
         Ok(_) => true,
         Err(other) => other == number,

@@ -4,13 +4,13 @@ use Rattle.sharc_rounds.proofs.{Places.at_place, Dealing.may_at, Rounding.{fit, 
 use Rattle.sharc_rounds.specs.Round.{Seat, hand_at}
 use Rattle.sharc_rounds.proofs.round.Rounds.make.Goals as goal
 
-pub run_all-requires-clause-may : goal.run_all-requires-clause-may
-run_all-requires-clause-may g c = λ k h w d low n.
+pub work-requires-clause-may : goal.work-requires-clause-may
+work-requires-clause-may g c = λ k h w d low n.
     let code = c.args.code.now in
     let s = c.args.shape.now in
-    may_at code s c.args.limit c.args.self.words.bus (hand_at c.in_ok-workers.workers.items w n d)
+    may_at code s c.args.limit c.args.self.words.bus (hand_at c.in_ok-crew.crew.items w n d)
     (λ hand is.
-    let only = c.in_ok-workers.ensures.only w n d hand (omega (arith, low, c.in_ok-workers.ensures.count)) is in
+    let only = c.in_ok-crew.ensures.only w n d hand (omega (arith, low, c.in_ok-crew.ensures.count)) is in
     fit code s c.args.limit c.args.self.words.bus c.args.self.threads.seats.items c.reserve.new.seats.items c.in_ok-ports.ports.items c.requires.seats c.reserve.ensures.count c.in_ok-reserve.ensures.each
     c.in_ok-ports.ensures.seats c.requires.words.ports c.in_ok-ports.ensures.unbegun n hand only.0 only.1)
 
@@ -18,17 +18,17 @@ pub gather-requires-clause-each : goal.gather-requires-clause-each
 gather-requires-clause-each g c = λ n d low.
     let a : Seat = (at_place c.reserve.new.seats.items n (omega (arith, low, c.reserve.ensures.count, c.requires.seats.count))).one in
     let p : SeatView = (at_place c.in_ok-ports.ports.items n (omega (arith, low, c.in_ok-ports.ensures.seats.all, c.requires.words.ports))).one in
-    let some : 0 < c.workers_needed-count.result = c.workers_needed-count.ensures.some in
-    has_hand c.args.code.now c.args.shape.now c.args.limit c.workers_needed-count.result c.in_ok-workers.workers.items c.run_all.new.workers.items c.reserve.new.seats.items c.in_ok-ports.ports.items
-    some c.in_ok-workers.ensures.count c.run_all.ensures.count c.in_ok-workers.ensures.each c.run_all.ensures.each n d a p low
+    let some : 0 < c.count-count.result = c.count-count.ensures.some in
+    has_hand c.args.code.now c.args.shape.now c.args.limit c.count-count.result c.in_ok-crew.crew.items c.work.new.crew.items c.reserve.new.seats.items c.in_ok-ports.ports.items
+    some c.in_ok-crew.ensures.count c.work.ensures.count c.in_ok-crew.ensures.each c.in_ok-work.ensures.each n d a p low
 
 pub end-rest-requires-clause-seats : goal.end-rest-requires-clause-seats
 end-rest-requires-clause-seats g c =
     let code = c.args.code.now in
     let s = c.args.shape.now in
-    let some : 0 < c.workers_needed-count.result = c.workers_needed-count.ensures.some in
-    let ran = through code s c.args.limit c.workers_needed-count.result c.in_ok-workers.workers.items c.run_all.new.workers.items c.reserve.new.seats.items c.in_ok-ports.ports.items
-    some c.in_ok-workers.ensures.count c.run_all.ensures.count c.in_ok-workers.ensures.each c.run_all.ensures.each c.in_ok-seats.seats.items c.in_ok-seats.ports.items c.in_ok-seats.ensures.each in
+    let some : 0 < c.count-count.result = c.count-count.ensures.some in
+    let ran = through code s c.args.limit c.count-count.result c.in_ok-crew.crew.items c.work.new.crew.items c.reserve.new.seats.items c.in_ok-ports.ports.items
+    some c.in_ok-crew.ensures.count c.work.ensures.count c.in_ok-crew.ensures.each c.in_ok-work.ensures.each c.in_ok-seats.seats.items c.in_ok-seats.ports.items c.in_ok-seats.ensures.each in
     are_back code s c.args.limit c.args.self.words.bus c.args.self.threads.seats.items c.reserve.new.seats.items c.in_ok-ports.ports.items c.requires.seats c.reserve.ensures.count c.in_ok-reserve.ensures.each
     c.in_ok-ports.ensures.seats c.requires.words.ports c.in_ok-ports.ensures.unbegun c.in_ok-seats.seats.items c.in_ok-seats.ports.items c.in_ok-seats.ensures.seats c.in_ok-seats.ensures.ports ran
 
@@ -39,9 +39,9 @@ pub returns-clause-made : goal.returns-clause-made
 returns-clause-made g c =
     let code = c.args.code.now in
     let s = c.args.shape.now in
-    let some : 0 < c.workers_needed-count.result = c.workers_needed-count.ensures.some in
-    let ran = through code s c.args.limit c.workers_needed-count.result c.in_ok-workers.workers.items c.run_all.new.workers.items c.reserve.new.seats.items c.in_ok-ports.ports.items
-    some c.in_ok-workers.ensures.count c.run_all.ensures.count c.in_ok-workers.ensures.each c.run_all.ensures.each c.in_ok-seats.seats.items c.in_ok-seats.ports.items c.in_ok-seats.ensures.each in
+    let some : 0 < c.count-count.result = c.count-count.ensures.some in
+    let ran = through code s c.args.limit c.count-count.result c.in_ok-crew.crew.items c.work.new.crew.items c.reserve.new.seats.items c.in_ok-ports.ports.items
+    some c.in_ok-crew.ensures.count c.work.ensures.count c.in_ok-crew.ensures.each c.in_ok-work.ensures.each c.in_ok-seats.seats.items c.in_ok-seats.ports.items c.in_ok-seats.ensures.each in
     let lists = lists_of c.in_ok-seats.ports.items in
     let before : List ℕ = c.args.self.words.rest.words in
     let now : List ℕ = c.end-rest.result.words in

@@ -1,6 +1,6 @@
 use Rattle.std.proofs.Common.{◌≡◌, ℕ, ◌<◌, ◌≤◌, None, length, get_or}
 use Rattle.sharc_rounds.specs.Round.{HasRoomAt}
-use Rattle.sharc_rounds.proofs.round.reserve.Given as goal
+use Rattle.sharc_rounds.proofs.room.reserve.Given as goal
 
 abbrev pub invariant-loop-n : goal.invariant-loop-n
 invariant-loop-n l = record {

@@ -1,0 +1,177 @@
+//! Who makes the rounds: workers, where a gate may hold a thread; else the caller or workers, by how fast they were.
+
+ghost use Rattle.std.specs.Prelude.{◌<◌};
+
+use crate::rounds::bench::{LIMIT, VALUE, function, run};
+use crate::rounds::starts::{keeps, own_number};
+use sharc_code::{Instr, Parameter, Register};
+use sharc_rounds::{End, Gate};
+use std::process::Abort;
+use std::sync::atomic::{AtomicU64, Ordering};
+use std::test::Fail;
+
+// A gate looks this many times, and then gives up.
+const LOOKS: u64 = 100_000_000;
+
+// `main` starts two threads and joins both. Each goes round and round: a step, and then 14 turns without one.
+const LOOPS: [Instr; 21] = [
+    Instr::Spawn(1, 1, Register::Int(0), 3),
+    Instr::Spawn(2, 1, Register::Int(0), 3),
+    Instr::Join(1, 4),
+    Instr::Join(2, 4),
+    Instr::Return(6),
+    // The thread, at place 7.
+    Instr::Store(0, VALUE, 7),
+    Instr::Constant(1, 1),
+    Instr::Constant(1, 2),
+    Instr::Constant(1, 3),
+    Instr::Constant(1, 4),
+    Instr::Constant(1, 5),
+    Instr::Constant(1, 6),
+    Instr::Constant(1, 7),
+    Instr::Constant(1, 8),
+    Instr::Constant(1, 9),
+    Instr::Constant(1, 10),
+    Instr::Constant(1, 11),
+    Instr::Constant(1, 12),
+    Instr::Constant(1, 13),
+    Instr::Jump(7),
+    Instr::Exit,
+];
+
+// The same two threads, which end at once.
+const SHORT: [Instr; 7] = [
+    Instr::Spawn(1, 1, Register::Int(0), 3),
+    Instr::Spawn(2, 1, Register::Int(0), 3),
+    Instr::Join(1, 4),
+    Instr::Join(2, 4),
+    Instr::Return(6),
+    // The thread, at place 7.
+    Instr::Return(8),
+    Instr::Exit,
+];
+
+// Holds each step of thread 1 until thread 2 has asked for as many, and the other way round. It counts how often it
+// gave up; then it holds nobody any more.
+#[derive(Drop)]
+struct SideBySide {
+    asked_1: AtomicU64,
+    asked_2: AtomicU64,
+    given_up: AtomicU64,
+}
+
+impl SideBySide {
+    fn hold(&self, own: &AtomicU64, other: &AtomicU64) {
+        let asked = own.fetch_add(1, Ordering::SeqCst);
+        if self.given_up.load(Ordering::SeqCst) > 0 {
+            return;
+        }
+        for _ in 0..LOOKS {
+            if other.load(Ordering::SeqCst) > asked {
+                return;
+            }
+        }
+        self.given_up.fetch_add(1, Ordering::SeqCst);
+    }
+}
+
+impl Gate for SideBySide {
+    fn step(&self, _worker: u32, thread: u32) {
+        if thread == 1 {
+            self.hold(&self.asked_1, &self.asked_2);
+        }
+        if thread == 2 {
+            self.hold(&self.asked_2, &self.asked_1);
+        }
+    }
+}
+
+// A gate that tells no time may hold a thread until another has made a step. So in each of a dozen rounds two workers
+// work at once: the caller alone would wait for ever.
+#[test]
+fn rounds_with_a_gate_that_holds_are_made_by_workers(rt: HostRuntime) -> Result<(), Fail> {
+    let gate = SideBySide {
+        asked_1: AtomicU64::new(0),
+        asked_2: AtomicU64::new(0),
+        given_up: AtomicU64::new(0),
+    };
+    let others = [function(7, Parameter::None)];
+    let ran = run(&rt, rt.alloc(), &LOOPS, &others, 2, 12_000, &gate)?;
+    assert_eq!(rt; ran.end, End::Budget);
+    assert_eq!(rt; gate.given_up.load(Ordering::SeqCst), 0);
+    let asked = gate.asked_1.load(Ordering::SeqCst);
+    assert!(rt; asked >= 800);
+    assert_eq!(rt; gate.asked_2.load(Ordering::SeqCst), asked);
+    Ok(())
+}
+
+// Tells a time of its own, which goes on with each step of a thread of the system other than the first that came. It
+// counts the steps of the first one and of others.
+#[derive(Drop)]
+struct Timed<'a> {
+    rt: &'a HostRuntime,
+    first: AtomicU64,
+    by_first: AtomicU64,
+    by_others: AtomicU64,
+    time: AtomicU64,
+}
+
+impl<'a> Timed<'a> {
+    fn new(rt: &'a HostRuntime) -> Timed<'a> {
+        Timed {
+            rt,
+            first: AtomicU64::new(0),
+            by_first: AtomicU64::new(0),
+            by_others: AtomicU64::new(0),
+            time: AtomicU64::new(0),
+        }
+    }
+
+    fn counts(&self) -> (u64, u64) {
+        (
+            self.by_first.load(Ordering::SeqCst),
+            self.by_others.load(Ordering::SeqCst),
+        )
+    }
+}
+
+impl<'a> Gate for Timed<'a> {
+    fn step(&self, _worker: u32, _thread: u32) {
+        if keeps(&self.first, own_number(self.rt).unwrap_or(0)) {
+            self.by_first.fetch_add(1, Ordering::SeqCst);
+        } else {
+            self.by_others.fetch_add(1, Ordering::SeqCst);
+            self.time.fetch_add(1_000, Ordering::SeqCst);
+        }
+    }
+
+    fn nanoseconds(&self) -> Option<u64> {
+        Some(self.time.fetch_add(1, Ordering::SeqCst))
+    }
+}
+
+// Where the gate tells the time, the caller makes the first round in which two workers have something to do.
+#[test]
+fn the_caller_makes_the_first_round(rt: HostRuntime) -> Result<(), Fail> {
+    let others = [function(7, Parameter::None)];
+    for workers in [2, 4, 16] {
+        let gate = Timed::new(&rt);
+        let ran = run(&rt, rt.alloc(), &SHORT, &others, workers, LIMIT, &gate)?;
+        assert_eq!(rt; ran.end, End::AllDone);
+        assert_eq!(rt; gate.counts().1, 0, "{workers}");
+    }
+    Ok(())
+}
+
+// Workers make a round then; where that took longer, the caller makes those behind it.
+#[test]
+fn the_slower_ones_are_left(rt: HostRuntime) -> Result<(), Fail> {
+    let others = [function(7, Parameter::None)];
+    let gate = Timed::new(&rt);
+    let ran = run(&rt, rt.alloc(), &LOOPS, &others, 2, 400_000, &gate)?;
+    let (by_first, by_others) = gate.counts();
+    assert_eq!(rt; ran.end, End::Budget);
+    assert!(rt; by_others > 0);
+    assert!(rt; by_others < by_first / 5, "{by_first} {by_others}");
+    Ok(())
+}
