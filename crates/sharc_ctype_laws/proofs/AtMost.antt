@@ -75,16 +75,12 @@ of_name t n text m h = let e = written_one t n text in omega (arith, e, h)
 -- written types
 
 base_most : (t : ℕ) (structs : StructTable) (token : ℕ) (b : Base) → told t (base_notes structs token b) ≤ written t (base_marks b token)
-base_most t structs token base.Int = none_most t _
-base_most t structs token base.Char = none_most t _
-base_most t structs token base.Long = none_most t _
-base_most t structs token base.Mutex = none_most t _
-base_most t structs token base.Void = none_most t _
 base_most t structs token (base.Struct name) = of_name t token name _ (by (struct_of structs name))
   where
     by : (o : Option StructMeaning) → told t (struct_note token o) ≤ one t token
     by None = fault_most t _ _ _
     by (Some m) = one_most t token _ [] token refl (told_none t)
+base_most t structs token _ = none_most t _
 
 first_most : (t token : ℕ) (sibling : Option Declaration) (o : Option Entry) → told t (first_notes token sibling o) ≤ one t token
 first_most t token (Some d) o = one_most t token _ [] token refl (told_none t)
@@ -98,12 +94,8 @@ path_most t scope siblings (Through x token m) =
     (of_name t (token + 2) m _ (second_most t (token + 2) (second_in scope.structs m (first_kind (field_of siblings x) (look_up scope.names x)))))
 
 mode_most : (t : ℕ) (scope : Scope) (siblings : List Declaration) (m : Option Mode) → told t (mode_notes scope siblings m) ≤ written t (level_marks m)
-mode_most t scope siblings None = none_most t _
-mode_most t scope siblings (Some modes.Private) = none_most t _
-mode_most t scope siblings (Some modes.Readonly) = none_most t _
 mode_most t scope siblings (Some (modes.Locked path)) = path_most t scope siblings path
-mode_most t scope siblings (Some modes.Racy) = none_most t _
-mode_most t scope siblings (Some modes.Dynamic) = none_most t _
+mode_most t scope siblings _ = none_most t _
 
 -- the marks of all levels
 abbrev pub all_levels : List (Option Mode) → List Mark
@@ -290,22 +282,18 @@ quiet_beyond t room [] = told_none t
 quiet_beyond t room (d ∷ rest) = quiet_both t _ _ (quiet_where t (room == 0) _ _) (quiet_beyond t (room - 1) rest)
 
 quiet_base_initial : (t : ℕ) (b : Base) (name at : ℕ) (minus : Bool) (c : Constant) → told t (base_initial_notes b name at minus c) ≡ 0
-quiet_base_initial t base.Int name at minus c = quiet_unless t _ _ _
-quiet_base_initial t base.Char name at minus c = quiet_unless t _ _ _
-quiet_base_initial t base.Long name at minus c = quiet_unless t _ _ _
 quiet_base_initial t base.Mutex name at minus c = quiet_fault t _ _
 quiet_base_initial t base.Void name at minus c = told_none t
 quiet_base_initial t (base.Struct s) name at minus c = quiet_fault t _ _
+quiet_base_initial t _ name at minus c = quiet_unless t _ _ _
 
 pub quiet_constant : (t : ℕ) (g : GlobalDefinition) (f : GlobalForm) → told t (constant_notes g f) ≡ 0
-quiet_constant t g Plain = told_none t
-quiet_constant t g (Array at n) = told_none t
 quiet_constant t g (Initial span minus c) = quiet_if t (stars_of g.declaration.written == 0) _ _ (quiet_base_initial t g.declaration.written.ctype.base g.declaration.name.site.token span.first.token minus c) (quiet_unless t _ _ _)
+quiet_constant t g _ = told_none t
 
 pub quiet_length : (t : ℕ) (f : GlobalForm) → told t (length_notes f) ≡ 0
-quiet_length t Plain = told_none t
 quiet_length t (Array at n) = quiet_where t _ _ _
-quiet_length t (Initial span minus c) = told_none t
+quiet_length t _ = told_none t
 
 -- the name of an item, which is noted with the heads of the file
 abbrev pub item_name : Item → Identifier
@@ -372,9 +360,8 @@ quiet_sizes t structs n [] = told_none t
 quiet_sizes t structs n (i ∷ rest) = quiet_both t _ _ (by i) (quiet_sizes t structs (n + item_cells structs i) rest)
   where
     by : (i : Item) → told t (item_size_notes structs n i) ≡ 0
-    by (tree.structure s) = told_none t
     by (tree.global g) = quiet_unless t _ _ _
-    by (tree.function f) = told_none t
+    by _ = told_none t
 
 pub program_most : (t tokens : ℕ) (items : List Item) → LowItems items → told t (program_notes tokens items) ≤ written t (items_marks items)
 program_most t tokens items l =

@@ -11,22 +11,17 @@ use Rattle.sharc_ctype_laws.proofs.{Held.{Clean, clean_left, clean_right, clean_
 -- lengths
 
 some_elements : (f : GlobalForm) → Clean (length_notes f) → 1 ≤ elements_of f
-some_elements Plain h = omega arith
 some_elements (Array at count) h = let e = eqb-false (unsigned_abs count.value) 0 (clean_not_wrong (unsigned_abs count.value == 0) at.token TypeNotAllowed h) in omega (arith, e)
-some_elements (Initial span minus c) h = omega arith
+some_elements _ h = omega arith
 
 -- integers
 
 held_number : (b : Base) (minus : Bool) (n : ℕ) → holds b minus n ≡ true → IsHeldBy b minus n
-held_number Int true n h = leb-true n _ h
-held_number Int false n h = ltb-true n _ h
-held_number Char true n h = leb-true n _ h
-held_number Char false n h = ltb-true n _ h
-held_number Long true n h = leb-true n _ h
-held_number Long false n h = ltb-true n _ h
 held_number Mutex minus n h = absurd (false≢true h)
 held_number Void minus n h = absurd (false≢true h)
 held_number (Struct name) minus n h = absurd (false≢true h)
+held_number _ true n h = leb-true n _ h
+held_number _ false n h = ltb-true n _ h
 
 held_constant : (b : Base) (minus : Bool) (c : Constant) → holds_constant b minus c ≡ true → (n : ℕ) × (number_of c ≡ Some n) × IsHeldBy b minus n
 held_constant b minus (Number n) h = (unsigned_abs n.value, refl, held_number b minus (unsigned_abs n.value) h)
@@ -37,16 +32,14 @@ integer_begins : (b : Base) (name at : ℕ) (minus : Bool) (c : Constant) → is
 integer_begins Int name at minus c a h = let p = held_constant Int minus c (clean_well _ at TypeMismatch h) in ((Int, refl, refl), p.0, p.1, p.2)
 integer_begins Char name at minus c a h = let p = held_constant Char minus c (clean_well _ at TypeMismatch h) in ((Char, refl, refl), p.0, p.1, p.2)
 integer_begins Long name at minus c a h = let p = held_constant Long minus c (clean_well _ at TypeMismatch h) in ((Long, refl, refl), p.0, p.1, p.2)
-integer_begins Mutex name at minus c a h = absurd (clean_fault _ _ _ h)
 integer_begins Void name at minus c a h = absurd (false≢true a)
-integer_begins (Struct s) name at minus c a h = absurd (clean_fault _ _ _ h)
+integer_begins _ name at minus c a h = absurd (clean_fault _ _ _ h)
 
 -- pointers
 
 null_is : (c : Constant) → is_null_constant c ≡ true → c ≡ Null
-null_is (Number n) h = absurd (false≢true h)
-null_is (Character byte) h = absurd (false≢true h)
 null_is Null h = refl
+null_is _ h = absurd (false≢true h)
 
 some_stars : (n : ℕ) → (n == 0) ≡ false → nat_lt 0 n ≡ true
 some_stars n h = let e = eqb-false n 0 h in lt-ltb 0 n (omega (arith, e))
@@ -60,9 +53,8 @@ begins_by w name at minus c true is a h =
 begins_by w name at minus c false is a h = inr (pointer_is (declared_kind w) (some_stars (stars_of w) is), null_is c (clean_well (is_null_constant c) at TypeMismatch h))
 
 begins : (g : GlobalDefinition) (f : GlobalForm) → allowed_there role.Global g.declaration.written ≡ true → Clean (initial_notes g f) → MeetsInitial g.declaration.written f
-begins g Plain a h = tt
-begins g (Array at count) a h = tt
 begins g (Initial span minus c) a h = begins_by g.declaration.written g.declaration.name.site.token span.first.token minus c (stars_of g.declaration.written == 0) refl a h
+begins g _ a h = tt
 
 global_meets : (file : Scope) (g : GlobalDefinition) → Clean (global_notes file g) → MeetsGlobal g
 global_meets file g h =

@@ -27,12 +27,8 @@ found_variable (x ∷ rest) name e t is v =
     (λ b w. inl (token_of x.meaning t w)) (λ h w. inr (found_variable rest name e t h w)) v
 
 among : (names : List Entry) (w : Named) → ((t : ℕ) → w ≡ named.Variable t → IsVariableIn names t) → IsAmong names w
-among names (named.Struct n) f = tt
-among names (named.Global n) f = tt
-among names (named.Function n) f = tt
 among names (named.Variable t) f = f t refl
-among names (named.Field t) f = tt
-among names named.Known f = tt
+among names _ f = tt
 
 -- paths
 
@@ -49,12 +45,8 @@ path_stands r scope siblings (One m token) h = tt
 path_stands r scope siblings (Through x token m) h = first_stands r scope.names token x (field_of siblings x) (left r _ _ h)
 
 level_stands : (r : Resolution) (scope : Scope) (siblings : List Declaration) (m : Option Mode) → Held r (mode_notes scope siblings m) → LevelStands r scope.names m
-level_stands r scope siblings None h = tt
-level_stands r scope siblings (Some Private) h = tt
-level_stands r scope siblings (Some Readonly) h = tt
 level_stands r scope siblings (Some (Locked path)) h = path_stands r scope siblings path h
-level_stands r scope siblings (Some Racy) h = tt
-level_stands r scope siblings (Some Dynamic) h = tt
+level_stands r scope siblings _ h = tt
 
 levels_stand : (r : Resolution) (scope : Scope) (siblings : List Declaration) (levels : List (Option Mode)) → Held r (modes_notes scope siblings levels) → AllByRecursion (LevelStands r scope.names) levels
 levels_stand r scope siblings [] h = tt
@@ -79,24 +71,15 @@ closed_local : (r : Resolution) (around : Around) (scope : Scope) → IsClosed r
 closed_local r around scope all l h = closed_declared r around.block l.declaration scope.names all (local_type r around scope l h)
 
 closed_first : (r : Resolution) (around : Around) (scope : Scope) → IsClosed r scope.names → (f : First) → Held r (first_part_notes around scope f) → IsClosed r (behind_first around scope.names f)
-closed_first r around scope all nothing h = all
 closed_first r around scope all (declares l) h = closed_local r around scope all l h
-closed_first r around scope all (does x) h = all
+closed_first r around scope all _ h = all
 
 closed_head : (r : Resolution) (around : Around) (scope : Scope) → IsClosed r scope.names → (x : Head) → Held r (head_notes around scope x) → IsClosed r (behind_first around scope.names x.first)
 closed_head r around scope all x h = closed_first r around scope all x.first (left r _ _ (left r _ _ h))
 
 closed_after : (r : Resolution) (around : Around) (scope : Scope) → IsClosed r scope.names → (a : Statement) → Held r (notes_in around scope a) → IsClosed r (after around scope.names a)
-closed_after r around scope all (tree.empty s) h = all
-closed_after r around scope all (tree.block s inner) h = all
 closed_after r around scope all (tree.declare s l) h = closed_local r around scope all l h
-closed_after r around scope all (tree.simple s x) h = all
-closed_after r around scope all (tree.jump s j) h = all
-closed_after r around scope all (tree.return s e) h = all
-closed_after r around scope all (tree.if_then s e a) h = all
-closed_after r around scope all (tree.if_then_else s e a b) h = all
-closed_after r around scope all (tree.while s e a) h = all
-closed_after r around scope all (tree.for s x a) h = all
+closed_after r around scope all _ h = all
 
 closed_parameters : (r : Resolution) (block before : ℕ) (scope : Scope) → IsClosed r scope.names → (list : List Declaration) → Held r (parameters_notes block before scope list) → IsClosed r (with_parameters block scope.names list)
 closed_parameters r block before scope all [] h = all
@@ -126,11 +109,9 @@ at_first r around scope (does x) all h = all_at r scope (in_simple x) all
 
 mutual
   closed_at : (r : Resolution) (around : Around) (scope : Scope) (a : Statement) → IsClosed r scope.names → Held r (notes_in around scope a) → AllByRecursion (ClosedAt r) (places_in around scope a)
-  closed_at r around scope (tree.empty s) all h = tt
   closed_at r around scope (tree.block s inner) all h = all_closed_at r (opened around scope.names) scope inner all h
   closed_at r around scope (tree.declare s l) all h = at_local r around scope l all h
   closed_at r around scope (tree.simple s x) all h = all_at r scope (in_simple x) all
-  closed_at r around scope (tree.jump s j) all h = tt
   closed_at r around scope (tree.return s e) all h = all_at r scope (in_option expressions e) all
   closed_at r around scope (tree.if_then s e a) all h = both (ClosedAt r) (at scope (expressions e)) _ (all_at r scope (expressions e) all) (closed_at r (opened around scope.names) scope a all (right r _ _ h))
   closed_at r around scope (tree.if_then_else s e a b) all h =
@@ -144,6 +125,7 @@ mutual
       (both (ClosedAt r) (places_in_first (opened around scope.names) scope x.first) _ (at_first r (opened around scope.names) scope x.first all (left r _ _ (left r _ _ (left r _ _ h))))
       (all_at r (in_head (opened around scope.names) scope x) (in_option expressions x.test ++ in_option in_simple x.step) inner))
       (closed_at r (looping (opened around (behind_first (opened around scope.names) scope.names x.first))) (in_head (opened around scope.names) scope x) a inner (right r _ _ h))
+  closed_at r around scope _ all h = tt
 
   all_closed_at : (r : Resolution) (around : Around) (scope : Scope) (list : Statements) → IsClosed r scope.names → Held r (notes_in_all around scope list) → AllByRecursion (ClosedAt r) (places_in_all around scope list)
   all_closed_at r around scope no_statements all h = tt
@@ -154,18 +136,13 @@ mutual
 -- locals
 
 first_local : (r : Resolution) (around : Around) (scope : Scope) (f : First) → Held r (first_part_notes around scope f) → FirstStands r scope.names f
-first_local r around scope nothing h = tt
 first_local r around scope (declares l) h = local_type r around scope l h
-first_local r around scope (does x) h = tt
+first_local r around scope _ h = tt
 
 mutual
   locals_stand : (r : Resolution) (around : Around) (scope : Scope) (a : Statement) → Held r (notes_in around scope a) → LocalsStand r around scope.names a
-  locals_stand r around scope (tree.empty s) h = tt
   locals_stand r around scope (tree.block s inner) h = all_locals_stand r (opened around scope.names) scope inner h
   locals_stand r around scope (tree.declare s l) h = local_type r around scope l h
-  locals_stand r around scope (tree.simple s x) h = tt
-  locals_stand r around scope (tree.jump s j) h = tt
-  locals_stand r around scope (tree.return s e) h = tt
   locals_stand r around scope (tree.if_then s e a) h = locals_stand r (opened around scope.names) scope a (right r _ _ h)
   locals_stand r around scope (tree.if_then_else s e a b) h = (locals_stand r (opened around scope.names) scope a (right r _ _ (left r _ _ h)), locals_stand r (opened around scope.names) scope b (right r _ _ h))
   locals_stand r around scope (tree.while s e a) h = locals_stand r (looping (opened around scope.names)) scope a (right r _ _ h)
@@ -173,6 +150,7 @@ mutual
     first_local r (opened around scope.names) scope x.first (left r _ _ (left r _ _ (left r _ _ h))),
     locals_stand r (looping (opened around (behind_first (opened around scope.names) scope.names x.first))) (in_head (opened around scope.names) scope x) a (right r _ _ h),
   )
+  locals_stand r around scope _ h = tt
 
   all_locals_stand : (r : Resolution) (around : Around) (scope : Scope) (list : Statements) → Held r (notes_in_all around scope list) → AllLocalsStand r around scope.names list
   all_locals_stand r around scope no_statements h = tt
@@ -193,18 +171,8 @@ items_closed r file all (function f ∷ rest) h = both (ClosedAt r) (places_of f
 -- a cast
 
 pub cast_stands : (r : Resolution) (scope : Scope) (e : Expression) → Held r (notes_of scope e) → CastStands r scope.names e
-cast_stands r scope (tree.identifier s i) h = tt
-cast_stands r scope (tree.constant s c) h = tt
-cast_stands r scope (tree.parentheses s a) h = tt
-cast_stands r scope (tree.call s f all) h = tt
-cast_stands r scope (tree.spawn s f a) h = tt
-cast_stands r scope (tree.on_value s w a) h = tt
-cast_stands r scope (tree.on_place s w a) h = tt
 cast_stands r scope (tree.cast s t a) h = type_stands r scope [] role.Cast t (left r _ _ (left r _ _ (left r _ _ h)))
-cast_stands r scope (tree.index s a i) h = tt
-cast_stands r scope (tree.field s a w n) h = tt
-cast_stands r scope (tree.unary s o a) h = tt
-cast_stands r scope (tree.binary s o site a b) h = tt
+cast_stands r scope _ h = tt
 
 -- the file has no variables
 
@@ -213,9 +181,7 @@ HasNone names = AreVariables (λ d. ⊥) names
 
 none_entry : (r : Resolution) (names : List Entry) (m : Meaning) → IsVariable (λ d. ⊥) m → EntryStands r names m
 none_entry r names (meaning.variable d) v = absurd v
-none_entry r names (meaning.global n g) v = tt
-none_entry r names (meaning.function n s) v = tt
-none_entry r names (meaning.condition c) v = tt
+none_entry r names _ v = tt
 
 pub none_closed : (r : Resolution) (names : List Entry) → HasNone names → IsClosed r names
 none_closed r [] all = tt
@@ -223,9 +189,7 @@ none_closed r (e ∷ rest) all = (none_entry r rest e.meaning all.0, none_closed
 
 none_meant : (m : Meaning) (t : ℕ) → IsVariable (λ d. ⊥) m → meaning_token m ≡ Some t → ⊥
 none_meant (meaning.variable d) t v is = v
-none_meant (meaning.global n g) t v is = false≢true (ap is_some is)
-none_meant (meaning.function n s) t v is = false≢true (ap is_some is)
-none_meant (meaning.condition c) t v is = false≢true (ap is_some is)
+none_meant _ t v is = false≢true (ap is_some is)
 
 none_in : (names : List Entry) (t : ℕ) → HasNone names → IsVariableIn names t → ⊥
 none_in [] t all h = h
@@ -233,21 +197,12 @@ none_in (e ∷ rest) t all (inl is) = none_meant e.meaning t all.0 is
 none_in (e ∷ rest) t all (inr later) = none_in rest t all.1 later
 
 alone : (names : List Entry) → HasNone names → (w : Named) → IsAmong names w → IsAmong [] w
-alone names all (named.Struct n) h = tt
-alone names all (named.Global n) h = tt
-alone names all (named.Function n) h = tt
 alone names all (named.Variable t) h = none_in names t all h
-alone names all (named.Field t) h = tt
-alone names all named.Known h = tt
+alone names all _ h = tt
 
 level_alone : (r : Resolution) (names : List Entry) → HasNone names → (m : Option Mode) → LevelStands r names m → LevelStands r [] m
-level_alone r names all None h = tt
-level_alone r names all (Some Private) h = tt
-level_alone r names all (Some Readonly) h = tt
-level_alone r names all (Some (Locked (One m token))) h = tt
 level_alone r names all (Some (Locked (Through x token m))) h = alone names all (named_at r token) h
-level_alone r names all (Some Racy) h = tt
-level_alone r names all (Some Dynamic) h = tt
+level_alone r names all _ h = tt
 
 type_alone : (r : Resolution) (names : List Entry) → HasNone names → (w : WrittenType) → TypeStands r names w → TypeStands r [] w
 type_alone r names all w h = each (LevelStands r names) (LevelStands r []) (level_alone r names all) w.ctype.levels h

@@ -93,12 +93,8 @@ quiet_used t None = told_none t
 quiet_used t (Some word) = quiet_fault t _ _
 
 quiet_misfit_of : (t : ℕ) (b : Base) (e : Expression) → told t (misfit_of b e) ≡ 0
-quiet_misfit_of t base.Int e = quiet_fault t _ _
-quiet_misfit_of t base.Char e = quiet_fault t _ _
-quiet_misfit_of t base.Long e = quiet_fault t _ _
-quiet_misfit_of t base.Mutex e = quiet_fault t _ _
 quiet_misfit_of t base.Void e = quiet_used t (called e)
-quiet_misfit_of t (base.Struct name) e = quiet_fault t _ _
+quiet_misfit_of t _ e = quiet_fault t _ _
 
 pub quiet_if : (t : ℕ) (b : Bool) (x y : List Note) → told t x ≡ 0 → told t y ≡ 0 → told t (cond b x y) ≡ 0
 quiet_if t true x y h k = h
@@ -106,9 +102,7 @@ quiet_if t false x y h k = k
 
 quiet_misfit : (t : ℕ) (k : Kind) (e : Expression) → told t (misfit k e) ≡ 0
 quiet_misfit t (object b stars) e = quiet_if t (stars == 0) (misfit_of b e) _ (quiet_misfit_of t b e) (quiet_fault t _ _)
-quiet_misfit t (array b stars) e = quiet_fault t _ _
-quiet_misfit t null e = quiet_fault t _ _
-quiet_misfit t kinds.function e = quiet_fault t _ _
+quiet_misfit t _ e = quiet_fault t _ _
 
 pub quiet_unmet : (t : ℕ) (n : Need) (e : Expression) (k : Option Kind) → told t (unmet n e k) ≡ 0
 quiet_unmet t n e None = told_none t

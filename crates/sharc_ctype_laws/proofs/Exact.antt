@@ -45,12 +45,8 @@ struct_is t r token None h = absurd (no_fault r _ _ _ h)
 struct_is t r token (Some m) h = told_one t token _
 
 base_is : (t : ℕ) (r : Resolution) (structs : StructTable) (token : ℕ) (b : Base) → Held r (base_notes structs token b) → told t (base_notes structs token b) ≡ written t (base_marks b token)
-base_is t r structs token base.Int h = none_is t
-base_is t r structs token base.Char h = none_is t
-base_is t r structs token base.Long h = none_is t
-base_is t r structs token base.Mutex h = none_is t
-base_is t r structs token base.Void h = none_is t
 base_is t r structs token (base.Struct name) h = of_name t token name _ (struct_is t r token (struct_of structs name) h)
+base_is t r structs token _ h = none_is t
 
 -- what the first name of a lock path is
 pub record IsFirstKind (structs : StructTable) (o : Option Kind) : Type 0 where
@@ -98,12 +94,8 @@ path_is t r scope scene siblings all (Through x token m) h =
     (of_name t (token + 2) m _ (second_is t r scope scene (token + 2) m (first_kind (field_of siblings x) (look_up scope.names x)) (path_kind r scope scene siblings all token x (field_of siblings x) refl (left r _ _ h)) (right r _ _ h)))
 
 mode_is : (t : ℕ) (r : Resolution) (scope : Scope) → IsScene r scope → (siblings : List Declaration) → AllByRecursion (IsField r scope.structs) siblings → (m : Option Mode) → Held r (mode_notes scope siblings m) → told t (mode_notes scope siblings m) ≡ written t (level_marks m)
-mode_is t r scope scene siblings all None h = none_is t
-mode_is t r scope scene siblings all (Some modes.Private) h = none_is t
-mode_is t r scope scene siblings all (Some modes.Readonly) h = none_is t
 mode_is t r scope scene siblings all (Some (modes.Locked path)) h = path_is t r scope scene siblings all path h
-mode_is t r scope scene siblings all (Some modes.Racy) h = none_is t
-mode_is t r scope scene siblings all (Some modes.Dynamic) h = none_is t
+mode_is t r scope scene siblings all _ h = none_is t
 
 levels_is : (t : ℕ) (r : Resolution) (scope : Scope) → IsScene r scope → (siblings : List Declaration) → AllByRecursion (IsField r scope.structs) siblings → (levels : List (Option Mode)) → Held r (modes_notes scope siblings levels)
     → told t (modes_notes scope siblings levels) ≡ written t (all_levels levels)

@@ -34,8 +34,6 @@ fair_spawn r scope scene s f a h =
 
 mutual
   fair : (r : Resolution) (scope : Scope) → IsScene r scope → (e : Expression) → Held r (notes_of scope e) → AllByRecursion (IsFair r) (transfers r e)
-  fair r scope scene (tree.identifier s i) h = tt
-  fair r scope scene (tree.constant s c) h = tt
   fair r scope scene (tree.parentheses s a) h = fair r scope scene a h
   fair r scope scene (tree.call s f all) h =
       let c = call_callee r scope scene s f all h in
@@ -50,6 +48,7 @@ mutual
   fair r scope scene (tree.field s a w n) h = fair r scope scene a (left r _ _ (left r _ _ h))
   fair r scope scene (tree.unary s o a) h = fair r scope scene a (left r _ _ h)
   fair r scope scene (tree.binary s o at a b) h = both (IsFair r) (transfers r a) (transfers r b) (fair r scope scene a (left r _ _ (left r _ _ (left r _ _ (left r _ _ h))))) (fair r scope scene b (right r _ _ (left r _ _ (left r _ _ h))))
+  fair r scope scene _ h = tt
 
   all_fair : (r : Resolution) (scope : Scope) → IsScene r scope → (want : List Kind) (all : Arguments) → Held r (notes_of_all scope want all) → AllByRecursion (IsFair r) (argument_transfers r all)
   all_fair r scope scene want no_arguments h = tt
@@ -127,11 +126,9 @@ fair_return r around scope scene w word (Some e) is h =
 mutual
   fair_statement : (r : Resolution) (w : WrittenType) (around : Around) (scope : Scope) → IsScene r scope → around.result ≡ declared_kind w → (a : Statement) → AreDeclared r (locals_in a) → Held r (notes_in around scope a)
       → AllByRecursion (IsFair r) (statement_transfers r w a)
-  fair_statement r w around scope scene is (tree.empty s) d h = tt
   fair_statement r w around scope scene is (tree.block s all) d h = fair_statements r w (opened around scope.names) scope scene is all d h
   fair_statement r w around scope scene is (tree.declare s l) d h = fair_local r around scope scene l d h
   fair_statement r w around scope scene is (tree.simple s x) d h = fair_simple r scope scene x h
-  fair_statement r w around scope scene is (tree.jump s j) d h = tt
   fair_statement r w around scope scene is (tree.return s e) d h = fair_return r around scope scene w s.first.token e is h
   fair_statement r w around scope scene is (tree.if_then s e a) d h =
       both (IsFair r) (transfers r e) (statement_transfers r w a) (fair r scope scene e (left r _ _ (left r _ _ h))) (fair_statement r w (opened around scope.names) scope scene is a d (right r _ _ h))
@@ -149,6 +146,7 @@ mutual
       (both (IsFair r) (first_transfers r x.first) (in_option (transfers r) x.test) (fair_first r (opened around scope.names) scope scene x.first d1 (left r _ _ (left r _ _ (left r _ _ h)))) (fair_tests r _ inner x.test (right r _ _ (left r _ _ (left r _ _ h)))))
       (fair_step r _ inner x.step (right r _ _ (left r _ _ h))))
       (fair_statement r w (looping (opened around (behind_first (opened around scope.names) scope.names x.first))) (in_head (opened around scope.names) scope x) inner is a (back _ (first_locals x.first) (locals_in a) d) (right r _ _ h))
+  fair_statement r w around scope scene is _ d h = tt
 
   fair_statements : (r : Resolution) (w : WrittenType) (around : Around) (scope : Scope) → IsScene r scope → around.result ≡ declared_kind w → (all : Statements) → AreDeclared r (locals_in_all all) → Held r (notes_in_all around scope all)
       → AllByRecursion (IsFair r) (statements_transfers r w all)

@@ -22,11 +22,9 @@ plain_first Q around scope (does x) h = plain Q scope (in_simple x) h
 
 mutual
   forget : (Q : Expression → Type 0) (around : Around) (scope : Scope) (a : Statement) → AllByRecursion (Of Q) (places_in around scope a) → AllByRecursion Q (in_statement a)
-  forget Q around scope (tree.empty s) h = tt
   forget Q around scope (tree.block s all) h = forget_all Q (opened around scope.names) scope all h
   forget Q around scope (tree.declare s l) h = plain Q _ (in_local l) h
   forget Q around scope (tree.simple s x) h = plain Q scope (in_simple x) h
-  forget Q around scope (tree.jump s j) h = tt
   forget Q around scope (tree.return s e) h = plain Q scope (in_option expressions e) h
   forget Q around scope (tree.if_then s e a) h =
       both Q (expressions e) (in_statement a) (plain Q scope (expressions e) (front (Of Q) (at scope (expressions e)) _ h)) (forget Q (opened around scope.names) scope a (back (Of Q) (at scope (expressions e)) _ h))
@@ -49,6 +47,7 @@ mutual
       (back Q (in_option expressions x.test) (in_option in_simple x.step) rest))
       (forget Q (looping (opened around (behind_first (opened around scope.names) scope.names x.first))) (in_head (opened around scope.names) scope x) a
       (back (Of Q) (begin ++ at inner later) (places_in (looping (opened around (behind_first (opened around scope.names) scope.names x.first))) inner a) h))
+  forget Q around scope _ h = tt
 
   forget_all : (Q : Expression → Type 0) (around : Around) (scope : Scope) (all : Statements) → AllByRecursion (Of Q) (places_in_all around scope all) → AllByRecursion Q (in_statements all)
   forget_all Q around scope no_statements h = tt

@@ -35,9 +35,8 @@ head_named r token what rest h = h.0
 -- where nothing else is said of its token, the second name of a lock path is held as the name of a field
 pub second_held : (r : Resolution) (token : ℕ) (o : Option (Option Declaration)) → Held r (second_notes token o) → Held r (field_notes token o)
 unfolding Held
-second_held r token None h = h
-second_held r token (Some None) h = h
 second_held r token (Some (Some d)) h = h
+second_held r token _ h = h
 
 pub yielded : (r : Resolution) (token : ℕ) (what : Named) (rest : List Note) → Held r (yields token what ∷ rest) → named_at r token ≡ what
 unfolding Held

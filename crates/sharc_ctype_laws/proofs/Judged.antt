@@ -38,24 +38,18 @@ named_by r i None h = absurd (no_fault r _ _ _ h)
 named_by r i (Some e) h = record { entry = e; found = refl; names = head_named r _ _ _ h; not_main = not_wrong r (is_main e.meaning) i.site.token BadForm (behind_head r _ _ _ h) }
 
 solid_global : (structs : StructTable) (f : GlobalForm) (k : Kind) → IsSolid structs k → IsSolid structs (global_kind f k)
-solid_global structs Plain k s = s
-solid_global structs (Array at n) (object b stars) s = s
 solid_global structs (Array at n) (array b stars) s = s
-solid_global structs (Array at n) null s = s
-solid_global structs (Array at n) kinds.function s = s
-solid_global structs (Initial at minus c) k s = s
+solid_global structs _ _ s = s
 
 kind_named : (r : Resolution) (structs : StructTable) (name : List ℕ) (m : Meaning) → IsMeant r structs name m → named_kind r (named_of m) ≡ kind_of m
 kind_named r structs name (meaning.variable d) h = ap variable_kind h.1
 kind_named r structs name (meaning.global n g) h = ap global_kind_of h.1
-kind_named r structs name (meaning.function n s) h = refl
-kind_named r structs name (meaning.condition c) h = refl
+kind_named r structs name _ h = refl
 
 pub solid_meaning : (r : Resolution) (structs : StructTable) (name : List ℕ) (m : Meaning) → IsMeant r structs name m → IsSolid structs (kind_of m)
 solid_meaning r structs name (meaning.variable d) h = h.2
 solid_meaning r structs name (meaning.global n g) h = solid_global structs g.form (declared_kind g.declaration.written) h.2
-solid_meaning r structs name (meaning.function n s) h = tt
-solid_meaning r structs name (meaning.condition c) h = tt
+solid_meaning r structs name _ h = tt
 
 pub not_main_text : (n : ℕ) (f : Function) (s : Signature) (text : List ℕ) → signature_of f ≡ s → f.name.text ≡ text → is_main (meaning.function n s) ≡ false → text ≡ codes "main" → ⊥
 not_main_text n f s text same spelled other is = false≢true (sym other ∙ (bytes_eq-Decides s.name.text (codes "main")).1 (ap (λ (z : Signature). z.name.text) (sym same) ∙ spelled ∙ is))
@@ -70,7 +64,7 @@ has_name r structs s i (meaning.global n g) h other is = a_global is h.1 h.0
 has_name r structs s i (meaning.function n f) h other is = a_function (callee_of r i n h.0 f is h.1 h.2 h.4 other)
 has_name r structs s i (meaning.condition c) h other is = a_function (of_conditions c is h)
 
-not_main_kind : (m : Meaning) → is_main m ≡ false → cond (is_main m) None (Some (kind_of m)) ≡ Some (kind_of m)
+pub not_main_kind : (m : Meaning) → is_main m ≡ false → cond (is_main m) None (Some (kind_of m)) ≡ Some (kind_of m)
 not_main_kind m h = ap (λ b. cond b None (Some (kind_of m))) h
 
 name_judged : (r : Resolution) (scope : Scope) → IsScene r scope → (s : Span) (i : Identifier) → Held r (name_notes i.site.token (look_up scope.names i.text)) → IsJudged r scope (tree.identifier s i)
@@ -91,8 +85,7 @@ constant_solid structs (constants.Number n) = by n.number_type
     by : (w : NumberType) → IsSolid structs (number_kind w)
     by width.Int = tt
     by width.Long = tt
-constant_solid structs (constants.Character byte) = tt
-constant_solid structs constants.Null = tt
+constant_solid structs _ = tt
 
 parentheses_judged : (r : Resolution) (scope : Scope) (s : Span) (a : Expression) → IsJudged r scope a → IsJudged r scope (tree.parentheses s a)
 parentheses_judged r scope s a j = record { typed = j.typed; valued = j.valued; has = in_parentheses j.has }
@@ -170,14 +163,11 @@ cast_judged r scope s t a j h =
 has_index : (r : Resolution) (s : Span) (a i : Expression) (k m : Kind) → fits need.Indexed k ≡ true → HasType r a k → HasType r i m → IsInteger m → HasType r (tree.index s a i) (element_kind k)
 has_index r s a i (object b n) m f ha hi im = element_of_pointer (subst (λ z. HasType r a (object b z)) (one_less n (⊎_elim (λ e. e) (λ e. absurd (false≢true e)) (or_cases (nat_lt 0 n) false f))) ha) hi im
 has_index r s a i (array b n) m f ha hi im = element_of_array ha hi im
-has_index r s a i null m f ha hi im = absurd (false≢true f)
-has_index r s a i kinds.function m f ha hi im = absurd (false≢true f)
+has_index r s a i _ m f ha hi im = absurd (false≢true f)
 
 solid_element : (structs : StructTable) (k : Kind) → IsSolid structs k → IsSolid structs (element_kind k)
-solid_element structs (object b n) h = h
 solid_element structs (array b n) h = h
-solid_element structs null h = h
-solid_element structs kinds.function h = h
+solid_element structs _ h = h
 
 -- what fits where no `void` does is no `void`
 solid_fit : (structs : StructTable) (e : Expression) (n : Need) (k : Kind) → IsValued structs e k → fits n k ≡ true → fits n void ≡ false → IsSolid structs k
@@ -203,15 +193,12 @@ has_unary r s Negate a k f h = negated h (integer_is k f) (promoted_is k (intege
 has_unary r s Not a k f h = denied h (scalar_is k f)
 has_unary r s Complement a k f h = complemented h (integer_is k f) (promoted_is k (integer_is k f))
 has_unary r s Dereference a (object b n) f h = pointed_to (subst (λ z. HasType r a (object b z)) (one_less n f) h)
-has_unary r s Dereference a (array b n) f h = absurd (false≢true f)
-has_unary r s Dereference a null f h = absurd (false≢true f)
-has_unary r s Dereference a kinds.function f h = absurd (false≢true f)
+has_unary r s Dereference a _ f h = absurd (false≢true f)
 
 solid_unary : (structs : StructTable) (o : UnaryOperator) (a : Expression) (k : Kind) → fits (operand_need o) k ≡ true → IsValued structs a k → IsSolid structs (unary_result o k)
-solid_unary structs Negate a k f v = solid_long structs (kinds.is_long k)
 solid_unary structs Not a k f v = tt
-solid_unary structs Complement a k f v = solid_long structs (kinds.is_long k)
 solid_unary structs Dereference a k f v = solid_element structs k (solid_fit structs a need.Pointer k v f refl)
+solid_unary structs _ a k f v = solid_long structs (kinds.is_long k)
 
 unary_judged : (r : Resolution) (scope : Scope) (s : Span) (o : UnaryOperator) (a : Expression) → IsJudged r scope a → Held r (notes_of scope (tree.unary s o a)) → IsJudged r scope (tree.unary s o a)
 unary_judged r scope s o a j h =
@@ -229,11 +216,9 @@ has_binary r s o at a b Shift j k is fj fk m ha hb = shifted is ha hb (integer_i
 has_binary r s o at a b Arithmetic j k is fj fk m ha hb = arithmetic is ha hb (integer_is j fj) (integer_is k fk) (common_is j k (integer_is j fj) (integer_is k fk))
 
 solid_binary : (structs : StructTable) (c : OperatorClass) (j k : Kind) → IsSolid structs (binary_result c j k)
-solid_binary structs Logical j k = tt
-solid_binary structs Equality j k = tt
-solid_binary structs Relation j k = tt
 solid_binary structs Shift j k = solid_long structs (kinds.is_long j)
 solid_binary structs Arithmetic j k = solid_long structs (kinds.is_long j || kinds.is_long k)
+solid_binary structs _ j k = tt
 
 binary_judged : (r : Resolution) (scope : Scope) (s : Span) (o : BinaryOperator) (at : Site) (a b : Expression) → IsJudged r scope a → IsJudged r scope b → Held r (notes_of scope (tree.binary s o at a b))
     → IsJudged r scope (tree.binary s o at a b)
@@ -258,9 +243,7 @@ struct_behind_is n (object base.Long m) h = absurd (false≢true (and_parts (m =
 struct_behind_is n (object base.Mutex m) h = absurd (false≢true (and_parts (m == n) false h).1)
 struct_behind_is n (object base.Void m) h = absurd (false≢true (and_parts (m == n) false h).1)
 struct_behind_is n (object (base.Struct x) m) h = (x, ap (object (base.Struct x)) (eqb-true m n (and_parts (m == n) true h).0))
-struct_behind_is n (array b m) h = absurd (false≢true h)
-struct_behind_is n null h = absurd (false≢true h)
-struct_behind_is n kinds.function h = absurd (false≢true h)
+struct_behind_is n _ h = absurd (false≢true h)
 
 void_is_no_struct : (x : List ℕ) (n : ℕ) → void ≡ object (base.Struct x) n → ⊥
 void_is_no_struct x n h = cc
@@ -369,8 +352,6 @@ callee_facts r structs i n e parameters result takes_is result_is not_main h kin
 
 callee_meant : (r : Resolution) (structs : StructTable) (i : Identifier) (n : ℕ) (name : List ℕ) (block : ℕ) (m : Meaning) → IsMeant r structs i.text m → named_at r i.site.token ≡ named_of m → is_main m ≡ false
     → Held r (count_notes AsValue i.site.token n (parameters_of m)) → IsCallee r structs i n (Some (record { name = name; block = block; meaning = m }))
-callee_meant r structs i n name block (meaning.variable d) m is not_main h = absurd (no_fault r _ _ _ h)
-callee_meant r structs i n name block (meaning.global k g) m is not_main h = absurd (no_fault r _ _ _ h)
 callee_meant r structs i n name block (meaning.function k s) m is not_main h =
     let same : declared_kind m.0.result ≡ declared_kind s.result = ap (λ (z : Signature). declared_kind z.result) m.2 in
     callee_facts r structs i n (record { name = name; block = block; meaning = meaning.function k s }) (declared_kinds s.parameters) (declared_kind s.result) refl refl not_main h
@@ -379,6 +360,7 @@ callee_meant r structs i n name block (meaning.function k s) m is not_main h =
 callee_meant r structs i n name block (meaning.condition c) m is not_main h =
     callee_facts r structs i n (record { name = name; block = block; meaning = meaning.condition c }) (condition_parameters c) void refl refl not_main h (ap (called_kind r) is) (of_conditions c is m) (inr refl)
     (inl (ap (parameters_named r) is))
+callee_meant r structs i n name block _ m is not_main h = absurd (no_fault r _ _ _ h)
 
 callee_by : (r : Resolution) (structs : StructTable) (names : List Entry) (i : Identifier) (n : ℕ) (o : Option Entry) → AreMeant r structs names → look_up names i.text ≡ o → Held r (callee_notes AsValue i.site.token n o) → IsCallee r structs i n o
 callee_by r structs names i n None all is h = absurd (no_fault r _ _ _ h)
@@ -440,13 +422,10 @@ pub record IsSpawned (r : Resolution) (i : Identifier) (o : Option Entry) : Type
   pub is : declared_kind declared.written ≡ parameter
 
 pub one_of : {A : Type 0} (list : List A) → length list ≡ 1 → (x : A) × (list ≡ x ∷ [])
-one_of [] h = absurd (omega (arith, h))
 one_of (x ∷ []) h = (x, refl)
-one_of (x ∷ (y ∷ rest)) h = absurd (omega (arith, h))
+one_of _ h = absurd (omega (arith, h))
 
 spawned_by : (r : Resolution) (structs : StructTable) (i : Identifier) (name : List ℕ) (block : ℕ) (m : Meaning) → IsMeant r structs i.text m → named_at r i.site.token ≡ named_of m → can_spawn m ≡ true → IsSpawned r i (Some (record { name = name; block = block; meaning = m }))
-spawned_by r structs i name block (meaning.variable d) m is h = absurd (false≢true h)
-spawned_by r structs i name block (meaning.global k g) m is h = absurd (false≢true h)
 spawned_by r structs i name block (meaning.function k s) m is h =
     let p = and_parts (same_kind (declared_kind s.result) void) _ h in
     let q = and_parts (length s.parameters == 1) _ p.1 in
@@ -461,7 +440,7 @@ spawned_by r structs i name block (meaning.function k s) m is h =
       names = ap (parameters_named r) is ∙ ap parameters_of_function m.1 ∙ ap (λ (z : Signature). z.parameters) m.2 ∙ d.1;
       is = refl;
     }
-spawned_by r structs i name block (meaning.condition c) m is h = absurd (false≢true h)
+spawned_by r structs i name block _ m is h = absurd (false≢true h)
 
 spawn_by : (r : Resolution) (structs : StructTable) (names : List Entry) (word : ℕ) (i : Identifier) (o : Option Entry) → AreMeant r structs names → look_up names i.text ≡ o → Held r (spawn_notes word i.site.token o) → IsSpawned r i o
 spawn_by r structs names word i None all is h = absurd (no_fault r _ _ _ h)
@@ -474,10 +453,8 @@ spawn_names r word i None h = absurd (no_fault r _ _ _ h)
 spawn_names r word i (Some e) h = by e.meaning (head_named r _ _ _ h) (well r (can_spawn e.meaning) word BadForm (right r _ _ (behind_head r _ _ _ h)))
   where
     by : (m : Meaning) → named_at r i.site.token ≡ named_of m → can_spawn m ≡ true → (n : ℕ) × (named_at r i.site.token ≡ named.Function n)
-    by (meaning.variable d) is can = absurd (false≢true can)
-    by (meaning.global k g) is can = absurd (false≢true can)
     by (meaning.function k f) is can = (k, is)
-    by (meaning.condition c) is can = absurd (false≢true can)
+    by _ is can = absurd (false≢true can)
 
 pub spawned_name : (r : Resolution) (scope : Scope) (s : Span) (f : Identifier) (a : Expression) → Held r (notes_of scope (tree.spawn s f a)) → (n : ℕ) × (named_at r f.site.token ≡ named.Function n)
 spawned_name r scope s f a h = spawn_names r s.first.token f (look_up scope.names f.text) (right r _ _ (left r _ _ h))

@@ -22,24 +22,18 @@ one_kind (object a m) (object b n) h = let p = and_parts _ _ h in ap₂ object (
 one_kind _ _ h = absurd (false≢true h)
 
 pub null_is : (k : Kind) → is_null k ≡ true → k ≡ null
-null_is (object b n) h = absurd (false≢true h)
-null_is (array b n) h = absurd (false≢true h)
 null_is null h = refl
-null_is kinds.function h = absurd (false≢true h)
+null_is _ h = absurd (false≢true h)
 
 -- what the tests say
 
 pub integer_is : (k : Kind) → is_integer k ≡ true → IsInteger k
 integer_is (object b n) h = let p = and_parts _ _ h in (b, p.1, ap (object b) (eqb-true n 0 p.0))
-integer_is (array b n) h = absurd (false≢true h)
-integer_is null h = absurd (false≢true h)
-integer_is kinds.function h = absurd (false≢true h)
+integer_is _ h = absurd (false≢true h)
 
 pub pointer_is : (k : Kind) → is_pointer k ≡ true → IsPointer k
 pointer_is (object b n) h = (b, n - 1, ap (object b) (one_less n h))
-pointer_is (array b n) h = absurd (false≢true h)
-pointer_is null h = absurd (false≢true h)
-pointer_is kinds.function h = absurd (false≢true h)
+pointer_is _ h = absurd (false≢true h)
 
 pub scalar_is : (k : Kind) → fits Value k ≡ true → IsScalar k
 scalar_is k h = ⊎_elim (λ rest. ⊎_elim (λ i. inl (integer_is k i)) (λ p. inr (inl (pointer_is k p))) (or_cases (is_integer k) (is_pointer k) rest)) (λ n. inr (inr (null_is k n))) (or_cases (is_integer k || is_pointer k) (is_null k) h)

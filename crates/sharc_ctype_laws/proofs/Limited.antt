@@ -123,8 +123,6 @@ none_left [] h = refl
 none_left (x ∷ rest) h = absurd (omega (arith, h))
 
 main_meant : (r : Resolution) (structs : StructTable) (m : Meaning) → IsMeant r structs (codes "main") m → is_main_meaning m ≡ true → (n : ℕ) × (f : Function) × IsMain r n f
-main_meant r structs (meaning.variable d) i h = absurd (false≢true h)
-main_meant r structs (meaning.global n g) i h = absurd (false≢true h)
 main_meant r structs (meaning.function n s) i h =
     let p = and_parts (same_kind (declared_kind s.result) int) _ h in (
       n,
@@ -136,7 +134,7 @@ main_meant r structs (meaning.function n s) i h =
         parameters = ap (λ (z : Signature). z.parameters) i.2 ∙ none_left s.parameters (eqb-true (length s.parameters) 0 p.1);
       },
     )
-main_meant r structs (meaning.condition c) i h = absurd (false≢true h)
+main_meant r structs _ i h = absurd (false≢true h)
 
 main_by : (r : Resolution) (structs : StructTable) (names : List Entry) → AreMeant r structs names → (o : Option Entry) → look_up names (codes "main") ≡ o → has_main o ≡ true → (n : ℕ) × (f : Function) × IsMain r n f
 main_by r structs names all None is h = absurd (false≢true h)

@@ -31,15 +31,8 @@ member_kind r n x name d m is =
 -- common types
 
 long_is : (k : Kind) → is_long k ≡ true → k ≡ long
-long_is (object base.Int n) h = absurd (false≢true h)
-long_is (object base.Char n) h = absurd (false≢true h)
 long_is (object base.Long n) h = ap (object base.Long) (eqb-true n 0 h)
-long_is (object base.Mutex n) h = absurd (false≢true h)
-long_is (object base.Void n) h = absurd (false≢true h)
-long_is (object (base.Struct x) n) h = absurd (false≢true h)
-long_is (array b n) h = absurd (false≢true h)
-long_is null h = absurd (false≢true h)
-long_is kinds.function h = absurd (false≢true h)
+long_is _ h = absurd (false≢true h)
 
 shorter : (k : Kind) (b : Bool) → is_long k ≡ b → (k ≡ long → ⊥) → b ≡ false
 shorter k true is no_long = absurd (no_long (long_is k is))
@@ -79,7 +72,6 @@ pub one_type : (r : Resolution) → NameThemselves r → (e : Expression) (k : K
 one_type r n _ _ (a_variable is at spelled) = ap (named_kind r) is ∙ ap variable_kind at
 one_type r n _ _ (a_global is at spelled) = ap (named_kind r) is ∙ ap global_kind_of at
 one_type r n _ _ (a_function c) = function_kind r _ _ _ c
-one_type r n _ _ a_constant = refl
 one_type r n _ _ (in_parentheses a) = one_type r n _ _ a
 one_type r n _ _ (element_of_pointer {b = b} {n = m} a i t) = ap element_kind (one_type r n _ _ a) ∙ ap (object b) (one_less m)
 one_type r n _ _ (element_of_array a i t) = ap element_kind (one_type r n _ _ a)
@@ -88,16 +80,10 @@ one_type r n _ _ (a_field {x = x} {name = name} {d = d} a m is) = member_kind r 
 one_type r n _ _ (a_field_behind {x = x} {name = name} {d = d} a m is) = member_kind r n x name d m is
 one_type r n _ _ (negated a i c) = ap promoted (one_type r n _ _ a) ∙ promoted_is _ _ c
 one_type r n _ _ (complemented a i c) = ap promoted (one_type r n _ _ a) ∙ promoted_is _ _ c
-one_type r n _ _ (denied a s) = refl
 one_type r n _ _ (pointed_to {b = b} {n = m} a) = ap element_kind (one_type r n _ _ a) ∙ ap (object b) (one_less m)
 one_type r n _ _ (arithmetic {a = x} {b = y} {j = j} {k = k} {t = t} is a b l m c) = of_class _ Arithmetic (kind_at r x) (kind_at r y) j k t is (one_type r n _ _ a) (one_type r n _ _ b) (common_is j k t c)
 one_type r n _ _ (shifted {a = x} {b = y} {j = j} {k = k} {t = t} is a b l m c) = of_class _ Shift (kind_at r x) (kind_at r y) j k t is (one_type r n _ _ a) (one_type r n _ _ b) (promoted_is j t c)
 one_type r n _ _ (related {a = x} {b = y} is a b l m) = ap (λ z. binary_result z (kind_at r x) (kind_at r y)) is
 one_type r n _ _ (equated {a = x} {b = y} is a b c) = ap (λ z. binary_result z (kind_at r x) (kind_at r y)) is
 one_type r n _ _ (joined {a = x} {b = y} is a b l m) = ap (λ z. binary_result z (kind_at r x) (kind_at r y)) is
-one_type r n _ _ (spawned c a) = refl
-one_type r n _ _ (printed_or_joined a i) = refl
-one_type r n _ _ (locked m a) = refl
-one_type r n _ _ (unlocked m a) = refl
-one_type r n _ _ (freed m a p) = refl
-one_type r n _ _ (a_cast m a p) = refl
+one_type r n _ _ _ = refl

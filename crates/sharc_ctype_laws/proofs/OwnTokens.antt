@@ -18,7 +18,7 @@ pub one_other : (t n : ℕ) → (n ≡ t → ⊥) → one t n ≡ 0
 unfolding one
 one_other t n h = ap (λ b. cond b 1 0) (ne_eqb n t h)
 
-one_low : (t n : ℕ) → one t n ≤ 1
+pub one_low : (t n : ℕ) → one t n ≤ 1
 one_low t n = ⊎_elim (λ e. let f = ap (one t) e in let g = one_same t in omega (arith, f, g)) (λ e. let f = one_other t n e in omega (arith, f)) (cases_eq n t)
 
 -- the marks among tokens
@@ -30,10 +30,7 @@ keyword_low t n _ = written_none t
 kind_low : (t n : ℕ) (k : TokenKind) (text : List ℕ) → written t (kind_marks k text n) ≤ one t n
 kind_low t n (kind.Keyword k) text = let e = keyword_low t n k in omega (arith, e)
 kind_low t n kind.Identifier text = let e = written_one t n text in omega (arith, e)
-kind_low t n (kind.Number v) text = let e = written_none t in omega (arith, e)
-kind_low t n (kind.Character c) text = let e = written_none t in omega (arith, e)
-kind_low t n (kind.Punctuator p) text = let e = written_none t in omega (arith, e)
-kind_low t n kind.LeftOut text = let e = written_none t in omega (arith, e)
+kind_low t n _ text = let e = written_none t in omega (arith, e)
 
 record AreFew (t n : ℕ) (list : List Token) : Type 0 where
   once : written t (marks_from n list) ≤ 1
@@ -165,9 +162,8 @@ local_written t l = let e = declaration_written t l.declaration in let f = writt
 
 first_written : (t : ℕ) (f : First) → times t (first_locals f) ≤ written t (first_marks f)
 unfolding times
-first_written t nothing = omega arith
 first_written t (declares l) = local_written t l
-first_written t (does x) = omega arith
+first_written t _ = omega arith
 
 none_written : (t n : ℕ) → times t [] ≤ n
 unfolding times
@@ -184,12 +180,8 @@ locals_before t b x y h = let f = written-append t x y in omega (arith, f, h)
 
 mutual
   locals_written : (t : ℕ) (a : Statement) → times t (locals_in a) ≤ written t (statement_marks a)
-  locals_written t (tree.empty s) = none_written t _
   locals_written t (tree.block s all) = all_locals_written t all
   locals_written t (tree.declare s l) = local_written t l
-  locals_written t (tree.simple s x) = none_written t _
-  locals_written t (tree.jump s j) = none_written t _
-  locals_written t (tree.return s e) = none_written t _
   locals_written t (tree.if_then s e a) = locals_behind t (locals_in a) (marks e) (statement_marks a) (locals_written t a)
   locals_written t (tree.if_then_else s e a b) = locals_side t (locals_in a) (locals_in b) (marks e ++ statement_marks a) (statement_marks b) (locals_behind t (locals_in a) (marks e) (statement_marks a) (locals_written t a)) (locals_written t b)
   locals_written t (tree.while s e a) = locals_behind t (locals_in a) (marks e) (statement_marks a) (locals_written t a)
@@ -197,6 +189,7 @@ mutual
       locals_side t (first_locals h.first) (locals_in a) (head_marks h) (statement_marks a)
       (locals_before t (first_locals h.first) (first_marks h.first ++ option_marks marks h.test) (option_marks simple_marks h.step) (locals_before t (first_locals h.first) (first_marks h.first) (option_marks marks h.test) (first_written t h.first)))
       (locals_written t a)
+  locals_written t _ = none_written t _
 
   all_locals_written : (t : ℕ) (all : Statements) → times t (locals_in_all all) ≤ written t (statements_marks all)
   all_locals_written t no_statements = none_written t _

@@ -15,9 +15,7 @@ use Rattle.sharc_lemmas.proofs.Lists.{front, back, both, together, later}
 
 abbrev pub IsVariable : (Declaration → Type 0) → Meaning → Type 0
 IsVariable P (meaning.variable d) = P d
-IsVariable P (meaning.global n g) = Unit {0}
-IsVariable P (meaning.function n s) = Unit {0}
-IsVariable P (meaning.condition c) = Unit {0}
+IsVariable P _ = Unit {0}
 
 abbrev pub AreVariables : (Declaration → Type 0) → List Entry → Type 0
 AreVariables P names = AllByRecursion (λ e. IsVariable P e.meaning) names
@@ -33,21 +31,12 @@ with_declared : (P : Declaration → Type 0) (block : ℕ) (d : Declaration) (na
 with_declared P block d names all p = either P names (record { name = d.name.text; block = block; meaning = meaning.variable d }) (is_here block names d) all p
 
 with_first : (P : Declaration → Type 0) (around : Around) (names : List Entry) (f : First) → AreVariables P names → AllByRecursion P (first_locals f) → AreVariables P (behind_first around names f)
-with_first P around names nothing all p = all
 with_first P around names (declares l) all p = with_declared P around.block l.declaration names all p.0
-with_first P around names (does x) all p = all
+with_first P around names _ all p = all
 
 with_statement : (P : Declaration → Type 0) (around : Around) (names : List Entry) (a : Statement) → AreVariables P names → AllByRecursion P (locals_in a) → AreVariables P (after around names a)
-with_statement P around names (tree.empty s) all p = all
-with_statement P around names (tree.block s inner) all p = all
 with_statement P around names (tree.declare s l) all p = with_declared P around.block l.declaration names all p.0
-with_statement P around names (tree.simple s x) all p = all
-with_statement P around names (tree.jump s j) all p = all
-with_statement P around names (tree.return s e) all p = all
-with_statement P around names (tree.if_then s e a) all p = all
-with_statement P around names (tree.if_then_else s e a b) all p = all
-with_statement P around names (tree.while s e a) all p = all
-with_statement P around names (tree.for s x a) all p = all
+with_statement P around names _ all p = all
 
 with_all_parameters : (P : Declaration → Type 0) (block : ℕ) (names : List Entry) (list : List Declaration) → AreVariables P names → AllByRecursion P list → AreVariables P (with_parameters block names list)
 with_all_parameters P block names [] all p = all
@@ -69,11 +58,9 @@ at_first P around scope (does x) all p = all_at P scope (in_simple x) all
 
 mutual
   in_scope : (P : Declaration → Type 0) (around : Around) (scope : Scope) (a : Statement) → AreVariables P scope.names → AllByRecursion P (locals_in a) → AllByRecursion (InScope P) (places_in around scope a)
-  in_scope P around scope (tree.empty s) all p = tt
   in_scope P around scope (tree.block s inner) all p = all_in_scope P (opened around scope.names) scope inner all p
   in_scope P around scope (tree.declare s l) all p = at_local P around scope l all p.0
   in_scope P around scope (tree.simple s x) all p = all_at P scope (in_simple x) all
-  in_scope P around scope (tree.jump s j) all p = tt
   in_scope P around scope (tree.return s e) all p = all_at P scope (in_option expressions e) all
   in_scope P around scope (tree.if_then s e a) all p = both (InScope P) (at scope (expressions e)) _ (all_at P scope (expressions e) all) (in_scope P (opened around scope.names) scope a all p)
   in_scope P around scope (tree.if_then_else s e a b) all p =
@@ -88,6 +75,7 @@ mutual
       (both (InScope P) (places_in_first (opened around scope.names) scope x.first) _ (at_first P (opened around scope.names) scope x.first all p1)
       (all_at P (in_head (opened around scope.names) scope x) (in_option expressions x.test ++ in_option in_simple x.step) inner))
       (in_scope P (looping (opened around (behind_first (opened around scope.names) scope.names x.first))) (in_head (opened around scope.names) scope x) a inner (back _ (first_locals x.first) (locals_in a) p))
+  in_scope P around scope _ all p = tt
 
   all_in_scope : (P : Declaration → Type 0) (around : Around) (scope : Scope) (list : Statements) → AreVariables P scope.names → AllByRecursion P (locals_in_all list) → AllByRecursion (InScope P) (places_in_all around scope list)
   all_in_scope P around scope no_statements all p = tt
@@ -146,17 +134,7 @@ names_own r own p j v = by p.expression j.held
     by (tree.identifier s i) h =
         let n = named_by r i (look_up p.scope.names i.text) h in
         λ token is. among own n.entry.meaning token (found (Among own) p.scope.names i.text n.entry v n.found) (sym n.names ∙ is)
-    by (tree.constant s c) h = tt
-    by (tree.parentheses s a) h = tt
-    by (tree.call s f all) h = tt
-    by (tree.spawn s f a) h = tt
-    by (tree.on_value s w a) h = tt
-    by (tree.on_place s w a) h = tt
-    by (tree.cast s t a) h = tt
-    by (tree.index s a i) h = tt
-    by (tree.field s a w n) h = tt
-    by (tree.unary s o a) h = tt
-    by (tree.binary s o site a b) h = tt
+    by _ h = tt
 
 -- each is among them all
 

@@ -15,12 +15,9 @@ abbrev Plain : Declaration → Type 0
 Plain d = is_aggregate (declared_kind d.written) ≡ false
 
 bare : (where_ : Role) (b : Base) → holds_struct where_ ≡ false → holds_mutex where_ ≡ false → is_allowed where_ b 0 ≡ true → (is_struct_base b || (same_base b base.Mutex && true)) ≡ false
-bare where_ base.Int s m h = refl
-bare where_ base.Char s m h = refl
-bare where_ base.Long s m h = refl
 bare where_ base.Mutex s m h = absurd (false≢true (sym m ∙ h))
-bare where_ base.Void s m h = refl
 bare where_ (base.Struct name) s m h = absurd (false≢true (sym s ∙ h))
+bare where_ _ s m h = refl
 
 plain_by : (where_ : Role) (b : Base) (n : ℕ) (z : Bool) → (n == 0) ≡ z → holds_struct where_ ≡ false → holds_mutex where_ ≡ false → is_allowed where_ b n ≡ true → ((z && is_struct_base b) || (same_base b base.Mutex && z)) ≡ false
 plain_by where_ b n true is s m h = bare where_ b s m (ap (is_allowed where_ b) (sym (eqb-true n 0 is)) ∙ h)
@@ -30,24 +27,20 @@ plain_type : (r : Resolution) (scope : Scope) (siblings : List Declaration) (whe
 plain_type r scope siblings where_ w s m h = plain_by where_ w.ctype.base (stars_of w) (stars_of w == 0) refl s m (well r (allowed_there where_ w) w.span.first.token TypeNotAllowed (right r _ _ (left r _ _ h)))
 
 plain_first : (r : Resolution) (around : Around) (scope : Scope) (x : First) → Held r (first_notes around scope x) → AllByRecursion Plain (first_locals x)
-plain_first r around scope nothing h = tt
 plain_first r around scope (declares l) h = (plain_type r scope [] role.Local l.declaration.written refl refl (left r _ _ (left r _ _ h)), tt)
-plain_first r around scope (does x) h = tt
+plain_first r around scope _ h = tt
 
 mutual
   plain : (r : Resolution) (around : Around) (scope : Scope) (a : Statement) → Held r (notes_in around scope a) → AllByRecursion Plain (locals_in a)
-  plain r around scope (tree.empty s) h = tt
   plain r around scope (tree.block s all) h = all_plain r (opened around scope.names) scope all h
   plain r around scope (tree.declare s l) h = (plain_type r scope [] role.Local l.declaration.written refl refl (left r _ _ (left r _ _ h)), tt)
-  plain r around scope (tree.simple s x) h = tt
-  plain r around scope (tree.jump s j) h = tt
-  plain r around scope (tree.return s e) h = tt
   plain r around scope (tree.if_then s e a) h = plain r (opened around scope.names) scope a (right r _ _ h)
   plain r around scope (tree.if_then_else s e a b) h = both Plain (locals_in a) (locals_in b) (plain r (opened around scope.names) scope a (right r _ _ (left r _ _ h))) (plain r (opened around scope.names) scope b (right r _ _ h))
   plain r around scope (tree.while s e a) h = plain r (looping (opened around scope.names)) scope a (right r _ _ h)
   plain r around scope (tree.for s x a) h =
       both Plain (first_locals x.first) (locals_in a) (plain_first r (opened around scope.names) scope x.first (left r _ _ (left r _ _ (left r _ _ h))))
       (plain r (looping (opened around (behind_first (opened around scope.names) scope.names x.first))) (in_head (opened around scope.names) scope x) a (right r _ _ h))
+  plain r around scope _ h = tt
 
   all_plain : (r : Resolution) (around : Around) (scope : Scope) (a : Statements) → Held r (notes_in_all around scope a) → AllByRecursion Plain (locals_in_all a)
   all_plain r around scope no_statements h = tt

@@ -59,17 +59,7 @@ spawned_by : (r : Resolution) (e : Expression) → HasType r e (kind_at r e) →
 spawned_by r (tree.spawn s f a) h t m c is =
     let x = spawn_callee r s f a _ h in
     thread_of r m x.0 (called_by r f (x.0 ∷ []) void x.1 m (ap (named_at r) (only_one f.site.token t c) ∙ is))
-spawned_by r (tree.identifier s i) h t m c is = absurd (none_there t c)
-spawned_by r (tree.constant s x) h t m c is = absurd (none_there t c)
-spawned_by r (tree.parentheses s a) h t m c is = absurd (none_there t c)
-spawned_by r (tree.call s f all) h t m c is = absurd (none_there t c)
-spawned_by r (tree.on_value s w a) h t m c is = absurd (none_there t c)
-spawned_by r (tree.on_place s w a) h t m c is = absurd (none_there t c)
-spawned_by r (tree.cast s w a) h t m c is = absurd (none_there t c)
-spawned_by r (tree.index s a i) h t m c is = absurd (none_there t c)
-spawned_by r (tree.field s a w n) h t m c is = absurd (none_there t c)
-spawned_by r (tree.unary s o a) h t m c is = absurd (none_there t c)
-spawned_by r (tree.binary s o site a b) h t m c is = absurd (none_there t c)
+spawned_by r _ h t m c is = absurd (none_there t c)
 
 run_by : (r : Resolution) (e : Expression) → HasType r e (kind_at r e) → (t m : ℕ) → Contains (runs e) t → named_at r t ≡ named.Function m → (f : Function) × IsCallable r m f
 run_by r (tree.call s f all) h t m c is =
@@ -77,16 +67,7 @@ run_by r (tree.call s f all) h t m c is =
     let y = called_by r f x.0 x.1 x.2 m (ap (named_at r) (only_one f.site.token t c) ∙ is) in
     (y.function, y.callable)
 run_by r (tree.spawn s f a) h t m c is = let x = spawned_by r (tree.spawn s f a) h t m c is in (x.0, x.1.callable)
-run_by r (tree.identifier s i) h t m c is = absurd (none_there t c)
-run_by r (tree.constant s x) h t m c is = absurd (none_there t c)
-run_by r (tree.parentheses s a) h t m c is = absurd (none_there t c)
-run_by r (tree.on_value s w a) h t m c is = absurd (none_there t c)
-run_by r (tree.on_place s w a) h t m c is = absurd (none_there t c)
-run_by r (tree.cast s w a) h t m c is = absurd (none_there t c)
-run_by r (tree.index s a i) h t m c is = absurd (none_there t c)
-run_by r (tree.field s a w n) h t m c is = absurd (none_there t c)
-run_by r (tree.unary s o a) h t m c is = absurd (none_there t c)
-run_by r (tree.binary s o site a b) h t m c is = absurd (none_there t c)
+run_by r _ h t m c is = absurd (none_there t c)
 
 -- in functions
 

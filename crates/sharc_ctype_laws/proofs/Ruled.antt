@@ -18,12 +18,11 @@ object_not_null : (b : Base) (n : ℕ) → object b n ≡ null → ⊥
 object_not_null b n h = cc
 
 global_not_null : (f : GlobalForm) (b : Base) (n : ℕ) → global_kind f (object b n) ≡ null → ⊥
-global_not_null Plain b n h = object_not_null b n h
 global_not_null (Array at count) b n h = array_not_null b n h
   where
     array_not_null : (c : Base) (m : ℕ) → array c m ≡ null → ⊥
     array_not_null c m i = cc
-global_not_null (Initial at minus c) b n h = object_not_null b n h
+global_not_null _ b n h = object_not_null b n h
 
 function_not_null : kinds.function ≡ null → ⊥
 function_not_null h = cc
@@ -32,28 +31,13 @@ lvalue_not_null : (r : Resolution) (e : Expression) (k : Kind) → HasType r e k
 lvalue_not_null r _ _ (a_variable is at spelled) l h = object_not_null _ _ h
 lvalue_not_null r _ _ (a_global {g = g} is at spelled) l h = global_not_null g.form _ _ h
 lvalue_not_null r _ _ (a_function c) l h = function_not_null h
-lvalue_not_null r _ _ a_constant l h = false≢true l
 lvalue_not_null r _ _ (in_parentheses a) l h = lvalue_not_null r _ _ a l h
 lvalue_not_null r _ _ (element_of_pointer a i t) l h = object_not_null _ _ h
 lvalue_not_null r _ _ (element_of_array a i t) l h = object_not_null _ _ h
-lvalue_not_null r _ _ (a_call c a) l h = false≢true l
 lvalue_not_null r _ _ (a_field a m is) l h = object_not_null _ _ h
 lvalue_not_null r _ _ (a_field_behind a m is) l h = object_not_null _ _ h
-lvalue_not_null r _ _ (negated a i c) l h = false≢true l
-lvalue_not_null r _ _ (complemented a i c) l h = false≢true l
-lvalue_not_null r _ _ (denied a s) l h = false≢true l
 lvalue_not_null r _ _ (pointed_to a) l h = object_not_null _ _ h
-lvalue_not_null r _ _ (arithmetic o a b i j c) l h = false≢true l
-lvalue_not_null r _ _ (shifted o a b i j c) l h = false≢true l
-lvalue_not_null r _ _ (related o a b i j) l h = false≢true l
-lvalue_not_null r _ _ (equated o a b c) l h = false≢true l
-lvalue_not_null r _ _ (joined o a b i j) l h = false≢true l
-lvalue_not_null r _ _ (spawned c a) l h = false≢true l
-lvalue_not_null r _ _ (printed_or_joined a i) l h = false≢true l
-lvalue_not_null r _ _ (locked m a) l h = false≢true l
-lvalue_not_null r _ _ (unlocked m a) l h = false≢true l
-lvalue_not_null r _ _ (freed m a p) l h = false≢true l
-lvalue_not_null r _ _ (a_cast m a p) l h = false≢true l
+lvalue_not_null r _ _ _ l h = false≢true l
 
 held_scalar : (k : Kind) → IsScalar k → (k ≡ null → ⊥) → IsHeld k
 held_scalar k (inl i) n = inl i
@@ -64,12 +48,10 @@ held_scalar k (inr (inr z)) n = absurd (n z)
 
 held_object : (structs : StructTable) (b : Base) (n : ℕ) → Stands structs b → is_aggregate (object b n) ≡ false → IsHeld (object b n)
 held_object structs b (suc n) s h = inr (pointer_is (object b (suc n)) (lt-ltb 0 (suc n) (omega arith)))
-held_object structs base.Int zero s h = inl (integer_is (object base.Int 0) refl)
-held_object structs base.Char zero s h = inl (integer_is (object base.Char 0) refl)
-held_object structs base.Long zero s h = inl (integer_is (object base.Long 0) refl)
 held_object structs base.Mutex zero s h = absurd (true≢false h)
 held_object structs base.Void zero s h = absurd s
 held_object structs (base.Struct x) zero s h = absurd (true≢false h)
+held_object structs k zero s h = inl (integer_is (object k 0) refl)
 
 -- right sides
 

@@ -13,18 +13,14 @@ use Rattle.sharc_lemmas.proofs.Options.{same_some}
 
 -- a base that objects have: no `void`, and no struct that is not known
 abbrev pub Stands : StructTable → Base → Type 0
-Stands structs Int = Unit {0}
-Stands structs Char = Unit {0}
-Stands structs Long = Unit {0}
-Stands structs Mutex = Unit {0}
 Stands structs Void = ⊥
 Stands structs (Struct name) = (m : StructMeaning) × (struct_of structs name ≡ Some m)
+Stands structs _ = Unit {0}
 
 abbrev pub IsSolid : StructTable → Kind → Type 0
 IsSolid structs (object b n) = Stands structs b
 IsSolid structs (array b n) = Stands structs b
-IsSolid structs null = Unit {0}
-IsSolid structs kinds.function = Unit {0}
+IsSolid structs _ = Unit {0}
 
 -- the type of a result may be `void`
 abbrev pub IsResult : StructTable → Kind → Type 0
@@ -85,12 +81,8 @@ found_field r structs (x ∷ rest) name d all is =
 -- what is needed is met
 
 some : (r : Resolution) (structs : StructTable) (b : Base) (e : Expression) → Stands structs b → Held r (misfit_of b e) → ⊥
-some r structs Int e s h = no_fault r _ _ _ h
-some r structs Char e s h = no_fault r _ _ _ h
-some r structs Long e s h = no_fault r _ _ _ h
-some r structs Mutex e s h = no_fault r _ _ _ h
 some r structs Void e s h = s
-some r structs (Struct name) e s h = no_fault r _ _ _ h
+some r structs _ e s h = no_fault r _ _ _ h
 
 of_object : (r : Resolution) (structs : StructTable) (b : Base) (e : Expression) (z : Bool) → Stands structs b → Held r (cond z (misfit_of b e) (mismatch e)) → ⊥
 of_object r structs b e true s h = some r structs b e s h
@@ -98,9 +90,7 @@ of_object r structs b e false s h = no_fault r _ _ _ h
 
 of_solid : (r : Resolution) (structs : StructTable) (k : Kind) (e : Expression) → IsSolid structs k → Held r (misfit k e) → ⊥
 of_solid r structs (object b n) e s h = of_object r structs b e (n == 0) s h
-of_solid r structs (array b n) e s h = no_fault r _ _ _ h
-of_solid r structs null e s h = no_fault r _ _ _ h
-of_solid r structs kinds.function e s h = no_fault r _ _ _ h
+of_solid r structs _ e s h = no_fault r _ _ _ h
 
 pub misfit_told : (r : Resolution) (structs : StructTable) (k : Kind) (e : Expression) → IsValued structs e k → Held r (misfit k e) → ⊥
 misfit_told r structs k e (inl s) h = of_solid r structs k e s h
@@ -126,28 +116,18 @@ known_by : (o : Option StructMeaning) (m : StructMeaning) → o ≡ Some m → i
 known_by o m is = ap is_some is
 
 pub base_known : (r : Resolution) (structs : StructTable) (token : ℕ) (b : Base) → Held r (base_notes structs token b) → is_known structs b ≡ true
-base_known r structs token Int h = refl
-base_known r structs token Char h = refl
-base_known r structs token Long h = refl
-base_known r structs token Mutex h = refl
-base_known r structs token Void h = refl
 base_known r structs token (Struct name) h = let m = a_struct_known r token (struct_of structs name) h in known_by _ m.0 m.1
+base_known r structs token _ h = refl
 
 base_stands : (r : Resolution) (structs : StructTable) (token : ℕ) (where_ : Role) (b : Base) (stars : ℕ) → holds_void where_ ≡ false → Held r (base_notes structs token b) → is_allowed where_ b stars ≡ true → Stands structs b
-base_stands r structs token where_ Int stars v h a = tt
-base_stands r structs token where_ Char stars v h a = tt
-base_stands r structs token where_ Long stars v h a = tt
-base_stands r structs token where_ Mutex stars v h a = tt
 base_stands r structs token where_ Void stars v h a = false≢true (sym v ∙ (and_parts (stars == 0) (holds_void where_) a).1)
 base_stands r structs token where_ (Struct name) stars v h a = a_struct_known r token (struct_of structs name) h
+base_stands r structs token where_ _ stars v h a = tt
 
 result_stands : (r : Resolution) (structs : StructTable) (token : ℕ) (b : Base) (stars : ℕ) → Held r (base_notes structs token b) → is_allowed role.Result b stars ≡ true → IsResult structs (object b stars)
-result_stands r structs token Int stars h a = inl tt
-result_stands r structs token Char stars h a = inl tt
-result_stands r structs token Long stars h a = inl tt
-result_stands r structs token Mutex stars h a = inl tt
 result_stands r structs token Void stars h a = inr (ap (object Void) (eqb-true stars 0 (and_parts (stars == 0) true a).0))
 result_stands r structs token (Struct name) stars h a = inl (a_struct_known r token (struct_of structs name) h)
+result_stands r structs token _ stars h a = inl tt
 
 pub type_base : (r : Resolution) (scope : Scope) (siblings : List Declaration) (where_ : Role) (w : WrittenType) → Held r (type_notes scope siblings where_ w) → Held r (base_notes scope.structs w.base.token w.ctype.base)
 type_base r scope siblings where_ w h = left r _ _ (left r _ _ h)

@@ -117,12 +117,8 @@ file_sized items y = by (defines_condition (behind_all no_heads items).scope)
         (sized_or (struct_of (behind_all no_heads items).scope.structs y) (struct_named (structs_in items) y) (bytes_eq y (codes "cond")) (found y))
 
 base_sized : (items : List Item) (b : Base) → Stands (file_scope items).structs b → base_size (structs_in items) b ≡ base_cells (file_scope items).structs b
-base_sized items base.Int s = refl
-base_sized items base.Char s = refl
-base_sized items base.Long s = refl
-base_sized items base.Mutex s = refl
-base_sized items base.Void s = refl
 base_sized items (base.Struct name) s = file_sized items name s.0 s.1
+base_sized items _ s = refl
 
 type_sized : (items : List Item) (w : WrittenType) (b : Bool) → Stands (file_scope items).structs w.ctype.base → cond b (base_size (structs_in items) w.ctype.base) 1 ≡ cond b (base_cells (file_scope items).structs w.ctype.base) 1
 type_sized items w b s = ap (λ n. cond b n 1) (base_sized items w.ctype.base s)

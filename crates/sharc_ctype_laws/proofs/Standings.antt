@@ -8,18 +8,9 @@ use Rattle.sharc_ctype_laws.proofs.Held.{Held, well}
 use Rattle.sharc_lemmas.proofs.Bools.{no_cell as no_call}
 
 as_value : (r : Resolution) (scope : Scope) (a : Expression) → is_place scope.names a ≡ true → Held r (notes_at AsLvalue scope a) → Held r (notes_of scope a)
-as_value r scope (tree.identifier s i) is h = h
-as_value r scope (tree.constant s c) is h = h
 as_value r scope (tree.parentheses s a) is h = as_value r scope a is h
 as_value r scope (tree.call s f all) is h = absurd (no_call is)
-as_value r scope (tree.spawn s f a) is h = h
-as_value r scope (tree.on_value s w a) is h = h
-as_value r scope (tree.on_place s w a) is h = h
-as_value r scope (tree.cast s t a) is h = h
-as_value r scope (tree.index s a i) is h = h
-as_value r scope (tree.field s a w n) is h = h
-as_value r scope (tree.unary s o a) is h = h
-as_value r scope (tree.binary s o at a b) is h = h
+as_value r scope _ is h = h
 
 pub lvalue_held : (r : Resolution) (scope : Scope) (a : Expression) → Held r (notes_at AsLvalue scope a) → Held r (place_notes scope.names a) → Held r (notes_of scope a)
 lvalue_held r scope a h p = as_value r scope a (well r (is_place scope.names a) (place a) NoLvalue p) h

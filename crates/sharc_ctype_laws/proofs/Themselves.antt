@@ -81,18 +81,13 @@ own_local : (r : Resolution) (around : Around) (scope : Scope) (l : Local) → H
 own_local r around scope l h = (head_named r _ _ _ (right r (type_notes scope [] role.Local l.declaration.written) _ (left r _ _ h)), tt)
 
 own_first : (r : Resolution) (around : Around) (scope : Scope) (f : First) → Held r (first_notes around scope f) → AllByRecursion (Own r named.Variable) (first_locals f)
-own_first r around scope nothing h = tt
 own_first r around scope (declares l) h = own_local r around scope l h
-own_first r around scope (does x) h = tt
+own_first r around scope _ h = tt
 
 mutual
   own_locals : (r : Resolution) (around : Around) (scope : Scope) (a : Statement) → Held r (notes_in around scope a) → AllByRecursion (Own r named.Variable) (locals_in a)
-  own_locals r around scope (tree.empty s) h = tt
   own_locals r around scope (tree.block s all) h = all_own_locals r (opened around scope.names) scope all h
   own_locals r around scope (tree.declare s l) h = own_local r around scope l h
-  own_locals r around scope (tree.simple s x) h = tt
-  own_locals r around scope (tree.jump s j) h = tt
-  own_locals r around scope (tree.return s e) h = tt
   own_locals r around scope (tree.if_then s e a) h = own_locals r (opened around scope.names) scope a (right r _ _ h)
   own_locals r around scope (tree.if_then_else s e a b) h =
       both (Own r named.Variable) (locals_in a) (locals_in b) (own_locals r (opened around scope.names) scope a (right r _ _ (left r _ _ h))) (own_locals r (opened around scope.names) scope b (right r _ _ h))
@@ -100,6 +95,7 @@ mutual
   own_locals r around scope (tree.for s x a) h =
       both (Own r named.Variable) (first_locals x.first) (locals_in a) (own_first r (opened around scope.names) scope x.first (left r _ _ (left r _ _ (left r _ _ h))))
       (own_locals r (looping (opened around (behind_first (opened around scope.names) scope.names x.first))) (in_head (opened around scope.names) scope x) a (right r _ _ h))
+  own_locals r around scope _ h = tt
 
   all_own_locals : (r : Resolution) (around : Around) (scope : Scope) (all : Statements) → Held r (notes_in_all around scope all) → AllByRecursion (Own r named.Variable) (locals_in_all all)
   all_own_locals r around scope no_statements h = tt

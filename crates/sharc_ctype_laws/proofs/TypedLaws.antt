@@ -148,17 +148,7 @@ names_found r p j = by p.expression j.held
   where
     by : (e : Expression) → Held r (notes_of p.scope e) → NamesFound r p e
     by (tree.identifier s i) h = let n = named_by r i (look_up p.scope.names i.text) h in (n.entry, n.found, n.names)
-    by (tree.constant s c) h = tt
-    by (tree.parentheses s a) h = tt
-    by (tree.call s f all) h = tt
-    by (tree.spawn s f a) h = tt
-    by (tree.on_value s w a) h = tt
-    by (tree.on_place s w a) h = tt
-    by (tree.cast s t a) h = tt
-    by (tree.index s a i) h = tt
-    by (tree.field s a w n) h = tt
-    by (tree.unary s o a) h = tt
-    by (tree.binary s o at a b) h = tt
+    by _ h = tt
 
 pub each_names_found : EachNamesFound
 each_names_found r resolved placed low =

@@ -8,7 +8,7 @@ use Rattle.sharc_names.specs.declared.types.Role.{Role}
 use Rattle.sharc_names.specs.declared.types.Role.TheVariants as role
 use Rattle.sharc_ctype.specs.{declared.entity.Entity.Entity, declared.entity.Numbered.Numbered, Entities.{declared, cast_entity, casts, local_entities, first_entities, head_entities, statement_entities, statements_entities, result_of, item_entities, entities_in, positions_of, numbered_from, is_told_by}, Resolved.Resolution}
 use Rattle.sharc_ctype_laws.specs.{Found.IsFound, WrittenTypes.{types_in, types_in_arguments, types_in_option, types_in_right, types_in_simple, types_in_local, types_in_first, types_in_head, types_in_statement, types_in_statements, types_in_declarations, types_in_item, types_in_items, IsNamedType}}
-use Rattle.sharc_ctype_laws.proofs.{Counts.one, OwnTokens.{one_same, one_other}}
+use Rattle.sharc_ctype_laws.proofs.{Counts.one, OwnTokens.{one_same, one_other, one_low}}
 use Rattle.sharc_lemmas.proofs.Lists.{front, back, both, together}
 
 -- how many marks are at a token, and how much begins there that has a type
@@ -41,14 +41,7 @@ keyword_low t n _ = omega arith
 kind_low : (t n : ℕ) (k : TokenKind) (text : List ℕ) → marked t (kind_marks k text n) ≤ one t n
 unfolding marked
 kind_low t n (kind.Keyword k) text = keyword_low t n k
-kind_low t n kind.Identifier text = omega arith
-kind_low t n (kind.Number v) text = omega arith
-kind_low t n (kind.Character c) text = omega arith
-kind_low t n (kind.Punctuator p) text = omega arith
-kind_low t n kind.LeftOut text = omega arith
-
-one_low : (t n : ℕ) → one t n ≤ 1
-one_low t n = ⊎_elim (λ e. let f = ap (one t) e in let g = one_same t in omega (arith, f, g)) (λ e. let f = one_other t n e in omega (arith, f)) (cases_eq n t)
+kind_low t n _ text = omega arith
 
 unmarked : (t : ℕ) → marked t [] ≡ 0
 unfolding marked
@@ -100,8 +93,6 @@ casts_side t a b x y h k = subst (λ l. begun t l ≤ marked t (x ++ y)) (sym (c
 
 mutual
   cast_most : (t : ℕ) (e : Expression) → begun t (casts (expressions e)) ≤ marked t (marks e)
-  cast_most t (tree.identifier s i) = none_most t _
-  cast_most t (tree.constant s c) = none_most t _
   cast_most t (tree.parentheses s a) = cast_most t a
   cast_most t (tree.call s f all) = behind t (casts (in_arguments all)) (name_marks f) (arguments_marks all) (arguments_most t all)
   cast_most t (tree.spawn s f a) = behind t (casts (expressions a)) (name_marks f) (marks a) (cast_most t a)
@@ -112,6 +103,7 @@ mutual
   cast_most t (tree.field s a w n) = before t (casts (expressions a)) (marks a) (name_marks n) (cast_most t a)
   cast_most t (tree.unary s o a) = cast_most t a
   cast_most t (tree.binary s o at a b) = casts_side t (expressions a) (expressions b) (marks a) (marks b) (cast_most t a) (cast_most t b)
+  cast_most t _ = none_most t _
 
   arguments_most : (t : ℕ) (all : Arguments) → begun t (casts (in_arguments all)) ≤ marked t (arguments_marks all)
   arguments_most t no_arguments = none_most t _
@@ -159,11 +151,9 @@ head_most t h =
 
 mutual
   statement_most : (t : ℕ) (a : Statement) → begun t (statement_entities a) ≤ marked t (statement_marks a)
-  statement_most t (tree.empty s) = none_most t _
   statement_most t (tree.block s all) = statements_most t all
   statement_most t (tree.declare s l) = local_most t l
   statement_most t (tree.simple s x) = simple_most t x
-  statement_most t (tree.jump s j) = none_most t _
   statement_most t (tree.return s e) = option_most t e
   statement_most t (tree.if_then s e a) = side t (casts (expressions e)) (statement_entities a) (marks e) (statement_marks a) (cast_most t e) (statement_most t a)
   statement_most t (tree.if_then_else s e a b) =
@@ -171,6 +161,7 @@ mutual
       (side t (casts (expressions e)) (statement_entities a) (marks e) (statement_marks a) (cast_most t e) (statement_most t a)) (statement_most t b)
   statement_most t (tree.while s e a) = side t (casts (expressions e)) (statement_entities a) (marks e) (statement_marks a) (cast_most t e) (statement_most t a)
   statement_most t (tree.for s h a) = side t (head_entities h) (statement_entities a) (head_marks h) (statement_marks a) (head_most t h) (statement_most t a)
+  statement_most t _ = none_most t _
 
   statements_most : (t : ℕ) (all : Statements) → begun t (statements_entities all) ≤ marked t (statements_marks all)
   statements_most t no_statements = none_most t _
@@ -237,8 +228,6 @@ module _ (P : WrittenType → Type 0) where
 
   mutual
     cast_types : (e : Expression) → AllByRecursion P (types_in e) → AllByRecursion Q (casts (expressions e))
-    cast_types (tree.identifier s i) h = tt
-    cast_types (tree.constant s c) h = tt
     cast_types (tree.parentheses s a) h = cast_types a h
     cast_types (tree.call s f all) h = arguments_types all h
     cast_types (tree.spawn s f a) h = cast_types a h
@@ -249,6 +238,7 @@ module _ (P : WrittenType → Type 0) where
     cast_types (tree.field s a w n) h = cast_types a h
     cast_types (tree.unary s o a) h = cast_types a h
     cast_types (tree.binary s o at a b) h = casts_both (expressions a) (expressions b) (cast_types a (front P (types_in a) (types_in b) h)) (cast_types b (back P (types_in a) (types_in b) h))
+    cast_types _ h = tt
 
     arguments_types : (all : Arguments) → AllByRecursion P (types_in_arguments all) → AllByRecursion Q (casts (in_arguments all))
     arguments_types no_arguments h = tt
@@ -293,11 +283,9 @@ module _ (P : WrittenType → Type 0) where
 
   mutual
     statement_types : (a : Statement) → AllByRecursion P (types_in_statement a) → AllByRecursion Q (statement_entities a)
-    statement_types (tree.empty s) h = tt
     statement_types (tree.block s all) h = statements_types all h
     statement_types (tree.declare s l) h = local_types l h
     statement_types (tree.simple s x) h = simple_types x h
-    statement_types (tree.jump s j) h = tt
     statement_types (tree.return s e) h = option_types e h
     statement_types (tree.if_then s e a) h = both Q (casts (expressions e)) (statement_entities a) (cast_types e (front P (types_in e) (types_in_statement a) h)) (statement_types a (back P (types_in e) (types_in_statement a) h))
     statement_types (tree.if_then_else s e a b) h =
@@ -307,6 +295,7 @@ module _ (P : WrittenType → Type 0) where
         (statement_types b (back P (types_in e ++ types_in_statement a) (types_in_statement b) h))
     statement_types (tree.while s e a) h = both Q (casts (expressions e)) (statement_entities a) (cast_types e (front P (types_in e) (types_in_statement a) h)) (statement_types a (back P (types_in e) (types_in_statement a) h))
     statement_types (tree.for s x a) h = both Q (head_entities x) (statement_entities a) (head_types x (front P (types_in_head x) (types_in_statement a) h)) (statement_types a (back P (types_in_head x) (types_in_statement a) h))
+    statement_types _ h = tt
 
     statements_types : (all : Statements) → AllByRecursion P (types_in_statements all) → AllByRecursion Q (statements_entities all)
     statements_types no_statements h = tt

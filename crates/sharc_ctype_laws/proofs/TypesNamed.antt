@@ -10,7 +10,7 @@ use Rattle.sharc_names.specs.declared.types.Role.TheVariants as role
 use Rattle.sharc_names.specs.Names as meaning
 use Rattle.sharc_ctype.specs.{Expressions.{notes_of, notes_of_all, count, wanted}, Items.{in_body, fields_notes, parameters_notes, item_notes, items_notes}, Resolved.{Resolution, named_at, declarations_of, declarations_in}, Statements.{Around, opened, looping, with_names, declared, count_notes, right_notes, simple_notes, initial_notes, local_notes, return_notes, first_notes as first_part_notes, behind_first, tests_notes, step_notes, in_head, head_notes, after, notes_in, notes_in_all, first_locals, locals_in, locals_in_all}}
 use Rattle.sharc_ctype_laws.specs.{Constraints.IsMemberOf, WrittenTypes.{types_in, types_in_arguments, types_in_option, types_in_right, types_in_simple, types_in_local, types_in_first, types_in_head, types_in_statement, types_in_statements, types_in_declarations, types_in_item, types_in_items, NamesStruct, IsNamedBase, FirstNames, a_field, a_variable, a_global, a_function, a_known_call, IsNamedPath, IsNamedLevel, IsNamedType}}
-use Rattle.sharc_ctype_laws.proofs.{Exact.path_kind, FileScene.{fields_are, body_scene}, Held.{Held, left, right, no_fault, not_wrong, head_named, behind_head, second_held}, Judged.{not_main_text, struct_behind_is, member_of}, Scenes.{IsSolid, IsMeant, IsField, IsStruct, IsScene, found_or_later, found_name, found_struct, found_field, type_solid}, Walked.{AreDeclared, scene_with, declared_meant, local_scene, head_scene, after_scene}, Standings.lvalue_held}
+use Rattle.sharc_ctype_laws.proofs.{Exact.path_kind, FileScene.{fields_are, body_scene}, Held.{Held, left, right, no_fault, not_wrong, head_named, behind_head, second_held}, Judged.{not_main_text, struct_behind_is, member_of, not_main_kind as kind_is}, Scenes.{IsSolid, IsMeant, IsField, IsStruct, IsScene, found_or_later, found_name, found_struct, found_field, type_solid}, Walked.{AreDeclared, scene_with, declared_meant, local_scene, head_scene, after_scene}, Standings.lvalue_held}
 use Rattle.sharc_lemmas.proofs.{Options.same_some, Lists.{front, back, both}}
 
 -- bases
@@ -24,12 +24,8 @@ struct_by r scope scene token name None is h = absurd (no_fault r _ _ _ h)
 struct_by r scope scene token name (Some m) is h = struct_meant r scope.structs token name m (found_struct r scope.structs scope.structs name m scene.structs is) (head_named r _ _ _ h)
 
 base_named : (r : Resolution) (scope : Scope) → IsScene r scope → (token : ℕ) (b : Base) → Held r (base_notes scope.structs token b) → IsNamedBase r token b
-base_named r scope scene token base.Int h = tt
-base_named r scope scene token base.Char h = tt
-base_named r scope scene token base.Long h = tt
-base_named r scope scene token base.Mutex h = tt
-base_named r scope scene token base.Void h = tt
 base_named r scope scene token (base.Struct name) h = struct_by r scope scene token name (struct_of scope.structs name) refl h
+base_named r scope scene token _ h = tt
 
 -- lock paths
 
@@ -49,9 +45,6 @@ name_names r scope scene token name k None is kind h = absurd (no_fault r _ _ _ 
 name_names r scope scene token name k (Some e) is kind h =
     subst (FirstNames r token name) (same_some _ _ (sym (kind_is e.meaning (not_wrong r (is_main e.meaning) token BadForm (behind_head r _ _ _ h))) ∙ kind))
     (entry_names r scope.structs token name e.meaning (found_name r scope.structs scope.names name e scene.names is) (not_wrong r (is_main e.meaning) token BadForm (behind_head r _ _ _ h)) (head_named r _ _ _ h))
-  where
-    kind_is : (m : Meaning) → is_main m ≡ false → cond (is_main m) None (Some (kind_of m)) ≡ Some (kind_of m)
-    kind_is m n = ap (λ b. cond b None (Some (kind_of m))) n
 
 first_names : (r : Resolution) (scope : Scope) → IsScene r scope → (siblings : List Declaration) → AllByRecursion (IsField r scope.structs) siblings → (token : ℕ) (name : List ℕ) (k : Kind) (o : Option Declaration) → field_of siblings name ≡ o
     → first_kind o (look_up scope.names name) ≡ Some k → Held r (first_notes token o (look_up scope.names name)) → FirstNames r token name k
@@ -84,12 +77,8 @@ path_named r scope scene siblings all (Through x token m) h =
     (s.struct, s.member, subst (FirstNames r token x) s.is (first_names r scope scene siblings all token x k.kind (field_of siblings x) refl k.is (left r _ _ h)), s.of, s.names)
 
 level_named : (r : Resolution) (scope : Scope) → IsScene r scope → (siblings : List Declaration) → AllByRecursion (IsField r scope.structs) siblings → (m : Option Mode) → Held r (mode_notes scope siblings m) → IsNamedLevel r m
-level_named r scope scene siblings all None h = tt
-level_named r scope scene siblings all (Some Private) h = tt
-level_named r scope scene siblings all (Some Readonly) h = tt
 level_named r scope scene siblings all (Some (Locked path)) h = path_named r scope scene siblings all path h
-level_named r scope scene siblings all (Some Racy) h = tt
-level_named r scope scene siblings all (Some Dynamic) h = tt
+level_named r scope scene siblings all _ h = tt
 
 levels_named : (r : Resolution) (scope : Scope) → IsScene r scope → (siblings : List Declaration) → AllByRecursion (IsField r scope.structs) siblings → (levels : List (Option Mode)) → Held r (modes_notes scope siblings levels) → AllByRecursion (IsNamedLevel r) levels
 levels_named r scope scene siblings all [] h = tt
@@ -102,8 +91,6 @@ type_named r scope scene siblings all where_ w h = record { base = base_named r 
 
 mutual
   named_types : (r : Resolution) (scope : Scope) → IsScene r scope → (e : Expression) → Held r (notes_of scope e) → AllByRecursion (IsNamedType r) (types_in e)
-  named_types r scope scene (tree.identifier s i) h = tt
-  named_types r scope scene (tree.constant s c) h = tt
   named_types r scope scene (tree.parentheses s a) h = named_types r scope scene a h
   named_types r scope scene (tree.call s f all) h = named_arguments r scope scene (wanted (count all) (look_up scope.names f.text)) all (right r _ _ h)
   named_types r scope scene (tree.spawn s f a) h = named_types r scope scene a (left r _ _ (left r _ _ (left r _ _ h)))
@@ -115,6 +102,7 @@ mutual
   named_types r scope scene (tree.unary s o a) h = named_types r scope scene a (left r _ _ h)
   named_types r scope scene (tree.binary s o at a b) h =
       both (IsNamedType r) (types_in a) (types_in b) (named_types r scope scene a (left r _ _ (left r _ _ (left r _ _ (left r _ _ h))))) (named_types r scope scene b (right r _ _ (left r _ _ (left r _ _ h))))
+  named_types r scope scene _ h = tt
 
   named_arguments : (r : Resolution) (scope : Scope) → IsScene r scope → (want : List Kind) (all : Arguments) → Held r (notes_of_all scope want all) → AllByRecursion (IsNamedType r) (types_in_arguments all)
   named_arguments r scope scene want no_arguments h = tt
@@ -171,11 +159,9 @@ named_return r around scope scene word (Some e) h = named_types r scope scene e 
 
 mutual
   named_statement : (r : Resolution) (around : Around) (scope : Scope) → IsScene r scope → (a : Statement) → AreDeclared r (locals_in a) → Held r (notes_in around scope a) → AllByRecursion (IsNamedType r) (types_in_statement a)
-  named_statement r around scope scene (tree.empty s) d h = tt
   named_statement r around scope scene (tree.block s all) d h = named_statements r (opened around scope.names) scope scene all d h
   named_statement r around scope scene (tree.declare s l) d h = named_local r around scope scene l d h
   named_statement r around scope scene (tree.simple s x) d h = named_simple r scope scene x h
-  named_statement r around scope scene (tree.jump s j) d h = tt
   named_statement r around scope scene (tree.return s e) d h = named_return r around scope scene s.first.token e h
   named_statement r around scope scene (tree.if_then s e a) d h =
       both (IsNamedType r) (types_in e) (types_in_statement a) (named_types r scope scene e (left r _ _ (left r _ _ h))) (named_statement r (opened around scope.names) scope scene a d (right r _ _ h))
@@ -190,6 +176,7 @@ mutual
       both (IsNamedType r) (types_in_head x) (types_in_statement a) (named_head r (opened around scope.names) scope scene x d1 (left r _ _ h))
       (named_statement r (looping (opened around (behind_first (opened around scope.names) scope.names x.first))) (in_head (opened around scope.names) scope x) (head_scene r (opened around scope.names) scope scene x d1 (left r _ _ h)) a
       (back _ (first_locals x.first) (locals_in a) d) (right r _ _ h))
+  named_statement r around scope scene _ d h = tt
 
   named_statements : (r : Resolution) (around : Around) (scope : Scope) → IsScene r scope → (all : Statements) → AreDeclared r (locals_in_all all) → Held r (notes_in_all around scope all) → AllByRecursion (IsNamedType r) (types_in_statements all)
   named_statements r around scope scene no_statements d h = tt

@@ -23,8 +23,6 @@ seen r scope scene e h = record { judged = judged r scope scene e h; held = h }
 
 mutual
   below : (r : Resolution) (scope : Scope) → IsScene r scope → (e : Expression) → Held r (notes_of scope e) → AllByRecursion (IsSeen r scope) (expressions e)
-  below r scope scene (tree.identifier s i) h = (seen r scope scene (tree.identifier s i) h, tt)
-  below r scope scene (tree.constant s c) h = (seen r scope scene (tree.constant s c) h, tt)
   below r scope scene (tree.parentheses s a) h = (seen r scope scene (tree.parentheses s a) h, below r scope scene a h)
   below r scope scene (tree.call s f all) h = (seen r scope scene (tree.call s f all) h, below_all r scope scene (wanted (count all) (look_up scope.names f.text)) all (right r _ _ h))
   below r scope scene (tree.spawn s f a) h = (seen r scope scene (tree.spawn s f a) h, below r scope scene a (left r _ _ (left r _ _ (left r _ _ h))))
@@ -39,6 +37,7 @@ mutual
     seen r scope scene (tree.binary s o at a b) h,
     both _ (expressions a) (expressions b) (below r scope scene a (left r _ _ (left r _ _ (left r _ _ (left r _ _ h))))) (below r scope scene b (right r _ _ (left r _ _ (left r _ _ h)))),
   )
+  below r scope scene k h = (seen r scope scene k h, tt)
 
   below_all : (r : Resolution) (scope : Scope) → IsScene r scope → (want : List Kind) (all : Arguments) → Held r (notes_of_all scope want all) → AllByRecursion (IsSeen r scope) (in_arguments all)
   below_all r scope scene want no_arguments h = tt
@@ -81,24 +80,15 @@ pub local_scene : (r : Resolution) (around : Around) (scope : Scope) → IsScene
 local_scene r around scope scene l is h = scene_with r scope scene _ (local_meant r around scope scene l is h)
 
 first_meant : (r : Resolution) (around : Around) (scope : Scope) → IsScene r scope → (f : First) → AreDeclared r (first_locals f) → Held r (first_notes around scope f) → AreMeant r scope.structs (behind_first around scope.names f)
-first_meant r around scope scene nothing d h = scene.names
 first_meant r around scope scene (declares l) d h = local_meant r around scope scene l d.0 h
-first_meant r around scope scene (does x) d h = scene.names
+first_meant r around scope scene _ d h = scene.names
 
 pub head_scene : (r : Resolution) (around : Around) (scope : Scope) → IsScene r scope → (x : Head) → AreDeclared r (first_locals x.first) → Held r (head_notes around scope x) → IsScene r (in_head around scope x)
 head_scene r around scope scene x d h = scene_with r scope scene _ (first_meant r around scope scene x.first d (left r _ _ (left r _ _ h)))
 
 after_meant : (r : Resolution) (around : Around) (scope : Scope) → IsScene r scope → (a : Statement) → AreDeclared r (locals_in a) → Held r (notes_in around scope a) → AreMeant r scope.structs (after around scope.names a)
-after_meant r around scope scene (tree.empty s) d h = scene.names
-after_meant r around scope scene (tree.block s all) d h = scene.names
 after_meant r around scope scene (tree.declare s l) d h = local_meant r around scope scene l d.0 h
-after_meant r around scope scene (tree.simple s x) d h = scene.names
-after_meant r around scope scene (tree.jump s j) d h = scene.names
-after_meant r around scope scene (tree.return s e) d h = scene.names
-after_meant r around scope scene (tree.if_then s e a) d h = scene.names
-after_meant r around scope scene (tree.if_then_else s e a b) d h = scene.names
-after_meant r around scope scene (tree.while s e a) d h = scene.names
-after_meant r around scope scene (tree.for s x a) d h = scene.names
+after_meant r around scope scene _ d h = scene.names
 
 pub after_scene : (r : Resolution) (around : Around) (scope : Scope) → IsScene r scope → (a : Statement) → AreDeclared r (locals_in a) → Held r (notes_in around scope a) → IsScene r (with_names scope (after around scope.names a))
 after_scene r around scope scene a d h = scene_with r scope scene _ (after_meant r around scope scene a d h)
@@ -137,11 +127,9 @@ below_return r around scope scene word (Some e) h = below r scope scene e (right
 
 mutual
   places : (r : Resolution) (around : Around) (scope : Scope) → IsScene r scope → (a : Statement) → AreDeclared r (locals_in a) → Held r (notes_in around scope a) → AllByRecursion (JudgedAt r) (places_in around scope a)
-  places r around scope scene (tree.empty s) d h = tt
   places r around scope scene (tree.block s all) d h = places_all r (opened around scope.names) scope scene all d h
   places r around scope scene (tree.declare s l) d h = local_places r around scope scene l d.0 h
   places r around scope scene (tree.simple s x) d h = placed r scope (in_simple x) (below_simple r scope scene x h)
-  places r around scope scene (tree.jump s j) d h = tt
   places r around scope scene (tree.return s e) d h = placed r scope _ (below_return r around scope scene s.first.token e h)
   places r around scope scene (tree.if_then s e a) d h =
       both (JudgedAt r) (at scope (expressions e)) _ (placed r scope (expressions e) (below r scope scene e (left r _ _ (left r _ _ h)))) (places r (opened around scope.names) scope scene a d (right r _ _ h))
@@ -158,6 +146,7 @@ mutual
       (both (JudgedAt r) (places_in_first (opened around scope.names) scope x.first) _ (first_places r (opened around scope.names) scope scene x.first d1 (left r _ _ (left r _ _ (left r _ _ h))))
       (placed r _ _ (both _ (in_option expressions x.test) (in_option in_simple x.step) (below_tests r _ inner x.test (right r _ _ (left r _ _ (left r _ _ h)))) (below_step r _ inner x.step (right r _ _ (left r _ _ h))))))
       (places r (looping (opened around (behind_first (opened around scope.names) scope.names x.first))) (in_head (opened around scope.names) scope x) inner a (back _ (first_locals x.first) (locals_in a) d) (right r _ _ h))
+  places r around scope scene _ d h = tt
 
   pub places_all : (r : Resolution) (around : Around) (scope : Scope) → IsScene r scope → (all : Statements) → AreDeclared r (locals_in_all all) → Held r (notes_in_all around scope all) → AllByRecursion (JudgedAt r) (places_in_all around scope all)
   places_all r around scope scene no_statements d h = tt
