@@ -1,8 +1,7 @@
 -- Kinds: which are integers, pointers and scalars, and which agree.
 use Rattle.std.proofs.{Common.{◌≡◌, inl, inr, ◌+◌, ◌-◌, Bool, true, false, ◌&&◌, ◌||◌, cond, refl, ap, ap₂, sym, ◌∙◌, subst, eqb-true}, lemmas.Bool.{false≢true, and_parts}, lemmas.Slice.Eq.bytes_eq-Decides}
 use Rattle.sharc_tree.specs.{declared.ctype.Base.Base, declared.ctype.Base.TheVariants.{Int, Char, Long, Mutex, Void, Struct}}
-use Rattle.sharc_names.specs.Kinds.{Kind, object, array, null, is_integer, is_pointer, is_null, same_base, same_kind}
-use Rattle.sharc_names.specs.Kinds as kinds
+use Rattle.sharc_names.specs.Kinds.{Kind, object, null, is_integer, is_pointer, is_null, same_base, same_kind}
 use Rattle.sharc_ctype_laws.specs.Constraints.{IsInteger, IsPointer, IsScalar, integers, Assignable, integer, pointer, null_pointer}
 use Rattle.sharc_lemmas.proofs.Numbers.{one_less}
 
@@ -22,24 +21,18 @@ one_kind (object a m) (object b n) h = let p = and_parts _ _ h in ap₂ object (
 one_kind _ _ h = absurd (false≢true h)
 
 pub null_is : (k : Kind) → is_null k ≡ true → k ≡ null
-null_is (object b n) h = absurd (false≢true h)
-null_is (array b n) h = absurd (false≢true h)
 null_is null h = refl
-null_is kinds.function h = absurd (false≢true h)
+null_is _ h = absurd (false≢true h)
 
 -- what the tests say
 
 pub integer_is : (k : Kind) → is_integer k ≡ true → IsInteger k
 integer_is (object b n) h = let p = and_parts _ _ h in (b, p.1, ap (object b) (eqb-true n 0 p.0))
-integer_is (array b n) h = absurd (false≢true h)
-integer_is null h = absurd (false≢true h)
-integer_is kinds.function h = absurd (false≢true h)
+integer_is _ h = absurd (false≢true h)
 
 pub pointer_is : (k : Kind) → is_pointer k ≡ true → IsPointer k
 pointer_is (object b n) h = (b, n - 1, ap (object b) (one_less n h))
-pointer_is (array b n) h = absurd (false≢true h)
-pointer_is null h = absurd (false≢true h)
-pointer_is kinds.function h = absurd (false≢true h)
+pointer_is _ h = absurd (false≢true h)
 
 -- the type in which two integers meet
 

@@ -27,21 +27,12 @@ local_known : (r : Resolution) (d : Declaration) → IsFound r (entity_declared 
 local_known r d f = (has_entity r (entity_declared role.Local d) f, f.named)
 
 first_known : (r : Resolution) (around : Around) (names : List Entry) → EntriesKnown r names → (f : First) → AllByRecursion (IsFound r) (first_entities f) → EntriesKnown r (behind_first around names f)
-first_known r around names all nothing h = all
 first_known r around names all (declares l) h = declared_known r around.block l.declaration names all (local_known r l.declaration h.0)
-first_known r around names all (does x) h = all
+first_known r around names all _ h = all
 
 after_known : (r : Resolution) (around : Around) (names : List Entry) → EntriesKnown r names → (a : Statement) → AllByRecursion (IsFound r) (statement_entities a) → EntriesKnown r (after around names a)
-after_known r around names all (tree.empty s) h = all
-after_known r around names all (tree.block s x) h = all
 after_known r around names all (tree.declare s l) h = declared_known r around.block l.declaration names all (local_known r l.declaration h.0)
-after_known r around names all (tree.simple s x) h = all
-after_known r around names all (tree.jump s j) h = all
-after_known r around names all (tree.return s e) h = all
-after_known r around names all (tree.if_then s e a) h = all
-after_known r around names all (tree.if_then_else s e a b) h = all
-after_known r around names all (tree.while s e a) h = all
-after_known r around names all (tree.for s x a) h = all
+after_known r around names all _ h = all
 
 parameters_known : (r : Resolution) (block : ℕ) (names : List Entry) → EntriesKnown r names → (list : List Declaration) → AllByRecursion (IsFound r) (map (entity_declared role.Parameter) list) → EntriesKnown r (with_parameters block names list)
 parameters_known r block names all [] h = all
@@ -123,9 +114,8 @@ module _ (m : Assignment) (w : FileKnown m) where
   first_places around scope known (does x) f k h = list_locked scope known (in_simple x) (simple_good scope x) k h (casts_found r (in_simple x) f)
 
   first_locks : (around : Around) (names : List Entry) (x : First) → Found (first_entities x) → FirstStands r names x → FirstLocks m around names x
-  first_locks around names nothing f h = tt
   first_locks around names (declares l) f h = local_locks around.block names l.declaration f.0 h
-  first_locks around names (does x) f h = tt
+  first_locks around names _ f h = tt
 
   -- ---- statements
 
@@ -153,7 +143,6 @@ module _ (m : Assignment) (w : FileKnown m) where
 
   mutual
     locked_in : (around : Around) (scope : Scope) (a : Statement) → Given around scope a → AreLocked around scope a
-    locked_in around scope (tree.empty s) g = record { places = tt; locals = tt }
     locked_in around scope (tree.block s all) g =
         let x = all_locked_in (opened around scope.names) scope all (record { known = g.known; found = g.found; places = g.places; typed = g.typed; stand = g.stand }) in
         record { places = x.places; locals = x.locals }
@@ -162,7 +151,6 @@ module _ (m : Assignment) (w : FileKnown m) where
       locals = local_locks around.block scope.names l.declaration g.found.0 g.stand;
     }
     locked_in around scope (tree.simple s x) g = record { places = list_locked scope g.known (in_simple x) (simple_good scope x) g.places g.typed (casts_found r (in_simple x) g.found); locals = tt }
-    locked_in around scope (tree.jump s j) g = record { places = tt; locals = tt }
     locked_in around scope (tree.return s e) g = record { places = list_locked scope g.known (in_option expressions e) (option_good scope e) g.places g.typed (casts_found r (in_option expressions e) g.found); locals = tt }
     locked_in around scope (tree.if_then s e a) g =
         let inside = opened around scope.names in
@@ -258,6 +246,7 @@ module _ (m : Assignment) (w : FileKnown m) where
               x.places;
           locals = (first_locks outer scope.names h.first ff g.stand.0, x.locals);
         }
+    locked_in around scope _ g = record { places = tt; locals = tt }
 
     all_locked_in : (around : Around) (scope : Scope) (a : Statements) → AllGiven around scope a → AllAreLocked around scope a
     all_locked_in around scope no_statements g = record { places = tt; locals = tt }

@@ -1,14 +1,14 @@
 -- The modes of what has a type: what their lock paths name is in scope where that of the type's own paths is.
 use Rattle.std.proofs.Common.{◌≡◌, ℕ, zero, suc, ◌+◌, ◌-◌, ◌<◌, ◌==◌, Bool, true, false, cond, List, [], ◌∷◌, ◌++◌, length, map, take, drop, refl, ap, sym, ◌∙◌, subst, arith, lt-ltb, Option, Some, None}
 use Rattle.std.specs.{Prelude.slice_index_or, List.{AllByRecursion, find}, Option.option_or}
-use Rattle.sharc_tree.specs.{declared.ctype.Base.Base, declared.ctype.Path.TheVariants.{One, Through}, declared.ctype.Mode.Mode, declared.ctype.Mode.TheVariants.{Private, Readonly, Locked, Racy, Dynamic}, declared.tree.declaration.WrittenType.WrittenType}
+use Rattle.sharc_tree.specs.{declared.ctype.Base.Base, declared.ctype.Path.TheVariants.{One, Through}, declared.ctype.Mode.Mode, declared.ctype.Mode.TheVariants.{Private, Locked, Racy}, declared.tree.declaration.WrittenType.WrittenType}
 use Rattle.sharc_names.specs.{declared.fault.Named.Named, declared.types.Role.Role, Kinds.{Kind, is_pointer}, Names.Entry}
 use Rattle.sharc_names.specs.declared.fault.Named.TheVariants as named
 use Rattle.sharc_names.specs.declared.types.Role.TheVariants as role
 use Rattle.sharc_ctype.specs.{declared.entity.Entity.Entity, declared.entity.Numbered.Numbered, Entities.{entities_in, entity_at, is_told_by, numbered_from, positions_of, written_modes, first_depth}, Resolved.{Resolution, named_at, declaration_at, variable_kind}}
 use Rattle.sharc_ctype_laws.specs.{Found.IsFound, Paths.{IsAmong, LevelStands, TypeStands}, WrittenTypes.{FirstNames, a_field, a_variable, a_global, a_function, a_known_call, IsNamedLevel, IsNamedType}}
-use Rattle.sharc_graph.specs.{declared.graph.NodeFinding.NodeFinding, declared.graph.NodeFinding.TheVariants.{Apart, Source, Behind}, Findings.finding_at}
-use Rattle.sharc_mode.specs.{Cells.{first_of, pointed}, Flows.{IsLeastAssignment, mode_found}, Moded.{Assignment, mode_at}, Rows.{PathReading, written, through, Targets, deeper, targets_from, entity_row, read}, Settled.{is_mutex, settled, field_target, otherwise_of, settled_modes, settled_in, settled_at}, Sharings.{Sharing, private, readonly, locked, racy, dynamic, sharing_of, text_at, is_sibling_lock}}
+use Rattle.sharc_graph.specs.{declared.graph.NodeFinding.NodeFinding, declared.graph.NodeFinding.TheVariants.Apart, Findings.finding_at}
+use Rattle.sharc_mode.specs.{Cells.{first_of, pointed}, Flows.{IsLeastAssignment, mode_found}, Moded.{Assignment, mode_at}, Rows.{PathReading, written, through, Targets, deeper, targets_from, entity_row, read}, Settled.{is_mutex, settled, field_target, otherwise_of, settled_modes, settled_in, settled_at}, Sharings.{Sharing, private, locked, sharing_of, text_at, is_sibling_lock}}
 use Rattle.sharc_flat_laws.specs.Stands.{PathNamedIn, PathIn}
 use Rattle.sharc_lemmas.proofs.Options.{same_some, none_some}
 
@@ -32,7 +32,7 @@ no_global t u e = cc
 pub no_function : (t u : ℕ) → named.Function t ≡ named.Variable u → ⊥
 no_function t u e = cc
 
-no_known : (u : ℕ) → named.Known ≡ named.Variable u → ⊥
+pub no_known : (u : ℕ) → named.Known ≡ named.Variable u → ⊥
 no_known u e = cc
 
 -- the type of the variable that a first name names
@@ -44,29 +44,17 @@ first_kind r token text _ (a_function is at same other) t n = absurd (no_functio
 first_kind r token text _ (a_known_call c is same) t n = absurd (no_known _ (sym is ∙ n))
 
 named_in : (r : Resolution) (names : List Entry) (m : List ℕ) (w : Named) → IsAmong names w → ((t : ℕ) → w ≡ named.Variable t → is_pointer (variable_kind (declaration_at r t)) ≡ true) → PathNamedIn r names w (Some m)
-named_in r names m (named.Struct n) s p = tt
-named_in r names m (named.Global n) s p = tt
-named_in r names m (named.Function n) s p = tt
 named_in r names m (named.Variable t) s p = (s, p t refl)
-named_in r names m (named.Field t) s p = tt
-named_in r names m named.Known s p = tt
+named_in r names m _ s p = tt
 
-alone_in : (r : Resolution) (names : List Entry) (w : Named) → PathNamedIn r names w None
-alone_in r names (named.Struct n) = tt
-alone_in r names (named.Global n) = tt
-alone_in r names (named.Function n) = tt
-alone_in r names (named.Variable t) = tt
+pub alone_in : (r : Resolution) (names : List Entry) (w : Named) → PathNamedIn r names w None
 alone_in r names (named.Field t) = tt
-alone_in r names named.Known = tt
+alone_in r names _ = tt
 
 level_good : (r : Resolution) (names : List Entry) (level : Option Mode) → LevelStands r names level → IsNamedLevel r level → LevelGood r names level
-level_good r names None s n = tt
-level_good r names (Some Private) s n = tt
-level_good r names (Some Readonly) s n = tt
 level_good r names (Some (Locked (One m token))) s n = alone_in r names (named_at r token)
 level_good r names (Some (Locked (Through x token m))) s n = named_in r names m (named_at r token) s (λ t is. ap is_pointer (first_kind r token x _ n.2 t is) ∙ lt-ltb 0 1 (omega arith))
-level_good r names (Some Racy) s n = tt
-level_good r names (Some Dynamic) s n = tt
+level_good r names _ s n = tt
 
 levels_good : (r : Resolution) (names : List Entry) (levels : List (Option Mode)) → AllByRecursion (LevelStands r names) levels → AllByRecursion (IsNamedLevel r) levels → AllByRecursion (LevelGood r names) levels
 levels_good r names [] s n = tt
@@ -90,18 +78,12 @@ module _ (r : Resolution) (names : List Entry) where
   settled_all b otherwise (level ∷ below) o h = (settled_one (is_mutex b below) level otherwise h.0 o, settled_all b otherwise below o h.1)
 
   target_good : (levels : List (Option Mode)) → AllByRecursion Good levels → Good (Some (field_target levels))
-  target_good [] h = tt
-  target_good (None ∷ below) h = tt
   target_good (Some m ∷ below) h = h.0
+  target_good _ h = tt
 
   otherwise_good : (where_ : Role) (levels : List (Option Mode)) → AllByRecursion Good levels → Good (otherwise_of where_ levels)
   otherwise_good role.Field levels h = target_good levels h
-  otherwise_good role.Global levels h = tt
-  otherwise_good role.Local levels h = tt
-  otherwise_good role.Parameter levels h = tt
-  otherwise_good role.Result levels h = tt
-  otherwise_good role.Cast levels h = tt
-  otherwise_good role.Made levels h = tt
+  otherwise_good _ levels h = tt
 
   dropped : (n : ℕ) (levels : List (Option Mode)) → AllByRecursion Good levels → AllByRecursion Good (drop n levels)
   dropped zero levels h = h
@@ -119,8 +101,7 @@ module _ (r : Resolution) (names : List Entry) where
   found_good : (level : Option Mode) (finding : NodeFinding) → Good level → PathIn r names (sharing_of (mode_found level finding))
   found_good (Some mode) finding h = h
   found_good None Apart h = tt
-  found_good None Source h = tt
-  found_good None (Behind rank reason) h = tt
+  found_good None _ h = tt
 
 -- ---- positions
 settled_length : (b : Base) (otherwise : Option Mode) (levels : List (Option Mode)) → length (settled b otherwise levels) ≡ length levels
@@ -199,13 +180,10 @@ deeper_good m names row g = by (row.count == 0)
 
 first_taken : (Q : Sharing → Type 0) (f : Mode → Sharing) (count first : ℕ) (list : List Mode) → Q private → (0 < count → Q (f (slice_index_or list first Private))) → Q (first_of (map f (take count (drop first list))))
 first_taken Q f zero zero [] q h = q
-first_taken Q f (suc c) zero [] q h = q
-first_taken Q f zero zero (x ∷ xs) q h = q
 first_taken Q f (suc c) zero (x ∷ xs) q h = h (omega arith)
-first_taken Q f zero (suc n) [] q h = q
-first_taken Q f (suc c) (suc n) [] q h = q
 first_taken Q f zero (suc n) (x ∷ xs) q h = first_taken Q f zero n xs q h
 first_taken Q f (suc c) (suc n) (x ∷ xs) q h = first_taken Q f (suc c) n xs q h
+first_taken Q f _ _ _ q h = q
 
 pub pointed_good : (m : Assignment) (names : List Entry) (row : Targets) → GoodRow m names row → PathIn m.typed names (pointed m (Some row))
 pointed_good m names row g =
@@ -217,22 +195,16 @@ abbrev pub Reads : Resolution → List Entry → PathReading → Type 0
 Reads r names how = (s : Sharing) → PathIn r names s → PathIn r names (read r how s)
 
 pub reads_written : (r : Resolution) (names : List Entry) → Reads r names written
-reads_written r names private h = tt
-reads_written r names readonly h = tt
 reads_written r names (locked l) h = h
-reads_written r names racy h = tt
-reads_written r names dynamic h = tt
+reads_written r names _ h = tt
 
 pub reads_through : (r : Resolution) (names : List Entry) (at : ℕ) → ((m : List ℕ) → PathNamedIn r names (named_at r at) (Some m)) → Reads r names (through at)
-reads_through r names at p private h = tt
-reads_through r names at p readonly h = tt
 reads_through r names at p (locked l) h = by (is_sibling_lock r l)
   where
     by : (b : Bool) → PathIn r names (locked (cond b (record { first = at; second = Some (text_at r l.first) }) l))
     by true = p (text_at r l.first)
     by false = h
-reads_through r names at p racy h = tt
-reads_through r names at p dynamic h = tt
+reads_through r names at p _ h = tt
 
 pub entity_row_good : (m : Assignment) → IsLeastAssignment m → (names : List Entry) (how : PathReading) → Reads m.typed names how → (n : Numbered) → Position (entities_in m.typed.program.items) 0 n → TypeGood m.typed names n.entity.written
     → GoodRow m names (entity_row how (Some n))
@@ -245,13 +217,8 @@ entity_row_good m least names how reads n w good = by n.entity.role
     all k low = reads (mode_at m (n.first + k)) (mode_good m least names n w good k low)
 
     by : (where_ : Role) → GoodRow m names (targets_from where_ whole)
-    by role.Field = all
     by role.Global = deeper_good m names whole all
-    by role.Local = all
-    by role.Parameter = all
-    by role.Result = all
-    by role.Cast = all
-    by role.Made = all
+    by _ = all
 
 -- what has this type is found at these tokens
 pub record HasEntity (r : Resolution) (first last : ℕ) (w : WrittenType) : Type 0 where

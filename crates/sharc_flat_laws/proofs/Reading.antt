@@ -1,7 +1,7 @@
 -- Each expression whose names are in scope and whose types hold: the lock paths of its cell and of what it points to name pointers in scope.
 use Rattle.std.proofs.{Common.{◌≡◌, inl, inr, ℕ, zero, suc, ◌+◌, ◌<◌, Bool, true, false, cond, List, [], ◌∷◌, length, slice_get, refl, ap, sym, ◌∙◌, subst, arith, lt-ltb, Option, Some, None, is_some, bytes_eq}, lemmas.Bool.false≢true}
 use Rattle.std.specs.List.{AllByRecursion}
-use Rattle.sharc_tree.specs.{declared.ctype.Mode.Mode, declared.ctype.Mode.TheVariants.{Private, Readonly, Locked, Racy, Dynamic}, declared.ctype.Path.TheVariants.{One, Through}, declared.token.Span.Span, declared.tree.declaration.Declaration.Declaration, declared.tree.declaration.Identifier.Identifier, declared.tree.declaration.WrittenType.WrittenType, declared.tree.expression.FieldOperator.FieldOperator, declared.tree.expression.FieldOperator.TheVariants.{Dot, Arrow}, declared.tree.expression.Constant.Constant, declared.tree.expression.UnaryOperator.UnaryOperator, declared.tree.expression.UnaryOperator.TheVariants.{Negate, Not, Complement, Dereference}, declared.tree.item.GlobalDefinition.GlobalDefinition, declared.tree.item.StructDefinition.StructDefinition, Measures.{expressions, in_arguments}, Tree.{Expression, field, identifier, Arguments, no_arguments, argument, Function}}
+use Rattle.sharc_tree.specs.{declared.ctype.Mode.Mode, declared.ctype.Mode.TheVariants.{Readonly, Locked}, declared.ctype.Path.TheVariants.{One, Through}, declared.token.Span.Span, declared.tree.declaration.Declaration.Declaration, declared.tree.declaration.Identifier.Identifier, declared.tree.declaration.WrittenType.WrittenType, declared.tree.expression.FieldOperator.FieldOperator, declared.tree.expression.FieldOperator.TheVariants.{Dot, Arrow}, declared.tree.expression.Constant.Constant, declared.tree.expression.UnaryOperator.UnaryOperator, declared.tree.expression.UnaryOperator.TheVariants.Dereference, declared.tree.item.GlobalDefinition.GlobalDefinition, declared.tree.item.StructDefinition.StructDefinition, Measures.{expressions, in_arguments}, Tree.{Expression, field, identifier, Arguments, no_arguments, argument, Function}}
 use Rattle.sharc_tree.specs.declared.tree.expression.Constant.TheVariants as constants
 use Rattle.sharc_tree.specs.Tree as tree
 use Rattle.sharc_names.specs.{declared.fault.Named.Named, declared.scope.Scope.Scope, Kinds.{Kind, object, is_array, is_pointer, declared_kind}, Names.{Entry, Meaning, field_of, look_up, named_of}}
@@ -13,35 +13,19 @@ use Rattle.sharc_ctype.specs.{Entities.{cast_entity, casts, declared, entities_i
 use Rattle.sharc_mode.specs.{Cells.{is_mutex_kind, written_cell, top_of, declared_cell, field_named, first_mode, global_cell, named_cell, pointed, instance, unary_cell, cell_at}, Flows.IsLeastAssignment, Moded.{Assignment, mode_at}, Rows.{PathReading, written, Targets, is_constant_named, constant_use, base_use, no_row, declared_row, global_row, named_row, result_row, called_row, behind, constant_row, reading_through, unary_row, row_at}, Sharings.{Sharing, private, readonly, locked, racy, lock_of, is_private}}
 use Rattle.sharc_ctype_laws.specs.{Constraints.{HasType, IsMemberOf, struct_named, a_variable, a_global, a_function, a_field, a_field_behind}, Found.IsFound, Laws.NamesFound, Paths.{meaning_token, IsVariableIn, IsAmong, LevelStands, TypeStands, EntryStands, IsClosed, CastStands, PathsAt}, Places.{Placing, at}, WrittenTypes.IsNamedType}
 use Rattle.sharc_flat_laws.specs.Stands.{PathNamedIn, PathIn, LocksAt}
-use Rattle.sharc_flat_laws.proofs.{Pointing.{LevelGood, TypeGood, same_token, no_global, type_good, position_of, mode_good, GoodRow, deeper_good, pointed_good, Reads, reads_written, reads_through, HasEntity, has_entity, good_row}, Scoped.found_or_later}
+use Rattle.sharc_flat_laws.proofs.{Pointing.{LevelGood, TypeGood, same_token, no_global, type_good, position_of, mode_good, GoodRow, deeper_good, pointed_good, Reads, reads_written, reads_through, HasEntity, has_entity, good_row, alone_in as alone_named}, Scoped.found_or_later}
 use Rattle.sharc_lemmas.proofs.Lists.{front, back, both}
 
 -- ---- the types of the file name no variables
 
 file_named : (r : Resolution) (names : List Entry) (m : List ℕ) (n : Named) → IsAmong [] n → PathNamedIn r names n (Some m)
-file_named r names m (named.Struct n) h = tt
-file_named r names m (named.Global n) h = tt
-file_named r names m (named.Function n) h = tt
 file_named r names m (named.Variable t) h = absurd h
-file_named r names m (named.Field t) h = tt
-file_named r names m named.Known h = tt
-
-alone_named : (r : Resolution) (names : List Entry) (n : Named) → PathNamedIn r names n None
-alone_named r names (named.Struct n) = tt
-alone_named r names (named.Global n) = tt
-alone_named r names (named.Function n) = tt
-alone_named r names (named.Variable t) = tt
-alone_named r names (named.Field t) = tt
-alone_named r names named.Known = tt
+file_named r names m _ h = tt
 
 file_level : (r : Resolution) (names : List Entry) (level : Option Mode) → LevelStands r [] level → LevelGood r names level
-file_level r names None h = tt
-file_level r names (Some Private) h = tt
-file_level r names (Some Readonly) h = tt
 file_level r names (Some (Locked (One m token))) h = alone_named r names (named_at r token)
 file_level r names (Some (Locked (Through x token m))) h = file_named r names m (named_at r token) h
-file_level r names (Some Racy) h = tt
-file_level r names (Some Dynamic) h = tt
+file_level r names _ h = tt
 
 file_levels : (r : Resolution) (names : List Entry) (levels : List (Option Mode)) → AllByRecursion (LevelStands r []) levels → AllByRecursion (LevelGood r names) levels
 file_levels r names [] h = tt
@@ -54,21 +38,13 @@ file_type r names w h = file_levels r names w.ctype.levels h
 
 -- what more is in scope does no harm
 wider_named : (small big : List Entry) → ((x : ℕ) → IsVariableIn small x → IsVariableIn big x) → (n : Named) → IsAmong small n → IsAmong big n
-wider_named small big into (named.Struct n) h = tt
-wider_named small big into (named.Global n) h = tt
-wider_named small big into (named.Function n) h = tt
 wider_named small big into (named.Variable t) h = into t h
-wider_named small big into (named.Field t) h = tt
-wider_named small big into named.Known h = tt
+wider_named small big into _ h = tt
 
 wider_level : (r : Resolution) (small big : List Entry) → ((x : ℕ) → IsVariableIn small x → IsVariableIn big x) → (level : Option Mode) → LevelStands r small level → LevelStands r big level
-wider_level r small big into None h = tt
-wider_level r small big into (Some Private) h = tt
-wider_level r small big into (Some Readonly) h = tt
 wider_level r small big into (Some (Locked (One m token))) h = tt
 wider_level r small big into (Some (Locked (Through x token m))) h = wider_named small big into (named_at r token) h
-wider_level r small big into (Some Racy) h = tt
-wider_level r small big into (Some Dynamic) h = tt
+wider_level r small big into _ h = tt
 
 wider_levels : (r : Resolution) (small big : List Entry) → ((x : ℕ) → IsVariableIn small x → IsVariableIn big x) → (levels : List (Option Mode)) → AllByRecursion (LevelStands r small) levels → AllByRecursion (LevelStands r big) levels
 wider_levels r small big into [] h = tt
@@ -80,9 +56,7 @@ wider_type r small big into w h = wider_levels r small big into w.ctype.levels h
 -- a variable of the scope is found by its token
 abbrev pub MeaningKnown : Resolution → Meaning → Type 0
 MeaningKnown r (meaning.variable d) = HasEntity r d.name.site.token d.name.site.token d.written × IsNamedType r d.written
-MeaningKnown r (meaning.global n g) = Unit {0}
-MeaningKnown r (meaning.function n s) = Unit {0}
-MeaningKnown r (meaning.condition k) = Unit {0}
+MeaningKnown r _ = Unit {0}
 
 abbrev pub EntriesKnown : Resolution → List Entry → Type 0
 EntriesKnown r names = AllByRecursion (λ e. MeaningKnown r e.meaning) names
@@ -90,9 +64,7 @@ EntriesKnown r names = AllByRecursion (λ e. MeaningKnown r e.meaning) names
 -- and what its type's paths name is in scope, as it is itself
 abbrev pub MeaningGood : Resolution → List Entry → Meaning → Type 0
 MeaningGood r names (meaning.variable d) = HasEntity r d.name.site.token d.name.site.token d.written × TypeGood r names d.written × IsVariableIn names d.name.site.token
-MeaningGood r names (meaning.global n g) = Unit {0}
-MeaningGood r names (meaning.function n s) = Unit {0}
-MeaningGood r names (meaning.condition k) = Unit {0}
+MeaningGood r names _ = Unit {0}
 
 abbrev pub EntriesGood : Resolution → List Entry → List Entry → Type 0
 EntriesGood r whole names = AllByRecursion (λ e. MeaningGood r whole e.meaning) names
@@ -103,9 +75,7 @@ entries_good r whole (e ∷ rest) into c k = (one e.meaning (λ x is. into x (in
   where
     one : (z : Meaning) → ((x : ℕ) → meaning_token z ≡ Some x → IsVariableIn whole x) → EntryStands r rest z → MeaningKnown r z → MeaningGood r whole z
     one (meaning.variable d) here s h = (h.0, type_good r whole d.written (wider_type r rest whole (λ x y. into x (inr y)) d.written s) h.1, here d.name.site.token refl)
-    one (meaning.global n g) here s h = tt
-    one (meaning.function n s) here t h = tt
-    one (meaning.condition k) here s h = tt
+    one _ here s h = tt
 
 entry_found : (P : Entry → Type 0) (names : List Entry) (name : List ℕ) (e : Entry) → AllByRecursion P names → look_up names name ≡ Some e → P e
 entry_found P [] name e all is = absurd (false≢true (ap is_some is))
@@ -221,26 +191,17 @@ module _ (m : Assignment) (w : FileKnown m) (scope : Scope) where
   result_rows (Some f) h = file_row written (reads_written r names) f.name.site.token f.result h
 
   called_rows : (n : Named) → GoodRow m names (called_row r n)
-  called_rows (named.Struct n) = none_good
-  called_rows (named.Global n) = none_good
   called_rows (named.Function n) = result_rows (function_at r n) (at_number (λ f. FileType r f.name.site.token f.result) (functions_in r.program.items) n w.results)
-  called_rows (named.Variable t) = none_good
-  called_rows (named.Field t) = none_good
-  called_rows named.Known = none_good
+  called_rows _ = none_good
 
   named_cells : (n : Named) → PathIn r names (named_cell m n)
-  named_cells (named.Struct n) = tt
   named_cells (named.Global n) = global_cells (global_at r n) (at_number (IsGlobal r) (globals_in r.program.items) n w.globals)
-  named_cells (named.Function n) = tt
-  named_cells (named.Variable t) = tt
-  named_cells (named.Field t) = tt
-  named_cells named.Known = tt
+  named_cells _ = tt
 
   meaning_rows : (z : Meaning) → MeaningGood r names z → GoodRow m names (named_row r written (named_of z))
   meaning_rows (meaning.variable d) h = good_row m w.least names written (reads_written r names) d.name.site.token d.name.site.token d.written h.0 h.1
   meaning_rows (meaning.global n g) h = global_rows (global_at r n) (at_number (IsGlobal r) (globals_in r.program.items) n w.globals)
-  meaning_rows (meaning.function n s) h = none_good
-  meaning_rows (meaning.condition k) h = none_good
+  meaning_rows _ h = none_good
 
   identifier_row : (s : Span) (i : Identifier) → Seen r scope (tree.identifier s i) → GoodRow m names (named_row r written (named_at r i.site.token))
   identifier_row s i h =
@@ -248,9 +209,8 @@ module _ (m : Assignment) (w : FileKnown m) (scope : Scope) where
       (meaning_rows h.name.0.meaning (entry_found (λ (e : Entry). MeaningGood r names e.meaning) names i.text h.name.0 h.entries h.name.1))
 
   constant_rows : (k : Constant) → RowGood m names (constant_row k)
-  constant_rows (constants.Number n) = none_good
-  constant_rows (constants.Character b) = none_good
   constant_rows constants.Null = tt
+  constant_rows _ = none_good
 
   -- fields
 
@@ -262,9 +222,7 @@ module _ (m : Assignment) (w : FileKnown m) (scope : Scope) where
   written_cells q h None k = h
   written_cells q h (Some Readonly) k = choose (is_private q) private readonly tt tt
   written_cells q h (Some (Locked path)) k = choose _ private (locked (lock_of path)) tt k
-  written_cells q h (Some Private) k = tt
-  written_cells q h (Some Racy) k = tt
-  written_cells q h (Some Dynamic) k = tt
+  written_cells q h _ k = tt
 
   field_cells : (q : Sharing) → PathIn r names q → (d : Declaration) → IsField r d → PathIn r names (field_named r q (named.Field d.name.site.token))
   field_cells q h d f =
@@ -291,9 +249,7 @@ module _ (m : Assignment) (w : FileKnown m) (scope : Scope) where
 
   use_named : (z : Meaning) → MeaningGood r names z → ((t : ℕ) → named_of z ≡ named.Variable t → is_pointer (variable_kind (declaration_at r t)) ≡ true) → (x : List ℕ) → PathNamedIn r names (named_of z) (Some x)
   use_named (meaning.variable d) h p x = (h.2, p d.name.site.token refl)
-  use_named (meaning.global n g) h p x = tt
-  use_named (meaning.function n s) h p x = tt
-  use_named (meaning.condition k) h p x = tt
+  use_named _ h p x = tt
 
   reads_if : (b : Bool) (at : ℕ) → ((x : List ℕ) → PathNamedIn r names (named_at r at) (Some x)) → Reads r names (reading_through (cond b (Some at) None))
   reads_if true at p = reads_through r names at p
@@ -316,39 +272,22 @@ module _ (m : Assignment) (w : FileKnown m) (scope : Scope) where
   instances Arrow s t h k = k
 
   unary_cells : (o : UnaryOperator) (t : Sharing) → PathIn r names t → PathIn r names (unary_cell o t)
-  unary_cells Negate t h = tt
-  unary_cells Not t h = tt
-  unary_cells Complement t h = tt
   unary_cells Dereference t h = h
+  unary_cells _ t h = tt
 
   unary_rows : (o : UnaryOperator) (row : Option Targets) → RowGood m names row → RowGood m names (unary_row o row)
-  unary_rows Negate row h = none_good
-  unary_rows Not row h = none_good
-  unary_rows Complement row h = none_good
   unary_rows Dereference row h = deep row h
+  unary_rows _ row h = none_good
 
   own : (e : Expression) → AllByRecursion (Seen r scope) (expressions e) → Seen r scope e
-  own (tree.identifier s i) h = h.0
-  own (tree.constant s c) h = h.0
-  own (tree.parentheses s a) h = h.0
-  own (tree.call s f all) h = h.0
-  own (tree.spawn s f a) h = h.0
-  own (tree.on_value s v a) h = h.0
-  own (tree.on_place s v a) h = h.0
   own (tree.cast s t a) h = h.0
-  own (tree.index s a i) h = h.0
-  own (tree.field s a v n) h = h.0
-  own (tree.unary s o a) h = h.0
-  own (tree.binary s o site a b) h = h.0
+  own _ h = h.0
 
   good : (e : Expression) → AllByRecursion (Seen r scope) (expressions e) → Good m names e
   good (tree.identifier s i) h = record { cell = named_cells (named_at r i.site.token); row = identifier_row s i h.0 }
   good (tree.constant s c) h = record { cell = tt; row = constant_rows c }
   good (tree.parentheses s a) h = let g = good a h.1 in record { cell = g.cell; row = g.row }
   good (tree.call s f all) h = record { cell = tt; row = called_rows (named_at r f.site.token) }
-  good (tree.spawn s f a) h = record { cell = tt; row = none_good }
-  good (tree.on_value s v a) h = record { cell = tt; row = none_good }
-  good (tree.on_place s v a) h = record { cell = tt; row = none_good }
   good (tree.cast s t a) h = record { cell = tt; row = good_row m w.least names written (reads_written r names) s.first.token s.last.token t h.0.cast.0 h.0.cast.1 }
   good (tree.index s a i) h =
       let g = good a (front (Seen r scope) (expressions a) (expressions i) h.1) in
@@ -366,15 +305,13 @@ module _ (m : Assignment) (w : FileKnown m) (scope : Scope) where
         row = subst (λ z. GoodRow m names (named_row r how z)) (sym x.names) (file_row how (reads_base s a v n _ h.0.has (own a h.1)) x.of.name.site.token x.of.written x.field.type);
       }
   good (tree.unary s o a) h = let g = good a h.1 in record { cell = unary_cells o (pointed m (row_at r a)) (first_target (row_at r a) g.row); row = unary_rows o (row_at r a) g.row }
-  good (tree.binary s o site a b) h = record { cell = tt; row = none_good }
+  good _ h = record { cell = tt; row = none_good }
 
   abbrev G : Expression → Type 0
   G = Good m names
 
   mutual
     pub all_good : (e : Expression) → AllByRecursion (Seen r scope) (expressions e) → AllByRecursion G (expressions e)
-    all_good (tree.identifier s i) h = (good (tree.identifier s i) h, tt)
-    all_good (tree.constant s c) h = (good (tree.constant s c) h, tt)
     all_good (tree.parentheses s a) h = (good (tree.parentheses s a) h, all_good a h.1)
     all_good (tree.call s f all) h = (good (tree.call s f all) h, arguments_good all h.1)
     all_good (tree.spawn s f a) h = (good (tree.spawn s f a) h, all_good a h.1)
@@ -391,6 +328,7 @@ module _ (m : Assignment) (w : FileKnown m) (scope : Scope) where
       good (tree.binary s o site a b) h,
       both G (expressions a) (expressions b) (all_good a (front (Seen r scope) (expressions a) (expressions b) h.1)) (all_good b (back (Seen r scope) (expressions a) (expressions b) h.1)),
     )
+    all_good k h = (good k h, tt)
 
     arguments_good : (all : Arguments) → AllByRecursion (Seen r scope) (in_arguments all) → AllByRecursion G (in_arguments all)
     arguments_good no_arguments h = tt

@@ -7,11 +7,11 @@ use Rattle.sharc_names.specs.{declared.fault.Named.Named, declared.scope.Scope.S
 use Rattle.sharc_names.specs.declared.fault.Named.TheVariants as named
 use Rattle.sharc_names.specs.Names as meaning
 use Rattle.sharc_ctype.specs.{Resolved.{Resolution, named_at, declaration_at, kind_at, variable_kind}, Statements.{is_aggregate, is_here, declared}}
-use Rattle.sharc_mode.specs.Sharings.{Sharing, private, readonly, locked, racy, dynamic}
+use Rattle.sharc_mode.specs.Sharings.{Sharing, locked}
 use Rattle.sharc_ctype_laws.specs.{Constraints.HasType, Laws.NamesFound, Places.{Placing, at}, Paths.{meaning_token, IsVariableIn}}
 use Rattle.sharc_flat.specs.{Scope.{Context, slot_of, slot_kind}, declared.slot.Slot.Slot, Suits.{PathNamed, PathStands, behind_declaration}}
 use Rattle.sharc_flat_laws.specs.Stands.{IsHere, NameStands, PathNamedIn, PathIn, LocksAt}
-use Rattle.sharc_flat_laws.proofs.Expressions.{Stand}
+use Rattle.sharc_flat_laws.proofs.{Expressions.Stand, Pointing.{same_token as same_variable, no_global, no_function, no_known}}
 use Rattle.sharc_lemmas.proofs.{Numbers.{same_is as eqb_same}, Options.{same_some, no_guard as no_token}}
 
 abbrev pub right_kind : Resolution → ℕ → Bool
@@ -22,9 +22,7 @@ SlotIsRight r s = s.is_pointer ≡ right_kind r s.token
 
 abbrev pub MeaningIsHere : Context → Meaning → Type 0
 MeaningIsHere c (meaning.variable d) = IsHere c d.name.site.token
-MeaningIsHere c (meaning.global n g) = Unit {0}
-MeaningIsHere c (meaning.function n s) = Unit {0}
-MeaningIsHere c (meaning.condition k) = Unit {0}
+MeaningIsHere c _ = Unit {0}
 
 abbrev pub AreHere : Context → List Entry → Type 0
 AreHere c names = AllByRecursion (λ e. MeaningIsHere c e.meaning) names
@@ -65,9 +63,7 @@ still c d token h = record { slot = slot_more c.scope (slot_of d ∷ []) token _
 
 still_meaning : (c : Context) (d : Declaration) (m : Meaning) → MeaningIsHere c m → MeaningIsHere (behind_declaration c d) m
 still_meaning c d (meaning.variable x) h = still c d x.name.site.token h
-still_meaning c d (meaning.global n g) h = tt
-still_meaning c d (meaning.function n s) h = tt
-still_meaning c d (meaning.condition k) h = tt
+still_meaning c d _ h = tt
 
 still_all : (c : Context) (d : Declaration) (names : List Entry) → AreHere c names → AreHere (behind_declaration c d) names
 still_all c d [] h = tt
@@ -99,18 +95,6 @@ found : (c : Context) (names : List Entry) (name : List ℕ) (e : Entry) → Are
 found c [] name e all is = absurd (false≢true (ap is_some is))
 found c (x ∷ rest) name e all is = found_or_later (λ (z : Entry). MeaningIsHere c z.meaning) x e (look_up rest name) (bytes_eq x.name name) is all.0 (λ h. found c rest name e all.1 h)
 
-same_variable : (t u : ℕ) → named.Variable t ≡ named.Variable u → t ≡ u
-same_variable t u h = cc
-
-no_global : (n u : ℕ) → named.Global n ≡ named.Variable u → ⊥
-no_global n u h = cc
-
-no_function : (n u : ℕ) → named.Function n ≡ named.Variable u → ⊥
-no_function n u h = cc
-
-no_known : (u : ℕ) → named.Known ≡ named.Variable u → ⊥
-no_known u h = cc
-
 meant : (c : Context) (m : Meaning) (token : ℕ) → MeaningIsHere c m → named_of m ≡ named.Variable token → IsHere c token
 meant c (meaning.variable d) token h is = subst (IsHere c) (same_variable _ _ is) h
 meant c (meaning.global n g) token h is = absurd (no_global _ _ is)
@@ -119,17 +103,7 @@ meant c (meaning.condition k) token h is = absurd (no_known _ is)
 
 name_stands : (c : Context) (scope : Scope) → AreHere c scope.names → (e : Expression) → NamesFound c.program.typed (record { scope = scope; expression = e }) e → NameStands c e
 name_stands c scope all (tree.identifier s i) h = λ token is. meant c h.0.meaning token (found c scope.names i.text h.0 all h.1) (sym h.2 ∙ is)
-name_stands c scope all (tree.constant s k) h = tt
-name_stands c scope all (tree.parentheses s a) h = tt
-name_stands c scope all (tree.call s f list) h = tt
-name_stands c scope all (tree.spawn s f a) h = tt
-name_stands c scope all (tree.on_value s v a) h = tt
-name_stands c scope all (tree.on_place s v a) h = tt
-name_stands c scope all (tree.cast s t a) h = tt
-name_stands c scope all (tree.index s a i) h = tt
-name_stands c scope all (tree.field s a v n) h = tt
-name_stands c scope all (tree.unary s o a) h = tt
-name_stands c scope all (tree.binary s o site a b) h = tt
+name_stands c scope all _ h = tt
 
 -- lock paths
 
@@ -140,25 +114,15 @@ variable_here c (e ∷ rest) x all (inl h) = by e.meaning all.0 h
   where
     by : (m : Meaning) → MeaningIsHere c m → meaning_token m ≡ Some x → IsHere c x
     by (meaning.variable d) a is = subst (IsHere c) (same_some _ _ is) a
-    by (meaning.global n g) a is = absurd (no_token x is)
-    by (meaning.function n s) a is = absurd (no_token x is)
-    by (meaning.condition k) a is = absurd (no_token x is)
+    by _ a is = absurd (no_token x is)
 
 path_named : (c : Context) (names : List Entry) → AreHere c names → (n : Named) (m : Option (List ℕ)) → PathNamedIn c.program.typed names n m → PathNamed c.scope n m
 path_named c names all (named.Variable x) (Some m) h = (variable_here c names x all h.0).slot ∙ ap Some h.1
-path_named c names all (named.Variable x) None h = tt
-path_named c names all (named.Struct n) m h = tt
-path_named c names all (named.Global n) m h = tt
-path_named c names all (named.Function n) m h = tt
-path_named c names all (named.Field n) m h = tt
-path_named c names all named.Known m h = tt
+path_named c names all _ _ h = tt
 
 pub path_stands : (c : Context) (names : List Entry) → AreHere c names → (s : Sharing) → PathIn c.program.typed names s → PathStands c.program.typed c.scope s
-path_stands c names all private h = tt
-path_stands c names all readonly h = tt
 path_stands c names all (locked l) h = path_named c names all (named_at c.program.typed l.first) l.second h
-path_stands c names all racy h = tt
-path_stands c names all dynamic h = tt
+path_stands c names all _ h = tt
 
 -- expressions at their places
 

@@ -1,7 +1,7 @@
 -- What the code of a function spawns is what its expressions spawn.
 use Rattle.std.proofs.Common.{ℕ, ◌+◌, Bool, true, false, cond, List, [], ◌∷◌, ◌++◌, length, drop, Option, Some, None, take}
 use Rattle.std.specs.{Prelude.codes, Str.bytes_eq, List.AllByRecursion}
-use Rattle.sharc_tree.specs.{declared.token.Site.Site, declared.token.Span.Span, declared.tree.declaration.Identifier.Identifier, declared.tree.expression.FieldOperator.FieldOperator, declared.tree.expression.FieldOperator.TheVariants.{Dot, Arrow}, declared.tree.expression.BinaryOperator.BinaryOperator, declared.tree.expression.BinaryOperator.TheVariants.{LogicalOr, LogicalAnd, BitOr, BitXor, BitAnd, Equal, NotEqual, Less, Greater, LessOrEqual, GreaterOrEqual, ShiftLeft, ShiftRight, Add, Subtract, Multiply, Divide, Remainder}, declared.tree.expression.PlaceCall.PlaceCall, declared.tree.expression.PlaceCall.TheVariants.{Lock, Unlock, Free}, declared.tree.expression.UnaryOperator.UnaryOperator, declared.tree.expression.UnaryOperator.TheVariants.{Negate, Not, Complement, Dereference}, declared.tree.expression.ValueCall.ValueCall, declared.tree.expression.ValueCall.TheVariants.{Join, Print}, Spans.span_of, Tree.{Expression, identifier, constant, parentheses, call, spawn, on_value, on_place, cast, index, field, unary, binary, Arguments, no_arguments, argument, Right, value, malloc, Simple, assign, does_call, Local, First, nothing, declares, does, Statement, empty, block, declare, simple, jump, return, if_then, if_then_else, while, for, Statements, no_statements, statement, Function}, declared.tree.declaration.Declaration.Declaration, declared.tree.statement.Jump.Jump, declared.tree.statement.Jump.TheVariants.{Break, Continue}, Measures.{expressions, in_arguments, in_option, in_right, in_simple, in_local, in_first, in_head, in_statement, in_statements, in_function as expressions_in}}
+use Rattle.sharc_tree.specs.{declared.token.Site.Site, declared.token.Span.Span, declared.tree.declaration.Identifier.Identifier, declared.tree.expression.FieldOperator.FieldOperator, declared.tree.expression.FieldOperator.TheVariants.{Dot, Arrow}, declared.tree.expression.BinaryOperator.BinaryOperator, declared.tree.expression.BinaryOperator.TheVariants.{LogicalOr, LogicalAnd, NotEqual}, declared.tree.expression.PlaceCall.PlaceCall, declared.tree.expression.PlaceCall.TheVariants.{Lock, Unlock, Free}, declared.tree.expression.UnaryOperator.UnaryOperator, declared.tree.expression.UnaryOperator.TheVariants.{Not, Dereference}, declared.tree.expression.ValueCall.ValueCall, declared.tree.expression.ValueCall.TheVariants.{Join, Print}, Spans.span_of, Tree.{Expression, identifier, constant, parentheses, call, spawn, on_value, on_place, cast, index, field, unary, binary, Arguments, no_arguments, argument, Right, value, malloc, Simple, assign, does_call, Local, First, nothing, declares, does, Statement, empty, block, declare, simple, jump, return, if_then, if_then_else, while, for, Statements, no_statements, statement, Function}, declared.tree.declaration.Declaration.Declaration, declared.tree.statement.Jump.Jump, declared.tree.statement.Jump.TheVariants.{Break, Continue}, Measures.{expressions, in_arguments, in_option, in_right, in_simple, in_local, in_first, in_head, in_statement, in_statements, in_function as expressions_in}}
 use Rattle.sharc_names.specs.{declared.fault.Named.Named, Kinds.{Kind, is_array, is_integer, element_kind, declared_kinds, declared_kind}}
 use Rattle.sharc_names.specs.declared.fault.Named.TheVariants as named
 use Rattle.sharc_code.specs.{declared.code.Use.Use, declared.instr.Register.Register, declared.instr.Register.TheVariants.{Int, Reference}, declared.code.GlobalCells.GlobalCells}
@@ -9,7 +9,7 @@ use Rattle.sharc_code.specs.declared.code.Use.TheVariants as uses
 use Rattle.sharc_ctype.specs.{Resolved.{kind_at, global_at, Resolution, named_at}, Transfers.parameters_named}
 use Rattle.sharc_mode.specs.{Sharings.{Sharing, private}, Cells.pointed, Moded.Assignment, Rows.{written, row_at, declared_row}}
 use Rattle.sharc_meaning.specs.{Cells.{element_cells, field_place_named, global_elements}, Expressions.number_named, State.is_reference}
-use Rattle.sharc_flat.specs.{declared.op.Op.Op, declared.op.Spot.Spot, Machine.first_cell, declared.slot.Lvalue.Lvalue, Scope.{Context, register_of, at_site, ref_count, pops, ends_from, leaves}, Places.{Target, variable, in_global, in_global_at, in_object, in_object_at, target, own_field, has_base, global_of, guard_field, guard_code, drop_base, settle_base, copy_code, cell_value_code, value_code, cell_take_code, take_code, bounds_code, index_code, pointee_code, width_code, base_width, index_width, settle_code, cell_store_code, store_code}, Flattened.{kind_of, is_ref, target_of, mode_of, what_names, named_code, drop_code, truth_code, differ_code, compare_code, logical_code, either_code, unary_code, binary_code, behind_int, behind_ref, wait_code, condition_code, called_code, passed_code, value_call_code, place_call_code, cast_code, guard_of, taken_guard, field_code, unary_place_code, lvalue_code, expression_code, arguments_code, place_code, lvalue_in, with_words, argument_words, elements_code, right_code, simple_code, with_variable, ints_of, refs_of, zero_code, initial_code, local_code, first_code, behind_first, step_code, test_code, turn_code, Around, opened, looping, jump_code, result_code, return_code, turns_code, body_at, behind_statement, behind_statements, statement_code, statements_code, in_function, around_body, function_code, declared_lvalue, functions_code}, declared.slot.Slot.Slot}
+use Rattle.sharc_flat.specs.{declared.op.Op.Op, declared.op.Spot.Spot, Machine.first_cell, declared.slot.Lvalue.Lvalue, Scope.{Context, register_of, at_site, ref_count, pops, ends_from, leaves}, Places.{Target, variable, in_global, target, own_field, has_base, global_of, guard_field, guard_code, drop_base, settle_base, copy_code, cell_value_code, value_code, cell_take_code, take_code, bounds_code, index_code, pointee_code, width_code, base_width, index_width, settle_code, cell_store_code, store_code}, Flattened.{kind_of, is_ref, target_of, mode_of, what_names, named_code, drop_code, truth_code, differ_code, compare_code, logical_code, either_code, unary_code, binary_code, behind_int, behind_ref, wait_code, condition_code, called_code, passed_code, value_call_code, place_call_code, cast_code, guard_of, taken_guard, field_code, unary_place_code, lvalue_code, expression_code, arguments_code, place_code, lvalue_in, with_words, argument_words, elements_code, right_code, simple_code, with_variable, ints_of, refs_of, zero_code, initial_code, local_code, first_code, behind_first, step_code, test_code, turn_code, Around, opened, looping, jump_code, result_code, return_code, turns_code, body_at, behind_statement, behind_statements, statement_code, statements_code, in_function, around_body, function_code, declared_lvalue, functions_code}, declared.slot.Slot.Slot}
 use Rattle.sharc_flat.specs.declared.op.Op.TheVariants as op
 use Rattle.sharc_flat_laws.specs.Tables.{SpawnMeets}
 
@@ -36,21 +36,12 @@ right Q r (x ∷ xs) ys h = right Q r xs ys h.1
 
 -- what comes after a declaration is of the same program
 behind_same : (P : Resolution → Type 0) (c : Context) (f : First) → P c.program.typed → P (behind_first c f).program.typed
-behind_same P c nothing h = h
-behind_same P c (declares l) h = h
 behind_same P c (does x) h = h
+behind_same P c _ h = h
 
 after_same : (P : Resolution → Type 0) (c : Context) (x : Statement) → P c.program.typed → P (behind_statement c x).program.typed
-after_same P c (declare s l) h = h
 after_same P c (empty s) h = h
-after_same P c (block s all) h = h
-after_same P c (simple s y) h = h
-after_same P c (jump s j) h = h
-after_same P c (return s e) h = h
-after_same P c (if_then s e y) h = h
-after_same P c (if_then_else s e y z) h = h
-after_same P c (while s e y) h = h
-after_same P c (for s hd y) h = h
+after_same P c _ h = h
 
 module _ (Q : ℕ → Type 0) where
   abbrev S : List Op → Type 0
@@ -92,20 +83,14 @@ module _ (Q : ℕ → Type 0) where
 
     values : (i r : ℕ) (site : Site) (lvalue : Lvalue) (mode : Sharing) (b : Bool) (t : Target) → S (value_code c i r site lvalue mode b t)
     values i r site lvalue mode b (variable x) = copies i r (register_of c.scope x)
-    values i r site lvalue mode b (in_global g f) = cell_values i r site lvalue mode b (in_global g f)
-    values i r site lvalue mode b (in_global_at g f) = cell_values i r site lvalue mode b (in_global_at g f)
-    values i r site lvalue mode b (in_object f) = cell_values i r site lvalue mode b (in_object f)
-    values i r site lvalue mode b (in_object_at f) = cell_values i r site lvalue mode b (in_object_at f)
+    values i r site lvalue mode b k = cell_values i r site lvalue mode b k
 
     cell_takes : (i r : ℕ) (site : Site) (lvalue : Lvalue) (mode : Sharing) (form : Option ℕ → Use) (t : Target) → S (cell_take_code c i r site lvalue mode form t)
     cell_takes i r site lvalue mode form t = joins (guard_code c i r site lvalue t (guard_field c.program.typed mode)) _ (guards i r site lvalue t (guard_field c.program.typed mode)) (tt, settles_base r t)
 
     takes : (i r : ℕ) (site : Site) (lvalue : Lvalue) (mode : Sharing) (form : Option ℕ → Use) (t : Target) → S (take_code c i r site lvalue mode form t)
     takes i r site lvalue mode form (variable x) = (tt, tt)
-    takes i r site lvalue mode form (in_global g f) = cell_takes i r site lvalue mode form (in_global g f)
-    takes i r site lvalue mode form (in_global_at g f) = cell_takes i r site lvalue mode form (in_global_at g f)
-    takes i r site lvalue mode form (in_object f) = cell_takes i r site lvalue mode form (in_object f)
-    takes i r site lvalue mode form (in_object_at f) = cell_takes i r site lvalue mode form (in_object_at f)
+    takes i r site lvalue mode form k = cell_takes i r site lvalue mode form k
 
     widths_plain : (i : ℕ) (kind : Kind) (site : Site) → S (width_code i kind site)
     widths_plain i kind site = choose (is_integer kind) _ [] (tt, tt) tt
@@ -113,34 +98,15 @@ module _ (Q : ℕ → Type 0) where
     names : (i r : ℕ) (site : Site) (lvalue : Lvalue) (mode : Sharing) (b : Bool) (n : Named) → S (named_code c i r site lvalue mode b n)
     names i r site lvalue mode b (named.Variable x) = values i r site lvalue mode b (variable x)
     names i r site lvalue mode b (named.Global g) = values i r site lvalue mode b (in_global g 0)
-    names i r site lvalue mode b (named.Field n) = tt
-    names i r site lvalue mode b (named.Struct n) = tt
-    names i r site lvalue mode b (named.Function n) = tt
-    names i r site lvalue mode b named.Known = tt
+    names i r site lvalue mode b _ = tt
 
     truths_plain : (b : Bool) (i r : ℕ) → S (truth_code b i r)
     truths_plain true i r = (tt, (tt, (tt, (tt, tt))))
     truths_plain false i r = tt
 
     differs : (o : BinaryOperator) (i : ℕ) → S (differ_code o i)
-    differs LogicalOr i = tt
-    differs LogicalAnd i = tt
-    differs BitOr i = tt
-    differs BitXor i = tt
-    differs BitAnd i = tt
-    differs Equal i = tt
     differs NotEqual i = (tt, tt)
-    differs Less i = tt
-    differs Greater i = tt
-    differs LessOrEqual i = tt
-    differs GreaterOrEqual i = tt
-    differs ShiftLeft i = tt
-    differs ShiftRight i = tt
-    differs Add i = tt
-    differs Subtract i = tt
-    differs Multiply i = tt
-    differs Divide i = tt
-    differs Remainder i = tt
+    differs _ i = tt
 
     compares : (o : BinaryOperator) (i r : ℕ) → S (compare_code o i r)
     compares o i r = (tt, joins (differ_code o i) (op.Pop r ∷ op.Pop (r + 1) ∷ []) (differs o i) (tt, (tt, tt)))
@@ -155,10 +121,9 @@ module _ (Q : ℕ → Type 0) where
     pointees r site xs a = joins xs (op.ChkNull r (at_site site) ∷ []) a (tt, tt)
 
     unaries : (i r : ℕ) (s : Span) (o : UnaryOperator) (a : Expression) (xs : List Op) → S xs → S (unary_code c i r s o a xs)
-    unaries i r s Negate a xs h = joins xs _ h (tt, tt)
     unaries i r s Not a xs h = joins xs _ h (joins (truth_code (is_ref c a) i r) (op.IsFalse i i ∷ []) (truths_plain (is_ref c a) i r) (tt, tt))
-    unaries i r s Complement a xs h = joins xs _ h (tt, tt)
     unaries i r s Dereference a xs h = joins (pointee_code r s.first xs) _ (pointees r s.first xs h) (values i r s.first (lvalue_in c (unary s Dereference a)) (mode_of c (unary s Dereference a)) (is_ref c (unary s Dereference a)) (target_of c (unary s Dereference a)))
+    unaries i r s _ a xs h = joins xs _ h (tt, tt)
 
     plain_binary : (i r : ℕ) (at : Site) (o : BinaryOperator) (a b : Expression) (xs : List Op) (ys : ℕ → ℕ → List Op) (last : Op) → S (last ∷ []) → S xs → ((i r : ℕ) → S (ys i r))
         → S (xs ++ (ys (behind_int (is_ref c a) i) (behind_ref (is_ref c a) r) ++ cond (is_ref c a) (compare_code o i r) (last ∷ [])))
@@ -167,22 +132,7 @@ module _ (Q : ℕ → Type 0) where
     binaries : (i r : ℕ) (at : Site) (o : BinaryOperator) (a b : Expression) (xs : List Op) (ys : ℕ → ℕ → List Op) → S xs → ((i r : ℕ) → S (ys i r)) → S (binary_code c i r at o a b xs ys)
     binaries i r at LogicalAnd a b xs ys h k = logicals i (xs ++ truth_code (is_ref c a) i r) (ys i r ++ truth_code (is_ref c b) i r) (joins xs _ h (truths_plain (is_ref c a) i r)) (joins (ys i r) _ (k i r) (truths_plain (is_ref c b) i r))
     binaries i r at LogicalOr a b xs ys h k = eithers i (xs ++ truth_code (is_ref c a) i r) (ys i r ++ truth_code (is_ref c b) i r) (joins xs _ h (truths_plain (is_ref c a) i r)) (joins (ys i r) _ (k i r) (truths_plain (is_ref c b) i r))
-    binaries i r at BitOr a b xs ys h k = plain_binary i r at BitOr a b xs ys _ (tt, tt) h k
-    binaries i r at BitXor a b xs ys h k = plain_binary i r at BitXor a b xs ys _ (tt, tt) h k
-    binaries i r at BitAnd a b xs ys h k = plain_binary i r at BitAnd a b xs ys _ (tt, tt) h k
-    binaries i r at Equal a b xs ys h k = plain_binary i r at Equal a b xs ys _ (tt, tt) h k
-    binaries i r at NotEqual a b xs ys h k = plain_binary i r at NotEqual a b xs ys _ (tt, tt) h k
-    binaries i r at Less a b xs ys h k = plain_binary i r at Less a b xs ys _ (tt, tt) h k
-    binaries i r at Greater a b xs ys h k = plain_binary i r at Greater a b xs ys _ (tt, tt) h k
-    binaries i r at LessOrEqual a b xs ys h k = plain_binary i r at LessOrEqual a b xs ys _ (tt, tt) h k
-    binaries i r at GreaterOrEqual a b xs ys h k = plain_binary i r at GreaterOrEqual a b xs ys _ (tt, tt) h k
-    binaries i r at ShiftLeft a b xs ys h k = plain_binary i r at ShiftLeft a b xs ys _ (tt, tt) h k
-    binaries i r at ShiftRight a b xs ys h k = plain_binary i r at ShiftRight a b xs ys _ (tt, tt) h k
-    binaries i r at Add a b xs ys h k = plain_binary i r at Add a b xs ys _ (tt, tt) h k
-    binaries i r at Subtract a b xs ys h k = plain_binary i r at Subtract a b xs ys _ (tt, tt) h k
-    binaries i r at Multiply a b xs ys h k = plain_binary i r at Multiply a b xs ys _ (tt, tt) h k
-    binaries i r at Divide a b xs ys h k = plain_binary i r at Divide a b xs ys _ (tt, tt) h k
-    binaries i r at Remainder a b xs ys h k = plain_binary i r at Remainder a b xs ys _ (tt, tt) h k
+    binaries i r at j a b xs ys h k = plain_binary i r at j a b xs ys _ (tt, tt) h k
 
     waits : (r : ℕ) (spot a b : Spot) → S (wait_code r spot a b)
     waits r spot a b = (tt, (tt, (tt, (tt, (tt, (tt, (tt, (tt, (tt, tt)))))))))
@@ -193,10 +143,7 @@ module _ (Q : ℕ → Type 0) where
     calls_plain : (i r : ℕ) (spot : Spot) (n : Named) (name : List ℕ) (all : Arguments) → S (called_code i r spot n name all)
     calls_plain i r spot (named.Function f) name all = (tt, tt)
     calls_plain i r spot named.Known name all = conditions r spot name all
-    calls_plain i r spot (named.Variable x) name all = tt
-    calls_plain i r spot (named.Global x) name all = tt
-    calls_plain i r spot (named.Field x) name all = tt
-    calls_plain i r spot (named.Struct x) name all = tt
+    calls_plain i r spot _ name all = tt
 
     passes_plain : (i : ℕ) (kinds : List Kind) (site : Site) → S (passed_code i kinds site)
     passes_plain i [] site = tt
@@ -238,9 +185,7 @@ module _ (Q : ℕ → Type 0) where
 
     unary_places : (r : ℕ) (site : Site) (o : UnaryOperator) (xs : List Op) → S xs → S (unary_place_code r site o xs)
     unary_places r site Dereference xs h = pointees r site xs h
-    unary_places r site Negate xs h = tt
-    unary_places r site Not xs h = tt
-    unary_places r site Complement xs h = tt
+    unary_places r site _ xs h = tt
 
     lvalues : (i r : ℕ) (e : Expression) → S (lvalue_code c i r e)
     lvalues i r e = values i r (span_of e).first (lvalue_in c e) (mode_of c e) (is_ref c e) (target_of c e)
@@ -293,7 +238,6 @@ module _ (Q : ℕ → Type 0) where
           (arguments_ask (behind_int (is_ref c a) i) (behind_ref (is_ref c a) r) (drop 1 kinds) rest (right Q R (expressions a) (in_arguments rest) h)))
 
       pub places_ask : (i r : ℕ) (site : Site) (f guard : Option ℕ) (e : Expression) → E (expressions e) → S (place_code c i r site f guard e)
-      places_ask i r site f guard (identifier s x) h = (tt, tt)
       places_ask i r site f guard (parentheses s a) h = (tt, places_ask i r site f guard a h.1)
       places_ask i r site f guard (index s a n) h =
           let of_a = left Q R (expressions a) (expressions n) h.1 in
@@ -302,16 +246,7 @@ module _ (Q : ℕ → Type 0) where
       places_ask i r site f guard (field s a w n) h =
           (tt, fields r site f w n (λ g. place_code c i r site g guard a) (expression_code c i r a) (λ g. places_ask i r site g guard a h.1) (expressions_ask i r a h.1))
       places_ask i r site f guard (unary s Dereference a) h = (tt, unary_places r site Dereference (expression_code c i r a) (expressions_ask i r a h.1))
-      places_ask i r site f guard (unary s Negate a) h = (tt, tt)
-      places_ask i r site f guard (unary s Not a) h = (tt, tt)
-      places_ask i r site f guard (unary s Complement a) h = (tt, tt)
-      places_ask i r site f guard (constant s k) h = (tt, tt)
-      places_ask i r site f guard (call s g all) h = (tt, tt)
-      places_ask i r site f guard (spawn s g a) h = (tt, tt)
-      places_ask i r site f guard (on_value s w a) h = (tt, tt)
-      places_ask i r site f guard (on_place s w a) h = (tt, tt)
-      places_ask i r site f guard (cast s t a) h = (tt, tt)
-      places_ask i r site f guard (binary s o at a b) h = (tt, tt)
+      places_ask i r site f guard _ h = (tt, tt)
 
   -- ---- statements
   pops_ask : (r : ℕ) (xs : List Slot) → S (pops r xs)
@@ -335,10 +270,7 @@ module _ (Q : ℕ → Type 0) where
 
   stores : (c : Context) (i r vi vr : ℕ) (site : Site) (lvalue : Lvalue) (mode : Sharing) (b : Bool) (t : Target) → S (store_code c i r vi vr site lvalue mode b t)
   stores c i r vi vr site lvalue mode b (variable x) = settles vi vr (register_of c.scope x)
-  stores c i r vi vr site lvalue mode b (in_global g f) = cell_stores c i r vi vr site lvalue mode b (in_global g f)
-  stores c i r vi vr site lvalue mode b (in_global_at g f) = cell_stores c i r vi vr site lvalue mode b (in_global_at g f)
-  stores c i r vi vr site lvalue mode b (in_object f) = cell_stores c i r vi vr site lvalue mode b (in_object f)
-  stores c i r vi vr site lvalue mode b (in_object_at f) = cell_stores c i r vi vr site lvalue mode b (in_object_at f)
+  stores c i r vi vr site lvalue mode b k = cell_stores c i r vi vr site lvalue mode b k
 
   elements_ask : (c : Context) (i r : ℕ) (n : Option Expression) → Each Q c.program.typed (in_option expressions n) → S (elements_code c i r n)
   elements_ask c i r None h = (tt, tt)

@@ -1,9 +1,9 @@
 -- Each expression of a typed program suits.
 use Rattle.std.proofs.Common.{◌≡◌, inl, ℕ, ◌+◌, true, List, [], ◌∷◌, refl, ap, sym, ◌∙◌, subst, Some, None, bytes_eq, codes, if◌then◌else◌}
-use Rattle.sharc_tree.specs.{declared.ctype.Base.Base, declared.tree.declaration.Identifier.Identifier, declared.tree.declaration.WrittenType.WrittenType, declared.tree.expression.BinaryOperator.BinaryOperator, declared.tree.expression.BinaryOperator.TheVariants.{LogicalOr, LogicalAnd, BitOr, BitXor, BitAnd, Equal, NotEqual, Less, Greater, LessOrEqual, GreaterOrEqual, ShiftLeft, ShiftRight, Add, Subtract, Multiply, Divide, Remainder}, declared.token.Site.Site, declared.token.Span.Span, declared.tree.expression.FieldOperator.FieldOperator, declared.tree.expression.PlaceCall.PlaceCall, declared.tree.expression.ValueCall.ValueCall, declared.tree.expression.UnaryOperator.UnaryOperator, declared.tree.expression.UnaryOperator.TheVariants.{Negate, Not, Complement, Dereference}, Measures.{expressions, in_arguments}, Tree.{Expression, identifier, index, Arguments, no_arguments, argument}}
+use Rattle.sharc_tree.specs.{declared.ctype.Base.Base, declared.tree.declaration.Identifier.Identifier, declared.tree.declaration.WrittenType.WrittenType, declared.tree.expression.BinaryOperator.BinaryOperator, declared.tree.expression.BinaryOperator.TheVariants.{LogicalOr, LogicalAnd, Equal, NotEqual, Less, Greater, LessOrEqual, GreaterOrEqual, ShiftLeft, ShiftRight}, declared.token.Site.Site, declared.token.Span.Span, declared.tree.expression.FieldOperator.FieldOperator, declared.tree.expression.PlaceCall.PlaceCall, declared.tree.expression.ValueCall.ValueCall, declared.tree.expression.UnaryOperator.UnaryOperator, declared.tree.expression.UnaryOperator.TheVariants.Dereference, Measures.{expressions, in_arguments}, Tree.{Expression, identifier, index, Arguments, no_arguments, argument}}
 use Rattle.sharc_tree.specs.declared.ctype.Base.TheVariants as base
 use Rattle.sharc_tree.specs.Tree as tree
-use Rattle.sharc_names.specs.{declared.fault.Named.Named, Kinds.{Kind, object, array, is_array, is_integer, is_pointer, declared_kind, declared_kinds}, declared.meaning.ConditionCall.ConditionCall, declared.meaning.ConditionCall.TheVariants.{Wait, Signal, Broadcast}, Names.condition_parameters}
+use Rattle.sharc_names.specs.{declared.fault.Named.Named, Kinds.{Kind, object, array, is_array, is_integer, is_pointer, declared_kind, declared_kinds}, declared.meaning.ConditionCall.ConditionCall, declared.meaning.ConditionCall.TheVariants.Wait, Names.condition_parameters}
 use Rattle.sharc_names.specs.declared.fault.Named.TheVariants as named
 use Rattle.sharc_names.specs.Kinds as kinds
 use Rattle.sharc_ctype.specs.{declared.expr.OperatorClass.TheVariants.{Logical, Equality, Relation, Shift, Arithmetic}, Expressions.class_of, Resolved.{Resolution, named_at, kind_at, variable_kind}, Transfers.{parameters_named, parameters_of}}
@@ -45,9 +45,6 @@ is_no_arithmetic h = cc
 logical_operands : (o : BinaryOperator) (j k : Kind) → class_of o ≡ Logical → flat.IsScalar j → flat.IsScalar k → OperandsSuit o j k
 logical_operands LogicalOr j k is a b = (a, b)
 logical_operands LogicalAnd j k is a b = (a, b)
-logical_operands BitOr j k is a b = absurd (no_arithmetic is)
-logical_operands BitXor j k is a b = absurd (no_arithmetic is)
-logical_operands BitAnd j k is a b = absurd (no_arithmetic is)
 logical_operands Equal j k is a b = absurd (no_equality is)
 logical_operands NotEqual j k is a b = absurd (no_equality is)
 logical_operands Less j k is a b = absurd (no_relation is)
@@ -56,18 +53,11 @@ logical_operands LessOrEqual j k is a b = absurd (no_relation is)
 logical_operands GreaterOrEqual j k is a b = absurd (no_relation is)
 logical_operands ShiftLeft j k is a b = absurd (no_shift is)
 logical_operands ShiftRight j k is a b = absurd (no_shift is)
-logical_operands Add j k is a b = absurd (no_arithmetic is)
-logical_operands Subtract j k is a b = absurd (no_arithmetic is)
-logical_operands Multiply j k is a b = absurd (no_arithmetic is)
-logical_operands Divide j k is a b = absurd (no_arithmetic is)
-logical_operands Remainder j k is a b = absurd (no_arithmetic is)
+logical_operands _ j k is a b = absurd (no_arithmetic is)
 
 equal_operands : (o : BinaryOperator) (j k : Kind) → class_of o ≡ Equality → flat.SameSort j k → OperandsSuit o j k
 equal_operands LogicalOr j k is s = absurd (is_no_logical is)
 equal_operands LogicalAnd j k is s = absurd (is_no_logical is)
-equal_operands BitOr j k is s = absurd (is_no_arithmetic is)
-equal_operands BitXor j k is s = absurd (is_no_arithmetic is)
-equal_operands BitAnd j k is s = absurd (is_no_arithmetic is)
 equal_operands Equal j k is s = s
 equal_operands NotEqual j k is s = s
 equal_operands Less j k is s = absurd (is_no_relation is)
@@ -76,31 +66,14 @@ equal_operands LessOrEqual j k is s = absurd (is_no_relation is)
 equal_operands GreaterOrEqual j k is s = absurd (is_no_relation is)
 equal_operands ShiftLeft j k is s = absurd (is_no_shift is)
 equal_operands ShiftRight j k is s = absurd (is_no_shift is)
-equal_operands Add j k is s = absurd (is_no_arithmetic is)
-equal_operands Subtract j k is s = absurd (is_no_arithmetic is)
-equal_operands Multiply j k is s = absurd (is_no_arithmetic is)
-equal_operands Divide j k is s = absurd (is_no_arithmetic is)
-equal_operands Remainder j k is s = absurd (is_no_arithmetic is)
+equal_operands _ j k is s = absurd (is_no_arithmetic is)
 
 integer_operands : (o : BinaryOperator) (j k : Kind) → IsInteger j → IsInteger k → OperandsSuit o j k
 integer_operands LogicalOr j k a b = (scalar j (inl a), scalar k (inl b))
 integer_operands LogicalAnd j k a b = (scalar j (inl a), scalar k (inl b))
-integer_operands BitOr j k a b = (integer_yes j a, integer_yes k b)
-integer_operands BitXor j k a b = (integer_yes j a, integer_yes k b)
-integer_operands BitAnd j k a b = (integer_yes j a, integer_yes k b)
 integer_operands Equal j k a b = same_sort j k (integers a b)
 integer_operands NotEqual j k a b = same_sort j k (integers a b)
-integer_operands Less j k a b = (integer_yes j a, integer_yes k b)
-integer_operands Greater j k a b = (integer_yes j a, integer_yes k b)
-integer_operands LessOrEqual j k a b = (integer_yes j a, integer_yes k b)
-integer_operands GreaterOrEqual j k a b = (integer_yes j a, integer_yes k b)
-integer_operands ShiftLeft j k a b = (integer_yes j a, integer_yes k b)
-integer_operands ShiftRight j k a b = (integer_yes j a, integer_yes k b)
-integer_operands Add j k a b = (integer_yes j a, integer_yes k b)
-integer_operands Subtract j k a b = (integer_yes j a, integer_yes k b)
-integer_operands Multiply j k a b = (integer_yes j a, integer_yes k b)
-integer_operands Divide j k a b = (integer_yes j a, integer_yes k b)
-integer_operands Remainder j k a b = (integer_yes j a, integer_yes k b)
+integer_operands _ j k a b = (integer_yes j a, integer_yes k b)
 
 operands_at : (o : BinaryOperator) (x y j k : Kind) → x ≡ j → y ≡ k → OperandsSuit o j k → OperandsSuit o x y
 operands_at o x y j k a b h = subst (λ z. OperandsSuit o z y) (sym a) (subst (λ z. OperandsSuit o j z) (sym b) h)
@@ -131,8 +104,7 @@ two_references c b d (argument a (argument x (argument y rest))) h = absurd h.2.
 
 condition_references : (c : Context) (w : ConditionCall) (text : List ℕ) (all : Arguments) → text ≡ name_of w → ArgumentsSuit c (condition_parameters w) all → ReferencesSuit c (if bytes_eq text (codes "wait") then 2 else 1) all
 condition_references c Wait text all is h = subst (λ t. ReferencesSuit c (if bytes_eq t (codes "wait") then 2 else 1) all) (sym is) (two_references c _ _ all h)
-condition_references c Signal text all is h = subst (λ t. ReferencesSuit c (if bytes_eq t (codes "wait") then 2 else 1) all) (sym is) (one_reference c _ all h)
-condition_references c Broadcast text all is h = subst (λ t. ReferencesSuit c (if bytes_eq t (codes "wait") then 2 else 1) all) (sym is) (one_reference c _ all h)
+condition_references c _ text all is h = subst (λ t. ReferencesSuit c (if bytes_eq t (codes "wait") then 2 else 1) all) (sym is) (one_reference c _ all h)
 
 call_suits : (c : Context) (i : Identifier) (all : Arguments) (ps : List Kind) (result kind : Kind) → Callee c.program.typed i ps result → kind ≡ result → ArgumentsSuit c ps all
     → CallSuits c kind (named_at c.program.typed i.site.token) (λ kinds. ArgumentsSuit c kinds all) (ReferencesSuit c (if bytes_eq i.text (codes "wait") then 2 else 1) all)
@@ -170,18 +142,8 @@ scalar_at r e k is s = subst flat.IsScalar (sym is) (scalar k s)
 
 -- of an expression and all below it the first is the expression itself
 pub first : (c : Context) (e : Expression) → Stand c (expressions e) → AtPlace c e
-first c (tree.identifier s i) all = all.0
-first c (tree.constant s k) all = all.0
-first c (tree.parentheses s a) all = all.0
-first c (tree.call s f list) all = all.0
-first c (tree.spawn s f a) all = all.0
-first c (tree.on_value s v a) all = all.0
-first c (tree.on_place s v a) all = all.0
 first c (tree.cast s t a) all = all.0
-first c (tree.index s a i) all = all.0
-first c (tree.field s a v n) all = all.0
-first c (tree.unary s o a) all = all.0
-first c (tree.binary s o site a b) all = all.0
+first c _ all = all.0
 
 -- each form, by its parts
 
@@ -271,20 +233,10 @@ mutual
   all_suit c w (argument a rest) all = (suits c w a (front _ (expressions a) (in_arguments rest) all), all_suit c w rest (back _ (expressions a) (in_arguments rest) all))
 
   pub place : (c : Context) → Facts c.program → (e : Expression) → Stand c (expressions e) → PlaceSuits c e
-  place c w (tree.identifier s i) all = tt
-  place c w (tree.constant s k) all = tt
   place c w (tree.parentheses s a) all = place c w a all.1
-  place c w (tree.call s f list) all = tt
-  place c w (tree.spawn s f a) all = tt
-  place c w (tree.on_value s v a) all = tt
-  place c w (tree.on_place s v a) all = tt
-  place c w (tree.cast s t a) all = tt
   place c w (tree.index s a i) all =
       let sa = front _ (expressions a) (expressions i) all.1 in
       index_form c w s a i _ all.0.has (place c w a sa) (suits c w a sa) (suits c w i (back _ (expressions a) (expressions i) all.1))
   place c w (tree.field s a v n) all = field_form c w s a v n _ all.0.has (place c w a all.1) (suits c w a all.1)
-  place c w (tree.unary s Negate a) all = tt
-  place c w (tree.unary s Not a) all = tt
-  place c w (tree.unary s Complement a) all = tt
   place c w (tree.unary s Dereference a) all = (suits c w a all.1, dereferenced c w s a _ all.0.has)
-  place c w (tree.binary s o site a b) all = tt
+  place c w _ all = tt

@@ -18,10 +18,7 @@ use Rattle.sharc_lemmas.proofs.Lists.{there_is as inside}
 named_count : (bytes : List ℕ) (told : List Row) (names : List (List ℕ)) (made : List Row) → AreNamed bytes told names made → length made ≡ length told
 named_count bytes [] [] [] h = refl
 named_count bytes (x ∷ xs) (n ∷ ns) (y ∷ ys) h = ap suc (named_count bytes xs ns ys h.1)
-named_count bytes [] [] (y ∷ ys) h = absurd h
-named_count bytes [] (n ∷ ns) ys h = absurd h
-named_count bytes (x ∷ xs) [] ys h = absurd h
-named_count bytes (x ∷ xs) (n ∷ ns) [] h = absurd h
+named_count bytes _ _ _ h = absurd h
 
 row_count : (m : Assignment) (globals : List GlobalCells) (pc : ℕ) (fs : List Function) → length (rows_of m globals pc fs) ≡ length fs
 row_count m globals pc [] = refl

@@ -1,18 +1,18 @@
 -- No position of a program whose lock paths are fit is locked behind a sibling pointer.
 use Rattle.std.proofs.{Common.{◌≡◌, ℕ, zero, suc, ◌<◌, ◌++◌, length, arith, ◌==◌, eqb-true, Bool, true, false, ◌&&◌, ◌||◌, not, cond, List, [], ◌∷◌, drop, refl, ap, sym, subst, ⊎_elim, Option, Some, None}, lemmas.Bool.{false≢true, and_parts, or_cases, or_parts as neither_open}}
 use Rattle.std.specs.{Prelude.{is_none, slice_index_or}, List.AllByRecursion, Option.option_or}
-use Rattle.sharc_tree.specs.{declared.ctype.Base.Base, declared.ctype.Path.Path, declared.ctype.Mode.Mode, declared.ctype.Mode.TheVariants.{Private, Readonly, Locked, Racy, Dynamic}, declared.tree.item.GlobalDefinition.GlobalDefinition}
+use Rattle.sharc_tree.specs.{declared.ctype.Base.Base, declared.ctype.Path.Path, declared.ctype.Mode.Mode, declared.ctype.Mode.TheVariants.{Private, Locked, Racy, Dynamic}, declared.tree.item.GlobalDefinition.GlobalDefinition}
 use Rattle.sharc_tree.specs.declared.ctype.Base.TheVariants as base
-use Rattle.sharc_names.specs.{declared.fault.Named.Named, Kinds.{Kind, object, array, null, is_pointer}, declared.types.Role.Role}
+use Rattle.sharc_names.specs.{declared.fault.Named.Named, Kinds.{Kind, object, is_pointer}, declared.types.Role.Role}
 use Rattle.sharc_names.specs.declared.fault.Named.TheVariants as named
-use Rattle.sharc_names.specs.Kinds as kinds
 use Rattle.sharc_ctype.specs.{Resolved.{Resolution, global_at, named_at, named_kind}, Entities.{first_depth, entities_in, entity_at}, declared.entity.Numbered.Numbered, declared.entity.Entity.Entity}
 use Rattle.sharc_mode.specs.{declared.place.Place.Place, declared.place.Place.TheVariants.{Global, Field, Local, Result}, Cells.{is_mutex_kind, is_behind_pointer, first_mode, global_cell}, Sharings.{Lock, is_field, lock_of, sharing_of}, WellFormed.{allows_path, path_fits, unless, unfit_path, unfit_path_in, allows_pointer, leaves_open, top_path_fits, unfit_top_path, first_unfit_path, place_of}, Settled.{is_mutex, settled, field_target, otherwise_of, settled_modes, settled_in, settled_at}, Flows.{IsLeastAssignment, mode_found}, Moded.{Assignment, mode_at}}
-use Rattle.sharc_graph.specs.{declared.graph.NodeFinding.NodeFinding, declared.graph.NodeFinding.TheVariants.{Apart, Source, Behind}, Findings.finding_at}
+use Rattle.sharc_graph.specs.{declared.graph.NodeFinding.NodeFinding, declared.graph.NodeFinding.TheVariants.Apart, Findings.finding_at}
 use Rattle.sharc_flat_laws.specs.Stands.{IsFit, FitAreUnguarded}
 use Rattle.sharc_names.specs.declared.types.Role.TheVariants as role
 use Rattle.sharc_meaning.specs.Cells.{field_place}
 use Rattle.sharc_flat.specs.Places.{guard_named, guard_field}
+use Rattle.sharc_lemmas.proofs.Bools.{not_true as not_false}
 
 mutex_pointer : (k : Kind) → is_mutex_kind k ≡ true → is_pointer k ≡ false
 mutex_pointer (object base.Mutex n) h = by (n == 0) refl h
@@ -20,35 +20,19 @@ mutex_pointer (object base.Mutex n) h = by (n == 0) refl h
     by : (z : Bool) → (n == 0) ≡ z → z ≡ true → is_pointer (object base.Mutex n) ≡ false
     by true is t = ap (λ x. is_pointer (object base.Mutex x)) (eqb-true n 0 is)
     by false is t = absurd (false≢true t)
-mutex_pointer (object base.Int n) h = absurd (false≢true h)
-mutex_pointer (object base.Char n) h = absurd (false≢true h)
-mutex_pointer (object base.Long n) h = absurd (false≢true h)
-mutex_pointer (object base.Void n) h = absurd (false≢true h)
-mutex_pointer (object (base.Struct x) n) h = absurd (false≢true h)
-mutex_pointer (array b n) h = absurd (false≢true h)
-mutex_pointer null h = absurd (false≢true h)
-mutex_pointer kinds.function h = absurd (false≢true h)
+mutex_pointer _ h = absurd (false≢true h)
 
 -- a path that fits below the top names no sibling pointer
 fit_behind : (r : Resolution) (p : Place) (n : Named) (s : Option (List ℕ)) → allows_path r p n s ≡ true → ((is_field n && is_none s) && is_pointer (named_kind r n)) ≡ false
-fit_behind r p (named.Struct x) s h = refl
-fit_behind r p (named.Global x) s h = refl
-fit_behind r p (named.Function x) s h = refl
-fit_behind r p (named.Variable x) s h = refl
-fit_behind r p named.Known s h = refl
-fit_behind r p (named.Field x) (Some y) h = refl
 fit_behind r Field (named.Field x) None h = mutex_pointer (named_kind r (named.Field x)) h
 fit_behind r Global (named.Field x) None h = absurd (false≢true h)
 fit_behind r Local (named.Field x) None h = absurd (false≢true h)
 fit_behind r Result (named.Field x) None h = absurd (false≢true h)
+fit_behind r p _ _ h = refl
 
 unguarded_named : (r : Resolution) (l : Lock) (n : Named) → is_behind_pointer r l ≡ false → guard_named r l n ≡ None
-unguarded_named r l (named.Struct x) h = refl
-unguarded_named r l (named.Global x) h = refl
-unguarded_named r l (named.Function x) h = refl
-unguarded_named r l (named.Variable x) h = refl
-unguarded_named r l named.Known h = refl
 unguarded_named r l (named.Field x) h = ap (λ b. cond b (Some (field_place r x)) None) h
+unguarded_named r l _ h = refl
 
 pub unguarded_path : (r : Resolution) (p : Place) (l : Lock) → path_fits r p l ≡ true → guard_named r l (named_at r l.first) ≡ None
 unguarded_path r p l h = unguarded_named r l (named_at r l.first) (fit_behind r p (named_at r l.first) l.second h)
@@ -67,11 +51,8 @@ fits_by false x h = absurd (no_path x h)
 
 pub unguarded_level : (r : Resolution) (p : Place) (level : Option Mode) → unfit_path r p level ≡ None → IsUnguarded r level
 unguarded_level r p None h = tt
-unguarded_level r p (Some Private) h = refl
-unguarded_level r p (Some Readonly) h = refl
 unguarded_level r p (Some (Locked path)) h = unguarded_path r p (lock_of path) (fits_by (path_fits r p (lock_of path)) path h)
-unguarded_level r p (Some Racy) h = refl
-unguarded_level r p (Some Dynamic) h = refl
+unguarded_level r p _ h = refl
 
 neither : (a b : Option Path) → option_or a b ≡ None → (a ≡ None) × (b ≡ None)
 neither None b h = (refl, h)
@@ -118,11 +99,8 @@ global_unguarded r b (top ∷ below) h =
 
     top_level : (level : Option Mode) → unfit_top_path r Global b below level ≡ None → IsUnguarded r level
     top_level None h = tt
-    top_level (Some Private) h = refl
-    top_level (Some Readonly) h = refl
     top_level (Some (Locked path)) h = unguarded_path r Global (lock_of path) (or_false _ (fits_by (top_path_fits r Global b below (lock_of path)) path h))
-    top_level (Some Racy) h = refl
-    top_level (Some Dynamic) h = refl
+    top_level _ h = refl
 
 -- those of a field: its top may be locked behind a sibling pointer only where no target takes its mode
 pub field_unguarded : (r : Resolution) (b : Base) (top : Option Mode) (below : List (Option Mode)) → first_unfit_path r Field b (top ∷ below) ≡ None → AllByRecursion (IsUnguarded r) (settled b (Some (field_target (top ∷ below))) below)
@@ -130,24 +108,17 @@ field_unguarded r b top below h =
     let n = neither (unfit_path_in r Field below) (unfit_top_path r Field b below top) h in
     by top n.1 (unguarded_levels r Field below n.0)
   where
-    not_false : (z : Bool) → not z ≡ true → z ≡ false
-    not_false true e = absurd (false≢true e)
-    not_false false e = refl
-
     closed : (n : Named) (s : Option (List ℕ)) → allows_pointer r Field b below n s ≡ true → leaves_open b below ≡ false
     closed n None e = not_false _ (and_parts _ _ e).1
     closed n (Some x) e = absurd (false≢true e)
 
     by : (level : Option Mode) → unfit_top_path r Field b below level ≡ None → AllByRecursion (IsUnguarded r) below → AllByRecursion (IsUnguarded r) (settled b (Some (field_target (level ∷ below))) below)
     by None h all = settled_all r b (Some Dynamic) below refl all
-    by (Some Private) h all = settled_all r b (Some Private) below refl all
-    by (Some Readonly) h all = settled_all r b (Some Readonly) below refl all
     by (Some (Locked path)) h all =
         ⊎_elim (λ f. settled_all r b (Some (Locked path)) below (unguarded_path r Field (lock_of path) f) all)
         (λ q. settled_closed r b (Some (Locked path)) below (closed (named_at r (lock_of path).first) (lock_of path).second q) all)
         (or_cases _ _ (fits_by (top_path_fits r Field b below (lock_of path)) path h))
-    by (Some Racy) h all = settled_all r b (Some Racy) below refl all
-    by (Some Dynamic) h all = settled_all r b (Some Dynamic) below refl all
+    by k h all = settled_all r b k below refl all
 
 -- those of an entity
 below_top : (r : Resolution) (p : Place) (b : Base) (levels : List (Option Mode)) → first_unfit_path r p b levels ≡ None → AllByRecursion (IsUnguarded r) (settled b None (drop 1 levels))
@@ -161,11 +132,8 @@ field_levels r b (top ∷ below) h = field_unguarded r b top below h
 role_levels : (r : Resolution) (where_ : Role) (b : Base) (levels : List (Option Mode)) → first_unfit_path r (place_of where_) b levels ≡ None → AllByRecursion (IsUnguarded r) (settled b (otherwise_of where_ levels) (drop (first_depth where_) levels))
 role_levels r role.Field b levels h = field_levels r b levels h
 role_levels r role.Global b levels h = global_unguarded r b levels h
-role_levels r role.Local b levels h = below_top r Local b levels h
-role_levels r role.Parameter b levels h = below_top r Local b levels h
 role_levels r role.Result b levels h = below_top r Result b levels h
-role_levels r role.Cast b levels h = below_top r Local b levels h
-role_levels r role.Made b levels h = below_top r Local b levels h
+role_levels r _ b levels h = below_top r Local b levels h
 
 pub entity_unguarded : (r : Resolution) (e : Entity) → first_unfit_path r (place_of e.role) e.written.ctype.base e.written.ctype.levels ≡ None → AllByRecursion (IsUnguarded r) (settled_modes e)
 entity_unguarded r e h = role_levels r e.role e.written.ctype.base e.written.ctype.levels h
@@ -193,8 +161,7 @@ everywhere Q (x ∷ rest) q f (suc p) = everywhere Q rest q (λ k low. f (suc k)
 found_unguarded : (r : Resolution) (level : Option Mode) (finding : NodeFinding) → IsUnguarded r level → guard_field r (sharing_of (mode_found level finding)) ≡ None
 found_unguarded r (Some mode) finding h = h
 found_unguarded r None Apart h = refl
-found_unguarded r None Source h = refl
-found_unguarded r None (Behind rank reason) h = refl
+found_unguarded r None _ h = refl
 
 mode_unguarded : (m : Assignment) → IsLeastAssignment m → AllByRecursion (IsFit m.typed) (entities_in m.typed.program.items) → (position : ℕ) → guard_field m.typed (mode_at m position) ≡ None
 mode_unguarded m least fit = everywhere (λ mode. guard_field m.typed (sharing_of mode) ≡ None) m.modes refl

@@ -61,16 +61,8 @@ initial_suits c w scope block same d (Some x) own k h m f l =
     )
 
 no_declaration : (a : Statement) → is_statement a ≡ true → is_declaration a ≡ false
-no_declaration (tree.empty s) h = refl
-no_declaration (tree.block s x) h = refl
 no_declaration (tree.declare s l) h = absurd (false≢true h)
-no_declaration (tree.simple s x) h = refl
-no_declaration (tree.jump s j) h = refl
-no_declaration (tree.return s e) h = refl
-no_declaration (tree.if_then s e a) h = refl
-no_declaration (tree.if_then_else s e a b) h = refl
-no_declaration (tree.while s e a) h = refl
-no_declaration (tree.for s x a) h = refl
+no_declaration _ h = refl
 
 first_suits : (c : Context) → Facts c.program → (around : Around) (scope : Scope) → Same c scope.names → (x : First) → AllByRecursion (Own c.program.typed) (first_locals x) → AreKnown c (places_in_first around scope x) → AreTyped c.program.typed (in_first x)
     → MeetsFirst c.program.typed x → AllByRecursion (IsFair c.program.typed) (first_transfers c.program.typed x) → FirstLocks c.program around scope.names x → FirstSuits c x
@@ -79,21 +71,12 @@ first_suits c w around scope same (declares d) own k h m f l = initial_suits c w
 first_suits c w around scope same (does x) own k h m f l = simple_suits c w x (stand c scope same.names (in_simple x) k h) m f
 
 behind_head : (c : Context) (around : Around) (names : List Entry) → Same c names → (x : First) → AllByRecursion (Own c.program.typed) (first_locals x) → Same (flat_first c x) (behind_first around names x)
-behind_head c around names same nothing own = same
 behind_head c around names same (declares l) own = with_variable c around.block l.declaration names same own.0
-behind_head c around names same (does x) own = same
+behind_head c around names same _ own = same
 
 behind_one : (c : Context) (around : Around) (names : List Entry) → Same c names → (a : Statement) → AllByRecursion (Own c.program.typed) (locals_in a) → Same (flat_statement c a) (after around names a)
-behind_one c around names same (tree.empty s) own = same
-behind_one c around names same (tree.block s x) own = same
 behind_one c around names same (tree.declare s l) own = with_variable c around.block l.declaration names same own.0
-behind_one c around names same (tree.simple s x) own = same
-behind_one c around names same (tree.jump s j) own = same
-behind_one c around names same (tree.return s e) own = same
-behind_one c around names same (tree.if_then s e a) own = same
-behind_one c around names same (tree.if_then_else s e a b) own = same
-behind_one c around names same (tree.while s e a) own = same
-behind_one c around names same (tree.for s x a) own = same
+behind_one c around names same _ own = same
 
 tests_suit : (c : Context) → Facts c.program → (e : Option Expression) → Stand c (in_option expressions e) → IfSome e (MeetsTest c.program.typed) → IfThere (TestSuits c) e
 tests_suit c w None st m = tt
@@ -111,21 +94,12 @@ return_suits c w t (Some e) st m f = (suits c w e st, goes_to (declared_kind t) 
 -- the program stays the same
 
 first_program : (P : Assignment → Type 0) (c : Context) (x : First) → P c.program → P (flat_first c x).program
-first_program P c nothing h = h
-first_program P c (declares l) h = h
 first_program P c (does x) h = h
+first_program P c _ h = h
 
 statement_program : (P : Assignment → Type 0) (c : Context) (a : Statement) → P c.program → P (flat_statement c a).program
 statement_program P c (tree.empty s) h = h
-statement_program P c (tree.block s x) h = h
-statement_program P c (tree.declare s l) h = h
-statement_program P c (tree.simple s x) h = h
-statement_program P c (tree.jump s j) h = h
-statement_program P c (tree.return s e) h = h
-statement_program P c (tree.if_then s e a) h = h
-statement_program P c (tree.if_then_else s e a b) h = h
-statement_program P c (tree.while s e a) h = h
-statement_program P c (tree.for s x a) h = h
+statement_program P c _ h = h
 
 -- what is known of a statement
 record Given (m : Assignment) (around : Around) (scope : Scope) (t : WrittenType) (in_loop : Bool) (a : Statement) : Type 0 where

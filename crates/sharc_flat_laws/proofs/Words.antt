@@ -1,7 +1,7 @@
 -- What globals hold at first are words, and globals lie one after the other.
 use Rattle.std.proofs.Common.{◌≡◌, ℕ, zero, suc, ℤ, pos, negsuc, ◌+◌, ◌*◌, ◌/◌, ◌^◌, ◌<◌, ◌≤◌, inl, inr, Bool, true, false, cond, List, [], ◌∷◌, ◌++◌, length, take, replicate, Some, refl, sym, subst, arith}
 use Rattle.std.specs.{Prelude.{neg_ℤ, slice_index, slice_index_or, unsigned_abs}, List.AllByRecursion}
-use Rattle.sharc_tree.specs.{declared.ctype.Base.Base, declared.ctype.Base.TheVariants.{Int, Char, Long, Mutex, Void, Struct}, declared.tree.declaration.WrittenType.WrittenType, declared.tree.expression.Constant.Constant, declared.tree.expression.Constant.TheVariants.{Number, Character, Null}, declared.tree.item.GlobalDefinition.GlobalDefinition, declared.tree.item.GlobalForm.GlobalForm, declared.tree.item.GlobalForm.TheVariants.{Plain, Array, Initial}}
+use Rattle.sharc_tree.specs.{declared.ctype.Base.Base, declared.ctype.Base.TheVariants.{Int, Char, Long, Mutex, Void, Struct}, declared.tree.declaration.WrittenType.WrittenType, declared.tree.expression.Constant.Constant, declared.tree.expression.Constant.TheVariants.{Number, Character, Null}, declared.tree.item.GlobalDefinition.GlobalDefinition, declared.tree.item.GlobalForm.GlobalForm, declared.tree.item.GlobalForm.TheVariants.Initial}
 use Rattle.sharc_code.specs.{Arithmetic.word_of, Ranges.{GlobalsFit, first_place, end_place}, Says.no_global}
 use Rattle.sharc_ctype.specs.Resolved.{Resolution}
 use Rattle.sharc_ctype_laws.specs.Initials.{IsHeldBy, MeetsInitial, MeetsGlobal, number_of}
@@ -16,9 +16,8 @@ word_small (pos n) h = omega arith
 word_small (negsuc n) h = omega arith
 
 negative_same : (z : ℤ) → unsigned_abs (neg_ℤ z) ≡ unsigned_abs z
-negative_same (pos zero) = refl
 negative_same (pos (suc n)) = refl
-negative_same (negsuc n) = refl
+negative_same _ = refl
 
 held_small : (b : Base) (minus : Bool) (n : ℕ) → IsHeldBy b minus n → n ≤ 2 ^ 63
 held_small Int true n h = omega arith
@@ -44,10 +43,9 @@ signed_small true z h = word_small (neg_ℤ z) (subst (λ n. n ≤ 2 ^ 63) (sym 
 signed_small false z h = word_small z h
 
 form_small : (w : WrittenType) (form : GlobalForm) → MeetsInitial w form → word_of (form_value form) < 2 ^ 64
-form_small w Plain h = omega arith
-form_small w (Array at count) h = omega arith
 form_small w (Initial span minus c) (inl h) = signed_small minus (constant_value c) (constant_small c h.1 h.2 (held_small w.ctype.base minus h.1 h.3))
 form_small w (Initial span minus c) (inr h) = signed_small minus (constant_value c) (subst (λ c. unsigned_abs (constant_value c) ≤ 2 ^ 63) (sym h.1) (omega arith))
+form_small w _ h = omega arith
 
 abbrev AreWords : List ℕ → Type 0
 AreWords [] = Unit {0}
