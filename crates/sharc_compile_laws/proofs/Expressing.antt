@@ -1,17 +1,17 @@
 -- The code of an expression: after it one register more holds something, if its value is a reference.
 use Rattle.std.specs.Prelude.{ℤ}
 use Rattle.std.proofs.{Common.{◌≡◌, ℕ, zero, suc, ◌+◌, ◌<◌, ◌≤◌, Bool, true, false, cond, List, [], ◌∷◌, ◌++◌, length, map, refl, ap, sym, ◌∙◌, subst, arith, Option, Some, None, codes, bytes_eq, if◌then◌else◌}, lemmas.Bool.false≢true}
-use Rattle.sharc_tree.specs.{declared.token.Site.Site, declared.token.Span.Span, declared.tree.declaration.Identifier.Identifier, declared.tree.expression.FieldOperator.FieldOperator, declared.tree.expression.FieldOperator.TheVariants.{Dot, Arrow}, declared.tree.expression.BinaryOperator.BinaryOperator, declared.tree.expression.BinaryOperator.TheVariants.{LogicalOr, LogicalAnd, BitOr, BitXor, BitAnd, Equal, NotEqual, Less, Greater, LessOrEqual, GreaterOrEqual, ShiftLeft, ShiftRight, Add, Subtract, Multiply, Divide, Remainder}, declared.tree.expression.PlaceCall.PlaceCall, declared.tree.expression.PlaceCall.TheVariants.{Lock, Unlock, Free}, declared.tree.expression.UnaryOperator.TheVariants.{Negate, Not, Complement, Dereference}, Spans.span_of, Tree.{Expression, identifier, constant, parentheses, call, spawn, on_value, on_place, cast, index, field, unary, binary, Arguments, no_arguments, argument, Function}}
+use Rattle.sharc_tree.specs.{declared.token.Site.Site, declared.token.Span.Span, declared.tree.declaration.Identifier.Identifier, declared.tree.expression.FieldOperator.FieldOperator, declared.tree.expression.FieldOperator.TheVariants.{Dot, Arrow}, declared.tree.expression.BinaryOperator.BinaryOperator, declared.tree.expression.BinaryOperator.TheVariants.{LogicalOr, LogicalAnd, Equal, NotEqual, Less, Greater, LessOrEqual, GreaterOrEqual, ShiftLeft, ShiftRight}, declared.tree.expression.PlaceCall.PlaceCall, declared.tree.expression.PlaceCall.TheVariants.{Lock, Unlock, Free}, declared.tree.expression.UnaryOperator.TheVariants.{Negate, Not, Complement, Dereference}, Spans.span_of, Tree.{Expression, identifier, constant, parentheses, call, spawn, on_value, on_place, cast, index, field, unary, binary, Arguments, no_arguments, argument, Function}}
 use Rattle.sharc_names.specs.{declared.fault.Named.Named, Kinds.{Kind, is_array, is_integer, element_kind, declared_kind, declared_kinds}}
 use Rattle.sharc_names.specs.declared.fault.Named.TheVariants as named
 use Rattle.sharc_code.specs.declared.code.Use.TheVariants as uses
 use Rattle.sharc_ctype.specs.{Resolved.{kind_at, function_at, result_kind_of, global_at}, Transfers.{parameters_named, parameters_of}}
 use Rattle.sharc_mode.specs.{Moded.Assignment, Sharings.Sharing}
 use Rattle.sharc_meaning.specs.{Cells.{element_cells, field_place_named, global_elements}, Expressions.number_named, State.is_reference}
-use Rattle.sharc_flat.specs.{declared.op.Op.Op, declared.op.Spot.Spot, Machine.{Flat, function_of, first_cell}, declared.slot.Lvalue.Lvalue, Scope.{Context, slot_of, ref_count, at_site}, Places.{Target, variable, in_global, in_global_at, in_object, in_object_at, target, own_field, global_of, base_width, take_code, bounds_code, index_code, pointee_code}, Flattened.{kind_of, is_ref, target_of, mode_of, what_names, lvalue_in, named_code, truth_code, compare_code, binary_code, behind_int, behind_ref, called_code, passed_code, place_call_code, cast_code, guard_of, taken_guard, field_code, expression_code, arguments_code, place_code}, Suits.{Suits, PlaceSuits, ArgumentsSuit, ReferencesSuit, NameSuits, CallSuits, FieldSuits, TakeSuits, PlaceCallSuits, OperandsSuit, Either}}
+use Rattle.sharc_flat.specs.{declared.op.Op.Op, declared.op.Spot.Spot, Machine.{Flat, function_of, first_cell}, declared.slot.Lvalue.Lvalue, Scope.{Context, slot_of, ref_count, at_site}, Places.{Target, variable, in_global, in_global_at, in_object_at, target, own_field, global_of, base_width, take_code, bounds_code, index_code, pointee_code}, Flattened.{kind_of, is_ref, target_of, mode_of, what_names, lvalue_in, named_code, truth_code, compare_code, binary_code, behind_int, behind_ref, called_code, passed_code, place_call_code, cast_code, guard_of, taken_guard, field_code, expression_code, arguments_code, place_code}, Suits.{Suits, PlaceSuits, ArgumentsSuit, ReferencesSuit, NameSuits, CallSuits, FieldSuits, TakeSuits, PlaceCallSuits, OperandsSuit, Either}}
 use Rattle.sharc_flat.specs.declared.op.Op.TheVariants as op
 use Rattle.sharc_guard.specs.Level.{Slot, free, full, Fits, Slots, result_slot, Enters, Level}
-use Rattle.sharc_compile_laws.proofs.{Located.{width, pointers, pointers_are}, Pieces.line, Parts.{plain_integer, wide_promoted, wide_common, IsKept, kept_cell, P, B, then_do, pre, post, none, keeps, enter, null_at, values, takes, passes_kept, truths, compares, logicals, eithers, pointees, bounded, conditions, spawns, value_calls, locked_at, unlocked_at, freed_if, given_if}, Slots.{AreFit, fits_full, fits_free, below, below_full, shifted}}
+use Rattle.sharc_compile_laws.proofs.{Located.{width, pointers, pointers_are}, Pieces.line, Parts.{plain_integer, wide_promoted, wide_common, IsKept, kept_cell, P, B, then_do, pre, post, none, keeps, enter, null_at, values, takes, passes_kept, truths, compares, logicals, eithers, pointees, bounded, conditions, spawns, value_calls, locked_at, unlocked_at, freed_if, given_if}, Slots.{AreFit, fits_full, fits_free, below, below_full, shifted, fits_through as through}}
 
 -- each function finds what its callers leave for it
 abbrev pub Entries : Flat → Assignment → (ℕ → Slots) → Type 0
@@ -67,11 +67,6 @@ module _ (flat : Flat) (owner : ℕ → ℕ) (f : ℕ) (m : Assignment) where
   reference_value r xs b e p = let z = ap width e in longer r (r + width b) (r + 1) xs (omega (arith, z)) p
 
   -- ---- a call
-  through : (x y z : Slot) → Fits x y → Fits y z → Fits x z
-  through free y z a b = fits_free z
-  through full free z a b = absurd a
-  through full full z a b = b
-
   kept : (x y : Slot) → Fits full y → Fits x y
   kept x full h = fits_full x
   kept x free h = absurd h
@@ -111,10 +106,7 @@ module _ (flat : Flat) (owner : ℕ → ℕ) (f : ℕ) (m : Assignment) where
   call_all c same i r kind named.Known name all spot args refs h =
       joined r (r + cond (bytes_eq name (codes "wait")) 2 1) (r + width (is_reference kind)) (arguments_code c i r [] all) (called_code i r spot named.Known name all) (refs (cond (bytes_eq name (codes "wait")) 2 1) h.0)
       (longer (r + cond (bytes_eq name (codes "wait")) 2 1) r (r + width (is_reference kind)) (called_code i r spot named.Known name all) (omega arith) (conditions flat owner g f D r spot name all))
-  call_all c same i r kind (named.Variable x) name all spot args refs h = absurd h
-  call_all c same i r kind (named.Global x) name all spot args refs h = absurd h
-  call_all c same i r kind (named.Field x) name all spot args refs h = absurd h
-  call_all c same i r kind (named.Struct x) name all spot args refs h = absurd h
+  call_all c same i r kind _ name all spot args refs h = absurd h
 
   -- ---- operators
   sides : (ba bb : Bool) → ba ≡ bb → (i r : ℕ) (o : BinaryOperator) (xs : List Op) (ys : ℕ → ℕ → List Op) (last : Op) → Q r xs (r + width ba) → ((i2 r2 : ℕ) → r ≤ r2 → Q r2 (ys i2 r2) (r2 + width bb)) → Q r (last ∷ []) r
@@ -142,9 +134,6 @@ module _ (flat : Flat) (owner : ℕ → ℕ) (f : ℕ) (m : Assignment) where
       logicals flat owner g f D i r (xs ++ truth_code (is_ref c a) i r) (ys i r ++ truth_code (is_ref c b) i r) (joined r (r + width (is_ref c a)) r xs _ p (truth_of (is_ref c a) i r)) (joined r (r + width (is_ref c b)) r (ys i r) _ (q i r (omega arith)) (truth_of (is_ref c b) i r))
   binaries c i r site LogicalOr a b xs ys h p q =
       eithers flat owner g f D i r (xs ++ truth_code (is_ref c a) i r) (ys i r ++ truth_code (is_ref c b) i r) (joined r (r + width (is_ref c a)) r xs _ p (truth_of (is_ref c a) i r)) (joined r (r + width (is_ref c b)) r (ys i r) _ (q i r (omega arith)) (truth_of (is_ref c b) i r))
-  binaries c i r site BitOr a b xs ys h p q = sides (is_ref c a) (is_ref c b) (both_plain (kind_of c a) (kind_of c b) h) i r BitOr xs ys _ p q (one r (op.Compute _ _ _ _ _ _) (λ table pc n. (wide_common (kind_of c a) (kind_of c b), n)))
-  binaries c i r site BitXor a b xs ys h p q = sides (is_ref c a) (is_ref c b) (both_plain (kind_of c a) (kind_of c b) h) i r BitXor xs ys _ p q (one r (op.Compute _ _ _ _ _ _) (λ table pc n. (wide_common (kind_of c a) (kind_of c b), n)))
-  binaries c i r site BitAnd a b xs ys h p q = sides (is_ref c a) (is_ref c b) (both_plain (kind_of c a) (kind_of c b) h) i r BitAnd xs ys _ p q (one r (op.Compute _ _ _ _ _ _) (λ table pc n. (wide_common (kind_of c a) (kind_of c b), n)))
   binaries c i r site Equal a b xs ys h p q = sides (is_ref c a) (is_ref c b) (same_sort (kind_of c a) (kind_of c b) h) i r Equal xs ys _ p q (one r (op.Compute _ _ _ _ _ _) (λ table pc n. (tt, n)))
   binaries c i r site NotEqual a b xs ys h p q = sides (is_ref c a) (is_ref c b) (same_sort (kind_of c a) (kind_of c b) h) i r NotEqual xs ys _ p q (one r (op.Compute _ _ _ _ _ _) (λ table pc n. (tt, n)))
   binaries c i r site Less a b xs ys h p q = sides (is_ref c a) (is_ref c b) (both_plain (kind_of c a) (kind_of c b) h) i r Less xs ys _ p q (one r (op.Compute _ _ _ _ _ _) (λ table pc n. (tt, n)))
@@ -153,20 +142,13 @@ module _ (flat : Flat) (owner : ℕ → ℕ) (f : ℕ) (m : Assignment) where
   binaries c i r site GreaterOrEqual a b xs ys h p q = sides (is_ref c a) (is_ref c b) (both_plain (kind_of c a) (kind_of c b) h) i r GreaterOrEqual xs ys _ p q (one r (op.Compute _ _ _ _ _ _) (λ table pc n. (tt, n)))
   binaries c i r site ShiftLeft a b xs ys h p q = sides (is_ref c a) (is_ref c b) (both_plain (kind_of c a) (kind_of c b) h) i r ShiftLeft xs ys _ p q (one r (op.Compute _ _ _ _ _ _) (λ table pc n. (wide_promoted (kind_of c a), n)))
   binaries c i r site ShiftRight a b xs ys h p q = sides (is_ref c a) (is_ref c b) (both_plain (kind_of c a) (kind_of c b) h) i r ShiftRight xs ys _ p q (one r (op.Compute _ _ _ _ _ _) (λ table pc n. (wide_promoted (kind_of c a), n)))
-  binaries c i r site Add a b xs ys h p q = sides (is_ref c a) (is_ref c b) (both_plain (kind_of c a) (kind_of c b) h) i r Add xs ys _ p q (one r (op.Compute _ _ _ _ _ _) (λ table pc n. (wide_common (kind_of c a) (kind_of c b), n)))
-  binaries c i r site Subtract a b xs ys h p q = sides (is_ref c a) (is_ref c b) (both_plain (kind_of c a) (kind_of c b) h) i r Subtract xs ys _ p q (one r (op.Compute _ _ _ _ _ _) (λ table pc n. (wide_common (kind_of c a) (kind_of c b), n)))
-  binaries c i r site Multiply a b xs ys h p q = sides (is_ref c a) (is_ref c b) (both_plain (kind_of c a) (kind_of c b) h) i r Multiply xs ys _ p q (one r (op.Compute _ _ _ _ _ _) (λ table pc n. (wide_common (kind_of c a) (kind_of c b), n)))
-  binaries c i r site Divide a b xs ys h p q = sides (is_ref c a) (is_ref c b) (both_plain (kind_of c a) (kind_of c b) h) i r Divide xs ys _ p q (one r (op.Compute _ _ _ _ _ _) (λ table pc n. (wide_common (kind_of c a) (kind_of c b), n)))
-  binaries c i r site Remainder a b xs ys h p q = sides (is_ref c a) (is_ref c b) (both_plain (kind_of c a) (kind_of c b) h) i r Remainder xs ys _ p q (one r (op.Compute _ _ _ _ _ _) (λ table pc n. (wide_common (kind_of c a) (kind_of c b), n)))
+  binaries c i r site k a b xs ys h p q = sides (is_ref c a) (is_ref c b) (both_plain (kind_of c a) (kind_of c b) h) i r k xs ys _ p q (one r (op.Compute _ _ _ _ _ _) (λ table pc n. (wide_common (kind_of c a) (kind_of c b), n)))
 
   -- the value of what is named, and of a constant
   names : (c : Context) (i r : ℕ) → ref_count c.scope ≤ r → (site : Site) (lvalue : Lvalue) (mode mode2 : Sharing) (kind : Kind) (n : Named) → NameSuits c kind mode2 n → Q r (named_code c i r site lvalue mode (is_reference kind) n) (r + width (is_reference kind))
   names c i r le site lvalue mode mode2 kind (named.Variable x) h = lower r (r + 0) (r + width (is_reference kind)) _ (omega arith) (values flat owner g f D c i r site lvalue mode (is_reference kind) (variable x) le h)
   names c i r le site lvalue mode mode2 kind (named.Global x) h = lower r (r + 0) (r + width (is_reference kind)) _ (omega arith) (values flat owner g f D c i r site lvalue mode (is_reference kind) (in_global x 0) le tt)
-  names c i r le site lvalue mode mode2 kind (named.Field x) h = nothing_at r (r + width (is_reference kind)) (omega arith)
-  names c i r le site lvalue mode mode2 kind (named.Struct x) h = nothing_at r (r + width (is_reference kind)) (omega arith)
-  names c i r le site lvalue mode mode2 kind (named.Function x) h = nothing_at r (r + width (is_reference kind)) (omega arith)
-  names c i r le site lvalue mode mode2 kind named.Known h = nothing_at r (r + width (is_reference kind)) (omega arith)
+  names c i r le site lvalue mode mode2 kind _ h = nothing_at r (r + width (is_reference kind)) (omega arith)
 
   zeros : (b : Bool) (i r : ℕ) (v : ℤ) → Q r (cond b (op.Null r ∷ []) (op.Constant i v ∷ [])) (r + width b)
   zeros true i r v = null_at flat owner g f D r
@@ -203,10 +185,7 @@ module _ (flat : Flat) (owner : ℕ → ℕ) (f : ℕ) (m : Assignment) where
 
   taken_kept : (c : Context) (mode : Sharing) (t : Target) → TakeSuits c mode t → IsKept c true t
   taken_kept c mode (variable x) h = h
-  taken_kept c mode (in_global x n) h = tt
-  taken_kept c mode (in_global_at x n) h = tt
-  taken_kept c mode (in_object n) h = tt
-  taken_kept c mode (in_object_at n) h = tt
+  taken_kept c mode _ h = tt
 
   place_calls : (c : Context) (i r : ℕ) → ref_count c.scope ≤ r → (s : Span) (w : PlaceCall) (a : Expression) (xs : List Op) → PlaceCallSuits c w a → Q r xs (r + base_width (target_of c a)) → Q r (place_call_code c i r s w a xs) r
   place_calls c i r le s Lock a xs h p = joined r (r + base_width (target_of c a)) r xs _ p (locked_at flat owner g f D c i r _ _ _ (target_of c a))
@@ -336,13 +315,4 @@ module _ (flat : Flat) (owner : ℕ → ℕ) (f : ℕ) (m : Assignment) where
     places c same i r le site f2 guard (field s a w n) h = enters r (r + base_width (target c.program.typed f2 (field s a w n))) _
         (field_of c r site f2 s a w n (λ z. place_code c i r site z guard a) (expression_code c i r a) (PlaceSuits c a) (Suits c a) (λ (k : PlaceSuits c a) (z : Option ℕ). places c same i r le site z guard a k) (λ (k : Suits c a). expressions c same i r le a k) h)
     places c same i r le site f2 guard (unary s Dereference a) h = enters r (r + 1) _ (pointee_at r site (expression_code c i r a) (reference_value r (expression_code c i r a) (is_ref c a) h.1 (expressions c same i r le a h.0)))
-    places c same i r le site f2 guard (unary s Negate a) h = enters r (r + 0) [] (nothing_at r (r + 0) (omega arith))
-    places c same i r le site f2 guard (unary s Not a) h = enters r (r + 0) [] (nothing_at r (r + 0) (omega arith))
-    places c same i r le site f2 guard (unary s Complement a) h = enters r (r + 0) [] (nothing_at r (r + 0) (omega arith))
-    places c same i r le site f2 guard (constant s k) h = enters r (r + 0) [] (nothing_at r (r + 0) (omega arith))
-    places c same i r le site f2 guard (call s x all) h = enters r (r + 0) [] (nothing_at r (r + 0) (omega arith))
-    places c same i r le site f2 guard (spawn s x a) h = enters r (r + 0) [] (nothing_at r (r + 0) (omega arith))
-    places c same i r le site f2 guard (on_value s w a) h = enters r (r + 0) [] (nothing_at r (r + 0) (omega arith))
-    places c same i r le site f2 guard (on_place s w a) h = enters r (r + 0) [] (nothing_at r (r + 0) (omega arith))
-    places c same i r le site f2 guard (cast s t a) h = enters r (r + 0) [] (nothing_at r (r + 0) (omega arith))
-    places c same i r le site f2 guard (binary s o at a b) h = enters r (r + 0) [] (nothing_at r (r + 0) (omega arith))
+    places c same i r le site f2 guard _ h = enters r (r + 0) [] (nothing_at r (r + 0) (omega arith))

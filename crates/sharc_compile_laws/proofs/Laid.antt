@@ -1,5 +1,5 @@
 -- Code that is laid out overwrites no reference and names its mutexes, as the code does whose texts are given.
-use Rattle.std.proofs.Common.{◌≡◌, inl, inr, ℕ, zero, suc, ◌+◌, ◌-◌, ◌<◌, Bool, List, [], ◌∷◌, length, Some, None, refl, ap, sym, ◌∙◌, subst, arith}
+use Rattle.std.proofs.Common.{◌≡◌, inl, inr, ℕ, zero, suc, ◌+◌, ◌-◌, ◌<◌, Bool, List, [], ◌∷◌, length, Some, refl, ap, sym, ◌∙◌, subst, arith}
 use Rattle.std.specs.Prelude.{slice_get, slice_index_or}
 use Rattle.sharc_code.specs.{declared.code.Function.{Function as Row}, declared.code.Parameter.Parameter, declared.code.Text.Text, Machine.no_function, declared.code.GlobalCells.GlobalCells, declared.code.PlaceMode.PlaceMode, declared.instr.Cell.Cell}
 use Rattle.sharc_code.specs.declared.code.Parameter.TheVariants as parameters
@@ -39,13 +39,10 @@ lines_many r bytes (o ∷ os) (q ∷ ps) h = ap suc (lines_many r bytes os ps h.
 -- ---- rows
 pub rows_many : (bytes : List ℕ) (xs ys : List Row) (ns : List (List ℕ)) → AreNamed bytes xs ns ys → length xs ≡ length ys
 rows_many bytes [] [] [] h = refl
-rows_many bytes [] [] (n ∷ ns) h = absurd h
 rows_many bytes [] (y ∷ ys) [] h = absurd h
-rows_many bytes [] (y ∷ ys) (n ∷ ns) h = absurd h
 rows_many bytes (x ∷ xs) [] [] h = absurd h
-rows_many bytes (x ∷ xs) [] (n ∷ ns) h = absurd h
-rows_many bytes (x ∷ xs) (y ∷ ys) [] h = absurd h
 rows_many bytes (x ∷ xs) (y ∷ ys) (n ∷ ns) h = ap suc (rows_many bytes xs ys ns h.1)
+rows_many bytes _ _ _ h = absurd h
 
 pub record SameRow (x y : Row) : Type 0 where
   pub entry : y.entry ≡ x.entry
@@ -53,14 +50,11 @@ pub record SameRow (x y : Row) : Type 0 where
 
 pub rows_same : (bytes : List ℕ) (xs ys : List Row) (ns : List (List ℕ)) → AreNamed bytes xs ns ys → (k : ℕ) → SameRow (slice_index_or xs k no_function) (slice_index_or ys k no_function)
 rows_same bytes [] [] [] h k = record { entry = refl; parameter = refl }
-rows_same bytes [] [] (n ∷ ns) h k = absurd h
 rows_same bytes [] (y ∷ ys) [] h k = absurd h
-rows_same bytes [] (y ∷ ys) (n ∷ ns) h k = absurd h
 rows_same bytes (x ∷ xs) [] [] h k = absurd h
-rows_same bytes (x ∷ xs) [] (n ∷ ns) h k = absurd h
-rows_same bytes (x ∷ xs) (y ∷ ys) [] h k = absurd h
 rows_same bytes (x ∷ xs) (y ∷ ys) (n ∷ ns) h zero = record { entry = ap (λ (z : Row). z.entry) h.0.is; parameter = ap (λ (z : Row). z.parameter) h.0.is }
 rows_same bytes (x ∷ xs) (y ∷ ys) (n ∷ ns) h (suc k) = rows_same bytes xs ys ns h.1 k
+rows_same bytes _ _ _ h k = absurd h
 
 -- ---- what is level is so with its texts laid out
 module _ (a b : Flat) (lines : length a.lines ≡ length b.lines) (rows : length a.functions ≡ length b.functions) (same : (k : ℕ) → SameRow (function_of a k) (function_of b k)) (owner : ℕ → ℕ) (gives : ℕ → Bool) (slots : ℕ → Slots) where
@@ -77,59 +71,27 @@ module _ (a b : Flat) (lines : length a.lines ≡ length b.lines) (rows : length
   leaves f s h = record { result = h.result; others = h.others }
 
   level : (pc f : ℕ) (s : Slots) (lv lk : Text) (o : Op) → Level a owner gives slots pc f s o → Level b owner gives slots pc f s (with_texts lv lk o)
-  level pc f s lv lk op.Enter h = En f _ _ h
-  level pc f s lv lk (op.Constant i v) h = En f _ _ h
-  level pc f s lv lk (op.Move i from) h = En f _ _ h
   level pc f s lv lk (op.Compute width o i x y spot) h = (h.0, En f _ _ h.1)
   level pc f s lv lk (op.Negate width i x spot) h = (h.0, En f _ _ h.1)
-  level pc f s lv lk (op.Complement i x) h = En f _ _ h
-  level pc f s lv lk (op.IsFalse i x) h = En f _ _ h
-  level pc f s lv lk (op.SameReference i x y) h = En f _ _ h
-  level pc f s lv lk (op.ChkWidth width i spot) h = En f _ _ h
-  level pc f s lv lk (op.Skip n) h = En f _ _ h
   level pc f s lv lk (op.SkipIfZero i n) h = (En f _ _ h.0, En f _ _ h.1)
   level pc f s lv lk (op.SkipIfNull r n) h = (En f _ _ h.0, En f _ _ h.1)
-  level pc f s lv lk (op.Jump to) h = En f _ _ h
   level pc f s lv lk (op.Call g ints refs spot) h = (calls g s refs h.0, resumes f s refs (pc + 1) g h.1)
   level pc f s lv lk (op.Return spot) h = leaves f s h
-  level pc f s lv lk op.BlockEnd h = En f _ _ h
   level pc f s lv lk (op.Null r) h = (h.0, En f _ _ h.1)
   level pc f s lv lk (op.Local r x) h = (h.0, En f _ _ h.1)
   level pc f s lv lk (op.MoveReference r from) (inl h) = inl (h.0, En f _ _ h.1)
   level pc f s lv lk (op.MoveReference r from) (inr h) = inr (h.0, h.1, En f _ _ h.2)
-  level pc f s lv lk (op.Pop r) h = En f _ _ h
   level pc f s lv lk (op.Settle x from) h = (h.0, En f _ _ h.1)
-  level pc f s lv lk (op.ChkNull r spot) h = En f _ _ h
-  level pc f s lv lk (op.ChkPositive i spot) h = En f _ _ h
-  level pc f s lv lk (op.ChkHeld cell spot) h = En f _ _ h
-  level pc f s lv lk (op.ChkNotHeld cell spot) h = En f _ _ h
-  level pc f s lv lk (op.ChkRoom spot) h = En f _ _ h
-  level pc f s lv lk (op.Bounds i r cells field spot) h = En f _ _ h
-  level pc f s lv lk (op.GlobalBounds i elements cells field spot) h = En f _ _ h
-  level pc f s lv lk (op.Load i cell spot) h = En f _ _ h
-  level pc f s lv lk (op.Store i cell spot) h = En f _ _ h
   level pc f s lv lk (op.LoadRef r cell spot) h = (h.0, En f _ _ h.1)
-  level pc f s lv lk (op.StoreRef r cell spot) h = En f _ _ h
-  level pc f s lv lk (op.LoadGuard cell spot) h = En f _ _ h
   level pc f s lv lk (op.New r count cells spot) h = (h.0, En f _ _ h.1)
   level pc f s lv lk (op.TakeCell r cell spot) h = (h.0, En f _ _ h.1)
   level pc f s lv lk (op.TakeLocal r x spot) h = (h.0, h.1, En f _ _ h.2)
-  level pc f s lv lk (op.Give r cells spot) h = En f _ _ h
-  level pc f s lv lk (op.Free r layout spot) h = En f _ _ h
-  level pc f s lv lk (op.Lock cell spot) h = En f _ _ h
   level pc f s lv lk (op.Unlock r cell spot) h = (h.0, En f _ _ h.1)
-  level pc f s lv lk (op.CondEnter cell spot) h = En f _ _ h
-  level pc f s lv lk (op.CondWait cell spot) h = En f _ _ h
-  level pc f s lv lk (op.CondSignal cell spot) h = En f _ _ h
-  level pc f s lv lk (op.CondBroadcast cell spot) h = En f _ _ h
-  level pc f s lv lk (op.Spawn i g from spot) h = En f _ _ h
-  level pc f s lv lk (op.Join i spot) h = En f _ _ h
-  level pc f s lv lk (op.Print i spot) h = En f _ _ h
+  level pc f s lv lk _ h = En f _ _ h
 
   takes : (s : Slots) (p : Parameter) → Takes a owner gives slots s p → Takes b owner gives slots s p
-  takes s parameters.None h = tt
-  takes s parameters.Int h = tt
   takes s parameters.Reference h = h
+  takes s _ h = tt
 
   entry : (f : ℕ) → IsEntry a owner gives slots f → IsEntry b owner gives slots f
   entry f h = record {
@@ -168,26 +130,14 @@ made_is_level m suits code h =
 
 -- ---- and names its mutexes
 null_same : (m : At) (lv lk : Text) (spot : Spot) (mode : PlaceMode) → lock_is_null m (told_by lv lk spot) mode ≡ lock_is_null m spot mode
-null_same m lv lk spot modes.Private = refl
-null_same m lv lk spot modes.Readonly = refl
-null_same m lv lk spot modes.Racy = refl
-null_same m lv lk spot modes.Dynamic = refl
 null_same m lv lk spot (modes.LockedGlobal g place) = refl
-null_same m lv lk spot (modes.LockedSibling field mutex) = refl
-null_same m lv lk spot (modes.LockedThrough r place) = refl
-null_same m lv lk spot modes.LockedLoaded = refl
+null_same m lv lk spot _ = refl
 
 module _ (a b : Flat) (globals : b.globals ≡ a.globals) (same : (k : ℕ) → SameRow (function_of a k) (function_of b k)) where
   beside : (m : At) (lv lk : Text) (cell : Cell) (spot : Spot) (mode : PlaceMode) → IsBeside a m cell spot mode → IsBeside b m cell (told_by lv lk spot) mode
-  beside m lv lk cell spot modes.Private h = tt
-  beside m lv lk cell spot modes.Readonly h = tt
-  beside m lv lk cell spot modes.Racy h = tt
-  beside m lv lk cell spot modes.Dynamic h = tt
-  beside m lv lk cell spot (modes.LockedGlobal g place) h = tt
   beside m lv lk cell spot (modes.LockedSibling field mutex) h =
       λ none. subst (λ g. cell_at g m spot.lock ≡ record { object = (cell_at g m cell).object; cell = (cell_at g m cell).cell - field + mutex }) (sym globals) (h (sym (null_same m lv lk spot spot.mode) ∙ none))
-  beside m lv lk cell spot (modes.LockedThrough r place) h = tt
-  beside m lv lk cell spot modes.LockedLoaded h = tt
+  beside m lv lk cell spot _ h = tt
 
   stands : (m : At) (lv lk : Text) (o : Op) → LockStands a m o → LockStands b m (with_texts lv lk o)
   stands m lv lk (op.Load i cell spot) h = beside m lv lk cell spot spot.mode h
@@ -198,53 +148,8 @@ module _ (a b : Flat) (globals : b.globals ≡ a.globals) (same : (k : ℕ) → 
   stands m lv lk _ h = tt
 
   next : (table : ℕ → Ties) (pc : ℕ) (s : Ties) (lv lk : Text) (o : Op) → Next a table pc s o → Next b table pc s (with_texts lv lk o)
-  next table pc s lv lk op.Enter h = h
-  next table pc s lv lk (op.Constant i v) h = h
-  next table pc s lv lk (op.Move i from) h = h
-  next table pc s lv lk (op.Compute width o i x y spot) h = h
-  next table pc s lv lk (op.Negate width i x spot) h = h
-  next table pc s lv lk (op.Complement i x) h = h
-  next table pc s lv lk (op.IsFalse i x) h = h
-  next table pc s lv lk (op.SameReference i x y) h = h
-  next table pc s lv lk (op.ChkWidth width i spot) h = h
-  next table pc s lv lk (op.Skip n) h = h
-  next table pc s lv lk (op.SkipIfZero i n) h = h
-  next table pc s lv lk (op.SkipIfNull r n) h = h
-  next table pc s lv lk (op.Jump to) h = h
   next table pc s lv lk (op.Call g ints refs spot) h = (ap table (same g).entry ∙ h.0, h.1)
-  next table pc s lv lk (op.Return spot) h = h
-  next table pc s lv lk op.BlockEnd h = h
-  next table pc s lv lk (op.Null r) h = h
-  next table pc s lv lk (op.Local r x) h = h
-  next table pc s lv lk (op.MoveReference r from) h = h
-  next table pc s lv lk (op.Pop r) h = h
-  next table pc s lv lk (op.Settle x from) h = h
-  next table pc s lv lk (op.ChkNull r spot) h = h
-  next table pc s lv lk (op.ChkPositive i spot) h = h
-  next table pc s lv lk (op.ChkHeld cell spot) h = h
-  next table pc s lv lk (op.ChkNotHeld cell spot) h = h
-  next table pc s lv lk (op.ChkRoom spot) h = h
-  next table pc s lv lk (op.Bounds i r cells field spot) h = h
-  next table pc s lv lk (op.GlobalBounds i elements cells field spot) h = h
-  next table pc s lv lk (op.Load i cell spot) h = h
-  next table pc s lv lk (op.Store i cell spot) h = h
-  next table pc s lv lk (op.LoadRef r cell spot) h = h
-  next table pc s lv lk (op.StoreRef r cell spot) h = h
-  next table pc s lv lk (op.LoadGuard cell spot) h = h
-  next table pc s lv lk (op.New r count cells spot) h = h
-  next table pc s lv lk (op.TakeCell r cell spot) h = h
-  next table pc s lv lk (op.TakeLocal r x spot) h = h
-  next table pc s lv lk (op.Give r cells spot) h = h
-  next table pc s lv lk (op.Free r layout spot) h = h
-  next table pc s lv lk (op.Lock cell spot) h = h
-  next table pc s lv lk (op.Unlock r cell spot) h = h
-  next table pc s lv lk (op.CondEnter cell spot) h = h
-  next table pc s lv lk (op.CondWait cell spot) h = h
-  next table pc s lv lk (op.CondSignal cell spot) h = h
-  next table pc s lv lk (op.CondBroadcast cell spot) h = h
-  next table pc s lv lk (op.Spawn i g from spot) h = h
-  next table pc s lv lk (op.Join i spot) h = h
-  next table pc s lv lk (op.Print i spot) h = h
+  next table pc s lv lk _ h = h
 
 laid_is_traced : (r : Resolution) (bytes : List ℕ) (names : List (List ℕ)) (told made : Flat) → Lays r bytes names told made → IsTraced told → IsTraced made
 laid_is_traced r bytes names told made h t =

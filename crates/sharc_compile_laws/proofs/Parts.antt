@@ -1,7 +1,7 @@
 -- The parts of the code of an expression: an access, a test, an operator, a call.
 use Rattle.std.proofs.{Common.{◌≡◌, ⊎_elim, ℕ, ◌+◌, ◌<◌, ◌≤◌, ◌==◌, ◌&&◌, ◌||◌, eqb-true, Bool, true, false, cond, List, [], ◌∷◌, ◌++◌, length, refl, ap, ◌∙◌, subst, arith, length-append, append_assoc, Option, Some, None, codes, bytes_eq}, lemmas.Bool.{false≢true, cases_eq}}
 use Rattle.sharc_tree.specs.{declared.ctype.Base.Base, declared.token.Site.Site, declared.tree.expression.BinaryOperator.BinaryOperator, declared.tree.expression.BinaryOperator.TheVariants.NotEqual, declared.tree.expression.ValueCall.ValueCall, declared.tree.expression.ValueCall.TheVariants.{Join, Print}, Tree.Arguments}
-use Rattle.sharc_names.specs.Kinds.{Kind, object, array, null, int, long, is_long, is_integral, is_integer, is_pointer, promoted, common}
+use Rattle.sharc_names.specs.Kinds.{Kind, object, int, long, is_long, is_integral, is_integer, is_pointer, promoted, common}
 use Rattle.sharc_names.specs.Kinds as kinds
 use Rattle.sharc_code.specs.{declared.code.Use.Use, declared.instr.Cell.Cell, declared.instr.Register.Register, declared.instr.Register.TheVariants.{Int, Reference}}
 use Rattle.sharc_mode.specs.Sharings.{Sharing}
@@ -21,9 +21,7 @@ plain_by b n h = by (n == 0) refl h
 
 pub plain_integer : (k : Kind) → is_integer k ≡ true → is_reference k ≡ false
 plain_integer (object b n) h = plain_by b n h
-plain_integer (array b n) h = absurd (false≢true h)
-plain_integer null h = absurd (false≢true h)
-plain_integer kinds.function h = absurd (false≢true h)
+plain_integer _ h = absurd (false≢true h)
 
 wide_by : (b : Bool) → IsWide (width_of (cond b long int))
 wide_by true = tt
@@ -42,10 +40,7 @@ IsKept c b _ = Unit {0}
 
 pub kept_cell : (c : Context) (b : Bool) (t : Target) → is_cell t ≡ true → IsKept c b t
 kept_cell c b (variable x) h = absurd (false≢true h)
-kept_cell c b (in_global g n) h = tt
-kept_cell c b (in_global_at g n) h = tt
-kept_cell c b (in_object n) h = tt
-kept_cell c b (in_object_at n) h = tt
+kept_cell c b _ h = tt
 
 module _ (flat : Flat) (owner : ℕ → ℕ) (gives : ℕ → Bool) (f : ℕ) (D : (ℕ → Slots) → Type 0) where
   -- wherever it is
@@ -126,10 +121,7 @@ module _ (flat : Flat) (owner : ℕ → ℕ) (gives : ℕ → Bool) (f : ℕ) (D
 
     pub values : (i r : ℕ) (site : Site) (lvalue : Lvalue) (mode : Sharing) (b : Bool) (t : Target) → ref_count c.scope ≤ r → IsKept c b t → B (r + base_width t) (value_code c i r site lvalue mode b t) (r + width b)
     values i r site lvalue mode b (variable x) le h = pre (r + 0) r (copy_code i r (register_of c.scope x)) (below (r + width b)) (omega arith) (copies i r (ref_count c.scope) b (register_of c.scope x) (located c.scope x b h) le)
-    values i r site lvalue mode b (in_global g n) le h = cell_values i r site lvalue mode b (in_global g n)
-    values i r site lvalue mode b (in_global_at g n) le h = cell_values i r site lvalue mode b (in_global_at g n)
-    values i r site lvalue mode b (in_object n) le h = cell_values i r site lvalue mode b (in_object n)
-    values i r site lvalue mode b (in_object_at n) le h = cell_values i r site lvalue mode b (in_object_at n)
+    values i r site lvalue mode b k le h = cell_values i r site lvalue mode b k
 
     cell_takes : (i r : ℕ) (site : Site) (lvalue : Lvalue) (mode : Sharing) (form : Option ℕ → Use) (t : Target) → B (r + base_width t) (cell_take_code c i r site lvalue mode form t) (r + 1)
     cell_takes i r site lvalue mode form t =
@@ -148,10 +140,7 @@ module _ (flat : Flat) (owner : ℕ → ℕ) (gives : ℕ → Bool) (f : ℕ) (D
 
     pub takes : (i r : ℕ) (site : Site) (lvalue : Lvalue) (mode : Sharing) (form : Option ℕ → Use) (t : Target) → ref_count c.scope ≤ r → IsKept c true t → B (r + base_width t) (take_code c i r site lvalue mode form t) (r + 1)
     takes i r site lvalue mode form (variable x) le h = take_variable r (ref_count c.scope) _ (register_of c.scope x) (located c.scope x true h) le
-    takes i r site lvalue mode form (in_global g n) le h = cell_takes i r site lvalue mode form (in_global g n)
-    takes i r site lvalue mode form (in_global_at g n) le h = cell_takes i r site lvalue mode form (in_global_at g n)
-    takes i r site lvalue mode form (in_object n) le h = cell_takes i r site lvalue mode form (in_object n)
-    takes i r site lvalue mode form (in_object_at n) le h = cell_takes i r site lvalue mode form (in_object_at n)
+    takes i r site lvalue mode form k le h = cell_takes i r site lvalue mode form k
 
     -- ---- stores: the value is in the register after the base
     settles : (i r top : ℕ) (b : Bool) (x : Register) → IsIn b top x → top ≤ r → B (r + width b) (settle_code i r x) r
@@ -175,10 +164,7 @@ module _ (flat : Flat) (owner : ℕ → ℕ) (gives : ℕ → Bool) (f : ℕ) (D
 
     pub cells_stored : (i r vi : ℕ) (site : Site) (lvalue : Lvalue) (mode : Sharing) (b : Bool) (t : Target) → is_cell t ≡ true → B (r + base_width t + width b) (store_code c i r vi (r + base_width t) site lvalue mode b t) r
     cells_stored i r vi site lvalue mode b (variable x) h = absurd (false≢true h)
-    cells_stored i r vi site lvalue mode b (in_global g n) h = cell_stores i r vi site lvalue mode b (in_global g n)
-    cells_stored i r vi site lvalue mode b (in_global_at g n) h = cell_stores i r vi site lvalue mode b (in_global_at g n)
-    cells_stored i r vi site lvalue mode b (in_object n) h = cell_stores i r vi site lvalue mode b (in_object n)
-    cells_stored i r vi site lvalue mode b (in_object_at n) h = cell_stores i r vi site lvalue mode b (in_object_at n)
+    cells_stored i r vi site lvalue mode b k h = cell_stores i r vi site lvalue mode b k
 
     pub variable_stored : (i r : ℕ) (b : Bool) (x : ℕ) → slot_kind c.scope x ≡ Some b → ref_count c.scope ≤ r → B (r + width b) (settle_code i r (register_of c.scope x)) r
     variable_stored i r b x h le = settles i r (ref_count c.scope) b (register_of c.scope x) (located c.scope x b h) le
@@ -324,11 +310,9 @@ module _ (flat : Flat) (owner : ℕ → ℕ) (gives : ℕ → Bool) (f : ℕ) (D
         (then_do (below (r + 1 + 1)) (below (r + 1)) (below r) (op.Pop (r + 1) ∷ []) (op.Pop r ∷ []) (pop_at (r + 1)) (pop_at r))
 
     unlocks : (i r : ℕ) (spot : Spot) (t : Target) → B (r + base_width t) (op.Unlock (r + base_width t) (cell_of c.globals i r t) spot ∷ unlocked_code r t) r
-    unlocks i r spot (variable x) = unlock_global r _ spot (λ s. refl)
-    unlocks i r spot (in_global g n) = unlock_global r _ spot (λ s. refl)
-    unlocks i r spot (in_global_at g n) = unlock_global r _ spot (λ s. refl)
     unlocks i r spot (in_object n) = unlock_object r _ spot
     unlocks i r spot (in_object_at n) = unlock_object r _ spot
+    unlocks i r spot _ = unlock_global r _ spot (λ s. refl)
 
     -- after the place
     pub locked_at : (i r : ℕ) (a b d : Spot) (t : Target) → B (r + base_width t) (op.ChkNotHeld (cell_of c.globals i r t) a ∷ op.ChkRoom b ∷ op.Lock (cell_of c.globals i r t) d ∷ []) r

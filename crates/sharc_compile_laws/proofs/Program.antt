@@ -13,7 +13,7 @@ use Rattle.sharc_flat.specs.declared.op.Op.TheVariants as op
 use Rattle.sharc_guard.specs.Level.{Slot, free, full, Fits, Slots, Level, Takes}
 use Rattle.sharc_compile_laws.specs.Laws.{FlattenedIsLevel}
 use Rattle.sharc_compile_laws.proofs.{Expressing.{Entries, gives_reference}, Located.{width, declared_reference}, Flow.{Agrees, agrees_left, agrees_right, agrees_all}, Pieces.{IsOwn, Levels, levels_both, pick, enters}, Slots.{AreFit, fit_same, below, below_full}, Stating.{IsAround, L, S, ends_at, then_at, entered, lift, longer, zeros, result_alone, all_statements}}
-use Rattle.sharc_lemmas.proofs.Options.{same_some, none_some}
+use Rattle.sharc_lemmas.proofs.{Options.{same_some, none_some}, Lists.there_is as inside_list}
 
 -- ---- lists
 get_left : (xs ys : List Op) (j : ℕ) → j < length xs → slice_get (xs ++ ys) j ≡ slice_get xs j
@@ -24,11 +24,6 @@ get_left (x ∷ xs) ys (suc j) lt = get_left xs ys j (omega (arith, lt))
 get_right : (xs ys : List Op) (j : ℕ) → slice_get (xs ++ ys) (length xs + j) ≡ slice_get ys j
 get_right [] ys j = let e : 0 + j ≡ j = omega arith in ap (slice_get ys) e
 get_right (x ∷ xs) ys j = let e : length (x ∷ xs) + j ≡ suc (length xs + j) = omega arith in ap (slice_get (x ∷ (xs ++ ys))) e ∙ get_right xs ys j
-
-inside_list : {A : Type 0} (all : List A) (n : ℕ) (a : A) → slice_get all n ≡ Some a → n < length all
-inside_list [] n a at = absurd (none_some a at)
-inside_list (x ∷ all) zero a at = omega arith
-inside_list (x ∷ all) (suc n) a at = let h = inside_list all n a at in omega (arith, h)
 
 -- where the function of this number begins, and the function of each line
 module _ (m : Assignment) (globals : List GlobalCells) where

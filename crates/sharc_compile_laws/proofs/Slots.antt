@@ -14,7 +14,7 @@ pub fits_free : (x : Slot) → Fits free x
 fits_free free = tt
 fits_free full = tt
 
-fits_through : (x y z : Slot) → Fits x y → Fits y z → Fits x z
+pub fits_through : (x y z : Slot) → Fits x y → Fits y z → Fits x z
 fits_through free y z a b = fits_free z
 fits_through full free z a b = absurd a
 fits_through full full z a b = b

@@ -1,7 +1,7 @@
 -- What the instructions of code spawn is what the program spawns.
-use Rattle.std.proofs.Common.{◌≡◌, ℕ, zero, suc, ◌+◌, Bool, true, false, List, [], ◌∷◌, ◌++◌, map, sym, ap, ◌∙◌, subst}
+use Rattle.std.proofs.Common.{◌≡◌, ℕ, zero, suc, ◌+◌, Bool, false, List, [], ◌∷◌, ◌++◌, map, sym, ap, ◌∙◌, subst}
 use Rattle.std.specs.{Prelude.slice_index_or, List.AllByRecursion}
-use Rattle.sharc_code.specs.{declared.code.Function.{Function as Row}, declared.code.PlaceMode.PlaceMode, declared.instr.Width.TheVariants.{Char, Int, Long}, declared.instr.Instr.Instr, declared.instr.Register.Register}
+use Rattle.sharc_code.specs.{declared.code.Function.Function as Row, declared.code.PlaceMode.PlaceMode, declared.instr.Width.TheVariants.Char, declared.instr.Instr.Instr, declared.instr.Register.Register}
 use Rattle.sharc_code.specs.declared.code.PlaceMode.TheVariants as modes
 use Rattle.sharc_code.specs.declared.instr.Instr.TheVariants as instrs
 use Rattle.sharc_flat.specs.{declared.op.Op.Op, declared.op.Spot.Spot, Made.flat_of}
@@ -27,15 +27,12 @@ module _ (Q : ℕ → Type 0) where
 
   -- a check spawns nothing
   checks : (drop : Bool) (dynamic : Instr) (spot : Spot) (n : ℕ) (mode : PlaceMode) → SpawnsIn dynamic → AllSpawn (check_under drop dynamic spot n mode)
-  checks drop dynamic spot n modes.Private h = tt
-  checks drop dynamic spot n modes.Readonly h = tt
-  checks drop dynamic spot n modes.Racy h = tt
-  checks true dynamic spot n modes.Dynamic h = tt
   checks false dynamic spot n modes.Dynamic h = (h, tt)
   checks drop dynamic spot n (modes.LockedGlobal g p) h = (tt, tt)
   checks drop dynamic spot n (modes.LockedSibling f p) h = (tt, tt)
   checks drop dynamic spot n (modes.LockedThrough r p) h = (tt, tt)
   checks drop dynamic spot n modes.LockedLoaded h = (tt, tt)
+  checks _ dynamic spot n _ h = tt
 
   heads : (drop : Bool) (n : ℕ) (o : Op) → AllSpawn (head drop n o)
   heads drop n (op.Load i cell spot) = checks drop (instrs.ChkRead cell n) spot n spot.mode tt
@@ -51,11 +48,7 @@ module _ (Q : ℕ → Type 0) where
   owns pl n op.Enter h = tt
   owns pl n op.BlockEnd h = tt
   owns pl n (op.Compute Char operator i a b spot) h = (tt, tt)
-  owns pl n (op.Compute Int operator i a b spot) h = (tt, tt)
-  owns pl n (op.Compute Long operator i a b spot) h = (tt, tt)
   owns pl n (op.Negate Char i a spot) h = (tt, tt)
-  owns pl n (op.Negate Int i a spot) h = (tt, tt)
-  owns pl n (op.Negate Long i a spot) h = (tt, tt)
   owns pl n (op.Spawn to function from spot) h = (h, tt)
   owns pl n _ h = (tt, tt)
 
@@ -75,7 +68,6 @@ module _ (Q : ℕ → Type 0) where
   -- the instruction of a statement
   of_statement : (fs : List Row) (i : Instr) (to function site : ℕ) (from : Register) → SpawnsIn i → instr_of fs i ≡ instrs.Spawn to function from site → Q function
   of_statement fs (instrs.Spawn to' f' from' site') to function site from h e = let same : f' ≡ function = cc in subst Q same h
-  of_statement fs (instrs.Call f ints refs at) to function site from h e = absurd (cc)
   of_statement fs _ to function site from h e = absurd (cc)
 
   at_place : (fs : List Row) (ss : List Instr) (pc to function site : ℕ) (from : Register) → AllSpawn ss → slice_index_or (map (instr_of fs) ss) pc instrs.Exit ≡ instrs.Spawn to function from site → Q function

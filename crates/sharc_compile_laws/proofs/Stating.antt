@@ -4,7 +4,7 @@ use Rattle.sharc_tree.specs.{declared.token.Site.Site, declared.tree.declaration
 use Rattle.sharc_names.specs.Kinds.{Kind, declared_kind}
 use Rattle.sharc_mode.specs.{Cells.pointed, Moded.Assignment, Rows.{written, row_at, declared_row}, Sharings.Sharing}
 use Rattle.sharc_meaning.specs.State.{is_reference}
-use Rattle.sharc_flat.specs.{declared.op.Op.Op, Machine.Flat, declared.slot.Lvalue.Lvalue, declared.slot.Slot.Slot, Scope.{Context, slot_of, ref_count, at_site, ends_from, leaves}, Places.{Target, variable, in_global, in_global_at, in_object, in_object_at, base_width, index_width, store_code, width_code}, Flattened.{kind_of, is_ref, target_of, mode_of, guard_of, lvalue_in, expression_code, place_code, elements_code, right_code, simple_code, with_variable, ints_of, refs_of, zero_code, initial_code, local_code, first_code, behind_first, step_code, test_code, turn_code, Around, opened, looping, jump_code, result_code, return_code, body_at, turns_code, behind_statement, behind_statements, statement_code, statements_code}, Suits.{Suits, Goes, CountSuits, RightSuits, LeftSuits, SimpleSuits, InitialSuits, FirstSuits, TestSuits, IfThere, StatementSuits, StatementsSuit, is_declaration, in_first, in_statement}}
+use Rattle.sharc_flat.specs.{declared.op.Op.Op, Machine.Flat, declared.slot.Lvalue.Lvalue, declared.slot.Slot.Slot, Scope.{Context, slot_of, ref_count, at_site, ends_from, leaves}, Places.{Target, variable, base_width, index_width, store_code, width_code}, Flattened.{kind_of, is_ref, target_of, mode_of, guard_of, lvalue_in, expression_code, place_code, elements_code, right_code, simple_code, with_variable, ints_of, refs_of, zero_code, initial_code, local_code, first_code, behind_first, step_code, test_code, turn_code, Around, opened, looping, jump_code, result_code, return_code, body_at, turns_code, behind_statement, behind_statements, statement_code, statements_code}, Suits.{Suits, Goes, CountSuits, RightSuits, LeftSuits, SimpleSuits, InitialSuits, FirstSuits, TestSuits, IfThere, StatementSuits, StatementsSuit, is_declaration, in_first, in_statement}}
 use Rattle.sharc_flat.specs.declared.op.Op.TheVariants as op
 use Rattle.sharc_guard.specs.Level.{free, full, Fits, Slots, with_slot, with_moved, result_slot, Enters, Leaves, Level}
 use Rattle.sharc_compile_laws.proofs.{Expressing.{Entries, gives_reference, expressions, places}, Leaving.{kept, leaves_to, ends}, Located.{width, one_more, declared_reference}, Parts.{plain_integer, B, then_do, pre, post, none, does as does_one, keeps, enter, null_at, widths_kept, truths, drops, cells_stored, variable_stored}, Pieces.{Piece, known, moved, joins, line, turned, sides, Inner, always, decided, looped}, Slots.{AreFit, fits_full, fits_free, fit_same, below, below_full, below_free, fit_below, none_cleared, with_same, with_other, pushed}}
@@ -34,15 +34,7 @@ same_grows c = record { more = []; scope = sym (append-nil c.scope) }
 
 after_grows : (c : Context) (x : Statement) → Grows c (behind_statement c x)
 after_grows c (declare s l) = record { more = slot_of l.declaration ∷ []; scope = refl }
-after_grows c (empty s) = same_grows c
-after_grows c (block s all) = same_grows c
-after_grows c (simple s y) = same_grows c
-after_grows c (jump s j) = same_grows c
-after_grows c (return s e) = same_grows c
-after_grows c (if_then s e y) = same_grows c
-after_grows c (if_then_else s e y z) = same_grows c
-after_grows c (while s e y) = same_grows c
-after_grows c (for s h y) = same_grows c
+after_grows c _ = same_grows c
 
 grown : (c d e : Context) → Grows c d → Grows d e → Grows c e
 grown c d e x y = record { more = x.more ++ y.more; scope = y.scope ∙ ap (λ z. z ++ y.more) x.scope ∙ append_assoc c.scope x.more y.more }
@@ -52,58 +44,31 @@ all_grow c no_statements = same_grows c
 all_grow c (statement x rest) = grown c (behind_statement c x) (behind_statements (behind_statement c x) rest) (after_grows c x) (all_grow (behind_statement c x) rest)
 
 first_grows : (c : Context) (x : First) → Grows c (behind_first c x)
-first_grows c nothing = same_grows c
 first_grows c (declares l) = record { more = slot_of l.declaration ∷ []; scope = refl }
-first_grows c (does x) = same_grows c
+first_grows c _ = same_grows c
 
 taken_back : (c d : Context) → Grows c d → take (length c.scope) d.scope ≡ c.scope
 taken_back c d x = ap (take (length c.scope)) x.scope ∙ take_at c.scope x.more (length c.scope) refl
 
 after_same : (c : Context) (m : Assignment) (x : Statement) → c.program ≡ m → (behind_statement c x).program ≡ m
-after_same c m (declare s l) e = e
 after_same c m (empty s) e = e
-after_same c m (block s all) e = e
-after_same c m (simple s y) e = e
-after_same c m (jump s j) e = e
-after_same c m (return s x) e = e
-after_same c m (if_then s x y) e = e
-after_same c m (if_then_else s x y z) e = e
-after_same c m (while s x y) e = e
-after_same c m (for s h y) e = e
+after_same c m _ e = e
 
 first_same : (c : Context) (m : Assignment) (x : First) → c.program ≡ m → (behind_first c x).program ≡ m
-first_same c m nothing e = e
-first_same c m (declares l) e = e
 first_same c m (does x) e = e
+first_same c m _ e = e
 
 first_is : (c : Context) (x : First) → in_first c x ≡ behind_first c x
-first_is c nothing = refl
-first_is c (declares l) = refl
 first_is c (does x) = refl
+first_is c _ = refl
 
 after_is : (c : Context) (x : Statement) → in_statement c x ≡ behind_statement c x
-after_is c (declare s l) = refl
 after_is c (empty s) = refl
-after_is c (block s all) = refl
-after_is c (simple s y) = refl
-after_is c (jump s j) = refl
-after_is c (return s x) = refl
-after_is c (if_then s x y) = refl
-after_is c (if_then_else s x y z) = refl
-after_is c (while s x y) = refl
-after_is c (for s h y) = refl
+after_is c _ = refl
 
 nothing_declared : (c : Context) (x : Statement) → is_declaration x ≡ false → behind_statement c x ≡ c
 nothing_declared c (declare s l) e = absurd (false≢true (sym e))
-nothing_declared c (empty s) e = refl
-nothing_declared c (block s all) e = refl
-nothing_declared c (simple s y) e = refl
-nothing_declared c (jump s j) e = refl
-nothing_declared c (return s x) e = refl
-nothing_declared c (if_then s x y) e = refl
-nothing_declared c (if_then_else s x y z) e = refl
-nothing_declared c (while s x y) e = refl
-nothing_declared c (for s h y) e = refl
+nothing_declared c _ e = refl
 
 refs_more : (c : Context) (d : Declaration) → refs_of (with_variable c d) ≡ refs_of c + width (is_reference (declared_kind d.written))
 refs_more c d = one_more c.scope (slot_of d) ∙ ap (λ b. ref_count c.scope + width b) (sym (declared_reference d.written))
@@ -187,10 +152,7 @@ module _ (flat : Flat) (owner : ℕ → ℕ) (f : ℕ) (m : Assignment) where
       → Q (r + base_width t + width (is_reference kind)) (store_code c i r vi (r + base_width t) site lvalue mode (is_reference kind) t) r
   stored c i r vi le site lvalue mode mode2 kind (variable x) h =
       longer (r + 0 + width (is_reference kind)) (r + 0) r _ (omega arith) (variable_stored flat owner g f E c vi (r + 0) (is_reference kind) x h (omega (arith, le)))
-  stored c i r vi le site lvalue mode mode2 kind (in_global x n) h = cells_stored flat owner g f E c i r vi site lvalue mode (is_reference kind) (in_global x n) refl
-  stored c i r vi le site lvalue mode mode2 kind (in_global_at x n) h = cells_stored flat owner g f E c i r vi site lvalue mode (is_reference kind) (in_global_at x n) refl
-  stored c i r vi le site lvalue mode mode2 kind (in_object n) h = cells_stored flat owner g f E c i r vi site lvalue mode (is_reference kind) (in_object n) refl
-  stored c i r vi le site lvalue mode mode2 kind (in_object_at n) h = cells_stored flat owner g f E c i r vi site lvalue mode (is_reference kind) (in_object_at n) refl
+  stored c i r vi le site lvalue mode mode2 kind k h = cells_stored flat owner g f E c i r vi site lvalue mode (is_reference kind) k refl
 
   simples : (c : Context) → c.program ≡ m → (i r : ℕ) → ref_count c.scope ≤ r → (x : Simple) → SimpleSuits c x → Q r (simple_code c i r x) r
   simples c same i r le (assign s u x) h =

@@ -122,19 +122,13 @@ entered_site pl (x ∷ rows) (suc n) lt = entered_site pl rows n (omega arith)
 named_count : (bytes : List ℕ) (told : List Row) (names : List (List ℕ)) (made : List Row) → AreNamed bytes told names made → length made ≡ length told
 named_count bytes [] [] [] h = refl
 named_count bytes (x ∷ xs) (n ∷ ns) (y ∷ ys) h = ap suc (named_count bytes xs ns ys h.1)
-named_count bytes [] [] (y ∷ ys) h = absurd h
-named_count bytes [] (n ∷ ns) ys h = absurd h
-named_count bytes (x ∷ xs) [] ys h = absurd h
-named_count bytes (x ∷ xs) (n ∷ ns) [] h = absurd h
+named_count bytes _ _ _ h = absurd h
 
 named_site : (bytes : List ℕ) (told : List Row) (names : List (List ℕ)) (made : List Row) (n : ℕ) → AreNamed bytes told names made → (slice_index_or made n no_function).site ≡ (slice_index_or told n no_function).site
 named_site bytes [] [] [] n h = refl
 named_site bytes (x ∷ xs) (k ∷ ks) (y ∷ ys) zero h = ap (λ (r : Row). r.site) h.0.is
 named_site bytes (x ∷ xs) (k ∷ ks) (y ∷ ys) (suc n) h = named_site bytes xs ks ys n h.1
-named_site bytes [] [] (y ∷ ys) n h = absurd h
-named_site bytes [] (k ∷ ks) ys n h = absurd h
-named_site bytes (x ∷ xs) [] ys n h = absurd h
-named_site bytes (x ∷ xs) (k ∷ ks) [] n h = absurd h
+named_site bytes _ _ _ n h = absurd h
 
 row_site : (m : Assignment) (globals : List GlobalCells) (pc : ℕ) (fs : List Function) (n : ℕ) → n < length (rows_of m globals pc fs) → IsNamedAt (slice_get fs n) (slice_index_or (rows_of m globals pc fs) n no_function).site
 row_site m globals pc [] n lt = absurd (omega arith)

@@ -178,11 +178,6 @@ module _ (flat : Flat) (table : ℕ → Ties) (last : (q : ℕ) → length flat.
   op_tied (op.Call f ints refs spot) m n h x go = tried (nat_lt (length m.frames) 255) m (called flat f ints refs m) x traps.CallDepth spot (called_to f ints refs m n.0 n.1 h) go
   op_tied (op.Return spot) m n h x go = back m.frames spot m x h.below h go
   op_tied op.BlockEnd m n h x go = leaves m (next m) refl refl (λ k. refl) n h
-  op_tied (op.Null r) m n h x go = leaves m (after m (op_turn flat (op.Null r) m) x) refl refl (λ k. refl) n h
-  op_tied (op.Local r y) m n h x go = leaves m (after m (op_turn flat (op.Local r y) m) x) refl refl (λ k. refl) n h
-  op_tied (op.MoveReference r from) m n h x go = leaves m (after m (op_turn flat (op.MoveReference r from) m) x) refl refl (λ k. refl) n h
-  op_tied (op.Pop r) m n h x go = leaves m (after m (op_turn flat (op.Pop r) m) x) refl refl (λ k. refl) n h
-  op_tied (op.Settle y from) m n h x go = leaves m (after m (op_turn flat (op.Settle y from) m) x) refl refl (λ k. refl) n h
   op_tied (op.ChkNull r spot) m n h x go = asserted _ _ spot m x n h go
   op_tied (op.ChkPositive i spot) m n h x go = asserted _ _ spot m x n h go
   op_tied (op.ChkHeld cell spot) m n h x go = asserted _ _ spot m x n h go
@@ -194,25 +189,14 @@ module _ (flat : Flat) (table : ℕ → Ties) (last : (q : ℕ) → length flat.
   op_tied (op.Store i cell spot) m n h x go = asked (lock_is_null m spot spot.mode) m x traps.NullPointer spot m spot.site _ (pos 0) _ (leaves m _ refl refl (λ k. refl) n h) go
   op_tied (op.LoadRef r cell spot) m n h x go = asked (lock_is_null m spot spot.mode) m x traps.NullPointer spot m spot.site _ (pos 0) _ (leaves m _ refl refl (λ k. refl) n h) go
   op_tied (op.StoreRef r cell spot) m n h x go = asked (lock_is_null m spot spot.mode) m x traps.NullPointer spot m spot.site _ (pos 0) _ (leaves m _ refl refl (λ k. refl) n h) go
-  op_tied (op.LoadGuard cell spot) m n h x go = leaves m (after m (op_turn flat (op.LoadGuard cell spot) m) x) refl refl (λ k. refl) n h
   op_tied (op.New r count cells spot) m n h x go = leaves m (after m (op_turn flat (op.New r count cells spot) m) x) refl refl (λ k. refl) n h
   op_tied (op.TakeCell r cell spot) m n h x go = asked (lock_is_null m spot spot.mode) m x traps.NullPointer spot m spot.site _ (pos 0) _ (leaves m _ refl refl (λ k. refl) n h) go
   op_tied (op.TakeLocal r y spot) m n h x go = taken (is_null (ref m y)) r y spot m x n h go
   op_tied (op.Give r cells spot) m n h x go = leaves m (after m (op_turn flat (op.Give r cells spot) m) x) refl refl (λ k. refl) n h
-  op_tied (op.Free r layout spot) m n h x go = leaves m (after m (op_turn flat (op.Free r layout spot) m) x) refl refl (λ k. refl) n h
-  op_tied (op.Lock (cells.Global g place) spot) m n h x go = leaves m (after m (op_turn flat (op.Lock (cells.Global g place) spot) m) x) refl refl (λ k. refl) n h
-  op_tied (op.Lock (cells.GlobalAt g i) spot) m n h x go = leaves m (after m (op_turn flat (op.Lock (cells.GlobalAt g i) spot) m) x) refl refl (λ k. refl) n h
   op_tied (op.Lock (cells.Object r k) spot) m n h x go = leaves m (after m (op_turn flat (op.Lock (cells.Object r k) spot) m) x) refl refl (λ k. refl) n h
-  op_tied (op.Lock (cells.ObjectAt r i) spot) m n h x go = leaves m (after m (op_turn flat (op.Lock (cells.ObjectAt r i) spot) m) x) refl refl (λ k. refl) n h
-  op_tied (op.Unlock r cell spot) m n h x go = leaves m (after m (op_turn flat (op.Unlock r cell spot) m) x) refl refl (λ k. refl) n h
-  op_tied (op.CondEnter cell spot) m n h x go = leaves m (after m (op_turn flat (op.CondEnter cell spot) m) x) refl refl (λ k. refl) n h
-  op_tied (op.CondWait cell spot) m n h x go = leaves m (after m (op_turn flat (op.CondWait cell spot) m) x) refl refl (λ k. refl) n h
-  op_tied (op.CondSignal cell spot) m n h x go = leaves m (after m (op_turn flat (op.CondSignal cell spot) m) x) refl refl (λ k. refl) n h
-  op_tied (op.CondBroadcast cell spot) m n h x go = leaves m (after m (op_turn flat (op.CondBroadcast cell spot) m) x) refl refl (λ k. refl) n h
   op_tied (op.Spawn i f (registers.Int j) spot) m n h x go = keeps m (after m (op_turn flat (op.Spawn i f (registers.Int j) spot) m) x) i refl refl (λ k other. put_other m.ints (m.int_base + i) _ k other) n h
   op_tied (op.Spawn i f (registers.Reference r) spot) m n h x go = keeps m (after m (op_turn flat (op.Spawn i f (registers.Reference r) spot) m) x) i refl refl (λ k other. put_other m.ints (m.int_base + i) _ k other) n h
-  op_tied (op.Join i spot) m n h x go = leaves m (after m (op_turn flat (op.Join i spot) m) x) refl refl (λ k. refl) n h
-  op_tied (op.Print i spot) m n h x go = leaves m (after m (op_turn flat (op.Print i spot) m) x) refl refl (λ k. refl) n h
+  op_tied j m n h x go = leaves m (after m (op_turn flat j m) x) refl refl (λ k. refl) n h
 
   -- ---- paths
   module _ (needs : (pc : ℕ) (o : Op) → slice_get flat.lines pc ≡ Some o → Needs flat table pc (table pc) o) where
@@ -241,9 +225,8 @@ module _ (flat : Flat) (table : ℕ → Ties) (last : (q : ℕ) → length flat.
 
     begun_tied : (f : ℕ) (v : ℤ) (p : Parameter) → IsTied (begun p v (first_at flat f))
     unfolding Below
-    begun_tied f v parameters.None = record { holds = λ t y. absurd (subst (λ z. In z t) (begins f) y); below = tt }
     begun_tied f v parameters.Int = record { holds = λ t y. absurd (subst (λ z. In z t) (begins f) y); below = tt }
-    begun_tied f v parameters.Reference = record { holds = λ t y. absurd (subst (λ z. In z t) (begins f) y); below = tt }
+    begun_tied f v _ = record { holds = λ t y. absurd (subst (λ z. In z t) (begins f) y); below = tt }
 
     pub locks_stand : LocksStand flat
     locks_stand f v known answers path o at = let m = at_after flat (start flat f v) answers in (needs m.pc o at).stands m (path_tied (start flat f v) (begun_tied f v (function_of flat f).parameter) answers path).holds

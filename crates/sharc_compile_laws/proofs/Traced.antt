@@ -15,21 +15,12 @@ use Rattle.sharc_compile_laws.proofs.{Flow.{Agrees, agrees_left, agrees_right, a
 
 -- a context of the same globals
 after_same : (c : Context) (globals : List GlobalCells) (x : Statement) → c.globals ≡ globals → (behind_statement c x).globals ≡ globals
-after_same c globals (declare s l) e = e
 after_same c globals (empty s) e = e
-after_same c globals (block s all) e = e
-after_same c globals (simple s y) e = e
-after_same c globals (jump s j) e = e
-after_same c globals (return s x) e = e
-after_same c globals (if_then s x y) e = e
-after_same c globals (if_then_else s x y z) e = e
-after_same c globals (while s x y) e = e
-after_same c globals (for s h y) e = e
+after_same c globals _ e = e
 
 first_same : (c : Context) (globals : List GlobalCells) (x : First) → c.globals ≡ globals → (behind_first c x).globals ≡ globals
-first_same c globals nothing e = e
-first_same c globals (declares l) e = e
 first_same c globals (does x) e = e
+first_same c globals _ e = e
 
 module _ (flat : Flat) where
   -- nothing is known before the code and after it

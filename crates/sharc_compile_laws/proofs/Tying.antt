@@ -1,12 +1,12 @@
 -- The parts of flattened code: which integer registers name two cells of one element at each of their lines.
 use Rattle.std.proofs.{Common.{◌≡◌, inl, inr, ⊎_elim, ℕ, ◌+◌, ◌-◌, ◌<◌, ◌≤◌, Bool, true, false, cond, List, [], ◌∷◌, ◌++◌, length, drop, refl, ap, sym, ◌∙◌, subst, arith, length-append, append_assoc, Option, Some, None, codes, bytes_eq}, lemmas.Bool.false≢true}
-use Rattle.sharc_tree.specs.{declared.token.Site.Site, declared.token.Span.Span, declared.tree.declaration.Identifier.Identifier, declared.tree.expression.FieldOperator.FieldOperator, declared.tree.expression.FieldOperator.TheVariants.{Dot, Arrow}, declared.tree.expression.BinaryOperator.BinaryOperator, declared.tree.expression.BinaryOperator.TheVariants.{LogicalOr, LogicalAnd, BitOr, BitXor, BitAnd, Equal, NotEqual, Less, Greater, LessOrEqual, GreaterOrEqual, ShiftLeft, ShiftRight, Add, Subtract, Multiply, Divide, Remainder}, declared.tree.expression.PlaceCall.PlaceCall, declared.tree.expression.PlaceCall.TheVariants.{Lock, Unlock, Free}, declared.tree.expression.UnaryOperator.TheVariants.{Negate, Not, Complement, Dereference}, declared.tree.expression.ValueCall.ValueCall, declared.tree.expression.ValueCall.TheVariants.{Join, Print}, Spans.span_of, Tree.{Expression, identifier, constant, parentheses, call, spawn, on_value, on_place, cast, index, field, unary, binary, Arguments, no_arguments, argument}}
+use Rattle.sharc_tree.specs.{declared.token.Site.Site, declared.token.Span.Span, declared.tree.declaration.Identifier.Identifier, declared.tree.expression.FieldOperator.FieldOperator, declared.tree.expression.FieldOperator.TheVariants.{Dot, Arrow}, declared.tree.expression.BinaryOperator.BinaryOperator, declared.tree.expression.BinaryOperator.TheVariants.{LogicalOr, LogicalAnd, NotEqual}, declared.tree.expression.PlaceCall.PlaceCall, declared.tree.expression.PlaceCall.TheVariants.{Lock, Unlock, Free}, declared.tree.expression.UnaryOperator.TheVariants.{Negate, Not, Complement, Dereference}, declared.tree.expression.ValueCall.ValueCall, declared.tree.expression.ValueCall.TheVariants.{Join, Print}, Spans.span_of, Tree.{Expression, identifier, constant, parentheses, call, spawn, on_value, on_place, cast, index, field, unary, binary, Arguments, no_arguments, argument}}
 use Rattle.sharc_names.specs.{declared.fault.Named.Named, Kinds.{Kind, is_array, is_integer, element_kind, declared_kinds}}
 use Rattle.sharc_names.specs.declared.fault.Named.TheVariants as named
 use Rattle.sharc_code.specs.{declared.code.GlobalCells.GlobalCells, declared.code.Use.Use, declared.instr.Register.Register, declared.instr.Register.TheVariants.{Int, Reference}, Arithmetic.word_of}
 use Rattle.sharc_code.specs.declared.code.Use.TheVariants as uses
 use Rattle.sharc_ctype.specs.{Resolved.{named_at, kind_at, global_at}, Transfers.parameters_named}
-use Rattle.sharc_mode.specs.{Cells.is_behind_pointer, Sharings.{Lock as LockPath, Sharing, private, readonly, locked, racy, dynamic}}
+use Rattle.sharc_mode.specs.{Cells.is_behind_pointer, Sharings.{Lock as LockPath, Sharing, locked}}
 use Rattle.sharc_meaning.specs.{Cells.{cell_of as cell_in, element_cells, field_place, field_place_named, global_elements}, Expressions.number_named}
 use Rattle.sharc_flat.specs.{declared.op.Op.Op, declared.op.Spot.Spot, Machine.{Flat, At, function_of, first_cell, cell_at}, declared.slot.Lvalue.Lvalue, Scope.{Context, register_of, at_site}, Places.{Target, variable, in_global, in_global_at, in_object, in_object_at, named_target, target, own_field, global_of, has_base, base_width, index_width, cell_of, guard_cell, field_of, guard_field, beside_named, beside_field, mode_beside, mode_named, place_mode, lock_beside, spot_of, bounds_code, index_code, pointee_code, guard_code, drop_base, settle_base, copy_code, cell_value_code, value_code, settle_code, cell_store_code, store_code, cell_take_code, take_code, width_code}, Flattened.{is_ref, target_of, mode_of, what_names, lvalue_in, named_code, truth_code, differ_code, compare_code, logical_code, either_code, binary_code, behind_int, behind_ref, wait_code, condition_code, with_words, argument_words, called_code, passed_code, spawn_code, value_call_code, unlocked_code, place_call_code, cast_code, guard_of, taken_guard, field_code, expression_code, arguments_code, place_code}, Suits.is_cell}
 use Rattle.sharc_flat.specs.declared.op.Op.TheVariants as op
@@ -28,15 +28,11 @@ pub low_more : (i j : ℕ) (s : Ties) → i ≤ j → Low i s → Low j s
 low_more i j s le h x y = let z = h x y in omega (arith, le, z)
 
 pub low_place : (globals : List GlobalCells) (t : Target) (guard : Option ℕ) (i : ℕ) (s : Ties) → Low i s → Low (i + index_width t guard) (place_ties globals t guard i ++ s)
-low_place globals (variable n) guard i s h x y = let z = h x y in omega (arith, z)
-low_place globals (in_global g n) guard i s h x y = let z = h x y in omega (arith, z)
-low_place globals (in_object n) guard i s h x y = let z = h x y in omega (arith, z)
-low_place globals (in_global_at g n) None i s h x y = let z = h x y in omega (arith, z)
-low_place globals (in_object_at n) None i s h x y = let z = h x y in omega (arith, z)
 low_place globals (in_global_at g n) (Some mutex) i s h x (inl e) = let z = ap register_in e in omega (arith, z)
 low_place globals (in_global_at g n) (Some mutex) i s h x (inr y) = let z = h x y in omega (arith, z)
 low_place globals (in_object_at n) (Some mutex) i s h x (inl e) = let z = ap register_in e in omega (arith, z)
 low_place globals (in_object_at n) (Some mutex) i s h x (inr y) = let z = h x y in omega (arith, z)
+low_place globals _ _ i s h x y = let z = h x y in omega (arith, z)
 
 pub in_right : (a b : Ties) → Fit (a ++ b) b
 in_right [] b x h = h
@@ -49,12 +45,8 @@ in_left (y ∷ rest) b x (inr h) = inr (in_left rest b x h)
 
 -- what is named by a name is no element
 named_plain : (globals : List GlobalCells) (n : Named) (f : ℕ) (guard : Option ℕ) (i : ℕ) → place_ties globals (named_target n f) guard i ≡ []
-named_plain globals (named.Variable x) f guard i = refl
-named_plain globals (named.Global x) f guard i = refl
 named_plain globals (named.Field x) f guard i = refl
-named_plain globals (named.Struct x) f guard i = refl
-named_plain globals (named.Function x) f guard i = refl
-named_plain globals named.Known f guard i = refl
+named_plain globals _ f guard i = refl
 
 module _ (flat : Flat) where
   abbrev G : List GlobalCells
@@ -91,20 +83,13 @@ module _ (flat : Flat) where
         by : (b : Bool) → IsBeside flat m (cell_of G i r t) spot (mode_beside b (field_of t) (field_place c.program.typed token))
         by true = tt
         by false = λ none. ap (cell_at G m) e ∙ lock_cells m i r (field_place c.program.typed token) t is h
-    beside_named_stands m i r t spot is l (named.Global g) second h e = tt
     beside_named_stands m i r t spot is l (named.Variable x) (Some y) h e = tt
-    beside_named_stands m i r t spot is l (named.Variable x) None h e = tt
-    beside_named_stands m i r t spot is l (named.Struct n) second h e = tt
-    beside_named_stands m i r t spot is l (named.Function n) second h e = tt
-    beside_named_stands m i r t spot is l named.Known second h e = tt
+    beside_named_stands m i r t spot is l _ _ h e = tt
 
     stands_by : (m : At) (i r : ℕ) (t : Target) (spot : Spot) → is_cell t ≡ true → (mode : Sharing) → AllHold flat (place_ties G t (beside_field c.program.typed mode) i) m → spot.lock ≡ lock_beside G i r t (beside_field c.program.typed mode)
         → IsBeside flat m (cell_of G i r t) spot (place_mode c (field_of t) mode)
-    stands_by m i r t spot is private h e = tt
-    stands_by m i r t spot is readonly h e = tt
     stands_by m i r t spot is (locked l) h e = beside_named_stands m i r t spot is l (named_at c.program.typed l.first) l.second h e
-    stands_by m i r t spot is racy h e = tt
-    stands_by m i r t spot is dynamic h e = tt
+    stands_by m i r t spot is _ h e = tt
 
     access_stands : (m : At) (i r : ℕ) (site : Site) (lvalue : Lvalue) (use_made : Use) (t : Target) → is_cell t ≡ true → (mode : Sharing) → AllHold flat (place_ties c.globals t (beside_field c.program.typed mode) i) m
         → IsBeside flat m (cell_of c.globals i r t) (spot_of c i r site lvalue use_made mode t) (spot_of c i r site lvalue use_made mode t).mode
@@ -296,10 +281,7 @@ module _ (flat : Flat) where
   calls : (i r : ℕ) (spot : Spot) (n : Named) (name : List ℕ) (all : Arguments) → R i (called_code i r spot n name all)
   calls i r spot (named.Function k) name all = λ s low. one s (op.Call k i r spot) s (λ table pc d fit. record { next = (d k, λ x y. let z = fit x y in (z, low x z)); stands = λ m h. tt })
   calls i r spot named.Known name all = conditions i r spot name all
-  calls i r spot (named.Variable x) name all = none i
-  calls i r spot (named.Global x) name all = none i
-  calls i r spot (named.Field x) name all = none i
-  calls i r spot (named.Struct x) name all = none i
+  calls i r spot _ name all = none i
 
   sides : (b : Bool) (i r : ℕ) (o : BinaryOperator) (xs : List Op) (ys : ℕ → ℕ → List Op) (final : Op) → R i xs → ((j r2 : ℕ) → R j (ys j r2)) → R i (final ∷ []) → R i (xs ++ (ys (behind_int b i) (behind_ref b r) ++ cond b (compare_code o i r) (final ∷ [])))
   sides true i r o xs ys final p q l = both i xs _ p (both i (ys i (r + 1)) _ (q i (r + 1)) (compares o i r))
@@ -308,22 +290,7 @@ module _ (flat : Flat) where
   binaries : (c : Context) (i r : ℕ) (site : Site) (o : BinaryOperator) (a b : Expression) (xs : List Op) (ys : ℕ → ℕ → List Op) → R i xs → ((j r2 : ℕ) → R j (ys j r2)) → R i (binary_code c i r site o a b xs ys)
   binaries c i r site LogicalAnd a b xs ys p q = logicals i (xs ++ truth_code (is_ref c a) i r) (ys i r ++ truth_code (is_ref c b) i r) (both i xs _ p (truths (is_ref c a) i r)) (both i (ys i r) _ (q i r) (truths (is_ref c b) i r))
   binaries c i r site LogicalOr a b xs ys p q = eithers i (xs ++ truth_code (is_ref c a) i r) (ys i r ++ truth_code (is_ref c b) i r) (both i xs _ p (truths (is_ref c a) i r)) (both i (ys i r) _ (q i r) (truths (is_ref c b) i r))
-  binaries c i r site BitOr a b xs ys p q = sides (is_ref c a) i r BitOr xs ys _ p q (sets i i (op.Compute _ _ i i (i + 1) _) (omega arith) (λ table pc s k. k) (λ m. tt))
-  binaries c i r site BitXor a b xs ys p q = sides (is_ref c a) i r BitXor xs ys _ p q (sets i i (op.Compute _ _ i i (i + 1) _) (omega arith) (λ table pc s k. k) (λ m. tt))
-  binaries c i r site BitAnd a b xs ys p q = sides (is_ref c a) i r BitAnd xs ys _ p q (sets i i (op.Compute _ _ i i (i + 1) _) (omega arith) (λ table pc s k. k) (λ m. tt))
-  binaries c i r site Equal a b xs ys p q = sides (is_ref c a) i r Equal xs ys _ p q (sets i i (op.Compute _ _ i i (i + 1) _) (omega arith) (λ table pc s k. k) (λ m. tt))
-  binaries c i r site NotEqual a b xs ys p q = sides (is_ref c a) i r NotEqual xs ys _ p q (sets i i (op.Compute _ _ i i (i + 1) _) (omega arith) (λ table pc s k. k) (λ m. tt))
-  binaries c i r site Less a b xs ys p q = sides (is_ref c a) i r Less xs ys _ p q (sets i i (op.Compute _ _ i i (i + 1) _) (omega arith) (λ table pc s k. k) (λ m. tt))
-  binaries c i r site Greater a b xs ys p q = sides (is_ref c a) i r Greater xs ys _ p q (sets i i (op.Compute _ _ i i (i + 1) _) (omega arith) (λ table pc s k. k) (λ m. tt))
-  binaries c i r site LessOrEqual a b xs ys p q = sides (is_ref c a) i r LessOrEqual xs ys _ p q (sets i i (op.Compute _ _ i i (i + 1) _) (omega arith) (λ table pc s k. k) (λ m. tt))
-  binaries c i r site GreaterOrEqual a b xs ys p q = sides (is_ref c a) i r GreaterOrEqual xs ys _ p q (sets i i (op.Compute _ _ i i (i + 1) _) (omega arith) (λ table pc s k. k) (λ m. tt))
-  binaries c i r site ShiftLeft a b xs ys p q = sides (is_ref c a) i r ShiftLeft xs ys _ p q (sets i i (op.Compute _ _ i i (i + 1) _) (omega arith) (λ table pc s k. k) (λ m. tt))
-  binaries c i r site ShiftRight a b xs ys p q = sides (is_ref c a) i r ShiftRight xs ys _ p q (sets i i (op.Compute _ _ i i (i + 1) _) (omega arith) (λ table pc s k. k) (λ m. tt))
-  binaries c i r site Add a b xs ys p q = sides (is_ref c a) i r Add xs ys _ p q (sets i i (op.Compute _ _ i i (i + 1) _) (omega arith) (λ table pc s k. k) (λ m. tt))
-  binaries c i r site Subtract a b xs ys p q = sides (is_ref c a) i r Subtract xs ys _ p q (sets i i (op.Compute _ _ i i (i + 1) _) (omega arith) (λ table pc s k. k) (λ m. tt))
-  binaries c i r site Multiply a b xs ys p q = sides (is_ref c a) i r Multiply xs ys _ p q (sets i i (op.Compute _ _ i i (i + 1) _) (omega arith) (λ table pc s k. k) (λ m. tt))
-  binaries c i r site Divide a b xs ys p q = sides (is_ref c a) i r Divide xs ys _ p q (sets i i (op.Compute _ _ i i (i + 1) _) (omega arith) (λ table pc s k. k) (λ m. tt))
-  binaries c i r site Remainder a b xs ys p q = sides (is_ref c a) i r Remainder xs ys _ p q (sets i i (op.Compute _ _ i i (i + 1) _) (omega arith) (λ table pc s k. k) (λ m. tt))
+  binaries c i r site j a b xs ys p q = sides (is_ref c a) i r j xs ys _ p q (sets i i (op.Compute _ _ i i (i + 1) _) (omega arith) (λ table pc s k. k) (λ m. tt))
 
   -- ---- places, and their accesses
   module _ (c : Context) (same : c.globals ≡ flat.globals) where
@@ -360,10 +327,7 @@ module _ (flat : Flat) where
 
     values : (i r : ℕ) (site : Site) (lvalue : Lvalue) (mode : Sharing) (b : Bool) (t : Target) (s : Ties) → Low i s → P (M t mode i ++ s) (value_code c i r site lvalue mode b t) s
     values i r site lvalue mode b (variable x) s low = copies i r (register_of c.scope x) s low
-    values i r site lvalue mode b (in_global g n) s low = cell_values i r site lvalue mode b (in_global g n) refl s low
-    values i r site lvalue mode b (in_global_at g n) s low = cell_values i r site lvalue mode b (in_global_at g n) refl s low
-    values i r site lvalue mode b (in_object n) s low = cell_values i r site lvalue mode b (in_object n) refl s low
-    values i r site lvalue mode b (in_object_at n) s low = cell_values i r site lvalue mode b (in_object_at n) refl s low
+    values i r site lvalue mode b k s low = cell_values i r site lvalue mode b k refl s low
 
     cell_takes : (i r : ℕ) (site : Site) (lvalue : Lvalue) (mode : Sharing) (form : Option ℕ → Use) (t : Target) → is_cell t ≡ true → (s : Ties) → Low i s → P (M t mode i ++ s) (cell_take_code c i r site lvalue mode form t) s
     cell_takes i r site lvalue mode form t is s low =
@@ -375,10 +339,7 @@ module _ (flat : Flat) where
 
     takes : (i r : ℕ) (site : Site) (lvalue : Lvalue) (mode : Sharing) (form : Option ℕ → Use) (t : Target) (s : Ties) → Low i s → P (M t mode i ++ s) (take_code c i r site lvalue mode form t) s
     takes i r site lvalue mode form (variable x) s low = quiet s (op.TakeLocal r _ _) (λ table pc f. f) (λ m. tt)
-    takes i r site lvalue mode form (in_global g n) s low = cell_takes i r site lvalue mode form (in_global g n) refl s low
-    takes i r site lvalue mode form (in_global_at g n) s low = cell_takes i r site lvalue mode form (in_global_at g n) refl s low
-    takes i r site lvalue mode form (in_object n) s low = cell_takes i r site lvalue mode form (in_object n) refl s low
-    takes i r site lvalue mode form (in_object_at n) s low = cell_takes i r site lvalue mode form (in_object_at n) refl s low
+    takes i r site lvalue mode form k s low = cell_takes i r site lvalue mode form k refl s low
 
     cell_stores : (i r vi vr : ℕ) (site : Site) (lvalue : Lvalue) (mode : Sharing) (b : Bool) (t : Target) → is_cell t ≡ true → (s : Ties) → Low i s → P (M t mode i ++ s) (cell_store_code c i r vi vr site lvalue mode b t) s
     cell_stores i r vi vr site lvalue mode true t is s low =
@@ -401,10 +362,7 @@ module _ (flat : Flat) where
         by : (y : Register) → P [] (settle_code vi vr y) []
         by (Int k) = one [] (op.Move k vi) [] (λ table pc d fit. record { next = λ x y. absurd (fit x y); stands = λ m h. tt })
         by (Reference k) = quiet [] (op.Settle k vr) (λ table pc f. f) (λ m. tt)
-    stores i r vi vr site lvalue mode b (in_global g n) = cell_stores i r vi vr site lvalue mode b (in_global g n) refl [] (λ x y. absurd y)
-    stores i r vi vr site lvalue mode b (in_global_at g n) = cell_stores i r vi vr site lvalue mode b (in_global_at g n) refl [] (λ x y. absurd y)
-    stores i r vi vr site lvalue mode b (in_object n) = cell_stores i r vi vr site lvalue mode b (in_object n) refl [] (λ x y. absurd y)
-    stores i r vi vr site lvalue mode b (in_object_at n) = cell_stores i r vi vr site lvalue mode b (in_object_at n) refl [] (λ x y. absurd y)
+    stores i r vi vr site lvalue mode b k = cell_stores i r vi vr site lvalue mode b k refl [] (λ x y. absurd y)
 
     -- ---- an index
     second_ties : (Option ℕ) → ℕ → ℕ → (ℕ → ℕ) → Ties
@@ -462,10 +420,7 @@ module _ (flat : Flat) where
     names : (i r : ℕ) (site : Site) (lvalue : Lvalue) (mode : Sharing) (b : Bool) (n : Named) → R i (named_code c i r site lvalue mode b n)
     names i r site lvalue mode b (named.Variable x) = λ s low. values i r site lvalue mode b (variable x) s low
     names i r site lvalue mode b (named.Global x) = λ s low. values i r site lvalue mode b (in_global x 0) s low
-    names i r site lvalue mode b (named.Field x) = none i
-    names i r site lvalue mode b (named.Struct x) = none i
-    names i r site lvalue mode b (named.Function x) = none i
-    names i r site lvalue mode b named.Known = none i
+    names i r site lvalue mode b _ = none i
 
     unlocked : (i r : ℕ) (t : Target) → R i (unlocked_code r t)
     unlocked i r t = choose_r i (has_base t) (op.Pop (r + 1) ∷ op.Pop r ∷ []) [] (both i (op.Pop (r + 1) ∷ []) (op.Pop r ∷ []) (pops i (r + 1)) (pops i r)) (none i)
@@ -558,13 +513,4 @@ module _ (flat : Flat) where
           enters_to s (T (target c.program.typed f2 (field s1 a w n)) guard i ++ s) _
           (field_in s i r site f2 guard s1 a w n (λ z. place_code c i r site z guard a) (expression_code c i r a) (λ z. places s i r site z guard a low) (expressions i r a s low))
       places s i r site f2 guard (unary s1 Dereference a) low = enters_to s s _ (pointees i r site (expression_code c i r a) (expressions i r a) s low)
-      places s i r site f2 guard (unary s1 Negate a) low = enters_to s s [] (empty s)
-      places s i r site f2 guard (unary s1 Not a) low = enters_to s s [] (empty s)
-      places s i r site f2 guard (unary s1 Complement a) low = enters_to s s [] (empty s)
-      places s i r site f2 guard (constant s1 k) low = enters_to s s [] (empty s)
-      places s i r site f2 guard (call s1 x all) low = enters_to s s [] (empty s)
-      places s i r site f2 guard (spawn s1 x a) low = enters_to s s [] (empty s)
-      places s i r site f2 guard (on_value s1 w a) low = enters_to s s [] (empty s)
-      places s i r site f2 guard (on_place s1 w a) low = enters_to s s [] (empty s)
-      places s i r site f2 guard (cast s1 t a) low = enters_to s s [] (empty s)
-      places s i r site f2 guard (binary s1 o site2 a b) low = enters_to s s [] (empty s)
+      places s i r site f2 guard _ low = enters_to s s [] (empty s)
