@@ -65,23 +65,16 @@ module _ (around : Setting) (f : ℕ) (D : (ℕ → Mark) → Type 0) (y : Typin
   indexed_below ints i (Some m) place n j lt = put_other (put ints i (place n)) (i + 1) j (place m) (λ e. omega (arith, e, lt)) ∙ put_other ints i j (place n) (λ e. omega (arith, e, lt))
 
   pub ints_below : (t : Target) (guard : Option ℕ) (ground : Ground) (e : Element) (i r : ℕ) (ints : ℕ → Number) (j : ℕ) → j < i → ints_of t guard ground e i r ints j ≡ ints j
-  ints_below (variable x) guard ground e i r ints j lt = refl
-  ints_below (in_global g n) guard ground e i r ints j lt = refl
   ints_below (in_global_at g n) guard ground e i r ints j lt = indexed_below ints i guard (number_in_global c.globals ground e g) n j lt
-  ints_below (in_object n) guard ground e i r ints j lt = refl
   ints_below (in_object_at n) guard ground e i r ints j lt = indexed_below ints i guard (λ field. OfElement r field e) n j lt
+  ints_below _ guard ground e i r ints j lt = refl
 
   -- the number of its cell is at hand
   at_hand : (t : Target) (guard : Option ℕ) (i r until : ℕ) (l : Label) → from ≤ i → i + index_width t guard ≤ until → IsAtHand (mark l from until) (cell_of c.globals i r t)
   at_hand (variable x) guard i r until l early le = tt
   at_hand (in_global g n) guard i r until l early le = tt
-  at_hand (in_global_at g n) guard i r until l early le = (early, by guard le)
-    where
-      by : (guard : Option ℕ) → i + guard_width guard ≤ until → i < until
-      by None le = omega (arith, le)
-      by (Some m) le = omega (arith, le)
   at_hand (in_object n) guard i r until l early le = tt
-  at_hand (in_object_at n) guard i r until l early le = (early, by guard le)
+  at_hand _ guard i r until l early le = (early, by guard le)
     where
       by : (guard : Option ℕ) → i + guard_width guard ≤ until → i < until
       by None le = omega (arith, le)
@@ -89,9 +82,7 @@ module _ (around : Setting) (f : ℕ) (D : (ℕ → Mark) → Type 0) (y : Typin
 
   hand_over : (l k : Label) (until : ℕ) (cell : Cell) → IsAtHand (mark l from until) cell → IsAtHand (mark k from until) cell
   hand_over l k until (cells.Global g p) h = h
-  hand_over l k until (cells.GlobalAt g j) h = h
-  hand_over l k until (cells.Object q n) h = h
-  hand_over l k until (cells.ObjectAt q j) h = h
+  hand_over l k until _ h = h
 
   -- ---- of a label with so many registers, whatever the free integer registers hold
   module _ (i r : ℕ) (l : Label) (at : Here i r l) (g : ℕ → Number) (below : (j : ℕ) → j < i → g j ≡ l.ints j) (until : ℕ) (le : i ≤ until) (ir rr : ℕ) (site : Site) (lvalue : Lvalue) (t : Target) (guard : Option ℕ) (cell : Cell) (spot : Spot) where
@@ -147,11 +138,9 @@ module _ (around : Setting) (f : ℕ) (D : (ℕ → Mark) → Type 0) (y : Typin
       (same i (omega arith) ∙ put_other (put ints i (place n)) (i + 1) i (place m) (λ e. omega (arith, e)) ∙ put_same ints i (place n), same (i + 1) (omega arith) ∙ put_same (put ints i (place n)) (i + 1) (place m))
 
   index_by : (t : Target) (guard : Option ℕ) (ground : Ground) (e : Element) (i r : ℕ) (ints : ℕ → Number) (q : Label) → ((j : ℕ) → j < i + index_width t guard → q.ints j ≡ ints_of t guard ground e i r ints j) → HasIndex c.globals t guard ground e i r q
-  index_by (variable x) guard ground e i r ints q same = tt
-  index_by (in_global g n) guard ground e i r ints q same = tt
   index_by (in_global_at g n) guard ground e i r ints q same = numbers_by q i guard (number_in_global c.globals ground e g) n ints same
-  index_by (in_object n) guard ground e i r ints q same = tt
   index_by (in_object_at n) guard ground e i r ints q same = numbers_by q i guard (λ field. OfElement r field e) n ints same
+  index_by _ guard ground e i r ints q same = tt
 
   written : (ints : ℕ → Number) (j : ℕ) (w : Width) → LessNumber (put ints j (Within w) j) (Within w)
   written ints j w = subst (λ n. LessNumber n (Within w)) (sym (put_same ints j (Within w))) (less_number_refl (Within w))
@@ -219,10 +208,7 @@ module _ (around : Setting) (f : ℕ) (D : (ℕ → Mark) → Type 0) (y : Typin
       where
         over_base : (t : Target) → HasBaseAt t ground r x → HasBaseAt t ground r (over x g Closed)
         over_base (variable z) h = h
-        over_base (in_global z n) h = h
-        over_base (in_global_at z n) h = h
-        over_base (in_object n) h = h
-        over_base (in_object_at n) h = h
+        over_base _ h = h
 
     pub env_base : (q : ℕ) → q < top → B.env q ≡ l.env q
     env_base q lt = let high = fr.high in put_other l.env r q (Refers ground.base) (λ z. omega (arith, z, lt, high))

@@ -8,7 +8,7 @@ use Rattle.sharc_code.proofs.Places.{put_same, put_other, put_all}
 use Rattle.sharc_flat.specs.{declared.op.Op.Op, declared.op.Spot.Spot}
 use Rattle.sharc_flat.specs.declared.op.Op.TheVariants as op
 use Rattle.sharc_guard.specs.Known.{Access, access, Know, know_next, is_straight}
-use Rattle.sharc_invariant.specs.{Types.{StaticType, Field, FieldType, FieldMode, Content, is_pointer, Mentions}, Types.FieldMode.{Private, Readonly, Racy, Dynamic, Under, Behind}, Types.Content.{Integer, Pointer}, Labels.{Empty, Refers, Within, Closed, Loaded, Pass, IsIn, Label, Less, LessEntry, IsScoped, IsFree, set_number, fill, empty, gated, without_base}, Typed.{IsVacant, IsOwn, Fits as FitsWidth, PointsTo, HasCell, ints_in, refs_in, knows_base}}
+use Rattle.sharc_invariant.specs.{Types.{StaticType, Field, FieldType, FieldMode, Content, is_pointer, Mentions}, Types.FieldMode.{Private, Readonly, Dynamic, Under, Behind}, Types.Content.{Integer, Pointer}, Labels.{Empty, Refers, Within, Closed, Loaded, Pass, IsIn, Label, Less, LessEntry, IsScoped, IsFree, set_number, fill, empty, gated, without_base}, Typed.{IsVacant, IsOwn, Fits as FitsWidth, PointsTo, HasCell, ints_in, refs_in, knows_base}}
 use Rattle.sharc_typed_laws.specs.{Inside.{known_behind, lock_of, passed_behind}, Lines.{MayPass, PassesCheck}, Passes.{with_passes, with_all, IsPassed}, Stretches.{Mark, Setting, labels_by, Tells, Fits, IsTypedAt, IsAtHand, IsLine}, Places.{MayReach, mark}}
 use Rattle.sharc_typed_laws.proofs.{TypedAlike.{same_reference, less_entry, has_field, has_cell, sibling, mutex_of, mode_is, place_is, points_to}, Preorder.less_through, Rules.free_too}
 use Rattle.sharc_lemmas.proofs.Bools.{false_true as never}
@@ -27,20 +27,14 @@ with_more a b known ps qs h more sub = record {
 }
 
 knows_more : (l : Label) (c : Cell) (r : ℕ) → l.known r ≡ true → (knows_base l c).known r ≡ true
-knows_more l (cells.Global g p) r e = e
-knows_more l (cells.GlobalAt g i) r e = e
 knows_more l (cells.Object q i) r e = put_all (λ r y. l.known r ≡ true → y ≡ true) l.known q true (λ _. refl) (λ r _ e. e) r e
 knows_more l (cells.ObjectAt q i) r e = put_all (λ r y. l.known r ≡ true → y ≡ true) l.known q true (λ _. refl) (λ r _ e. e) r e
+knows_more l _ r e = e
 
 more_behind : (l : Label) (spot : Spot) (mode : PlaceMode) (r : ℕ) → l.known r ≡ true → known_behind l spot mode r ≡ true
 more_behind l spot (modes.LockedSibling f m) r e = knows_more l spot.lock r e
 more_behind l spot (modes.LockedThrough q p) r e = knows_more l (cells.Object q p) r e
-more_behind l spot (modes.LockedGlobal g p) r e = e
-more_behind l spot modes.Private r e = e
-more_behind l spot modes.Readonly r e = e
-more_behind l spot modes.Racy r e = e
-more_behind l spot modes.Dynamic r e = e
-more_behind l spot modes.LockedLoaded r e = e
+more_behind l spot _ r e = e
 
 cleared_too : (g k : ℕ → Bool) (r : ℕ) → ((q : ℕ) → g q ≡ true → k q ≡ true) → (q : ℕ) → put g r false q ≡ true → put k r false q ≡ true
 cleared_too g k r more q h = ⊎_elim (λ (z : q ≡ r). never (sym (ap (put g r false) z ∙ put_same g r false) ∙ h)) (λ (ne : q ≡ r → ⊥). put_other k r q false ne ∙ more q (sym (put_other g r q false ne) ∙ h)) (cases_eq q r)
@@ -49,17 +43,12 @@ cleared_too g k r more q h = ⊎_elim (λ (z : q ≡ r). never (sym (ap (put g r
 module _ (around : Setting) (table : ℕ → Mark) (passes : ℕ → List Pass) (l : Label) (write : Bool) (c : Cell) (spot : Spot) (ps : List Pass) where
   own_too : (c : Cell) → IsOwn (labels_by around (λ n. mark l 0 0)) l c → IsOwn (with_all (labels_by around table) passes) (with_passes l ps) c
   own_too (cells.Global g p) h = h
-  own_too (cells.GlobalAt g i) h = h
-  own_too (cells.Object r i) h = h
-  own_too (cells.ObjectAt r i) h = h
+  own_too _ h = h
 
   may_too : (d : Bool) (m : Cell) (holds : Content) (mode : FieldMode) → (d ≡ true → IsPassed around.targets l ps write c) → (d ≡ true → is_pointer holds ≡ false) → MayPass around.targets around.code (labels_by around (λ n. mark l 0 0)) false l write c m holds mode
       → MayPass around.targets around.code (with_all (labels_by around table) passes) d (with_passes l ps) write c m holds mode
   may_too d m holds Private repeats plain h = (h.0, own_too c h.1)
-  may_too d m holds Readonly repeats plain h = h
-  may_too d m holds Racy repeats plain h = h
   may_too true m holds Dynamic repeats plain h = let w = repeats refl in (h, record { pass = w.pass; among = w.among; covers = w.covers; place = place_is l l.known l.gate ps around.targets c w.pass.base w.pass.cell w.place; integer = plain refl })
-  may_too false m holds Dynamic repeats plain h = h
   may_too d m holds (Under lock) repeats plain h = (h.0, record { field = h.1.field; has = has_field l l.known l.gate ps around.targets around.code m h.1.field h.1.has; mutex = h.1.mutex; is = mutex_of l l.known l.gate ps around.code lock c m h.1.is })
   may_too d m holds (Behind field pointer) repeats plain h = record {
     cell = h.cell;
@@ -69,6 +58,7 @@ module _ (around : Setting) (table : ℕ → Mark) (passes : ℕ → List Pass) 
     points = h.points;
     sibling = sibling l l.known l.gate ps field pointer c h.cell h.sibling;
   }
+  may_too _ m holds _ repeats plain h = h
 
   pub check_passes : (d : Bool) (f : Field) → (d ≡ true → IsPassed around.targets l ps write c) → (d ≡ true → is_pointer f.holds ≡ false) → MayReach around l write c spot f
       → PassesCheck around.targets around.code (with_all (labels_by around table) passes) d (with_passes l ps) write c spot f

@@ -12,11 +12,7 @@ use Rattle.sharc_lemmas.proofs.Bools.{or_first as not_left, or_second as not_rig
 -- the number of a cell of a global is none of granule 0
 abbrev pub IsPast : Number → Type 0
 IsPast (OfGlobal first count elements e) = 2 ≤ first
-IsPast Anything = Unit {0}
-IsPast (Exactly z) = Unit {0}
-IsPast (Within w) = Unit {0}
-IsPast (Indexes n) = Unit {0}
-IsPast (OfElement base field e) = Unit {0}
+IsPast _ = Unit {0}
 
 -- nor does an operation make one that is
 abbrev pub OpPast : Op → Type 0
@@ -25,17 +21,9 @@ OpPast _ = Unit {0}
 
 -- ---- knowing less
 less_past : (a b : Number) → LessNumber a b → IsPast a → IsPast b
-less_past a Anything h p = tt
-less_past a (Exactly z) h p = tt
-less_past a (Within w) h p = tt
-less_past a (Indexes n) h p = tt
-less_past a (OfElement base field e) h p = tt
 less_past Anything (OfGlobal first count elements e) h p = subst IsPast h p
-less_past (Exactly z) (OfGlobal first count elements e) h p = subst IsPast h p
-less_past (Within w) (OfGlobal first count elements e) h p = subst IsPast h p
-less_past (Indexes n) (OfGlobal first count elements e) h p = subst IsPast h p
-less_past (OfElement base field d) (OfGlobal first count elements e) h p = subst IsPast h p
-less_past (OfGlobal f c n d) (OfGlobal first count elements e) h p = subst IsPast h p
+less_past _ (OfGlobal first count elements e) h p = subst IsPast h p
+less_past a _ h p = tt
 
 less_full : (a b : Label) → Less a b → (v : ℕ) → a.env v ≢ Empty → b.env v ≢ Empty
 less_full a b h v full e = full (subst (λ y. LessEntry a v (a.env v) y) e (h.env v))
@@ -54,17 +42,13 @@ number_any : (ints : ℕ → Number) (j : ℕ) (n : Number) (i : ℕ) → IsPast
 number_any ints j n i new old = elim (nat_eq i j) as (λ b. IsPast (cond b n (ints i))) [ true ↦ new | false ↦ old ]
 
 index_past : (r : ℕ) (n : Number) → IsPast n → IsPast (without_index r n)
-index_past r Anything p = tt
-index_past r (Exactly z) p = tt
-index_past r (Within w) p = tt
-index_past r (Indexes n) p = tt
 index_past r (OfElement b field e) p = elim (nat_eq b r) as (λ c. IsPast (cond c Anything (OfElement b field e))) [ true ↦ tt | false ↦ tt ]
 index_past r (OfGlobal first count elements e) p = p
+index_past r _ p = tt
 
-forgotten_full : (r : ℕ) (e : Entry) → e ≢ Empty → forgotten r e ≢ Empty
-forgotten_full r Empty full = full
-forgotten_full r Unknown full = full
+pub forgotten_full : (r : ℕ) (e : Entry) → e ≢ Empty → forgotten r e ≢ Empty
 forgotten_full r (Refers s) full = elim (some_names r s.locks) as (λ b. cond b Unknown (Refers s) ≢ Empty) [ true ↦ λ e. absurd (let z : Unknown ≡ Empty = e in cc) | false ↦ full ]
+forgotten_full r _ full = full
 
 -- ---- what an operation leaves
 pub record After (o : Op) (l m : Label) : Type 0 where

@@ -9,7 +9,7 @@ use Rattle.sharc_flat.specs.declared.op.Op.TheVariants as op
 use Rattle.sharc_guard.specs.Known.{leads_to, is_target, is_led_to, line_leads, is_entry, SimplePlace, in_variable, in_global, Access, access, tells, Know, place_of, known, has_passed, drops, drops_at, dropped}
 use Rattle.sharc_invariant.specs.{Types.{Targets, StaticType, Field}, Labels.{Pass, IsIn, Label, Labels, Less, IsScoped}, Typed.{HasField, Covers, ints_in, refs_in, entry_label}}
 use Rattle.sharc_typed_laws.specs.{Inside.FlatLabels, Lines.{TypedLine, IsTypedFlat, To}, Passes.{is_write, pass_at, passes_next, passes_after, passes_before, passes_in, with_passes, with_all, with_checks, remembered, IsPassed, RepeatsCheck, Knows, IsTypedAnyhow}}
-use Rattle.sharc_typed_laws.proofs.{Checking.pass_is, Passing.{was_passed, covers, pass_eq, goes_on}}
+use Rattle.sharc_typed_laws.proofs.{Checking.pass_is, Passing.{was_passed, covers, pass_eq, goes_on}, Lines.within as line_within}
 use Rattle.sharc_lemmas.proofs.{Numbers.eq_refl, Bools.and_right}
 
 -- ---- targets
@@ -39,9 +39,7 @@ entry_at (x ∷ fs) (suc f) lt = either ((slice_index_or fs f no_function).entry
 -- ---- what a line that is typed says of the cell that it accesses
 field_over : (x : Targets) (code : Code) (l : Label) (ps qs : List Pass) (c : Cell) (f : Field) → HasField x code (with_passes l ps) c f → HasField x code (with_passes l qs) c f
 field_over x code l ps qs (cells.Global g p) f h = h
-field_over x code l ps qs (cells.GlobalAt g i) f h = h
-field_over x code l ps qs (cells.Object r i) f h = h
-field_over x code l ps qs (cells.ObjectAt r i) f h = h
+field_over x code l ps qs _ f h = h
 
 fields_of : (x : Targets) (code : Code) (ls : Labels) (lines : ℕ) (type : StaticType) (n : ℕ) (l k : Label) (o : Op) → TypedLine x code ls lines false type n l k o → (a : Access) → access o ≡ Some a → (f : Field) × HasField x code l a.cell f
 fields_of x code ls lines type n l k (op.Load i c spot) h a e = let same = same_Some _ a e in subst (λ (a : Access). (f : Field) × HasField x code l a.cell f) same (h.field, h.access.cell.field)
@@ -75,11 +73,6 @@ module _ (x : Targets) (code : Code) (fl : FlatLabels) (flat : Flat) (t : IsType
 
   target_none : (n : ℕ) → is_target flat n ≡ true → passes n ≡ []
   target_none n e = elim (nat_lt n lines) as (λ b. (if b then passes_before flat n else []) ≡ []) [ true ↦ none_before n e | false ↦ refl ]
-
-  line_within : (os : List Op) (n : ℕ) (o : Op) → slice_get os n ≡ Some o → n < length os
-  line_within [] n o e = absurd (none-some o e)
-  line_within (p ∷ os) zero o e = omega arith
-  line_within (p ∷ os) (suc n) o e = let h = line_within os n o e in omega arith
 
   module _ (n : ℕ) (o : Op) (at : slice_get flat.lines n ≡ Some o) where
     abbrev k : Know

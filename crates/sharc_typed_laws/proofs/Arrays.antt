@@ -1,10 +1,10 @@
 -- What is indexed as an array is a global of the program, so none of its cells is one of granule 0.
 use Rattle.std.proofs.{Common.{◌≡◌, ℕ, zero, suc, ◌+◌, ◌<◌, ◌≤◌, Bool, true, false, cond, ◌||◌, List, [], ◌∷◌, ◌++◌, length, Option, Some, None, refl, arith}, lemmas.List.Elements.Contains-append_right}
 use Rattle.std.specs.{Prelude.{slice_get, slice_index_or, Contains}, List.AllByRecursion}
-use Rattle.sharc_tree.specs.{declared.token.NumberType.NumberType, declared.tree.declaration.Declaration.Declaration, declared.tree.item.GlobalDefinition.GlobalDefinition, declared.tree.expression.FieldOperator.TheVariants.{Dot, Arrow}, declared.tree.expression.Constant.Constant, declared.tree.expression.UnaryOperator.UnaryOperator, declared.tree.expression.UnaryOperator.TheVariants.{Negate, Not, Complement, Dereference}, Measures.{expressions, in_function}, Tree.{Expression, identifier, constant, parentheses, call, spawn, on_value, on_place, cast, index, field, unary, binary, Function}}
+use Rattle.sharc_tree.specs.{declared.token.NumberType.NumberType, declared.tree.declaration.Declaration.Declaration, declared.tree.item.GlobalDefinition.GlobalDefinition, declared.tree.expression.FieldOperator.TheVariants.Dot, declared.tree.expression.Constant.Constant, declared.tree.expression.UnaryOperator.UnaryOperator, declared.tree.expression.UnaryOperator.TheVariants.{Not, Dereference}, Measures.{expressions, in_function}, Tree.{Expression, identifier, constant, parentheses, call, index, field, unary, binary, Function}}
 use Rattle.sharc_tree.specs.declared.token.NumberType.TheVariants as width
 use Rattle.sharc_tree.specs.declared.tree.expression.Constant.TheVariants as constants
-use Rattle.sharc_names.specs.{declared.fault.Named.{Named as Name}, Kinds.{Kind, object, array, null, function, int, long, is_array, element_kind, is_long}}
+use Rattle.sharc_names.specs.{declared.fault.Named.Named as Name, Kinds.{Kind, array, int, long, is_array, element_kind, is_long}}
 use Rattle.sharc_names.specs.declared.fault.Named.TheVariants as named
 use Rattle.sharc_code.specs.Says.{no_global}
 use Rattle.sharc_ctype.specs.{declared.expr.OperatorClass.OperatorClass, Expressions.{class_of, number_kind, constant_kind, unary_result, binary_result}, Resolved.{Resolution, globals_in, named_at, function_at, declaration_at, variable_kind, result_kind_of, global_kind_of, named_kind, called_kind, kind_at}}
@@ -12,7 +12,7 @@ use Rattle.sharc_ctype.specs.declared.expr.OperatorClass.TheVariants as classes
 use Rattle.sharc_mode.specs.Moded.{Assignment}
 use Rattle.sharc_check.specs.Constructs.{IsFunction}
 use Rattle.sharc_meaning.specs.Cells.{field_place_named}
-use Rattle.sharc_flat.specs.{Machine.first_cell, Places.{Target, variable, in_global, in_global_at, in_object, in_object_at, global_of, own_field, named_target, target}, Tables.{granules_in, globals_from, globals_of}}
+use Rattle.sharc_flat.specs.{Machine.first_cell, Places.{Target, in_global, in_global_at, in_object_at, global_of, own_field, named_target, target}, Tables.{granules_in, globals_from, globals_of}}
 use Rattle.sharc_typed_laws.specs.Programs.{AreGlobalsNamed}
 use Rattle.sharc_lemmas.proofs.Bools.{false_true as none_of}
 
@@ -45,31 +45,25 @@ number_plain width.Long e = none_of e
 
 constant_plain : (k : Constant) → is_array (constant_kind k) ≡ true → ⊥
 constant_plain (constants.Number n) e = number_plain n.number_type e
-constant_plain (constants.Character byte) e = none_of e
-constant_plain constants.Null e = none_of e
+constant_plain _ e = none_of e
 
 element_plain : (k : Kind) → is_array (element_kind k) ≡ true → ⊥
-element_plain (object b stars) e = none_of e
 element_plain (array b stars) e = none_of e
-element_plain null e = none_of e
-element_plain function e = none_of e
+element_plain _ e = none_of e
 
 wide_plain : (b : Bool) → is_array (cond b long int) ≡ true → ⊥
 wide_plain true e = none_of e
 wide_plain false e = none_of e
 
 unary_plain : (o : UnaryOperator) (k : Kind) → is_array (unary_result o k) ≡ true → ⊥
-unary_plain Negate k e = wide_plain (is_long k) e
 unary_plain Not k e = none_of e
-unary_plain Complement k e = wide_plain (is_long k) e
 unary_plain Dereference k e = element_plain k e
+unary_plain _ k e = wide_plain (is_long k) e
 
 binary_plain : (o : OperatorClass) (a b : Kind) → is_array (binary_result o a b) ≡ true → ⊥
-binary_plain classes.Logical a b e = none_of e
-binary_plain classes.Equality a b e = none_of e
-binary_plain classes.Relation a b e = none_of e
 binary_plain classes.Shift a b e = wide_plain (is_long a) e
 binary_plain classes.Arithmetic a b e = wide_plain (is_long a || is_long b) e
+binary_plain _ a b e = none_of e
 
 module _ (r : Resolution) where
   abbrev count : ℕ
@@ -77,19 +71,13 @@ module _ (r : Resolution) where
 
   called_plain : (n : Name) → is_array (called_kind r n) ≡ true → ⊥
   called_plain (named.Function n) e = result_plain (function_at r n) e
-  called_plain (named.Struct n) e = none_of e
-  called_plain (named.Global n) e = none_of e
-  called_plain (named.Variable n) e = none_of e
-  called_plain (named.Field n) e = none_of e
-  called_plain named.Known e = none_of e
+  called_plain _ e = none_of e
 
   some_global : (n : Name) → is_array (named_kind r n) ≡ true → 0 < count
   some_global (named.Global n) e = let lt = global_within (globals_in r.program.items) n e in omega (arith, lt)
   some_global (named.Variable token) e = absurd (variable_plain (declaration_at r token) e)
   some_global (named.Field token) e = absurd (variable_plain (declaration_at r token) e)
-  some_global (named.Struct n) e = none_of e
-  some_global (named.Function n) e = none_of e
-  some_global named.Known e = none_of e
+  some_global _ e = none_of e
 
   -- there is a global where something is an array
   some_array : (a : Expression) → is_array (kind_at r a) ≡ true → 0 < count
@@ -97,14 +85,11 @@ module _ (r : Resolution) where
   some_array (constant s k) e = absurd (constant_plain k e)
   some_array (parentheses s a) e = some_array a e
   some_array (call s f all) e = absurd (called_plain (named_at r f.site.token) e)
-  some_array (spawn s f a) e = none_of e
-  some_array (on_value s w a) e = none_of e
-  some_array (on_place s w a) e = none_of e
-  some_array (cast s t a) e = none_of e
   some_array (index s a n) e = absurd (element_plain (kind_at r a) e)
   some_array (field s a w n) e = some_global (named_at r n.site.token) e
   some_array (unary s o a) e = absurd (unary_plain o (kind_at r a) e)
   some_array (binary s o at a b) e = absurd (binary_plain (class_of o) (kind_at r a) (kind_at r b) e)
+  some_array _ e = none_of e
 
   -- ---- what an lvalue names
   abbrev pub NamesGlobal : Expression → Type 0
@@ -125,24 +110,16 @@ module _ (r : Resolution) where
   abbrev IsThere : Target → Type 0
   IsThere (in_global g n) = g < count
   IsThere (in_global_at g n) = g < count
-  IsThere (variable x) = Unit {0}
-  IsThere (in_object n) = Unit {0}
-  IsThere (in_object_at n) = Unit {0}
+  IsThere _ = Unit {0}
 
   global_there : (t : Target) → IsThere t → 0 < count → global_of t < count
   global_there (in_global g n) h some = h
   global_there (in_global_at g n) h some = h
-  global_there (variable x) h some = some
-  global_there (in_object n) h some = some
-  global_there (in_object_at n) h some = some
+  global_there _ h some = some
 
   name_there : (token : ℕ) → ((g : ℕ) → named_at r token ≡ named.Global g → g < count) → (n : Name) → named_at r token ≡ n → (f : ℕ) → IsThere (named_target n f)
   name_there token known (named.Global g) e f = known g e
-  name_there token known (named.Variable x) e f = tt
-  name_there token known (named.Struct n) e f = tt
-  name_there token known (named.Function n) e f = tt
-  name_there token known (named.Field n) e f = tt
-  name_there token known named.Known e f = tt
+  name_there token known _ e f = tt
 
   element_there : (b : Bool) (g n : ℕ) → (b ≡ true → g < count) → IsThere (cond b (in_global_at g n) (in_object_at n))
   element_there true g n h = h refl
@@ -153,18 +130,8 @@ module _ (r : Resolution) where
   target_there f (parentheses s a) h = target_there f a h.1
   target_there f (index s a n) h = element_there (is_array (kind_at r a)) (global_of (target r None a)) (own_field f 0) (λ e. global_there (target r None a) (target_there None a (named_left (expressions a) (expressions n) h.1)) (some_array a e))
   target_there f (field s a Dot n) h = target_there (Some (own_field f (field_place_named r (named_at r n.site.token)))) a h.1
-  target_there f (field s a Arrow n) h = tt
   target_there f (unary s Dereference a) h = tt
-  target_there f (unary s Negate a) h = tt
-  target_there f (unary s Not a) h = tt
-  target_there f (unary s Complement a) h = tt
-  target_there f (constant s k) h = tt
-  target_there f (call s g all) h = tt
-  target_there f (spawn s g a) h = tt
-  target_there f (on_value s w a) h = tt
-  target_there f (on_place s w a) h = tt
-  target_there f (cast s t a) h = tt
-  target_there f (binary s o at a b) h = tt
+  target_there f _ h = tt
 
 pub arrays_low : (r : Resolution) (a : Expression) → Named r (expressions a) → is_array (kind_at r a) ≡ true → 2 ≤ first_cell (globals_of r) (global_of (target r None a))
 arrays_low r a h e = low_of r (global_of (target r None a)) (global_there r (target r None a) (target_there r None a h) (some_array r a e))
@@ -179,14 +146,4 @@ function_named m known f is = all_named m.typed (in_function f) each
   where
     each : (e : Expression) → Contains (in_function f) e → NamesGlobal m.typed e
     each (identifier s x) inside = known s x (record { owner = f; stands = is; inside = inside })
-    each (constant s k) inside = tt
-    each (parentheses s a) inside = tt
-    each (call s g all) inside = tt
-    each (spawn s g a) inside = tt
-    each (on_value s w a) inside = tt
-    each (on_place s w a) inside = tt
-    each (cast s t a) inside = tt
-    each (index s a n) inside = tt
-    each (field s a w n) inside = tt
-    each (unary s o a) inside = tt
-    each (binary s o at a b) inside = tt
+    each _ inside = tt

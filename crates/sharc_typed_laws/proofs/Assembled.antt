@@ -7,6 +7,7 @@ use Rattle.sharc_mode.specs.Moded.{Assignment}
 use Rattle.sharc_flat.specs.{declared.op.Op.Op, Flattened.{in_function, function_code, functions_code, rows_of}}
 use Rattle.sharc_typed_laws.specs.{Stretches.{Mark, Setting, Fits, IsLine, Agrees, AreLines, first}, Premises.Typing, Declared.before, Begun.label_of, Functions.FunctionLines}
 use Rattle.sharc_lemmas.proofs.Lists.{front_got as get_left}
+use Rattle.sharc_typed_laws.proofs.Closing.{agrees_left}
 
 -- ---- lists
 get_right : {A : Type 0} (xs ys : List A) (j : ℕ) → slice_get (xs ++ ys) (length xs + j) ≡ slice_get ys j
@@ -19,10 +20,6 @@ index_of (y ∷ xs) zero x d e = same_Some y x e
 index_of (y ∷ xs) (suc j) x d e = index_of xs j x d e
 
 -- ---- tables that agree
-agrees_left : (table : ℕ → Mark) (pc : ℕ) (xs ys : List Mark) → Agrees table pc (xs ++ ys) → Agrees table pc xs
-agrees_left table pc [] ys h = tt
-agrees_left table pc (x ∷ xs) ys h = (h.0, agrees_left table (pc + 1) xs ys h.1)
-
 agrees_right : (table : ℕ → Mark) (pc : ℕ) (xs ys : List Mark) → Agrees table pc (xs ++ ys) → Agrees table (pc + length xs) ys
 agrees_right table pc [] ys h = let e : pc ≡ pc + 0 = omega arith in subst (λ q. Agrees table q ys) e h
 agrees_right table pc (x ∷ xs) ys h = let e : pc + 1 + length xs ≡ pc + length (x ∷ xs) = omega arith in subst (λ q. Agrees table q ys) e (agrees_right table (pc + 1) xs ys h.1)

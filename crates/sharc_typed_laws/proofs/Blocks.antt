@@ -6,7 +6,7 @@ use Rattle.sharc_invariant.specs.{Labels.Label, Typed.{ints_in, refs_in}}
 use Rattle.sharc_invariant.proofs.Scoped.{less_refl}
 use Rattle.sharc_typed_laws.specs.{Stretches.{Mark, Setting, Way, AreOpen, LeadsAmong, LeadsFrom}, Places.AreLow, Premises.Typing, Declared.{StandsBefore, before}, Blocks.{BlocksAreTyped, AnywhereLeads, EnterLeads, BlockLeads}}
 use Rattle.sharc_typed_laws.proofs.Flow as flow
-use Rattle.sharc_typed_laws.proofs.{Rules.on_block_end, Parts.{At, keeps, enter_at, within_left, within_right}, Ending.ends_typed}
+use Rattle.sharc_typed_laws.proofs.{Rules.on_block_end, Parts.{At, keeps, enter_at, within_right}, Ending.ends_typed, Closing.within_left}
 
 module _ (z : Setting) (f : ℕ) (ways : List Way) (y : Typing) (c : Context) (low : AreLow (y.named c) (ref_count c.scope)) (l : Label) (here : StandsBefore y c f l) where
   abbrev fi : ℕ

@@ -4,7 +4,7 @@ use Rattle.std.specs.Prelude.{nat_eq, nat_lt}
 use Rattle.sharc_code.proofs.Places.{put_same, put_other, put_all}
 use Rattle.sharc_flat.specs.{declared.op.Op.Op, declared.op.Spot.Spot, Scope.{Context, ref_count}}
 use Rattle.sharc_flat.specs.declared.op.Op.TheVariants as op
-use Rattle.sharc_invariant.specs.{Types.StaticType, Labels.{Entry, Empty, Refers, Number, Anything, Exactly, Within, Indexes, OfElement, OfGlobal, Closed, Label, Less, LessNumber, LessEntry, LessGate, EntryMentions, HasBase, IsScoped, fill, set_number}, Typed.{Passes, ints_in, refs_in, below, below_copy, below_number, called_label}}
+use Rattle.sharc_invariant.specs.{Types.StaticType, Labels.{Entry, Empty, Refers, Number, Anything, Indexes, OfElement, OfGlobal, Closed, Label, Less, LessNumber, LessEntry, LessGate, EntryMentions, HasBase, IsScoped, fill, set_number}, Typed.{Passes, ints_in, refs_in, below, below_copy, below_number, called_label}}
 use Rattle.sharc_invariant.proofs.Scoped.{less_entry_refl, less_number_refl, scoped_fill}
 use Rattle.sharc_typed_laws.specs.{Stretches.{Mark, Setting}, Places.{IsNamed, IsPlain, mark}, Premises.Typing}
 use Rattle.sharc_typed_laws.proofs.{Standing.{less_by, scoped_frame, stands_number}, Handing.{CallFits, on_call}, Parts.{P, does, with_number}, Accessed.Frame}
@@ -36,20 +36,14 @@ module _ (around : Setting) (f : ℕ) (D : (ℕ → Mark) → Type 0) (y : Typin
   copy_high k same q a = let e : nat_lt q k ≡ false = grind (arith, nat_tests, a) in ap (λ z. cond (z && nat_lt (same q) k) (same q) q) e
 
   number_low : (k : ℕ) (n : Number) → ((q : ℕ) → HasBase n q → q < k) → below_number k n ≡ n
-  number_low k Anything h = refl
-  number_low k (Exactly z) h = refl
-  number_low k (Within w) h = refl
-  number_low k (Indexes m) h = refl
-  number_low k (OfGlobal a b d e) h = refl
   number_low k (OfElement base field e) h = let lt = h base refl in let d : nat_lt base k ≡ true = grind (arith, nat_tests, lt) in ap (λ z. cond z (OfElement base field e) Anything) d
+  number_low k _ h = refl
 
   plain_low : (k : ℕ) (n : Number) → IsPlain n → below_number k n ≡ n
-  plain_low k Anything h = refl
-  plain_low k (Exactly z) h = refl
-  plain_low k (Within w) h = refl
   plain_low k (Indexes m) h = absurd h
   plain_low k (OfElement base field e) h = absurd h
   plain_low k (OfGlobal a b d e) h = absurd h
+  plain_low k _ h = refl
 
   -- ---- the caller's label k, that has l in its first registers
   module _ (i r : ℕ) (l : Label) (fr : Frame around f D y c low from i r l) (k : Label) (owned : k.function ≡ Some f) (closed : k.gate ≡ Closed) (env : (q : ℕ) → q < r → k.env q ≡ l.env q) (same : (q : ℕ) → q < r → k.same q ≡ l.same q) (known : (q : ℕ) → q < r → k.known q ≡ l.known q)
@@ -123,12 +117,10 @@ module _ (around : Setting) (f : ℕ) (D : (ℕ → Mark) → Type 0) (y : Typin
           (less_plain result n (subst (λ z. LessNumber z n) (sym (ap (below_number r) number ∙ plain_low r n plain)) (less_number_refl n)))
         where
           base : (n : Number) → IsPlain n → (q : ℕ) → HasBase n q → q < r
-          base Anything plain q h = absurd h
-          base (Exactly z) plain q h = absurd h
-          base (Within w) plain q h = absurd h
           base (Indexes m) plain q h = absurd plain
           base (OfElement d e z) plain q h = absurd plain
           base (OfGlobal d e z w) plain q h = absurd plain
+          base _ plain q h = absurd h
 
       -- nothing
       pub call_nothing : (around.signature g).result ≡ Empty → Q (mark k a b) (op.Call g i r spot ∷ []) (mark l from i)

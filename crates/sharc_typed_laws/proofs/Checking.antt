@@ -8,7 +8,7 @@ use Rattle.sharc_code.proofs.Places.{put_same, put_all}
 use Rattle.sharc_flat.specs.declared.op.Spot.{Spot}
 use Rattle.sharc_compile.specs.Generated.{instr_of}
 use Rattle.sharc_guard.specs.Guard.{check_under}
-use Rattle.sharc_invariant.specs.{Types.{Targets, Lock, Field, FieldLock, FieldMode, Content, cells_of}, Types.Lock.{Global, Through, Self}, Types.FieldLock.{OfType, OfGlobals, OfElement as OfSameElement}, Types.FieldMode.{Private, Readonly, Racy, Dynamic, Under, Behind}, Labels.{Entry, Empty, Refers, Unknown, Element, Named, Nth, Number, Anything, Exactly, Within, Indexes, OfElement, OfGlobal, Gate, Closed, Checked, Holds, HoldsLoaded, Pass, Label, Labels, Less, IsCopy, gated}, Typed.{HasField, HasBase, HasCell, IsPlace, IsOwn, Directly, Earlier, Covers, MayAccess, Accesses, IsNotSole, IsMode, IsLockMode, IsTypeMode, LeadsChecked, knows_base, no_lock}}
+use Rattle.sharc_invariant.specs.{Types.{Targets, Lock, Field, FieldLock, FieldMode, Content, cells_of}, Types.Lock.{Global, Self}, Types.FieldLock.{OfType, OfGlobals, OfElement as OfSameElement}, Types.FieldMode.{Private, Readonly, Racy, Dynamic, Under, Behind}, Labels.{Entry, Refers, Element, Nth, Number, OfElement, OfGlobal, Gate, Closed, Checked, Holds, HoldsLoaded, Pass, Label, Labels, Less, IsCopy, gated}, Typed.{HasField, HasBase, HasCell, IsPlace, IsOwn, Directly, Earlier, Covers, MayAccess, Accesses, IsNotSole, IsMode, IsLockMode, IsTypeMode, LeadsChecked, knows_base, no_lock}}
 use Rattle.sharc_invariant.proofs.Scoped.{less_refl}
 use Rattle.sharc_typed_laws.specs.{Steps.{all_at, Steps, Chain}, Inside.{lock_of, global_pass, global_element_pass, element_pass, pass_of, with_pass, held_gate, known_behind, gate_behind, passed_behind, behind, before_check}, Lines.{IsLockedBy, IsGuardedBy, MayPass, PassesCheck}}
 use Rattle.sharc_typed_laws.proofs.TypedAlike.{has_field, has_cell, sibling, mutex_of, mode_is, place_is}
@@ -37,12 +37,7 @@ module _ (x : Targets) (code : Code) (l : Label) (write : Bool) where
   global_element_is : (g i : ℕ) (p : Pass) (n : Number) → l.ints i ≡ n → global_element_pass write n ≡ Some p → IsPass x l write (cells.GlobalAt g i) p
   global_element_is g i p (OfGlobal first count elements (Nth e)) is h =
       let k = global_is write (first + e * count) p h in record { kind = k.kind; place = (k.base, (first, count, elements, e, is, k.cell)) }
-  global_element_is g i p (OfGlobal first count elements (Named m)) is h = absurd (none-some p h)
-  global_element_is g i p Anything is h = absurd (none-some p h)
-  global_element_is g i p (Exactly z) is h = absurd (none-some p h)
-  global_element_is g i p (Within w) is h = absurd (none-some p h)
-  global_element_is g i p (Indexes m) is h = absurd (none-some p h)
-  global_element_is g i p (OfElement b f e) is h = absurd (none-some p h)
+  global_element_is g i p _ is h = absurd (none-some p h)
 
   same_base : (b r f g : ℕ) (e d : Element) → OfElement b f e ≡ OfElement r g d → b ≡ r
   same_base b r f g e d h = cc
@@ -55,14 +50,7 @@ module _ (x : Targets) (code : Code) (l : Label) (write : Bool) where
         kind = sym (ap (λ (p : Pass). p.write) same);
         place = (l.same r, f, k, s, sym (ap (λ (p : Pass). p.base) same), IsCopy refl, entry, is ∙ ap (λ b. OfElement b f (Nth k)) base, sym (ap (λ (p : Pass). p.cell) same));
       }
-  element_is r i field e has p (Refers s) (OfElement b f (Named m)) entry is h = absurd (none-some p h)
-  element_is r i field e has p (Refers s) Anything entry is h = absurd (none-some p h)
-  element_is r i field e has p (Refers s) (Exactly z) entry is h = absurd (none-some p h)
-  element_is r i field e has p (Refers s) (Within w) entry is h = absurd (none-some p h)
-  element_is r i field e has p (Refers s) (Indexes m) entry is h = absurd (none-some p h)
-  element_is r i field e has p (Refers s) (OfGlobal a b c d) entry is h = absurd (none-some p h)
-  element_is r i field e has p Empty n entry is h = absurd (none-some p h)
-  element_is r i field e has p Unknown n entry is h = absurd (none-some p h)
+  element_is r i field e has p _ _ entry is h = absurd (none-some p h)
 
   pub pass_is : (c : Cell) (f : Field) → HasField x code l c f → (p : Pass) → pass_of x l write c ≡ Some p → IsPass x l write c p
   pass_is (cells.Global g q) f has p e = let k = global_is write q p e in record { kind = k.kind; place = (k.base, k.cell) }
@@ -78,22 +66,18 @@ module _ (x : Targets) (code : Code) (l : Label) (g : Gate) where
   held m = record l { known = (knows_base l m).known; gate = g; passed = l.passed }
 
   knows_more : (m : Cell) (r : ℕ) → l.known r ≡ true → (knows_base l m).known r ≡ true
-  knows_more (cells.Global h p) r e = e
-  knows_more (cells.GlobalAt h i) r e = e
   knows_more (cells.Object q i) r e = put_all (λ r (b : Bool). l.known r ≡ true → b ≡ true) l.known q true (λ _. refl) (λ r _ e. e) r e
   knows_more (cells.ObjectAt q i) r e = put_all (λ r (b : Bool). l.known r ≡ true → b ≡ true) l.known q true (λ _. refl) (λ r _ e. e) r e
+  knows_more _ r e = e
 
   leads_held : (m : Cell) → Less (gated (knows_base l m) g) (held m)
   leads_held (cells.Global h p) = less_refl (held (cells.Global h p))
-  leads_held (cells.GlobalAt h i) = less_refl (held (cells.GlobalAt h i))
-  leads_held (cells.Object q i) = less_refl (held (cells.Object q i))
-  leads_held (cells.ObjectAt q i) = less_refl (held (cells.ObjectAt q i))
+  leads_held k = less_refl (held k)
 
   base_held : (m : Cell) → HasBase (held m) m
-  base_held (cells.Global h p) = tt
-  base_held (cells.GlobalAt h i) = tt
   base_held (cells.Object q i) = put_same l.known q true
   base_held (cells.ObjectAt q i) = put_same l.known q true
+  base_held _ = tt
 
   pub cell_held : (m : Cell) (f : Field) → HasField x code l m f → HasCell x code (held m) m f
   cell_held m f h = record { field = has_field l (knows_base l m).known g l.passed x code m f h; base = base_held m }
@@ -105,9 +89,8 @@ IsLocked (modes.LockedThrough r place) = Unit {0}
 IsLocked mode = ⊥
 
 lock_locks : (code : Code) (l : Label) (r : ℕ) (lock : Lock) (mode : PlaceMode) → IsLockMode code l r lock mode → IsLocked mode
-lock_locks code l r (Global j) mode h = subst IsLocked (sym h.1) tt
-lock_locks code l r (Through q j) mode h = subst IsLocked (sym h.1) tt
 lock_locks code l r (Self j) mode h = subst IsLocked (sym h.1) tt
+lock_locks code l r _ mode h = subst IsLocked (sym h.1) tt
 
 type_locks : (code : Code) (l : Label) (k : ℕ) (c : Cell) (mode : PlaceMode) → IsTypeMode code l k c mode → IsLocked mode
 type_locks code l k (cells.Object r i) mode h = lock_locks code l r (slice_index_or h.0.locks k no_lock) mode h.2
@@ -120,10 +103,9 @@ locks code l c (OfGlobals j) mode h = lock_locks code l 0 (Global j) mode h
 locks code l c (OfSameElement field mutex) mode h = subst IsLocked (sym h.0) tt
 
 own_is : (ls : Labels) (l b : Label) → l.function ≡ b.function → (c : Cell) → IsOwn ls l c → IsOwn ls b c
-own_is ls l b e (cells.Global g p) h = (h.0, (sym e ∙ h.1.0, h.1.1))
-own_is ls l b e (cells.GlobalAt g i) h = (h.0, (sym e ∙ h.1.0, h.1.1))
 own_is ls l b e (cells.Object r i) h = tt
 own_is ls l b e (cells.ObjectAt r i) h = tt
+own_is ls l b e _ h = (h.0, (sym e ∙ h.1.0, h.1.1))
 
 not_sole : (g : Gate) → g ≡ Closed → IsNotSole g
 not_sole g e = subst IsNotSole (sym e) tt
@@ -177,16 +159,6 @@ module _ (x : Targets) (code : Code) (ls : Labels) (l : Label) (write : Bool) (c
     may = (m, h.field, refl, cell_held x code l (Holds m) m h.field h.has, h.mutex, mutex_of l (knows_base l m).known (Holds m) l.passed code lock c m h.is);
     apart = tt;
   }
-  under true f lock (modes.LockedSibling a d) is closed h = let m = spot.lock in record {
-    check = (closed, (h.field, h.has, h.mutex), leads_held x code l (Holds m) m);
-    may = (m, h.field, refl, cell_held x code l (Holds m) m h.field h.has, h.mutex, mutex_of l (knows_base l m).known (Holds m) l.passed code lock c m h.is);
-    apart = tt;
-  }
-  under false f lock (modes.LockedSibling a d) is closed h = let m = spot.lock in record {
-    check = (closed, (h.field, h.has, h.mutex), leads_held x code l (Holds m) m);
-    may = (m, h.field, refl, cell_held x code l (Holds m) m h.field h.has, h.mutex, mutex_of l (knows_base l m).known (Holds m) l.passed code lock c m h.is);
-    apart = tt;
-  }
   under true f lock (modes.LockedThrough r p) is closed h = let m = cells.Object r p in record {
     check = (closed, (h.field, h.has, h.mutex), leads_held x code l (Holds m) m);
     may = (m, h.field, refl, cell_held x code l (Holds m) m h.field h.has, h.mutex, mutex_of l (knows_base l m).known (Holds m) l.passed code lock c m h.is);
@@ -197,11 +169,12 @@ module _ (x : Targets) (code : Code) (ls : Labels) (l : Label) (write : Bool) (c
     may = (m, h.field, refl, cell_held x code l (Holds m) m h.field h.has, h.mutex, mutex_of l (knows_base l m).known (Holds m) l.passed code lock c m h.is);
     apart = tt;
   }
-  under dropped f lock modes.Private is closed h = absurd is
-  under dropped f lock modes.Readonly is closed h = absurd is
-  under dropped f lock modes.Racy is closed h = absurd is
-  under dropped f lock modes.Dynamic is closed h = absurd is
-  under dropped f lock modes.LockedLoaded is closed h = absurd is
+  under _ f lock (modes.LockedSibling a d) is closed h = let m = spot.lock in record {
+    check = (closed, (h.field, h.has, h.mutex), leads_held x code l (Holds m) m);
+    may = (m, h.field, refl, cell_held x code l (Holds m) m h.field h.has, h.mutex, mutex_of l (knows_base l m).known (Holds m) l.passed code lock c m h.is);
+    apart = tt;
+  }
+  under dropped f lock _ is closed h = absurd is
 
   -- the check of a cell that is locked behind a pointer
   guarded_steps : (g : Gate) (field pointer : ℕ) (h : IsGuardedBy x code l field pointer c) → HoldsLoaded h.cell ≡ g → Steps x code ls l (record l { gate = g }) (ChkLockLoaded n)
@@ -253,10 +226,6 @@ module _ (x : Targets) (code : Code) (ls : Labels) (l : Label) (write : Bool) (c
   chain_check fs true modes.Readonly labels is k step h = h
   chain_check fs true modes.Racy labels is k step h = h
   chain_check fs true modes.Dynamic labels is k step h = h
-  chain_check fs true (modes.LockedGlobal g p) labels is k step h = (step, h)
-  chain_check fs true (modes.LockedSibling f m) labels is k step h = (step, h)
-  chain_check fs true (modes.LockedThrough r p) labels is k step h = (step, h)
-  chain_check fs true modes.LockedLoaded labels is k step h = (step, h)
   chain_check fs false modes.Private labels is k step h = h
   chain_check fs false modes.Readonly labels is k step h = h
   chain_check fs false modes.Racy labels is k step h = h
@@ -265,10 +234,7 @@ module _ (x : Targets) (code : Code) (ls : Labels) (l : Label) (write : Bool) (c
       plain : (w : Bool) → instr_of fs (if w then ChkWrite c n else ChkRead c n) ≡ (if w then ChkWrite c n else ChkRead c n)
       plain true = refl
       plain false = refl
-  chain_check fs false (modes.LockedGlobal g p) labels is k step h = (step, h)
-  chain_check fs false (modes.LockedSibling f m) labels is k step h = (step, h)
-  chain_check fs false (modes.LockedThrough r p) labels is k step h = (step, h)
-  chain_check fs false modes.LockedLoaded labels is k step h = (step, h)
+  chain_check fs _ _ labels is k step h = (step, h)
 
 -- ---- the access itself, among labels that agree on functions
 may_all : (x : Targets) (code : Code) (ls : Labels) (k l : Label) (write : Bool) (c : Cell) (holds : Content) (fm : FieldMode) → MayAccess x code ls l write c holds fm → MayAccess x code (all_at ls k) l write c holds fm
@@ -285,12 +251,7 @@ may_all x code ls k l write c holds (Behind field pointer) h = h
 more_behind : (x : Targets) (code : Code) (l : Label) (spot : Spot) (mode : PlaceMode) (r : ℕ) → l.known r ≡ true → known_behind l spot mode r ≡ true
 more_behind x code l spot (modes.LockedSibling f m) r e = knows_more x code l Closed spot.lock r e
 more_behind x code l spot (modes.LockedThrough q p) r e = knows_more x code l Closed (cells.Object q p) r e
-more_behind x code l spot (modes.LockedGlobal g p) r e = e
-more_behind x code l spot modes.Private r e = e
-more_behind x code l spot modes.Readonly r e = e
-more_behind x code l spot modes.Racy r e = e
-more_behind x code l spot modes.Dynamic r e = e
-more_behind x code l spot modes.LockedLoaded r e = e
+more_behind x code l spot _ r e = e
 
 pub accesses : (x : Targets) (code : Code) (ls : Labels) (dropped : Bool) (k l : Label) (write : Bool) (c : Cell) (spot : Spot) (f : Field) (n : ℕ)
     → (place_at code n).mode ≡ spot.mode → PassesCheck x code ls dropped l write c spot f → Accesses x code (all_at ls k) (behind x dropped l write c spot) write c n f

@@ -1,46 +1,37 @@
 -- Code after which nothing is asked: it ends with a line that is typed whatever is said after it.
-use Rattle.std.proofs.Common.{◌≡◌, ℕ, ◌+◌, true, false, List, [], ◌∷◌, ◌++◌, length, Some, refl, sym, subst, arith, length-append}
-use Rattle.sharc_code.specs.{declared.instr.Width.Width, declared.instr.Width.TheVariants.{Char, Int, Long}}
+use Rattle.std.proofs.Common.{◌≡◌, ℕ, ◌+◌, true, List, [], ◌∷◌, ◌++◌, length, Some, refl, sym, subst, arith, length-append}
+use Rattle.sharc_code.specs.{declared.instr.Width.Width, declared.instr.Width.TheVariants.Int}
 use Rattle.sharc_flat.specs.declared.op.Op.{Op}
-use Rattle.sharc_invariant.specs.{Types.{Lock, Targets}, Types.Lock.{Global, Through, Self}, Labels.{Entry, Empty, Refers, Unknown, Number, Anything, Exactly, Within, Indexes, OfElement, OfGlobal, Gate, Closed, Checked, Holds, Loaded, HoldsLoaded, Sole, Label, Itself, IsCopy, SameLock, AllSame, LessEntry, Narrower, LessNumber, LessGate, Less, IsScoped}, Typed.{ints_in, refs_in}}
+use Rattle.sharc_invariant.specs.{Types.Lock, Types.Lock.Through, Labels.{Entry, Refers, Number, Anything, Within, Gate, Closed, Sole, Label, Itself, IsCopy, SameLock, AllSame, LessEntry, Narrower, LessNumber, LessGate, Less, IsScoped}, Typed.{ints_in, refs_in}}
 use Rattle.sharc_typed_laws.specs.{Stretches.{Mark, Setting, Fits, IsLine, Agrees, AreLines, first, AreWithin, Way, LeadsFrom}, Functions.FunctionLines}
+use Rattle.sharc_typed_laws.proofs.Fitting.{fits_same}
 
 -- ---- a label says no more than itself
 same_lock : (l : Label) (r : ℕ) (a : Lock) → SameLock l r a a
-same_lock l r (Global j) = refl
 same_lock l r (Through q j) = (refl, Itself refl)
-same_lock l r (Self j) = refl
+same_lock l r _ = refl
 
 same_locks : (l : Label) (r : ℕ) (xs : List Lock) → AllSame (SameLock l r) xs xs
 same_locks l r [] = tt
 same_locks l r (x ∷ xs) = (same_lock l r x, same_locks l r xs)
 
 less_entry : (l : Label) (r : ℕ) (e : Entry) → LessEntry l r e e
-less_entry l r Empty = refl
-less_entry l r Unknown = refl
 less_entry l r (Refers s) = record { target = refl; locks = same_locks l r s.locks }
+less_entry l r _ = refl
 
 narrower : (w : Width) → Narrower w w
-narrower Char = tt
 narrower Int = tt
-narrower Long = tt
+narrower _ = tt
 
 less_number : (n : Number) → LessNumber n n
 less_number Anything = tt
-less_number (Exactly z) = refl
 less_number (Within w) = narrower w
-less_number (Indexes n) = refl
-less_number (OfElement b f e) = refl
-less_number (OfGlobal f c n e) = refl
+less_number _ = refl
 
 less_gate : (g : Gate) → LessGate g g
 less_gate Closed = tt
-less_gate (Checked w c) = refl
-less_gate (Holds c) = refl
-less_gate (Loaded c) = refl
-less_gate (HoldsLoaded c) = refl
 less_gate (Sole r true) = refl
-less_gate (Sole r false) = refl
+less_gate _ = refl
 
 less_same : (l : Label) → Less l l
 less_same l = record {
@@ -53,9 +44,6 @@ less_same l = record {
   passed = λ p h. h;
   room = λ e. e;
 }
-
-fits_same : (x : Targets) (s : Mark) → Fits x s s
-fits_same x s = record { less = less_same s.label; tells = λ k h. h }
 
 -- ---- lists of lines
 pub within_left : (ints refs : ℕ) (xs ys : List Op) → AreWithin ints refs (xs ++ ys) → AreWithin ints refs xs

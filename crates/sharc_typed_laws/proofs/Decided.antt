@@ -5,7 +5,7 @@ use Rattle.sharc_flat.specs.declared.op.Op.TheVariants as op
 use Rattle.sharc_invariant.specs.{Labels.{Label, IsScoped}, Typed.{ints_in, refs_in}}
 use Rattle.sharc_typed_laws.specs.{Stretches.{Mark, Setting, Way, Stretch, AreOpen, LeadsFrom}, Places.{RegistersStand, mark}, Decided.{turn_by, loop_ways, DecisionsAreTyped, IfLeads, ChoiceLeads, JoinLeads, LoopLeads, EverLeads}}
 use Rattle.sharc_typed_laws.proofs.Flow as flow
-use Rattle.sharc_typed_laws.proofs.{Rules.{Plain, on_jump}, Parts.{within_left, within_right}}
+use Rattle.sharc_typed_laws.proofs.{Rules.{Plain, on_jump}, Parts.within_right, Closing.within_left}
 
 module _ (z : Setting) (f : ℕ) (named : ℕ → Bool) (from i r : ℕ) (l : Label) (stands : RegistersStand named i r l) (owned : l.function ≡ Some f) where
   abbrev here : Mark

@@ -3,7 +3,7 @@ use Rattle.std.proofs.{Common.{◌≡◌, ℕ, ◌+◌, ◌<◌, ◌≤◌, Bool
 use Rattle.std.specs.Prelude.{nat_eq}
 use Rattle.sharc_tree.specs.{declared.tree.declaration.Declaration.Declaration, Tree.Right}
 use Rattle.sharc_names.specs.Kinds.{Kind, is_pointer, declared_kind}
-use Rattle.sharc_code.specs.{Arithmetic.holds, declared.instr.Register.Register, declared.instr.Width.Width, declared.instr.Width.TheVariants.{Char, Int, Long}, Runs.put}
+use Rattle.sharc_code.specs.{Arithmetic.holds, declared.instr.Register.Register, declared.instr.Width.Width, declared.instr.Width.TheVariants.Int, Runs.put}
 use Rattle.sharc_code.specs.declared.instr.Register.TheVariants as registers
 use Rattle.sharc_code.proofs.Places.{put_same, put_other, put_all}
 use Rattle.sharc_mode.specs.Sharings.{Sharing}
@@ -17,9 +17,8 @@ use Rattle.sharc_typed_laws.proofs.{Fitting.{fits_same, fits_by}, Standing.{less
 use Rattle.sharc_lemmas.proofs.{Bools.or_false, Numbers.eq_refl}
 
 pub zero_fits : (w : Width) → holds w (pos 0) ≡ true
-zero_fits Char = refl
 zero_fits Int = refl
-zero_fits Long = refl
+zero_fits _ = refl
 
 no_number : (v : Number) → v ≡ Exactly (pos 0) → v ≡ Anything → ⊥
 no_number v a b = let e : Exactly (pos 0) ≡ Anything = sym a ∙ b in cc

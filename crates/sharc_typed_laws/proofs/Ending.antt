@@ -4,17 +4,16 @@ use Rattle.sharc_code.specs.Runs.{put}
 use Rattle.sharc_code.proofs.Places.{put_other, put_all}
 use Rattle.sharc_flat.specs.{declared.op.Op.Op, declared.slot.Slot.Slot, Scope.{Context, int_count, ref_count, pops}}
 use Rattle.sharc_flat.specs.declared.op.Op.TheVariants as op
-use Rattle.sharc_invariant.specs.{Types.{Lock, Mentions, Names, SomeNames}, Types.Lock.{Global, Through, Self}, Labels.{Entry, Empty, Refers, Unknown, Within, Closed, IsIn, Label, Less, LessEntry, LessNumber, LessGate, HasBase, EntryMentions, IsScoped, without_copies, without_index, names, some_names, forgotten, forgets, empty}, Typed.{ints_in, refs_in}}
+use Rattle.sharc_invariant.specs.{Types.{Lock, Mentions, Names, SomeNames}, Types.Lock.Through, Labels.{Entry, Empty, Refers, Unknown, Within, Closed, IsIn, Label, Less, LessEntry, LessNumber, LessGate, HasBase, EntryMentions, IsScoped, without_copies, without_index, names, some_names, forgotten, forgets, empty}, Typed.{ints_in, refs_in}}
 use Rattle.sharc_invariant.proofs.Scoped.{less_entry_refl, less_number_refl}
 use Rattle.sharc_typed_laws.specs.{Stretches.{Mark, Setting, Way, AreOpen, LeadsAmong}, Places.{AreLow, mark}, Premises.Typing, Declared.{StandsBefore, before}, Ended.{Grows, EndsAreTyped}}
-use Rattle.sharc_typed_laws.proofs.{Standing.{less_by, scoped_frame, without_same, uncopied}, Telling.told, Moves.on_pop_named, Parts.{then_do, does, none}}
+use Rattle.sharc_typed_laws.proofs.{Standing.{less_by, scoped_frame, without_same, uncopied}, Telling.told, Moves.on_pop_named, Parts.{then_do, does, none}, After.forgotten_full}
 use Rattle.sharc_lemmas.proofs.Options.{no_guard as none_some}
 
 -- ---- types that name a register are forgotten
 names_are : (n : ℕ) (lock : Lock) → names n lock ≡ true → Names n lock
 names_are n (Through q j) e = let w : q ≡ n = grind (arith, nat_tests, e) in w
-names_are n (Global g) e = absurd (false≢true e)
-names_are n (Self g) e = absurd (false≢true e)
+names_are n _ e = absurd (false≢true e)
 
 some_are : (n : ℕ) (list : List Lock) → some_names n list ≡ true → SomeNames n list
 some_are n [] e = absurd (false≢true e)
@@ -25,37 +24,25 @@ some_are n (lock ∷ rest) e = by (names n lock) refl e (some_are n rest)
     by false is e others = inr (others e)
 
 pub forgotten_same : (n : ℕ) (e : Entry) → (EntryMentions e n → ⊥) → forgotten n e ≡ e
-forgotten_same n Empty none = refl
-forgotten_same n Unknown none = refl
 forgotten_same n (Refers s) none = by (some_names n s.locks) refl
   where
     by : (b : Bool) → some_names n s.locks ≡ b → cond b Unknown (Refers s) ≡ Refers s
     by true is = absurd (none (some_are n s.locks is))
     by false is = refl
+forgotten_same n _ none = refl
 
 -- what is not forgotten does not name it
 pub forgotten_mentions : (n : ℕ) (e : Entry) (p : ℕ) → EntryMentions (forgotten n e) p → EntryMentions e p
-forgotten_mentions n Empty p h = h
-forgotten_mentions n Unknown p h = h
 forgotten_mentions n (Refers s) p h = by (some_names n s.locks) h
   where
     by : (b : Bool) → EntryMentions (cond b Unknown (Refers s)) p → Mentions s p
     by true h = absurd h
     by false h = h
-
-pub forgotten_full : (n : ℕ) (e : Entry) → e ≢ Empty → forgotten n e ≢ Empty
-forgotten_full n Empty full e = full e
-forgotten_full n Unknown full e = full e
-forgotten_full n (Refers s) full e = by (some_names n s.locks) e
-  where
-    by : (b : Bool) → cond b Unknown (Refers s) ≢ Empty
-    by true e = cc
-    by false e = cc
+forgotten_mentions n _ p h = h
 
 names_is : (n : ℕ) (lock : Lock) → Names n lock → names n lock ≡ true
 names_is n (Through q j) h = grind (arith, nat_tests, h)
-names_is n (Global g) h = absurd h
-names_is n (Self g) h = absurd h
+names_is n _ h = absurd h
 
 some_named : (n : ℕ) (list : List Lock) → SomeNames n list → some_names n list ≡ true
 some_named n [] h = absurd h
@@ -66,13 +53,12 @@ some_named n (lock ∷ rest) h = ⊎_elim (λ (k : Names n lock). ap (λ b. b ||
     either false e = e
 
 pub forgotten_none : (n : ℕ) (e : Entry) → EntryMentions (forgotten n e) n → ⊥
-forgotten_none n Empty h = h
-forgotten_none n Unknown h = h
 forgotten_none n (Refers s) h = by (some_names n s.locks) refl h
   where
     by : (b : Bool) → some_names n s.locks ≡ b → EntryMentions (cond b Unknown (Refers s)) n → ⊥
     by true is h = h
     by false is h = false≢true (sym is ∙ some_named n s.locks h)
+forgotten_none n _ h = h
 
 module _ (z : Setting) (f : ℕ) (ways : List Way) (y : Typing) (c d : Context) (low : AreLow (y.named c) (ref_count c.scope)) (l : Label) (here : StandsBefore y c f l) (more : int_count c.scope ≤ int_count d.scope) where
   abbrev i1 : ℕ

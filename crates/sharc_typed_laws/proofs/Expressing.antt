@@ -3,7 +3,7 @@ use Rattle.std.proofs.{Common.{◌≡◌, ℕ, ◌+◌, ◌<◌, ◌≤◌, ◌�
 use Rattle.sharc_tree.specs.{declared.token.Site.Site, declared.token.Span.Span, declared.tree.declaration.Identifier.Identifier, declared.tree.declaration.WrittenType.WrittenType, declared.tree.expression.FieldOperator.TheVariants.{Dot, Arrow}, declared.tree.expression.BinaryOperator.BinaryOperator, declared.tree.expression.BinaryOperator.TheVariants.{LogicalOr, LogicalAnd, BitOr, BitXor, BitAnd, Equal, NotEqual, Less, Greater, LessOrEqual, GreaterOrEqual, ShiftLeft, ShiftRight, Add, Subtract, Multiply, Divide, Remainder}, declared.tree.expression.Constant.Constant, declared.tree.expression.PlaceCall.TheVariants.{Lock, Unlock, Free}, declared.tree.expression.UnaryOperator.TheVariants.{Negate, Not, Complement, Dereference}, declared.tree.expression.ValueCall.TheVariants.{Join, Print}, Spans.span_of, Tree.{Expression, identifier, constant, parentheses, call, spawn, on_value, on_place, cast, index, field, unary, binary, Arguments, no_arguments, argument}}
 use Rattle.sharc_names.specs.{declared.fault.Named.Named, Kinds.{Kind, is_array, is_integer, element_kind, promoted, declared_kinds}}
 use Rattle.sharc_names.specs.declared.fault.Named.TheVariants as named
-use Rattle.sharc_code.specs.{declared.code.Use.Use, declared.instr.Register.Register, declared.instr.Width.Width, declared.instr.Width.TheVariants.{Char, Int, Long}, Runs.put}
+use Rattle.sharc_code.specs.{declared.code.Use.Use, declared.instr.Register.Register, declared.instr.Width.Width, declared.instr.Width.TheVariants.{Char, Int}, Runs.put}
 use Rattle.sharc_code.specs.declared.code.Use.TheVariants as uses
 use Rattle.sharc_code.specs.declared.instr.Register.TheVariants as registers
 use Rattle.sharc_code.proofs.Places.{put_same, put_other, put_all}
@@ -12,35 +12,22 @@ use Rattle.sharc_mode.specs.Sharings.{Sharing}
 use Rattle.sharc_meaning.specs.{Cells.{element_cells, field_place_named, global_elements}, Expressions.number_named, Reference.constant_value, State.is_reference}
 use Rattle.sharc_flat.specs.{declared.op.Op.Op, declared.op.Spot.Spot, Machine.first_cell, declared.slot.Lvalue.Lvalue, Scope.{Context, ref_count, register_of, number_in, at_site}, Places.{Target, variable, in_global, in_global_at, in_object, in_object_at, target, named_target, own_field, global_of, guard_width, copy_code, cell_value_code, cell_take_code, take_code, value_code, index_code, pointee_code, bounds_code, width_of}, Flattened.{kind_of, is_ref, target_of, mode_of, what_names, lvalue_in, guard_of, constant_code, named_code, truth_code, compare_code, logical_code, either_code, behind_int, behind_ref, operator_of, first_cell_of, wait_code, with_words, argument_words, condition_code, called_code, passed_code, spawn_code, cast_code, layout_of, expression_code, arguments_code, place_code}, Suits.{Either, is_cell}}
 use Rattle.sharc_flat.specs.declared.op.Op.TheVariants as op
-use Rattle.sharc_invariant.specs.{Types.{StaticType, cells_of}, Types.Content.{MutexWord, Waiters}, Labels.{Entry, Empty, Refers, Element, Number, Anything, Nth, Exactly, Within, Indexes, OfElement, OfGlobal, Closed, Label, Less as LessLabel, Narrower, LessNumber, LessEntry, LessGate, HasBase, fill, set_number, without_copies}, Typed.{Passes, ints_in, refs_in}}
+use Rattle.sharc_invariant.specs.{Types.{StaticType, cells_of}, Types.Content.{MutexWord, Waiters}, Labels.{Entry, Empty, Refers, Element, Number, Anything, Nth, Exactly, Within, Indexes, OfElement, OfGlobal, Closed, Label, Less as LessLabel, LessNumber, LessEntry, LessGate, HasBase, fill, set_number, without_copies}, Typed.{Passes, ints_in, refs_in}}
 use Rattle.sharc_invariant.proofs.{Frames.wider, Scoped.{less_refl, less_entry_refl, less_number_refl, scoped_fill}}
 use Rattle.sharc_typed_laws.specs.{Stretches.{Mark, Setting, Way, AreOpen}, Places.{IsNamed, IsPlain, AreLow, no_type, mark}, Premises.{Typing, IsCopyIn, IsCopyNamed, IsCopyOf, IsPointerCopy, Ground, ReferenceTyped}, Typable.{IsBare, StandsIn, type_by, GoesTo, Widens, ints_behind, refs_behind, AreFree, IsTypeIn, IsVoid, IsNumber, IsPointer, ground_of, CellTyped, VariableTyped, NameTyped, ConstantTyped, UnaryTyped, result_of, ComparedTyped, HasType, AreFields, IndexTypable, ArgumentAt, ArgumentsAt, ResultTyped, CallTyped, HasNoWidth, Goes, Handed, SpawnTyped, FirstCell, IsOne, AreTwo, ConditionTyped, VariableTakes, Takes, TakeTyped, CastTyped, FreeTyped, CallTypable, IsTypable, AreTypable, IsPlaceTypable}}
-use Rattle.sharc_typed_laws.proofs.{Fitting.fits_same, Losing.{with_copies, Loses, loses_none, loses_both, loses_taken, stands_lost, less_lost, holds_lost, below, loses_below, loses_there, small_there, lost_fill, copy_kept}, Standing.less_by, Telling.{told, other_than}, Rules.on_nothing, Parts.{P, at_number, at_fill, number_above, does, then_do, none, enter, constant_at, width_at, from_free, false_at, compute_at, negate_at, complement_at, number_dropped, truth_at, compare_at, logical_at, either_at, check_at, pointee_at, print_at, join_at, with_number}, Variables.{local_at, move_at}, Indexes.{element_of, fresh_name}, Accessed.{Frame, placed, indexed, int_value, reference_value, taken_value, holds_over, wider_names}, Casting.{take_variable_at, freed_at, given_at}, Calling.{call_reference, call_number, call_nothing}, Spawning.{spawn_number, spawn_reference}, Waiting.{signalled, broadcasted, waited}, Locking.{locked_at, unlocked_at}, LabelsPlacing.{AreFew, which, bounds_at, finds_object, finds_global}}
+use Rattle.sharc_typed_laws.proofs.{Fitting.fits_same, Losing.{with_copies, Loses, loses_none, loses_both, loses_taken, stands_lost, less_lost, holds_lost, below, loses_below, loses_there, small_there, lost_fill, copy_kept}, Standing.less_by, Telling.{told, other_than}, Rules.on_nothing, Parts.{P, at_number, at_fill, number_above, does, then_do, none, enter, constant_at, width_at, from_free, false_at, compute_at, negate_at, complement_at, number_dropped, truth_at, compare_at, logical_at, either_at, check_at, pointee_at, print_at, join_at, with_number}, Variables.{local_at, move_at}, Indexes.{element_of, fresh_name}, Accessed.{Frame, placed, indexed, int_value, reference_value, taken_value, holds_over, wider_names}, Casting.{take_variable_at, freed_at, given_at}, Calling.{call_reference, call_number, call_nothing}, Spawning.{spawn_number, spawn_reference}, Waiting.{signalled, broadcasted, waited}, Locking.{locked_at, unlocked_at}, LabelsPlacing.{AreFew, which, bounds_at, finds_object, finds_global}, Preorder.narrower_before as narrower_through}
 use Rattle.sharc_lemmas.proofs.Options.{no_guard as none_some}
 
 pub no_element : (n : Number) (q : ℕ) → IsPlain n → HasBase n q → ⊥
-no_element Anything q plain h = h
-no_element (Exactly z) q plain h = h
-no_element (Within w) q plain h = h
 no_element (Indexes m) q plain h = plain
 no_element (OfElement base place e) q plain h = plain
 no_element (OfGlobal first count elements e) q plain h = plain
+no_element _ q plain h = h
 
 -- a number of one width is one of another
 abbrev IsWithin : Number → Type 0
 IsWithin (Within w) = Unit {0}
 IsWithin _ = ⊥
-
-narrower_through : (u v w : Width) → Narrower u v → Narrower v w → Narrower u w
-narrower_through Char v w g h = tt
-narrower_through Int Int w g h = h
-narrower_through Int Long Long g h = tt
-narrower_through Int Char w g h = absurd g
-narrower_through Int Long Char g h = absurd h
-narrower_through Int Long Int g h = absurd h
-narrower_through Long Long w g h = h
-narrower_through Long Char w g h = absurd g
-narrower_through Long Int w g h = absurd g
 
 other_number : (n : Number) (v : Width) → n ≡ Within v → IsWithin n
 other_number n v e = subst IsWithin (sym e) tt
@@ -48,10 +35,7 @@ other_number n v e = subst IsWithin (sym e) tt
 widened : (n : Number) (v w : Width) → LessNumber n (Within v) → Widens v w → LessNumber n (Within w)
 widened (Within u) v w a b = narrower_through u v w a b
 widened (Exactly z) v w a b = wider v w z b a
-widened Anything v w a b = absurd (other_number Anything v a)
-widened (Indexes m) v w a b = absurd (other_number (Indexes m) v a)
-widened (OfElement base place e) v w a b = absurd (other_number (OfElement base place e) v a)
-widened (OfGlobal first count elements e) v w a b = absurd (other_number (OfGlobal first count elements e) v a)
+widened k v w a b = absurd (other_number k v a)
 
 module _ (around : Setting) (f : ℕ) (ways : List Way) (y : Typing) (c : Context) (low : AreLow (y.named c) (ref_count c.scope)) where
   abbrev D : (ℕ → Mark) → Type 0
@@ -245,10 +229,7 @@ module _ (around : Setting) (f : ℕ) (ways : List Way) (y : Typing) (c : Contex
   -- ---- cells
   value_is : (i r : ℕ) (site : Site) (lvalue : Lvalue) (mode : Sharing) (b : Bool) (t : Target) → is_cell t ≡ true → cell_value_code c i r site lvalue mode b t ≡ value_code c i r site lvalue mode b t
   value_is i r site lvalue mode b (variable x) h = absurd (false≢true h)
-  value_is i r site lvalue mode b (in_global g n) h = refl
-  value_is i r site lvalue mode b (in_global_at g n) h = refl
-  value_is i r site lvalue mode b (in_object n) h = refl
-  value_is i r site lvalue mode b (in_object_at n) h = refl
+  value_is i r site lvalue mode b _ h = refl
 
   -- what is named has its registers
   pub record PlaceValue (from i r : ℕ) (l : Label) (os : List Op) (t : Target) (guard : Option ℕ) (ground : Ground) : Type 0 where
@@ -615,18 +596,12 @@ module _ (around : Setting) (f : ℕ) (ways : List Way) (y : Typing) (c : Contex
       → ValueOf from i r l (named_code c i r x.site (lvalue_in c (identifier s x)) (mode_of c (identifier s x)) (is_ref c (identifier s x)) n) (identifier s x)
   named_value from i r l fr s x (named.Variable v) if_copy h = copied from i r l fr (identifier s x) (register_of c.scope v) (λ copy z. if_copy copy z) h
   named_value from i r l fr s x (named.Global g) if_copy h = read from i r l fr (identifier s x) x.site (in_global g 0) [] (no_place from i r l fr g 0 (guard_of c (identifier s x)) (ground_of around f y c (identifier s x)) refl refl) refl (λ copy. if_copy copy tt) h
-  named_value from i r l fr s x (named.Field v) if_copy h = void_by from i r l [] (identifier s x) h (stays from i l)
-  named_value from i r l fr s x (named.Struct v) if_copy h = void_by from i r l [] (identifier s x) h (stays from i l)
-  named_value from i r l fr s x (named.Function v) if_copy h = void_by from i r l [] (identifier s x) h (stays from i l)
-  named_value from i r l fr s x named.Known if_copy h = void_by from i r l [] (identifier s x) h (stays from i l)
+  named_value from i r l fr s x _ if_copy h = void_by from i r l [] (identifier s x) h (stays from i l)
 
   named_place : (from i r : ℕ) (l : Label) → F from i r l → (n : Named) (place : ℕ) (guard : Option ℕ) (ground : Ground) → ground.base ≡ no_type → ground.pointer ≡ None → PlaceValue from i r l [] (named_target n place) guard ground
   named_place from i r l fr (named.Variable v) place guard ground h led = variable_place from i r l fr v guard ground h led
   named_place from i r l fr (named.Global g) place guard ground h led = no_place from i r l fr g place guard ground h led
-  named_place from i r l fr (named.Field v) place guard ground h led = variable_place from i r l fr 0 guard ground h led
-  named_place from i r l fr (named.Struct v) place guard ground h led = variable_place from i r l fr 0 guard ground h led
-  named_place from i r l fr (named.Function v) place guard ground h led = variable_place from i r l fr 0 guard ground h led
-  named_place from i r l fr named.Known place guard ground h led = variable_place from i r l fr 0 guard ground h led
+  named_place from i r l fr _ place guard ground h led = variable_place from i r l fr 0 guard ground h led
 
   -- ---- indexes
   array_base : (from i r : ℕ) (l : Label) → F from i r l → (xs : List Op) (t : Target) (g : ℕ) (ground : Ground) → t ≡ in_global g 0 → PlaceValue from i r l xs t None ground → Done from i l xs
@@ -957,10 +932,7 @@ module _ (around : Setting) (f : ℕ) (ways : List Way) (y : Typing) (c : Contex
   called_value from i r l fr e named.Known name all spot any_copy args one two h =
       let kinds = declared_kinds (parameters_named c.program.typed named.Known) in
       condition_value from i r l fr e name h.0 all (arguments_code c i r kinds all) spot h.2 h.3 (λ k. one kinds h.0 h.1 k) (λ k. two kinds h.0 h.1 k)
-  called_value from i r l fr e (named.Variable x) name all spot any_copy args one two h = absurd h
-  called_value from i r l fr e (named.Global x) name all spot any_copy args one two h = absurd h
-  called_value from i r l fr e (named.Field x) name all spot any_copy args one two h = absurd h
-  called_value from i r l fr e (named.Struct x) name all spot any_copy args one two h = absurd h
+  called_value from i r l fr e _ name all spot any_copy args one two h = absurd h
 
   -- ---- a new thread
   spawn_value : (from i r : ℕ) (l : Label) → F from i r l → (e a : Expression) (g : ℕ) (kinds : List Kind) (os : List Op) (site : Site) (spot : Spot) → IsNumber around f y c e → SpawnTyped around f y c a g kinds → ValueOf from i r l os a → ValueOf from i r l (os ++ (passed_code i kinds site ++ spawn_code (is_ref c a) i r g spot)) e
@@ -995,10 +967,7 @@ module _ (around : Setting) (f : ℕ) (ways : List Way) (y : Typing) (c : Contex
   -- ---- what is taken away
   take_is : (i r : ℕ) (site : Site) (lvalue : Lvalue) (mode : Sharing) (form : Option ℕ → Use) (t : Target) → is_cell t ≡ true → cell_take_code c i r site lvalue mode form t ≡ take_code c i r site lvalue mode form t
   take_is i r site lvalue mode form (variable x) h = absurd (false≢true h)
-  take_is i r site lvalue mode form (in_global g n) h = refl
-  take_is i r site lvalue mode form (in_global_at g n) h = refl
-  take_is i r site lvalue mode form (in_object n) h = refl
-  take_is i r site lvalue mode form (in_object_at n) h = refl
+  take_is i r site lvalue mode form _ h = refl
 
   record Taken (from i r : ℕ) (l : Label) (os : List Op) (s : StaticType) : Type 0 where
     lost : ℕ → ℕ
@@ -1038,10 +1007,7 @@ module _ (around : Setting) (f : ℕ) (ways : List Way) (y : Typing) (c : Contex
 
       by : (t : Target) → PlaceValue from i r l xs t (guard_of c a) (ground_of around f y c a) → Takes around f y c a (form None) s t → Taken from i r l (xs ++ take_code c i r (span_of a).first (lvalue_in c a) (mode_of c a) form t) s
       by (variable x) p takes = variables (register_of c.scope x) _ takes p.lost p.loses p.piece
-      by (in_global g n) p takes = cells (in_global g n) refl p takes
-      by (in_global_at g n) p takes = cells (in_global_at g n) refl p takes
-      by (in_object n) p takes = cells (in_object n) refl p takes
-      by (in_object_at n) p takes = cells (in_object_at n) refl p takes
+      by k p takes = cells k refl p takes
 
   cast_value : (from i r : ℕ) (l : Label) → F from i r l → (s : Span) (t : WrittenType) (a : Expression) (xs : List Op) → CastTyped around f y c (cast s t a) a → PlaceValue from i r l xs (target_of c a) (guard_of c a) (ground_of around f y c a) → ValueOf from i r l (cast_code c i r s a xs) (cast s t a)
   cast_value from i r l fr s t a xs h p =
@@ -1184,9 +1150,6 @@ module _ (around : Setting) (f : ℕ) (ways : List Way) (y : Typing) (c : Contex
     places from i r l fr site own guard (field s a Dot n) h = entered_place from i r l fr _ _ guard _ (places from i r l fr site (Some (own_field own (field_place_named c.program.typed (what_names c n.site.token)))) guard a h)
     places from i r l fr site own guard (field s a Arrow n) h = entered_place from i r l fr _ _ guard _ (object_place from i r l fr a site (expression_code c i r a) (own_field own (field_place_named c.program.typed (what_names c n.site.token))) guard _ refl refl h.1 (expressions from i r l fr a h.0))
     places from i r l fr site own guard (unary s Dereference a) h = entered_place from i r l fr _ _ guard _ (object_place from i r l fr a site (expression_code c i r a) (own_field own 0) guard _ refl refl h.1 (expressions from i r l fr a h.0))
-    places from i r l fr site own guard (unary s Negate a) h = entered_place from i r l fr [] (variable 0) guard _ (variable_place from i r l fr 0 guard _ refl refl)
-    places from i r l fr site own guard (unary s Not a) h = entered_place from i r l fr [] (variable 0) guard _ (variable_place from i r l fr 0 guard _ refl refl)
-    places from i r l fr site own guard (unary s Complement a) h = entered_place from i r l fr [] (variable 0) guard _ (variable_place from i r l fr 0 guard _ refl refl)
     places from i r l fr site own guard _ h = entered_place from i r l fr [] (variable 0) guard _ (variable_place from i r l fr 0 guard _ refl refl)
 
     pub arguments : (i r : ℕ) (l : Label) → F i i r l → (kinds : List Kind) (wants : ℕ → StaticType) (all : Arguments) → AreTypable around f y c kinds wants all → Passed i r l kinds wants all (arguments_code c i r kinds all)
@@ -1195,13 +1158,10 @@ module _ (around : Setting) (f : ℕ) (ways : List Way) (y : Typing) (c : Contex
         (λ i2 r2 l2 f2. arguments i2 r2 l2 f2 (drop 1 kinds) (λ n. wants (n + 1)) rest h.2)
 
     pub one_held : (from i r : ℕ) (l : Label) → F from i r l → (kinds : List Kind) (wants : ℕ → StaticType) (all : Arguments) → AreTypable around f y c kinds wants all → IsOne around f y c all → OneHeld from i r l wants (arguments_code c i r kinds all)
-    one_held from i r l fr kinds wants no_arguments h is = absurd is
     one_held from i r l fr kinds wants (argument a no_arguments) h is = one_by from i r l fr kinds wants a (expression_code c i r a) (span_of a).first is h.1 (expressions from i r l fr a h.0)
-    one_held from i r l fr kinds wants (argument a (argument b rest)) h is = absurd is
+    one_held from i r l fr kinds wants _ h is = absurd is
 
     pub two_held : (from i r : ℕ) (l : Label) → F from i r l → (kinds : List Kind) (wants : ℕ → StaticType) (all : Arguments) → AreTypable around f y c kinds wants all → AreTwo around f y c all → TwoHeld from i r l wants (arguments_code c i r kinds all)
-    two_held from i r l fr kinds wants no_arguments h are = absurd are
-    two_held from i r l fr kinds wants (argument a no_arguments) h are = absurd are
     two_held from i r l fr kinds wants (argument a (argument b no_arguments)) h are = two_by from i r l fr kinds wants a b (expression_code c i r a) (λ i2 r2. expression_code c i2 r2 b) (span_of a).first are.0 are.1 h.1 h.2.1 (expressions from i r l fr a h.0)
         (λ l2 f2. expressions from i (r + 1) l2 f2 b h.2.0) (span_of b).first
-    two_held from i r l fr kinds wants (argument a (argument b (argument d rest))) h are = absurd are
+    two_held from i r l fr kinds wants _ h are = absurd are

@@ -16,10 +16,9 @@ abbrev pub AreFew : List Op → Type 0
 AreFew os = (n : ℕ) (o : Op) → slice_get os n ≡ Some o → IsFew o
 
 base_within : (refs : ℕ) (cell : Cell) → base_need cell ≤ refs → BaseWithin refs cell
-base_within refs (cells.Global g n) le = tt
-base_within refs (cells.GlobalAt g i) le = tt
 base_within refs (cells.Object r n) le = omega (arith, le)
 base_within refs (cells.ObjectAt r i) le = omega (arith, le)
+base_within refs _ le = tt
 
 handed_within : (refs : ℕ) (from : Register) → handed_need from ≤ refs → HandedWithin refs from
 handed_within refs (registers.Int i) le = tt

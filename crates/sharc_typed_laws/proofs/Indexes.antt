@@ -18,12 +18,10 @@ name_after (Named n) = n + 1
 name_after (Nth e) = 0
 
 number_after : Number → ℕ
-number_after Anything = 0
-number_after (Exactly z) = 0
-number_after (Within w) = 0
 number_after (Indexes n) = n + 1
 number_after (OfElement base field e) = name_after e
 number_after (OfGlobal first count elements e) = name_after e
+number_after _ = 0
 
 names_after : (ℕ → Number) → ℕ → ℕ
 names_after ints zero = 0
@@ -36,12 +34,10 @@ name_below (Nth e) name h = absurd h
 
 number_below_name : (n : Number) (name : ℕ) → HasName n name → name < number_after n
 unfolding number_after
-number_below_name Anything name h = absurd h
-number_below_name (Exactly z) name h = absurd h
-number_below_name (Within w) name h = absurd h
 number_below_name (Indexes n) name h = omega (arith, h)
 number_below_name (OfElement base field e) name h = name_below e name h
 number_below_name (OfGlobal first count elements e) name h = name_below e name h
+number_below_name _ name h = absurd h
 
 names_below : (ints : ℕ → Number) (i j name : ℕ) → j < i → HasName (ints j) name → name < names_after ints i
 unfolding names_after
@@ -64,49 +60,31 @@ is_fresh l i none j h = ⊎_elim
 -- that of a number that is known, or of a new name
 abbrev pub element_of : Number → ℕ → Element
 element_of (Exactly (pos n)) name = Nth n
-element_of (Exactly (negsuc n)) name = Named name
 element_of _ name = Named name
 
 -- a number that is no place
 abbrev pub IsValue : Number → Type 0
-IsValue Anything = Unit {0}
-IsValue (Exactly z) = Unit {0}
-IsValue (Within w) = Unit {0}
-IsValue (Indexes n) = Unit {0}
 IsValue (OfElement base field e) = ⊥
 IsValue (OfGlobal first count elements e) = ⊥
+IsValue _ = Unit {0}
 
 plain_value : (n : Number) → IsPlain n → IsValue n
-plain_value Anything h = tt
-plain_value (Exactly z) h = tt
-plain_value (Within w) h = tt
-plain_value (Indexes n) h = tt
 plain_value (OfElement base field e) h = absurd h
 plain_value (OfGlobal first count elements e) h = absurd h
+plain_value _ h = tt
 
 -- where it is to be used twice
 abbrev pub named_number : Number → ℕ → Number
 named_number (Exactly (pos n)) name = Exactly (pos n)
-named_number (Exactly (negsuc n)) name = Indexes name
 named_number _ name = Indexes name
 
 named_value : (n : Number) (name : ℕ) → IsValue (named_number n name)
 named_value (Exactly (pos n)) name = tt
-named_value (Exactly (negsuc n)) name = tt
-named_value Anything name = tt
-named_value (Within w) name = tt
-named_value (Indexes m) name = tt
-named_value (OfElement base field e) name = tt
-named_value (OfGlobal first count elements e) name = tt
+named_value _ name = tt
 
 is_element_named : (l : Label) (n : Number) (name : ℕ) → IsElement l (named_number n name) (element_of n name)
 is_element_named l (Exactly (pos n)) name = refl
-is_element_named l (Exactly (negsuc n)) name = refl
-is_element_named l Anything name = refl
-is_element_named l (Within w) name = refl
-is_element_named l (Indexes m) name = refl
-is_element_named l (OfElement base field e) name = refl
-is_element_named l (OfGlobal first count elements e) name = refl
+is_element_named l _ name = refl
 
 apart_signs : (n m : ℕ) → negsuc n ≡ pos m → ⊥
 apart_signs n m e = cc
@@ -118,21 +96,15 @@ apart_name : (name e : ℕ) → Indexes name ≡ Exactly (pos e) → ⊥
 apart_name name e z = cc
 
 value_base : (n : Number) (r q : ℕ) → IsValue n → HasBase n q → q < r
-value_base Anything r q value h = absurd h
-value_base (Exactly z) r q value h = absurd h
-value_base (Within w) r q value h = absurd h
-value_base (Indexes m) r q value h = absurd h
 value_base (OfElement base field e) r q value h = absurd value
-value_base (OfGlobal first count elements e) r q value h = absurd h
+value_base _ r q value h = absurd h
 
 pub is_element : (l : Label) (n : Number) (name : ℕ) → IsPlain n → Fresh l name → IsElement l n (element_of n name)
 is_element l (Exactly (pos n)) name plain fresh = refl
-is_element l (Exactly (negsuc n)) name plain fresh = fresh
-is_element l Anything name plain fresh = fresh
-is_element l (Within w) name plain fresh = fresh
 is_element l (Indexes m) name plain fresh = absurd plain
 is_element l (OfElement base field e) name plain fresh = absurd plain
 is_element l (OfGlobal first count elements e) name plain fresh = absurd plain
+is_element l _ name plain fresh = fresh
 
 -- what is then remembered of the cell's number
 with_element_is : (x : Targets) (l : Label) (cells field m : ℕ) (k : Option ℕ) (n : Number) (name : ℕ) → ((q : ℕ) → k ≡ Some q → IsNumberOf x l q n) → IsValue n → with_element cells field k ≡ Some m → (e : ℕ) × (n ≡ Exactly (pos e)) × (m ≡ e * cells + field)
@@ -140,13 +112,12 @@ with_element_is x l cells field m None n name known value e = absurd (none_some 
 with_element_is x l cells field m (Some q) Anything name known value e = absurd (known q refl)
 with_element_is x l cells field m (Some q) (Within w) name known value e = absurd (known q refl)
 with_element_is x l cells field m (Some q) (Indexes w) name known value e = absurd (known q refl)
-with_element_is x l cells field m (Some q) (OfElement b c d) name known value e = absurd value
-with_element_is x l cells field m (Some q) (OfGlobal a b c d) name known value e = absurd value
 with_element_is x l cells field m (Some q) (Exactly z) name known value e = (q, ap Exactly (known q refl), by (nat_lt q (2 ^ 32)) e)
   where
     by : (b : Bool) → cond b (Some (q * cells + field)) None ≡ Some m → m ≡ q * cells + field
     by true e = sym (same_Some (q * cells + field) m e)
     by false e = absurd (none_some m e)
+with_element_is x l cells field m (Some q) _ name known value e = absurd value
 
 -- ---- checks of bounds, of elements of objects and of globals
 -- an operation that finds the number of a field of that element, where the label's references are these
@@ -257,9 +228,7 @@ module _ (around : Setting) (f : ℕ) (D : (ℕ → Mark) → Type 0) (named : �
     moves (Exactly (negsuc n)) name plain fresh = moved_named (Exactly (negsuc n)) name plain fresh (λ x k q z. apart_signs n q z)
     moves Anything name plain fresh = moved_named Anything name plain fresh (λ x k q z. z)
     moves (Within w) name plain fresh = moved_named (Within w) name plain fresh (λ x k q z. z)
-    moves (Indexes n) name plain fresh = absurd plain
-    moves (OfElement base field e) name plain fresh = absurd plain
-    moves (OfGlobal first elements size e) name plain fresh = absurd plain
+    moves _ name plain fresh = absurd plain
 
     -- the first one becomes a place
     first_at : (m2 : Number) (n name : ℕ) (elem : Element) → n < count → IsValue m2 → ((ps : List Pass) (g : ℕ → Number) → IsElement (with_passes (record l { ints = g; gate = Closed }) ps) m2 elem) → ((e : ℕ) → m2 ≡ Exactly (pos e) → elem ≡ Nth e) → Q (two m2 m2) (o i n ∷ []) (two (place n elem) m2)
@@ -322,9 +291,4 @@ module _ (around : Setting) (f : ℕ) (D : (ℕ → Mark) → Type 0) (named : �
       where
         named_nth : (m : Number) (name e : ℕ) → named_number m name ≡ Exactly (pos e) → element_of m name ≡ Nth e
         named_nth (Exactly (pos n)) name e z = same_nth n e z
-        named_nth (Exactly (negsuc n)) name e z = absurd (apart_name name e z)
-        named_nth Anything name e z = absurd (apart_name name e z)
-        named_nth (Within w) name e z = absurd (apart_name name e z)
-        named_nth (Indexes n) name e z = absurd (apart_name name e z)
-        named_nth (OfElement base field d) name e z = absurd (apart_name name e z)
-        named_nth (OfGlobal first elements size d) name e z = absurd (apart_name name e z)
+        named_nth _ name e z = absurd (apart_name name e z)

@@ -4,7 +4,7 @@ use Rattle.sharc_flat.specs.{declared.op.Op.Op, Scope.{Context, int_count, ref_c
 use Rattle.sharc_flat.specs.declared.op.Op.TheVariants as op
 use Rattle.sharc_invariant.specs.{Labels.{Label, IsScoped}, Typed.{ints_in, refs_in}}
 use Rattle.sharc_typed_laws.specs.{Stretches.{Mark, Setting, Way, Fits, IsLine, AreOpen, LeadsAmong}, Places.AreLow, Premises.Typing, Declared.{StandsBefore, before}, Left.{back, AreNested, LeavesAreTyped, IsOpen, JumpsAreTyped}}
-use Rattle.sharc_typed_laws.proofs.{Fitting.fits_same, Ending.ends_typed, Rules.on_jump, Parts.{then_do, none, within_left}}
+use Rattle.sharc_typed_laws.proofs.{Fitting.fits_same, Ending.ends_typed, Rules.on_jump, Parts.{then_do, none}, Closing.within_left}
 use Rattle.sharc_typed_laws.proofs.Flow as flow
 
 module _ (z : Setting) (f : ℕ) (ways : List Way) where

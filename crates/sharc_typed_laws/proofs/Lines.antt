@@ -43,7 +43,7 @@ cell_known x k s (cells.GlobalAt g i) h hand = λ n e. h.numbers i n hand.0 hand
 cell_known x k s (cells.Object r n) h hand = λ v e. h.copies r v e
 cell_known x k s (cells.ObjectAt r i) h hand = (λ v e. h.copies r v e, λ n e. h.numbers i n hand.0 hand.1 e)
 
-within : (os : List Op) (n : ℕ) (o : Op) → slice_get os n ≡ Some o → n < length os
+pub within : (os : List Op) (n : ℕ) (o : Op) → slice_get os n ≡ Some o → n < length os
 within [] n o e = absurd (none-some o e)
 within (p ∷ os) zero o e = omega arith
 within (p ∷ os) (suc n) o e = let z = within os n o e in omega (arith, z)

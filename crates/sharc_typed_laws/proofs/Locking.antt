@@ -51,35 +51,30 @@ module _ (around : Setting) (f : ℕ) (D : (ℕ → Mark) → Type 0) (y : Typin
 
     has_room : (cell : Cell) → HasMutex around k cell → HasMutex around (roomy k) cell
     has_room (cells.Global h p) m = record { field = m.field; has = record { field = m.has.field; base = m.has.base }; mutex = m.mutex }
-    has_room (cells.GlobalAt h j) m = record { field = m.field; has = record { field = m.has.field; base = m.has.base }; mutex = m.mutex }
-    has_room (cells.Object q n) m = record { field = m.field; has = record { field = m.has.field; base = m.has.base }; mutex = m.mutex }
-    has_room (cells.ObjectAt q j) m = record { field = m.field; has = record { field = m.has.field; base = m.has.base }; mutex = m.mutex }
+    has_room _ m = record { field = m.field; has = record { field = m.has.field; base = m.has.base }; mutex = m.mutex }
 
     less_locked : Less (record k { room = false }) l
     less_locked = less_by (record k { room = false }) l refl (λ q. less_entry_refl (record k { room = false }) q (l.env q)) (λ q. refl) (λ q e. e) forgotten (subst (λ z. LessGate Closed z) (sym at.stands.closed) tt) at.stands.nothing_passed (λ e. absurd (false≢true (sym at.stands.no_room ∙ e)))
 
     -- of a mutex that has no base
     abbrev HasNoBase : Cell → Type 0
-    HasNoBase (cells.Global h p) = Unit {0}
-    HasNoBase (cells.GlobalAt h p) = Unit {0}
     HasNoBase (cells.Object q n) = ⊥
     HasNoBase (cells.ObjectAt q j) = ⊥
+    HasNoBase _ = Unit {0}
 
     lock_global : (cell : Cell) (d : Spot) → HasNoBase cell → HasMutex around k cell → Q (mark (roomy k) from until) (op.Lock cell d ∷ []) (mark l from i)
     lock_global cell d none h = does around f D N top low from (mark (roomy k) from until) (op.Lock cell d) (mark l from i) (λ _ z. scoped_frame N i r l at.stands (ints_in around.code (Some f)) (refs_in around.code (Some f)) z.few (few_ints z.numbers))
         (λ table pc w z next. on_lock around f table pc (mark (roomy k) from until) (mark l from i) next (record { owned = at.owned; scoped = z }) cell d refl refl (has_room cell h) (free cell none) (less cell none))
       where
         free : (cell : Cell) → HasNoBase cell → IsBaseFree (roomy k) cell
-        free (cells.Global h p) none = tt
-        free (cells.GlobalAt h p) none = tt
         free (cells.Object q n) none = absurd none
         free (cells.ObjectAt q j) none = absurd none
+        free _ none = tt
 
         less : (cell : Cell) → HasNoBase cell → Less (record (without_base_of (roomy k) cell) { room = false }) l
-        less (cells.Global h p) none = less_locked
-        less (cells.GlobalAt h p) none = less_locked
         less (cells.Object q n) none = absurd none
         less (cells.ObjectAt q j) none = absurd none
+        less _ none = less_locked
 
     unlock_global : (cell : Cell) (b : Spot) (d : ℕ) → r ≤ d → HasNoBase cell → HasMutex around k cell → Q (mark (over l g (Holds cell)) from until) (op.Unlock d cell b ∷ []) (mark l from i)
     unlock_global cell b d le none h = does around f D N top low from (mark (over l g (Holds cell)) from until) (op.Unlock d cell b) (mark l from i) (λ _ z. scoped_frame N i r l at.stands (ints_in around.code (Some f)) (refs_in around.code (Some f)) z.few (few_ints z.numbers))
@@ -88,15 +83,12 @@ module _ (around : Setting) (f : ℕ) (D : (ℕ → Mark) → Type 0) (y : Typin
       where
         holds_too : (cell : Cell) → HasMutex around k cell → HasMutex around (over l g (Holds cell)) cell
         holds_too (cells.Global h p) m = record { field = m.field; has = record { field = m.has.field; base = m.has.base }; mutex = m.mutex }
-        holds_too (cells.GlobalAt h j) m = record { field = m.field; has = record { field = m.has.field; base = m.has.base }; mutex = m.mutex }
-        holds_too (cells.Object q n) m = record { field = m.field; has = record { field = m.has.field; base = m.has.base }; mutex = m.mutex }
-        holds_too (cells.ObjectAt q j) m = record { field = m.field; has = record { field = m.has.field; base = m.has.base }; mutex = m.mutex }
+        holds_too _ m = record { field = m.field; has = record { field = m.has.field; base = m.has.base }; mutex = m.mutex }
 
         less : (cell : Cell) → HasNoBase cell → Less (unlocked_label (over l g (Holds cell)) d cell) l
-        less (cells.Global h p) none = less_by (record k { room = true }) l refl (λ q. less_entry_refl (record k { room = true }) q (l.env q)) (λ q. refl) (λ q e. e) forgotten (subst (λ z. LessGate Closed z) (sym at.stands.closed) tt) at.stands.nothing_passed (λ e. refl)
-        less (cells.GlobalAt h p) none = less_by (record k { room = true }) l refl (λ q. less_entry_refl (record k { room = true }) q (l.env q)) (λ q. refl) (λ q e. e) forgotten (subst (λ z. LessGate Closed z) (sym at.stands.closed) tt) at.stands.nothing_passed (λ e. refl)
         less (cells.Object q n) none = absurd none
         less (cells.ObjectAt q j) none = absurd none
+        less _ none = less_by (record k { room = true }) l refl (λ q. less_entry_refl (record k { room = true }) q (l.env q)) (λ q. refl) (λ q e. e) forgotten (subst (λ z. LessGate Closed z) (sym at.stands.closed) tt) at.stands.nothing_passed (λ e. refl)
 
     -- the gate of an unlock
     held_at : (cell : Cell) (a : Spot) → HasMutex around k cell → Q (mark k from until) (op.ChkHeld cell a ∷ []) (mark (over l g (Holds cell)) from until)
@@ -107,9 +99,7 @@ module _ (around : Setting) (f : ℕ) (D : (ℕ → Mark) → Type 0) (y : Typin
 
   holds_mutex : (l : Label) (g : ℕ → Number) (cell cell2 : Cell) → HasMutex around (over l g Closed) cell → HasMutex around (over l g (Holds cell2)) cell
   holds_mutex l g (cells.Global h p) cell2 m = record { field = m.field; has = record { field = m.has.field; base = m.has.base }; mutex = m.mutex }
-  holds_mutex l g (cells.GlobalAt h j) cell2 m = record { field = m.field; has = record { field = m.has.field; base = m.has.base }; mutex = m.mutex }
-  holds_mutex l g (cells.Object q n) cell2 m = record { field = m.field; has = record { field = m.has.field; base = m.has.base }; mutex = m.mutex }
-  holds_mutex l g (cells.ObjectAt q j) cell2 m = record { field = m.field; has = record { field = m.has.field; base = m.has.base }; mutex = m.mutex }
+  holds_mutex l g _ cell2 m = record { field = m.field; has = record { field = m.has.field; base = m.has.base }; mutex = m.mutex }
 
   -- ---- a mutex with a base
   module _ (i r : ℕ) (l : Label) (fr : Frame around f D y c low from i r l) (ground : Ground) (e : Element) (v : ℕ) (base_fits : IsNamed N r ground.base) (copy : v ≤ r) (g : ℕ → Number) (below : (j : ℕ) → j < i → g j ≡ l.ints j) (until : ℕ) (le : i ≤ until) where
@@ -134,10 +124,9 @@ module _ (around : Setting) (f : ℕ) (D : (ℕ → Mark) → Type 0) (y : Typin
 
     -- the base of the cell
     abbrev HasThisBase : Cell → Type 0
-    HasThisBase (cells.Global h p) = ⊥
-    HasThisBase (cells.GlobalAt h p) = ⊥
     HasThisBase (cells.Object q n) = q ≡ r
     HasThisBase (cells.ObjectAt q j) = q ≡ r
+    HasThisBase _ = ⊥
 
     lock_object : (cell : Cell) (d : Spot) → HasThisBase cell → HasMutex around (over X g Closed) cell → Q (mark (roomy (over X g Closed)) from until) (op.Lock cell d ∷ []) (mark l from i)
     lock_object cell d base h = does around f D N top low from (mark (roomy (over X g Closed)) from until) (op.Lock cell d) (mark l from i)
@@ -145,16 +134,14 @@ module _ (around : Setting) (f : ℕ) (D : (ℕ → Mark) → Type 0) (y : Typin
         (λ table pc w z next. on_lock around f table pc (mark (roomy (over X g Closed)) from until) (mark l from i) next (record { owned = fr.at.owned; scoped = z }) cell d refl refl (has_room i (r + 1) X at_x g below until le cell h) (free cell base) (less cell base))
       where
         free : (cell : Cell) → HasThisBase cell → IsBaseFree (roomy (over X g Closed)) cell
-        free (cells.Global h p) base = absurd base
-        free (cells.GlobalAt h p) base = absurd base
         free (cells.Object q n) base = subst (IsFree (roomy (over X g Closed))) (sym base) (free_x true Closed)
         free (cells.ObjectAt q j) base = subst (IsFree (roomy (over X g Closed))) (sym base) (free_x true Closed)
+        free _ base = absurd base
 
         less : (cell : Cell) → HasThisBase cell → Less (record (without_base_of (roomy (over X g Closed)) cell) { room = false }) l
-        less (cells.Global h p) base = absurd base
-        less (cells.GlobalAt h p) base = absurd base
         less (cells.Object q n) base = subst (λ r. Less (record (empty (roomy (over X g Closed)) r) { room = false }) l) (sym base) less_x
         less (cells.ObjectAt q j) base = subst (λ r. Less (record (empty (roomy (over X g Closed)) r) { room = false }) l) (sym base) less_x
+        less _ base = absurd base
 
     -- the log's reference comes back, and both are given up
     abbrev two : Label
@@ -181,10 +168,9 @@ module _ (around : Setting) (f : ℕ) (D : (ℕ → Mark) → Type 0) (y : Typin
         (pop_at around f D N top low from i r l fr.at fr.high ground.base v true base_fits i))
       where
         less : (cell : Cell) → HasThisBase cell → Less (unlocked_label (over X g (Holds cell)) (r + 1) cell) two
-        less (cells.Global h p) base = absurd base
-        less (cells.GlobalAt h p) base = absurd base
         less (cells.Object q n) base = subst (λ z. Less (record (fill (over X g Closed) (r + 1) (X.env z) (X.same z) true) { room = true }) two) (sym base) less_two
         less (cells.ObjectAt q j) base = subst (λ z. Less (record (fill (over X g Closed) (r + 1) (X.env z) (X.same z) true) { room = true }) two) (sym base) less_two
+        less _ base = absurd base
 
   -- ---- by what is named
   module _ (i r : ℕ) (l : Label) (fr : Frame around f D y c low from i r l) (ground : Ground) (e : Element) (v : ℕ) (base_fits : IsNamed N r ground.base) (copy : v ≤ r) (copies : IsPointerCopy y c ground.pointer v) where

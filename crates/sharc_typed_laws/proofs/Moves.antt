@@ -137,30 +137,27 @@ module _ (around : Setting) (f : ℕ) (table : ℕ → Mark) (pc : ℕ) (s e : M
   on_room spot closed less told = goes_on (op.ChkRoom spot) (λ a z. absurd (none-some a z)) told (λ dropped passes repeats jumps on. (closed, lesser (record l { room = true }) (passes pc) (passes (pc + 1)) less on))
 
   base_free_too : (c : Cell) (ps : List Pass) → IsBaseFree l c → IsBaseFree (with_passes l ps) c
-  base_free_too (cells.Global g p) ps h = h
-  base_free_too (cells.GlobalAt g i) ps h = h
   base_free_too (cells.Object r i) ps h = free_too l ps r h
   base_free_too (cells.ObjectAt r i) ps h = free_too l ps r h
+  base_free_too _ ps h = h
 
   pub on_lock : (c : Cell) (spot : Spot) → l.gate ≡ Closed → l.room ≡ true → HasMutex around l c → IsBaseFree l c → Less (record (without_base_of l c) { room = false }) e.label → IsLine around f table pc s (op.Lock c spot)
   on_lock c spot closed room h free less = goes_on (op.Lock c spot) (λ a z. absurd (none-some a z)) (λ z. never z) (λ dropped passes repeats jumps on.
       (closed, room, (h.field, cell_too c h.field (passes pc) h.has, h.mutex), base_free_too c (passes pc) free, locked c (passes pc) (passes (pc + 1)) less (λ p k. on p k)))
     where
       locked : (c : Cell) (ps qs : List Pass) → Less (record (without_base_of l c) { room = false }) e.label → ((p : Pass) → IsIn p qs → ⊥) → Less (record (without_base_of (with_passes l ps) c) { room = false }) (with_passes t qs)
-      locked (cells.Global g p) ps qs less sub = last (record l { gate = Closed; room = false }) ps qs less sub
-      locked (cells.GlobalAt g i) ps qs less sub = last (record l { gate = Closed; room = false }) ps qs less sub
       locked (cells.Object r i) ps qs less sub = last (record (empty l r) { room = false }) (without_base r ps) qs less sub
       locked (cells.ObjectAt r i) ps qs less sub = last (record (empty l r) { room = false }) (without_base r ps) qs less sub
+      locked _ ps qs less sub = last (record l { gate = Closed; room = false }) ps qs less sub
 
   pub on_unlock : (r : ℕ) (c : Cell) (spot : Spot) → l.gate ≡ Holds c → IsVacant around.code l r → HasMutex around l c → Less (unlocked_label l r c) e.label → IsLine around f table pc s (op.Unlock r c spot)
   on_unlock r c spot gate vacant h less = goes_on (op.Unlock r c spot) (λ a z. absurd (none-some a z)) (λ z. never z) (λ dropped passes repeats jumps on.
       (gate, vacant_too r (passes pc) vacant, (h.field, cell_too c h.field (passes pc) h.has, h.mutex), unlocked c (passes pc) (passes (pc + 1)) less (λ p k. on p k)))
     where
       unlocked : (c : Cell) (ps qs : List Pass) → Less (unlocked_label l r c) e.label → ((p : Pass) → IsIn p qs → ⊥) → Less (unlocked_label (with_passes l ps) r c) (with_passes t qs)
-      unlocked (cells.Global g p) ps qs less sub = last (record l { gate = Closed; room = true }) ps qs less sub
-      unlocked (cells.GlobalAt g i) ps qs less sub = last (record l { gate = Closed; room = true }) ps qs less sub
       unlocked (cells.Object b i) ps qs less sub = last (record (fill l r (l.env b) (l.same b) true) { room = true }) ps qs less sub
       unlocked (cells.ObjectAt b i) ps qs less sub = last (record (fill l r (l.env b) (l.same b) true) { room = true }) ps qs less sub
+      unlocked _ ps qs less sub = last (record l { gate = Closed; room = true }) ps qs less sub
 
   -- ---- condition variables
   pub on_cond_enter : (c : Cell) (spot : Spot) → (l.gate ≡ Closed) ⊎ ((m : Cell) × (l.gate ≡ Holds m)) → HasWaiters around l c → Less l e.label → IsLine around f table pc s (op.CondEnter c spot)

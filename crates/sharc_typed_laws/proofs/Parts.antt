@@ -7,18 +7,14 @@ use Rattle.sharc_code.proofs.Places.{put_same, put_other, put_all}
 use Rattle.sharc_flat.specs.{declared.op.Op.Op, declared.op.Spot.Spot, Framed.{IsWide, OpWrites}, Scope.at_site, Places.pointee_code, Flattened.{differ_code, compare_code, logical_code, either_code}}
 use Rattle.sharc_flat.specs.declared.op.Op.TheVariants as op
 use Rattle.sharc_guard.specs.Known.{Know, know_next, writes_ref, writes_int, number_given}
-use Rattle.sharc_invariant.specs.{Types.{StaticType, Mentions}, Labels.{Entry, Empty, Refers, Number, Anything, Exactly, Within, Indexes, OfElement, OfGlobal, Named, Nth, Gate, Closed, Label, Less, LessNumber, HasBase, EntryMentions, IsScoped, IsFree, set_number, fill, knows}, Typed.{is_shift, is_comparison, ints_in, refs_in}}
+use Rattle.sharc_invariant.specs.{Types.{StaticType, Mentions}, Labels.{Entry, Empty, Refers, Number, Anything, Exactly, Within, OfElement, OfGlobal, Nth, Gate, Closed, Label, Less, LessNumber, HasBase, EntryMentions, IsScoped, IsFree, set_number, fill, knows}, Typed.{is_shift, is_comparison, ints_in, refs_in}}
 use Rattle.sharc_invariant.proofs.Scoped.{less_refl, less_entry_refl, less_number_refl, scoped_fill}
 use Rattle.sharc_typed_laws.specs.{Passes.IsNumberOf, Stretches.{Mark, Setting, Tells, Fits, IsLine, AreWithin, LeadsWithin}, Places.{RegistersStand, IsNamed, mark}}
-use Rattle.sharc_typed_laws.proofs.{Fitting.{fits_same, fits_by}, Standing.{less_by, scoped_frame, unnamed, stands_number, less_number, stands_fill, less_emptied, less_lower}, Telling.{told, other_than, same_as, constant_number}, Rules.{Plain, on_enter, on_constant, on_compute, on_negate, on_complement, on_false, on_same, on_width, on_positive, on_print, on_join, on_nothing, on_pop, on_check}}
+use Rattle.sharc_typed_laws.proofs.{Fitting.{fits_same, fits_by}, Standing.{less_by, scoped_frame, unnamed, stands_number, less_number, stands_fill, less_emptied, less_lower}, Telling.{told, other_than, same_as, constant_number}, Rules.{Plain, on_enter, on_constant, on_compute, on_negate, on_complement, on_false, on_same, on_width, on_positive, on_print, on_join, on_nothing, on_pop, on_check}, Closing.within_left}
 use Rattle.sharc_typed_laws.proofs.Flow as flow
 use Rattle.sharc_lemmas.proofs.Options.{no_guard as none_some}
 
 -- ---- operations within a frame
-pub within_left : (ints refs : ℕ) (xs ys : List Op) → AreWithin ints refs (xs ++ ys) → AreWithin ints refs xs
-within_left ints refs [] ys w = tt
-within_left ints refs (o ∷ xs) ys w = (w.0, within_left ints refs xs ys w.1)
-
 pub within_right : (ints refs : ℕ) (xs ys : List Op) → AreWithin ints refs (xs ++ ys) → AreWithin ints refs ys
 within_right ints refs [] ys w = w
 within_right ints refs (o ∷ xs) ys w = within_right ints refs xs ys w.1
@@ -120,14 +116,9 @@ module _ (around : Setting) (f : ℕ) (D : (ℕ → Mark) → Type 0) (named : �
 
   -- a number is that of the label where a reference is as before
   pub same_number : (l k : Label) (n : ℕ) (m : Number) → ((q : ℕ) → HasBase m q → k.env q ≡ l.env q) → IsNumberOf around.targets l n m → IsNumberOf around.targets k n m
-  same_number l k n Anything same h = h
-  same_number l k n (Exactly z) same h = h
-  same_number l k n (Within w) same h = h
-  same_number l k n (Indexes m) same h = h
   same_number l k n (OfElement base field (Nth e)) same h = (h.0, same base refl ∙ h.1, h.2)
-  same_number l k n (OfElement base field (Named e)) same h = h
   same_number l k n (OfGlobal first count elements (Nth e)) same h = h
-  same_number l k n (OfGlobal first count elements (Named e)) same h = h
+  same_number l k n _ same h = h
 
   -- ---- numbers
   -- what is said with this number in the first free integer register

@@ -8,7 +8,7 @@ use Rattle.sharc_code.specs.declared.instr.Cell.TheVariants as cells
 use Rattle.sharc_flat.specs.{declared.op.Op.Op, declared.op.Spot.Spot, Machine.Flat}
 use Rattle.sharc_flat.specs.declared.op.Op.TheVariants as op
 use Rattle.sharc_guard.specs.Known.{is_straight, is_target, is_dynamic, SimplePlace, in_variable, in_global, assigns, same_place, counts, Access, access, tells, Know, variable_place, global_place, is_at, place_of, passes_by, know_next, known, has_passed, drops}
-use Rattle.sharc_invariant.specs.{Types.{Targets, Field, cells_of}, Labels.{Element, Named, Nth, Number, Anything, Exactly, Within, Indexes, OfElement, OfGlobal, Pass, IsIn, Label, is_base, without_base}, Typed.{HasField, Covers}}
+use Rattle.sharc_invariant.specs.{Types.{Targets, Field, cells_of}, Labels.{Element, Named, Nth, Number, OfElement, OfGlobal, Pass, IsIn, Label, is_base, without_base}, Typed.{HasField, Covers}}
 use Rattle.sharc_typed_laws.specs.{Inside.{global_pass, global_element_pass, element_pass, pass_of, with_pass, passed_behind}, Passes.{is_write, pass_at, pass_of_place, pass_by, stays, passes_next, passes_before, with_passes, remembered, IsNumberOf, Knows}}
 use Rattle.sharc_lemmas.proofs.Bools.{and_left, or_split as or_either, and_right, false_true as nothing_passed}
 
@@ -187,8 +187,7 @@ ps_in x d l write c mode p h = h
 
 new_in : (x : Targets) (d : Bool) (l : Label) (write : Bool) (c : Cell) (mode : PlaceMode) (p : Pass) → d ≡ false → is_dynamic mode ≡ true → pass_of x l write c ≡ Some p → IsIn p (passed_behind x d l write c mode)
 new_in x false l write c modes.Dynamic p none is e = subst (λ o. IsIn p (with_pass o l.passed)) (sym e) (inl refl)
-new_in x true l write c mode p none is e = absurd (cc)
-new_in x false l write c mode p none is e = absurd (cc)
+new_in x _ l write c mode p none is e = absurd (cc)
 
 -- by the clauses of a list that is filtered, where it stands for anything
 plain : (b : Bool) (f : Pass → Bool) (ps : List Pass) (p : Pass) → IsIn p (if b then filter f ps else []) → IsIn p (if b then ps else [])
@@ -220,20 +219,14 @@ settle_from to from (Some y) e = not_right _ _ e
 
 module _ (x : Targets) (code : Code) (l : Label) (k : Know) (passes : List Pass) where
   number_too : (z : Number) (n : ℕ) → IsNumberOf x l n z → IsNumberOf x (with_passes l passes) n z
-  number_too (Exactly z) n h = h
   number_too (OfElement r field (Nth e)) n h = h
-  number_too (OfElement r field (Named m)) n h = h
   number_too (OfGlobal a b c (Nth e)) n h = h
-  number_too (OfGlobal a b c (Named m)) n h = h
-  number_too Anything n h = h
-  number_too (Within w) n h = h
-  number_too (Indexes m) n h = h
+  number_too _ n h = h
 
   known_too : (c : Cell) → Knows x k l c → Knows x k (with_passes l passes) c
-  known_too (cells.Global g q) h = h
   known_too (cells.GlobalAt g i) h = λ n e. number_too (l.ints i) n (h n e)
-  known_too (cells.Object r n) h = h
   known_too (cells.ObjectAt r i) h = (h.0, λ n e. number_too (l.ints i) n (h.1 n e))
+  known_too _ h = h
 
   -- the check of an access itself
   access_in : (d : Bool) (kind : Kind) (c : Cell) (spot : Spot) (f : Field) → HasField x code (with_passes l passes) c f → Knows x k l c → ((g place : ℕ) → place_of k c ≡ Some (in_global g place) → 2 ≤ place)
@@ -242,13 +235,11 @@ module _ (x : Targets) (code : Code) (l : Label) (k : Know) (passes : List Pass)
       ⊎_elim (λ m. fresh d (tells spot) refl (place_of k c) refl m) (λ m. ps_in x d (with_passes l passes) (is_write kind) c spot.mode p m) (of_both (if d then [] else (if tells spot then pass_of_place kind (place_of k c) else [])) passes p h)
     where
       fresh : (d : Bool) (t : Bool) → tells spot ≡ t → (at : Option SimplePlace) → place_of k c ≡ at → IsIn p (if d then [] else (if t then pass_of_place kind at else [])) → IsIn p (passed_behind x d (with_passes l passes) (is_write kind) c spot.mode)
-      fresh true t e at is h = absurd h
-      fresh false false e at is h = absurd h
-      fresh false true e None is h = absurd h
       fresh false true e (Some place) is h =
           let eq = pass_eq x code (with_passes l passes) k c f has (known_too c knows) kind place is (λ g n z. low g n (is ∙ ap Some z)) in
           let same : pass_at kind place ≡ p = ⊎_elim (λ (i : pass_at kind place ≡ p). i) (λ k. absurd k) h in
           new_in x false (with_passes l passes) (is_write kind) c spot.mode p refl (and_left (is_dynamic spot.mode) spot.is_simple e) (eq ∙ ap Some same)
+      fresh _ _ e _ is h = absurd h
 
   abbrev Fields : Op → Type 0
   Fields o = (a : Access) → access o ≡ Some a → (f : Field) × HasField x code (with_passes l passes) a.cell f

@@ -1,7 +1,7 @@
 -- The cells of globals that flattened code finds by an index are none of granule 0.
 use Rattle.std.proofs.{Common.{◌≡◌, ℕ, ◌+◌, ◌≤◌, Bool, true, false, cond, List, [], ◌∷◌, ◌++◌, length, take, drop, Option, Some, None, refl, arith}, lemmas.List.Elements.Contains-append_right}
 use Rattle.std.specs.{Prelude.{codes, Contains}, Str.bytes_eq}
-use Rattle.sharc_tree.specs.{declared.token.Site.Site, declared.token.Span.Span, declared.tree.declaration.Declaration.Declaration, declared.tree.declaration.Identifier.Identifier, declared.tree.expression.FieldOperator.FieldOperator, declared.tree.expression.FieldOperator.TheVariants.{Dot, Arrow}, declared.tree.expression.BinaryOperator.BinaryOperator, declared.tree.expression.BinaryOperator.TheVariants.{LogicalOr, LogicalAnd, NotEqual}, declared.tree.expression.PlaceCall.PlaceCall, declared.tree.expression.PlaceCall.TheVariants.{Lock, Unlock, Free}, declared.tree.expression.UnaryOperator.UnaryOperator, declared.tree.expression.UnaryOperator.TheVariants.{Negate, Not, Complement, Dereference}, declared.tree.expression.ValueCall.ValueCall, declared.tree.expression.ValueCall.TheVariants.{Join, Print}, declared.tree.statement.Jump.Jump, declared.tree.statement.Jump.TheVariants.{Break, Continue}, Measures.{expressions, in_arguments, in_option, in_right, in_simple, in_local, in_first, in_head, in_statement, in_statements}, Spans.span_of, Tree.{Expression, identifier, constant, parentheses, call, spawn, on_value, on_place, cast, index, field, unary, binary, Arguments, no_arguments, argument, Right, value, malloc, Simple, assign, does_call, Local, First, nothing, declares, does, Statement, empty, block, declare, simple, jump, return, if_then, if_then_else, while, for, Statements, no_statements, statement, Function}}
+use Rattle.sharc_tree.specs.{declared.token.Site.Site, declared.token.Span.Span, declared.tree.declaration.Declaration.Declaration, declared.tree.declaration.Identifier.Identifier, declared.tree.expression.FieldOperator.FieldOperator, declared.tree.expression.FieldOperator.TheVariants.{Dot, Arrow}, declared.tree.expression.BinaryOperator.BinaryOperator, declared.tree.expression.BinaryOperator.TheVariants.{LogicalOr, LogicalAnd, NotEqual}, declared.tree.expression.PlaceCall.PlaceCall, declared.tree.expression.PlaceCall.TheVariants.{Lock, Unlock, Free}, declared.tree.expression.UnaryOperator.UnaryOperator, declared.tree.expression.UnaryOperator.TheVariants.{Not, Dereference}, declared.tree.expression.ValueCall.ValueCall, declared.tree.expression.ValueCall.TheVariants.{Join, Print}, declared.tree.statement.Jump.Jump, declared.tree.statement.Jump.TheVariants.{Break, Continue}, Measures.{expressions, in_arguments, in_option, in_right, in_simple, in_local, in_first, in_head, in_statement, in_statements}, Spans.span_of, Tree.{Expression, identifier, constant, parentheses, call, spawn, on_value, on_place, cast, index, field, unary, binary, Arguments, no_arguments, argument, Right, value, malloc, Simple, assign, does_call, Local, First, nothing, declares, does, Statement, empty, block, declare, simple, jump, return, if_then, if_then_else, while, for, Statements, no_statements, statement, Function}}
 use Rattle.sharc_names.specs.{declared.fault.Named.{Named as Name}, Kinds.{Kind, is_array, is_integer, element_kind, declared_kind, declared_kinds}}
 use Rattle.sharc_names.specs.declared.fault.Named.TheVariants as named
 use Rattle.sharc_code.specs.{declared.code.Use.Use, declared.instr.Register.Register, declared.instr.Register.TheVariants.{Int, Reference}}
@@ -10,7 +10,7 @@ use Rattle.sharc_ctype.specs.{Resolved.{kind_at, global_at}, Transfers.parameter
 use Rattle.sharc_mode.specs.{Cells.pointed, Moded.Assignment, Rows.{written, row_at, declared_row}, Sharings.{Sharing, private}}
 use Rattle.sharc_check.specs.Constructs.{IsFunction}
 use Rattle.sharc_meaning.specs.{Cells.{element_cells, field_place_named, global_elements}, State.is_reference}
-use Rattle.sharc_flat.specs.{declared.op.Op.Op, declared.op.Spot.Spot, Machine.first_cell, declared.slot.Lvalue.Lvalue, declared.slot.Slot.Slot, Scope.{Context, register_of, ref_count, at_site, pops, ends_from, leaves}, Places.{Target, variable, in_global, in_global_at, in_object, in_object_at, target, own_field, has_base, global_of, base_width, index_width, guard_field, guard_code, drop_base, settle_base, copy_code, cell_value_code, value_code, settle_code, cell_store_code, store_code, cell_take_code, take_code, bounds_code, index_code, pointee_code, width_code}, Flattened.{kind_of, is_ref, target_of, mode_of, what_names, named_code, truth_code, differ_code, compare_code, logical_code, either_code, unary_code, binary_code, behind_int, behind_ref, wait_code, condition_code, called_code, passed_code, value_call_code, place_call_code, cast_code, guard_of, taken_guard, field_code, unary_place_code, lvalue_code, expression_code, arguments_code, place_code, lvalue_in, with_words, argument_words, elements_code, right_code, simple_code, with_variable, ints_of, refs_of, zero_code, initial_code, local_code, first_code, behind_first, step_code, test_code, turn_code, Around, opened, looping, jump_code, result_code, return_code, turns_code, body_at, behind_statement, behind_statements, statement_code, statements_code, in_function, around_body, function_code, functions_code, declared_lvalue}, Tables.globals_of}
+use Rattle.sharc_flat.specs.{declared.op.Op.Op, declared.op.Spot.Spot, Machine.first_cell, declared.slot.Lvalue.Lvalue, declared.slot.Slot.Slot, Scope.{Context, register_of, ref_count, at_site, pops, ends_from, leaves}, Places.{Target, variable, in_global, target, own_field, has_base, global_of, base_width, index_width, guard_field, guard_code, drop_base, settle_base, copy_code, cell_value_code, value_code, settle_code, cell_store_code, store_code, cell_take_code, take_code, bounds_code, index_code, pointee_code, width_code}, Flattened.{kind_of, is_ref, target_of, mode_of, what_names, named_code, truth_code, differ_code, compare_code, logical_code, either_code, unary_code, binary_code, behind_int, behind_ref, wait_code, condition_code, called_code, passed_code, value_call_code, place_call_code, cast_code, guard_of, taken_guard, field_code, unary_place_code, lvalue_code, expression_code, arguments_code, place_code, lvalue_in, with_words, argument_words, elements_code, right_code, simple_code, with_variable, ints_of, refs_of, zero_code, initial_code, local_code, first_code, behind_first, step_code, test_code, turn_code, Around, opened, looping, jump_code, result_code, return_code, turns_code, body_at, behind_statement, behind_statements, statement_code, statements_code, in_function, around_body, function_code, functions_code, declared_lvalue}, Tables.globals_of}
 use Rattle.sharc_flat.specs.declared.op.Op.TheVariants as op
 use Rattle.sharc_typed_laws.specs.Programs.{AreGlobalsNamed}
 use Rattle.sharc_typed_laws.proofs.{After.OpPast, Arrays.{Named, named_left, named_right, arrays_low, function_named}}
@@ -70,10 +70,7 @@ conditions r spot name all = choose (bytes_eq name (codes "wait")) (wait_code r 
 calls : (i r : ℕ) (spot : Spot) (n : Name) (name : List ℕ) (all : Arguments) → AllPast (called_code i r spot n name all)
 calls i r spot (named.Function f) name all = (tt, tt)
 calls i r spot named.Known name all = conditions r spot name all
-calls i r spot (named.Variable x) name all = tt
-calls i r spot (named.Global x) name all = tt
-calls i r spot (named.Field x) name all = tt
-calls i r spot (named.Struct x) name all = tt
+calls i r spot _ name all = tt
 
 widths : (i : ℕ) (kind : Kind) (site : Site) → AllPast (width_code i kind site)
 widths i kind site = choose (is_integer kind) _ [] (tt, tt) tt
@@ -92,9 +89,7 @@ fields c r site f Arrow n place pointer h k = pointees r site pointer k
 
 unary_places : (r : ℕ) (site : Site) (o : UnaryOperator) (xs : List Op) → AllPast xs → AllPast (unary_place_code r site o xs)
 unary_places r site Dereference xs h = pointees r site xs h
-unary_places r site Negate xs h = tt
-unary_places r site Not xs h = tt
-unary_places r site Complement xs h = tt
+unary_places r site _ xs h = tt
 
 -- ---- accesses
 module _ (c : Context) where
@@ -118,20 +113,14 @@ module _ (c : Context) where
 
   values : (i r : ℕ) (site : Site) (lvalue : Lvalue) (mode : Sharing) (b : Bool) (t : Target) → AllPast (value_code c i r site lvalue mode b t)
   values i r site lvalue mode b (variable x) = copies i r (register_of c.scope x)
-  values i r site lvalue mode b (in_global g f) = cell_values i r site lvalue mode b (in_global g f)
-  values i r site lvalue mode b (in_global_at g f) = cell_values i r site lvalue mode b (in_global_at g f)
-  values i r site lvalue mode b (in_object f) = cell_values i r site lvalue mode b (in_object f)
-  values i r site lvalue mode b (in_object_at f) = cell_values i r site lvalue mode b (in_object_at f)
+  values i r site lvalue mode b k = cell_values i r site lvalue mode b k
 
   cell_takes : (i r : ℕ) (site : Site) (lvalue : Lvalue) (mode : Sharing) (form : Option ℕ → Use) (t : Target) → AllPast (cell_take_code c i r site lvalue mode form t)
   cell_takes i r site lvalue mode form t = joins (guard_code c i r site lvalue t (guard_field c.program.typed mode)) _ (guards i r site lvalue t (guard_field c.program.typed mode)) (tt, settles_base r t)
 
   takes : (i r : ℕ) (site : Site) (lvalue : Lvalue) (mode : Sharing) (form : Option ℕ → Use) (t : Target) → AllPast (take_code c i r site lvalue mode form t)
   takes i r site lvalue mode form (variable x) = (tt, tt)
-  takes i r site lvalue mode form (in_global g f) = cell_takes i r site lvalue mode form (in_global g f)
-  takes i r site lvalue mode form (in_global_at g f) = cell_takes i r site lvalue mode form (in_global_at g f)
-  takes i r site lvalue mode form (in_object f) = cell_takes i r site lvalue mode form (in_object f)
-  takes i r site lvalue mode form (in_object_at f) = cell_takes i r site lvalue mode form (in_object_at f)
+  takes i r site lvalue mode form k = cell_takes i r site lvalue mode form k
 
   settles : (i r : ℕ) (x : Register) → AllPast (settle_code i r x)
   settles i r (Int x) = (tt, tt)
@@ -143,24 +132,17 @@ module _ (c : Context) where
 
   stores : (i r vi vr : ℕ) (site : Site) (lvalue : Lvalue) (mode : Sharing) (b : Bool) (t : Target) → AllPast (store_code c i r vi vr site lvalue mode b t)
   stores i r vi vr site lvalue mode b (variable x) = settles vi vr (register_of c.scope x)
-  stores i r vi vr site lvalue mode b (in_global g f) = cell_stores i r vi vr site lvalue mode b (in_global g f)
-  stores i r vi vr site lvalue mode b (in_global_at g f) = cell_stores i r vi vr site lvalue mode b (in_global_at g f)
-  stores i r vi vr site lvalue mode b (in_object f) = cell_stores i r vi vr site lvalue mode b (in_object f)
-  stores i r vi vr site lvalue mode b (in_object_at f) = cell_stores i r vi vr site lvalue mode b (in_object_at f)
+  stores i r vi vr site lvalue mode b k = cell_stores i r vi vr site lvalue mode b k
 
   names : (i r : ℕ) (site : Site) (lvalue : Lvalue) (mode : Sharing) (b : Bool) (n : Name) → AllPast (named_code c i r site lvalue mode b n)
   names i r site lvalue mode b (named.Variable x) = values i r site lvalue mode b (variable x)
   names i r site lvalue mode b (named.Global g) = values i r site lvalue mode b (in_global g 0)
-  names i r site lvalue mode b (named.Field n) = tt
-  names i r site lvalue mode b (named.Struct n) = tt
-  names i r site lvalue mode b (named.Function n) = tt
-  names i r site lvalue mode b named.Known = tt
+  names i r site lvalue mode b _ = tt
 
   unaries : (i r : ℕ) (s : Span) (o : UnaryOperator) (a : Expression) (xs : List Op) → AllPast xs → AllPast (unary_code c i r s o a xs)
-  unaries i r s Negate a xs h = joins xs _ h (tt, tt)
   unaries i r s Not a xs h = joins xs _ h (joins (truth_code (is_ref c a) i r) (op.IsFalse i i ∷ []) (truths (is_ref c a) i r) (tt, tt))
-  unaries i r s Complement a xs h = joins xs _ h (tt, tt)
   unaries i r s Dereference a xs h = joins (pointee_code r s.first xs) _ (pointees r s.first xs h) (values i r s.first (lvalue_in c (unary s Dereference a)) (mode_of c (unary s Dereference a)) (is_ref c (unary s Dereference a)) (target_of c (unary s Dereference a)))
+  unaries i r s _ a xs h = joins xs _ h (tt, tt)
 
   binaries : (i r : ℕ) (at : Site) (o : BinaryOperator) (a b : Expression) (xs : List Op) (ys : ℕ → ℕ → List Op) → AllPast xs → ((i r : ℕ) → AllPast (ys i r)) → AllPast (binary_code c i r at o a b xs ys)
   binaries i r at LogicalAnd a b xs ys h k = logicals i (xs ++ truth_code (is_ref c a) i r) (ys i r ++ truth_code (is_ref c b) i r) (joins xs _ h (truths (is_ref c a) i r)) (joins (ys i r) _ (k i r) (truths (is_ref c b) i r))
@@ -239,7 +221,6 @@ module _ (c : Context) (low : ArraysLow c) where
         (joins (passed_code i kinds (span_of a).first) _ (passes i kinds (span_of a).first) (arguments_past (behind_int (is_ref c a) i) (behind_ref (is_ref c a) r) (drop 1 kinds) rest (right c (expressions a) (in_arguments rest) h)))
 
     pub places_past : (i r : ℕ) (site : Site) (f guard : Option ℕ) (e : Expression) → NamedIn c (expressions e) → AllPast (place_code c i r site f guard e)
-    places_past i r site f guard (identifier s x) h = (tt, tt)
     places_past i r site f guard (parentheses s a) h = (tt, places_past i r site f guard a h.1)
     places_past i r site f guard (index s a n) h = (
       tt,
@@ -250,13 +231,7 @@ module _ (c : Context) (low : ArraysLow c) where
       fields c r site f w n (λ g. place_code c i r site g guard a) (expression_code c i r a) (λ g. places_past i r site g guard a h.1) (expressions_past i r a h.1),
     )
     places_past i r site f guard (unary s o a) h = (tt, unary_places r site o (expression_code c i r a) (expressions_past i r a h.1))
-    places_past i r site f guard (constant s k) h = (tt, tt)
-    places_past i r site f guard (call s g all) h = (tt, tt)
-    places_past i r site f guard (spawn s g a) h = (tt, tt)
-    places_past i r site f guard (on_value s w a) h = (tt, tt)
-    places_past i r site f guard (on_place s w a) h = (tt, tt)
-    places_past i r site f guard (cast s t a) h = (tt, tt)
-    places_past i r site f guard (binary s o at a b) h = (tt, tt)
+    places_past i r site f guard _ h = (tt, tt)
 
   -- ---- simple statements
   counts : (i r : ℕ) (n : Option Expression) → NamedIn c (in_option expressions n) → AllPast (elements_code c i r n)
@@ -313,38 +288,20 @@ firsts c low (declares l) h = (tt, locals c low l h)
 firsts c low (does x) h = simples c low (ints_of c) (refs_of c) x h
 
 first_low : (c : Context) (x : First) → ArraysLow c → ArraysLow (behind_first c x)
-first_low c nothing h = h
-first_low c (declares l) h = h
 first_low c (does x) h = h
+first_low c _ h = h
 
 first_named : (c : Context) (x : First) (es : List Expression) → NamedIn c es → NamedIn (behind_first c x) es
-first_named c nothing es h = h
-first_named c (declares l) es h = h
 first_named c (does x) es h = h
+first_named c _ es h = h
 
 statement_low : (c : Context) (x : Statement) → ArraysLow c → ArraysLow (behind_statement c x)
-statement_low c (declare s l) h = h
 statement_low c (empty s) h = h
-statement_low c (block s all) h = h
-statement_low c (simple s y) h = h
-statement_low c (jump s j) h = h
-statement_low c (return s e) h = h
-statement_low c (if_then s e y) h = h
-statement_low c (if_then_else s e y z) h = h
-statement_low c (while s e y) h = h
-statement_low c (for s hd y) h = h
+statement_low c _ h = h
 
 statement_named : (c : Context) (x : Statement) (es : List Expression) → NamedIn c es → NamedIn (behind_statement c x) es
-statement_named c (declare s l) es h = h
 statement_named c (empty s) es h = h
-statement_named c (block s all) es h = h
-statement_named c (simple s y) es h = h
-statement_named c (jump s j) es h = h
-statement_named c (return s e) es h = h
-statement_named c (if_then s e y) es h = h
-statement_named c (if_then_else s e y z) es h = h
-statement_named c (while s e y) es h = h
-statement_named c (for s hd y) es h = h
+statement_named c _ es h = h
 
 returns_past : (c : Context) → ArraysLow c → (a : Around) (site : Site) (e : Option Expression) → NamedIn c (in_option expressions e) → AllPast (return_code c a site e)
 returns_past c low a site None h = joins (leaves c.scope (a.inside ++ a.outside)) _ (leaves_past c.scope (a.inside ++ a.outside)) (joins (zero_code (is_reference a.result) 0 0) _ (zeros (is_reference a.result) 0 0) (tt, tt))

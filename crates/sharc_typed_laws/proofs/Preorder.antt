@@ -34,12 +34,7 @@ module _ (l k : Label) (same : (r : ℕ) → SameReference l r (k.same r)) where
   lock_before r (Global i) (Self j) c g h = absurd g
   lock_before r (Through x i) (Global j) c g h = absurd g
   lock_before r (Self i) (Global j) c g h = absurd g
-  lock_before r (Global i) (Global j) (Through z n) g h = absurd h
-  lock_before r (Global i) (Global j) (Self n) g h = absurd h
-  lock_before r (Through x i) (Through y j) (Global n) g h = absurd h
-  lock_before r (Through x i) (Self j) (Global n) g h = absurd h
-  lock_before r (Self i) (Self j) (Global n) g h = absurd h
-  lock_before r (Self i) (Through y j) (Global n) g h = absurd h
+  lock_before r _ _ _ g h = absurd h
 
   locks_before : (r : ℕ) (a b c : List Lock) → AllSame (SameLock l r) a b → AllSame (SameLock k r) b c → AllSame (SameLock l r) a c
   locks_before r [] [] [] g h = tt
@@ -50,8 +45,6 @@ module _ (l k : Label) (same : (r : ℕ) → SameReference l r (k.same r)) where
   locks_before r (x ∷ xs) (y ∷ ys) [] g h = absurd h
 
   entry_before : (r : ℕ) (a b c : Entry) → LessEntry l r a b → LessEntry k r b c → LessEntry l r a c
-  entry_before r a b Empty g h = subst (LessEntry l r a) h g
-  entry_before r a b Unknown g h = subst (LessEntry l r a) h g
   entry_before r Empty b (Refers z) g h = tt
   entry_before r Unknown Unknown (Refers z) g h = h
   entry_before r Unknown Empty (Refers z) g h = let e : Unknown ≡ Empty = g in absurd (cc)
@@ -59,28 +52,19 @@ module _ (l k : Label) (same : (r : ℕ) → SameReference l r (k.same r)) where
   entry_before r (Refers x) Empty (Refers z) g h = let e : Refers x ≡ Empty = g in absurd (cc)
   entry_before r (Refers x) Unknown (Refers z) g h = absurd h
   entry_before r (Refers x) (Refers y) (Refers z) g h = record { target = g.target ∙ h.target; locks = locks_before r x.locks y.locks z.locks g.locks h.locks }
+  entry_before r a b _ g h = subst (LessEntry l r a) h g
 
-narrower_before : (u v w : Width) → Narrower u v → Narrower v w → Narrower u w
+pub narrower_before : (u v w : Width) → Narrower u v → Narrower v w → Narrower u w
 narrower_before Char v w g h = tt
 narrower_before Int Int w g h = h
 narrower_before Int Long Long g h = tt
-narrower_before Int Char w g h = absurd g
 narrower_before Int Long Char g h = absurd h
 narrower_before Int Long Int g h = absurd h
 narrower_before Long Long w g h = h
-narrower_before Long Char w g h = absurd g
-narrower_before Long Int w g h = absurd g
+narrower_before _ _ w g h = absurd g
 
 number_before : (a b c : Number) → LessNumber a b → LessNumber b c → LessNumber a c
 number_before a b Anything g h = tt
-number_before a b (Exactly z) g h = subst (LessNumber a) h g
-number_before a b (Indexes m) g h = subst (LessNumber a) h g
-number_before a b (OfElement r f e) g h = subst (LessNumber a) h g
-number_before a b (OfGlobal x n m e) g h = subst (LessNumber a) h g
-number_before a Anything (Within w) g h = subst (LessNumber a) h g
-number_before a (Indexes m) (Within w) g h = subst (LessNumber a) h g
-number_before a (OfElement r f e) (Within w) g h = subst (LessNumber a) h g
-number_before a (OfGlobal x n m e) (Within w) g h = subst (LessNumber a) h g
 number_before a (Exactly z) (Within w) g h = subst (λ n. LessNumber n (Within w)) (sym g) h
 number_before (Within u) (Within v) (Within w) g h = narrower_before u v w g h
 number_before (Exactly z) (Within v) (Within w) g h = wider v w z h g
@@ -88,6 +72,7 @@ number_before Anything (Within v) (Within w) g h = let e : Anything ≡ Within v
 number_before (Indexes m) (Within v) (Within w) g h = let e : Indexes m ≡ Within v = g in absurd (cc)
 number_before (OfElement r f d) (Within v) (Within w) g h = let e : OfElement r f d ≡ Within v = g in absurd (cc)
 number_before (OfGlobal x n m d) (Within v) (Within w) g h = let e : OfGlobal x n m d ≡ Within v = g in absurd (cc)
+number_before a _ _ g h = subst (LessNumber a) h g
 
 gate_before : (a b c : Gate) → LessGate a b → LessGate b c → LessGate a c
 gate_before (Sole r true) b c g h = subst (λ y. LessGate y c) g h

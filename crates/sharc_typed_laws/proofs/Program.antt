@@ -75,24 +75,18 @@ past_at (x ∷ os) h (suc n) o at = past_at os h.1 n o at
 -- ---- rows
 rows_same : {A : Type 0} (of : Row → A) → ((row : Row) (name : Text) → of (record row { name = name }) ≡ of row) → (bytes : List ℕ) (xs ys : List Row) (ns : List (List ℕ)) → AreNamed bytes xs ns ys → (f : ℕ) → of (slice_index_or ys f no_function) ≡ of (slice_index_or xs f no_function)
 rows_same of h bytes [] [] [] a f = refl
-rows_same of h bytes [] [] (n ∷ ns) a f = absurd a
 rows_same of h bytes [] (y ∷ ys) [] a f = absurd a
-rows_same of h bytes [] (y ∷ ys) (n ∷ ns) a f = absurd a
 rows_same of h bytes (x ∷ xs) [] [] a f = absurd a
-rows_same of h bytes (x ∷ xs) [] (n ∷ ns) a f = absurd a
-rows_same of h bytes (x ∷ xs) (y ∷ ys) [] a f = absurd a
 rows_same of h bytes (x ∷ xs) (y ∷ ys) (n ∷ ns) a zero = ap of a.0.is ∙ h x a.0.name_at
 rows_same of h bytes (x ∷ xs) (y ∷ ys) (n ∷ ns) a (suc f) = rows_same of h bytes xs ys ns a.1 f
+rows_same of h bytes _ _ _ a f = absurd a
 
 named_length : (bytes : List ℕ) (xs ys : List Row) (ns : List (List ℕ)) → AreNamed bytes xs ns ys → length ys ≡ length xs
 named_length bytes [] [] [] a = refl
-named_length bytes [] [] (n ∷ ns) a = absurd a
 named_length bytes [] (y ∷ ys) [] a = absurd a
-named_length bytes [] (y ∷ ys) (n ∷ ns) a = absurd a
 named_length bytes (x ∷ xs) [] [] a = absurd a
-named_length bytes (x ∷ xs) [] (n ∷ ns) a = absurd a
-named_length bytes (x ∷ xs) (y ∷ ys) [] a = absurd a
 named_length bytes (x ∷ xs) (y ∷ ys) (n ∷ ns) a = ap suc (named_length bytes xs ys ns a.1)
+named_length bytes _ _ _ a = absurd a
 
 entered_same : {A : Type 0} (of : Row → A) → ((row : Row) (pc : ℕ) → of (record row { entry = pc }) ≡ of row) → (pl : ℕ → ℕ) (rows : List Row) (n : ℕ) → of (slice_index_or (map (entered_at pl) rows) n no_function) ≡ of (slice_index_or rows n no_function)
 entered_same of h pl [] n = refl

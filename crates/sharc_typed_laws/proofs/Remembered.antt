@@ -1,5 +1,5 @@
 -- A check that is remembered is one of a variable that stands, or of a cell of a global, which is none of granule 0.
-use Rattle.std.proofs.{Common.{◌≡◌, ◌≢◌, ◌⊎◌, ℕ, zero, suc, ◌+◌, ◌<◌, ◌≤◌, Bool, true, false, cond, List, [], ◌∷◌, ◌++◌, length, Option, Some, None, refl, sym, ap, ◌∙◌, subst, ⊎_elim, arith}, lemmas.Bool.false≢true, lemmas.Bool.Decides.nat_tests, lemmas.Option.{same_Some, none-some}}
+use Rattle.std.proofs.{Common.{◌≡◌, ◌≢◌, ◌⊎◌, ℕ, zero, suc, ◌+◌, ◌<◌, ◌≤◌, Bool, true, false, cond, List, [], ◌++◌, length, Option, Some, None, refl, sym, ap, ◌∙◌, subst, ⊎_elim, arith}, lemmas.Bool.false≢true, lemmas.Bool.Decides.nat_tests, lemmas.Option.{same_Some, none-some}}
 use Rattle.std.specs.Prelude.{slice_get, filter, nat_lt}
 use Rattle.sharc_code.specs.declared.instr.Cell.{Cell}
 use Rattle.sharc_code.specs.declared.instr.Cell.TheVariants as cells
@@ -8,15 +8,10 @@ use Rattle.sharc_flat.specs.declared.op.Op.TheVariants as op
 use Rattle.sharc_guard.specs.Known.{is_straight, is_target, writes_ref, writes_int, number_given, SimplePlace, in_variable, in_global, Access, access, tells, nothing, know_next, know_after, variable_place, global_place, place_of, known, drops}
 use Rattle.sharc_invariant.specs.{Types.{Targets, StaticType, Field}, Labels.{Empty, Refers, Element, Named, Nth, OfGlobal, Pass, IsIn, Label, Labels}, Typed.{HasField, AreGlobals}}
 use Rattle.sharc_typed_laws.specs.{Lines.TypedLine, Passes.{pass_at, pass_of_place, pass_by, stays, passes_after, passes_before, passes_in, with_passes, with_all, IsNumberOf, Knows}, Stretches.{Mark, Setting, labels_by, Tells}, LabelsLaws.AreAllLines}
-use Rattle.sharc_typed_laws.proofs.{After.{IsPast, OpPast, After, after}, Passing.{of_filter, of_both}, Lines.found}
+use Rattle.sharc_typed_laws.proofs.{After.{IsPast, OpPast, After, after}, Passing.{of_filter, of_both}, Lines.{found, within}}
 use Rattle.sharc_lemmas.proofs.Bools.{not_true as unless}
 
 -- ---- lists
-within : (os : List Op) (n : ℕ) (o : Op) → slice_get os n ≡ Some o → n < length os
-within [] n o e = absurd (none-some o e)
-within (p ∷ os) zero o e = omega arith
-within (p ∷ os) (suc n) o e = let h = within os n o e in omega (arith, h)
-
 not_empty : (s : StaticType) → Refers s ≢ Empty
 not_empty s e = absurd (cc)
 

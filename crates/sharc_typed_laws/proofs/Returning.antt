@@ -2,8 +2,7 @@
 use Rattle.std.proofs.{Common.{◌≡◌, ◌≢◌, ℕ, ◌+◌, ◌<◌, ◌≤◌, ◌==◌, ◌⊎◌, Bool, true, false, cond, ◌&&◌, ◌||◌, List, [], ◌∷◌, ◌++◌, drop, Some, refl, sym, ap, ◌∙◌, subst, inl, inr, ⊎_elim, arith, append_assoc, eqb-true, pos}, lemmas.Bool.{false≢true, ltb-true, cases_eq, cases_lt, or_parts as either_false}}
 use Rattle.std.specs.Prelude.{nat_eq, nat_lt}
 use Rattle.sharc_tree.specs.{Spans.span_of, Tree.{Expression, value}}
-use Rattle.sharc_names.specs.Kinds.{Kind, object, array, is_integer, is_integral}
-use Rattle.sharc_names.specs.Kinds as kinds
+use Rattle.sharc_names.specs.Kinds.{Kind, object, is_integer, is_integral}
 use Rattle.sharc_code.specs.{declared.instr.Width.Width, Runs.put}
 use Rattle.sharc_code.proofs.Places.{put_same, put_other, put_all}
 use Rattle.sharc_mode.specs.Sharings.{private}
@@ -14,7 +13,7 @@ use Rattle.sharc_guard.specs.Known.{Know, know_next}
 use Rattle.sharc_invariant.specs.{Types.{StaticType, Mentions}, Labels.{Entry, Empty, Refers, Number, Anything, Exactly, Within, Closed, IsIn, Label, Less, Itself, LessEntry, LessNumber, LessGate, EntryMentions, HasBase, IsScoped, IsFree, set_number, fill, empty, forgets, forgotten, without_copies, without_index, without_base}, Typed.{ints_in, refs_in, moved_copy}}
 use Rattle.sharc_invariant.proofs.Scoped.{less_refl, less_entry_refl, less_number_refl, scoped_number}
 use Rattle.sharc_typed_laws.specs.{Stretches.{Mark, Setting, Way, Tells, Fits, IsLine, AreOpen, LeadsAmong}, Places.{AreLow, mark}, Premises.Typing, Stated.{ValueGoes, RightTypable}, Declared.{StandsBefore, before}, Left.{back, AreNested}, Returned.{GivesBackBy, GivesBack, ReturnedBy, ReturnTypable, Returns, NothingReturns, ValuesReturn}}
-use Rattle.sharc_typed_laws.proofs.{Fitting.fits_same, Standing.{without_same, uncopied}, Telling.{told, other_than}, Rules.on_move, Moves.{on_pop_named, on_move_reference, on_stay}, Handing.on_return, Parts.{At, does, then_do, none, constant_at}, Accessed.Frame, Expressing.{bare_frame, null_at}, Simple.{Comes, reference_kept, number_kept, rights}, Ending.{forgotten_same, forgotten_mentions, forgotten_none, forgotten_full}, Declaring.zero_fits, Leaving.leaves_typed}
+use Rattle.sharc_typed_laws.proofs.{Fitting.fits_same, Standing.{without_same, uncopied}, Telling.{told, other_than}, Rules.on_move, Moves.{on_pop_named, on_move_reference, on_stay}, Handing.on_return, Parts.{At, does, then_do, none, constant_at}, Accessed.Frame, Expressing.{bare_frame, null_at}, Simple.{Comes, reference_kept, number_kept, rights}, Ending.{forgotten_same, forgotten_mentions, forgotten_none}, Declaring.zero_fits, Leaving.leaves_typed, After.forgotten_full}
 use Rattle.sharc_lemmas.proofs.Options.{no_guard as none_some}
 
 -- what is a reference is no integer
@@ -28,9 +27,7 @@ no_integer (object b n) h = by (nat_lt 0 n) refl h
     by : (z : Bool) → nat_lt 0 n ≡ z → (z || false) ≡ true → is_integer (object b n) ≡ false
     by true low h = apart (n == 0) refl (ltb-true 0 n low)
     by false low h = absurd (false≢true h)
-no_integer (array b n) h = refl
-no_integer kinds.null h = refl
-no_integer kinds.function h = refl
+no_integer _ h = refl
 
 module _ (z : Setting) (f : ℕ) (ways : List Way) where
   abbrev fi : ℕ

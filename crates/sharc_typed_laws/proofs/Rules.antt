@@ -1,6 +1,6 @@
 -- Each operation by itself: what is asked of what is said before its line, and what may be said before the next one.
 use Rattle.std.proofs.{Common.{◌≡◌, ℕ, ◌+◌, ◌<◌, ◌≤◌, true, List, [], Some, subst, inl, inr, ℤ}, lemmas.Bool.false≢true, lemmas.Option.none-some}
-use Rattle.sharc_code.specs.{declared.instr.Operator.Operator, declared.instr.Width.Width, declared.instr.Width.TheVariants.{Char, Int, Long}, Runs.put}
+use Rattle.sharc_code.specs.{declared.instr.Operator.Operator, declared.instr.Width.Width, declared.instr.Width.TheVariants.Char, Runs.put}
 use Rattle.sharc_flat.specs.{declared.op.Op.Op, declared.op.Spot.Spot, Framed.{IsWide, OpWrites}}
 use Rattle.sharc_flat.specs.declared.op.Op.TheVariants as op
 use Rattle.sharc_guard.specs.Known.{Access, access, Know, know_next, is_straight}
@@ -133,15 +133,12 @@ module _ (around : Setting) (f : ℕ) (table : ℕ → Mark) (pc : ℕ) (s : Mar
     pub on_compute : (w : Width) (o : Operator) (i a b : ℕ) (spot : Spot) → Plain around f s → i < ints_in around.code s.label.function → IsWide w → Operands s.label w o a b
         → Less (set_number s.label i (Within w)) e.label → Told (op.Compute w o i a b spot) → IsLine around f table pc s (op.Compute w o i a b spot)
     on_compute Char o i a b spot plain int wide operands less told = absurd wide
-    on_compute Int o i a b spot plain int wide operands less told = goes_on (op.Compute Int o i a b spot) (λ a z. absurd (none-some a z)) plain told
-        (λ dropped passes repeats jumps on. (record { left = operands.left; right = operands.right }, (plain.closed, int, lesser (set_number s.label i (Within Int)) (passes pc) (passes (pc + 1)) less on)))
-    on_compute Long o i a b spot plain int wide operands less told = goes_on (op.Compute Long o i a b spot) (λ a z. absurd (none-some a z)) plain told
-        (λ dropped passes repeats jumps on. (record { left = operands.left; right = operands.right }, (plain.closed, int, lesser (set_number s.label i (Within Long)) (passes pc) (passes (pc + 1)) less on)))
+    on_compute k o i a b spot plain int wide operands less told = goes_on (op.Compute k o i a b spot) (λ a z. absurd (none-some a z)) plain told
+        (λ dropped passes repeats jumps on. (record { left = operands.left; right = operands.right }, (plain.closed, int, lesser (set_number s.label i (Within k)) (passes pc) (passes (pc + 1)) less on)))
 
     pub on_negate : (w : Width) (i a : ℕ) (spot : Spot) → Plain around f s → i < ints_in around.code s.label.function → IsWide w → Less (set_number s.label i (Within w)) e.label → Told (op.Negate w i a spot) → IsLine around f table pc s (op.Negate w i a spot)
     on_negate Char i a spot plain int wide less told = absurd wide
-    on_negate Int i a spot plain int wide less told = goes_on (op.Negate Int i a spot) (λ a z. absurd (none-some a z)) plain told (λ dropped passes repeats jumps on. (plain.closed, int, lesser (set_number s.label i (Within Int)) (passes pc) (passes (pc + 1)) less on))
-    on_negate Long i a spot plain int wide less told = goes_on (op.Negate Long i a spot) (λ a z. absurd (none-some a z)) plain told (λ dropped passes repeats jumps on. (plain.closed, int, lesser (set_number s.label i (Within Long)) (passes pc) (passes (pc + 1)) less on))
+    on_negate k i a spot plain int wide less told = goes_on (op.Negate k i a spot) (λ a z. absurd (none-some a z)) plain told (λ dropped passes repeats jumps on. (plain.closed, int, lesser (set_number s.label i (Within k)) (passes pc) (passes (pc + 1)) less on))
 
     pub on_complement : (i a : ℕ) (w : Width) → Plain around f s → i < ints_in around.code s.label.function → FitsWidth (s.label.ints a) w → Less (set_number s.label i (Within w)) e.label → Told (op.Complement i a) → IsLine around f table pc s (op.Complement i a)
     on_complement i a w plain int fits less told = goes_on (op.Complement i a) (λ a z. absurd (none-some a z)) plain told (λ dropped passes repeats jumps on. (w, fits, (plain.closed, int, lesser (set_number s.label i (Within w)) (passes pc) (passes (pc + 1)) less on)))

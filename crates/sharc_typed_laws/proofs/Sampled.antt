@@ -91,14 +91,12 @@ module _ (code : Code) (is : IsSampleCode code) where
       high_one (suc g) lt = absurd (omega arith)
 
       small : (j : ℕ) → slice_index (0 ∷ 0 ∷ []) j < 2 ^ 64
-      small zero = omega arith
-      small (suc zero) = omega arith
       small (suc (suc j)) = omega arith
+      small _ = omega arith
 
       fits : (j : ℕ) → Initial (global_field the_targets j).holds (slice_index (0 ∷ 0 ∷ []) j)
-      fits zero = refl
-      fits (suc zero) = refl
       fits (suc (suc j)) = refl
+      fits _ = refl
 
   abbrev T : ℕ → Op → Type 0
   T = TypedAnyhow the_targets code the_labels 6
@@ -153,15 +151,13 @@ module _ (code : Code) (is : IsSampleCode code) where
   one_base p h = ⊎_elim (λ (i : record { write = true; base = None; cell = 0 } ≡ p). sym (ap (λ (p : Pass). p.base) i)) (λ k. absurd k) h
 
   bases : (n : ℕ) → Bases (passes_in the_flat n)
-  bases zero = none_bases
-  bases (suc zero) = none_bases
-  bases (suc (suc zero)) = none_bases
   bases (suc (suc (suc zero))) = one_base
   bases (suc (suc (suc (suc zero)))) = one_base
   bases (suc (suc (suc (suc (suc zero))))) = one_base
   bases (suc (suc (suc (suc (suc (suc n)))))) =
       let e : nat_lt (suc (suc (suc (suc (suc (suc n)))))) 6 ≡ false = grind (arith, nat_tests) in
       subst (λ b. Bases (if b then passes_before the_flat (suc (suc (suc (suc (suc (suc n)))))) else [])) (sym e) none_bases
+  bases _ = none_bases
 
   number : SimplePlace → ℕ
   number (in_global g n) = n
@@ -192,20 +188,13 @@ module _ (code : Code) (is : IsSampleCode code) where
   scoped : (n : ℕ) → n < 6 → IsScoped (ints_in code (the_labels.lines.at n).function) (refs_in code (the_labels.lines.at n).function) (the_labels.lines.at n)
   scoped zero lt = scoped_first
   scoped (suc zero) lt = scoped_first
-  scoped (suc (suc zero)) lt = scoped_second
-  scoped (suc (suc (suc zero))) lt = scoped_second
-  scoped (suc (suc (suc (suc zero)))) lt = scoped_second
   scoped (suc (suc (suc (suc (suc zero))))) lt = scoped_third
   scoped (suc (suc (suc (suc (suc (suc n)))))) lt = absurd (omega arith)
+  scoped _ lt = scoped_second
 
   owned : (n : ℕ) → n < 6 → (f : ℕ) × ((the_labels.lines.at n).function ≡ Some f)
-  owned zero lt = (0, refl)
-  owned (suc zero) lt = (0, refl)
-  owned (suc (suc zero)) lt = (0, refl)
-  owned (suc (suc (suc zero))) lt = (0, refl)
-  owned (suc (suc (suc (suc zero)))) lt = (0, refl)
-  owned (suc (suc (suc (suc (suc zero))))) lt = (0, refl)
   owned (suc (suc (suc (suc (suc (suc n)))))) lt = absurd (omega arith)
+  owned _ lt = (0, refl)
 
   low : (n : ℕ) (o : Op) (a : Access) (g place : ℕ) → slice_get the_flat.lines n ≡ Some o → access o ≡ Some a → place_of (known the_flat n) a.cell ≡ Some (in_global g place) → 2 ≤ place
   low zero o a g place at e = absurd (none-some a (ap access (same_Some op.Enter o at) ∙ e))

@@ -7,7 +7,7 @@ use Rattle.sharc_code.specs.declared.instr.Cell.TheVariants as cells
 use Rattle.sharc_code.proofs.Places.{put_all, put_other}
 use Rattle.sharc_flat.specs.{declared.op.Op.Op, declared.op.Spot.Spot}
 use Rattle.sharc_flat.specs.declared.op.Op.TheVariants as op
-use Rattle.sharc_invariant.specs.{Types.{Targets, StaticType, Field, FieldMode, Mentions, cells_of}, Types.FieldMode.{Private, Readonly, Racy, Dynamic, Under, Behind}, Labels.{Entry, Empty, Refers, Unknown, Named, Nth, Number, Anything, Exactly, Within, Indexes, OfElement, OfGlobal, Gate, Loaded, Sole, Pass, IsIn, Label, Labels, IsScoped, EntryMentions, empty, without_base}, Typed.{HasField, IsMode, knows_base, ints_in, refs_in}}
+use Rattle.sharc_invariant.specs.{Types.{Targets, StaticType, Field, FieldMode, Mentions, cells_of}, Types.FieldMode.{Private, Readonly, Racy, Dynamic, Under}, Labels.{Entry, Empty, Refers, Nth, Number, OfElement, OfGlobal, Gate, Loaded, Sole, Pass, IsIn, Label, Labels, IsScoped, EntryMentions, empty, without_base}, Typed.{HasField, IsMode, knows_base, ints_in, refs_in}}
 use Rattle.sharc_invariant.proofs.{Frames.kept_pass, Scoped.{scoped_gate, scoped_fill, scoped_empty}}
 use Rattle.sharc_typed_laws.specs.{Inside.{global_pass, global_element_pass, element_pass, pass_of, with_pass, known_behind, passed_behind, behind, before_check, lock_of, exchanged, inside}, Lines.{PassesCheck, MayPass, TypedLine}}
 use Rattle.sharc_typed_laws.proofs.Checking.{global_is}
@@ -23,31 +23,21 @@ refers_some e s is none = let z : Refers s ≡ Empty = sym is ∙ none in cc
 module _ (x : Targets) (code : Code) (ints refs : ℕ) (l : Label) (h : IsScoped ints refs l) where
   -- ---- a mutex is looked at
   knows_scoped : (m : Cell) (f : Field) → HasField x code l m f → (r : ℕ) → (knows_base l m).known r ≡ true → l.env r ≢ Empty
-  knows_scoped (cells.Global g p) f has r e = h.known r e
-  knows_scoped (cells.GlobalAt g i) f has r e = h.known r e
   knows_scoped (cells.Object q i) f has r e = put_all (λ r (b : Bool). b ≡ true → l.env r ≢ Empty) l.known q true (λ _. refers_some (l.env q) has.1.0 has.1.1) (λ r _ e. h.known r e) r e
   knows_scoped (cells.ObjectAt q i) f has r e = put_all (λ r (b : Bool). b ≡ true → l.env r ≢ Empty) l.known q true (λ _. refers_some (l.env q) has.1.0 has.1.3) (λ r _ e. h.known r e) r e
+  knows_scoped _ f has r e = h.known r e
 
   by_lock : (spot : Spot) (mode : PlaceMode) (f : Field) → HasField x code l (lock_of spot mode) f → (r : ℕ) → known_behind l spot mode r ≡ true → l.env r ≢ Empty
   by_lock spot (modes.LockedSibling a b) f has r e = knows_scoped spot.lock f has r e
   by_lock spot (modes.LockedThrough q p) f has r e = knows_scoped (cells.Object q p) f has r e
-  by_lock spot (modes.LockedGlobal g p) f has r e = h.known r e
-  by_lock spot modes.Private f has r e = h.known r e
-  by_lock spot modes.Readonly f has r e = h.known r e
-  by_lock spot modes.Racy f has r e = h.known r e
-  by_lock spot modes.Dynamic f has r e = h.known r e
-  by_lock spot modes.LockedLoaded f has r e = h.known r e
+  by_lock spot _ f has r e = h.known r e
 
   abbrev KnownScoped : Spot → PlaceMode → Type 0
   KnownScoped spot mode = (r : ℕ) → known_behind l spot mode r ≡ true → l.env r ≢ Empty
 
   known_scoped : (ls : Labels) (dropped write : Bool) (c : Cell) (spot : Spot) (f : Field) (mode : PlaceMode) (fm : FieldMode) → IsMode code l c fm mode → MayPass x code ls dropped l write c (lock_of spot mode) f.holds fm → KnownScoped spot mode
-  known_scoped ls dropped write c spot f mode Private e k = subst (KnownScoped spot) (sym e) h.known
-  known_scoped ls dropped write c spot f mode Readonly e k = subst (KnownScoped spot) (sym e) h.known
-  known_scoped ls dropped write c spot f mode Racy e k = subst (KnownScoped spot) (sym e) h.known
-  known_scoped ls dropped write c spot f mode Dynamic e k = subst (KnownScoped spot) (sym e) h.known
   known_scoped ls dropped write c spot f mode (Under lock) e k = by_lock spot mode k.1.field k.1.has
-  known_scoped ls dropped write c spot f mode (Behind field pointer) e k = subst (KnownScoped spot) (sym e) h.known
+  known_scoped ls dropped write c spot f mode _ e k = subst (KnownScoped spot) (sym e) h.known
 
   -- ---- a check is remembered
   same_full : (r : ℕ) → l.env r ≢ Empty → l.env (l.same r) ≢ Empty
@@ -67,25 +57,13 @@ module _ (x : Targets) (code : Code) (ints refs : ℕ) (l : Label) (h : IsScoped
 
   by_global_element : (write : Bool) (n : Number) (p : Pass) → global_element_pass write n ≡ Some p → PassScoped p
   by_global_element write (OfGlobal first count elements (Nth e)) p is = by_global write _ p is
-  by_global_element write (OfGlobal first count elements (Named m)) p is = absurd (none-some p is)
-  by_global_element write Anything p is = absurd (none-some p is)
-  by_global_element write (Exactly z) p is = absurd (none-some p is)
-  by_global_element write (Within w) p is = absurd (none-some p is)
-  by_global_element write (Indexes m) p is = absurd (none-some p is)
-  by_global_element write (OfElement b f e) p is = absurd (none-some p is)
+  by_global_element write _ p is = absurd (none-some p is)
 
   by_element : (write : Bool) (r : ℕ) → l.env r ≢ Empty → (entry : Entry) (n : Number) (p : Pass) → element_pass x l write r entry n ≡ Some p → PassScoped p
   by_element write r full (Refers s) (OfElement b f (Nth k)) p is =
       let same = same_Some (record { write = write; base = Some (l.same r); cell = k * cells_of x s.target + f }) p is in
       λ q base. by_base p r q full (ap (λ (p : Pass). p.base) same) base
-  by_element write r full (Refers s) (OfElement b f (Named m)) p is = absurd (none-some p is)
-  by_element write r full (Refers s) Anything p is = absurd (none-some p is)
-  by_element write r full (Refers s) (Exactly z) p is = absurd (none-some p is)
-  by_element write r full (Refers s) (Within w) p is = absurd (none-some p is)
-  by_element write r full (Refers s) (Indexes m) p is = absurd (none-some p is)
-  by_element write r full (Refers s) (OfGlobal a b c d) p is = absurd (none-some p is)
-  by_element write r full Empty n p is = absurd (none-some p is)
-  by_element write r full Unknown n p is = absurd (none-some p is)
+  by_element write r full _ _ p is = absurd (none-some p is)
 
   pass_scoped : (write : Bool) (c : Cell) (f : Field) → HasField x code l c f → (p : Pass) → pass_of x l write c ≡ Some p → PassScoped p
   pass_scoped write (cells.Global g q) f has p e = by_global write q p e
@@ -113,18 +91,10 @@ module _ (x : Targets) (code : Code) (ints refs : ℕ) (l : Label) (h : IsScoped
   check_scoped true modes.Readonly labels k = k
   check_scoped true modes.Racy labels k = k
   check_scoped true modes.Dynamic labels k = k
-  check_scoped true (modes.LockedGlobal g p) labels k = (h, k)
-  check_scoped true (modes.LockedSibling f m) labels k = (h, k)
-  check_scoped true (modes.LockedThrough r p) labels k = (h, k)
-  check_scoped true modes.LockedLoaded labels k = (h, k)
   check_scoped false modes.Private labels k = k
   check_scoped false modes.Readonly labels k = k
   check_scoped false modes.Racy labels k = k
-  check_scoped false modes.Dynamic labels k = (h, k)
-  check_scoped false (modes.LockedGlobal g p) labels k = (h, k)
-  check_scoped false (modes.LockedSibling f m) labels k = (h, k)
-  check_scoped false (modes.LockedThrough r p) labels k = (h, k)
-  check_scoped false modes.LockedLoaded labels k = (h, k)
+  check_scoped _ _ labels k = (h, k)
 
   tested_scoped : (r : ℕ) (gate : Gate) → IsScoped ints refs (record l { gate = gate; passed = without_base r l.passed })
   tested_scoped r gate = over ints refs l l.known gate (without_base r l.passed) h h.known (λ p q among. h.passes p q (kept_pass r l.passed p among).0)

@@ -151,8 +151,6 @@ module _ (around : Setting) (f : ℕ) (ways : List Way) (y : Typing) (c : Contex
   frame_same from i r i2 r2 l fr a b = subst (λ k. F from i2 k l) b (subst (λ k. F from k r l) a fr)
 
   placed_frame : (from i r : ℕ) (l : Label) (fr : F from i r l) (t : Target) (guard : Option ℕ) (ground : Ground) (e : Element) (v : ℕ) → IsNamed N r ground.base → v ≤ r → F from (i + index_width t guard) (r + base_width t) (placed around f D y c low from t guard ground e i r v l).label
-  placed_frame from i r l fr (variable x) guard ground e v fits small = frame_same from i r (i + 0) (r + 0) (record l { gate = Closed }) (subst (F from i r) (shut from i r l fr) fr) (omega arith) (omega arith)
-  placed_frame from i r l fr (in_global g n) guard ground e v fits small = frame_same from i r (i + 0) (r + 0) (record l { gate = Closed }) (subst (F from i r) (shut from i r l fr) fr) (omega arith) (omega arith)
   placed_frame from i r l fr (in_global_at g n) None ground e v fits small = let a = number_in_global c.globals ground e g n in frame_same from (i + 1) r (i + 1) (r + 0) (set_number l i a) (frame_number around f ways y c low from i r l fr a (λ q b. absurd b)) refl (omega arith)
   placed_frame from i r l fr (in_global_at g n) (Some m) ground e v fits small =
       let a = number_in_global c.globals ground e g n in
@@ -173,6 +171,7 @@ module _ (around : Setting) (f : ℕ) (ways : List Way) (y : Typing) (c : Contex
     where
       of_base : (q : ℕ) → r ≡ q → (top ≤ q) × (q < r + 1)
       of_base q b = let high = fr.high in (omega (arith, high, b), omega (arith, b))
+  placed_frame from i r l fr _ guard ground e v fits small = frame_same from i r (i + 0) (r + 0) (record l { gate = Closed }) (subst (F from i r) (shut from i r l fr) fr) (omega arith) (omega arith)
 
   -- what is lost of its base while the value is found
   record PlacedLess (from i r : ℕ) (t : Target) (guard : Option ℕ) (ground : Ground) (e : Element) (v : ℕ) (l : Label) (lost : ℕ → ℕ) : Type 0 where
@@ -187,29 +186,18 @@ module _ (around : Setting) (f : ℕ) (ways : List Way) (y : Typing) (c : Contex
   placed_less from i r (variable x) guard ground e v l small copies lost h = record { copy = v; small = small; copies = copies; fewer = lost; loses = h; is = refl }
   placed_less from i r (in_global g n) guard ground e v l small copies lost h = record { copy = v; small = small; copies = copies; fewer = lost; loses = h; is = refl }
   placed_less from i r (in_global_at g n) guard ground e v l small copies lost h = record { copy = v; small = small; copies = copies; fewer = lost; loses = h; is = refl }
-  placed_less from i r (in_object n) guard ground e v l small copies lost h = record {
+  placed_less from i r k guard ground e v l small copies lost h = record {
     copy = lost r;
     small = small_there N l.same r v lost h small;
     copies = pointer_kept y c v (lost r) r (loses_there N l.same r v lost h) ground.pointer copies;
     fewer = below l.same r lost;
     loses = loses_below N l.same r v lost h;
-    is = ap (λ m. over m (ints_of around f D y c low from (in_object n) guard ground e i r l.ints) Closed) (lost_fill l r (Refers ground.base) v true lost);
-  }
-  placed_less from i r (in_object_at n) guard ground e v l small copies lost h = record {
-    copy = lost r;
-    small = small_there N l.same r v lost h small;
-    copies = pointer_kept y c v (lost r) r (loses_there N l.same r v lost h) ground.pointer copies;
-    fewer = below l.same r lost;
-    loses = loses_below N l.same r v lost h;
-    is = ap (λ m. over m (ints_of around f D y c low from (in_object_at n) guard ground e i r l.ints) Closed) (lost_fill l r (Refers ground.base) v true lost);
+    is = ap (λ m. over m (ints_of around f D y c low from k guard ground e i r l.ints) Closed) (lost_fill l r (Refers ground.base) v true lost);
   }
 
   store_is : (i r vi vr : ℕ) (site : Site) (lvalue : Lvalue) (mode : Sharing) (b : Bool) (t : Target) → is_cell t ≡ true → cell_store_code c i r vi vr site lvalue mode b t ≡ store_code c i r vi vr site lvalue mode b t
   store_is i r vi vr site lvalue mode b (variable x) h = absurd (false≢true h)
-  store_is i r vi vr site lvalue mode b (in_global g n) h = refl
-  store_is i r vi vr site lvalue mode b (in_global_at g n) h = refl
-  store_is i r vi vr site lvalue mode b (in_object n) h = refl
-  store_is i r vi vr site lvalue mode b (in_object_at n) h = refl
+  store_is i r vi vr site lvalue mode b _ h = refl
 
   -- ---- to a cell
   -- what was said at first is said again, but of copies that are lost
@@ -357,7 +345,4 @@ module _ (around : Setting) (f : ℕ) (ways : List Way) (y : Typing) (c : Contex
           → Q from (mark l from i) (place_code c i r (span_of u).first None (guard_of c u) u ++ (right_code c (i + index_width t (guard_of c u)) (r + base_width t) (kind_of c u) (pointed c.program (row_at c.program.typed u)) x
           ++ store_code c i r (i + index_width t (guard_of c u)) (r + base_width t) (span_of u).first (lvalue_in c u) (mode_of c u) (is_ref c u) t)) (mark l from i)
       by (variable v) p a right = variable_assigned from i r l fr alone whole (kind_of c u) (pointed c.program (row_at c.program.typed u)) h.1.0 v x (place_code c i r (span_of u).first None (guard_of c u) u) h.1.1 a right (subst (λ k. Q from (mark l from i) (place_code c i r (span_of u).first None (guard_of c u) u) (mark (record k { gate = Closed }) from (i + 0))) (kept N l p.lost p.loses alone) p.piece)
-      by (in_global g n) p a right = all_kept from i l alone _ (cell_assigned from i r l fr u h.1.0 (pointed c.program (row_at c.program.typed u)) x (in_global g n) refl (place_code c i r (span_of u).first None (guard_of c u) u) p a h.1.1 right)
-      by (in_global_at g n) p a right = all_kept from i l alone _ (cell_assigned from i r l fr u h.1.0 (pointed c.program (row_at c.program.typed u)) x (in_global_at g n) refl (place_code c i r (span_of u).first None (guard_of c u) u) p a h.1.1 right)
-      by (in_object n) p a right = all_kept from i l alone _ (cell_assigned from i r l fr u h.1.0 (pointed c.program (row_at c.program.typed u)) x (in_object n) refl (place_code c i r (span_of u).first None (guard_of c u) u) p a h.1.1 right)
-      by (in_object_at n) p a right = all_kept from i l alone _ (cell_assigned from i r l fr u h.1.0 (pointed c.program (row_at c.program.typed u)) x (in_object_at n) refl (place_code c i r (span_of u).first None (guard_of c u) u) p a h.1.1 right)
+      by k p a right = all_kept from i l alone _ (cell_assigned from i r l fr u h.1.0 (pointed c.program (row_at c.program.typed u)) x k refl (place_code c i r (span_of u).first None (guard_of c u) u) p a h.1.1 right)

@@ -3,7 +3,7 @@ use Rattle.std.proofs.{Common.{◌≡◌, ◌≢◌, ℕ, ◌+◌, ◌<◌, ◌�
 use Rattle.std.specs.Prelude.{nat_eq}
 use Rattle.sharc_code.specs.Runs.{put}
 use Rattle.sharc_code.proofs.Places.{put_same, put_other, put_all}
-use Rattle.sharc_invariant.specs.{Types.StaticType, Labels.{Entry, Empty, Refers, Number, Anything, Exactly, Within, Indexes, OfElement, OfGlobal, Gate, Closed, IsIn, Label, Less, IsCopy, LessEntry, LessNumber, LessGate, EntryMentions, HasBase, IsScoped, IsFree, set_number, fill, empty, without_copies, without_index}}
+use Rattle.sharc_invariant.specs.{Types.StaticType, Labels.{Entry, Empty, Refers, Number, Anything, OfElement, Gate, Closed, IsIn, Label, Less, IsCopy, LessEntry, LessNumber, LessGate, EntryMentions, HasBase, IsScoped, IsFree, set_number, fill, empty, without_copies, without_index}}
 use Rattle.sharc_invariant.proofs.Scoped.{less_entry_refl, less_number_refl, less_gate_refl}
 use Rattle.sharc_typed_laws.specs.Places.{RegistersStand, IsNamed}
 
@@ -21,10 +21,10 @@ less_by a b function env same known ints gate passed room = record {
   room = room;
 }
 
-entry_is : (l : Label) (r : ℕ) (a b : Entry) → a ≡ b → LessEntry l r a b
+pub entry_is : (l : Label) (r : ℕ) (a b : Entry) → a ≡ b → LessEntry l r a b
 entry_is l r a b e = subst (LessEntry l r a) e (less_entry_refl l r a)
 
-number_is : (a b : Number) → a ≡ b → LessNumber a b
+pub number_is : (a b : Number) → a ≡ b → LessNumber a b
 number_is a b e = subst (LessNumber a) e (less_number_refl a)
 
 gate_is : (a b : Gate) → a ≡ b → LessGate a b
@@ -41,16 +41,12 @@ pub record Unnamed (l : Label) (r : ℕ) : Type 0 where
   pub nothing_passed : l.passed ≡ []
 
 pub without_same : (r : ℕ) (n : Number) → (HasBase n r → ⊥) → without_index r n ≡ n
-without_same r Anything none = refl
-without_same r (Exactly z) none = refl
-without_same r (Within w) none = refl
-without_same r (Indexes m) none = refl
-without_same r (OfGlobal first count elements e) none = refl
 without_same r (OfElement base field e) none = by (nat_eq base r) refl
   where
     by : (b : Bool) → nat_eq base r ≡ b → cond b Anything (OfElement base field e) ≡ OfElement base field e
     by true e = let z : base ≡ r = grind (arith, nat_tests, e) in absurd (none z)
     by false e = refl
+without_same r _ none = refl
 
 pub uncopied : (same : ℕ → ℕ) (r q : ℕ) → (same q ≡ r → ⊥) → without_copies same r q ≡ same q
 uncopied same r q apart = by (nat_eq (same q) r) refl

@@ -24,16 +24,8 @@ pub record Below : Type 0 where
   pub values_return : ValuesReturn
 
 same_context : (x : Statement) → is_declaration x ≡ false → (c : Context) → behind_statement c x ≡ c
-same_context (empty s) e c = refl
-same_context (block s all) e c = refl
 same_context (declare s l) e c = absurd (false≢true (sym e))
-same_context (simple s x) e c = refl
-same_context (jump s j) e c = refl
-same_context (return s v) e c = refl
-same_context (if_then s v a) e c = refl
-same_context (if_then_else s v a b) e c = refl
-same_context (while s v a) e c = refl
-same_context (for s h a) e c = refl
+same_context _ e c = refl
 
 -- the value, its width, the ends of blocks, the result, and back
 value_parts : (a b d e g : List Op) → (a ++ (b ++ (d ++ e))) ++ g ≡ a ++ (b ++ (d ++ (e ++ g)))

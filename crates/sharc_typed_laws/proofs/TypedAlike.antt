@@ -3,7 +3,7 @@ use Rattle.std.proofs.Common.{◌≡◌, ℕ, Bool, true, List, [], ◌∷◌, O
 use Rattle.std.specs.Prelude.{slice_index_or}
 use Rattle.sharc_code.specs.{declared.code.Code.Code, declared.code.PlaceMode.PlaceMode, declared.instr.Cell.Cell}
 use Rattle.sharc_code.specs.declared.instr.Cell.TheVariants as cells
-use Rattle.sharc_invariant.specs.{Types.{Targets, Lock, StaticType, Field, FieldLock, FieldMode, Content}, Types.Lock.{Global, Through, Self}, Types.FieldLock.{OfType, OfGlobals, OfElement}, Types.FieldMode.{Private, Readonly, Racy, Dynamic, Under, Behind}, Types.Content.{Integer, MutexWord, Waiters, Pointer}, Labels.{Entry, Empty, Refers, Unknown, Gate, Pass, Label, SameReference, Itself, IsCopy, HasCopy, Copies, Chained, SameLock, AllSame, LessEntry}, Typed.{HasField, HasBase, HasCell, IsSibling, IsLockCell, IsTypeLock, IsMutexOf, IsLockMode, IsTypeMode, HasBefore, IsMode, IsFieldLock, IsAnyLock, AreFieldLocks, PointsTo, IsSameFieldLock, IsSameContent, Recasts, IsPlace, no_lock}}
+use Rattle.sharc_invariant.specs.{Types.{Targets, Lock, StaticType, Field, FieldLock, FieldMode, Content}, Types.Lock.{Global, Through, Self}, Types.FieldLock.{OfType, OfGlobals, OfElement}, Types.FieldMode.Under, Types.Content.Pointer, Labels.{Entry, Empty, Refers, Unknown, Gate, Pass, Label, SameReference, Itself, IsCopy, HasCopy, Copies, Chained, SameLock, AllSame, LessEntry}, Typed.{HasField, HasBase, HasCell, IsSibling, IsLockCell, IsTypeLock, IsMutexOf, IsLockMode, IsTypeMode, HasBefore, IsMode, IsFieldLock, IsAnyLock, AreFieldLocks, PointsTo, IsSameFieldLock, IsSameContent, Recasts, IsPlace, no_lock}}
 
 pub all_same : {A B : Type 0} (R S : A → B → Type 0) (each : (a : A) (b : B) → R a b → S a b) (xs : List A) (ys : List B) → AllSame R xs ys → AllSame S xs ys
 all_same R S each [] [] h = tt
@@ -23,15 +23,12 @@ module _ (l : Label) (known : ℕ → Bool) (gate : Gate) (passed : List Pass) w
 
   pub has_field : (x : Targets) (code : Code) (c : Cell) (f : Field) → HasField x code l c f → HasField x code b c f
   has_field x code (cells.Global g p) f h = h
-  has_field x code (cells.GlobalAt g i) f h = h
-  has_field x code (cells.Object r i) f h = h
-  has_field x code (cells.ObjectAt r i) f h = h
+  has_field x code _ f h = h
 
   has_base : ((r : ℕ) → l.known r ≡ true → known r ≡ true) → (c : Cell) → HasBase l c → HasBase b c
-  has_base more (cells.Global g p) h = h
-  has_base more (cells.GlobalAt g i) h = h
   has_base more (cells.Object r i) h = more r h
   has_base more (cells.ObjectAt r i) h = more r h
+  has_base more _ h = h
 
   pub has_cell : ((r : ℕ) → l.known r ≡ true → known r ≡ true) → (x : Targets) (code : Code) (c : Cell) (f : Field) → HasCell x code l c f → HasCell x code b c f
   has_cell more x code c f h = record { field = has_field x code c f h.field; base = has_base more c h.base }
@@ -71,19 +68,13 @@ module _ (l : Label) (known : ℕ → Bool) (gate : Gate) (passed : List Pass) w
 
   before : (code : Code) (field : ℕ) (c : Cell) → HasBefore code l field c → HasBefore code b field c
   before code field (cells.Global g p) h = h
-  before code field (cells.GlobalAt g i) h = h
-  before code field (cells.Object r i) h = h
-  before code field (cells.ObjectAt r i) h = h
+  before code field _ h = h
 
   pub mode_is : (code : Code) (c : Cell) (f : FieldMode) (mode : PlaceMode) → IsMode code l c f mode → IsMode code b c f mode
-  mode_is code c Private mode h = h
-  mode_is code c Readonly mode h = h
-  mode_is code c Racy mode h = h
-  mode_is code c Dynamic mode h = h
   mode_is code c (Under (OfType k)) mode h = type_mode code k c mode h
   mode_is code c (Under (OfGlobals j)) mode h = lock_mode code 0 (Global j) mode h
   mode_is code c (Under (OfElement field mutex)) mode h = (h.0, before code field c h.1)
-  mode_is code c (Behind field pointer) mode h = h
+  mode_is code c _ mode h = h
 
   pub same_lock : (r : ℕ) (s t : Lock) → SameLock l r s t → SameLock b r s t
   same_lock r (Global i) (Global j) h = h
@@ -109,14 +100,12 @@ module _ (l : Label) (known : ℕ → Bool) (gate : Gate) (passed : List Pass) w
 
   any_lock : (r : ℕ) (s : StaticType) (lock : Lock) (f : FieldLock) → IsAnyLock l r s lock f → IsAnyLock b r s lock f
   any_lock r s lock (OfElement field mutex) h = h
-  any_lock r s lock (OfType k) h = field_lock r 0 s lock (OfType k) h
-  any_lock r s lock (OfGlobals k) h = field_lock r 0 s lock (OfGlobals k) h
+  any_lock r s lock j h = field_lock r 0 s lock j h
 
   field_locks : (c : Cell) (locks : List Lock) (fields : List FieldLock) → AreFieldLocks l c locks fields → AreFieldLocks b c locks fields
-  field_locks (cells.Global g p) locks fields h = h
-  field_locks (cells.GlobalAt g i) locks fields h = h
   field_locks (cells.Object r i) locks fields h = (h.0, h.1, all_same (IsFieldLock l r i h.0) (IsFieldLock b r i h.0) (field_lock r i h.0) locks fields h.2)
   field_locks (cells.ObjectAt r i) locks fields h = (h.0, h.1, all_same (IsAnyLock l r h.0) (IsAnyLock b r h.0) (any_lock r h.0) locks fields h.2)
+  field_locks _ locks fields h = h
 
   pub points_to : (c : Cell) (f : Field) (s : StaticType) → PointsTo l c f s → PointsTo b c f s
   points_to c f s h = record { to = h.to; holds = h.holds; target = h.target; locks = field_locks c s.locks h.to.locks h.locks }
@@ -129,18 +118,12 @@ module _ (l : Label) (known : ℕ → Bool) (gate : Gate) (passed : List Pass) w
 
   same_content : (r : ℕ) (s t : StaticType) (f g : Content) → IsSameContent l r s t f g → IsSameContent b r s t f g
   same_content r s t (Pointer f) (Pointer g) h = (h.0, all_same (IsSameFieldLock l r s t) (IsSameFieldLock b r s t) (same_field_lock r s t) f.locks g.locks h.1)
-  same_content r s t (Pointer f) (Integer w) h = h
-  same_content r s t (Pointer f) MutexWord h = h
-  same_content r s t (Pointer f) Waiters h = h
-  same_content r s t (Integer w) g h = h
-  same_content r s t MutexWord g h = h
-  same_content r s t Waiters g h = h
+  same_content r s t _ _ h = h
 
   pub recasts : (x : Targets) (r : ℕ) (s t : StaticType) → Recasts x l r s t → Recasts x b r s t
   recasts x r s t h = record { some = h.some; is_row = h.is_row; cells = h.cells; same = λ field lt. same_content r s t _ _ (h.same field lt) }
 
   pub place_is : (x : Targets) (c : Cell) (base : Option ℕ) (n : ℕ) → IsPlace x l c base n → IsPlace x b c base n
-  place_is x (cells.Global g p) base n h = h
-  place_is x (cells.GlobalAt g i) base n h = h
   place_is x (cells.Object r i) base n h = (h.0, (h.1.0, h.1.1, same_reference r h.1.0 h.1.2))
   place_is x (cells.ObjectAt r i) base n h = (h.0, h.1, h.2, h.3, h.4, same_reference r h.0 h.5, h.6, h.7, h.8)
+  place_is x _ base n h = h

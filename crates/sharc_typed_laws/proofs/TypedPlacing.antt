@@ -52,18 +52,10 @@ check_length l true dynamic spot n modes.Private labels own tail e = e
 check_length l true dynamic spot n modes.Readonly labels own tail e = e
 check_length l true dynamic spot n modes.Racy labels own tail e = e
 check_length l true dynamic spot n modes.Dynamic labels own tail e = e
-check_length l true dynamic spot n (modes.LockedGlobal g p) labels own tail e = ap suc e
-check_length l true dynamic spot n (modes.LockedSibling f m) labels own tail e = ap suc e
-check_length l true dynamic spot n (modes.LockedThrough r p) labels own tail e = ap suc e
-check_length l true dynamic spot n modes.LockedLoaded labels own tail e = ap suc e
 check_length l false dynamic spot n modes.Private labels own tail e = e
 check_length l false dynamic spot n modes.Readonly labels own tail e = e
 check_length l false dynamic spot n modes.Racy labels own tail e = e
-check_length l false dynamic spot n modes.Dynamic labels own tail e = ap suc e
-check_length l false dynamic spot n (modes.LockedGlobal g p) labels own tail e = ap suc e
-check_length l false dynamic spot n (modes.LockedSibling f m) labels own tail e = ap suc e
-check_length l false dynamic spot n (modes.LockedThrough r p) labels own tail e = ap suc e
-check_length l false dynamic spot n modes.LockedLoaded labels own tail e = ap suc e
+check_length l _ dynamic spot n _ labels own tail e = ap suc e
 
 inside_length : (x : Targets) (dropped : Bool) (type : StaticType) (n : ℕ) (o : Op) (l : Label) → length (inside x dropped type o l) ≡ width dropped n o
 inside_length x dropped type n (op.Load i c spot) l = check_length l dropped _ spot n spot.mode _ _ _ refl
@@ -79,22 +71,9 @@ Begins labels l = (rest : List Label) → slice_index_or (labels ++ rest) 0 outs
 
 begins_checked : (x : Targets) (l : Label) (dropped write : Bool) (c : Cell) (spot : Spot) (mode : PlaceMode) (labels : List Label)
     → Begins (before_check dropped l mode ++ (record l { known = known_behind l spot mode; gate = gate_behind dropped l write c spot mode; passed = passed_behind x dropped l write c mode } ∷ labels)) l
-begins_checked x l true write c spot modes.Private labels rest = refl
-begins_checked x l true write c spot modes.Readonly labels rest = refl
-begins_checked x l true write c spot modes.Racy labels rest = refl
-begins_checked x l true write c spot modes.Dynamic labels rest = refl
 begins_checked x l true write c spot (modes.LockedGlobal g p) labels rest = refl
-begins_checked x l true write c spot (modes.LockedSibling f m) labels rest = refl
-begins_checked x l true write c spot (modes.LockedThrough r p) labels rest = refl
-begins_checked x l true write c spot modes.LockedLoaded labels rest = refl
 begins_checked x l false write c spot modes.Private labels rest = refl
-begins_checked x l false write c spot modes.Readonly labels rest = refl
-begins_checked x l false write c spot modes.Racy labels rest = refl
-begins_checked x l false write c spot modes.Dynamic labels rest = refl
-begins_checked x l false write c spot (modes.LockedGlobal g p) labels rest = refl
-begins_checked x l false write c spot (modes.LockedSibling f m) labels rest = refl
-begins_checked x l false write c spot (modes.LockedThrough r p) labels rest = refl
-begins_checked x l false write c spot modes.LockedLoaded labels rest = refl
+begins_checked x l _ write c spot _ labels rest = refl
 
 same_less : (l k : Label) → k ≡ l → Less l k
 same_less l k e = subst (Less l) (sym e) (less_refl l)
@@ -117,18 +96,10 @@ check_function l true modes.Private labels k = k
 check_function l true modes.Readonly labels k = k
 check_function l true modes.Racy labels k = k
 check_function l true modes.Dynamic labels k = k
-check_function l true (modes.LockedGlobal g p) labels k = (refl, k)
-check_function l true (modes.LockedSibling f m) labels k = (refl, k)
-check_function l true (modes.LockedThrough r p) labels k = (refl, k)
-check_function l true modes.LockedLoaded labels k = (refl, k)
 check_function l false modes.Private labels k = k
 check_function l false modes.Readonly labels k = k
 check_function l false modes.Racy labels k = k
-check_function l false modes.Dynamic labels k = (refl, k)
-check_function l false (modes.LockedGlobal g p) labels k = (refl, k)
-check_function l false (modes.LockedSibling f m) labels k = (refl, k)
-check_function l false (modes.LockedThrough r p) labels k = (refl, k)
-check_function l false modes.LockedLoaded labels k = (refl, k)
+check_function l _ _ labels k = (refl, k)
 
 inside_function : (x : Targets) (dropped : Bool) (type : StaticType) (o : Op) (l : Label) → AllByRecursion (λ (m : Label). m.function ≡ l.function) (inside x dropped type o l)
 inside_function x dropped type op.Enter l = tt

@@ -5,17 +5,11 @@ use Rattle.sharc_code.specs.{declared.instr.Width.Width, Runs.put}
 use Rattle.sharc_code.proofs.Places.{put_same, put_other, put_all}
 use Rattle.sharc_flat.specs.{declared.op.Op.Op, Framed.OpWrites}
 use Rattle.sharc_flat.specs.declared.op.Op.TheVariants as op
-use Rattle.sharc_invariant.specs.{Types.{StaticType, Mentions}, Labels.{Entry, Empty, Refers, Number, Within, Closed, IsIn, Label, Less, Itself, IsCopy, LessNumber, LessEntry, LessGate, HasBase, EntryMentions, IsScoped, IsFree, set_number, fill, empty, without_copies, without_index}, Typed.{ints_in, refs_in, moved_copy}}
+use Rattle.sharc_invariant.specs.{Types.{StaticType, Mentions}, Labels.{Empty, Refers, Within, Closed, IsIn, Label, Less, Itself, IsCopy, LessNumber, LessGate, HasBase, EntryMentions, IsScoped, IsFree, set_number, fill, empty, without_copies, without_index}, Typed.{ints_in, refs_in, moved_copy}}
 use Rattle.sharc_invariant.proofs.Scoped.{less_entry_refl, less_number_refl, scoped_fill}
 use Rattle.sharc_typed_laws.specs.{Passes.IsNumberOf, Stretches.{Mark, Setting, Fits, IsLine}, Places.{IsNamed, mark}}
-use Rattle.sharc_typed_laws.proofs.{Standing.{less_by, without_same, uncopied, scoped_frame, unnamed}, Telling.{told, other_than, same_as}, Rules.{on_move, on_local}, Moves.on_settle, Parts.{P, does, At, same_number, number_op, with_reference, with_number, scoped_below, number_below, number_above}}
+use Rattle.sharc_typed_laws.proofs.{Standing.{less_by, without_same, uncopied, scoped_frame, unnamed, entry_is as entry_same, number_is as number_same}, Telling.{told, other_than, same_as}, Rules.{on_move, on_local}, Moves.on_settle, Parts.{P, does, At, same_number, number_op, with_reference, with_number, scoped_below, number_below, number_above}}
 use Rattle.sharc_lemmas.proofs.{Options.{no_guard as none_some}, Numbers.eq_refl}
-
-entry_same : (l : Label) (q : ℕ) (a b : Entry) → a ≡ b → LessEntry l q a b
-entry_same l q a b e = subst (LessEntry l q a) e (less_entry_refl l q a)
-
-number_same : (a b : Number) → a ≡ b → LessNumber a b
-number_same a b e = subst (LessNumber a) e (less_number_refl a)
 
 module _ (around : Setting) (f : ℕ) (D : (ℕ → Mark) → Type 0) (named : ℕ → Bool) (top : ℕ) (low : (p : ℕ) → named p ≡ true → p < top) (from : ℕ) where
   abbrev fi : ℕ

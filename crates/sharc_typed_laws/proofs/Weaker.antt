@@ -1,6 +1,6 @@
 -- A statement that is typed from a label to a label is typed to one that says no more.
 use Rattle.std.proofs.Common.{ℕ, Bool, inl, inr, ⊎_elim}
-use Rattle.sharc_code.specs.{declared.code.Code.Code, declared.instr.Cell.Cell, declared.instr.Instr.Instr, declared.instr.Instr.TheVariants.{Constant, Move, MoveReference, Null, ComputeInt, ComputeLong, NegateInt, NegateLong, Complement, Not, SameReference as CompareReferences, ChkWidth, Jump, JumpIfZero, JumpIfNull, Call, Return, ChkNull, ChkHeld, ChkNotHeld, ChkPositive, ChkRoom, ChkLock, ChkLockLoaded, Bounds, GlobalBounds, ChkRead, ChkWrite, Load, Store, LoadRef, Exchange, Raise, RaiseLoaded, Lower, New, TakeCell, TakeLocal, TestSole, Clear, Give, Free, Lock, Unlock, Spawn, Join, Print, Start, Exit, CondEnter, CondWait, CondSignal, CondBroadcast}}
+use Rattle.sharc_code.specs.{declared.code.Code.Code, declared.instr.Cell.Cell, declared.instr.Instr.Instr, declared.instr.Instr.TheVariants.{Constant, Move, MoveReference, ComputeInt, ComputeLong, NegateInt, NegateLong, Complement, Not, SameReference as CompareReferences, ChkWidth, Jump, JumpIfZero, JumpIfNull, Call, Return, ChkNull, ChkPositive, ChkRoom, ChkLockLoaded, Bounds, GlobalBounds, ChkRead, ChkWrite, Load, Store, LoadRef, Exchange, Raise, RaiseLoaded, Lower, New, TakeCell, TakeLocal, TestSole, Clear, Give, Free, Lock, Unlock, Spawn, Join, Print, Exit}}
 use Rattle.sharc_code.specs.declared.instr.Cell.TheVariants as cells
 use Rattle.sharc_invariant.specs.{Types.{Targets, Field, FieldMode, Content}, Types.FieldMode.{Private, Readonly, Racy, Dynamic, Under, Behind}, Labels.{Number, Label, Labels, Less}, Typed.{Numbers, Passes_on, LeadsChecked, Calls, Accesses, MayAccess}}
 use Rattle.sharc_typed_laws.specs.Steps.{all_at, Steps}
@@ -41,7 +41,6 @@ module _ (x : Targets) (code : Code) (ls : Labels) (k m : Label) (weaker : Less 
   steps l (Constant r v) h = numbers l r _ h
   steps l (Move r from) h = ⊎_elim (λ h. inl (numbers l r _ h)) (λ h. inr (h.0, h.1, h.2, numbers _ r _ h.3)) h
   steps l (MoveReference r from) h = (h.0, ⊎_elim (λ h. inl (h.0, to_less _ h.1)) (λ h. inr (h.0, h.1, h.2, h.3, h.4, to_less _ h.5)) h.1)
-  steps l (Null r) h = (h.0, h.1, to_less _ h.2)
   steps l (ComputeInt o r a b site) h = (h.0, numbers l r _ h.1)
   steps l (ComputeLong o r a b site) h = (h.0, numbers l r _ h.1)
   steps l (NegateInt r a site) h = numbers l r _ h
@@ -56,11 +55,8 @@ module _ (x : Targets) (code : Code) (ls : Labels) (k m : Label) (weaker : Less 
   steps l (Call to ints refs site) h = (h.0, (h.1.0, calls l to ints refs h.1.0 h.1.1, to_less _ h.1.2))
   steps l (Return site) h = (h.0, (h.1.0, h.1.1, record { result = h.1.2.result; result_int = h.1.2.result_int; empty = h.1.2.empty }))
   steps l (ChkNull r site) h = (h.0, to_less _ h.1)
-  steps l (ChkHeld c site) h = (h.0, h.1, to_less _ h.2)
-  steps l (ChkNotHeld c site) h = (h.0, h.1, to_less _ h.2)
   steps l (ChkPositive r site) h = passes l h
   steps l (ChkRoom site) h = (h.0, to_less _ h.1)
-  steps l (ChkLock c site) h = (h.0, h.1, to_less _ h.2)
   steps l (ChkLockLoaded site) h = (h.0, h.1, h.2, h.3, h.4, to_less _ h.5)
   steps l (Bounds r base count field site) h = (h.0, h.1, h.2, h.3, h.4, (h.5.0, h.5.1, to_less _ h.5.2))
   steps l (GlobalBounds r elements count field site) h = (h.0, h.1, h.2, (h.3.0, h.3.1, to_less _ h.3.2))
@@ -85,9 +81,5 @@ module _ (x : Targets) (code : Code) (ls : Labels) (k m : Label) (weaker : Less 
   steps l (Spawn r f from site) h = (h.0, h.1, h.2, h.3, h.4, h.5, to_less _ h.6)
   steps l (Join r site) h = passes l h
   steps l (Print r site) h = passes l h
-  steps l (Start site) h = (h.0, h.1, to_less _ h.2)
   steps l Exit h = h
-  steps l (CondEnter c site) h = (h.0, h.1, to_less _ h.2)
-  steps l (CondWait c site) h = (h.0, h.1, to_less _ h.2)
-  steps l (CondSignal c site) h = (h.0, h.1, to_less _ h.2)
-  steps l (CondBroadcast c site) h = (h.0, h.1, to_less _ h.2)
+  steps l _ h = (h.0, h.1, to_less _ h.2)

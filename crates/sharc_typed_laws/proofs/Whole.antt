@@ -8,7 +8,7 @@ use Rattle.sharc_guard.specs.{Guard.{expanded, place, source_of, entered_at}, Kn
 use Rattle.sharc_invariant.specs.{Types.Targets, Labels.{Label, Labels, IsScoped, Leads}, Typed.{Fine, IsWellTyped, MayStart, ints_in, refs_in, entry_label}}
 use Rattle.sharc_invariant.proofs.Scoped.{less_refl}
 use Rattle.sharc_typed_laws.specs.{Inside.{FlatLabels, outside, labels_from, labels_of}, Lines.IsTypedFlat}
-use Rattle.sharc_typed_laws.proofs.TypedPlacing.{IsPlaced, FineList, There, LineStands, AllStand, all_stand, all_places, fine_at, lines_fine, goes_to}
+use Rattle.sharc_typed_laws.proofs.{TypedPlacing.{IsPlaced, FineList, There, LineStands, AllStand, all_stand, all_places, fine_at, lines_fine, goes_to}, Lines.within as line_within}
 
 -- ---- lists
 source_there : (os : List Op) (n : ℕ) (o : Op) → slice_get os n ≡ Some o → slice_index_or (map source_of os) n no_place ≡ source_of o
@@ -24,11 +24,6 @@ function_there h (x ∷ fs) (suc f) lt = function_there h fs f (omega arith)
 same_length : (h : Function → Function) (fs : List Function) → length (map h fs) ≡ length fs
 same_length h [] = refl
 same_length h (x ∷ fs) = ap suc (same_length h fs)
-
-line_within : (os : List Op) (n : ℕ) (o : Op) → slice_get os n ≡ Some o → n < length os
-line_within [] n o e = absurd (cc)
-line_within (p ∷ os) zero o e = omega arith
-line_within (p ∷ os) (suc n) o e = let h = line_within os n o e in omega arith
 
 each_there : (P : Label → Type 0) (labels : List Label) → AllByRecursion P labels → P outside → (j : ℕ) → P (slice_index_or labels j outside)
 each_there P [] h o j = o
