@@ -8,7 +8,7 @@ use Rattle.sharc_mode.specs.{Rows.modes_at, Sharings.{Lock, Sharing, locked}}
 use Rattle.sharc_check.specs.Constructs.{IsExpression}
 use Rattle.sharc_flat.specs.{Scope.Context, Suits.{PathNamed, IfThere}}
 use Rattle.sharc_accepted_laws.specs.{StaticLaws.IsAccepted, Leading.{LeadsToMutex, by_global, by_variable, AllLead, ExpressionsLead}, Scopes.AllStand, Standing.ExpressionStands, Lvalues.pointer_of, Accesses.{list_or, modes_of_pointer}, Joined.{LockLeads, to_global, to_variable}, Paths.{MutexesBehind, PathsLead}}
-use Rattle.sharc_accepted_laws.proofs.AccessLists.{self}
+use Rattle.sharc_accepted_laws.proofs.Members.{first_of as self}
 use Rattle.sharc_lemmas.proofs.{Options.{same_some, none_some}, Lists.front}
 
 pub no_modes : (l : Lock) (below : List Sharing) → [] ≡ locked l ∷ below → ⊥
@@ -17,14 +17,7 @@ no_modes l below h = cc
 -- the pointer is a part of the lvalue
 module _ (r : Resolution) (P : Expression → Type 0) where
   pointer_inside : (e p : Expression) → pointer_of r e ≡ Some p → AllByRecursion P (expressions e) → AllByRecursion P (expressions p)
-  pointer_inside (identifier s i) p is all = absurd (none_some p is)
-  pointer_inside (constant s v) p is all = absurd (none_some p is)
   pointer_inside (parentheses s a) p is all = pointer_inside a p is all.1
-  pointer_inside (call s i rest) p is all = absurd (none_some p is)
-  pointer_inside (spawn s i a) p is all = absurd (none_some p is)
-  pointer_inside (on_value s w a) p is all = absurd (none_some p is)
-  pointer_inside (on_place s w a) p is all = absurd (none_some p is)
-  pointer_inside (cast s w a) p is all = absurd (none_some p is)
   pointer_inside (index s a i) p is all = by (is_array (kind_at r a)) is
     where
       by : (b : Bool) → cond b None (Some a) ≡ Some p → AllByRecursion P (expressions p)
@@ -32,11 +25,8 @@ module _ (r : Resolution) (P : Expression → Type 0) where
       by false k = subst (λ x. AllByRecursion P (expressions x)) (same_some a p k) (front P (expressions a) (expressions i) all.1)
   pointer_inside (field s a Dot n) p is all = pointer_inside a p is all.1
   pointer_inside (field s a Arrow n) p is all = subst (λ x. AllByRecursion P (expressions x)) (same_some a p is) all.1
-  pointer_inside (unary s Negate a) p is all = absurd (none_some p is)
-  pointer_inside (unary s Not a) p is all = absurd (none_some p is)
-  pointer_inside (unary s Complement a) p is all = absurd (none_some p is)
   pointer_inside (unary s Dereference a) p is all = subst (λ x. AllByRecursion P (expressions x)) (same_some a p is) all.1
-  pointer_inside (binary s o at a b) p is all = absurd (none_some p is)
+  pointer_inside _ p is all = absurd (none_some p is)
 
 module _ (behind : MutexesBehind) (c : Context) (a : IsAccepted c.program) where
   one_leads : (l : Lock) → LeadsToMutex c.program.typed l → PathNamed c.scope (named_at c.program.typed l.first) l.second → LockLeads c l

@@ -25,37 +25,19 @@ pointee_same m None = refl
 pointee_same m (Some modes) = below_same (map form_of modes)
 
 locks_same : (m : Assignment) (e : Expression) → cell_locks m e ≡ content_locks m e
-locks_same m (identifier s i) = refl
-locks_same m (constant s v) = refl
 locks_same m (parentheses s a) = locks_same m a
-locks_same m (call s i rest) = refl
-locks_same m (spawn s i a) = refl
-locks_same m (on_value s w a) = refl
-locks_same m (on_place s w a) = refl
-locks_same m (cast s w a) = refl
 locks_same m (index s a i) = by (is_array (kind_at m.typed a)) (locks_same m a)
   where
     by : (z : Bool) → cell_locks m a ≡ content_locks m a → cond z (cell_locks m a) (locks_below (modes_at m a)) ≡ cond z (content_locks m a) (pointee_locks (modes_at m a))
     by true h = h
     by false h = pointee_same m (modes_at m a)
-locks_same m (field s a w n) = refl
-locks_same m (unary s Negate a) = refl
-locks_same m (unary s Not a) = refl
-locks_same m (unary s Complement a) = refl
 locks_same m (unary s Dereference a) = pointee_same m (modes_at m a)
-locks_same m (binary s o at a b) = refl
+locks_same m _ = refl
 
 -- ---- the base
 -- by the pointer through which the lvalue leads
 based : (c : Context) (l : Label) (r : ℕ) (e : Expression) → ((p : Expression) → pointer_of c.program.typed e ≡ Some p → BaseIs c l r p) → IsBased c l r e
-based c l r (identifier s i) h = tt
-based c l r (constant s v) h = tt
 based c l r (parentheses s a) h = based c l r a h
-based c l r (call s i rest) h = tt
-based c l r (spawn s i a) h = tt
-based c l r (on_value s w a) h = tt
-based c l r (on_place s w a) h = tt
-based c l r (cast s w a) h = tt
 based c l r (index s a i) h = by (is_array (kind_at c.program.typed a)) refl
   where
     by : (z : Bool) → is_array (kind_at c.program.typed a) ≡ z → Either z (Unit {0}) (BaseIs c l r a)
@@ -63,18 +45,12 @@ based c l r (index s a i) h = by (is_array (kind_at c.program.typed a)) refl
     by false is = h a (ap (λ z. cond z None (Some a)) is)
 based c l r (field s a Dot n) h = based c l r a h
 based c l r (field s a Arrow n) h = h a refl
-based c l r (unary s Negate a) h = tt
-based c l r (unary s Not a) h = tt
-based c l r (unary s Complement a) h = tt
 based c l r (unary s Dereference a) h = h a refl
-based c l r (binary s o at a b) h = tt
+based c l r _ h = tt
 
 no_variable_cell : (t : Target) → ((x : ℕ) → t ≡ variable x → ⊥) → is_cell t ≡ true
 no_variable_cell (variable x) none = absurd (none x refl)
-no_variable_cell (in_global g n) none = refl
-no_variable_cell (in_global_at g n) none = refl
-no_variable_cell (in_object n) none = refl
-no_variable_cell (in_object_at n) none = refl
+no_variable_cell _ none = refl
 
 nothing_else : (t : Target) → ((x : ℕ) → t ≡ variable x → ⊥) → ((n : ℕ) → IsOfObject t n → ⊥) → ((g n : ℕ) → IsOfGlobal t g n → ⊥) → ⊥
 nothing_else (variable x) none no_object no_global = none x refl
@@ -159,9 +135,7 @@ no_pointer_base b is = let low = ltb-true 0 0 is in omega (arith, low)
 pointer_content : (m : Assignment) (e : Expression) (n : ℕ) (modes : List Sharing) (k : Kind) (holds : Content) → is_pointer k ≡ true → ContentFits m e n modes k holds → PointerFits m e n modes holds
 pointer_content m e n modes (object b zero) holds is fits = absurd (no_pointer_base b is)
 pointer_content m e n modes (object b (suc stars)) holds is fits = fits
-pointer_content m e n modes (array b stars) holds is fits = absurd (false≢true is)
-pointer_content m e n modes kinds.null holds is fits = absurd (false≢true is)
-pointer_content m e n modes kinds.function holds is fits = absurd (false≢true is)
+pointer_content m e n modes _ holds is fits = absurd (false≢true is)
 
 pointer_plain : (k : Kind) → is_pointer k ≡ true → is_mutex_kind k ≡ false
 pointer_plain (object base.Mutex zero) is = absurd (no_pointer_base base.Mutex is)
@@ -170,14 +144,7 @@ pointer_plain (object base.Mutex (suc stars)) is = no_mutex (suc stars == 0) ref
     no_mutex : (z : Bool) → (suc stars == 0) ≡ z → (suc stars == 0) ≡ false
     no_mutex true same = let none = eqb-true (suc stars) 0 same in absurd (omega (arith, none))
     no_mutex false same = same
-pointer_plain (object base.Char stars) is = refl
-pointer_plain (object base.Int stars) is = refl
-pointer_plain (object base.Long stars) is = refl
-pointer_plain (object base.Void stars) is = refl
-pointer_plain (object (base.Struct name) stars) is = refl
-pointer_plain (array b stars) is = refl
-pointer_plain kinds.null is = refl
-pointer_plain kinds.function is = refl
+pointer_plain _ is = refl
 
 -- ---- the law
 pub references_fit : CellsStand → AccessesFit → GuardsFit → ScopeLaws → LvaluesFit → PlacesPoint → ReferencesFit

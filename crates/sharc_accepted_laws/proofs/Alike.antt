@@ -6,90 +6,35 @@ use Rattle.sharc_names.specs.Kinds.{same_base}
 use Rattle.sharc_accepted_laws.specs.Shapes.{Form, private_form, readonly_form, locked_form, racy_form, dynamic_form, Shape, same_form, same_forms, same_shape}
 
 base_itself : (b : Base) → same_base b b ≡ true
-base_itself base.Int = refl
-base_itself base.Char = refl
-base_itself base.Long = refl
-base_itself base.Mutex = refl
-base_itself base.Void = refl
 base_itself (base.Struct name) = (bytes_eq-Decides name name).1 refl
+base_itself _ = refl
 
 pub base_is : (a b : Base) → same_base a b ≡ true → a ≡ b
 base_is base.Int base.Int h = refl
-base_is base.Int base.Char h = absurd (false≢true h)
-base_is base.Int base.Long h = absurd (false≢true h)
-base_is base.Int base.Mutex h = absurd (false≢true h)
-base_is base.Int base.Void h = absurd (false≢true h)
-base_is base.Int (base.Struct y) h = absurd (false≢true h)
-base_is base.Char base.Int h = absurd (false≢true h)
 base_is base.Char base.Char h = refl
-base_is base.Char base.Long h = absurd (false≢true h)
-base_is base.Char base.Mutex h = absurd (false≢true h)
-base_is base.Char base.Void h = absurd (false≢true h)
-base_is base.Char (base.Struct y) h = absurd (false≢true h)
-base_is base.Long base.Int h = absurd (false≢true h)
-base_is base.Long base.Char h = absurd (false≢true h)
 base_is base.Long base.Long h = refl
-base_is base.Long base.Mutex h = absurd (false≢true h)
-base_is base.Long base.Void h = absurd (false≢true h)
-base_is base.Long (base.Struct y) h = absurd (false≢true h)
-base_is base.Mutex base.Int h = absurd (false≢true h)
-base_is base.Mutex base.Char h = absurd (false≢true h)
-base_is base.Mutex base.Long h = absurd (false≢true h)
 base_is base.Mutex base.Mutex h = refl
-base_is base.Mutex base.Void h = absurd (false≢true h)
-base_is base.Mutex (base.Struct y) h = absurd (false≢true h)
-base_is base.Void base.Int h = absurd (false≢true h)
-base_is base.Void base.Char h = absurd (false≢true h)
-base_is base.Void base.Long h = absurd (false≢true h)
-base_is base.Void base.Mutex h = absurd (false≢true h)
 base_is base.Void base.Void h = refl
-base_is base.Void (base.Struct y) h = absurd (false≢true h)
-base_is (base.Struct x) base.Int h = absurd (false≢true h)
-base_is (base.Struct x) base.Char h = absurd (false≢true h)
-base_is (base.Struct x) base.Long h = absurd (false≢true h)
-base_is (base.Struct x) base.Mutex h = absurd (false≢true h)
-base_is (base.Struct x) base.Void h = absurd (false≢true h)
 base_is (base.Struct x) (base.Struct y) h = ap (λ z. base.Struct z) ((bytes_eq-Decides x y).0 h)
+base_is _ _ h = absurd (false≢true h)
 
 form_itself : (f : Form) → same_form f f ≡ true
-form_itself private_form = refl
-form_itself readonly_form = refl
-form_itself locked_form = refl
 form_itself racy_form = refl
-form_itself dynamic_form = refl
+form_itself _ = refl
 
 form_is : (a b : Form) → same_form a b ≡ true → a ≡ b
 form_is private_form private_form h = refl
-form_is private_form readonly_form h = absurd (false≢true h)
-form_is private_form locked_form h = absurd (false≢true h)
-form_is private_form racy_form h = absurd (false≢true h)
-form_is private_form dynamic_form h = absurd (false≢true h)
-form_is readonly_form private_form h = absurd (false≢true h)
 form_is readonly_form readonly_form h = refl
-form_is readonly_form locked_form h = absurd (false≢true h)
-form_is readonly_form racy_form h = absurd (false≢true h)
-form_is readonly_form dynamic_form h = absurd (false≢true h)
-form_is locked_form private_form h = absurd (false≢true h)
-form_is locked_form readonly_form h = absurd (false≢true h)
 form_is locked_form locked_form h = refl
-form_is locked_form racy_form h = absurd (false≢true h)
-form_is locked_form dynamic_form h = absurd (false≢true h)
-form_is racy_form private_form h = absurd (false≢true h)
-form_is racy_form readonly_form h = absurd (false≢true h)
-form_is racy_form locked_form h = absurd (false≢true h)
 form_is racy_form racy_form h = refl
-form_is racy_form dynamic_form h = absurd (false≢true h)
-form_is dynamic_form private_form h = absurd (false≢true h)
-form_is dynamic_form readonly_form h = absurd (false≢true h)
-form_is dynamic_form locked_form h = absurd (false≢true h)
-form_is dynamic_form racy_form h = absurd (false≢true h)
 form_is dynamic_form dynamic_form h = refl
+form_is _ _ h = absurd (false≢true h)
 
 forms_themselves : (fs : List Form) → same_forms fs fs ≡ true
 forms_themselves [] = refl
 forms_themselves (f ∷ rest) = and_from (same_form f f) (same_forms rest rest) (form_itself f) (forms_themselves rest)
 
-two : (a b : Form) (xs bs : List Form) → a ≡ b → xs ≡ bs → a ∷ xs ≡ b ∷ bs
+pub two : (a b : Form) (xs bs : List Form) → a ≡ b → xs ≡ bs → a ∷ xs ≡ b ∷ bs
 two a b xs bs e f = cc
 
 forms_are : (xs bs : List Form) → same_forms xs bs ≡ true → xs ≡ bs

@@ -13,7 +13,7 @@ use Rattle.sharc_mode.specs.{Cells.{is_mutex_kind, is_behind_pointer, written_ce
 use Rattle.sharc_check.specs.{RuleLaws.{RulesAreMet, ReachedAreTold}, Rules.MeetsRules}
 use Rattle.sharc_flat.specs.Places.{in_global, in_global_at, in_object_at, global_of, own_field, named_target, target}
 use Rattle.sharc_accepted_laws.specs.{Alone.{IsInside, AreAlone, SomeAreAlone}, StaticLaws.IsAccepted}
-use Rattle.sharc_accepted_laws.proofs.{Arrays.{IsNameOf, array_name}, Places.{InFile, FileKnown, FieldInFile, file_known, struct_fields, field_found, at_number, IfSome}, Tokens.{Named as IsAmong, names_among}, Written.{Position, position_there, found_there}, TargetLists.place_there}
+use Rattle.sharc_accepted_laws.proofs.{Arrays.{IsNameOf, array_name}, Places.{InFile, FileKnown, FieldInFile, file_known, struct_fields, field_found, at_number, IfSome}, Tokens.{Named as IsAmong, names_among}, Written.{Position, position_there, found_there}, TargetLists.place_there, Found.global_low}
 use Rattle.sharc_lemmas.proofs.{Options.none_some, Lists.{front, each, head_or_tail, of_each}, Equal.none_there}
 
 -- ---- what is reached
@@ -34,17 +34,11 @@ less_or j n = grind arith
 -- ---- modes
 private_mode : (mode : Mode) → sharing_of mode ≡ private → mode ≡ Private
 private_mode Private h = refl
-private_mode Readonly h = absurd (false≢true (ap is_private h))
-private_mode (Locked path) h = absurd (false≢true (ap is_private h))
-private_mode Racy h = absurd (false≢true (ap is_private h))
-private_mode Dynamic h = absurd (false≢true (ap is_private h))
+private_mode _ h = absurd (false≢true (ap is_private h))
 
 private_is : (q : Sharing) → is_private q ≡ true → q ≡ private
 private_is private h = refl
-private_is readonly h = absurd (false≢true h)
-private_is (locked l) h = absurd (false≢true h)
-private_is racy h = absurd (false≢true h)
-private_is dynamic h = absurd (false≢true h)
+private_is _ h = absurd (false≢true h)
 
 not_racy : Racy ≡ Private → ⊥
 not_racy h = false≢true (ap (λ mode. is_private (sharing_of mode)) h)
@@ -82,28 +76,20 @@ written_private r q w none h = by (is_mutex_kind (declared_kind w)) (top_of w.ct
         in_locked : (z : Bool) → (is_behind_pointer r (lock_of path) && is_private q) ≡ z → cond z private (locked (lock_of path)) ≡ private → q ≡ private
         in_locked true is h = private_is q (and_parts (is_behind_pointer r (lock_of path)) (is_private q) is).1
         in_locked false is h = absurd (false≢true (ap is_private h))
-    by false (Some Racy) none h = absurd (false≢true (ap is_private h))
-    by false (Some Dynamic) none h = absurd (false≢true (ap is_private h))
+    by false _ none h = absurd (false≢true (ap is_private h))
 
 -- ---- names
 no_callee : (r : Resolution) (i : Identifier) (parameters : List Kind) (result : Kind) (g : ℕ) → Callee r i parameters result → named_at r i.site.token ≡ named.Global g → ⊥
 no_callee r i _ _ g (of_program f names at text main) is = let e = sym names ∙ is in cc
 no_callee r i _ _ g (of_conditions k names text) is = let e = sym names ∙ is in cc
 
-number_of : (g h : ℕ) → named.Global g ≡ named.Global h → g ≡ h
+pub number_of : (g h : ℕ) → named.Global g ≡ named.Global h → g ≡ h
 number_of g h e = cc
 
 global_there : (r : Resolution) (s : Span) (i : Identifier) (k : Kind) (g : ℕ) → HasType r (tree.identifier s i) k → named_at r i.site.token ≡ named.Global g → (d : GlobalDefinition) × (global_at r g ≡ Some d)
 global_there r s i _ g (a_variable names at text) is = absurd (let e = sym names ∙ is in cc)
 global_there r s i _ g (a_global {n = h} {g = d} names at text) is = (d, ap (global_at r) (number_of g h (sym is ∙ names)) ∙ at)
 global_there r s i _ g (a_function {parameters = ps} {result = k} callee) is = absurd (no_callee r i ps k g callee is)
-
-global_low : (items : List Item) → LowItems items → (g : GlobalDefinition) → Contains (globals_in items) g → 0 < length g.declaration.written.ctype.levels
-global_low [] low g has = absurd (none_there g has)
-global_low (structure x ∷ rest) low g has = global_low rest low.1 g has
-global_low (global x ∷ rest) low g has =
-    ⊎_elim (λ is. subst (λ (z : GlobalDefinition). 0 < length z.declaration.written.ctype.levels) is low.0.0.0) (λ later. global_low rest low.1 g later) (head_or_tail x g (globals_in rest) has)
-global_low (function f ∷ rest) low g has = global_low rest low.1 g has
 
 module _ (told : ReachedAreTold) (links : LinkLaws) (rules : RulesAreMet) (found : EachTypeFound) (paths : EachPathFound) (themselves : EachNamesItself) (constraints : MeetsConstraints) (m : Assignment) (a : IsAccepted m) where
   abbrev r2 : Resolution
@@ -203,16 +189,7 @@ module _ (told : ReachedAreTold) (links : LinkLaws) (rules : RulesAreMet) (found
     array_target : (e : Expression) (g : ℕ) → IsNameOf r2 e g → target r2 None e ≡ in_global g 0
     array_target (tree.identifier s i) g is = ap (λ what. named_target what 0) is
     array_target (tree.parentheses s e) g is = array_target e g is
-    array_target (tree.constant s k) g is = absurd is
-    array_target (tree.call s x all) g is = absurd is
-    array_target (tree.spawn s x e) g is = absurd is
-    array_target (tree.on_value s w e) g is = absurd is
-    array_target (tree.on_place s w e) g is = absurd is
-    array_target (tree.cast s t e) g is = absurd is
-    array_target (tree.index s e i) g is = absurd is
-    array_target (tree.field s e w x) g is = absurd is
-    array_target (tree.unary s o e) g is = absurd is
-    array_target (tree.binary s o site e z) g is = absurd is
+    array_target _ g is = absurd is
 
     named_private : (s : Span) (i : Identifier) → Known (tree.identifier s i) → (k : ℕ) → named_at r2 i.site.token ≡ named.Global k → global_cell m (global_at r2 k) ≡ private → ⊥
     named_private s i known k names is =
@@ -224,11 +201,7 @@ module _ (told : ReachedAreTold) (links : LinkLaws) (rules : RulesAreMet) (found
       where
         by : (what : Named) → named_at r2 i.site.token ≡ what → IsInside (named_target what (own_field o 0)) g → named_cell m what ≡ private → ⊥
         by (named.Global k) names inside is = named_private s i h.0 k names is
-        by (named.Struct k) names inside is = inside
-        by (named.Function k) names inside is = inside
-        by (named.Variable k) names inside is = inside
-        by (named.Field k) names inside is = inside
-        by named.Known names inside is = inside
+        by _ names inside is = inside
     never_private (tree.parentheses s e) h o g inside is = never_private e h.1 o g inside is
     never_private (tree.index s e i) h o g inside is = by (is_array (kind_at r2 e)) refl inside is (never_private e base None)
       where
@@ -245,18 +218,8 @@ module _ (told : ReachedAreTold) (links : LinkLaws) (rules : RulesAreMet) (found
         let d = a_member s e x _ h.0.0 in
         let same : field_cell r2 (cell_at m e) d.of.written ≡ private = sym (ap (field_named r2 (cell_at m e)) d.names ∙ ap (declared_cell r2 (cell_at m e)) d.itself) ∙ is in
         never_private e h.1 _ g inside (written_private r2 (cell_at m e) d.of.written (never_written d.of d.field) same)
-    never_private (tree.field s e Arrow x) h o g inside is = inside
     never_private (tree.unary s Dereference e) h o g inside is = inside
-    never_private (tree.unary s Negate e) h o g inside is = inside
-    never_private (tree.unary s Not e) h o g inside is = inside
-    never_private (tree.unary s Complement e) h o g inside is = inside
-    never_private (tree.constant s k) h o g inside is = inside
-    never_private (tree.call s x all) h o g inside is = inside
-    never_private (tree.spawn s x e) h o g inside is = inside
-    never_private (tree.on_value s w e) h o g inside is = inside
-    never_private (tree.on_place s w e) h o g inside is = inside
-    never_private (tree.cast s t e) h o g inside is = inside
-    never_private (tree.binary s b site e z) h o g inside is = inside
+    never_private _ h o g inside is = inside
 
   -- ---- the test
   abbrev reached_test : ℕ → Bool

@@ -42,10 +42,9 @@ pub passes_scalar : (want k : Kind) → Passes want k → IsScalar k
 passes_scalar want k p other = p.1 (sym p.0 ∙ other)
 
 pub suit_all : (c : Context) (n : ℕ) (g : Function) (kinds : List Kind) (all : Arguments) → ArgumentsSuit c kinds all → AllSuit c n g all
-suit_all c n g [] no_arguments s = tt
 suit_all c n g [] (argument a rest) s = absurd s
-suit_all c n g (kind ∷ kinds) no_arguments s = tt
 suit_all c n g (kind ∷ kinds) (argument a rest) s = ((s.0, λ l. passes_scalar kind (kind_of c a) s.1), suit_all c n g kinds rest s.2)
+suit_all c n g _ no_arguments s = tt
 
 -- ---- parameters
 pub parameters_declared : EachNamesItself → (m : Assignment) → IsAccepted m → (f : Function) → IsFunction m f → AllByRecursion (λ d. declaration_at m.typed d.name.site.token ≡ Some d) f.parameters
@@ -79,9 +78,7 @@ module _ (z : Setting) (n : ℕ) (c : Context) where
 
     pub all_go : (ds : List Declaration) (all : Arguments) (wants : ℕ → StaticType) → ArgumentsSuit c (declared_kinds ds) all → HaveTypes r all (declared_kinds ds) → ((p : ℕ) → wants p ≡ type_for c whole given (slice_get ds p))
         → ((t : Transfer) → Contains (passed ds all) t → Contains (passed whole given) t) → AllGo (declared_kinds ds) wants all
-    all_go [] no_arguments wants suits typed types inside = tt
     all_go [] (argument a rest) wants suits typed types inside = absurd suits
-    all_go (d ∷ ds) no_arguments wants suits typed types inside = tt
     all_go (d ∷ ds) (argument a rest) wants suits (one_more {k = k} t fits more) types inside = (
       subst (Goes z n typing c (declared_kinds (d ∷ ds)) a (is_ref c a)) (sym (types 0))
           (goes_to d (declared_kinds ds) a suits.1 (subst (Assignable (declared_kind d.written)) (sym (one a k t)) fits) (inside record { receiver = variable d; source = value a } (head_there record { receiver = variable d; source = value a } (passed ds rest)))),
@@ -90,6 +87,7 @@ module _ (z : Setting) (n : ℕ) (c : Context) where
       where
         next : (p : ℕ) → type_for c whole given (slice_get (d ∷ ds) (p + 1)) ≡ type_for c whole given (slice_get ds p)
         next p = let same : p + 1 ≡ suc p = omega arith in ap (λ q. type_for c whole given (slice_get (d ∷ ds) q)) same
+    all_go _ no_arguments wants suits typed types inside = tt
 
   -- ---- the registers that they take
   counted_by : (e b : Bool) (rest : Arguments) (count : ℕ) → e ≡ b → ((k : ℕ) → refs_behind c rest k ≡ k + count) → (k : ℕ) → refs_behind c rest (behind_ref e k) ≡ k + cond b (count + 1) count

@@ -22,10 +22,8 @@ module _ (r : Resolution) where
   no_variable (Some d) h = false≢true h
 
   no_element : (k : Kind) → is_array (element_kind k) ≡ true → ⊥
-  no_element (object b n) h = false≢true h
   no_element (array b n) h = false≢true h
-  no_element null h = false≢true h
-  no_element function h = false≢true h
+  no_element _ h = false≢true h
 
   no_long : (b : Bool) → is_array (cond b long int) ≡ true → ⊥
   no_long true h = false≢true h
@@ -36,31 +34,23 @@ module _ (r : Resolution) where
   no_result (Some f) h = false≢true h
 
   no_called : (n : Named) → is_array (called_kind r n) ≡ true → ⊥
-  no_called (named.Struct n) h = false≢true h
-  no_called (named.Global n) h = false≢true h
   no_called (named.Function n) h = no_result (function_at r n) h
-  no_called (named.Variable t) h = false≢true h
-  no_called (named.Field t) h = false≢true h
-  no_called named.Known h = false≢true h
+  no_called _ h = false≢true h
 
   no_binary : (o : OperatorClass) (j k : Kind) → is_array (binary_result o j k) ≡ true → ⊥
-  no_binary Logical j k h = false≢true h
-  no_binary Equality j k h = false≢true h
-  no_binary Relation j k h = false≢true h
   no_binary Shift j k h = no_long (is_long j) h
   no_binary Arithmetic j k h = no_long _ h
+  no_binary _ j k h = false≢true h
 
   no_number : (t : NumberType) → is_array (number_kind t) ≡ true → ⊥
   no_number width.Int h = false≢true h
   no_number width.Long h = false≢true h
 
   name_array : (n : Named) → is_array (named_kind r n) ≡ true → (g : ℕ) × (n ≡ named.Global g)
-  name_array (named.Struct n) h = absurd (false≢true h)
   name_array (named.Global g) h = (g, refl)
-  name_array (named.Function n) h = absurd (false≢true h)
   name_array (named.Variable t) h = absurd (no_variable (declaration_at r t) h)
   name_array (named.Field t) h = absurd (no_variable (declaration_at r t) h)
-  name_array named.Known h = absurd (false≢true h)
+  name_array _ h = absurd (false≢true h)
 
   field_name : (s : Span) (e : Expression) (v : FieldOperator) (n : Identifier) (k : Kind) → HasType r (tree.field s e v n) k → (t : ℕ) × (named_at r n.site.token ≡ named.Field t)
   field_name s e _ n _ (a_field {d = d} t h is) = (d.name.site.token, is)
@@ -73,16 +63,10 @@ module _ (r : Resolution) where
       let x = field_name s e v n _ h.0 in
       absurd (no_variable (declaration_at r x.0) (ap (λ z. is_array (named_kind r z)) (sym x.1) ∙ is))
   array_name (tree.constant s (constants.Number n)) h is = absurd (no_number n.number_type is)
-  array_name (tree.constant s (constants.Character b)) h is = absurd (false≢true is)
-  array_name (tree.constant s constants.Null) h is = absurd (false≢true is)
   array_name (tree.call s f all) h is = absurd (no_called (named_at r f.site.token) is)
-  array_name (tree.spawn s f e) h is = absurd (false≢true is)
-  array_name (tree.on_value s w e) h is = absurd (false≢true is)
-  array_name (tree.on_place s w e) h is = absurd (false≢true is)
-  array_name (tree.cast s t e) h is = absurd (false≢true is)
   array_name (tree.index s e n) h is = absurd (no_element (kind_at r e) is)
   array_name (tree.unary s Negate e) h is = absurd (no_long (is_long (kind_at r e)) is)
-  array_name (tree.unary s Not e) h is = absurd (false≢true is)
   array_name (tree.unary s Complement e) h is = absurd (no_long (is_long (kind_at r e)) is)
   array_name (tree.unary s Dereference e) h is = absurd (no_element (kind_at r e) is)
   array_name (tree.binary s o at e z) h is = absurd (no_binary (class_of o) (kind_at r e) (kind_at r z) is)
+  array_name _ h is = absurd (false≢true is)

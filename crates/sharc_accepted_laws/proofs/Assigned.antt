@@ -14,23 +14,16 @@ use Rattle.sharc_flat.specs.{Flattened.{kind_of, is_ref, target_of}, Places.{Tar
 use Rattle.sharc_invariant.specs.{Types.{Targets, StaticType, cells_of}, Labels.Refers}
 use Rattle.sharc_typed_laws.specs.{Lines.PointersMadeAt, Stretches.Setting, Typable.{GoesTo, type_by, IsTypeIn, IsTypable, VariableTyped}, Stated.{IsMade, CountTypable, ValueGoes, RightTypable, VariableAssigned, CellAssigned, Assigned, Dropped, SimpleTypable}}
 use Rattle.sharc_accepted_laws.specs.{Held.{HeldLaws, held_at}, StaticLaws.GivenLaws, Scopes.{ScopeLaws, AllStand}, Standing.{ExpressionStands, ExpressionsStand}, Static.{static_of, entry_by, entry_of}, TargetLaws.{IsRowOf, NumbersFound, ExpressionsFound}, Pointees.{pointee, PointeesFit}, Pointers.PointeesPoint, Shapes.row_shape, Targets.targets_of, TypableLaws.{IsAt, ValueLaws}, Typing.typing, Statements.{IsPlaceIn, IsThere, AreExpressionsTypable}}
-use Rattle.sharc_accepted_laws.proofs.{Mallocs.one_made, Members.{filter_there, first_of, flat_there}, Sorts.{integer_is, reference_no_integer, integer_want, held_pointer, held_integer, no_function_held, made_pointer, made_element, element_some}, Wholes.{Facts, IsName, variable_named}, TargetLists.place_there, AccessFirsts.no_entry}
+use Rattle.sharc_accepted_laws.proofs.{Mallocs.one_made, Members.{filter_there, first_of, flat_there}, Sorts.{reference_no_integer, integer_want, held_pointer, held_integer, no_function_held, made_pointer, made_element, element_some}, Wholes.{Facts, IsName, variable_named}, TargetLists.place_there, AccessFirsts.no_entry, Forms.integer_no_reference as integer_is}
 use Rattle.sharc_lemmas.proofs.{Lists.{front, back, each}, Numbers.eq_refl}
 
 -- a call is no lvalue
 call_is : (e : Expression) → is_call e ≡ true → is_lvalue e ≡ false
-call_is (tree.identifier s i) h = absurd (false≢true h)
-call_is (tree.constant s c) h = absurd (false≢true h)
-call_is (tree.parentheses s a) h = absurd (false≢true h)
 call_is (tree.call s f all) h = refl
 call_is (tree.spawn s f a) h = refl
 call_is (tree.on_value s w a) h = refl
 call_is (tree.on_place s w a) h = refl
-call_is (tree.cast s t a) h = absurd (false≢true h)
-call_is (tree.index s a i) h = absurd (false≢true h)
-call_is (tree.field s a w n) h = absurd (false≢true h)
-call_is (tree.unary s o a) h = absurd (false≢true h)
-call_is (tree.binary s o at a b) h = absurd (false≢true h)
+call_is _ h = absurd (false≢true h)
 
 -- ---- in parentheses
 module _ (c : Context) where
@@ -197,10 +190,7 @@ module _ (laws : Laws) (z : Setting) (alone : ℕ → Bool) (n : ℕ) (g : Funct
 
     pub assigned_is : (t : Target) → target_of c u ≡ t → LeftSuits c (kind_of c u) (cell_at c.program u) t → Assigned z n typing c u (type_by (entry_of c u)) t
     assigned_is (variable y) to left = variable_is y to left
-    assigned_is (in_global h k) to left = cell_is (in_global h k) to refl
-    assigned_is (in_global_at h k) to left = cell_is (in_global_at h k) to refl
-    assigned_is (in_object k) to left = cell_is (in_object k) to refl
-    assigned_is (in_object_at k) to left = cell_is (in_object_at k) to refl
+    assigned_is j to left = cell_is j to refl
 
     -- what is given to it
     goes_is : (e : Expression) → x ≡ value e → is_reference (kind_of c u) ≡ true → GoesTo (entry_of c e) (type_by (entry_of c u))

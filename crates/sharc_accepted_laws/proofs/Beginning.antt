@@ -22,11 +22,8 @@ Starts fields words = (j : ℕ) → Initial (slice_index_or fields j no_field).h
 -- ---- all that is 0
 zero_fits : (c : Content) → Initial c 0
 zero_fits (Integer Char) = refl
-zero_fits (Integer Int) = refl
-zero_fits (Integer Long) = refl
-zero_fits MutexWord = refl
-zero_fits Waiters = refl
 zero_fits (Pointer to) = refl
+zero_fits _ = refl
 
 joined : (a b : List Field) (x y : List ℕ) → length a ≡ length x → Starts a x → Starts b y → Starts (a ++ b) (x ++ y)
 joined [] b [] y same left right j = right j
@@ -36,10 +33,8 @@ joined (f ∷ a) b (w ∷ x) y same left right zero = left zero
 joined (f ∷ a) b (w ∷ x) y same left right (suc j) = joined a b x y (omega (arith, same)) (λ k. left (suc k)) right j
 
 zero_at : (n k j : ℕ) → slice_index (take n (replicate k 0)) j ≡ 0
-zero_at zero k j = refl
-zero_at (suc n) zero j = refl
-zero_at (suc n) (suc k) zero = refl
 zero_at (suc n) (suc k) (suc j) = zero_at n k j
+zero_at _ _ _ = refl
 
 -- all but the first are
 first_alone : (fields : List Field) (w n k : ℕ) → Initial (slice_index_or fields 0 no_field).holds w → Starts fields (take n (w ∷ replicate k 0))
@@ -67,15 +62,13 @@ is_held : (b : Base) (minus : Bool) (n : ℕ) → is_integral b ≡ true → IsH
 is_held base.Int false n is h = held_pos base.Int n is (omega (arith, h)) (lt-ltb n (2 ^ 31) h)
 is_held base.Char false n is h = held_pos base.Char n is (omega (arith, h)) (lt-ltb n (2 ^ 7) h)
 is_held base.Long false n is h = held_pos base.Long n is (omega (arith, h)) (lt-ltb n (2 ^ 63) h)
-is_held base.Int true zero is h = held_pos base.Int zero is (omega arith) refl
-is_held base.Char true zero is h = held_pos base.Char zero is (omega arith) refl
-is_held base.Long true zero is h = held_pos base.Long zero is (omega arith) refl
 is_held base.Int true (suc n) is h = held_neg base.Int n is (omega (arith, h)) (lt-ltb n (2 ^ 31) (omega (arith, h)))
 is_held base.Char true (suc n) is h = held_neg base.Char n is (omega (arith, h)) (lt-ltb n (2 ^ 7) (omega (arith, h)))
 is_held base.Long true (suc n) is h = held_neg base.Long n is (omega (arith, h)) (lt-ltb n (2 ^ 63) (omega (arith, h)))
 is_held base.Mutex minus n is h = absurd (false≢true is)
 is_held base.Void minus n is h = absurd (false≢true is)
 is_held (base.Struct name) minus n is h = absurd (false≢true is)
+is_held k true zero is h = held_pos k zero is (omega arith) refl
 
 -- an integer that is held begins at a value of its width
 integer_begins : (b : Base) (z : ℤ) → IsHeld b z → Initial (Integer (base_as_width b)) (word_of z)
@@ -87,14 +80,12 @@ signed_value c minus n is = ap (λ z. cond minus (neg_ℤ z) z) is
 -- ---- the first cell of a global
 -- of an element that is an integer
 integer_fields : (m : Assignment) (q : FieldMode) (b : Base) → is_integral b ≡ true → (slice_index_or (base_fields m q b) 0 no_field).holds ≡ Integer (base_as_width b)
-integer_fields m q base.Int is = refl
-integer_fields m q base.Char is = refl
-integer_fields m q base.Long is = refl
 integer_fields m q base.Mutex is = absurd (false≢true is)
 integer_fields m q base.Void is = absurd (false≢true is)
 integer_fields m q (base.Struct name) is = absurd (false≢true is)
+integer_fields m q _ is = refl
 
-is_some_base : (b c : Base) (n k : ℕ) → object b n ≡ object c k → b ≡ c
+pub is_some_base : (b c : Base) (n k : ℕ) → object b n ≡ object c k → b ≡ c
 is_some_base b c n k h = cc
 
 integer_element : (m : Assignment) (g : GlobalDefinition) → IsInteger (declared_kind g.declaration.written)
@@ -120,8 +111,6 @@ first_holds m g c n one is = by (global_element m g) n is
     by (f ∷ rest) n is = is
 
 begins_by : (m : Assignment) (g : GlobalDefinition) (f : GlobalForm) → g.form ≡ f → MeetsInitial g.declaration.written f → CountedForm f → Initial (slice_index_or (global_fields m g) 0 no_field).holds (word_of (form_value f))
-begins_by m g form.Plain is meets counted = zero_fits (slice_index_or (global_fields m g) 0 no_field).holds
-begins_by m g (form.Array at count) is meets counted = zero_fits (slice_index_or (global_fields m g) 0 no_field).holds
 begins_by m g (form.Initial span minus c) is (inl integer) counted =
     let element = integer_element m g integer.0 in
     let value = signed_value c minus integer.1 (counted_value c integer.1 integer.2 counted) in
@@ -138,6 +127,7 @@ begins_by m g (form.Initial span minus c) is (inr pointer) counted =
     null : (b : Bool) → word_of (cond b (neg_ℤ (constant_value Null)) (constant_value Null)) ≡ 0
     null true = refl
     null false = refl
+begins_by m g _ is meets counted = zero_fits (slice_index_or (global_fields m g) 0 no_field).holds
 
 -- ---- all globals
 words_count : (r : Resolution) (g : GlobalDefinition) → length (first_words r g) ≡ 2 * granules_in r g

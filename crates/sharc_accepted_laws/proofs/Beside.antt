@@ -15,8 +15,8 @@ use Rattle.sharc_mode.specs.{Cells.{is_mutex_kind, is_behind_pointer, top_of, fi
 use Rattle.sharc_mode.specs.declared.place.Place.TheVariants as place
 use Rattle.sharc_invariant.specs.{Types.{OfType, OfGlobals, OfElement, FieldMode, Under, MutexWord, Pointer, Field, Target, no_field, row_of, FieldMode as field}, Typed.PointsToMutex}
 use Rattle.sharc_accepted_laws.specs.{Beside.{BesideFits, AreLockedBeside, LocksStandBeside}, Shapes.{Form, private_form, readonly_form, locked_form, racy_form, dynamic_form, form_of, stars_in, number}, TargetLaws.IsRowOf, Pointees.{pointee, PointeeFits}, Targets.{lock_named, field_lock, field_locks, own_mode, global_mode, is_private_mode, locked_mode, written_mode, field_mode, base_content, pointer_content, declared_content, single, member, members, struct_fields, base_fields, lock_count, type_locks, shape_fields, top_mode, global_element, targets_of}}
-use Rattle.sharc_accepted_laws.proofs.{TargetCells.member_count, Expressing.variable_row, Freeing.past_end, Moding.{not_field, not_pointer}, Pointees.{pointees_fit, many_modes}, Ready.global_lock, Whole.{known as known_of}, Found.field_found, TargetLists.place_there, TargetMembers.{members_at, below_there, top_written, field_readonly}, Numbers.numbers_found, Rows.{IsKnown, top_there}}
-use Rattle.sharc_lemmas.proofs.{Options.same_some, Lists.{head_there, place_of_element, some_there, of_each, tail_there}}
+use Rattle.sharc_accepted_laws.proofs.{TargetCells.member_count, Expressing.variable_row, Freeing.past_end, Moding.{not_field, not_pointer}, Pointees.{pointees_fit, many_modes}, Ready.global_lock, Whole.known as known_of, Found.field_found, TargetLists.place_there, TargetMembers.{members_at, top_written, field_readonly}, Numbers.numbers_found, Rows.{IsKnown, top_there}}
+use Rattle.sharc_lemmas.proofs.{Options.same_some, Lists.{head_there, place_of_element, some_there, of_each, tail_there, there_is as below_there}}
 
 -- ---- modes that name what is beside
 -- an element's own mode names nothing beside it
@@ -25,33 +25,22 @@ pub record NamesNone (q : FieldMode) : Type 0 where
   pub behind : (a p : ℕ) → q ≡ field.Behind a p → ⊥
 
 none_own : (f : Form) → NamesNone (own_mode f)
-none_own private_form = record { sibling = λ f j h. cc; behind = λ a p h. cc }
-none_own readonly_form = record { sibling = λ f j h. cc; behind = λ a p h. cc }
-none_own locked_form = record { sibling = λ f j h. cc; behind = λ a p h. cc }
 none_own racy_form = record { sibling = λ f j h. cc; behind = λ a p h. cc }
-none_own dynamic_form = record { sibling = λ f j h. cc; behind = λ a p h. cc }
+none_own _ = record { sibling = λ f j h. cc; behind = λ a p h. cc }
 
 fits_none : (m : Assignment) (fields : List Field) (q : FieldMode) → NamesNone q → BesideFits m fields q
-fits_none m fields field.Private h = tt
-fits_none m fields field.Readonly h = tt
-fits_none m fields field.Racy h = tt
-fits_none m fields field.Dynamic h = tt
-fits_none m fields (Under (OfType k)) h = tt
-fits_none m fields (Under (OfGlobals j)) h = tt
 fits_none m fields (Under (OfElement f j)) h = absurd (h.sibling f j refl)
 fits_none m fields (field.Behind a p) h = absurd (h.behind a p refl)
+fits_none m fields _ h = tt
 
 racy_none : NamesNone field.Racy
 racy_none = record { sibling = λ f j h. cc; behind = λ a p h. cc }
 
 -- in elements of one cell
 single_none : (q : FieldMode) (b : Base) → NamesNone q → NamesNone (single q b).mode
-single_none q base.Int h = h
-single_none q base.Char h = h
-single_none q base.Long h = h
 single_none q base.Mutex h = racy_none
-single_none q base.Void h = h
 single_none q (base.Struct name) h = racy_none
+single_none q _ h = h
 
 one_fits : (m : Assignment) (f : Field) → NamesNone f.mode → (k : ℕ) → BesideFits m (f ∷ []) (slice_index_or (f ∷ []) k no_field).mode
 one_fits m f h zero = fits_none m (f ∷ []) f.mode h
@@ -158,9 +147,8 @@ module _ (m : Assignment) (known : IsKnown m) (s : StructDefinition) (is_struct 
         fit = pointees_fit m (declared_kind w.d.written) (declared_row r written w.d.name.site.token) row pointer
 
         one : (xs : List Sharing) → length xs ≡ 1 → (f : Form) × (map form_of xs ≡ f ∷ [])
-        one [] h = absurd (omega (arith, h))
         one (x ∷ []) h = (form_of x, refl)
-        one (x ∷ y ∷ rest) h = absurd (omega (arith, h))
+        one _ h = absurd (omega (arith, h))
 
         single_mode : (f : Form) × (map form_of (modes_of m (declared_row r written w.d.name.site.token)) ≡ f ∷ [])
         single_mode = one (modes_of m (declared_row r written w.d.name.site.token)) (many_modes m (declared_kind w.d.written) (declared_row r written w.d.name.site.token) row ∙ ap stars_in w.kind)
@@ -194,15 +182,13 @@ module _ (m : Assignment) (known : IsKnown m) (s : StructDefinition) (is_struct 
 
     written_fits : (k : ℕ) (top : Option Mode) → ((path : Path) → top ≡ Some (mode.Locked path) → PathFits m s.fields (lock_of path)) → BesideFits m fields (written_mode r k q top)
     written_fits k None paths = fits_none m fields q none
-    written_fits k (Some mode.Private) paths = tt
     written_fits k (Some mode.Readonly) paths = by (is_private_mode q)
       where
         by : (b : Bool) → BesideFits m fields (cond b field.Private field.Readonly)
         by true = tt
         by false = tt
     written_fits k (Some (mode.Locked path)) paths = lock_fits k (lock_of path) (paths path refl)
-    written_fits k (Some mode.Racy) paths = tt
-    written_fits k (Some mode.Dynamic) paths = tt
+    written_fits k _ paths = tt
 
     member_fits : (k : ℕ) (d : Declaration) → Contains s.fields d → BesideFits m fields (field_mode r k q d.written)
     member_fits k d is_member = by (is_mutex_kind (declared_kind d.written))
@@ -232,12 +218,8 @@ module _ (m : Assignment) (known : IsKnown m) (low : IsLow m.typed.program) wher
       by false h = h
 
   bases_fit : (q : FieldMode) → NamesNone q → (b : Base) (k : ℕ) → BesideFits m (base_fields m q b) (slice_index_or (base_fields m q b) k no_field).mode
-  bases_fit q none base.Int k = one_fits m (single q base.Int) (single_none q base.Int none) k
-  bases_fit q none base.Char k = one_fits m (single q base.Char) (single_none q base.Char none) k
-  bases_fit q none base.Long k = one_fits m (single q base.Long) (single_none q base.Long none) k
-  bases_fit q none base.Mutex k = one_fits m (single q base.Mutex) (single_none q base.Mutex none) k
-  bases_fit q none base.Void k = one_fits m (single q base.Void) (single_none q base.Void none) k
   bases_fit q none (base.Struct name) k = structs_fit q none (structs_in m.typed.program.items) (λ s has. has) name k
+  bases_fit q none j k = one_fits m (single q j) (single_none q j none) k
 
   shapes_fit : (b : Base) (fs : List Form) (k : ℕ) → BesideFits m (shape_fields m b fs) (slice_index_or (shape_fields m b fs) k no_field).mode
   shapes_fit b [] k = tt
@@ -246,13 +228,10 @@ module _ (m : Assignment) (known : IsKnown m) (low : IsLow m.typed.program) wher
 
   -- the mode of a global
   none_global : (s : Sharing) → ((l : Lock) → s ≡ locked l → (g : ℕ) × (named_at m.typed l.first ≡ named.Global g) × (named_kind m.typed (named.Global g) ≡ mutex)) → NamesNone (global_mode m.typed s)
-  none_global private path = record { sibling = λ f j h. cc; behind = λ a p h. cc }
-  none_global readonly path = record { sibling = λ f j h. cc; behind = λ a p h. cc }
   none_global (locked l) path =
       let w = path l refl in
       subst (λ z. NamesNone (Under z)) (sym (ap (lock_named m.typed 0) w.1)) (record { sibling = λ f j h. cc; behind = λ a p h. cc })
-  none_global racy path = record { sibling = λ f j h. cc; behind = λ a p h. cc }
-  none_global dynamic path = record { sibling = λ f j h. cc; behind = λ a p h. cc }
+  none_global _ path = record { sibling = λ f j h. cc; behind = λ a p h. cc }
 
   global_fit : (g : GlobalDefinition) → Contains (globals_in m.typed.program.items) g → (k : ℕ) → BesideFits m (global_element m g) (slice_index_or (global_element m g) k no_field).mode
   global_fit g has k = by (is_pointer (declared_kind g.declaration.written))

@@ -42,21 +42,12 @@ with_all block names [] all = all
 with_all block names (d ∷ rest) all = with_all block (declared block d names) rest (with_variable block d names all)
 
 behind_statement : (around : Around) (names : List Entry) (a : Statement) → AreDefined names → AreDefined (after around names a)
-behind_statement around names (tree.empty s) all = all
-behind_statement around names (tree.block s x) all = all
 behind_statement around names (tree.declare s l) all = with_variable around.block l.declaration names all
-behind_statement around names (tree.simple s x) all = all
-behind_statement around names (tree.jump s j) all = all
-behind_statement around names (tree.return s e) all = all
-behind_statement around names (tree.if_then s e a) all = all
-behind_statement around names (tree.if_then_else s e a b) all = all
-behind_statement around names (tree.while s e a) all = all
-behind_statement around names (tree.for s h a) all = all
+behind_statement around names _ all = all
 
 behind_head : (around : Around) (names : List Entry) (x : First) → AreDefined names → AreDefined (behind_first around names x)
-behind_head around names nothing all = all
 behind_head around names (declares l) all = with_variable around.block l.declaration names all
-behind_head around names (does x) all = all
+behind_head around names _ all = all
 
 module _ (r : Resolution) where
   abbrev P : Note → Type 0
@@ -77,8 +68,6 @@ module _ (r : Resolution) where
   module _ (scope : Scope) (all : AreDefined scope.names) where
     mutual
       of_expression : (stands : Standing) (e : Expression) → AllSay r (notes_at stands scope e) → AllCall (expressions e)
-      of_expression stands (tree.identifier s i) h = (tt, tt)
-      of_expression stands (tree.constant s c) h = (tt, tt)
       of_expression stands (tree.parentheses s a) h = (tt, of_expression stands a h)
       of_expression stands (tree.call s f x) h = (
         (λ is. callee scope.names f.text stands f.site.token _ (look_up scope.names f.text) refl all (front P (callee_notes stands f.site.token _ (look_up scope.names f.text)) _ h) is),
@@ -99,6 +88,7 @@ module _ (r : Resolution) where
       of_expression stands (tree.binary s o at a b) h =
           let three = front P _ _ (front P _ _ h) in
           (tt, both CallSays (expressions a) (expressions b) (of_expression AsValue a (front P (notes_at AsValue scope a) _ (front P _ _ three))) (of_expression AsValue b (back P _ (notes_at AsValue scope b) three)))
+      of_expression stands _ h = (tt, tt)
 
       of_arguments : (wanted : List Kind) (x : Arguments) → AllSay r (notes_of_all scope wanted x) → AllCall (in_arguments x)
       of_arguments wanted no_arguments h = tt
@@ -163,11 +153,9 @@ module _ (r : Resolution) where
 
   mutual
     of_statement : (around : Around) (scope : Scope) → AreDefined scope.names → (a : Statement) → AllSay r (notes_in around scope a) → AllCall (in_statement a)
-    of_statement around scope all (tree.empty s) h = tt
     of_statement around scope all (tree.block s x) h = of_statements (opened around scope.names) scope all x h
     of_statement around scope all (tree.declare s l) h = of_local around scope all l h
     of_statement around scope all (tree.simple s x) h = of_simple scope all x h
-    of_statement around scope all (tree.jump s j) h = tt
     of_statement around scope all (tree.return s e) h = of_return scope all around s.first.token e h
     of_statement around scope all (tree.if_then s e a) h =
         let inside = opened around scope.names in
@@ -187,6 +175,7 @@ module _ (r : Resolution) where
         let inside = looping (opened around (behind_first outer scope.names x.first)) in
         both CallSays (inside_head x) (in_statement a) (of_head outer scope all x (front P (head_notes outer scope x) (notes_in inside inner a) h))
         (of_statement inside inner (behind_head outer scope.names x.first all) a (back P (head_notes outer scope x) (notes_in inside inner a) h))
+    of_statement around scope all _ h = tt
 
     of_statements : (around : Around) (scope : Scope) → AreDefined scope.names → (x : Statements) → AllSay r (notes_in_all around scope x) → AllCall (in_statements x)
     of_statements around scope all no_statements h = tt

@@ -14,24 +14,14 @@ use Rattle.sharc_flat.specs.{Flattened.{kind_of, is_ref, parameters_scope, in_fu
 use Rattle.sharc_invariant.specs.{Types.StaticType, Labels.{Empty, Refers, Anything, Within, Label, Signature, LessNumber, Narrower}, Typed.Passes}
 use Rattle.sharc_typed_laws.specs.{Places.IsPlain, Stretches.Setting, Typable.{type_by, ArgumentsAt, AreFree, refs_behind, IsTypeIn, ResultTyped, CallTyped}}
 use Rattle.sharc_accepted_laws.specs.{Typed.IsOf, Calls.AreStanding, StaticLaws.IsAccepted, Static.{result_type, variable_entry}, Calling.wants_of, Typing.typing, Setting.{function_signature, signature_by, setting_of, IsSet}}
-use Rattle.sharc_accepted_laws.proofs.{Arguments.{AllGo, all_go, refs_counted, integer_passed, parameters_declared}, Facts.{Laws, expression_of, is_at, has_type}, Forms.{reference_pointer, call_typed, function_parameters}, TargetLists.place_there}
+use Rattle.sharc_accepted_laws.proofs.{Arguments.{AllGo, all_go, refs_counted, integer_passed, parameters_declared}, Facts.{Laws, expression_of, is_at, has_type}, Forms.{reference_pointer, call_typed, function_parameters}, TargetLists.{place_there, left_there, right_there}}
 use Rattle.sharc_lemmas.proofs.{Lists.{head_there, tail_there}, Equal.none_there}
 
 pub narrower_same : (w : Width) → Narrower w w
-narrower_same widths.Char = tt
 narrower_same widths.Int = tt
-narrower_same widths.Long = tt
+narrower_same _ = tt
 
 -- ---- lists
-left_there : {A : Type 0} (a b : List A) (x : A) → Contains a x → Contains (a ++ b) x
-left_there [] b x has = absurd (none_there x has)
-left_there (y ∷ rest) b x (zero, low, is) = (zero, omega arith, is)
-left_there (y ∷ rest) b x (suc k, low, is) = tail_there y x (rest ++ b) (left_there rest b x (k, omega (arith, low), is))
-
-right_there : {A : Type 0} (a b : List A) (x : A) → Contains b x → Contains (a ++ b) x
-right_there [] b x has = has
-right_there (y ∷ rest) b x has = tail_there y x (rest ++ b) (right_there rest b x has)
-
 pub of_all_there : (f : Expression → List ℕ) (list : List Expression) (e : Expression) (token : ℕ) → Contains list e → Contains (f e) token → Contains (of_all f list) token
 of_all_there f [] e token has h = absurd (none_there e has)
 of_all_there f (x ∷ rest) e token (zero, low, is) h = left_there (f x) (of_all f rest) token (subst (λ y. Contains (f y) token) (sym is) h)

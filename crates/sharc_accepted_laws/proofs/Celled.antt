@@ -11,13 +11,8 @@ use Rattle.sharc_flat.specs.{Flattened.kind_of, Scope.Context}
 use Rattle.sharc_invariant.specs.Labels.{Refers}
 use Rattle.sharc_typed_laws.specs.{Stretches.Setting, Typable.{type_by, IsPointer}}
 use Rattle.sharc_accepted_laws.specs.{Accesses.IsCodeOf, AccessFirsts.{type_of_mutex, type_of_condition, KnowsCondition, HasFirstCells, FirstsFit}, Joined.IsTypingOf, Paths.PathsLead, Typed.{IsOf, LvaluesAreTyped}, Alone.AreAlone, Conditions.KnownCalls, Scopes.ScopeLaws, Standing.ExpressionStands, Static.entry_of, TypableLaws.ValueLaws, Typing.typing, Cells.CellsAreTyped, Expressions.{ConditionsTyped, CellsTyped}, Setting.{signature_by, setting_of, IsSet}}
-use Rattle.sharc_accepted_laws.proofs.{Members.first_of, TargetLists.place_there}
+use Rattle.sharc_accepted_laws.proofs.{Members.first_of, TargetLists.place_there, Calls.alone_is as same_alone}
 use Rattle.sharc_lemmas.proofs.Lists.{each}
-
--- a signature tells what the test of functions tells
-same_alone : (m : Assignment) (globals : List GlobalCells) (alone : Bool) (o : Option Function) → (signature_by m globals alone o).alone ≡ alone
-same_alone m globals alone None = refl
-same_alone m globals alone (Some g) = refl
 
 told_alone : (m : Assignment) (alone told : ℕ → Bool) → ((k : ℕ) → told k ≡ alone k) → AreAlone m alone → AreAlone m told
 told_alone m alone told same a = record {

@@ -15,10 +15,10 @@ use Rattle.sharc_flat.specs.{Flattened.{kind_of, is_ref}, Scope.Context, Suits.{
 use Rattle.sharc_invariant.specs.{Types.{StaticType, Content, MutexWord, Waiters, SomeNames}, Labels.Empty}
 use Rattle.sharc_typed_laws.specs.{Stretches.Setting, Typable.{type_by, GoesTo, FirstCell, IsTypeIn, IsVoid, Goes, AreTwo, IsOne, AreTypable, ConditionTyped, CallTypable}}
 use Rattle.sharc_accepted_laws.specs.{Typed.IsOf, Static.{entry_by, entry_of}, Typing.typing, Expressions.{HasFirst, ConditionsTyped}, Setting.{setting_of, IsSet}}
-use Rattle.sharc_accepted_laws.proofs.{Arguments.{Parts, part_of, first_part, second_part, AllSuit, AllGo}, Facts.{Laws, has_type, pointer_of}, Forms.{call_typed, reference_scalar}}
+use Rattle.sharc_accepted_laws.proofs.{Arguments.{Parts, part_of, first_part, second_part, AllSuit, AllGo}, Facts.{Laws, has_type, pointer_of}, Forms.{call_typed, reference_scalar, global_null as global_some}}
 
 -- ---- NULL
-object_no_null : (b : Base) (n : ℕ) → object b n ≡ null → ⊥
+pub object_no_null : (b : Base) (n : ℕ) → object b n ≡ null → ⊥
 object_no_null b n h = cc
 
 function_no_null : (r : Resolution) (i : Identifier) (ps : List Kind) (res : Kind) → Callee r i ps res → res ≡ null → ⊥
@@ -27,50 +27,28 @@ function_no_null r i _ _ (of_conditions c is spelled) h = object_no_null _ _ h
 
 common_no_null : (j k t : Kind) → Common j k t → t ≡ null → ⊥
 common_no_null _ _ _ (both_shorter a b) h = object_no_null _ _ h
-common_no_null _ _ _ left_long h = object_no_null _ _ h
-common_no_null _ _ _ right_long h = object_no_null _ _ h
+common_no_null _ _ _ _ h = object_no_null _ _ h
 
-number_no_null : (t : NumberType) → number_kind t ≡ null → ⊥
+pub number_no_null : (t : NumberType) → number_kind t ≡ null → ⊥
 number_no_null number_types.Int h = object_no_null _ _ h
 number_no_null number_types.Long h = object_no_null _ _ h
 
 some_kind : (k : Kind) → is_null k ≡ false → k ≡ null → ⊥
 some_kind k some h = false≢true (sym some ∙ ap is_null h)
 
-global_some : (f : GlobalForm) (b : Base) (n : ℕ) → is_null (global_kind f (object b n)) ≡ false
-global_some forms.Plain b n = refl
-global_some (forms.Array at count) b n = refl
-global_some (forms.Initial span minus k) b n = refl
-
 -- what has the type of NULL is NULL, in parentheses or not, and has no row
 null_row : (r : Resolution) (e : Expression) (k : Kind) → HasType r e k → k ≡ null → row_at r e ≡ None
-null_row r _ _ (a_variable is at spelled) h = absurd (object_no_null _ _ h)
 null_row r _ _ (a_global {g = g} is at spelled) h = absurd (some_kind _ (global_some g.form _ _) h)
 null_row r _ _ (a_function q) h = absurd (some_kind _ refl h)
 null_row r _ _ (a_constant {c = constants.Number n}) h = absurd (number_no_null n.number_type h)
-null_row r _ _ (a_constant {c = constants.Character b}) h = absurd (object_no_null _ _ h)
 null_row r _ _ (a_constant {c = constants.Null}) h = refl
 null_row r _ _ (in_parentheses {a = a} {k = k} t) h = null_row r a k t h
-null_row r _ _ (element_of_pointer x i t) h = absurd (object_no_null _ _ h)
-null_row r _ _ (element_of_array x i t) h = absurd (object_no_null _ _ h)
 null_row r _ _ (a_call {f = f} q x) h = absurd (function_no_null r f _ _ q h)
-null_row r _ _ (a_field a m is) h = absurd (object_no_null _ _ h)
-null_row r _ _ (a_field_behind a m is) h = absurd (object_no_null _ _ h)
 null_row r _ _ (negated a i x) h = absurd (common_no_null _ _ _ x h)
 null_row r _ _ (complemented a i x) h = absurd (common_no_null _ _ _ x h)
-null_row r _ _ (denied a s) h = absurd (object_no_null _ _ h)
-null_row r _ _ (pointed_to a) h = absurd (object_no_null _ _ h)
 null_row r _ _ (arithmetic is a b l m x) h = absurd (common_no_null _ _ _ x h)
 null_row r _ _ (shifted is a b l m x) h = absurd (common_no_null _ _ _ x h)
-null_row r _ _ (related is a b l m) h = absurd (object_no_null _ _ h)
-null_row r _ _ (equated is a b x) h = absurd (object_no_null _ _ h)
-null_row r _ _ (joined is a b l m) h = absurd (object_no_null _ _ h)
-null_row r _ _ (spawned q a) h = absurd (object_no_null _ _ h)
-null_row r _ _ (printed_or_joined a i) h = absurd (object_no_null _ _ h)
-null_row r _ _ (locked m a) h = absurd (object_no_null _ _ h)
-null_row r _ _ (unlocked m a) h = absurd (object_no_null _ _ h)
-null_row r _ _ (freed m a p) h = absurd (object_no_null _ _ h)
-null_row r _ _ (a_cast m a p) h = absurd (object_no_null _ _ h)
+null_row r _ _ _ h = absurd (object_no_null _ _ h)
 
 -- ---- types of arguments, the first and the second
 abbrev pub two_types : StaticType → StaticType → ℕ → StaticType

@@ -13,15 +13,14 @@ use Rattle.sharc_ctype_laws.specs.Constraints as typing
 use Rattle.sharc_mode.specs.{Moded.{Assignment, position_count}, Notes.base_of, Rows.{PathReading, written, Targets, no_row, deeper, targets_from, entity_row, declared_row, global_row, named_row, result_row, called_row, behind, constant_row, reading_through, base_use, row_at, modes_of}}
 use Rattle.sharc_check.specs.Constructs.{IsEntity}
 use Rattle.sharc_accepted_laws.specs.{TargetLaws.{IsRowOf, ExpressionsFound, VariablesFound, ResultsFound}, Shapes.{Form, form_of, row_shape, shapes, stars_in}}
-use Rattle.sharc_accepted_laws.proofs.{Fits.entity_there, TargetForms.{mode_form, row_forms, row_length, same_forms}, Found.{IsThere, is_there, field_found, global_found}, TargetLists.place_there, Numbers.shapes_closed, Settling.{positioned, dropped_length}, TargetWalk.{CastFound, declaration_found, function_casts, function_closed, result_found}}
+use Rattle.sharc_accepted_laws.proofs.{Fits.entity_there, TargetForms.{mode_form, row_forms, row_length, same_forms}, Found.{IsThere, is_there, field_found, global_found}, TargetLists.place_there, Numbers.shapes_closed, Settling.{positioned, dropped_length}, TargetWalk.{CastFound, declaration_found, function_casts, function_closed, result_found}, Laying.named_there as struct_there, StaticSiblings.found_there as member_there}
 use Rattle.sharc_lemmas.proofs.{Options.{same_some, none_some}, Lists.{front, head_there, of_each, to_each, tail_there}}
 
 -- ---- one level further
 tail_forms : (count first : ℕ) (modes : List Mode) → first + suc count ≤ length modes → (f : Form) × (map mode_form (take (suc count) (drop first modes)) ≡ f ∷ map mode_form (take count (drop (first + 1) modes)))
-tail_forms count zero [] low = absurd (omega (arith, low))
 tail_forms count zero (x ∷ rest) low = (mode_form x, refl)
-tail_forms count (suc n) [] low = absurd (omega (arith, low))
 tail_forms count (suc n) (x ∷ rest) low = let w = tail_forms count n rest (omega (arith, low)) in let e : suc (n + 1) ≡ suc n + 1 = omega arith in (w.0, w.1 ∙ ap (λ k. w.0 ∷ map mode_form (take count (drop k (x ∷ rest)))) e)
+tail_forms count _ [] low = absurd (omega (arith, low))
 
 closed_at : (m : Assignment) (b : Base) (f : Form) (below : List Form) → 0 < length below → Contains (shapes m) (record { base = b; forms = f ∷ below }) → Contains (shapes m) (record { base = b; forms = below })
 closed_at m b f [] some has = absurd (omega (arith, some))
@@ -115,12 +114,7 @@ module _ (m : Assignment) where
 
       by : (w : Role) → n.entity.role ≡ w → IsPart n
       by role.Global e = below e (positions_of n.entity == 0) refl
-      by role.Field e = plain role.Field e refl (λ how. refl)
-      by role.Result e = plain role.Result e refl (λ how. refl)
-      by role.Parameter e = plain role.Parameter e refl (λ how. refl)
-      by role.Local e = plain role.Local e refl (λ how. refl)
-      by role.Cast e = plain role.Cast e refl (λ how. refl)
-      by role.Made e = plain role.Made e refl (λ how. refl)
+      by k e = plain k e refl (λ how. refl)
 
   module _ (size : length m.modes ≡ position_count m.typed) (all : AllByRecursion (IsFound m.typed) (entities_in m.typed.program.items)) where
     abbrev r : Resolution
@@ -164,27 +158,10 @@ module _ (m : Assignment) where
         plain = there_row (declared role.Global g.declaration) (global_found m all g has) how
 
         by : (form : GlobalForm) → IsRowOf m (global_kind form (declared_kind g.declaration.written)) (declared_row r how g.declaration.name.site.token)
-        by Plain = plain
         by (Array at count) = same_kind (declared_kind g.declaration.written) (array g.declaration.written.ctype.base _) _ refl refl plain
-        by (Initial span minus c) = plain
+        by _ = plain
 
     -- ---- members
-    struct_there : (list : List StructDefinition) (name : List ℕ) (s : StructDefinition) → struct_named list name ≡ Some s → Contains list s
-    struct_there [] name s is = absurd (none_some s is)
-    struct_there (x ∷ rest) name s is = by (bytes_eq x.name.text name) is (struct_there rest name s)
-      where
-        by : (b : Bool) → cond b (Some x) (struct_named rest name) ≡ Some s → (struct_named rest name ≡ Some s → Contains rest s) → Contains (x ∷ rest) s
-        by true is more = subst (λ z. Contains (x ∷ rest) z) (same_some x s is) (head_there x rest)
-        by false is more = tail_there x s rest (more is)
-
-    member_there : (fields : List Declaration) (name : List ℕ) (d : Declaration) → field_of fields name ≡ Some d → Contains fields d
-    member_there [] name d is = absurd (none_some d is)
-    member_there (x ∷ rest) name d is = by (bytes_eq x.name.text name) is (member_there rest name d)
-      where
-        by : (b : Bool) → cond b (Some x) (field_of rest name) ≡ Some d → (field_of rest name ≡ Some d → Contains rest d) → Contains (x ∷ rest) d
-        by true is more = subst (λ z. Contains (x ∷ rest) z) (same_some x d is) (head_there x rest)
-        by false is more = tail_there x d rest (more is)
-
     member_row : (x name : List ℕ) (d : Declaration) (token : ℕ) (how : PathReading) → IsMemberOf r x name d → named_at r token ≡ named.Field d.name.site.token → IsRowOf m (declared_kind d.written) (named_row r how (named_at r token))
     member_row x name d token how (s, is_struct, is_field) names =
         subst (λ w. IsRowOf m (declared_kind d.written) (named_row r how w)) (sym names)
@@ -207,8 +184,7 @@ module _ (m : Assignment) where
 
     common_plain : (a b t : Kind) → Common a b t → stars_in t ≡ 0
     common_plain a b _ (both_shorter x y) = refl
-    common_plain _ b _ left_long = refl
-    common_plain a _ _ right_long = refl
+    common_plain a b _ _ = refl
 
     constant_row_of : (c : Constant) (row : Targets) → constant_row c ≡ Some row → IsRowOf m (constant_kind c) row
     constant_row_of (Number n) row is = from (constant_kind (Number n)) no_row row is (none_of (constant_kind (Number n)) (plain n.number_type))
@@ -247,19 +223,16 @@ module _ (m : Assignment) where
           from (declared_kind d.written) _ row is (member_row x name.text d name.site.token (reading_through (base_use r Arrow a)) member names)
       expression_row _ _ (typing.negated {t} h integer common) casts row is = from t no_row row is (none_of t (common_plain _ _ t common))
       expression_row _ _ (typing.complemented {t} h integer common) casts row is = from t no_row row is (none_of t (common_plain _ _ t common))
-      expression_row _ _ (typing.denied h scalar) casts row is = from int no_row row is (none_of int refl)
       expression_row _ _ (typing.pointed_to {s} {a} {b} {n} h) casts row is = behind_of b n (row_at r a) (λ x at. expression_row a (object b (n + 1)) h casts.1 x at) row is
       expression_row _ _ (typing.arithmetic {t} class ha hb ia ib common) casts row is = from t no_row row is (none_of t (common_plain _ _ t common))
       expression_row _ _ (typing.shifted {t} class ha hb ia ib common) casts row is = from t no_row row is (none_of t (common_plain _ _ t common))
-      expression_row _ _ (typing.related class ha hb ia ib) casts row is = from int no_row row is (none_of int refl)
-      expression_row _ _ (typing.equated class ha hb comparable) casts row is = from int no_row row is (none_of int refl)
-      expression_row _ _ (typing.joined class ha hb sa sb) casts row is = from int no_row row is (none_of int refl)
       expression_row _ _ (typing.spawned callee types) casts row is = from int no_row row is (none_of int refl)
       expression_row _ _ (typing.printed_or_joined h integer) casts row is = from kinds.void no_row row is (none_of kinds.void refl)
       expression_row _ _ (typing.locked lvalue h) casts row is = from kinds.void no_row row is (none_of kinds.void refl)
       expression_row _ _ (typing.unlocked lvalue h) casts row is = from kinds.void no_row row is (none_of kinds.void refl)
       expression_row _ _ (typing.freed lvalue h pointer) casts row is = from kinds.void no_row row is (none_of kinds.void refl)
       expression_row _ _ (typing.a_cast {s} {t} {a} lvalue h pointer) casts row is = from (declared_kind t) _ row is (there_row (cast_entity s t) (is_there m (cast_entity s t) casts.0) written)
+      expression_row _ _ _ casts row is = from int no_row row is (none_of int refl)
 
 -- ---- each expression of a function
 pub expressions_found : EachTypeFound → MeetsConstraints → OneType → ExpressionsFound

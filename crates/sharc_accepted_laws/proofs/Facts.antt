@@ -13,7 +13,7 @@ use Rattle.sharc_flat.specs.{Flattened.{kind_of, is_ref, target_of, mode_of, lva
 use Rattle.sharc_invariant.specs.{Types.{StaticType, cells_of}, Labels.{Empty, Refers}}
 use Rattle.sharc_typed_laws.specs.{Stretches.Setting, Premises.ReferenceTyped, Typable.{type_by, ground_of, IsPointer, CellTyped, ValueTyped, Takes}}
 use Rattle.sharc_accepted_laws.specs.{Joined.BaseStands, Typed.{IsOf, BasesStand}, Calls.ArgumentsFit, StaticLaws.IsAccepted, Results.ResultLaws, Scopes.ScopeLaws, Standing.{ExpressionStands, FunctionsStand}, Starting.SpawnedBegin, Static.{static_of, entry_by, entry_of}, Beside.LocksStandBeside, TargetLaws.{ExpressionsFound, GlobalsAre}, Lvalues.{LvaluesFit, ArraysFit}, Pointees.{pointee, PointeesFit}, Targets.targets_of, Calling.CallingLaws, TypableLaws.{IsAt, ValueLaws}, Taking.TakingLaws, Threads.ThreadsPass, Typing.typing, Expressions.CellsTyped, Setting.{setting_of, IsSet}}
-use Rattle.sharc_accepted_laws.proofs.{Forms.{lvalue_some, reference_pointer}, Members.first_of, Wholes.{facts_of, variable_named}, TargetLists.place_there}
+use Rattle.sharc_accepted_laws.proofs.{Forms.{lvalue_some, reference_pointer}, Members.first_of, Wholes.{facts_of, variable_named}, TargetLists.place_there, AccessFirsts.no_entry as none_refers}
 use Rattle.sharc_accepted_laws.proofs.Wholes as wholes
 use Rattle.sharc_lemmas.proofs.Lists.{each}
 
@@ -43,9 +43,6 @@ pub record Laws : Type 0 where
   pub taking : TakingLaws
   pub calling : CallingLaws
   pub threads : ThreadsPass
-
-none_refers : (s : StaticType) → Empty ≡ Refers s → ⊥
-none_refers s h = cc
 
 module _ (laws : Laws) (c : Context) (code : Code) (alone : ℕ → Bool) (lines : ℕ) (set : IsSet c.program c.globals code alone) (n : ℕ) (g : Function) where
   abbrev pub m : Assignment
@@ -159,7 +156,4 @@ module _ (laws : Laws) (c : Context) (code : Code) (alone : ℕ → Bool) (lines
             by (variable x) is slot =
                 let v = variable_named r g known e (kind_of c e) has_type lvalue (λ no_value. false≢true (sym (ap is_pointer no_value) ∙ pointer)) at.parts x is in
                 subst Taken is (laws.taking.variables z n c e v.span v.name x takes v.bare v.names slot use_made)
-            by (in_global k j) is h = moved (in_global k j) is (cell_taken (ap is_cell is))
-            by (in_global_at k j) is h = moved (in_global_at k j) is (cell_taken (ap is_cell is))
-            by (in_object j) is h = moved (in_object j) is (cell_taken (ap is_cell is))
-            by (in_object_at j) is h = moved (in_object_at j) is (cell_taken (ap is_cell is))
+            by other is h = moved other is (cell_taken (ap is_cell is))

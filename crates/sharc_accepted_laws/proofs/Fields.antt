@@ -21,12 +21,9 @@ module _ (z : Setting) (n : ℕ) (c : Context) where
 
   -- with the pointer through which it leads
   abbrev pub TopFits : Target → Option Expression → Option ℕ → Type 0
-  TopFits (variable x) p guard = Unit {0}
-  TopFits (in_global g k) p guard = Unit {0}
   TopFits (in_global_at g k) p guard = Inside (cells_in_each c.program.typed (global_at c.program.typed g)) k guard
-  TopFits (in_object k) p guard = Unit {0}
-  TopFits (in_object_at k) None guard = Unit {0}
   TopFits (in_object_at k) (Some p) guard = Inside (cells_of (targets_of c.program) (type_by (entry_of c p)).target) k guard
+  TopFits _ _ guard = Unit {0}
 
   -- the guard is that of the lvalue's mode, or there is none
   pub data IsGuard (e : Expression) : Option ℕ → Type 0 where
@@ -47,14 +44,14 @@ object_number n k (inr s) = same_number n k s
 object_global : (n g k : ℕ) → in_object_at n ≡ in_global g k → ⊥
 object_global n g k h = cc
 
-object_global_at : (n g k : ℕ) → in_object_at n ≡ in_global_at g k → ⊥
+pub object_global_at : (n g k : ℕ) → in_object_at n ≡ in_global_at g k → ⊥
 object_global_at n g k h = cc
 
 object_no_global : (n g k : ℕ) → IsOfGlobal (in_object_at n) g k → ⊥
 object_no_global n g k (inl s) = object_global n g k s
 object_no_global n g k (inr s) = object_global_at n g k s
 
-same_global : (g n h k : ℕ) → in_global_at g n ≡ in_global_at h k → g ≡ h
+pub same_global : (g n h k : ℕ) → in_global_at g n ≡ in_global_at h k → g ≡ h
 same_global g n h k s = cc
 
 same_field : (g n h k : ℕ) → in_global_at g n ≡ in_global_at h k → n ≡ k
@@ -98,14 +95,11 @@ module _ (fit : LvaluesFit) (found : ExpressionsFound) (beside : LocksStandBesid
 
   -- so the one that a mode names beside the field stands in the element
   guard_low : (modes : List Sharing) (fields : List Field) (k : ℕ) (s : Sharing) (q : FieldMode) → Leads modes s → ModeFits r k modes s q → BesideFits m fields q → (mutex : ℕ) → beside_field r s ≡ Some mutex → mutex < length fields
-  guard_low modes fields k _ _ leads is_private h mutex same = absurd (none_some mutex same)
-  guard_low modes fields k _ _ leads is_readonly h mutex same = absurd (none_some mutex same)
-  guard_low modes fields k _ _ leads is_racy h mutex same = absurd (none_some mutex same)
-  guard_low modes fields k _ _ leads is_dynamic h mutex same = absurd (none_some mutex same)
   guard_low modes fields k _ _ leads (locked_by_type {l = l} {below = below} is) h mutex same = absurd (none_some mutex (sym (leads_elsewhere l (leads l below is refl)) ∙ same))
   guard_low modes fields k _ _ leads (locked_by_global {l = l} names kind) h mutex same = absurd (none_some mutex (sym (ap (beside_named r l) names) ∙ same))
   guard_low modes fields k _ _ leads (locked_by_sibling {l = l} {f = f} names direct) h mutex same = subst (λ j. j < length fields) (same_some (field_place r f) mutex (sym (ap (beside_named r l) names) ∙ same)) h.0
   guard_low modes fields k _ _ leads (locked_behind {l = l} {f = f} names behind) h mutex same = subst (λ j. j < length fields) (same_some (field_place r f) mutex (sym (ap (beside_named r l) names) ∙ same)) h.0
+  guard_low modes fields k _ _ leads _ h mutex same = absurd (none_some mutex same)
 
   module _ (e : Expression) (there : IsExpression m e) (path : PathLeads c e) (guard : Option ℕ) (is_guard : IsGuard z n c e guard) where
     with_guard : (count k : ℕ) (o : Option ℕ) → k < count → ((mutex : ℕ) → o ≡ Some mutex → mutex < count) → Inside z n c count k o
@@ -159,9 +153,6 @@ module _ (fit : LvaluesFit) (found : ExpressionsFound) (beside : LocksStandBesid
         same = (globals_are m g w.global w.defined 0 k some w.inside).cells
 
     by_target : (t : Target) → NamesCell m e t → TopFits z n c t (pointer_of r e) guard
-    by_target (variable x) w = tt
-    by_target (in_global g k) w = tt
-    by_target (in_object k) w = tt
     by_target (in_object_at k) (no_cell _ none other) = absurd (none k (inr refl))
     by_target (in_object_at k) (of_object _ j same w) = object_fits k (subst (IsBehindPointer m e) (sym (object_number k j same)) w)
     by_target (in_object_at k) (of_global _ g j same w) = absurd (object_no_global k g j same)
@@ -170,6 +161,7 @@ module _ (fit : LvaluesFit) (found : ExpressionsFound) (beside : LocksStandBesid
     by_target (in_global_at g k) (of_global _ h j same w) =
         let s = global_numbers g k h j same in
         element_fits g k (subst (λ x. IsInFile m e x k) (sym s.0) (subst (λ y. IsInFile m e h y) (sym s.1) w))
+    by_target _ w = tt
 
     pub top_fits : is_struct_behind 0 (kind_of c e) ≡ false → is_array (kind_of c e) ≡ false → TopFits z n c (target r None e) (pointer_of r e) guard
     top_fits no_struct no_array = by_target (target r None e) (fit m a.resolved a.placed a.low a.least a.well e there no_struct no_array)

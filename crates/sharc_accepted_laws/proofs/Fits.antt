@@ -14,25 +14,16 @@ use Rattle.sharc_lemmas.proofs.{Lists.{both, head_there, head_or_tail, tail_ther
 
 -- ---- forms of modes
 pub form_racy : (mode : Mode) → mode_form mode ≡ racy_form → mode ≡ Racy
-form_racy Private h = cc
-form_racy Readonly h = cc
-form_racy (Locked path) h = cc
 form_racy Racy h = refl
-form_racy Dynamic h = cc
+form_racy _ h = cc
 
 pub form_private : (mode : Mode) → mode_form mode ≡ private_form → mode ≡ Private
 form_private Private h = refl
-form_private Readonly h = cc
-form_private (Locked path) h = cc
-form_private Racy h = cc
-form_private Dynamic h = cc
+form_private _ h = cc
 
 pub private_form_is : (f : Form) → is_private_form f ≡ true → f ≡ private_form
 private_form_is private_form h = refl
-private_form_is readonly_form h = absurd (false≢true h)
-private_form_is locked_form h = absurd (false≢true h)
-private_form_is racy_form h = absurd (false≢true h)
-private_form_is dynamic_form h = absurd (false≢true h)
+private_form_is _ h = absurd (false≢true h)
 
 -- ---- forms one below the other
 abbrev pub AreFit : Base → List Form → Type 0
@@ -61,12 +52,8 @@ no_struct : (name : List ℕ) → base.Mutex ≡ base.Struct name → ⊥
 no_struct name h = cc
 
 pub struct_base : (b : Base) → is_struct_base b ≡ true → (name : List ℕ) × (b ≡ base.Struct name)
-struct_base base.Int h = absurd (false≢true h)
-struct_base base.Char h = absurd (false≢true h)
-struct_base base.Long h = absurd (false≢true h)
-struct_base base.Mutex h = absurd (false≢true h)
-struct_base base.Void h = absurd (false≢true h)
 struct_base (base.Struct name) h = (name, refl)
+struct_base _ h = absurd (false≢true h)
 
 racy_dynamic : Racy ≡ Dynamic → ⊥
 racy_dynamic h = cc
@@ -74,7 +61,7 @@ racy_dynamic h = cc
 private_dynamic : Private ≡ Dynamic → ⊥
 private_dynamic h = cc
 
-private_racy : Private ≡ Racy → ⊥
+pub private_racy : Private ≡ Racy → ⊥
 private_racy h = cc
 
 module _ (m : Assignment) (least : IsLeastAssignment m) (rules : MeetsRules m) where

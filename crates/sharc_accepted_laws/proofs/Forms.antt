@@ -9,6 +9,7 @@ use Rattle.sharc_ctype.specs.Resolved.{Resolution, named_at, function_at, kind_a
 use Rattle.sharc_ctype_laws.specs.Constraints.{HasType, HaveTypes, Callee, of_program, of_conditions, IsInteger, IsPointer, Assignable, integer, pointer, null_pointer, a_variable, a_global, a_function, a_constant, in_parentheses, element_of_pointer, element_of_array, a_call, a_field, a_field_behind, negated, complemented, denied, pointed_to, arithmetic, shifted, related, equated, joined, spawned, printed_or_joined, locked, unlocked, freed, a_cast}
 use Rattle.sharc_meaning.specs.State.{is_reference}
 use Rattle.sharc_flat.specs.Suits.{IsScalar, Passes}
+use Rattle.sharc_lemmas.proofs.Options.{same_some}
 
 -- ---- kinds
 pub left_or : (a b : Bool) → b ≡ false → (a || b) ≡ true → a ≡ true
@@ -36,17 +37,13 @@ pointer_no_integer (object b (suc n)) h = by (suc n == 0) refl
     by : (z : Bool) → (suc n == 0) ≡ z → (z && is_integral b) ≡ false
     by true same = absurd (no_star n same)
     by false same = refl
-pointer_no_integer (array b n) h = refl
-pointer_no_integer null h = refl
-pointer_no_integer function h = refl
+pointer_no_integer _ h = refl
 
 -- an integer is no reference, and a value
 pub integer_no_reference : (k : Kind) → is_integer k ≡ true → is_reference k ≡ false
 integer_no_reference (object b zero) h = refl
 integer_no_reference (object b (suc n)) h = absurd (no_star n (and_parts (suc n == 0) (is_integral b) h).0)
-integer_no_reference (array b n) h = absurd (false≢true h)
-integer_no_reference null h = absurd (false≢true h)
-integer_no_reference function h = absurd (false≢true h)
+integer_no_reference _ h = absurd (false≢true h)
 
 pub integer_scalar : (k : Kind) → is_integer k ≡ true → IsScalar k
 integer_scalar k h other = h
@@ -66,7 +63,7 @@ integer_kind k (b, t, is) = ap is_integer is ∙ t
 integer_no_pointer : (k : Kind) → IsInteger k → is_pointer k ≡ false
 integer_no_pointer k (b, t, is) = ap is_pointer is
 
-starred : (k : Kind) → IsPointer k → is_pointer k ≡ true
+pub starred : (k : Kind) → IsPointer k → is_pointer k ≡ true
 starred k (b, n, is) = ap is_pointer is ∙ some_star n
 
 -- what goes to something is passed to it
@@ -75,10 +72,9 @@ passes_of _ _ (integer {a = a} {b = b} i j) = (integer_no_reference b (integer_k
 passes_of _ _ (pointer {a = a} p) = (pointer_reference a (starred a p) ∙ sym (starred a p), λ no. absurd (false≢true (sym no ∙ starred a p)), λ h. h)
 passes_of _ _ (null_pointer {a = a} p) = (sym (starred a p), λ no. absurd (false≢true (sym no ∙ starred a p)), λ yes. absurd (false≢true (sym (pointer_no_integer a (starred a p)) ∙ yes)))
 
-global_null : (f : GlobalForm) (b : Base) (n : ℕ) → is_null (global_kind f (object b n)) ≡ false
-global_null forms.Plain b n = refl
+pub global_null : (f : GlobalForm) (b : Base) (n : ℕ) → is_null (global_kind f (object b n)) ≡ false
 global_null (forms.Array at count) b n = refl
-global_null (forms.Initial span minus k) b n = refl
+global_null _ b n = refl
 
 module _ (r : Resolution) where
   -- no lvalue is NULL
@@ -86,28 +82,13 @@ module _ (r : Resolution) where
   lvalue_some _ _ (a_variable is at spelled) h = refl
   lvalue_some _ _ (a_global {g = g} is at spelled) h = global_null g.form _ _
   lvalue_some _ _ (a_function q) h = refl
-  lvalue_some _ _ (a_constant {c = k}) h = absurd (false≢true h)
   lvalue_some _ _ (in_parentheses {a = a} {k = k} t) h = lvalue_some a k t h
   lvalue_some _ _ (element_of_pointer x i t) h = refl
   lvalue_some _ _ (element_of_array x i t) h = refl
-  lvalue_some _ _ (a_call q x) h = absurd (false≢true h)
   lvalue_some _ _ (a_field a m is) h = refl
   lvalue_some _ _ (a_field_behind a m is) h = refl
-  lvalue_some _ _ (negated a i x) h = absurd (false≢true h)
-  lvalue_some _ _ (complemented a i x) h = absurd (false≢true h)
-  lvalue_some _ _ (denied a s) h = absurd (false≢true h)
   lvalue_some _ _ (pointed_to a) h = refl
-  lvalue_some _ _ (arithmetic is a b l m x) h = absurd (false≢true h)
-  lvalue_some _ _ (shifted is a b l m x) h = absurd (false≢true h)
-  lvalue_some _ _ (related is a b l m) h = absurd (false≢true h)
-  lvalue_some _ _ (equated is a b x) h = absurd (false≢true h)
-  lvalue_some _ _ (joined is a b l m) h = absurd (false≢true h)
-  lvalue_some _ _ (spawned q a) h = absurd (false≢true h)
-  lvalue_some _ _ (printed_or_joined a i) h = absurd (false≢true h)
-  lvalue_some _ _ (locked m a) h = absurd (false≢true h)
-  lvalue_some _ _ (unlocked m a) h = absurd (false≢true h)
-  lvalue_some _ _ (freed m a p) h = absurd (false≢true h)
-  lvalue_some _ _ (a_cast m a p) h = absurd (false≢true h)
+  lvalue_some _ _ _ h = absurd (false≢true h)
 
   module _ (one : (e : Expression) (k : Kind) → HasType r e k → kind_at r e ≡ k) where
     -- what is indexed and is no array, and what is led through by `->` and `*`, is a pointer
@@ -146,9 +127,6 @@ module _ (r : Resolution) where
 
   no_known : (k : ℕ) → named.Known ≡ named.Function k → ⊥
   no_known k h = cc
-
-  same_some : {A : Type 0} (x y : A) → Some x ≡ Some y → x ≡ y
-  same_some x y h = cc
 
   pub function_parameters : (i : Identifier) (ps : List Kind) (res : Kind) (k : ℕ) (g : Function) → Callee r i ps res → named_at r i.site.token ≡ named.Function k → function_at r k ≡ Some g → ps ≡ declared_kinds g.parameters
   function_parameters i _ _ k g (of_program {n = n} f names at spelled other) is there =

@@ -194,14 +194,10 @@ module _ (m : Assignment) (few : 1 + length (all_pointers (structs_in m.typed.pr
   structs = structs_in m.typed.program.items
 
   base_laid : (q : FieldMode) (b : Base) → IsLaid (slice_index_or layouts (base_layout structs b) no_layout) pointers (base_fields m q b)
-  base_laid q base.Int = plain_laid 0 pointers (single q base.Int) (omega arith) refl
-  base_laid q base.Char = plain_laid 0 pointers (single q base.Char) (omega arith) refl
-  base_laid q base.Long = plain_laid 0 pointers (single q base.Long) (omega arith) refl
-  base_laid q base.Mutex = plain_laid 0 pointers (single q base.Mutex) (omega arith) refl
-  base_laid q base.Void = plain_laid 0 pointers (single q base.Void) (omega arith) refl
   base_laid q (base.Struct name) =
       struct_laid m q layouts pointers 2 1 structs name few
       (λ k. let e : 2 + k ≡ suc (suc k) = omega arith in ap (λ i. slice_index_or layouts i no_layout) e) (λ k. let e : 1 + k ≡ suc k = omega arith in ap (slice_index pointers) e)
+  base_laid q k = plain_laid 0 pointers (single q k) (omega arith) refl
 
   pointer_laid : (f : Field) → is_pointer f.holds ≡ true → IsLaid (record { cells = 1; from = 0; until = 1 }) pointers (f ∷ [])
   pointer_laid f is = record { cells = refl; in_order = omega arith; few = omega arith; all = all; only = λ i first last. let e : i ≡ 0 = omega (arith, last) in ap (λ j. is_pointer (slice_index_or (f ∷ []) (slice_index pointers j) no_field).holds) e ∙ is }

@@ -12,22 +12,18 @@ abbrev pub LocalFresh : Context → Local → Type 0
 LocalFresh c l = slot_kind c.scope l.declaration.name.site.token ≡ None
 
 abbrev pub FirstFresh : Context → First → Type 0
-FirstFresh c nothing = Unit {0}
 FirstFresh c (declares l) = LocalFresh c l
-FirstFresh c (does x) = Unit {0}
+FirstFresh c _ = Unit {0}
 
 abbrev mutual
   pub StatementFresh : Context → Statement → Type 0
-  StatementFresh c (tree.empty s) = Unit {0}
   StatementFresh c (tree.block s all) = StatementsFresh c all
   StatementFresh c (tree.declare s l) = LocalFresh c l
-  StatementFresh c (tree.simple s x) = Unit {0}
-  StatementFresh c (tree.jump s j) = Unit {0}
-  StatementFresh c (tree.return s e) = Unit {0}
   StatementFresh c (tree.if_then s e a) = StatementFresh c a
   StatementFresh c (tree.if_then_else s e a b) = StatementFresh c a × StatementFresh c b
   StatementFresh c (tree.while s e a) = StatementFresh c a
   StatementFresh c (tree.for s h a) = FirstFresh c h.first × StatementFresh (behind_first c h.first) a
+  StatementFresh c _ = Unit {0}
 
   pub StatementsFresh : Context → Statements → Type 0
   StatementsFresh c no_statements = Unit {0}
@@ -110,12 +106,8 @@ module _ (all : List Token) where
 
   mutual
     fresh_statement : (k : ℕ) (c : Context) (a : Statement) → Below k c.scope → k ≤ (span_of_statement a).first.token → PlacedStatement all a → StatementFresh c a
-    fresh_statement k c (tree.empty s) below low p = tt
     fresh_statement k c (tree.block s inner) below low p = fresh_statements s.first.token (s.last.token + 1) c inner (raised k s.first.token low c.scope below) p.0.1 p.1
     fresh_statement k c (tree.declare s l) below low p = let first = p.0.1.1 in fresh_local k c l below (omega (arith, first, low)) p.1
-    fresh_statement k c (tree.simple s x) below low p = tt
-    fresh_statement k c (tree.jump s j) below low p = tt
-    fresh_statement k c (tree.return s e) below low p = tt
     fresh_statement k c (tree.if_then s e a) below low p = let first = last_follows all s.first.token (s.last.token + 1) (span_of e ∷ []) (span_of_statement a) p.0.1 in fresh_statement k c a below (omega (arith, first, low)) p.2
     fresh_statement k c (tree.if_then_else s e a b) below low p =
         let test = p.0.1 in
@@ -126,6 +118,7 @@ module _ (all : List Token) where
         (fresh_statement k c a below (omega (arith, order, front, body, low)) p.2, fresh_statement k c b below (omega (arith, first, low)) p.3)
     fresh_statement k c (tree.while s e a) below low p = let first = last_follows all s.first.token (s.last.token + 1) (span_of e ∷ []) (span_of_statement a) p.0.1 in fresh_statement k c a below (omega (arith, first, low)) p.2
     fresh_statement k c (tree.for s h a) below low p = fresh_loop k s.first.token (s.last.token + 1) c h.first (option_spans span_of h.test) (option_spans span_of_simple h.step) a below low p.0.1 p.1.0 (λ n d b2 low2. fresh_statement n d a b2 low2 p.2)
+    fresh_statement k c _ below low p = tt
 
     fresh_statements : (k until : ℕ) (c : Context) (a : Statements) → Below k c.scope → Follow all k until (statement_spans a) → PlacedStatements all a → StatementsFresh c a
     fresh_statements k until c no_statements below f p = tt

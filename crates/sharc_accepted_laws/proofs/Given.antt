@@ -14,41 +14,22 @@ use Rattle.sharc_ctype_laws.specs.{Declared.IsItself, Laws.{EachNamesItself, All
 use Rattle.sharc_flat.specs.Scope.{Context}
 use Rattle.sharc_accepted_laws.specs.{Static.{static_of, entry_by, entry_of, GoesTo}, StaticLaws.{IsAccepted, AssignedGoes, BegunGoes, ReturnedGoes, GivenLaws}}
 use Rattle.sharc_invariant.specs.Labels.{Refers}
-use Rattle.sharc_accepted_laws.proofs.{Same.type_of_same, Transferred.{Begins, locals_begin}, StaticLocals.{OfLocal, in_each}}
+use Rattle.sharc_accepted_laws.proofs.{Same.type_of_same, Transferred.{Begins, locals_begin}, StaticLocals.{OfLocal, in_each}, Alike.base_is as same_bases, Sorts.one_kind as same_kinds, Conditions.{object_no_null as no_object, number_no_null as no_number}}
 use Rattle.sharc_lemmas.proofs.{Options.none_some, Lists.{front, back, of_each}}
 
 -- ---- kinds
-same_bases : (a b : Base) → same_base a b ≡ true → a ≡ b
-same_bases base.Int base.Int h = refl
-same_bases base.Char base.Char h = refl
-same_bases base.Long base.Long h = refl
-same_bases base.Mutex base.Mutex h = refl
-same_bases base.Void base.Void h = refl
-same_bases (base.Struct m) (base.Struct n) h = ap base.Struct ((bytes_eq-Decides m n).0 h)
-same_bases _ _ h = absurd (false≢true h)
-
 -- of one C type
 bases_of_same : (a b : Kind) → same_kind a b ≡ true → base_of a ≡ base_of b
 bases_of_same (object a m) (object b n) h = same_bases a b (and_parts (same_base a b) (m == n) h).0
 bases_of_same _ _ h = absurd (false≢true h)
 
-pub same_kinds : (a b : Kind) → same_kind a b ≡ true → a ≡ b
-same_kinds (object a m) (object b n) h =
-    let parts = and_parts (same_base a b) (m == n) h in
-    ap (λ x. object x m) (same_bases a b parts.0) ∙ ap (object b) (eqb-true m n parts.1)
-same_kinds _ _ h = absurd (false≢true h)
-
 is_null_kind : (k : Kind) → is_null k ≡ true → k ≡ null
-is_null_kind (object b n) h = absurd (false≢true h)
-is_null_kind (array b n) h = absurd (false≢true h)
 is_null_kind null h = refl
-is_null_kind function h = absurd (false≢true h)
+is_null_kind _ h = absurd (false≢true h)
 
 pointer_no_integer : (k : Kind) → is_pointer k ≡ true → is_integer k ≡ true → ⊥
 pointer_no_integer (object b n) h i = let low = ltb-true 0 n h in let none = eqb-true n 0 (and_parts (n == 0) (is_integral b) i).0 in omega (arith, low, none)
-pointer_no_integer (array b n) h i = false≢true h
-pointer_no_integer null h i = false≢true h
-pointer_no_integer function h i = false≢true h
+pointer_no_integer _ h i = false≢true h
 
 -- what agrees with a pointer is NULL, or has its base
 pub data Fair (want kind : Kind) : Type 0 where
@@ -64,10 +45,7 @@ fair want kind p h = by (is_null kind) refl (is_integer kind) refl h
     by false is false integer a = is_like (bases_of_same want kind a) a
 
 -- ---- NULL has no row
-no_object : (b : Base) (n : ℕ) → object b n ≡ null → ⊥
-no_object b n h = cc
-
-no_array : (b : Base) (n : ℕ) → array b n ≡ null → ⊥
+pub no_array : (b : Base) (n : ℕ) → array b n ≡ null → ⊥
 no_array b n h = cc
 
 no_function : function ≡ null → ⊥
@@ -78,75 +56,56 @@ no_variable None h = no_function h
 no_variable (Some d) h = no_object _ _ h
 
 no_form : (f : GlobalForm) (b : Base) (n : ℕ) → global_kind f (object b n) ≡ null → ⊥
-no_form Plain b n h = no_object _ _ h
 no_form (Array at count) b n h = no_array _ _ h
-no_form (Initial span minus constant) b n h = no_object _ _ h
+no_form _ b n h = no_object _ _ h
 
 no_global : (g : Option GlobalDefinition) → global_kind_of g ≡ null → ⊥
 no_global None h = no_function h
 no_global (Some g) h = no_form g.form _ _ h
 
 no_name : (r : Resolution) (n : Named) → named_kind r n ≡ null → ⊥
-no_name r (named.Struct n) h = no_function h
 no_name r (named.Global n) h = no_global (global_at r n) h
-no_name r (named.Function n) h = no_function h
 no_name r (named.Variable t) h = no_variable (declaration_at r t) h
 no_name r (named.Field t) h = no_variable (declaration_at r t) h
-no_name r named.Known h = no_function h
+no_name r _ h = no_function h
 
 no_result : (f : Option Function) → result_kind_of f ≡ null → ⊥
 no_result None h = no_object _ _ h
 no_result (Some f) h = no_object _ _ h
 
 no_called : (r : Resolution) (n : Named) → called_kind r n ≡ null → ⊥
-no_called r (named.Struct n) h = no_object _ _ h
-no_called r (named.Global n) h = no_object _ _ h
 no_called r (named.Function n) h = no_result (function_at r n) h
-no_called r (named.Variable t) h = no_object _ _ h
-no_called r (named.Field t) h = no_object _ _ h
-no_called r named.Known h = no_object _ _ h
+no_called r _ h = no_object _ _ h
 
 no_common : (b : Bool) → cond b long int ≡ null → ⊥
 no_common true h = no_object _ _ h
 no_common false h = no_object _ _ h
 
 no_binary : (o : OperatorClass) (a b : Kind) → binary_result o a b ≡ null → ⊥
-no_binary Logical a b h = no_object _ _ h
-no_binary Equality a b h = no_object _ _ h
-no_binary Relation a b h = no_object _ _ h
 no_binary Shift a b h = no_common (is_long a) h
 no_binary Arithmetic a b h = no_common _ h
-
-no_number : (t : NumberType) → number_kind t ≡ null → ⊥
-no_number width.Int h = no_object _ _ h
-no_number width.Long h = no_object _ _ h
+no_binary _ a b h = no_object _ _ h
 
 element_of_null : (k : Kind) → element_kind k ≡ null → k ≡ null
-element_of_null (object b n) h = absurd (no_object _ _ h)
-element_of_null (array b n) h = absurd (no_object _ _ h)
 element_of_null null h = refl
 element_of_null function h = absurd (no_function h)
+element_of_null _ h = absurd (no_object _ _ h)
 
 null_row : (r : Resolution) (e : Expression) → kind_at r e ≡ null → row_at r e ≡ None
 null_row r (tree.identifier s i) h = absurd (no_name r (named_at r i.site.token) h)
 null_row r (tree.constant s (Number n)) h = absurd (no_number n.number_type h)
-null_row r (tree.constant s (Character b)) h = absurd (no_object _ _ h)
 null_row r (tree.constant s Null) h = refl
 null_row r (tree.parentheses s a) h = null_row r a h
 null_row r (tree.call s f all) h = absurd (no_called r (named_at r f.site.token) h)
-null_row r (tree.spawn s f a) h = absurd (no_object _ _ h)
-null_row r (tree.on_value s w a) h = absurd (no_object _ _ h)
-null_row r (tree.on_place s w a) h = absurd (no_object _ _ h)
-null_row r (tree.cast s t a) h = absurd (no_object _ _ h)
 null_row r (tree.index s a i) h =
     let k = element_of_null (kind_at r a) h in
     ap (λ z. cond (is_array z) (row_at r a) (behind (row_at r a))) k ∙ ap behind (null_row r a k)
 null_row r (tree.field s a w n) h = absurd (no_name r (named_at r n.site.token) h)
 null_row r (tree.unary s Negate a) h = absurd (no_common (is_long (kind_at r a)) h)
-null_row r (tree.unary s Not a) h = absurd (no_object _ _ h)
 null_row r (tree.unary s Complement a) h = absurd (no_common (is_long (kind_at r a)) h)
 null_row r (tree.unary s Dereference a) h = ap behind (null_row r a (element_of_null (kind_at r a) h))
 null_row r (tree.binary s o at a b) h = absurd (no_binary (class_of o) (kind_at r a) (kind_at r b) h)
+null_row r _ h = absurd (no_object _ _ h)
 
 pub null_modes : (m : Assignment) (e : Expression) → kind_at m.typed e ≡ null → modes_at m e ≡ None
 null_modes m e h = ap (option_map (modes_of m)) (null_row m.typed e h)

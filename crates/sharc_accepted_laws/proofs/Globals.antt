@@ -10,15 +10,12 @@ use Rattle.sharc_mode.specs.{Cells.first_mode, Moded.{Assignment, mode_at}, Pair
 use Rattle.sharc_invariant.specs.Types.{Field, no_field, AreTargets, FieldMode as field}
 use Rattle.sharc_flat.specs.Tables.{cells_in, granules_in}
 use Rattle.sharc_accepted_laws.specs.{Shapes.{private_form, form_of, shape_of, shapes}, Targets.{starts_private, global_mode, field_locks, base_content, pointer_content, declared_content, base_fields, top_mode, global_element, repeated, global_fields, all_global_fields, targets_of}}
-use Rattle.sharc_accepted_laws.proofs.{Fits.{struct_base, entity_there, never_racy, form_private}, TargetForms.{level_of, skipped}, Found.{IsThere, global_found, global_low}, Good.{IsOwn, AreGood, global_own, global_racy, none_are, both_good, padding_good, one_good, pointer_good}, TargetMembers.levels_many, Rows.{IsKnown, starts_at, targets_many, ends_within, base_good, rows_good}, Settling.dropped_length, Table.{IsGood, IsGoodTable, are_targets}}
+use Rattle.sharc_accepted_laws.proofs.{Fits.{struct_base, entity_there, never_racy, form_private, private_racy}, TargetForms.{level_of, skipped}, Found.{IsThere, global_found, global_low}, Good.{IsOwn, AreGood, global_own, global_racy, none_are, both_good, padding_good, one_good, pointer_good}, TargetMembers.levels_many, Rows.{IsKnown, starts_at, targets_many, ends_within, base_good, rows_good}, Settling.dropped_length, Table.{IsGood, IsGoodTable, are_targets}}
 use Rattle.sharc_lemmas.proofs.Lists.{head_there, some_there, tail_there}
 
 sharing_racy : (x : Mode) → sharing_of x ≡ racy → x ≡ mode.Racy
-sharing_racy mode.Private h = cc
-sharing_racy mode.Readonly h = cc
-sharing_racy (mode.Locked path) h = cc
 sharing_racy mode.Racy h = refl
-sharing_racy mode.Dynamic h = cc
+sharing_racy _ h = cc
 
 -- what is no default is there
 pub index_get : (list : List Mode) (k : ℕ) (x : Mode) → slice_index_or list k mode.Private ≡ x → (mode.Private ≡ x → ⊥) → slice_get list k ≡ Some x
@@ -30,9 +27,6 @@ get_index : (list : List Mode) (k : ℕ) (x : Mode) → slice_get list k ≡ Som
 get_index [] k x is = cc
 get_index (y ∷ rest) zero x is = cc
 get_index (y ∷ rest) (suc k) x is = get_index rest k x is
-
-private_racy : mode.Private ≡ mode.Racy → ⊥
-private_racy h = cc
 
 repeated_good : (m : Assignment) (n : ℕ) (fields : List Field) → AreGood (targets_of m) true fields → AreGood (targets_of m) true (repeated n fields)
 repeated_good m zero fields good = none_are (targets_of m) true

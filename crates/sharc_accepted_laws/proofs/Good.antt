@@ -7,7 +7,7 @@ use Rattle.sharc_mode.specs.{Moded.Assignment, Sharings.{Sharing, private, reado
 use Rattle.sharc_ctype.specs.Resolved.{Resolution}
 use Rattle.sharc_invariant.specs.Types.{FieldLock, FieldMode, Under, FieldType, Content, MutexWord, Waiters, Pointer, Field, Target, Targets, row_of, no_field, is_mutex, is_pointer, FieldMode as field}
 use Rattle.sharc_accepted_laws.specs.{Shapes.{Form, private_form, readonly_form, locked_form, racy_form, dynamic_form, Shape, shapes, number}, Targets.{own_mode, global_mode, is_private_mode, is_private_form, starts_private, base_content, single, targets_of}}
-use Rattle.sharc_accepted_laws.proofs.{Numbers.numbers_found, Table.{IsGood, IsBeside, AreBeside, none_good, racy_behind}}
+use Rattle.sharc_accepted_laws.proofs.{Numbers.numbers_found, Table.{IsGood, IsBeside, AreBeside, none_good, racy_behind, mode_racy as racy_private}}
 use Rattle.sharc_lemmas.proofs.Lists.{both}
 
 -- ---- modes of elements
@@ -19,11 +19,8 @@ pub record IsOwn (q : FieldMode) (shared : Bool) : Type 0 where
 pub readonly_private : field.Readonly ≡ field.Private → ⊥
 readonly_private h = cc
 
-under_private : (l : FieldLock) → Under l ≡ field.Private → ⊥
+pub under_private : (l : FieldLock) → Under l ≡ field.Private → ⊥
 under_private l h = cc
-
-pub racy_private : field.Racy ≡ field.Private → ⊥
-racy_private h = cc
 
 pub dynamic_private : field.Dynamic ≡ field.Private → ⊥
 dynamic_private h = cc
@@ -31,7 +28,7 @@ dynamic_private h = cc
 pub readonly_racy : field.Readonly ≡ field.Racy → ⊥
 readonly_racy h = cc
 
-under_racy : (l : FieldLock) → Under l ≡ field.Racy → ⊥
+pub under_racy : (l : FieldLock) → Under l ≡ field.Racy → ⊥
 under_racy l h = cc
 
 pub private_racy : field.Private ≡ field.Racy → ⊥
@@ -46,7 +43,7 @@ private_behind a p h = cc
 pub readonly_behind : (a p : ℕ) → field.Readonly ≡ field.Behind a p → ⊥
 readonly_behind a p h = cc
 
-under_behind : (l : FieldLock) (a p : ℕ) → Under l ≡ field.Behind a p → ⊥
+pub under_behind : (l : FieldLock) (a p : ℕ) → Under l ≡ field.Behind a p → ⊥
 under_behind l a p h = cc
 
 pub dynamic_behind : (a p : ℕ) → field.Dynamic ≡ field.Behind a p → ⊥
@@ -82,28 +79,16 @@ global_racy r dynamic h = absurd (dynamic_racy h)
 
 pub private_mode_is : (q : FieldMode) → is_private_mode q ≡ true → q ≡ field.Private
 private_mode_is field.Private h = refl
-private_mode_is field.Readonly h = absurd (false≢true h)
-private_mode_is field.Racy h = absurd (false≢true h)
-private_mode_is field.Dynamic h = absurd (false≢true h)
-private_mode_is (Under l) h = absurd (false≢true h)
-private_mode_is (field.Behind a p) h = absurd (false≢true h)
+private_mode_is _ h = absurd (false≢true h)
 
 -- ---- what is no pointer
 pub not_pointer : (b : Base) → is_pointer (base_content b) ≡ false
-not_pointer base.Int = refl
-not_pointer base.Char = refl
-not_pointer base.Long = refl
-not_pointer base.Mutex = refl
-not_pointer base.Void = refl
 not_pointer (base.Struct name) = refl
+not_pointer _ = refl
 
 pub mutex_base : (b : Base) → is_mutex (base_content b) ≡ true → b ≡ base.Mutex
-mutex_base base.Int h = absurd (false≢true h)
-mutex_base base.Char h = absurd (false≢true h)
-mutex_base base.Long h = absurd (false≢true h)
 mutex_base base.Mutex h = refl
-mutex_base base.Void h = absurd (false≢true h)
-mutex_base (base.Struct name) h = absurd (false≢true h)
+mutex_base _ h = absurd (false≢true h)
 
 pointer_is : (c : Content) (to : FieldType) → c ≡ Pointer to → is_pointer c ≡ true
 pointer_is c to h = ap is_pointer h
@@ -123,20 +108,14 @@ plain_good x shared q c whole never mutex = record {
 }
 
 pub single_good : (x : Targets) (shared : Bool) (q : FieldMode) (b : Base) → (q ≡ field.Private → shared ≡ true) → IsGood x shared (single q b)
-single_good x shared q base.Int whole = plain_good x shared q (base_content base.Int) whole refl (λ h. absurd (false≢true h))
-single_good x shared q base.Char whole = plain_good x shared q (base_content base.Char) whole refl (λ h. absurd (false≢true h))
-single_good x shared q base.Long whole = plain_good x shared q (base_content base.Long) whole refl (λ h. absurd (false≢true h))
 single_good x shared q base.Mutex whole = plain_good x shared field.Racy MutexWord (λ h. absurd (racy_private h)) refl (λ h. refl)
-single_good x shared q base.Void whole = plain_good x shared q (base_content base.Void) whole refl (λ h. absurd (false≢true h))
 single_good x shared q (base.Struct name) whole = plain_good x shared field.Racy Waiters (λ h. absurd (racy_private h)) refl (λ h. absurd (false≢true h))
+single_good x shared q k whole = plain_good x shared q (base_content k) whole refl (λ h. absurd (false≢true h))
 
 single_behind : (q : FieldMode) (b : Base) → ((a p : ℕ) → q ≡ field.Behind a p → ⊥) → (a p : ℕ) → (single q b).mode ≡ field.Behind a p → ⊥
-single_behind q base.Int never a p h = never a p h
-single_behind q base.Char never a p h = never a p h
-single_behind q base.Long never a p h = never a p h
 single_behind q base.Mutex never a p h = racy_behind a p h
-single_behind q base.Void never a p h = never a p h
 single_behind q (base.Struct name) never a p h = racy_behind a p h
+single_behind q _ never a p h = never a p h
 
 -- ---- lists of good fields
 pub record AreGood (x : Targets) (shared : Bool) (fields : List Field) : Type 0 where

@@ -21,12 +21,8 @@ struct_is (s ∷ rest) name = by (bytes_eq s.name.text name) (struct_is rest nam
     by false e = e
 
 base_is : (r : Resolution) (b : Base) → base_cells r b ≡ base_size (structs_in r.program.items) b
-base_is r base.Int = refl
-base_is r base.Char = refl
-base_is r base.Long = refl
-base_is r base.Mutex = refl
-base_is r base.Void = refl
 base_is r (base.Struct name) = struct_is (structs_in r.program.items) name
+base_is r _ = refl
 
 cells_are : (r : Resolution) (g : GlobalDefinition) → cells_in r g ≡ global_size (structs_in r.program.items) g
 cells_are r g = ap (λ n. elements_of g.form * cond (stars_of g.declaration.written == 0) n 1) (base_is r g.declaration.written.ctype.base)

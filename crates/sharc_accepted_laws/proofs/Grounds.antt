@@ -12,36 +12,22 @@ use Rattle.sharc_flat.specs.{Scope.Context, Places.{variable, in_global_at, in_o
 use Rattle.sharc_invariant.specs.Types.{StaticType}
 use Rattle.sharc_typed_laws.specs.{Stretches.Setting, Places.no_type, Premises.{Typing, Ground}, Typable.{type_by, ground_of}}
 use Rattle.sharc_accepted_laws.specs.{Static.{static_of, entry_by, entry_of}, Lvalues.{LvaluesFit, pointer_of, IsArrayOf, ArraysFit}, Accesses.{list_or, modes_of_pointer, kind_of_pointer, cells_in_each}, Joined.GroundsFit}
-use Rattle.sharc_accepted_laws.proofs.{AccessPointing.has_pointer_modes, Standing.lvalue_cells, AccessLists.self}
+use Rattle.sharc_accepted_laws.proofs.{AccessPointing.has_pointer_modes, Standing.lvalue_cells, Fields.{object_global_at as no_object_at, same_global}, Members.first_of as self}
 use Rattle.sharc_lemmas.proofs.Lists.{front}
 
 name_base : (n : Named) (k : ℕ) → has_base (named_target n k) ≡ false
-name_base (named.Variable x) k = refl
-name_base (named.Global g) k = refl
-name_base (named.Struct n) k = refl
-name_base (named.Function n) k = refl
 name_base (named.Field n) k = refl
-name_base named.Known k = refl
+name_base _ k = refl
 
 name_array : (n : Named) (k g j : ℕ) → named_target n k ≡ in_global_at g j → ⊥
-name_array (named.Variable x) k g j h = cc
-name_array (named.Global i) k g j h = cc
-name_array (named.Struct n) k g j h = cc
-name_array (named.Function n) k g j h = cc
 name_array (named.Field n) k g j h = cc
-name_array named.Known k g j h = cc
+name_array _ k g j h = cc
 
 no_target : (g j : ℕ) → variable 0 ≡ in_global_at g j → ⊥
 no_target g j h = cc
 
 no_object : (n g j : ℕ) → in_object n ≡ in_global_at g j → ⊥
 no_object n g j h = cc
-
-no_object_at : (n g j : ℕ) → in_object_at n ≡ in_global_at g j → ⊥
-no_object_at n g j h = cc
-
-same_global : (i n g j : ℕ) → in_global_at i n ≡ in_global_at g j → i ≡ g
-same_global i n g j h = cc
 
 module _ (z : Setting) (f : ℕ) (y : Typing) (c : Context) (entries : (p : Expression) → y.entry c p ≡ entry_of c p) where
   abbrev r : Resolution
@@ -58,13 +44,7 @@ module _ (z : Setting) (f : ℕ) (y : Typing) (c : Context) (entries : (p : Expr
 
   base_is : (own : Option ℕ) (e : Expression) → Modes (pointer_of r e) → has_base (target r own e) ≡ true → (ground_of z f y c e).base ≡ base_by (pointer_of r e)
   base_is own (identifier s i) h has = absurd (false≢true (sym (name_base (named_at r i.site.token) (own_field own 0)) ∙ has))
-  base_is own (constant s v) h has = absurd (false≢true has)
   base_is own (parentheses s a) h has = base_is own a h has
-  base_is own (call s i rest) h has = absurd (false≢true has)
-  base_is own (spawn s i a) h has = absurd (false≢true has)
-  base_is own (on_value s w a) h has = absurd (false≢true has)
-  base_is own (on_place s w a) h has = absurd (false≢true has)
-  base_is own (cast s w a) h has = absurd (false≢true has)
   base_is own (index s a i) h has = by (is_array (kind_at r a)) h has
     where
       by : (b : Bool) → Modes (cond b None (Some a)) → has_base (cond b (in_global_at (global_of (target r None a)) (own_field own 0)) (in_object_at (own_field own 0))) ≡ true
@@ -73,30 +53,15 @@ module _ (z : Setting) (f : ℕ) (y : Typing) (c : Context) (entries : (p : Expr
       by false k there = pointed a (k a refl)
   base_is own (field s a Dot n) h has = base_is (Some (own_field own (field_place_named r (named_at r n.site.token)))) a h has
   base_is own (field s a Arrow n) h has = pointed a (h a refl)
-  base_is own (unary s Negate a) h has = absurd (false≢true has)
-  base_is own (unary s Not a) h has = absurd (false≢true has)
-  base_is own (unary s Complement a) h has = absurd (false≢true has)
   base_is own (unary s Dereference a) h has = pointed a (h a refl)
-  base_is own (binary s o at a b) h has = absurd (false≢true has)
+  base_is own _ h has = absurd (false≢true has)
 
   -- and the pointer that leads there
   leads_is : (e : Expression) → (ground_of z f y c e).pointer ≡ pointer_of r e
   leads_is (parentheses s a) = leads_is a
   leads_is (field s a Dot n) = leads_is a
-  leads_is (identifier s i) = refl
-  leads_is (constant s v) = refl
-  leads_is (call s i rest) = refl
-  leads_is (spawn s i a) = refl
-  leads_is (on_value s w a) = refl
-  leads_is (on_place s w a) = refl
-  leads_is (cast s w a) = refl
-  leads_is (index s a i) = refl
-  leads_is (field s a Arrow n) = refl
   leads_is (unary s Negate a) = refl
-  leads_is (unary s Not a) = refl
-  leads_is (unary s Complement a) = refl
-  leads_is (unary s Dereference a) = refl
-  leads_is (binary s o at a b) = refl
+  leads_is _ = refl
 
   -- the array of which it is an element
   record IsElementOf (ground : Ground) (g : ℕ) : Type 0 where
@@ -106,13 +71,7 @@ module _ (z : Setting) (f : ℕ) (y : Typing) (c : Context) (entries : (p : Expr
   module _ (arrays : (a : Expression) → is_array (kind_at r a) ≡ true → IsExpression c.program a → IsArrayOf c.program a) where
     element_of : (own : Option ℕ) (e : Expression) → AllByRecursion (IsExpression c.program) (expressions e) → (g j : ℕ) → target r own e ≡ in_global_at g j → IsElementOf (ground_of z f y c e) g
     element_of own (identifier s i) all g j is = absurd (name_array (named_at r i.site.token) (own_field own 0) g j is)
-    element_of own (constant s v) all g j is = absurd (no_target g j is)
     element_of own (parentheses s a) all g j is = let w = element_of own a all.1 g j is in record { count = w.count; elements = w.elements }
-    element_of own (call s i rest) all g j is = absurd (no_target g j is)
-    element_of own (spawn s i a) all g j is = absurd (no_target g j is)
-    element_of own (on_value s w a) all g j is = absurd (no_target g j is)
-    element_of own (on_place s w a) all g j is = absurd (no_target g j is)
-    element_of own (cast s w a) all g j is = absurd (no_target g j is)
     element_of own (index s a i) all g j is = by (is_array (kind_at r a)) refl is
       where
         by : (b : Bool) → is_array (kind_at r a) ≡ b → cond b (in_global_at (global_of (target r None a)) (own_field own 0)) (in_object_at (own_field own 0)) ≡ in_global_at g j → IsElementOf (ground_of z f y c (index s a i)) g
@@ -126,11 +85,8 @@ module _ (z : Setting) (f : ℕ) (y : Typing) (c : Context) (entries : (p : Expr
         by false array same = absurd (no_object_at (own_field own 0) g j same)
     element_of own (field s a Dot n) all g j is = let w = element_of (Some (own_field own (field_place_named r (named_at r n.site.token)))) a all.1 g j is in record { count = w.count; elements = w.elements }
     element_of own (field s a Arrow n) all g j is = absurd (no_object (own_field own (field_place_named r (named_at r n.site.token))) g j is)
-    element_of own (unary s Negate a) all g j is = absurd (no_target g j is)
-    element_of own (unary s Not a) all g j is = absurd (no_target g j is)
-    element_of own (unary s Complement a) all g j is = absurd (no_target g j is)
     element_of own (unary s Dereference a) all g j is = absurd (no_object (own_field own 0) g j is)
-    element_of own (binary s o at a b) all g j is = absurd (no_target g j is)
+    element_of own _ all g j is = absurd (no_target g j is)
 
 pub grounds_fit : LvaluesFit → ArraysFit → GroundsFit
 grounds_fit fit arrays c code is z f y entries e lvalue all =

@@ -15,13 +15,9 @@ use Rattle.sharc_accepted_laws.proofs.{StaticLists.{passes_there, passes_by}, Or
 use Rattle.sharc_lemmas.proofs.{Numbers.{same_is as same_itself}, Options.{same_some, none_some}, Lists.{each, place_of_element}}
 
 -- ---- the variable of a path
-variable_is : (n : Named) (x : ℕ) → variable_named n ≡ Some x → n ≡ named.Variable x
+pub variable_is : (n : Named) (x : ℕ) → variable_named n ≡ Some x → n ≡ named.Variable x
 variable_is (named.Variable y) x h = ap named.Variable (same_some y x h)
-variable_is (named.Struct n) x h = absurd (none_some x h)
-variable_is (named.Global n) x h = absurd (none_some x h)
-variable_is (named.Function n) x h = absurd (none_some x h)
-variable_is (named.Field n) x h = absurd (none_some x h)
-variable_is named.Known x h = absurd (none_some x h)
+variable_is _ x h = absurd (none_some x h)
 
 pub path_named : (r : Resolution) (l : Lock) (x : ℕ) → path_variable r l ≡ Some x → named_at r l.first ≡ named.Variable x
 path_named r l x h = by (is_some l.second) h
@@ -48,18 +44,7 @@ record Taking (m : Assignment) (x : ℕ) : Type 0 where
 taking : (m : Assignment) (x : ℕ) (e : Expression) → IsExpression m e → is_among x (taken_by m.typed e) ≡ true → Taking m x
 taking m x (tree.cast s t a) there h = record { of = a; does = cast_away there; is = among_option m.typed x (taken_variable m.typed (without_parentheses a)) h }
 taking m x (tree.on_place s Free a) there h = record { of = a; does = freed there; is = among_option m.typed x (taken_variable m.typed (without_parentheses a)) h }
-taking m x (tree.on_place s LockCall a) there h = absurd (false≢true h)
-taking m x (tree.on_place s Unlock a) there h = absurd (false≢true h)
-taking m x (tree.identifier s i) there h = absurd (false≢true h)
-taking m x (tree.constant s k) there h = absurd (false≢true h)
-taking m x (tree.parentheses s a) there h = absurd (false≢true h)
-taking m x (tree.call s f all) there h = absurd (false≢true h)
-taking m x (tree.spawn s f a) there h = absurd (false≢true h)
-taking m x (tree.on_value s w a) there h = absurd (false≢true h)
-taking m x (tree.index s a i) there h = absurd (false≢true h)
-taking m x (tree.field s a w n) there h = absurd (false≢true h)
-taking m x (tree.unary s o a) there h = absurd (false≢true h)
-taking m x (tree.binary s o at a b) there h = absurd (false≢true h)
+taking m x _ there h = absurd (false≢true h)
 
 taken_there : (m : Assignment) (x : ℕ) → is_taken m.typed x ≡ true → Taking m x
 taken_there m x h =
@@ -94,10 +79,8 @@ module _ (rules : RulesAreMet) (m : Assignment) (a : IsAccepted m) where
 
   -- M4: the variable of a path that is written is constant
   allowed : (e : Entity) (depth : ℕ) (path : Path) → IsAllowed m.typed e depth path → (x : ℕ) → path_variable m.typed (lock_of path) ≡ Some x → is_constant m.typed x ≡ true
-  allowed e depth _ (global_mutex is kind) x h = absurd (none_some x h)
-  allowed e depth _ (sibling_mutex place is kind) x h = absurd (none_some x h)
-  allowed e depth _ (sibling_pointer place top is pointer alone) x h = absurd (none_some x h)
   allowed e depth _ (through_constant {x = y} place is constant behind) x h = let same : Some y ≡ Some x = sym (ap variable_named is) ∙ h in ap (is_constant m.typed) (sym (same_some y x same)) ∙ constant
+  allowed e depth _ _ x h = absurd (none_some x h)
 
   writes : (n : Numbered) → IsEntity m n → (path : Path) → Contains n.entity.written.ctype.levels (Some (Locked path)) → HeldBy (lock_of path)
   writes n is path has x h =
@@ -128,12 +111,7 @@ module _ (c : Context) (p : ℕ) where
     subst (λ k. k < ref_count c.scope) is (register_low c x stands),
     subst (λ k. held_at c k ≡ true) is (ap (held_named c.program.typed) (register_at c x stands) ∙ held x refl refl),
   )
-  one_named (named.Variable x) None held stands is = absurd is
-  one_named (named.Struct n) second held stands is = absurd is
-  one_named (named.Global n) second held stands is = absurd is
-  one_named (named.Function n) second held stands is = absurd is
-  one_named (named.Field n) second held stands is = absurd is
-  one_named named.Known second held stands is = absurd is
+  one_named _ _ held stands is = absurd is
 
   path_held : (l : Lock) → IsHeldPath c.program (locked l) → (x : ℕ) → named_at c.program.typed l.first ≡ named.Variable x → is_some l.second ≡ true → is_held c.program.typed x ≡ true
   path_held l held x is some = held l x refl (ap (λ b. cond b (variable_named (named_at c.program.typed l.first)) None) some ∙ ap variable_named is)

@@ -15,12 +15,10 @@ use Rattle.sharc_accepted_laws.specs.{Alone.IsInside, Scopes.ScopeLaws, Static.{
 
 -- ---- contents
 integer_by : (b : Base) → kinds.is_integral b ≡ true → base_content b ≡ Integer (width_of (object b 0))
-integer_by base.Char h = refl
-integer_by base.Int h = refl
-integer_by base.Long h = refl
 integer_by base.Mutex h = absurd (false≢true h)
 integer_by base.Void h = absurd (false≢true h)
 integer_by (base.Struct name) h = absurd (false≢true h)
+integer_by _ h = refl
 
 no_stars : (b : Base) (stars : ℕ) → is_integer (object b (suc stars)) ≡ true → ⊥
 no_stars b stars is = by (suc stars == 0) refl is
@@ -32,21 +30,14 @@ no_stars b stars is = by (suc stars == 0) refl is
 integer_content : (m : Assignment) (e : Expression) (n : ℕ) (modes : List Sharing) (k : Kind) (holds : Content) → is_integer k ≡ true → ContentFits m e n modes k holds → holds ≡ Integer (width_of k)
 integer_content m e n modes (object b zero) holds is fits = fits ∙ integer_by b is
 integer_content m e n modes (object b (suc stars)) holds is fits = absurd (no_stars b stars is)
-integer_content m e n modes (array b stars) holds is fits = absurd (false≢true is)
-integer_content m e n modes kinds.null holds is fits = absurd (false≢true is)
-integer_content m e n modes kinds.function holds is fits = absurd (false≢true is)
+integer_content m e n modes _ holds is fits = absurd (false≢true is)
 
 integer_plain : (k : Kind) → is_integer k ≡ true → is_mutex_kind k ≡ false
 integer_plain (object base.Char zero) is = refl
 integer_plain (object base.Int zero) is = refl
 integer_plain (object base.Long zero) is = refl
-integer_plain (object base.Mutex zero) is = absurd (false≢true is)
-integer_plain (object base.Void zero) is = absurd (false≢true is)
-integer_plain (object (base.Struct name) zero) is = absurd (false≢true is)
 integer_plain (object b (suc stars)) is = absurd (no_stars b stars is)
-integer_plain (array b stars) is = absurd (false≢true is)
-integer_plain kinds.null is = absurd (false≢true is)
-integer_plain kinds.function is = absurd (false≢true is)
+integer_plain _ is = absurd (false≢true is)
 
 -- ---- registers
 module _ (c : Context) (code : Code) (y : Typing) (f : ℕ) (e : Expression) (ground : Ground) (suits : IsGroundOf c e ground) (element : Element) (i r : ℕ) (q : Label) where
@@ -66,19 +57,17 @@ module _ (c : Context) (code : Code) (y : Typing) (f : ℕ) (e : Expression) (gr
   base_in is_ref same h = record { is_ref = is_ref; refers = h.0 ∙ ap Refers same; known = h.1 }
 
   have : (t : Target) → target c.program.typed None e ≡ t → (beside : Option ℕ) → HasBaseAt t ground r q → HasIndex c.globals t beside ground element i r q → (has_base t ≡ true → IsRef code q r) → HaveTarget c code q t beside (base_type c e) element i r
-  have (variable x) is beside b index in_it = tt
-  have (in_global g n) is beside b index in_it = tt
   have (in_global_at g n) is beside b index in_it = place_numbers g (suits.count g n is) (suits.elements g n is) beside n index
   have (in_object n) is beside b index in_it = let there = ap has_base is in base_in (in_it refl) (suits.base there) b
   have (in_object_at n) is beside b index in_it = let there = ap has_base is in (base_in (in_it refl) (suits.base there) b, cell_numbers beside n index)
+  have _ is beside b index in_it = tt
 
 -- they are the same where the pointer to the mutex was loaded
 regated : (c : Context) (code : Code) (q : Label) (g : Gate) (t : Target) (beside : Option ℕ) (s : StaticType) (element : Element) (i r : ℕ) → HaveTarget c code q t beside s element i r → HaveTarget c code (gated q g) t beside s element i r
-regated c code q g (variable x) beside s element i r h = tt
-regated c code q g (in_global k n) beside s element i r h = tt
 regated c code q g (in_global_at k n) beside s element i r h = h
 regated c code q g (in_object n) beside s element i r h = record { is_ref = h.is_ref; refers = h.refers; known = h.known }
 regated c code q g (in_object_at n) beside s element i r h = let b = h.0 in (record { is_ref = b.is_ref; refers = b.refers; known = b.known }, h.1)
+regated c code q g _ beside s element i r h = tt
 
 -- the label where the lvalue is placed, or that behind the load of the pointer to its mutex
 abbrev pub IsLike : Label → Label → Type 0
@@ -97,8 +86,7 @@ module _ (scopes : ScopeLaws) (c : Context) (code : Code) (signature : ℕ → S
   own_cell ls q i r (variable x) none alone = absurd (none x refl)
   own_cell ls q i r (in_global g n) none alone = alone g refl
   own_cell ls q i r (in_global_at g n) none alone = alone g refl
-  own_cell ls q i r (in_object n) none alone = tt
-  own_cell ls q i r (in_object_at n) none alone = tt
+  own_cell ls q i r _ none alone = tt
 
   fair : (write : Bool) → IsFairUse c (signature f).alone write e → IsCellLvalue c.program e → (q : Label) → q.function ≡ Some f → ((l : Lock) → LockLeads c l → LockStands c code q l) → (i r : ℕ)
       → IsFairAccess c code (labels_by (setting c code signature starts lines) (λ n. mark q 0 0)) q write (cell_of c.globals i r (target c.program.typed None e)) (modes_behind c.program e) (cell_at c.program e)

@@ -11,8 +11,8 @@ use Rattle.sharc_mode.specs.Moded.{Assignment}
 use Rattle.sharc_flat.specs.{Machine.first_cell, Tables.{cells_in, granules_in, globals_from, globals_of, all_granules}}
 use Rattle.sharc_invariant.specs.Types.{FieldMode, Field, no_field}
 use Rattle.sharc_accepted_laws.specs.{TargetLaws.{MembersAre, GlobalsAre, GlobalsEnd}, Targets.{member, members, struct_fields, base_fields, declared_content, top_mode, global_element, repeated, global_fields, all_global_fields}}
-use Rattle.sharc_accepted_laws.proofs.{TargetCells.{member_count, base_count}, Good.{at_left, at_right, size}, TargetMembers.{members_at, below_there}, Owners.place_is}
-use Rattle.sharc_lemmas.proofs.{Options.{same_some, none_some}, Lists.{head_there, place_of_element, tail_there}}
+use Rattle.sharc_accepted_laws.proofs.{TargetCells.{member_count, base_count}, Good.{at_left, at_right, size}, TargetMembers.members_at, Owners.place_is, AccessCells.below_product}
+use Rattle.sharc_lemmas.proofs.{Options.{same_some, none_some}, Lists.{head_there, place_of_element, tail_there, there_is as below_there}}
 
 -- ---- structs
 -- the fields of a struct are those of the first one of its name
@@ -130,12 +130,3 @@ globals_are m k g is e n low inside =
           ∙ repeated_at (elements_of g.form) (global_element m g) e n j low inside refl;
       cells = element_count m g;
     }
-  where
-    below_product : (e c l n : ℕ) → e < c → n < l → e * l + n < c * l
-    below_product e zero l n low inside = absurd (omega (arith, low))
-    below_product zero (suc c) l n low inside = let product = suc-mul c l in omega (arith, product, inside)
-    below_product (suc e) (suc c) l n low inside =
-        let more = below_product e c l n (omega (arith, low)) inside in
-        let left = suc-mul e l in
-        let right = suc-mul c l in
-        omega (arith, more, left, right)

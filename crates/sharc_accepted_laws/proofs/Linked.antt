@@ -14,23 +14,17 @@ use Rattle.sharc_lemmas.proofs.Numbers.{some_star}
 
 -- ---- what is held by a variable or a cell
 base_plain : (b : Base) → is_integral b ≡ true → (is_struct_behind 0 (object b 0) ≡ false) × (is_mutex_kind (object b 0) ≡ false)
-base_plain Int h = (refl, refl)
-base_plain Char h = (refl, refl)
-base_plain Long h = (refl, refl)
 base_plain Mutex h = absurd (false≢true h)
 base_plain Void h = absurd (false≢true h)
 base_plain (Struct name) h = absurd (false≢true h)
+base_plain _ h = (refl, refl)
 
 pointer_plain : (b : Base) (n : ℕ) → (is_struct_behind 0 (object b (n + 1)) ≡ false) × (is_mutex_kind (object b (n + 1)) ≡ false)
 pointer_plain b n = (ap (λ t. t && is_struct_base b) (some_star n), no_mutex b)
   where
     no_mutex : (b : Base) → is_mutex_kind (object b (n + 1)) ≡ false
-    no_mutex Int = refl
-    no_mutex Char = refl
-    no_mutex Long = refl
     no_mutex Mutex = some_star n
-    no_mutex Void = refl
-    no_mutex (Struct name) = refl
+    no_mutex _ = refl
 
 held_plain : (k : Kind) → IsHeld k → (is_struct_behind 0 k ≡ false) × (is_mutex_kind k ≡ false)
 held_plain k (inl (b, t, is)) = subst (λ j. (is_struct_behind 0 j ≡ false) × (is_mutex_kind j ≡ false)) (sym is) (base_plain b t)

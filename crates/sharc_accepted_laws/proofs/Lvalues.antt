@@ -20,13 +20,11 @@ use Rattle.sharc_meaning.specs.Cells.{field_place, field_place_named}
 use Rattle.sharc_flat.specs.Places.{Target, variable, in_object, in_object_at, in_global, in_global_at, named_target, own_field, target, global_of}
 use Rattle.sharc_invariant.specs.Types.{FieldMode, FieldLock, Field, Content, Pointer, Target as TableTarget, no_field, row_of}
 use Rattle.sharc_accepted_laws.specs.{TargetLaws.{IsRowOf, IsMemberAt}, Lvalues.{pointer_of, below_locks, locks_below, named_locks, cell_locks, IsOfObject, IsOfGlobal, LocksFit, are_written, of_type, ContentFits, ModeFits, FieldFits, IsBehindPointer, IsInFile, NamesCell, no_cell, of_object, of_global}, Shapes.{Shape, form_of, shape_of, row_shape, expression_shape, shapes, number}, Targets.{own_mode, lock_count, type_locks, field_locks, is_private_mode, base_content, pointer_content, declared_content, single, member, base_fields, shape_fields, top_mode, global_element, targets_of}}
-use Rattle.sharc_accepted_laws.proofs.{TargetForms.row_length, TargetLists.left_there, Moding.{PathNames, own_fits, global_fits, private_both, global_both, field_fits}, Numbers.numbers_found, TargetWalk.function_closed}
+use Rattle.sharc_accepted_laws.proofs.{TargetForms.row_length, TargetLists.left_there, Moding.{PathNames, own_fits, global_fits, private_both, global_both, field_fits}, Numbers.numbers_found, TargetWalk.function_closed, Beginning.is_some_base as same_base}
 use Rattle.sharc_lemmas.proofs.Lists.{map_length, head_there, tail_there}
 
 -- ---- parts of expressions
 self_there : (a : Expression) → Contains (expressions a) a
-self_there (tree.identifier s i) = head_there (tree.identifier s i) []
-self_there (tree.constant s c) = head_there (tree.constant s c) []
 self_there (tree.parentheses s a) = head_there (tree.parentheses s a) (expressions a)
 self_there (tree.call s f all) = head_there (tree.call s f all) (in_arguments all)
 self_there (tree.spawn s f a) = head_there (tree.spawn s f a) (expressions a)
@@ -37,6 +35,7 @@ self_there (tree.index s a i) = head_there (tree.index s a i) (expressions a ++ 
 self_there (tree.field s a w n) = head_there (tree.field s a w n) (expressions a)
 self_there (tree.unary s o a) = head_there (tree.unary s o a) (expressions a)
 self_there (tree.binary s o at a b) = head_there (tree.binary s o at a b) (expressions a ++ expressions b)
+self_there k = head_there k []
 
 part : (m : Assignment) (e a : Expression) → Contains (expressions e) a → IsExpression m e → IsExpression m a
 part m e a has x = record { owner = x.owner; stands = x.stands; inside = function_closed x.owner e a x.inside has }
@@ -44,10 +43,9 @@ part m e a has x = record { owner = x.owner; stands = x.stands; inside = functio
 -- ---- rows
 -- what a pointer refers to in turn has the modes below its first target's
 tail_of : {B : Type 0} (f : Mode → B) (count first : ℕ) (modes : List Mode) → first + suc count ≤ length modes → (x : B) × (map f (take (suc count) (drop first modes)) ≡ x ∷ map f (take count (drop (first + 1) modes)))
-tail_of f count zero [] low = absurd (omega (arith, low))
 tail_of f count zero (x ∷ rest) low = (f x, refl)
-tail_of f count (suc n) [] low = absurd (omega (arith, low))
 tail_of f count (suc n) (x ∷ rest) low = let w = tail_of f count n rest (omega (arith, low)) in let e : suc (n + 1) ≡ suc n + 1 = omega arith in (w.0, w.1 ∙ ap (λ k. w.0 ∷ map f (take count (drop k (x ∷ rest)))) e)
+tail_of f count _ [] low = absurd (omega (arith, low))
 
 -- a row with some targets begins with one
 record IsRow (m : Assignment) (row : Targets) : Type 0 where
@@ -75,36 +73,22 @@ row_is m k row w some = let ends = w.ends in row_by m row.first row.count (row.c
 plain_kind : (b : Base) (n : ℕ) → is_struct_behind 0 (object b n) ≡ false → n ≡ 0 → is_struct_base b ≡ false
 plain_kind b n other none = sym (ap (λ z. z && is_struct_base b) (eq-eqb n 0 none)) ∙ other
 
-same_base : (b c : Base) (n k : ℕ) → object b n ≡ object c k → b ≡ c
-same_base b c n k h = cc
-
 same_stars : (b c : Base) (n k : ℕ) → object b n ≡ object c k → n ≡ k
 same_stars b c n k h = cc
 
 -- an element that is no struct and no pointer is one cell
 single_fields : (m : Assignment) (q : FieldMode) (b : Base) → is_struct_base b ≡ false → base_fields m q b ≡ single q b ∷ []
-single_fields m q base.Int other = refl
-single_fields m q base.Char other = refl
-single_fields m q base.Long other = refl
-single_fields m q base.Mutex other = refl
-single_fields m q base.Void other = refl
 single_fields m q (base.Struct name) other = absurd (true≢false other)
+single_fields m q _ other = refl
 
 single_holds : (q : FieldMode) (b : Base) → (single q b).holds ≡ base_content b
-single_holds q base.Int = refl
-single_holds q base.Char = refl
-single_holds q base.Long = refl
-single_holds q base.Mutex = refl
-single_holds q base.Void = refl
 single_holds q (base.Struct name) = refl
+single_holds q _ = refl
 
 single_mode : (q : FieldMode) (b : Base) → is_struct_base b ≡ false → (b ≡ base.Mutex → ⊥) → (single q b).mode ≡ q
-single_mode q base.Int plain other = refl
-single_mode q base.Char plain other = refl
-single_mode q base.Long plain other = refl
 single_mode q base.Mutex plain other = absurd (other refl)
-single_mode q base.Void plain other = refl
 single_mode q (base.Struct name) plain other = absurd (true≢false plain)
+single_mode q _ plain other = refl
 
 mutex_not : (b : Base) → is_mutex_kind (object b 0) ≡ false → b ≡ base.Mutex → ⊥
 mutex_not b other is = true≢false (sym (ap (λ x. is_mutex_kind (object x 0)) is) ∙ other)
@@ -128,15 +112,11 @@ module _ (m : Assignment) (ready : AreReady m) where
   r = m.typed
 
   some_row : (e : Expression) (k : Kind) → HasType r e k → is_null k ≡ false → (row : Targets) × (row_at r e ≡ Some row)
-  some_row _ _ (typing.a_variable {s} {i} names at text) other = (_, refl)
-  some_row _ _ (typing.a_global {s} {i} names at text) other = (_, refl)
-  some_row _ _ (typing.a_function {s} {i} callee) other = (_, refl)
   some_row _ _ (typing.a_constant {s} {c}) other = by c other
     where
       by : (c : _) → is_null (constant_kind c) ≡ false → (row : Targets) × (constant_row c ≡ Some row)
-      by (Number n) other = (_, refl)
-      by (Character b) other = (_, refl)
       by Null other = absurd (true≢false other)
+      by _ other = (_, refl)
   some_row _ _ (typing.in_parentheses {s} {a} {k} h) other = some_row a k h other
   some_row _ _ (typing.element_of_pointer {s} {a} {i} {b} {n} ha hi integer) other =
       let w = some_row a (object b (n + 1)) ha refl in
@@ -144,24 +124,10 @@ module _ (m : Assignment) (ready : AreReady m) where
   some_row _ _ (typing.element_of_array {s} {a} {i} {b} {n} ha hi integer) other =
       let w = some_row a (array b n) ha refl in
       (w.0, ap (λ z. cond z (row_at r a) (behind (row_at r a))) (ap is_array (ready.one a (array b n) ha)) ∙ w.1)
-  some_row _ _ (typing.a_call callee types) other = (_, refl)
   some_row _ _ (typing.a_field h member names) other = (_, refl)
   some_row _ _ (typing.a_field_behind h member names) other = (_, refl)
-  some_row _ _ (typing.negated h integer common) other = (_, refl)
-  some_row _ _ (typing.complemented h integer common) other = (_, refl)
-  some_row _ _ (typing.denied h scalar) other = (_, refl)
   some_row _ _ (typing.pointed_to {s} {a} {b} {n} h) other = let w = some_row a (object b (n + 1)) h refl in (deeper w.0, ap behind w.1)
-  some_row _ _ (typing.arithmetic class ha hb ia ib common) other = (_, refl)
-  some_row _ _ (typing.shifted class ha hb ia ib common) other = (_, refl)
-  some_row _ _ (typing.related class ha hb ia ib) other = (_, refl)
-  some_row _ _ (typing.equated class ha hb comparable) other = (_, refl)
-  some_row _ _ (typing.joined class ha hb sa sb) other = (_, refl)
-  some_row _ _ (typing.spawned callee types) other = (_, refl)
-  some_row _ _ (typing.printed_or_joined h integer) other = (_, refl)
-  some_row _ _ (typing.locked lvalue h) other = (_, refl)
-  some_row _ _ (typing.unlocked lvalue h) other = (_, refl)
-  some_row _ _ (typing.freed lvalue h pointer) other = (_, refl)
-  some_row _ _ (typing.a_cast lvalue h pointer) other = (_, refl)
+  some_row _ _ _ other = (_, refl)
 
   -- ---- what a pointer refers to
   record IsPointee (p : Expression) (b : Base) (n : ℕ) : Type 0 where
@@ -404,11 +370,8 @@ module _ (m : Assignment) (ready : AreReady m) where
   locks_within s a n modes _ (of_type q below is row) = of_type q below is row
 
   content_within : (s : _) (a : Expression) (n : ℕ) (modes : List Sharing) (k : Kind) (c : Content) → ContentFits m a n modes k c → ContentFits m (tree.parentheses s a) n modes k c
-  content_within s a n modes (object b zero) c h = h
   content_within s a n modes (object b (suc stars)) c h = record { row = h.row; is = h.is; locks = h.locks; fit = locks_within s a n modes h.locks h.fit; told = h.told; pointer = h.pointer }
-  content_within s a n modes (array b stars) c h = h
-  content_within s a n modes kinds.null c h = h
-  content_within s a n modes kinds.function c h = h
+  content_within s a n modes _ c h = h
 
   field_within : (s : _) (a : Expression) (n : ℕ) (modes : List Sharing) (f : Field) → FieldFits m a n modes f → FieldFits m (tree.parentheses s a) n modes f
   field_within s a n modes f h = record { content = content_within s a n modes (kind_at r a) f.holds h.content; mode = h.mode }
@@ -445,13 +408,11 @@ module _ (m : Assignment) (ready : AreReady m) where
       by : (t : _) → is_array (number_kind t) ≡ false
       by number_type.Int = refl
       by number_type.Long = refl
-  constant_plain (Character b) = refl
-  constant_plain Null = refl
+  constant_plain _ = refl
 
   common_plain : (a b t : Kind) → Common a b t → is_array t ≡ false
   common_plain a b _ (both_shorter x y) = refl
-  common_plain _ b _ left_long = refl
-  common_plain a _ _ right_long = refl
+  common_plain a b _ _ = refl
 
   global_names : (i : _) (n : ℕ) (f : Option ℕ) → named_at r i ≡ named.Global n → named_target (named_at r i) (own_field f 0) ≡ in_global n (own_field f 0)
   global_names i n f is = ap (λ w. named_target w (own_field f 0)) is
@@ -471,14 +432,10 @@ module _ (m : Assignment) (ready : AreReady m) where
       record { number = n; global = g; at = at; place = global_names i.site.token n None names; cell = cell_of_global i.site.token n g names at; row = row_of_global i.site.token n g names at; declared_is = by g.form is; told = told_global i.site.token n g names at }
     where
       by : (f : GlobalForm) → global_kind f (declared_kind g.declaration.written) ≡ array b k → declared_kind g.declaration.written ≡ object b k
-      by form.Plain h = absurd (no_array _ b _ k h)
       by (form.Array at count) h = array_parts _ b _ k h
-      by (form.Initial span minus c) h = absurd (no_array _ b _ k h)
-  array_base _ _ (typing.a_function callee) b n is = cc
+      by _ h = absurd (no_array _ b _ k h)
   array_base _ _ (typing.a_constant {s} {c}) b n is = absurd (no_array_of (constant_kind c) b n (constant_plain c) is)
   array_base _ _ (typing.in_parentheses {s} {a} {k} h) b n is = let w = array_base a k h b n is in record { number = w.number; global = w.global; at = w.at; place = w.place; cell = w.cell; row = w.row; declared_is = w.declared_is; told = w.told }
-  array_base _ _ (typing.element_of_pointer ha hi integer) b n is = cc
-  array_base _ _ (typing.element_of_array ha hi integer) b n is = cc
   array_base _ _ (typing.a_call callee types) b n is = absurd (callee_plain callee b n is)
     where
       callee_plain : {i : Identifier} {ps : List Kind} {k : Kind} → Callee r i ps k → (b : Base) (n : ℕ) → k ≡ array b n → ⊥
@@ -488,19 +445,9 @@ module _ (m : Assignment) (ready : AreReady m) where
   array_base _ _ (typing.a_field_behind h member names) b n is = cc
   array_base _ _ (typing.negated {t} h integer common) b n is = absurd (no_array_of t b n (common_plain _ _ t common) is)
   array_base _ _ (typing.complemented {t} h integer common) b n is = absurd (no_array_of t b n (common_plain _ _ t common) is)
-  array_base _ _ (typing.denied h scalar) b n is = cc
-  array_base _ _ (typing.pointed_to h) b n is = cc
   array_base _ _ (typing.arithmetic {t} class ha hb ia ib common) b n is = absurd (no_array_of t b n (common_plain _ _ t common) is)
   array_base _ _ (typing.shifted {t} class ha hb ia ib common) b n is = absurd (no_array_of t b n (common_plain _ _ t common) is)
-  array_base _ _ (typing.related class ha hb ia ib) b n is = cc
-  array_base _ _ (typing.equated class ha hb comparable) b n is = cc
-  array_base _ _ (typing.joined class ha hb sa sb) b n is = cc
-  array_base _ _ (typing.spawned callee types) b n is = cc
-  array_base _ _ (typing.printed_or_joined h integer) b n is = cc
-  array_base _ _ (typing.locked lvalue h) b n is = cc
-  array_base _ _ (typing.unlocked lvalue h) b n is = cc
-  array_base _ _ (typing.freed lvalue h pointer) b n is = cc
-  array_base _ _ (typing.a_cast lvalue h pointer) b n is = cc
+  array_base _ _ _ b n is = cc
 
   -- ---- structs that are lvalues
   data StructPlace (a : Expression) (x : List ℕ) : Type 0 where
@@ -527,11 +474,9 @@ module _ (m : Assignment) (ready : AreReady m) where
   struct_place _ _ (typing.a_global {s} {i} {n} {g} names at text) stands x is = is_in_file n g at (by g.form is) (cell_of_global i.site.token n g names at) (λ f. inl (global_names i.site.token n (Some f) names))
     where
       by : (f : GlobalForm) → global_kind f (declared_kind g.declaration.written) ≡ object (base.Struct x) 0 → declared_kind g.declaration.written ≡ object (base.Struct x) 0
-      by form.Plain h = h
       by (form.Array at count) h = cc
-      by (form.Initial span minus c) h = h
+      by _ h = h
   struct_place _ _ (typing.a_function callee) stands x is = cc
-  struct_place _ _ (typing.a_constant {s} {c}) stands x is = is_nowhere (λ f. (0, refl))
   struct_place _ _ (typing.in_parentheses {s} {a} {k} h) stands x is = struct_within s a x (struct_place a k h (part m (tree.parentheses s a) a (tail_there (tree.parentheses s a) a (expressions a) (self_there a)) stands) x is)
   struct_place _ _ (typing.element_of_pointer {s} {a} {i} {b} {n} ha hi integer) stands x is =
       let plain = ap is_array (ready.one a (object b (n + 1)) ha) in
@@ -544,27 +489,13 @@ module _ (m : Assignment) (ready : AreReady m) where
       let w = array_base a (array b n) ha b n refl in
       is_in_file w.number w.global w.at (w.declared_is ∙ is) (ap (λ z. cond z (cell_at m a) (pointed m (row_at r a))) array_is ∙ w.cell)
       (λ f. inr (ap (λ z. cond z (in_global_at (global_of (target r None a)) f) (in_object_at f)) array_is ∙ ap (λ t. in_global_at (global_of t) f) w.place))
-  struct_place _ _ (typing.a_call callee types) stands x is = is_nowhere (λ f. (0, refl))
   struct_place _ _ (typing.a_field {s} {a} {name} {d} h member names) stands x is = absurd (no_struct_field _ name.text d member x is)
   struct_place _ _ (typing.a_field_behind {s} {a} {name} {d} h member names) stands x is = absurd (no_struct_field _ name.text d member x is)
-  struct_place _ _ (typing.negated h integer common) stands x is = is_nowhere (λ f. (0, refl))
-  struct_place _ _ (typing.complemented h integer common) stands x is = is_nowhere (λ f. (0, refl))
-  struct_place _ _ (typing.denied h scalar) stands x is = is_nowhere (λ f. (0, refl))
   struct_place _ _ (typing.pointed_to {s} {a} {b} {n} h) stands x is =
       let inner = part m (tree.unary s Dereference a) a (tail_there (tree.unary s Dereference a) a (expressions a) (self_there a)) stands in
       let w = pointee a (base.Struct x) 0 (element_type a b n x h is) inner in
       is_behind a refl inner w (ap (pointed m) w.row_found) (λ f. inl refl)
-  struct_place _ _ (typing.arithmetic class ha hb ia ib common) stands x is = is_nowhere (λ f. (0, refl))
-  struct_place _ _ (typing.shifted class ha hb ia ib common) stands x is = is_nowhere (λ f. (0, refl))
-  struct_place _ _ (typing.related class ha hb ia ib) stands x is = is_nowhere (λ f. (0, refl))
-  struct_place _ _ (typing.equated class ha hb comparable) stands x is = is_nowhere (λ f. (0, refl))
-  struct_place _ _ (typing.joined class ha hb sa sb) stands x is = is_nowhere (λ f. (0, refl))
-  struct_place _ _ (typing.spawned callee types) stands x is = is_nowhere (λ f. (0, refl))
-  struct_place _ _ (typing.printed_or_joined h integer) stands x is = is_nowhere (λ f. (0, refl))
-  struct_place _ _ (typing.locked lvalue h) stands x is = is_nowhere (λ f. (0, refl))
-  struct_place _ _ (typing.unlocked lvalue h) stands x is = is_nowhere (λ f. (0, refl))
-  struct_place _ _ (typing.freed lvalue h pointer) stands x is = is_nowhere (λ f. (0, refl))
-  struct_place _ _ (typing.a_cast lvalue h pointer) stands x is = is_nowhere (λ f. (0, refl))
+  struct_place _ _ _ stands x is = is_nowhere (λ f. (0, refl))
 
   -- ---- each lvalue
   pub names_cell : (e : Expression) (k : Kind) → HasType r e k → IsExpression m e → is_struct_behind 0 k ≡ false → is_array k ≡ false → NamesCell m e (target r None e)
@@ -578,9 +509,8 @@ module _ (m : Assignment) (ready : AreReady m) where
           (plain_kind g.declaration.written.ctype.base (length g.declaration.written.ctype.levels - 1) (sym (ap (is_struct_behind 0) same) ∙ plain)) refl at (row_of_global i.site.token n g names at) (cell_of_global i.site.token n g names at) (told_global i.site.token n g names at)
 
       by : (f : GlobalForm) → g.form ≡ f → IsInFile m (tree.identifier s i) n 0
-      by form.Plain e = with_kind (ap (λ z. global_kind z (declared_kind g.declaration.written)) e)
       by (form.Array x count) e = absurd (true≢false (sym (ap (λ z. is_array (global_kind z (declared_kind g.declaration.written))) e) ∙ single_one))
-      by (form.Initial span minus c) e = with_kind (ap (λ z. global_kind z (declared_kind g.declaration.written)) e)
+      by _ e = with_kind (ap (λ z. global_kind z (declared_kind g.declaration.written)) e)
   names_cell _ _ (typing.a_function {s} {i} callee) stands plain single_one = nowhere_at (tree.identifier s i) _ 0 (callee_target callee)
     where
       callee_target : {j : Identifier} {ps : List Kind} {k : Kind} → Callee r j ps k → named_target (named_at r j.site.token) 0 ≡ variable 0
@@ -647,22 +577,9 @@ module _ (m : Assignment) (ready : AreReady m) where
       (ap (λ z. Some (named_row r (reading_through (base_use r Arrow a)) z)) names)
       (ap (λ q. field_named r q (named_at r name.site.token)) (ap (pointed m) w.row_found) ∙ ap (field_named r (pointed m (Some w.row))) names ∙ ap (declared_cell r (pointed m (Some w.row))) (ready.field_itself member.0 d there has))
       (ap (λ w. named_locks m (field_place_named r w) w) names))
-  names_cell _ _ (typing.negated {s} {a} h integer common) stands plain single_one = nowhere_at _ _ 0 refl
-  names_cell _ _ (typing.complemented {s} {a} h integer common) stands plain single_one = nowhere_at _ _ 0 refl
-  names_cell _ _ (typing.denied {s} {a} h scalar) stands plain single_one = nowhere_at _ _ 0 refl
   names_cell _ _ (typing.pointed_to {s} {a} {b} {n} h) stands plain single_one =
       let inner = part m (tree.unary s Dereference a) a (tail_there (tree.unary s Dereference a) a (expressions a) (self_there a)) stands in
       let w = pointee a b n h inner in
       of_object (target r None (tree.unary s Dereference a)) 0 (inl refl)
       (behind_scalar (tree.unary s Dereference a) a b n (ready.one (tree.unary s Dereference a) (object b n) (typing.pointed_to h)) (plain_kind b n plain) refl inner w (ap behind w.row_found) (ap (pointed m) w.row_found) refl)
-  names_cell _ _ (typing.arithmetic class ha hb ia ib common) stands plain single_one = nowhere_at _ _ 0 refl
-  names_cell _ _ (typing.shifted class ha hb ia ib common) stands plain single_one = nowhere_at _ _ 0 refl
-  names_cell _ _ (typing.related class ha hb ia ib) stands plain single_one = nowhere_at _ _ 0 refl
-  names_cell _ _ (typing.equated class ha hb comparable) stands plain single_one = nowhere_at _ _ 0 refl
-  names_cell _ _ (typing.joined class ha hb sa sb) stands plain single_one = nowhere_at _ _ 0 refl
-  names_cell _ _ (typing.spawned callee types) stands plain single_one = nowhere_at _ _ 0 refl
-  names_cell _ _ (typing.printed_or_joined h integer) stands plain single_one = nowhere_at _ _ 0 refl
-  names_cell _ _ (typing.locked lvalue h) stands plain single_one = nowhere_at _ _ 0 refl
-  names_cell _ _ (typing.unlocked lvalue h) stands plain single_one = nowhere_at _ _ 0 refl
-  names_cell _ _ (typing.freed lvalue h pointer) stands plain single_one = nowhere_at _ _ 0 refl
-  names_cell _ _ (typing.a_cast lvalue h pointer) stands plain single_one = nowhere_at _ _ 0 refl
+  names_cell _ _ _ stands plain single_one = nowhere_at _ _ 0 refl

@@ -4,7 +4,7 @@ use Rattle.std.specs.{Prelude.{◌==◌, IfSome, if◌then◌else◌}, List.{lis
 use Rattle.sharc_tree.specs.{declared.token.Span.Span, declared.token.Token.Token, declared.tree.declaration.Declaration.Declaration, declared.tree.declaration.WrittenType.WrittenType, Placed.{Follow, IsWhole, point, option_spans, first_spans, head_spans, statement_spans, declaration_spans, item_spans, PlacedRight, PlacedSimple, PlacedLocal, PlacedFirst, PlacedStatement, PlacedStatements, PlacedItems, IsPlaced}, Spans.{span_of, span_of_right, span_of_simple, span_of_statement}, Tree.{Expression, identifier, constant, parentheses, call, spawn, on_value, on_place, cast, index, field, unary, binary, Arguments, no_arguments, argument, Right, value, malloc, Simple, assign, does_call, Local, First, nothing, declares, does, Statement, empty, block, declare, simple, jump, return, if_then, if_then_else, while, for, Statements, no_statements, statement, Item, structure, global, function}}
 use Rattle.sharc_ctype.specs.{Resolved.{Resolution, functions_in, named_at}, Transfers.{Receiver, lvalue, variable, result, Transfer, gives, parameters_named, passed, transfers, argument_transfers, in_option, right_transfers, simple_transfers, local_transfers, first_transfers, statement_transfers, statements_transfers, function_transfers}}
 use Rattle.sharc_meaning.specs.References.{made_at, types_made}
-use Rattle.sharc_lemmas.proofs.{Lists.head_or_tail, Equal.none_there}
+use Rattle.sharc_lemmas.proofs.{Lists.head_or_tail, Equal.none_there, Bools.or_false as or_none}
 
 -- ---- what begins at one token
 -- at most one type, and if there is one, the token is one of these
@@ -104,8 +104,6 @@ module _ (r : Resolution) (token : ℕ) (all : List Token) where
 
   mutual
     none : (e : Expression) → made (transfers r e) ≡ []
-    none (identifier s i) = refl
-    none (constant s c) = refl
     none (parentheses s a) = none a
     none (call s f args) = none_both (passed (parameters_named r (named_at r f.site.token)) args) (argument_transfers r args) (passed_none (parameters_named r (named_at r f.site.token)) args) (none_all args)
     none (spawn s f a) = none_both (passed (parameters_named r (named_at r f.site.token)) (argument a no_arguments)) (transfers r a) (passed_none (parameters_named r (named_at r f.site.token)) (argument a no_arguments)) (none a)
@@ -116,6 +114,7 @@ module _ (r : Resolution) (token : ℕ) (all : List Token) where
     none (field s a w n) = none a
     none (unary s o a) = none a
     none (binary s o at a b) = none_both (transfers r a) (transfers r b) (none a) (none b)
+    none _ = refl
 
     none_all : (args : Arguments) → made (argument_transfers r args) ≡ []
     none_all no_arguments = refl
@@ -219,10 +218,6 @@ module _ (r : Resolution) (token : ℕ) (all : List Token) where
 only_one : (p : WrittenType → Bool) (list : List WrittenType) (w : WrittenType) → length list ≤ 1 → Contains list w → list_any p list ≡ p w
 only_one p [] w once has = absurd (none_there w has)
 only_one p (v ∷ []) w once has = ⊎_elim (λ (is : v ≡ w). or_none (p v) ∙ ap p is) (λ later. absurd (none_there w later)) (head_or_tail v w [] has)
-  where
-    or_none : (b : Bool) → (b || false) ≡ b
-    or_none true = refl
-    or_none false = refl
 only_one p (v ∷ u ∷ list) w once has = absurd (omega (arith, once))
 
 -- what holds of some type that is made at a token holds of that which is

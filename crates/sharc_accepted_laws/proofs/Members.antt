@@ -4,6 +4,7 @@ use Rattle.std.specs.List.{AllByRecursion, list_any, flat_map, filter_map}
 use Rattle.sharc_tree.specs.{Measures.expressions, Tree.Expression}
 use Rattle.sharc_tree.specs.Tree as tree
 use Rattle.sharc_lemmas.proofs.{Lists.{each, head_there, head_or_tail, to_each, tail_there}, Equal.none_there}
+use Rattle.sharc_accepted_laws.proofs.StaticLists.{passes_by as any_passes}
 
 -- of what each element gives
 pub flat_there : {A B : Type 0} (f : A → List B) (list : List A) (x : A) (y : B) → Contains list x → Contains (f x) y → Contains (flat_map f list) y
@@ -28,30 +29,8 @@ filter_there {B = B} p (z ∷ rest) x y has is = ⊎_elim (λ (same : z ≡ x). 
 pub own_elements : {A : Type 0} (list : List A) → AllByRecursion (Contains list) list
 own_elements list = to_each (Contains list) list (λ x has. has)
 
-pub any_passes : {A : Type 0} (p : A → Bool) (list : List A) (x : A) → Contains list x → p x ≡ true → list_any p list ≡ true
-any_passes p [] x has h = absurd (none_there x has)
-any_passes p (y ∷ rest) x has h = ⊎_elim (λ is. here (p y) (list_any p rest) (ap p is ∙ h)) (λ later. there (p y) (list_any p rest) (any_passes p rest x later h)) (head_or_tail y x rest has)
-  where
-    here : (a b : Bool) → a ≡ true → (a || b) ≡ true
-    here true b h = refl
-    here false b h = absurd (false≢true h)
-
-    there : (a b : Bool) → b ≡ true → (a || b) ≡ true
-    there true b h = refl
-    there false b h = h
-
 -- ---- expressions
 -- an expression is the first of those that it has
 pub first_of : (P : Expression → Type 0) (e : Expression) → AllByRecursion P (expressions e) → P e
-first_of P (tree.identifier s i) h = h.0
-first_of P (tree.constant s c) h = h.0
-first_of P (tree.parentheses s a) h = h.0
-first_of P (tree.call s f all) h = h.0
-first_of P (tree.spawn s f a) h = h.0
-first_of P (tree.on_value s w a) h = h.0
-first_of P (tree.on_place s w a) h = h.0
 first_of P (tree.cast s t a) h = h.0
-first_of P (tree.index s a i) h = h.0
-first_of P (tree.field s a w n) h = h.0
-first_of P (tree.unary s o a) h = h.0
-first_of P (tree.binary s o at a b) h = h.0
+first_of P _ h = h.0

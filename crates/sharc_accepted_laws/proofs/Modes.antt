@@ -17,7 +17,7 @@ use Rattle.sharc_invariant.specs.{Types.{StaticType, Lock as TypeLock, OfType, O
 use Rattle.sharc_invariant.specs.Types as types
 use Rattle.sharc_typed_laws.specs.{Inside.lock_of, Lines.{IsLockedBy, MayPass}}
 use Rattle.sharc_accepted_laws.specs.{Static.{register, lock_named, lock_at, locks_at}, Beside.BesideFits, TargetLaws.{HasTables, GlobalsAre}, Lvalues.{ModeFits, is_private, is_readonly, is_racy, is_dynamic, locked_by_type, locked_by_global, locked_by_sibling, locked_behind}, Targets.{single, base_fields, declared_content, top_mode, global_element, targets_of}, Accesses.{Reaches, Guards, IsGated, LockStands, of_global, of_variable, IsFairAccess}}
-use Rattle.sharc_accepted_laws.proofs.AccessCells.{IsCellOf, ArePairOf, first_low, global_cell_at}
+use Rattle.sharc_accepted_laws.proofs.{AccessCells.{IsCellOf, ArePairOf, first_low, global_cell_at}, Beginning.is_some_base as base_is}
 use Rattle.sharc_lemmas.proofs.Options.{no_guard, some_is}
 
 no_array : (b c : Base) (n k : ℕ) → array b n ≡ object c k → ⊥
@@ -25,9 +25,6 @@ no_array b c n k h = cc
 
 no_function : (b : Base) (n : ℕ) → kinds.function ≡ object b n → ⊥
 no_function b n h = cc
-
-base_is : (b c : Base) (n k : ℕ) → object b n ≡ object c k → b ≡ c
-base_is b c n k h = cc
 
 -- ---- global mutexes
 record IsMutexGlobal (m : Assignment) (g : ℕ) : Type 0 where
@@ -55,9 +52,8 @@ mutex_global m g kind = by (global_at m.typed g) refl kind
     }
 
     by_form : (d : GlobalDefinition) → global_at m.typed g ≡ Some d → (f : GlobalForm) → d.form ≡ f → global_kind f (declared_kind d.declaration.written) ≡ mutex → IsMutexGlobal m g
-    by_form d is form.Plain e h = found d is (let one : elements_of d.form ≡ 1 = ap elements_of e in omega (arith, one)) h
     by_form d is (form.Array at count) e h = absurd (no_array _ _ _ _ h)
-    by_form d is (form.Initial span minus k) e h = found d is (let one : elements_of d.form ≡ 1 = ap elements_of e in omega (arith, one)) h
+    by_form d is _ e h = found d is (let one : elements_of d.form ≡ 1 = ap elements_of e in omega (arith, one)) h
 
     by : (o : Option GlobalDefinition) → global_at m.typed g ≡ o → global_kind_of o ≡ mutex → IsMutexGlobal m g
     by None is h = absurd (no_function _ _ h)
@@ -80,10 +76,6 @@ module _ (c : Context) (code : Code) (q : Label) where
       → ((j : ℕ) → beside_field c.program.typed mode ≡ Some j → j < length fields → ArePairOf c.program code q n j a (guard j) (slice_index_or fields n no_field) (slice_index_or fields j no_field))
       → ((l : Lock) (below : List Sharing) → list ≡ locked l ∷ below → mode ≡ locked l → LockStands c code q l)
       → (fm : FieldMode) → ModeFits c.program.typed n list mode fm → BesideFits c.program fields fm → Guards c code q (guard k)
-  guard_there n list _ a guard fields k is pair path _ is_private beside = absurd (no_guard k is)
-  guard_there n list _ a guard fields k is pair path _ is_readonly beside = absurd (no_guard k is)
-  guard_there n list _ a guard fields k is pair path _ is_racy beside = absurd (no_guard k is)
-  guard_there n list _ a guard fields k is pair path _ is_dynamic beside = absurd (no_guard k is)
   guard_there n list _ a guard fields k is pair path _ (locked_by_type {l} {below} starts) beside = absurd (path_none l (path l below starts refl) k is)
   guard_there n list _ a guard fields k is pair path _ (locked_by_global {l} {g} names kind) beside = absurd (no_guard k (sym (ap (guard_named c.program.typed l) names) ∙ is))
   guard_there n list _ a guard fields k is pair path _ (locked_by_sibling {l} {f} names plain) beside = absurd (no_guard k (sym (guard_is c.program.typed l f false names plain) ∙ is))
@@ -91,6 +83,7 @@ module _ (c : Context) (code : Code) (q : Label) where
       let here = some_is (field_place c.program.typed f) k (sym (guard_is c.program.typed l f true names behind) ∙ is) in
       let two = pair (field_place c.program.typed f) (beside_is c.program.typed l f names) beside.0 in
       subst (λ z. Guards c code q (guard z)) here (record { field = slice_index_or fields (field_place c.program.typed f) no_field; there = two.second.there; points = beside.1 })
+  guard_there n list _ a guard fields k is pair path _ _ beside = absurd (no_guard k is)
 
 -- the register on which a cell is
 abbrev pub IsOnBase : Cell → ℕ → Type 0
@@ -141,17 +134,13 @@ module _ (globals_are : GlobalsAre) (c : Context) (globals : c.globals ≡ globa
   type_lock : (a : Cell) (x : ℕ) (s : StaticType) (lock : TypeLock) (rest : List TypeLock) → IsOnBase a x → q.env x ≡ Refers s → s.locks ≡ lock ∷ rest → (mode : PlaceMode) → IsLockMode code q x lock mode → IsTypeMode code q 0 a mode
   type_lock (cells.Global g p) x s lock rest on refers locks mode is = absurd on
   type_lock (cells.GlobalAt g i) x s lock rest on refers locks mode is = absurd on
-  type_lock (cells.Object b i) x s lock rest on refers locks mode is =
-      (s, subst (λ z. q.env z ≡ Refers s) (sym on) refers, subst (λ z. IsLockMode code q z (slice_index_or s.locks 0 no_lock) mode) (sym on) (subst (λ l. IsLockMode code q x (slice_index_or l 0 no_lock) mode) (sym locks) is))
-  type_lock (cells.ObjectAt b i) x s lock rest on refers locks mode is =
+  type_lock _ x s lock rest on refers locks mode is =
       (s, subst (λ z. q.env z ≡ Refers s) (sym on) refers, subst (λ z. IsLockMode code q z (slice_index_or s.locks 0 no_lock) mode) (sym on) (subst (λ l. IsLockMode code q x (slice_index_or l 0 no_lock) mode) (sym locks) is))
 
   type_cell : (a : Cell) (x : ℕ) (s : StaticType) (lock : TypeLock) (rest : List TypeLock) → IsOnBase a x → q.env x ≡ Refers s → s.locks ≡ lock ∷ rest → (b : Cell) → IsLockCell code q x lock b → IsTypeLock code q 0 a b
   type_cell (cells.Global g p) x s lock rest on refers locks b is = absurd on
   type_cell (cells.GlobalAt g i) x s lock rest on refers locks b is = absurd on
-  type_cell (cells.Object y i) x s lock rest on refers locks b is =
-      (s, subst (λ z. q.env z ≡ Refers s) (sym on) refers, subst (λ l. 0 < length l) (sym locks) (omega arith), subst (λ z. IsLockCell code q z (slice_index_or s.locks 0 no_lock) b) (sym on) (subst (λ l. IsLockCell code q x (slice_index_or l 0 no_lock) b) (sym locks) is))
-  type_cell (cells.ObjectAt y i) x s lock rest on refers locks b is =
+  type_cell _ x s lock rest on refers locks b is =
       (s, subst (λ z. q.env z ≡ Refers s) (sym on) refers, subst (λ l. 0 < length l) (sym locks) (omega arith), subst (λ z. IsLockCell code q z (slice_index_or s.locks 0 no_lock) b) (sym on) (subst (λ l. IsLockCell code q x (slice_index_or l 0 no_lock) b) (sym locks) is))
 
   -- by its path
@@ -193,8 +182,6 @@ module _ (globals_are : GlobalsAre) (c : Context) (globals : c.globals ≡ globa
       → Around a f n list spot.lock fm → ReachesAs write a spot holds fm
   reaches_as n list _ a x cell _ is_private write spot holds mode_is fair around = record { is = mode_is; may = (around, fair.own refl) }
   reaches_as n list _ a x cell _ is_readonly write spot holds mode_is fair around = record { is = mode_is; may = (around, fair.reads refl) }
-  reaches_as n list _ a x cell _ is_racy write spot holds mode_is fair around = record { is = mode_is; may = around }
-  reaches_as n list _ a x cell _ is_dynamic write spot holds mode_is fair around = record { is = mode_is; may = around }
   reaches_as n list _ a x cell _ (locked_by_type {l} {below} starts) write spot holds mode_is fair (closed, (y, s, on, refers, locks)) =
       by_type n a l below write spot holds mode_is (fair.path l below starts refl) closed y s on refers (locks ∙ ap (locks_at c) starts)
   reaches_as n list _ a x cell _ (locked_by_global {l} {g} names kind) write spot holds mode_is fair closed =
@@ -225,6 +212,7 @@ module _ (globals_are : GlobalsAre) (c : Context) (globals : c.globals ≡ globa
     is = mode_is ∙ ap (λ z. mode_named c n l z l.second) names ∙ ap (λ z. mode_beside z n (field_place r f)) behind;
     may = record { cell = b; of = g; loaded = loaded; has = pair.second.there; points = points; sibling = pair.sibling };
   }
+  reaches_as n list _ a x cell _ _ write spot holds mode_is fair around = record { is = mode_is; may = around }
 
   pub reaches : (n : ℕ) (list : List Sharing) (mode : Sharing) (a : Cell) (f : Field) → IsCellOf m code q n a f → ModeFits r n list mode f.mode → (write : Bool) (spot : Spot) → spot.mode ≡ place_mode c n mode → IsFairAccess c code ls q write a list mode
       → Around a f n list spot.lock f.mode → Reaches c code ls q write a spot f
@@ -250,10 +238,6 @@ module _ (globals_are : GlobalsAre) (c : Context) (globals : c.globals ≡ globa
 
   pub around : (n : ℕ) (list : List Sharing) (mode : Sharing) (a : Cell) (guard : ℕ → Cell) (fields : List Field) (lock : Cell) → HasAround n list mode a guard fields lock → (fm : FieldMode) → ModeFits r n list mode fm → BesideFits m fields fm
       → Around a (slice_index_or fields n no_field) n list lock fm
-  around n list _ a guard fields lock has _ is_private beside = has.gated
-  around n list _ a guard fields lock has _ is_readonly beside = has.gated
-  around n list _ a guard fields lock has _ is_racy beside = has.gated
-  around n list _ a guard fields lock has _ is_dynamic beside = has.gated
   around n list _ a guard fields lock has _ (locked_by_type {l} {below} starts) beside = (path_closed guard l (has.path l below starts refl) has.gated, has.typed l below starts)
   around n list _ a guard fields lock has _ (locked_by_global {l} {g} names kind) beside = gated_named guard l (named.Global g) names has.gated
   around n list _ a guard fields lock has _ (locked_by_sibling {l} {f} names plain) beside =
@@ -264,3 +248,4 @@ module _ (globals_are : GlobalsAre) (c : Context) (globals : c.globals ≡ globa
   around n list _ a guard fields lock has _ (locked_behind {l} {f} names behind) beside =
       let is = beside_is r l f names in
       (guard (field_place r f), slice_index_or fields (field_place r f) no_field, has.pair (field_place r f) is beside.0, beside.1, subst (IsGated q guard) (guard_is r l f true names behind) has.gated)
+  around n list _ a guard fields lock has _ _ beside = has.gated

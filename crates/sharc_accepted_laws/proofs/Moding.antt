@@ -67,18 +67,12 @@ global_fits r n dynamic path = is_dynamic
 
 -- the modes of an element in the source and in the table are private both, or neither
 pub private_both : (q : Sharing) → is_private_mode (own_mode (form_of q)) ≡ sharings.is_private q
-private_both private = refl
-private_both readonly = refl
 private_both (locked l) = refl
-private_both racy = refl
-private_both dynamic = refl
+private_both _ = refl
 
 pub global_both : (r : Resolution) (q : Sharing) → is_private_mode (global_mode r q) ≡ sharings.is_private q
-global_both r private = refl
-global_both r readonly = refl
 global_both r (locked l) = refl
-global_both r racy = refl
-global_both r dynamic = refl
+global_both r _ = refl
 
 module _ (r : Resolution) (n : ℕ) (modes : List Sharing) (q : Sharing) (Q : FieldMode) (element : ModeFits r n modes q Q) (both : is_private_mode Q ≡ sharings.is_private q) where
   readonly_fits : (b : Bool) → ModeFits r n modes (cond b private readonly) (cond b own.Private own.Readonly)

@@ -7,7 +7,7 @@ use Rattle.sharc_names.specs.Kinds.{Kind}
 use Rattle.sharc_ctype.specs.Resolved.{Resolution, globals_in, functions_in, kind_at, named_at}
 use Rattle.sharc_ctype_laws.specs.{Constraints.{HasType, Callee, of_program, of_conditions, a_variable, a_global, a_function}, Laws.MeetsConstraints}
 use Rattle.sharc_accepted_laws.specs.Accepted.{GlobalsAreNamed}
-use Rattle.sharc_accepted_laws.proofs.StaticRegisters.{got_low}
+use Rattle.sharc_accepted_laws.proofs.{StaticRegisters.got_low, Alone.number_of as same_global}
 use Rattle.sharc_lemmas.proofs.Lists.{of_each}
 
 no_callee : (r : Resolution) (i : Identifier) (ps : List Kind) (result : Kind) → Callee r i ps result → (g : ℕ) → named_at r i.site.token ≡ named.Global g → ⊥
@@ -16,9 +16,6 @@ no_callee r i _ _ (of_conditions w is spelled) g names = let h : named.Known ≡
 
 no_variable : (token g : ℕ) → named.Variable token ≡ named.Global g → ⊥
 no_variable token g h = cc
-
-same_global : (n g : ℕ) → named.Global n ≡ named.Global g → n ≡ g
-same_global n g h = cc
 
 global_low : (r : Resolution) (s : Span) (i : Identifier) (k : Kind) → HasType r (identifier s i) k → (g : ℕ) → named_at r i.site.token ≡ named.Global g → g < length (globals_in r.program.items)
 global_low r s i _ (a_variable {token = token} is at spelled) g names = absurd (no_variable token g (sym is ∙ names))

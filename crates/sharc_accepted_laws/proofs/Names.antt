@@ -43,12 +43,7 @@ module _ (rules : RulesAreMet) (c : Context) (a : IsAccepted c.program) (taken :
 
   one_free : (n : Named) (second : Option (List ℕ)) → ((y : ℕ) → object_named c.program.typed n ≡ Some y → IsNamedByPath c.program y) → PathNamed c.scope n second → Names (register c x) (lock_named c n second) → ⊥
   one_free (named.Variable y) (Some p) h there same = not_named (subst (IsNamedByPath c.program) (one_variable c y x there stands same) (h y refl))
-  one_free (named.Variable y) None h there same = same
-  one_free (named.Struct n) p h there same = same
-  one_free (named.Global n) p h there same = same
-  one_free (named.Function n) p h there same = same
-  one_free (named.Field n) p h there same = same
-  one_free named.Known p h there same = same
+  one_free _ _ h there same = same
 
   all_free : (modes : List Sharing) → AllNamed c.program modes → AllStand c.program c.scope modes → SomeNames (register c x) (locks_at c modes) → ⊥
   all_free [] h t k = k

@@ -35,7 +35,7 @@ in_either x (y ∷ a) b has = ⊎_elim (λ is. inl (subst (Contains (y ∷ a)) i
     later (inl h) = inl (tail_there y x a h)
     later (inr h) = inr h
 
-referred_there : (notes : List Note) (note : Note) (token : ℕ) (what : Named) → Contains notes note → Tells note token what → Contains (referred notes) token
+pub referred_there : (notes : List Note) (note : Note) (token : ℕ) (what : Named) → Contains notes note → Tells note token what → Contains (referred notes) token
 referred_there [] note token what has tells = absurd (none_there note has)
 referred_there (x ∷ rest) note token what has tells = ⊎_elim (λ is. here x (subst (λ z. Tells z token what) (sym is) tells)) (λ later. there x (referred_there rest note token what later tells)) (head_or_tail x note rest has)
   where
@@ -49,24 +49,21 @@ referred_there (x ∷ rest) note token what has tells = ⊎_elim (λ is. here x 
     there (refers n w) h = tail_there n token (referred rest) h
     there (yields n w) h = tail_there n token (referred rest) h
 
-one_thing : (note : Note) (token : ℕ) (a b : Named) → Tells note token a → Tells note token b → a ≡ b
+pub one_thing : (note : Note) (token : ℕ) (a b : Named) → Tells note token a → Tells note token b → a ≡ b
 one_thing (fault place code) token a b s t = absurd s
-one_thing (refers n w) token a b s t = sym s.1 ∙ t.1
-one_thing (yields n w) token a b s t = sym s.1 ∙ t.1
+one_thing _ token a b s t = sym s.1 ∙ t.1
 
-no_faults : (notes : List Note) (place : ℕ) (code : FaultCode) → Contains notes (fault place code) → faults notes ≡ [] → ⊥
+pub no_faults : (notes : List Note) (place : ℕ) (code : FaultCode) → Contains notes (fault place code) → faults notes ≡ [] → ⊥
 no_faults [] place code has none = none_there _ has
 no_faults (x ∷ rest) place code has none = ⊎_elim (λ is. here x is none) (λ later. there x none (no_faults rest place code later)) (head_or_tail x _ rest has)
   where
     here : (y : Note) → y ≡ fault place code → faults (y ∷ rest) ≡ [] → ⊥
     here (fault p c) is h = cc
-    here (refers n w) is h = cc
-    here (yields n w) is h = cc
+    here _ is h = cc
 
     there : (y : Note) → faults (y ∷ rest) ≡ [] → (faults rest ≡ [] → ⊥) → ⊥
     there (fault p c) h more = cc
-    there (refers n w) h more = more h
-    there (yields n w) h more = more h
+    there _ h more = more h
 
 module _ (once : EachNameOnce) (only : OnlyNames) (r : Resolution) (resolved : IsResolved r) (placed : IsPlaced r.program) (low : IsLow r.program) where
   told : (note : Note) (token : ℕ) (what : Named) → Contains (notes_about r.program) note → Tells note token what → named_at r token ≡ what
@@ -92,12 +89,8 @@ module _ (r : Resolution) where
   P = Says r
 
   among : (names : List Entry) (w : Named) → ((t : ℕ) → w ≡ named.Variable t → IsVariableIn names t) → IsAmong names w
-  among names (named.Struct n) f = tt
-  among names (named.Global n) f = tt
-  among names (named.Function n) f = tt
   among names (named.Variable t) f = f t refl
-  among names (named.Field t) f = tt
-  among names named.Known f = tt
+  among names _ f = tt
 
   token_of : (m : Meaning) (t : ℕ) → named_of m ≡ named.Variable t → meaning_token m ≡ Some t
   token_of (meaning.variable d) t is = let e : d.name.site.token ≡ t = cc in ap Some e
@@ -115,12 +108,8 @@ module _ (r : Resolution) where
   path_stands scope (Through x token m) h = name_stands scope.names token x (look_up scope.names x) refl (front P (name_notes token (look_up scope.names x)) _ h)
 
   level_stands : (scope : Scope) (m : Option Mode) → AllSay r (mode_notes scope [] m) → LevelStands r scope.names m
-  level_stands scope None h = tt
-  level_stands scope (Some Private) h = tt
-  level_stands scope (Some Readonly) h = tt
   level_stands scope (Some (Locked path)) h = path_stands scope path h
-  level_stands scope (Some Racy) h = tt
-  level_stands scope (Some Dynamic) h = tt
+  level_stands scope _ h = tt
 
   levels_stand : (scope : Scope) (levels : List (Option Mode)) → AllSay r (modes_notes scope [] levels) → AllByRecursion (LevelStands r scope.names) levels
   levels_stand scope [] h = tt
@@ -186,18 +175,13 @@ module _ (r : Resolution) where
   local_base around scope l h = type_base scope [] role.Local l.declaration.written (front P (type_notes scope [] role.Local l.declaration.written) _ (front P _ _ h))
 
   first_base : (around : Around) (scope : Scope) (x : First) → AllSay r (first_statement_notes around scope x) → AllByRecursion (BaseSays scope.structs) (first_locals x)
-  first_base around scope nothing h = tt
   first_base around scope (declares l) h = (local_base around scope l h, tt)
-  first_base around scope (does x) h = tt
+  first_base around scope _ h = tt
 
   mutual
     statement_base : (around : Around) (scope : Scope) (a : Statement) → AllSay r (notes_in around scope a) → AllByRecursion (BaseSays scope.structs) (locals_in a)
-    statement_base around scope (tree.empty s) h = tt
     statement_base around scope (tree.block s all) h = statements_base (opened around scope.names) scope all h
     statement_base around scope (tree.declare s l) h = (local_base around scope l h, tt)
-    statement_base around scope (tree.simple s x) h = tt
-    statement_base around scope (tree.jump s j) h = tt
-    statement_base around scope (tree.return s e) h = tt
     statement_base around scope (tree.if_then s e a) h = statement_base (opened around scope.names) scope a (back P (test_notes scope e) (notes_in (opened around scope.names) scope a) h)
     statement_base around scope (tree.if_then_else s e a b) h =
         let inside = opened around scope.names in
@@ -213,6 +197,7 @@ module _ (r : Resolution) where
         both (BaseSays scope.structs) (first_locals x.first) (locals_in a)
         (first_base outer scope x.first (front P (first_statement_notes outer scope x.first) _ (front P _ _ head)))
         (statement_base inside inner a (back P (head_notes outer scope x) (notes_in inside inner a) h))
+    statement_base around scope _ h = tt
 
     statements_base : (around : Around) (scope : Scope) (a : Statements) → AllSay r (notes_in_all around scope a) → AllByRecursion (BaseSays scope.structs) (locals_in_all a)
     statements_base around scope no_statements h = tt

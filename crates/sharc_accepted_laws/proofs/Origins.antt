@@ -52,28 +52,18 @@ deeper_reading row = by (row.count == 0)
     by false = refl
 
 pub reading_kept : (where_ : Role) (row : Targets) → (targets_from where_ row).reading ≡ row.reading
-reading_kept role.Field row = refl
 reading_kept role.Global row = deeper_reading row
-reading_kept role.Local row = refl
-reading_kept role.Parameter row = refl
-reading_kept role.Result row = refl
-reading_kept role.Cast row = refl
-reading_kept role.Made row = refl
+reading_kept _ row = refl
 
 pub same_raw : (m : Assignment) (one other : PathReading) (where_ : Role) (first count : ℕ)
     → raw m (targets_from where_ (record { first = first; count = count; reading = one })) ≡ raw m (targets_from where_ (record { first = first; count = count; reading = other }))
-same_raw m one other role.Field first count = refl
-same_raw m one other role.Local first count = refl
-same_raw m one other role.Parameter first count = refl
-same_raw m one other role.Result first count = refl
-same_raw m one other role.Cast first count = refl
-same_raw m one other role.Made first count = refl
 same_raw m one other role.Global first count = by (count == 0)
   where
     by : (b : Bool) → raw m (cond b (record { first = first; count = count; reading = one }) (record { first = first + 1; count = count - 1; reading = one }))
         ≡ raw m (cond b (record { first = first; count = count; reading = other }) (record { first = first + 1; count = count - 1; reading = other }))
     by true = refl
     by false = refl
+same_raw m one other _ first count = refl
 
 pub mapped_there : {A B : Type 0} (f : A → B) (list : List A) (x : A) → Contains list x → Contains (map f list) (f x)
 mapped_there f [] x has = absurd (none_there x has)
@@ -125,16 +115,11 @@ use_of r s i at x true is h o = by (named_at r i.site.token) refl is (ap (λ z. 
   where
     by : (n : Named) → named_at r i.site.token ≡ n → is_constant_named r n ≡ true → object_named r n ≡ Some x → IsThroughConstant r Arrow (tree.identifier s i) x
     by (named.Variable y) names constant k = let e = same_some y x k in through_constant (names ∙ ap named.Variable e) (ap (is_constant r) (sym e) ∙ constant)
-    by (named.Struct n) names constant k = absurd (false≢true constant)
-    by (named.Global n) names constant k = absurd (false≢true constant)
-    by (named.Function n) names constant k = absurd (false≢true constant)
-    by (named.Field n) names constant k = absurd (false≢true constant)
-    by named.Known names constant k = absurd (false≢true constant)
+    by _ names constant k = absurd (false≢true constant)
 
 pub is_use : (r : Resolution) (w : FieldOperator) (a : Expression) (at x : ℕ) → base_use r w a ≡ Some at → object_named r (named_at r at) ≡ Some x → IsThroughConstant r w a x
-is_use r Dot a at x h o = absurd (none_some at h)
 is_use r Arrow (tree.identifier s i) at x h o = use_of r s i at x (is_constant_named r (named_at r i.site.token)) refl h o
-is_use r Arrow _ at x h o = absurd (none_some at h)
+is_use r _ a at x h o = absurd (none_some at h)
 
 -- What holds of the paths that are written in types, and of those that the uses of fields make, holds of those of the types of expressions and declarations.
 module _ (m : Assignment) (Q : Lock → Type 0) (writes : (n : Numbered) → IsEntity m n → (path : Path) → Contains n.entity.written.ctype.levels (Some (Locked path)) → Q (lock_of path))
@@ -221,36 +206,28 @@ module _ (m : Assignment) (Q : Lock → Type 0) (writes : (n : Numbered) → IsE
     global_named (Some g) = found_named least g.declaration.name.site.token g.declaration.name.site.token
 
     name_named : (n : Named) → AllOf (modes_of m (named_row r written n))
-    name_named (named.Struct n) = tt
     name_named (named.Global n) = global_named (global_at r n)
-    name_named (named.Function n) = tt
     name_named (named.Variable t) = found_named least t t
     name_named (named.Field t) = found_named least t t
-    name_named named.Known = tt
+    name_named _ = tt
 
     result_named : (o : Option Function) → AllOf (modes_of m (result_row r o))
     result_named None = tt
     result_named (Some f) = found_named least f.name.site.token f.name.site.token
 
     called_named : (n : Named) → AllOf (modes_of m (called_row r n))
-    called_named (named.Struct n) = tt
-    called_named (named.Global n) = tt
     called_named (named.Function n) = result_named (function_at r n)
-    called_named (named.Variable t) = tt
-    called_named (named.Field t) = tt
-    called_named named.Known = tt
+    called_named _ = tt
 
     global_through : (at : ℕ) (o : Option GlobalDefinition) → Uses at (global_row r written o) → AllOf (modes_of m (global_row r (through at) o))
     global_through at None used = tt
     global_through at (Some g) used = found_through least at g.declaration.name.site.token g.declaration.name.site.token used
 
     name_through : (at : ℕ) (n : Named) → Uses at (named_row r written n) → AllOf (modes_of m (named_row r (through at) n))
-    name_through at (named.Struct n) used = tt
     name_through at (named.Global n) used = global_through at (global_at r n) used
-    name_through at (named.Function n) used = tt
     name_through at (named.Variable t) used = found_through least at t t used
     name_through at (named.Field t) used = found_through least at t t used
-    name_through at named.Known used = tt
+    name_through at _ used = tt
 
     field_named : (s : Span) (a : Expression) (w : FieldOperator) (name : Identifier) → IsExpression m (tree.field s a w name) → (o : Option ℕ) → base_use r w a ≡ o
         → AllOf (modes_of m (named_row r (reading_through o) (named_at r name.site.token)))
@@ -270,23 +247,15 @@ module _ (m : Assignment) (Q : Lock → Type 0) (writes : (n : Numbered) → IsE
     pub row_named : (e : Expression) → AllByRecursion (IsExpression m) (expressions e) → RowNamed (row_at r e)
     row_named (tree.identifier s i) h = name_named (named_at r i.site.token)
     row_named (tree.constant s (constants.Number n)) h = tt
-    row_named (tree.constant s (constants.Character b)) h = tt
-    row_named (tree.constant s constants.Null) h = tt
     row_named (tree.parentheses s a) h = row_named a h.1
     row_named (tree.call s f all) h = called_named (named_at r f.site.token)
-    row_named (tree.spawn s f a) h = tt
-    row_named (tree.on_value s w a) h = tt
-    row_named (tree.on_place s w a) h = tt
     row_named (tree.cast s t a) h = found_named least s.first.token s.last.token
     row_named (tree.index s a i) h =
         let a_named = row_named a (front (IsExpression m) (expressions a) (expressions i) h.1) in
         choose (is_array (kind_at r a)) (row_at r a) (behind (row_at r a)) a_named (deep (row_at r a) a_named)
     row_named (tree.field s a w name) h = field_named s a w name h.0 (base_use r w a) refl
-    row_named (tree.unary s Negate a) h = tt
-    row_named (tree.unary s Not a) h = tt
-    row_named (tree.unary s Complement a) h = tt
     row_named (tree.unary s Dereference a) h = deep (row_at r a) (row_named a h.1)
-    row_named (tree.binary s o at a b) h = tt
+    row_named _ h = tt
 
     pub expression_of : (e : Expression) (modes : List Sharing) → AllByRecursion (IsExpression m) (expressions e) → modes_at m e ≡ Some modes → AllOf modes
     expression_of e modes all is = by (row_at r e) (row_named e all) is

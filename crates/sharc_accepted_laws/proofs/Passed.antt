@@ -14,7 +14,7 @@ use Rattle.sharc_check.specs.{Constructs.{IsEntity, IsExpression, IsCall, called
 use Rattle.sharc_flat.specs.{Scope.{Context, slot_kind}, Suits.{PathNamed, PathStands}}
 use Rattle.sharc_invariant.specs.{Types.{Lock as TypeLock}, Types.Lock.{Global, Through as InRegister}, Labels.{Refers, Label, AllSame}, Typed.{PassesLock, Passes}}
 use Rattle.sharc_accepted_laws.specs.{Shapes.{form_of, shape_of, number}, Static.{register, lock_named, lock_at, locks_at, static_of, variable_type, entry_by, entry_of}, StaticLaws.IsAccepted, Calls.{at_entry, AreCopies, ArgumentsPass, argument_type, AreStanding, ArgumentFits, ArgumentsFit}, Held.{is_held, IsHeldPath, AllHeld}, Scopes.AllStand}
-use Rattle.sharc_accepted_laws.proofs.{Holds.{path_named, held_by, object as object_there, all_named}, Scoping.HasOneStruct, Same.{forms_of_same, locks_of_same}, Transferred.{own_passed, Passes as FairlyPasses, calls_pass}, Given.{Fair, is_nothing, is_like, fair, null_modes, meets, no_variable, parameter_declared, same_kinds, goes}, Written.{raw, row_good, found_there}, Origins.{reading_kept, same_raw, mapped_there, both_hold, dynamic_path, private_path, racy_path}, TargetLists.place_there}
+use Rattle.sharc_accepted_laws.proofs.{Holds.{path_named, held_by, object as object_there, all_named, variable_is}, Scoping.HasOneStruct, Same.{forms_of_same, locks_of_same}, Transferred.{own_passed, Passes as FairlyPasses, calls_pass}, Given.{Fair, is_nothing, is_like, fair, null_modes, meets, no_variable, parameter_declared, goes}, Written.{raw, row_good, found_there}, Origins.{reading_kept, same_raw, mapped_there, both_hold, dynamic_path, private_path, racy_path, same_lock}, TargetLists.place_there, Sorts.one_kind as same_kinds}
 use Rattle.sharc_lemmas.proofs.{Options.{same_some, none_some}, Lists.{each, head_there, head_or_tail, of_each, to_each, tail_there}, Equal.none_there}
 
 -- ---- arguments
@@ -79,11 +79,7 @@ use_named r (tree.identifier s i) at h = by (is_constant_named r (named_at r i.s
   where
     one : (n : Named) → named_at r i.site.token ≡ n → is_constant_named r n ≡ true → i.site.token ≡ at → Use r (tree.identifier s i) at
     one (named.Variable y) is k same = record { variable = y; names = ap (named_at r) (sym same) ∙ is; constant = k; kind = ap (named_kind r) is }
-    one (named.Struct n) is k same = absurd (false≢true k)
-    one (named.Global n) is k same = absurd (false≢true k)
-    one (named.Function n) is k same = absurd (false≢true k)
-    one (named.Field n) is k same = absurd (false≢true k)
-    one named.Known is k same = absurd (false≢true k)
+    one _ is k same = absurd (false≢true k)
 
     by : (b : Bool) → is_constant_named r (named_at r i.site.token) ≡ b → cond b (Some i.site.token) None ≡ Some at → Use r (tree.identifier s i) at
     by true is k = one (named_at r i.site.token) refl is (same_some i.site.token at k)
@@ -91,19 +87,19 @@ use_named r (tree.identifier s i) at h = by (is_constant_named r (named_at r i.s
 use_named r _ at h = absurd (none_some at h)
 
 -- ---- what a path's variable is
-same_token : (t u : ℕ) → named.Variable t ≡ named.Variable u → t ≡ u
+pub same_token : (t u : ℕ) → named.Variable t ≡ named.Variable u → t ≡ u
 same_token t u e = cc
 
 no_field : (t u : ℕ) → named.Field t ≡ named.Variable u → ⊥
 no_field t u e = cc
 
-no_global : (t u : ℕ) → named.Global t ≡ named.Variable u → ⊥
+pub no_global : (t u : ℕ) → named.Global t ≡ named.Variable u → ⊥
 no_global t u e = cc
 
-no_function : (t u : ℕ) → named.Function t ≡ named.Variable u → ⊥
+pub no_function : (t u : ℕ) → named.Function t ≡ named.Variable u → ⊥
 no_function t u e = cc
 
-no_known : (u : ℕ) → named.Known ≡ named.Variable u → ⊥
+pub no_known : (u : ℕ) → named.Known ≡ named.Variable u → ⊥
 no_known u e = cc
 
 pub first_kind : (r : Resolution) (token : ℕ) (text : List ℕ) (k : Kind) → FirstNames r token text k → (t : ℕ) → named_at r token ≡ named.Variable t → variable_kind (declaration_at r t) ≡ k
@@ -117,14 +113,6 @@ first_kind r token text _ (a_known_call c is same) t n = absurd (no_known _ (sym
 abbrev pub PathPoints : Resolution → Lock → Type 0
 PathPoints r l = (x : ℕ) → path_variable r l ≡ Some x → (struct : List ℕ) × (variable_kind (declaration_at r x) ≡ object (base.Struct struct) 1)
 
-variable_is : (n : Named) (x : ℕ) → variable_named n ≡ Some x → n ≡ named.Variable x
-variable_is (named.Variable y) x h = ap named.Variable (same_some y x h)
-variable_is (named.Struct n) x h = absurd (none_some x h)
-variable_is (named.Global n) x h = absurd (none_some x h)
-variable_is (named.Function n) x h = absurd (none_some x h)
-variable_is (named.Field n) x h = absurd (none_some x h)
-variable_is named.Known x h = absurd (none_some x h)
-
 abbrev ModePoints : Resolution → Mode → Type 0
 ModePoints r mode = (path : Path) → mode ≡ Locked path → PathPoints r (lock_of path)
 
@@ -132,14 +120,14 @@ level_points : (r : Resolution) (path : Path) → IsNamedLevel r (Some (Locked p
 level_points r (One text token) h x is = absurd (none_some x is)
 level_points r (Through text token m) h x is = (h.0, first_kind r token text (object (base.Struct h.0) 1) h.2 x (variable_is (named_at r token) x is))
 
-same_path : (p q : Path) → Locked p ≡ Locked q → p ≡ q
+pub same_path : (p q : Path) → Locked p ≡ Locked q → p ≡ q
 same_path p q h = cc
 
 abbrev LevelPoints : Resolution → Option Mode → Type 0
 LevelPoints r None = Unit {0}
 LevelPoints r (Some mode) = ModePoints r mode
 
-readonly_path : (path : Path) → Readonly ≡ Locked path → ⊥
+pub readonly_path : (path : Path) → Readonly ≡ Locked path → ⊥
 readonly_path path h = cc
 
 points : (r : Resolution) (level : Option Mode) → IsNamedLevel r level → LevelPoints r level
@@ -163,12 +151,9 @@ row_points found m a how n is =
     (each (IsNamedLevel m.typed) (LevelPoints m.typed) (points m.typed) n.entity.written.ctype.levels f.named.levels)
 
 -- ---- forms
-form_read : (r : Resolution) (how : PathReading) (s : Sharing) → form_of (read r how s) ≡ form_of s
-form_read r how private = refl
-form_read r how readonly = refl
+pub form_read : (r : Resolution) (how : PathReading) (s : Sharing) → form_of (read r how s) ≡ form_of s
 form_read r how (locked l) = refl
-form_read r how racy = refl
-form_read r how dynamic = refl
+form_read r how _ = refl
 
 forms_read : (r : Resolution) (one other : PathReading) (list : List Mode) → map form_of (map (λ mode. read r one (sharing_of mode)) list) ≡ map form_of (map (λ mode. read r other (sharing_of mode)) list)
 forms_read r one other [] = refl
@@ -189,16 +174,12 @@ module _ (found : EachTypeFound) (rules : RulesAreMet) (all_fair : AllFair) (the
 
   -- a parameter is one of some function
   named_declared : (n : Named) (d : Declaration) → Contains (parameters_named r n) d → declaration_at r d.name.site.token ≡ Some d
-  named_declared (named.Struct n) d has = absurd (none_there d has)
-  named_declared (named.Global n) d has = absurd (none_there d has)
-  named_declared (named.Variable n) d has = absurd (none_there d has)
-  named_declared (named.Field n) d has = absurd (none_there d has)
-  named_declared named.Known d has = absurd (none_there d has)
   named_declared (named.Function n) d has = by (function_at r n) refl has
     where
       by : (o : Option Function) → function_at r n ≡ o → Contains (parameters_of o) d → declaration_at r d.name.site.token ≡ Some d
       by None is k = absurd (none_there d k)
       by (Some g) is k = parameter_declared rules all_fair themselves m accepted g (place_there (functions_in r.program.items) n g is) d k
+  named_declared _ d has = absurd (none_there d has)
 
   declared_by : {ps : List Declaration} {args : Arguments} → IsCall m ps args → (d : Declaration) → Contains ps d → declaration_at r d.name.site.token ≡ Some d
   declared_by (called {f = f} x) d has = named_declared (named_at r f.site.token) d has
@@ -225,12 +206,7 @@ module _ (found : EachTypeFound) (rules : RulesAreMet) (all_fair : AllFair) (the
 
   none_named : (n : Named) (second : Option (List ℕ)) → cond (is_some second) (variable_named n) None ≡ None → PathNamed c.scope n second
   none_named (named.Variable x) (Some name) h = absurd (none_some x (sym h))
-  none_named (named.Variable x) None h = tt
-  none_named (named.Struct n) second h = tt
-  none_named (named.Global n) second h = tt
-  none_named (named.Function n) second h = tt
-  none_named (named.Field n) second h = tt
-  none_named named.Known second h = tt
+  none_named _ _ h = tt
 
   one_named : (n : Named) (y : ℕ) (second : Option (List ℕ)) → n ≡ named.Variable y → slot_kind c.scope y ≡ Some true → PathNamed c.scope n second
   one_named n y second is stands = subst (λ w. PathNamed c.scope w second) (sym is) (by second)
@@ -238,9 +214,6 @@ module _ (found : EachTypeFound) (rules : RulesAreMet) (all_fair : AllFair) (the
       by : (o : Option (List ℕ)) → PathNamed c.scope (named.Variable y) o
       by (Some name) = stands
       by None = tt
-
-  same_lock : (a b : Lock) → locked a ≡ locked b → a ≡ b
-  same_lock a b h = cc
 
   -- one is held, and leads through a variable that stands
   abbrev Fits : Lock → Type 0
@@ -380,10 +353,7 @@ module _ (found : EachTypeFound) (rules : RulesAreMet) (all_fair : AllFair) (the
             plain _ _ 0 (ap (λ o. lock_at c (lock_for r ds all o lock)) unnamed ∙ ap (λ w. lock_named c w lock.second) is ∙ ap (lock_named c (named.Variable x)) second)
             (ap (λ w. lock_named inner w lock.second) is ∙ ap (lock_named inner (named.Variable x)) second)
         by (named.Global g) is o second = alone lock (named.Global g) _ is refl refl refl
-        by (named.Struct n) is o second = alone lock (named.Struct n) 0 is refl refl refl
-        by (named.Function n) is o second = alone lock (named.Function n) 0 is refl refl refl
-        by (named.Field n) is o second = alone lock (named.Field n) 0 is refl refl refl
-        by named.Known is o second = alone lock named.Known 0 is refl refl refl
+        by k is o second = alone lock k 0 is refl refl refl
 
     abbrev called_as : Mode → Sharing
     called_as mode = read r (at_call ds all) (sharing_of mode)

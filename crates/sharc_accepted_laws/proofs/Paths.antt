@@ -12,7 +12,7 @@ use Rattle.sharc_check.specs.Paths.{IsMutexBehind}
 use Rattle.sharc_flat.specs.Scope.{Context}
 use Rattle.sharc_invariant.specs.Types.{MutexWord, Field, no_field, row_of, field_at}
 use Rattle.sharc_accepted_laws.specs.{StaticLaws.IsAccepted, Static.{static_of, variable_type}, Fields.FieldsPlaced, TargetLaws.{VariablesFound, MembersAre, IsRowOf, IsMemberAt}, Pointees.{PointeesFit, pointee}, Shapes.{form_of, stars_in}, Targets.{own_mode, base_content, pointer_content, declared_content, base_fields, shape_fields, targets_of}, Paths.{IsMutexThere, MutexesBehind}}
-use Rattle.sharc_accepted_laws.proofs.AccessLists.{there_at}
+use Rattle.sharc_accepted_laws.proofs.{Laying.named_there as struct_there, TargetLists.place_there as there_at}
 use Rattle.sharc_lemmas.proofs.Options.{same_some, none_some}
 
 -- ---- a field by its name
@@ -41,20 +41,11 @@ place_named (x ∷ rest) name d is = by (bytes_eq x.name.text name) refl is (pla
 position_is : (list : List Declaration) (name : List ℕ) (d : Declaration) (p : IsPlace list name d) → position (λ (e : Declaration). bytes_eq e.name.text name) list ≡ Some p.place
 position_is list name d p = ap (λ i. cond (nat_lt i (length list)) (Some i) None) p.first ∙ ap (λ b. cond b (Some p.place) None) (lt-ltb p.place (length list) p.low)
 
-struct_there : (list : List StructDefinition) (name : List ℕ) (s : StructDefinition) → struct_named list name ≡ Some s → Contains list s
-struct_there [] name s is = absurd (none_some s is)
-struct_there (x ∷ rest) name s is = by (bytes_eq x.name.text name) is (struct_there rest name s)
-  where
-    by : (b : Bool) → cond b (Some x) (struct_named rest name) ≡ Some s → (struct_named rest name ≡ Some s → Contains rest s) → Contains (x ∷ rest) s
-    by true is later = (zero, omega arith, same_some x s is)
-    by false is later = let w = later is in let inside = w.1 in (suc w.0, omega (arith, inside), w.2)
-
 -- ---- one target
 one_mode : (first : ℕ) (modes : List Mode) → first + 1 ≤ length modes → (x : Mode) × (take (suc zero) (drop first modes) ≡ x ∷ [])
-one_mode zero [] low = absurd (omega (arith, low))
 one_mode zero (x ∷ rest) low = (x, refl)
-one_mode (suc n) [] low = absurd (omega (arith, low))
 one_mode (suc n) (x ∷ rest) low = one_mode n rest (omega (arith, low))
+one_mode _ [] low = absurd (omega (arith, low))
 
 pub one_sharing : (m : Assignment) (row : Targets) → row.count ≡ 1 → row.first + row.count ≤ length m.modes → (q : Sharing) × (modes_of m row ≡ q ∷ [])
 one_sharing m row one ends =

@@ -15,7 +15,7 @@ use Rattle.sharc_mode.specs.{Flows.IsLeastAssignment, Moded.Assignment, Rows.{Pa
 use Rattle.sharc_check.specs.Constructs.{IsEntity}
 use Rattle.sharc_flat.specs.{Scope.{Context, slot_kind}, Suits.{PathNamed, PathStands, IfThere}}
 use Rattle.sharc_accepted_laws.specs.{Scopes.{AllStand, DeclaredStands}, Standing.{ExpressionStands, ExpressionsStand}}
-use Rattle.sharc_accepted_laws.proofs.{Origins.{reading_kept, deeper_hold}, Passed.first_kind, Written.{raw, row_good, found_there}}
+use Rattle.sharc_accepted_laws.proofs.{Origins.{reading_kept, deeper_hold, private_path, racy_path, dynamic_path}, Passed.{first_kind, same_token, no_global, no_function, no_known, same_path, readonly_path}, Written.{raw, row_good, found_there}}
 use Rattle.sharc_lemmas.proofs.{Options.{same_some, none_some}, Lists.{front, back, both}}
 
 abbrev pub right_kind : Resolution → ℕ → Bool
@@ -44,40 +44,17 @@ module _ (c : Context) where
   LevelHere (Some mode) = ModeHere mode
 
   alone : (n : Named) → PathNamed c.scope n None
-  alone (named.Struct n) = tt
-  alone (named.Global n) = tt
-  alone (named.Function n) = tt
-  alone (named.Variable n) = tt
   alone (named.Field n) = tt
-  alone named.Known = tt
+  alone _ = tt
 
   by_variable : (names : List Entry) → Slots names → (n : Named) (name : List ℕ) → IsAmong names n → ((x : ℕ) → n ≡ named.Variable x → right_kind r x ≡ true) → PathNamed c.scope n (Some name)
   by_variable names slots (named.Variable x) name among pointer = slots x among ∙ ap Some (pointer x refl)
-  by_variable names slots (named.Struct n) name among pointer = tt
-  by_variable names slots (named.Global n) name among pointer = tt
-  by_variable names slots (named.Function n) name among pointer = tt
-  by_variable names slots (named.Field n) name among pointer = tt
-  by_variable names slots named.Known name among pointer = tt
+  by_variable names slots _ name among pointer = tt
 
   path_here : (names : List Entry) → Slots names → (path : Path) → LevelStands r names (Some (Locked path)) → IsNamedLevel r (Some (Locked path)) → PathHere path
   path_here names slots (One text token) stands is = alone (named_at r token)
   path_here names slots (Through text token name) stands is =
       by_variable names slots (named_at r token) name stands (λ x names_x. ap is_pointer (first_kind r token text (object (base.Struct is.0) 1) is.2 x names_x) ∙ lt-ltb 0 1 (omega arith))
-
-  same_path : (p q : Path) → Locked p ≡ Locked q → p ≡ q
-  same_path p q h = cc
-
-  private_path : (path : Path) → Private ≡ Locked path → ⊥
-  private_path path h = cc
-
-  readonly_path : (path : Path) → Readonly ≡ Locked path → ⊥
-  readonly_path path h = cc
-
-  racy_path : (path : Path) → Racy ≡ Locked path → ⊥
-  racy_path path h = cc
-
-  dynamic_path : (path : Path) → Dynamic ≡ Locked path → ⊥
-  dynamic_path path h = cc
 
   level_here : (names : List Entry) → Slots names → (level : Option Mode) → LevelStands r names level → IsNamedLevel r level → LevelHere level
   level_here names slots None stands is = tt
@@ -106,11 +83,8 @@ module _ (c : Context) where
       by false = h
 
   one_stands : (how : PathReading) → Reads how → (mode : Mode) → ModeHere mode → PathStands r c.scope (read r how (sharing_of mode))
-  one_stands how reads Private h = tt
-  one_stands how reads Readonly h = tt
   one_stands how reads (Locked path) h = reads path (h path refl)
-  one_stands how reads Racy h = tt
-  one_stands how reads Dynamic h = tt
+  one_stands how reads _ h = tt
 
   list_stands : (how : PathReading) → Reads how → (list : List Mode) → AllByRecursion ModeHere list → AllStand m c.scope (map (λ mode. read r how (sharing_of mode)) list)
   list_stands how reads [] h = tt
@@ -235,18 +209,13 @@ module _ (c : Context) (least : IsLeastAssignment c.program) (file : FileKnown c
   result_rows (Some f) h = file_stands c least written (reads_written c) (result_of f) h.0 h.1
 
   called_rows : (n : Named) → AllStand m2 c.scope (modes_of m2 (called_row r2 n))
-  called_rows (named.Struct n) = tt
-  called_rows (named.Global n) = tt
   called_rows (named.Function n) = result_rows (function_at r2 n) (at_number (λ f. InFile r2 (result_of f)) (functions_in r2.program.items) n file.results)
-  called_rows (named.Variable t) = tt
-  called_rows (named.Field t) = tt
-  called_rows named.Known = tt
+  called_rows _ = tt
 
   meaning_rows : (z : Meaning) → ((x : ℕ) → meaning_token z ≡ Some x → IsVariableIn scope.names x) → AllStand m2 c.scope (modes_of m2 (named_row r2 written (named_of z)))
   meaning_rows (meaning.variable d) h = here.types d.name.site.token (h d.name.site.token refl)
   meaning_rows (meaning.global n g) h = global_rows (global_at r2 n) (at_number (λ g. InFile r2 (declared role.Global g.declaration)) (globals_in r2.program.items) n file.globals)
-  meaning_rows (meaning.function n s) h = tt
-  meaning_rows (meaning.condition k) h = tt
+  meaning_rows _ h = tt
 
   identifier_row : (s : Span) (i : Identifier) → Seen r2 scope (tree.identifier s i) → AllStand m2 c.scope (modes_of m2 (named_row r2 written (named_at r2 i.site.token)))
   identifier_row s i h =
@@ -266,19 +235,6 @@ module _ (c : Context) (least : IsLeastAssignment c.program) (file : FileKnown c
   member s a _ n _ (a_field {x = x} {d = d} t h is) = record { of = d; field = a_member x n.text d h; names = is }
   member s a _ n _ (a_field_behind {x = x} {d = d} t h is) = record { of = d; field = a_member x n.text d h; names = is }
 
-  -- the variable of `x->f` stands
-  no_global : (t u : ℕ) → named.Global t ≡ named.Variable u → ⊥
-  no_global t u e = cc
-
-  no_function : (t u : ℕ) → named.Function t ≡ named.Variable u → ⊥
-  no_function t u e = cc
-
-  no_known : (u : ℕ) → named.Known ≡ named.Variable u → ⊥
-  no_known u e = cc
-
-  same_token : (t u : ℕ) → named.Variable t ≡ named.Variable u → t ≡ u
-  same_token t u e = cc
-
   pointer_name : (s : Span) (i : Identifier) (k : Kind) → HasType r2 (tree.identifier s i) k → is_pointer k ≡ true → (t : ℕ) → named_at r2 i.site.token ≡ named.Variable t → right_kind r2 t ≡ true
   pointer_name s i _ (a_variable is at spelled) p t n = ap (right_kind r2) (same_token _ _ (sym n ∙ is)) ∙ ap (λ o. is_pointer (variable_kind o)) at ∙ p
   pointer_name s i _ (a_global is at spelled) p t n = absurd (no_global _ _ (sym is ∙ n))
@@ -293,11 +249,7 @@ module _ (c : Context) (least : IsLeastAssignment c.program) (file : FileKnown c
   variable_stands : (s : Span) (i : Identifier) → Seen r2 scope (tree.identifier s i) → (k : Kind) → HasType r2 (tree.identifier s i) k → is_pointer k ≡ true → (n : Named) → named_at r2 i.site.token ≡ n → (name : List ℕ) → PathNamed c.scope n (Some name)
   variable_stands s i h k t p (named.Variable x) is name =
       here.slots x (meant h.name.0.meaning (entry_there scope.names i.text h.name.0 h.name.1) x (sym h.name.2 ∙ is)) ∙ ap Some (pointer_name s i k t p x is)
-  variable_stands s i h k t p (named.Struct n) is name = tt
-  variable_stands s i h k t p (named.Global n) is name = tt
-  variable_stands s i h k t p (named.Function n) is name = tt
-  variable_stands s i h k t p (named.Field n) is name = tt
-  variable_stands s i h k t p named.Known is name = tt
+  variable_stands s i h k t p _ is name = tt
 
   reads_if : (b : Bool) (token : ℕ) → ((name : List ℕ) → PathNamed c.scope (named_at r2 token) (Some name)) → Reads c (reading_through (cond b (Some token) None))
   reads_if true token p = reads_through c token p
@@ -312,18 +264,8 @@ module _ (c : Context) (least : IsLeastAssignment c.program) (file : FileKnown c
   reads_base s a _ n _ (a_field_behind {x = x} t h is) seen = reads_use a seen (object (base.Struct x) 1) t (lt-ltb 0 1 (omega arith))
 
   own : (e : Expression) → AllByRecursion (Seen r2 scope) (expressions e) → Seen r2 scope e
-  own (tree.identifier s i) h = h.0
-  own (tree.constant s c) h = h.0
-  own (tree.parentheses s a) h = h.0
-  own (tree.call s f all) h = h.0
-  own (tree.spawn s f a) h = h.0
-  own (tree.on_value s v a) h = h.0
-  own (tree.on_place s v a) h = h.0
   own (tree.cast s t a) h = h.0
-  own (tree.index s a i) h = h.0
-  own (tree.field s a v n) h = h.0
-  own (tree.unary s o a) h = h.0
-  own (tree.binary s o site a b) h = h.0
+  own _ h = h.0
 
   deep : (o : Option Targets) → RowStands o → RowStands (behind o)
   deep None h = tt
@@ -336,13 +278,8 @@ module _ (c : Context) (least : IsLeastAssignment c.program) (file : FileKnown c
   row_stands : (e : Expression) → AllByRecursion (Seen r2 scope) (expressions e) → RowStands (row_at r2 e)
   row_stands (tree.identifier s i) h = identifier_row s i h.0
   row_stands (tree.constant s (constants.Number n)) h = tt
-  row_stands (tree.constant s (constants.Character b)) h = tt
-  row_stands (tree.constant s constants.Null) h = tt
   row_stands (tree.parentheses s a) h = row_stands a h.1
   row_stands (tree.call s f all) h = called_rows (named_at r2 f.site.token)
-  row_stands (tree.spawn s f a) h = tt
-  row_stands (tree.on_value s v a) h = tt
-  row_stands (tree.on_place s v a) h = tt
   row_stands (tree.cast s t a) h = found_stands c least scope.names here.slots written (reads_written c) (cast_entity s t) h.0.cast.0 h.0.cast.1
   row_stands (tree.index s a i) h =
       let g = row_stands a (front (Seen r2 scope) (expressions a) (expressions i) h.1) in
@@ -351,11 +288,8 @@ module _ (c : Context) (least : IsLeastAssignment c.program) (file : FileKnown c
       let x = member s a v n _ h.0.has in
       let how = reading_through (base_use r2 v a) in
       subst (λ z. AllStand m2 c.scope (modes_of m2 (named_row r2 how z))) (sym x.names) (file_stands c least how (reads_base s a v n _ h.0.has (own a h.1)) (declared role.Field x.of) x.field.0 x.field.1)
-  row_stands (tree.unary s Negate a) h = tt
-  row_stands (tree.unary s Not a) h = tt
-  row_stands (tree.unary s Complement a) h = tt
   row_stands (tree.unary s Dereference a) h = deep (row_at r2 a) (row_stands a h.1)
-  row_stands (tree.binary s o site a b) h = tt
+  row_stands _ h = tt
 
   expression_stands : (e : Expression) → AllByRecursion (Seen r2 scope) (expressions e) → ExpressionStands c e
   expression_stands e h = by (row_at r2 e) (row_stands e h)
@@ -369,8 +303,6 @@ module _ (c : Context) (least : IsLeastAssignment c.program) (file : FileKnown c
 
   mutual
     pub all_stand : (e : Expression) → AllByRecursion (Seen r2 scope) (expressions e) → ExpressionsStand c (expressions e)
-    all_stand (tree.identifier s i) h = (expression_stands (tree.identifier s i) h, tt)
-    all_stand (tree.constant s k) h = (expression_stands (tree.constant s k) h, tt)
     all_stand (tree.parentheses s a) h = (expression_stands (tree.parentheses s a) h, all_stand a h.1)
     all_stand (tree.call s f all) h = (expression_stands (tree.call s f all) h, arguments_stand all h.1)
     all_stand (tree.spawn s f a) h = (expression_stands (tree.spawn s f a) h, all_stand a h.1)
@@ -387,6 +319,7 @@ module _ (c : Context) (least : IsLeastAssignment c.program) (file : FileKnown c
       expression_stands (tree.binary s o site a b) h,
       both G (expressions a) (expressions b) (all_stand a (front (Seen r2 scope) (expressions a) (expressions b) h.1)) (all_stand b (back (Seen r2 scope) (expressions a) (expressions b) h.1)),
     )
+    all_stand j h = (expression_stands j h, tt)
 
     arguments_stand : (all : Arguments) → AllByRecursion (Seen r2 scope) (in_arguments all) → ExpressionsStand c (in_arguments all)
     arguments_stand no_arguments h = tt

@@ -13,7 +13,7 @@ use Rattle.sharc_meaning.specs.Cells.{element_cells}
 use Rattle.sharc_flat.specs.Flattened.{layout_of}
 use Rattle.sharc_invariant.specs.Types.{FieldMode, Content, Pointer, Field, Target, no_field, field_at}
 use Rattle.sharc_accepted_laws.specs.{TargetLaws.IsRowOf, Pointees.{pointee, PointeeFits, PointeesFit, IsPlainLock, HasPlainLocks, IsRecast, is_same, of_types, RecastFits, RecastsFit, SameForms}, Shapes.{Form, form_of, shape_of, row_shape, kind_of, number, stars_in}, Targets.{lock_named, field_locks, lock_count, type_locks, own_mode, is_private_form, starts_private, base_content, pointer_content, declared_content, single, members, struct_fields, base_fields, shape_fields, targets_of}}
-use Rattle.sharc_accepted_laws.proofs.{TargetCells.cells_are, TargetForms.row_length, Numbers.numbers_found}
+use Rattle.sharc_accepted_laws.proofs.{TargetCells.cells_are, TargetForms.row_length, Numbers.numbers_found, Alike.two}
 use Rattle.sharc_lemmas.proofs.Lists.{map_length, no_cons}
 
 -- ---- kinds and forms
@@ -24,18 +24,12 @@ pub record IsPointerKind (k : Kind) : Type 0 where
   pub is : k ≡ object base (suc below)
 
 pub pointer_kind : (k : Kind) → is_pointer k ≡ true → IsPointerKind k
-pointer_kind (object b zero) h = absurd (false≢true h)
 pointer_kind (object b (suc n)) h = record { base = b; below = n; is = refl }
-pointer_kind (array b n) h = absurd (false≢true h)
-pointer_kind null h = absurd (false≢true h)
-pointer_kind kinds.function h = absurd (false≢true h)
+pointer_kind _ h = absurd (false≢true h)
 
 private_same : (q : Sharing) → is_private_form (form_of q) ≡ sharings.is_private q
-private_same private = refl
-private_same readonly = refl
 private_same (locked l) = refl
-private_same racy = refl
-private_same dynamic = refl
+private_same _ = refl
 
 starts_same : (modes : List Sharing) → 0 < length modes → starts_private (map form_of modes) ≡ sharings.is_private (first_of modes)
 starts_same [] some = absurd (omega (arith, some))
@@ -69,12 +63,8 @@ pointees_fit m k row w pointer = by (pointer_kind k pointer)
 
 -- ---- contents, whatever the mode
 plain_lock : (r : Resolution) (n : ℕ) (w : Named) → IsPlainLock (lock_named r n w)
-plain_lock r n (named.Struct k) = tt
-plain_lock r n (named.Global g) = tt
-plain_lock r n (named.Function k) = tt
-plain_lock r n (named.Variable x) = tt
 plain_lock r n (named.Field f) = tt
-plain_lock r n named.Known = tt
+plain_lock r n _ = tt
 
 plain_locks : (r : Resolution) (n : ℕ) (modes : List Sharing) → AllByRecursion IsPlainLock (field_locks r n modes)
 plain_locks r n [] = tt
@@ -85,12 +75,8 @@ plain_locks r n (racy ∷ below) = plain_locks r n below
 plain_locks r n (dynamic ∷ below) = plain_locks r n below
 
 base_plain : (b : Base) → HasPlainLocks (base_content b)
-base_plain base.Int = tt
-base_plain base.Char = tt
-base_plain base.Long = tt
-base_plain base.Mutex = tt
-base_plain base.Void = tt
 base_plain (base.Struct name) = tt
+base_plain _ = tt
 
 content_plain : (m : Assignment) (n : ℕ) (d : Declaration) → HasPlainLocks (declared_content m n d)
 content_plain m n d = by (is_pointer (declared_kind d.written))
@@ -106,12 +92,8 @@ AreAlike (f ∷ fs) (g ∷ gs) = ((f.holds ≡ g.holds) × HasPlainLocks f.holds
 AreAlike _ _ = ⊥
 
 single_alike : (p q : FieldMode) (b : Base) → AreAlike (single p b ∷ []) (single q b ∷ [])
-single_alike p q base.Int = ((refl, tt), tt)
-single_alike p q base.Char = ((refl, tt), tt)
-single_alike p q base.Long = ((refl, tt), tt)
-single_alike p q base.Mutex = ((refl, tt), tt)
-single_alike p q base.Void = ((refl, tt), tt)
 single_alike p q (base.Struct name) = ((refl, tt), tt)
+single_alike p q _ = ((refl, tt), tt)
 
 members_alike : (m : Assignment) (p q : FieldMode) (n : ℕ) (list : List Declaration) → AreAlike (members m p n list) (members m q n list)
 members_alike m p q n [] = tt
@@ -126,12 +108,8 @@ structs_alike m p q (s ∷ rest) name = by (bytes_eq s.name.text name) (structs_
     by false h = h
 
 bases_alike : (m : Assignment) (p q : FieldMode) (b : Base) → AreAlike (base_fields m p b) (base_fields m q b)
-bases_alike m p q base.Int = single_alike p q base.Int
-bases_alike m p q base.Char = single_alike p q base.Char
-bases_alike m p q base.Long = single_alike p q base.Long
-bases_alike m p q base.Mutex = single_alike p q base.Mutex
-bases_alike m p q base.Void = single_alike p q base.Void
 bases_alike m p q (base.Struct name) = structs_alike m p q (structs_in m.typed.program.items) name
+bases_alike m p q k = single_alike p q k
 
 alike_many : (fs gs : List Field) → AreAlike fs gs → length fs ≡ length gs
 alike_many [] [] h = refl
@@ -197,33 +175,11 @@ recasts_fit m k from to a b pointer forms = by (pointees_fit m k from a pointer)
 -- ---- modes that are the same
 same_form : (r : Resolution) (a b : Sharing) → same r a b ≡ true → form_of a ≡ form_of b
 same_form r private private h = refl
-same_form r private readonly h = absurd (false≢true h)
-same_form r private (locked k) h = absurd (false≢true h)
-same_form r private racy h = absurd (false≢true h)
-same_form r private dynamic h = absurd (false≢true h)
-same_form r readonly private h = absurd (false≢true h)
 same_form r readonly readonly h = refl
-same_form r readonly (locked k) h = absurd (false≢true h)
-same_form r readonly racy h = absurd (false≢true h)
-same_form r readonly dynamic h = absurd (false≢true h)
-same_form r (locked l) private h = absurd (false≢true h)
-same_form r (locked l) readonly h = absurd (false≢true h)
 same_form r (locked l) (locked k) h = refl
-same_form r (locked l) racy h = absurd (false≢true h)
-same_form r (locked l) dynamic h = absurd (false≢true h)
-same_form r racy private h = absurd (false≢true h)
-same_form r racy readonly h = absurd (false≢true h)
-same_form r racy (locked k) h = absurd (false≢true h)
 same_form r racy racy h = refl
-same_form r racy dynamic h = absurd (false≢true h)
-same_form r dynamic private h = absurd (false≢true h)
-same_form r dynamic readonly h = absurd (false≢true h)
-same_form r dynamic (locked k) h = absurd (false≢true h)
-same_form r dynamic racy h = absurd (false≢true h)
 same_form r dynamic dynamic h = refl
-
-two : (a b : Form) (xs ys : List Form) → a ≡ b → xs ≡ ys → a ∷ xs ≡ b ∷ ys
-two a b xs ys e f = cc
+same_form r _ _ h = absurd (false≢true h)
 
 pub same_modes : SameForms
 same_modes r [] [] h = refl

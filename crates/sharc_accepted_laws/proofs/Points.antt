@@ -34,12 +34,7 @@ IsNotSelf _ = Unit {0}
 
 not_self : (c : Context) (n : Named) (second : Option (List ℕ)) → IsNotSelf (lock_named c n second)
 not_self c (named.Variable x) (Some name) = tt
-not_self c (named.Variable x) None = tt
-not_self c (named.Global g) second = tt
-not_self c (named.Struct n) second = tt
-not_self c (named.Function n) second = tt
-not_self c (named.Field n) second = tt
-not_self c named.Known second = tt
+not_self c _ _ = tt
 
 -- a lock of what an element refers to is that of the element's own type
 type_lock : (l : Label) (r i : ℕ) (s : StaticType) (lock : TypeLock) (k : ℕ) → IsNotSelf lock → k < length s.locks → slice_index_or s.locks k no_lock ≡ lock → IsFieldLock l r i s lock (OfType k)
@@ -70,11 +65,8 @@ module _ (c : Context) (l : Label) (r i : ℕ) (s : StaticType) where
 
   -- of what an element refers to
   types_below : (first : Sharing) (rest : List Sharing) → s.locks ≡ locks_at c (first ∷ rest) → AllSame Is (locks_at c rest) (element_locks (map form_of (first ∷ rest)))
-  types_below private rest is = types_from rest [] 0 is refl
-  types_below readonly rest is = types_from rest [] 0 is refl
-  types_below racy rest is = types_from rest [] 0 is refl
-  types_below dynamic rest is = types_from rest [] 0 is refl
   types_below (locked lock) rest is = types_from rest (lock_at c lock ∷ []) 1 is refl
+  types_below _ rest is = types_from rest [] 0 is refl
 
 -- the elements of an array
 any_from : (l : Label) (r : ℕ) (s : StaticType) (list : List TypeLock) (fs : List Form) (k : ℕ) → AllSame (IsFieldLock l r 0 s) list (type_locks k fs) → AllSame (IsAnyLock l r s) list (type_locks k fs)
@@ -141,7 +133,7 @@ module _ (c : Context) (globals : c.globals ≡ globals_of c.program.typed) wher
   any_cell l (cells.Object r k) based n modes h = (based.0, based.1, global_locks (IsFieldLock l r k based.0) (λ j. refl) n modes h)
   any_cell l (cells.ObjectAt r k) based n modes h = (based.0, based.1, global_locks (IsAnyLock l r based.0) (λ j. refl) n modes h)
 
-not_field : place.Global ≡ place.Field → ⊥
+pub not_field : place.Global ≡ place.Field → ⊥
 not_field h = cc
 
 not_local : place.Global ≡ place.Local → ⊥
@@ -350,18 +342,8 @@ module _ (rows : RowLaws) (expressions_found : ExpressionsFound) (one_type : One
       (of_each (λ f. AllByRecursion (λ e. HasType r4 e (kind_at r4 e)) (in_function f)) (functions_in r4.program.items) x.owner (constraints r4 a.resolved a.placed a.low) x.stands) x.inside
 
   own : (e : Expression) → AllByRecursion (IsExpression m4) (expressions e) → IsExpression m4 e
-  own (tree.identifier s i) h = h.0
-  own (tree.constant s c) h = h.0
-  own (tree.parentheses s a) h = h.0
-  own (tree.call s f all) h = h.0
-  own (tree.spawn s f a) h = h.0
-  own (tree.on_value s v a) h = h.0
-  own (tree.on_place s v a) h = h.0
   own (tree.cast s t a) h = h.0
-  own (tree.index s a i) h = h.0
-  own (tree.field s a v n) h = h.0
-  own (tree.unary s o a) h = h.0
-  own (tree.binary s o site a b) h = h.0
+  own _ h = h.0
 
   -- of the target of a pointer
   module _ (k : ℕ) where
@@ -419,16 +401,7 @@ module _ (rows : RowLaws) (expressions_found : ExpressionsFound) (one_type : One
   array_named : (e : Expression) (g : ℕ) → IsNameOf r4 e g → ArrayIs e
   array_named (tree.identifier s x) g is = record { number = g; row = ap (λ n. Some (named_row r4 written n)) is; content = ap (declared_locks m4 0) is }
   array_named (tree.parentheses s e) g is = let x = array_named e g is in record { number = x.number; row = x.row; content = x.content }
-  array_named (tree.constant s k) g is = absurd is
-  array_named (tree.call s f all) g is = absurd is
-  array_named (tree.spawn s f e) g is = absurd is
-  array_named (tree.on_value s w e) g is = absurd is
-  array_named (tree.on_place s w e) g is = absurd is
-  array_named (tree.cast s t e) g is = absurd is
-  array_named (tree.index s e n) g is = absurd is
-  array_named (tree.field s e w n) g is = absurd is
-  array_named (tree.unary s o e) g is = absurd is
-  array_named (tree.binary s o at e z) g is = absurd is
+  array_named _ g is = absurd is
 
   array_is : (e : Expression) → AllByRecursion (IsExpression m4) (expressions e) → is_array (kind_at r4 e) ≡ true → ArrayIs e
   array_is e h is =
@@ -444,19 +417,11 @@ module _ (rows : RowLaws) (expressions_found : ExpressionsFound) (one_type : One
   name_points (named.Global g) modes is cell =
       subst (λ z. AreFieldLocks l (cell_at (in_global g 0)) (locks_at c z) (declared_locks m4 0 (named.Global g))) (same_some (modes_of m4 (named_row r4 written (named.Global g))) modes is)
       (any_cell c globals l (cell_at (in_global g 0)) tt 0 (modes_of m4 (named_row r4 written (named.Global g))) (global_all g))
-  name_points (named.Variable t) modes is cell = absurd (no_cell cell)
-  name_points (named.Struct n) modes is cell = absurd (no_cell cell)
-  name_points (named.Function n) modes is cell = absurd (no_cell cell)
-  name_points (named.Field n) modes is cell = absurd (no_cell cell)
-  name_points named.Known modes is cell = absurd (no_cell cell)
+  name_points _ modes is cell = absurd (no_cell cell)
 
   name_based : (n : Named) (f : ℕ) → CellBased c globals l (cell_at (named_target n f))
-  name_based (named.Global g) f = tt
-  name_based (named.Variable t) f = tt
-  name_based (named.Struct n) f = tt
-  name_based (named.Function n) f = tt
   name_based (named.Field n) f = tt
-  name_based named.Known f = tt
+  name_based _ f = tt
 
   -- the cell of a member has the base of its struct
   based : (e : Expression) (f : Option ℕ) → IsBased c l reg e → CellBased c globals l (cell_at (target r4 f e))
@@ -470,16 +435,7 @@ module _ (rows : RowLaws) (expressions_found : ExpressionsFound) (one_type : One
   based (tree.field s e Dot n) f b = based e (Some (own_field f (field_place_named r4 (named_at r4 n.site.token)))) b
   based (tree.field s e Arrow n) f b = (static_of c (kind_at r4 e) b.modes, b.entry)
   based (tree.unary s Dereference e) f b = (static_of c (kind_at r4 e) b.modes, b.entry)
-  based (tree.unary s Negate e) f b = tt
-  based (tree.unary s Not e) f b = tt
-  based (tree.unary s Complement e) f b = tt
-  based (tree.constant s k) f b = tt
-  based (tree.call s g all) f b = tt
-  based (tree.spawn s g e) f b = tt
-  based (tree.on_value s w e) f b = tt
-  based (tree.on_place s w e) f b = tt
-  based (tree.cast s t e) f b = tt
-  based (tree.binary s o at e z) f b = tt
+  based _ f b = tt
 
   -- an element
   index_points : (e : Expression) → AllByRecursion (IsExpression m4) (expressions e) → (modes : List Sharing) (z : Bool) → is_array (kind_at r4 e) ≡ z → Either z (Unit {0}) (BaseIs c l reg e)
@@ -540,16 +496,7 @@ module _ (rows : RowLaws) (expressions_found : ExpressionsFound) (one_type : One
       plain_points s e Dot n h.0 refl (cell_at (target r4 (Some place) e)) (based e (Some place) b) place modes is
   points (tree.field s e Arrow n) modes h is cell b = arrow_points s e n h.0 b (field_place_named r4 (named_at r4 n.site.token)) modes is (expressions_held rules m4 a (tree.field s e Arrow n) modes h is)
   points (tree.unary s Dereference e) modes h is cell b = (static_of c (kind_at r4 e) b.modes, b.entry, pointee 0 e (own e h.1) b modes is)
-  points (tree.unary s Negate e) modes h is cell b = absurd (no_cell cell)
-  points (tree.unary s Not e) modes h is cell b = absurd (no_cell cell)
-  points (tree.unary s Complement e) modes h is cell b = absurd (no_cell cell)
-  points (tree.constant s k) modes h is cell b = absurd (no_cell cell)
-  points (tree.call s g all) modes h is cell b = absurd (no_cell cell)
-  points (tree.spawn s g e) modes h is cell b = absurd (no_cell cell)
-  points (tree.on_value s w e) modes h is cell b = absurd (no_cell cell)
-  points (tree.on_place s w e) modes h is cell b = absurd (no_cell cell)
-  points (tree.cast s t e) modes h is cell b = absurd (no_cell cell)
-  points (tree.binary s o at e z) modes h is cell b = absurd (no_cell cell)
+  points _ modes h is cell b = absurd (no_cell cell)
 
 pub places_point : RowLaws → ExpressionsFound → OneType → RulesAreMet → EachTypeFound → EachPathFound → MeetsConstraints → EachNameOnce → OnlyNames → FieldsPlaced → PlacesPoint
 places_point rows expressions_found one_type rules found paths constraints once only fields_placed c a globals l i reg e modes h is cell b =

@@ -15,32 +15,16 @@ use Rattle.sharc_mode.specs.{Cells.{top_of, first_mode, global_cell}, Flows.{IsL
 use Rattle.sharc_mode.specs.declared.place.Place.TheVariants as place
 use Rattle.sharc_check.specs.{Constructs.{IsExpression, IsWritten}, RuleLaws.RulesAreMet, Paths.{IsAllowed, global_mutex, sibling_mutex, sibling_pointer, through_constant}}
 use Rattle.sharc_accepted_laws.specs.{Lvalues.{LvaluesFit, IsArrayOf, ArraysFit}, Shapes.form_of}
-use Rattle.sharc_accepted_laws.proofs.{Expressing.expressions_found, TargetForms.same_forms, Found.{IsThere, field_found, global_found, global_low}, Laying.{named_there, members_are}, TargetLists.place_there, Lvalues.{AreReady, names_cell, array_base}, TargetMembers.top_written, Moding.{PathNames, field_or_global}, Rows.IsKnown, Settling.{positioned, settled_by, SettledBy, a_mutex, is_written, is_meant, settled_from, get_dropped, dropped_length}, TargetSiblings.field_allowed, Whole.known, Globals.index_get, Origins.same_lock}
+use Rattle.sharc_accepted_laws.proofs.{Expressing.expressions_found, TargetForms.same_forms, Found.{IsThere, field_found, global_found, global_low}, Laying.{named_there, members_are}, TargetLists.place_there, Lvalues.{AreReady, names_cell, array_base}, TargetMembers.top_written, Moding.{PathNames, field_or_global}, Rows.IsKnown, Settling.{positioned, settled_by, SettledBy, a_mutex, is_written, is_meant, settled_from, get_dropped, dropped_length}, TargetSiblings.field_allowed, Whole.known, Globals.index_get, Origins.{same_lock, private_path as private_locked}, StaticSiblings.found_there as member_there}
 use Rattle.sharc_lemmas.proofs.{Bools.{or_false, and_false}, Options.{same_some, none_some}, Lists.{head_there, of_each, tail_there}}
 
-member_there : (fields : List Declaration) (name : List ℕ) (d : Declaration) → field_of fields name ≡ Some d → Contains fields d
-member_there [] name d is = absurd (none_some d is)
-member_there (x ∷ rest) name d is = by (bytes_eq x.name.text name) is (member_there rest name d)
-  where
-    by : (b : Bool) → cond b (Some x) (field_of rest name) ≡ Some d → (field_of rest name ≡ Some d → Contains rest d) → Contains (x ∷ rest) d
-    by true is more = subst (λ z. Contains (x ∷ rest) z) (same_some x d is) (head_there x rest)
-    by false is more = tail_there x d rest (more is)
-
 plain_by : (b : Base) (n : ℕ) → (is_struct_base b ≡ true → nat_lt 0 n ≡ true) → is_struct_behind 0 (object b n) ≡ false
-plain_by base.Int n some = and_false (n == 0)
-plain_by base.Char n some = and_false (n == 0)
-plain_by base.Long n some = and_false (n == 0)
-plain_by base.Mutex n some = and_false (n == 0)
-plain_by base.Void n some = and_false (n == 0)
 plain_by (base.Struct name) n some = let low = ltb-true 0 n (some refl) in ap (λ z. z && true) (ne_eqb n 0 (λ none. omega (arith, low, none)))
+plain_by _ n some = and_false (n == 0)
 
 struct_allowed : (w : WrittenType) → allowed_there role.Field w ≡ true → (b : Base) → w.ctype.base ≡ b → is_struct_base b ≡ true → nat_lt 0 (length w.ctype.levels - 1) ≡ true
-struct_allowed w is base.Int e struct = absurd (false≢true struct)
-struct_allowed w is base.Char e struct = absurd (false≢true struct)
-struct_allowed w is base.Long e struct = absurd (false≢true struct)
-struct_allowed w is base.Mutex e struct = absurd (false≢true struct)
-struct_allowed w is base.Void e struct = absurd (false≢true struct)
 struct_allowed w is (base.Struct name) e struct = sym (or_false (nat_lt 0 (length w.ctype.levels - 1))) ∙ subst (λ b. is_allowed role.Field b (length w.ctype.levels - 1) ≡ true) e is
+struct_allowed w is _ e struct = absurd (false≢true struct)
 
 -- ---- rows
 row_forms : (m : Assignment) (first count : ℕ) (how : PathReading) (what : Role)
@@ -51,12 +35,7 @@ row_forms m first count how role.Global = by (count == 0)
         ≡ map form_of (modes_of m (cond b (record { first = first; count = count; reading = written }) (record { first = first + 1; count = count - 1; reading = written })))
     by true = same_forms m first count how written
     by false = same_forms m (first + 1) (count - 1) how written
-row_forms m first count how role.Field = same_forms m first count how written
-row_forms m first count how role.Result = same_forms m first count how written
-row_forms m first count how role.Parameter = same_forms m first count how written
-row_forms m first count how role.Local = same_forms m first count how written
-row_forms m first count how role.Cast = same_forms m first count how written
-row_forms m first count how role.Made = same_forms m first count how written
+row_forms m first count how _ = same_forms m first count how written
 
 entity_forms : (m : Assignment) (how : PathReading) (o : Option Numbered) → map form_of (modes_of m (entity_row how o)) ≡ map form_of (modes_of m (entity_row written o))
 entity_forms m how None = refl
@@ -69,14 +48,8 @@ record IsLockedMode (x : Mode) (l : Lock) : Type 0 where
   lock : lock_of path ≡ l
 
 locked_mode_is : (x : Mode) (l : Lock) → sharing_of x ≡ locked l → IsLockedMode x l
-locked_mode_is mode.Private l h = cc
-locked_mode_is mode.Readonly l h = cc
 locked_mode_is (mode.Locked path) l h = record { path = path; is = refl; lock = same_lock _ _ h }
-locked_mode_is mode.Racy l h = cc
-locked_mode_is mode.Dynamic l h = cc
-
-private_locked : (path : Path) → mode.Private ≡ mode.Locked path → ⊥
-private_locked path h = cc
+locked_mode_is _ l h = cc
 
 racy_locked : (path : Path) → mode.Locked path ≡ mode.Racy → ⊥
 racy_locked path h = cc
@@ -84,8 +57,7 @@ racy_locked path h = cc
 found_locked : (level : Option Mode) (finding : _) (path : Path) → mode_found level finding ≡ mode.Locked path → level ≡ Some (mode.Locked path)
 found_locked (Some x) finding path h = ap Some h
 found_locked None Apart path h = cc
-found_locked None Source path h = cc
-found_locked None (Behind rank reason) path h = cc
+found_locked None _ path h = cc
 
 field_no_local : (what : Role) → what ≡ role.Field → place_of what ≡ place.Local → ⊥
 field_no_local what is local = by (sym (ap place_of is) ∙ local)
@@ -200,6 +172,4 @@ arrays_fit once only found itself meets one met m resolved placed low least well
     by ready (array b n) same is typed =
         let w = array_base m ready a (kind_at m.typed a) typed b n same in
         record { number = w.number; global = w.global; defined = w.at; place = w.place; element = ap element_kind same ∙ sym w.declared_is }
-    by ready (object b n) same is typed = absurd (false≢true is)
-    by ready kinds.null same is typed = absurd (false≢true is)
-    by ready kinds.function same is typed = absurd (false≢true is)
+    by ready _ same is typed = absurd (false≢true is)

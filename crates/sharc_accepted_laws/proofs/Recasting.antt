@@ -18,9 +18,8 @@ use Rattle.sharc_lemmas.proofs.{Options.{same_some, none_some}, Lists.of_each}
 
 -- ---- locks
 same_itself : (l : Label) (r : ℕ) (x : TypeLock) → SameLock l r x x
-same_itself l r (Global j) = refl
 same_itself l r (Through q j) = (refl, Itself refl)
-same_itself l r (Self j) = refl
+same_itself l r _ = refl
 
 -- the lock of an element itself
 abbrev first_lock : Context → Sharing → List TypeLock
@@ -28,18 +27,12 @@ first_lock c (locked l) = lock_at c l ∷ []
 first_lock c _ = []
 
 locks_first : (c : Context) (q : Sharing) (rest : List Sharing) → locks_at c (q ∷ rest) ≡ first_lock c q ++ locks_at c rest
-locks_first c private rest = refl
-locks_first c readonly rest = refl
 locks_first c (locked l) rest = refl
-locks_first c racy rest = refl
-locks_first c dynamic rest = refl
+locks_first c _ rest = refl
 
 count_first : (c : Context) (q : Sharing) → lock_count (form_of q) ≡ length (first_lock c q)
-count_first c private = refl
-count_first c readonly = refl
 count_first c (locked l) = refl
-count_first c racy = refl
-count_first c dynamic = refl
+count_first c _ = refl
 
 module _ (c : Context) (l : Label) (r : ℕ) (s t : StaticType) where
   abbrev Same : FieldLock → FieldLock → Type 0
@@ -82,22 +75,14 @@ module _ (c : Context) (l : Label) (r : ℕ) (s t : StaticType) where
     where
       no_type : (w : Named) (k : ℕ) → table_lock res n w ≡ OfType k → ⊥
       no_type (named.Field f) k h = cc
-      no_type (named.Global g) k h = cc
-      no_type (named.Struct f) k h = cc
-      no_type (named.Function f) k h = cc
-      no_type (named.Variable f) k h = cc
-      no_type named.Known k h = cc
+      no_type _ k h = cc
 
   abbrev SameHolds : Content → Content → Type 0
   SameHolds a b = IsSameContent l r s t a b
 
   base_same : (b : Base) → SameHolds (base_content b) (base_content b)
-  base_same base.Int = refl
-  base_same base.Char = refl
-  base_same base.Long = refl
-  base_same base.Mutex = refl
-  base_same base.Void = refl
   base_same (base.Struct name) = refl
+  base_same _ = refl
 
   declared_same : (m : Assignment) (n : ℕ) (d : Declaration) → SameHolds (declared_content m n d) (declared_content m n d)
   declared_same m n d = by (is_pointer (declared_kind d.written))
@@ -131,12 +116,8 @@ module _ (c : Context) (l : Label) (r : ℕ) (s t : StaticType) where
       by false later = later
 
   bases_same : (m : Assignment) (q p : FieldMode) (b : Base) (i : ℕ) → SameHolds (slice_index_or (base_fields m q b) i no_field).holds (slice_index_or (base_fields m p b) i no_field).holds
-  bases_same m q p base.Int i = single_same q p base.Int i
-  bases_same m q p base.Char i = single_same q p base.Char i
-  bases_same m q p base.Long i = single_same q p base.Long i
-  bases_same m q p base.Mutex i = single_same q p base.Mutex i
-  bases_same m q p base.Void i = single_same q p base.Void i
   bases_same m q p (base.Struct name) i = structs_same m q p i (structs_in m.typed.program.items) name
+  bases_same m q p k i = single_same q p k i
 
   -- ---- elements
   fields_same : (m : Assignment) (b : Base) (q p : Sharing) (rest : List Sharing) → s.locks ≡ locks_at c (q ∷ rest) → t.locks ≡ locks_at c (p ∷ rest) → (i : ℕ)
@@ -161,12 +142,8 @@ structs_many m q p (x ∷ rest) name = by (bytes_eq x.name.text name) (structs_m
     by false later = later
 
 bases_many : (m : Assignment) (q p : FieldMode) (b : Base) → length (base_fields m q b) ≡ length (base_fields m p b)
-bases_many m q p base.Int = refl
-bases_many m q p base.Char = refl
-bases_many m q p base.Long = refl
-bases_many m q p base.Mutex = refl
-bases_many m q p base.Void = refl
 bases_many m q p (base.Struct name) = structs_many m q p (structs_in m.typed.program.items) name
+bases_many m q p _ = refl
 
 fields_many : (m : Assignment) (b : Base) (q p : Sharing) (rest : List Sharing) → length (shape_fields m b (map form_of (q ∷ rest))) ≡ length (shape_fields m b (map form_of (p ∷ rest)))
 fields_many m b q p [] = bases_many m (own_mode (form_of q)) (own_mode (form_of p)) b

@@ -74,13 +74,8 @@ module _ (m : Assignment) (known : IsKnown m) where
       omega (arith, many, positions, size, depth)
     where
       one_more : (w : _) → first_depth w + skipped w ≡ 1
-      one_more role.Global = refl
-      one_more role.Field = refl
-      one_more role.Result = refl
-      one_more role.Parameter = refl
-      one_more role.Local = refl
       one_more role.Cast = refl
-      one_more role.Made = refl
+      one_more _ = refl
 
   -- ---- fields of structs
   module _ (s : StructDefinition) (is_struct : Contains (structs_in m.typed.program.items) s) (d : Declaration) (is_member : Contains s.fields d) where
@@ -136,12 +131,8 @@ module _ (m : Assignment) (known : IsKnown m) where
       by false h = h
 
   pub base_good : (b : Base) (shared : Bool) (q : FieldMode) → IsOwn q shared → (is_struct_base b ≡ true → q ≡ field.Racy → ⊥) → AreGood (targets_of m) shared (base_fields m q b)
-  base_good base.Int shared q own other = single_are (targets_of m) shared q base.Int own
-  base_good base.Char shared q own other = single_are (targets_of m) shared q base.Char own
-  base_good base.Long shared q own other = single_are (targets_of m) shared q base.Long own
-  base_good base.Mutex shared q own other = single_are (targets_of m) shared q base.Mutex own
-  base_good base.Void shared q own other = single_are (targets_of m) shared q base.Void own
   base_good (base.Struct name) shared q own other = struct_good (structs_in m.typed.program.items) (λ s has. has) shared q own (other refl) name
+  base_good k shared q own other = single_are (targets_of m) shared q k own
 
   -- ---- rows
   shape_good : (b : Base) (fs : List Form) → Contains (shapes m) (record { base = b; forms = fs }) → AreFit b fs → AreGood (targets_of m) (starts_private fs) (shape_fields m b fs)

@@ -41,37 +41,15 @@ one_mode c readonly readonly h = itself
 one_mode c (locked l) (locked k) h = both_locked (lock_of_same c l k h)
 one_mode c racy racy h = itself
 one_mode c dynamic dynamic h = itself
-one_mode c private readonly h = absurd (false≢true h)
-one_mode c private (locked k) h = absurd (false≢true h)
-one_mode c private racy h = absurd (false≢true h)
-one_mode c private dynamic h = absurd (false≢true h)
-one_mode c readonly private h = absurd (false≢true h)
-one_mode c readonly (locked k) h = absurd (false≢true h)
-one_mode c readonly racy h = absurd (false≢true h)
-one_mode c readonly dynamic h = absurd (false≢true h)
-one_mode c (locked l) private h = absurd (false≢true h)
-one_mode c (locked l) readonly h = absurd (false≢true h)
-one_mode c (locked l) racy h = absurd (false≢true h)
-one_mode c (locked l) dynamic h = absurd (false≢true h)
-one_mode c racy private h = absurd (false≢true h)
-one_mode c racy readonly h = absurd (false≢true h)
-one_mode c racy (locked k) h = absurd (false≢true h)
-one_mode c racy dynamic h = absurd (false≢true h)
-one_mode c dynamic private h = absurd (false≢true h)
-one_mode c dynamic readonly h = absurd (false≢true h)
-one_mode c dynamic (locked k) h = absurd (false≢true h)
-one_mode c dynamic racy h = absurd (false≢true h)
+one_mode c _ _ h = absurd (false≢true h)
 
 one_form : (c : Context) (a b : Sharing) → OneMode c a b → form_of a ≡ form_of b
 one_form c a _ itself = refl
 one_form c _ _ (both_locked e) = refl
 
 one_more : (c : Context) (s : Sharing) (xs ys : List Sharing) → locks_at c xs ≡ locks_at c ys → locks_at c (s ∷ xs) ≡ locks_at c (s ∷ ys)
-one_more c private xs ys e = e
-one_more c readonly xs ys e = e
 one_more c (locked l) xs ys e = ap (λ ls. lock_at c l ∷ ls) e
-one_more c racy xs ys e = e
-one_more c dynamic xs ys e = e
+one_more c _ xs ys e = e
 
 one_lock : (c : Context) (a b : Sharing) (xs ys : List Sharing) → OneMode c a b → locks_at c xs ≡ locks_at c ys → locks_at c (a ∷ xs) ≡ locks_at c (b ∷ ys)
 one_lock c a _ xs ys itself e = one_more c a xs ys e

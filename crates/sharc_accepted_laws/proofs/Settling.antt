@@ -58,8 +58,7 @@ positioned (e ∷ rest) s n has = ⊎_elim (λ is. subst (IsPositioned (e ∷ re
 pub racy_found : (level : Option Mode) (finding : NodeFinding) → mode_found level finding ≡ Racy → level ≡ Some Racy
 racy_found (Some mode) finding h = ap Some h
 racy_found None Apart h = cc
-racy_found None Source h = cc
-racy_found None (Behind rank reason) h = cc
+racy_found None _ h = cc
 
 pub private_found : (level : Option Mode) (finding : NodeFinding) → mode_found level finding ≡ Private → (level ≡ Some Private) ⊎ (level ≡ None)
 private_found (Some mode) finding h = inl (ap Some h)
@@ -95,12 +94,7 @@ pub record IsLast (b : Base) (levels : List (Option Mode)) (k : ℕ) : Type 0 wh
 
 last_mutex : (b : Base) (x : Option Mode) (below : List (Option Mode)) → is_mutex b below ≡ true → IsLast b (x ∷ below) zero
 last_mutex base.Mutex x [] h = record { mutex = refl; last = refl }
-last_mutex base.Mutex x (y ∷ below) h = absurd (false≢true h)
-last_mutex base.Int x below h = absurd (false≢true h)
-last_mutex base.Char x below h = absurd (false≢true h)
-last_mutex base.Long x below h = absurd (false≢true h)
-last_mutex base.Void x below h = absurd (false≢true h)
-last_mutex (base.Struct name) x below h = absurd (false≢true h)
+last_mutex _ x _ h = absurd (false≢true h)
 
 next_last : (b : Base) (x : Option Mode) (below : List (Option Mode)) (k : ℕ) → IsLast b below k → IsLast b (x ∷ below) (suc k)
 next_last b x below k w = record { mutex = w.mutex; last = ap suc w.last }
@@ -149,16 +143,10 @@ dropped_length (suc c) [] = omega arith
 dropped_length (suc c) (y ∷ rest) = let e = dropped_length c rest in omega (arith, e)
 
 target_top : (levels : List (Option Mode)) (mode : Mode) → field_target levels ≡ mode → (mode ≡ Dynamic → ⊥) → slice_get levels 0 ≡ Some (Some mode)
-target_top [] mode is other = absurd (other (sym is))
-target_top (None ∷ below) mode is other = absurd (other (sym is))
 target_top (Some x ∷ below) mode is other = ap (λ y. Some (Some y)) is
+target_top _ mode is other = absurd (other (sym is))
 
 -- what is meant where nothing is written is the mode of a field's top
 pub otherwise_top : (what : Role) (levels : List (Option Mode)) (mode : Mode) → otherwise_of what levels ≡ Some mode → (mode ≡ Dynamic → ⊥) → (what ≡ role.Field) × (slice_get levels 0 ≡ Some (Some mode))
 otherwise_top role.Field levels mode is other = (refl, target_top levels mode (same_some _ _ is) other)
-otherwise_top role.Global levels mode is other = absurd (none_some mode is)
-otherwise_top role.Result levels mode is other = absurd (none_some mode is)
-otherwise_top role.Parameter levels mode is other = absurd (none_some mode is)
-otherwise_top role.Local levels mode is other = absurd (none_some mode is)
-otherwise_top role.Cast levels mode is other = absurd (none_some mode is)
-otherwise_top role.Made levels mode is other = absurd (none_some mode is)
+otherwise_top _ levels mode is other = absurd (none_some mode is)

@@ -7,15 +7,9 @@ use Rattle.sharc_ctype.specs.{Resolved.{Resolution, structs_in}, Statements.made
 use Rattle.sharc_ctype_laws.specs.{Constraints.{IsInteger, IsPointer}, Rules.IsHeld}
 use Rattle.sharc_meaning.specs.{Cells.{element_cells, base_cells, struct_cells}, State.is_reference}
 use Rattle.sharc_lemmas.proofs.Bools.{or_false}
+use Rattle.sharc_accepted_laws.proofs.{Alike.base_is as one_base, Forms.{integer_no_reference as integer_is, starred as pointer_pointer}}
 
 -- ---- integers
-pub integer_is : (k : Kind) → is_integer k ≡ true → is_reference k ≡ false
-integer_is (object b zero) h = refl
-integer_is (object b (suc n)) h = absurd (let e = eqb-true (suc n) 0 (and_parts (suc n == 0) (is_integral b) h).0 in omega (arith, e))
-integer_is (array b n) h = absurd (false≢true h)
-integer_is null h = absurd (false≢true h)
-integer_is function h = absurd (false≢true h)
-
 pub reference_no_integer : (k : Kind) → is_reference k ≡ true → is_integer k ≡ false
 reference_no_integer k h = by (is_integer k) refl
   where
@@ -26,9 +20,7 @@ reference_no_integer k h = by (is_integer k) refl
 -- what an integer goes to is one
 pub integer_want : (want k : Kind) → agrees want k ≡ true → is_integer k ≡ true → is_integer want ≡ true
 integer_want want (object b n) fair h = subst (λ t. cond t (is_integer want) (same_kind want (object b n)) ≡ true) h fair
-integer_want want (array b n) fair h = absurd (false≢true h)
-integer_want want null fair h = absurd (false≢true h)
-integer_want want function fair h = absurd (false≢true h)
+integer_want want _ fair h = absurd (false≢true h)
 
 -- ---- pointers
 pub declared_pointer : (w : WrittenType) → is_reference (declared_kind w) ≡ is_pointer (declared_kind w)
@@ -36,9 +28,6 @@ declared_pointer w = or_false (is_pointer (declared_kind w))
 
 integer_no_reference : (k : Kind) → IsInteger k → is_reference k ≡ false
 integer_no_reference k (b, t, is) = ap is_reference is
-
-pointer_pointer : (k : Kind) → IsPointer k → is_pointer k ≡ true
-pointer_pointer k (b, n, is) = ap is_pointer is ∙ lt-ltb 0 (n + 1) (omega arith)
 
 pointer_reference : (k : Kind) → IsPointer k → is_reference k ≡ true
 pointer_reference k p = ap (λ b. b || is_null k) (pointer_pointer k p)
@@ -56,16 +45,7 @@ no_function_held k (inl (b, t, is)) e = false≢true (ap is_integer (sym e) ∙ 
 no_function_held k (inr p) e = false≢true (ap is_reference (sym e) ∙ pointer_reference k p)
 
 -- ---- what is made
-one_base : (a b : Base) → same_base a b ≡ true → a ≡ b
-one_base Int Int h = refl
-one_base Char Char h = refl
-one_base Long Long h = refl
-one_base Mutex Mutex h = refl
-one_base Void Void h = refl
-one_base (Struct a) (Struct b) h = ap Struct ((bytes_eq-Decides a b).0 h)
-one_base _ _ h = absurd (false≢true h)
-
-one_kind : (j k : Kind) → same_kind j k ≡ true → j ≡ k
+pub one_kind : (j k : Kind) → same_kind j k ≡ true → j ≡ k
 one_kind (object a m) (object b n) h = let p = and_parts _ _ h in ap₂ object (one_base a b p.0) (eqb-true m n p.1)
 one_kind _ _ h = absurd (false≢true h)
 
@@ -87,12 +67,8 @@ struct_some (global g ∷ rest) low name = struct_some rest low.1 name
 struct_some (tree.function f ∷ rest) low name = struct_some rest low.1 name
 
 base_some : (r : Resolution) → LowItems r.program.items → (b : Base) → 1 ≤ base_cells r b
-base_some r low Int = omega arith
-base_some r low Char = omega arith
-base_some r low Long = omega arith
-base_some r low Mutex = omega arith
-base_some r low Void = omega arith
 base_some r low (Struct name) = struct_some r.program.items low name
+base_some r low _ = omega arith
 
 -- an element has a cell at least
 pub element_some : (r : Resolution) → LowItems r.program.items → (k : Kind) → 1 ≤ element_cells r k
@@ -106,5 +82,4 @@ element_some r low (array b stars) = by (stars == 0)
     by : (z : Bool) → 1 ≤ cond z (base_cells r b) 1
     by true = base_some r low b
     by false = omega arith
-element_some r low null = omega arith
-element_some r low function = omega arith
+element_some r low _ = omega arith

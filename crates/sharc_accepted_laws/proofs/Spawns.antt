@@ -17,7 +17,7 @@ use Rattle.sharc_invariant.specs.{Labels.{Refers, Anything, Within, Signature, L
 use Rattle.sharc_invariant.specs.Typed as typed
 use Rattle.sharc_typed_laws.specs.{Stretches.Setting, Typable.{Handed, SpawnTyped}}
 use Rattle.sharc_accepted_laws.specs.{Typed.IsOf, Calls.argument_type, StaticLaws.IsAccepted, Starting.BeginsAlone, Typing.{width_named, integers, typing}, Setting.{function_signature, signature_by, is_numbered, is_spawned, is_main, is_start, setting_of, IsSet}}
-use Rattle.sharc_accepted_laws.proofs.{Arguments.{parameters_declared, passes_scalar}, Calls.{of_all_there, alone_is, narrower_same}, Facts.{Laws, expression_of, has_type}, Forms.{pointer_no_integer, pointer_reference, integer_no_reference, to_integer, passes_of, spawn_typed, function_parameters}, Members.any_passes, TargetLists.place_there}
+use Rattle.sharc_accepted_laws.proofs.{Arguments.{parameters_declared, passes_scalar}, Calls.{of_all_there, alone_is, narrower_same}, Facts.{Laws, expression_of, has_type}, Forms.{pointer_no_integer, pointer_reference, integer_no_reference, to_integer, passes_of, spawn_typed, function_parameters}, TargetLists.place_there, StaticLists.passes_by as any_passes}
 use Rattle.sharc_lemmas.proofs.Lists.{head_there, of_each}
 
 module _ (laws : Laws) (c : Context) (code : Code) (alone : ℕ → Bool) (lines : ℕ) (set : IsSet c.program c.globals code alone) (n : ℕ) (g : Function) where

@@ -11,7 +11,7 @@ use Rattle.sharc_mode.specs.{Cells.cell_at, Moded.Assignment, Rows.modes_of, Sha
 use Rattle.sharc_flat.specs.{Machine.first_cell, Scope.Context, Places.{Target, variable, global_of, in_global, in_global_at, in_object, in_object_at, target, cell_of, guard_cell, field_of, own_field, beside_field, lock_beside, lock_cell}, Tables.globals_of}
 use Rattle.sharc_invariant.specs.{Types.{StaticType, Field, no_field, row_of}, Labels.{Refers, Element, OfGlobal, Label}}
 use Rattle.sharc_accepted_laws.specs.{Static.static_of, Beside.{BesideFits, AreLockedBeside, LocksStandBeside}, TargetLaws.{GlobalsAre, ExpressionsFound}, Lvalues.{FieldFits, IsBehindPointer, IsInFile, IsOfObject, IsOfGlobal, NamesCell, no_cell, of_object, of_global, LvaluesFit, pointer_of}, Shapes.{expression_shape, number}, Targets.{global_element, targets_of}, Accesses.{HasBaseIn, HasIndexOf, IsCellNumber, IsPlaceNumber, HaveTarget, list_or, modes_of_pointer, modes_behind, kind_of_pointer, base_type, cells_in_each, IsCellLvalue, IsCodeOf, CellsStand, AccessesFit, GuardsFit}}
-use Rattle.sharc_accepted_laws.proofs.{AccessCells.{IsCellOf, ArePairOf, object_cell, element_cell, object_pair, element_pair, global_cell_at, global_pair, place_cell, place_pair}, Modes.{reaches, around, guard_there, HasAround, IsOnBase}, AccessLists.{there_at, each_at}}
+use Rattle.sharc_accepted_laws.proofs.{AccessCells.{IsCellOf, ArePairOf, object_cell, element_cell, object_pair, element_pair, global_cell_at, global_pair, place_cell, place_pair}, Modes.{reaches, around, guard_there, HasAround, IsOnBase}, AccessLists.each_at, TargetLists.place_there as there_at}
 
 index_here : (i : ℕ) (beside : Option ℕ) (Is : ℕ → ℕ → Type 0) (n : ℕ) → HasIndexOf i beside Is n → Is i n
 index_here i None Is n has = has
@@ -63,23 +63,13 @@ indexed r s a i true t n g k is h = ap (λ z. cond z None (Some a)) is
 indexed r s a i false t n g k is h = absurd (no_global_of_place n g k h)
 
 pub no_pointer : (r : Resolution) (f : Option ℕ) (e : Expression) (g k : ℕ) → IsOfGlobal (target r f e) g k → pointer_of r e ≡ None
-no_pointer r f (identifier s i) g k h = refl
-no_pointer r f (constant s v) g k h = refl
 no_pointer r f (parentheses s a) g k h = no_pointer r f a g k h
-no_pointer r f (call s i rest) g k h = refl
-no_pointer r f (spawn s i a) g k h = refl
-no_pointer r f (on_value s w a) g k h = refl
-no_pointer r f (on_place s w a) g k h = refl
-no_pointer r f (cast s w a) g k h = refl
 no_pointer r f (index s a i) g k h =
     indexed r s a i (is_array (kind_at r a)) (global_of (target r None a)) (own_field f 0) g k refl h
 no_pointer r f (field s a Dot n) g k h = no_pointer r (Some (own_field f (field_place_named r (named_at r n.site.token)))) a g k h
 no_pointer r f (field s a Arrow n) g k h = absurd (no_global_of_object (own_field f (field_place_named r (named_at r n.site.token))) g k h)
-no_pointer r f (unary s Negate a) g k h = refl
-no_pointer r f (unary s Not a) g k h = refl
-no_pointer r f (unary s Complement a) g k h = refl
 no_pointer r f (unary s Dereference a) g k h = absurd (no_global_of_object (own_field f 0) g k h)
-no_pointer r f (binary s o at a b) g k h = refl
+no_pointer r f _ g k h = refl
 
 module _ (globals_are : GlobalsAre) (meets : MeetsGlobals) (found : ExpressionsFound) (locked_beside : LocksStandBeside) (c : Context) (code : Code) (is : IsCodeOf c code) (q : Label) (e : Expression) where
   abbrev m : Assignment

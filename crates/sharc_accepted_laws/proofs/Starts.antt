@@ -28,12 +28,8 @@ low_typing c p held = by (slice_get (pointers c.scope) p) refl held
 
 -- ---- what is spawned
 names_it : (n : ℕ) (w : Named) → is_numbered n w ≡ true → w ≡ named.Function n
-names_it n (named.Struct k) h = absurd (false≢true h)
-names_it n (named.Global k) h = absurd (false≢true h)
 names_it n (named.Function k) h = ap named.Function (eqb-true k n h)
-names_it n (named.Variable k) h = absurd (false≢true h)
-names_it n (named.Field k) h = absurd (false≢true h)
-names_it n named.Known h = absurd (false≢true h)
+names_it n _ h = absurd (false≢true h)
 
 spawned_by : (r : Resolution) (n : ℕ) → is_spawned r n ≡ true → (k : ℕ) × Spawns r k n
 spawned_by r n h =

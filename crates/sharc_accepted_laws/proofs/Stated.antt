@@ -14,44 +14,26 @@ use Rattle.sharc_flat.specs.{Flattened.{kind_of, parameters_scope, in_function a
 use Rattle.sharc_invariant.specs.Labels.{Empty, Refers, Signature}
 use Rattle.sharc_typed_laws.specs.{Stretches.Setting, Stated.SimpleTypable, Returned.{ReturnedBy, ReturnTypable}, Statements.{TestTypable, StepTypable, DeclaredTypable, FirstTypable, StatementTypable, StatementsTypable}}
 use Rattle.sharc_accepted_laws.specs.{Results.ResultLaws, Standing.{ExpressionsStand, LocalStands, FirstStands, StatementStands, StatementsStand}, Static.result_type, TargetLaws.VariablesFound, Typing.typing, Setting.{function_signature, signature_by}, Statements.{IsPlaceIn, IsThere, AreExpressionsTypable}}
-use Rattle.sharc_accepted_laws.proofs.{Assigned.{Laws, function_there, at_there, SimpleGiven, simple_is}, Begun.{IsBegun, here_with, local_is}, Fresh.{LocalFresh, FirstFresh, StatementFresh, StatementsFresh}, Sorts.{integer_is, integer_want, declared_pointer}, Wholes.Facts}
+use Rattle.sharc_accepted_laws.proofs.{Assigned.{Laws, function_there, at_there, SimpleGiven, simple_is}, Begun.{IsBegun, here_with, local_is}, Fresh.{LocalFresh, FirstFresh, StatementFresh, StatementsFresh}, Sorts.{integer_want, declared_pointer}, Wholes.Facts, Forms.integer_no_reference as integer_is}
 use Rattle.sharc_lemmas.proofs.Lists.{front, back}
 
 -- ---- contexts
 same_first : (c : Context) (x : First) → suits_first c x ≡ behind_first c x
-same_first c nothing = refl
-same_first c (declares l) = refl
 same_first c (does x) = refl
+same_first c _ = refl
 
 same_behind : (c : Context) (a : Statement) → suits_statement c a ≡ behind_statement c a
 same_behind c (tree.empty s) = refl
-same_behind c (tree.block s all) = refl
-same_behind c (tree.declare s l) = refl
-same_behind c (tree.simple s x) = refl
-same_behind c (tree.jump s j) = refl
-same_behind c (tree.return s e) = refl
-same_behind c (tree.if_then s e a) = refl
-same_behind c (tree.if_then_else s e a b) = refl
-same_behind c (tree.while s e a) = refl
-same_behind c (tree.for s h a) = refl
+same_behind c _ = refl
 
 -- the program stays the same
 first_program : (P : Assignment → Type 0) (c : Context) (x : First) → P c.program → P (behind_first c x).program
-first_program P c nothing h = h
-first_program P c (declares l) h = h
 first_program P c (does x) h = h
+first_program P c _ h = h
 
 statement_program : (P : Assignment → Type 0) (c : Context) (a : Statement) → P c.program → P (behind_statement c a).program
 statement_program P c (tree.empty s) h = h
-statement_program P c (tree.block s all) h = h
-statement_program P c (tree.declare s l) h = h
-statement_program P c (tree.simple s x) h = h
-statement_program P c (tree.jump s j) h = h
-statement_program P c (tree.return s e) h = h
-statement_program P c (tree.if_then s e a) h = h
-statement_program P c (tree.if_then_else s e a b) h = h
-statement_program P c (tree.while s e a) h = h
-statement_program P c (tree.for s h2 a) h = h
+statement_program P c _ h = h
 
 -- ---- what is known of the parts of a function
 module _ (g : Function) (m : Assignment) where
@@ -158,21 +140,12 @@ module _ (laws : Laws) (results : ResultLaws) (variables : VariablesFound) (z : 
   first_typable c h (does x) inside stands given own meets low fresh suits = simple_typable c h x inside stands given meets low suits
 
   here_first : (c : Context) → Here c → (x : First) → FirstStands c x → Here (behind_first c x)
-  here_first c h nothing stands = h
   here_first c h (declares l) stands = here_with laws z alone n g c h l stands
-  here_first c h (does x) stands = h
+  here_first c h _ stands = h
 
   here_behind : (c : Context) → Here c → (a : Statement) → StatementStands c a → Here (behind_statement c a)
-  here_behind c h (tree.empty s) stands = h
-  here_behind c h (tree.block s all) stands = h
   here_behind c h (tree.declare s l) stands = here_with laws z alone n g c h l stands
-  here_behind c h (tree.simple s x) stands = h
-  here_behind c h (tree.jump s j) stands = h
-  here_behind c h (tree.return s e) stands = h
-  here_behind c h (tree.if_then s e a) stands = h
-  here_behind c h (tree.if_then_else s e a b) stands = h
-  here_behind c h (tree.while s e a) stands = h
-  here_behind c h (tree.for s h2 a) stands = h
+  here_behind c h _ stands = h
 
   -- ---- statements
   mutual

@@ -14,7 +14,7 @@ use Rattle.sharc_mode.specs.declared.place.Place.TheVariants as place
 use Rattle.sharc_mode.specs.{Moded.Assignment, Rows.{PathReading, written, through, Targets, constant_use, base_use, lock_through, read, entity_row, declared_row, global_row, named_row, result_row, called_row, behind, reading_through, row_at, modes_of, modes_at}, Settled.{field_target, settled_modes}, Sharings.{Lock, Sharing, locked, lock_of, sharing_of, text_at, is_field, is_sibling_lock}, WellFormed.{leaves_open, place_of}}
 use Rattle.sharc_check.specs.{Constructs.{IsExpression, IsEntity}, RuleLaws.RulesAreMet, Paths.{IsMutexBehind, IsAllowed, global_mutex, sibling_mutex, sibling_pointer, through_constant}, Rules.MeetsRules}
 use Rattle.sharc_accepted_laws.specs.{StaticLaws.IsAccepted, Leading.{LeadsToMutex, by_global, by_variable, LeadsIfLocked, AllLead, ExpressionsLead}, Fields.FieldsPlaced, Own.{IsOwn, IsCastFound, HasOwn, OwnAreFound}}
-use Rattle.sharc_accepted_laws.proofs.{Noted.{AllSay, all_say}, Origins.{private_path, racy_path, dynamic_path, reading_kept, deeper_hold, no_private, no_readonly, no_racy, no_dynamic, same_lock}, Passed.{use_named, first_kind}, Places.{InFile, FileKnown, FieldInFile, file_known, struct_fields, field_found, at_number, IfSome}, Points.{NamesField, field_not_local, ModeOf, LevelOf, allowed_row, shown_modes, entity_is, through_used}, StaticSiblings.{found_there, struct_there, points_to, is_beside}, Written.{raw, row_settled, open_good}, TargetLists.place_there}
+use Rattle.sharc_accepted_laws.proofs.{Noted.{AllSay, all_say}, Origins.{private_path, racy_path, dynamic_path, reading_kept, deeper_hold, no_private, no_readonly, no_racy, no_dynamic, same_lock}, Passed.{use_named, first_kind}, Places.{InFile, FileKnown, FieldInFile, file_known, struct_fields, field_found, at_number, IfSome}, Points.{NamesField, field_not_local, ModeOf, LevelOf, allowed_row, shown_modes, entity_is, through_used, not_field as global_no_field}, StaticSiblings.{found_there, points_to, is_beside}, Written.{raw, row_settled, open_good}, TargetLists.place_there, Laying.named_there as struct_there}
 use Rattle.sharc_lemmas.proofs.{Options.{same_some, none_some}, Lists.{front, each, head_there, head_or_tail, of_each, to_each, tail_there}, Equal.none_there}
 
 -- ---- levels
@@ -27,9 +27,8 @@ after_top [] k x is = absurd (none_some x is)
 after_top (top ∷ rest) k x is = is
 
 target_written : (levels : List (Option Mode)) (path : Path) → field_target levels ≡ Locked path → slice_get levels 0 ≡ Some (Some (Locked path))
-target_written [] path is = absurd (dynamic_path path is)
-target_written (None ∷ below) path is = absurd (dynamic_path path is)
 target_written (Some mode ∷ below) path is = ap (λ z. Some (Some z)) is
+target_written _ path is = absurd (dynamic_path path is)
 
 -- no target without a mode of its own but a mutex leaves nothing to be meant
 all_written : (b : Base) (levels : List (Option Mode)) → ((k : ℕ) → slice_get levels k ≡ Some None → (b ≡ base.Mutex) × (k + 1 ≡ length levels)) → leaves_open b levels ≡ true → ⊥
@@ -138,9 +137,6 @@ module _ (rules : RulesAreMet) (fields_placed : FieldsPlaced) (own_found : OwnAr
   local_no_field : place.Local ≡ place.Field → ⊥
   local_no_field h = cc
 
-  global_no_field : place.Global ≡ place.Field → ⊥
-  global_no_field h = cc
-
   result_no_field : place.Result ≡ place.Field → ⊥
   result_no_field h = cc
 
@@ -179,12 +175,8 @@ module _ (rules : RulesAreMet) (fields_placed : FieldsPlaced) (own_found : OwnAr
   result_leads (Some f) h = found_leads (result_of f) h.0 result_no_field
 
   called_leads : (n : Named) → AllLead m (modes_of m (called_row r n))
-  called_leads (named.Struct n) = tt
-  called_leads (named.Global n) = tt
   called_leads (named.Function n) = result_leads (function_at r n) (at_number (λ f. InFile r (result_of f)) (functions_in r.program.items) n file.results)
-  called_leads (named.Variable t) = tt
-  called_leads (named.Field t) = tt
-  called_leads named.Known = tt
+  called_leads _ = tt
 
   -- ---- fields
   module _ (d : Declaration) (f : IsFound r (declared role.Field d)) where
@@ -328,12 +320,10 @@ module _ (rules : RulesAreMet) (fields_placed : FieldsPlaced) (own_found : OwnAr
   RowLeads (Some row) = AllLead m (modes_of m row)
 
   name_leads : (s : Span) (i : Identifier) → IsExpression m (tree.identifier s i) → (n : Named) → named_at r i.site.token ≡ n → AllLead m (modes_of m (named_row r written n))
-  name_leads s i there (named.Struct n) is = tt
   name_leads s i there (named.Global n) is = global_leads (global_at r n) (at_number (λ g. InFile r (declared role.Global g.declaration)) (globals_in r.program.items) n file.globals)
-  name_leads s i there (named.Function n) is = tt
   name_leads s i there (named.Variable t) is = variable_leads s i t there is
   name_leads s i there (named.Field t) is = absurd (no_field_name r s i _ t (typed_at (tree.identifier s i) there) is)
-  name_leads s i there named.Known is = tt
+  name_leads s i there _ is = tt
 
   deep : (o : Option Targets) → RowLeads o → RowLeads (behind o)
   deep None h = tt
@@ -346,23 +336,15 @@ module _ (rules : RulesAreMet) (fields_placed : FieldsPlaced) (own_found : OwnAr
   row_leads : (e : Expression) → AllByRecursion (IsExpression m) (expressions e) → RowLeads (row_at r e)
   row_leads (tree.identifier s i) h = name_leads s i h.0 (named_at r i.site.token) refl
   row_leads (tree.constant s (constants.Number n)) h = tt
-  row_leads (tree.constant s (constants.Character b)) h = tt
-  row_leads (tree.constant s constants.Null) h = tt
   row_leads (tree.parentheses s e) h = row_leads e h.1
   row_leads (tree.call s f all) h = called_leads (named_at r f.site.token)
-  row_leads (tree.spawn s f e) h = tt
-  row_leads (tree.on_value s w e) h = tt
-  row_leads (tree.on_place s w e) h = tt
   row_leads (tree.cast s t e) h = cast_leads s t e h.0
   row_leads (tree.index s e i) h =
       let of_base = row_leads e (front (IsExpression m) (expressions e) (expressions i) h.1) in
       choose (is_array (kind_at r e)) (row_at r e) (behind (row_at r e)) of_base (deep (row_at r e) of_base)
   row_leads (tree.field s e w n) h = field_leads s e w n _ (typed_at (tree.field s e w n) h.0) h.0
-  row_leads (tree.unary s Negate e) h = tt
-  row_leads (tree.unary s Not e) h = tt
-  row_leads (tree.unary s Complement e) h = tt
   row_leads (tree.unary s Dereference e) h = deep (row_at r e) (row_leads e h.1)
-  row_leads (tree.binary s o at e b) h = tt
+  row_leads _ h = tt
 
   pub expression_leads : (e : Expression) (modes : List Sharing) → AllByRecursion (IsExpression m) (expressions e) → modes_at m e ≡ Some modes → AllLead m modes
   expression_leads e modes all is = by (row_at r e) (row_leads e all) is

@@ -16,18 +16,13 @@ module _ (P : Declaration → Type 0) where
   All list = AllByRecursion OfLocal list
 
   in_first : (x : First) → AllByRecursion P (first_locals x) → All (locals_in_first x)
-  in_first nothing h = tt
   in_first (declares l) h = (h.0, tt)
-  in_first (does x) h = tt
+  in_first _ h = tt
 
   mutual
     in_one : (a : Statement) → AllByRecursion P (declared.locals_in a) → All (locals_in a)
-    in_one (tree.empty s) h = tt
     in_one (tree.block s all) h = in_each all h
     in_one (tree.declare s l) h = (h.0, tt)
-    in_one (tree.simple s x) h = tt
-    in_one (tree.jump s j) h = tt
-    in_one (tree.return s e) h = tt
     in_one (tree.if_then s e a) h = in_one a h
     in_one (tree.if_then_else s e a b) h =
         both OfLocal (locals_in a) (locals_in b)
@@ -36,6 +31,7 @@ module _ (P : Declaration → Type 0) where
     in_one (tree.for s x a) h =
         both OfLocal (locals_in_first x.first) (locals_in a)
         (in_first x.first (front P (first_locals x.first) (declared.locals_in a) h)) (in_one a (back P (first_locals x.first) (declared.locals_in a) h))
+    in_one _ h = tt
 
     pub in_each : (a : Statements) → AllByRecursion P (declared.locals_in_all a) → All (locals_in_all a)
     in_each no_statements h = tt

@@ -131,19 +131,11 @@ module _ (more : List Slot) where
 
   named_still : (scope : List Slot) (n : Named) (p : Option (List ℕ)) → PathNamed scope n p → PathNamed (scope ++ more) n p
   named_still scope (named.Variable x) (Some p) h = kind_more scope x true h
-  named_still scope (named.Variable x) None h = tt
-  named_still scope (named.Struct n) p h = tt
-  named_still scope (named.Global n) p h = tt
-  named_still scope (named.Function n) p h = tt
-  named_still scope (named.Field n) p h = tt
-  named_still scope named.Known p h = tt
+  named_still scope _ _ h = tt
 
   mode_still : (m : Assignment) (scope : List Slot) (s : Sharing) → PathStands m.typed scope s → PathStands m.typed (scope ++ more) s
-  mode_still m scope private h = tt
-  mode_still m scope readonly h = tt
   mode_still m scope (locked l) h = named_still scope (named_at m.typed l.first) l.second h
-  mode_still m scope racy h = tt
-  mode_still m scope dynamic h = tt
+  mode_still m scope _ h = tt
 
   pub all_still : (m : Assignment) (scope : List Slot) (modes : List Sharing) → AllStand m scope modes → AllStand m (scope ++ more) modes
   all_still m scope [] h = tt
@@ -151,12 +143,7 @@ module _ (more : List Slot) where
 
   lock_stays : (c : Context) (n : Named) (p : Option (List ℕ)) → PathNamed c.scope n p → lock_named (with_more c more) n p ≡ lock_named c n p
   lock_stays c (named.Variable x) (Some p) h = ap (λ g. Through (number_in g) (field_place_behind c.program.typed x p)) (from_more 0 0 c.scope x true h)
-  lock_stays c (named.Variable x) None h = refl
-  lock_stays c (named.Struct n) p h = refl
-  lock_stays c (named.Global n) p h = refl
-  lock_stays c (named.Function n) p h = refl
-  lock_stays c (named.Field n) p h = refl
-  lock_stays c named.Known p h = refl
+  lock_stays c _ _ h = refl
 
   pub locks_stay : (c : Context) (modes : List Sharing) → AllStand c.program c.scope modes → locks_at (with_more c more) modes ≡ locks_at c modes
   locks_stay c [] h = refl
@@ -217,12 +204,7 @@ record NamedBy (c : Context) (scope : List Slot) (modes : List Sharing) (r : ℕ
 
 by_name : (c : Context) (scope : List Slot) (modes : List Sharing) (r : ℕ) (l : Lock) (n : Named) (p : Option (List ℕ)) → PathNamed scope n p → Names r (lock_named c n p) → NamedBy c scope modes r
 by_name c scope modes r l (named.Variable x) (Some p) s h = record { lock = l; variable = x; stands = s; is = h }
-by_name c scope modes r l (named.Variable x) None s h = absurd h
-by_name c scope modes r l (named.Struct n) p s h = absurd h
-by_name c scope modes r l (named.Global n) p s h = absurd h
-by_name c scope modes r l (named.Function n) p s h = absurd h
-by_name c scope modes r l (named.Field n) p s h = absurd h
-by_name c scope modes r l named.Known p s h = absurd h
+by_name c scope modes r l _ _ s h = absurd h
 
 named_by : (c : Context) (scope : List Slot) (all modes : List Sharing) (r : ℕ) → AllStand c.program scope modes → SomeNames r (locks_at c modes) → NamedBy c scope all r
 named_by c scope all [] r s h = absurd h

@@ -12,7 +12,7 @@ use Rattle.sharc_ctype_laws.specs.Constraints.{IsMemberOf, struct_named}
 use Rattle.sharc_meaning.specs.Cells.{field_place, field_place_behind}
 use Rattle.sharc_mode.specs.{Sharings.{text_of, text_at}, WellFormed.{fields_of, fields_named, fields_behind}}
 use Rattle.sharc_accepted_laws.specs.Fields.{FieldsPlaced}
-use Rattle.sharc_accepted_laws.proofs.{Noted.{Says, AllSay, items_say, BaseSays, declarations_base, declared_has, named_by, base_of_kind}, Structs.in_file}
+use Rattle.sharc_accepted_laws.proofs.{Noted.{Says, AllSay, items_say, BaseSays, declarations_base, declared_has, named_by, base_of_kind}, Structs.in_file, Laying.named_there as struct_there}
 use Rattle.sharc_lemmas.proofs.{Options.{same_some, none_some}, Lists.{front, back, head_there, head_or_tail, of_each, tail_there}, Equal.none_there}
 
 abbrev pub SiblingsAre : Resolution → Type 0
@@ -67,14 +67,6 @@ found_there (x ∷ rest) name d is = by (bytes_eq x.name.text name) is (found_th
     by true is later = subst (Contains (x ∷ rest)) (same_some x d is) (head_there x rest)
     by false is later = tail_there x d rest (later is)
 
-pub struct_there : (list : List StructDefinition) (name : List ℕ) (s : StructDefinition) → struct_named list name ≡ Some s → Contains list s
-struct_there [] name s is = absurd (none_some s is)
-struct_there (x ∷ rest) name s is = by (bytes_eq x.name.text name) is (struct_there rest name s)
-  where
-    by : (b : Bool) → cond b (Some x) (struct_named rest name) ≡ Some s → (struct_named rest name ≡ Some s → Contains rest s) → Contains (x ∷ rest) s
-    by true is later = subst (Contains (x ∷ rest)) (same_some x s is) (head_there x rest)
-    by false is later = tail_there x s rest (later is)
-
 abbrev place_of : List ℕ → List Declaration → ℕ
 place_of name list = position_or_len (λ (e : Declaration). bytes_eq e.name.text name) list
 
@@ -124,9 +116,7 @@ module _ (r : Resolution) where
 
   not_field : (m : Meaning) (t : ℕ) → named_of m ≡ named.Field t → ⊥
   not_field (meaning.variable d) t h = cc
-  not_field (meaning.global n g) t h = cc
-  not_field (meaning.function n s) t h = cc
-  not_field (meaning.condition c) t h = cc
+  not_field _ t h = cc
 
   no_entry : (token t : ℕ) (o : Option Entry) → AllSay r (name_notes token o) → named_at r token ≡ named.Field t → ⊥
   no_entry token t None h is = absurd h.0

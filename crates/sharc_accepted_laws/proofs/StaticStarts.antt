@@ -23,10 +23,7 @@ not_globals x target low is =
 
 starts_shared : (m : Assignment) (first : Sharing) (below : List Sharing) → (first ≡ private → ⊥) → (b : Base) → starts_private (shape_of b (first ∷ below)).forms ≡ false
 starts_shared m private below none b = absurd (none refl)
-starts_shared m readonly below none b = refl
-starts_shared m (locked l) below none b = refl
-starts_shared m racy below none b = refl
-starts_shared m dynamic below none b = refl
+starts_shared m _ below none b = refl
 
 stars_some : (k : Kind) → is_pointer k ≡ true → 0 < stars_in k
 stars_some (object b n) h = ltb-true 0 n h

@@ -70,21 +70,12 @@ module _ (m2 : Assignment) (least : IsLeastAssignment m2) (file : FileKnown m2.t
 
   -- behind a declaration the program and its globals are the same
   context_first : (x : First) (slots : List Slot) → flat_behind_first (in_scope slots) x ≡ in_scope (flat_behind_first (in_scope slots) x).scope
-  context_first nothing slots = refl
-  context_first (declares l) slots = refl
   context_first (does x) slots = refl
+  context_first _ slots = refl
 
   context_behind : (a : Statement) (slots : List Slot) → behind_statement (in_scope slots) a ≡ in_scope (behind_statement (in_scope slots) a).scope
   context_behind (tree.empty s) slots = refl
-  context_behind (tree.block s all) slots = refl
-  context_behind (tree.declare s l) slots = refl
-  context_behind (tree.simple s x) slots = refl
-  context_behind (tree.jump s j) slots = refl
-  context_behind (tree.return s e) slots = refl
-  context_behind (tree.if_then s e a) slots = refl
-  context_behind (tree.if_then_else s e a z) slots = refl
-  context_behind (tree.while s e a) slots = refl
-  context_behind (tree.for s h a) slots = refl
+  context_behind _ slots = refl
 
   abbrev Known : List Placing → Type 0
   Known list = AllByRecursion (PlaceKnown r2) list
@@ -159,9 +150,8 @@ module _ (m2 : Assignment) (least : IsLeastAssignment m2) (file : FileKnown m2.t
 
   first_grown : (slots : List Slot) (around : Around) (names : List Entry) → Both (in_scope slots) names → (x : First) → AllByRecursion (IsFound r2) (first_entities x) → FirstRead r2 names x → Own (first_locals x)
       → Both (flat_behind_first (in_scope slots) x) (behind_first around names x)
-  first_grown slots around names b nothing f read own = b
   first_grown slots around names b (declares l) f read own = local_grown slots around names b l f read own.0
-  first_grown slots around names b (does x) f read own = b
+  first_grown slots around names b _ f read own = b
 
   record Given (around : Around) (scope : Scope) (a : Statement) : Type 0 where
     found : AllByRecursion (IsFound r2) (statement_entities a)
@@ -182,25 +172,15 @@ module _ (m2 : Assignment) (least : IsLeastAssignment m2) (file : FileKnown m2.t
   test_stands slots scope b e k t f = one slots scope b e (seen slots scope b (expressions e) k t f)
 
   after_grown : (slots : List Slot) (around : Around) (scope : Scope) (a : Statement) → Both (in_scope slots) scope.names → Given around scope a → Both (behind_statement (in_scope slots) a) (after around scope.names a)
-  after_grown slots around scope (tree.empty s) b g = b
-  after_grown slots around scope (tree.block s all) b g = b
   after_grown slots around scope (tree.declare s l) b g = local_grown slots around scope.names b l g.found g.read g.own.0
-  after_grown slots around scope (tree.simple s x) b g = b
-  after_grown slots around scope (tree.jump s j) b g = b
-  after_grown slots around scope (tree.return s e) b g = b
-  after_grown slots around scope (tree.if_then s e a) b g = b
-  after_grown slots around scope (tree.if_then_else s e a z) b g = b
-  after_grown slots around scope (tree.while s e a) b g = b
-  after_grown slots around scope (tree.for s h a) b g = b
+  after_grown slots around scope _ b g = b
 
   mutual
     statement_stands : (slots : List Slot) (around : Around) (scope : Scope) (a : Statement) → Both (in_scope slots) scope.names → Given around scope a → StatementStands (in_scope slots) a
-    statement_stands slots around scope (tree.empty s) b g = tt
     statement_stands slots around scope (tree.block s all) b g =
         statements_stand slots (opened around scope.names) scope all b (record { found = g.found; places = g.places; typed = g.typed; read = g.read; own = g.own })
     statement_stands slots around scope (tree.declare s l) b g = local_stands slots around scope b l g.found g.places g.typed g.read g.own.0
     statement_stands slots around scope (tree.simple s x) b g = simples slots scope b x (seen slots scope b (in_simple x) g.places g.typed g.found)
-    statement_stands slots around scope (tree.jump s j) b g = tt
     statement_stands slots around scope (tree.return s e) b g = options slots scope b e (seen slots scope b (in_option expressions e) g.places g.typed g.found)
     statement_stands slots around scope (tree.if_then s e a) b g =
         let inside = opened around scope.names in
@@ -287,6 +267,7 @@ module _ (m2 : Assignment) (least : IsLeastAssignment m2) (file : FileKnown m2.t
             own = back (IsItself r2 named.Variable) (first_locals h.first) (locals_in a) g.own;
           })),
         )
+    statement_stands slots around scope _ b g = tt
 
     statements_stand : (slots : List Slot) (around : Around) (scope : Scope) (a : Statements) → Both (in_scope slots) scope.names → AllGiven around scope a → StatementsStand (in_scope slots) a
     statements_stand slots around scope no_statements b g = tt

@@ -36,7 +36,7 @@ pub record IsGoodTable (x : Targets) : Type 0 where
   pub beside : AreBeside x.globals
 
 -- ---- what is past the end
-mode_racy : field.Racy ≡ field.Private → ⊥
+pub mode_racy : field.Racy ≡ field.Private → ⊥
 mode_racy h = cc
 
 pub racy_behind : (a p : ℕ) → field.Racy ≡ field.Behind a p → ⊥
@@ -85,10 +85,9 @@ private_in ty i field.Private h = refl
 private_in ty i field.Readonly h = absurd (readonly_private h)
 private_in ty i field.Racy h = absurd (racy_private h)
 private_in ty i field.Dynamic h = absurd (dynamic_private h)
-private_in ty i (Under (OfType k)) h = absurd (locked_private _ _ h)
-private_in ty i (Under (OfGlobals j)) h = absurd (locked_private _ _ h)
 private_in ty i (Under (OfElement f j)) h = absurd (sibling_private _ h)
 private_in ty i (field.Behind f p) h = absurd (behind_private _ h)
+private_in ty i _ h = absurd (locked_private _ _ h)
 
 locked_racy : (o j : ℕ) → cell.Locked o j ≡ cell.Racy → ⊥
 locked_racy o j h = cc
@@ -113,10 +112,9 @@ racy_in ty i field.Private h = absurd (private_racy h)
 racy_in ty i field.Readonly h = absurd (readonly_racy h)
 racy_in ty i field.Racy h = refl
 racy_in ty i field.Dynamic h = absurd (dynamic_racy h)
-racy_in ty i (Under (OfType k)) h = absurd (locked_racy _ _ h)
-racy_in ty i (Under (OfGlobals j)) h = absurd (locked_racy _ _ h)
 racy_in ty i (Under (OfElement f j)) h = absurd (sibling_racy _ h)
 racy_in ty i (field.Behind f p) h = absurd (behind_racy _ h)
+racy_in ty i _ h = absurd (locked_racy _ _ h)
 
 locked_behind : (o j k : ℕ) → cell.Locked o j ≡ cell.Behind k → ⊥
 locked_behind o j k h = cc
@@ -151,10 +149,9 @@ behind_in ty i j field.Private h = absurd (private_behind j h)
 behind_in ty i j field.Readonly h = absurd (readonly_behind j h)
 behind_in ty i j field.Racy h = absurd (racy_not_behind j h)
 behind_in ty i j field.Dynamic h = absurd (dynamic_behind j h)
-behind_in ty i j (Under (OfType k)) h = absurd (locked_behind _ _ j h)
-behind_in ty i j (Under (OfGlobals k)) h = absurd (locked_behind _ _ j h)
 behind_in ty i j (Under (OfElement f k)) h = absurd (sibling_behind _ j h)
 behind_in ty i j (field.Behind f p) h = record { at = f; pointer = p; is = refl; place = same_place _ j h }
+behind_in ty i j _ h = absurd (locked_behind _ _ j h)
 
 -- ---- elements
 -- a number below that of an element's cells is what is left of each number that is so much more than a multiple
@@ -197,10 +194,8 @@ module _ (x : Targets) (good : IsGoodTable x) where
   nothing_shared h = let low = good.first in true≢false (sym (row_private 0 [] (λ e. omega (arith, e, low)) h) ∙ good.nothing)
 
   target_private : (ty : ObjectType) (o i : ℕ) (f : Field) → IsGood x (is_private x ty) f → (c : Content) → f.holds ≡ c → is_private x (type_in ty o i c) ≡ true → f.mode ≡ field.Private
-  target_private ty o i f g (Integer w) is h = absurd (nothing_shared h)
-  target_private ty o i f g MutexWord is h = absurd (nothing_shared h)
-  target_private ty o i f g Waiters is h = absurd (nothing_shared h)
   target_private ty o i f g (Pointer to) is h = g.private_target to is (row_private to.target (map (field_mutex ty o i) to.locks) (g.row to is) h)
+  target_private ty o i f g _ is h = absurd (nothing_shared h)
 
   private_cells : (ty : ObjectType) (o i : ℕ) → is_private x (type_at x ty o i) ≡ true → mode_at x ty i ≡ cell.Private
   private_cells ty o i h = ap (mode_in ty i) (target_private ty o i (field_in x ty i) (cell_good ty i) (field_in x ty i).holds refl h)

@@ -42,11 +42,8 @@ counted : (k : Number) (n : ℕ) → k.value ≡ pos n → IsCounted (constants.
 counted k n is = is ∙ ap (λ z. pos (unsigned_abs z)) (sym is)
 
 counted_form : (form : GlobalForm) → ((span : Span) (minus : Bool) (k : Number) → form ≡ Initial span minus (constants.Number k) → (n : ℕ) × (k.value ≡ pos n)) → CountedForm form
-counted_form Plain unsigned = tt
-counted_form (Array at count) unsigned = tt
 counted_form (Initial span minus (constants.Number k)) unsigned = let n = unsigned span minus k refl in counted k n.0 n.1
-counted_form (Initial span minus (constants.Character byte)) unsigned = tt
-counted_form (Initial span minus constants.Null) unsigned = tt
+counted_form _ unsigned = tt
 
 module _ (alone : SomeAreAlone) (targets : TargetsAre) (globals_hold : GlobalsHold) (fit : MadeTablesFit) (granules : GranulesAreFew) (m : Assignment) (a : IsAccepted m) (flat : FlatCode) (made : Flattens m flat) (code : Code) (is : IsCodeOf flat code) where
   tables : HasTables m code

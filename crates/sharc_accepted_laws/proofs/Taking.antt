@@ -24,18 +24,8 @@ module _ (c : Context) where
     target : target_of c e ≡ target_of c (without_parentheses e)
 
   bare_of : (e : Expression) → Bare e
-  bare_of (tree.identifier s i) = record { entry = refl; target = refl }
-  bare_of (tree.constant s k) = record { entry = refl; target = refl }
   bare_of (tree.parentheses s a) = let b = bare_of a in record { entry = b.entry; target = b.target }
-  bare_of (tree.call s f all) = record { entry = refl; target = refl }
-  bare_of (tree.spawn s f a) = record { entry = refl; target = refl }
-  bare_of (tree.on_value s w a) = record { entry = refl; target = refl }
-  bare_of (tree.on_place s w a) = record { entry = refl; target = refl }
-  bare_of (tree.cast s t a) = record { entry = refl; target = refl }
-  bare_of (tree.index s a i) = record { entry = refl; target = refl }
-  bare_of (tree.field s a w n) = record { entry = refl; target = refl }
-  bare_of (tree.unary s o a) = record { entry = refl; target = refl }
-  bare_of (tree.binary s o at a b) = record { entry = refl; target = refl }
+  bare_of _ = record { entry = refl; target = refl }
 
   variable_entry_is : (s : Span) (i : Identifier) (x : ℕ) → named_at c.program.typed i.site.token ≡ named.Variable x → entry_of c (tree.identifier s i) ≡ Refers (variable_type c x)
   variable_entry_is s i x names =

@@ -25,12 +25,8 @@ struct_count m q (s ∷ rest) name = by (bytes_eq s.name.text name) (struct_coun
     by false h = h
 
 pub base_count : (m : Assignment) (q : FieldMode) (b : Base) → length (base_fields m q b) ≡ base_cells m.typed b
-base_count m q base.Int = refl
-base_count m q base.Char = refl
-base_count m q base.Long = refl
-base_count m q base.Mutex = refl
-base_count m q base.Void = refl
 base_count m q (base.Struct name) = struct_count m q (structs_in m.typed.program.items) name
+base_count m q _ = refl
 
 shape_count : (m : Assignment) (b : Base) (fs : List Form) → 0 < length fs → length (shape_fields m b fs) ≡ element_cells m.typed (object b (length fs - 1))
 shape_count m b [] some = absurd (omega (arith, some))

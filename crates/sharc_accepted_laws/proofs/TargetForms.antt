@@ -8,17 +8,10 @@ use Rattle.sharc_ctype.specs.{declared.entity.Numbered.Numbered, Entities.positi
 use Rattle.sharc_mode.specs.{Moded.Assignment, Rows.{PathReading, written, Targets, targets_from, entity_row, read, modes_of}, Sharings.{Sharing, private, readonly, locked, racy, dynamic, sharing_of}}
 use Rattle.sharc_accepted_laws.specs.Shapes.{Form, form_of}
 use Rattle.sharc_lemmas.proofs.Options.{same_some}
+use Rattle.sharc_accepted_laws.proofs.Passed.{form_read as read_form}
 
 abbrev pub mode_form : Mode → Form
 mode_form mode = form_of (sharing_of mode)
-
--- a reading changes paths alone
-pub read_form : (r : Resolution) (how : PathReading) (s : Sharing) → form_of (read r how s) ≡ form_of s
-read_form r how private = refl
-read_form r how readonly = refl
-read_form r how (locked l) = refl
-read_form r how racy = refl
-read_form r how dynamic = refl
 
 two : {A : Type 0} (a b : A) (xs ys : List A) → a ≡ b → xs ≡ ys → a ∷ xs ≡ b ∷ ys
 two a b xs ys e f = cc
@@ -51,10 +44,6 @@ no_none f h = cc
 
 form_there : (count first : ℕ) (modes : List Mode) (k : ℕ) (f : Form) → slice_get (map mode_form (take count (drop first modes))) k ≡ Some f → FormAt count first modes k f
 form_there zero zero [] k f is = absurd (no_none f is)
-form_there zero (suc n) [] k f is = absurd (no_none f is)
-form_there (suc c) zero [] k f is = absurd (no_none f is)
-form_there (suc c) (suc n) [] k f is = absurd (no_none f is)
-form_there zero zero (x ∷ rest) k f is = absurd (no_none f is)
 form_there (suc c) zero (x ∷ rest) zero f is = record { inside = omega arith; mode = x; at = refl; form = same_some _ _ is }
 form_there (suc c) zero (x ∷ rest) (suc k) f is =
     let w = form_there c zero rest k f is in
@@ -63,6 +52,7 @@ form_there (suc c) zero (x ∷ rest) (suc k) f is =
 form_there count (suc n) (x ∷ rest) k f is =
     let w = form_there count n rest k f is in
     record { inside = w.inside; mode = w.mode; at = let e : suc n + k ≡ suc (n + k) = omega arith in ap (slice_get (x ∷ rest)) e ∙ w.at; form = w.form }
+form_there _ _ _ k f is = absurd (no_none f is)
 
 -- how many levels of a type come before its targets among its positions
 abbrev pub skipped : Role → ℕ
@@ -96,12 +86,7 @@ level_by m first count k f what is = by what is
 
     by : (x : Role) → slice_get (map form_of (modes_of m (targets_from x (record { first = first; count = count; reading = written })))) k ≡ Some f → (skipped x + k < count) × IsModeAt m (first + (skipped x + k)) f
     by role.Global is = below (count == 0) refl is
-    by role.Field is = plain is
-    by role.Result is = plain is
-    by role.Parameter is = plain is
-    by role.Local is = plain is
-    by role.Cast is = plain is
-    by role.Made is = plain is
+    by _ is = plain is
 
 pub level_of : (m : Assignment) (n : Numbered) (k : ℕ) (f : Form) → slice_get (map form_of (modes_of m (entity_row written (Some n)))) k ≡ Some f → IsLevel m n k f
 level_of m n k f is = let w = level_by m n.first (positions_of n.entity) k f n.entity.role is in record { inside = w.0; at = w.1 }
@@ -110,11 +95,10 @@ level_of m n k f is = let w = level_by m n.first (positions_of n.entity) k f n.e
 taken_length : (count first : ℕ) (modes : List Mode) → first + count ≤ length modes → length (map mode_form (take count (drop first modes))) ≡ count
 taken_length zero zero [] low = refl
 taken_length zero (suc n) [] low = refl
-taken_length (suc c) zero [] low = absurd (omega (arith, low))
-taken_length (suc c) (suc n) [] low = absurd (omega (arith, low))
 taken_length zero zero (x ∷ rest) low = refl
 taken_length (suc c) zero (x ∷ rest) low = ap suc (taken_length c zero rest (omega (arith, low)))
 taken_length count (suc n) (x ∷ rest) low = taken_length count n rest (omega (arith, low))
+taken_length (suc c) _ [] low = absurd (omega (arith, low))
 
 pub row_length : (m : Assignment) (row : Targets) → row.first + row.count ≤ length m.modes → length (map form_of (modes_of m row)) ≡ row.count
 row_length m row low = ap length (row_forms m row) ∙ taken_length row.count row.first m.modes low
@@ -131,12 +115,7 @@ entity_length_by m first count what low = by what
 
     by : (x : Role) → length (map form_of (modes_of m (targets_from x (record { first = first; count = count; reading = written })))) ≡ count - skipped x
     by role.Global = below (count == 0) refl
-    by role.Field = plain
-    by role.Result = plain
-    by role.Parameter = plain
-    by role.Local = plain
-    by role.Cast = plain
-    by role.Made = plain
+    by _ = plain
 
 pub entity_length : (m : Assignment) (n : Numbered) → n.first + positions_of n.entity ≤ length m.modes → length (map form_of (modes_of m (entity_row written (Some n)))) ≡ positions_of n.entity - skipped n.entity.role
 entity_length m n low = entity_length_by m n.first (positions_of n.entity) n.entity.role low

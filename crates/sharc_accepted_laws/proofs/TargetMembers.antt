@@ -12,29 +12,18 @@ use Rattle.sharc_mode.specs.{Cells.{is_mutex_kind, is_behind_pointer, top_of}, M
 use Rattle.sharc_invariant.specs.Types.{FieldMode, Under, Field, no_field, FieldMode as field}
 use Rattle.sharc_invariant.specs.Types as types
 use Rattle.sharc_accepted_laws.specs.{Shapes.{form_of, shape_of, shapes}, Targets.{is_private_mode, starts_private, locked_mode, written_mode, field_mode, base_content, pointer_content, member, members, targets_of, field_lock}}
-use Rattle.sharc_accepted_laws.proofs.{TargetCells.member_count, Good.{IsOwn, AreGood, private_mode_is, racy_private, private_racy, not_pointer, mutex_base, plain_good, pointer_good, readonly_behind, dynamic_behind, private_behind, readonly_private, dynamic_private, readonly_racy, dynamic_racy}, TargetLists.place_there, Table.{IsGood, IsBeside, AreBeside, racy_behind}}
-use Rattle.sharc_lemmas.proofs.{Options.{same_some, none_some}, Lists.{head_there, some_there, tail_there}}
+use Rattle.sharc_accepted_laws.proofs.{TargetCells.member_count, Good.{IsOwn, AreGood, private_mode_is, private_racy, not_pointer, mutex_base, plain_good, pointer_good, readonly_behind, dynamic_behind, private_behind, readonly_private, dynamic_private, readonly_racy, dynamic_racy, under_private, under_racy, under_behind}, TargetLists.place_there, Table.{IsGood, IsBeside, AreBeside, racy_behind, mode_racy as racy_private}}
+use Rattle.sharc_lemmas.proofs.{Options.{same_some, none_some}, Lists.{head_there, some_there, tail_there, there_is as below_there}}
 
 -- ---- kinds
 pub mutex_pointer : (k : Kind) → is_mutex_kind k ≡ true → is_pointer k ≡ false
 mutex_pointer (object base.Mutex n) h = le-ltb 0 n (let z = eqb-true n 0 h in omega (arith, z))
-mutex_pointer (object base.Int n) h = absurd (false≢true h)
-mutex_pointer (object base.Char n) h = absurd (false≢true h)
-mutex_pointer (object base.Long n) h = absurd (false≢true h)
-mutex_pointer (object base.Void n) h = absurd (false≢true h)
-mutex_pointer (object (base.Struct x) n) h = absurd (false≢true h)
-mutex_pointer (array b n) h = absurd (false≢true h)
-mutex_pointer null h = absurd (false≢true h)
-mutex_pointer kinds.function h = absurd (false≢true h)
+mutex_pointer _ h = absurd (false≢true h)
 
 -- what has no star and the base of a mutex is one
 plain_mutex : (b : Base) (n : ℕ) → is_pointer (object b n) ≡ false → is_mutex_kind (object b n) ≡ false → b ≡ base.Mutex → ⊥
-plain_mutex base.Int n never other is = cc
-plain_mutex base.Char n never other is = cc
-plain_mutex base.Long n never other is = cc
-plain_mutex base.Void n never other is = cc
-plain_mutex (base.Struct x) n never other is = cc
 plain_mutex base.Mutex n never other is = let low = ltb-false 0 n never in let e : n ≡ 0 = omega (arith, low) in false≢true (sym other ∙ eq-eqb n 0 e)
+plain_mutex _ n never other is = cc
 
 pub levels_many : (w : WrittenType) → is_pointer (declared_kind w) ≡ true → 1 < length w.ctype.levels
 levels_many w is = let low : 0 < length w.ctype.levels - 1 = ltb-true 0 (length w.ctype.levels - 1) is in omega (arith, low)
@@ -57,12 +46,6 @@ behind_private a p h = cc
 
 behind_racy : (a p : ℕ) → field.Behind a p ≡ field.Racy → ⊥
 behind_racy a p h = cc
-
-under_private : (l : types.FieldLock) → Under l ≡ field.Private → ⊥
-under_private l h = cc
-
-under_racy : (l : types.FieldLock) → Under l ≡ field.Racy → ⊥
-under_racy l h = cc
 
 locked_private : (r : Resolution) (n : ℕ) (q : FieldMode) (l : Lock) → locked_mode r n q l ≡ field.Private → q ≡ field.Private
 locked_private r n q l h = by (is_behind_pointer r l) h
@@ -102,9 +85,6 @@ record IsBehindOf (r : Resolution) (n : ℕ) (q : FieldMode) (top : Option Mode)
   shared : is_private_mode q ≡ false
   own : n ≡ a
   pointer : field_place_named r (named_at r (lock_of path).first) ≡ p
-
-under_behind : (l : types.FieldLock) (a p : ℕ) → Under l ≡ field.Behind a p → ⊥
-under_behind l a p h = cc
 
 same_own : (a b p s : ℕ) → field.Behind a p ≡ field.Behind b s → a ≡ b
 same_own a b p s h = cc
@@ -186,11 +166,6 @@ pub members_at : (m : Assignment) (q : FieldMode) (n : ℕ) (list : List Declara
 members_at m q n [] k d is = absurd (none_some d is)
 members_at m q n (x ∷ rest) zero d is = let e : n ≡ n + zero = omega arith in ap (λ (z : Declaration). member m q n z) (same_some x d is) ∙ ap (λ i. member m q i d) e
 members_at m q n (x ∷ rest) (suc k) d is = let e : n + 1 + k ≡ n + suc k = omega arith in members_at m q (n + 1) rest k d is ∙ ap (λ i. member m q i d) e
-
-pub below_there : {A : Type 0} (list : List A) (k : ℕ) (x : A) → slice_get list k ≡ Some x → k < length list
-below_there [] k x is = absurd (none_some x is)
-below_there (y ∷ rest) zero x is = omega arith
-below_there (y ∷ rest) (suc k) x is = let low = below_there rest k x is in omega (arith, low)
 
 members_each : (m : Assignment) (fields : List Declaration) (shared : Bool) (q : FieldMode) → IsOwn q shared → (q ≡ field.Racy → ⊥) → (n : ℕ) (rest : List Declaration) → ((d : Declaration) → Contains rest d → IsMember m fields d)
     → AllByRecursion (IsGood (targets_of m) shared) (members m q n rest)

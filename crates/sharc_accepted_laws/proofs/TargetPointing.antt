@@ -32,7 +32,6 @@ parts a b i h = ⊎_elim
 
 -- ---- elements
 no_base : (b : Base) → is_pointer (base_content b) ≡ true → ⊥
-no_base base.Mutex h = let z : false ≡ true = h in cc
 no_base (base.Struct name) h = let z : false ≡ true = h in cc
 no_base _ h = let z : false ≡ true = h in cc
 
@@ -75,11 +74,7 @@ struct_points m q (s ∷ rest) name c e k low is h = by (bytes_eq s.name.text na
 base_points : (m : Assignment) (q : FieldMode) (b : Base) (c e k : ℕ) → k < length (base_fields m q b) → c ≡ e * length (base_fields m q b) + k → Points (base_fields m q b) k
     → slice_index_or (pointer_cells (References.base_fields m.typed b)) (c % length (References.base_fields m.typed b)) false ≡ true
 base_points m q (base.Struct name) c e k low is h = struct_points m q (structs_in m.typed.program.items) name c e k low is h
-base_points m q base.Int c e k low is h = absurd (no_single q base.Int k h)
-base_points m q base.Char c e k low is h = absurd (no_single q base.Char k h)
-base_points m q base.Long c e k low is h = absurd (no_single q base.Long k h)
-base_points m q base.Mutex c e k low is h = absurd (no_single q base.Mutex k h)
-base_points m q base.Void c e k low is h = absurd (no_single q base.Void k h)
+base_points m q j c e k low is h = absurd (no_single q j k h)
 
 element_points : (m : Assignment) (g : GlobalDefinition) (c e k : ℕ) → k < length (global_element m g) → c ≡ e * length (global_element m g) + k → Points (global_element m g) k → is_pointer_in m.typed g.declaration.written c ≡ true
 element_points m g c e k low is h = by (Kinds.is_pointer (declared_kind g.declaration.written)) low is h
@@ -115,11 +110,7 @@ struct_back m q (s ∷ rest) name c h = by (bytes_eq s.name.text name) h (struct
 base_back : (m : Assignment) (q : FieldMode) (b : Base) (c : ℕ) → slice_index_or (pointer_cells (References.base_fields m.typed b)) (c % length (References.base_fields m.typed b)) false ≡ true
     → Points (base_fields m q b) (c % length (base_fields m q b))
 base_back m q (base.Struct name) c h = struct_back m q (structs_in m.typed.program.items) name c h
-base_back m q base.Int c h = absurd (none_back (c % 0) h)
-base_back m q base.Char c h = absurd (none_back (c % 0) h)
-base_back m q base.Long c h = absurd (none_back (c % 0) h)
-base_back m q base.Mutex c h = absurd (none_back (c % 0) h)
-base_back m q base.Void c h = absurd (none_back (c % 0) h)
+base_back m q _ c h = absurd (none_back (c % 0) h)
 
 alone : (c : ℕ) → c % 1 ≡ 0
 alone c = let low = rest c 1 (λ e. omega (arith, e)) in omega (arith, low)

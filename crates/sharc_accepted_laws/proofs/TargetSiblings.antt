@@ -8,43 +8,10 @@ use Rattle.sharc_names.specs.Names as meaning
 use Rattle.sharc_ctype.specs.{Globals.sizes_notes, Heads.{heads_notes, no_heads}, Items.{field_notes, fields_notes, item_notes, items_notes, main_missing, file_scope, notes_about}, Resolved.{Resolution, IsResolved, named_at, structs_in}}
 use Rattle.sharc_mode.specs.Sharings.{lock_of}
 use Rattle.sharc_ctype_laws.specs.Laws.{Tells, IsToldOnce, EachNameOnce, OnlyNames}
-use Rattle.sharc_accepted_laws.proofs.TargetLists.{left_there, right_there, either_there}
+use Rattle.sharc_accepted_laws.proofs.{TargetLists.{left_there, right_there, either_there}, StaticSiblings.found_there, Noted.{referred_there, no_faults, one_thing}}
 use Rattle.sharc_lemmas.proofs.{Options.{same_some, none_some}, Lists.{head_there, head_or_tail, tail_there}, Equal.none_there}
 
 -- ---- what a note of the program says is so
-referred_there : (notes : List Note) (note : Note) (token : ℕ) (what : Named) → Contains notes note → Tells note token what → Contains (referred notes) token
-referred_there [] note token what has tells = absurd (none_there note has)
-referred_there (x ∷ rest) note token what has tells = ⊎_elim (λ is. here x (subst (λ z. Tells z token what) (sym is) tells)) (λ later. there x (referred_there rest note token what later tells)) (head_or_tail x note rest has)
-  where
-    here : (y : Note) → Tells y token what → Contains (referred (y ∷ rest)) token
-    here (fault place code) t = absurd t
-    here (refers n named) t = subst (λ z. Contains (n ∷ referred rest) z) t.0 (head_there n (referred rest))
-    here (yields n named) t = subst (λ z. Contains (n ∷ referred rest) z) t.0 (head_there n (referred rest))
-
-    there : (y : Note) → Contains (referred rest) token → Contains (referred (y ∷ rest)) token
-    there (fault place code) has = has
-    there (refers n named) has = tail_there n token (referred rest) has
-    there (yields n named) has = tail_there n token (referred rest) has
-
-one_thing : (note : Note) (token : ℕ) (a b : Named) → Tells note token a → Tells note token b → a ≡ b
-one_thing (fault place code) token a b s t = absurd s
-one_thing (refers n named) token a b s t = sym s.1 ∙ t.1
-one_thing (yields n named) token a b s t = sym s.1 ∙ t.1
-
-no_faults : (notes : List Note) (place : ℕ) (code : FaultCode) → Contains notes (fault place code) → faults notes ≡ [] → ⊥
-no_faults [] place code has none = none_there _ has
-no_faults (x ∷ rest) place code has none = ⊎_elim (λ is. here x is none) (λ later. there x none (no_faults rest place code later)) (head_or_tail x _ rest has)
-  where
-    here : (y : Note) → y ≡ fault place code → faults (y ∷ rest) ≡ [] → ⊥
-    here (fault p c) is none = cc
-    here (refers n named) is none = cc
-    here (yields n named) is none = cc
-
-    there : (y : Note) → faults (y ∷ rest) ≡ [] → (faults rest ≡ [] → ⊥) → ⊥
-    there (fault p c) none more = cc
-    there (refers n named) none more = more none
-    there (yields n named) none more = more none
-
 -- the field of this token is one of these
 pub record IsSibling (fields : List Declaration) (f : ℕ) : Type 0 where
   pub sibling : Declaration
@@ -93,22 +60,12 @@ module _ (once : EachNameOnce) (only : OnlyNames) (r : Resolution) (resolved : I
       (left_there _ (sizes_notes file.structs 0 r.program.items) note (right_there (heads_notes no_heads r.program.items) (items_notes file r.program.items) note at))
 
   -- ---- the first name of a path
-  found_there : (fields : List Declaration) (name : List ℕ) (d : Declaration) → field_of fields name ≡ Some d → Contains fields d
-  found_there [] name d is = absurd (none_some d is)
-  found_there (x ∷ rest) name d is = by (bytes_eq x.name.text name) is (found_there rest name d)
-    where
-      by : (b : Bool) → cond b (Some x) (field_of rest name) ≡ Some d → (field_of rest name ≡ Some d → Contains rest d) → Contains (x ∷ rest) d
-      by true is more = subst (λ z. Contains (x ∷ rest) z) (same_some x d is) (head_there x rest)
-      by false is more = tail_there x d rest (more is)
-
   same_field : (t u : ℕ) → named.Field t ≡ named.Field u → t ≡ u
   same_field t u h = cc
 
   not_field : (m : Meaning) (f : ℕ) → named_of m ≡ named.Field f → ⊥
   not_field (meaning.variable d) f h = cc
-  not_field (meaning.global n g) f h = cc
-  not_field (meaning.function n s) f h = cc
-  not_field (meaning.condition c) f h = cc
+  not_field _ f h = cc
 
   by_name : (token : ℕ) (o : Option Entry) (f : ℕ) → ((note : Note) → Contains (name_notes token o) note → Contains (notes_about r.program) note) → named_at r token ≡ named.Field f → ⊥
   by_name token None f inside is = no_faults (notes_about r.program) token UnknownName (inside _ (head_there _ [])) resolved.typed

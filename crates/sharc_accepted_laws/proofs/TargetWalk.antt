@@ -53,11 +53,9 @@ module _ (r : Resolution) where
 
   mutual
     statement_casts : (a : Statement) → Found (statement_entities a) → AllByRecursion CastFound (in_statement a)
-    statement_casts (tree.empty s) h = tt
     statement_casts (tree.block s all) h = statements_casts all h
     statement_casts (tree.declare s l) h = casts_of (in_local l) h.1
     statement_casts (tree.simple s x) h = casts_of (in_simple x) h
-    statement_casts (tree.jump s j) h = tt
     statement_casts (tree.return s e) h = casts_of (in_option expressions e) h
     statement_casts (tree.if_then s e a) h = both CastFound (expressions e) (in_statement a) (casts_of (expressions e) (front (IsFound r) (casts (expressions e)) (statement_entities a) h)) (statement_casts a (back (IsFound r) (casts (expressions e)) (statement_entities a) h))
     statement_casts (tree.if_then_else s e a b) h =
@@ -67,6 +65,7 @@ module _ (r : Resolution) where
         (statement_casts b (back (IsFound r) (casts (expressions e) ++ statement_entities a) (statement_entities b) h))
     statement_casts (tree.while s e a) h = both CastFound (expressions e) (in_statement a) (casts_of (expressions e) (front (IsFound r) (casts (expressions e)) (statement_entities a) h)) (statement_casts a (back (IsFound r) (casts (expressions e)) (statement_entities a) h))
     statement_casts (tree.for s x a) h = both CastFound (in_head x) (in_statement a) (head_casts x (front (IsFound r) (head_entities x) (statement_entities a) h)) (statement_casts a (back (IsFound r) (head_entities x) (statement_entities a) h))
+    statement_casts _ h = tt
 
     statements_casts : (all : Statements) → Found (statements_entities all) → AllByRecursion CastFound (in_statements all)
     statements_casts no_statements h = tt
@@ -74,9 +73,8 @@ module _ (r : Resolution) where
 
   -- ---- locals
   first_declared : (x : First) → Found (first_entities x) → AllByRecursion IsLocalFound (first_locals x)
-  first_declared nothing h = tt
   first_declared (declares l) h = (h.0, tt)
-  first_declared (does x) h = tt
+  first_declared _ h = tt
 
   head_first : (x : Head) → Found (head_entities x) → Found (first_entities x.first)
   head_first x h =
@@ -85,12 +83,8 @@ module _ (r : Resolution) where
 
   mutual
     statement_declared : (a : Statement) → Found (statement_entities a) → AllByRecursion IsLocalFound (locals_in a)
-    statement_declared (tree.empty s) h = tt
     statement_declared (tree.block s all) h = statements_declared all h
     statement_declared (tree.declare s l) h = (h.0, tt)
-    statement_declared (tree.simple s x) h = tt
-    statement_declared (tree.jump s j) h = tt
-    statement_declared (tree.return s e) h = tt
     statement_declared (tree.if_then s e a) h = statement_declared a (back (IsFound r) (casts (expressions e)) (statement_entities a) h)
     statement_declared (tree.if_then_else s e a b) h =
         both IsLocalFound (locals_in a) (locals_in b)
@@ -99,6 +93,7 @@ module _ (r : Resolution) where
     statement_declared (tree.while s e a) h = statement_declared a (back (IsFound r) (casts (expressions e)) (statement_entities a) h)
     statement_declared (tree.for s x a) h =
         both IsLocalFound (first_locals x.first) (locals_in a) (first_declared x.first (head_first x (front (IsFound r) (head_entities x) (statement_entities a) h))) (statement_declared a (back (IsFound r) (head_entities x) (statement_entities a) h))
+    statement_declared _ h = tt
 
     statements_declared : (all : Statements) → Found (statements_entities all) → AllByRecursion IsLocalFound (locals_in_all all)
     statements_declared no_statements h = tt
@@ -203,8 +198,6 @@ over_closed t rest is below e x has at =
 
 mutual
   expressions_closed : (t : Expression) → IsClosed (expressions t)
-  expressions_closed (tree.identifier s i) = over_closed (tree.identifier s i) [] refl none_closed
-  expressions_closed (tree.constant s c) = over_closed (tree.constant s c) [] refl none_closed
   expressions_closed (tree.parentheses s a) = over_closed (tree.parentheses s a) (expressions a) refl (expressions_closed a)
   expressions_closed (tree.call s f all) = over_closed (tree.call s f all) (in_arguments all) refl (arguments_closed all)
   expressions_closed (tree.spawn s f a) = over_closed (tree.spawn s f a) (expressions a) refl (expressions_closed a)
@@ -215,6 +208,7 @@ mutual
   expressions_closed (tree.field s a w n) = over_closed (tree.field s a w n) (expressions a) refl (expressions_closed a)
   expressions_closed (tree.unary s o a) = over_closed (tree.unary s o a) (expressions a) refl (expressions_closed a)
   expressions_closed (tree.binary s o at a b) = over_closed (tree.binary s o at a b) (expressions a ++ expressions b) refl (both_closed (expressions a) (expressions b) (expressions_closed a) (expressions_closed b))
+  expressions_closed k = over_closed k [] refl none_closed
 
   arguments_closed : (all : Arguments) → IsClosed (in_arguments all)
   arguments_closed no_arguments = none_closed
@@ -250,16 +244,15 @@ head_closed x = both_closed (in_first x.first ++ in_option expressions x.test) (
 
 mutual
   statement_closed : (a : Statement) → IsClosed (in_statement a)
-  statement_closed (tree.empty s) = none_closed
   statement_closed (tree.block s all) = statements_closed all
   statement_closed (tree.declare s l) = local_closed l.initial
   statement_closed (tree.simple s x) = simple_closed x
-  statement_closed (tree.jump s j) = none_closed
   statement_closed (tree.return s e) = option_closed e
   statement_closed (tree.if_then s e a) = both_closed (expressions e) (in_statement a) (expressions_closed e) (statement_closed a)
   statement_closed (tree.if_then_else s e a b) = both_closed (expressions e ++ in_statement a) (in_statement b) (both_closed (expressions e) (in_statement a) (expressions_closed e) (statement_closed a)) (statement_closed b)
   statement_closed (tree.while s e a) = both_closed (expressions e) (in_statement a) (expressions_closed e) (statement_closed a)
   statement_closed (tree.for s x a) = both_closed (in_head x) (in_statement a) (head_closed x) (statement_closed a)
+  statement_closed _ = none_closed
 
   statements_closed : (all : Statements) → IsClosed (in_statements all)
   statements_closed no_statements = none_closed

@@ -18,17 +18,12 @@ module _ (one other : Label) (k a r q : ℕ) where
 
   global_stays : (j : ℕ) → Stays (Global j)
   global_stays j none (Global i) h = h
-  global_stays j none (Through y i) h = absurd h
-  global_stays j none (Self i) h = absurd h
+  global_stays j none _ h = absurd h
 
   lock_stays : (c : Context) (n : Named) (second : Option (List ℕ)) → Stays (lock_named c n second)
   lock_stays c (named.Global g) second = global_stays _
   lock_stays c (named.Variable x) (Some name) = λ none y h. absurd (none (register c x) refl)
-  lock_stays c (named.Variable x) None = global_stays 0
-  lock_stays c (named.Struct n) second = global_stays 0
-  lock_stays c (named.Function n) second = global_stays 0
-  lock_stays c (named.Field n) second = global_stays 0
-  lock_stays c named.Known second = global_stays 0
+  lock_stays c _ _ = global_stays 0
 
   all_stay : (c : Context) (modes : List Sharing) → ((p : ℕ) → SomeNames p (locks_at c modes) → ⊥) → (xs : List TypeLock) → AllSame (PassesLock one k a) xs (locks_at c modes) → AllSame (PassesLock other r q) xs (locks_at c modes)
   all_stay c [] none [] h = tt

@@ -87,11 +87,9 @@ module _ (all : List ℕ) where
 
   mutual
     of_statement : (a : Statement) → Within (statement_marks a) → AllNamed (in_statement a)
-    of_statement (tree.empty s) h = tt
     of_statement (tree.block s list) h = of_statements list h
     of_statement (tree.declare s l) h = of_local l h
     of_statement (tree.simple s x) h = of_simple x h
-    of_statement (tree.jump s j) h = tt
     of_statement (tree.return s e) h = of_option e h
     of_statement (tree.if_then s e a) h = both Named (expressions e) (in_statement a) (of_expression e (fore (marks e) (statement_marks a) h)) (of_statement a (aft (marks e) (statement_marks a) h))
     of_statement (tree.if_then_else s e a b) h =
@@ -101,6 +99,7 @@ module _ (all : List ℕ) where
         (of_statement b (aft (marks e ++ statement_marks a) (statement_marks b) h))
     of_statement (tree.while s e a) h = both Named (expressions e) (in_statement a) (of_expression e (fore (marks e) (statement_marks a) h)) (of_statement a (aft (marks e) (statement_marks a) h))
     of_statement (tree.for s x a) h = both Named (in_head x) (in_statement a) (of_head x (fore (head_marks x) (statement_marks a) h)) (of_statement a (aft (head_marks x) (statement_marks a) h))
+    of_statement _ h = tt
 
     of_statements : (list : Statements) → Within (statements_marks list) → AllNamed (in_statements list)
     of_statements no_statements h = tt

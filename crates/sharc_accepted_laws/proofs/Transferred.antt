@@ -6,7 +6,7 @@ use Rattle.sharc_tree.specs.Measures as measures
 use Rattle.sharc_tree.specs.Tree as tree
 use Rattle.sharc_ctype.specs.{Resolved.{Resolution, named_at}, Transfers.{Transfer, gives, variable, lvalue, passed, parameters_named, transfers, argument_transfers, in_option, right_transfers, simple_transfers, local_transfers, first_transfers, statement_transfers, statements_transfers, function_transfers}}
 use Rattle.sharc_check.specs.Constructs.{locals_in_first, locals_in, locals_in_all}
-use Rattle.sharc_lemmas.proofs.Lists.{front, back, both}
+use Rattle.sharc_lemmas.proofs.{Lists.{front, back, both}, Options.{same_some, none_some}}
 
 -- what an expression itself passes
 abbrev pub own_passed : Resolution → Expression → List Transfer
@@ -32,8 +32,6 @@ module _ (r : Resolution) (P : Transfer → Type 0) where
 
   mutual
     in_expression : (e : Expression) → All (transfers r e) → Calls (expressions e)
-    in_expression (tree.identifier s i) h = (tt, tt)
-    in_expression (tree.constant s c) h = (tt, tt)
     in_expression (tree.parentheses s a) h = (tt, in_expression a h)
     in_expression (tree.call s f all) h =
         let ps = passed (parameters_named r (named_at r f.site.token)) all in
@@ -48,6 +46,7 @@ module _ (r : Resolution) (P : Transfer → Type 0) where
     in_expression (tree.field s a w n) h = (tt, in_expression a h)
     in_expression (tree.unary s o a) h = (tt, in_expression a h)
     in_expression (tree.binary s o at a b) h = (tt, both Passes (expressions a) (expressions b) (in_expression a (front P (transfers r a) (transfers r b) h)) (in_expression b (back P (transfers r a) (transfers r b) h)))
+    in_expression _ h = (tt, tt)
 
     in_all : (all : Arguments) → All (argument_transfers r all) → Calls (in_arguments all)
     in_all no_arguments h = tt
@@ -77,12 +76,6 @@ module _ (r : Resolution) (P : Transfer → Type 0) where
   initial_calls d None h = tt
   initial_calls d (Some x) h = right x h.1
 
-  same_some : {A : Type 0} (x y : A) → Some x ≡ Some y → x ≡ y
-  same_some x y h = cc
-
-  none_some : {A : Type 0} (x : A) → None ≡ Some x → ⊥
-  none_some x h = cc
-
   initial_begins : (d : Declaration) (x : Option Right) → All (in_option (λ x. gives (variable d) x ++ right_transfers r x) x) → (e : Expression) → x ≡ Some (value e) → P record { receiver = variable d; source = value e }
   initial_begins d None h e is = absurd (none_some (value e) is)
   initial_begins d (Some x) h e is = subst (λ (z : Right). P record { receiver = variable d; source = z }) (same_some x (value e) is) h.0
@@ -99,9 +92,8 @@ module _ (r : Resolution) (P : Transfer → Type 0) where
   first_calls (does x) h = simple x h
 
   first_begins : (x : First) → All (first_transfers r x) → Locals (locals_in_first x)
-  first_begins nothing h = tt
   first_begins (declares l) h = (local_begins l h, tt)
-  first_begins (does x) h = tt
+  first_begins _ h = tt
 
   -- of a statement: its calls, and its locals
   record Both (es : List Expression) (ls : List Local) : Type 0 where
@@ -113,12 +105,9 @@ module _ (r : Resolution) (P : Transfer → Type 0) where
 
   mutual
     in_one : (w : WrittenType) (a : Statement) → All (statement_transfers r w a) → Both (in_statement a) (locals_in a)
-    in_one w (tree.empty s) h = record { calls = tt; locals = tt }
     in_one w (tree.block s all) h = in_each w all h
     in_one w (tree.declare s l) h = record { calls = local_calls l h; locals = (local_begins l h, tt) }
     in_one w (tree.simple s x) h = record { calls = simple x h; locals = tt }
-    in_one w (tree.jump s j) h = record { calls = tt; locals = tt }
-    in_one w (tree.return s None) h = record { calls = tt; locals = tt }
     in_one w (tree.return s (Some e)) h = record { calls = in_expression e h.1; locals = tt }
     in_one w (tree.if_then s e a) h =
         joined (expressions e) (in_statement a) [] (locals_in a)
@@ -153,6 +142,7 @@ module _ (r : Resolution) (P : Transfer → Type 0) where
           locals = first_begins x.first (front P t1 t2 two);
         })
         (in_one w a (back P (t1 ++ t2 ++ t3) t4 h))
+    in_one w _ h = record { calls = tt; locals = tt }
 
     in_each : (w : WrittenType) (a : Statements) → All (statements_transfers r w a) → Both (in_statements a) (locals_in_all a)
     in_each w no_statements h = record { calls = tt; locals = tt }

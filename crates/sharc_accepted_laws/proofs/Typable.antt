@@ -35,20 +35,7 @@ operand_scalars LogicalOr j k h = h
 operand_scalars LogicalAnd j k h = h
 operand_scalars Equal j k h = same_sort_scalars j k h
 operand_scalars NotEqual j k h = same_sort_scalars j k h
-operand_scalars Less j k h = both_integers j k h
-operand_scalars Greater j k h = both_integers j k h
-operand_scalars LessOrEqual j k h = both_integers j k h
-operand_scalars GreaterOrEqual j k h = both_integers j k h
-operand_scalars ShiftLeft j k h = both_integers j k h
-operand_scalars ShiftRight j k h = both_integers j k h
-operand_scalars BitOr j k h = both_integers j k h
-operand_scalars BitXor j k h = both_integers j k h
-operand_scalars BitAnd j k h = both_integers j k h
-operand_scalars Add j k h = both_integers j k h
-operand_scalars Subtract j k h = both_integers j k h
-operand_scalars Multiply j k h = both_integers j k h
-operand_scalars Divide j k h = both_integers j k h
-operand_scalars Remainder j k h = both_integers j k h
+operand_scalars _ j k h = both_integers j k h
 
 more_stars : (n : ℕ) → (suc n == 0) ≡ false
 more_stars n = by (suc n == 0) refl
@@ -62,18 +49,14 @@ scalar_plain : (k : Kind) → IsScalar k → (is_struct_behind 0 k ≡ false) ×
 scalar_plain (object base.Int zero) h = (refl, refl, refl)
 scalar_plain (object base.Char zero) h = (refl, refl, refl)
 scalar_plain (object base.Long zero) h = (refl, refl, refl)
-scalar_plain (object base.Mutex zero) h = absurd (false≢true (h refl))
-scalar_plain (object base.Void zero) h = absurd (false≢true (h refl))
-scalar_plain (object (base.Struct name) zero) h = absurd (false≢true (h refl))
 scalar_plain (object base.Int (suc n)) h = (ap (λ z. z && false) (more_stars n), refl, refl)
 scalar_plain (object base.Char (suc n)) h = (ap (λ z. z && false) (more_stars n), refl, refl)
 scalar_plain (object base.Long (suc n)) h = (ap (λ z. z && false) (more_stars n), refl, refl)
 scalar_plain (object base.Mutex (suc n)) h = (ap (λ z. z && false) (more_stars n), refl, more_stars n)
 scalar_plain (object base.Void (suc n)) h = (ap (λ z. z && false) (more_stars n), refl, refl)
 scalar_plain (object (base.Struct name) (suc n)) h = (ap (λ z. z && true) (more_stars n), refl, refl)
-scalar_plain (array b n) h = absurd (false≢true (h refl))
 scalar_plain null h = (refl, refl, refl)
-scalar_plain function h = absurd (false≢true (h refl))
+scalar_plain _ h = absurd (false≢true (h refl))
 
 either_cell : (b : Bool) (g n k : ℕ) → is_cell (cond b (in_global_at g n) (in_object_at k)) ≡ true
 either_cell true g n k = refl
@@ -125,10 +108,7 @@ module _ (laws : Laws) (c : Context) (code : Code) (alone : ℕ → Bool) (lines
       by (named.Global k) names h =
           let to : target_of c (identifier s i) ≡ in_global k 0 = ap (λ w. named_target w 0) names in
           subst (λ t. CellTyped z n typing c (identifier s i) i.site t (is_ref c (identifier s i))) to (facts.cell_typed laws c code alone lines set n g (identifier s i) at cells (laws.bases.values c (identifier s i) suits) refl (ap is_cell to) (value refl) i.site)
-      by (named.Struct j) names h = h
-      by (named.Function j) names h = h
-      by (named.Field j) names h = h
-      by named.Known names h = h
+      by _ names h = h
 
   -- ---- calls
   call_typable : (s : Span) (i : Identifier) (all : Arguments) → At (call s i all) → Suits c (call s i all)
@@ -146,10 +126,7 @@ module _ (laws : Laws) (c : Context) (code : Code) (alone : ℕ → Bool) (lines
             call_is_typed laws c code alone lines set n g s i all at k f names there kind_is suit,
           )
       by named.Known names h = known_call laws c code alone lines set n g (cells.known s i all at names) s i all at names h.0 args (h.1, h.2)
-      by (named.Struct j) names h = absurd h
-      by (named.Global j) names h = absurd h
-      by (named.Variable j) names h = absurd h
-      by (named.Field j) names h = absurd h
+      by _ names h = absurd h
 
   -- ---- elements
   index_typable : (own guard : Option ℕ) (s : Span) (x i : Expression) → At (index s x i) → At x → IndexSuits c x i (PlaceSuits c x) (Suits c x) (Suits c i) → Fits own guard (index s x i)
@@ -278,14 +255,7 @@ module _ (laws : Laws) (c : Context) (code : Code) (alone : ℕ → Bool) (lines
         )
 
     pub place : (e : Expression) → At e → PlaceSuits c e → (own guard : Option ℕ) → Fits own guard e → IsPlaceTypable z n typing c own guard e
-    place (identifier s i) at suits own guard fits = tt
-    place (constant s k) at suits own guard fits = tt
     place (parentheses s x) at suits own guard fits = place x (record { function = at.function; parts = at.parts.1; stand = at.stand.1 }) suits own guard fits
-    place (call s i all) at suits own guard fits = tt
-    place (spawn s i x) at suits own guard fits = tt
-    place (on_value s w x) at suits own guard fits = tt
-    place (on_place s w x) at suits own guard fits = tt
-    place (cast s t x) at suits own guard fits = tt
     place (index s x i) at suits own guard fits =
         let both : Parts c n g (expressions x ++ expressions i) = (at.parts.1, at.stand.1) in
         let of_x : At x = part_of c n g at.function x (first_part c n g (expressions x) (expressions i) both) in
@@ -296,13 +266,10 @@ module _ (laws : Laws) (c : Context) (code : Code) (alone : ℕ → Bool) (lines
     place (field s x Arrow k) at suits own guard fits =
         let below : At x = record { function = at.function; parts = at.parts.1; stand = at.stand.1 } in
         (typable x below suits.0 (λ l. reference_scalar (kind_of c x) suits.1), pointer_typed x below (arrow_pointer r one s x k (kind_of c (field s x Arrow k)) (has_type (field s x Arrow k) at)))
-    place (unary s Negate x) at suits own guard fits = tt
-    place (unary s Not x) at suits own guard fits = tt
-    place (unary s Complement x) at suits own guard fits = tt
     place (unary s Dereference x) at suits own guard fits =
         let below : At x = record { function = at.function; parts = at.parts.1; stand = at.stand.1 } in
         (typable x below suits.0 (λ l. reference_scalar (kind_of c x) suits.1), pointer_typed x below (star_pointer r one s x (kind_of c (unary s Dereference x)) (has_type (unary s Dereference x) at)))
-    place (binary s o site x y) at suits own guard fits = tt
+    place _ at suits own guard fits = tt
 
     arguments : (all : Arguments) → Parts c n g (in_arguments all) → function_at r n ≡ Some g → (kinds : List Kind) (wants : ℕ → StaticType) → AllSuit c n g all → AllGo z n c kinds wants all → AreTypable z n typing c kinds wants all
     arguments no_arguments parts is kinds wants suit go = tt

@@ -15,7 +15,7 @@ use Rattle.sharc_flat.specs.{Flattened.{kind_of, target_of, lvalue_in}, Places.{
 use Rattle.sharc_invariant.specs.Labels.{Signature}
 use Rattle.sharc_typed_laws.specs.{Premises.Typing, Stretches.Setting, Typable.ground_of}
 use Rattle.sharc_accepted_laws.specs.{Static.entry_of, Lvalues.pointer_of, Accesses.{IsCellLvalue, IsCodeOf}, Joined.{BaseStands, IsFairUse, setting, IsTypingOf, IsGroundOf, IntegersFit, ReferencesFit, MutexesFit, GroundsFit}, Paths.PathsLead, Typed.{IsOf, CellTyped, LvalueTyped, BasesStand, LvaluesAreTyped}, Uses.{AreFair, UsesAreFair}}
-use Rattle.sharc_accepted_laws.proofs.AccessLists.{there_at, self}
+use Rattle.sharc_accepted_laws.proofs.{TargetLists.place_there as there_at, Members.first_of as self}
 use Rattle.sharc_lemmas.proofs.{Options.{same_some, none_some}, Bools.and_false, Lists.each}
 
 -- ---- what is an integer, a pointer or a mutex is no struct and no array
@@ -24,26 +24,18 @@ pub record IsPlainKind (k : Kind) : Type 0 where
   pub no_array : is_array k ≡ false
 
 integral_plain : (b : Base) (stars : ℕ) → is_integer (object b stars) ≡ true → is_struct_behind 0 (object b stars) ≡ false
-integral_plain base.Int stars h = and_false (stars == 0)
-integral_plain base.Char stars h = and_false (stars == 0)
-integral_plain base.Long stars h = and_false (stars == 0)
-integral_plain base.Mutex stars h = and_false (stars == 0)
-integral_plain base.Void stars h = and_false (stars == 0)
 integral_plain (base.Struct name) stars h = absurd (false≢true (sym (and_false (stars == 0)) ∙ h))
+integral_plain _ stars h = and_false (stars == 0)
 
 integer_plain : (k : Kind) → is_integer k ≡ true → IsPlainKind k
 integer_plain (object b stars) h = record { no_struct = integral_plain b stars h; no_array = refl }
-integer_plain (array b stars) h = absurd (false≢true h)
-integer_plain kinds.null h = absurd (false≢true h)
-integer_plain kinds.function h = absurd (false≢true h)
+integer_plain _ h = absurd (false≢true h)
 
 pub pointer_plain : (k : Kind) → is_pointer k ≡ true → IsPlainKind k
 pointer_plain (object b stars) h =
     let low : 0 < stars = ltb-true 0 stars h in
     record { no_struct = ap (λ z. z && kinds.is_struct_base b) (ne_eqb stars 0 (λ none. omega (arith, low, none))); no_array = refl }
-pointer_plain (array b stars) h = absurd (false≢true h)
-pointer_plain kinds.null h = absurd (false≢true h)
-pointer_plain kinds.function h = absurd (false≢true h)
+pointer_plain _ h = absurd (false≢true h)
 
 mutex_plain : (k : Kind) → k ≡ mutex → IsPlainKind k
 mutex_plain k is = record { no_struct = ap (is_struct_behind 0) is; no_array = ap is_array is }
@@ -99,14 +91,7 @@ module _ (c : Context) where
   IsGoodPointer (Some p) = Suits c p × (is_reference (kind_of c p) ≡ true)
 
   place_pointer : (e : Expression) → PlaceSuits c e → IsGoodPointer (pointer_of c.program.typed e)
-  place_pointer (identifier s i) h = tt
-  place_pointer (constant s k) h = tt
   place_pointer (parentheses s a) h = place_pointer a h
-  place_pointer (call s f all) h = tt
-  place_pointer (spawn s f a) h = tt
-  place_pointer (on_value s w a) h = tt
-  place_pointer (on_place s w a) h = tt
-  place_pointer (cast s t a) h = tt
   place_pointer (index s a i) h = by (is_array (kind_of c a)) h.0
     where
       by : (b : Bool) → Either b (PlaceSuits c a × (target c.program.typed None a ≡ in_global (global_of (target c.program.typed None a)) 0)) (Suits c a × (is_reference (kind_of c a) ≡ true)) → IsGoodPointer (cond b None (Some a))
@@ -114,29 +99,16 @@ module _ (c : Context) where
       by false k = k
   place_pointer (field s a Dot n) h = place_pointer a h
   place_pointer (field s a Arrow n) h = h
-  place_pointer (unary s Negate a) h = tt
-  place_pointer (unary s Not a) h = tt
-  place_pointer (unary s Complement a) h = tt
   place_pointer (unary s Dereference a) h = h
-  place_pointer (binary s o site a b) h = tt
+  place_pointer _ h = tt
 
   value_pointer : (e : Expression) → Suits c e → IsGoodPointer (pointer_of c.program.typed e)
-  value_pointer (identifier s i) h = tt
-  value_pointer (constant s k) h = tt
   value_pointer (parentheses s a) h = value_pointer a h
-  value_pointer (call s f all) h = tt
-  value_pointer (spawn s f a) h = tt
-  value_pointer (on_value s w a) h = tt
-  value_pointer (on_place s w a) h = tt
-  value_pointer (cast s t a) h = tt
   value_pointer (index s a i) h = place_pointer (index s a i) h.0
   value_pointer (field s a Dot n) h = place_pointer a h.0
   value_pointer (field s a Arrow n) h = h.0
-  value_pointer (unary s Negate a) h = tt
-  value_pointer (unary s Not a) h = tt
-  value_pointer (unary s Complement a) h = tt
   value_pointer (unary s Dereference a) h = (h.0, h.1)
-  value_pointer (binary s o site a b) h = tt
+  value_pointer _ h = tt
 
   -- a name
   pointer_stands : (p : Expression) (token x : ℕ) → Suits c p × (is_reference (kind_of c p) ≡ true) → constant_use c.program.typed p ≡ Some token → named_at c.program.typed token ≡ named.Variable x → slot_kind c.scope x ≡ Some true

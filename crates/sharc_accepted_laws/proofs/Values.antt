@@ -19,15 +19,8 @@ use Rattle.sharc_check.specs.Constructs.{IsExpression}
 use Rattle.sharc_flat.specs.{Flattened.{kind_of, is_ref, operator_of}, Places.{base_as_width, width_of}, Scope.{Context, slot_kind, ref_count, register_of, number_in}, Suits.{IsScalar, Either, SameSort, OperandsSuit, IfThere}, Framed.IsWide}
 use Rattle.sharc_typed_laws.specs.{Places.no_type, Stretches.Setting, Typable.{type_by, GoesTo, IsTypeIn, IsNumber, IsPointer, VariableTyped, ConstantTyped, UnaryTyped, IntegersTyped, ComparedTyped, BinaryTyped}}
 use Rattle.sharc_accepted_laws.specs.{Held.HeldLaws, StaticLaws.IsAccepted, Scopes.{ScopeLaws, AllStand}, Static.{register, static_of, variable_type, variable_entry, entry_by, entry_of}, TypableLaws.{IsAt, OperandSuits, ValueLaws}, Typing.{width_named, typing}}
-use Rattle.sharc_accepted_laws.proofs.{TypableRegisters.{reference_found, integer_found}, Members.first_of, Calling.of_each}
-
--- an integer is no reference
-integer_is : (k : Kind) → is_integer k ≡ true → is_reference k ≡ false
-integer_is (object b zero) h = refl
-integer_is (object b (suc n)) h = absurd (let e = eqb-true (suc n) 0 (and_parts (suc n == 0) (is_integral b) h).0 in omega (arith, e))
-integer_is (array b n) h = absurd (false≢true h)
-integer_is null h = absurd (false≢true h)
-integer_is function h = absurd (false≢true h)
+use Rattle.sharc_accepted_laws.proofs.{TypableRegisters.{reference_found, integer_found}, Members.first_of, Forms.integer_no_reference as integer_is, Calls.narrower_same, Conditions.object_no_null as no_object, Given.no_array}
+use Rattle.sharc_lemmas.proofs.Lists.{of_each}
 
 number_of_long : (b : Bool) → (is_reference (cond b long int) ≡ false) × (is_integer (cond b long int) ≡ true)
 number_of_long true = (refl, refl)
@@ -37,28 +30,19 @@ wide_of_long : (b : Bool) → IsWide (width_of (cond b long int))
 wide_of_long true = tt
 wide_of_long false = tt
 
-narrower_same : (w : Width) → Narrower w w
-narrower_same widths.Char = tt
-narrower_same widths.Int = tt
-narrower_same widths.Long = tt
-
 -- what is no long goes to either
 base_widens : (b : Base) (z : Bool) → is_integral b ≡ true → (is_long (object b 0) ≡ true → z ≡ true) → Narrower (base_as_width b) (width_of (cond z long int))
 base_widens base.Int true h k = tt
-base_widens base.Int false h k = tt
-base_widens base.Char z h k = tt
-base_widens base.Long true h k = tt
 base_widens base.Long false h k = absurd (false≢true (k refl))
 base_widens base.Mutex z h k = absurd (false≢true h)
 base_widens base.Void z h k = absurd (false≢true h)
 base_widens (base.Struct name) z h k = absurd (false≢true h)
+base_widens _ _ h k = tt
 
 kind_widens : (kind : Kind) (z : Bool) → is_integer kind ≡ true → (is_long kind ≡ true → z ≡ true) → Narrower (width_of kind) (width_of (cond z long int))
 kind_widens (object b zero) z h k = base_widens b z h k
 kind_widens (object b (suc n)) z h k = absurd (let e = eqb-true (suc n) 0 (and_parts (suc n == 0) (is_integral b) h).0 in omega (arith, e))
-kind_widens (array b n) z h k = absurd (false≢true h)
-kind_widens null z h k = absurd (false≢true h)
-kind_widens function z h k = absurd (false≢true h)
+kind_widens _ z h k = absurd (false≢true h)
 
 -- a pointer is no NULL
 pub pointer_no_null : (k : Kind) → is_pointer k ≡ true → k ≡ null → ⊥
@@ -68,36 +52,18 @@ module _ (r : Resolution) where
   abbrev pub HasRow : Expression → Type 0
   HasRow e = (row : Targets) × (row_at r e ≡ Some row)
 
-  no_object : (b : Base) (n : ℕ) → object b n ≡ null → ⊥
-  no_object b n h = cc
-
-  no_array : (b : Base) (n : ℕ) → array b n ≡ null → ⊥
-  no_array b n h = cc
-
   element_row : (z : Bool) (o : Option Targets) (row : Targets) → o ≡ Some row → (row2 : Targets) × (cond z o (behind o) ≡ Some row2)
   element_row true o row is = (row, is)
   element_row false o row is = (deeper row, ap behind is)
 
   -- what has another type than NULL has a row
   pub has_row : (e : Expression) (k : Kind) → IsOfType r e k → (k ≡ null → ⊥) → HasRow e
-  has_row (tree.identifier s i) k t none = (_, refl)
-  has_row (tree.constant s (constants.Number n)) k t none = (_, refl)
-  has_row (tree.constant s (constants.Character b)) k t none = (_, refl)
   has_row (tree.constant s constants.Null) _ a_constant none = absurd (none refl)
   has_row (tree.parentheses s a) k (in_parentheses t) none = has_row a k t none
-  has_row (tree.call s f all) k t none = (_, refl)
-  has_row (tree.spawn s f a) k t none = (_, refl)
-  has_row (tree.on_value s w a) k t none = (_, refl)
-  has_row (tree.on_place s w a) k t none = (_, refl)
-  has_row (tree.cast s w a) k t none = (_, refl)
   has_row (tree.index s a i) _ (element_of_pointer {b = b} {n = n} t u v) none = let x = has_row a (object b (n + 1)) t (no_object b (n + 1)) in element_row _ (row_at r a) x.0 x.1
   has_row (tree.index s a i) _ (element_of_array {b = b} {n = n} t u v) none = let x = has_row a (array b n) t (no_array b n) in element_row _ (row_at r a) x.0 x.1
-  has_row (tree.field s a w n) k t none = (_, refl)
-  has_row (tree.unary s Negate a) k t none = (_, refl)
-  has_row (tree.unary s Not a) k t none = (_, refl)
-  has_row (tree.unary s Complement a) k t none = (_, refl)
   has_row (tree.unary s Dereference a) _ (pointed_to {b = b} {n = n} t) none = let x = has_row a (object b (n + 1)) t (no_object b (n + 1)) in (deeper x.0, ap behind x.1)
-  has_row (tree.binary s o at a b) k t none = (_, refl)
+  has_row _ k t none = (_, refl)
 
 module _ (constraints : MeetsConstraints) (held : HeldLaws) (scopes : ScopeLaws) where
   pub typed_at : (m : Assignment) → IsAccepted m → (e : Expression) → IsExpression m e → IsOfType m.typed e (kind_at m.typed e)
@@ -240,14 +206,7 @@ module _ (constraints : MeetsConstraints) (held : HeldLaws) (scopes : ScopeLaws)
       binary_is GreaterOrEqual h = ((refl, refl), of_integers GreaterOrEqual h.0 (compares GreaterOrEqual refl refl h.0 h.1))
       binary_is ShiftLeft h = (number_of_long (is_long kx), of_integers ShiftLeft h.0 (shifts ShiftLeft refl refl h.0 h.1))
       binary_is ShiftRight h = (number_of_long (is_long kx), of_integers ShiftRight h.0 (shifts ShiftRight refl refl h.0 h.1))
-      binary_is BitOr h = (number_of_long (is_long kx || is_long ky), of_integers BitOr h.0 (counts BitOr refl h.0 h.1))
-      binary_is BitXor h = (number_of_long (is_long kx || is_long ky), of_integers BitXor h.0 (counts BitXor refl h.0 h.1))
-      binary_is BitAnd h = (number_of_long (is_long kx || is_long ky), of_integers BitAnd h.0 (counts BitAnd refl h.0 h.1))
-      binary_is Add h = (number_of_long (is_long kx || is_long ky), of_integers Add h.0 (counts Add refl h.0 h.1))
-      binary_is Subtract h = (number_of_long (is_long kx || is_long ky), of_integers Subtract h.0 (counts Subtract refl h.0 h.1))
-      binary_is Multiply h = (number_of_long (is_long kx || is_long ky), of_integers Multiply h.0 (counts Multiply refl h.0 h.1))
-      binary_is Divide h = (number_of_long (is_long kx || is_long ky), of_integers Divide h.0 (counts Divide refl h.0 h.1))
-      binary_is Remainder h = (number_of_long (is_long kx || is_long ky), of_integers Remainder h.0 (counts Remainder refl h.0 h.1))
+      binary_is k h = (number_of_long (is_long kx || is_long ky), of_integers k h.0 (counts k refl h.0 h.1))
 
     -- ---- constants
     number_type_is : (t : NumberType) → (is_reference (number_kind t) ≡ false) × (is_integer (number_kind t) ≡ true)

@@ -54,13 +54,11 @@ constant_plain (constants.Number n) = by n.number_type
     by : (w : NumberType) → is_aggregate (number_kind w) ≡ false
     by width.Int = refl
     by width.Long = refl
-constant_plain (constants.Character byte) = refl
-constant_plain constants.Null = refl
+constant_plain _ = refl
 
 common_plain : (j k t : Kind) → Common j k t → is_aggregate t ≡ false
 common_plain _ _ _ (both_shorter a b) = refl
-common_plain _ _ _ left_long = refl
-common_plain _ _ _ right_long = refl
+common_plain _ _ _ _ = refl
 
 pointer_plain : (k : Kind) → IsPointer k → is_aggregate k ≡ false
 pointer_plain k (b, n, is) = ap is_aggregate is ∙ ap (λ z. (z && is_struct_base b) || (same_base b Mutex && z)) (some_star n) ∙ and_false (same_base b Mutex)
@@ -83,7 +81,6 @@ module _ (r : Resolution) (g : Function) (w : Facts r g) where
   pub whole_cell : (e : Expression) (k : Kind) → HasType r e k → is_aggregate k ≡ true → (f : Option ℕ) → Inside e → is_cell (target r f e) ≡ true
   whole_cell _ _ (a_variable {s = s} {i = i} {token = token} {d = d} is at spelled) h f all = no _ _ (w.held s i all.0 token is d at) h
   whole_cell _ _ (a_global is at spelled) h f all = ap (λ n. is_cell (named_target n (own_field f 0))) is
-  whole_cell _ _ (a_function q) h f all = absurd (false≢true h)
   whole_cell _ _ (a_constant {c = k}) h f all = no _ _ (constant_plain k) h
   whole_cell _ _ (in_parentheses a) h f all = whole_cell _ _ a h f all.1
   whole_cell _ _ (element_of_pointer {a = a} x i t) h f all = either_cell (is_array (kind_at r a)) _ _ _
@@ -93,19 +90,11 @@ module _ (r : Resolution) (g : Function) (w : Facts r g) where
   whole_cell _ _ (a_field_behind a m is) h f all = refl
   whole_cell _ _ (negated a i x) h f all = no _ _ (common_plain _ _ _ x) h
   whole_cell _ _ (complemented a i x) h f all = no _ _ (common_plain _ _ _ x) h
-  whole_cell _ _ (denied a s) h f all = absurd (false≢true h)
   whole_cell _ _ (pointed_to a) h f all = refl
   whole_cell _ _ (arithmetic is a b l m x) h f all = no _ _ (common_plain _ _ _ x) h
   whole_cell _ _ (shifted is a b l m x) h f all = no _ _ (common_plain _ _ _ x) h
-  whole_cell _ _ (related is a b l m) h f all = absurd (false≢true h)
-  whole_cell _ _ (equated is a b x) h f all = absurd (false≢true h)
-  whole_cell _ _ (joined is a b l m) h f all = absurd (false≢true h)
-  whole_cell _ _ (spawned q a) h f all = absurd (false≢true h)
-  whole_cell _ _ (printed_or_joined a i) h f all = absurd (false≢true h)
-  whole_cell _ _ (locked m a) h f all = absurd (false≢true h)
-  whole_cell _ _ (unlocked m a) h f all = absurd (false≢true h)
-  whole_cell _ _ (freed m a p) h f all = absurd (false≢true h)
   whole_cell _ _ (a_cast m a p) h f all = no _ _ (pointer_plain _ p) h
+  whole_cell _ _ _ h f all = absurd (false≢true h)
 
   -- ---- the name of a variable
   pub record IsName (e : Expression) (x : ℕ) : Type 0 where
@@ -127,25 +116,10 @@ module _ (r : Resolution) (g : Function) (w : Facts r g) where
   variable_named _ _ (a_variable {s = s} {i = i} {token = token} is at spelled) l n all x to = of_name s i token x is to
   variable_named _ _ (a_global {s = s} {i = i} {n = k} is at spelled) l n all x to = absurd (global_no s i k x is to)
   variable_named _ _ (a_function q) l n all x to = absurd (n refl)
-  variable_named _ _ a_constant l n all x to = absurd (false≢true l)
   variable_named _ _ (in_parentheses a) l n all x to = let v = variable_named _ _ a l n all.1 x to in record { span = v.span; name = v.name; bare = v.bare; names = v.names }
   variable_named _ _ (element_of_pointer {a = a} y i t) l n all x to = absurd (no_variable _ (either_cell (is_array (kind_at r a)) _ _ _) x to)
   variable_named _ _ (element_of_array {a = a} y i t) l n all x to = absurd (no_variable _ (either_cell (is_array (kind_at r a)) _ _ _) x to)
-  variable_named _ _ (a_call q y) l n all x to = absurd (false≢true l)
   variable_named _ _ (a_field a m is) l n all x to = absurd (no_variable _ (whole_cell _ _ a refl (Some _) all.1) x to)
   variable_named _ _ (a_field_behind a m is) l n all x to = absurd (no_variable _ refl x to)
-  variable_named _ _ (negated a i y) l n all x to = absurd (false≢true l)
-  variable_named _ _ (complemented a i y) l n all x to = absurd (false≢true l)
-  variable_named _ _ (denied a s) l n all x to = absurd (false≢true l)
   variable_named _ _ (pointed_to a) l n all x to = absurd (no_variable _ refl x to)
-  variable_named _ _ (arithmetic is a b i m y) l n all x to = absurd (false≢true l)
-  variable_named _ _ (shifted is a b i m y) l n all x to = absurd (false≢true l)
-  variable_named _ _ (related is a b i m) l n all x to = absurd (false≢true l)
-  variable_named _ _ (equated is a b y) l n all x to = absurd (false≢true l)
-  variable_named _ _ (joined is a b i m) l n all x to = absurd (false≢true l)
-  variable_named _ _ (spawned q a) l n all x to = absurd (false≢true l)
-  variable_named _ _ (printed_or_joined a i) l n all x to = absurd (false≢true l)
-  variable_named _ _ (locked m a) l n all x to = absurd (false≢true l)
-  variable_named _ _ (unlocked m a) l n all x to = absurd (false≢true l)
-  variable_named _ _ (freed m a p) l n all x to = absurd (false≢true l)
-  variable_named _ _ (a_cast m a p) l n all x to = absurd (false≢true l)
+  variable_named _ _ _ l n all x to = absurd (false≢true l)

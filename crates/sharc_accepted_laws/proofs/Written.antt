@@ -68,13 +68,11 @@ module _ {A : Type 0} (P : A → Type 0) where
   deeper_dropped (suc f) c (x ∷ xs) h = deeper_dropped f c xs h
 
   taken : (c f : ℕ) (xs : List A) (d : A) → ((k : ℕ) → k < c → f + k < length xs → P (slice_index_or xs (f + k) d)) → AllByRecursion P (take c (drop f xs))
-  taken zero f xs d h = tt
-  taken (suc c) zero [] d h = tt
   taken (suc c) zero (x ∷ xs) d h =
       (h 0 (omega arith) (omega arith), taken c zero xs d (λ k low inside. let e : 0 + suc k ≡ suc (0 + k) = omega arith in subst (λ i. P (slice_index_or (x ∷ xs) i d)) e (h (suc k) (omega (arith, low)) (omega (arith, inside)))))
-  taken (suc c) (suc f) [] d h = tt
   taken (suc c) (suc f) (x ∷ xs) d h =
       taken (suc c) f xs d (λ k low inside. let e : suc f + k ≡ suc (f + k) = omega arith in subst (λ i. P (slice_index_or (x ∷ xs) i d)) e (h k low (omega (arith, inside))))
+  taken _ _ _ d h = tt
 
 pub deeper_raw : (m : Assignment) (P : Mode → Type 0) (row : Targets) → AllByRecursion P (raw m row) → AllByRecursion P (raw m (deeper row))
 deeper_raw m P row h = by (row.count == 0) refl
@@ -103,18 +101,12 @@ module _ (Good : Mode → Type 0) (private_good : Good Private) (racy_good : Goo
   settled_all b otherwise (level ∷ below) o h = (settled_one (is_mutex b below) level otherwise h.0 o, settled_all b otherwise below o h.1)
 
   target_good : (levels : List (Option Mode)) → AllByRecursion LevelGood levels → Good (field_target levels)
-  target_good [] h = dynamic_good
-  target_good (None ∷ below) h = dynamic_good
   target_good (Some m ∷ below) h = h.0
+  target_good _ h = dynamic_good
 
   otherwise_good : (where_ : Role) (levels : List (Option Mode)) → AllByRecursion LevelGood levels → LevelGood (otherwise_of where_ levels)
   otherwise_good role.Field levels h = target_good levels h
-  otherwise_good role.Global levels h = tt
-  otherwise_good role.Local levels h = tt
-  otherwise_good role.Parameter levels h = tt
-  otherwise_good role.Result levels h = tt
-  otherwise_good role.Cast levels h = tt
-  otherwise_good role.Made levels h = tt
+  otherwise_good _ levels h = tt
 
   dropped : (n : ℕ) (levels : List (Option Mode)) → AllByRecursion LevelGood levels → AllByRecursion LevelGood (drop n levels)
   dropped zero levels h = h
@@ -132,8 +124,7 @@ module _ (Good : Mode → Type 0) (private_good : Good Private) (racy_good : Goo
   found_good : (level : Option Mode) (finding : NodeFinding) → LevelGood level → Good (mode_found level finding)
   found_good (Some mode) finding h = h
   found_good None Apart h = private_good
-  found_good None Source h = dynamic_good
-  found_good None (Behind rank reason) h = dynamic_good
+  found_good None _ h = dynamic_good
 
   positions_good : (m : Assignment) → IsLeastAssignment m → (n : Numbered) → Position (entities_in m.typed.program.items) 0 n → AllByRecursion LevelGood (settled_modes n.entity)
       → (k : ℕ) → k < positions_of n.entity → n.first + k < length m.modes → Good (slice_index_or m.modes (n.first + k) Private)
@@ -157,13 +148,8 @@ module _ (Good : Mode → Type 0) (private_good : Good Private) (racy_good : Goo
       all = taken Good (positions_of n.entity) n.first m.modes Private (positions_good m least n (position_there (entities_in m.typed.program.items) 0 n is) good)
 
       by : (where_ : Role) → AllByRecursion Good (raw m (targets_from where_ whole))
-      by role.Field = all
       by role.Global = deeper_raw m Good whole all
-      by role.Local = all
-      by role.Parameter = all
-      by role.Result = all
-      by role.Cast = all
-      by role.Made = all
+      by _ = all
 
   -- by what is written
   pub row_good : (m : Assignment) → IsLeastAssignment m → (how : PathReading) (n : Numbered) → IsEntity m n → AllByRecursion LevelGood n.entity.written.ctype.levels → AllByRecursion Good (raw m (entity_row how (Some n)))
