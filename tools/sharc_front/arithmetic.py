@@ -1,4 +1,4 @@
-"""C's operators and conversions (C11 6.3.1, 6.5) as trees of the language's, which has no unsigned types.
+"""C's operators and conversions (C11 6.3.1, 6.5) in the language of SharC, which has no unsigned types.
 
 An unsigned value of less than 64 bits is masked after what can leave its range; one of 64 bits is held by its bits, and
 functions of headers/arithmetic.sharc compare, multiply and divide it.
@@ -7,7 +7,7 @@ functions of headers/arithmetic.sharc compare, multiply and divide it.
 import operator
 
 from .ctype import BITS, CELL, INT_RANGE, UNSIGNED, Type, limits, wrapped
-from .tree import Tree
+from .value import LEVELS, PRIMARY, UNARY, Value
 
 COMPARED = {"==": operator.eq, "!=": operator.ne, "<": operator.lt, ">": operator.gt, "<=": operator.le,
             ">=": operator.ge}
@@ -23,11 +23,28 @@ def number(value, name="int"):
     """A constant of this C type."""
     value = wrapped(value, name)
     wide = CELL[name] == "long" or not INT_RANGE[0] < value <= INT_RANGE[1]
-    return Tree("number", value, type=Type("int", name), number=value, wide=wide)
+    text = f"{value}{'L' * wide}" if value != -(1 << 63) else f"(-{(1 << 63) - 1}L - 1)"
+    return Value(text, Type("int", name), PRIMARY if text[0] != "-" else UNARY, number=value, wide=wide)
 
 
-def made(op, name, wide, *parts):
-    return Tree(op, *parts, type=Type("int", name), wide=wide)
+def joined(parts, text, name, level=PRIMARY, wide=False):
+    """A value of the C type `name` that is made of others."""
+    return Value(text, Type("int", name), level, wide=wide, calls=any(part.calls for part in parts),
+                 height=1 + max(part.height for part in parts))
+
+
+def infix(op, name, wide, left, right):
+    level = LEVELS[op]
+    return joined((left, right), f"{left.tight(level)} {op} {right.tight(level + 1)}", name, level, wide)
+
+
+def prefix(op, name, wide, value):
+    return joined((value,), op + value.tight(UNARY), name, UNARY, wide)
+
+
+def helper(called, name, wide, *values):
+    """A call of a function of headers/arithmetic.sharc."""
+    return joined(values, f"\1{called}({', '.join(value.text for value in values)})", name, wide=wide)
 
 
 def convert(value, name):
@@ -36,19 +53,18 @@ def convert(value, name):
         return number(value.number, name)
     (low, high), (least, most) = limits(name), limits(value.type.name)
     if low <= least and most <= high:
-        return value.with_(type=Type("int", name), unit=None)
+        return value.typed(Type("int", name))
     if name == "bool":
-        known = value.op in (*COMPARED, "!", "&&", "||")
-        return value.with_(type=Type("int", name)) if known else made("!=", name, False, value, number(0))
+        return infix("!=", name, False, value, number(0))
     if name in UNSIGNED:
         mask = number(high, name)
-        return made("&", name, value.wide or mask.wide, value, mask)
-    return made("helper", name, False, "as_" + name, value)
+        return infix("&", name, value.wide or mask.wide, value, mask)
+    return helper("as_" + name, name, False, value)
 
 
 def widened(value):
     """The value with type long in the text."""
-    return made("+", value.type.name, True, value, number(0, "long"))
+    return infix("+", value.type.name, True, value, number(0, "long"))
 
 
 def unary(op, value, name):
@@ -58,7 +74,7 @@ def unary(op, value, name):
     if op == "+" or value.number is not None:
         return value if op == "+" else number(~value.number, name)
     value = widened(value) if name != "int" and not value.wide else value
-    return convert(made("~", "long" if value.wide else "int", value.wide, value), name)
+    return convert(prefix("~", "long" if value.wide else "int", value.wide, value), name)
 
 
 def folded(op, left, right, name):
@@ -82,15 +98,14 @@ def binary(op, left, right, name):
         return value
     small = op in ("+", "-") and right.number is not None and abs(right.number) <= 65536
     if name == "ulong" and op in NAMES64 and not small:
-        return made("helper", name, True, NAMES64[op], left, right)
+        return helper(NAMES64[op], name, True, left, right)
     if name == "uint" and op == "*":
-        return made("helper", name, True, "product32", left, right)
+        return helper("product32", name, True, left, right)
     if name != "int" and op not in "&|^" and not (left.wide or right.wide and not shift):
         left = widened(left)
     wide = left.wide or right.wide and not shift
-    if name == "uint" and op in ("+", "-", "<<"):
-        return convert(made(op, "long", wide, left, right), name)
-    return made(op, name, wide, left, right)
+    made = infix(op, "long" if name == "uint" and op in ("+", "-", "<<") else name, wide, left, right)
+    return convert(made, name)
 
 
 def below_half(value):
@@ -106,9 +121,9 @@ def compare(op, left, right, name):
     if None not in (left.number, right.number):
         return folded(op, left, right, name)
     if name != "ulong" or op in ("==", "!=") or small:
-        return made(op, "int", False, left, right)
-    less = made("helper", "int", False, "below64", *((right, left) if op in (">", "<=") else (left, right)))
-    return less if op in ("<", ">") else made("!", "int", False, less)
+        return infix(op, "int", False, left, right)
+    less = helper("below64", "int", False, *((right, left) if op in (">", "<=") else (left, right)))
+    return less if op in ("<", ">") else prefix("!", "int", False, less)
 
 
 def plus(left, right, op="+"):
@@ -117,10 +132,10 @@ def plus(left, right, op="+"):
         return number(FOLDED[op](left.number, right.number), "int")
     if right.null() or left.null() and op == "+":
         return left if right.null() else right
-    return made(op, "long", left.wide or right.wide, left, right)
+    return infix(op, "long", left.wide or right.wide, left, right)
 
 
 def times(value, by):
     if by == 1 or value.number is not None:
         return value if by == 1 else number(value.number * by)
-    return made("*", "long", value.wide, value, number(by))
+    return infix("*", "long", value.wide, value, number(by))

@@ -5,7 +5,7 @@ taken are some), as numbers of elements of one global (1 is element 0, 0 is NULL
 integers that a `void *` carries.
 """
 
-from .source import Refusal
+from .value import Refusal
 
 HEAP = ("heap", "boxes")
 
@@ -82,11 +82,10 @@ class Node:
     def pointee_type(self, place):
         """The one type that pointers of this class point to."""
         types = list(self.find().types.values())
-        if len(types) > 1:
+        if len(types) != 1:
             names = ", ".join(sorted(kind.shown() for kind in types))
-            raise Refusal((place, f"pointer to several types ({names})"))
-        if not types:
-            raise Refusal((place, "void * whose type is not known"))
+            raise Refusal((place, f"pointer to several types ({names})" if types else
+                           "void * whose type is not known"))
         return types[0]
 
 
@@ -139,21 +138,20 @@ class Classes:
         return changed
 
     def settled_members(self, root):
+        """The same for pointers to members: `made` is the class of those in objects of the heap."""
         root, changed = root.find(), False
-        for key, node in [item for item in root.parts.items() if item[0][0] == "member"]:
-            node = node.find()
+        for (_, struct, name), node in [item for item in root.parts.items() if item[0][0] == "member"]:
+            node, made = node.find(), self.structs[struct].fields[name].made
             for (symbol, path), place in list(root.globals.items()):
-                inner = (symbol, path + key[2:])
-                if self.part_type(symbol, path).name == key[1] and inner not in node.globals:
-                    node.globals[inner] = place
+                if self.part_type(symbol, path).name == struct and (symbol, path + (name,)) not in node.globals:
+                    node.globals[(symbol, path + (name,))] = place
                     changed = True
             if root.has("heap") and not root.globals:
-                made = self.structs[key[1]].fields[key[2]].made
                 changed |= not node.has("heap") or made.find() is not node
                 node.mark("heap", root.seen["heap"])
                 made.unite(node)
-        if root.has("heap") and not root.globals:
-            for made in [made for kind in root.types.values() for made in self.arrays_in(kind)]:
+        for kind in list(root.types.values()) if root.has("heap") and not root.globals else []:
+            for made in self.arrays_in(kind):
                 changed |= not made.has("heap")
                 made.mark("heap", root.seen["heap"])
         return changed
@@ -174,10 +172,7 @@ class Classes:
 
     def merge(self, group):
         """Globals that one pointer may point to become elements of one array, which `group` makes."""
-        while True:
-            several = [root for root in self.everything() if len(root.globals) > 1 and not root.mixed]
-            if not several:
-                return
+        while several := [root for root in self.everything() if len(root.globals) > 1 and not root.mixed]:
             root = min(several, key=lambda root: (max(len(path) for _, path in root.globals),
                                                   sorted(map(named, root.globals))))
             keys = list(root.globals)

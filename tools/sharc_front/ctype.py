@@ -8,8 +8,8 @@ UNSIGNED = {"bool", "uchar", "ushort", "uint", "ulong"}
 CELL = {"bool": "int", "char": "char", "uchar": "int", "short": "int", "ushort": "int", "int": "int", "uint": "long",
         "long": "long", "ulong": "long"}
 INT_RANGE, LONG_RANGE = (-(1 << 31), (1 << 31) - 1), (-(1 << 63), (1 << 63) - 1)
-# sizes in glibc
-SIZES = {"mutex": 40, "cond": 48, "sem_t": 32, "pthread_barrier_t": 32, "pthread_rwlock_t": 56, "ptr": 8, "void": 1}
+SIZES = {"mutex": 40, "cond": 8, "sem_t": 32, "pthread_cond_t": 48, "pthread_barrier_t": 32, "pthread_rwlock_t": 56,
+         "ptr": 8, "void": 1}  # in glibc
 
 
 @dataclass(frozen=True)
@@ -42,10 +42,8 @@ class Type:
         return self.length * self.to.cells() if self.kind == "array" else 1
 
     def shown(self):
-        if self.kind == "ptr":
-            return self.to.shown() + " *"
-        if self.kind == "array":
-            return f"{self.to.shown()} [{self.length}]"
+        if self.kind in ("ptr", "array"):
+            return self.to.shown() + (" *" if self.kind == "ptr" else f" [{self.length}]")
         return "struct " + self.name if self.kind == "struct" else self.name or self.kind
 
 

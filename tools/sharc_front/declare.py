@@ -4,9 +4,9 @@ from pycparser import c_ast as A
 
 from .classes import Classes
 from .ctype import BAD, BITS, COND, INT, MUTEX, SIZES, UINT, VOID, Type, array, pointer
-from .source import Refusal
+from .value import Late, Refusal
 
-OPAQUE = {"pthread_mutex_t": MUTEX, "pthread_spinlock_t": MUTEX, "pthread_cond_t": COND}
+OPAQUE = {"pthread_mutex_t": MUTEX, "pthread_spinlock_t": MUTEX, "__sharc_cond": COND}
 
 
 class Symbol:
@@ -21,9 +21,9 @@ class Symbol:
         self.initial, self.uses, self.own = [], 0, False  # [(path, value or steps)]; own: it is none of the user's
         self.loop, self.started = 0, []  # how many loops are around it, and around each pthread_create of its address
         # of a function
-        self.params, self.definition, self.steps = [], None, []
-        self.gives, self.called, self.pointed = False, False, False
-        self.header, self.pinned, self.names = False, None, {}  # pinned: the place of the call that it is a copy for
+        self.params, self.definition, self.lines = [], None, []
+        self.gives, self.called, self.header = False, False, False
+        self.constants, self.rest = {}, []  # of a global: constants of its parts, and lines of main
 
 
 class Field:
@@ -45,12 +45,13 @@ def place_of(node, otherwise=("", 0)):
     return (coord.file, coord.line) if coord is not None and coord.file else otherwise
 
 
-class Declarations:
+class Declarations(Late):
     def __init__(self, source, alone):
-        self.source, self.alone, self.here, self.function = source, alone, ("", 0), None
+        super().__init__()
+        self.source, self.function, self.alone = source, None, alone
         self.structs, self.globals, self.functions, self.refusals = {}, [], {}, []
         self.classes = Classes(self.structs)
-        self.scopes, self.tags, self.struct_nodes, self.typedef_names = [{}], [{}], {}, {}
+        self.struct_nodes, self.typedef_names = {}, {}  # tags are in self.scopes with a blank before them
         self.names, self.unions = set(source.words), set()
 
     def refuse(self, node, what):
@@ -75,16 +76,14 @@ class Declarations:
 
     def scoped(self, act):
         self.scopes.append({})
-        self.tags.append({})
         try:
             return act()
         finally:
             self.scopes.pop()
-            self.tags.pop()
 
     @staticmethod
-    def lookup(name, tables):
-        return next((scope[name] for scope in reversed(tables) if name in scope), None)
+    def lookup(name, scopes):
+        return next((scope[name] for scope in reversed(scopes) if name in scope), None)
 
     def type(self, node):
         """The type that a declarator or a type name gives."""
@@ -153,7 +152,7 @@ class Declarations:
     def t_Enum(self, node):
         """gcc gives an enumerated type without a negative number the type unsigned int."""
         if node.values is None:
-            return self.lookup(node.name, self.tags) or UINT
+            return self.lookup(f" {node.name}", self.scopes) or UINT
         number, least = 0, 0
         for item in node.values.enumerators:
             if item.value is not None:
@@ -161,22 +160,23 @@ class Declarations:
             self.refuse_if(not -(1 << 31) <= number < 1 << 31, "enumerator that is no int", item)
             self.scopes[-1][item.name] = number
             number, least = number + 1, min(number, least)
-        self.tags[-1][node.name or ""] = kind = INT if least < 0 else UINT
+        self.scopes[-1][f" {node.name}"] = kind = INT if least < 0 else UINT
         return kind
 
     def t_Struct(self, node):
         """Its name, as it is written; its members are read where they are given."""
-        name, tags = self.struct_nodes.get(id(node)), self.tags if node.decls is None else self.tags[-1:]
+        name, tag = self.struct_nodes.get(id(node)), f" {node.name}"
+        scopes = self.scopes if node.decls is None else self.scopes[-1:]
         if name is None:
-            name = self.lookup(node.name, tags) if node.name else None
+            name = self.lookup(tag, scopes) if node.name else None
             self.refuse_if(name and node.decls is not None and self.structs[name].complete,
                            f"struct {node.name}, which is defined twice", node)
             wanted = node.name or self.typedef_names.get(id(node), "anonymous")
             if name is None:
                 name = self.fresh(wanted) if wanted in self.structs or wanted == "anonymous" else wanted
         self.struct_nodes[id(node)] = name
-        if node.name and self.lookup(node.name, tags) is None:
-            self.tags[-1][node.name] = name
+        if node.name and self.lookup(tag, scopes) is None:
+            self.scopes[-1][tag] = name
         struct = self.structs.setdefault(name, Struct(name, place_of(node, self.here)))
         if node.decls is not None and not struct.complete:
             struct.complete = True
@@ -213,7 +213,7 @@ class Declarations:
         base = kind.base()
         self.refuse_if(base.kind == "struct" and not self.structs[base.name].complete,
                        f"struct {base.name}, which is not defined", node)
-        self.refuse_if(base.kind in ("bad", "void", "func"),
+        self.refuse_if(base.kind in ("bad", "void", "func", "cond"),
                        None if base.kind == "bad" else "variable of this type", node)
 
     def size(self, kind):
@@ -255,10 +255,6 @@ class Declarations:
             kind = kind.to if isinstance(step, int) else self.structs[kind.name].fields[step].type
         return kind
 
-    def path_content(self, symbol, path):
-        """The class of the pointers in a part of a variable."""
-        return self.inner_place(self.variable_place(symbol), path).node
-
     def declare(self, name, kind, type, node):
         """A new variable in the innermost scope."""
         self.complete(type, node)
@@ -268,7 +264,7 @@ class Declarations:
             symbol.address.globals[(symbol, ())] = symbol.place
         else:
             symbol.address.mark("heap", symbol.place)
-        symbol.boxed = kind != "global" and self.has(type, "mutex", "cond")
+        symbol.boxed = kind != "global" and self.has(type, "mutex")
         return symbol
 
     def variable(self, decl, kind):
@@ -291,8 +287,6 @@ class Declarations:
             symbol.out = self.fresh(f"{self.function.name}_{decl.name}") if len(self.scopes) > 1 else symbol.out
         if not bare:
             symbol.initial = self.scalars(symbol.type, decl.init)
-        if not bare and symbol.kind == "global":
-            base = self.variable_place(symbol)
-            symbol.initial = [(path, self.captured(self.store, self.inner_place(base, path), item)[0])
-                              for path, item in symbol.initial]
+        if symbol.kind == "global":
+            self.set_initialiser(symbol)
         return symbol

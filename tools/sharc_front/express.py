@@ -1,88 +1,99 @@
-"""Expressions of C, each lowered to a place or a value, after the steps that have to come before it (C11 6.5)."""
+"""Expressions of C, each lowered to a place or a value, after the lines that have to come before it (C11 6.5)."""
 
 import re
+from collections import namedtuple
 from contextlib import contextmanager
+from dataclasses import replace
 
 from pycparser import c_ast as A
 
-from .arithmetic import COMPARED, binary, compare, convert, number, plus, unary
-from .ctype import BITS, CELL, CHAR, INT, LONG, ULONG, VOID, Type, array, pointer, promoted, usual
+from .arithmetic import COMPARED, binary, compare, convert, infix, joined, number, plus, unary
+from .ctype import BITS, CELL, CHAR, INT, ULONG, VOID, Type, array, pointer, promoted, usual
 from .declare import Symbol, place_of
-from .initial import Initialisers
-from .tree import PLACES, Step, Tree
+from .places import Places
+from .value import LEVELS, PRIMARY, Place, Value
 
+Line = namedtuple("Line", "place text declares")
 SPOKEN = {"Compound": "statement expression", "Goto": "goto", "Label": "label", "Pragma": "#pragma",
           "Case": "case inside another statement", "Default": "case inside another statement"}
 
 
-class Expressions(Initialisers):
-    def emit(self, kind, *parts):
-        self.steps += self.step(kind, *parts)
+class Expressions(Places):
+    def emit(self, text, declares=False, place=None):
+        self.lines.append(Line(place or self.here, text, declares))
 
     def captured(self, act, *arguments):
-        """The steps that `act` makes, and what it gives."""
-        kept, self.steps, here = self.steps, [], self.here
+        """The lines that `act` makes, and what it gives."""
+        kept, self.lines, here = self.lines, [], self.here
         try:
             made = act(*arguments)
-            return self.steps, made
+            return self.lines, made
         finally:
-            self.steps, self.here = kept, here
+            self.lines, self.here = kept, here
 
-    def step(self, kind, *parts):
-        return [Step(kind, self.here, *parts)]
-
-    def temporary(self, type, node=None):
+    def own_name(self, name):
         """A variable of the front's own."""
+        made = self.fresh(name)
+        self.user.own.add(made)
+        self.locals += 1
+        return made
+
+    def temporary(self, type, node=None, value=None):
+        """A variable of the front's own, which may be given a value."""
         symbol = Symbol("t", "local", type.bare().with_(atomic=False), self.here, self.classes)
-        symbol.own, symbol.content = True, node or symbol.content
-        self.emit("declare", symbol)
+        symbol.own, symbol.content, symbol.out = True, node or symbol.content, self.own_name("t")
+        shown = self.late(lambda: self.type_text(symbol.type, symbol.content))
+        self.emit(f"{shown} {symbol.out}{f' = {value}' if value else ''};", True)
         return self.variable_place(symbol)
 
     def spilled(self, value):
         """A value in a variable of its own."""
-        made = self.temporary(value.type, value.node)
-        self.emit("assign", made, value)
-        return self.loaded(made)
+        if value.type.kind not in ("int", "ptr"):
+            return value
+        return self.loaded(self.temporary(value.type, value.node, value.text))
 
     def stable(self, value):
         """The value, so that it may be written several times and evaluated later."""
-        if value.op == "moved":
-            base, op, index = value.parts
+        if value.moved:
+            base, op, index = value.moved
             return self.added(self.stable(base), self.stable(index), op, True)
-        return self.spilled(value) if value.calls or value.reads or value.height > 2 else value
+        if value.place:
+            place = self.stable_place(value.place)
+            whole = value.type.kind == "ptr" and value.type.to.key() == place.type.key()
+            return self.address(place) if whole else self.loaded(place)
+        return value if value.number is not None or value.height == 1 and not value.calls else self.spilled(value)
 
     def stable_place(self, place):
         """The place, so that it may be written twice: its indices are evaluated once."""
         base, *rest = place.parts
         base = self.stable_place(base) if place.op in ("member", "element") else base
-        if place.op in ("element", "at") and (rest[0].reads or rest[0].calls):
+        if place.op in ("element", "at") and (rest[0].calls or rest[0].height > 1):
             rest = [self.spilled(rest[0])]
-        return place.with_(parts=(base, *rest))
+        return Place(place.op, (base, *rest), place.type, place.node, place.source)
 
     def in_order(self, *nodes):
-        """Values of several operands, from left to right: the steps of an operand come after those before it."""
+        """Values of several operands, from left to right: the lines of an operand come after calls of those before."""
         values = []
         for node in nodes:
-            steps, value = self.captured(self.value, node)
-            if steps:
-                values = [self.spilled(old) if old.calls or old.reads else old for old in values]
-            self.steps += steps
+            lines, value = self.captured(self.value, node)
+            if lines:
+                values = [self.spilled(old) if old.calls else old for old in values]
+            self.lines += lines
             values.append(value)
         return values
-
-    def variable_place(self, symbol):
-        memory = symbol.kind == "global" or symbol.type.atomic or symbol.name in self.addressed and not symbol.own
-        return Tree("variable", symbol, type=symbol.type, node=symbol.content, memory=memory)
 
     def member(self, base, name):
         field = self.structs[base.type.name].fields.get(name)
         self.refuse_if(field is None or field.type.kind == "bad", None if field else f"member {name}")
-        made = Tree("member", base, name, type=field.type, node=field.content)
+        made = Place("member", (base, name), field.type, field.content)
         return self.element(made, number(0)) if field.alone else made
+
+    def variable_place(self, symbol):
+        return Place("variable", (symbol,), symbol.type, symbol.content)
 
     @staticmethod
     def element(base, index):
-        return Tree("element", base, index, type=base.type.to, node=base.node)
+        return Place("element", (base, index), base.type.to, base.node)
 
     def inner_place(self, base, path):
         for step in path:
@@ -91,31 +102,48 @@ class Expressions(Initialisers):
 
     def deref(self, value, index=None):
         """Element `index` of what a pointer points to."""
-        index, kind = index or number(0), value.type
-        if value.op in ("address", "array") and index.null() and kind.to.key() == value.parts[0].type.key():
-            return value.parts[0]
-        if value.op == "array":
-            return self.element(value.parts[0], index)
-        if value.op == "moved" and value.parts[1] == "+":
-            return self.deref(value.parts[0], plus(value.parts[2], index))
-        self.refuse_if(kind.kind != "ptr" or kind.to.kind == "void",
-                       "dereference of a number" if kind.kind != "ptr" else "dereference of void *")
+        self.refuse_if(value.type.kind != "ptr" or value.type.to.kind == "void",
+                       "dereference of a number" if value.type.kind != "ptr" else "dereference of void *")
+        place = self.pointee(value, index or number(0))
+        same = place.type.atomic == value.type.to.atomic
+        return place if same else replace(place, type=value.type.to)
+
+    def pointee(self, value, index):
+        kind, place = value.type, value.place
+        if place and index.null() and kind.to.key() == place.type.key():
+            return place
+        if place and place.type.kind == "array" and kind.to.key() == place.type.to.key():
+            return self.element(place, index)
+        if value.moved and value.moved[1] == "+":
+            return self.deref(value.moved[0], plus(value.moved[2], index))
         value.node.point_to(kind.to)
         if not index.null():
             value.node.mark("indexed", self.here)
         content = value.node.part("target") if kind.to.base().kind == "ptr" else None
-        return Tree("at", self.spilled(value) if value.calls else value, index, type=kind.to, node=content)
+        value = self.spilled(value) if value.calls else value.with_(written=value.text)
+        return Place("at", (value, index), kind.to, content)
+
+    def decayed(self, place):
+        """An array as the pointer to its first element."""
+        self.locksets.access(place)
+        return self.pointer_value(pointer(place.type.to), lambda: self.address_class(place), place=place)
+
+    def pointer_value(self, type, of, **more):
+        """A pointer whose text is made when it is asked for."""
+        value = Value(lambda: self.pointer_text(value), type, PRIMARY, of, **more)
+        return value
 
     def loaded(self, place):
         """What a place holds: an array as a pointer to its first element."""
         kind = place.type
         if kind.kind == "array":
-            return Tree("array", place, type=pointer(kind.to), node=lambda: self.address_class(place))
+            return self.decayed(place)
         if kind.kind == "struct":
-            return Tree("struct", place, type=kind)
+            return Value("", kind, place=place)
         self.refuse_if(kind.kind not in ("int", "ptr"), f"{kind.shown()} as a value")
-        wide = kind.kind == "int" and CELL[kind.name] == "long"
-        made = Tree("load", place, type=kind, node=place.node, wide=wide)
+        self.locksets.access(place)
+        made = Value(self.place_text(place), kind, PRIMARY, place.node, height=1 + self.shared(place),
+                     wide=kind.kind == "int" and CELL[kind.name] == "long")
         return self.spilled(made) if kind.atomic else made
 
     def address_class(self, place):
@@ -130,8 +158,10 @@ class Expressions(Initialisers):
         return inner if place.first() or place.type.kind == "array" else inner.part("element")
 
     def address(self, place):
-        op = "array" if place.type.kind == "array" else "address"
-        return Tree(op, place, type=pointer(place.type), node=self.address_class(place))
+        return self.pointer_value(pointer(place.type), lambda: self.address_class(place), place=place)
+
+    def null(self, type, node):
+        return Value(lambda: self.late(lambda: self.null_text(node)), type, PRIMARY, node, number=0)
 
     def visit(self, node):
         """A place where the expression is an lvalue, else a value."""
@@ -139,20 +169,20 @@ class Expressions(Initialisers):
         self.here = here if self.pinned else place_of(node, here)
         lower = getattr(self, "x_" + type(node).__name__, None)
         made = lower(node) if lower else self.refuse(node, SPOKEN.get(type(node).__name__, type(node).__name__))
-        if made.op in PLACES and made.source is None:
+        if isinstance(made, Place) and made.source is None and not self.pinned:
             made.source = node
         self.here = here
         return made
 
     def value(self, node):
         made = self.visit(node)
-        made = self.loaded(made) if made.op in PLACES else made
+        made = self.loaded(made) if isinstance(made, Place) else made
         return self.spilled(made) if made.height > 24 and made.type.kind == "int" else made
 
     def place(self, node):
         made = self.visit(node)
-        made = made.part("struct") or made
-        return made if made.op in PLACES else self.refuse(node, "expression that is no place")
+        made = made.place if isinstance(made, Value) and made.type.kind == "struct" else made
+        return made if isinstance(made, Place) else self.refuse(node, "expression that is no place")
 
     def peeked(self, node):
         """An expression that is not evaluated."""
@@ -170,22 +200,26 @@ class Expressions(Initialisers):
             case A.Assignment():
                 self.x_Assignment(node, False)
             case A.TernaryOp():
-                self.emit("if", self.condition(node.cond), *(self.captured(self.effect, part)[0]
-                                                             for part in (node.iftrue, node.iffalse)))
+                self.branch(self.condition(node.cond), *(self.captured(self.effect, part)[0]
+                                                         for part in (node.iftrue, node.iffalse)))
             case A.BinaryOp(op="&&" | "||"):
                 both = [self.captured(self.effect, node.right)[0], []]
-                self.emit("if", self.condition(node.left), *(both if node.op == "&&" else reversed(both)))
+                self.branch(self.condition(node.left), *(both if node.op == "&&" else reversed(both)))
             case A.ExprList():
                 for part in node.exprs:
                     self.effect(part)
+            case A.Cast():
+                self.type(node.to_type)
+                self.effect(node.expr)
             case _:
                 made = self.visit(node)
-                if made.op in ("call", "take"):
-                    self.emit("effect", made)
-                elif made.calls and made.op not in PLACES:
-                    self.spilled(made)
-                elif made.reads or made.op in PLACES:
-                    self.emit("unused", made)
+                if isinstance(made, Place):
+                    self.locksets.access(made)
+                elif made.calls:
+                    if made.level == PRIMARY and made.text.endswith(")") and not made.text.startswith("SCAST"):
+                        self.emit(made.text + ";")
+                    else:
+                        self.spilled(made)
 
     def flows(self, kind, node, value):
         """`value` becomes the value of an object of this type and class of contents."""
@@ -194,21 +228,24 @@ class Expressions(Initialisers):
             self.refuse_if(given.kind != "int" and (given.kind, kind.name) != ("ptr", "bool"), f"{shown} as a number")
         elif kind.kind == "ptr":
             self.refuse_if(given.kind != "ptr" and not value.null(), "number as a pointer")
+            if not value.null():
+                node.unite(value.node)
         else:
             self.refuse_if(kind.key() != given.key(), f"{shown} as {kind.shown()}")
-        if kind.kind == "ptr" and not value.null():
-            node.unite(value.node)
 
     def fitting(self, value, kind, node=None):
         """A value as an object of this type and class of contents holds it."""
         self.flows(kind, node, value)
         if kind.kind == "ptr":
-            return value.typed(kind.bare(), node)
+            return self.null(kind.bare(), node) if value.null() else value.typed(kind.bare(), node)
         return convert(self.truth(value) if kind.name == "bool" else value, kind.name)
 
     def truth(self, value):
         """A condition as 0 or 1."""
-        return self.compared("!=", value, number(0)) if value.type.kind == "ptr" else convert(value, "bool")
+        if value.type.kind == "ptr":
+            return self.compared("!=", value, number(0))
+        return value.typed(Type("int", "bool")) if LEVELS["||"] <= value.level <= LEVELS["<="] and \
+            value.level not in (3, 4, 5) or value.text.startswith("!") else convert(value, "bool")
 
     def integers(self, *values):
         for value in values:
@@ -233,11 +270,13 @@ class Expressions(Initialisers):
         return self.refuse(node, "constant over 64 bits")
 
     def string(self, data):
-        return Tree("string", data, type=pointer(CHAR), node=self.strings.address)
+        """A literal is the number of its first character in an array of all of them."""
+        return Value(lambda: str(self.text_pool.setdefault(data, sum(map(len, self.text_pool))) + 1), pointer(CHAR),
+                     PRIMARY, self.strings.address)
 
     def x_ID(self, node):
         found = self.lookup(node.name, self.scopes)
-        if isinstance(found, Tree):
+        if isinstance(found, Value):
             return found
         if isinstance(found, int):
             return number(found)
@@ -245,25 +284,21 @@ class Expressions(Initialisers):
             known = f"name {node.name.replace('__sharc_', '')}, which is not known"
             self.refuse(node, known if found is None else None)
         found.uses += 1
-        if found.kind == "function":
-            return self.function_value(found)
-        return self.variable_place(found)
+        return self.function_value(found) if found.kind == "function" else self.variable_place(found)
 
     def function_value(self, symbol):
-        symbol = self.instance(symbol, [])[0] if symbol.header else symbol
+        self.refuse_if(symbol.header, f"address of {symbol.name}")
         node = self.classes.new(self.here)
         node.functions[symbol] = self.here
-        symbol.pointed = True
         for at, param in enumerate(symbol.params):
             node.part("argument", at).unite(param.content)
         node.part("result").unite(symbol.content)
         self.numbers.setdefault(symbol, len(self.numbers) + 1)
-        return Tree("function", symbol, type=pointer(symbol.type), node=node)
+        return Value(str(self.numbers[symbol]), pointer(symbol.type), PRIMARY, node)
 
     def x_StructRef(self, node):
-        base = self.deref(self.value(node.name)) if node.type == "->" else self.visit(node.name)
-        base = base.part("struct") or base
-        self.refuse_if(base.op not in PLACES or base.type.kind != "struct", "member of what is no struct", node)
+        base = self.deref(self.value(node.name)) if node.type == "->" else self.place(node.name)
+        self.refuse_if(base.type.kind != "struct", "member of what is no struct", node)
         return self.member(base, node.field.name)
 
     def x_ArrayRef(self, node):
@@ -273,12 +308,9 @@ class Expressions(Initialisers):
         return self.deref(base, self.spilled(index) if index.calls else index)
 
     def x_CompoundLiteral(self, node):
-        kind = self.type(node.type)
-        if kind.kind == "array" and kind.length is None:
-            kind = kind.with_(length=self.counted(kind, node.init))
         self.refuse_if(self.function is None, "compound literal outside a function", node)
-        symbol = self.declare("literal", "local", kind, node)
-        self.declare_local(symbol, self.scalars(kind, node.init))
+        symbol = self.declare("literal", "local", self.type(node.type), node)
+        self.declare_local(symbol, self.scalars(symbol.type, node.init))
         return self.variable_place(symbol)
 
     def x_UnaryOp(self, node):
@@ -306,7 +338,7 @@ class Expressions(Initialisers):
             kind = array(CHAR, len(self.string_bytes(inner)))
         else:
             kind = self.type(inner) if isinstance(inner, A.Typename) else self.captured(self.visit, inner)[1].type
-        if kind.kind != "void":
+        if kind.kind not in ("void", "cond"):
             self.complete(kind, node)
         size = self.size(kind)[0]
         return number(size, "ulong").with_(unit=(kind, [])) if size else self.refuse(node, "sizeof of this type")
@@ -315,11 +347,12 @@ class Expressions(Initialisers):
         if isinstance(inner, A.UnaryOp) and inner.op == "*":
             return self.value(inner.expr)
         made = self.visit(inner)
-        if made.op == "function" or made.op not in PLACES:
-            return made if made.op == "function" else self.refuse(inner, "address of this form")
+        if isinstance(made, Value):
+            return made if made.type.kind == "ptr" and made.type.to.kind == "func" else \
+                self.refuse(inner, "address of this form")
         if made.op in ("element", "at") and made.type.kind != "array":
             base, index = made.parts
-            return self.added(self.loaded(base) if made.op == "element" else base, index, "+", True)
+            return self.added(self.decayed(base) if made.op == "element" else base, index, "+", True)
         return self.address(made)
 
     def added(self, base, index, op, written=False):
@@ -328,7 +361,8 @@ class Expressions(Initialisers):
         self.refuse_if(to.kind in ("void", "func"), f"arithmetic on {base.type.shown()}")
         if index.null() and not written:
             return base
-        return Tree("moved", base, op, index, type=base.type.bare(), node=lambda: self.class_of_moved(base, index))
+        return self.pointer_value(base.type.bare(), lambda: self.class_of_moved(base, index), moved=(base, op, index),
+                                  calls=base.calls or index.calls)
 
     def class_of_moved(self, base, index):
         node = self.classes.new(self.here) if index.null() else base.node.part("element")
@@ -350,9 +384,7 @@ class Expressions(Initialisers):
         if op in COMPARED:
             return self.compared(op, left, right)
         if kinds == ("ptr", "ptr") and op == "-":
-            left.node.unite(right.node)
-            left.node.mark("order", self.here)
-            return Tree("difference", left, right, type=LONG, wide=True)
+            return self.difference(left, right)
         if "ptr" in kinds:
             self.refuse_if(op not in "+-" or op == "-" and kinds[1] == "ptr", f"operator {op} on a pointer")
             left, right = (left, right) if kinds[0] == "ptr" else (right, left)
@@ -365,6 +397,22 @@ class Expressions(Initialisers):
             made = made.with_(unit=(kind, factors + [other]))
         return made
 
+    def difference(self, left, right):
+        left.node.unite(right.node)
+        left.node.mark("order", self.here)
+        cells = left.type.to.cells()
+        made = infix("-", "long", True, self.ordered(left), self.ordered(right))
+        return made if cells == 1 else infix("/", "long", True, made, number(cells))
+
+    def ordered(self, value):
+        """A pointer whose number is used."""
+        text = value.text
+
+        def checked():
+            self.refuse_if(self.how(value.node) != "global", "order of pointers to objects of the heap or locals")
+            return text
+        return joined((value,), self.late(checked), "long", PRIMARY)
+
     def compared(self, op, left, right):
         if "ptr" not in (left.type.kind, right.type.kind):
             self.integers(left, right)
@@ -376,22 +424,22 @@ class Expressions(Initialisers):
         known = right if left.null() else left
         if not left.null() and not right.null():
             left.node.unite(right.node)
+        sides = [self.null(known.type, known.node) if side.null() else side for side in (left, right)]
         if op not in ("==", "!="):
             known.node.mark("order", self.here)
-        sides = (side.typed(known.type, known.node) for side in (left, right))
-        return Tree(op, *sides, type=INT)
+            sides = map(self.ordered, sides)
+        return infix(op, "int", False, *sides)
 
     def logical(self, node):
         left = self.condition(node.left)
-        steps, right = self.captured(self.condition, node.right)
+        lines, right = self.captured(self.condition, node.right)
         if left.number is not None and (left.null() == (node.op == "&&") or right.number is not None):
             return number(int(node.op == "||") if left.null() == (node.op == "&&") else int(not right.null()))
-        if not steps:
-            return Tree(node.op, left, right, type=INT)
-        made = self.temporary(INT)
-        self.emit("assign", made, self.truth(left))
-        steps += self.step("assign", made, self.truth(right))
-        self.emit("if", self.loaded(made), *((steps, []) if node.op == "&&" else ([], steps)))
+        if not lines:
+            return infix(node.op, "int", False, left, right)
+        made = self.temporary(INT, None, self.truth(left).text)
+        lines += self.captured(self.put, made, self.truth(right))[0]
+        self.branch(self.loaded(made), *((lines, []) if node.op == "&&" else ([], lines)))
         return self.loaded(made)
 
     def x_TernaryOp(self, node, target=None):
@@ -403,10 +451,10 @@ class Expressions(Initialisers):
         if None not in (test.number, left.number, right.number) and kind.kind == "int" and target is None:
             return convert(right if test.null() else left, kind.name)
         target = target or self.temporary(kind, content)
-        for steps, value in parts:
+        for lines, value in parts:
             value = convert(value, kind.name) if kind.kind == "int" else value
-            steps += self.captured(self.put, target, value)[0]
-        self.emit("if", test, *(steps for steps, _ in parts))
+            lines += self.captured(self.put, target, value)[0]
+        self.branch(test, *(lines for lines, _ in parts))
         return self.loaded(target)
 
     def common_type(self, left, right):
@@ -419,8 +467,7 @@ class Expressions(Initialisers):
             self.flows(pick.type, content, left)
             self.flows(pick.type, content, right)
             return pick.type.bare(), content
-        self.refuse_if(left.type.key() != right.type.key(), "?: of two types")
-        return left.type.bare(), None
+        return self.refuse(self.here, f"?: of {left.type.shown()}")
 
     def x_ExprList(self, node):
         for part in node.exprs[:-1]:
@@ -436,18 +483,21 @@ class Expressions(Initialisers):
         self.refuse_if(kind.kind not in ("int", "ptr") or value.type.kind not in ("int", "ptr"),
                        f"cast of {value.type.shown()} to {kind.shown()}", node)
         if kind.kind == "ptr":
-            node = value.node or self.classes.new(self.here)
-            if value.type.kind == "int" and not value.null():
-                node.mark("integer", self.here)
-                return Tree("bits", convert(value, "long"), type=kind, node=node, wide=True)
-            if not value.null():
-                node.point_to(kind.to)
-            return value.typed(kind, node)
+            return self.cast_pointer(value, kind)
         if value.type.kind == "ptr" and kind.name != "bool" and not value.null():
             value.node.mark("integer", self.here)
-            value = Tree("bits", value, type=LONG, wide=True)
+            value = joined((value,), value.text, "long", value.level, True)
         made = self.truth(value) if kind.name == "bool" else convert(value, kind.name)
         return made.with_(unit=value.unit)
+
+    def cast_pointer(self, value, kind):
+        node = value.node or self.classes.new(self.here)
+        if value.type.kind == "int" and not value.null():
+            node.mark("integer", self.here)
+            value = convert(value, "long")
+        elif not value.null():
+            node.point_to(kind.to)
+        return self.null(kind, node) if value.null() else value.typed(kind, node)
 
     def x_Assignment(self, node, wanted=True):
         if node.op != "=":
@@ -457,104 +507,127 @@ class Expressions(Initialisers):
             self.store(place, node.rvalue)
             return self.loaded(place) if wanted else None
         value = self.fitting(self.value(node.rvalue), place.type, place.node)
-        if place.memory and value.number is None:
+        if self.shared(place) and value.number is None:
             value = self.spilled(value)
         with self.atomic(place):
-            self.emit("assign", place, value)
-        return value if place.memory else self.loaded(place)
+            self.assign(place, value)
+        return value if self.shared(place) else self.loaded(place)
+
+    def shared(self, place):
+        """Whether others than this function may change it."""
+        symbol = place.parts[0] if place.op == "variable" else None
+        return not symbol or symbol.kind == "global" or symbol.type.atomic or symbol.name in self.addressed
+
+    def assign(self, place, value):
+        self.locksets.access(place, True)
+        self.emit(f"{self.place_text(place)} = {value.text};")
 
     @contextmanager
     def atomic(self, place):
-        """Changes of atomic variables are made under one mutex."""
+        """Changes of atomic variables are made under one mutex, of headers/sharc_front.h."""
+        mutex = self.scopes[0]["__sharc_atomics"]
         if place.type.atomic:
-            self.l_sharc_lock_atomics()
+            mutex.uses += 1
+            self.emit(f"lock(&{mutex.out});")
         yield
         if place.type.atomic:
-            self.l_sharc_unlock_atomics()
+            self.emit(f"unlock(&{mutex.out});")
 
     def changed(self, target, op, by, wanted, after=False):
         """a op= b, a++: b first if it calls something, then a is read and written; the old value if `after`."""
-        if not isinstance(by, Tree):
-            steps, by = self.captured(self.value, by)
-            self.steps += steps
-            by = self.stable(by) if steps or by.calls else by
+        if not isinstance(by, Value):
+            lines, by = self.captured(self.value, by)
+            self.lines += lines
+            by = self.stable(by) if lines or by.calls else by
         place = self.stable_place(self.place(target))
         by = self.stable(by) if place.type.atomic else by
         with self.atomic(place):
-            old = self.loaded(place.with_(type=place.type.with_(atomic=False)))
+            old = self.loaded(Place(place.op, place.parts, place.type.with_(atomic=False), place.node, place.source))
             kept = self.spilled(old) if wanted and after else None
             new = self.fitting(self.operated(op, kept or old, by), place.type, place.node)
-            new = self.spilled(new) if wanted and not after and place.memory else new
-            self.emit("assign", place, new)
-        return kept or (new if place.memory else self.loaded(place))
+            new = self.spilled(new) if wanted and not after and self.shared(place) else new
+            self.assign(place, new)
+        return kept or (new if self.shared(place) else self.loaded(place))
 
     def x_FuncCall(self, node):
         args = node.args.exprs if node.args else []
         found = self.lookup(node.name.name, self.scopes) if isinstance(node.name, A.ID) else node
         if found is None:
             return self.library(node, node.name.name, args)
-        values = self.in_order(*args)
         if isinstance(found, Symbol) and found.kind == "function":
-            return self.call_of(found, values)
-        value = self.value(node.name)
+            return (self.inlined if found.header else self.call_of)(found, self.in_order(*args))
+        values, value = self.in_order(*args), self.value(node.name)
         kind = value.type.to if value.type.kind == "ptr" else VOID
         self.refuse_if(kind.kind != "func" or kind.params is None, "call of this form", node)
         contents = [value.node.part("argument", at) for at in range(len(kind.params))]
-        return self.call_of(self.spilled(value), values, kind, contents, value.node.part("result"))
+        return self.called(self.pointer_call(value, kind), kind, contents, value.node.part("result"), values, [value])
 
-    def call_of(self, callee, values, kind=None, contents=(), result=None):
-        """A call of a function, or of what a pointer points to."""
-        if isinstance(callee, Symbol):
-            callee, values = self.instance(callee, values) if callee.header else (callee, values)
-            kind, contents, result = callee.type, [param.content for param in callee.params], callee.content
-            callee.called = True
-            if callee.name == "main" or kind.name == "...":
-                self.refuse(self.here, "call of main" if callee.name == "main" else
-                            f"call of {callee.name}, which has variable arguments")
+    def call_of(self, symbol, values):
+        symbol.called = True
+        self.refuse_if(symbol.name == "main" or symbol.type.name == "...", f"call of {symbol.name}")
+        self.locksets.call(symbol)
+        contents = [param.content for param in symbol.params]
+        name = self.late(lambda: self.function_name(symbol))
+        return self.called(name, symbol.type, contents, symbol.content, values)
+
+    def called(self, name, kind, contents, result, values, first=()):
+        """The call of a function, whose name this is."""
         self.refuse_if(len(contents) != len(values), "call with another number of arguments")
-        values = [part for value, wanted, content in zip(values, kind.params, contents)
-                  for part in self.passed(value, wanted, content)]
+        values = [*first, *(self.passed(*each) for each in zip(values, kind.params, contents))]
         self.refuse_if(len(values) > 16, "call with over 16 arguments")
         if kind.to.kind == "ptr":
             result.point_to(kind.to.to)
-        made = Tree("call", callee, *values, type=kind.to, node=result,
-                    wide=kind.to.kind == "int" and CELL[kind.to.name] == "long")
-        if kind.to.kind != "struct":
-            return made
-        node = self.classes.new(self.here)
-        node.mark("heap", self.here)
-        node.point_to(kind.to)
-        return Tree("struct", self.deref(self.spilled(made.typed(pointer(kind.to), node))), type=kind.to, given=True)
+        made = joined([*values, number(0)], f"{name}({', '.join(value.text for value in values)})", "int")
+        made = made.with_(type=kind.to, of=result, calls=True)
+        copies = [value.text for value, kind in zip(values[len(first):], kind.params) if kind.kind == "struct"]
+        if kind.to.kind == "struct":
+            made = self.spilled(made.typed(pointer(kind.to), result))
+            made = Value("", kind.to, place=self.deref(made), given=made)
+        elif kind.to.kind != "void":
+            made = made.with_(wide=kind.to.kind == "int" and CELL[kind.to.name] == "long")
+            made = self.spilled(made) if copies else made
+        elif copies:
+            self.emit(made.text + ";")
+            made = number(0).typed(VOID)
+        for copy in copies:
+            self.emit(f"free({copy});")
+        return made
 
     def passed(self, value, kind, content):
-        """The arguments for a parameter: a struct goes by its members."""
+        """An argument; a struct goes as a pointer to a copy."""
         if kind.kind != "struct":
-            yield self.fitting(value, kind, content)
-            return
+            return self.fitting(value, kind, content)
         self.flows(kind, content, value)
-        place = self.stable_place(value.parts[0])
-        for path, leaf, _, _ in self.leaves(kind):
-            self.refuse_if(leaf.kind not in ("int", "ptr"), "struct by value, with an array or mutex in it")
-            yield self.loaded(self.inner_place(place, path))
+        copy = self.copied(kind, value)
+        content.unite(copy.node)
+        return copy
+
+    def copied(self, kind, value):
+        """A pointer to a new object with the value of a struct."""
+        symbol = self.declare("copy", "local", kind.bare(), self.here)
+        symbol.own = True
+        self.declare_local(symbol, [])
+        self.copy(self.variable_place(symbol), self.stable_place(value.place))
+        return self.address(self.variable_place(symbol))
 
     def store(self, place, node):
         """place = node, of whatever type."""
         call = self.allocation(node)
         if call:
-            self.allocate(place, call)
-        elif isinstance(node, A.TernaryOp):
+            self.allocate(place, [self.value(arg) for arg in call.args.exprs])
+        elif isinstance(node, A.TernaryOp) and place.type.kind != "struct":
             self.x_TernaryOp(node, place)
         else:
             self.put(place, self.value(node))
 
     def put(self, place, value):
         if place.type.kind != "struct":
-            self.emit("assign", place, self.fitting(value, place.type, place.node))
+            self.assign(place, self.fitting(value, place.type, place.node))
             return
         self.flows(place.type, None, value)
-        self.copy(self.stable_place(place), self.stable_place(value.parts[0]))
+        self.copy(self.stable_place(place), self.stable_place(value.place))
         if value.given:
-            self.emit("free", value.parts[0].parts[0].parts[0])
+            self.emit(f"free({value.given.text});")
 
     def copy(self, target, source):
         """The parts of a struct or array, or one cell."""
@@ -565,7 +638,7 @@ class Expressions(Initialisers):
         elif kind.kind == "array":
             self.counting(number(kind.length), lambda at: self.copy(self.element(target, at), self.element(source, at)))
         elif kind.kind in ("int", "ptr"):
-            self.emit("assign", target, self.loaded(source.with_(type=source.type.with_(atomic=False))))
+            self.put(target, self.loaded(source))
         else:
             self.refuse(self.here, "copy of a struct with a mutex or condition variable")
 
@@ -581,11 +654,15 @@ class Expressions(Initialisers):
 
     def counting(self, length, act):
         """act(i) for each i below length."""
+        if length.number == 1:
+            act(number(0))
+            return
         at = self.temporary(ULONG if length.type.name == "ulong" else INT)
-        self.emit("assign", at, number(0))
-        body, _ = self.captured(act, self.loaded(at))
-        body += self.step("assign", at, plus(self.loaded(at), number(1)))
-        self.emit("while", compare("<", self.loaded(at), length, usual(at.type.name, length.type.name)), body)
+        test = compare("<", self.loaded(at), length, usual(at.type.name, length.type.name))
+        self.emit(f"for ({self.place_text(at)} = 0; {test.text}; "
+                  f"{self.place_text(at)} = {self.place_text(at)} + 1) {{")
+        act(self.loaded(at))
+        self.emit("}")
 
     @staticmethod
     def allocation(node):
@@ -594,9 +671,3 @@ class Expressions(Initialisers):
             node = node.expr
         name = node.name.name if isinstance(node, A.FuncCall) and isinstance(node.name, A.ID) else None
         return node if name in ("malloc", "calloc") and node.args else None
-
-    def allocate(self, place, call):
-        """place = malloc(..)."""
-        self.refuse_if(place.type.kind != "ptr", "pointer as a number")
-        place.node.mark("heap", self.here)
-        self.emit("allocate", place, *(self.value(arg) for arg in call.args.exprs))

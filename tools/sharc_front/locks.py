@@ -1,178 +1,113 @@
-"""Which locks are held where: for condition variables, whose mutex has to be held at each signal, and to propose marks.
+"""Which locks are held at the accesses of globals and members, to propose marks.
 
 Locks are compared by their text in C. A function begins with the locks that all its callers hold, with the names of its
-parameters for those of the arguments; what it locks and unlocks from then on is followed through its steps.
+parameters for those of the arguments; what it locks and unlocks from then on is followed while it is lowered.
 """
+
+from collections import Counter, namedtuple
 
 from pycparser import c_generator
 
-from .tree import PLACES, Tree
-
 GENERATOR = c_generator.CGenerator()
+NONE = (frozenset(), frozenset())
+# a call or access: what it is about, where, whether it writes, the locks that were locked and unlocked before it
+Event = namedtuple("Event", "about function place written locks")
 
 
-def spelled(place, known=lambda node: None):
-    """The text in C of a place; `known` gives the name of the one global struct that a class points to."""
-    if place.op == "variable":
-        return place.parts[0].name
+def spelled(place):
+    """A place as in C."""
+    if place.source is not None:
+        return " ".join(GENERATOR.visit(place.source).split())
     base = place.parts[0]
-    if place.op == "member" and base.op == "at" and base.first():
-        pointer = base.parts[0]
-        name = known(pointer.node)
-        if name or pointer.op == "load":
-            return f"{name}.{place.parts[1]}" if name else f"{spelled(pointer.parts[0], known)}->{place.parts[1]}"
-    if place.op == "member":
-        return f"{spelled(base, known)}.{place.parts[1]}"
-    if place.op == "at" and place.first() and base.op == "load":
-        return "*" + spelled(base.parts[0], known)
-    return GENERATOR.visit(place.source) if place.source is not None else "?"
+    if place.op == "variable":
+        return base.name
+    inner = "?" if place.op == "at" else spelled(base)
+    return f"{inner}.{place.parts[1]}" if place.op == "member" else inner
 
 
-class Event:
-    """A wait, a signal, a call or an access, and which locks were locked and unlocked in the function before it."""
-
-    def __init__(self, about, function, place, locks):
-        self.about, self.function, self.place, self.written = about, function, place, False
-        self.added, self.removed = locks
-
-
-class Monitors:
-    """The locks of a program; for each condition variable the mutex of its waits, if it is held at each signal."""
-
+class Locksets:
     def __init__(self, front):
-        self.front, self.locks = front, {}
-        self.waits, self.signals, self.calls, self.accesses = [], [], [], {}
-        for function in front.lowered:
-            self.function = function
-            self.walk(function.steps, (frozenset(), frozenset()))
-        self.entries()
-        waits = {}
-        for event in self.waits:
-            waits.setdefault(self.key(event.about[0]), set()).add(self.lock_beside(*event.about))
-        for key, locks in waits.items():
-            if key is not None and len(locks) == 1 and None not in locks and self.held_at_signals(key, *locks):
-                self.locks[key] = next(iter(locks))
+        self.front, self.function, self.state, self.calls, self.accesses = front, None, NONE, [], {}
+        self.pointers = {}  # {text of a lock: (class of the pointer to its struct, its name)}
 
-    def walk(self, steps, locks):
-        """The locks after some steps, as (locked, unlocked) since the function began; None if they do not end."""
-        for step in steps:
-            for part in step.parts:
-                if isinstance(part, Tree):
-                    self.look(part, step, locks)
-            if step.kind in ("lock", "unlock"):
-                key = {self.text(step.parts[0])}
-                one, other = (0, 1) if step.kind == "lock" else (1, 0)
-                locks = tuple(set_of | key if at == one else set_of - key for at, set_of in enumerate(locks))
-            elif step.kind in ("wait", "signal", "broadcast"):
-                (self.waits if step.kind == "wait" else self.signals).append(self.event(step.parts, step, locks))
-            elif step.kind in ("break", "continue", "return", "stop"):
-                return None
-            inner = [self.walk(part, locks) for part in step.parts if isinstance(part, list)]
-            inner += [locks] if step.kind == "while" else []
-            ends = [after for after in inner if after is not None]
-            if inner and not ends:
-                return None
-            if ends:
-                locks = (frozenset.intersection(*(added for added, _ in ends)),
-                         frozenset.union(*(removed for _, removed in ends)))
-        return locks
+    def begin(self, function):
+        self.function, self.state = function, NONE
 
-    def event(self, about, step, locks):
-        return Event(about, self.function, step.place, locks)
+    def stop(self):
+        """What follows is not reached."""
+        self.state = None
 
-    def look(self, part, step, locks):
-        """The calls and accesses in an expression."""
-        for tree in part.all():
-            if tree.op == "call":
-                self.calls.append(self.event(tree.parts, step, locks))
-            whole = tree is part and tree.op in PLACES
-            stored = whole and step.kind in ("assign", "allocate", "spawn", "join")
-            if stored or whole and step.kind == "unused" or tree.op in ("load", "array", "take"):
-                place = tree if whole else tree.parts[0]
-                while place.op == "element":
-                    place = place.parts[0]
-                if place.op == "member" or place.op == "variable" and place.parts[0].kind == "global":
-                    key = (self.function, id(place.source or place))
-                    event = self.accesses.setdefault(key, self.event(place, step, locks))
-                    event.written |= stored or tree.op == "take"
+    def changed(self, place, locked):
+        if self.state:
+            (added, removed), text, base = self.state, spelled(place), place.parts[0]
+            if place.op == "member" and base.op == "at":
+                self.pointers[text] = (base.parts[0].node, place.parts[1])
+            key = {text}
+            self.state = (added | key, removed - key) if locked else (added - key, removed | key)
+
+    def either(self, *acts):
+        """What the acts give, of which one is executed, or none if there is only one."""
+        before, made, ends = self.state, [], []
+        for act in acts:
+            self.state = before
+            made.append(act())
+            ends.append(self.state)
+        ends = [end for end in ends + [before] * (len(acts) == 1) if end]
+        self.state = (frozenset.intersection(*(added for added, _ in ends)),
+                      frozenset.union(*(removed for _, removed in ends))) if ends else None
+        return made
+
+    def call(self, symbol):
+        self.calls.append(Event(symbol, self.function, self.front.here, False, self.state or NONE))
+
+    def access(self, place, written=False):
+        if self.function is None or self.front.pinned:
+            return
+        while place.op == "element":
+            place = place.parts[0]
+        if place.op == "member" or place.op == "variable" and place.parts[0].kind == "global" and \
+                not place.parts[0].own:
+            key = (self.function, id(place.source or place))
+            written |= key in self.accesses and self.accesses[key].written
+            self.accesses[key] = Event(place, self.function, self.front.here, written, self.state or NONE)
+
+    def held(self, event):
+        added, removed = event.locks
+        return self.entry.get(event.function, frozenset()) - removed | added
 
     def entries(self):
         """The locks that are held where functions begin: until they no longer change."""
-        fixed = [symbol for symbol in self.front.lowered
-                 if symbol.name == "main" or symbol in self.front.thread_functions or symbol.pointed]
-        self.entry = {symbol: frozenset() for symbol in fixed}
+        begun = self.front.thread_functions()
+        self.entry = {}
         for _ in range(8):
-            calls = {}
+            found = {symbol: frozenset() for symbol in begun}
             for event in self.calls:
-                callee = event.about[0]
-                if event.function in self.entry and callee not in fixed and not isinstance(callee, Tree):
-                    calls.setdefault(callee, []).append(self.passed(event))
-            self.entry.update({symbol: frozenset.intersection(*sets) for symbol, sets in calls.items()})
+                symbol = event.about
+                known = frozenset(map(self.everywhere, self.held(event))) - {None}
+                found[symbol] = found[symbol] & known if symbol in found else known
+            self.entry = found
 
-    def passed(self, event):
-        """The locks held at a call, as the function that is called names them."""
-        held, (symbol, *values) = self.held(event), event.about
-        found = {text for text in held if text.split(".")[0].split("->")[0] in self.front.scopes[0]}
-        for param, value in zip(symbol.params, values):
-            if value.op in ("address", "load"):
-                prefix = self.text(value.parts[0]) + ("." if value.op == "address" else "->")
-                found |= {f"{param.name}->{text[len(prefix):]}" for text in held if text.startswith(prefix)}
-        return frozenset(found)
-
-    def held(self, event):
-        """The locks that are held at an event."""
-        return self.entry.get(event.function, frozenset()) - event.removed | event.added
-
-    def text(self, place):
-        return spelled(place, self.one_global)
-
-    @staticmethod
-    def one_global(node):
-        """The one global struct that pointers of a class point to."""
-        keys = list(node.find().globals)
-        one = len(keys) == 1 and not node.has("heap") and keys[0][0].type.kind == "struct" and not keys[0][1]
-        return keys[0][0].name if one else None
-
-    def key(self, place):
-        """What names a condition variable or mutex: a global, or a field of a struct."""
-        symbol = place.part("variable")
-        single = symbol and symbol.kind == "global" and (symbol, ()) not in self.front.groups
-        return place.member() or (symbol if single else None)
-
-    def prefix(self, place):
-        return self.text(place)[: -len(place.parts[1])]
-
-    def lock_beside(self, cond, mutex):
-        """The mutex of a wait: a global, or the name of a member beside the condition variable."""
-        if mutex.op != "member":
-            return self.key(mutex)
-        beside = cond.op == "member" and cond.member()[0] == mutex.member()[0] and \
-            self.prefix(cond) == self.prefix(mutex)
-        return mutex.parts[1] if beside else None
-
-    def held_at_signals(self, key, lock):
-        for event in self.signals:
-            cond = event.about[0]
-            if self.key(cond) == key:
-                text = self.prefix(cond) + lock if isinstance(lock, str) else lock.name
-                if text not in self.held(event):
-                    return False
-        return True
-
-    def lock_of(self, place):
-        return self.locks.get(self.key(place))
+    def everywhere(self, text):
+        """A lock by a name that means the same everywhere, of a global or a member of one; else None."""
+        node, name = self.pointers.get(text, (None, None))
+        known = list(node.find().globals) if node else []
+        if len(known) == 1 and not known[0][1] and known[0][0].type.kind == "struct":
+            return f"{known[0][0].name}.{name}"
+        return text if not set("[*>(") & set(text) and text.split(".")[0] in self.front.global_names else None
 
     def proposals(self):
-        found, threads = {}, self.reached()
+        self.entries()
+        found, threads = {}, set(self.front.thread_functions())
+        for _ in self.front.functions:
+            threads |= {event.about for event in self.calls if event.function in threads}
         for event in self.accesses.values():
-            place, prefix = event.about, None
-            if place.type.base().kind not in ("int", "ptr") or place.op == "variable" and place.parts[0].own:
+            place, prefix, name = event.about, None, spelled(event.about)
+            if place.type.base().kind not in ("int", "ptr"):
                 continue
-            name = spelled(place)
             if place.op == "member":
                 struct, member = place.member()
-                field, prefix, name = self.front.structs[struct].fields[member], self.prefix(place), f"struct {struct}."
-                name += member
+                prefix, name = name[: -len(member)], f"struct {struct}.{member}"
+                field = self.front.structs[struct].fields[member]
                 if field.type.mode or self.front.in_headers(field.place):
                     continue
             locks = {self.named(text, prefix) for text in self.held(event)}
@@ -180,19 +115,11 @@ class Monitors:
         for name, events in sorted(found.items()):
             yield from self.proposal(name, events)
 
-    def reached(self):
-        """The functions that threads may run."""
-        found = set(self.front.thread_functions)
-        for _ in self.front.lowered:
-            found |= {event.about[0] for event in self.calls if event.function in found}
-        return found
-
     def named(self, text, prefix):
         """A lock as a mark at `prefix` names it: a member beside, or what means the same everywhere."""
         if prefix is not None and text.startswith(prefix) and not set(text[len(prefix):]) & set(".->"):
             return text[len(prefix):]
-        known = not set("[*>") & set(text) and text.split(".")[0] in self.front.scopes[0]
-        return text if known else None
+        return self.everywhere(text)
 
     @staticmethod
     def proposal(name, found):
@@ -202,9 +129,7 @@ class Monitors:
             if written:
                 yield f"{name}: written by main alone (line {', '.join(map(str, written))}), read by threads"
             return
-        counts = {}
-        for lock in [lock for _, locks in threads for lock in locks - {None}]:
-            counts[lock] = counts.get(lock, 0) + 1
+        counts = Counter(lock for _, locks in threads for lock in locks - {None})
         best = max(counts, key=lambda lock: (counts[lock], lock), default=None)
         if best is None or counts[best] < 0.6 * len(threads) and not 1 <= counts[best] == len(threads) - 1:
             return

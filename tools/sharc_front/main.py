@@ -10,9 +10,10 @@ import os
 import subprocess
 import sys
 
-from .source import HERE, Refusal, Source  # first: it says where pycparser is missing
+from .source import HERE, Source  # first: it says where pycparser is missing
 from .names import Names
 from .output import Front, text_of
+from .value import Refusal
 
 COMMANDS = ("check", "explain", "run", "record", "--locks")
 USAGE = "usage: sharc-c [check | explain | run | record | --locks] [-I DIR] [-D NAME] FILE.c [OPTIONS OF run] " \
@@ -36,12 +37,10 @@ class Words:
                 self.options += [word] + ([words.pop(0)] if len(word) == 2 and words else [])
             elif word in COMMANDS and self.command is None:
                 self.command = word
-            elif word.startswith("-"):
-                raise Usage
             else:
                 self.file = word
         self.rest = words
-        if self.file is None or self.rest and self.command not in ("run", "record"):
+        if self.file is None or self.file.startswith("-") or self.rest and self.command not in ("run", "record"):
             raise Usage
 
 
@@ -52,14 +51,13 @@ def lowered(words):
         names = Names()
         front = Front(source, words.file, words.arguments, frozenset(alone), names)
         if words.command == "--locks" and not front.refusals:
-            return "\n".join([*front.monitors.proposals(), ""]), names, []
-        if front.wanted_alone <= alone or front.refusals:
+            return "\n".join([*front.locksets.proposals(), ""]), names, []
+        text = text_of(front.everything()) if not front.refusals else ""
+        if front.refusals:
+            raise Refusal(*front.refusals)
+        if front.wanted_alone <= alone:
             break
         alone |= front.wanted_alone
-    lines = front.everything() if not front.refusals else []
-    if front.refusals:
-        raise Refusal(*front.refusals)
-    text = text_of(lines)
     if len(text) > 1048576:
         raise Refusal(((words.file, 1), "program whose lowered text is over 1048576 bytes"))
     return text, names, front.notes
@@ -79,12 +77,6 @@ def guarded(words):
         raise Refusal(((words.file, 1), what)) from None
 
 
-def told(refusals):
-    for (file, line), what in sorted({refusal for refusal in refusals if refusal[1]}):
-        sys.stderr.write(f"{file or '?'}:{line}: refused: {what}\n")
-    return 1
-
-
 def answered(words, text, names, notes):
     """Runs the program on the text, and puts the names back."""
     program, rest = os.environ.get("SHARC") or os.path.join(HERE, "..", "..", "sharc"), words.rest
@@ -98,8 +90,7 @@ def answered(words, text, names, notes):
     output = done.stdout.decode("utf-8", "replace")
     sys.stdout.write(output if words.command == "record" else "".join(map(names.line, output.splitlines())))
     if words.command == "run":
-        for (file, line), what in dict.fromkeys(notes):
-            sys.stderr.write(f"{file}:{line}: note: {what}\n")
+        sys.stderr.writelines(f"{file}:{line}: note: {what}\n" for (file, line), what in dict.fromkeys(notes))
         if "print(" in text:
             sys.stderr.write("note: of what printf writes only the numbers are printed, one on a line\n")
     return done.returncode
@@ -108,13 +99,15 @@ def answered(words, text, names, notes):
 def main(arguments):
     try:
         words = Words(arguments)
-        text, names, notes = guarded(words)
+        made = guarded(words)
     except Usage:
         sys.stderr.write(USAGE)
         return 8
     except Refusal as refused:
-        return told(refused.all)
+        for (file, line), what in sorted({refusal for refusal in refused.all if refusal[1]}):
+            sys.stderr.write(f"{file or '?'}:{line}: refused: {what}\n")
+        return 1
     if words.command not in (None, "--locks"):
-        return answered(words, text, names, notes)
-    sys.stdout.write(text)
+        return answered(words, *made)
+    sys.stdout.write(made[0])
     return 0

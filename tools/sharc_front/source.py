@@ -10,12 +10,13 @@ try:
 except ImportError:
     sys.stderr.write("sharc-c needs pycparser: apt-get install python3-pycparser, or pip install pycparser\n")
     sys.exit(2)
+from .value import Refusal
 
 HERE = os.path.dirname(os.path.abspath(__file__))
 HEADERS, INCLUDE = os.path.join(HERE, "headers"), os.path.join(HERE, "..", "..", "include")
 TOKEN = re.compile(
     r'(?P<marker># (?P<line>\d+) "(?P<file>(?:\\.|[^"\\])*)"[^\n]*)|(?P<directive>#[^\n]*)|(?P<newline>\n)'
-    r'|"(?:\\.|[^"\\\n])*"' r"|'(?:\\.|[^'\\\n])*'" r"|\.?\d[\w.]*|(?P<block>\(\s*\{)"
+    r'|"(?:\\.|[^"\\\n])*"' r"|'(?:\\.|[^'\\\n])*'" r"|\.?\d[\w.]*"
     r"|__attribute(?:__)?\s*\(\((?P<attributes>(?:[^()]|\((?:[^()]|\([^()]*\))*\))*)\)\)"
     r"|__mode_(?P<mode>locked\s*\([^()]*\)|[a-z]+)|(?P<word>[A-Za-z_$][\w$]*)")
 # words and attributes that change nothing that the front looks at
@@ -24,24 +25,13 @@ SPELT = {"__extension__": "", "restrict": "", "__restrict": "", "__restrict__": 
          "__volatile": "volatile", "__volatile__": "volatile", "__func__": '""', "__FUNCTION__": '""'}
 HARMLESS = set("unused noreturn format const pure noinline always_inline cold hot malloc nonnull warn_unused_result "
                "used deprecated returns_nonnull flatten leaf nothrow fallthrough may_alias noclone alloc_size".split())
-REFUSED = {word: what for what, words in {
-    "typeof": "typeof __typeof__ __typeof", "variable of each thread": "__thread _Thread_local", "_Generic": "_Generic",
-    "inline assembler": "asm __asm__ __asm", "complex number": "_Complex __complex__", "local label": "__label__",
-    "floating point": "_Float128 __float128", "variable arguments": "__builtin_va_arg", "_Alignas": "_Alignas",
-    "offsetof": "__builtin_offsetof", "_Alignof": "_Alignof __alignof__", "__int128": "__int128",
-    "__auto_type": "__auto_type"}.items() for word in words.split()}
-
-
-class Refusal(Exception):
-    """Places, as (file, line), each with what is refused there; that is None where it was said already."""
-
-    def __init__(self, *all):
-        super().__init__(*all)
-        self.all = all
+REFUSED = {"_Thread_local": "variable of each thread", "__thread": "variable of each thread", "_Alignas": "_Alignas",
+           "__builtin_va_arg": "variable arguments", "asm": "inline assembler", "__asm__": "inline assembler"}
 
 
 def preprocessed(path, options):
-    command = ["gcc", "-E", "-nostdinc", "-undef", "-DSHARC_FRONT", "-I", HEADERS, "-I", INCLUDE, *options, path]
+    command = ["gcc", "-E", "-nostdinc", "-undef", "-DSHARC_FRONT", "-I", HEADERS, "-I", INCLUDE,
+               "-include", os.path.join(HEADERS, "sharc_front.h"), *options, path]
     if not os.path.isfile(path):
         raise Refusal(((path, 1), "file that cannot be read"))
     done = subprocess.run(command, capture_output=True, check=False)
@@ -66,7 +56,10 @@ class Source:
         try:
             self.tree = c_parser.CParser().parse(text, path)
         except c_parser.ParseError as error:
-            raise self.unread(str(error), text) from None
+            found = re.match(r"(.*?):(\d+)(?::\d+)?: (.*)", str(error))
+            place = (found[1], int(found[2])) if found else (self.file, text.count("\n"))
+            near = re.sub("^before: ", "near ", found[3]) if found else "to the end"
+            raise Refusal((place, f"syntax that pycparser does not read ({near})")) from None
         except (RecursionError, AssertionError, AttributeError, ValueError, IndexError, KeyError, TypeError):
             raise Refusal(((path, 1), "syntax that pycparser does not read")) from None
 
@@ -80,39 +73,24 @@ class Source:
             return f'# {found["line"]} "{found["file"]}"'
         if kind == "directive":
             self.refuse(token.strip())
-        elif kind == "block":
-            self.refuse("statement expression")
         elif kind == "attributes":
             for name in re.findall(r"[A-Za-z_]\w*", re.sub(r"\((?:[^()]|\([^()]*\))*\)", "", found["attributes"])):
                 if name.strip("_") not in HARMLESS:
                     self.refuse(f"attribute {name}")
             return blank
-        elif kind == "mode":
-            return self.mark(re.sub(r"\s", "", found["mode"])) + blank
+        elif kind == "mode":  # a number in binary between two `restrict`, so that it stands where qualifiers may
+            self.modes.append(re.sub(r"\s", "", found["mode"]))
+            bits = f"{len(self.modes) - 1:b}".replace("1", "volatile ").replace("0", "const ")
+            return f" restrict {bits}restrict " + blank
         elif kind == "word":
-            return self.word(token)
+            self.words.add(token)
+            if token in REFUSED:
+                self.refuse(REFUSED[token])
+            return SPELT.get(token, token)
         return token
 
     def refuse(self, what):
         self.refused.append(((self.file, self.line), what))
-
-    def word(self, word):
-        if word in REFUSED:
-            self.refuse(REFUSED[word])
-        self.words.add(word)
-        return SPELT.get(word, word)
-
-    def mark(self, mode):
-        """A mark is a number in binary between two `restrict`, so that it stands where qualifiers may."""
-        self.modes.append(mode)
-        bits = f"{len(self.modes) - 1:b}".replace("1", "volatile ").replace("0", "const ")
-        return f" restrict {bits}restrict "
-
-    def unread(self, message, text):
-        found = re.match(r"(.*?):(\d+)(?::\d+)?: (.*)", message)
-        place = (found[1], int(found[2])) if found else (self.file, text.count("\n"))
-        near = re.sub("^before: ", "near ", found[3]) if found else "to the end"
-        return Refusal((place, f"syntax that pycparser does not read ({near})"))
 
     def qualified(self, qualifiers):
         """The mark among qualifiers, if any, and the qualifiers of C that are left."""

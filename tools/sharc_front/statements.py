@@ -1,15 +1,13 @@
-"""Statements and functions, lowered to lists of steps (C11 6.8, 6.9.1)."""
+"""Statements and functions, lowered to lines (C11 6.8, 6.9.1)."""
 
 from pycparser import c_ast as A
 
-from .arithmetic import compare, convert, number
-from .ctype import BAD, INT, LONG, pointer, promoted
+from .arithmetic import compare, convert, number, prefix
+from .ctype import BAD, INT, VOID, array, promoted
 from .declare import Symbol, place_of
 from .express import Expressions
-from .source import Refusal
-from .tree import Tree
-
-JUMPS = ("exit", "abort", "_exit", "_Exit", "pthread_exit")
+from .locks import spelled
+from .value import Refusal, Value
 
 
 class Statements(Expressions):
@@ -27,43 +25,87 @@ class Statements(Expressions):
             self.statement(node)
 
     def body(self, node):
-        """The steps of a statement with a scope of its own."""
-        nodes = node.block_items if isinstance(node, A.Compound) else [node]
+        """The lines of a statement with a scope of its own."""
+        nodes = node.block_items if isinstance(node, A.Compound) else [node] if node is not None else []
         return self.scoped(lambda: self.captured(self.statements, nodes)[0])
 
+    def block(self, lines):
+        self.emit("{")
+        self.lines += lines
+        self.emit("}", place=lines[-1].place if lines else None)
+
     def blocked(self, act, *arguments):
-        """Steps in a block of their own if they declare variables, whose references end with it."""
-        steps, _ = self.captured(act, *arguments)
-        if any(step.kind in ("declare", "give") for step in steps):
-            self.emit("block", steps)
+        """Lines in a block of their own if they declare variables, whose references end with it."""
+        lines, _ = self.captured(act, *arguments)
+        if any(line.declares for line in lines):
+            self.block(lines)
         else:
-            self.steps += steps
+            self.lines += lines
+
+    def branch(self, test, first, second):
+        if not first and second:
+            test, first, second = prefix("!", "int", False, test), second, first
+        self.emit(f"if ({test.text}) {{")
+        self.lines += [line._replace(declares=False) for line in first]
+        if second:
+            self.emit("} else {", place=self.lines[-1].place)
+            self.lines += [line._replace(declares=False) for line in second]
+        self.emit("}", place=self.lines[-1].place)
 
     def s_expression(self, node):
         self.blocked(self.effect, node)
 
     def s_Compound(self, node):
-        self.emit("block", self.body(node))
+        self.block(self.body(node))
 
     def s_Decl(self, node):
-        if node.name is None:
-            self.type(node.type)
-        elif isinstance(node.type, A.FuncDecl):
+        if isinstance(node.type, A.FuncDecl):
             self.prototype(node)
+        elif node.name is None:
+            self.type(node.type)
         else:
             symbol = self.variable(node, "local" if self.function else "global")
             if symbol.kind != "global":
                 self.declare_local(symbol, symbol.initial)
+                self.last_use(symbol, node.init)
+
+    def last_use(self, symbol, init):
+        """A parameter that is used for nothing but `T *x = p` is no second reference to what x points to."""
+        while isinstance(init, A.Cast):
+            init = init.expr
+        param = self.lookup(init.name, self.scopes) if isinstance(init, A.ID) else None
+        if param in self.function.params and self.mentions.count(param.name) == 1 and not self.loops and \
+                symbol.type.kind == param.type.kind == "ptr":
+            self.put(self.variable_place(param), number(0))
 
     def declare_local(self, symbol, values):
         """Declares a local and gives it the values of its initialiser."""
         symbol.loop = len(self.loops)
-        if symbol.type.kind == "cond":
-            return
-        self.emit("declare", symbol)
+        self.name_local(symbol)
         base = self.variable_place(symbol)
+        if symbol.type.kind in ("int", "ptr") and len(values) == 1 and not self.allocation(values[0][1]):
+            lines, text = self.captured(self.scalar, symbol, values[0][1])
+            if not any(line.declares for line in lines):
+                self.lines += lines
+                self.emit(self.late(lambda: self.declaration(symbol, text)), True)
+                return
+        self.emit(self.late(lambda: self.declaration(symbol)), True)
         for path, item in values:
             self.blocked(self.store, self.inner_place(base, path), item)
+
+    def scalar(self, symbol, item):
+        return self.fitting(self.value(item), symbol.type, symbol.content).text
+
+    def name_local(self, symbol):
+        """A name that neither a global nor another local of the function has."""
+        self.locals += 1
+        taken = symbol.own or symbol.name in self.own_names or symbol.name in self.global_names
+        symbol.out = self.fresh(symbol.name) if taken else symbol.name
+        self.own_names.add(symbol.name)
+        if symbol.own:
+            self.user.own.add(symbol.out)
+        elif self.pinned and self.bound:  # a variable of a function of the headers is told as what that is called for
+            symbol.name = self.bound
 
     def s_DeclList(self, node):
         self.statements(node.decls)
@@ -74,19 +116,24 @@ class Statements(Expressions):
     s_StaticAssert = s_EmptyStatement
 
     def s_If(self, node):
-        self.blocked(lambda: self.emit("if", self.condition(node.cond), self.body(node.iftrue),
-                                       self.body(node.iffalse) if node.iffalse else []))
+        self.blocked(self.choice, node)
+
+    def choice(self, node):
+        test = self.condition(node.cond)
+        self.branch(test, *self.locksets.either(lambda: self.body(node.iftrue), lambda: self.body(node.iffalse)))
 
     def s_While(self, node):
         self.loop(node.cond, [], node.stmt)
 
     def s_DoWhile(self, node):
-        leaving, _ = self.captured(self.blocked, lambda: self.emit("if", self.condition(node.cond), [],
-                                                                   self.step("break")))
+        leaving, _ = self.captured(self.blocked, self.leave_unless, node.cond)
         self.loop(None, leaving, node.stmt)
 
+    def leave_unless(self, cond):
+        self.branch(self.condition(cond), [], self.captured(self.emit, "break;")[0])
+
     def s_For(self, node):
-        self.emit("block", self.scoped(lambda: self.captured(self.for_loop, node)[0]))
+        self.block(self.scoped(lambda: self.captured(self.for_loop, node)[0]))
 
     def for_loop(self, node):
         self.statements([node.init] if node.init is not None else [])
@@ -98,91 +145,93 @@ class Statements(Expressions):
         flag `again` for each switch."""
         before, test = self.captured(self.condition, cond) if cond is not None else ([], None)
         if before:
-            before, test = self.step("block", before + self.step("if", test, [], self.step("break"))), None
+            before, test = self.captured(self.blocked, self.leave_unless, cond)[0], None
         self.loops.append(step)
-        inner = self.body(body)
+        inner, = self.locksets.either(lambda: self.body(body))
         self.loops.pop()
-        self.emit("while", test, before + inner + step)
+        self.emit(f"while ({'1' if test is None else test.text}) {{")
+        self.lines += [line._replace(declares=False) for line in before + inner + step]
+        self.emit("}", place=self.lines[-1].place)
 
     def s_Break(self, _):
-        self.emit("break")
+        self.emit("break;")
+        self.locksets.stop()
 
     def s_Continue(self, _):
         inner = self.loops[-1]
         if isinstance(inner, Symbol):
             inner.uses += 1
-            self.emit("assign", self.variable_place(inner), number(1))
-            self.emit("break")
+            self.emit(f"{inner.out} = 1;")
+            self.emit("break;")
         else:
-            self.steps += inner
-            self.emit("continue")
+            self.lines += inner
+            self.emit("continue;")
+        self.locksets.stop()
 
     def s_Switch(self, node):
-        self.emit("block", self.scoped(lambda: self.captured(self.switch, node)[0]))
+        self.block(self.scoped(lambda: self.captured(self.switch, node)[0]))
 
     def switch(self, node):
         """The cases in order, from the number of the one that is chosen on, in a loop that takes the breaks."""
         value = self.integers(self.value(node.cond))[0]
         kind, groups = promoted(value.type.name), self.groups_of(node)
-        value, default = self.stable(convert(value, kind)), len(groups)
-        at, again = (self.temporary(INT).parts[0] for _ in range(2))
-        chosen = self.variable_place(at)
-        for number_of, (labels, _) in enumerate(groups):
-            default = number_of if None in labels else default
-        self.emit("assign", chosen, number(default))
+        value = self.stable(convert(value, kind))
+        default = next((at for at, (labels, _) in enumerate(groups) if None in labels), len(groups))
+        at, again = (self.temporary(INT, None, start).parts[0] for start in (default, 0))
         for number_of, (labels, _) in enumerate(groups):
             for label in labels:
                 if label is not None:
-                    self.emit("if", compare("==", value, number(label, kind), kind),
-                              self.step("assign", chosen, number(number_of)), [])
+                    self.emit(f"if ({compare('==', value, number(label, kind), kind).text}) {at.out} = {number_of};")
         self.loops.append(again)
-        steps = []
+        lines = []
         for number_of, (_, parts) in enumerate(groups):
-            if any(isinstance(part, (A.Decl, A.DeclList)) for part in parts) and number_of + 1 < len(groups):
-                self.refuse(parts[0], "declaration in a case that is not the last, outside a block")
+            self.refuse_if(any(isinstance(part, (A.Decl, A.DeclList)) for part in parts) and
+                           number_of + 1 < len(groups), "declaration in a case that is not the last, outside a block")
             self.here = place_of(parts[0], self.here) if parts and not self.pinned else self.here
-            steps += self.step("if", compare("<=", self.loaded(chosen), number(number_of), "int"),
-                               self.captured(self.statements, parts)[0], [])
+            inner, = self.locksets.either(lambda: self.captured(self.statements, parts)[0])
+            lines += self.captured(self.branch, Value(f"{at.out} <= {number_of}", INT, 7), inner, [])[0]
         self.loops.pop()
-        self.emit("while", None, steps + self.step("break"))
+        self.emit("while (1) {")
+        self.lines += lines
+        self.emit("break; }")
         if again.uses:
-            self.emit("if", self.loaded(self.variable_place(again)), self.captured(self.s_Continue, node)[0], [])
+            self.branch(self.loaded(self.variable_place(again)), self.captured(self.s_Continue, node)[0], [])
 
     def groups_of(self, node):
         """The cases as (labels, statements); `case 1: case 2:` are inside one another in the tree."""
         groups, labels = [], []
         for item in (node.stmt.block_items or []) if isinstance(node.stmt, A.Compound) else [node.stmt]:
-            while isinstance(item, (A.Case, A.Default)):
+            self.refuse_if(not isinstance(item, (A.Case, A.Default)), "statement before the first case of a switch")
+            while True:
                 inner, case = item.stmts or [], isinstance(item, A.Case)
                 labels.append(self.constant(item.expr, "case that is not constant") if case else None)
                 if len(inner) != 1 or not isinstance(inner[0], (A.Case, A.Default)):
-                    groups += [(labels, inner)] if inner else []
-                    labels = [] if inner else labels
                     break
                 item = inner[0]
-            else:
-                self.refuse(item, "statement before the first case of a switch")
+            groups, labels = (groups + [(labels, inner)], []) if inner else (groups, labels)
         return groups + ([(labels, [])] if labels else [])
 
     def s_Return(self, node):
         self.blocked(self.returned, node)
+        self.locksets.stop()
 
     def returned(self, node):
         symbol, kind = self.function, self.function.type.to
         if node.expr is None or kind.kind == "void":
             if node.expr is not None:
                 self.effect(node.expr)
-            self.emit("return", None if kind.kind == "void" else number(0).typed(kind, symbol.content))
-        elif kind.kind == "struct":  # in an object that the caller frees
-            result = self.declare("result", "local", kind, node)
-            result.boxed, result.own = True, True
-            self.emit("declare", result)
-            self.store(self.variable_place(result), node.expr)
-            self.emit("return", self.address(self.variable_place(result)))
+            self.emit("return;" if kind.kind == "void" else f"return {self.null(kind, symbol.content).text};"
+                      if kind.kind == "ptr" else "return 0;")
+            return
+        value = self.value(node.expr)
+        if kind.kind == "struct":
+            self.flows(kind, None, value)
+            value = self.copied(kind, value)
+            symbol.content.unite(value.node)
         else:
-            value = self.value(node.expr)
             symbol.gives |= kind.kind == "ptr" and not value.null()
-            self.emit("return", self.fitting(value, kind, symbol.content))
+            value = self.fitting(value, kind, symbol.content)
+        self.emit(f"return {value.text};")
 
     def s_Typedef(self, item):
         inner = getattr(item.type, "type", None)
@@ -195,81 +244,94 @@ class Statements(Expressions):
         """The symbol of a function, with its parameters."""
         symbol = self.functions.get(decl.name)
         if symbol is None:
-            symbol = self.functions[decl.name] = self.new_function(decl)
+            symbol = Symbol(decl.name, "function", self.type(decl.type), place_of(decl, self.here), self.classes)
+            self.functions[decl.name] = symbol
+            self.holds(symbol.type.to, symbol.content, symbol.address)
         if symbol.definition is None:
             self.parameters(symbol, decl.type)
         self.scopes[0][decl.name] = symbol
         return symbol
 
-    def new_function(self, decl):
-        symbol = Symbol(decl.name, "function", self.type(decl.type), place_of(decl, self.here), self.classes)
-        if symbol.type.to.kind == "ptr":
-            symbol.content.point_to(symbol.type.to.to)
-        return symbol
-
     def parameters(self, symbol, decl):
         known, symbol.params = symbol.params, []
         for node in decl.args.params if decl.args else []:
-            kind = self.adjusted(self.type(node.type)) if not isinstance(node, (A.EllipsisParam, A.ID)) else None
-            if kind is None or kind.kind == "void":
+            kind = self.adjusted(self.type(node.type)) if not isinstance(node, (A.EllipsisParam, A.ID)) else VOID
+            if kind.kind == "void":
                 continue
             param = self.declare(getattr(node, "name", None) or "unnamed", "param", kind, node)
+            if kind.kind == "struct":
+                param.boxed = True
+                param.content = param.address
             if len(symbol.params) < len(known):
                 param.content.unite(known[len(symbol.params)].content)
             symbol.params.append(param)
         symbol.type = symbol.type.with_(params=tuple(param.type for param in symbol.params))
 
-    def instance(self, symbol, values):
-        """A copy of a function of the headers for one call, and its arguments: each call has classes of its own, and
-        `a + i` goes as a and i."""
-        for param, value in zip(symbol.params, values):
-            self.refuse_if(param.name == "none" and not value.null(), f"argument of {symbol.name} that is not NULL")
-        kind = values[0].type if values else INT
-        names = {"__sharc_value": kind.to.bare().with_(atomic=False) if kind.kind == "ptr" else INT}
-        self.scopes.append(names)
-        made = self.new_function(symbol.definition.decl)
-        self.parameters(made, symbol.definition.decl.type)
-        self.scopes.pop()
-        if kind.kind == "ptr" and kind.to.atomic:
-            made.params[0].type = pointer(names["__sharc_value"].with_(mode="racy"))
-        for at, (param, value) in enumerate(zip(list(made.params), values)):
-            if value.op == "moved" and value.parts[1] == "+":
-                values[at], index = value.parts[0], self.declare(param.name, "param", LONG, symbol.definition)
-                made.params.append(index)
-                values.append(value.parts[2])
-                both = (self.loaded(self.variable_place(part)) for part in (param, index))
-                names[param.name] = self.added(*both, "+")
-        made.type = made.type.with_(params=tuple(param.type for param in made.params))
-        for param in made.params:
-            param.own = True
-        made.definition, made.place, made.pinned, made.names = symbol.definition, self.here, self.here, names
-        made.out = self.fresh(symbol.name)
-        self.lowered.append(made)
-        return made, values
+    def s_FuncDef(self, item):
+        symbol = self.prototype(item.decl)
+        self.refuse_if(item.param_decls or symbol.type.name == "...",
+                       "function definition in the old style" if item.param_decls else "variable arguments", item)
+        symbol.definition, symbol.header = item, self.in_headers(place_of(item.decl))
+        if not symbol.header:
+            self.function, self.loops, self.here, self.locals, self.own_names = symbol, [], symbol.place, 0, set()
+            self.mentions = self.names_in(item.body)
+            symbol.lines = self.scoped(lambda: self.captured(self.function_body, symbol)[0])
+            self.refuse_if(self.locals > 200, f"function {symbol.name} with over 200 variables", symbol.place)
+            self.function = None
 
-    def parameter(self, symbol, at, param):
-        """A parameter whose address is taken becomes a local, and those of main are locals with known values."""
-        place = self.variable_place(param)
-        if symbol.name == "main":
-            self.emit("declare", param)
-            text = "1" if at else str(len(self.arguments_given))
-            self.emit("assign", place, Tree("named", text, type=param.type, node=param.content))
-        elif place.memory:
-            self.scopes[-1][param.name] = local = self.declare(param.name, "local", param.type, symbol.definition)
-            self.emit("declare", local)
-            self.put(self.variable_place(local), self.loaded(place))
-
-    def lower_function(self, symbol):
-        """Reads a function's body."""
-        self.function, self.loops, self.pinned = symbol, [], symbol.pinned is not None
-        self.here = symbol.pinned or symbol.place
-        self.steps = symbol.steps
-        self.scopes.append({param.name: param for param in symbol.params})
-        self.tags.append({})
+    def function_body(self, symbol):
+        """A parameter whose address is taken becomes a local; those of main are locals with known values."""
+        self.locksets.begin(symbol)
         for at, param in enumerate(symbol.params):
-            self.parameter(symbol, at, param)
-        self.scopes[-1].update(symbol.names)
+            self.scopes[-1][param.name] = param
+            self.name_local(param)
+            if symbol.name == "main":
+                self.argument_of_main(at, param)
+            elif param.type.kind != "struct" and param.name in self.addressed:
+                self.scopes[-1][param.name] = local = self.declare(param.name, "local", param.type, param.place)
+                self.name_local(local)
+                self.emit(self.late(lambda local=local: self.declaration(local)), True)
+                self.put(self.variable_place(local), self.loaded(self.variable_place(param)))
         self.statements(symbol.definition.body.block_items)
-        self.scopes.pop()
-        self.tags.pop()
-        self.function, self.pinned = None, False
+
+    def argument_of_main(self, at, param):
+        if at == 0:
+            self.emit(f"int {param.out} = {len(self.arguments_given)};")
+            return
+        self.scopes[-1][param.name] = local = self.declare(
+            param.name, "local", array(param.type.to, len(self.arguments_given) + 1), param.place)
+        self.name_local(local)
+        self.emit(self.late(lambda: self.declaration(local)), True)
+        for number_of, word in enumerate(self.arguments_given):
+            data = tuple((byte ^ 128) - 128 for byte in word.encode()) + (0,)
+            self.put(self.element(self.variable_place(local), number(number_of)), self.string(data))
+
+    def inlined(self, symbol, values):
+        """The body of a function of the headers in place of a call, with its parameters bound to the arguments: they
+        need not mean the same everywhere, and of `&x` the address is not taken. It returns at its end alone."""
+        values = [self.stable(value) for value in values]
+        kept, self.pinned = (self.scopes, self.pinned, self.bound), self.here
+        self.bound = spelled(values[0].place) if values and values[0].place else self.bound
+        try:
+            return self.body_of(symbol, values)
+        finally:
+            self.scopes, self.pinned, self.bound = kept
+
+    def body_of(self, symbol, values):
+        kind = values[0].type if values else INT
+        self.scopes = [self.scopes[0], {
+            "__sharc_value": kind.to.bare().with_(atomic=False) if kind.kind == "ptr" else INT}]
+        decl = symbol.definition.decl.type
+        for param, value in zip(decl.args.params if decl.args else [], values):
+            wanted = self.adjusted(self.type(param.type))
+            self.refuse_if(param.name == "none" and not value.null(), f"argument of {symbol.name} that is not NULL")
+            if wanted.kind == "int":
+                value = self.fitting(value, wanted)
+                value = self.spilled(value) if value.number is None else value
+            elif wanted.kind == "ptr" and wanted.to.kind != "func":
+                value = value.with_(type=wanted)
+            self.scopes[-1][param.name] = value
+        *items, last = symbol.definition.body.block_items
+        self.statements(items)
+        result = self.fitting(self.value(last.expr), self.type(decl.type), self.classes.new(self.here))
+        return result.with_(calls=False)

@@ -5,14 +5,54 @@
 #include <time.h>
 #include <sharc_front.h>
 /* the names of these three are what the front looks at */
-typedef unsigned long pthread_mutex_t;
-typedef unsigned long pthread_cond_t;
+typedef unsigned long __sharc_cond;
 typedef unsigned long pthread_spinlock_t;
 typedef int pthread_attr_t;
 typedef int pthread_t;
 typedef int pthread_key_t;
 typedef int pthread_mutexattr_t;
 typedef int pthread_condattr_t;
+/* a condition and a mutex of its own, made at the first wait: it is held from before the unlock of the user's mutex */
+static pthread_mutex_t __sharc_conds;
+#define __CONDS __mode_locked(__sharc_conds)
+typedef struct { __sharc_cond __mode_dynamic *__CONDS changed;
+                 pthread_mutex_t __mode_racy *__CONDS own; } pthread_cond_t;
+static inline int pthread_cond_wait(pthread_cond_t *c, pthread_mutex_t *m)
+{
+    __sharc_cond __mode_dynamic *changed;
+    pthread_mutex_t *own;
+    pthread_mutex_lock(&__sharc_conds);
+    if (c->changed == NULL) {
+        c->changed = malloc(sizeof(__sharc_cond));
+        c->own = malloc(sizeof(pthread_mutex_t));
+    }
+    changed = c->changed;
+    own = c->own;
+    pthread_mutex_unlock(&__sharc_conds);
+    pthread_mutex_lock(own);
+    pthread_mutex_unlock(m);
+    __sharc_do(wait, changed, own);
+    pthread_mutex_unlock(own);
+    pthread_mutex_lock(m);
+    return 0;
+}
+#define __SIGNAL(name, call) static inline int name(pthread_cond_t *c) \
+    { \
+        __sharc_cond __mode_dynamic *changed; \
+        pthread_mutex_t *own; \
+        pthread_mutex_lock(&__sharc_conds); \
+        changed = c->changed; \
+        own = c->own; \
+        pthread_mutex_unlock(&__sharc_conds); \
+        if (changed != NULL) { \
+            pthread_mutex_lock(own); \
+            __sharc_do(call, changed); \
+            pthread_mutex_unlock(own); \
+        } \
+        return 0; \
+    }
+__SIGNAL(pthread_cond_signal, signal)
+__SIGNAL(pthread_cond_broadcast, broadcast)
 #define __LOCKED __mode_locked(guard)
 typedef struct { pthread_mutex_t guard; pthread_cond_t changed; int __LOCKED readers;
                  int __LOCKED writer; } pthread_rwlock_t;

@@ -1,12 +1,16 @@
 /* What the other headers are made of.
  *
- * The front lowers C functions of these headers that are called: each call has a copy of its own, in which
- * __sharc_value is the type that the first argument points to. An argument for a parameter with the name `none` has to
- * be NULL, and so has the second one of __sharc_null.
+ * The body of a C function of these headers is written in place of a call; in it __sharc_value is the type that the
+ * first argument points to. It returns at its end alone. An argument for a parameter `none` has to be NULL,
+ * and so has the second one of __sharc_null. __sharc_do(f, x ..) is the call f(x ..) of the language.
  */
 #ifndef SHARC_FRONT_H
 #define SHARC_FRONT_H
 typedef long __sharc_value;
+typedef unsigned long pthread_mutex_t;
+static pthread_mutex_t __sharc_atomics;
+#define __sharc_lock_atomics() pthread_mutex_lock(&__sharc_atomics)
+#define __sharc_unlock_atomics() pthread_mutex_unlock(&__sharc_atomics)
 #define __FETCH(name, operator) \
     static inline __sharc_value name(__sharc_value *p, long v) \
     { \
