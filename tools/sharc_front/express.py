@@ -61,13 +61,13 @@ class Expressions(Places):
             place = self.stable_place(value.place)
             whole = value.type.kind == "ptr" and value.type.to.key() == place.type.key()
             return self.address(place) if whole else self.loaded(place)
-        return value if value.number is not None or value.height == 1 and not value.calls else self.spilled(value)
+        return value if value.number is not None or value.height <= 2 and not value.calls else self.spilled(value)
 
     def stable_place(self, place):
         """The place, so that it may be written twice: its indices are evaluated once."""
         base, *rest = place.parts
         base = self.stable_place(base) if place.op in ("member", "element") else base
-        if place.op in ("element", "at") and (rest[0].calls or rest[0].height > 1):
+        if place.op in ("element", "at") and (rest[0].calls or rest[0].height > 2):
             rest = [self.spilled(rest[0])]
         return Place(place.op, (base, *rest), place.type, place.node, place.source)
 
@@ -142,7 +142,7 @@ class Expressions(Places):
             return Value("", kind, place=place)
         self.refuse_if(kind.kind not in ("int", "ptr"), f"{kind.shown()} as a value")
         self.locksets.access(place)
-        made = Value(self.place_text(place), kind, PRIMARY, place.node, height=1 + self.shared(place),
+        made = Value(self.place_text(place), kind, PRIMARY, place.node, height=3 if self.shared(place) else 1,
                      wide=kind.kind == "int" and CELL[kind.name] == "long")
         return self.spilled(made) if kind.atomic else made
 
