@@ -7,10 +7,6 @@ use Rattle.sharc_rounds.specs.Shares.{one_before, behind_last}
 one_more : (n : ℕ) → one_before (n + 1) ≡ n + 2
 one_more n = let e : n + 1 ≡ suc n = omega arith in ap one_before e ∙ omega arith
 
-one_within : (n m : ℕ) → n ≤ m → one_before n ≤ suc m
-one_within zero m h = omega arith
-one_within (suc n) m h = omega (arith, h)
-
 one_below : (k n : ℕ) → k < n → suc k < one_before n
 one_below k zero h = omega (arith, h)
 one_below k (suc n) h = omega (arith, h)

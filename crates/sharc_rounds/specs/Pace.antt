@@ -7,8 +7,8 @@ use Rattle.sharc_rounds.specs.declared.pace.Makers.TheVariants.{Workers, CallerB
 abbrev pub is_as_high : Speed → Speed → Bool
 is_as_high one other = nat_le (other.events * one.nanoseconds) (one.events * other.nanoseconds)
 
--- the faster ones; but the others again, where the faster ones have gone on for APART times as long as the last rounds of
--- the others took
+-- the faster ones; but the others again, where the faster ones have gone on for APART times as long as the last rounds
+-- of the others took
 abbrev pub or_others : Makers → Makers → ℕ → ℕ → Makers
 or_others faster others took since = if nat_lt took (since / APART) then others else faster
 

@@ -137,8 +137,8 @@ impl Pace {
         }
     }
 
-    /// Who makes the next round, where so many workers are busy. Where no time is told, the gate may hold a thread until
-    /// another has made a step.
+    /// Who makes the next round, where so many workers are busy. Where no time is told, the gate may hold a thread
+    /// until another has made a step.
     pub(crate) fn makers(self, busy: Busy, time: Option<u64>) -> Makers
         ensures timed { busy ≡ Busy.Several → IsSome time → result ≡ next_makers self.parts self.workers self.since }
         ensures untimed { busy ≡ Busy.Several → time ≡ None → result ≡ Makers.Workers }
