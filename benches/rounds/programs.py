@@ -5,7 +5,8 @@ Usage: programs.py [PROGRAM [PART..]]     (default: crates/sharc/out/sharc, whic
 
 Parts: instructions, loops, rounds, neighbours, examples, load; all, if none is named. Each prints rows of a table. A time is the
 least of some runs (RUNS of the environment, else 5), in milliseconds by the clock on the wall, with the processor time
-(user and system) of that run in brackets. The load of the machine is printed with each part. Turns are told by the
+(user and system) of that run in brackets. Runs by 1, 2 and 4 workers take turns, so that what else a machine does meets
+all of them. The load of the machine is printed with each part. Turns are told by the
 least number for `--events` with which a run of a small loop ends. C is compiled by gcc with include/sharc.h: plain at
 -O0, with -fsanitize=thread, and plain under helgrind.
 """
@@ -44,12 +45,21 @@ class Run:
         return f"{self.wall:.0f} ({self.used:.0f})"
 
 
+def ended_well(words, text=""):
+    run = Run(words, text)
+    if run.status != 0:
+        sys.exit(f"{words}: status {run.status}, {run.text[-200:]!r}")
+    return run
+
+
 def best(words, text=""):
-    found = [Run(words, text) for _ in range(RUNS)]
-    for run in found:
-        if run.status != 0:
-            sys.exit(f"{words}: status {run.status}, {run.text[-200:]!r}")
-    return min(found, key=lambda run: run.wall)
+    return best_of_each([words], text)[0]
+
+
+def best_of_each(commands, text=""):
+    """The best run of each command, where the commands take turns."""
+    sittings = [[ended_well(words, text) for words in commands] for _ in range(RUNS)]
+    return [min(runs, key=lambda run: run.wall) for runs in zip(*sittings)]
 
 
 def heading(text):
@@ -78,7 +88,7 @@ def per_round(program, made):
 
 
 def by_workers(program, source, workers=(1, 2, 4)):
-    return [best([program, "run", "--events", EVENTS, "--workers", str(count)], source) for count in workers]
+    return best_of_each([[program, "run", "--events", EVENTS, "--workers", str(count)] for count in workers], source)
 
 
 def compiled(folder, source, *flags):
@@ -284,7 +294,7 @@ def examples(program):
 def load(program):
     heading("load 10000: by 1, 2 and 4 workers; gcc -O0, TSan, helgrind")
     source = load_source()
-    runs = [best([program, "load", "10000", "--workers", str(count)]) for count in (1, 2, 4)]
+    runs = best_of_each([[program, "load", "10000", "--workers", str(count)] for count in (1, 2, 4)])
     row(f"`load 10000`, eight threads of {turns(program, source):,} turns", *runs, *as_c(source))
     with tempfile.TemporaryDirectory() as folder:
         print(f"check alone {best([program, 'check'], source)}, gcc -O0 {compiled(folder, source)[1]:.0f}")
