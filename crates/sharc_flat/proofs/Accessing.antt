@@ -208,9 +208,7 @@ module _ (m : Assignment) (z : Standing) (scope : List Slot) where
       path_runs l (named.Variable x) None pc c os ge mode path has rest e =
           subst (λ sec. Same z.flat s.fuel (c + 1 + 0) (fin_then (then_on (then_on (guarding site (guard_by (mutex_named m.typed (value_of s) (named.Variable x) sec)) s) (λ mutex. give (modes.Locked (Some mutex)))) f) k) s.answers (place z pc ints refs s)) (sym e)
           (weaken z.flat s.fuel (c + 1) (c + 1 + 0) _ s.answers _ (omega arith) (by_none pc c mode has.0))
-      path_runs l (named.Struct n) second pc c os ge mode path has rest e = weaken z.flat s.fuel (c + 1) (c + 1 + 0) _ s.answers _ (omega arith) (by_none pc c mode has.0)
-      path_runs l (named.Function n) second pc c os ge mode path has rest e = weaken z.flat s.fuel (c + 1) (c + 1 + 0) _ s.answers _ (omega arith) (by_none pc c mode has.0)
-      path_runs l named.Known second pc c os ge mode path has rest e = weaken z.flat s.fuel (c + 1) (c + 1 + 0) _ s.answers _ (omega arith) (by_none pc c mode has.0)
+      path_runs l _ second pc c os ge mode path has rest e = weaken z.flat s.fuel (c + 1) (c + 1 + 0) _ s.answers _ (omega arith) (by_none pc c mode has.0)
 
       pub access_exact : (mode : Sharing) (pc c : ℕ) (os : List Op) → guard ≡ beside_field m.typed mode → spot.mode ≡ place_mode ctx (field_of t) mode → PathStands m.typed scope mode
           → HasAt z.flat.lines pc (guard_code ctx i r site lvalue t (guard_field m.typed mode) ++ o ∷ os)

@@ -6,7 +6,7 @@ use Rattle.sharc_names.specs.Kinds.{Kind, is_integer, is_pointer}
 use Rattle.sharc_code.specs.{declared.instr.Register.Register, declared.instr.Register.TheVariants.{Int, Reference}}
 use Rattle.sharc_mode.specs.{Moded.Assignment, Sharings.Sharing}
 use Rattle.sharc_meaning.specs.{declared.given.GivenUp.TheVariants.Released, Places.{StorePlace, variable, stored}, Reference.number_of, State.{State, Run, ◌>>=◌, is_reference, all_released, temporarily, done, gives_up as source_gives_up, drops}}
-use Rattle.sharc_flat.specs.{declared.op.Op.Op, declared.op.Spot.Spot, Machine.{goes, put}, declared.slot.Lvalue.Lvalue, Scope.{int_count, ref_count, register_of, slot_kind}, declared.slot.Slot.Slot, Places.{Target, in_global, in_global_at, in_object, in_object_at, has_base, base_width, field_of, guard_field, beside_field, guard_cell, guard_code, spot_of, drop_base, settle_base, settle_code, cell_store_code, store_code, cell_take_code, take_code, target, own_field, global_of, bounds_code, index_code, pointee_code, width_of, base_as_width, width_code, guard_width, index_width}, Suits.{PathStands, is_cell}, Flattened.drop_code}
+use Rattle.sharc_flat.specs.{declared.op.Op.Op, declared.op.Spot.Spot, Machine.{goes, put}, declared.slot.Lvalue.Lvalue, Scope.{int_count, ref_count, register_of, slot_kind}, declared.slot.Slot.Slot, Places.{Target, in_global_at, in_object_at, has_base, base_width, field_of, guard_field, beside_field, guard_cell, guard_code, spot_of, drop_base, settle_base, settle_code, cell_store_code, store_code, cell_take_code, take_code, target, own_field, global_of, bounds_code, index_code, pointee_code, width_of, base_as_width, width_code, guard_width, index_width}, Suits.{PathStands, is_cell}, Flattened.drop_code}
 use Rattle.sharc_flat.specs.declared.op.Op.TheVariants as op
 use Rattle.sharc_flat.specs.Places as targets
 use Rattle.sharc_flat.proofs.{Runs.{HasAt, has_front, has_back, Fin, fin_then, Same, weaken, step, bind, without}, Agreeing.{Standing, place, Agree, drop_last, last_is, same_frame, loose_of, Valued}, Accessing.context, Values.{bases_count, BasesOf, RunsAs, Lies, bases_are, PlaceAs, at_cell, temporarily_runs}, Computing.none_end, Executing.Stand, Statements.StepAs, Storing.{store_cell, store_int, store_reference, stores}}
@@ -17,20 +17,15 @@ module _ (m : Assignment) (z : Standing) (kind : Kind) (ints0 : ℕ → ℤ) whe
 
   -- ---- what an lvalue names is not moved by what comes after it
   lies_kept : (scope : List Slot) (t : Target) (guard : Option ℕ) (i : ℕ) (ints ints' : ℕ → ℤ) (bases : List ℤ) (p : StorePlace) → ((n : ℕ) → n < z.ints + (i + index_width t guard) → ints' n ≡ ints n) → Lies m z scope t guard i ints bases p → Lies m z scope t guard i ints' bases p
-  lies_kept scope (targets.variable x) guard i ints ints' bases p kept h = h
-  lies_kept scope (in_global g f) guard i ints ints' bases p kept h = h
-  lies_kept scope (in_object f) guard i ints ints' bases p kept h = h
   lies_kept scope (in_global_at g f) None i ints ints' bases p kept h = (h.0, h.1, h.2, kept (z.ints + i) (omega arith) ∙ h.3, λ mutex e. absurd (cc))
   lies_kept scope (in_global_at g f) (Some n) i ints ints' bases p kept h = (h.0, h.1, h.2, kept (z.ints + i) (omega arith) ∙ h.3, λ mutex e. kept (z.ints + (i + 1)) (omega arith) ∙ h.4 mutex e)
   lies_kept scope (in_object_at f) None i ints ints' bases p kept h = (h.0, h.1, h.2, h.3, kept (z.ints + i) (omega arith) ∙ h.4, λ mutex e. absurd (cc), h.6)
   lies_kept scope (in_object_at f) (Some n) i ints ints' bases p kept h = (h.0, h.1, h.2, h.3, kept (z.ints + i) (omega arith) ∙ h.4, λ mutex e. kept (z.ints + (i + 1)) (omega arith) ∙ h.5 mutex e, h.6)
+  lies_kept scope _ guard i ints ints' bases p kept h = h
 
   store_code_is : (scope : List Slot) (i r vi vr : ℕ) (site : Site) (lvalue : Lvalue) (mode : Sharing) (b : Bool) (t : Target) → is_cell t ≡ true → store_code (context m z scope) i r vi vr site lvalue mode b t ≡ cell_store_code (context m z scope) i r vi vr site lvalue mode b t
   store_code_is scope i r vi vr site lvalue mode b (targets.variable x) e = absurd (cc)
-  store_code_is scope i r vi vr site lvalue mode b (in_global g f) e = refl
-  store_code_is scope i r vi vr site lvalue mode b (in_global_at g f) e = refl
-  store_code_is scope i r vi vr site lvalue mode b (in_object f) e = refl
-  store_code_is scope i r vi vr site lvalue mode b (in_object_at f) e = refl
+  store_code_is scope i r vi vr site lvalue mode b _ e = refl
 
   -- what comes after the base and the index of a place
   base_of : (b : Bool) (bases : List ℤ) → BasesOf b bases → (r n : ℕ) → r ≡ n + 0 → r + cond b 1 0 ≡ n + length bases

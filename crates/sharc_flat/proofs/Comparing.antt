@@ -7,7 +7,7 @@ use Rattle.sharc_mode.specs.Moded.{Assignment}
 use Rattle.sharc_meaning.specs.{State.{State, Run, ◌>>=◌, ◌>>◌, give, is_reference, all_released, temporarily, done, holds_reference, with_temporary, holds}, Arithmetic.{is_zero, is_equal, truth}, Expressions.{resulting, operand}}
 use Rattle.sharc_flat.specs.{declared.op.Op.Op, declared.op.Spot.Spot, Machine.put, Scope.{int_count, ref_count}, declared.slot.Slot.Slot}
 use Rattle.sharc_flat.specs.declared.op.Op.TheVariants as op
-use Rattle.sharc_flat.proofs.{Banks.{put_same, put_other}, Runs.{HasAt, has_front, has_back, Fin, fin_then, Same, weaken, step, bind, without}, Agreeing.{Standing, place, Agree, last_is, hold, with_int, same_frame, loose_of}, Values.{loosen, released, given_place, int_valued, RunsAs, temporarily_runs}, Popping.{popping, pop_all}, Computing.truth_same}
+use Rattle.sharc_flat.proofs.{Banks.{put_same, put_other}, Runs.{HasAt, has_front, has_back, Fin, fin_then, Same, weaken, step, bind, without}, Agreeing.{Standing, place, Agree, last_is, hold, with_int, same_frame, loose_of}, Values.{loosen, released, given_place, int_valued, RunsAs, temporarily_runs}, Popping.{popping, pop_all}, Computing.truth_same, Testing.zero_of}
 use Rattle.sharc_code.specs.Arithmetic as code
 use Rattle.sharc_ctype.specs.Resolved.{kind_at}
 
@@ -35,10 +35,6 @@ module _ (m : Assignment) (z : Standing) (scope : List Slot) where
       let ints1 = put ints (z.ints + i) t1 in
       step z.flat (op.IsFalse i i) s.fuel c fin s.answers (place z pc ints refs s) (place z (pc + 1) ints1 refs s) has.0 refl
       (rest ints1 (with_int z T scope [] i t1 ints refs s le a) (λ n lt. put_other ints (z.ints + i) _ n (λ q. omega arith)) (put_same ints (z.ints + i) t1 ∙ ap (λ x. code.truth (is_zero x)) e ∙ ap code.truth (zero_of t) ∙ truth_same (not t)))
-    where
-      zero_of : (b : Bool) → is_zero (code.truth b) ≡ not b
-      zero_of true = refl
-      zero_of false = refl
   differ_by false t T i pc c ints refs s fin le has a e rest =
       let q0 : pc + 0 ≡ pc = omega arith in
       weaken z.flat s.fuel c (c + 1) fin s.answers _ (omega arith)

@@ -1,9 +1,9 @@
 -- Operators and constants.
-use Rattle.std.proofs.{Common.{◌≡◌, ℕ, zero, suc, ◌+◌, ◌<◌, ◌≤◌, Bool, true, false, cond, List, [], ◌∷◌, ◌++◌, length, Option, Some, refl, sym, ap, ◌∙◌, subst, arith, length-append}, lemmas.List.append-nil}
+use Rattle.std.proofs.{Common.{◌≡◌, ℕ, suc, ◌+◌, ◌<◌, ◌≤◌, Bool, true, false, cond, List, [], ◌∷◌, ◌++◌, length, Option, Some, refl, sym, ap, ◌∙◌, subst, arith, length-append}, lemmas.List.append-nil}
 use Rattle.std.specs.Prelude.{ℤ, pos, negsuc, slice_get, not, nat_lt, Result, Ok, Err, int_div, int_lt, int_le}
-use Rattle.sharc_tree.specs.{declared.ctype.Base.Base, declared.tree.expression.BinaryOperator.BinaryOperator, declared.tree.expression.BinaryOperator.TheVariants.{LogicalOr, LogicalAnd, BitOr, BitXor, BitAnd, Equal, NotEqual, Less, Greater, LessOrEqual, GreaterOrEqual, ShiftLeft, ShiftRight, Add, Subtract, Multiply, Divide, Remainder}, declared.trap.Trap.Trap, Tree.Expression}
+use Rattle.sharc_tree.specs.{declared.ctype.Base.Base, declared.tree.expression.BinaryOperator.BinaryOperator, declared.tree.expression.BinaryOperator.TheVariants.{LogicalOr, LogicalAnd, Equal, NotEqual, Less, Greater, LessOrEqual, GreaterOrEqual, ShiftLeft, ShiftRight, Add, Subtract, Multiply, Divide, Remainder}, declared.trap.Trap.Trap, Tree.Expression}
 use Rattle.sharc_tree.specs.declared.ctype.Base.TheVariants as base
-use Rattle.sharc_names.specs.Kinds.{Kind, object, array, null, function, is_integer, int, long, promoted, is_long}
+use Rattle.sharc_names.specs.Kinds.{Kind, object, array, is_integer, int, long, promoted, is_long}
 use Rattle.sharc_mode.specs.Moded.{Assignment}
 use Rattle.sharc_meaning.specs.{Places.StorePlace, State.{State, Run, ◌>>=◌, ◌>>◌, give, entered, is_reference, temporarily, done, holds_reference, stopped, holds}, Arithmetic.{bits_of, bits_of_base, is_zero, is_equal, truth, operated, in_range, is_held_by, divided, shifted}, Expressions.{resulting, operand}}
 use Rattle.sharc_flat.specs.{declared.op.Op.Op, declared.op.Spot.Spot, Machine.{put, op_turn, with_result}, Scope.int_count, declared.slot.Slot.Slot, Places.{Target, width_of, base_as_width}, Flattened.operator_of}
@@ -23,9 +23,8 @@ pub range_same : (w : Width) (v : ℤ) → code.in_range w v ≡ in_range (code.
 range_same w v = ap (λ b. cond b (Ok v) (Err traps.OutOfRange)) (holds_same w v)
 
 pub zero_same : (v : ℤ) → code.is_zero v ≡ is_zero v
-zero_same (pos zero) = refl
 zero_same (pos (suc n)) = refl
-zero_same (negsuc n) = refl
+zero_same _ = refl
 
 pub truth_same : (b : Bool) → code.truth b ≡ truth b
 truth_same true = refl
@@ -47,9 +46,6 @@ is_strict _ = true
 pub computed_same : (w : Width) (o : BinaryOperator) (a b : ℤ) → is_strict o ≡ true → code.computed w (operator_of o) a b ≡ operated (code.value_bits w) o a b
 computed_same w LogicalOr a b h = absurd (cc)
 computed_same w LogicalAnd a b h = absurd (cc)
-computed_same w BitOr a b h = refl
-computed_same w BitXor a b h = refl
-computed_same w BitAnd a b h = refl
 computed_same w Equal a b h = ap Ok (truth_same (is_equal a b))
 computed_same w NotEqual a b h = ap Ok (truth_same (not (is_equal a b)))
 computed_same w Less a b h = ap Ok (truth_same (int_lt a b))
@@ -63,20 +59,16 @@ computed_same w Subtract a b h = range_same w _
 computed_same w Multiply a b h = range_same w _
 computed_same w Divide a b h = divided_same w a b _
 computed_same w Remainder a b h = divided_same w a b _
+computed_same w _ a b h = refl
 
 base_bits : (b : Base) → code.value_bits (base_as_width b) ≡ bits_of_base b
-base_bits base.Char = refl
-base_bits base.Int = refl
-base_bits base.Long = refl
-base_bits base.Mutex = refl
-base_bits base.Void = refl
 base_bits (base.Struct name) = refl
+base_bits _ = refl
 
 pub bits_same : (kind : Kind) → code.value_bits (width_of kind) ≡ bits_of kind
 bits_same (object b stars) = base_bits b
 bits_same (array b stars) = base_bits b
-bits_same null = refl
-bits_same function = refl
+bits_same _ = refl
 
 pub promoted_by : (b : Bool) → (is_reference (cond b long int) ≡ false) × (is_integer (cond b long int) ≡ true)
 promoted_by true = (refl, refl)

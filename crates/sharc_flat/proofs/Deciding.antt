@@ -6,12 +6,8 @@ use Rattle.sharc_mode.specs.Moded.{Assignment}
 use Rattle.sharc_meaning.specs.{State.{State, Run, ◌>>=◌, give, is_reference}, Arithmetic.{is_zero, truth}}
 use Rattle.sharc_flat.specs.{declared.op.Op.Op, Machine.{goes, put, next as on, over_lines}, Scope.{int_count, ref_count}, declared.slot.Slot.Slot}
 use Rattle.sharc_flat.specs.declared.op.Op.TheVariants as op
-use Rattle.sharc_flat.proofs.{Banks.{put_same, put_other}, Runs.{HasAt, has_front, has_back, Fin, fin_then, Same, weaken, step, bind}, Agreeing.{Standing, place, Agree, with_int, Rest}, Values.{int_valued, RunsAs}, Computing.truth_same, Testing.{TestAs, not_not}}
+use Rattle.sharc_flat.proofs.{Banks.{put_same, put_other}, Runs.{HasAt, has_front, has_back, Fin, fin_then, Same, weaken, step, bind}, Agreeing.{Standing, place, Agree, with_int, Rest}, Values.{int_valued, RunsAs}, Computing.truth_same, Testing.{TestAs, not_not, zero_of}}
 use Rattle.sharc_code.specs.Arithmetic as code
-
-zero_of : (b : Bool) → is_zero (code.truth b) ≡ not b
-zero_of true = refl
-zero_of false = refl
 
 module _ (m : Assignment) (z : Standing) (scope : List Slot) where
   -- a register of a test becomes the truth value

@@ -8,7 +8,7 @@ use Rattle.sharc_code.specs.declared.code.Use.{Use}
 use Rattle.sharc_code.specs.declared.code.Use.TheVariants as uses
 use Rattle.sharc_mode.specs.{Moded.Assignment, Sharings.Sharing}
 use Rattle.sharc_meaning.specs.{Cells.cell_of, Places.{StorePlace, cell, fetched, access_mode}, State.{State, Run, then_on, ◌>>=◌, answered, answer_of, value_in, value_of, is_reference, temporarily, reads_variable, reads}}
-use Rattle.sharc_flat.specs.{declared.op.Op.Op, declared.op.Spot.Spot, Machine.{At, asks, put, accesses, accessed, next as on, set_int, set_ref, op_turn}, declared.slot.Lvalue.Lvalue, Scope.{Context, int_count, ref_count, register_of, slot_kind}, declared.slot.Slot.Slot, Places.{Target, in_global, in_global_at, in_object, in_object_at, has_base, base_width, field_of, guard_field, beside_field, guard_cell, guard_code, spot_of, drop_base, settle_base, copy_code, value_code, cell_value_code}, Suits.{PathStands, is_cell}}
+use Rattle.sharc_flat.specs.{declared.op.Op.Op, declared.op.Spot.Spot, Machine.{At, asks, put, accesses, accessed, next as on, set_int, set_ref, op_turn}, declared.slot.Lvalue.Lvalue, Scope.{Context, int_count, ref_count, register_of, slot_kind}, declared.slot.Slot.Slot, Places.{Target, has_base, base_width, field_of, guard_field, beside_field, guard_cell, guard_code, spot_of, drop_base, settle_base, copy_code, value_code, cell_value_code}, Suits.{PathStands, is_cell}}
 use Rattle.sharc_flat.specs.declared.op.Op.TheVariants as op
 use Rattle.sharc_flat.proofs.{Under.{under, mutex_of, accesses_under}, Banks.{put_same, put_other}, Runs.{HasAt, has_front, has_back, Fin, fin_then, Same, step, bind, without, after_event}, Agreeing.{Standing, place, Agree, push, with_int, same_frame, Rest}, Accessing.{variable_ref, context, access_runs, pending_place}, Values.{bases_count, variable_int, BasesOf, base_ends, base_settles, int_valued, ref_valued, RunsAs, bases_are, PlaceAs, AtCell, at_cell, open_at, temporarily_runs}}
 use Rattle.sharc_flat.specs.Places as targets
@@ -116,10 +116,7 @@ module _ (m : Assignment) (z : Standing) (scope : List Slot) where
   -- ---- what is where a place lies
   value_code_is : (i r : ℕ) (site : Site) (lvalue : Lvalue) (mode : Sharing) (b : Bool) (t : Target) → is_cell t ≡ true → value_code ctx i r site lvalue mode b t ≡ cell_value_code ctx i r site lvalue mode b t
   value_code_is i r site lvalue mode b (targets.variable x) e = absurd (cc)
-  value_code_is i r site lvalue mode b (in_global g f) e = refl
-  value_code_is i r site lvalue mode b (in_global_at g f) e = refl
-  value_code_is i r site lvalue mode b (in_object f) e = refl
-  value_code_is i r site lvalue mode b (in_object_at f) e = refl
+  value_code_is i r site lvalue mode b _ e = refl
 
   -- the value of a cell that an lvalue names
   pub fetch_runs : (kind : Kind) (t : Target) (need : ℕ) (run : Run StorePlace) (pcode : ℕ → ℕ → List Op) (site : Site) (lvalue : Lvalue) (mode : Sharing) → PlaceAs m z scope t None (beside_field m.typed mode) need run pcode

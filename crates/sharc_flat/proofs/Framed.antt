@@ -45,7 +45,7 @@ ref_small [] j o e = absurd (cc)
 ref_small (x ∷ os) zero o e = let same : x ≡ o = cc in subst (λ o. ref_need o ≤ max (ref_need x) (refs_in os)) same (omega arith)
 ref_small (x ∷ os) (suc j) o e = let le = ref_small os j o e in omega arith
 
-some_same : (x o : Op) → Some x ≡ Some o → x ≡ o
+pub some_same : (x o : Op) → Some x ≡ Some o → x ≡ o
 some_same x o e = cc
 
 none_some : {o : Op} → None ≡ Some o → ⊥
@@ -53,17 +53,15 @@ none_some e = cc
 
 -- ---- what an operation writes, and where it leads
 base_within : (refs : ℕ) (cell : Cell) → base_need cell ≤ refs → BaseWithin refs cell
-base_within refs (cells.Global g n) le = tt
-base_within refs (cells.GlobalAt g i) le = tt
 base_within refs (cells.Object r n) le = omega arith
 base_within refs (cells.ObjectAt r i) le = omega arith
+base_within refs _ le = tt
 
 handed_within : (refs : ℕ) (from : Register) → handed_need from ≤ refs → HandedWithin refs from
 handed_within refs (registers.Int i) le = tt
 handed_within refs (registers.Reference r) le = omega arith
 
 writes : (I R : ℕ) (o : Op) → int_need o ≤ I → ref_need o ≤ R → ((i elements cells field : ℕ) (spot : Spot) → o ≡ op.GlobalBounds i elements cells field spot → elements * cells + field < 2 ^ 63) → OpWrites I R o
-writes I R op.Enter p q few = tt
 writes I R (op.Constant a b) p q few = omega arith
 writes I R (op.Move a b) p q few = omega arith
 writes I R (op.Compute a b c d e f) p q few = omega arith
@@ -71,149 +69,49 @@ writes I R (op.Negate a b c d) p q few = omega arith
 writes I R (op.Complement a b) p q few = omega arith
 writes I R (op.IsFalse a b) p q few = omega arith
 writes I R (op.SameReference a b c) p q few = omega arith
-writes I R (op.ChkWidth a b c) p q few = tt
-writes I R (op.Skip a) p q few = tt
-writes I R (op.SkipIfZero a b) p q few = tt
-writes I R (op.SkipIfNull a b) p q few = tt
-writes I R (op.Jump a) p q few = tt
 writes I R (op.Call a b c d) p q few = (omega arith, omega arith)
-writes I R (op.Return a) p q few = tt
-writes I R op.BlockEnd p q few = tt
 writes I R (op.Null a) p q few = omega arith
 writes I R (op.Local a b) p q few = omega arith
 writes I R (op.MoveReference a b) p q few = (omega arith, omega arith)
 writes I R (op.Pop a) p q few = omega arith
 writes I R (op.Settle a b) p q few = (omega arith, omega arith)
-writes I R (op.ChkNull a b) p q few = tt
-writes I R (op.ChkPositive a b) p q few = tt
-writes I R (op.ChkHeld a b) p q few = tt
-writes I R (op.ChkNotHeld a b) p q few = tt
-writes I R (op.ChkRoom a) p q few = tt
 writes I R (op.Bounds a b c d e) p q few = omega arith
 writes I R (op.GlobalBounds a b c d e) p q few = (omega arith, few a b c d e refl)
 writes I R (op.Load a b c) p q few = omega arith
-writes I R (op.Store a b c) p q few = tt
 writes I R (op.LoadRef a b c) p q few = omega arith
 writes I R (op.StoreRef a b c) p q few = omega arith
-writes I R (op.LoadGuard a b) p q few = tt
 writes I R (op.New a b c d) p q few = omega arith
 writes I R (op.TakeCell a b c) p q few = omega arith
 writes I R (op.TakeLocal a b c) p q few = (omega arith, omega arith)
-writes I R (op.Give a b c) p q few = tt
 writes I R (op.Free a b c) p q few = omega arith
 writes I R (op.Lock a b) p q few = base_within R a q
 writes I R (op.Unlock a b c) p q few = omega arith
-writes I R (op.CondEnter a b) p q few = tt
-writes I R (op.CondWait a b) p q few = tt
-writes I R (op.CondSignal a b) p q few = tt
-writes I R (op.CondBroadcast a b) p q few = tt
 writes I R (op.Spawn a b c d) p q few = (omega arith, handed_within R c q)
-writes I R (op.Join a b) p q few = tt
-writes I R (op.Print a b) p q few = tt
+writes I R _ p q few = tt
 
 leads : (A Fn : ℕ → Type 0) (flat : Flat) (owner : ℕ → ℕ) (n rest : ℕ) (o : Op) → OpStays A Fn rest o → ((k : ℕ) → k ≤ rest → InLine flat owner (owner n) (n + 1 + k)) → ((q : ℕ) → A q → InLine flat owner (owner n) q) → InLine flat owner (owner n) (n + 1)
     → ((f : ℕ) → Fn f → f < length flat.functions) → OpLeads flat owner n o
-leads A Fn flat owner n rest op.Enter s over at next calls = next
-leads A Fn flat owner n rest (op.Constant a b) s over at next calls = next
-leads A Fn flat owner n rest (op.Move a b) s over at next calls = next
-leads A Fn flat owner n rest (op.Compute a b c d e f) s over at next calls = next
-leads A Fn flat owner n rest (op.Negate a b c d) s over at next calls = next
-leads A Fn flat owner n rest (op.Complement a b) s over at next calls = next
-leads A Fn flat owner n rest (op.IsFalse a b) s over at next calls = next
-leads A Fn flat owner n rest (op.SameReference a b c) s over at next calls = next
-leads A Fn flat owner n rest (op.ChkWidth a b c) s over at next calls = next
 leads A Fn flat owner n rest (op.Skip a) s over at next calls = over a s
 leads A Fn flat owner n rest (op.SkipIfZero a b) s over at next calls = (over b s, next)
 leads A Fn flat owner n rest (op.SkipIfNull a b) s over at next calls = (over b s, next)
 leads A Fn flat owner n rest (op.Jump a) s over at next calls = at a s
 leads A Fn flat owner n rest (op.Call a b c d) s over at next calls = (calls a s, next)
 leads A Fn flat owner n rest (op.Return a) s over at next calls = tt
-leads A Fn flat owner n rest op.BlockEnd s over at next calls = next
-leads A Fn flat owner n rest (op.Null a) s over at next calls = next
-leads A Fn flat owner n rest (op.Local a b) s over at next calls = next
-leads A Fn flat owner n rest (op.MoveReference a b) s over at next calls = next
-leads A Fn flat owner n rest (op.Pop a) s over at next calls = next
-leads A Fn flat owner n rest (op.Settle a b) s over at next calls = next
-leads A Fn flat owner n rest (op.ChkNull a b) s over at next calls = next
-leads A Fn flat owner n rest (op.ChkPositive a b) s over at next calls = next
-leads A Fn flat owner n rest (op.ChkHeld a b) s over at next calls = next
-leads A Fn flat owner n rest (op.ChkNotHeld a b) s over at next calls = next
-leads A Fn flat owner n rest (op.ChkRoom a) s over at next calls = next
-leads A Fn flat owner n rest (op.Bounds a b c d e) s over at next calls = next
-leads A Fn flat owner n rest (op.GlobalBounds a b c d e) s over at next calls = next
-leads A Fn flat owner n rest (op.Load a b c) s over at next calls = next
-leads A Fn flat owner n rest (op.Store a b c) s over at next calls = next
-leads A Fn flat owner n rest (op.LoadRef a b c) s over at next calls = next
-leads A Fn flat owner n rest (op.StoreRef a b c) s over at next calls = next
-leads A Fn flat owner n rest (op.LoadGuard a b) s over at next calls = next
-leads A Fn flat owner n rest (op.New a b c d) s over at next calls = next
-leads A Fn flat owner n rest (op.TakeCell a b c) s over at next calls = next
-leads A Fn flat owner n rest (op.TakeLocal a b c) s over at next calls = next
-leads A Fn flat owner n rest (op.Give a b c) s over at next calls = next
-leads A Fn flat owner n rest (op.Free a b c) s over at next calls = next
-leads A Fn flat owner n rest (op.Lock a b) s over at next calls = next
-leads A Fn flat owner n rest (op.Unlock a b c) s over at next calls = next
-leads A Fn flat owner n rest (op.CondEnter a b) s over at next calls = next
-leads A Fn flat owner n rest (op.CondWait a b) s over at next calls = next
-leads A Fn flat owner n rest (op.CondSignal a b) s over at next calls = next
-leads A Fn flat owner n rest (op.CondBroadcast a b) s over at next calls = next
-leads A Fn flat owner n rest (op.Spawn a b c d) s over at next calls = next
-leads A Fn flat owner n rest (op.Join a b) s over at next calls = next
-leads A Fn flat owner n rest (op.Print a b) s over at next calls = next
+leads A Fn flat owner n rest _ s over at next calls = next
 
 wide_is : (w : Width) → Wide w → IsWide w
 wide_is widths.Char h = h
-wide_is widths.Int h = tt
-wide_is widths.Long h = tt
+wide_is _ h = tt
 
 flat_leads : (A Fn : ℕ → Type 0) (flat : Flat) (owner : ℕ → ℕ) (n rest : ℕ) (o : Op) → OpStays A Fn rest o → OpLeads flat owner n o → Leads flat n o
-flat_leads A Fn flat owner n rest op.Enter s l = l.inside
-flat_leads A Fn flat owner n rest (op.Constant a b) s l = l.inside
-flat_leads A Fn flat owner n rest (op.Move a b) s l = l.inside
 flat_leads A Fn flat owner n rest (op.Compute a b c d e f) s l = (wide_is a s, l.inside)
 flat_leads A Fn flat owner n rest (op.Negate a b c d) s l = (wide_is a s, l.inside)
-flat_leads A Fn flat owner n rest (op.Complement a b) s l = l.inside
-flat_leads A Fn flat owner n rest (op.IsFalse a b) s l = l.inside
-flat_leads A Fn flat owner n rest (op.SameReference a b c) s l = l.inside
-flat_leads A Fn flat owner n rest (op.ChkWidth a b c) s l = l.inside
-flat_leads A Fn flat owner n rest (op.Skip a) s l = l.inside
 flat_leads A Fn flat owner n rest (op.SkipIfZero a b) s l = (l.0.inside, l.1.inside)
 flat_leads A Fn flat owner n rest (op.SkipIfNull a b) s l = (l.0.inside, l.1.inside)
-flat_leads A Fn flat owner n rest (op.Jump a) s l = l.inside
 flat_leads A Fn flat owner n rest (op.Call a b c d) s l = (l.0, l.1.inside)
 flat_leads A Fn flat owner n rest (op.Return a) s l = tt
-flat_leads A Fn flat owner n rest op.BlockEnd s l = l.inside
-flat_leads A Fn flat owner n rest (op.Null a) s l = l.inside
-flat_leads A Fn flat owner n rest (op.Local a b) s l = l.inside
-flat_leads A Fn flat owner n rest (op.MoveReference a b) s l = l.inside
-flat_leads A Fn flat owner n rest (op.Pop a) s l = l.inside
 flat_leads A Fn flat owner n rest (op.Settle a b) s l = (s, l.inside)
-flat_leads A Fn flat owner n rest (op.ChkNull a b) s l = l.inside
-flat_leads A Fn flat owner n rest (op.ChkPositive a b) s l = l.inside
-flat_leads A Fn flat owner n rest (op.ChkHeld a b) s l = l.inside
-flat_leads A Fn flat owner n rest (op.ChkNotHeld a b) s l = l.inside
-flat_leads A Fn flat owner n rest (op.ChkRoom a) s l = l.inside
-flat_leads A Fn flat owner n rest (op.Bounds a b c d e) s l = l.inside
-flat_leads A Fn flat owner n rest (op.GlobalBounds a b c d e) s l = l.inside
-flat_leads A Fn flat owner n rest (op.Load a b c) s l = l.inside
-flat_leads A Fn flat owner n rest (op.Store a b c) s l = l.inside
-flat_leads A Fn flat owner n rest (op.LoadRef a b c) s l = l.inside
-flat_leads A Fn flat owner n rest (op.StoreRef a b c) s l = l.inside
-flat_leads A Fn flat owner n rest (op.LoadGuard a b) s l = l.inside
-flat_leads A Fn flat owner n rest (op.New a b c d) s l = l.inside
-flat_leads A Fn flat owner n rest (op.TakeCell a b c) s l = l.inside
-flat_leads A Fn flat owner n rest (op.TakeLocal a b c) s l = l.inside
-flat_leads A Fn flat owner n rest (op.Give a b c) s l = l.inside
-flat_leads A Fn flat owner n rest (op.Free a b c) s l = l.inside
-flat_leads A Fn flat owner n rest (op.Lock a b) s l = l.inside
-flat_leads A Fn flat owner n rest (op.Unlock a b c) s l = l.inside
-flat_leads A Fn flat owner n rest (op.CondEnter a b) s l = l.inside
-flat_leads A Fn flat owner n rest (op.CondWait a b) s l = l.inside
-flat_leads A Fn flat owner n rest (op.CondSignal a b) s l = l.inside
-flat_leads A Fn flat owner n rest (op.CondBroadcast a b) s l = l.inside
-flat_leads A Fn flat owner n rest (op.Spawn a b c d) s l = l.inside
-flat_leads A Fn flat owner n rest (op.Join a b) s l = l.inside
-flat_leads A Fn flat owner n rest (op.Print a b) s l = l.inside
+flat_leads A Fn flat owner n rest _ s l = l.inside
 
 parameter_by : (row : Row) (b : Bool) (n r : ℕ) → cond b n (n + 1) ≤ row.ints → cond b (r + 1) r ≤ row.refs → HasParameter row (cond b parameters.Reference parameters.Int)
 parameter_by row true n r p q = omega arith

@@ -1,13 +1,13 @@
 -- Every expression, by its form.
 use Rattle.std.proofs.{Common.{◌≡◌, ℕ, zero, suc, ◌+◌, ◌≤◌, Bool, true, false, cond, List, [], ◌∷◌, ◌++◌, length, Option, Some, None, refl, sym, ap, ◌∙◌, subst, arith, append_assoc}, lemmas.List.append-nil}
 use Rattle.std.specs.{Prelude.{neg_ℤ, ℤ, pos, ◌||◌, Ok, codes}, Str.bytes_eq}
-use Rattle.sharc_tree.specs.{declared.event.Object.TheVariants.{Global, Made}, declared.token.Site.Site, declared.token.Span.Span, declared.tree.expression.BinaryOperator.BinaryOperator, declared.tree.expression.BinaryOperator.TheVariants.{LogicalOr, LogicalAnd, BitOr, BitXor, BitAnd, Equal, NotEqual, Less, Greater, LessOrEqual, GreaterOrEqual, ShiftLeft, ShiftRight, Add, Subtract, Multiply, Divide, Remainder}, Tree.{Expression, identifier, constant, parentheses, call, spawn, on_value, on_place, cast, index, field, unary, binary, Arguments, no_arguments, argument}, Spans.span_of, declared.tree.expression.FieldOperator.TheVariants.{Dot, Arrow}, declared.tree.expression.UnaryOperator.TheVariants.{Negate, Not, Complement, Dereference}, declared.event.TakeKind.TakeKind, declared.tree.expression.PlaceCall.TheVariants.{Lock, Unlock, Free}}
+use Rattle.sharc_tree.specs.{declared.event.Object.TheVariants.{Global, Made}, declared.token.Site.Site, declared.token.Span.Span, declared.tree.expression.BinaryOperator.BinaryOperator, declared.tree.expression.BinaryOperator.TheVariants.{LogicalOr, LogicalAnd, Equal, NotEqual}, Tree.{Expression, identifier, constant, parentheses, call, spawn, on_value, on_place, cast, index, field, unary, binary, Arguments, no_arguments, argument}, Spans.span_of, declared.tree.expression.FieldOperator.TheVariants.{Dot, Arrow}, declared.tree.expression.UnaryOperator.TheVariants.{Negate, Not, Complement, Dereference}, declared.event.TakeKind.TakeKind, declared.tree.expression.PlaceCall.TheVariants.{Lock, Unlock, Free}}
 use Rattle.sharc_names.specs.{Kinds.{Kind, is_integer, int, promoted, is_long, declared_kinds, is_array, element_kind}, declared.fault.Named.Named}
 use Rattle.sharc_code.specs.declared.code.Use.{Use}
 use Rattle.sharc_code.specs.declared.code.Use.TheVariants as uses
 use Rattle.sharc_mode.specs.{Moded.Assignment, Sharings.Sharing, Cells.{cell_at as mode_in, pointed}, Rows.cast_row}
 use Rattle.sharc_meaning.specs.{Cells.{global_elements, element_cells, field_place_named}, Places.{StorePlace, variable, cell, field_in, based, element, element_of_array, index_place, pointee_place, place_named, taken_from}, Reference.{number_of, elements_of, constant_value}, State.{Run, ◌>>=◌, ◌>>◌, give, entered, is_reference, temporarily}, Arithmetic.{bits_of, operated, negated, complement, in_range}, Expressions.{resulting, tested, operand, Calls, value_called, called, named_value, eval, eval_all, place_of, unary_value, binary_value, place_value, spawned, number_named, cast_value, place_called, taking}}
-use Rattle.sharc_ctype.specs.{Resolved.{global_at, kind_at, named_at, structs_in}, Expressions.{constant_kind, class_of, binary_result}, declared.expr.OperatorClass.OperatorClass, declared.expr.OperatorClass.TheVariants.{Logical, Equality, Relation, Shift, Arithmetic}, Transfers.{parameters_named, parameters_of}}
+use Rattle.sharc_ctype.specs.{Resolved.{global_at, kind_at, named_at, structs_in}, Expressions.{constant_kind, class_of, binary_result}, declared.expr.OperatorClass.OperatorClass, declared.expr.OperatorClass.TheVariants.{Shift, Arithmetic}, Transfers.{parameters_named, parameters_of}}
 use Rattle.sharc_flat.specs.{declared.op.Op.Op, declared.op.Spot.Spot, Machine.{first_cell, with_result, take_kind_of, variable_of}, Places.{lvalue_of, take_use, Target, in_global, in_global_at, in_object, in_object_at, has_base, base_width, field_of, guard_field, beside_field, guard_cell, guard_code, spot_of, drop_base, settle_base, settle_code, cell_value_code, cell_store_code, store_code, cell_take_code, take_code, target, own_field, global_of, bounds_code, index_code, pointee_code, width_of, base_as_width, width_code, guard_width, index_width, object_spot}, Scope.{tokens_in, at_words, Context, at_site}, declared.slot.Lvalue.Lvalue, declared.slot.Slot.Slot, Suits.{PathStands, is_cell, NameSuits, Either, CallSuits, Suits, ArgumentsSuit, PlaceSuits, ReferencesSuit, TakeSuits, OperandsSuit}, Flattened.{operator_of, truth_code, compare_code, passed_code, behind_int, behind_ref, IsFlattened, constant_code, value_call_code, expression_code, arguments_code, place_code, named_code, called_code, lvalue_code, binary_code, spawn_code, cast_code, place_call_code, layout_of}}
 use Rattle.sharc_flat.specs.declared.op.Op.TheVariants as op
 use Rattle.sharc_flat.specs.Places as targets
@@ -16,11 +16,9 @@ use Rattle.sharc_names.specs.declared.fault.Named.TheVariants as named
 use Rattle.sharc_tree.specs.declared.event.TakeKind.TheVariants as kinds
 
 result_by : (o : OperatorClass) (a b : Kind) → is_reference (binary_result o a b) ≡ false
-result_by Logical a b = refl
-result_by Equality a b = refl
-result_by Relation a b = refl
 result_by Shift a b = promoted_int a
 result_by Arithmetic a b = (promoted_by (is_long a || is_long b)).0
+result_by _ a b = refl
 
 module _ (m : Assignment) (z : Standing) (scope : List Slot) where
   abbrev ctx : Context
@@ -30,10 +28,7 @@ module _ (m : Assignment) (z : Standing) (scope : List Slot) where
   name_runs : (kind : Kind) (site : Site) (span : Lvalue) (mode : Sharing) (what : Named) → NameSuits ctx kind mode what → RunsAs m z scope kind 7 (named_value m.typed mode site what) (λ i r. named_code ctx i r site span mode (is_reference kind) what)
   name_runs kind site span mode (named.Variable x) h = copy_runs m z scope kind x site h
   name_runs kind site span mode (named.Global g) h = global_runs m z scope g kind site span mode h.0 h.1
-  name_runs kind site span mode (named.Struct n) h = nothing_runs m z scope kind h.0 h.1
-  name_runs kind site span mode (named.Function n) h = nothing_runs m z scope kind h.0 h.1
-  name_runs kind site span mode (named.Field n) h = nothing_runs m z scope kind h.0 h.1
-  name_runs kind site span mode named.Known h = nothing_runs m z scope kind h.0 h.1
+  name_runs kind site span mode _ h = nothing_runs m z scope kind h.0 h.1
 
   give_place : (t : Target) (f guard : Option ℕ) (p : StorePlace) → ((i : ℕ) (bank : ℕ → ℤ) → Lies m z scope t guard i bank [] (within m z scope f p)) → PlaceAs m z scope t f guard 7 (give p) (λ i r. [])
   give_place t f guard p lies T i r pc c ints refs s k has le re a rest =
@@ -53,10 +48,7 @@ module _ (m : Assignment) (z : Standing) (scope : List Slot) where
   named_place_runs : (f guard : Option ℕ) (what : Named) → PlaceAs m z scope (targets.named_target what (own_field f 0)) f guard 7 (give (place_named what)) (λ i r. [])
   named_place_runs f guard (named.Variable x) = give_place _ f guard (variable x) (λ i bank. (refl, variable_within f x))
   named_place_runs f guard (named.Global g) = give_place _ f guard (cell (Global g) 0 0) (λ i bank. (refl, global_within f g))
-  named_place_runs f guard (named.Struct n) = give_place _ f guard (variable 0) (λ i bank. (refl, variable_within f 0))
-  named_place_runs f guard (named.Function n) = give_place _ f guard (variable 0) (λ i bank. (refl, variable_within f 0))
-  named_place_runs f guard (named.Field n) = give_place _ f guard (variable 0) (λ i bank. (refl, variable_within f 0))
-  named_place_runs f guard named.Known = give_place _ f guard (variable 0) (λ i bank. (refl, variable_within f 0))
+  named_place_runs f guard _ = give_place _ f guard (variable 0) (λ i bank. (refl, variable_within f 0))
 
   no_place_runs : (f guard : Option ℕ) → PlaceAs m z scope (targets.variable 0) f guard 7 (give (variable 0)) (λ i r. [])
   no_place_runs f guard = give_place _ f guard (variable 0) (λ i bank. (refl, variable_within f 0))
@@ -71,11 +63,8 @@ module _ (m : Assignment) (z : Standing) (scope : List Slot) where
       subst (λ k. RunsAs m z scope k 7 (temporarily (all >>= λ vs. on_call g site vs)) (λ i r. ca i r ++ op.Call g i r (at_site site) ∷ [])) (sym h.2)
       (function_call_runs m z scope on_call n calls_as is room g h.0 site all ca h.1
       (subst (λ ps. ArgumentsAs m z scope (declared_kinds ps) all ca) same (of_all (subst (λ ps. suits (declared_kinds ps)) (sym same) h.3))))
-  named_call_runs on_call n calls_as is room kind (named.Variable x) site text written all ca suits known h of_all of_refs = absurd h
-  named_call_runs on_call n calls_as is room kind (named.Global x) site text written all ca suits known h of_all of_refs = absurd h
-  named_call_runs on_call n calls_as is room kind (named.Struct x) site text written all ca suits known h of_all of_refs = absurd h
-  named_call_runs on_call n calls_as is room kind (named.Field x) site text written all ca suits known h of_all of_refs = absurd h
   named_call_runs on_call n calls_as is room kind named.Known site text written all ca suits known h of_all of_refs = known_runs m z scope on_call kind site text written all ca h.1 h.2 (of_refs refl h.0)
+  named_call_runs on_call n calls_as is room kind _ site text written all ca suits known h of_all of_refs = absurd h
 
   -- ---- operators
   negate_runs : (ka : Kind) (e : Expression) (s : Span) (run : Run ℤ) (ce : ℕ → ℕ → List Op) → ka ≡ kind_at m.typed e → is_integer ka ≡ true → RunsAs m z scope ka 0 run ce
@@ -115,22 +104,7 @@ module _ (m : Assignment) (z : Standing) (scope : List Slot) where
       → RunsAs m z scope (binary_result (class_of o) (kind_at m.typed a) (kind_at m.typed b)) 0 (binary_value m.typed at o a b of_a of_b) (λ i r. binary_code ctx i r at o a b (ca i r) (λ i2 r2. cb i2 r2))
   integer_operator_runs LogicalOr a b at of_a of_b ca cb h ia ib ra rb = absurd (cc)
   integer_operator_runs LogicalAnd a b at of_a of_b ca cb h ia ib ra rb = absurd (cc)
-  integer_operator_runs BitOr a b at of_a of_b ca cb h ia ib ra rb = strict_code (is_reference (kind_at m.typed a)) (binary_result (class_of BitOr) (kind_at m.typed a) (kind_at m.typed b)) (binary_value m.typed at BitOr a b of_a of_b) ca cb (λ i r. compare_code BitOr i r) (compute_of BitOr a b at) (integer_is (kind_at m.typed a) ia) (strict_runs BitOr a b at of_a of_b ca cb refl ia ib ra rb)
-  integer_operator_runs BitXor a b at of_a of_b ca cb h ia ib ra rb = strict_code (is_reference (kind_at m.typed a)) (binary_result (class_of BitXor) (kind_at m.typed a) (kind_at m.typed b)) (binary_value m.typed at BitXor a b of_a of_b) ca cb (λ i r. compare_code BitXor i r) (compute_of BitXor a b at) (integer_is (kind_at m.typed a) ia) (strict_runs BitXor a b at of_a of_b ca cb refl ia ib ra rb)
-  integer_operator_runs BitAnd a b at of_a of_b ca cb h ia ib ra rb = strict_code (is_reference (kind_at m.typed a)) (binary_result (class_of BitAnd) (kind_at m.typed a) (kind_at m.typed b)) (binary_value m.typed at BitAnd a b of_a of_b) ca cb (λ i r. compare_code BitAnd i r) (compute_of BitAnd a b at) (integer_is (kind_at m.typed a) ia) (strict_runs BitAnd a b at of_a of_b ca cb refl ia ib ra rb)
-  integer_operator_runs Equal a b at of_a of_b ca cb h ia ib ra rb = strict_code (is_reference (kind_at m.typed a)) (binary_result (class_of Equal) (kind_at m.typed a) (kind_at m.typed b)) (binary_value m.typed at Equal a b of_a of_b) ca cb (λ i r. compare_code Equal i r) (compute_of Equal a b at) (integer_is (kind_at m.typed a) ia) (strict_runs Equal a b at of_a of_b ca cb refl ia ib ra rb)
-  integer_operator_runs NotEqual a b at of_a of_b ca cb h ia ib ra rb = strict_code (is_reference (kind_at m.typed a)) (binary_result (class_of NotEqual) (kind_at m.typed a) (kind_at m.typed b)) (binary_value m.typed at NotEqual a b of_a of_b) ca cb (λ i r. compare_code NotEqual i r) (compute_of NotEqual a b at) (integer_is (kind_at m.typed a) ia) (strict_runs NotEqual a b at of_a of_b ca cb refl ia ib ra rb)
-  integer_operator_runs Less a b at of_a of_b ca cb h ia ib ra rb = strict_code (is_reference (kind_at m.typed a)) (binary_result (class_of Less) (kind_at m.typed a) (kind_at m.typed b)) (binary_value m.typed at Less a b of_a of_b) ca cb (λ i r. compare_code Less i r) (compute_of Less a b at) (integer_is (kind_at m.typed a) ia) (strict_runs Less a b at of_a of_b ca cb refl ia ib ra rb)
-  integer_operator_runs Greater a b at of_a of_b ca cb h ia ib ra rb = strict_code (is_reference (kind_at m.typed a)) (binary_result (class_of Greater) (kind_at m.typed a) (kind_at m.typed b)) (binary_value m.typed at Greater a b of_a of_b) ca cb (λ i r. compare_code Greater i r) (compute_of Greater a b at) (integer_is (kind_at m.typed a) ia) (strict_runs Greater a b at of_a of_b ca cb refl ia ib ra rb)
-  integer_operator_runs LessOrEqual a b at of_a of_b ca cb h ia ib ra rb = strict_code (is_reference (kind_at m.typed a)) (binary_result (class_of LessOrEqual) (kind_at m.typed a) (kind_at m.typed b)) (binary_value m.typed at LessOrEqual a b of_a of_b) ca cb (λ i r. compare_code LessOrEqual i r) (compute_of LessOrEqual a b at) (integer_is (kind_at m.typed a) ia) (strict_runs LessOrEqual a b at of_a of_b ca cb refl ia ib ra rb)
-  integer_operator_runs GreaterOrEqual a b at of_a of_b ca cb h ia ib ra rb = strict_code (is_reference (kind_at m.typed a)) (binary_result (class_of GreaterOrEqual) (kind_at m.typed a) (kind_at m.typed b)) (binary_value m.typed at GreaterOrEqual a b of_a of_b) ca cb (λ i r. compare_code GreaterOrEqual i r) (compute_of GreaterOrEqual a b at) (integer_is (kind_at m.typed a) ia) (strict_runs GreaterOrEqual a b at of_a of_b ca cb refl ia ib ra rb)
-  integer_operator_runs ShiftLeft a b at of_a of_b ca cb h ia ib ra rb = strict_code (is_reference (kind_at m.typed a)) (binary_result (class_of ShiftLeft) (kind_at m.typed a) (kind_at m.typed b)) (binary_value m.typed at ShiftLeft a b of_a of_b) ca cb (λ i r. compare_code ShiftLeft i r) (compute_of ShiftLeft a b at) (integer_is (kind_at m.typed a) ia) (strict_runs ShiftLeft a b at of_a of_b ca cb refl ia ib ra rb)
-  integer_operator_runs ShiftRight a b at of_a of_b ca cb h ia ib ra rb = strict_code (is_reference (kind_at m.typed a)) (binary_result (class_of ShiftRight) (kind_at m.typed a) (kind_at m.typed b)) (binary_value m.typed at ShiftRight a b of_a of_b) ca cb (λ i r. compare_code ShiftRight i r) (compute_of ShiftRight a b at) (integer_is (kind_at m.typed a) ia) (strict_runs ShiftRight a b at of_a of_b ca cb refl ia ib ra rb)
-  integer_operator_runs Add a b at of_a of_b ca cb h ia ib ra rb = strict_code (is_reference (kind_at m.typed a)) (binary_result (class_of Add) (kind_at m.typed a) (kind_at m.typed b)) (binary_value m.typed at Add a b of_a of_b) ca cb (λ i r. compare_code Add i r) (compute_of Add a b at) (integer_is (kind_at m.typed a) ia) (strict_runs Add a b at of_a of_b ca cb refl ia ib ra rb)
-  integer_operator_runs Subtract a b at of_a of_b ca cb h ia ib ra rb = strict_code (is_reference (kind_at m.typed a)) (binary_result (class_of Subtract) (kind_at m.typed a) (kind_at m.typed b)) (binary_value m.typed at Subtract a b of_a of_b) ca cb (λ i r. compare_code Subtract i r) (compute_of Subtract a b at) (integer_is (kind_at m.typed a) ia) (strict_runs Subtract a b at of_a of_b ca cb refl ia ib ra rb)
-  integer_operator_runs Multiply a b at of_a of_b ca cb h ia ib ra rb = strict_code (is_reference (kind_at m.typed a)) (binary_result (class_of Multiply) (kind_at m.typed a) (kind_at m.typed b)) (binary_value m.typed at Multiply a b of_a of_b) ca cb (λ i r. compare_code Multiply i r) (compute_of Multiply a b at) (integer_is (kind_at m.typed a) ia) (strict_runs Multiply a b at of_a of_b ca cb refl ia ib ra rb)
-  integer_operator_runs Divide a b at of_a of_b ca cb h ia ib ra rb = strict_code (is_reference (kind_at m.typed a)) (binary_result (class_of Divide) (kind_at m.typed a) (kind_at m.typed b)) (binary_value m.typed at Divide a b of_a of_b) ca cb (λ i r. compare_code Divide i r) (compute_of Divide a b at) (integer_is (kind_at m.typed a) ia) (strict_runs Divide a b at of_a of_b ca cb refl ia ib ra rb)
-  integer_operator_runs Remainder a b at of_a of_b ca cb h ia ib ra rb = strict_code (is_reference (kind_at m.typed a)) (binary_result (class_of Remainder) (kind_at m.typed a) (kind_at m.typed b)) (binary_value m.typed at Remainder a b of_a of_b) ca cb (λ i r. compare_code Remainder i r) (compute_of Remainder a b at) (integer_is (kind_at m.typed a) ia) (strict_runs Remainder a b at of_a of_b ca cb refl ia ib ra rb)
+  integer_operator_runs k a b at of_a of_b ca cb h ia ib ra rb = strict_code (is_reference (kind_at m.typed a)) (binary_result (class_of k) (kind_at m.typed a) (kind_at m.typed b)) (binary_value m.typed at k a b of_a of_b) ca cb (λ i r. compare_code k i r) (compute_of k a b at) (integer_is (kind_at m.typed a) ia) (strict_runs k a b at of_a of_b ca cb refl ia ib ra rb)
 
   abbrev result_of : BinaryOperator → Expression → Expression → Kind
   result_of o a b = binary_result (class_of o) (kind_at m.typed a) (kind_at m.typed b)
@@ -154,22 +128,9 @@ module _ (m : Assignment) (z : Standing) (scope : List Slot) where
       (tested_runs m z scope (kind_at m.typed a) a of_a ca refl h.0 ra) (tested_runs m z scope (kind_at m.typed b) b of_b cb refl h.1 rb)
   operator_runs LogicalAnd a b at of_a of_b ca cb h ra rb = and_runs m z scope (result_of LogicalAnd a b) (tested m.typed a of_a) (tested m.typed b of_b) (λ i r. ca i r ++ truth_code (is_reference (kind_at m.typed a)) i r) (λ i r. cb i r ++ truth_code (is_reference (kind_at m.typed b)) i r) (result_by (class_of LogicalAnd) (kind_at m.typed a) (kind_at m.typed b))
       (tested_runs m z scope (kind_at m.typed a) a of_a ca refl h.0 ra) (tested_runs m z scope (kind_at m.typed b) b of_b cb refl h.1 rb)
-  operator_runs BitOr a b at of_a of_b ca cb h ra rb = need_more m z scope (result_of BitOr a b) 0 7 (binary_value m.typed at BitOr a b of_a of_b) (λ i r. binary_code ctx i r at BitOr a b (ca i r) (λ i2 r2. cb i2 r2)) (omega arith) (integer_operator_runs BitOr a b at of_a of_b ca cb refl h.0 h.1 ra rb)
-  operator_runs BitXor a b at of_a of_b ca cb h ra rb = need_more m z scope (result_of BitXor a b) 0 7 (binary_value m.typed at BitXor a b of_a of_b) (λ i r. binary_code ctx i r at BitXor a b (ca i r) (λ i2 r2. cb i2 r2)) (omega arith) (integer_operator_runs BitXor a b at of_a of_b ca cb refl h.0 h.1 ra rb)
-  operator_runs BitAnd a b at of_a of_b ca cb h ra rb = need_more m z scope (result_of BitAnd a b) 0 7 (binary_value m.typed at BitAnd a b of_a of_b) (λ i r. binary_code ctx i r at BitAnd a b (ca i r) (λ i2 r2. cb i2 r2)) (omega arith) (integer_operator_runs BitAnd a b at of_a of_b ca cb refl h.0 h.1 ra rb)
   operator_runs Equal a b at of_a of_b ca cb h ra rb = need_more m z scope (result_of Equal a b) 0 7 (binary_value m.typed at Equal a b of_a of_b) (λ i r. binary_code ctx i r at Equal a b (ca i r) (λ i2 r2. cb i2 r2)) (omega arith) (equal_by (is_reference (kind_at m.typed a)) a b at of_a of_b ca cb refl h ra rb)
   operator_runs NotEqual a b at of_a of_b ca cb h ra rb = need_more m z scope (result_of NotEqual a b) 0 7 (binary_value m.typed at NotEqual a b of_a of_b) (λ i r. binary_code ctx i r at NotEqual a b (ca i r) (λ i2 r2. cb i2 r2)) (omega arith) (notequal_by (is_reference (kind_at m.typed a)) a b at of_a of_b ca cb refl h ra rb)
-  operator_runs Less a b at of_a of_b ca cb h ra rb = need_more m z scope (result_of Less a b) 0 7 (binary_value m.typed at Less a b of_a of_b) (λ i r. binary_code ctx i r at Less a b (ca i r) (λ i2 r2. cb i2 r2)) (omega arith) (integer_operator_runs Less a b at of_a of_b ca cb refl h.0 h.1 ra rb)
-  operator_runs Greater a b at of_a of_b ca cb h ra rb = need_more m z scope (result_of Greater a b) 0 7 (binary_value m.typed at Greater a b of_a of_b) (λ i r. binary_code ctx i r at Greater a b (ca i r) (λ i2 r2. cb i2 r2)) (omega arith) (integer_operator_runs Greater a b at of_a of_b ca cb refl h.0 h.1 ra rb)
-  operator_runs LessOrEqual a b at of_a of_b ca cb h ra rb = need_more m z scope (result_of LessOrEqual a b) 0 7 (binary_value m.typed at LessOrEqual a b of_a of_b) (λ i r. binary_code ctx i r at LessOrEqual a b (ca i r) (λ i2 r2. cb i2 r2)) (omega arith) (integer_operator_runs LessOrEqual a b at of_a of_b ca cb refl h.0 h.1 ra rb)
-  operator_runs GreaterOrEqual a b at of_a of_b ca cb h ra rb = need_more m z scope (result_of GreaterOrEqual a b) 0 7 (binary_value m.typed at GreaterOrEqual a b of_a of_b) (λ i r. binary_code ctx i r at GreaterOrEqual a b (ca i r) (λ i2 r2. cb i2 r2)) (omega arith) (integer_operator_runs GreaterOrEqual a b at of_a of_b ca cb refl h.0 h.1 ra rb)
-  operator_runs ShiftLeft a b at of_a of_b ca cb h ra rb = need_more m z scope (result_of ShiftLeft a b) 0 7 (binary_value m.typed at ShiftLeft a b of_a of_b) (λ i r. binary_code ctx i r at ShiftLeft a b (ca i r) (λ i2 r2. cb i2 r2)) (omega arith) (integer_operator_runs ShiftLeft a b at of_a of_b ca cb refl h.0 h.1 ra rb)
-  operator_runs ShiftRight a b at of_a of_b ca cb h ra rb = need_more m z scope (result_of ShiftRight a b) 0 7 (binary_value m.typed at ShiftRight a b of_a of_b) (λ i r. binary_code ctx i r at ShiftRight a b (ca i r) (λ i2 r2. cb i2 r2)) (omega arith) (integer_operator_runs ShiftRight a b at of_a of_b ca cb refl h.0 h.1 ra rb)
-  operator_runs Add a b at of_a of_b ca cb h ra rb = need_more m z scope (result_of Add a b) 0 7 (binary_value m.typed at Add a b of_a of_b) (λ i r. binary_code ctx i r at Add a b (ca i r) (λ i2 r2. cb i2 r2)) (omega arith) (integer_operator_runs Add a b at of_a of_b ca cb refl h.0 h.1 ra rb)
-  operator_runs Subtract a b at of_a of_b ca cb h ra rb = need_more m z scope (result_of Subtract a b) 0 7 (binary_value m.typed at Subtract a b of_a of_b) (λ i r. binary_code ctx i r at Subtract a b (ca i r) (λ i2 r2. cb i2 r2)) (omega arith) (integer_operator_runs Subtract a b at of_a of_b ca cb refl h.0 h.1 ra rb)
-  operator_runs Multiply a b at of_a of_b ca cb h ra rb = need_more m z scope (result_of Multiply a b) 0 7 (binary_value m.typed at Multiply a b of_a of_b) (λ i r. binary_code ctx i r at Multiply a b (ca i r) (λ i2 r2. cb i2 r2)) (omega arith) (integer_operator_runs Multiply a b at of_a of_b ca cb refl h.0 h.1 ra rb)
-  operator_runs Divide a b at of_a of_b ca cb h ra rb = need_more m z scope (result_of Divide a b) 0 7 (binary_value m.typed at Divide a b of_a of_b) (λ i r. binary_code ctx i r at Divide a b (ca i r) (λ i2 r2. cb i2 r2)) (omega arith) (integer_operator_runs Divide a b at of_a of_b ca cb refl h.0 h.1 ra rb)
-  operator_runs Remainder a b at of_a of_b ca cb h ra rb = need_more m z scope (result_of Remainder a b) 0 7 (binary_value m.typed at Remainder a b of_a of_b) (λ i r. binary_code ctx i r at Remainder a b (ca i r) (λ i2 r2. cb i2 r2)) (omega arith) (integer_operator_runs Remainder a b at of_a of_b ca cb refl h.0 h.1 ra rb)
+  operator_runs k a b at of_a of_b ca cb h ra rb = need_more m z scope (result_of k a b) 0 7 (binary_value m.typed at k a b of_a of_b) (λ i r. binary_code ctx i r at k a b (ca i r) (λ i2 r2. cb i2 r2)) (omega arith) (integer_operator_runs k a b at of_a of_b ca cb refl h.0 h.1 ra rb)
 
   -- ---- what is taken
   code_same : (kind : Kind) (need : ℕ) (run : Run ℤ) (A B : ℕ → ℕ → List Op) → ((i r : ℕ) → A i r ≡ B i r) → RunsAs m z scope kind need run A → RunsAs m z scope kind need run B
@@ -180,10 +141,7 @@ module _ (m : Assignment) (z : Standing) (scope : List Slot) where
       → is_reference ka ≡ true → ((o : Option ℕ) → take_kind_of (form o) ≡ kind) → ((x : ℕ) → variable_of (form (Some x)) ≡ x)
       → RunsAs m z scope ka 3 (temporarily (run >>= λ p. taken_from m.typed token site mode kind p)) (λ i r. pcode i r ++ take_code ctx i r site lvalue mode form t)
   take_by (targets.variable x) ka run pcode token site lvalue mode form kind h found er ek ex = take_variable_runs m z scope ka x 0 run pcode token site lvalue mode form kind (beside_field m.typed mode) found h er (ek (Some x)) (ex x)
-  take_by (in_global g f) ka run pcode token site lvalue mode form kind h found er ek ex = take_cell_runs m z scope ka (in_global g f) 0 run pcode token site lvalue mode form kind found refl h er (ek None)
-  take_by (in_global_at g f) ka run pcode token site lvalue mode form kind h found er ek ex = take_cell_runs m z scope ka (in_global_at g f) 0 run pcode token site lvalue mode form kind found refl h er (ek None)
-  take_by (in_object f) ka run pcode token site lvalue mode form kind h found er ek ex = take_cell_runs m z scope ka (in_object f) 0 run pcode token site lvalue mode form kind found refl h er (ek None)
-  take_by (in_object_at f) ka run pcode token site lvalue mode form kind h found er ek ex = take_cell_runs m z scope ka (in_object_at f) 0 run pcode token site lvalue mode form kind found refl h er (ek None)
+  take_by k ka run pcode token site lvalue mode form kind h found er ek ex = take_cell_runs m z scope ka k 0 run pcode token site lvalue mode form kind found refl h er (ek None)
 
   cast_expression_runs : (kc : Kind) (s : Span) (a : Expression) (run : Run StorePlace) (pcode : ℕ → ℕ → List Op) → is_reference kc ≡ true → TakeSuits ctx (mode_in m a) (target m.typed None a) → is_reference (kind_at m.typed a) ≡ true
       → PathStands m.typed scope (pointed m (Some (cast_row m.typed s))) → PlaceAs m z scope (target m.typed None a) None (beside_field m.typed (mode_in m a)) 0 run pcode
@@ -319,13 +277,7 @@ module _ (m : Assignment) (z : Standing) (scope : List Slot) where
 
       pub place_runs : (e : Expression) (site : Site) (f guard : Option ℕ) → PlaceSuits ctx e → PlaceAs m z scope (target m.typed f e) f guard 0 (P site e) (L site f guard e)
       place_runs (identifier s x) site f guard h = entered_place m z scope (targets.named_target (N x.site.token) (own_field f 0)) f guard 7 (give (place_named (N x.site.token))) (λ i r. []) (omega arith) (named_place_runs f guard (N x.site.token))
-      place_runs (constant s k) site f guard h = none_runs f guard
       place_runs (parentheses s a) site f guard h = entered_place m z scope (target m.typed f a) f guard 0 (P site a) (L site f guard a) (omega arith) (place_runs a site f guard h)
-      place_runs (call s g all) site f guard h = none_runs f guard
-      place_runs (spawn s g a) site f guard h = none_runs f guard
-      place_runs (on_value s w a) site f guard h = none_runs f guard
-      place_runs (on_place s w a) site f guard h = none_runs f guard
-      place_runs (cast s t a) site f guard h = none_runs f guard
       place_runs (index s a x) site f guard h = entered_place m z scope (target m.typed f (index s a x)) f guard 0 (at_index site a x) (index_op site f guard a x) (omega arith)
           (index_by (is_array (K a)) a f guard site (K x) (P site a) (E a) (E x) (L site None None a) (X a) (X x) (PlaceSuits ctx a) (Suits ctx a) h.0 h.2 (λ w. place_runs a site None None w) (λ w. eval_runs a w) (eval_runs x h.1))
       place_runs (field s a Dot x) site f guard h = entered_place m z scope (target m.typed (Some (own_field f (field_place_named m.typed (N x.site.token)))) a) f guard 0 (P site a >>= λ p. give (field_in (field_place_named m.typed (N x.site.token)) p)) (L site (Some (own_field f (field_place_named m.typed (N x.site.token)))) guard a) (omega arith)
@@ -333,9 +285,6 @@ module _ (m : Assignment) (z : Standing) (scope : List Slot) where
           (place_runs a site (Some (own_field f (field_place_named m.typed (N x.site.token)))) guard h))
       place_runs (field s a Arrow x) site f guard h = entered_place m z scope (in_object (own_field f (field_place_named m.typed (N x.site.token)))) f guard 1 (arrow site a (field_place_named m.typed (N x.site.token))) (λ i r. pointee_code r site (X a i r)) (omega arith)
           (arrow_runs m z scope (K a) f guard (field_place_named m.typed (N x.site.token)) site (E a) (X a) h.1 (eval_runs a h.0))
-      place_runs (unary s Negate a) site f guard h = none_runs f guard
-      place_runs (unary s Not a) site f guard h = none_runs f guard
-      place_runs (unary s Complement a) site f guard h = none_runs f guard
       place_runs (unary s Dereference a) site f guard h = entered_place m z scope (in_object (own_field f 0)) f guard 1 (pointee_place m.typed site a (E a)) (λ i r. pointee_code r site (X a i r)) (omega arith)
           (pointee_place_runs m z scope (K a) f guard site (E a) (X a) h.1 (eval_runs a h.0))
-      place_runs (binary s o at a b) site f guard h = none_runs f guard
+      place_runs _ site f guard h = none_runs f guard

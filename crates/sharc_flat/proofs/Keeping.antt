@@ -5,7 +5,7 @@ use Rattle.sharc_names.specs.Kinds.{Kind, declared_kind}
 use Rattle.sharc_code.specs.{declared.instr.Register.Register, declared.instr.Register.TheVariants.{Int, Reference}, declared.code.GlobalCells.GlobalCells}
 use Rattle.sharc_meaning.specs.State.{is_reference}
 use Rattle.sharc_mode.specs.{Cells.pointed, Moded.Assignment, Rows.{written, row_at, declared_row}, Sharings.{Sharing, private}}
-use Rattle.sharc_flat.specs.{declared.op.Op.Op, declared.slot.Lvalue.Lvalue, Scope.{ref_count, Context, register_from, register_of, at_site, pops, ends_from, leaves}, declared.slot.Slot.Slot, Places.{Target, variable, in_global, in_global_at, in_object, in_object_at, base_width, index_width, guard_field, guard_code, drop_base, settle_code, cell_store_code, store_code, width_code}, Flattened.{kind_of, is_ref, target_of, mode_of, guard_of, drop_code, truth_code, expression_code, place_code, elements_code, right_code, simple_code, with_variable, ints_of, refs_of, zero_code, initial_code, local_code, first_code, behind_first, step_code, test_code, turn_code, Around, opened, looping, jump_code, result_code, return_code, if_code, sides_code, choice_code, turns_code, body_at, loop_code, behind_statement, behind_statements, statement_code, statements_code, in_function, around_body, function_code, lvalue_in, declared_lvalue}, Suits.IfThere}
+use Rattle.sharc_flat.specs.{declared.op.Op.Op, declared.slot.Lvalue.Lvalue, Scope.{ref_count, Context, register_from, register_of, at_site, pops, ends_from, leaves}, declared.slot.Slot.Slot, Places.{Target, variable, base_width, index_width, guard_field, guard_code, drop_base, settle_code, cell_store_code, store_code, width_code}, Flattened.{kind_of, is_ref, target_of, mode_of, guard_of, drop_code, truth_code, expression_code, place_code, elements_code, right_code, simple_code, with_variable, ints_of, refs_of, zero_code, initial_code, local_code, first_code, behind_first, step_code, test_code, turn_code, Around, opened, looping, jump_code, result_code, return_code, if_code, sides_code, choice_code, turns_code, body_at, loop_code, behind_statement, behind_statements, statement_code, statements_code, in_function, around_body, function_code, lvalue_in, declared_lvalue}, Suits.IfThere}
 use Rattle.sharc_flat.specs.declared.op.Op.TheVariants as op
 use Rattle.sharc_ctype.specs.Resolved.{Resolution}
 use Rattle.sharc_flat.proofs.Staying.{Knows, KnowsPlace, OpStays, Stays, joins, choose, guards, drops_base, widths_stay, truths_stay, expressions_stay, places_stay}
@@ -76,21 +76,12 @@ named_below (x ∷ rest) i r token n e = by (x.token == token) x.is_pointer (nam
 
 -- what comes after is of the same program
 behind_known : (P : Resolution → Type 0) (c : Context) (f : First) → P c.program.typed → P (behind_first c f).program.typed
-behind_known P c nothing h = h
-behind_known P c (declares l) h = h
 behind_known P c (does x) h = h
+behind_known P c _ h = h
 
 after_known : (P : Resolution → Type 0) (c : Context) (x : Statement) → P c.program.typed → P (behind_statement c x).program.typed
-after_known P c (declare s l) h = h
 after_known P c (empty s) h = h
-after_known P c (block s all) h = h
-after_known P c (simple s y) h = h
-after_known P c (jump s j) h = h
-after_known P c (return s e) h = h
-after_known P c (if_then s e y) h = h
-after_known P c (if_then_else s e y z) h = h
-after_known P c (while s e y) h = h
-after_known P c (for s hd y) h = h
+after_known P c _ h = h
 
 module _ (A Fn : ℕ → Type 0) where
   abbrev S : List Op → Type 0
@@ -117,10 +108,7 @@ module _ (A Fn : ℕ → Type 0) where
 
   stores : (c : Context) (i r vi vr : ℕ) (site : Site) (lvalue : Lvalue) (mode : Sharing) (b : Bool) (t : Target) → ref_count c.scope ≤ vr → S (store_code c i r vi vr site lvalue mode b t)
   stores c i r vi vr site lvalue mode b (variable x) le = settles vi vr (register_of c.scope x) (λ n e. let lt = named_below c.scope 0 0 x n e in omega arith)
-  stores c i r vi vr site lvalue mode b (in_global g f) le = cell_stores c i r vi vr site lvalue mode b (in_global g f)
-  stores c i r vi vr site lvalue mode b (in_global_at g f) le = cell_stores c i r vi vr site lvalue mode b (in_global_at g f)
-  stores c i r vi vr site lvalue mode b (in_object f) le = cell_stores c i r vi vr site lvalue mode b (in_object f)
-  stores c i r vi vr site lvalue mode b (in_object_at f) le = cell_stores c i r vi vr site lvalue mode b (in_object_at f)
+  stores c i r vi vr site lvalue mode b k le = cell_stores c i r vi vr site lvalue mode b k
 
   counts : (c : Context) (i r : ℕ) (n : Option Expression) → IfThere (Knows Fn c.program.typed) n → S (elements_code c i r n)
   counts c i r None h = (tt, tt)

@@ -1,6 +1,6 @@
 -- What a program that suits says of its calls: each names a function. And break and continue are in loops.
 use Rattle.std.proofs.Common.{◌≡◌, ℕ, zero, suc, Bool, true, false, List, [], ◌∷◌, Option, Some, None}
-use Rattle.sharc_tree.specs.{declared.tree.expression.FieldOperator.FieldOperator, declared.tree.expression.FieldOperator.TheVariants.{Dot, Arrow}, declared.tree.expression.UnaryOperator.TheVariants.{Negate, Not, Complement, Dereference}, declared.tree.declaration.Declaration.Declaration, Tree.{Expression, identifier, constant, parentheses, call, spawn, on_value, on_place, cast, index, field, unary, binary, Arguments, no_arguments, argument, Right, value, malloc, Simple, assign, does_call, First, nothing, declares, does, Statement, empty, block, declare, simple, jump, return, if_then, if_then_else, while, for, Statements, no_statements, statement, Function}}
+use Rattle.sharc_tree.specs.{declared.tree.expression.FieldOperator.FieldOperator, declared.tree.expression.FieldOperator.TheVariants.{Dot, Arrow}, declared.tree.expression.UnaryOperator.TheVariants.{Negate, Not, Complement, Dereference}, declared.tree.declaration.Declaration.Declaration, Tree.{Expression, parentheses, call, spawn, on_value, on_place, cast, index, field, unary, binary, Arguments, no_arguments, argument, Right, value, malloc, Simple, assign, does_call, First, nothing, declares, does, Statement, empty, block, declare, simple, jump, return, if_then, if_then_else, while, for, Statements, no_statements, statement, Function}}
 use Rattle.sharc_names.specs.{declared.fault.Named.Named, Kinds.{Kind, is_array, declared_kind}}
 use Rattle.sharc_names.specs.declared.fault.Named.TheVariants as named
 use Rattle.sharc_ctype.specs.Resolved.{Resolution, function_at, kind_at, named_at}
@@ -16,10 +16,7 @@ module _ (F : ℕ → Type 0) where
   call_know : (c : Context) → Known c → (kind : Kind) (what : Named) (arguments : List Kind → Type 0) (known X : Type 0) → CallSuits c kind what arguments known → ((kinds : List Kind) → arguments kinds → X) → (known → X) → KnownName F what × X
   call_know c k kind (named.Function n) arguments known X h f g = (k n h.0 h.1, f _ h.3)
   call_know c k kind named.Known arguments known X h f g = (tt, g h.0)
-  call_know c k kind (named.Struct n) arguments known X h f g = absurd h
-  call_know c k kind (named.Global n) arguments known X h f g = absurd h
-  call_know c k kind (named.Variable n) arguments known X h f g = absurd h
-  call_know c k kind (named.Field n) arguments known X h f g = absurd h
+  call_know c k kind _ arguments known X h f g = absurd h
 
   field_know : {A B X Y : Type 0} (c : Context) (w : FieldOperator) (a : Expression) → FieldSuits c w a A B → (A → X) → (B → Y) → ByAccess w X Y
   field_know c Dot a h f g = f h
@@ -27,8 +24,6 @@ module _ (F : ℕ → Type 0) where
 
   mutual
     suits_know : (c : Context) → Known c → (e : Expression) → Suits c e → Knows F c.program.typed e
-    suits_know c k (identifier s x) h = tt
-    suits_know c k (constant s x) h = tt
     suits_know c k (parentheses s a) h = suits_know c k a h
     suits_know c k (call s f all) h = call_know c k _ (named_at c.program.typed f.site.token) _ _ (KnowsAll F c.program.typed all) h (λ kinds w. arguments_know c k kinds all w) (λ w. references_know c k _ all w)
     suits_know c k (spawn s f a) h = suits_know c k a h.0
@@ -42,6 +37,7 @@ module _ (F : ℕ → Type 0) where
     suits_know c k (unary s Complement a) h = suits_know c k a h.0
     suits_know c k (unary s Dereference a) h = suits_know c k a h.0
     suits_know c k (binary s o at a b) h = (suits_know c k a h.0, suits_know c k b h.1)
+    suits_know c k _ h = tt
 
     arguments_know : (c : Context) → Known c → (kinds : List Kind) (all : Arguments) → ArgumentsSuit c kinds all → KnowsAll F c.program.typed all
     arguments_know c k [] no_arguments h = tt
@@ -56,21 +52,11 @@ module _ (F : ℕ → Type 0) where
     references_know c k (suc n) (argument a rest) h = (suits_know c k a h.0, references_know c k n rest h.2)
 
     places_know : (c : Context) → Known c → (e : Expression) → PlaceSuits c e → KnowsPlace F c.program.typed e
-    places_know c k (identifier s x) h = tt
-    places_know c k (constant s x) h = tt
     places_know c k (parentheses s a) h = places_know c k a h
-    places_know c k (call s f all) h = tt
-    places_know c k (spawn s f a) h = tt
-    places_know c k (on_value s w a) h = tt
-    places_know c k (on_place s w a) h = tt
-    places_know c k (cast s t a) h = tt
     places_know c k (index s a n) h = (either_map (is_array (kind_at c.program.typed a)) (λ w. places_know c k a w.0) (λ w. suits_know c k a w.0) h.0, suits_know c k n h.1)
     places_know c k (field s a w n) h = field_know c w a h (λ w. places_know c k a w) (λ w. suits_know c k a w)
-    places_know c k (unary s Negate a) h = tt
-    places_know c k (unary s Not a) h = tt
-    places_know c k (unary s Complement a) h = tt
     places_know c k (unary s Dereference a) h = suits_know c k a h.0
-    places_know c k (binary s o at a b) h = tt
+    places_know c k _ h = tt
 
   count_know : (c : Context) → Known c → (n : Option Expression) → CountSuits c n → IfThere (Knows F c.program.typed) n
   count_know c k None h = tt
@@ -104,52 +90,31 @@ module _ (F : ℕ → Type 0) where
   -- after what comes first in the head of a `for` the program is the same
   loops_in : (c : Context) (f : First) (b : Bool) (test : Option Expression) (step : Option Simple) → Known c → IfThere (TestSuits (in_first c f)) test → IfThere (SimpleSuits (in_first c f)) step
       → IfThere (Knows F c.program.typed) test × IfThere (KnowsSimple F c.program.typed) step
-  loops_in c nothing b test step k t h = (test_know c k test t, step_know c k step h)
   loops_in c (declares l) b test step k t h = (test_know (behind_declaration c l.declaration) k test t, step_know (behind_declaration c l.declaration) k step h)
-  loops_in c (does x) b test step k t h = (test_know c k test t, step_know c k step h)
+  loops_in c _ b test step k t h = (test_know c k test t, step_know c k step h)
 
   first_known : (c : Context) (f : First) → Known c → Known (in_first c f)
-  first_known c nothing k = k
-  first_known c (declares l) k = k
   first_known c (does x) k = k
+  first_known c _ k = k
 
   first_back : (P : Resolution → Type 0) (c : Context) (f : First) → P (in_first c f).program.typed → P c.program.typed
-  first_back P c nothing h = h
-  first_back P c (declares l) h = h
   first_back P c (does x) h = h
+  first_back P c _ h = h
 
   statement_known : (c : Context) (x : Statement) → Known c → Known (in_statement c x)
-  statement_known c (declare s l) k = k
   statement_known c (empty s) k = k
-  statement_known c (block s all) k = k
-  statement_known c (simple s y) k = k
-  statement_known c (jump s j) k = k
-  statement_known c (return s e) k = k
-  statement_known c (if_then s e y) k = k
-  statement_known c (if_then_else s e y z) k = k
-  statement_known c (while s e y) k = k
-  statement_known c (for s hd y) k = k
+  statement_known c _ k = k
 
   statement_back : (P : Resolution → Type 0) (c : Context) (x : Statement) → P (in_statement c x).program.typed → P c.program.typed
-  statement_back P c (declare s l) h = h
   statement_back P c (empty s) h = h
-  statement_back P c (block s all) h = h
-  statement_back P c (simple s y) h = h
-  statement_back P c (jump s j) h = h
-  statement_back P c (return s e) h = h
-  statement_back P c (if_then s e y) h = h
-  statement_back P c (if_then_else s e y z) h = h
-  statement_back P c (while s e y) h = h
-  statement_back P c (for s hd y) h = h
+  statement_back P c _ h = h
 
   mutual
     pub loops_of : (c : Context) → Known c → (result : Kind) (b : Bool) (x : Statement) → StatementSuits c result b x → InLoops F c.program.typed b x
-    loops_of c k result b (empty s) h = tt
     loops_of c k result b (block s all) h = all_loops c k result b all h
     loops_of c k result b (declare s l) h = initial_know c k l.declaration l.initial h
     loops_of c k result b (simple s x) h = simple_know c k x h
     loops_of c k result b (jump s j) h = h
-    loops_of c k result b (return s None) h = tt
     loops_of c k result b (return s (Some e)) h = suits_know c k e h.0
     loops_of c k result b (if_then s e x) h = (suits_know c k e h.0.0, loops_of c k result b x h.1)
     loops_of c k result b (if_then_else s e x y) h = (suits_know c k e h.0.0, loops_of c k result b x h.1, loops_of c k result b y h.2)
@@ -157,6 +122,7 @@ module _ (F : ℕ → Type 0) where
     loops_of c k result b (for s hd x) h =
         let w = loops_in c hd.first b hd.test hd.step k h.1 h.2 in
         (first_know c k hd.first h.0, w.0, w.1, first_back (λ r. InLoops F r true x) c hd.first (loops_of (in_first c hd.first) (first_known c hd.first k) result true x h.3))
+    loops_of c k result b _ h = tt
 
     pub all_loops : (c : Context) → Known c → (result : Kind) (b : Bool) (all : Statements) → StatementsSuit c result b all → InLoopsAll F c.program.typed b all
     all_loops c k result b no_statements h = tt

@@ -37,53 +37,14 @@ module _ (flat : Flat) (lines : List Op) (functions : List Row) (count : length 
   same_take lv lk r x spot m false = refl
 
   same_op : (lv lk : Text) (o : Op) (m : At) → op_turn made (with_texts lv lk o) m ≡ op_turn flat o m
-  same_op lv lk op.Enter m = refl
-  same_op lv lk (op.Constant i v) m = refl
-  same_op lv lk (op.Move i from) m = refl
   same_op lv lk (op.Compute width o i a b spot) m = same_result lv lk i spot m (computed width o (int m a) (int m b))
   same_op lv lk (op.Negate width i a spot) m = same_result lv lk i spot m (negated width (int m a))
-  same_op lv lk (op.Complement i a) m = refl
-  same_op lv lk (op.IsFalse i a) m = refl
-  same_op lv lk (op.SameReference i a b) m = refl
-  same_op lv lk (op.ChkWidth width i spot) m = refl
-  same_op lv lk (op.Skip n) m = refl
-  same_op lv lk (op.SkipIfZero i n) m = refl
-  same_op lv lk (op.SkipIfNull r n) m = refl
-  same_op lv lk (op.Jump to) m = refl
   same_op lv lk (op.Call f ints refs spot) m = ap (λ pc. cond (nat_lt (length m.frames) 255) (goes (record m { pc = pc; int_base = m.int_base + ints; ref_base = m.ref_base + refs; frames = record { pc = m.pc + 1; ints = m.int_base; refs = m.ref_base } ∷ m.frames })) (stops traps.CallDepth spot)) (entries f)
   same_op lv lk (op.Return spot) m = same_return lv lk spot m m.frames
-  same_op lv lk op.BlockEnd m = refl
-  same_op lv lk (op.Null r) m = refl
-  same_op lv lk (op.Local r x) m = refl
-  same_op lv lk (op.MoveReference r from) m = refl
-  same_op lv lk (op.Pop r) m = refl
-  same_op lv lk (op.Settle x from) m = refl
-  same_op lv lk (op.ChkNull r spot) m = refl
-  same_op lv lk (op.ChkPositive i spot) m = refl
-  same_op lv lk (op.ChkHeld cell spot) m = refl
-  same_op lv lk (op.ChkNotHeld cell spot) m = refl
-  same_op lv lk (op.ChkRoom spot) m = refl
   same_op lv lk (op.Bounds i r cells field spot) m = same_index lv lk i cells field (elements_of (ref m r)) spot m (int m i)
   same_op lv lk (op.GlobalBounds i elements cells field spot) m = same_index lv lk i cells field elements spot m (int m i)
-  same_op lv lk (op.Load i cell spot) m = refl
-  same_op lv lk (op.Store i cell spot) m = refl
-  same_op lv lk (op.LoadRef r cell spot) m = refl
-  same_op lv lk (op.StoreRef r cell spot) m = refl
-  same_op lv lk (op.LoadGuard cell spot) m = refl
-  same_op lv lk (op.New r count cells spot) m = refl
-  same_op lv lk (op.TakeCell r cell spot) m = refl
   same_op lv lk (op.TakeLocal r x spot) m = same_take lv lk r x spot m (is_null (ref m x))
-  same_op lv lk (op.Give r cells spot) m = refl
-  same_op lv lk (op.Free r layout spot) m = refl
-  same_op lv lk (op.Lock cell spot) m = refl
-  same_op lv lk (op.Unlock r cell spot) m = refl
-  same_op lv lk (op.CondEnter cell spot) m = refl
-  same_op lv lk (op.CondWait cell spot) m = refl
-  same_op lv lk (op.CondSignal cell spot) m = refl
-  same_op lv lk (op.CondBroadcast cell spot) m = refl
-  same_op lv lk (op.Spawn i f from spot) m = refl
-  same_op lv lk (op.Join i spot) m = refl
-  same_op lv lk (op.Print i spot) m = refl
+  same_op lv lk _ m = refl
 
   module _ (r : Resolution) (bytes : List ℕ) (sites : (f : ℕ) → (slice_index_or functions f no_function).site ≡ (function_of flat f).site) where
     same_end : (m : At) (n k : ℕ) → n ≡ k → end_turn made m n ≡ end_turn flat m k
@@ -118,14 +79,11 @@ same_length r bytes (o ∷ os) (p ∷ ps) h = ap suc (same_length r bytes os ps 
 -- rows that differ in their names alone
 pub rows_same : {A : Type 0} (of : Row → A) → ((row : Row) (name : Text) → of (record row { name = name }) ≡ of row) → (bytes : List ℕ) (xs ys : List Row) (ns : List (List ℕ)) → AreNamed bytes xs ns ys → (f : ℕ) → of (slice_index_or ys f no_function) ≡ of (slice_index_or xs f no_function)
 rows_same of h bytes [] [] [] a f = refl
-rows_same of h bytes [] [] (n ∷ ns) a f = absurd a
 rows_same of h bytes [] (y ∷ ys) [] a f = absurd a
-rows_same of h bytes [] (y ∷ ys) (n ∷ ns) a f = absurd a
 rows_same of h bytes (x ∷ xs) [] [] a f = absurd a
-rows_same of h bytes (x ∷ xs) [] (n ∷ ns) a f = absurd a
-rows_same of h bytes (x ∷ xs) (y ∷ ys) [] a f = absurd a
 rows_same of h bytes (x ∷ xs) (y ∷ ys) (n ∷ ns) a zero = ap of a.0.is ∙ h x a.0.name_at
 rows_same of h bytes (x ∷ xs) (y ∷ ys) (n ∷ ns) a (suc f) = rows_same of h bytes xs ys ns a.1 f
+rows_same of h bytes _ _ _ a f = absurd a
 
 same_as : (c d : Came) (a : Asked) → d ≡ c → SameAs c a → SameAs d a
 same_as c d a e h = subst (λ d. SameAs d a) (sym e) h

@@ -7,12 +7,9 @@ use Rattle.sharc_ctype.specs.Resolved.{Resolution, functions_in}
 use Rattle.sharc_mode.specs.Moded.{Assignment}
 use Rattle.sharc_flat.specs.{declared.flat.Flat.{Flat as FlatCode}, declared.op.Op.Op, declared.op.Spot.Spot, Framed.{HasParameter, IsInGlobal, OpWrites, InLine, OpLeads, IsFramedAt, IsFramed, Leads, IsFlat}, Machine.{Flat, function_of}, Made.flat_of, Correct.ProgramSuits, Flattened.flattened, Flattens.{Flattens, names_of}, Laid.{told_by, with_texts, AreLaid, AreNamed, Lays}, Laws.{FitsFrames, FitsMade}, Tables.globals_of}
 use Rattle.sharc_flat.specs.declared.op.Op.TheVariants as op
-use Rattle.sharc_flat.proofs.{Apart.apart, Flattening.is_flattened, Framed.flattened_is_framed, Laying.{same_length, rows_same}}
+use Rattle.sharc_flat.proofs.{Apart.apart, Flattening.is_flattened, Framed.{flattened_is_framed, some_same as one_line}, Laying.{same_length, rows_same}}
 
 -- ---- lines
-one_line : (o p : Op) → Some o ≡ Some p → o ≡ p
-one_line o p e = cc
-
 -- a line that is made is one that is given, with other texts
 record Told (told : List Op) (n : ℕ) (p : Op) : Type 0 where
   told_op : Op
@@ -41,75 +38,24 @@ laid_at r bytes (x ∷ os) (q ∷ ps) h zero o at = record { lvalue = h.0.lvalue
 laid_at r bytes (x ∷ os) (q ∷ ps) h (suc n) o at = let w = laid_at r bytes os ps h.1 n o at in record { lvalue = w.lvalue; lock = w.lock; at = w.at }
 
 writes_made : (lv lk : Text) (most_i most_r : ℕ) (o : Op) → OpWrites most_i most_r o → OpWrites most_i most_r (with_texts lv lk o)
-writes_made lv lk most_i most_r op.Enter h = h
-writes_made lv lk most_i most_r (op.Constant i v) h = h
-writes_made lv lk most_i most_r (op.Move i from) h = h
-writes_made lv lk most_i most_r (op.Compute width o i a b spot) h = h
-writes_made lv lk most_i most_r (op.Negate width i a spot) h = h
-writes_made lv lk most_i most_r (op.Complement i a) h = h
-writes_made lv lk most_i most_r (op.IsFalse i a) h = h
-writes_made lv lk most_i most_r (op.SameReference i a b) h = h
-writes_made lv lk most_i most_r (op.ChkWidth width i spot) h = h
-writes_made lv lk most_i most_r (op.Skip n) h = h
-writes_made lv lk most_i most_r (op.SkipIfZero i n) h = h
-writes_made lv lk most_i most_r (op.SkipIfNull r n) h = h
-writes_made lv lk most_i most_r (op.Jump to) h = h
-writes_made lv lk most_i most_r (op.Call f ints refs spot) h = h
-writes_made lv lk most_i most_r (op.Return spot) h = h
-writes_made lv lk most_i most_r op.BlockEnd h = h
-writes_made lv lk most_i most_r (op.Null r) h = h
-writes_made lv lk most_i most_r (op.Local r x) h = h
-writes_made lv lk most_i most_r (op.MoveReference r from) h = h
 writes_made lv lk most_i most_r (op.Pop r) h = h
-writes_made lv lk most_i most_r (op.Settle x from) h = h
-writes_made lv lk most_i most_r (op.ChkNull r spot) h = h
-writes_made lv lk most_i most_r (op.ChkPositive i spot) h = h
-writes_made lv lk most_i most_r (op.ChkHeld cell spot) h = h
-writes_made lv lk most_i most_r (op.ChkNotHeld cell spot) h = h
-writes_made lv lk most_i most_r (op.ChkRoom spot) h = h
-writes_made lv lk most_i most_r (op.Bounds i r cells field spot) h = h
-writes_made lv lk most_i most_r (op.GlobalBounds i elements cells field spot) h = h
-writes_made lv lk most_i most_r (op.Load i cell spot) h = h
-writes_made lv lk most_i most_r (op.Store i cell spot) h = h
-writes_made lv lk most_i most_r (op.LoadRef r cell spot) h = h
-writes_made lv lk most_i most_r (op.StoreRef r cell spot) h = h
-writes_made lv lk most_i most_r (op.LoadGuard cell spot) h = h
-writes_made lv lk most_i most_r (op.New r count cells spot) h = h
-writes_made lv lk most_i most_r (op.TakeCell r cell spot) h = h
-writes_made lv lk most_i most_r (op.TakeLocal r x spot) h = h
-writes_made lv lk most_i most_r (op.Give r cells spot) h = h
-writes_made lv lk most_i most_r (op.Free r layout spot) h = h
-writes_made lv lk most_i most_r (op.Lock cell spot) h = h
-writes_made lv lk most_i most_r (op.Unlock r cell spot) h = h
-writes_made lv lk most_i most_r (op.CondEnter cell spot) h = h
-writes_made lv lk most_i most_r (op.CondWait cell spot) h = h
-writes_made lv lk most_i most_r (op.CondSignal cell spot) h = h
-writes_made lv lk most_i most_r (op.CondBroadcast cell spot) h = h
-writes_made lv lk most_i most_r (op.Spawn i f from spot) h = h
-writes_made lv lk most_i most_r (op.Join i spot) h = h
-writes_made lv lk most_i most_r (op.Print i spot) h = h
+writes_made lv lk most_i most_r _ h = h
 
 -- ---- rows
 folds_same : (of : Row → ℕ) → ((row : Row) (name : Text) → of (record row { name = name }) ≡ of row) → (bytes : List ℕ) (xs ys : List Row) (ns : List (List ℕ)) → AreNamed bytes xs ns ys → (a : ℕ)
     → fold (λ most f. max most (of f)) a ys ≡ fold (λ most f. max most (of f)) a xs
 folds_same of h bytes [] [] [] e a = refl
-folds_same of h bytes [] [] (n ∷ ns) e a = absurd e
 folds_same of h bytes [] (y ∷ ys) [] e a = absurd e
-folds_same of h bytes [] (y ∷ ys) (n ∷ ns) e a = absurd e
 folds_same of h bytes (x ∷ xs) [] [] e a = absurd e
-folds_same of h bytes (x ∷ xs) [] (n ∷ ns) e a = absurd e
-folds_same of h bytes (x ∷ xs) (y ∷ ys) [] e a = absurd e
 folds_same of h bytes (x ∷ xs) (y ∷ ys) (n ∷ ns) e a = ap (λ (k : ℕ). fold (λ most f. max most (of f)) (max a k) ys) (ap of e.0.is ∙ h x e.0.name_at) ∙ folds_same of h bytes xs ys ns e.1 (max a (of x))
+folds_same of h bytes _ _ _ e a = absurd e
 
 as_many : (bytes : List ℕ) (xs ys : List Row) (ns : List (List ℕ)) → AreNamed bytes xs ns ys → length xs ≡ length ys
 as_many bytes [] [] [] e = refl
-as_many bytes [] [] (n ∷ ns) e = absurd e
 as_many bytes [] (y ∷ ys) [] e = absurd e
-as_many bytes [] (y ∷ ys) (n ∷ ns) e = absurd e
 as_many bytes (x ∷ xs) [] [] e = absurd e
-as_many bytes (x ∷ xs) [] (n ∷ ns) e = absurd e
-as_many bytes (x ∷ xs) (y ∷ ys) [] e = absurd e
 as_many bytes (x ∷ xs) (y ∷ ys) (n ∷ ns) e = ap suc (as_many bytes xs ys ns e.1)
+as_many bytes _ _ _ e = absurd e
 
 parameter_made : (x y : Row) (p : Parameter) → y.ints ≡ x.ints → y.refs ≡ x.refs → HasParameter x p → HasParameter y p
 parameter_made x y parameters.None i r h = tt
@@ -125,102 +71,25 @@ module _ (told made : Flat) (owner : ℕ → ℕ) (count : length told.lines ≡
   low n lt = subst (λ (k : ℕ). n < k) count lt
 
   leads_made : (lv lk : Text) (place : ℕ) (o : Op) → OpLeads told owner place o → OpLeads made owner place (with_texts lv lk o)
-  leads_made lv lk place op.Enter l = in_made (owner place) (place + 1) l
-  leads_made lv lk place (op.Constant i v) l = in_made (owner place) (place + 1) l
-  leads_made lv lk place (op.Move i from) l = in_made (owner place) (place + 1) l
-  leads_made lv lk place (op.Compute width o i a b spot) l = in_made (owner place) (place + 1) l
-  leads_made lv lk place (op.Negate width i a spot) l = in_made (owner place) (place + 1) l
-  leads_made lv lk place (op.Complement i a) l = in_made (owner place) (place + 1) l
-  leads_made lv lk place (op.IsFalse i a) l = in_made (owner place) (place + 1) l
-  leads_made lv lk place (op.SameReference i a b) l = in_made (owner place) (place + 1) l
-  leads_made lv lk place (op.ChkWidth width i spot) l = in_made (owner place) (place + 1) l
   leads_made lv lk place (op.Skip n) l = in_made (owner place) (place + 1 + n) l
   leads_made lv lk place (op.SkipIfZero i n) l = (in_made (owner place) (place + 1 + n) l.0, in_made (owner place) (place + 1) l.1)
   leads_made lv lk place (op.SkipIfNull r n) l = (in_made (owner place) (place + 1 + n) l.0, in_made (owner place) (place + 1) l.1)
   leads_made lv lk place (op.Jump to) l = in_made (owner place) to l
   leads_made lv lk place (op.Call f ints refs spot) l = (subst (λ (k : ℕ). f < k) many l.0, in_made (owner place) (place + 1) l.1)
   leads_made lv lk place (op.Return spot) l = tt
-  leads_made lv lk place op.BlockEnd l = in_made (owner place) (place + 1) l
-  leads_made lv lk place (op.Null r) l = in_made (owner place) (place + 1) l
-  leads_made lv lk place (op.Local r x) l = in_made (owner place) (place + 1) l
-  leads_made lv lk place (op.MoveReference r from) l = in_made (owner place) (place + 1) l
-  leads_made lv lk place (op.Pop r) l = in_made (owner place) (place + 1) l
-  leads_made lv lk place (op.Settle x from) l = in_made (owner place) (place + 1) l
-  leads_made lv lk place (op.ChkNull r spot) l = in_made (owner place) (place + 1) l
-  leads_made lv lk place (op.ChkPositive i spot) l = in_made (owner place) (place + 1) l
-  leads_made lv lk place (op.ChkHeld cell spot) l = in_made (owner place) (place + 1) l
-  leads_made lv lk place (op.ChkNotHeld cell spot) l = in_made (owner place) (place + 1) l
-  leads_made lv lk place (op.ChkRoom spot) l = in_made (owner place) (place + 1) l
-  leads_made lv lk place (op.Bounds i r cells field spot) l = in_made (owner place) (place + 1) l
-  leads_made lv lk place (op.GlobalBounds i elements cells field spot) l = in_made (owner place) (place + 1) l
-  leads_made lv lk place (op.Load i cell spot) l = in_made (owner place) (place + 1) l
-  leads_made lv lk place (op.Store i cell spot) l = in_made (owner place) (place + 1) l
-  leads_made lv lk place (op.LoadRef r cell spot) l = in_made (owner place) (place + 1) l
-  leads_made lv lk place (op.StoreRef r cell spot) l = in_made (owner place) (place + 1) l
-  leads_made lv lk place (op.LoadGuard cell spot) l = in_made (owner place) (place + 1) l
-  leads_made lv lk place (op.New r count cells spot) l = in_made (owner place) (place + 1) l
-  leads_made lv lk place (op.TakeCell r cell spot) l = in_made (owner place) (place + 1) l
-  leads_made lv lk place (op.TakeLocal r x spot) l = in_made (owner place) (place + 1) l
-  leads_made lv lk place (op.Give r cells spot) l = in_made (owner place) (place + 1) l
-  leads_made lv lk place (op.Free r layout spot) l = in_made (owner place) (place + 1) l
-  leads_made lv lk place (op.Lock cell spot) l = in_made (owner place) (place + 1) l
-  leads_made lv lk place (op.Unlock r cell spot) l = in_made (owner place) (place + 1) l
-  leads_made lv lk place (op.CondEnter cell spot) l = in_made (owner place) (place + 1) l
-  leads_made lv lk place (op.CondWait cell spot) l = in_made (owner place) (place + 1) l
-  leads_made lv lk place (op.CondSignal cell spot) l = in_made (owner place) (place + 1) l
-  leads_made lv lk place (op.CondBroadcast cell spot) l = in_made (owner place) (place + 1) l
-  leads_made lv lk place (op.Spawn i f from spot) l = in_made (owner place) (place + 1) l
-  leads_made lv lk place (op.Join i spot) l = in_made (owner place) (place + 1) l
-  leads_made lv lk place (op.Print i spot) l = in_made (owner place) (place + 1) l
+  leads_made lv lk place _ l = in_made (owner place) (place + 1) l
 
   flat_leads_made : (lv lk : Text) (place : ℕ) (o : Op) → Leads told place o → Leads made place (with_texts lv lk o)
-  flat_leads_made lv lk place op.Enter l = low (place + 1) l
-  flat_leads_made lv lk place (op.Constant i v) l = low (place + 1) l
-  flat_leads_made lv lk place (op.Move i from) l = low (place + 1) l
   flat_leads_made lv lk place (op.Compute width o i a b spot) l = (l.0, low (place + 1) l.1)
   flat_leads_made lv lk place (op.Negate width i a spot) l = (l.0, low (place + 1) l.1)
-  flat_leads_made lv lk place (op.Complement i a) l = low (place + 1) l
-  flat_leads_made lv lk place (op.IsFalse i a) l = low (place + 1) l
-  flat_leads_made lv lk place (op.SameReference i a b) l = low (place + 1) l
-  flat_leads_made lv lk place (op.ChkWidth width i spot) l = low (place + 1) l
   flat_leads_made lv lk place (op.Skip n) l = low (place + 1 + n) l
   flat_leads_made lv lk place (op.SkipIfZero i n) l = (low (place + 1 + n) l.0, low (place + 1) l.1)
   flat_leads_made lv lk place (op.SkipIfNull r n) l = (low (place + 1 + n) l.0, low (place + 1) l.1)
   flat_leads_made lv lk place (op.Jump to) l = low to l
   flat_leads_made lv lk place (op.Call f ints refs spot) l = (subst (λ (k : ℕ). f < k) many l.0, low (place + 1) l.1)
   flat_leads_made lv lk place (op.Return spot) l = tt
-  flat_leads_made lv lk place op.BlockEnd l = low (place + 1) l
-  flat_leads_made lv lk place (op.Null r) l = low (place + 1) l
-  flat_leads_made lv lk place (op.Local r x) l = low (place + 1) l
-  flat_leads_made lv lk place (op.MoveReference r from) l = low (place + 1) l
-  flat_leads_made lv lk place (op.Pop r) l = low (place + 1) l
   flat_leads_made lv lk place (op.Settle x from) l = (l.0, low (place + 1) l.1)
-  flat_leads_made lv lk place (op.ChkNull r spot) l = low (place + 1) l
-  flat_leads_made lv lk place (op.ChkPositive i spot) l = low (place + 1) l
-  flat_leads_made lv lk place (op.ChkHeld cell spot) l = low (place + 1) l
-  flat_leads_made lv lk place (op.ChkNotHeld cell spot) l = low (place + 1) l
-  flat_leads_made lv lk place (op.ChkRoom spot) l = low (place + 1) l
-  flat_leads_made lv lk place (op.Bounds i r cells field spot) l = low (place + 1) l
-  flat_leads_made lv lk place (op.GlobalBounds i elements cells field spot) l = low (place + 1) l
-  flat_leads_made lv lk place (op.Load i cell spot) l = low (place + 1) l
-  flat_leads_made lv lk place (op.Store i cell spot) l = low (place + 1) l
-  flat_leads_made lv lk place (op.LoadRef r cell spot) l = low (place + 1) l
-  flat_leads_made lv lk place (op.StoreRef r cell spot) l = low (place + 1) l
-  flat_leads_made lv lk place (op.LoadGuard cell spot) l = low (place + 1) l
-  flat_leads_made lv lk place (op.New r count cells spot) l = low (place + 1) l
-  flat_leads_made lv lk place (op.TakeCell r cell spot) l = low (place + 1) l
-  flat_leads_made lv lk place (op.TakeLocal r x spot) l = low (place + 1) l
-  flat_leads_made lv lk place (op.Give r cells spot) l = low (place + 1) l
-  flat_leads_made lv lk place (op.Free r layout spot) l = low (place + 1) l
-  flat_leads_made lv lk place (op.Lock cell spot) l = low (place + 1) l
-  flat_leads_made lv lk place (op.Unlock r cell spot) l = low (place + 1) l
-  flat_leads_made lv lk place (op.CondEnter cell spot) l = low (place + 1) l
-  flat_leads_made lv lk place (op.CondWait cell spot) l = low (place + 1) l
-  flat_leads_made lv lk place (op.CondSignal cell spot) l = low (place + 1) l
-  flat_leads_made lv lk place (op.CondBroadcast cell spot) l = low (place + 1) l
-  flat_leads_made lv lk place (op.Spawn i f from spot) l = low (place + 1) l
-  flat_leads_made lv lk place (op.Join i spot) l = low (place + 1) l
-  flat_leads_made lv lk place (op.Print i spot) l = low (place + 1) l
+  flat_leads_made lv lk place _ l = low (place + 1) l
 
 -- ---- the whole
 module _ (m : Assignment) (code : FlatCode) (is : Flattens m code) where

@@ -1,11 +1,10 @@
 -- A path of flat code is the beginning of what it makes of a list of answers.
 use Rattle.std.proofs.Common.{◌≡◌, ℕ, ℤ, suc, ◌+◌, true, List, [], ◌∷◌, ◌++◌, length, refl, ap, ◌∙◌, arith, append_assoc}
-use Rattle.sharc_flat.specs.{Machine.{Flat, At, Turn, goes, asks, halts, turn, on_turn, exec}, Path.{after, IsPath, may_go, at_after, asked_by, asked, PathsAreRuns}}
+use Rattle.sharc_flat.specs.{Machine.{Flat, At, Turn, halts, turn, on_turn, exec}, Path.{after, IsPath, may_go, at_after, asked_by, asked, PathsAreRuns}}
 
 one : (flat : Flat) (m : At) (t : Turn) (x : ℤ) (more : ℕ) (rest : List ℤ) → may_go t ≡ true → on_turn t (asked_by t x ++ rest) m (exec flat more) ≡ exec flat more rest (after m t x)
-one flat m (goes m2) x more rest e = refl
-one flat m (asks m2 site act held f) x more rest e = refl
 one flat m (halts o) x more rest e = absurd (cc)
+one flat m _ x more rest e = refl
 
 pub runs : PathsAreRuns
 runs flat m [] path more rest = let e : 0 + more ≡ more = omega arith in ap (λ n. exec flat n rest m) e

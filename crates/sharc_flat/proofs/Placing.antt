@@ -10,6 +10,7 @@ use Rattle.sharc_ctype.specs.Resolved.{global_at}
 use Rattle.sharc_flat.specs.{declared.op.Op.Op, declared.op.Spot.Spot, Machine.{goes, put, first_cell, set_int, op_turn, indexed, halts, asserts, goes_on}, Scope.{Context, int_count, ref_count, at_site}, declared.slot.Slot.Slot, Places.{Target, in_global, in_global_at, in_object, in_object_at, own_field, bounds_code, pointee_code}}
 use Rattle.sharc_flat.specs.declared.op.Op.TheVariants as op
 use Rattle.sharc_flat.proofs.{Banks.{put_same, put_other}, Runs.{HasAt, has_front, has_back, Fin, fin_of, fin_then, Same, weaken, step, bind, without, ends}, Agreeing.{Standing, place, Agree, holding, last_is, hold, with_int, loose_of}, Accessing.context, Values.{integer_is, loosen, RunsAs, within, Lies, PlaceAs}}
+use Rattle.sharc_lemmas.proofs.Options.{some_is as same_mutex}
 
 module _ (m : Assignment) (z : Standing) (scope : List Slot) where
   abbrev ctx : Context
@@ -76,9 +77,6 @@ module _ (m : Assignment) (z : Standing) (scope : List Slot) where
         (λ q lt. put_other ints2 (z.ints + (i + 1)) _ q (λ h. omega arith) ∙ put_other ints1 (z.ints + i) _ q (λ h. omega arith) ∙ put_other ints (z.ints + (i + 1)) _ q (λ h. omega arith))
         (put_other ints2 (z.ints + (i + 1)) _ (z.ints + i) (λ h. omega arith) ∙ put_same ints1 (z.ints + i) _)
         (λ x h. put_same ints2 (z.ints + (i + 1)) _ ∙ ap (λ q. pos (n * cells + off q)) (same_mutex mutex x h)))))))
-      where
-        same_mutex : (a b : ℕ) → Some a ≡ Some b → a ≡ b
-        same_mutex a b h = cc
     element_by false n i f None pc c ints s k e le has a v rest =
         weaken z.flat s.fuel (c + 1) (c + 3) _ s.answers _ (omega arith)
         (ends z.flat (bounds i f) (stopped traps.IndexOutOfBounds site) c s (place z pc ints refs s) (holding z (T ++ bases) scope ints refs s a) refl refl has.0 (stops_index i f n pc ints s e v))

@@ -6,7 +6,7 @@ use Rattle.sharc_tree.specs.{declared.token.Span.Span, Tree.{Expression, Right, 
 use Rattle.sharc_names.specs.Kinds.{Kind, is_integer, int, declared_kind}
 use Rattle.sharc_mode.specs.{Moded.Assignment, Sharings.{Sharing, private}, Cells.{cell_at as mode_in, pointed}, Rows.{written, row_at, declared_row}}
 use Rattle.sharc_meaning.specs.{Places.stored, State.{Run, ◌>>=◌, ◌>>◌, give, entered, answered, value_of, is_reference, temporarily, done, unless_stop, in_block, begins_with}, Expressions.{tested, fitting, Calls, eval, place_of}, Statements.{Flow, next, returned, loop, left_by, exec_all, is_positive, right_value, done_simple, initialised, declared, done_first, done_step, done_test, exec}, Cells.{element_cells, instance_mode}}
-use Rattle.sharc_flat.specs.{declared.op.Op.Op, Places.{lvalue_of, Target, in_global, in_global_at, in_object, in_object_at, base_width, beside_field, store_code, target, width_code, index_width, object_spot}, Scope.{no_text, Context, int_count, ref_count, at_site, ends_from, leaves, slot_of}, declared.slot.Slot.Slot, Flattened.{truth_code, Around, opened, looping, result_code, zero_code, jump_code, return_code, loop_code, choice_code, statements_code, behind_statements, IsFlattened, expression_code, place_code, right_code, simple_code, initial_code, local_code, first_code, behind_first, step_code, turn_code, if_code, statement_code, behind_statement}, Suits.{RightSuits, LeftSuits, SimpleSuits, InitialSuits, FirstSuits, in_first, TestSuits, IfThere, is_declaration, in_statement, StatementSuits, StatementsSuit}}
+use Rattle.sharc_flat.specs.{declared.op.Op.Op, Places.{lvalue_of, Target, base_width, beside_field, store_code, target, width_code, index_width, object_spot}, Scope.{no_text, Context, int_count, ref_count, at_site, ends_from, leaves, slot_of}, declared.slot.Slot.Slot, Flattened.{truth_code, Around, opened, looping, result_code, zero_code, jump_code, return_code, loop_code, choice_code, statements_code, behind_statements, IsFlattened, expression_code, place_code, right_code, simple_code, initial_code, local_code, first_code, behind_first, step_code, turn_code, if_code, statement_code, behind_statement}, Suits.{RightSuits, LeftSuits, SimpleSuits, InitialSuits, FirstSuits, in_first, TestSuits, IfThere, is_declaration, in_statement, StatementSuits, StatementsSuit}}
 use Rattle.sharc_flat.specs.declared.op.Op.TheVariants as op
 use Rattle.sharc_code.specs.declared.code.Use.TheVariants as uses
 use Rattle.sharc_flat.specs.Places as targets
@@ -83,21 +83,9 @@ module _ (m : Assignment) (z : Standing) (result : Kind) (ints0 : ℕ → ℤ) (
       let R = right_runs scope (K u) (pointed m (row_at m.typed u)) x hx in
       assign_name_runs m z result ints0 scope y (K u) R.kr (place_of on_call m (span_of u).first u) (λ i r. place_code (C scope) i r (span_of u).first None (beside_field m.typed (mode_in m u)) u)
       (right_value on_call m (K u) (pointed m (row_at m.typed u)) x) (λ i r. right_code (C scope) i r (K u) (pointed m (row_at m.typed u)) x) (span_of u).first (mode_in m u) R.same R.scalar h found R.runs
-  assign_by scope (in_global g f) u x found h hx =
+  assign_by scope k u x found h hx =
       let R = right_runs scope (K u) (pointed m (row_at m.typed u)) x hx in
-      assign_cell_runs m z result ints0 scope (in_global g f) (K u) R.kr (place_of on_call m (span_of u).first u) (λ i r. place_code (C scope) i r (span_of u).first None (beside_field m.typed (mode_in m u)) u)
-      (right_value on_call m (K u) (pointed m (row_at m.typed u)) x) (λ i r. right_code (C scope) i r (K u) (pointed m (row_at m.typed u)) x) (span_of u).first (lvalue_of m.typed u) (mode_in m u) refl h.0 R.same R.scalar h.1 found R.runs
-  assign_by scope (in_global_at g f) u x found h hx =
-      let R = right_runs scope (K u) (pointed m (row_at m.typed u)) x hx in
-      assign_cell_runs m z result ints0 scope (in_global_at g f) (K u) R.kr (place_of on_call m (span_of u).first u) (λ i r. place_code (C scope) i r (span_of u).first None (beside_field m.typed (mode_in m u)) u)
-      (right_value on_call m (K u) (pointed m (row_at m.typed u)) x) (λ i r. right_code (C scope) i r (K u) (pointed m (row_at m.typed u)) x) (span_of u).first (lvalue_of m.typed u) (mode_in m u) refl h.0 R.same R.scalar h.1 found R.runs
-  assign_by scope (in_object f) u x found h hx =
-      let R = right_runs scope (K u) (pointed m (row_at m.typed u)) x hx in
-      assign_cell_runs m z result ints0 scope (in_object f) (K u) R.kr (place_of on_call m (span_of u).first u) (λ i r. place_code (C scope) i r (span_of u).first None (beside_field m.typed (mode_in m u)) u)
-      (right_value on_call m (K u) (pointed m (row_at m.typed u)) x) (λ i r. right_code (C scope) i r (K u) (pointed m (row_at m.typed u)) x) (span_of u).first (lvalue_of m.typed u) (mode_in m u) refl h.0 R.same R.scalar h.1 found R.runs
-  assign_by scope (in_object_at f) u x found h hx =
-      let R = right_runs scope (K u) (pointed m (row_at m.typed u)) x hx in
-      assign_cell_runs m z result ints0 scope (in_object_at f) (K u) R.kr (place_of on_call m (span_of u).first u) (λ i r. place_code (C scope) i r (span_of u).first None (beside_field m.typed (mode_in m u)) u)
+      assign_cell_runs m z result ints0 scope k (K u) R.kr (place_of on_call m (span_of u).first u) (λ i r. place_code (C scope) i r (span_of u).first None (beside_field m.typed (mode_in m u)) u)
       (right_value on_call m (K u) (pointed m (row_at m.typed u)) x) (λ i r. right_code (C scope) i r (K u) (pointed m (row_at m.typed u)) x) (span_of u).first (lvalue_of m.typed u) (mode_in m u) refl h.0 R.same R.scalar h.1 found R.runs
 
   simple_runs : (scope : List Slot) (x : Simple) → SimpleSuits (C scope) x → Steps scope scope 0 (done_simple on_call m x) (simple_code (C scope) (int_count scope) (ref_count scope) x)
@@ -160,55 +148,28 @@ module _ (m : Assignment) (z : Standing) (result : Kind) (ints0 : ℕ → ℤ) (
 
   behind_is : (scope : List Slot) (x : Statement) → behind_statement (C scope) x ≡ C (scope ++ declared_by x)
   behind_is scope (declare s l) = refl
-  behind_is scope (empty s) = ap C (sym (append-nil scope))
-  behind_is scope (block s all) = ap C (sym (append-nil scope))
-  behind_is scope (simple s x) = ap C (sym (append-nil scope))
-  behind_is scope (jump s j) = ap C (sym (append-nil scope))
-  behind_is scope (return s e) = ap C (sym (append-nil scope))
-  behind_is scope (if_then s e a) = ap C (sym (append-nil scope))
-  behind_is scope (if_then_else s e a b) = ap C (sym (append-nil scope))
-  behind_is scope (while s e a) = ap C (sym (append-nil scope))
-  behind_is scope (for s h a) = ap C (sym (append-nil scope))
+  behind_is scope _ = ap C (sym (append-nil scope))
 
   in_is : (scope : List Slot) (x : Statement) → in_statement (C scope) x ≡ behind_statement (C scope) x
-  in_is scope (declare s l) = refl
   in_is scope (empty s) = refl
-  in_is scope (block s all) = refl
-  in_is scope (simple s x) = refl
-  in_is scope (jump s j) = refl
-  in_is scope (return s e) = refl
-  in_is scope (if_then s e a) = refl
-  in_is scope (if_then_else s e a b) = refl
-  in_is scope (while s e a) = refl
-  in_is scope (for s h a) = refl
+  in_is scope _ = refl
 
   stays : (scope : List Slot) (x : Statement) → is_declaration x ≡ false → behind_statement (C scope) x ≡ C scope
   stays scope (declare s l) h = absurd (cc)
-  stays scope (empty s) h = refl
-  stays scope (block s all) h = refl
-  stays scope (simple s x) h = refl
-  stays scope (jump s j) h = refl
-  stays scope (return s e) h = refl
-  stays scope (if_then s e a) h = refl
-  stays scope (if_then_else s e a b) h = refl
-  stays scope (while s e a) h = refl
-  stays scope (for s h a) e = refl
+  stays scope _ h = refl
 
   first_more : First → List Slot
-  first_more nothing = []
   first_more (declares l) = slot_of l.declaration ∷ []
-  first_more (does x) = []
+  first_more _ = []
 
   first_is : (scope : List Slot) (x : First) → behind_first (C scope) x ≡ C (scope ++ first_more x)
   unfolding first_more
-  first_is scope nothing = ap C (sym (append-nil scope))
   first_is scope (declares l) = refl
-  first_is scope (does x) = ap C (sym (append-nil scope))
+  first_is scope _ = ap C (sym (append-nil scope))
 
   in_first_is : (scope : List Slot) (x : First) → in_first (C scope) x ≡ behind_first (C scope) x
-  in_first_is scope nothing = refl
-  in_first_is scope (declares l) = refl
   in_first_is scope (does x) = refl
+  in_first_is scope _ = refl
 
   first_runs : (scope : List Slot) (x : First) → FirstSuits (C scope) x → Steps scope (scope ++ first_more x) 0 (done_first on_call m x) (first_code (C scope) x)
   unfolding first_more

@@ -1,7 +1,7 @@
 -- Forward jumps of the code of an expression stay in it, or lead directly after it, and it has no other jumps.
 use Rattle.std.proofs.Common.{◌≡◌, ℕ, ◌+◌, ◌≤◌, Bool, true, false, cond, List, [], ◌∷◌, ◌++◌, length, drop, Option, Some, None, refl, arith, length-append}
 use Rattle.std.specs.{Prelude.{codes, ◌||◌}, Str.bytes_eq}
-use Rattle.sharc_tree.specs.{declared.token.Site.Site, declared.token.Span.Span, declared.tree.declaration.Identifier.Identifier, declared.tree.expression.FieldOperator.FieldOperator, declared.tree.expression.FieldOperator.TheVariants.{Dot, Arrow}, declared.tree.expression.BinaryOperator.BinaryOperator, declared.tree.expression.BinaryOperator.TheVariants.{LogicalOr, LogicalAnd, BitOr, BitXor, BitAnd, Equal, NotEqual, Less, Greater, LessOrEqual, GreaterOrEqual, ShiftLeft, ShiftRight, Add, Subtract, Multiply, Divide, Remainder}, declared.tree.expression.Constant.Constant, declared.tree.expression.PlaceCall.PlaceCall, declared.tree.expression.PlaceCall.TheVariants.{Lock, Unlock, Free}, declared.tree.expression.UnaryOperator.UnaryOperator, declared.tree.expression.UnaryOperator.TheVariants.{Negate, Not, Complement, Dereference}, declared.tree.expression.ValueCall.ValueCall, declared.tree.expression.ValueCall.TheVariants.{Join, Print}, Spans.span_of, Tree.{Expression, identifier, constant, parentheses, call, spawn, on_value, on_place, cast, index, field, unary, binary, Arguments, no_arguments, argument}}
+use Rattle.sharc_tree.specs.{declared.token.Site.Site, declared.token.Span.Span, declared.tree.declaration.Identifier.Identifier, declared.tree.expression.FieldOperator.FieldOperator, declared.tree.expression.FieldOperator.TheVariants.{Dot, Arrow}, declared.tree.expression.BinaryOperator.BinaryOperator, declared.tree.expression.BinaryOperator.TheVariants.{LogicalOr, LogicalAnd, Equal, NotEqual, Less, Greater, LessOrEqual, GreaterOrEqual, ShiftLeft, ShiftRight}, declared.tree.expression.PlaceCall.PlaceCall, declared.tree.expression.PlaceCall.TheVariants.{Lock, Unlock, Free}, declared.tree.expression.UnaryOperator.UnaryOperator, declared.tree.expression.UnaryOperator.TheVariants.{Negate, Not, Complement, Dereference}, declared.tree.expression.ValueCall.ValueCall, declared.tree.expression.ValueCall.TheVariants.{Join, Print}, Spans.span_of, Tree.{Expression, identifier, constant, parentheses, call, spawn, on_value, on_place, cast, index, field, unary, binary, Arguments, no_arguments, argument}}
 use Rattle.sharc_names.specs.{declared.fault.Named.Named, Kinds.{int, long, is_long, promoted, common, Kind, is_array, is_integer, element_kind, declared_kinds}}
 use Rattle.sharc_names.specs.declared.fault.Named.TheVariants as named
 use Rattle.sharc_code.specs.{declared.instr.Width.Width, declared.code.Use.Use, declared.instr.Register.Register, declared.instr.Register.TheVariants.{Int, Reference}}
@@ -10,14 +10,13 @@ use Rattle.sharc_code.specs.declared.code.Use.TheVariants as uses
 use Rattle.sharc_ctype.specs.{Resolved.{kind_at, global_at, Resolution, named_at}, Transfers.parameters_named}
 use Rattle.sharc_mode.specs.Sharings.{Sharing}
 use Rattle.sharc_meaning.specs.{Cells.{element_cells, field_place_named, global_elements}, Expressions.number_named}
-use Rattle.sharc_flat.specs.{declared.op.Op.Op, declared.op.Spot.Spot, Machine.first_cell, Suits.Either, declared.slot.Lvalue.Lvalue, Scope.{Context, register_of, at_site}, Places.{width_of, Target, variable, in_global, in_global_at, in_object, in_object_at, target, own_field, has_base, global_of, guard_field, guard_code, drop_base, settle_base, copy_code, cell_value_code, value_code, cell_take_code, take_code, bounds_code, index_code, pointee_code, width_code}, Flattened.{kind_of, is_ref, target_of, mode_of, what_names, constant_code, named_code, drop_code, truth_code, differ_code, compare_code, logical_code, either_code, unary_code, binary_code, behind_int, behind_ref, wait_code, condition_code, called_code, passed_code, spawn_code, value_call_code, unlocked_code, place_call_code, cast_code, guard_of, taken_guard, field_code, unary_place_code, lvalue_code, expression_code, arguments_code, place_code, lvalue_in, with_words, argument_words}}
+use Rattle.sharc_flat.specs.{declared.op.Op.Op, declared.op.Spot.Spot, Machine.first_cell, Suits.Either, declared.slot.Lvalue.Lvalue, Scope.{Context, register_of, at_site}, Places.{width_of, Target, variable, in_global, target, own_field, has_base, global_of, guard_field, guard_code, drop_base, settle_base, copy_code, cell_value_code, value_code, cell_take_code, take_code, bounds_code, index_code, pointee_code, width_code}, Flattened.{kind_of, is_ref, target_of, mode_of, what_names, constant_code, named_code, drop_code, truth_code, differ_code, compare_code, logical_code, either_code, unary_code, binary_code, behind_int, behind_ref, wait_code, condition_code, called_code, passed_code, spawn_code, value_call_code, unlocked_code, place_call_code, cast_code, guard_of, taken_guard, field_code, unary_place_code, lvalue_code, expression_code, arguments_code, place_code, lvalue_in, with_words, argument_words}}
 use Rattle.sharc_flat.specs.declared.op.Op.TheVariants as op
 
 -- nothing is computed in a `char`
 abbrev pub Wide : Width → Type 0
 Wide widths.Char = ⊥
-Wide widths.Int = Unit {0}
-Wide widths.Long = Unit {0}
+Wide _ = Unit {0}
 
 wide_by : (b : Bool) → Wide (width_of (cond b long int))
 wide_by true = tt
@@ -40,8 +39,6 @@ ByAccess Arrow A B = B
 
 abbrev mutual
   pub Knows : (ℕ → Type 0) → Resolution → Expression → Type 0
-  Knows F r (identifier s x) = Unit {0}
-  Knows F r (constant s k) = Unit {0}
   Knows F r (parentheses s a) = Knows F r a
   Knows F r (call s f all) = KnownName F (named_at r f.site.token) × KnowsAll F r all
   Knows F r (spawn s f a) = Knows F r a
@@ -52,6 +49,7 @@ abbrev mutual
   Knows F r (field s a w n) = ByAccess w (KnowsPlace F r a) (Knows F r a)
   Knows F r (unary s o a) = Knows F r a
   Knows F r (binary s o at a b) = Knows F r a × Knows F r b
+  Knows F r _ = Unit {0}
 
   pub KnowsAll : (ℕ → Type 0) → Resolution → Arguments → Type 0
   KnowsAll F r no_arguments = Unit {0}
@@ -91,53 +89,15 @@ module _ (A F : ℕ → Type 0) where
   Stays (o ∷ os) = OpStays (length os) o × Stays os
 
   longer : (o : Op) (m n : ℕ) → m ≤ n → OpStays m o → OpStays n o
-  longer op.Enter m n le h = tt
-  longer (op.Constant a b) m n le h = tt
-  longer (op.Move a b) m n le h = tt
   longer (op.Compute a b c d e f) m n le h = h
   longer (op.Negate a b c d) m n le h = h
-  longer (op.Complement a b) m n le h = tt
-  longer (op.IsFalse a b) m n le h = tt
-  longer (op.SameReference a b c) m n le h = tt
-  longer (op.ChkWidth a b c) m n le h = tt
   longer (op.Skip a) m n le h = omega arith
   longer (op.SkipIfZero a b) m n le h = omega arith
   longer (op.SkipIfNull a b) m n le h = omega arith
   longer (op.Jump a) m n le h = h
   longer (op.Call a b c d) m n le h = h
-  longer (op.Return a) m n le h = tt
-  longer op.BlockEnd m n le h = tt
-  longer (op.Null a) m n le h = tt
-  longer (op.Local a b) m n le h = tt
-  longer (op.MoveReference a b) m n le h = tt
-  longer (op.Pop a) m n le h = tt
   longer (op.Settle a b) m n le h = h
-  longer (op.ChkNull a b) m n le h = tt
-  longer (op.ChkPositive a b) m n le h = tt
-  longer (op.ChkHeld a b) m n le h = tt
-  longer (op.ChkNotHeld a b) m n le h = tt
-  longer (op.ChkRoom a) m n le h = tt
-  longer (op.Bounds a b c d e) m n le h = tt
-  longer (op.GlobalBounds a b c d e) m n le h = tt
-  longer (op.Load a b c) m n le h = tt
-  longer (op.Store a b c) m n le h = tt
-  longer (op.LoadRef a b c) m n le h = tt
-  longer (op.StoreRef a b c) m n le h = tt
-  longer (op.LoadGuard a b) m n le h = tt
-  longer (op.New a b c d) m n le h = tt
-  longer (op.TakeCell a b c) m n le h = tt
-  longer (op.TakeLocal a b c) m n le h = tt
-  longer (op.Give a b c) m n le h = tt
-  longer (op.Free a b c) m n le h = tt
-  longer (op.Lock a b) m n le h = tt
-  longer (op.Unlock a b c) m n le h = tt
-  longer (op.CondEnter a b) m n le h = tt
-  longer (op.CondWait a b) m n le h = tt
-  longer (op.CondSignal a b) m n le h = tt
-  longer (op.CondBroadcast a b) m n le h = tt
-  longer (op.Spawn a b c d) m n le h = tt
-  longer (op.Join a b) m n le h = tt
-  longer (op.Print a b) m n le h = tt
+  longer _ m n le h = tt
 
   pub joins : (xs ys : List Op) → Stays xs → Stays ys → Stays (xs ++ ys)
   joins [] ys a b = b
@@ -168,20 +128,14 @@ module _ (A F : ℕ → Type 0) where
 
     values : (i r : ℕ) (site : Site) (lvalue : Lvalue) (mode : Sharing) (b : Bool) (t : Target) → Stays (value_code c i r site lvalue mode b t)
     values i r site lvalue mode b (variable x) = copies i r (register_of c.scope x)
-    values i r site lvalue mode b (in_global g f) = cell_values i r site lvalue mode b (in_global g f)
-    values i r site lvalue mode b (in_global_at g f) = cell_values i r site lvalue mode b (in_global_at g f)
-    values i r site lvalue mode b (in_object f) = cell_values i r site lvalue mode b (in_object f)
-    values i r site lvalue mode b (in_object_at f) = cell_values i r site lvalue mode b (in_object_at f)
+    values i r site lvalue mode b k = cell_values i r site lvalue mode b k
 
     cell_takes : (i r : ℕ) (site : Site) (lvalue : Lvalue) (mode : Sharing) (form : Option ℕ → Use) (t : Target) → Stays (cell_take_code c i r site lvalue mode form t)
     cell_takes i r site lvalue mode form t = joins (guard_code c i r site lvalue t (guard_field c.program.typed mode)) _ (guards i r site lvalue t (guard_field c.program.typed mode)) (tt, settles_base r t)
 
     takes : (i r : ℕ) (site : Site) (lvalue : Lvalue) (mode : Sharing) (form : Option ℕ → Use) (t : Target) → Stays (take_code c i r site lvalue mode form t)
     takes i r site lvalue mode form (variable x) = (tt, tt)
-    takes i r site lvalue mode form (in_global g f) = cell_takes i r site lvalue mode form (in_global g f)
-    takes i r site lvalue mode form (in_global_at g f) = cell_takes i r site lvalue mode form (in_global_at g f)
-    takes i r site lvalue mode form (in_object f) = cell_takes i r site lvalue mode form (in_object f)
-    takes i r site lvalue mode form (in_object_at f) = cell_takes i r site lvalue mode form (in_object_at f)
+    takes i r site lvalue mode form k = cell_takes i r site lvalue mode form k
 
     pub widths_stay : (i : ℕ) (kind : Kind) (site : Site) → Stays (width_code i kind site)
     widths_stay i kind site = choose (is_integer kind) _ [] (tt, tt) tt
@@ -189,34 +143,15 @@ module _ (A F : ℕ → Type 0) where
     names : (i r : ℕ) (site : Site) (lvalue : Lvalue) (mode : Sharing) (b : Bool) (n : Named) → Stays (named_code c i r site lvalue mode b n)
     names i r site lvalue mode b (named.Variable x) = values i r site lvalue mode b (variable x)
     names i r site lvalue mode b (named.Global g) = values i r site lvalue mode b (in_global g 0)
-    names i r site lvalue mode b (named.Field n) = tt
-    names i r site lvalue mode b (named.Struct n) = tt
-    names i r site lvalue mode b (named.Function n) = tt
-    names i r site lvalue mode b named.Known = tt
+    names i r site lvalue mode b _ = tt
 
     pub truths_stay : (b : Bool) (i r : ℕ) → Stays (truth_code b i r)
     truths_stay true i r = (tt, (tt, (tt, (tt, tt))))
     truths_stay false i r = tt
 
     differs : (o : BinaryOperator) (i : ℕ) → Stays (differ_code o i)
-    differs LogicalOr i = tt
-    differs LogicalAnd i = tt
-    differs BitOr i = tt
-    differs BitXor i = tt
-    differs BitAnd i = tt
-    differs Equal i = tt
     differs NotEqual i = (tt, tt)
-    differs Less i = tt
-    differs Greater i = tt
-    differs LessOrEqual i = tt
-    differs GreaterOrEqual i = tt
-    differs ShiftLeft i = tt
-    differs ShiftRight i = tt
-    differs Add i = tt
-    differs Subtract i = tt
-    differs Multiply i = tt
-    differs Divide i = tt
-    differs Remainder i = tt
+    differs _ i = tt
 
     compares : (o : BinaryOperator) (i r : ℕ) → Stays (compare_code o i r)
     compares o i r = (tt, joins (differ_code o i) (op.Pop r ∷ op.Pop (r + 1) ∷ []) (differs o i) (tt, (tt, tt)))
@@ -243,9 +178,6 @@ module _ (A F : ℕ → Type 0) where
     binaries : (i r : ℕ) (at : Site) (o : BinaryOperator) (a b : Expression) (xs : List Op) (ys : ℕ → ℕ → List Op) → Stays xs → ((i r : ℕ) → Stays (ys i r)) → Stays (binary_code c i r at o a b xs ys)
     binaries i r at LogicalAnd a b xs ys h k = logicals i (xs ++ truth_code (is_ref c a) i r) (ys i r ++ truth_code (is_ref c b) i r) (joins xs _ h (truths_stay (is_ref c a) i r)) (joins (ys i r) _ (k i r) (truths_stay (is_ref c b) i r))
     binaries i r at LogicalOr a b xs ys h k = eithers i (xs ++ truth_code (is_ref c a) i r) (ys i r ++ truth_code (is_ref c b) i r) (joins xs _ h (truths_stay (is_ref c a) i r)) (joins (ys i r) _ (k i r) (truths_stay (is_ref c b) i r))
-    binaries i r at BitOr a b xs ys h k = plain_binary i r at BitOr a b xs ys _ (wide_common (kind_of c a) (kind_of c b), tt) h k
-    binaries i r at BitXor a b xs ys h k = plain_binary i r at BitXor a b xs ys _ (wide_common (kind_of c a) (kind_of c b), tt) h k
-    binaries i r at BitAnd a b xs ys h k = plain_binary i r at BitAnd a b xs ys _ (wide_common (kind_of c a) (kind_of c b), tt) h k
     binaries i r at Equal a b xs ys h k = plain_binary i r at Equal a b xs ys _ (tt, tt) h k
     binaries i r at NotEqual a b xs ys h k = plain_binary i r at NotEqual a b xs ys _ (tt, tt) h k
     binaries i r at Less a b xs ys h k = plain_binary i r at Less a b xs ys _ (tt, tt) h k
@@ -254,11 +186,7 @@ module _ (A F : ℕ → Type 0) where
     binaries i r at GreaterOrEqual a b xs ys h k = plain_binary i r at GreaterOrEqual a b xs ys _ (tt, tt) h k
     binaries i r at ShiftLeft a b xs ys h k = plain_binary i r at ShiftLeft a b xs ys _ (wide_promoted (kind_of c a), tt) h k
     binaries i r at ShiftRight a b xs ys h k = plain_binary i r at ShiftRight a b xs ys _ (wide_promoted (kind_of c a), tt) h k
-    binaries i r at Add a b xs ys h k = plain_binary i r at Add a b xs ys _ (wide_common (kind_of c a) (kind_of c b), tt) h k
-    binaries i r at Subtract a b xs ys h k = plain_binary i r at Subtract a b xs ys _ (wide_common (kind_of c a) (kind_of c b), tt) h k
-    binaries i r at Multiply a b xs ys h k = plain_binary i r at Multiply a b xs ys _ (wide_common (kind_of c a) (kind_of c b), tt) h k
-    binaries i r at Divide a b xs ys h k = plain_binary i r at Divide a b xs ys _ (wide_common (kind_of c a) (kind_of c b), tt) h k
-    binaries i r at Remainder a b xs ys h k = plain_binary i r at Remainder a b xs ys _ (wide_common (kind_of c a) (kind_of c b), tt) h k
+    binaries i r at j a b xs ys h k = plain_binary i r at j a b xs ys _ (wide_common (kind_of c a) (kind_of c b), tt) h k
 
     waits : (r : ℕ) (spot a b : Spot) → Stays (wait_code r spot a b)
     waits r spot a b = (tt, (tt, (tt, (tt, (tt, (tt, (tt, (tt, (tt, tt)))))))))
@@ -269,10 +197,7 @@ module _ (A F : ℕ → Type 0) where
     calls_stay : (i r : ℕ) (spot : Spot) (n : Named) (name : List ℕ) (all : Arguments) → KnownName F n → Stays (called_code i r spot n name all)
     calls_stay i r spot (named.Function f) name all h = (h, tt)
     calls_stay i r spot named.Known name all h = conditions r spot name all
-    calls_stay i r spot (named.Variable x) name all h = tt
-    calls_stay i r spot (named.Global x) name all h = tt
-    calls_stay i r spot (named.Field x) name all h = tt
-    calls_stay i r spot (named.Struct x) name all h = tt
+    calls_stay i r spot _ name all h = tt
 
     passes_stay : (i : ℕ) (kinds : List Kind) (site : Site) → Stays (passed_code i kinds site)
     passes_stay i [] site = tt
@@ -314,9 +239,7 @@ module _ (A F : ℕ → Type 0) where
 
     unary_places : (r : ℕ) (site : Site) (o : UnaryOperator) (xs : List Op) → Stays xs → Stays (unary_place_code r site o xs)
     unary_places r site Dereference xs h = pointees r site xs h
-    unary_places r site Negate xs h = tt
-    unary_places r site Not xs h = tt
-    unary_places r site Complement xs h = tt
+    unary_places r site _ xs h = tt
 
     lvalues : (i r : ℕ) (e : Expression) → Stays (lvalue_code c i r e)
     lvalues i r e = values i r (span_of e).first (lvalue_in c e) (mode_of c e) (is_ref c e) (target_of c e)
@@ -366,7 +289,6 @@ module _ (A F : ℕ → Type 0) where
           (joins (passed_code i kinds (span_of a).first) _ (passes_stay i kinds (span_of a).first) (arguments_stay (behind_int (is_ref c a) i) (behind_ref (is_ref c a) r) (drop 1 kinds) rest h.1))
 
       pub places_stay : (i r : ℕ) (site : Site) (f guard : Option ℕ) (e : Expression) → KnowsPlace F R e → Stays (place_code c i r site f guard e)
-      places_stay i r site f guard (identifier s x) h = (tt, tt)
       places_stay i r site f guard (parentheses s a) h = (tt, places_stay i r site f guard a h)
       places_stay i r site f guard (index s a n) h = (
         tt,
@@ -379,13 +301,4 @@ module _ (A F : ℕ → Type 0) where
             (access_map w (λ (k : KnowsPlace F R a) (g : Option ℕ). places_stay i r site g guard a k) (λ (k : Knows F R a). expressions_stay i r a k) h),
       )
       places_stay i r site f guard (unary s Dereference a) h = (tt, unary_places r site Dereference (expression_code c i r a) (expressions_stay i r a h))
-      places_stay i r site f guard (unary s Negate a) h = (tt, tt)
-      places_stay i r site f guard (unary s Not a) h = (tt, tt)
-      places_stay i r site f guard (unary s Complement a) h = (tt, tt)
-      places_stay i r site f guard (constant s k) h = (tt, tt)
-      places_stay i r site f guard (call s g all) h = (tt, tt)
-      places_stay i r site f guard (spawn s g a) h = (tt, tt)
-      places_stay i r site f guard (on_value s w a) h = (tt, tt)
-      places_stay i r site f guard (on_place s w a) h = (tt, tt)
-      places_stay i r site f guard (cast s t a) h = (tt, tt)
-      places_stay i r site f guard (binary s o at a b) h = (tt, tt)
+      places_stay i r site f guard _ h = (tt, tt)

@@ -1,11 +1,11 @@
 -- What is taken, given and freed, and what is made.
 use Rattle.std.proofs.{Common.{◌≡◌, ℕ, zero, suc, ◌+◌, ◌-◌, ◌<◌, ◌≤◌, Bool, true, false, cond, List, [], ◌∷◌, ◌++◌, length, get_or, take, Option, Some, None, refl, sym, ap, ◌∙◌, subst, arith, length-append}, lemmas.List.{append-nil, take_at, set-append_left, set-append_right}}
-use Rattle.std.specs.Prelude.{set, ℤ, pos, negsuc, slice_get, unsigned_abs}
+use Rattle.std.specs.Prelude.{set, ℤ, pos, slice_get, unsigned_abs}
 use Rattle.sharc_tree.specs.declared.event.Act.TheVariants as acts
 use Rattle.sharc_tree.specs.{declared.event.Object.TheVariants.Global, declared.token.Site.Site, declared.token.Span.Span, declared.event.TakeKind.TakeKind}
 use Rattle.sharc_names.specs.{Kinds.{Kind, is_integer}, declared.fault.Named.Named}
 use Rattle.sharc_code.specs.{declared.code.Use.Use, declared.instr.Register.TheVariants.Reference, declared.code.Text.Text, Machine.{elements_of as elements_made}}
-use Rattle.sharc_mode.specs.{Moded.Assignment, Sharings.{Sharing, private, readonly, locked, racy, dynamic}}
+use Rattle.sharc_mode.specs.{Moded.Assignment, Sharings.{Sharing, locked}}
 use Rattle.sharc_meaning.specs.{Cells.{cell_of, instance_mode, mutex_named, through, field_place_behind}, Places.{StorePlace, variable, cell, taken_from, nulled, cast_to, freed}, Reference.{number_of, is_null, NULL}, State.{State, Run, then_on, ◌>>=◌, ◌>>◌, give, entered, happens, answered, value_of, is_reference, pointers_among, temporarily, nulls, done, moves_on, with_value, with_temporary, without_temporaries, stopped, unless_stop, event_of}, declared.given.GivenUp.TheVariants.Emptied, Statements.is_positive}
 use Rattle.sharc_flat.specs.{declared.op.Op.Op, declared.op.Spot.Spot, Machine.{goes, asks, put, accesses, first_cell, next as on, set_ref, asserts, over_lines, take_kind_of, variable_of, instance_mode as mode_of_object, takes_local, moved}, Scope.{at_words, Context, ref_count, register_of, number_in, slot_kind, at_site}, declared.slot.Lvalue.Lvalue, declared.slot.Slot.Slot, Places.{Target, in_global, in_global_at, in_object, in_object_at, has_base, base_width, field_of, guard_field, beside_field, guard_cell, guard_code, spot_of, drop_base, settle_base, settle_code, cell_value_code, cell_store_code, store_code, cell_take_code, take_code, target, own_field, global_of, bounds_code, index_code, pointee_code, width_of, base_as_width, width_code, guard_width, index_width, object_mode, object_mode_named, object_spot}, Suits.{PathStands, is_cell, PathNamed}}
 use Rattle.sharc_flat.specs.declared.op.Op.TheVariants as op
@@ -19,8 +19,7 @@ use Rattle.sharc_tree.specs.declared.trap.Trap.TheVariants as traps
 
 null_is : (v : ℤ) → is_null v ≡ true → v ≡ pos 0
 null_is (pos zero) h = refl
-null_is (pos (suc n)) h = absurd (cc)
-null_is (negsuc n) h = absurd (cc)
+null_is _ h = absurd (cc)
 
 module _ (m : Assignment) (z : Standing) (scope : List Slot) where
   abbrev ctx : Context
@@ -167,19 +166,12 @@ module _ (m : Assignment) (z : Standing) (scope : List Slot) where
   mode_by T L (named.Variable x) (Some f) pc ints refs s h a =
       let w = variable_ref z T scope L ints refs s x h a in
       ap (λ v. modes.Locked (through v (field_place_behind m.typed x f))) (ap (λ q. refs (z.refs + q)) (ap number_in w.register) ∙ w.value)
-  mode_by T L (named.Variable x) None pc ints refs s h a = refl
-  mode_by T L (named.Struct x) second pc ints refs s h a = refl
-  mode_by T L (named.Function x) second pc ints refs s h a = refl
-  mode_by T L (named.Field x) second pc ints refs s h a = refl
-  mode_by T L named.Known second pc ints refs s h a = refl
+  mode_by T L _ _ pc ints refs s h a = refl
 
   pub object_mode_is : (T L : List ℤ) (mode : Sharing) (pc : ℕ) (ints refs : ℕ → ℤ) (s : State) → PathStands m.typed scope mode → Agree z T scope L ints refs s
       → mode_of_object z.flat.globals (place z pc ints refs s) (object_mode ctx mode) ≡ instance_mode m.typed (value_of s) mode
-  object_mode_is T L private pc ints refs s h a = refl
-  object_mode_is T L readonly pc ints refs s h a = refl
   object_mode_is T L (locked l) pc ints refs s h a = mode_by T L (named_at m.typed l.first) l.second pc ints refs s h a
-  object_mode_is T L racy pc ints refs s h a = refl
-  object_mode_is T L dynamic pc ints refs s h a = refl
+  object_mode_is T L _ pc ints refs s h a = refl
 
   -- ---- a sharing cast: what was taken is given, where it is not NULL
   cast_by : (b : Bool) (cells : ℕ) (T : List ℤ) (v : ℤ) (site : Site) (words : Text) (use_made : Use) (mode : Sharing) (r pc c : ℕ) (ints refs : ℕ → ℤ) (s : State) (k : ℤ → State → Fin) → is_null v ≡ b → PathStands m.typed scope mode → r ≡ ref_count scope + length T

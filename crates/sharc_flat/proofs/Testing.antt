@@ -1,6 +1,6 @@
 -- Tests, and values that go to something of a type.
 use Rattle.std.proofs.{Common.{◌≡◌, ℕ, zero, suc, ◌+◌, ◌<◌, ◌≤◌, Bool, true, false, cond, List, [], ◌∷◌, ◌++◌, length, Some, refl, sym, ap, ◌∙◌, subst, arith, length-append}, lemmas.Bool.Decides.nat_tests, lemmas.List.append-nil}
-use Rattle.std.specs.Prelude.{nat_le, ℤ, pos, negsuc, slice_get, not, ◌&&◌, ◌||◌}
+use Rattle.std.specs.Prelude.{nat_le, ℤ, pos, slice_get, not, ◌&&◌, ◌||◌}
 use Rattle.sharc_tree.specs.{declared.token.Site.Site, Tree.Expression, Spans.span_of}
 use Rattle.sharc_tree.specs.declared.trap.Trap.TheVariants as traps
 use Rattle.sharc_names.specs.Kinds.{Kind, is_integer}
@@ -17,11 +17,10 @@ le_zero : (n : ℕ) → nat_le (suc n) 0 ≡ false
 le_zero n = grind (arith, nat_tests)
 
 pub equal_null : (v : ℤ) → is_equal v (pos 0) ≡ is_zero v
-equal_null (pos zero) = refl
 equal_null (pos (suc n)) = ap (λ b. b && nat_le 0 (suc n)) (le_zero n)
-equal_null (negsuc n) = refl
+equal_null _ = refl
 
-zero_of : (b : Bool) → is_zero (code.truth b) ≡ not b
+pub zero_of : (b : Bool) → is_zero (code.truth b) ≡ not b
 zero_of true = refl
 zero_of false = refl
 

@@ -256,9 +256,7 @@ module _ (m : Assignment) (suits : ProgramSuits m) where
     where
       spent_or_not : (o : Outcome) → (o ≡ spent) ⊎ (o ≡ spent → ⊥)
       spent_or_not spent = inl refl
-      spent_or_not (wants e) = inr (λ h. absurd (cc))
-      spent_or_not ended = inr (λ h. absurd (cc))
-      spent_or_not (stopped x y) = inr (λ h. absurd (cc))
+      spent_or_not _ = inr (λ h. absurd (cc))
 
   -- flat code asks for what the source asks for, in both directions
   pub asks_the_same : SpentIsNone → (flat : Flat) → IsFlattened m flat → AsksTheSame m flat

@@ -1,6 +1,6 @@
 -- An access by its mode: under no lock, under one, or stopped.
 use Rattle.std.proofs.Common.{◌≡◌, ℕ, ◌+◌, ◌-◌, Bool, true, false, cond, List, Option, Some, None, refl, ap, ◌∙◌, arith}
-use Rattle.std.specs.Prelude.{ℤ, pos, negsuc, max, zero, suc, unsigned_abs}
+use Rattle.std.specs.Prelude.{ℤ, pos, max, suc, unsigned_abs}
 use Rattle.sharc_tree.specs.{declared.event.Act.Act, declared.event.CellAt.CellAt, declared.event.CellMode.CellMode}
 use Rattle.sharc_tree.specs.declared.event.CellMode.TheVariants as modes
 use Rattle.sharc_tree.specs.declared.event.Object.TheVariants as objects
@@ -15,10 +15,7 @@ mutex_of globals m c (LockedGlobal g place) = Some (global_cell globals g place)
 mutex_of globals m c (LockedSibling field mutex) = Some (record { object = c.object; cell = c.cell - field + mutex })
 mutex_of globals m c (LockedThrough r place) = through (ref m r) place
 mutex_of globals m c LockedLoaded = through m.pending 0
-mutex_of globals m c Private = None
-mutex_of globals m c Readonly = None
-mutex_of globals m c Racy = None
-mutex_of globals m c Dynamic = None
+mutex_of globals m c _ = None
 
 -- under a lock, or X1 where the path leads through NULL
 abbrev pub under_lock : Option CellAt → Spot → (CellMode → Turn) → Turn
@@ -30,10 +27,7 @@ under Private c spot f = f modes.Private
 under Readonly c spot f = f modes.Readonly
 under Racy c spot f = f modes.Racy
 under Dynamic c spot f = f modes.Dynamic
-under (LockedGlobal g place) c spot f = under_lock c spot f
-under (LockedSibling field mutex) c spot f = under_lock c spot f
-under (LockedThrough r place) c spot f = under_lock c spot f
-under LockedLoaded c spot f = under_lock c spot f
+under _ c spot f = under_lock c spot f
 
 through_by : (b : Bool) (c : CellAt) (spot : Spot) (f : CellMode → Turn) → cond b (stops traps.NullPointer spot) (f (modes.Locked (cond b None (Some c)))) ≡ under_lock (cond b None (Some c)) spot f
 through_by true c spot f = refl
@@ -41,14 +35,10 @@ through_by false c spot f = refl
 
 under_by : (globals : List GlobalCells) (m : At) (c : CellAt) (spot : Spot) (f : CellMode → Turn) (mode : PlaceMode) → is_of_null m spot.lock ≡ false
     → cond (lock_is_null m spot mode) (stops traps.NullPointer spot) (f (cell_mode_of globals m c mode)) ≡ under mode (mutex_of globals m c mode) spot f
-under_by globals m c spot f Private e = refl
-under_by globals m c spot f Readonly e = refl
-under_by globals m c spot f Racy e = refl
-under_by globals m c spot f Dynamic e = refl
-under_by globals m c spot f (LockedGlobal g place) e = refl
 under_by globals m c spot f (LockedSibling field mutex) e = ap (λ b. cond b (stops traps.NullPointer spot) (f (cell_mode_of globals m c (LockedSibling field mutex)))) e
 under_by globals m c spot f (LockedThrough r place) e = through_by (is_null (ref m r)) (cell_of (objects.Made (number_of (ref m r))) place) spot f
 under_by globals m c spot f LockedLoaded e = through_by (is_null m.pending) (cell_of (objects.Made (number_of m.pending)) 0) spot f
+under_by globals m c spot f _ e = refl
 
 -- where the mutex beside what is accessed is not one of NULL
 pub accesses_under : (globals : List GlobalCells) (cell : Cell) (spot : Spot) (act : CellAt → CellMode → Act) (then_ : CellAt → ℤ → At → At) (m : At) → is_of_null m spot.lock ≡ false
@@ -59,6 +49,5 @@ accesses_under globals cell spot act then_ m e =
 
 -- a size that is positive is the number of elements
 pub positive_elements : (v : ℤ) → is_positive v ≡ true → elements_made v ≡ unsigned_abs v
-positive_elements (pos zero) h = absurd (cc)
 positive_elements (pos (suc n)) h = let q : max 1 (suc n) ≡ suc n = omega arith in q
-positive_elements (negsuc n) h = absurd (cc)
+positive_elements _ h = absurd (cc)

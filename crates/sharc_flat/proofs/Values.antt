@@ -2,7 +2,7 @@
 use Rattle.std.proofs.{Common.{◌≡◌, ℕ, ◌+◌, ◌-◌, ◌<◌, ◌≤◌, Bool, true, false, cond, List, [], ◌∷◌, ◌++◌, length, take, drop, Option, Some, None, refl, sym, ap, ◌∙◌, subst, arith, append_assoc}, lemmas.Bool.Decides.nat_tests, lemmas.List.{append-nil, take_at, drop_at}}
 use Rattle.std.specs.Prelude.{ℤ, pos, ◌&&◌, ◌||◌, nat_lt, ◌==◌}
 use Rattle.sharc_tree.specs.{declared.event.Object.Object, declared.event.Object.TheVariants.{Global, Made}}
-use Rattle.sharc_names.specs.Kinds.{Kind, object, array, null, function, is_integer, is_integral}
+use Rattle.sharc_names.specs.Kinds.{Kind, object, is_integer, is_integral}
 use Rattle.sharc_code.specs.{declared.instr.Register.TheVariants.Int, Arithmetic.word_of}
 use Rattle.sharc_mode.specs.Moded.{Assignment}
 use Rattle.sharc_meaning.specs.{declared.given.GivenUp.GivenUp, declared.given.GivenUp.TheVariants.Released, Cells.cell_of, Places.{StorePlace, variable, cell, field_in}, Reference.{is_null, number_of}, State.{State, Run, value_of, is_reference, pointers_among, all_released, temporarily}}
@@ -17,9 +17,7 @@ apart_at stars b h k = grind (arith, nat_tests)
 
 pub apart : (kind : Kind) → is_reference kind ≡ true → is_integer kind ≡ true → ⊥
 apart (object b stars) h k = apart_at stars (is_integral b) h k
-apart (array b stars) h k = absurd (cc)
-apart null h k = absurd (cc)
-apart function h k = absurd (cc)
+apart _ h k = absurd (cc)
 
 integer_by : (b : Bool) (kind : Kind) → is_reference kind ≡ b → is_integer kind ≡ true → b ≡ false
 integer_by true kind h k = absurd (apart kind h k)
@@ -167,11 +165,10 @@ module _ (m : Assignment) (z : Standing) (scope : List Slot) where
       × ((mutex : ℕ) → guard ≡ Some mutex → bank (z.ints + (i + 1)) ≡ pos (first + mutex)) × (is_null b ≡ false)
 
   pub bases_are : (t : Target) (guard : Option ℕ) (i : ℕ) (bank : ℕ → ℤ) (bases : List ℤ) (p : StorePlace) → Lies t guard i bank bases p → BasesOf (has_base t) bases
-  bases_are (targets.variable x) guard i bank bases p h = h.0
-  bases_are (in_global g f) guard i bank bases p h = h.0
   bases_are (in_global_at g f) guard i bank bases p h = h.1
   bases_are (in_object f) guard i bank bases p h = (h.0, h.1)
   bases_are (in_object_at f) guard i bank bases p h = (h.0, h.2)
+  bases_are _ guard i bank bases p h = h.0
 
   pub record Located (t : Target) (f guard : Option ℕ) (T : List ℤ) (i : ℕ) (p : StorePlace) (bases : List ℤ) (ints ints' refs' : ℕ → ℤ) (s' : State) : Type 0 where
     pub agree : Agree z (T ++ bases) scope [] ints' refs' s'

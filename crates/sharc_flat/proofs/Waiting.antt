@@ -177,9 +177,8 @@ module _ (m : Assignment) (z : Standing) (scope : List Slot) where
   two_of (a ∷ b ∷ x ∷ rest) h = absurd (omega (arith, h))
 
   one_of : (vs : List ℤ) → length vs ≡ 1 → (a : ℤ) × (vs ≡ a ∷ [])
-  one_of [] h = absurd (omega (arith, h))
   one_of (a ∷ []) h = (a, refl)
-  one_of (a ∷ b ∷ rest) h = absurd (omega (arith, h))
+  one_of _ h = absurd (omega (arith, h))
 
   abbrev calls_by : Bool → Bool → Site → List ℤ → Step
   calls_by b1 b2 site vs = cond b1 (wait_call site (slice_index_or vs 0 NULL) (slice_index_or vs 1 NULL)) (cond b2 (signal_call site (slice_index_or vs 0 NULL)) (broadcast_call site (slice_index_or vs 0 NULL)))
