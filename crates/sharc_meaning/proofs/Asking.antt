@@ -4,7 +4,7 @@ use Rattle.std.specs.Prelude.{ℤ, ◌≢◌}
 use Rattle.sharc_tree.specs.declared.event.SourceEvent.{SourceEvent}
 use Rattle.sharc_ctype.specs.Resolved.{function_at}
 use Rattle.sharc_mode.specs.Moded.{Assignment}
-use Rattle.sharc_meaning.specs.{Laws.{IsPrefix, GoesOn, MoreIsGivenUp, MoreFuel, MoreFuelChangesNothing, MoreAnswers, MoreAnswersChangeNothing, NoMoreThanAnswers, WantsBehindAnswers, Comes, OneAnswerMore}, Meaning.{Asked, asked_by, asks, run_thread, start}, State.{Outcome, wants, ended, stopped, spent, Out, go, over}}
+use Rattle.sharc_meaning.specs.{Laws.{IsPrefix, GoesOn, MoreIsGivenUp, MoreFuel, MoreFuelChangesNothing, MoreAnswers, MoreAnswersChangeNothing, NoMoreThanAnswers, WantsBehindAnswers, Comes, OneAnswerMore}, Meaning.{Asked, asked_by, asks, run_thread, start}, State.{Outcome, wants, ended, spent, Out, go, over}}
 use Rattle.sharc_meaning.proofs.{Closed.thread_kept, Growing.prefix_refl, Going.{with_more, NoMore, ComesIn}, Counting.{Counting, counting, Counts, NoneLeft}}
 use Rattle.sharc_meaning.proofs.Going as going
 
@@ -27,15 +27,13 @@ ran m f v answers more fuel d = (thread_kept (going.Going d more) (going.going d
 
 no_more_fuel : (o : Outcome) (d : ℕ) → o ≢ spent → NoMore o d []
 no_more_fuel (wants e) d n = refl
-no_more_fuel ended d n = tt
-no_more_fuel (stopped trap site) d n = tt
 no_more_fuel spent d n = absurd (n refl)
+no_more_fuel _ d n = tt
 
 no_more_answers : (o : Outcome) (ys : List ℤ) → ((e : SourceEvent) → o ≢ wants e) → NoMore o 0 ys
 no_more_answers (wants e) ys n = absurd (n e refl)
-no_more_answers ended ys n = tt
-no_more_answers (stopped trap site) ys n = tt
 no_more_answers spent ys n = refl
+no_more_answers _ ys n = tt
 
 pub more_fuel : MoreFuel
 more_fuel m f v answers fuel more = subst (λ l. GoesOn (asks m f v answers fuel) (asks m f v l (fuel + more))) (append-nil answers) (grown more [] _ _ (ran m f v answers [] fuel more))

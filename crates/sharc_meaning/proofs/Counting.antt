@@ -2,7 +2,7 @@
 use Rattle.std.proofs.Common.{◌≡◌, ℕ, zero, suc, ◌+◌, Bool, true, false, cond, List, [], ◌∷◌, ◌++◌, refl, sym, ap, arith, length, length-append}
 use Rattle.std.specs.Prelude.{ℤ}
 use Rattle.sharc_tree.specs.{declared.event.Act.Act, declared.token.Site.Site}
-use Rattle.sharc_meaning.specs.{State.{Frame, State, Outcome, wants, ended, stopped, spent, Out, go, over, Run, Step, then_on, give, enters_with, happens, answer_of, value_of, event_of, ends_temporaries, ends_variables, without_temporaries}, Statements.{Flow, next, broken, continued, returned, on_turn, turns}, Meaning.{back_in, with_frame}}
+use Rattle.sharc_meaning.specs.{State.{Frame, State, Outcome, wants, Out, go, over, Run, Step, then_on, give, enters_with, happens, answer_of, value_of, event_of, ends_temporaries, ends_variables, without_temporaries}, Statements.{Flow, next, broken, returned, on_turn, turns}, Meaning.{back_in, with_frame}}
 use Rattle.sharc_meaning.proofs.Closed.{Closed}
 
 -- the number of events and answers together
@@ -11,9 +11,7 @@ both s = length s.events + length s.answers
 
 abbrev pub NoneLeft : Outcome → List ℤ → Type 0
 NoneLeft (wants e) answers = answers ≡ []
-NoneLeft ended answers = Unit {0}
-NoneLeft (stopped trap site) answers = Unit {0}
-NoneLeft spent answers = Unit {0}
+NoneLeft _ answers = Unit {0}
 
 abbrev pub Counts : {A : Type 0} → ℕ → Out A → Type 0
 Counts n (go x s) = both s ≡ n
@@ -40,10 +38,9 @@ counts_at : {A : Type 0} (n : ℕ) (s : State) (m : Run A) → Counting false A 
 counts_at n s m h e = rw (sym e) (h s)
 
 counts_turn : (n : ℕ) (fl : Flow) (m : Run Flow) (s : State) → both s ≡ n → Counts n (m s) → Counts n (on_turn fl m s)
-counts_turn n next m s e h = h
-counts_turn n continued m s e h = h
 counts_turn n broken m s e h = e
 counts_turn n (returned site v) m s e h = e
+counts_turn n _ m s e h = h
 
 counts_cond : {A : Type 0} (n : ℕ) (b : Bool) (m k : Run A) (s : State) → Counts n (m s) → Counts n (k s) → Counts n (cond b m k s)
 counts_cond n true m k s h l = h

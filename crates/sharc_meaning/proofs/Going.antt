@@ -4,7 +4,7 @@ use Rattle.std.specs.Prelude.{ℤ, pos}
 use Rattle.sharc_tree.specs.{declared.event.Act.Act, declared.event.SourceEvent.SourceEvent, declared.token.Site.Site}
 use Rattle.sharc_tree.specs.declared.event.Act.TheVariants as acts
 use Rattle.sharc_tree.specs.declared.event.Taken.TheVariants as taken
-use Rattle.sharc_meaning.specs.{declared.given.GivenUp.GivenUp, Laws.{IsPrefix, IsAnswer}, State.{Frame, State, all_released, pointers_among, Outcome, wants, ended, stopped, spent, Out, go, over, Run, Step, then_on, ◌>>◌, give, enters_with, happens, answer_of, event_of, ends_temporaries, value_of, ends_variables, without_temporaries}, Statements.{Flow, next, broken, continued, returned, on_turn, turns}, Meaning.{back_in, with_frame}}
+use Rattle.sharc_meaning.specs.{declared.given.GivenUp.GivenUp, Laws.{IsPrefix, IsAnswer}, State.{Frame, State, all_released, pointers_among, Outcome, wants, spent, Out, go, over, Run, Step, then_on, ◌>>◌, give, enters_with, happens, answer_of, event_of, ends_temporaries, value_of, ends_variables, without_temporaries}, Statements.{Flow, next, broken, returned, on_turn, turns}, Meaning.{back_in, with_frame}}
 use Rattle.sharc_meaning.proofs.{Closed.Closed, Growing.{Grows, grows_refl, grows_on, one_more, prefix_refl, prefix_on, state_of, Growing, growing, grows_then, grows_turn, grows_turns, grows_cond, gives_more}}
 
 abbrev pub with_more : ℕ → List ℤ → State → State
@@ -14,8 +14,7 @@ with_more d ys s = record s { answers = s.answers ++ ys; fuel = s.fuel + d }
 abbrev pub NoMore : Outcome → ℕ → List ℤ → Type 0
 NoMore spent d ys = d ≡ 0
 NoMore (wants e) d ys = ys ≡ []
-NoMore ended d ys = Unit {0}
-NoMore (stopped trap site) d ys = Unit {0}
+NoMore _ d ys = Unit {0}
 
 -- the event comes with this answer of the list
 pub record ComesIn (e : SourceEvent) (y : ℤ) (before all : List SourceEvent) : Type 0 where
@@ -25,39 +24,16 @@ pub record ComesIn (e : SourceEvent) (y : ℤ) (before all : List SourceEvent) :
 
 -- where there is an answer more, what was wanted comes
 abbrev pub Comes : Outcome → List ℤ → List SourceEvent → List SourceEvent → Type 0
-Comes (wants e) [] before all = Unit {0}
 Comes (wants e) (y ∷ ys) before all = ComesIn e y before all
-Comes spent ys before all = Unit {0}
-Comes ended ys before all = Unit {0}
-Comes (stopped trap site) ys before all = Unit {0}
+Comes _ _ before all = Unit {0}
 
 pub comes_on : (o : Outcome) (ys : List ℤ) (before all more : List SourceEvent) → Comes o ys before all → IsPrefix all more → Comes o ys before more
-comes_on (wants e) [] before all more h k = tt
 comes_on (wants e) (y ∷ ys) before all more h k = record { answer = h.answer; is = h.is; events = prefix_on _ all more h.events k }
-comes_on spent ys before all more h k = tt
-comes_on ended ys before all more h k = tt
-comes_on (stopped trap site) ys before all more h k = tt
+comes_on _ _ before all more h k = tt
 
 is_answer : (held : ℕ → ℤ) (act : Act) (y : ℤ) → IsAnswer act y (answer_of held act y)
-is_answer held (acts.Read c mode) y = refl
-is_answer held (acts.New cells elements mode) y = refl
-is_answer held (acts.Take (taken.Cell c mode) kind) y = refl
 is_answer held (acts.Take (taken.Local x) kind) y = tt
-is_answer held (acts.Spawn f v) y = refl
-is_answer held (acts.Signal c) y = refl
-is_answer held (acts.Write c mode v) y = refl
-is_answer held (acts.Give r mode) y = refl
-is_answer held (acts.Freed r) y = refl
-is_answer held (acts.Lock c) y = refl
-is_answer held (acts.Unlock c) y = refl
-is_answer held (acts.Started v) y = refl
-is_answer held (acts.Join v) y = refl
-is_answer held (acts.Print v) y = refl
-is_answer held acts.Return y = refl
-is_answer held acts.Gone y = refl
-is_answer held (acts.Enter c) y = refl
-is_answer held (acts.Woken c) y = refl
-is_answer held (acts.Broadcast c) y = refl
+is_answer held _ y = refl
 
 pub record GoesPast {A : Type 0} (d : ℕ) (ys : List ℤ) (o : Outcome) (s : State) (o' : Out A) : Type 0 where
   pub grows : Grows s (state_of o')
@@ -113,10 +89,9 @@ module _ (d : ℕ) (ys : List ℤ) where
   goes_event (x ∷ xs) site act s = refl
 
   goes_turn : (fl : Flow) (m m' : Run Flow) (s : State) → GoesOn d ys (m s) (m' (with_more d ys s)) → GoesOn d ys (on_turn fl m s) (on_turn fl m' (with_more d ys s))
-  goes_turn next m m' s h = h
-  goes_turn continued m m' s h = h
   goes_turn broken m m' s h = refl
   goes_turn (returned site v) m m' s h = refl
+  goes_turn _ m m' s h = h
 
   goes_cond : {A : Type 0} (b : Bool) (m m' n n' : Run A) (s : State) → GoesOn d ys (m s) (m' (with_more d ys s)) → GoesOn d ys (n s) (n' (with_more d ys s)) → GoesOn d ys (cond b m n s) (cond b m' n' (with_more d ys s))
   goes_cond true m m' n n' s h k = h

@@ -2,7 +2,7 @@
 use Rattle.std.proofs.Common.{◌≡◌, ℕ, zero, suc, Bool, true, false, cond, List, [], ◌∷◌, ◌++◌, refl, sym, ap, ◌∙◌, append_assoc, append-nil, length, drop}
 use Rattle.std.specs.Prelude.{ℤ}
 use Rattle.sharc_tree.specs.{declared.event.Act.Act, declared.event.SourceEvent.SourceEvent, declared.token.Site.Site}
-use Rattle.sharc_meaning.specs.{declared.given.GivenUp.GivenUp, Laws.IsPrefix, State.{Frame, Traced, State, all_released, pointers_among, Out, go, over, Run, Step, then_on, give, enters_with, happens, answer_of, event_of, ends_temporaries, value_of, ends_variables, without_temporaries}, Statements.{Flow, next, broken, continued, returned, on_turn, turns}, Meaning.{back_in, with_frame}}
+use Rattle.sharc_meaning.specs.{declared.given.GivenUp.GivenUp, Laws.IsPrefix, State.{Frame, Traced, State, all_released, pointers_among, Out, go, over, Run, Step, then_on, give, enters_with, happens, answer_of, event_of, ends_temporaries, value_of, ends_variables, without_temporaries}, Statements.{Flow, next, broken, returned, on_turn, turns}, Meaning.{back_in, with_frame}}
 use Rattle.sharc_meaning.proofs.Closed.{Closed}
 
 pub prefix_refl : {A : Type 0} (a : List A) → IsPrefix a a
@@ -15,7 +15,7 @@ added_nothing : {A : Type 0} (a l : List A) → a ++ l ≡ a → l ≡ []
 added_nothing [] l h = h
 added_nothing (x ∷ a) l h = added_nothing a l (cc)
 
-first_nothing : {A : Type 0} (a b : List A) → a ++ b ≡ [] → a ≡ []
+pub first_nothing : {A : Type 0} (a b : List A) → a ++ b ≡ [] → a ≡ []
 first_nothing [] b h = refl
 first_nothing (x ∷ a) b h = absurd (cc)
 
@@ -71,10 +71,9 @@ grows_then s (go x t) g h k = grows_on s t (state_of (g x t)) h (k x t)
 grows_then s (over o t) g h k = h
 
 pub grows_turn : (fl : Flow) (m : Run Flow) → Growing false Flow m → Growing false Flow (on_turn fl m)
-grows_turn next m h s = h s
-grows_turn continued m h s = h s
 grows_turn broken m h s = grows_refl s
 grows_turn (returned site v) m h s = grows_refl s
+grows_turn _ m h s = h s
 
 pub grows_cond : {A : Type 0} (b : Bool) (m n : Run A) → Growing false A m → Growing false A n → Growing false A (cond b m n)
 grows_cond true m n hm hn = hm

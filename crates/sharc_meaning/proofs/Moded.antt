@@ -1,6 +1,6 @@
 -- The reasons of an assignment say nothing of the modes of cells.
 use Rattle.std.proofs.Common.{◌≡◌, List, Option, Some, None, refl, ap, ◌∙◌, Bool, true, false, if◌then◌else◌}
-use Rattle.sharc_tree.specs.{declared.ctype.Mode.Mode, declared.tree.item.GlobalDefinition.GlobalDefinition, Tree.{Expression, identifier, constant, parentheses, call, spawn, on_value, on_place, cast, index, field, unary, binary}}
+use Rattle.sharc_tree.specs.{declared.ctype.Mode.Mode, declared.tree.item.GlobalDefinition.GlobalDefinition, Tree.{Expression, identifier, parentheses, index, field, unary}}
 use Rattle.sharc_names.specs.{declared.fault.Named.Named, Kinds.is_array}
 use Rattle.sharc_names.specs.declared.fault.Named.TheVariants as named
 use Rattle.sharc_ctype.specs.{declared.entity.Numbered.Numbered, Entities.entity_at, Resolved.{Resolution, named_at, global_at, kind_at}}
@@ -24,11 +24,7 @@ module _ (r : Resolution) (modes : List Mode) (a b : List (Option Reason)) where
 
   same_named : (what : Named) → named_cell m what ≡ named_cell n what
   same_named (named.Global k) = same_global (global_at r k)
-  same_named (named.Struct k) = refl
-  same_named (named.Function k) = refl
-  same_named (named.Variable k) = refl
-  same_named (named.Field k) = refl
-  same_named named.Known = refl
+  same_named _ = refl
 
   same_pointed : (o : Option Targets) → pointed m o ≡ pointed n o
   same_pointed None = refl
@@ -40,17 +36,11 @@ module _ (r : Resolution) (modes : List Mode) (a b : List (Option Reason)) where
 
   same_cell : (e : Expression) → cell_at m e ≡ cell_at n e
   same_cell (identifier s i) = same_named (named_at r i.site.token)
-  same_cell (constant s c) = refl
   same_cell (parentheses s e) = same_cell e
-  same_cell (call s f all) = refl
-  same_cell (spawn s f e) = refl
-  same_cell (on_value s w e) = refl
-  same_cell (on_place s w e) = refl
-  same_cell (cast s t e) = refl
   same_cell (index s e i) = same_element (is_array (kind_at r e)) _ _ _ _ (same_cell e) (same_pointed (row_at r e))
   same_cell (field s e w k) = ap (λ z. field_named r (instance w z (pointed m (row_at r e))) (named_at r k.site.token)) (same_cell e) ∙ ap (λ z. field_named r (instance w (cell_at n e) z) (named_at r k.site.token)) (same_pointed (row_at r e))
   same_cell (unary s o e) = ap (unary_cell o) (same_pointed (row_at r e))
-  same_cell (binary s o at e f) = refl
+  same_cell _ = refl
 
   same_modes : SameModes m n
   same_modes = record { cells = same_cell; targets = λ e. refl }

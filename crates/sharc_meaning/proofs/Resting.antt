@@ -3,7 +3,7 @@ use Rattle.std.proofs.Common.{◌≡◌, ℕ, ◌+◌, ◌-◌, ◌<◌, ◌≤�
 use Rattle.std.specs.Prelude.{◌≢◌}
 use Rattle.sharc_tree.specs.declared.event.SourceEvent.{SourceEvent}
 use Rattle.sharc_mode.specs.Moded.{Assignment}
-use Rattle.sharc_meaning.specs.{Events.events_of, Laws.{ReferencesAtRest, ReferencesFromSomeFuel}, References.{Begun, asked_with, held_count, ThreadHolds, ThreadHoldsWith, in_cell, in_argument, in_mutex, in_thread}, Runs.answers_of, State.spent}
+use Rattle.sharc_meaning.specs.{Events.events_of, Laws.{ReferencesAtRest, ReferencesFromSomeFuel}, References.{Begun, asked_with, held_count, ThreadHolds, ThreadHoldsWith, in_thread}, Runs.answers_of, State.spent}
 use Rattle.sharc_meaning.proofs.Asking.{more_fuel_same}
 
 module _ (m : Assignment) (R : List SourceEvent) (thread : ℕ) where
@@ -26,13 +26,9 @@ module _ (m : Assignment) (R : List SourceEvent) (thread : ℕ) where
     }
 
 pub at_rest : ReferencesAtRest
-at_rest fuel m R n (in_cell c) rest = (λ h. h, λ h. h)
-at_rest fuel m R n (in_argument thread) rest = (λ h. h, λ h. h)
-at_rest fuel m R n (in_mutex c) rest = (λ h. h, λ h. h)
 at_rest fuel m R n (in_thread thread which) rest = (λ h. at_this m R thread which n fuel h (rest thread h.begun), λ h. from_then_on m R thread which n fuel h (rest thread h.begun))
+at_rest fuel m R n _ rest = (λ h. h, λ h. h)
 
 pub from_some_fuel : ReferencesFromSomeFuel
-from_some_fuel m R n (in_cell c) h = record { from = 0; with_each = λ fuel le. h }
-from_some_fuel m R n (in_argument thread) h = record { from = 0; with_each = λ fuel le. h }
-from_some_fuel m R n (in_mutex c) h = record { from = 0; with_each = λ fuel le. h }
 from_some_fuel m R n (in_thread thread which) h = record { from = h.from; with_each = λ fuel le. record { begun = h.begun; holds = h.holds fuel le } }
+from_some_fuel m R n _ h = record { from = 0; with_each = λ fuel le. h }

@@ -3,8 +3,8 @@ use Rattle.std.proofs.Common.{◌≡◌, ◌⊎◌, inl, inr, ℕ, ◌+◌, ◌�
 use Rattle.std.specs.Prelude.{ℤ, ◌≢◌}
 use Rattle.sharc_tree.specs.declared.event.SourceEvent.{SourceEvent}
 use Rattle.sharc_mode.specs.Moded.{Assignment}
-use Rattle.sharc_meaning.specs.{Events.{Stands, events_of, is_of}, Laws.{RunPrefixes, RunPrefixesWith}, Meaning.{Asked, asks}, Runs.{by, answers_of, Follows}, State.{Outcome, wants, ended, stopped, spent}}
-use Rattle.sharc_meaning.proofs.{Asking.{more_answers, more_answers_same, no_more_than_answers, wants_behind_answers}, Legal.prefixes_legal}
+use Rattle.sharc_meaning.specs.{Events.{Stands, events_of, is_of}, Laws.{RunPrefixes, RunPrefixesWith}, Meaning.{Asked, asks}, Runs.{by, answers_of, Follows}, State.{Outcome, wants}}
+use Rattle.sharc_meaning.proofs.{Asking.{more_answers, more_answers_same, no_more_than_answers, wants_behind_answers}, Legal.prefixes_legal, Growing.first_nothing as no_front}
 use Rattle.sharc_lemmas.proofs.Lists.{map_length, map_both, pick}
 
 -- ---- lists
@@ -18,10 +18,6 @@ fronts [] b (y ∷ c) d h l = absurd (omega arith)
 fronts (x ∷ a) b [] d h l = absurd (omega arith)
 fronts (x ∷ a) b (y ∷ c) d h l = let same : x ≡ y = cc in let tails : a ++ b ≡ c ++ d = cc in let shorter : length a ≡ length c = omega arith in
     ap (λ z. z ∷ a) same ∙ ap (λ z. y ∷ z) (fronts a b c d tails shorter)
-
-no_front : {A : Type 0} (a b : List A) → a ++ b ≡ [] → a ≡ []
-no_front [] b h = refl
-no_front (x ∷ a) b h = absurd (cc)
 
 -- where an event of a list in two parts is
 pub record InFirst (R S before : List SourceEvent) (e : SourceEvent) (after : List SourceEvent) : Type 0 where
@@ -62,9 +58,7 @@ module _ (m : Assignment) (f : ℕ) (v : ℤ) (fuel t : ℕ) where
   -- it asks for as many events as it has, where it goes on with the answers of more
   as_many : (X Y : List SourceEvent) → map (by t) (asked (answers_of X ++ answers_of Y)).events ≡ X ++ Y → (o : Outcome) → (asked (answers_of X)).outcome ≡ o → length (asked (answers_of X)).events ≡ length X
   as_many X Y h (wants e) o = wants_behind_answers m f v (answers_of X) fuel e o ∙ map_length (λ e. e.answer) X
-  as_many X Y h ended o = not_wanting X Y h (λ e w. absurd (cc))
-  as_many X Y h (stopped trap site) o = not_wanting X Y h (λ e w. absurd (cc))
-  as_many X Y h spent o = not_wanting X Y h (λ e w. absurd (cc))
+  as_many X Y h _ o = not_wanting X Y h (λ e w. absurd (cc))
 
   pub asked_before : (X Y : List SourceEvent) → map (by t) (asked (answers_of (X ++ Y))).events ≡ X ++ Y → map (by t) (asked (answers_of X)).events ≡ X
   asked_before X Y h =

@@ -2,7 +2,7 @@
 use Rattle.std.proofs.Common.{◌≡◌, ℕ, zero, suc, ◌<◌, ◌≤◌, Bool, true, false, cond, List, [], ◌∷◌, refl, sym, subst, arith, length}
 use Rattle.std.specs.Prelude.{ℤ}
 use Rattle.sharc_tree.specs.{declared.event.Act.Act, declared.token.Site.Site}
-use Rattle.sharc_meaning.specs.{State.{Frame, State, spent, Out, go, over, Run, Step, then_on, ◌>>=◌, ◌>>◌, give, enters_with, happens, ends_temporaries, ends_variables, without_temporaries}, Statements.{Flow, next, broken, continued, returned, on_turn, turns}, Laws.SpentIsNone, Meaning.{back_in, with_frame, run_thread, start}}
+use Rattle.sharc_meaning.specs.{State.{Frame, State, spent, Out, go, over, Run, Step, then_on, ◌>>=◌, ◌>>◌, give, enters_with, happens, ends_temporaries, ends_variables, without_temporaries}, Statements.{Flow, next, broken, returned, on_turn, turns}, Laws.SpentIsNone, Meaning.{back_in, with_frame, run_thread, start}}
 use Rattle.sharc_ctype.specs.Resolved.{function_at}
 use Rattle.sharc_meaning.proofs.Closed.{Closed, thread_kept}
 
@@ -35,10 +35,9 @@ spends_event [] site act f s le = λ e. absurd (cc)
 spends_event (x ∷ xs) site act f s le = le
 
 spends_turn : (fl : Flow) (m : Run Flow) (f : ℕ) (s : State) → s.fuel ≤ f → Spends false f (m s) → Spends false f (on_turn fl m s)
-spends_turn next m f s le h = h
-spends_turn continued m f s le h = h
 spends_turn broken m f s le h = le
 spends_turn (returned site v) m f s le h = le
+spends_turn _ m f s le h = h
 
 -- a loop is entered with no more fuel than it has turns, and each turn enters its body: so the turns are not used up before the fuel
 spends_turns : (n f : ℕ) (test : Run Bool) (step : Step) (body : Run Flow) → Spending false Bool test → Spending false (Unit {0}) step → Spending true Flow body → (s : State) → s.fuel ≤ n → n ≤ f → Spends false f (turns n test step body s)
