@@ -7,7 +7,7 @@ use Rattle.sharc_tree.specs.declared.tree.expression.Constant.TheVariants as con
 use Rattle.sharc_tree.specs.declared.tree.expression.PlaceCall.TheVariants as place_call
 use Rattle.sharc_tree.specs.declared.tree.expression.ValueCall.TheVariants as value_call
 use Rattle.sharc_ctype.specs.Resolved.{globals_in}
-use Rattle.sharc_parse.specs.{Grammar.{Word, name, keyword, mark, number, character, Sharing, private, readonly, racy, dynamic, locked, locked_through, Typing, Declaring, sharing_words, level_words, base_words, bottom_words, levels_words, list_words, type_words, declaring_words, Front, parenthesis, of_spawn, of_value, of_place, of_cast, front_words, Phrase, identifier, constant, enclosed, call, index, field, unary, binary, Phrases, none, more, operator_mark, access_mark, constant_word, words, words_of_all, words_of_rest, Value, value, malloc, Doing, assign, invoke, Line, nothing, does, declares, Loop, Sentence, line, jump, return, block, under, Sentences, no_more, sentence, Opening, if_of, else_of, while_of, for_of, option_words, count_words, value_words, doing_words, initial_words, line_words, step_words, loop_words, written, written_all, opening_words, Form, single, array, initially, Part, structure, global, function, sign_words, form_words, fields_words, further_words, parameters_words, part_words, program_words}, Places.{declaring_size, part_size, span_at, form_at, items_at}}
+use Rattle.sharc_parse.specs.{Grammar.{Word, name, keyword, mark, number, character, Sharing, locked, locked_through, Typing, Declaring, sharing_words, level_words, base_words, bottom_words, levels_words, list_words, type_words, declaring_words, Front, parenthesis, of_spawn, of_value, of_place, of_cast, front_words, Phrase, enclosed, call, index, field, unary, binary, Phrases, none, more, operator_mark, access_mark, constant_word, words, words_of_all, words_of_rest, Value, value, malloc, Doing, assign, invoke, Line, nothing, does, declares, Loop, Sentence, line, jump, return, block, under, Sentences, no_more, sentence, Opening, if_of, else_of, while_of, for_of, option_words, count_words, value_words, doing_words, initial_words, line_words, step_words, loop_words, written, written_all, opening_words, Form, single, array, initially, Part, structure, global, function, sign_words, form_words, fields_words, further_words, parameters_words, part_words, program_words}, Places.{declaring_size, part_size, span_at, form_at, items_at}}
 use Rattle.sharc_source_laws.specs.Constants.{IsHeld}
 
 -- a number has no sign
@@ -27,24 +27,17 @@ Plainly (w ∷ y) = IsPlainWord w × Plainly y
 
 -- ---- types
 pub behind_sharing : (s : Sharing) (y : List Word) → Plainly (sharing_words s y) → Plainly y
-behind_sharing private y h = h.1
-behind_sharing readonly y h = h.1
-behind_sharing racy y h = h.1
-behind_sharing dynamic y h = h.1
 behind_sharing (locked m) y h = h.1.1.1.1
 behind_sharing (locked_through x m) y h = h.1.1.1.1.1.1
+behind_sharing _ y h = h.1
 
 pub behind_level : (s : Option Sharing) (y : List Word) → Plainly (level_words s y) → Plainly y
 behind_level None y h = h
 behind_level (Some s) y h = behind_sharing s y h
 
 pub behind_base : (b : Base) (y : List Word) → Plainly (base_words b y) → Plainly y
-behind_base base.Int y h = h.1
-behind_base base.Char y h = h.1
-behind_base base.Long y h = h.1
-behind_base base.Mutex y h = h.1
-behind_base base.Void y h = h.1
 behind_base (base.Struct n) y h = h.1.1
+behind_base _ y h = h.1
 
 pub behind_bottom : (first : Bool) (b : Base) (m : Option Sharing) (y : List Word) → Plainly (bottom_words first b m y) → Plainly y
 behind_bottom true b m y h = behind_base b y (behind_level m (base_words b y) h)
@@ -69,22 +62,20 @@ pub behind_front : (f : Front) (y : List Word) → Plainly (front_words f y) →
 behind_front parenthesis y h = h.1
 behind_front (of_spawn f) y h = h.1.1.1.1
 behind_front (of_value value_call.Join) y h = h.1.1
-behind_front (of_value value_call.Print) y h = h.1.1
 behind_front (of_place place_call.Lock) y h = h.1.1.1
 behind_front (of_place place_call.Unlock) y h = h.1.1.1
-behind_front (of_place place_call.Free) y h = h.1.1
 behind_front (of_cast t) y h = (behind_type t (mark _ ∷ y) h.1.1).1
+behind_front _ y h = h.1.1
 
 mutual
   pub behind_words : (a : Phrase) (y : List Word) → Plainly (words a y) → Plainly y
-  behind_words (identifier n) y h = h.1
-  behind_words (constant c) y h = h.1
   behind_words (enclosed f a) y h = (behind_words a (mark _ ∷ y) (behind_front f (words a (mark _ ∷ y)) h)).1
   behind_words (call f all) y h = (behind_all all (mark _ ∷ y) h.1.1).1
   behind_words (index a i) y h = (behind_words i (mark _ ∷ y) (behind_words a (mark _ ∷ words i (mark _ ∷ y)) h).1).1
   behind_words (field a w n) y h = (behind_words a (mark (access_mark w) ∷ (name n ∷ y)) h).1.1
   behind_words (unary o a) y h = behind_words a y h.1
   behind_words (binary o a b) y h = behind_words b y (behind_words a (mark (operator_mark o) ∷ words b y) h).1
+  behind_words _ y h = h.1
 
   pub behind_all : (all : Phrases) (y : List Word) → Plainly (words_of_all all y) → Plainly y
   behind_all none y h = h
@@ -184,14 +175,12 @@ Begins _ = Unit {0}
 
 constant_begins : (c : Constant) (span : Span) (minus : Bool) → IsPlainWord (constant_word c) → Begins (Initial span minus c)
 constant_begins (constants.Number k) span minus h = h.0
-constant_begins (constants.Character byte) span minus h = tt
-constant_begins constants.Null span minus h = tt
+constant_begins _ span minus h = tt
 
 form_begins : (s : ℕ → Site) (n : ℕ) (f : Form) (y : List Word) → Plainly (form_words f y) → Begins (form_at s n f)
-form_begins s n single y h = tt
-form_begins s n (array k) y h = tt
 form_begins s n (initially true c) y h = constant_begins c (span_at s (n + 1) 2) true h.1.1.0
 form_begins s n (initially false c) y h = constant_begins c (span_at s (n + 1) 1) false h.1.0
+form_begins s n _ y h = tt
 
 abbrev AllBegin : List GlobalDefinition → Type 0
 AllBegin gs = (n : ℕ) (d : GlobalDefinition) → slice_get gs n ≡ Some d → Begins d.form

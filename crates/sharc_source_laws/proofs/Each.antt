@@ -1,7 +1,7 @@
 -- What is so of the constants of a function, by recursion over the tree, is so of each constant among its expressions.
 use Rattle.std.proofs.Common.{◌≡◌, ℕ, zero, suc, ◌<◌, List, [], ◌∷◌, ◌++◌, length, slice_index_or, slice_get, ap, subst, arith, Option, Some, None}
 use Rattle.std.specs.List.{AllByRecursion}
-use Rattle.sharc_tree.specs.{Measures.{expressions, in_arguments, in_option, in_right, in_simple, in_first, in_head, in_statement, in_statements, in_function}, Tree.{Expression, identifier, constant, parentheses, call, spawn, on_value, on_place, cast, index, field, unary, binary, Arguments, no_arguments, argument, Right, value, malloc, Simple, assign, does_call, First, nothing, declares, does, Head, Statement, empty, block, declare, simple, jump, return, if_then, if_then_else, while, for, Statements, no_statements, statement}}
+use Rattle.sharc_tree.specs.{Measures.{expressions, in_arguments, in_option, in_right, in_simple, in_first, in_head, in_statement, in_statements, in_function}, Tree.{Expression, identifier, constant, parentheses, call, spawn, on_value, on_place, cast, index, field, unary, binary, Arguments, no_arguments, argument, Right, value, malloc, Simple, assign, does_call, First, nothing, declares, does, Head, Statement, block, declare, simple, return, if_then, if_then_else, while, for, Statements, no_statements, statement}}
 use Rattle.sharc_ctype.specs.Resolved.{functions_in}
 use Rattle.sharc_source_laws.specs.Constants.{IsHeld, HeldIn, HeldInAll, HeldInOption, HeldInRight, HeldInSimple, HeldInInitial, HeldInFirst, HeldInStep, HeldInHead, HeldInStatement, HeldInStatements, ConstantsAreHeld, EachConstantIsHeld}
 use Rattle.sharc_lemmas.proofs.Lists.{both}
@@ -77,16 +77,15 @@ of_head x h = pair (in_first x.first ++ in_option expressions x.test) (in_option
 
 mutual
   of_statement : (a : Statement) → HeldInStatement a → AreSelfHeld (in_statement a)
-  of_statement (empty s) h = tt
   of_statement (block s all) h = of_statements all h
   of_statement (declare s l) h = of_initial l.initial h
   of_statement (simple s x) h = of_simple x h
-  of_statement (jump s j) h = tt
   of_statement (return s e) h = of_option e h
   of_statement (if_then s e a) h = pair (expressions e) (in_statement a) (in_each e h.0) (of_statement a h.1)
   of_statement (if_then_else s e a b) h = pair (expressions e ++ in_statement a) (in_statement b) (pair (expressions e) (in_statement a) (in_each e h.0) (of_statement a h.1)) (of_statement b h.2)
   of_statement (while s e a) h = pair (expressions e) (in_statement a) (in_each e h.0) (of_statement a h.1)
   of_statement (for s x a) h = pair (in_head x) (in_statement a) (of_head x h.0) (of_statement a h.1)
+  of_statement _ h = tt
 
   of_statements : (all : Statements) → HeldInStatements all → AreSelfHeld (in_statements all)
   of_statements no_statements h = tt

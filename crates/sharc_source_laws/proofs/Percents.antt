@@ -1,6 +1,6 @@
 -- No two `%` follow one another in the words of a program.
 use Rattle.std.proofs.Common.{◌≡◌, Bool, true, false, ◌&&◌, List, [], ◌∷◌, ◌++◌, Option, Some, None, refl}
-use Rattle.sharc_tree.specs.{declared.token.Punctuator.TheVariants.{OpenParenthesis, CloseParenthesis, OpenBrace, CloseBrace, OpenBracket, CloseBracket, Semicolon, Comma, Assign, Star, Percent}, declared.ctype.Base.Base, declared.tree.expression.FieldOperator.FieldOperator, declared.tree.expression.BinaryOperator.BinaryOperator, declared.tree.expression.UnaryOperator.UnaryOperator, declared.tree.expression.UnaryOperator.TheVariants.{Negate, Not, Complement, Dereference}, declared.tree.expression.Constant.Constant, declared.tree.statement.Jump.Jump}
+use Rattle.sharc_tree.specs.{declared.token.Punctuator.TheVariants.{OpenParenthesis, CloseParenthesis, OpenBrace, CloseBrace, OpenBracket, CloseBracket, Semicolon, Comma, Assign, Star, Percent}, declared.ctype.Base.Base, declared.tree.expression.FieldOperator.FieldOperator, declared.tree.expression.BinaryOperator.BinaryOperator, declared.tree.expression.UnaryOperator.UnaryOperator, declared.tree.expression.UnaryOperator.TheVariants.Not, declared.tree.expression.Constant.Constant, declared.tree.statement.Jump.Jump}
 use Rattle.sharc_tree.specs.declared.token.Keyword.TheVariants as key
 use Rattle.sharc_tree.specs.declared.ctype.Base.TheVariants as base
 use Rattle.sharc_tree.specs.declared.tree.expression.FieldOperator.TheVariants as access
@@ -9,7 +9,7 @@ use Rattle.sharc_tree.specs.declared.tree.expression.Constant.TheVariants as con
 use Rattle.sharc_tree.specs.declared.tree.expression.PlaceCall.TheVariants as place_call
 use Rattle.sharc_tree.specs.declared.tree.expression.ValueCall.TheVariants as value_call
 use Rattle.sharc_tree.specs.declared.tree.statement.Jump.TheVariants as jumps
-use Rattle.sharc_parse.specs.Grammar.{Word, name, keyword, mark, Sharing, private, readonly, racy, dynamic, locked, locked_through, Typing, Declaring, sharing_words, level_words, base_words, bottom_words, levels_words, list_words, type_words, declaring_words, Front, parenthesis, of_spawn, of_value, of_place, of_cast, front_words, Phrase, identifier, constant, enclosed, call, index, field, unary, binary, Phrases, none, more, operator_mark, unary_mark, access_mark, constant_word, words, words_of_all, words_of_rest, Value, value, malloc, Doing, assign, invoke, Line, nothing, does, declares, Loop, Sentence, line, jump, return, block, under, Sentences, no_more, sentence, Opening, if_of, else_of, while_of, for_of, option_words, count_words, value_words, doing_words, initial_words, line_words, step_words, loop_words, jump_word, written, written_all, opening_words, Form, single, array, initially, Part, structure, global, function, sign_words, form_words, fields_words, further_words, parameters_words, part_words, program_words}
+use Rattle.sharc_parse.specs.Grammar.{Word, name, keyword, mark, Sharing, locked, locked_through, Typing, Declaring, sharing_words, level_words, base_words, bottom_words, levels_words, list_words, type_words, declaring_words, Front, parenthesis, of_spawn, of_value, of_place, of_cast, front_words, Phrase, identifier, constant, enclosed, call, index, field, unary, binary, Phrases, none, more, operator_mark, unary_mark, access_mark, constant_word, words, words_of_all, words_of_rest, Value, value, malloc, Doing, assign, invoke, Line, nothing, does, declares, Loop, Sentence, line, jump, return, block, under, Sentences, no_more, sentence, Opening, if_of, else_of, while_of, for_of, option_words, count_words, value_words, doing_words, initial_words, line_words, step_words, loop_words, jump_word, written, written_all, opening_words, Form, single, array, initially, Part, structure, global, function, sign_words, form_words, fields_words, further_words, parameters_words, part_words, program_words}
 
 abbrev is_percent : Word → Bool
 is_percent (mark Percent) = true
@@ -30,24 +30,17 @@ Clear y = (starts y ≡ false) × Apart y
 
 -- ---- types
 sharing_apart : (s : Sharing) (y : List Word) → Apart y → Apart (sharing_words s y)
-sharing_apart private y h = (refl, h)
-sharing_apart readonly y h = (refl, h)
-sharing_apart racy y h = (refl, h)
-sharing_apart dynamic y h = (refl, h)
 sharing_apart (locked m) y h = (refl, (refl, (refl, (refl, h))))
 sharing_apart (locked_through x m) y h = (refl, (refl, (refl, (refl, (refl, (refl, h))))))
+sharing_apart _ y h = (refl, h)
 
 level_apart : (s : Option Sharing) (y : List Word) → Apart y → Apart (level_words s y)
 level_apart None y h = h
 level_apart (Some s) y h = sharing_apart s y h
 
 base_apart : (b : Base) (y : List Word) → Apart y → Apart (base_words b y)
-base_apart base.Int y h = (refl, h)
-base_apart base.Char y h = (refl, h)
-base_apart base.Long y h = (refl, h)
-base_apart base.Mutex y h = (refl, h)
-base_apart base.Void y h = (refl, h)
 base_apart (base.Struct n) y h = (refl, (refl, h))
+base_apart _ y h = (refl, h)
 
 bottom_apart : (first : Bool) (b : Base) (m : Option Sharing) (y : List Word) → Apart y → Apart (bottom_words first b m y)
 bottom_apart true b m y h = level_apart m (base_words b y) (base_apart b y h)
@@ -72,47 +65,27 @@ front_clear : (f : Front) (y : List Word) → Apart y → Clear (front_words f y
 front_clear parenthesis y h = (refl, (refl, h))
 front_clear (of_spawn f) y h = (refl, (refl, (refl, (refl, (refl, h)))))
 front_clear (of_value value_call.Join) y h = (refl, (refl, (refl, h)))
-front_clear (of_value value_call.Print) y h = (refl, (refl, (refl, h)))
 front_clear (of_place place_call.Lock) y h = (refl, (refl, (refl, (refl, h))))
 front_clear (of_place place_call.Unlock) y h = (refl, (refl, (refl, (refl, h))))
-front_clear (of_place place_call.Free) y h = (refl, (refl, (refl, h)))
 front_clear (of_cast t) y h = (refl, (refl, (refl, type_apart t (mark Comma ∷ y) (refl, h))))
+front_clear _ y h = (refl, (refl, (refl, h)))
 
 constant_clear : (c : Constant) (y : List Word) → Apart y → Clear (constant_word c ∷ y)
 constant_clear (constants.Number n) y h = (refl, (refl, h))
-constant_clear (constants.Character n) y h = (refl, (refl, h))
-constant_clear constants.Null y h = (refl, (refl, h))
+constant_clear _ y h = (refl, (refl, h))
 
 access_apart : (w : FieldOperator) (y : List Word) → Apart y → Apart (mark (access_mark w) ∷ y)
 access_apart access.Dot y h = (refl, h)
 access_apart access.Arrow y h = (refl, h)
 
 unary_clear : (o : UnaryOperator) (y : List Word) → Apart y → Clear (mark (unary_mark o) ∷ y)
-unary_clear Negate y h = (refl, (refl, h))
 unary_clear Not y h = (refl, (refl, h))
-unary_clear Complement y h = (refl, (refl, h))
-unary_clear Dereference y h = (refl, (refl, h))
+unary_clear _ y h = (refl, (refl, h))
 
 -- an operand does not begin with `%`
 operator_apart : (o : BinaryOperator) (y : List Word) → Clear y → Apart (mark (operator_mark o) ∷ y)
-operator_apart op.LogicalOr y h = (refl, h.1)
-operator_apart op.LogicalAnd y h = (refl, h.1)
-operator_apart op.BitOr y h = (refl, h.1)
-operator_apart op.BitXor y h = (refl, h.1)
-operator_apart op.BitAnd y h = (refl, h.1)
-operator_apart op.Equal y h = (refl, h.1)
-operator_apart op.NotEqual y h = (refl, h.1)
-operator_apart op.Less y h = (refl, h.1)
-operator_apart op.Greater y h = (refl, h.1)
-operator_apart op.LessOrEqual y h = (refl, h.1)
-operator_apart op.GreaterOrEqual y h = (refl, h.1)
-operator_apart op.ShiftLeft y h = (refl, h.1)
-operator_apart op.ShiftRight y h = (refl, h.1)
-operator_apart op.Add y h = (refl, h.1)
-operator_apart op.Subtract y h = (refl, h.1)
-operator_apart op.Multiply y h = (refl, h.1)
-operator_apart op.Divide y h = (refl, h.1)
 operator_apart op.Remainder y h = h
+operator_apart _ y h = (refl, h.1)
 
 mutual
   words_clear : (a : Phrase) (y : List Word) → Apart y → Clear (words a y)

@@ -55,11 +55,8 @@ are_other (e ∷ es) = if is_other e.1 then are_other es else false
 
 other_plain : (k : TokenKind) → is_other k ≡ true → IsPlainKind k
 other_plain (kind.Number n) h = absurd (let e : false ≡ true = h in cc)
-other_plain (kind.Keyword k) h = λ text. tt
-other_plain kind.Identifier h = λ text. tt
 other_plain (kind.Character c) h = absurd (let e : false ≡ true = h in cc)
-other_plain (kind.Punctuator p) h = λ text. tt
-other_plain kind.LeftOut h = λ text. tt
+other_plain _ h = λ text. tt
 
 others_plain : (table : List (List ℕ × TokenKind)) → are_other table ≡ true → AllPlain table
 others_plain [] h = tt
@@ -129,13 +126,10 @@ escaped_low b =
     (choose_low (b == 92) _ _ (omega arith) (choose_low (b == 39) _ _ (omega arith) (choose_low (b == 34) _ _ (omega arith) tt))))))
 
 behind_backslash_low : (bytes : List ℕ) → IsLow (behind_backslash bytes)
-behind_backslash_low [] = tt
-behind_backslash_low (e ∷ []) = tt
 behind_backslash_low (e ∷ (quote ∷ bytes)) = choose_low (quote == 39) _ _ (escaped_low e) tt
+behind_backslash_low _ = tt
 
 plain_low : (bytes : List ℕ) → IsLow (plain bytes)
-plain_low [] = tt
-plain_low (b ∷ []) = tt
 plain_low (b ∷ (quote ∷ bytes)) = by (is_printable b && not (b == 39) && (quote == 39)) refl
   where
     printable : (p q r : Bool) → (p && q && r) ≡ true → p ≡ true
@@ -152,6 +146,7 @@ plain_low (b ∷ (quote ∷ bytes)) = by (is_printable b && not (b == 39) && (qu
     by : (p : Bool) → (is_printable b && not (b == 39) && (quote == 39)) ≡ p → IsLow (if p then Some b else None)
     by true e = low (printable (is_printable b) (not (b == 39)) (quote == 39) e)
     by false e = tt
+plain_low _ = tt
 
 character_plain : (bytes : List ℕ) (e : TokenFault) → WhereFound (ok_or (character bytes) e)
 character_plain [] e = tt
