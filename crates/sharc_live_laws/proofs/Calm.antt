@@ -1,13 +1,13 @@
 -- Runs that do nothing with locals and make no calls.
 use Rattle.std.proofs.Common.{◌≡◌, ℕ, zero, suc, Bool, true, false, cond, List, [], ◌∷◌, refl, ◌∙◌, length}
 use Rattle.std.specs.{Prelude.{ℤ, not, Some, Result, Ok, Err, nat_lt, codes, slice_index_or}, Str.bytes_eq}
-use Rattle.sharc_tree.specs.{declared.event.Act.Act, declared.event.CellMode.TheVariants.{Readonly, Locked}, declared.event.Object.Object, declared.event.Object.TheVariants.{Global, Made}, declared.token.Site.Site, declared.trap.Trap.Trap}
+use Rattle.sharc_tree.specs.{declared.event.Act.Act, declared.event.CellMode.TheVariants.{Readonly, Locked}, declared.event.Object.Object, declared.event.Object.TheVariants.Made, declared.token.Site.Site, declared.trap.Trap.Trap}
 use Rattle.sharc_tree.specs.declared.event.Act.TheVariants as events
 use Rattle.sharc_tree.specs.declared.trap.Trap.TheVariants as traps
 use Rattle.sharc_names.specs.Kinds.{Kind}
 use Rattle.sharc_ctype.specs.Resolved.{Resolution}
-use Rattle.sharc_mode.specs.Sharings.{Sharing, private, readonly, locked, racy, dynamic}
-use Rattle.sharc_meaning.specs.{Cells.{cell_of, Guard, mutex, behind, nothing, guard_of, instance_mode}, Events.{held_mutexes, holds_mutex}, Reference.{NULL, is_null, number_of}, declared.given.GivenUp.GivenUp, declared.given.GivenUp.TheVariants.{Released, Emptied}, State.{State, Out, go, over, Run, then_on, ◌>>=◌, give, done, stop, unless_stop, enters, enters_with, happens, answered, performs, gives_up, drops, holds, holds_reference, moves, moves_on, is_reference, value_of, looks_at, sets, stands}, declared.variable.Variable.Variable, Places.{StorePlace, variable, cell, pointee, based, guarding, access_mode, cast_to, freed}, Waiting.{cell_at_place, moves_base, gives_up_base, lock_call, unlock_call, wait_call, signal_call, broadcast_call, condition_call}, Expressions.resulting, Meaning.goes_away}
+use Rattle.sharc_mode.specs.Sharings.{Sharing, locked}
+use Rattle.sharc_meaning.specs.{Cells.{cell_of, Guard, mutex, behind, nothing, guard_of, instance_mode}, Events.{held_mutexes, holds_mutex}, Reference.{NULL, is_null, number_of}, declared.given.GivenUp.GivenUp, declared.given.GivenUp.TheVariants.{Released, Emptied}, State.{State, Out, go, over, Run, then_on, ◌>>=◌, give, done, stop, unless_stop, enters, enters_with, happens, answered, performs, gives_up, drops, holds, holds_reference, moves, moves_on, is_reference, value_of, looks_at, sets, stands}, declared.variable.Variable.Variable, Places.{StorePlace, cell, pointee, based, guarding, access_mode, cast_to, freed}, Waiting.{cell_at_place, moves_base, gives_up_base, lock_call, unlock_call, wait_call, signal_call, broadcast_call, condition_call}, Expressions.resulting, Meaning.goes_away}
 use Rattle.sharc_dataflow.specs.Flow.{Next, Ends}
 use Rattle.sharc_live.specs.Flows.{goes_on}
 use Rattle.sharc_live_laws.proofs.{Ways.{way_goes, way_stays}, Along.{Any, onward, Along, Reached, moved_not}}
@@ -118,11 +118,8 @@ calm_guarding site (behind c) = calm_then (calm_answered site (events.Read c Rea
 calm_guarding site nothing = calm_stop traps.NullPointer site
 
 pub calm_mode : (r : Resolution) (site : Site) (mode : Sharing) (o : Object) (first : ℕ) → Calm (access_mode r site mode o first)
-calm_mode r site private o first = calm_give _
-calm_mode r site readonly o first = calm_give _
 calm_mode r site (locked l) o first = calm_then (calm_looks value_of) (λ held. calm_then (calm_guarding site (guard_of r held o first l)) (λ c. calm_give (Locked (Some c))))
-calm_mode r site racy o first = calm_give _
-calm_mode r site dynamic o first = calm_give _
+calm_mode r site _ o first = calm_give _
 
 pub calm_cast : (r : Resolution) (site : Site) (mode : Sharing) (v : ℤ) → Calm (cast_to r site mode v)
 calm_cast r site mode v = calm_then (calm_holds_reference v) (λ a. calm_then (calm_looks value_of) (λ held. calm_then (calm_performs site (events.Give v (instance_mode r held mode))) (λ b. calm_then (calm_moves_on 1) (λ c. calm_give v))))
@@ -134,13 +131,11 @@ calm_freed site v = calm_then (calm_gives_up (Emptied (number_of v) ∷ [])) (λ
 
 calm_moves_base : (p : StorePlace) → Calm (moves_base p)
 calm_moves_base (cell (Made n) first c) = calm_moves_on 1
-calm_moves_base (cell (Global g) first c) = calm_done
-calm_moves_base (variable x) = calm_done
+calm_moves_base _ = calm_done
 
 calm_gives_up_base : (p : StorePlace) → Calm (gives_up_base p)
 calm_gives_up_base (cell (Made n) first c) = calm_gives_up (Released n ∷ [])
-calm_gives_up_base (cell (Global g) first c) = calm_done
-calm_gives_up_base (variable x) = calm_done
+calm_gives_up_base _ = calm_done
 
 pub calm_lock : (site : Site) (p : StorePlace) → Calm (lock_call site p)
 calm_lock site p = calm_then (calm_looks (λ s. s.events)) (λ own. calm_then (calm_unless (not (holds_mutex own (cell_at_place p))) traps.MutexAlreadyHeld site) (λ a.

@@ -30,9 +30,8 @@ is_at (cell o first c) x = false
 
 module _ (x : ℕ) where
   spared_other : (u : Use) (y token : ℕ) → (y == x) ≡ false → Spares x (act_of y u token)
-  spared_other reads y token e = tt
   spared_other writes y token e = λ same. eqb-false y x e same
-  spared_other nulls y token e = tt
+  spared_other _ y token e = tt
 
   covers_use : (u : Use) (y token : ℕ) (b : Bool) → (y == x) ≡ b → Covers x (only_if b (act_of x u token)) (act_of y u token ∷ [])
   covers_use u y token true e = subst (λ z. Covers x (act_of x u token ∷ []) (act_of z u token ∷ [])) (sym (eqb-true y x e)) (covers_same x (act_of x u token ∷ []))
@@ -45,8 +44,7 @@ module _ (x : ℕ) where
 
   use_none : (u : Use) (token : ℕ) → Way x (use_flow u None token) Next []
   use_none reads token = way_goes x Next
-  use_none writes token = way_goes x Next
-  use_none nulls token = way_goes x Next
+  use_none _ token = way_goes x Next
 
   pub way_use : (u : Use) (o : Option ℕ) (token : ℕ) → Way x (use_flow u o token) Next (only_if (is_named o x) (act_of x u token))
   way_use u None token = use_none u token

@@ -1,12 +1,12 @@
 -- Places: the code that finds one, and the local that it is.
 use Rattle.std.proofs.{Common.{◌≡◌, ℕ, Bool, true, false, cond, ◌==◌, List, [], Option, Some, None, refl, ◌∙◌, subst, append-nil}, lemmas.Bool.both_ways}
 use Rattle.std.specs.Prelude.{ℤ, pos, negsuc, nat_lt}
-use Rattle.sharc_tree.specs.{declared.event.Object.Object, declared.event.Object.TheVariants.{Global, Made}, declared.token.Site.Site, declared.token.Span.Span, declared.tree.expression.FieldOperator.FieldOperator, declared.tree.expression.FieldOperator.TheVariants.{Dot, Arrow}, declared.tree.expression.UnaryOperator.UnaryOperator, declared.tree.expression.UnaryOperator.TheVariants.{Negate, Not, Complement, Dereference}, declared.trap.Trap.Trap, Tree.{Expression, identifier, constant, parentheses, call, spawn, on_value, on_place, cast, index, field, unary, binary, Function}}
+use Rattle.sharc_tree.specs.{declared.event.Object.Object, declared.event.Object.TheVariants.{Global, Made}, declared.token.Site.Site, declared.token.Span.Span, declared.tree.expression.FieldOperator.FieldOperator, declared.tree.expression.FieldOperator.TheVariants.{Dot, Arrow}, declared.tree.expression.UnaryOperator.UnaryOperator, declared.tree.expression.UnaryOperator.TheVariants.{Not, Dereference}, declared.trap.Trap.Trap, Tree.{Expression, identifier, constant, parentheses, call, index, field, unary, binary, Function}}
 use Rattle.sharc_tree.specs.declared.trap.Trap.TheVariants as traps
 use Rattle.sharc_names.specs.{declared.fault.Named.Named, Kinds.{Kind, is_array, element_kind, int, long}}
 use Rattle.sharc_names.specs.declared.fault.Named.TheVariants as named
-use Rattle.sharc_ctype.specs.{declared.expr.OperatorClass.OperatorClass, declared.expr.OperatorClass.TheVariants.{Logical, Equality, Relation, Shift, Arithmetic}, Expressions.{class_of, binary_result}, Resolved.{Resolution, named_at, kind_at, global_at, function_at, result_kind_of, called_kind}}
-use Rattle.sharc_dataflow.specs.{Flow.{Act, To, Next, Broken, Continued, Ends}, Code.{Code, first_then, one_of}}
+use Rattle.sharc_ctype.specs.{declared.expr.OperatorClass.OperatorClass, declared.expr.OperatorClass.TheVariants.{Shift, Arithmetic}, Expressions.{class_of, binary_result}, Resolved.{Resolution, named_at, kind_at, global_at, function_at, result_kind_of, called_kind}}
+use Rattle.sharc_dataflow.specs.{Flow.{Act, To, Next, Ends}, Code.{Code, first_then, one_of}}
 use Rattle.sharc_live.specs.Flows.{goes_on, variable_named, variable_of, through, of_base, of_operand, flow, place_flow}
 use Rattle.sharc_live.specs.Flows as flows
 use Rattle.sharc_meaning.specs.{Cells.{element_cells, global_elements, field_place_named}, Reference.{number_of, elements_of}, State.{Run, ◌>>=◌, ◌>>◌, give, stop, entered}, Places.{StorePlace, variable, cell, no_place, place_named, pointee, field_in, based, element, element_of_array, index_place, pointee_place, field_place, unary_place}}
@@ -19,23 +19,19 @@ promoted_no_array true = refl
 promoted_no_array false = refl
 
 result_no_array : (k : OperatorClass) (a b : Kind) → is_array (binary_result k a b) ≡ false
-result_no_array Logical a b = refl
-result_no_array Equality a b = refl
-result_no_array Relation a b = refl
 result_no_array Shift a b = promoted_no_array _
 result_no_array Arithmetic a b = promoted_no_array _
+result_no_array _ a b = refl
 
 given_no_array : (f : Option Function) → is_array (result_kind_of f) ≡ false
 given_no_array None = refl
 given_no_array (Some f) = refl
 
 called_no_array : (r : Resolution) (n : Named) → is_array (called_kind r n) ≡ false
-called_no_array r (named.Struct n) = refl
-called_no_array r (named.Global n) = refl
 called_no_array r (named.Function n) = given_no_array (function_at r n)
 called_no_array r (named.Variable token) = refl
 called_no_array r (named.Field token) = refl
-called_no_array r named.Known = refl
+called_no_array r _ = refl
 
 module _ (r : Resolution) (x : ℕ) where
   -- the place is this local, or is not
@@ -87,9 +83,7 @@ module _ (r : Resolution) (x : ℕ) where
 
   field_more : (c : Code) (o : Option ℕ) (token : ℕ) (t : To) (us : List Act) → Way x c t us → Way x (first_then c (flows.reads o token)) t us
   field_more c o token Next us w = subst (λ z. Way x (first_then c (flows.reads o token)) Next z) (append-nil us) (way_then x c (flows.reads o token) Next us [] w (way_read_more x o token))
-  field_more c o token Broken us w = way_leaves x c (flows.reads o token) Broken us tt w
-  field_more c o token Continued us w = way_leaves x c (flows.reads o token) Continued us tt w
-  field_more c o token Ends us w = way_leaves x c (flows.reads o token) Ends us tt w
+  field_more c o token k us w = way_leaves x c (flows.reads o token) k us tt w
 
   abbrev Wider : Expression → Type 0
   Wider a = (t : To) (us : List Act) → Way x (place_flow r a) t us → Way x (flow r a) t us
@@ -98,24 +92,20 @@ module _ (r : Resolution) (x : ℕ) where
   none_such a e h = absurd (both_ways (is_array (kind_at r a)) e h)
 
   unary_wider : (o : UnaryOperator) (s : Span) (a : Expression) → is_array (kind_at r (unary s o a)) ≡ true → Wider (unary s o a)
-  unary_wider Negate s a h = none_such (unary s Negate a) (promoted_no_array _) h
   unary_wider Not s a h = none_such (unary s Not a) refl h
-  unary_wider Complement s a h = none_such (unary s Complement a) (promoted_no_array _) h
   unary_wider Dereference s a h = λ t us w. w
+  unary_wider k s a h = none_such (unary s k a) (promoted_no_array _) h
 
   wider : (a : Expression) → is_array (kind_at r a) ≡ true → Wider a
   wider (identifier s i) h = λ t us w. unseen x t us (flow r (identifier s i)) (way_read_more x (variable_named (named_at r i.site.token)) i.site.token) w
   wider (constant s c) h = λ t us w. w
   wider (parentheses s a) h = wider a h
   wider (call s f all) h = none_such (call s f all) (called_no_array r (named_at r f.site.token)) h
-  wider (spawn s f a) h = none_such (spawn s f a) refl h
-  wider (on_value s w a) h = none_such (on_value s w a) refl h
-  wider (on_place s w a) h = none_such (on_place s w a) refl h
-  wider (cast s t a) h = none_such (cast s t a) refl h
   wider (index s a i) h = λ t us w. w
   wider (field s a w n) h = λ t us k. field_more (of_base w (place_flow r a) (flow r a)) (through w (variable_of r a)) s.first.token t us k
   wider (unary s o a) h = unary_wider o s a h
   wider (binary s o at a b) h = none_such (binary s o at a b) (result_no_array (class_of o) (kind_at r a) (kind_at r b)) h
+  wider k h = none_such k refl h
 
   wider_along : (a : Expression) (base : Run StorePlace) → is_array (kind_at r a) ≡ true → Along r x (place_flow r a) onward (Spot (names a)) base → Along r x (flow r a) (onward {A = StorePlace}) Any base
   wider_along a base e h = along_as r x (λ v us w. wider a e Next us w) (λ us w. wider a e Ends us w) (λ v k. tt {0}) h
@@ -125,8 +115,7 @@ module _ (r : Resolution) (x : ℕ) where
   module _ (is_local : (0 == x) ≡ false) where
     array_along : (site : Site) (cells : ℕ) (p : StorePlace) (i : ℤ) → Along r x goes_on onward (Spot false) (element_of_array r site cells p i)
     array_along site cells (cell (Global g) first c) i = element_along site (Global g) cells (global_elements (global_at r g)) i
-    array_along site cells (cell (Made n) first c) i = gives_place no_place false is_local
-    array_along site cells (variable y) i = gives_place no_place false is_local
+    array_along site cells _ i = gives_place no_place false is_local
 
     pub index_along : (site : Site) (a i : Expression) (base : Run StorePlace) (pointer number : Run ℤ) → Along r x (place_flow r a) onward (Spot (names a)) base → Along r x (flow r a) onward Any pointer → Along r x (flow r i) onward Any number
         → Along r x (first_then (flow r a) (flow r i)) onward (Spot false) (index_place r site a base pointer number)
@@ -141,16 +130,11 @@ module _ (r : Resolution) (x : ℕ) where
     pub named_along : (n : Named) → Along r x goes_on onward (Spot (is_named (variable_named n) x)) (give (place_named n))
     named_along (named.Variable token) = gives_place (variable token) (token == x) refl
     named_along (named.Global n) = gives_place (cell (Global n) 0 0) false refl
-    named_along (named.Struct n) = gives_place no_place false is_local
-    named_along (named.Function n) = gives_place no_place false is_local
-    named_along (named.Field n) = gives_place no_place false is_local
-    named_along named.Known = gives_place no_place false is_local
+    named_along _ = gives_place no_place false is_local
 
     pub no_place_along : Along r x goes_on onward (Spot false) (give no_place)
     no_place_along = gives_place no_place false is_local
 
     pub unary_place_along : (site : Site) (o : UnaryOperator) (a : Expression) (pointer : Run ℤ) → Along r x (flow r a) onward Any pointer → Along r x (of_operand o (flow r a)) onward (Spot false) (unary_place r site o a pointer)
     unary_place_along site Dereference a pointer h = pointee_along site a pointer (flow r a) h
-    unary_place_along site Negate a pointer h = no_place_along
-    unary_place_along site Not a pointer h = no_place_along
-    unary_place_along site Complement a pointer h = no_place_along
+    unary_place_along site _ a pointer h = no_place_along

@@ -34,10 +34,7 @@ module _ (m : Assignment) (x : ℕ) where
   value_along : (mode : Sharing) (site : Site) (n : Named) → Runs (flows.reads (variable_named n) site.token) (named_value m.typed mode site n)
   value_along mode site (named.Variable token) = reads_along m.typed x site token (Some token) refl
   value_along mode site (named.Global n) = fetched_along m.typed x site mode (cell (Global n) 0 0) None refl
-  value_along mode site (named.Struct n) = idle m.typed x (calm_give (pos 0))
-  value_along mode site (named.Function n) = idle m.typed x (calm_give (pos 0))
-  value_along mode site (named.Field n) = idle m.typed x (calm_give (pos 0))
-  value_along mode site named.Known = idle m.typed x (calm_give (pos 0))
+  value_along mode site _ = idle m.typed x (calm_give (pos 0))
 
   spawned_along : (site : Site) (f : Named) (a : Expression) (of_a : Run ℤ) (c : Code) → Runs c of_a → Runs c (spawned m.typed site f a of_a)
   spawned_along site f a of_a c h = scoped m.typed x (then_calm m.typed x (passed_along (declared_kinds (parameters_named m.typed f)) a of_a c h) (λ v.
@@ -96,10 +93,7 @@ module _ (m : Assignment) (x : ℕ) where
     called_along : (site : Site) (n : Named) (name : List ℕ) (vs : List ℤ) → Runs goes_on (called on_call site n name vs)
     called_along site (named.Function f) name vs = called_quietly f site vs
     called_along site named.Known name vs = idle m.typed x (calm_then (calm_condition site name vs) (λ k. calm_give (pos 0)))
-    called_along site (named.Struct n) name vs = idle m.typed x (calm_give (pos 0))
-    called_along site (named.Global n) name vs = idle m.typed x (calm_give (pos 0))
-    called_along site (named.Variable n) name vs = idle m.typed x (calm_give (pos 0))
-    called_along site (named.Field n) name vs = idle m.typed x (calm_give (pos 0))
+    called_along site _ name vs = idle m.typed x (calm_give (pos 0))
 
     mutual
       pub eval_along : (e : Expression) → Runs (flow m.typed e) (eval on_call m e)
@@ -128,10 +122,4 @@ module _ (m : Assignment) (x : ℕ) where
       place_along site (index s a i) = entered_along m.typed x (index_along m.typed x is_local site a i (place_of on_call m site a) (eval on_call m a) (eval on_call m i) (place_along site a) (eval_along a) (eval_along i))
       place_along site (field s a w n) = entered_along m.typed x (field_along m.typed x site a w (named_at m.typed n.site.token) (place_of on_call m site a) (eval on_call m a) (place_along site a) (eval_along a))
       place_along site (unary s o a) = entered_along m.typed x (unary_place_along m.typed x is_local site o a (eval on_call m a) (eval_along a))
-      place_along site (constant s c) = entered_along m.typed x (no_place_along m.typed x is_local)
-      place_along site (call s f all) = entered_along m.typed x (no_place_along m.typed x is_local)
-      place_along site (spawn s f a) = entered_along m.typed x (no_place_along m.typed x is_local)
-      place_along site (on_value s w a) = entered_along m.typed x (no_place_along m.typed x is_local)
-      place_along site (on_place s w a) = entered_along m.typed x (no_place_along m.typed x is_local)
-      place_along site (cast s t a) = entered_along m.typed x (no_place_along m.typed x is_local)
-      place_along site (binary s o at a b) = entered_along m.typed x (no_place_along m.typed x is_local)
+      place_along site _ = entered_along m.typed x (no_place_along m.typed x is_local)

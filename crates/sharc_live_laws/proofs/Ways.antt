@@ -25,8 +25,7 @@ cut_goes t f u l before = before
 
 cut_does : (a : Act) → Cuts (Does a)
 cut_does a f t l done = ended
-cut_does a f t l ended = ended
-cut_does a f t l not_yet = not_yet
+cut_does a f t l k = k
 
 cut_then : (A B : Piece) → Cuts A → Cuts B → Cuts (Then A B)
 cut_then A B ca cb f t l (through {l = l1} {m = m} p q) = through p (cb Start t m q)
